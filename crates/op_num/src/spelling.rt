@@ -78,8 +78,8 @@ pub fn put_u64(out: &mut Vec<u8>, value: u64) -> Result<(), OutOfMemory>
     ensures ok { OnOk result (out.new.items ≡ out.old.items ++ decimal value) }
     ensures err { OnErr result (out.new.items ≡ out.old.items) }
 {
-    let mut buffer = Buffer::new();
-    out.extend_from_slice(buffer.format(value).as_bytes())
+    let mut digits = Buffer::new();
+    out.extend_from_slice(digits.format(value).as_bytes())
 }
 
 /// A law: `read_u64` reads what `put_u64` wrote.
