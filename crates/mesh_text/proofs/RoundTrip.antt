@@ -1,0 +1,234 @@
+-- What is written spells its entries.
+use Rattle.std.proofs.Common.{◌≡◌, ℕ, ℤ, ◌+◌, ◌-◌, ◌*◌, ◌^◌, ◌<◌, Bool, true, false, cond, ◌&&◌, inl, inr, nat_eq, List, [], ◌∷◌, ◌++◌, length, map, Option, Some, None, Ok, codes, FitsSigned, w32, refl, sym, ap, subst, ◌∙◌, arith, append_assoc, append-nil, length-append, add-one}
+use lib.ListN.{replicate}
+use Rattle.std.proofs.lemmas.Bool.Decides.{nat_tests, Decides-int_eq}
+use Rattle.std.proofs.lemmas.List.{length-replicate, map-append}
+use Rattle.std.proofs.lemmas.List.Concat.{flat_map-append}
+use Rattle.std.specs.Char.{is_ascii_digit}
+use Rattle.std.specs.Fmt.{decimal, signed_decimal}
+use Rattle.std.specs.List.{list_all, flat_map}
+use Rattle.std.specs.Ordering.{int_eq}
+use Rattle.op_num.specs.Spelling.{number_after, number_of, integer_of, negated, plain, i32_judged}
+use Rattle.texts.specs.Cut.{words, text_of, texts, dark}
+use Rattle.texts.specs.Lines.{IsToken, line_of, text_of_lines, AreTokens, AreLines, on_line, placed}
+use Rattle.mesh_text.specs.declared.entry.Form.{Form}
+use Rattle.mesh_text.specs.declared.entry.Form.TheVariants as form
+use Rattle.mesh_text.specs.declared.entry.Entry.{Entry}
+use Rattle.mesh_text.specs.declared.entry.Entry.TheVariants.{One, Many}
+use Rattle.mesh_text.specs.Token.{is_c_name, letter, part}
+use Rattle.mesh_text.specs.Piece.{IsValue, Gives}
+use Rattle.mesh_text.specs.Spelling.{Named, ArePieces, IsEntry, AreEntries, Spells, header}
+use Rattle.mesh_text.specs.Canonical.{onto_stretch, stretches, alone, groups, piece_text, pieces_of, lines_of, entry_lines, mesh_lines, canonical, entry_text, FitI32, HasNumbers, HaveSpelling}
+
+flat_text : (f : Form) (es : List Named) → text_of_lines (flat_map (entry_lines f) es) ≡ flat_map (entry_text f) es
+flat_text f [] = refl
+flat_text f (e ∷ es) = flat_map-append line_of (entry_lines f e) (flat_map (entry_lines f) es) ∙ ap (λ xs. entry_text f e ++ xs) (flat_text f es)
+
+-- the canonical text, entry by entry
+pub whole_text : (f : Form) (es : List Named) → line_of (header f) ++ flat_map (entry_text f) es ++ codes "done\n" ≡ canonical f es
+whole_text f es =
+    append_assoc (line_of (header f)) (flat_map (entry_text f) es) (codes "done\n")
+    ∙ ap (λ xs. line_of (header f) ++ (xs ++ codes "done\n")) (sym (flat_text f es))
+    ∙ ap (λ xs. line_of (header f) ++ xs) (sym (flat_map-append line_of (flat_map (entry_lines f) es) ((codes "done" ∷ []) ∷ [])))
+
+abbrev concat : List (List (List ℕ)) → List (List ℕ)
+concat ls = flat_map (λ l. l) ls
+
+on_texts : (line : ℕ) (ts : List (List ℕ)) → map text_of (map (on_line line) ts) ≡ ts
+on_texts line [] = refl
+on_texts line (t ∷ ts) = ap (λ xs. t ∷ xs) (on_texts line ts)
+
+placed_texts : (line : ℕ) (ls : List (List (List ℕ))) → map text_of (placed line ls) ≡ concat ls
+placed_texts line [] = refl
+placed_texts line ([] ∷ ls) = placed_texts line ls
+placed_texts line ((t ∷ ts) ∷ ls) = map-append text_of (map (on_line line) (t ∷ ts)) (placed (line + 1) ls) ∙ ap (λ xs. xs ++ map text_of (placed (line + 1) ls)) (on_texts line (t ∷ ts)) ∙ ap (λ xs. (t ∷ ts) ++ xs) (placed_texts (line + 1) ls)
+
+both : (a b : Bool) → (a && b) ≡ true → (a ≡ true) × (b ≡ true)
+both true b h = (refl, h)
+both false b h = cc
+
+all_and : (p : ℕ → Bool) (x : ℕ) (xs : List ℕ) → p x ≡ true → list_all p xs ≡ true → list_all p (x ∷ xs) ≡ true
+all_and p x xs a b = rw a b
+
+all_append : (p : ℕ → Bool) (xs ys : List ℕ) → list_all p xs ≡ true → list_all p ys ≡ true → list_all p (xs ++ ys) ≡ true
+all_append p [] ys a b = b
+all_append p (x ∷ xs) ys a b = let k = both (p x) (list_all p xs) a in all_and p x (xs ++ ys) k.0 (all_append p xs ys k.1 b)
+
+-- numbers are tokens
+dark_by : (m c : ℕ) (cs : List ℕ) (n : ℕ) (t : Bool) → is_ascii_digit c ≡ t → cond t (number_after (m * 10 + (c - 48)) cs) None ≡ Some n → (number_after (m * 10 + (c - 48)) cs ≡ Some n → list_all dark cs ≡ true) → list_all dark (c ∷ cs) ≡ true
+dark_by m c cs n true t h r = let b : dark c ≡ true = grind (arith, nat_tests) in all_and dark c cs b (r h)
+dark_by m c cs n false t h r = cc
+
+digits_dark : (m : ℕ) (ds : List ℕ) (n : ℕ) → number_after m ds ≡ Some n → list_all dark ds ≡ true
+digits_dark m [] n h = refl
+digits_dark m (c ∷ cs) n h = dark_by m c cs n (is_ascii_digit c) refl h (λ k. digits_dark (m * 10 + (c - 48)) cs n k)
+
+number_token : (ds : List ℕ) (n : ℕ) → number_of ds ≡ Some n → IsToken ds
+number_token [] n h = cc
+number_token (c ∷ cs) n h = (omega arith, digits_dark 0 (c ∷ cs) n h)
+
+plain_some : (o : Option ℕ) (z : ℤ) → plain o ≡ Some z → (n : ℕ) × (o ≡ Some n)
+plain_some None z h = cc
+plain_some (Some n) z h = (n, refl)
+
+negated_some : (o : Option ℕ) (z : ℤ) → negated o ≡ Some z → (n : ℕ) × (o ≡ Some n)
+negated_some None z h = cc
+negated_some (Some n) z h = (n, refl)
+
+integer_token : (text : List ℕ) (z : ℤ) → integer_of text ≡ Some z → IsToken text
+integer_token [] z h = cc
+integer_token (c ∷ cs) z h = go (nat_eq c 45) refl h
+  where
+    go : (t : Bool) → nat_eq c 45 ≡ t → cond t (negated (number_of cs)) (plain (number_of (c ∷ cs))) ≡ Some z → IsToken (c ∷ cs)
+    go true t h = let k = negated_some (number_of cs) z h in let b : dark c ≡ true = grind (arith, nat_tests) in (omega arith, all_and dark c cs b (number_token cs k.0 k.1).1)
+    go false t h = let k = plain_some (number_of (c ∷ cs)) z h in number_token (c ∷ cs) k.0 k.1
+
+judged_some : (o : Option ℤ) (z : ℤ) → i32_judged o ≡ Ok z → (y : ℤ) × (o ≡ Some y)
+judged_some None z h = cc
+judged_some (Some y) z h = (y, refl)
+
+value_token : (text : List ℕ) (z : ℤ) → IsValue text z → IsToken text
+value_token text z v = let y = judged_some (integer_of text) z v in integer_token text y.0 y.1
+
+part_dark : (b : ℕ) → part b ≡ true → dark b ≡ true
+part_dark b h = grind (arith, nat_tests)
+
+letter_dark : (b : ℕ) → letter b ≡ true → dark b ≡ true
+letter_dark b h = grind (arith, nat_tests)
+
+parts_dark : (bs : List ℕ) → list_all part bs ≡ true → list_all dark bs ≡ true
+parts_dark [] h = refl
+parts_dark (b ∷ bs) h = let k = both (part b) (list_all part bs) h in all_and dark b bs (part_dark b k.0) (parts_dark bs k.1)
+
+name_token : (name : List ℕ) → is_c_name name ≡ true → IsToken name
+name_token [] h = cc
+name_token (b ∷ bs) h = let k = both (letter b) (list_all part bs) h in (omega arith, all_and dark b bs (letter_dark b k.0) (parts_dark bs k.1))
+
+-- the values of stretches
+abbrev spread : List (ℕ × ℤ) → List ℤ
+spread gs = flat_map (λ g. replicate g.0 g.1) gs
+
+abbrev AreGroups : List (ℕ × ℤ) → Type 0
+AreGroups [] = Unit {0}
+AreGroups (g ∷ gs) = (0 < g.0) × FitsSigned w32 g.1 × AreGroups gs
+
+spread_onto : (z : ℤ) (gs : List (ℕ × ℤ)) → spread (onto_stretch z gs) ≡ z ∷ spread gs
+spread_onto z [] = refl
+spread_onto z (g ∷ gs) = go (int_eq z g.1) refl
+  where
+    go : (t : Bool) → int_eq z g.1 ≡ t → spread (cond t ((g.0 + 1, g.1) ∷ gs) ((1, z) ∷ g ∷ gs)) ≡ z ∷ (replicate g.0 g.1 ++ spread gs)
+    go true t = let e : g.1 ≡ z = sym ((Decides-int_eq z g.1).0 t) in
+        ap (λ k. replicate k g.1 ++ spread gs) (add-one g.0) ∙ ap (λ y. y ∷ (replicate g.0 g.1 ++ spread gs)) e
+    go false t = refl
+
+spread_stretches : (zs : List ℤ) → spread (stretches zs) ≡ zs
+spread_stretches [] = refl
+spread_stretches (z ∷ zs) = spread_onto z (stretches zs) ∙ ap (λ ys. z ∷ ys) (spread_stretches zs)
+
+groups_onto : (z : ℤ) (gs : List (ℕ × ℤ)) → FitsSigned w32 z → AreGroups gs → AreGroups (onto_stretch z gs)
+groups_onto z [] f a = (omega arith, f, tt)
+groups_onto z (g ∷ gs) f a = go (int_eq z g.1)
+  where
+    go : (t : Bool) → AreGroups (cond t ((g.0 + 1, g.1) ∷ gs) ((1, z) ∷ g ∷ gs))
+    go true = (omega arith, a.1, a.2)
+    go false = (omega arith, f, a)
+
+groups_stretches : (zs : List ℤ) → FitI32 zs → AreGroups (stretches zs)
+groups_stretches [] f = tt
+groups_stretches (z ∷ zs) f = groups_onto z (stretches zs) f.0 (groups_stretches zs f.1)
+
+concat_append : (cs bs : List (List (List ℕ))) → concat (cs ++ bs) ≡ concat cs ++ concat bs
+concat_append cs bs = flat_map-append (λ l. l) cs bs
+
+-- what op_num promises of printed numbers
+module _ (printed : (z : ℤ) → FitsSigned w32 z → i32_judged (integer_of (signed_decimal z)) ≡ Ok z) (counted : (n : ℕ) → n < 2 ^ 64 → number_of (decimal n) ≡ Some n) (cut : (line : ℕ) (lines : List (List (List ℕ))) → AreLines lines → words line (text_of_lines lines) ≡ placed line lines) where
+  pieces_one : (zs : List ℤ) → FitI32 zs → ArePieces form.One (map piece_text (map alone zs)) zs
+  pieces_one [] f = refl
+  pieces_one (z ∷ zs) f = (z ∷ [], zs, refl, (1, z, (refl, printed z f.0), refl), pieces_one zs f.1)
+
+  -- a printed token gives its values
+  piece_gives : (n : ℕ) (z : ℤ) → 0 < n → n < 2 ^ 31 → FitsSigned w32 z → Gives form.Two (piece_text (n, z)) n z
+  piece_gives n z s f fits = go (nat_eq n 1) refl
+    where
+      go : (t : Bool) → nat_eq n 1 ≡ t → Gives form.Two (cond t (signed_decimal z) (decimal n ++ 42 ∷ signed_decimal z)) n z
+      go true t = let one : n ≡ 1 = grind (arith, nat_tests) in inl (one, printed z fits)
+      go false t = inr (record { times = decimal n; value = signed_decimal z; whole = refl; number = counted n (omega arith); some = s; fits = f; spells = printed z fits })
+
+  pieces_two : (gs : List (ℕ × ℤ)) → AreGroups gs → length (spread gs) < 2 ^ 31 → ArePieces form.Two (map piece_text gs) (spread gs)
+  pieces_two [] a h = refl
+  pieces_two (g ∷ gs) a h =
+      let len : length (spread (g ∷ gs)) ≡ g.0 + length (spread gs) = length-append (replicate g.0 g.1) (spread gs) ∙ ap (λ k. k + length (spread gs)) (length-replicate g.0 g.1) in
+      let low : g.0 < 2 ^ 31 = omega arith in
+      let rest : length (spread gs) < 2 ^ 31 = omega arith in
+      (replicate g.0 g.1, spread gs, refl, (g.0, g.1, piece_gives g.0 g.1 a.0 low a.1, refl), pieces_two gs a.2 rest)
+
+  pieces_spell : (f : Form) (zs : List ℤ) → FitI32 zs → length zs < 2 ^ 31 → ArePieces f (pieces_of f zs) zs
+  unfolding groups
+  pieces_spell form.One zs f h = pieces_one zs f
+  pieces_spell form.Two zs f h =
+      let e = spread_stretches zs in
+      subst (λ ys. ArePieces form.Two (map piece_text (stretches zs)) ys) e (pieces_two (stretches zs) (groups_stretches zs f) (subst (λ ys. length ys < 2 ^ 31) (sym e) h))
+
+  entry_spells : (f : Form) (name : List ℕ) (e : Entry) → HasNumbers e → IsEntry f (concat (lines_of f name e)) name e
+  entry_spells f name (One z) h = (signed_decimal z, refl, printed z h)
+  entry_spells f name (Many zs) h =
+      (decimal (length zs), pieces_of f zs, ap (λ xs. codes "ints" ∷ name ∷ decimal (length zs) ∷ xs) (append-nil (pieces_of f zs)), counted (length zs) (omega (arith, h.0)), h.0, pieces_spell f zs h.1 h.0)
+
+  entries_spell : (f : Form) (before es : List Named) → HaveSpelling before es → AreEntries f before (concat (flat_map (entry_lines f) es)) es
+  entries_spell f before [] h = refl
+  entries_spell f before (e ∷ es) h =
+      (concat (entry_lines f e), concat (flat_map (entry_lines f) es), concat_append (entry_lines f e) (flat_map (entry_lines f) es), entry_spells f e.0 e.1 h.1, h.0, entries_spell f (before ++ e ∷ []) es h.2)
+
+  -- every word is a token
+  piece_token : (n : ℕ) (z : ℤ) → n < 2 ^ 31 → FitsSigned w32 z → IsToken (piece_text (n, z))
+  piece_token n z h f = go (nat_eq n 1)
+    where
+      go : (t : Bool) → IsToken (cond t (signed_decimal z) (decimal n ++ 42 ∷ signed_decimal z))
+      go true = value_token (signed_decimal z) z (printed z f)
+      go false =
+          let a = number_token (decimal n) n (counted n (omega arith)) in
+          let b = value_token (signed_decimal z) z (printed z f) in
+          (simp length-append (omega (arith, a.0)), all_append dark (decimal n) (42 ∷ signed_decimal z) a.1 b.1)
+
+  pieces_tokens : (gs : List (ℕ × ℤ)) → AreGroups gs → length (spread gs) < 2 ^ 31 → AreTokens (map piece_text gs)
+  pieces_tokens [] a h = tt
+  pieces_tokens (g ∷ gs) a h =
+      let len : length (spread (g ∷ gs)) ≡ g.0 + length (spread gs) = length-append (replicate g.0 g.1) (spread gs) ∙ ap (λ k. k + length (spread gs)) (length-replicate g.0 g.1) in
+      (piece_token g.0 g.1 (omega arith) a.1, pieces_tokens gs a.2 (omega arith))
+
+  one_tokens : (zs : List ℤ) → FitI32 zs → AreTokens (map piece_text (map alone zs))
+  one_tokens [] f = tt
+  one_tokens (z ∷ zs) f = (value_token (signed_decimal z) z (printed z f.0), one_tokens zs f.1)
+
+  values_tokens : (f : Form) (zs : List ℤ) → FitI32 zs → length zs < 2 ^ 31 → AreTokens (pieces_of f zs)
+  unfolding groups
+  values_tokens form.One zs f h = one_tokens zs f
+  values_tokens form.Two zs f h = pieces_tokens (stretches zs) (groups_stretches zs f) (subst (λ ys. length ys < 2 ^ 31) (sym (spread_stretches zs)) h)
+
+  entry_tokens : (f : Form) (name : List ℕ) (e : Entry) → is_c_name name ≡ true → HasNumbers e → AreLines (lines_of f name e)
+  entry_tokens f name (One z) n h = (((omega arith, refl), (name_token name n, (value_token (signed_decimal z) z (printed z h), tt))), tt)
+  entry_tokens f name (Many zs) n h =
+      (((omega arith, refl), (name_token name n, (number_token (decimal (length zs)) (length zs) (counted (length zs) (omega (arith, h.0))), tt))), (values_tokens f zs h.1 h.0, tt))
+
+  lines_append : (cs bs : List (List (List ℕ))) → AreLines cs → AreLines bs → AreLines (cs ++ bs)
+  lines_append [] bs a b = b
+  lines_append (c ∷ cs) bs a b = (a.0, lines_append cs bs a.1 b)
+
+  entries_lines : (f : Form) (before es : List Named) → HaveSpelling before es → AreLines (flat_map (entry_lines f) es)
+  entries_lines f before [] h = tt
+  entries_lines f before (e ∷ es) h = lines_append (entry_lines f e) (flat_map (entry_lines f) es) (entry_tokens f e.0 e.1 h.0.0 h.1) (entries_lines f (before ++ e ∷ []) es h.2)
+
+  header_tokens : (f : Form) → AreTokens (header f)
+  header_tokens form.One = ((omega arith, refl), ((omega arith, refl), tt))
+  header_tokens form.Two = ((omega arith, refl), ((omega arith, refl), tt))
+
+  mesh_tokens : (f : Form) (es : List Named) → HaveSpelling [] es → AreLines (mesh_lines f es)
+  mesh_tokens f es h = (header_tokens f, lines_append (flat_map (entry_lines f) es) ((codes "done" ∷ []) ∷ []) (entries_lines f [] es h) (((omega arith, refl), tt), tt))
+
+  pub spelled : (f : Form) (es : List Named) → HaveSpelling [] es → Spells (canonical f es) es
+  spelled f es h =
+      let body = concat (flat_map (entry_lines f) es) in
+      let tokens : texts (canonical f es) ≡ (header f ++ body) ++ codes "done" ∷ [] =
+      ap (λ ws. map text_of ws) (cut 1 (mesh_lines f es) (mesh_tokens f es h)) ∙ placed_texts 1 (mesh_lines f es)
+      ∙ ap (λ xs. header f ++ xs) (concat_append (flat_map (entry_lines f) es) ((codes "done" ∷ []) ∷ [])) in
+      (f, header f ++ body, tokens, (body, refl, entries_spell f [] es h))

@@ -1,0 +1,10 @@
+use Rattle.std.proofs.Common.{◌≡◌, ◌++◌, map}
+use Rattle.std.specs.List.{flat_map}
+use Rattle.std.specs.Map.Iter.{deref_pair}
+use Rattle.texts.specs.Lines.{line_of}
+use Rattle.mesh_text.specs.Spelling.{header}
+use Rattle.mesh_text.specs.Canonical.{entry_text}
+use Rattle.mesh_text.proofs.write.write_mesh.Given as goal
+
+abbrev pub invariant-loop-name : goal.invariant-loop-name
+invariant-loop-name l = l.out.items ≡ line_of (header l.form) ++ flat_map (entry_text l.form) (map deref_pair l.yielded)

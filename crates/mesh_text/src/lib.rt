@@ -1,0 +1,17 @@
+//! Mesh texts: named entries of integers, in two versions of one format.
+//!
+//! `read_mesh` is exact: what is spelled within the limit is read, with the one value, and each refusal is the first in
+//! the order of the tokens. `write_mesh` writes the canonical text of a version.
+#![tactic(auto)]
+
+mod entry;
+mod piece;
+mod read;
+#[cfg(test)]
+mod tests;
+mod token;
+mod write;
+
+pub use entry::{Entries, Entry, Form, MESH_BYTES, MESH_VALUES, MeshRefusal, Values};
+pub use read::read_mesh;
+pub use write::{write_mesh, written_is_spelled};

@@ -1,0 +1,4 @@
+pub mod Cutting
+pub mod Written
+pub mod Reading
+pub mod Exact
