@@ -1,0 +1,15 @@
+//! The trees of a source, for every form of the language, and the tokens that a tree prints.
+#![tactic(auto)]
+
+mod declarations;
+mod expressions;
+mod hosts;
+mod kernels;
+mod programs;
+
+pub use c_lex::{Kind, LexRefusal, Name, Pos, Sign, Text, Token, Word};
+pub use declarations::{AssignOp, Assignment, Declaration, Declr, Place};
+pub use expressions::{BinaryOp, Expr, Ident, MinMax, NumberLiteral, TextLiteral, UnaryOp};
+pub use hosts::{AccessWord, ArgIndex, ArgVia, GlobalName, Host, HostForHeader, LoopArg, OpCall};
+pub use kernels::{ForHeader, Kernel, Param, Stmt};
+pub use programs::{Main, Program, Top};
