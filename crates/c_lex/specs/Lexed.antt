@@ -1,5 +1,5 @@
 -- The tokens of the bytes of a source, or the first place where it has none.
-use Rattle.std.specs.Prelude.{◌≡◌, ◌≢◌, ℕ, ◌+◌, ◌≤◌, ◌<◌, Bool, true, false, ◌||◌, nat_eq, List, [], ◌∷◌, ◌++◌, length, Result, Ok, Err, ◌⊎◌, codes, if◌then◌else◌}
+use Rattle.std.specs.Prelude.{◌≡◌, ◌≢◌, ℕ, ◌+◌, ◌≤◌, ◌<◌, Bool, true, false, ◌||◌, ◌&&◌, nat_eq, List, [], ◌∷◌, ◌++◌, length, Result, Ok, Err, ◌⊎◌, codes, if◌then◌else◌}
 use Rattle.std.specs.List.{list_all}
 use Rattle.c_lex.specs.declared.tokens.Kind.{Kind}
 use Rattle.c_lex.specs.declared.tokens.Kind.TheVariants as kind
@@ -27,7 +27,7 @@ start = record { line = 1; column = 1 }
 abbrev pub fresh_after : Bool → List ℕ → Bool
 fresh_after fresh [] = fresh
 fresh_after fresh (b ∷ bs) =
-    fresh_after (if nat_eq b 10 then true else if nat_eq b 32 || nat_eq b 9 then fresh else false) bs
+    fresh_after (nat_eq b 10 || ((nat_eq b 32 || nat_eq b 9) && fresh)) bs
 
 -- the bytes go to the end of their line, which `rest` begins with
 pub record EndsLine (s rest : List ℕ) : Type 0 where

@@ -1,9 +1,18 @@
 //! The tokens of a source.
 #![tactic(auto)]
 
+mod classes;
+mod front;
+mod lexing;
+mod passed;
+mod places;
 mod refusals;
+mod spelling;
+mod texts;
 mod tokens;
 
+pub use lexing::lex;
 pub use op_num::{Name, Text};
+pub use places::end_place;
 pub use refusals::LexRefusal;
 pub use tokens::{Kind, Pos, Sign, Token, Word};

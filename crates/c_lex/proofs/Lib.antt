@@ -1,0 +1,4 @@
+pub mod Values
+pub mod Runs
+pub mod Closes
+pub mod Fits

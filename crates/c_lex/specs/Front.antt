@@ -1,0 +1,71 @@
+-- What stands at the front of the bytes: what the lexer finds there, as functions.
+use Rattle.std.specs.Prelude.{ℕ, ◌+◌, ◌≤◌, ◌<◌, Bool, false, nat_eq, nat_lt, not, List, [], ◌∷◌, Option, Some, None, ◌&&◌, if◌then◌else◌, length, take, find, pos, codes, ◌||◌}
+use Rattle.std.specs.List.{starts_with, prefix_len}
+use Rattle.std.specs.Str.{bytes_eq}
+use Rattle.c_lex.specs.declared.tokens.Kind.TheVariants as kind
+use Rattle.c_lex.specs.declared.tokens.Sign.{Sign}
+use Rattle.c_lex.specs.declared.tokens.Word.{Word}
+use Rattle.c_lex.specs.declared.front.Front.{Front}
+use Rattle.c_lex.specs.declared.front.Front.TheVariants.{Passed, Token, BadByte, OpenComment, OpenText, TooLarge}
+use Rattle.c_lex.specs.declared.spelling.TheConstants.{SIGNS, WORDS}
+use Rattle.c_lex.specs.Spelling.{sign_spelling, word_spelling, digit, value_of}
+
+-- a byte other than LF
+abbrev pub in_line : ℕ → Bool
+in_line b = not (nat_eq b 10)
+
+-- whether all up to the end of the line is passed over
+abbrev pub passes_line : Bool → List ℕ → Bool
+passes_line fresh bs =
+    starts_with nat_eq bs (codes "//") || (fresh && starts_with nat_eq bs (codes "#include"))
+
+-- so many bytes further, where there is a place
+abbrev pub further : ℕ → Option ℕ → Option ℕ
+further n None = None
+further n (Some m) = Some (n + m)
+
+-- whether the bytes begin with `*/`
+abbrev pub closes : List ℕ → Bool
+closes (b ∷ c ∷ bs) = nat_eq b 42 && nat_eq c 47
+closes _ = false
+
+-- how many bytes there are up to the end of the first `*/`
+abbrev pub close_len : List ℕ → Option ℕ
+close_len [] = None
+close_len (b ∷ bs) = if closes (b ∷ bs) then Some 2 else further 1 (close_len bs)
+
+abbrev pub word_or : Option Word → List ℕ → Front
+word_or (Some w) bs = Token (kind.Word w) (length bs)
+word_or None bs = Token (kind.Name bs) (length bs)
+
+-- the reserved word or the name that the bytes are
+unfoldable pub front_word : List ℕ → Front
+front_word bs = word_or (find (λ w. bytes_eq bs (word_spelling w)) WORDS) bs
+
+abbrev pub sign_or : Option Sign → Front
+sign_or (Some s) = Token (kind.Sign s) (length (sign_spelling s))
+sign_or None = BadByte 0
+
+-- the first sign of the list at the front
+unfoldable pub front_sign : List ℕ → Front
+front_sign bs = sign_or (find (λ s. starts_with nat_eq bs (sign_spelling s)) SIGNS)
+
+-- how many bytes of a number stand at the front
+abbrev pub figure_size : List ℕ → ℕ
+figure_size [] = 0
+figure_size (b ∷ bs) = if nat_eq b 48 then 1 else prefix_len digit (b ∷ bs)
+
+abbrev pub figure_of : List ℕ → ℕ → Front
+figure_of bs n =
+    if nat_lt (value_of (take n bs)) 2147483648 then Token (kind.Number (pos (value_of (take n bs)))) n else TooLarge
+
+-- the number at the front
+abbrev pub front_figure : List ℕ → Front
+front_figure bs = figure_of bs (figure_size bs)
+
+-- what is found lies in the bytes
+abbrev pub LiesIn : ℕ → Front → Type 0
+LiesIn n (Passed l) = (1 ≤ l) × (l ≤ n)
+LiesIn n (Token k l) = (1 ≤ l) × (l ≤ n)
+LiesIn n (BadByte l) = l < n
+LiesIn n _ = Unit {0}

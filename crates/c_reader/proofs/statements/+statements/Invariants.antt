@@ -1,0 +1,17 @@
+use Rattle.std.proofs.Common.{◌+◌, ◌*◌}
+use Rattle.c_reader.proofs.statements.+statements.Given as goal
+
+abbrev pub decreases-read_stmt : goal.decreases-read_stmt
+decreases-read_stmt l = 5 * l.depth
+
+abbrev pub decreases-read_led : goal.decreases-read_led
+decreases-read_led l = 5 * l.depth + 3
+
+abbrev pub decreases-read_if : goal.decreases-read_if
+decreases-read_if l = 5 * l.depth + 2
+
+abbrev pub decreases-read_body : goal.decreases-read_body
+decreases-read_body l = 5 * l.depth + 1
+
+abbrev pub decreases-read_stmts : goal.decreases-read_stmts
+decreases-read_stmts l = 5 * l.depth + 1

@@ -1,0 +1,7 @@
+-- The kinds of tokens.
+use Rattle.std.specs.Prelude.{List, map}
+use Rattle.c_lex.specs.declared.tokens.Token.{Token}
+use Rattle.c_lex.specs.declared.tokens.Kind.{Kind}
+
+abbrev pub kinds : List Token → List Kind
+kinds ts = map (λ t. t.kind) ts

@@ -1,0 +1,3 @@
+pub mod Kinds
+pub mod Leads
+pub mod Descent

@@ -1,0 +1,128 @@
+// The tree of a source.
+
+ghost use Rattle.std.specs.Prelude.{◌+◌, ◌<◌, ◌^◌, length};
+
+use crate::cursor::{after_sign, after_word, is_sign, is_word, number};
+use crate::faults::{Fault, ReadError};
+use crate::hosts::{Closing, read_hosts};
+use crate::refusals::SourceRefusal;
+use crate::tops::read_tops;
+use c_tree::{LexRefusal, Main, NumberLiteral, Pos, Program, Sign, Token, Word, end_place, lex};
+use std::alloc::{AllocError, Global};
+
+/// The one tree of the bytes of a source. They are to be fewer than 2 ^ 32 - 2, since a place is a `u32`.
+pub fn read_program(alloc: Global, bytes: &[u8]) -> Result<Program, SourceRefusal>
+    requires { length bytes.now + 2 < 2 ^ 32 }
+{
+    let tokens = match lex(alloc, bytes) {
+        Ok(tokens) => tokens,
+        Err(LexRefusal::OutOfMemory) => return Err(SourceRefusal::OutOfMemory),
+        Err(refusal) => return Err(SourceRefusal::Lex(refusal)),
+    };
+    match read_tokens(alloc, &tokens) {
+        Ok(program) => Ok(program),
+        Err(ReadError::Memory) => Err(SourceRefusal::OutOfMemory),
+        Err(ReadError::Fault(fault)) => Err(refused(&tokens, bytes, fault)),
+    }
+}
+
+// The refusal of a fault, at its place.
+fn refused(tokens: &[Token], bytes: &[u8], fault: Fault) -> SourceRefusal
+    requires { length bytes.now + 2 < 2 ^ 32 }
+{
+    match fault {
+        Fault::Syntax(at) => SourceRefusal::Syntax {
+            at: place_of(tokens, bytes, at),
+        },
+        Fault::TooDeep(at) => SourceRefusal::TooDeep {
+            at: place_of(tokens, bytes, at),
+        },
+    }
+}
+
+// The place of the token of this number, or the place just past the last byte.
+fn place_of(tokens: &[Token], bytes: &[u8], at: usize) -> Pos
+    requires { length bytes.now + 2 < 2 ^ 32 }
+{
+    match tokens.get(at) {
+        Some(token) => token.at,
+        None => end_place(bytes),
+    }
+}
+
+// The tree of the tokens.
+fn read_tokens(alloc: Global, tokens: &[Token]) -> Result<Program, ReadError> {
+    let (tops, next) = read_tops(alloc, tokens, 0)?;
+    let (main, next) = read_main(alloc, tokens, next)?;
+    if next == tokens.len() {
+        let places = places_of(alloc, tokens)?;
+        Ok(Program { tops, main, places })
+    } else {
+        Err(ReadError::Fault(Fault::Syntax(next)))
+    }
+}
+
+// `main`, and the place after its `}`.
+fn read_main(alloc: Global, tokens: &[Token], at: usize) -> Result<(Main, usize), ReadError> {
+    let at = after_word(tokens, Word::Int, at)?;
+    let next = after_word(tokens, Word::Main, at)?;
+    let next = after_sign(tokens, Sign::LeftParen, next)?;
+    let next = after_word(tokens, Word::Int, next)?;
+    let next = after_word(tokens, Word::Argc, next)?;
+    let next = after_sign(tokens, Sign::Comma, next)?;
+    let next = after_word(tokens, Word::Char, next)?;
+    let (argv_has_brackets, next) = read_argv(tokens, next)?;
+    let next = after_sign(tokens, Sign::RightParen, next)?;
+    let next = after_sign(tokens, Sign::LeftBrace, next)?;
+    let (body, exit_at) = read_hosts(alloc, tokens, 64, Closing::Exit, next)?;
+    let next = after_word(tokens, Word::OpExit, exit_at)?;
+    let next = after_sign(tokens, Sign::LeftParen, next)?;
+    let next = after_sign(tokens, Sign::RightParen, next)?;
+    let next = after_sign(tokens, Sign::Semicolon, next)?;
+    let (returned, next) = read_return(tokens, next)?;
+    let next = after_sign(tokens, Sign::RightBrace, next)?;
+    Ok((
+        Main {
+            at,
+            argv_has_brackets,
+            body,
+            exit_at,
+            returned,
+        },
+        next,
+    ))
+}
+
+// `**argv` or `*argv[]`: whether it has brackets, and the place after it.
+fn read_argv(tokens: &[Token], at: usize) -> Result<(bool, usize), ReadError> {
+    let next = after_sign(tokens, Sign::Star, at)?;
+    if is_sign(tokens, Sign::Star, next) {
+        let next = after_word(tokens, Word::Argv, next + 1)?;
+        Ok((false, next))
+    } else {
+        let next = after_word(tokens, Word::Argv, next)?;
+        let next = after_sign(tokens, Sign::LeftBracket, next)?;
+        let next = after_sign(tokens, Sign::RightBracket, next)?;
+        Ok((true, next))
+    }
+}
+
+// `return` and its number, where they stand there, and the place after them.
+fn read_return(tokens: &[Token], at: usize) -> Result<(Option<NumberLiteral>, usize), ReadError> {
+    if is_word(tokens, Word::Return, at) {
+        let (returned, next) = number(tokens, at + 1)?;
+        let next = after_sign(tokens, Sign::Semicolon, next)?;
+        Ok((Some(returned), next))
+    } else {
+        Ok((None, at))
+    }
+}
+
+// The places of the tokens.
+fn places_of(alloc: Global, tokens: &[Token]) -> Result<Vec<Pos>, AllocError> {
+    let mut places = Vec::with_capacity(alloc, tokens.len())?;
+    for token in tokens {
+        places.push(token.at)?;
+    }
+    Ok(places)
+}
