@@ -1,7 +1,21 @@
 //! Meshes: sets, maps between them, and data on them; and the mesh texts that they are declared from.
+//!
+//! A mesh is as the OP2 C API declares it by `op_decl_set`, `op_decl_map` and `op_decl_dat`. Sets, maps and dats are
+//! numbered from 0, each kind in order of declaration.
 #![tactic(auto)]
 
+mod access;
+mod decl;
+mod mesh;
+mod numbers;
+mod owners;
+
+pub use access::{Access, Via};
+pub use decl::{DatDecl, MapDecl, MapRefusal, SetDecl};
+pub use mesh::Mesh;
 pub use mesh_text::{
     Entries, Entry, Form, MESH_BYTES, MESH_VALUES, MeshRefusal, Values, read_mesh, write_mesh,
     written_is_spelled,
 };
+pub use numbers::Numbers;
+pub use owners::{Owners, Perms};

@@ -1,0 +1,3 @@
+pub mod FieldReads
+pub mod Declared
+pub mod Targets

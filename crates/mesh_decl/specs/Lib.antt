@@ -1,0 +1,3 @@
+pub mod Mesh
+pub mod Owners
+pub mod Printed
