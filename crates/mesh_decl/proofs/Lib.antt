@@ -1,3 +1,4 @@
 pub mod FieldReads
 pub mod Declared
 pub mod Targets
+pub mod Examples
