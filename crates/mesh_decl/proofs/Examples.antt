@@ -1,8 +1,6 @@
 -- The printed bytes of small dats and lines.
-use Rattle.std.proofs.Common.{◌≡◌, ℤ, pos, negsuc, List, [], ◌∷◌, Some, None, codes, refl}
+use Rattle.std.proofs.Common.{◌≡◌, pos, negsuc, [], ◌∷◌, Some, None, codes, refl}
 use Rattle.std.specs.Fmt.{digits}
-use Rattle.mesh_decl.specs.declared.decl.SetDecl.{SetDecl}
-use Rattle.mesh_decl.specs.declared.decl.DatDecl.{DatDecl}
 use Rattle.mesh_decl.specs.Mesh.{MeshValue, size_in, set_name, dat_set, dat_dim, dat_name}
 use Rattle.mesh_decl.specs.Printed.{printed_dat, printed_line, conversions}
 

@@ -1,13 +1,14 @@
 -- The values of one token.
-use Rattle.std.proofs.Common.{◌≡◌, ℕ, suc, ℤ, ◌+◌, ◌<◌, Bool, true, false, cond, List, [], ◌∷◌, ◌++◌, length, map, drop, get_or, nat_eq, refl, sym, ap, ◌∙◌, arith, append_assoc}
+use Rattle.std.proofs.Common.{◌≡◌, ℕ, suc, ℤ, ◌+◌, ◌<◌, Bool, true, false, cond, List, [], ◌∷◌, ◌++◌, length, map, drop, get_or, nat_eq, refl, sym, ap, ◌∙◌, arith, append_assoc, FitsSigned, w32, zero, subst, add-one}
+use lib.ListN.{replicate}
 use Rattle.std.proofs.lemmas.Bool.Decides.{nat_tests, Decides-int_eq}
 use Rattle.std.proofs.Math.Numerals.{one-add}
-use Rattle.std.specs.List.{prefix_len}
+use Rattle.std.specs.List.{prefix_len, flat_map}
 use Rattle.std.specs.Ordering.{int_eq}
 use Rattle.texts.specs.Lines.{line_of, separator}
 use Rattle.mesh_text.specs.declared.entry.Form.{Form}
 use Rattle.mesh_text.specs.declared.entry.Form.TheVariants as form
-use Rattle.mesh_text.specs.Canonical.{onto_stretch, stretches, groups, piece_text, pieces_of}
+use Rattle.mesh_text.specs.Canonical.{FitI32, onto_stretch, stretches, alone, groups, piece_text, pieces_of}
 
 abbrev pub same_as : ℤ → List ℤ → ℕ
 same_as z zs = prefix_len (λ y. int_eq y z) zs
@@ -86,3 +87,43 @@ turn f rest back n z out out1 out2 b g p s e =
     ∙ ap (λ xs. xs ++ cond b 10 32 ∷ line_of (pieces_of f back)) p
     ∙ append_assoc out (piece_text (n, z)) (cond b 10 32 ∷ line_of (pieces_of f back))
     ∙ ap (λ xs. out ++ xs) (sym line)
+
+-- the values of stretches
+abbrev pub spread : List (ℕ × ℤ) → List ℤ
+spread gs = flat_map (λ g. replicate g.0 g.1) gs
+
+spread_onto : (z : ℤ) (gs : List (ℕ × ℤ)) → spread (onto_stretch z gs) ≡ z ∷ spread gs
+spread_onto z [] = refl
+spread_onto z (g ∷ gs) = go (int_eq z g.1) refl
+  where
+    go : (t : Bool) → int_eq z g.1 ≡ t → spread (cond t ((g.0 + 1, g.1) ∷ gs) ((1, z) ∷ g ∷ gs)) ≡ z ∷ (replicate g.0 g.1 ++ spread gs)
+    go true t = let e : g.1 ≡ z = sym ((Decides-int_eq z g.1).0 t) in
+        ap (λ k. replicate k g.1 ++ spread gs) (add-one g.0) ∙ ap (λ y. y ∷ (replicate g.0 g.1 ++ spread gs)) e
+    go false t = refl
+
+pub spread_stretches : (zs : List ℤ) → spread (stretches zs) ≡ zs
+spread_stretches [] = refl
+spread_stretches (z ∷ zs) = spread_onto z (stretches zs) ∙ ap (λ ys. z ∷ ys) (spread_stretches zs)
+
+spread_alone : (zs : List ℤ) → spread (map alone zs) ≡ zs
+spread_alone [] = refl
+spread_alone (z ∷ zs) = ap (λ ys. z ∷ ys) (spread_alone zs)
+
+spread_groups : (f : Form) (zs : List ℤ) → spread (groups f zs) ≡ zs
+unfolding groups
+spread_groups form.One zs = spread_alone zs
+spread_groups form.Two zs = spread_stretches zs
+
+fit_replicate : (n : ℕ) (z : ℤ) (zs : List ℤ) → FitsSigned w32 z → FitI32 zs → FitI32 (replicate n z ++ zs)
+fit_replicate zero z zs h a = a
+fit_replicate (suc n) z zs h a = (h, fit_replicate n z zs h a)
+
+-- where the value of a token fits, and those behind it, all fit
+pub fit_more : (f : Form) (rest back : List ℤ) (n : ℕ) (z : ℤ) → groups f rest ≡ (n, z) ∷ groups f back → FitsSigned w32 z → FitI32 back → FitI32 rest
+fit_more f rest back n z g h a =
+    let whole : rest ≡ replicate n z ++ back = sym (spread_groups f rest) ∙ ap spread g ∙ ap (λ ys. replicate n z ++ ys) (spread_groups f back) in
+    subst FitI32 (sym whole) (fit_replicate n z back h a)
+
+pub fit_none : (zs : List ℤ) → length zs < 1 → FitI32 zs
+fit_none [] h = tt
+fit_none (z ∷ zs) h = absurd (omega arith)

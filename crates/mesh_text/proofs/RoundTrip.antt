@@ -1,7 +1,8 @@
 -- What is written spells its entries.
-use Rattle.std.proofs.Common.{◌≡◌, ℕ, ℤ, ◌+◌, ◌-◌, ◌*◌, ◌^◌, ◌<◌, Bool, true, false, cond, ◌&&◌, inl, inr, nat_eq, List, [], ◌∷◌, ◌++◌, length, map, Option, Some, None, Ok, codes, FitsSigned, w32, refl, sym, ap, subst, ◌∙◌, arith, append_assoc, append-nil, length-append, add-one}
+use Rattle.std.proofs.Common.{◌≡◌, ℕ, ℤ, ◌+◌, ◌-◌, ◌*◌, ◌^◌, ◌<◌, Bool, true, false, cond, inl, inr, nat_eq, List, [], ◌∷◌, ◌++◌, length, map, Option, Some, None, Ok, codes, FitsSigned, w32, refl, sym, ap, subst, ◌∙◌, arith, append_assoc, append-nil, length-append}
 use lib.ListN.{replicate}
-use Rattle.std.proofs.lemmas.Bool.Decides.{nat_tests, Decides-int_eq}
+use Rattle.std.proofs.lemmas.Bool.{and_parts}
+use Rattle.std.proofs.lemmas.Bool.Decides.{nat_tests}
 use Rattle.std.proofs.lemmas.List.{length-replicate, map-append}
 use Rattle.std.proofs.lemmas.List.Concat.{flat_map-append}
 use Rattle.std.specs.Char.{is_ascii_digit}
@@ -18,7 +19,8 @@ use Rattle.mesh_text.specs.declared.entry.Entry.TheVariants.{One, Many}
 use Rattle.mesh_text.specs.Token.{is_c_name, letter, part}
 use Rattle.mesh_text.specs.Piece.{IsValue, Gives}
 use Rattle.mesh_text.specs.Spelling.{Named, ArePieces, IsEntry, AreEntries, Spells, header}
-use Rattle.mesh_text.specs.Canonical.{onto_stretch, stretches, alone, groups, piece_text, pieces_of, lines_of, entry_lines, mesh_lines, canonical, entry_text, FitI32, HasNumbers, HaveSpelling}
+use Rattle.mesh_text.proofs.Grouping.{spread, spread_stretches}
+use Rattle.mesh_text.specs.Canonical.{onto_stretch, stretches, alone, groups, piece_text, pieces_of, lines_of, entry_lines, mesh_lines, canonical, entry_text, FitI32, HasI32, IsCounted, HaveSpelling}
 
 flat_text : (f : Form) (es : List Named) → text_of_lines (flat_map (entry_lines f) es) ≡ flat_map (entry_text f) es
 flat_text f [] = refl
@@ -30,6 +32,14 @@ whole_text f es =
     append_assoc (line_of (header f)) (flat_map (entry_text f) es) (codes "done\n")
     ∙ ap (λ xs. line_of (header f) ++ (xs ++ codes "done\n")) (sym (flat_text f es))
     ∙ ap (λ xs. line_of (header f) ++ xs) (sym (flat_map-append line_of (flat_map (entry_lines f) es) ((codes "done" ∷ []) ∷ [])))
+
+-- one entry more is written
+pub text_more : (f : Form) (head out out1 : List ℕ) (es : List Named) (e : Named) → out ≡ head ++ flat_map (entry_text f) es → out1 ≡ out ++ entry_text f e → out1 ≡ head ++ flat_map (entry_text f) (es ++ e ∷ [])
+text_more f head out out1 es e h k =
+    k ∙ ap (λ xs. xs ++ entry_text f e) h
+    ∙ append_assoc head (flat_map (entry_text f) es) (entry_text f e)
+    ∙ ap (λ xs. head ++ (flat_map (entry_text f) es ++ xs)) (sym (append-nil (entry_text f e)))
+    ∙ ap (λ xs. head ++ xs) (sym (flat_map-append (entry_text f) es (e ∷ [])))
 
 abbrev concat : List (List (List ℕ)) → List (List ℕ)
 concat ls = flat_map (λ l. l) ls
@@ -43,16 +53,12 @@ placed_texts line [] = refl
 placed_texts line ([] ∷ ls) = placed_texts line ls
 placed_texts line ((t ∷ ts) ∷ ls) = map-append text_of (map (on_line line) (t ∷ ts)) (placed (line + 1) ls) ∙ ap (λ xs. xs ++ map text_of (placed (line + 1) ls)) (on_texts line (t ∷ ts)) ∙ ap (λ xs. (t ∷ ts) ++ xs) (placed_texts (line + 1) ls)
 
-both : (a b : Bool) → (a && b) ≡ true → (a ≡ true) × (b ≡ true)
-both true b h = (refl, h)
-both false b h = cc
-
 all_and : (p : ℕ → Bool) (x : ℕ) (xs : List ℕ) → p x ≡ true → list_all p xs ≡ true → list_all p (x ∷ xs) ≡ true
 all_and p x xs a b = rw a b
 
 all_append : (p : ℕ → Bool) (xs ys : List ℕ) → list_all p xs ≡ true → list_all p ys ≡ true → list_all p (xs ++ ys) ≡ true
 all_append p [] ys a b = b
-all_append p (x ∷ xs) ys a b = let k = both (p x) (list_all p xs) a in all_and p x (xs ++ ys) k.0 (all_append p xs ys k.1 b)
+all_append p (x ∷ xs) ys a b = let k = and_parts (p x) (list_all p xs) a in all_and p x (xs ++ ys) k.0 (all_append p xs ys k.1 b)
 
 -- numbers are tokens
 dark_by : (m c : ℕ) (cs : List ℕ) (n : ℕ) (t : Bool) → is_ascii_digit c ≡ t → cond t (number_after (m * 10 + (c - 48)) cs) None ≡ Some n → (number_after (m * 10 + (c - 48)) cs ≡ Some n → list_all dark cs ≡ true) → list_all dark (c ∷ cs) ≡ true
@@ -98,32 +104,15 @@ letter_dark b h = grind (arith, nat_tests)
 
 parts_dark : (bs : List ℕ) → list_all part bs ≡ true → list_all dark bs ≡ true
 parts_dark [] h = refl
-parts_dark (b ∷ bs) h = let k = both (part b) (list_all part bs) h in all_and dark b bs (part_dark b k.0) (parts_dark bs k.1)
+parts_dark (b ∷ bs) h = let k = and_parts (part b) (list_all part bs) h in all_and dark b bs (part_dark b k.0) (parts_dark bs k.1)
 
 name_token : (name : List ℕ) → is_c_name name ≡ true → IsToken name
 name_token [] h = cc
-name_token (b ∷ bs) h = let k = both (letter b) (list_all part bs) h in (omega arith, all_and dark b bs (letter_dark b k.0) (parts_dark bs k.1))
-
--- the values of stretches
-abbrev spread : List (ℕ × ℤ) → List ℤ
-spread gs = flat_map (λ g. replicate g.0 g.1) gs
+name_token (b ∷ bs) h = let k = and_parts (letter b) (list_all part bs) h in (omega arith, all_and dark b bs (letter_dark b k.0) (parts_dark bs k.1))
 
 abbrev AreGroups : List (ℕ × ℤ) → Type 0
 AreGroups [] = Unit {0}
 AreGroups (g ∷ gs) = (0 < g.0) × FitsSigned w32 g.1 × AreGroups gs
-
-spread_onto : (z : ℤ) (gs : List (ℕ × ℤ)) → spread (onto_stretch z gs) ≡ z ∷ spread gs
-spread_onto z [] = refl
-spread_onto z (g ∷ gs) = go (int_eq z g.1) refl
-  where
-    go : (t : Bool) → int_eq z g.1 ≡ t → spread (cond t ((g.0 + 1, g.1) ∷ gs) ((1, z) ∷ g ∷ gs)) ≡ z ∷ (replicate g.0 g.1 ++ spread gs)
-    go true t = let e : g.1 ≡ z = sym ((Decides-int_eq z g.1).0 t) in
-        ap (λ k. replicate k g.1 ++ spread gs) (add-one g.0) ∙ ap (λ y. y ∷ (replicate g.0 g.1 ++ spread gs)) e
-    go false t = refl
-
-spread_stretches : (zs : List ℤ) → spread (stretches zs) ≡ zs
-spread_stretches [] = refl
-spread_stretches (z ∷ zs) = spread_onto z (stretches zs) ∙ ap (λ ys. z ∷ ys) (spread_stretches zs)
 
 groups_onto : (z : ℤ) (gs : List (ℕ × ℤ)) → FitsSigned w32 z → AreGroups gs → AreGroups (onto_stretch z gs)
 groups_onto z [] f a = (omega arith, f, tt)
@@ -140,7 +129,7 @@ groups_stretches (z ∷ zs) f = groups_onto z (stretches zs) f.0 (groups_stretch
 concat_append : (cs bs : List (List (List ℕ))) → concat (cs ++ bs) ≡ concat cs ++ concat bs
 concat_append cs bs = flat_map-append (λ l. l) cs bs
 
--- what op_num promises of printed numbers
+-- what the crates below promise: printed numbers are read again, and written lines are cut again
 module _ (printed : (z : ℤ) → FitsSigned w32 z → i32_judged (integer_of (signed_decimal z)) ≡ Ok z) (counted : (n : ℕ) → n < 2 ^ 64 → number_of (decimal n) ≡ Some n) (cut : (line : ℕ) (lines : List (List (List ℕ))) → AreLines lines → words line (text_of_lines lines) ≡ placed line lines) where
   pieces_one : (zs : List ℤ) → FitI32 zs → ArePieces form.One (map piece_text (map alone zs)) zs
   pieces_one [] f = refl
@@ -169,15 +158,15 @@ module _ (printed : (z : ℤ) → FitsSigned w32 z → i32_judged (integer_of (s
       let e = spread_stretches zs in
       subst (λ ys. ArePieces form.Two (map piece_text (stretches zs)) ys) e (pieces_two (stretches zs) (groups_stretches zs f) (subst (λ ys. length ys < 2 ^ 31) (sym e) h))
 
-  entry_spells : (f : Form) (name : List ℕ) (e : Entry) → HasNumbers e → IsEntry f (concat (lines_of f name e)) name e
-  entry_spells f name (One z) h = (signed_decimal z, refl, printed z h)
-  entry_spells f name (Many zs) h =
-      (decimal (length zs), pieces_of f zs, ap (λ xs. codes "ints" ∷ name ∷ decimal (length zs) ∷ xs) (append-nil (pieces_of f zs)), counted (length zs) (omega (arith, h.0)), h.0, pieces_spell f zs h.1 h.0)
+  entry_spells : (f : Form) (name : List ℕ) (e : Entry) → IsCounted e → HasI32 e → IsEntry f (concat (lines_of f name e)) name e
+  entry_spells f name (One z) k h = (signed_decimal z, refl, printed z h)
+  entry_spells f name (Many zs) k h =
+      (decimal (length zs), pieces_of f zs, ap (λ xs. codes "ints" ∷ name ∷ decimal (length zs) ∷ xs) (append-nil (pieces_of f zs)), counted (length zs) (omega arith), k, pieces_spell f zs h k)
 
   entries_spell : (f : Form) (before es : List Named) → HaveSpelling before es → AreEntries f before (concat (flat_map (entry_lines f) es)) es
   entries_spell f before [] h = refl
   entries_spell f before (e ∷ es) h =
-      (concat (entry_lines f e), concat (flat_map (entry_lines f) es), concat_append (entry_lines f e) (flat_map (entry_lines f) es), entry_spells f e.0 e.1 h.1, h.0, entries_spell f (before ++ e ∷ []) es h.2)
+      (concat (entry_lines f e), concat (flat_map (entry_lines f) es), concat_append (entry_lines f e) (flat_map (entry_lines f) es), entry_spells f e.0 e.1 h.1 h.2, h.0, entries_spell f (before ++ e ∷ []) es h.3)
 
   -- every word is a token
   piece_token : (n : ℕ) (z : ℤ) → n < 2 ^ 31 → FitsSigned w32 z → IsToken (piece_text (n, z))
@@ -205,10 +194,10 @@ module _ (printed : (z : ℤ) → FitsSigned w32 z → i32_judged (integer_of (s
   values_tokens form.One zs f h = one_tokens zs f
   values_tokens form.Two zs f h = pieces_tokens (stretches zs) (groups_stretches zs f) (subst (λ ys. length ys < 2 ^ 31) (sym (spread_stretches zs)) h)
 
-  entry_tokens : (f : Form) (name : List ℕ) (e : Entry) → is_c_name name ≡ true → HasNumbers e → AreLines (lines_of f name e)
-  entry_tokens f name (One z) n h = (((omega arith, refl), (name_token name n, (value_token (signed_decimal z) z (printed z h), tt))), tt)
-  entry_tokens f name (Many zs) n h =
-      (((omega arith, refl), (name_token name n, (number_token (decimal (length zs)) (length zs) (counted (length zs) (omega (arith, h.0))), tt))), (values_tokens f zs h.1 h.0, tt))
+  entry_tokens : (f : Form) (name : List ℕ) (e : Entry) → is_c_name name ≡ true → IsCounted e → HasI32 e → AreLines (lines_of f name e)
+  entry_tokens f name (One z) n k h = (((omega arith, refl), (name_token name n, (value_token (signed_decimal z) z (printed z h), tt))), tt)
+  entry_tokens f name (Many zs) n k h =
+      (((omega arith, refl), (name_token name n, (number_token (decimal (length zs)) (length zs) (counted (length zs) (omega arith)), tt))), (values_tokens f zs h k, tt))
 
   lines_append : (cs bs : List (List (List ℕ))) → AreLines cs → AreLines bs → AreLines (cs ++ bs)
   lines_append [] bs a b = b
@@ -216,7 +205,7 @@ module _ (printed : (z : ℤ) → FitsSigned w32 z → i32_judged (integer_of (s
 
   entries_lines : (f : Form) (before es : List Named) → HaveSpelling before es → AreLines (flat_map (entry_lines f) es)
   entries_lines f before [] h = tt
-  entries_lines f before (e ∷ es) h = lines_append (entry_lines f e) (flat_map (entry_lines f) es) (entry_tokens f e.0 e.1 h.0.0 h.1) (entries_lines f (before ++ e ∷ []) es h.2)
+  entries_lines f before (e ∷ es) h = lines_append (entry_lines f e) (flat_map (entry_lines f) es) (entry_tokens f e.0 e.1 h.0.0 h.1 h.2) (entries_lines f (before ++ e ∷ []) es h.3)
 
   header_tokens : (f : Form) → AreTokens (header f)
   header_tokens form.One = ((omega arith, refl), ((omega arith, refl), tt))

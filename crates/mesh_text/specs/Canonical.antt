@@ -1,5 +1,5 @@
 -- Canonical mesh texts.
-use Rattle.std.specs.Prelude.{ℕ, ℤ, ◌+◌, ◌^◌, ◌<◌, List, [], ◌∷◌, ◌++◌, length, map, nat_eq, codes, FitsSigned, if◌then◌else◌}
+use Rattle.std.specs.Prelude.{true, ◌≡◌, ℕ, ℤ, ◌+◌, ◌^◌, ◌<◌, List, [], ◌∷◌, ◌++◌, length, map, nat_eq, codes, FitsSigned, if◌then◌else◌}
 use Rattle.std.specs.Int.{w32}
 use Rattle.std.specs.List.{flat_map}
 use Rattle.std.specs.Ordering.{int_eq}
@@ -9,6 +9,7 @@ use Rattle.mesh_text.specs.declared.entry.Form.{Form}
 use Rattle.mesh_text.specs.declared.entry.Form.TheVariants as form
 use Rattle.mesh_text.specs.declared.entry.Entry.{Entry}
 use Rattle.mesh_text.specs.declared.entry.Entry.TheVariants.{One, Many}
+use Rattle.mesh_text.specs.Token.{is_c_name}
 use Rattle.mesh_text.specs.Spelling.{Named, IsNew, header}
 
 -- z in front of stretches: one more of the first, or a stretch of its own
@@ -53,15 +54,26 @@ canonical f es = text_of_lines (mesh_lines f es)
 abbrev pub entry_text : Form → Named → List ℕ
 entry_text f e = text_of_lines (entry_lines f e)
 
+-- each value is one of an `i32`
 abbrev pub FitI32 : List ℤ → Type 0
 FitI32 [] = Unit {0}
 FitI32 (z ∷ zs) = FitsSigned w32 z × FitI32 zs
 
-abbrev pub HasNumbers : Entry → Type 0
-HasNumbers (One z) = FitsSigned w32 z
-HasNumbers (Many zs) = (length zs < 2 ^ 31) × FitI32 zs
+abbrev pub HasI32 : Entry → Type 0
+HasI32 (One z) = FitsSigned w32 z
+HasI32 (Many zs) = FitI32 zs
 
--- entries that have a spelling, behind others
+-- a COUNT can say how many values an array has
+abbrev pub IsCounted : Entry → Type 0
+IsCounted (One z) = Unit {0}
+IsCounted (Many zs) = length zs < 2 ^ 31
+
+-- Each name is a C name, and no array has more than 2147483647 values.
+abbrev pub CanBeSpelled : List Named → Type 0
+CanBeSpelled [] = Unit {0}
+CanBeSpelled (e ∷ es) = (is_c_name e.0 ≡ true) × IsCounted e.1 × CanBeSpelled es
+
+-- the same of entries of integers behind others, none of which has the name of one before
 abbrev pub HaveSpelling : List Named → List Named → Type 0
 HaveSpelling before [] = Unit {0}
-HaveSpelling before (e ∷ es) = IsNew e.0 before × HasNumbers e.1 × HaveSpelling (before ++ e ∷ []) es
+HaveSpelling before (e ∷ es) = IsNew e.0 before × IsCounted e.1 × HasI32 e.1 × HaveSpelling (before ++ e ∷ []) es

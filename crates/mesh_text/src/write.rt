@@ -5,17 +5,22 @@ ghost use Rattle.std.specs.Ordering.{int_eq};
 ghost use Rattle.texts.specs.Lines.{line_of};
 ghost use Rattle.mesh_text.specs.declared.entry.Form.{Form as Version};
 ghost use Rattle.mesh_text.specs.Spelling.{Named, Spells, header};
-ghost use Rattle.mesh_text.specs.Canonical.{canonical, entry_text, groups, piece_text, pieces_of, HaveSpelling};
+ghost use Rattle.mesh_text.specs.Canonical.{canonical, entry_text, groups, piece_text, pieces_of, FitI32, HasI32, CanBeSpelled, HaveSpelling};
 
 use crate::entry::{Entries, Entry, Form};
 use op_num::{Name, OutOfMemory, number_is_read, printed_is_read, put_i32, put_u64};
 use std::alloc::Global;
 use texts::lines_are_cut;
 
-/// The canonical text of the entries, in this form.
+/// The canonical text of the entries in this version: the header, then for each entry in order its line, and behind the
+/// line of an array that has values one line with these; then `done`. In version 2 each longest stretch of two or more
+/// equal values is one run. Where each name is a C name and no array has more than 2147483647 values, `read_mesh` reads
+/// the text again.
 pub fn write_mesh(alloc: Global, entries: &Entries, form: Form) -> Result<Vec<u8>, OutOfMemory>
-    ensures { IfOk result (λ v. v.items ≡ canonical form entries.now.entries) }
+    ensures canonical { IfOk result (λ v. v.items ≡ canonical form entries.now.entries) }
+    ensures spells { IfOk result (λ v. CanBeSpelled entries.now.entries → Spells v.items entries.now.entries) }
 {
+    written_is_spelled();
     let mut out = Vec::new(alloc);
     put_header(&mut out, form)?;
     for (name, entry) in entries.iter() {
@@ -35,7 +40,8 @@ fn put_header(out: &mut Vec<u8>, form: Form) -> Result<(), OutOfMemory>
 }
 
 fn put_entry(out: &mut Vec<u8>, name: &Name, entry: &Entry, form: Form) -> Result<(), OutOfMemory>
-    ensures { OnOk result (out.new.items ≡ out.old.items ++ entry_text form (name.now, entry.now)) }
+    ensures numbers { OnOk result (HasI32 entry.now) }
+    ensures text { OnOk result (out.new.items ≡ out.old.items ++ entry_text form (name.now, entry.now)) }
 {
     match entry {
         Entry::One(value) => {
@@ -58,7 +64,8 @@ fn put_entry(out: &mut Vec<u8>, name: &Name, entry: &Entry, form: Form) -> Resul
 
 // The line of an array's values, where it has some.
 fn put_values(out: &mut Vec<u8>, values: &[i32], form: Form) -> Result<(), OutOfMemory>
-    ensures { OnOk result (out.new.items ≡ out.old.items ++ line_of (pieces_of form values.now)) }
+    ensures numbers { OnOk result (FitI32 values.now) }
+    ensures text { OnOk result (out.new.items ≡ out.old.items ++ line_of (pieces_of form values.now)) }
 {
     let mut rest = values;
     while let [first, ..] = rest {
@@ -108,7 +115,7 @@ fn stretch_len(values: &[i32], value: i32) -> usize
     values.iter().take_while(|v| **v == value).count()
 }
 
-/// What is written spells its entries, so it is read again.
+/// A law: the canonical text of entries that have a spelling spells them.
 pub fn written_is_spelled()
     ensures { (f : Version) (es : List Named) → HaveSpelling [] es → Spells (canonical f es) es }
 {

@@ -1,14 +1,12 @@
 -- Written lines are cut into their tokens.
-use Rattle.std.proofs.Common.{◌≡◌, ℕ, suc, ◌+◌, Bool, true, false, not, ◌&&◌, cond, List, [], ◌∷◌, ◌++◌, map, length, take, drop, refl, ap, ◌∙◌, arith, append_assoc}
+use Rattle.std.proofs.Common.{◌≡◌, ℕ, suc, ◌+◌, Bool, true, false, not, cond, List, [], ◌∷◌, ◌++◌, map, length, take, drop, refl, ap, ◌∙◌, arith, append_assoc}
+use Rattle.std.proofs.lemmas.Bool.{and_parts}
+use Rattle.std.proofs.Math.Seq.{take-append_seam, drop-append_seam}
 use Rattle.std.proofs.Math.Numerals.{one-add}
 use Rattle.std.specs.List.{prefix_len, list_all}
 use Rattle.texts.specs.Cut.{blank, dark, line_after, words}
 use Rattle.texts.specs.Lines.{IsToken, line_of, text_of_lines, AreTokens, AreLines, on_line, placed}
 use Rattle.texts.proofs.Cutting.{words-none, words-blank, words-token}
-
-both : (a b : Bool) → (a && b) ≡ true → (a ≡ true) × (b ≡ true)
-both true b h = (refl, h)
-both false b h = cc
 
 light : (b : ℕ) → dark b ≡ true → blank b ≡ false
 light b h = go (blank b) refl h
@@ -20,27 +18,19 @@ light b h = go (blank b) refl h
 dark_len : (t : List ℕ) (b : ℕ) (rest : List ℕ) → list_all dark t ≡ true → blank b ≡ true → prefix_len dark (t ++ b ∷ rest) ≡ length t
 dark_len [] b rest h s = rw s refl
 dark_len (x ∷ t) b rest h s =
-    let k = both (dark x) (list_all dark t) h in
+    let k = and_parts (dark x) (list_all dark t) h in
     ap (λ d. cond d (1 + prefix_len dark (t ++ b ∷ rest)) 0) k.0 ∙ one-add (prefix_len dark (t ++ b ∷ rest)) ∙ ap suc (dark_len t b rest k.1 s)
-
-take_front : (xs ys : List ℕ) → take (length xs) (xs ++ ys) ≡ xs
-take_front [] ys = refl
-take_front (x ∷ xs) ys = ap (λ zs. x ∷ zs) (take_front xs ys)
-
-drop_front : (xs ys : List ℕ) → drop (length xs) (xs ++ ys) ≡ ys
-drop_front [] ys = refl
-drop_front (x ∷ xs) ys = drop_front xs ys
 
 -- a token and the blank behind it
 words_one : (line : ℕ) (t : List ℕ) (b : ℕ) (rest : List ℕ) → IsToken t → blank b ≡ true → words line (t ++ b ∷ rest) ≡ on_line line t ∷ words (line_after line b) rest
 words_one line [] b rest i s = absurd (omega (arith, i.0))
 words_one line (x ∷ t) b rest i s =
-    let k = both (dark x) (list_all dark t) i.1 in
+    let k = and_parts (dark x) (list_all dark t) i.1 in
     let len = dark_len t b rest k.1 s in
     words-token line x (t ++ b ∷ rest) (light x k.0)
     ∙ ap (λ n. on_line line (x ∷ take n (t ++ b ∷ rest)) ∷ words line (drop n (t ++ b ∷ rest))) len
-    ∙ ap (λ xs. on_line line (x ∷ xs) ∷ words line (drop (length t) (t ++ b ∷ rest))) (take_front t (b ∷ rest))
-    ∙ ap (λ xs. on_line line (x ∷ t) ∷ words line xs) (drop_front t (b ∷ rest))
+    ∙ ap (λ xs. on_line line (x ∷ xs) ∷ words line (drop (length t) (t ++ b ∷ rest))) (take-append_seam t (b ∷ rest))
+    ∙ ap (λ xs. on_line line (x ∷ t) ∷ words line xs) (drop-append_seam t (b ∷ rest))
     ∙ ap (λ ws. on_line line (x ∷ t) ∷ ws) (words-blank line b rest s)
 
 -- the tokens of a line
