@@ -1,5 +1,5 @@
 -- Which calls of a shelf or a sink over memory fail, and how many did.
-use Rattle.std.specs.Prelude.{◌≡◌, ◌≤◌, ℕ, ◌+◌, ◌-◌, ◌^◌, min, nat_eq, Bool, List, []}
+use Rattle.std.specs.Prelude.{◌≡◌, ◌≤◌, ℕ, ◌+◌, ◌-◌, ◌^◌, min, nat_eq, Bool, List}
 use Rattle.std.specs.List.{list_any}
 use Rattle.op_outside.specs.declared.script.Script.{Script}
 

@@ -1,4 +1,4 @@
-use Rattle.std.proofs.Common.{rules, ◌≡◌, ℕ, ◌+◌, ◌*◌, ◌-◌, ◌/◌, ◌<◌, ◌≤◌, ◌^◌, length, ◌++◌, arith, ◌∙◌, sym, ap₂}
+use Rattle.std.proofs.Common.{rules, ◌≡◌, ℕ, ◌+◌, ◌*◌, ◌-◌, ◌/◌, ◌<◌, ◌≤◌, ◌^◌, length, arith, ◌∙◌, sym}
 use Rattle.par_exec.specs.Windows.{EachWindow}
 use Rattle.par_exec.proofs.Halves.{rest_cells, each-halves}
 use Rattle.par_exec.proofs.+windows.Goals as goal

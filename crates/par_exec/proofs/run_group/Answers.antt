@@ -1,4 +1,4 @@
-use Rattle.std.proofs.Common.{◌≡◌, ◌*◌, ◌/◌, ◌+◌, length, ◌∙◌, arith, rules}
+use Rattle.std.proofs.Common.{◌≡◌, ◌*◌, ◌/◌, length, ◌∙◌, arith, rules}
 use Rattle.std.proofs.Math.Nat.{mod-add-div}
 use Rattle.par_exec.proofs.Halves.{replaced-each}
 use Rattle.par_exec.proofs.run_group.Goals as goal

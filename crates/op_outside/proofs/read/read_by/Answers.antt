@@ -1,4 +1,4 @@
-use Rattle.std.proofs.Common.{rules, vec_len}
+use Rattle.std.proofs.Common.{rules}
 use Rattle.op_outside.proofs.Pieces.{front-more}
 use Rattle.op_outside.proofs.read.read_by.Goals as goal
 
