@@ -183,13 +183,13 @@ fn is_hidden(main: &IndexMap<Name, MainName>, name: &Name, number: usize) -> boo
     match main.get(name) {
         None => false,
         Some(MainName::Set) => true,
-        Some(MainName::Dat(dat)) => (*dat as usize) < number,
+        Some(MainName::Dat(dat)) => *dat < number,
     }
 }
 
 fn dat_of(main: &IndexMap<Name, MainName>, ident: &Ident) -> Option<usize> {
     match main.get(&ident.name) {
-        Some(MainName::Dat(number)) => Some(*number as usize),
+        Some(MainName::Dat(number)) => Some(*number),
         _ => None,
     }
 }
