@@ -4,6 +4,8 @@ use Rattle.c_tree.specs.View.{top_of, kernel_of, host_of}
 use Rattle.first_form.specs.Grammar.{Loop, FormParts}
 use Rattle.first_form.specs.declared.grammar.Parts.{Parts}
 use Rattle.first_form.specs.declared.grammar.Looped.{Looped}
+use Rattle.first_form.specs.declared.binding.Bound.{Bound}
+use Rattle.first_form.specs.Binding.{BoundForm}
 
 abbrev pub loop_seen : Looped → Loop
 loop_seen l = record { kernel = l.kernel.now.name; set = l.set.now.name; args = l.args.now }
@@ -19,3 +21,6 @@ parts_seen p = record {
   printed = p.printed.now.name;
   file = p.file.now;
 }
+
+abbrev pub bound_seen : Bound → BoundForm
+bound_seen b = record { count = b.count; arrays = b.arrays.items; args = b.args.items; printed = b.printed }

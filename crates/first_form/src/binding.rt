@@ -1,12 +1,21 @@
 // A program of the form, bound to the entries of a mesh text.
+ghost use Rattle.std.specs.Prelude.{◌≡◌, ◌&&◌, not, is_some, map, codes};
+ghost use Rattle.std.specs.Str.{bytes_eq};
+ghost use Rattle.std.specs.List.{list_all};
+ghost use Rattle.c_tree.specs.View.{top_of, stmts_of};
+ghost use Rattle.first_form.specs.Names.{meaning_in, main_names};
+ghost use Rattle.first_form.specs.Binding.{has_entry, size_within, size_in, is_good_loop, is_hidden, is_array, number_of, is_minus_one, arg_in};
+ghost use Rattle.first_form.specs.Meaning.{after_elements};
+ghost use Rattle.first_form.specs.Seen.{parts_seen};
+
 use crate::array::Array;
 use crate::grammar::Parts;
 use crate::kernel::Frame;
 use crate::names::{FileName, MainName, file_names, main_names};
-use c_tree::{Host, Ident, Kernel, LoopArg, OpCall, Top};
+use c_tree::{ArgIndex, Host, Ident, Kernel, LoopArg, OpCall, Top};
 use indexmap::IndexMap;
 use mesh_decl::{Entries, Entry};
-use op_num::{Name, OutOfMemory};
+use op_num::{Name, OutOfMemory, Text};
 use std::alloc::Global;
 
 // The most elements of a set, dats of a program, arguments of a loop, and cells of a mesh.
@@ -30,16 +39,34 @@ pub struct Bound {
 
 impl Bound {
     /// Runs the kernel for each element in order.
-    pub fn run(&mut self, kernel: &Kernel) {
-        for element in 0..self.count {
-            let frame = Frame {
-                params: &kernel.params,
-                dats: &self.args,
-                element,
-            };
-            frame.run(&kernel.body, &mut self.arrays);
-        }
+    pub fn run(&mut self, kernel: &Kernel)
+        ensures ran { self.new.arrays.items ≡ after_elements kernel.now.params.items self.old.args.items (stmts_of kernel.now.body.items) self.old.arrays.items self.old.count }
+        ensures stays { self.new ≡ record self.old { arrays = self.new.arrays } }
+    {
+        run_elements(self.count, kernel, &self.args, &mut self.arrays);
     }
+}
+
+// Runs the kernel for the elements below `count` in order.
+fn run_elements(count: usize, kernel: &Kernel, dats: &[usize], arrays: &mut Vec<Array>)
+    ensures { arrays.new.items ≡ after_elements kernel.now.params.items dats.now (stmts_of kernel.now.body.items) arrays.old.items count }
+{
+    for element in 0..count {
+        let frame = Frame {
+            params: &kernel.params,
+            dats,
+            element,
+        };
+        frame.run(&kernel.body, arrays);
+    }
+}
+
+/// What binding looks names up in: the names of the file and of `main`, and the entries.
+#[derive(Clone, Copy)]
+struct Scopes<'a> {
+    file: &'a IndexMap<Name, FileName>,
+    main: &'a IndexMap<Name, MainName>,
+    entries: &'a Entries,
 }
 
 /// The bound program, where binding finds nothing wrong.
@@ -47,26 +74,42 @@ pub fn bind(
     alloc: Global,
     parts: &Parts<'_>,
     entries: &Entries,
-) -> Result<Option<Bound>, OutOfMemory> {
+) -> Result<Option<Bound>, OutOfMemory>
+{
     let Some(file) = file_names(alloc, parts)? else {
         return Ok(None);
     };
     let Some(main) = main_names(alloc, parts)? else {
         return Ok(None);
     };
-    if !have_entries(parts.externs, entries) || !is_good_loop(parts, &main) {
+    let scopes = Scopes {
+        file: &file,
+        main: &main,
+        entries,
+    };
+    bind_in(alloc, parts, scopes)
+}
+
+// The bound program, with the names of its scopes.
+fn bind_in(
+    alloc: Global,
+    parts: &Parts<'_>,
+    scopes: Scopes<'_>,
+) -> Result<Option<Bound>, OutOfMemory>
+{
+    if !have_entries(parts.externs, scopes.entries) || !is_good_loop(parts, scopes.main) {
         return Ok(None);
     }
-    let Some(count) = count_of(parts, entries) else {
+    let Some(count) = size_in(scopes.entries, &parts.size.name, parts.dats.len()) else {
         return Ok(None);
     };
-    let Some(arrays) = arrays_of(alloc, parts, &file, &main, entries, count)? else {
+    let Some(arrays) = arrays_of(alloc, parts, scopes, count)? else {
         return Ok(None);
     };
-    let Some(args) = args_of(alloc, parts, &main)? else {
+    let Some(args) = args_of(alloc, parts.looped.args, scopes.main)? else {
         return Ok(None);
     };
-    let Some(printed) = dat_of(&main, parts.printed) else {
+    let Some(printed) = dat_of(scopes.main, parts.printed) else {
         return Ok(None);
     };
     Ok(Some(Bound {
@@ -78,33 +121,49 @@ pub fn bind(
 }
 
 // Whether each extern has an entry of its kind.
-fn have_entries(externs: &[Top], entries: &Entries) -> bool {
+fn have_entries(externs: &[Top], entries: &Entries) -> bool
+    ensures { result ≡ list_all (has_entry entries.now.entries) (map top_of externs.now) }
+{
     for top in externs {
-        let found = match top {
-            Top::Extern(ident) => matches!(entries.get(&ident.name), Some(Entry::One(_))),
-            Top::ExternArray(ident) => matches!(entries.get(&ident.name), Some(Entry::Many(_))),
-            _ => true,
-        };
-        if !found {
+        if !has_entry(top, entries) {
             return false;
         }
     }
     true
 }
 
-// The size of the set, where it is one and within the limits.
-fn count_of(parts: &Parts<'_>, entries: &Entries) -> Option<usize> {
-    let Some(Entry::One(size)) = entries.get(&parts.size.name) else {
-        return None;
-    };
-    if *size < 0 {
+fn has_entry(top: &Top, entries: &Entries) -> bool
+    ensures { result ≡ has_entry entries.now.entries (top_of top.now) }
+{
+    match top {
+        Top::Extern(ident) => matches!(entries.get(&ident.name), Some(Entry::One(_))),
+        Top::ExternArray(ident) => matches!(entries.get(&ident.name), Some(Entry::Many(_))),
+        _ => true,
+    }
+}
+
+// The size of a set on which there are so many dats, by the entry of its name, where it is one and within
+// the limits.
+fn size_in(entries: &Entries, name: &Name, dats: usize) -> Option<usize>
+    ensures { result ≡ size_in (meaning_in entries.now.entries name.now) dats }
+{
+    match entries.get(name) {
+        Some(Entry::One(size)) => size_within(*size, dats),
+        _ => None,
+    }
+}
+
+fn size_within(size: i32, dats: usize) -> Option<usize>
+    ensures { result ≡ size_within size dats }
+{
+    if size < 0 {
         return None;
     }
-    let count = *size as usize;
-    if count > SET_SIZE || parts.dats.len() > DATS {
+    let count = size as usize;
+    if count > SET_SIZE || dats > DATS {
         return None;
     }
-    if count * (parts.dats.len() + 1) > MESH_CELLS {
+    if count * (dats + 1) > MESH_CELLS {
         return None;
     }
     Some(count)
@@ -112,27 +171,35 @@ fn count_of(parts: &Parts<'_>, entries: &Entries) -> Option<usize> {
 
 // The kernel and the set of the loop are those of the program, it has one argument per parameter, and
 // none too many.
-fn is_good_loop(parts: &Parts<'_>, main: &IndexMap<Name, MainName>) -> bool {
+fn is_good_loop(parts: &Parts<'_>, main: &IndexMap<Name, MainName>) -> bool
+    ensures { main.now.entries ≡ main_names (parts_seen parts.now) → result ≡ is_good_loop (parts_seen parts.now) }
+{
     let looped = &parts.looped;
-    looped.kernel.name == parts.kernel.name.name
-        && !main.contains_key(&looped.kernel.name)
+    is_kernel_named(parts, main)
         && looped.set.name == parts.set.name
         && looped.args.len() == parts.kernel.params.len()
         && looped.args.len() <= ARGUMENTS
+}
+
+// Whether the loop's kernel is the program's, and no name of `main` hides it.
+fn is_kernel_named(parts: &Parts<'_>, main: &IndexMap<Name, MainName>) -> bool
+    ensures { result ≡ (bytes_eq parts.now.looped.kernel.now.name parts.now.kernel.now.name.name && not (is_some (meaning_in main.now.entries parts.now.looped.kernel.now.name))) }
+{
+    let name = &parts.looped.kernel.name;
+    *name == parts.kernel.name.name && !main.contains_key(name)
 }
 
 // The values of the dats, where each declaration is right.
 fn arrays_of(
     alloc: Global,
     parts: &Parts<'_>,
-    file: &IndexMap<Name, FileName>,
-    main: &IndexMap<Name, MainName>,
-    entries: &Entries,
+    scopes: Scopes<'_>,
     count: usize,
-) -> Result<Option<Vec<Array>>, OutOfMemory> {
+) -> Result<Option<Vec<Array>>, OutOfMemory>
+{
     let mut arrays = Vec::new(alloc);
-    for host in parts.dats {
-        let Some(values) = values_of(parts, file, main, entries, arrays.len(), host) else {
+    for (number, host) in parts.dats.iter().enumerate() {
+        let Some(values) = values_of(parts, scopes, number, host) else {
             return Ok(None);
         };
         if values.len() != count {
@@ -147,47 +214,57 @@ fn arrays_of(
 // `int` an element, by the name of an extern array that no name of `main` declared before hides.
 fn values_of<'a>(
     parts: &Parts<'_>,
-    file: &IndexMap<Name, FileName>,
-    main: &IndexMap<Name, MainName>,
-    entries: &'a Entries,
+    scopes: Scopes<'a>,
     number: usize,
     host: &Host,
 ) -> Option<&'a [i32]> {
-    let Host::Call(OpCall::DeclDat {
-        set,
-        dim,
-        type_text,
-        values,
-        ..
-    }) = host
-    else {
-        return None;
-    };
-    if set.name != parts.set.name || dim.value != 1 || type_text.text.bytes() != b"int".as_slice()
+    match host {
+        Host::Call(OpCall::DeclDat {
+            set,
+            dim,
+            type_text,
+            values,
+            ..
+        }) if set.name == parts.set.name && dim.value == 1 && is_int(&type_text.text) => {
+            array_named(scopes, number, &values.name)
+        }
+        _ => None,
+    }
+}
+
+// The values of an extern array that no name of `main` hides before the dat with this number.
+fn array_named<'a>(scopes: Scopes<'a>, number: usize, name: &Name) -> Option<&'a [i32]> {
+    if is_hidden(scopes.main.get(name).copied(), number)
+        || !is_array(scopes.file.get(name).copied())
     {
         return None;
     }
-    if is_hidden(main, &values.name, number)
-        || !matches!(file.get(&values.name), Some(FileName::Array))
-    {
-        return None;
-    }
-    match entries.get(&values.name) {
+    match scopes.entries.get(name) {
         Some(Entry::Many(values)) => Some(values.as_slice()),
         _ => None,
     }
 }
 
 // Whether a name of `main` that was declared before the dat with this number hides a name of the file.
-fn is_hidden(main: &IndexMap<Name, MainName>, name: &Name, number: usize) -> bool {
-    match main.get(name) {
+fn is_hidden(name: Option<MainName>, number: usize) -> bool
+    ensures { result ≡ is_hidden name number }
+{
+    match name {
         None => false,
         Some(MainName::Set) => true,
-        Some(MainName::Dat(dat)) => *dat < number,
+        Some(MainName::Dat(dat)) => dat < number,
     }
 }
 
-fn dat_of(main: &IndexMap<Name, MainName>, ident: &Ident) -> Option<usize> {
+fn is_array(name: Option<FileName>) -> bool
+    ensures { result ≡ is_array name }
+{
+    matches!(name, Some(FileName::Array))
+}
+
+fn dat_of(main: &IndexMap<Name, MainName>, ident: &Ident) -> Option<usize>
+    ensures { result ≡ number_of (meaning_in main.now.entries ident.now.name) }
+{
     match main.get(&ident.name) {
         Some(MainName::Dat(number)) => Some(*number),
         _ => None,
@@ -197,11 +274,12 @@ fn dat_of(main: &IndexMap<Name, MainName>, ident: &Ident) -> Option<usize> {
 // The number of each argument's dat, where each argument is right and no dat stands twice.
 fn args_of(
     alloc: Global,
-    parts: &Parts<'_>,
+    args: &[LoopArg],
     main: &IndexMap<Name, MainName>,
-) -> Result<Option<Vec<usize>>, OutOfMemory> {
+) -> Result<Option<Vec<usize>>, OutOfMemory>
+{
     let mut numbers = Vec::new(alloc);
-    for arg in parts.looped.args {
+    for arg in args {
         let Some(number) = arg_of(main, arg) else {
             return Ok(None);
         };
@@ -214,22 +292,30 @@ fn args_of(
 }
 
 // The number of an argument's dat, where its index is -1, its dim 1 and its type `int`.
-fn arg_of(main: &IndexMap<Name, MainName>, arg: &LoopArg) -> Option<usize> {
-    let LoopArg::Dat {
-        dat,
-        index,
-        dim,
-        type_text,
-        ..
-    } = arg
-    else {
-        return None;
-    };
-    if !index.is_negative || index.value != 1 || dim.value != 1 {
-        return None;
+fn arg_of(main: &IndexMap<Name, MainName>, arg: &LoopArg) -> Option<usize>
+    ensures { result ≡ arg_in main.now.entries arg.now }
+{
+    match arg {
+        LoopArg::Dat {
+            dat,
+            index,
+            dim,
+            type_text,
+            ..
+        } if is_minus_one(*index) && dim.value == 1 && is_int(&type_text.text) => dat_of(main, dat),
+        _ => None,
     }
-    if type_text.text.bytes() != b"int".as_slice() {
-        return None;
-    }
-    dat_of(main, dat)
+}
+
+fn is_minus_one(index: ArgIndex) -> bool
+    ensures { result ≡ is_minus_one index }
+{
+    index.is_negative && index.value == 1
+}
+
+// Whether a text is `int`.
+fn is_int(text: &Text) -> bool
+    ensures { result ≡ bytes_eq text.now (codes "int") }
+{
+    text.bytes() == b"int".as_slice()
 }
