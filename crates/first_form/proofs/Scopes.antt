@@ -1,5 +1,5 @@
 -- Names added one after another.
-use Rattle.std.proofs.Common.{◌≡◌, ℕ, suc, ◌+◌, ◌<◌, Bool, true, false, ◌&&◌, not, is_some, List, [], ◌∷◌, ◌++◌, length, take, drop, map, get_or, slice_index_or, subst, Option, None, Some, refl, ap, sym, ◌∙◌, arith, append_assoc, append-nil, add-one, drop-cons}
+use Rattle.std.proofs.Common.{◌≡◌, ℕ, ℤ, suc, ◌+◌, ◌<◌, Bool, true, false, ◌&&◌, not, is_some, List, [], ◌∷◌, ◌++◌, length, take, drop, map, get_or, slice_index_or, subst, Option, None, Some, refl, ap, sym, ◌∙◌, arith, append_assoc, append-nil, add-one, drop-cons}
 use Rattle.std.specs.List.{flat_map}
 use Rattle.c_tree.specs.declared.programs.Top.{Top}
 use Rattle.c_tree.specs.declared.hosts.Host.{Host}
@@ -7,6 +7,8 @@ use Rattle.c_tree.specs.declared.kernels.Param.{Param}
 use Rattle.c_tree.specs.View.{top_of, host_of, stmts_of}
 use Rattle.c_tree.specs.declared.kernels.Stmt.{Stmt}
 use Rattle.first_form.specs.declared.names.MainName.{MainName}
+use Rattle.c_tree.specs.declared.hosts.LoopArg.{LoopArg}
+use Rattle.first_form.specs.Binding.{Lookups, values_in, of_size, behind, arrays_in, unless_in, after_arg, arg_in, args_in}
 use Rattle.first_form.specs.Names.{Names, meaning_in, are_fresh, scope_of, IsAdded, extern_name, dat_name, dat_names, is_param, are_distinct, count_of}
 
 -- names in two parts are new where each part is, the second behind the first
@@ -57,3 +59,14 @@ dat_names-added hosts i d names all new lt e s a =
     let step : dat_names i (map host_of (drop i hosts)) ≡ dat_name i (host_of d) ++ dat_names (i + 1) (map host_of (drop (i + 1) hosts)) =
         dat_names-drop hosts i d lt ∙ ap (λ h. dat_name i (host_of h) ++ dat_names (i + 1) (map host_of (drop (i + 1) hosts))) (sym e) in
     so_far-added names (dat_name i (host_of d)) (dat_names (i + 1) (map host_of (drop (i + 1) hosts))) all new (subst (λ r. IsSoFar names r all) step s) a
+
+pub arrays_in-drop : (s : List ℕ) (l : Lookups) (count : ℕ) (hosts : List Host) (i : ℕ) (d : Host) → i < length hosts → arrays_in s l count i (map host_of (drop i hosts)) ≡ behind (of_size count (values_in s l i (host_of (get_or hosts i d)))) (arrays_in s l count (i + 1) (map host_of (drop (i + 1) hosts)))
+arrays_in-drop s l count hosts i d h = rw add-one (ap (λ v. arrays_in s l count i (map host_of v)) (drop-cons hosts i d h))
+
+pub args_in-drop : (names : Names MainName) (before : List ℕ) (args : List LoopArg) (i : ℕ) (d : LoopArg) → i < length args → args_in names before (drop i args) ≡ after_arg (λ n. args_in names (before ++ n ∷ []) (drop (i + 1) args)) (unless_in before (arg_in names (get_or args i d)))
+args_in-drop names before args i d h = rw add-one (ap (args_in names before) (drop-cons args i d h))
+
+-- values before others
+abbrev pub joined_front : List (List ℤ) → Option (List (List ℤ)) → Option (List (List ℤ))
+joined_front front None = None
+joined_front front (Some xs) = Some (front ++ xs)

@@ -5,7 +5,8 @@ use Rattle.first_form.specs.Grammar.{Loop, FormParts}
 use Rattle.first_form.specs.declared.grammar.Parts.{Parts}
 use Rattle.first_form.specs.declared.grammar.Looped.{Looped}
 use Rattle.first_form.specs.declared.binding.Bound.{Bound}
-use Rattle.first_form.specs.Binding.{BoundForm}
+use Rattle.first_form.specs.declared.binding.Scopes.{Scopes}
+use Rattle.first_form.specs.Binding.{BoundForm, Lookups}
 
 abbrev pub loop_seen : Looped → Loop
 loop_seen l = record { kernel = l.kernel.now.name; set = l.set.now.name; args = l.args.now }
@@ -24,3 +25,6 @@ parts_seen p = record {
 
 abbrev pub bound_seen : Bound → BoundForm
 bound_seen b = record { count = b.count; arrays = b.arrays.items; args = b.args.items; printed = b.printed }
+
+abbrev pub scopes_seen : Scopes → Lookups
+scopes_seen s = record { file = s.file.now.entries; main = s.main.now.entries; entries = s.entries.now.entries }

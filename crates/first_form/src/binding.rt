@@ -1,12 +1,13 @@
 // A program of the form, bound to the entries of a mesh text.
-ghost use Rattle.std.specs.Prelude.{◌≡◌, ◌&&◌, not, is_some, map, codes};
+ghost use Rattle.std.specs.Prelude.{◌≡◌, ◌&&◌, [], not, is_some, map, option_map, codes, IfOk};
 ghost use Rattle.std.specs.Str.{bytes_eq};
 ghost use Rattle.std.specs.List.{list_all};
-ghost use Rattle.c_tree.specs.View.{top_of, stmts_of};
-ghost use Rattle.first_form.specs.Names.{meaning_in, main_names};
-ghost use Rattle.first_form.specs.Binding.{has_entry, size_within, size_in, is_good_loop, is_hidden, is_array, number_of, is_minus_one, arg_in};
+ghost use Rattle.std.specs.Option.{option_copied};
+ghost use Rattle.c_tree.specs.View.{top_of, host_of, stmts_of};
+ghost use Rattle.first_form.specs.Names.{meaning_in};
+ghost use Rattle.first_form.specs.Binding.{has_entry, size_within, size_in, is_good_loop, is_hidden, is_array, number_of, is_minus_one, arg_in, unless_in, args_in, array_named, values_in, of_size, arrays_in, bound_by, bound_in};
 ghost use Rattle.first_form.specs.Meaning.{after_elements};
-ghost use Rattle.first_form.specs.Seen.{parts_seen};
+ghost use Rattle.first_form.specs.Seen.{parts_seen, scopes_seen, bound_seen};
 
 use crate::array::Array;
 use crate::grammar::Parts;
@@ -75,6 +76,7 @@ pub fn bind(
     parts: &Parts<'_>,
     entries: &Entries,
 ) -> Result<Option<Bound>, OutOfMemory>
+    ensures { IfOk result (λ b. option_map bound_seen b ≡ bound_in (parts_seen parts.now) entries.now.entries) }
 {
     let Some(file) = file_names(alloc, parts)? else {
         return Ok(None);
@@ -96,6 +98,7 @@ fn bind_in(
     parts: &Parts<'_>,
     scopes: Scopes<'_>,
 ) -> Result<Option<Bound>, OutOfMemory>
+    ensures { IfOk result (λ b. option_map bound_seen b ≡ bound_by (parts_seen parts.now) (scopes_seen scopes.entry)) }
 {
     if !have_entries(parts.externs, scopes.entries) || !is_good_loop(parts, scopes.main) {
         return Ok(None);
@@ -172,7 +175,7 @@ fn size_within(size: i32, dats: usize) -> Option<usize>
 // The kernel and the set of the loop are those of the program, it has one argument per parameter, and
 // none too many.
 fn is_good_loop(parts: &Parts<'_>, main: &IndexMap<Name, MainName>) -> bool
-    ensures { main.now.entries ≡ main_names (parts_seen parts.now) → result ≡ is_good_loop (parts_seen parts.now) }
+    ensures { result ≡ is_good_loop (parts_seen parts.now) main.now.entries }
 {
     let looped = &parts.looped;
     is_kernel_named(parts, main)
@@ -196,28 +199,45 @@ fn arrays_of(
     scopes: Scopes<'_>,
     count: usize,
 ) -> Result<Option<Vec<Array>>, OutOfMemory>
+    ensures { IfOk result (λ arrays. option_map (λ v. v.items) arrays ≡ arrays_in parts.now.set.now.name (scopes_seen scopes.entry) count 0 (map host_of parts.now.dats.now)) }
 {
     let mut arrays = Vec::new(alloc);
     for (number, host) in parts.dats.iter().enumerate() {
-        let Some(values) = values_of(parts, scopes, number, host) else {
-            return Ok(None);
-        };
-        if values.len() != count {
-            return Ok(None);
+        match array_of(alloc, &parts.set.name, scopes, number, host, count)? {
+            Some(array) => arrays.push(array)?,
+            None => return Ok(None),
         }
-        arrays.push(Array::new(values.to_vec(alloc)?))?;
     }
     Ok(Some(arrays))
+}
+
+// The values of the dat with this number, where its declaration is right.
+fn array_of(
+    alloc: Global,
+    set: &Name,
+    scopes: Scopes<'_>,
+    number: usize,
+    host: &Host,
+    count: usize,
+) -> Result<Option<Array>, OutOfMemory>
+    ensures { IfOk result (λ array. array ≡ of_size count (values_in set.now (scopes_seen scopes.entry) number (host_of host.now))) }
+{
+    match values_of(set, scopes, number, host) {
+        Some(values) if values.len() == count => Ok(Some(Array::new(values.to_vec(alloc)?))),
+        _ => Ok(None),
+    }
 }
 
 // The values that the declaration of the dat with this number names: on the program's set, of one
 // `int` an element, by the name of an extern array that no name of `main` declared before hides.
 fn values_of<'a>(
-    parts: &Parts<'_>,
+    set_name: &Name,
     scopes: Scopes<'a>,
     number: usize,
     host: &Host,
-) -> Option<&'a [i32]> {
+) -> Option<&'a [i32]>
+    ensures { option_copied result ≡ values_in set_name.now (scopes_seen scopes.entry) number (host_of host.now) }
+{
     match host {
         Host::Call(OpCall::DeclDat {
             set,
@@ -225,7 +245,7 @@ fn values_of<'a>(
             type_text,
             values,
             ..
-        }) if set.name == parts.set.name && dim.value == 1 && is_int(&type_text.text) => {
+        }) if set.name == *set_name && dim.value == 1 && is_int(&type_text.text) => {
             array_named(scopes, number, &values.name)
         }
         _ => None,
@@ -233,7 +253,9 @@ fn values_of<'a>(
 }
 
 // The values of an extern array that no name of `main` hides before the dat with this number.
-fn array_named<'a>(scopes: Scopes<'a>, number: usize, name: &Name) -> Option<&'a [i32]> {
+fn array_named<'a>(scopes: Scopes<'a>, number: usize, name: &Name) -> Option<&'a [i32]>
+    ensures { option_copied result ≡ array_named (scopes_seen scopes.entry) number name.now }
+{
     if is_hidden(scopes.main.get(name).copied(), number)
         || !is_array(scopes.file.get(name).copied())
     {
@@ -277,18 +299,32 @@ fn args_of(
     args: &[LoopArg],
     main: &IndexMap<Name, MainName>,
 ) -> Result<Option<Vec<usize>>, OutOfMemory>
+    ensures { IfOk result (λ numbers. option_map (λ v. v.items) numbers ≡ args_in main.now.entries [] args.now) }
 {
     let mut numbers = Vec::new(alloc);
     for arg in args {
-        let Some(number) = arg_of(main, arg) else {
-            return Ok(None);
-        };
-        if numbers.contains(&number) {
-            return Ok(None);
+        match unless_in(&numbers, arg_of(main, arg)) {
+            Some(number) => numbers.push(number)?,
+            None => return Ok(None),
         }
-        numbers.push(number)?;
     }
     Ok(Some(numbers))
+}
+
+// The number, where it is not among those before it.
+fn unless_in(before: &[usize], number: Option<usize>) -> Option<usize>
+    ensures { result ≡ unless_in before.now number }
+{
+    match number {
+        None => None,
+        Some(number) => {
+            if before.contains(&number) {
+                None
+            } else {
+                Some(number)
+            }
+        }
+    }
 }
 
 // The number of an argument's dat, where its index is -1, its dim 1 and its type `int`.
