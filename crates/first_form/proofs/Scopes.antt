@@ -57,7 +57,7 @@ count_of_stmts (x ∷ xs) = ap suc (count_of_stmts xs)
 pub dat_names-added : (hosts : List Host) (i : ℕ) (d : Host) (names all new : Names MainName) → i < length hosts → d ≡ slice_index_or hosts i d → IsSoFar names (dat_names i (map host_of (drop i hosts))) all → IsAdded names (dat_name i (host_of d)) true new → IsSoFar new (dat_names (i + 1) (map host_of (drop (i + 1) hosts))) all
 dat_names-added hosts i d names all new lt e s a =
     let step : dat_names i (map host_of (drop i hosts)) ≡ dat_name i (host_of d) ++ dat_names (i + 1) (map host_of (drop (i + 1) hosts)) =
-        dat_names-drop hosts i d lt ∙ ap (λ h. dat_name i (host_of h) ++ dat_names (i + 1) (map host_of (drop (i + 1) hosts))) (sym e) in
+    dat_names-drop hosts i d lt ∙ ap (λ h. dat_name i (host_of h) ++ dat_names (i + 1) (map host_of (drop (i + 1) hosts))) (sym e) in
     so_far-added names (dat_name i (host_of d)) (dat_names (i + 1) (map host_of (drop (i + 1) hosts))) all new (subst (λ r. IsSoFar names r all) step s) a
 
 pub arrays_in-drop : (s : List ℕ) (l : Lookups) (count : ℕ) (hosts : List Host) (i : ℕ) (d : Host) → i < length hosts → arrays_in s l count i (map host_of (drop i hosts)) ≡ behind (of_size count (values_in s l i (host_of (get_or hosts i d)))) (arrays_in s l count (i + 1) (map host_of (drop (i + 1) hosts)))

@@ -4,3 +4,4 @@ pub mod Names
 pub mod Binding
 pub mod Meaning
 pub mod Seen
+pub mod Output

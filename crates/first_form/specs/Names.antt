@@ -4,13 +4,13 @@ use Rattle.std.specs.List.{flat_map, list_any}
 use Rattle.std.specs.Map.{lookup}
 use Rattle.std.specs.Str.{bytes_eq}
 use Rattle.c_tree.specs.Tree as tree
-use Rattle.c_tree.specs.Tree.{ExprTree, PlaceTree, StmtTree, StmtTrees, TopTree, HostTree}
+use Rattle.c_tree.specs.Tree.{ExprTree, PlaceTree, StmtTree, StmtTrees, TopTree, HostTree, ProgramTree}
 use Rattle.c_tree.specs.declared.kernels.Param.{Param}
 use Rattle.first_form.specs.declared.names.FileName.{FileName}
 use Rattle.first_form.specs.declared.names.FileName.TheVariants as file
 use Rattle.first_form.specs.declared.names.MainName.{MainName}
 use Rattle.first_form.specs.declared.names.MainName.TheVariants as main
-use Rattle.first_form.specs.Grammar.{FormParts}
+use Rattle.first_form.specs.Grammar.{FormParts, parts_in}
 
 -- a name, and what it stands for
 abbrev pub Names : Type 0 → Type 0
@@ -103,3 +103,11 @@ abbrev pub has_good_names : FormParts → Bool
 has_good_names p =
     (are_fresh [] (file_names p) && is_scalar (meaning_in (file_names p) p.size)) && are_fresh [] (main_names p)
     && (are_distinct [] p.kernel.params && nat_le (count_of p.kernel.body) 1048576 && are_good p.kernel.params p.kernel.body)
+
+abbrev pub form_of : Option FormParts → Bool
+form_of None = false
+form_of (Some p) = has_good_names p
+
+-- The program has the grammar of the form, and good names.
+abbrev pub is_first_form : ProgramTree → Bool
+is_first_form tree = form_of (parts_in tree)

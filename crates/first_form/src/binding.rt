@@ -239,13 +239,15 @@ fn values_of<'a>(
     ensures { option_copied result ≡ values_in set_name.now (scopes_seen scopes.entry) number (host_of host.now) }
 {
     match host {
-        Host::Call(OpCall::DeclDat {
-            set,
-            dim,
-            type_text,
-            values,
-            ..
-        }) if set.name == *set_name && dim.value == 1 && is_int(&type_text.text) => {
+        Host::Call(
+            OpCall::DeclDat {
+                set,
+                dim,
+                type_text,
+                values,
+                ..
+            },
+        ) if set.name == *set_name && dim.value == 1 && is_int(&type_text.text) => {
             array_named(scopes, number, &values.name)
         }
         _ => None,

@@ -178,7 +178,10 @@ fn is_plain(value: &Expr) -> bool
         Expr::Number(_) => true,
         Expr::Index { index, .. } => is_zero(index),
         Expr::Binary {
-            op, left, right, ..
+            op,
+            left,
+            right,
+            ..
         } => is_plain_operator(*op) && is_plain(left) && is_plain(right),
         _ => false,
     }
@@ -203,11 +206,13 @@ fn set_of(host: &Host) -> Option<(&Ident, &Ident)>
     ensures { option_map (λ s. (s.0.now.name, s.1.now.name)) result ≡ set_in (host_of host.now) }
 {
     match host {
-        Host::Call(OpCall::DeclSet {
-            name,
-            size: Expr::Name(size),
-            ..
-        }) => Some((name, size)),
+        Host::Call(
+            OpCall::DeclSet {
+                name,
+                size: Expr::Name(size),
+                ..
+            },
+        ) => Some((name, size)),
         _ => None,
     }
 }
@@ -234,9 +239,14 @@ fn looped_of(host: &Host) -> Option<Looped<'_>>
     ensures { option_map loop_seen result ≡ loop_in (host_of host.now) }
 {
     match host {
-        Host::Call(OpCall::ParLoop {
-            kernel, set, args, ..
-        }) if are_direct(args) => Some(Looped { kernel, set, args }),
+        Host::Call(
+            OpCall::ParLoop {
+                kernel,
+                set,
+                args,
+                ..
+            },
+        ) if are_direct(args) => Some(Looped { kernel, set, args }),
         _ => None,
     }
 }

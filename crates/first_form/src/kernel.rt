@@ -55,10 +55,17 @@ impl Frame<'_> {
         match value {
             Expr::Number(number) => number.value,
             Expr::Index { name, .. } => {
-                cell(arrays, dat_of(self.params, self.dats, &name.name), self.element)
+                cell(
+                    arrays,
+                    dat_of(self.params, self.dats, &name.name),
+                    self.element,
+                )
             }
             Expr::Binary {
-                op, left, right, ..
+                op,
+                left,
+                right,
+                ..
             } => {
                 let left = self.value_of(left, arrays);
                 let right = self.value_of(right, arrays);

@@ -6,6 +6,12 @@
 //! in the set's order, with integers that wrap. What hasn't isn't built yet.
 #![tactic(auto)]
 
+ghost use Rattle.std.specs.Prelude.{◌≡◌, [], slice_index_or, option_map, IfOk};
+ghost use Rattle.c_tree.specs.View.{program_of};
+ghost use Rattle.first_form.specs.Names.{is_first_form};
+ghost use Rattle.first_form.specs.Output.{printed_values, output};
+ghost use Rattle.first_form.specs.Seen.{parts_seen};
+
 mod array;
 mod binding;
 mod grammar;
@@ -13,9 +19,9 @@ mod kernel;
 mod names;
 mod print;
 
-use binding::bind;
+use binding::{Bound, bind};
 use c_tree::Program;
-use grammar::parts_of;
+use grammar::{Parts, parts_of};
 use mesh_decl::Entries;
 use names::has_good_names;
 use op_num::OutOfMemory;
@@ -24,7 +30,9 @@ use std::alloc::Global;
 
 /// Whether the program has the grammar of the form and no name in it is wrong. It doesn't need the
 /// mesh.
-pub fn is_first_form(alloc: Global, program: &Program) -> Result<bool, OutOfMemory> {
+pub fn is_first_form(alloc: Global, program: &Program) -> Result<bool, OutOfMemory>
+    ensures { IfOk result (λ good. good ≡ is_first_form (program_of program.now)) }
+{
     match parts_of(program) {
         None => Ok(false),
         Some(parts) => has_good_names(alloc, &parts),
@@ -37,7 +45,9 @@ pub fn run(
     alloc: Global,
     program: &Program,
     entries: &Entries,
-) -> Result<Option<Vec<u8>>, OutOfMemory> {
+) -> Result<Option<Vec<u8>>, OutOfMemory>
+    ensures { IfOk result (λ out. option_map (λ v. v.items) out ≡ output (program_of program.now) entries.now.entries) }
+{
     let Some(parts) = parts_of(program) else {
         return Ok(None);
     };
@@ -45,7 +55,25 @@ pub fn run(
         return Ok(None);
     };
     bound.run(parts.kernel);
-    let mut out = Vec::new(alloc);
-    print_dat(&mut out, &parts, &bound)?;
+    let out = printed(alloc, &parts, &bound)?;
     Ok(Some(out))
+}
+
+// The bytes of the dat that is printed.
+fn printed(alloc: Global, parts: &Parts<'_>, bound: &Bound) -> Result<Vec<u8>, OutOfMemory>
+    ensures { IfOk result (λ v. v.items ≡ printed_values (parts_seen parts.now) (slice_index_or bound.now.arrays.items bound.now.printed [])) }
+{
+    let mut out = Vec::new(alloc);
+    let values = match bound.arrays.get(bound.printed) {
+        Some(array) => array.as_slice(),
+        None => &[],
+    };
+    print_dat(
+        &mut out,
+        parts.file,
+        &parts.printed.name,
+        &parts.set.name,
+        values,
+    )?;
+    Ok(out)
 }

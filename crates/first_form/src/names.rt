@@ -128,11 +128,7 @@ fn add_dat(
 }
 
 // Adds a name where it isn't there yet, and says whether it did.
-fn add<T: Copy>(
-    names: &mut IndexMap<Name, T>,
-    name: &Name,
-    value: T,
-) -> Result<bool, OutOfMemory>
+fn add<T: Copy>(names: &mut IndexMap<Name, T>, name: &Name, value: T) -> Result<bool, OutOfMemory>
     ensures { IfOk result (λ added. IsAdded names.old.entries ((name.now, value) ∷ []) added names.new.entries) }
 {
     if names.contains_key(name) {
@@ -208,8 +204,9 @@ fn is_good_statement(params: &[Param], statement: &Stmt) -> bool
     ensures { result ≡ is_good_statement params.now (stmt_of statement.now) }
 {
     match statement {
-        Stmt::Assign(assignment) =>
-            { is_good_place(params, &assignment.place) && reads_params(params, &assignment.value) }
+        Stmt::Assign(assignment) => {
+            is_good_place(params, &assignment.place) && reads_params(params, &assignment.value)
+        }
         _ => true,
     }
 }
