@@ -9,6 +9,8 @@ mod decl;
 mod mesh;
 mod numbers;
 mod owners;
+#[cfg(test)]
+mod tests;
 
 pub use access::{Access, Via};
 pub use decl::{DatDecl, MapDecl, MapRefusal, SetDecl};
