@@ -26,6 +26,9 @@ use Rattle.mesh_text.proofs.Running.{step-version, step-between, step-one_name, 
 abbrev pub Goes : State → List (List ℕ) → State → Type 0
 Goes p ts q = (ws : List Word) → map text_of ws ≡ ts → through step finish p ws ≡ Ok q
 
+same_cons : (t u : List ℕ) (ts us : List (List ℕ)) → t ≡ u → ts ≡ us → t ∷ ts ≡ u ∷ us
+same_cons t u ts us e h = ap (λ x. x ∷ ts) e ∙ ap (λ xs. u ∷ xs) h
+
 -- tokens whose bytes are two lists are two lists
 split_map : (ws : List Word) (cs bs : List (List ℕ)) → map text_of ws ≡ cs ++ bs → (us : List Word) × (vs : List Word) × (ws ≡ us ++ vs) × (map text_of us ≡ cs) × (map text_of vs ≡ bs)
 split_map ws [] bs h = ([], ws, refl, refl, h)
@@ -34,7 +37,7 @@ split_map (w ∷ ws) (a ∷ cs) bs h =
     let t : map text_of ws ≡ cs ++ bs = cc in
     let e : w.text ≡ a = cc in
     let r = split_map ws cs bs t in
-    (w ∷ r.0, r.1, ap (λ xs. w ∷ xs) r.2, (ap (λ x. x ∷ map text_of r.0) e ∙ ap (λ xs. a ∷ xs) r.3), r.4)
+    (w ∷ r.0, r.1, ap (λ xs. w ∷ xs) r.2, same_cons w.text a (map text_of r.0) cs e r.3, r.4)
 
 goes_nowhere : (p : State) → Goes p [] p
 goes_nowhere p [] h = through-none step finish p

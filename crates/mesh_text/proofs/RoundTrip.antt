@@ -1,17 +1,17 @@
 -- What is written spells its entries.
-use Rattle.std.proofs.Common.{◌≡◌, ℕ, ℤ, ◌+◌, ◌-◌, ◌*◌, ◌^◌, ◌<◌, Bool, true, false, cond, inl, inr, nat_eq, List, [], ◌∷◌, ◌++◌, length, map, Option, Some, None, Ok, codes, FitsSigned, w32, refl, sym, ap, subst, ◌∙◌, arith, append_assoc, append-nil, length-append}
+use Rattle.std.proofs.Common.{◌≡◌, ℕ, ℤ, ◌+◌, ◌^◌, ◌<◌, Bool, true, false, cond, inl, inr, nat_eq, List, [], ◌∷◌, ◌++◌, length, map, Option, Some, None, Ok, codes, FitsSigned, w32, refl, sym, ap, subst, ◌∙◌, arith, append_assoc, append-nil, length-append}
 use lib.ListN.{replicate}
 use Rattle.std.proofs.lemmas.Bool.{and_parts}
 use Rattle.std.proofs.lemmas.Bool.Decides.{nat_tests}
-use Rattle.std.proofs.lemmas.List.{length-replicate, map-append}
+use Rattle.std.proofs.lemmas.List.{length-replicate}
 use Rattle.std.proofs.lemmas.List.Concat.{flat_map-append}
-use Rattle.std.specs.Char.{is_ascii_digit}
 use Rattle.std.specs.Fmt.{decimal, signed_decimal}
 use Rattle.std.specs.List.{list_all, flat_map}
 use Rattle.std.specs.Ordering.{int_eq}
-use Rattle.op_num.specs.Spelling.{number_after, number_of, integer_of, negated, plain, i32_judged}
+use Rattle.op_num.specs.Spelling.{number_of, integer_of, i32_judged}
 use Rattle.texts.specs.Cut.{words, text_of, texts, dark}
-use Rattle.texts.specs.Lines.{IsToken, line_of, text_of_lines, AreTokens, AreLines, on_line, placed}
+use Rattle.texts.specs.Lines.{IsToken, line_of, text_of_lines, AreTokens, AreLines, placed}
+use Rattle.texts.proofs.Words.{concat, placed_texts, all_and, all_append, number_token, integer_token, concat_append, lines_append}
 use Rattle.mesh_text.specs.declared.entry.Form.{Form}
 use Rattle.mesh_text.specs.declared.entry.Form.TheVariants as form
 use Rattle.mesh_text.specs.declared.entry.Entry.{Entry}
@@ -40,54 +40,6 @@ text_more f head out out1 es e h k =
     ∙ append_assoc head (flat_map (entry_text f) es) (entry_text f e)
     ∙ ap (λ xs. head ++ (flat_map (entry_text f) es ++ xs)) (sym (append-nil (entry_text f e)))
     ∙ ap (λ xs. head ++ xs) (sym (flat_map-append (entry_text f) es (e ∷ [])))
-
-abbrev concat : List (List (List ℕ)) → List (List ℕ)
-concat ls = flat_map (λ l. l) ls
-
-on_texts : (line : ℕ) (ts : List (List ℕ)) → map text_of (map (on_line line) ts) ≡ ts
-on_texts line [] = refl
-on_texts line (t ∷ ts) = ap (λ xs. t ∷ xs) (on_texts line ts)
-
-placed_texts : (line : ℕ) (ls : List (List (List ℕ))) → map text_of (placed line ls) ≡ concat ls
-placed_texts line [] = refl
-placed_texts line ([] ∷ ls) = placed_texts line ls
-placed_texts line ((t ∷ ts) ∷ ls) = map-append text_of (map (on_line line) (t ∷ ts)) (placed (line + 1) ls) ∙ ap (λ xs. xs ++ map text_of (placed (line + 1) ls)) (on_texts line (t ∷ ts)) ∙ ap (λ xs. (t ∷ ts) ++ xs) (placed_texts (line + 1) ls)
-
-all_and : (p : ℕ → Bool) (x : ℕ) (xs : List ℕ) → p x ≡ true → list_all p xs ≡ true → list_all p (x ∷ xs) ≡ true
-all_and p x xs a b = rw a b
-
-all_append : (p : ℕ → Bool) (xs ys : List ℕ) → list_all p xs ≡ true → list_all p ys ≡ true → list_all p (xs ++ ys) ≡ true
-all_append p [] ys a b = b
-all_append p (x ∷ xs) ys a b = let k = and_parts (p x) (list_all p xs) a in all_and p x (xs ++ ys) k.0 (all_append p xs ys k.1 b)
-
--- numbers are tokens
-dark_by : (m c : ℕ) (cs : List ℕ) (n : ℕ) (t : Bool) → is_ascii_digit c ≡ t → cond t (number_after (m * 10 + (c - 48)) cs) None ≡ Some n → (number_after (m * 10 + (c - 48)) cs ≡ Some n → list_all dark cs ≡ true) → list_all dark (c ∷ cs) ≡ true
-dark_by m c cs n true t h r = let b : dark c ≡ true = grind (arith, nat_tests) in all_and dark c cs b (r h)
-dark_by m c cs n false t h r = cc
-
-digits_dark : (m : ℕ) (ds : List ℕ) (n : ℕ) → number_after m ds ≡ Some n → list_all dark ds ≡ true
-digits_dark m [] n h = refl
-digits_dark m (c ∷ cs) n h = dark_by m c cs n (is_ascii_digit c) refl h (λ k. digits_dark (m * 10 + (c - 48)) cs n k)
-
-number_token : (ds : List ℕ) (n : ℕ) → number_of ds ≡ Some n → IsToken ds
-number_token [] n h = cc
-number_token (c ∷ cs) n h = (omega arith, digits_dark 0 (c ∷ cs) n h)
-
-plain_some : (o : Option ℕ) (z : ℤ) → plain o ≡ Some z → (n : ℕ) × (o ≡ Some n)
-plain_some None z h = cc
-plain_some (Some n) z h = (n, refl)
-
-negated_some : (o : Option ℕ) (z : ℤ) → negated o ≡ Some z → (n : ℕ) × (o ≡ Some n)
-negated_some None z h = cc
-negated_some (Some n) z h = (n, refl)
-
-integer_token : (text : List ℕ) (z : ℤ) → integer_of text ≡ Some z → IsToken text
-integer_token [] z h = cc
-integer_token (c ∷ cs) z h = go (nat_eq c 45) refl h
-  where
-    go : (t : Bool) → nat_eq c 45 ≡ t → cond t (negated (number_of cs)) (plain (number_of (c ∷ cs))) ≡ Some z → IsToken (c ∷ cs)
-    go true t h = let k = negated_some (number_of cs) z h in let b : dark c ≡ true = grind (arith, nat_tests) in (omega arith, all_and dark c cs b (number_token cs k.0 k.1).1)
-    go false t h = let k = plain_some (number_of (c ∷ cs)) z h in number_token (c ∷ cs) k.0 k.1
 
 judged_some : (o : Option ℤ) (z : ℤ) → i32_judged o ≡ Ok z → (y : ℤ) × (o ≡ Some y)
 judged_some None z h = cc
@@ -125,9 +77,6 @@ groups_onto z (g ∷ gs) f a = go (int_eq z g.1)
 groups_stretches : (zs : List ℤ) → FitI32 zs → AreGroups (stretches zs)
 groups_stretches [] f = tt
 groups_stretches (z ∷ zs) f = groups_onto z (stretches zs) f.0 (groups_stretches zs f.1)
-
-concat_append : (cs bs : List (List (List ℕ))) → concat (cs ++ bs) ≡ concat cs ++ concat bs
-concat_append cs bs = flat_map-append (λ l. l) cs bs
 
 -- what the crates below promise: printed numbers are read again, and written lines are cut again
 module _ (printed : (z : ℤ) → FitsSigned w32 z → i32_judged (integer_of (signed_decimal z)) ≡ Ok z) (counted : (n : ℕ) → n < 2 ^ 64 → number_of (decimal n) ≡ Some n) (cut : (line : ℕ) (lines : List (List (List ℕ))) → AreLines lines → words line (text_of_lines lines) ≡ placed line lines) where
@@ -198,10 +147,6 @@ module _ (printed : (z : ℤ) → FitsSigned w32 z → i32_judged (integer_of (s
   entry_tokens f name (One z) n k h = (((omega arith, refl), (name_token name n, (value_token (signed_decimal z) z (printed z h), tt))), tt)
   entry_tokens f name (Many zs) n k h =
       (((omega arith, refl), (name_token name n, (number_token (decimal (length zs)) (length zs) (counted (length zs) (omega arith)), tt))), (values_tokens f zs h k, tt))
-
-  lines_append : (cs bs : List (List (List ℕ))) → AreLines cs → AreLines bs → AreLines (cs ++ bs)
-  lines_append [] bs a b = b
-  lines_append (c ∷ cs) bs a b = (a.0, lines_append cs bs a.1 b)
 
   entries_lines : (f : Form) (before es : List Named) → HaveSpelling before es → AreLines (flat_map (entry_lines f) es)
   entries_lines f before [] h = tt

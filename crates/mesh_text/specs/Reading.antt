@@ -20,14 +20,15 @@ use Rattle.mesh_text.specs.Token.{is_c_name, is_magic, version_of, keyword_of}
 use Rattle.mesh_text.specs.Piece.{piece_of}
 use Rattle.mesh_text.specs.Spelling.{Named, total, has_name, IsNew, ArePieces, AreMesh}
 
--- what is awaited, behind the entries so far
+-- What is awaited behind the entries so far: the two tokens of the header, an entry or `done`, the name and the value of an `int`,
+-- the name and the count of an `ints`, some more values of an array that has the last of these so far, the end.
 pub data State : Type 0 where
   Magic : State
   Version : State
   Between : Form → List Named → State
   OneName : Form → List Named → State
-  ManyName : Form → List Named → State
   OneValue : Form → List Named → List ℕ → State
+  ManyName : Form → List Named → State
   Count : Form → List Named → List ℕ → State
   Pieces : Form → List Named → List ℕ → ℕ → List ℤ → State
   End : List Named → State

@@ -2,3 +2,4 @@ pub mod Cutting
 pub mod Written
 pub mod Reading
 pub mod Exact
+pub mod Words
