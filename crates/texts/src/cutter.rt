@@ -21,12 +21,14 @@ impl<'a> Model for Token<'a> {
 }
 
 impl<'a> Token<'a> {
+    /// The bytes of the token.
     pub fn text(&self) -> &'a [u8]
         ensures { result.now ≡ self.now.text }
     {
         self.text
     }
 
+    /// The line that the token stands on, from 1; lines are counted by LF.
     pub fn line(&self) -> u32
         ensures { result ≡ self.now.line }
     {
@@ -54,7 +56,7 @@ impl<'a> Model for Tokens<'a> {
 }
 
 impl<'a> Tokens<'a> {
-    /// All tokens of the text.
+    /// All tokens of the text, which has fewer than 2 ^ 32 - 1 bytes, so that its lines can be counted.
     pub fn new(text: &'a [u8]) -> Tokens<'a>
         requires { length text.now + 1 < 2 ^ 32 }
         ensures { result ≡ uncut text.now }
@@ -66,7 +68,7 @@ impl<'a> Tokens<'a> {
         }
     }
 
-    /// The next token.
+    /// The next token, or none at the end of the text.
     pub fn next(&mut self) -> Option<Token<'a>>
         ensures token { result ≡ first_of self.old }
         ensures rest { self.new ≡ rest_of self.old }
@@ -84,7 +86,7 @@ impl<'a> Tokens<'a> {
         Some(Token { text, line })
     }
 
-    /// The line of the last token that came, or 1.
+    /// The line of the last token that came, or 1 where none came.
     pub fn last(&self) -> u32
         ensures { result ≡ self.now.last }
     {
@@ -92,8 +94,8 @@ impl<'a> Tokens<'a> {
     }
 }
 
-/// Whether a byte stands between tokens.
-pub fn is_blank(byte: u8) -> bool
+// Whether a byte stands between tokens.
+fn is_blank(byte: u8) -> bool
     ensures { result ≡ blank byte }
 {
     byte == b' ' || byte == b'\t' || byte == b'\r' || byte == b'\n'
