@@ -14,6 +14,10 @@ if [ $# -eq 0 ]; then
     sed -n '2,5p' "$0" >&2
     exit 2
 fi
+if [ ! -x /usr/bin/time ]; then
+    echo 'bench/mesh.sh needs /usr/bin/time (GNU time)' >&2
+    exit 2
+fi
 
 largest=${LARGEST_SET:-4194304}
 sizes=${VALUES:-1048576 2097152 4194304 8388608 16777216 33554432}

@@ -12,15 +12,19 @@ pub record MeshValue : Type 0 where
   pub maps : List MapDecl
   pub dats : List DatDecl
 
+-- nothing is declared
 abbrev pub no_mesh : MeshValue
 no_mesh = record { sets = []; maps = []; dats = [] }
 
+-- how many sets are declared
 abbrev pub set_count : MeshValue → ℕ
 set_count g = length g.sets
 
+-- how many maps are declared
 abbrev pub map_count : MeshValue → ℕ
 map_count g = length g.maps
 
+-- how many dats are declared
 abbrev pub dat_count : MeshValue → ℕ
 dat_count g = length g.dats
 
@@ -32,13 +36,15 @@ size_in sets s = slice_index (map (λ (d : SetDecl). d.size) sets) s
 abbrev pub set_size : MeshValue → ℕ → ℕ
 set_size g s = size_in g.sets s
 
+-- the name of a set
 unfoldable pub set_name : MeshValue → ℕ → List ℕ
 set_name g s = slice_index_or (map (λ (d : SetDecl). d.name) g.sets) s []
 
--- the set from which a map leads, and the set to which it leads
+-- the set from which a map leads
 unfoldable pub map_from : MeshValue → ℕ → ℕ
 map_from g m = slice_index (map (λ (d : MapDecl). d.from) g.maps) m
 
+-- the set to which a map leads
 unfoldable pub map_to : MeshValue → ℕ → ℕ
 map_to g m = slice_index (map (λ (d : MapDecl). d.to) g.maps) m
 
@@ -46,6 +52,7 @@ map_to g m = slice_index (map (λ (d : MapDecl). d.to) g.maps) m
 unfoldable pub map_dim : MeshValue → ℕ → ℕ
 map_dim g m = slice_index (map (λ (d : MapDecl). d.dim) g.maps) m
 
+-- the name of a map
 unfoldable pub map_name : MeshValue → ℕ → List ℕ
 map_name g m = slice_index_or (map (λ (d : MapDecl). d.name) g.maps) m []
 
@@ -65,6 +72,7 @@ dat_set g d = slice_index (map (λ (e : DatDecl). e.set) g.dats) d
 unfoldable pub dat_dim : MeshValue → ℕ → ℕ
 dat_dim g d = slice_index (map (λ (e : DatDecl). e.dim) g.dats) d
 
+-- the name of a dat
 unfoldable pub dat_name : MeshValue → ℕ → List ℕ
 dat_name g d = slice_index_or (map (λ (e : DatDecl). e.name) g.dats) d []
 
@@ -77,6 +85,7 @@ abbrev pub is_element : ℕ → ℤ → Bool
 is_element size (pos n) = nat_lt n size
 is_element size (negsuc n) = false
 
+-- each number is that of an element of a set of this size
 abbrev pub AreElements : ℕ → List ℤ → Type 0
 AreElements size targets = All (λ t. is_element size t ≡ true) targets
 

@@ -22,6 +22,7 @@ dat_header file g d = file ∷ codes ": " ∷ dat_name g d ∷ codes " " ∷ set
 unfoldable pub printed_dat : List ℕ → MeshValue → ℕ → List ℤ → List ℕ
 printed_dat file g d zs = flat_map (λ part. part) (dat_header file g d) ++ flat_map row_text (rows (dat_dim g d) (set_size g (dat_set g d)) zs)
 
+-- one more, where there is a count
 abbrev pub one_more : Option ℕ → Option ℕ
 one_more None = None
 one_more (Some n) = Some (n + 1)

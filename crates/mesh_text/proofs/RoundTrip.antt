@@ -20,7 +20,7 @@ use Rattle.mesh_text.specs.Token.{is_c_name, letter, part}
 use Rattle.mesh_text.specs.Piece.{IsValue, Gives}
 use Rattle.mesh_text.specs.Spelling.{Named, ArePieces, IsEntry, AreEntries, Spells, header}
 use Rattle.mesh_text.proofs.Grouping.{spread, spread_stretches}
-use Rattle.mesh_text.specs.Canonical.{onto_stretch, stretches, alone, groups, piece_text, pieces_of, lines_of, entry_lines, mesh_lines, canonical, entry_text, FitI32, HasI32, IsCounted, HaveSpelling}
+use Rattle.mesh_text.specs.Canonical.{onto_stretch, stretches, alone, groups, piece_text, pieces_of, lines_of, entry_lines, mesh_lines, canonical, entry_text, FitI32, HasI32, IsCounted, CanBeSpelled, HaveSpelling}
 
 flat_text : (f : Form) (es : List Named) → text_of_lines (flat_map (entry_lines f) es) ≡ flat_map (entry_text f) es
 flat_text f [] = refl
@@ -166,3 +166,15 @@ module _ (printed : (z : ℤ) → FitsSigned w32 z → i32_judged (integer_of (s
       ap (λ ws. map text_of ws) (cut 1 (mesh_lines f es) (mesh_tokens f es h)) ∙ placed_texts 1 (mesh_lines f es)
       ∙ ap (λ xs. header f ++ xs) (concat_append (flat_map (entry_lines f) es) ((codes "done" ∷ []) ∷ [])) in
       (f, header f ++ body, tokens, (body, refl, entries_spell f [] es h))
+
+can_be : (f : Form) (before : List Named) (ts : List (List ℕ)) (es : List Named) → AreEntries f before ts es → CanBeSpelled es
+can_be f before ts [] a = tt
+can_be f before ts (e ∷ es) a = (a.4.0, counted_entry f a.0 e.0 e.1 a.3, can_be f (before ++ e ∷ []) a.1 es a.5)
+  where
+    counted_entry : (f : Form) (ts : List (List ℕ)) (name : List ℕ) (e : Entry) → IsEntry f ts name e → IsCounted e
+    counted_entry f ts name (One z) i = tt
+    counted_entry f ts name (Many zs) i = i.4
+
+-- entries that are spelled can be spelled again
+pub spelled_again : (bytes : List ℕ) (es : List Named) → Spells bytes es → CanBeSpelled es
+spelled_again bytes es s = can_be s.0 [] s.3.0 es s.3.2

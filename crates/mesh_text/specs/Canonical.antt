@@ -22,6 +22,7 @@ abbrev pub stretches : List ℤ → List (ℕ × ℤ)
 stretches [] = []
 stretches (z ∷ zs) = onto_stretch z (stretches zs)
 
+-- a value by itself
 abbrev pub alone : ℤ → ℕ × ℤ
 alone z = (1, z)
 
@@ -30,9 +31,11 @@ unfoldable pub groups : Form → List ℤ → List (ℕ × ℤ)
 groups form.One zs = map alone zs
 groups form.Two zs = stretches zs
 
+-- the token of equal values: one as a VALUE, more as a run
 abbrev pub piece_text : ℕ × ℤ → List ℕ
 piece_text g = if nat_eq g.0 1 then signed_decimal g.1 else decimal g.0 ++ 42 ∷ signed_decimal g.1
 
+-- the tokens of the values
 abbrev pub pieces_of : Form → List ℤ → List (List ℕ)
 pieces_of f zs = map piece_text (groups f zs)
 
@@ -41,9 +44,11 @@ abbrev pub lines_of : Form → List ℕ → Entry → List (List (List ℕ))
 lines_of f name (One z) = (codes "int" ∷ name ∷ signed_decimal z ∷ []) ∷ []
 lines_of f name (Many zs) = (codes "ints" ∷ name ∷ decimal (length zs) ∷ []) ∷ pieces_of f zs ∷ []
 
+-- the lines of a named entry
 abbrev pub entry_lines : Form → Named → List (List (List ℕ))
 entry_lines f e = lines_of f e.0 e.1
 
+-- the lines of the whole text
 abbrev pub mesh_lines : Form → List Named → List (List (List ℕ))
 mesh_lines f es = header f ∷ (flat_map (entry_lines f) es ++ (codes "done" ∷ []) ∷ [])
 
@@ -51,6 +56,7 @@ mesh_lines f es = header f ∷ (flat_map (entry_lines f) es ++ (codes "done" ∷
 abbrev pub canonical : Form → List Named → List ℕ
 canonical f es = text_of_lines (mesh_lines f es)
 
+-- the bytes of the lines of a named entry
 abbrev pub entry_text : Form → Named → List ℕ
 entry_text f e = text_of_lines (entry_lines f e)
 
@@ -59,6 +65,7 @@ abbrev pub FitI32 : List ℤ → Type 0
 FitI32 [] = Unit {0}
 FitI32 (z ∷ zs) = FitsSigned w32 z × FitI32 zs
 
+-- each value of an entry is one of an `i32`
 abbrev pub HasI32 : Entry → Type 0
 HasI32 (One z) = FitsSigned w32 z
 HasI32 (Many zs) = FitI32 zs

@@ -33,14 +33,17 @@ Gives Two text n z = ((n ≡ 1) × IsValue text z) ⊎ IsRun text n z
 abbrev pub IsPiece : Form → List ℕ → List ℤ → Type 0
 IsPiece form text zs = (n : ℕ) × (z : ℤ) × Gives form text n z × (zs ≡ replicate n z)
 
+-- a byte before a `*`
 abbrev pub no_star : ℕ → Bool
 no_star b = not (nat_eq b 42)
 
+-- what is said of a token that was read as a number
 abbrev pub one_value : Result ℤ NumRefusal → Piece
 one_value (Ok z) = Values 1 z
 one_value (Err TooLarge) = OutOfRange
 one_value (Err NotDigits) = NoPiece
 
+-- what a token says as a VALUE
 abbrev pub value_piece : List ℕ → Piece
 value_piece text = one_value (i32_judged (integer_of text))
 
@@ -48,6 +51,7 @@ value_piece text = one_value (i32_judged (integer_of text))
 abbrev pub times_piece : ℕ → ℤ → Piece
 times_piece n z = if nat_lt n (2 ^ 31) then if nat_eq n 0 then NoTimes else Values n z else OutOfRange
 
+-- what a run says, by its number and its value as they were read
 abbrev pub run_of : Result ℕ NumRefusal → Result ℤ NumRefusal → Piece
 run_of (Err NotDigits) z = NoPiece
 run_of (Err TooLarge) (Err NotDigits) = NoPiece
@@ -57,6 +61,7 @@ run_of (Ok n) (Err NotDigits) = NoPiece
 run_of (Ok n) (Err TooLarge) = OutOfRange
 run_of (Ok n) (Ok z) = times_piece n z
 
+-- what a token says as a run, N and VALUE standing apart
 abbrev pub run_piece : List ℕ → List ℕ → Piece
 run_piece times value = run_of (u64_judged (number_of times)) (i32_judged (integer_of value))
 
@@ -64,6 +69,7 @@ run_piece times value = run_of (u64_judged (number_of times)) (i32_judged (integ
 abbrev pub split_piece : ℕ → List ℕ → Piece
 split_piece n text = if nat_eq n (length text) then value_piece text else run_piece (take n text) (drop 1 (drop n text))
 
+-- what a token says in this version
 abbrev pub piece_of : Form → List ℕ → Piece
 piece_of One text = value_piece text
 piece_of Two text = split_piece (prefix_len no_star text) text

@@ -33,6 +33,7 @@ pub data State : Type 0 where
   Pieces : Form → List Named → List ℕ → ℕ → List ℤ → State
   End : List Named → State
 
+-- the next state, or why a token is refused
 abbrev pub Stepped : Type 0
 Stepped = Result State MeshRefusal
 
@@ -40,6 +41,7 @@ Stepped = Result State MeshRefusal
 abbrev pub filled : Form → List Named → List ℕ → ℕ → List ℤ → State
 filled f es name left zs = if nat_eq left 0 then Between f (es ++ (name, Many zs) ∷ []) else Pieces f es name left zs
 
+-- behind the second token of the header
 abbrev pub versioned : Option Form → ℕ → Stepped
 versioned None line = Err (Header line)
 versioned (Some f) line = Ok (Between f [])
@@ -51,6 +53,7 @@ stray OutOfRange line = NumberRange line
 stray NoTimes line = WrongCount line
 stray (Values n z) line = WrongCount line
 
+-- behind a token where an entry or `done` is awaited
 abbrev pub began : Form → List Named → Option Keyword → Piece → ℕ → Stepped
 began f es (Some keyword.Int) piece line = Ok (OneName f es)
 began f es (Some keyword.Ints) piece line = Ok (ManyName f es)
@@ -65,11 +68,13 @@ named es w = if is_c_name w.text then if has_name w.text es then Err (DuplicateE
 abbrev pub room_for : ℕ → ℕ → {A : Type 0} → A → Result A MeshRefusal
 room_for so_far n x = if nat_le (so_far + n) MESH_VALUES then Ok x else Err (Limit (so_far + n))
 
+-- the value of an `int`, by the token as it was read: a number, within the limit
 unfoldable pub one_of : ℕ → ℕ → Result ℤ NumRefusal → Result ℤ MeshRefusal
 one_of so_far line (Ok z) = room_for so_far 1 z
 one_of so_far line (Err NotDigits) = Err (Syntax line)
 one_of so_far line (Err TooLarge) = Err (NumberRange line)
 
+-- the count of an `ints`, by the token as it was read: digits, at most 2147483647, within the limit
 unfoldable pub count_of : ℕ → ℕ → Option ℕ → Result ℕ MeshRefusal
 count_of so_far line None = Err (Syntax line)
 count_of so_far line (Some n) = if nat_lt n (2 ^ 31) then room_for so_far n n else Err (NumberRange line)
@@ -93,6 +98,7 @@ step (Count f es name) w = onto (count_of (total es) w.line (number_of w.text)) 
 step (Pieces f es name left zs) w = onto (given left w.line (piece_of f w.text)) (λ g. filled f es name (left - g.0) (zs ++ replicate g.0 g.1))
 step (End es) w = Err (Syntax w.line)
 
+-- the entries of a text, or why it is refused
 abbrev pub Read : Type 0
 Read = Result (List Named) MeshRefusal
 

@@ -11,6 +11,7 @@ use Rattle.mesh_text.specs.declared.entry.Entry.TheVariants.{One, Many}
 use Rattle.mesh_text.specs.Token.{is_c_name}
 use Rattle.mesh_text.specs.Piece.{IsValue, IsPiece}
 
+-- a name, and what stands under it
 abbrev pub Named : Type 0
 Named = List ℕ × Entry
 
@@ -22,6 +23,7 @@ size_of e = values_of e.1
     values_of (One z) = 1
     values_of (Many zs) = length zs
 
+-- how many values the entries have in all
 abbrev pub total : List Named → ℕ
 total es = sum_by size_of es
 
@@ -48,10 +50,12 @@ abbrev pub AreEntries : Form → List Named → List (List ℕ) → List Named �
 AreEntries f before ts [] = ts ≡ []
 AreEntries f before ts (e ∷ es) = (front : List (List ℕ)) × (rest : List (List ℕ)) × (ts ≡ front ++ rest) × IsEntry f front e.0 e.1 × IsNew e.0 before × AreEntries f (before ++ e ∷ []) rest es
 
+-- the second token of the header
 abbrev pub digit_of : Form → List ℕ
 digit_of form.One = codes "1"
 digit_of form.Two = codes "2"
 
+-- the two tokens of the header
 abbrev pub header : Form → List (List ℕ)
 header f = codes "op2mesh" ∷ digit_of f ∷ []
 

@@ -14,4 +14,4 @@ mod write;
 
 pub use entry::{Entries, Entry, Form, MESH_BYTES, MESH_VALUES, MeshRefusal, Values};
 pub use read::read_mesh;
-pub use write::{write_mesh, written_is_spelled};
+pub use write::{read_can_be_written, write_mesh, written_is_spelled};

@@ -5,6 +5,7 @@ use Rattle.std.specs.Prelude.{◌≡◌, ℕ, ◌+◌, Bool, false, ◌||◌, no
 abbrev pub blank : ℕ → Bool
 blank b = nat_eq b 32 || nat_eq b 9 || nat_eq b 13 || nat_eq b 10
 
+-- a byte of a token
 abbrev pub dark : ℕ → Bool
 dark b = not (blank b)
 
@@ -32,6 +33,7 @@ unfoldable pub words : ℕ → List ℕ → List Word
 words line [] = []
 words line (b ∷ bs) = if blank b then words (line_after line b) bs else with_byte line b bs (words line bs)
 
+-- the bytes of a token
 abbrev pub text_of : Word → List ℕ
 text_of w = w.text
 
@@ -44,20 +46,25 @@ pub record Uncut : Type 0 where
   pub last : ℕ
   pub words : List Word
 
+-- all tokens of a text
 abbrev pub uncut : List ℕ → Uncut
 uncut bytes = record { last = 1; words = words 1 bytes }
 
+-- the first, where there is one
 abbrev pub first : List Word → Option Word
 first [] = None
 first (w ∷ ws) = Some w
 
+-- the next token, where there is one
 abbrev pub first_of : Uncut → Option Word
 first_of u = first u.words
 
+-- without the first; the line is then the line of that one
 abbrev pub behind : ℕ → List Word → Uncut
 behind last [] = record { last = last; words = [] }
 behind last (w ∷ ws) = record { last = w.line; words = ws }
 
+-- what is to come behind the next token
 abbrev pub rest_of : Uncut → Uncut
 rest_of u = behind u.last u.words
 

@@ -17,17 +17,21 @@ abbrev pub line_of : List (List ℕ) → List ℕ
 line_of [] = []
 line_of (t ∷ ts) = t ++ separator ts ∷ line_of ts
 
+-- the bytes of lines of tokens
 abbrev pub text_of_lines : List (List (List ℕ)) → List ℕ
 text_of_lines lines = flat_map line_of lines
 
+-- each of them is a token
 abbrev pub AreTokens : List (List ℕ) → Type 0
 AreTokens [] = Unit {0}
 AreTokens (t ∷ ts) = IsToken t × AreTokens ts
 
+-- lines of tokens
 abbrev pub AreLines : List (List (List ℕ)) → Type 0
 AreLines [] = Unit {0}
 AreLines (l ∷ ls) = AreTokens l × AreLines ls
 
+-- a token that stands on this line
 abbrev pub on_line : ℕ → List ℕ → Word
 on_line line t = record { text = t; line = line }
 
