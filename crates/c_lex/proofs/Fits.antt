@@ -1,5 +1,5 @@
 -- What is found lies in the bytes.
-use Rattle.std.proofs.Common.{◌≡◌, ℕ, suc, ◌+◌, ◌-◌, ◌≤◌, ◌<◌, Bool, true, false, ◌&&◌, cond, List, [], ◌∷◌, length, take, Option, Some, None, find, refl, sym, ap, ◌∙◌, arith, nat_eq, nat_lt, slice_index, pos}
+use Rattle.std.proofs.Common.{◌≡◌, ℕ, ◌+◌, ◌≤◌, ◌<◌, Bool, true, false, cond, List, [], ◌∷◌, length, take, Option, Some, None, find, refl, sym, ap, arith, nat_eq, nat_lt, slice_index}
 use Rattle.std.specs.List.{prefix_len, starts_with}
 use Rattle.std.proofs.lemmas.List.{length-take}
 use Rattle.std.proofs.lemmas.List.Sums.{prefix_len-le-length}
@@ -7,12 +7,10 @@ use Rattle.std.proofs.lemmas.Slice.Eq.{bytes_eq-Decides}
 use Rattle.c_lex.specs.declared.tokens.Sign.{Sign}
 use Rattle.c_lex.specs.declared.tokens.Sign.TheVariants as sign
 use Rattle.c_lex.specs.declared.spelling.TheConstants.{SIGNS}
-use Rattle.c_lex.specs.declared.tokens.Kind.TheVariants as kind
 use Rattle.c_lex.specs.declared.tokens.Pos.{Pos}
-use Rattle.c_lex.specs.declared.front.Front.{Front}
 use Rattle.c_lex.specs.declared.front.Front.TheVariants.{Token, TooLarge}
 use Rattle.c_lex.specs.Spelling.{sign_spelling, digit, value_of}
-use Rattle.c_lex.specs.Front.{LiesIn, front_sign, sign_or, front_figure, figure_size, figure_of}
+use Rattle.c_lex.specs.Front.{LiesIn, front_sign, sign_or, front_figure, figure_size}
 use Rattle.c_lex.specs.Lexed.{after_byte, advance}
 
 pub find_true : {X : Type 0} (p : X → Bool) (xs : List X) (x : X) → find p xs ≡ Some x → p x ≡ true

@@ -1,14 +1,16 @@
 -- What stands at the front of the bytes: what the lexer finds there, as functions.
-use Rattle.std.specs.Prelude.{ℕ, ◌+◌, ◌≤◌, ◌<◌, Bool, false, nat_eq, nat_lt, not, List, [], ◌∷◌, Option, Some, None, ◌&&◌, if◌then◌else◌, length, take, find, pos, codes, ◌||◌}
+use Rattle.std.specs.Prelude.{◌≡◌, ◌⊎◌, ◌++◌, drop, nat_le, true, ℕ, ◌+◌, ◌≤◌, ◌<◌, Bool, false, nat_eq, nat_lt, not, List, [], ◌∷◌, Option, Some, None, ◌&&◌, if◌then◌else◌, length, take, find, pos, codes, ◌||◌}
 use Rattle.std.specs.List.{starts_with, prefix_len}
 use Rattle.std.specs.Str.{bytes_eq}
+use Rattle.c_lex.specs.declared.tokens.Kind.{Kind}
 use Rattle.c_lex.specs.declared.tokens.Kind.TheVariants as kind
 use Rattle.c_lex.specs.declared.tokens.Sign.{Sign}
 use Rattle.c_lex.specs.declared.tokens.Word.{Word}
 use Rattle.c_lex.specs.declared.front.Front.{Front}
 use Rattle.c_lex.specs.declared.front.Front.TheVariants.{Passed, Token, BadByte, OpenComment, OpenText, TooLarge}
 use Rattle.c_lex.specs.declared.spelling.TheConstants.{SIGNS, WORDS}
-use Rattle.c_lex.specs.Spelling.{sign_spelling, word_spelling, digit, value_of}
+use Rattle.c_lex.specs.Spelling.{sign_spelling, word_spelling, digit, value_of, HasForm}
+use Rattle.c_lex.specs.Lexed.{IsPassed, IsLongest, FitsIn, BeginsNothing, HasBadByte, HasNoClose, IsTooLarge, is_closed, is_closed_behind}
 
 -- a byte other than LF
 abbrev pub in_line : ℕ → Bool
@@ -62,6 +64,46 @@ figure_of bs n =
 -- the number at the front
 abbrev pub front_figure : List ℕ → Front
 front_figure bs = figure_of bs (figure_size bs)
+
+-- whether a text may hold the byte as it is
+abbrev pub plain : ℕ → Bool
+plain b = nat_le 32 b && not (nat_eq b 127) && not (nat_eq b 34) && not (nat_eq b 92)
+
+-- the byte of an escape behind its `\`, and how many bytes spell it
+abbrev pub escape_of : List ℕ → Option (ℕ × ℕ)
+escape_of [] = None
+escape_of (b ∷ bs) =
+    if nat_eq b 110 then Some (10, 2) else if nat_eq b 116 then Some (9, 2) else if nat_eq b 92 then Some (92, 2) else if nat_eq b 34 then Some (34, 2) else None
+
+-- the byte that the front of a text's bytes stands for, and how many bytes spell it
+abbrev pub unit_of : List ℕ → Option (ℕ × ℕ)
+unit_of [] = None
+unit_of (b ∷ bs) = if nat_eq b 92 then escape_of bs else if plain b then Some (b, 1) else None
+
+-- whether a text that goes on with these bytes is closed on its line, behind a `\` or not
+abbrev pub is_closed_in : Bool → List ℕ → Bool
+is_closed_in true bs = is_closed_behind bs
+is_closed_in false bs = is_closed bs
+
+-- what stands at the front is a text, or why there is none
+abbrev pub IsText : List ℕ → Front → Type 0
+IsText bs (Token k l) = IsTextToken k (take l bs)
+  where
+    IsTextToken : Kind → List ℕ → Type 0
+    IsTextToken (kind.Text t) s = HasForm (kind.Text t) s
+    IsTextToken _ s = ⊥
+IsText bs (BadByte l) = HasBadByte (take l bs) bs
+IsText bs OpenText = (rest : List ℕ) × (bs ≡ 34 ∷ rest) × (is_closed rest ≡ false)
+IsText bs _ = ⊥
+
+-- what stands at the front, as the definition of tokens says it
+abbrev pub IsFront : Bool → List ℕ → Front → Type 0
+IsFront fresh bs (Passed l) = IsPassed fresh (take l bs) (drop l bs)
+IsFront fresh bs (Token k l) = IsLongest k (take l bs) (drop l bs) × FitsIn k (take l bs)
+IsFront fresh bs (BadByte l) = ((l ≡ 0) × BeginsNothing fresh bs) ⊎ HasBadByte (take l bs) bs
+IsFront fresh bs OpenComment = (rest : List ℕ) × (bs ≡ codes "/*" ++ rest) × HasNoClose rest
+IsFront fresh bs OpenText = (rest : List ℕ) × (bs ≡ 34 ∷ rest) × (is_closed rest ≡ false)
+IsFront fresh bs TooLarge = IsTooLarge bs
 
 -- what is found lies in the bytes
 abbrev pub LiesIn : ℕ → Front → Type 0

@@ -133,9 +133,9 @@ pub record BeginsNothing (fresh : Bool) (bs : List ℕ) : Type 0 where
   pub no_text : (rest : List ℕ) → bs ≢ 34 ∷ rest
 
 -- the bytes begin with a letter, a digit or `_`
-abbrev pub IsPart : List ℕ → Type 0
-IsPart [] = ⊥
-IsPart (b ∷ bs) = part b ≡ true
+abbrev pub BeginsWithPart : List ℕ → Type 0
+BeginsWithPart [] = ⊥
+BeginsWithPart (b ∷ bs) = part b ≡ true
 
 -- a number with its longest form at the front is above 2147483647
 pub record IsTooLarge (bs : List ℕ) : Type 0 where
@@ -159,7 +159,7 @@ pub data Stop : Type 0 where
 abbrev pub Stops : Bool → Bool → List ℕ → Stop → Type 0
 Stops fresh number bs AtEnd = bs ≡ []
 Stops fresh number bs (AtBadByte good) =
-    ((number ≡ true) × (good ≡ []) × IsPart bs) ⊎ ((number ≡ true → IsApart bs) × (good ≡ []) × BeginsNothing fresh bs) ⊎ HasBadByte good bs
+    ((number ≡ true) × (good ≡ []) × BeginsWithPart bs) ⊎ ((number ≡ true → IsApart bs) × (good ≡ []) × BeginsNothing fresh bs) ⊎ HasBadByte good bs
 Stops fresh number bs AtOpenComment = (rest : List ℕ) × (bs ≡ codes "/*" ++ rest) × HasNoClose rest
 Stops fresh number bs AtOpenText = (rest : List ℕ) × (bs ≡ 34 ∷ rest) × (is_closed rest ≡ false)
 Stops fresh number bs AtNumberTooLarge = (number ≡ true → IsApart bs) × IsTooLarge bs
@@ -174,20 +174,25 @@ bytes_of (Passed s) = s
 bytes_of (Spelled k s) = s
 
 -- the part stands before `rest`
-abbrev pub IsPart_of : Bool → Part → List ℕ → Type 0
-IsPart_of fresh (Passed s) rest = IsPassed fresh s rest
-IsPart_of fresh (Spelled k s) rest = IsLongest k s rest × FitsIn k s
+abbrev pub IsPartBefore : Bool → Part → List ℕ → Type 0
+IsPartBefore fresh (Passed s) rest = IsPassed fresh s rest
+IsPartBefore fresh (Spelled k s) rest = IsLongest k s rest × FitsIn k s
 
 abbrev pub is_number_part : Part → Bool
 is_number_part (Passed s) = false
 is_number_part (Spelled k s) = is_number k
+
+-- whether only spaces and tabs stand on the line after a part
+abbrev pub is_fresh_behind : Bool → Part → Bool
+is_fresh_behind fresh (Passed s) = fresh_after fresh s
+is_fresh_behind fresh (Spelled k s) = false
 
 -- The bytes are these parts one after another, and then the stop. Directly behind a number stands no letter, no digit
 -- and no `_`, other than as the bad byte of the stop.
 abbrev pub AreParts : Stop → Bool → Bool → List ℕ → List Part → Type 0
 AreParts stop fresh number bs [] = Stops fresh number bs stop
 AreParts stop fresh number bs (x ∷ xs) =
-    (number ≡ true → IsApart bs) × ((rest : List ℕ) × (bs ≡ bytes_of x ++ rest) × IsPart_of fresh x rest × AreParts stop (fresh_after fresh (bytes_of x)) (is_number_part x) rest xs)
+    (number ≡ true → IsApart bs) × ((rest : List ℕ) × (bs ≡ bytes_of x ++ rest) × IsPartBefore fresh x rest × AreParts stop (is_fresh_behind fresh x) (is_number_part x) rest xs)
 
 -- the tokens among the parts; n bytes stand before them, and p is the place of their first byte
 abbrev pub tokens_of : ℕ → Pos → List Part → List Token

@@ -1,3 +1,4 @@
 pub mod Spelling
 pub mod Lexed
 pub mod Front
+pub mod Answered

@@ -1,8 +1,8 @@
 // What stands at the front of the bytes: something to pass over, the longest token, or a refusal.
 
-ghost use Rattle.std.specs.Prelude.{◌≡◌, ◌≤◌, ◌<◌, slice_index, true, length, IfOk, ◌≢◌};
-ghost use Rattle.c_lex.specs.Spelling.{digit};
-ghost use Rattle.c_lex.specs.Front.{LiesIn, front_word, front_figure, front_sign, figure_size};
+ghost use Rattle.std.specs.Prelude.{◌≡◌, ◌≤◌, ◌<◌, slice_index, true, length, IfOk, false, nat_eq};
+ghost use Rattle.c_lex.specs.Spelling.{blank, letter, digit};
+ghost use Rattle.c_lex.specs.Front.{LiesIn, IsFront, front_word, front_figure, front_sign, figure_size};
 
 use crate::classes::{digits_len, is_blank, is_digit, is_letter, name_len, number};
 use crate::passed::{close_at, line_len, passes_rest_of_line};
@@ -32,6 +32,7 @@ pub enum Front {
 /// What stands at the front; `fresh` is whether only spaces and tabs stand before it on its line.
 pub fn at_front(alloc: Global, fresh: bool, bytes: &[u8]) -> Result<Front, AllocError>
     requires { 0 < length bytes.now }
+    ensures is { IfOk result (IsFront fresh bytes.now) }
     ensures within { IfOk result (LiesIn (length bytes.now)) }
 {
     let first = bytes[0];
@@ -90,7 +91,12 @@ fn figure_len(bytes: &[u8]) -> usize
 
 // A comment, an `#include` line or a sign.
 fn passed_or_sign(fresh: bool, bytes: &[u8]) -> Front
-    requires { 0 < length bytes.now }
+    requires some { 0 < length bytes.now }
+    requires no_blank { blank (slice_index bytes.now 0) ≡ false }
+    requires no_letter { letter (slice_index bytes.now 0) ≡ false }
+    requires no_digit { digit (slice_index bytes.now 0) ≡ false }
+    requires no_quote { nat_eq (slice_index bytes.now 0) 34 ≡ false }
+    ensures is { IsFront fresh bytes.now result }
     ensures within { LiesIn (length bytes.now) result }
 {
     if passes_rest_of_line(fresh, bytes) {

@@ -1,6 +1,9 @@
 // The tokens of the bytes.
 
-ghost use Rattle.std.specs.Prelude.{◌+◌, ◌<◌, ◌^◌, length};
+ghost use Rattle.std.specs.Prelude.{◌≡◌, ◌+◌, ◌<◌, ◌^◌, ◌&&◌, length, slice_index, List, ℕ};
+ghost use Rattle.c_lex.specs.Spelling.{part};
+ghost use Rattle.c_lex.specs.Lexed.{Outcome, Lexes, is_number as number_kind};
+ghost use Rattle.c_lex.specs.Answered.{Answers};
 
 use crate::classes::is_part;
 use crate::front::{Front, at_front};
@@ -9,9 +12,28 @@ use crate::refusals::LexRefusal;
 use crate::tokens::{Kind, Pos, Token};
 use std::alloc::Global;
 
-/// The tokens of the bytes, the longest at each place.
+/// The tokens of the bytes of a source, or the first place where it has none (docs/LANGUAGE.md). The bytes are to be
+/// fewer than 2 ^ 32 - 2, since a place is a `u32`. `OutOfMemory` comes only where memory runs out; each other refusal
+/// comes exactly where the bytes have it.
 pub fn lex(alloc: Global, bytes: &[u8]) -> Result<Vec<Token>, LexRefusal>
     requires { length bytes.now + 2 < 2 ^ 32 }
+    // What is answered is what the bytes have,
+    ensures found { Answers (Lexes bytes.now) result }
+    // and what they have is what is answered, unless memory runs out.
+    ensures only { (outcome : Outcome) → Lexes bytes.now outcome → Answers (λ x. x ≡ outcome) result }
+{
+    scan(alloc, bytes)
+}
+
+/// A law: the bytes of a source have one outcome, their tokens or a refusal.
+pub fn one_outcome()
+    ensures { (bytes : List ℕ) (a b : Outcome) → Lexes bytes a → Lexes bytes b → a ≡ b }
+{}
+
+// What the bytes have.
+fn scan(alloc: Global, bytes: &[u8]) -> Result<Vec<Token>, LexRefusal>
+    requires { length bytes.now + 2 < 2 ^ 32 }
+    ensures { Answers (Lexes bytes.now) result }
 {
     let mut tokens = Vec::new(alloc);
     let mut from = 0;
@@ -20,7 +42,7 @@ pub fn lex(alloc: Global, bytes: &[u8]) -> Result<Vec<Token>, LexRefusal>
     let mut is_after_number = false;
     while from < bytes.len() {
         let rest = &bytes[from..];
-        if is_after_number && is_part(rest[0]) {
+        if clashes(is_after_number, rest) {
             return Err(LexRefusal::BadByte { at });
         }
         match at_front(alloc, is_fresh, rest)? {
@@ -54,9 +76,19 @@ pub fn lex(alloc: Global, bytes: &[u8]) -> Result<Vec<Token>, LexRefusal>
 }
 
 // Whether the token is a number.
-fn is_number(kind: &Kind) -> bool {
+fn is_number(kind: &Kind) -> bool
+    ensures { result ≡ number_kind kind.now }
+{
     match kind {
         Kind::Number(_) => true,
         _ => false,
     }
+}
+
+// Whether the first byte may not stand directly behind a number that stands there.
+fn clashes(is_after_number: bool, bytes: &[u8]) -> bool
+    requires { 0 < length bytes.now }
+    ensures { result ≡ (is_after_number && part (slice_index bytes.now 0)) }
+{
+    is_after_number && is_part(bytes[0])
 }

@@ -8,10 +8,12 @@ mod passed;
 mod places;
 mod refusals;
 mod spelling;
+#[cfg(test)]
+mod tests;
 mod texts;
 mod tokens;
 
-pub use lexing::lex;
+pub use lexing::{lex, one_outcome};
 pub use op_num::{Name, Text};
 pub use places::end_place;
 pub use refusals::LexRefusal;

@@ -1,4 +1,4 @@
-use Rattle.std.proofs.Common.{◌≤◌, arith}
+use Rattle.std.proofs.Common.{arith}
 use Rattle.c_lex.proofs.Values.{value_at_least, value_next}
 use Rattle.c_lex.proofs.classes.number.Goals as goal
 

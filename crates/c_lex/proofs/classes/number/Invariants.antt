@@ -1,4 +1,4 @@
-use Rattle.std.proofs.Common.{◌≡◌, ◌≤◌, ◌<◌, drop}
+use Rattle.std.proofs.Common.{◌≡◌, ◌<◌, drop}
 use Rattle.c_lex.specs.Spelling.{value_of, value_behind}
 use Rattle.c_lex.proofs.classes.number.Given as goal
 

@@ -1,5 +1,5 @@
-use Rattle.std.proofs.Common.{◌≡◌, true, false, sym, ap, ◌∙◌, subst, arith}
-use Rattle.c_lex.specs.Front.{closes, close_len}
+use Rattle.std.proofs.Common.{sym, ◌∙◌, arith}
+use Rattle.c_lex.specs.Front.{close_len}
 use Rattle.c_lex.proofs.Closes.{rest_is, close_more, close_here, close_end}
 use Rattle.c_lex.proofs.passed.close_at.Goals as goal
 

@@ -1,10 +1,14 @@
-use Rattle.std.proofs.Common.{length, ◌-◌, ◌≤◌}
+use Rattle.std.proofs.Common.{◌≡◌, ◌∷◌, true, length, take, ◌-◌, ◌≤◌}
+use Rattle.std.specs.List.{list_all}
+use Rattle.c_lex.specs.Spelling.{textual, all_escaped}
 use Rattle.c_lex.proofs.texts.text.Given as goal
 
 abbrev pub invariant-loop-next : goal.invariant-loop-next
 invariant-loop-next l = record {
   some : 1 ≤ l.next;
   within : l.next ≤ length l.bytes;
+  textual : list_all textual l.decoded.items ≡ true;
+  so_far : take l.next l.bytes ≡ 34 ∷ all_escaped l.decoded.items;
 }
 
 abbrev pub decreases-loop-next : goal.decreases-loop-next
