@@ -7,7 +7,7 @@ mod hosts;
 mod kernels;
 mod programs;
 
-pub use c_lex::{end_place, lex, Kind, LexRefusal, Name, Pos, Sign, Text, Token, Word};
+pub use c_lex::{Kind, LexRefusal, Name, Pos, Sign, Text, Token, Word, end_place, lex};
 pub use declarations::{AssignOp, Assignment, Declaration, Declr, Place};
 pub use expressions::{BinaryOp, Expr, Ident, MinMax, NumberLiteral, TextLiteral, UnaryOp};
 pub use hosts::{AccessWord, ArgIndex, ArgVia, GlobalName, Host, HostForHeader, LoopArg, OpCall};
