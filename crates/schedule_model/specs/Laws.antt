@@ -44,9 +44,8 @@ pub record Lawful {F : Type 0} (p : Plan F) : Type 0 where
   -- what an element reads its rank owns, or imports as a cell of a dat that the item needs, and then the element is not core
   pub core_reads : (k r e : ℕ) (c : DatCell) → p.kind k ≡ Free → e < elements p k → executes p k r e ≡ true → is_read (p.class k e (Data c)) ≡ true
       → (owner_of p c ≡ r) ⊎ ((has_copy p r c ≡ true) × (p.needs k c.dat ≡ true) × (p.core r (p.set k) e ≡ false))
-  -- a message goes exactly where something that is exchanged is imported
+  -- a message goes wherever something that is exchanged is imported
   pub linked : (k r : ℕ) (c : DatCell) → p.kind k ≡ Free → has_copy p r c ≡ true → p.exchanged k c.dat ≡ true → p.sends k (owner_of p c) r ≡ true
-  pub links : (k s r : ℕ) → p.sends k s r ≡ true → (c : DatCell) × (has_copy p r c ≡ true) × (p.exchanged k c.dat ≡ true) × (owner_of p c ≡ s)
 
 -- two elements that a rank runs and that modify a common cell have colours that order them one way
 abbrev pub Coloured : {F : Type 0} → Plan F → Type 0
