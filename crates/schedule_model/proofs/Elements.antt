@@ -51,10 +51,10 @@ module _ {F : Type 0} (p : Plan F) (q : Law p) (m : Step → Bool) (st : State F
       (λ (i : (has_copy p r c ≡ true) × (p.needs k c.dat ≡ true) × (p.core r (p.set k) e ≡ false)). ⊎_elim
       (λ (old : stale p k c.dat ≡ true).
       let x : p.exchanged k c.dat ≡ true = exchanged_is p q k c.dat ∙ and_from (p.needs k c.dat) (stale p k c.dat) i.1 old in
-      came i.0 x (rd.after (Recv k r (owner_of p c)) (plan.0, plan.1, owner_below p q c, plan.2, q.lawful.linked k r c fr i.0 x) (received i.2)))
+      came i.0 x (rd.after (Recv k r (owner_of p c)) (plan.0, plan.1, owner_below p q c, plan.2, q.lawful.linked k r c fr plan.2 i.0 x) (received i.2)))
       (λ (new : stale p k c.dat ≡ false). clean i.0 new)
       (cases_Bool (stale p k c.dat)))
-      (q.lawful.core_reads k r e c fr run.0 run.1 y) in
+      (q.lawful.core_reads k r e c fr plan.2 run.0 run.1 y) in
       h.cells g c fresh
       ∙ folded_none (elements p k) (λ a. m (End k r a)) (λ a. effect p k a (W p k) (Data c)) (W p k (Data c))
       (λ a le. ⊎_elim

@@ -168,7 +168,7 @@ module _ {F : Type 0} (p : Plan F) (q : Law p) (m : Step → Bool) (st : State F
       ⊎_elim
       (λ (n : p.needs k c.dat ≡ true).
       let x : p.exchanged k c.dat ≡ true = exchanged_is p q k c.dat ∙ and_from (p.needs k c.dat) (stale p k c.dat) n y in
-      (came i x (all (Recv k r (owner_of p c)) (lt, ap is_free fr, owner_below p q c, inside, q.lawful.linked k r c fr i x) refl refl), idle))
+      (came i x (all (Recv k r (owner_of p c)) (lt, ap is_free fr, owner_below p q c, inside, q.lawful.linked k r c fr inside i x) refl refl), idle))
       (λ (n : p.needs k c.dat ≡ false). absurd (false≢true (sym parts.1 ∙ and_from (stale p k c.dat) (not (p.needs k c.dat)) y (not_from_false (p.needs k c.dat) n))))
       (cases_Bool (p.needs k c.dat)))
       (λ (y : stale p k c.dat ≡ false). (clean i y, idle))

@@ -110,7 +110,7 @@ module _ {F : Type 0} (p : Plan F) (q : Law p) (m : Step → Bool) (st : State F
       let core : p.core r (p.set k) e ≡ true = ⊎_elim (λ z. z) (λ z. absurd (false≢true (sym rd.untaken ∙ inv.right.closed (Begin k r e) (Recv k r s) t rd.planned (received z)))) (cases_Bool (p.core r (p.set k) e)) in
       let plan : IsStep (outline p) (Begin k r e) = inv.right.sound (Begin k r e) t in
       let run : (e < elements p k) × (executes p k r e ≡ true) = run_below p k r e plan.3 in
-      q.lawful.imports_other r c copy (q.lawful.core_modifies k r e c (free_kind (p.kind k) plan.1) run.0 run.1 core w))
+      q.lawful.imports_other r c plan.2 copy (q.lawful.core_modifies k r e c (free_kind (p.kind k) plan.1) plan.2 run.0 run.1 core w))
 
   arrives_from : (k r s : ℕ) (c : DatCell) → arrives p k r s c ≡ true → (owner_of p c ≡ s) × (has_copy p r c ≡ true)
   arrives_from k r s c a =

@@ -150,7 +150,7 @@ module _ {F : Type 0} (p : Plan F) (l : List Step) where
       let plan_b : IsStep (outline p) (Begin k r b) = planned (outline p) l (by_colour (outline p)) acc pre post e (Begin k r b) bb in
       let run_a : (a < elements p k) × (executes p k r a ≡ true) = run_below p k r a plan_a.3 in
       let run_b : (b < elements p k) × (executes p k r b ≡ true) = run_below p k r b plan_b.3 in
-      ⊎_elim (λ h. ended a b ba ea bb h) (λ h. ended b a bb eb ba h) (free k r a b c (free_kind (p.kind k) plan_a.1) run_a.0 run_b.0 run_a.1 run_b.1 ne wa wb)
+      ⊎_elim (λ h. ended a b ba ea bb h) (λ h. ended b a bb eb ba h) (free k r a b c (free_kind (p.kind k) plan_a.1) plan_a.2 run_a.0 run_b.0 run_a.1 run_b.1 ne wa wb)
     where
       ended : (u v : ℕ) → has pre (Begin k r u) ≡ true → has pre (End k r u) ≡ false → has pre (Begin k r v) ≡ true → by_colour (outline p) k r u v ≡ true → ⊥
       ended u v hu eu hv low =

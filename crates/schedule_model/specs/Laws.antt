@@ -37,19 +37,19 @@ pub record Lawful {F : Type 0} (p : Plan F) : Type 0 where
   -- owners and halos
   pub some_rank : 0 < p.ranks
   pub owners : (s e : ℕ) → e < p.size s → p.owner s e < p.ranks
-  pub imports_other : (r : ℕ) (c : DatCell) → has_copy p r c ≡ true → owner_of p c ≡ r → ⊥
+  pub imports_other : (r : ℕ) (c : DatCell) → r < p.ranks → has_copy p r c ≡ true → owner_of p c ≡ r → ⊥
   -- who modifies a cell is run by the cell's owner, and in the core by nobody else
   pub covers : (k e : ℕ) (c : DatCell) → p.kind k ≡ Free → e < elements p k → is_modified (p.class k e (Data c)) ≡ true → executes p k (owner_of p c) e ≡ true
-  pub core_modifies : (k r e : ℕ) (c : DatCell) → p.kind k ≡ Free → e < elements p k → executes p k r e ≡ true → p.core r (p.set k) e ≡ true → is_modified (p.class k e (Data c)) ≡ true → owner_of p c ≡ r
+  pub core_modifies : (k r e : ℕ) (c : DatCell) → p.kind k ≡ Free → r < p.ranks → e < elements p k → executes p k r e ≡ true → p.core r (p.set k) e ≡ true → is_modified (p.class k e (Data c)) ≡ true → owner_of p c ≡ r
   -- what an element reads its rank owns, or imports as a cell of a dat that the item needs, and then the element is not core
-  pub core_reads : (k r e : ℕ) (c : DatCell) → p.kind k ≡ Free → e < elements p k → executes p k r e ≡ true → is_read (p.class k e (Data c)) ≡ true
+  pub core_reads : (k r e : ℕ) (c : DatCell) → p.kind k ≡ Free → r < p.ranks → e < elements p k → executes p k r e ≡ true → is_read (p.class k e (Data c)) ≡ true
       → (owner_of p c ≡ r) ⊎ ((has_copy p r c ≡ true) × (p.needs k c.dat ≡ true) × (p.core r (p.set k) e ≡ false))
   -- a message goes wherever something that is exchanged is imported
-  pub linked : (k r : ℕ) (c : DatCell) → p.kind k ≡ Free → has_copy p r c ≡ true → p.exchanged k c.dat ≡ true → p.sends k (owner_of p c) r ≡ true
+  pub linked : (k r : ℕ) (c : DatCell) → p.kind k ≡ Free → r < p.ranks → has_copy p r c ≡ true → p.exchanged k c.dat ≡ true → p.sends k (owner_of p c) r ≡ true
 
 -- two elements that a rank runs and that modify a common cell have colours that order them one way
 abbrev pub Coloured : {F : Type 0} → Plan F → Type 0
 Coloured p =
-    (k r a b : ℕ) (c : DatCell) → p.kind k ≡ Free → a < elements p k → b < elements p k → executes p k r a ≡ true → executes p k r b ≡ true → (a ≡ b → ⊥)
+    (k r a b : ℕ) (c : DatCell) → p.kind k ≡ Free → r < p.ranks → a < elements p k → b < elements p k → executes p k r a ≡ true → executes p k r b ≡ true → (a ≡ b → ⊥)
     → is_modified (p.class k a (Data c)) ≡ true → is_modified (p.class k b (Data c)) ≡ true
     → (by_colour (outline p) k r a b ≡ true) ⊎ (by_colour (outline p) k r b a ≡ true)
