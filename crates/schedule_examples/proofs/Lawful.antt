@@ -294,8 +294,14 @@ module _ (faulty : Bool) where
     linked = linked;
   }
 
+  other_less : (a b : ℕ) → a < 2 → b < 2 → a < b → nat_lt (other b) (other a) ≡ true
+  other_less zero zero la lb lt = absurd (omega arith)
+  other_less zero (suc b) la lb lt = refl
+  other_less (suc a) b la lb lt = absurd (omega arith)
+
+  -- the greater element goes first
   pub coloured : Coloured (ring faulty)
   coloured k t a b c fr lt la lb xa xb ne wa wb = ⊎_elim
-      (λ (l : a < b). inl (or_left (nat_lt a b) ((a == b) && nat_lt 0 0) (lt-ltb a b l)))
-      (λ (l : b ≤ a). inr (or_left (nat_lt b a) ((b == a) && nat_lt 0 0) (lt-ltb b a (let z : a ≡ b → ⊥ = ne in omega arith))))
+      (λ (l : a < b). inr (or_left (nat_lt (other b) (other a)) ((b == a) && nat_lt 0 0) (other_less a b la lb l)))
+      (λ (l : b ≤ a). inl (or_left (nat_lt (other a) (other b)) ((a == b) && nat_lt 0 0) (other_less b a lb la (let z : a ≡ b → ⊥ = ne in omega arith))))
       (cases_lt a b)

@@ -22,7 +22,7 @@ item_refused = reversed item_reversed (Begin 0 0 0 ∷ []) (Send 1 0 1) ((End 0 
     (omega arith, refl, omega arith, refl) (by_item 0 refl refl (omega arith)) refl
 
 pub join_refused : Accepts join_reversed → ⊥
-join_refused = reversed join_reversed (nodes ++ (messages ++ (edges_on_0 ++ (Begin 1 1 0 ∷ End 1 1 0 ∷ Begin 1 1 1 ∷ [])))) (Join 2) (End 1 1 1 ∷ Join 3 ∷ Join 4 ∷ []) (End 1 1 1) refl
+join_refused = reversed join_reversed (nodes ++ (messages ++ (edges_on_0 ++ (Begin 1 1 1 ∷ End 1 1 1 ∷ Begin 1 1 0 ∷ [])))) (Join 2) (End 1 1 0 ∷ Join 3 ∷ Join 4 ∷ []) (End 1 1 0) refl
     (omega arith, refl, omega arith, refl) (by_item 1 refl tt (omega arith)) refl
 
 pub send_refused : Accepts send_reversed → ⊥
@@ -30,15 +30,15 @@ send_refused = reversed send_reversed (nodes ++ (Send 1 0 1 ∷ [])) (Recv 1 0 1
     (omega arith, refl, omega arith, omega arith, refl) sent refl
 
 pub receive_refused : Accepts receive_reversed → ⊥
-receive_refused = reversed receive_reversed (nodes ++ (Send 1 0 1 ∷ Send 1 1 0 ∷ [])) (Begin 1 0 0) ((Recv 1 0 1 ∷ Recv 1 1 0 ∷ []) ++ ((End 1 0 0 ∷ Begin 1 0 1 ∷ End 1 0 1 ∷ []) ++ (edges_on_1 ++ joins))) (Recv 1 0 1) refl
+receive_refused = reversed receive_reversed (nodes ++ (Send 1 0 1 ∷ Send 1 1 0 ∷ [])) (Begin 1 0 1) ((Recv 1 0 1 ∷ Recv 1 1 0 ∷ []) ++ ((End 1 0 1 ∷ Begin 1 0 0 ∷ End 1 0 0 ∷ []) ++ (edges_on_1 ++ joins))) (Recv 1 0 1) refl
     (omega arith, refl, omega arith, omega arith, refl) (received refl) refl
 
 pub end_refused : Accepts end_reversed → ⊥
-end_refused = reversed end_reversed (nodes ++ messages) (End 1 0 0) ((Begin 1 0 0 ∷ Begin 1 0 1 ∷ End 1 0 1 ∷ []) ++ (edges_on_1 ++ joins)) (Begin 1 0 0) refl
+end_refused = reversed end_reversed (nodes ++ messages) (End 1 0 1) ((Begin 1 0 1 ∷ Begin 1 0 0 ∷ End 1 0 0 ∷ []) ++ (edges_on_1 ++ joins)) (Begin 1 0 1) refl
     (omega arith, refl, omega arith, refl) begun refl
 
 pub colour_refused : Accepts colour_reversed → ⊥
-colour_refused = reversed colour_reversed (nodes ++ (messages ++ (Begin 1 0 0 ∷ []))) (Begin 1 0 1) ((End 1 0 0 ∷ End 1 0 1 ∷ []) ++ (edges_on_1 ++ joins)) (End 1 0 0) refl
+colour_refused = reversed colour_reversed (nodes ++ (messages ++ (Begin 1 0 1 ∷ []))) (Begin 1 0 0) ((End 1 0 1 ∷ End 1 0 0 ∷ []) ++ (edges_on_1 ++ joins)) (End 1 0 1) refl
     (omega arith, refl, omega arith, refl) (coloured refl) refl
 
 pub missing_refused : Accepts one_missing → ⊥

@@ -10,12 +10,12 @@ nodes = Begin 0 0 0 ∷ End 0 0 0 ∷ Begin 0 1 1 ∷ End 0 1 1 ∷ []
 abbrev pub messages : List Step
 messages = Send 1 0 1 ∷ Send 1 1 0 ∷ Recv 1 0 1 ∷ Recv 1 1 0 ∷ []
 
--- both edges on a rank
+-- both edges on a rank, edge 1 first, since it has the lower colour
 abbrev pub edges_on_0 : List Step
-edges_on_0 = Begin 1 0 0 ∷ End 1 0 0 ∷ Begin 1 0 1 ∷ End 1 0 1 ∷ []
+edges_on_0 = Begin 1 0 1 ∷ End 1 0 1 ∷ Begin 1 0 0 ∷ End 1 0 0 ∷ []
 
 abbrev pub edges_on_1 : List Step
-edges_on_1 = Begin 1 1 0 ∷ End 1 1 0 ∷ Begin 1 1 1 ∷ End 1 1 1 ∷ []
+edges_on_1 = Begin 1 1 1 ∷ End 1 1 1 ∷ Begin 1 1 0 ∷ End 1 1 0 ∷ []
 
 -- Reduce, Ordered, Host
 abbrev pub joins : List Step
@@ -28,8 +28,8 @@ in_order = nodes ++ (messages ++ (edges_on_0 ++ (edges_on_1 ++ joins)))
 -- rank 0 sends and receives before rank 1 has begun, and the ranks take turns
 abbrev pub interleaved : List Step
 interleaved =
-    Begin 0 0 0 ∷ End 0 0 0 ∷ Send 1 0 1 ∷ Begin 0 1 1 ∷ End 0 1 1 ∷ Send 1 1 0 ∷ Recv 1 1 0 ∷ Begin 1 1 0 ∷ Recv 1 0 1 ∷ Begin 1 0 0
-    ∷ End 1 1 0 ∷ Begin 1 1 1 ∷ End 1 0 0 ∷ Begin 1 0 1 ∷ End 1 0 1 ∷ End 1 1 1 ∷ joins
+    Begin 0 0 0 ∷ End 0 0 0 ∷ Send 1 0 1 ∷ Begin 0 1 1 ∷ End 0 1 1 ∷ Send 1 1 0 ∷ Recv 1 1 0 ∷ Begin 1 1 1 ∷ Recv 1 0 1 ∷ Begin 1 0 1
+    ∷ End 1 1 1 ∷ Begin 1 1 0 ∷ End 1 0 1 ∷ Begin 1 0 0 ∷ End 1 0 0 ∷ End 1 1 0 ∷ joins
 
 -- rule 1: rank 0 sends for item 1 before its node of item 0 has ended
 abbrev pub item_reversed : List Step
@@ -37,7 +37,7 @@ item_reversed = (Begin 0 0 0 ∷ Send 1 0 1 ∷ End 0 0 0 ∷ Begin 0 1 1 ∷ En
 
 -- rule 2: a join before the last step of an earlier item
 abbrev pub join_reversed : List Step
-join_reversed = nodes ++ (messages ++ (edges_on_0 ++ (Begin 1 1 0 ∷ End 1 1 0 ∷ Begin 1 1 1 ∷ Join 2 ∷ End 1 1 1 ∷ Join 3 ∷ Join 4 ∷ [])))
+join_reversed = nodes ++ (messages ++ (edges_on_0 ++ (Begin 1 1 1 ∷ End 1 1 1 ∷ Begin 1 1 0 ∷ Join 2 ∷ End 1 1 0 ∷ Join 3 ∷ Join 4 ∷ [])))
 
 -- rule 3: a receive before its send
 abbrev pub send_reversed : List Step
@@ -45,15 +45,15 @@ send_reversed = nodes ++ ((Send 1 0 1 ∷ Recv 1 0 1 ∷ Send 1 1 0 ∷ Recv 1 1
 
 -- rule 4: an element that isn't core begins before its rank's receive
 abbrev pub receive_reversed : List Step
-receive_reversed = nodes ++ ((Send 1 0 1 ∷ Send 1 1 0 ∷ Begin 1 0 0 ∷ Recv 1 0 1 ∷ Recv 1 1 0 ∷ []) ++ ((End 1 0 0 ∷ Begin 1 0 1 ∷ End 1 0 1 ∷ []) ++ (edges_on_1 ++ joins)))
+receive_reversed = nodes ++ ((Send 1 0 1 ∷ Send 1 1 0 ∷ Begin 1 0 1 ∷ Recv 1 0 1 ∷ Recv 1 1 0 ∷ []) ++ ((End 1 0 1 ∷ Begin 1 0 0 ∷ End 1 0 0 ∷ []) ++ (edges_on_1 ++ joins)))
 
 -- rule 5: an end before its begin
 abbrev pub end_reversed : List Step
-end_reversed = nodes ++ (messages ++ ((End 1 0 0 ∷ Begin 1 0 0 ∷ Begin 1 0 1 ∷ End 1 0 1 ∷ []) ++ (edges_on_1 ++ joins)))
+end_reversed = nodes ++ (messages ++ ((End 1 0 1 ∷ Begin 1 0 1 ∷ Begin 1 0 0 ∷ End 1 0 0 ∷ []) ++ (edges_on_1 ++ joins)))
 
 -- rule 6: an element begins before the end of one of a lower colour
 abbrev pub colour_reversed : List Step
-colour_reversed = nodes ++ (messages ++ ((Begin 1 0 0 ∷ Begin 1 0 1 ∷ End 1 0 0 ∷ End 1 0 1 ∷ []) ++ (edges_on_1 ++ joins)))
+colour_reversed = nodes ++ (messages ++ ((Begin 1 0 1 ∷ Begin 1 0 0 ∷ End 1 0 1 ∷ End 1 0 0 ∷ []) ++ (edges_on_1 ++ joins)))
 
 -- a step is missing
 abbrev pub one_missing : List Step

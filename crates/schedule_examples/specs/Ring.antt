@@ -132,7 +132,7 @@ abbrev pub core : ℕ → ℕ → ℕ → Bool
 core t zero e = e == t
 core t (suc n) e = false
 
--- blocks of one element: both edges modify both nodes, so they have different colours
+-- blocks of one element: both edges modify both nodes, so they have different colours, and edge 1 has the lower one
 abbrev pub ring : Bool → Plan ℕ
 ring faulty = record {
   items = 5;
@@ -157,6 +157,6 @@ ring faulty = record {
   exchanged = needs;
   sends = sends;
   block = λ k t e. e;
-  block_colour = λ k t b. b;
+  block_colour = λ k t b. other b;
   colour = λ k t e. 0;
 }

@@ -20,8 +20,8 @@ pub fn ring_is_lawful()
 }
 
 /// The ring's standard order, and what the machine does with it: owners and variables have the
-/// values of the sequential run, a stale copy has what it was sent, and in the faulty ring the first
-/// element's fault counts, whichever rank met its own first.
+/// values of the sequential run, a stale copy has what it was sent, and in the faulty ring the least
+/// element's fault counts, though edge 1 faults first on either rank.
 pub fn ring_runs()
     ensures order { standard (outline (ring false)) 1 ≡ in_order }
     ensures accepted { Accepted (outline (ring false)) (by_colour (outline (ring false))) in_order }
