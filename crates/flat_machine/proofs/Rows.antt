@@ -1,0 +1,80 @@
+-- Lists by index, and values by cell.
+use Rattle.std.proofs.Common.{◌≡◌, ℕ, ℤ, zero, suc, ◌+◌, ◌<◌, true, false, refl, sym, ap, ◌∙◌, arith, ⊎_elim, List, [], ◌∷◌, map, length, get_or, add-zero}
+use Rattle.std.specs.Prelude.{◌&&◌, ◌==◌}
+use Rattle.std.proofs.lemmas.Bool.{cases_Bool, false≢true, or_cases, or_left, or_right, and_parts, and_from, cond-true, cond-false, eqb-true, eq-eqb}
+use Rattle.schedule_model.specs.Cells.{Cell, Data, Variable, same_cell}
+use Rattle.flat_machine.specs.Layout.{lookup, among}
+use Rattle.flat_machine.specs.Flat.{updated, updated_rows}
+
+pub same_cell_refl : (c : Cell) → same_cell c c ≡ true
+same_cell_refl (Data c) = and_from (c.dat == c.dat) ((c.element == c.element) && (c.component == c.component)) (eq-eqb c.dat c.dat refl) (and_from (c.element == c.element) (c.component == c.component) (eq-eqb c.element c.element refl) (eq-eqb c.component c.component refl))
+same_cell_refl (Variable c) = and_from (c.variable == c.variable) (c.component == c.component) (eq-eqb c.variable c.variable refl) (eq-eqb c.component c.component refl)
+
+pub same_cell_true : (c d : Cell) → same_cell c d ≡ true → c ≡ d
+same_cell_true (Data c) (Data d) h =
+    let x : ((c.dat == d.dat) ≡ true) × (((c.element == d.element) && (c.component == d.component)) ≡ true) = and_parts (c.dat == d.dat) ((c.element == d.element) && (c.component == d.component)) h in
+    let y : ((c.element == d.element) ≡ true) × ((c.component == d.component) ≡ true) = and_parts (c.element == d.element) (c.component == d.component) x.1 in
+    let a : c.dat ≡ d.dat = eqb-true c.dat d.dat x.0 in
+    let b : c.element ≡ d.element = eqb-true c.element d.element y.0 in
+    let e : c.component ≡ d.component = eqb-true c.component d.component y.1 in
+    ap Data (λ i. record { dat = a i; element = b i; component = e i })
+same_cell_true (Variable c) (Variable d) h =
+    let x : ((c.variable == d.variable) ≡ true) × ((c.component == d.component) ≡ true) = and_parts (c.variable == d.variable) (c.component == d.component) h in
+    let a : c.variable ≡ d.variable = eqb-true c.variable d.variable x.0 in
+    let b : c.component ≡ d.component = eqb-true c.component d.component x.1 in
+    ap Variable (λ i. record { variable = a i; component = b i })
+same_cell_true (Data c) (Variable d) h = absurd (false≢true h)
+same_cell_true (Variable c) (Data d) h = absurd (false≢true h)
+
+updated_from : (g : ℕ → ℤ → ℤ) (j : ℕ) (xs : List ℤ) (i : ℕ) (d : ℤ) → i < length xs → get_or (updated g j xs) i d ≡ g (j + i) (get_or xs i d)
+updated_from g j [] i d lt = absurd (omega arith)
+updated_from g j (x ∷ xs) zero d lt = ap (λ n. g n x) (sym (add-zero j))
+updated_from g j (x ∷ xs) (suc i) d lt = updated_from g (suc j) xs i d (omega arith) ∙ (let e : suc j + i ≡ j + suc i = omega arith in ap (λ n. g n (get_or xs i d)) e)
+
+pub updated_at : (g : ℕ → ℤ → ℤ) (xs : List ℤ) (i : ℕ) (d : ℤ) → i < length xs → get_or (updated g 0 xs) i d ≡ g i (get_or xs i d)
+updated_at g xs i d lt = updated_from g 0 xs i d lt ∙ (let e : 0 + i ≡ i = omega arith in ap (λ n. g n (get_or xs i d)) e)
+
+pub updated_length : (g : ℕ → ℤ → ℤ) (j : ℕ) (xs : List ℤ) → length (updated g j xs) ≡ length xs
+updated_length g j [] = refl
+updated_length g j (x ∷ xs) = ap suc (updated_length g (suc j) xs)
+
+pub rows_length : (g : ℕ → ℕ → ℤ → ℤ) (j : ℕ) (xs : List (List ℤ)) → length (updated_rows g j xs) ≡ length xs
+rows_length g j [] = refl
+rows_length g j (x ∷ xs) = ap suc (rows_length g (suc j) xs)
+
+rows_from : (g : ℕ → ℕ → ℤ → ℤ) (j : ℕ) (xs : List (List ℤ)) (i : ℕ) → get_or (updated_rows g j xs) i [] ≡ updated (g (j + i)) 0 (get_or xs i [])
+rows_from g j [] i = refl
+rows_from g j (x ∷ xs) zero = ap (λ n. updated (g n) 0 x) (sym (add-zero j))
+rows_from g j (x ∷ xs) (suc i) = rows_from g (suc j) xs i ∙ (let e : suc j + i ≡ j + suc i = omega arith in ap (λ n. updated (g n) 0 (get_or xs i [])) e)
+
+pub rows_at : (g : ℕ → ℕ → ℤ → ℤ) (xs : List (List ℤ)) (i : ℕ) → get_or (updated_rows g 0 xs) i [] ≡ updated (g i) 0 (get_or xs i [])
+rows_at g xs i = rows_from g 0 xs i ∙ (let e : 0 + i ≡ i = omega arith in ap (λ n. updated (g n) 0 (get_or xs i [])) e)
+
+pub lookup_map : (xs : List Cell) (h : Cell → ℤ) (c : Cell) (d : ℤ) → among xs c ≡ true → lookup xs (map h xs) c d ≡ h c
+lookup_map [] h c d a = absurd (false≢true a)
+lookup_map (x ∷ xs) h c d a = ⊎_elim
+    (λ (y : same_cell x c ≡ true). cond-true (same_cell x c) (h x) (lookup xs (map h xs) c d) y ∙ ap h (same_cell_true x c y))
+    (λ (y : same_cell x c ≡ false). cond-false (same_cell x c) (h x) (lookup xs (map h xs) c d) y
+    ∙ lookup_map xs h c d (⊎_elim (λ z. absurd (false≢true (sym y ∙ z))) (λ z. z) (or_cases (same_cell x c) (among xs c) a)))
+    (cases_Bool (same_cell x c))
+
+-- a cell among them has its value, whatever stands for others
+pub lookup_any : (xs : List Cell) (ws : List ℤ) (c : Cell) (d e : ℤ) → length ws ≡ length xs → among xs c ≡ true → lookup xs ws c d ≡ lookup xs ws c e
+lookup_any [] ws c d e l a = absurd (false≢true a)
+lookup_any (x ∷ xs) [] c d e l a = absurd (omega arith)
+lookup_any (x ∷ xs) (w ∷ ws) c d e l a = ⊎_elim
+    (λ (y : same_cell x c ≡ true). cond-true (same_cell x c) w (lookup xs ws c d) y ∙ sym (cond-true (same_cell x c) w (lookup xs ws c e) y))
+    (λ (y : same_cell x c ≡ false). cond-false (same_cell x c) w (lookup xs ws c d) y
+    ∙ (lookup_any xs ws c d e (omega arith) (⊎_elim (λ z. absurd (false≢true (sym y ∙ z))) (λ z. z) (or_cases (same_cell x c) (among xs c) a))
+    ∙ sym (cond-false (same_cell x c) w (lookup xs ws c e) y)))
+    (cases_Bool (same_cell x c))
+
+pub map_same : (h g : Cell → ℤ) (xs : List Cell) → ((c : Cell) → among xs c ≡ true → h c ≡ g c) → map h xs ≡ map g xs
+map_same h g [] same = refl
+map_same h g (x ∷ xs) same =
+    ap (λ y. y ∷ map h xs) (same x (or_left (same_cell x x) (among xs x) (same_cell_refl x)))
+    ∙ ap (λ ys. g x ∷ ys) (map_same h g xs (λ c a. same c (or_right (same_cell x c) (among xs c) a)))
+
+pub map_length : (h : Cell → ℤ) (xs : List Cell) → length (map h xs) ≡ length xs
+map_length h [] = refl
+map_length h (x ∷ xs) = ap suc (map_length h xs)

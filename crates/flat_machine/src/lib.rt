@@ -1,0 +1,22 @@
+//! The distributed machine on flat buffers: memories, variables and windows as lists, elements by
+//! their places. It goes with the machine on cells, so the theorem on schedules holds of it.
+#![tactic(auto)]
+
+ghost use Rattle.std.specs.Prelude.{List};
+ghost use Rattle.schedule_steps.specs.Outline.{by_colour};
+ghost use Rattle.schedule_steps.specs.Steps.{Step, Accepted};
+ghost use Rattle.schedule_model.specs.Plan.{Plan};
+ghost use Rattle.schedule_model.specs.Laws.{Lawful, Coloured};
+ghost use Rattle.schedule_model.specs.Sequential.{sequential};
+ghost use Rattle.flat_machine.specs.Layout.{Layout, Fits, by_place};
+ghost use Rattle.flat_machine.specs.Flat.{Flat, StartsFlat, flat_from, AgreesFlat};
+
+/// For every list of steps by places that is accepted under all rules, the machine on flat buffers
+/// prints and stops as the sequential run does. Where that has no fault, each owner's buffer and the
+/// variables end with its values.
+pub fn flat_runs_as_sequential<F>()
+    ensures { (p : Plan F) → Lawful p → Coloured p → (l : Layout F) → Fits p l → (f : Flat F) → StartsFlat p l f → (steps : List Step)
+        → Accepted (by_place p l) (by_colour (by_place p l)) steps → AgreesFlat p l (sequential p) (flat_from p l steps f) }
+{
+    schedule_model::accepted_runs_as_sequential::<F>();
+}
