@@ -7,6 +7,7 @@ use Rattle.schedule_steps.specs.Steps.{Step, Send, Recv, Begin, End, Join, item,
 use Rattle.schedule_steps.specs.Members.{same_true, same_refl, has_at}
 use Rattle.schedule_model.specs.Plan.{Plan, Kind, Free, Reduce, Ordered, Host, is_free, elements, executes, outline}
 use Rattle.flat_machine.specs.Layout.{Layout, Fits, by_place}
+use Rattle.schedule_model.specs.Tests.{free_kind}
 
 abbrev pub to_element : {F : Type 0} → Layout F → Step → Step
 to_element l (Send k s r) = Send k s r
@@ -21,12 +22,6 @@ to_place l (Recv k r s) = Recv k r s
 to_place l (Begin k r e) = Begin k r (l.local k r e)
 to_place l (End k r e) = End k r (l.local k r e)
 to_place l (Join k) = Join k
-
-pub free_kind : (x : Kind) → is_free x ≡ true → x ≡ Free
-free_kind Free h = refl
-free_kind Reduce h = absurd (false≢true h)
-free_kind Ordered h = absurd (false≢true h)
-free_kind Host h = absurd (false≢true h)
 
 has_map : (f : Step → Step) (l : List Step) (t : Step) → has l t ≡ true → has (map f l) (f t) ≡ true
 has_map f [] t h = absurd (false≢true h)

@@ -12,8 +12,9 @@ use Rattle.schedule_model.specs.Machine.{Frame, Shut, Broken, Holds, Message, St
 use Rattle.flat_machine.specs.Layout.{Core, Faults, Leaves, Layout, Fits, lookup, among, of_core, is_cell, is_loop, by_place}
 use Rattle.flat_machine.specs.Flat.{Pane, Shut_pane, Broken_pane, Windows, Post, Flat, window, packed, take_post, open_pane, close_pane, flat_step}
 use Rattle.flat_machine.proofs.Rows.{lookup_map, lookup_any, map_same, map_length}
-use Rattle.flat_machine.proofs.Places.{to_element, free_kind, place_runs}
+use Rattle.flat_machine.proofs.Places.{to_element, place_runs}
 use Rattle.flat_machine.proofs.Same.{Pane_same, valued, Post_same, Posts_same, posts_push, Same, changed, read_is, variable_is}
+use Rattle.schedule_model.specs.Tests.{free_kind}
 
 module _ {F : Type 0} (p : Plan F) (l : Layout F) (q : Fits p l) (f : Flat F) (a : State F) (h : Same p l f a) where
   -- ---- messages

@@ -12,7 +12,7 @@ use Rattle.schedule_model.specs.Sequential.{Stop, seq}
 use Rattle.schedule_model.specs.Machine.{Frame, Shut, Broken, Holds, State, unit_at, merge_at, put3, window_of, view, opened, written_back, closed, step}
 use Rattle.schedule_model.specs.Laws.{Reaches}
 use Rattle.schedule_model.proofs.Fold.{folded_none, folded_same, folded_mark}
-use Rattle.schedule_model.proofs.Law.{Law, fault, effect, free_kind, runs, keeps, idle, apart, commutes, merge_unit, merge_amount, exchanged_is, owner_below}
+use Rattle.schedule_model.proofs.Law.{Law, fault, effect, runs, keeps, idle, apart, commutes, merge_unit, merge_amount, exchanged_is, owner_below}
 use Rattle.schedule_model.proofs.Sequence.{is_going, W, good_store}
 use Rattle.schedule_model.proofs.Marks.{mark, mark_self, mark_else, Ready, proper_more, stands_same, Apart}
 use Rattle.schedule_model.proofs.Range.{Sane, good_view, sane_step}
@@ -20,6 +20,7 @@ use Rattle.schedule_model.proofs.Least.{Each, each_push, Member, member_left, me
 use Rattle.schedule_model.proofs.Facts.{Fresh, own, clean, came, Value, source_free, Part_at, is_merging, Part_value, part_here, part_else, Frame_is, Says, At, frame_like, fresh_like}
 use Rattle.schedule_model.proofs.Inv.{Inv, Recorded, Letters, abouts, at_item, put_same, put_other, at_other}
 use Rattle.schedule_model.proofs.Messages.{run_below, end_begun}
+use Rattle.schedule_model.specs.Tests.{free_kind}
 
 outcome_fault : {F : Type 0} (b : Option F) (t : Store) (f : F) → outcome b t ≡ Faulted f → b ≡ Some f
 outcome_fault None t f h = cc

@@ -10,9 +10,10 @@ use Rattle.schedule_model.specs.Plan.{Plan, Kind, Free, Reduce, Ordered, Host, i
 use Rattle.schedule_model.specs.Sequential.{seq}
 use Rattle.schedule_model.specs.Machine.{Frame, Shut, Broken, Holds, State, unit_at}
 use Rattle.schedule_model.proofs.Fold.{folded, folded_none, folded_same}
-use Rattle.schedule_model.proofs.Law.{Law, fault, effect, free_kind, keeps, unreduced, exchanged_is, owner_below}
+use Rattle.schedule_model.proofs.Law.{Law, fault, effect, keeps, unreduced, exchanged_is, owner_below}
 use Rattle.schedule_model.proofs.Sequence.{output_of, is_going, W, Free_case, was_over, goes_on, ends, free_case}
 use Rattle.schedule_model.proofs.Marks.{Proper, Stands}
+use Rattle.schedule_model.specs.Tests.{free_kind}
 
 -- rank r's cell is up to date for item k
 pub data Fresh {F : Type 0} (p : Plan F) (m : Step → Bool) (r k : ℕ) (c : DatCell) : Type 0 where

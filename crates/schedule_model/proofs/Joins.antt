@@ -9,7 +9,7 @@ use Rattle.schedule_model.specs.Plan.{Plan, Kind, Free, Reduce, Ordered, Host, i
 use Rattle.schedule_model.specs.Sequential.{Broke, Ran_through, loop, Going, with_variables, seq}
 use Rattle.schedule_model.specs.Machine.{State, unit_at, merge_at, merged_from, reduced, gathered, spread, looped, hosted, done, joined, step}
 use Rattle.schedule_model.proofs.Fold.{folded, folded_none, folded_same, folded_union, folded_merge}
-use Rattle.schedule_model.proofs.Law.{Law, effect, not_free, commutes, merge_unit, merge_amount, no_needs, owner_below}
+use Rattle.schedule_model.proofs.Law.{Law, effect, commutes, merge_unit, merge_amount, no_needs, owner_below}
 use Rattle.schedule_model.proofs.Sequence.{store_of, output_of, is_going, W, ran_stays, good_store, Free_case, was_over, goes_on, ends, free_case, Join_case, was_over_join, reduces_join, runs_join, breaks_join, goes_join, halts_join, join_case}
 use Rattle.schedule_model.proofs.Marks.{mark, mark_self, mark_old, mark_true, mark_else, Ready, proper_more, Stands}
 use Rattle.schedule_model.proofs.Range.{Sane, Good, good_reduced, good_looped, good_hosted, good_merged, good_gathered}
@@ -18,6 +18,7 @@ use Rattle.schedule_model.proofs.Least.{Each, Member}
 use Rattle.schedule_model.proofs.Facts.{Fresh, own, clean, came, Value, is_reduce, source, source_self, source_reduce, Part_at, is_merging, part_here, part_else, part_none, At}
 use Rattle.schedule_model.proofs.Inv.{Inv, Letters, abouts, at_item}
 use Rattle.schedule_model.proofs.Stops.{Halted, halts_at, going_down, ended_at, none_recorded, fault_case}
+use Rattle.schedule_model.specs.Tests.{not_free}
 
 module _ {F : Type 0} (p : Plan F) (q : Law p) (m : Step → Bool) (st : State F) (inv : Inv p m st) (k : ℕ) (rd : Ready (outline p) m (Join k)) where
   low : k < p.items

@@ -5,12 +5,13 @@ use Rattle.std.proofs.lemmas.Bool.{cases_eq, cases_Bool, false≢true, false_fro
 use Rattle.reductions.specs.Reduction.{Reduction, unit_of}
 use Rattle.schedule_model.specs.Cells.{Cell, Data, Variable, DatCell, VarCell, Store, InRange}
 use Rattle.schedule_model.specs.Effects.{Untouched, Merged, is_read, is_modified, with_units, fault_of, effect_of, outcome}
-use Rattle.schedule_model.specs.Plan.{Plan, Kind, Free, Reduce, Ordered, Host, is_free, elements, in_set, owner_of, stale}
+use Rattle.schedule_model.specs.Plan.{Plan, Free, is_free, elements, in_set, owner_of, stale}
 use Rattle.schedule_model.specs.Machine.{unit_at, merge_at}
 use Rattle.schedule_model.specs.Laws.{Lawful, Reaches}
 use Rattle.schedule_model.proofs.Fold.{Commute}
 use Rattle.schedule_model.proofs.History.{by_bit}
 use Rattle.schedule_model.proofs.Runs.{Reductions, gives, effect_keeps, effect_idle, merge_through, merges_commute}
+use Rattle.schedule_model.specs.Tests.{free_kind, not_free}
 
 -- the fault of an element of item k, where w is the store before the item
 pub fault : {F : Type 0} → Plan F → ℕ → ℕ → Store → Option F
@@ -19,15 +20,6 @@ fault p k e w = fault_of (p.run k e (with_units (p.class k e) w))
 -- what it makes of the value v of the cell c
 pub effect : {F : Type 0} → Plan F → ℕ → ℕ → Store → Cell → ℤ → ℤ
 effect p k e w c v = effect_of (p.run k e) (p.class k e) w c v
-
-pub free_kind : (x : Kind) → is_free x ≡ true → x ≡ Free
-free_kind Free h = refl
-free_kind Reduce h = absurd (false≢true h)
-free_kind Ordered h = absurd (false≢true h)
-free_kind Host h = absurd (false≢true h)
-
-pub not_free : (x : Kind) → is_free x ≡ false → x ≡ Free → ⊥
-not_free x h e = false≢true (sym h ∙ ap is_free e)
 
 pub record Law {F : Type 0} (p : Plan F) : Type 0 where
   pub lawful : Lawful p

@@ -13,3 +13,4 @@ pub mod Elements
 pub mod Stops
 pub mod Joins
 pub mod Whole
+pub mod Kept

@@ -10,12 +10,13 @@ use Rattle.schedule_model.specs.Plan.{Plan, elements, owner_of, has_copy, execut
 use Rattle.schedule_model.specs.Sequential.{seq}
 use Rattle.schedule_model.specs.Machine.{Message, State, taken, delivered, arrives, step}
 use Rattle.schedule_model.proofs.Fold.{folded_none}
-use Rattle.schedule_model.proofs.Law.{Law, fault, effect, free_kind, keeps}
+use Rattle.schedule_model.proofs.Law.{Law, fault, effect, keeps}
 use Rattle.schedule_model.proofs.Sequence.{is_going, W}
 use Rattle.schedule_model.proofs.Marks.{mark, mark_self, mark_else, Ready, proper_more, Stands, stands_same, waiting, pending, pending_same, pending_push, pending_pop}
 use Rattle.schedule_model.proofs.Range.{Sane, sane_step}
 use Rattle.schedule_model.proofs.Facts.{Fresh, own, clean, came, Value, Says, says_other, At, frame_like}
 use Rattle.schedule_model.proofs.Inv.{Inv, Letter, Letters, abouts, abouts_push, letters_push, at_item, put_same, put_other, at_other, two_same}
+use Rattle.schedule_model.specs.Tests.{free_kind}
 
 -- the element is of the set, where the rank runs it
 pub run_below : {F : Type 0} (p : Plan F) (k r e : ℕ) → (nat_lt e (elements p k) && executes p k r e) ≡ true → (e < elements p k) × (executes p k r e ≡ true)

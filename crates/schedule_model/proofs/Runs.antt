@@ -1,34 +1,14 @@
 -- What runs on two stores say of the effects of one element.
 use Rattle.std.proofs.Common.{◌≡◌, ℤ, true, false, refl, sym, ap, subst, ◌∙◌, Option, Some, None, FitsSigned, w32}
-use Rattle.std.specs.Prelude.{◌&&◌, ◌==◌}
-use Rattle.std.proofs.lemmas.Bool.{false≢true, false_from_ne_true, cond-true, cond-false, cond_both, and_parts, and_from, eqb-true, eq-eqb}
+use Rattle.std.proofs.lemmas.Bool.{false≢true, false_from_ne_true, cond-true, cond-false, cond_both}
 use Rattle.reductions.specs.Reduction.{Reduction, IsCommuting, unit_of, merged}
-use Rattle.schedule_model.specs.Cells.{Cell, Data, Variable, Store, InRange, same_cell, with_cell}
+use Rattle.schedule_model.specs.Cells.{Cell, Store, InRange, same_cell, with_cell}
 use Rattle.schedule_model.specs.Effects.{Ran, Faulted, Finished, Class, Untouched, Read, Updated, Written, Merged, Mixed, is_read, is_modified, CellAlike, Alike, Independent, at_unit, with_units, fault_of, left_by, made_of, unless_faulty, effect_of, outcome, GivesEffects}
+use Rattle.schedule_model.specs.Tests.{same_cell_refl, same_cell_true}
 
 -- the laws of the three reductions
 abbrev pub Reductions : Type 0
 Reductions = (o : Reduction) → IsCommuting (unit_of o) (merged o)
-
-pub same_cell_refl : (c : Cell) → same_cell c c ≡ true
-same_cell_refl (Data c) = and_from (c.dat == c.dat) ((c.element == c.element) && (c.component == c.component)) (eq-eqb c.dat c.dat refl) (and_from (c.element == c.element) (c.component == c.component) (eq-eqb c.element c.element refl) (eq-eqb c.component c.component refl))
-same_cell_refl (Variable c) = and_from (c.variable == c.variable) (c.component == c.component) (eq-eqb c.variable c.variable refl) (eq-eqb c.component c.component refl)
-
-pub same_cell_true : (c d : Cell) → same_cell c d ≡ true → c ≡ d
-same_cell_true (Data c) (Data d) h =
-    let x : ((c.dat == d.dat) ≡ true) × (((c.element == d.element) && (c.component == d.component)) ≡ true) = and_parts (c.dat == d.dat) ((c.element == d.element) && (c.component == d.component)) h in
-    let y : ((c.element == d.element) ≡ true) × ((c.component == d.component) ≡ true) = and_parts (c.element == d.element) (c.component == d.component) x.1 in
-    let a : c.dat ≡ d.dat = eqb-true c.dat d.dat x.0 in
-    let b : c.element ≡ d.element = eqb-true c.element d.element y.0 in
-    let e : c.component ≡ d.component = eqb-true c.component d.component y.1 in
-    ap Data (λ i. record { dat = a i; element = b i; component = e i })
-same_cell_true (Variable c) (Variable d) h =
-    let x : ((c.variable == d.variable) ≡ true) × ((c.component == d.component) ≡ true) = and_parts (c.variable == d.variable) (c.component == d.component) h in
-    let a : c.variable ≡ d.variable = eqb-true c.variable d.variable x.0 in
-    let b : c.component ≡ d.component = eqb-true c.component d.component x.1 in
-    ap Variable (λ i. record { variable = a i; component = b i })
-same_cell_true (Data c) (Variable d) h = absurd (false≢true h)
-same_cell_true (Variable c) (Data d) h = absurd (false≢true h)
 
 with_cell_here : (c : Cell) (v : ℤ) (s : Store) → with_cell c v s c ≡ v
 with_cell_here c v s = cond-true (same_cell c c) v (s c) (same_cell_refl c)

@@ -7,11 +7,12 @@ use Rattle.schedule_model.specs.Cells.{Store}
 use Rattle.schedule_model.specs.Plan.{Plan, Free, is_free, elements, executes, outline}
 use Rattle.schedule_model.specs.Sequential.{Stop, Seq, Stopped, Going, after_item, seq, sequential}
 use Rattle.schedule_model.specs.Machine.{State, is_less_element, least, joined, step, Agrees}
-use Rattle.schedule_model.proofs.Law.{Law, fault, free_kind}
+use Rattle.schedule_model.proofs.Law.{Law, fault}
 use Rattle.schedule_model.proofs.Sequence.{output_of, is_going, W, Free_case, was_over, goes_on, ends, free_case}
 use Rattle.schedule_model.proofs.Marks.{Ready}
 use Rattle.schedule_model.proofs.Least.{each_more, Beats, least_is, least_none}
 use Rattle.schedule_model.proofs.Inv.{Inv, Recorded}
+use Rattle.schedule_model.specs.Tests.{free_kind}
 
 pub seq_stays : {F : Type 0} (p : Plan F) (x : Stop F) (t : Store) (o : List ℕ) (n k : ℕ) → seq p k ≡ Stopped x t o → seq p (n + k) ≡ Stopped x t o
 seq_stays p x t o zero k h = let e : k ≡ zero + k = omega arith in subst (λ i. seq p i ≡ Stopped x t o) e h

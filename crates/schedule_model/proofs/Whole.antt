@@ -12,7 +12,7 @@ use Rattle.schedule_model.specs.Machine.{State, start_state, step, steps_from, m
 use Rattle.schedule_model.specs.Laws.{Lawful, Coloured}
 use Rattle.schedule_model.proofs.Fold.{folded_none}
 use Rattle.schedule_model.proofs.Runs.{Reductions}
-use Rattle.schedule_model.proofs.Law.{Law, effect, free_kind, last, owner_below}
+use Rattle.schedule_model.proofs.Law.{Law, effect, last, owner_below}
 use Rattle.schedule_model.proofs.Sequence.{store_of, output_of, is_going, W}
 use Rattle.schedule_model.proofs.Marks.{mark, Ready, Apart, pending}
 use Rattle.schedule_model.proofs.Range.{sane_start}
@@ -22,6 +22,7 @@ use Rattle.schedule_model.proofs.Messages.{run_below, keeps_send, keeps_recv}
 use Rattle.schedule_model.proofs.Elements.{keeps_begin, keeps_end}
 use Rattle.schedule_model.proofs.Stops.{Halted}
 use Rattle.schedule_model.proofs.Joins.{keeps_join}
+use Rattle.schedule_model.specs.Tests.{free_kind}
 
 keeps : {F : Type 0} (p : Plan F) (q : Law p) (m : Step → Bool) (st : State F) → Inv p m st → (s : Step) → Ready (outline p) m s → Apart p m → Inv p (mark s m) (step p s st) ⊎ Halted p (step p s st)
 keeps p q m st inv (Send k s r) rd two = inl (keeps_send p q m st inv k s r rd)

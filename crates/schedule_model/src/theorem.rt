@@ -1,5 +1,5 @@
 // The theorems on schedules. Each function has an empty body, and its contract is the theorem.
-ghost use Rattle.std.specs.Prelude.{◌≡◌, ◌↔◌, ℕ, Bool, List};
+ghost use Rattle.std.specs.Prelude.{◌≡◌, ◌↔◌, ℕ, Bool, List, None};
 ghost use Rattle.schedule_steps.specs.Outline.{by_colour, any_order};
 ghost use Rattle.schedule_steps.specs.Steps.{Step, Accepted, EndsAtOnce};
 ghost use Rattle.schedule_model.specs.Cells.{Cell, Store};
@@ -7,8 +7,9 @@ ghost use Rattle.schedule_model.specs.History.{ByHistory, exchanged_by_bit};
 ghost use Rattle.schedule_model.specs.Effects.{Ran, Class, Independent, GivesEffects};
 ghost use Rattle.schedule_model.specs.Plan.{Plan, outline};
 ghost use Rattle.schedule_model.specs.Laws.{Lawful, Coloured};
-ghost use Rattle.schedule_model.specs.Sequential.{sequential};
-ghost use Rattle.schedule_model.specs.Machine.{machine, Agrees};
+ghost use Rattle.schedule_model.specs.Sequential.{Stop, sequential};
+ghost use Rattle.schedule_model.specs.Machine.{least, machine, Agrees};
+ghost use Rattle.schedule_model.specs.Kept.{kept_of, if_before, OfElements};
 
 /// For every list that is accepted under all rules the machine prints what the sequential run
 /// prints, and stops exactly where that has a fault, with its item, element and fault. Where it has
@@ -41,4 +42,11 @@ pub fn independence_gives_effects<F>()
 pub fn one_bit_is_the_history()
     ensures { (modifies needs exchanged : ℕ → Bool)
         → ByHistory modifies needs exchanged ↔ ((k : ℕ) → exchanged k ≡ exchanged_by_bit modifies needs k) }
+{}
+
+/// A machine may keep the least fault only, the first recorded of equals: a join stops by it exactly
+/// where it stops by all that are recorded. All that the machine records are faults of elements.
+pub fn one_fault_is_enough<F>()
+    ensures kept { (k : ℕ) (faults : List (Stop F)) → OfElements faults → least k faults ≡ if_before k (kept_of None faults) }
+    ensures elements { (p : Plan F) (l : List Step) → OfElements (machine p l).faults }
 {}
