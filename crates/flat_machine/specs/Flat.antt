@@ -15,10 +15,12 @@ pub data Pane : Type 0 where
   Broken_pane : Pane
   Windows : List ℤ → Pane
 
+-- a message: the values of the exported cells, in their order
 pub record Post : Type 0 where
   pub about : ℕ  -- item
   pub values : List ℤ  -- of the exported cells
 
+-- the state of the machine, with its memories and variables as lists
 pub record Flat (F : Type 0) : Type 0 where
   pub memories : List (List ℤ)
   pub variables : List ℤ
@@ -44,9 +46,11 @@ module _ {F : Type 0} (p : Plan F) (l : Layout F) where
   abbrev pub change : ℕ → (DatCell → ℤ → ℤ) → List (List ℤ) → List (List ℤ)
   change r g memories = set memories r (updated (λ i v. g (l.cell_at r i) v) 0 (get_or memories r []))
 
+  -- the value of the cell in a rank's buffer
   abbrev pub read : Flat F → ℕ → DatCell → ℤ
   read f r c = get_or (get_or f.memories r []) (l.place r c) (pos 0)
 
+  -- the value of the variable's cell
   abbrev pub variable : Flat F → VarCell → ℤ
   variable f v = get_or f.variables (l.index_of v) (pos 0)
 
@@ -65,6 +69,7 @@ module _ {F : Type 0} (p : Plan F) (l : Layout F) where
   packed f s (Data c) = read f s c
   packed f s (Variable v) = pos 0
 
+  -- the oldest message goes into the buffer
   abbrev pub take_post : ℕ → ℕ → List Post → Flat F → Flat F
   take_post r s [] f = f
   take_post r s (x ∷ xs) f =
@@ -73,6 +78,7 @@ module _ {F : Type 0} (p : Plan F) (l : Layout F) where
         mail = put2 s r xs f.mail;
       }
 
+  -- a begin: the windows after the kernel's run, or its fault, which is recorded
   abbrev pub open_pane : ℕ → ℕ → ℕ → Core F → Flat F → Flat F
   open_pane k r x (Faults n) f = record f { panes = put3 k r x Broken_pane f.panes; faults = f.faults ++ (record { item = k; element = Some (l.original k r x); fault = n } ∷ []) }
   open_pane k r x (Leaves ws) f = record f { panes = put3 k r x (Windows ws) f.panes }
@@ -94,6 +100,7 @@ module _ {F : Type 0} (p : Plan F) (l : Layout F) where
   merge_ranks f o s v zero x = x
   merge_ranks f o s v (suc n) x = merge_at o (merge_ranks f o s v n x) (f.partials n s v)
 
+  -- Reduce: the partials go into the variables, and are units again
   abbrev pub reduce_flat : ℕ → Flat F → Flat F
   reduce_flat k f =
       record f {
@@ -110,24 +117,29 @@ module _ {F : Type 0} (p : Plan F) (l : Layout F) where
         variables = updated (λ i v. lookup (l.cells k e) ws (Variable (l.variable_at i)) v) 0 f.variables;
       }
 
+  -- the first n elements of an Ordered loop, up to the first that faults
   abbrev pub loop_flat : ℕ → ℕ → Flat F → Flat F
   loop_flat k zero f = f
   loop_flat k (suc n) f = cond (is_some (loop_flat k n f).stop) (loop_flat k n f) (element_flat k n (l.core k n (map (owned (loop_flat k n f)) (l.cells k n))) (loop_flat k n f))
 
+  -- a host statement
   abbrev pub host_flat : ℕ → Hosted F → Flat F → Flat F
   host_flat k (Halts n) f = record f { stop = Some (record { item = k; element = None; fault = n }) }
   host_flat k (Goes v w) f = record f { variables = updated (λ i x. v (l.variable_at i)) 0 f.variables; output = f.output ++ w }
 
+  -- a join does its item
   abbrev pub done_flat : ℕ → Kind → Flat F → Flat F
   done_flat k Free f = f
   done_flat k Reduce f = reduce_flat k f
   done_flat k Ordered f = loop_flat k (elements p k) f
   done_flat k Host f = host_flat k (p.host k (owned f)) f
 
+  -- a join stops by the least fault recorded before its item, if there is one
   abbrev pub join_flat : ℕ → Option (Stop F) → Flat F → Flat F
   join_flat k (Some x) f = record f { stop = Some x }
   join_flat k None f = done_flat k (p.kind k) f
 
+  -- one step
   abbrev pub flat_step : Step → Flat F → Flat F
   flat_step (Send k s r) f = record f { mail = put2 s r (f.mail s r ++ (record { about = k; values = map (packed f s) (l.exports k s r) } ∷ [])) f.mail }
   flat_step (Recv k r s) f = take_post r s (f.mail s r) f

@@ -28,6 +28,7 @@ abbrev pub of_core : {F : Type 0} → List Cell → Store → Core F → Ran F
 of_core xs s (Faults f) = Faulted f
 of_core xs s (Leaves ws) = Finished (λ c. lookup xs ws c (s c))
 
+-- F is the type of faults
 pub record Layout (F : Type 0) : Type 0 where
   -- windows
   pub cells : ℕ → ℕ → List Cell  -- item, element: the cells of its different targets, and the constants
@@ -58,6 +59,7 @@ module _ {F : Type 0} (p : Plan F) (l : Layout F) where
   abbrev pub IsVariable : VarCell → Type 0
   IsVariable v = (l.index_of v < l.variables) × (l.variable_at (l.index_of v) ≡ v)
 
+  -- the cell exists
   abbrev pub Exists : Cell → Type 0
   Exists (Data c) = is_cell c ≡ true
   Exists (Variable v) = IsVariable v

@@ -5,13 +5,10 @@ use Rattle.schedule_steps.specs.Outline.{Outline, by_colour}
 use Rattle.schedule_steps.specs.Steps.{Step, Send, Recv, Begin, End, Join, IsStep, Earlier, by_item, sent, received, begun, coloured, has, Accepted}
 use Rattle.schedule_model.specs.Plan.{outline}
 use Rattle.schedule_examples.specs.Ring.{ring}
-use Rattle.schedule_examples.specs.Lists.{nodes, messages, edges_on_0, edges_on_1, joins, in_order, item_reversed, join_reversed, send_reversed, receive_reversed, end_reversed, colour_reversed, one_missing, one_twice, one_foreign}
+use Rattle.schedule_examples.specs.Lists.{Accepts, nodes, messages, edges_on_0, edges_on_1, joins, in_order, item_reversed, join_reversed, send_reversed, receive_reversed, end_reversed, colour_reversed, one_missing, one_twice, one_foreign}
 
 abbrev o : Outline
 o = outline (ring false)
-
-abbrev Accepts : List Step → Type 0
-Accepts l = Accepted o (by_colour o) l
 
 -- a step of the plan that is earlier doesn't stand before
 reversed : (l pre : List Step) (s : Step) (post : List Step) (t : Step) → l ≡ pre ++ (s ∷ post) → IsStep o t → Earlier o (by_colour o) t s → has pre t ≡ false → Accepts l → ⊥

@@ -1,6 +1,13 @@
 -- Schedules of the ring: one that is accepted, and for each rule one that breaks it alone.
-use Rattle.std.specs.Prelude.{List, [], ◌∷◌, ◌++◌}
-use Rattle.schedule_steps.specs.Steps.{Step, Send, Recv, Begin, End, Join}
+use Rattle.std.specs.Prelude.{false, List, [], ◌∷◌, ◌++◌}
+use Rattle.schedule_steps.specs.Outline.{by_colour}
+use Rattle.schedule_steps.specs.Steps.{Step, Send, Recv, Begin, End, Join, Accepted}
+use Rattle.schedule_model.specs.Plan.{outline}
+use Rattle.schedule_examples.specs.Ring.{ring}
+
+-- the list is accepted for the ring
+abbrev pub Accepts : List Step → Type 0
+Accepts l = Accepted (outline (ring false)) (by_colour (outline (ring false))) l
 
 -- each node on its rank
 abbrev pub nodes : List Step
@@ -14,6 +21,7 @@ messages = Send 1 0 1 ∷ Send 1 1 0 ∷ Recv 1 0 1 ∷ Recv 1 1 0 ∷ []
 abbrev pub edges_on_0 : List Step
 edges_on_0 = Begin 1 0 1 ∷ End 1 0 1 ∷ Begin 1 0 0 ∷ End 1 0 0 ∷ []
 
+-- likewise on rank 1
 abbrev pub edges_on_1 : List Step
 edges_on_1 = Begin 1 1 1 ∷ End 1 1 1 ∷ Begin 1 1 0 ∷ End 1 1 0 ∷ []
 

@@ -15,18 +15,23 @@ other (suc n) = 0
 abbrev pub x_cell : ℕ → DatCell
 x_cell n = record { dat = 0; element = n; component = 0 }
 
+-- r of a node
 abbrev pub r_cell : ℕ → DatCell
 r_cell n = record { dat = 1; element = n; component = 0 }
 
+-- the sum
 abbrev pub sum_cell : VarCell
 sum_cell = record { variable = 0; component = 0 }
 
+-- as cells
 abbrev pub x : ℕ → Cell
 x n = Data (x_cell n)
 
+-- r of a node
 abbrev pub r : ℕ → Cell
 r n = Data (r_cell n)
 
+-- the sum
 abbrev pub sum : Cell
 sum = Variable sum_cell
 
@@ -34,9 +39,11 @@ sum = Variable sum_cell
 abbrev pub is_x : DatCell → Bool
 is_x c = (c.dat == 0) && (nat_lt c.element 2 && (c.component == 0))
 
+-- the cell is r of one of the nodes
 abbrev pub is_r : DatCell → Bool
 is_r c = (c.dat == 1) && (nat_lt c.element 2 && (c.component == 0))
 
+-- the cell is the sum's
 abbrev pub is_sum : VarCell → Bool
 is_sum v = (v.variable == 0) && (v.component == 0)
 
@@ -48,6 +55,7 @@ kind (suc (suc zero)) = Reduce
 kind (suc (suc (suc zero))) = Ordered
 kind (suc (suc (suc (suc n)))) = Host
 
+-- items 1 and 2 are of one loop
 abbrev pub site : ℕ → ℕ
 site zero = 0
 site (suc zero) = 1
@@ -60,6 +68,7 @@ set zero = 0
 set (suc zero) = 1
 set (suc (suc n)) = 0
 
+-- item 0 writes its node's x; item 1 reads each x, and adds to each r and to the sum
 abbrev pub class : ℕ → ℕ → Cell → Class
 class zero e (Data c) = cond (is_x c && (c.element == e)) Written Untouched
 class zero e (Variable v) = Untouched
@@ -67,6 +76,7 @@ class (suc zero) e (Data c) = cond (is_x c) Read (cond (is_r c) (Merged Add) Unt
 class (suc zero) e (Variable v) = cond (is_sum v) (Merged Add) Untouched
 class (suc (suc n)) e c = Untouched
 
+-- the loop of item 1 adds to the sum
 abbrev pub reduces : ℕ → VarCell → Option Reduction
 reduces zero v = None
 reduces (suc zero) v = cond (is_sum v) (Some Add) None
@@ -77,10 +87,12 @@ abbrev pub written : ℕ → Store → Store
 written e s (Data c) = cond (is_x c && (c.element == e)) (pos (suc e)) (s (Data c))
 written e s (Variable v) = s (Variable v)
 
+-- item 1
 abbrev pub added : Store → Store
 added s (Data c) = cond (is_r c) (int_wrap w32 (s (Data c) +ℤ s (x (other c.element)))) (s (Data c))
 added s (Variable v) = cond (is_sum v) (int_wrap w32 (s (Variable v) +ℤ pos 1)) (s (Variable v))
 
+-- item 3
 abbrev pub moved : ℕ → Store → Store
 moved e s (Data c) = cond (is_x c && (c.element == e)) (int_wrap w32 (s (Data c) +ℤ s (r e))) (s (Data c))
 moved e s (Variable v) = s (Variable v)
@@ -90,6 +102,7 @@ abbrev pub unless : Bool → ℕ → Store → Ran ℕ
 unless true e s = Faulted e
 unless false e s = Finished s
 
+-- the kernels' runs
 abbrev pub run : Bool → ℕ → ℕ → Store → Ran ℕ
 run faulty zero e s = Finished (written e s)
 run faulty (suc zero) e s = unless faulty e (added s)
@@ -100,6 +113,7 @@ abbrev pub digits : ℤ → List ℕ
 digits (pos n) = n ∷ []
 digits _ = []
 
+-- items 0 and 3 modify x, item 1 r
 abbrev pub modifies : ℕ → ℕ → Bool
 modifies zero d = d == 0
 modifies (suc zero) d = d == 1
@@ -113,6 +127,7 @@ needs zero d = false
 needs (suc zero) d = d == 0
 needs (suc (suc n)) d = false
 
+-- each rank sends to the other, in item 1
 abbrev pub sends : ℕ → ℕ → ℕ → Bool
 sends zero s t = false
 sends (suc zero) s t = ((s == 0) && (t == 1)) || ((s == 1) && (t == 0))
@@ -123,6 +138,7 @@ abbrev pub import_execute : ℕ → ℕ → ℕ → Bool
 import_execute t zero e = false
 import_execute t (suc n) e = e == other t
 
+-- the other's node
 abbrev pub import_nonexecute : ℕ → ℕ → ℕ → Bool
 import_nonexecute t zero e = e == other t
 import_nonexecute t (suc n) e = false

@@ -1,14 +1,12 @@
 // The ring of two nodes and two edges, with and without faults.
 ghost use Rattle.std.specs.Prelude.{◌≡◌, Bool, true, false, pos, Some, None, [], ◌∷◌};
-ghost use Rattle.schedule_steps.specs.Outline.{by_colour};
-ghost use Rattle.schedule_steps.specs.Steps.{Accepted};
-ghost use Rattle.schedule_steps.specs.Turns.{Turns, nothing_taken};
 ghost use Rattle.schedule_steps.specs.Standard.{standard};
 ghost use Rattle.schedule_model.specs.Plan.{outline};
 ghost use Rattle.schedule_model.specs.Machine.{machine};
 ghost use Rattle.schedule_model.specs.Laws.{Lawful, Coloured};
 ghost use Rattle.schedule_examples.specs.Ring.{ring, x_cell, r_cell, sum_cell};
-ghost use Rattle.schedule_examples.specs.Lists.{in_order, interleaved, item_reversed, join_reversed, send_reversed, receive_reversed, end_reversed, colour_reversed, one_missing, one_twice, one_foreign};
+ghost use Rattle.schedule_examples.specs.Lists.{Accepts, in_order, interleaved, item_reversed, join_reversed, send_reversed};
+ghost use Rattle.schedule_examples.specs.Lists.{receive_reversed, end_reversed, colour_reversed, one_missing, one_twice, one_foreign};
 
 /// The premises of the theorems hold of the ring, with an exchange, a reduction, an Ordered item and
 /// colours, and, where it is faulty, with faults on several elements.
@@ -24,7 +22,7 @@ pub fn ring_is_lawful()
 /// element's fault counts, though edge 1 faults first on either rank.
 pub fn ring_runs()
     ensures order { standard (outline (ring false)) 1 ≡ in_order }
-    ensures accepted { Accepted (outline (ring false)) (by_colour (outline (ring false))) in_order }
+    ensures accepted { Accepts in_order }
     ensures owned { (machine (ring false) in_order).memories 1 (x_cell 1) ≡ pos 4 }
     ensures stale { (machine (ring false) in_order).memories 0 (x_cell 1) ≡ pos 2 }
     ensures added { (machine (ring false) interleaved).memories 0 (r_cell 0) ≡ pos 4 }
@@ -38,13 +36,13 @@ pub fn ring_runs()
 /// For each rule a list that breaks it alone is refused, as are lists that lack a step, have one
 /// twice, or have one that is none of the plan's.
 pub fn lists_are_refused()
-    ensures items { Accepted (outline (ring false)) (by_colour (outline (ring false))) item_reversed → ⊥ }
-    ensures joins { Accepted (outline (ring false)) (by_colour (outline (ring false))) join_reversed → ⊥ }
-    ensures sends { Accepted (outline (ring false)) (by_colour (outline (ring false))) send_reversed → ⊥ }
-    ensures receives { Accepted (outline (ring false)) (by_colour (outline (ring false))) receive_reversed → ⊥ }
-    ensures ends { Accepted (outline (ring false)) (by_colour (outline (ring false))) end_reversed → ⊥ }
-    ensures colours { Accepted (outline (ring false)) (by_colour (outline (ring false))) colour_reversed → ⊥ }
-    ensures missing { Accepted (outline (ring false)) (by_colour (outline (ring false))) one_missing → ⊥ }
-    ensures twice { Accepted (outline (ring false)) (by_colour (outline (ring false))) one_twice → ⊥ }
-    ensures foreign { Accepted (outline (ring false)) (by_colour (outline (ring false))) one_foreign → ⊥ }
+    ensures items { Accepts item_reversed → ⊥ }
+    ensures joins { Accepts join_reversed → ⊥ }
+    ensures sends { Accepts send_reversed → ⊥ }
+    ensures receives { Accepts receive_reversed → ⊥ }
+    ensures ends { Accepts end_reversed → ⊥ }
+    ensures colours { Accepts colour_reversed → ⊥ }
+    ensures missing { Accepts one_missing → ⊥ }
+    ensures twice { Accepts one_twice → ⊥ }
+    ensures foreign { Accepts one_foreign → ⊥ }
 {}

@@ -4,17 +4,20 @@ use Rattle.reductions.specs.Reduction.{Reduction, Add, Min, Max}
 use Rattle.schedule_model.specs.Cells.{Cell, Data, Variable}
 use Rattle.schedule_model.specs.Effects.{Class, Untouched, Read, Updated, Written, Merged, Mixed}
 
+-- how a kernel uses an argument
 pub data Access : Type 0 where
   OpRead : Access
   OpWrite : Access
   OpRw : Access
   OpReduce : Reduction → Access  -- OP_INC, OP_MIN, OP_MAX
 
+-- direct, through a map, or a variable
 pub data Argument : Type 0 where
   Direct : ℕ → Access → Argument  -- dat
   Indirect : ℕ → ℕ → ℕ → Access → Argument  -- dat, map, index
   Global : ℕ → Access → Argument  -- variable
 
+-- the argument's access
 abbrev pub access_of : Argument → Access
 access_of (Direct d x) = x
 access_of (Indirect d m i x) = x
@@ -31,6 +34,7 @@ reading OpRead = true
 reading OpRw = true
 reading _ = false
 
+-- the argument is direct
 abbrev pub is_direct : Argument → Bool
 is_direct (Direct d x) = true
 is_direct _ = false
@@ -58,6 +62,7 @@ reaches entry dim width e (Indirect d m i x) (Data c) = (d == c.dat) && ((entry 
 reaches entry dim width e (Global v x) (Variable c) = (v == c.variable) && nat_lt c.component (width v)
 reaches entry dim width e _ _ = false
 
+-- the two operations are one
 abbrev pub same_reduction : Reduction → Reduction → Bool
 same_reduction Add Add = true
 same_reduction Min Min = true

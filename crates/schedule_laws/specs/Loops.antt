@@ -28,6 +28,7 @@ pub record Items {F : Type 0} (p : Plan F) : Type 0 where
   pub some_rank : 0 < p.ranks
   pub owners : (s e : ℕ) → e < p.size s → p.owner s e < p.ranks
 
+-- arguments, halos, messages and colours of the Free items
 pub record Loops {F : Type 0} (p : Plan F) : Type 0 where
   -- arguments, maps and dims
   pub args : ℕ → ℕ  -- site: how many

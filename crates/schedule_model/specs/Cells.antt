@@ -2,11 +2,13 @@
 use Rattle.std.specs.Prelude.{ℕ, ℤ, Bool, false, ◌&&◌, ◌==◌, cond, FitsSigned}
 use mir.Syntax.{w32}
 
+-- a component of an element of a dat
 pub record DatCell : Type 0 where
   pub dat : ℕ
   pub element : ℕ  -- original number
   pub component : ℕ
 
+-- a component of a variable
 pub record VarCell : Type 0 where
   pub variable : ℕ
   pub component : ℕ

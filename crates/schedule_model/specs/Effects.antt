@@ -56,9 +56,11 @@ abbrev pub at_unit : Class → ℤ → ℤ
 at_unit (Merged o) v = unit_of o
 at_unit _ v = v
 
+-- the store with units where amounts are merged
 abbrev pub with_units : (Cell → Class) → Store → Store
 with_units class w c = at_unit (class c) (w c)
 
+-- the fault of a run, if it has one
 abbrev pub fault_of : {F : Type 0} → Ran F → Option F
 fault_of (Faulted f) = Some f
 fault_of (Finished t) = None
@@ -82,9 +84,11 @@ abbrev pub unless_faulty : {F : Type 0} → Option F → ℤ → ℤ → ℤ
 unless_faulty None v x = x
 unless_faulty (Some f) v x = v
 
+-- what an element makes of the value v of the cell c, where w is the store before the loop
 abbrev pub effect_of : {F : Type 0} → (Store → Ran F) → (Cell → Class) → Store → Cell → ℤ → ℤ
 effect_of run class w c v = unless_faulty (fault_of (run (with_units class w))) v (made_of run class w c (class c) v)
 
+-- a run with this fault, or with this store after it
 abbrev pub outcome : {F : Type 0} → Option F → Store → Ran F
 outcome None t = Finished t
 outcome (Some f) t = Faulted f

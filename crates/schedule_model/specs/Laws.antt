@@ -13,6 +13,7 @@ abbrev pub Reaches : Option Reduction → Class → Type 0
 Reaches None x = is_modified x ≡ false
 Reaches (Some o) x = x ≡ Merged o
 
+-- the premises of the theorem
 pub record Lawful {F : Type 0} (p : Plan F) : Type 0 where
   -- every value is an `i32`
   pub start_in_range : InRange p.start

@@ -13,10 +13,12 @@ pub data Frame : Type 0 where
   Broken : Frame
   Holds : Store → Frame
 
+-- what a send leaves in the queue of its pair
 pub record Message : Type 0 where
   pub about : ℕ  -- item
   pub values : DatCell → ℤ  -- the sender's
 
+-- the state of the machine
 pub record State (F : Type 0) : Type 0 where
   pub memories : ℕ → DatCell → ℤ  -- rank
   pub variables : VarCell → ℤ
@@ -27,10 +29,12 @@ pub record State (F : Type 0) : Type 0 where
   pub output : List ℕ
   pub stop : Option (Stop F)
 
+-- the unit of a reduction, or 0 where there is none
 abbrev pub unit_at : Option Reduction → ℤ
 unit_at None = pos 0
 unit_at (Some o) = unit_of o
 
+-- v with the amount x merged into it, if there is a reduction
 abbrev pub merge_at : Option Reduction → ℤ → ℤ → ℤ
 merge_at None v x = v
 merge_at (Some o) v x = merged o v x
@@ -48,12 +52,15 @@ start_state p = record {
   stop = None;
 }
 
+-- the function with the value v at a
 abbrev pub put1 : {A : Type 0} → ℕ → A → (ℕ → A) → ℕ → A
 put1 a v f x = cond (x == a) v (f x)
 
+-- the function with the value v at a and b
 abbrev pub put2 : {A : Type 0} → ℕ → ℕ → A → (ℕ → ℕ → A) → ℕ → ℕ → A
 put2 a b v f x y = cond ((x == a) && (y == b)) v (f x y)
 
+-- the function with the value v at a, b and c
 abbrev pub put3 : {A : Type 0} → ℕ → ℕ → ℕ → A → (ℕ → ℕ → ℕ → A) → ℕ → ℕ → ℕ → A
 put3 a b c v f x y z = cond (same3 x y z a b c) v (f x y z)
 
@@ -88,6 +95,7 @@ abbrev pub view : {F : Type 0} → Plan F → ℕ → ℕ → State F → Store
 view p k r st (Data c) = st.memories r c
 view p k r st (Variable v) = window_of (p.reduces (p.site k) v) (st.variables v)
 
+-- a begin: the frame after the kernel's run, or its fault, which is recorded
 abbrev pub opened : {F : Type 0} → ℕ → ℕ → ℕ → Ran F → State F → State F
 opened k r e (Faulted f) st = record st { frames = put3 k r e Broken st.frames; faults = st.faults ++ (record { item = k; element = Some e; fault = f } ∷ []) }
 opened k r e (Finished t) st = record st { frames = put3 k r e (Holds t) st.frames }
@@ -110,11 +118,12 @@ closed p k r e (Holds t) st = written_back p k r e t st
 
 -- ---- joins
 
--- x is of an earlier item than y, or of the same item and an earlier element
+-- the first is an earlier element than the second
 abbrev pub is_less_element : Option ℕ → Option ℕ → Bool
 is_less_element (Some a) (Some b) = nat_lt a b
 is_less_element _ _ = false
 
+-- x is of an earlier item than y, or of the same item and an earlier element
 abbrev pub is_less : {F : Type 0} → Stop F → Stop F → Bool
 is_less x y = nat_lt x.item y.item || ((x.item == y.item) && is_less_element x.element y.element)
 
@@ -133,6 +142,7 @@ abbrev pub merged_from : {F : Type 0} → State F → Option Reduction → ℕ �
 merged_from st o s v zero x = x
 merged_from st o s v (suc n) x = merge_at o (merged_from st o s v n x) (st.partials n s v)
 
+-- Reduce: the partials of all ranks go into the variables, and are units again
 abbrev pub reduced : {F : Type 0} → Plan F → ℕ → State F → State F
 reduced p k st =
     record st {
@@ -154,6 +164,7 @@ abbrev pub looped : {F : Type 0} → Plan F → ℕ → Loop F → State F → S
 looped p k (Broke e f t) st = record (spread p t st) { stop = Some (record { item = k; element = Some e; fault = f }) }
 looped p k (Ran_through t) st = spread p t st
 
+-- a host statement; a faulty one changes and prints nothing
 abbrev pub hosted : {F : Type 0} → ℕ → Hosted F → State F → State F
 hosted k (Halts f) st = record st { stop = Some (record { item = k; element = None; fault = f }) }
 hosted k (Goes v w) st = record st { variables = v; output = st.output ++ w }
@@ -165,12 +176,14 @@ done p k Reduce st = reduced p k st
 done p k Ordered st = looped p k (loop p k (elements p k) (gathered p st)) st
 done p k Host st = hosted k (p.host k (gathered p st)) st
 
+-- a join stops by a fault of an earlier item, if one is recorded, and else does its item
 abbrev pub joined : {F : Type 0} → Plan F → ℕ → Option (Stop F) → State F → State F
 joined p k (Some x) st = record st { stop = Some x }
 joined p k None st = done p k (p.kind k) st
 
 -- ---- the run of a list
 
+-- one step
 abbrev pub step : {F : Type 0} → Plan F → Step → State F → State F
 step p (Send k s r) st = record st { mail = put2 s r (st.mail s r ++ (record { about = k; values = st.memories s } ∷ [])) st.mail }
 step p (Recv k r s) st = taken p r s (st.mail s r) st
@@ -183,6 +196,7 @@ abbrev pub steps_from : {F : Type 0} → Plan F → List Step → State F → St
 steps_from p [] st = st
 steps_from p (s ∷ l) st = cond (is_some st.stop) st (steps_from p l (step p s st))
 
+-- the machine after the list
 abbrev pub machine : {F : Type 0} → Plan F → List Step → State F
 machine p l = steps_from p l (start_state p)
 

@@ -6,12 +6,14 @@ use Rattle.schedule_model.specs.Cells.{Cell, DatCell, VarCell, Store}
 use Rattle.schedule_model.specs.Effects.{Ran, Class}
 use Rattle.schedule_model.specs.History.{stale_bit}
 
+-- what an item is
 pub data Kind : Type 0 where
   Free : Kind  -- a loop whose elements may run in any order
   Reduce : Kind  -- merges the partials of the Free item before it into their variables
   Ordered : Kind  -- a loop whose elements run one after another
   Host : Kind  -- a statement of the host program
 
+-- the item's elements may overlap
 abbrev pub is_free : Kind → Bool
 is_free Free = true
 is_free _ = false

@@ -9,6 +9,7 @@ use Rattle.schedule_steps.specs.Standard.{below, sends_of, receives_of, element_
 abbrev pub own_item : Outline → ℕ → ℕ → ℕ → List Step
 own_item o g r k = cond (o.is_free k) (sends_of o k r ++ (receives_of o k r ++ element_steps o g k r)) []
 
+-- a rank's own steps
 abbrev pub own : Outline → ℕ → ℕ → List Step
 own o g r = below (own_item o g r) o.items
 
@@ -55,6 +56,7 @@ abbrev pub turn_by : Outline → (ℕ → List Step) → (Step → Bool) → ℕ
 turn_by o rest m x k [] = cond (nat_lt k o.items) (JoinOf k) Over
 turn_by o rest m x k (c ∷ cs) = StepOf (picked (drawn_number x) (numbers (λ r. is_early k (rest r) && not (waits m (rest r))) o.ranks))
 
+-- the turn that comes where the ranks have rest left, m is taken and the last number drawn is x
 abbrev pub turn : Outline → (ℕ → List Step) → (Step → Bool) → ℕ → Turn
 turn o rest m x = turn_by o rest m x (next_join o m) (numbers (λ r. is_early (next_join o m) (rest r)) o.ranks)
 

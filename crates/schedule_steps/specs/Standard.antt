@@ -17,6 +17,7 @@ abbrev pub above : (ℕ → ℕ) → ℕ → ℕ
 above f zero = 0
 above f (suc n) = max (above f n) (suc (f n))
 
+-- one where the test holds
 abbrev pub one_if : Bool → ℕ
 one_if true = 1
 one_if false = 0
@@ -27,9 +28,11 @@ tally t zero = 0
 tally t (suc n) = tally t n + one_if (t n)
 
 module _ (o : Outline) where
+  -- the sends of rank s, by receiver
   abbrev pub sends_of : ℕ → ℕ → List Step
   sends_of k s = below (λ r. where_true (o.sends k s r) (Send k s r ∷ [])) o.ranks
 
+  -- the receives of rank r, by sender
   abbrev pub receives_of : ℕ → ℕ → List Step
   receives_of k r = below (λ s. where_true (o.sends k s r) (Recv k r s ∷ [])) o.ranks
 
@@ -41,6 +44,7 @@ module _ (o : Outline) where
   abbrev pub group_of : ℕ → ℕ → ℕ → ℕ → ℕ
   group_of g k r x = tally (is_member k r (o.block k r x) (o.colour k r x)) x / g
 
+  -- it is in run j of block b and colour c
   abbrev pub in_group : ℕ → ℕ → ℕ → ℕ → ℕ → ℕ → ℕ → Bool
   in_group g k r b c j x = is_member k r b c x && (group_of g k r x == j)
 
@@ -62,8 +66,10 @@ module _ (o : Outline) where
   abbrev pub element_steps : ℕ → ℕ → ℕ → List Step
   element_steps g k r = below (λ h. below (λ b. where_true (o.block_colour k r b == h) (block_steps g k r b)) (blocks k r)) (above (o.block_colour k r) (blocks k r))
 
+  -- the steps of an item
   abbrev pub item_steps : ℕ → ℕ → List Step
   item_steps g k = cond (o.is_free k) (below (sends_of k) o.ranks ++ (below (receives_of k) o.ranks ++ below (element_steps g k) o.ranks)) (Join k ∷ [])
 
+  -- the standard order
   abbrev pub standard : ℕ → List Step
   standard g = below (item_steps g) o.items

@@ -2,6 +2,7 @@
 use Rattle.std.specs.Prelude.{◌≡◌, ◌<◌, ℕ, Bool, true, false, ◌&&◌, ◌||◌, ◌==◌, List, [], ◌∷◌, ◌++◌}
 use Rattle.schedule_steps.specs.Outline.{Outline, Order, runs}
 
+-- one step of a schedule
 pub data Step : Type 0 where
   Send : ℕ → ℕ → ℕ → Step  -- item, sender, receiver
   Recv : ℕ → ℕ → ℕ → Step  -- item, receiver, sender
@@ -9,6 +10,7 @@ pub data Step : Type 0 where
   End : ℕ → ℕ → ℕ → Step  -- item, rank, element
   Join : ℕ → Step  -- item
 
+-- the item of a step
 abbrev pub item : Step → ℕ
 item (Send k s r) = k
 item (Recv k r s) = k
@@ -49,6 +51,7 @@ pub data Earlier (o : Outline) (before : Order) : Step → Step → Type 0 where
   begun : {k r e : ℕ} → Earlier o before (Begin k r e) (End k r e)
   coloured : {k r e f : ℕ} → before k r e f ≡ true → Earlier o before (End k r e) (Begin k r f)
 
+-- the two triples are one
 abbrev pub same3 : ℕ → ℕ → ℕ → ℕ → ℕ → ℕ → Bool
 same3 a b c x y z = (a == x) && ((b == y) && (c == z))
 
