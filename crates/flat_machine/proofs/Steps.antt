@@ -33,7 +33,7 @@ module _ {F : Type 0} (p : Plan F) (l : Layout F) (q : Fits p l) (f : Flat F) (a
 
   -- what is packed are the sender's values
   packed_is : (k s r : ℕ) → s < p.ranks → (c : Cell) → among (l.exports k s r) c ≡ true → packed p l f s c ≡ valued (a.memories s) c
-  packed_is k s r lt (Data c) i = let own : (is_cell p l c ≡ true) × (owner_of p c ≡ s) = q.exports_own k s r c i in read_is p l q f a h s c lt own.0 (inl own.1)
+  packed_is k s r lt (Data c) i = let own : (is_cell p l c ≡ true) × (owner_of p c ≡ s) = q.exports_own k s r c lt i in read_is p l q f a h s c lt own.0 (inl own.1)
   packed_is k s r lt (Variable v) i = refl
 
   send_same : (k s r : ℕ) → s < p.ranks → Same p l (flat_step p l (Send k s r) f) (step p (Send k s r) a)

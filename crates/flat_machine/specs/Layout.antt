@@ -90,7 +90,7 @@ module _ {F : Type 0} (p : Plan F) (l : Layout F) where
     pub host_sees : (k : ℕ) (s t : Store) → p.kind k ≡ Host → ((c : Cell) → Exists c → s c ≡ t c) → p.host k s ≡ p.host k t
     -- messages
     pub exported : (k s r : ℕ) (c : DatCell) → r < p.ranks → is_cell c ≡ true → arrives p k r s c ≡ true → among (l.exports k s r) (Data c) ≡ true
-    pub exports_own : (k s r : ℕ) (c : DatCell) → among (l.exports k s r) (Data c) ≡ true → (is_cell c ≡ true) × (owner_of p c ≡ s)
+    pub exports_own : (k s r : ℕ) (c : DatCell) → s < p.ranks → among (l.exports k s r) (Data c) ≡ true → (is_cell c ≡ true) × (owner_of p c ≡ s)
     -- places
     pub inside : (k r e : ℕ) → p.kind k ≡ Free → r < p.ranks → e < elements p k → executes p k r e ≡ true → (l.local k r e < l.count k r) × (l.original k r (l.local k r e) ≡ e)
     pub outside : (k r x : ℕ) → p.kind k ≡ Free → r < p.ranks → x < l.count k r → (l.original k r x < elements p k) × (executes p k r (l.original k r x) ≡ true) × (l.local k r (l.original k r x) ≡ x)

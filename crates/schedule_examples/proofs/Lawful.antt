@@ -10,18 +10,18 @@ use Rattle.schedule_model.specs.History.{ByHistory, exchanged_by_bit}
 use Rattle.schedule_model.specs.Effects.{Finished, Class, Untouched, Read, Written, Merged, is_read, is_modified, CellAlike, Alike, Independent}
 use Rattle.schedule_model.specs.Plan.{Free, Reduce, Ordered, is_free, owner_of, has_copy, executes}
 use Rattle.schedule_model.specs.Laws.{Reaches, Lawful, Coloured}
-use Rattle.schedule_examples.specs.Ring.{other, x, r, is_x, is_r, is_sum, kind, site, set, class, reduces, written, added, moved, unless, run, modifies, needs, sends, import_execute, core, ring}
+use Rattle.schedule_examples.specs.Ring.{other, x, r, is_x, is_r, is_sum, kind, site, set, class, reduces, written, added, moved, unless, run, modifies, needs, sends, import_execute, core, ring, kept_sum, sum}
 
 -- the law on the one bit
 abbrev pub OneBit : Type 0
 OneBit = (modifies needs exchanged : ℕ → Bool) → ByHistory modifies needs exchanged ↔ ((k : ℕ) → exchanged k ≡ exchanged_by_bit modifies needs k)
 
 -- ---- cells
-record OfNode (c : DatCell) (d : ℕ) : Type 0 where
-  of_dat : c.dat ≡ d
-  below : c.element < 2
+pub record OfNode (c : DatCell) (d : ℕ) : Type 0 where
+  pub of_dat : c.dat ≡ d
+  pub below : c.element < 2
 
-of_node : (c : DatCell) (d : ℕ) → ((c.dat == d) && (nat_lt c.element 2 && (c.component == 0))) ≡ true → OfNode c d
+pub of_node : (c : DatCell) (d : ℕ) → ((c.dat == d) && (nat_lt c.element 2 && (c.component == 0))) ≡ true → OfNode c d
 of_node c d h =
     let a : ((c.dat == d) ≡ true) × ((nat_lt c.element 2 && (c.component == 0)) ≡ true) = and_parts (c.dat == d) (nat_lt c.element 2 && (c.component == 0)) h in
     let b : (nat_lt c.element 2 ≡ true) × ((c.component == 0) ≡ true) = and_parts (nat_lt c.element 2) (c.component == 0) a.1 in
@@ -31,24 +31,24 @@ x_no_r : (c : DatCell) → is_x c ≡ true → is_r c ≡ false
 x_no_r c h = and_left (c.dat == 1) (nat_lt c.element 2 && (c.component == 0)) (ne_eqb c.dat 1 (λ e. let z : c.dat ≡ 0 = (of_node c 0 h).of_dat in omega arith))
 
 module _ (faulty : Bool) where
-  owner_in : (c : DatCell) → c.element < 2 → owner_of (ring faulty) c ≡ c.element
+  pub owner_in : (c : DatCell) → c.element < 2 → owner_of (ring faulty) c ≡ c.element
   owner_in c lt = cond-true (nat_lt c.element 2) c.element 0 (lt-ltb c.element 2 lt)
 
   owner_below : (c : DatCell) → owner_of (ring faulty) c < 2
   owner_below c = cond_both (nat_lt c.element 2) c.element 0 (λ z. z < 2) (λ t. ltb-true c.element 2 t) (λ t. omega arith)
 
   -- an import is the other rank's node
-  copy_is : (t : ℕ) (c : DatCell) → has_copy (ring faulty) t c ≡ true → (c.element < 2) × (c.element ≡ other t)
+  pub copy_is : (t : ℕ) (c : DatCell) → has_copy (ring faulty) t c ≡ true → (c.element < 2) × (c.element ≡ other t)
   copy_is t c h =
       let a : (nat_lt c.element 2 ≡ true) × ((false || (c.element == other t)) ≡ true) = and_parts (nat_lt c.element 2) (false || (c.element == other t)) h in
       (ltb-true c.element 2 a.0, eqb-true c.element (other t) a.1)
 
-  other_not : (t : ℕ) → t < 2 → other t ≡ t → ⊥
+  pub other_not : (t : ℕ) → t < 2 → other t ≡ t → ⊥
   other_not zero lt e = omega arith
   other_not (suc zero) lt e = omega arith
   other_not (suc (suc n)) lt e = omega arith
 
-  other_is : (t e : ℕ) → t < 2 → e < 2 → (e ≡ t → ⊥) → e ≡ other t
+  pub other_is : (t e : ℕ) → t < 2 → e < 2 → (e ≡ t → ⊥) → e ≡ other t
   other_is zero e lt le ne = omega arith
   other_is (suc zero) e lt le ne = omega arith
   other_is (suc (suc n)) e lt le ne = absurd (omega arith)
@@ -132,12 +132,12 @@ module _ (faulty : Bool) where
   is_written false h = absurd (false≢true h)
 
   -- the cell's node is the element
-  writes_own : (e : ℕ) (c : DatCell) → is_modified (class 0 e (Data c)) ≡ true → OfNode c 0 × (c.element ≡ e)
+  pub writes_own : (e : ℕ) (c : DatCell) → is_modified (class 0 e (Data c)) ≡ true → OfNode c 0 × (c.element ≡ e)
   writes_own e c h =
       let a : (is_x c ≡ true) × ((c.element == e) ≡ true) = and_parts (is_x c) (c.element == e) (is_written (is_x c && (c.element == e)) h) in
       (of_node c 0 a.0, eqb-true c.element e a.1)
 
-  is_merged : (b c : Bool) → is_modified (cond b Read (cond c (Merged Add) Untouched)) ≡ true → (b ≡ false) × (c ≡ true)
+  pub is_merged : (b c : Bool) → is_modified (cond b Read (cond c (Merged Add) Untouched)) ≡ true → (b ≡ false) × (c ≡ true)
   is_merged true c h = absurd (false≢true h)
   is_merged false true h = (refl, refl)
   is_merged false false h = absurd (false≢true h)
@@ -214,7 +214,7 @@ module _ (faulty : Bool) where
   imports_other : (t : ℕ) (c : DatCell) → t < 2 → has_copy (ring faulty) t c ≡ true → owner_of (ring faulty) c ≡ t → ⊥
   imports_other t c lt copy own = let a : (c.element < 2) × (c.element ≡ other t) = copy_is t c copy in other_not t lt (sym a.1 ∙ (sym (owner_in c a.0) ∙ own))
 
-  all_edges : (t e : ℕ) → t < 2 → e < 2 → executes (ring faulty) 1 t e ≡ true
+  pub all_edges : (t e : ℕ) → t < 2 → e < 2 → executes (ring faulty) 1 t e ≡ true
   all_edges t e lt le = ⊎_elim
       (λ (i : e ≡ t). or_left (e == t) (true && (e == other t)) (eq-eqb e t i))
       (λ (ne : e ≡ t → ⊥). or_right (e == t) (true && (e == other t)) (eq-eqb e (other t) (other_is t e lt le ne)))
@@ -273,7 +273,7 @@ module _ (faulty : Bool) where
   lawful bit = record {
     start_in_range = λ c. record { sfits = omega arith };
     run_in_range = good_run;
-    host_in_range = λ k s v o g h y. (let i : (λ z. s (Variable z)) ≡ v = cc in subst (λ f. FitsSigned w32 (f y)) i (g (Variable y)));
+    host_in_range = λ k s v o g h y. (let i : kept_sum s ≡ v = cc in subst (λ f. FitsSigned w32 (f y)) i (good_cond (is_sum y) (s sum) (pos 0) (λ t. g sum) (record { sfits = omega arith })));
     independent = independent;
     stays = stays;
     shares = shares;

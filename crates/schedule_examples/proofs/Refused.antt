@@ -2,7 +2,7 @@
 use Rattle.std.proofs.Common.{◌≡◌, false, refl, sym, ◌∙◌, arith, List, [], ◌∷◌, ◌++◌}
 use Rattle.std.proofs.lemmas.Bool.{false≢true}
 use Rattle.schedule_steps.specs.Outline.{Outline, by_colour}
-use Rattle.schedule_steps.specs.Steps.{Step, Send, Recv, Begin, End, Join, IsStep, Earlier, by_item, sent, received, begun, coloured, has, Accepted}
+use Rattle.schedule_steps.specs.Steps.{Step, Send, Recv, Begin, End, Join, IsStep, Earlier, by_item, sent, received, begun, coloured, has}
 use Rattle.schedule_model.specs.Plan.{outline}
 use Rattle.schedule_examples.specs.Ring.{ring}
 use Rattle.schedule_examples.specs.Lists.{Accepts, nodes, messages, edges_on_0, edges_on_1, joins, in_order, item_reversed, join_reversed, send_reversed, receive_reversed, end_reversed, colour_reversed, one_missing, one_twice, one_foreign}

@@ -108,6 +108,10 @@ run faulty zero e s = Finished (written e s)
 run faulty (suc zero) e s = unless faulty e (added s)
 run faulty (suc (suc n)) e s = Finished (moved e s)
 
+-- the host statement leaves the one variable
+abbrev pub kept_sum : Store → VarCell → ℤ
+kept_sum s v = cond (is_sum v) (s sum) (pos 0)
+
 -- prints the sum where it is a natural number
 abbrev pub digits : ℤ → List ℕ
 digits (pos n) = n ∷ []
@@ -159,7 +163,7 @@ ring faulty = record {
   set_of = λ d. 0;
   start = λ c. pos 0;
   run = run faulty;
-  host = λ k s. Goes (λ v. s (Variable v)) (digits (s sum));
+  host = λ k s. Goes (kept_sum s) (digits (s sum));
   class = class;
   reduces = reduces;
   modifies = modifies;

@@ -4,7 +4,10 @@ ghost use Rattle.schedule_steps.specs.Standard.{standard};
 ghost use Rattle.schedule_model.specs.Plan.{outline};
 ghost use Rattle.schedule_model.specs.Machine.{machine};
 ghost use Rattle.schedule_model.specs.Laws.{Lawful, Coloured};
+ghost use Rattle.flat_machine.specs.Layout.{Fits};
+ghost use Rattle.flat_machine.specs.Flat.{StartsFlat, flat_from};
 ghost use Rattle.schedule_examples.specs.Ring.{ring, x_cell, r_cell, sum_cell};
+ghost use Rattle.schedule_examples.specs.RingLayout.{ring_layout, ring_start, ring_places};
 ghost use Rattle.schedule_examples.specs.Lists.{Accepts, in_order, interleaved, item_reversed, join_reversed, send_reversed};
 ghost use Rattle.schedule_examples.specs.Lists.{receive_reversed, end_reversed, colour_reversed, one_missing, one_twice, one_foreign};
 
@@ -32,6 +35,16 @@ pub fn ring_runs()
 {
     schedule_steps::standard_is_accepted();
 }
+
+/// The ring's buffers are laid out as its plan says, and what the standard order by places with
+/// groups of 2 leaves in them: on each rank x of its own node and of the other's, and then r of them.
+pub fn ring_on_buffers()
+    ensures fits { (faulty : Bool) → Fits (ring faulty) (ring_layout faulty) }
+    ensures starts { (faulty : Bool) → StartsFlat (ring faulty) (ring_layout faulty) ring_start }
+    ensures memories { (flat_from (ring false) (ring_layout false) ring_places ring_start).memories
+        ≡ (pos 5 ∷ pos 2 ∷ pos 4 ∷ pos 2 ∷ []) ∷ (pos 4 ∷ pos 1 ∷ pos 2 ∷ pos 4 ∷ []) ∷ [] }
+    ensures variables { (flat_from (ring false) (ring_layout false) ring_places ring_start).variables ≡ pos 2 ∷ [] }
+{}
 
 /// For each rule a list that breaks it alone is refused, as are lists that lack a step, have one
 /// twice, or have one that is none of the plan's.
