@@ -5,10 +5,11 @@ use Rattle.std.specs.Int.{int_wrap}
 use Rattle.std.proofs.lemmas.Int.{SFits-int_wrap}
 use Rattle.std.proofs.lemmas.Bool.{cases_eq, cases_lt, false≢true, and_parts, and_from, and_left, and_right, or_left, or_right, cond-true, cond-false, cond_both, eqb-true, eq-eqb, ne_eqb, ltb-true, lt-ltb}
 use Rattle.reductions.specs.Reduction.{Reduction, Add}
+use Rattle.schedule_steps.specs.Outline.{by_colour}
 use Rattle.schedule_model.specs.Cells.{Cell, Data, Variable, DatCell, VarCell, Store, InRange}
 use Rattle.schedule_model.specs.History.{ByHistory, exchanged_by_bit}
 use Rattle.schedule_model.specs.Effects.{Finished, Class, Untouched, Read, Written, Merged, is_read, is_modified, CellAlike, Alike, Independent}
-use Rattle.schedule_model.specs.Plan.{Free, Reduce, Ordered, is_free, owner_of, has_copy, executes}
+use Rattle.schedule_model.specs.Plan.{Free, Reduce, Ordered, is_free, owner_of, has_copy, executes, outline}
 use Rattle.schedule_model.specs.Laws.{Reaches, Lawful, Coloured}
 use Rattle.schedule_examples.specs.Ring.{other, x, r, is_x, is_r, is_sum, kind, site, set, class, reduces, written, added, moved, unless, run, modifies, needs, sends, import_execute, core, ring, kept_sum, sum}
 
@@ -27,7 +28,7 @@ of_node c d h =
     let b : (nat_lt c.element 2 ≡ true) × ((c.component == 0) ≡ true) = and_parts (nat_lt c.element 2) (c.component == 0) a.1 in
     record { of_dat = eqb-true c.dat d a.0; below = ltb-true c.element 2 b.0 }
 
-x_no_r : (c : DatCell) → is_x c ≡ true → is_r c ≡ false
+pub x_no_r : (c : DatCell) → is_x c ≡ true → is_r c ≡ false
 x_no_r c h = and_left (c.dat == 1) (nat_lt c.element 2 && (c.component == 0)) (ne_eqb c.dat 1 (λ e. let z : c.dat ≡ 0 = (of_node c 0 h).of_dat in omega arith))
 
 module _ (faulty : Bool) where
@@ -259,7 +260,7 @@ module _ (faulty : Bool) where
   core_reads (suc (suc (suc zero))) t e c fr lt le ex h = cc
   core_reads (suc (suc (suc (suc n)))) t e c fr lt le ex h = cc
 
-  goes : (t : ℕ) → t < 2 → sends 1 (other t) t ≡ true
+  pub goes : (t : ℕ) → t < 2 → sends 1 (other t) t ≡ true
   goes zero lt = refl
   goes (suc zero) lt = refl
   goes (suc (suc n)) lt = absurd (omega arith)
@@ -300,8 +301,11 @@ module _ (faulty : Bool) where
   other_less (suc a) b la lb lt = absurd (omega arith)
 
   -- the greater element goes first
-  pub coloured : Coloured (ring faulty)
-  coloured k t a b c fr lt la lb xa xb ne wa wb = ⊎_elim
+  pub ordered : (k t a b : ℕ) → a < 2 → b < 2 → (a ≡ b → ⊥) → (by_colour (outline (ring faulty)) k t a b ≡ true) ⊎ (by_colour (outline (ring faulty)) k t b a ≡ true)
+  ordered k t a b la lb ne = ⊎_elim
       (λ (l : a < b). inr (or_left (nat_lt (other b) (other a)) ((b == a) && nat_lt 0 0) (other_less a b la lb l)))
       (λ (l : b ≤ a). inl (or_left (nat_lt (other a) (other b)) ((a == b) && nat_lt 0 0) (other_less b a lb la (let z : a ≡ b → ⊥ = ne in omega arith))))
       (cases_lt a b)
+
+  pub coloured : Coloured (ring faulty)
+  coloured k t a b c fr lt la lb xa xb ne wa wb = ordered k t a b la lb ne

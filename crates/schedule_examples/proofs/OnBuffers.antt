@@ -31,7 +31,7 @@ r_is c h =
     let i : c.component ≡ 0 = eqb-true c.component 0 (and_parts (nat_lt c.element 2) (c.component == 0) a.1).1 in
     λ j. record { dat = d j; element = c.element; component = i j }
 
-sum_is : (v : VarCell) → is_sum v ≡ true → v ≡ sum_cell
+pub sum_is : (v : VarCell) → is_sum v ≡ true → v ≡ sum_cell
 sum_is v h =
     let a : ((v.variable == 0) ≡ true) × ((v.component == 0) ≡ true) = and_parts (v.variable == 0) (v.component == 0) h in
     let d : v.variable ≡ 0 = eqb-true v.variable 0 a.0 in
@@ -174,7 +174,7 @@ module _ (faulty : Bool) where
       let i : c.component < 1 = ltb-true c.component 1 b.1 in
       record { dat = ltb-true c.dat 2 a.0; element = ltb-true c.element 2 b.0; component = omega arith }
 
-  below : (n : ℕ) → n < 2 → other n < 2
+  pub below : (n : ℕ) → n < 2 → other n < 2
   below n lt = two (λ n. other n < 2) (omega arith) (omega arith) n lt
 
   -- one of a list's cells
@@ -238,7 +238,7 @@ module _ (faulty : Bool) where
   modified_held (suc (suc (suc zero))) e c fr lt h = cc
   modified_held (suc (suc (suc (suc n)))) e c fr lt h = cc
 
-  sum_only : (b : Bool) (o : Reduction) → cond b (Some Add) None ≡ Some o → b ≡ true
+  pub sum_only : (b : Bool) (o : Reduction) → cond b (Some Add) None ≡ Some o → b ≡ true
   sum_only true o h = refl
   sum_only false o h = cc
 
@@ -322,7 +322,7 @@ module _ (faulty : Bool) where
   inside (suc (suc (suc zero))) t e fr lt le ex = absurd (false≢true (ap is_free fr))
   inside (suc (suc (suc (suc n)))) t e fr lt le ex = absurd (false≢true (ap is_free fr))
 
-  of_below : (t i : ℕ) → t < 2 → of_side t i < 2
+  pub of_below : (t i : ℕ) → t < 2 → of_side t i < 2
   of_below t zero lt = lt
   of_below t (suc i) lt = below t lt
 

@@ -4,6 +4,7 @@ ghost use Rattle.schedule_steps.specs.Standard.{standard};
 ghost use Rattle.schedule_model.specs.Plan.{outline};
 ghost use Rattle.schedule_model.specs.Machine.{machine};
 ghost use Rattle.schedule_model.specs.Laws.{Lawful, Coloured};
+ghost use Rattle.schedule_laws.specs.Loops.{Kernels, Items, Loops};
 ghost use Rattle.flat_machine.specs.Layout.{Fits};
 ghost use Rattle.flat_machine.specs.Flat.{StartsFlat, flat_from};
 ghost use Rattle.schedule_examples.specs.Ring.{ring, x_cell, r_cell, sum_cell};
@@ -16,6 +17,15 @@ ghost use Rattle.schedule_examples.specs.Lists.{receive_reversed, end_reversed, 
 pub fn ring_is_lawful()
     ensures lawful { (faulty : Bool) → Lawful (ring faulty) }
     ensures coloured { (faulty : Bool) → Coloured (ring faulty) }
+{
+    schedule_model::one_bit_is_the_history();
+}
+
+/// What the laws of plans ask of kernels, items, arguments, halos, exchanges and colours holds of it.
+pub fn ring_has_the_parts()
+    ensures kernels { (faulty : Bool) → Kernels (ring faulty) }
+    ensures items { (faulty : Bool) → Items (ring faulty) }
+    ensures loops { (faulty : Bool) → Loops (ring faulty) }
 {
     schedule_model::one_bit_is_the_history();
 }
