@@ -1,18 +1,17 @@
 -- What the laws of plans ask of the ring's arguments, halos, exchanges and colours.
-use Rattle.std.proofs.Common.{◌≡◌, ℕ, zero, suc, ◌<◌, Bool, true, false, cond, ◌⊎◌, inl, inr, refl, sym, ap, subst, ◌∙◌, arith, ⊎_elim, Option, Some, None}
+use Rattle.std.proofs.Common.{◌≡◌, ℕ, zero, suc, ◌<◌, Bool, true, false, cond, ◌⊎◌, inl, inr, refl, sym, ap, subst, ◌∙◌, arith, ⊎_elim, Some, None}
 use Rattle.std.specs.Prelude.{◌&&◌, ◌||◌, ◌==◌, nat_lt}
-use Rattle.std.proofs.lemmas.Bool.{cases_eq, cases_Bool, false≢true, false_from_ne_true, and_parts, and_from, and_left, or_left, or_right, or_cases, cond-true, cond-false, eqb-true, eq-eqb, ne_eqb, ltb-true, lt-ltb}
+use Rattle.std.proofs.lemmas.Bool.{cases_eq, false≢true, and_parts, and_from, or_left, or_right, or_cases, eqb-true, eq-eqb, ltb-true, lt-ltb}
 use Rattle.reductions.specs.Reduction.{Reduction, Add}
-use Rattle.schedule_model.specs.Cells.{Cell, Data, Variable, DatCell, VarCell}
+use Rattle.schedule_model.specs.Cells.{Data, Variable, DatCell, VarCell}
 use Rattle.schedule_model.specs.Effects.{Class, Untouched, Read, Written, Merged, is_modified}
-use Rattle.schedule_model.specs.Plan.{Plan, Kind, Free, is_free}
-use Rattle.schedule_model.specs.Laws.{Lawful}
-use Rattle.schedule_laws.specs.Arguments.{Access, OpRead, OpWrite, OpRw, OpReduce, Argument, Direct, Indirect, Global, access_of, modifying, reading, is_direct, is_on, reaches, joined, class_by}
+use Rattle.schedule_model.specs.Plan.{Free, is_free}
+use Rattle.schedule_laws.specs.Arguments.{Access, OpRead, OpWrite, OpReduce, Direct, Indirect, Global, access_of, modifying, reading, is_direct, is_on, joined, class_by}
 use Rattle.schedule_laws.specs.Loops.{Kernels, Items, Loops}
 use Rattle.schedule_examples.specs.Ring.{other, sum_cell, is_x, is_r, is_sum, kind, site, set, class, reduces, modifies, needs, sends, import_execute, import_nonexecute, core, ring}
 use Rattle.schedule_examples.specs.RingLayout.{of_side}
 use Rattle.schedule_examples.specs.RingArguments.{args, of_edges, arg, entry}
-use Rattle.schedule_examples.proofs.Lawful.{OneBit, OfNode, of_node, x_no_r, other_is, other_not, goes, ordered, lawful}
+use Rattle.schedule_examples.proofs.Lawful.{OneBit, of_node, x_no_r, other_is, other_not, goes, ordered, lawful}
 use Rattle.schedule_examples.proofs.OnBuffers.{sum_is, sum_only, below, of_below}
 
 abbrev one : ℕ → ℕ
@@ -219,7 +218,7 @@ module _ (faulty : Bool) where
     variable_class = λ k e v o fr lt h. variable_class k e v o fr h;
     constant_class = λ k e v fr lt. first_two (λ k. reduces (site k) v ≡ None → is_modified (class k e (Variable v)) ≡ false) (λ h. refl) (λ h. none_merged (is_sum v) h) k fr;
     free_is = λ k b d fr. first_two (λ k. b < args (site k) → is_on d (arg (site k) b) ≡ true → modifying (access_of (arg (site k) b)) ≡ true
-            → ((o : Reduction) × ((a : ℕ) → a < args (site k) → is_on d (arg (site k) a) ≡ true → access_of (arg (site k) a) ≡ OpReduce o)) ⊎ ((a : ℕ) → a < args (site k) → is_on d (arg (site k) a) ≡ true → is_direct (arg (site k) a) ≡ true))
+        → ((o : Reduction) × ((a : ℕ) → a < args (site k) → is_on d (arg (site k) a) ≡ true → access_of (arg (site k) a) ≡ OpReduce o)) ⊎ ((a : ℕ) → a < args (site k) → is_on d (arg (site k) a) ≡ true → is_direct (arg (site k) a) ≡ true))
         (λ lb on md. inr (λ a la u. refl))
         (λ lb on md. inl (Add, λ a la u. adds_r a (ap (λ z. is_on z (of_edges a)) (sym (modifies_r b d on md)) ∙ u))) k fr;
     modifies_is = λ k a d fr. first_two (λ k. a < args (site k) → is_on d (arg (site k) a) ≡ true → modifying (access_of (arg (site k) a)) ≡ true → modifies k d ≡ true)

@@ -3,4 +3,7 @@
 
 mod ring;
 
-pub use ring::{lists_are_refused, ring_has_the_parts, ring_is_lawful, ring_on_buffers, ring_runs};
+pub use ring::{
+    lists_are_refused, ring_has_the_parts, ring_is_lawful, ring_on_buffers, ring_runs,
+    ring_runs_as_sequential,
+};

@@ -1,8 +1,11 @@
 // The ring of two nodes and two edges, with and without faults.
-ghost use Rattle.std.specs.Prelude.{◌≡◌, Bool, true, false, pos, Some, None, [], ◌∷◌};
+ghost use Rattle.std.specs.Prelude.{◌≡◌, Bool, true, false, pos, Some, None, List, [], ◌∷◌};
 ghost use Rattle.schedule_steps.specs.Standard.{standard};
 ghost use Rattle.schedule_model.specs.Plan.{outline};
-ghost use Rattle.schedule_model.specs.Machine.{machine};
+ghost use Rattle.schedule_steps.specs.Outline.{by_colour};
+ghost use Rattle.schedule_steps.specs.Steps.{Step, Accepted};
+ghost use Rattle.schedule_model.specs.Sequential.{sequential};
+ghost use Rattle.schedule_model.specs.Machine.{machine, Agrees};
 ghost use Rattle.schedule_model.specs.Laws.{Lawful, Coloured};
 ghost use Rattle.schedule_laws.specs.Loops.{Kernels, Items, Loops};
 ghost use Rattle.flat_machine.specs.Layout.{Fits};
@@ -28,6 +31,15 @@ pub fn ring_has_the_parts()
     ensures loops { (faulty : Bool) → Loops (ring faulty) }
 {
     schedule_model::one_bit_is_the_history();
+}
+
+/// So each accepted schedule of the ring runs as its sequential run does.
+pub fn ring_runs_as_sequential()
+    ensures { (faulty : Bool) (l : List Step) → Accepted (outline (ring faulty)) (by_colour (outline (ring faulty))) l
+        → Agrees (ring faulty) (sequential (ring faulty)) (machine (ring faulty) l) }
+{
+    ring_is_lawful();
+    schedule_model::accepted_runs_as_sequential::<u32>();
 }
 
 /// The ring's standard order, and what the machine does with it: owners and variables have the
@@ -57,7 +69,8 @@ pub fn ring_on_buffers()
 {}
 
 /// For each rule a list that breaks it alone is refused, as are lists that lack a step, have one
-/// twice, or have one that is none of the plan's.
+/// twice, or have one that is none of the plan's. The machine would lose an amount where two edges
+/// overlap against their colours, and add a stale value where one begins before the message.
 pub fn lists_are_refused()
     ensures items { Accepts item_reversed → ⊥ }
     ensures joins { Accepts join_reversed → ⊥ }
@@ -68,4 +81,6 @@ pub fn lists_are_refused()
     ensures missing { Accepts one_missing → ⊥ }
     ensures twice { Accepts one_twice → ⊥ }
     ensures foreign { Accepts one_foreign → ⊥ }
+    ensures lost { (machine (ring false) colour_reversed).memories 0 (r_cell 0) ≡ pos 2 }
+    ensures too_early { (machine (ring false) receive_reversed).memories 0 (r_cell 0) ≡ pos 2 }
 {}

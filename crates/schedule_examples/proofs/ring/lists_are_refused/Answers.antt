@@ -1,3 +1,5 @@
+use Rattle.std.proofs.Common.{refl}
+use Rattle.std.specs.Int.{int_wrap}
 use Rattle.schedule_examples.proofs.Refused.{item_refused, join_refused, send_refused, receive_refused, end_refused, colour_refused, missing_refused, twice_refused, foreign_refused}
 use Rattle.schedule_examples.proofs.ring.lists_are_refused.Goals as goal
 
@@ -27,3 +29,11 @@ returns-clause-twice c = twice_refused
 
 pub returns-clause-foreign : goal.returns-clause-foreign
 returns-clause-foreign c = foreign_refused
+
+pub returns-clause-lost : goal.returns-clause-lost
+unfolding int_wrap
+returns-clause-lost c = refl
+
+pub returns-clause-too_early : goal.returns-clause-too_early
+unfolding int_wrap
+returns-clause-too_early c = refl
