@@ -48,6 +48,7 @@ pub fn ring_runs_as_sequential()
 pub fn ring_runs()
     ensures order { standard (outline (ring false)) 1 ≡ in_order }
     ensures accepted { Accepts in_order }
+    ensures overlapping { Accepts interleaved }
     ensures owned { (machine (ring false) in_order).memories 1 (x_cell 1) ≡ pos 4 }
     ensures stale { (machine (ring false) in_order).memories 0 (x_cell 1) ≡ pos 2 }
     ensures added { (machine (ring false) interleaved).memories 0 (r_cell 0) ≡ pos 4 }
@@ -56,6 +57,7 @@ pub fn ring_runs()
     ensures stopped { (machine (ring true) interleaved).stop ≡ Some (record { item = 1; element = Some 0; fault = 0 }) }
 {
     schedule_steps::standard_is_accepted();
+    schedule_steps::tests_decide();
 }
 
 /// The ring's buffers are laid out as its plan says, and what the standard order by places with

@@ -6,3 +6,4 @@ pub mod Picks
 pub mod Own
 pub mod Ready
 pub mod Drawn
+pub mod Judged

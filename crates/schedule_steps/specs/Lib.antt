@@ -4,3 +4,4 @@ pub mod Members
 pub mod Turns
 pub mod Standard
 pub mod Drawn
+pub mod Judged

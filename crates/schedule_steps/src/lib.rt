@@ -5,4 +5,5 @@ mod orders;
 
 pub use orders::{
     accepted_by_turns, drawn_exists, drawn_is_accepted, drawn_once, standard_is_accepted,
+    tests_decide,
 };

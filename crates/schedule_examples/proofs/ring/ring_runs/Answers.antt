@@ -2,6 +2,7 @@ use Rattle.std.proofs.Common.{refl, false}
 use Rattle.std.specs.Int.{int_wrap}
 use Rattle.schedule_model.specs.Plan.{outline}
 use Rattle.schedule_examples.specs.Ring.{ring}
+use Rattle.schedule_examples.specs.Lists.{interleaved}
 use Rattle.schedule_examples.proofs.ring.ring_runs.Goals as goal
 
 pub returns-clause-order : goal.returns-clause-order
@@ -32,3 +33,6 @@ returns-clause-printed c = refl
 
 pub returns-clause-stopped : goal.returns-clause-stopped
 returns-clause-stopped c = refl
+
+pub returns-clause-overlapping : goal.returns-clause-overlapping
+returns-clause-overlapping c = (c.tests_decide.ensures.accepted (outline (ring false)) interleaved).0 refl
