@@ -5,7 +5,7 @@ use Rattle.std.proofs.lemmas.Bool.{false≢true, false_from_ne_true, or_cases, o
 use Rattle.schedule_steps.specs.Outline.{by_colour}
 use Rattle.schedule_steps.specs.Steps.{Step, Send, Recv, Begin, End, Join, item, IsOf, IsStep, Earlier, by_item, sent, sent_first, received, begun, coloured, same, has, Accepted}
 use Rattle.schedule_steps.specs.Members.{same_true, same_refl, has_at}
-use Rattle.schedule_model.specs.Plan.{Plan, Kind, Free, Reduce, Ordered, Host, is_free, elements, executes, outline}
+use Rattle.schedule_model.specs.Plan.{Plan, Free, elements, executes, outline}
 use Rattle.flat_machine.specs.Layout.{Layout, Fits, by_place}
 use Rattle.schedule_model.specs.Tests.{free_kind}
 

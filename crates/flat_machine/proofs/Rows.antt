@@ -1,8 +1,7 @@
 -- Lists by index, and values by cell.
 use Rattle.std.proofs.Common.{◌≡◌, ℕ, ℤ, zero, suc, ◌+◌, ◌<◌, true, false, refl, sym, ap, ◌∙◌, arith, ⊎_elim, List, [], ◌∷◌, map, length, get_or, add-zero}
-use Rattle.std.specs.Prelude.{◌&&◌, ◌==◌}
-use Rattle.std.proofs.lemmas.Bool.{cases_Bool, false≢true, or_cases, or_left, or_right, and_parts, and_from, cond-true, cond-false, eqb-true, eq-eqb}
-use Rattle.schedule_model.specs.Cells.{Cell, Data, Variable, same_cell}
+use Rattle.std.proofs.lemmas.Bool.{cases_Bool, false≢true, or_cases, or_left, or_right, cond-true, cond-false}
+use Rattle.schedule_model.specs.Cells.{Cell, same_cell}
 use Rattle.flat_machine.specs.Layout.{lookup, among}
 use Rattle.flat_machine.specs.Flat.{updated, updated_rows}
 use Rattle.schedule_model.specs.Tests.{same_cell_refl, same_cell_true}

@@ -9,32 +9,32 @@ use Rattle.flat_machine.specs.Layout.{Layout, Fits, lookup, among, is_cell, IsVa
 use Rattle.flat_machine.specs.Flat.{Pane, Shut_pane, Broken_pane, Windows, Post, Flat, updated, updated_rows, change, read, variable}
 use Rattle.flat_machine.proofs.Rows.{updated_at, updated_length, rows_length, rows_at}
 
-abbrev pub Pane_same : {F : Type 0} → Layout F → ℕ → ℕ → Pane → Frame → Type 0
-Pane_same l k e Shut_pane Shut = Unit {0}
-Pane_same l k e Broken_pane Broken = Unit {0}
-Pane_same l k e (Windows ws) (Holds t) = (c : Cell) (d : ℤ) → among (l.cells k e) c ≡ true → t c ≡ lookup (l.cells k e) ws c d
-Pane_same l k e Shut_pane Broken = ⊥
-Pane_same l k e Shut_pane (Holds t) = ⊥
-Pane_same l k e Broken_pane Shut = ⊥
-Pane_same l k e Broken_pane (Holds t) = ⊥
-Pane_same l k e (Windows ws) Shut = ⊥
-Pane_same l k e (Windows ws) Broken = ⊥
+abbrev pub PaneSame : {F : Type 0} → Layout F → ℕ → ℕ → Pane → Frame → Type 0
+PaneSame l k e Shut_pane Shut = Unit {0}
+PaneSame l k e Broken_pane Broken = Unit {0}
+PaneSame l k e (Windows ws) (Holds t) = (c : Cell) (d : ℤ) → among (l.cells k e) c ≡ true → t c ≡ lookup (l.cells k e) ws c d
+PaneSame l k e Shut_pane Broken = ⊥
+PaneSame l k e Shut_pane (Holds t) = ⊥
+PaneSame l k e Broken_pane Shut = ⊥
+PaneSame l k e Broken_pane (Holds t) = ⊥
+PaneSame l k e (Windows ws) Shut = ⊥
+PaneSame l k e (Windows ws) Broken = ⊥
 
 -- the values of a message, by cell; a variable is in none
 abbrev pub valued : (DatCell → ℤ) → Cell → ℤ
 valued h (Data c) = h c
 valued h (Variable v) = pos 0
 
-abbrev pub Post_same : {F : Type 0} → Layout F → ℕ → ℕ → Post → Message → Type 0
-Post_same l s r x y = (x.about ≡ y.about) × (x.values ≡ map (valued y.values) (l.exports x.about s r))
+abbrev pub PostSame : {F : Type 0} → Layout F → ℕ → ℕ → Post → Message → Type 0
+PostSame l s r x y = (x.about ≡ y.about) × (x.values ≡ map (valued y.values) (l.exports x.about s r))
 
-abbrev pub Posts_same : {F : Type 0} → Layout F → ℕ → ℕ → List Post → List Message → Type 0
-Posts_same l s r [] [] = Unit {0}
-Posts_same l s r [] (y ∷ ys) = ⊥
-Posts_same l s r (x ∷ xs) [] = ⊥
-Posts_same l s r (x ∷ xs) (y ∷ ys) = Post_same l s r x y × Posts_same l s r xs ys
+abbrev pub PostsSame : {F : Type 0} → Layout F → ℕ → ℕ → List Post → List Message → Type 0
+PostsSame l s r [] [] = Unit {0}
+PostsSame l s r [] (y ∷ ys) = ⊥
+PostsSame l s r (x ∷ xs) [] = ⊥
+PostsSame l s r (x ∷ xs) (y ∷ ys) = PostSame l s r x y × PostsSame l s r xs ys
 
-pub posts_push : {F : Type 0} (l : Layout F) (s r : ℕ) (xs : List Post) (ys : List Message) (x : Post) (y : Message) → Posts_same l s r xs ys → Post_same l s r x y → Posts_same l s r (xs ++ (x ∷ [])) (ys ++ (y ∷ []))
+pub posts_push : {F : Type 0} (l : Layout F) (s r : ℕ) (xs : List Post) (ys : List Message) (x : Post) (y : Message) → PostsSame l s r xs ys → PostSame l s r x y → PostsSame l s r (xs ++ (x ∷ [])) (ys ++ (y ∷ []))
 posts_push l s r [] [] x y h new = (new, tt)
 posts_push l s r [] (b ∷ ys) x y h new = absurd h
 posts_push l s r (a ∷ xs) [] x y h new = absurd h
@@ -55,8 +55,8 @@ pub record Same {F : Type 0} (p : Plan F) (l : Layout F) (f : Flat F) (a : State
   pub memories : Copies p l f.memories a.memories
   pub variables : Values l f.variables a.variables
   pub partials : (r s : ℕ) (v : VarCell) → f.partials r s v ≡ a.partials r s v
-  pub mail : (s r : ℕ) → Posts_same l s r (f.mail s r) (a.mail s r)
-  pub panes : (k r x : ℕ) → p.kind k ≡ Free → r < p.ranks → x < l.count k r → Pane_same l k (l.original k r x) (f.panes k r x) (a.frames k r (l.original k r x))
+  pub mail : (s r : ℕ) → PostsSame l s r (f.mail s r) (a.mail s r)
+  pub panes : (k r x : ℕ) → p.kind k ≡ Free → r < p.ranks → x < l.count k r → PaneSame l k (l.original k r x) (f.panes k r x) (a.frames k r (l.original k r x))
   pub faults : f.faults ≡ a.faults
   pub output : f.output ≡ a.output
   pub stop : f.stop ≡ a.stop

@@ -13,22 +13,22 @@ use Rattle.flat_machine.specs.Layout.{Core, Faults, Leaves, Layout, Fits, lookup
 use Rattle.flat_machine.specs.Flat.{Pane, Shut_pane, Broken_pane, Windows, Post, Flat, window, packed, take_post, open_pane, close_pane, flat_step}
 use Rattle.flat_machine.proofs.Rows.{lookup_map, lookup_any, map_same, map_length}
 use Rattle.flat_machine.proofs.Places.{to_element, place_runs}
-use Rattle.flat_machine.proofs.Same.{Pane_same, valued, Post_same, Posts_same, posts_push, Same, changed, read_is, variable_is}
+use Rattle.flat_machine.proofs.Same.{PaneSame, valued, PostSame, PostsSame, posts_push, Same, changed, read_is, variable_is}
 use Rattle.schedule_model.specs.Tests.{free_kind}
 
 module _ {F : Type 0} (p : Plan F) (l : Layout F) (q : Fits p l) (f : Flat F) (a : State F) (h : Same p l f a) where
   -- ---- messages
   -- one queue changes alike
-  mail_put : (s r : ℕ) (xs : List Post) (ys : List Message) → Posts_same l s r xs ys → (s1 r1 : ℕ) → Posts_same l s1 r1 (put2 s r xs f.mail s1 r1) (put2 s r ys a.mail s1 r1)
+  mail_put : (s r : ℕ) (xs : List Post) (ys : List Message) → PostsSame l s r xs ys → (s1 r1 : ℕ) → PostsSame l s1 r1 (put2 s r xs f.mail s1 r1) (put2 s r ys a.mail s1 r1)
   mail_put s r xs ys new s1 r1 = ⊎_elim
       (λ (t : ((s1 == s) && (r1 == r)) ≡ true).
       let e : ((s1 == s) ≡ true) × ((r1 == r) ≡ true) = and_parts (s1 == s) (r1 == r) t in
-      subst (λ z. Posts_same l s1 r1 z (put2 s r ys a.mail s1 r1)) (sym (cond-true ((s1 == s) && (r1 == r)) xs (f.mail s1 r1) t))
-      (subst (λ z. Posts_same l s1 r1 xs z) (sym (cond-true ((s1 == s) && (r1 == r)) ys (a.mail s1 r1) t))
-      (subst (λ z. Posts_same l z r1 xs ys) (sym (eqb-true s1 s e.0)) (subst (λ z. Posts_same l s z xs ys) (sym (eqb-true r1 r e.1)) new))))
+      subst (λ z. PostsSame l s1 r1 z (put2 s r ys a.mail s1 r1)) (sym (cond-true ((s1 == s) && (r1 == r)) xs (f.mail s1 r1) t))
+      (subst (λ z. PostsSame l s1 r1 xs z) (sym (cond-true ((s1 == s) && (r1 == r)) ys (a.mail s1 r1) t))
+      (subst (λ z. PostsSame l z r1 xs ys) (sym (eqb-true s1 s e.0)) (subst (λ z. PostsSame l s z xs ys) (sym (eqb-true r1 r e.1)) new))))
       (λ (t : ((s1 == s) && (r1 == r)) ≡ false).
-      subst (λ z. Posts_same l s1 r1 z (put2 s r ys a.mail s1 r1)) (sym (cond-false ((s1 == s) && (r1 == r)) xs (f.mail s1 r1) t))
-      (subst (λ z. Posts_same l s1 r1 (f.mail s1 r1) z) (sym (cond-false ((s1 == s) && (r1 == r)) ys (a.mail s1 r1) t)) (h.mail s1 r1)))
+      subst (λ z. PostsSame l s1 r1 z (put2 s r ys a.mail s1 r1)) (sym (cond-false ((s1 == s) && (r1 == r)) xs (f.mail s1 r1) t))
+      (subst (λ z. PostsSame l s1 r1 (f.mail s1 r1) z) (sym (cond-false ((s1 == s) && (r1 == r)) ys (a.mail s1 r1) t)) (h.mail s1 r1)))
       (cases_Bool ((s1 == s) && (r1 == r)))
 
   -- what is packed are the sender's values
@@ -50,7 +50,7 @@ module _ {F : Type 0} (p : Plan F) (l : Layout F) (q : Fits p l) (f : Flat F) (a
     stop = h.stop;
   }
 
-  deliver_same : (r s : ℕ) → r < p.ranks → (x : Post) (xs : List Post) (y : Message) (ys : List Message) → Post_same l s r x y → Posts_same l s r xs ys → Same p l (take_post p l r s (x ∷ xs) f) (delivered p x.about r s y ys a)
+  deliver_same : (r s : ℕ) → r < p.ranks → (x : Post) (xs : List Post) (y : Message) (ys : List Message) → PostSame l s r x y → PostsSame l s r xs ys → Same p l (take_post p l r s (x ∷ xs) f) (delivered p x.about r s y ys a)
   deliver_same r s lt x xs y ys one rest = record {
     memories = changed p l f.memories a.memories r (λ c v. cond (arrives p x.about r s c) (lookup (l.exports x.about s r) x.values (Data c) v) v) (λ c. cond (arrives p x.about r s c) (y.values c) (a.memories r c)) h.memories lt
         (λ i il. ⊎_elim
@@ -72,7 +72,7 @@ module _ {F : Type 0} (p : Plan F) (l : Layout F) (q : Fits p l) (f : Flat F) (a
     stop = h.stop;
   }
 
-  taken_same : (r s : ℕ) → r < p.ranks → (xs : List Post) (ys : List Message) → Posts_same l s r xs ys → Same p l (take_post p l r s xs f) (taken p r s ys a)
+  taken_same : (r s : ℕ) → r < p.ranks → (xs : List Post) (ys : List Message) → PostsSame l s r xs ys → Same p l (take_post p l r s xs f) (taken p r s ys a)
   taken_same r s lt [] [] m = h
   taken_same r s lt [] (y ∷ ys) m = absurd m
   taken_same r s lt (x ∷ xs) [] m = absurd m
@@ -90,23 +90,23 @@ module _ {F : Type 0} (p : Plan F) (l : Layout F) (q : Fits p l) (f : Flat F) (a
   windows k r e fr lr lt ex = map_same (window p l f k r) (view p k r a) (l.cells k e) (window_is k r e fr lr lt ex)
 
   -- one frame changes alike
-  panes_put : (k r x : ℕ) (b : Pane) (c : Frame) → p.kind k ≡ Free → r < p.ranks → x < l.count k r → Pane_same l k (l.original k r x) b c
-      → (k1 r1 x1 : ℕ) → p.kind k1 ≡ Free → r1 < p.ranks → x1 < l.count k1 r1 → Pane_same l k1 (l.original k1 r1 x1) (put3 k r x b f.panes k1 r1 x1) (put3 k r (l.original k r x) c a.frames k1 r1 (l.original k1 r1 x1))
+  panes_put : (k r x : ℕ) (b : Pane) (c : Frame) → p.kind k ≡ Free → r < p.ranks → x < l.count k r → PaneSame l k (l.original k r x) b c
+      → (k1 r1 x1 : ℕ) → p.kind k1 ≡ Free → r1 < p.ranks → x1 < l.count k1 r1 → PaneSame l k1 (l.original k1 r1 x1) (put3 k r x b f.panes k1 r1 x1) (put3 k r (l.original k r x) c a.frames k1 r1 (l.original k1 r1 x1))
   panes_put k r x b c fr lr lt new k1 r1 x1 fr1 lr1 lt1 = ⊎_elim
       (λ (y : same3 k1 r1 x1 k r x ≡ true).
       let e : (k1 ≡ k) × (r1 ≡ r) × (x1 ≡ x) = same3_true k1 r1 x1 k r x y in
       let o : l.original k1 r1 x1 ≡ l.original k r x = ap (λ z. l.original z r1 x1) e.0 ∙ (ap (λ z. l.original k z x1) e.1 ∙ ap (l.original k r) e.2) in
       let both : same3 k1 r1 (l.original k1 r1 x1) k r (l.original k r x) ≡ true = and_from (k1 == k) ((r1 == r) && (l.original k1 r1 x1 == l.original k r x)) (eq-eqb k1 k e.0) (and_from (r1 == r) (l.original k1 r1 x1 == l.original k r x) (eq-eqb r1 r e.1) (eq-eqb (l.original k1 r1 x1) (l.original k r x) o)) in
-      subst (λ z. Pane_same l k1 (l.original k1 r1 x1) z (put3 k r (l.original k r x) c a.frames k1 r1 (l.original k1 r1 x1))) (sym (cond-true (same3 k1 r1 x1 k r x) b (f.panes k1 r1 x1) y))
-      (subst (λ z. Pane_same l k1 (l.original k1 r1 x1) b z) (sym (cond-true (same3 k1 r1 (l.original k1 r1 x1) k r (l.original k r x)) c (a.frames k1 r1 (l.original k1 r1 x1)) both))
-      (subst (λ z. Pane_same l z (l.original k1 r1 x1) b c) (sym e.0) (subst (λ z. Pane_same l k z b c) (sym o) new))))
+      subst (λ z. PaneSame l k1 (l.original k1 r1 x1) z (put3 k r (l.original k r x) c a.frames k1 r1 (l.original k1 r1 x1))) (sym (cond-true (same3 k1 r1 x1 k r x) b (f.panes k1 r1 x1) y))
+      (subst (λ z. PaneSame l k1 (l.original k1 r1 x1) b z) (sym (cond-true (same3 k1 r1 (l.original k1 r1 x1) k r (l.original k r x)) c (a.frames k1 r1 (l.original k1 r1 x1)) both))
+      (subst (λ z. PaneSame l z (l.original k1 r1 x1) b c) (sym e.0) (subst (λ z. PaneSame l k z b c) (sym o) new))))
       (λ (y : same3 k1 r1 x1 k r x ≡ false).
       let neither : same3 k1 r1 (l.original k1 r1 x1) k r (l.original k r x) ≡ false = false_from_ne_true (same3 k1 r1 (l.original k1 r1 x1) k r (l.original k r x)) (λ t.
       let e : (k1 ≡ k) × (r1 ≡ r) × (l.original k1 r1 x1 ≡ l.original k r x) = same3_true k1 r1 (l.original k1 r1 x1) k r (l.original k r x) t in
       let i : x1 ≡ x = sym (q.outside k1 r1 x1 fr1 lr1 lt1).2 ∙ (ap (λ z. l.local z r1 (l.original k1 r1 x1)) e.0 ∙ (ap (λ z. l.local k z (l.original k1 r1 x1)) e.1 ∙ (ap (l.local k r) e.2 ∙ (q.outside k r x fr lr lt).2))) in
       false≢true (sym y ∙ and_from (k1 == k) ((r1 == r) && (x1 == x)) (eq-eqb k1 k e.0) (and_from (r1 == r) (x1 == x) (eq-eqb r1 r e.1) (eq-eqb x1 x i)))) in
-      subst (λ z. Pane_same l k1 (l.original k1 r1 x1) z (put3 k r (l.original k r x) c a.frames k1 r1 (l.original k1 r1 x1))) (sym (cond-false (same3 k1 r1 x1 k r x) b (f.panes k1 r1 x1) y))
-      (subst (λ z. Pane_same l k1 (l.original k1 r1 x1) (f.panes k1 r1 x1) z) (sym (cond-false (same3 k1 r1 (l.original k1 r1 x1) k r (l.original k r x)) c (a.frames k1 r1 (l.original k1 r1 x1)) neither)) (h.panes k1 r1 x1 fr1 lr1 lt1)))
+      subst (λ z. PaneSame l k1 (l.original k1 r1 x1) z (put3 k r (l.original k r x) c a.frames k1 r1 (l.original k1 r1 x1))) (sym (cond-false (same3 k1 r1 x1 k r x) b (f.panes k1 r1 x1) y))
+      (subst (λ z. PaneSame l k1 (l.original k1 r1 x1) (f.panes k1 r1 x1) z) (sym (cond-false (same3 k1 r1 (l.original k1 r1 x1) k r (l.original k r x)) c (a.frames k1 r1 (l.original k1 r1 x1)) neither)) (h.panes k1 r1 x1 fr1 lr1 lt1)))
       (cases_Bool (same3 k1 r1 x1 k r x))
 
   opened_same : (k r x : ℕ) → p.kind k ≡ Free → r < p.ranks → x < l.count k r → (b : Core F) → ((ws : List ℤ) → b ≡ Leaves ws → length ws ≡ length (l.cells k (l.original k r x))) → Same p l (open_pane p l k r x b f) (opened k r (l.original k r x) (of_core (l.cells k (l.original k r x)) (view p k r a) b) a)
@@ -207,7 +207,7 @@ module _ {F : Type 0} (p : Plan F) (l : Layout F) (q : Fits p l) (f : Flat F) (a
       stop = h.stop;
     }
 
-  closed_same : (k r x : ℕ) → p.kind k ≡ Free → r < p.ranks → x < l.count k r → (b : Pane) (c : Frame) → Pane_same l k (l.original k r x) b c → Same p l (close_pane p l k r x (l.original k r x) b f) (closed p k r (l.original k r x) c a)
+  closed_same : (k r x : ℕ) → p.kind k ≡ Free → r < p.ranks → x < l.count k r → (b : Pane) (c : Frame) → PaneSame l k (l.original k r x) b c → Same p l (close_pane p l k r x (l.original k r x) b f) (closed p k r (l.original k r x) c a)
   closed_same k r x fr lr lt Shut_pane Shut m = shut_same k r x fr lr lt
   closed_same k r x fr lr lt Broken_pane Broken m = shut_same k r x fr lr lt
   closed_same k r x fr lr lt Shut_pane Broken m = absurd m

@@ -11,7 +11,7 @@ use Rattle.schedule_model.specs.Laws.{Lawful, Coloured}
 use Rattle.flat_machine.specs.Layout.{Layout, Fits, by_place}
 use Rattle.flat_machine.specs.Flat.{Flat, flat_step, flat_from, StartsFlat, AgreesFlat}
 use Rattle.flat_machine.proofs.Places.{to_element, accepted_elements}
-use Rattle.flat_machine.proofs.Same.{Pane_same, Posts_same, Same, read_is}
+use Rattle.flat_machine.proofs.Same.{PaneSame, PostsSame, Same, read_is}
 use Rattle.flat_machine.proofs.Steps.{send_goes, recv_goes, begin_goes, end_goes}
 use Rattle.flat_machine.proofs.Joins.{Owners, join_goes}
 
@@ -52,8 +52,8 @@ module _ {F : Type 0} (p : Plan F) (w : Lawful p) (l : Layout F) (q : Fits p l) 
     memories = record { wide = s.ranks; widths = s.widths; copies = λ r i rl il. s.values r i rl il };
     variables = record { wide = s.count; values = s.variables };
     partials = s.partials;
-    mail = λ a b. subst (λ z. Posts_same l a b z []) (sym (s.mail a b)) tt;
-    panes = λ k r x fr lr lt. subst (λ z. Pane_same l k (l.original k r x) z Shut) (sym (s.panes k r x)) tt;
+    mail = λ a b. subst (λ z. PostsSame l a b z []) (sym (s.mail a b)) tt;
+    panes = λ k r x fr lr lt. subst (λ z. PaneSame l k (l.original k r x) z Shut) (sym (s.panes k r x)) tt;
     faults = s.faults;
     output = s.output;
     stop = s.stop;

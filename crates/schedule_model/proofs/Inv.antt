@@ -8,7 +8,7 @@ use Rattle.schedule_model.specs.Plan.{Plan, Free, elements, owner_of, outline}
 use Rattle.schedule_model.specs.Sequential.{Stop, seq}
 use Rattle.schedule_model.specs.Machine.{Message, State, put1}
 use Rattle.schedule_model.proofs.Law.{Law, fault}
-use Rattle.schedule_model.proofs.Sequence.{is_going, W}
+use Rattle.schedule_model.proofs.Sequence.{is_going, store_at}
 use Rattle.schedule_model.proofs.Marks.{mark, mark_else, Ready, Proper, stands_other, waiting, pending}
 use Rattle.schedule_model.proofs.Least.{Each, Member}
 use Rattle.schedule_model.proofs.Range.{Sane}
@@ -16,11 +16,11 @@ use Rattle.schedule_model.proofs.Facts.{says_other, At, stand_at}
 
 -- the fault is that of an element of a Free item
 abbrev pub Recorded : {F : Type 0} → Plan F → Stop F → Type 0
-Recorded p x = is_going (seq p x.item) ≡ true → (e : ℕ) × (x.element ≡ Some e) × (e < elements p x.item) × (fault p x.item e (W p x.item) ≡ Some x.fault) × (p.kind x.item ≡ Free)
+Recorded p x = is_going (seq p x.item) ≡ true → (e : ℕ) × (x.element ≡ Some e) × (e < elements p x.item) × (fault p x.item e (store_at p x.item) ≡ Some x.fault) × (p.kind x.item ≡ Free)
 
 -- the message holds its sender's cells as they were before its item
 abbrev pub Letter : {F : Type 0} → Plan F → ℕ → Message → Type 0
-Letter p s x = is_going (seq p x.about) ≡ true → (c : DatCell) → owner_of p c ≡ s → x.values c ≡ W p x.about (Data c)
+Letter p s x = is_going (seq p x.about) ≡ true → (c : DatCell) → owner_of p c ≡ s → x.values c ≡ store_at p x.about (Data c)
 
 abbrev pub Letters : {F : Type 0} → Plan F → ℕ → List Message → Type 0
 Letters p s [] = Unit {0}
@@ -45,7 +45,7 @@ pub record Inv {F : Type 0} (p : Plan F) (m : Step → Bool) (st : State F) : Ty
   pub queues : (s r : ℕ) → abouts (st.mail s r) ≡ pending (waiting m s r) p.items
   pub letters : (s r : ℕ) → Letters p s (st.mail s r)
   pub recorded : Each (Recorded p) st.faults
-  pub kept : (k r e : ℕ) (f : F) → m (Begin k r e) ≡ true → is_going (seq p k) ≡ true → fault p k e (W p k) ≡ Some f → Member (record { item = k; element = Some e; fault = f }) st.faults
+  pub kept : (k r e : ℕ) (f : F) → m (Begin k r e) ≡ true → is_going (seq p k) ≡ true → fault p k e (store_at p k) ≡ Some f → Member (record { item = k; element = Some e; fault = f }) st.faults
   pub went : (j : ℕ) → m (Join j) ≡ true → is_going (seq p (suc j)) ≡ true
   pub ranks : (r : ℕ) → r < p.ranks → (k : ℕ) × At p m st r k
 

@@ -10,12 +10,12 @@ use Rattle.schedule_model.specs.Sequential.{Broke, Ran_through, loop, Going, wit
 use Rattle.schedule_model.specs.Machine.{State, unit_at, merge_at, merged_from, reduced, gathered, spread, looped, hosted, done, joined, step}
 use Rattle.schedule_model.proofs.Fold.{folded, folded_none, folded_same, folded_union, folded_merge}
 use Rattle.schedule_model.proofs.Law.{Law, effect, commutes, merge_unit, merge_amount, no_needs, owner_below}
-use Rattle.schedule_model.proofs.Sequence.{store_of, output_of, is_going, W, ran_stays, good_store, Free_case, was_over, goes_on, ends, free_case, Join_case, was_over_join, reduces_join, runs_join, breaks_join, goes_join, halts_join, join_case}
+use Rattle.schedule_model.proofs.Sequence.{store_of, output_of, is_going, store_at, ran_stays, good_store, FreeCase, was_over, goes_on, ends, free_case, JoinCase, was_over_join, reduces_join, runs_join, breaks_join, goes_join, halts_join, join_case}
 use Rattle.schedule_model.proofs.Marks.{mark, mark_self, mark_old, mark_true, mark_else, Ready, proper_more, Stands}
 use Rattle.schedule_model.proofs.Range.{Sane, Good, good_reduced, good_looped, good_hosted, good_merged, good_gathered}
 use Rattle.schedule_model.proofs.Sequence.{GoodLoop, good_loop}
 use Rattle.schedule_model.proofs.Least.{Each, Member}
-use Rattle.schedule_model.proofs.Facts.{Fresh, own, clean, came, Value, is_reduce, source, source_self, source_reduce, Part_at, is_merging, part_here, part_else, part_none, At}
+use Rattle.schedule_model.proofs.Facts.{Fresh, own, clean, came, value_at, is_reduce, source, source_self, source_reduce, part_at, is_merging, part_here, part_else, part_none, At}
 use Rattle.schedule_model.proofs.Inv.{Inv, Letters, abouts, at_item}
 use Rattle.schedule_model.proofs.Stops.{Halted, halts_at, going_down, ended_at, none_recorded, fault_case}
 use Rattle.schedule_model.specs.Tests.{not_free}
@@ -39,17 +39,17 @@ module _ {F : Type 0} (p : Plan F) (q : Law p) (m : Step → Bool) (st : State F
       false≢true (sym joins ∙ plan.1))
 
   -- a fresh cell has its value, since no element is of this item
-  fresh_value : is_going (seq p k) ≡ true → (r : ℕ) → r < p.ranks → (c : DatCell) → Fresh p m r k c → st.memories r c ≡ W p k (Data c)
+  fresh_value : is_going (seq p k) ≡ true → (r : ℕ) → r < p.ranks → (c : DatCell) → Fresh p m r k c → st.memories r c ≡ store_at p k (Data c)
   fresh_value g r lt c f =
       (here r lt).says.cells g c f
-      ∙ folded_none (elements p k) (λ a. m (End k r a)) (λ a. effect p k a (W p k) (Data c)) (W p k (Data c)) (λ a le. inl (no_end r a))
+      ∙ folded_none (elements p k) (λ a. m (End k r a)) (λ a. effect p k a (store_at p k) (Data c)) (store_at p k (Data c)) (λ a le. inl (no_end r a))
 
   -- the owners' copies and the variables
-  gathered_at : is_reduce (p.kind k) ≡ false → is_going (seq p k) ≡ true → (c : Cell) → gathered p st c ≡ W p k c
+  gathered_at : is_reduce (p.kind k) ≡ false → is_going (seq p k) ≡ true → (c : Cell) → gathered p st c ≡ store_at p k c
   gathered_at plain g (Data c) = fresh_value g (owner_of p c) (owner_below p q c) c (own refl)
-  gathered_at plain g (Variable v) = (here 0 q.lawful.some_rank).says.variables g v ∙ ap (λ j. W p j (Variable v)) (source_self p k plain)
+  gathered_at plain g (Variable v) = (here 0 q.lawful.some_rank).says.variables g v ∙ ap (λ j. store_at p j (Variable v)) (source_self p k plain)
 
-  gathered_is : is_reduce (p.kind k) ≡ false → is_going (seq p k) ≡ true → gathered p st ≡ W p k
+  gathered_is : is_reduce (p.kind k) ≡ false → is_going (seq p k) ≡ true → gathered p st ≡ store_at p k
   gathered_is plain g = λ i c. gathered_at plain g c i
 
   -- what is fresh at the next item was fresh, or is the rank's own
@@ -69,8 +69,8 @@ module _ {F : Type 0} (p : Plan F) (q : Law p) (m : Step → Bool) (st : State F
       by_kind Host e = ap is_reduce e
       by_kind Reduce e = absurd (not_free (p.kind k) joins (q.lawful.reduce_after k e).0)
 
-  value_next : (r : ℕ) → r < p.ranks → (c : DatCell) → Value p (mark (Join k) m) r (suc k) c ≡ W p (suc k) (Data c)
-  value_next r lt c = folded_none (elements p (suc k)) (λ a. m (End (suc k) r a)) (λ a. effect p (suc k) a (W p (suc k)) (Data c)) (W p (suc k) (Data c))
+  value_next : (r : ℕ) → r < p.ranks → (c : DatCell) → value_at p (mark (Join k) m) r (suc k) c ≡ store_at p (suc k) (Data c)
+  value_next r lt c = folded_none (elements p (suc k)) (λ a. m (End (suc k) r a)) (λ a. effect p (suc k) a (store_at p (suc k)) (Data c)) (store_at p (suc k) (Data c))
       (λ a le. inl ((here r lt).stands.ahead (End (suc k) r a) refl (omega arith)))
 
   next_marks : (r : ℕ) → Stands (outline p) m r k → Stands (outline p) (mark (Join k) m) r (suc k)
@@ -93,8 +93,8 @@ module _ {F : Type 0} (p : Plan F) (q : Law p) (m : Step → Bool) (st : State F
 
   -- the state after a join that goes on
   after_join : (b : State F) → Sane b → b.stop ≡ None → b.mail ≡ st.mail → b.faults ≡ st.faults → is_going (seq p (suc k)) ≡ true → b.output ≡ output_of (seq p (suc k))
-      → ((r : ℕ) → r < p.ranks → (c : DatCell) → Fresh p (mark (Join k) m) r (suc k) c → b.memories r c ≡ W p (suc k) (Data c))
-      → ((v : VarCell) → b.variables v ≡ W p (suc k) (Variable v))
+      → ((r : ℕ) → r < p.ranks → (c : DatCell) → Fresh p (mark (Join k) m) r (suc k) c → b.memories r c ≡ store_at p (suc k) (Data c))
+      → ((v : VarCell) → b.variables v ≡ store_at p (suc k) (Variable v))
       → ((r : ℕ) → r < p.ranks → (s : ℕ) (v : VarCell) → b.partials r s v ≡ unit_at (p.reduces s v))
       → Inv p (mark (Join k) m) b
   after_join b sane stop mail faults g out cells variables parts = record {
@@ -116,7 +116,7 @@ module _ {F : Type 0} (p : Plan F) (q : Law p) (m : Step → Bool) (st : State F
         says = record {
           told = out;
           cells = λ g2 c f. cells r lt c f ∙ sym (value_next r lt c);
-          variables = λ g2 v. variables v ∙ ap (λ j. W p j (Variable v)) (sym (source_self p (suc k) not_reduce_next));
+          variables = λ g2 v. variables v ∙ ap (λ j. store_at p j (Variable v)) (sym (source_self p (suc k) not_reduce_next));
           parts = λ g2 s v. parts r lt s v ∙ sym (part_none p (mark (Join k) m) r (suc k) s v not_reduce_next (λ e. (here r lt).stands.ahead (End (suc k) r e) refl (omega arith)));
           frames = λ g2 e x y. absurd (false≢true (sym ((here r lt).stands.ahead (Begin (suc k) r e) refl (omega arith)) ∙ x));
         };
@@ -129,14 +129,14 @@ module _ {F : Type 0} (p : Plan F) (q : Law p) (m : Step → Bool) (st : State F
   units idle g r lt s v = (here r lt).says.parts g s v ∙ part_else p m r k s v (and_left (is_merging (p.kind k)) (s == p.site k) idle)
 
   -- Host
-  goes_host : (x : VarCell → ℤ) (o : List ℕ) → p.kind k ≡ Host → is_going (seq p k) ≡ true → seq p (suc k) ≡ Going (with_variables x (W p k)) (output_of (seq p k) ++ o) → Sane (hosted k (Goes x o) st) → Inv p (mark (Join k) m) (hosted k (Goes x o) st)
+  goes_host : (x : VarCell → ℤ) (o : List ℕ) → p.kind k ≡ Host → is_going (seq p k) ≡ true → seq p (suc k) ≡ Going (with_variables x (store_at p k)) (output_of (seq p k) ++ o) → Sane (hosted k (Goes x o) st) → Inv p (mark (Join k) m) (hosted k (Goes x o) st)
   goes_host x o ho g n sane = after_join (hosted k (Goes x o) st) sane inv.running refl refl (ap is_going n) (ap (λ z. z ++ o) told ∙ ap output_of (sym n))
       (λ r lt c f. fresh_value g r lt c (fresh_next r lt c f).0 ∙ ap (λ s. store_of s (Data c)) (sym n))
       (λ v. ap (λ s. store_of s (Variable v)) (sym n))
       (units (ap is_merging ho) g)
 
   -- Ordered
-  goes_loop : (t : Store) → p.kind k ≡ Ordered → is_going (seq p k) ≡ true → loop p k (elements p k) (W p k) ≡ Ran_through t → seq p (suc k) ≡ Going t (output_of (seq p k)) → Sane (spread p t st) → Inv p (mark (Join k) m) (spread p t st)
+  goes_loop : (t : Store) → p.kind k ≡ Ordered → is_going (seq p k) ≡ true → loop p k (elements p k) (store_at p k) ≡ Ran_through t → seq p (suc k) ≡ Going t (output_of (seq p k)) → Sane (spread p t st) → Inv p (mark (Join k) m) (spread p t st)
   goes_loop t od g ran n sane = after_join (spread p t st) sane inv.running refl refl (ap is_going n) (told ∙ ap output_of (sym n))
       (λ r lt c f. ⊎_elim
       (λ (y : (owner_of p c == r) ≡ true). cond-true (owner_of p c == r) (t (Data c)) (st.memories r c) y ∙ ap (λ s. store_of s (Data c)) (sym n))
@@ -146,7 +146,7 @@ module _ {F : Type 0} (p : Plan F) (q : Law p) (m : Step → Bool) (st : State F
       ∙ (fresh_value g r lt c before.0
       ∙ (⊎_elim
       (λ (i : owner_of p c ≡ r). absurd (false≢true (sym y ∙ eq-eqb (owner_of p c) r i)))
-      (λ (i : p.modifies k c.dat ≡ false). sym (ran_stays p q k c (W p k) t od i ran))
+      (λ (i : p.modifies k c.dat ≡ false). sym (ran_stays p q k c (store_at p k) t od i ran))
       before.1
       ∙ ap (λ s. store_of s (Data c)) (sym n))))
       (cases_Bool (owner_of p c == r)))
@@ -169,27 +169,27 @@ module _ {F : Type 0} (p : Plan F) (q : Law p) (m : Step → Bool) (st : State F
     op v = p.reduces (p.site j) v
 
     abbrev before : VarCell → ℤ
-    before v = W p j (Variable v)
+    before v = store_at p j (Variable v)
 
     abbrev made_below : VarCell → ℕ → ℤ
-    made_below v n = folded (elements p j) (λ e. nat_lt (p.owner (p.set j) e) n) (λ e. effect p j e (W p j) (Variable v)) (before v)
+    made_below v n = folded (elements p j) (λ e. nat_lt (p.owner (p.set j) e) n) (λ e. effect p j e (store_at p j) (Variable v)) (before v)
 
-    part_is : (v : VarCell) (r : ℕ) → r < p.ranks → st.partials r (p.site j) v ≡ Part_at p m r v j
+    part_is : (v : VarCell) (r : ℕ) → r < p.ranks → st.partials r (p.site j) v ≡ part_at p m r v j
     part_is v r lt =
         ap (λ s. st.partials r s v) (sym after_free.1)
-        ∙ ((here r lt).says.parts g (p.site k) v ∙ (part_here p m r k v (ap is_merging does) ∙ ap (Part_at p m r v) about_j))
+        ∙ ((here r lt).says.parts g (p.site k) v ∙ (part_here p m r k v (ap is_merging does) ∙ ap (part_at p m r v) about_j))
 
     merged_is : (v : VarCell) (n : ℕ) → n ≤ p.ranks → merged_from st (op v) (p.site j) v n (before v) ≡ made_below v n
-    merged_is v zero le = sym (folded_none (elements p j) (λ e. nat_lt (p.owner (p.set j) e) 0) (λ e. effect p j e (W p j) (Variable v)) (before v) (λ e l. inl (le-ltb (p.owner (p.set j) e) 0 (omega arith))))
+    merged_is v zero le = sym (folded_none (elements p j) (λ e. nat_lt (p.owner (p.set j) e) 0) (λ e. effect p j e (store_at p j) (Variable v)) (before v) (λ e l. inl (le-ltb (p.owner (p.set j) e) 0 (omega arith))))
     merged_is v (suc n) le =
         ap (λ x. merge_at (op v) x (st.partials n (p.site j) v)) (merged_is v n (omega arith))
         ∙ (ap (merge_at (op v) (made_below v n)) (part_is v n (omega arith))
-        ∙ (folded_merge (elements p j) (λ e. (p.owner (p.set j) e == n) && m (End j n e)) (λ e. effect p j e (W p j) (Variable v))
+        ∙ (folded_merge (elements p j) (λ e. (p.owner (p.set j) e == n) && m (End j n e)) (λ e. effect p j e (store_at p j) (Variable v))
         (merge_at (op v) (made_below v n)) (unit_at (op v)) (made_below v n)
         (merge_unit p q (op v) (made_below v n) (subst Good (merged_is v n (omega arith)) (good_merged p q st inv.sane (op v) (p.site j) v n (before v) (good_store p q j going_j (Variable v)))))
-        (λ e x l. merge_amount p q j e (W p j) v (made_below v n) x after_free.0 l)
-        ∙ folded_union (elements p j) (elements p j) (λ e. nat_lt (p.owner (p.set j) e) n) (λ e. (p.owner (p.set j) e == n) && m (End j n e)) (λ e. nat_lt (p.owner (p.set j) e) (suc n)) (λ e. effect p j e (W p j) (Variable v)) (before v)
-        (omega arith) (commutes p q j (W p j) (Variable v) after_free.0) marks))
+        (λ e x l. merge_amount p q j e (store_at p j) v (made_below v n) x after_free.0 l)
+        ∙ folded_union (elements p j) (elements p j) (λ e. nat_lt (p.owner (p.set j) e) n) (λ e. (p.owner (p.set j) e == n) && m (End j n e)) (λ e. nat_lt (p.owner (p.set j) e) (suc n)) (λ e. effect p j e (store_at p j) (Variable v)) (before v)
+        (omega arith) (commutes p q j (store_at p j) (Variable v) after_free.0) marks))
       where
         marks : (e : ℕ) → e < elements p j → ((nat_lt (p.owner (p.set j) e) n ≡ true) × (((p.owner (p.set j) e == n) && m (End j n e)) ≡ false) × (nat_lt (p.owner (p.set j) e) (suc n) ≡ true)) ⊎ ((nat_lt (p.owner (p.set j) e) n ≡ false) × (((p.owner (p.set j) e == n) && m (End j n e)) ≡ nat_lt (p.owner (p.set j) e) (suc n)))
         marks e l = ⊎_elim
@@ -205,19 +205,19 @@ module _ {F : Type 0} (p : Plan F) (q : Law p) (m : Step → Bool) (st : State F
             ))
             (cases_lt (p.owner (p.set j) e) n)
 
-    all_merged : (v : VarCell) → merged_from st (op v) (p.site j) v p.ranks (before v) ≡ folded (elements p j) (λ e. true) (λ e. effect p j e (W p j) (Variable v)) (before v)
+    all_merged : (v : VarCell) → merged_from st (op v) (p.site j) v p.ranks (before v) ≡ folded (elements p j) (λ e. true) (λ e. effect p j e (store_at p j) (Variable v)) (before v)
     all_merged v =
         merged_is v p.ranks (omega arith)
-        ∙ folded_same (elements p j) (λ e. nat_lt (p.owner (p.set j) e) p.ranks) (λ e. true) (λ e. effect p j e (W p j) (Variable v)) (before v)
+        ∙ folded_same (elements p j) (λ e. nat_lt (p.owner (p.set j) e) p.ranks) (λ e. true) (λ e. effect p j e (store_at p j) (Variable v)) (before v)
         (λ e l. inl (lt-ltb (p.owner (p.set j) e) p.ranks (q.lawful.owners (p.set j) e l)))
 
-    reduced_variable : (v : VarCell) → Free_case p j → merged_from st (p.reduces (p.site k) v) (p.site k) v p.ranks (st.variables v) ≡ W p k (Variable v)
+    reduced_variable : (v : VarCell) → FreeCase p j → merged_from st (p.reduces (p.site k) v) (p.site k) v p.ranks (st.variables v) ≡ store_at p k (Variable v)
     reduced_variable v (was_over h x) = absurd (false≢true (sym h ∙ (ap is_going (sym (ap (seq p) at ∙ x)) ∙ g)))
     reduced_variable v (ends h a f le bad none t x) = absurd (false≢true (ap is_going (sym (ap (seq p) at ∙ x)) ∙ g))
     reduced_variable v (goes_on h h2 none sums out) =
         ap (λ s. merged_from st (p.reduces s v) s v p.ranks (st.variables v)) after_free.1
-        ∙ (ap (merged_from st (op v) (p.site j) v p.ranks) ((here 0 q.lawful.some_rank).says.variables g v ∙ ap (λ i. W p i (Variable v)) about_j)
-        ∙ (all_merged v ∙ (sym (sums (Variable v)) ∙ ap (λ i. W p i (Variable v)) (sym at))))
+        ∙ (ap (merged_from st (op v) (p.site j) v p.ranks) ((here 0 q.lawful.some_rank).says.variables g v ∙ ap (λ i. store_at p i (Variable v)) about_j)
+        ∙ (all_merged v ∙ (sym (sums (Variable v)) ∙ ap (λ i. store_at p i (Variable v)) (sym at))))
 
     reduces_all : seq p (suc k) ≡ seq p k → Inv p (mark (Join k) m) (reduced p k st)
     reduces_all n = after_join (reduced p k st) (good_reduced p q st inv.sane k) inv.running refl refl (ap is_going n ∙ g) (told ∙ ap output_of (sym n))
@@ -242,7 +242,7 @@ module _ {F : Type 0} (p : Plan F) (q : Law p) (m : Step → Bool) (st : State F
   does_item : is_going (seq p k) ≡ true → (x : Kind) → p.kind k ≡ x → Kept (done p k x st) → Kept (step p (Join k) st)
   does_item g x i h = subst (λ z. Kept (joined p k z st)) (sym (none_recorded p q m st inv k g)) (subst (λ y. Kept (done p k y st)) (sym i) h)
 
-  going_case : is_going (seq p k) ≡ true → Join_case p k → Kept (step p (Join k) st)
+  going_case : is_going (seq p k) ≡ true → JoinCase p k → Kept (step p (Join k) st)
   going_case g (was_over_join h n) = absurd (false≢true (sym h ∙ g))
   going_case g (reduces_join does h n) = does_item g Reduce does (inl (goes_reduce k refl does g n))
   going_case g (runs_join od h t ran n) =
@@ -259,7 +259,7 @@ module _ {F : Type 0} (p : Plan F) (q : Law p) (m : Step → Bool) (st : State F
   going_case g (halts_join ho h f act n) =
       let same : p.host k (gathered p st) ≡ Halts f = ap (p.host k) (gathered_is (ap is_reduce ho) g) ∙ act in
       does_item g Host ho (inr (subst (λ z. Halted p (hosted k z st)) (sym same)
-      (halts_at p (record { item = k; element = None; fault = f }) (W p k) (output_of (seq p k)) (hosted k (Halts f) st) (suc k) (let l : k < p.items = low in omega arith) n refl told)))
+      (halts_at p (record { item = k; element = None; fault = f }) (store_at p k) (output_of (seq p k)) (hosted k (Halts f) st) (suc k) (let l : k < p.items = low in omega arith) n refl told)))
 
   pub keeps_join : Kept (step p (Join k) st)
   keeps_join = ⊎_elim

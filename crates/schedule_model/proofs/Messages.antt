@@ -11,10 +11,10 @@ use Rattle.schedule_model.specs.Sequential.{seq}
 use Rattle.schedule_model.specs.Machine.{Message, State, taken, delivered, arrives, step}
 use Rattle.schedule_model.proofs.Fold.{folded_none}
 use Rattle.schedule_model.proofs.Law.{Law, fault, effect, keeps}
-use Rattle.schedule_model.proofs.Sequence.{is_going, W}
+use Rattle.schedule_model.proofs.Sequence.{is_going, store_at}
 use Rattle.schedule_model.proofs.Marks.{mark, mark_self, mark_else, Ready, proper_more, Stands, stands_same, waiting, pending, pending_same, pending_push, pending_pop}
 use Rattle.schedule_model.proofs.Range.{Sane, sane_step}
-use Rattle.schedule_model.proofs.Facts.{Fresh, own, clean, came, Value, Says, says_other, At, frame_like}
+use Rattle.schedule_model.proofs.Facts.{Fresh, own, clean, came, value_at, Says, says_other, At, frame_like}
 use Rattle.schedule_model.proofs.Inv.{Inv, Letter, Letters, abouts, abouts_push, letters_push, at_item, put_same, put_other, at_other, two_same}
 use Rattle.schedule_model.specs.Tests.{free_kind}
 
@@ -28,10 +28,10 @@ module _ {F : Type 0} (p : Plan F) (q : Law p) (m : Step → Bool) (st : State F
   end_begun k r e t = inv.right.closed (End k r e) (Begin k r e) t (inv.right.sound (End k r e) t) begun
 
   -- what an owner has when it sends
-  sent_value : (k s r : ℕ) → Ready (outline p) m (Send k s r) → At p m st s k → is_going (seq p k) ≡ true → (c : DatCell) → owner_of p c ≡ s → st.memories s c ≡ W p k (Data c)
+  sent_value : (k s r : ℕ) → Ready (outline p) m (Send k s r) → At p m st s k → is_going (seq p k) ≡ true → (c : DatCell) → owner_of p c ≡ s → st.memories s c ≡ store_at p k (Data c)
   sent_value k s r rd h g c o =
       h.says.cells g c (own o)
-      ∙ folded_none (elements p k) (λ e. m (End k s e)) (λ e. effect p k e (W p k) (Data c)) (W p k (Data c))
+      ∙ folded_none (elements p k) (λ e. m (End k s e)) (λ e. effect p k e (store_at p k) (Data c)) (store_at p k (Data c))
       (λ e le. inl (false_from_ne_true (m (End k s e)) (λ t. false≢true (sym rd.untaken ∙ inv.right.closed (Begin k s e) (Send k s r) (end_begun k s e t) rd.planned sent_first))))
 
   send_pending : (k s r : ℕ) → Ready (outline p) m (Send k s r) → Stands (outline p) m s k → pending (waiting (mark (Send k s r) m) s r) p.items ≡ pending (waiting m s r) p.items ++ (k ∷ [])
@@ -132,17 +132,17 @@ module _ {F : Type 0} (p : Plan F) (q : Law p) (m : Step → Bool) (st : State F
     new_cell : DatCell → ℤ
     new_cell c = cond (arrives p k r s c) (x.values c) (st.memories r c)
 
-    recv_cells : Says p m st r k → is_going (seq p k) ≡ true → (c : DatCell) → Fresh p (mark (Recv k r s) m) r k c → new_cell c ≡ Value p m r k c
+    recv_cells : Says p m st r k → is_going (seq p k) ≡ true → (c : DatCell) → Fresh p (mark (Recv k r s) m) r k c → new_cell c ≡ value_at p m r k c
     unfolding new_cell
     recv_cells h g c f = ⊎_elim
         (λ (a : arrives p k r s c ≡ true).
         let from : (owner_of p c ≡ s) × (has_copy p r c ≡ true) = arrives_from k r s c a in
         cond-true (arrives p k r s c) (x.values c) (st.memories r c) a
         ∙ (right (subst (λ i. is_going (seq p i) ≡ true) (sym about) g) c from.0
-        ∙ (ap (λ i. W p i (Data c)) about
-        ∙ sym (folded_none (elements p k) (λ e. m (End k r e)) (λ e. effect p k e (W p k) (Data c)) (W p k (Data c))
+        ∙ (ap (λ i. store_at p i (Data c)) about
+        ∙ sym (folded_none (elements p k) (λ e. m (End k r e)) (λ e. effect p k e (store_at p k) (Data c)) (store_at p k (Data c))
         (λ e le. ⊎_elim
-        (λ (t : m (End k r e) ≡ true). inr (λ v. keeps p q k e (W p k) (Data c) v (waits k r s rd e c (end_begun k r e t) from.1)))
+        (λ (t : m (End k r e) ≡ true). inr (λ v. keeps p q k e (store_at p k) (Data c) v (waits k r s rd e c (end_begun k r e t) from.1)))
         (λ t. inl t)
         (cases_Bool (m (End k r e))))))))
         (λ (a : arrives p k r s c ≡ false).
@@ -199,7 +199,7 @@ module _ {F : Type 0} (p : Plan F) (q : Law p) (m : Step → Bool) (st : State F
                     cells = λ g c f. new_mem c ∙ recv_cells here.says g c f;
                     variables = here.says.variables;
                     parts = here.says.parts;
-                    frames = λ g a b n. frame_like p k a (st.memories r) ((delivered p k r s x xs st).memories r) (fault p k a (W p k)) (st.frames k r a)
+                    frames = λ g a b n. frame_like p k a (st.memories r) ((delivered p k r s x xs st).memories r) (fault p k a (store_at p k)) (st.frames k r a)
                         (λ c w. new_mem c ∙ recv_frame a b c w) (here.says.frames g a b n);
                   };
                 },

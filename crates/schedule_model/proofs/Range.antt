@@ -15,16 +15,16 @@ use Rattle.std.proofs.lemmas.Bool.{cond_both, and_parts, ltb-true}
 abbrev pub Good : ℤ → Type 0
 Good v = FitsSigned w32 v
 
-abbrev pub Good_mail : List Message → Type 0
-Good_mail [] = Unit {0}
-Good_mail (x ∷ xs) = ((c : DatCell) → Good (x.values c)) × Good_mail xs
+abbrev pub GoodMail : List Message → Type 0
+GoodMail [] = Unit {0}
+GoodMail (x ∷ xs) = ((c : DatCell) → Good (x.values c)) × GoodMail xs
 
-abbrev pub Good_frame : Frame → Type 0
-Good_frame Shut = Unit {0}
-Good_frame Broken = Unit {0}
-Good_frame (Holds t) = InRange t
+abbrev pub GoodFrame : Frame → Type 0
+GoodFrame Shut = Unit {0}
+GoodFrame Broken = Unit {0}
+GoodFrame (Holds t) = InRange t
 
-good_push : (xs : List Message) (x : Message) → Good_mail xs → ((c : DatCell) → Good (x.values c)) → Good_mail (xs ++ (x ∷ []))
+good_push : (xs : List Message) (x : Message) → GoodMail xs → ((c : DatCell) → Good (x.values c)) → GoodMail (xs ++ (x ∷ []))
 good_push [] x h g = (g, tt)
 good_push (y ∷ xs) x h g = (h.0, good_push xs x h.1 g)
 
@@ -32,8 +32,8 @@ pub record Sane {F : Type 0} (st : State F) : Type 0 where
   pub cells : (r : ℕ) (c : DatCell) → Good (st.memories r c)
   pub variables : (v : VarCell) → Good (st.variables v)
   pub parts : (r s : ℕ) (v : VarCell) → Good (st.partials r s v)
-  pub post : (s r : ℕ) → Good_mail (st.mail s r)
-  pub frames : (k r e : ℕ) → Good_frame (st.frames k r e)
+  pub post : (s r : ℕ) → GoodMail (st.mail s r)
+  pub frames : (k r e : ℕ) → GoodFrame (st.frames k r e)
 
 module _ {F : Type 0} (p : Plan F) (q : Law p) (st : State F) (h : Sane st) where
   good_rank : (r : ℕ) (v : DatCell → ℤ) (f : ℕ → DatCell → ℤ) → ((c : DatCell) → Good (v c)) → ((x : ℕ) (c : DatCell) → Good (f x c)) → (x : ℕ) (c : DatCell) → Good (put1 r v f x c)
@@ -50,16 +50,16 @@ module _ {F : Type 0} (p : Plan F) (q : Law p) (st : State F) (h : Sane st) wher
   good_view k r (Data c) = h.cells r c
   good_view k r (Variable v) = good_window (p.reduces (p.site k) v) (st.variables v) (h.variables v)
 
-  good_frames : (k r e : ℕ) (x : Frame) → Good_frame x → (a b c : ℕ) → Good_frame (put3 k r e x st.frames a b c)
-  good_frames k r e x g a b c = cond_both (same3 a b c k r e) x (st.frames a b c) Good_frame (λ t. g) (λ t. h.frames a b c)
+  good_frames : (k r e : ℕ) (x : Frame) → GoodFrame x → (a b c : ℕ) → GoodFrame (put3 k r e x st.frames a b c)
+  good_frames k r e x g a b c = cond_both (same3 a b c k r e) x (st.frames a b c) GoodFrame (λ t. g) (λ t. h.frames a b c)
 
-  good_taken : (r s : ℕ) (xs : List Message) → Good_mail xs → Sane (taken p r s xs st)
+  good_taken : (r s : ℕ) (xs : List Message) → GoodMail xs → Sane (taken p r s xs st)
   good_taken r s [] g = h
   good_taken r s (x ∷ xs) g = record {
     cells = good_rank r (λ c. cond (arrives p x.about r s c) (x.values c) (st.memories r c)) st.memories (λ c. good_cond (arrives p x.about r s c) (x.values c) (st.memories r c) (g.0 c) (h.cells r c)) h.cells;
     variables = h.variables;
     parts = h.parts;
-    post = λ a b. cond_both ((a == s) && (b == r)) xs (st.mail a b) Good_mail (λ t. g.1) (λ t. h.post a b);
+    post = λ a b. cond_both ((a == s) && (b == r)) xs (st.mail a b) GoodMail (λ t. g.1) (λ t. h.post a b);
     frames = h.frames;
   }
 
@@ -76,7 +76,7 @@ module _ {F : Type 0} (p : Plan F) (q : Law p) (st : State F) (h : Sane st) wher
   good_shut : (k r e : ℕ) → Sane (record st { frames = put3 k r e Shut st.frames })
   good_shut k r e = record { cells = h.cells; variables = h.variables; parts = h.parts; post = h.post; frames = good_frames k r e Shut tt }
 
-  good_closed : (k r e : ℕ) (x : Frame) → Good_frame x → Sane (closed p k r e x st)
+  good_closed : (k r e : ℕ) (x : Frame) → GoodFrame x → Sane (closed p k r e x st)
   good_closed k r e Shut g = good_shut k r e
   good_closed k r e Broken g = good_shut k r e
   good_closed k r e (Holds t) g = record {
@@ -132,7 +132,7 @@ module _ {F : Type 0} (p : Plan F) (q : Law p) (st : State F) (h : Sane st) wher
     variables = h.variables;
     parts = h.parts;
     frames = h.frames;
-    post = λ a b. cond_both ((a == s) && (b == r)) (st.mail s r ++ (record { about = k; values = st.memories s } ∷ [])) (st.mail a b) Good_mail
+    post = λ a b. cond_both ((a == s) && (b == r)) (st.mail s r ++ (record { about = k; values = st.memories s } ∷ [])) (st.mail a b) GoodMail
         (λ t. good_push (st.mail s r) (record { about = k; values = st.memories s }) (h.post s r) (h.cells s)) (λ t. h.post a b);
   }
   sane_step (Recv k r s) plan = good_taken r s (st.mail s r) (h.post s r)

@@ -21,8 +21,8 @@ is_going (Stopped x s o) = false
 is_going (Going s o) = true
 
 -- the store before item k
-abbrev pub W : {F : Type 0} → Plan F → ℕ → Store
-W p k = store_of (seq p k)
+abbrev pub store_at : {F : Type 0} → Plan F → ℕ → Store
+store_at p k = store_of (seq p k)
 
 -- what the first n elements of a Free loop did to w
 abbrev pub LoopIs : {F : Type 0} → Plan F → ℕ → Store → ℕ → Loop F → Type 0
@@ -80,7 +80,7 @@ module _ {F : Type 0} (p : Plan F) (q : Law p) where
   good_seq zero = q.lawful.start_in_range
   good_seq (suc k) = good_item k (seq p k) (good_seq k)
 
-  pub good_store : (k : ℕ) → is_going (seq p k) ≡ true → InRange (W p k)
+  pub good_store : (k : ℕ) → is_going (seq p k) ≡ true → InRange (store_at p k)
   good_store k g = at (seq p k) g (good_seq k)
     where
       at : (x : Seq F) → is_going x ≡ true → GoodSeq x → InRange (store_of x)
@@ -128,74 +128,74 @@ module _ {F : Type 0} (p : Plan F) (q : Law p) where
   ran_stays k c s t od un e = subst (Stays k c s) e (loop_stays k (elements p k) c s od (omega arith) un)
 
 -- what a Free item does
-pub data Free_case {F : Type 0} (p : Plan F) (k : ℕ) : Type 0 where
-  was_over : is_going (seq p k) ≡ false → seq p (suc k) ≡ seq p k → Free_case p k
-  goes_on : is_going (seq p k) ≡ true → is_going (seq p (suc k)) ≡ true → ((e : ℕ) → e < elements p k → fault p k e (W p k) ≡ None) → ((c : Cell) → W p (suc k) c ≡ folded (elements p k) (λ e. true) (λ e. effect p k e (W p k) c) (W p k c)) → output_of (seq p (suc k)) ≡ output_of (seq p k) → Free_case p k
-  ends : is_going (seq p k) ≡ true → (e : ℕ) (f : F) → e < elements p k → fault p k e (W p k) ≡ Some f → ((a : ℕ) → a < e → fault p k a (W p k) ≡ None) → (s : Store) → seq p (suc k) ≡ Stopped (record { item = k; element = Some e; fault = f }) s (output_of (seq p k)) → Free_case p k
+pub data FreeCase {F : Type 0} (p : Plan F) (k : ℕ) : Type 0 where
+  was_over : is_going (seq p k) ≡ false → seq p (suc k) ≡ seq p k → FreeCase p k
+  goes_on : is_going (seq p k) ≡ true → is_going (seq p (suc k)) ≡ true → ((e : ℕ) → e < elements p k → fault p k e (store_at p k) ≡ None) → ((c : Cell) → store_at p (suc k) c ≡ folded (elements p k) (λ e. true) (λ e. effect p k e (store_at p k) c) (store_at p k c)) → output_of (seq p (suc k)) ≡ output_of (seq p k) → FreeCase p k
+  ends : is_going (seq p k) ≡ true → (e : ℕ) (f : F) → e < elements p k → fault p k e (store_at p k) ≡ Some f → ((a : ℕ) → a < e → fault p k a (store_at p k) ≡ None) → (s : Store) → seq p (suc k) ≡ Stopped (record { item = k; element = Some e; fault = f }) s (output_of (seq p k)) → FreeCase p k
 
 -- what any other item does
-pub data Join_case {F : Type 0} (p : Plan F) (k : ℕ) : Type 0 where
-  was_over_join : is_going (seq p k) ≡ false → seq p (suc k) ≡ seq p k → Join_case p k
-  reduces_join : p.kind k ≡ Reduce → is_going (seq p k) ≡ true → seq p (suc k) ≡ seq p k → Join_case p k
-  runs_join : p.kind k ≡ Ordered → is_going (seq p k) ≡ true → (t : Store) → loop p k (elements p k) (W p k) ≡ Ran_through t → seq p (suc k) ≡ Going t (output_of (seq p k)) → Join_case p k
-  breaks_join : p.kind k ≡ Ordered → is_going (seq p k) ≡ true → (e : ℕ) (f : F) (t : Store) → loop p k (elements p k) (W p k) ≡ Broke e f t → seq p (suc k) ≡ Stopped (record { item = k; element = Some e; fault = f }) t (output_of (seq p k)) → Join_case p k
-  goes_join : p.kind k ≡ Host → is_going (seq p k) ≡ true → (v : VarCell → ℤ) (o : List ℕ) → p.host k (W p k) ≡ Goes v o → seq p (suc k) ≡ Going (with_variables v (W p k)) (output_of (seq p k) ++ o) → Join_case p k
-  halts_join : p.kind k ≡ Host → is_going (seq p k) ≡ true → (f : F) → p.host k (W p k) ≡ Halts f → seq p (suc k) ≡ Stopped (record { item = k; element = None; fault = f }) (W p k) (output_of (seq p k)) → Join_case p k
+pub data JoinCase {F : Type 0} (p : Plan F) (k : ℕ) : Type 0 where
+  was_over_join : is_going (seq p k) ≡ false → seq p (suc k) ≡ seq p k → JoinCase p k
+  reduces_join : p.kind k ≡ Reduce → is_going (seq p k) ≡ true → seq p (suc k) ≡ seq p k → JoinCase p k
+  runs_join : p.kind k ≡ Ordered → is_going (seq p k) ≡ true → (t : Store) → loop p k (elements p k) (store_at p k) ≡ Ran_through t → seq p (suc k) ≡ Going t (output_of (seq p k)) → JoinCase p k
+  breaks_join : p.kind k ≡ Ordered → is_going (seq p k) ≡ true → (e : ℕ) (f : F) (t : Store) → loop p k (elements p k) (store_at p k) ≡ Broke e f t → seq p (suc k) ≡ Stopped (record { item = k; element = Some e; fault = f }) t (output_of (seq p k)) → JoinCase p k
+  goes_join : p.kind k ≡ Host → is_going (seq p k) ≡ true → (v : VarCell → ℤ) (o : List ℕ) → p.host k (store_at p k) ≡ Goes v o → seq p (suc k) ≡ Going (with_variables v (store_at p k)) (output_of (seq p k) ++ o) → JoinCase p k
+  halts_join : p.kind k ≡ Host → is_going (seq p k) ≡ true → (f : F) → p.host k (store_at p k) ≡ Halts f → seq p (suc k) ≡ Stopped (record { item = k; element = None; fault = f }) (store_at p k) (output_of (seq p k)) → JoinCase p k
 
 module _ {F : Type 0} (p : Plan F) (q : Law p) (k : ℕ) where
-  free_loop : (s : Store) (o : List ℕ) → seq p k ≡ Going s o → (r : Loop F) → LoopIs p k s (elements p k) r → seq p (suc k) ≡ after_loop k o r → Free_case p k
+  free_loop : (s : Store) (o : List ℕ) → seq p k ≡ Going s o → (r : Loop F) → LoopIs p k s (elements p k) r → seq p (suc k) ≡ after_loop k o r → FreeCase p k
   free_loop s o e (Ran_through t) h n =
-      let E : s ≡ W p k = ap store_of (sym e) in
+      let E : s ≡ store_at p k = ap store_of (sym e) in
       let O : o ≡ output_of (seq p k) = ap output_of (sym e) in
       goes_on (ap is_going e) (ap is_going n)
       (λ a lt. subst (λ w. fault p k a w ≡ None) E (h.0 a lt))
       (λ c. ap (λ x. store_of x c) n ∙ subst (λ w. t c ≡ folded (elements p k) (λ e. true) (λ e. effect p k e w c) (w c)) E (h.1 c))
       (ap output_of n ∙ O)
   free_loop s o e (Broke a f t) h n =
-      let E : s ≡ W p k = ap store_of (sym e) in
+      let E : s ≡ store_at p k = ap store_of (sym e) in
       let O : o ≡ output_of (seq p k) = ap output_of (sym e) in
       ends (ap is_going e) a f h.0 (subst (λ w. fault p k a w ≡ Some f) E h.1) (λ b lt. subst (λ w. fault p k b w ≡ None) E (h.2 b lt)) t
       (n ∙ ap (λ y. Stopped (record { item = k; element = Some a; fault = f }) t y) O)
 
-  free_at : p.kind k ≡ Free → (x : Seq F) → seq p k ≡ x → Free_case p k
+  free_at : p.kind k ≡ Free → (x : Seq F) → seq p k ≡ x → FreeCase p k
   free_at fr (Stopped x s o) e = was_over (ap is_going e) (ap (after_item p k) e ∙ sym e)
   free_at fr (Going s o) e =
       free_loop s o e (loop p k (elements p k) s) (loop_is p q k s (elements p k) fr (omega arith) (subst GoodSeq e (good_seq p q k)))
       (ap (after_item p k) e ∙ ap (λ x. item_from p k x s o) fr)
 
-  pub free_case : p.kind k ≡ Free → Free_case p k
+  pub free_case : p.kind k ≡ Free → FreeCase p k
   free_case fr = free_at fr (seq p k) refl
 
 module _ {F : Type 0} (p : Plan F) (k : ℕ) where
-  join_loop : (s : Store) (o : List ℕ) → seq p k ≡ Going s o → p.kind k ≡ Ordered → (r : Loop F) → loop p k (elements p k) s ≡ r → seq p (suc k) ≡ after_loop k o r → Join_case p k
+  join_loop : (s : Store) (o : List ℕ) → seq p k ≡ Going s o → p.kind k ≡ Ordered → (r : Loop F) → loop p k (elements p k) s ≡ r → seq p (suc k) ≡ after_loop k o r → JoinCase p k
   join_loop s o e od (Ran_through t) a n =
-      let E : s ≡ W p k = ap store_of (sym e) in
+      let E : s ≡ store_at p k = ap store_of (sym e) in
       let O : o ≡ output_of (seq p k) = ap output_of (sym e) in
       runs_join od (ap is_going e) t (ap (loop p k (elements p k)) (sym E) ∙ a) (n ∙ ap (Going t) O)
   join_loop s o e od (Broke b f t) a n =
-      let E : s ≡ W p k = ap store_of (sym e) in
+      let E : s ≡ store_at p k = ap store_of (sym e) in
       let O : o ≡ output_of (seq p k) = ap output_of (sym e) in
       breaks_join od (ap is_going e) b f t (ap (loop p k (elements p k)) (sym E) ∙ a) (n ∙ ap (Stopped (record { item = k; element = Some b; fault = f }) t) O)
 
-  join_host : (s : Store) (o : List ℕ) → seq p k ≡ Going s o → p.kind k ≡ Host → (r : Hosted F) → p.host k s ≡ r → seq p (suc k) ≡ after_host k s o r → Join_case p k
+  join_host : (s : Store) (o : List ℕ) → seq p k ≡ Going s o → p.kind k ≡ Host → (r : Hosted F) → p.host k s ≡ r → seq p (suc k) ≡ after_host k s o r → JoinCase p k
   join_host s o e ho (Goes v w) a n =
-      let E : s ≡ W p k = ap store_of (sym e) in
+      let E : s ≡ store_at p k = ap store_of (sym e) in
       let O : o ≡ output_of (seq p k) = ap output_of (sym e) in
-      goes_join ho (ap is_going e) v w (ap (p.host k) (sym E) ∙ a) (n ∙ (ap (λ y. Going (with_variables v y) (o ++ w)) E ∙ ap (λ y. Going (with_variables v (W p k)) (y ++ w)) O))
+      goes_join ho (ap is_going e) v w (ap (p.host k) (sym E) ∙ a) (n ∙ (ap (λ y. Going (with_variables v y) (o ++ w)) E ∙ ap (λ y. Going (with_variables v (store_at p k)) (y ++ w)) O))
   join_host s o e ho (Halts f) a n =
-      let E : s ≡ W p k = ap store_of (sym e) in
+      let E : s ≡ store_at p k = ap store_of (sym e) in
       let O : o ≡ output_of (seq p k) = ap output_of (sym e) in
-      halts_join ho (ap is_going e) f (ap (p.host k) (sym E) ∙ a) (n ∙ (ap (λ y. Stopped (record { item = k; element = None; fault = f }) y o) E ∙ ap (Stopped (record { item = k; element = None; fault = f }) (W p k)) O))
+      halts_join ho (ap is_going e) f (ap (p.host k) (sym E) ∙ a) (n ∙ (ap (λ y. Stopped (record { item = k; element = None; fault = f }) y o) E ∙ ap (Stopped (record { item = k; element = None; fault = f }) (store_at p k)) O))
 
-  join_kind : (x : Kind) → p.kind k ≡ x → is_free x ≡ false → (s : Store) (o : List ℕ) → seq p k ≡ Going s o → Join_case p k
+  join_kind : (x : Kind) → p.kind k ≡ x → is_free x ≡ false → (s : Store) (o : List ℕ) → seq p k ≡ Going s o → JoinCase p k
   join_kind Free i h s o e = absurd (false≢true (sym h))
   join_kind Reduce i h s o e = reduces_join i (ap is_going e) (ap (after_item p k) e ∙ (ap (λ x. item_from p k x s o) i ∙ sym e))
   join_kind Ordered i h s o e = join_loop s o e i (loop p k (elements p k) s) refl (ap (after_item p k) e ∙ ap (λ x. item_from p k x s o) i)
   join_kind Host i h s o e = join_host s o e i (p.host k s) refl (ap (after_item p k) e ∙ ap (λ x. item_from p k x s o) i)
 
-  join_at : is_free (p.kind k) ≡ false → (x : Seq F) → seq p k ≡ x → Join_case p k
+  join_at : is_free (p.kind k) ≡ false → (x : Seq F) → seq p k ≡ x → JoinCase p k
   join_at h (Stopped x s o) e = was_over_join (ap is_going e) (ap (after_item p k) e ∙ sym e)
   join_at h (Going s o) e = join_kind (p.kind k) refl h s o e
 
-  pub join_case : is_free (p.kind k) ≡ false → Join_case p k
+  pub join_case : is_free (p.kind k) ≡ false → JoinCase p k
   join_case h = join_at h (seq p k) refl

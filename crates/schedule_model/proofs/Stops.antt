@@ -8,7 +8,7 @@ use Rattle.schedule_model.specs.Plan.{Plan, Free, is_free, elements, executes, o
 use Rattle.schedule_model.specs.Sequential.{Stop, Seq, Stopped, Going, after_item, seq, sequential}
 use Rattle.schedule_model.specs.Machine.{State, is_less_element, least, joined, step, Agrees}
 use Rattle.schedule_model.proofs.Law.{Law, fault}
-use Rattle.schedule_model.proofs.Sequence.{output_of, is_going, W, Free_case, was_over, goes_on, ends, free_case}
+use Rattle.schedule_model.proofs.Sequence.{output_of, is_going, store_at, FreeCase, was_over, goes_on, ends, free_case}
 use Rattle.schedule_model.proofs.Marks.{Ready}
 use Rattle.schedule_model.proofs.Least.{each_more, Beats, least_is, least_none}
 use Rattle.schedule_model.proofs.Inv.{Inv, Recorded}
@@ -60,7 +60,7 @@ halts_at p x t o st k le e stop out = record {
 }
 
 -- an item whose end the run reaches has no faulty element
-sound_item : {F : Type 0} (p : Plan F) (k e : ℕ) (f : F) → is_going (seq p (suc k)) ≡ true → e < elements p k → fault p k e (W p k) ≡ Some f → Free_case p k → ⊥
+sound_item : {F : Type 0} (p : Plan F) (k e : ℕ) (f : F) → is_going (seq p (suc k)) ≡ true → e < elements p k → fault p k e (store_at p k) ≡ Some f → FreeCase p k → ⊥
 sound_item p k e f g le bad (was_over h n) = false≢true (sym h ∙ (ap is_going (sym n) ∙ g))
 sound_item p k e f g le bad (goes_on a b none sums out) = let both : None ≡ Some f = sym (none e le) ∙ bad in cc
 sound_item p k e f g le bad (ends a e1 f1 le1 bad1 none t n) = false≢true (ap is_going (sym n) ∙ g)
@@ -68,7 +68,7 @@ sound_item p k e f g le bad (ends a e1 f1 le1 bad1 none t n) = false≢true (ap 
 module _ {F : Type 0} (p : Plan F) (q : Law p) (m : Step → Bool) (st : State F) (inv : Inv p m st) (k : ℕ) where
   -- the element of a recorded fault
   abbrev Culprit : Stop F → Type 0
-  Culprit x = (e : ℕ) × (x.element ≡ Some e) × (e < elements p x.item) × (fault p x.item e (W p x.item) ≡ Some x.fault) × (p.kind x.item ≡ Free)
+  Culprit x = (e : ℕ) × (x.element ≡ Some e) × (e < elements p x.item) × (fault p x.item e (store_at p x.item) ≡ Some x.fault) × (p.kind x.item ≡ Free)
 
   -- no fault of an earlier item is recorded where the sequential run goes on
   pub none_recorded : is_going (seq p k) ≡ true → least k st.faults ≡ None
@@ -79,16 +79,16 @@ module _ {F : Type 0} (p : Plan F) (q : Law p) (m : Step → Bool) (st : State F
       inv.recorded)
 
   -- the first faulty element is the least recorded
-  worse : (j e : ℕ) (f : F) → is_going (seq p j) ≡ true → fault p j e (W p j) ≡ Some f → ((a : ℕ) → a < e → fault p j a (W p j) ≡ None) → (y : Stop F) → Recorded p y → Beats (record { item = j; element = Some e; fault = f }) y
+  worse : (j e : ℕ) (f : F) → is_going (seq p j) ≡ true → fault p j e (store_at p j) ≡ Some f → ((a : ℕ) → a < e → fault p j a (store_at p j) ≡ None) → (y : Stop F) → Recorded p y → Beats (record { item = j; element = Some e; fault = f }) y
   worse j e f g bad none y h = ⊎_elim
       (λ (same_item : y.item ≡ j).
       let r : Culprit y = h (subst (λ i. is_going (seq p i) ≡ true) (sym same_item) g) in
-      let bad_y : fault p j r.0 (W p j) ≡ Some y.fault = subst (λ i. fault p i r.0 (W p i) ≡ Some y.fault) same_item r.3 in
+      let bad_y : fault p j r.0 (store_at p j) ≡ Some y.fault = subst (λ i. fault p i r.0 (store_at p i) ≡ Some y.fault) same_item r.3 in
       ⊎_elim
       (λ (lt : r.0 < e). let both : None ≡ Some y.fault = sym (none r.0 lt) ∙ bad_y in cc)
       (λ (le : e ≤ r.0). ⊎_elim
       (λ (same_element : r.0 ≡ e).
-      let ff : Some y.fault ≡ Some f = sym bad_y ∙ (ap (λ a. fault p j a (W p j)) same_element ∙ bad) in
+      let ff : Some y.fault ≡ Some f = sym bad_y ∙ (ap (λ a. fault p j a (store_at p j)) same_element ∙ bad) in
       let fault : y.fault ≡ f = cc in
       let element : y.element ≡ Some e = r.1 ∙ ap Some same_element in
       inl (λ i. record { item = same_item i; element = element i; fault = fault i }))
@@ -111,7 +111,7 @@ module _ {F : Type 0} (p : Plan F) (q : Law p) (m : Step → Bool) (st : State F
     low : k < p.items
     low = let plan : IsStep (outline p) (Join k) = rd.planned in plan.0
 
-    free_fault : (j : ℕ) → j < k → is_going (seq p j) ≡ true → is_going (seq p (suc j)) ≡ false → p.kind j ≡ Free → Free_case p j → Halted p (step p (Join k) st)
+    free_fault : (j : ℕ) → j < k → is_going (seq p j) ≡ true → is_going (seq p (suc j)) ≡ false → p.kind j ≡ Free → FreeCase p j → Halted p (step p (Join k) st)
     free_fault j lt g over fr (was_over h n) = absurd (false≢true (sym h ∙ g))
     free_fault j lt g over fr (goes_on a b none sums out) = absurd (false≢true (sym over ∙ b))
     free_fault j lt g over fr (ends a e f le bad none t n) =

@@ -13,7 +13,7 @@ use Rattle.schedule_model.specs.Laws.{Lawful, Coloured}
 use Rattle.schedule_model.proofs.Fold.{folded_none}
 use Rattle.schedule_model.proofs.Runs.{Reductions}
 use Rattle.schedule_model.proofs.Law.{Law, effect, last, owner_below}
-use Rattle.schedule_model.proofs.Sequence.{store_of, output_of, is_going, W}
+use Rattle.schedule_model.proofs.Sequence.{store_of, output_of, is_going, store_at}
 use Rattle.schedule_model.proofs.Marks.{mark, Ready, Apart, pending}
 use Rattle.schedule_model.proofs.Range.{sane_start}
 use Rattle.schedule_model.proofs.Facts.{own, is_reduce, reduce_kind, source, source_self, part_none, At, stand_at}
@@ -53,7 +53,7 @@ starts p q = record {
         told = refl;
         variables = λ g v. refl;
         parts = λ g s v. sym (part_none p (λ t. false) r 0 s v (no_reduce (p.kind 0) refl) (λ e. refl));
-        cells = λ g c f. sym (folded_none (elements p 0) (λ e. false) (λ e. effect p 0 e (W p 0) (Data c)) (W p 0 (Data c)) (λ e le. inl refl));
+        cells = λ g c f. sym (folded_none (elements p 0) (λ e. false) (λ e. effect p 0 e (store_at p 0) (Data c)) (store_at p 0 (Data c)) (λ e le. inl refl));
         frames = λ g e b. absurd (false≢true b);
       };
     },
@@ -88,14 +88,14 @@ module _ {F : Type 0} (p : Plan F) (q : Law p) where
       none_ended : (r e : ℕ) → m (End p.items r e) ≡ true → ⊥
       none_ended r e t = (let plan : IsStep (outline p) (End p.items r e) = inv.right.sound (End p.items r e) t in let l : p.items < p.items = plan.0 in omega arith)
 
-      owned : (c : DatCell) → st.memories (owner_of p c) c ≡ W p p.items (Data c)
+      owned : (c : DatCell) → st.memories (owner_of p c) c ≡ store_at p p.items (Data c)
       owned c =
           (here (owner_of p c) (owner_below p q c)).says.cells going c (own refl)
-          ∙ folded_none (elements p p.items) (λ e. m (End p.items (owner_of p c) e)) (λ e. effect p p.items e (W p p.items) (Data c)) (W p p.items (Data c))
+          ∙ folded_none (elements p p.items) (λ e. m (End p.items (owner_of p c) e)) (λ e. effect p p.items e (store_at p p.items) (Data c)) (store_at p p.items (Data c))
           (λ e le. inl (⊎_elim (λ t. absurd (none_ended (owner_of p c) e t)) (λ t. t) (cases_Bool (m (End p.items (owner_of p c) e)))))
 
-      held : (v : VarCell) → st.variables v ≡ W p p.items (Variable v)
-      held v = (here 0 q.lawful.some_rank).says.variables going v ∙ ap (λ j. W p j (Variable v)) (last_source p.items refl)
+      held : (v : VarCell) → st.variables v ≡ store_at p p.items (Variable v)
+      held v = (here 0 q.lawful.some_rank).says.variables going v ∙ ap (λ j. store_at p j (Variable v)) (last_source p.items refl)
 
       ends_going : (s : Seq F) → seq p p.items ≡ s → Agrees p s st
       ends_going (Stopped x t o) e = absurd (false≢true (ap is_going (sym e) ∙ going))
