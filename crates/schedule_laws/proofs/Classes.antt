@@ -5,7 +5,7 @@ use Rattle.std.proofs.lemmas.Bool.{cases_eq, cases_Bool, false≢true, and_parts
 use Rattle.reductions.specs.Reduction.{Reduction, Add, Min, Max}
 use Rattle.schedule_model.specs.Cells.{Cell, Data, Variable, DatCell, VarCell}
 use Rattle.schedule_model.specs.Effects.{Class, Untouched, Read, Updated, Written, Merged, Mixed, is_read, is_modified}
-use Rattle.schedule_laws.specs.Arguments.{Access, OpRead, OpWrite, OpRw, OpReduce, Argument, Direct, Indirect, Global, access_of, modifying, reading, is_on, Entries, target, reaches, same_reduction, joined, class_by}
+use Rattle.schedule_laws.specs.Arguments.{Access, OpRead, OpWrite, OpRw, OpReduce, Argument, Direct, Indirect, Global, access_of, modifying, reading, is_direct, is_on, Entries, target, reaches, same_reduction, joined, class_by}
 
 same_refl : (o : Reduction) → same_reduction o o ≡ true
 same_refl Add = refl
@@ -127,3 +127,59 @@ reaches_named entry dim width e (Global u x) v h = (x, ap (λ z. Global z x) (eq
 pub named_reaches : (entry : Entries) (dim width : ℕ → ℕ) (e : ℕ) (x : Argument) (v : VarCell) (y : Access) → x ≡ Global v.variable y → v.component < width v.variable → reaches entry dim width e x (Variable v) ≡ true
 named_reaches entry dim width e x v y i lt = subst (λ z. reaches entry dim width e z (Variable v) ≡ true) (sym i)
     (and_from (v.variable == v.variable) (nat_lt v.component (width v.variable)) (eq-eqb v.variable v.variable refl) (lt-ltb v.component (width v.variable) lt))
+
+-- ---- a cell that a modifying argument reaches
+joined_modifies : (k : Class) (x : Access) → modifying x ≡ true → is_modified (joined k x) ≡ true
+joined_modifies k OpRead h = absurd (false≢true h)
+joined_modifies k OpRw h = refl
+joined_modifies Untouched OpWrite h = refl
+joined_modifies Read OpWrite h = refl
+joined_modifies Updated OpWrite h = refl
+joined_modifies Written OpWrite h = refl
+joined_modifies (Merged o) OpWrite h = refl
+joined_modifies Mixed OpWrite h = refl
+joined_modifies Untouched (OpReduce o) h = refl
+joined_modifies Read (OpReduce o) h = refl
+joined_modifies Updated (OpReduce o) h = refl
+joined_modifies Written (OpReduce o) h = refl
+joined_modifies (Merged n) (OpReduce o) h = either (same_reduction n o)
+  where
+    either : (b : Bool) → is_modified (cond b (Merged n) Mixed) ≡ true
+    either true = refl
+    either false = refl
+joined_modifies Mixed (OpReduce o) h = refl
+
+joined_keeps : (k : Class) (x : Access) → is_modified k ≡ true → is_modified (joined k x) ≡ true
+joined_keeps Untouched OpRead h = absurd (false≢true h)
+joined_keeps Read OpRead h = absurd (false≢true h)
+joined_keeps Updated OpRead h = refl
+joined_keeps Written OpRead h = refl
+joined_keeps (Merged o) OpRead h = refl
+joined_keeps Mixed OpRead h = refl
+joined_keeps k OpWrite h = joined_modifies k OpWrite refl
+joined_keeps k OpRw h = refl
+joined_keeps k (OpReduce o) h = joined_modifies k (OpReduce o) refl
+
+pub modified_if : (entry : Entries) (dim width : ℕ → ℕ) (arg : ℕ → Argument) (e : ℕ) (c : Cell) (n a : ℕ) → a < n → reaches entry dim width e (arg a) c ≡ true → modifying (access_of (arg a)) ≡ true → is_modified (class_by entry dim width arg n e c) ≡ true
+modified_if entry dim width arg e c zero a lt r m = absurd (omega arith)
+modified_if entry dim width arg e c (suc n) a lt r m = ⊎_elim
+    (λ (i : a ≡ n).
+    ap is_modified (cond-true (reaches entry dim width e (arg n) c) (joined (class_by entry dim width arg n e c) (access_of (arg n))) (class_by entry dim width arg n e c) (ap (λ z. reaches entry dim width e (arg z) c) (sym i) ∙ r))
+    ∙ joined_modifies (class_by entry dim width arg n e c) (access_of (arg n)) (ap (λ z. modifying (access_of (arg z))) (sym i) ∙ m))
+    (λ (ne : a ≡ n → ⊥).
+    let before : is_modified (class_by entry dim width arg n e c) ≡ true = modified_if entry dim width arg e c n a (omega arith) r m in
+    ⊎_elim
+    (λ (t : reaches entry dim width e (arg n) c ≡ true). ap is_modified (cond-true (reaches entry dim width e (arg n) c) (joined (class_by entry dim width arg n e c) (access_of (arg n))) (class_by entry dim width arg n e c) t) ∙ joined_keeps (class_by entry dim width arg n e c) (access_of (arg n)) before)
+    (λ (t : reaches entry dim width e (arg n) c ≡ false). ap is_modified (cond-false (reaches entry dim width e (arg n) c) (joined (class_by entry dim width arg n e c) (access_of (arg n))) (class_by entry dim width arg n e c) t) ∙ before)
+    (cases_Bool (reaches entry dim width e (arg n) c)))
+    (cases_eq a n)
+
+-- direct arguments on one dat reach the same cells
+pub direct_reaches : (entry : Entries) (dim width : ℕ → ℕ) (e : ℕ) (x y : Argument) (c : DatCell) → reaches entry dim width e x (Data c) ≡ true → is_direct x ≡ true → is_on c.dat y ≡ true → is_direct y ≡ true → reaches entry dim width e y (Data c) ≡ true
+direct_reaches entry dim width e (Direct d x) (Direct f y) c h i on j =
+    let a : ((d == c.dat) ≡ true) × (((e == c.element) && nat_lt c.component (dim d)) ≡ true) = and_parts (d == c.dat) ((e == c.element) && nat_lt c.component (dim d)) h in
+    and_from (f == c.dat) ((e == c.element) && nat_lt c.component (dim f)) on (subst (λ z. ((e == c.element) && nat_lt c.component (dim z)) ≡ true) (eqb-true d c.dat a.0 ∙ sym (eqb-true f c.dat on)) a.1)
+direct_reaches entry dim width e (Direct d x) (Indirect f m k y) c h i on j = absurd (false≢true j)
+direct_reaches entry dim width e (Direct d x) (Global v y) c h i on j = absurd (false≢true j)
+direct_reaches entry dim width e (Indirect d m k x) y c h i on j = absurd (false≢true i)
+direct_reaches entry dim width e (Global v x) y c h i on j = absurd (false≢true i)
