@@ -4,3 +4,4 @@ pub mod Same
 pub mod Steps
 pub mod Joins
 pub mod Whole
+pub mod Scatter
