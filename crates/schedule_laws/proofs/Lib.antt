@@ -1,3 +1,4 @@
 pub mod Classes
 pub mod Give
 pub mod Windows
+pub mod Tells

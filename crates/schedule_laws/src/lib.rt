@@ -2,11 +2,12 @@
 #![tactic(auto)]
 
 ghost use Rattle.std.specs.Prelude.{◌≡◌, ◌<◌, ℕ, true};
-ghost use Rattle.schedule_model.specs.Cells.{Data, DatCell};
-ghost use Rattle.schedule_model.specs.Effects.{is_modified};
+ghost use Rattle.schedule_model.specs.Cells.{Cell, Data, DatCell};
+ghost use Rattle.schedule_model.specs.Effects.{is_read, is_modified};
 ghost use Rattle.schedule_model.specs.Plan.{Plan, Free, elements};
 ghost use Rattle.schedule_model.specs.Laws.{Lawful, Coloured};
-ghost use Rattle.schedule_laws.specs.Arguments.{access_of, modifying, is_on, reaches};
+ghost use Rattle.schedule_laws.specs.Arguments.{Argument, Entries, access_of, modifying, reading, is_on, reaches, class_by};
+ghost use Rattle.schedule_laws.specs.Tells.{Tells};
 ghost use Rattle.schedule_laws.specs.Loops.{Kernels, Items, Loops};
 
 /// A bound program with its plan is lawful: the premises of the theorem on schedules hold of it, and
@@ -24,4 +25,15 @@ pub fn windows_are_modified<F>()
         → reaches f.entry f.dim f.width e (f.arg (p.site k) a) (Data c) ≡ true
         → is_on c.dat (f.arg (p.site k) b) ≡ true → modifying (access_of (f.arg (p.site k) b)) ≡ true
         → is_modified (p.class k e (Data c)) ≡ true }
+{}
+
+/// What the class of a cell says of the arguments by which an element reaches it, and that a cell
+/// which an OP_READ or OP_RW argument reaches is of a class that is read: so the independence of a
+/// kernel by its arguments is independence by classes.
+pub fn classes_tell()
+    ensures tells { (entry : Entries) (dim width : ℕ → ℕ) (arg : ℕ → Argument) (e : ℕ) (c : Cell) (n : ℕ)
+        → Tells entry dim width arg n e c (class_by entry dim width arg n e c) }
+    ensures read { (entry : Entries) (dim width : ℕ → ℕ) (arg : ℕ → Argument) (e : ℕ) (c : Cell) (n a : ℕ) → a < n
+        → reaches entry dim width e (arg a) c ≡ true → reading (access_of (arg a)) ≡ true
+        → is_read (class_by entry dim width arg n e c) ≡ true }
 {}
