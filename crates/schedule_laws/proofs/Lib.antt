@@ -2,3 +2,4 @@ pub mod Classes
 pub mod Give
 pub mod Windows
 pub mod Tells
+pub mod ByArguments

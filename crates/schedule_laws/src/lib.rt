@@ -1,13 +1,14 @@
 //! The laws of a plan, from what binding, kernels, halos, exchanges and colours say of its parts.
 #![tactic(auto)]
 
-ghost use Rattle.std.specs.Prelude.{◌≡◌, ◌<◌, ℕ, true};
-ghost use Rattle.schedule_model.specs.Cells.{Cell, Data, DatCell};
-ghost use Rattle.schedule_model.specs.Effects.{is_read, is_modified};
+ghost use Rattle.std.specs.Prelude.{◌≡◌, ◌<◌, ℕ, Bool, true};
+ghost use Rattle.schedule_model.specs.Cells.{Cell, Data, DatCell, Store};
+ghost use Rattle.schedule_model.specs.Effects.{Ran, Independent, is_read, is_modified};
 ghost use Rattle.schedule_model.specs.Plan.{Plan, Free, elements};
 ghost use Rattle.schedule_model.specs.Laws.{Lawful, Coloured};
 ghost use Rattle.schedule_laws.specs.Arguments.{Argument, Entries, access_of, modifying, reading, is_on, reaches, class_by};
 ghost use Rattle.schedule_laws.specs.Tells.{Tells};
+ghost use Rattle.schedule_laws.specs.ByArguments.{IndependentBy, ReadConstants, class_with};
 ghost use Rattle.schedule_laws.specs.Loops.{Kernels, Items, Loops};
 
 /// A bound program with its plan is lawful: the premises of the theorem on schedules hold of it, and
@@ -36,4 +37,12 @@ pub fn classes_tell()
     ensures read { (entry : Entries) (dim width : ℕ → ℕ) (arg : ℕ → Argument) (e : ℕ) (c : Cell) (n a : ℕ) → a < n
         → reaches entry dim width e (arg a) c ≡ true → reading (access_of (arg a)) ≡ true
         → is_read (class_by entry dim width arg n e c) ≡ true }
+{}
+
+/// A kernel whose runs are independent by its arguments is independent by classes, where constants
+/// count as read.
+pub fn arguments_give_classes<F>()
+    ensures { (entry : Entries) (dim width : ℕ → ℕ) (arg : ℕ → Argument) (n e : ℕ) (is_constant : Cell → Bool) (run : Store → Ran F)
+        → ReadConstants entry dim width arg n e is_constant → IndependentBy entry dim width arg n e is_constant run
+        → Independent run (class_with entry dim width arg n e is_constant) }
 {}
