@@ -3,8 +3,8 @@
 #![tactic(auto)]
 
 ghost use Rattle.std.specs.Prelude.{◌≡◌, ℕ, ℤ, Bool, List, length};
-ghost use Rattle.schedule_steps.specs.Outline.{by_colour};
-ghost use Rattle.schedule_steps.specs.Steps.{Step, Accepted};
+ghost use Rattle.schedule_steps.specs.Outline.{by_colour, any_order};
+ghost use Rattle.schedule_steps.specs.Steps.{Step, Accepted, EndsAtOnce};
 ghost use Rattle.schedule_model.specs.Cells.{Cell, DatCell};
 ghost use Rattle.schedule_model.specs.Plan.{Plan};
 ghost use Rattle.schedule_model.specs.Laws.{Lawful, Coloured};
@@ -21,6 +21,15 @@ pub fn flat_runs_as_sequential<F>()
         → Accepted (by_place p l) (by_colour (by_place p l)) steps → AgreesFlat p l (sequential p) (flat_from p l steps f) }
 {
     schedule_model::accepted_runs_as_sequential::<F>();
+}
+
+/// The same for every list that is accepted under the rules without colours, in which each begin is
+/// followed at once by its own end.
+pub fn flat_one_at_a_time_runs_as_sequential<F>()
+    ensures { (p : Plan F) → Lawful p → (l : Layout F) → Fits p l → (f : Flat F) → StartsFlat p l f → (steps : List Step)
+        → Accepted (by_place p l) any_order steps → EndsAtOnce steps → AgreesFlat p l (sequential p) (flat_from p l steps f) }
+{
+    schedule_model::one_at_a_time_runs_as_sequential::<F>();
 }
 
 /// Values that are written into a buffer cell by cell, as a receive, an end and an Ordered loop may
