@@ -1,0 +1,4 @@
+pub mod Lawful
+pub mod Refused
+pub mod OnBuffers
+pub mod Parts

@@ -1,0 +1,11 @@
+use Rattle.schedule_examples.proofs.Parts.{kernels, items, loops}
+use Rattle.schedule_examples.proofs.ring.ring_has_the_parts.Goals as goal
+
+pub returns-clause-kernels : goal.returns-clause-kernels
+returns-clause-kernels c = λ faulty. kernels faulty c.one_bit_is_the_history.ensures
+
+pub returns-clause-items : goal.returns-clause-items
+returns-clause-items c = λ faulty. items faulty c.one_bit_is_the_history.ensures
+
+pub returns-clause-loops : goal.returns-clause-loops
+returns-clause-loops c = loops

@@ -1,0 +1,4 @@
+pub mod Ring
+pub mod Lists
+pub mod RingLayout
+pub mod RingArguments

@@ -1,0 +1,5 @@
+pub mod Classes
+pub mod Give
+pub mod Windows
+pub mod Tells
+pub mod ByArguments

@@ -1,0 +1,4 @@
+pub mod Arguments
+pub mod Loops
+pub mod Tells
+pub mod ByArguments

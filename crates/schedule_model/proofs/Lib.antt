@@ -1,0 +1,16 @@
+pub mod Fold
+pub mod History
+pub mod Runs
+pub mod Law
+pub mod Marks
+pub mod Least
+pub mod Sequence
+pub mod Range
+pub mod Facts
+pub mod Inv
+pub mod Messages
+pub mod Elements
+pub mod Stops
+pub mod Joins
+pub mod Whole
+pub mod Kept

@@ -1,0 +1,9 @@
+pub mod Cells
+pub mod History
+pub mod Effects
+pub mod Plan
+pub mod Tests
+pub mod Sequential
+pub mod Machine
+pub mod Laws
+pub mod Kept
