@@ -3,3 +3,10 @@ pub mod Steps
 pub mod Complete
 pub mod Sound
 pub mod Turns
+pub mod LoopTurns
+pub mod StmtTurns
+pub mod HostTurns
+pub mod Far
+pub mod Exactness
+pub mod Lists
+pub mod Items

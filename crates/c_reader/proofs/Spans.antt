@@ -1,6 +1,7 @@
 -- Marks that stand in a list of kinds, from one place up to another.
 use Rattle.std.proofs.Common.{◌≡◌, ℕ, suc, ◌+◌, ◌≤◌, ◌<◌, Bool, true, false, cond, List, [], ◌∷◌, ◌++◌, length, map, Option, Some, None, Result, Ok, Err, refl, sym, ap, subst, ◌∙◌, arith, slice_get, nat_lt, drop, zero, length-drop}
 use Rattle.std.proofs.lemmas.List.{drop_all}
+use Rattle.std.proofs.lemmas.Option.{slice_get_within}
 use Rattle.c_lex.specs.declared.tokens.Kind.{Kind}
 use Rattle.c_tree.specs.Print.{Mark}
 use Rattle.c_tree.specs.Reads.{Keeps, AreNumbered, first_deep}
@@ -99,3 +100,12 @@ whole_spans ks n [] s = (sym (drop_all n ks (omega arith)), tt)
 whole_spans ks n (m ∷ ms) s =
     let r = whole_spans ks (suc n) ms s.2 in
     (ap (λ x. m.kind ∷ x) r.0 ∙ sym (drop_here ks n m.kind s.0), (s.1, r.1))
+
+pub spans_end : (ks : List Kind) (n : ℕ) (ms : List Mark) (e : ℕ) → Spans ks n ms e → n + length ms ≡ e
+spans_end ks n [] e s = omega arith
+spans_end ks n (m ∷ ms) e s = omega (arith, spans_end ks (suc n) ms e s.2)
+
+-- marks stand within the list
+pub spans_within : (ks : List Kind) (n : ℕ) (m : Mark) (ms : List Mark) (e : ℕ) → Spans ks n (m ∷ ms) e → e ≤ length ks
+spans_within ks n m [] e s = omega (arith, slice_get_within ks n m.kind s.0)
+spans_within ks n m (x ∷ xs) e s = spans_within ks (suc n) x xs e s.2

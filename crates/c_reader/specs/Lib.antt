@@ -1,3 +1,10 @@
 pub mod Kinds
 pub mod Leads
 pub mod Descent
+pub mod Rows
+pub mod Declarations
+pub mod Statements
+pub mod Arguments
+pub mod Calls
+pub mod Hosts
+pub mod Whole

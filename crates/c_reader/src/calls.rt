@@ -1,5 +1,13 @@
 // Calls of the library in `main`. `depth` is how many levels are left for their expressions.
 
+ghost use Rattle.std.specs.Prelude.{◌≡◌};
+ghost use Rattle.c_tree.specs.View.{expr_of, call_of};
+ghost use Rattle.c_reader.specs.declared.leads.CallLead.TheVariants as call_lead;
+ghost use Rattle.c_reader.specs.Descent.{Gives};
+ghost use Rattle.c_reader.specs.Rows.{seen_by, items_seen};
+ghost use Rattle.c_reader.specs.Calls.{close, call_at, values_at};
+ghost use Rattle.c_reader.specs.Kinds.{kinds};
+
 use crate::cursor::{after_sign, after_word, ident, is_sign, number, text};
 use crate::expressions;
 use crate::faults::{Fault, ReadError};
@@ -15,7 +23,9 @@ pub fn read_call(
     depth: usize,
     lead: CallLead,
     at: usize,
-) -> Result<(OpCall, usize), ReadError> {
+) -> Result<(OpCall, usize), ReadError>
+    ensures { Gives (seen_by call_of) result (call_at (kinds tokens.now) depth lead at) }
+{
     match lead {
         CallLead::Init => read_init(tokens, at),
         CallLead::DeclSet => read_decl_set(alloc, tokens, depth, at),
@@ -29,12 +39,16 @@ pub fn read_call(
 }
 
 // The place after the `)` and the `;` that end a call.
-fn after_close(tokens: &[Token], at: usize) -> Result<usize, ReadError> {
+fn after_close(tokens: &[Token], at: usize) -> Result<usize, ReadError>
+    ensures { Gives (λ x. ((tt, tt), x)) result (close (kinds tokens.now) at) }
+{
     let next = after_sign(tokens, Sign::RightParen, at)?;
     after_sign(tokens, Sign::Semicolon, next)
 }
 
-fn read_init(tokens: &[Token], at: usize) -> Result<(OpCall, usize), ReadError> {
+fn read_init(tokens: &[Token], at: usize) -> Result<(OpCall, usize), ReadError>
+    ensures { Gives (seen_by call_of) result (call_at (kinds tokens.now) 0 call_lead.Init at) }
+{
     let next = after_word(tokens, Word::OpInit, at)?;
     let next = after_sign(tokens, Sign::LeftParen, next)?;
     let next = after_word(tokens, Word::Argc, next)?;
@@ -51,7 +65,9 @@ fn read_decl_set(
     tokens: &[Token],
     depth: usize,
     at: usize,
-) -> Result<(OpCall, usize), ReadError> {
+) -> Result<(OpCall, usize), ReadError>
+    ensures { Gives (seen_by call_of) result (call_at (kinds tokens.now) depth call_lead.DeclSet at) }
+{
     let next = after_word(tokens, Word::OpSet, at)?;
     let (name, next) = ident(alloc, tokens, next)?;
     let at = after_sign(tokens, Sign::Assign, next)?;
@@ -72,7 +88,9 @@ fn read_decl_set(
     ))
 }
 
-fn read_decl_map(alloc: Global, tokens: &[Token], at: usize) -> Result<(OpCall, usize), ReadError> {
+fn read_decl_map(alloc: Global, tokens: &[Token], at: usize) -> Result<(OpCall, usize), ReadError>
+    ensures { Gives (seen_by call_of) result (call_at (kinds tokens.now) 0 call_lead.DeclMap at) }
+{
     let next = after_word(tokens, Word::OpMap, at)?;
     let (name, next) = ident(alloc, tokens, next)?;
     let at = after_sign(tokens, Sign::Assign, next)?;
@@ -102,7 +120,9 @@ fn read_decl_map(alloc: Global, tokens: &[Token], at: usize) -> Result<(OpCall, 
     ))
 }
 
-fn read_decl_dat(alloc: Global, tokens: &[Token], at: usize) -> Result<(OpCall, usize), ReadError> {
+fn read_decl_dat(alloc: Global, tokens: &[Token], at: usize) -> Result<(OpCall, usize), ReadError>
+    ensures { Gives (seen_by call_of) result (call_at (kinds tokens.now) 0 call_lead.DeclDat at) }
+{
     let next = after_word(tokens, Word::OpDat, at)?;
     let (name, next) = ident(alloc, tokens, next)?;
     let at = after_sign(tokens, Sign::Assign, next)?;
@@ -132,11 +152,9 @@ fn read_decl_dat(alloc: Global, tokens: &[Token], at: usize) -> Result<(OpCall, 
     ))
 }
 
-fn read_decl_const(
-    alloc: Global,
-    tokens: &[Token],
-    at: usize,
-) -> Result<(OpCall, usize), ReadError> {
+fn read_decl_const(alloc: Global, tokens: &[Token], at: usize) -> Result<(OpCall, usize), ReadError>
+    ensures { Gives (seen_by call_of) result (call_at (kinds tokens.now) 0 call_lead.DeclConst at) }
+{
     let next = after_word(tokens, Word::OpDeclConst, at)?;
     let next = after_sign(tokens, Sign::LeftParen, next)?;
     let (dim, next) = number(tokens, next)?;
@@ -156,7 +174,9 @@ fn read_decl_const(
     ))
 }
 
-fn read_par_loop(alloc: Global, tokens: &[Token], at: usize) -> Result<(OpCall, usize), ReadError> {
+fn read_par_loop(alloc: Global, tokens: &[Token], at: usize) -> Result<(OpCall, usize), ReadError>
+    ensures { Gives (seen_by call_of) result (call_at (kinds tokens.now) 0 call_lead.ParLoop at) }
+{
     let next = after_word(tokens, Word::OpParLoop, at)?;
     let next = after_sign(tokens, Sign::LeftParen, next)?;
     let (kernel, next) = ident(alloc, tokens, next)?;
@@ -183,7 +203,9 @@ fn read_printf(
     tokens: &[Token],
     depth: usize,
     at: usize,
-) -> Result<(OpCall, usize), ReadError> {
+) -> Result<(OpCall, usize), ReadError>
+    ensures { Gives (seen_by call_of) result (call_at (kinds tokens.now) depth call_lead.Printf at) }
+{
     let next = after_word(tokens, Word::OpPrintf, at)?;
     let next = after_sign(tokens, Sign::LeftParen, next)?;
     let (text, next) = text(alloc, tokens, next)?;
@@ -198,7 +220,9 @@ fn read_values(
     tokens: &[Token],
     depth: usize,
     at: usize,
-) -> Result<(Vec<Expr>, usize), ReadError> {
+) -> Result<(Vec<Expr>, usize), ReadError>
+    ensures { Gives (items_seen expr_of) result (values_at (kinds tokens.now) depth at) }
+{
     let mut all = Vec::new(alloc);
     let mut next = at;
     for count in 0..tokens.len() {
@@ -212,11 +236,9 @@ fn read_values(
     Err(ReadError::Fault(Fault::Syntax(next)))
 }
 
-fn read_print_dat(
-    alloc: Global,
-    tokens: &[Token],
-    at: usize,
-) -> Result<(OpCall, usize), ReadError> {
+fn read_print_dat(alloc: Global, tokens: &[Token], at: usize) -> Result<(OpCall, usize), ReadError>
+    ensures { Gives (seen_by call_of) result (call_at (kinds tokens.now) 0 call_lead.PrintDat at) }
+{
     let next = after_word(tokens, Word::OpPrintDatToTxtfile, at)?;
     let next = after_sign(tokens, Sign::LeftParen, next)?;
     let (dat, next) = ident(alloc, tokens, next)?;

@@ -2,6 +2,7 @@
 
 ghost use Rattle.std.specs.Prelude.{◌≡◌, ◌<◌, slice_get, IsTrue, OnSome, length};
 ghost use Rattle.c_reader.specs.Descent.{Gives, sign_is, sign_at, operator_at};
+ghost use Rattle.c_reader.specs.Rows.{word_is, word_at, ident as ident_at, number as number_at, text as text_at};
 ghost use Rattle.c_reader.specs.Kinds.{kinds};
 
 use crate::faults::{Fault, ReadError};
@@ -25,6 +26,7 @@ pub fn is_sign(tokens: &[Token], sign: Sign, at: usize) -> bool
 
 /// Whether this word stands there.
 pub fn is_word(tokens: &[Token], word: Word, at: usize) -> bool
+    ensures is { result ≡ word_is word (slice_get (kinds tokens.now) at) }
     ensures within { IsTrue result → at < length tokens.now }
 {
     match tokens.get(at) {
@@ -49,7 +51,10 @@ pub fn after_sign(tokens: &[Token], sign: Sign, at: usize) -> Result<usize, Read
 }
 
 /// The place after this word.
-pub fn after_word(tokens: &[Token], word: Word, at: usize) -> Result<usize, ReadError> {
+#[tactic(auto, unfolding(crate::specs::Rows::word_at))]
+pub fn after_word(tokens: &[Token], word: Word, at: usize) -> Result<usize, ReadError>
+    ensures { Gives (λ x. x) result (word_at (kinds tokens.now) word at) }
+{
     if is_word(tokens, word, at) {
         Ok(at + 1)
     } else {
@@ -58,7 +63,10 @@ pub fn after_word(tokens: &[Token], word: Word, at: usize) -> Result<usize, Read
 }
 
 /// The name there, and the place after it.
-pub fn ident(alloc: Global, tokens: &[Token], at: usize) -> Result<(Ident, usize), ReadError> {
+#[tactic(auto, unfolding(crate::specs::Rows::ident))]
+pub fn ident(alloc: Global, tokens: &[Token], at: usize) -> Result<(Ident, usize), ReadError>
+    ensures { Gives (λ x. x) result (ident_at (kinds tokens.now) at) }
+{
     match tokens.get(at) {
         Some(token) => match &token.kind {
             Kind::Name(name) => {
@@ -72,7 +80,10 @@ pub fn ident(alloc: Global, tokens: &[Token], at: usize) -> Result<(Ident, usize
 }
 
 /// The number there, and the place after it.
-pub fn number(tokens: &[Token], at: usize) -> Result<(NumberLiteral, usize), ReadError> {
+#[tactic(auto, unfolding(crate::specs::Rows::number))]
+pub fn number(tokens: &[Token], at: usize) -> Result<(NumberLiteral, usize), ReadError>
+    ensures { Gives (λ x. x) result (number_at (kinds tokens.now) at) }
+{
     match tokens.get(at) {
         Some(token) => match &token.kind {
             Kind::Number(value) => Ok((NumberLiteral { value: *value, at }, at + 1)),
@@ -83,7 +94,10 @@ pub fn number(tokens: &[Token], at: usize) -> Result<(NumberLiteral, usize), Rea
 }
 
 /// The text there, and the place after it.
-pub fn text(alloc: Global, tokens: &[Token], at: usize) -> Result<(TextLiteral, usize), ReadError> {
+#[tactic(auto, unfolding(crate::specs::Rows::text))]
+pub fn text(alloc: Global, tokens: &[Token], at: usize) -> Result<(TextLiteral, usize), ReadError>
+    ensures { Gives (λ x. x) result (text_at (kinds tokens.now) at) }
+{
     match tokens.get(at) {
         Some(token) => match &token.kind {
             Kind::Text(text) => {

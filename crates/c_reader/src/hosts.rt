@@ -1,5 +1,12 @@
 // Statements of `main`, by descent. `depth` is how many levels of nesting are left.
 
+ghost use Rattle.std.specs.Prelude.{◌≡◌, slice_get};
+ghost use Rattle.c_tree.specs.View.{host_of, host_for_header_of};
+ghost use Rattle.c_reader.specs.Descent.{Gives};
+ghost use Rattle.c_reader.specs.Rows.{seen_by, items_seen};
+ghost use Rattle.c_reader.specs.Hosts.{for_header_at, lead_in, declares as declares_at, body_at, is_closed as is_closed_at, hosts_in, if_at, host_led, host_at};
+ghost use Rattle.c_reader.specs.Kinds.{kinds};
+
 use crate::assignments::read_assignment;
 use crate::calls::read_call;
 use crate::cursor::{after_sign, after_word, ident, is_sign, is_word};
@@ -19,12 +26,15 @@ pub enum Closing {
 }
 
 // The head of a `for`, and the place after its `)`.
+#[tactic(auto, unfolding(crate::specs::Hosts::for_header_at))]
 fn read_for_header(
     alloc: Global,
     tokens: &[Token],
     depth: usize,
     at: usize,
-) -> Result<(HostForHeader, usize), ReadError> {
+) -> Result<(HostForHeader, usize), ReadError>
+    ensures { Gives (seen_by host_for_header_of) result (for_header_at (kinds tokens.now) depth at) }
+{
     let next = after_word(tokens, Word::For, at)?;
     let next = after_sign(tokens, Sign::LeftParen, next)?;
     let next = after_word(tokens, Word::Int, next)?;
@@ -54,12 +64,15 @@ fn read_for_header(
 
 /// A statement, and the place after it.
 #[cycle(hosts)]
+#[tactic(auto, unfolding(crate::specs::Hosts::host_at))]
 pub fn read_host(
     alloc: Global,
     tokens: &[Token],
     depth: usize,
     at: usize,
-) -> Result<(Host, usize), ReadError> {
+) -> Result<(Host, usize), ReadError>
+    ensures { Gives (seen_by host_of) result (host_at (kinds tokens.now) depth at) }
+{
     if depth == 0 {
         return Err(ReadError::Fault(Fault::TooDeep(at)));
     }
@@ -73,7 +86,9 @@ fn read_led(
     tokens: &[Token],
     depth: usize,
     at: usize,
-) -> Result<(Host, usize), ReadError> {
+) -> Result<(Host, usize), ReadError>
+    ensures { Gives (seen_by host_of) result (host_led (kinds tokens.now) depth (host_at (kinds tokens.now) depth) (lead_in (slice_get (kinds tokens.now) at)) at) }
+{
     match host_lead(tokens, at) {
         HostLead::Declaration => {
             let (declaration, next) = read_declaration(alloc, tokens, depth, at)?;
@@ -97,6 +112,7 @@ fn read_led(
         HostLead::For => {
             let (header, next) = read_for_header(alloc, tokens, depth, at)?;
             let (body, next) = read_body(alloc, tokens, depth, next)?;
+            let body = Box::new(alloc, body)?;
             Ok((Host::For { header, body }, next))
         }
         HostLead::Call(lead) => {
@@ -108,7 +124,9 @@ fn read_led(
 }
 
 // What the token there begins.
-fn host_lead(tokens: &[Token], at: usize) -> HostLead {
+fn host_lead(tokens: &[Token], at: usize) -> HostLead
+    ensures { result ≡ lead_in (slice_get (kinds tokens.now) at) }
+{
     match tokens.get(at) {
         Some(token) => host_begun_by(&token.kind),
         None => HostLead::Nothing,
@@ -117,16 +135,21 @@ fn host_lead(tokens: &[Token], at: usize) -> HostLead {
 
 // An `if`, with the `else` that stands directly behind its first branch.
 #[cycle(hosts)]
+#[tactic(auto, unfolding(crate::specs::Hosts::if_at))]
 fn read_if(
     alloc: Global,
     tokens: &[Token],
     depth: usize,
     at: usize,
-) -> Result<(Host, usize), ReadError> {
+) -> Result<(Host, usize), ReadError>
+    ensures { Gives (seen_by host_of) result (if_at (kinds tokens.now) depth (host_at (kinds tokens.now) depth) at) }
+{
     let (condition, next) = read_condition(alloc, tokens, depth, at)?;
     let (then, next) = read_body(alloc, tokens, depth, next)?;
+    let then = Box::new(alloc, then)?;
     if is_word(tokens, Word::Else, next) {
         let (otherwise, next) = read_body(alloc, tokens, depth, next + 1)?;
+        let otherwise = Box::new(alloc, otherwise)?;
         Ok((
             Host::IfElse {
                 at,
@@ -155,17 +178,19 @@ fn read_body(
     tokens: &[Token],
     depth: usize,
     at: usize,
-) -> Result<(Box<Host>, usize), ReadError> {
+) -> Result<(Host, usize), ReadError>
+    ensures { Gives (seen_by host_of) result (body_at (kinds tokens.now) (host_at (kinds tokens.now) depth) at) }
+{
     if declares(tokens, at) {
         return Err(ReadError::Fault(Fault::Syntax(at)));
     }
-    let (body, next) = read_host(alloc, tokens, depth, at)?;
-    let body = Box::new(alloc, body)?;
-    Ok((body, next))
+    read_host(alloc, tokens, depth, at)
 }
 
 // Whether a declaration begins there.
-fn declares(tokens: &[Token], at: usize) -> bool {
+fn declares(tokens: &[Token], at: usize) -> bool
+    ensures { result ≡ declares_at (slice_get (kinds tokens.now) at) }
+{
     is_word(tokens, Word::Int, at) || is_word(tokens, Word::Const, at)
 }
 
@@ -177,7 +202,9 @@ pub fn read_hosts(
     depth: usize,
     closing: Closing,
     at: usize,
-) -> Result<(Vec<Host>, usize), ReadError> {
+) -> Result<(Vec<Host>, usize), ReadError>
+    ensures { Gives (items_seen host_of) result (hosts_in (kinds tokens.now) closing (host_at (kinds tokens.now) depth) at) }
+{
     let mut all = Vec::new(alloc);
     let mut next = at;
     for count in 0..tokens.len() {
@@ -192,7 +219,9 @@ pub fn read_hosts(
 }
 
 // Whether what closes the statements stands there.
-fn is_closed(tokens: &[Token], closing: Closing, at: usize) -> bool {
+fn is_closed(tokens: &[Token], closing: Closing, at: usize) -> bool
+    ensures { result ≡ is_closed_at (kinds tokens.now) closing at }
+{
     match closing {
         Closing::Brace => is_sign(tokens, Sign::RightBrace, at),
         Closing::Exit => is_word(tokens, Word::OpExit, at),

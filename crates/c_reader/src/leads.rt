@@ -1,7 +1,7 @@
 // What a sign begins or joins.
 
 ghost use Rattle.std.specs.Prelude.{◌≡◌};
-ghost use Rattle.c_reader.specs.Leads.{binary_of, lead_of, word_lead_of};
+ghost use Rattle.c_reader.specs.Leads.{binary_of, lead_of, word_lead_of, assign_of, access_of, stmt_lead_of, host_word_lead_of, host_lead_of, top_lead_of};
 ghost use Rattle.c_tree.specs.Signs.{level_of};
 
 use c_tree::{AccessWord, AssignOp, BinaryOp, Kind, MinMax, Sign, UnaryOp, Word};
@@ -108,7 +108,9 @@ pub enum StmtLead {
 }
 
 /// What the token begins.
-pub fn stmt_begun_by(kind: &Kind) -> StmtLead {
+pub fn stmt_begun_by(kind: &Kind) -> StmtLead
+    ensures { result ≡ stmt_lead_of kind.now }
+{
     match kind {
         Kind::Word(Word::Int) => StmtLead::Declaration,
         Kind::Word(Word::If) => StmtLead::If,
@@ -148,7 +150,9 @@ pub enum HostLead {
 }
 
 /// What the token begins.
-pub fn host_begun_by(kind: &Kind) -> HostLead {
+pub fn host_begun_by(kind: &Kind) -> HostLead
+    ensures { result ≡ host_lead_of kind.now }
+{
     match kind {
         Kind::Word(word) => host_begun_by_word(*word),
         Kind::Sign(Sign::LeftBrace) => HostLead::Block,
@@ -160,7 +164,9 @@ pub fn host_begun_by(kind: &Kind) -> HostLead {
 }
 
 // What the word begins.
-fn host_begun_by_word(word: Word) -> HostLead {
+fn host_begun_by_word(word: Word) -> HostLead
+    ensures { result ≡ host_word_lead_of word }
+{
     match word {
         Word::Int | Word::Const => HostLead::Declaration,
         Word::If => HostLead::If,
@@ -187,7 +193,9 @@ pub enum TopLead {
 }
 
 /// What the token begins.
-pub fn top_begun_by(kind: &Kind) -> TopLead {
+pub fn top_begun_by(kind: &Kind) -> TopLead
+    ensures { result ≡ top_lead_of kind.now }
+{
     match kind {
         Kind::Word(Word::Extern) => TopLead::Extern,
         Kind::Word(Word::Int) => TopLead::Declaration,
@@ -200,7 +208,9 @@ pub fn top_begun_by(kind: &Kind) -> TopLead {
 }
 
 /// The operator of a sign of assignment.
-pub fn assign(sign: Sign) -> Option<AssignOp> {
+pub fn assign(sign: Sign) -> Option<AssignOp>
+    ensures { result ≡ assign_of sign }
+{
     match sign {
         Sign::Assign => Some(AssignOp::Set),
         Sign::AddAssign => Some(AssignOp::Add),
@@ -218,7 +228,9 @@ pub fn assign(sign: Sign) -> Option<AssignOp> {
 }
 
 /// The access of a word.
-pub fn access(word: Word) -> Option<AccessWord> {
+pub fn access(word: Word) -> Option<AccessWord>
+    ensures { result ≡ access_of word }
+{
     match word {
         Word::OpRead => Some(AccessWord::Read),
         Word::OpWrite => Some(AccessWord::Write),

@@ -1,5 +1,11 @@
 // The arguments of a loop.
 
+ghost use Rattle.std.specs.Prelude.{◌≡◌};
+ghost use Rattle.c_reader.specs.Descent.{Gives};
+ghost use Rattle.c_reader.specs.Rows.{items_seen};
+ghost use Rattle.c_reader.specs.Arguments.{global_at, index_at, via_at, access_at, dat_arg, global_arg, arg_at, args_at};
+ghost use Rattle.c_reader.specs.Kinds.{kinds};
+
 use crate::cursor::{after_sign, after_word, ident, is_sign, is_word, number, text};
 use crate::faults::{Fault, ReadError};
 use crate::leads::access;
@@ -7,11 +13,14 @@ use c_tree::{AccessWord, ArgIndex, ArgVia, GlobalName, Kind, LoopArg, Sign, Toke
 use std::alloc::Global;
 
 /// A variable, behind `&` or not, and the place after it.
+#[tactic(auto, unfolding(crate::specs::Arguments::global_at))]
 pub fn read_global(
     alloc: Global,
     tokens: &[Token],
     at: usize,
-) -> Result<(GlobalName, usize), ReadError> {
+) -> Result<(GlobalName, usize), ReadError>
+    ensures { Gives (λ x. x) result (global_at (kinds tokens.now) at) }
+{
     if is_sign(tokens, Sign::And, at) {
         let (name, next) = ident(alloc, tokens, at + 1)?;
         let ampersand = Some(at);
@@ -24,7 +33,10 @@ pub fn read_global(
 }
 
 // The index of an argument, and the place after it.
-fn read_index(tokens: &[Token], at: usize) -> Result<(ArgIndex, usize), ReadError> {
+#[tactic(auto, unfolding(crate::specs::Arguments::index_at))]
+fn read_index(tokens: &[Token], at: usize) -> Result<(ArgIndex, usize), ReadError>
+    ensures { Gives (λ x. x) result (index_at (kinds tokens.now) at) }
+{
     if is_sign(tokens, Sign::Minus, at) {
         let (found, next) = number(tokens, at + 1)?;
         let value = found.value;
@@ -51,7 +63,10 @@ fn read_index(tokens: &[Token], at: usize) -> Result<(ArgIndex, usize), ReadErro
 }
 
 // What an argument's index goes through, and the place after it.
-fn read_via(alloc: Global, tokens: &[Token], at: usize) -> Result<(ArgVia, usize), ReadError> {
+#[tactic(auto, unfolding(crate::specs::Arguments::via_at))]
+fn read_via(alloc: Global, tokens: &[Token], at: usize) -> Result<(ArgVia, usize), ReadError>
+    ensures { Gives (λ x. x) result (via_at (kinds tokens.now) at) }
+{
     if is_word(tokens, Word::OpId, at) {
         Ok((ArgVia::Identity(at), at + 1))
     } else {
@@ -61,7 +76,10 @@ fn read_via(alloc: Global, tokens: &[Token], at: usize) -> Result<(ArgVia, usize
 }
 
 // The access there, and the place after it.
-fn read_access(tokens: &[Token], at: usize) -> Result<(AccessWord, usize), ReadError> {
+#[tactic(auto, unfolding(crate::specs::Arguments::access_at))]
+fn read_access(tokens: &[Token], at: usize) -> Result<(AccessWord, usize), ReadError>
+    ensures { Gives (λ x. x) result (access_at (kinds tokens.now) at) }
+{
     match tokens.get(at) {
         Some(token) => match &token.kind {
             Kind::Word(word) => match access(*word) {
@@ -75,7 +93,9 @@ fn read_access(tokens: &[Token], at: usize) -> Result<(AccessWord, usize), ReadE
 }
 
 // `op_arg_dat(..)`, and the place after it.
-fn read_dat_arg(alloc: Global, tokens: &[Token], at: usize) -> Result<(LoopArg, usize), ReadError> {
+fn read_dat_arg(alloc: Global, tokens: &[Token], at: usize) -> Result<(LoopArg, usize), ReadError>
+    ensures { Gives (λ x. x) result (dat_arg (kinds tokens.now) at) }
+{
     let next = after_word(tokens, Word::OpArgDat, at)?;
     let next = after_sign(tokens, Sign::LeftParen, next)?;
     let (dat, next) = ident(alloc, tokens, next)?;
@@ -110,7 +130,9 @@ fn read_global_arg(
     alloc: Global,
     tokens: &[Token],
     at: usize,
-) -> Result<(LoopArg, usize), ReadError> {
+) -> Result<(LoopArg, usize), ReadError>
+    ensures { Gives (λ x. x) result (global_arg (kinds tokens.now) at) }
+{
     let next = after_word(tokens, Word::OpArgGbl, at)?;
     let next = after_sign(tokens, Sign::LeftParen, next)?;
     let (global, next) = read_global(alloc, tokens, next)?;
@@ -135,7 +157,10 @@ fn read_global_arg(
 }
 
 // An argument, and the place after it.
-fn read_arg(alloc: Global, tokens: &[Token], at: usize) -> Result<(LoopArg, usize), ReadError> {
+#[tactic(auto, unfolding(crate::specs::Arguments::arg_at))]
+fn read_arg(alloc: Global, tokens: &[Token], at: usize) -> Result<(LoopArg, usize), ReadError>
+    ensures { Gives (λ x. x) result (arg_at (kinds tokens.now) at) }
+{
     if is_word(tokens, Word::OpArgGbl, at) {
         read_global_arg(alloc, tokens, at)
     } else {
@@ -148,7 +173,9 @@ pub fn read_args(
     alloc: Global,
     tokens: &[Token],
     at: usize,
-) -> Result<(Vec<LoopArg>, usize), ReadError> {
+) -> Result<(Vec<LoopArg>, usize), ReadError>
+    ensures { Gives (items_seen (λ x. x)) result (args_at (kinds tokens.now) at) }
+{
     let mut all = Vec::new(alloc);
     let mut next = at;
     for count in 0..tokens.len() {

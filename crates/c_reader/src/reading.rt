@@ -1,6 +1,11 @@
 // The tree of a source.
 
-ghost use Rattle.std.specs.Prelude.{◌+◌, ◌<◌, ◌^◌, length};
+ghost use Rattle.std.specs.Prelude.{◌≡◌, ◌+◌, ◌<◌, ◌^◌, length, IfOk};
+ghost use Rattle.c_tree.specs.View.{main_of, program_of};
+ghost use Rattle.c_reader.specs.Descent.{Gives};
+ghost use Rattle.c_reader.specs.Rows.{seen_by};
+ghost use Rattle.c_reader.specs.Whole.{argv_at, return_at, main_at, whole};
+ghost use Rattle.c_reader.specs.Kinds.{kinds, places};
 
 use crate::cursor::{after_sign, after_word, is_sign, is_word, number};
 use crate::faults::{Fault, ReadError};
@@ -51,7 +56,10 @@ fn place_of(tokens: &[Token], bytes: &[u8], at: usize) -> Pos
 }
 
 // The tree of the tokens.
-fn read_tokens(alloc: Global, tokens: &[Token]) -> Result<Program, ReadError> {
+#[tactic(auto, unfolding(crate::specs::Whole::whole))]
+fn read_tokens(alloc: Global, tokens: &[Token]) -> Result<Program, ReadError>
+    ensures { Gives program_of result (whole (kinds tokens.now) (places tokens.now)) }
+{
     let (tops, next) = read_tops(alloc, tokens, 0)?;
     let (main, next) = read_main(alloc, tokens, next)?;
     if next == tokens.len() {
@@ -63,7 +71,10 @@ fn read_tokens(alloc: Global, tokens: &[Token]) -> Result<Program, ReadError> {
 }
 
 // `main`, and the place after its `}`.
-fn read_main(alloc: Global, tokens: &[Token], at: usize) -> Result<(Main, usize), ReadError> {
+#[tactic(auto, unfolding(crate::specs::Whole::main_at))]
+fn read_main(alloc: Global, tokens: &[Token], at: usize) -> Result<(Main, usize), ReadError>
+    ensures { Gives (seen_by main_of) result (main_at (kinds tokens.now) at) }
+{
     let at = after_word(tokens, Word::Int, at)?;
     let next = after_word(tokens, Word::Main, at)?;
     let next = after_sign(tokens, Sign::LeftParen, next)?;
@@ -94,7 +105,10 @@ fn read_main(alloc: Global, tokens: &[Token], at: usize) -> Result<(Main, usize)
 }
 
 // `**argv` or `*argv[]`: whether it has brackets, and the place after it.
-fn read_argv(tokens: &[Token], at: usize) -> Result<(bool, usize), ReadError> {
+#[tactic(auto, unfolding(crate::specs::Whole::argv_at))]
+fn read_argv(tokens: &[Token], at: usize) -> Result<(bool, usize), ReadError>
+    ensures { Gives (λ x. x) result (argv_at (kinds tokens.now) at) }
+{
     let next = after_sign(tokens, Sign::Star, at)?;
     if is_sign(tokens, Sign::Star, next) {
         let next = after_word(tokens, Word::Argv, next + 1)?;
@@ -108,7 +122,10 @@ fn read_argv(tokens: &[Token], at: usize) -> Result<(bool, usize), ReadError> {
 }
 
 // `return` and its number, where they stand there, and the place after them.
-fn read_return(tokens: &[Token], at: usize) -> Result<(Option<NumberLiteral>, usize), ReadError> {
+#[tactic(auto, unfolding(crate::specs::Whole::return_at))]
+fn read_return(tokens: &[Token], at: usize) -> Result<(Option<NumberLiteral>, usize), ReadError>
+    ensures { Gives (λ x. x) result (return_at (kinds tokens.now) at) }
+{
     if is_word(tokens, Word::Return, at) {
         let (returned, next) = number(tokens, at + 1)?;
         let next = after_sign(tokens, Sign::Semicolon, next)?;
@@ -119,7 +136,9 @@ fn read_return(tokens: &[Token], at: usize) -> Result<(Option<NumberLiteral>, us
 }
 
 // The places of the tokens.
-fn places_of(alloc: Global, tokens: &[Token]) -> Result<Vec<Pos>, AllocError> {
+fn places_of(alloc: Global, tokens: &[Token]) -> Result<Vec<Pos>, AllocError>
+    ensures { IfOk result (λ v. v.items ≡ places tokens.now) }
+{
     let mut places = Vec::with_capacity(alloc, tokens.len())?;
     for token in tokens {
         places.push(token.at)?;

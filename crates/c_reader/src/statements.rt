@@ -1,5 +1,12 @@
 // Statements of kernels, by descent. `depth` is how many levels of nesting are left.
 
+ghost use Rattle.std.specs.Prelude.{◌≡◌, slice_get};
+ghost use Rattle.c_tree.specs.View.{expr_of, stmt_of};
+ghost use Rattle.c_reader.specs.Descent.{Gives};
+ghost use Rattle.c_reader.specs.Rows.{seen_by, items_seen};
+ghost use Rattle.c_reader.specs.Statements.{condition_at, same_ident as same_at, for_header_at, lead_in, body_at, stmts_in, if_at, stmt_led, stmt_at};
+ghost use Rattle.c_reader.specs.Kinds.{kinds};
+
 use crate::assignments::read_assignment;
 use crate::cursor::{after_sign, after_word, ident, is_sign, is_word, number};
 use crate::declarations::read_declaration;
@@ -15,7 +22,9 @@ pub fn read_condition(
     tokens: &[Token],
     depth: usize,
     at: usize,
-) -> Result<(Expr, usize), ReadError> {
+) -> Result<(Expr, usize), ReadError>
+    ensures { Gives (seen_by expr_of) result (condition_at (kinds tokens.now) depth at) }
+{
     let next = after_word(tokens, Word::If, at)?;
     let next = after_sign(tokens, Sign::LeftParen, next)?;
     let (condition, next) = expressions::read(alloc, tokens, depth, 0, next)?;
@@ -24,12 +33,15 @@ pub fn read_condition(
 }
 
 /// The name there, which is to be the same as `name`, and the place after it.
+#[tactic(auto, unfolding(crate::specs::Statements::same_ident))]
 pub fn same_ident(
     alloc: Global,
     tokens: &[Token],
     name: &Ident,
     at: usize,
-) -> Result<(Ident, usize), ReadError> {
+) -> Result<(Ident, usize), ReadError>
+    ensures { Gives (λ x. x) result (same_at (kinds tokens.now) name.now at) }
+{
     let (found, next) = ident(alloc, tokens, at)?;
     if found.name == name.name {
         Ok((found, next))
@@ -39,11 +51,14 @@ pub fn same_ident(
 }
 
 // The head of a `for`, and the place after its `)`.
+#[tactic(auto, unfolding(crate::specs::Statements::for_header_at))]
 fn read_for_header(
     alloc: Global,
     tokens: &[Token],
     at: usize,
-) -> Result<(ForHeader, usize), ReadError> {
+) -> Result<(ForHeader, usize), ReadError>
+    ensures { Gives (λ x. x) result (for_header_at (kinds tokens.now) at) }
+{
     let next = after_word(tokens, Word::For, at)?;
     let next = after_sign(tokens, Sign::LeftParen, next)?;
     let next = after_word(tokens, Word::Int, next)?;
@@ -73,12 +88,15 @@ fn read_for_header(
 
 /// A statement, and the place after it.
 #[cycle(statements)]
+#[tactic(auto, unfolding(crate::specs::Statements::stmt_at))]
 pub fn read_stmt(
     alloc: Global,
     tokens: &[Token],
     depth: usize,
     at: usize,
-) -> Result<(Stmt, usize), ReadError> {
+) -> Result<(Stmt, usize), ReadError>
+    ensures { Gives (seen_by stmt_of) result (stmt_at (kinds tokens.now) depth at) }
+{
     if depth == 0 {
         return Err(ReadError::Fault(Fault::TooDeep(at)));
     }
@@ -92,7 +110,9 @@ fn read_led(
     tokens: &[Token],
     depth: usize,
     at: usize,
-) -> Result<(Stmt, usize), ReadError> {
+) -> Result<(Stmt, usize), ReadError>
+    ensures { Gives (seen_by stmt_of) result (stmt_led (kinds tokens.now) depth (stmt_at (kinds tokens.now) depth) (lead_in (slice_get (kinds tokens.now) at)) at) }
+{
     match stmt_lead(tokens, at) {
         StmtLead::Declaration => {
             let (declaration, next) = read_declaration(alloc, tokens, depth, at)?;
@@ -101,6 +121,7 @@ fn read_led(
         StmtLead::Block => {
             let next = after_sign(tokens, Sign::LeftBrace, at)?;
             let (body, next) = read_stmts(alloc, tokens, depth, next)?;
+            let next = after_sign(tokens, Sign::RightBrace, next)?;
             Ok((Stmt::Block { at, body }, next))
         }
         StmtLead::Empty => {
@@ -115,6 +136,7 @@ fn read_led(
         StmtLead::For => {
             let (header, next) = read_for_header(alloc, tokens, at)?;
             let (body, next) = read_body(alloc, tokens, depth, next)?;
+            let body = Box::new(alloc, body)?;
             Ok((Stmt::For { header, body }, next))
         }
         StmtLead::Nothing => Err(ReadError::Fault(Fault::Syntax(at))),
@@ -122,7 +144,9 @@ fn read_led(
 }
 
 // What the token there begins.
-fn stmt_lead(tokens: &[Token], at: usize) -> StmtLead {
+fn stmt_lead(tokens: &[Token], at: usize) -> StmtLead
+    ensures { result ≡ lead_in (slice_get (kinds tokens.now) at) }
+{
     match tokens.get(at) {
         Some(token) => stmt_begun_by(&token.kind),
         None => StmtLead::Nothing,
@@ -131,16 +155,21 @@ fn stmt_lead(tokens: &[Token], at: usize) -> StmtLead {
 
 // An `if`, with the `else` that stands directly behind its first branch.
 #[cycle(statements)]
+#[tactic(auto, unfolding(crate::specs::Statements::if_at))]
 fn read_if(
     alloc: Global,
     tokens: &[Token],
     depth: usize,
     at: usize,
-) -> Result<(Stmt, usize), ReadError> {
+) -> Result<(Stmt, usize), ReadError>
+    ensures { Gives (seen_by stmt_of) result (if_at (kinds tokens.now) depth (stmt_at (kinds tokens.now) depth) at) }
+{
     let (condition, next) = read_condition(alloc, tokens, depth, at)?;
     let (then, next) = read_body(alloc, tokens, depth, next)?;
+    let then = Box::new(alloc, then)?;
     if is_word(tokens, Word::Else, next) {
         let (otherwise, next) = read_body(alloc, tokens, depth, next + 1)?;
+        let otherwise = Box::new(alloc, otherwise)?;
         Ok((
             Stmt::IfElse {
                 at,
@@ -169,28 +198,30 @@ fn read_body(
     tokens: &[Token],
     depth: usize,
     at: usize,
-) -> Result<(Box<Stmt>, usize), ReadError> {
+) -> Result<(Stmt, usize), ReadError>
+    ensures { Gives (seen_by stmt_of) result (body_at (kinds tokens.now) (stmt_at (kinds tokens.now) depth) at) }
+{
     if is_word(tokens, Word::Int, at) {
         return Err(ReadError::Fault(Fault::Syntax(at)));
     }
-    let (body, next) = read_stmt(alloc, tokens, depth, at)?;
-    let body = Box::new(alloc, body)?;
-    Ok((body, next))
+    read_stmt(alloc, tokens, depth, at)
 }
 
-/// The statements up to the `}` that closes them, and the place after it.
+/// The statements before the `}` that closes them, and its place.
 #[cycle(statements)]
 pub fn read_stmts(
     alloc: Global,
     tokens: &[Token],
     depth: usize,
     at: usize,
-) -> Result<(Vec<Stmt>, usize), ReadError> {
+) -> Result<(Vec<Stmt>, usize), ReadError>
+    ensures { Gives (items_seen stmt_of) result (stmts_in (kinds tokens.now) (stmt_at (kinds tokens.now) depth) at) }
+{
     let mut all = Vec::new(alloc);
     let mut next = at;
     for count in 0..tokens.len() {
         if is_sign(tokens, Sign::RightBrace, next) {
-            return Ok((all, next + 1));
+            return Ok((all, next));
         }
         let (one, after) = read_stmt(alloc, tokens, depth, next)?;
         all.push(one)?;

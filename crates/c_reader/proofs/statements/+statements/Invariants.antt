@@ -1,4 +1,10 @@
-use Rattle.std.proofs.Common.{◌+◌, ◌*◌}
+use Rattle.std.proofs.Common.{◌≡◌, ◌+◌, ◌-◌, ◌*◌, length, map, slice_get}
+use Rattle.c_lex.specs.declared.tokens.Sign.TheVariants as s
+use Rattle.c_tree.specs.View.{stmt_of}
+use Rattle.c_reader.specs.Descent.{sign_is}
+use Rattle.c_reader.specs.Rows.{until, with_front}
+use Rattle.c_reader.specs.Statements.{stmt_at}
+use Rattle.c_reader.specs.Kinds.{kinds}
 use Rattle.c_reader.proofs.statements.+statements.Given as goal
 
 abbrev pub decreases-read_stmt : goal.decreases-read_stmt
@@ -15,3 +21,8 @@ decreases-read_body l = 5 * l.depth + 1
 
 abbrev pub decreases-read_stmts : goal.decreases-read_stmts
 decreases-read_stmts l = 5 * l.depth + 1
+
+-- The statements so far before those that are still to be read are all.
+abbrev pub invariant-read_stmts-loop-count : goal.invariant-read_stmts-loop-count
+invariant-read_stmts-loop-count l =
+    until (λ m. sign_is s.RightBrace (slice_get (kinds l.tokens) m)) (stmt_at (kinds l.tokens) l.depth) (length l.tokens) l.at ≡ with_front (map stmt_of l.all.items) (until (λ m. sign_is s.RightBrace (slice_get (kinds l.tokens) m)) (stmt_at (kinds l.tokens) l.depth) (length l.tokens - l.count) l.next)

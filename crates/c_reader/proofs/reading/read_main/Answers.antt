@@ -1,0 +1,9 @@
+use Rattle.std.proofs.Common.{rules, arith}
+use Rattle.std.proofs.lemmas.Grind.{common_steps}
+use Rattle.c_reader.specs.Whole.{main_at}
+use Rattle.c_reader.proofs.HostTurns.{trees_are}
+use Rattle.c_reader.proofs.reading.read_main.Goals as goal
+
+pub returns : goal.returns
+unfolding main_at
+returns c = rw (trees_are c.in_ok-body.body.items) (first_of (search rules, grind (arith, common_steps)))

@@ -1,0 +1,58 @@
+-- What the readers of declarations and assignments answer, with d levels left for their expressions.
+use Rattle.std.specs.Prelude.{ℕ, suc, Bool, true, false, List, [], ◌∷◌, Option, Some, None, Result, Ok, Err, slice_get, length, if◌then◌else◌}
+use Rattle.c_lex.specs.declared.tokens.Kind.{Kind}
+use Rattle.c_lex.specs.declared.tokens.Kind.TheVariants as kind
+use Rattle.c_lex.specs.declared.tokens.Sign.TheVariants as s
+use Rattle.c_lex.specs.declared.tokens.Word.TheVariants as w
+use Rattle.c_tree.specs.declared.expressions.Ident.{Ident}
+use Rattle.c_tree.specs.declared.declarations.AssignOp.{AssignOp}
+use Rattle.c_tree.specs.Tree.{DeclrTree, Plain, Init, Array, DeclarationTree, PlaceTree, Scalar, Element, Target, AssignmentTree}
+use Rattle.c_reader.specs.declared.faults.Fault.{Fault}
+use Rattle.c_reader.specs.declared.faults.Fault.TheVariants.{Syntax, TooDeep}
+use Rattle.c_reader.specs.Descent.{◌>>=◌, sign_is, sign_at, read}
+use Rattle.c_reader.specs.Leads.{assign_of}
+use Rattle.c_reader.specs.Rows.{Reader, word_is, word_at, ident, number, separated}
+
+-- a declared variable without a value
+abbrev pub unset : List Kind → Bool → Ident → Reader DeclrTree
+unset ks true x n = Err (Syntax n)
+unset ks false x n =
+    if sign_is s.LeftBracket (slice_get ks n) then (number ks (suc n) >>= λ v. sign_at ks s.RightBracket v.1 >>= λ e. Ok (Array x v.0, e)) else Ok (Plain x, n)
+
+unfoldable pub declr_at : List Kind → ℕ → Bool → Reader DeclrTree
+declr_at ks d c n =
+    ident ks n >>= λ x. if sign_is s.Assign (slice_get ks x.1) then (read ks d 0 (suc x.1) >>= λ v. Ok (Init x.0 v.0, v.1)) else unset ks c x.0 x.1
+
+-- a declaration from its `int` on
+unfoldable pub declaration_behind : List Kind → ℕ → Bool → Reader DeclarationTree
+declaration_behind ks d c n =
+    word_at ks w.Int n >>= λ m. separated ks (declr_at ks d c) s.Semicolon (length ks) m >>= λ ds. Ok (record { is_const = c; at = n; declrs = ds.0 }, ds.1)
+
+unfoldable pub declaration_at : List Kind → ℕ → Reader DeclarationTree
+declaration_at ks d n =
+    if word_is w.Const (slice_get ks n) then declaration_behind ks d true (suc n) else declaration_behind ks d false n
+
+-- a target that begins with a name
+abbrev pub named_place : List Kind → ℕ → Ident → Reader PlaceTree
+named_place ks d x n =
+    if sign_is s.LeftBracket (slice_get ks n) then (read ks d 0 (suc n) >>= λ i. sign_at ks s.RightBracket i.1 >>= λ e. Ok (Element x i.0, e)) else Ok (Scalar x, n)
+
+unfoldable pub place_at : List Kind → ℕ → Reader PlaceTree
+place_at ks d n =
+    if sign_is s.Star (slice_get ks n) then (ident ks (suc n) >>= λ x. Ok (Target n x.0, x.1)) else (ident ks n >>= λ x. named_place ks d x.0 x.1)
+
+abbrev pub assign_or : Option AssignOp → Reader AssignOp
+assign_or None n = Err (Syntax n)
+assign_or (Some op) n = Ok (op, suc n)
+
+abbrev pub assign_in : Option Kind → Reader AssignOp
+assign_in (Some (kind.Sign s)) n = assign_or (assign_of s) n
+assign_in _ n = Err (Syntax n)
+
+-- a sign of assignment
+unfoldable pub assign_at : List Kind → Reader AssignOp
+assign_at ks n = assign_in (slice_get ks n) n
+
+unfoldable pub assignment_at : List Kind → ℕ → Reader AssignmentTree
+assignment_at ks d n =
+    place_at ks d n >>= λ p. assign_at ks p.1 >>= λ o. read ks d 0 o.1 >>= λ v. sign_at ks s.Semicolon v.1 >>= λ e. Ok (record { place = p.0; op = o.0; at = p.1; value = v.0 }, e)
