@@ -163,16 +163,16 @@ extremum_front ks rec n w at x y None (Some q) i j e' h a o r c s d e =
 extremum_front ks rec n w at x y (Some p) q i j e' h a o r c s d e =
     rw (h, word_lead_of-extreme w, sign_at_is ks sign.LeftParen (suc n) o, r) refl
 
-right_bracket : Closes sign.RightBracket
+pub right_bracket : Closes sign.RightBracket
 right_bracket = record { operator = refl; question = refl; bracket = refl }
 
 pub right_paren : Closes sign.RightParen
 right_paren = record { operator = refl; question = refl; bracket = refl }
 
-comma : Closes sign.Comma
+pub comma : Closes sign.Comma
 comma = record { operator = refl; question = refl; bracket = refl }
 
-colon : Closes sign.Colon
+pub colon : Closes sign.Colon
 colon = record { operator = refl; question = refl; bracket = refl }
 
 pub le_or_lt : (a b : ℕ) → (a ≤ b) ⊎ (b < a)

@@ -295,7 +295,7 @@ text_exact ks from k fits =
 abbrev pub ClosedAt : List Kind → ℕ → Type 0
 ClosedAt ks j = (s : Sign) × Closes s × (slice_get ks j ≡ Some (kind.Sign s))
 
-expr_some : (k : ℕ) (e : ExprTree) → 1 ≤ length (expr k e)
+pub expr_some : (k : ℕ) (e : ExprTree) → 1 ≤ length (expr k e)
 expr_some k (Rattle.c_tree.specs.Tree.Number n) = omega arith
 expr_some k (Rattle.c_tree.specs.Tree.Name x) = omega arith
 expr_some k (Rattle.c_tree.specs.Tree.Index x e) = omega arith

@@ -28,7 +28,7 @@ use Rattle.c_reader.specs.declared.faults.Fault.TheVariants.{Syntax, TooDeep}
 use Rattle.c_reader.specs.Descent.{◌>>=◌, sign_is, sign_at}
 use Rattle.c_reader.specs.Leads.{assign_of, access_of}
 use Rattle.c_reader.specs.Rows.{Reader, both, made, word_is, ident, number, text, behind_commas}
-use Rattle.c_reader.specs.Declarations.{assign_or, assign_in, assign_at}
+use Rattle.c_reader.specs.Declarations.{assign_or, assign_in, assign_at, placed_assign}
 use Rattle.c_reader.specs.Arguments.{global_at, index_at, via_at, access_or, access_in, access_at, placed_access, dat_row, dat_arg, global_row, global_arg, arg_at, args_at}
 use Rattle.c_reader.proofs.Spans.{Spans, spans_end, spans_within, or_else, deep_over, after}
 use Rattle.c_reader.proofs.Steps.{sign_found}
@@ -102,10 +102,6 @@ assign_near ks n q h = by_kind (slice_get ks n) h
     by_kind (Some (kind.Number x)) h = cc
     by_kind (Some (kind.Text x)) h = cc
     by_kind (Some (kind.Name x)) h = cc
-
--- a sign of assignment, with its number
-abbrev pub placed_assign : List Kind → Reader PlacedOp
-placed_assign ks n = assign_at ks n >>= λ o. Ok ((o.0, n), o.1)
 
 pub assign_exact : (ks : List Kind) (from k : ℕ) → nat_lt 64 k ≡ false → Exact ks from 1 Any (λ (v : PlacedOp). named_sign k (assign_sign_of v.0) v.1 ∷ []) Free Free (placed_assign ks)
 assign_exact ks from k fits =
@@ -215,7 +211,7 @@ via_ok ks k n y h = by_test (word_is wd.OpId (slice_get ks n)) refl h
         let q = ident_ok ks n r.0 r.1 in
         subst (λ (w : ArgVia × ℕ). (slice_get ks n ≡ Some (via_mark k w.0).kind) × (Keeps n (via_mark k w.0).number × (suc n ≡ w.1))) (ok_one (via.Map r.0.0, r.0.1) y r.2) (q.0, (q.1, q.2))
 
-near_bind : {A B : Type 0} (r : Result A Fault) (f : A → Result B Fault) (q : ℕ) → (r ≡ Err (TooDeep q) → ⊥) → ((a : A) → f a ≡ Err (TooDeep q) → ⊥) → (r >>= f) ≡ Err (TooDeep q) → ⊥
+pub near_bind : {A B : Type 0} (r : Result A Fault) (f : A → Result B Fault) (q : ℕ) → (r ≡ Err (TooDeep q) → ⊥) → ((a : A) → f a ≡ Err (TooDeep q) → ⊥) → (r >>= f) ≡ Err (TooDeep q) → ⊥
 near_bind (Ok a) f q g k h = k a h
 near_bind (Err e) f q g k h = g (let same : e ≡ TooDeep q = cc in ap Err same)
 
@@ -416,11 +412,11 @@ tails_long k [] = zero-le
 tails_long k (x ∷ xs) =
     omega (arith, tails_long k xs, length-append (argument k x) (tails k (argument k) xs))
 
-all_any : {A : Type 0} (xs : List A) → AllValid Any xs
+pub all_any : {A : Type 0} (xs : List A) → AllValid Any xs
 all_any [] = tt
 all_any (x ∷ xs) = (tt, all_any xs)
 
-paren_within : (ks : List Kind) (n : ℕ) → ParenAt ks n → n < length ks
+pub paren_within : (ks : List Kind) (n : ℕ) → ParenAt ks n → n < length ks
 paren_within ks n h = slice_get_within ks n (kind.Sign sg.RightParen) h
 
 -- the arguments, before `)`

@@ -10,3 +10,9 @@ pub mod Far
 pub mod Exactness
 pub mod Lists
 pub mod Items
+pub mod CallRows
+pub mod Separated
+pub mod Declared
+pub mod Stmts
+pub mod HostRows
+pub mod TopRows

@@ -6,12 +6,12 @@ use Rattle.c_lex.specs.declared.tokens.Sign.TheVariants as s
 use Rattle.c_lex.specs.declared.tokens.Word.TheVariants as w
 use Rattle.c_tree.specs.declared.expressions.Ident.{Ident}
 use Rattle.c_tree.specs.declared.declarations.AssignOp.{AssignOp}
-use Rattle.c_tree.specs.Tree.{DeclrTree, Plain, Init, Array, DeclarationTree, PlaceTree, Scalar, Element, Target, AssignmentTree}
+use Rattle.c_tree.specs.Tree.{ExprTree, DeclrTree, Plain, Init, Array, DeclarationTree, PlaceTree, Scalar, Element, Target, AssignmentTree}
 use Rattle.c_reader.specs.declared.faults.Fault.{Fault}
 use Rattle.c_reader.specs.declared.faults.Fault.TheVariants.{Syntax, TooDeep}
 use Rattle.c_reader.specs.Descent.{◌>>=◌, sign_is, sign_at, read}
 use Rattle.c_reader.specs.Leads.{assign_of}
-use Rattle.c_reader.specs.Rows.{Reader, word_is, word_at, ident, number, separated}
+use Rattle.c_reader.specs.Rows.{Reader, both, made, sign, word_is, word_at, ident, number, separated}
 
 -- a declared variable without a value
 abbrev pub unset : List Kind → Bool → Ident → Reader DeclrTree
@@ -53,6 +53,15 @@ assign_in _ n = Err (Syntax n)
 unfoldable pub assign_at : List Kind → Reader AssignOp
 assign_at ks n = assign_in (slice_get ks n) n
 
+-- a sign of assignment, and its number
+abbrev pub placed_assign : List Kind → Reader (AssignOp × ℕ)
+placed_assign ks n = assign_at ks n >>= λ o. Ok ((o.0, n), o.1)
+
+abbrev pub assignment_row : List Kind → ℕ → Reader (PlaceTree × ((AssignOp × ℕ) × (ExprTree × Unit {0})))
+assignment_row ks d = both (place_at ks d) (both (placed_assign ks) (both (read ks d 0) (sign ks s.Semicolon)))
+
+abbrev pub assigned : PlaceTree × ((AssignOp × ℕ) × (ExprTree × Unit {0})) → AssignmentTree
+assigned v = record { place = v.0; op = v.1.0.0; at = v.1.0.1; value = v.1.1.0 }
+
 unfoldable pub assignment_at : List Kind → ℕ → Reader AssignmentTree
-assignment_at ks d n =
-    place_at ks d n >>= λ p. assign_at ks p.1 >>= λ o. read ks d 0 o.1 >>= λ v. sign_at ks s.Semicolon v.1 >>= λ e. Ok (record { place = p.0; op = o.0; at = p.1; value = v.0 }, e)
+assignment_at ks d n = made assigned (assignment_row ks d) n

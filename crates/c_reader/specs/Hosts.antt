@@ -13,15 +13,15 @@ use Rattle.c_reader.specs.declared.leads.HostLead.{HostLead}
 use Rattle.c_reader.specs.declared.leads.HostLead.TheVariants as lead
 use Rattle.c_reader.specs.Descent.{◌>>=◌, sign_is, sign_at, read}
 use Rattle.c_reader.specs.Leads.{host_lead_of}
-use Rattle.c_reader.specs.Rows.{Reader, both, word_is, sign, word, ident, until}
+use Rattle.c_reader.specs.Rows.{Reader, both, word_is, sign, word, marked, ident, until}
 use Rattle.c_reader.specs.Declarations.{declaration_at, assignment_at}
 use Rattle.c_reader.specs.Statements.{condition_at, same_ident}
 use Rattle.c_reader.specs.Calls.{call_at}
 
 -- the head of a `for` up to its first `;`, and from there on
-abbrev pub for_front : List Kind → ℕ → Reader (Unit {0} × (Unit {0} × (Unit {0} × (Ident × (Unit {0} × (ExprTree × Unit {0}))))))
+abbrev pub for_front : List Kind → ℕ → Reader (ℕ × (Unit {0} × (Unit {0} × (Ident × (Unit {0} × (ExprTree × Unit {0}))))))
 for_front ks d =
-    both (word ks w.For) (both (sign ks s.LeftParen) (both (word ks w.Int) (both (ident ks) (both (sign ks s.Assign) (both (read ks d 0) (sign ks s.Semicolon))))))
+    both (marked ks w.For) (both (sign ks s.LeftParen) (both (word ks w.Int) (both (ident ks) (both (sign ks s.Assign) (both (read ks d 0) (sign ks s.Semicolon))))))
 
 abbrev pub for_behind : List Kind → ℕ → Ident → Reader (Ident × (Unit {0} × (ExprTree × (Unit {0} × (Ident × (Unit {0} × Unit {0}))))))
 for_behind ks d x =
@@ -29,7 +29,7 @@ for_behind ks d x =
 
 unfoldable pub for_header_at : List Kind → ℕ → Reader HostForHeaderTree
 for_header_at ks d n =
-    for_front ks d n >>= λ a. for_behind ks d a.0.1.1.1.0 a.1 >>= λ b. Ok (record { at = n; name = a.0.1.1.1.0; from = a.0.1.1.1.1.1.0; tested = b.0.0; to = b.0.1.1.0; stepped = b.0.1.1.1.1.0 }, b.1)
+    for_front ks d n >>= λ a. for_behind ks d a.0.1.1.1.0 a.1 >>= λ b. Ok (record { at = a.0.0; name = a.0.1.1.1.0; from = a.0.1.1.1.1.1.0; tested = b.0.0; to = b.0.1.1.0; stepped = b.0.1.1.1.1.0 }, b.1)
 
 abbrev pub lead_in : Option Kind → HostLead
 lead_in None = lead.Nothing

@@ -14,12 +14,12 @@ use Rattle.c_reader.specs.declared.leads.StmtLead.{StmtLead}
 use Rattle.c_reader.specs.declared.leads.StmtLead.TheVariants as lead
 use Rattle.c_reader.specs.Descent.{◌>>=◌, sign_is, sign_at, read}
 use Rattle.c_reader.specs.Leads.{stmt_lead_of}
-use Rattle.c_reader.specs.Rows.{Reader, both, made, word_is, word_at, sign, word, ident, number, until}
+use Rattle.c_reader.specs.Rows.{Reader, both, made, word_is, word_at, sign, word, marked, ident, number, until}
 use Rattle.c_reader.specs.Declarations.{declaration_at, assignment_at}
 
 -- the head of an `if`
-abbrev pub condition_row : List Kind → ℕ → Reader (Unit {0} × (Unit {0} × (ExprTree × Unit {0})))
-condition_row ks d = both (word ks w.If) (both (sign ks s.LeftParen) (both (read ks d 0) (sign ks s.RightParen)))
+abbrev pub condition_row : List Kind → ℕ → Reader (ℕ × (Unit {0} × (ExprTree × Unit {0})))
+condition_row ks d = both (marked ks w.If) (both (sign ks s.LeftParen) (both (read ks d 0) (sign ks s.RightParen)))
 
 abbrev pub condition_at : List Kind → ℕ → Reader ExprTree
 condition_at ks d = made (λ v. v.1.1.0) (condition_row ks d)
@@ -29,9 +29,9 @@ unfoldable pub same_ident : List Kind → Ident → Reader Ident
 same_ident ks x n = ident ks n >>= λ y. if bytes_eq y.0.name x.name then Ok y else Err (Syntax n)
 
 -- the head of a `for` up to its first `;`, and from there on
-abbrev pub for_front : List Kind → Reader (Unit {0} × (Unit {0} × (Unit {0} × (Ident × (Unit {0} × (NumberLiteral × Unit {0}))))))
+abbrev pub for_front : List Kind → Reader (ℕ × (Unit {0} × (Unit {0} × (Ident × (Unit {0} × (NumberLiteral × Unit {0}))))))
 for_front ks =
-    both (word ks w.For) (both (sign ks s.LeftParen) (both (word ks w.Int) (both (ident ks) (both (sign ks s.Assign) (both (number ks) (sign ks s.Semicolon))))))
+    both (marked ks w.For) (both (sign ks s.LeftParen) (both (word ks w.Int) (both (ident ks) (both (sign ks s.Assign) (both (number ks) (sign ks s.Semicolon))))))
 
 abbrev pub for_behind : List Kind → Ident → Reader (Ident × (Unit {0} × (NumberLiteral × (Unit {0} × (Ident × (Unit {0} × Unit {0}))))))
 for_behind ks x =
@@ -39,7 +39,7 @@ for_behind ks x =
 
 unfoldable pub for_header_at : List Kind → Reader ForHeader
 for_header_at ks n =
-    for_front ks n >>= λ a. for_behind ks a.0.1.1.1.0 a.1 >>= λ b. Ok (record { at = n; name = a.0.1.1.1.0; from = a.0.1.1.1.1.1.0; tested = b.0.0; to = b.0.1.1.0; stepped = b.0.1.1.1.1.0 }, b.1)
+    for_front ks n >>= λ a. for_behind ks a.0.1.1.1.0 a.1 >>= λ b. Ok (record { at = a.0.0; name = a.0.1.1.1.0; from = a.0.1.1.1.1.1.0; tested = b.0.0; to = b.0.1.1.0; stepped = b.0.1.1.1.1.0 }, b.1)
 
 abbrev pub lead_in : Option Kind → StmtLead
 lead_in None = lead.Nothing

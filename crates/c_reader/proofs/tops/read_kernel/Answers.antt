@@ -6,6 +6,12 @@ use Rattle.c_reader.proofs.StmtTurns.{trees_are}
 use Rattle.c_reader.proofs.Exactness.{flat}
 use Rattle.c_reader.proofs.Lists.{tails}
 use Rattle.c_reader.proofs.Items.{index_exact}
+use Rattle.c_reader.proofs.TopRows.{skip_is}
+use Rattle.c_reader.proofs.HostRows.{host_exact}
+use Rattle.c_reader.proofs.Stmts.{stmt_exact}
+use Rattle.c_reader.proofs.Declared.{assignment_far}
+use Rattle.c_reader.proofs.Separated.{separated_far}
+use Rattle.c_reader.proofs.CallRows.{call_far}
 use Rattle.c_reader.proofs.tops.read_kernel.Goals as goal
 
 pub returns : goal.returns

@@ -1,0 +1,566 @@
+-- Statements of `main` are read exactly as they are printed.
+use Rattle.std.proofs.Common.{◌≡◌, ◌≢◌, ℕ, zero, suc, ◌+◌, ◌≤◌, ◌<◌, Bool, true, false, cond, List, [], ◌∷◌, ◌++◌, length, Option, Some, None, Result, Ok, Err, refl, sym, ap, subst, ◌∙◌, arith, slice_get, nat_lt, append_assoc, length-append, zero-le}
+use Rattle.std.proofs.lemmas.Option.{slice_get_within}
+use Rattle.c_lex.specs.declared.tokens.Kind.{Kind}
+use Rattle.c_lex.specs.declared.tokens.Kind.TheVariants as kind
+use Rattle.c_lex.specs.declared.tokens.Sign.TheVariants as sg
+use Rattle.c_lex.specs.declared.tokens.Word.TheVariants as wd
+use Rattle.c_tree.specs.declared.expressions.Ident.{Ident}
+use Rattle.c_tree.specs.declared.expressions.NumberLiteral.{NumberLiteral}
+use Rattle.c_tree.specs.Tree.{ExprTree, DeclarationTree, PlaceTree, Scalar, Element, Target, AssignmentTree, HostForHeaderTree, OpCallTree, CallInit, DeclSet, DeclMap, DeclDat, DeclConst, ParLoop, Printf, PrintDat, HostTree, HostDeclaration, HostBlock, HostEmpty, HostAssign, HostIf, HostIfElse, HostFor, HostCall, HostTrees, NoHost, MoreHost}
+use Rattle.c_tree.specs.Print.{Mark, sign_at as sign_mark, word_at as word_mark, named_sign, named_word, word_if, ident as ident_mark, figure, expr, place, vars, assignment, host_counter, condition, call, host, hosts}
+use Rattle.c_tree.specs.Grouped.{IsGrouped, IsDeclaration, IsHostBody, host_ends_open, IsHostForHeader, IsCall, IsHost, AreHosts}
+use Rattle.c_tree.specs.Reads.{first_deep}
+use Rattle.c_reader.specs.declared.faults.Fault.{Fault}
+use Rattle.c_reader.specs.declared.faults.Fault.TheVariants.{Syntax, TooDeep}
+use Rattle.c_reader.specs.declared.leads.HostLead.{HostLead}
+use Rattle.c_reader.specs.declared.leads.HostLead.TheVariants as lead
+use Rattle.c_reader.specs.Descent.{◌>>=◌, sign_is, sign_at, read}
+use Rattle.c_reader.specs.declared.leads.CallLead.{CallLead}
+use Rattle.c_reader.specs.declared.hosts.Closing.{Closing}
+use Rattle.c_reader.specs.declared.hosts.Closing.TheVariants as closing
+use Rattle.c_reader.specs.Leads.{host_word_lead_of, host_lead_of}
+use Rattle.c_reader.specs.Rows.{Reader, both, made, word_is, ident, until}
+use Rattle.c_reader.specs.Declarations.{declaration_at, assignment_at}
+use Rattle.c_reader.specs.Statements.{condition_at}
+use Rattle.c_reader.specs.Calls.{call_at}
+use Rattle.c_reader.specs.Hosts.{for_front, for_behind, for_header_at, lead_in, host_trees, declares, is_closed, body_at, hosts_in, if_at, host_led, host_at}
+use Rattle.c_reader.proofs.Spans.{Spans, spans_end, spans_split, spans_join, or_else, deep_split, deep_over, deep_between, deep_closed, deep_front, after}
+use Rattle.c_reader.proofs.Steps.{sign_at_is, sign_at_ok, sign_found}
+use Rattle.c_reader.proofs.Complete.{right_paren, level_fits}
+use Rattle.c_reader.proofs.Sound.{bind_ok, ok_one}
+use Rattle.c_reader.proofs.Far.{far_bind, sign_far}
+use Rattle.c_reader.proofs.Exactness.{Exact, Found, Any, Free, word_found, word_here, both_exact, turned_exact, flat, sign_exact, word_exact, marked_exact, ident_exact, number_exact, expr_exact}
+use Rattle.c_reader.proofs.Lists.{AllValid, joined, until_complete, Listed, until_sound, until_far}
+use Rattle.c_reader.proofs.Items.{made_complete, made_sound, made_far, image_sound}
+use Rattle.c_reader.proofs.CallRows.{then_exact, needy_then, call_lead, call_begins, call_complete, call_sound, call_far}
+use Rattle.c_reader.proofs.Stmts.{NoElse, true_false, Condition, condition_complete, condition_sound, condition_far, same_exact, vars_deep, assignment_deep}
+use Rattle.c_reader.proofs.Declared.{semicolon, tail_of, declaration_complete, declaration_sound, declaration_far, assignment_complete, assignment_sound, assignment_far}
+
+-- the head of a `for`
+abbrev front_marks : ℕ → ℕ → Ident → ExprTree → List Mark
+front_marks k at x m =
+    named_word k wd.For at ∷ sign_mark k sg.LeftParen ∷ word_mark k wd.Int ∷ ident_mark k x ∷ sign_mark k sg.Assign ∷ (expr (suc k) m ++ sign_mark k sg.Semicolon ∷ [])
+
+abbrev behind_marks : ℕ → Ident → ExprTree → Ident → List Mark
+behind_marks k y m z =
+    ident_mark k y ∷ sign_mark k sg.Less ∷ (expr (suc k) m ++ (sign_mark k sg.Semicolon ∷ ident_mark k z ∷ sign_mark k sg.PlusPlus ∷ sign_mark k sg.RightParen ∷ []))
+
+front_exact : (ks : List Kind) (f k d : ℕ) → suc k + d ≡ 65 → k ≤ f + 1 → Exact ks f 7 (λ v. IsGrouped v.1.1.1.1.1.0) (λ v. front_marks k v.0 v.1.1.1.0 v.1.1.1.1.1.0) Free Free (for_front ks d)
+front_exact ks f k d room before =
+    let l = level_fits k d (omega arith) in
+    then_exact ks {from' = f + 1} (omega arith) (marked_exact ks f k wd.For l) (then_exact ks {from' = f + 1} (omega arith) (sign_exact ks (f + 1) k sg.LeftParen l) (then_exact ks {from' = f + 1} (omega arith) (word_exact ks (f + 1) k wd.Int l) (then_exact ks {from' = f + 1} (omega arith) (ident_exact ks (f + 1) k l) (then_exact ks {from' = f + 1} (omega arith) (sign_exact ks (f + 1) k sg.Assign l) (needy_then ks (omega arith) (expr_exact ks (f + 1) k d room before) (sign_exact ks (f + 1) k sg.Semicolon l) (λ a b j e s. (sg.Semicolon, semicolon, s.0)))))))
+
+behind_exact : (ks : List Kind) (f k d : ℕ) (x : Ident) → suc k + d ≡ 65 → k ≤ f + 1 → Exact ks f 7 (λ v. (v.0.name ≡ x.name) × ((IsGrouped v.1.1.0) × (v.1.1.1.1.0.name ≡ x.name))) (λ v. behind_marks k v.0 v.1.1.0 v.1.1.1.1.0) Free Free (for_behind ks d x)
+behind_exact ks f k d x room before =
+    let l = level_fits k d (omega arith) in
+    both_exact ks f 1 _ _ _ _ _ _ _ _ _ _ _ (same_exact ks f k x l) (then_exact ks {from' = f + 1} (omega arith) (sign_exact ks (f + 1) k sg.Less l) (both_exact ks (f + 1) 1 _ _ _ _ _ _ _ _ _ _ _ (expr_exact ks (f + 1) k d room before) (then_exact ks {from' = f + 1} (omega arith) (sign_exact ks (f + 1 + 1) k sg.Semicolon l) (needy_then ks (omega arith) (same_exact ks (f + 1) k x l) (flat ks (sign_exact ks (f + 1) k sg.PlusPlus l) (sign_exact ks (f + 1) k sg.RightParen l)) (λ a b j e s. tt))) (λ a b j e o s. (sg.Semicolon, semicolon, s.0)))) (λ a b j e o s. tt)
+
+for_is : (ks : List Kind) (d n j e at : ℕ) (x y z : Ident) (a b : ExprTree) (p q : Option ℕ) → for_front ks d n ≡ after p (Ok ((at, (tt, (tt, (x, (tt, (a, tt)))))), j)) → for_behind ks d x j ≡ after q (Ok ((y, (tt, (b, (tt, (z, (tt, tt)))))), e)) → for_header_at ks d n ≡ after (or_else p q) (Ok (record { at = at; name = x; from = a; tested = y; to = b; stepped = z }, e))
+unfolding for_header_at
+for_is ks d n j e at x y z a b None None h g = rw (h, g) refl
+for_is ks d n j e at x y z a b None (Some q) h g = rw (h, g) refl
+for_is ks d n j e at x y z a b (Some p) q h g = rw h refl
+
+header_row : (k : ℕ) (h : HostForHeaderTree) → host_counter k h ≡ front_marks k h.at h.name h.from ++ behind_marks k h.tested h.to h.stepped
+header_row k h =
+    ap (λ z. named_word k wd.For h.at ∷ sign_mark k sg.LeftParen ∷ word_mark k wd.Int ∷ ident_mark k h.name ∷ sign_mark k sg.Assign ∷ z) (sym (append_assoc (expr (suc k) h.from) (sign_mark k sg.Semicolon ∷ []) (behind_marks k h.tested h.to h.stepped)))
+
+header_complete : (ks : List Kind) (f k d : ℕ) → suc k + d ≡ 65 → k ≤ f + 1 → (h : HostForHeaderTree) (n e : ℕ) → IsHostForHeader h → Spans ks n (host_counter k h) e → for_header_at ks d n ≡ after (first_deep n (host_counter k h)) (Ok (h, e))
+header_complete ks f k d room before h n e o s =
+    let front = front_marks k h.at h.name h.from in
+    let back = behind_marks k h.tested h.to h.stepped in
+    let r = spans_split ks n front back e (subst (λ z. Spans ks n z e) (header_row k h) s) in
+    for_is ks d n r.0 e h.at h.name h.tested h.stepped h.from h.to (first_deep n front) (first_deep r.0 back) ((front_exact ks f k d room before).complete (h.at, (tt, (tt, (h.name, (tt, (h.from, tt)))))) n r.0 o.2 r.1 tt) ((behind_exact ks f k d h.name room before).complete (h.tested, (tt, (h.to, (tt, (h.stepped, (tt, tt)))))) r.0 e (o.0, (o.3, o.1)) r.2 tt) ∙ ap (λ z. after z (Ok (h, e))) (sym (ap (first_deep n) (header_row k h) ∙ deep_split ks n front back r.0 r.1))
+
+header_sound : (ks : List Kind) (f k d : ℕ) → suc k + d ≡ 65 → k ≤ f + 1 → (n : ℕ) (y : HostForHeaderTree × ℕ) → for_header_at ks d n ≡ Ok y → Found ks IsHostForHeader (host_counter k) Free n y.0 y.1
+unfolding for_header_at
+header_sound ks f k d room before n y h =
+    let a = bind_ok (for_front ks d n) _ y h in
+    let b = bind_ok (for_behind ks d a.0.0.1.1.1.0 a.0.1) _ y a.2 in
+    let one = (front_exact ks f k d room before).sound n a.0 a.1 in
+    let two = (behind_exact ks f k d a.0.0.1.1.1.0 room before).sound a.0.1 b.0 b.1 in
+    let front = front_marks k a.0.0.0 a.0.0.1.1.1.0 a.0.0.1.1.1.1.1.0 in
+    let back = behind_marks k b.0.0.0 b.0.0.1.1.0 b.0.0.1.1.1.1.0 in
+    let tree : HostForHeaderTree = record { at = a.0.0.0; name = a.0.0.1.1.1.0; from = a.0.0.1.1.1.1.1.0; tested = b.0.0.0; to = b.0.0.1.1.0; stepped = b.0.0.1.1.1.1.0 } in
+    let made_ : Found ks IsHostForHeader (host_counter k) Free n tree b.0.1 = record {
+      valid = (two.valid.0, two.valid.1.1, one.valid, two.valid.1.0);
+      spans = subst (λ z. Spans ks n z b.0.1) (sym (header_row k tree)) (spans_join ks n front back a.0.1 b.0.1 one.spans two.spans);
+      shallow = ap (first_deep n) (header_row k tree) ∙ deep_split ks n front back a.0.1 one.spans ∙ rw (one.shallow, two.shallow) refl;
+      behind = tt;
+    } in
+    subst (λ (w : HostForHeaderTree × ℕ). Found ks IsHostForHeader (host_counter k) Free n w.0 w.1) (ok_one (tree, b.0.1) y b.2) made_
+
+header_far : (ks : List Kind) (f k d : ℕ) → suc k + d ≡ 65 → k ≤ f + 1 → (n q : ℕ) → f ≤ n → for_header_at ks d n ≡ Err (TooDeep q) → 64 ≤ q
+unfolding for_header_at
+header_far ks f k d room before n q m h =
+    far_bind (for_front ks d n) _ q h ((front_exact ks f k d room before).far n q m) (λ a r g.
+    (let moved = (front_exact ks f k d room before).moves n a r in
+    far_bind (for_behind ks d a.0.1.1.1.0 a.1) _ q g ((behind_exact ks f k d a.0.1.1.1.0 room before).far a.1 q (omega arith)) (λ b r g. cc)))
+
+-- the statements of a block as a list
+abbrev pub list_of : HostTrees → List HostTree
+list_of NoHost = []
+list_of (MoreHost s ss) = s ∷ list_of ss
+
+pub trees_list : (ss : HostTrees) → host_trees (list_of ss) ≡ ss
+trees_list NoHost = refl
+trees_list (MoreHost s ss) = ap (λ z. MoreHost s z) (trees_list ss)
+
+pub hosts_joined : (k : ℕ) (ss : HostTrees) → hosts k ss ≡ joined (host k) (list_of ss)
+hosts_joined k NoHost = refl
+hosts_joined k (MoreHost s ss) = ap (λ z. host k s ++ z) (hosts_joined k ss)
+
+pub joined_hosts : (k : ℕ) (xs : List HostTree) → joined (host k) xs ≡ hosts k (host_trees xs)
+joined_hosts k [] = refl
+joined_hosts k (x ∷ xs) = ap (λ z. host k x ++ z) (joined_hosts k xs)
+
+pub valid_list : (ss : HostTrees) → AreHosts ss → AllValid IsHost (list_of ss)
+valid_list NoHost h = tt
+valid_list (MoreHost s ss) h = (h.0, valid_list ss h.1)
+
+pub list_valid : (xs : List HostTree) → AllValid IsHost xs → AreHosts (host_trees xs)
+list_valid [] h = tt
+list_valid (x ∷ xs) h = (h.0, list_valid xs h.1)
+
+-- what a statement begins with
+abbrev host_lead : HostTree → HostLead
+host_lead (HostDeclaration v) = lead.Declaration
+host_lead (HostBlock at ss) = lead.Block
+host_lead (HostEmpty at) = lead.Empty
+host_lead (HostAssign a) = lead.Assignment
+host_lead (HostIf at e s) = lead.If
+host_lead (HostIfElse at e s t) = lead.If
+host_lead (HostFor c s) = lead.For
+host_lead (HostCall c) = lead.Call (call_lead c)
+
+pub record HostBegins (ks : List Kind) (n : ℕ) (s : HostTree) : Type 0 where
+  pub no_close : (c : Closing) → is_closed ks c n ≡ false
+  pub no_else : NoElse ks n
+  pub no_int : IsHostBody s → declares (slice_get ks n) ≡ false
+  pub lead : lead_in (slice_get ks n) ≡ host_lead s
+
+not_closed : (ks : List Kind) (n : ℕ) → sign_is sg.RightBrace (slice_get ks n) ≡ false → word_is wd.OpExit (slice_get ks n) ≡ false → (c : Closing) → is_closed ks c n ≡ false
+not_closed ks n a b closing.Brace = a
+not_closed ks n a b closing.Exit = b
+
+-- what a call's first token is not
+record NotCalled (o : Option Kind) : Type 0 where
+  brace : sign_is sg.RightBrace o ≡ false
+  exit : word_is wd.OpExit o ≡ false
+  other : word_is wd.Else o ≡ false
+  int : declares o ≡ false
+
+called_word : (w : _) (l : CallLead) → host_word_lead_of w ≡ lead.Call l → NotCalled (Some (kind.Word w))
+called_word wd.Else l h = cc
+called_word wd.OpExit l h = cc
+called_word wd.Int l h = cc
+called_word wd.Const l h = cc
+called_word _ l h = record { brace = refl; exit = refl; other = refl; int = refl }
+
+called : (o : Option Kind) (l : CallLead) → lead_in o ≡ lead.Call l → NotCalled o
+called None l h = cc
+called (Some (kind.Word w)) l h = called_word w l h
+called (Some (kind.Name z)) l h = cc
+called (Some (kind.Number z)) l h = cc
+called (Some (kind.Text z)) l h = cc
+called (Some (kind.Sign sg.LeftBrace)) l h = cc
+called (Some (kind.Sign sg.Semicolon)) l h = cc
+called (Some (kind.Sign sg.Star)) l h = cc
+called (Some (kind.Sign _)) l h = cc
+
+assign_begins : (ks : List Kind) (k n e : ℕ) (a : AssignmentTree) (x : PlaceTree) (more : List Mark) → Spans ks n (place k x ++ more) e → HostBegins ks n (HostAssign a)
+assign_begins ks k n e a (Scalar x) more s = (record { no_close = not_closed ks n (rw s.0 refl) (rw s.0 refl); no_else = rw s.0 refl; no_int = λ b. rw s.0 refl; lead = rw s.0 refl })
+assign_begins ks k n e a (Element x i) more s = record { no_close = not_closed ks n (rw s.0 refl) (rw s.0 refl); no_else = rw s.0 refl; no_int = λ b. rw s.0 refl; lead = rw s.0 refl }
+assign_begins ks k n e a (Target at x) more s = record { no_close = not_closed ks n (rw s.0 refl) (rw s.0 refl); no_else = rw s.0 refl; no_int = λ b. rw s.0 refl; lead = rw s.0 refl }
+
+pub host_begins : (ks : List Kind) (k n e : ℕ) (s : HostTree) (more : List Mark) → IsHost s → Spans ks n (host k s ++ more) e → HostBegins ks n s
+host_begins ks k n e (HostDeclaration v) more o s = by_const v.is_const s
+  where
+    by_const : (c : Bool) → Spans ks n ((word_if c k wd.Const ++ tail_of k v) ++ more) e → HostBegins ks n (HostDeclaration v)
+    by_const true s = record { no_close = not_closed ks n (rw s.0 refl) (rw s.0 refl); no_else = rw s.0 refl; no_int = λ b. absurd b; lead = rw s.0 refl }
+    by_const false s = record { no_close = not_closed ks n (rw s.0 refl) (rw s.0 refl); no_else = rw s.0 refl; no_int = λ b. absurd b; lead = rw s.0 refl }
+host_begins ks k n e (HostBlock at ss) more o s = record { no_close = not_closed ks n (rw s.0 refl) (rw s.0 refl); no_else = rw s.0 refl; no_int = λ b. rw s.0 refl; lead = rw s.0 refl }
+host_begins ks k n e (HostEmpty at) more o s = record { no_close = not_closed ks n (rw s.0 refl) (rw s.0 refl); no_else = rw s.0 refl; no_int = λ b. rw s.0 refl; lead = rw s.0 refl }
+host_begins ks k n e (HostAssign a) more o s =
+    let rest = named_sign k (Rattle.c_tree.specs.Signs.assign_sign_of a.op) a.at ∷ (expr (suc k) a.value ++ sign_mark k sg.Semicolon ∷ []) in
+    assign_begins ks k n e a a.place (rest ++ more) (subst (λ z. Spans ks n z e) (append_assoc (place k a.place) rest more) s)
+host_begins ks k n e (HostIf at x t) more o s = record { no_close = not_closed ks n (rw s.0 refl) (rw s.0 refl); no_else = rw s.0 refl; no_int = λ b. rw s.0 refl; lead = rw s.0 refl }
+host_begins ks k n e (HostIfElse at x t u) more o s = record { no_close = not_closed ks n (rw s.0 refl) (rw s.0 refl); no_else = rw s.0 refl; no_int = λ b. rw s.0 refl; lead = rw s.0 refl }
+host_begins ks k n e (HostFor c t) more o s = record { no_close = not_closed ks n (rw s.0 refl) (rw s.0 refl); no_else = rw s.0 refl; no_int = λ b. rw s.0 refl; lead = rw s.0 refl }
+
+host_begins ks k n e (HostCall c) more o s =
+    let l = call_begins ks k c n e more s in
+    let r = called (slice_get ks n) (call_lead c) l in
+    record { no_close = not_closed ks n r.brace r.exit; no_else = r.other; no_int = λ b. r.int; lead = l }
+
+-- at level 65 the first token is too deep
+call_deep : (n : ℕ) (c : OpCallTree) → first_deep n (call 65 c) ≡ Some n
+call_deep n (CallInit at x) = refl
+call_deep n (DeclSet at x v t) = refl
+call_deep n (DeclMap at x a b m v t) = refl
+call_deep n (DeclDat at x a m u v t) = refl
+call_deep n (DeclConst at m t g) = refl
+call_deep n (ParLoop at x t a xs) = refl
+call_deep n (Printf at t es) = refl
+call_deep n (PrintDat at x t) = refl
+
+call_some : (k : ℕ) (c : OpCallTree) → 1 ≤ length (call k c)
+call_some k (CallInit at x) = omega arith
+call_some k (DeclSet at x v t) = omega arith
+call_some k (DeclMap at x a b m v t) = omega arith
+call_some k (DeclDat at x a m u v t) = omega arith
+call_some k (DeclConst at m t g) = omega arith
+call_some k (ParLoop at x t a xs) = omega arith
+call_some k (Printf at t es) = omega arith
+call_some k (PrintDat at x t) = omega arith
+
+host_deep : (n : ℕ) (s : HostTree) → first_deep n (host 65 s) ≡ Some n
+host_deep n (HostDeclaration v) = vars_deep n v
+host_deep n (HostBlock at ss) = refl
+host_deep n (HostEmpty at) = refl
+host_deep n (HostAssign a) = assignment_deep n a
+host_deep n (HostIf at x t) = refl
+host_deep n (HostIfElse at x t u) = refl
+host_deep n (HostFor c t) = refl
+host_deep n (HostCall c) = call_deep n c
+
+-- an `else` does not stand behind what it would belong to
+abbrev pub Needs : List Kind → HostTree → ℕ → Type 0
+Needs ks s e = host_ends_open s ≡ true → NoElse ks e
+
+if_one : (ks : List Kind) (d : ℕ) (rec : Reader HostTree) (n at j e : ℕ) (x : ExprTree) (a : HostTree) (p q : Option ℕ) → condition_at ks d n ≡ after p (Ok (x, j)) → body_at ks rec j ≡ after q (Ok (a, e)) → NoElse ks e → at ≡ n → if_at ks d rec n ≡ after (or_else p q) (Ok (HostIf at x a, e))
+unfolding if_at
+if_one ks d rec n at j e x a None None c b h i = rw (c, b, h) (ap (λ (z : ℕ). Ok (HostIf z x a, e)) (sym i))
+if_one ks d rec n at j e x a None (Some q) c b h i = rw (c, b) refl
+if_one ks d rec n at j e x a (Some p) q c b h i = rw c refl
+
+if_both : (ks : List Kind) (d : ℕ) (rec : Reader HostTree) (n at j l e : ℕ) (x : ExprTree) (a b : HostTree) (p q r : Option ℕ) → condition_at ks d n ≡ after p (Ok (x, j)) → body_at ks rec j ≡ after q (Ok (a, l)) → slice_get ks l ≡ Some (kind.Word wd.Else) → body_at ks rec (suc l) ≡ after r (Ok (b, e)) → at ≡ n → if_at ks d rec n ≡ after (or_else p (or_else q r)) (Ok (HostIfElse at x a b, e))
+unfolding if_at
+if_both ks d rec n at j l e x a b None None None c f h g i = rw (c, f, word_here wd.Else (slice_get ks l) h, g) (ap (λ (z : ℕ). Ok (HostIfElse z x a b, e)) (sym i))
+if_both ks d rec n at j l e x a b None None (Some r) c f h g i = rw (c, f, word_here wd.Else (slice_get ks l) h, g) refl
+if_both ks d rec n at j l e x a b None (Some q) r c f h g i = rw (c, f) refl
+if_both ks d rec n at j l e x a b (Some p) q r c f h g i = rw c refl
+
+block_is : (ks : List Kind) (d : ℕ) (rec : Reader HostTree) (n at j : ℕ) (xs : List HostTree) (o : Option ℕ) → sign_at ks sg.LeftBrace n ≡ Ok (suc n) → hosts_in ks closing.Brace rec (suc n) ≡ after o (Ok (xs, j)) → sign_at ks sg.RightBrace j ≡ Ok (suc j) → at ≡ n → host_led ks d rec lead.Block n ≡ after o (Ok (HostBlock at (host_trees xs), suc j))
+block_is ks d rec n at j xs None a b c i = rw (a, b, c) (ap (λ (z : ℕ). Ok (HostBlock z (host_trees xs), suc j)) (sym i))
+block_is ks d rec n at j xs (Some p) a b c i = rw (a, b) refl
+
+for_led : (ks : List Kind) (d : ℕ) (rec : Reader HostTree) (n j e : ℕ) (c : HostForHeaderTree) (s : HostTree) (p q : Option ℕ) → for_header_at ks d n ≡ after p (Ok (c, j)) → body_at ks rec j ≡ after q (Ok (s, e)) → host_led ks d rec lead.For n ≡ after (or_else p q) (Ok (HostFor c s, e))
+for_led ks d rec n j e c s None None h b = rw (h, b) refl
+for_led ks d rec n j e c s None (Some q) h b = rw (h, b) refl
+for_led ks d rec n j e c s (Some p) q h b = rw h refl
+
+-- A statement at level k, with d levels left below it and at least f tokens before it, by what reads those within.
+module _ (ks : List Kind) (f k d : ℕ) (room : suc k + d ≡ 65) (before : k ≤ f + 1) (rec : Reader HostTree) (x : Exact ks (f + 1) 1 IsHost (host (suc k)) (Needs ks) (Needs ks) rec) where
+  fits : nat_lt 64 k ≡ false
+  fits = level_fits k d (omega arith)
+
+  body_is : (n : ℕ) → declares (slice_get ks n) ≡ false → body_at ks rec n ≡ rec n
+  body_is n h = rw h refl
+
+  body_complete : (s : HostTree) (n e : ℕ) → IsHostBody s → IsHost s → Spans ks n (host (suc k) s) e → Needs ks s e → body_at ks rec n ≡ after (first_deep n (host (suc k) s)) (Ok (s, e))
+  body_complete s n e b o p h =
+      let r = host_begins ks (suc k) n e s [] o (subst (λ z. Spans ks n z e) (sym (nil_right (host (suc k) s))) p) in
+      body_is n (r.no_int b) ∙ x.complete s n e o p h
+    where
+      nil_right : (xs : List Mark) → xs ++ [] ≡ xs
+      nil_right [] = refl
+      nil_right (y ∷ xs) = ap (λ z. y ∷ z) (nil_right xs)
+
+  int_lead : (s : HostTree) (n e : ℕ) → IsHost s → Spans ks n (host (suc k) s) e → declares (slice_get ks n) ≡ false → IsHostBody s
+  int_lead (HostDeclaration v) n e o s h = by_const v.is_const s
+    where
+      by_const : (c : Bool) → Spans ks n (word_if c (suc k) wd.Const ++ tail_of (suc k) v) e → ⊥
+      by_const true s = let t : declares (Some (kind.Word wd.Const)) ≡ false = subst (λ z. declares z ≡ false) s.0 h in cc
+      by_const false s = let t : declares (Some (kind.Word wd.Int)) ≡ false = subst (λ z. declares z ≡ false) s.0 h in cc
+  int_lead (HostBlock at ss) n e o s h = tt
+  int_lead (HostEmpty at) n e o s h = tt
+  int_lead (HostAssign a) n e o s h = tt
+  int_lead (HostIf at c t) n e o s h = tt
+  int_lead (HostIfElse at c t u) n e o s h = tt
+  int_lead (HostFor c t) n e o s h = tt
+  int_lead (HostCall c) n e o s h = tt
+
+  body_sound : (n : ℕ) (y : HostTree × ℕ) → body_at ks rec n ≡ Ok y → IsHostBody y.0 × Found ks IsHost (host (suc k)) (Needs ks) n y.0 y.1
+  body_sound n y h = by_test (declares (slice_get ks n)) refl h
+    where
+      by_test : (t : Bool) → declares (slice_get ks n) ≡ t → cond t (Err (Syntax n)) (rec n) ≡ Ok y → IsHostBody y.0 × Found ks IsHost (host (suc k)) (Needs ks) n y.0 y.1
+      by_test true t h = cc
+      by_test false t h = let r = x.sound n y h in (int_lead y.0 n y.1 r.valid r.spans t, r)
+
+  body_far : (n q : ℕ) → f + 1 ≤ n → body_at ks rec n ≡ Err (TooDeep q) → 64 ≤ q
+  body_far n q l h = by_test (declares (slice_get ks n)) h
+    where
+      by_test : (t : Bool) → ◌≡◌ {A = Result (HostTree × ℕ) Fault} (cond t (Err (Syntax n)) (rec n)) (Err (TooDeep q)) → 64 ≤ q
+      by_test true h = cc
+      by_test false h = x.far n q l h
+
+  body_moves : (n : ℕ) (y : HostTree × ℕ) → body_at ks rec n ≡ Ok y → n + 1 ≤ y.1
+  body_moves n y h = by_test (declares (slice_get ks n)) h
+    where
+      by_test : (t : Bool) → cond t (Err (Syntax n)) (rec n) ≡ Ok y → n + 1 ≤ y.1
+      by_test true h = cc
+      by_test false h = x.moves n y h
+
+  hosts_long : (xs : List HostTree) (n e : ℕ) → AllValid IsHost xs → Spans ks n (joined (host (suc k)) xs) e → n + length xs ≤ e
+  hosts_long [] n e o s = omega (arith, s)
+  hosts_long (y ∷ xs) n e o s =
+      let r = spans_split ks n (host (suc k) y) (joined (host (suc k)) xs) e s in
+      let more = hosts_long xs r.0 e o.1 r.2 in
+      let some = host_some y in
+      omega (arith, spans_end ks n (host (suc k) y) r.0 r.1)
+    where
+      place_some : (p : PlaceTree) → 1 ≤ length (place (suc k) p)
+      place_some (Scalar z) = omega arith
+      place_some (Element z i) = omega arith
+      place_some (Target at z) = omega arith
+
+      host_some : (s : HostTree) → 1 ≤ length (host (suc k) s)
+      host_some (HostDeclaration v) = omega (arith, length-append (word_if v.is_const (suc k) wd.Const) (tail_of (suc k) v))
+      host_some (HostBlock at ss) = omega arith
+      host_some (HostEmpty at) = omega arith
+      host_some (HostAssign a) =
+          omega (arith, place_some a.place, length-append (place (suc k) a.place) (named_sign (suc k) (Rattle.c_tree.specs.Signs.assign_sign_of a.op) a.at ∷ (expr (suc (suc k)) a.value ++ sign_mark (suc k) sg.Semicolon ∷ [])))
+      host_some (HostIf at c t) = omega arith
+      host_some (HostIfElse at c t u) = omega arith
+      host_some (HostFor c t) = omega arith
+      host_some (HostCall c) = omega (arith, call_some (suc k) c)
+
+  close_else : (c : Closing) (n : ℕ) → is_closed ks c n ≡ true → NoElse ks n
+  close_else closing.Brace n h = rw (sign_found sg.RightBrace (slice_get ks n) h) refl
+  close_else closing.Exit n h = rw (word_found wd.OpExit (slice_get ks n) h) refl
+
+  pub block_complete : (c : Closing) (t : Kind) (ss : HostTrees) (n e : ℕ) → AreHosts ss → Spans ks n (hosts (suc k) ss) e → slice_get ks e ≡ Some t → is_closed ks c e ≡ true → hosts_in ks c rec n ≡ after (first_deep n (hosts (suc k) ss)) (Ok (list_of ss, e))
+  block_complete c t ss n e o s h i =
+      let s' = subst (λ z. Spans ks n z e) (hosts_joined (suc k) ss) s in
+      let valid = valid_list ss o in
+      until_complete ks (f + 1) IsHost (host (suc k)) (Needs ks) (Needs ks) rec x (is_closed ks c) (NoElse ks) (λ a n e more o s. (let r = host_begins ks (suc k) n e a more o s in (r.no_close c, r.no_else))) (λ n h. close_else c n h) (λ a n h u. h) (list_of ss) (length ks) n e (omega (arith, hosts_long (list_of ss) n e valid s', slice_get_within ks e t h)) valid s' i ∙ ap (λ z. after z (Ok (list_of ss, e))) (ap (first_deep n) (sym (hosts_joined (suc k) ss)))
+
+  pub block_sound : (c : Closing) (n : ℕ) (y : List HostTree × ℕ) → hosts_in ks c rec n ≡ Ok y → AreHosts (host_trees y.0) × (Spans ks n (hosts (suc k) (host_trees y.0)) y.1 × (first_deep n (hosts (suc k) (host_trees y.0)) ≡ None))
+  block_sound c n y h =
+      let r = (until_sound ks (f + 1) 1 IsHost (host (suc k)) (Needs ks) (Needs ks) rec x (is_closed ks c) (length ks) n y h).0 in
+      let same = joined_hosts (suc k) y.0 in
+      (list_valid y.0 r.valid, (subst (λ z. Spans ks n z y.1) same r.spans, ap (first_deep n) (sym same) ∙ r.shallow))
+
+  pub block_far : (c : Closing) (n q : ℕ) → f + 1 ≤ n → hosts_in ks c rec n ≡ Err (TooDeep q) → 64 ≤ q
+  block_far c n q l h =
+      until_far ks (f + 1) 1 IsHost (host (suc k)) (Needs ks) (Needs ks) rec x (is_closed ks c) (length ks) n q l h
+
+  led_complete : (s : HostTree) (n e : ℕ) → IsHost s → Spans ks n (host k s) e → Needs ks s e → host_led ks d rec (host_lead s) n ≡ after (first_deep n (host k s)) (Ok (s, e))
+  led_complete (HostDeclaration v) n e o s h =
+      made_complete HostDeclaration (declaration_at ks d) n e v (first_deep n (vars k v)) (declaration_complete ks f k d room before v n e o s)
+  led_complete (HostBlock at ss) n e o s h =
+      let rb = sign_mark k sg.RightBrace in
+      let r = spans_split ks (suc n) (hosts (suc k) ss) (rb ∷ []) e s.2 in
+      block_is ks d rec n at r.0 (list_of ss) (first_deep (suc n) (hosts (suc k) ss)) (sign_at_is ks sg.LeftBrace n s.0) (block_complete closing.Brace (kind.Sign sg.RightBrace) ss (suc n) r.0 o r.1 r.2.0 (rw r.2.0 refl)) (sign_at_is ks sg.RightBrace r.0 r.2.0) s.1 ∙ ap (λ z. after (first_deep (suc n) (hosts (suc k) ss)) (Ok (HostBlock at z, suc r.0))) (trees_list ss) ∙ ap (λ (z : ℕ). after (first_deep (suc n) (hosts (suc k) ss)) (Ok (HostBlock at ss, z))) r.2.2 ∙ ap (λ z. after z (Ok (HostBlock at ss, e))) (sym (deep_over n (named_sign k sg.LeftBrace at) (hosts (suc k) ss ++ rb ∷ []) fits ∙ deep_closed ks (suc n) (hosts (suc k) ss) rb r.0 r.1 fits))
+  led_complete (HostEmpty at) n e o s h =
+      let deep : first_deep n (host k (HostEmpty at)) ≡ None = deep_over n (named_sign k sg.Semicolon at) [] fits in
+      rw (sign_at_is ks sg.Semicolon n s.0, deep) (ap (λ (z : ℕ). Ok (HostEmpty z, suc n)) (sym s.1) ∙ ap (λ (z : ℕ). Ok (HostEmpty at, z)) s.2)
+  led_complete (HostAssign a) n e o s h =
+      made_complete HostAssign (assignment_at ks d) n e a (first_deep n (assignment k a)) (assignment_complete ks f k d room before a n e o s)
+  led_complete (HostIf at c t) n e o s h =
+      let r = spans_split ks n (condition k at c) (host (suc k) t) e s in
+      let one = condition_complete ks f k d room before at c n r.0 o.0 r.1 in
+      let two = body_complete t r.0 e o.1 o.2 r.2 (λ z. h refl) in
+      if_one ks d rec n at r.0 e c t (first_deep n (condition k at c)) (first_deep r.0 (host (suc k) t)) one two (h refl) s.1 ∙ ap (λ z. after z (Ok (HostIf at c t, e))) (sym (deep_split ks n (condition k at c) (host (suc k) t) r.0 r.1))
+  led_complete (HostIfElse at c t u) n e o s h =
+      let tail = host (suc k) t ++ (word_mark k wd.Else ∷ host (suc k) u) in
+      let r = spans_split ks n (condition k at c) tail e s in
+      let q = spans_split ks r.0 (host (suc k) t) (word_mark k wd.Else ∷ host (suc k) u) e r.2 in
+      let one = condition_complete ks f k d room before at c n r.0 o.0 r.1 in
+      let two = body_complete t r.0 q.0 o.1 o.2 q.1 (λ z. absurd (true_false (sym z ∙ o.3))) in
+      let three = body_complete u (suc q.0) e o.4 o.5 q.2.2 (λ z. h z) in
+      if_both ks d rec n at r.0 q.0 e c t u (first_deep n (condition k at c)) (first_deep r.0 (host (suc k) t)) (first_deep (suc q.0) (host (suc k) u)) one two q.2.0 three s.1 ∙ ap (λ z. after z (Ok (HostIfElse at c t u, e))) (sym (deep_split ks n (condition k at c) tail r.0 r.1 ∙ ap (or_else (first_deep n (condition k at c))) (deep_between ks r.0 (host (suc k) t) (word_mark k wd.Else) (host (suc k) u) q.0 q.1 fits)))
+  led_complete (HostFor c t) n e o s h =
+      let r = spans_split ks n (host_counter k c) (host (suc k) t) e s in
+      for_led ks d rec n r.0 e c t (first_deep n (host_counter k c)) (first_deep r.0 (host (suc k) t)) (header_complete ks f k d room before c n r.0 o.0 r.1) (body_complete t r.0 e o.1 o.2 r.2 (λ z. h z)) ∙ ap (λ z. after z (Ok (HostFor c t, e))) (sym (deep_split ks n (host_counter k c) (host (suc k) t) r.0 r.1))
+
+  led_complete (HostCall c) n e o s h =
+      made_complete HostCall (call_at ks d (call_lead c)) n e c (first_deep n (call k c)) (call_complete ks f k d room before c n e o s)
+
+  abbrev FoundAt : ℕ → HostTree × ℕ → Type 0
+  FoundAt n y = Found ks IsHost (host k) (Needs ks) n y.0 y.1
+
+  no_open : (n : ℕ) → false ≡ true → NoElse ks n
+  no_open n h = absurd (true_false (sym h))
+
+  if_sound : (n : ℕ) (y : HostTree × ℕ) → if_at ks d rec n ≡ Ok y → FoundAt n y
+  unfolding if_at
+  if_sound n y h =
+      let c = bind_ok (condition_at ks d n) _ y h in
+      let s = bind_ok (body_at ks rec c.0.1) _ y c.2 in
+      by_test c.0 s.0 (condition_sound ks f k d room before n c.0 c.1) (body_sound c.0.1 s.0 s.1) (word_is wd.Else (slice_get ks s.0.1)) refl s.2
+    where
+      by_test : (c : ExprTree × ℕ) (s : HostTree × ℕ) → Condition ks k n c.0 c.1 → IsHostBody s.0 × Found ks IsHost (host (suc k)) (Needs ks) c.1 s.0 s.1 → (t : Bool) → word_is wd.Else (slice_get ks s.1) ≡ t → cond t (body_at ks rec (suc s.1) >>= λ t. Ok (HostIfElse n c.0 s.0 t.0, t.1)) (Ok (HostIf n c.0 s.0, s.1)) ≡ Ok y → FoundAt n y
+      by_test c s o b false t h =
+          let made_ : FoundAt n (HostIf n c.0 s.0, s.1) = record {
+            valid = (o.grouped, b.0, b.1.valid);
+            spans = spans_join ks n (condition k n c.0) (host (suc k) s.0) c.1 s.1 o.spans b.1.spans;
+            shallow = deep_split ks n (condition k n c.0) (host (suc k) s.0) c.1 o.spans ∙ rw (o.shallow, b.1.shallow) refl;
+            behind = λ z. t;
+          } in
+          subst (FoundAt n) (ok_one (HostIf n c.0 s.0, s.1) y h) made_
+      by_test c s o b true t h =
+          let u = bind_ok (body_at ks rec (suc s.1)) _ y h in
+          let g = body_sound (suc s.1) u.0 u.1 in
+          let tail = host (suc k) s.0 ++ (word_mark k wd.Else ∷ host (suc k) u.0.0) in
+          let here = word_found wd.Else (slice_get ks s.1) t in
+          let ends : Spans ks c.1 tail u.0.1 = spans_join ks c.1 (host (suc k) s.0) (word_mark k wd.Else ∷ host (suc k) u.0.0) s.1 u.0.1 b.1.spans (here, tt, g.1.spans) in
+          let deep : first_deep c.1 tail ≡ None = deep_between ks c.1 (host (suc k) s.0) (word_mark k wd.Else) (host (suc k) u.0.0) s.1 b.1.spans fits ∙ rw (b.1.shallow, g.1.shallow) refl in
+          let closed : host_ends_open s.0 ≡ false = not_open s.0 s.1 (λ z. b.1.behind z) t in
+          let made_ : FoundAt n (HostIfElse n c.0 s.0 u.0.0, u.0.1) = record {
+            valid = (o.grouped, b.0, b.1.valid, closed, g.0, g.1.valid);
+            spans = spans_join ks n (condition k n c.0) tail c.1 u.0.1 o.spans ends;
+            shallow = deep_split ks n (condition k n c.0) tail c.1 o.spans ∙ rw (o.shallow, deep) refl;
+            behind = λ z. g.1.behind z;
+          } in
+          subst (FoundAt n) (ok_one (HostIfElse n c.0 s.0 u.0.0, u.0.1) y u.2) made_
+        where
+          not_open : (s : HostTree) (e : ℕ) → (host_ends_open s ≡ true → NoElse ks e) → word_is wd.Else (slice_get ks e) ≡ true → host_ends_open s ≡ false
+          not_open s e g t = by_open (host_ends_open s) refl
+            where
+              by_open : (b : Bool) → host_ends_open s ≡ b → b ≡ false
+              by_open true i = absurd (true_false (sym t ∙ g i))
+              by_open false i = refl
+
+  pub led_sound : (l : HostLead) (n : ℕ) (y : HostTree × ℕ) → lead_in (slice_get ks n) ≡ l → host_led ks d rec l n ≡ Ok y → FoundAt n y
+  led_sound lead.Declaration n y i h =
+      let v = bind_ok (declaration_at ks d n) _ y h in
+      let r = (declaration_sound ks f k d room before n v.0 v.1).0 in
+      let made_ : FoundAt n (HostDeclaration v.0.0, v.0.1) = record { valid = r.valid; spans = r.spans; shallow = r.shallow; behind = λ z. no_open v.0.1 z } in
+      subst (FoundAt n) (ok_one (HostDeclaration v.0.0, v.0.1) y v.2) made_
+  led_sound lead.Block n y i h =
+      let o = bind_ok (sign_at ks sg.LeftBrace n) _ y h in
+      let b = bind_ok (hosts_in ks closing.Brace rec o.0) _ y o.2 in
+      let c = bind_ok (sign_at ks sg.RightBrace b.0.1) _ y b.2 in
+      let g = sign_at_ok ks sg.LeftBrace n o.0 o.1 in
+      let u = sign_at_ok ks sg.RightBrace b.0.1 c.0 c.1 in
+      let r : AreHosts (host_trees b.0.0) × (Spans ks (suc n) (hosts (suc k) (host_trees b.0.0)) b.0.1 × (first_deep (suc n) (hosts (suc k) (host_trees b.0.0)) ≡ None)) = subst (λ z. AreHosts (host_trees b.0.0) × (Spans ks z (hosts (suc k) (host_trees b.0.0)) b.0.1 × (first_deep z (hosts (suc k) (host_trees b.0.0)) ≡ None))) g.1 (block_sound closing.Brace o.0 b.0 b.1) in
+      let rb = sign_mark k sg.RightBrace in
+      let made_ : FoundAt n (HostBlock n (host_trees b.0.0), c.0) = record {
+        valid = r.0;
+        spans = (g.0, refl, spans_join ks (suc n) (hosts (suc k) (host_trees b.0.0)) (rb ∷ []) b.0.1 c.0 r.1.0 (u.0, tt, sym u.1));
+        shallow = deep_over n (named_sign k sg.LeftBrace n) (hosts (suc k) (host_trees b.0.0) ++ rb ∷ []) fits ∙ deep_closed ks (suc n) (hosts (suc k) (host_trees b.0.0)) rb b.0.1 r.1.0 fits ∙ r.1.1;
+        behind = λ z. no_open c.0 z;
+      } in
+      subst (FoundAt n) (ok_one (HostBlock n (host_trees b.0.0), c.0) y c.2) made_
+  led_sound lead.Empty n y i h =
+      let o = bind_ok (sign_at ks sg.Semicolon n) _ y h in
+      let g = sign_at_ok ks sg.Semicolon n o.0 o.1 in
+      let made_ : FoundAt n (HostEmpty n, o.0) = record { valid = tt; spans = (g.0, refl, sym g.1); shallow = deep_over n (named_sign k sg.Semicolon n) [] fits; behind = λ z. no_open o.0 z } in
+      subst (FoundAt n) (ok_one (HostEmpty n, o.0) y o.2) made_
+  led_sound lead.Assignment n y i h =
+      let a = bind_ok (assignment_at ks d n) _ y h in
+      let r = assignment_sound ks f k d room before n a.0 a.1 in
+      let made_ : FoundAt n (HostAssign a.0.0, a.0.1) = record { valid = r.valid; spans = r.spans; shallow = r.shallow; behind = λ z. no_open a.0.1 z } in
+      subst (FoundAt n) (ok_one (HostAssign a.0.0, a.0.1) y a.2) made_
+  led_sound lead.If n y i h = if_sound n y h
+  led_sound lead.For n y i h =
+      let c = bind_ok (for_header_at ks d n) _ y h in
+      let s = bind_ok (body_at ks rec c.0.1) _ y c.2 in
+      let o = header_sound ks f k d room before n c.0 c.1 in
+      let b = body_sound c.0.1 s.0 s.1 in
+      let made_ : FoundAt n (HostFor c.0.0 s.0.0, s.0.1) = record {
+        valid = (o.valid, b.0, b.1.valid);
+        spans = spans_join ks n (host_counter k c.0.0) (host (suc k) s.0.0) c.0.1 s.0.1 o.spans b.1.spans;
+        shallow = deep_split ks n (host_counter k c.0.0) (host (suc k) s.0.0) c.0.1 o.spans ∙ rw (o.shallow, b.1.shallow) refl;
+        behind = λ z. b.1.behind z;
+      } in
+      subst (FoundAt n) (ok_one (HostFor c.0.0 s.0.0, s.0.1) y s.2) made_
+  led_sound (lead.Call l) n y i h =
+      let c = bind_ok (call_at ks d l n) _ y h in
+      let r = call_sound ks f k d room before l n c.0 c.1 in
+      let made_ : FoundAt n (HostCall c.0.0, c.0.1) = record { valid = r.0; spans = r.1.0; shallow = r.1.1; behind = λ z. no_open c.0.1 z } in
+      subst (FoundAt n) (ok_one (HostCall c.0.0, c.0.1) y c.2) made_
+  led_sound lead.Nothing n y i h = cc
+
+  if_far : (n q : ℕ) → f ≤ n → if_at ks d rec n ≡ Err (TooDeep q) → 64 ≤ q
+  unfolding if_at
+  if_far n q l h =
+      far_bind (condition_at ks d n) _ q h (condition_far ks f k d room before n q l) (λ c r g.
+      (let o = condition_sound ks f k d room before n c r in
+      let moved = spans_end ks n (condition k n c.0) c.1 o.spans in
+      far_bind (body_at ks rec c.1) _ q g (body_far c.1 q (omega arith)) (λ s r g. (let m = body_moves c.1 s r in by_test c s (omega arith) (word_is wd.Else (slice_get ks s.1)) g))))
+    where
+      by_test : (c : ExprTree × ℕ) (s : HostTree × ℕ) → f + 1 ≤ s.1 → (t : Bool) → ◌≡◌ {A = Result (HostTree × ℕ) Fault} (cond t (body_at ks rec (suc s.1) >>= λ t. Ok (HostIfElse n c.0 s.0 t.0, t.1)) (Ok (HostIf n c.0 s.0, s.1))) (Err (TooDeep q)) → 64 ≤ q
+      by_test c s m true g = far_bind (body_at ks rec (suc s.1)) _ q g (body_far (suc s.1) q (omega arith)) (λ u r g. cc)
+      by_test c s m false g = cc
+
+  pub led_far : (l : HostLead) (n q : ℕ) → f ≤ n → host_led ks d rec l n ≡ Err (TooDeep q) → 64 ≤ q
+  led_far lead.Declaration n q l h = far_bind (declaration_at ks d n) _ q h (declaration_far ks f k d room before n q l) (λ v r g. cc)
+  led_far lead.Block n q l h =
+      far_bind (sign_at ks sg.LeftBrace n) _ q h (sign_far ks sg.LeftBrace n q) (λ o r g.
+      (let i = sign_at_ok ks sg.LeftBrace n o r in
+      far_bind (hosts_in ks closing.Brace rec o) _ q g (block_far closing.Brace o q (omega (arith, i.1))) (λ b r g. far_bind (sign_at ks sg.RightBrace b.1) _ q g (sign_far ks sg.RightBrace b.1 q) (λ e r g. cc))))
+  led_far lead.Empty n q l h = far_bind (sign_at ks sg.Semicolon n) _ q h (sign_far ks sg.Semicolon n q) (λ e r g. cc)
+  led_far lead.Assignment n q l h = far_bind (assignment_at ks d n) _ q h (assignment_far ks f k d room before n q l) (λ v r g. cc)
+  led_far lead.If n q l h = if_far n q l h
+  led_far lead.For n q l h =
+      far_bind (for_header_at ks d n) _ q h (header_far ks f k d room before n q l) (λ c r g.
+      (let o = header_sound ks f k d room before n c r in
+      let moved = spans_end ks n (host_counter k c.0) c.1 o.spans in
+      far_bind (body_at ks rec c.1) _ q g (body_far c.1 q (omega arith)) (λ s r g. cc)))
+  led_far (lead.Call c) n q l h = far_bind (call_at ks d c n) _ q h (call_far ks f k d room before c n q l) (λ v r g. cc)
+  led_far lead.Nothing n q l h = cc
+
+  pub led_moves : (n : ℕ) (y : HostTree × ℕ) → FoundAt n y → n + 1 ≤ y.1
+  led_moves n y r =
+      let s' : Spans ks n (host k y.0) y.1 = r.spans in
+      omega (arith, spans_end ks n (host k y.0) y.1 s', host_some y.0)
+    where
+      place_some : (p : PlaceTree) → 1 ≤ length (place k p)
+      place_some (Scalar z) = omega arith
+      place_some (Element z i) = omega arith
+      place_some (Target at z) = omega arith
+
+      host_some : (s : HostTree) → 1 ≤ length (host k s)
+      host_some (HostDeclaration v) = omega (arith, length-append (word_if v.is_const k wd.Const) (tail_of k v))
+      host_some (HostBlock at ss) = omega arith
+      host_some (HostEmpty at) = omega arith
+      host_some (HostAssign a) =
+          omega (arith, place_some a.place, length-append (place k a.place) (named_sign k (Rattle.c_tree.specs.Signs.assign_sign_of a.op) a.at ∷ (expr (suc k) a.value ++ sign_mark k sg.Semicolon ∷ [])))
+      host_some (HostIf at c t) = omega arith
+      host_some (HostIfElse at c t u) = omega arith
+      host_some (HostFor c t) = omega arith
+      host_some (HostCall c) = omega (arith, call_some k c)
+
+last_is : (ks : List Kind) (n : ℕ) → host_at ks 0 n ≡ Err (TooDeep n)
+unfolding host_at
+last_is ks n = refl
+
+level_is : (ks : List Kind) (d n : ℕ) (l : HostLead) → lead_in (slice_get ks n) ≡ l → host_at ks (suc d) n ≡ host_led ks d (host_at ks d) l n
+unfolding host_at
+level_is ks d n l h = rw h refl
+
+-- A statement at level k, with d levels left and at least f tokens before it.
+pub host_exact : (ks : List Kind) (d k f : ℕ) → k + d ≡ 65 → k ≤ f + 1 → Exact ks f 1 IsHost (host k) (Needs ks) (Needs ks) (host_at ks d)
+host_exact ks zero k f l b = record {
+  complete = λ s n e o p h. last_is ks n ∙ ap (λ z. after z (Ok (s, e))) (sym (ap (λ z. first_deep n (host z s)) (let i : k ≡ 65 = omega arith in i) ∙ host_deep n s));
+  sound = λ n y h. absurd (never n y (sym (last_is ks n) ∙ h));
+  moves = λ n y h. absurd (never n y (sym (last_is ks n) ∙ h));
+  far = λ n q m h. (let same = deep_one n q (sym (last_is ks n) ∙ h) in omega arith);
+}
+  where
+    never : (n : ℕ) (y : HostTree × ℕ) → ◌≡◌ {A = Result (HostTree × ℕ) Fault} (Err (TooDeep n)) (Ok y) → ⊥
+    never n y h = cc
+
+    deep_one : (n q : ℕ) → ◌≡◌ {A = Result (HostTree × ℕ) Fault} (Err (TooDeep n)) (Err (TooDeep q)) → n ≡ q
+    deep_one n q h = cc
+host_exact ks (suc d) k f l b =
+    let inner = host_exact ks d (suc k) (f + 1) (omega arith) (omega arith) in
+    level_exact inner
+  where
+    level_exact : Exact ks (f + 1) 1 IsHost (host (suc k)) (Needs ks) (Needs ks) (host_at ks d) → Exact ks f 1 IsHost (host k) (Needs ks) (Needs ks) (host_at ks (suc d))
+    level_exact inner = record {
+      complete = λ s n e o p h.
+        (let r = host_begins ks k n e s [] o (subst (λ z. Spans ks n z e) (sym (nil_right (host k s))) p) in
+        level_is ks d n (host_lead s) r.lead ∙ led_complete ks f k d (omega arith) b (host_at ks d) inner s n e o p h);
+      sound = λ n y h. led_sound ks f k d (omega arith) b (host_at ks d) inner (lead_in (slice_get ks n)) n y refl (sym (level_is ks d n (lead_in (slice_get ks n)) refl) ∙ h);
+      moves = λ n y h. led_moves ks f k d (omega arith) b (host_at ks d) inner n y (led_sound ks f k d (omega arith) b (host_at ks d) inner (lead_in (slice_get ks n)) n y refl (sym (level_is ks d n (lead_in (slice_get ks n)) refl) ∙ h));
+      far = λ n q m h. led_far ks f k d (omega arith) b (host_at ks d) inner (lead_in (slice_get ks n)) n q m (sym (level_is ks d n (lead_in (slice_get ks n)) refl) ∙ h);
+    }
+      where
+        nil_right : (xs : List Mark) → xs ++ [] ≡ xs
+        nil_right [] = refl
+        nil_right (y ∷ xs) = ap (λ z. y ∷ z) (nil_right xs)
