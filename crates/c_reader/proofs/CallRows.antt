@@ -1,6 +1,5 @@
 -- Calls are read exactly as they are printed.
-use Rattle.std.proofs.Common.{◌≡◌, ℕ, zero, suc, ◌+◌, ◌≤◌, ◌<◌, Bool, true, false, List, [], ◌∷◌, ◌++◌, length, Option, Some, None, Result, Ok, Err, refl, sym, ap, subst, ◌∙◌, arith, slice_get, nat_lt, zero-le, length-append}
-use Rattle.std.proofs.lemmas.Option.{slice_get_within}
+use Rattle.std.proofs.Common.{◌≡◌, ℕ, suc, ◌+◌, ◌≤◌, false, List, [], ◌∷◌, ◌++◌, length, Some, None, Ok, Err, refl, sym, ap, subst, ◌∙◌, arith, slice_get, nat_lt, zero-le, length-append}
 use Rattle.c_lex.specs.declared.tokens.Kind.{Kind}
 use Rattle.c_lex.specs.declared.tokens.Kind.TheVariants as kind
 use Rattle.c_lex.specs.declared.tokens.Sign.TheVariants as sg
@@ -9,18 +8,17 @@ use Rattle.c_tree.specs.Tree.{ExprTree, OpCallTree, CallInit, DeclSet, DeclMap, 
 use Rattle.c_tree.specs.Print.{Mark, sign_at as sign_mark, expr, values, call}
 use Rattle.c_tree.specs.Grouped.{IsGrouped, AllGrouped, IsCall}
 use Rattle.c_tree.specs.Reads.{first_deep}
-use Rattle.c_reader.specs.declared.faults.Fault.{Fault}
-use Rattle.c_reader.specs.declared.faults.Fault.TheVariants.{Syntax, TooDeep}
+use Rattle.c_reader.specs.declared.faults.Fault.TheVariants.{TooDeep}
 use Rattle.c_reader.specs.declared.leads.CallLead.{CallLead}
 use Rattle.c_reader.specs.declared.leads.CallLead.TheVariants as lead
 use Rattle.c_reader.specs.declared.leads.HostLead.TheVariants as host_lead
 use Rattle.c_reader.specs.Hosts.{lead_in}
 use Rattle.c_reader.specs.Descent.{read}
-use Rattle.c_reader.specs.Rows.{Reader, both, made}
+use Rattle.c_reader.specs.Rows.{Reader, both}
 use Rattle.c_reader.specs.Calls.{init_row, decl_set_row, decl_map_row, decl_dat_row, decl_const_row, par_loop_row, values_at, printf_row, print_dat_row, call_at}
 use Rattle.c_reader.proofs.Spans.{Spans, spans_end, after}
-use Rattle.c_reader.proofs.Complete.{Closes, right_paren, comma, level_fits}
-use Rattle.c_reader.proofs.Exactness.{Exact, Found, Any, Free, ClosedAt, both_exact, turned_exact, flat, sign_exact, word_exact, marked_exact, ident_exact, number_exact, text_exact, expr_exact, expr_some}
+use Rattle.c_reader.proofs.Complete.{right_paren, comma, level_fits}
+use Rattle.c_reader.proofs.Exactness.{Exact, Any, Free, ClosedAt, both_exact, turned_exact, flat, sign_exact, word_exact, marked_exact, ident_exact, number_exact, text_exact, expr_exact}
 use Rattle.c_reader.proofs.Lists.{AllValid, tails, ParenAt, tails_complete, tails_sound, tails_far}
 use Rattle.c_reader.proofs.Items.{global_exact, args_exact, made_complete, made_far, image_sound, paren_within}
 

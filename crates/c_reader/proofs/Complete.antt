@@ -1,6 +1,6 @@
 -- Each tree is read from the tokens that it prints.
-use Rattle.std.proofs.Common.{◌≡◌, ℕ, zero, suc, ◌+◌, ◌-◌, ◌≤◌, ◌<◌, Bool, true, false, cond, List, [], ◌∷◌, ◌++◌, Option, Some, None, Result, Ok, Err, refl, sym, ap, subst, ◌∙◌, arith, slice_get, nat_lt, nat_le, ◌⊎◌, inl, inr, zero-le}
-use Rattle.std.proofs.lemmas.Bool.{le-ltb, lt-ltb, leb-true, le-leb}
+use Rattle.std.proofs.Common.{◌≡◌, ℕ, zero, suc, ◌+◌, ◌-◌, ◌≤◌, ◌<◌, true, false, List, [], ◌∷◌, ◌++◌, Option, Some, None, Ok, Err, refl, sym, ap, ◌∙◌, arith, slice_get, nat_lt, nat_le, ◌⊎◌, inl, inr, zero-le}
+use Rattle.std.proofs.lemmas.Bool.{le-ltb, lt-ltb}
 use Rattle.std.proofs.lemmas.Bool.Decides.{leb_tells}
 use Rattle.c_lex.specs.declared.tokens.Kind.{Kind}
 use Rattle.c_lex.specs.declared.tokens.Kind.TheVariants as kind
@@ -12,19 +12,16 @@ use Rattle.c_tree.specs.declared.expressions.BinaryOp.{BinaryOp}
 use Rattle.c_tree.specs.declared.expressions.UnaryOp.{UnaryOp}
 use Rattle.c_tree.specs.Signs.{level_of, sign_of, unary_sign_of, min_max_word_of}
 use Rattle.c_tree.specs.Tree.{ExprTree, Number, Name, Index, Deref, Unary, Binary, Choice, Paren, Extremum, Absolute}
-use Rattle.c_tree.specs.Print.{Mark, expr, chain_of, operator_level, sign_at as sign_mark, named_sign, named_word, ident}
+use Rattle.c_tree.specs.Print.{expr, chain_of, operator_level, sign_at as sign_mark, named_sign}
 use Rattle.c_tree.specs.Grouped.{strength, IsGrouped}
-use Rattle.c_tree.specs.Reads.{Keeps, AreNumbered, first_deep}
-use Rattle.c_reader.specs.declared.leads.Lead.{Lead}
-use Rattle.c_reader.specs.declared.leads.Lead.TheVariants as lead
-use Rattle.c_reader.specs.declared.faults.Fault.{Fault}
-use Rattle.c_reader.specs.declared.faults.Fault.TheVariants.{Syntax, TooDeep}
+use Rattle.c_tree.specs.Reads.{first_deep}
+use Rattle.c_reader.specs.declared.faults.Fault.TheVariants.{TooDeep}
 use Rattle.c_lex.specs.declared.tokens.Word.TheVariants as word
 use Rattle.c_tree.specs.declared.expressions.MinMax.{MinMax}
-use Rattle.c_reader.specs.Leads.{binary_of, lead_of}
-use Rattle.c_reader.specs.Descent.{Step, Rec, ◌>>=◌, sign_is, sign_at, operator_at, name_at, name_in, led_by, worded_by, front_in, front, chain, choice, read}
-use Rattle.c_reader.proofs.Spans.{Spans, spans_split, or_else, deep_split, deep_over, deep_here, deep_front, deep_between, deep_closed, after, after_or_else, after_bind}
-use Rattle.c_reader.proofs.Steps.{binary_of-sign_of, lead_of-unary_sign_of, level_bounds, sign_found, sign_here, sign_at_is, operator_is, operator_below, operator_none, operator_higher, operator_beyond, operator_lowest, operator_sign, word_lead_of-extreme}
+use Rattle.c_reader.specs.Leads.{binary_of}
+use Rattle.c_reader.specs.Descent.{Step, Rec, ◌>>=◌, sign_is, sign_at, operator_at, name_at, front, chain, choice, read}
+use Rattle.c_reader.proofs.Spans.{Spans, spans_split, or_else, deep_split, deep_here, deep_front, deep_between, deep_closed, after, after_or_else}
+use Rattle.c_reader.proofs.Steps.{lead_of-unary_sign_of, level_bounds, sign_at_is, operator_is, operator_below, operator_none, operator_higher, operator_beyond, operator_lowest, operator_sign, word_lead_of-extreme}
 
 -- At the last level but one there is room for a token, and not one level further.
 pub level_fits : (k d : ℕ) → k + suc d ≡ 65 → nat_lt 64 k ≡ false

@@ -1,8 +1,7 @@
 -- Declarations and assignments are read exactly as they are printed.
-use Rattle.std.proofs.Common.{◌≡◌, ◌≢◌, ℕ, zero, suc, ◌+◌, ◌≤◌, ◌<◌, Bool, true, false, cond, List, [], ◌∷◌, ◌++◌, length, Option, Some, None, Result, Ok, Err, refl, sym, ap, subst, ◌∙◌, arith, slice_get, nat_lt, append_assoc, length-append, zero-le, ◌⊎◌, inl, inr}
+use Rattle.std.proofs.Common.{◌≡◌, ◌≢◌, ℕ, suc, ◌+◌, ◌≤◌, Bool, true, false, cond, List, [], ◌∷◌, ◌++◌, length, Option, Some, None, Result, Ok, Err, refl, sym, ap, subst, ◌∙◌, arith, slice_get, nat_lt, length-append, zero-le, ◌⊎◌, inl, inr}
 use Rattle.c_lex.specs.declared.tokens.Kind.{Kind}
 use Rattle.c_lex.specs.declared.tokens.Kind.TheVariants as kind
-use Rattle.c_lex.specs.declared.tokens.Sign.{Sign}
 use Rattle.c_lex.specs.declared.tokens.Sign.TheVariants as sg
 use Rattle.c_lex.specs.declared.tokens.Word.TheVariants as wd
 use Rattle.c_tree.specs.declared.expressions.Ident.{Ident}
@@ -15,19 +14,19 @@ use Rattle.c_tree.specs.Print.{Mark, sign_at as sign_mark, named_sign, named_wor
 use Rattle.c_tree.specs.Grouped.{IsGrouped, IsDeclr, AreDeclrs, IsDeclaration, IsPlace, IsAssignment}
 use Rattle.c_tree.specs.Reads.{first_deep}
 use Rattle.c_reader.specs.declared.faults.Fault.{Fault}
-use Rattle.c_reader.specs.declared.faults.Fault.TheVariants.{Syntax, TooDeep}
+use Rattle.c_reader.specs.declared.faults.Fault.TheVariants.{TooDeep}
 use Rattle.c_reader.specs.Descent.{◌>>=◌, sign_is, sign_at, read}
-use Rattle.c_reader.specs.Rows.{Reader, both, made, sign, word_is, word_at, ident, number, separated}
-use Rattle.c_reader.specs.Declarations.{unset, declr_at, declaration_behind, declaration_at, named_place, place_at, assign_at, placed_assign, assignment_row, assigned, assignment_at}
-use Rattle.c_reader.proofs.Spans.{Spans, spans_end, spans_within, spans_split, spans_join, or_else, deep_split, deep_over, deep_closed, after}
-use Rattle.c_reader.proofs.Steps.{sign_at_is, sign_at_ok, sign_found, sign_here}
+use Rattle.c_reader.specs.Rows.{made, word_is, word_at, ident, number, separated}
+use Rattle.c_reader.specs.Declarations.{unset, declr_at, declaration_behind, declaration_at, named_place, place_at, assignment_row, assigned, assignment_at}
+use Rattle.c_reader.proofs.Spans.{Spans, spans_end, spans_within, spans_split, spans_join, deep_over, deep_closed, after}
+use Rattle.c_reader.proofs.Steps.{sign_at_is, sign_at_ok, sign_found}
 use Rattle.c_reader.proofs.Complete.{Closes, right_bracket, comma, level_fits}
 use Rattle.c_reader.proofs.Sound.{bind_ok, ok_one}
 use Rattle.c_reader.proofs.Far.{far_bind, sign_far}
-use Rattle.c_reader.proofs.Exactness.{Exact, Found, Any, Free, ClosedAt, mark_shallow, word_found, word_at_is, word_at_ok, word_far, ident_is, ident_ok, ident_near, number_is, number_ok, number_near, both_exact, turned_exact, flat, sign_exact, expr_exact, expr_some}
+use Rattle.c_reader.proofs.Exactness.{Exact, Found, Free, ClosedAt, mark_shallow, word_found, word_at_is, word_at_ok, word_far, ident_is, ident_ok, ident_near, number_is, number_ok, number_near, both_exact, turned_exact, sign_exact, expr_exact}
 use Rattle.c_reader.proofs.Lists.{AllValid}
 use Rattle.c_reader.proofs.Separated.{each, row, Separated, separated_complete, separated_sound, separated_far}
-use Rattle.c_reader.proofs.Items.{assign_exact, made_complete, made_sound, made_far, near_bind}
+use Rattle.c_reader.proofs.Items.{assign_exact, made_complete, made_sound, made_far}
 use Rattle.c_reader.proofs.CallRows.{then_exact, needy_then}
 
 pub semicolon : Closes sg.Semicolon

@@ -1,5 +1,5 @@
 -- Readers that answer exactly what is printed.
-use Rattle.std.proofs.Common.{◌≡◌, ℕ, zero, suc, ◌+◌, ◌≤◌, ◌<◌, Bool, true, false, cond, List, [], ◌∷◌, ◌++◌, length, Option, Some, None, Result, Ok, Err, refl, sym, ap, subst, ◌∙◌, arith, slice_get, nat_lt, zero-le, length-append}
+use Rattle.std.proofs.Common.{◌≡◌, ℕ, suc, ◌+◌, ◌≤◌, Bool, true, false, cond, List, [], ◌∷◌, ◌++◌, length, Option, Some, None, Result, Ok, Err, refl, sym, ap, subst, ◌∙◌, arith, slice_get, nat_lt, zero-le, length-append}
 use Rattle.c_lex.specs.declared.tokens.Kind.{Kind}
 use Rattle.c_lex.specs.declared.tokens.Kind.TheVariants as kind
 use Rattle.c_lex.specs.declared.tokens.Sign.{Sign}
@@ -16,9 +16,9 @@ use Rattle.c_tree.specs.Grouped.{IsGrouped}
 use Rattle.c_tree.specs.Reads.{first_deep}
 use Rattle.c_reader.specs.declared.faults.Fault.{Fault}
 use Rattle.c_reader.specs.declared.faults.Fault.TheVariants.{Syntax, TooDeep}
-use Rattle.c_reader.specs.Descent.{◌>>=◌, sign_is, sign_at, read}
-use Rattle.c_reader.specs.Rows.{Reader, both, made, word_is, word_at, sign, word, marked, ident_in, ident, number_in, number, text_in, text}
-use Rattle.c_reader.proofs.Spans.{Spans, spans_end, spans_split, spans_join, or_else, deep_split, deep_over, after, after_bind}
+use Rattle.c_reader.specs.Descent.{◌>>=◌, sign_at, read}
+use Rattle.c_reader.specs.Rows.{Reader, both, word_is, word_at, sign, word, marked, ident_in, ident, number_in, number, text_in, text}
+use Rattle.c_reader.proofs.Spans.{Spans, spans_end, spans_split, spans_join, or_else, deep_split, deep_over, after}
 use Rattle.c_reader.proofs.Steps.{sign_at_is, sign_at_ok}
 use Rattle.c_reader.proofs.Complete.{Closes, complete, ended, ends_closed, rest_closed}
 use Rattle.c_reader.proofs.Sound.{bind_ok, ok_one, sound}

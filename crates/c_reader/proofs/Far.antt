@@ -1,5 +1,5 @@
 -- A reader that stops at the last level has passed at least so many tokens.
-use Rattle.std.proofs.Common.{◌≡◌, ℕ, zero, suc, ◌+◌, ◌≤◌, ◌<◌, Bool, true, false, cond, List, [], ◌∷◌, ◌++◌, length, Option, Some, None, Result, Ok, Err, refl, sym, ap, subst, ◌∙◌, arith, slice_get, zero-le, length-append, ◌⊎◌, inl, inr}
+use Rattle.std.proofs.Common.{◌≡◌, ℕ, zero, suc, ◌+◌, ◌≤◌, Bool, true, false, cond, List, ◌∷◌, length, Option, Some, None, Result, Ok, Err, refl, ap, arith, slice_get, zero-le, length-append}
 use Rattle.c_lex.specs.declared.tokens.Kind.{Kind}
 use Rattle.c_lex.specs.declared.tokens.Kind.TheVariants as kind
 use Rattle.c_lex.specs.declared.tokens.Sign.{Sign}
@@ -7,7 +7,7 @@ use Rattle.c_lex.specs.declared.tokens.Sign.TheVariants as sign
 use Rattle.c_tree.specs.declared.expressions.BinaryOp.{BinaryOp}
 use Rattle.c_tree.specs.Signs.{level_of}
 use Rattle.c_tree.specs.Tree.{ExprTree, Number, Name, Index, Deref, Unary, Binary, Choice, Paren, Extremum, Absolute}
-use Rattle.c_tree.specs.Print.{Mark, expr, chain_of, operator_level, named_sign}
+use Rattle.c_tree.specs.Print.{expr, chain_of, operator_level, named_sign}
 use Rattle.c_reader.specs.declared.leads.Lead.{Lead}
 use Rattle.c_reader.specs.declared.leads.Lead.TheVariants as lead
 use Rattle.c_reader.specs.declared.leads.WordLead.{WordLead}
@@ -16,10 +16,10 @@ use Rattle.c_reader.specs.declared.faults.Fault.{Fault}
 use Rattle.c_reader.specs.declared.faults.Fault.TheVariants.{Syntax, TooDeep}
 use Rattle.c_reader.specs.Leads.{lead_of, word_lead_of}
 use Rattle.c_reader.specs.Descent.{Step, Rec, ◌>>=◌, sign_is, sign_at, operator_at, on_operator, name_at, name_in, led_by, worded_by, front_in, front, chain, choice, read}
-use Rattle.c_reader.proofs.Spans.{Spans, spans_end}
+use Rattle.c_reader.proofs.Spans.{spans_end}
 use Rattle.c_reader.proofs.Steps.{level_bounds, sign_at_ok, operator_beyond}
 use Rattle.c_reader.proofs.Complete.{level_fits}
-use Rattle.c_reader.proofs.Sound.{bind_ok, Whole, Found, Fronts, Finds, front_sound, Held, Chained, held_more, chain_sound, sound}
+use Rattle.c_reader.proofs.Sound.{Whole, Finds, front_sound, Held, held_more, chain_sound, sound}
 
 -- either the first step stops there, or the rest does
 pub far_bind : {A B : Type 0} (r : Result A Fault) (f : A → Result B Fault) (p : ℕ) → (r >>= f) ≡ Err (TooDeep p) → (r ≡ Err (TooDeep p) → 64 ≤ p) → ((x : A) → r ≡ Ok x → f x ≡ Err (TooDeep p) → 64 ≤ p) → 64 ≤ p

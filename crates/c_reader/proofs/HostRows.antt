@@ -1,38 +1,37 @@
 -- Statements of `main` are read exactly as they are printed.
-use Rattle.std.proofs.Common.{◌≡◌, ◌≢◌, ℕ, zero, suc, ◌+◌, ◌≤◌, ◌<◌, Bool, true, false, cond, List, [], ◌∷◌, ◌++◌, length, Option, Some, None, Result, Ok, Err, refl, sym, ap, subst, ◌∙◌, arith, slice_get, nat_lt, append_assoc, length-append, zero-le}
+use Rattle.std.proofs.Common.{◌≡◌, ℕ, zero, suc, ◌+◌, ◌≤◌, Bool, true, false, cond, List, [], ◌∷◌, ◌++◌, length, Option, Some, None, Result, Ok, Err, refl, sym, ap, subst, ◌∙◌, arith, slice_get, nat_lt, append_assoc, length-append}
 use Rattle.std.proofs.lemmas.Option.{slice_get_within}
 use Rattle.c_lex.specs.declared.tokens.Kind.{Kind}
 use Rattle.c_lex.specs.declared.tokens.Kind.TheVariants as kind
 use Rattle.c_lex.specs.declared.tokens.Sign.TheVariants as sg
 use Rattle.c_lex.specs.declared.tokens.Word.TheVariants as wd
 use Rattle.c_tree.specs.declared.expressions.Ident.{Ident}
-use Rattle.c_tree.specs.declared.expressions.NumberLiteral.{NumberLiteral}
-use Rattle.c_tree.specs.Tree.{ExprTree, DeclarationTree, PlaceTree, Scalar, Element, Target, AssignmentTree, HostForHeaderTree, OpCallTree, CallInit, DeclSet, DeclMap, DeclDat, DeclConst, ParLoop, Printf, PrintDat, HostTree, HostDeclaration, HostBlock, HostEmpty, HostAssign, HostIf, HostIfElse, HostFor, HostCall, HostTrees, NoHost, MoreHost}
-use Rattle.c_tree.specs.Print.{Mark, sign_at as sign_mark, word_at as word_mark, named_sign, named_word, word_if, ident as ident_mark, figure, expr, place, vars, assignment, host_counter, condition, call, host, hosts}
-use Rattle.c_tree.specs.Grouped.{IsGrouped, IsDeclaration, IsHostBody, host_ends_open, IsHostForHeader, IsCall, IsHost, AreHosts}
+use Rattle.c_tree.specs.Tree.{ExprTree, PlaceTree, Scalar, Element, Target, AssignmentTree, HostForHeaderTree, OpCallTree, CallInit, DeclSet, DeclMap, DeclDat, DeclConst, ParLoop, Printf, PrintDat, HostTree, HostDeclaration, HostBlock, HostEmpty, HostAssign, HostIf, HostIfElse, HostFor, HostCall, HostTrees, NoHost, MoreHost}
+use Rattle.c_tree.specs.Print.{Mark, sign_at as sign_mark, word_at as word_mark, named_sign, named_word, word_if, ident as ident_mark, expr, place, vars, assignment, host_counter, condition, call, host, hosts}
+use Rattle.c_tree.specs.Grouped.{IsGrouped, IsHostBody, host_ends_open, IsHostForHeader, IsHost, AreHosts}
 use Rattle.c_tree.specs.Reads.{first_deep}
 use Rattle.c_reader.specs.declared.faults.Fault.{Fault}
 use Rattle.c_reader.specs.declared.faults.Fault.TheVariants.{Syntax, TooDeep}
 use Rattle.c_reader.specs.declared.leads.HostLead.{HostLead}
 use Rattle.c_reader.specs.declared.leads.HostLead.TheVariants as lead
-use Rattle.c_reader.specs.Descent.{◌>>=◌, sign_is, sign_at, read}
+use Rattle.c_reader.specs.Descent.{◌>>=◌, sign_is, sign_at}
 use Rattle.c_reader.specs.declared.leads.CallLead.{CallLead}
 use Rattle.c_reader.specs.declared.hosts.Closing.{Closing}
 use Rattle.c_reader.specs.declared.hosts.Closing.TheVariants as closing
-use Rattle.c_reader.specs.Leads.{host_word_lead_of, host_lead_of}
-use Rattle.c_reader.specs.Rows.{Reader, both, made, word_is, ident, until}
+use Rattle.c_reader.specs.Leads.{host_word_lead_of}
+use Rattle.c_reader.specs.Rows.{Reader, word_is}
 use Rattle.c_reader.specs.Declarations.{declaration_at, assignment_at}
 use Rattle.c_reader.specs.Statements.{condition_at}
 use Rattle.c_reader.specs.Calls.{call_at}
 use Rattle.c_reader.specs.Hosts.{for_front, for_behind, for_header_at, lead_in, host_trees, declares, is_closed, body_at, hosts_in, if_at, host_led, host_at}
-use Rattle.c_reader.proofs.Spans.{Spans, spans_end, spans_split, spans_join, or_else, deep_split, deep_over, deep_between, deep_closed, deep_front, after}
+use Rattle.c_reader.proofs.Spans.{Spans, spans_end, spans_split, spans_join, or_else, deep_split, deep_over, deep_between, deep_closed, after}
 use Rattle.c_reader.proofs.Steps.{sign_at_is, sign_at_ok, sign_found}
-use Rattle.c_reader.proofs.Complete.{right_paren, level_fits}
+use Rattle.c_reader.proofs.Complete.{level_fits}
 use Rattle.c_reader.proofs.Sound.{bind_ok, ok_one}
 use Rattle.c_reader.proofs.Far.{far_bind, sign_far}
-use Rattle.c_reader.proofs.Exactness.{Exact, Found, Any, Free, word_found, word_here, both_exact, turned_exact, flat, sign_exact, word_exact, marked_exact, ident_exact, number_exact, expr_exact}
-use Rattle.c_reader.proofs.Lists.{AllValid, joined, until_complete, Listed, until_sound, until_far}
-use Rattle.c_reader.proofs.Items.{made_complete, made_sound, made_far, image_sound}
+use Rattle.c_reader.proofs.Exactness.{Exact, Found, Free, word_found, word_here, both_exact, flat, sign_exact, word_exact, marked_exact, ident_exact, expr_exact}
+use Rattle.c_reader.proofs.Lists.{AllValid, joined, until_complete, until_sound, until_far}
+use Rattle.c_reader.proofs.Items.{made_complete}
 use Rattle.c_reader.proofs.CallRows.{then_exact, needy_then, call_lead, call_begins, call_complete, call_sound, call_far}
 use Rattle.c_reader.proofs.Stmts.{NoElse, true_false, Condition, condition_complete, condition_sound, condition_far, same_exact, vars_deep, assignment_deep}
 use Rattle.c_reader.proofs.Declared.{semicolon, tail_of, declaration_complete, declaration_sound, declaration_far, assignment_complete, assignment_sound, assignment_far}

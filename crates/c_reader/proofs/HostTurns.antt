@@ -1,5 +1,5 @@
 -- Blocks, `if` and levels of statements of `main`, as the code finds them.
-use Rattle.std.proofs.Common.{◌≡◌, ◌≢◌, ℕ, zero, suc, ◌+◌, ◌-◌, ◌≤◌, Bool, true, false, List, [], ◌∷◌, map, Result, Ok, Err, refl, sym, ap, subst, ◌∙◌, arith, slice_get, Vec, Global, add-one}
+use Rattle.std.proofs.Common.{◌≡◌, ◌≢◌, ℕ, zero, suc, ◌+◌, ◌-◌, true, List, [], ◌∷◌, map, Ok, Err, refl, ap, ◌∙◌, arith, slice_get, Vec, Global, add-one}
 use Rattle.c_lex.specs.declared.tokens.Kind.{Kind}
 use Rattle.c_lex.specs.declared.tokens.Sign.TheVariants as s
 use Rattle.c_lex.specs.declared.tokens.Word.TheVariants as w
@@ -8,13 +8,12 @@ use mathlib.Core.Former.{Count}
 use Rattle.c_tree.specs.Tree as tree
 use Rattle.c_tree.specs.Tree.{ExprTree, HostTree, HostTrees, NoHost, MoreHost}
 use Rattle.c_tree.specs.View.{host_of, hosts_of, hosts_of_row}
-use Rattle.c_reader.specs.declared.faults.Fault.{Fault}
 use Rattle.c_reader.specs.declared.faults.ReadError.{ReadError}
 use Rattle.c_reader.specs.declared.faults.ReadError.TheVariants as errors
 use Rattle.c_reader.specs.declared.hosts.Closing.TheVariants as closing
 use Rattle.c_reader.specs.declared.leads.HostLead.{HostLead}
 use Rattle.c_reader.specs.declared.leads.HostLead.TheVariants as lead
-use Rattle.c_reader.specs.Descent.{◌>>=◌, Fails, sign_at}
+use Rattle.c_reader.specs.Descent.{Fails, sign_at}
 use Rattle.c_reader.specs.Rows.{Reader, word_is}
 use Rattle.c_reader.specs.Statements.{condition_at}
 use Rattle.c_reader.specs.Hosts.{body_at, hosts_in, if_at, host_trees, host_led, lead_in, host_at}

@@ -1,5 +1,5 @@
 -- The items of arguments and assignments are read exactly as they are printed.
-use Rattle.std.proofs.Common.{◌≡◌, ℕ, zero, suc, ◌+◌, ◌≤◌, ◌<◌, Bool, true, false, cond, List, [], ◌∷◌, ◌++◌, length, Option, Some, None, Result, Ok, Err, refl, sym, ap, subst, ◌∙◌, arith, slice_get, nat_lt, zero-le, length-append}
+use Rattle.std.proofs.Common.{◌≡◌, ℕ, suc, ◌+◌, ◌≤◌, ◌<◌, Bool, true, false, cond, List, [], ◌∷◌, ◌++◌, length, Option, Some, None, Result, Ok, Err, refl, sym, ap, subst, ◌∙◌, arith, slice_get, nat_lt, zero-le, length-append}
 use Rattle.std.proofs.lemmas.Option.{slice_get_within}
 use Rattle.c_lex.specs.declared.tokens.Kind.{Kind}
 use Rattle.c_lex.specs.declared.tokens.Kind.TheVariants as kind
@@ -8,8 +8,6 @@ use Rattle.c_lex.specs.declared.tokens.Sign.TheVariants as sg
 use Rattle.c_lex.specs.declared.tokens.Word.{Word}
 use Rattle.c_lex.specs.declared.tokens.Word.TheVariants as wd
 use Rattle.c_tree.specs.declared.expressions.Ident.{Ident}
-use Rattle.c_tree.specs.declared.expressions.NumberLiteral.{NumberLiteral}
-use Rattle.c_tree.specs.declared.expressions.TextLiteral.{TextLiteral}
 use Rattle.c_tree.specs.declared.declarations.AssignOp.{AssignOp}
 use Rattle.c_tree.specs.declared.declarations.AssignOp.TheVariants as assign
 use Rattle.c_tree.specs.declared.hosts.GlobalName.{GlobalName}
@@ -21,20 +19,20 @@ use Rattle.c_tree.specs.declared.hosts.ArgVia.TheVariants as via
 use Rattle.c_tree.specs.declared.hosts.LoopArg.{LoopArg}
 use Rattle.c_tree.specs.declared.hosts.LoopArg.TheVariants as arg
 use Rattle.c_tree.specs.Signs.{assign_sign_of, access_word_of}
-use Rattle.c_tree.specs.Print.{Mark, sign_at as sign_mark, word_at as word_mark, named_sign, named_word, ident as ident_mark, figure, label, glob, arg_index, via_mark, argument, arguments}
+use Rattle.c_tree.specs.Print.{Mark, sign_at as sign_mark, named_sign, named_word, glob, arg_index, via_mark, argument, arguments}
 use Rattle.c_tree.specs.Reads.{Keeps, first_deep}
 use Rattle.c_reader.specs.declared.faults.Fault.{Fault}
-use Rattle.c_reader.specs.declared.faults.Fault.TheVariants.{Syntax, TooDeep}
-use Rattle.c_reader.specs.Descent.{◌>>=◌, sign_is, sign_at}
+use Rattle.c_reader.specs.declared.faults.Fault.TheVariants.{TooDeep}
+use Rattle.c_reader.specs.Descent.{◌>>=◌, sign_is}
 use Rattle.c_reader.specs.Leads.{assign_of, access_of}
-use Rattle.c_reader.specs.Rows.{Reader, both, made, word_is, ident, number, text, behind_commas}
+use Rattle.c_reader.specs.Rows.{Reader, made, word_is, ident, number, text}
 use Rattle.c_reader.specs.Declarations.{assign_or, assign_in, assign_at, placed_assign}
 use Rattle.c_reader.specs.Arguments.{global_at, index_at, via_at, access_or, access_in, access_at, placed_access, dat_row, dat_arg, global_row, global_arg, arg_at, args_at}
-use Rattle.c_reader.proofs.Spans.{Spans, spans_end, spans_within, or_else, deep_over, after}
+use Rattle.c_reader.proofs.Spans.{Spans, spans_end, after}
 use Rattle.c_reader.proofs.Steps.{sign_found}
 use Rattle.c_reader.proofs.Sound.{bind_ok, ok_one}
 use Rattle.c_reader.proofs.Far.{far_bind}
-use Rattle.c_reader.proofs.Exactness.{Exact, Found, Any, Free, ident_is, ident_ok, ident_near, number_is, number_ok, number_near, word_found, word_here, flat, turned_exact, sign_exact, word_exact, marked_exact, ident_exact, number_exact, text_exact, mark_shallow}
+use Rattle.c_reader.proofs.Exactness.{Exact, Found, Any, Free, ident_is, ident_ok, ident_near, number_is, number_ok, number_near, word_found, flat, sign_exact, marked_exact, ident_exact, number_exact, text_exact, mark_shallow}
 use Rattle.c_reader.proofs.Lists.{AllValid, tails, ParenAt, tails_complete, tails_sound, tails_far}
 
 -- a reader of one token

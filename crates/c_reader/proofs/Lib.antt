@@ -16,3 +16,6 @@ pub mod Declared
 pub mod Stmts
 pub mod HostRows
 pub mod TopRows
+pub mod Parts
+pub mod Mains
+pub mod Programs

@@ -1,10 +1,10 @@
 -- The turns of the loops over items.
-use Rattle.std.proofs.Common.{◌≡◌, ℕ, zero, suc, ◌+◌, ◌-◌, ◌<◌, ◌≤◌, Bool, true, false, cond, List, [], ◌∷◌, ◌++◌, map, Result, Ok, Err, refl, sym, ap, subst, ◌∙◌, arith, slice_get, append_assoc, add-one}
+use Rattle.std.proofs.Common.{◌≡◌, ℕ, suc, ◌+◌, ◌-◌, ◌<◌, ◌≤◌, Bool, true, false, List, [], ◌∷◌, ◌++◌, map, Result, Ok, Err, refl, sym, ap, ◌∙◌, arith, slice_get, append_assoc, add-one}
 use Rattle.c_lex.specs.declared.tokens.Kind.{Kind}
 use Rattle.c_lex.specs.declared.tokens.Sign.{Sign}
 use Rattle.c_lex.specs.declared.tokens.Sign.TheVariants as s
 use Rattle.c_reader.specs.declared.faults.Fault.{Fault}
-use Rattle.c_reader.specs.declared.faults.Fault.TheVariants.{Syntax, TooDeep}
+use Rattle.c_reader.specs.declared.faults.Fault.TheVariants.{Syntax}
 use Rattle.c_reader.specs.declared.faults.ReadError.{ReadError}
 use Rattle.c_reader.specs.declared.faults.ReadError.TheVariants as errors
 use Rattle.c_reader.specs.Descent.{◌>>=◌, Fails, sign_is, sign_at}

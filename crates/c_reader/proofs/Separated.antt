@@ -1,5 +1,5 @@
 -- Items with commas between them are read exactly as they are printed.
-use Rattle.std.proofs.Common.{◌≡◌, ◌≢◌, ℕ, zero, suc, ◌+◌, ◌≤◌, ◌<◌, Bool, true, false, cond, List, [], ◌∷◌, ◌++◌, length, Option, Some, None, Result, Ok, Err, refl, sym, ap, subst, ◌∙◌, arith, slice_get, nat_lt, append_assoc, length-append, zero-le}
+use Rattle.std.proofs.Common.{◌≡◌, ◌≢◌, ℕ, zero, suc, ◌+◌, ◌≤◌, Bool, true, false, cond, List, [], ◌∷◌, ◌++◌, length, Option, Some, None, Result, Ok, Err, refl, sym, ap, subst, ◌∙◌, arith, slice_get, nat_lt, append_assoc}
 use Rattle.c_lex.specs.declared.tokens.Kind.{Kind}
 use Rattle.c_lex.specs.declared.tokens.Kind.TheVariants as kind
 use Rattle.c_lex.specs.declared.tokens.Sign.{Sign}
@@ -7,11 +7,11 @@ use Rattle.c_lex.specs.declared.tokens.Sign.TheVariants as sg
 use Rattle.c_tree.specs.Print.{Mark, sign_at as sign_mark, commas}
 use Rattle.c_tree.specs.Reads.{first_deep}
 use Rattle.c_reader.specs.declared.faults.Fault.{Fault}
-use Rattle.c_reader.specs.declared.faults.Fault.TheVariants.{Syntax, TooDeep}
+use Rattle.c_reader.specs.declared.faults.Fault.TheVariants.{TooDeep}
 use Rattle.c_reader.specs.Descent.{◌>>=◌, sign_is, sign_at}
 use Rattle.c_reader.specs.Rows.{Reader, separated}
-use Rattle.c_reader.proofs.Spans.{Spans, spans_end, spans_split, spans_join, or_else, deep_split, deep_over, deep_between, deep_closed, after}
-use Rattle.c_reader.proofs.Steps.{sign_at_is, sign_at_ok, sign_found, sign_here}
+use Rattle.c_reader.proofs.Spans.{Spans, spans_split, spans_join, or_else, deep_between, deep_closed, after}
+use Rattle.c_reader.proofs.Steps.{sign_at_is, sign_at_ok, sign_found}
 use Rattle.c_reader.proofs.Sound.{bind_ok, ok_one}
 use Rattle.c_reader.proofs.Far.{far_bind, sign_far}
 use Rattle.c_reader.proofs.Exactness.{Exact, Found}

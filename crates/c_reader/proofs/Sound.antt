@@ -1,16 +1,14 @@
 -- What is read is a tree of the tokens that were read.
-use Rattle.std.proofs.Common.{◌≡◌, ℕ, zero, suc, ◌+◌, ◌-◌, ◌≤◌, ◌<◌, Bool, true, false, cond, List, [], ◌∷◌, ◌++◌, Option, Some, None, Result, Ok, Err, refl, sym, ap, subst, ◌∙◌, arith, slice_get, nat_lt, nat_le, zero-le, ◌⊎◌, inl, inr}
-use Rattle.std.proofs.lemmas.Bool.{le-ltb}
+use Rattle.std.proofs.Common.{◌≡◌, ℕ, zero, suc, ◌+◌, ◌≤◌, ◌<◌, Bool, true, false, cond, List, [], ◌∷◌, ◌++◌, Option, Some, None, Result, Ok, Err, refl, sym, ap, subst, ◌∙◌, arith, slice_get, nat_lt, zero-le, ◌⊎◌, inl, inr}
 use Rattle.c_lex.specs.declared.tokens.Kind.{Kind}
 use Rattle.c_lex.specs.declared.tokens.Kind.TheVariants as kind
 use Rattle.c_lex.specs.declared.tokens.Sign.{Sign}
 use Rattle.c_lex.specs.declared.tokens.Sign.TheVariants as sign
 use Rattle.c_lex.specs.declared.tokens.Word.{Word}
-use Rattle.c_lex.specs.declared.tokens.Word.TheVariants as word
 use Rattle.c_tree.specs.declared.expressions.BinaryOp.{BinaryOp}
-use Rattle.c_tree.specs.Signs.{level_of, sign_of, unary_sign_of, min_max_word_of}
+use Rattle.c_tree.specs.Signs.{level_of, sign_of}
 use Rattle.c_tree.specs.Tree.{ExprTree, Number, Name, Index, Deref, Unary, Binary, Choice, Paren, Extremum, Absolute}
-use Rattle.c_tree.specs.Print.{Mark, expr, chain_of, operator_level, sign_at as sign_mark, named_sign}
+use Rattle.c_tree.specs.Print.{expr, chain_of, operator_level, sign_at as sign_mark, named_sign}
 use Rattle.c_tree.specs.Grouped.{strength, IsGrouped}
 use Rattle.c_tree.specs.Reads.{first_deep}
 use Rattle.c_reader.specs.declared.leads.Lead.{Lead}
@@ -18,11 +16,11 @@ use Rattle.c_reader.specs.declared.leads.Lead.TheVariants as lead
 use Rattle.c_reader.specs.declared.leads.WordLead.{WordLead}
 use Rattle.c_reader.specs.declared.leads.WordLead.TheVariants as word_lead
 use Rattle.c_reader.specs.declared.faults.Fault.{Fault}
-use Rattle.c_reader.specs.declared.faults.Fault.TheVariants.{Syntax, TooDeep}
-use Rattle.c_reader.specs.Leads.{binary_of, lead_of, word_lead_of}
+use Rattle.c_reader.specs.declared.faults.Fault.TheVariants.{TooDeep}
+use Rattle.c_reader.specs.Leads.{lead_of, word_lead_of}
 use Rattle.c_reader.specs.Descent.{Step, Rec, ◌>>=◌, sign_is, sign_at, operator_at, on_operator, name_at, name_in, led_by, worded_by, front_in, front, chain, choice, read}
-use Rattle.c_reader.proofs.Spans.{Spans, spans_join, or_else, deep_split, deep_over, deep_between, deep_closed}
-use Rattle.c_reader.proofs.Steps.{level_bounds, sign_found, sign_at_ok, operator_is, operator_some, operator_higher, operator_beyond, sign_of_lead, sign_of_paren, sign_of_deref, word_of_extremum, word_of_absolute}
+use Rattle.c_reader.proofs.Spans.{Spans, spans_join, deep_between, deep_closed}
+use Rattle.c_reader.proofs.Steps.{level_bounds, sign_found, sign_at_ok, operator_is, operator_some, operator_beyond, sign_of_lead, sign_of_paren, sign_of_deref, word_of_extremum, word_of_absolute}
 use Rattle.c_reader.proofs.Complete.{level_fits, short_chain, le_or_lt}
 
 pub bind_ok : {A B : Type 0} (r : Result A Fault) (f : A → Result B Fault) (y : B) → (r >>= f) ≡ Ok y → (x : A) × (r ≡ Ok x) × (f x ≡ Ok y)

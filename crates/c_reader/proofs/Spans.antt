@@ -1,12 +1,12 @@
 -- Marks that stand in a list of kinds, from one place up to another.
-use Rattle.std.proofs.Common.{◌≡◌, ℕ, suc, ◌+◌, ◌≤◌, ◌<◌, Bool, true, false, cond, List, [], ◌∷◌, ◌++◌, length, map, Option, Some, None, Result, Ok, Err, refl, sym, ap, subst, ◌∙◌, arith, slice_get, nat_lt, drop, zero, length-drop}
+use Rattle.std.proofs.Common.{◌≡◌, ℕ, suc, ◌+◌, ◌≤◌, ◌<◌, Bool, true, false, cond, List, [], ◌∷◌, ◌++◌, length, map, Option, Some, None, Result, Err, refl, sym, ap, subst, ◌∙◌, arith, slice_get, nat_lt, drop, zero, length-drop}
 use Rattle.std.proofs.lemmas.List.{drop_all}
 use Rattle.std.proofs.lemmas.Option.{slice_get_within}
 use Rattle.c_lex.specs.declared.tokens.Kind.{Kind}
 use Rattle.c_tree.specs.Print.{Mark}
 use Rattle.c_tree.specs.Reads.{Keeps, AreNumbered, first_deep}
 use Rattle.c_reader.specs.declared.faults.Fault.{Fault}
-use Rattle.c_reader.specs.declared.faults.Fault.TheVariants.{Syntax, TooDeep}
+use Rattle.c_reader.specs.declared.faults.Fault.TheVariants.{TooDeep}
 use Rattle.c_reader.specs.Descent.{◌>>=◌}
 
 -- the marks stand at n and end before the place e

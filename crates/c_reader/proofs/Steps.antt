@@ -1,5 +1,5 @@
 -- Operators and closing signs at a place.
-use Rattle.std.proofs.Common.{◌≡◌, ℕ, zero, suc, ◌+◌, ◌≤◌, ◌<◌, Bool, true, false, cond, List, [], ◌∷◌, Option, Some, None, Result, Ok, Err, refl, sym, ap, subst, ◌∙◌, arith, slice_get, nat_lt, nat_le}
+use Rattle.std.proofs.Common.{◌≡◌, ℕ, suc, ◌≤◌, ◌<◌, Bool, true, false, cond, List, Option, Some, None, Ok, Err, refl, ap, subst, arith, slice_get, nat_le}
 use Rattle.std.proofs.lemmas.Bool.{leb-true, le-leb}
 use Rattle.std.proofs.Math.Dec.{leb}
 use Rattle.c_lex.specs.declared.tokens.Kind.{Kind}
@@ -12,18 +12,15 @@ use Rattle.c_tree.specs.declared.expressions.BinaryOp.TheVariants as binary
 use Rattle.c_tree.specs.declared.expressions.UnaryOp.{UnaryOp}
 use Rattle.c_tree.specs.declared.expressions.UnaryOp.TheVariants as unary
 use Rattle.c_tree.specs.Signs.{level_of, sign_of, unary_sign_of}
-use Rattle.c_reader.specs.declared.leads.Lead.{Lead}
 use Rattle.c_reader.specs.declared.leads.Lead.TheVariants as lead
 use Rattle.c_tree.specs.Signs.{min_max_word_of}
 use Rattle.c_lex.specs.declared.tokens.Word.{Word}
 use Rattle.c_lex.specs.declared.tokens.Word.TheVariants as word
 use Rattle.c_tree.specs.declared.expressions.MinMax.{MinMax}
 use Rattle.c_tree.specs.declared.expressions.MinMax.TheVariants as min_max
-use Rattle.c_reader.specs.declared.leads.WordLead.{WordLead}
 use Rattle.c_reader.specs.declared.leads.WordLead.TheVariants as word_lead
 use Rattle.c_reader.specs.Leads.{binary_of, lead_of, word_lead_of}
-use Rattle.c_reader.specs.declared.faults.Fault.{Fault}
-use Rattle.c_reader.specs.declared.faults.Fault.TheVariants.{Syntax, TooDeep}
+use Rattle.c_reader.specs.declared.faults.Fault.TheVariants.{Syntax}
 use Rattle.c_reader.specs.Descent.{sign_is, sign_at, operator_at, operator_in, at_least}
 use denote.Enum.Bare.{same_true, true_same}
 

@@ -1,5 +1,5 @@
 -- Blocks, `if` and levels of statements, as the code finds them.
-use Rattle.std.proofs.Common.{◌≡◌, ◌≢◌, ℕ, zero, suc, ◌+◌, ◌-◌, ◌≤◌, Bool, true, false, List, [], ◌∷◌, map, Result, Ok, Err, refl, sym, ap, subst, ◌∙◌, arith, slice_get, Vec, Global, add-one}
+use Rattle.std.proofs.Common.{◌≡◌, ◌≢◌, ℕ, zero, suc, ◌+◌, ◌-◌, true, List, [], ◌∷◌, map, Ok, Err, refl, ap, ◌∙◌, arith, slice_get, Vec, Global, add-one}
 use Rattle.c_lex.specs.declared.tokens.Kind.{Kind}
 use Rattle.c_lex.specs.declared.tokens.Sign.TheVariants as s
 use Rattle.c_lex.specs.declared.tokens.Word.TheVariants as w
@@ -8,12 +8,11 @@ use mathlib.Core.Former.{Count}
 use Rattle.c_tree.specs.Tree as tree
 use Rattle.c_tree.specs.Tree.{ExprTree, StmtTree, StmtTrees, NoStmt, MoreStmt}
 use Rattle.c_tree.specs.View.{stmt_of, stmts_of, stmts_of_row}
-use Rattle.c_reader.specs.declared.faults.Fault.{Fault}
 use Rattle.c_reader.specs.declared.faults.ReadError.{ReadError}
 use Rattle.c_reader.specs.declared.faults.ReadError.TheVariants as errors
 use Rattle.c_reader.specs.declared.leads.StmtLead.{StmtLead}
 use Rattle.c_reader.specs.declared.leads.StmtLead.TheVariants as lead
-use Rattle.c_reader.specs.Descent.{◌>>=◌, Fails, sign_at}
+use Rattle.c_reader.specs.Descent.{Fails, sign_at}
 use Rattle.c_reader.specs.Rows.{Reader, word_is}
 use Rattle.c_reader.specs.Statements.{condition_at, body_at, stmts_in, if_at, stmt_trees, stmt_led, lead_in, stmt_at}
 

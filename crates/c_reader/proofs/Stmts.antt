@@ -1,5 +1,5 @@
 -- Statements of kernels are read exactly as they are printed.
-use Rattle.std.proofs.Common.{◌≡◌, ◌≢◌, ℕ, zero, suc, ◌+◌, ◌≤◌, ◌<◌, Bool, true, false, cond, List, [], ◌∷◌, ◌++◌, length, Option, Some, None, Result, Ok, Err, refl, sym, ap, subst, ◌∙◌, arith, slice_get, nat_lt, append_assoc, length-append, zero-le}
+use Rattle.std.proofs.Common.{◌≡◌, ℕ, zero, suc, ◌+◌, ◌≤◌, Bool, true, false, cond, List, [], ◌∷◌, ◌++◌, length, Option, Some, None, Result, Ok, Err, refl, sym, ap, subst, ◌∙◌, arith, slice_get, nat_lt, append_assoc, length-append}
 use Rattle.std.specs.Str.{bytes_eq}
 use Rattle.std.proofs.lemmas.Slice.Eq.{bytes_eq-Decides}
 use Rattle.std.proofs.lemmas.Option.{slice_get_within}
@@ -18,19 +18,19 @@ use Rattle.c_reader.specs.declared.faults.Fault.{Fault}
 use Rattle.c_reader.specs.declared.faults.Fault.TheVariants.{Syntax, TooDeep}
 use Rattle.c_reader.specs.declared.leads.StmtLead.{StmtLead}
 use Rattle.c_reader.specs.declared.leads.StmtLead.TheVariants as lead
-use Rattle.c_reader.specs.Descent.{◌>>=◌, sign_is, sign_at, read}
+use Rattle.c_reader.specs.Descent.{◌>>=◌, sign_is, sign_at}
 use Rattle.c_reader.specs.Leads.{stmt_lead_of}
-use Rattle.c_reader.specs.Rows.{Reader, both, made, word_is, ident, until}
+use Rattle.c_reader.specs.Rows.{Reader, word_is, ident}
 use Rattle.c_reader.specs.Declarations.{declaration_at, assignment_at}
 use Rattle.c_reader.specs.Statements.{condition_row, condition_at, same_ident, for_front, for_behind, for_header_at, lead_in, stmt_trees, body_at, stmts_in, if_at, stmt_led, stmt_at}
-use Rattle.c_reader.proofs.Spans.{Spans, spans_end, spans_split, spans_join, or_else, deep_split, deep_over, deep_between, deep_closed, deep_front, after}
+use Rattle.c_reader.proofs.Spans.{Spans, spans_end, spans_split, spans_join, or_else, deep_split, deep_over, deep_between, deep_closed, after}
 use Rattle.c_reader.proofs.Steps.{sign_at_is, sign_at_ok, sign_found}
 use Rattle.c_reader.proofs.Complete.{right_paren, level_fits}
 use Rattle.c_reader.proofs.Sound.{bind_ok, ok_one}
 use Rattle.c_reader.proofs.Far.{far_bind, sign_far}
-use Rattle.c_reader.proofs.Exactness.{Exact, Found, Any, Free, word_found, word_here, ident_is, ident_ok, ident_near, both_exact, turned_exact, flat, sign_exact, word_exact, marked_exact, ident_exact, number_exact, expr_exact}
-use Rattle.c_reader.proofs.Lists.{AllValid, joined, until_complete, Listed, until_sound, until_far}
-use Rattle.c_reader.proofs.Items.{made_complete, made_sound, made_far, image_sound}
+use Rattle.c_reader.proofs.Exactness.{Exact, Found, Any, Free, word_found, word_here, ident_is, ident_ok, ident_near, both_exact, flat, sign_exact, word_exact, marked_exact, ident_exact, number_exact, expr_exact}
+use Rattle.c_reader.proofs.Lists.{AllValid, joined, until_complete, until_sound, until_far}
+use Rattle.c_reader.proofs.Items.{made_complete, made_sound, made_far}
 use Rattle.c_reader.proofs.CallRows.{then_exact, needy_then}
 use Rattle.c_reader.proofs.Declared.{tail_of, declaration_complete, declaration_sound, declaration_far, assignment_complete, assignment_sound, assignment_far}
 

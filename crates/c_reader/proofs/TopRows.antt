@@ -1,45 +1,28 @@
 -- The parts of the file, `main` and the whole source are read exactly as they are printed.
-use Rattle.std.proofs.Common.{◌≡◌, ◌≢◌, ℕ, zero, suc, ◌+◌, ◌≤◌, ◌<◌, Bool, true, false, cond, ◌&&◌, List, [], ◌∷◌, ◌++◌, length, Option, Some, None, Result, Ok, Err, refl, sym, ap, subst, ◌∙◌, arith, slice_get, nat_lt, nat_eq, append_assoc, length-append, zero-le}
-use Rattle.std.proofs.lemmas.Bool.{eqb-true, eq-eqb}
-use Rattle.std.proofs.lemmas.Option.{slice_get_within}
+use Rattle.std.proofs.Common.{◌≡◌, ◌≢◌, ℕ, suc, ◌≤◌, Bool, true, false, cond, List, [], ◌∷◌, ◌++◌, length, Some, None, Result, Ok, Err, refl, sym, ap, subst, ◌∙◌, arith, slice_get, length-append, zero-le}
 use Rattle.c_lex.specs.declared.tokens.Kind.{Kind}
 use Rattle.c_lex.specs.declared.tokens.Kind.TheVariants as kind
-use Rattle.c_lex.specs.declared.tokens.Pos.{Pos}
 use Rattle.c_lex.specs.declared.tokens.Sign.TheVariants as sg
 use Rattle.c_lex.specs.declared.tokens.Word.{Word}
 use Rattle.c_lex.specs.declared.tokens.Word.TheVariants as wd
 use Rattle.c_tree.specs.declared.expressions.Ident.{Ident}
-use Rattle.c_tree.specs.declared.expressions.NumberLiteral.{NumberLiteral}
 use Rattle.c_tree.specs.declared.kernels.Param.{Param}
-use Rattle.c_tree.specs.Tree.{DeclrTree, Plain, Init, Array, DeclarationTree, StmtTree, StmtTrees, KernelTree, TopTree, Extern, ExternArray, FileDeclaration, Kernel, HostTree, HostTrees, NoHost, MoreHost, MainTree, ProgramTree}
-use Rattle.c_tree.specs.Print.{Mark, sign_at as sign_mark, word_at as word_mark, named_word, word_if, ident as ident_mark, figure, commas, declr, declrs, vars, stmts, param, params, kernel, top, tops, hosts, argv_marks, return_marks, main, program}
-use Rattle.c_tree.specs.Grouped.{IsDeclaration, AreStmts, IsKernel, IsTop, AreTops, AreHosts, IsProgram}
+use Rattle.c_tree.specs.Tree.{TopTree, Extern, ExternArray}
+use Rattle.c_tree.specs.Print.{Mark, sign_at as sign_mark, word_at as word_mark, word_if, ident as ident_mark, commas, param, params, top}
+use Rattle.c_tree.specs.Grouped.{IsTop}
 use Rattle.c_tree.specs.Reads.{first_deep}
 use Rattle.c_reader.specs.declared.faults.Fault.{Fault}
-use Rattle.c_reader.specs.declared.faults.Fault.TheVariants.{Syntax, TooDeep}
-use Rattle.c_reader.specs.declared.hosts.Closing.TheVariants as closing
-use Rattle.c_reader.specs.declared.leads.TopLead.{TopLead}
-use Rattle.c_reader.specs.declared.leads.TopLead.TheVariants as lead
+use Rattle.c_reader.specs.declared.faults.Fault.TheVariants.{TooDeep}
 use Rattle.c_reader.specs.Descent.{◌>>=◌, sign_is, sign_at}
-use Rattle.c_reader.specs.Leads.{top_lead_of}
-use Rattle.c_reader.specs.Rows.{Reader, both, made, word_is, word_at, sign, word, ident, number, separated, until}
-use Rattle.c_reader.specs.Declarations.{declaration_at}
-use Rattle.c_reader.specs.Statements.{stmt_at, stmts_in, stmt_trees}
-use Rattle.c_reader.specs.Hosts.{host_at, hosts_in, host_trees}
-use Rattle.c_reader.specs.Whole.{extern_front, extern_at, skipped, param_row, param_behind, param_at, params_at, kernel_row, kernel_behind, kernel_after, kernel_at, lead_in, top_led, top_at, begins_main, tops_at, argv_at, return_at, main_front, main_end, main_at, whole}
-use Rattle.c_reader.proofs.Spans.{Spans, spans_end, spans_within, spans_split, spans_join, or_else, deep_split, deep_over, after}
+use Rattle.c_reader.specs.Rows.{both, word_is, sign}
+use Rattle.c_reader.specs.Whole.{extern_front, extern_at, skipped, param_row, param_behind, param_at, params_at}
+use Rattle.c_reader.proofs.Spans.{Spans, spans_end, spans_within, spans_split, spans_join, after}
 use Rattle.c_reader.proofs.Steps.{sign_at_is, sign_at_ok, sign_found}
 use Rattle.c_reader.proofs.Sound.{bind_ok, ok_one}
 use Rattle.c_reader.proofs.Far.{far_bind, sign_far}
-use Rattle.c_reader.proofs.Exactness.{Exact, Found, Any, Free, word_found, word_here, word_at_is, word_at_ok, word_far, ident_ok, number_is, number_ok, number_near, both_exact, turned_exact, flat, sign_exact, word_exact, marked_exact, ident_exact}
-use Rattle.c_reader.proofs.Lists.{AllValid, joined, until_complete, Listed, until_sound, until_far}
-use Rattle.c_reader.proofs.Items.{made_complete, made_sound, made_far, near_bind, all_any}
-use Rattle.c_reader.proofs.CallRows.{then_exact, needy_then}
-use Rattle.c_reader.proofs.Separated.{each, row, Separated, separated_complete, separated_sound, separated_far}
-use Rattle.c_reader.proofs.Declared.{tail_of, declaration_complete, declaration_sound, declaration_far}
-use Rattle.c_reader.proofs.Stmts.{true_false, list_of, trees_list, stmt_exact, block_complete, block_sound, block_far}
-use Rattle.c_reader.proofs.HostRows as hr
-use Rattle.c_reader.proofs.HostRows.{host_exact}
+use Rattle.c_reader.proofs.Exactness.{Exact, Found, Any, Free, word_found, word_here, flat, sign_exact, word_exact, ident_exact}
+use Rattle.c_reader.proofs.Items.{all_any}
+use Rattle.c_reader.proofs.Separated.{each, row, separated_complete, separated_sound, separated_far}
 
 -- an extern up to its name
 extern_front_exact : (ks : List Kind) → Exact ks 0 3 Any (λ v. word_mark 0 wd.Extern ∷ word_mark 0 wd.Int ∷ ident_mark 0 v.1.1 ∷ []) Free Free (extern_front ks)
@@ -56,13 +39,13 @@ extern_array ks n j e x a b c = rw (a, b, c) refl
 brackets_exact : (ks : List Kind) → Exact ks 0 2 Any (λ v. sign_mark 0 sg.RightBracket ∷ sign_mark 0 sg.Semicolon ∷ []) Free Free (both (sign ks sg.RightBracket) (sign ks sg.Semicolon))
 brackets_exact ks = flat ks (sign_exact ks 0 0 sg.RightBracket refl) (sign_exact ks 0 0 sg.Semicolon refl)
 
-extern_complete : (ks : List Kind) (x : Ident) (n e : ℕ) → Spans ks n (top (Extern x)) e → extern_at ks n ≡ Ok (Extern x, e)
+pub extern_complete : (ks : List Kind) (x : Ident) (n e : ℕ) → Spans ks n (top (Extern x)) e → extern_at ks n ≡ Ok (Extern x, e)
 extern_complete ks x n e s =
     let front = word_mark 0 wd.Extern ∷ word_mark 0 wd.Int ∷ ident_mark 0 x ∷ [] in
     let r = spans_split ks n front (sign_mark 0 sg.Semicolon ∷ []) e s in
     extern_plain ks n r.0 e x ((extern_front_exact ks).complete (tt, (tt, x)) n r.0 tt r.1 tt) (rw r.2.0 refl) (sign_at_is ks sg.Semicolon r.0 r.2.0 ∙ ap Ok r.2.2)
 
-extern_array_complete : (ks : List Kind) (x : Ident) (n e : ℕ) → Spans ks n (top (ExternArray x)) e → extern_at ks n ≡ Ok (ExternArray x, e)
+pub extern_array_complete : (ks : List Kind) (x : Ident) (n e : ℕ) → Spans ks n (top (ExternArray x)) e → extern_at ks n ≡ Ok (ExternArray x, e)
 extern_array_complete ks x n e s =
     let front = word_mark 0 wd.Extern ∷ word_mark 0 wd.Int ∷ ident_mark 0 x ∷ [] in
     let r = spans_split ks n front (sign_mark 0 sg.LeftBracket ∷ sign_mark 0 sg.RightBracket ∷ sign_mark 0 sg.Semicolon ∷ []) e s in
@@ -71,7 +54,7 @@ extern_array_complete ks x n e s =
 abbrev FoundTop : List Kind → ℕ → TopTree × ℕ → Type 0
 FoundTop ks n y = Found ks IsTop top Free n y.0 y.1
 
-extern_sound : (ks : List Kind) (n : ℕ) (y : TopTree × ℕ) → extern_at ks n ≡ Ok y → FoundTop ks n y
+pub extern_sound : (ks : List Kind) (n : ℕ) (y : TopTree × ℕ) → extern_at ks n ≡ Ok y → FoundTop ks n y
 unfolding extern_at
 extern_sound ks n y h =
     let x = bind_ok (extern_front ks n) _ y h in
@@ -101,7 +84,7 @@ extern_sound ks n y h =
         } in
         subst (FoundTop ks n) (ok_one (Extern x.0.1.1, e.0) y e.2) made_
 
-extern_far : (ks : List Kind) (n q : ℕ) → extern_at ks n ≡ Err (TooDeep q) → 64 ≤ q
+pub extern_far : (ks : List Kind) (n q : ℕ) → extern_at ks n ≡ Err (TooDeep q) → 64 ≤ q
 unfolding extern_at
 extern_far ks n q h =
     far_bind (extern_front ks n) _ q h ((extern_front_exact ks).far n q zero-le) (λ x r g. by_test x (sign_is sg.LeftBracket (slice_get ks x.1)) g)
@@ -118,7 +101,7 @@ skip_no : (ks : List Kind) (w : Word) (n : ℕ) → word_is w (slice_get ks n) �
 skip_no ks w n h = rw h refl
 
 -- what was skipped are the marks of a word that is there or not
-skip_spans : (ks : List Kind) (w : Word) (n : ℕ) → Spans ks n (word_if (skipped ks w n).0 0 w) (skipped ks w n).1
+pub skip_spans : (ks : List Kind) (w : Word) (n : ℕ) → Spans ks n (word_if (skipped ks w n).0 0 w) (skipped ks w n).1
 skip_spans ks w n = by_test (word_is w (slice_get ks n)) refl
   where
     by_test : (t : Bool) → word_is w (slice_get ks n) ≡ t → Spans ks n (word_if (cond t (let x : Bool × ℕ = (true, suc n) in x) (false, n)).0 0 w) (cond t (let x : Bool × ℕ = (true, suc n) in x) (false, n)).1
@@ -129,7 +112,7 @@ pub skip_is : (ks : List Kind) (w : Word) (b : Bool) (n e : ℕ) (rest : List Ma
 skip_is ks w true n e rest e' s h = skip_yes ks w n s.0 ∙ ap (λ (z : ℕ). (true, z)) s.2
 skip_is ks w false n e rest e' s h = skip_no ks w n (h refl) ∙ ap (λ (z : ℕ). (false, z)) s
 
-word_if_deep : (b : Bool) (n : ℕ) (w : Word) → first_deep n (word_if b 0 w) ≡ None
+pub word_if_deep : (b : Bool) (n : ℕ) (w : Word) → first_deep n (word_if b 0 w) ≡ None
 word_if_deep true n w = refl
 word_if_deep false n w = refl
 
@@ -195,13 +178,13 @@ commas_long (x ∷ y ∷ xs) =
     omega (arith, commas_long (y ∷ xs), length-append (param x) (sign_mark 0 sg.Comma ∷ commas 0 (each param (y ∷ xs))))
 
 -- the parameters and their `)`
-abbrev params_row : List Param → List Mark
+abbrev pub params_row : List Param → List Mark
 params_row ps = commas 0 (params ps) ++ sign_mark 0 sg.RightParen ∷ []
 
 params_row_is : (ps : List Param) → params_row ps ≡ row 0 param sg.RightParen ps
 params_row_is ps = ap (λ z. commas 0 z ++ sign_mark 0 sg.RightParen ∷ []) (params_are ps)
 
-params_exact : (ks : List Kind) → Exact ks 0 0 (λ ps. ps ≢ []) params_row Free Free (params_at ks)
+pub params_exact : (ks : List Kind) → Exact ks 0 0 (λ ps. ps ≢ []) params_row Free Free (params_at ks)
 params_exact ks = record {
   complete = λ ps n e o s h.
     (let s' = subst (λ z. Spans ks n z e) (params_row_is ps) s in

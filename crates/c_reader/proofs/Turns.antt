@@ -1,5 +1,5 @@
 -- The turns of the loop over a chain of operators.
-use Rattle.std.proofs.Common.{◌≡◌, ℕ, suc, ◌+◌, ◌-◌, ◌<◌, ◌≤◌, List, Option, Some, None, Result, Ok, Err, refl, arith}
+use Rattle.std.proofs.Common.{◌≡◌, ℕ, suc, ◌+◌, ◌-◌, ◌<◌, ◌≤◌, List, Some, Ok, Err, refl, arith}
 use Rattle.std.proofs.Math.Numerals.{add-one}
 use Rattle.c_lex.specs.declared.tokens.Kind.{Kind}
 use Rattle.c_tree.specs.declared.expressions.BinaryOp.{BinaryOp}
@@ -8,7 +8,7 @@ use Rattle.c_tree.specs.Tree.{ExprTree, Binary}
 use Rattle.c_reader.specs.declared.faults.Fault.TheVariants.{TooDeep}
 use Rattle.c_reader.specs.declared.faults.ReadError.{ReadError}
 use Rattle.c_reader.specs.declared.faults.ReadError.TheVariants as errors
-use Rattle.c_reader.specs.Descent.{Rec, ◌>>=◌, Fails, operator_at, chain}
+use Rattle.c_reader.specs.Descent.{Rec, Fails, operator_at, chain}
 use Rattle.c_reader.proofs.Complete.{chain_goes, chain_full}
 
 left_over : (c : ℕ) → c < 128 → 128 - c ≡ suc (128 - (c + 1))

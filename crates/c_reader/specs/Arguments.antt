@@ -1,5 +1,5 @@
 -- What the readers of a loop's arguments answer.
-use Rattle.std.specs.Prelude.{ℕ, suc, Bool, true, false, List, Option, Some, None, Result, Ok, Err, slice_get, length, if◌then◌else◌}
+use Rattle.std.specs.Prelude.{ℕ, suc, true, false, List, Option, Some, None, Ok, Err, slice_get, length, if◌then◌else◌}
 use Rattle.c_lex.specs.declared.tokens.Kind.{Kind}
 use Rattle.c_lex.specs.declared.tokens.Kind.TheVariants as kind
 use Rattle.c_lex.specs.declared.tokens.Sign.TheVariants as s
@@ -14,11 +14,10 @@ use Rattle.c_tree.specs.declared.hosts.ArgVia.{ArgVia}
 use Rattle.c_tree.specs.declared.hosts.ArgVia.TheVariants as via
 use Rattle.c_tree.specs.declared.hosts.LoopArg.{LoopArg}
 use Rattle.c_tree.specs.declared.hosts.LoopArg.TheVariants as arg
-use Rattle.c_reader.specs.declared.faults.Fault.{Fault}
 use Rattle.c_reader.specs.declared.faults.Fault.TheVariants.{Syntax}
-use Rattle.c_reader.specs.Descent.{◌>>=◌, sign_is, sign_at}
+use Rattle.c_reader.specs.Descent.{◌>>=◌, sign_is}
 use Rattle.c_reader.specs.Leads.{access_of}
-use Rattle.c_reader.specs.Rows.{Reader, both, made, word_is, sign, word, marked, ident, number, text, behind_commas}
+use Rattle.c_reader.specs.Rows.{Reader, both, made, word_is, sign, marked, ident, number, text, behind_commas}
 
 unfoldable pub global_at : List Kind → Reader GlobalName
 global_at ks n =

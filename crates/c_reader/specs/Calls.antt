@@ -11,7 +11,7 @@ use Rattle.c_tree.specs.declared.hosts.LoopArg.{LoopArg}
 use Rattle.c_tree.specs.Tree.{ExprTree, OpCallTree, CallInit, DeclSet, DeclMap, DeclDat, DeclConst, ParLoop, Printf, PrintDat}
 use Rattle.c_reader.specs.declared.leads.CallLead.{CallLead}
 use Rattle.c_reader.specs.declared.leads.CallLead.TheVariants as lead
-use Rattle.c_reader.specs.Descent.{read, ◌>>=◌}
+use Rattle.c_reader.specs.Descent.{read}
 use Rattle.c_reader.specs.Rows.{Reader, both, made, sign, word, marked, ident, number, text, behind_commas}
 use Rattle.c_reader.specs.Arguments.{global_at, args_at}
 

@@ -1,5 +1,5 @@
 -- What the readers of declarations and assignments answer, with d levels left for their expressions.
-use Rattle.std.specs.Prelude.{ℕ, suc, Bool, true, false, List, [], ◌∷◌, Option, Some, None, Result, Ok, Err, slice_get, length, if◌then◌else◌}
+use Rattle.std.specs.Prelude.{ℕ, suc, Bool, true, false, List, Option, Some, None, Ok, Err, slice_get, length, if◌then◌else◌}
 use Rattle.c_lex.specs.declared.tokens.Kind.{Kind}
 use Rattle.c_lex.specs.declared.tokens.Kind.TheVariants as kind
 use Rattle.c_lex.specs.declared.tokens.Sign.TheVariants as s
@@ -7,8 +7,7 @@ use Rattle.c_lex.specs.declared.tokens.Word.TheVariants as w
 use Rattle.c_tree.specs.declared.expressions.Ident.{Ident}
 use Rattle.c_tree.specs.declared.declarations.AssignOp.{AssignOp}
 use Rattle.c_tree.specs.Tree.{ExprTree, DeclrTree, Plain, Init, Array, DeclarationTree, PlaceTree, Scalar, Element, Target, AssignmentTree}
-use Rattle.c_reader.specs.declared.faults.Fault.{Fault}
-use Rattle.c_reader.specs.declared.faults.Fault.TheVariants.{Syntax, TooDeep}
+use Rattle.c_reader.specs.declared.faults.Fault.TheVariants.{Syntax}
 use Rattle.c_reader.specs.Descent.{◌>>=◌, sign_is, sign_at, read}
 use Rattle.c_reader.specs.Leads.{assign_of}
 use Rattle.c_reader.specs.Rows.{Reader, both, made, sign, word_is, word_at, ident, number, separated}

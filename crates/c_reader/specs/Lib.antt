@@ -8,3 +8,4 @@ pub mod Arguments
 pub mod Calls
 pub mod Hosts
 pub mod Whole
+pub mod Answered

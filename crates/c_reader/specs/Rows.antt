@@ -1,5 +1,5 @@
 -- Readers of a row of tokens, one after another.
-use Rattle.std.specs.Prelude.{ℕ, suc, Bool, true, false, zero, List, [], ◌∷◌, ◌++◌, Option, Some, None, Result, Ok, Err, slice_get, map, Vec, if◌then◌else◌}
+use Rattle.std.specs.Prelude.{ℕ, suc, Bool, false, zero, List, [], ◌∷◌, ◌++◌, Option, Some, Result, Ok, Err, slice_get, map, Vec, if◌then◌else◌}
 use Rattle.std.specs.Global.{Global}
 use Rattle.c_lex.specs.declared.tokens.Sign.TheVariants as the_sign
 use Rattle.c_lex.specs.declared.tokens.Kind.{Kind}
@@ -11,7 +11,7 @@ use Rattle.c_tree.specs.declared.expressions.Ident.{Ident}
 use Rattle.c_tree.specs.declared.expressions.NumberLiteral.{NumberLiteral}
 use Rattle.c_tree.specs.declared.expressions.TextLiteral.{TextLiteral}
 use Rattle.c_reader.specs.declared.faults.Fault.{Fault}
-use Rattle.c_reader.specs.declared.faults.Fault.TheVariants.{Syntax, TooDeep}
+use Rattle.c_reader.specs.declared.faults.Fault.TheVariants.{Syntax}
 use Rattle.c_reader.specs.Descent.{◌>>=◌, sign_is, sign_at}
 use denote.Enum.Bare.{sameb}
 

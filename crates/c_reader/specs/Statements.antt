@@ -1,5 +1,5 @@
 -- What the readers of statements answer, with d levels of nesting left.
-use Rattle.std.specs.Prelude.{ℕ, zero, suc, Bool, true, false, List, [], ◌∷◌, Option, Some, None, Result, Ok, Err, slice_get, length, if◌then◌else◌}
+use Rattle.std.specs.Prelude.{ℕ, zero, suc, List, [], ◌∷◌, Option, Some, None, Ok, Err, slice_get, length, if◌then◌else◌}
 use Rattle.std.specs.Str.{bytes_eq}
 use Rattle.c_lex.specs.declared.tokens.Kind.{Kind}
 use Rattle.c_lex.specs.declared.tokens.Sign.TheVariants as s
@@ -8,13 +8,12 @@ use Rattle.c_tree.specs.declared.expressions.Ident.{Ident}
 use Rattle.c_tree.specs.declared.expressions.NumberLiteral.{NumberLiteral}
 use Rattle.c_tree.specs.declared.kernels.ForHeader.{ForHeader}
 use Rattle.c_tree.specs.Tree.{ExprTree, StmtTree, LocalDeclaration, Block, Empty, Assign, If, IfElse, For, StmtTrees, NoStmt, MoreStmt}
-use Rattle.c_reader.specs.declared.faults.Fault.{Fault}
 use Rattle.c_reader.specs.declared.faults.Fault.TheVariants.{Syntax, TooDeep}
 use Rattle.c_reader.specs.declared.leads.StmtLead.{StmtLead}
 use Rattle.c_reader.specs.declared.leads.StmtLead.TheVariants as lead
 use Rattle.c_reader.specs.Descent.{◌>>=◌, sign_is, sign_at, read}
 use Rattle.c_reader.specs.Leads.{stmt_lead_of}
-use Rattle.c_reader.specs.Rows.{Reader, both, made, word_is, word_at, sign, word, marked, ident, number, until}
+use Rattle.c_reader.specs.Rows.{Reader, both, made, word_is, sign, word, marked, ident, number, until}
 use Rattle.c_reader.specs.Declarations.{declaration_at, assignment_at}
 
 -- the head of an `if`

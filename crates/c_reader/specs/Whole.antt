@@ -8,7 +8,7 @@ use Rattle.c_lex.specs.declared.tokens.Word.TheVariants as w
 use Rattle.c_tree.specs.declared.expressions.Ident.{Ident}
 use Rattle.c_tree.specs.declared.expressions.NumberLiteral.{NumberLiteral}
 use Rattle.c_tree.specs.declared.kernels.Param.{Param}
-use Rattle.c_tree.specs.Tree.{StmtTree, KernelTree, TopTree, Extern, ExternArray, FileDeclaration, Kernel, HostTree, MainTree, ProgramTree}
+use Rattle.c_tree.specs.Tree.{StmtTree, KernelTree, TopTree, Extern, ExternArray, FileDeclaration, Kernel, MainTree, ProgramTree}
 use Rattle.c_reader.specs.declared.faults.Fault.{Fault}
 use Rattle.c_reader.specs.declared.faults.Fault.TheVariants.{Syntax}
 use Rattle.c_reader.specs.declared.hosts.Closing.TheVariants as closing

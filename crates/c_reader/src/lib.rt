@@ -15,5 +15,5 @@ mod refusals;
 mod statements;
 mod tops;
 
-pub use reading::read_program;
+pub use reading::{one_tree, read_program};
 pub use refusals::SourceRefusal;

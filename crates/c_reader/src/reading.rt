@@ -1,7 +1,13 @@
 // The tree of a source.
 
-ghost use Rattle.std.specs.Prelude.{◌≡◌, ◌+◌, ◌<◌, ◌^◌, length, IfOk};
+ghost use Rattle.std.specs.Prelude.{◌≡◌, ◌+◌, ◌<◌, ◌^◌, length, List, ℕ, Err, IfOk, IfErr};
+ghost use Rattle.c_lex.specs.declared.refusals.LexRefusal.{LexRefusal as LexRefused};
+ghost use Rattle.c_lex.specs.Lexed.{Lexes};
+ghost use Rattle.c_tree.specs.Tree.{ProgramTree};
 ghost use Rattle.c_tree.specs.View.{main_of, program_of};
+ghost use Rattle.c_tree.specs.Reads.{Reads, Deep};
+ghost use Rattle.c_reader.specs.Answered.{IsTree, IsRefusal, CanRefuse, not_lexed, place_at, refusal_of};
+ghost use Rattle.c_reader.specs.declared.refusals.SourceRefusal.TheVariants.{Lex, TooDeep};
 ghost use Rattle.c_reader.specs.Descent.{Gives};
 ghost use Rattle.c_reader.specs.Rows.{seen_by};
 ghost use Rattle.c_reader.specs.Whole.{argv_at, return_at, main_at, whole};
@@ -12,17 +18,28 @@ use crate::faults::{Fault, ReadError};
 use crate::hosts::{Closing, read_hosts};
 use crate::refusals::SourceRefusal;
 use crate::tops::read_tops;
+use c_lex::one_outcome;
 use c_tree::{LexRefusal, Main, NumberLiteral, Pos, Program, Sign, Token, Word, end_place, lex};
 use std::alloc::{AllocError, Global};
 
-/// The one tree of the bytes of a source. They are to be fewer than 2 ^ 32 - 2, since a place is a `u32`.
+/// The one tree of the bytes of a source, where it has at most 64 levels. They are to be fewer than 2 ^ 32 - 2, since a
+/// place is a `u32`. `OutOfMemory` comes only where memory runs out.
 pub fn read_program(alloc: Global, bytes: &[u8]) -> Result<Program, SourceRefusal>
     requires { length bytes.now + 2 < 2 ^ 32 }
+    // A tree that is given is that of the bytes,
+    ensures found { IfOk result (λ x. Reads bytes.now (program_of x)) }
+    // and it is the only one.
+    ensures only { (p : ProgramTree) → Reads bytes.now p → IsTree p result }
+    // A deeper tree is refused at its first token beyond level 64,
+    ensures deep { (p : ProgramTree) (n : ℕ) → Deep bytes.now p n → IsRefusal (TooDeep (place_at p.places bytes.now n)) result }
+    // bytes that have no tokens with the lexer's refusal,
+    ensures lexed { (r : LexRefused) → Lexes bytes.now (Err r) → IsRefusal (Lex r) result }
+    // and no refusal comes without its reason.
+    ensures refused { IfErr result (CanRefuse bytes.now) }
 {
     let tokens = match lex(alloc, bytes) {
         Ok(tokens) => tokens,
-        Err(LexRefusal::OutOfMemory) => return Err(SourceRefusal::OutOfMemory),
-        Err(refusal) => return Err(SourceRefusal::Lex(refusal)),
+        Err(refusal) => return Err(unlexed(refusal)),
     };
     match read_tokens(alloc, &tokens) {
         Ok(program) => Ok(program),
@@ -31,9 +48,30 @@ pub fn read_program(alloc: Global, bytes: &[u8]) -> Result<Program, SourceRefusa
     }
 }
 
+/// The bytes have at most one tree.
+pub fn one_tree()
+    ensures { (bytes : List ℕ) (a b : ProgramTree) → Reads bytes a → Reads bytes b → a ≡ b }
+{
+    one_outcome();
+}
+
+// The refusal of bytes that the lexer refuses.
+fn unlexed(refusal: LexRefusal) -> SourceRefusal
+    ensures { result ≡ not_lexed refusal }
+{
+    match refusal {
+        LexRefusal::OutOfMemory => SourceRefusal::OutOfMemory,
+        LexRefusal::BadByte { at } => SourceRefusal::Lex(LexRefusal::BadByte { at }),
+        LexRefusal::OpenComment { at } => SourceRefusal::Lex(LexRefusal::OpenComment { at }),
+        LexRefusal::OpenText { at } => SourceRefusal::Lex(LexRefusal::OpenText { at }),
+        LexRefusal::NumberTooLarge { at } => SourceRefusal::Lex(LexRefusal::NumberTooLarge { at }),
+    }
+}
+
 // The refusal of a fault, at its place.
 fn refused(tokens: &[Token], bytes: &[u8], fault: Fault) -> SourceRefusal
     requires { length bytes.now + 2 < 2 ^ 32 }
+    ensures { result ≡ refusal_of (places tokens.now) bytes.now fault }
 {
     match fault {
         Fault::Syntax(at) => SourceRefusal::Syntax {
@@ -48,6 +86,7 @@ fn refused(tokens: &[Token], bytes: &[u8], fault: Fault) -> SourceRefusal
 // The place of the token of this number, or the place just past the last byte.
 fn place_of(tokens: &[Token], bytes: &[u8], at: usize) -> Pos
     requires { length bytes.now + 2 < 2 ^ 32 }
+    ensures { result ≡ place_at (places tokens.now) bytes.now at }
 {
     match tokens.get(at) {
         Some(token) => token.at,

@@ -1,10 +1,9 @@
-use Rattle.std.proofs.Common.{◌≡◌, ◌+◌, ◌-◌, ◌≤◌, ℕ, zero, Ok, Err, Some, sym, ◌∙◌, arith}
+use Rattle.std.proofs.Common.{◌-◌, sym, ◌∙◌}
 use Rattle.std.proofs.lemmas.Result.{err_from_is_err_and}
 use Rattle.c_tree.specs.View.{expr_of}
-use Rattle.c_reader.specs.Descent.{Gives, Fails, seen, chain, operator_at}
 use Rattle.c_reader.specs.Descent.{read as read_at}
 use Rattle.c_reader.specs.Kinds.{kinds}
-use Rattle.c_reader.proofs.Complete.{chain_stops, chain_full}
+use Rattle.c_reader.proofs.Complete.{chain_stops}
 use Rattle.c_reader.proofs.Turns.{turn, turn_fails, last_turn}
 use Rattle.c_reader.proofs.expressions.+expressions.Goals as goal
 

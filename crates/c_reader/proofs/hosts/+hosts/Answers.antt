@@ -1,7 +1,7 @@
-use Rattle.std.proofs.Common.{◌≡◌, Ok, Err, sym, ap, subst, ◌∙◌, length, refl, add-one}
+use Rattle.std.proofs.Common.{sym, subst, ◌∙◌, length}
 use Rattle.std.proofs.lemmas.List.{length-map}
 use Rattle.std.proofs.lemmas.Result.{err_from_is_err_and}
-use Rattle.c_reader.specs.Descent.{Gives, Fails}
+use Rattle.c_reader.specs.Descent.{Gives}
 use Rattle.c_reader.specs.Rows.{seen_by}
 use Rattle.c_reader.specs.Kinds.{kinds}
 use Rattle.c_tree.specs.View.{host_of}

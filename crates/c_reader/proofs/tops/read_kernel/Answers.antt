@@ -3,15 +3,6 @@ use Rattle.std.proofs.lemmas.Grind.{common_steps}
 use Rattle.std.proofs.Common.{arith}
 use Rattle.c_reader.specs.Whole.{kernel_at}
 use Rattle.c_reader.proofs.StmtTurns.{trees_are}
-use Rattle.c_reader.proofs.Exactness.{flat}
-use Rattle.c_reader.proofs.Lists.{tails}
-use Rattle.c_reader.proofs.Items.{index_exact}
-use Rattle.c_reader.proofs.TopRows.{skip_is}
-use Rattle.c_reader.proofs.HostRows.{host_exact}
-use Rattle.c_reader.proofs.Stmts.{stmt_exact}
-use Rattle.c_reader.proofs.Declared.{assignment_far}
-use Rattle.c_reader.proofs.Separated.{separated_far}
-use Rattle.c_reader.proofs.CallRows.{call_far}
 use Rattle.c_reader.proofs.tops.read_kernel.Goals as goal
 
 pub returns : goal.returns

@@ -1,7 +1,6 @@
-use Rattle.std.proofs.Common.{◌≡◌, Ok, Err, sym, ◌∙◌, length, add-one}
+use Rattle.std.proofs.Common.{sym, ◌∙◌, length}
 use Rattle.std.proofs.lemmas.List.{length-map}
 use Rattle.std.proofs.lemmas.Result.{err_from_is_err_and}
-use Rattle.c_reader.specs.Descent.{Gives, Fails}
 use Rattle.c_reader.specs.Kinds.{kinds}
 use Rattle.c_tree.specs.View.{top_of}
 use Rattle.c_reader.specs.Whole.{begins_main, top_at}
