@@ -30,16 +30,18 @@ struct Ended {
     err: MemorySink,
 }
 
-// What fails: the shelf's calls and those on `out` with these numbers.
+// What fails: the shelf's calls and those on `out` with these numbers, and what `out` has room for.
 #[derive(Clone, Copy)]
 struct Failing {
     reads: Option<u64>,
     writes: Option<u64>,
+    room: usize,
 }
 
 const NEVER: Failing = Failing {
     reads: None,
     writes: None,
+    room: 1000,
 };
 
 fn listed(alloc: Global, number: Option<u64>) -> Result<Vec<u64>, AllocError> {
@@ -57,8 +59,19 @@ fn called<R: Threads + Sync>(
     mesh: &str,
     failing: Failing,
 ) -> Result<Ended, AllocError> {
-    let mut shelf = MemoryShelf::new(alloc, listed(alloc, failing.reads)?);
     let source = format!(in alloc; "{HEAD}{kernel}{TAIL}")?;
+    called_on(rt, alloc, words, source, mesh, failing)
+}
+
+fn called_on<R: Threads + Sync>(
+    rt: &R,
+    alloc: Global,
+    words: &[&str],
+    source: String,
+    mesh: &str,
+    failing: Failing,
+) -> Result<Ended, AllocError> {
+    let mut shelf = MemoryShelf::new(alloc, listed(alloc, failing.reads)?);
     shelf.hold(String::from_str(alloc, "s.c")?, source.into_bytes())?;
     shelf.hold(
         String::from_str(alloc, "m.mesh")?,
@@ -69,7 +82,7 @@ fn called<R: Threads + Sync>(
     for word in words {
         list.push(String::from_str(alloc, word)?)?;
     }
-    let mut out = MemorySink::new(alloc, 1000, listed(alloc, failing.writes)?)?;
+    let mut out = MemorySink::new(alloc, failing.room, listed(alloc, failing.writes)?)?;
     let mut err = MemorySink::new(alloc, 1000, Vec::new(alloc))?;
     let status = op2(rt, alloc, &list, &mut shelf, &mut out, &mut err);
     Ok(Ended { status, out, err })
@@ -172,22 +185,72 @@ fn words_and_failures_have_their_lines(rt: HostRuntime) -> Result<(), Fail> {
         ("s.c", "m.mesh", Some(3), "op2: cannot read m.mesh\n"),
         ("", "m.mesh", None, "op2: cannot read \n"),
     ] {
-        let failing = Failing {
-            reads,
-            writes: None,
-        };
+        let failing = Failing { reads, ..NEVER };
         let ended = called(&rt, alloc, &["run", source, mesh_name], BUMP, mesh, failing)?;
         assert_eq!(rt; ended.status, 3, "{line}");
         assert_eq!(rt; ended.out.bytes(), b"".as_slice());
         assert_eq!(rt; ended.err.bytes(), line.as_bytes());
     }
     let failing = Failing {
-        reads: None,
         writes: Some(0),
+        ..NEVER
     };
     let ended = called(&rt, alloc, &["run", "s.c", "m.mesh"], BUMP, mesh, failing)?;
     assert_eq!(rt; ended.status, 4);
     assert_eq!(rt; ended.out.bytes(), b"".as_slice());
     assert_eq!(rt; ended.err.bytes(), b"op2: cannot write\n".as_slice());
+    // A sink that fills up has a front of the output.
+    for room in 0..22usize {
+        let failing = Failing { room, ..NEVER };
+        let ended = called(&rt, alloc, &["run", "s.c", "m.mesh"], BUMP, mesh, failing)?;
+        assert_eq!(rt; ended.status, 4);
+        assert_eq!(rt; ended.out.bytes(), &b"a: a s 1 1\n-2147483648\n"[..room]);
+    }
+    Ok(())
+}
+
+// Two dats that begin with one array, the second read after the first is written.
+const PAIR: &str = "// two dats
+#include \"op_seq.h\"
+extern int n; extern int a0[]; extern int b0[];
+void pair(int *p, const int *q) { p[0] = p[0] + q[0]; p[0] = p[0] * 2; }
+int main(int argc, char *argv[]) {
+  op_set s = op_decl_set(n, \"s\");
+  op_dat a = op_decl_dat(s, 1, \"int\", a0, \"a\"); /* b0 stands unused */
+  op_dat b = op_decl_dat(s, 1, \"int\", a0, \"b\");
+  op_par_loop(pair, \"pair\", s, op_arg_dat(b, -1, OP_ID, 1, \"int\", OP_RW), op_arg_dat(a, -1, OP_ID, 1, \"int\", OP_READ));
+  op_print_dat_to_txtfile(b, \"b \\\"x\\\"\");
+  op_exit();
+}
+";
+
+#[test]
+fn sources_at_a_limit_and_with_two_dats(rt: HostRuntime) -> Result<(), Fail> {
+    let alloc = rt.alloc();
+    let words = ["run", "s.c", "m.mesh"];
+    let mesh = "op2mesh 2 int n 3 ints a0 3 1073741823 2*-5 ints b0 0 done";
+    for (size, status, out) in [
+        (PAIR.len(), 0, "b \"x\": b s 3 1\n-4\n-20\n-20\n"),
+        (1_048_576, 0, "b \"x\": b s 3 1\n-4\n-20\n-20\n"),
+        (1_048_577, 11, ""),
+    ] {
+        let mut source = String::from_str(alloc, PAIR)?;
+        for _ in PAIR.len()..size {
+            source.push(' ')?;
+        }
+        let ended = called_on(&rt, alloc, &words, source, mesh, NEVER)?;
+        assert_eq!(rt; ended.status, status, "{size}");
+        assert_eq!(rt; ended.out.bytes(), out.as_bytes(), "{size}");
+    }
+    let source = String::from_str(alloc, PAIR)?;
+    let ended = called_on(
+        &rt,
+        alloc,
+        &words,
+        source,
+        "op2mesh 1 int n 0 ints a0 0 done",
+        NEVER,
+    )?;
+    assert_eq!(rt; ended.status, 11);
     Ok(())
 }

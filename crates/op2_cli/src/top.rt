@@ -1,14 +1,17 @@
 // The top call.
-ghost use Rattle.std.specs.Prelude.{◌≡◌, ◌≢◌, ◌↔◌, ◌⊎◌, None, IfErr};
+ghost use Rattle.std.specs.Prelude.{◌≡◌, ◌↔◌, ◌⊎◌, None, IfSome};
 ghost use Rattle.std.specs.Option.{ForSome};
 ghost use Rattle.op_outside.specs.Outside.{Rose, appended, AppendsFront};
 ghost use Rattle.op2_cli.specs.Words.{named, texts};
-ghost use Rattle.op2_cli.specs.Outcome.{Seen, Ends, IsCaused, IsEarlyEnd, status_of, line_of};
+ghost use Rattle.c_tree.specs.View.{program_of as tree_of};
+ghost use Rattle.op2_cli.specs.Answer.{SourceAnswer, MeshAnswer};
+ghost use Rattle.op2_cli.specs.Outcome.{Seen, Ends, Gives, IsReached, status_of, line_of};
 
 use crate::outcome::Outcome;
 use crate::report::report;
-use crate::steps::{entries_of, printed, program_of, read};
+use crate::steps::{printed_from, program_of, read};
 use crate::words::named;
+use c_tree::Program;
 use mesh_decl::MESH_BYTES;
 use op_outside::{Shelf, Sink, write_all_of};
 use std::alloc::Global;
@@ -35,13 +38,18 @@ pub fn op2<R: Threads + Sync, F: Shelf, O: Sink, E: Sink>(
     requires { ForSome (named (texts words.now.items)) (λ names. F.lends shelf.old names.0 × F.lends shelf.old names.1) }
 
     ensures usage { (result ≡ 2) ↔ (named (texts words.now.items) ≡ None) }
-    ensures unwritten { result ≡ 4 → Rose (O.faults out.old) (O.faults out.new) }
-    ensures quiet { result ≢ 0 → result ≢ 4 → O.written out.new ≡ O.written out.old }
 
-    // One line, or a front of it where a write of it failed. The line of status 3 names a file that the
-    // words name, and whose reading failed.
-    ensures line { (e : Outcome) × (result ≡ status_of e)
-        × IsCaused (texts words.now.items) (F.told shelf.old) (F.faults shelf.old, F.faults shelf.new) e
+    // The call has one ending, with its cause, its status and its line; where the line could not be
+    // written, a front of it stands.
+    ensures ends { (e : Outcome) × (result ≡ status_of e)
+        × Ends (record {
+          words = texts words.now.items;
+          told = F.told shelf.old;
+          reads = (F.faults shelf.old, F.faults shelf.new);
+          writes = (O.faults out.old, O.faults out.new);
+          old = O.written out.old;
+          new = O.written out.new;
+        }) e
         × ((E.written err.new ≡ appended (E.written err.old) (line_of e))
         ⊎ (Rose (E.faults err.old) (E.faults err.new) × AppendsFront (E.written err.old) (line_of e) (E.written err.new))) }
 {
@@ -89,11 +97,29 @@ fn bytes_of<'a, F: Shelf>(
 ) -> Result<Vec<u8>, Outcome<'a>>
     requires source { F.lends shelf.old source_name.now }
     requires mesh { F.lends shelf.old mesh_name.now }
-    ensures { IfErr result (IsEarlyEnd source_name.now mesh_name.now (F.told shelf.old) (F.faults shelf.old, F.faults shelf.new)) }
+    ensures { Gives (F.told shelf.old)
+        (λ files. SourceAnswer (source_name.now, mesh_name.now) files (files source_name.now))
+        (λ name. ((name ≡ source_name.now) ⊎ (name ≡ mesh_name.now)) × IfSome (F.told shelf.old) (λ files. IsReached (source_name.now, mesh_name.now) files name))
+        (Rose (F.faults shelf.old) (F.faults shelf.new)) result }
 {
     let source = read(alloc, shelf, source_name, SOURCE_BYTES)?;
     let program = program_of(alloc, &source)?;
+    printed_over(alloc, shelf, &program, mesh_name)
+}
+
+// The bytes that the program prints over the mesh, or how the call ends before they are written.
+fn printed_over<'a, F: Shelf>(
+    alloc: Global,
+    shelf: &mut F,
+    program: &Program,
+    mesh_name: &'a str,
+) -> Result<Vec<u8>, Outcome<'a>>
+    requires { F.lends shelf.old mesh_name.now }
+    ensures { Gives (F.told shelf.old)
+        (λ files. MeshAnswer (tree_of program.now) mesh_name.now (files mesh_name.now))
+        (λ name. name ≡ mesh_name.now)
+        (Rose (F.faults shelf.old) (F.faults shelf.new)) result }
+{
     let mesh = read(alloc, shelf, mesh_name, MESH_BYTES)?;
-    let entries = entries_of(alloc, &mesh)?;
-    printed(alloc, &program, &entries)
+    printed_from(alloc, program, &mesh)
 }
