@@ -58,21 +58,21 @@ values_exact ks from k d l f =
     let by_paren : (a : ExprTree) (n : ℕ) → ParenAt ks n → ClosedAt ks n = λ a n h. (sg.RightParen, right_paren, h) in
     record {
       complete = λ es n e o s h.
-        (let s' = subst (λ z. Spans ks n z e) (values_are k es) s in
-        tails_complete ks from 1 k IsGrouped (expr (suc k)) (λ a j. ClosedAt ks j) Free (read ks d 0) one fits by_comma by_paren es (length ks) n e (omega (arith, spans_end ks n (tails k (expr (suc k)) es) e s', values_long k es, paren_within ks e h)) (grouped_valid es o) s' h ∙ ap (λ z. after (first_deep n z) (Ok (es, e))) (sym (values_are k es)));
+          (let s' = subst (λ z. Spans ks n z e) (values_are k es) s in
+          tails_complete ks from 1 k IsGrouped (expr (suc k)) (λ a j. ClosedAt ks j) Free (read ks d 0) one fits by_comma by_paren es (length ks) n e (omega (arith, spans_end ks n (tails k (expr (suc k)) es) e s', values_long k es, paren_within ks e h)) (grouped_valid es o) s' h ∙ ap (λ z. after (first_deep n z) (Ok (es, e))) (sym (values_are k es)));
       sound = λ n y h.
-        (let r = tails_sound ks from 1 k IsGrouped (expr (suc k)) (λ a j. ClosedAt ks j) Free (read ks d 0) one fits by_comma by_paren (length ks) n y h in
-        record {
-          valid = valid_grouped y.0 r.0;
-          spans = subst (λ z. Spans ks n z y.1) (sym (values_are k y.0)) r.1.0;
-          shallow = ap (first_deep n) (values_are k y.0) ∙ r.1.1;
-          behind = tt;
-        });
+          (let r = tails_sound ks from 1 k IsGrouped (expr (suc k)) (λ a j. ClosedAt ks j) Free (read ks d 0) one fits by_comma by_paren (length ks) n y h in
+          record {
+            valid = valid_grouped y.0 r.0;
+            spans = subst (λ z. Spans ks n z y.1) (sym (values_are k y.0)) r.1.0;
+            shallow = ap (first_deep n) (values_are k y.0) ∙ r.1.1;
+            behind = tt;
+          });
       moves = λ n y h.
-        (let r = tails_sound ks from 1 k IsGrouped (expr (suc k)) (λ a j. ClosedAt ks j) Free (read ks d 0) one fits by_comma by_paren (length ks) n y h in
-        omega (arith, spans_end ks n (tails k (expr (suc k)) y.0) y.1 r.1.0));
+          (let r = tails_sound ks from 1 k IsGrouped (expr (suc k)) (λ a j. ClosedAt ks j) Free (read ks d 0) one fits by_comma by_paren (length ks) n y h in
+          omega (arith, spans_end ks n (tails k (expr (suc k)) y.0) y.1 r.1.0));
       far = λ n q m h.
-        tails_far ks from 1 k IsGrouped (expr (suc k)) (λ a j. ClosedAt ks j) Free (read ks d 0) one fits by_comma by_paren (length ks) n q m h;
+          tails_far ks from 1 k IsGrouped (expr (suc k)) (λ a j. ClosedAt ks j) Free (read ks d 0) one fits by_comma by_paren (length ks) n q m h;
     }
 
 -- what begins a call

@@ -255,25 +255,29 @@ module _ (ks : List Kind) (f k d : ℕ) (room : suc k + d ≡ 65) (before : k �
       by_test true t =
           let here = word_found wd.Const (slice_get ks n) t in
           let r = behind_sound ks f k d room before true (suc n) y (sym (at_const ks d n here) ∙ h) in
-          let same = vars_by k y.0 true r.0 in
-          (record {
-            valid = (r.1.0, subst (λ z. AreDeclrs z y.0.declrs) (sym r.0) r.1.1.0);
-            spans = subst (λ z. Spans ks n z y.1) (sym same) (here, tt, r.1.1.1.0);
-            shallow = ap (first_deep n) same ∙ deep_over n (Rattle.c_tree.specs.Print.word_at k wd.Const) (tail_of k y.0) high ∙ r.1.1.1.1;
-            behind = tt;
-          }, λ u. absurd (apart (sym t ∙ u)))
+          let same = vars_by k y.0 true r.0 in (
+            record {
+              valid = (r.1.0, subst (λ z. AreDeclrs z y.0.declrs) (sym r.0) r.1.1.0);
+              spans = subst (λ z. Spans ks n z y.1) (sym same) (here, tt, r.1.1.1.0);
+              shallow = ap (first_deep n) same ∙ deep_over n (Rattle.c_tree.specs.Print.word_at k wd.Const) (tail_of k y.0) high ∙ r.1.1.1.1;
+              behind = tt;
+            },
+            λ u. absurd (apart (sym t ∙ u)),
+          )
         where
           apart : true ≡ false → ⊥
           apart q = cc
       by_test false t =
           let r = behind_sound ks f k d room before false n y (sym (at_int ks d n t) ∙ h) in
-          let same = vars_by k y.0 false r.0 in
-          (record {
-            valid = (r.1.0, subst (λ z. AreDeclrs z y.0.declrs) (sym r.0) r.1.1.0);
-            spans = subst (λ z. Spans ks n z y.1) (sym same) r.1.1.1.0;
-            shallow = ap (first_deep n) same ∙ r.1.1.1.1;
-            behind = tt;
-          }, λ u. r.0)
+          let same = vars_by k y.0 false r.0 in (
+            record {
+              valid = (r.1.0, subst (λ z. AreDeclrs z y.0.declrs) (sym r.0) r.1.1.0);
+              spans = subst (λ z. Spans ks n z y.1) (sym same) r.1.1.1.0;
+              shallow = ap (first_deep n) same ∙ r.1.1.1.1;
+              behind = tt;
+            },
+            λ u. r.0,
+          )
 
   pub declaration_far : (n q : ℕ) → f ≤ n → declaration_at ks d n ≡ Err (TooDeep q) → 64 ≤ q
   declaration_far n q l h = by_test (word_is wd.Const (slice_get ks n)) refl

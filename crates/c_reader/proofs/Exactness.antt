@@ -56,30 +56,30 @@ both_is p q n j e a b (Some x) y h g = rw h refl
 pub both_exact : (ks : List Kind) {A B : Type 0} (from size more : ℕ) (okA : A → Type 0) (okB : B → Type 0) (marksA : A → List Mark) (marksB : B → List Mark) (needsA givesA : A → ℕ → Type 0) (needsB givesB : B → ℕ → Type 0) (p : Reader A) (q : Reader B) → Exact ks from size okA marksA needsA givesA p → Exact ks (from + size) more okB marksB needsB givesB q → ((a : A) (b : B) (j e : ℕ) → okB b → Spans ks j (marksB b) e → needsA a j) → Exact ks from (size + more) (λ v. okA v.0 × okB v.1) (λ v. marksA v.0 ++ marksB v.1) (λ v e. needsB v.1 e) (λ v e. givesB v.1 e) (both p q)
 both_exact ks {A = A} {B = B} from size more okA okB marksA marksB needsA givesA needsB givesB p q x y follow = record {
   complete = λ v n e o s h.
-    (let r = spans_split ks n (marksA v.0) (marksB v.1) e s in
-    let first = x.complete v.0 n r.0 o.0 r.1 (follow v.0 v.1 r.0 e o.1 r.2) in
-    let second = y.complete v.1 r.0 e o.1 r.2 h in
-    both_is p q n r.0 e v.0 v.1 (first_deep n (marksA v.0)) (first_deep r.0 (marksB v.1)) first second ∙ ap (λ z. after z (Ok (v, e))) (sym (deep_split ks n (marksA v.0) (marksB v.1) r.0 r.1)));
+      (let r = spans_split ks n (marksA v.0) (marksB v.1) e s in
+      let first = x.complete v.0 n r.0 o.0 r.1 (follow v.0 v.1 r.0 e o.1 r.2) in
+      let second = y.complete v.1 r.0 e o.1 r.2 h in
+      both_is p q n r.0 e v.0 v.1 (first_deep n (marksA v.0)) (first_deep r.0 (marksB v.1)) first second ∙ ap (λ z. after z (Ok (v, e))) (sym (deep_split ks n (marksA v.0) (marksB v.1) r.0 r.1)));
   sound = λ n z h.
-    (let a = bind_ok (p n) _ z h in
-    let b = bind_ok (q a.0.1) _ z a.2 in
-    let first = x.sound n a.0 a.1 in
-    let second = y.sound a.0.1 b.0 b.1 in
-    let found : Found ks (λ v. okA v.0 × okB v.1) (λ v. marksA v.0 ++ marksB v.1) (λ v e. givesB v.1 e) n (a.0.0, b.0.0) b.0.1 = record {
-      valid = (first.valid, second.valid);
-      spans = spans_join ks n (marksA a.0.0) (marksB b.0.0) a.0.1 b.0.1 first.spans second.spans;
-      shallow = deep_split ks n (marksA a.0.0) (marksB b.0.0) a.0.1 first.spans ∙ rw (first.shallow, second.shallow) refl;
-      behind = second.behind;
-    } in
-    subst (λ w. Found ks (λ v. okA v.0 × okB v.1) (λ v. marksA v.0 ++ marksB v.1) (λ v e. givesB v.1 e) n w.0 w.1) (ok_one ((a.0.0, b.0.0), b.0.1) z b.2) found);
+      (let a = bind_ok (p n) _ z h in
+      let b = bind_ok (q a.0.1) _ z a.2 in
+      let first = x.sound n a.0 a.1 in
+      let second = y.sound a.0.1 b.0 b.1 in
+      let found : Found ks (λ v. okA v.0 × okB v.1) (λ v. marksA v.0 ++ marksB v.1) (λ v e. givesB v.1 e) n (a.0.0, b.0.0) b.0.1 = record {
+        valid = (first.valid, second.valid);
+        spans = spans_join ks n (marksA a.0.0) (marksB b.0.0) a.0.1 b.0.1 first.spans second.spans;
+        shallow = deep_split ks n (marksA a.0.0) (marksB b.0.0) a.0.1 first.spans ∙ rw (first.shallow, second.shallow) refl;
+        behind = second.behind;
+      } in
+      subst (λ w. Found ks (λ v. okA v.0 × okB v.1) (λ v. marksA v.0 ++ marksB v.1) (λ v e. givesB v.1 e) n w.0 w.1) (ok_one ((a.0.0, b.0.0), b.0.1) z b.2) found);
   moves = λ n z h.
-    (let a = bind_ok (p n) _ z h in
-    let b = bind_ok (q a.0.1) _ z a.2 in
-    let one = x.moves n a.0 a.1 in
-    let two = y.moves a.0.1 b.0 b.1 in
-    subst (λ (w : (A × B) × ℕ). n + (size + more) ≤ w.1) (ok_one ((a.0.0, b.0.0), b.0.1) z b.2) (omega arith));
+      (let a = bind_ok (p n) _ z h in
+      let b = bind_ok (q a.0.1) _ z a.2 in
+      let one = x.moves n a.0 a.1 in
+      let two = y.moves a.0.1 b.0 b.1 in
+      subst (λ (w : (A × B) × ℕ). n + (size + more) ≤ w.1) (ok_one ((a.0.0, b.0.0), b.0.1) z b.2) (omega arith));
   far = λ n t l h.
-    far_bind (p n) _ t h (x.far n t l) (λ a r g.
+      far_bind (p n) _ t h (x.far n t l) (λ a r g.
       (let one = x.moves n a r in
       far_bind (q a.1) _ t g (y.far a.1 t (omega arith)) (λ b r g. cc)));
 }
@@ -124,19 +124,19 @@ plain_exact : (ks : List Kind) (from k : ℕ) (x : Kind) (t : ℕ → Result ℕ
 plain_exact ks from k x t fits is ok far = record {
   complete = λ a n e o s h. rw (is n s.0, mark_shallow n (record { kind = x; number = None; level = k }) fits) (ap (λ (z : ℕ). Ok (tt, z)) s.2);
   sound = λ n y h.
-    (let r = bind_ok (t n) _ y h in
-    let q = ok n r.0 r.1 in
-    let found : Found ks {A = Unit {0}} Any (λ u. record { kind = x; number = None; level = k } ∷ []) Free n tt r.0 = record {
-      valid = tt;
-      spans = (q.0, tt, sym q.1);
-      shallow = mark_shallow n (record { kind = x; number = None; level = k }) fits;
-      behind = tt;
-    } in
-    subst (λ w. Found ks {A = Unit {0}} Any (λ u. record { kind = x; number = None; level = k } ∷ []) Free n w.0 w.1) (ok_one (tt, r.0) y r.2) found);
+      (let r = bind_ok (t n) _ y h in
+      let q = ok n r.0 r.1 in
+      let found : Found ks {A = Unit {0}} Any (λ u. record { kind = x; number = None; level = k } ∷ []) Free n tt r.0 = record {
+        valid = tt;
+        spans = (q.0, tt, sym q.1);
+        shallow = mark_shallow n (record { kind = x; number = None; level = k }) fits;
+        behind = tt;
+      } in
+      subst (λ w. Found ks {A = Unit {0}} Any (λ u. record { kind = x; number = None; level = k } ∷ []) Free n w.0 w.1) (ok_one (tt, r.0) y r.2) found);
   moves = λ n y h.
-    (let r = bind_ok (t n) _ y h in
-    let q = ok n r.0 r.1 in
-    subst (λ (w : Unit {0} × ℕ). n + 1 ≤ w.1) (ok_one (tt, r.0) y r.2) (omega (arith, q.1)));
+      (let r = bind_ok (t n) _ y h in
+      let q = ok n r.0 r.1 in
+      subst (λ (w : Unit {0} × ℕ). n + 1 ≤ w.1) (ok_one (tt, r.0) y r.2) (omega (arith, q.1)));
   far = λ n q l h. far_bind (t n) _ q h (far n q) (λ e r g. cc);
 }
 
@@ -145,19 +145,19 @@ kept_exact : (ks : List Kind) (from k : ℕ) (x : Kind) (t : ℕ → Result ℕ 
 kept_exact ks from k x t fits is ok far = record {
   complete = λ a n e o s h. rw (is n s.0, mark_shallow n (record { kind = x; number = Some a; level = k }) fits) (ap (λ (z : ℕ). Ok (z, suc n)) (sym s.1) ∙ ap (λ (z : ℕ). Ok (a, z)) s.2);
   sound = λ n y h.
-    (let r = bind_ok (t n) _ y h in
-    let q = ok n r.0 r.1 in
-    let found : Found ks {A = ℕ} Any (λ at. record { kind = x; number = Some at; level = k } ∷ []) Free n n r.0 = record {
-      valid = tt;
-      spans = (q.0, refl, sym q.1);
-      shallow = mark_shallow n (record { kind = x; number = Some n; level = k }) fits;
-      behind = tt;
-    } in
-    subst (λ w. Found ks {A = ℕ} Any (λ at. record { kind = x; number = Some at; level = k } ∷ []) Free n w.0 w.1) (ok_one (n, r.0) y r.2) found);
+      (let r = bind_ok (t n) _ y h in
+      let q = ok n r.0 r.1 in
+      let found : Found ks {A = ℕ} Any (λ at. record { kind = x; number = Some at; level = k } ∷ []) Free n n r.0 = record {
+        valid = tt;
+        spans = (q.0, refl, sym q.1);
+        shallow = mark_shallow n (record { kind = x; number = Some n; level = k }) fits;
+        behind = tt;
+      } in
+      subst (λ w. Found ks {A = ℕ} Any (λ at. record { kind = x; number = Some at; level = k } ∷ []) Free n w.0 w.1) (ok_one (n, r.0) y r.2) found);
   moves = λ n y h.
-    (let r = bind_ok (t n) _ y h in
-    let q = ok n r.0 r.1 in
-    subst (λ (w : ℕ × ℕ). n + 1 ≤ w.1) (ok_one (n, r.0) y r.2) (omega (arith, q.1)));
+      (let r = bind_ok (t n) _ y h in
+      let q = ok n r.0 r.1 in
+      subst (λ (w : ℕ × ℕ). n + 1 ≤ w.1) (ok_one (n, r.0) y r.2) (omega (arith, q.1)));
   far = λ n q l h. far_bind (t n) _ q h (far n q) (λ e r g. cc);
 }
 
@@ -178,13 +178,13 @@ item_exact : (ks : List Kind) {A : Type 0} (from k : ℕ) (kind_of : A → Kind)
 item_exact ks from k kind_of at_of p fits is ok far = record {
   complete = λ a n e o s h. is a n s.0 s.1 ∙ ap (λ (z : ℕ). Ok (a, z)) s.2 ∙ ap (λ z. after z (Ok (a, e))) (sym (mark_shallow n (record { kind = kind_of a; number = Some (at_of a); level = k }) fits));
   sound = λ n y h.
-    (let q = ok n y h in
-    record {
-      valid = tt;
-      spans = (q.0, q.1, q.2);
-      shallow = mark_shallow n (record { kind = kind_of y.0; number = Some (at_of y.0); level = k }) fits;
-      behind = tt;
-    });
+      (let q = ok n y h in
+      record {
+        valid = tt;
+        spans = (q.0, q.1, q.2);
+        shallow = mark_shallow n (record { kind = kind_of y.0; number = Some (at_of y.0); level = k }) fits;
+        behind = tt;
+      });
   moves = λ n y h. (let q = ok n y h in omega (arith, q.2));
   far = λ n q l h. absurd (far n q h);
 }
@@ -311,13 +311,13 @@ expr_some k (Rattle.c_tree.specs.Tree.Absolute at e) = omega arith
 pub expr_exact : (ks : List Kind) (from k d : ℕ) → suc k + d ≡ 65 → k ≤ from → Exact ks from 1 IsGrouped (λ e. expr (suc k) e) (λ e j. ClosedAt ks j) Free (read ks d 0)
 expr_exact ks from k d l f = record {
   complete = λ e n j g s c.
-    ended ks d 0 n (suc k) e j (complete ks e d 0 n (suc k) j l zero-le g s (ends_closed ks e j c.0 c.1 c.2)) (rest_closed ks d 0 e j c.0 c.1 c.2);
+      ended ks d 0 n (suc k) e j (complete ks e d 0 n (suc k) j l zero-le g s (ends_closed ks e j c.0 c.1 c.2)) (rest_closed ks d 0 e j c.0 c.1 c.2);
   sound = λ n y h.
-    (let found = sound ks d (suc k) l 0 n zero-le y h in
-    record { valid = found.whole.grouped; spans = found.whole.spans; shallow = found.whole.shallow; behind = tt });
+      (let found = sound ks d (suc k) l 0 n zero-le y h in
+      record { valid = found.whole.grouped; spans = found.whole.spans; shallow = found.whole.shallow; behind = tt });
   moves = λ n y h.
-    (let found = sound ks d (suc k) l 0 n zero-le y h in
-    omega (arith, spans_end ks n (expr (suc k) y.0) y.1 found.whole.spans, expr_some (suc k) y.0));
+      (let found = sound ks d (suc k) l 0 n zero-le y h in
+      omega (arith, spans_end ks n (expr (suc k) y.0) y.1 found.whole.spans, expr_some (suc k) y.0));
   far = λ n q b h. too_far ks d (suc k) l 0 n q zero-le (omega arith) h;
 }
 
@@ -326,8 +326,8 @@ pub turned_exact : (ks : List Kind) {A : Type 0} (from' : ℕ) {from size : ℕ}
 turned_exact ks from' l a b c d x = record {
   complete = λ v n e o s h. x.complete v n e (a v o) s (c v e h);
   sound = λ n y h.
-    (let r = x.sound n y h in
-    record { valid = b y.0 r.valid; spans = r.spans; shallow = r.shallow; behind = d y.0 y.1 r.behind });
+      (let r = x.sound n y h in
+      record { valid = b y.0 r.valid; spans = r.spans; shallow = r.shallow; behind = d y.0 y.1 r.behind });
   moves = x.moves;
   far = λ n q m h. x.far n q (omega arith) h;
 }

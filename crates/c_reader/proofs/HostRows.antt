@@ -187,7 +187,6 @@ host_begins ks k n e (HostAssign a) more o s =
 host_begins ks k n e (HostIf at x t) more o s = record { no_close = not_closed ks n (rw s.0 refl) (rw s.0 refl); no_else = rw s.0 refl; no_int = λ b. rw s.0 refl; lead = rw s.0 refl }
 host_begins ks k n e (HostIfElse at x t u) more o s = record { no_close = not_closed ks n (rw s.0 refl) (rw s.0 refl); no_else = rw s.0 refl; no_int = λ b. rw s.0 refl; lead = rw s.0 refl }
 host_begins ks k n e (HostFor c t) more o s = record { no_close = not_closed ks n (rw s.0 refl) (rw s.0 refl); no_else = rw s.0 refl; no_int = λ b. rw s.0 refl; lead = rw s.0 refl }
-
 host_begins ks k n e (HostCall c) more o s =
     let l = call_begins ks k c n e more s in
     let r = called (slice_get ks n) (call_lead c) l in
@@ -374,7 +373,6 @@ module _ (ks : List Kind) (f k d : ℕ) (room : suc k + d ≡ 65) (before : k �
   led_complete (HostFor c t) n e o s h =
       let r = spans_split ks n (host_counter k c) (host (suc k) t) e s in
       for_led ks d rec n r.0 e c t (first_deep n (host_counter k c)) (first_deep r.0 (host (suc k) t)) (header_complete ks f k d room before c n r.0 o.0 r.1) (body_complete t r.0 e o.1 o.2 r.2 (λ z. h z)) ∙ ap (λ z. after z (Ok (HostFor c t, e))) (sym (deep_split ks n (host_counter k c) (host (suc k) t) r.0 r.1))
-
   led_complete (HostCall c) n e o s h =
       made_complete HostCall (call_at ks d (call_lead c)) n e c (first_deep n (call k c)) (call_complete ks f k d room before c n e o s)
 
@@ -553,8 +551,8 @@ host_exact ks (suc d) k f l b =
     level_exact : Exact ks (f + 1) 1 IsHost (host (suc k)) (Needs ks) (Needs ks) (host_at ks d) → Exact ks f 1 IsHost (host k) (Needs ks) (Needs ks) (host_at ks (suc d))
     level_exact inner = record {
       complete = λ s n e o p h.
-        (let r = host_begins ks k n e s [] o (subst (λ z. Spans ks n z e) (sym (nil_right (host k s))) p) in
-        level_is ks d n (host_lead s) r.lead ∙ led_complete ks f k d (omega arith) b (host_at ks d) inner s n e o p h);
+          (let r = host_begins ks k n e s [] o (subst (λ z. Spans ks n z e) (sym (nil_right (host k s))) p) in
+          level_is ks d n (host_lead s) r.lead ∙ led_complete ks f k d (omega arith) b (host_at ks d) inner s n e o p h);
       sound = λ n y h. led_sound ks f k d (omega arith) b (host_at ks d) inner (lead_in (slice_get ks n)) n y refl (sym (level_is ks d n (lead_in (slice_get ks n)) refl) ∙ h);
       moves = λ n y h. led_moves ks f k d (omega arith) b (host_at ks d) inner n y (led_sound ks f k d (omega arith) b (host_at ks d) inner (lead_in (slice_get ks n)) n y refl (sym (level_is ks d n (lead_in (slice_get ks n)) refl) ∙ h));
       far = λ n q m h. led_far ks f k d (omega arith) b (host_at ks d) inner (lead_in (slice_get ks n)) n q m (sym (level_is ks d n (lead_in (slice_get ks n)) refl) ∙ h);

@@ -40,13 +40,13 @@ pub one_exact : (ks : List Kind) {A : Type 0} (from : ℕ) (mark_of : A → Mark
 one_exact ks from mark_of p fits is ok far = record {
   complete = λ a n e o s h. is a n s.0 s.1 ∙ ap (λ (z : ℕ). Ok (a, z)) s.2 ∙ ap (λ z. after z (Ok (a, e))) (sym (mark_shallow n (mark_of a) (fits a)));
   sound = λ n y h.
-    (let q = ok n y h in
-    record {
-      valid = tt;
-      spans = (q.0, q.1.0, q.1.1);
-      shallow = mark_shallow n (mark_of y.0) (fits y.0);
-      behind = tt;
-    });
+      (let q = ok n y h in
+      record {
+        valid = tt;
+        spans = (q.0, q.1.0, q.1.1);
+        shallow = mark_shallow n (mark_of y.0) (fits y.0);
+        behind = tt;
+      });
   moves = λ n y h. (let q = ok n y h in omega (arith, q.1.1));
   far = λ n q l h. absurd (far n q h);
 }
@@ -280,8 +280,8 @@ index_exact ks from k fits = record {
   complete = λ a n e o s h. index_is ks k a.is_negative a.at n e a.value fits s;
   sound = λ n y h. index_ok ks k n y fits h;
   moves = λ n y h.
-    (let r = index_ok ks k n y fits h in
-    omega (arith, spans_end ks n (arg_index k y.0) y.1 r.spans, index_some k y.0.is_negative y.0.at y.0.value));
+      (let r = index_ok ks k n y fits h in
+      omega (arith, spans_end ks n (arg_index k y.0) y.1 r.spans, index_some k y.0.is_negative y.0.at y.0.value));
   far = λ n q l h. absurd (index_near ks n q h);
 }
 
@@ -336,8 +336,8 @@ global_exact ks from k fits = record {
   complete = λ g n e o s h. global_is ks k g.ampersand g.name n e fits s;
   sound = λ n y h. global_ok ks k n y fits h;
   moves = λ n y h.
-    (let r = global_ok ks k n y fits h in
-    omega (arith, spans_end ks n (glob k y.0) y.1 r.spans, global_some k y.0.ampersand y.0.name));
+      (let r = global_ok ks k n y fits h in
+      omega (arith, spans_end ks n (glob k y.0) y.1 r.spans, global_some k y.0.ampersand y.0.name));
   far = λ n q l h. absurd (global_near ks n q h);
 }
 
@@ -391,7 +391,7 @@ arg_exact ks from k l = record {
   complete = λ a n e o s h. arg_complete a n e s;
   sound = λ n y h. (let r = arg_sound ks k n y l h in record { valid = tt; spans = r.0; shallow = r.1; behind = tt });
   moves = λ n y h.
-    (let r = arg_sound ks k n y l h in omega (arith, spans_end ks n (argument k y.0) y.1 r.0, argument_some k y.0));
+      (let r = arg_sound ks k n y l h in omega (arith, spans_end ks n (argument k y.0) y.1 r.0, argument_some k y.0));
   far = λ n q m h. arg_far ks n q h;
 }
   where
@@ -421,19 +421,19 @@ paren_within ks n h = slice_get_within ks n (kind.Sign sg.RightParen) h
 pub args_exact : (ks : List Kind) (from k : ℕ) → nat_lt 64 k ≡ false → Exact ks from 0 Any (arguments k) (λ xs e. ParenAt ks e) Free (args_at ks)
 args_exact ks from k l = record {
   complete = λ xs n e o s h.
-    (let s' = subst (λ z. Spans ks n z e) (arguments_are k xs) s in
-    tails_complete ks from 1 k Any (argument k) Free Free (arg_at ks) (arg_exact ks from k l) l (λ a n h. tt) (λ a n h. tt) xs (length ks) n e (omega (arith, spans_end ks n (tails k (argument k) xs) e s', tails_long k xs, paren_within ks e h)) (all_any xs) s' h ∙ ap (λ z. after (first_deep n z) (Ok (xs, e))) (sym (arguments_are k xs)));
+      (let s' = subst (λ z. Spans ks n z e) (arguments_are k xs) s in
+      tails_complete ks from 1 k Any (argument k) Free Free (arg_at ks) (arg_exact ks from k l) l (λ a n h. tt) (λ a n h. tt) xs (length ks) n e (omega (arith, spans_end ks n (tails k (argument k) xs) e s', tails_long k xs, paren_within ks e h)) (all_any xs) s' h ∙ ap (λ z. after (first_deep n z) (Ok (xs, e))) (sym (arguments_are k xs)));
   sound = λ n y h.
-    (let r = tails_sound ks from 1 k Any (argument k) Free Free (arg_at ks) (arg_exact ks from k l) l (λ a n h. tt) (λ a n h. tt) (length ks) n y h in
-    record {
-      valid = tt;
-      spans = subst (λ z. Spans ks n z y.1) (sym (arguments_are k y.0)) r.1.0;
-      shallow = ap (first_deep n) (arguments_are k y.0) ∙ r.1.1;
-      behind = tt;
-    });
+      (let r = tails_sound ks from 1 k Any (argument k) Free Free (arg_at ks) (arg_exact ks from k l) l (λ a n h. tt) (λ a n h. tt) (length ks) n y h in
+      record {
+        valid = tt;
+        spans = subst (λ z. Spans ks n z y.1) (sym (arguments_are k y.0)) r.1.0;
+        shallow = ap (first_deep n) (arguments_are k y.0) ∙ r.1.1;
+        behind = tt;
+      });
   moves = λ n y h.
-    (let r = tails_sound ks from 1 k Any (argument k) Free Free (arg_at ks) (arg_exact ks from k l) l (λ a n h. tt) (λ a n h. tt) (length ks) n y h in
-    omega (arith, spans_end ks n (tails k (argument k) y.0) y.1 r.1.0));
+      (let r = tails_sound ks from 1 k Any (argument k) Free Free (arg_at ks) (arg_exact ks from k l) l (λ a n h. tt) (λ a n h. tt) (length ks) n y h in
+      omega (arith, spans_end ks n (tails k (argument k) y.0) y.1 r.1.0));
   far = λ n q m h.
-    tails_far ks from 1 k Any (argument k) Free Free (arg_at ks) (arg_exact ks from k l) l (λ a n h. tt) (λ a n h. tt) (length ks) n q m h;
+      tails_far ks from 1 k Any (argument k) Free Free (arg_at ks) (arg_exact ks from k l) l (λ a n h. tt) (λ a n h. tt) (length ks) n q m h;
 }

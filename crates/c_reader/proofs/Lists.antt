@@ -73,11 +73,14 @@ module _ (ks : List Kind) {A : Type 0} (from size : ℕ) (ok : A → Type 0) (ma
           let b = bind_ok (until closes p c a.0.1) _ y a.2 in
           let first = x.sound n a.0 a.1 in
           let more = go a.0.1 b.0 b.1 in
-          let made : Listed ks ok marks n (a.0.0 ∷ b.0.0) b.0.1 × (closes b.0.1 ≡ true) = (record {
-            valid = (first.valid, more.0.valid);
-            spans = spans_join ks n (marks a.0.0) (joined marks b.0.0) a.0.1 b.0.1 first.spans more.0.spans;
-            shallow = deep_split ks n (marks a.0.0) (joined marks b.0.0) a.0.1 first.spans ∙ rw (first.shallow, more.0.shallow) refl;
-          }, more.1) in
+          let made : Listed ks ok marks n (a.0.0 ∷ b.0.0) b.0.1 × (closes b.0.1 ≡ true) = (
+            record {
+              valid = (first.valid, more.0.valid);
+              spans = spans_join ks n (marks a.0.0) (joined marks b.0.0) a.0.1 b.0.1 first.spans more.0.spans;
+              shallow = deep_split ks n (marks a.0.0) (joined marks b.0.0) a.0.1 first.spans ∙ rw (first.shallow, more.0.shallow) refl;
+            },
+            more.1,
+          ) in
           subst (λ (w : List A × ℕ). Listed ks ok marks n w.0 w.1 × (closes w.1 ≡ true)) (ok_one (a.0.0 ∷ b.0.0, b.0.1) y b.2) made
 
   pub until_far : (c n q : ℕ) → from ≤ n → until closes p c n ≡ Err (TooDeep q) → 64 ≤ q

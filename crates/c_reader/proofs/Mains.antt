@@ -186,15 +186,15 @@ ExitAt ks n = slice_get ks n ≡ Some (kind.Word wd.OpExit)
 body_exact : (ks : List Kind) → Exact ks 1 0 (λ xs. AreHosts (host_trees xs)) (λ xs. hosts 1 (host_trees xs)) (λ xs e. ExitAt ks e) Free (hosts_in ks closing.Exit (host_at ks 64))
 body_exact ks = record {
   complete = λ xs n e o s h.
-    block_complete ks 0 0 64 refl zero-le (host_at ks 64) (host_exact ks 64 1 1 refl (omega arith)) closing.Exit (kind.Word wd.OpExit) (host_trees xs) n e o s h (word_here wd.OpExit (slice_get ks e) h) ∙ ap (λ (z : List HostTree). after (first_deep n (hosts 1 (host_trees xs))) (Ok (z, e))) (list_trees xs);
+      block_complete ks 0 0 64 refl zero-le (host_at ks 64) (host_exact ks 64 1 1 refl (omega arith)) closing.Exit (kind.Word wd.OpExit) (host_trees xs) n e o s h (word_here wd.OpExit (slice_get ks e) h) ∙ ap (λ (z : List HostTree). after (first_deep n (hosts 1 (host_trees xs))) (Ok (z, e))) (list_trees xs);
   sound = λ n y h.
-    (let r = block_sound ks 0 0 64 refl zero-le (host_at ks 64) (host_exact ks 64 1 1 refl (omega arith)) closing.Exit n y h in
-    record { valid = r.0; spans = r.1.0; shallow = r.1.1; behind = tt });
+      (let r = block_sound ks 0 0 64 refl zero-le (host_at ks 64) (host_exact ks 64 1 1 refl (omega arith)) closing.Exit n y h in
+      record { valid = r.0; spans = r.1.0; shallow = r.1.1; behind = tt });
   moves = λ n y h.
-    (let r = block_sound ks 0 0 64 refl zero-le (host_at ks 64) (host_exact ks 64 1 1 refl (omega arith)) closing.Exit n y h in
-    omega (arith, spans_end ks n (hosts 1 (host_trees y.0)) y.1 r.1.0));
+      (let r = block_sound ks 0 0 64 refl zero-le (host_at ks 64) (host_exact ks 64 1 1 refl (omega arith)) closing.Exit n y h in
+      omega (arith, spans_end ks n (hosts 1 (host_trees y.0)) y.1 r.1.0));
   far = λ n q l h.
-    block_far ks 0 0 64 refl zero-le (host_at ks 64) (host_exact ks 64 1 1 refl (omega arith)) closing.Exit n q l h;
+      block_far ks 0 0 64 refl zero-le (host_at ks 64) (host_exact ks 64 1 1 refl (omega arith)) closing.Exit n q l h;
 }
 
 -- `main` up to its statements, and behind them

@@ -34,15 +34,15 @@ list_trees (x ∷ xs) = ap (λ z. x ∷ z) (list_trees xs)
 body_exact : (ks : List Kind) → Exact ks 1 0 (λ xs. AreStmts (stmt_trees xs)) (λ xs. stmts 1 (stmt_trees xs)) (λ xs e. slice_get ks e ≡ Some (kind.Sign sg.RightBrace)) Free (stmts_in ks (stmt_at ks 64))
 body_exact ks = record {
   complete = λ xs n e o s h.
-    block_complete ks 0 0 64 refl zero-le (stmt_at ks 64) (stmt_exact ks 64 1 1 refl (omega arith)) (stmt_trees xs) n e o s h ∙ ap (λ (z : List StmtTree). after (first_deep n (stmts 1 (stmt_trees xs))) (Ok (z, e))) (list_trees xs);
+      block_complete ks 0 0 64 refl zero-le (stmt_at ks 64) (stmt_exact ks 64 1 1 refl (omega arith)) (stmt_trees xs) n e o s h ∙ ap (λ (z : List StmtTree). after (first_deep n (stmts 1 (stmt_trees xs))) (Ok (z, e))) (list_trees xs);
   sound = λ n y h.
-    (let r = block_sound ks 0 0 64 refl zero-le (stmt_at ks 64) (stmt_exact ks 64 1 1 refl (omega arith)) n y h in
-    record { valid = r.0; spans = r.1.0; shallow = r.1.1; behind = tt });
+      (let r = block_sound ks 0 0 64 refl zero-le (stmt_at ks 64) (stmt_exact ks 64 1 1 refl (omega arith)) n y h in
+      record { valid = r.0; spans = r.1.0; shallow = r.1.1; behind = tt });
   moves = λ n y h.
-    (let r = block_sound ks 0 0 64 refl zero-le (stmt_at ks 64) (stmt_exact ks 64 1 1 refl (omega arith)) n y h in
-    omega (arith, spans_end ks n (stmts 1 (stmt_trees y.0)) y.1 r.1.0));
+      (let r = block_sound ks 0 0 64 refl zero-le (stmt_at ks 64) (stmt_exact ks 64 1 1 refl (omega arith)) n y h in
+      omega (arith, spans_end ks n (stmts 1 (stmt_trees y.0)) y.1 r.1.0));
   far = λ n q l h.
-    block_far ks 0 0 64 refl zero-le (stmt_at ks 64) (stmt_exact ks 64 1 1 refl (omega arith)) n q l h;
+      block_far ks 0 0 64 refl zero-le (stmt_at ks 64) (stmt_exact ks 64 1 1 refl (omega arith)) n q l h;
 }
 
 -- a kernel from its `void` on
@@ -218,8 +218,8 @@ top_some (Kernel f) = kernel_some f
 pub top_exact : (ks : List Kind) → Exact ks 0 1 IsTop top Free Free (top_at ks)
 top_exact ks = record {
   complete = λ t n e o s h.
-    (let r = top_begins ks n e t [] o (subst (λ z. Spans ks n z e) (sym (nil_right (top t))) s) in
-    level_is ks n (top_lead t) r.lead ∙ top_complete ks t n e o s);
+      (let r = top_begins ks n e t [] o (subst (λ z. Spans ks n z e) (sym (nil_right (top t))) s) in
+      level_is ks n (top_lead t) r.lead ∙ top_complete ks t n e o s);
   sound = λ n y h. found n y h;
   moves = λ n y h. (let r : Spans ks n (top y.0) y.1 = (found n y h).spans in omega (arith, spans_end ks n (top y.0) y.1 r, top_some y.0));
   far = λ n q l h. top_far ks (lead_in (slice_get ks n)) n q (sym (level_is ks n (lead_in (slice_get ks n)) refl) ∙ h);

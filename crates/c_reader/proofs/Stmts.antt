@@ -96,9 +96,9 @@ pub same_exact : (ks : List Kind) (from k : ℕ) (x : Ident) → nat_lt 64 k ≡
 same_exact ks from k x fits = record {
   complete = λ y n e o s h. same_is ks x y n (ident_is ks y n s.0 s.1) o ∙ ap (λ (z : ℕ). Ok (y, z)) s.2 ∙ ap (λ z. after z (Ok (y, e))) (sym (deep_over n (ident_mark k y) [] fits));
   sound = λ n y h.
-    (let r = same_ok ks x n y h in
-    let q = ident_ok ks n y r.0 in
-    record { valid = r.1; spans = (q.0, q.1, q.2); shallow = deep_over n (ident_mark k y.0) [] fits; behind = tt });
+      (let r = same_ok ks x n y h in
+      let q = ident_ok ks n y r.0 in
+      record { valid = r.1; spans = (q.0, q.1, q.2); shallow = deep_over n (ident_mark k y.0) [] fits; behind = tt });
   moves = λ n y h. (let q = ident_ok ks n y (same_ok ks x n y h).0 in omega (arith, q.2));
   far = λ n q l h. same_near ks x n q h;
 }
@@ -569,8 +569,8 @@ stmt_exact ks (suc d) k f l b =
     level_exact : Exact ks (f + 1) 1 IsStmt (stmt (suc k)) (Needs ks) (Needs ks) (stmt_at ks d) → Exact ks f 1 IsStmt (stmt k) (Needs ks) (Needs ks) (stmt_at ks (suc d))
     level_exact inner = record {
       complete = λ s n e o p h.
-        (let r = stmt_begins ks k n e s [] o (subst (λ z. Spans ks n z e) (sym (nil_right (stmt k s))) p) in
-        level_is ks d n (stmt_lead s) r.lead ∙ led_complete ks f k d (omega arith) b (stmt_at ks d) inner s n e o p h);
+          (let r = stmt_begins ks k n e s [] o (subst (λ z. Spans ks n z e) (sym (nil_right (stmt k s))) p) in
+          level_is ks d n (stmt_lead s) r.lead ∙ led_complete ks f k d (omega arith) b (stmt_at ks d) inner s n e o p h);
       sound = λ n y h. led_sound ks f k d (omega arith) b (stmt_at ks d) inner (lead_in (slice_get ks n)) n y refl (sym (level_is ks d n (lead_in (slice_get ks n)) refl) ∙ h);
       moves = λ n y h. led_moves ks f k d (omega arith) b (stmt_at ks d) inner n y (led_sound ks f k d (omega arith) b (stmt_at ks d) inner (lead_in (slice_get ks n)) n y refl (sym (level_is ks d n (lead_in (slice_get ks n)) refl) ∙ h));
       far = λ n q m h. led_far ks f k d (omega arith) b (stmt_at ks d) inner (lead_in (slice_get ks n)) n q m (sym (level_is ks d n (lead_in (slice_get ks n)) refl) ∙ h);

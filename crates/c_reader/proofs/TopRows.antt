@@ -187,21 +187,21 @@ params_row_is ps = ap (λ z. commas 0 z ++ sign_mark 0 sg.RightParen ∷ []) (pa
 pub params_exact : (ks : List Kind) → Exact ks 0 0 (λ ps. ps ≢ []) params_row Free Free (params_at ks)
 params_exact ks = record {
   complete = λ ps n e o s h.
-    (let s' = subst (λ z. Spans ks n z e) (params_row_is ps) s in
-    separated_complete ks 0 1 0 Any param Free Free (param_at ks) sg.RightParen (param_exact ks) refl refl (λ a n h. tt) (λ a n h. tt) ps (length ks) n e o (omega (arith, spans_end ks n (row 0 param sg.RightParen ps) e s', length-append (commas 0 (each param ps)) (sign_mark 0 sg.RightParen ∷ []), commas_long ps, ended ps n e s')) (all_any ps) s' ∙ ap (λ z. after z (Ok (ps, e))) (sym (ap (first_deep n) (params_row_is ps))));
+      (let s' = subst (λ z. Spans ks n z e) (params_row_is ps) s in
+      separated_complete ks 0 1 0 Any param Free Free (param_at ks) sg.RightParen (param_exact ks) refl refl (λ a n h. tt) (λ a n h. tt) ps (length ks) n e o (omega (arith, spans_end ks n (row 0 param sg.RightParen ps) e s', length-append (commas 0 (each param ps)) (sign_mark 0 sg.RightParen ∷ []), commas_long ps, ended ps n e s')) (all_any ps) s' ∙ ap (λ z. after z (Ok (ps, e))) (sym (ap (first_deep n) (params_row_is ps))));
   sound = λ n y h.
-    (let r = separated_sound ks 0 1 0 Any param Free Free (param_at ks) sg.RightParen (param_exact ks) refl refl (λ a n h. tt) (λ a n h. tt) (length ks) n y h in
-    record {
-      valid = r.some;
-      spans = subst (λ z. Spans ks n z y.1) (sym (params_row_is y.0)) r.spans;
-      shallow = ap (first_deep n) (params_row_is y.0) ∙ r.shallow;
-      behind = tt;
-    });
+      (let r = separated_sound ks 0 1 0 Any param Free Free (param_at ks) sg.RightParen (param_exact ks) refl refl (λ a n h. tt) (λ a n h. tt) (length ks) n y h in
+      record {
+        valid = r.some;
+        spans = subst (λ z. Spans ks n z y.1) (sym (params_row_is y.0)) r.spans;
+        shallow = ap (first_deep n) (params_row_is y.0) ∙ r.shallow;
+        behind = tt;
+      });
   moves = λ n y h.
-    (let r = separated_sound ks 0 1 0 Any param Free Free (param_at ks) sg.RightParen (param_exact ks) refl refl (λ a n h. tt) (λ a n h. tt) (length ks) n y h in
-    omega (arith, spans_end ks n (row 0 param sg.RightParen y.0) y.1 r.spans));
+      (let r = separated_sound ks 0 1 0 Any param Free Free (param_at ks) sg.RightParen (param_exact ks) refl refl (λ a n h. tt) (λ a n h. tt) (length ks) n y h in
+      omega (arith, spans_end ks n (row 0 param sg.RightParen y.0) y.1 r.spans));
   far = λ n q l h.
-    separated_far ks 0 1 0 Any param Free Free (param_at ks) sg.RightParen (param_exact ks) refl refl (λ a n h. tt) (λ a n h. tt) (length ks) n q l h;
+      separated_far ks 0 1 0 Any param Free Free (param_at ks) sg.RightParen (param_exact ks) refl refl (λ a n h. tt) (λ a n h. tt) (length ks) n q l h;
 }
   where
     ended : (ps : List Param) (n e : ℕ) → Spans ks n (row 0 param sg.RightParen ps) e → e ≤ length ks

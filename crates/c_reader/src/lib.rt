@@ -13,6 +13,8 @@ mod loop_args;
 mod reading;
 mod refusals;
 mod statements;
+#[cfg(test)]
+mod tests;
 mod tops;
 
 pub use reading::{one_tree, read_program};
