@@ -1,0 +1,12 @@
+//! Kernels after their names were resolved: each name is a parameter, cells of the kernel's locals or cells of the
+//! program's constants.
+#![tactic(auto)]
+
+mod expressions;
+mod kernels;
+mod statements;
+
+pub use c_tree::{AssignOp, BinaryOp, MinMax, Name, Pos, UnaryOp};
+pub use expressions::{ElementForm, RExpr};
+pub use kernels::{ConstDecl, RBody, RKernel, Resolved};
+pub use statements::RStmt;
