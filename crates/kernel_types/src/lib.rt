@@ -3,10 +3,13 @@
 #![tactic(auto)]
 
 mod expressions;
+mod faults;
 mod kernels;
 mod statements;
 
 pub use c_tree::{AssignOp, BinaryOp, MinMax, Name, Pos, UnaryOp};
 pub use expressions::{ElementForm, RExpr};
+pub use faults::KernelFault;
 pub use kernels::{ConstDecl, RBody, RKernel, Resolved};
+pub use op_num::Fault;
 pub use statements::RStmt;

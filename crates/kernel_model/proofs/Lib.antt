@@ -1,0 +1,10 @@
+pub mod Stores
+pub mod Locals
+pub mod Reached
+pub mod Paths
+pub mod Tokens
+pub mod Agreement
+pub mod Static
+pub mod Law
+pub mod ReadOnly
+pub mod Copies

@@ -1,0 +1,4 @@
+pub mod Numbers
+pub mod Meaning
+pub mod Obeys
+pub mod Independence

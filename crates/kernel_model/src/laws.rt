@@ -1,0 +1,30 @@
+// The laws of kernels, each as the contract of a function that does nothing.
+
+ghost use Rattle.kernel_model.specs.Independence.{Independence, OthersStay, ReadsStay, ShapeStays, Transport};
+
+/// A law: over two lists of targets with the same aliases, and two stores that agree where OP_READ and OP_RW
+/// arguments reach, a kernel that obeys its modes has the same fault or none, and without one makes the same changes.
+pub fn independence()
+    ensures { Independence }
+{}
+
+/// A law: over copies of the cells that its arguments reach, any kernel has the same fault or none, and leaves copies,
+/// after a fault too.
+pub fn transport()
+    ensures { Transport }
+{}
+
+/// A law: a cell that no argument reaches stays, after a fault too.
+pub fn others_stay()
+    ensures { OthersStay }
+{}
+
+/// A law: a cell that OP_READ arguments alone reach stays under a kernel that obeys its modes, after a fault too.
+pub fn reads_stay()
+    ensures { ReadsStay }
+{}
+
+/// A law: any run keeps how many arrays there are and how long each is, after a fault too.
+pub fn shape_stays()
+    ensures { ShapeStays }
+{}

@@ -1,0 +1,6 @@
+//! What a kernel does to a store of cells, which accesses it may make, and what follows for its elements.
+#![tactic(auto)]
+
+mod laws;
+
+pub use laws::{independence, others_stay, reads_stay, shape_stays, transport};
