@@ -1,0 +1,24 @@
+-- What a frame holds: one array, and for each argument the place of its cells.
+use Rattle.std.specs.Prelude.{ℕ, ◌+◌, ◌<◌, ◌≤◌, List, [], ◌∷◌, length, map, get_or}
+use Rattle.kernel_model.specs.Meaning.{Store, Target}
+use Rattle.views.specs.declared.frame.Place.{Place}
+use Rattle.views.specs.declared.frame.Frame.{Frame}
+
+abbrev pub target_of : Place → Target
+target_of p = record { array = 0; from = p.from; count = p.count }
+
+abbrev pub windows_of : Frame → Store
+windows_of f = f.cells.now ∷ []
+
+abbrev pub targets_of : Frame → List Target
+targets_of f = map target_of f.places.now
+
+abbrev pub no_place : Place
+no_place = record { from = 0; count = 0 }
+
+-- the places stand within the buffer
+abbrev pub PlacesIn : ℕ → List Place → Type 0
+PlacesIn n ps = (a : ℕ) → a < length ps → (get_or ps a no_place).from + (get_or ps a no_place).count ≤ n
+
+abbrev pub FitsIn : Frame → Type 0
+FitsIn f = PlacesIn (length f.cells.now) f.places.now

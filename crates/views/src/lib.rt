@@ -1,0 +1,8 @@
+//! The cells that a kernel's arguments name, in one lent buffer.
+#![tactic(auto)]
+
+mod cutting;
+mod frame;
+
+pub use cutting::cut;
+pub use frame::{Frame, Place};
