@@ -8,3 +8,4 @@ pub mod Static
 pub mod Law
 pub mod ReadOnly
 pub mod Copies
+pub mod Examples
