@@ -9,3 +9,4 @@ pub mod Law
 pub mod ReadOnly
 pub mod Copies
 pub mod Examples
+pub mod Ranges

@@ -1,5 +1,5 @@
 -- What a kernel that obeys its modes does to two stores, and what any kernel keeps.
-use Rattle.std.specs.Prelude.{◌≡◌, ℕ, ℤ, ◌+◌, ◌<◌, List, [], length, Bool, true, ◌&&◌, ◌⊎◌, nat_eq, slice_index_or, FitsSigned}
+use Rattle.std.specs.Prelude.{◌≡◌, ℕ, ℤ, pos, ◌+◌, ◌<◌, List, [], length, Bool, true, ◌&&◌, ◌⊎◌, nat_eq, slice_index_or, FitsSigned}
 use Rattle.std.specs.Int.{w32}
 use Rattle.reductions.specs.Reduction.{Reduction, merged}
 use Rattle.kernel_types.specs.declared.kernels.RKernel.{RKernel}
@@ -133,3 +133,16 @@ Transport =
     → Fits ts s → Fits us t → IsCopy ts us s t
     → SameEnd (kernel_meaning ts consts k s) (kernel_meaning us consts k t)
     × IsCopy ts us (store_after (kernel_meaning ts consts k s)) (store_after (kernel_meaning us consts k t))
+
+-- ---- range
+
+-- each cell of the store holds a number of 32 bits
+abbrev pub InRange : Store → Type 0
+InRange s = (x j : ℕ) → FitsSigned w32 (cell s x j)
+
+-- where all cells and constants hold numbers of 32 bits, all cells do after a run, after a fault too
+abbrev pub RangeStays : Type 0
+RangeStays =
+    (k : RKernel) (ts : List Target) (consts : List ℤ) (s : Store)
+    → IsResolved (length consts) k → ((j : ℕ) → FitsSigned w32 (slice_index_or consts j (pos 0)))
+    → Fits ts s → InRange s → InRange (store_after (kernel_meaning ts consts k s))

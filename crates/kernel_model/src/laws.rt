@@ -1,6 +1,6 @@
 // The laws of kernels, each as the contract of a function that does nothing.
 
-ghost use Rattle.kernel_model.specs.Independence.{Independence, OthersStay, ReadsStay, ShapeStays, Transport};
+ghost use Rattle.kernel_model.specs.Independence.{Independence, OthersStay, RangeStays, ReadsStay, ShapeStays, Transport};
 
 /// A law: over two lists of targets with the same aliases, and two stores that agree where OP_READ and OP_RW
 /// arguments reach, a kernel that obeys its modes has the same fault or none, and without one makes the same changes.
@@ -27,4 +27,9 @@ pub fn reads_stay()
 /// A law: any run keeps how many arrays there are and how long each is, after a fault too.
 pub fn shape_stays()
     ensures { ShapeStays }
+{}
+
+/// A law: where all cells and constants hold numbers of 32 bits, all cells do after a run, after a fault too.
+pub fn range_stays()
+    ensures { RangeStays }
 {}

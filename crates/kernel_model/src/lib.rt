@@ -3,4 +3,4 @@
 
 mod laws;
 
-pub use laws::{independence, others_stay, reads_stay, shape_stays, transport};
+pub use laws::{independence, others_stay, range_stays, reads_stay, shape_stays, transport};
