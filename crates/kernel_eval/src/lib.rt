@@ -3,6 +3,8 @@
 
 mod interpreter;
 mod operators;
+#[cfg(test)]
+mod tests;
 
 pub use interpreter::{run, run_on};
 pub use kernel_types::{Fault, KernelFault};
