@@ -1,0 +1,161 @@
+-- From the ranks that execute each element to those that import it.
+use Rattle.std.proofs.Common.{◌≡◌, ◌↔◌, ℕ, ◌<◌, Bool, true, false, not, ◌&&◌, ◌||◌, nat_eq, List, length, get_or, Vec, refl, sym, ap, ◌∙◌, arith, ⊎_elim, subst}
+use Rattle.std.specs.declared.alloc.Global.{Global}
+use Rattle.std.proofs.lemmas.Bool.{eq-eqb, ne_eqb, eqb-true, and_parts, or_cases, false_from_ne_true, and_from, not_from_false}
+use Rattle.mesh_decl.specs.declared.owners.Owners.{Owners}
+use Rattle.rank_sets.specs.declared.rank_set.RankSet.{RankSet}
+use Rattle.rank_sets.specs.Below.{any_below, listed}
+use Rattle.rank_sets.specs.RankSet.{has_at}
+use Rattle.mesh_decl.specs.Mesh.{MeshValue, set_count, map_count, set_size, map_from, map_to, map_dim, target}
+use Rattle.mesh_decl.specs.Owners.{AreOwners, owner_of, owners_in}
+use Rattle.rank_sets.proofs.Below.{any_witness, any_from, any_agree, listed_agree}
+use Rattle.halo_lists.specs.Halo.{IsInRange, reaches_by, reaches, owns, imports_execute, executes, named_by, named_from, named, imports_nonexecute, imports, is_core}
+use Rattle.halo_lists.specs.Halos.{Marks}
+use Rattle.halo_lists.specs.Sets.{AreExecuting, has_in, sets_in}
+use Rattle.halo_lists.proofs.SetsReading.{sets_read}
+
+without_own : (w h : Bool) → ((w || (not w && h)) && not w) ≡ (not w && h)
+without_own true h = refl
+without_own false true = refl
+without_own false false = refl
+
+-- the ranks that execute it, less its owner
+pub execute_marks : (g : MeshValue) (o : Owners) (s : ℕ) (here sets : List RankSet) (owners : List ℕ) → s < set_count g → length here ≡ set_size g s → owners ≡ owners_in o s → ((x r : ℕ) → x < set_size g s → has_at here x r ≡ executes g o s x r) → length sets ≡ length here → ((x r : ℕ) → x < length here → r < 64 → has_at sets x r ≡ (has_at here x r && not (nat_eq (get_or owners x 0) r))) → Marks (set_size g s) (imports_execute g o s) sets
+unfolding executes imports_execute owns owner_of
+execute_marks g o s here sets owners ls n e h m k = record {
+  count = m ∙ n;
+  has = λ x r l lr. k x r (rw n l) lr ∙ (ap (λ z. z && not (nat_eq (get_or owners x 0) r)) (h x r l) ∙ (ap (λ (z : List ℕ). (nat_eq (get_or (owners_in o s) x 0) r || (not (nat_eq (get_or (owners_in o s) x 0) r) && reaches g o s x r)) && not (nat_eq (get_or z x 0) r)) e ∙ without_own (nat_eq (get_or (owners_in o s) x 0) r) (reaches g o s x r)));
+}
+
+-- what is named by those that execute
+pub named_agree : (g : MeshValue) (o : Owners) (ranks : List (Vec RankSet Global)) (s y r : ℕ) → IsInRange g → AreExecuting g o ranks → named_from g (has_in ranks) s y r ≡ named g o s y r
+unfolding named_from
+named_agree g o ranks s y r ok h = any_agree (map_count g) (λ m. nat_eq (map_to g m) s && named_by g (has_in ranks (map_from g m)) m y r) (λ m. nat_eq (map_to g m) s && named_by g (executes g o (map_from g m)) m y r)
+    (λ m l. ap (λ z. nat_eq (map_to g m) s && z) (any_agree (set_size g (map_from g m)) (λ x. has_in ranks (map_from g m) x r && any_below (map_dim g m) (λ i. nat_eq (target g m x i) y)) (λ x. executes g o (map_from g m) x r && any_below (map_dim g m) (λ i. nat_eq (target g m x i) y))
+    (λ x lx. ap (λ z. z && any_below (map_dim g m) (λ i. nat_eq (target g m x i) y)) (h.has (map_from g m) x r (ok.maps m l).from lx))))
+
+pub nonexecute_marks : (g : MeshValue) (o : Owners) (ranks : List (Vec RankSet Global)) (s : ℕ) (naming here sets : List RankSet) → IsInRange g → AreExecuting g o ranks → length naming ≡ set_size g s → ((y r : ℕ) → has_at naming y r ≡ named_from g (has_in ranks) s y r) → ((x r : ℕ) → x < set_size g s → has_at here x r ≡ executes g o s x r) → length sets ≡ length naming → ((x r : ℕ) → x < length naming → r < 64 → has_at sets x r ≡ (has_at naming x r && not (has_at here x r))) → Marks (set_size g s) (imports_nonexecute g o s) sets
+unfolding imports_nonexecute
+nonexecute_marks g o ranks s naming here sets ok ex n h k m q = record {
+  count = m ∙ n;
+  has = λ x r l lr. q x r (rw n l) lr ∙ (ap (λ z. z && not (has_at here x r)) (h x r ∙ named_agree g o ranks s x r ok ex) ∙ ap (λ z. named g o s x r && not z) (k x r l));
+}
+
+pub either_marks : (g : MeshValue) (o : Owners) (s : ℕ) (some others sets : List RankSet) → Marks (set_size g s) (imports_execute g o s) some → Marks (set_size g s) (imports_nonexecute g o s) others → length sets ≡ length some → ((x r : ℕ) → x < length some → has_at sets x r ≡ (has_at some x r || has_at others x r)) → Marks (set_size g s) (imports g o s) sets
+unfolding imports
+either_marks g o s some others sets a b m h = record {
+  count = m ∙ a.count;
+  has = λ x r l lr. h x r (rw a.count l) ∙ (ap (λ z. z || has_at others x r) (a.has x r l lr) ∙ ap (λ z. imports_execute g o s x r || z) (b.has x r l lr));
+}
+
+-- an owner is a rank
+owns_below : (g : MeshValue) (o : Owners) (s x r : ℕ) → AreOwners g o → s < set_count g → x < set_size g s → nat_eq (owner_of o s x) r ≡ true → r < o.ranks
+owns_below g o s x r ok ls lx t = let e : owner_of o s x ≡ r = eqb-true (owner_of o s x) r t in subst (λ z. z < o.ranks) e (ok.below s x ls lx)
+
+reaches_below : (g : MeshValue) (o : Owners) (s x r : ℕ) → IsInRange g → AreOwners g o → x < set_size g s → reaches g o s x r ≡ true → r < o.ranks
+unfolding reaches
+reaches_below g o s x r ok own lx t =
+    let m = any_witness (map_count g) (λ m. nat_eq (map_from g m) s && reaches_by g o m x r) t in
+    let b = and_parts (nat_eq (map_from g m.0) s) (reaches_by g o m.0 x r) m.2 in
+    let i = any_witness (map_dim g m.0) (λ i. nat_eq (owner_of o (map_to g m.0) (target g m.0 x i)) r) b.1 in
+    let f : s ≡ map_from g m.0 = sym (eqb-true (map_from g m.0) s b.0) in
+    let lx' : x < set_size g (map_from g m.0) = subst (λ z. x < set_size g z) f lx in
+    owns_below g o (map_to g m.0) (target g m.0 x i.0) r own (ok.maps m.0 m.1).to ((ok.maps m.0 m.1).within x i.0 lx' i.1) i.2
+
+pub execute_below : (g : MeshValue) (o : Owners) (s x r : ℕ) → IsInRange g → AreOwners g o → x < set_size g s → imports_execute g o s x r ≡ true → r < o.ranks
+unfolding imports_execute
+execute_below g o s x r ok own lx t = reaches_below g o s x r ok own lx (and_parts (not (owns o s x r)) (reaches g o s x r) t).1
+
+executes_below : (g : MeshValue) (o : Owners) (s x r : ℕ) → IsInRange g → AreOwners g o → s < set_count g → x < set_size g s → executes g o s x r ≡ true → r < o.ranks
+unfolding executes owns
+executes_below g o s x r ok own ls lx t = ⊎_elim
+    (λ (e : nat_eq (owner_of o s x) r ≡ true). owns_below g o s x r own ls lx e)
+    (λ (e : imports_execute g o s x r ≡ true). execute_below g o s x r ok own lx e)
+    (or_cases (nat_eq (owner_of o s x) r) (imports_execute g o s x r) t)
+
+pub nonexecute_below : (g : MeshValue) (o : Owners) (s y r : ℕ) → IsInRange g → AreOwners g o → imports_nonexecute g o s y r ≡ true → r < o.ranks
+unfolding imports_nonexecute named_from
+nonexecute_below g o s y r ok own t =
+    let n = (and_parts (named g o s y r) (not (executes g o s y r)) t).0 in
+    let m = any_witness (map_count g) (λ m. nat_eq (map_to g m) s && named_by g (executes g o (map_from g m)) m y r) n in
+    let b = and_parts (nat_eq (map_to g m.0) s) (named_by g (executes g o (map_from g m.0)) m.0 y r) m.2 in
+    let x = any_witness (set_size g (map_from g m.0)) (λ x. executes g o (map_from g m.0) x r && any_below (map_dim g m.0) (λ i. nat_eq (target g m.0 x i) y)) b.1 in
+    let e = and_parts (executes g o (map_from g m.0) x.0 r) (any_below (map_dim g m.0) (λ i. nat_eq (target g m.0 x.0 i) y)) x.2 in
+    executes_below g o (map_from g m.0) x.0 r ok own (ok.maps m.0 m.1).from x.1 e.0
+
+pub imports_below : (g : MeshValue) (o : Owners) (s x r : ℕ) → IsInRange g → AreOwners g o → x < set_size g s → imports g o s x r ≡ true → r < o.ranks
+unfolding imports
+imports_below g o s x r ok own lx t = ⊎_elim
+    (λ (e : imports_execute g o s x r ≡ true). execute_below g o s x r ok own lx e)
+    (λ (e : imports_nonexecute g o s x r ≡ true). nonexecute_below g o s x r ok own e)
+    (or_cases (imports_execute g o s x r) (imports_nonexecute g o s x r) t)
+
+-- core exactly where no rank imports it to execute
+same_Bool : (a b : Bool) → (a ≡ true → b ≡ true) → (b ≡ true → a ≡ true) → a ≡ b
+same_Bool true b f k = sym (f refl)
+same_Bool false b f k = sym (false_from_ne_true b (λ e. let z : false ≡ true = k e in cc))
+
+not-none : (b : Bool) → not b ≡ true → b ≡ true → ⊥
+not-none true h k = let z : false ≡ true = h in cc
+not-none false h k = let z : false ≡ true = k in cc
+
+pub core_iff : (g : MeshValue) (o : Owners) (s x : ℕ) → IsInRange g → AreOwners g o → s < set_count g → x < set_size g s → (b : Bool) → (b ≡ true) ↔ ((r : ℕ) → r < 64 → imports_execute g o s x r ≡ false) → b ≡ is_core g o s x
+unfolding is_core imports_execute owns reaches
+core_iff g o s x ok own ls lx b iff =
+    let foreign : ℕ → Bool = λ m. nat_eq (map_from g m) s && any_below (map_dim g m) (λ i. not (nat_eq (owner_of o (map_to g m) (target g m x i)) (owner_of o s x))) in
+    same_Bool b (not (any_below (map_count g) foreign))
+    (λ t. not_from_false (any_below (map_count g) foreign) (false_from_ne_true (any_below (map_count g) foreign) (λ a.
+    let m = any_witness (map_count g) foreign a in
+    let c = and_parts (nat_eq (map_from g m.0) s) (any_below (map_dim g m.0) (λ i. not (nat_eq (owner_of o (map_to g m.0) (target g m.0 x i)) (owner_of o s x)))) m.2 in
+    let i = any_witness (map_dim g m.0) (λ i. not (nat_eq (owner_of o (map_to g m.0) (target g m.0 x i)) (owner_of o s x))) c.1 in
+    let r : ℕ = owner_of o (map_to g m.0) (target g m.0 x i.0) in
+    let f : s ≡ map_from g m.0 = sym (eqb-true (map_from g m.0) s c.0) in
+    let lx' : x < set_size g (map_from g m.0) = subst (λ z. x < set_size g z) f lx in
+    let lr : r < 64 = omega (arith, own.few_ranks, own.below (map_to g m.0) (target g m.0 x i.0) (ok.maps m.0 m.1).to ((ok.maps m.0 m.1).within x i.0 lx' i.1)) in
+    let no : not (nat_eq (owner_of o s x) r) ≡ true = not_from_false (nat_eq (owner_of o s x) r) (ne_eqb (owner_of o s x) r (λ q. not-none (nat_eq r (owner_of o s x)) i.2 (eq-eqb r (owner_of o s x) (sym q)))) in
+    let by : reaches_by g o m.0 x r ≡ true = any_from (map_dim g m.0) (λ j. nat_eq (owner_of o (map_to g m.0) (target g m.0 x j)) r) i.0 i.1 (eq-eqb r r refl) in
+    let re : reaches g o s x r ≡ true = any_from (map_count g) (λ k. nat_eq (map_from g k) s && reaches_by g o k x r) m.0 m.1 (and_from (nat_eq (map_from g m.0) s) (reaches_by g o m.0 x r) c.0 by) in
+    let yes = and_from (not (nat_eq (owner_of o s x) r)) (reaches g o s x r) no re in
+    let z : true ≡ false = sym yes ∙ iff.0 t r lr in cc)))
+    (λ t. iff.1 (λ r lr. false_from_ne_true (not (nat_eq (owner_of o s x) r) && reaches g o s x r) (λ a.
+    let p = and_parts (not (nat_eq (owner_of o s x) r)) (reaches g o s x r) a in
+    let m = any_witness (map_count g) (λ k. nat_eq (map_from g k) s && reaches_by g o k x r) p.1 in
+    let c = and_parts (nat_eq (map_from g m.0) s) (reaches_by g o m.0 x r) m.2 in
+    let i = any_witness (map_dim g m.0) (λ j. nat_eq (owner_of o (map_to g m.0) (target g m.0 x j)) r) c.1 in
+    let q : owner_of o (map_to g m.0) (target g m.0 x i.0) ≡ r = eqb-true (owner_of o (map_to g m.0) (target g m.0 x i.0)) r i.2 in
+    let n : not (nat_eq (owner_of o (map_to g m.0) (target g m.0 x i.0)) (owner_of o s x)) ≡ true = not_from_false (nat_eq (owner_of o (map_to g m.0) (target g m.0 x i.0)) (owner_of o s x)) (ne_eqb (owner_of o (map_to g m.0) (target g m.0 x i.0)) (owner_of o s x) (λ e. not-none (nat_eq (owner_of o s x) r) p.0 (eq-eqb (owner_of o s x) r (sym e ∙ q)))) in
+    let w = any_from (map_dim g m.0) (λ j. not (nat_eq (owner_of o (map_to g m.0) (target g m.0 x j)) (owner_of o s x))) i.0 i.1 n in
+    not-none (any_below (map_count g) foreign) t (any_from (map_count g) foreign m.0 m.1 (and_from (nat_eq (map_from g m.0) s) (any_below (map_dim g m.0) (λ j. not (nat_eq (owner_of o (map_to g m.0) (target g m.0 x j)) (owner_of o s x)))) c.0 w)))))
+
+-- one set's part of the ranks that execute
+pub here_is : (g : MeshValue) (o : Owners) (ranks : List (Vec RankSet Global)) (s : ℕ) (v : Vec RankSet Global) (now : List RankSet) → AreExecuting g o ranks → s < set_count g → v ≡ get_or ranks s v → now ≡ v.items → now ≡ sets_in ranks s
+here_is g o ranks s v now ex l e q = q ∙ sets_read ranks s v (rw ex.sets.count l) e
+
+pub here_count : (g : MeshValue) (o : Owners) (ranks : List (Vec RankSet Global)) (s : ℕ) (v : Vec RankSet Global) (now : List RankSet) → AreExecuting g o ranks → s < set_count g → v ≡ get_or ranks s v → now ≡ v.items → length now ≡ set_size g s
+here_count g o ranks s v now ex l e q = ap (length {A = RankSet}) (here_is g o ranks s v now ex l e q) ∙ ex.sets.lengths s l
+
+pub here_has : (g : MeshValue) (o : Owners) (ranks : List (Vec RankSet Global)) (s : ℕ) (v : Vec RankSet Global) (now : List RankSet) → AreExecuting g o ranks → s < set_count g → v ≡ get_or ranks s v → now ≡ v.items → (x r : ℕ) → x < set_size g s → has_at now x r ≡ executes g o s x r
+here_has g o ranks s v now ex l e q x r lx = ap (λ (z : List RankSet). has_at z x r) (here_is g o ranks s v now ex l e q) ∙ ex.has s x r l lx
+
+pub owners_count : (g : MeshValue) (o : Owners) (s : ℕ) (now : List ℕ) → AreOwners g o → s < set_count g → now ≡ owners_in o s → length now ≡ set_size g s
+owners_count g o s now ok l e = ap (length {A = ℕ}) e ∙ ok.lengths s l
+
+pub owners_below : (g : MeshValue) (o : Owners) (s : ℕ) (now : List ℕ) → AreOwners g o → s < set_count g → now ≡ owners_in o s → (x : ℕ) → x < length now → get_or now x 0 < o.ranks
+unfolding owner_of
+owners_below g o s now ok l e x lx = let n : length now ≡ set_size g s = owners_count g o s now ok l e in rw e (ok.below s x l (omega arith))
+
+pub same_marks : (n : ℕ) (p : ℕ → ℕ → Bool) (now sets : List RankSet) → now ≡ sets → Marks n p sets → Marks n p now
+same_marks n p now sets e m = record { count = ap (length {A = RankSet}) e ∙ m.count; has = λ x r l lr. ap (λ (z : List RankSet). has_at z x r) e ∙ m.has x r l lr }
+
+-- a bound on the ranks that stand in marks
+pub marks_below : (n ranks : ℕ) (p : ℕ → ℕ → Bool) (sets : List RankSet) → Marks n p sets → ((x r : ℕ) → x < n → p x r ≡ true → r < ranks) → (x r : ℕ) → x < length sets → r < 64 → has_at sets x r ≡ true → r < ranks
+marks_below n ranks p sets m h x r l lr t = let lx : x < n = rw (← m.count) l in h x r lx (sym (m.has x r lx lr) ∙ t)
+
+pub listed_marks : (n : ℕ) (p : ℕ → ℕ → Bool) (sets : List RankSet) → Marks n p sets → (r : ℕ) → r < 64 → listed (length sets) (λ x. has_at sets x r) ≡ listed n (λ x. p x r)
+listed_marks n p sets m r lr = ap (λ z. listed z (λ x. has_at sets x r)) m.count ∙ listed_agree n (λ x. has_at sets x r) (λ x. p x r) (λ x l. m.has x r l lr)
+
+pub listed_exports : (o : Owners) (s n : ℕ) (p : ℕ → ℕ → Bool) (sets : List RankSet) (owners : List ℕ) → owners ≡ owners_in o s → Marks n p sets → (a r : ℕ) → r < 64 → listed (length sets) (λ x. has_at sets x r && nat_eq (get_or owners x 0) a) ≡ listed n (λ x. p x r && owns o s x a)
+unfolding owns owner_of
+listed_exports o s n p sets owners e m a r lr =
+    ap (λ z. listed z (λ x. has_at sets x r && nat_eq (get_or owners x 0) a)) m.count
+    ∙ listed_agree n (λ x. has_at sets x r && nat_eq (get_or owners x 0) a) (λ x. p x r && nat_eq (get_or (owners_in o s) x 0) a) (λ x l. ap (λ z. z && nat_eq (get_or owners x 0) a) (m.has x r l lr) ∙ ap (λ (z : List ℕ). p x r && nat_eq (get_or z x 0) a) e)

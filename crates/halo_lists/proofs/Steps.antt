@@ -1,0 +1,76 @@
+-- Steps of the loops that collect marks.
+use Rattle.std.proofs.Common.{◌≡◌, ℕ, ◌+◌, ◌<◌, Bool, true, false, ◌&&◌, ◌||◌, nat_eq, List, [], ◌∷◌, ◌++◌, length, get_or, set, refl, sym, ap, ◌∙◌, arith, ⊎_elim, subst, ◌↔◌}
+use Rattle.std.proofs.lemmas.Bool.{cases_eq, eq-eqb, ne_eqb}
+use Rattle.std.proofs.lemmas.List.{get_or_push, get_or_append_left}
+use Rattle.rank_sets.specs.Below.{any_below}
+use Rattle.rank_sets.specs.RankSet.{has, has_at}
+use Rattle.rank_sets.specs.declared.rank_set.RankSet.{RankSet}
+use Rattle.rank_sets.proofs.Below.{any_more}
+use Rattle.rank_sets.proofs.Bools.{and_false, and_true, or_false}
+use Rattle.rank_sets.proofs.Rows.{has_at_set_same, has_at_set_other, has_at_push_left, has_at_push}
+
+-- one more way to have a mark
+or_and_more : (b h a e : Bool) → ((b || (h && a)) || (h && e)) ≡ (b || (h && (a || e)))
+or_and_more true true a e = refl
+or_and_more true false a e = refl
+or_and_more false true a e = refl
+or_and_more false false a e = refl
+
+pub or_assoc : (a b c : Bool) → ((a || b) || c) ≡ (a || (b || c))
+or_assoc true b c = refl
+or_assoc false b c = refl
+
+-- a mark at target t: the union there, the rest as it was
+pub union_at : (now : List RankSet) (t : ℕ) (s ranks : RankSet) → t < length now → ((r : ℕ) → has s r ≡ (has_at now t r || has ranks r)) → (y r : ℕ) → has_at (set now t s) y r ≡ (has_at now y r || (has ranks r && nat_eq t y))
+union_at now t s ranks l h y r = ⊎_elim
+    (λ (q : y ≡ t).
+    rw (q, eq-eqb t t refl, and_true (has ranks r)) (has_at_set_same now t s l r ∙ h r))
+    (λ (n : y ≡ t → ⊥).
+    let m : t ≡ y → ⊥ = λ q. n (sym q) in
+    rw (ne_eqb t y m, and_false (has ranks r), or_false (has_at now y r)) (has_at_set_other now t y s n r))
+    (cases_eq y t)
+
+pub name_more : (b : Bool) (now : List RankSet) (t : ℕ) (s ranks : RankSet) (n : ℕ) (f : ℕ → ℕ) → t < length now → ((r : ℕ) → has s r ≡ (has_at now t r || has ranks r)) → t ≡ f n → (y r : ℕ) → has_at now y r ≡ (b || (has ranks r && any_below n (λ i. nat_eq (f i) y))) → has_at (set now t s) y r ≡ (b || (has ranks r && any_below (n + 1) (λ i. nat_eq (f i) y)))
+name_more b now t s ranks n f l h q y r k =
+    union_at now t s ranks l h y r
+    ∙ (ap (λ z. z || (has ranks r && nat_eq t y)) k
+    ∙ (or_and_more b (has ranks r) (any_below n (λ i. nat_eq (f i) y)) (nat_eq t y)
+    ∙ ap (λ z. b || (has ranks r && z)) (ap (λ z. any_below n (λ i. nat_eq (f i) y) || nat_eq z y) q ∙ sym (any_more n (λ i. nat_eq (f i) y)))))
+
+-- one more element whose marks were added
+pub any_step : (b old now : Bool) (n : ℕ) (p : ℕ → Bool) → old ≡ (b || any_below n p) → now ≡ (old || p n) → now ≡ (b || any_below (n + 1) p)
+any_step b old now n p h k = k ∙ (ap (λ z. z || p n) h ∙ (or_assoc b (any_below n p) (p n) ∙ ap (λ z. b || z) (sym (any_more n p))))
+
+-- one more map, whose marks were added if it is one of those meant
+pub map_step_yes : (old now : Bool) (n : ℕ) (e p : ℕ → Bool) → old ≡ any_below n (λ m. e m && p m) → e n ≡ true → now ≡ (old || p n) → now ≡ any_below (n + 1) (λ m. e m && p m)
+map_step_yes old now n e p h t k = k ∙ (ap (λ z. z || p n) h ∙ (ap (λ z. any_below n (λ m. e m && p m) || (z && p n)) (sym t) ∙ sym (any_more n (λ m. e m && p m))))
+
+pub map_step_no : (old : Bool) (n : ℕ) (e p : ℕ → Bool) → old ≡ any_below n (λ m. e m && p m) → e n ≡ false → old ≡ any_below (n + 1) (λ m. e m && p m)
+map_step_no old n e p h t = h ∙ (sym (or_false (any_below n (λ m. e m && p m))) ∙ (ap (λ z. any_below n (λ m. e m && p m) || (z && p n)) (sym t) ∙ sym (any_more n (λ m. e m && p m))))
+
+-- one more set pushed
+pub has_more : (xs : List RankSet) (s : RankSet) (n : ℕ) (p : ℕ → ℕ → Bool) → length xs ≡ n → ((x r : ℕ) → x < n → has_at xs x r ≡ p x r) → ((r : ℕ) → has s r ≡ p n r) → (x r : ℕ) → x < n + 1 → has_at (xs ++ s ∷ []) x r ≡ p x r
+has_more xs s n p e h k x r l = ⊎_elim
+    (λ (q : x ≡ n). rw q (has_at_push xs s n e r ∙ k r))
+    (λ (m : x ≡ n → ⊥). let lx : x < n = omega arith in has_at_push_left xs s x (rw e lx) r ∙ h x r lx)
+    (cases_eq x n)
+
+-- one more set pushed, for ranks below 64
+pub has_more_below : (xs : List RankSet) (s : RankSet) (n : ℕ) (p : ℕ → ℕ → Bool) → length xs ≡ n → ((x r : ℕ) → x < n → r < 64 → has_at xs x r ≡ p x r) → ((r : ℕ) → r < 64 → has s r ≡ p n r) → (x r : ℕ) → x < n + 1 → r < 64 → has_at (xs ++ s ∷ []) x r ≡ p x r
+has_more_below xs s n p e h k x r l lr = ⊎_elim
+    (λ (q : x ≡ n). rw q (has_at_push xs s n e r ∙ k r lr))
+    (λ (m : x ≡ n → ⊥). let lx : x < n = omega arith in has_at_push_left xs s x (rw e lx) r ∙ h x r lx lr)
+    (cases_eq x n)
+
+-- one more answer pushed
+pub answer_more : (xs : List Bool) (b : Bool) (n : ℕ) (P : ℕ → Type 0) → length xs ≡ n → ((x : ℕ) → x < n → (get_or xs x true ≡ true) ↔ P x) → (b ≡ true) ↔ P n → (x : ℕ) → x < n + 1 → (get_or (xs ++ b ∷ []) x true ≡ true) ↔ P x
+answer_more xs b n P e h k x l = ⊎_elim
+    (λ (q : x ≡ n). subst (λ z. (get_or (xs ++ b ∷ []) z true ≡ true) ↔ P z) (sym q) (rw (get_or_push xs b true n e) k))
+    (λ (m : x ≡ n → ⊥). let lx : x < n = omega arith in rw (get_or_append_left xs (b ∷ []) true x (rw e lx)) (h x lx))
+    (cases_eq x n)
+
+pub eqb_comm : (a b : ℕ) → nat_eq a b ≡ nat_eq b a
+eqb_comm a b = ⊎_elim
+    (λ (e : a ≡ b). eq-eqb a b e ∙ sym (eq-eqb b a (sym e)))
+    (λ (n : a ≡ b → ⊥). ne_eqb a b n ∙ sym (ne_eqb b a (λ e. n (sym e))))
+    (cases_eq a b)

@@ -1,0 +1,125 @@
+//! The halos of each rank: which elements it imports to execute, which it imports to read, which it exports, and which
+//! of its own need no other rank.
+//!
+//! These are the import execute and import non-execute halos and the core elements of OP2. `specs/Halo.antt` states
+//! each as a condition on owners and targets; the lists hold exactly the elements that meet it.
+#![tactic(auto)]
+
+ghost use Rattle.std.specs.Prelude.{◌≡◌, ℕ, ◌<◌, IfOk};
+ghost use Rattle.mesh_decl.specs.Mesh.{set_count, set_size};
+ghost use Rattle.mesh_decl.specs.Owners.{AreOwners};
+ghost use Rattle.halo_lists.specs.Halo.{IsInRange};
+ghost use Rattle.halo_lists.specs.Sets.{AreExecuting};
+ghost use Rattle.halo_lists.specs.Halos.{IsSetHalo, AreHalos, AreImports};
+
+mod exports;
+mod fit;
+mod masks;
+mod named;
+mod split;
+#[cfg(test)]
+mod tests;
+mod types;
+
+use exports::exports_by_owner;
+pub use fit::owners_fit;
+use masks::executing_all;
+use mesh_decl::{Mesh, Owners};
+use named::naming_all;
+use op_num::OutOfMemory;
+use rank_sets::{RankSet, places_by_rank};
+use split::{core_places, import_either, import_execute, import_nonexecute};
+use std::alloc::Global;
+use types::ImportSets;
+pub use types::{Halos, SetHalo};
+
+// What is in range in every mesh.
+fn in_range(mesh: &Mesh)
+    ensures { IsInRange mesh.now }
+{
+    let _ = (mesh.set_count(), mesh.map_count());
+}
+
+// For each element of each set, the ranks that execute it.
+fn executing_sets(
+    alloc: Global,
+    mesh: &Mesh,
+    owners: &Owners,
+) -> Result<Vec<Vec<RankSet>>, OutOfMemory>
+    requires mesh { IsInRange mesh.now }
+    requires owners { AreOwners mesh.now owners.now }
+    ensures { IfOk result (λ v. AreExecuting mesh.now owners.now v.items) }
+{
+    let mut executing = Vec::new(alloc);
+    for set in 0..mesh.set_count() {
+        executing.push(executing_all(alloc, mesh, owners, set)?)?;
+    }
+    Ok(executing)
+}
+
+// For each element of a set, the ranks that import it.
+fn import_sets(
+    alloc: Global,
+    mesh: &Mesh,
+    owners: &Owners,
+    executing: &[Vec<RankSet>],
+    set: u32,
+) -> Result<ImportSets, OutOfMemory>
+    requires mesh { IsInRange mesh.now }
+    requires owners { AreOwners mesh.now owners.now }
+    requires executing { AreExecuting mesh.now owners.now executing.now }
+    requires set { set < set_count mesh.now }
+    ensures { IfOk result (λ i. AreImports mesh.now owners.now set i) }
+{
+    let here = &executing[set as usize];
+    let naming = naming_all(alloc, mesh, executing, set)?;
+    let exec = import_execute(alloc, here, owners.of_set(set))?;
+    let nonexec = import_nonexecute(alloc, &naming, here)?;
+    let either = import_either(alloc, &exec, &nonexec)?;
+    Ok(ImportSets {
+        exec,
+        nonexec,
+        either,
+    })
+}
+
+// The halos of one set, from the ranks that import each of its elements.
+fn set_halo(
+    alloc: Global,
+    mesh: &Mesh,
+    owners: &Owners,
+    imports: &ImportSets,
+    set: u32,
+) -> Result<SetHalo, OutOfMemory>
+    requires mesh { IsInRange mesh.now }
+    requires owners { AreOwners mesh.now owners.now }
+    requires imports { AreImports mesh.now owners.now set imports.now }
+    requires set { set < set_count mesh.now }
+    ensures { IfOk result (λ h. IsSetHalo mesh.now owners.now set h) }
+{
+    Ok(SetHalo {
+        exec: places_by_rank(alloc, &imports.exec, owners.ranks)?,
+        nonexec: places_by_rank(alloc, &imports.nonexec, owners.ranks)?,
+        exports: exports_by_owner(alloc, &imports.either, owners.of_set(set), owners.ranks)?,
+        core: core_places(alloc, &imports.exec)?,
+    })
+}
+
+/// The halos of each set of a mesh, under `owners` that fit it. It takes time linear in the elements, the maps' targets
+/// and what is imported, and fails only for want of memory.
+pub fn halos(alloc: Global, mesh: &Mesh, owners: &Owners) -> Result<Halos, OutOfMemory>
+    requires owners { AreOwners mesh.now owners.now }
+    ensures { IfOk result (λ h. AreHalos mesh.now owners.now h) }
+{
+    in_range(mesh);
+    let executing = executing_sets(alloc, mesh, owners)?;
+    let mut sets = Vec::new(alloc);
+    for set in 0..mesh.set_count() {
+        let imports = import_sets(alloc, mesh, owners, &executing, set)?;
+        sets.push(set_halo(alloc, mesh, owners, &imports, set)?)?;
+    }
+    Ok(Halos {
+        ranks: owners.ranks,
+        sets,
+    })
+}

@@ -1,0 +1,5 @@
+pub mod Bools
+pub mod Bits
+pub mod Below
+pub mod Rows
+pub mod Appending
