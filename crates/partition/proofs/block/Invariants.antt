@@ -1,0 +1,11 @@
+use Rattle.std.proofs.Common.{◌≡◌, ◌<◌, ℕ, [], length, get_or}
+use Rattle.mesh_decl.specs.Mesh.{set_size}
+use Rattle.partition.specs.Block.{InBlock}
+use Rattle.partition.proofs.block.Given as goal
+
+abbrev pub invariant-loop-set : goal.invariant-loop-set
+invariant-loop-set l = (length l.sets.items ≡ l.set)
+    × ((s : ℕ) → s < l.set → length (get_or l.sets.items s []) ≡ set_size l.mesh s)
+    × ((s : ℕ) → s < l.set → (x : ℕ) → x < set_size l.mesh s → InBlock (set_size l.mesh s) l.ranks (get_or (get_or l.sets.items s []) x 0) x)
+    × ((s : ℕ) → s < l.set → (x : ℕ) → x < set_size l.mesh s → get_or (get_or l.sets.items s []) x 0 < l.ranks)
+    × ((s : ℕ) → s < l.set → (x : ℕ) → x < set_size l.mesh s → (i : ℕ) → InBlock (set_size l.mesh s) l.ranks i x → i ≡ get_or (get_or l.sets.items s []) x 0)

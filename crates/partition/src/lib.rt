@@ -1,0 +1,54 @@
+//! Owners of the elements of a mesh by rule.
+#![tactic(auto)]
+
+ghost use Rattle.std.specs.Prelude.{◌≡◌, ℕ, ◌<◌, ◌≤◌, IfOk, length, slice_index, nat_eq};
+ghost use Rattle.rank_sets.specs.Below.{count_below};
+ghost use Rattle.partition.specs.Block.{InBlock, share, AreBlocks};
+
+#[cfg(test)]
+mod tests;
+
+use mesh_decl::{Mesh, Numbers, Owners};
+use op_num::OutOfMemory;
+use std::alloc::Global;
+
+// The rank in whose block an element lies.
+fn block_owner(size: u32, ranks: u32, element: u32) -> u32
+    requires ranks { 0 < ranks }
+    requires element { element < size }
+    ensures block { InBlock size ranks result element }
+    ensures within { result < ranks }
+    ensures only { (i : ℕ) → InBlock size ranks i element → i ≡ result }
+{
+    (((element as u64 + 1) * ranks as u64 - 1) / size as u64) as u32
+}
+
+// The owners of one set's elements by blocks.
+fn block_set(alloc: Global, size: u32, ranks: u32) -> Result<Vec<u32>, OutOfMemory>
+    requires ranks { 0 < ranks }
+    ensures length { IfOk result (λ v. length v.items ≡ size) }
+    ensures block { IfOk result (λ v. (x : ℕ) → x < size → InBlock size ranks (slice_index v.items x) x) }
+    ensures within { IfOk result (λ v. (x : ℕ) → x < size → slice_index v.items x < ranks) }
+    ensures only { IfOk result (λ v. (x : ℕ) → x < size → (i : ℕ) → InBlock size ranks i x → i ≡ slice_index v.items x) }
+{
+    let mut owners = Vec::with_capacity(alloc, size as usize)?;
+    for element in 0..size {
+        owners.push(block_owner(size, ranks, element))?;
+    }
+    Ok(owners)
+}
+
+/// Gives each set to the ranks in blocks: of n elements, rank i has those from floor(i n / ranks) up to, not including,
+/// floor((i + 1) n / ranks). There are 1 to 64 ranks. It takes time linear in the elements, and fails only for want of
+/// memory.
+pub fn block(alloc: Global, mesh: &Mesh, ranks: u32) -> Result<Owners, OutOfMemory>
+    requires some { 0 < ranks }
+    requires few { ranks ≤ 64 }
+    ensures { IfOk result (AreBlocks mesh.now ranks) }
+{
+    let mut sets = Vec::new(alloc);
+    for set in 0..mesh.set_count() {
+        sets.push(Numbers::new(block_set(alloc, mesh.set_size(set), ranks)?))?;
+    }
+    Ok(Owners { ranks, sets })
+}
