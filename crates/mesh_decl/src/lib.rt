@@ -16,8 +16,8 @@ pub use access::{Access, Via};
 pub use decl::{DatDecl, MapDecl, MapRefusal, SetDecl};
 pub use mesh::Mesh;
 pub use mesh_text::{
-    Entries, Entry, Form, MESH_BYTES, MESH_VALUES, MeshRefusal, Values, read_can_be_written,
-    read_mesh, write_mesh, written_is_spelled,
+    Entries, Entry, Form, MESH_BYTES, MESH_VALUES, MeshRefusal, Values, one_spelling,
+    read_can_be_written, read_mesh, write_mesh, written_is_spelled,
 };
 pub use numbers::Numbers;
 pub use owners::{Owners, Perms};

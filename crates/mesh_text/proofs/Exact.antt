@@ -1,8 +1,8 @@
 -- Reading is exact.
-use Rattle.std.proofs.Common.{◌≡◌, ℕ, ◌≤◌, ◌⊎◌, List, [], ◌∷◌, ◌++◌, map, Result, Ok, Err, IfOk, IfErr, refl, sym, subst}
+use Rattle.std.proofs.Common.{◌≡◌, ℕ, ◌≤◌, ◌⊎◌, List, [], ◌∷◌, ◌++◌, map, Result, Ok, Err, IfOk, IfErr, refl, sym, subst, ◌∙◌}
 use Rattle.std.proofs.lemmas.List.{map_push}
 use Rattle.texts.specs.Cut.{Word, text_of, words, texts, uncut}
-use Rattle.texts.specs.Automaton.{last_line, Answers, IsGiven, IsRefused}
+use Rattle.texts.specs.Automaton.{last_line, run, Answers, IsGiven, IsRefused}
 use Rattle.texts.proofs.Exact as exact
 use Rattle.mesh_text.specs.declared.entry.MeshRefusal.{MeshRefusal}
 use Rattle.mesh_text.specs.declared.entry.MeshRefusal.TheVariants.{OutOfMemory}
@@ -36,6 +36,14 @@ end_spells bytes es s = ((s.0, s.1, s.2, s.3.0), s.3.1)
 
 spells_end : (bytes : List ℕ) (es : List Named) → Spells bytes es → total es ≤ MESH_VALUES → Stands (texts bytes) (End es)
 spells_end bytes es s r = (s.0, s.1, s.2, (s.3, r))
+
+-- the run over a text that spells entries ends with them
+spelled-run : (bytes : List ℕ) (es : List Named) → Spells bytes es → total es ≤ MESH_VALUES → run step finish Magic 1 (words 1 bytes) ≡ Ok es
+spelled-run bytes es s t = exact.whole_run step finish Magic Fronts refl fronts_on stands_through (words 1 bytes) (End es) (spells_end bytes es s t)
+
+-- so a text spells one list of entries
+pub one-spelling : (bytes : List ℕ) (a b : List Named) → Spells bytes a → Spells bytes b → total a ≤ MESH_VALUES → total b ≤ MESH_VALUES → a ≡ b
+one-spelling bytes a b s t few_a few_b = let e = sym (spelled-run bytes a s few_a) ∙ spelled-run bytes b t few_b in cc
 
 -- the four clauses
 module _ {M : Type 0} (bytes : List ℕ) (result : Result M MeshRefusal) (view : M → List Named) (answers : Answers OutOfMemory result view (run_from Magic (uncut bytes))) where

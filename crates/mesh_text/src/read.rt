@@ -36,6 +36,11 @@ pub fn read_mesh(alloc: Global, bytes: &[u8]) -> Result<Entries, MeshRefusal>
     read(alloc, bytes)
 }
 
+/// A law: a text spells at most one list of entries of at most [`MESH_VALUES`] values.
+pub fn one_spelling()
+    ensures { (bytes : List ℕ) (a b : List Named) → Spells bytes a → Spells bytes b → total_of a ≤ MESH_VALUES → total_of b ≤ MESH_VALUES → a ≡ b }
+{}
+
 fn read(alloc: Global, bytes: &[u8]) -> Result<Entries, MeshRefusal>
     requires { length bytes.now + 1 < 2 ^ 32 }
     ensures { Answers Refusal.OutOfMemory result (λ m. m.entries) (run_from Magic (uncut bytes.now)) }

@@ -1,18 +1,19 @@
 // The top call.
-ghost use Rattle.std.specs.Prelude.{◌≡◌, ◌↔◌, ◌⊎◌, None, IfSome};
+ghost use Rattle.std.specs.Prelude.{◌≡◌, ◌↔◌, ◌⊎◌, ℕ, List, None, IfSome};
 ghost use Rattle.std.specs.Option.{ForSome};
-ghost use Rattle.op_outside.specs.Outside.{Rose, appended, AppendsFront};
+ghost use Rattle.op_outside.specs.Outside.{Files, Rose, appended, AppendsFront};
 ghost use Rattle.op2_cli.specs.Words.{named, texts};
 ghost use Rattle.c_tree.specs.View.{program_of as tree_of};
-ghost use Rattle.op2_cli.specs.Answer.{SourceAnswer, MeshAnswer};
+ghost use Rattle.op2_cli.specs.Answer.{Answer, Answers, SourceAnswer, MeshAnswer};
 ghost use Rattle.op2_cli.specs.Outcome.{Seen, Ends, Gives, IsReached, status_of, line_of};
 
 use crate::outcome::Outcome;
 use crate::report::report;
 use crate::steps::{printed_from, program_of, read};
 use crate::words::named;
+use c_reader::one_tree;
 use c_tree::Program;
-use mesh_decl::MESH_BYTES;
+use mesh_decl::{MESH_BYTES, one_spelling};
 use op_outside::{Shelf, Sink, write_all_of};
 use std::alloc::Global;
 use std::marker::Sync;
@@ -52,10 +53,25 @@ pub fn op2<R: Threads + Sync, F: Shelf, O: Sink, E: Sink>(
         }) e
         × ((E.written err.new ≡ appended (E.written err.old) (line_of e))
         ⊎ (Rose (E.faults err.old) (E.faults err.new) × AppendsFront (E.written err.old) (line_of e) (E.written err.new))) }
+
+    // Where the files are told, the status is that of the one answer, unless memory ran out or a count of faults rose.
+    ensures complete { IfSome (F.told shelf.old) (λ files. (a : Answer) → Answers (texts words.now.items) files a
+        → (result ≡ a.status) ⊎ (result ≡ 1)
+        ⊎ ((result ≡ 3) × Rose (F.faults shelf.old) (F.faults shelf.new))
+        ⊎ ((result ≡ 4) × Rose (O.faults out.old) (O.faults out.new))) }
 {
+    one_answer();
     let outcome = run(alloc, words, shelf, out);
     let _ = report(err, outcome);
     outcome.status()
+}
+
+/// A law: over files that are told, words have at most one answer.
+pub fn one_answer()
+    ensures { (words : List (List ℕ)) (files : Files) (a b : Answer) → Answers words files a → Answers words files b → a ≡ b }
+{
+    one_tree();
+    one_spelling();
 }
 
 // The steps, up to the first that ends the call.

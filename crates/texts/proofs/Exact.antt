@@ -84,7 +84,7 @@ module _ {S R V : Type 0} (step : S → Word → Result S R) (finish : S → ℕ
     refused_run ws e h = refused_from ws [] start 1 e refl begins h
 
     -- what stands there whole is read as its state says
-    whole_run : (ws : List Word) (s : S) → Stands ws s → run step finish start 1 ws ≡ finish s (last_line 1 ws)
+    pub whole_run : (ws : List Word) (s : S) → Stands ws s → run step finish start 1 ws ≡ finish s (last_line 1 ws)
     whole_run ws s k = ap (run step finish start 1) (sym (append-nil ws)) ∙ run_through ws [] start s 1 (leads s ws k) ∙ run-end s (last_line 1 ws)
 
     refuses_run : (ws : List Word) (e : R) → RefusesAmong step finish Stands ws e → run step finish start 1 ws ≡ Err e
