@@ -6,19 +6,16 @@ use Rattle.std.specs.List.Sorted.{IsNonDecreasingBy}
 use Rattle.std.proofs.lemmas.List.Kept.{IsNonDecreasingBy-filter}
 use Rattle.breadth_order.specs.Keys.{degree_key}
 use Rattle.breadth_order.specs.Degrees.{degree, degree_order}
-use Rattle.std.proofs.lemmas.Bool.{cases_lt, cases_Bool, eq-eqb, ne_eqb, eqb-true, and_parts, and_from, false_from_ne_true}
+use Rattle.std.proofs.lemmas.Bool.{cases_lt, cases_Bool, eq-eqb, ne_eqb, eqb-true, and_parts, and_from}
 use Rattle.std.proofs.lemmas.List.{get_or_default, get_or_past, length-map}
 use Rattle.std.proofs.lemmas.List.Elements.{filter_passes, All-filter, All-get_or, All-from_get_or}
 use Rattle.mesh_decl.specs.Mesh.{MeshValue, IsMapAt, map_count, set_size, map_from, map_to, map_dim, target}
 use Rattle.rank_sets.specs.Below.{any_below, count_below, listed, row}
+use Rattle.rank_sets.proofs.Bools.{same_Bool}
 use Rattle.rank_sets.proofs.Below.{any_from, any_witness, listed_at, at_listed, length_listed, count_lt}
 use Rattle.breadth_order.specs.Neighbours.{has_target, are_neighbours}
 use Rattle.breadth_order.specs.Taken.{is_near, earliest, IsNext}
 use Rattle.breadth_order.proofs.Walk.{near_witness, near_at}
-
-same_Bool : (a b : Bool) → (a ≡ true → b ≡ true) → (b ≡ true → a ≡ true) → a ≡ b
-same_Bool true b f k = sym (f refl)
-same_Bool false b f k = sym (false_from_ne_true b (λ e. let z : false ≡ true = k e in cc))
 
 target_within : (g : MeshValue) (m e x : ℕ) → IsMapAt g m → m < map_count g → e < set_size g (map_from g m) → has_target g m e x ≡ true → x < set_size g (map_to g m)
 unfolding has_target

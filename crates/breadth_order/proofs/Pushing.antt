@@ -4,6 +4,7 @@ use Rattle.std.specs.declared.alloc.Global.{Global}
 use Rattle.std.proofs.lemmas.Bool.{cases_eq, cases_Bool, eq-eqb, ne_eqb, eqb-true, eqb-false, and_parts, and_from, false_from_ne_true}
 use Rattle.std.proofs.lemmas.List.{length_push, get_or_push, append-nil, get_or_read}
 use Rattle.rank_sets.specs.Below.{any_below, count_below, listed, row}
+use Rattle.rank_sets.proofs.Bools.{same_Bool}
 use Rattle.rank_sets.proofs.Below.{any_from, any_witness, any_more, listed_more, at_listed, listed_at, length_listed, count_lt}
 use Rattle.rank_sets.proofs.Rows.{row_set_same, row_set_other}
 use Rattle.breadth_order.specs.Neighbours.{ends_in, pushed}
@@ -91,10 +92,6 @@ listed_pushed new old y p b h k e =
     go false = sym (append-nil (listed y p))
 
 -- some of those listed passes exactly where some number below n is listed and passes
-same_Bool : (a b : Bool) → (a ≡ true → b ≡ true) → (b ≡ true → a ≡ true) → a ≡ b
-same_Bool true b f k = sym (f refl)
-same_Bool false b f k = sym (false_from_ne_true b (λ e. let z : false ≡ true = k e in cc))
-
 pub any_listed : (n : ℕ) (p q : ℕ → Bool) (xs : List ℕ) → xs ≡ listed n p → any_below (length xs) (λ k. q (get_or xs k 0)) ≡ any_below n (λ e. p e && q e)
 any_listed n p q xs h = ap (λ (z : List ℕ). any_below (length z) (λ k. q (get_or z k 0))) h ∙ same_Bool (any_below (length (listed n p)) (λ k. q (get_or (listed n p) k 0))) (any_below n (λ e. p e && q e))
     (λ t.

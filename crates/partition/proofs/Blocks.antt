@@ -13,13 +13,6 @@ each_more xs y n P e h q x l = ⊎_elim
     (λ (t : x ≡ n → ⊥). let lx : x < n = omega arith in subst (λ z. P x z) (sym (get_or_append_left xs (y ∷ []) 0 x (rw e lx))) (h x lx))
     (cases_eq x n)
 
--- what is so of each list is so with one more
-pub list_more : (xs : List (List ℕ)) (y : List ℕ) (n : ℕ) (P : ℕ → List ℕ → Type 0) → length xs ≡ n → ((s : ℕ) → s < n → P s (get_or xs s [])) → P n y → (s : ℕ) → s < n + 1 → P s (get_or (xs ++ y ∷ []) s [])
-list_more xs y n P e h q x l = ⊎_elim
-    (λ (t : x ≡ n). subst (λ z. P z (get_or (xs ++ y ∷ []) z [])) (sym t) (subst (λ (z : List ℕ). P n z) (sym (get_or_push xs y [] n e)) q))
-    (λ (t : x ≡ n → ⊥). let lx : x < n = omega arith in subst (λ (z : List ℕ). P x z) (sym (get_or_append_left xs (y ∷ []) [] x (rw e lx))) (h x lx))
-    (cases_eq x n)
-
 -- how many numbers below n lie between two bounds
 pub interval : (n a b : ℕ) (p : ℕ → Bool) → ((x : ℕ) → x < n → a ≤ x → x < b → p x ≡ true) → ((x : ℕ) → x < n → p x ≡ true → (a ≤ x) × (x < b)) → count_below n p ≡ min n b - min n a
 interval zero a b p h k = omega arith
@@ -34,10 +27,6 @@ interval (suc n) a b p h k =
     (λ (u : a ≤ n). ⊎_elim (λ (v : n < b). absurd (no u v)) (λ (v : b ≤ n). omega arith) (cases_lt n b))
     (cases_lt n a)))
     (cases_Bool (p n))
-
--- what is so of a list and a size is so of their equals
-pub moved : (P : ℕ → List ℕ → Type 0) (size n : ℕ) (v y : List ℕ) → y ≡ v → size ≡ n → P size v → P n y
-moved P size n v y e q h = subst (λ (z : List ℕ). P n z) (sym e) (subst (λ (k : ℕ). P k v) q h)
 
 -- a block ends among the n elements
 block_end : (n ranks i : ℕ) → i < ranks → block_start n ranks (i + 1) ≤ n

@@ -3,3 +3,4 @@ pub mod Bits
 pub mod Below
 pub mod Rows
 pub mod Appending
+pub mod Growing
