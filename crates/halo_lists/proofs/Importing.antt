@@ -8,6 +8,7 @@ use Rattle.rank_sets.specs.Below.{any_below, listed}
 use Rattle.rank_sets.specs.RankSet.{has_at}
 use Rattle.mesh_decl.specs.Mesh.{MeshValue, set_count, map_count, set_size, map_from, map_to, map_dim, target}
 use Rattle.mesh_decl.specs.Owners.{AreOwners, owner_of, owners_in}
+use Rattle.rank_sets.proofs.Bools.{same_Bool}
 use Rattle.rank_sets.proofs.Below.{any_witness, any_from, any_agree, listed_agree}
 use Rattle.halo_lists.specs.Halo.{IsInRange, reaches_by, reaches, owns, imports_execute, executes, named_by, named_from, named, imports_nonexecute, imports, is_core}
 use Rattle.halo_lists.specs.Halos.{Marks}
@@ -91,10 +92,6 @@ imports_below g o s x r ok own lx t = ⊎_elim
     (or_cases (imports_execute g o s x r) (imports_nonexecute g o s x r) t)
 
 -- core exactly where no rank imports it to execute
-same_Bool : (a b : Bool) → (a ≡ true → b ≡ true) → (b ≡ true → a ≡ true) → a ≡ b
-same_Bool true b f k = sym (f refl)
-same_Bool false b f k = sym (false_from_ne_true b (λ e. let z : false ≡ true = k e in cc))
-
 not-none : (b : Bool) → not b ≡ true → b ≡ true → ⊥
 not-none true h k = let z : false ≡ true = h in cc
 not-none false h k = let z : false ≡ true = k in cc

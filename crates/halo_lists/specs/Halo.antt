@@ -50,6 +50,10 @@ imports_nonexecute g o s y r = named g o s y r && not (executes g o s y r)
 unfoldable pub imports : MeshValue → Owners → ℕ → ℕ → ℕ → Bool
 imports g o s x r = imports_execute g o s x r || imports_nonexecute g o s x r
 
+-- r owns it or imports it
+abbrev pub has_copy : MeshValue → Owners → ℕ → ℕ → ℕ → Bool
+has_copy g o s x r = owns o s x r || (imports_execute g o s x r || imports_nonexecute g o s x r)
+
 -- all targets by all maps are the owner's
 unfoldable pub is_core : MeshValue → Owners → ℕ → ℕ → Bool
 is_core g o s x = not (any_below (map_count g) (λ m. nat_eq (map_from g m) s && any_below (map_dim g m) (λ i. not (nat_eq (owner_of o (map_to g m) (target g m x i)) (owner_of o s x)))))

@@ -14,6 +14,7 @@ ghost use Rattle.halo_lists.specs.Halos.{IsSetHalo, AreHalos, AreImports};
 
 mod exports;
 mod fit;
+mod laws;
 mod masks;
 mod named;
 mod split;
@@ -23,6 +24,10 @@ mod types;
 
 use exports::exports_by_owner;
 pub use fit::owners_fit;
+pub use laws::{
+    core_targets_are_owned, execute_halo_owns_a_target, executed_targets_are_copies,
+    imports_are_of_others,
+};
 use masks::executing_all;
 use mesh_decl::{Mesh, Owners};
 use named::naming_all;
