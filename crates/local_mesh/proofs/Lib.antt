@@ -1,0 +1,10 @@
+pub mod Inverse
+pub mod Stands
+pub mod Adding
+pub mod Numbered
+pub mod Joining
+pub mod Closing
+pub mod Growing
+pub mod Grouping
+pub mod Looking
+pub mod Standing

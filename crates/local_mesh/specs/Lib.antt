@@ -1,0 +1,5 @@
+pub mod Standing
+pub mod Local
+pub mod Lookup
+pub mod Parts
+pub mod LocalMesh
