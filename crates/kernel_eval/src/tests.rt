@@ -1,110 +1,140 @@
-// Kernels of one statement over three arguments of one cell each.
+// Kernels that are built by hand, with the values that ISO C gives them.
 
-ghost use Rattle.std.specs.Prelude.{◌<◌, ◌≡◌, length, IfOk};
-ghost use Rattle.kernel_types.specs.Resolved.{ExprWithin, StmtWithin, CountersKept};
+mod build;
+mod deep;
+mod rows;
 
 use crate::{Fault, KernelFault, run_on};
-use c_tree::{AssignOp, BinaryOp, Name, Pos};
-use kernel_types::{ElementForm, RBody, RExpr, RKernel, RStmt};
+use build::{argument, at, binary, block, choice, kernel, number, one_of, set_argument};
+use kernel_types::{AssignOp, BinaryOp, RKernel, is_resolved};
 use std::alloc::{AllocError, Global};
-use views::Place;
+use std::process::Abort;
+use views::{Place, are_places_in};
 
-fn at(column: u32) -> Pos {
-    Pos { line: 1, column }
-}
-
-fn number(n: i32) -> RExpr
-    ensures { ExprWithin 3 0 0 result }
-{
-    RExpr::Number(n)
-}
-
-fn element(alloc: Global, param: u32) -> Result<RExpr, AllocError>
-    requires { param < 3 }
-    ensures { IfOk result (λ e. ExprWithin 3 0 0 e) }
-{
-    Ok(RExpr::Arg {
-        param,
-        form: ElementForm::Index,
-        index: Box::new(alloc, RExpr::Number(0))?,
-        at: at(7),
-    })
-}
-
-fn binary(alloc: Global, op: BinaryOp, left: RExpr, right: RExpr) -> Result<RExpr, AllocError>
-    requires left { ExprWithin 3 0 0 left }
-    requires right { ExprWithin 3 0 0 right }
-    ensures { IfOk result (λ e. ExprWithin 3 0 0 e) }
-{
-    Ok(RExpr::Binary {
-        op,
-        left: Box::new(alloc, left)?,
-        right: Box::new(alloc, right)?,
-        at: at(9),
-    })
-}
-
-fn run_assignment(
-    alloc: Global,
-    value: RExpr,
+// Runs a kernel on those cells, with locals that hold something before.
+fn run_case(
+    rt: &impl Abort,
+    kernel: &RKernel,
     cells: &mut [i32],
-) -> Result<Result<(), KernelFault>, AllocError>
-    requires value { ExprWithin 3 0 0 value }
-    requires cells { length cells.old ≡ 3 }
-{
-    let statement = RStmt::SetArg {
-        param: 0,
-        form: ElementForm::Index,
-        index: RExpr::Number(0),
-        at: at(1),
-        op: AssignOp::Set,
-        op_at: at(2),
-        value,
-    };
-    let kernel = RKernel {
-        name: Name::new(Vec::new(alloc)),
-        params: 3,
-        scratch: 0,
-        body: RBody {
-            param_places: vec![in alloc; at(1); 3]?,
-            statement,
-        },
-    };
-    let places = [
-        Place { from: 0, count: 1 },
-        Place { from: 1, count: 1 },
-        Place { from: 2, count: 1 },
-    ];
-    Ok(run_on(&kernel, cells, &places, &[], &mut []))
+    places: &[Place],
+) -> Result<(), KernelFault> {
+    let mut scratch = [77; 8];
+    assert!(rt; is_resolved(kernel, 0));
+    assert!(rt; are_places_in(places, cells.len()));
+    assert!(rt; places.len() == kernel.params as usize);
+    assert!(rt; kernel.scratch as usize <= scratch.len());
+    run_on(kernel, cells, places, &[], &mut scratch)
 }
 
-#[test]
-fn operators_follow_iso_c(rt: HostRuntime) -> Result<(), AllocError> {
+// The fault of that kind at that place of the line.
+fn fault(kind: Fault, column: u32) -> Result<(), KernelFault> {
+    Err(KernelFault {
+        kind,
+        at: at(column),
+    })
+}
+
+// Each operator, compared with ISO C: `q[0] = a[0] op b[0];`, where the operator stands at 14.
+fn operators_follow_iso_c(rt: &impl Abort, alloc: Global) -> Result<(), AllocError> {
     for (op, a, b, expected) in [
+        (BinaryOp::Add, 2147483647, 1, Ok(-2147483648)),
+        (BinaryOp::Sub, -2147483648, 1, Ok(2147483647)),
+        (BinaryOp::Mul, 65536, 65537, Ok(65536)),
+        (BinaryOp::Div, 7, 2, Ok(3)),
         (BinaryOp::Div, -7, 2, Ok(-3)),
+        (BinaryOp::Div, 7, -2, Ok(-3)),
+        (BinaryOp::Div, -7, -2, Ok(3)),
+        (BinaryOp::Div, -2147483648, -1, Ok(-2147483648)),
+        (BinaryOp::Div, 1, 0, Err(Fault::DivZero)),
+        (BinaryOp::Rem, 7, 2, Ok(1)),
         (BinaryOp::Rem, -7, 2, Ok(-1)),
         (BinaryOp::Rem, 7, -2, Ok(1)),
-        (BinaryOp::Div, -2147483648, -1, Ok(-2147483648)),
+        (BinaryOp::Rem, -7, -2, Ok(-1)),
         (BinaryOp::Rem, -2147483648, -1, Ok(0)),
-        (BinaryOp::Div, 1, 0, Err(Fault::DivZero)),
-        (BinaryOp::ShiftRight, -5, 1, Ok(-3)),
-        (BinaryOp::ShiftLeft, 1, 31, Ok(-2147483648)),
+        (BinaryOp::Rem, 0, 0, Err(Fault::DivZero)),
+        (BinaryOp::ShiftLeft, -3, 0, Ok(-3)),
+        (BinaryOp::ShiftLeft, -3, 2, Ok(-12)),
+        (BinaryOp::ShiftLeft, 3, 31, Ok(-2147483648)),
         (BinaryOp::ShiftLeft, 1, 32, Err(Fault::ShiftCount)),
+        (BinaryOp::ShiftLeft, 1, -1, Err(Fault::ShiftCount)),
+        (BinaryOp::ShiftRight, -5, 0, Ok(-5)),
+        (BinaryOp::ShiftRight, -5, 1, Ok(-3)),
+        (BinaryOp::ShiftRight, -1, 31, Ok(-1)),
+        (BinaryOp::ShiftRight, 2147483647, 31, Ok(0)),
+        (BinaryOp::ShiftRight, 1, 32, Err(Fault::ShiftCount)),
         (BinaryOp::ShiftRight, 1, -1, Err(Fault::ShiftCount)),
-        (BinaryOp::LogicalAnd, 0, 5, Ok(0)),
-        (BinaryOp::LogicalOr, 2, 0, Ok(1)),
+        (BinaryOp::BitAnd, -2, 7, Ok(6)),
+        (BinaryOp::BitOr, -8, 3, Ok(-5)),
+        (BinaryOp::BitXor, -1, 5, Ok(-6)),
+        (BinaryOp::Less, -1, 0, Ok(1)),
+        (BinaryOp::Less, 0, 0, Ok(0)),
         (BinaryOp::LessEqual, -1, -1, Ok(1)),
-        (BinaryOp::Add, 2147483647, 1, Ok(-2147483648)),
+        (BinaryOp::Greater, 1, -2147483648, Ok(1)),
+        (BinaryOp::GreaterEqual, -2, -1, Ok(0)),
+        (BinaryOp::Equal, 4, 4, Ok(1)),
+        (BinaryOp::NotEqual, 4, 4, Ok(0)),
+        (BinaryOp::LogicalAnd, 3, 5, Ok(1)),
+        (BinaryOp::LogicalAnd, 0, 5, Ok(0)),
+        (BinaryOp::LogicalOr, 0, -9, Ok(1)),
+        (BinaryOp::LogicalOr, 0, 0, Ok(0)),
     ] {
+        let value = binary(alloc, op, argument(alloc, 1, 0)?, argument(alloc, 2, 0)?)?;
+        let assigns = set_argument(0, 0, AssignOp::Set, value);
+        let made = kernel(alloc, 3, 0, block(alloc, [assigns])?)?;
         let mut cells = [99, a, b];
-        let left = element(rt.alloc(), 1)?;
-        let right = element(rt.alloc(), 2)?;
-        let value = binary(rt.alloc(), op, left, right)?;
-        let ran = run_assignment(rt.alloc(), value, &mut cells)?;
+        let ran = run_case(rt, &made, &mut cells, &[one_of(0), one_of(1), one_of(2)]);
         match expected {
-            Ok(v) => assert_eq!(rt; cells[0], v),
-            Err(kind) => assert_eq!(rt; ran, Err(KernelFault { kind, at: at(9) })),
+            Ok(v) => {
+                assert_eq!(rt; ran, Ok(()), "{op:?} {a} {b}");
+                assert_eq!(rt; cells, [v, a, b], "{op:?} {a} {b}");
+            }
+            Err(kind) => {
+                assert_eq!(rt; ran, fault(kind, 14), "{op:?} {a} {b}");
+                assert_eq!(rt; cells, [99, a, b], "{op:?} {a} {b}");
+            }
         }
     }
     Ok(())
+}
+
+// `q[0] = a[0] && 1 / b[0];` and the like: what is skipped has no fault.
+fn skipped_parts_have_no_fault(rt: &impl Abort, alloc: Global) -> Result<(), AllocError> {
+    for (op, a, b, expected) in [
+        (Some(BinaryOp::LogicalAnd), 0, 0, Ok(0)),
+        (Some(BinaryOp::LogicalAnd), 4, 0, Err(Fault::DivZero)),
+        (Some(BinaryOp::LogicalAnd), 4, 2, Ok(0)),
+        (Some(BinaryOp::LogicalOr), 4, 0, Ok(1)),
+        (Some(BinaryOp::LogicalOr), 0, 0, Err(Fault::DivZero)),
+        (Some(BinaryOp::BitAnd), 0, 0, Err(Fault::DivZero)),
+        (None, 1, -1, Ok(-1)),
+        (None, 1, 0, Err(Fault::DivZero)),
+        (None, 0, 0, Ok(7)),
+        (None, -5, 0, Ok(8)),
+    ] {
+        let quotient = binary(alloc, BinaryOp::Div, number(1), argument(alloc, 2, 0)?)?;
+        let value = match op {
+            Some(op) => binary(alloc, op, argument(alloc, 1, 0)?, quotient)?,
+            // a[0] < 0 ? 8 : a[0] ? 1 / b[0] : 7
+            None => {
+                let negative = binary(alloc, BinaryOp::Less, argument(alloc, 1, 0)?, number(0))?;
+                let inner = choice(alloc, argument(alloc, 1, 0)?, quotient, number(7))?;
+                choice(alloc, negative, number(8), inner)?
+            }
+        };
+        let assigns = set_argument(0, 0, AssignOp::Set, value);
+        let made = kernel(alloc, 3, 0, block(alloc, [assigns])?)?;
+        let mut cells = [99, a, b];
+        let ran = run_case(rt, &made, &mut cells, &[one_of(0), one_of(1), one_of(2)]);
+        match expected {
+            Ok(v) => assert_eq!(rt; (ran, cells[0]), (Ok(()), v), "{op:?} {a} {b}"),
+            Err(kind) => assert_eq!(rt; (ran, cells[0]), (fault(kind, 14), 99), "{op:?} {a} {b}"),
+        }
+    }
+    Ok(())
+}
+
+#[test]
+fn expressions_follow_iso_c(rt: HostRuntime) -> Result<(), AllocError> {
+    operators_follow_iso_c(&rt, rt.alloc())?;
+    skipped_parts_have_no_fault(&rt, rt.alloc())
 }

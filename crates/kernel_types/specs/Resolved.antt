@@ -45,6 +45,10 @@ module _ (params scratch consts : ℕ) where
     RowWithin end_of-RStmt = Unit {0}
     RowWithin (more_of-RStmt first rest) = StmtWithin first × RowWithin rest
 
+-- the cell is none of those
+abbrev pub MissesCell : ℕ → ℕ → ℕ → Type 0
+MissesCell cell from count = (k : ℕ) → from ≤ k → k < from + count → k ≢ cell
+
 -- the statement stores to those cells of the locals alone that may be stored to
 module _ (may : ℕ → Type 0) where
   abbrev mutual

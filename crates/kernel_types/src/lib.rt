@@ -5,6 +5,7 @@
 mod expressions;
 mod faults;
 mod kernels;
+mod resolved;
 mod statements;
 
 pub use c_tree::{AssignOp, BinaryOp, MinMax, Name, Pos, UnaryOp};
@@ -12,4 +13,5 @@ pub use expressions::{ElementForm, RExpr};
 pub use faults::KernelFault;
 pub use kernels::{ConstDecl, RBody, RKernel, Resolved};
 pub use op_num::Fault;
+pub use resolved::is_resolved;
 pub use statements::RStmt;

@@ -1,14 +1,21 @@
 // A frame: one lent buffer, and for each argument the place of its cells in it. Arguments with one target share a place.
 
-ghost use Rattle.std.specs.Prelude.{◌≡◌, ℕ, ◌+◌, ◌<◌, length, slice_set};
+ghost use Rattle.std.specs.Prelude.{◌≡◌, ℕ, ◌+◌, ◌<◌, ◌↔◌, IsTrue, length, slice_set};
 ghost use Rattle.kernel_model.specs.Meaning.{target_at, read_arg, store_arg};
-ghost use Rattle.views.specs.Framed.{windows_of, targets_of, FitsIn};
+ghost use Rattle.views.specs.Framed.{windows_of, targets_of, FitsIn, PlacesIn};
 
 /// Where an argument's cells stand in the buffer: `count` cells from the cell `from` on.
 #[derive(Clone, Copy, PartialEq, Eq, Debug)]
 pub struct Place {
     pub from: usize,
     pub count: usize,
+}
+
+/// Whether each place stands within a buffer of so many cells.
+pub fn are_places_in(places: &[Place], cells: usize) -> bool
+    ensures { IsTrue result ↔ PlacesIn cells places.now }
+{
+    places.iter().all(|place| place.from <= cells && place.count <= cells - place.from)
 }
 
 /// A buffer that is lent whole, and for each argument the place of its cells.

@@ -5,4 +5,4 @@ mod cutting;
 mod frame;
 
 pub use cutting::cut;
-pub use frame::{Frame, Place};
+pub use frame::{Frame, Place, are_places_in};
