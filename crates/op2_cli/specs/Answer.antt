@@ -14,18 +14,23 @@ pub record Answer : Type 0 where
   pub out : List ℕ
   pub line : List ℕ
 
+-- these bytes are printed
 abbrev pub done : List ℕ → Answer
 done bytes = record { status = 0; out = bytes; line = [] }
 
+-- nothing is printed, and the line says why
 abbrev pub refused : ℕ → List ℕ → Answer
 refused status line = record { status = status; out = []; line = line }
 
+-- the words are not those of a command
 abbrev pub usage : Answer
 usage = refused 2 (codes "op2: usage\n")
 
+-- the file of that name cannot be read
 abbrev pub cannot_read : List ℕ → Answer
 cannot_read name = refused 3 (codes "op2: cannot read " ++ name ++ codes "\n")
 
+-- the input has a form that isn't built yet
 abbrev pub not_built : Answer
 not_built = refused 11 (codes "op2: not built\n")
 
@@ -53,6 +58,7 @@ abbrev pub SourceAnswer : List ℕ × List ℕ → Files → Option (List ℕ) �
 SourceAnswer names files None a = a ≡ cannot_read names.0
 SourceAnswer names files (Some source) a = ((p : ProgramTree) × IsSource source p × MeshAnswer p names.1 (files names.1) a) ⊎ (((p : ProgramTree) → ¬ IsSource source p) × (a ≡ not_built))
 
+-- the answer by the names of the source and the mesh, where the words have them
 abbrev pub NamesAnswer : Option (List ℕ × List ℕ) → Files → Answer → Type 0
 NamesAnswer None files a = a ≡ usage
 NamesAnswer (Some names) files a = SourceAnswer names files (files names.0) a

@@ -8,6 +8,7 @@ use Rattle.op2_cli.specs.Answer.{Answer, done, usage, cannot_read, not_built, Is
 use Rattle.op2_cli.specs.declared.outcome.Outcome.{Outcome}
 use Rattle.op2_cli.specs.declared.outcome.Outcome.TheVariants.{Done, OutOfMemory, Usage, CannotRead, CannotWrite, NotBuilt}
 
+-- the status that the program ends with
 abbrev pub status_of : Outcome → ℕ
 status_of Done = 0
 status_of OutOfMemory = 1
