@@ -1,5 +1,5 @@
 -- From the steps of a run to the answer.
-use Rattle.std.proofs.Common.{◌≡◌, ℕ, ◌⊎◌, inl, inr, List, Option, None, Some, Result, Ok, Err, IfOk, IfErr, IfSome, IsSomeAnd, Vec, true, false, true≢false, refl, ap, sym, ◌∙◌, subst}
+use Rattle.std.proofs.Common.{◌≡◌, ℕ, ◌⊎◌, inl, inr, List, Option, None, Some, Result, Ok, Err, IfOk, IfErr, IfSome, IsSomeAnd, Vec, false, true≢false, refl, ap, sym, ◌∙◌, subst}
 use Rattle.std.specs.Global.{Global}
 use Rattle.op_outside.specs.Outside.{Files, Holds}
 use Rattle.c_tree.specs.Tree.{ProgramTree}

@@ -1,5 +1,5 @@
 -- What the program answers to words, over files that are told.
-use Rattle.std.specs.Prelude.{◌≡◌, ℕ, ◌≤◌, ◌⊎◌, ◌<◌, List, [], ◌++◌, length, Option, None, Some, true, codes}
+use Rattle.std.specs.Prelude.{◌≡◌, ℕ, ◌≤◌, ◌⊎◌, List, [], ◌++◌, length, Option, None, Some, true, codes}
 use Rattle.op_outside.specs.Outside.{Files}
 use Rattle.c_tree.specs.Tree.{ProgramTree}
 use Rattle.c_tree.specs.Reads.{Reads}

@@ -1,5 +1,5 @@
 -- How a call ended, and what each ending shows.
-use Rattle.std.specs.Prelude.{◌≡◌, ℕ, ◌⊎◌, ◌<◌, List, [], ◌++◌, length, Option, Result, Ok, Err, IfSome, IsSomeAnd, codes, Vec}
+use Rattle.std.specs.Prelude.{◌≡◌, ℕ, ◌⊎◌, ◌<◌, List, [], length, Option, Result, Ok, Err, IfSome, IsSomeAnd, codes, Vec}
 use Rattle.std.specs.Global.{Global}
 use Rattle.op_outside.specs.Outside.{Files, Rose, Holds, Lacks, appended, AppendsFront}
 use Rattle.c_tree.specs.Tree.{ProgramTree}

@@ -1,4 +1,3 @@
-use Rattle.c_reader.specs.Answered.{IsTree}
 use Rattle.op2_cli.proofs.steps.tree_read.Goals as goal
 
 pub returns-in-Err-Lex-clause-err : goal.returns-in-Err-Lex-clause-err

@@ -1,5 +1,4 @@
-use Rattle.std.proofs.Common.{rules}
-use Rattle.op_outside.specs.Outside.{Rose, Holds}
+use Rattle.op_outside.specs.Outside.{Rose}
 use Rattle.c_tree.specs.View.{program_of as tree_of}
 use Rattle.op2_cli.proofs.Answered.{mesh-answered}
 use Rattle.op2_cli.proofs.top.printed_over.Goals as goal
