@@ -36,7 +36,7 @@ pub fn value(
             at,
             ..
         } => {
-            let z = value(index, frame, consts, locals)?;
+            let z = index_value(index, frame, consts, locals)?;
             let i = index_of(frame.len_of(*param as usize), *at, z)?;
             Ok(frame.get(*param as usize, i))
         }
@@ -47,7 +47,7 @@ pub fn value(
             at,
             ..
         } => {
-            let z = value(index, frame, consts, locals)?;
+            let z = index_value(index, frame, consts, locals)?;
             let i = index_of(*count as usize, *at, z)?;
             Ok(locals[*from as usize + i])
         }
@@ -58,7 +58,7 @@ pub fn value(
             at,
             ..
         } => {
-            let z = value(index, frame, consts, locals)?;
+            let z = index_value(index, frame, consts, locals)?;
             let i = index_of(*count as usize, *at, z)?;
             Ok(consts[*from as usize + i])
         }
@@ -99,6 +99,25 @@ pub fn value(
             let x = value(operand, frame, consts, locals)?;
             Ok(absolute(x))
         }
+    }
+}
+
+/// The value of an index, which is a number more often than not.
+#[cycle(value)]
+#[inline]
+pub fn index_value(
+    e: &RExpr,
+    frame: &Frame<'_>,
+    consts: &[i32],
+    locals: &[i32],
+) -> Result<i32, KernelFault>
+    requires fits { FitsIn frame.now }
+    requires within { ExprWithin (length frame.now.places.now) (length locals.now) (length consts.now) e.now }
+    ensures { result ≡ value_of (targets_of frame.now) consts.now e.now (windows_of frame.now) locals.now }
+{
+    match e {
+        RExpr::Number(n) => Ok(*n),
+        _ => value(e, frame, consts, locals),
     }
 }
 

@@ -1,5 +1,5 @@
 -- Small kernels: what they do, and which rules they obey.
-use Rattle.std.proofs.Common.{◌≡◌, ℕ, zero, suc, ℤ, pos, List, [], ◌∷◌, refl, ap, ◌∙◌, inr, arith, ◌+ℤ◌, FitsSigned, w32}
+use Rattle.std.proofs.Common.{◌≡◌, ℕ, zero, suc, ℤ, pos, List, [], ◌∷◌, Some, refl, ap, ◌∙◌, inl, inr, arith, ◌+ℤ◌, FitsSigned, w32}
 use Rattle.std.proofs.lemmas.Int.{int_wrap_fits}
 use Rattle.c_lex.specs.declared.tokens.Pos.{Pos}
 use Rattle.op_num.specs.declared.refusals.Fault.TheVariants.{DivZero, Index}
@@ -13,7 +13,8 @@ use Rattle.kernel_types.specs.declared.expressions.RExpr.TheVariants.{Number, Sc
 use Rattle.kernel_types.specs.declared.statements.RStmt.{Declare, SetArg, If', For', end_of-RStmt, more_of-RStmt}
 use Rattle.kernel_model.specs.Numbers.{fault, sum, difference}
 use Rattle.kernel_model.specs.Meaning.{Target, Done, Faulted, meaning, meaning_of_all}
-use Rattle.kernel_model.specs.Obeys.{Read, Write, Reduces, Mode, mode_at, Obeys}
+use Rattle.kernel_model.specs.Obeys.{Read, Write, Reduces, Mode, mode_at, Obeys, Reads, Adds, Owns, Merges}
+use Rattle.kernel_model.specs.Refusals.{ReadsReduced, NotAllWritten, NotExtremum, EventBreaks, EndBreaks}
 
 abbrev here : Pos
 here = record { line = 1; column = 1 }
@@ -98,3 +99,18 @@ in_parentheses o p q r h = (h (tt, (tt, tt))).0.0
 -- a[0] = MIN(*a, 3); under OP_MIN: the same place in other tokens
 in_other_tokens : (p q r : _) → Obeys (SetArg 0 form.Index n0 here assign.Set here (Extremum' min_max.Min p (Arg' 0 form.Deref q n0 here) r (Number (pos 3)))) (least_mode ∷ []) → ⊥
 in_other_tokens p q r h = (h (tt, (tt, tt))).0.0
+
+-- ---- which rules they break, and where
+
+-- a[0] += a[0]; under OP_INC: the second a is read
+breaks_where_it_is_read : (p : _) → EventBreaks (SetArg 0 form.Index n0 here assign.Add here (Arg' 0 form.Index p n0 there)) (record { access = Reduces Add; dim = 1 } ∷ []) ReadsReduced there
+breaks_where_it_is_read p = ((tt, tt), [], Reads 0 (Some (pos 0)) there, Adds 0 (Some (pos 0)) here ∷ [], refl, refl, ((Add, refl), refl))
+
+-- if (1) a[0] = 2; under OP_WRITE: the path through the other branch assigns nothing
+breaks_at_the_parameter : (p q : _) → EndBreaks (If' (Number (pos 1)) p (SetArg 0 form.Index n0 here assign.Set here (Number (pos 2))) q (Declare 0 0)) (λ a. there) (record { access = Write; dim = 1 } ∷ []) NotAllWritten there
+breaks_at_the_parameter p q = ((tt, inr tt), 0, 0, refl, refl, refl, omega arith, λ h. h)
+
+-- a[0] = MAX(a[0], 3); under OP_MIN: another form at the target, and a read inside it
+breaks_the_form : (p q r : _) → EventBreaks (SetArg 0 form.Index n0 here assign.Set here (Extremum' min_max.Max p (Arg' 0 form.Index q n0 there) r (Number (pos 3)))) (least_mode ∷ []) NotExtremum here
+breaks_the_form p q r =
+    ((tt, (tt, tt)), Owns min_max.Max 0 (Some (pos 0)) there ∷ [], Merges min_max.Max 0 (Some (pos 0)) here, [], refl, refl, (inl refl, refl, refl))

@@ -5,8 +5,13 @@ pub mod Paths
 pub mod Tokens
 pub mod Agreement
 pub mod Static
+pub mod SameValues
+pub mod SameStores
+pub mod SameAssignments
 pub mod Law
 pub mod ReadOnly
 pub mod Copies
 pub mod Examples
 pub mod Ranges
+pub mod BrokenRules
+pub mod Refused

@@ -2,3 +2,4 @@ pub mod Numbers
 pub mod Meaning
 pub mod Obeys
 pub mod Independence
+pub mod Refusals

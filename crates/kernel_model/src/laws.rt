@@ -1,6 +1,7 @@
 // The laws of kernels, each as the contract of a function that does nothing.
 
 ghost use Rattle.kernel_model.specs.Independence.{Independence, OthersStay, RangeStays, ReadsStay, ShapeStays, Transport};
+ghost use Rattle.kernel_model.specs.Refusals.{ObeysUnlessBroken, OneRefusal};
 
 /// A law: over two lists of targets with the same aliases, and two stores that agree where OP_READ and OP_RW
 /// arguments reach, a kernel that obeys its modes has the same fault or none, and without one makes the same changes.
@@ -32,4 +33,11 @@ pub fn shape_stays()
 /// A law: where all cells and constants hold numbers of 32 bits, all cells do after a run, after a fault too.
 pub fn range_stays()
     ensures { RangeStays }
+{}
+
+/// A law: a kernel obeys its modes exactly where it breaks none of the eight access rules at any place, and of the rules
+/// that it breaks at most one stands first: at the earliest place, and there with the least number.
+pub fn rules_are_broken()
+    ensures obeys { ObeysUnlessBroken }
+    ensures first { OneRefusal }
 {}

@@ -3,4 +3,6 @@
 
 mod laws;
 
-pub use laws::{independence, others_stay, range_stays, reads_stay, shape_stays, transport};
+pub use laws::{
+    independence, others_stay, range_stays, reads_stay, rules_are_broken, shape_stays, transport,
+};

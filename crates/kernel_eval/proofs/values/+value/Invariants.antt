@@ -12,6 +12,9 @@ decreases-value l = 3 * size l.e.now + 2
 abbrev pub decreases-chain_value : goal.decreases-chain_value
 decreases-chain_value l = 3 * size l.e.now + 3
 
+abbrev pub decreases-index_value : goal.decreases-index_value
+decreases-index_value l = 3 * size l.e.now + 3
+
 abbrev pub decreases-value_after : goal.decreases-value_after
 decreases-value_after l = 3 * size l.e.now
 

@@ -1,0 +1,80 @@
+// The arrays of the cells, and the loop over the edges.
+
+ghost use Rattle.std.specs.Prelude.{◌≡◌, ◌<◌, ◌≤◌, ◌^◌};
+ghost use Rattle.kernel_types.specs.Resolved.{IsResolved};
+
+use kernel_eval::run_on;
+use kernel_types::RKernel;
+use op_num::wrap_add;
+use std::alloc::{AllocError, Global};
+use views::{Place, are_places_in};
+
+/// The arrays q, adt and res, one after another, each with so many cells.
+pub fn filled(alloc: Global, cells: u32) -> Result<Vec<i32>, AllocError> {
+    let mut memory = Vec::new(alloc);
+    for i in 0..cells {
+        memory.push((i % 1000) as i32 - 500)?;
+    }
+    for i in 0..cells {
+        memory.push((i % 7) as i32 + 1)?;
+    }
+    for _ in 0..cells {
+        memory.push(0)?;
+    }
+    Ok(memory)
+}
+
+fn places_of(a: u32, b: u32, cells: u32) -> [Place; 6] {
+    let (a, b, cells) = (a as usize, b as usize, cells as usize);
+    [
+        Place { from: a, count: 1 },
+        Place { from: b, count: 1 },
+        Place {
+            from: cells + a,
+            count: 1,
+        },
+        Place {
+            from: cells + b,
+            count: 1,
+        },
+        Place {
+            from: 2 * cells + a,
+            count: 1,
+        },
+        Place {
+            from: 2 * cells + b,
+            count: 1,
+        },
+    ]
+}
+
+/// Runs the kernel for each edge; how many edges had no fault.
+pub fn run_edges(kernel: &RKernel, memory: &mut [i32], cells: u32, edges: u32) -> u32
+    requires resolved { IsResolved 0 kernel.now }
+    requires params { kernel.now.params ≡ 6 }
+    requires scratch { kernel.now.scratch ≡ 1 }
+    requires cells { 0 < cells }
+{
+    let mut done = 0u32;
+    let mut scratch = [0; 1];
+    for edge in 0..edges {
+        let a = edge % cells;
+        let b = (edge as u64 * 31 + 1) % cells as u64;
+        let places = places_of(a, b as u32, cells);
+        if are_places_in(&places, memory.len())
+            && run_on(kernel, memory, &places, &[], &mut scratch).is_ok()
+        {
+            done = done.saturating_add(1);
+        }
+    }
+    done
+}
+
+/// The sum of the cells from that one on, where it wraps.
+pub fn sum_from(memory: &[i32], from: usize) -> i32 {
+    let mut sum = 0;
+    for cell in memory.iter().skip(from) {
+        sum = wrap_add(sum, *cell);
+    }
+    sum
+}
