@@ -16,6 +16,7 @@ mod neighbours;
 #[cfg(test)]
 mod tests;
 
+pub use keys::by_keys;
 use keys::{by_degree, reorder};
 use mesh_decl::Mesh;
 pub use neighbours::make_neighbours;

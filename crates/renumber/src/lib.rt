@@ -2,26 +2,20 @@
 #![tactic(auto)]
 
 ghost use Rattle.std.specs.Prelude.{◌≡◌, ℕ, ◌<◌, IfOk, length, slice_index};
+ghost use Rattle.mesh_decl.specs.Mesh.{map_count};
 ghost use Rattle.renumber.specs.Identity.{IsIdentity};
+ghost use Rattle.renumber.specs.CuthillMcKee.{IsCuthillMcKee};
 
+mod by_targets;
+mod orders;
 #[cfg(test)]
 mod tests;
 
+use breadth_order::taking_order;
 use mesh_decl::{Mesh, Numbers, Perms};
 use op_num::OutOfMemory;
+use orders::{counting, reversed, set_order};
 use std::alloc::Global;
-
-// The numbers below a bound, in increasing order.
-fn counting(alloc: Global, size: u32) -> Result<Vec<u32>, OutOfMemory>
-    ensures length { IfOk result (λ v. length v.items ≡ size) }
-    ensures kept { IfOk result (λ v. (x : ℕ) → x < size → slice_index v.items x ≡ x) }
-{
-    let mut numbers = Vec::with_capacity(alloc, size as usize)?;
-    for number in 0..size {
-        numbers.push(number)?;
-    }
-    Ok(numbers)
-}
 
 /// The renumbering in which each element of each set keeps its number. It fails only for want of memory.
 pub fn identity(alloc: Global, mesh: &Mesh) -> Result<Perms, OutOfMemory>
@@ -30,6 +24,24 @@ pub fn identity(alloc: Global, mesh: &Mesh) -> Result<Perms, OutOfMemory>
     let mut sets = Vec::new(alloc);
     for set in 0..mesh.set_count() {
         sets.push(Numbers::new(counting(alloc, mesh.set_size(set))?))?;
+    }
+    Ok(Perms { sets })
+}
+
+/// The reverse renumbering of Cuthill and McKee by the map numbered `map`. The elements of the set to which it leads
+/// stand in the reverse of the order in which they are taken; those of the set from which it leads, where that is
+/// another, by (least new number among the targets, original number); all others keep their numbers. It takes time
+/// linear in the neighbours and n log n in the elements, and fails only for want of memory.
+pub fn cuthill_mckee(alloc: Global, mesh: &Mesh, map: u32) -> Result<Perms, OutOfMemory>
+    requires { map < map_count mesh.now }
+    ensures { IfOk result (IsCuthillMcKee mesh.now map) }
+{
+    let _ = mesh.map_count();
+    let taken = taking_order(alloc, mesh, map)?;
+    let order = reversed(alloc, &taken)?;
+    let mut sets = Vec::new(alloc);
+    for set in 0..mesh.set_count() {
+        sets.push(Numbers::new(set_order(alloc, mesh, map, &order, set)?))?;
     }
     Ok(Perms { sets })
 }

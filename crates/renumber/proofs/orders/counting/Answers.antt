@@ -1,7 +1,7 @@
 use Rattle.std.proofs.Common.{arith}
 use Rattle.std.proofs.lemmas.List.{length_push}
 use Rattle.renumber.proofs.Kept.{number_more}
-use Rattle.renumber.proofs.counting.Goals as goal
+use Rattle.renumber.proofs.orders.counting.Goals as goal
 
 pub loop-number-preserved : goal.loop-number-preserved
 loop-number-preserved c = rw c.in_ok-push.ensures.items (
