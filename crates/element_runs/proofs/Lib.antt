@@ -1,1 +1,2 @@
 pub mod Independent
+pub mod Example
