@@ -9,7 +9,7 @@ use Rattle.c_lex.specs.Answered.{Answers}
 use Rattle.c_lex.specs.Lexed.{Lexes, Outcome}
 use Rattle.c_tree.specs.Tree.{ProgramTree}
 use Rattle.c_tree.specs.Print.{program}
-use Rattle.c_tree.specs.Reads.{first_deep, Prints, Reads, Deep}
+use Rattle.c_tree.specs.Reads.{first_deep, shown, Prints, Reads, Deep}
 use Rattle.c_reader.specs.Kinds.{kinds, places}
 use Rattle.c_reader.specs.declared.faults.Fault.{Fault}
 use Rattle.c_reader.specs.declared.faults.Fault.TheVariants.{Syntax, TooDeep}
@@ -68,6 +68,10 @@ one_tree bytes a b one r s =
   where
     same : (a b : ProgramTree) → ◌≡◌ {A = Result ProgramTree Fault} (Ok a) (Ok b) → a ≡ b
     same a b h = cc
+
+-- the tree of a source shows the kinds of its tokens
+pub shows_its_tokens : (bytes : List ℕ) (p : ProgramTree) (ts : List Token) → ((x y : Outcome) → Lexes bytes x → Lexes bytes y → x ≡ y) → Reads bytes p → Lexes bytes (Ok ts) → shown p ≡ kinds ts
+shows_its_tokens bytes p ts one r l = r.prints.kinds ∙ ap kinds (same_tokens r.tokens ts (one (Ok r.tokens) (Ok ts) r.lexed l))
 
 -- what the answer is where a tree was read
 module _ (bytes : List ℕ) (ts : List Token) (q : ProgramTree) (only : (o : Outcome) → Lexes bytes o → Ok ts ≡ o) (h : whole (kinds ts) (places ts) ≡ Ok q) where

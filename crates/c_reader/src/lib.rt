@@ -7,6 +7,8 @@ mod cursor;
 mod declarations;
 mod expressions;
 mod faults;
+#[cfg(test)]
+mod grouping_tests;
 mod hosts;
 mod leads;
 mod loop_args;
@@ -17,5 +19,5 @@ mod statements;
 mod tests;
 mod tops;
 
-pub use reading::{one_tree, read_program};
+pub use reading::{one_tree, read_program, shows_its_tokens};
 pub use refusals::SourceRefusal;

@@ -1,11 +1,12 @@
 // The tree of a source.
 
-ghost use Rattle.std.specs.Prelude.{◌≡◌, ◌+◌, ◌<◌, ◌^◌, length, List, ℕ, Err, IfOk, IfErr};
+ghost use Rattle.std.specs.Prelude.{◌≡◌, ◌+◌, ◌<◌, ◌^◌, length, List, ℕ, Ok, Err, IfOk, IfErr};
 ghost use Rattle.c_lex.specs.declared.refusals.LexRefusal.{LexRefusal as LexRefused};
+ghost use Rattle.c_lex.specs.declared.tokens.Token.{Token as LexedToken};
 ghost use Rattle.c_lex.specs.Lexed.{Lexes};
 ghost use Rattle.c_tree.specs.Tree.{ProgramTree};
 ghost use Rattle.c_tree.specs.View.{main_of, program_of};
-ghost use Rattle.c_tree.specs.Reads.{Reads, Deep};
+ghost use Rattle.c_tree.specs.Reads.{Reads, Deep, shown};
 ghost use Rattle.c_reader.specs.Answered.{IsTree, IsRefusal, CanRefuse, not_lexed, place_at, refusal_of};
 ghost use Rattle.c_reader.specs.declared.refusals.SourceRefusal.TheVariants.{Lex, TooDeep};
 ghost use Rattle.c_reader.specs.Descent.{Gives};
@@ -51,6 +52,13 @@ pub fn read_program(alloc: Global, bytes: &[u8]) -> Result<Program, SourceRefusa
 /// The bytes have at most one tree.
 pub fn one_tree()
     ensures { (bytes : List ℕ) (a b : ProgramTree) → Reads bytes a → Reads bytes b → a ≡ b }
+{
+    one_outcome();
+}
+
+/// A law: what `show` gives for the tree of a source are the kinds of the tokens of its bytes.
+pub fn shows_its_tokens()
+    ensures { (bytes : List ℕ) (p : ProgramTree) (tokens : List LexedToken) → Reads bytes p → Lexes bytes (Ok tokens) → shown p ≡ kinds tokens }
 {
     one_outcome();
 }

@@ -1,7 +1,8 @@
 use crate::{SourceRefusal, read_program};
-use c_tree::{BinaryOp, Expr, Host, LexRefusal, Pos};
-use std::alloc::Global;
+use c_tree::{Kind, LexRefusal, Pos, Token, lex, show};
+use std::alloc::{AllocError, Global};
 use std::test::Fail;
+use std::thread::Builder;
 
 // The refusal of a source, where it has one.
 fn refusal(alloc: Global, source: &str) -> Option<SourceRefusal> {
@@ -9,10 +10,6 @@ fn refusal(alloc: Global, source: &str) -> Option<SourceRefusal> {
         return None;
     }
     read_program(alloc, source.as_bytes()).err()
-}
-
-fn place(line: u32, column: u32) -> Pos {
-    Pos { line, column }
 }
 
 const SAMPLE: &str = r#"extern int nnode;
@@ -63,121 +60,218 @@ op_exit();
 }
 "#;
 
-#[test]
-fn reads_a_program(rt: HostRuntime) -> Result<(), Fail> {
-    let alloc = rt.alloc();
-    assert_eq!(rt; refusal(alloc, SAMPLE), None);
-    assert_eq!(rt;
-        refusal(
-            alloc,
-            "int main(int argc, char *argv[]) { op_exit(); return 0; }"
-        ),
-        None
-    );
-    assert_eq!(rt;
-        refusal(
-            alloc,
-            "int main(int argc, char **argv) { if (a) if (b) x = 1; else x = 2; op_exit(); }"
-        ),
-        None
-    );
-    Ok(())
+// Every form of the language.
+const EVERY_FORM: &str = r#"extern int n; extern int a[];
+int t = 1, u, v[3];
+const int c = 2, e = c;
+static inline void f(const int *p, int *q) {
+  int x, y = 1, z[2]; { } ; x = 1; x += 2; x -= 1; x *= 2; x /= 1; x %= 3; x <<= 1; x >>= 1; x &= 3; x |= 4; x ^= 5;
+  z[0] = p[0]; *q = *p; if (x) y = 1; if (x == y) y = 2; else { y = 3; } for (int i = 0; i < 4; i++) z[i % 2] = i;
 }
-
-#[test]
-fn refuses_at_the_first_token_that_fits_nothing(rt: HostRuntime) -> Result<(), Fail> {
-    let alloc = rt.alloc();
-    assert_eq!(rt;
-        refusal(alloc, ""),
-        Some(SourceRefusal::Syntax { at: place(1, 1) })
-    );
-    assert_eq!(rt;
-        refusal(alloc, "extern int x;\nint main()"),
-        Some(SourceRefusal::Syntax { at: place(2, 10) })
-    );
-    assert_eq!(rt;
-        refusal(alloc, "int main(int argc, char **argv) {\n}"),
-        Some(SourceRefusal::Syntax { at: place(2, 1) })
-    );
-    assert_eq!(rt;
-        refusal(alloc, "void f(int *x) { for (int i = 0; i < 2; j++) ; }"),
-        Some(SourceRefusal::Syntax { at: place(1, 41) })
-    );
-    assert_eq!(rt;
-        refusal(alloc, "int x = 1 @"),
-        Some(SourceRefusal::Lex(LexRefusal::BadByte { at: place(1, 11) }))
-    );
-    Ok(())
+inline void g(int *p) {
+  p[0] = -1 + +2 - !3 * ~4 / 5 % 6 << 7 >> 8 < 9 > 10 <= 11 >= 12 == 13 != 14 & 15 ^ 16 | 17 && 18 || 19
+    ? MIN(1, 2) : MAX(3, ABS((4)));
 }
-
-#[test]
-fn refuses_what_is_too_deep(rt: HostRuntime) -> Result<(), Fail> {
-    let alloc = rt.alloc();
-    assert_eq!(rt;
-        refusal(
-            alloc,
-            "int main(int argc, char **argv) { x = ((((((((((((((((((((((((((((((((((((((((((((((((((((((((((((((1)))))))))))))))))))))))))))))))))))))))))))))))))))))))))))))); op_exit(); }"
-        ),
-        None
-    );
-    assert_eq!(rt;
-        refusal(
-            alloc,
-            "int main(int argc, char **argv) { x = (((((((((((((((((((((((((((((((((((((((((((((((((((((((((((((((1))))))))))))))))))))))))))))))))))))))))))))))))))))))))))))))); op_exit(); }"
-        ),
-        Some(SourceRefusal::TooDeep { at: place(1, 102) })
-    );
-    assert_eq!(rt;
-        refusal(
-            alloc,
-            "int main(int argc, char **argv) { {{{{{{{{{{{{{{{{{{{{{{{{{{{{{{{{{{{{{{{{{{{{{{{{{{{{{{{{{{{{{{{{}}}}}}}}}}}}}}}}}}}}}}}}}}}}}}}}}}}}}}}}}}}}}}}}}}}}}}}}}}}}}}}} op_exit(); }"
-        ),
-        None
-    );
-    assert_eq!(rt;
-        refusal(
-            alloc,
-            "int main(int argc, char **argv) { {{{{{{{{{{{{{{{{{{{{{{{{{{{{{{{{{{{{{{{{{{{{{{{{{{{{{{{{{{{{{{{{{}}}}}}}}}}}}}}}}}}}}}}}}}}}}}}}}}}}}}}}}}}}}}}}}}}}}}}}}}}}}}}}}} op_exit(); }"
-        ),
-        Some(SourceRefusal::TooDeep { at: place(1, 99) })
-    );
-    Ok(())
+int main(int argc, char *argv[]) {
+  ; { } const int k = 1; int w = n; w = 2; if (w) w = 3; else w = 4; if (k) { } for (int i = 0; i < n; i++) { w += i; }
+  op_init(argc, argv, 1);
+  op_set s = op_decl_set(n, "s"); op_map m = op_decl_map(s, s, 1, a, "m"); op_dat d = op_decl_dat(s, 1, "int", a, "d");
+  op_decl_const(1, "int", &t); op_decl_const(3, "int", v);
+  op_par_loop(f, "f", s, op_arg_dat(d, -1, OP_ID, 1, "int", OP_READ), op_arg_dat(d, 0, m, 1, "int", OP_WRITE),
+    op_arg_gbl(&w, 1, "int", OP_INC), op_arg_gbl(v, 3, "int", OP_MIN));
+  op_par_loop(g, "g", s, op_arg_dat(d, -1, OP_ID, 1, "int", OP_RW), op_arg_gbl(&w, 1, "int", OP_MAX));
+  op_printf("%d %d\n", w, 1 + 2); op_printf("x"); op_print_dat_to_txtfile(d, "d");
+  op_exit(); return 0;
 }
+"#;
 
-// Whether the value of the first statement of `main` is a difference whose left side is one.
-fn groups_to_the_left(alloc: Global, source: &str) -> bool {
+// Whether the tree of a source prints the tokens of the source.
+fn shows_its_tokens(alloc: Global, source: &str) -> bool {
     if source.len() > 1048576 {
         return false;
     }
-    match read_program(alloc, source.as_bytes()) {
-        Ok(program) => match program.main.body.get(0) {
-            Some(Host::Assign(a)) => match &a.value {
-                Expr::Binary {
-                    op: BinaryOp::Sub,
-                    left,
-                    ..
-                } => match &**left {
-                    Expr::Binary {
-                        op: BinaryOp::Sub,
-                        ..
-                    } => true,
-                    _ => false,
-                },
-                _ => false,
-            },
-            _ => false,
-        },
+    let Ok(program) = read_program(alloc, source.as_bytes()) else {
+        return false;
+    };
+    let Ok(tokens) = lex(alloc, source.as_bytes()) else {
+        return false;
+    };
+    match show(alloc, &program) {
+        Ok(kinds) => are_kinds_of(&kinds, &tokens),
         Err(_) => false,
     }
 }
 
-#[test]
-fn groups_differences_to_the_left(rt: HostRuntime) -> Result<(), Fail> {
-    assert!(rt;
-        groups_to_the_left(
-            rt.alloc(),
-            "int main(int argc, char **argv) { x = a - b - c; op_exit(); }"
-        )
+fn are_kinds_of(kinds: &[Kind], tokens: &[Token]) -> bool {
+    for (kind, token) in kinds.iter().zip(tokens) {
+        if *kind != token.kind {
+            return false;
+        }
+    }
+    kinds.len() == tokens.len()
+}
+
+// A source whose `main` has one statement: `before`, `open` so many times, `inner`, `close` as many times, `after`.
+fn nested(alloc: Global, form: [&str; 5], count: usize) -> Result<String, AllocError> {
+    let [before, open, inner, close, after] = form;
+    let mut source = String::from_str(alloc, "int main(int argc, char **argv) { ")?;
+    source.push_str(before)?;
+    for _ in 0..count {
+        source.push_str(open)?;
+    }
+    source.push_str(inner)?;
+    for _ in 0..count {
+        source.push_str(close)?;
+    }
+    source.push_str(after)?;
+    source.push_str(" op_exit(); }")?;
+    Ok(source)
+}
+
+// Whether a form may be nested so many times, and no more.
+fn is_deepest(alloc: Global, form: [&str; 5], most: u8) -> Result<bool, AllocError> {
+    let most = usize::from(most);
+    let accepted = nested(alloc, form, most)?;
+    let refused = nested(alloc, form, most + 1)?;
+    let is_too_deep = matches!(
+        refusal(alloc, refused.as_str()),
+        Some(SourceRefusal::TooDeep { .. })
     );
+    Ok(refusal(alloc, accepted.as_str()).is_none() && is_too_deep)
+}
+
+// A chain of 128 operators behind its first operand.
+fn chain(alloc: Global, first: &str) -> Result<String, AllocError> {
+    let mut text = String::from_str(alloc, first)?;
+    for _ in 0..128 {
+        text.push_str(" - 1")?;
+    }
+    Ok(text)
+}
+
+#[test]
+fn reads_every_form(rt: HostRuntime) -> Result<(), Fail> {
+    let alloc = rt.alloc();
+    for source in [
+        SAMPLE,
+        EVERY_FORM,
+        "int main(int argc, char **argv) { op_exit(); }",
+        "int main(int argc, char *argv[]) { op_exit(); return 0; }",
+    ] {
+        assert!(rt; shows_its_tokens(alloc, source), "{source}");
+    }
+    Ok(())
+}
+
+#[test]
+fn the_deepest_tree_fits_a_stack_of_two_mebibytes(rt: HostRuntime) -> Result<(), Fail> {
+    let alloc = rt.alloc();
+    let close = chain(alloc, ")")?;
+    let inner = chain(alloc, "1")?;
+    let form = ["x = ", "(", inner.as_str(), close.as_str(), ";"];
+    let deepest = nested(alloc, form, 61)?;
+    let deeper = nested(alloc, form, 62)?;
+    assert!(rt; refusal(alloc, deeper.as_str()).is_some());
+    let reader = Builder::new()
+        .stack_size(2097152)
+        .spawn(&rt, move || shows_its_tokens(alloc, deepest.as_str()))?;
+    assert!(rt; reader.join(&rt));
+    Ok(())
+}
+
+// Whether the source is refused for its syntax at this place.
+fn is_syntax_at(alloc: Global, source: &str, line: u32, column: u32) -> bool {
+    let at = Pos { line, column };
+    refusal(alloc, source) == Some(SourceRefusal::Syntax { at })
+}
+
+// Statements of `main`, from its `{` on, and the column of the token that fits nothing.
+const UNREAD: [(&str, u32); 17] = [
+    ("}", 1),
+    ("x = (int) y; op_exit(); }", 6),
+    ("x = f(y); op_exit(); }", 6),
+    ("f(y); op_exit(); }", 2),
+    ("while (x) x = 1; op_exit(); }", 7),
+    ("x++; op_exit(); }", 2),
+    ("x = y = 1; op_exit(); }", 7),
+    ("x = 1 ? 2; op_exit(); }", 10),
+    ("x = 1, y = 2; op_exit(); }", 6),
+    ("if (x) int y = 1; op_exit(); }", 8),
+    ("if (x) ; else int y; op_exit(); }", 15),
+    ("for (int i = 0; i < 2; i++) int y; op_exit(); }", 29),
+    ("for (i = 0; i < 2; i++) ; op_exit(); }", 6),
+    ("else ; op_exit(); }", 1),
+    ("op_exit(); op_exit(); }", 12),
+    ("op_exit(); return 1 + 1; }", 21),
+    ("op_exit(); } int x;", 14),
+];
+
+// The same of what stands before `main`.
+const UNREAD_TOPS: [(&str, u32); 9] = [
+    ("", 1),
+    ("void f(int *x) { for (int i = 0; i < 2; j++) ; }", 41),
+    ("void f(int *x) { for (int i = 0; j < 2; i++) ; }", 34),
+    ("void f(int *x) { for (int i = a; i < 2; i++) ; }", 31),
+    ("void f(int *x) { const int y = 1; }", 18),
+    ("void f() { }", 8),
+    ("const int c;", 12),
+    ("int x[0][1];", 9),
+    ("typedef int t;", 1),
+];
+
+#[test]
+fn refuses_other_sources(rt: HostRuntime) -> Result<(), Fail> {
+    let alloc = rt.alloc();
+    for (source, column) in UNREAD_TOPS {
+        assert!(rt; is_syntax_at(alloc, source, 1, column), "{source}");
+    }
+    for (statement, column) in UNREAD {
+        let mut source = String::from_str(alloc, "int main(int argc, char **argv) {\n")?;
+        source.push_str(statement)?;
+        assert!(rt;
+            is_syntax_at(alloc, source.as_str(), 2, column),
+            "{statement}"
+        );
+    }
+    let at = Pos {
+        line: 1,
+        column: 11,
+    };
+    let bad = LexRefusal::BadByte { at };
+    assert!(rt; refusal(alloc, "int x = 1 @") == Some(SourceRefusal::Lex(bad)));
+    Ok(())
+}
+
+// The forms that nest, each with how often it may.
+const NESTED: [([&str; 5], u8); 15] = [
+    (["", "{", "", "}", ""], 64),
+    (["", "if (1) ", ";", "", ""], 63),
+    (["", "if (1) ; else ", ";", "", ""], 63),
+    (["", "for (int i = 0; i < 1; i++) ", ";", "", ""], 63),
+    (["x = ", "(", "1", ")", ";"], 62),
+    (["x = ", "!", "1", "", ";"], 62),
+    (["x = ", "a[", "1", "]", ";"], 62),
+    (["a[", "a[", "1", "]", "] = 1;"], 62),
+    (["x = ", "MIN(1, ", "2", ")", ";"], 62),
+    (["x = ", "MAX(", "1", ", 2)", ";"], 62),
+    (["x = ", "ABS(", "1", ")", ";"], 62),
+    (["x = ", "1 ? ", "2", " : 3", ";"], 62),
+    (["x = ", "1 ? 2 : ", "3", "", ";"], 62),
+    (["x = ", "1 - (", "2", ")", ";"], 31),
+    (["x = 1", " - 1", "", "", ";"], 128),
+];
+
+#[test]
+fn nests_up_to_64_levels(rt: HostRuntime) -> Result<(), Fail> {
+    let alloc = rt.alloc();
+    for (form, most) in NESTED {
+        assert!(rt; is_deepest(alloc, form, most)?, "{most}");
+    }
+    let deep = nested(alloc, ["x = ", "(", "1", ")", ";"], 63)?;
+    let at = Pos {
+        line: 1,
+        column: 102,
+    };
+    assert!(rt; refusal(alloc, deep.as_str()) == Some(SourceRefusal::TooDeep { at }));
     Ok(())
 }

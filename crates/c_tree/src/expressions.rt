@@ -86,7 +86,6 @@ pub enum MinMax {
 }
 
 /// An expression. Parentheses, unary `+` and `*p` are kept as they are written.
-#[derive(Drop)]
 pub enum Expr {
     /// `5`
     Number(NumberLiteral),
@@ -139,4 +138,53 @@ pub enum Expr {
         at: usize,
         operand: Box<Expr>,
     },
+}
+
+// A chain of operators, each the left operand of the one before it, is taken apart by a loop, so that dropping an expression
+// recurses by level of nesting alone.
+impl Drop for Expr {
+    fn drop(mut self) {
+        loop {
+            match self {
+                Expr::Binary {
+                    op: _,
+                    at: _,
+                    left,
+                    right: _right,
+                } => self = Box::into_inner(left),
+                Expr::Choice {
+                    at: _,
+                    condition,
+                    if_true: _if_true,
+                    if_false: _if_false,
+                } => self = Box::into_inner(condition),
+                Expr::Number(_) => return,
+                Expr::Name(_name) => return,
+                Expr::Index {
+                    name: _name,
+                    index: _index,
+                } => return,
+                Expr::Deref { at: _, name: _name } => return,
+                Expr::Unary {
+                    op: _,
+                    at: _,
+                    operand: _operand,
+                } => return,
+                Expr::Paren {
+                    at: _,
+                    inner: _inner,
+                } => return,
+                Expr::Extremum {
+                    which: _,
+                    at: _,
+                    first: _first,
+                    second: _second,
+                } => return,
+                Expr::Absolute {
+                    at: _,
+                    operand: _operand,
+                } => return,
+            }
+        }
+    }
 }

@@ -6,6 +6,15 @@ mod expressions;
 mod hosts;
 mod kernels;
 mod programs;
+mod put_calls;
+mod put_expressions;
+mod put_hosts;
+mod put_statements;
+mod put_tokens;
+mod put_tops;
+mod showing;
+#[cfg(test)]
+mod tests;
 
 pub use c_lex::{Kind, LexRefusal, Name, Pos, Sign, Text, Token, Word, end_place, lex};
 pub use declarations::{AssignOp, Assignment, Declaration, Declr, Place};
@@ -13,3 +22,4 @@ pub use expressions::{BinaryOp, Expr, Ident, MinMax, NumberLiteral, TextLiteral,
 pub use hosts::{AccessWord, ArgIndex, ArgVia, GlobalName, Host, HostForHeader, LoopArg, OpCall};
 pub use kernels::{ForHeader, Kernel, Param, Stmt};
 pub use programs::{Main, Program, Top};
+pub use showing::show;

@@ -1,0 +1,36 @@
+#!/bin/sh
+# Times `op2 run` on sources of doubling size, and shows each run's peak memory. The sources have kernels with statements of
+# every form, up to the 1 MiB that a source may have; the program reads them and answers that it can't run them yet.
+# Usage: bench/source.sh [BYTES ..]     (131072 262144 524288 1048576 where none is given)
+here=$(CDPATH= cd -- "$(dirname -- "$0")/.." && pwd) || exit 1
+work=$(mktemp -d) || exit 1
+trap 'rm -rf "$work"' EXIT
+"$here/op2" run "$here/examples/bump.c" "$here/examples/bump.mesh" >/dev/null || exit 1
+[ $# -gt 0 ] || set -- 131072 262144 524288 1048576
+for size in "$@"; do
+    python3 - "$here/op2" "$work/source.c" "$here/examples/bump.mesh" "$size" <<'PY'
+import resource, subprocess, sys, time
+op2, source, mesh, size = sys.argv[1:]
+end = "int main(int argc, char **argv) {\n  op_exit();\n}\n"
+parts, length, count = [], len(end), 0
+while True:
+    part = f"""static inline void kernel_{count}(const int *a, int *b) {{
+  // differences, wrapped
+  int x = a[0] - {count} - (b[1] << 2), y[4];
+  for (int i = 0; i < 4; i++) {{ y[i] = MAX(x, -1) * i; x += ABS(y[i]) % 7; }}
+  if (x > 3 && y[0] != 2) *b = x ? y[1] : y[2]; else b[0] ^= x | 5; /* the last */
+}}
+"""
+    if length + len(part) > int(size):
+        break
+    parts.append(part)
+    length += len(part)
+    count += 1
+with open(source, "w") as file:
+    file.write("".join(parts) + end)
+begun = time.time()
+status = subprocess.call([op2, "run", source, mesh], stdout=subprocess.DEVNULL, stderr=subprocess.DEVNULL)
+peak = resource.getrusage(resource.RUSAGE_CHILDREN).ru_maxrss
+print(f"{length} bytes, {count} kernels: status {status}, {time.time() - begun:.2f} s, {peak / 1024:.0f} MiB at the peak")
+PY
+done

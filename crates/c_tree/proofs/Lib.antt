@@ -1,0 +1,5 @@
+pub mod Blocks
+pub mod ShownExprs
+pub mod ShownStmts
+pub mod ShownCalls
+pub mod Shown
