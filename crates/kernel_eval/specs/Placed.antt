@@ -4,6 +4,7 @@ use Rattle.op_num.specs.declared.refusals.Fault.{Fault}
 use Rattle.c_lex.specs.declared.tokens.Pos.{Pos}
 use Rattle.kernel_model.specs.Numbers.{Value, fault}
 
+-- the value, or its fault at that place
 abbrev pub placed : Result ℤ Fault → Pos → Value
 placed (Ok v) at = Ok v
 placed (Err kind) at = Err (fault kind at)

@@ -13,7 +13,8 @@ use Rattle.kernel_types.specs.declared.expressions.RExpr.{RExpr}
 use Rattle.kernel_types.specs.declared.expressions.RExpr.TheVariants.{Arg', Extremum'}
 use Rattle.kernel_model.specs.Numbers.{Value, extremum, reduction_of}
 use Rattle.kernel_model.specs.Meaning.{Store, Target, target_at, read_arg, store_arg, on_value, and_then, index_in, value_of, Outcome, Done, with_value, stored}
-use Rattle.kernel_model.specs.Obeys.{Access, Reduces, Mode, Counters, static, Event, Reads, Assigns, Owns, Merges, ExprPath, expr_events, store_event, Assigned, MayRead, MayAssign, MayOwn, MayMerge, same_form, same_tokens, is_place, Own, Neither, First, Second, own_side, own_events, right_events, target_event, Allowed, with_assigned, AllAllowed, assigned_after}
+use Rattle.kernel_model.specs.Obeys.{Access, Reduces, Mode, Counters, static, Event, Reads, Assigns, Owns, Merges, ExprPath, expr_events, store_event, Assigned, MayRead, MayAssign, MayOwn, MayMerge, is_place, Own, Neither, First, Second, own_side, own_events, right_events, target_event, Allowed, with_assigned, AllAllowed, assigned_after}
+use Rattle.kernel_model.specs.SameTokens.{same_form, same_tokens}
 use Rattle.kernel_model.specs.Independence.{access, dim, SameAliases}
 use Rattle.kernel_model.proofs.Paths.{some_expr_path, allowed_front, assigned_after-append, expr_keeps, keeps_two, own_keeps, right_keeps, target_event_after, after_keeping, after_expr, keeping_both}
 use Rattle.kernel_model.proofs.Static.{Static, static_value, index_ok}

@@ -16,7 +16,7 @@ use Rattle.kernel_types.specs.declared.expressions.RExpr.{RExpr}
 use Rattle.kernel_types.specs.declared.expressions.RExpr.TheVariants.{Number, Scalar, Constant, Arg', Local', Const', Unary', Binary', Choice', Paren', Extremum', Absolute'}
 use Rattle.kernel_model.specs.Numbers.{Value, fault, truth, is_zero, is_shift, apply, apply_unary, is_settled, extremum, not}
 use Rattle.kernel_model.specs.Meaning.{Store, Target, target_at, read_arg, on_value, and_then, index_in, value_of}
-use Rattle.kernel_model.specs.Obeys.{same_form, same_op, same_unary, same_which, same_tokens}
+use Rattle.kernel_model.specs.SameTokens.{same_form, same_op, same_unary, same_which, same_tokens}
 
 pub and_left : (a b : Bool) → (a && b) ≡ true → a ≡ true
 and_left true b e = refl

@@ -25,9 +25,11 @@ pub record Fits (ts : List Target) (s : Store) : Type 0 where
 -- ---- independence
 
 module _ (modes : List Mode) where
+  -- an argument's access
   abbrev pub access : ℕ → Access
   access a = (mode_at modes a).access
 
+  -- how many components it has
   abbrev pub dim : ℕ → ℕ
   dim a = (mode_at modes a).dim
 

@@ -1,5 +1,6 @@
 pub mod Numbers
 pub mod Meaning
+pub mod SameTokens
 pub mod Obeys
 pub mod Independence
 pub mod Refusals

@@ -18,9 +18,11 @@ use Rattle.kernel_model.specs.Numbers.{Value, fault, truth, is_zero, apply, appl
 abbrev pub Store : Type 0
 Store = List (List ℤ)
 
+-- the value of a cell
 abbrev pub cell : Store → ℕ → ℕ → ℤ
 cell s x k = slice_index_or (slice_index_or s x []) k (pos 0)
 
+-- the store with that value in the cell
 abbrev pub with_cell : Store → ℕ → ℕ → ℤ → Store
 with_cell s x k v = slice_set s x (slice_set (slice_index_or s x []) k v)
 
@@ -30,15 +32,19 @@ pub record Target : Type 0 where
   pub from : ℕ
   pub count : ℕ
 
+-- what stands for an argument that is not there
 abbrev pub no_target : Target
 no_target = record { array = 0; from = 0; count = 0 }
 
+-- the target of an argument
 abbrev pub target_at : List Target → ℕ → Target
 target_at ts a = slice_index_or ts a no_target
 
+-- the value of an argument's component
 abbrev pub read_arg : List Target → Store → ℕ → ℕ → ℤ
 read_arg ts s a i = cell s (target_at ts a).array ((target_at ts a).from + i)
 
+-- the store with that value in an argument's component
 abbrev pub store_arg : List Target → Store → ℕ → ℕ → ℤ → Store
 store_arg ts s a i v = with_cell s (target_at ts a).array ((target_at ts a).from + i) v
 
@@ -49,6 +55,7 @@ abbrev pub on_value : {A R : Type 0} → (KernelFault → R) → Result A Kernel
 on_value stop (Err f) go = stop f
 on_value stop (Ok v) go = go v
 
+-- the same, where what follows is a value
 abbrev pub and_then : {A : Type 0} → Result A KernelFault → (A → Value) → Value
 and_then r go = on_value Err r go
 
@@ -86,10 +93,12 @@ pub data Outcome : Type 0 where
   Done : (s : Store) (ls : List ℤ) → Outcome
   Faulted : (s : Store) (ls : List ℤ) (f : KernelFault) → Outcome
 
+-- goes on after a run that is done
 abbrev pub then_do : Outcome → (Store → List ℤ → Outcome) → Outcome
 then_do (Done s ls) go = go s ls
 then_do (Faulted s ls f) go = Faulted s ls f
 
+-- goes on with a value, or stops with its fault, with the store and the locals as they are
 abbrev pub with_value : {A : Type 0} → Store → List ℤ → Result A KernelFault → (A → Outcome) → Outcome
 with_value s ls r go = on_value (Faulted s ls) r go
 
@@ -120,6 +129,7 @@ turns body k i (suc n) s ls = then_do (body s (slice_set ls k (pos i))) (turns b
 module _ (ts : List Target) (consts : List ℤ) where
   -- in an assignment the index of the target comes first, then the old value, then the right side, then the sign
   abbrev mutual
+    -- of a statement
     pub meaning : RStmt → Store → List ℤ → Outcome
     meaning (Block' shape all) s ls = meaning_of_all all s ls
     meaning (Declare from count) s ls = Done s (cleared from count ls)
@@ -133,6 +143,7 @@ module _ (ts : List Target) (consts : List ℤ) where
         with_value s ls (value_of ts consts e s ls) (λ x. cond (is_zero x) (meaning b s ls) (meaning a s ls))
     meaning (For' k first past p body) s ls = turns (meaning body) k first (past - first) s ls
 
+    -- of the statements of a block, in order
     pub meaning_of_all : {m : _} → Row_of-RStmt m → Store → List ℤ → Outcome
     meaning_of_all end_of-RStmt s ls = Done s ls
     meaning_of_all (more_of-RStmt first rest) s ls = then_do (meaning first s ls) (meaning_of_all rest)
@@ -144,13 +155,16 @@ pub data Ran : Type 0 where
   Finished : (s : Store) → Ran
   Stopped : (s : Store) (f : KernelFault) → Ran
 
+-- the locals are let go
 abbrev pub without_locals : Outcome → Ran
 without_locals (Done s ls) = Finished s
 without_locals (Faulted s ls f) = Stopped s f
 
+-- what a kernel does to a store: its locals start at 0
 abbrev pub kernel_meaning : List Target → List ℤ → RKernel → Store → Ran
 kernel_meaning ts consts k s = without_locals (meaning ts consts k.body.statement s (replicate k.scratch (pos 0)))
 
+-- the end of a run that left that store
 abbrev pub ran_of : {A : Type 0} → Store → Result A KernelFault → Ran
 ran_of s (Ok x) = Finished s
 ran_of s (Err f) = Stopped s f

@@ -15,42 +15,55 @@ use Rattle.c_tree.specs.declared.expressions.MinMax.TheVariants as min_max
 use Rattle.reductions.specs.Reduction.{Reduction, Min, Max, merged}
 use Rattle.kernel_types.specs.declared.faults.KernelFault.{KernelFault}
 
+-- `x + y`
 unfoldable pub sum : ℤ → ℤ → ℤ
 sum x y = wrapped (x +ℤ y)
 
+-- `x - y`
 unfoldable pub difference : ℤ → ℤ → ℤ
 difference x y = wrapped (x -ℤ y)
 
+-- `x * y`
 unfoldable pub product : ℤ → ℤ → ℤ
 product x y = wrapped (x *ℤ y)
 
+-- `x / y`, which truncates towards 0
 unfoldable pub quotient : ℤ → ℤ → ℤ
 quotient x y = wrapped (int_div x y)
 
+-- `x % y`, what the quotient leaves
 unfoldable pub rest : ℤ → ℤ → ℤ
 rest x y = remainder x y
 
+-- `x << n`, a product with 2 ^ n
 unfoldable pub shifted_left : ℤ → ℤ → ℤ
 shifted_left x n = wrapped (doubled x (unsigned_abs n))
 
+-- `x >> n`, a quotient by 2 ^ n, rounded down
 unfoldable pub shifted_right : ℤ → ℤ → ℤ
 shifted_right x n = halved x (unsigned_abs n)
 
+-- `x & y`
 unfoldable pub and_bits : ℤ → ℤ → ℤ
 and_bits x y = int_bit_and w32 x y
 
+-- `x | y`
 unfoldable pub or_bits : ℤ → ℤ → ℤ
 or_bits x y = int_bit_or w32 x y
 
+-- `x ^ y`
 unfoldable pub xor_bits : ℤ → ℤ → ℤ
 xor_bits x y = int_bit_xor w32 x y
 
+-- `~x`
 unfoldable pub complement : ℤ → ℤ
 complement x = int_bit_not w32 x
 
+-- `-x`
 unfoldable pub negated : ℤ → ℤ
 negated x = wrapped (neg_ℤ x)
 
+-- `ABS(x)`
 unfoldable pub magnitude : ℤ → ℤ
 magnitude x = wrapped (absolute x)
 
@@ -58,17 +71,21 @@ magnitude x = wrapped (absolute x)
 abbrev pub truth : Bool → ℤ
 truth b = cond b (pos 1) (pos 0)
 
+-- the opposite
 abbrev pub not : Bool → Bool
 not b = cond b false true
 
+-- the number is 0
 abbrev pub is_zero : ℤ → Bool
 is_zero z = int_eq z (pos 0)
 
 -- ---- operators with faults
 
+-- a number, or the fault with its place
 abbrev pub Value : Type 0
 Value = Result ℤ KernelFault
 
+-- a fault of that kind at that place
 abbrev pub fault : Fault → Pos → KernelFault
 fault kind at = record { kind = kind; at = at }
 
@@ -80,6 +97,7 @@ unless_zero d at v = cond (is_zero d) (Err (fault DivZero at)) (Ok v)
 abbrev pub is_shift : ℤ → Bool
 is_shift n = not (int_lt n (pos 0)) && not (int_lt (pos 31) n)
 
+-- a value, where numbers are shifted by so much
 abbrev pub if_shift : ℤ → Pos → ℤ → Value
 if_shift n at v = cond (is_shift n) (Ok v) (Err (fault ShiftCount at))
 
@@ -104,6 +122,7 @@ apply binary.Mul at x y = Ok (product x y)
 apply binary.Div at x y = unless_zero y at (quotient x y)
 apply binary.Rem at x y = unless_zero y at (rest x y)
 
+-- the value of a unary operator
 abbrev pub apply_unary : UnaryOp → ℤ → ℤ
 apply_unary unary.Minus x = negated x
 apply_unary unary.Plus x = x
@@ -127,5 +146,6 @@ abbrev pub reduction_of : MinMax → Reduction
 reduction_of min_max.Min = Min
 reduction_of min_max.Max = Max
 
+-- `MIN(x, y)` or `MAX(x, y)`
 abbrev pub extremum : MinMax → ℤ → ℤ → ℤ
 extremum which x y = merged (reduction_of which) x y

@@ -1,6 +1,5 @@
 -- The access rules, on all paths of the unrolled kernel (the meaning of OP_READ, OP_WRITE, OP_RW, OP_INC, OP_MIN and OP_MAX in the OP2 manual).
 use Rattle.std.specs.Prelude.{◌≡◌, ℕ, zero, suc, ℤ, pos, negsuc, ◌-◌, ◌<◌, List, [], ◌∷◌, ◌++◌, Bool, true, false, cond, ◌&&◌, Option, Some, None, ◌⊎◌, nat_eq, slice_index_or}
-use Rattle.std.specs.Ordering.{int_eq}
 use Rattle.c_lex.specs.declared.tokens.Pos.{Pos}
 use Rattle.c_tree.specs.declared.expressions.BinaryOp.{BinaryOp}
 use Rattle.c_tree.specs.declared.expressions.BinaryOp.TheVariants as binary
@@ -12,12 +11,12 @@ use Rattle.c_tree.specs.declared.declarations.AssignOp.{AssignOp}
 use Rattle.c_tree.specs.declared.declarations.AssignOp.TheVariants as assign
 use Rattle.reductions.specs.Reduction.{Reduction, Add, Min, Max}
 use Rattle.kernel_types.specs.declared.expressions.ElementForm.{ElementForm}
-use Rattle.kernel_types.specs.declared.expressions.ElementForm.TheVariants.{Index, Deref}
 use Rattle.kernel_types.specs.declared.expressions.RExpr.{RExpr}
 use Rattle.kernel_types.specs.declared.expressions.RExpr.TheVariants.{Number, Scalar, Constant, Arg', Local', Const', Unary', Binary', Choice', Paren', Extremum', Absolute'}
 use Rattle.kernel_types.specs.declared.statements.RStmt.{RStmt, Block', Declare, SetScalar, SetLocal, SetArg, If', For', Row_of-RStmt, end_of-RStmt, more_of-RStmt}
 use Rattle.kernel_types.specs.declared.kernels.RKernel.{RKernel}
 use Rattle.kernel_model.specs.Numbers.{sum, difference, product, negated, is_lazy}
+use Rattle.kernel_model.specs.SameTokens.{same_form, same_tokens}
 use mathlib.Core.Logic.{inl, inr}
 
 -- how a kernel may use an argument; OP_INC, OP_MIN and OP_MAX reduce by a sum, a minimum and a maximum
@@ -32,9 +31,11 @@ pub record Mode : Type 0 where
   pub access : Access
   pub dim : ℕ
 
+-- what stands for an argument that is not there
 abbrev pub no_mode : Mode
 no_mode = record { access = Read; dim = 0 }
 
+-- the mode of an argument
 abbrev pub mode_at : List Mode → ℕ → Mode
 mode_at modes a = slice_index_or modes a no_mode
 
@@ -44,18 +45,22 @@ mode_at modes a = slice_index_or modes a no_mode
 abbrev pub Counters : Type 0
 Counters = ℕ → Option ℤ
 
+-- none is known
 abbrev pub no_counters : Counters
 no_counters = λ k. None
 
+-- one more is known
 abbrev pub with_counter : Counters → ℕ → ℤ → Counters
 with_counter cs k v = λ j. cond (nat_eq j k) (Some v) (cs j)
 
+-- + - * of known numbers
 abbrev pub static_op : BinaryOp → Option ℤ → Option ℤ → Option ℤ
 static_op binary.Add (Some x) (Some y) = Some (sum x y)
 static_op binary.Sub (Some x) (Some y) = Some (difference x y)
 static_op binary.Mul (Some x) (Some y) = Some (product x y)
 static_op op x y = None
 
+-- unary - and + of a known number
 abbrev pub static_unary : UnaryOp → Option ℤ → Option ℤ
 static_unary unary.Minus (Some x) = Some (negated x)
 static_unary unary.Plus (Some x) = Some x
@@ -113,14 +118,17 @@ ExprPath (Paren' p a) = ExprPath a
 ExprPath (Extremum' which p a q b) = ExprPath a × ExprPath b
 ExprPath (Absolute' p a) = ExprPath a
 
+-- the events of a part that may be skipped
 abbrev pub if_taken : {P : Type 0} → (P → List Event) → Option P → List Event
 if_taken f None = []
 if_taken f (Some w) = f w
 
+-- the events of a part, where it may or may not be skipped
 abbrev pub taken_if : {P : Type 0} → (may_skip : Bool) → (P → List Event) → PathIf may_skip P → List Event
 taken_if true f w = if_taken f w
 taken_if false f w = f w
 
+-- the events of a path through an expression, in the order in which it is evaluated
 abbrev pub expr_events : (e : RExpr) → ExprPath e → Counters → List Event
 expr_events (Number n) w cs = []
 expr_events (Scalar k) w cs = []
@@ -136,61 +144,6 @@ expr_events (Paren' p a) w cs = expr_events a w cs
 expr_events (Extremum' which p a q b) w cs = expr_events a w.0 cs ++ expr_events b w.1 cs
 expr_events (Absolute' p a) w cs = expr_events a w cs
 
--- ---- the same tokens: the same tree, places aside
-
-abbrev pub same_form : ElementForm → ElementForm → Bool
-same_form Index Index = true
-same_form Deref Deref = true
-same_form f g = false
-
-abbrev pub same_which : MinMax → MinMax → Bool
-same_which min_max.Min min_max.Min = true
-same_which min_max.Max min_max.Max = true
-same_which o p = false
-
-abbrev pub same_unary : UnaryOp → UnaryOp → Bool
-same_unary unary.Minus unary.Minus = true
-same_unary unary.Plus unary.Plus = true
-same_unary unary.Not unary.Not = true
-same_unary unary.Complement unary.Complement = true
-same_unary o p = false
-
-abbrev pub same_op : BinaryOp → BinaryOp → Bool
-same_op binary.LogicalOr binary.LogicalOr = true
-same_op binary.LogicalAnd binary.LogicalAnd = true
-same_op binary.BitOr binary.BitOr = true
-same_op binary.BitXor binary.BitXor = true
-same_op binary.BitAnd binary.BitAnd = true
-same_op binary.Equal binary.Equal = true
-same_op binary.NotEqual binary.NotEqual = true
-same_op binary.Less binary.Less = true
-same_op binary.Greater binary.Greater = true
-same_op binary.LessEqual binary.LessEqual = true
-same_op binary.GreaterEqual binary.GreaterEqual = true
-same_op binary.ShiftLeft binary.ShiftLeft = true
-same_op binary.ShiftRight binary.ShiftRight = true
-same_op binary.Add binary.Add = true
-same_op binary.Sub binary.Sub = true
-same_op binary.Mul binary.Mul = true
-same_op binary.Div binary.Div = true
-same_op binary.Rem binary.Rem = true
-same_op o p = false
-
-abbrev pub same_tokens : RExpr → RExpr → Bool
-same_tokens (Number n) (Number m) = int_eq n m
-same_tokens (Scalar k) (Scalar j) = nat_eq k j
-same_tokens (Constant k) (Constant j) = nat_eq k j
-same_tokens (Arg' a form p e at) (Arg' b gorm q f bt) = nat_eq a b && (same_form form gorm && same_tokens e f)
-same_tokens (Local' from count form p e at) (Local' grom dount gorm q f bt) = nat_eq from grom && (nat_eq count dount && (same_form form gorm && same_tokens e f))
-same_tokens (Const' from count form p e at) (Const' grom dount gorm q f bt) = nat_eq from grom && (nat_eq count dount && (same_form form gorm && same_tokens e f))
-same_tokens (Unary' op p a) (Unary' oq q b) = same_unary op oq && same_tokens a b
-same_tokens (Binary' op p a q b at) (Binary' oq r c t d bt) = same_op op oq && (same_tokens a c && same_tokens b d)
-same_tokens (Choice' p x q a r b) (Choice' s y t c u d) = same_tokens x y && (same_tokens a c && same_tokens b d)
-same_tokens (Paren' p a) (Paren' q b) = same_tokens a b
-same_tokens (Extremum' which p a q b) (Extremum' whych r c t d) = same_which which whych && (same_tokens a c && same_tokens b d)
-same_tokens (Absolute' p a) (Absolute' q b) = same_tokens a b
-same_tokens e f = false
-
 -- ---- P = MIN(P, e) and P = MAX(P, e), with P on either side
 
 -- the expression is the element of the argument with that index, in the same tokens
@@ -204,6 +157,7 @@ pub data Own : Type 0 where
   First : (which : MinMax) → Own
   Second : (which : MinMax) → Own
 
+-- which operand is the target, on the right side of that assignment to it
 abbrev pub own_side : ℕ → ElementForm → RExpr → AssignOp → RExpr → Own
 own_side a form ix assign.Set (Extremum' which p x q y) = cond (is_place a form ix x) (First which) (cond (is_place a form ix y) (Second which) Neither)
 own_side a form ix op e = Neither
@@ -219,12 +173,14 @@ right_events (First which) (Extremum' other p x q y) w cs = own_events which x w
 right_events (Second which) (Extremum' other p x q y) w cs = expr_events x w.0 cs ++ own_events which y w.1 cs
 right_events own e w cs = expr_events e w cs
 
+-- the event of an assignment by its sign
 abbrev pub store_event : AssignOp → ℕ → Option ℤ → Pos → Event
 store_event assign.Set a ix at = Assigns a ix at
 store_event assign.Add a ix at = Adds a ix at
 store_event assign.Sub a ix at = Adds a ix at
 store_event op a ix at = Changes a ix at
 
+-- the event of an assignment by its sign and its right side
 abbrev pub target_event : Own → AssignOp → ℕ → Option ℤ → Pos → Event
 target_event Neither op a ix at = store_event op a ix at
 target_event (First which) op a ix at = Merges which a ix at
@@ -239,6 +195,7 @@ EachTurn P (suc n) = P × EachTurn P n
 
 -- a path takes either branch of an if, and a path of the body at each value of a counter
 abbrev mutual
+  -- of a statement
   pub Path : RStmt → Type 0
   Path (Block' shape all) = RowPath all
   Path (Declare from count) = Unit {0}
@@ -248,19 +205,23 @@ abbrev mutual
   Path (If' e p a q b) = ExprPath e × (Path a ⊎ Path b)
   Path (For' k first past p body) = EachTurn (Path body) (past - first)
 
+  -- of a block
   pub RowPath : {m : _} → Row_of-RStmt m → Type 0
   RowPath end_of-RStmt = Unit {0}
   RowPath (more_of-RStmt first rest) = Path first × RowPath rest
 
+-- the events of the branch that is taken
 abbrev pub on_branch : {P Q : Type 0} → (P → List Event) → (Q → List Event) → P ⊎ Q → List Event
 on_branch f g (inl w) = f w
 on_branch f g (inr w) = g w
 
+-- the events of each turn, in order
 abbrev pub turn_events : {P : Type 0} → (ℕ → P → List Event) → ℕ → (n : ℕ) → EachTurn P n → List Event
 turn_events f i zero w = []
 turn_events f i (suc n) w = f i w.0 ++ turn_events f (suc i) n w.1
 
 abbrev mutual
+  -- the events of a path through a statement
   pub events : (s : RStmt) → Path s → Counters → List Event
   events (Block' shape all) w cs = row_events all w cs
   events (Declare from count) w cs = []
@@ -272,6 +233,7 @@ abbrev mutual
   events (For' k first past p body) w cs =
       turn_events (λ i v. events body v (with_counter cs k (pos i))) first (past - first) w
 
+  -- the events of a path through a block
   pub row_events : {m : _} → (all : Row_of-RStmt m) → RowPath all → Counters → List Event
   row_events end_of-RStmt w cs = []
   row_events (more_of-RStmt first rest) w cs = events first w.0 cs ++ row_events rest w.1 cs
@@ -282,6 +244,7 @@ abbrev mutual
 abbrev pub Assigned : Type 0
 Assigned = List (ℕ × ℕ)
 
+-- the component is one of them
 abbrev pub HasAssigned : Assigned → ℕ → ℕ → Type 0
 HasAssigned [] a i = ⊥
 HasAssigned (c ∷ cs) a i = ((c.0 ≡ a) × (c.1 ≡ i)) ⊎ HasAssigned cs a i
@@ -336,6 +299,7 @@ MayMerge min_max.Min (Reduces Min) dim a ix before = InDim dim ix
 MayMerge min_max.Max (Reduces Max) dim a ix before = InDim dim ix
 MayMerge which acc dim a ix before = MayAssign acc dim a ix before
 
+-- the event is allowed where those components were assigned before
 abbrev pub Allowed : List Mode → Assigned → Event → Type 0
 Allowed modes before (Reads a ix at) = MayRead (mode_at modes a).access (mode_at modes a).dim a ix before
 Allowed modes before (Assigns a ix at) = MayAssign (mode_at modes a).access (mode_at modes a).dim a ix before
@@ -344,11 +308,13 @@ Allowed modes before (Changes a ix at) = MayChange (mode_at modes a).access (mod
 Allowed modes before (Owns which a ix at) = MayOwn which (mode_at modes a).access (mode_at modes a).dim a ix before
 Allowed modes before (Merges which a ix at) = MayMerge which (mode_at modes a).access (mode_at modes a).dim a ix before
 
+-- one more, where its index is static
 abbrev pub with_assigned : ℕ → Option ℤ → Assigned → Assigned
 with_assigned a None before = before
 with_assigned a (Some (pos i)) before = (a, i) ∷ before
 with_assigned a (Some (negsuc i)) before = before
 
+-- the components that were assigned before the next event
 abbrev pub after_event : Event → Assigned → Assigned
 after_event (Reads a ix at) before = before
 after_event (Assigns a ix at) before = with_assigned a ix before
@@ -362,6 +328,7 @@ abbrev pub AllAllowed : List Mode → Assigned → List Event → Type 0
 AllAllowed modes before [] = Unit {0}
 AllAllowed modes before (e ∷ es) = Allowed modes before e × AllAllowed modes (after_event e before) es
 
+-- the components that were assigned before or by the events
 abbrev pub assigned_after : Assigned → List Event → Assigned
 assigned_after before [] = before
 assigned_after before (e ∷ es) = assigned_after (after_event e before) es

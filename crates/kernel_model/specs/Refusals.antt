@@ -97,6 +97,7 @@ abbrev pub sum_reads : Access → Bool
 sum_reads (Reduces Add) = false
 sum_reads acc = true
 
+-- the other
 abbrev pub opposite : Bool → Bool
 opposite true = false
 opposite false = true

@@ -17,6 +17,7 @@ IsFormOf Deref e = e ≡ Number (pos 0)
 
 -- the parameters, the cells of the locals and the cells of the constants that a kernel names are there
 module _ (params scratch consts : ℕ) where
+  -- of an expression
   abbrev pub ExprWithin : RExpr → Type 0
   ExprWithin (Number n) = FitsSigned w32 n
   ExprWithin (Scalar k) = k < scratch
@@ -32,6 +33,7 @@ module _ (params scratch consts : ℕ) where
   ExprWithin (Absolute' p a) = ExprWithin a
 
   abbrev mutual
+    -- of a statement
     pub StmtWithin : RStmt → Type 0
     StmtWithin (Block' shape all) = RowWithin all
     StmtWithin (Declare from count) = from + count ≤ scratch
@@ -41,6 +43,7 @@ module _ (params scratch consts : ℕ) where
     StmtWithin (If' e p a q b) = ExprWithin e × StmtWithin a × StmtWithin b
     StmtWithin (For' k first past p body) = (k < scratch) × (past < 2 ^ 31) × StmtWithin body
 
+    -- of each statement of a block
     pub RowWithin : {m : _} → Row_of-RStmt m → Type 0
     RowWithin end_of-RStmt = Unit {0}
     RowWithin (more_of-RStmt first rest) = StmtWithin first × RowWithin rest
@@ -52,6 +55,7 @@ MissesCell cell from count = (k : ℕ) → from ≤ k → k < from + count → k
 -- the statement stores to those cells of the locals alone that may be stored to
 module _ (may : ℕ → Type 0) where
   abbrev mutual
+    -- of a statement
     pub StoresOnly : RStmt → Type 0
     StoresOnly (Block' shape all) = RowStoresOnly all
     StoresOnly (Declare from count) = (k : ℕ) → from ≤ k → k < from + count → may k
@@ -61,12 +65,14 @@ module _ (may : ℕ → Type 0) where
     StoresOnly (If' e p a q b) = StoresOnly a × StoresOnly b
     StoresOnly (For' k first past p body) = may k × StoresOnly body
 
+    -- of each statement of a block
     pub RowStoresOnly : {m : _} → Row_of-RStmt m → Type 0
     RowStoresOnly end_of-RStmt = Unit {0}
     RowStoresOnly (more_of-RStmt first rest) = StoresOnly first × RowStoresOnly rest
 
 -- no counter is stored to in the body of its `for`
 abbrev mutual
+  -- of a statement
   pub CountersKept : RStmt → Type 0
   CountersKept (Block' shape all) = RowCountersKept all
   CountersKept (Declare from count) = Unit {0}
@@ -76,6 +82,7 @@ abbrev mutual
   CountersKept (If' e p a q b) = CountersKept a × CountersKept b
   CountersKept (For' k first past p body) = StoresOnly (λ j. j ≢ k) body × CountersKept body
 
+  -- of each statement of a block
   pub RowCountersKept : {m : _} → Row_of-RStmt m → Type 0
   RowCountersKept end_of-RStmt = Unit {0}
   RowCountersKept (more_of-RStmt first rest) = CountersKept first × RowCountersKept rest
@@ -96,6 +103,7 @@ abbrev pub FollowOn : ℕ → List ConstDecl → Type 0
 FollowOn n [] = Unit {0}
 FollowOn n (c ∷ cs) = (c.from ≡ n) × FollowOn (n + c.count) cs
 
+-- each of the kernels is resolved
 abbrev pub AreResolved : ℕ → List RKernel → Type 0
 AreResolved consts [] = Unit {0}
 AreResolved consts (k ∷ ks) = IsResolved consts k × AreResolved consts ks
