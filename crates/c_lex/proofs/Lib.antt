@@ -7,6 +7,7 @@ pub mod Forms
 pub mod Longest
 pub mod Lines
 pub mod Fronts
+pub mod Apart
 pub mod OneStep
 pub mod Outcomes
 pub mod Turns

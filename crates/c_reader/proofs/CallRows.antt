@@ -20,7 +20,8 @@ use Rattle.c_reader.proofs.Spans.{Spans, spans_end, after}
 use Rattle.c_reader.proofs.Complete.{right_paren, comma, level_fits}
 use Rattle.c_reader.proofs.Exactness.{Exact, Any, Free, ClosedAt, both_exact, turned_exact, flat, sign_exact, word_exact, marked_exact, ident_exact, number_exact, text_exact, expr_exact}
 use Rattle.c_reader.proofs.Lists.{AllValid, tails, ParenAt, tails_complete, tails_sound, tails_far}
-use Rattle.c_reader.proofs.Items.{global_exact, args_exact, made_complete, made_far, image_sound, paren_within}
+use Rattle.c_reader.proofs.Marks.{global_exact, made_complete, made_far}
+use Rattle.c_reader.proofs.Items.{args_exact, image_sound, paren_within}
 
 -- tokens alone before something else
 pub then_exact : (ks : List Kind) {A B : Type 0} {from from' size more : ℕ} {marksA : A → List Mark} {okB : B → Type 0} {marksB : B → List Mark} {needsB givesB : B → ℕ → Type 0} {p : Reader A} {q : Reader B} → from' ≤ from + size → Exact ks from size Any marksA Free Free p → Exact ks from' more okB marksB needsB givesB q → Exact ks from (size + more) (λ v. okB v.1) (λ v. marksA v.0 ++ marksB v.1) (λ v e. needsB v.1 e) (λ v e. givesB v.1 e) (both p q)

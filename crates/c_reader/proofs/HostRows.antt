@@ -1,227 +1,41 @@
 -- Statements of `main` are read exactly as they are printed.
-use Rattle.std.proofs.Common.{◌≡◌, ℕ, zero, suc, ◌+◌, ◌≤◌, Bool, true, false, cond, List, [], ◌∷◌, ◌++◌, length, Option, Some, None, Result, Ok, Err, refl, sym, ap, subst, ◌∙◌, arith, slice_get, nat_lt, append_assoc, length-append}
+use Rattle.std.proofs.Common.{◌≡◌, ℕ, zero, suc, ◌+◌, ◌≤◌, Bool, true, false, cond, List, [], ◌∷◌, ◌++◌, length, Option, Some, None, Result, Ok, Err, refl, sym, ap, subst, ◌∙◌, arith, slice_get, nat_lt, length-append}
 use Rattle.std.proofs.lemmas.Option.{slice_get_within}
 use Rattle.c_lex.specs.declared.tokens.Kind.{Kind}
 use Rattle.c_lex.specs.declared.tokens.Kind.TheVariants as kind
 use Rattle.c_lex.specs.declared.tokens.Sign.TheVariants as sg
 use Rattle.c_lex.specs.declared.tokens.Word.TheVariants as wd
-use Rattle.c_tree.specs.declared.expressions.Ident.{Ident}
-use Rattle.c_tree.specs.Tree.{ExprTree, PlaceTree, Scalar, Element, Target, AssignmentTree, HostForHeaderTree, OpCallTree, CallInit, DeclSet, DeclMap, DeclDat, DeclConst, ParLoop, Printf, PrintDat, HostTree, HostDeclaration, HostBlock, HostEmpty, HostAssign, HostIf, HostIfElse, HostFor, HostCall, HostTrees, NoHost, MoreHost}
-use Rattle.c_tree.specs.Print.{Mark, sign_at as sign_mark, word_at as word_mark, named_sign, named_word, word_if, ident as ident_mark, expr, place, vars, assignment, host_counter, condition, call, host, hosts}
-use Rattle.c_tree.specs.Grouped.{IsGrouped, IsHostBody, host_ends_open, IsHostForHeader, IsHost, AreHosts}
+use Rattle.c_tree.specs.Tree.{ExprTree, PlaceTree, Scalar, Element, Target, HostForHeaderTree, HostTree, HostDeclaration, HostBlock, HostEmpty, HostAssign, HostIf, HostIfElse, HostFor, HostCall, HostTrees}
+use Rattle.c_tree.specs.Print.{Mark, sign_at as sign_mark, word_at as word_mark, named_sign, word_if, expr, place, vars, assignment, host_counter, condition, call, host, hosts}
+use Rattle.c_tree.specs.Grouped.{IsHostBody, host_ends_open, IsHost, AreHosts}
 use Rattle.c_tree.specs.Reads.{first_deep}
 use Rattle.c_reader.specs.declared.faults.Fault.{Fault}
 use Rattle.c_reader.specs.declared.faults.Fault.TheVariants.{Syntax, TooDeep}
 use Rattle.c_reader.specs.declared.leads.HostLead.{HostLead}
 use Rattle.c_reader.specs.declared.leads.HostLead.TheVariants as lead
-use Rattle.c_reader.specs.Descent.{◌>>=◌, sign_is, sign_at}
-use Rattle.c_reader.specs.declared.leads.CallLead.{CallLead}
+use Rattle.c_reader.specs.Descent.{◌>>=◌, sign_at}
 use Rattle.c_reader.specs.declared.hosts.Closing.{Closing}
 use Rattle.c_reader.specs.declared.hosts.Closing.TheVariants as closing
-use Rattle.c_reader.specs.Leads.{host_word_lead_of}
 use Rattle.c_reader.specs.Rows.{Reader, word_is}
 use Rattle.c_reader.specs.Declarations.{declaration_at, assignment_at}
 use Rattle.c_reader.specs.Statements.{condition_at}
 use Rattle.c_reader.specs.Calls.{call_at}
-use Rattle.c_reader.specs.Hosts.{for_front, for_behind, for_header_at, lead_in, host_trees, declares, is_closed, body_at, hosts_in, if_at, host_led, host_at}
+use Rattle.c_reader.specs.Hosts.{for_header_at, lead_in, host_trees, declares, is_closed, body_at, hosts_in, if_at, host_led, host_at}
 use Rattle.c_reader.proofs.Spans.{Spans, spans_end, spans_split, spans_join, or_else, deep_split, deep_over, deep_between, deep_closed, after}
 use Rattle.c_reader.proofs.Steps.{sign_at_is, sign_at_ok, sign_found}
 use Rattle.c_reader.proofs.Complete.{level_fits}
 use Rattle.c_reader.proofs.Sound.{bind_ok, ok_one}
 use Rattle.c_reader.proofs.Far.{far_bind, sign_far}
-use Rattle.c_reader.proofs.Exactness.{Exact, Found, Free, word_found, word_here, both_exact, flat, sign_exact, word_exact, marked_exact, ident_exact, expr_exact}
+use Rattle.c_reader.proofs.Exactness.{Exact, Found, word_found, word_here}
 use Rattle.c_reader.proofs.Lists.{AllValid, joined, until_complete, until_sound, until_far}
-use Rattle.c_reader.proofs.Items.{made_complete}
-use Rattle.c_reader.proofs.CallRows.{then_exact, needy_then, call_lead, call_begins, call_complete, call_sound, call_far}
-use Rattle.c_reader.proofs.Stmts.{NoElse, true_false, Condition, condition_complete, condition_sound, condition_far, same_exact, vars_deep, assignment_deep}
-use Rattle.c_reader.proofs.Declared.{semicolon, tail_of, declaration_complete, declaration_sound, declaration_far, assignment_complete, assignment_sound, assignment_far}
-
--- the head of a `for`
-abbrev front_marks : ℕ → ℕ → Ident → ExprTree → List Mark
-front_marks k at x m =
-    named_word k wd.For at ∷ sign_mark k sg.LeftParen ∷ word_mark k wd.Int ∷ ident_mark k x ∷ sign_mark k sg.Assign ∷ (expr (suc k) m ++ sign_mark k sg.Semicolon ∷ [])
-
-abbrev behind_marks : ℕ → Ident → ExprTree → Ident → List Mark
-behind_marks k y m z =
-    ident_mark k y ∷ sign_mark k sg.Less ∷ (expr (suc k) m ++ (sign_mark k sg.Semicolon ∷ ident_mark k z ∷ sign_mark k sg.PlusPlus ∷ sign_mark k sg.RightParen ∷ []))
-
-front_exact : (ks : List Kind) (f k d : ℕ) → suc k + d ≡ 65 → k ≤ f + 1 → Exact ks f 7 (λ v. IsGrouped v.1.1.1.1.1.0) (λ v. front_marks k v.0 v.1.1.1.0 v.1.1.1.1.1.0) Free Free (for_front ks d)
-front_exact ks f k d room before =
-    let l = level_fits k d (omega arith) in
-    then_exact ks {from' = f + 1} (omega arith) (marked_exact ks f k wd.For l) (then_exact ks {from' = f + 1} (omega arith) (sign_exact ks (f + 1) k sg.LeftParen l) (then_exact ks {from' = f + 1} (omega arith) (word_exact ks (f + 1) k wd.Int l) (then_exact ks {from' = f + 1} (omega arith) (ident_exact ks (f + 1) k l) (then_exact ks {from' = f + 1} (omega arith) (sign_exact ks (f + 1) k sg.Assign l) (needy_then ks (omega arith) (expr_exact ks (f + 1) k d room before) (sign_exact ks (f + 1) k sg.Semicolon l) (λ a b j e s. (sg.Semicolon, semicolon, s.0)))))))
-
-behind_exact : (ks : List Kind) (f k d : ℕ) (x : Ident) → suc k + d ≡ 65 → k ≤ f + 1 → Exact ks f 7 (λ v. (v.0.name ≡ x.name) × ((IsGrouped v.1.1.0) × (v.1.1.1.1.0.name ≡ x.name))) (λ v. behind_marks k v.0 v.1.1.0 v.1.1.1.1.0) Free Free (for_behind ks d x)
-behind_exact ks f k d x room before =
-    let l = level_fits k d (omega arith) in
-    both_exact ks f 1 _ _ _ _ _ _ _ _ _ _ _ (same_exact ks f k x l) (then_exact ks {from' = f + 1} (omega arith) (sign_exact ks (f + 1) k sg.Less l) (both_exact ks (f + 1) 1 _ _ _ _ _ _ _ _ _ _ _ (expr_exact ks (f + 1) k d room before) (then_exact ks {from' = f + 1} (omega arith) (sign_exact ks (f + 1 + 1) k sg.Semicolon l) (needy_then ks (omega arith) (same_exact ks (f + 1) k x l) (flat ks (sign_exact ks (f + 1) k sg.PlusPlus l) (sign_exact ks (f + 1) k sg.RightParen l)) (λ a b j e s. tt))) (λ a b j e o s. (sg.Semicolon, semicolon, s.0)))) (λ a b j e o s. tt)
-
-for_is : (ks : List Kind) (d n j e at : ℕ) (x y z : Ident) (a b : ExprTree) (p q : Option ℕ) → for_front ks d n ≡ after p (Ok ((at, (tt, (tt, (x, (tt, (a, tt)))))), j)) → for_behind ks d x j ≡ after q (Ok ((y, (tt, (b, (tt, (z, (tt, tt)))))), e)) → for_header_at ks d n ≡ after (or_else p q) (Ok (record { at = at; name = x; from = a; tested = y; to = b; stepped = z }, e))
-unfolding for_header_at
-for_is ks d n j e at x y z a b None None h g = rw (h, g) refl
-for_is ks d n j e at x y z a b None (Some q) h g = rw (h, g) refl
-for_is ks d n j e at x y z a b (Some p) q h g = rw h refl
-
-header_row : (k : ℕ) (h : HostForHeaderTree) → host_counter k h ≡ front_marks k h.at h.name h.from ++ behind_marks k h.tested h.to h.stepped
-header_row k h =
-    ap (λ z. named_word k wd.For h.at ∷ sign_mark k sg.LeftParen ∷ word_mark k wd.Int ∷ ident_mark k h.name ∷ sign_mark k sg.Assign ∷ z) (sym (append_assoc (expr (suc k) h.from) (sign_mark k sg.Semicolon ∷ []) (behind_marks k h.tested h.to h.stepped)))
-
-header_complete : (ks : List Kind) (f k d : ℕ) → suc k + d ≡ 65 → k ≤ f + 1 → (h : HostForHeaderTree) (n e : ℕ) → IsHostForHeader h → Spans ks n (host_counter k h) e → for_header_at ks d n ≡ after (first_deep n (host_counter k h)) (Ok (h, e))
-header_complete ks f k d room before h n e o s =
-    let front = front_marks k h.at h.name h.from in
-    let back = behind_marks k h.tested h.to h.stepped in
-    let r = spans_split ks n front back e (subst (λ z. Spans ks n z e) (header_row k h) s) in
-    for_is ks d n r.0 e h.at h.name h.tested h.stepped h.from h.to (first_deep n front) (first_deep r.0 back) ((front_exact ks f k d room before).complete (h.at, (tt, (tt, (h.name, (tt, (h.from, tt)))))) n r.0 o.2 r.1 tt) ((behind_exact ks f k d h.name room before).complete (h.tested, (tt, (h.to, (tt, (h.stepped, (tt, tt)))))) r.0 e (o.0, (o.3, o.1)) r.2 tt) ∙ ap (λ z. after z (Ok (h, e))) (sym (ap (first_deep n) (header_row k h) ∙ deep_split ks n front back r.0 r.1))
-
-header_sound : (ks : List Kind) (f k d : ℕ) → suc k + d ≡ 65 → k ≤ f + 1 → (n : ℕ) (y : HostForHeaderTree × ℕ) → for_header_at ks d n ≡ Ok y → Found ks IsHostForHeader (host_counter k) Free n y.0 y.1
-unfolding for_header_at
-header_sound ks f k d room before n y h =
-    let a = bind_ok (for_front ks d n) _ y h in
-    let b = bind_ok (for_behind ks d a.0.0.1.1.1.0 a.0.1) _ y a.2 in
-    let one = (front_exact ks f k d room before).sound n a.0 a.1 in
-    let two = (behind_exact ks f k d a.0.0.1.1.1.0 room before).sound a.0.1 b.0 b.1 in
-    let front = front_marks k a.0.0.0 a.0.0.1.1.1.0 a.0.0.1.1.1.1.1.0 in
-    let back = behind_marks k b.0.0.0 b.0.0.1.1.0 b.0.0.1.1.1.1.0 in
-    let tree : HostForHeaderTree = record { at = a.0.0.0; name = a.0.0.1.1.1.0; from = a.0.0.1.1.1.1.1.0; tested = b.0.0.0; to = b.0.0.1.1.0; stepped = b.0.0.1.1.1.1.0 } in
-    let made_ : Found ks IsHostForHeader (host_counter k) Free n tree b.0.1 = record {
-      valid = (two.valid.0, two.valid.1.1, one.valid, two.valid.1.0);
-      spans = subst (λ z. Spans ks n z b.0.1) (sym (header_row k tree)) (spans_join ks n front back a.0.1 b.0.1 one.spans two.spans);
-      shallow = ap (first_deep n) (header_row k tree) ∙ deep_split ks n front back a.0.1 one.spans ∙ rw (one.shallow, two.shallow) refl;
-      behind = tt;
-    } in
-    subst (λ (w : HostForHeaderTree × ℕ). Found ks IsHostForHeader (host_counter k) Free n w.0 w.1) (ok_one (tree, b.0.1) y b.2) made_
-
-header_far : (ks : List Kind) (f k d : ℕ) → suc k + d ≡ 65 → k ≤ f + 1 → (n q : ℕ) → f ≤ n → for_header_at ks d n ≡ Err (TooDeep q) → 64 ≤ q
-unfolding for_header_at
-header_far ks f k d room before n q m h =
-    far_bind (for_front ks d n) _ q h ((front_exact ks f k d room before).far n q m) (λ a r g.
-    (let moved = (front_exact ks f k d room before).moves n a r in
-    far_bind (for_behind ks d a.0.1.1.1.0 a.1) _ q g ((behind_exact ks f k d a.0.1.1.1.0 room before).far a.1 q (omega arith)) (λ b r g. cc)))
-
--- the statements of a block as a list
-abbrev pub list_of : HostTrees → List HostTree
-list_of NoHost = []
-list_of (MoreHost s ss) = s ∷ list_of ss
-
-pub trees_list : (ss : HostTrees) → host_trees (list_of ss) ≡ ss
-trees_list NoHost = refl
-trees_list (MoreHost s ss) = ap (λ z. MoreHost s z) (trees_list ss)
-
-pub hosts_joined : (k : ℕ) (ss : HostTrees) → hosts k ss ≡ joined (host k) (list_of ss)
-hosts_joined k NoHost = refl
-hosts_joined k (MoreHost s ss) = ap (λ z. host k s ++ z) (hosts_joined k ss)
-
-pub joined_hosts : (k : ℕ) (xs : List HostTree) → joined (host k) xs ≡ hosts k (host_trees xs)
-joined_hosts k [] = refl
-joined_hosts k (x ∷ xs) = ap (λ z. host k x ++ z) (joined_hosts k xs)
-
-pub valid_list : (ss : HostTrees) → AreHosts ss → AllValid IsHost (list_of ss)
-valid_list NoHost h = tt
-valid_list (MoreHost s ss) h = (h.0, valid_list ss h.1)
-
-pub list_valid : (xs : List HostTree) → AllValid IsHost xs → AreHosts (host_trees xs)
-list_valid [] h = tt
-list_valid (x ∷ xs) h = (h.0, list_valid xs h.1)
-
--- what a statement begins with
-abbrev host_lead : HostTree → HostLead
-host_lead (HostDeclaration v) = lead.Declaration
-host_lead (HostBlock at ss) = lead.Block
-host_lead (HostEmpty at) = lead.Empty
-host_lead (HostAssign a) = lead.Assignment
-host_lead (HostIf at e s) = lead.If
-host_lead (HostIfElse at e s t) = lead.If
-host_lead (HostFor c s) = lead.For
-host_lead (HostCall c) = lead.Call (call_lead c)
-
-pub record HostBegins (ks : List Kind) (n : ℕ) (s : HostTree) : Type 0 where
-  pub no_close : (c : Closing) → is_closed ks c n ≡ false
-  pub no_else : NoElse ks n
-  pub no_int : IsHostBody s → declares (slice_get ks n) ≡ false
-  pub lead : lead_in (slice_get ks n) ≡ host_lead s
-
-not_closed : (ks : List Kind) (n : ℕ) → sign_is sg.RightBrace (slice_get ks n) ≡ false → word_is wd.OpExit (slice_get ks n) ≡ false → (c : Closing) → is_closed ks c n ≡ false
-not_closed ks n a b closing.Brace = a
-not_closed ks n a b closing.Exit = b
-
--- what a call's first token is not
-record NotCalled (o : Option Kind) : Type 0 where
-  brace : sign_is sg.RightBrace o ≡ false
-  exit : word_is wd.OpExit o ≡ false
-  other : word_is wd.Else o ≡ false
-  int : declares o ≡ false
-
-called_word : (w : _) (l : CallLead) → host_word_lead_of w ≡ lead.Call l → NotCalled (Some (kind.Word w))
-called_word wd.Else l h = cc
-called_word wd.OpExit l h = cc
-called_word wd.Int l h = cc
-called_word wd.Const l h = cc
-called_word _ l h = record { brace = refl; exit = refl; other = refl; int = refl }
-
-called : (o : Option Kind) (l : CallLead) → lead_in o ≡ lead.Call l → NotCalled o
-called None l h = cc
-called (Some (kind.Word w)) l h = called_word w l h
-called (Some (kind.Name z)) l h = cc
-called (Some (kind.Number z)) l h = cc
-called (Some (kind.Text z)) l h = cc
-called (Some (kind.Sign sg.LeftBrace)) l h = cc
-called (Some (kind.Sign sg.Semicolon)) l h = cc
-called (Some (kind.Sign sg.Star)) l h = cc
-called (Some (kind.Sign _)) l h = cc
-
-assign_begins : (ks : List Kind) (k n e : ℕ) (a : AssignmentTree) (x : PlaceTree) (more : List Mark) → Spans ks n (place k x ++ more) e → HostBegins ks n (HostAssign a)
-assign_begins ks k n e a (Scalar x) more s = (record { no_close = not_closed ks n (rw s.0 refl) (rw s.0 refl); no_else = rw s.0 refl; no_int = λ b. rw s.0 refl; lead = rw s.0 refl })
-assign_begins ks k n e a (Element x i) more s = record { no_close = not_closed ks n (rw s.0 refl) (rw s.0 refl); no_else = rw s.0 refl; no_int = λ b. rw s.0 refl; lead = rw s.0 refl }
-assign_begins ks k n e a (Target at x) more s = record { no_close = not_closed ks n (rw s.0 refl) (rw s.0 refl); no_else = rw s.0 refl; no_int = λ b. rw s.0 refl; lead = rw s.0 refl }
-
-pub host_begins : (ks : List Kind) (k n e : ℕ) (s : HostTree) (more : List Mark) → IsHost s → Spans ks n (host k s ++ more) e → HostBegins ks n s
-host_begins ks k n e (HostDeclaration v) more o s = by_const v.is_const s
-  where
-    by_const : (c : Bool) → Spans ks n ((word_if c k wd.Const ++ tail_of k v) ++ more) e → HostBegins ks n (HostDeclaration v)
-    by_const true s = record { no_close = not_closed ks n (rw s.0 refl) (rw s.0 refl); no_else = rw s.0 refl; no_int = λ b. absurd b; lead = rw s.0 refl }
-    by_const false s = record { no_close = not_closed ks n (rw s.0 refl) (rw s.0 refl); no_else = rw s.0 refl; no_int = λ b. absurd b; lead = rw s.0 refl }
-host_begins ks k n e (HostBlock at ss) more o s = record { no_close = not_closed ks n (rw s.0 refl) (rw s.0 refl); no_else = rw s.0 refl; no_int = λ b. rw s.0 refl; lead = rw s.0 refl }
-host_begins ks k n e (HostEmpty at) more o s = record { no_close = not_closed ks n (rw s.0 refl) (rw s.0 refl); no_else = rw s.0 refl; no_int = λ b. rw s.0 refl; lead = rw s.0 refl }
-host_begins ks k n e (HostAssign a) more o s =
-    let rest = named_sign k (Rattle.c_tree.specs.Signs.assign_sign_of a.op) a.at ∷ (expr (suc k) a.value ++ sign_mark k sg.Semicolon ∷ []) in
-    assign_begins ks k n e a a.place (rest ++ more) (subst (λ z. Spans ks n z e) (append_assoc (place k a.place) rest more) s)
-host_begins ks k n e (HostIf at x t) more o s = record { no_close = not_closed ks n (rw s.0 refl) (rw s.0 refl); no_else = rw s.0 refl; no_int = λ b. rw s.0 refl; lead = rw s.0 refl }
-host_begins ks k n e (HostIfElse at x t u) more o s = record { no_close = not_closed ks n (rw s.0 refl) (rw s.0 refl); no_else = rw s.0 refl; no_int = λ b. rw s.0 refl; lead = rw s.0 refl }
-host_begins ks k n e (HostFor c t) more o s = record { no_close = not_closed ks n (rw s.0 refl) (rw s.0 refl); no_else = rw s.0 refl; no_int = λ b. rw s.0 refl; lead = rw s.0 refl }
-host_begins ks k n e (HostCall c) more o s =
-    let l = call_begins ks k c n e more s in
-    let r = called (slice_get ks n) (call_lead c) l in
-    record { no_close = not_closed ks n r.brace r.exit; no_else = r.other; no_int = λ b. r.int; lead = l }
-
--- at level 65 the first token is too deep
-call_deep : (n : ℕ) (c : OpCallTree) → first_deep n (call 65 c) ≡ Some n
-call_deep n (CallInit at x) = refl
-call_deep n (DeclSet at x v t) = refl
-call_deep n (DeclMap at x a b m v t) = refl
-call_deep n (DeclDat at x a m u v t) = refl
-call_deep n (DeclConst at m t g) = refl
-call_deep n (ParLoop at x t a xs) = refl
-call_deep n (Printf at t es) = refl
-call_deep n (PrintDat at x t) = refl
-
-call_some : (k : ℕ) (c : OpCallTree) → 1 ≤ length (call k c)
-call_some k (CallInit at x) = omega arith
-call_some k (DeclSet at x v t) = omega arith
-call_some k (DeclMap at x a b m v t) = omega arith
-call_some k (DeclDat at x a m u v t) = omega arith
-call_some k (DeclConst at m t g) = omega arith
-call_some k (ParLoop at x t a xs) = omega arith
-call_some k (Printf at t es) = omega arith
-call_some k (PrintDat at x t) = omega arith
-
-host_deep : (n : ℕ) (s : HostTree) → first_deep n (host 65 s) ≡ Some n
-host_deep n (HostDeclaration v) = vars_deep n v
-host_deep n (HostBlock at ss) = refl
-host_deep n (HostEmpty at) = refl
-host_deep n (HostAssign a) = assignment_deep n a
-host_deep n (HostIf at x t) = refl
-host_deep n (HostIfElse at x t u) = refl
-host_deep n (HostFor c t) = refl
-host_deep n (HostCall c) = call_deep n c
+use Rattle.c_reader.proofs.Marks.{made_complete}
+use Rattle.c_reader.proofs.CallRows.{call_lead, call_complete, call_sound, call_far}
+use Rattle.c_reader.proofs.StmtHeads.{NoElse}
+use Rattle.c_reader.proofs.StmtHeads.{true_false, Condition, condition_complete, condition_sound, condition_far}
+use Rattle.c_reader.proofs.Assigned.{assignment_complete, assignment_sound, assignment_far}
+use Rattle.c_reader.proofs.Declared.{tail_of, declaration_complete, declaration_sound, declaration_far}
+use Rattle.c_reader.proofs.HostHeads.{header_complete, header_sound, header_far}
+use Rattle.c_reader.proofs.HostLists.{list_of, trees_list, hosts_joined, joined_hosts, valid_list, list_valid, host_lead, host_begins, call_some, host_deep}
 
 -- an `else` does not stand behind what it would belong to
 abbrev pub Needs : List Kind → HostTree → ℕ → Type 0

@@ -9,11 +9,17 @@ pub mod HostTurns
 pub mod Far
 pub mod Exactness
 pub mod Lists
+pub mod Marks
 pub mod Items
 pub mod CallRows
 pub mod Separated
+pub mod Assigned
 pub mod Declared
+pub mod StmtHeads
+pub mod StmtLists
 pub mod Stmts
+pub mod HostHeads
+pub mod HostLists
 pub mod HostRows
 pub mod TopRows
 pub mod Parts

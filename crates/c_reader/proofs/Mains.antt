@@ -24,9 +24,10 @@ use Rattle.c_reader.proofs.Sound.{bind_ok, ok_one}
 use Rattle.c_reader.proofs.Far.{far_bind, sign_far}
 use Rattle.c_reader.proofs.Exactness.{Exact, Any, Free, word_found, word_here, word_at_is, word_at_ok, word_far, number_is, number_ok, number_near, flat, sign_exact, word_exact, marked_exact}
 use Rattle.c_reader.proofs.Lists.{AllValid, joined, until_complete, Listed, until_sound, until_far}
-use Rattle.c_reader.proofs.Items.{made_complete, made_far}
+use Rattle.c_reader.proofs.Marks.{made_complete, made_far}
 use Rattle.c_reader.proofs.CallRows.{then_exact, needy_then}
-use Rattle.c_reader.proofs.HostRows.{list_of, trees_list, host_exact, block_complete, block_sound, block_far}
+use Rattle.c_reader.proofs.HostLists.{list_of, trees_list}
+use Rattle.c_reader.proofs.HostRows.{host_exact, block_complete, block_sound, block_far}
 use Rattle.c_reader.proofs.Parts.{top_exact, no_main}
 
 -- the parts before `main`

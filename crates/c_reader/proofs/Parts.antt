@@ -23,7 +23,8 @@ use Rattle.c_reader.proofs.Far.{far_bind}
 use Rattle.c_reader.proofs.Exactness.{Exact, Found, Free, both_exact, sign_exact, word_exact, ident_exact}
 use Rattle.c_reader.proofs.CallRows.{then_exact, needy_then}
 use Rattle.c_reader.proofs.Declared.{tail_of, declaration_complete, declaration_sound, declaration_far}
-use Rattle.c_reader.proofs.Stmts.{list_of, trees_list, stmt_exact, block_complete, block_sound, block_far}
+use Rattle.c_reader.proofs.StmtLists.{list_of, trees_list}
+use Rattle.c_reader.proofs.Stmts.{stmt_exact, block_complete, block_sound, block_far}
 use Rattle.c_reader.proofs.TopRows.{extern_complete, extern_array_complete, extern_sound, extern_far, skip_is, skip_spans, word_if_deep, params_row, params_exact}
 
 list_trees : (xs : List StmtTree) → list_of (stmt_trees xs) ≡ xs

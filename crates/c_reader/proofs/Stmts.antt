@@ -1,18 +1,14 @@
 -- Statements of kernels are read exactly as they are printed.
-use Rattle.std.proofs.Common.{◌≡◌, ℕ, zero, suc, ◌+◌, ◌≤◌, Bool, true, false, cond, List, [], ◌∷◌, ◌++◌, length, Option, Some, None, Result, Ok, Err, refl, sym, ap, subst, ◌∙◌, arith, slice_get, nat_lt, append_assoc, length-append}
-use Rattle.std.specs.Str.{bytes_eq}
-use Rattle.std.proofs.lemmas.Slice.Eq.{bytes_eq-Decides}
+use Rattle.std.proofs.Common.{◌≡◌, ℕ, zero, suc, ◌+◌, ◌≤◌, Bool, true, false, cond, List, [], ◌∷◌, ◌++◌, length, Option, Some, None, Result, Ok, Err, refl, sym, ap, subst, ◌∙◌, arith, slice_get, nat_lt, length-append}
 use Rattle.std.proofs.lemmas.Option.{slice_get_within}
 use Rattle.c_lex.specs.declared.tokens.Kind.{Kind}
 use Rattle.c_lex.specs.declared.tokens.Kind.TheVariants as kind
 use Rattle.c_lex.specs.declared.tokens.Sign.TheVariants as sg
 use Rattle.c_lex.specs.declared.tokens.Word.TheVariants as wd
-use Rattle.c_tree.specs.declared.expressions.Ident.{Ident}
-use Rattle.c_tree.specs.declared.expressions.NumberLiteral.{NumberLiteral}
 use Rattle.c_tree.specs.declared.kernels.ForHeader.{ForHeader}
-use Rattle.c_tree.specs.Tree.{ExprTree, DeclarationTree, PlaceTree, Scalar, Element, Target, AssignmentTree, StmtTree, LocalDeclaration, Block, Empty, Assign, If, IfElse, For, StmtTrees, NoStmt, MoreStmt}
-use Rattle.c_tree.specs.Print.{Mark, sign_at as sign_mark, word_at as word_mark, named_sign, named_word, word_if, ident as ident_mark, figure, expr, place, vars, assignment, counter, condition, stmt, stmts}
-use Rattle.c_tree.specs.Grouped.{IsGrouped, IsBody, ends_open, IsForHeader, IsStmt, AreStmts}
+use Rattle.c_tree.specs.Tree.{ExprTree, PlaceTree, Scalar, Element, Target, StmtTree, LocalDeclaration, Block, Empty, Assign, If, IfElse, For, StmtTrees}
+use Rattle.c_tree.specs.Print.{Mark, sign_at as sign_mark, word_at as word_mark, named_sign, word_if, expr, place, vars, assignment, counter, condition, stmt, stmts}
+use Rattle.c_tree.specs.Grouped.{IsBody, ends_open, IsStmt, AreStmts}
 use Rattle.c_tree.specs.Reads.{first_deep}
 use Rattle.c_reader.specs.declared.faults.Fault.{Fault}
 use Rattle.c_reader.specs.declared.faults.Fault.TheVariants.{Syntax, TooDeep}
@@ -20,226 +16,21 @@ use Rattle.c_reader.specs.declared.leads.StmtLead.{StmtLead}
 use Rattle.c_reader.specs.declared.leads.StmtLead.TheVariants as lead
 use Rattle.c_reader.specs.Descent.{◌>>=◌, sign_is, sign_at}
 use Rattle.c_reader.specs.Leads.{stmt_lead_of}
-use Rattle.c_reader.specs.Rows.{Reader, word_is, ident}
+use Rattle.c_reader.specs.Rows.{Reader, word_is}
 use Rattle.c_reader.specs.Declarations.{declaration_at, assignment_at}
-use Rattle.c_reader.specs.Statements.{condition_row, condition_at, same_ident, for_front, for_behind, for_header_at, lead_in, stmt_trees, body_at, stmts_in, if_at, stmt_led, stmt_at}
+use Rattle.c_reader.specs.Statements.{condition_at, for_header_at, lead_in, stmt_trees, body_at, stmts_in, if_at, stmt_led, stmt_at}
 use Rattle.c_reader.proofs.Spans.{Spans, spans_end, spans_split, spans_join, or_else, deep_split, deep_over, deep_between, deep_closed, after}
 use Rattle.c_reader.proofs.Steps.{sign_at_is, sign_at_ok, sign_found}
-use Rattle.c_reader.proofs.Complete.{right_paren, level_fits}
+use Rattle.c_reader.proofs.Complete.{level_fits}
 use Rattle.c_reader.proofs.Sound.{bind_ok, ok_one}
 use Rattle.c_reader.proofs.Far.{far_bind, sign_far}
-use Rattle.c_reader.proofs.Exactness.{Exact, Found, Any, Free, word_found, word_here, ident_is, ident_ok, ident_near, both_exact, flat, sign_exact, word_exact, marked_exact, ident_exact, number_exact, expr_exact}
+use Rattle.c_reader.proofs.Exactness.{Exact, Found, word_found, word_here}
 use Rattle.c_reader.proofs.Lists.{AllValid, joined, until_complete, until_sound, until_far}
-use Rattle.c_reader.proofs.Items.{made_complete, made_sound, made_far}
-use Rattle.c_reader.proofs.CallRows.{then_exact, needy_then}
-use Rattle.c_reader.proofs.Declared.{tail_of, declaration_complete, declaration_sound, declaration_far, assignment_complete, assignment_sound, assignment_far}
-
--- no `else` stands there
-abbrev pub NoElse : List Kind → ℕ → Type 0
-NoElse ks n = word_is wd.Else (slice_get ks n) ≡ false
-
-pub true_false : true ≡ false → ⊥
-true_false h = cc
-
--- the head of an `if`
-pub condition_exact : (ks : List Kind) (f k d : ℕ) → suc k + d ≡ 65 → k ≤ f + 1 → Exact ks f 4 (λ v. IsGrouped v.1.1.0) (λ v. condition k v.0 v.1.1.0) Free Free (condition_row ks d)
-condition_exact ks f k d room before =
-    let fits = level_fits k d (omega arith) in
-    then_exact ks {from' = f + 1} (omega arith) (marked_exact ks f k wd.If fits) (then_exact ks {from' = f + 1} (omega arith) (sign_exact ks (f + 1) k sg.LeftParen fits) (needy_then ks (omega arith) (expr_exact ks (f + 1) k d room before) (sign_exact ks (f + 1) k sg.RightParen fits) (λ a b j e s. (sg.RightParen, right_paren, s.0))))
-
-pub condition_complete : (ks : List Kind) (f k d : ℕ) → suc k + d ≡ 65 → k ≤ f + 1 → (at : ℕ) (x : ExprTree) (n e : ℕ) → IsGrouped x → Spans ks n (condition k at x) e → condition_at ks d n ≡ after (first_deep n (condition k at x)) (Ok (x, e))
-condition_complete ks f k d room before at x n e o s =
-    made_complete (λ v. v.1.1.0) (condition_row ks d) n e (at, (tt, (x, tt))) (first_deep n (condition k at x)) ((condition_exact ks f k d room before).complete (at, (tt, (x, tt))) n e o s tt)
-
-pub record Condition (ks : List Kind) (k n : ℕ) (x : ExprTree) (e : ℕ) : Type 0 where
-  pub grouped : IsGrouped x
-  pub spans : Spans ks n (condition k n x) e
-  pub shallow : first_deep n (condition k n x) ≡ None
-
-pub condition_sound : (ks : List Kind) (f k d : ℕ) → suc k + d ≡ 65 → k ≤ f + 1 → (n : ℕ) (y : ExprTree × ℕ) → condition_at ks d n ≡ Ok y → Condition ks k n y.0 y.1
-condition_sound ks f k d room before n y h =
-    let r = made_sound ks (λ v. v.1.1.0) (condition_exact ks f k d room before) n y h in
-    let at : r.0.0 ≡ n = r.2.spans.1 in
-    let spans : Spans ks n (condition k n r.0.1.1.0) y.1 = subst (λ z. Spans ks n (condition k z r.0.1.1.0) y.1) at r.2.spans in
-    let deep : first_deep n (condition k n r.0.1.1.0) ≡ None = subst (λ z. first_deep n (condition k z r.0.1.1.0) ≡ None) at r.2.shallow in
-    subst (λ z. Condition ks k n z y.1) r.1 (record { grouped = r.2.valid; spans = spans; shallow = deep })
-
-pub condition_far : (ks : List Kind) (f k d : ℕ) → suc k + d ≡ 65 → k ≤ f + 1 → (n q : ℕ) → f ≤ n → condition_at ks d n ≡ Err (TooDeep q) → 64 ≤ q
-condition_far ks f k d room before n q l h = made_far ks (λ v. v.1.1.0) (condition_exact ks f k d room before) n q l h
-
--- a name that is the same as another
-same_is : (ks : List Kind) (x y : Ident) (n : ℕ) → ident ks n ≡ Ok (y, suc n) → y.name ≡ x.name → same_ident ks x n ≡ Ok (y, suc n)
-unfolding same_ident
-same_is ks x y n h e = rw (h, (bytes_eq-Decides y.name x.name).1 e) refl
-
-same_ok : (ks : List Kind) (x : Ident) (n : ℕ) (y : Ident × ℕ) → same_ident ks x n ≡ Ok y → (ident ks n ≡ Ok y) × (y.0.name ≡ x.name)
-unfolding same_ident
-same_ok ks x n y h =
-    let r = bind_ok (ident ks n) _ y h in
-    by_test r.0 r.1 (bytes_eq r.0.0.name x.name) refl r.2
-  where
-    by_test : (r : Ident × ℕ) → ident ks n ≡ Ok r → (t : Bool) → bytes_eq r.0.name x.name ≡ t → cond t (Ok r) (Err (Syntax n)) ≡ Ok y → (ident ks n ≡ Ok y) × (y.0.name ≡ x.name)
-    by_test r h true t g =
-        subst (λ (z : Ident × ℕ). (ident ks n ≡ Ok z) × (z.0.name ≡ x.name)) (ok_one r y g) (h, (bytes_eq-Decides r.0.name x.name).0 t)
-    by_test r h false t g = cc
-
-same_near : (ks : List Kind) (x : Ident) (n q : ℕ) → same_ident ks x n ≡ Err (TooDeep q) → 64 ≤ q
-unfolding same_ident
-same_near ks x n q h =
-    far_bind (ident ks n) _ q h (λ g. absurd (ident_near ks n q g)) (λ y r g. by_test y (bytes_eq y.0.name x.name) g)
-  where
-    by_test : (y : Ident × ℕ) (t : Bool) → ◌≡◌ {A = Result (Ident × ℕ) Fault} (cond t (Ok y) (Err (Syntax n))) (Err (TooDeep q)) → 64 ≤ q
-    by_test y true g = cc
-    by_test y false g = cc
-
-pub same_exact : (ks : List Kind) (from k : ℕ) (x : Ident) → nat_lt 64 k ≡ false → Exact ks from 1 (λ y. y.name ≡ x.name) (λ y. ident_mark k y ∷ []) Free Free (same_ident ks x)
-same_exact ks from k x fits = record {
-  complete = λ y n e o s h. same_is ks x y n (ident_is ks y n s.0 s.1) o ∙ ap (λ (z : ℕ). Ok (y, z)) s.2 ∙ ap (λ z. after z (Ok (y, e))) (sym (deep_over n (ident_mark k y) [] fits));
-  sound = λ n y h.
-      (let r = same_ok ks x n y h in
-      let q = ident_ok ks n y r.0 in
-      record { valid = r.1; spans = (q.0, q.1, q.2); shallow = deep_over n (ident_mark k y.0) [] fits; behind = tt });
-  moves = λ n y h. (let q = ident_ok ks n y (same_ok ks x n y h).0 in omega (arith, q.2));
-  far = λ n q l h. same_near ks x n q h;
-}
-
--- the head of a `for`
-abbrev front_marks : ℕ → ℕ → Ident → NumberLiteral → List Mark
-front_marks k at x m =
-    named_word k wd.For at ∷ sign_mark k sg.LeftParen ∷ word_mark k wd.Int ∷ ident_mark k x ∷ sign_mark k sg.Assign ∷ figure k m ∷ sign_mark k sg.Semicolon ∷ []
-
-abbrev behind_marks : ℕ → Ident → NumberLiteral → Ident → List Mark
-behind_marks k y m z =
-    ident_mark k y ∷ sign_mark k sg.Less ∷ figure k m ∷ sign_mark k sg.Semicolon ∷ ident_mark k z ∷ sign_mark k sg.PlusPlus ∷ sign_mark k sg.RightParen ∷ []
-
-front_exact : (ks : List Kind) (f k : ℕ) → nat_lt 64 k ≡ false → Exact ks f 7 Any (λ v. front_marks k v.0 v.1.1.1.0 v.1.1.1.1.1.0) Free Free (for_front ks)
-front_exact ks f k l =
-    flat ks (marked_exact ks f k wd.For l) (flat ks (sign_exact ks f k sg.LeftParen l) (flat ks (word_exact ks f k wd.Int l) (flat ks (ident_exact ks f k l) (flat ks (sign_exact ks f k sg.Assign l) (flat ks (number_exact ks f k l) (sign_exact ks f k sg.Semicolon l))))))
-
-behind_exact : (ks : List Kind) (f k : ℕ) (x : Ident) → nat_lt 64 k ≡ false → Exact ks f 7 (λ v. (v.0.name ≡ x.name) × (v.1.1.1.1.0.name ≡ x.name)) (λ v. behind_marks k v.0 v.1.1.0 v.1.1.1.1.0) Free Free (for_behind ks x)
-behind_exact ks f k x l =
-    both_exact ks f 1 _ _ _ _ _ _ _ _ _ _ _ (same_exact ks f k x l) (then_exact ks {from' = f} (omega arith) (sign_exact ks (f + 1) k sg.Less l) (then_exact ks {from' = f} (omega arith) (number_exact ks f k l) (then_exact ks {from' = f} (omega arith) (sign_exact ks f k sg.Semicolon l) (needy_then ks (omega arith) (same_exact ks f k x l) (flat ks (sign_exact ks f k sg.PlusPlus l) (sign_exact ks f k sg.RightParen l)) (λ a b j e s. tt))))) (λ a b j e o s. tt)
-
-for_is : (ks : List Kind) (n j e at : ℕ) (x y z : Ident) (a b : NumberLiteral) (p q : Option ℕ) → for_front ks n ≡ after p (Ok ((at, (tt, (tt, (x, (tt, (a, tt)))))), j)) → for_behind ks x j ≡ after q (Ok ((y, (tt, (b, (tt, (z, (tt, tt)))))), e)) → for_header_at ks n ≡ after (or_else p q) (Ok (record { at = at; name = x; from = a; tested = y; to = b; stepped = z }, e))
-unfolding for_header_at
-for_is ks n j e at x y z a b None None h g = rw (h, g) refl
-for_is ks n j e at x y z a b None (Some q) h g = rw (h, g) refl
-for_is ks n j e at x y z a b (Some p) q h g = rw h refl
-
-header_complete : (ks : List Kind) (f k : ℕ) → nat_lt 64 k ≡ false → (h : ForHeader) (n e : ℕ) → IsForHeader h → Spans ks n (counter k h) e → for_header_at ks n ≡ after (first_deep n (counter k h)) (Ok (h, e))
-header_complete ks f k l h n e o s =
-    let front = front_marks k h.at h.name h.from in
-    let back = behind_marks k h.tested h.to h.stepped in
-    let r = spans_split ks n front back e s in
-    for_is ks n r.0 e h.at h.name h.tested h.stepped h.from h.to (first_deep n front) (first_deep r.0 back) ((front_exact ks f k l).complete (h.at, (tt, (tt, (h.name, (tt, (h.from, tt)))))) n r.0 tt r.1 tt) ((behind_exact ks f k h.name l).complete (h.tested, (tt, (h.to, (tt, (h.stepped, (tt, tt)))))) r.0 e (o.0, o.1) r.2 tt) ∙ ap (λ z. after z (Ok (h, e))) (sym (deep_split ks n front back r.0 r.1))
-
-header_sound : (ks : List Kind) (f k : ℕ) → nat_lt 64 k ≡ false → (n : ℕ) (y : ForHeader × ℕ) → for_header_at ks n ≡ Ok y → Found ks IsForHeader (counter k) Free n y.0 y.1
-unfolding for_header_at
-header_sound ks f k l n y h =
-    let a = bind_ok (for_front ks n) _ y h in
-    let b = bind_ok (for_behind ks a.0.0.1.1.1.0 a.0.1) _ y a.2 in
-    let one = (front_exact ks f k l).sound n a.0 a.1 in
-    let two = (behind_exact ks f k a.0.0.1.1.1.0 l).sound a.0.1 b.0 b.1 in
-    let front = front_marks k a.0.0.0 a.0.0.1.1.1.0 a.0.0.1.1.1.1.1.0 in
-    let back = behind_marks k b.0.0.0 b.0.0.1.1.0 b.0.0.1.1.1.1.0 in
-    let made_ : Found ks IsForHeader (counter k) Free n (record { at = a.0.0.0; name = a.0.0.1.1.1.0; from = a.0.0.1.1.1.1.1.0; tested = b.0.0.0; to = b.0.0.1.1.0; stepped = b.0.0.1.1.1.1.0 }) b.0.1 = record {
-      valid = (two.valid.0, two.valid.1);
-      spans = spans_join ks n front back a.0.1 b.0.1 one.spans two.spans;
-      shallow = deep_split ks n front back a.0.1 one.spans ∙ rw (one.shallow, two.shallow) refl;
-      behind = tt;
-    } in
-    subst (λ (w : ForHeader × ℕ). Found ks IsForHeader (counter k) Free n w.0 w.1) (ok_one (record { at = a.0.0.0; name = a.0.0.1.1.1.0; from = a.0.0.1.1.1.1.1.0; tested = b.0.0.0; to = b.0.0.1.1.0; stepped = b.0.0.1.1.1.1.0 }, b.0.1) y b.2) made_
-
-header_far : (ks : List Kind) (f k : ℕ) → nat_lt 64 k ≡ false → (n q : ℕ) → f ≤ n → for_header_at ks n ≡ Err (TooDeep q) → 64 ≤ q
-unfolding for_header_at
-header_far ks f k l n q m h =
-    far_bind (for_front ks n) _ q h ((front_exact ks f k l).far n q m) (λ a r g.
-    (let moved = (front_exact ks f k l).moves n a r in
-    far_bind (for_behind ks a.0.1.1.1.0 a.1) _ q g ((behind_exact ks f k a.0.1.1.1.0 l).far a.1 q (omega arith)) (λ b r g. cc)))
-
--- the statements of a block as a list
-abbrev pub list_of : StmtTrees → List StmtTree
-list_of NoStmt = []
-list_of (MoreStmt s ss) = s ∷ list_of ss
-
-pub trees_list : (ss : StmtTrees) → stmt_trees (list_of ss) ≡ ss
-trees_list NoStmt = refl
-trees_list (MoreStmt s ss) = ap (λ z. MoreStmt s z) (trees_list ss)
-
-pub stmts_joined : (k : ℕ) (ss : StmtTrees) → stmts k ss ≡ joined (stmt k) (list_of ss)
-stmts_joined k NoStmt = refl
-stmts_joined k (MoreStmt s ss) = ap (λ z. stmt k s ++ z) (stmts_joined k ss)
-
-pub joined_stmts : (k : ℕ) (xs : List StmtTree) → joined (stmt k) xs ≡ stmts k (stmt_trees xs)
-joined_stmts k [] = refl
-joined_stmts k (x ∷ xs) = ap (λ z. stmt k x ++ z) (joined_stmts k xs)
-
-pub valid_list : (ss : StmtTrees) → AreStmts ss → AllValid IsStmt (list_of ss)
-valid_list NoStmt h = tt
-valid_list (MoreStmt s ss) h = (h.0, valid_list ss h.1)
-
-pub list_valid : (xs : List StmtTree) → AllValid IsStmt xs → AreStmts (stmt_trees xs)
-list_valid [] h = tt
-list_valid (x ∷ xs) h = (h.0, list_valid xs h.1)
-
--- what a statement begins with
-abbrev stmt_lead : StmtTree → StmtLead
-stmt_lead (LocalDeclaration v) = lead.Declaration
-stmt_lead (Block at ss) = lead.Block
-stmt_lead (Empty at) = lead.Empty
-stmt_lead (Assign a) = lead.Assignment
-stmt_lead (If at e s) = lead.If
-stmt_lead (IfElse at e s t) = lead.If
-stmt_lead (For c s) = lead.For
-
-pub record StmtBegins (ks : List Kind) (n : ℕ) (s : StmtTree) : Type 0 where
-  pub no_brace : sign_is sg.RightBrace (slice_get ks n) ≡ false
-  pub no_else : NoElse ks n
-  pub no_int : IsBody s → word_is wd.Int (slice_get ks n) ≡ false
-  pub lead : lead_in (slice_get ks n) ≡ stmt_lead s
-
-assign_begins : (ks : List Kind) (k n e : ℕ) (a : AssignmentTree) (x : PlaceTree) (more : List Mark) → Spans ks n (place k x ++ more) e → StmtBegins ks n (Assign a)
-assign_begins ks k n e a (Scalar x) more s = (record { no_brace = rw s.0 refl; no_else = rw s.0 refl; no_int = λ b. rw s.0 refl; lead = rw s.0 refl })
-assign_begins ks k n e a (Element x i) more s = record { no_brace = rw s.0 refl; no_else = rw s.0 refl; no_int = λ b. rw s.0 refl; lead = rw s.0 refl }
-assign_begins ks k n e a (Target at x) more s = record { no_brace = rw s.0 refl; no_else = rw s.0 refl; no_int = λ b. rw s.0 refl; lead = rw s.0 refl }
-
-pub stmt_begins : (ks : List Kind) (k n e : ℕ) (s : StmtTree) (more : List Mark) → IsStmt s → Spans ks n (stmt k s ++ more) e → StmtBegins ks n s
-stmt_begins ks k n e (LocalDeclaration v) more o s =
-    let s' : Spans ks n ((word_if false k wd.Const ++ tail_of k v) ++ more) e = subst (λ z. Spans ks n ((word_if z k wd.Const ++ tail_of k v) ++ more) e) o.0 s in
-    record { no_brace = rw s'.0 refl; no_else = rw s'.0 refl; no_int = λ b. absurd b; lead = rw s'.0 refl }
-stmt_begins ks k n e (Block at ss) more o s = record { no_brace = rw s.0 refl; no_else = rw s.0 refl; no_int = λ b. rw s.0 refl; lead = rw s.0 refl }
-stmt_begins ks k n e (Empty at) more o s = record { no_brace = rw s.0 refl; no_else = rw s.0 refl; no_int = λ b. rw s.0 refl; lead = rw s.0 refl }
-stmt_begins ks k n e (Assign a) more o s =
-    let rest = named_sign k (Rattle.c_tree.specs.Signs.assign_sign_of a.op) a.at ∷ (expr (suc k) a.value ++ sign_mark k sg.Semicolon ∷ []) in
-    assign_begins ks k n e a a.place (rest ++ more) (subst (λ z. Spans ks n z e) (append_assoc (place k a.place) rest more) s)
-stmt_begins ks k n e (If at x t) more o s = record { no_brace = rw s.0 refl; no_else = rw s.0 refl; no_int = λ b. rw s.0 refl; lead = rw s.0 refl }
-stmt_begins ks k n e (IfElse at x t u) more o s = record { no_brace = rw s.0 refl; no_else = rw s.0 refl; no_int = λ b. rw s.0 refl; lead = rw s.0 refl }
-stmt_begins ks k n e (For c t) more o s = record { no_brace = rw s.0 refl; no_else = rw s.0 refl; no_int = λ b. rw s.0 refl; lead = rw s.0 refl }
-
--- at level 65 the first token is too deep
-place_deep : (n : ℕ) (x : PlaceTree) (more : List Mark) → first_deep n (place 65 x ++ more) ≡ Some n
-place_deep n (Scalar x) more = refl
-place_deep n (Element x i) more = refl
-place_deep n (Target at x) more = refl
-
-pub vars_deep : (n : ℕ) (v : DeclarationTree) → first_deep n (vars 65 v) ≡ Some n
-vars_deep n v = by_const v.is_const
-  where
-    by_const : (c : Bool) → first_deep n (word_if c 65 wd.Const ++ tail_of 65 v) ≡ Some n
-    by_const true = refl
-    by_const false = refl
-
-pub assignment_deep : (n : ℕ) (a : AssignmentTree) → first_deep n (assignment 65 a) ≡ Some n
-assignment_deep n a = place_deep n a.place _
-
-stmt_deep : (n : ℕ) (s : StmtTree) → first_deep n (stmt 65 s) ≡ Some n
-stmt_deep n (LocalDeclaration v) = vars_deep n v
-stmt_deep n (Block at ss) = refl
-stmt_deep n (Empty at) = refl
-stmt_deep n (Assign a) = assignment_deep n a
-stmt_deep n (If at x t) = refl
-stmt_deep n (IfElse at x t u) = refl
-stmt_deep n (For c t) = refl
+use Rattle.c_reader.proofs.Marks.{made_complete}
+use Rattle.c_reader.proofs.Declared.{tail_of, declaration_complete, declaration_sound, declaration_far}
+use Rattle.c_reader.proofs.Assigned.{assignment_complete, assignment_sound, assignment_far}
+use Rattle.c_reader.proofs.StmtHeads.{NoElse, true_false, condition_complete, Condition, condition_sound, condition_far, header_complete, header_sound, header_far}
+use Rattle.c_reader.proofs.StmtLists.{list_of, trees_list, stmts_joined, joined_stmts, valid_list, list_valid, stmt_lead, stmt_begins, stmt_deep}
 
 -- an `else` does not stand behind what it would belong to
 abbrev pub Needs : List Kind → StmtTree → ℕ → Type 0

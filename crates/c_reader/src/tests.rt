@@ -111,21 +111,35 @@ fn are_kinds_of(kinds: &[Kind], tokens: &[Token]) -> bool {
     kinds.len() == tokens.len()
 }
 
-// A source whose `main` has one statement: `before`, `open` so many times, `inner`, `close` as many times, `after`.
-fn nested(alloc: Global, form: [&str; 5], count: usize) -> Result<String, AllocError> {
+// `before`, `open` so many times, `inner`, `close` as many times, `after`.
+fn repeated(alloc: Global, form: [&str; 5], count: usize) -> Result<String, AllocError> {
     let [before, open, inner, close, after] = form;
-    let mut source = String::from_str(alloc, "int main(int argc, char **argv) { ")?;
-    source.push_str(before)?;
+    let mut text = String::from_str(alloc, before)?;
     for _ in 0..count {
-        source.push_str(open)?;
+        text.push_str(open)?;
     }
-    source.push_str(inner)?;
+    text.push_str(inner)?;
     for _ in 0..count {
-        source.push_str(close)?;
+        text.push_str(close)?;
     }
-    source.push_str(after)?;
-    source.push_str(" op_exit(); }")?;
-    Ok(source)
+    text.push_str(after)?;
+    Ok(text)
+}
+
+// A source whose `main` has one statement, which is repeated so.
+fn nested(alloc: Global, form: [&str; 5], count: usize) -> Result<String, AllocError> {
+    let statement = repeated(alloc, form, count)?;
+    format!(in alloc; "int main(int argc, char **argv) {{ {statement} op_exit(); }}")
+}
+
+// A source whose kernel has a value in so many parentheses.
+fn enclosed(alloc: Global, count: usize) -> Result<String, AllocError> {
+    let after = "; }\nint main(int argc, char **argv) { op_exit(); }";
+    repeated(
+        alloc,
+        ["void bump(int *a) { a[0] = ", "(", "1", ")", after],
+        count,
+    )
 }
 
 // Whether a form may be nested so many times, and no more.
@@ -207,8 +221,9 @@ const UNREAD: [(&str, u32); 17] = [
 ];
 
 // The same of what stands before `main`.
-const UNREAD_TOPS: [(&str, u32); 9] = [
+const UNREAD_TOPS: [(&str, u32); 10] = [
     ("", 1),
+    ("void bump(int *a) { a[0] = ; }", 28),
     ("void f(int *x) { for (int i = 0; i < 2; j++) ; }", 41),
     ("void f(int *x) { for (int i = 0; j < 2; i++) ; }", 34),
     ("void f(int *x) { for (int i = a; i < 2; i++) ; }", 31),
@@ -239,6 +254,13 @@ fn refuses_other_sources(rt: HostRuntime) -> Result<(), Fail> {
     };
     let bad = LexRefusal::BadByte { at };
     assert!(rt; refusal(alloc, "int x = 1 @") == Some(SourceRefusal::Lex(bad)));
+    let at = Pos {
+        line: 1,
+        column: 28,
+    };
+    let large = LexRefusal::NumberTooLarge { at };
+    let source = "void bump(int *a) { a[0] = 2147483648; }";
+    assert!(rt; refusal(alloc, source) == Some(SourceRefusal::Lex(large)));
     Ok(())
 }
 
@@ -267,10 +289,11 @@ fn nests_up_to_64_levels(rt: HostRuntime) -> Result<(), Fail> {
     for (form, most) in NESTED {
         assert!(rt; is_deepest(alloc, form, most)?, "{most}");
     }
-    let deep = nested(alloc, ["x = ", "(", "1", ")", ";"], 63)?;
+    assert!(rt; refusal(alloc, enclosed(alloc, 62)?.as_str()).is_none());
+    let deep = enclosed(alloc, 63)?;
     let at = Pos {
         line: 1,
-        column: 102,
+        column: 91,
     };
     assert!(rt; refusal(alloc, deep.as_str()) == Some(SourceRefusal::TooDeep { at }));
     Ok(())
