@@ -13,7 +13,6 @@ pub enum ElementForm {
 }
 
 /// An expression. Parentheses, unary `+` and `*p` are kept as they are written.
-#[derive(Drop)]
 pub enum RExpr {
     /// `5`
     Number(i32),
@@ -72,4 +71,58 @@ pub enum RExpr {
     },
     /// `ABS(a)`
     Absolute(Box<RExpr>),
+}
+
+// A chain of operators, each the left operand of the one before it, is taken apart by a loop, so that dropping an expression
+// recurses by level of nesting alone.
+impl Drop for RExpr {
+    fn drop(mut self) {
+        loop {
+            match self {
+                RExpr::Binary {
+                    op: _,
+                    left,
+                    right: _right,
+                    at: _,
+                } => self = Box::into_inner(left),
+                RExpr::Choice {
+                    condition,
+                    if_true: _if_true,
+                    if_false: _if_false,
+                } => self = Box::into_inner(condition),
+                RExpr::Number(_) | RExpr::Scalar(_) | RExpr::Constant(_) => return,
+                RExpr::Arg {
+                    param: _,
+                    form: _,
+                    index: _index,
+                    at: _,
+                } => return,
+                RExpr::Local {
+                    from: _,
+                    count: _,
+                    form: _,
+                    index: _index,
+                    at: _,
+                } => return,
+                RExpr::Const {
+                    from: _,
+                    count: _,
+                    form: _,
+                    index: _index,
+                    at: _,
+                } => return,
+                RExpr::Unary {
+                    op: _,
+                    operand: _operand,
+                } => return,
+                RExpr::Paren(_inner) => return,
+                RExpr::Extremum {
+                    which: _,
+                    first: _first,
+                    second: _second,
+                } => return,
+                RExpr::Absolute(_operand) => return,
+            }
+        }
+    }
 }
