@@ -1,1 +1,5 @@
-pub mod Blocks
+pub mod Shares
+pub mod Firsts
+pub mod Gathered
+pub mod Naming
+pub mod TurnSteps

@@ -1,7 +1,8 @@
-// Blocks of small sets.
-use crate::block;
+// Owners of small meshes.
+use crate::{block, derive, given_fits};
 use mesh_decl::Mesh;
 use op_num::Name;
+use std::alloc::{AllocError, Global};
 use std::test::Fail;
 
 // How many elements a set has, how many ranks there are, and the elements' ranks.
@@ -26,6 +27,109 @@ fn blocks(rt: HostRuntime) -> Result<(), Fail> {
             assert_eq!(rt; owners.ranks, *ranks);
             assert_eq!(rt; owners.sets.len(), 1);
             for ranks in owners.sets {
+                assert_eq!(rt; ranks.as_slice(), *want);
+            }
+        }
+    }
+    Ok(())
+}
+
+// A mesh of nodes and edges, with two ends for each edge.
+#[tactic(auto, unfolding(mesh_decl::specs::Mesh::size_in))]
+fn mesh_of(rt: &HostRuntime, nodes: u32, ends: &[i32]) -> Result<Mesh, Fail> {
+    let alloc = rt.alloc();
+    let mut mesh = Mesh::new(alloc);
+    let edges = ends.len() / 2;
+    let ends = Vec::from_slice(alloc, ends)?;
+    if edges < 10 && ends.len() == edges * 2 {
+        mesh.add_set(Name::new(Vec::from_slice(alloc, b"nodes")?), nodes)?;
+        mesh.add_set(Name::new(Vec::from_slice(alloc, b"edges")?), edges as u32)?;
+        mesh.add_map(Name::new(Vec::from_slice(alloc, b"ends")?), 1, 0, 2, ends)?;
+    }
+    Ok(mesh)
+}
+
+// A list of its own, if there is one.
+fn own(alloc: Global, list: Option<&[u32]>) -> Result<Option<Vec<u32>>, AllocError> {
+    match list {
+        Some(ranks) => Ok(Some(Vec::from_slice(alloc, ranks)?)),
+        None => Ok(None),
+    }
+}
+
+// How many nodes and ranks there are, the ends of edges, the ranks given to nodes and to edges, and those that both have.
+const DERIVED: &[(
+    u32,
+    u32,
+    &[i32],
+    Option<&[u32]>,
+    Option<&[u32]>,
+    &[u32],
+    &[u32],
+)] = &[
+    // edges by their ends: the path 0 3 1 2, with a tie
+    (
+        4,
+        2,
+        &[0, 3, 3, 1, 1, 2],
+        Some(&[0, 1, 1, 0]),
+        None,
+        &[0, 1, 1, 0],
+        &[0, 0, 1],
+    ),
+    // an edge with one node as both ends, and a tie of high ranks
+    (
+        3,
+        9,
+        &[2, 2, 1, 2],
+        Some(&[0, 7, 5]),
+        None,
+        &[0, 7, 5],
+        &[5, 5],
+    ),
+    // nodes by the edges that name them; node 4 by its block
+    (
+        5,
+        2,
+        &[0, 3, 3, 1, 1, 2],
+        None,
+        Some(&[0, 1, 1]),
+        &[0, 1, 1, 0, 1],
+        &[0, 1, 1],
+    ),
+    // an edge that names a node twice
+    (2, 3, &[0, 1, 0, 0], None, Some(&[1, 2]), &[2, 1], &[1, 2]),
+    // nodes by blocks, then edges
+    (
+        5,
+        2,
+        &[0, 3, 3, 1, 1, 2],
+        None,
+        None,
+        &[0, 0, 1, 1, 1],
+        &[0, 0, 0],
+    ),
+    // all given
+    (2, 2, &[0, 1], Some(&[1, 1]), Some(&[0]), &[1, 1], &[0]),
+    // no element
+    (0, 3, &[], None, None, &[], &[]),
+    // more ranks than elements
+    (2, 64, &[0, 1], None, None, &[31, 63], &[31]),
+];
+
+#[test]
+fn derived(rt: HostRuntime) -> Result<(), Fail> {
+    let alloc = rt.alloc();
+    for (nodes, ranks, ends, of_nodes, of_edges, want_nodes, want_edges) in DERIVED {
+        let mesh = mesh_of(&rt, *nodes, *ends)?;
+        let given = vec![in alloc; own(alloc, *of_nodes)?, own(alloc, *of_edges)?]?;
+        let fits = given_fits(&mesh, *ranks, &given);
+        assert_eq!(rt; fits, true);
+        if *ranks > 0 && *ranks <= 64 && fits {
+            let owners = derive(alloc, &mesh, *ranks, given)?;
+            assert_eq!(rt; owners.ranks, *ranks);
+            assert_eq!(rt; owners.sets.len(), 2);
+            for (ranks, want) in owners.sets.iter().zip([*want_nodes, *want_edges].iter()) {
                 assert_eq!(rt; ranks.as_slice(), *want);
             }
         }

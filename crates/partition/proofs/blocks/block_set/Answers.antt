@@ -1,8 +1,8 @@
 use Rattle.std.proofs.Common.{◌≡◌, ◌<◌, ℕ, arith}
 use Rattle.std.proofs.lemmas.List.{length_push}
 use Rattle.partition.specs.Block.{InBlock}
-use Rattle.partition.proofs.Blocks.{each_more}
-use Rattle.partition.proofs.block_set.Goals as goal
+use Rattle.partition.proofs.Shares.{each_more}
+use Rattle.partition.proofs.blocks.block_set.Goals as goal
 
 pub loop-element-preserved : goal.loop-element-preserved
 loop-element-preserved c =

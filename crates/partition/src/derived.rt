@@ -1,0 +1,115 @@
+// Owners by those of targets, or by those of the entries that name an element.
+ghost use Rattle.std.specs.Prelude.{◌≡◌, ℕ, true, ◌<◌, ◌≤◌, ◌/◌, OnOk, IfOk, length, slice_index};
+ghost use Rattle.mesh_decl.specs.Mesh.{IsMapAt, map_count, set_size, map_from, map_to, map_dim, target};
+ghost use Rattle.rank_sets.specs.Below.{row};
+ghost use Rattle.partition.specs.Elected.{names, entries, gathered};
+ghost use Rattle.partition.specs.Derive.{AreByTargets, AreByNames};
+
+use crate::elect::{most_frequent, most_frequent_or_block};
+use mesh_decl::Mesh;
+use op_num::OutOfMemory;
+use rank_sets::empty_lists;
+use std::alloc::Global;
+
+// Puts the owners of an element's targets into a list.
+fn list_targets(
+    list: &mut Vec<u32>,
+    mesh: &Mesh,
+    owners: &[u32],
+    map: u32,
+    element: u32,
+) -> Result<(), OutOfMemory>
+    requires map { map < map_count mesh.now }
+    requires owners { length owners.now ≡ set_size mesh.now (map_to mesh.now map) }
+    requires element { element < set_size mesh.now (map_from mesh.now map) }
+    ensures { OnOk result (list.new.items ≡ gathered (map_dim mesh.now map) (λ i. true) (λ i. slice_index owners.now (target mesh.now map element i))) }
+{
+    let (_, _, dim) = mesh.map_ends(map);
+    list.clear();
+    for place in 0..dim {
+        list.push(owners[mesh.target(map, element, place) as usize])?;
+    }
+    Ok(())
+}
+
+/// The owners of the set from which a map leads, by those of its targets.
+pub fn elect_by_targets(
+    alloc: Global,
+    mesh: &Mesh,
+    owners: &[u32],
+    map: u32,
+    ranks: u32,
+) -> Result<Vec<u32>, OutOfMemory>
+    requires some { 0 < ranks }
+    requires few { ranks ≤ 64 }
+    requires map { map < map_count mesh.now }
+    requires at { IsMapAt mesh.now map }
+    requires owners { length owners.now ≡ set_size mesh.now (map_to mesh.now map) }
+    requires below { (x : ℕ) → x < length owners.now → slice_index owners.now x < ranks }
+    ensures length { IfOk result (λ v. length v.items ≡ set_size mesh.now (map_from mesh.now map)) }
+    ensures elected { IfOk result (λ v. AreByTargets mesh.now ranks owners.now map (map_from mesh.now map) v.items) }
+    ensures within { IfOk result (λ v. (x : ℕ) → x < set_size mesh.now (map_from mesh.now map) → slice_index v.items x < ranks) }
+{
+    let (from, _, _) = mesh.map_ends(map);
+    let size = mesh.set_size(from);
+    let mut list = Vec::new(alloc);
+    let mut elected = Vec::with_capacity(alloc, size as usize)?;
+    for element in 0..size {
+        list_targets(&mut list, mesh, owners, map, element)?;
+        elected.push(most_frequent(&list, ranks))?;
+    }
+    Ok(elected)
+}
+
+// For each element of the set to which a map leads, the owners of the entries that name it.
+fn owners_naming(
+    alloc: Global,
+    mesh: &Mesh,
+    owners: &[u32],
+    map: u32,
+) -> Result<Vec<Vec<u32>>, OutOfMemory>
+    requires map { map < map_count mesh.now }
+    requires at { IsMapAt mesh.now map }
+    requires owners { length owners.now ≡ set_size mesh.now (map_from mesh.now map) }
+    ensures length { IfOk result (λ v. length v.items ≡ set_size mesh.now (map_to mesh.now map)) }
+    ensures lists { IfOk result (λ v. (y : ℕ) → y < set_size mesh.now (map_to mesh.now map) → row v.items y ≡ gathered (entries mesh.now map) (names mesh.now map y) (λ e. slice_index owners.now (e / map_dim mesh.now map))) }
+{
+    let (from, to, dim) = mesh.map_ends(map);
+    let mut lists = empty_lists(alloc, mesh.set_size(to))?;
+    let entries = mesh.set_size(from) as u64 * dim as u64;
+    for entry in 0..entries {
+        let (element, place) = (entry / dim as u64, entry % dim as u64);
+        let target = mesh.target(map, element as u32, place as u32);
+        lists[target as usize].push(owners[element as usize])?;
+    }
+    Ok(lists)
+}
+
+/// The owners of the set to which a map leads, by those of the entries that name its elements.
+pub fn elect_by_names(
+    alloc: Global,
+    mesh: &Mesh,
+    owners: &[u32],
+    map: u32,
+    ranks: u32,
+) -> Result<Vec<u32>, OutOfMemory>
+    requires some { 0 < ranks }
+    requires few { ranks ≤ 64 }
+    requires map { map < map_count mesh.now }
+    requires at { IsMapAt mesh.now map }
+    requires owners { length owners.now ≡ set_size mesh.now (map_from mesh.now map) }
+    requires below { (x : ℕ) → x < length owners.now → slice_index owners.now x < ranks }
+    ensures length { IfOk result (λ v. length v.items ≡ set_size mesh.now (map_to mesh.now map)) }
+    ensures elected { IfOk result (λ v. AreByNames mesh.now ranks owners.now map (map_to mesh.now map) v.items) }
+    ensures within { IfOk result (λ v. (x : ℕ) → x < set_size mesh.now (map_to mesh.now map) → slice_index v.items x < ranks) }
+{
+    let (_, to, _) = mesh.map_ends(map);
+    let size = mesh.set_size(to);
+    let lists = owners_naming(alloc, mesh, owners, map)?;
+    let mut elected = Vec::with_capacity(alloc, size as usize)?;
+    for element in 0..size {
+        let list = &lists[element as usize];
+        elected.push(most_frequent_or_block(list, size, ranks, element))?;
+    }
+    Ok(elected)
+}
