@@ -1,0 +1,5 @@
+pub mod Chosen
+pub mod Running
+pub mod Standing
+pub mod Complete
+pub mod Exact

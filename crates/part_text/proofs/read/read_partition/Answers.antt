@@ -1,0 +1,14 @@
+use Rattle.part_text.proofs.Exact.{found, only, refused, refuses}
+use Rattle.part_text.proofs.read.read_partition.Goals as goal
+
+pub returns-clause-found : goal.returns-clause-found
+returns-clause-found c = found c.args.mesh.now c.args.ranks c.args.bytes.now c.read.result (λ o. o.sets.items) c.read.ensures.answers
+
+pub returns-clause-only : goal.returns-clause-only
+returns-clause-only c = only c.args.mesh.now c.args.ranks c.args.bytes.now c.read.result (λ o. o.sets.items) c.read.ensures.answers
+
+pub returns-clause-refused : goal.returns-clause-refused
+returns-clause-refused c = refused c.args.mesh.now c.args.ranks c.args.bytes.now c.read.result (λ o. o.sets.items) c.read.ensures.answers
+
+pub returns-clause-refuses : goal.returns-clause-refuses
+returns-clause-refuses c = refuses c.args.mesh.now c.args.ranks c.args.bytes.now c.read.result (λ o. o.sets.items) c.read.ensures.answers

@@ -1,0 +1,4 @@
+pub mod Token
+pub mod Spelling
+pub mod Reading
+pub mod Answered

@@ -1,0 +1,52 @@
+-- The tokens of a partition of a mesh.
+use Rattle.std.specs.Prelude.{◌≡◌, ℕ, zero, suc, ◌<◌, List, [], ◌∷◌, ◌++◌, length, map, slice_get, slice_set, Option, Some, None, codes, if◌then◌else◌}
+use lib.ListN.{replicate}
+use Rattle.std.specs.Str.{bytes_eq}
+use Rattle.op_num.specs.Spelling.{number_of}
+use Rattle.texts.specs.Cut.{texts}
+use Rattle.mesh_decl.specs.Mesh.{MeshValue, set_count, set_size, set_name}
+
+-- for each set the ranks of its elements, or none so far
+abbrev pub Table : Type 0
+Table = List (Option (List ℕ))
+
+-- no set has its ranks
+abbrev pub no_ranks : MeshValue → Table
+no_ranks g = replicate (set_count g) None
+
+-- the last of the sets below n that has this name
+abbrev pub set_below : MeshValue → List ℕ → ℕ → Option ℕ
+set_below g name zero = None
+set_below g name (suc n) = if bytes_eq (set_name g n) name then Some n else set_below g name n
+
+-- the set of this name; where several have it, the last
+unfoldable pub set_of : MeshValue → List ℕ → Option ℕ
+set_of g name = set_below g name (set_count g)
+
+-- Each token is a rank in digits, leading zeros allowed, and is below the number of ranks.
+abbrev pub AreRanks : ℕ → List (List ℕ) → List ℕ → Type 0
+AreRanks ranks [] rs = rs ≡ []
+AreRanks ranks (t ∷ ts) rs = (r : ℕ) × (rest : List ℕ) × (rs ≡ r ∷ rest) × (number_of t ≡ Some r) × (r < ranks) × AreRanks ranks ts rest
+
+-- the tokens of a set's ranks: `set`, its name, its size in digits, and a rank for each element
+abbrev pub IsSet : MeshValue → ℕ → List (List ℕ) → ℕ → List ℕ → Type 0
+IsSet g ranks ts k rs =
+    (name : List ℕ) × (count : List ℕ) × (digits : List (List ℕ)) × (ts ≡ codes "set" ∷ name ∷ count ∷ digits) × (set_of g name ≡ Some k) × (number_of count ≡ Some (set_size g k)) × (length rs ≡ set_size g k) × AreRanks ranks digits rs
+
+-- a set, and the ranks of its elements
+abbrev pub Given : Type 0
+Given = ℕ × List ℕ
+
+-- The tokens give these sets, in this order, their ranks; none of them had ranks before. So one table becomes the other.
+abbrev pub AreSets : MeshValue → ℕ → List (List ℕ) → List Given → Table → Table → Type 0
+AreSets g ranks ts [] before after = (ts ≡ []) × (before ≡ after)
+AreSets g ranks ts (s ∷ ss) before after =
+    (front : List (List ℕ)) × (rest : List (List ℕ)) × (ts ≡ front ++ rest) × IsSet g ranks front s.0 s.1 × (slice_get before s.0 ≡ Some None) × AreSets g ranks rest ss (slice_set before s.0 (Some s.1)) after
+
+-- the header, and sets with their ranks
+abbrev pub ArePart : MeshValue → ℕ → List (List ℕ) → Table → Type 0
+ArePart g ranks ts table = (body : List (List ℕ)) × (given : List Given) × (ts ≡ codes "op2part" ∷ codes "1" ∷ body) × AreSets g ranks body given (no_ranks g) table
+
+-- The bytes, cut into tokens at blanks, are the header, each set once, in any order, with the ranks of its elements, and `done`.
+abbrev pub Spells : MeshValue → ℕ → List ℕ → List (List ℕ) → Type 0
+Spells g ranks bytes owners = (ts : List (List ℕ)) × (texts bytes ≡ ts ++ codes "done" ∷ []) × ArePart g ranks ts (map (λ rs. Some rs) owners)
