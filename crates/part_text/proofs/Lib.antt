@@ -3,3 +3,4 @@ pub mod Running
 pub mod Standing
 pub mod Complete
 pub mod Exact
+pub mod Owned

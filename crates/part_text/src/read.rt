@@ -4,6 +4,7 @@ ghost use Rattle.op_num.specs.Spelling.{number_of};
 ghost use Rattle.texts.specs.Cut.{uncut, first_of};
 ghost use Rattle.texts.specs.Automaton.{Answers, Told, IsNext, IsGiven, IsRefused};
 ghost use Rattle.mesh_decl.specs.Mesh.{MeshValue, set_count, set_size};
+ghost use Rattle.mesh_decl.specs.Owners.{AreOwners};
 ghost use Rattle.part_text.specs.declared.refusals.PartRefusal.{PartRefusal as Refusal};
 ghost use Rattle.part_text.specs.Spelling.{Table, no_ranks, set_of, Spells};
 ghost use Rattle.part_text.specs.Reading.{Magic, Between, SetName, Count, filled, named, sized, ranked, stray, gathered, run_from, Refuses};
@@ -32,6 +33,8 @@ pub fn read_partition(
     // What is given is spelled so.
     ensures found { IfOk result (λ o. Spells mesh.now ranks bytes.now o.sets.items) }
     ensures ranks { IfOk result (λ o. o.ranks ≡ ranks) }
+    // So each element of each set has a rank.
+    ensures owners { 0 < ranks → ranks ≤ 64 → IfOk result (AreOwners mesh.now) }
     // What is spelled so is given, unless memory runs out.
     ensures only { (owners : List (List ℕ)) → Spells mesh.now ranks bytes.now owners → IsGiven Refusal.OutOfMemory result (λ o. o.sets.items ≡ owners) }
     // Each refusal is the first, in the order of the tokens.

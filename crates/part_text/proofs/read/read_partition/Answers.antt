@@ -1,4 +1,5 @@
 use Rattle.part_text.proofs.Exact.{found, only, refused, refuses}
+use Rattle.part_text.proofs.Owned.{owners-given}
 use Rattle.part_text.proofs.read.read_partition.Goals as goal
 
 pub returns-clause-found : goal.returns-clause-found
@@ -12,3 +13,7 @@ returns-clause-refused c = refused c.args.mesh.now c.args.ranks c.args.bytes.now
 
 pub returns-clause-refuses : goal.returns-clause-refuses
 returns-clause-refuses c = refuses c.args.mesh.now c.args.ranks c.args.bytes.now c.read.result (λ o. o.sets.items) c.read.ensures.answers
+
+pub returns-clause-owners : goal.returns-clause-owners
+returns-clause-owners c =
+    owners-given c.args.mesh.now c.args.ranks c.args.bytes.now c.read.result (found c.args.mesh.now c.args.ranks c.args.bytes.now c.read.result (λ o. o.sets.items) c.read.ensures.answers) c.read.ensures.ranks
