@@ -8,9 +8,10 @@ use Rattle.texts.proofs.Exact.{through, through-none, through-more, through-join
 use Rattle.mesh_decl.specs.Mesh.{MeshValue, set_size}
 use Rattle.part_text.specs.declared.refusals.PartRefusal.TheVariants.{WrongCount, RankRange}
 use Rattle.part_text.specs.Token.{keyword_of}
-use Rattle.part_text.specs.Spelling.{Table, Given, no_ranks, set_of, AreRanks, IsSet, AreSets, ArePart}
-use Rattle.part_text.specs.Reading.{State, finish, Magic, Version, Between, SetName, Count, Ranks, End, step, began, free_set, named, sized, ranked, gathered, filled, IsFree, Stands}
+use Rattle.part_text.specs.Spelling.{Table, Given, no_ranks, AreRanks, IsSet, AreSets, ArePart}
+use Rattle.part_text.specs.Reading.{set_of, State, finish, Magic, Version, Between, SetName, Count, Ranks, End, step, began, free_set, named, sized, ranked, gathered, filled, IsFree, Stands}
 use Rattle.part_text.proofs.Chosen.{eq_itself}
+use Rattle.part_text.proofs.Names.{is_set}
 use Rattle.part_text.proofs.Running.{step-magic, step-version, step-between, step-set_name, step-count, step-ranks, filled-more}
 
 same_cons : (t u : List ℕ) (ts us : List (List ℕ)) → t ≡ u → ts ≡ us → t ∷ ts ≡ u ∷ us
@@ -86,7 +87,7 @@ module _ (g : MeshValue) (ranks : ℕ) where
 
   name_on : (t : Table) (name : List ℕ) (k : ℕ) → IsFree g ranks t name k → (w : Word) → w.text ≡ name → step g ranks (SetName t) w ≡ Ok (Count t k)
   name_on t name k f w e =
-      let o : set_of g w.text ≡ Some k = ap (set_of g) e ∙ f.0 in
+      let o : set_of g w.text ≡ Some k = ap (set_of g) e ∙ is_set g name k f.0 in
       step-set_name g ranks t w ∙ ap (λ r. onto r (Count t)) (names t (set_of g w.text) w.line k o f.1)
 
   count_on : (t : Table) (k : ℕ) (count : List ℕ) → number_of count ≡ Some (set_size g k) → (w : Word) → w.text ≡ count → step g ranks (Count t k) w ≡ Ok (filled t k (set_size g k) [])

@@ -1,4 +1,5 @@
 pub mod Chosen
+pub mod Names
 pub mod Running
 pub mod Standing
 pub mod Complete

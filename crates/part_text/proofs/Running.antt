@@ -11,8 +11,8 @@ use Rattle.part_text.specs.declared.refusals.PartRefusal.{PartRefusal}
 use Rattle.part_text.specs.declared.refusals.PartRefusal.TheVariants.{Header, Syntax, MissingSet, WrongCount}
 use Rattle.part_text.specs.declared.token.Keyword.TheVariants as keyword
 use Rattle.part_text.specs.Token.{is_magic, is_version, keyword_of}
-use Rattle.part_text.specs.Spelling.{Table, no_ranks, set_of}
-use Rattle.part_text.specs.Reading.{Magic, Version, Between, SetName, Count, Ranks, End, step, finish, began, stray, gathered, named, sized, ranked, filled, run_from}
+use Rattle.part_text.specs.Spelling.{Table, no_ranks}
+use Rattle.part_text.specs.Reading.{set_of, Magic, Version, Between, SetName, Count, Ranks, End, step, finish, began, stray, gathered, named, sized, ranked, filled, run_from}
 use Rattle.part_text.specs.Answered.{LeadsToSet}
 
 last-behind : (last : ℕ) (ws : List Word) (w : Word) → first ws ≡ Some w → (behind last ws).last ≡ w.line

@@ -11,9 +11,10 @@ use Rattle.part_text.specs.declared.refusals.PartRefusal.TheVariants.{Header, Wr
 use Rattle.part_text.specs.declared.token.Keyword.{Keyword}
 use Rattle.part_text.specs.declared.token.Keyword.TheVariants as keyword
 use Rattle.part_text.specs.Token.{is_magic, is_version, keyword_of}
-use Rattle.part_text.specs.Spelling.{Table, Given, no_ranks, set_of, AreRanks, IsSet, AreSets, ArePart}
-use Rattle.part_text.specs.Reading.{State, Magic, Version, Between, SetName, Count, Ranks, End, step, began, free_set, named, sized, ranked, gathered, filled, IsFree, Stands}
+use Rattle.part_text.specs.Spelling.{Table, Given, no_ranks, AreRanks, IsSet, AreSets, ArePart}
+use Rattle.part_text.specs.Reading.{set_of, State, Magic, Version, Between, SetName, Count, Ranks, End, step, began, free_set, named, sized, ranked, gathered, filled, IsFree, Stands}
 use Rattle.part_text.proofs.Chosen.{chosen, ok_then, same_bytes}
+use Rattle.part_text.proofs.Names.{set_is}
 use Rattle.part_text.proofs.Running.{step-between, step-set_name, step-count, step-ranks, step-end}
 
 -- the ranks of every set
@@ -132,7 +133,7 @@ module _ (g : MeshValue) (ranks : ℕ) where
   behind_set_name t q ts w s h =
       let o = onto_is (named t (set_of g w.text) w.line) (Count t) q h in
       let n = named_is t (set_of g w.text) w.line o.0 o.1 in
-      let stands : Stands g ranks (ts ++ w.text ∷ []) (Count t o.0) = (s.0, w.text, with_one ts s.0 (codes "set" ∷ []) w.text w.text s.1 refl, s.2, n) in
+      let stands : Stands g ranks (ts ++ w.text ∷ []) (Count t o.0) = (s.0, w.text, with_one ts s.0 (codes "set" ∷ []) w.text w.text s.1 refl, s.2, (set_is g w.text o.0 n.0, n.1)) in
       subst (Stands g ranks (ts ++ w.text ∷ [])) o.2 stands
 
   behind_count : (t : Table) (k : ℕ) (q : State) (ts : List (List ℕ)) (w : Word) → Stands g ranks ts (Count t k) → onto (sized (set_size g k) (number_of w.text) w.line) (λ n. filled t k n []) ≡ Ok q → Stands g ranks (ts ++ w.text ∷ []) q

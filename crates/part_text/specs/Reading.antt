@@ -1,16 +1,17 @@
 -- Reading a partition text: what is awaited, what a token does there, and the first token that may not stand where it does.
-use Rattle.std.specs.Prelude.{◌≡◌, ℕ, ◌+◌, ◌-◌, ◌<◌, nat_eq, nat_lt, List, [], ◌∷◌, ◌++◌, length, map, slice_get, slice_set, Option, Some, None, Result, Ok, Err, codes, if◌then◌else◌}
+use Rattle.std.specs.Prelude.{◌≡◌, ℕ, zero, suc, ◌+◌, ◌-◌, ◌<◌, nat_eq, nat_lt, List, [], ◌∷◌, ◌++◌, length, map, slice_get, slice_set, Option, Some, None, Result, Ok, Err, codes, if◌then◌else◌}
+use Rattle.std.specs.Str.{bytes_eq}
 use Rattle.op_num.specs.Spelling.{number_of}
 use Rattle.texts.specs.Cut.{Word, Uncut, words, text_of}
 use Rattle.texts.specs.Automaton
 use Rattle.texts.specs.Automaton.{onto, RefusesAmong}
-use Rattle.mesh_decl.specs.Mesh.{MeshValue, set_size}
+use Rattle.mesh_decl.specs.Mesh.{MeshValue, set_count, set_size, set_name}
 use Rattle.part_text.specs.declared.refusals.PartRefusal.{PartRefusal}
 use Rattle.part_text.specs.declared.refusals.PartRefusal.TheVariants.{Header, Syntax, UnknownSet, MissingSet, WrongCount, RankRange}
 use Rattle.part_text.specs.declared.token.Keyword.{Keyword}
 use Rattle.part_text.specs.declared.token.Keyword.TheVariants as keyword
 use Rattle.part_text.specs.Token.{is_magic, is_version, keyword_of}
-use Rattle.part_text.specs.Spelling.{Table, no_ranks, set_of, AreRanks, ArePart}
+use Rattle.part_text.specs.Spelling.{Table, no_ranks, IsNamed, AreRanks, ArePart}
 
 -- What is awaited behind the sets that have their ranks so far: the two tokens of the header, a set or `done`, the name of a set,
 -- its size, some more ranks of a set that has the last of these so far, the end.
@@ -22,6 +23,15 @@ pub data State : Type 0 where
   Count : Table → ℕ → State
   Ranks : Table → ℕ → ℕ → List ℕ → State
   End : List (List ℕ) → State
+
+-- the last of the sets below n that has this name
+abbrev pub set_below : MeshValue → List ℕ → ℕ → Option ℕ
+set_below g name zero = None
+set_below g name (suc n) = if bytes_eq (set_name g n) name then Some n else set_below g name n
+
+-- the last set of this name
+unfoldable pub set_of : MeshValue → List ℕ → Option ℕ
+set_of g name = set_below g name (set_count g)
 
 -- the next state, or why a token is refused
 abbrev pub Stepped : Type 0
@@ -97,7 +107,7 @@ module _ (g : MeshValue) (ranks : ℕ) where
 
   -- a set of the mesh that has no ranks, by its name
   abbrev pub IsFree : Table → List ℕ → ℕ → Type 0
-  IsFree t name k = (set_of g name ≡ Some k) × (slice_get t k ≡ Some None)
+  IsFree t name k = IsNamed g name k × (slice_get t k ≡ Some None)
 
   -- The tokens can stand at the front of a text, and this is awaited behind them.
   abbrev pub Stands : List (List ℕ) → State → Type 0

@@ -1,7 +1,6 @@
 -- The tokens of a partition of a mesh.
-use Rattle.std.specs.Prelude.{◌≡◌, ℕ, zero, suc, ◌<◌, List, [], ◌∷◌, ◌++◌, length, map, slice_get, slice_set, Option, Some, None, codes, if◌then◌else◌}
+use Rattle.std.specs.Prelude.{◌≡◌, ℕ, ◌<◌, List, [], ◌∷◌, ◌++◌, length, map, slice_get, slice_set, Option, Some, None, codes}
 use lib.ListN.{replicate}
-use Rattle.std.specs.Str.{bytes_eq}
 use Rattle.op_num.specs.Spelling.{number_of}
 use Rattle.texts.specs.Cut.{texts}
 use Rattle.mesh_decl.specs.Mesh.{MeshValue, set_count, set_size, set_name}
@@ -14,14 +13,11 @@ Table = List (Option (List ℕ))
 abbrev pub no_ranks : MeshValue → Table
 no_ranks g = replicate (set_count g) None
 
--- the last of the sets below n that has this name
-abbrev pub set_below : MeshValue → List ℕ → ℕ → Option ℕ
-set_below g name zero = None
-set_below g name (suc n) = if bytes_eq (set_name g n) name then Some n else set_below g name n
-
--- the set of this name; where several have it, the last
-unfoldable pub set_of : MeshValue → List ℕ → Option ℕ
-set_of g name = set_below g name (set_count g)
+-- the set has this name, and no later set has it
+pub record IsNamed (g : MeshValue) (name : List ℕ) (k : ℕ) : Type 0 where
+  pub within : k < set_count g
+  pub name_of : set_name g k ≡ name
+  pub last : (j : ℕ) → k < j → j < set_count g → set_name g j ≡ name → ⊥
 
 -- Each token is a rank in digits, leading zeros allowed, and is below the number of ranks.
 abbrev pub AreRanks : ℕ → List (List ℕ) → List ℕ → Type 0
@@ -31,7 +27,7 @@ AreRanks ranks (t ∷ ts) rs = (r : ℕ) × (rest : List ℕ) × (rs ≡ r ∷ r
 -- the tokens of a set's ranks: `set`, its name, its size in digits, and a rank for each element
 abbrev pub IsSet : MeshValue → ℕ → List (List ℕ) → ℕ → List ℕ → Type 0
 IsSet g ranks ts k rs =
-    (name : List ℕ) × (count : List ℕ) × (digits : List (List ℕ)) × (ts ≡ codes "set" ∷ name ∷ count ∷ digits) × (set_of g name ≡ Some k) × (number_of count ≡ Some (set_size g k)) × (length rs ≡ set_size g k) × AreRanks ranks digits rs
+    (name : List ℕ) × (count : List ℕ) × (digits : List (List ℕ)) × (ts ≡ codes "set" ∷ name ∷ count ∷ digits) × IsNamed g name k × (number_of count ≡ Some (set_size g k)) × (length rs ≡ set_size g k) × AreRanks ranks digits rs
 
 -- a set, and the ranks of its elements
 abbrev pub Given : Type 0

@@ -6,8 +6,8 @@ ghost use Rattle.texts.specs.Automaton.{Answers, Told, IsNext, IsGiven, IsRefuse
 ghost use Rattle.mesh_decl.specs.Mesh.{MeshValue, set_count, set_size};
 ghost use Rattle.mesh_decl.specs.Owners.{AreOwners};
 ghost use Rattle.part_text.specs.declared.refusals.PartRefusal.{PartRefusal as Refusal};
-ghost use Rattle.part_text.specs.Spelling.{Table, no_ranks, set_of, Spells};
-ghost use Rattle.part_text.specs.Reading.{Magic, Between, SetName, Count, filled, named, sized, ranked, stray, gathered, run_from, Refuses};
+ghost use Rattle.part_text.specs.Spelling.{Table, no_ranks, Spells};
+ghost use Rattle.part_text.specs.Reading.{Magic, Between, SetName, Count, filled, set_of, named, sized, ranked, stray, gathered, run_from, Refuses};
 ghost use Rattle.part_text.specs.Answered.{Leads, LeadsToSet};
 
 use crate::refusals::PartRefusal;
@@ -165,7 +165,7 @@ fn free_set(token: &Token<'_>, mesh: &Mesh, table: &[Option<Numbers>]) -> Result
 }
 
 // The set of this name.
-#[tactic(auto, unfolding(crate::specs::Spelling::set_of))]
+#[tactic(auto, unfolding(crate::specs::Reading::set_of))]
 fn find_set(mesh: &Mesh, name: &[u8]) -> Option<u32>
     ensures is { result ≡ set_of mesh.now name.now }
     ensures within { IfSome result (λ k. k < set_count mesh.now) }

@@ -1,6 +1,6 @@
 use Rattle.std.proofs.Common.{◌≡◌, ◌≤◌}
 use Rattle.mesh_decl.specs.Mesh.{set_count}
-use Rattle.part_text.specs.Spelling.{set_below}
+use Rattle.part_text.specs.Reading.{set_below}
 use Rattle.part_text.proofs.read.find_set.Given as goal
 
 abbrev pub invariant-loop-set : goal.invariant-loop-set
