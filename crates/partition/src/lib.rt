@@ -18,6 +18,7 @@ use blocks::block_set;
 pub use given::given_fits;
 use mesh_decl::{Mesh, Numbers, Owners};
 use op_num::OutOfMemory;
+pub use part_text::{PartRefusal, one_partition, read_partition};
 use std::alloc::Global;
 use turns::{derive_rest, split_given};
 
