@@ -124,7 +124,7 @@ pub earliest_agree : (near near' : ℕ → ℕ → Bool) (taken : List ℕ) (y :
 unfolding earliest
 earliest_agree near near' taken y h = prefix_agree (λ x. not (near x y)) (λ x. not (near' x y)) taken (λ x. ap (λ z. not z) (h x y))
 
-row_past : (lists : List (Vec ℕ Global)) (x : ℕ) → length lists ≤ x → row lists x ≡ []
+pub row_past : (lists : List (Vec ℕ Global)) (x : ℕ) → length lists ≤ x → row lists x ≡ []
 unfolding row
 row_past lists x l = get_or_past (map (λ (v : Vec ℕ Global). v.items) lists) x [] (rw (length-map lists (λ (v : Vec ℕ Global). v.items)) l)
 

@@ -22,34 +22,34 @@ pub near_at : (lists : List (Vec ℕ Global)) (x i : ℕ) → i < length (row li
 unfolding is_near
 near_at lists x i l = any_from (length (row lists x)) (λ k. nat_eq (get_or (row lists x) k 0) (get_or (row lists x) i 0)) i l (eq-eqb (get_or (row lists x) i 0) (get_or (row lists x) i 0) refl)
 
-both : (b : Bool) → b ≡ true → b ≡ false → ⊥
+pub both : (b : Bool) → b ≡ true → b ≡ false → ⊥
 both b t f = let z : true ≡ false = sym t ∙ f in cc
 
 module _ (n : ℕ) (near : ℕ → ℕ → Bool) where
   -- the place of the earliest neighbour
-  earliest_is : (taken : List ℕ) (y h : ℕ) → h < length taken → ((j : ℕ) → j < h → near (get_or taken j 0) y ≡ false) → near (get_or taken h 0) y ≡ true → earliest near taken y ≡ h
+  pub earliest_is : (taken : List ℕ) (y h : ℕ) → h < length taken → ((j : ℕ) → j < h → near (get_or taken j 0) y ≡ false) → near (get_or taken h 0) y ≡ true → earliest near taken y ≡ h
   unfolding earliest
   earliest_is taken y h l before here = position_or_len_is (λ x. near x y) taken h 0 (omega arith) before (λ _. here)
 
-  earliest_none : (taken : List ℕ) (y : ℕ) → ((j : ℕ) → j < length taken → near (get_or taken j 0) y ≡ false) → earliest near taken y ≡ length taken
+  pub earliest_none : (taken : List ℕ) (y : ℕ) → ((j : ℕ) → j < length taken → near (get_or taken j 0) y ≡ false) → earliest near taken y ≡ length taken
   unfolding earliest
   earliest_none taken y before = position_or_len_is (λ x. near x y) taken (length taken) 0 (omega arith) before (λ l. absurd (omega arith))
 
-  earliest_at : (taken : List ℕ) (y : ℕ) → earliest near taken y < length taken → near (get_or taken (earliest near taken y) 0) y ≡ true
+  pub earliest_at : (taken : List ℕ) (y : ℕ) → earliest near taken y < length taken → near (get_or taken (earliest near taken y) 0) y ≡ true
   unfolding earliest
   earliest_at taken y l = passes_at_first (λ x. near x y) taken 0 l
 
-  earliest_ge : (taken : List ℕ) (y h : ℕ) → h ≤ length taken → ((j : ℕ) → j < h → near (get_or taken j 0) y ≡ false) → h ≤ earliest near taken y
+  pub earliest_ge : (taken : List ℕ) (y h : ℕ) → h ≤ length taken → ((j : ℕ) → j < h → near (get_or taken j 0) y ≡ false) → h ≤ earliest near taken y
   earliest_ge taken y h l before = ⊎_elim
       (λ (m : earliest near taken y < h). absurd (both (near (get_or taken (earliest near taken y) 0) y) (earliest_at taken y (omega arith)) (before (earliest near taken y) m)))
       (λ (m : h ≤ earliest near taken y). m)
       (cases_lt (earliest near taken y) h)
 
   -- what isn't marked isn't taken, and is no neighbour of those whose neighbours are all marked
-  unmarked : (order : List ℕ) (seen : List Bool) (h y : ℕ) → IsWalk n near order seen h → y < n → (Contains order y → ⊥) → get_or seen y false ≡ false
+  pub unmarked : (order : List ℕ) (seen : List Bool) (h y : ℕ) → IsWalk n near order seen h → y < n → (Contains order y → ⊥) → get_or seen y false ≡ false
   unmarked order seen h y w l absent = false_from_ne_true (get_or seen y false) (λ t. absent (w.taken y l t))
 
-  untaken : (order : List ℕ) (seen : List Bool) (h z : ℕ) → IsWalk n near order seen h → get_or seen z false ≡ false → Contains order z → ⊥
+  pub untaken : (order : List ℕ) (seen : List Bool) (h z : ℕ) → IsWalk n near order seen h → get_or seen z false ≡ false → Contains order z → ⊥
   untaken order seen h z w f c = both (get_or seen z false) (subst (λ q. get_or seen q false ≡ true) (slice_is order z c) (w.marked c.0 c.1)) f
     where
       slice_is : (order : List ℕ) (z : ℕ) (c : Contains order z) → get_or order c.0 0 ≡ z
@@ -123,10 +123,10 @@ module _ (n : ℕ) (near : ℕ → ℕ → Bool) where
             marked_more seen z y lseen (w.closed j y lj lo ly (subst (λ q. near q y ≡ true) (get_or_append_left order (z ∷ []) 0 j lo) t)));
       }
 
-near_items_at : (lists : List (Vec ℕ Global)) (x : ℕ) (items : List ℕ) (i : ℕ) → items ≡ row lists x → i < length items → is_near lists x (get_or items i 0) ≡ true
+pub near_items_at : (lists : List (Vec ℕ Global)) (x : ℕ) (items : List ℕ) (i : ℕ) → items ≡ row lists x → i < length items → is_near lists x (get_or items i 0) ≡ true
 near_items_at lists x items i e = subst (λ (q : List ℕ). i < length q → is_near lists x (get_or q i 0) ≡ true) (sym e) (near_at lists x i)
 
-near_items_witness : (lists : List (Vec ℕ Global)) (x : ℕ) (items : List ℕ) (y : ℕ) → items ≡ row lists x → is_near lists x y ≡ true → (i : ℕ) × (i < length items) × (get_or items i 0 ≡ y)
+pub near_items_witness : (lists : List (Vec ℕ Global)) (x : ℕ) (items : List ℕ) (y : ℕ) → items ≡ row lists x → is_near lists x y ≡ true → (i : ℕ) × (i < length items) × (get_or items i 0 ≡ y)
 near_items_witness lists x items y e t = subst (λ (q : List ℕ). (i : ℕ) × (i < length q) × (get_or q i 0 ≡ y)) (sym e) (near_witness lists x y t)
 
 -- the first neighbour of place h that isn't marked comes next, where all neighbours of earlier places are marked

@@ -3,12 +3,17 @@
 
 ghost use Rattle.std.specs.Prelude.{◌≡◌, ℕ, ◌<◌, ◌≤◌, IfOk, length, slice_index, nat_eq};
 ghost use Rattle.partition.specs.Block.{AreBlocks};
+ghost use Rattle.breadth_order.specs.Neighbours.{are_neighbours};
+ghost use Rattle.mesh_decl.specs.Mesh.{map_count, set_size, map_to};
+ghost use Rattle.mesh_decl.specs.Owners.{owners_in, owner_of};
 ghost use Rattle.partition.specs.Derive.{AreGiven, AreDerived, is_given, given_in};
+ghost use Rattle.partition.specs.Grow.{IsGrown};
 
 mod blocks;
 mod derived;
 mod elect;
 mod given;
+mod growth;
 mod next;
 #[cfg(test)]
 mod tests;
@@ -16,11 +21,12 @@ mod turns;
 
 use blocks::block_set;
 pub use given::given_fits;
+use growth::grow_set;
 use mesh_decl::{Mesh, Numbers, Owners};
 use op_num::OutOfMemory;
 pub use part_text::{PartRefusal, one_partition, read_partition};
 use std::alloc::Global;
-use turns::{derive_rest, split_given};
+use turns::{derive_from, derive_rest, split_given};
 
 /// Gives each set to the ranks in blocks: of n elements, rank i has those from floor(i n / ranks) up to, not including,
 /// floor((i + 1) n / ranks). There are 1 to 64 ranks. It takes time linear in the elements, and fails only for want of
@@ -64,4 +70,26 @@ pub fn derive(
 {
     let (sets, known) = split_given(alloc, given)?;
     derive_rest(alloc, mesh, ranks, sets, known)
+}
+
+/// Gives the set to which the map numbered `map` leads to the ranks by growth over its neighbours, and derives owners of
+/// the other sets from it, as `derive` does. Two different elements are neighbours where one element has both as targets.
+/// Each rank in turn takes as many elements as by `block`. It begins with the least element that no rank has; then it
+/// takes, breadth first, the neighbours of its elements that no rank has, those of one element by number; where none is
+/// left, it goes on with the least element that no rank has.
+///
+/// There are 1 to 64 ranks. It takes time linear in the elements and in the pairs of targets of one element, and fails
+/// only for want of memory.
+pub fn grow(alloc: Global, mesh: &Mesh, ranks: u32, map: u32) -> Result<Owners, OutOfMemory>
+    requires some { 0 < ranks }
+    requires few { ranks ≤ 64 }
+    requires map { map < map_count mesh.now }
+    ensures ranks { IfOk result (λ o. o.ranks ≡ ranks) }
+    ensures grown { IfOk result (λ o. IsGrown (set_size mesh.now (map_to mesh.now map)) ranks (are_neighbours mesh.now map) (owner_of o (map_to mesh.now map))) }
+    ensures derived { IfOk result (λ o. AreDerived mesh.now o (λ s. nat_eq s (map_to mesh.now map)) (owners_in o)) }
+{
+    let _ = (mesh.set_count(), mesh.map_count());
+    let (_, to, _) = mesh.map_ends(map);
+    let owners = grow_set(alloc, mesh, map, ranks)?;
+    derive_from(alloc, mesh, ranks, to, owners)
 }

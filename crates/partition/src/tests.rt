@@ -1,5 +1,5 @@
 // Owners of small meshes.
-use crate::{block, derive, given_fits};
+use crate::{block, derive, given_fits, grow};
 use mesh_decl::Mesh;
 use op_num::Name;
 use std::alloc::{AllocError, Global};
@@ -127,6 +127,44 @@ fn derived(rt: HostRuntime) -> Result<(), Fail> {
         assert_eq!(rt; fits, true);
         if *ranks > 0 && *ranks <= 64 && fits {
             let owners = derive(alloc, &mesh, *ranks, given)?;
+            assert_eq!(rt; owners.ranks, *ranks);
+            assert_eq!(rt; owners.sets.len(), 2);
+            for (ranks, want) in owners.sets.iter().zip([*want_nodes, *want_edges].iter()) {
+                assert_eq!(rt; ranks.as_slice(), *want);
+            }
+        }
+    }
+    Ok(())
+}
+
+// How many nodes and ranks there are, the ends of edges, and the ranks of nodes, by growth, and of edges.
+const GROWN: &[(u32, u32, &[i32], &[u32], &[u32])] = &[
+    // a path 0 3 1 2
+    (4, 2, &[0, 3, 3, 1, 1, 2], &[0, 1, 1, 0], &[0, 0, 1]),
+    // no edge
+    (5, 2, &[], &[0, 0, 1, 1, 1], &[]),
+    // rank 0 goes on with node 1; rank 1 begins with node 2, though its neighbour 1 is gone
+    (6, 2, &[0, 5, 1, 2], &[0, 0, 1, 1, 1, 0], &[0, 0]),
+    // the neighbours of node 0, by number, before those of node 3
+    (
+        6,
+        2,
+        &[0, 5, 0, 3, 3, 1, 5, 2],
+        &[0, 1, 1, 0, 1, 0],
+        &[0, 0, 0, 0],
+    ),
+    // more ranks than nodes
+    (3, 5, &[0, 2], &[1, 3, 4], &[1]),
+    (0, 3, &[], &[], &[]),
+];
+
+#[test]
+fn grown(rt: HostRuntime) -> Result<(), Fail> {
+    let alloc = rt.alloc();
+    for (nodes, ranks, ends, want_nodes, want_edges) in GROWN {
+        let mesh = mesh_of(&rt, *nodes, *ends)?;
+        if *ranks > 0 && *ranks <= 64 && mesh.map_count() > 0 {
+            let owners = grow(alloc, &mesh, *ranks, 0)?;
             assert_eq!(rt; owners.ranks, *ranks);
             assert_eq!(rt; owners.sets.len(), 2);
             for (ranks, want) in owners.sets.iter().zip([*want_nodes, *want_edges].iter()) {

@@ -1,5 +1,5 @@
 // Owners for all sets, one set after another.
-ghost use Rattle.std.specs.Prelude.{◌≡◌, ℕ, true, false, ◌<◌, ◌≤◌, List, [], IfOk, IfSome, IfNone, Option, Vec, length, map, is_some, slice_index, slice_index_or, not};
+ghost use Rattle.std.specs.Prelude.{◌≡◌, ℕ, true, false, ◌<◌, ◌≤◌, List, [], IfOk, IfSome, IfNone, Option, Vec, length, map, is_some, slice_index, slice_index_or, not, nat_eq};
 ghost use Rattle.std.specs.declared.alloc.Global.{Global as TheGlobal};
 ghost use Rattle.mesh_decl.specs.Mesh.{set_count, set_size};
 ghost use Rattle.rank_sets.specs.Below.{any_below};
@@ -96,4 +96,30 @@ pub fn split_given(
         }
     }
     Ok((sets, known))
+}
+
+/// The owners of all sets from those of one set.
+pub fn derive_from(
+    alloc: Global,
+    mesh: &Mesh,
+    ranks: u32,
+    set: u32,
+    owners: Vec<u32>,
+) -> Result<Owners, OutOfMemory>
+    requires some { 0 < ranks }
+    requires few { ranks ≤ 64 }
+    requires set { set < set_count mesh.now }
+    requires length { length owners.items ≡ set_size mesh.now set }
+    requires below { (x : ℕ) → x < set_size mesh.now set → slice_index owners.items x < ranks }
+    ensures ranks { IfOk result (λ o. o.ranks ≡ ranks) }
+    ensures derived { IfOk result (λ o. AreDerived mesh.now o (λ s. nat_eq s set) (λ s. owners.items)) }
+{
+    let mut sets = Vec::new(alloc);
+    let mut known = Vec::new(alloc);
+    for other in 0..mesh.set_count() {
+        sets.push(Numbers::new(Vec::new(alloc)))?;
+        known.push(other == set)?;
+    }
+    sets[set as usize] = Numbers::new(owners);
+    derive_rest(alloc, mesh, ranks, sets, known)
 }

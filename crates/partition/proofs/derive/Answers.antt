@@ -1,10 +1,10 @@
-use Rattle.std.proofs.Common.{◌≡◌, ◌∙◌, ℕ, List, [], Bool, false, get_or, map, sym, Option, Vec, is_some, Result, Ok, Err, IfOk}
+use Rattle.std.proofs.Common.{◌≡◌, ◌∙◌, ℕ, List, [], Bool, false, get_or, map, sym, Option, Vec, is_some}
 use Rattle.std.specs.declared.alloc.Global.{Global}
-use Rattle.std.specs.declared.alloc.AllocError.{AllocError}
 use Rattle.std.proofs.lemmas.List.{length-map}
 use Rattle.mesh_decl.specs.Mesh.{MeshValue}
 use Rattle.mesh_decl.specs.declared.owners.Owners.{Owners}
 use Rattle.partition.specs.Derive.{AreGiven, AreKnown, AreDerived, is_given, given_in, given_list}
+use Rattle.partition.proofs.OneSet.{all_ok}
 use Rattle.partition.proofs.derive.Goals as goal
 
 known_given : (g : MeshValue) (ranks : ℕ) (given : List (Option (Vec ℕ Global))) (sets : List (List ℕ)) (known : List Bool) → sets ≡ map given_list given → known ≡ map (λ (v : Option (Vec ℕ Global)). is_some v) given → AreGiven g ranks given → AreKnown g ranks sets known
@@ -22,10 +22,6 @@ derived_given g o given sets known p q h = rw (sym p, sym q) h
 
 pub derive_rest-requires-clause-known : goal.derive_rest-requires-clause-known
 derive_rest-requires-clause-known c = known_given c.args.mesh.now c.args.ranks c.args.given.items c.in_ok-sets.sets.items c.in_ok-sets.known.items c.in_ok-sets.ensures.sets c.in_ok-sets.ensures.known c.requires.given
-
-all_ok : (P Q : Owners → Type 0) (r : Result Owners AllocError) → ((o : Owners) → P o → Q o) → IfOk r P → IfOk r Q
-all_ok P Q (Ok o) f h = f o h
-all_ok P Q (Err e) f h = h
 
 pub returns-clause-derived : goal.returns-clause-derived
 returns-clause-derived c =
