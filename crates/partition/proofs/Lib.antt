@@ -6,3 +6,7 @@ pub mod TurnSteps
 pub mod Giving
 pub mod NearRows
 pub mod OneSet
+pub mod Axes
+pub mod Along
+pub mod Parts
+pub mod Halving

@@ -2,18 +2,21 @@
 #![tactic(auto)]
 
 ghost use Rattle.std.specs.Prelude.{◌≡◌, ℕ, ◌<◌, ◌≤◌, IfOk, length, slice_index, nat_eq};
-ghost use Rattle.partition.specs.Block.{AreBlocks};
-ghost use Rattle.breadth_order.specs.Neighbours.{are_neighbours};
-ghost use Rattle.mesh_decl.specs.Mesh.{map_count, set_size, map_to};
+ghost use Rattle.mesh_decl.specs.Mesh.{dat_count, dat_set, dat_dim, dat_values, map_count, map_to, set_size};
 ghost use Rattle.mesh_decl.specs.Owners.{owners_in, owner_of};
+ghost use Rattle.breadth_order.specs.Neighbours.{are_neighbours};
+ghost use Rattle.partition.specs.Bisect.{IsBisected};
+ghost use Rattle.partition.specs.Block.{AreBlocks};
 ghost use Rattle.partition.specs.Derive.{AreGiven, AreDerived, is_given, given_in};
 ghost use Rattle.partition.specs.Grow.{IsGrown};
 
+mod axis;
 mod blocks;
 mod derived;
 mod elect;
 mod given;
 mod growth;
+mod halves;
 mod next;
 #[cfg(test)]
 mod tests;
@@ -22,6 +25,7 @@ mod turns;
 use blocks::block_set;
 pub use given::given_fits;
 use growth::grow_set;
+use halves::bisect_set;
 use mesh_decl::{Mesh, Numbers, Owners};
 use op_num::OutOfMemory;
 pub use part_text::{PartRefusal, one_partition, read_partition};
@@ -92,4 +96,26 @@ pub fn grow(alloc: Global, mesh: &Mesh, ranks: u32, map: u32) -> Result<Owners, 
     let (_, to, _) = mesh.map_ends(map);
     let owners = grow_set(alloc, mesh, map, ranks)?;
     derive_from(alloc, mesh, ranks, to, owners)
+}
+
+/// Gives the elements of the set of a dat to the ranks by the values of the dat, and derives the owners of the other sets
+/// from these as `derive` does. `dat` is the number of a dat of the mesh. There are 1 to 64 ranks.
+///
+/// All elements are shared among all ranks. A list that several ranks share is cut in two: along the component with the
+/// largest difference of the greatest and the least value in the list, of several the lowest, the elements are ordered by
+/// (value, number); the lower half of the ranks, rounded down, shares the first of them, and the upper half the others. A
+/// list of one rank is given to it. Of n elements rank i gets as many as by `block`. For the set of the dat it takes time
+/// n log n, and n for each component, in each of at most 6 rounds of cuts; it fails only for want of memory.
+pub fn bisect(alloc: Global, mesh: &Mesh, ranks: u32, dat: u32) -> Result<Owners, OutOfMemory>
+    requires some { 0 < ranks }
+    requires few { ranks ≤ 64 }
+    requires dat { dat < dat_count mesh.now }
+    ensures ranks { IfOk result (λ o. o.ranks ≡ ranks) }
+    ensures bisected { IfOk result (λ o. IsBisected (set_size mesh.now (dat_set mesh.now dat)) ranks (dat_values mesh.now dat) (dat_dim mesh.now dat) (owners_in o (dat_set mesh.now dat))) }
+    ensures derived { IfOk result (λ o. AreDerived mesh.now o (λ s. nat_eq s (dat_set mesh.now dat)) (λ s. owners_in o s)) }
+{
+    let _dat_count = mesh.dat_count();
+    let (set, dim) = mesh.dat_shape(dat);
+    let owners = bisect_set(alloc, mesh.dat_values(dat), dim, mesh.set_size(set), ranks)?;
+    derive_from(alloc, mesh, ranks, set, owners)
 }

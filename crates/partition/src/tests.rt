@@ -1,5 +1,7 @@
 // Owners of small meshes.
-use crate::{block, derive, given_fits, grow};
+ghost use Rattle.std.specs.Prelude.{ℕ, ◌<◌, length};
+
+use crate::{bisect, block, derive, given_fits, grow};
 use mesh_decl::Mesh;
 use op_num::Name;
 use std::alloc::{AllocError, Global};
@@ -170,6 +172,61 @@ fn grown(rt: HostRuntime) -> Result<(), Fail> {
             for (ranks, want) in owners.sets.iter().zip([*want_nodes, *want_edges].iter()) {
                 assert_eq!(rt; ranks.as_slice(), *want);
             }
+        }
+    }
+    Ok(())
+}
+
+// A mesh of nodes with values, and of edges with two ends each.
+#[tactic(auto, unfolding(mesh_decl::specs::Mesh::size_in))]
+fn placed(rt: &HostRuntime, dim: u32, values: &[i32], ends: &[i32]) -> Result<Mesh, Fail>
+    requires some { 0 < dim }
+    requires few { length values.now < 100 }
+{
+    let alloc = rt.alloc();
+    let mut mesh = mesh_of(rt, values.len() as u32 / dim, ends)?;
+    let values = Vec::from_slice(alloc, values)?;
+    if mesh.set_count() > 0 && values.len() == mesh.set_size(0) as usize * dim as usize {
+        mesh.add_dat(Name::new(Vec::from_slice(alloc, b"x")?), 0, dim, values)?;
+    }
+    Ok(mesh)
+}
+
+// How many ranks there are, how many values a node has, the values, the ends of edges, and the ranks of nodes and edges.
+const CUT: &[(u32, u32, &[i32], &[i32], &[u32], &[u32])] = &[
+    (2, 1, &[9, 1, 5, 3, 7], &[], &[1, 0, 1, 0, 1], &[]),
+    // edges by their ends: the path 0 3 1 2
+    (
+        2,
+        1,
+        &[9, 1, 5, 3],
+        &[0, 3, 3, 1, 1, 2],
+        &[1, 0, 1, 0],
+        &[0, 0, 0],
+    ),
+    // across, and then up
+    (4, 2, &[0, 0, 10, 1, 0, 2, 10, 3], &[], &[0, 2, 1, 3], &[]),
+    // equal spreads, and equal values
+    (2, 2, &[0, 1, 1, 0], &[], &[0, 1], &[]),
+    (2, 1, &[4, 4, 4, 4], &[], &[0, 0, 1, 1], &[]),
+    // the least value and the greatest, on three ranks
+    (3, 1, &[-2147483648, 2147483647, 0], &[], &[0, 2, 1], &[]),
+    // fewer nodes than ranks, and none
+    (3, 1, &[5], &[], &[2], &[]),
+    (3, 1, &[], &[], &[], &[]),
+];
+
+#[test]
+fn cut(rt: HostRuntime) -> Result<(), Fail> {
+    let alloc = rt.alloc();
+    for (ranks, dim, values, ends, nodes, edges) in CUT {
+        assert!(rt; *ranks > 0 && *ranks <= 64 && *dim > 0 && values.len() < 100);
+        let mesh = placed(&rt, *dim, *values, *ends)?;
+        assert!(rt; mesh.dat_count() > 0);
+        let owners = bisect(alloc, &mesh, *ranks, 0)?;
+        assert_eq!(rt; owners.sets.len(), 2);
+        for (found, want) in owners.sets.iter().zip([*nodes, *edges].iter()) {
+            assert_eq!(rt; found.as_slice(), *want);
         }
     }
     Ok(())

@@ -1,0 +1,4 @@
+use Rattle.partition.proofs.halves.+halve.Given as goal
+
+abbrev pub decreases-halve : goal.decreases-halve
+decreases-halve l = l.many
