@@ -1,5 +1,5 @@
 -- A run that is that of a kernel: a[0] = 7; on a direct OP_RW argument.
-use Rattle.std.proofs.Common.{◌≡◌, ◌+◌, ◌<◌, ℕ, zero, suc, pos, Bool, true, false, List, [], ◌∷◌, length, refl, sym, ap, ◌∙◌, subst, arith, Vec, Global, FitsSigned, w32}
+use Rattle.std.proofs.Common.{◌≡◌, ◌+◌, ◌<◌, ℕ, zero, suc, pos, Bool, true, false, List, [], ◌∷◌, length, refl, sym, ap, ◌∙◌, subst, arith, Vec, Global}
 use Rattle.std.specs.Prelude.{◌↔◌, ◌&&◌, ◌==◌, nat_lt, cond, slice_index_or}
 use Rattle.std.proofs.lemmas.Bool.{eqb-true, ltb-true}
 use Rattle.op_num.specs.declared.bytes.Name.{Name}
@@ -12,19 +12,22 @@ use Rattle.kernel_types.specs.declared.faults.KernelFault.{KernelFault}
 use Rattle.kernel_types.specs.declared.kernels.RKernel.{RKernel}
 use Rattle.kernel_model.specs.Meaning.{Target, target_at}
 use Rattle.kernel_model.specs.Meaning as kernel
-use Rattle.kernel_model.specs.Obeys.{Mode, mode_at, Rw, Write}
+use Rattle.reductions.specs.Access.{OpRw, OpWrite}
+use Rattle.kernel_model.specs.Obeys.{Mode, mode_at}
 use Rattle.kernel_model.specs.Independence.{same_cell}
+use Rattle.kernel_model.specs.Independence as law
 use Rattle.schedule_model.specs.Cells.{DatCell, Cell, Data, Variable, Store, InRange, with_cell}
 use Rattle.schedule_model.specs.Cells.{same_cell as alike}
 use Rattle.schedule_model.specs.Effects.{Ran, Finished}
-use Rattle.schedule_laws.specs.Arguments.{Argument, Direct, OpRw, Entries, reaches}
+use Rattle.reductions.specs.Access.{OpRw}
+use Rattle.schedule_laws.specs.Arguments.{Argument, Direct, Entries, reaches}
 use Rattle.element_runs.specs.ElementRun.{IsElementRun, Held}
 
 abbrev here : Pos
 here = record { line = 1; column = 1 }
 
 abbrev modes : List Mode
-modes = record { access = Rw; dim = 1 } ∷ []
+modes = record { access = OpRw; dim = 1 } ∷ []
 
 abbrev argument : ℕ → Argument
 argument a = Direct 0 OpRw
@@ -49,7 +52,7 @@ sevens name places = record {
 abbrev run : Store → Ran KernelFault
 run s = Finished (with_cell (cell_of 0 0) (pos 7) s)
 
-no_write : (a : ℕ) → (mode_at modes a).access ≡ Write → ⊥
+no_write : (a : ℕ) → (mode_at modes a).access ≡ OpWrite → ⊥
 no_write zero h = let f : ⊥ = cc in f
 no_write (suc a) h = let f : ⊥ = cc in f
 
@@ -70,7 +73,7 @@ and_right false y e = absurd (let f : ⊥ = cc in f)
 is_cell : (c : DatCell) → c.dat ≡ 0 → c.element ≡ 0 → Data c ≡ cell_of 0 c.component
 is_cell c d e = ap (λ x. Data (record { dat = x; element = c.element; component = c.component })) d ∙ ap (λ x. Data (record { dat = 0; element = x; component = c.component })) e
 
-accesses : (a : ℕ) → a < 1 → (mode_at modes a).access ≡ Rw
+accesses : (a : ℕ) → a < 1 → (mode_at modes a).access ≡ OpRw
 accesses zero lt = refl
 accesses (suc a) lt = absurd (omega arith)
 
@@ -87,13 +90,12 @@ module _ (entry : Entries) (width : ℕ → ℕ) where
   reached zero (Variable v) lt r = absurd (let f : ⊥ = cc in f)
   reached (suc a) c lt r = absurd (omega arith)
 
-  held : (s : Store) → InRange s → Held entry (λ d. 1) width argument 1 0 modes cell_of target (held_in s) s
-  held s fits = record {
-    suits = record {
-      counts = counts;
-      arrays = only_first (λ a i. (target_at target a).array < 1) (omega arith);
-      cells = only_first (λ a i. (target_at target a).from + i < length (slice_index_or (held_in s) (target_at target a).array [])) (omega arith);
-      numbers = only_first (λ a i. FitsSigned w32 (kernel.read_arg target (held_in s) a i)) (fits (cell_of 0 0));
+  held : (s : Store) → Held entry (λ d. 1) width argument 1 0 modes cell_of target (held_in s) s
+  held s = record {
+    counts = counts;
+    fits = record {
+      arrays = λ a i lt. only_first (λ a i. (target_at target a).array < 1) (omega arith) a i (subst (λ c. i < c) (counts a) lt);
+      cells = λ a i lt. only_first (λ a i. (target_at target a).from + i < length (slice_index_or (held_in s) (target_at target a).array [])) (omega arith) a i (subst (λ c. i < c) (counts a) lt);
     };
     aliases = λ a i b j lt mt.
         only_first (λ a i. (same_cell target a i b j ≡ true) ↔ (cell_of a i ≡ cell_of b j))
@@ -123,6 +125,11 @@ module _ (entry : Entries) (width : ℕ → ℕ) where
       pick true e = absurd (first_reached e)
       pick false e = refl
 
+  small : (s : Store) → InRange s → law.InRange (held_in s)
+  small s h zero zero = h (cell_of 0 0)
+  small s h zero (suc j) = record { sfits = omega arith }
+  small s h (suc x) j = record { sfits = omega arith }
+
   module _ (name : Name) (places : Vec Pos Global) (one_place : length places.items ≡ 1) where
     is_element_run : IsElementRun entry (λ d. 1) width argument 1 0 modes cell_of (sevens name places) (λ c. false) run
     is_element_run = record {
@@ -134,8 +141,10 @@ module _ (entry : Entries) (width : ℕ → ℕ) where
       consts = λ s. [];
       constants = λ s w h. refl;
       resolved = λ s. record { within = (omega arith, tt, record { sfits = omega arith }, record { sfits = omega arith }); counters = tt; places = one_place };
+      numbers = λ s h j. record { sfits = omega arith };
       targets = λ s. target;
       lists = held_in;
+      in_range = small;
       held = held;
-      ends = λ s h. (only_first (λ a i. with_cell (cell_of 0 0) (pos 7) s (cell_of a i) ≡ kernel.read_arg target ((pos 7 ∷ []) ∷ []) a i) refl, others s);
+      ends = λ s. (only_first (λ a i. with_cell (cell_of 0 0) (pos 7) s (cell_of a i) ≡ kernel.read_arg target ((pos 7 ∷ []) ∷ []) a i) refl, others s);
     }

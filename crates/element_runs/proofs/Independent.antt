@@ -1,37 +1,26 @@
 -- The run of a kernel for one element is independent by its arguments.
-use Rattle.std.proofs.Common.{◌≡◌, ◌<◌, ◌≤◌, ◌+◌, ℕ, zero, suc, ℤ, Bool, true, false, List, length, refl, sym, ap, ◌∙◌, subst, ◌⊎◌, inl, inr, ⊎_elim, arith, FitsSigned, w32}
-use Rattle.std.specs.Prelude.{◌↔◌, ◌&&◌}
-use Rattle.std.proofs.lemmas.Bool.{eq-eqb, cases_lt}
-use Rattle.std.proofs.Math.ListN.{get_or-eq_default}
+use Rattle.std.proofs.Common.{◌≡◌, ◌<◌, ◌+◌, ℕ, ℤ, Bool, true, false, List, refl, sym, ap, ◌∙◌, subst, ◌⊎◌, inl, inr, ⊎_elim, FitsSigned, w32}
+use Rattle.std.proofs.lemmas.Bool.{eq-eqb}
 use Rattle.reductions.specs.Reduction.{Reduction, unit_of, merged, IsCommuting}
 use Rattle.kernel_types.specs.declared.faults.KernelFault.{KernelFault}
 use Rattle.kernel_types.specs.declared.kernels.RKernel.{RKernel}
 use Rattle.kernel_model.specs.Meaning.{Target, target_at, cell, read_arg, kernel_meaning}
 use Rattle.kernel_model.specs.Meaning as kernel
-use Rattle.kernel_model.specs.Obeys.{Mode, mode_at, no_mode}
-use Rattle.kernel_model.specs.Obeys as mode
+use Rattle.kernel_model.specs.Obeys.{Mode, mode_at}
 use Rattle.kernel_model.specs.Independence.{Suits, Fits, same_cell, store_after, SameAliases, SameInputs, Alone, OnlyReduced, OnlyRead, Independence, ReadsStay}
 use Rattle.kernel_model.specs.Independence as law
 use Rattle.schedule_model.specs.Cells.{Cell, Store, InRange}
 use Rattle.schedule_model.specs.Effects.{Ran, Faulted, Finished}
-use Rattle.schedule_laws.specs.Arguments.{Access, OpRead, OpWrite, OpRw, OpReduce, Argument, access_of, reading, Entries, reaches}
+use Rattle.reductions.specs.Access.{Access, OpRead, OpWrite, OpRw, OpReduce}
+use Rattle.schedule_laws.specs.Arguments.{Argument, access_of, reading, Entries, reaches}
 use Rattle.schedule_laws.specs.ByArguments.{SameRuns}
 use Rattle.schedule_laws.specs.Tells.{settling, All}
-use Rattle.element_runs.specs.ElementRun.{mode_access, Held, EndsAs, IsElementRun, ElementRunsAreIndependent}
+use Rattle.element_runs.specs.ElementRun.{Held, EndsAs, IsElementRun, ElementRunsAreIndependent}
+use Rattle.element_runs.proofs.Reached.{same_test, both_hold, search_for, is_argument}
 
 -- ---- tests and accesses
 
-same_test : {P : Type 0} (x y : Bool) → (x ≡ true) ↔ P → (y ≡ true) ↔ P → x ≡ y
-same_test true true p q = refl
-same_test false false p q = refl
-same_test true false p q = sym (q.1 (p.0 refl))
-same_test false true p q = p.1 (q.0 refl)
-
-both_hold : (x y : Bool) → x ≡ true → y ≡ true → (x && y) ≡ true
-both_hold true y p q = q
-both_hold false y p q = p
-
-is_reading : (x : Access) → (mode_access x ≡ mode.Read) ⊎ (mode_access x ≡ mode.Rw) → reading x ≡ true
+is_reading : (x : Access) → (x ≡ OpRead) ⊎ (x ≡ OpRw) → reading x ≡ true
 is_reading OpRead h = refl
 is_reading OpRw h = refl
 is_reading OpWrite (inl h) = absurd (let f : ⊥ = cc in f)
@@ -39,27 +28,17 @@ is_reading OpWrite (inr h) = absurd (let f : ⊥ = cc in f)
 is_reading (OpReduce r) (inl h) = absurd (let f : ⊥ = cc in f)
 is_reading (OpReduce r) (inr h) = absurd (let f : ⊥ = cc in f)
 
-is_settling : (x : Access) → settling x ≡ true → (mode_access x ≡ mode.Read) ⊎ (mode_access x ≡ mode.Rw) ⊎ (mode_access x ≡ mode.Write)
+is_settling : (x : Access) → settling x ≡ true → (x ≡ OpRead) ⊎ (x ≡ OpRw) ⊎ (x ≡ OpWrite)
 is_settling OpRead h = inl refl
 is_settling OpRw h = inr (inl refl)
 is_settling OpWrite h = inr (inr refl)
 is_settling (OpReduce r) h = absurd (let f : ⊥ = cc in f)
 
-is_reducing : (x : Access) → settling x ≡ false → (r : Reduction) × (mode_access x ≡ mode.Reduces r)
+is_reducing : (x : Access) → settling x ≡ false → (r : Reduction) × (x ≡ OpReduce r)
 is_reducing OpRead h = absurd (let f : ⊥ = cc in f)
 is_reducing OpRw h = absurd (let f : ⊥ = cc in f)
 is_reducing OpWrite h = absurd (let f : ⊥ = cc in f)
 is_reducing (OpReduce r) h = (r, refl)
-
--- some argument of the first m reaches, or none does
-search_for : (p : ℕ → Bool) (m : ℕ) → ((a : ℕ) × (a < m) × (p a ≡ true)) ⊎ ((a : ℕ) → a < m → p a ≡ false)
-search_for p zero = inr (λ a lt. absurd (omega arith))
-search_for p (suc m) = pick (search_for p m) (p m) refl
-  where
-    pick : ((a : ℕ) × (a < m) × (p a ≡ true)) ⊎ ((a : ℕ) → a < m → p a ≡ false) → (b : Bool) → p m ≡ b → ((a : ℕ) × (a < suc m) × (p a ≡ true)) ⊎ ((a : ℕ) → a < suc m → p a ≡ false)
-    pick (inl h) b e = inl (h.0, (let lt : h.0 < suc m = omega (arith, h.1) in lt), h.2)
-    pick (inr h) true e = inl (m, (let lt : m < suc m = omega arith in lt), e)
-    pick (inr h) false e = inr (λ a lt. ⊎_elim (λ l. h a l) (λ l. let same : m ≡ a = omega arith in subst (λ x. p x ≡ false) same e) (cases_lt a m))
 
 module _ (indep : Independence) (reads : ReadsStay) (ops : (r : Reduction) → IsCommuting (unit_of r) (merged r)) (entry : Entries) (dim width : ℕ → ℕ) (arg : ℕ → Argument) (n e : ℕ) (modes : List Mode) (cell_of : ℕ → ℕ → Cell) (k : RKernel) (is_constant : Cell → Bool) (run : Store → Ran KernelFault) (h : IsElementRun entry dim width arg n e modes cell_of k is_constant run) where
   abbrev is_reached : Cell → ℕ → Bool
@@ -69,24 +48,20 @@ module _ (indep : Independence) (reads : ReadsStay) (ops : (r : Reduction) → I
   HeldBy ts l s = Held entry dim width arg n e modes cell_of ts l s
 
   in_args : (a i : ℕ) → i < (mode_at modes a).dim → a < n
-  in_args a i lt = ⊎_elim (λ l. l) (λ l. absurd (past l)) (cases_lt a n)
-    where
-      past : n ≤ a → ⊥
-      past l =
-          let long : length modes ≤ a = omega (arith, h.count) in
-          let none : (mode_at modes a).dim ≡ 0 = ap (λ (m : Mode). m.dim) (get_or-eq_default modes no_mode long) in
-          omega arith
+  in_args a i lt = is_argument modes n h.count a i lt
 
-  access : (a i : ℕ) → i < (mode_at modes a).dim → (mode_at modes a).access ≡ mode_access (access_of (arg a))
+  access : (a i : ℕ) → i < (mode_at modes a).dim → (mode_at modes a).access ≡ access_of (arg a)
   access a i lt = h.accesses a (in_args a i lt)
 
   -- ---- one run
 
   module _ (s : Store) (ts : List Target) (l : kernel.Store) (held : HeldBy ts l s) where
-    fits : Fits ts l
-    fits = record {
-      arrays = λ a i lt. held.suits.arrays a i (subst (λ c. i < c) (held.suits.counts a) lt);
-      cells = λ a i lt. held.suits.cells a i (subst (λ c. i < c) (held.suits.counts a) lt);
+    pub suits : InRange s → Suits modes ts l
+    suits in_s = record {
+      counts = held.counts;
+      arrays = λ a i lt. held.fits.arrays a i (subst (λ c. i < c) (sym (held.counts a)) lt);
+      cells = λ a i lt. held.fits.cells a i (subst (λ c. i < c) (sym (held.counts a)) lt);
+      numbers = λ a i lt. subst (FitsSigned w32) (sym (held.values a i lt)) (in_s (cell_of a i));
     }
 
     -- an argument that reaches the same cell of the lists reaches the same cell
@@ -96,19 +71,19 @@ module _ (indep : Independence) (reads : ReadsStay) (ops : (r : Reduction) → I
 
     only_read : (a i : ℕ) (c : Cell) → i < (mode_at modes a).dim → c ≡ cell_of a i → All entry dim width arg n e c (λ x. x ≡ OpRead) → OnlyRead modes ts (target_at ts a).array ((target_at ts a).from + i)
     only_read a i c lt is all b j jt x y =
-        let mt = subst (λ m. j < m) (held.suits.counts b) jt in
+        let mt = subst (λ m. j < m) (held.counts b) jt in
         let same = both_hold _ _ (eq-eqb _ _ x) (eq-eqb _ _ y) in
-        access b j mt ∙ ap mode_access (all b (in_args b j mt) (also_reaches a i b j c lt mt is same))
+        access b j mt ∙ (all b (in_args b j mt) (also_reaches a i b j c lt mt is same))
 
     -- a cell that OP_READ arguments alone reach, or none, stays
-    stays : (consts : List ℤ) (after : kernel.Store) (t : Store) (c : Cell) → kernel.Finished after ≡ kernel_meaning ts consts k l → EndsAs entry dim width arg n e modes cell_of ts s (kernel.Finished after) (Finished t) → All entry dim width arg n e c (λ x. x ≡ OpRead) → t c ≡ s c
+    pub stays : (consts : List ℤ) (after : kernel.Store) (t : Store) (c : Cell) → kernel.Finished after ≡ kernel_meaning ts consts k l → EndsAs entry dim width arg n e modes cell_of ts s (kernel.Finished after) (Finished t) → All entry dim width arg n e c (λ x. x ≡ OpRead) → t c ≡ s c
     stays consts after t c ran ends all = ⊎_elim (λ r. by r.0 r.1 (h.reached r.0 c r.1 r.2)) (λ u. ends.1 c u) (search_for (is_reached c) n)
       where
         by : (a : ℕ) → a < n → (i : ℕ) × (i < (mode_at modes a).dim) × (c ≡ cell_of a i) → t c ≡ s c
         by a at r =
             ap t r.2 ∙ ends.0 a r.0 r.1
             ∙ ap (λ (o : kernel.Ran). cell (store_after o) (target_at ts a).array ((target_at ts a).from + r.0)) ran
-            ∙ reads k modes ts consts l (target_at ts a).array ((target_at ts a).from + r.0) h.obeys fits (only_read a r.0 c r.1 r.2 all)
+            ∙ reads k modes ts consts l (target_at ts a).array ((target_at ts a).from + r.0) h.obeys held.fits (only_read a r.0 c r.1 r.2 all)
             ∙ held.values a r.0 r.1 ∙ ap s (sym r.2)
 
   -- ---- two runs
@@ -142,11 +117,11 @@ module _ (indep : Independence) (reads : ReadsStay) (ops : (r : Reduction) → I
         alike : (c : Cell) (a i : ℕ) → i < (mode_at modes a).dim → c ≡ cell_of a i → read_arg ts l' a i ≡ read_arg us m' a i → t c ≡ u c
         alike c a i lt is x = ap t is ∙ ends_s.0 a i lt ∙ x ∙ sym (ends_w.0 a i lt) ∙ ap u (sym is)
 
-        settled : (a i : ℕ) → i < (mode_at modes a).dim → settling (access_of (arg a)) ≡ true → ((mode_at modes a).access ≡ mode.Read) ⊎ ((mode_at modes a).access ≡ mode.Rw) ⊎ ((mode_at modes a).access ≡ mode.Write)
-        settled a i lt x = subst (λ y. (y ≡ mode.Read) ⊎ (y ≡ mode.Rw) ⊎ (y ≡ mode.Write)) (sym (access a i lt)) (is_settling (access_of (arg a)) x)
+        settled : (a i : ℕ) → i < (mode_at modes a).dim → settling (access_of (arg a)) ≡ true → ((mode_at modes a).access ≡ OpRead) ⊎ ((mode_at modes a).access ≡ OpRw) ⊎ ((mode_at modes a).access ≡ OpWrite)
+        settled a i lt x = subst (λ y. (y ≡ OpRead) ⊎ (y ≡ OpRw) ⊎ (y ≡ OpWrite)) (sym (access a i lt)) (is_settling (access_of (arg a)) x)
 
         alone : (c : Cell) (o : Reduction) (a i : ℕ) → i < (mode_at modes a).dim → c ≡ cell_of a i → All entry dim width arg n e c (λ x. x ≡ OpReduce o) → Alone modes o ts a i
-        alone c o a i lt is all b j mt x = access b j mt ∙ ap mode_access (all b (in_args b j mt) (also_reaches s ts l held_s a i b j c lt mt is x))
+        alone c o a i lt is all b j mt x = access b j mt ∙ (all b (in_args b j mt) (also_reaches s ts l held_s a i b j c lt mt is x))
 
         only_reduced : (c : Cell) (a i : ℕ) → i < (mode_at modes a).dim → c ≡ cell_of a i → All entry dim width arg n e c (λ x. settling x ≡ false) → OnlyReduced modes ts a i
         only_reduced c a i lt is all b j mt x =
@@ -181,12 +156,12 @@ independent indep reads ops entry dim width arg n e modes cell_of k is_constant 
     let us = h.targets w in
     let l = h.lists s in
     let m = h.lists w in
-    let held_s = h.held s in_s in
-    let held_w = h.held w in_w in
+    let held_s = h.held s in
+    let held_w = h.held w in
     let same : h.consts w ≡ h.consts s = sym (h.constants s w constant) in
-    let ends_w = subst (λ cs. EndsAs entry dim width arg n e modes cell_of us w (kernel_meaning us cs k m) (run w)) same (h.ends w in_w) in
-    let both = indep k modes (h.consts s) ts us l m (h.resolved s) h.obeys held_s.suits held_w.suits
+    let ends_w = subst (λ cs. EndsAs entry dim width arg n e modes cell_of us w (kernel_meaning us cs k m) (run w)) same (h.ends w) in
+    let both = indep k modes (h.consts s) ts us l m (h.resolved s) h.obeys (suits indep reads ops entry dim width arg n e modes cell_of k is_constant run h s ts l held_s in_s) (suits indep reads ops entry dim width arg n e modes cell_of k is_constant run h w us m held_w in_w)
     (aliases indep reads ops entry dim width arg n e modes cell_of k is_constant run h s w in_s in_w ts us l m held_s held_w)
     (inputs indep reads ops entry dim width arg n e modes cell_of k is_constant run h s w in_s in_w ts us l m held_s held_w agree) in
     ended indep reads ops entry dim width arg n e modes cell_of k is_constant run h s w in_s in_w ts us l m held_s held_w (h.consts s)
-    (kernel_meaning ts (h.consts s) k l) (kernel_meaning us (h.consts s) k m) (run s) (run w) refl refl both (h.ends s in_s) ends_w
+    (kernel_meaning ts (h.consts s) k l) (kernel_meaning us (h.consts s) k m) (run s) (run w) refl refl both (h.ends s) ends_w

@@ -1,1 +1,3 @@
 pub mod ElementRun
+pub mod RunsKernels
+pub mod OnWindows

@@ -1,22 +1,23 @@
 -- A join of the flat machine goes with that on cells.
-use Rattle.std.proofs.Common.{◌≡◌, ℕ, ℤ, zero, suc, ◌<◌, ◌≤◌, Bool, true, false, cond, inl, refl, sym, ap, subst, ◌∙◌, arith, ⊎_elim, Option, Some, None, map, ◌++◌}
+use Rattle.std.proofs.Common.{◌≡◌, ℕ, ℤ, zero, suc, ◌<◌, ◌≤◌, Bool, true, false, cond, inl, refl, sym, ap, subst, ◌∙◌, arith, ⊎_elim, Option, Some, None, List, [], ◌∷◌, map, ◌++◌}
 use Rattle.std.specs.Prelude.{◌==◌, is_some}
 use Rattle.std.proofs.lemmas.Bool.{cases_Bool, cond-true, cond-false, eqb-true, eq-eqb}
 use Rattle.reductions.specs.Reduction.{Reduction}
 use Rattle.schedule_model.specs.Cells.{Cell, Data, Variable, DatCell, VarCell, Store}
-use Rattle.schedule_model.specs.Plan.{Plan, Kind, Free, Reduce, Ordered, Host, Hosted, Halts, Goes, elements, owner_of}
+use Rattle.schedule_model.specs.Program.{Kind, Free, Reduce, Ordered, Host, Hosted, Halts, Goes, elements, is_loop}
+use Rattle.schedule_model.specs.Setup.{Setup, owner_of}
 use Rattle.schedule_model.specs.Sequential.{Stop, Loop, Broke, Ran_through, after_run, one_more, loop}
 use Rattle.schedule_model.specs.Machine.{State, unit_at, merge_at, merged_from, reduced, gathered, spread, looped, hosted, done, joined, least}
-use Rattle.flat_machine.specs.Layout.{Core, Faults, Leaves, Layout, Fits, lookup, of_core, is_loop, Exists}
-use Rattle.flat_machine.specs.Flat.{Flat, owned, merge_ranks, reduce_flat, element_flat, loop_flat, host_flat, done_flat, join_flat}
+use Rattle.flat_machine.specs.Layout.{Core, Faults, Leaves, Layout, IsLayout, AreConstants, lookup, of_core, Exists}
+use Rattle.flat_machine.specs.Flat.{Flat, variable, owned, merge_ranks, reduce_flat, element_flat, loop_flat, host_flat, done_flat, join_flat}
 use Rattle.flat_machine.proofs.Rows.{map_same}
 use Rattle.flat_machine.proofs.Same.{Same, all_changed, values_changed, read_is, variable_is}
 
 -- each owner is a rank
-abbrev pub Owners : {F : Type 0} → Plan F → Type 0
+abbrev pub Owners : {F : Type 0} → Setup F → Type 0
 Owners p = (c : DatCell) → owner_of p c < p.ranks
 
-module _ {F : Type 0} (p : Plan F) (own : Owners p) (l : Layout F) (q : Fits p l) where
+module _ {F : Type 0} (p : Setup F) (own : Owners p) (l : Layout F) (q : IsLayout p l) where
   -- what the owners and the variables hold
   owned_is : (f : Flat F) (a : State F) → Same p l f a → (c : Cell) → Exists p l c → owned p l f c ≡ gathered p a c
   owned_is f a h (Data c) x = read_is p l q f a h (owner_of p c) c (own c) x (inl refl)
@@ -30,9 +31,9 @@ module _ {F : Type 0} (p : Plan F) (own : Owners p) (l : Layout F) (q : Fits p l
   reduce_same : (k : ℕ) (f : Flat F) (a : State F) → Same p l f a → Same p l (reduce_flat p l k f) (reduced p k a)
   reduce_same k f a h = record {
     memories = h.memories;
-    variables = values_changed l f.variables a.variables (λ v x. merge_ranks p l f (p.reduces (p.site k) v) (p.site k) v p.ranks x) (λ v. merged_from a (p.reduces (p.site k) v) (p.site k) v p.ranks (a.variables v)) h.variables
-        (λ v. merge_same f a h (p.reduces (p.site k) v) (p.site k) v p.ranks (a.variables v));
-    partials = λ r s v. ap (cond (s == p.site k) (unit_at (p.reduces s v))) (h.partials r s v);
+    variables = values_changed l f.variables a.variables (λ v x. merge_ranks p l f (p.reduces (p.program.site k) v) (p.program.site k) v p.ranks x) (λ v. merged_from a (p.reduces (p.program.site k) v) (p.program.site k) v p.ranks (a.variables v)) h.variables
+        (λ v. merge_same f a h (p.reduces (p.program.site k) v) (p.program.site k) v p.ranks (a.variables v));
+    partials = λ r s v. ap (cond (s == p.program.site k) (unit_at (p.reduces s v))) (h.partials r s v);
     mail = h.mail;
     panes = h.panes;
     faults = h.faults;
@@ -89,26 +90,32 @@ module _ {F : Type 0} (p : Plan F) (own : Owners p) (l : Layout F) (q : Fits p l
       twice false c v w = refl
 
   -- what an element's windows are given
-  gather_same : (k e : ℕ) (f : Flat F) (a : State F) (t : Store) → is_loop p l (p.kind k) ≡ true → e < elements p k → Same p l f (spread p t a) → map (owned p l f) (l.cells k e) ≡ map t (l.cells k e)
+  gather_same : (k e : ℕ) (f : Flat F) (a : State F) (t : Store) → is_loop (p.program.kind k) ≡ true → e < elements p.program k → Same p l f (spread p t a) → map (owned p l f) (l.cells k e) ≡ map t (l.cells k e)
   gather_same k e f a t lp lt h = map_same (owned p l f) t (l.cells k e) (λ c i. owned_is f (spread p t a) h c (q.exist k e c lp lt i) ∙ back c)
     where
       back : (c : Cell) → gathered p (spread p t a) c ≡ t c
       back (Data c) = cond-true (owner_of p c == owner_of p c) (t (Data c)) (a.memories (owner_of p c) c) (eq-eqb (owner_of p c) (owner_of p c) refl)
       back (Variable v) = refl
 
-  -- one element more
-  more_same : (k n : ℕ) (a : State F) → is_loop p l (p.kind k) ≡ true → n < elements p k → a.stop ≡ None → (f : Flat F) (r : Loop F) → Same p l f (looped p k r a) → Same p l (cond (is_some f.stop) f (element_flat p l k n (l.core k n (map (owned p l f) (l.cells k n))) f)) (looped p k (one_more p k n r) a)
-  more_same k n a lp lt none f (Broke e x t) h =
-      subst (λ z. Same p l z (looped p k (Broke e x t) a)) (sym (cond-true (is_some f.stop) f (element_flat p l k n (l.core k n (map (owned p l f) (l.cells k n))) f) (ap is_some h.stop))) h
-  more_same k n a lp lt none f (Ran_through t) h =
-      subst (λ z. Same p l z (looped p k (one_more p k n (Ran_through t)) a)) (sym (cond-false (is_some f.stop) f (element_flat p l k n (l.core k n (map (owned p l f) (l.cells k n))) f) (ap is_some (h.stop ∙ none))))
-      (subst (λ z. Same p l (element_flat p l k n (l.core k n (map (owned p l f) (l.cells k n))) f) (looped p k (after_run n t z) a)) (sym (q.run_is k n t lp lt))
-      (subst (λ z. Same p l (element_flat p l k n (l.core k n (map (owned p l f) (l.cells k n))) f) (looped p k (after_run n t (of_core (l.cells k n) t (l.core k n z))) a)) (gather_same k n f a t lp lt h)
-      (element_same k n f a t h (l.core k n (map (owned p l f) (l.cells k n))))))
+  constants_same : (f : Flat F) (a : State F) (t : Store) → Same p l f (spread p t a) → (xs : List VarCell) → AreConstants p l xs → map (variable p l f) xs ≡ map (λ v. t (Variable v)) xs
+  constants_same f a t h [] i = refl
+  constants_same f a t h (v ∷ xs) i =
+      ap (λ z. z ∷ map (variable p l f) xs) (variable_is p l q f (spread p t a) h v i.0) ∙ ap (λ zs. t (Variable v) ∷ zs) (constants_same f a t h xs i.2)
 
-  loop_same : (k n : ℕ) (f : Flat F) (a : State F) → is_loop p l (p.kind k) ≡ true → n ≤ elements p k → a.stop ≡ None → Same p l f a → Same p l (loop_flat p l k n f) (looped p k (loop p k n (gathered p a)) a)
+  -- one element more
+  more_same : (k n : ℕ) (a : State F) → is_loop (p.program.kind k) ≡ true → n < elements p.program k → a.stop ≡ None → (f : Flat F) (r : Loop F) → Same p l f (looped p k r a) → Same p l (cond (is_some f.stop) f (element_flat p l k n (l.core k n (map (variable p l f) l.constants) (map (owned p l f) (l.cells k n))) f)) (looped p k (one_more p.program k n r) a)
+  more_same k n a lp lt none f (Broke e x t) h =
+      subst (λ z. Same p l z (looped p k (Broke e x t) a)) (sym (cond-true (is_some f.stop) f (element_flat p l k n (l.core k n (map (variable p l f) l.constants) (map (owned p l f) (l.cells k n))) f) (ap is_some h.stop))) h
+  more_same k n a lp lt none f (Ran_through t) h =
+      subst (λ z. Same p l z (looped p k (one_more p.program k n (Ran_through t)) a)) (sym (cond-false (is_some f.stop) f (element_flat p l k n (l.core k n (map (variable p l f) l.constants) (map (owned p l f) (l.cells k n))) f) (ap is_some (h.stop ∙ none))))
+      (subst (λ z. Same p l (element_flat p l k n (l.core k n (map (variable p l f) l.constants) (map (owned p l f) (l.cells k n))) f) (looped p k (after_run n t z) a)) (sym (q.run_is k n t lp lt))
+      (subst (λ z. Same p l (element_flat p l k n (l.core k n (map (variable p l f) l.constants) (map (owned p l f) (l.cells k n))) f) (looped p k (after_run n t (of_core (l.cells k n) t (l.core k n (map (λ v. t (Variable v)) l.constants) z))) a)) (gather_same k n f a t lp lt h)
+      (subst (λ z. Same p l (element_flat p l k n (l.core k n (map (variable p l f) l.constants) (map (owned p l f) (l.cells k n))) f) (looped p k (after_run n t (of_core (l.cells k n) t (l.core k n z (map (owned p l f) (l.cells k n))))) a)) (constants_same f a t h l.constants q.constants_are)
+      (element_same k n f a t h (l.core k n (map (variable p l f) l.constants) (map (owned p l f) (l.cells k n)))))))
+
+  loop_same : (k n : ℕ) (f : Flat F) (a : State F) → is_loop (p.program.kind k) ≡ true → n ≤ elements p.program k → a.stop ≡ None → Same p l f a → Same p l (loop_flat p l k n f) (looped p k (loop p.program k n (gathered p a)) a)
   loop_same k zero f a lp le none h = spread_same f a h
-  loop_same k (suc n) f a lp le none h = more_same k n a lp (omega arith) none (loop_flat p l k n f) (loop p k n (gathered p a)) (loop_same k n f a lp (omega arith) none h)
+  loop_same k (suc n) f a lp le none h = more_same k n a lp (omega arith) none (loop_flat p l k n f) (loop p.program k n (gathered p a)) (loop_same k n f a lp (omega arith) none h)
 
   -- ---- Host
   host_same : (k : ℕ) (f : Flat F) (a : State F) → Same p l f a → (b : Hosted F) → Same p l (host_flat p l k b f) (hosted k b a)
@@ -124,15 +131,15 @@ module _ {F : Type 0} (p : Plan F) (own : Owners p) (l : Layout F) (q : Fits p l
     stop = h.stop;
   }
 
-  done_same : (k : ℕ) (f : Flat F) (a : State F) → a.stop ≡ None → Same p l f a → (x : Kind) → p.kind k ≡ x → Same p l (done_flat p l k x f) (done p k x a)
+  done_same : (k : ℕ) (f : Flat F) (a : State F) → a.stop ≡ None → Same p l f a → (x : Kind) → p.program.kind k ≡ x → Same p l (done_flat p l k x f) (done p k x a)
   done_same k f a none h Free e = h
   done_same k f a none h Reduce e = reduce_same k f a h
-  done_same k f a none h Ordered e = loop_same k (elements p k) f a (ap (is_loop p l) e) (omega arith) none h
-  done_same k f a none h Host e = subst (λ z. Same p l (host_flat p l k (p.host k (owned p l f)) f) (hosted k z a)) (q.host_sees k (owned p l f) (gathered p a) e (owned_is f a h)) (host_same k f a h (p.host k (owned p l f)))
+  done_same k f a none h Ordered e = loop_same k (elements p.program k) f a (ap is_loop e) (omega arith) none h
+  done_same k f a none h Host e = subst (λ z. Same p l (host_flat p l k (p.program.host k (owned p l f)) f) (hosted k z a)) (q.host_sees k (owned p l f) (gathered p a) e (owned_is f a h)) (host_same k f a h (p.program.host k (owned p l f)))
 
   join_same : (k : ℕ) (f : Flat F) (a : State F) → a.stop ≡ None → Same p l f a → (x : Option (Stop F)) → Same p l (join_flat p l k x f) (joined p k x a)
   join_same k f a none h (Some x) = stop_same f a x h
-  join_same k f a none h None = done_same k f a none h (p.kind k) refl
+  join_same k f a none h None = done_same k f a none h (p.program.kind k) refl
 
   pub join_goes : (k : ℕ) (f : Flat F) (a : State F) → a.stop ≡ None → Same p l f a → Same p l (join_flat p l k (least k f.faults) f) (joined p k (least k a.faults) a)
   join_goes k f a none h = subst (λ z. Same p l (join_flat p l k (least k z) f) (joined p k (least k a.faults) a)) (sym h.faults) (join_same k f a none h (least k a.faults))

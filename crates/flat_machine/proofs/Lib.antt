@@ -5,3 +5,5 @@ pub mod Steps
 pub mod Joins
 pub mod Whole
 pub mod Scatter
+pub mod Recorded
+pub mod Followed

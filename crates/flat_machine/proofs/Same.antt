@@ -3,9 +3,10 @@ use Rattle.std.proofs.Common.{◌≡◌, ℕ, ℤ, pos, ◌<◌, true, refl, sym
 use Rattle.std.specs.Prelude.{◌==◌}
 use Rattle.std.proofs.lemmas.Bool.{cases_eq, cond-true, cond-false, eq-eqb, ne_eqb}
 use Rattle.schedule_model.specs.Cells.{Cell, Data, Variable, DatCell, VarCell}
-use Rattle.schedule_model.specs.Plan.{Plan, Free}
+use Rattle.schedule_model.specs.Program.{Free}
+use Rattle.schedule_model.specs.Setup.{Setup}
 use Rattle.schedule_model.specs.Machine.{Frame, Shut, Broken, Holds, Message, State, put1}
-use Rattle.flat_machine.specs.Layout.{Layout, Fits, lookup, among, is_cell, IsVariable, Has}
+use Rattle.flat_machine.specs.Layout.{Layout, IsLayout, lookup, among, is_cell, IsVariable, Has}
 use Rattle.flat_machine.specs.Flat.{Pane, Shut_pane, Broken_pane, Windows, Post, Flat, updated, updated_rows, change, read, variable}
 use Rattle.flat_machine.proofs.Rows.{updated_at, updated_length, rows_length, rows_at}
 
@@ -41,7 +42,7 @@ posts_push l s r (a ∷ xs) [] x y h new = absurd h
 posts_push l s r (a ∷ xs) (b ∷ ys) x y h new = (h.0, posts_push l s r xs ys x y h.1 new)
 
 -- each copy has its cell's value
-pub record Copies {F : Type 0} (p : Plan F) (l : Layout F) (memories : List (List ℤ)) (mem : ℕ → DatCell → ℤ) : Type 0 where
+pub record Copies {F : Type 0} (p : Setup F) (l : Layout F) (memories : List (List ℤ)) (mem : ℕ → DatCell → ℤ) : Type 0 where
   pub wide : length memories ≡ p.ranks
   pub widths : (r : ℕ) → r < p.ranks → length (get_or memories r []) ≡ l.width r
   pub copies : (r i : ℕ) → r < p.ranks → i < l.width r → get_or (get_or memories r []) i (pos 0) ≡ mem r (l.cell_at r i)
@@ -51,18 +52,18 @@ pub record Values {F : Type 0} (l : Layout F) (variables : List ℤ) (vars : Var
   pub wide : length variables ≡ l.variables
   pub values : (i : ℕ) → i < l.variables → get_or variables i (pos 0) ≡ vars (l.variable_at i)
 
-pub record Same {F : Type 0} (p : Plan F) (l : Layout F) (f : Flat F) (a : State F) : Type 0 where
+pub record Same {F : Type 0} (p : Setup F) (l : Layout F) (f : Flat F) (a : State F) : Type 0 where
   pub memories : Copies p l f.memories a.memories
   pub variables : Values l f.variables a.variables
   pub partials : (r s : ℕ) (v : VarCell) → f.partials r s v ≡ a.partials r s v
   pub mail : (s r : ℕ) → PostsSame l s r (f.mail s r) (a.mail s r)
-  pub panes : (k r x : ℕ) → p.kind k ≡ Free → r < p.ranks → x < l.count k r → PaneSame l k (l.original k r x) (f.panes k r x) (a.frames k r (l.original k r x))
+  pub panes : (k r x : ℕ) → p.program.kind k ≡ Free → r < p.ranks → x < l.count k r → PaneSame l k (l.original k r x) (f.panes k r x) (a.frames k r (l.original k r x))
   pub faults : f.faults ≡ a.faults
   pub output : f.output ≡ a.output
   pub stop : f.stop ≡ a.stop
 
 -- one rank's copies change by their cells
-pub changed : {F : Type 0} (p : Plan F) (l : Layout F) (memories : List (List ℤ)) (mem : ℕ → DatCell → ℤ) (r : ℕ) (g : DatCell → ℤ → ℤ) (new : DatCell → ℤ) → Copies p l memories mem → r < p.ranks
+pub changed : {F : Type 0} (p : Setup F) (l : Layout F) (memories : List (List ℤ)) (mem : ℕ → DatCell → ℤ) (r : ℕ) (g : DatCell → ℤ → ℤ) (new : DatCell → ℤ) → Copies p l memories mem → r < p.ranks
     → ((i : ℕ) → i < l.width r → g (l.cell_at r i) (mem r (l.cell_at r i)) ≡ new (l.cell_at r i)) → Copies p l (change p l r g memories) (put1 r new mem)
 changed p l memories mem r g new h lt same =
     let here : get_or (change p l r g memories) r [] ≡ updated (λ i v. g (l.cell_at r i) v) 0 (get_or memories r []) =
@@ -90,7 +91,7 @@ changed p l memories mem r g new h lt same =
     }
 
 -- all ranks' copies change by their cells
-pub all_changed : {F : Type 0} (p : Plan F) (l : Layout F) (memories : List (List ℤ)) (mem : ℕ → DatCell → ℤ) (g : ℕ → DatCell → ℤ → ℤ) (new : ℕ → DatCell → ℤ) → Copies p l memories mem
+pub all_changed : {F : Type 0} (p : Setup F) (l : Layout F) (memories : List (List ℤ)) (mem : ℕ → DatCell → ℤ) (g : ℕ → DatCell → ℤ → ℤ) (new : ℕ → DatCell → ℤ) → Copies p l memories mem
     → ((r i : ℕ) → g r (l.cell_at r i) (mem r (l.cell_at r i)) ≡ new r (l.cell_at r i)) → Copies p l (updated_rows (λ r i v. g r (l.cell_at r i) v) 0 memories) new
 all_changed p l memories mem g new h same = record {
   wide = rows_length (λ r i v. g r (l.cell_at r i) v) 0 memories ∙ h.wide;
@@ -111,7 +112,7 @@ values_changed l variables vars g new h same = record {
       ∙ (ap (g (l.variable_at i)) (h.values i il) ∙ same (l.variable_at i));
 }
 
-module _ {F : Type 0} (p : Plan F) (l : Layout F) (q : Fits p l) (f : Flat F) (a : State F) (h : Same p l f a) where
+module _ {F : Type 0} (p : Setup F) (l : Layout F) (q : IsLayout p l) (f : Flat F) (a : State F) (h : Same p l f a) where
   -- a copy that the rank has
   pub read_is : (r : ℕ) (c : DatCell) → r < p.ranks → is_cell p l c ≡ true → Has p l r c → read p l f r c ≡ a.memories r c
   read_is r c lt real held =

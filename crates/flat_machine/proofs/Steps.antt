@@ -1,22 +1,34 @@
 -- Sends, receives, begins and ends of the flat machine go with those on cells.
-use Rattle.std.proofs.Common.{◌≡◌, ℕ, ℤ, pos, ◌<◌, true, false, cond, inl, refl, sym, ap, subst, ◌∙◌, ⊎_elim, Option, Some, None, List, [], ◌∷◌, ◌++◌, map, length}
-use Rattle.std.specs.Prelude.{◌&&◌, ◌==◌}
+use Rattle.std.proofs.Common.{◌≡◌, ℕ, ℤ, pos, ◌<◌, Bool, true, false, cond, inl, refl, sym, ap, subst, ◌∙◌, ⊎_elim, Option, Some, None, List, [], ◌∷◌, ◌++◌, map, length}
+use Rattle.std.specs.Prelude.{◌&&◌, ◌||◌, ◌==◌}
 use Rattle.std.proofs.lemmas.Bool.{cases_Bool, false≢true, false_from_ne_true, and_parts, and_from, cond-true, cond-false, eqb-true, eq-eqb}
 use Rattle.reductions.specs.Reduction.{Reduction}
-use Rattle.schedule_steps.specs.Steps.{Send, Recv, Begin, End, IsStep, same3}
+use Rattle.schedule_steps.specs.declared.step.Step.TheVariants.{Send, Recv, Begin, End}
+use Rattle.schedule_steps.specs.Steps.{IsStep, same3}
 use Rattle.schedule_steps.specs.Members.{same3_true}
-use Rattle.schedule_model.specs.Cells.{Cell, Data, Variable, DatCell, VarCell, Store}
+use Rattle.schedule_model.specs.Cells.{Cell, Data, Variable, DatCell, VarCell, Store, same_cell}
 use Rattle.schedule_model.specs.Effects.{is_modified}
-use Rattle.schedule_model.specs.Plan.{Plan, Free, elements, owner_of, executes}
+use Rattle.schedule_model.specs.Program.{Free, elements, is_loop}
+use Rattle.schedule_model.specs.Setup.{Setup, owner_of, executes}
 use Rattle.schedule_model.specs.Machine.{Frame, Shut, Broken, Holds, Message, State, merge_at, put2, put3, window_of, view, taken, delivered, arrives, opened, written_back, closed, step}
-use Rattle.flat_machine.specs.Layout.{Core, Faults, Leaves, Layout, Fits, lookup, among, of_core, is_cell, is_loop, by_place}
-use Rattle.flat_machine.specs.Flat.{Pane, Shut_pane, Broken_pane, Windows, Post, Flat, window, packed, take_post, open_pane, close_pane, flat_step}
+use Rattle.flat_machine.specs.Layout.{Core, Faults, Leaves, Layout, IsLayout, AreConstants, lookup, among, of_core, is_cell, by_place}
+use Rattle.flat_machine.specs.Flat.{Pane, Shut_pane, Broken_pane, Windows, Post, Flat, window, variable, packed, take_post, open_pane, close_pane, flat_step}
 use Rattle.flat_machine.proofs.Rows.{lookup_map, lookup_any, map_same, map_length}
 use Rattle.flat_machine.proofs.Places.{to_element, place_runs}
 use Rattle.flat_machine.proofs.Same.{PaneSame, valued, PostSame, PostsSame, posts_push, Same, changed, read_is, variable_is}
 use Rattle.schedule_model.specs.Tests.{free_kind}
 
-module _ {F : Type 0} (p : Plan F) (l : Layout F) (q : Fits p l) (f : Flat F) (a : State F) (h : Same p l f a) where
+-- a cell that isn't among the windows
+lookup_out : (xs : List Cell) (ws : List ℤ) (c : Cell) (d : ℤ) → among xs c ≡ false → lookup xs ws c d ≡ d
+lookup_out [] ws c d h = refl
+lookup_out (x ∷ xs) [] c d h = refl
+lookup_out (x ∷ xs) (w ∷ ws) c d h = by_test (same_cell x c) h (lookup_out xs ws c d)
+  where
+    by_test : (b : Bool) → (b || among xs c) ≡ false → (among xs c ≡ false → lookup xs ws c d ≡ d) → cond b w (lookup xs ws c d) ≡ d
+    by_test true h g = absurd (false≢true (sym h))
+    by_test false h g = g h
+
+module _ {F : Type 0} (p : Setup F) (l : Layout F) (q : IsLayout p l) (f : Flat F) (a : State F) (h : Same p l f a) where
   -- ---- messages
   -- one queue changes alike
   mail_put : (s r : ℕ) (xs : List Post) (ys : List Message) → PostsSame l s r xs ys → (s1 r1 : ℕ) → PostsSame l s1 r1 (put2 s r xs f.mail s1 r1) (put2 s r ys a.mail s1 r1)
@@ -79,19 +91,19 @@ module _ {F : Type 0} (p : Plan F) (l : Layout F) (q : Fits p l) (f : Flat F) (a
   taken_same r s lt (x ∷ xs) (y ∷ ys) m = subst (λ i. Same p l (take_post p l r s (x ∷ xs) f) (delivered p i r s y ys a)) m.0.0 (deliver_same r s lt x xs y ys m.0 m.1)
 
   -- ---- begin
-  loop_kind : (k : ℕ) → p.kind k ≡ Free → is_loop p l (p.kind k) ≡ true
-  loop_kind k fr = ap (is_loop p l) fr
+  loop_kind : (k : ℕ) → p.program.kind k ≡ Free → is_loop (p.program.kind k) ≡ true
+  loop_kind k fr = ap is_loop fr
 
-  window_is : (k r e : ℕ) → p.kind k ≡ Free → r < p.ranks → e < elements p k → executes p k r e ≡ true → (c : Cell) → among (l.cells k e) c ≡ true → window p l f k r c ≡ view p k r a c
+  window_is : (k r e : ℕ) → p.program.kind k ≡ Free → r < p.ranks → e < elements p.program k → executes p k r e ≡ true → (c : Cell) → among (l.cells k e) c ≡ true → window p l f k r c ≡ view p k r a c
   window_is k r e fr lr lt ex (Data c) i = read_is p l q f a h r c lr (q.exist k e (Data c) (loop_kind k fr) lt i) (q.held k r e c fr lr lt ex i)
-  window_is k r e fr lr lt ex (Variable v) i = ap (window_of (p.reduces (p.site k) v)) (variable_is p l q f a h v (q.exist k e (Variable v) (loop_kind k fr) lt i))
+  window_is k r e fr lr lt ex (Variable v) i = ap (window_of (p.reduces (p.program.site k) v)) (variable_is p l q f a h v (q.exist k e (Variable v) (loop_kind k fr) lt i))
 
-  windows : (k r e : ℕ) → p.kind k ≡ Free → r < p.ranks → e < elements p k → executes p k r e ≡ true → map (window p l f k r) (l.cells k e) ≡ map (view p k r a) (l.cells k e)
+  windows : (k r e : ℕ) → p.program.kind k ≡ Free → r < p.ranks → e < elements p.program k → executes p k r e ≡ true → map (window p l f k r) (l.cells k e) ≡ map (view p k r a) (l.cells k e)
   windows k r e fr lr lt ex = map_same (window p l f k r) (view p k r a) (l.cells k e) (window_is k r e fr lr lt ex)
 
   -- one frame changes alike
-  panes_put : (k r x : ℕ) (b : Pane) (c : Frame) → p.kind k ≡ Free → r < p.ranks → x < l.count k r → PaneSame l k (l.original k r x) b c
-      → (k1 r1 x1 : ℕ) → p.kind k1 ≡ Free → r1 < p.ranks → x1 < l.count k1 r1 → PaneSame l k1 (l.original k1 r1 x1) (put3 k r x b f.panes k1 r1 x1) (put3 k r (l.original k r x) c a.frames k1 r1 (l.original k1 r1 x1))
+  panes_put : (k r x : ℕ) (b : Pane) (c : Frame) → p.program.kind k ≡ Free → r < p.ranks → x < l.count k r → PaneSame l k (l.original k r x) b c
+      → (k1 r1 x1 : ℕ) → p.program.kind k1 ≡ Free → r1 < p.ranks → x1 < l.count k1 r1 → PaneSame l k1 (l.original k1 r1 x1) (put3 k r x b f.panes k1 r1 x1) (put3 k r (l.original k r x) c a.frames k1 r1 (l.original k1 r1 x1))
   panes_put k r x b c fr lr lt new k1 r1 x1 fr1 lr1 lt1 = ⊎_elim
       (λ (y : same3 k1 r1 x1 k r x ≡ true).
       let e : (k1 ≡ k) × (r1 ≡ r) × (x1 ≡ x) = same3_true k1 r1 x1 k r x y in
@@ -109,7 +121,7 @@ module _ {F : Type 0} (p : Plan F) (l : Layout F) (q : Fits p l) (f : Flat F) (a
       (subst (λ z. PaneSame l k1 (l.original k1 r1 x1) (f.panes k1 r1 x1) z) (sym (cond-false (same3 k1 r1 (l.original k1 r1 x1) k r (l.original k r x)) c (a.frames k1 r1 (l.original k1 r1 x1)) neither)) (h.panes k1 r1 x1 fr1 lr1 lt1)))
       (cases_Bool (same3 k1 r1 x1 k r x))
 
-  opened_same : (k r x : ℕ) → p.kind k ≡ Free → r < p.ranks → x < l.count k r → (b : Core F) → ((ws : List ℤ) → b ≡ Leaves ws → length ws ≡ length (l.cells k (l.original k r x))) → Same p l (open_pane p l k r x b f) (opened k r (l.original k r x) (of_core (l.cells k (l.original k r x)) (view p k r a) b) a)
+  opened_same : (k r x : ℕ) → p.program.kind k ≡ Free → r < p.ranks → x < l.count k r → (b : Core F) → ((ws : List ℤ) → b ≡ Leaves ws → length ws ≡ length (l.cells k (l.original k r x))) → Same p l (open_pane p l k r x b f) (opened k r (l.original k r x) (of_core (l.cells k (l.original k r x)) (view p k r a) b) a)
   opened_same k r x fr lr lt (Faults n) len = record {
     memories = h.memories;
     variables = h.variables;
@@ -132,16 +144,23 @@ module _ {F : Type 0} (p : Plan F) (l : Layout F) (q : Fits p l) (f : Flat F) (a
     stop = h.stop;
   }
 
-  begin_same : (k r x : ℕ) → p.kind k ≡ Free → r < p.ranks → x < l.count k r → Same p l (flat_step p l (Begin k r x) f) (step p (Begin k r (l.original k r x)) a)
+  constants_view : (k r : ℕ) → p.program.kind k ≡ Free → (xs : List VarCell) → AreConstants p l xs → map (variable p l f) xs ≡ map (λ v. view p k r a (Variable v)) xs
+  constants_view k r fr [] i = refl
+  constants_view k r fr (v ∷ xs) i =
+      ap (λ z. z ∷ map (variable p l f) xs) (variable_is p l q f a h v i.0 ∙ sym (ap (λ z. window_of z (a.variables v)) (i.1 k fr)))
+      ∙ ap (λ zs. view p k r a (Variable v) ∷ zs) (constants_view k r fr xs i.2)
+
+  begin_same : (k r x : ℕ) → p.program.kind k ≡ Free → r < p.ranks → x < l.count k r → Same p l (flat_step p l (Begin k r x) f) (step p (Begin k r (l.original k r x)) a)
   begin_same k r x fr lr lt =
-      let o : (l.original k r x < elements p k) × (executes p k r (l.original k r x) ≡ true) × (l.local k r (l.original k r x) ≡ x) = q.outside k r x fr lr lt in
+      let o : (l.original k r x < elements p.program k) × (executes p k r (l.original k r x) ≡ true) × (l.local k r (l.original k r x) ≡ x) = q.outside k r x fr lr lt in
       subst (λ z. Same p l (flat_step p l (Begin k r x) f) (opened k r (l.original k r x) z a)) (sym (q.run_is k (l.original k r x) (view p k r a) (loop_kind k fr) o.0))
-      (subst (λ z. Same p l (flat_step p l (Begin k r x) f) (opened k r (l.original k r x) (of_core (l.cells k (l.original k r x)) (view p k r a) (l.core k (l.original k r x) z)) a)) (windows k r (l.original k r x) fr lr o.0 o.1)
-      (opened_same k r x fr lr lt (l.core k (l.original k r x) (map (window p l f k r) (l.cells k (l.original k r x))))
-      (λ ws i. q.same_length k (l.original k r x) (map (window p l f k r) (l.cells k (l.original k r x))) ws (loop_kind k fr) o.0 (map_length (window p l f k r) (l.cells k (l.original k r x))) i)))
+      (subst (λ z. Same p l (flat_step p l (Begin k r x) f) (opened k r (l.original k r x) (of_core (l.cells k (l.original k r x)) (view p k r a) (l.core k (l.original k r x) (map (λ v. view p k r a (Variable v)) l.constants) z)) a)) (windows k r (l.original k r x) fr lr o.0 o.1)
+      (subst (λ z. Same p l (flat_step p l (Begin k r x) f) (opened k r (l.original k r x) (of_core (l.cells k (l.original k r x)) (view p k r a) (l.core k (l.original k r x) z (map (window p l f k r) (l.cells k (l.original k r x))))) a)) (constants_view k r fr l.constants q.constants_are)
+      (opened_same k r x fr lr lt (l.core k (l.original k r x) (map (variable p l f) l.constants) (map (window p l f k r) (l.cells k (l.original k r x))))
+      (λ ws i. q.same_length k (l.original k r x) (map (variable p l f) l.constants) (map (window p l f k r) (l.cells k (l.original k r x))) ws (loop_kind k fr) o.0 (map_length (window p l f k r) (l.cells k (l.original k r x))) i))))
 
   -- ---- end
-  shut_same : (k r x : ℕ) → p.kind k ≡ Free → r < p.ranks → x < l.count k r → Same p l (record f { panes = put3 k r x Shut_pane f.panes }) (record a { frames = put3 k r (l.original k r x) Shut a.frames })
+  shut_same : (k r x : ℕ) → p.program.kind k ≡ Free → r < p.ranks → x < l.count k r → Same p l (record f { panes = put3 k r x Shut_pane f.panes }) (record a { frames = put3 k r (l.original k r x) Shut a.frames })
   shut_same k r x fr lr lt = record {
     memories = h.memories;
     variables = h.variables;
@@ -154,52 +173,51 @@ module _ {F : Type 0} (p : Plan F) (l : Layout F) (q : Fits p l) (f : Flat F) (a
   }
 
   -- the amount that goes into a partial
-  amount_same : (k e : ℕ) (v : VarCell) (ws : List ℤ) (t : Store) → p.kind k ≡ Free → e < elements p k → ((c : Cell) (d : ℤ) → among (l.cells k e) c ≡ true → t c ≡ lookup (l.cells k e) ws c d) → (x : ℤ)
-      → merge_at (p.reduces (p.site k) v) x (lookup (l.cells k e) ws (Variable v) (pos 0)) ≡ merge_at (p.reduces (p.site k) v) x (t (Variable v))
-  amount_same k e v ws t fr lt m x = by_op (p.reduces (p.site k) v) refl
+  amount_same : (k e : ℕ) (v : VarCell) (ws : List ℤ) (t : Store) → p.program.kind k ≡ Free → e < elements p.program k → ((c : Cell) (d : ℤ) → among (l.cells k e) c ≡ true → t c ≡ lookup (l.cells k e) ws c d) → (x : ℤ)
+      → merge_at (p.reduces (p.program.site k) v) x (lookup (l.cells k e) ws (Variable v) (pos 0)) ≡ merge_at (p.reduces (p.program.site k) v) x (t (Variable v))
+  amount_same k e v ws t fr lt m x = by_op (p.reduces (p.program.site k) v) refl
     where
-      by_op : (o : Option Reduction) → p.reduces (p.site k) v ≡ o → merge_at (p.reduces (p.site k) v) x (lookup (l.cells k e) ws (Variable v) (pos 0)) ≡ merge_at (p.reduces (p.site k) v) x (t (Variable v))
+      by_op : (o : Option Reduction) → p.reduces (p.program.site k) v ≡ o → merge_at (p.reduces (p.program.site k) v) x (lookup (l.cells k e) ws (Variable v) (pos 0)) ≡ merge_at (p.reduces (p.program.site k) v) x (t (Variable v))
       by_op None i = ap (λ z. merge_at z x (lookup (l.cells k e) ws (Variable v) (pos 0))) i ∙ ap (λ z. merge_at z x (t (Variable v))) (sym i)
-      by_op (Some o) i = ap (merge_at (p.reduces (p.site k) v) x) (sym (m (Variable v) (pos 0) (q.reduced_held k e v o fr lt i)))
+      by_op (Some o) i = ap (merge_at (p.reduces (p.program.site k) v) x) (sym (m (Variable v) (pos 0) (q.reduced_held k e v o fr lt i)))
 
-  module _ (k r x : ℕ) (fr : p.kind k ≡ Free) (lr : r < p.ranks) (lt : x < l.count k r) (ws : List ℤ) (t : Store) (m : (c : Cell) (d : ℤ) → among (l.cells k (l.original k r x)) c ≡ true → t c ≡ lookup (l.cells k (l.original k r x)) ws c d) where
+  module _ (k r x : ℕ) (fr : p.program.kind k ≡ Free) (lr : r < p.ranks) (lt : x < l.count k r) (ws : List ℤ) (t : Store) (m : (c : Cell) (d : ℤ) → among (l.cells k (l.original k r x)) c ≡ true → t c ≡ lookup (l.cells k (l.original k r x)) ws c d) where
     abbrev e : ℕ
     e = l.original k r x
 
-    inside : e < elements p k
-    inside = let o : (l.original k r x < elements p k) × (executes p k r (l.original k r x) ≡ true) × (l.local k r (l.original k r x) ≡ x) = q.outside k r x fr lr lt in o.0
+    inside : e < elements p.program k
+    inside = let o : (l.original k r x < elements p.program k) × (executes p k r (l.original k r x) ≡ true) × (l.local k r (l.original k r x) ≡ x) = q.outside k r x fr lr lt in o.0
 
     abbrev part_flat : VarCell → ℤ
-    part_flat v = cond (p.owner (p.set k) e == r) (merge_at (p.reduces (p.site k) v) (f.partials r (p.site k) v) (lookup (l.cells k e) ws (Variable v) (pos 0))) (f.partials r (p.site k) v)
+    part_flat v = cond (p.owner (p.program.set k) e == r) (merge_at (p.reduces (p.program.site k) v) (f.partials r (p.program.site k) v) (lookup (l.cells k e) ws (Variable v) (pos 0))) (f.partials r (p.program.site k) v)
 
     abbrev part_cells : VarCell → ℤ
-    part_cells v = cond (p.owner (p.set k) e == r) (merge_at (p.reduces (p.site k) v) (a.partials r (p.site k) v) (t (Variable v))) (a.partials r (p.site k) v)
+    part_cells v = cond (p.owner (p.program.set k) e == r) (merge_at (p.reduces (p.program.site k) v) (a.partials r (p.program.site k) v) (t (Variable v))) (a.partials r (p.program.site k) v)
 
     part_is : (v : VarCell) → part_flat v ≡ part_cells v
     part_is v =
-        ap (λ z. cond (p.owner (p.set k) e == r) (merge_at (p.reduces (p.site k) v) z (lookup (l.cells k e) ws (Variable v) (pos 0))) z) (h.partials r (p.site k) v)
-        ∙ ap (λ z. cond (p.owner (p.set k) e == r) z (a.partials r (p.site k) v)) (amount_same k e v ws t fr inside m (a.partials r (p.site k) v))
+        ap (λ z. cond (p.owner (p.program.set k) e == r) (merge_at (p.reduces (p.program.site k) v) z (lookup (l.cells k e) ws (Variable v) (pos 0))) z) (h.partials r (p.program.site k) v)
+        ∙ ap (λ z. cond (p.owner (p.program.set k) e == r) z (a.partials r (p.program.site k) v)) (amount_same k e v ws t fr inside m (a.partials r (p.program.site k) v))
 
-    cell_is : (c : DatCell) (v : ℤ) → cond (is_modified (p.class k e (Data c))) (lookup (l.cells k e) ws (Data c) v) v ≡ cond (is_modified (p.class k e (Data c))) (t (Data c)) v
-    cell_is c v = ⊎_elim
-        (λ (y : is_modified (p.class k e (Data c)) ≡ true).
-        cond-true (is_modified (p.class k e (Data c))) (lookup (l.cells k e) ws (Data c) v) v y
-        ∙ (sym (m (Data c) v (q.modified_held k e c fr inside y)) ∙ sym (cond-true (is_modified (p.class k e (Data c))) (t (Data c)) v y)))
-        (λ (y : is_modified (p.class k e (Data c)) ≡ false).
-        cond-false (is_modified (p.class k e (Data c))) (lookup (l.cells k e) ws (Data c) v) v y ∙ sym (cond-false (is_modified (p.class k e (Data c))) (t (Data c)) v y))
-        (cases_Bool (is_modified (p.class k e (Data c))))
+    cell_is : (c : DatCell) (v : ℤ) → cond (p.modifies k c.dat) (lookup (l.cells k e) ws (Data c) v) v ≡ cond (is_modified (p.touch k e (Data c))) (t (Data c)) v
+    cell_is c v = by_tests (p.modifies k c.dat) (among (l.cells k e) (Data c)) refl (q.modified_is k e c fr inside)
+      where
+        by_tests : (x y : Bool) → among (l.cells k e) (Data c) ≡ y → is_modified (p.touch k e (Data c)) ≡ (x && y) → cond x (lookup (l.cells k e) ws (Data c) v) v ≡ cond (is_modified (p.touch k e (Data c))) (t (Data c)) v
+        by_tests true true i j = sym (m (Data c) v i) ∙ sym (cond-true (is_modified (p.touch k e (Data c))) (t (Data c)) v j)
+        by_tests true false i j = lookup_out (l.cells k e) ws (Data c) v i ∙ sym (cond-false (is_modified (p.touch k e (Data c))) (t (Data c)) v j)
+        by_tests false y i j = sym (cond-false (is_modified (p.touch k e (Data c))) (t (Data c)) v j)
 
     back_same : Same p l (close_pane p l k r x (l.original k r x) (Windows ws) f) (written_back p k r (l.original k r x) t a)
     back_same = record {
-      memories = changed p l f.memories a.memories r (λ c v. cond (is_modified (p.class k e (Data c))) (lookup (l.cells k e) ws (Data c) v) v) (λ c. cond (is_modified (p.class k e (Data c))) (t (Data c)) (a.memories r c)) h.memories lr
+      memories = changed p l f.memories a.memories r (λ c v. cond (p.modifies k c.dat) (lookup (l.cells k e) ws (Data c) v) v) (λ c. cond (is_modified (p.touch k e (Data c))) (t (Data c)) (a.memories r c)) h.memories lr
           (λ i il. cell_is (l.cell_at r i) (a.memories r (l.cell_at r i)));
       variables = h.variables;
       partials = λ r1 s1 v. ⊎_elim
-          (λ (y : ((r1 == r) && (s1 == p.site k)) ≡ true).
-          ap (λ z. z v) (cond-true ((r1 == r) && (s1 == p.site k)) part_flat (f.partials r1 s1) y) ∙ (part_is v ∙ ap (λ z. z v) (sym (cond-true ((r1 == r) && (s1 == p.site k)) part_cells (a.partials r1 s1) y))))
-          (λ (y : ((r1 == r) && (s1 == p.site k)) ≡ false).
-          ap (λ z. z v) (cond-false ((r1 == r) && (s1 == p.site k)) part_flat (f.partials r1 s1) y) ∙ (h.partials r1 s1 v ∙ ap (λ z. z v) (sym (cond-false ((r1 == r) && (s1 == p.site k)) part_cells (a.partials r1 s1) y))))
-          (cases_Bool ((r1 == r) && (s1 == p.site k)));
+          (λ (y : ((r1 == r) && (s1 == p.program.site k)) ≡ true).
+          ap (λ z. z v) (cond-true ((r1 == r) && (s1 == p.program.site k)) part_flat (f.partials r1 s1) y) ∙ (part_is v ∙ ap (λ z. z v) (sym (cond-true ((r1 == r) && (s1 == p.program.site k)) part_cells (a.partials r1 s1) y))))
+          (λ (y : ((r1 == r) && (s1 == p.program.site k)) ≡ false).
+          ap (λ z. z v) (cond-false ((r1 == r) && (s1 == p.program.site k)) part_flat (f.partials r1 s1) y) ∙ (h.partials r1 s1 v ∙ ap (λ z. z v) (sym (cond-false ((r1 == r) && (s1 == p.program.site k)) part_cells (a.partials r1 s1) y))))
+          (cases_Bool ((r1 == r) && (s1 == p.program.site k)));
       mail = h.mail;
       panes = panes_put k r x Shut_pane Shut fr lr lt tt;
       faults = h.faults;
@@ -207,7 +225,7 @@ module _ {F : Type 0} (p : Plan F) (l : Layout F) (q : Fits p l) (f : Flat F) (a
       stop = h.stop;
     }
 
-  closed_same : (k r x : ℕ) → p.kind k ≡ Free → r < p.ranks → x < l.count k r → (b : Pane) (c : Frame) → PaneSame l k (l.original k r x) b c → Same p l (close_pane p l k r x (l.original k r x) b f) (closed p k r (l.original k r x) c a)
+  closed_same : (k r x : ℕ) → p.program.kind k ≡ Free → r < p.ranks → x < l.count k r → (b : Pane) (c : Frame) → PaneSame l k (l.original k r x) b c → Same p l (close_pane p l k r x (l.original k r x) b f) (closed p k r (l.original k r x) c a)
   closed_same k r x fr lr lt Shut_pane Shut m = shut_same k r x fr lr lt
   closed_same k r x fr lr lt Broken_pane Broken m = shut_same k r x fr lr lt
   closed_same k r x fr lr lt Shut_pane Broken m = absurd m
@@ -226,10 +244,10 @@ module _ {F : Type 0} (p : Plan F) (l : Layout F) (q : Fits p l) (f : Flat F) (a
   recv_goes k r s plan = taken_same r s plan.3 (f.mail s r) (a.mail s r) (h.mail s r)
 
   pub begin_goes : (k r x : ℕ) → IsStep (by_place p l) (Begin k r x) → Same p l (flat_step p l (Begin k r x) f) (step p (to_element l (Begin k r x)) a)
-  begin_goes k r x plan = let fr : p.kind k ≡ Free = free_kind (p.kind k) plan.1 in begin_same k r x fr plan.2 (place_runs p l q k r x fr plan.2 plan.3).0
+  begin_goes k r x plan = let fr : p.program.kind k ≡ Free = free_kind (p.program.kind k) plan.1 in begin_same k r x fr plan.2 (place_runs p l q k r x fr plan.2 plan.3).0
 
   pub end_goes : (k r x : ℕ) → IsStep (by_place p l) (End k r x) → Same p l (flat_step p l (End k r x) f) (step p (to_element l (End k r x)) a)
   end_goes k r x plan =
-      let fr : p.kind k ≡ Free = free_kind (p.kind k) plan.1 in
+      let fr : p.program.kind k ≡ Free = free_kind (p.program.kind k) plan.1 in
       let lt : x < l.count k r = (place_runs p l q k r x fr plan.2 plan.3).0 in
       closed_same k r x fr plan.2 lt (f.panes k r x) (a.frames k r (l.original k r x)) (h.panes k r x fr plan.2 lt)

@@ -2,23 +2,24 @@
 use Rattle.std.proofs.Common.{◌≡◌, ◌<◌, true, false, inl, refl, sym, ap, subst, ◌∙◌, ⊎_elim, Option, Some, None, List, [], ◌∷◌, ◌++◌, map, append_assoc}
 use Rattle.std.specs.Prelude.{is_some}
 use Rattle.std.proofs.lemmas.Bool.{cases_Bool, cond_both, cond-true, cond-false, ltb-true}
-use Rattle.schedule_steps.specs.Outline.{Order, by_colour, any_order}
-use Rattle.schedule_steps.specs.Steps.{Step, Send, Recv, Begin, End, Join, IsStep, Accepted, EndsAtOnce}
-use Rattle.schedule_model.specs.Plan.{Plan, in_set, owner_of, outline}
+use Rattle.schedule_steps.specs.declared.step.Step.{Step}
+use Rattle.schedule_steps.specs.declared.step.Step.TheVariants.{Send, Recv, Begin, End, Join}
+use Rattle.schedule_steps.specs.Steps.{IsStep, Accepted}
+use Rattle.schedule_model.specs.Setup.{Setup, in_set, owner_of, outline}
 use Rattle.schedule_model.specs.Sequential.{Stop, Seq, Stopped, Going, sequential}
 use Rattle.schedule_model.specs.Machine.{State, Shut, start_state, step, steps_from, machine, Agrees}
 use Rattle.schedule_model.specs.Laws.{Lawful, Coloured}
-use Rattle.flat_machine.specs.Layout.{Layout, Fits, by_place}
+use Rattle.flat_machine.specs.Layout.{Layout, IsLayout, by_place}
 use Rattle.flat_machine.specs.Flat.{Flat, flat_step, flat_from, StartsFlat, AgreesFlat}
-use Rattle.flat_machine.proofs.Places.{to_element, accepted_elements, by_colour_follows, any_order_follows, ends_at_once}
+use Rattle.flat_machine.proofs.Places.{to_element, accepted_elements}
 use Rattle.flat_machine.proofs.Same.{PaneSame, PostsSame, Same, read_is}
 use Rattle.flat_machine.proofs.Steps.{send_goes, recv_goes, begin_goes, end_goes}
 use Rattle.flat_machine.proofs.Joins.{Owners, join_goes}
 
-owners : {F : Type 0} (p : Plan F) → Lawful p → Owners p
-owners p w c = cond_both (in_set p c) (p.owner (p.set_of c.dat) c.element) 0 (λ x. x < p.ranks) (λ t. w.owners (p.set_of c.dat) c.element (ltb-true c.element (p.size (p.set_of c.dat)) t)) (λ t. w.some_rank)
+owners : {F : Type 0} (p : Setup F) → Lawful p → Owners p
+owners p w c = cond_both (in_set p c) (p.owner (p.program.set_of c.dat) c.element) 0 (λ x. x < p.ranks) (λ t. w.items.owners (p.program.set_of c.dat) c.element (ltb-true c.element (p.program.size (p.program.set_of c.dat)) t)) (λ t. w.items.some_rank)
 
-module _ {F : Type 0} (p : Plan F) (w : Lawful p) (l : Layout F) (q : Fits p l) where
+module _ {F : Type 0} (p : Setup F) (w : Lawful p) (l : Layout F) (q : IsLayout p l) where
   step_same : (f : Flat F) (a : State F) → a.stop ≡ None → Same p l f a → (s : Step) → IsStep (by_place p l) s → Same p l (flat_step p l s f) (step p (to_element l s) a)
   step_same f a none h (Send k s r) plan = send_goes p l q f a h k s r plan
   step_same f a none h (Recv k r s) plan = recv_goes p l q f a h k r s plan
@@ -59,9 +60,9 @@ module _ {F : Type 0} (p : Plan F) (w : Lawful p) (l : Layout F) (q : Fits p l) 
     stop = s.stop;
   }
 
-  planned : (order : Order) (all : List Step) → Accepted (by_place p l) order all → (post pre : List Step) → all ≡ pre ++ post → Planned post
-  planned order all acc [] pre e = tt
-  planned order all acc (s ∷ post) pre e = (acc.steps pre s post e, planned order all acc post (pre ++ (s ∷ [])) (e ∙ sym (append_assoc pre (s ∷ []) post)))
+  planned : (all : List Step) → Accepted (by_place p l) all → (post pre : List Step) → all ≡ pre ++ post → Planned post
+  planned all acc [] pre e = tt
+  planned all acc (s ∷ post) pre e = (acc.steps pre s post e, planned all acc post (pre ++ (s ∷ [])) (e ∙ sym (append_assoc pre (s ∷ []) post)))
 
   agrees : (s : Seq F) (f : Flat F) (a : State F) → Same p l f a → Agrees p s a → AgreesFlat p l s f
   agrees (Going t o) f a h g = (
@@ -73,20 +74,10 @@ module _ {F : Type 0} (p : Plan F) (w : Lawful p) (l : Layout F) (q : Fits p l) 
   agrees (Stopped x t o) f a h g = (h.stop ∙ g.0, h.output ∙ g.1)
 
   -- from the run on cells
-  from_cells : (order : Order) (f : Flat F) → StartsFlat p l f → (steps : List Step) → Accepted (by_place p l) order steps → Agrees p (sequential p) (machine p (map (to_element l) steps)) → AgreesFlat p l (sequential p) (flat_from p l steps f)
-  from_cells order f start steps acc cells =
-      agrees (sequential p) (flat_from p l steps f) (machine p (map (to_element l) steps)) (from_same steps f (start_state p) (start_same f start) (planned order steps acc steps [] refl)) cells
+  from_cells : (f : Flat F) → StartsFlat p l f → (steps : List Step) → Accepted (by_place p l) steps → Agrees p (sequential p.program) (machine p (map (to_element l) steps)) → AgreesFlat p l (sequential p.program) (flat_from p l steps f)
+  from_cells f start steps acc cells =
+      agrees (sequential p.program) (flat_from p l steps f) (machine p (map (to_element l) steps)) (from_same steps f (start_state p) (start_same f start) (planned steps acc steps [] refl)) cells
 
--- under all rules
-pub on_buffers : {F : Type 0} → ((p : Plan F) → Lawful p → Coloured p → (l : List Step) → Accepted (outline p) (by_colour (outline p)) l → Agrees p (sequential p) (machine p l))
-    → (p : Plan F) → Lawful p → Coloured p → (l : Layout F) → Fits p l → (f : Flat F) → StartsFlat p l f → (steps : List Step) → Accepted (by_place p l) (by_colour (by_place p l)) steps → AgreesFlat p l (sequential p) (flat_from p l steps f)
-on_buffers cells p w free l q f start steps acc =
-    from_cells p w l q (by_colour (by_place p l)) f start steps acc
-    (cells p w free (map (to_element l) steps) (accepted_elements p l q (by_colour (outline p)) (by_colour (by_place p l)) (by_colour_follows p l q) steps acc))
-
--- one element at a time
-pub on_buffers_at_once : {F : Type 0} → ((p : Plan F) → Lawful p → (l : List Step) → Accepted (outline p) any_order l → EndsAtOnce l → Agrees p (sequential p) (machine p l))
-    → (p : Plan F) → Lawful p → (l : Layout F) → Fits p l → (f : Flat F) → StartsFlat p l f → (steps : List Step) → Accepted (by_place p l) any_order steps → EndsAtOnce steps → AgreesFlat p l (sequential p) (flat_from p l steps f)
-on_buffers_at_once cells p w l q f start steps acc at_once =
-    from_cells p w l q any_order f start steps acc
-    (cells p w (map (to_element l) steps) (accepted_elements p l q any_order any_order (any_order_follows p l q) steps acc) (ends_at_once p l q steps at_once))
+pub on_buffers : {F : Type 0} → ((p : Setup F) → Lawful p → Coloured p → (l : List Step) → Accepted (outline p) l → Agrees p (sequential p.program) (machine p l))
+    → (p : Setup F) → Lawful p → Coloured p → (l : Layout F) → IsLayout p l → (f : Flat F) → StartsFlat p l f → (steps : List Step) → Accepted (by_place p l) steps → AgreesFlat p l (sequential p.program) (flat_from p l steps f)
+on_buffers cells p w free l q f start steps acc = from_cells p w l q f start steps acc (cells p w free (map (to_element l) steps) (accepted_elements p l q steps acc))

@@ -1,3 +1,4 @@
 pub mod Layout
 pub mod Flat
 pub mod Scatter
+pub mod Followed

@@ -7,15 +7,16 @@ use Rattle.reductions.specs.Reduction.{Reduction, Add, merged, unit_of}
 use Rattle.reductions.proofs.Laws.{commuting}
 use Rattle.kernel_model.specs.Numbers.{sum, difference}
 use Rattle.kernel_model.specs.Meaning.{Store, Target, target_at, read_arg, store_arg}
-use Rattle.kernel_model.specs.Obeys.{Read, Write, Rw, Reduces, Mode, Assigned, HasAssigned, with_assigned}
+use Rattle.reductions.specs.Access.{OpRead, OpWrite, OpRw, OpReduce}
+use Rattle.kernel_model.specs.Obeys.{Mode, Assigned, HasAssigned, with_assigned}
 use Rattle.kernel_model.specs.Independence.{same_cell, access, dim, SameAliases, Alone, OnlyReduced, IsReducing}
 use Rattle.kernel_model.proofs.Stores.{read_arg-store_arg, length-with_cell, length-array_with_cell, read-same_cell, same_cell_refl}
 
 -- a component that is equal in both runs
 pub data Known (modes : List Mode) (before : Assigned) (a i : ℕ) : Type 0 where
-  known_read : access modes a ≡ Read → Known modes before a i
-  known_rw : access modes a ≡ Rw → Known modes before a i
-  known_write : access modes a ≡ Write → HasAssigned before a i → Known modes before a i
+  known_read : access modes a ≡ OpRead → Known modes before a i
+  known_rw : access modes a ≡ OpRw → Known modes before a i
+  known_write : access modes a ≡ OpWrite → HasAssigned before a i → Known modes before a i
 
 -- ---- amounts
 
@@ -99,13 +100,13 @@ module _ (modes : List Mode) (ts us : List Target) (aliases : SameAliases modes 
       let same : same_cell ts a i b j ≡ true = subst (λ c. same_cell ts a i c j ≡ true) h.0 (subst (λ c. same_cell ts a i a c ≡ true) (sym ni ∙ h.1) (same_cell_refl ts a i)) in
       absurd (let k : ⊥ = cc in k)
 
-  not_assigned_inc : (before : Assigned) (a b j : ℕ) (ix : Option ℤ) → IsReducing modes (access modes a) → access modes b ≡ Write → HasAssigned (with_assigned a ix before) b j → HasAssigned before b j
+  not_assigned_inc : (before : Assigned) (a b j : ℕ) (ix : Option ℤ) → IsReducing modes (access modes a) → access modes b ≡ OpWrite → HasAssigned (with_assigned a ix before) b j → HasAssigned before b j
   not_assigned_inc before a b j None e f h = h
   not_assigned_inc before a b j (Some (negsuc n)) e f h = h
   not_assigned_inc before a b j (Some (pos n)) e f (inr h) = h
   not_assigned_inc before a b j (Some (pos n)) e f (inl h) =
-      let g : access modes a ≡ Write = ap (access modes) h.0 ∙ f in
-      let h : IsReducing modes Write = subst (IsReducing modes) g e in absurd (let k = h.1 in let z : ⊥ = cc in z)
+      let g : access modes a ≡ OpWrite = ap (access modes) h.0 ∙ f in
+      let h : IsReducing modes OpWrite = subst (IsReducing modes) g e in absurd (let k = h.1 in let z : ⊥ = cc in z)
 
   still_known : (before : Assigned) (a i b j : ℕ) (ix : Option ℤ) → ((z : ℤ) → ix ≡ Some z → z ≡ pos i) → same_cell ts a i b j ≡ false → Known modes (with_assigned a ix before) b j → Known modes before b j
   still_known before a i b j ix hz e (known_read f) = known_read f
@@ -146,7 +147,7 @@ module _ (modes : List Mode) (ts us : List Target) (aliases : SameAliases modes 
           pick false e = st.there_s b j l e ∙ ag.mixed b j l only same ∙ sym (st.there_t b j l e)
 
   -- one amount is merged in both runs through a reducing argument
-  pub sum_stored : (r0 : Reduction) (before : Assigned) (a i : ℕ) (ix : Option ℤ) (s t : Store) (f : ℤ → ℤ) (g : ℤ → ℤ) → ((x d : ℤ) → f (merged r0 x d) ≡ merged r0 x (g d)) → i < dim modes a → access modes a ≡ Reduces r0 → Agrees before s t → Agrees (with_assigned a ix before) (store_arg ts s a i (f (read_arg ts s a i))) (store_arg us t a i (f (read_arg us t a i)))
+  pub sum_stored : (r0 : Reduction) (before : Assigned) (a i : ℕ) (ix : Option ℤ) (s t : Store) (f : ℤ → ℤ) (g : ℤ → ℤ) → ((x d : ℤ) → f (merged r0 x d) ≡ merged r0 x (g d)) → i < dim modes a → access modes a ≡ OpReduce r0 → Agrees before s t → Agrees (with_assigned a ix before) (store_arg ts s a i (f (read_arg ts s a i))) (store_arg us t a i (f (read_arg us t a i)))
   sum_stored r0 before a i ix s t f g fg lt inc ag = reshaped before a i lt s t ag x y (with_assigned a ix before) eqs sums mixes
     where
       x : ℤ
@@ -184,7 +185,7 @@ module _ (modes : List Mode) (ts us : List Target) (aliases : SameAliases modes 
           pick true e =
               let p = read-same_cell ts s a i b j e in
               let q = read-same_cell us t a i b j (sym (aliases a i b j lt l) ∙ e) in
-              let both : Reduces r0 ≡ Reduces r = sym inc ∙ alone a i lt e in
+              let both : OpReduce r0 ≡ OpReduce r = sym inc ∙ alone a i lt e in
               let eq : r0 ≡ r = cc in
               let m0 = subst (λ k. Amount k s t b j) (sym eq) m in
               let new : Amount r0 (store_arg ts s a i x) (store_arg us t a i y) b j = (g m0.0, st.here_s b j l e ∙ ap f (p ∙ m0.1) ∙ fg (read_arg ts s0 b j) m0.0, st.here_t b j l e ∙ ap f (q ∙ m0.2) ∙ fg (read_arg us t0 b j) m0.0) in

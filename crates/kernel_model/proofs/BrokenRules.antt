@@ -4,7 +4,8 @@ use Rattle.std.specs.Prelude.{nat_eq}
 use Rattle.std.proofs.lemmas.Bool.{eqb-true, eq-eqb, cases_lt}
 use Rattle.c_tree.specs.declared.expressions.MinMax.TheVariants as min_max
 use Rattle.reductions.specs.Reduction.{Reduction, Add, Min, Max}
-use Rattle.kernel_model.specs.Obeys.{Access, Read, Write, Rw, Reduces, Event, Reads, Assigns, Adds, Changes, Owns, Merges, Assigned, HasAssigned, InDim, IsComponent, MayRead, MayAssign, MayChange, MayAdd, MayOwn, MayMerge}
+use Rattle.reductions.specs.Access.{Access, OpRead, OpWrite, OpRw, OpReduce}
+use Rattle.kernel_model.specs.Obeys.{Event, Reads, Assigns, Adds, Changes, Owns, Merges, Assigned, HasAssigned, InDim, IsComponent, MayRead, MayAssign, MayChange, MayAdd, MayOwn, MayMerge}
 use Rattle.kernel_model.specs.Refusals.{Rule, WritesRead, ReadsReduced, NotSum, ReadsUnwritten, NotAllWritten, IndexNotStatic, IndexOut, NotExtremum, IsOut, IsUnwritten, argument_of, index_of, is_target, is_sum, is_extremum, is_read, Breaks}
 
 -- what is allowed under one access
@@ -80,59 +81,59 @@ never' : {A : Type 0} → true ≡ false → A
 never' t = absurd (let f : ⊥ = cc in f)
 
 read_in : (acc : Access) (dim a : ℕ) (ix : Option ℤ) (before : Assigned) → MayRead acc dim a ix before → InDim dim ix
-read_in Read dim a ix before h = h
-read_in Rw dim a ix before h = h
-read_in Write dim a ix before h = component_in dim ix (λ i. HasAssigned before a i) h
-read_in (Reduces r) dim a ix before h = absurd h
+read_in OpRead dim a ix before h = h
+read_in OpRw dim a ix before h = h
+read_in OpWrite dim a ix before h = component_in dim ix (λ i. HasAssigned before a i) h
+read_in (OpReduce r) dim a ix before h = absurd h
 
 assign_in : (acc : Access) (dim a : ℕ) (ix : Option ℤ) (before : Assigned) → MayAssign acc dim a ix before → InDim dim ix
-assign_in Read dim a ix before h = absurd h
-assign_in Rw dim a ix before h = h
-assign_in Write dim a ix before h = component_in dim ix (λ i. Unit {0}) h
-assign_in (Reduces r) dim a ix before h = absurd h
+assign_in OpRead dim a ix before h = absurd h
+assign_in OpRw dim a ix before h = h
+assign_in OpWrite dim a ix before h = component_in dim ix (λ i. Unit {0}) h
+assign_in (OpReduce r) dim a ix before h = absurd h
 
 change_in : (acc : Access) (dim a : ℕ) (ix : Option ℤ) (before : Assigned) → MayChange acc dim a ix before → InDim dim ix
-change_in Read dim a ix before h = absurd h
-change_in Rw dim a ix before h = h
-change_in Write dim a ix before h = component_in dim ix (λ i. HasAssigned before a i) h
-change_in (Reduces r) dim a ix before h = absurd h
+change_in OpRead dim a ix before h = absurd h
+change_in OpRw dim a ix before h = h
+change_in OpWrite dim a ix before h = component_in dim ix (λ i. HasAssigned before a i) h
+change_in (OpReduce r) dim a ix before h = absurd h
 
 fits_in : (acc : Access) (dim : ℕ) (before : Assigned) (e : Event) → Fits acc dim before e → InDim dim (index_of e)
 fits_in acc dim before (Reads a ix at) h = read_in acc dim a ix before h
 fits_in acc dim before (Assigns a ix at) h = assign_in acc dim a ix before h
 fits_in acc dim before (Changes a ix at) h = change_in acc dim a ix before h
-fits_in (Reduces Add) dim before (Adds a ix at) h = h
-fits_in (Reduces Min) dim before (Adds a ix at) h = absurd h
-fits_in (Reduces Max) dim before (Adds a ix at) h = absurd h
-fits_in Read dim before (Adds a ix at) h = absurd h
-fits_in Rw dim before (Adds a ix at) h = h
-fits_in Write dim before (Adds a ix at) h = change_in Write dim a ix before h
-fits_in (Reduces Min) dim before (Owns min_max.Min a ix at) h = h
-fits_in (Reduces Max) dim before (Owns min_max.Max a ix at) h = h
-fits_in (Reduces Add) dim before (Owns min_max.Min a ix at) h = absurd h
-fits_in (Reduces Add) dim before (Owns min_max.Max a ix at) h = absurd h
-fits_in (Reduces Max) dim before (Owns min_max.Min a ix at) h = absurd h
-fits_in (Reduces Min) dim before (Owns min_max.Max a ix at) h = absurd h
-fits_in Read dim before (Owns min_max.Min a ix at) h = h
-fits_in Read dim before (Owns min_max.Max a ix at) h = h
-fits_in Rw dim before (Owns min_max.Min a ix at) h = h
-fits_in Rw dim before (Owns min_max.Max a ix at) h = h
-fits_in Write dim before (Owns min_max.Min a ix at) h = read_in Write dim a ix before h
-fits_in Write dim before (Owns min_max.Max a ix at) h = read_in Write dim a ix before h
-fits_in (Reduces Min) dim before (Merges min_max.Min a ix at) h = h
-fits_in (Reduces Max) dim before (Merges min_max.Max a ix at) h = h
-fits_in (Reduces Add) dim before (Merges min_max.Min a ix at) h = absurd h
-fits_in (Reduces Add) dim before (Merges min_max.Max a ix at) h = absurd h
-fits_in (Reduces Max) dim before (Merges min_max.Min a ix at) h = absurd h
-fits_in (Reduces Min) dim before (Merges min_max.Max a ix at) h = absurd h
-fits_in Read dim before (Merges min_max.Min a ix at) h = absurd h
-fits_in Read dim before (Merges min_max.Max a ix at) h = absurd h
-fits_in Rw dim before (Merges min_max.Min a ix at) h = h
-fits_in Rw dim before (Merges min_max.Max a ix at) h = h
-fits_in Write dim before (Merges min_max.Min a ix at) h = assign_in Write dim a ix before h
-fits_in Write dim before (Merges min_max.Max a ix at) h = assign_in Write dim a ix before h
+fits_in (OpReduce Add) dim before (Adds a ix at) h = h
+fits_in (OpReduce Min) dim before (Adds a ix at) h = absurd h
+fits_in (OpReduce Max) dim before (Adds a ix at) h = absurd h
+fits_in OpRead dim before (Adds a ix at) h = absurd h
+fits_in OpRw dim before (Adds a ix at) h = h
+fits_in OpWrite dim before (Adds a ix at) h = change_in OpWrite dim a ix before h
+fits_in (OpReduce Min) dim before (Owns min_max.Min a ix at) h = h
+fits_in (OpReduce Max) dim before (Owns min_max.Max a ix at) h = h
+fits_in (OpReduce Add) dim before (Owns min_max.Min a ix at) h = absurd h
+fits_in (OpReduce Add) dim before (Owns min_max.Max a ix at) h = absurd h
+fits_in (OpReduce Max) dim before (Owns min_max.Min a ix at) h = absurd h
+fits_in (OpReduce Min) dim before (Owns min_max.Max a ix at) h = absurd h
+fits_in OpRead dim before (Owns min_max.Min a ix at) h = h
+fits_in OpRead dim before (Owns min_max.Max a ix at) h = h
+fits_in OpRw dim before (Owns min_max.Min a ix at) h = h
+fits_in OpRw dim before (Owns min_max.Max a ix at) h = h
+fits_in OpWrite dim before (Owns min_max.Min a ix at) h = read_in OpWrite dim a ix before h
+fits_in OpWrite dim before (Owns min_max.Max a ix at) h = read_in OpWrite dim a ix before h
+fits_in (OpReduce Min) dim before (Merges min_max.Min a ix at) h = h
+fits_in (OpReduce Max) dim before (Merges min_max.Max a ix at) h = h
+fits_in (OpReduce Add) dim before (Merges min_max.Min a ix at) h = absurd h
+fits_in (OpReduce Add) dim before (Merges min_max.Max a ix at) h = absurd h
+fits_in (OpReduce Max) dim before (Merges min_max.Min a ix at) h = absurd h
+fits_in (OpReduce Min) dim before (Merges min_max.Max a ix at) h = absurd h
+fits_in OpRead dim before (Merges min_max.Min a ix at) h = absurd h
+fits_in OpRead dim before (Merges min_max.Max a ix at) h = absurd h
+fits_in OpRw dim before (Merges min_max.Min a ix at) h = h
+fits_in OpRw dim before (Merges min_max.Max a ix at) h = h
+fits_in OpWrite dim before (Merges min_max.Min a ix at) h = assign_in OpWrite dim a ix before h
+fits_in OpWrite dim before (Merges min_max.Max a ix at) h = assign_in OpWrite dim a ix before h
 
-no_target_read : (dim : ℕ) (before : Assigned) (e : Event) → Fits Read dim before e → is_target e ≡ true → ⊥
+no_target_read : (dim : ℕ) (before : Assigned) (e : Event) → Fits OpRead dim before e → is_target e ≡ true → ⊥
 no_target_read dim before (Reads a ix at) h t = never t
 no_target_read dim before (Assigns a ix at) h t = h
 no_target_read dim before (Adds a ix at) h t = h
@@ -141,7 +142,7 @@ no_target_read dim before (Owns which a ix at) h t = never t
 no_target_read dim before (Merges min_max.Min a ix at) h t = h
 no_target_read dim before (Merges min_max.Max a ix at) h t = h
 
-no_reduced_read : (r : Reduction) (dim : ℕ) (before : Assigned) (e : Event) → Fits (Reduces r) dim before e → is_read (Reduces r) e ≡ true → ⊥
+no_reduced_read : (r : Reduction) (dim : ℕ) (before : Assigned) (e : Event) → Fits (OpReduce r) dim before e → is_read (OpReduce r) e ≡ true → ⊥
 no_reduced_read r dim before (Reads a ix at) h t = h
 no_reduced_read r dim before (Assigns a ix at) h t = h
 no_reduced_read Add dim before (Adds a ix at) h t = never t
@@ -156,7 +157,7 @@ no_reduced_read Max dim before (Owns min_max.Min a ix at) h t = h
 no_reduced_read Max dim before (Owns min_max.Max a ix at) h t = never t
 no_reduced_read r dim before (Merges which a ix at) h t = never t
 
-only_sums : (dim : ℕ) (before : Assigned) (e : Event) → Fits (Reduces Add) dim before e → is_target e ≡ true → is_sum e ≡ false → ⊥
+only_sums : (dim : ℕ) (before : Assigned) (e : Event) → Fits (OpReduce Add) dim before e → is_target e ≡ true → is_sum e ≡ false → ⊥
 only_sums dim before (Reads a ix at) h t s = h
 only_sums dim before (Assigns a ix at) h t s = h
 only_sums dim before (Adds a ix at) h t s = never' s
@@ -165,7 +166,7 @@ only_sums dim before (Owns which a ix at) h t s = never t
 only_sums dim before (Merges min_max.Min a ix at) h t s = h
 only_sums dim before (Merges min_max.Max a ix at) h t s = h
 
-only_written : (dim : ℕ) (before : Assigned) (e : Event) → Fits Write dim before e → is_read Write e ≡ true → IsUnwritten dim (argument_of e) (index_of e) before → ⊥
+only_written : (dim : ℕ) (before : Assigned) (e : Event) → Fits OpWrite dim before e → is_read OpWrite e ≡ true → IsUnwritten dim (argument_of e) (index_of e) before → ⊥
 only_written dim before (Reads a ix at) h t u = component_written dim a ix before h u
 only_written dim before (Assigns a ix at) h t u = never t
 only_written dim before (Adds a ix at) h t u = component_written dim a ix before h u
@@ -174,7 +175,7 @@ only_written dim before (Owns min_max.Min a ix at) h t u = component_written dim
 only_written dim before (Owns min_max.Max a ix at) h t u = component_written dim a ix before h u
 only_written dim before (Merges which a ix at) h t u = never t
 
-only_static : (dim : ℕ) (before : Assigned) (e : Event) → Fits Write dim before e → index_of e ≡ None → ⊥
+only_static : (dim : ℕ) (before : Assigned) (e : Event) → Fits OpWrite dim before e → index_of e ≡ None → ⊥
 only_static dim before (Reads a ix at) h n = component_static dim ix (λ i. HasAssigned before a i) h n
 only_static dim before (Assigns a ix at) h n = component_static dim ix (λ i. Unit {0}) h n
 only_static dim before (Adds a ix at) h n = component_static dim ix (λ i. HasAssigned before a i) h n
@@ -184,7 +185,7 @@ only_static dim before (Owns min_max.Max a ix at) h n = component_static dim ix 
 only_static dim before (Merges min_max.Min a ix at) h n = component_static dim ix (λ i. Unit {0}) h n
 only_static dim before (Merges min_max.Max a ix at) h n = component_static dim ix (λ i. Unit {0}) h n
 
-only_minima : (dim : ℕ) (before : Assigned) (e : Event) → Fits (Reduces Min) dim before e → is_target e ≡ true → is_extremum (Reduces Min) e ≡ false → ⊥
+only_minima : (dim : ℕ) (before : Assigned) (e : Event) → Fits (OpReduce Min) dim before e → is_target e ≡ true → is_extremum (OpReduce Min) e ≡ false → ⊥
 only_minima dim before (Reads a ix at) h t s = h
 only_minima dim before (Assigns a ix at) h t s = h
 only_minima dim before (Adds a ix at) h t s = h
@@ -193,7 +194,7 @@ only_minima dim before (Owns which a ix at) h t s = never t
 only_minima dim before (Merges min_max.Min a ix at) h t s = never' s
 only_minima dim before (Merges min_max.Max a ix at) h t s = h
 
-only_maxima : (dim : ℕ) (before : Assigned) (e : Event) → Fits (Reduces Max) dim before e → is_target e ≡ true → is_extremum (Reduces Max) e ≡ false → ⊥
+only_maxima : (dim : ℕ) (before : Assigned) (e : Event) → Fits (OpReduce Max) dim before e → is_target e ≡ true → is_extremum (OpReduce Max) e ≡ false → ⊥
 only_maxima dim before (Reads a ix at) h t s = h
 only_maxima dim before (Assigns a ix at) h t s = h
 only_maxima dim before (Adds a ix at) h t s = h
@@ -223,57 +224,57 @@ FitsOr acc dim before e = Fits acc dim before e ⊎ ((rule : Rule) × Breaks acc
 in_dim : (acc : Access) (dim : ℕ) (before : Assigned) (e : Event) → (InDim dim (index_of e) → Fits acc dim before e) → FitsOr acc dim before e
 in_dim acc dim before e f = ⊎_elim (λ h. inl (f h)) (λ o. inr (IndexOut, o)) (in_or_out dim (index_of e))
 
-bad_index : (dim : ℕ) (before : Assigned) (e : Event) → BadIndex dim (index_of e) → (rule : Rule) × Breaks Write dim before e rule
+bad_index : (dim : ℕ) (before : Assigned) (e : Event) → BadIndex dim (index_of e) → (rule : Rule) × Breaks OpWrite dim before e rule
 bad_index dim before e b = ⊎_elim (λ n. (IndexNotStatic, (refl, n))) (λ o. (IndexOut, o)) b
 
-written : (dim : ℕ) (before : Assigned) (e : Event) → is_read Write e ≡ true → (IsComponent dim (index_of e) (λ i. HasAssigned before (argument_of e) i) → Fits Write dim before e) → FitsOr Write dim before e
+written : (dim : ℕ) (before : Assigned) (e : Event) → is_read OpWrite e ≡ true → (IsComponent dim (index_of e) (λ i. HasAssigned before (argument_of e) i) → Fits OpWrite dim before e) → FitsOr OpWrite dim before e
 written dim before e r f =
     ⊎_elim (λ h. inl (f h)) (λ k. inr (⊎_elim (bad_index dim before e) (λ u. (ReadsUnwritten, (refl, r, u))) k)) (written_or dim (argument_of e) (index_of e) before)
 
-component : (dim : ℕ) (before : Assigned) (e : Event) → (IsComponent dim (index_of e) (λ i. Unit {0}) → Fits Write dim before e) → FitsOr Write dim before e
+component : (dim : ℕ) (before : Assigned) (e : Event) → (IsComponent dim (index_of e) (λ i. Unit {0}) → Fits OpWrite dim before e) → FitsOr OpWrite dim before e
 component dim before e f = ⊎_elim (λ h. inl (f h)) (λ b. inr (bad_index dim before e b)) (component_or dim (index_of e))
 
 pub fits_or : (acc : Access) (dim : ℕ) (before : Assigned) (e : Event) → FitsOr acc dim before e
-fits_or Read dim before (Reads a ix at) = in_dim Read dim before (Reads a ix at) (λ h. h)
-fits_or Read dim before (Assigns a ix at) = inr (WritesRead, (refl, refl))
-fits_or Read dim before (Adds a ix at) = inr (WritesRead, (refl, refl))
-fits_or Read dim before (Changes a ix at) = inr (WritesRead, (refl, refl))
-fits_or Read dim before (Owns min_max.Min a ix at) = in_dim Read dim before (Owns min_max.Min a ix at) (λ h. h)
-fits_or Read dim before (Owns min_max.Max a ix at) = in_dim Read dim before (Owns min_max.Max a ix at) (λ h. h)
-fits_or Read dim before (Merges which a ix at) = inr (WritesRead, (refl, refl))
-fits_or Rw dim before (Reads a ix at) = in_dim Rw dim before (Reads a ix at) (λ h. h)
-fits_or Rw dim before (Assigns a ix at) = in_dim Rw dim before (Assigns a ix at) (λ h. h)
-fits_or Rw dim before (Adds a ix at) = in_dim Rw dim before (Adds a ix at) (λ h. h)
-fits_or Rw dim before (Changes a ix at) = in_dim Rw dim before (Changes a ix at) (λ h. h)
-fits_or Rw dim before (Owns min_max.Min a ix at) = in_dim Rw dim before (Owns min_max.Min a ix at) (λ h. h)
-fits_or Rw dim before (Owns min_max.Max a ix at) = in_dim Rw dim before (Owns min_max.Max a ix at) (λ h. h)
-fits_or Rw dim before (Merges min_max.Min a ix at) = in_dim Rw dim before (Merges min_max.Min a ix at) (λ h. h)
-fits_or Rw dim before (Merges min_max.Max a ix at) = in_dim Rw dim before (Merges min_max.Max a ix at) (λ h. h)
-fits_or Write dim before (Reads a ix at) = written dim before (Reads a ix at) refl (λ h. h)
-fits_or Write dim before (Assigns a ix at) = component dim before (Assigns a ix at) (λ h. h)
-fits_or Write dim before (Adds a ix at) = written dim before (Adds a ix at) refl (λ h. h)
-fits_or Write dim before (Changes a ix at) = written dim before (Changes a ix at) refl (λ h. h)
-fits_or Write dim before (Owns min_max.Min a ix at) = written dim before (Owns min_max.Min a ix at) refl (λ h. h)
-fits_or Write dim before (Owns min_max.Max a ix at) = written dim before (Owns min_max.Max a ix at) refl (λ h. h)
-fits_or Write dim before (Merges min_max.Min a ix at) = component dim before (Merges min_max.Min a ix at) (λ h. h)
-fits_or Write dim before (Merges min_max.Max a ix at) = component dim before (Merges min_max.Max a ix at) (λ h. h)
-fits_or (Reduces r) dim before (Reads a ix at) = inr (ReadsReduced, ((r, refl), refl))
-fits_or (Reduces r) dim before (Changes a ix at) = inr (ReadsReduced, ((r, refl), refl))
-fits_or (Reduces Add) dim before (Assigns a ix at) = inr (NotSum, (refl, refl, refl))
-fits_or (Reduces Min) dim before (Assigns a ix at) = inr (NotExtremum, (inl refl, refl, refl))
-fits_or (Reduces Max) dim before (Assigns a ix at) = inr (NotExtremum, (inr refl, refl, refl))
-fits_or (Reduces Add) dim before (Adds a ix at) = in_dim (Reduces Add) dim before (Adds a ix at) (λ h. h)
-fits_or (Reduces Min) dim before (Adds a ix at) = inr (ReadsReduced, ((Min, refl), refl))
-fits_or (Reduces Max) dim before (Adds a ix at) = inr (ReadsReduced, ((Max, refl), refl))
-fits_or (Reduces Add) dim before (Owns min_max.Min a ix at) = inr (ReadsReduced, ((Add, refl), refl))
-fits_or (Reduces Add) dim before (Owns min_max.Max a ix at) = inr (ReadsReduced, ((Add, refl), refl))
-fits_or (Reduces Min) dim before (Owns min_max.Min a ix at) = in_dim (Reduces Min) dim before (Owns min_max.Min a ix at) (λ h. h)
-fits_or (Reduces Min) dim before (Owns min_max.Max a ix at) = inr (ReadsReduced, ((Min, refl), refl))
-fits_or (Reduces Max) dim before (Owns min_max.Min a ix at) = inr (ReadsReduced, ((Max, refl), refl))
-fits_or (Reduces Max) dim before (Owns min_max.Max a ix at) = in_dim (Reduces Max) dim before (Owns min_max.Max a ix at) (λ h. h)
-fits_or (Reduces Add) dim before (Merges min_max.Min a ix at) = inr (NotSum, (refl, refl, refl))
-fits_or (Reduces Add) dim before (Merges min_max.Max a ix at) = inr (NotSum, (refl, refl, refl))
-fits_or (Reduces Min) dim before (Merges min_max.Min a ix at) = in_dim (Reduces Min) dim before (Merges min_max.Min a ix at) (λ h. h)
-fits_or (Reduces Min) dim before (Merges min_max.Max a ix at) = inr (NotExtremum, (inl refl, refl, refl))
-fits_or (Reduces Max) dim before (Merges min_max.Min a ix at) = inr (NotExtremum, (inr refl, refl, refl))
-fits_or (Reduces Max) dim before (Merges min_max.Max a ix at) = in_dim (Reduces Max) dim before (Merges min_max.Max a ix at) (λ h. h)
+fits_or OpRead dim before (Reads a ix at) = in_dim OpRead dim before (Reads a ix at) (λ h. h)
+fits_or OpRead dim before (Assigns a ix at) = inr (WritesRead, (refl, refl))
+fits_or OpRead dim before (Adds a ix at) = inr (WritesRead, (refl, refl))
+fits_or OpRead dim before (Changes a ix at) = inr (WritesRead, (refl, refl))
+fits_or OpRead dim before (Owns min_max.Min a ix at) = in_dim OpRead dim before (Owns min_max.Min a ix at) (λ h. h)
+fits_or OpRead dim before (Owns min_max.Max a ix at) = in_dim OpRead dim before (Owns min_max.Max a ix at) (λ h. h)
+fits_or OpRead dim before (Merges which a ix at) = inr (WritesRead, (refl, refl))
+fits_or OpRw dim before (Reads a ix at) = in_dim OpRw dim before (Reads a ix at) (λ h. h)
+fits_or OpRw dim before (Assigns a ix at) = in_dim OpRw dim before (Assigns a ix at) (λ h. h)
+fits_or OpRw dim before (Adds a ix at) = in_dim OpRw dim before (Adds a ix at) (λ h. h)
+fits_or OpRw dim before (Changes a ix at) = in_dim OpRw dim before (Changes a ix at) (λ h. h)
+fits_or OpRw dim before (Owns min_max.Min a ix at) = in_dim OpRw dim before (Owns min_max.Min a ix at) (λ h. h)
+fits_or OpRw dim before (Owns min_max.Max a ix at) = in_dim OpRw dim before (Owns min_max.Max a ix at) (λ h. h)
+fits_or OpRw dim before (Merges min_max.Min a ix at) = in_dim OpRw dim before (Merges min_max.Min a ix at) (λ h. h)
+fits_or OpRw dim before (Merges min_max.Max a ix at) = in_dim OpRw dim before (Merges min_max.Max a ix at) (λ h. h)
+fits_or OpWrite dim before (Reads a ix at) = written dim before (Reads a ix at) refl (λ h. h)
+fits_or OpWrite dim before (Assigns a ix at) = component dim before (Assigns a ix at) (λ h. h)
+fits_or OpWrite dim before (Adds a ix at) = written dim before (Adds a ix at) refl (λ h. h)
+fits_or OpWrite dim before (Changes a ix at) = written dim before (Changes a ix at) refl (λ h. h)
+fits_or OpWrite dim before (Owns min_max.Min a ix at) = written dim before (Owns min_max.Min a ix at) refl (λ h. h)
+fits_or OpWrite dim before (Owns min_max.Max a ix at) = written dim before (Owns min_max.Max a ix at) refl (λ h. h)
+fits_or OpWrite dim before (Merges min_max.Min a ix at) = component dim before (Merges min_max.Min a ix at) (λ h. h)
+fits_or OpWrite dim before (Merges min_max.Max a ix at) = component dim before (Merges min_max.Max a ix at) (λ h. h)
+fits_or (OpReduce r) dim before (Reads a ix at) = inr (ReadsReduced, ((r, refl), refl))
+fits_or (OpReduce r) dim before (Changes a ix at) = inr (ReadsReduced, ((r, refl), refl))
+fits_or (OpReduce Add) dim before (Assigns a ix at) = inr (NotSum, (refl, refl, refl))
+fits_or (OpReduce Min) dim before (Assigns a ix at) = inr (NotExtremum, (inl refl, refl, refl))
+fits_or (OpReduce Max) dim before (Assigns a ix at) = inr (NotExtremum, (inr refl, refl, refl))
+fits_or (OpReduce Add) dim before (Adds a ix at) = in_dim (OpReduce Add) dim before (Adds a ix at) (λ h. h)
+fits_or (OpReduce Min) dim before (Adds a ix at) = inr (ReadsReduced, ((Min, refl), refl))
+fits_or (OpReduce Max) dim before (Adds a ix at) = inr (ReadsReduced, ((Max, refl), refl))
+fits_or (OpReduce Add) dim before (Owns min_max.Min a ix at) = inr (ReadsReduced, ((Add, refl), refl))
+fits_or (OpReduce Add) dim before (Owns min_max.Max a ix at) = inr (ReadsReduced, ((Add, refl), refl))
+fits_or (OpReduce Min) dim before (Owns min_max.Min a ix at) = in_dim (OpReduce Min) dim before (Owns min_max.Min a ix at) (λ h. h)
+fits_or (OpReduce Min) dim before (Owns min_max.Max a ix at) = inr (ReadsReduced, ((Min, refl), refl))
+fits_or (OpReduce Max) dim before (Owns min_max.Min a ix at) = inr (ReadsReduced, ((Max, refl), refl))
+fits_or (OpReduce Max) dim before (Owns min_max.Max a ix at) = in_dim (OpReduce Max) dim before (Owns min_max.Max a ix at) (λ h. h)
+fits_or (OpReduce Add) dim before (Merges min_max.Min a ix at) = inr (NotSum, (refl, refl, refl))
+fits_or (OpReduce Add) dim before (Merges min_max.Max a ix at) = inr (NotSum, (refl, refl, refl))
+fits_or (OpReduce Min) dim before (Merges min_max.Min a ix at) = in_dim (OpReduce Min) dim before (Merges min_max.Min a ix at) (λ h. h)
+fits_or (OpReduce Min) dim before (Merges min_max.Max a ix at) = inr (NotExtremum, (inl refl, refl, refl))
+fits_or (OpReduce Max) dim before (Merges min_max.Min a ix at) = inr (NotExtremum, (inr refl, refl, refl))
+fits_or (OpReduce Max) dim before (Merges min_max.Max a ix at) = in_dim (OpReduce Max) dim before (Merges min_max.Max a ix at) (λ h. h)

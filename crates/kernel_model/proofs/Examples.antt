@@ -13,7 +13,8 @@ use Rattle.kernel_types.specs.declared.expressions.RExpr.TheVariants.{Number, Sc
 use Rattle.kernel_types.specs.declared.statements.RStmt.{Declare, SetArg, If', For', end_of-RStmt, more_of-RStmt}
 use Rattle.kernel_model.specs.Numbers.{fault, sum, difference}
 use Rattle.kernel_model.specs.Meaning.{Target, Done, Faulted, meaning, meaning_of_all}
-use Rattle.kernel_model.specs.Obeys.{Read, Write, Reduces, Mode, mode_at, Obeys, Reads, Adds, Owns, Merges}
+use Rattle.reductions.specs.Access.{OpRead, OpWrite, OpReduce}
+use Rattle.kernel_model.specs.Obeys.{Mode, mode_at, Obeys, Reads, Adds, Owns, Merges}
 use Rattle.kernel_model.specs.Refusals.{ReadsReduced, NotAllWritten, NotExtremum, EventBreaks, EndBreaks}
 
 abbrev here : Pos
@@ -61,21 +62,21 @@ stops_past_the_end p = refl
 
 abbrev NoneWrites : List Mode → Type 0
 NoneWrites [] = Unit {0}
-NoneWrites (m ∷ ms) = (m.access ≡ Write → ⊥) × NoneWrites ms
+NoneWrites (m ∷ ms) = (m.access ≡ OpWrite → ⊥) × NoneWrites ms
 
 abbrev least_mode : Mode
-least_mode = record { access = Reduces Min; dim = 1 }
+least_mode = record { access = OpReduce Min; dim = 1 }
 
 -- a[0] += a[0]; under OP_INC
-inc_is_read : (p : _) → Obeys (SetArg 0 form.Index n0 here assign.Add here (Arg' 0 form.Index p n0 here)) (record { access = Reduces Add; dim = 1 } ∷ []) → ⊥
+inc_is_read : (p : _) → Obeys (SetArg 0 form.Index n0 here assign.Add here (Arg' 0 form.Index p n0 here)) (record { access = OpReduce Add; dim = 1 } ∷ []) → ⊥
 inc_is_read p h = (h (tt, tt)).0.0
 
 -- if (1) a[0] = 2; under OP_WRITE
-on_one_branch : (p q : _) → Obeys (If' (Number (pos 1)) p (SetArg 0 form.Index n0 here assign.Set here (Number (pos 2))) q (Declare 0 0)) (record { access = Write; dim = 1 } ∷ []) → ⊥
+on_one_branch : (p q : _) → Obeys (If' (Number (pos 1)) p (SetArg 0 form.Index n0 here assign.Set here (Number (pos 2))) q (Declare 0 0)) (record { access = OpWrite; dim = 1 } ∷ []) → ⊥
 on_one_branch p q h = (h (tt, inr tt)).1 0 0 refl (omega arith)
 
 -- no argument is OP_WRITE
-none_written : (ms : List Mode) → NoneWrites ms → (a : ℕ) → (mode_at ms a).access ≡ Write → ⊥
+none_written : (ms : List Mode) → NoneWrites ms → (a : ℕ) → (mode_at ms a).access ≡ OpWrite → ⊥
 none_written [] h a e = let f : ⊥ = cc in f
 none_written (m ∷ ms) h zero e = h.0 e
 none_written (m ∷ ms) h (suc a) e = none_written ms h.1 a e
@@ -85,8 +86,8 @@ lowers : (p q r : _) → Obeys (SetArg 0 form.Index n0 here assign.Set here (Ext
 lowers p q r w = ((omega arith, (omega arith, tt)), λ a i e lt. absurd (none_written (least_mode ∷ []) ((λ f. cc), tt) a e))
 
 -- b[0] = MIN(w[0], b[0]); under OP_MIN, w under OP_READ
-lowers_from_the_second_side : (p q r : _) → Obeys (SetArg 0 form.Index n0 here assign.Set here (Extremum' min_max.Min p (Arg' 1 form.Index q n0 here) r (Arg' 0 form.Index q n0 here))) (least_mode ∷ record { access = Read; dim = 1 } ∷ [])
-lowers_from_the_second_side p q r w = ((omega arith, (omega arith, (omega arith, tt))), λ a i e lt. absurd (none_written (least_mode ∷ record { access = Read; dim = 1 } ∷ []) ((λ f. cc), ((λ f. cc), tt)) a e))
+lowers_from_the_second_side : (p q r : _) → Obeys (SetArg 0 form.Index n0 here assign.Set here (Extremum' min_max.Min p (Arg' 1 form.Index q n0 here) r (Arg' 0 form.Index q n0 here))) (least_mode ∷ record { access = OpRead; dim = 1 } ∷ [])
+lowers_from_the_second_side p q r w = ((omega arith, (omega arith, (omega arith, tt))), λ a i e lt. absurd (none_written (least_mode ∷ record { access = OpRead; dim = 1 } ∷ []) ((λ f. cc), ((λ f. cc), tt)) a e))
 
 -- a[0] = MAX(a[0], 3); under OP_MIN
 raises : (p q r : _) → Obeys (SetArg 0 form.Index n0 here assign.Set here (Extremum' min_max.Max p (Arg' 0 form.Index q n0 here) r (Number (pos 3)))) (least_mode ∷ []) → ⊥
@@ -103,11 +104,11 @@ in_other_tokens p q r h = (h (tt, (tt, tt))).0.0
 -- ---- which rules they break, and where
 
 -- a[0] += a[0]; under OP_INC: the second a is read
-breaks_where_it_is_read : (p : _) → EventBreaks (SetArg 0 form.Index n0 here assign.Add here (Arg' 0 form.Index p n0 there)) (record { access = Reduces Add; dim = 1 } ∷ []) ReadsReduced there
+breaks_where_it_is_read : (p : _) → EventBreaks (SetArg 0 form.Index n0 here assign.Add here (Arg' 0 form.Index p n0 there)) (record { access = OpReduce Add; dim = 1 } ∷ []) ReadsReduced there
 breaks_where_it_is_read p = ((tt, tt), [], Reads 0 (Some (pos 0)) there, Adds 0 (Some (pos 0)) here ∷ [], refl, refl, ((Add, refl), refl))
 
 -- if (1) a[0] = 2; under OP_WRITE: the path through the other branch assigns nothing
-breaks_at_the_parameter : (p q : _) → EndBreaks (If' (Number (pos 1)) p (SetArg 0 form.Index n0 here assign.Set here (Number (pos 2))) q (Declare 0 0)) (λ a. there) (record { access = Write; dim = 1 } ∷ []) NotAllWritten there
+breaks_at_the_parameter : (p q : _) → EndBreaks (If' (Number (pos 1)) p (SetArg 0 form.Index n0 here assign.Set here (Number (pos 2))) q (Declare 0 0)) (λ a. there) (record { access = OpWrite; dim = 1 } ∷ []) NotAllWritten there
 breaks_at_the_parameter p q = ((tt, inr tt), 0, 0, refl, refl, refl, omega arith, λ h. h)
 
 -- a[0] = MAX(a[0], 3); under OP_MIN: another form at the target, and a read inside it

@@ -8,7 +8,8 @@ use Rattle.kernel_types.specs.declared.statements.RStmt.{RStmt, Block', Declare,
 use Rattle.kernel_types.specs.Resolved.{StmtWithin, RowWithin, StoresOnly, RowStoresOnly, CountersKept, RowCountersKept}
 use Rattle.kernel_model.specs.Numbers.{is_zero}
 use Rattle.kernel_model.specs.Meaning.{Store, Target, target_at, read_arg, index_in, value_of, Outcome, Done, Faulted, stored, turns, meaning, meaning_of_all, without_locals}
-use Rattle.kernel_model.specs.Obeys.{Read, Write, Rw, Mode, Counters, no_counters, with_counter, Event, ExprPath, expr_events, EachTurn, Path, RowPath, turn_events, events, row_events, Assigned, AllAllowed, assigned_after, AllWritten}
+use Rattle.reductions.specs.Access.{OpRead, OpWrite, OpRw}
+use Rattle.kernel_model.specs.Obeys.{Mode, Counters, no_counters, with_counter, Event, ExprPath, expr_events, EachTurn, Path, RowPath, turn_events, events, row_events, Assigned, AllAllowed, assigned_after, AllWritten}
 use Rattle.kernel_model.specs.Independence.{access, dim, SameAliases, Alone, SameRuns, Independence}
 use Rattle.kernel_model.proofs.Paths.{some_expr_path, some_path, some_row_path, each_turn, allowed_front, allowed_back, assigned_after-append, expr_keeps, after_expr}
 use Rattle.kernel_model.proofs.Locals.{kept}
@@ -135,7 +136,7 @@ independence k modes consts ts us s t resolved obeys su tu aliases inputs =
         written : AllWritten modes h.0
         written = subst (λ b. AllWritten modes b) h.1.1 (obeys h.1.0).1
 
-        known_at : (a i : ℕ) → i < dim modes a → (access modes a ≡ Read) ⊎ (access modes a ≡ Rw) ⊎ (access modes a ≡ Write) → Known modes h.0 a i
+        known_at : (a i : ℕ) → i < dim modes a → (access modes a ≡ OpRead) ⊎ (access modes a ≡ OpRw) ⊎ (access modes a ≡ OpWrite) → Known modes h.0 a i
         known_at a i lt (inl e) = known_read e
         known_at a i lt (inr (inl e)) = known_rw e
         known_at a i lt (inr (inr e)) = known_write e (written a i e lt)

@@ -8,28 +8,29 @@ use Rattle.c_tree.specs.declared.declarations.AssignOp.TheVariants as assign
 use Rattle.kernel_types.specs.declared.statements.RStmt.{RStmt, Block', Declare, SetScalar, SetLocal, SetArg, If', For', Row_of-RStmt, end_of-RStmt, more_of-RStmt}
 use Rattle.kernel_model.specs.Numbers.{is_zero}
 use Rattle.kernel_model.specs.Meaning.{Store, Target, target_at, store_arg, value_of, stored, turns, meaning, meaning_of_all, read_arg}
-use Rattle.kernel_model.specs.Obeys.{Read, Mode, mode_at, Counters, no_counters, with_counter, static, Path, RowPath, EachTurn, own_side, right_events, store_event, Own, Neither, First, Second, target_event, turn_events, events, row_events, Assigned, MayAssign, MayAdd, MayChange, MayMerge, Allowed, AllAllowed, assigned_after}
+use Rattle.reductions.specs.Access.{OpRead}
+use Rattle.kernel_model.specs.Obeys.{Mode, mode_at, Counters, no_counters, with_counter, static, Path, RowPath, EachTurn, own_side, right_events, store_event, Own, Neither, First, Second, target_event, turn_events, events, row_events, Assigned, MayAssign, MayAdd, MayChange, MayMerge, Allowed, AllAllowed, assigned_after}
 use Rattle.kernel_model.specs.Independence.{ReadsStay}
 use Rattle.kernel_model.proofs.Paths.{some_expr_path, some_path, some_row_path, each_turn, allowed_front, allowed_back, right_keeps, after_expr, after_keeping}
 use Rattle.kernel_model.proofs.Reached.{OnEnd, on_end_value, on_end_index, on_end_then, on_end_cond, SameCell, cell_kept, cell_after, same_at_first}
 
 module _ (modes : List Mode) where
-  merge_not_read : (which : MinMax) (dim a : ℕ) (ix : Option ℤ) (before : Assigned) → MayMerge which Read dim a ix before → ⊥
+  merge_not_read : (which : MinMax) (dim a : ℕ) (ix : Option ℤ) (before : Assigned) → MayMerge which OpRead dim a ix before → ⊥
   merge_not_read min_max.Min dim a ix before m = m
   merge_not_read min_max.Max dim a ix before m = m
 
-  store_not_read : (op : AssignOp) (a : ℕ) (ix : Option ℤ) (at : Pos) (before : Assigned) → (mode_at modes a).access ≡ Read → Allowed modes before (store_event op a ix at) → ⊥
+  store_not_read : (op : AssignOp) (a : ℕ) (ix : Option ℤ) (at : Pos) (before : Assigned) → (mode_at modes a).access ≡ OpRead → Allowed modes before (store_event op a ix at) → ⊥
   store_not_read assign.Set a ix at before e m = subst (λ acc. MayAssign acc (mode_at modes a).dim a ix before) e m
   store_not_read assign.Add a ix at before e m = subst (λ acc. MayAdd acc (mode_at modes a).dim a ix before) e m
   store_not_read assign.Sub a ix at before e m = subst (λ acc. MayAdd acc (mode_at modes a).dim a ix before) e m
   store_not_read op a ix at before e m = subst (λ acc. MayChange acc (mode_at modes a).dim a ix before) e m
 
-  target_not_read : (own : Own) (op : AssignOp) (a : ℕ) (ix : Option ℤ) (at : Pos) (before : Assigned) → (mode_at modes a).access ≡ Read → Allowed modes before (target_event own op a ix at) → ⊥
+  target_not_read : (own : Own) (op : AssignOp) (a : ℕ) (ix : Option ℤ) (at : Pos) (before : Assigned) → (mode_at modes a).access ≡ OpRead → Allowed modes before (target_event own op a ix at) → ⊥
   target_not_read Neither op a ix at before e m = store_not_read op a ix at before e m
   target_not_read (First which) op a ix at before e m = merge_not_read which (mode_at modes a).dim a ix before (subst (λ acc. MayMerge which acc (mode_at modes a).dim a ix before) e m)
   target_not_read (Second which) op a ix at before e m = merge_not_read which (mode_at modes a).dim a ix before (subst (λ acc. MayMerge which acc (mode_at modes a).dim a ix before) e m)
 
-module _ (modes : List Mode) (ts : List Target) (consts : List ℤ) (P : Store → Type 0) (keep : (a i : ℕ) (v : ℤ) (s : Store) → ((mode_at modes a).access ≡ Read → ⊥) → i < (target_at ts a).count → P s → P (store_arg ts s a i v)) where
+module _ (modes : List Mode) (ts : List Target) (consts : List ℤ) (P : Store → Type 0) (keep : (a i : ℕ) (v : ℤ) (s : Store) → ((mode_at modes a).access ≡ OpRead → ⊥) → i < (target_at ts a).count → P s → P (store_arg ts s a i v)) where
   abbrev Fine : (st : RStmt) → Counters → Assigned → Type 0
   Fine st cs before = (w : Path st) → AllAllowed modes before (events st w cs)
 
@@ -57,7 +58,7 @@ module _ (modes : List Mode) (ts : List Target) (consts : List ℤ) (P : Store �
         let we = some_expr_path e in
         let end = target_event own op a (static ix cs) at ∷ [] in
         let m = after_keeping modes (right_events own e we cs) end before (right_keeps own e we cs before) (after_expr modes ix wi cs before (right_events own e we cs ++ end) (h (wi, we))) in
-        let no_read = λ (f : (mode_at modes a).access ≡ Read). target_not_read modes own op a (static ix cs) at before f m.0 in
+        let no_read = λ (f : (mode_at modes a).access ≡ OpRead). target_not_read modes own op a (static ix cs) at before f m.0 in
         on_end_value P s ls (value_of ts consts ix s ls) _ p (λ z. on_end_index P s ls (target_at ts a).count at z _ p (λ i lt. on_end_value P s ls (value_of ts consts e s ls) _ p (λ v. on_end_value P s ls (stored op opat (read_arg ts s a i) v) _ p (λ r. keep a i r s no_read lt p))))
     stmt_keeps (If' e q a r b) cs before s ls h p =
         let we = some_expr_path e in

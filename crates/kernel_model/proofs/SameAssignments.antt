@@ -13,7 +13,8 @@ use Rattle.kernel_types.specs.declared.expressions.RExpr.{RExpr}
 use Rattle.kernel_types.specs.declared.expressions.RExpr.TheVariants.{Arg', Extremum'}
 use Rattle.kernel_model.specs.Numbers.{Value, extremum, reduction_of}
 use Rattle.kernel_model.specs.Meaning.{Store, Target, target_at, read_arg, store_arg, on_value, and_then, index_in, value_of, Outcome, Done, with_value, stored}
-use Rattle.kernel_model.specs.Obeys.{Access, Reduces, Mode, Counters, static, Event, Reads, Assigns, Owns, Merges, ExprPath, expr_events, store_event, Assigned, MayRead, MayAssign, MayOwn, MayMerge, is_place, Own, Neither, First, Second, own_side, own_events, right_events, target_event, Allowed, with_assigned, AllAllowed, assigned_after}
+use Rattle.reductions.specs.Access.{Access, OpReduce}
+use Rattle.kernel_model.specs.Obeys.{Mode, Counters, static, Event, Reads, Assigns, Owns, Merges, ExprPath, expr_events, store_event, Assigned, MayRead, MayAssign, MayOwn, MayMerge, is_place, Own, Neither, First, Second, own_side, own_events, right_events, target_event, Allowed, with_assigned, AllAllowed, assigned_after}
 use Rattle.kernel_model.specs.SameTokens.{same_form, same_tokens}
 use Rattle.kernel_model.specs.Independence.{access, dim, SameAliases}
 use Rattle.kernel_model.proofs.Paths.{some_expr_path, allowed_front, assigned_after-append, expr_keeps, keeps_two, own_keeps, right_keeps, target_event_after, after_keeping, after_expr, keeping_both}
@@ -75,7 +76,7 @@ module _ (modes : List Mode) (consts : List ℤ) (ts us : List Target) (aliases 
     Stores u rs i e = with_value u ls e (λ v. with_value u ls (stored assign.Set opat (read_arg rs u a i) v) (λ r. Done (store_arg rs u a i r) ls))
 
     -- P = MIN(P, e) through an OP_MIN argument, P = MAX(P, e) through an OP_MAX argument
-    merge_first : (Q : Assigned → Type 0) (which : MinMax) (p q : _) (x y : RExpr) → access modes a ≡ Reduces (reduction_of which) → is_place a form ix x ≡ true → Fine ix cs before → Fine y cs before → Q (with_assigned a (static ix cs) before) → ArgEnds Q assign.Set (Extremum' which p x q y)
+    merge_first : (Q : Assigned → Type 0) (which : MinMax) (p q : _) (x y : RExpr) → access modes a ≡ OpReduce (reduction_of which) → is_place a form ix x ≡ true → Fine ix cs before → Fine y cs before → Q (with_assigned a (static ix cs) before) → ArgEnds Q assign.Set (Extremum' which p x q y)
     merge_first Q which p q x y acc place fine_ix fine_y k =
         at_index Q assign.Set (Extremum' which p x q y) fine_ix
         (λ z i fs f g lt hz.
@@ -93,7 +94,7 @@ module _ (modes : List Mode) (consts : List ℤ) (ts us : List Target) (aliases 
         both (Ok v) i each = (with_assigned a (static ix cs) before, k, refl, each v)
 
     -- P = MIN(e, P) and P = MAX(e, P)
-    merge_second : (Q : Assigned → Type 0) (which : MinMax) (p q : _) (x y : RExpr) → access modes a ≡ Reduces (reduction_of which) → is_place a form ix y ≡ true → Fine ix cs before → Fine x cs before → Q (with_assigned a (static ix cs) before) → ArgEnds Q assign.Set (Extremum' which p x q y)
+    merge_second : (Q : Assigned → Type 0) (which : MinMax) (p q : _) (x y : RExpr) → access modes a ≡ OpReduce (reduction_of which) → is_place a form ix y ≡ true → Fine ix cs before → Fine x cs before → Q (with_assigned a (static ix cs) before) → ArgEnds Q assign.Set (Extremum' which p x q y)
     merge_second Q which p q x y acc place fine_ix fine_x k =
         at_index Q assign.Set (Extremum' which p x q y) fine_ix
         (λ z i fs f g lt hz.
@@ -126,17 +127,17 @@ module _ (modes : List Mode) (consts : List ℤ) (ts us : List Target) (aliases 
         )
 
     -- through an argument of another access the form is a read and an assignment
-    own_read : (which : MinMax) (acc : Access) (dim b : ℕ) (jx : Option ℤ) → (acc ≡ Reduces (reduction_of which) → ⊥) → MayOwn which acc dim b jx before → MayRead acc dim b jx before
-    own_read min_max.Min (Reduces Min) dim b jx n m = absurd (n refl)
-    own_read min_max.Max (Reduces Max) dim b jx n m = absurd (n refl)
+    own_read : (which : MinMax) (acc : Access) (dim b : ℕ) (jx : Option ℤ) → (acc ≡ OpReduce (reduction_of which) → ⊥) → MayOwn which acc dim b jx before → MayRead acc dim b jx before
+    own_read min_max.Min (OpReduce Min) dim b jx n m = absurd (n refl)
+    own_read min_max.Max (OpReduce Max) dim b jx n m = absurd (n refl)
     own_read which acc dim b jx n m = m
 
-    merge_assign : (which : MinMax) (acc : Access) (dim b : ℕ) (jx : Option ℤ) → (acc ≡ Reduces (reduction_of which) → ⊥) → MayMerge which acc dim b jx before → MayAssign acc dim b jx before
-    merge_assign min_max.Min (Reduces Min) dim b jx n m = absurd (n refl)
-    merge_assign min_max.Max (Reduces Max) dim b jx n m = absurd (n refl)
+    merge_assign : (which : MinMax) (acc : Access) (dim b : ℕ) (jx : Option ℤ) → (acc ≡ OpReduce (reduction_of which) → ⊥) → MayMerge which acc dim b jx before → MayAssign acc dim b jx before
+    merge_assign min_max.Min (OpReduce Min) dim b jx n m = absurd (n refl)
+    merge_assign min_max.Max (OpReduce Max) dim b jx n m = absurd (n refl)
     merge_assign which acc dim b jx n m = m
 
-    own_relaxed : (which : MinMax) (x : RExpr) (w : ExprPath x) → is_place a form ix x ≡ true → (access modes a ≡ Reduces (reduction_of which) → ⊥) → AllAllowed modes before (own_events which x w cs) → AllAllowed modes before (expr_events x w cs)
+    own_relaxed : (which : MinMax) (x : RExpr) (w : ExprPath x) → is_place a form ix x ≡ true → (access modes a ≡ OpReduce (reduction_of which) → ⊥) → AllAllowed modes before (own_events which x w cs) → AllAllowed modes before (expr_events x w cs)
     own_relaxed which (Arg' b gorm p jx bt) w e n h =
         let same : a ≡ b = eqb-true a b (and_left _ _ e) in
         let own = after_expr modes jx w cs before (Owns which b (static jx cs) bt ∷ []) h in
@@ -157,10 +158,10 @@ module _ (modes : List Mode) (consts : List ℤ) (ts us : List Target) (aliases 
     together xs ys t kx ky hx hy ht =
         keeping_both modes (xs ++ ys) (t ∷ []) before (keeps_two xs ys before kx ky) (keeping_both modes xs ys before kx hx hy) (ht, tt)
 
-    is_reduction : (acc : Access) (r : Reduction) → (acc ≡ Reduces r) ⊎ (acc ≡ Reduces r → ⊥)
-    is_reduction (Reduces Add) Add = inl refl
-    is_reduction (Reduces Min) Min = inl refl
-    is_reduction (Reduces Max) Max = inl refl
+    is_reduction : (acc : Access) (r : Reduction) → (acc ≡ OpReduce r) ⊎ (acc ≡ OpReduce r → ⊥)
+    is_reduction (OpReduce Add) Add = inl refl
+    is_reduction (OpReduce Min) Min = inl refl
+    is_reduction (OpReduce Max) Max = inl refl
     is_reduction acc r = inr (λ g. cc)
 
     module _ (which : MinMax) (x y : RExpr) (Q : Assigned → Type 0) (k : Q (with_assigned a (static ix cs) before)) where
@@ -188,13 +189,13 @@ module _ (modes : List Mode) (consts : List ℤ) (ts us : List Target) (aliases 
       fine_index : (own : Own) → OwnFine own → Fine ix cs before
       fine_index own h w = allowed_front modes before (expr_events ix w cs) _ (h (w, (some_expr_path x, some_expr_path y)))
 
-      plain_first : is_place a form ix x ≡ true → (access modes a ≡ Reduces (reduction_of which) → ⊥) → OwnFine (First which) → OwnFine Neither
+      plain_first : is_place a form ix x ≡ true → (access modes a ≡ OpReduce (reduction_of which) → ⊥) → OwnFine (First which) → OwnFine Neither
       plain_first e n h w =
           let r = first_parts h w.1 in
           keeping_both modes (expr_events ix w.0 cs) _ before (expr_keeps ix w.0 cs before) (fine_index (First which) h w.0)
           (together (expr_events x w.1.0 cs) (expr_events y w.1.1 cs) (Assigns a (static ix cs) at) (expr_keeps x w.1.0 cs before) (expr_keeps y w.1.1 cs before) (own_relaxed which x w.1.0 e n r.0) r.1 (merge_assign which (access modes a) (dim modes a) a (static ix cs) n r.2))
 
-      plain_second : is_place a form ix y ≡ true → (access modes a ≡ Reduces (reduction_of which) → ⊥) → OwnFine (Second which) → OwnFine Neither
+      plain_second : is_place a form ix y ≡ true → (access modes a ≡ OpReduce (reduction_of which) → ⊥) → OwnFine (Second which) → OwnFine Neither
       plain_second e n h w =
           let r = second_parts h w.1 in
           keeping_both modes (expr_events ix w.0 cs) _ before (expr_keeps ix w.0 cs before) (fine_index (Second which) h w.0)
@@ -203,12 +204,12 @@ module _ (modes : List Mode) (consts : List ℤ) (ts us : List Target) (aliases 
       own_form : (p q : _) (bx by : Bool) → is_place a form ix x ≡ bx → is_place a form ix y ≡ by → ((w : ExprPath ix × (ExprPath x × ExprPath y)) → AllAllowed modes before (expr_events ix w.0 cs ++ (right_events (cond bx (First which) (cond by (Second which) Neither)) (Extremum' which p x q y) w.1 cs ++ target_event (cond bx (First which) (cond by (Second which) Neither)) assign.Set a (static ix cs) at ∷ []))) → ArgEnds Q assign.Set (Extremum' which p x q y)
       own_form p q true by ex ey h = pick (is_reduction (access modes a) (reduction_of which))
         where
-          pick : (access modes a ≡ Reduces (reduction_of which)) ⊎ (access modes a ≡ Reduces (reduction_of which) → ⊥) → ArgEnds Q assign.Set (Extremum' which p x q y)
+          pick : (access modes a ≡ OpReduce (reduction_of which)) ⊎ (access modes a ≡ OpReduce (reduction_of which) → ⊥) → ArgEnds Q assign.Set (Extremum' which p x q y)
           pick (inl e) = merge_first Q which p q x y e ex (fine_index (First which) h) (λ w. (first_parts h (some_expr_path x, w)).1) k
           pick (inr n) = set_plain Q assign.Set (Extremum' which p x q y) (plain_first ex n h) k
       own_form p q false true ex ey h = pick (is_reduction (access modes a) (reduction_of which))
         where
-          pick : (access modes a ≡ Reduces (reduction_of which)) ⊎ (access modes a ≡ Reduces (reduction_of which) → ⊥) → ArgEnds Q assign.Set (Extremum' which p x q y)
+          pick : (access modes a ≡ OpReduce (reduction_of which)) ⊎ (access modes a ≡ OpReduce (reduction_of which) → ⊥) → ArgEnds Q assign.Set (Extremum' which p x q y)
           pick (inl e) = merge_second Q which p q x y e ey (fine_index (Second which) h) (λ w. (second_parts h (w, some_expr_path y)).0) k
           pick (inr n) = set_plain Q assign.Set (Extremum' which p x q y) (plain_second ey n h) k
       own_form p q false false ex ey h = set_plain Q assign.Set (Extremum' which p x q y) h k

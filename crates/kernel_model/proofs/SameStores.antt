@@ -7,7 +7,8 @@ use Rattle.reductions.specs.Reduction.{Reduction, Add, Min, Max}
 use Rattle.kernel_types.specs.declared.faults.KernelFault.{KernelFault}
 use Rattle.kernel_model.specs.Numbers.{Value, sum, difference}
 use Rattle.kernel_model.specs.Meaning.{Store, Target, target_at, read_arg, store_arg, Outcome, Done, Faulted, then_do, with_value, stored}
-use Rattle.kernel_model.specs.Obeys.{Access, Read, Write, Rw, Reduces, Mode, store_event, Assigned, MayAssign, MayAdd, MayChange, Allowed, with_assigned}
+use Rattle.reductions.specs.Access.{Access, OpRead, OpWrite, OpRw, OpReduce}
+use Rattle.kernel_model.specs.Obeys.{Mode, store_event, Assigned, MayAssign, MayAdd, MayChange, Allowed, with_assigned}
 use Rattle.kernel_model.specs.Independence.{access, dim, SameAliases}
 use Rattle.kernel_model.proofs.Locals.{OnDone}
 use Rattle.kernel_model.proofs.Agreement.{Known, known_rw, Agrees, same_stored, sum_stored, more_added, more_taken}
@@ -54,44 +55,44 @@ module _ (modes : List Mode) (consts : List ℤ) (ts us : List Target) (aliases 
     abbrev StoreEnds : Value → Value → Type 0
     StoreEnds x y = Ends Q (with_value s ls x (λ r. Done (store_arg ts s a i r) ls)) (with_value t ls y (λ r. Done (store_arg us t a i r) ls))
 
-    one_value : (acc : Access) (x y : Value) → access modes a ≡ acc → ((r : Reduction) → acc ≡ Reduces r → ⊥) → x ≡ y → StoreEnds x y
+    one_value : (acc : Access) (x y : Value) → access modes a ≡ acc → ((r : Reduction) → acc ≡ OpReduce r → ⊥) → x ≡ y → StoreEnds x y
     one_value acc x y f n e =
         ends_value Q s t ls x y (λ r. Done (store_arg ts s a i r) ls) (λ r. Done (store_arg us t a i r) ls) e
         (λ v g. (with_assigned a ix before, q, refl, same_stored modes ts us aliases s0 t0 before a i ix s t v lt (λ red. n red.0 (sym f ∙ red.1)) hz ag))
 
     plain_store : (acc : Access) (v : ℤ) → access modes a ≡ acc → MayAssign acc (dim modes a) a ix before → StoreEnds (Ok v) (Ok v)
-    plain_store Read v e m = absurd m
-    plain_store Rw v e m = one_value Rw (Ok v) (Ok v) e (λ r f. cc) refl
-    plain_store Write v e m = one_value Write (Ok v) (Ok v) e (λ r f. cc) refl
-    plain_store (Reduces r) v e m = absurd m
+    plain_store OpRead v e m = absurd m
+    plain_store OpRw v e m = one_value OpRw (Ok v) (Ok v) e (λ r f. cc) refl
+    plain_store OpWrite v e m = one_value OpWrite (Ok v) (Ok v) e (λ r f. cc) refl
+    plain_store (OpReduce r) v e m = absurd m
 
     -- a store over an old value that is the same in both runs
-    over_known : (acc : Access) (op : AssignOp) (opat : Pos) (v : ℤ) → access modes a ≡ acc → ((r : Reduction) → acc ≡ Reduces r → ⊥) → Known modes before a i → StoreEnds (stored op opat (read_arg ts s a i) v) (stored op opat (read_arg us t a i) v)
+    over_known : (acc : Access) (op : AssignOp) (opat : Pos) (v : ℤ) → access modes a ≡ acc → ((r : Reduction) → acc ≡ OpReduce r → ⊥) → Known modes before a i → StoreEnds (stored op opat (read_arg ts s a i) v) (stored op opat (read_arg us t a i) v)
     over_known acc op opat v e n k = one_value acc _ _ e n (ap (λ o. stored op opat o v) (ag.known a i lt k))
 
     change_store : (acc : Access) (op : AssignOp) (opat : Pos) (v : ℤ) → access modes a ≡ acc → MayChange acc (dim modes a) a ix before → StoreEnds (stored op opat (read_arg ts s a i) v) (stored op opat (read_arg us t a i) v)
-    change_store Read op opat v e m = absurd m
-    change_store Rw op opat v e m = over_known Rw op opat v e (λ r f. cc) (known_rw e)
-    change_store Write op opat v e m = over_known Write op opat v e (λ r f. cc) (known_if_read modes consts ts us aliases s0 t0 counts_s counts_t Write a i ix before e m hz)
-    change_store (Reduces r) op opat v e m = absurd m
+    change_store OpRead op opat v e m = absurd m
+    change_store OpRw op opat v e m = over_known OpRw op opat v e (λ r f. cc) (known_rw e)
+    change_store OpWrite op opat v e m = over_known OpWrite op opat v e (λ r f. cc) (known_if_read modes consts ts us aliases s0 t0 counts_s counts_t OpWrite a i ix before e m hz)
+    change_store (OpReduce r) op opat v e m = absurd m
 
     add_store : (acc : Access) (opat : Pos) (v : ℤ) → access modes a ≡ acc → MayAdd acc (dim modes a) a ix before → StoreEnds (stored assign.Add opat (read_arg ts s a i) v) (stored assign.Add opat (read_arg us t a i) v)
-    add_store Read opat v e m = absurd m
-    add_store Rw opat v e m = change_store Rw assign.Add opat v e m
-    add_store Write opat v e m = change_store Write assign.Add opat v e m
-    add_store (Reduces Add) opat v e m =
+    add_store OpRead opat v e m = absurd m
+    add_store OpRw opat v e m = change_store OpRw assign.Add opat v e m
+    add_store OpWrite opat v e m = change_store OpWrite assign.Add opat v e m
+    add_store (OpReduce Add) opat v e m =
         (with_assigned a ix before, q, refl, sum_stored modes ts us aliases s0 t0 Add before a i ix s t (λ o. sum o v) (λ d. sum d v) (λ x d. more_added x d v) lt e ag)
-    add_store (Reduces Min) opat v e m = absurd m
-    add_store (Reduces Max) opat v e m = absurd m
+    add_store (OpReduce Min) opat v e m = absurd m
+    add_store (OpReduce Max) opat v e m = absurd m
 
     sub_store : (acc : Access) (opat : Pos) (v : ℤ) → access modes a ≡ acc → MayAdd acc (dim modes a) a ix before → StoreEnds (stored assign.Sub opat (read_arg ts s a i) v) (stored assign.Sub opat (read_arg us t a i) v)
-    sub_store Read opat v e m = absurd m
-    sub_store Rw opat v e m = change_store Rw assign.Sub opat v e m
-    sub_store Write opat v e m = change_store Write assign.Sub opat v e m
-    sub_store (Reduces Add) opat v e m =
+    sub_store OpRead opat v e m = absurd m
+    sub_store OpRw opat v e m = change_store OpRw assign.Sub opat v e m
+    sub_store OpWrite opat v e m = change_store OpWrite assign.Sub opat v e m
+    sub_store (OpReduce Add) opat v e m =
         (with_assigned a ix before, q, refl, sum_stored modes ts us aliases s0 t0 Add before a i ix s t (λ o. difference o v) (λ d. difference d v) (λ x d. more_taken x d v) lt e ag)
-    sub_store (Reduces Min) opat v e m = absurd m
-    sub_store (Reduces Max) opat v e m = absurd m
+    sub_store (OpReduce Min) opat v e m = absurd m
+    sub_store (OpReduce Max) opat v e m = absurd m
 
     pub store_same : (op : AssignOp) (opat at : Pos) (v : ℤ) → Allowed modes before (store_event op a ix at) → StoreEnds (stored op opat (read_arg ts s a i) v) (stored op opat (read_arg us t a i) v)
     store_same assign.Set opat at v m = plain_store (access modes a) v refl m

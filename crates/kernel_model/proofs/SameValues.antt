@@ -8,7 +8,8 @@ use Rattle.kernel_types.specs.declared.expressions.RExpr.{RExpr}
 use Rattle.kernel_types.specs.declared.expressions.RExpr.TheVariants.{Number, Scalar, Constant, Arg', Local', Const', Unary', Binary', Choice', Paren', Extremum', Absolute'}
 use Rattle.kernel_model.specs.Numbers.{Value, fault, truth, is_zero, not, is_settled, is_lazy, apply, apply_unary, extremum, magnitude}
 use Rattle.kernel_model.specs.Meaning.{Store, Target, target_at, read_arg, and_then, index_in, value_of}
-use Rattle.kernel_model.specs.Obeys.{Access, Read, Write, Rw, Reduces, Mode, Counters, static, Reads, ExprPath, taken_if, expr_events, Assigned, HasAssigned, MayRead, AllAllowed}
+use Rattle.reductions.specs.Access.{Access, OpRead, OpWrite, OpRw, OpReduce}
+use Rattle.kernel_model.specs.Obeys.{Mode, Counters, static, Reads, ExprPath, taken_if, expr_events, Assigned, HasAssigned, MayRead, AllAllowed}
 use Rattle.kernel_model.specs.Independence.{access, dim, SameAliases}
 use Rattle.kernel_model.proofs.Paths.{some_if, taken, taken_if-taken, some_expr_path, allowed_front, after_expr}
 use Rattle.kernel_model.proofs.Static.{Static, static_value}
@@ -19,15 +20,15 @@ module _ (modes : List Mode) (consts : List ℤ) (ts us : List Target) (aliases 
   Agree before s t = Agrees modes ts us aliases s0 t0 before s t
 
   pub known_if_read : (acc : Access) (a i : ℕ) (ix : Option ℤ) (before : Assigned) → access modes a ≡ acc → MayRead acc (dim modes a) a ix before → ((z : ℤ) → ix ≡ Some z → z ≡ pos i) → Known modes before a i
-  known_if_read Read a i ix before e m hz = known_read e
-  known_if_read Rw a i ix before e m hz = known_rw e
-  known_if_read Write a i None before e m hz = absurd m
-  known_if_read Write a i (Some (negsuc n)) before e m hz = absurd m
-  known_if_read Write a i (Some (pos n)) before e m hz =
+  known_if_read OpRead a i ix before e m hz = known_read e
+  known_if_read OpRw a i ix before e m hz = known_rw e
+  known_if_read OpWrite a i None before e m hz = absurd m
+  known_if_read OpWrite a i (Some (negsuc n)) before e m hz = absurd m
+  known_if_read OpWrite a i (Some (pos n)) before e m hz =
       let p = hz (pos n) refl in
       let q : n ≡ i = cc in
       known_write e (subst (λ k. HasAssigned before a k) q m.1)
-  known_if_read (Reduces r) a i ix before e m hz = absurd m
+  known_if_read (OpReduce r) a i ix before e m hz = absurd m
 
   arg_same : (r : Value) (a : ℕ) (at : Pos) (ix : Option ℤ) (before : Assigned) (s t : Store) → ((z : ℤ) → ix ≡ Some z → r ≡ Ok z) → MayRead (access modes a) (dim modes a) a ix before → Agree before s t → and_then r (λ z. and_then (index_in (target_at ts a).count at z) (λ i. Ok (read_arg ts s a i))) ≡ and_then r (λ z. and_then (index_in (target_at us a).count at z) (λ i. Ok (read_arg us t a i)))
   arg_same (Err f) a at ix before s t hz m ag = refl

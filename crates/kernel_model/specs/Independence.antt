@@ -5,7 +5,8 @@ use Rattle.reductions.specs.Reduction.{Reduction, merged}
 use Rattle.kernel_types.specs.declared.kernels.RKernel.{RKernel}
 use Rattle.kernel_types.specs.Resolved.{IsResolved}
 use Rattle.kernel_model.specs.Meaning.{Store, cell, Target, target_at, read_arg, Ran, Finished, Stopped, kernel_meaning}
-use Rattle.kernel_model.specs.Obeys.{Access, Read, Write, Rw, Reduces, Mode, mode_at, KernelObeys}
+use Rattle.reductions.specs.Access.{Access, OpRead, OpWrite, OpRw, OpReduce}
+use Rattle.kernel_model.specs.Obeys.{Mode, mode_at, KernelObeys}
 
 -- two arguments' components are one cell
 abbrev pub same_cell : List Target → ℕ → ℕ → ℕ → ℕ → Bool
@@ -47,24 +48,31 @@ module _ (modes : List Mode) where
   -- equal where OP_READ or OP_RW arguments reach
   abbrev pub SameInputs : List Target → List Target → Store → Store → Type 0
   SameInputs ts us s t =
-      (a i : ℕ) → i < dim a → (access a ≡ Read) ⊎ (access a ≡ Rw) → read_arg ts s a i ≡ read_arg us t a i
+      (a i : ℕ) → i < dim a → (access a ≡ OpRead) ⊎ (access a ≡ OpRw) → read_arg ts s a i ≡ read_arg us t a i
 
   -- a cell that arguments of one reduction alone reach
   abbrev pub Alone : Reduction → List Target → ℕ → ℕ → Type 0
-  Alone r ts a i = (b j : ℕ) → j < dim b → same_cell ts b j a i ≡ true → access b ≡ Reduces r
+  Alone r ts a i = (b j : ℕ) → j < dim b → same_cell ts b j a i ≡ true → access b ≡ OpReduce r
 
   -- the accesses that only merge amounts into a cell
   abbrev pub IsReducing : Access → Type 0
-  IsReducing acc = (r : Reduction) × (acc ≡ Reduces r)
+  IsReducing acc = (r : Reduction) × (acc ≡ OpReduce r)
 
   -- a cell that reductions alone reach
   abbrev pub OnlyReduced : List Target → ℕ → ℕ → Type 0
   OnlyReduced ts a i = (b j : ℕ) → j < dim b → same_cell ts b j a i ≡ true → IsReducing (access b)
 
-  -- cells that OP_READ, OP_WRITE and OP_RW arguments reach are equal; others, which one reduction alone reaches, took the same amount; others, which several reductions reach, are equal where they were
+  -- cells that OP_READ, OP_WRITE and OP_RW arguments reach are equal; others, which one reduction alone reaches, took the same amount;
+  -- others, which several reductions reach, are equal where they were
   pub record SameChanges (ts us : List Target) (s t s' t' : Store) : Type 0 where
-    pub equal : (a i : ℕ) → i < dim a → (access a ≡ Read) ⊎ (access a ≡ Rw) ⊎ (access a ≡ Write) → read_arg ts s' a i ≡ read_arg us t' a i
-    pub amounts : (r : Reduction) (a i : ℕ) → i < dim a → Alone r ts a i → (d : ℤ) × (read_arg ts s' a i ≡ merged r (read_arg ts s a i) d) × (read_arg us t' a i ≡ merged r (read_arg us t a i) d)
+    pub equal : (a i : ℕ)
+        → i < dim a
+        → (access a ≡ OpRead) ⊎ (access a ≡ OpRw) ⊎ (access a ≡ OpWrite)
+        → read_arg ts s' a i ≡ read_arg us t' a i
+    pub amounts : (r : Reduction) (a i : ℕ)
+        → i < dim a
+        → Alone r ts a i
+        → (d : ℤ) × (read_arg ts s' a i ≡ merged r (read_arg ts s a i) d) × (read_arg us t' a i ≡ merged r (read_arg us t a i) d)
     pub mixed : (a i : ℕ) → i < dim a → OnlyReduced ts a i → read_arg ts s a i ≡ read_arg us t a i → read_arg ts s' a i ≡ read_arg us t' a i
 
   -- the same fault, or none and the same changes
@@ -97,7 +105,7 @@ OthersStay =
 -- each argument that reaches the cell is OP_READ
 abbrev pub OnlyRead : List Mode → List Target → ℕ → ℕ → Type 0
 OnlyRead modes ts x j =
-    (a i : ℕ) → i < (target_at ts a).count → (target_at ts a).array ≡ x → (target_at ts a).from + i ≡ j → (mode_at modes a).access ≡ Read
+    (a i : ℕ) → i < (target_at ts a).count → (target_at ts a).array ≡ x → (target_at ts a).from + i ≡ j → (mode_at modes a).access ≡ OpRead
 
 -- a cell that OP_READ arguments alone reach, or none, stays under a kernel that obeys its modes, after a fault too
 abbrev pub ReadsStay : Type 0

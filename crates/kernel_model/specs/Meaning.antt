@@ -1,5 +1,6 @@
 -- What a kernel does to a store of named cells (ISO C 6.5 and 6.8, with operands from left to right).
-use Rattle.std.specs.Prelude.{ℕ, zero, suc, ℤ, pos, negsuc, ◌+◌, ◌-◌, List, [], cond, Result, Ok, Err, nat_lt, slice_index_or, slice_set, replicate}
+use Rattle.std.specs.Prelude.{ℕ, zero, suc, ℤ, pos, negsuc, ◌+◌, ◌-◌, List, [], cond, Result, Ok, Err, nat_lt, slice_index_or, slice_set}
+use Rattle.std.specs.Prelude.{replicate}
 use Rattle.op_num.specs.declared.refusals.Fault.TheVariants.{Index}
 use Rattle.c_lex.specs.declared.tokens.Pos.{Pos}
 use Rattle.c_tree.specs.declared.expressions.BinaryOp.TheVariants as binary
@@ -7,8 +8,10 @@ use Rattle.c_tree.specs.declared.declarations.AssignOp.{AssignOp}
 use Rattle.c_tree.specs.declared.declarations.AssignOp.TheVariants as assign
 use Rattle.kernel_types.specs.declared.faults.KernelFault.{KernelFault}
 use Rattle.kernel_types.specs.declared.expressions.RExpr.{RExpr}
-use Rattle.kernel_types.specs.declared.expressions.RExpr.TheVariants.{Number, Scalar, Constant, Arg', Local', Const', Unary', Binary', Choice', Paren', Extremum', Absolute'}
-use Rattle.kernel_types.specs.declared.statements.RStmt.{RStmt, Block', Declare, SetScalar, SetLocal, SetArg, If', For', Row_of-RStmt, end_of-RStmt, more_of-RStmt}
+use Rattle.kernel_types.specs.declared.expressions.RExpr.TheVariants.{Number, Scalar, Constant, Arg', Local', Const', Unary', Binary'}
+use Rattle.kernel_types.specs.declared.expressions.RExpr.TheVariants.{Choice', Paren', Extremum', Absolute'}
+use Rattle.kernel_types.specs.declared.statements.RStmt.{RStmt, Block', Declare, SetScalar, SetLocal, SetArg, If', For', Row_of-RStmt}
+use Rattle.kernel_types.specs.declared.statements.RStmt.{end_of-RStmt, more_of-RStmt}
 use Rattle.kernel_types.specs.declared.kernels.RKernel.{RKernel}
 use Rattle.kernel_model.specs.Numbers.{Value, fault, truth, is_zero, apply, apply_unary, is_settled, extremum, magnitude, not}
 
@@ -78,7 +81,9 @@ module _ (ts : List Target) (consts : List ℤ) where
       and_then (value_of e s ls) (λ z. and_then (index_in count at z) (λ i. Ok (slice_index_or consts (from + i) (pos 0))))
   value_of (Unary' op p a) s ls = and_then (value_of a s ls) (λ x. Ok (apply_unary op x))
   value_of (Binary' op p a q b at) s ls =
-      and_then (value_of a s ls) (λ x. cond (is_settled op x) (Ok (truth (not (is_zero x)))) (and_then (value_of b s ls) (λ y. apply op at x y)))
+      and_then
+      (value_of a s ls)
+      (λ x. cond (is_settled op x) (Ok (truth (not (is_zero x)))) (and_then (value_of b s ls) (λ y. apply op at x y)))
   value_of (Choice' p c q a r b) s ls =
       and_then (value_of c s ls) (λ x. cond (is_zero x) (value_of b s ls) (value_of a s ls))
   value_of (Paren' p a) s ls = value_of a s ls
@@ -134,11 +139,21 @@ module _ (ts : List Target) (consts : List ℤ) where
     meaning (Block' shape all) s ls = meaning_of_all all s ls
     meaning (Declare from count) s ls = Done s (cleared from count ls)
     meaning (SetScalar k op opat e) s ls =
-        with_value s ls (value_of ts consts e s ls) (λ v. with_value s ls (stored op opat (slice_index_or ls k (pos 0)) v) (λ r. Done s (slice_set ls k r)))
+        with_value s ls (value_of ts consts e s ls) (λ v.
+        with_value s ls (stored op opat (slice_index_or ls k (pos 0)) v) (λ r.
+        Done s (slice_set ls k r)))
     meaning (SetLocal from count form ix at op opat e) s ls =
-        with_value s ls (value_of ts consts ix s ls) (λ z. with_value s ls (index_in count at z) (λ i. with_value s ls (value_of ts consts e s ls) (λ v. with_value s ls (stored op opat (slice_index_or ls (from + i) (pos 0)) v) (λ r. Done s (slice_set ls (from + i) r)))))
+        with_value s ls (value_of ts consts ix s ls) (λ z.
+        with_value s ls (index_in count at z) (λ i.
+        with_value s ls (value_of ts consts e s ls) (λ v.
+        with_value s ls (stored op opat (slice_index_or ls (from + i) (pos 0)) v) (λ r.
+        Done s (slice_set ls (from + i) r)))))
     meaning (SetArg a form ix at op opat e) s ls =
-        with_value s ls (value_of ts consts ix s ls) (λ z. with_value s ls (index_in (target_at ts a).count at z) (λ i. with_value s ls (value_of ts consts e s ls) (λ v. with_value s ls (stored op opat (read_arg ts s a i) v) (λ r. Done (store_arg ts s a i r) ls))))
+        with_value s ls (value_of ts consts ix s ls) (λ z.
+        with_value s ls (index_in (target_at ts a).count at z) (λ i.
+        with_value s ls (value_of ts consts e s ls) (λ v.
+        with_value s ls (stored op opat (read_arg ts s a i) v) (λ r.
+        Done (store_arg ts s a i r) ls))))
     meaning (If' e p a q b) s ls =
         with_value s ls (value_of ts consts e s ls) (λ x. cond (is_zero x) (meaning b s ls) (meaning a s ls))
     meaning (For' k first past p body) s ls = turns (meaning body) k first (past - first) s ls

@@ -1,5 +1,7 @@
--- The access rules, on all paths of the unrolled kernel (the meaning of OP_READ, OP_WRITE, OP_RW, OP_INC, OP_MIN and OP_MAX in the OP2 manual).
-use Rattle.std.specs.Prelude.{◌≡◌, ℕ, zero, suc, ℤ, pos, negsuc, ◌-◌, ◌<◌, List, [], ◌∷◌, ◌++◌, Bool, true, false, cond, ◌&&◌, Option, Some, None, ◌⊎◌, nat_eq, slice_index_or}
+-- The access rules, on all paths of the unrolled kernel (the meaning of OP_READ, OP_WRITE, OP_RW, OP_INC, OP_MIN and OP_MAX in the OP2
+-- manual).
+use Rattle.std.specs.Prelude.{◌≡◌, ℕ, zero, suc, ℤ, pos, negsuc, ◌-◌, ◌<◌, List, [], ◌∷◌, ◌++◌, Bool, true, false, cond, ◌&&◌, Option, Some}
+use Rattle.std.specs.Prelude.{None, ◌⊎◌, nat_eq, slice_index_or}
 use Rattle.c_lex.specs.declared.tokens.Pos.{Pos}
 use Rattle.c_tree.specs.declared.expressions.BinaryOp.{BinaryOp}
 use Rattle.c_tree.specs.declared.expressions.BinaryOp.TheVariants as binary
@@ -9,22 +11,18 @@ use Rattle.c_tree.specs.declared.expressions.MinMax.{MinMax}
 use Rattle.c_tree.specs.declared.expressions.MinMax.TheVariants as min_max
 use Rattle.c_tree.specs.declared.declarations.AssignOp.{AssignOp}
 use Rattle.c_tree.specs.declared.declarations.AssignOp.TheVariants as assign
-use Rattle.reductions.specs.Reduction.{Reduction, Add, Min, Max}
+use Rattle.reductions.specs.Reduction.{Add, Min, Max}
+use Rattle.reductions.specs.Access.{Access, OpRead, OpWrite, OpRw, OpReduce}
 use Rattle.kernel_types.specs.declared.expressions.ElementForm.{ElementForm}
 use Rattle.kernel_types.specs.declared.expressions.RExpr.{RExpr}
-use Rattle.kernel_types.specs.declared.expressions.RExpr.TheVariants.{Number, Scalar, Constant, Arg', Local', Const', Unary', Binary', Choice', Paren', Extremum', Absolute'}
-use Rattle.kernel_types.specs.declared.statements.RStmt.{RStmt, Block', Declare, SetScalar, SetLocal, SetArg, If', For', Row_of-RStmt, end_of-RStmt, more_of-RStmt}
+use Rattle.kernel_types.specs.declared.expressions.RExpr.TheVariants.{Number, Scalar, Constant, Arg', Local', Const', Unary', Binary'}
+use Rattle.kernel_types.specs.declared.expressions.RExpr.TheVariants.{Choice', Paren', Extremum', Absolute'}
+use Rattle.kernel_types.specs.declared.statements.RStmt.{RStmt, Block', Declare, SetScalar, SetLocal, SetArg, If', For', Row_of-RStmt}
+use Rattle.kernel_types.specs.declared.statements.RStmt.{end_of-RStmt, more_of-RStmt}
 use Rattle.kernel_types.specs.declared.kernels.RKernel.{RKernel}
 use Rattle.kernel_model.specs.Numbers.{sum, difference, product, negated, is_lazy}
 use Rattle.kernel_model.specs.SameTokens.{same_form, same_tokens}
 use mathlib.Core.Logic.{inl, inr}
-
--- how a kernel may use an argument; OP_INC, OP_MIN and OP_MAX reduce by a sum, a minimum and a maximum
-pub data Access : Type 0 where
-  Read : Access
-  Write : Access
-  Rw : Access
-  Reduces : (by : Reduction) → Access
 
 -- an argument's access, and how many components its target has
 pub record Mode : Type 0 where
@@ -33,7 +31,7 @@ pub record Mode : Type 0 where
 
 -- what stands for an argument that is not there
 abbrev pub no_mode : Mode
-no_mode = record { access = Read; dim = 0 }
+no_mode = record { access = OpRead; dim = 0 }
 
 -- the mode of an argument
 abbrev pub mode_at : List Mode → ℕ → Mode
@@ -159,7 +157,8 @@ pub data Own : Type 0 where
 
 -- which operand is the target, on the right side of that assignment to it
 abbrev pub own_side : ℕ → ElementForm → RExpr → AssignOp → RExpr → Own
-own_side a form ix assign.Set (Extremum' which p x q y) = cond (is_place a form ix x) (First which) (cond (is_place a form ix y) (Second which) Neither)
+own_side a form ix assign.Set (Extremum' which p x q y) =
+    cond (is_place a form ix x) (First which) (cond (is_place a form ix y) (Second which) Neither)
 own_side a form ix op e = Neither
 
 -- the target itself on the right side
@@ -228,7 +227,8 @@ abbrev mutual
   events (SetScalar k op opat e) w cs = expr_events e w cs
   events (SetLocal from count form ix at op opat e) w cs = expr_events ix w.0 cs ++ expr_events e w.1 cs
   events (SetArg a form ix at op opat e) w cs =
-      expr_events ix w.0 cs ++ (right_events (own_side a form ix op e) e w.1 cs ++ target_event (own_side a form ix op e) op a (static ix cs) at ∷ [])
+      expr_events ix w.0 cs
+      ++ (right_events (own_side a form ix op e) e w.1 cs ++ target_event (own_side a form ix op e) op a (static ix cs) at ∷ [])
   events (If' e p a q b) w cs = expr_events e w.0 cs ++ on_branch (λ v. events a v cs) (λ v. events b v cs) w.1
   events (For' k first past p body) w cs =
       turn_events (λ i v. events body v (with_counter cs k (pos i))) first (past - first) w
@@ -263,40 +263,40 @@ IsComponent dim (Some (negsuc i)) P = ⊥
 
 -- OP_INC, OP_MIN and OP_MAX arguments aren't read; a component of an OP_WRITE argument only after it was assigned
 abbrev pub MayRead : Access → ℕ → ℕ → Option ℤ → Assigned → Type 0
-MayRead Read dim a ix before = InDim dim ix
-MayRead Rw dim a ix before = InDim dim ix
-MayRead Write dim a ix before = IsComponent dim ix (λ i. HasAssigned before a i)
-MayRead (Reduces r) dim a ix before = ⊥
+MayRead OpRead dim a ix before = InDim dim ix
+MayRead OpRw dim a ix before = InDim dim ix
+MayRead OpWrite dim a ix before = IsComponent dim ix (λ i. HasAssigned before a i)
+MayRead (OpReduce r) dim a ix before = ⊥
 
 -- OP_READ arguments aren't stored to, reducing ones not by =
 abbrev pub MayAssign : Access → ℕ → ℕ → Option ℤ → Assigned → Type 0
-MayAssign Read dim a ix before = ⊥
-MayAssign Rw dim a ix before = InDim dim ix
-MayAssign Write dim a ix before = IsComponent dim ix (λ i. Unit {0})
-MayAssign (Reduces r) dim a ix before = ⊥
+MayAssign OpRead dim a ix before = ⊥
+MayAssign OpRw dim a ix before = InDim dim ix
+MayAssign OpWrite dim a ix before = IsComponent dim ix (λ i. Unit {0})
+MayAssign (OpReduce r) dim a ix before = ⊥
 
 -- a compound assignment reads its target and stores to it
 abbrev pub MayChange : Access → ℕ → ℕ → Option ℤ → Assigned → Type 0
-MayChange Read dim a ix before = ⊥
-MayChange Rw dim a ix before = InDim dim ix
-MayChange Write dim a ix before = IsComponent dim ix (λ i. HasAssigned before a i)
-MayChange (Reduces r) dim a ix before = ⊥
+MayChange OpRead dim a ix before = ⊥
+MayChange OpRw dim a ix before = InDim dim ix
+MayChange OpWrite dim a ix before = IsComponent dim ix (λ i. HasAssigned before a i)
+MayChange (OpReduce r) dim a ix before = ⊥
 
 -- += and -= are how OP_INC arguments are stored to
 abbrev pub MayAdd : Access → ℕ → ℕ → Option ℤ → Assigned → Type 0
-MayAdd (Reduces Add) dim a ix before = InDim dim ix
+MayAdd (OpReduce Add) dim a ix before = InDim dim ix
 MayAdd acc dim a ix before = MayChange acc dim a ix before
 
 -- the P on the right of P = MIN(P, e) isn't read through an OP_MIN argument; likewise MAX and OP_MAX
 abbrev pub MayOwn : MinMax → Access → ℕ → ℕ → Option ℤ → Assigned → Type 0
-MayOwn min_max.Min (Reduces Min) dim a ix before = InDim dim ix
-MayOwn min_max.Max (Reduces Max) dim a ix before = InDim dim ix
+MayOwn min_max.Min (OpReduce Min) dim a ix before = InDim dim ix
+MayOwn min_max.Max (OpReduce Max) dim a ix before = InDim dim ix
 MayOwn which acc dim a ix before = MayRead acc dim a ix before
 
 -- P = MIN(P, e) is how OP_MIN arguments are stored to; likewise MAX and OP_MAX
 abbrev pub MayMerge : MinMax → Access → ℕ → ℕ → Option ℤ → Assigned → Type 0
-MayMerge min_max.Min (Reduces Min) dim a ix before = InDim dim ix
-MayMerge min_max.Max (Reduces Max) dim a ix before = InDim dim ix
+MayMerge min_max.Min (OpReduce Min) dim a ix before = InDim dim ix
+MayMerge min_max.Max (OpReduce Max) dim a ix before = InDim dim ix
 MayMerge which acc dim a ix before = MayAssign acc dim a ix before
 
 -- the event is allowed where those components were assigned before
@@ -336,7 +336,7 @@ assigned_after before (e ∷ es) = assigned_after (after_event e before) es
 -- each component of each OP_WRITE argument was assigned
 abbrev pub AllWritten : List Mode → Assigned → Type 0
 AllWritten modes before =
-    (a i : ℕ) → (mode_at modes a).access ≡ Write → i < (mode_at modes a).dim → HasAssigned before a i
+    (a i : ℕ) → (mode_at modes a).access ≡ OpWrite → i < (mode_at modes a).dim → HasAssigned before a i
 
 -- no rule is broken on any path
 abbrev pub Obeys : RStmt → List Mode → Type 0

@@ -1,12 +1,15 @@
 -- Which access rule a kernel breaks, and where (the meaning of OP_READ, OP_WRITE, OP_RW, OP_INC, OP_MIN and OP_MAX in the OP2 manual).
-use Rattle.std.specs.Prelude.{◌≡◌, ℕ, ℤ, pos, negsuc, ◌<◌, ◌≤◌, List, [], ◌∷◌, ◌++◌, Bool, true, false, Option, Some, None, ◌⊎◌, ◌↔◌, slice_index_or}
+use Rattle.std.specs.Prelude.{◌≡◌, ℕ, ℤ, pos, negsuc, ◌<◌, ◌≤◌, List, [], ◌∷◌, ◌++◌, Bool, true, false, Option, Some, None, ◌⊎◌, ◌↔◌}
+use Rattle.std.specs.Prelude.{slice_index_or}
 use Rattle.c_lex.specs.declared.tokens.Pos.{Pos}
 use Rattle.c_tree.specs.declared.expressions.MinMax.{MinMax}
 use Rattle.c_tree.specs.declared.expressions.MinMax.TheVariants as min_max
 use Rattle.reductions.specs.Reduction.{Reduction, Add, Min, Max}
 use Rattle.kernel_types.specs.declared.statements.RStmt.{RStmt}
 use Rattle.kernel_types.specs.declared.kernels.RKernel.{RKernel}
-use Rattle.kernel_model.specs.Obeys.{Access, Read, Write, Reduces, Mode, mode_at, Event, Reads, Assigns, Adds, Changes, Owns, Merges, Path, events, no_counters, Assigned, HasAssigned, assigned_after, KernelObeys}
+use Rattle.reductions.specs.Access.{Access, OpRead, OpWrite, OpReduce}
+use Rattle.kernel_model.specs.Obeys.{Mode, mode_at, Event, Reads, Assigns, Adds, Changes, Owns, Merges, Path, events, no_counters, Assigned}
+use Rattle.kernel_model.specs.Obeys.{HasAssigned, assigned_after, KernelObeys}
 
 -- the rules, in the order in which they count at one place
 pub data Rule : Type 0 where
@@ -83,8 +86,8 @@ is_sum e = false
 
 -- MIN belongs to OP_MIN, and MAX to OP_MAX
 abbrev pub belongs : MinMax → Access → Bool
-belongs min_max.Min (Reduces Min) = true
-belongs min_max.Max (Reduces Max) = true
+belongs min_max.Min (OpReduce Min) = true
+belongs min_max.Max (OpReduce Max) = true
 belongs which acc = false
 
 -- it is the target P of P = MIN(P, e) under OP_MIN, or of P = MAX(P, e) under OP_MAX
@@ -94,7 +97,7 @@ is_extremum acc e = false
 
 -- += and -= read an argument that isn't OP_INC
 abbrev pub sum_reads : Access → Bool
-sum_reads (Reduces Add) = false
+sum_reads (OpReduce Add) = false
 sum_reads acc = true
 
 -- the other
@@ -125,14 +128,14 @@ IsUnwritten dim a (Some (negsuc i)) before = ⊥
 
 -- the event breaks the rule, where the argument has that access and dim, and those components were assigned before
 abbrev pub Breaks : Access → ℕ → Assigned → Event → Rule → Type 0
-Breaks acc dim before e WritesRead = (acc ≡ Read) × (is_target e ≡ true)
-Breaks acc dim before e ReadsReduced = ((r : Reduction) × (acc ≡ Reduces r)) × (is_read acc e ≡ true)
-Breaks acc dim before e NotSum = (acc ≡ Reduces Add) × (is_target e ≡ true) × (is_sum e ≡ false)
-Breaks acc dim before e ReadsUnwritten = (acc ≡ Write) × (is_read acc e ≡ true) × IsUnwritten dim (argument_of e) (index_of e) before
+Breaks acc dim before e WritesRead = (acc ≡ OpRead) × (is_target e ≡ true)
+Breaks acc dim before e ReadsReduced = ((r : Reduction) × (acc ≡ OpReduce r)) × (is_read acc e ≡ true)
+Breaks acc dim before e NotSum = (acc ≡ OpReduce Add) × (is_target e ≡ true) × (is_sum e ≡ false)
+Breaks acc dim before e ReadsUnwritten = (acc ≡ OpWrite) × (is_read acc e ≡ true) × IsUnwritten dim (argument_of e) (index_of e) before
 Breaks acc dim before e NotAllWritten = ⊥
-Breaks acc dim before e IndexNotStatic = (acc ≡ Write) × (index_of e ≡ None)
+Breaks acc dim before e IndexNotStatic = (acc ≡ OpWrite) × (index_of e ≡ None)
 Breaks acc dim before e IndexOut = IsOut dim (index_of e)
-Breaks acc dim before e NotExtremum = ((acc ≡ Reduces Min) ⊎ (acc ≡ Reduces Max)) × (is_target e ≡ true) × (is_extremum acc e ≡ false)
+Breaks acc dim before e NotExtremum = ((acc ≡ OpReduce Min) ⊎ (acc ≡ OpReduce Max)) × (is_target e ≡ true) × (is_extremum acc e ≡ false)
 
 -- ---- a kernel
 
@@ -147,7 +150,7 @@ EventBreaks body modes rule at =
 abbrev pub EndBreaks : RStmt → (ℕ → Pos) → List Mode → Rule → Pos → Type 0
 EndBreaks body place modes rule at =
     (w : Path body) × (a : ℕ) × (i : ℕ)
-    × (rule ≡ NotAllWritten) × (place a ≡ at) × ((mode_at modes a).access ≡ Write) × (i < (mode_at modes a).dim)
+    × (rule ≡ NotAllWritten) × (place a ≡ at) × ((mode_at modes a).access ≡ OpWrite) × (i < (mode_at modes a).dim)
     × (HasAssigned (assigned_after [] (events body w no_counters)) a i → ⊥)
 
 -- the place of a parameter's name
@@ -165,7 +168,9 @@ IsEarlier p q = (p.line < q.line) ⊎ ((p.line ≡ q.line) × (p.column < q.colu
 -- the refusal of a kernel: of all rules that it breaks, that at the earliest place, and there the one with the least number
 pub record IsRefusal (k : RKernel) (modes : List Mode) (rule : Rule) (at : Pos) : Type 0 where
   pub breaks : KernelBreaks k modes rule at
-  pub first : (other : Rule) (there : Pos) → KernelBreaks k modes other there → IsEarlier at there ⊎ ((at ≡ there) × (number_of rule ≤ number_of other))
+  pub first : (other : Rule) (there : Pos)
+      → KernelBreaks k modes other there
+      → IsEarlier at there ⊎ ((at ≡ there) × (number_of rule ≤ number_of other))
 
 -- a kernel obeys its modes exactly where it breaks no rule at any place
 abbrev pub ObeysUnlessBroken : Type 0
@@ -173,4 +178,8 @@ ObeysUnlessBroken = (k : RKernel) (modes : List Mode) → KernelObeys k modes �
 
 -- a kernel has at most one refusal
 abbrev pub OneRefusal : Type 0
-OneRefusal = (k : RKernel) (modes : List Mode) (rule other : Rule) (at there : Pos) → IsRefusal k modes rule at → IsRefusal k modes other there → (rule ≡ other) × (at ≡ there)
+OneRefusal =
+    (k : RKernel) (modes : List Mode) (rule other : Rule) (at there : Pos)
+    → IsRefusal k modes rule at
+    → IsRefusal k modes other there
+    → (rule ≡ other) × (at ≡ there)

@@ -10,7 +10,8 @@ use Rattle.c_tree.specs.declared.expressions.MinMax.TheVariants as min_max
 use Rattle.kernel_types.specs.declared.expressions.ElementForm.{ElementForm}
 use Rattle.kernel_types.specs.declared.expressions.ElementForm.TheVariants.{Index, Deref}
 use Rattle.kernel_types.specs.declared.expressions.RExpr.{RExpr}
-use Rattle.kernel_types.specs.declared.expressions.RExpr.TheVariants.{Number, Scalar, Constant, Arg', Local', Const', Unary', Binary', Choice', Paren', Extremum', Absolute'}
+use Rattle.kernel_types.specs.declared.expressions.RExpr.TheVariants.{Number, Scalar, Constant, Arg', Local', Const', Unary', Binary'}
+use Rattle.kernel_types.specs.declared.expressions.RExpr.TheVariants.{Choice', Paren', Extremum', Absolute'}
 
 -- the same tokens are the same tree, places aside
 
@@ -62,8 +63,10 @@ same_tokens (Number n) (Number m) = int_eq n m
 same_tokens (Scalar k) (Scalar j) = nat_eq k j
 same_tokens (Constant k) (Constant j) = nat_eq k j
 same_tokens (Arg' a form p e at) (Arg' b gorm q f bt) = nat_eq a b && (same_form form gorm && same_tokens e f)
-same_tokens (Local' from count form p e at) (Local' grom dount gorm q f bt) = nat_eq from grom && (nat_eq count dount && (same_form form gorm && same_tokens e f))
-same_tokens (Const' from count form p e at) (Const' grom dount gorm q f bt) = nat_eq from grom && (nat_eq count dount && (same_form form gorm && same_tokens e f))
+same_tokens (Local' from count form p e at) (Local' grom dount gorm q f bt) =
+    nat_eq from grom && (nat_eq count dount && (same_form form gorm && same_tokens e f))
+same_tokens (Const' from count form p e at) (Const' grom dount gorm q f bt) =
+    nat_eq from grom && (nat_eq count dount && (same_form form gorm && same_tokens e f))
 same_tokens (Unary' op p a) (Unary' oq q b) = same_unary op oq && same_tokens a b
 same_tokens (Binary' op p a q b at) (Binary' oq r c t d bt) = same_op op oq && (same_tokens a c && same_tokens b d)
 same_tokens (Choice' p x q a r b) (Choice' s y t c u d) = same_tokens x y && (same_tokens a c && same_tokens b d)

@@ -8,10 +8,11 @@ use Rattle.reductions.specs.Reduction.{Reduction, Add}
 use Rattle.schedule_steps.specs.Outline.{by_colour}
 use Rattle.schedule_model.specs.Cells.{Cell, Data, Variable, DatCell, VarCell, Store, InRange}
 use Rattle.schedule_model.specs.History.{ByHistory, exchanged_by_bit}
-use Rattle.schedule_model.specs.Effects.{Finished, Class, Untouched, Read, Written, Merged, is_read, is_modified, CellAlike, Alike, Independent}
-use Rattle.schedule_model.specs.Plan.{Free, Reduce, Ordered, is_free, owner_of, has_copy, executes, outline}
-use Rattle.schedule_model.specs.Laws.{Reaches, Lawful, Coloured}
-use Rattle.schedule_examples.specs.Ring.{other, x, r, is_x, is_r, is_sum, kind, site, set, class, reduces, written, added, moved, unless, run, modifies, needs, sends, import_execute, core, ring, kept_sum, sum}
+use Rattle.schedule_model.specs.Effects.{Finished, Touch, Untouched, Read, Written, Merged, is_read, is_modified, CellAlike, Alike, Independent}
+use Rattle.schedule_model.specs.Program.{Free, Reduce, Ordered, is_free}
+use Rattle.schedule_model.specs.Setup.{owner_of, has_copy, executes, outline}
+use Rattle.schedule_model.specs.Laws.{Kernels, Items, Reaches, Lawful, Coloured}
+use Rattle.schedule_examples.specs.Ring.{other, x, r, is_x, is_r, is_sum, kind, site, set, touch, reduces, written, added, moved, unless, run, modifies, needs, sends, import_execute, core, ring, is_one, is_base, is_variable, kept_variables, first_value, one, base}
 
 -- the law on the one bit
 abbrev pub OneBit : Type 0
@@ -59,12 +60,12 @@ module _ (faulty : Bool) where
   good_cond b v w gv gw = cond_both b v w (FitsSigned w32) gv (λ t. gw)
 
   good_written : (e : ℕ) (s : Store) → e < 2 → InRange s → InRange (written e s)
-  good_written e s lt g (Data c) = good_cond (is_x c && (c.element == e)) (pos (suc e)) (s (Data c)) (λ t. record { sfits = omega arith }) (g (Data c))
+  good_written e s lt g (Data c) = good_cond (is_x c && (c.element == e)) (int_wrap w32 (pos (suc e) +ℤ (s base +ℤ s base))) (s (Data c)) (λ t. SFits-int_wrap w32 (pos (suc e) +ℤ (s base +ℤ s base))) (g (Data c))
   good_written e s lt g (Variable v) = g (Variable v)
 
   good_added : (s : Store) → InRange s → InRange (added s)
   good_added s g (Data c) = good_cond (is_r c) (int_wrap w32 (s (Data c) +ℤ s (x (other c.element)))) (s (Data c)) (λ t. SFits-int_wrap w32 (s (Data c) +ℤ s (x (other c.element)))) (g (Data c))
-  good_added s g (Variable v) = good_cond (is_sum v) (int_wrap w32 (s (Variable v) +ℤ pos 1)) (s (Variable v)) (λ t. SFits-int_wrap w32 (s (Variable v) +ℤ pos 1)) (g (Variable v))
+  good_added s g (Variable v) = good_cond (is_sum v) (int_wrap w32 (s (Variable v) +ℤ s one)) (s (Variable v)) (λ t. SFits-int_wrap w32 (s (Variable v) +ℤ s one)) (g (Variable v))
 
   good_moved : (e : ℕ) (s : Store) → InRange s → InRange (moved e s)
   good_moved e s g (Data c) = good_cond (is_x c && (c.element == e)) (int_wrap w32 (s (Data c) +ℤ s (r e))) (s (Data c)) (λ t. SFits-int_wrap w32 (s (Data c) +ℤ s (r e))) (g (Data c))
@@ -80,9 +81,17 @@ module _ (faulty : Bool) where
   good_run (suc (suc n)) e s t lt g h = subst InRange (let i : moved e s ≡ t = cc in i) (good_moved e s g)
 
   -- ---- kernels
-  written_alike : (b : Bool) (v a d : ℤ) → CellAlike (cond b Written Untouched) a (cond b v a) d (cond b v d)
-  written_alike true v a d = refl
-  written_alike false v a d = (refl, refl)
+  written_alike : (b : Bool) (v w a d : ℤ) → v ≡ w → CellAlike (cond b Written Untouched) a (cond b v a) d (cond b w d)
+  written_alike true v w a d same = same
+  written_alike false v w a d same = (refl, refl)
+
+  read_alike : (b : Bool) (a d : ℤ) → CellAlike (cond b Read Untouched) a a d d
+  read_alike true a d = (refl, refl)
+  read_alike false a d = (refl, refl)
+
+  sum_alike : (b c : Bool) (a m d n : ℤ) → m ≡ n → CellAlike (cond b (Merged Add) (cond c Read Untouched)) a (cond b (int_wrap w32 (a +ℤ m)) a) d (cond b (int_wrap w32 (d +ℤ n)) d)
+  sum_alike true c a m d n same = (m, refl, ap (λ z. int_wrap w32 (d +ℤ z)) (sym same))
+  sum_alike false c a m d n same = read_alike c a d
 
   added_alike : (b c : Bool) (a m d n : ℤ) → (b ≡ true → c ≡ false) → m ≡ n → CellAlike (cond b Read (cond c (Merged Add) Untouched)) a (cond c (int_wrap w32 (a +ℤ m)) a) d (cond c (int_wrap w32 (d +ℤ n)) d)
   added_alike true true a m d n apart same = absurd (false≢true (sym (apart refl)))
@@ -90,25 +99,26 @@ module _ (faulty : Bool) where
   added_alike false true a m d n apart same = (m, refl, ap (λ z. int_wrap w32 (d +ℤ z)) (sym same))
   added_alike false false a m d n apart same = (refl, refl)
 
-  reads_other : (e n : ℕ) → is_read (class 1 e (x (other n))) ≡ true
+  reads_other : (e n : ℕ) → is_read (touch 1 e (x (other n))) ≡ true
   reads_other e zero = refl
   reads_other e (suc n) = refl
 
-  all_alike : (e : ℕ) (s w : Store) → ((c : Cell) → is_read (class 1 e c) ≡ true → s c ≡ w c) → (c : Cell) → CellAlike (class 1 e c) (s c) (added s c) (w c) (added w c)
+  all_alike : (e : ℕ) (s w : Store) → ((c : Cell) → is_read (touch 1 e c) ≡ true → s c ≡ w c) → (c : Cell) → CellAlike (touch 1 e c) (s c) (added s c) (w c) (added w c)
   all_alike e s w agree (Data c) = added_alike (is_x c) (is_r c) (s (Data c)) (s (x (other c.element))) (w (Data c)) (w (x (other c.element))) (x_no_r c) (agree (x (other c.element)) (reads_other e c.element))
-  all_alike e s w agree (Variable v) = added_alike false (is_sum v) (s (Variable v)) (pos 1) (w (Variable v)) (pos 1) (λ h. absurd (false≢true h)) refl
+  all_alike e s w agree (Variable v) = sum_alike (is_sum v) (is_one v) (s (Variable v)) (s one) (w (Variable v)) (w one) (agree one refl)
 
-  unless_alike : (f : Bool) (e : ℕ) (cl : Cell → Class) (s w t u : Store) → ((c : Cell) → CellAlike (cl c) (s c) (t c) (w c) (u c)) → Alike cl s w (unless f e t) (unless f e u)
+  unless_alike : (f : Bool) (e : ℕ) (cl : Cell → Touch) (s w t u : Store) → ((c : Cell) → CellAlike (cl c) (s c) (t c) (w c) (u c)) → Alike cl s w (unless f e t) (unless f e u)
   unless_alike true e cl s w t u h = refl
   unless_alike false e cl s w t u h = h
 
-  all_written : (e : ℕ) (s w : Store) (c : Cell) → CellAlike (class 0 e c) (s c) (written e s c) (w c) (written e w c)
-  all_written e s w (Data c) = written_alike (is_x c && (c.element == e)) (pos (suc e)) (s (Data c)) (w (Data c))
-  all_written e s w (Variable v) = (refl, refl)
+  all_written : (e : ℕ) (s w : Store) → ((c : Cell) → is_read (touch 0 e c) ≡ true → s c ≡ w c) → (c : Cell) → CellAlike (touch 0 e c) (s c) (written e s c) (w c) (written e w c)
+  all_written e s w agree (Data c) = written_alike (is_x c && (c.element == e)) (int_wrap w32 (pos (suc e) +ℤ (s base +ℤ s base))) (int_wrap w32 (pos (suc e) +ℤ (w base +ℤ w base))) (s (Data c)) (w (Data c))
+      (ap (λ z. int_wrap w32 (pos (suc e) +ℤ (z +ℤ z))) (agree base refl))
+  all_written e s w agree (Variable v) = read_alike (is_base v) (s (Variable v)) (w (Variable v))
 
-  independent : (k e : ℕ) → kind k ≡ Free → e < 2 → Independent (run faulty k e) (class k e)
-  independent zero e fr lt = λ s w gs gw agree. all_written e s w
-  independent (suc zero) e fr lt = λ s w gs gw agree. unless_alike faulty e (class 1 e) s w (added s) (added w) (all_alike e s w agree)
+  independent : (k e : ℕ) → kind k ≡ Free → e < 2 → Independent (run faulty k e) (touch k e)
+  independent zero e fr lt = λ s w gs gw agree. all_written e s w agree
+  independent (suc zero) e fr lt = λ s w gs gw agree. unless_alike faulty e (touch 1 e) s w (added s) (added w) (all_alike e s w agree)
   independent (suc (suc zero)) e fr lt = absurd (false≢true (ap is_free fr))
   independent (suc (suc (suc zero))) e fr lt = absurd (false≢true (ap is_free fr))
   independent (suc (suc (suc (suc n)))) e fr lt = absurd (false≢true (ap is_free fr))
@@ -123,7 +133,7 @@ module _ (faulty : Bool) where
       ∙ cond-false (is_x c && (c.element == e)) (int_wrap w32 (s (Data c) +ℤ s (r e))) (s (Data c)) (and_left (is_x c) (c.element == e) (and_left (c.dat == 0) (nat_lt c.element 2 && (c.component == 0)) m))
   stays (suc (suc (suc (suc n)))) e s t c od lt h m = cc
 
-  -- ---- classes
+  -- ---- touches
   untouched : (b : Bool) → b ≡ false → cond b Written Untouched ≡ Untouched
   untouched true h = absurd (false≢true (sym h))
   untouched false h = refl
@@ -133,7 +143,7 @@ module _ (faulty : Bool) where
   is_written false h = absurd (false≢true h)
 
   -- the cell's node is the element
-  pub writes_own : (e : ℕ) (c : DatCell) → is_modified (class 0 e (Data c)) ≡ true → OfNode c 0 × (c.element ≡ e)
+  pub writes_own : (e : ℕ) (c : DatCell) → is_modified (touch 0 e (Data c)) ≡ true → OfNode c 0 × (c.element ≡ e)
   writes_own e c h =
       let a : (is_x c ≡ true) × ((c.element == e) ≡ true) = and_parts (is_x c) (c.element == e) (is_written (is_x c && (c.element == e)) h) in
       (of_node c 0 a.0, eqb-true c.element e a.1)
@@ -143,33 +153,37 @@ module _ (faulty : Bool) where
   is_merged false true h = (refl, refl)
   is_merged false false h = absurd (false≢true h)
 
-  merged_class : (b c : Bool) → (b ≡ false) × (c ≡ true) → cond b Read (cond c (Merged Add) Untouched) ≡ Merged Add
-  merged_class true c h = absurd (false≢true (sym h.0))
-  merged_class false true h = refl
-  merged_class false false h = absurd (false≢true h.1)
+  merged_touch : (b c : Bool) → (b ≡ false) × (c ≡ true) → cond b Read (cond c (Merged Add) Untouched) ≡ Merged Add
+  merged_touch true c h = absurd (false≢true (sym h.0))
+  merged_touch false true h = refl
+  merged_touch false false h = absurd (false≢true h.1)
 
-  shares : (k a b : ℕ) (c : DatCell) → kind k ≡ Free → a < 2 → b < 2 → (a ≡ b → ⊥) → is_modified (class k a (Data c)) ≡ true
-      → (class k b (Data c) ≡ Untouched) ⊎ ((o : Reduction) × (class k a (Data c) ≡ Merged o) × (class k b (Data c) ≡ Merged o))
+  shares : (k a b : ℕ) (c : DatCell) → kind k ≡ Free → a < 2 → b < 2 → (a ≡ b → ⊥) → is_modified (touch k a (Data c)) ≡ true
+      → (touch k b (Data c) ≡ Untouched) ⊎ ((o : Reduction) × (touch k a (Data c) ≡ Merged o) × (touch k b (Data c) ≡ Merged o))
   shares zero a b c fr la lb ne h = inl (untouched (is_x c && (c.element == b)) (and_right (is_x c) (c.element == b) (ne_eqb c.element b (λ e. ne (sym (writes_own a c h).1 ∙ e)))))
   shares (suc zero) a b c fr la lb ne h =
-      let m : class 1 a (Data c) ≡ Merged Add = merged_class (is_x c) (is_r c) (is_merged (is_x c) (is_r c) h) in
+      let m : touch 1 a (Data c) ≡ Merged Add = merged_touch (is_x c) (is_r c) (is_merged (is_x c) (is_r c) h) in
       inr (Add, m, m)
   shares (suc (suc zero)) a b c fr la lb ne h = cc
   shares (suc (suc (suc zero))) a b c fr la lb ne h = cc
   shares (suc (suc (suc (suc n)))) a b c fr la lb ne h = cc
 
-  sum_reaches : (b : Bool) → Reaches (cond b (Some Add) None) (cond b (Merged Add) Untouched)
-  sum_reaches true = refl
-  sum_reaches false = refl
+  pub only_read : (b : Bool) → is_modified (cond b Read Untouched) ≡ false
+  only_read true = refl
+  only_read false = refl
 
-  reaches : (k e : ℕ) (v : VarCell) → kind k ≡ Free → e < 2 → Reaches (reduces (site k) v) (class k e (Variable v))
-  reaches zero e v fr lt = refl
-  reaches (suc zero) e v fr lt = sum_reaches (is_sum v)
+  sum_reaches : (b c : Bool) → Reaches (cond b (Some Add) None) (cond b (Merged Add) (cond c Read Untouched))
+  sum_reaches true c = refl
+  sum_reaches false c = only_read c
+
+  reaches : (k e : ℕ) (v : VarCell) → kind k ≡ Free → e < 2 → Reaches (reduces (site k) v) (touch k e (Variable v))
+  reaches zero e v fr lt = only_read (is_base v)
+  reaches (suc zero) e v fr lt = sum_reaches (is_sum v) (is_one v)
   reaches (suc (suc zero)) e v fr lt = cc
   reaches (suc (suc (suc zero))) e v fr lt = cc
   reaches (suc (suc (suc (suc n)))) e v fr lt = cc
 
-  modified : (k e : ℕ) (c : DatCell) → kind k ≡ Free → e < 2 → is_modified (class k e (Data c)) ≡ true → modifies k c.dat ≡ true
+  pub modified : (k e : ℕ) (c : DatCell) → kind k ≡ Free → e < 2 → is_modified (touch k e (Data c)) ≡ true → modifies k c.dat ≡ true
   modified zero e c fr lt h = eq-eqb c.dat 0 (writes_own e c h).0.of_dat
   modified (suc zero) e c fr lt h = eq-eqb c.dat 1 (of_node c 1 (is_merged (is_x c) (is_r c) h).1).of_dat
   modified (suc (suc zero)) e c fr lt h = cc
@@ -221,17 +235,17 @@ module _ (faulty : Bool) where
       (λ (ne : e ≡ t → ⊥). or_right (e == t) (true && (e == other t)) (eq-eqb e (other t) (other_is t e lt le ne)))
       (cases_eq e t)
 
-  writes_owned : (e : ℕ) (c : DatCell) → is_modified (class 0 e (Data c)) ≡ true → owner_of (ring faulty) c ≡ e
+  writes_owned : (e : ℕ) (c : DatCell) → is_modified (touch 0 e (Data c)) ≡ true → owner_of (ring faulty) c ≡ e
   writes_owned e c h = let a : OfNode c 0 × (c.element ≡ e) = writes_own e c h in owner_in c a.0.below ∙ a.1
 
-  covers : (k e : ℕ) (c : DatCell) → kind k ≡ Free → e < 2 → is_modified (class k e (Data c)) ≡ true → executes (ring faulty) k (owner_of (ring faulty) c) e ≡ true
+  covers : (k e : ℕ) (c : DatCell) → kind k ≡ Free → e < 2 → is_modified (touch k e (Data c)) ≡ true → executes (ring faulty) k (owner_of (ring faulty) c) e ≡ true
   covers zero e c fr lt h = or_left (e == owner_of (ring faulty) c) (false && import_execute (owner_of (ring faulty) c) 0 e) (eq-eqb e (owner_of (ring faulty) c) (sym (writes_owned e c h)))
   covers (suc zero) e c fr lt h = all_edges (owner_of (ring faulty) c) e (owner_below c) lt
   covers (suc (suc zero)) e c fr lt h = cc
   covers (suc (suc (suc zero))) e c fr lt h = cc
   covers (suc (suc (suc (suc n)))) e c fr lt h = cc
 
-  core_modifies : (k t e : ℕ) (c : DatCell) → kind k ≡ Free → t < 2 → e < 2 → executes (ring faulty) k t e ≡ true → core t (set k) e ≡ true → is_modified (class k e (Data c)) ≡ true → owner_of (ring faulty) c ≡ t
+  core_modifies : (k t e : ℕ) (c : DatCell) → kind k ≡ Free → t < 2 → e < 2 → executes (ring faulty) k t e ≡ true → core t (set k) e ≡ true → is_modified (touch k e (Data c)) ≡ true → owner_of (ring faulty) c ≡ t
   core_modifies zero t e c fr lt le ex co h = writes_owned e c h ∙ eqb-true e t co
   core_modifies (suc zero) t e c fr lt le ex co h = absurd (false≢true co)
   core_modifies (suc (suc zero)) t e c fr lt le ex co h = cc
@@ -247,7 +261,7 @@ module _ (faulty : Bool) where
   is_read_x false true h = absurd (false≢true h)
   is_read_x false false h = absurd (false≢true h)
 
-  core_reads : (k t e : ℕ) (c : DatCell) → kind k ≡ Free → t < 2 → e < 2 → executes (ring faulty) k t e ≡ true → is_read (class k e (Data c)) ≡ true
+  core_reads : (k t e : ℕ) (c : DatCell) → kind k ≡ Free → t < 2 → e < 2 → executes (ring faulty) k t e ≡ true → is_read (touch k e (Data c)) ≡ true
       → (owner_of (ring faulty) c ≡ t) ⊎ ((has_copy (ring faulty) t c ≡ true) × (needs k c.dat ≡ true) × (core t (set k) e ≡ false))
   core_reads zero t e c fr lt le ex h = absurd (unread (is_x c && (c.element == e)) h)
   core_reads (suc zero) t e c fr lt le ex h =
@@ -270,16 +284,21 @@ module _ (faulty : Bool) where
   linked (suc zero) t c fr lt copy h = let a : (c.element < 2) × (c.element ≡ other t) = copy_is t c copy in ap (λ s. sends 1 s t) (owner_in c a.0 ∙ a.1) ∙ goes t lt
   linked (suc (suc n)) t c fr lt copy h = absurd (false≢true h)
 
-  pub lawful : OneBit → Lawful (ring faulty)
-  lawful bit = record {
-    start_in_range = λ c. record { sfits = omega arith };
-    run_in_range = good_run;
-    host_in_range = λ k s v o g h y. (let i : kept_sum s ≡ v = cc in subst (λ f. FitsSigned w32 (f y)) i (good_cond (is_sum y) (s sum) (pos 0) (λ t. g sum) (record { sfits = omega arith })));
+  first_in_range : InRange first_value
+  first_in_range (Data c) = record { sfits = omega arith }
+  first_in_range (Variable v) = good_cond (is_one v) (pos 1) (pos 0) (λ t. record { sfits = omega arith }) (record { sfits = omega arith })
+
+  pub kernels : Kernels (ring faulty)
+  kernels = record {
+    start_in_range = first_in_range;
+    run_in_range = λ k e s t lp. good_run k e s t;
+    host_in_range = λ k s v o g h y. (let i : kept_variables s ≡ v = cc in subst (λ f. FitsSigned w32 (f y)) i (good_cond (is_variable y) (s (Variable y)) (pos 0) (λ t. g (Variable y)) (record { sfits = omega arith })));
     independent = independent;
     stays = stays;
-    shares = shares;
-    reaches = reaches;
-    modified = modified;
+  }
+
+  pub items : OneBit → Items (ring faulty)
+  items bit = record {
     first_item = λ h. cc;
     reduce_after = reduce_after;
     reduce_next = reduce_next;
@@ -288,6 +307,15 @@ module _ (faulty : Bool) where
     needs_free = needs_free;
     some_rank = omega arith;
     owners = λ s e lt. lt;
+  }
+
+  pub lawful : OneBit → Lawful (ring faulty)
+  lawful bit = record {
+    kernels = kernels;
+    items = items bit;
+    shares = shares;
+    reaches = reaches;
+    modified = modified;
     imports_other = imports_other;
     covers = covers;
     core_modifies = core_modifies;

@@ -1,4 +1,5 @@
 pub mod Lawful
 pub mod Refused
+pub mod Windows
 pub mod OnBuffers
 pub mod Parts

@@ -1,157 +1,22 @@
 -- The ring's layout is that of its plan.
-use Rattle.std.proofs.Common.{◌≡◌, ℕ, ℤ, zero, suc, ◌+◌, ◌*◌, ◌<◌, pos, ◌+ℤ◌, Bool, true, false, cond, ◌⊎◌, inl, inr, refl, sym, ap, subst, ◌∙◌, arith, ⊎_elim, Some, None, List, [], ◌∷◌, map, length, get_or, w32}
+use Rattle.std.proofs.Common.{◌≡◌, ℕ, zero, suc, ◌+◌, ◌*◌, ◌<◌, pos, Bool, true, false, cond, ◌⊎◌, inl, inr, refl, sym, ap, subst, ◌∙◌, arith, ⊎_elim, Some, None, List, [], ◌∷◌, length, get_or}
 use Rattle.std.specs.Prelude.{◌&&◌, ◌||◌, ◌==◌, nat_lt}
-use Rattle.std.specs.Int.{int_wrap}
 use Rattle.std.proofs.lemmas.Bool.{cases_eq, cases_Bool, false≢true, and_parts, and_from, or_left, or_cases, cond-true, cond-false, eqb-true, eq-eqb, ne_eqb, ltb-true, lt-ltb}
 use Rattle.reductions.specs.Reduction.{Reduction, Add}
 use Rattle.schedule_model.specs.Cells.{Cell, Data, Variable, DatCell, VarCell, Store, same_cell}
 use Rattle.schedule_model.specs.Tests.{same_cell_refl, same_cell_true}
-use Rattle.schedule_model.specs.Effects.{Finished, Untouched, Written, is_modified}
-use Rattle.schedule_model.specs.Plan.{Free, is_free, Goes, owner_of, has_copy, executes}
+use Rattle.schedule_model.specs.Effects.{Untouched, Written, is_modified}
+use Rattle.schedule_model.specs.Program.{Free, is_free, Goes, is_loop}
+use Rattle.schedule_model.specs.Setup.{owner_of, has_copy, executes}
 use Rattle.schedule_model.specs.Machine.{arrives, unit_at}
-use Rattle.flat_machine.specs.Layout.{Leaves, Fits, lookup, among, of_core, is_cell, Exists, is_loop, Has}
+use Rattle.flat_machine.specs.Layout.{IsLayout, among, is_cell, Exists, Has}
 use Rattle.flat_machine.specs.Flat.{StartsFlat}
-use Rattle.schedule_examples.specs.Ring.{other, x_cell, r_cell, sum_cell, x, r, sum, is_x, is_r, is_sum, kind, site, class, reduces, written, added, moved, unless, run, digits, needs, ring}
-use Rattle.schedule_examples.specs.RingLayout.{cells, unless_core, core_run, side, of_side, cell_at, exports, count, ring_layout, ring_start}
-use Rattle.schedule_examples.proofs.Lawful.{OfNode, of_node, owner_in, other_is, other_not, writes_own, is_merged, all_edges}
-
--- ---- cells
--- a cell of a dat of the ring
-x_is : (c : DatCell) → is_x c ≡ true → c ≡ x_cell c.element
-x_is c h =
-    let a : ((c.dat == 0) ≡ true) × ((nat_lt c.element 2 && (c.component == 0)) ≡ true) = and_parts (c.dat == 0) (nat_lt c.element 2 && (c.component == 0)) h in
-    let d : c.dat ≡ 0 = eqb-true c.dat 0 a.0 in
-    let i : c.component ≡ 0 = eqb-true c.component 0 (and_parts (nat_lt c.element 2) (c.component == 0) a.1).1 in
-    λ j. record { dat = d j; element = c.element; component = i j }
-
-r_is : (c : DatCell) → is_r c ≡ true → c ≡ r_cell c.element
-r_is c h =
-    let a : ((c.dat == 1) ≡ true) × ((nat_lt c.element 2 && (c.component == 0)) ≡ true) = and_parts (c.dat == 1) (nat_lt c.element 2 && (c.component == 0)) h in
-    let d : c.dat ≡ 1 = eqb-true c.dat 1 a.0 in
-    let i : c.component ≡ 0 = eqb-true c.component 0 (and_parts (nat_lt c.element 2) (c.component == 0) a.1).1 in
-    λ j. record { dat = d j; element = c.element; component = i j }
-
-pub sum_is : (v : VarCell) → is_sum v ≡ true → v ≡ sum_cell
-sum_is v h =
-    let a : ((v.variable == 0) ≡ true) × ((v.component == 0) ≡ true) = and_parts (v.variable == 0) (v.component == 0) h in
-    let d : v.variable ≡ 0 = eqb-true v.variable 0 a.0 in
-    let i : v.component ≡ 0 = eqb-true v.component 0 a.1 in
-    λ j. record { variable = d j; component = i j }
-
--- below 2 there are two numbers
-two : (P : ℕ → Type 0) → P 0 → P 1 → (n : ℕ) → n < 2 → P n
-two P a b zero lt = a
-two P a b (suc zero) lt = b
-two P a b (suc (suc n)) lt = absurd (omega arith)
-
--- ---- runs on windows
--- a value that stands for one cell
-one_of : (y c : Cell) (v d : ℤ) → (y ≡ c → v ≡ d) → cond (same_cell y c) v d ≡ d
-one_of y c v d h = ⊎_elim (λ t. cond-true (same_cell y c) v d t ∙ h (same_cell_true y c t)) (λ t. cond-false (same_cell y c) v d t) (cases_Bool (same_cell y c))
-
-same_test : (b c : Bool) → (b ≡ true → c ≡ true) → (c ≡ true → b ≡ true) → b ≡ c
-same_test true c f g = sym (f refl)
-same_test false true f g = g refl
-same_test false false f g = refl
-
--- the cell is x of the element
-is_x_of : (e : ℕ) (c : DatCell) → e < 2 → (is_x c && (c.element == e)) ≡ same_cell (x e) (Data c)
-is_x_of e c lt = same_test (is_x c && (c.element == e)) (same_cell (x e) (Data c))
-    (λ h. let a : (is_x c ≡ true) × ((c.element == e) ≡ true) = and_parts (is_x c) (c.element == e) h in
-    subst (λ z. same_cell (x e) (Data z) ≡ true) (sym (x_is c a.0 ∙ ap x_cell (eqb-true c.element e a.1))) (same_cell_refl (x e)))
-    (λ h. let i : x_cell e ≡ c = (let j : x e ≡ Data c = same_cell_true (x e) (Data c) h in cc) in
-    subst (λ z. (is_x z && (z.element == e)) ≡ true) i (and_from (is_x (x_cell e)) (e == e) (and_from (nat_lt e 2) true (lt-ltb e 2 lt) refl) (eq-eqb e e refl)))
-
-written_is : (e : ℕ) (s : Store) → e < 2 → (c : Cell) → written e s c ≡ lookup (x e ∷ []) (pos (suc e) ∷ []) c (s c)
-written_is e s lt (Data c) = ap (λ b. cond b (pos (suc e)) (s (Data c))) (is_x_of e c lt)
-written_is e s lt (Variable v) = refl
-
-moved_is : (e : ℕ) (s : Store) → e < 2 → (c : Cell) → moved e s c ≡ lookup (x e ∷ r e ∷ []) (int_wrap w32 (s (x e) +ℤ s (r e)) ∷ s (r e) ∷ []) c (s c)
-moved_is e s lt (Data c) =
-    ap (λ b. cond b (int_wrap w32 (s (Data c) +ℤ s (r e))) (s (Data c))) (is_x_of e c lt)
-    ∙ ⊎_elim
-    (λ (t : same_cell (x e) (Data c) ≡ true).
-    cond-true (same_cell (x e) (Data c)) (int_wrap w32 (s (Data c) +ℤ s (r e))) (s (Data c)) t
-    ∙ (ap (λ z. int_wrap w32 (s z +ℤ s (r e))) (sym (same_cell_true (x e) (Data c) t))
-    ∙ sym (cond-true (same_cell (x e) (Data c)) (int_wrap w32 (s (x e) +ℤ s (r e))) (cond (same_cell (r e) (Data c)) (s (r e)) (s (Data c))) t)))
-    (λ (t : same_cell (x e) (Data c) ≡ false).
-    cond-false (same_cell (x e) (Data c)) (int_wrap w32 (s (Data c) +ℤ s (r e))) (s (Data c)) t
-    ∙ (sym (one_of (r e) (Data c) (s (r e)) (s (Data c)) (λ i. ap s i))
-    ∙ sym (cond-false (same_cell (x e) (Data c)) (int_wrap w32 (s (x e) +ℤ s (r e))) (cond (same_cell (r e) (Data c)) (s (r e)) (s (Data c))) t)))
-    (cases_Bool (same_cell (x e) (Data c)))
-moved_is e s lt (Variable v) = refl
-
--- the values of item 1's windows
-abbrev new : Store → List ℤ
-new s = s (x 0) ∷ s (x 1) ∷ int_wrap w32 (s (r 0) +ℤ s (x 1)) ∷ int_wrap w32 (s (r 1) +ℤ s (x 0)) ∷ int_wrap w32 (s sum +ℤ pos 1) ∷ []
-
-abbrev all : List Cell
-all = x 0 ∷ x 1 ∷ r 0 ∷ r 1 ∷ sum ∷ []
-
--- a cell that is neither r's nor the sum keeps its value
-not_r : (s : Store) (c : DatCell) → is_r c ≡ false → s (Data c) ≡ lookup all (new s) (Data c) (s (Data c))
-not_r s c h = sym (
-    one_of (x 0) (Data c) (s (x 0)) (lookup (x 1 ∷ r 0 ∷ r 1 ∷ sum ∷ []) (s (x 1) ∷ int_wrap w32 (s (r 0) +ℤ s (x 1)) ∷ int_wrap w32 (s (r 1) +ℤ s (x 0)) ∷ int_wrap w32 (s sum +ℤ pos 1) ∷ []) (Data c) (s (Data c))) (λ i. ap s i ∙ sym rest)
-    ∙ rest)
-  where
-    no : (n : ℕ) → n < 2 → r n ≡ Data c → ⊥
-    no n lt i = let j : r_cell n ≡ c = cc in false≢true (sym h ∙ subst (λ z. is_r z ≡ true) j (and_from (nat_lt n 2) true (lt-ltb n 2 lt) refl))
-
-    last : cond (same_cell (r 1) (Data c)) (int_wrap w32 (s (r 1) +ℤ s (x 0))) (s (Data c)) ≡ s (Data c)
-    last = one_of (r 1) (Data c) (int_wrap w32 (s (r 1) +ℤ s (x 0))) (s (Data c)) (λ i. absurd (no 1 (omega arith) i))
-
-    rest : lookup (x 1 ∷ r 0 ∷ r 1 ∷ sum ∷ []) (s (x 1) ∷ int_wrap w32 (s (r 0) +ℤ s (x 1)) ∷ int_wrap w32 (s (r 1) +ℤ s (x 0)) ∷ int_wrap w32 (s sum +ℤ pos 1) ∷ []) (Data c) (s (Data c)) ≡ s (Data c)
-    rest =
-        ap (λ z. cond (same_cell (x 1) (Data c)) (s (x 1)) (cond (same_cell (r 0) (Data c)) (int_wrap w32 (s (r 0) +ℤ s (x 1))) z)) last
-        ∙ (ap (cond (same_cell (x 1) (Data c)) (s (x 1))) (one_of (r 0) (Data c) (int_wrap w32 (s (r 0) +ℤ s (x 1))) (s (Data c)) (λ i. absurd (no 0 (omega arith) i)))
-        ∙ one_of (x 1) (Data c) (s (x 1)) (s (Data c)) (λ i. ap s i))
-
-at_r : (s : Store) (n : ℕ) → n < 2 → added s (r n) ≡ lookup all (new s) (r n) (s (r n))
-at_r s n lt = two (λ n. added s (r n) ≡ lookup all (new s) (r n) (s (r n))) refl refl n lt
-
-added_is : (s : Store) (c : Cell) → added s c ≡ lookup all (new s) c (s c)
-added_is s (Data c) = ⊎_elim
-    (λ (h : is_r c ≡ true). subst (λ z. added s (Data z) ≡ lookup all (new s) (Data z) (s (Data z))) (sym (r_is c h)) (at_r s c.element (of_node c 1 h).below))
-    (λ (h : is_r c ≡ false). cond-false (is_r c) (int_wrap w32 (s (Data c) +ℤ s (x (other c.element)))) (s (Data c)) h ∙ not_r s c h)
-    (cases_Bool (is_r c))
-added_is s (Variable v) = ⊎_elim
-    (λ (h : is_sum v ≡ true). subst (λ z. added s (Variable z) ≡ lookup all (new s) (Variable z) (s (Variable z))) (sym (sum_is v h)) refl)
-    (λ (h : is_sum v ≡ false).
-    cond-false (is_sum v) (int_wrap w32 (s (Variable v) +ℤ pos 1)) (s (Variable v)) h
-    ∙ sym (one_of sum (Variable v) (int_wrap w32 (s sum +ℤ pos 1)) (s (Variable v)) (λ i. absurd (let j : sum_cell ≡ v = cc in false≢true (sym h ∙ ap is_sum (sym j))))))
-    (cases_Bool (is_sum v))
-
-unless_is : (faulty : Bool) (e : ℕ) (s t : Store) (xs : List Cell) (ws : List ℤ) → ((c : Cell) → t c ≡ lookup xs ws c (s c)) → unless faulty e t ≡ of_core xs s (unless_core faulty e ws)
-unless_is true e s t xs ws h = refl
-unless_is false e s t xs ws h = ap Finished (λ i c. h c i)
+use Rattle.schedule_examples.specs.Ring.{other, x_cell, r_cell, x, r, sum, is_x, is_r, is_sum, kind, site, touch, reduces, digits, modifies, needs, ring, one_cell, base, is_variable, kept_variables, first_value}
+use Rattle.schedule_examples.specs.RingLayout.{cells, side, of_side, cell_at, exports, count, ring_layout, ring_start}
+use Rattle.schedule_examples.proofs.Lawful.{OfNode, of_node, owner_in, other_is, other_not, writes_own, is_merged, modified, all_edges}
+use Rattle.schedule_examples.proofs.Windows.{r_is, sum_is, two, same_test, is_x_of, all, run_is, same_length}
 
 module _ (faulty : Bool) where
-  run_is : (k e : ℕ) (s : Store) → is_loop (ring faulty) (ring_layout faulty) (kind k) ≡ true → e < 2 → run faulty k e s ≡ of_core (cells k e) s (core_run faulty k e (map s (cells k e)))
-  run_is zero e s lp lt = ap Finished (λ i c. written_is e s lt c i)
-  run_is (suc zero) e s lp lt = unless_is faulty e s (added s) all (new s) (added_is s)
-  run_is (suc (suc zero)) e s lp lt = ap Finished (λ i c. moved_is e s lt c i)
-  run_is (suc (suc (suc n))) e s lp lt = ap Finished (λ i c. moved_is e s lt c i)
-
-  unless_length : (f : Bool) (e : ℕ) (ws us : List ℤ) (n : ℕ) → length ws ≡ n → unless_core f e ws ≡ Leaves us → length us ≡ n
-  unless_length true e ws us n h i = cc
-  unless_length false e ws us n h i = (let j : ws ≡ us = cc in ap length (sym j) ∙ h)
-
-  same_length : (k e : ℕ) (ws us : List ℤ) → is_loop (ring faulty) (ring_layout faulty) (kind k) ≡ true → e < 2 → length ws ≡ length (cells k e) → core_run faulty k e ws ≡ Leaves us → length us ≡ length (cells k e)
-  same_length zero e [] us lp lt h i = absurd (omega arith)
-  same_length zero e (a ∷ []) us lp lt h i = (let j : pos (suc e) ∷ [] ≡ us = cc in ap length (sym j))
-  same_length zero e (a ∷ b ∷ ws) us lp lt h i = absurd (omega arith)
-  same_length (suc zero) e [] us lp lt h i = absurd (omega arith)
-  same_length (suc zero) e (a ∷ []) us lp lt h i = absurd (omega arith)
-  same_length (suc zero) e (a ∷ b ∷ []) us lp lt h i = absurd (omega arith)
-  same_length (suc zero) e (a ∷ b ∷ c ∷ []) us lp lt h i = absurd (omega arith)
-  same_length (suc zero) e (a ∷ b ∷ c ∷ d ∷ []) us lp lt h i = absurd (omega arith)
-  same_length (suc zero) e (a ∷ b ∷ c ∷ d ∷ s ∷ []) us lp lt h i = unless_length faulty e (a ∷ b ∷ int_wrap w32 (c +ℤ b) ∷ int_wrap w32 (d +ℤ a) ∷ int_wrap w32 (s +ℤ pos 1) ∷ []) us 5 refl i
-  same_length (suc zero) e (a ∷ b ∷ c ∷ d ∷ s ∷ t ∷ ws) us lp lt h i = absurd (omega arith)
-  same_length (suc (suc n)) e [] us lp lt h i = absurd (omega arith)
-  same_length (suc (suc n)) e (a ∷ []) us lp lt h i = absurd (omega arith)
-  same_length (suc (suc n)) e (a ∷ b ∷ []) us lp lt h i = (let j : int_wrap w32 (a +ℤ b) ∷ b ∷ [] ≡ us = cc in ap length (sym j))
-  same_length (suc (suc n)) e (a ∷ b ∷ c ∷ ws) us lp lt h i = absurd (omega arith)
-
   -- ---- cells that exist
   abbrev real : DatCell → Bool
   real c = is_cell (ring faulty) (ring_layout faulty) c
@@ -178,8 +43,8 @@ module _ (faulty : Bool) where
   below n lt = two (λ n. other n < 2) (omega arith) (omega arith) n lt
 
   -- one of a list's cells
-  is_one : (y : Cell) (xs : List Cell) (c : Cell) → among (y ∷ xs) c ≡ true → (y ≡ c) ⊎ (among xs c ≡ true)
-  is_one y xs c h = ⊎_elim (λ t. inl (same_cell_true y c t)) (λ t. inr t) (or_cases (same_cell y c) (among xs c) h)
+  is_first : (y : Cell) (xs : List Cell) (c : Cell) → among (y ∷ xs) c ≡ true → (y ≡ c) ⊎ (among xs c ≡ true)
+  is_first y xs c h = ⊎_elim (λ t. inl (same_cell_true y c t)) (λ t. inr t) (or_cases (same_cell y c) (among xs c) h)
 
   abbrev There : Cell → Type 0
   There c = Exists (ring faulty) (ring_layout faulty) c
@@ -187,11 +52,14 @@ module _ (faulty : Bool) where
   exist_pair : (e : ℕ) (c : Cell) → e < 2 → among (x e ∷ r e ∷ []) c ≡ true → There c
   exist_pair e c lt h = ⊎_elim
       (λ i. subst There i (x_real e lt))
-      (λ t. ⊎_elim (λ i. subst There i (r_real e lt)) (λ u. absurd (false≢true u)) (is_one (r e) [] c t))
-      (is_one (x e) (r e ∷ []) c h)
+      (λ t. ⊎_elim (λ i. subst There i (r_real e lt)) (λ u. absurd (false≢true u)) (is_first (r e) [] c t))
+      (is_first (x e) (r e ∷ []) c h)
 
-  exist : (k e : ℕ) (c : Cell) → is_loop (ring faulty) (ring_layout faulty) (kind k) ≡ true → e < 2 → among (cells k e) c ≡ true → There c
-  exist zero e c lp lt h = ⊎_elim (λ i. subst There i (x_real e lt)) (λ u. absurd (false≢true u)) (is_one (x e) [] c h)
+  exist : (k e : ℕ) (c : Cell) → is_loop (kind k) ≡ true → e < 2 → among (cells k e) c ≡ true → There c
+  exist zero e c lp lt h = ⊎_elim
+      (λ i. subst There i (x_real e lt))
+      (λ t. ⊎_elim (λ i. subst There i (omega arith, refl)) (λ u. absurd (false≢true u)) (is_first base [] c t))
+      (is_first (x e) (base ∷ []) c h)
   exist (suc zero) e c lp lt h = ⊎_elim
       (λ i. subst There i (x_real 0 (omega arith)))
       (λ t. ⊎_elim
@@ -200,11 +68,11 @@ module _ (faulty : Bool) where
       (λ i. subst There i (r_real 0 (omega arith)))
       (λ t. ⊎_elim
       (λ i. subst There i (r_real 1 (omega arith)))
-      (λ t. ⊎_elim (λ i. subst There i (omega arith, refl)) (λ u. absurd (false≢true u)) (is_one sum [] c t))
-      (is_one (r 1) (sum ∷ []) c t))
-      (is_one (r 0) (r 1 ∷ sum ∷ []) c t))
-      (is_one (x 1) (r 0 ∷ r 1 ∷ sum ∷ []) c t))
-      (is_one (x 0) (x 1 ∷ r 0 ∷ r 1 ∷ sum ∷ []) c h)
+      (λ t. ⊎_elim (λ i. subst There i (omega arith, refl)) (λ u. absurd (false≢true u)) (is_first sum [] c t))
+      (is_first (r 1) (sum ∷ []) c t))
+      (is_first (r 0) (r 1 ∷ sum ∷ []) c t))
+      (is_first (x 1) (r 0 ∷ r 1 ∷ sum ∷ []) c t))
+      (is_first (x 0) (x 1 ∷ r 0 ∷ r 1 ∷ sum ∷ []) c h)
   exist (suc (suc n)) e c lp lt h = exist_pair e c lt h
 
   -- each rank has every cell that exists
@@ -214,22 +82,22 @@ module _ (faulty : Bool) where
       (λ (ne : c.element ≡ t → ⊥). inr (and_from (nat_lt c.element 2) (false || (c.element == other t)) (lt-ltb c.element 2 le) (eq-eqb c.element (other t) (other_is faulty t c.element lt le ne))))
       (cases_eq c.element t)
 
-  loop_of : (k : ℕ) → kind k ≡ Free → is_loop (ring faulty) (ring_layout faulty) (kind k) ≡ true
-  loop_of k fr = ap (is_loop (ring faulty) (ring_layout faulty)) fr
+  loop_of : (k : ℕ) → kind k ≡ Free → is_loop (kind k) ≡ true
+  loop_of k fr = ap is_loop fr
 
   held : (k t e : ℕ) (c : DatCell) → kind k ≡ Free → t < 2 → e < 2 → executes (ring faulty) k t e ≡ true → among (cells k e) (Data c) ≡ true → Has (ring faulty) (ring_layout faulty) t c
   held k t e c fr lt le ex h = has_all t c lt (is_real c (exist k e (Data c) (loop_of k fr) le h)).element
 
-  modified_held : (k e : ℕ) (c : DatCell) → kind k ≡ Free → e < 2 → is_modified (class k e (Data c)) ≡ true → among (cells k e) (Data c) ≡ true
+  modified_held : (k e : ℕ) (c : DatCell) → kind k ≡ Free → e < 2 → is_modified (touch k e (Data c)) ≡ true → among (cells k e) (Data c) ≡ true
   modified_held zero e c fr lt h =
       let a : OfNode c 0 × (c.element ≡ e) = writes_own faulty e c h in
-      or_left (same_cell (x e) (Data c)) false (sym (is_x_of e c lt) ∙ writes_x e c h)
+      or_left (same_cell (x e) (Data c)) (among (base ∷ []) (Data c)) (sym (is_x_of e c lt) ∙ writes_x e c h)
     where
       by_bool : (b : Bool) → is_modified (cond b Written Untouched) ≡ true → b ≡ true
       by_bool true h = refl
       by_bool false h = absurd (false≢true h)
 
-      writes_x : (e : ℕ) (c : DatCell) → is_modified (class 0 e (Data c)) ≡ true → (is_x c && (c.element == e)) ≡ true
+      writes_x : (e : ℕ) (c : DatCell) → is_modified (touch 0 e (Data c)) ≡ true → (is_x c && (c.element == e)) ≡ true
       writes_x e c h = by_bool (is_x c && (c.element == e)) h
   modified_held (suc zero) e c fr lt h =
       let a : (is_x c ≡ false) × (is_r c ≡ true) = is_merged faulty (is_x c) (is_r c) h in
@@ -237,6 +105,43 @@ module _ (faulty : Bool) where
   modified_held (suc (suc zero)) e c fr lt h = cc
   modified_held (suc (suc (suc zero))) e c fr lt h = cc
   modified_held (suc (suc (suc (suc n)))) e c fr lt h = cc
+
+  -- a window on a dat that the item modifies is of a modified cell
+  window_modified : (k e : ℕ) (c : DatCell) → kind k ≡ Free → e < 2 → modifies k c.dat ≡ true → among (cells k e) (Data c) ≡ true → is_modified (touch k e (Data c)) ≡ true
+  window_modified zero e c fr lt m h = ⊎_elim
+      (λ (i : x e ≡ Data c). let j : x_cell e ≡ c = cc in subst (λ z. is_modified (touch 0 e (Data z)) ≡ true) j here)
+      (λ t. ⊎_elim (λ i. absurd (let n : base ≡ Data c = i in cc)) (λ u. absurd (false≢true u)) (is_first base [] (Data c) t))
+      (is_first (x e) (base ∷ []) (Data c) h)
+    where
+      here : is_modified (touch 0 e (x e)) ≡ true
+      here = ap (λ b. is_modified (cond b Written Untouched)) (and_from (is_x (x_cell e)) (e == e) (and_from (nat_lt e 2) true (lt-ltb e 2 lt) refl) (eq-eqb e e refl))
+  window_modified (suc zero) e c fr lt m h = ⊎_elim
+      (λ i. absurd (no_x 0 i))
+      (λ t. ⊎_elim
+      (λ i. absurd (no_x 1 i))
+      (λ t. ⊎_elim
+      (λ i. at_r 0 refl i)
+      (λ t. ⊎_elim
+      (λ i. at_r 1 refl i)
+      (λ t. ⊎_elim (λ i. absurd (let n : sum ≡ Data c = i in cc)) (λ u. absurd (false≢true u)) (is_first sum [] (Data c) t))
+      (is_first (r 1) (sum ∷ []) (Data c) t))
+      (is_first (r 0) (r 1 ∷ sum ∷ []) (Data c) t))
+      (is_first (x 1) (r 0 ∷ r 1 ∷ sum ∷ []) (Data c) t))
+      (is_first (x 0) (x 1 ∷ r 0 ∷ r 1 ∷ sum ∷ []) (Data c) h)
+    where
+      no_x : (n : ℕ) → x n ≡ Data c → ⊥
+      no_x n i = let j : x_cell n ≡ c = cc in false≢true (subst (λ z. (z.dat == 1) ≡ true) (sym j) m)
+
+      at_r : (n : ℕ) → is_modified (touch 1 e (r n)) ≡ true → r n ≡ Data c → is_modified (touch 1 e (Data c)) ≡ true
+      at_r n t i = subst (λ z. is_modified (touch 1 e z) ≡ true) i t
+  window_modified (suc (suc zero)) e c fr lt m h = cc
+  window_modified (suc (suc (suc zero))) e c fr lt m h = cc
+  window_modified (suc (suc (suc (suc n)))) e c fr lt m h = cc
+
+  modified_is : (k e : ℕ) (c : DatCell) → kind k ≡ Free → e < 2 → is_modified (touch k e (Data c)) ≡ (modifies k c.dat && among (cells k e) (Data c))
+  modified_is k e c fr lt = same_test (is_modified (touch k e (Data c))) (modifies k c.dat && among (cells k e) (Data c))
+      (λ h. and_from (modifies k c.dat) (among (cells k e) (Data c)) (modified faulty k e c fr lt h) (modified_held k e c fr lt h))
+      (λ h. let a : (modifies k c.dat ≡ true) × (among (cells k e) (Data c) ≡ true) = and_parts (modifies k c.dat) (among (cells k e) (Data c)) h in window_modified k e c fr lt a.0 a.1)
 
   pub sum_only : (b : Bool) (o : Reduction) → cond b (Some Add) None ≡ Some o → b ≡ true
   sum_only true o h = refl
@@ -273,10 +178,18 @@ module _ (faulty : Bool) where
   all_real t (suc (suc zero)) lt li = r_real t lt
   all_real t (suc (suc (suc n))) lt li = r_real (other t) (below t lt)
 
-  host_sees : (k : ℕ) (s t : Store) → ((c : Cell) → There c → s c ≡ t c) → (ring faulty).host k s ≡ (ring faulty).host k t
+  host_sees : (k : ℕ) (s t : Store) → ((c : Cell) → There c → s c ≡ t c) → (ring faulty).program.host k s ≡ (ring faulty).program.host k t
   host_sees k s t h =
-      let e : s sum ≡ t sum = h sum (omega arith, refl) in
-      ap (λ z. Goes (λ v. cond (is_sum v) z (pos 0)) (digits z)) e
+      ap (λ z. Goes (kept_variables s) (digits z)) (h sum (omega arith, refl)) ∙ ap (λ f. Goes f (digits (t sum))) (λ i v. kept v i)
+    where
+      kept : (v : VarCell) → kept_variables s v ≡ kept_variables t v
+      kept v = ⊎_elim
+          (λ (y : is_variable v ≡ true).
+          let a : (nat_lt v.variable 3 ≡ true) × ((v.component == 0) ≡ true) = and_parts (nat_lt v.variable 3) (v.component == 0) y in
+          let i : v.component ≡ 0 = eqb-true v.component 0 a.1 in
+          ap (λ z. cond (is_variable v) z (pos 0)) (h (Variable v) (ltb-true v.variable 3 a.0, λ j. record { variable = v.variable; component = sym i j })))
+          (λ (y : is_variable v ≡ false). cond-false (is_variable v) (s (Variable v)) (pos 0) y ∙ sym (cond-false (is_variable v) (t (Variable v)) (pos 0) y))
+          (cases_Bool (is_variable v))
 
   -- ---- messages
   exported : (k s t : ℕ) (c : DatCell) → t < 2 → real c ≡ true → arrives (ring faulty) k t s c ≡ true → among (exports k s t) (Data c) ≡ true
@@ -300,7 +213,7 @@ module _ (faulty : Bool) where
   exports_own (suc zero) s t c ls h = ⊎_elim
       (λ (i : x s ≡ Data c). let j : x_cell s ≡ c = cc in subst (λ z. (real z ≡ true) × (owner_of (ring faulty) z ≡ s)) j (x_real s ls, owner_in faulty (x_cell s) ls))
       (λ u. absurd (false≢true u))
-      (is_one (x s) [] (Data c) h)
+      (is_first (x s) [] (Data c) h)
   exports_own (suc (suc n)) s t c ls h = absurd (false≢true h)
 
   -- ---- places
@@ -338,13 +251,20 @@ module _ (faulty : Bool) where
   outside (suc (suc zero)) t i fr lt li = absurd (omega arith)
   outside (suc (suc (suc n))) t i fr lt li = absurd (omega arith)
 
-  pub fits : Fits (ring faulty) (ring_layout faulty)
+  no_sum : (k : ℕ) → kind k ≡ Free → reduces (site k) one_cell ≡ None
+  no_sum zero fr = refl
+  no_sum (suc zero) fr = refl
+  no_sum (suc (suc zero)) fr = refl
+  no_sum (suc (suc (suc n))) fr = refl
+
+  pub fits : IsLayout (ring faulty) (ring_layout faulty)
   fits = record {
-    run_is = run_is;
-    same_length = same_length;
+    run_is = run_is faulty;
+    same_length = same_length faulty;
+    constants_are = ((omega arith, refl), no_sum, tt);
     exist = exist;
     held = held;
-    modified_held = modified_held;
+    modified_is = modified_is;
     reduced_held = reduced_held;
     placed = λ t c lt h has. placed t c lt h;
     real = all_real;
@@ -368,9 +288,11 @@ module _ (faulty : Bool) where
   zero_at (suc zero) (suc (suc (suc (suc n)))) lt li = absurd (omega arith)
   zero_at (suc (suc t)) i lt li = absurd (omega arith)
 
-  zero_variable : (i : ℕ) → i < 1 → get_or ring_start.variables i (pos 0) ≡ pos 0
-  zero_variable zero li = refl
-  zero_variable (suc i) li = absurd (omega arith)
+  first_variable : (i : ℕ) → i < 3 → get_or ring_start.variables i (pos 0) ≡ first_value (Variable (record { variable = i; component = 0 }))
+  first_variable zero li = refl
+  first_variable (suc zero) li = refl
+  first_variable (suc (suc zero)) li = refl
+  first_variable (suc (suc (suc i))) li = absurd (omega arith)
 
   zero_unit : (s : ℕ) (v : VarCell) → pos 0 ≡ unit_at (reduces s v)
   zero_unit zero v = refl
@@ -387,7 +309,7 @@ module _ (faulty : Bool) where
     widths = λ t lt. two (λ t. length (get_or ring_start.memories t []) ≡ 4) refl refl t lt;
     values = λ t i lt li. zero_at t i lt li;
     count = refl;
-    variables = zero_variable;
+    variables = first_variable;
     partials = λ t s v. zero_unit s v;
     mail = λ s t. refl;
     panes = λ k t i. refl;

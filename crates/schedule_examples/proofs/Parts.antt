@@ -4,18 +4,20 @@ use Rattle.std.specs.Prelude.{◌&&◌, ◌||◌, ◌==◌, nat_lt}
 use Rattle.std.proofs.lemmas.Bool.{cases_eq, false≢true, and_parts, and_from, or_left, or_right, or_cases, eqb-true, eq-eqb, ltb-true, lt-ltb}
 use Rattle.reductions.specs.Reduction.{Reduction, Add}
 use Rattle.schedule_model.specs.Cells.{Data, Variable, DatCell, VarCell}
-use Rattle.schedule_model.specs.Effects.{Class, Untouched, Read, Written, Merged, is_modified}
-use Rattle.schedule_model.specs.Plan.{Free, is_free}
-use Rattle.schedule_laws.specs.Arguments.{Access, OpRead, OpWrite, OpReduce, Direct, Indirect, Global, access_of, modifying, reading, is_direct, is_on, joined, class_by}
-use Rattle.schedule_laws.specs.Loops.{Kernels, Items, Loops}
-use Rattle.schedule_examples.specs.Ring.{other, sum_cell, is_x, is_r, is_sum, kind, site, set, class, reduces, modifies, needs, sends, import_execute, import_nonexecute, core, ring}
+use Rattle.schedule_model.specs.Effects.{Touch, Untouched, Read, Written, Merged, is_modified}
+use Rattle.schedule_model.specs.Program.{Free, is_free}
+use Rattle.reductions.specs.Access.{Access, OpRead, OpReduce}
+use Rattle.schedule_laws.specs.Arguments.{Direct, Indirect, Global, access_of, modifying, reading, is_direct, is_on, joined, touch_by}
+use Rattle.schedule_laws.specs.LoopParts.{LoopParts}
+use Rattle.schedule_examples.specs.Ring.{other, sum_cell, is_x, is_r, is_sum, is_one, is_base, kind, site, set, touch, reduces, modifies, needs, sends, import_execute, import_nonexecute, core, ring}
 use Rattle.schedule_examples.specs.RingLayout.{of_side}
-use Rattle.schedule_examples.specs.RingArguments.{args, of_edges, arg, entry}
-use Rattle.schedule_examples.proofs.Lawful.{OneBit, of_node, x_no_r, other_is, other_not, goes, ordered, lawful}
-use Rattle.schedule_examples.proofs.OnBuffers.{sum_is, sum_only, below, of_below}
+use Rattle.schedule_examples.specs.RingArguments.{args, of_nodes, of_edges, arg, entry}
+use Rattle.schedule_examples.proofs.Lawful.{of_node, x_no_r, other_is, other_not, goes, only_read, ordered}
+use Rattle.schedule_examples.proofs.Windows.{sum_is}
+use Rattle.schedule_examples.proofs.OnBuffers.{sum_only, below, of_below}
 
-abbrev one : ℕ → ℕ
-one d = 1
+abbrev of_one : ℕ → ℕ
+of_one d = 1
 
 -- a Free item is one of the first two
 first_two : (P : ℕ → Type 0) → P 0 → P 1 → (k : ℕ) → kind k ≡ Free → P k
@@ -48,6 +50,19 @@ global (suc (suc zero)) v y lt h = cc
 global (suc (suc (suc zero))) v y lt h = cc
 global (suc (suc (suc (suc n)))) v y lt h = omega arith
 
+-- item 0 has a direct argument and two on the base
+no_indirect : (a d m i : ℕ) (y : Access) → of_nodes a ≡ Indirect d m i y → ⊥
+no_indirect zero d m i y h = cc
+no_indirect (suc a) d m i y h = cc
+
+no_reduction : (a v : ℕ) (o : Reduction) → of_nodes a ≡ Global v (OpReduce o) → ⊥
+no_reduction zero v o h = cc
+no_reduction (suc a) v o h = cc
+
+direct_on : (a d : ℕ) → is_on d (of_nodes a) ≡ true → (is_direct (of_nodes a) ≡ true) × (0 ≡ d)
+direct_on zero d on = (refl, eqb-true 0 d on)
+direct_on (suc a) d on = absurd (false≢true on)
+
 -- a modified dat is r
 modifies_r : (a d : ℕ) → is_on d (of_edges a) ≡ true → modifying (access_of (of_edges a)) ≡ true → d ≡ 1
 modifies_r zero d on md = absurd (false≢true md)
@@ -72,7 +87,7 @@ reads_x (suc (suc zero)) d m i h = cc
 reads_x (suc (suc (suc zero))) d m i h = cc
 reads_x (suc (suc (suc (suc n)))) d m i h = cc
 
--- ---- classes
+-- ---- touches
 same_test : (b c : Bool) → (b ≡ true → c ≡ true) → (c ≡ true → b ≡ true) → b ≡ c
 same_test true c f g = sym (f refl)
 same_test false true f g = g refl
@@ -117,12 +132,12 @@ own_side e c lt = same_test (is_x c && (c.element == e)) (hits 0 e c)
     is_hit 0 e c (sym (of_node c 0 a.0).of_dat) (sym (eqb-true c.element e a.1)) (component_0 0 c a.0))
     (λ h. and_from (is_x c) (c.element == e) (hit_node 0 e c lt h) (eq-eqb c.element e (sym (hit 0 e c h).1)))
 
-abbrev fold_class : Bool → Bool → Bool → Bool → Class
-fold_class b0 b1 b2 b3 =
+abbrev fold_touch : Bool → Bool → Bool → Bool → Touch
+fold_touch b0 b1 b2 b3 =
     cond b3 (joined (cond b2 (joined (cond b1 (joined (cond b0 Read Untouched) OpRead) (cond b0 Read Untouched)) (OpReduce Add)) (cond b1 (joined (cond b0 Read Untouched) OpRead) (cond b0 Read Untouched))) (OpReduce Add))
     (cond b2 (joined (cond b1 (joined (cond b0 Read Untouched) OpRead) (cond b0 Read Untouched)) (OpReduce Add)) (cond b1 (joined (cond b0 Read Untouched) OpRead) (cond b0 Read Untouched)))
 
-by_tests : (b0 b1 b2 b3 : Bool) → ((b0 || b1) ≡ true → (b2 || b3) ≡ false) → cond (b0 || b1) Read (cond (b2 || b3) (Merged Add) Untouched) ≡ fold_class b0 b1 b2 b3
+by_tests : (b0 b1 b2 b3 : Bool) → ((b0 || b1) ≡ true → (b2 || b3) ≡ false) → cond (b0 || b1) Read (cond (b2 || b3) (Merged Add) Untouched) ≡ fold_touch b0 b1 b2 b3
 by_tests true true true b3 h = absurd (false≢true (sym (h refl)))
 by_tests true true false true h = absurd (false≢true (sym (h refl)))
 by_tests true true false false h = refl
@@ -137,26 +152,26 @@ by_tests false false true false h = refl
 by_tests false false false true h = refl
 by_tests false false false false h = refl
 
-edge_class : (e : ℕ) (c : DatCell) → e < 2 → class 1 e (Data c) ≡ class_by entry one one (arg 1) 5 e (Data c)
-edge_class e c lt =
+edge_touch : (e : ℕ) (c : DatCell) → e < 2 → touch 1 e (Data c) ≡ touch_by entry of_one of_one (arg 1) 5 e (Data c)
+edge_touch e c lt =
     ap (λ b. cond b Read (cond (is_r c) (Merged Add) Untouched)) (both_sides 0 e c lt)
     ∙ (ap (λ b. cond (hits 0 e c || hits 0 (other e) c) Read (cond b (Merged Add) Untouched)) (both_sides 1 e c lt)
     ∙ by_tests (hits 0 e c) (hits 0 (other e) c) (hits 1 e c) (hits 1 (other e) c)
     (λ h. sym (both_sides 1 e c lt) ∙ x_no_r c (both_sides 0 e c lt ∙ h)))
 
 module _ (faulty : Bool) where
-  class_is : (k e : ℕ) (c : DatCell) → kind k ≡ Free → e < 2 → class k e (Data c) ≡ class_by entry one one (arg (site k)) (args (site k)) e (Data c)
-  class_is k e c fr lt = first_two (λ k. class k e (Data c) ≡ class_by entry one one (arg (site k)) (args (site k)) e (Data c))
-      (ap (λ b. cond b Written Untouched) (own_side e c lt)) (edge_class e c lt) k fr
+  touch_is : (k e : ℕ) (c : DatCell) → kind k ≡ Free → e < 2 → touch k e (Data c) ≡ touch_by entry of_one of_one (arg (site k)) (args (site k)) e (Data c)
+  touch_is k e c fr lt = first_two (λ k. touch k e (Data c) ≡ touch_by entry of_one of_one (arg (site k)) (args (site k)) e (Data c))
+      (ap (λ b. cond b Written Untouched) (own_side e c lt)) (edge_touch e c lt) k fr
 
-  variable_class : (k e : ℕ) (v : VarCell) (o : Reduction) → kind k ≡ Free → reduces (site k) v ≡ Some o → class k e (Variable v) ≡ class_by entry one one (arg (site k)) (args (site k)) e (Variable v)
-  variable_class k e v o fr = first_two (λ k. reduces (site k) v ≡ Some o → class k e (Variable v) ≡ class_by entry one one (arg (site k)) (args (site k)) e (Variable v))
+  variable_touch : (k e : ℕ) (v : VarCell) (o : Reduction) → kind k ≡ Free → reduces (site k) v ≡ Some o → touch k e (Variable v) ≡ touch_by entry of_one of_one (arg (site k)) (args (site k)) e (Variable v)
+  variable_touch k e v o fr = first_two (λ k. reduces (site k) v ≡ Some o → touch k e (Variable v) ≡ touch_by entry of_one of_one (arg (site k)) (args (site k)) e (Variable v))
       (λ h. cc)
-      (λ h. subst (λ z. class 1 e (Variable z) ≡ class_by entry one one (arg 1) 5 e (Variable z)) (sym (sum_is v (sum_only faulty (is_sum v) o h))) refl) k fr
+      (λ h. subst (λ z. touch 1 e (Variable z) ≡ touch_by entry of_one of_one (arg 1) 5 e (Variable z)) (sym (sum_is v (sum_only faulty (is_sum v) o h))) refl) k fr
 
-  none_merged : (b : Bool) → cond b (Some Add) None ≡ None → is_modified (cond b (Merged Add) Untouched) ≡ false
-  none_merged true h = cc
-  none_merged false h = refl
+  none_merged : (b c : Bool) → cond b (Some Add) None ≡ None → is_modified (cond b (Merged Add) (cond c Read Untouched)) ≡ false
+  none_merged true c h = cc
+  none_merged false c h = only_read faulty c
 
   add_only : (b : Bool) (o : Reduction) → cond b (Some Add) None ≡ Some o → o ≡ Add
   add_only true o h = (let e : Add ≡ o = cc in sym e)
@@ -195,7 +210,7 @@ module _ (faulty : Bool) where
       (λ n h. absurd (false≢true n))
       (λ n h. ⊎_elim (λ t. absurd (false≢true t)) (λ t. ap (λ z. sends 1 z r) (eqb-true e (other r) t) ∙ goes false r lr) h) k fr
 
-  pub loops : Loops (ring faulty)
+  pub loops : LoopParts (ring faulty)
   loops = record {
     args = args;
     arg = arg;
@@ -204,28 +219,30 @@ module _ (faulty : Bool) where
     to_set = λ m. 0;
     arity = λ m. 2;
     entry = entry;
-    dim = one;
-    width = one;
+    dim = of_one;
+    width = of_one;
     direct_set = λ k a d y fr. first_two (λ k. a < args (site k) → arg (site k) a ≡ Direct d y → 0 ≡ set k) (λ lt h. refl) (λ lt h. absurd (no_direct a d y h)) k fr;
     indirect_set = λ k a d m i y fr. first_two (λ k. a < args (site k) → arg (site k) a ≡ Indirect d m i y → (m < 1) × (1 ≡ set k) × (◌≡◌ {A = ℕ} 0 0) × (i < 2))
-        (λ lt h. absurd (let n : Direct 0 OpWrite ≡ Indirect d m i y = h in cc))
+        (λ lt h. absurd (no_indirect a d m i y h))
         (λ lt h. let z : (m ≡ 0) × (i < 2) = indirect a d m i y h in ((let e : m ≡ 0 = z.0 in omega arith), refl, refl, z.1)) k fr;
     in_range = λ m e i lm le li. of_below false e i le;
-    named_once = λ k a b v y z fr. first_two (λ k. a < args (site k) → b < args (site k) → arg (site k) a ≡ Global v y → arg (site k) b ≡ Global v z → a ≡ b)
-        (λ la lb h i. absurd (let n : Direct 0 OpWrite ≡ Global v y = h in cc)) (λ la lb h i. global a v y la h ∙ sym (global b v z lb i)) k fr;
+    named_once = λ k a b v y o fr. first_two (λ k. a < args (site k) → b < args (site k) → arg (site k) a ≡ Global v y → arg (site k) b ≡ Global v (OpReduce o) → a ≡ b)
+        (λ la lb h i. absurd (no_reduction b v o i)) (λ la lb h i. global a v y la h ∙ sym (global b v (OpReduce o) lb i)) k fr;
     reduces_only = reduces_only;
-    class_is = class_is;
-    variable_class = λ k e v o fr lt h. variable_class k e v o fr h;
-    constant_class = λ k e v fr lt. first_two (λ k. reduces (site k) v ≡ None → is_modified (class k e (Variable v)) ≡ false) (λ h. refl) (λ h. none_merged (is_sum v) h) k fr;
+    touch_is = touch_is;
+    variable_touch = λ k e v o fr lt h. variable_touch k e v o fr h;
+    constant_touch = λ k e v fr lt. first_two (λ k. reduces (site k) v ≡ None → is_modified (touch k e (Variable v)) ≡ false) (λ h. only_read faulty (is_base v)) (λ h. none_merged (is_sum v) (is_one v) h) k fr;
     free_is = λ k b d fr. first_two (λ k. b < args (site k) → is_on d (arg (site k) b) ≡ true → modifying (access_of (arg (site k) b)) ≡ true
         → ((o : Reduction) × ((a : ℕ) → a < args (site k) → is_on d (arg (site k) a) ≡ true → access_of (arg (site k) a) ≡ OpReduce o)) ⊎ ((a : ℕ) → a < args (site k) → is_on d (arg (site k) a) ≡ true → is_direct (arg (site k) a) ≡ true))
-        (λ lb on md. inr (λ a la u. refl))
+        (λ lb on md. inr (λ a la u. (direct_on a d u).0))
         (λ lb on md. inl (Add, λ a la u. adds_r a (ap (λ z. is_on z (of_edges a)) (sym (modifies_r b d on md)) ∙ u))) k fr;
     modifies_is = λ k a d fr. first_two (λ k. a < args (site k) → is_on d (arg (site k) a) ≡ true → modifying (access_of (arg (site k) a)) ≡ true → modifies k d ≡ true)
-        (λ la on md. eq-eqb d 0 (sym (eqb-true 0 d on))) (λ la on md. eq-eqb d 1 (modifies_r a d on md)) k fr;
-    scatters_is = λ k a d m i o fr. first_two (λ k. a < args (site k) → arg (site k) a ≡ Indirect d m i (OpReduce o) → (k == 1) ≡ true) (λ la h. absurd (let n : Direct 0 OpWrite ≡ Indirect d m i (OpReduce o) = h in cc)) (λ la h. refl) k fr;
+        (λ la on md. eq-eqb d 0 (sym (direct_on a d on).1)) (λ la on md. eq-eqb d 1 (modifies_r a d on md)) k fr;
+    modifies_only = λ k d fr. first_two (λ k. modifies k d ≡ true → (a : ℕ) × (a < args (site k)) × (is_on d (arg (site k) a) ≡ true) × (modifying (access_of (arg (site k) a)) ≡ true))
+        (λ h. (0, omega arith, eq-eqb 0 d (sym (eqb-true d 0 h)), refl)) (λ h. (2, omega arith, eq-eqb 1 d (sym (eqb-true d 1 h)), refl)) k fr;
+    scatters_is = λ k a d m i o fr. first_two (λ k. a < args (site k) → arg (site k) a ≡ Indirect d m i (OpReduce o) → (k == 1) ≡ true) (λ la h. absurd (no_indirect a d m i (OpReduce o) h)) (λ la h. refl) k fr;
     needs_indirect = λ k a d m i fr. first_two (λ k. a < args (site k) → arg (site k) a ≡ Indirect d m i OpRead → needs k d ≡ true)
-        (λ la h. absurd (let n : Direct 0 OpWrite ≡ Indirect d m i OpRead = h in cc)) (λ la h. eq-eqb d 0 (reads_x a d m i h)) k fr;
+        (λ la h. absurd (no_indirect a d m i OpRead h)) (λ la h. eq-eqb d 0 (reads_x a d m i h)) k fr;
     needs_direct = λ k a d y fr. first_two (λ k. a < args (site k) → arg (site k) a ≡ Direct d y → reading y ≡ true → (k == 1) ≡ true → needs k d ≡ true)
         (λ la h rd sc. absurd (false≢true sc)) (λ la h rd sc. absurd (no_direct a d y h)) k fr;
     execute_if = λ r s e m i lr le ne lm from li own. execute_if r s e lr le ne from;
@@ -236,25 +253,4 @@ module _ (faulty : Bool) where
     core_targets = λ r s e m i lr le h lm from li. absurd (no_core r s e h from);
     sent = λ k r d e fr lr x le h. sent k r d e fr lr x h;
     coloured = λ k r a b i j d fr lr la lb xa xb ne li lj oni onj o n ai aj same. ordered faulty k r a b la lb ne;
-  }
-
-  pub kernels : OneBit → Kernels (ring faulty)
-  kernels bit = record {
-    start_in_range = (lawful faulty bit).start_in_range;
-    run_in_range = (lawful faulty bit).run_in_range;
-    host_in_range = (lawful faulty bit).host_in_range;
-    independent = (lawful faulty bit).independent;
-    stays = (lawful faulty bit).stays;
-  }
-
-  pub items : OneBit → Items (ring faulty)
-  items bit = record {
-    first_item = (lawful faulty bit).first_item;
-    reduce_after = (lawful faulty bit).reduce_after;
-    reduce_next = (lawful faulty bit).reduce_next;
-    last_item = (lawful faulty bit).last_item;
-    exchanges = (lawful faulty bit).exchanges;
-    needs_free = (lawful faulty bit).needs_free;
-    some_rank = (lawful faulty bit).some_rank;
-    owners = (lawful faulty bit).owners;
   }

@@ -1,9 +1,11 @@
 -- Lists of the ring that are refused.
 use Rattle.std.proofs.Common.{◌≡◌, false, refl, sym, ◌∙◌, arith, List, [], ◌∷◌, ◌++◌}
 use Rattle.std.proofs.lemmas.Bool.{false≢true}
-use Rattle.schedule_steps.specs.Outline.{Outline, by_colour}
-use Rattle.schedule_steps.specs.Steps.{Step, Send, Recv, Begin, End, Join, IsStep, Earlier, by_item, sent, received, begun, coloured, has}
-use Rattle.schedule_model.specs.Plan.{outline}
+use Rattle.schedule_steps.specs.Outline.{Outline}
+use Rattle.schedule_steps.specs.declared.step.Step.{Step}
+use Rattle.schedule_steps.specs.declared.step.Step.TheVariants.{Send, Recv, Begin, End, Join}
+use Rattle.schedule_steps.specs.Steps.{IsStep, Earlier, by_item, sent, received, begun, coloured, has}
+use Rattle.schedule_model.specs.Setup.{outline}
 use Rattle.schedule_examples.specs.Ring.{ring}
 use Rattle.schedule_examples.specs.Lists.{Accepts, nodes, messages, edges_on_0, edges_on_1, joins, in_order, item_reversed, join_reversed, send_reversed, receive_reversed, end_reversed, colour_reversed, one_missing, one_twice, one_foreign}
 
@@ -11,7 +13,7 @@ abbrev o : Outline
 o = outline (ring false)
 
 -- a step of the plan that is earlier doesn't stand before
-reversed : (l pre : List Step) (s : Step) (post : List Step) (t : Step) → l ≡ pre ++ (s ∷ post) → IsStep o t → Earlier o (by_colour o) t s → has pre t ≡ false → Accepts l → ⊥
+reversed : (l pre : List Step) (s : Step) (post : List Step) (t : Step) → l ≡ pre ++ (s ∷ post) → IsStep o t → Earlier o t s → has pre t ≡ false → Accepts l → ⊥
 reversed l pre s post t e plan early none acc = false≢true (sym none ∙ acc.order pre s post e t plan early)
 
 pub item_refused : Accepts item_reversed → ⊥

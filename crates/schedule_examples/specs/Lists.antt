@@ -1,13 +1,14 @@
 -- Schedules of the ring: one that is accepted, and for each rule one that breaks it alone.
 use Rattle.std.specs.Prelude.{false, List, [], ◌∷◌, ◌++◌}
-use Rattle.schedule_steps.specs.Outline.{by_colour}
-use Rattle.schedule_steps.specs.Steps.{Step, Send, Recv, Begin, End, Join, Accepted}
-use Rattle.schedule_model.specs.Plan.{outline}
+use Rattle.schedule_steps.specs.declared.step.Step.{Step}
+use Rattle.schedule_steps.specs.declared.step.Step.TheVariants.{Send, Recv, Begin, End, Join}
+use Rattle.schedule_steps.specs.Steps.{Accepted}
+use Rattle.schedule_model.specs.Setup.{outline}
 use Rattle.schedule_examples.specs.Ring.{ring}
 
 -- the list is accepted for the ring
 abbrev pub Accepts : List Step → Type 0
-Accepts l = Accepted (outline (ring false)) (by_colour (outline (ring false))) l
+Accepts l = Accepted (outline (ring false)) l
 
 -- each node on its rank
 abbrev pub nodes : List Step
@@ -41,7 +42,9 @@ interleaved =
 
 -- rule 1: rank 0 sends for item 1 before its node of item 0 has ended
 abbrev pub item_reversed : List Step
-item_reversed = (Begin 0 0 0 ∷ Send 1 0 1 ∷ End 0 0 0 ∷ Begin 0 1 1 ∷ End 0 1 1 ∷ []) ++ ((Send 1 1 0 ∷ Recv 1 0 1 ∷ Recv 1 1 0 ∷ []) ++ (edges_on_0 ++ (edges_on_1 ++ joins)))
+item_reversed =
+    (Begin 0 0 0 ∷ Send 1 0 1 ∷ End 0 0 0 ∷ Begin 0 1 1 ∷ End 0 1 1 ∷ [])
+    ++ ((Send 1 1 0 ∷ Recv 1 0 1 ∷ Recv 1 1 0 ∷ []) ++ (edges_on_0 ++ (edges_on_1 ++ joins)))
 
 -- rule 2: a join before the last step of an earlier item
 abbrev pub join_reversed : List Step
@@ -53,7 +56,10 @@ send_reversed = nodes ++ ((Send 1 0 1 ∷ Recv 1 0 1 ∷ Send 1 1 0 ∷ Recv 1 1
 
 -- rule 4: an element that isn't core begins before its rank's receive
 abbrev pub receive_reversed : List Step
-receive_reversed = nodes ++ ((Send 1 0 1 ∷ Send 1 1 0 ∷ Begin 1 0 1 ∷ Recv 1 0 1 ∷ Recv 1 1 0 ∷ []) ++ ((End 1 0 1 ∷ Begin 1 0 0 ∷ End 1 0 0 ∷ []) ++ (edges_on_1 ++ joins)))
+receive_reversed =
+    nodes
+    ++ ((Send 1 0 1 ∷ Send 1 1 0 ∷ Begin 1 0 1 ∷ Recv 1 0 1 ∷ Recv 1 1 0 ∷ [])
+        ++ ((End 1 0 1 ∷ Begin 1 0 0 ∷ End 1 0 0 ∷ []) ++ (edges_on_1 ++ joins)))
 
 -- rule 5: an end before its begin
 abbrev pub end_reversed : List Step

@@ -1,10 +1,13 @@
--- Two nodes and two edges between them, on two ranks: node e and edge e belong to rank e. Dat 0 is x and dat 1 is r, both on the nodes; variable 0 is a sum.
-use Rattle.std.specs.Prelude.{ℕ, zero, suc, ℤ, pos, ◌+ℤ◌, Bool, true, false, cond, ◌&&◌, ◌||◌, ◌==◌, nat_lt, List, [], ◌∷◌, Option, Some, None}
+-- Two nodes and two edges between them, on two ranks: node e and edge e belong to rank e. Dat 0 is x and dat 1 is r, both on the nodes.
+-- Variable 0 is a sum, variable 1 the constant one, and variable 2 a base.
+use Rattle.std.specs.Prelude.{ℕ, zero, suc, ℤ, pos, ◌+ℤ◌, Bool, true, false, cond, ◌&&◌, ◌||◌, ◌==◌, nat_lt, List, [], ◌∷◌, Option, Some}
+use Rattle.std.specs.Prelude.{None}
 use Rattle.std.specs.Int.{int_wrap, w32}
 use Rattle.reductions.specs.Reduction.{Reduction, Add}
 use Rattle.schedule_model.specs.Cells.{Cell, Data, Variable, DatCell, VarCell, Store}
-use Rattle.schedule_model.specs.Effects.{Ran, Faulted, Finished, Class, Untouched, Read, Written, Merged}
-use Rattle.schedule_model.specs.Plan.{Plan, Kind, Free, Reduce, Ordered, Host, Goes}
+use Rattle.schedule_model.specs.Effects.{Ran, Faulted, Finished, Touch, Untouched, Read, Written, Merged}
+use Rattle.schedule_model.specs.Program.{Program, Kind, Free, Reduce, Ordered, Host, Goes}
+use Rattle.schedule_model.specs.Setup.{Setup}
 
 -- the other of the two
 abbrev pub other : ℕ → ℕ
@@ -23,6 +26,14 @@ r_cell n = record { dat = 1; element = n; component = 0 }
 abbrev pub sum_cell : VarCell
 sum_cell = record { variable = 0; component = 0 }
 
+-- the constant one
+abbrev pub one_cell : VarCell
+one_cell = record { variable = 1; component = 0 }
+
+-- the base
+abbrev pub base_cell : VarCell
+base_cell = record { variable = 2; component = 0 }
+
 -- as cells
 abbrev pub x : ℕ → Cell
 x n = Data (x_cell n)
@@ -34,6 +45,14 @@ r n = Data (r_cell n)
 -- the sum
 abbrev pub sum : Cell
 sum = Variable sum_cell
+
+-- the constant one
+abbrev pub one : Cell
+one = Variable one_cell
+
+-- the base
+abbrev pub base : Cell
+base = Variable base_cell
 
 -- the cell is x, or r, of one of the nodes
 abbrev pub is_x : DatCell → Bool
@@ -47,7 +66,17 @@ is_r c = (c.dat == 1) && (nat_lt c.element 2 && (c.component == 0))
 abbrev pub is_sum : VarCell → Bool
 is_sum v = (v.variable == 0) && (v.component == 0)
 
--- item 0: each node writes its x. Item 1: each edge adds the x of each node to the r of the other, and 1 to the sum. Item 2 reduces the sum. Item 3: each node adds its r to its x, one after another. Item 4 prints the sum.
+-- the constant's
+abbrev pub is_one : VarCell → Bool
+is_one v = (v.variable == 1) && (v.component == 0)
+
+-- the base's
+abbrev pub is_base : VarCell → Bool
+is_base v = (v.variable == 2) && (v.component == 0)
+
+-- item 0: each node writes its x, from its number and twice the base.
+-- Item 1: each edge adds the x of each node to the r of the other, and the constant one to the sum.
+-- Item 2 reduces the sum. Item 3: each node adds its r to its x, one after another. Item 4 prints the sum.
 abbrev pub kind : ℕ → Kind
 kind zero = Free
 kind (suc zero) = Free
@@ -68,13 +97,13 @@ set zero = 0
 set (suc zero) = 1
 set (suc (suc n)) = 0
 
--- item 0 writes its node's x; item 1 reads each x, and adds to each r and to the sum
-abbrev pub class : ℕ → ℕ → Cell → Class
-class zero e (Data c) = cond (is_x c && (c.element == e)) Written Untouched
-class zero e (Variable v) = Untouched
-class (suc zero) e (Data c) = cond (is_x c) Read (cond (is_r c) (Merged Add) Untouched)
-class (suc zero) e (Variable v) = cond (is_sum v) (Merged Add) Untouched
-class (suc (suc n)) e c = Untouched
+-- item 0 reads the base and writes its node's x; item 1 reads each x and the constant, and adds to each r and to the sum
+abbrev pub touch : ℕ → ℕ → Cell → Touch
+touch zero e (Data c) = cond (is_x c && (c.element == e)) Written Untouched
+touch zero e (Variable v) = cond (is_base v) Read Untouched
+touch (suc zero) e (Data c) = cond (is_x c) Read (cond (is_r c) (Merged Add) Untouched)
+touch (suc zero) e (Variable v) = cond (is_sum v) (Merged Add) (cond (is_one v) Read Untouched)
+touch (suc (suc n)) e c = Untouched
 
 -- the loop of item 1 adds to the sum
 abbrev pub reduces : ℕ → VarCell → Option Reduction
@@ -84,13 +113,13 @@ reduces (suc (suc n)) v = None
 
 -- what the kernels leave in a cell
 abbrev pub written : ℕ → Store → Store
-written e s (Data c) = cond (is_x c && (c.element == e)) (pos (suc e)) (s (Data c))
+written e s (Data c) = cond (is_x c && (c.element == e)) (int_wrap w32 (pos (suc e) +ℤ (s base +ℤ s base))) (s (Data c))
 written e s (Variable v) = s (Variable v)
 
 -- item 1
 abbrev pub added : Store → Store
 added s (Data c) = cond (is_r c) (int_wrap w32 (s (Data c) +ℤ s (x (other c.element)))) (s (Data c))
-added s (Variable v) = cond (is_sum v) (int_wrap w32 (s (Variable v) +ℤ pos 1)) (s (Variable v))
+added s (Variable v) = cond (is_sum v) (int_wrap w32 (s (Variable v) +ℤ s one)) (s (Variable v))
 
 -- item 3
 abbrev pub moved : ℕ → Store → Store
@@ -108,9 +137,13 @@ run faulty zero e s = Finished (written e s)
 run faulty (suc zero) e s = unless faulty e (added s)
 run faulty (suc (suc n)) e s = Finished (moved e s)
 
--- the host statement leaves the one variable
-abbrev pub kept_sum : Store → VarCell → ℤ
-kept_sum s v = cond (is_sum v) (s sum) (pos 0)
+-- the variable is one of the three
+abbrev pub is_variable : VarCell → Bool
+is_variable v = nat_lt v.variable 3 && (v.component == 0)
+
+-- the host statement leaves the variables
+abbrev pub kept_variables : Store → VarCell → ℤ
+kept_variables s v = cond (is_variable v) (s (Variable v)) (pos 0)
 
 -- prints the sum where it is a natural number
 abbrev pub digits : ℤ → List ℕ
@@ -152,19 +185,30 @@ abbrev pub core : ℕ → ℕ → ℕ → Bool
 core t zero e = e == t
 core t (suc n) e = false
 
--- blocks of one element: both edges modify both nodes, so they have different colours, and edge 1 has the lower one
-abbrev pub ring : Bool → Plan ℕ
-ring faulty = record {
+-- everything begins at 0, and the constant is 1
+abbrev pub first_value : Store
+first_value (Data c) = pos 0
+first_value (Variable v) = cond (is_one v) (pos 1) (pos 0)
+
+-- the program
+abbrev pub ring_program : Bool → Program ℕ
+ring_program faulty = record {
   items = 5;
   kind = kind;
   site = site;
   set = set;
   size = λ s. 2;
   set_of = λ d. 0;
-  start = λ c. pos 0;
+  start = first_value;
   run = run faulty;
-  host = λ k s. Goes (kept_sum s) (digits (s sum));
-  class = class;
+  host = λ k s. Goes (kept_variables s) (digits (s sum));
+}
+
+-- blocks of one element: both edges modify both nodes, so they have different colours, and edge 1 has the lower one
+abbrev pub ring : Bool → Setup ℕ
+ring faulty = record {
+  program = ring_program faulty;
+  touch = touch;
   reduces = reduces;
   modifies = modifies;
   scatters = λ k. k == 1;

@@ -1,12 +1,13 @@
 -- The arguments of the ring's loops, and the map from edges to nodes.
 use Rattle.std.specs.Prelude.{ℕ, zero, suc}
 use Rattle.reductions.specs.Reduction.{Add}
-use Rattle.schedule_laws.specs.Arguments.{OpRead, OpWrite, OpReduce, Argument, Direct, Indirect, Global, Entries}
+use Rattle.reductions.specs.Access.{OpRead, OpWrite, OpReduce}
+use Rattle.schedule_laws.specs.Arguments.{Argument, Direct, Indirect, Global, Entries}
 use Rattle.schedule_examples.specs.RingLayout.{of_side}
 
 -- how many arguments a loop has
 abbrev pub args : ℕ → ℕ
-args zero = 1
+args zero = 3
 args (suc zero) = 5
 args (suc (suc n)) = 0
 
@@ -18,9 +19,14 @@ of_edges (suc (suc zero)) = Indirect 1 0 0 (OpReduce Add)
 of_edges (suc (suc (suc zero))) = Indirect 1 0 1 (OpReduce Add)
 of_edges (suc (suc (suc (suc n)))) = Global 0 (OpReduce Add)
 
--- item 0's: x of the node itself
+-- item 0's: x of the node itself, and the base twice
+abbrev pub of_nodes : ℕ → Argument
+of_nodes zero = Direct 0 OpWrite
+of_nodes (suc n) = Global 2 OpRead
+
+-- by loop
 abbrev pub arg : ℕ → ℕ → Argument
-arg zero a = Direct 0 OpWrite
+arg zero a = of_nodes a
 arg (suc s) a = of_edges a
 
 -- the map from edges to nodes: an edge's own, then the other

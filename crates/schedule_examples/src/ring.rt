@@ -1,14 +1,16 @@
 // The ring of two nodes and two edges, with and without faults.
 ghost use Rattle.std.specs.Prelude.{◌≡◌, Bool, true, false, pos, Some, None, List, [], ◌∷◌};
 ghost use Rattle.schedule_steps.specs.Standard.{standard};
-ghost use Rattle.schedule_model.specs.Plan.{outline};
+ghost use Rattle.schedule_model.specs.Setup.{outline};
 ghost use Rattle.schedule_steps.specs.Outline.{by_colour};
-ghost use Rattle.schedule_steps.specs.Steps.{Step, Accepted};
+ghost use Rattle.schedule_steps.specs.declared.step.Step.{Step};
+ghost use Rattle.schedule_steps.specs.Steps.{Accepted};
 ghost use Rattle.schedule_model.specs.Sequential.{sequential};
 ghost use Rattle.schedule_model.specs.Machine.{machine, Agrees};
 ghost use Rattle.schedule_model.specs.Laws.{Lawful, Coloured};
-ghost use Rattle.schedule_laws.specs.Loops.{Kernels, Items, Loops};
-ghost use Rattle.flat_machine.specs.Layout.{Fits};
+ghost use Rattle.schedule_model.specs.Laws.{Kernels, Items};
+ghost use Rattle.schedule_laws.specs.LoopParts.{LoopParts};
+ghost use Rattle.flat_machine.specs.Layout.{IsLayout};
 ghost use Rattle.flat_machine.specs.Flat.{StartsFlat, flat_from};
 ghost use Rattle.schedule_examples.specs.Ring.{ring, x_cell, r_cell, sum_cell};
 ghost use Rattle.schedule_examples.specs.RingLayout.{ring_layout, ring_start, ring_places};
@@ -28,15 +30,15 @@ pub fn ring_is_lawful()
 pub fn ring_has_the_parts()
     ensures kernels { (faulty : Bool) → Kernels (ring faulty) }
     ensures items { (faulty : Bool) → Items (ring faulty) }
-    ensures loops { (faulty : Bool) → Loops (ring faulty) }
+    ensures loops { (faulty : Bool) → LoopParts (ring faulty) }
 {
     schedule_model::one_bit_is_the_history();
 }
 
 /// So each accepted schedule of the ring runs as its sequential run does.
 pub fn ring_runs_as_sequential()
-    ensures { (faulty : Bool) (l : List Step) → Accepted (outline (ring faulty)) (by_colour (outline (ring faulty))) l
-        → Agrees (ring faulty) (sequential (ring faulty)) (machine (ring faulty) l) }
+    ensures { (faulty : Bool) (l : List Step) → Accepted (outline (ring faulty)) l
+        → Agrees (ring faulty) (sequential (ring faulty).program) (machine (ring faulty) l) }
 {
     ring_is_lawful();
     schedule_model::accepted_runs_as_sequential::<u32>();
@@ -63,11 +65,11 @@ pub fn ring_runs()
 /// The ring's buffers are laid out as its plan says, and what the standard order by places with
 /// groups of 2 leaves in them: on each rank x of its own node and of the other's, and then r of them.
 pub fn ring_on_buffers()
-    ensures fits { (faulty : Bool) → Fits (ring faulty) (ring_layout faulty) }
+    ensures fits { (faulty : Bool) → IsLayout (ring faulty) (ring_layout faulty) }
     ensures starts { (faulty : Bool) → StartsFlat (ring faulty) (ring_layout faulty) ring_start }
     ensures memories { (flat_from (ring false) (ring_layout false) ring_places ring_start).memories
         ≡ (pos 5 ∷ pos 2 ∷ pos 4 ∷ pos 2 ∷ []) ∷ (pos 4 ∷ pos 1 ∷ pos 2 ∷ pos 4 ∷ []) ∷ [] }
-    ensures variables { (flat_from (ring false) (ring_layout false) ring_places ring_start).variables ≡ pos 2 ∷ [] }
+    ensures variables { (flat_from (ring false) (ring_layout false) ring_places ring_start).variables ≡ pos 2 ∷ pos 1 ∷ pos 0 ∷ [] }
 {}
 
 /// For each rule a list that breaks it alone is refused, as are lists that lack a step, have one

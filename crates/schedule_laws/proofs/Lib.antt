@@ -1,4 +1,4 @@
-pub mod Classes
+pub mod Touches
 pub mod Give
 pub mod Windows
 pub mod Tells

@@ -1,10 +1,11 @@
--- The class of a cell tells of the arguments that reach it.
+-- The touch of a cell tells of the arguments that reach it.
 use Rattle.std.proofs.Common.{◌≡◌, ℕ, zero, suc, ◌<◌, Bool, true, false, refl, sym, ap, subst, ◌∙◌, arith, ⊎_elim}
 use Rattle.std.proofs.lemmas.Bool.{cases_eq, cases_Bool, false≢true, cond_both, cond-true, cond-false}
 use Rattle.reductions.specs.Reduction.{Reduction, Add, Min, Max}
 use Rattle.schedule_model.specs.Cells.{Cell}
-use Rattle.schedule_model.specs.Effects.{Class, Untouched, Read, Updated, Written, Merged, Mixed, is_read}
-use Rattle.schedule_laws.specs.Arguments.{Access, OpRead, OpWrite, OpRw, OpReduce, Argument, access_of, reading, Entries, reaches, same_reduction, joined, class_by}
+use Rattle.schedule_model.specs.Effects.{Touch, Untouched, Read, Updated, Written, Merged, Mixed, is_read}
+use Rattle.reductions.specs.Access.{Access, OpRead, OpWrite, OpRw, OpReduce}
+use Rattle.schedule_laws.specs.Arguments.{Argument, access_of, reading, Entries, reaches, same_reduction, joined, touch_by}
 use Rattle.schedule_laws.specs.Tells.{settling, All, SomeHas, Tells}
 
 same_is : (a b : Reduction) → same_reduction a b ≡ true → b ≡ a
@@ -22,7 +23,7 @@ module _ (entry : Entries) (dim width : ℕ → ℕ) (arg : ℕ → Argument) (e
   abbrev reach : ℕ → Bool
   reach a = reaches entry dim width e (arg a) c
 
-  abbrev T : ℕ → Class → Type 0
+  abbrev T : ℕ → Touch → Type 0
   T n k = Tells entry dim width arg n e c k
 
   -- one argument more, which has the access too
@@ -43,7 +44,7 @@ module _ (entry : Entries) (dim width : ℕ → ℕ) (arg : ℕ → Argument) (e
   all_map P Q n f h a lt t = f (access_of (arg a)) (h a lt t)
 
   -- an argument that doesn't reach the cell
-  skipped : (n : ℕ) (k : Class) → reach n ≡ false → T n k → T (suc n) k
+  skipped : (n : ℕ) (k : Touch) → reach n ≡ false → T n k → T (suc n) k
   skipped n Untouched r h = all_other (λ x. ⊥) n h r
   skipped n Read r h = all_other (λ x. x ≡ OpRead) n h r
   skipped n Updated r h = some_more (λ x. reading x ≡ true) n h
@@ -51,7 +52,7 @@ module _ (entry : Entries) (dim width : ℕ → ℕ) (arg : ℕ → Argument) (e
   skipped n (Merged o) r h = all_other (λ x. x ≡ OpReduce o) n h r
   skipped n Mixed r h = all_other (λ x. settling x ≡ false) n h r
 
-  -- it reads, so the class is that of a cell that is read
+  -- it reads, so the touch is that of a cell that is read
   reads : (n : ℕ) → reach n ≡ true → reading (access_of (arg n)) ≡ true → T (suc n) Updated
   reads n r h = some_here (λ x. reading x ≡ true) n r h
 
@@ -65,7 +66,7 @@ module _ (entry : Entries) (dim width : ℕ → ℕ) (arg : ℕ → Argument) (e
   mixed_reads (OpReduce o) h = refl
 
   -- with OP_READ
-  with_read : (n : ℕ) (k : Class) → reach n ≡ true → access_of (arg n) ≡ OpRead → T n k → T (suc n) (joined k OpRead)
+  with_read : (n : ℕ) (k : Touch) → reach n ≡ true → access_of (arg n) ≡ OpRead → T n k → T (suc n) (joined k OpRead)
   with_read n Untouched r i h = all_more (λ x. x ≡ OpRead) n (all_map (λ x. ⊥) (λ x. x ≡ OpRead) n (λ x z. absurd z) h) i
   with_read n Read r i h = all_more (λ x. x ≡ OpRead) n h i
   with_read n Updated r i h = reads n r (ap reading i)
@@ -76,12 +77,12 @@ module _ (entry : Entries) (dim width : ℕ → ℕ) (arg : ℕ → Argument) (e
   written : (n : ℕ) → reach n ≡ true → access_of (arg n) ≡ OpWrite → All entry dim width arg n e c (λ x. reading x ≡ false) → T (suc n) Written
   written n r i h = (some_here (λ x. x ≡ OpWrite) n r i, all_more (λ x. reading x ≡ false) n h (ap reading i))
 
-  -- some argument reads where the class is Read; a cell of this class is reached, since Untouched is another
-  abbrev Reached : ℕ → Class → Type 0
+  -- some argument reads where the touch is Read; a cell of this touch is reached, since Untouched is another
+  abbrev Reached : ℕ → Touch → Type 0
   Reached n Read = SomeHas entry dim width arg n e c (λ x. reading x ≡ true)
   Reached n _ = Unit {0}
 
-  with_write : (n : ℕ) (k : Class) → reach n ≡ true → access_of (arg n) ≡ OpWrite → Reached n k → T n k → T (suc n) (joined k OpWrite)
+  with_write : (n : ℕ) (k : Touch) → reach n ≡ true → access_of (arg n) ≡ OpWrite → Reached n k → T n k → T (suc n) (joined k OpWrite)
   with_write n Untouched r i w h = written n r i (all_map (λ x. ⊥) (λ x. reading x ≡ false) n (λ x z. absurd z) h)
   with_write n Read r i w h = some_more (λ x. reading x ≡ true) n w
   with_write n Updated r i w h = some_more (λ x. reading x ≡ true) n h
@@ -89,7 +90,7 @@ module _ (entry : Entries) (dim width : ℕ → ℕ) (arg : ℕ → Argument) (e
   with_write n (Merged o) r i w h = written n r i (none_reads n o h)
   with_write n Mixed r i w h = written n r i (all_map (λ x. settling x ≡ false) (λ x. reading x ≡ false) n mixed_reads h)
 
-  with_reduce : (n : ℕ) (k : Class) (o : Reduction) → reach n ≡ true → access_of (arg n) ≡ OpReduce o → Reached n k → T n k → T (suc n) (joined k (OpReduce o))
+  with_reduce : (n : ℕ) (k : Touch) (o : Reduction) → reach n ≡ true → access_of (arg n) ≡ OpReduce o → Reached n k → T n k → T (suc n) (joined k (OpReduce o))
   with_reduce n Untouched o r i w h = all_more (λ x. x ≡ OpReduce o) n (all_map (λ x. ⊥) (λ x. x ≡ OpReduce o) n (λ x z. absurd z) h) i
   with_reduce n Read o r i w h = some_more (λ x. reading x ≡ true) n w
   with_reduce n Updated o r i w h = some_more (λ x. reading x ≡ true) n h
@@ -99,14 +100,14 @@ module _ (entry : Entries) (dim width : ℕ → ℕ) (arg : ℕ → Argument) (e
       (λ t. all_more (λ x. settling x ≡ false) n (all_map (λ x. x ≡ OpReduce m) (λ x. settling x ≡ false) n (λ x z. ap settling z) h) (ap settling i))
   with_reduce n Mixed o r i w h = all_more (λ x. settling x ≡ false) n h (ap settling i)
 
-  one_more : (n : ℕ) (k : Class) (x : Access) → reach n ≡ true → access_of (arg n) ≡ x → Reached n k → T n k → T (suc n) (joined k x)
+  one_more : (n : ℕ) (k : Touch) (x : Access) → reach n ≡ true → access_of (arg n) ≡ x → Reached n k → T n k → T (suc n) (joined k x)
   one_more n k OpRead r i w h = with_read n k r i h
   one_more n k OpRw r i w h = reads n r (ap reading i)
   one_more n k OpWrite r i w h = with_write n k r i w h
   one_more n k (OpReduce o) r i w h = with_reduce n k o r i w h
 
-  -- a cell of the class Read is reached by OP_READ
-  reached_more : (n : ℕ) (k : Class) (x : Access) → reach n ≡ true → access_of (arg n) ≡ x → Reached n k → Reached (suc n) (joined k x)
+  -- a cell of the touch Read is reached by OP_READ
+  reached_more : (n : ℕ) (k : Touch) (x : Access) → reach n ≡ true → access_of (arg n) ≡ x → Reached n k → Reached (suc n) (joined k x)
   reached_more n Untouched OpRead r i w = some_here (λ x. reading x ≡ true) n r (ap reading i)
   reached_more n Read OpRead r i w = some_more (λ x. reading x ≡ true) n w
   reached_more n Updated OpRead r i w = tt
@@ -127,7 +128,7 @@ module _ (entry : Entries) (dim width : ℕ → ℕ) (arg : ℕ → Argument) (e
   reached_more n (Merged m) (OpReduce o) r i w = cond_both (same_reduction m o) (Merged m) Mixed (Reached (suc n)) (λ t. tt) (λ t. tt)
   reached_more n Mixed (OpReduce o) r i w = tt
 
-  reached_skip : (n : ℕ) (k : Class) → Reached n k → Reached (suc n) k
+  reached_skip : (n : ℕ) (k : Touch) → Reached n k → Reached (suc n) k
   reached_skip n Untouched w = tt
   reached_skip n Read w = some_more (λ x. reading x ≡ true) n w
   reached_skip n Updated w = tt
@@ -135,8 +136,8 @@ module _ (entry : Entries) (dim width : ℕ → ℕ) (arg : ℕ → Argument) (e
   reached_skip n (Merged o) w = tt
   reached_skip n Mixed w = tt
 
-  abbrev C : ℕ → Class
-  C n = class_by entry dim width arg n e c
+  abbrev C : ℕ → Touch
+  C n = touch_by entry dim width arg n e c
 
   reached : (n : ℕ) → Reached n (C n)
   reached zero = tt
@@ -148,8 +149,8 @@ module _ (entry : Entries) (dim width : ℕ → ℕ) (arg : ℕ → Argument) (e
   tells (suc n) = cond_both (reach n) (joined (C n) (access_of (arg n))) (C n) (T (suc n))
       (λ t. one_more n (C n) (access_of (arg n)) t refl (reached n) (tells n)) (λ t. skipped n (C n) t (tells n))
 
-  -- a cell that an argument reads is of a class that is read
-  read_keeps : (k : Class) (x : Access) → is_read k ≡ true → is_read (joined k x) ≡ true
+  -- a cell that an argument reads is of a touch that is read
+  read_keeps : (k : Touch) (x : Access) → is_read k ≡ true → is_read (joined k x) ≡ true
   read_keeps Untouched x h = absurd (false≢true h)
   read_keeps Read OpRead h = refl
   read_keeps Read OpWrite h = refl
@@ -163,7 +164,7 @@ module _ (entry : Entries) (dim width : ℕ → ℕ) (arg : ℕ → Argument) (e
   read_keeps (Merged o) x h = absurd (false≢true h)
   read_keeps Mixed x h = absurd (false≢true h)
 
-  read_joins : (k : Class) (x : Access) → reading x ≡ true → is_read (joined k x) ≡ true
+  read_joins : (k : Touch) (x : Access) → reading x ≡ true → is_read (joined k x) ≡ true
   read_joins Untouched OpRead h = refl
   read_joins Read OpRead h = refl
   read_joins Updated OpRead h = refl

@@ -1,15 +1,9 @@
 -- The arguments of a loop (op_arg_dat and op_arg_gbl of the OP2 manual), and by which of them an element reaches a cell.
 use Rattle.std.specs.Prelude.{ℕ, zero, suc, Bool, true, false, cond, ◌&&◌, ◌==◌, nat_lt}
 use Rattle.reductions.specs.Reduction.{Reduction, Add, Min, Max}
+use Rattle.reductions.specs.Access.{Access, OpRead, OpWrite, OpRw, OpReduce}
 use Rattle.schedule_model.specs.Cells.{Cell, Data, Variable}
-use Rattle.schedule_model.specs.Effects.{Class, Untouched, Read, Updated, Written, Merged, Mixed}
-
--- how a kernel uses an argument
-pub data Access : Type 0 where
-  OpRead : Access
-  OpWrite : Access
-  OpRw : Access
-  OpReduce : Reduction → Access  -- OP_INC, OP_MIN, OP_MAX
+use Rattle.schedule_model.specs.Effects.{Touch, Untouched, Read, Updated, Written, Merged, Mixed}
 
 -- direct, through a map, or a variable
 pub data Argument : Type 0 where
@@ -69,8 +63,8 @@ same_reduction Min Min = true
 same_reduction Max Max = true
 same_reduction _ _ = false
 
--- the class of a cell that is reached by one argument more
-abbrev pub joined : Class → Access → Class
+-- the touch of a cell that is reached by one argument more
+abbrev pub joined : Touch → Access → Touch
 joined Untouched OpRead = Read
 joined Read OpRead = Read
 joined Updated OpRead = Updated
@@ -92,7 +86,10 @@ joined (Merged n) (OpReduce o) = cond (same_reduction n o) (Merged n) Mixed
 joined Mixed (OpReduce o) = Mixed
 
 -- by the first n arguments
-abbrev pub class_by : Entries → (ℕ → ℕ) → (ℕ → ℕ) → (ℕ → Argument) → ℕ → ℕ → Cell → Class
-class_by entry dim width arg zero e c = Untouched
-class_by entry dim width arg (suc n) e c =
-    cond (reaches entry dim width e (arg n) c) (joined (class_by entry dim width arg n e c) (access_of (arg n))) (class_by entry dim width arg n e c)
+abbrev pub touch_by : Entries → (ℕ → ℕ) → (ℕ → ℕ) → (ℕ → Argument) → ℕ → ℕ → Cell → Touch
+touch_by entry dim width arg zero e c = Untouched
+touch_by entry dim width arg (suc n) e c =
+    cond
+    (reaches entry dim width e (arg n) c)
+    (joined (touch_by entry dim width arg n e c) (access_of (arg n)))
+    (touch_by entry dim width arg n e c)

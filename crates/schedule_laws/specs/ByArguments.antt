@@ -2,8 +2,9 @@
 use Rattle.std.specs.Prelude.{◌≡◌, ◌<◌, ℕ, ℤ, Bool, true, false, cond}
 use Rattle.reductions.specs.Reduction.{Reduction, merged}
 use Rattle.schedule_model.specs.Cells.{Cell, Store, InRange}
-use Rattle.schedule_model.specs.Effects.{Ran, Faulted, Finished, Class, Read}
-use Rattle.schedule_laws.specs.Arguments.{OpRead, OpReduce, Argument, access_of, reading, Entries, reaches, class_by}
+use Rattle.schedule_model.specs.Effects.{Ran, Faulted, Finished, Touch, Read}
+use Rattle.reductions.specs.Access.{OpRead, OpReduce}
+use Rattle.schedule_laws.specs.Arguments.{Argument, access_of, reading, Entries, reaches, touch_by}
 use Rattle.schedule_laws.specs.Tells.{settling, All, SomeHas}
 
 module _ (entry : Entries) (dim width : ℕ → ℕ) (arg : ℕ → Argument) (n e : ℕ) where
@@ -14,7 +15,9 @@ module _ (entry : Entries) (dim width : ℕ → ℕ) (arg : ℕ → Argument) (n
     -- one that an OP_READ, OP_WRITE or OP_RW argument reaches becomes equal
     pub settles : (c : Cell) → SomeHas entry dim width arg n e c (λ x. settling x ≡ true) → t c ≡ u c
     -- one into which one reduction alone merges gets the same amount
-    pub merges : (c : Cell) (o : Reduction) → All entry dim width arg n e c (λ x. x ≡ OpReduce o) → (x : ℤ) × (t c ≡ merged o (s c) x) × (u c ≡ merged o (w c) x)
+    pub merges : (c : Cell) (o : Reduction)
+        → All entry dim width arg n e c (λ x. x ≡ OpReduce o)
+        → (x : ℤ) × (t c ≡ merged o (s c) x) × (u c ≡ merged o (w c) x)
     -- one into which reductions alone merge becomes equal where it was equal
     pub mixes : (c : Cell) → All entry dim width arg n e c (λ x. settling x ≡ false) → s c ≡ w c → t c ≡ u c
 
@@ -36,6 +39,6 @@ module _ (entry : Entries) (dim width : ℕ → ℕ) (arg : ℕ → Argument) (n
   abbrev pub ReadConstants : (Cell → Bool) → Type 0
   ReadConstants is_constant = (c : Cell) → is_constant c ≡ true → All entry dim width arg n e c (λ x. x ≡ OpRead)
 
-  -- the class of a cell by the arguments, where constants are read
-  abbrev pub class_with : (Cell → Bool) → Cell → Class
-  class_with is_constant c = cond (is_constant c) Read (class_by entry dim width arg n e c)
+  -- the touch of a cell by the arguments, where constants are read
+  abbrev pub touch_with : (Cell → Bool) → Cell → Touch
+  touch_with is_constant c = cond (is_constant c) Read (touch_by entry dim width arg n e c)

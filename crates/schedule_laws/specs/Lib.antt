@@ -1,4 +1,4 @@
 pub mod Arguments
-pub mod Loops
+pub mod LoopParts
 pub mod Tells
 pub mod ByArguments

@@ -1,8 +1,9 @@
--- What the class of a cell says of the arguments by which an element reaches it.
+-- What the touch of a cell says of the arguments by which an element reaches it.
 use Rattle.std.specs.Prelude.{◌≡◌, ◌<◌, ℕ, Bool, true, false}
 use Rattle.schedule_model.specs.Cells.{Cell}
-use Rattle.schedule_model.specs.Effects.{Class, Untouched, Read, Updated, Written, Merged, Mixed}
-use Rattle.schedule_laws.specs.Arguments.{Access, OpRead, OpWrite, OpReduce, Argument, access_of, reading, Entries, reaches}
+use Rattle.schedule_model.specs.Effects.{Touch, Untouched, Read, Updated, Written, Merged, Mixed}
+use Rattle.reductions.specs.Access.{Access, OpRead, OpWrite, OpReduce}
+use Rattle.schedule_laws.specs.Arguments.{Argument, access_of, reading, Entries, reaches}
 
 -- OP_READ, OP_WRITE or OP_RW
 abbrev pub settling : Access → Bool
@@ -19,7 +20,7 @@ module _ (entry : Entries) (dim width : ℕ → ℕ) (arg : ℕ → Argument) (n
   SomeHas P = (a : ℕ) × (a < n) × (reaches entry dim width e (arg a) c ≡ true) × P (access_of (arg a))
 
   -- by the first n arguments
-  abbrev pub Tells : Class → Type 0
+  abbrev pub Tells : Touch → Type 0
   Tells Untouched = All (λ x. ⊥)
   Tells Read = All (λ x. x ≡ OpRead)
   Tells Updated = SomeHas (λ x. reading x ≡ true)

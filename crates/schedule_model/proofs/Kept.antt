@@ -2,9 +2,11 @@
 use Rattle.std.proofs.Common.{◌≡◌, ℕ, ◌<◌, ◌≤◌, true, false, cond, ◌⊎◌, inl, inr, refl, sym, ap, ◌∙◌, arith, ⊎_elim, Option, Some, None, List, [], ◌∷◌, ◌++◌}
 use Rattle.std.specs.Prelude.{◌&&◌, ◌==◌, nat_lt, is_some}
 use Rattle.std.proofs.lemmas.Bool.{cases_Bool, cases_lt, false≢true, false_from_ne_true, or_cases, or_left, or_right, and_parts, and_from, cond-true, cond-false, cond_both, eqb-true, eq-eqb, ltb-true, lt-ltb, le-ltb}
-use Rattle.schedule_steps.specs.Steps.{Step, Send, Recv, Begin, End, Join}
+use Rattle.schedule_steps.specs.declared.step.Step.{Step}
+use Rattle.schedule_steps.specs.declared.step.Step.TheVariants.{Send, Recv, Begin, End, Join}
 use Rattle.schedule_model.specs.Effects.{Ran, Faulted, Finished}
-use Rattle.schedule_model.specs.Plan.{Plan, Kind, Free, Reduce, Ordered, Host, Hosted, Halts, Goes, elements}
+use Rattle.schedule_model.specs.Program.{Kind, Free, Reduce, Ordered, Host, Hosted, Halts, Goes, elements}
+use Rattle.schedule_model.specs.Setup.{Setup}
 use Rattle.schedule_model.specs.Sequential.{Stop, Loop, Broke, Ran_through, loop}
 use Rattle.schedule_model.specs.Machine.{Frame, Shut, Broken, Holds, Message, State, view, taken, opened, closed, is_less_element, is_less, lesser, least, gathered, looped, hosted, done, joined, step, start_state, steps_from, machine}
 use Rattle.schedule_model.specs.Kept.{kept_of, if_before, OfElements}
@@ -176,7 +178,7 @@ of_push : {F : Type 0} (xs : List (Stop F)) (x : Stop F) → OfElements xs → (
 of_push [] x h g = (g, tt)
 of_push (y ∷ xs) x h g = (h.0, of_push xs x h.1 g)
 
-module _ {F : Type 0} (p : Plan F) where
+module _ {F : Type 0} (p : Setup F) where
   of_opened : (k r e : ℕ) (x : Ran F) (st : State F) → OfElements st.faults → OfElements (opened k r e x st).faults
   of_opened k r e (Faulted f) st h = of_push st.faults (record { item = k; element = Some e; fault = f }) h (e, refl)
   of_opened k r e (Finished t) st h = h
@@ -201,17 +203,17 @@ module _ {F : Type 0} (p : Plan F) where
   of_done : (k : ℕ) (x : Kind) (st : State F) → OfElements st.faults → OfElements (done p k x st).faults
   of_done k Free st h = h
   of_done k Reduce st h = h
-  of_done k Ordered st h = of_looped k (loop p k (elements p k) (gathered p st)) st h
-  of_done k Host st h = of_hosted k (p.host k (gathered p st)) st h
+  of_done k Ordered st h = of_looped k (loop p.program k (elements p.program k) (gathered p st)) st h
+  of_done k Host st h = of_hosted k (p.program.host k (gathered p st)) st h
 
   of_joined : (k : ℕ) (x : Option (Stop F)) (st : State F) → OfElements st.faults → OfElements (joined p k x st).faults
   of_joined k (Some x) st h = h
-  of_joined k None st h = of_done k (p.kind k) st h
+  of_joined k None st h = of_done k (p.program.kind k) st h
 
   of_step : (s : Step) (st : State F) → OfElements st.faults → OfElements (step p s st).faults
   of_step (Send k s r) st h = h
   of_step (Recv k r s) st h = of_taken r s (st.mail s r) st h
-  of_step (Begin k r e) st h = of_opened k r e (p.run k e (view p k r st)) st h
+  of_step (Begin k r e) st h = of_opened k r e (p.program.run k e (view p k r st)) st h
   of_step (End k r e) st h = of_closed k r e (st.frames k r e) st h
   of_step (Join k) st h = of_joined k (least k st.faults) st h
 

@@ -5,7 +5,8 @@ use Rattle.std.proofs.lemmas.Bool.{cases_eq, cases_Bool, false≢true, false_fro
 use Rattle.reductions.specs.Reduction.{Reduction, unit_of}
 use Rattle.schedule_model.specs.Cells.{Cell, Data, Variable, DatCell, VarCell, Store, InRange}
 use Rattle.schedule_model.specs.Effects.{Untouched, Merged, is_read, is_modified, with_units, fault_of, effect_of, outcome}
-use Rattle.schedule_model.specs.Plan.{Plan, Free, is_free, elements, in_set, owner_of, stale}
+use Rattle.schedule_model.specs.Program.{Free, is_free, elements}
+use Rattle.schedule_model.specs.Setup.{Setup, in_set, owner_of, stale}
 use Rattle.schedule_model.specs.Machine.{unit_at, merge_at}
 use Rattle.schedule_model.specs.Laws.{Lawful, Reaches}
 use Rattle.schedule_model.proofs.Fold.{Commute}
@@ -14,64 +15,64 @@ use Rattle.schedule_model.proofs.Runs.{Reductions, gives, effect_keeps, effect_i
 use Rattle.schedule_model.specs.Tests.{free_kind, not_free}
 
 -- the fault of an element of item k, where w is the store before the item
-pub fault : {F : Type 0} → Plan F → ℕ → ℕ → Store → Option F
-fault p k e w = fault_of (p.run k e (with_units (p.class k e) w))
+pub fault : {F : Type 0} → Setup F → ℕ → ℕ → Store → Option F
+fault p k e w = fault_of (p.program.run k e (with_units (p.touch k e) w))
 
 -- what it makes of the value v of the cell c
-pub effect : {F : Type 0} → Plan F → ℕ → ℕ → Store → Cell → ℤ → ℤ
-effect p k e w c v = effect_of (p.run k e) (p.class k e) w c v
+pub effect : {F : Type 0} → Setup F → ℕ → ℕ → Store → Cell → ℤ → ℤ
+effect p k e w c v = effect_of (p.program.run k e) (p.touch k e) w c v
 
-pub record Law {F : Type 0} (p : Plan F) : Type 0 where
+pub record Law {F : Type 0} (p : Setup F) : Type 0 where
   pub lawful : Lawful p
   pub reductions : Reductions
 
-module _ {F : Type 0} (p : Plan F) (q : Law p) where
-  pub runs : (k e : ℕ) (w s : Store) → p.kind k ≡ Free → e < elements p k → InRange w → InRange s → ((c : Cell) → is_read (p.class k e c) ≡ true → s c ≡ w c) → p.run k e s ≡ outcome (fault p k e w) (λ c. effect p k e w c (s c))
+module _ {F : Type 0} (p : Setup F) (q : Law p) where
+  pub runs : (k e : ℕ) (w s : Store) → p.program.kind k ≡ Free → e < elements p.program k → InRange w → InRange s → ((c : Cell) → is_read (p.touch k e c) ≡ true → s c ≡ w c) → p.program.run k e s ≡ outcome (fault p k e w) (λ c. effect p k e w c (s c))
   unfolding fault effect
-  runs k e w s fr lt gw gs agree = gives q.reductions (p.run k e) (p.class k e) (q.lawful.independent k e fr lt) w s gw gs agree
+  runs k e w s fr lt gw gs agree = gives q.reductions (p.program.run k e) (p.touch k e) (q.lawful.kernels.independent k e fr lt) w s gw gs agree
 
-  pub keeps : (k e : ℕ) (w : Store) (c : Cell) (v : ℤ) → is_modified (p.class k e c) ≡ false → effect p k e w c v ≡ v
+  pub keeps : (k e : ℕ) (w : Store) (c : Cell) (v : ℤ) → is_modified (p.touch k e c) ≡ false → effect p k e w c v ≡ v
   unfolding effect
-  keeps k e w c v h = effect_keeps (p.run k e) (p.class k e) w c v h
+  keeps k e w c v h = effect_keeps (p.program.run k e) (p.touch k e) w c v h
 
   pub idle : (k e : ℕ) (w : Store) (c : Cell) (v : ℤ) (f : F) → fault p k e w ≡ Some f → effect p k e w c v ≡ v
   unfolding fault effect
-  idle k e w c v f h = effect_idle (p.run k e) (p.class k e) w c v f h
+  idle k e w c v f h = effect_idle (p.program.run k e) (p.touch k e) w c v f h
 
   -- what one element modifies another may only merge into
-  shared : (k a b : ℕ) (c : Cell) → p.kind k ≡ Free → a < elements p k → b < elements p k → (a ≡ b → ⊥) → is_modified (p.class k a c) ≡ true
-      → (is_read (p.class k b c) ≡ false) × ((is_modified (p.class k b c) ≡ false) ⊎ ((o : Reduction) × (p.class k a c ≡ Merged o) × (p.class k b c ≡ Merged o)))
+  shared : (k a b : ℕ) (c : Cell) → p.program.kind k ≡ Free → a < elements p.program k → b < elements p.program k → (a ≡ b → ⊥) → is_modified (p.touch k a c) ≡ true
+      → (is_read (p.touch k b c) ≡ false) × ((is_modified (p.touch k b c) ≡ false) ⊎ ((o : Reduction) × (p.touch k a c ≡ Merged o) × (p.touch k b c ≡ Merged o)))
   shared k a b (Data c) fr la lb ne h = ⊎_elim
-      (λ (u : p.class k b (Data c) ≡ Untouched). (ap is_read u, inl (ap is_modified u)))
-      (λ (r : (o : Reduction) × (p.class k a (Data c) ≡ Merged o) × (p.class k b (Data c) ≡ Merged o)). (ap is_read r.2, inr r))
+      (λ (u : p.touch k b (Data c) ≡ Untouched). (ap is_read u, inl (ap is_modified u)))
+      (λ (r : (o : Reduction) × (p.touch k a (Data c) ≡ Merged o) × (p.touch k b (Data c) ≡ Merged o)). (ap is_read r.2, inr r))
       (q.lawful.shares k a b c fr la lb ne h)
-  shared k a b (Variable v) fr la lb ne h = by_op (p.reduces (p.site k) v) (q.lawful.reaches k a v fr la) (q.lawful.reaches k b v fr lb)
+  shared k a b (Variable v) fr la lb ne h = by_op (p.reduces (p.program.site k) v) (q.lawful.reaches k a v fr la) (q.lawful.reaches k b v fr lb)
     where
-      by_op : (o : Option Reduction) → Reaches o (p.class k a (Variable v)) → Reaches o (p.class k b (Variable v))
-          → (is_read (p.class k b (Variable v)) ≡ false) × ((is_modified (p.class k b (Variable v)) ≡ false) ⊎ ((o : Reduction) × (p.class k a (Variable v) ≡ Merged o) × (p.class k b (Variable v) ≡ Merged o)))
+      by_op : (o : Option Reduction) → Reaches o (p.touch k a (Variable v)) → Reaches o (p.touch k b (Variable v))
+          → (is_read (p.touch k b (Variable v)) ≡ false) × ((is_modified (p.touch k b (Variable v)) ≡ false) ⊎ ((o : Reduction) × (p.touch k a (Variable v) ≡ Merged o) × (p.touch k b (Variable v) ≡ Merged o)))
       by_op None x y = absurd (false≢true (sym x ∙ h))
       by_op (Some o) x y = (ap is_read y, inr (o, x, y))
 
-  pub apart : (k a b : ℕ) (c : Cell) → p.kind k ≡ Free → a < elements p k → b < elements p k → is_read (p.class k a c) ≡ true → is_modified (p.class k b c) ≡ true → b ≡ a
+  pub apart : (k a b : ℕ) (c : Cell) → p.program.kind k ≡ Free → a < elements p.program k → b < elements p.program k → is_read (p.touch k a c) ≡ true → is_modified (p.touch k b c) ≡ true → b ≡ a
   apart k a b c fr la lb r m = ⊎_elim
       (λ (e : b ≡ a). e)
       (λ (ne : b ≡ a → ⊥). absurd (false≢true (sym (shared k b a c fr lb la ne m).0 ∙ r)))
       (cases_eq b a)
 
-  pub commutes : (k : ℕ) (w : Store) (c : Cell) → p.kind k ≡ Free → Commute (elements p k) (λ e. effect p k e w c)
+  pub commutes : (k : ℕ) (w : Store) (c : Cell) → p.program.kind k ≡ Free → Commute (elements p.program k) (λ e. effect p k e w c)
   unfolding effect
   commutes k w c fr a b x la lb ne = ⊎_elim
-      (λ (m : is_modified (p.class k a c) ≡ true). ⊎_elim
-      (λ (u : is_modified (p.class k b c) ≡ false).
-      ap (effect_of (p.run k a) (p.class k a) w c) (effect_keeps (p.run k b) (p.class k b) w c x u)
-      ∙ sym (effect_keeps (p.run k b) (p.class k b) w c (effect_of (p.run k a) (p.class k a) w c x) u))
-      (λ (r : (o : Reduction) × (p.class k a c ≡ Merged o) × (p.class k b c ≡ Merged o)).
-      merges_commute q.reductions (p.run k a) (p.class k a) (p.run k b) (p.class k b) w c r.0 x r.1 r.2)
+      (λ (m : is_modified (p.touch k a c) ≡ true). ⊎_elim
+      (λ (u : is_modified (p.touch k b c) ≡ false).
+      ap (effect_of (p.program.run k a) (p.touch k a) w c) (effect_keeps (p.program.run k b) (p.touch k b) w c x u)
+      ∙ sym (effect_keeps (p.program.run k b) (p.touch k b) w c (effect_of (p.program.run k a) (p.touch k a) w c x) u))
+      (λ (r : (o : Reduction) × (p.touch k a c ≡ Merged o) × (p.touch k b c ≡ Merged o)).
+      merges_commute q.reductions (p.program.run k a) (p.touch k a) (p.program.run k b) (p.touch k b) w c r.0 x r.1 r.2)
       (shared k a b c fr la lb ne m).1)
-      (λ (u : is_modified (p.class k a c) ≡ false).
-      effect_keeps (p.run k a) (p.class k a) w c (effect_of (p.run k b) (p.class k b) w c x) u
-      ∙ ap (effect_of (p.run k b) (p.class k b) w c) (sym (effect_keeps (p.run k a) (p.class k a) w c x u)))
-      (cases_Bool (is_modified (p.class k a c)))
+      (λ (u : is_modified (p.touch k a c) ≡ false).
+      effect_keeps (p.program.run k a) (p.touch k a) w c (effect_of (p.program.run k b) (p.touch k b) w c x) u
+      ∙ ap (effect_of (p.program.run k b) (p.touch k b) w c) (sym (effect_keeps (p.program.run k a) (p.touch k a) w c x u)))
+      (cases_Bool (is_modified (p.touch k a c)))
 
   -- ---- reductions into variables
   pub good_unit : (o : Option Reduction) → FitsSigned w32 (unit_at o)
@@ -86,26 +87,26 @@ module _ {F : Type 0} (p : Plan F) (q : Law p) where
   merge_unit None v g = refl
   merge_unit (Some o) v g = (q.reductions o).commutes v (unit_of o) ∙ (q.reductions o).keeps v g
 
-  pub unreduced : (k e : ℕ) (v : VarCell) → p.kind k ≡ Free → e < elements p k → p.reduces (p.site k) v ≡ None → is_modified (p.class k e (Variable v)) ≡ false
-  unreduced k e v fr lt h = subst (λ o. Reaches o (p.class k e (Variable v))) h (q.lawful.reaches k e v fr lt)
+  pub unreduced : (k e : ℕ) (v : VarCell) → p.program.kind k ≡ Free → e < elements p.program k → p.reduces (p.program.site k) v ≡ None → is_modified (p.touch k e (Variable v)) ≡ false
+  unreduced k e v fr lt h = subst (λ o. Reaches o (p.touch k e (Variable v))) h (q.lawful.reaches k e v fr lt)
 
-  pub merge_amount : (k e : ℕ) (w : Store) (v : VarCell) (y x : ℤ) → p.kind k ≡ Free → e < elements p k → merge_at (p.reduces (p.site k) v) y (effect p k e w (Variable v) x) ≡ effect p k e w (Variable v) (merge_at (p.reduces (p.site k) v) y x)
+  pub merge_amount : (k e : ℕ) (w : Store) (v : VarCell) (y x : ℤ) → p.program.kind k ≡ Free → e < elements p.program k → merge_at (p.reduces (p.program.site k) v) y (effect p k e w (Variable v) x) ≡ effect p k e w (Variable v) (merge_at (p.reduces (p.program.site k) v) y x)
   unfolding effect
-  merge_amount k e w v y x fr lt = by_op (p.reduces (p.site k) v) (q.lawful.reaches k e v fr lt)
+  merge_amount k e w v y x fr lt = by_op (p.reduces (p.program.site k) v) (q.lawful.reaches k e v fr lt)
     where
-      by_op : (o : Option Reduction) → Reaches o (p.class k e (Variable v)) → merge_at o y (effect p k e w (Variable v) x) ≡ effect p k e w (Variable v) (merge_at o y x)
-      by_op None h = sym (effect_keeps (p.run k e) (p.class k e) w (Variable v) y h)
-      by_op (Some o) h = merge_through q.reductions (p.run k e) (p.class k e) w (Variable v) o y x h
+      by_op : (o : Option Reduction) → Reaches o (p.touch k e (Variable v)) → merge_at o y (effect p k e w (Variable v) x) ≡ effect p k e w (Variable v) (merge_at o y x)
+      by_op None h = sym (effect_keeps (p.program.run k e) (p.touch k e) w (Variable v) y h)
+      by_op (Some o) h = merge_through q.reductions (p.program.run k e) (p.touch k e) w (Variable v) o y x h
 
   -- ---- items, exchanges, owners
   pub exchanged_is : (k d : ℕ) → p.exchanged k d ≡ (p.needs k d && stale p k d)
-  exchanged_is k d = by_bit (λ i. p.modifies i d) (λ i. p.needs i d) (λ i. p.exchanged i d) (q.lawful.exchanges d) k
+  exchanged_is k d = by_bit (λ i. p.modifies i d) (λ i. p.needs i d) (λ i. p.exchanged i d) (q.lawful.items.exchanges d) k
 
-  pub no_needs : (k d : ℕ) → is_free (p.kind k) ≡ false → p.needs k d ≡ false
-  no_needs k d h = false_from_ne_true (p.needs k d) (λ n. not_free (p.kind k) h (q.lawful.needs_free k d n))
+  pub no_needs : (k d : ℕ) → is_free (p.program.kind k) ≡ false → p.needs k d ≡ false
+  no_needs k d h = false_from_ne_true (p.needs k d) (λ n. not_free (p.program.kind k) h (q.lawful.items.needs_free k d n))
 
-  pub last : (n : ℕ) → p.items ≡ suc n → is_free (p.kind n) ≡ false
-  last n e = false_from_ne_true (is_free (p.kind n)) (λ t. q.lawful.last_item n e (free_kind (p.kind n) t))
+  pub last : (n : ℕ) → p.program.items ≡ suc n → is_free (p.program.kind n) ≡ false
+  last n e = false_from_ne_true (is_free (p.program.kind n)) (λ t. q.lawful.items.last_item n e (free_kind (p.program.kind n) t))
 
   pub owner_below : (c : DatCell) → owner_of p c < p.ranks
-  owner_below c = cond_both (in_set p c) (p.owner (p.set_of c.dat) c.element) 0 (λ x. x < p.ranks) (λ t. q.lawful.owners (p.set_of c.dat) c.element (ltb-true c.element (p.size (p.set_of c.dat)) t)) (λ t. q.lawful.some_rank)
+  owner_below c = cond_both (in_set p c) (p.owner (p.program.set_of c.dat) c.element) 0 (λ x. x < p.ranks) (λ t. q.lawful.items.owners (p.program.set_of c.dat) c.element (ltb-true c.element (p.program.size (p.program.set_of c.dat)) t)) (λ t. q.lawful.items.some_rank)

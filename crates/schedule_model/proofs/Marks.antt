@@ -2,12 +2,14 @@
 use Rattle.std.proofs.Common.{◌≡◌, ℕ, zero, suc, ◌<◌, ◌≤◌, Bool, true, false, cond, ◌⊎◌, inl, inr, refl, sym, ap, subst, ◌∙◌, arith, ⊎_elim, List, [], ◌∷◌, ◌++◌, append-nil}
 use Rattle.std.specs.Prelude.{◌&&◌, ◌||◌, not}
 use Rattle.std.proofs.lemmas.Bool.{cases_eq, false_from_ne_true, or_cases, or_left, or_right}
-use Rattle.schedule_steps.specs.Outline.{Outline, any_order}
-use Rattle.schedule_steps.specs.Steps.{Step, Send, Recv, Begin, End, Join, item, IsOf, IsStep, Earlier, same}
+use Rattle.schedule_steps.specs.Outline.{Outline}
+use Rattle.schedule_steps.specs.declared.step.Step.{Step}
+use Rattle.schedule_steps.specs.declared.step.Step.TheVariants.{Send, Recv, Begin, End, Join}
+use Rattle.schedule_steps.specs.Steps.{item, IsOf, IsStep, Earlier, same}
 use Rattle.schedule_steps.specs.Members.{same_true, same_refl}
 use Rattle.schedule_model.specs.Cells.{DatCell, Data}
 use Rattle.schedule_model.specs.Effects.{is_modified}
-use Rattle.schedule_model.specs.Plan.{Plan}
+use Rattle.schedule_model.specs.Setup.{Setup}
 
 abbrev pub mark : Step → (Step → Bool) → Step → Bool
 mark s m t = same t s || m t
@@ -28,17 +30,17 @@ mark_else s m t ne = ap (λ b. b || m t) (false_from_ne_true (same t s) (λ h. n
 pub record Ready (o : Outline) (m : Step → Bool) (s : Step) : Type 0 where
   pub planned : IsStep o s
   pub untaken : m s ≡ false
-  pub after : (t : Step) → IsStep o t → Earlier o any_order t s → m t ≡ true
+  pub after : (t : Step) → IsStep o t → Earlier o t s → m t ≡ true
 
 -- what is taken was planned, and had what is earlier before it
 pub record Proper (o : Outline) (m : Step → Bool) : Type 0 where
   pub sound : (s : Step) → m s ≡ true → IsStep o s
-  pub closed : (s t : Step) → m s ≡ true → IsStep o t → Earlier o any_order t s → m t ≡ true
+  pub closed : (s t : Step) → m s ≡ true → IsStep o t → Earlier o t s → m t ≡ true
 
 pub proper_more : (o : Outline) (m : Step → Bool) (s : Step) → Proper o m → Ready o m s → Proper o (mark s m)
 proper_more o m s h r = record {
   sound = λ t e. ⊎_elim (λ i. subst (IsStep o) (sym i) r.planned) (λ i. h.sound t i) (mark_true s m t e);
-  closed = λ t u e plan early. mark_old s m u (⊎_elim (λ (i : t ≡ s). r.after u plan (subst (λ x. Earlier o any_order u x) i early)) (λ i. h.closed t u i plan early) (mark_true s m t e));
+  closed = λ t u e plan early. mark_old s m u (⊎_elim (λ (i : t ≡ s). r.after u plan (subst (λ x. Earlier o u x) i early)) (λ i. h.closed t u i plan early) (mark_true s m t e));
 }
 
 -- rank r stands at item k
@@ -67,10 +69,10 @@ stands_same o m r s nj h = record {
 }
 
 -- of two open elements of a rank, none modifies what the other modifies
-abbrev pub Apart : {F : Type 0} → Plan F → (Step → Bool) → Type 0
+abbrev pub Apart : {F : Type 0} → Setup F → (Step → Bool) → Type 0
 Apart p m =
     (k r a b : ℕ) (c : DatCell) → m (Begin k r a) ≡ true → m (End k r a) ≡ false → m (Begin k r b) ≡ true → m (End k r b) ≡ false → (a ≡ b → ⊥)
-    → is_modified (p.class k a (Data c)) ≡ true → is_modified (p.class k b (Data c)) ≡ true → ⊥
+    → is_modified (p.touch k a (Data c)) ≡ true → is_modified (p.touch k b (Data c)) ≡ true → ⊥
 
 -- the messages that are under way, by item
 abbrev pub waiting : (Step → Bool) → ℕ → ℕ → ℕ → Bool

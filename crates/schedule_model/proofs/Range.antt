@@ -1,13 +1,17 @@
 -- Every value stays in range, whatever steps of the plan are taken.
-use Rattle.std.proofs.Common.{◌≡◌, ℕ, ℤ, zero, suc, ◌<◌, Bool, cond, refl, arith, Option, Some, None, List, [], ◌∷◌, ◌++◌, FitsSigned, w32}
+use Rattle.std.proofs.Common.{true, ap, ◌≡◌, ℕ, ℤ, zero, suc, ◌<◌, Bool, cond, refl, arith, Option, Some, None, List, [], ◌∷◌, ◌++◌, FitsSigned, w32}
 use Rattle.std.specs.Prelude.{◌&&◌, ◌==◌, nat_lt}
 use Rattle.reductions.specs.Reduction.{Reduction}
-use Rattle.schedule_steps.specs.Steps.{Step, Send, Recv, Begin, End, Join, IsStep, same3}
+use Rattle.schedule_steps.specs.declared.step.Step.{Step}
+use Rattle.schedule_steps.specs.declared.step.Step.TheVariants.{Send, Recv, Begin, End, Join}
+use Rattle.schedule_steps.specs.Steps.{IsStep, same3}
 use Rattle.schedule_model.specs.Cells.{Data, Variable, DatCell, VarCell, InRange}
 use Rattle.schedule_model.specs.Effects.{Ran, Faulted, Finished, is_modified}
-use Rattle.schedule_model.specs.Plan.{Plan, Kind, Free, Reduce, Ordered, Host, Hosted, Halts, Goes, elements, owner_of, executes, outline}
+use Rattle.schedule_model.specs.Program.{Kind, Free, Reduce, Ordered, Host, Hosted, Halts, Goes, elements, is_loop}
+use Rattle.schedule_model.specs.Setup.{Setup, owner_of, executes, outline}
 use Rattle.schedule_model.specs.Sequential.{Stop, Loop, Broke, Ran_through, loop}
 use Rattle.schedule_model.specs.Machine.{Frame, Shut, Broken, Holds, Message, State, unit_at, merge_at, start_state, put1, put3, window_of, view, taken, arrives, opened, closed, least, merged_from, reduced, gathered, looped, hosted, done, joined, step}
+use Rattle.schedule_model.specs.Tests.{free_kind}
 use Rattle.schedule_model.proofs.Law.{Law, good_unit, good_merge}
 use Rattle.schedule_model.proofs.Sequence.{GoodLoop, good_loop}
 use Rattle.std.proofs.lemmas.Bool.{cond_both, and_parts, ltb-true}
@@ -35,7 +39,7 @@ pub record Sane {F : Type 0} (st : State F) : Type 0 where
   pub post : (s r : ℕ) → GoodMail (st.mail s r)
   pub frames : (k r e : ℕ) → GoodFrame (st.frames k r e)
 
-module _ {F : Type 0} (p : Plan F) (q : Law p) (st : State F) (h : Sane st) where
+module _ {F : Type 0} (p : Setup F) (q : Law p) (st : State F) (h : Sane st) where
   good_rank : (r : ℕ) (v : DatCell → ℤ) (f : ℕ → DatCell → ℤ) → ((c : DatCell) → Good (v c)) → ((x : ℕ) (c : DatCell) → Good (f x c)) → (x : ℕ) (c : DatCell) → Good (put1 r v f x c)
   good_rank r v f g all x c = cond_both (x == r) v (f x) (λ m. Good (m c)) (λ t. g c) (λ t. all x c)
 
@@ -48,7 +52,7 @@ module _ {F : Type 0} (p : Plan F) (q : Law p) (st : State F) (h : Sane st) wher
 
   pub good_view : (k r : ℕ) → InRange (view p k r st)
   good_view k r (Data c) = h.cells r c
-  good_view k r (Variable v) = good_window (p.reduces (p.site k) v) (st.variables v) (h.variables v)
+  good_view k r (Variable v) = good_window (p.reduces (p.program.site k) v) (st.variables v) (h.variables v)
 
   good_frames : (k r e : ℕ) (x : Frame) → GoodFrame x → (a b c : ℕ) → GoodFrame (put3 k r e x st.frames a b c)
   good_frames k r e x g a b c = cond_both (same3 a b c k r e) x (st.frames a b c) GoodFrame (λ t. g) (λ t. h.frames a b c)
@@ -63,14 +67,14 @@ module _ {F : Type 0} (p : Plan F) (q : Law p) (st : State F) (h : Sane st) wher
     frames = h.frames;
   }
 
-  good_opened : (k r e : ℕ) (x : Ran F) → e < elements p k → p.run k e (view p k r st) ≡ x → Sane (opened k r e x st)
-  good_opened k r e (Faulted f) lt i = record { cells = h.cells; variables = h.variables; parts = h.parts; post = h.post; frames = good_frames k r e Broken tt }
-  good_opened k r e (Finished t) lt i = record {
+  good_opened : (k r e : ℕ) (x : Ran F) → is_loop (p.program.kind k) ≡ true → e < elements p.program k → p.program.run k e (view p k r st) ≡ x → Sane (opened k r e x st)
+  good_opened k r e (Faulted f) lp lt i = record { cells = h.cells; variables = h.variables; parts = h.parts; post = h.post; frames = good_frames k r e Broken tt }
+  good_opened k r e (Finished t) lp lt i = record {
     cells = h.cells;
     variables = h.variables;
     parts = h.parts;
     post = h.post;
-    frames = good_frames k r e (Holds t) (q.lawful.run_in_range k e (view p k r st) t lt (good_view k r) i);
+    frames = good_frames k r e (Holds t) (q.lawful.kernels.run_in_range k e (view p k r st) t lp lt (good_view k r) i);
   }
 
   good_shut : (k r e : ℕ) → Sane (record st { frames = put3 k r e Shut st.frames })
@@ -80,12 +84,12 @@ module _ {F : Type 0} (p : Plan F) (q : Law p) (st : State F) (h : Sane st) wher
   good_closed k r e Shut g = good_shut k r e
   good_closed k r e Broken g = good_shut k r e
   good_closed k r e (Holds t) g = record {
-    cells = good_rank r (λ c. cond (is_modified (p.class k e (Data c))) (t (Data c)) (st.memories r c)) st.memories (λ c. good_cond (is_modified (p.class k e (Data c))) (t (Data c)) (st.memories r c) (g (Data c)) (h.cells r c)) h.cells;
+    cells = good_rank r (λ c. cond (is_modified (p.touch k e (Data c))) (t (Data c)) (st.memories r c)) st.memories (λ c. good_cond (is_modified (p.touch k e (Data c))) (t (Data c)) (st.memories r c) (g (Data c)) (h.cells r c)) h.cells;
     variables = h.variables;
-    parts = λ a b v. cond_both ((a == r) && (b == p.site k))
-        (λ v. cond (p.owner (p.set k) e == r) (merge_at (p.reduces (p.site k) v) (st.partials r (p.site k) v) (t (Variable v))) (st.partials r (p.site k) v)) (st.partials a b) (λ f. Good (f v))
-        (λ i. good_cond (p.owner (p.set k) e == r) (merge_at (p.reduces (p.site k) v) (st.partials r (p.site k) v) (t (Variable v))) (st.partials r (p.site k) v)
-        (good_merge p q (p.reduces (p.site k) v) (st.partials r (p.site k) v) (t (Variable v)) (h.parts r (p.site k) v) (g (Variable v))) (h.parts r (p.site k) v))
+    parts = λ a b v. cond_both ((a == r) && (b == p.program.site k))
+        (λ v. cond (p.owner (p.program.set k) e == r) (merge_at (p.reduces (p.program.site k) v) (st.partials r (p.program.site k) v) (t (Variable v))) (st.partials r (p.program.site k) v)) (st.partials a b) (λ f. Good (f v))
+        (λ i. good_cond (p.owner (p.program.set k) e == r) (merge_at (p.reduces (p.program.site k) v) (st.partials r (p.program.site k) v) (t (Variable v))) (st.partials r (p.program.site k) v)
+        (good_merge p q (p.reduces (p.program.site k) v) (st.partials r (p.program.site k) v) (t (Variable v)) (h.parts r (p.program.site k) v) (g (Variable v))) (h.parts r (p.program.site k) v))
         (λ i. h.parts a b v);
     post = h.post;
     frames = good_frames k r e Shut tt;
@@ -98,8 +102,8 @@ module _ {F : Type 0} (p : Plan F) (q : Law p) (st : State F) (h : Sane st) wher
   pub good_reduced : (k : ℕ) → Sane (reduced p k st)
   good_reduced k = record {
     cells = h.cells;
-    variables = λ v. good_merged (p.reduces (p.site k) v) (p.site k) v p.ranks (st.variables v) (h.variables v);
-    parts = λ r s v. good_cond (s == p.site k) (unit_at (p.reduces s v)) (st.partials r s v) (good_unit p q (p.reduces s v)) (h.parts r s v);
+    variables = λ v. good_merged (p.reduces (p.program.site k) v) (p.program.site k) v p.ranks (st.variables v) (h.variables v);
+    parts = λ r s v. good_cond (s == p.program.site k) (unit_at (p.reduces s v)) (st.partials r s v) (good_unit p q (p.reduces s v)) (h.parts r s v);
     post = h.post;
     frames = h.frames;
   }
@@ -112,19 +116,19 @@ module _ {F : Type 0} (p : Plan F) (q : Law p) (st : State F) (h : Sane st) wher
   good_looped k (Broke e f t) g = record { cells = λ r c. good_cond (owner_of p c == r) (t (Data c)) (st.memories r c) (g (Data c)) (h.cells r c); variables = λ v. g (Variable v); parts = h.parts; post = h.post; frames = h.frames }
   good_looped k (Ran_through t) g = record { cells = λ r c. good_cond (owner_of p c == r) (t (Data c)) (st.memories r c) (g (Data c)) (h.cells r c); variables = λ v. g (Variable v); parts = h.parts; post = h.post; frames = h.frames }
 
-  pub good_hosted : (k : ℕ) (x : Hosted F) → p.host k (gathered p st) ≡ x → Sane (hosted k x st)
+  pub good_hosted : (k : ℕ) (x : Hosted F) → p.program.host k (gathered p st) ≡ x → Sane (hosted k x st)
   good_hosted k (Halts f) i = record { cells = h.cells; variables = h.variables; parts = h.parts; post = h.post; frames = h.frames }
-  good_hosted k (Goes v w) i = record { cells = h.cells; variables = q.lawful.host_in_range k (gathered p st) v w good_gathered i; parts = h.parts; post = h.post; frames = h.frames }
+  good_hosted k (Goes v w) i = record { cells = h.cells; variables = q.lawful.kernels.host_in_range k (gathered p st) v w good_gathered i; parts = h.parts; post = h.post; frames = h.frames }
 
-  good_done : (k : ℕ) (x : Kind) → Sane (done p k x st)
-  good_done k Free = h
-  good_done k Reduce = good_reduced k
-  good_done k Ordered = good_looped k (loop p k (elements p k) (gathered p st)) (good_loop p q k (gathered p st) (elements p k) (omega arith) good_gathered)
-  good_done k Host = good_hosted k (p.host k (gathered p st)) refl
+  good_done : (k : ℕ) (x : Kind) → p.program.kind k ≡ x → Sane (done p k x st)
+  good_done k Free i = h
+  good_done k Reduce i = good_reduced k
+  good_done k Ordered i = good_looped k (loop p.program k (elements p.program k) (gathered p st)) (good_loop p q k (gathered p st) (elements p.program k) (ap is_loop i) (omega arith) good_gathered)
+  good_done k Host i = good_hosted k (p.program.host k (gathered p st)) refl
 
   good_joined : (k : ℕ) (x : Option (Stop F)) → Sane (joined p k x st)
   good_joined k (Some x) = record { cells = h.cells; variables = h.variables; parts = h.parts; post = h.post; frames = h.frames }
-  good_joined k None = good_done k (p.kind k)
+  good_joined k None = good_done k (p.program.kind k) refl
 
   pub sane_step : (s : Step) → IsStep (outline p) s → Sane (step p s st)
   sane_step (Send k s r) plan = record {
@@ -136,9 +140,9 @@ module _ {F : Type 0} (p : Plan F) (q : Law p) (st : State F) (h : Sane st) wher
         (λ t. good_push (st.mail s r) (record { about = k; values = st.memories s }) (h.post s r) (h.cells s)) (λ t. h.post a b);
   }
   sane_step (Recv k r s) plan = good_taken r s (st.mail s r) (h.post s r)
-  sane_step (Begin k r e) plan = good_opened k r e (p.run k e (view p k r st)) (ltb-true e (elements p k) (and_parts (nat_lt e (elements p k)) (executes p k r e) plan.3).0) refl
+  sane_step (Begin k r e) plan = good_opened k r e (p.program.run k e (view p k r st)) (ap is_loop (free_kind (p.program.kind k) plan.1)) (ltb-true e (elements p.program k) (and_parts (nat_lt e (elements p.program k)) (executes p k r e) plan.3).0) refl
   sane_step (End k r e) plan = good_closed k r e (st.frames k r e) (h.frames k r e)
   sane_step (Join k) plan = good_joined k (least k st.faults)
 
-pub sane_start : {F : Type 0} (p : Plan F) (q : Law p) → Sane (start_state p)
-sane_start p q = record { cells = λ r c. q.lawful.start_in_range (Data c); variables = λ v. q.lawful.start_in_range (Variable v); parts = λ r s v. good_unit p q (p.reduces s v); post = λ s r. tt; frames = λ k r e. tt }
+pub sane_start : {F : Type 0} (p : Setup F) (q : Law p) → Sane (start_state p)
+sane_start p q = record { cells = λ r c. q.lawful.kernels.start_in_range (Data c); variables = λ v. q.lawful.kernels.start_in_range (Variable v); parts = λ r s v. good_unit p q (p.reduces s v); post = λ s r. tt; frames = λ k r e. tt }

@@ -1,7 +1,8 @@
 pub mod Cells
 pub mod History
 pub mod Effects
-pub mod Plan
+pub mod Program
+pub mod Setup
 pub mod Tests
 pub mod Sequential
 pub mod Machine

@@ -1,10 +1,14 @@
 -- The distributed machine: ranks with memories, messages, frames and partials, driven by the steps of a schedule.
-use Rattle.std.specs.Prelude.{◌≡◌, ℕ, ℤ, zero, suc, Bool, false, cond, ◌&&◌, ◌||◌, ◌==◌, nat_lt, List, [], ◌∷◌, ◌++◌, Option, Some, None, is_some, pos}
+use Rattle.std.specs.Prelude.{◌≡◌, ℕ, ℤ, zero, suc, Bool, false, cond, ◌&&◌, ◌||◌, ◌==◌, nat_lt, List, [], ◌∷◌, ◌++◌, Option, Some, None}
+use Rattle.std.specs.Prelude.{is_some, pos}
 use Rattle.reductions.specs.Reduction.{Reduction, unit_of, merged}
-use Rattle.schedule_steps.specs.Steps.{Step, Send, Recv, Begin, End, Join, same3}
+use Rattle.schedule_steps.specs.declared.step.Step.{Step}
+use Rattle.schedule_steps.specs.declared.step.Step.TheVariants.{Send, Recv, Begin, End, Join}
+use Rattle.schedule_steps.specs.Steps.{same3}
 use Rattle.schedule_model.specs.Cells.{Data, Variable, DatCell, VarCell, Store}
 use Rattle.schedule_model.specs.Effects.{Ran, Faulted, Finished, is_modified}
-use Rattle.schedule_model.specs.Plan.{Plan, Kind, Free, Reduce, Ordered, Host, Hosted, Halts, Goes, elements, owner_of, has_copy}
+use Rattle.schedule_model.specs.Program.{Kind, Free, Reduce, Ordered, Host, Hosted, Halts, Goes, elements}
+use Rattle.schedule_model.specs.Setup.{Setup, owner_of, has_copy}
 use Rattle.schedule_model.specs.Sequential.{Stop, Loop, Broke, Ran_through, loop, Seq, Stopped, Going}
 
 -- an element's frame: none, one whose kernel faulted, or its windows after its kernel's run
@@ -40,10 +44,10 @@ merge_at None v x = v
 merge_at (Some o) v x = merged o v x
 
 -- the mesh's values in every copy, units in the partials, and all else empty
-abbrev pub start_state : {F : Type 0} → Plan F → State F
+abbrev pub start_state : {F : Type 0} → Setup F → State F
 start_state p = record {
-  memories = λ r c. p.start (Data c);
-  variables = λ v. p.start (Variable v);
+  memories = λ r c. p.program.start (Data c);
+  variables = λ v. p.program.start (Variable v);
   partials = λ r s v. unit_at (p.reduces s v);
   mail = λ s r. [];
   frames = λ k r e. Shut;
@@ -67,11 +71,11 @@ put3 a b c v f x y z = cond (same3 x y z a b c) v (f x y z)
 -- ---- messages
 
 -- in item k the cell comes from s to r
-abbrev pub arrives : {F : Type 0} → Plan F → ℕ → ℕ → ℕ → DatCell → Bool
+abbrev pub arrives : {F : Type 0} → Setup F → ℕ → ℕ → ℕ → DatCell → Bool
 arrives p k r s c = (owner_of p c == s) && (p.exchanged k c.dat && has_copy p r c)
 
 -- the message x has come from s to r, and xs are left
-abbrev pub delivered : {F : Type 0} → Plan F → ℕ → ℕ → ℕ → Message → List Message → State F → State F
+abbrev pub delivered : {F : Type 0} → Setup F → ℕ → ℕ → ℕ → Message → List Message → State F → State F
 delivered p k r s x xs st =
     record st {
       memories = put1 r (λ c. cond (arrives p k r s c) (x.values c) (st.memories r c)) st.memories;
@@ -79,7 +83,7 @@ delivered p k r s x xs st =
     }
 
 -- the oldest message is taken from the queue
-abbrev pub taken : {F : Type 0} → Plan F → ℕ → ℕ → List Message → State F → State F
+abbrev pub taken : {F : Type 0} → Setup F → ℕ → ℕ → List Message → State F → State F
 taken p r s [] st = st
 taken p r s (x ∷ xs) st = delivered p x.about r s x xs st
 
@@ -91,27 +95,32 @@ window_of None v = v
 window_of (Some o) v = unit_of o
 
 -- what rank r gives a kernel of item k
-abbrev pub view : {F : Type 0} → Plan F → ℕ → ℕ → State F → Store
+abbrev pub view : {F : Type 0} → Setup F → ℕ → ℕ → State F → Store
 view p k r st (Data c) = st.memories r c
-view p k r st (Variable v) = window_of (p.reduces (p.site k) v) (st.variables v)
+view p k r st (Variable v) = window_of (p.reduces (p.program.site k) v) (st.variables v)
 
 -- a begin: the frame after the kernel's run, or its fault, which is recorded
 abbrev pub opened : {F : Type 0} → ℕ → ℕ → ℕ → Ran F → State F → State F
-opened k r e (Faulted f) st = record st { frames = put3 k r e Broken st.frames; faults = st.faults ++ (record { item = k; element = Some e; fault = f } ∷ []) }
+opened k r e (Faulted f) st =
+    record st { frames = put3 k r e Broken st.frames; faults = st.faults ++ (record { item = k; element = Some e; fault = f } ∷ []) }
 opened k r e (Finished t) st = record st { frames = put3 k r e (Holds t) st.frames }
 
 -- the windows of modified cells go back to memory, and the reductions of an element that r owns into r's partials
-abbrev pub written_back : {F : Type 0} → Plan F → ℕ → ℕ → ℕ → Store → State F → State F
+abbrev pub written_back : {F : Type 0} → Setup F → ℕ → ℕ → ℕ → Store → State F → State F
 written_back p k r e t st =
     record st {
-      memories = put1 r (λ c. cond (is_modified (p.class k e (Data c))) (t (Data c)) (st.memories r c)) st.memories;
-      partials = put2 r (p.site k)
-          (λ v. cond (p.owner (p.set k) e == r) (merge_at (p.reduces (p.site k) v) (st.partials r (p.site k) v) (t (Variable v))) (st.partials r (p.site k) v)) st.partials;
+      memories = put1 r (λ c. cond (is_modified (p.touch k e (Data c))) (t (Data c)) (st.memories r c)) st.memories;
+      partials = put2 r (p.program.site k)
+          (λ v. cond
+          (p.owner (p.program.set k) e == r)
+          (merge_at (p.reduces (p.program.site k) v) (st.partials r (p.program.site k) v) (t (Variable v)))
+          (st.partials r (p.program.site k) v))
+          st.partials;
       frames = put3 k r e Shut st.frames;
     }
 
 -- in every case the frame is shut
-abbrev pub closed : {F : Type 0} → Plan F → ℕ → ℕ → ℕ → Frame → State F → State F
+abbrev pub closed : {F : Type 0} → Setup F → ℕ → ℕ → ℕ → Frame → State F → State F
 closed p k r e Shut st = record st { frames = put3 k r e Shut st.frames }
 closed p k r e Broken st = record st { frames = put3 k r e Shut st.frames }
 closed p k r e (Holds t) st = written_back p k r e t st
@@ -143,24 +152,24 @@ merged_from st o s v zero x = x
 merged_from st o s v (suc n) x = merge_at o (merged_from st o s v n x) (st.partials n s v)
 
 -- Reduce: the partials of all ranks go into the variables, and are units again
-abbrev pub reduced : {F : Type 0} → Plan F → ℕ → State F → State F
+abbrev pub reduced : {F : Type 0} → Setup F → ℕ → State F → State F
 reduced p k st =
     record st {
-      variables = λ v. merged_from st (p.reduces (p.site k) v) (p.site k) v p.ranks (st.variables v);
-      partials = λ r s v. cond (s == p.site k) (unit_at (p.reduces s v)) (st.partials r s v);
+      variables = λ v. merged_from st (p.reduces (p.program.site k) v) (p.program.site k) v p.ranks (st.variables v);
+      partials = λ r s v. cond (s == p.program.site k) (unit_at (p.reduces s v)) (st.partials r s v);
     }
 
 -- the owners' copies and the variables
-abbrev pub gathered : {F : Type 0} → Plan F → State F → Store
+abbrev pub gathered : {F : Type 0} → Setup F → State F → Store
 gathered p st (Data c) = st.memories (owner_of p c) c
 gathered p st (Variable v) = st.variables v
 
 -- each owner has its cells of t, and the variables are those of t
-abbrev pub spread : {F : Type 0} → Plan F → Store → State F → State F
+abbrev pub spread : {F : Type 0} → Setup F → Store → State F → State F
 spread p t st = record st { memories = λ r c. cond (owner_of p c == r) (t (Data c)) (st.memories r c); variables = λ v. t (Variable v) }
 
 -- a fault of an Ordered loop leaves what earlier elements stored
-abbrev pub looped : {F : Type 0} → Plan F → ℕ → Loop F → State F → State F
+abbrev pub looped : {F : Type 0} → Setup F → ℕ → Loop F → State F → State F
 looped p k (Broke e f t) st = record (spread p t st) { stop = Some (record { item = k; element = Some e; fault = f }) }
 looped p k (Ran_through t) st = spread p t st
 
@@ -170,37 +179,41 @@ hosted k (Halts f) st = record st { stop = Some (record { item = k; element = No
 hosted k (Goes v w) st = record st { variables = v; output = st.output ++ w }
 
 -- a Free item has no join
-abbrev pub done : {F : Type 0} → Plan F → ℕ → Kind → State F → State F
+abbrev pub done : {F : Type 0} → Setup F → ℕ → Kind → State F → State F
 done p k Free st = st
 done p k Reduce st = reduced p k st
-done p k Ordered st = looped p k (loop p k (elements p k) (gathered p st)) st
-done p k Host st = hosted k (p.host k (gathered p st)) st
+done p k Ordered st = looped p k (loop p.program k (elements p.program k) (gathered p st)) st
+done p k Host st = hosted k (p.program.host k (gathered p st)) st
 
 -- a join stops by a fault of an earlier item, if one is recorded, and else does its item
-abbrev pub joined : {F : Type 0} → Plan F → ℕ → Option (Stop F) → State F → State F
+abbrev pub joined : {F : Type 0} → Setup F → ℕ → Option (Stop F) → State F → State F
 joined p k (Some x) st = record st { stop = Some x }
-joined p k None st = done p k (p.kind k) st
+joined p k None st = done p k (p.program.kind k) st
 
 -- ---- the run of a list
 
 -- one step
-abbrev pub step : {F : Type 0} → Plan F → Step → State F → State F
+abbrev pub step : {F : Type 0} → Setup F → Step → State F → State F
 step p (Send k s r) st = record st { mail = put2 s r (st.mail s r ++ (record { about = k; values = st.memories s } ∷ [])) st.mail }
 step p (Recv k r s) st = taken p r s (st.mail s r) st
-step p (Begin k r e) st = opened k r e (p.run k e (view p k r st)) st
+step p (Begin k r e) st = opened k r e (p.program.run k e (view p k r st)) st
 step p (End k r e) st = closed p k r e (st.frames k r e) st
 step p (Join k) st = joined p k (least k st.faults) st
 
 -- the steps of the list, up to the first that stops
-abbrev pub steps_from : {F : Type 0} → Plan F → List Step → State F → State F
+abbrev pub steps_from : {F : Type 0} → Setup F → List Step → State F → State F
 steps_from p [] st = st
 steps_from p (s ∷ l) st = cond (is_some st.stop) st (steps_from p l (step p s st))
 
 -- the machine after the list
-abbrev pub machine : {F : Type 0} → Plan F → List Step → State F
+abbrev pub machine : {F : Type 0} → Setup F → List Step → State F
 machine p l = steps_from p l (start_state p)
 
 -- the machine printed and stopped as the sequential run did; where that went on to its end, the owners and the variables have its values
-abbrev pub Agrees : {F : Type 0} → Plan F → Seq F → State F → Type 0
-Agrees p (Going s o) m = (m.stop ≡ None) × (m.output ≡ o) × ((c : DatCell) → m.memories (owner_of p c) c ≡ s (Data c)) × ((v : VarCell) → m.variables v ≡ s (Variable v))
+abbrev pub Agrees : {F : Type 0} → Setup F → Seq F → State F → Type 0
+Agrees p (Going s o) m =
+    (m.stop ≡ None)
+    × (m.output ≡ o)
+    × ((c : DatCell) → m.memories (owner_of p c) c ≡ s (Data c))
+    × ((v : VarCell) → m.variables v ≡ s (Variable v))
 Agrees p (Stopped x s o) m = (m.stop ≡ Some x) × (m.output ≡ o)

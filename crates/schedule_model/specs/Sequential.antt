@@ -2,7 +2,7 @@
 use Rattle.std.specs.Prelude.{ℕ, ℤ, zero, suc, List, [], ◌++◌, Option, Some, None}
 use Rattle.schedule_model.specs.Cells.{Data, Variable, VarCell, Store}
 use Rattle.schedule_model.specs.Effects.{Ran, Faulted, Finished}
-use Rattle.schedule_model.specs.Plan.{Plan, Kind, Free, Reduce, Ordered, Host, Hosted, Halts, Goes, elements}
+use Rattle.schedule_model.specs.Program.{Program, Kind, Free, Reduce, Ordered, Host, Hosted, Halts, Goes, elements}
 
 -- where a run stopped, and by which fault; a host statement has no element
 pub record Stop (F : Type 0) : Type 0 where
@@ -21,12 +21,12 @@ after_run e s (Faulted f) = Broke e f s
 after_run e s (Finished t) = Ran_through t
 
 -- the loop with element e, unless an earlier one broke it
-abbrev pub one_more : {F : Type 0} → Plan F → ℕ → ℕ → Loop F → Loop F
+abbrev pub one_more : {F : Type 0} → Program F → ℕ → ℕ → Loop F → Loop F
 one_more p k e (Broke a f s) = Broke a f s
 one_more p k e (Ran_through s) = after_run e s (p.run k e s)
 
 -- the first n elements of the loop of item k
-abbrev pub loop : {F : Type 0} → Plan F → ℕ → ℕ → Store → Loop F
+abbrev pub loop : {F : Type 0} → Program F → ℕ → ℕ → Store → Loop F
 loop p k zero s = Ran_through s
 loop p k (suc n) s = one_more p k n (loop p k n s)
 
@@ -51,22 +51,22 @@ after_host k s o (Halts f) = Stopped (record { item = k; element = None; fault =
 after_host k s o (Goes v w) = Going (with_variables v s) (o ++ w)
 
 -- a Reduce does nothing, since the kernels reduced into the variables themselves
-abbrev pub item_from : {F : Type 0} → Plan F → ℕ → Kind → Store → List ℕ → Seq F
+abbrev pub item_from : {F : Type 0} → Program F → ℕ → Kind → Store → List ℕ → Seq F
 item_from p k Free s o = after_loop k o (loop p k (elements p k) s)
 item_from p k Reduce s o = Going s o
 item_from p k Ordered s o = after_loop k o (loop p k (elements p k) s)
 item_from p k Host s o = after_host k s o (p.host k s)
 
 -- the run with item k, unless it has stopped
-abbrev pub after_item : {F : Type 0} → Plan F → ℕ → Seq F → Seq F
+abbrev pub after_item : {F : Type 0} → Program F → ℕ → Seq F → Seq F
 after_item p k (Stopped x s o) = Stopped x s o
 after_item p k (Going s o) = item_from p k (p.kind k) s o
 
 -- the run before item k
-abbrev pub seq : {F : Type 0} → Plan F → ℕ → Seq F
+abbrev pub seq : {F : Type 0} → Program F → ℕ → Seq F
 seq p zero = Going p.start []
 seq p (suc k) = after_item p k (seq p k)
 
 -- the whole run
-abbrev pub sequential : {F : Type 0} → Plan F → Seq F
+abbrev pub sequential : {F : Type 0} → Program F → Seq F
 sequential p = seq p p.items

@@ -1,31 +1,22 @@
 // The theorems on schedules. Each function has an empty body, and its contract is the theorem.
 ghost use Rattle.std.specs.Prelude.{◌≡◌, ◌↔◌, ℕ, Bool, List, None};
-ghost use Rattle.schedule_steps.specs.Outline.{by_colour, any_order};
-ghost use Rattle.schedule_steps.specs.Steps.{Step, Accepted, EndsAtOnce};
+ghost use Rattle.schedule_steps.specs.declared.step.Step.{Step};
+ghost use Rattle.schedule_steps.specs.Steps.{Accepted};
 ghost use Rattle.schedule_model.specs.Cells.{Cell, Store};
 ghost use Rattle.schedule_model.specs.History.{ByHistory, exchanged_by_bit};
-ghost use Rattle.schedule_model.specs.Effects.{Ran, Class, Independent, GivesEffects};
-ghost use Rattle.schedule_model.specs.Plan.{Plan, outline};
+ghost use Rattle.schedule_model.specs.Effects.{Ran, Touch, Independent, GivesEffects};
+ghost use Rattle.schedule_model.specs.Setup.{Setup, outline};
 ghost use Rattle.schedule_model.specs.Laws.{Lawful, Coloured};
 ghost use Rattle.schedule_model.specs.Sequential.{Stop, sequential};
 ghost use Rattle.schedule_model.specs.Machine.{least, machine, Agrees};
 ghost use Rattle.schedule_model.specs.Kept.{kept_of, if_before, OfElements};
 
-/// For every list that is accepted under all rules the machine prints what the sequential run
+/// For every accepted list the machine prints what the sequential run
 /// prints, and stops exactly where that has a fault, with its item, element and fault. Where it has
 /// none, each owner and the variables end with its values.
 pub fn accepted_runs_as_sequential<F>()
-    ensures { (p : Plan F) → Lawful p → Coloured p → (l : List Step)
-        → Accepted (outline p) (by_colour (outline p)) l → Agrees p (sequential p) (machine p l) }
-{
-    reductions::reductions_commute();
-}
-
-/// The same for every list that is accepted under the rules without colours, in which each begin is
-/// followed at once by its own end.
-pub fn one_at_a_time_runs_as_sequential<F>()
-    ensures { (p : Plan F) → Lawful p → (l : List Step)
-        → Accepted (outline p) any_order l → EndsAtOnce l → Agrees p (sequential p) (machine p l) }
+    ensures { (p : Setup F) → Lawful p → Coloured p → (l : List Step)
+        → Accepted (outline p) l → Agrees p (sequential p.program) (machine p l) }
 {
     reductions::reductions_commute();
 }
@@ -33,7 +24,7 @@ pub fn one_at_a_time_runs_as_sequential<F>()
 /// From independence on two stores: each run is given by whether the element faults and by what it
 /// makes of each cell's old value, both of them functions of the store before the loop.
 pub fn independence_gives_effects<F>()
-    ensures { (run : Store → Ran F) (class : Cell → Class) → Independent run class → GivesEffects run class }
+    ensures { (run : Store → Ran F) (touch : Cell → Touch) → Independent run touch → GivesEffects run touch }
 {
     reductions::reductions_commute();
 }
@@ -48,5 +39,5 @@ pub fn one_bit_is_the_history()
 /// where it stops by all that are recorded. All that the machine records are faults of elements.
 pub fn one_fault_is_enough<F>()
     ensures kept { (k : ℕ) (faults : List (Stop F)) → OfElements faults → least k faults ≡ if_before k (kept_of None faults) }
-    ensures elements { (p : Plan F) (l : List Step) → OfElements (machine p l).faults }
+    ensures elements { (p : Setup F) (l : List Step) → OfElements (machine p l).faults }
 {}

@@ -1,8 +1,9 @@
 -- A list is accepted exactly where the turns take it.
 use Rattle.std.proofs.Common.{◌≡◌, Bool, true, false, refl, sym, ap, subst, ◌∙◌, List, [], ◌∷◌, ◌++◌, append_assoc, append-nil}
 use Rattle.std.specs.Prelude.{◌||◌, ◌↔◌}
-use Rattle.schedule_steps.specs.Outline.{Outline, Order}
-use Rattle.schedule_steps.specs.Steps.{Step, IsStep, same, has, Accepted}
+use Rattle.schedule_steps.specs.Outline.{Outline}
+use Rattle.schedule_steps.specs.declared.step.Step.{Step}
+use Rattle.schedule_steps.specs.Steps.{IsStep, same, has, Accepted}
 use Rattle.schedule_steps.specs.Members.{has_push}
 use Rattle.schedule_steps.specs.Turns.{Takes, marked, Turns, nothing_taken}
 
@@ -23,16 +24,16 @@ after l m t = has l t || m t
 after_more : (s : Step) (l : List Step) (m : Step → Bool) → after l (marked s m) ≡ after (s ∷ l) m
 after_more s l m = λ i t. swap3 (has l t) (same t s) (m t) i
 
-module _ (o : Outline) (before : Order) where
-  turn_at : (pre : List Step) (s : Step) (post : List Step) (m : Step → Bool) → Turns o before m (pre ++ (s ∷ post)) → Takes o before (after pre m) s
+module _ (o : Outline) where
+  turn_at : (pre : List Step) (s : Step) (post : List Step) (m : Step → Bool) → Turns o m (pre ++ (s ∷ post)) → Takes o (after pre m) s
   turn_at [] s post m h = h.0
-  turn_at (u ∷ pre) s post m h = subst (λ z. Takes o before z s) (after_more u pre m) (turn_at pre s post (marked u m) h.1)
+  turn_at (u ∷ pre) s post m h = subst (λ z. Takes o z s) (after_more u pre m) (turn_at pre s post (marked u m) h.1)
 
-  turns_end : (l : List Step) (m : Step → Bool) → Turns o before m l → (s : Step) → IsStep o s → after l m s ≡ true
+  turns_end : (l : List Step) (m : Step → Bool) → Turns o m l → (s : Step) → IsStep o s → after l m s ≡ true
   turns_end [] m h s plan = h s plan
   turns_end (u ∷ l) m h s plan = ap (λ z. z s) (sym (after_more u l m)) ∙ turns_end l (marked u m) h.1 s plan
 
-  pub from_turns : (l : List Step) → Turns o before nothing_taken l → Accepted o before l
+  pub from_turns : (l : List Step) → Turns o nothing_taken l → Accepted o l
   from_turns l h = record {
     whole = λ s plan. sym (or_false (has l s)) ∙ turns_end l nothing_taken h s plan;
     steps = λ pre s post e. (at pre s post e).planned;
@@ -40,15 +41,15 @@ module _ (o : Outline) (before : Order) where
     order = λ pre s post e t plan early. sym (or_false (has pre t)) ∙ (at pre s post e).after t plan early;
   }
     where
-      at : (pre : List Step) (s : Step) (post : List Step) → l ≡ pre ++ (s ∷ post) → Takes o before (after pre nothing_taken) s
-      at pre s post e = turn_at pre s post nothing_taken (subst (Turns o before nothing_taken) e h)
+      at : (pre : List Step) (s : Step) (post : List Step) → l ≡ pre ++ (s ∷ post) → Takes o (after pre nothing_taken) s
+      at pre s post e = turn_at pre s post nothing_taken (subst (Turns o nothing_taken) e h)
 
-  to_turns : (l : List Step) → Accepted o before l → (post pre : List Step) → l ≡ pre ++ post → Turns o before (has pre) post
+  to_turns : (l : List Step) → Accepted o l → (post pre : List Step) → l ≡ pre ++ post → Turns o (has pre) post
   to_turns l acc [] pre e = λ s plan. ap (λ z. has z s) (sym (append-nil pre) ∙ sym e) ∙ acc.whole s plan
   to_turns l acc (s ∷ post) pre e = (
     record { planned = acc.steps pre s post e; untaken = acc.once pre s post e; after = acc.order pre s post e },
-    subst (λ m. Turns o before m post) (λ i t. has_push pre s t i) (to_turns l acc post (pre ++ (s ∷ [])) (e ∙ sym (append_assoc pre (s ∷ []) post))),
+    subst (λ m. Turns o m post) (λ i t. has_push pre s t i) (to_turns l acc post (pre ++ (s ∷ [])) (e ∙ sym (append_assoc pre (s ∷ []) post))),
   )
 
-  pub by_turns : (l : List Step) → Accepted o before l ↔ Turns o before nothing_taken l
+  pub by_turns : (l : List Step) → Accepted o l ↔ Turns o nothing_taken l
   by_turns l = ((λ acc. to_turns l acc l [] refl), (λ h. from_turns l h))

@@ -2,8 +2,10 @@
 use Rattle.std.proofs.Common.{◌≡◌, ℕ, zero, suc, ◌+◌, ◌<◌, Bool, true, false, cond, ◌⊎◌, inl, inr, refl, sym, ap, subst, ◌∙◌, arith, ⊎_elim, List, [], ◌∷◌, ◌++◌, length, append_assoc}
 use Rattle.std.specs.Prelude.{◌&&◌, ◌||◌, ◌==◌, not}
 use Rattle.std.proofs.lemmas.Bool.{cases_eq, false≢true, false_from_ne_true, cond-true, cond-false, eq-eqb, ne_eqb, or_left, and_right, not_from_true}
-use Rattle.schedule_steps.specs.Outline.{Outline, by_colour}
-use Rattle.schedule_steps.specs.Steps.{Step, Send, Recv, Begin, End, Join, item, IsOf, IsStep, same, has, Accepted}
+use Rattle.schedule_steps.specs.Outline.{Outline}
+use Rattle.schedule_steps.specs.declared.step.Step.{Step}
+use Rattle.schedule_steps.specs.declared.step.Step.TheVariants.{Send, Recv, Begin, End, Join}
+use Rattle.schedule_steps.specs.Steps.{item, IsOf, IsStep, same, has, Accepted}
 use Rattle.schedule_steps.specs.Members.{same_true, same_refl, has_push}
 use Rattle.schedule_steps.specs.Turns.{Takes, marked, Turns, nothing_taken}
 use Rattle.schedule_steps.specs.Standard.{one_if, tally}
@@ -62,13 +64,13 @@ module _ (o : Outline) (g : ℕ) where
 
   -- ---- acceptance
   took : (rest : ℕ → List Step) (m : Step → Bool) (st : Stand o g rest m) (s : Step) (l : List Step) (t : Turn) → Case o g rest m st t → (J : Type 0) (S : ℕ → List Step → Type 0) → TakenBy rest s t J S
-      → (J → (k : ℕ) → s ≡ Join k → Turns o (by_colour o) (marked s m) l)
-      → ((r : ℕ) (left : List Step) → r < o.ranks → rest r ≡ s ∷ left → S r left → Turns o (by_colour o) (marked s m) l)
-      → Turns o (by_colour o) m (s ∷ l)
+      → (J → (k : ℕ) → s ≡ Join k → Turns o (marked s m) l)
+      → ((r : ℕ) (left : List Step) → r < o.ranks → rest r ≡ s ∷ left → S r left → Turns o (marked s m) l)
+      → Turns o m (s ∷ l)
   took rest m st s l t (over e none le) J S h by_join by_step = absurd (subst (λ z. TakenBy rest s z J S) e h)
   took rest m st s l t (join e none lt) J S h by_join by_step =
       let x : (s ≡ Join (next_join o m)) × J = subst (λ z. TakenBy rest s z J S) e h in
-      (subst (Takes o (by_colour o) m) (sym x.0) (join_ready o g rest m st none lt), by_join x.1 (next_join o m) x.0)
+      (subst (Takes o m) (sym x.0) (join_ready o g rest m st none lt), by_join x.1 (next_join o m) x.0)
   took rest m st s l t (go r e lr early free) J S h by_join by_step =
       let x : (left : List Step) × (rest r ≡ s ∷ left) × S r left = subst (λ z. TakenBy rest s z J S) e h in
       (step_ready o g rest m st r s x.0 lr x.1 early free, by_step r x.0 lr x.1 x.2)
@@ -85,14 +87,14 @@ module _ (o : Outline) (g : ℕ) where
   all_taken rest m st t (join e none lt) i s plan = (let j : JoinOf (next_join o m) ≡ Over = sym e ∙ i in cc)
   all_taken rest m st t (go r e lr early free) i s plan = (let j : StepOf r ≡ Over = sym e ∙ i in cc)
 
-  drawn_turns : (l : List Step) (rest : ℕ → List Step) (m : Step → Bool) (x : ℕ) → Stand o g rest m → DrawnFrom o rest m x l → Turns o (by_colour o) m l
+  drawn_turns : (l : List Step) (rest : ℕ → List Step) (m : Step → Bool) (x : ℕ) → Stand o g rest m → DrawnFrom o rest m x l → Turns o m l
   drawn_turns [] rest m x st h = all_taken rest m st (turn o rest m x) (turn_case o g rest m st x) h
   drawn_turns (s ∷ l) rest m x st h = took rest m st s l (turn o rest m x) (turn_case o g rest m st x) (DrawnFrom o rest (marked s m) x l) (λ r left. DrawnFrom o (put_left r left rest) (marked s m) (drawn_number x) l) h
       (λ j k e. drawn_turns l rest (marked s m) x (subst (λ z. Stand o g rest (marked z m)) (sym e) (join_stand rest m k st)) j)
       (λ r left lr e d. drawn_turns l (put_left r left rest) (marked s m) (drawn_number x) (step_stand rest m r s left lr e st) d)
 
-  pub drawn_accepted : (seed : ℕ) (l : List Step) → IsDrawn o g seed l → Accepted o (by_colour o) l
-  drawn_accepted seed l h = from_turns o (by_colour o) l (drawn_turns l (own o g) nothing_taken seed begin_stand h)
+  pub drawn_accepted : (seed : ℕ) (l : List Step) → IsDrawn o g seed l → Accepted o l
+  drawn_accepted seed l h = from_turns o l (drawn_turns l (own o g) nothing_taken seed begin_stand h)
 
   -- ---- there is no second
   same_take : (rest : ℕ → List Step) (s u : Step) (t : Turn) (J K : Type 0) (S U : ℕ → List Step → Type 0) → TakenBy rest s t J S → TakenBy rest u t K U

@@ -2,8 +2,10 @@
 use Rattle.std.proofs.Common.{◌≡◌, ℕ, Bool, true, false, ◌⊎◌, inl, inr, refl, sym, ap, subst, ◌∙◌, ⊎_elim, Option, Some, None, List, [], ◌∷◌, ◌++◌}
 use Rattle.std.specs.Prelude.{◌&&◌, ◌==◌, nat_lt, not, is_none, ◌↔◌}
 use Rattle.std.proofs.lemmas.Bool.{cases_Bool, false≢true, false_from_ne_true, or_cases, or_left, or_right, and_parts, and_from, cond-true, cond-false, eqb-true, eq-eqb, ltb-true, lt-ltb, not_from_false, not_from_true}
-use Rattle.schedule_steps.specs.Outline.{Outline, Order, runs, by_colour}
-use Rattle.schedule_steps.specs.Steps.{Step, Send, Recv, Begin, End, Join, item, IsOf, IsStep, Passes, Executes, Earlier, by_item, sent, sent_first, received, begun, coloured, same, has, Accepted}
+use Rattle.schedule_steps.specs.Outline.{Outline, runs, by_colour}
+use Rattle.schedule_steps.specs.declared.step.Step.{Step}
+use Rattle.schedule_steps.specs.declared.step.Step.TheVariants.{Send, Recv, Begin, End, Join}
+use Rattle.schedule_steps.specs.Steps.{item, IsOf, IsStep, Passes, Executes, Earlier, by_item, sent, sent_first, received, begun, coloured, same, has, Accepted}
 use Rattle.schedule_steps.specs.Members.{same3_true, same3_refl, same_true, same_refl, split_at}
 use Rattle.schedule_steps.specs.Turns.{Takes, marked, Turns, nothing_taken}
 use Rattle.schedule_steps.specs.Standard.{standard}
@@ -94,25 +96,25 @@ same_share (Some a) (Some b) r h i = ⊎_elim
     (λ u. ⊎_elim (λ v. cc) (λ v. (let x : a ≡ r = cc in let y : b ≡ r = cc in eq-eqb a b (x ∙ sym y))) i)
     h
 
-module _ (o : Outline) (before : Order) where
-  in_item_from : (t s : Step) → is_earlier_in_item o before t s ≡ true → Earlier o before t s
+module _ (o : Outline) where
+  in_item_from : (t s : Step) → is_earlier_in_item o t s ≡ true → Earlier o t s
   in_item_from (Send k s r) (Recv j b a) h =
       let e : (k ≡ j) × (s ≡ a) × (r ≡ b) = same3_true k s r j a b h in
-      subst (λ z. Earlier o before (Send k s r) (Recv z b a)) e.0 (subst (λ z. Earlier o before (Send k s r) (Recv k b z)) e.1 (subst (λ z. Earlier o before (Send k s r) (Recv k z s)) e.2 sent))
+      subst (λ z. Earlier o (Send k s r) (Recv z b a)) e.0 (subst (λ z. Earlier o (Send k s r) (Recv k b z)) e.1 (subst (λ z. Earlier o (Send k s r) (Recv k z s)) e.2 sent))
   in_item_from (Send k s r) (Begin j a e) h =
       let u : ((k == j) ≡ true) × ((s == a) ≡ true) = and_parts (k == j) (s == a) h in
-      subst (λ z. Earlier o before (Send k s r) (Begin z a e)) (eqb-true k j u.0) (subst (λ z. Earlier o before (Send k s r) (Begin k z e)) (eqb-true s a u.1) sent_first)
+      subst (λ z. Earlier o (Send k s r) (Begin z a e)) (eqb-true k j u.0) (subst (λ z. Earlier o (Send k s r) (Begin k z e)) (eqb-true s a u.1) sent_first)
   in_item_from (Recv k r s) (Begin j a e) h =
       let u : ((k == j) ≡ true) × (((r == a) && not (o.is_core k r e)) ≡ true) = and_parts (k == j) ((r == a) && not (o.is_core k r e)) h in
       let v : ((r == a) ≡ true) × (not (o.is_core k r e) ≡ true) = and_parts (r == a) (not (o.is_core k r e)) u.1 in
-      subst (λ z. Earlier o before (Recv k r s) (Begin z a e)) (eqb-true k j u.0) (subst (λ z. Earlier o before (Recv k r s) (Begin k z e)) (eqb-true r a v.0) (received (not_true (o.is_core k r e) v.1)))
+      subst (λ z. Earlier o (Recv k r s) (Begin z a e)) (eqb-true k j u.0) (subst (λ z. Earlier o (Recv k r s) (Begin k z e)) (eqb-true r a v.0) (received (not_true (o.is_core k r e) v.1)))
   in_item_from (Begin k r e) (End j a f) h =
       let u : (k ≡ j) × (r ≡ a) × (e ≡ f) = same3_true k r e j a f h in
-      subst (λ z. Earlier o before (Begin k r e) (End z a f)) u.0 (subst (λ z. Earlier o before (Begin k r e) (End k z f)) u.1 (subst (λ z. Earlier o before (Begin k r e) (End k r z)) u.2 begun))
+      subst (λ z. Earlier o (Begin k r e) (End z a f)) u.0 (subst (λ z. Earlier o (Begin k r e) (End k z f)) u.1 (subst (λ z. Earlier o (Begin k r e) (End k r z)) u.2 begun))
   in_item_from (End k r e) (Begin j a f) h =
-      let u : ((k == j) ≡ true) × (((r == a) && before k r e f) ≡ true) = and_parts (k == j) ((r == a) && before k r e f) h in
-      let v : ((r == a) ≡ true) × (before k r e f ≡ true) = and_parts (r == a) (before k r e f) u.1 in
-      subst (λ z. Earlier o before (End k r e) (Begin z a f)) (eqb-true k j u.0) (subst (λ z. Earlier o before (End k r e) (Begin k z f)) (eqb-true r a v.0) (coloured v.1))
+      let u : ((k == j) ≡ true) × (((r == a) && by_colour o k r e f) ≡ true) = and_parts (k == j) ((r == a) && by_colour o k r e f) h in
+      let v : ((r == a) ≡ true) × (by_colour o k r e f ≡ true) = and_parts (r == a) (by_colour o k r e f) u.1 in
+      subst (λ z. Earlier o (End k r e) (Begin z a f)) (eqb-true k j u.0) (subst (λ z. Earlier o (End k r e) (Begin k z f)) (eqb-true r a v.0) (coloured v.1))
   in_item_from (Send a b c) (Send x y z) h = absurd (false≢true h)
   in_item_from (Send a b c) (End x y z) h = absurd (false≢true h)
   in_item_from (Send a b c) (Join x) h = absurd (false≢true h)
@@ -130,29 +132,29 @@ module _ (o : Outline) (before : Order) where
   in_item_from (End a b c) (Join x) h = absurd (false≢true h)
   in_item_from (Join a) s h = absurd (false≢true h)
 
-  earlier_from : (t s : Step) → is_earlier o before t s ≡ true → Earlier o before t s
+  earlier_from : (t s : Step) → is_earlier o t s ≡ true → Earlier o t s
   earlier_from t s h = ⊎_elim
       (λ u.
       let v : (nat_lt (item t) (item s) ≡ true) × (share_rank (rank_of t) (rank_of s) ≡ true) = and_parts (nat_lt (item t) (item s)) (share_rank (rank_of t) (rank_of s)) u in
       let r : (r : ℕ) × IsOf t r × IsOf s r = shared_rank t s (rank_of t) (rank_of s) refl refl v.1 in
       by_item r.0 r.1 r.2 (ltb-true (item t) (item s) v.0))
       (λ u. in_item_from t s u)
-      (or_cases (nat_lt (item t) (item s) && share_rank (rank_of t) (rank_of s)) (is_earlier_in_item o before t s) h)
+      (or_cases (nat_lt (item t) (item s) && share_rank (rank_of t) (rank_of s)) (is_earlier_in_item o t s) h)
 
-  in_item : (t s : Step) → is_earlier_in_item o before t s ≡ true → is_earlier o before t s ≡ true
-  in_item t s h = or_right (nat_lt (item t) (item s) && share_rank (rank_of t) (rank_of s)) (is_earlier_in_item o before t s) h
+  in_item : (t s : Step) → is_earlier_in_item o t s ≡ true → is_earlier o t s ≡ true
+  in_item t s h = or_right (nat_lt (item t) (item s) && share_rank (rank_of t) (rank_of s)) (is_earlier_in_item o t s) h
 
-  earlier_to : (t s : Step) → Earlier o before t s → is_earlier o before t s ≡ true
-  earlier_to t s (by_item r a b lt) = or_left (nat_lt (item t) (item s) && share_rank (rank_of t) (rank_of s)) (is_earlier_in_item o before t s)
+  earlier_to : (t s : Step) → Earlier o t s → is_earlier o t s ≡ true
+  earlier_to t s (by_item r a b lt) = or_left (nat_lt (item t) (item s) && share_rank (rank_of t) (rank_of s)) (is_earlier_in_item o t s)
       (and_from (nat_lt (item t) (item s)) (share_rank (rank_of t) (rank_of s)) (lt-ltb (item t) (item s) lt) (same_share (rank_of t) (rank_of s) r (rank_is t r a) (rank_is s r b)))
   earlier_to _ _ (sent {k} {s} {r}) = in_item (Send k s r) (Recv k r s) (same3_refl k s r)
   earlier_to _ _ (sent_first {k} {s} {r} {e}) = in_item (Send k s r) (Begin k s e) (and_from (k == k) (s == s) (eq-eqb k k refl) (eq-eqb s s refl))
   earlier_to _ _ (received {k} {r} {s} {e} h) = in_item (Recv k r s) (Begin k r e)
       (and_from (k == k) ((r == r) && not (o.is_core k r e)) (eq-eqb k k refl) (and_from (r == r) (not (o.is_core k r e)) (eq-eqb r r refl) (not_from_false (o.is_core k r e) h)))
   earlier_to _ _ (begun {k} {r} {e}) = in_item (Begin k r e) (End k r e) (same3_refl k r e)
-  earlier_to _ _ (coloured {k} {r} {e} {f} h) = in_item (End k r e) (Begin k r f) (and_from (k == k) ((r == r) && before k r e f) (eq-eqb k k refl) (and_from (r == r) (before k r e f) (eq-eqb r r refl) h))
+  earlier_to _ _ (coloured {k} {r} {e} {f} h) = in_item (End k r e) (Begin k r f) (and_from (k == k) ((r == r) && by_colour o k r e f) (eq-eqb k k refl) (and_from (r == r) (by_colour o k r e f) (eq-eqb r r refl) h))
 
-  pub earlier_test : (t s : Step) → (is_earlier o before t s ≡ true) ↔ Earlier o before t s
+  pub earlier_test : (t s : Step) → (is_earlier o t s ≡ true) ↔ Earlier o t s
   earlier_test t s = (earlier_from t s, earlier_to t s)
 
 -- ---- the first of a list
@@ -191,20 +193,20 @@ module _ (o : Outline) where
   -- the steps of the standard order are those of the plan
   planned : (t : Step) → has (standard o 1) t ≡ true → IsStep o t
   planned t h =
-      let acc : Accepted o (by_colour o) (standard o 1) = accepted o 1 in
+      let acc : Accepted o (standard o 1) = accepted o 1 in
       let f : (x : List Step) × (y : List Step) × (standard o 1 ≡ x ++ (t ∷ y)) = split_at (standard o 1) t h in
       acc.steps f.0 t f.1 f.2
 
   stands : (t : Step) → IsStep o t → has (standard o 1) t ≡ true
-  stands t h = let acc : Accepted o (by_colour o) (standard o 1) = accepted o 1 in acc.whole t h
+  stands t h = let acc : Accepted o (standard o 1) = accepted o 1 in acc.whole t h
 
-  pub missing_is : (m : Step → Bool) (s t : Step) → missing o m s ≡ Some t → IsStep o t × Earlier o (by_colour o) t s × (m t ≡ false)
+  pub missing_is : (m : Step → Bool) (s t : Step) → missing o m s ≡ Some t → IsStep o t × Earlier o t s × (m t ≡ false)
   missing_is m s t h =
-      let f : (has (standard o 1) t ≡ true) × ((is_earlier o (by_colour o) t s && not (m t)) ≡ true) = first_is (λ t. is_earlier o (by_colour o) t s && not (m t)) (standard o 1) t h in
-      let u : (is_earlier o (by_colour o) t s ≡ true) × (not (m t) ≡ true) = and_parts (is_earlier o (by_colour o) t s) (not (m t)) f.1 in
-      (planned t f.0, earlier_from o (by_colour o) t s u.0, not_true (m t) u.1)
+      let f : (has (standard o 1) t ≡ true) × ((is_earlier o t s && not (m t)) ≡ true) = first_is (λ t. is_earlier o t s && not (m t)) (standard o 1) t h in
+      let u : (is_earlier o t s ≡ true) × (not (m t) ≡ true) = and_parts (is_earlier o t s) (not (m t)) f.1 in
+      (planned t f.0, earlier_from o t s u.0, not_true (m t) u.1)
 
-  takes_from : (m : Step → Bool) (s : Step) → may_take o m s ≡ true → Takes o (by_colour o) m s
+  takes_from : (m : Step → Bool) (s : Step) → may_take o m s ≡ true → Takes o m s
   takes_from m s h =
       let a : (is_step o s ≡ true) × ((not (m s) && is_none (missing o m s)) ≡ true) = and_parts (is_step o s) (not (m s) && is_none (missing o m s)) h in
       let b : (not (m s) ≡ true) × (is_none (missing o m s) ≡ true) = and_parts (not (m s)) (is_none (missing o m s)) a.1 in
@@ -213,20 +215,20 @@ module _ (o : Outline) where
         untaken = not_true (m s) b.0;
         after = λ t plan early. ⊎_elim
             (λ u. u)
-            (λ (u : m t ≡ false). absurd (false≢true (sym (first_none (λ t. is_earlier o (by_colour o) t s && not (m t)) (standard o 1) (none_is (missing o m s) b.1) t (stands t plan))
-            ∙ and_from (is_earlier o (by_colour o) t s) (not (m t)) (earlier_to o (by_colour o) t s early) (not_from_false (m t) u))))
+            (λ (u : m t ≡ false). absurd (false≢true (sym (first_none (λ t. is_earlier o t s && not (m t)) (standard o 1) (none_is (missing o m s) b.1) t (stands t plan))
+            ∙ and_from (is_earlier o t s) (not (m t)) (earlier_to o t s early) (not_from_false (m t) u))))
             (cases_Bool (m t));
       }
 
-  takes_to : (m : Step → Bool) (s : Step) → Takes o (by_colour o) m s → may_take o m s ≡ true
+  takes_to : (m : Step → Bool) (s : Step) → Takes o m s → may_take o m s ≡ true
   takes_to m s h = and_from (is_step o s) (not (m s) && is_none (missing o m s)) (step_to o s h.planned)
       (and_from (not (m s)) (is_none (missing o m s)) (not_from_false (m s) h.untaken)
-      (none_first (λ t. is_earlier o (by_colour o) t s && not (m t)) (standard o 1)
-      (λ t i. false_from_ne_true (is_earlier o (by_colour o) t s && not (m t)) (λ u.
-      let v : (is_earlier o (by_colour o) t s ≡ true) × (not (m t) ≡ true) = and_parts (is_earlier o (by_colour o) t s) (not (m t)) u in
-      false≢true (sym (not_true (m t) v.1) ∙ h.after t (planned t i) (earlier_from o (by_colour o) t s v.0))))))
+      (none_first (λ t. is_earlier o t s && not (m t)) (standard o 1)
+      (λ t i. false_from_ne_true (is_earlier o t s && not (m t)) (λ u.
+      let v : (is_earlier o t s ≡ true) × (not (m t) ≡ true) = and_parts (is_earlier o t s) (not (m t)) u in
+      false≢true (sym (not_true (m t) v.1) ∙ h.after t (planned t i) (earlier_from o t s v.0))))))
 
-  pub takes_test : (m : Step → Bool) (s : Step) → (may_take o m s ≡ true) ↔ Takes o (by_colour o) m s
+  pub takes_test : (m : Step → Bool) (s : Step) → (may_take o m s ≡ true) ↔ Takes o m s
   takes_test m s = (takes_from m s, takes_to m s)
 
   pub left_is : (m : Step → Bool) (t : Step) → left_over o m ≡ Some t → IsStep o t × (m t ≡ false)
@@ -234,7 +236,7 @@ module _ (o : Outline) where
       let f : (has (standard o 1) t ≡ true) × (not (m t) ≡ true) = first_is (λ t. not (m t)) (standard o 1) t h in
       (planned t f.0, not_true (m t) f.1)
 
-  turns_from : (l : List Step) (m : Step → Bool) → takes_all o m l ≡ true → Turns o (by_colour o) m l
+  turns_from : (l : List Step) (m : Step → Bool) → takes_all o m l ≡ true → Turns o m l
   turns_from [] m h = λ s plan. ⊎_elim
       (λ u. u)
       (λ (u : m s ≡ false). absurd (false≢true (sym (first_none (λ t. not (m t)) (standard o 1) (none_is (left_over o m) h) s (stands s plan)) ∙ not_from_false (m s) u)))
@@ -243,9 +245,9 @@ module _ (o : Outline) where
       let a : (may_take o m s ≡ true) × (takes_all o (marked s m) l ≡ true) = and_parts (may_take o m s) (takes_all o (marked s m) l) h in
       (takes_from m s a.0, turns_from l (marked s m) a.1)
 
-  turns_to : (l : List Step) (m : Step → Bool) → Turns o (by_colour o) m l → takes_all o m l ≡ true
+  turns_to : (l : List Step) (m : Step → Bool) → Turns o m l → takes_all o m l ≡ true
   turns_to [] m h = none_first (λ t. not (m t)) (standard o 1) (λ t i. not_from_true (m t) (h t (planned t i)))
   turns_to (s ∷ l) m h = and_from (may_take o m s) (takes_all o (marked s m) l) (takes_to m s h.0) (turns_to l (marked s m) h.1)
 
-  pub accepted_test : (l : List Step) → (is_accepted o l ≡ true) ↔ Accepted o (by_colour o) l
-  accepted_test l = ((λ h. (by_turns o (by_colour o) l).1 (turns_from l nothing_taken h)), (λ acc. turns_to l nothing_taken ((by_turns o (by_colour o) l).0 acc)))
+  pub accepted_test : (l : List Step) → (is_accepted o l ≡ true) ↔ Accepted o l
+  accepted_test l = ((λ h. (by_turns o l).1 (turns_from l nothing_taken h)), (λ acc. turns_to l nothing_taken ((by_turns o l).0 acc)))

@@ -3,7 +3,9 @@ use Rattle.std.proofs.Common.{◌≡◌, ℕ, ◌<◌, true, false, ◌⊎◌, i
 use Rattle.std.specs.Prelude.{◌&&◌, ◌==◌, nat_lt}
 use Rattle.std.proofs.lemmas.Bool.{false≢true, false_from_ne_true, or_cases, or_left, and_parts, eqb-true, ltb-true}
 use Rattle.schedule_steps.specs.Outline.{Outline, by_colour}
-use Rattle.schedule_steps.specs.Steps.{Step, Send, Recv, Begin, End, Join, item, IsStep, Earlier, by_item, sent, sent_first, received, begun, coloured, same, has, Accepted}
+use Rattle.schedule_steps.specs.declared.step.Step.{Step}
+use Rattle.schedule_steps.specs.declared.step.Step.TheVariants.{Send, Recv, Begin, End, Join}
+use Rattle.schedule_steps.specs.Steps.{item, IsStep, Earlier, by_item, sent, sent_first, received, begun, coloured, same, has, Accepted}
 use Rattle.schedule_steps.specs.Members.{same_true, same_refl, has_right, has_parts}
 use Rattle.schedule_steps.specs.Standard.{group_of}
 
@@ -73,7 +75,7 @@ module _ (o : Outline) (g : ℕ) where
       (or_cases (nat_lt (o.block_colour k r (o.block k r e)) (o.block_colour k r (o.block k r f))) ((o.block k r e == o.block k r f) && nat_lt (o.colour k r e) (o.colour k r f)) h)
 
   -- what is earlier has the lesser key
-  pub earlier_less : (t s : Step) → Earlier o (by_colour o) t s → Less (key t) (key s)
+  pub earlier_less : (t s : Step) → Earlier o t s → Less (key t) (key s)
   earlier_less t s (by_item r a b lt) = inl lt
   earlier_less _ _ sent = inr (refl, inl (omega arith))
   earlier_less _ _ sent_first = inr (refl, inl (omega arith))
@@ -108,7 +110,7 @@ module _ (o : Outline) (g : ℕ) where
       (has_parts pre (s ∷ post) t (subst (λ z. has z t ≡ true) e i))
 
   -- a sorted list of all steps of the plan is accepted
-  pub sorted_accepted : (l : List Step) → Sorted l → Each (IsStep o) l → ((s : Step) → IsStep o s → has l s ≡ true) → Accepted o (by_colour o) l
+  pub sorted_accepted : (l : List Step) → Sorted l → Each (IsStep o) l → ((s : Step) → IsStep o s → has l s ≡ true) → Accepted o l
   sorted_accepted l sorted planned all = record {
     whole = all;
     steps = λ pre s post e. each_at (IsStep o) pre s post (subst (Each (IsStep o)) e planned);

@@ -2,7 +2,8 @@
 use Rattle.std.proofs.Common.{◌≡◌, ℕ, zero, suc, ◌<◌, Bool, true, sym, subst, ◌∙◌, arith, ⊎_elim, List, [], ◌∷◌, ◌++◌, append_assoc}
 use Rattle.std.proofs.lemmas.Bool.{cases_eq, cond_both, cond-true}
 use Rattle.schedule_steps.specs.Outline.{Outline}
-use Rattle.schedule_steps.specs.Steps.{Step, has}
+use Rattle.schedule_steps.specs.declared.step.Step.{Step}
+use Rattle.schedule_steps.specs.Steps.{has}
 use Rattle.schedule_steps.specs.Members.{has_left, has_right}
 use Rattle.schedule_steps.specs.Standard.{below, where_true}
 use Rattle.schedule_steps.proofs.Keys.{Less, less_at, Each, each_append, each_map, key, Sorted}

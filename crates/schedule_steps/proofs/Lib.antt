@@ -7,3 +7,6 @@ pub mod Own
 pub mod Ready
 pub mod Drawn
 pub mod Judged
+pub mod UnderWay
+pub mod Alike
+pub mod Peaks

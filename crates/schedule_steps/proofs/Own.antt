@@ -1,8 +1,10 @@
 -- A rank's own steps.
 use Rattle.std.proofs.Common.{◌≡◌, ℕ, ◌<◌, ◌≤◌, Bool, true, false, refl, sym, subst, arith, ⊎_elim, List, [], ◌∷◌, ◌++◌}
 use Rattle.std.proofs.lemmas.Bool.{false≢true, cond_both, cond-true}
-use Rattle.schedule_steps.specs.Outline.{Outline, by_colour}
-use Rattle.schedule_steps.specs.Steps.{Step, Send, Recv, Begin, End, Join, item, IsOf, IsStep, Earlier, has}
+use Rattle.schedule_steps.specs.Outline.{Outline}
+use Rattle.schedule_steps.specs.declared.step.Step.{Step}
+use Rattle.schedule_steps.specs.declared.step.Step.TheVariants.{Send, Recv, Begin, End, Join}
+use Rattle.schedule_steps.specs.Steps.{item, IsOf, IsStep, Earlier, has}
 use Rattle.schedule_steps.specs.Members.{has_left, has_right}
 use Rattle.schedule_steps.specs.Standard.{sends_of, receives_of, element_steps}
 use Rattle.schedule_steps.specs.Drawn.{own_item, own}
@@ -66,7 +68,7 @@ module _ (o : Outline) (g r : ℕ) where
   own_once pre s post e = sorted_once o g (own o g r) own_sorted pre s post e
 
   -- what is earlier stands before
-  pub own_order : (pre : List Step) (s : Step) (post : List Step) → own o g r ≡ pre ++ (s ∷ post) → (t : Step) → IsStep o t → is_join t ≡ false → IsOf t r → Earlier o (by_colour o) t s → has pre t ≡ true
+  pub own_order : (pre : List Step) (s : Step) (post : List Step) → own o g r ≡ pre ++ (s ∷ post) → (t : Step) → IsStep o t → is_join t ≡ false → IsOf t r → Earlier o t s → has pre t ≡ true
   own_order pre s post e t plan j of early = sorted_before o g (own o g r) own_sorted pre s post e t (own_all t plan j of) (earlier_less o g t s early)
 
   after_less : (pre : List Step) (s : Step) (post : List Step) → own o g r ≡ pre ++ (s ∷ post) → (t : Step) → has post t ≡ true → Less (key o g s) (key o g t)

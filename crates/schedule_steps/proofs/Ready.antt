@@ -2,8 +2,10 @@
 use Rattle.std.proofs.Common.{◌≡◌, ℕ, zero, suc, ◌<◌, ◌≤◌, Bool, true, false, ◌⊎◌, inl, inr, refl, sym, ap, subst, ◌∙◌, arith, ⊎_elim, List, [], ◌∷◌, ◌++◌}
 use Rattle.std.specs.Prelude.{◌&&◌, not, nat_lt, ◌/◌, ◌^◌}
 use Rattle.std.proofs.lemmas.Bool.{cases_Bool, cases_eq, cases_lt, false≢true, false_from_ne_true, or_cases, and_from, and_parts, not_from_false, not_from_true, lt-ltb, ltb-true, cond-true, cond-false}
-use Rattle.schedule_steps.specs.Outline.{Outline, by_colour}
-use Rattle.schedule_steps.specs.Steps.{Step, Send, Recv, Begin, End, Join, item, IsOf, IsStep, Earlier, by_item, sent, sent_first, received, begun, coloured, same, has}
+use Rattle.schedule_steps.specs.Outline.{Outline}
+use Rattle.schedule_steps.specs.declared.step.Step.{Step}
+use Rattle.schedule_steps.specs.declared.step.Step.TheVariants.{Send, Recv, Begin, End, Join}
+use Rattle.schedule_steps.specs.Steps.{item, IsOf, IsStep, Earlier, by_item, sent, sent_first, received, begun, coloured, same, has}
 use Rattle.schedule_steps.specs.Members.{same_true, has_parts}
 use Rattle.schedule_steps.specs.Turns.{Takes}
 use Rattle.schedule_steps.specs.Drawn.{own, next_join, is_early, waits, numbers, drawn_number, picked, Turn, Over, JoinOf, StepOf, turn_by, turn}
@@ -59,7 +61,7 @@ module _ (o : Outline) (g : ℕ) (rest : ℕ → List Step) (m : Step → Bool) 
   early_join (Join i) j plan lt = joined i lt plan
 
   -- an earlier step is the rank's own, a join or the send of the message
-  kinds : (r : ℕ) (t s : Step) → Earlier o (by_colour o) t s → is_join s ≡ false → IsOf s r → is_join t ≡ false → IsOf t r ⊎ ((i : ℕ) × (x : ℕ) × (s ≡ Recv i r x) × (t ≡ Send i x r))
+  kinds : (r : ℕ) (t s : Step) → Earlier o t s → is_join s ≡ false → IsOf s r → is_join t ≡ false → IsOf t r ⊎ ((i : ℕ) × (x : ℕ) × (s ≡ Recv i r x) × (t ≡ Send i x r))
   kinds r t s (by_item y a b lt) js os jt = inl (subst (IsOf t) (one_rank s y r js b os) a)
   kinds r _ _ (sent {k = i} {s = x}) js os jt = inr (i, x, ap (λ z. Recv i z x) os, ap (Send i x) os)
   kinds r _ _ sent_first js os jt = inl os
@@ -67,7 +69,7 @@ module _ (o : Outline) (g : ℕ) (rest : ℕ → List Step) (m : Step → Bool) 
   kinds r _ _ begun js os jt = inl os
   kinds r _ _ (coloured h) js os jt = inl os
 
-  item_less : (t s : Step) → Earlier o (by_colour o) t s → is_join t ≡ true → item t < item s
+  item_less : (t s : Step) → Earlier o t s → is_join t ≡ true → item t < item s
   item_less t s (by_item r a b lt) j = lt
   item_less _ _ sent j = absurd (false≢true j)
   item_less _ _ sent_first j = absurd (false≢true j)
@@ -76,7 +78,7 @@ module _ (o : Outline) (g : ℕ) (rest : ℕ → List Step) (m : Step → Bool) 
   item_less _ _ (coloured h) j = absurd (false≢true j)
 
   -- a rank's next step, of an item before the next join, that doesn't wait
-  pub step_ready : (r : ℕ) (s : Step) (left : List Step) → r < o.ranks → rest r ≡ s ∷ left → is_early k (rest r) ≡ true → waits m (rest r) ≡ false → Takes o (by_colour o) m s
+  pub step_ready : (r : ℕ) (s : Step) (left : List Step) → r < o.ranks → rest r ≡ s ∷ left → is_early k (rest r) ≡ true → waits m (rest r) ≡ false → Takes o m s
   step_ready r s left lr head early free =
       let cut : own o g r ≡ st.past r ++ (s ∷ left) = st.parts r lr ∙ ap (λ z. st.past r ++ z) head in
       let h : IsStep o s × IsOf s r × (is_join s ≡ false) = own_mine o g r lr (st.past r) s left cut in
@@ -99,7 +101,7 @@ module _ (o : Outline) (g : ℕ) (rest : ℕ → List Step) (m : Step → Bool) 
           (λ (f : m (Send i x r) ≡ false). absurd (false≢true (sym (ap (waits m) (sym (head ∙ ap (λ z. z ∷ left) e)) ∙ free) ∙ not_from_false (m (Send i x r)) f)))
           (cases_Bool (m (Send i x r)))
 
-  join_before : (t : Step) (i : ℕ) → Earlier o (by_colour o) t (Join i) → item t < i
+  join_before : (t : Step) (i : ℕ) → Earlier o t (Join i) → item t < i
   join_before t i (by_item r a b lt) = lt
 
   -- what is left of a rank is of items from its next step's on
@@ -134,7 +136,7 @@ module _ (o : Outline) (g : ℕ) (rest : ℕ → List Step) (m : Step → Bool) 
       (done_or_left r.0 lr t plan j r.1))
       (cases_Bool (is_join t))
 
-  pub join_ready : NoneEarly → k < o.items → Takes o (by_colour o) m (Join k)
+  pub join_ready : NoneEarly → k < o.items → Takes o m (Join k)
   join_ready none lt =
       let hit : (not (o.is_free k) ≡ true) × (not (m (Join k)) ≡ true) = and_parts (not (o.is_free k)) (not (m (Join k))) (first_hit open_join o.items lt) in
       record {

@@ -2,8 +2,10 @@
 use Rattle.std.proofs.Common.{◌≡◌, ℕ, zero, suc, ◌<◌, true, false, refl, sym, ap, subst, ◌∙◌, arith, ⊎_elim, [], ◌∷◌, ◌++◌}
 use Rattle.std.specs.Prelude.{◌&&◌, ◌==◌, nat_lt}
 use Rattle.std.proofs.lemmas.Bool.{cases_eq, cond_both, cond-true, cond-false, and_parts, and_from, eqb-true, eq-eqb, ltb-true, or_left}
-use Rattle.schedule_steps.specs.Outline.{Outline, by_colour, runs}
-use Rattle.schedule_steps.specs.Steps.{Step, Send, Recv, Begin, End, Join, IsStep, same, has, Accepted}
+use Rattle.schedule_steps.specs.Outline.{Outline, runs}
+use Rattle.schedule_steps.specs.declared.step.Step.{Step}
+use Rattle.schedule_steps.specs.declared.step.Step.TheVariants.{Send, Recv, Begin, End, Join}
+use Rattle.schedule_steps.specs.Steps.{IsStep, same, has, Accepted}
 use Rattle.schedule_steps.specs.Members.{same_refl, has_left, has_right}
 use Rattle.schedule_steps.specs.Standard.{below, where_true, above, sends_of, receives_of, is_member, group_of, in_group, group_steps, block_steps, blocks, element_steps, item_steps, standard}
 use Rattle.schedule_steps.proofs.Keys.{Each, each_append, Sorted, sorted_accepted}
@@ -168,5 +170,5 @@ module _ (o : Outline) (g : ℕ) where
   whole (Join k) h = has_below (item_steps o g) o.items k (Join k) h.0
       (subst (λ z. has z (Join k) ≡ true) (sym (cond-false (o.is_free k) (below (sends_of o k) o.ranks ++ (below (receives_of o k) o.ranks ++ below (element_steps o g k) o.ranks)) (Join k ∷ []) h.1)) (has_self (Join k)))
 
-  pub accepted : Accepted o (by_colour o) (standard o g)
+  pub accepted : Accepted o (standard o g)
   accepted = sorted_accepted o g (standard o g) standard_sorted (each_below (IsStep o) (item_steps o g) o.items each_item) whole

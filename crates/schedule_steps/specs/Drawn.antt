@@ -1,7 +1,10 @@
 -- The drawn order with a seed and groups of g: each rank has a list of its own steps, and each turn draws the rank that goes.
-use Rattle.std.specs.Prelude.{◌≡◌, ◌+◌, ◌*◌, ◌/◌, ◌%◌, ◌^◌, ℕ, zero, suc, Bool, false, cond, ◌&&◌, ◌==◌, not, nat_lt, List, [], ◌∷◌, ◌++◌, length, get_or}
+use Rattle.std.specs.Prelude.{◌≡◌, ◌+◌, ◌*◌, ◌/◌, ◌%◌, ◌^◌, ℕ, zero, suc, Bool, false, cond, ◌&&◌, ◌==◌, not, nat_lt, List, [], ◌∷◌, ◌++◌}
+use Rattle.std.specs.Prelude.{length, get_or}
 use Rattle.schedule_steps.specs.Outline.{Outline}
-use Rattle.schedule_steps.specs.Steps.{Step, Send, Recv, Join, item}
+use Rattle.schedule_steps.specs.declared.step.Step.{Step}
+use Rattle.schedule_steps.specs.declared.step.Step.TheVariants.{Send, Recv, Join}
+use Rattle.schedule_steps.specs.Steps.{item}
 use Rattle.schedule_steps.specs.Turns.{marked, nothing_taken}
 use Rattle.schedule_steps.specs.Standard.{below, sends_of, receives_of, element_steps}
 
@@ -74,7 +77,12 @@ TakenBy rest s (StepOf r) after_join after_step = (left : List Step) × (rest r 
 abbrev pub DrawnFrom : Outline → (ℕ → List Step) → (Step → Bool) → ℕ → List Step → Type 0
 DrawnFrom o rest m x [] = turn o rest m x ≡ Over
 DrawnFrom o rest m x (s ∷ l) =
-    TakenBy rest s (turn o rest m x) (DrawnFrom o rest (marked s m) x l) (λ r left. DrawnFrom o (put_left r left rest) (marked s m) (drawn_number x) l)
+    TakenBy
+    rest
+    s
+    (turn o rest m x)
+    (DrawnFrom o rest (marked s m) x l)
+    (λ r left. DrawnFrom o (put_left r left rest) (marked s m) (drawn_number x) l)
 
 -- the list is the drawn order with this seed
 abbrev pub IsDrawn : Outline → ℕ → ℕ → List Step → Type 0

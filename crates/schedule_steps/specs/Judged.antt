@@ -1,7 +1,9 @@
 -- The tests by which a step is judged in its turn.
 use Rattle.std.specs.Prelude.{ℕ, Bool, true, false, cond, ◌&&◌, ◌||◌, ◌==◌, nat_lt, not, List, [], ◌∷◌, Option, Some, None, is_none}
-use Rattle.schedule_steps.specs.Outline.{Outline, Order, runs, by_colour}
-use Rattle.schedule_steps.specs.Steps.{Step, Send, Recv, Begin, End, Join, item, same3}
+use Rattle.schedule_steps.specs.Outline.{Outline, runs, by_colour}
+use Rattle.schedule_steps.specs.declared.step.Step.{Step}
+use Rattle.schedule_steps.specs.declared.step.Step.TheVariants.{Send, Recv, Begin, End, Join}
+use Rattle.schedule_steps.specs.Steps.{item, same3}
 use Rattle.schedule_steps.specs.Turns.{marked, nothing_taken}
 use Rattle.schedule_steps.specs.Standard.{standard}
 
@@ -27,17 +29,17 @@ share_rank (Some a) (Some b) = a == b
 share_rank _ _ = true
 
 -- the first step is earlier than the second by a rule on the steps of one item
-abbrev pub is_earlier_in_item : Outline → Order → Step → Step → Bool
-is_earlier_in_item o before (Send k s r) (Recv j b a) = same3 k s r j a b
-is_earlier_in_item o before (Send k s r) (Begin j a e) = (k == j) && (s == a)
-is_earlier_in_item o before (Recv k r s) (Begin j a e) = (k == j) && ((r == a) && not (o.is_core k r e))
-is_earlier_in_item o before (Begin k r e) (End j a f) = same3 k r e j a f
-is_earlier_in_item o before (End k r e) (Begin j a f) = (k == j) && ((r == a) && before k r e f)
-is_earlier_in_item o before _ _ = false
+abbrev pub is_earlier_in_item : Outline → Step → Step → Bool
+is_earlier_in_item o (Send k s r) (Recv j b a) = same3 k s r j a b
+is_earlier_in_item o (Send k s r) (Begin j a e) = (k == j) && (s == a)
+is_earlier_in_item o (Recv k r s) (Begin j a e) = (k == j) && ((r == a) && not (o.is_core k r e))
+is_earlier_in_item o (Begin k r e) (End j a f) = same3 k r e j a f
+is_earlier_in_item o (End k r e) (Begin j a f) = (k == j) && ((r == a) && by_colour o k r e f)
+is_earlier_in_item o _ _ = false
 
 -- the first step has to come before the second
-abbrev pub is_earlier : Outline → Order → Step → Step → Bool
-is_earlier o before t s = (nat_lt (item t) (item s) && share_rank (rank_of t) (rank_of s)) || is_earlier_in_item o before t s
+abbrev pub is_earlier : Outline → Step → Step → Bool
+is_earlier o t s = (nat_lt (item t) (item s) && share_rank (rank_of t) (rank_of s)) || is_earlier_in_item o t s
 
 -- the first step of the list that meets the test
 abbrev pub first_of : (Step → Bool) → List Step → Option Step
@@ -46,7 +48,7 @@ first_of f (s ∷ l) = cond (f s) (Some s) (first_of f l)
 
 -- the least step, in standard order, that is earlier than s and not taken
 abbrev pub missing : Outline → (Step → Bool) → Step → Option Step
-missing o m s = first_of (λ t. is_earlier o (by_colour o) t s && not (m t)) (standard o 1)
+missing o m s = first_of (λ t. is_earlier o t s && not (m t)) (standard o 1)
 
 -- the step may be taken now
 abbrev pub may_take : Outline → (Step → Bool) → Step → Bool

@@ -5,3 +5,6 @@ pub mod Turns
 pub mod Standard
 pub mod Drawn
 pub mod Judged
+pub mod UnderWay
+pub mod Alike
+pub mod Peaks

@@ -2,7 +2,9 @@
 use Rattle.std.proofs.Common.{◌≡◌, ℕ, Bool, true, false, ◌⊎◌, inl, inr, refl, sym, ap, ◌∙◌, ⊎_elim, List, [], ◌∷◌, ◌++◌}
 use Rattle.std.specs.Prelude.{◌&&◌, ◌||◌, ◌==◌}
 use Rattle.std.proofs.lemmas.Bool.{false≢true, eqb-true, eq-eqb, or_cases, and_parts, or_left, or_right, and_from}
-use Rattle.schedule_steps.specs.Steps.{Step, Send, Recv, Begin, End, Join, same3, same, has}
+use Rattle.schedule_steps.specs.declared.step.Step.{Step}
+use Rattle.schedule_steps.specs.declared.step.Step.TheVariants.{Send, Recv, Begin, End, Join}
+use Rattle.schedule_steps.specs.Steps.{same3, same, has}
 
 pub same3_true : (a b c x y z : ℕ) → same3 a b c x y z ≡ true → (a ≡ x) × (b ≡ y) × (c ≡ z)
 same3_true a b c x y z h =
@@ -11,10 +13,13 @@ same3_true a b c x y z h =
     (eqb-true a x h1.0, eqb-true b y h2.0, eqb-true c z h2.1)
 
 pub same3_refl : (a b c : ℕ) → same3 a b c a b c ≡ true
-same3_refl a b c = and_from (a == a) ((b == b) && (c == c)) (eq-eqb a a refl) (and_from (b == b) (c == c) (eq-eqb b b refl) (eq-eqb c c refl))
+same3_refl a b c =
+    and_from (a == a) ((b == b) && (c == c)) (eq-eqb a a refl) (and_from (b == b) (c == c) (eq-eqb b b refl) (eq-eqb c c refl))
 
 same3_step : (f : ℕ → ℕ → ℕ → Step) (a b c x y z : ℕ) → same3 a b c x y z ≡ true → f a b c ≡ f x y z
-same3_step f a b c x y z h = let e : (a ≡ x) × (b ≡ y) × (c ≡ z) = same3_true a b c x y z h in ap (λ i. f i b c) e.0 ∙ (ap (λ i. f x i c) e.1 ∙ ap (λ i. f x y i) e.2)
+same3_step f a b c x y z h =
+    let e : (a ≡ x) × (b ≡ y) × (c ≡ z) = same3_true a b c x y z h in
+    ap (λ i. f i b c) e.0 ∙ (ap (λ i. f x i c) e.1 ∙ ap (λ i. f x y i) e.2)
 
 -- steps that the test calls one are one
 pub same_true : (t s : Step) → same t s ≡ true → t ≡ s
@@ -58,7 +63,9 @@ pub split_at : (l : List Step) (t : Step) → has l t ≡ true → (x : List Ste
 split_at [] t h = absurd (false≢true h)
 split_at (s ∷ l) t h = ⊎_elim
     (λ (e : same t s ≡ true). ([], l, ap (λ z. z ∷ l) (sym (same_true t s e))))
-    (λ (e : has l t ≡ true). let r : (x : List Step) × (y : List Step) × (l ≡ x ++ (t ∷ y)) = split_at l t e in (s ∷ r.0, r.1, ap (λ z. s ∷ z) r.2))
+    (λ (e : has l t ≡ true).
+    let r : (x : List Step) × (y : List Step) × (l ≡ x ++ (t ∷ y)) = split_at l t e in
+    (s ∷ r.0, r.1, ap (λ z. s ∷ z) r.2))
     (or_cases (same t s) (has l t) h)
 
 -- the steps that stand in a list, with one more at its end

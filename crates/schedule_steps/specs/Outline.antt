@@ -1,5 +1,5 @@
 -- What the steps of a schedule depend on: the items of the program and the places that its elements have in the plan.
-use Rattle.std.specs.Prelude.{ℕ, Bool, false, ◌&&◌, ◌||◌, ◌==◌, nat_lt}
+use Rattle.std.specs.Prelude.{ℕ, Bool, ◌&&◌, ◌||◌, ◌==◌, nat_lt}
 
 -- An element is named as the schedule names it: by its original number, or by its place on its rank.
 pub record Outline : Type 0 where
@@ -18,16 +18,9 @@ pub record Outline : Type 0 where
 abbrev pub runs : Outline → ℕ → ℕ → ℕ → Bool
 runs o k r e = nat_lt e (o.count k r) && o.executes k r e
 
--- item, rank, two elements: the first must end before the second begins
-abbrev pub Order : Type 0
-Order = ℕ → ℕ → ℕ → ℕ → Bool
-
--- a lower block colour goes first, and within one block a lower colour
-abbrev pub by_colour : Outline → Order
+-- item, rank, two elements: the first must end before the second begins.
+-- A lower block colour goes first, and within one block a lower colour.
+abbrev pub by_colour : Outline → ℕ → ℕ → ℕ → ℕ → Bool
 by_colour o k r e f =
     nat_lt (o.block_colour k r (o.block k r e)) (o.block_colour k r (o.block k r f))
     || ((o.block k r e == o.block k r f) && nat_lt (o.colour k r e) (o.colour k r f))
-
--- no colours: any element may go first
-abbrev pub any_order : Order
-any_order k r e f = false

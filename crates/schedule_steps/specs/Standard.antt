@@ -1,7 +1,9 @@
--- The standard order with groups of g elements: items in order; in a Free item all sends, all receives, and each rank's elements by block colour, block, colour and number, each run of up to g elements of one colour of one block begun and then ended.
+-- The standard order with groups of g elements: items in order; in a Free item all sends, all receives, and each rank's elements by block
+-- colour, block, colour and number, each run of up to g elements of one colour of one block begun and then ended.
 use Rattle.std.specs.Prelude.{ℕ, zero, suc, ◌+◌, ◌/◌, max, Bool, true, false, cond, ◌&&◌, ◌==◌, List, [], ◌∷◌, ◌++◌}
 use Rattle.schedule_steps.specs.Outline.{Outline, runs}
-use Rattle.schedule_steps.specs.Steps.{Step, Send, Recv, Begin, End, Join}
+use Rattle.schedule_steps.specs.declared.step.Step.{Step}
+use Rattle.schedule_steps.specs.declared.step.Step.TheVariants.{Send, Recv, Begin, End, Join}
 
 -- f 0, f 1, .. and f (n - 1), one after another
 abbrev pub below : (ℕ → List Step) → ℕ → List Step
@@ -56,7 +58,8 @@ module _ (o : Outline) where
 
   -- the elements of a block by colour and run
   abbrev pub block_steps : ℕ → ℕ → ℕ → ℕ → List Step
-  block_steps g k r b = below (λ c. below (λ j. group_steps g k r b c j) (above (group_of g k r) (o.count k r))) (above (o.colour k r) (o.count k r))
+  block_steps g k r b =
+      below (λ c. below (λ j. group_steps g k r b c j) (above (group_of g k r) (o.count k r))) (above (o.colour k r) (o.count k r))
 
   -- how many blocks the rank may have
   abbrev pub blocks : ℕ → ℕ → ℕ
@@ -64,11 +67,15 @@ module _ (o : Outline) where
 
   -- a rank's elements by block colour and block
   abbrev pub element_steps : ℕ → ℕ → ℕ → List Step
-  element_steps g k r = below (λ h. below (λ b. where_true (o.block_colour k r b == h) (block_steps g k r b)) (blocks k r)) (above (o.block_colour k r) (blocks k r))
+  element_steps g k r =
+      below
+      (λ h. below (λ b. where_true (o.block_colour k r b == h) (block_steps g k r b)) (blocks k r))
+      (above (o.block_colour k r) (blocks k r))
 
   -- the steps of an item
   abbrev pub item_steps : ℕ → ℕ → List Step
-  item_steps g k = cond (o.is_free k) (below (sends_of k) o.ranks ++ (below (receives_of k) o.ranks ++ below (element_steps g k) o.ranks)) (Join k ∷ [])
+  item_steps g k =
+      cond (o.is_free k) (below (sends_of k) o.ranks ++ (below (receives_of k) o.ranks ++ below (element_steps g k) o.ranks)) (Join k ∷ [])
 
   -- the standard order
   abbrev pub standard : ℕ → List Step

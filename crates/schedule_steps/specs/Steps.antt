@@ -1,14 +1,8 @@
 -- The steps of a plan, which steps are earlier than which, and the lists of steps that are accepted.
 use Rattle.std.specs.Prelude.{◌≡◌, ◌<◌, ℕ, Bool, true, false, ◌&&◌, ◌||◌, ◌==◌, List, [], ◌∷◌, ◌++◌}
-use Rattle.schedule_steps.specs.Outline.{Outline, Order, runs}
-
--- one step of a schedule
-pub data Step : Type 0 where
-  Send : ℕ → ℕ → ℕ → Step  -- item, sender, receiver
-  Recv : ℕ → ℕ → ℕ → Step  -- item, receiver, sender
-  Begin : ℕ → ℕ → ℕ → Step  -- item, rank, element
-  End : ℕ → ℕ → ℕ → Step  -- item, rank, element
-  Join : ℕ → Step  -- item
+use Rattle.schedule_steps.specs.declared.step.Step.{Step}
+use Rattle.schedule_steps.specs.declared.step.Step.TheVariants.{Send, Recv, Begin, End, Join}
+use Rattle.schedule_steps.specs.Outline.{Outline, runs, by_colour}
 
 -- the item of a step
 abbrev pub item : Step → ℕ
@@ -43,13 +37,13 @@ IsStep o (End k r e) = Executes o k r e
 IsStep o (Join k) = (k < o.items) × (o.is_free k ≡ false)
 
 -- the first step has to come before the second
-pub data Earlier (o : Outline) (before : Order) : Step → Step → Type 0 where
-  by_item : {t s : Step} (r : ℕ) → IsOf t r → IsOf s r → item t < item s → Earlier o before t s
-  sent : {k s r : ℕ} → Earlier o before (Send k s r) (Recv k r s)
-  sent_first : {k s r e : ℕ} → Earlier o before (Send k s r) (Begin k s e)
-  received : {k r s e : ℕ} → o.is_core k r e ≡ false → Earlier o before (Recv k r s) (Begin k r e)
-  begun : {k r e : ℕ} → Earlier o before (Begin k r e) (End k r e)
-  coloured : {k r e f : ℕ} → before k r e f ≡ true → Earlier o before (End k r e) (Begin k r f)
+pub data Earlier (o : Outline) : Step → Step → Type 0 where
+  by_item : {t s : Step} (r : ℕ) → IsOf t r → IsOf s r → item t < item s → Earlier o t s
+  sent : {k s r : ℕ} → Earlier o (Send k s r) (Recv k r s)
+  sent_first : {k s r e : ℕ} → Earlier o (Send k s r) (Begin k s e)
+  received : {k r s e : ℕ} → o.is_core k r e ≡ false → Earlier o (Recv k r s) (Begin k r e)
+  begun : {k r e : ℕ} → Earlier o (Begin k r e) (End k r e)
+  coloured : {k r e f : ℕ} → by_colour o k r e f ≡ true → Earlier o (End k r e) (Begin k r f)
 
 -- the two triples are one
 abbrev pub same3 : ℕ → ℕ → ℕ → ℕ → ℕ → ℕ → Bool
@@ -70,12 +64,13 @@ has [] t = false
 has (s ∷ l) t = same t s || has l t
 
 -- each step of the plan stands in the list, no other does, none stands twice, and each comes after its earlier steps
-pub record Accepted (o : Outline) (before : Order) (l : List Step) : Type 0 where
+pub record Accepted (o : Outline) (l : List Step) : Type 0 where
   pub whole : (s : Step) → IsStep o s → has l s ≡ true
   pub steps : (pre : List Step) (s : Step) (post : List Step) → l ≡ pre ++ (s ∷ post) → IsStep o s
   pub once : (pre : List Step) (s : Step) (post : List Step) → l ≡ pre ++ (s ∷ post) → has pre s ≡ false
-  pub order : (pre : List Step) (s : Step) (post : List Step) → l ≡ pre ++ (s ∷ post) → (t : Step) → IsStep o t → Earlier o before t s → has pre t ≡ true
-
--- each begin is followed at once by its own end
-abbrev pub EndsAtOnce : List Step → Type 0
-EndsAtOnce l = (pre post : List Step) (k r e : ℕ) → l ≡ pre ++ (Begin k r e ∷ post) → (rest : List Step) × (post ≡ End k r e ∷ rest)
+  pub order : (pre : List Step) (s : Step) (post : List Step)
+      → l ≡ pre ++ (s ∷ post)
+      → (t : Step)
+      → IsStep o t
+      → Earlier o t s
+      → has pre t ≡ true

@@ -2,8 +2,12 @@
 #![tactic(auto)]
 
 mod orders;
+mod peak;
+mod step;
 
 pub use orders::{
-    accepted_by_turns, drawn_exists, drawn_is_accepted, drawn_once, standard_is_accepted,
-    tests_decide,
+    accepted_by_turns, accepted_steps_fit, alike_outlines_accept_alike, drawn_exists,
+    drawn_is_accepted, drawn_once, standard_is_accepted, tests_decide,
 };
+pub use peak::{Peak, accepted_lists_have_all_steps, peak_is_room};
+pub use step::Step;

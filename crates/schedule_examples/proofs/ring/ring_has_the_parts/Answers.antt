@@ -1,8 +1,9 @@
-use Rattle.schedule_examples.proofs.Parts.{kernels, items, loops}
+use Rattle.schedule_examples.proofs.Lawful.{kernels, items}
+use Rattle.schedule_examples.proofs.Parts.{loops}
 use Rattle.schedule_examples.proofs.ring.ring_has_the_parts.Goals as goal
 
 pub returns-clause-kernels : goal.returns-clause-kernels
-returns-clause-kernels c = λ faulty. kernels faulty c.one_bit_is_the_history.ensures
+returns-clause-kernels c = kernels
 
 pub returns-clause-items : goal.returns-clause-items
 returns-clause-items c = λ faulty. items faulty c.one_bit_is_the_history.ensures

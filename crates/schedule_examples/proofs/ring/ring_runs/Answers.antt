@@ -1,6 +1,6 @@
 use Rattle.std.proofs.Common.{refl, false}
 use Rattle.std.specs.Int.{int_wrap}
-use Rattle.schedule_model.specs.Plan.{outline}
+use Rattle.schedule_model.specs.Setup.{outline}
 use Rattle.schedule_examples.specs.Ring.{ring}
 use Rattle.schedule_examples.specs.Lists.{interleaved}
 use Rattle.schedule_examples.proofs.ring.ring_runs.Goals as goal

@@ -1,5 +1,5 @@
 use Rattle.schedule_laws.proofs.Tells.{tells, reader}
-use Rattle.schedule_laws.proofs.classes_tell.Goals as goal
+use Rattle.schedule_laws.proofs.touches_tell.Goals as goal
 
 pub returns-clause-tells : goal.returns-clause-tells
 returns-clause-tells c = tells

@@ -1,5 +1,5 @@
 use Rattle.schedule_laws.proofs.Give.{lawful, colours}
-use Rattle.schedule_laws.proofs.plan_is_lawful.Goals as goal
+use Rattle.schedule_laws.proofs.setup_is_lawful.Goals as goal
 
 pub returns-clause-lawful : goal.returns-clause-lawful
 returns-clause-lawful g c = λ p ks is f. lawful p f ks is
