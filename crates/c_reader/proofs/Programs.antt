@@ -1,21 +1,25 @@
 -- What was read of the tokens is the tree of the bytes.
-use Rattle.std.proofs.Common.{◌≡◌, ℕ, ◌≤◌, List, Option, Some, None, Result, Ok, Err, refl, sym, ap, subst, ◌∙◌, map}
+use Rattle.std.proofs.Common.{◌≡◌, ℕ, suc, ◌+◌, ◌<◌, ◌≤◌, Bool, true, false, List, [], ◌∷◌, length, Option, Some, None, Result, Ok, Err}
+use Rattle.std.proofs.Common.{inl, inr, nat_lt, refl, sym, ap, subst, ◌∙◌, map, slice_get, arith}
+use Rattle.std.specs.Prelude.{if◌then◌else◌}
+use Rattle.std.proofs.lemmas.Option.{slice_get_cases}
+use Rattle.std.proofs.lemmas.List.{length-map}
 use Rattle.c_lex.specs.declared.tokens.Token.{Token}
 use Rattle.c_lex.specs.declared.tokens.Pos.{Pos}
 use Rattle.std.proofs.Common.{Vec}
 use Rattle.c_lex.specs.declared.refusals.LexRefusal.{LexRefusal}
 use Rattle.c_lex.specs.declared.refusals.LexRefusal.TheVariants as lex_refusal
 use Rattle.c_lex.specs.Answered.{Answers}
-use Rattle.c_lex.specs.Lexed.{Lexes, Outcome}
+use Rattle.c_lex.specs.Lexed.{Lexes, Outcome, advance, start}
 use Rattle.c_tree.specs.Tree.{ProgramTree}
-use Rattle.c_tree.specs.Print.{program}
+use Rattle.c_tree.specs.Print.{Mark, program}
 use Rattle.c_tree.specs.Reads.{first_deep, shown, Prints, Reads, Deep}
 use Rattle.c_reader.specs.Kinds.{kinds, places}
 use Rattle.c_reader.specs.declared.faults.Fault.{Fault}
 use Rattle.c_reader.specs.declared.faults.Fault.TheVariants.{Syntax, TooDeep}
 use Rattle.c_reader.specs.declared.refusals.SourceRefusal.{SourceRefusal}
 use Rattle.c_reader.specs.declared.refusals.SourceRefusal.TheVariants.{Lex, TooDeep as TooDeepAt}
-use Rattle.c_reader.specs.Answered.{IsTree, IsRefusal, CanRefuse, not_lexed, place_at, refusal_of}
+use Rattle.c_reader.specs.Answered.{IsTree, IsRefusal, CanRefuse, not_lexed, place_or, place_at, deep_at, refusal_of}
 use Rattle.c_reader.specs.Whole.{whole}
 use Rattle.c_reader.proofs.Spans.{spans_whole, whole_spans, after}
 use Rattle.c_reader.proofs.Mains.{whole_complete, whole_sound, whole_far}
@@ -53,6 +57,57 @@ pub deep_places : (bytes : List ℕ) (ts : List Token) (p : ProgramTree) (n : �
 deep_places bytes ts p n only r =
     let same = same_tokens ts r.tokens (only (Ok r.tokens) r.lexed) in
     r.prints.places ∙ ap places (sym same)
+
+-- a token that stands too deep is one of those that are printed
+deep_within : (n q : ℕ) (ms : List Mark) → first_deep n ms ≡ Some q → q < n + length ms
+deep_within n q [] h = absurd (never h)
+  where
+    never : ◌≡◌ {A = Option ℕ} None (Some q) → ⊥
+    never h = cc
+deep_within n q (m ∷ ms) h = by_test (nat_lt 64 m.level) h (λ g. deep_within (suc n) q ms g)
+  where
+    same : ◌≡◌ {A = Option ℕ} (Some n) (Some q) → n ≡ q
+    same h = cc
+
+    by_test : (t : Bool)
+        → (if t then Some n else first_deep (suc n) ms) ≡ Some q
+        → (first_deep (suc n) ms ≡ Some q → q < suc n + length ms)
+        → q < n + length (m ∷ ms)
+    by_test true g f = let e = same g in omega (arith, e)
+    by_test false g f = let e = f g in omega (arith, e)
+
+-- where a tree prints the tokens, its first token that is too deep is one of them
+deep_token : (ts : List Token) (p : ProgramTree) (n : ℕ) → Prints ts p → first_deep 0 (program p) ≡ Some n → n < length (places ts)
+deep_token ts p n o h =
+    let inside : n < 0 + length (program p) = deep_within 0 n (program p) h in
+    let shown_length = length-map (program p) (λ (m : Mark). m.kind) in
+    let kinds_length = length-map ts (λ (t : Token). t.kind) in
+    let places_length = length-map ts (λ (t : Token). t.at) in
+    let same = ap length o.kinds in
+    omega (arith, inside, shown_length, kinds_length, places_length, same)
+
+-- the token at which reading was too deep is the first that is in the tree
+deep_first : (ts : List Token) (p : ProgramTree) (n : ℕ)
+    → whole (kinds ts) (places ts) ≡ Err (TooDeep n)
+    → Prints ts p
+    → first_deep 0 (program p) ≡ Some n
+deep_first ts p n h o = by_deep (first_deep 0 (program p)) (sym h ∙ printed ts p o)
+  where
+    by_deep : (d : Option ℕ) → ◌≡◌ {A = Result ProgramTree Fault} (Err (TooDeep n)) (after d (Ok p)) → d ≡ Some n
+    by_deep None g = cc
+    by_deep (Some q) g = cc
+
+-- an element below the length is there
+not_past : {A : Type 0} (xs : List A) (n : ℕ) → n < length xs → slice_get xs n ≡ None → ⊥
+not_past {A = A} xs n h e = elim (slice_get_cases xs n).1 as (λ _. ⊥) [ inl x ↦ never x.0 (sym e ∙ x.2) | inr y ↦ omega (arith, h, y.0) ]
+  where
+    never : (x : A) → ◌≡◌ {A = Option A} None (Some x) → ⊥
+    never x h = cc
+
+-- a token that is there is refused at its place
+deep_there : (o : Option Pos) (q : Pos) → (o ≡ None → ⊥) → deep_at o q ≡ TooDeepAt (place_or o q)
+deep_there (Some p) q h = refl
+deep_there None q h = absurd (h refl)
 
 pub no_tree : (ts : List Token) (n : ℕ) → whole (kinds ts) (places ts) ≡ Err (Syntax n) → (p : ProgramTree) → Prints ts p → ⊥
 no_tree ts n h p o = by_deep (first_deep 0 (program p)) (sym h ∙ printed ts p o)
@@ -104,7 +159,10 @@ module _ (bytes : List ℕ) (ts : List Token) (f : Fault) (only : (o : Outcome) 
   pub refused_deep : (p : ProgramTree) (n : ℕ) → Deep bytes p n → refusal_of (places ts) bytes f ≡ TooDeepAt (place_at p.places bytes n)
   refused_deep p n r =
       let same : f ≡ TooDeep n = one f (TooDeep n) (sym h ∙ read_deep bytes ts p n only r) in
-      ap (refusal_of (places ts) bytes) same ∙ ap (λ z. TooDeepAt (place_at z bytes n)) (sym (deep_places bytes ts p n only r))
+      let read : Prints ts p = subst (λ z. Prints z p) (sym (same_tokens ts r.tokens (only (Ok r.tokens) r.lexed))) r.prints in
+      ap (refusal_of (places ts) bytes) same
+      ∙ deep_there (slice_get (places ts) n) (advance start bytes) (not_past (places ts) n (deep_token ts p n read r.first))
+      ∙ ap (λ z. TooDeepAt (place_at z bytes n)) (sym (deep_places bytes ts p n only r))
     where
       one : (a b : Fault) → ◌≡◌ {A = Result ProgramTree Fault} (Err a) (Err b) → a ≡ b
       one a b h = cc
@@ -113,8 +171,17 @@ module _ (bytes : List ℕ) (ts : List Token) (f : Fault) (only : (o : Outcome) 
 pub can_refuse : (bytes : List ℕ) (ts : List Token) (f : Fault) → Lexes bytes (Ok ts) → whole (kinds ts) (places ts) ≡ Err f → CanRefuse bytes (refusal_of (places ts) bytes f)
 can_refuse bytes ts (Syntax n) l h =
     record { tokens = ts; lexed = l; number = n; here = refl; none = λ p o. no_tree ts n h p o }
-can_refuse bytes ts (TooDeep n) l h =
-    record { tokens = ts; lexed = l; number = n; here = refl; far = whole_far (kinds ts) (places ts) n h }
+can_refuse bytes ts (TooDeep n) l h = by_place (slice_get (places ts) n) refl
+  where
+    by_place : (o : Option Pos) → slice_get (places ts) n ≡ o → CanRefuse bytes (deep_at o (advance start bytes))
+    by_place (Some at) e = record { tokens = ts; lexed = l; number = n; here = e; far = whole_far (kinds ts) (places ts) n h }
+    by_place None e = record {
+      tokens = ts;
+      lexed = l;
+      number = n;
+      here = sym (ap (λ z. place_or z (advance start bytes)) e);
+      none = λ p o. not_past (places ts) n (deep_token ts p n o (deep_first ts p n h o)) e;
+    }
 
 -- a refusal of a fault is that of the deeper tree
 pub is_refusal : (ps : List Pos) (bytes : List ℕ) (f : Fault) (r s : SourceRefusal) → s ≡ refusal_of ps bytes f → refusal_of ps bytes f ≡ r → IsRefusal r (Err s)
@@ -122,7 +189,11 @@ is_refusal ps bytes f r s h g = subst (λ z. IsRefusal r (Err z)) (sym h) (by_fa
   where
     by_fault : (f : Fault) → refusal_of ps bytes f ≡ r → IsRefusal r (Err (refusal_of ps bytes f))
     by_fault (Syntax n) g = g
-    by_fault (TooDeep n) g = g
+    by_fault (TooDeep n) g = by_place (slice_get ps n) g
+      where
+        by_place : (o : Option Pos) → deep_at o (advance start bytes) ≡ r → IsRefusal r (Err (deep_at o (advance start bytes)))
+        by_place (Some p) g = g
+        by_place None g = g
 
 -- what the answer is where the lexer refuses
 no_tokens : (r : LexRefusal) (ts : List Token) → ◌≡◌ {A = Outcome} (Err r) (Ok ts) → ⊥

@@ -23,10 +23,15 @@ place_or None q = q
 abbrev pub place_at : List Pos → List ℕ → ℕ → Pos
 place_at ps bytes n = place_or (slice_get ps n) (advance start bytes)
 
+-- a token here is nested too deeply; where there is none, the source ends before its tree does
+abbrev pub deep_at : Option Pos → Pos → SourceRefusal
+deep_at (Some p) q = refusal.TooDeep p
+deep_at None q = refusal.Syntax q
+
 -- the refusal of a fault, at its place
 abbrev pub refusal_of : List Pos → List ℕ → Fault → SourceRefusal
 refusal_of ps bytes (fault.Syntax n) = refusal.Syntax (place_at ps bytes n)
-refusal_of ps bytes (fault.TooDeep n) = refusal.TooDeep (place_at ps bytes n)
+refusal_of ps bytes (fault.TooDeep n) = deep_at (slice_get ps n) (advance start bytes)
 
 -- the refusal of bytes that the lexer refuses
 abbrev pub not_lexed : LexRefusal → SourceRefusal
@@ -53,12 +58,12 @@ pub record HasNoTree (bytes : List ℕ) (at : Pos) : Type 0 where
   pub here : at ≡ place_at (places tokens) bytes number
   pub none : (p : ProgramTree) → Prints tokens p → ⊥
 
--- the bytes have tokens, and the place is that of a token behind at least 64 others, or the place just past the last byte
+-- the bytes have tokens, and the place is that of a token behind at least 64 others
 pub record IsFar (bytes : List ℕ) (at : Pos) : Type 0 where
   pub tokens : List Token
   pub lexed : Lexes bytes (Ok tokens)
   pub number : ℕ
-  pub here : at ≡ place_at (places tokens) bytes number
+  pub here : slice_get (places tokens) number ≡ Some at
   pub far : 64 ≤ number
 
 -- when each refusal comes

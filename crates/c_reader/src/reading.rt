@@ -63,6 +63,14 @@ pub fn shows_its_tokens()
     one_outcome();
 }
 
+/// The bytes have no tree of at most 64 levels beside a deeper one, and deeper ones have one first token beyond level 64.
+pub fn one_depth()
+    ensures both { (bytes : List ℕ) (a b : ProgramTree) (n : ℕ) → Reads bytes a → Deep bytes b n → ⊥ }
+    ensures same { (bytes : List ℕ) (a b : ProgramTree) (n m : ℕ) → Deep bytes a n → Deep bytes b m → n ≡ m }
+{
+    one_outcome();
+}
+
 // The refusal of bytes that the lexer refuses.
 fn unlexed(refusal: LexRefusal) -> SourceRefusal
     ensures { result ≡ not_lexed refusal }
@@ -76,7 +84,7 @@ fn unlexed(refusal: LexRefusal) -> SourceRefusal
     }
 }
 
-// The refusal of a fault, at its place.
+// The refusal of a fault, at its place. Past the last token nothing is too deep: the source ends too early there.
 fn refused(tokens: &[Token], bytes: &[u8], fault: Fault) -> SourceRefusal
     requires { length bytes.now + 2 < 2 ^ 32 }
     ensures { result ≡ refusal_of (places tokens.now) bytes.now fault }
@@ -85,8 +93,11 @@ fn refused(tokens: &[Token], bytes: &[u8], fault: Fault) -> SourceRefusal
         Fault::Syntax(at) => SourceRefusal::Syntax {
             at: place_of(tokens, bytes, at),
         },
-        Fault::TooDeep(at) => SourceRefusal::TooDeep {
-            at: place_of(tokens, bytes, at),
+        Fault::TooDeep(at) => match tokens.get(at) {
+            Some(token) => SourceRefusal::TooDeep { at: token.at },
+            None => SourceRefusal::Syntax {
+                at: end_place(bytes),
+            },
         },
     }
 }

@@ -296,5 +296,14 @@ fn nests_up_to_64_levels(rt: HostRuntime) -> Result<(), Fail> {
         column: 91,
     };
     assert!(rt; refusal(alloc, deep.as_str()) == Some(SourceRefusal::TooDeep { at }));
+    // Sources that end where the next token would be at level 65, each after so many bytes.
+    for (before, open, count, end) in [
+        ("int x = ", "(", 63, 71),
+        ("int main(int argc, char **argv) ", "{", 65, 97),
+        ("void f(int *p) {", "if (1) ", 64, 464),
+    ] {
+        let source = repeated(alloc, [before, open, "", "", ""], count)?;
+        assert!(rt; is_syntax_at(alloc, source.as_str(), 1, end + 1), "{before}");
+    }
     Ok(())
 }
