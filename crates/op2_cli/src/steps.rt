@@ -16,14 +16,15 @@ use mesh_decl::{Entries, MeshRefusal, read_mesh};
 use op_outside::{ReadRefusal, Shelf, read_whole};
 use std::alloc::Global;
 
-/// The bytes of the file `name`, at most `limit`.
+/// The bytes of the file `name`, at most `limit`, which is below 2 ^ 32.
 pub fn read<'a, F: Shelf>(
     alloc: Global,
     shelf: &mut F,
     name: &'a str,
     limit: u64,
 ) -> Result<Vec<u8>, Outcome<'a>>
-    requires { F.lends shelf.old name.now }
+    requires lent { F.lends shelf.old name.now }
+    requires limit { limit < 2 ^ 32 }
 
     ensures told { F.told shelf.new ≡ F.told shelf.old }
     ensures lends { (n : List ℕ) → F.lends shelf.old n ↔ F.lends shelf.new n }

@@ -17,7 +17,6 @@ pub struct MemoryShelf {
 
 impl MemoryShelf {
     ghost use Rattle.op_outside.specs.Memory.{held, shelf_script};
-    ghost use Rattle.op_outside.specs.Outside.{Holds, IsPart};
 
     /// A shelf without files, whose calls with the numbers `fails`, from 0, fail. Takes no memory.
     pub fn new(alloc: Global, fails: Vec<u64>) -> MemoryShelf
@@ -40,16 +39,32 @@ impl MemoryShelf {
         self.files.insert(name, bytes)?;
         Ok(())
     }
+}
 
-    /// Reads as [`Shelf::read_at`] does: the call fails exactly where its number is among those that
-    /// are to fail, and else the file is missing exactly where none is held under the name.
-    pub fn read_part(&mut self, name: &str, from: u64, into: &mut [u8]) -> Result<usize, ShelfFault>
-        ensures failed { IsErrOf result ShelfFault.Failed ↔ (is_due (shelf_script self.old) ≡ true) }
-        ensures missing { IsErrOf result ShelfFault.Missing → held self.old name.now ≡ None }
-        ensures read { IfOk result (λ n. Holds (Some (held self.old)) name.now (λ bytes. IsPart bytes from n into.new)) }
+impl Shelf for MemoryShelf {
+    ghost use Rattle.op_outside.specs.Memory.{held, shelf_script};
+    ghost use Rattle.op_outside.specs.Outside.{Holds, IsPart, Lacks, Rose};
+
+    ghost told = { λ shelf. Some (held shelf) };
+
+    ghost faults = { λ shelf. failed (shelf_script shelf) };
+
+    ghost lends = { λ _ _. Unit {0} };
+
+    /// Reads as the trait says. The call fails exactly where its number is among those that are to fail, and else the file is
+    /// missing exactly where none is held under the name.
+    fn read_at(&mut self, name: &str, from: u64, into: &mut [u8]) -> Result<usize, ShelfFault>
+        ensures told { Some (held self.new) ≡ Some (held self.old) }
+        ensures lends { List ℕ → Unit {0} ↔ Unit {0} }
+        ensures never_falls { failed (shelf_script self.old) ≤ failed (shelf_script self.new) }
+        ensures calm { OnOk result (failed (shelf_script self.new) ≡ failed (shelf_script self.old)) }
+        ensures failed { IsErrOf result ShelfFault.Failed → Rose (failed (shelf_script self.old)) (failed (shelf_script self.new)) }
         ensures fits { IfOk result (λ n. n ≤ length into.old) }
+        ensures read { IfOk result (λ n. Holds (Some (held self.old)) name.now (λ bytes. IsPart bytes from n into.new)) }
+        ensures missing { IsErrOf result ShelfFault.Missing → Lacks (Some (held self.old)) name.now }
+        ensures missing_calm { IsErrOf result ShelfFault.Missing → failed (shelf_script self.new) ≡ failed (shelf_script self.old) }
         ensures err { OnErr result (into.new ≡ into.old) }
-        ensures held { (other : List ℕ) → held self.new other ≡ held self.old other }
+        ensures due { IsErrOf result ShelfFault.Failed ↔ (is_due (shelf_script self.old) ≡ true) }
         ensures passes { IsOk result ⊎ IsErrOf result ShelfFault.Missing → Passes (shelf_script self.old) (shelf_script self.new) }
         ensures fails { IsErrOf result ShelfFault.Failed → Fails (shelf_script self.old) (shelf_script self.new) }
     {
@@ -61,20 +76,6 @@ impl MemoryShelf {
             None => Err(ShelfFault::Missing),
             Some(bytes) => Ok(copy_part(bytes, from, into)),
         }
-    }
-}
-
-impl Shelf for MemoryShelf {
-    ghost use Rattle.op_outside.specs.Memory.{held, shelf_script};
-
-    ghost told = { λ shelf. Some (held shelf) };
-
-    ghost faults = { λ shelf. failed (shelf_script shelf) };
-
-    ghost lends = { λ _ _. Unit {0} };
-
-    fn read_at(&mut self, name: &str, from: u64, into: &mut [u8]) -> Result<usize, ShelfFault> {
-        self.read_part(name, from, into)
     }
 }
 
@@ -110,16 +111,30 @@ impl MemorySink {
     {
         &self.bytes
     }
+}
 
-    /// Writes as [`Sink::write`] does: it takes as many bytes of the piece as there is room for, and
-    /// fails exactly where the call's number is among those that are to fail, or where there is no
-    /// room for a piece that isn't empty.
-    pub fn write_part(&mut self, piece: &[u8]) -> Result<usize, Failed>
-        ensures failed { IsErr result ↔ ((is_due (sink_script self.old) ≡ true) ⊎ ((room_left self.old ≡ 0) × (0 < length piece.now))) }
+impl Sink for MemorySink {
+    ghost use Rattle.op_outside.specs.Memory.{taken, room_left, sink_script};
+    ghost use Rattle.op_outside.specs.Outside.{Rose, appended};
+
+    ghost written = { λ sink. Some (taken sink) };
+
+    ghost faults = { λ sink. failed (sink_script sink) };
+
+    /// Writes as the trait says. It takes as many bytes of the piece as there is room for, and fails exactly where the call's
+    /// number is among those that are to fail, or where there is no room for a piece that isn't empty.
+    fn write(&mut self, piece: &[u8]) -> Result<usize, Failed>
+        ensures never_falls { failed (sink_script self.old) ≤ failed (sink_script self.new) }
+        ensures calm { OnOk result (failed (sink_script self.new) ≡ failed (sink_script self.old)) }
+        ensures failed { OnErr result (Rose (failed (sink_script self.old)) (failed (sink_script self.new))) }
+        ensures fits { IfOk result (λ n. n ≤ length piece.now) }
+        ensures moves { IfOk result (λ n. 0 < length piece.now → 0 < n) }
+        ensures ok { IfOk result (λ n. Some (taken self.new) ≡ appended (Some (taken self.old)) (take n piece.now)) }
+        ensures err { OnErr result (Some (taken self.new) ≡ Some (taken self.old)) }
+        ensures due { IsErr result ↔ ((is_due (sink_script self.old) ≡ true) ⊎ ((room_left self.old ≡ 0) × (0 < length piece.now))) }
         ensures count { IfOk result (λ n. n ≡ min (length piece.now) (room_left self.old)) }
-        ensures ok { IfOk result (λ n. taken self.new ≡ taken self.old ++ take n piece.now) }
         ensures room { IfOk result (λ n. room_left self.new ≡ room_left self.old - n) }
-        ensures err { OnErr result ((taken self.new ≡ taken self.old) × (room_left self.new ≡ room_left self.old)) }
+        ensures full { OnErr result (room_left self.new ≡ room_left self.old) }
         ensures passes { OnOk result (Passes (sink_script self.old) (sink_script self.new)) }
         ensures fails { OnErr result (Fails (sink_script self.old) (sink_script self.new)) }
     {
@@ -132,17 +147,5 @@ impl MemorySink {
         self.room -= count;
         self.bytes.extend_from_slice(&piece[..count]).unwrap();
         Ok(count)
-    }
-}
-
-impl Sink for MemorySink {
-    ghost use Rattle.op_outside.specs.Memory.{taken, sink_script};
-
-    ghost written = { λ sink. Some (taken sink) };
-
-    ghost faults = { λ sink. failed (sink_script sink) };
-
-    fn write(&mut self, piece: &[u8]) -> Result<usize, Failed> {
-        self.write_part(piece)
     }
 }

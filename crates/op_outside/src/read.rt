@@ -1,5 +1,5 @@
 // A whole file.
-ghost use Rattle.std.specs.Prelude.{◌≡◌, ◌≤◌, ◌<◌, ◌↔◌, List, ℕ, [], length, vec_len, IfOk, OnOk, IfSome, IsErrOf};
+ghost use Rattle.std.specs.Prelude.{◌≡◌, ◌≤◌, ◌<◌, ◌^◌, ◌↔◌, List, ℕ, [], length, vec_len, IfOk, OnOk, IfSome, IsErrOf};
 ghost use Rattle.op_outside.specs.Outside.{Rose, Holds, Lacks};
 
 use crate::{OutOfMemory, ReadRefusal, Shelf, ShelfFault};
@@ -8,7 +8,7 @@ use std::alloc::Global;
 // How many bytes are asked for at once.
 const CHUNK: usize = 65536;
 
-/// The bytes of the file `name`, which has at most `limit` bytes.
+/// The bytes of the file `name`, which has at most `limit` bytes; `limit` is below 2 ^ 32.
 ///
 /// `Failed` comes only where the shelf's count of faults rose in this call, `Missing` only where the
 /// files are told and none has the name, `TooLarge`, over told files, only where the file has more
@@ -19,7 +19,8 @@ pub fn read_whole<F: Shelf>(
     name: &str,
     limit: u64,
 ) -> Result<Vec<u8>, ReadRefusal>
-    requires { F.lends shelf.old name.now }
+    requires lent { F.lends shelf.old name.now }
+    requires limit { limit < 2 ^ 32 }
 
     ensures told { F.told shelf.new ≡ F.told shelf.old }
     ensures lends { (n : List ℕ) → F.lends shelf.old n ↔ F.lends shelf.new n }
@@ -52,7 +53,8 @@ fn read_by<F: Shelf>(
     mut bytes: Vec<u8>,
     chunk: &mut [u8],
 ) -> Result<Vec<u8>, ReadRefusal>
-    requires lends { F.lends shelf.old name.now }
+    requires lent { F.lends shelf.old name.now }
+    requires limit { limit < 2 ^ 32 }
     requires empty { bytes.items ≡ [] }
     requires chunk { 0 < length chunk.old }
     ensures told { F.told shelf.new ≡ F.told shelf.old }
