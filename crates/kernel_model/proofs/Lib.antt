@@ -15,3 +15,8 @@ pub mod Examples
 pub mod Ranges
 pub mod BrokenRules
 pub mod Refused
+pub mod Firsts
+pub mod Covers
+pub mod Steps
+pub mod Finding
+pub mod Found

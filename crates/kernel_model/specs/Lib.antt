@@ -4,3 +4,4 @@ pub mod SameTokens
 pub mod Obeys
 pub mod Independence
 pub mod Refusals
+pub mod Walk

@@ -2,6 +2,7 @@
 
 ghost use Rattle.kernel_model.specs.Independence.{Independence, OthersStay, RangeStays, ReadsStay, ShapeStays, Transport};
 ghost use Rattle.kernel_model.specs.Refusals.{ObeysUnlessBroken, OneRefusal};
+ghost use Rattle.kernel_model.specs.Walk.{WalkFinds};
 
 /// A law: over two lists of targets with the same aliases, and two stores that agree where OP_READ and OP_RW
 /// arguments reach, a kernel that obeys its modes has the same fault or none, and without one makes the same changes.
@@ -40,4 +41,10 @@ pub fn range_stays()
 pub fn rules_are_broken()
     ensures obeys { ObeysUnlessBroken }
     ensures first { OneRefusal }
+{}
+
+/// A law: one walk over a kernel, with the components that every path has assigned, finds its refusal, and finds none
+/// exactly where the kernel obeys its modes.
+pub fn walk_finds()
+    ensures { WalkFinds }
 {}

@@ -5,4 +5,5 @@ mod laws;
 
 pub use laws::{
     independence, others_stay, range_stays, reads_stay, rules_are_broken, shape_stays, transport,
+    walk_finds,
 };

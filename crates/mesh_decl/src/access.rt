@@ -1,22 +1,4 @@
-// What an argument of a parallel loop does, and how it is reached.
-
-/// What a kernel may do to an argument, as the OP2 C API names it: `OP_READ`, `OP_WRITE`, `OP_RW`, `OP_INC`, `OP_MIN`
-/// and `OP_MAX`. The last two stand on globals in OP2; here they are allowed on dats too.
-#[derive(Clone, Copy, Debug, PartialEq, Eq)]
-pub enum Access {
-    /// The kernel reads it only.
-    Read,
-    /// The kernel assigns it and doesn't read it before.
-    Write,
-    /// The kernel reads and assigns it.
-    Rw,
-    /// The kernel adds to it.
-    Inc,
-    /// The kernel lowers it to a least value.
-    Min,
-    /// The kernel raises it to a greatest value.
-    Max,
-}
+// How an argument of a parallel loop is reached.
 
 /// How an element of a loop's set leads to an element of a dat's set: by the target at `index`, from 0 and below the
 /// map's dim, of the map numbered `map`.

@@ -12,7 +12,7 @@ mod owners;
 #[cfg(test)]
 mod tests;
 
-pub use access::{Access, Via};
+pub use access::Via;
 pub use decl::{DatDecl, MapDecl, MapRefusal, SetDecl};
 pub use mesh::Mesh;
 pub use mesh_text::{
@@ -21,3 +21,4 @@ pub use mesh_text::{
 };
 pub use numbers::Numbers;
 pub use owners::{Owners, Perms};
+pub use reductions::Access;

@@ -1,6 +1,9 @@
-//! The operations by which the elements of a loop merge amounts into a cell in any order.
+//! What a parallel loop lets its kernel do to an argument, and the operations by which its elements merge amounts into a cell
+//! in any order.
 #![tactic(auto)]
 
+mod access;
 mod merge;
 
+pub use access::Access;
 pub use merge::{Greatest, Least, Merge, Sum, reductions_commute};

@@ -1,0 +1,5 @@
+pub mod Bits
+pub mod Events
+pub mod Agreeing
+pub mod Walks
+pub mod Ends

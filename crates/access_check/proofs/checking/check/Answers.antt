@@ -1,0 +1,19 @@
+use Rattle.std.proofs.Common.{rules, ◌≡◌, ◌∙◌, sym, ap, subst, length, map}
+use Rattle.kernel_model.specs.Walk.{IsFound}
+use Rattle.access_check.specs.Agree.{CountersFit}
+use Rattle.access_check.specs.Modes.{model_of}
+use Rattle.access_check.specs.Found.{found_of}
+use Rattle.access_check.proofs.Ends.{counters_fit}
+use Rattle.access_check.proofs.checking.check.Goals as goal
+
+pub found_in-requires-clause-fits : goal.found_in-requires-clause-fits
+found_in-requires-clause-fits c =
+    let k = c.args.kernel.now in
+    let len : length c.deref_mut.result.now ≡ k.scratch = search rules in
+    subst (λ n. CountersFit n k.body.statement) (sym len) (counters_fit k.params k.scratch c.requires.resolved.0 k.body.statement c.requires.resolved.1.within)
+
+pub returns-clause-refused : goal.returns-clause-refused
+returns-clause-refused c =
+    let k = c.args.kernel.now in
+    let modes = map model_of c.args.modes.now in
+    c.refusal_of.ensures k modes (subst (λ f. IsFound f k modes) (sym c.found_in.ensures ∙ ap found_of c.in-Some.is) (c.walk_finds.ensures k modes))

@@ -1,0 +1,53 @@
+// Sets of components of arguments, as one word of 64 bits for each of 16 arguments.
+
+ghost use Rattle.std.specs.Prelude.{◌≡◌, ℕ, false, ◌<◌, ◌&&◌, ◌||◌, nat_eq};
+ghost use Rattle.access_check.specs.States.{has_component};
+
+/// How many arguments a parallel loop has at most.
+pub const ARGUMENTS: usize = 16;
+
+/// Components of arguments: component i of argument a is among them where bit i of word a, counted from the lowest, is 1.
+#[derive(Clone, Copy)]
+pub struct Components {
+    pub words: [u64; ARGUMENTS],
+}
+
+/// No component.
+pub fn no_components() -> Components
+    ensures { (a i : ℕ) → has_component result a i ≡ false }
+{
+    Components {
+        words: [0; ARGUMENTS],
+    }
+}
+
+/// Whether a component is among them.
+pub fn is_among(components: &Components, arg: u32, index: u32) -> bool
+    requires arg { arg < 16 }
+    requires index { index < 64 }
+    ensures { result ≡ has_component components.now arg index }
+{
+    (components.words[arg as usize] >> index) & 1 == 1
+}
+
+/// These and one more component.
+pub fn with_component(components: &Components, arg: u32, index: u32) -> Components
+    requires arg { arg < 16 }
+    requires index { index < 64 }
+    ensures { (a i : ℕ) → has_component result a i ≡ ((nat_eq arg a && nat_eq index i) || has_component components.now a i) }
+{
+    let mut words = components.words;
+    words[arg as usize] |= 1 << index;
+    Components { words }
+}
+
+/// The components that are among both.
+pub fn among_both(components: &Components, others: &Components) -> Components
+    ensures { (a i : ℕ) → has_component result a i ≡ (has_component components.now a i && has_component others.now a i) }
+{
+    let mut words = components.words;
+    for a in 0..ARGUMENTS {
+        words[a] &= others.words[a];
+    }
+    Components { words }
+}

@@ -1,0 +1,22 @@
+//! Whether a kernel keeps to the accesses that a parallel loop gives its arguments.
+#![tactic(auto)]
+
+mod checking;
+mod components;
+mod counters;
+mod expressions;
+mod found;
+mod modes;
+mod refusals;
+mod sides;
+#[cfg(test)]
+mod tests;
+mod tokens;
+mod uses;
+mod walking;
+
+pub use checking::check;
+pub use kernel_types::{Pos, RKernel};
+pub use reductions::Access;
+pub use modes::Mode;
+pub use refusals::AccessRefusal;
