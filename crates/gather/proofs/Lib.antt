@@ -1,0 +1,4 @@
+pub mod Growing
+pub mod Headers
+pub mod Pieces
+pub mod Rows

@@ -1,0 +1,12 @@
+//! What a program prints, byte for byte.
+#![tactic(auto)]
+
+mod dats;
+mod lines;
+#[cfg(test)]
+mod tests;
+
+pub use dats::print_dat;
+pub use lines::print_line;
+pub use mesh_decl::Mesh;
+pub use op_num::{OutOfMemory, Text};
