@@ -1,7 +1,7 @@
 -- What a refusal says of a kernel.
 use Rattle.std.specs.Prelude.{List}
 use Rattle.kernel_types.specs.declared.kernels.RKernel.{RKernel}
-use Rattle.kernel_model.specs.Obeys.{Mode}
+use Rattle.kernel_model.specs.Obeys.{Mode, KernelObeys}
 use Rattle.kernel_model.specs.Refusals as model
 use Rattle.kernel_model.specs.Refusals.{IsRefusal}
 use Rattle.access_check.specs.declared.refusals.AccessRefusal.{AccessRefusal}
@@ -18,3 +18,8 @@ Refuses k modes (refusal.WriteIndexNotStatic at) = IsRefusal k modes model.Index
 Refuses k modes (refusal.LiteralIndexOut at) = IsRefusal k modes model.IndexOut at
 Refuses k modes (refusal.MinMaxForm at) = IsRefusal k modes model.NotExtremum at
 Refuses k modes refusal.OutOfMemory = Unit {0}
+
+-- the kernel doesn't obey its modes, unless memory ran out
+abbrev pub Disobeys : RKernel → List Mode → AccessRefusal → Type 0
+Disobeys k modes refusal.OutOfMemory = Unit {0}
+Disobeys k modes e = ¬ KernelObeys k modes

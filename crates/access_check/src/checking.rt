@@ -10,7 +10,7 @@ ghost use Rattle.access_check.specs.Agree.{CountersFit};
 ghost use Rattle.reductions.specs.Access.{access_of};
 ghost use Rattle.access_check.specs.Modes.{model_of, AreSmall};
 ghost use Rattle.access_check.specs.Found.{found_of};
-ghost use Rattle.access_check.specs.Refusals.{Refuses};
+ghost use Rattle.access_check.specs.Refusals.{Refuses, Disobeys};
 ghost use Rattle.access_check.specs.States.{has_component};
 
 use crate::components::{Components, is_among, no_components};
@@ -88,8 +88,10 @@ pub fn check(alloc: Global, kernel: &RKernel, modes: &[Mode]) -> Result<(), Acce
     requires modes { AreSmall modes.now }
     ensures accepted { IfOk result (λ u. KernelObeys kernel.now (map model_of modes.now)) }
     ensures refused { IfErr result (λ e. Refuses kernel.now (map model_of modes.now) e) }
+    ensures disobeys { IfErr result (λ e. Disobeys kernel.now (map model_of modes.now) e) }
 {
     kernel_model::walk_finds();
+    kernel_model::rules_are_broken();
     let counters = vec![in alloc; None; kernel.scratch as usize];
     match counters {
         Err(_) => Err(AccessRefusal::OutOfMemory),

@@ -17,6 +17,6 @@ mod walking;
 
 pub use checking::check;
 pub use kernel_types::{Pos, RKernel};
+pub use modes::{Mode, are_small};
 pub use reductions::Access;
-pub use modes::Mode;
 pub use refusals::AccessRefusal;

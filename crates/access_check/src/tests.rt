@@ -2,8 +2,9 @@
 
 use super::*;
 use c_tree::{AssignOp, MinMax, Name};
-use kernel_types::{ElementForm, RBody, RExpr, RStmt};
+use kernel_types::{ElementForm, RBody, RExpr, RStmt, is_resolved};
 use std::alloc::{AllocError, Global};
+use std::process::Abort;
 
 fn at(column: u32) -> Pos {
     Pos { line: 1, column }
@@ -50,6 +51,19 @@ fn mode(access: Access, dim: u32) -> Mode {
     Mode { access, dim }
 }
 
+// What `check` answers for a kernel that has what it asks for.
+fn judged(
+    rt: &impl Abort,
+    alloc: Global,
+    kernel: &RKernel,
+    modes: &[Mode],
+) -> Result<(), AccessRefusal> {
+    assert!(rt; is_resolved(kernel, 0));
+    assert!(rt; modes.len() == kernel.params as usize);
+    assert!(rt; are_small(modes));
+    check(alloc, kernel, modes)
+}
+
 #[test]
 fn refusals(rt: HostRuntime) -> Result<(), AllocError> {
     let alloc = rt.alloc();
@@ -59,32 +73,32 @@ fn refusals(rt: HostRuntime) -> Result<(), AllocError> {
         set(0, RExpr::Number(0), AssignOp::Set, RExpr::Number(7)),
     )?;
     assert_eq!(rt;
-        check(alloc, &store, &[mode(Access::Write, 1)]),
+        judged(&rt, alloc, &store, &[mode(Access::Write, 1)]),
         Ok(()),
         "the whole target"
     );
     assert_eq!(rt;
-        check(alloc, &store, &[mode(Access::Write, 2)]),
+        judged(&rt, alloc, &store, &[mode(Access::Write, 2)]),
         Err(AccessRefusal::NotAllWritten { at: at(1) }),
         "half of it"
     );
     assert_eq!(rt;
-        check(alloc, &store, &[mode(Access::Read, 1)]),
+        judged(&rt, alloc, &store, &[mode(Access::Read, 1)]),
         Err(AccessRefusal::WritesRead { at: at(5) }),
         "OP_READ"
     );
     assert_eq!(rt;
-        check(alloc, &store, &[mode(Access::Inc, 1)]),
+        judged(&rt, alloc, &store, &[mode(Access::Inc, 1)]),
         Err(AccessRefusal::IncNotSum { at: at(5) }),
         "OP_INC"
     );
     assert_eq!(rt;
-        check(alloc, &store, &[mode(Access::Max, 1)]),
+        judged(&rt, alloc, &store, &[mode(Access::Max, 1)]),
         Err(AccessRefusal::MinMaxForm { at: at(5) }),
         "OP_MAX"
     );
     assert_eq!(rt;
-        check(alloc, &store, &[mode(Access::Rw, 0)]),
+        judged(&rt, alloc, &store, &[mode(Access::Rw, 0)]),
         Err(AccessRefusal::LiteralIndexOut { at: at(5) }),
         "out"
     );
@@ -96,17 +110,17 @@ fn refusals(rt: HostRuntime) -> Result<(), AllocError> {
     };
     let least = kernel_of(alloc, 1, set(0, RExpr::Number(0), AssignOp::Set, value))?;
     assert_eq!(rt;
-        check(alloc, &least, &[mode(Access::Min, 1)]),
+        judged(&rt, alloc, &least, &[mode(Access::Min, 1)]),
         Ok(()),
         "a minimum"
     );
     assert_eq!(rt;
-        check(alloc, &least, &[mode(Access::Max, 1)]),
+        judged(&rt, alloc, &least, &[mode(Access::Max, 1)]),
         Err(AccessRefusal::MinMaxForm { at: at(5) }),
         "as a maximum"
     );
     assert_eq!(rt;
-        check(alloc, &least, &[mode(Access::Write, 1)]),
+        judged(&rt, alloc, &least, &[mode(Access::Write, 1)]),
         Err(AccessRefusal::ReadsUnwritten { at: at(9) }),
         "as OP_WRITE"
     );
@@ -133,12 +147,12 @@ fn limit_of_work(rt: HostRuntime) -> Result<(), AllocError> {
     };
     let kernel = kernel_of(alloc, 1, outer)?;
     assert_eq!(rt;
-        check(alloc, &kernel, &[mode(Access::Write, 64)]),
+        judged(&rt, alloc, &kernel, &[mode(Access::Write, 64)]),
         Ok(()),
         "each component, many times"
     );
     assert_eq!(rt;
-        check(alloc, &kernel, &[mode(Access::Write, 63)]),
+        judged(&rt, alloc, &kernel, &[mode(Access::Write, 63)]),
         Err(AccessRefusal::LiteralIndexOut { at: at(5) }),
         "one too many"
     );

@@ -4,6 +4,7 @@ use Rattle.access_check.specs.Agree.{CountersFit}
 use Rattle.access_check.specs.Modes.{model_of}
 use Rattle.access_check.specs.Found.{found_of}
 use Rattle.access_check.proofs.Ends.{counters_fit}
+use Rattle.access_check.proofs.Refused.{refused_disobeys}
 use Rattle.access_check.proofs.checking.check.Goals as goal
 
 pub found_in-requires-clause-fits : goal.found_in-requires-clause-fits
@@ -17,3 +18,9 @@ returns-clause-refused c =
     let k = c.args.kernel.now in
     let modes = map model_of c.args.modes.now in
     c.refusal_of.ensures k modes (subst (λ f. IsFound f k modes) (sym c.found_in.ensures ∙ ap found_of c.in-Some.is) (c.walk_finds.ensures k modes))
+
+pub returns-clause-disobeys : goal.returns-clause-disobeys
+returns-clause-disobeys c =
+    let k = c.args.kernel.now in
+    let modes = map model_of c.args.modes.now in
+    refused_disobeys c.rules_are_broken.ensures.obeys k modes c.refusal_of.result (c.refusal_of.ensures k modes (subst (λ f. IsFound f k modes) (sym c.found_in.ensures ∙ ap found_of c.in-Some.is) (c.walk_finds.ensures k modes)))
