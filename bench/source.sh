@@ -1,6 +1,7 @@
 #!/bin/sh
 # Times `op2 run` on sources of doubling size, and shows each run's peak memory. The sources have kernels with statements of
 # every form, up to the 1 MiB that a source may have; the program reads them and answers that it can't run them yet.
+# Then times reading a source of 1 MiB with 100,000 names, and resolving them (crates/name_bench).
 # Usage: bench/source.sh [BYTES ..]     (131072 262144 524288 1048576 where none is given)
 here=$(CDPATH= cd -- "$(dirname -- "$0")/.." && pwd) || exit 1
 work=$(mktemp -d) || exit 1
@@ -34,3 +35,32 @@ peak = resource.getrusage(resource.RUSAGE_CHILDREN).ru_maxrss
 print(f"{length} bytes, {count} kernels: status {status}, {time.time() - begun:.2f} s, {peak / 1024:.0f} MiB at the peak")
 PY
 done
+program=$here/crates/name_bench/out/name_bench
+if [ ! -x "$program" ]; then
+    echo 'building: each crate is proved first' >&2
+    (cd "$here/crates/name_bench" && rt run -- data/source.c 1) >/dev/null 2>&1 </dev/null
+fi
+python3 - "$program" "$work/names.c" <<'PY'
+import subprocess, sys, time
+program, source = sys.argv[1:]
+names, length, parts = 100000, 0, []
+for number in range(0, names, 10):
+    parts.append("int " + ", ".join(f"n{k}" for k in range(number, number + 10)) + ";\n")
+parts.append("int main(int argc, char **argv) {\n")
+length = sum(map(len, parts))
+uses, end = 0, "op_exit();\n}\n"
+while length + 24 + len(end) < 1048576:
+    part = f"n{uses * 7919 % names} = n{uses * 104729 % names};\n"
+    parts.append(part)
+    length += len(part)
+    uses += 1
+with open(source, "w") as file:
+    file.write("".join(parts) + end)
+def spent(times):
+    begun = time.time()
+    subprocess.check_call([program, source, str(times)], stdout=subprocess.DEVNULL)
+    return time.time() - begun
+read = min(spent(0) for _ in range(3))
+resolved = min(spent(4) for _ in range(3))
+print(f"{length + len(end)} bytes, {names} names, {2 * uses} uses: read in {read:.3f} s, resolved in {(resolved - read) / 4:.3f} s")
+PY

@@ -11,3 +11,4 @@ pub mod Apart
 pub mod OneStep
 pub mod Outcomes
 pub mod Turns
+mod Order

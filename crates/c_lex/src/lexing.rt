@@ -1,9 +1,10 @@
 // The tokens of the bytes.
 
-ghost use Rattle.std.specs.Prelude.{◌≡◌, ◌+◌, ◌<◌, ◌^◌, ◌&&◌, length, slice_index, List, ℕ};
+ghost use Rattle.std.specs.Prelude.{◌≡◌, ◌+◌, ◌<◌, ◌^◌, ◌&&◌, length, map, slice_index, List, ℕ};
 ghost use Rattle.c_lex.specs.Spelling.{part};
 ghost use Rattle.c_lex.specs.Lexed.{Outcome, Lexes, is_number as number_kind};
 ghost use Rattle.c_lex.specs.Answered.{Answers};
+ghost use Rattle.c_lex.specs.Order.{AreInOrder};
 
 use crate::classes::is_part;
 use crate::front::{Front, at_front};
@@ -28,6 +29,11 @@ pub fn lex(alloc: Global, bytes: &[u8]) -> Result<Vec<Token>, LexRefusal>
 /// A law: the bytes of a source have one outcome, their tokens or a refusal.
 pub fn one_outcome()
     ensures { (bytes : List ℕ) (a b : Outcome) → Lexes bytes a → Lexes bytes b → a ≡ b }
+{}
+
+/// A law: of two tokens of a source, the one with the lower number stands at the earlier place.
+pub fn tokens_in_order()
+    ensures { (bytes : List ℕ) (tokens : List Token) → Lexes bytes (Ok tokens) → AreInOrder (map (λ t. t.at) tokens) }
 {}
 
 // What the bytes have.

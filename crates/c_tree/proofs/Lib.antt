@@ -3,3 +3,4 @@ pub mod ShownExprs
 pub mod ShownStmts
 pub mod ShownCalls
 pub mod Shown
+pub mod Kept

@@ -3,7 +3,8 @@ use Rattle.std.proofs.Common.{◌≡◌, ℕ, zero, suc, ◌≤◌, List, [], �
 use Rattle.c_lex.specs.declared.tokens.Pos.{Pos}
 use Rattle.kernel_types.specs.declared.kernels.RKernel.{RKernel}
 use Rattle.kernel_model.specs.Obeys.{Mode, mode_at, Event, Reads, Assigns, Adds, Changes, Owns, Merges, events, no_counters, Assigned, Allowed, after_event, AllAllowed, assigned_after, KernelObeys}
-use Rattle.kernel_model.specs.Refusals.{Rule, WritesRead, ReadsReduced, NotSum, ReadsUnwritten, NotAllWritten, IndexNotStatic, IndexOut, NotExtremum, number_of, argument_of, place_of, Breaks, KernelBreaks, IsEarlier, ObeysUnlessBroken, OneRefusal}
+use Rattle.c_lex.specs.Order.{IsEarlier}
+use Rattle.kernel_model.specs.Refusals.{Rule, WritesRead, ReadsReduced, NotSum, ReadsUnwritten, NotAllWritten, IndexNotStatic, IndexOut, NotExtremum, number_of, argument_of, place_of, Breaks, KernelBreaks, ObeysUnlessBroken, OneRefusal}
 use Rattle.kernel_model.proofs.Paths.{allowed_back}
 use Rattle.kernel_model.proofs.BrokenRules.{Fits, has_assigned, breaks_none, fits_or}
 

@@ -2,6 +2,7 @@
 use Rattle.std.specs.Prelude.{◌≡◌, ℕ, ℤ, pos, negsuc, ◌<◌, ◌≤◌, List, [], ◌∷◌, ◌++◌, Bool, true, false, Option, Some, None, ◌⊎◌, ◌↔◌}
 use Rattle.std.specs.Prelude.{slice_index_or}
 use Rattle.c_lex.specs.declared.tokens.Pos.{Pos}
+use Rattle.c_lex.specs.Order.{IsEarlier}
 use Rattle.c_tree.specs.declared.expressions.MinMax.{MinMax}
 use Rattle.c_tree.specs.declared.expressions.MinMax.TheVariants as min_max
 use Rattle.reductions.specs.Reduction.{Reduction, Add, Min, Max}
@@ -160,10 +161,6 @@ parameter_place k a = slice_index_or k.body.param_places.items a (record { line 
 -- the kernel breaks the rule at that place
 abbrev pub KernelBreaks : RKernel → List Mode → Rule → Pos → Type 0
 KernelBreaks k modes rule at = EventBreaks k.body.statement modes rule at ⊎ EndBreaks k.body.statement (parameter_place k) modes rule at
-
--- an earlier place in the source
-abbrev pub IsEarlier : Pos → Pos → Type 0
-IsEarlier p q = (p.line < q.line) ⊎ ((p.line ≡ q.line) × (p.column < q.column))
 
 -- the refusal of a kernel: of all rules that it breaks, that at the earliest place, and there the one with the least number
 pub record IsRefusal (k : RKernel) (modes : List Mode) (rule : Rule) (at : Pos) : Type 0 where
