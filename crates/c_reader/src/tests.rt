@@ -303,7 +303,10 @@ fn nests_up_to_64_levels(rt: HostRuntime) -> Result<(), Fail> {
         ("void f(int *p) {", "if (1) ", 64, 464),
     ] {
         let source = repeated(alloc, [before, open, "", "", ""], count)?;
-        assert!(rt; is_syntax_at(alloc, source.as_str(), 1, end + 1), "{before}");
+        assert!(rt;
+            is_syntax_at(alloc, source.as_str(), 1, end + 1),
+            "{before}"
+        );
     }
     Ok(())
 }

@@ -59,7 +59,7 @@ abbrev pub receive_reversed : List Step
 receive_reversed =
     nodes
     ++ ((Send 1 0 1 ∷ Send 1 1 0 ∷ Begin 1 0 1 ∷ Recv 1 0 1 ∷ Recv 1 1 0 ∷ [])
-        ++ ((End 1 0 1 ∷ Begin 1 0 0 ∷ End 1 0 0 ∷ []) ++ (edges_on_1 ++ joins)))
+    ++ ((End 1 0 1 ∷ Begin 1 0 0 ∷ End 1 0 0 ∷ []) ++ (edges_on_1 ++ joins)))
 
 -- rule 5: an end before its begin
 abbrev pub end_reversed : List Step

@@ -46,9 +46,9 @@ pub record LoopParts {F : Type 0} (p : Setup F) : Type 0 where
       → p.program.kind k ≡ Free
       → p.reduces (p.program.site k) v ≡ Some o
       → (a : ℕ)
-        × (a < args (p.program.site k))
-        × (arg (p.program.site k) a ≡ Global v.variable (OpReduce o))
-        × (v.component < width v.variable)
+      × (a < args (p.program.site k))
+      × (arg (p.program.site k) a ≡ Global v.variable (OpReduce o))
+      × (v.component < width v.variable)
   -- the touch of a cell is that of the arguments that reach it; a constant is read at most
   pub touch_is : (k e : ℕ) (c : DatCell)
       → p.program.kind k ≡ Free
@@ -71,11 +71,11 @@ pub record LoopParts {F : Type 0} (p : Setup F) : Type 0 where
       → is_on d (arg (p.program.site k) b) ≡ true
       → modifying (access_of (arg (p.program.site k) b)) ≡ true
       → ((o : Reduction)
-         × ((a : ℕ)
-            → a < args (p.program.site k)
-            → is_on d (arg (p.program.site k) a) ≡ true
-            → access_of (arg (p.program.site k) a) ≡ OpReduce o))
-        ⊎ ((a : ℕ) → a < args (p.program.site k) → is_on d (arg (p.program.site k) a) ≡ true → is_direct (arg (p.program.site k) a) ≡ true)
+      × ((a : ℕ)
+      → a < args (p.program.site k)
+      → is_on d (arg (p.program.site k) a) ≡ true
+      → access_of (arg (p.program.site k) a) ≡ OpReduce o))
+      ⊎ ((a : ℕ) → a < args (p.program.site k) → is_on d (arg (p.program.site k) a) ≡ true → is_direct (arg (p.program.site k) a) ≡ true)
   pub modifies_is : (k a d : ℕ)
       → p.program.kind k ≡ Free
       → a < args (p.program.site k)
@@ -84,9 +84,9 @@ pub record LoopParts {F : Type 0} (p : Setup F) : Type 0 where
       → p.modifies k d ≡ true
   pub modifies_only : (k d : ℕ) → p.program.kind k ≡ Free → p.modifies k d ≡ true
       → (a : ℕ)
-        × (a < args (p.program.site k))
-        × (is_on d (arg (p.program.site k) a) ≡ true)
-        × (modifying (access_of (arg (p.program.site k) a)) ≡ true)
+      × (a < args (p.program.site k))
+      × (is_on d (arg (p.program.site k) a) ≡ true)
+      × (modifying (access_of (arg (p.program.site k) a)) ≡ true)
   pub scatters_is : (k a d m i : ℕ) (o : Reduction)
       → p.program.kind k ≡ Free
       → a < args (p.program.site k)

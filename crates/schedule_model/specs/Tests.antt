@@ -23,16 +23,16 @@ same_cell_refl (Variable c) =
 pub same_cell_true : (c d : Cell) → same_cell c d ≡ true → c ≡ d
 same_cell_true (Data c) (Data d) h =
     let x : ((c.dat == d.dat) ≡ true) × (((c.element == d.element) && (c.component == d.component)) ≡ true)
-        = and_parts (c.dat == d.dat) ((c.element == d.element) && (c.component == d.component)) h in
+    = and_parts (c.dat == d.dat) ((c.element == d.element) && (c.component == d.component)) h in
     let y : ((c.element == d.element) ≡ true) × ((c.component == d.component) ≡ true)
-        = and_parts (c.element == d.element) (c.component == d.component) x.1 in
+    = and_parts (c.element == d.element) (c.component == d.component) x.1 in
     let a : c.dat ≡ d.dat = eqb-true c.dat d.dat x.0 in
     let b : c.element ≡ d.element = eqb-true c.element d.element y.0 in
     let e : c.component ≡ d.component = eqb-true c.component d.component y.1 in
     ap Data (λ i. record { dat = a i; element = b i; component = e i })
 same_cell_true (Variable c) (Variable d) h =
     let x : ((c.variable == d.variable) ≡ true) × ((c.component == d.component) ≡ true)
-        = and_parts (c.variable == d.variable) (c.component == d.component) h in
+    = and_parts (c.variable == d.variable) (c.component == d.component) h in
     let a : c.variable ≡ d.variable = eqb-true c.variable d.variable x.0 in
     let b : c.component ≡ d.component = eqb-true c.component d.component x.1 in
     ap Variable (λ i. record { variable = a i; component = b i })
