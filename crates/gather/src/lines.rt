@@ -1,17 +1,16 @@
 // What is printed of a text and its values (`op_printf` of the OP2 C API, with `%d` and `%%` of ISO C's `printf`).
-ghost use Rattle.std.specs.Prelude.{◌≡◌, ◌<◌, ◌≤◌, ◌++◌, ℤ, List, Some, length, drop, OnOk, OnErr};
-ghost use Rattle.mesh_decl.specs.Printed.{conversions, printed_line, shown};
+ghost use Rattle.std.specs.Prelude.{◌≡◌, ◌<◌, ◌≤◌, ◌++◌, ℤ, List, length, drop, OnOk, OnErr};
+ghost use Rattle.mesh_decl.specs.Printed.{printed_line, shown};
 ghost use Rattle.gather.specs.Grows.{Grows};
 ghost use Rattle.gather.specs.Pieces.{begins, piece_text, piece_len, piece_values};
 
 use op_num::{OutOfMemory, Text, put_i32};
 
-/// Appends what `op_printf` prints of the text: each `%d` is the next of the values, and each `%%` a `%`. In the text every
-/// `%` is one of these, and there are as many values as `%d`.
+/// Appends what `op_printf` prints of the text: each `%d` is the next of the values, and each `%%` a `%`. A bound program has
+/// as many values as `%d`; where values are wanting, a `%d` prints nothing.
 ///
 /// Want of memory leaves `out` as it was.
 pub fn print_line(out: &mut Vec<u8>, text: &Text, values: &[i32]) -> Result<(), OutOfMemory>
-    requires { conversions text.now ≡ Some (length values.now) }
     ensures ok { OnOk result (out.new.items ≡ out.old.items ++ printed_line text.now values.now) }
     ensures err { OnErr result (out.new.items ≡ out.old.items) }
 {
