@@ -1,0 +1,18 @@
+//! Programs bound to a mesh: the sets, maps, dats and variables of a source, its loops with their arguments, and the list of
+//! what its `main` does.
+//!
+//! What every bound program keeps is `Fits`, in `specs/Fits.antt`. Plans, schedules and runs stand on these types alone.
+#![tactic(auto)]
+
+mod acts;
+mod classes;
+mod programs;
+mod sites;
+
+pub use acts::{Act, Item};
+pub use classes::{class_of, is_access};
+pub use kernel_types::{AssignOp, ElementForm, Name, Pos, RExpr, RKernel};
+pub use mesh_decl::{Access, Mesh, Via};
+pub use op_num::Text;
+pub use programs::{Bound, Var};
+pub use sites::{Arg, Class, Site};

@@ -1,0 +1,107 @@
+-- Every bound program fits.
+use Rattle.std.proofs.Common.{◌≡◌, ℕ, List, [], Ok, Err, refl, sym, subst}
+use Rattle.std.specs.Prelude.{All, None}
+use Rattle.std.proofs.lemmas.List.Elements.{All-nil}
+use Rattle.c_tree.specs.Tree.{ProgramTree}
+use Rattle.kernel_types.specs.declared.kernels.ConstDecl.{ConstDecl}
+use Rattle.kernel_types.specs.declared.kernels.Resolved.{Resolved}
+use Rattle.mesh_text.specs.Spelling.{Named}
+use Rattle.bound_program.specs.Values.{BoundValue}
+use Rattle.bind_refusals.specs.Refusals.{Judged}
+use Rattle.bound_program.specs.Limits.{max_trace}
+use Rattle.main_names.specs.SoFar.{Declared, Walked, quiet, nothing_declared}
+use Rattle.main_text.specs.Text.{outermost, judged_hosts}
+use Rattle.main_declarations.specs.File.{judged_tops}
+use Rattle.loop_bind.specs.Weights.{trace}
+use Rattle.loop_bind.specs.Bound.{text, happens, finished, unrolled_text, bound}
+use Rattle.loop_bind.specs.Constants.{FileVariable, file_variables, all_constant_names}
+use Rattle.bound_program.specs.Fits.{Fits, KernelFits}
+use Rattle.loop_bind.specs.Resolvable.{IsResolvedSource, BoundProgramsFit}
+use Rattle.loop_bind.proofs.FitsJudged.{Gives, gives_then}
+use Rattle.loop_bind.proofs.FitsState.{so_far}
+use Rattle.loop_bind.proofs.FitsTargets.{AllAssignVariables, MainAssignsVariables}
+use Rattle.loop_bind.proofs.FitsScopeWalk.{Scoped, tops_scoped, hosts_assign}
+use Rattle.loop_bind.specs.Assigned.{after_tops}
+use Rattle.loop_bind.proofs.FitsMain.{Walks}
+use Rattle.loop_bind.proofs.FitsTrace.{Unrolls, Last}
+use Rattle.loop_bind.proofs.FitsTold.{all_one}
+use Rattle.loop_bind.proofs.FitsBound.{Parts, text_walks, walk_unrolls, finished_fits}
+use Rattle.loop_bind.proofs.FitsFileConsts.{EntryNamed, FileConsts, tops_are_consts}
+use Rattle.loop_bind.proofs.FitsMainConsts.{EntryOfMain, MainConsts}
+use Rattle.loop_bind.proofs.FitsConstWalk.{Have, hosts_go}
+use Rattle.loop_bind.proofs.FitsConstants.{Match, tagged_match, match_told, constants_fit, kernels_fit}
+
+module _ (p : ProgramTree) (r : Resolved) (es : List Named) (h : IsResolvedSource p r es) where
+  abbrev cs : List ConstDecl
+  cs = r.consts.items
+
+  abbrev fs : List FileVariable
+  fs = file_variables p.tops
+
+  abbrev done : List (List ℕ)
+  done = all_constant_names p.main.body
+
+  -- ---- the constants behind the text
+
+  no_file : FileConsts cs [] nothing_declared
+  no_file = record { tagged = tt; long = refl; file = All-nil (EntryNamed cs []); own = refl }
+
+  begins : (k : Declared) → FileConsts cs fs k → MainConsts cs fs h.apart [] k
+  begins k f = record { tagged = f.tagged; file = f.file; own = subst (All EntryOfMain) (sym f.own) (All-nil EntryOfMain) }
+
+  text_constants : Gives (Have cs fs h.apart p.places es done) (text p r es)
+  text_constants =
+      gives_then (FileConsts cs fs) (Have cs fs h.apart p.places es done) (judged_tops p.places cs es nothing_declared p.tops) (λ k. judged_hosts p.places cs es (quiet k) outermost p.main.body)
+      (tops_are_consts cs p.places es [] nothing_declared p.tops no_file)
+      (λ k f. hosts_go cs fs h.apart p.places es [] (quiet k) outermost p.main.body (begins k f))
+
+  -- ---- what is assigned
+
+  no_names : Scoped [] [] nothing_declared
+  no_names = record { file = tt; own = tt }
+
+  assigns : MainAssignsVariables p r es
+  assigns = go (judged_tops p.places cs es nothing_declared p.tops) (tops_scoped p.places cs es [] [] nothing_declared p.tops no_names)
+    where
+      by_file : Judged Declared → Type 0
+      by_file (Ok k) = AllAssignVariables p.places cs es (quiet k) outermost p.main.body
+      by_file (Err e) = Unit {0}
+
+      go : (j : Judged Declared) → Gives (Scoped (after_tops [] p.tops) []) j → by_file j
+      go (Ok k) g = hosts_assign p.places cs es (after_tops [] p.tops) [] (quiet k) outermost p.main.body g h.assigns
+      go (Err e) g = tt
+
+  -- ---- the whole
+
+  record Whole (w : Walked) : Type 0 where
+    walks : Walks r.kernels.items es w
+    constants : MainConsts cs fs h.apart done w.declared
+
+  both : (j : Judged Walked) → Gives (Walks r.kernels.items es) j → Gives (Have cs fs h.apart p.places es done) j → Gives Whole j
+  both (Ok w) a b = record { walks = a; constants = b }
+  both (Err e) a b = tt
+
+  fits_are : (b : BoundValue) → b.kernels ≡ r.kernels.items → Parts b → Match b.vars cs → Fits b
+  fits_are b same parts m = record {
+    mesh = parts.mesh;
+    kernels = subst (All (KernelFits b)) (sym same) (kernels_fit b cs h.resolved.consts m r.kernels.items h.resolved.kernels h.uses);
+    constants = constants_fit b cs h.resolved.consts m;
+    sites = parts.sites;
+    items = parts.items;
+    last = parts.last;
+    few = parts.few;
+  }
+
+  whole_fits : (w : Walked) → Whole w → Gives Fits (unrolled_text r w)
+  whole_fits w i =
+      gives_then (λ u. Unrolls (so_far r.kernels.items w.declared) None max_trace u × Last u) Fits (trace w.declared.mesh (happens w)) (λ u. Ok (finished r w.declared u)) (walk_unrolls p r es w i.walks)
+      (λ u j. fits_are (finished r w.declared u) refl (finished_fits p r es w.declared u i.walks.lawful j.0 j.1)
+      (match_told u.values w.declared.vars cs (all_one (so_far r.kernels.items w.declared) u.values j.0.values)
+      (tagged_match cs done fs w.declared.vars cs i.constants.tagged h.constants h.found)))
+
+  all_fit : Gives Fits (bound p r es)
+  all_fit =
+      gives_then Whole Fits (text p r es) (unrolled_text r) (both (text p r es) (text_walks p r es h.takes h.tops h.body h.entries assigns) text_constants) whole_fits
+
+pub bound_programs_fit : BoundProgramsFit
+bound_programs_fit p r es b h e = subst (Gives Fits) e (all_fit p r es h)

@@ -1,0 +1,219 @@
+-- The values of expressions of `main` are numbers of 32 bits, and what is left of an expression names cells alone.
+use Rattle.std.proofs.Common.{◌≡◌, ℕ, zero, suc, ℤ, pos, ◌+◌, ◌<◌, ◌≤◌, ◌^◌, List, [], ◌∷◌, ◌++◌, Ok, Err, Bool, true, false, cond, sym, subst, arith, FitsSigned, w32, to_z}
+use Rattle.std.specs.Prelude.{slice_index_or, int_rem, unsigned_abs, Result}
+use Rattle.std.proofs.lemmas.Int.{SFits-int_wrap, quot-rem, ints}
+use borrow.Author.Differences.{fits_in, read_fits}
+use lib.Signed.{mag_rem, mag_shr}
+use Rattle.c_lex.specs.declared.tokens.Pos.{Pos}
+use Rattle.op_num.specs.declared.refusals.Fault.TheVariants.{DivZero, ShiftCount}
+use Rattle.op_num.specs.Wrapping.{remainder}
+use Rattle.c_tree.specs.declared.expressions.BinaryOp.{BinaryOp}
+use Rattle.c_tree.specs.declared.expressions.BinaryOp.TheVariants as binary
+use Rattle.c_tree.specs.declared.expressions.UnaryOp.{UnaryOp}
+use Rattle.c_tree.specs.declared.expressions.UnaryOp.TheVariants as unary
+use Rattle.kernel_types.specs.declared.faults.KernelFault.{KernelFault}
+use Rattle.reductions.proofs.Laws.{commuting}
+use Rattle.kernel_model.specs.Numbers.{Value, fault, truth, is_zero, is_shift, is_settled, apply, apply_unary, magnitude, reduction_of, unless_zero, if_shift, sum, difference, product, quotient, rest, shifted_left, shifted_right, and_bits, or_bits, xor_bits, complement, negated}
+use Rattle.kernel_model.specs.Meaning.{and_then, index_in}
+use Rattle.bound_program.specs.HostExpr.{HostExpr, Number, Scalar, Told, Element, Unary, Binary, Choice, Paren, Extremum, Absolute, value, closed}
+use Rattle.bound_program.specs.Values.{BoundValue}
+use Rattle.bound_program.specs.Fits.{all_cells, HostWithin}
+
+abbrev pub Num : ℤ → Type 0
+Num z = FitsSigned w32 z
+
+pub zero_is_num : Num (pos 0)
+zero_is_num = record { sfits = omega arith }
+
+-- ---- operators
+
+read_is_num : (n : ℕ) → Num (to_z w32 n)
+read_is_num n = omega (arith, fits_in, read_fits w32 n)
+
+truth_is_num : (b : Bool) → Num (truth b)
+truth_is_num true = record { sfits = omega arith }
+truth_is_num false = record { sfits = omega arith }
+
+sum_is_num : (x y : ℤ) → Num (sum x y)
+unfolding sum
+sum_is_num x y = SFits-int_wrap w32 _
+
+difference_is_num : (x y : ℤ) → Num (difference x y)
+unfolding difference
+difference_is_num x y = SFits-int_wrap w32 _
+
+product_is_num : (x y : ℤ) → Num (product x y)
+unfolding product
+product_is_num x y = SFits-int_wrap w32 _
+
+quotient_is_num : (x y : ℤ) → Num (quotient x y)
+unfolding quotient
+quotient_is_num x y = SFits-int_wrap w32 _
+
+shifted_left_is_num : (x y : ℤ) → Num (shifted_left x y)
+unfolding shifted_left
+shifted_left_is_num x y = SFits-int_wrap w32 _
+
+negated_is_num : (x : ℤ) → Num (negated x)
+unfolding negated
+negated_is_num x = SFits-int_wrap w32 _
+
+magnitude_is_num : (x : ℤ) → Num (magnitude x)
+unfolding magnitude
+magnitude_is_num x = SFits-int_wrap w32 _
+
+remainder_is : (x y : ℤ) → remainder x y ≡ int_rem x y
+remainder_is x y = omega (arith, ints, quot-rem x y)
+
+int_rem_is_num : (x y : ℤ) → Num x → Num (int_rem x y)
+int_rem_is_num x y f = record { sfits = omega (arith, mag_rem x y, f.sfits) }
+
+rest_is_num : (x y : ℤ) → Num x → Num (rest x y)
+unfolding rest
+rest_is_num x y f = subst (FitsSigned w32) (sym (remainder_is x y)) (int_rem_is_num x y f)
+
+shifted_right_is_num : (x y : ℤ) → Num x → Num (shifted_right x y)
+unfolding shifted_right
+shifted_right_is_num x y f = record { sfits = omega (arith, mag_shr x (2 ^ unsigned_abs y), f.sfits) }
+
+and_is_num : (x y : ℤ) → Num (and_bits x y)
+unfolding and_bits
+and_is_num x y = read_is_num _
+
+or_is_num : (x y : ℤ) → Num (or_bits x y)
+unfolding or_bits
+or_is_num x y = read_is_num _
+
+xor_is_num : (x y : ℤ) → Num (xor_bits x y)
+unfolding xor_bits
+xor_is_num x y = read_is_num _
+
+complement_is_num : (x : ℤ) → Num (complement x)
+unfolding complement
+complement_is_num x = read_is_num _
+
+abbrev pub OkNum : Value → Type 0
+OkNum (Ok v) = Num v
+OkNum (Err f) = Unit {0}
+
+unless_zero_num : (d v : ℤ) (at : Pos) → Num v → OkNum (unless_zero d at v)
+unless_zero_num d v at f = pick (is_zero d)
+  where
+    pick : (b : Bool) → OkNum (cond b (Err (fault DivZero at)) (Ok v))
+    pick true = tt
+    pick false = f
+
+if_shift_num : (n v : ℤ) (at : Pos) → Num v → OkNum (if_shift n at v)
+if_shift_num n v at f = pick (is_shift n)
+  where
+    pick : (b : Bool) → OkNum (cond b (Ok v) (Err (fault ShiftCount at)))
+    pick true = f
+    pick false = tt
+
+apply_num : (op : BinaryOp) (at : Pos) (x y : ℤ) → Num x → Num y → OkNum (apply op at x y)
+apply_num binary.LogicalOr at x y f g = truth_is_num _
+apply_num binary.LogicalAnd at x y f g = truth_is_num _
+apply_num binary.BitOr at x y f g = or_is_num x y
+apply_num binary.BitXor at x y f g = xor_is_num x y
+apply_num binary.BitAnd at x y f g = and_is_num x y
+apply_num binary.Equal at x y f g = truth_is_num _
+apply_num binary.NotEqual at x y f g = truth_is_num _
+apply_num binary.Less at x y f g = truth_is_num _
+apply_num binary.Greater at x y f g = truth_is_num _
+apply_num binary.LessEqual at x y f g = truth_is_num _
+apply_num binary.GreaterEqual at x y f g = truth_is_num _
+apply_num binary.ShiftLeft at x y f g = if_shift_num y (shifted_left x y) at (shifted_left_is_num x y)
+apply_num binary.ShiftRight at x y f g = if_shift_num y (shifted_right x y) at (shifted_right_is_num x y f)
+apply_num binary.Add at x y f g = sum_is_num x y
+apply_num binary.Sub at x y f g = difference_is_num x y
+apply_num binary.Mul at x y f g = product_is_num x y
+apply_num binary.Div at x y f g = unless_zero_num y (quotient x y) at (quotient_is_num x y)
+apply_num binary.Rem at x y f g = unless_zero_num y (rest x y) at (rest_is_num x y f)
+
+unary_num : (op : UnaryOp) (x : ℤ) → Num x → Num (apply_unary op x)
+unary_num unary.Minus x f = negated_is_num x
+unary_num unary.Plus x f = f
+unary_num unary.Not x f = truth_is_num _
+unary_num unary.Complement x f = complement_is_num x
+
+-- ---- expressions
+
+-- the numbers of an expression are of 32 bits, and the cells that it names are among so many
+abbrev pub Within : ℕ → HostExpr → Type 0
+Within n (Number z) = Num z
+Within n (Scalar k) = k < n
+Within n (Told k) = Unit {0}
+Within n (Element from count form e at) = (from + count ≤ n) × Within n e
+Within n (Unary op e) = Within n e
+Within n (Binary op x y at) = Within n x × Within n y
+Within n (Choice c x y) = Within n c × Within n x × Within n y
+Within n (Paren e) = Within n e
+Within n (Extremum which x y) = Within n x × Within n y
+Within n (Absolute e) = Within n e
+
+pub within_more : (n m : ℕ) → n ≤ m → (e : HostExpr) → Within n e → Within m e
+within_more n m l (Number z) h = h
+within_more n m l (Scalar k) h = omega (arith, l, h)
+within_more n m l (Told k) h = tt
+within_more n m l (Element from count form e at) h = (omega (arith, l, h.0), within_more n m l e h.1)
+within_more n m l (Unary op e) h = within_more n m l e h
+within_more n m l (Binary op x y at) h = (within_more n m l x h.0, within_more n m l y h.1)
+within_more n m l (Choice c x y) h = (within_more n m l c h.0, within_more n m l x h.1, within_more n m l y h.2)
+within_more n m l (Paren e) h = within_more n m l e h
+within_more n m l (Extremum which x y) h = (within_more n m l x h.0, within_more n m l y h.1)
+within_more n m l (Absolute e) h = within_more n m l e h
+
+abbrev pub Nums : List ℤ → Type 0
+Nums zs = (k : ℕ) → Num (slice_index_or zs k (pos 0))
+
+pub no_nums : Nums []
+no_nums k = zero_is_num
+
+pub more_nums : (zs : List ℤ) (z : ℤ) → Nums zs → Num z → Nums (zs ++ z ∷ [])
+more_nums [] z h f zero = f
+more_nums [] z h f (suc k) = zero_is_num
+more_nums (x ∷ xs) z h f zero = h zero
+more_nums (x ∷ xs) z h f (suc k) = more_nums xs z (λ j. h (suc j)) f k
+
+num_then : (r : Value) (go : ℤ → Value) → OkNum r → ((x : ℤ) → Num x → OkNum (go x)) → OkNum (and_then r go)
+num_then (Ok x) go f h = h x f
+num_then (Err e) go f h = tt
+
+index_then : (r : Result ℕ KernelFault) (go : ℕ → Value) → ((i : ℕ) → OkNum (go i)) → OkNum (and_then r go)
+index_then (Ok i) go h = h i
+index_then (Err e) go h = tt
+
+num_cond : (b : Bool) (x y : Value) → OkNum x → OkNum y → OkNum (cond b x y)
+num_cond true x y f g = f
+num_cond false x y f g = g
+
+pub value_num : (n : ℕ) (told cells : List ℤ) → Nums told → Nums cells → (e : HostExpr) → Within n e → OkNum (value told cells e)
+value_num n told cells t c (Number z) w = w
+value_num n told cells t c (Scalar k) w = c k
+value_num n told cells t c (Told k) w = t k
+value_num n told cells t c (Element from count form e at) w =
+    num_then (value told cells e) _ (value_num n told cells t c e w.1) (λ z f. index_then (index_in count at z) _ (λ i. c (from + i)))
+value_num n told cells t c (Unary op e) w = num_then (value told cells e) _ (value_num n told cells t c e w) (λ x f. unary_num op x f)
+value_num n told cells t c (Binary op l r at) w =
+    num_then (value told cells l) _ (value_num n told cells t c l w.0)
+    (λ x f. num_cond (is_settled op x) _ _ (truth_is_num _) (num_then (value told cells r) _ (value_num n told cells t c r w.1) (λ y g. apply_num op at x y f g)))
+value_num n told cells t c (Choice d x y) w =
+    num_then (value told cells d) _ (value_num n told cells t c d w.0) (λ z f. num_cond (is_zero z) _ _ (value_num n told cells t c y w.2) (value_num n told cells t c x w.1))
+value_num n told cells t c (Paren e) w = value_num n told cells t c e w
+value_num n told cells t c (Extremum which x y) w =
+    num_then (value told cells x) _ (value_num n told cells t c x w.0)
+    (λ a f. num_then (value told cells y) _ (value_num n told cells t c y w.1) (λ b g. (commuting (reduction_of which)).fits a b f g))
+value_num n told cells t c (Absolute e) w = num_then (value told cells e) _ (value_num n told cells t c e w) (λ z f. magnitude_is_num z)
+
+-- with values in place of the names that are told later, an expression names cells alone
+pub closed_within : (b : BoundValue) (told : List ℤ) → Nums told → (e : HostExpr) → Within (all_cells b) e → HostWithin b (closed told e)
+closed_within b told t (Number z) w = w
+closed_within b told t (Scalar k) w = w
+closed_within b told t (Told k) w = t k
+closed_within b told t (Element from count form e at) w = (w.0, closed_within b told t e w.1)
+closed_within b told t (Unary op e) w = closed_within b told t e w
+closed_within b told t (Binary op x y at) w = (closed_within b told t x w.0, closed_within b told t y w.1)
+closed_within b told t (Choice c x y) w = (closed_within b told t c w.0, closed_within b told t x w.1, closed_within b told t y w.2)
+closed_within b told t (Paren e) w = closed_within b told t e w
+closed_within b told t (Extremum which x y) w = (closed_within b told t x w.0, closed_within b told t y w.1)
+closed_within b told t (Absolute e) w = closed_within b told t e w

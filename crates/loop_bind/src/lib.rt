@@ -1,0 +1,21 @@
+//! Programs bound to a mesh: `bind` gives the bound program of a source and the entries of a mesh text, or the first refusal.
+//!
+//! The text is judged in its order, then `main` is unrolled in the order of execution, then what it prints is weighed. The
+//! definition of all three is `bound`, in `specs/Bound.antt`.
+#![tactic(auto)]
+
+mod binding;
+mod laws;
+#[cfg(test)]
+mod tests;
+mod told;
+mod weights;
+
+pub use bind_refusals::{BindRefusal, Counted, first_is_answered};
+pub use binding::bind;
+pub use bound_program::{
+    Access, Act, Arg, AssignOp, Bound, Class, ElementForm, Item, Mesh, Name, Pos, RExpr, RKernel,
+    Site, Text, Var, Via, class_of,
+};
+pub use laws::{bound_programs_fit, resolved_names_hold};
+pub use main_trace::{host_value, host_values_are_kernel_values};

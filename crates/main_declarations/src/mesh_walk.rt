@@ -1,0 +1,360 @@
+// Declarations of sets, maps and dats.
+
+ghost use Rattle.std.specs.Prelude.{◌≡◌, ◌+◌, length, IfOk, OnOk};
+ghost use Rattle.c_tree.specs.View.{expr_of};
+ghost use Rattle.mesh_decl.specs.Mesh.{set_count, map_count, dat_count};
+ghost use Rattle.bound_program.specs.HostExpr.{host_expr_of};
+ghost use Rattle.main_names.specs.Names.{declare};
+ghost use Rattle.bind_refusals.specs.Refusals.{least_from, first_of, Judges};
+ghost use Rattle.main_names.specs.Expressions.{resolved};
+ghost use Rattle.main_declarations.specs.Declarations.{with_set, with_map, with_dat, size_found, size_of, set_decl_found, map_found, map_decl_found, dat_found, dat_decl_found, judged_set, judged_map, judged_dat};
+ghost use Rattle.main_names.specs.Walks.{declared_of};
+
+use crate::mesh_notes::{
+    awaited, note_cells, note_data, note_dim, note_place, note_set, note_targets, note_type,
+    note_value,
+};
+use bind_refusals::{BindRefusal, Counted, Found, Turn, note_if, note_over, place};
+use c_tree::{Expr, Ident, NumberLiteral, TextLiteral};
+use kernel_eval::KernelFault;
+use kernel_types::RExpr;
+use main_names::{
+    Declared, Meaning, Source, first_token, is_extern_array, is_static, known, or_zero, resolved,
+    set_of, values_named,
+};
+use main_trace::host_value;
+use op_num::OutOfMemory;
+use std::alloc::AllocError;
+
+const MAX_SETS: u64 = 64;
+
+const MAX_MAPS: u64 = 64;
+
+const MAX_DATS: u64 = 256;
+
+// What is wrong with the size of a set, which is this expression.
+fn note_size(
+    source: &Source<'_>,
+    first: &mut Option<Found>,
+    k: &Declared,
+    t: usize,
+    e: &Expr,
+    size: &RExpr,
+) -> Result<(), OutOfMemory>
+    requires { host_expr_of size.now ≡ resolved source.now.places.now (declared_of k.now).names (expr_of e.now) }
+    ensures { OnOk result (first.new ≡ least_from first.old (size_found source.now.places.now (declared_of k.now) t (expr_of e.now))) }
+{
+    let at = first_token(e);
+    if is_static(size) {
+        return note_value(source, first, k, t, at, host_value(size, &[], &[]));
+    }
+    let refusal = BindRefusal::ControlNotStatic {
+        at: place(source.places, at),
+    };
+    note_if(first, true, at, refusal);
+    Ok(())
+}
+
+// The size as a number; 0 where it is refused.
+fn size_of(source: &Source<'_>, value: Result<i32, KernelFault>) -> u32
+    ensures { result ≡ size_of source.now.places.now value }
+{
+    let _source = source;
+    match value {
+        Err(_) => 0,
+        Ok(z) => z.unsigned_abs(),
+    }
+}
+
+// One set more.
+fn add_set(k: &mut Declared, x: &Ident, size: u32) -> Result<(), OutOfMemory>
+    ensures { OnOk result (declared_of k.new ≡ record (declared_of k.old) { filled = k.old.filled + size; mesh = with_set x.now.name size k.old.mesh; names = declare x.now.name (Meaning.Set (set_count k.old.mesh)) (declared_of k.old).names }) }
+{
+    let Some(filled) = k.filled.checked_add(size as u64) else {
+        return Err(AllocError);
+    };
+    let number = k.mesh.add_set(x.name.clone()?, size)?;
+    k.filled = filled;
+    k.names.declare(&x.name, Meaning::Set(number))
+}
+
+// The first of what is wrong with the declaration of a set.
+#[tactic(auto, using(bind_refusals::proofs::Firsts::first_of_three))]
+fn first_in_set(
+    source: &Source<'_>,
+    k: &Declared,
+    is_nested: bool,
+    t: usize,
+    e: &Expr,
+    size: &RExpr,
+) -> Result<Option<Found>, OutOfMemory>
+    requires { host_expr_of size.now ≡ resolved source.now.places.now (declared_of k.now).names (expr_of e.now) }
+    ensures { IfOk result (λ f. f ≡ first_of (set_decl_found source.now.places.now (declared_of k.now) is_nested t (expr_of e.now))) }
+{
+    let mut first = None;
+    note_place(source, &mut first, k, is_nested, t);
+    note_over(
+        &mut first,
+        Turn::InOrder,
+        MAX_SETS,
+        k.mesh.set_count() as u64 + 1,
+        t,
+        Counted::Sets,
+    );
+    note_size(source, &mut first, k, t, e, size)?;
+    Ok(first)
+}
+
+/// `op_set x = op_decl_set(e, "..");`, its word at the token t.
+pub fn judged_set(
+    source: &Source<'_>,
+    k: &mut Declared,
+    is_nested: bool,
+    t: usize,
+    x: &Ident,
+    e: &Expr,
+) -> Result<(), BindRefusal>
+    ensures { Judges result (declared_of k.new) (judged_set source.now.places.now (declared_of k.old) is_nested t x.now (expr_of e.now)) }
+{
+    let size = resolved(source.alloc, source.places, &k.names, e)?;
+    let first = first_in_set(source, k, is_nested, t, e, &size)?;
+    if let Some(found) = first {
+        return Err(found.refusal);
+    }
+    let size = size_of(source, host_value(&size, &[], &[]));
+    add_set(k, x, size)?;
+    Ok(())
+}
+
+// What is wrong with a map between these sets, with these values.
+#[tactic(auto, using(bind_refusals::proofs::Firsts::least_append))]
+fn note_map(
+    source: &Source<'_>,
+    first: &mut Option<Found>,
+    k: &Declared,
+    t: usize,
+    from: &Ident,
+    to: &Ident,
+    n: NumberLiteral,
+    array: &Ident,
+) -> Result<(), OutOfMemory>
+    ensures { OnOk result (first.new ≡ least_from first.old (map_found source.now.places.now source.now.entries.now.entries (declared_of k.now) t from.now to.now n array.now)) }
+{
+    let dim = n.value.unsigned_abs();
+    let is_array = is_extern_array(k.names.means(&array.name));
+    let values = values_named(source.entries, &array.name);
+    let awaits = awaited(&k.mesh, set_of(k.names.means(&from.name)), dim);
+    let to_set = set_of(k.names.means(&to.name));
+    note_set(source, first, k, from);
+    note_set(source, first, k, to);
+    note_dim(source, first, n);
+    note_data(source, first, is_array, values, awaits, array);
+    note_targets(
+        source, first, &k.mesh, dim, array, is_array, values, awaits, to_set,
+    )?;
+    note_cells(
+        source,
+        first,
+        k.filled,
+        known(is_array, values).len() as u64,
+        t,
+    )
+}
+
+// One map more.
+fn add_map(
+    source: &Source<'_>,
+    k: &mut Declared,
+    x: &Ident,
+    from: u32,
+    to: u32,
+    dim: u32,
+    values: &[i32],
+) -> Result<(), OutOfMemory>
+    ensures { OnOk result (declared_of k.new ≡ record (declared_of k.old) { filled = k.old.filled + length values.now; mesh = with_map x.now.name from to dim values.now k.old.mesh; names = declare x.now.name (Meaning.Map (map_count k.old.mesh)) (declared_of k.old).names }) }
+{
+    let Some(filled) = k.filled.checked_add(values.len() as u64) else {
+        return Err(AllocError);
+    };
+    let count = k.mesh.set_count();
+    if dim == 0 || from >= count || to >= count {
+        return Err(AllocError);
+    }
+    if values.len() as u64 != k.mesh.set_size(from) as u64 * dim as u64 {
+        return Err(AllocError);
+    }
+    let name = x.name.clone()?;
+    let targets = values.to_vec(source.alloc)?;
+    match k.mesh.add_map(name, from, to, dim, targets) {
+        Err(_) => Err(AllocError),
+        Ok(number) => {
+            k.filled = filled;
+            k.names.declare(&x.name, Meaning::Map(number))
+        }
+    }
+}
+
+// The first of what is wrong with the declaration of a map.
+#[tactic(auto, using(bind_refusals::proofs::Firsts::first_of_three))]
+fn first_in_map(
+    source: &Source<'_>,
+    k: &Declared,
+    is_nested: bool,
+    t: usize,
+    from: &Ident,
+    to: &Ident,
+    n: NumberLiteral,
+    values: &Ident,
+) -> Result<Option<Found>, OutOfMemory>
+    ensures { IfOk result (λ f. f ≡ first_of (map_decl_found source.now.places.now source.now.entries.now.entries (declared_of k.now) is_nested t from.now to.now n values.now)) }
+{
+    let mut first = None;
+    note_place(source, &mut first, k, is_nested, t);
+    note_over(
+        &mut first,
+        Turn::InOrder,
+        MAX_MAPS,
+        k.mesh.map_count() as u64 + 1,
+        t,
+        Counted::Maps,
+    );
+    note_map(source, &mut first, k, t, from, to, n, values)?;
+    Ok(first)
+}
+
+/// `op_map x = op_decl_map(from, to, n, array, "..");`, its word at the token t.
+pub fn judged_map(
+    source: &Source<'_>,
+    k: &mut Declared,
+    is_nested: bool,
+    t: usize,
+    x: &Ident,
+    from: &Ident,
+    to: &Ident,
+    n: NumberLiteral,
+    array: &Ident,
+) -> Result<(), BindRefusal>
+    ensures { Judges result (declared_of k.new) (judged_map source.now.places.now source.now.entries.now.entries (declared_of k.old) is_nested t x.now from.now to.now n array.now) }
+{
+    let first = first_in_map(source, k, is_nested, t, from, to, n, array)?;
+    if let Some(found) = first {
+        return Err(found.refusal);
+    }
+    let from = or_zero(set_of(k.names.means(&from.name)));
+    let to = or_zero(set_of(k.names.means(&to.name)));
+    let is_array = is_extern_array(k.names.means(&array.name));
+    let values = known(is_array, values_named(source.entries, &array.name));
+    add_map(source, k, x, from, to, n.value.unsigned_abs(), values)?;
+    Ok(())
+}
+
+// What is wrong with a dat on this set, with these values.
+#[tactic(auto, using(bind_refusals::proofs::Firsts::least_append))]
+fn note_dat(
+    source: &Source<'_>,
+    first: &mut Option<Found>,
+    k: &Declared,
+    t: usize,
+    set: &Ident,
+    n: NumberLiteral,
+    l: &TextLiteral,
+    array: &Ident,
+) -> Result<(), OutOfMemory>
+    ensures { OnOk result (first.new ≡ least_from first.old (dat_found source.now.places.now source.now.entries.now.entries (declared_of k.now) t set.now n l.now array.now)) }
+{
+    let dim = n.value.unsigned_abs();
+    let is_array = is_extern_array(k.names.means(&array.name));
+    let values = values_named(source.entries, &array.name);
+    let awaits = awaited(&k.mesh, set_of(k.names.means(&set.name)), dim);
+    note_set(source, first, k, set);
+    note_dim(source, first, n);
+    note_type(source, first, l);
+    note_data(source, first, is_array, values, awaits, array);
+    note_cells(
+        source,
+        first,
+        k.filled,
+        known(is_array, values).len() as u64,
+        t,
+    )
+}
+
+// One dat more.
+fn add_dat(
+    source: &Source<'_>,
+    k: &mut Declared,
+    x: &Ident,
+    set: u32,
+    dim: u32,
+    values: &[i32],
+) -> Result<(), OutOfMemory>
+    ensures { OnOk result (declared_of k.new ≡ record (declared_of k.old) { filled = k.old.filled + length values.now; mesh = with_dat x.now.name set dim values.now k.old.mesh; names = declare x.now.name (Meaning.Dat (dat_count k.old.mesh)) (declared_of k.old).names }) }
+{
+    let Some(filled) = k.filled.checked_add(values.len() as u64) else {
+        return Err(AllocError);
+    };
+    if dim == 0 || set >= k.mesh.set_count() {
+        return Err(AllocError);
+    }
+    if values.len() as u64 != k.mesh.set_size(set) as u64 * dim as u64 {
+        return Err(AllocError);
+    }
+    let name = x.name.clone()?;
+    let items = values.to_vec(source.alloc)?;
+    let number = k.mesh.add_dat(name, set, dim, items)?;
+    k.filled = filled;
+    k.names.declare(&x.name, Meaning::Dat(number))
+}
+
+// The first of what is wrong with the declaration of a dat.
+#[tactic(auto, using(bind_refusals::proofs::Firsts::first_of_three))]
+fn first_in_dat(
+    source: &Source<'_>,
+    k: &Declared,
+    is_nested: bool,
+    t: usize,
+    set: &Ident,
+    n: NumberLiteral,
+    l: &TextLiteral,
+    values: &Ident,
+) -> Result<Option<Found>, OutOfMemory>
+    ensures { IfOk result (λ f. f ≡ first_of (dat_decl_found source.now.places.now source.now.entries.now.entries (declared_of k.now) is_nested t set.now n l.now values.now)) }
+{
+    let mut first = None;
+    note_place(source, &mut first, k, is_nested, t);
+    note_over(
+        &mut first,
+        Turn::InOrder,
+        MAX_DATS,
+        k.mesh.dat_count() as u64 + 1,
+        t,
+        Counted::Dats,
+    );
+    note_dat(source, &mut first, k, t, set, n, l, values)?;
+    Ok(first)
+}
+
+/// `op_dat x = op_decl_dat(set, n, l, array, "..");`, its word at the token t.
+pub fn judged_dat(
+    source: &Source<'_>,
+    k: &mut Declared,
+    is_nested: bool,
+    t: usize,
+    x: &Ident,
+    set: &Ident,
+    n: NumberLiteral,
+    l: &TextLiteral,
+    array: &Ident,
+) -> Result<(), BindRefusal>
+    ensures { Judges result (declared_of k.new) (judged_dat source.now.places.now source.now.entries.now.entries (declared_of k.old) is_nested t x.now set.now n l.now array.now) }
+{
+    let first = first_in_dat(source, k, is_nested, t, set, n, l, array)?;
+    if let Some(found) = first {
+        return Err(found.refusal);
+    }
+    let set = or_zero(set_of(k.names.means(&set.name)));
+    let is_array = is_extern_array(k.names.means(&array.name));
+    let values = known(is_array, values_named(source.entries, &array.name));
+    add_dat(source, k, x, set, n.value.unsigned_abs(), values)?;
+    Ok(())
+}

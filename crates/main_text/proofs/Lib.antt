@@ -1,0 +1,4 @@
+pub mod ArgTurns
+pub mod Lines
+pub mod WalkTurns
+pub mod HostTurns

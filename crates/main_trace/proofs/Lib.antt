@@ -1,0 +1,8 @@
+pub mod Blocks
+pub mod HostValues
+pub mod Leaves
+pub mod Lists
+pub mod Rounds
+pub mod ToldValues
+pub mod Turns
+pub mod Whole

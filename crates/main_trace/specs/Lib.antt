@@ -1,0 +1,4 @@
+pub mod Steps
+pub mod Trace
+pub mod Limited
+pub mod Unrolling

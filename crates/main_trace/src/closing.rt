@@ -1,0 +1,215 @@
+// Expressions and statements of `main` with the values that are told when it is unrolled.
+
+ghost use Rattle.std.specs.Prelude.{◌≡◌, map, option_map, length, pos, slice_index_or, IfOk};
+ghost use Rattle.bound_program.specs.HostExpr.{host_expr_of, closed};
+ghost use Rattle.bound_program.specs.Values.{act_of};
+ghost use Rattle.main_trace.specs.Trace.{closed_act};
+
+use bound_program::Act;
+use kernel_types::RExpr;
+use op_num::{OutOfMemory, Text};
+use std::alloc::Global;
+
+// The value with this number, or 0 where there is none.
+fn told_value(told: &[i32], k: usize) -> i32
+    ensures { result ≡ slice_index_or told.now k (pos 0) }
+{
+    if k < told.len() { told[k] } else { 0 }
+}
+
+/// The expression with these values in place of the names that are told later.
+pub fn closed_expr(alloc: Global, e: &RExpr, told: &[i32]) -> Result<RExpr, OutOfMemory>
+    ensures { IfOk result (λ x. host_expr_of x ≡ closed told.now (host_expr_of e.now)) }
+{
+    match e {
+        RExpr::Number(n) => Ok(RExpr::Number(*n)),
+        RExpr::Scalar(k) => Ok(RExpr::Scalar(*k)),
+        RExpr::Constant(k) => Ok(RExpr::Number(told_value(told, *k as usize))),
+        RExpr::Arg {
+            param,
+            form,
+            index,
+            at,
+        } => {
+            let index = closed_expr(alloc, index, told)?;
+            let index = Box::new(alloc, index)?;
+            Ok(RExpr::Arg {
+                param: *param,
+                form: *form,
+                index,
+                at: *at,
+            })
+        }
+        RExpr::Local {
+            from,
+            count,
+            form,
+            index,
+            at,
+        } => {
+            let index = closed_expr(alloc, index, told)?;
+            let index = Box::new(alloc, index)?;
+            Ok(RExpr::Local {
+                from: *from,
+                count: *count,
+                form: *form,
+                index,
+                at: *at,
+            })
+        }
+        RExpr::Const {
+            from,
+            count,
+            form,
+            index,
+            at,
+        } => {
+            let index = closed_expr(alloc, index, told)?;
+            let index = Box::new(alloc, index)?;
+            Ok(RExpr::Const {
+                from: *from,
+                count: *count,
+                form: *form,
+                index,
+                at: *at,
+            })
+        }
+        RExpr::Unary { op, operand } => {
+            let operand = closed_expr(alloc, operand, told)?;
+            let operand = Box::new(alloc, operand)?;
+            Ok(RExpr::Unary { op: *op, operand })
+        }
+        RExpr::Binary {
+            op,
+            left,
+            right,
+            at,
+        } => {
+            let left = closed_expr(alloc, left, told)?;
+            let left = Box::new(alloc, left)?;
+            let right = closed_expr(alloc, right, told)?;
+            let right = Box::new(alloc, right)?;
+            Ok(RExpr::Binary {
+                op: *op,
+                left,
+                right,
+                at: *at,
+            })
+        }
+        RExpr::Choice {
+            condition,
+            if_true,
+            if_false,
+        } => {
+            let condition = closed_expr(alloc, condition, told)?;
+            let condition = Box::new(alloc, condition)?;
+            let if_true = closed_expr(alloc, if_true, told)?;
+            let if_true = Box::new(alloc, if_true)?;
+            let if_false = closed_expr(alloc, if_false, told)?;
+            let if_false = Box::new(alloc, if_false)?;
+            Ok(RExpr::Choice {
+                condition,
+                if_true,
+                if_false,
+            })
+        }
+        RExpr::Paren(inner) => {
+            let inner = closed_expr(alloc, inner, told)?;
+            let inner = Box::new(alloc, inner)?;
+            Ok(RExpr::Paren(inner))
+        }
+        RExpr::Extremum {
+            which,
+            first,
+            second,
+        } => {
+            let first = closed_expr(alloc, first, told)?;
+            let first = Box::new(alloc, first)?;
+            let second = closed_expr(alloc, second, told)?;
+            let second = Box::new(alloc, second)?;
+            Ok(RExpr::Extremum {
+                which: *which,
+                first,
+                second,
+            })
+        }
+        RExpr::Absolute(operand) => {
+            let operand = closed_expr(alloc, operand, told)?;
+            let operand = Box::new(alloc, operand)?;
+            Ok(RExpr::Absolute(operand))
+        }
+    }
+}
+
+// The same of expressions in order.
+fn closed_exprs(alloc: Global, es: &[RExpr], told: &[i32]) -> Result<Vec<RExpr>, OutOfMemory>
+    ensures { IfOk result (λ v. map host_expr_of v.items ≡ map (λ e. closed told.now (host_expr_of e)) es.now) }
+{
+    let mut closed = Vec::new(alloc);
+    for e in es {
+        let e = closed_expr(alloc, e, told)?;
+        closed.push(e)?;
+    }
+    Ok(closed)
+}
+
+// The same of an index, where there is one.
+fn closed_index(
+    alloc: Global,
+    index: &Option<RExpr>,
+    told: &[i32],
+) -> Result<Option<RExpr>, OutOfMemory>
+    ensures { IfOk result (λ x. option_map host_expr_of x ≡ option_map (closed told.now) (option_map host_expr_of index.now)) }
+{
+    match index {
+        None => Ok(None),
+        Some(e) => {
+            let e = closed_expr(alloc, e, told)?;
+            Ok(Some(e))
+        }
+    }
+}
+
+fn copied(text: &Text) -> Result<Text, OutOfMemory>
+    ensures { IfOk result (λ t. t ≡ text.now) }
+{
+    text.clone()
+}
+
+/// The statement with these values in place of the names that are told later.
+pub fn closed_copy(alloc: Global, act: &Act, told: &[i32]) -> Result<Act, OutOfMemory>
+    ensures { IfOk result (λ x. act_of x ≡ closed_act told.now (act_of act.now)) }
+{
+    match act {
+        Act::Clear { var } => Ok(Act::Clear { var: *var }),
+        Act::Assign {
+            var,
+            index,
+            op,
+            op_at,
+            value,
+            at,
+        } => {
+            let index = closed_index(alloc, index, told)?;
+            let value = closed_expr(alloc, value, told)?;
+            Ok(Act::Assign {
+                var: *var,
+                index,
+                op: *op,
+                op_at: *op_at,
+                value,
+                at: *at,
+            })
+        }
+        Act::Line { text, values } => {
+            let text = copied(text)?;
+            let values = closed_exprs(alloc, values, told)?;
+            Ok(Act::Line { text, values })
+        }
+        Act::Print { dat, file } => {
+            let file = copied(file)?;
+            Ok(Act::Print { dat: *dat, file })
+        }
+        Act::Exit => Ok(Act::Exit),
+    }
+}
