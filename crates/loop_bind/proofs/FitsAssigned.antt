@@ -9,7 +9,7 @@ use Rattle.name_resolution.specs.declared.decls.Sort.TheVariants as sort
 use Rattle.name_resolution.specs.declared.decls.Decl.{Decl}
 use Rattle.name_resolution.specs.First.{breach_if}
 use Rattle.name_resolution.specs.Scopes as names
-use Rattle.name_resolution.specs.Scopes.{Names, scope, decl_in, or_else, means, declared, is_single, is_row, is_thing, is_extern, is_counter, is_kept, use_breaches}
+use Rattle.name_resolution.specs.Scopes.{Names, scope, decl_in, or_else, means, declared, takes_no_index, needs_index, is_no_value, is_extern, is_counter, is_read_only, use_breaches}
 use Rattle.name_resolution.specs.Kernels.{writing, place_breaches, expr_breaches}
 use Rattle.name_resolution.specs.Mains.{place_name as place_name', declr_name, declr_sort, main_decl, with_name, own_after_declrs, own_after_call, with_host_counter, own_after, own_after_all, is_fixed, fixed_after, header_breaches, host_breaches, hosts_breaches}
 use Rattle.name_resolution.specs.Programs.{other_decl, variable_decl, constant_cells, with_variable, after_variables, after_top, after_tops, named_in, file_of, tops_breaches, breaches}
@@ -20,7 +20,7 @@ use Rattle.loop_bind.proofs.FitsMesh.{never}
 
 -- it is a variable that isn't `const`
 abbrev assignable : Decl → Bool
-assignable d = not (is_thing d.sort || (is_counter d.sort || (is_extern d.sort || d.is_const)))
+assignable d = not (is_no_value d.sort || (is_counter d.sort || (is_extern d.sort || d.is_const)))
 
 abbrev Kind : Bool → Decl → Type 0
 Kind true d = Unit {0}
@@ -82,7 +82,7 @@ like_take (suc n) (a ∷ as_) (b ∷ bs) h = (h.0, h.1, like_take n as_ bs h.2)
 
 kind_not : (c : Bool) (d : Decl) → d.is_const ≡ c → Kind (not c) d
 kind_not false d e = tt
-kind_not true d e = ap (λ b. not (is_thing d.sort || (is_counter d.sort || (is_extern d.sort || b)))) e ∙ all (is_thing d.sort) (is_counter d.sort) (is_extern d.sort)
+kind_not true d e = ap (λ b. not (is_no_value d.sort || (is_counter d.sort || (is_extern d.sort || b)))) e ∙ all (is_no_value d.sort) (is_counter d.sort) (is_extern d.sort)
   where
     all : (a b c : Bool) → not (a || (b || (c || true))) ≡ false
     all true b c = refl
@@ -162,10 +162,10 @@ could fixed indexed t d e =
     let b1 = breach_if (names.is_out_of_reach d) rule.UnknownName t in
     let e2 = right_nil [] _ e in
     let e3 = right_nil (breach_if _ rule.NotAnArray t) _ e2 in
-    let thing = or_false (is_thing d.sort) _ (no_breach _ rule.NotAScalar t (left_nil _ _ e3)) in
+    let thing = or_false (is_no_value d.sort) _ (no_breach _ rule.NotAScalar t (left_nil _ _ e3)) in
     let e4 = right_nil (breach_if _ rule.NotAScalar t) _ e3 in
     let counter = no_breach (is_counter d.sort) rule.AssignsCounter t (left_nil _ _ e4) in
-    let kept = or_false d.is_const _ (no_breach (is_kept false fixed d) rule.AssignsConst t (right_nil (breach_if (is_counter d.sort) rule.AssignsCounter t) _ e4)) in
+    let kept = or_false d.is_const _ (no_breach (is_read_only false fixed d) rule.AssignsConst t (right_nil (breach_if (is_counter d.sort) rule.AssignsCounter t) _ e4)) in
     let extern = or_false (is_extern d.sort) _ kept.1 in
     let c0 = thing.0 in
     let c1 = extern.0 in
