@@ -1,5 +1,5 @@
 -- A run that is that of a kernel: a[0] = 7; on a direct OP_RW argument.
-use Rattle.std.proofs.Common.{◌≡◌, ◌+◌, ◌<◌, ℕ, zero, suc, pos, Bool, true, false, List, [], ◌∷◌, length, refl, sym, ap, ◌∙◌, subst, arith, Vec, Global}
+use Rattle.std.proofs.Common.{◌≡◌, ◌+◌, ◌<◌, ℕ, zero, suc, pos, Bool, true, false, List, [], ◌∷◌, length, refl, sym, ap, ◌∙◌, subst, arith, get_or, Vec, Global}
 use Rattle.std.specs.Prelude.{◌↔◌, ◌&&◌, ◌==◌, nat_lt, cond, slice_index_or}
 use Rattle.std.proofs.lemmas.Bool.{eqb-true, ltb-true}
 use Rattle.op_num.specs.declared.bytes.Name.{Name}
@@ -22,6 +22,7 @@ use Rattle.schedule_model.specs.Effects.{Ran, Finished}
 use Rattle.reductions.specs.Access.{OpRw}
 use Rattle.schedule_laws.specs.Arguments.{Argument, Direct, Entries, reaches}
 use Rattle.element_runs.specs.ElementRun.{IsElementRun, Held}
+use Rattle.element_runs.specs.OnWindows.{OnWindows, no_cell}
 
 abbrev here : Pos
 here = record { line = 1; column = 1 }
@@ -148,3 +149,18 @@ module _ (entry : Entries) (width : ℕ → ℕ) where
       held = held;
       ends = λ s. (only_first (λ a i. with_cell (cell_of 0 0) (pos 7) s (cell_of a i) ≡ kernel.read_arg target ((pos 7 ∷ []) ∷ []) a i) refl, others s);
     }
+
+counts : (a : ℕ) → (target_at target a).count ≡ (mode_at modes a).dim
+counts zero = refl
+counts (suc a) = refl
+
+-- its argument names the one cell of its window
+pub on_windows : OnWindows modes cell_of (cell_of 0 0 ∷ []) target
+on_windows = record {
+  counts = counts;
+  arrays = only_first (λ a i. (target_at target a).array ≡ 0) refl;
+  inside = only_first (λ a i. (target_at target a).from + i < 1) (omega arith);
+  are = only_first (λ a i. get_or (cell_of 0 0 ∷ []) ((target_at target a).from + i) no_cell ≡ cell_of a i) refl;
+  covered = λ j lt. (0, 0, omega arith, omega (arith, lt));
+  once = λ i j li lj h. omega (arith, li, lj);
+}
