@@ -24,16 +24,16 @@ use Rattle.schedule_laws.specs.Arguments.{Argument, Direct, Entries, reaches}
 use Rattle.element_runs.specs.ElementRun.{IsElementRun, Held}
 use Rattle.element_runs.specs.OnWindows.{OnWindows, no_cell}
 
-abbrev here : Pos
+abbrev pub here : Pos
 here = record { line = 1; column = 1 }
 
-abbrev modes : List Mode
+abbrev pub modes : List Mode
 modes = record { access = OpRw; dim = 1 } ∷ []
 
-abbrev argument : ℕ → Argument
+abbrev pub argument : ℕ → Argument
 argument a = Direct 0 OpRw
 
-abbrev cell_of : ℕ → ℕ → Cell
+abbrev pub cell_of : ℕ → ℕ → Cell
 cell_of a i = Data (record { dat = 0; element = 0; component = i })
 
 abbrev target : List Target
@@ -42,7 +42,7 @@ target = record { array = 0; from = 0; count = 1 } ∷ []
 abbrev held_in : Store → kernel.Store
 held_in s = (s (cell_of 0 0) ∷ []) ∷ []
 
-abbrev sevens : Name → Vec Pos Global → RKernel
+abbrev pub sevens : Name → Vec Pos Global → RKernel
 sevens name places = record {
   name = name;
   params = 1;
@@ -50,7 +50,7 @@ sevens name places = record {
   body = record { param_places = places; statement = SetArg 0 form.Index (Number (pos 0)) here assign.Set here (Number (pos 7)) };
 }
 
-abbrev run : Store → Ran KernelFault
+abbrev pub run : Store → Ran KernelFault
 run s = Finished (with_cell (cell_of 0 0) (pos 7) s)
 
 no_write : (a : ℕ) → (mode_at modes a).access ≡ OpWrite → ⊥
@@ -132,7 +132,7 @@ module _ (entry : Entries) (width : ℕ → ℕ) where
   small s h (suc x) j = record { sfits = omega arith }
 
   module _ (name : Name) (places : Vec Pos Global) (one_place : length places.items ≡ 1) where
-    is_element_run : IsElementRun entry (λ d. 1) width argument 1 0 modes cell_of (sevens name places) (λ c. false) run
+    pub is_element_run : IsElementRun entry (λ d. 1) width argument 1 0 modes cell_of (sevens name places) (λ c. false) run
     is_element_run = record {
       obeys = λ w. ((omega arith, tt), λ a i e lt. absurd (no_write a e));
       count = refl;

@@ -4,3 +4,4 @@ pub mod Example
 pub mod Lists
 pub mod RunsKernels
 pub mod OnWindows
+pub mod Small
