@@ -8,5 +8,5 @@ mod tests;
 mod values;
 
 pub use interpreter::{run, run_on};
-pub use operators::{absolute, apply_op, apply_unary_op, extreme, index_of, settles, truth_of};
 pub use kernel_types::{Fault, KernelFault};
+pub use operators::{absolute, apply_op, apply_unary_op, extreme, index_of, settles, truth_of};
