@@ -1,0 +1,16 @@
+pub mod Reached
+pub mod Places
+pub mod Windows
+pub mod Reaches
+pub mod OnWindows
+pub mod Tiling
+pub mod Constants
+pub mod Elements
+pub mod OnlyRead
+pub mod Stops
+pub mod Memory
+pub mod OnMemory
+pub mod Parts
+pub mod FirstMemory
+pub mod Assignments
+pub mod Items

@@ -1,0 +1,9 @@
+pub mod Windows
+pub mod Kernels
+pub mod Hosts
+pub mod Programs
+pub mod Arguments
+pub mod Stops
+pub mod Laws
+pub mod Constants
+pub mod Memory

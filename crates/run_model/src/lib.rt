@@ -1,0 +1,70 @@
+//! The sequential run of a bound program, as definitions: items in order, each loop one element after another in its set's
+//! original order, on the values of all cells. It knows nothing of ranks.
+#![tactic(auto)]
+
+ghost use Rattle.std.specs.Prelude.{◌≡◌};
+ghost use Rattle.bound_program.specs.Values.{BoundValue};
+ghost use Rattle.schedule_model.specs.Sequential.{sequential};
+ghost use Rattle.run_model.specs.Programs.{program_of, run_of_program};
+ghost use Rattle.run_model.specs.Laws.{ElementsRunKernels, LoopsKeepRange, LoopsKeepReads, WindowsAreReached};
+ghost use Rattle.run_model.specs.Constants.{ConstantsAreNumbered, ConstantsAreRead};
+ghost use Rattle.run_model.specs.Memory.{ElementsRunOnMemory, FirstMemoryHolds, MemoryEndsWithVariables, MemoryHasDats, MemoryTakesAssignments};
+ghost use Rattle.run_model.specs.Stops.{RunsStopAtFaults};
+
+/// The run of a program is the sequential run of the program that the theorem on schedules sees.
+pub fn runs_as_sequential()
+    ensures { (b : BoundValue) → run_of_program b ≡ sequential (program_of b) }
+{}
+
+/// A law: an item that is a loop, whose kernel obeys its modes, runs that kernel for each element, with the values of the
+/// program's constants, over any lists that hold the cells which its arguments reach.
+pub fn elements_run_kernels()
+    ensures { ElementsRunKernels }
+{
+    kernel_model::shape_stays();
+}
+
+/// A law: so it keeps all values in range, and each cell that OP_READ arguments alone reach, or none.
+pub fn loops_keep()
+    ensures range { LoopsKeepRange }
+    ensures reads { LoopsKeepReads }
+{
+    elements_run_kernels();
+    element_runs::element_runs_keep();
+}
+
+/// A law: over one memory that holds all cells, the dats in order and then the variables, the meaning of the loop's kernel
+/// leaves a memory that holds the cells after the element's run, or both have the same fault.
+pub fn elements_run_on_memory()
+    ensures { ElementsRunOnMemory }
+{
+    elements_run_kernels();
+    element_runs::element_runs_on_arrays();
+    kernel_model::shape_stays();
+}
+
+/// A law: what that memory is before the run, where the variables and each dat stand in it, and what an assignment to a
+/// variable's cell makes of it.
+pub fn memory_holds()
+    ensures first { FirstMemoryHolds }
+    ensures variables { MemoryEndsWithVariables }
+    ensures dats { MemoryHasDats }
+    ensures assignments { MemoryTakesAssignments }
+{}
+
+/// A law: the windows of an element's run are the cells that its arguments reach, each once.
+pub fn windows_are_reached()
+    ensures { WindowsAreReached }
+{}
+
+/// A law: the constants that kernels read are the cells of constant variables, each by its number; and no loop modifies one.
+pub fn constants_are_read()
+    ensures numbered { ConstantsAreNumbered }
+    ensures read { ConstantsAreRead }
+{}
+
+/// A law: a run that stopped did so at its first fault, with what was printed before that item. An element that faults
+/// leaves what the earlier elements of its loop stored, and a statement that faults leaves all as it was.
+pub fn runs_stop_at_faults()
+    ensures { RunsStopAtFaults }
+{}
