@@ -75,7 +75,7 @@ module _ (b : BoundValue) where
   pub dat_below : (c : DatCell) → DatThere c → place_of b (Data c) < dat_start b c.dat + dat_size c.dat * dat_width b c.dat
   dat_below c h = omega (arith, mul-add-lt c.element (dat_width b c.dat) c.component (dat_size c.dat) h.element h.component)
 
-  before_vars : (c : DatCell) (n : ℕ) → DatThere c → place_of b (Data c) < var_start b n
+  pub before_vars : (c : DatCell) (n : ℕ) → DatThere c → place_of b (Data c) < var_start b n
   before_vars c n h = omega (arith, dat_below c h, dats_follow c.dat (dat_count b.mesh) h.dat, after_dats n)
 
   pub inside : (c : Cell) → has_cell b c ≡ true → place_of b c < memory_length b

@@ -1,5 +1,5 @@
 -- All cells of a bound program in one memory: the dats in order, each element by element, and then the variables.
-use Rattle.std.specs.Prelude.{◌≡◌, ◌<◌, ℕ, zero, suc, ℤ, pos, ◌+◌, ◌*◌, Bool, true, ◌&&◌, List, [], ◌∷◌, length, map, take, drop, ◌++◌, nat_lt, slice_index_or, slice_set}
+use Rattle.std.specs.Prelude.{◌≡◌, ◌<◌, ◌≤◌, ◌⊎◌, ℕ, zero, suc, ℤ, pos, ◌+◌, ◌*◌, Bool, true, ◌&&◌, List, [], ◌∷◌, length, map, take, drop, ◌++◌, nat_lt, slice_index_or, slice_set}
 use Rattle.std.specs.List.{flat_map}
 use Rattle.kernel_types.specs.declared.faults.KernelFault.{KernelFault}
 use Rattle.kernel_types.specs.declared.kernels.RKernel.{RKernel}
@@ -15,7 +15,7 @@ use Rattle.bound_program.specs.Values.{BoundValue, VarValue}
 use Rattle.bound_program.specs.Fits.{Fits}
 use Rattle.run_model.specs.Windows.{numbers, Reached, reached, cell_in, width}
 use Rattle.run_model.specs.Kernels.{constant_values}
-use Rattle.run_model.specs.Hosts.{variables_of, with_cell, variable_cells, dat_cells}
+use Rattle.run_model.specs.Hosts.{variables_of, with_cell, with_zeros, variable_cells, dat_cells}
 use Rattle.run_model.specs.Programs.{program_of}
 use Rattle.run_model.specs.Arguments.{dat_width, var_width}
 use Rattle.run_model.specs.Laws.{site_of, IsLoopOf}
@@ -102,3 +102,13 @@ MemoryTakesAssignments =
     (b : BoundValue) (m : List ℤ) (s : Store) (v i : ℕ) (z : ℤ)
     → Holds b m s → v < length b.vars → i < var_width b v
     → Holds b (slice_set m (var_start b v + i) z) (with_variables (with_cell (record { variable = v; component = i }) z (variables_of s)) s)
+
+-- with zeros in the places of a variable's cells alone, it holds the store with zeros in those cells
+abbrev pub MemoryTakesZeros : Type 0
+MemoryTakesZeros =
+    (b : BoundValue) (m u : List ℤ) (s : Store) (v : ℕ)
+    → Holds b m s → v < length b.vars
+    → length u ≡ length m
+    → ((i : ℕ) → i < var_width b v → slice_index_or u (var_start b v + i) (pos 0) ≡ pos 0)
+    → ((k : ℕ) → (k < var_start b v) ⊎ (var_start b v + var_width b v ≤ k) → slice_index_or u k (pos 0) ≡ slice_index_or m k (pos 0))
+    → Holds b u (with_variables (with_zeros v (variables_of s)) s)

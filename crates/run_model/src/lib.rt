@@ -8,7 +8,8 @@ ghost use Rattle.schedule_model.specs.Sequential.{sequential};
 ghost use Rattle.run_model.specs.Programs.{program_of, run_of_program};
 ghost use Rattle.run_model.specs.Laws.{ElementsRunKernels, LoopsKeepRange, LoopsKeepReads, WindowsAreReached};
 ghost use Rattle.run_model.specs.Constants.{ConstantsAreNumbered, ConstantsAreRead};
-ghost use Rattle.run_model.specs.Memory.{ElementsRunOnMemory, FirstMemoryHolds, MemoryEndsWithVariables, MemoryHasDats, MemoryTakesAssignments};
+ghost use Rattle.run_model.specs.Memory.{ElementsRunOnMemory, FirstMemoryHolds, MemoryEndsWithVariables};
+ghost use Rattle.run_model.specs.Memory.{MemoryHasDats, MemoryTakesAssignments, MemoryTakesZeros};
 ghost use Rattle.run_model.specs.Stops.{RunsStopAtFaults};
 
 /// The run of a program is the sequential run of the program that the theorem on schedules sees.
@@ -44,12 +45,13 @@ pub fn elements_run_on_memory()
 }
 
 /// A law: what that memory is before the run, where the variables and each dat stand in it, and what an assignment to a
-/// variable's cell makes of it.
+/// variable's cell, or zeros in all of its cells, make of it.
 pub fn memory_holds()
     ensures first { FirstMemoryHolds }
     ensures variables { MemoryEndsWithVariables }
     ensures dats { MemoryHasDats }
     ensures assignments { MemoryTakesAssignments }
+    ensures zeros { MemoryTakesZeros }
 {}
 
 /// A law: the windows of an element's run are the cells that its arguments reach, each once.

@@ -1,6 +1,6 @@
 use Rattle.run_model.proofs.FirstMemory.{first_memory_holds}
 use Rattle.run_model.proofs.Parts.{memory_ends_with_variables, memory_has_dats}
-use Rattle.run_model.proofs.Assignments.{memory_takes_assignments}
+use Rattle.run_model.proofs.Assignments.{memory_takes_assignments, memory_takes_zeros}
 use Rattle.run_model.proofs.memory_holds.Goals as goal
 
 pub returns : goal.returns
@@ -9,4 +9,5 @@ returns c = record {
   variables = memory_ends_with_variables;
   dats = memory_has_dats;
   assignments = memory_takes_assignments;
+  zeros = memory_takes_zeros;
 }
