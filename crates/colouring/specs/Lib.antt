@@ -1,0 +1,6 @@
+pub mod Rows
+pub mod Rounds
+pub mod Colours
+pub mod Table
+pub mod Outlined
+pub mod Laws

@@ -1,0 +1,28 @@
+-- The colour is the least number that no earlier conflicting row has.
+use Rattle.std.specs.Prelude.{◌≡◌, ◌<◌, ◌≤◌, ◌+◌, ◌*◌, ◌/◌, ℕ, List, get_or, length}
+use Rattle.block_plan.specs.Blocks.{IsInBlock}
+
+-- the place k of the table of targets belongs to the row p, of w targets
+abbrev pub In : List ℕ → ℕ → ℕ → ℕ → Type 0
+In ts w p k = (p * w ≤ k) × (k < p * w + w) × (k < length ts)
+
+-- two rows with a common target
+abbrev pub Conflict : List ℕ → ℕ → ℕ → ℕ → Type 0
+Conflict ts w q p = (j : ℕ) × (k : ℕ) × In ts w q j × In ts w p k × (get_or ts j 0 ≡ get_or ts k 0)
+
+abbrev pub Least : List ℕ → ℕ → List ℕ → ℕ → Type 0
+Least ts w cs p =
+    ((q : ℕ) → q < p → Conflict ts w q p → get_or cs q 0 ≡ get_or cs p 0 → ⊥)
+    × ((c : ℕ) → c < get_or cs p 0 → (q : ℕ) × (q < p) × Conflict ts w q p × (get_or cs q 0 ≡ c))
+
+-- that, of rows from here on
+abbrev pub MeetFrom : List ℕ → ℕ → ℕ → ℕ → ℕ → Type 0
+MeetFrom ts w first q p = (first ≤ q) × Conflict ts w q p
+
+-- that, of places of one block
+abbrev pub MeetWithin : List ℕ → ℕ → ℕ → ℕ → ℕ → Type 0
+MeetWithin ts w size q p = (q / size ≡ p / size) × Conflict ts w q p
+
+-- a place of one block has a common target with one of the other
+abbrev pub BlocksMeet : List ℕ → ℕ → ℕ → ℕ → ℕ → ℕ → Type 0
+BlocksMeet ts w places size b c = (q : ℕ) × (p : ℕ) × IsInBlock places size b q × IsInBlock places size c p × Conflict ts w q p

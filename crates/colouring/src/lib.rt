@@ -1,0 +1,55 @@
+//! Colours of the blocks of a rank's places, and of the places within each block.
+//!
+//! Elements of one colour reduce into no common element, so they may run at once. `specs/Colours.antt` states which
+//! places and blocks conflict, and their colours: the least number that no earlier one in conflict has.
+#![tactic(auto)]
+
+ghost use Rattle.std.specs.Prelude.{◌≡◌, ◌<◌, ℕ, IfOk};
+ghost use Rattle.mesh_decl.specs.declared.owners.Owners.{Owners};
+ghost use Rattle.mesh_decl.specs.declared.owners.Perms.{Perms};
+ghost use Rattle.local_mesh.specs.LocalMesh.{IsRankMesh};
+ghost use Rattle.colouring.specs.Colours.{AreArgs, AreColours};
+
+mod laws;
+mod masks;
+mod rounds;
+mod table;
+mod types;
+mod within;
+
+pub use laws::{
+    common_targets_are_ordered, conflicting_blocks_differ, conflicting_places_are_ordered,
+};
+use local_mesh::RankMesh;
+use mesh_decl::Mesh;
+use op_num::OutOfMemory;
+use std::alloc::Global;
+use table::{first_numbers, target_table};
+pub use types::{Colours, IncArg};
+use within::{block_colours, inner_colours};
+
+/// The colours for the first `places` of what the rank executes, in blocks of `size`, where these arguments reduce.
+///
+/// Colouring works in rounds of 32 colours, with a mask for each target. It fails only for want of memory, also where
+/// there are 2 ^ 32 - 1 targets, or 2 ^ 32 - 64 colours, or more.
+pub fn colour(
+    alloc: Global,
+    mesh: &Mesh,
+    rank: &RankMesh,
+    args: &[IncArg],
+    places: u32,
+    size: u32,
+) -> Result<Colours, OutOfMemory>
+    requires rank { (o : Owners) × (p : Perms) × (r : ℕ) × IsRankMesh mesh.now o p r rank.now }
+    requires args { AreArgs mesh.now rank.now.sets.items places args.now }
+    requires size { 0 < size }
+    ensures { IfOk result (AreColours mesh.now rank.now.maps.items args.now places size) }
+{
+    let _ = mesh.dat_count();
+    let (starts, total) = first_numbers(alloc, mesh, rank, args)?;
+    let table = target_table(alloc, mesh, rank, args, &starts, total, places)?;
+    let mut masks = vec![in alloc; 0; total as usize]?;
+    let inner = inner_colours(alloc, &table, args.len(), places, size, &mut masks)?;
+    let blocks = block_colours(alloc, &table, args.len(), places, size, &mut masks)?;
+    Ok(Colours { blocks, inner })
+}
