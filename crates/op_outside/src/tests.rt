@@ -61,6 +61,32 @@ fn a_real_file(rt: HostRuntime) -> Result<(), Fail> {
     Ok(())
 }
 
+#[test]
+fn a_file_replaced_while_it_is_read(rt: HostRuntime) -> Result<(), Fail> {
+    fs::write(&rt, "op_outside_replaced.txt", b"old text")?;
+    let mut shelf = FileShelf::new(rt.clone()?);
+    let mut piece = [0u8; 4];
+    assert_eq!(rt;
+        shelf.read_at("op_outside_replaced.txt", 0, &mut piece).ok(),
+        Some(4)
+    );
+    assert_eq!(rt; piece.as_slice(), b"old ".as_slice());
+    fs::remove_file(&rt, "op_outside_replaced.txt")?;
+    fs::write(&rt, "op_outside_replaced.txt", b"new word")?;
+    assert_eq!(rt;
+        shelf.read_at("op_outside_replaced.txt", 4, &mut piece).ok(),
+        Some(4)
+    );
+    assert_eq!(rt; piece.as_slice(), b"text".as_slice());
+    assert_eq!(rt;
+        shelf.read_at("op_outside_replaced.txt", 0, &mut piece).ok(),
+        Some(4)
+    );
+    assert_eq!(rt; piece.as_slice(), b"new ".as_slice());
+    fs::remove_file(&rt, "op_outside_replaced.txt")?;
+    Ok(())
+}
+
 // A writer that takes two bytes at a time, and fails at its third call.
 #[derive(Drop)]
 struct Slow {
