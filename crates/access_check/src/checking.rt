@@ -18,7 +18,7 @@ use crate::found::{Breach, Rule, with_rule};
 use crate::modes::{Mode, mode_of};
 use crate::refusals::{AccessRefusal, refusal_of};
 use crate::uses::only_writes;
-use crate::walking::{Walked, walk};
+use crate::walking::walk;
 use kernel_types::{Pos, RKernel};
 use std::alloc::Global;
 
@@ -58,18 +58,17 @@ fn found_in(kernel: &RKernel, modes: &[Mode], counters: &mut [Option<i32>]) -> O
     requires unknown { (k : ℕ) → slice_index_or counters.old k None ≡ None }
     ensures { found_of result ≡ model.walk kernel.now (map model_of modes.now) }
 {
-    let after = walk(
+    let mut covered = no_components();
+    let mut found = None;
+    walk(
         &kernel.body.statement,
         modes,
         counters,
-        Walked {
-            found: None,
-            covered: no_components(),
-        },
+        &mut covered,
+        &mut found,
     );
-    let mut found = after.found;
     for a in 0..modes.len() as u32 {
-        let broken = lacks_some(&after.covered, a, mode_of(modes, a));
+        let broken = lacks_some(&covered, a, mode_of(modes, a));
         found = with_rule(
             found,
             broken,

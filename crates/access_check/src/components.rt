@@ -30,24 +30,20 @@ pub fn is_among(components: &Components, arg: u32, index: u32) -> bool
     (components.words[arg as usize] >> index) & 1 == 1
 }
 
-/// These and one more component.
-pub fn with_component(components: &Components, arg: u32, index: u32) -> Components
+/// Takes in one more component.
+pub fn add_component(components: &mut Components, arg: u32, index: u32)
     requires arg { arg < 16 }
     requires index { index < 64 }
-    ensures { (a i : ℕ) → has_component result a i ≡ ((nat_eq arg a && nat_eq index i) || has_component components.now a i) }
+    ensures { (a i : ℕ) → has_component components.new a i ≡ ((nat_eq arg a && nat_eq index i) || has_component components.old a i) }
 {
-    let mut words = components.words;
-    words[arg as usize] |= 1 << index;
-    Components { words }
+    components.words[arg as usize] |= 1 << index;
 }
 
-/// The components that are among both.
-pub fn among_both(components: &Components, others: &Components) -> Components
-    ensures { (a i : ℕ) → has_component result a i ≡ (has_component components.now a i && has_component others.now a i) }
+/// Keeps the components that are among others too.
+pub fn keep_common(components: &mut Components, others: &Components)
+    ensures { (a i : ℕ) → has_component components.new a i ≡ (has_component components.old a i && has_component others.now a i) }
 {
-    let mut words = components.words;
     for a in 0..ARGUMENTS {
-        words[a] &= others.words[a];
+        components.words[a] &= others.words[a];
     }
-    Components { words }
 }

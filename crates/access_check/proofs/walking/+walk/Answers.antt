@@ -15,8 +15,8 @@ pub walk-loop-inner-init : goal.walk-loop-inner-init
 walk-loop-inner-init t c =
     let modes = map model_of c.args.modes.now in
     let cs = counters_of c.args.counters.now in
-    let covered = has_component c.args.before.covered in
-    let found = found_of c.args.before.found in
+    let covered = has_component c.args.covered.now in
+    let found = found_of c.args.found.now in
     record {
       counters = refl;
       fits = subst (ListFits (length c.args.counters.now)) (sym c.deref-inner-items.ensures.value)
@@ -37,17 +37,17 @@ walk-loop-inner-preserved t c =
     let st = c.inner-item.result in
     let rest = drop (c.loop-inner.inner-index + 1) items in
     let cut : drop c.loop-inner.inner-index items ≡ st ∷ rest = drop_here items c.loop-inner.inner-index st c.loop-inner-test.true c.inner-item.is in
-    let before = has_component c.loop-inner.now.covered in
-    let after = has_component c.walk-now.result.covered in
+    let before = has_component c.loop-inner.covered in
+    let after = has_component c.walk.new.covered in
     let agree : Agree modes (covered_after st cs before) after =
-    subst (λ l. Agree modes (covered_after st (counters_of l) before) after) c.loop-inner.invariant.counters c.walk-now.ensures.covered in
-    let next : found_of c.walk-now.result.found ≡ stmt_found modes st cs before (found_of c.loop-inner.now.found) =
-    c.walk-now.ensures.found ∙ ap (λ l. stmt_found modes st (counters_of l) before (found_of c.loop-inner.now.found)) c.loop-inner.invariant.counters in
+    subst (λ l. Agree modes (covered_after st (counters_of l) before) after) c.loop-inner.invariant.counters c.walk.ensures.covered in
+    let next : found_of c.walk.new.found ≡ stmt_found modes st cs before (found_of c.loop-inner.found) =
+    c.walk.ensures.found ∙ ap (λ l. stmt_found modes st (counters_of l) before (found_of c.loop-inner.found)) c.loop-inner.invariant.counters in
     record {
-      counters = c.walk-now.ensures.counters ∙ c.loop-inner.invariant.counters;
+      counters = c.walk.ensures.counters ∙ c.loop-inner.invariant.counters;
       fits = (subst (ListFits (length c.args.counters.now)) cut c.loop-inner.invariant.fits).1;
-      found = found_step modes st rest cs before after (found_of c.loop-inner.now.found) (found_of c.walk-now.result.found) agree next
-          ∙ ap (λ l. list_found modes l cs before (found_of c.loop-inner.now.found)) (sym cut) ∙ c.loop-inner.invariant.found;
+      found = found_step modes st rest cs before after (found_of c.loop-inner.found) (found_of c.walk.new.found) agree next
+          ∙ ap (λ l. list_found modes l cs before (found_of c.loop-inner.found)) (sym cut) ∙ c.loop-inner.invariant.found;
       covered = agree_then modes _ _ _ c.loop-inner.invariant.covered
           (subst (λ l. Agree modes (list_covered l cs before) (list_covered rest cs after)) (sym cut) (covered_step modes st rest cs before after agree));
     }
@@ -60,20 +60,20 @@ walk_turns-loop-i-preserved t c =
     let k = c.args.counter in
     let i = c.loop-i.i in
     let lt = c.loop-i-test.true in
-    let before = has_component c.loop-i.now.covered in
-    let after = has_component c.walk-now.result.covered in
+    let before = has_component c.loop-i.covered in
+    let after = has_component c.walk.new.covered in
     let e : to_z w32 i ≡ pos i = to_z_pos w32 i (omega arith) in
     let same : set c.loop-i.counters k (Some (to_z w32 i)) ≡ set c.args.counters.now k (Some (pos i)) =
     c.loop-i.invariant.cells (Some (to_z w32 i)) ∙ ap (λ z. set c.args.counters.now k (Some z)) e in
     let known = ap counters_of same ∙ counters_with c.args.counters.now k (pos i) c.requires.counter in
     let agree : Agree modes (covered_after body (with_counter cs k (pos i)) before) after =
-    subst (λ x. Agree modes (covered_after body x before) after) known c.walk-now.ensures.covered in
-    let next : found_of c.walk-now.result.found ≡ stmt_found modes body (with_counter cs k (pos i)) before (found_of c.loop-i.now.found) =
-    c.walk-now.ensures.found ∙ ap (λ x. stmt_found modes body x before (found_of c.loop-i.now.found)) known in
+    subst (λ x. Agree modes (covered_after body x before) after) known c.walk.ensures.covered in
+    let next : found_of c.walk.new.found ≡ stmt_found modes body (with_counter cs k (pos i)) before (found_of c.loop-i.found) =
+    c.walk.ensures.found ∙ ap (λ x. stmt_found modes body x before (found_of c.loop-i.found)) known in
     record {
-      cells = λ v. ap (λ l. set l k v) (c.walk-now.ensures.counters ∙ same) ∙ set_again c.args.counters.now k (Some (pos i)) v;
-      long = ap length (c.walk-now.ensures.counters ∙ same) ∙ length-set c.args.counters.now k (Some (pos i));
-      found = turn_found modes (λ j d g. stmt_found modes body (with_counter cs k (pos j)) d g) (λ j d. covered_after body (with_counter cs k (pos j)) d) (turn_ih modes body cs k) (turn_it modes body cs k) i c.args.past before after (found_of c.loop-i.now.found) (found_of c.walk-now.result.found) lt agree next
+      cells = λ v. ap (λ l. set l k v) (c.walk.ensures.counters ∙ same) ∙ set_again c.args.counters.now k (Some (pos i)) v;
+      long = ap length (c.walk.ensures.counters ∙ same) ∙ length-set c.args.counters.now k (Some (pos i));
+      found = turn_found modes (λ j d g. stmt_found modes body (with_counter cs k (pos j)) d g) (λ j d. covered_after body (with_counter cs k (pos j)) d) (turn_ih modes body cs k) (turn_it modes body cs k) i c.args.past before after (found_of c.loop-i.found) (found_of c.walk.new.found) lt agree next
           ∙ c.loop-i.invariant.found;
       covered = agree_then modes _ _ _ c.loop-i.invariant.covered
           (turn_covered modes (λ j d g. stmt_found modes body (with_counter cs k (pos j)) d g) (λ j d. covered_after body (with_counter cs k (pos j)) d) (turn_ih modes body cs k) i c.args.past before after lt agree);
@@ -87,4 +87,4 @@ walk_turns-returns-clause-covered t c =
     let k = c.args.counter in
     let le : c.args.past ≤ c.loop-i.i = omega (arith, c.loop-i-test.false) in
     λ a j l. c.loop-i.invariant.covered a j l
-    ∙ ap (λ (x : Covered). x a j) (covered_end modes (λ i d g. stmt_found modes body (with_counter cs k (pos i)) d g) (λ i d. covered_after body (with_counter cs k (pos i)) d) c.loop-i.i c.args.past (has_component c.loop-i.now.covered) le)
+    ∙ ap (λ (x : Covered). x a j) (covered_end modes (λ i d g. stmt_found modes body (with_counter cs k (pos i)) d g) (λ i d. covered_after body (with_counter cs k (pos i)) d) c.loop-i.i c.args.past (has_component c.loop-i.covered) le)

@@ -1,7 +1,7 @@
 use Rattle.std.proofs.Common.{rules, ap, ◌∙◌, ℕ, length, ◌<◌, arith}
 use Rattle.access_check.specs.States.{has_component}
 use Rattle.access_check.proofs.Bits.{with_bit_of}
-use Rattle.access_check.proofs.components.with_component.Goals as goal
+use Rattle.access_check.proofs.components.add_component.Goals as goal
 
 pub returns : goal.returns
 unfolding has_component
