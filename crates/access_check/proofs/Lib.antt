@@ -5,3 +5,9 @@ pub mod Walks
 pub mod Ends
 pub mod Small
 pub mod Refused
+pub mod Least
+pub mod Assigning
+pub mod Settled
+pub mod Unnamed
+pub mod OneTurn
+pub mod Sizes

@@ -1,5 +1,5 @@
 -- Steps of the walk: statements of a block, and turns of a for.
-use Rattle.std.proofs.Common.{◌≡◌, ◌≢◌, ℕ, zero, suc, ℤ, pos, ◌+◌, ◌-◌, ◌<◌, ◌≤◌, List, [], ◌∷◌, length, get_or, set, drop, drop-cons, Option, Some, None, Bool, true, false, cond, refl, sym, ap, ◌∙◌, subst, arith, Vec, Global, add-one, get_or-set_other, get_or-set_same}
+use Rattle.std.proofs.Common.{◌≡◌, ◌≢◌, ℕ, zero, suc, ℤ, pos, ◌+◌, ◌-◌, ◌<◌, ◌≤◌, List, [], ◌∷◌, length, get_or, set, drop, drop-cons, Option, Some, None, Bool, true, false, cond, ◌||◌, refl, sym, ap, ◌∙◌, subst, arith, Vec, Global, add-one, get_or-set_other, get_or-set_same}
 use Rattle.std.specs.Prelude.{nat_eq}
 use Rattle.std.proofs.lemmas.Bool.{eqb-true, eqb-false}
 use Rattle.std.proofs.Math.Path.{fun_ext}
@@ -8,6 +8,7 @@ use Rattle.kernel_types.specs.declared.statements.RStmt.{RStmt, Block, Block', R
 use Rattle.kernel_model.specs.Obeys.{Mode, Counters, with_counter}
 use Rattle.kernel_model.specs.Walk.{Breach, Covered, stmt_found, row_found, covered_after, row_covered_after, turns_found, turns_covered}
 use Rattle.access_check.specs.Agree.{Agree, CountersFit, RowCountersFit}
+use Rattle.access_check.specs.Indices.{stmt_names, row_names, list_names}
 use Rattle.access_check.specs.Rows.{list_found, list_covered, ListFits}
 use Rattle.access_check.specs.States.{counters_of}
 use Rattle.access_check.proofs.Agreeing.{stmt_same, covered_agree, turns_same, turns_agree}
@@ -44,6 +45,15 @@ pub fits_block : (cells : ℕ) (all : Vec RStmt Global) → CountersFit cells (B
 fits_block cells all h =
     let row = row_of (Block all) in
     subst (ListFits cells) (items_hidden-the_row-RStmt-0 all) (fits_row cells row.0 row.1 h)
+
+names_of_row : (n : _) (row : Row_of-RStmt n) (k : ℕ) → row_names row k ≡ list_names (items-the_row-RStmt n row) k
+names_of_row n end_of-RStmt k = refl
+names_of_row n (more_of-RStmt first rest) k = ap (λ b. stmt_names first k || b) (names_of_row _ rest k)
+
+pub names_of_block : (all : Vec RStmt Global) (k : ℕ) → stmt_names (Block all) k ≡ list_names all.items k
+names_of_block all k =
+    let row = row_of (Block all) in
+    names_of_row row.0 row.1 k ∙ ap (λ l. list_names l k) (items_hidden-the_row-RStmt-0 all)
 
 -- ---- lists
 

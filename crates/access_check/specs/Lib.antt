@@ -6,3 +6,4 @@ pub mod Sides
 pub mod Agree
 pub mod Rows
 pub mod Refusals
+pub mod Indices

@@ -6,6 +6,7 @@ mod components;
 mod counters;
 mod expressions;
 mod found;
+mod indices;
 mod modes;
 mod refusals;
 mod sides;
