@@ -1,5 +1,5 @@
 -- The end of the walk: components that some path leaves unwritten.
-use Rattle.std.proofs.Common.{◌≡◌, ℕ, zero, suc, ◌+◌, ◌-◌, ◌<◌, ◌≤◌, List, length, get_or, Option, None, Bool, true, false, ◌&&◌, refl, sym, ap, ◌∙◌, subst, ◌⊎◌, inl, inr, ⊎_elim, arith, add-one}
+use Rattle.std.proofs.Common.{◌≡◌, ℕ, zero, suc, ◌+◌, ◌-◌, ◌<◌, ◌≤◌, List, length, get_or, Option, None, Bool, true, false, ◌&&◌, ◌||◌, refl, sym, ap, ◌∙◌, subst, ◌⊎◌, inl, inr, ⊎_elim, arith, add-one}
 use Rattle.std.proofs.lemmas.Bool.{cases_lt}
 use Rattle.std.proofs.Math.Path.{fun_ext}
 use Rattle.c_lex.specs.declared.tokens.Pos.{Pos}
@@ -8,6 +8,8 @@ use Rattle.kernel_types.specs.declared.statements.RStmt.{RStmt, Block', Declare,
 use Rattle.kernel_model.specs.Obeys.{Mode, mode_at, Counters, no_counters}
 use Rattle.kernel_model.specs.Refusals.{NotAllWritten, opposite}
 use Rattle.kernel_model.specs.Walk.{Breach, Covered, none_covered, all_below, is_op_write, noted_if, leaves_unwritten, ends_found}
+use Rattle.access_check.specs.Indices.{expr_names, stmt_names, row_names}
+use Rattle.access_check.proofs.Unnamed.{or_left, or_right}
 use Rattle.access_check.specs.Agree.{Agree, CountersFit, RowCountersFit}
 
 -- ---- all numbers below one
@@ -54,17 +56,20 @@ no_component c h = fun_ext (λ a. fun_ext (h a))
 
 -- ---- resolved kernels
 
-module _ (params scratch consts : ℕ) where
+module _ (params scratch consts : ℕ) (named : ℕ → Bool) where
   mutual
-    pub counters_fit : (st : RStmt) → StmtWithin params scratch consts st → CountersFit scratch st
-    counters_fit (Block' shape all) h = row_fits all h
-    counters_fit (Declare from count) h = tt
-    counters_fit (SetScalar k op opat e) h = tt
-    counters_fit (SetLocal from count form ix at op opat e) h = tt
-    counters_fit (SetArg a form ix at op opat e) h = tt
-    counters_fit (If' e p a q b) h = (counters_fit a h.1, counters_fit b h.2)
-    counters_fit (For' k first past p body) h = (h.0, h.1, counters_fit body h.2)
+    pub counters_fit : (st : RStmt) → StmtWithin params scratch consts st → ((k : ℕ) → named k ≡ false → stmt_names st k ≡ false) → CountersFit scratch named st
+    counters_fit (Block' shape all) h n = row_fits all h n
+    counters_fit (Declare from count) h n = tt
+    counters_fit (SetScalar k op opat e) h n = tt
+    counters_fit (SetLocal from count form ix at op opat e) h n = tt
+    counters_fit (SetArg a form ix at op opat e) h n = tt
+    counters_fit (If' e p a q b) h n =
+        let more : (k : ℕ) → named k ≡ false → (stmt_names a k || stmt_names b k) ≡ false = λ k m. or_right (expr_names false e k) (stmt_names a k || stmt_names b k) (n k m) in
+        (counters_fit a h.1 (λ k m. or_left (stmt_names a k) (stmt_names b k) (more k m)), counters_fit b h.2 (λ k m. or_right (stmt_names a k) (stmt_names b k) (more k m)))
+    counters_fit (For' k first past p body) h n = (h.0, h.1, n k, counters_fit body h.2 n)
 
-    row_fits : {m : _} → (all : Row_of-RStmt m) → RowWithin params scratch consts all → RowCountersFit scratch all
-    row_fits end_of-RStmt h = tt
-    row_fits (more_of-RStmt first rest) h = (counters_fit first h.0, row_fits rest h.1)
+    row_fits : {m : _} → (all : Row_of-RStmt m) → RowWithin params scratch consts all → ((k : ℕ) → named k ≡ false → row_names all k ≡ false) → RowCountersFit scratch named all
+    row_fits end_of-RStmt h n = tt
+    row_fits (more_of-RStmt first rest) h n =
+        (counters_fit first h.0 (λ k m. or_left (stmt_names first k) (row_names rest k) (n k m)), row_fits rest h.1 (λ k m. or_right (stmt_names first k) (row_names rest k) (n k m)))

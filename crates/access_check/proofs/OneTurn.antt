@@ -1,10 +1,10 @@
 -- One turn of a for is enough, where no static index in its body names its counter: it finds all that all turns find, and covers all that they cover.
-use Rattle.std.proofs.Common.{◌≡◌, ℕ, zero, suc, ℤ, pos, ◌+◌, ◌-◌, ◌<◌, ◌≤◌, Bool, true, false, List, refl, sym, ap, ◌∙◌, subst, arith}
+use Rattle.std.proofs.Common.{◌≡◌, ℕ, zero, suc, ℤ, pos, ◌⊎◌, inl, inr, ◌+◌, ◌-◌, ◌<◌, ◌≤◌, Bool, true, false, List, refl, sym, ap, ◌∙◌, subst, arith}
 use Rattle.std.proofs.Math.Path.{fun_ext}
 use Rattle.kernel_types.specs.declared.statements.RStmt.{RStmt}
 use Rattle.kernel_model.specs.Obeys.{Mode, Counters, with_counter}
 use Rattle.kernel_model.specs.Walk.{Covered, covered_after, turns_covered, stmt_found, turns_found}
-use Rattle.access_check.specs.Indices.{stmt_names}
+use Rattle.access_check.specs.Indices.{stmt_names, Enough}
 use Rattle.access_check.proofs.Least.{Found}
 use Rattle.access_check.proofs.Assigning.{still_within, covered_twice}
 use Rattle.access_check.proofs.Settled.{Below, settled_stmt}
@@ -48,3 +48,19 @@ module _ (modes : List Mode) (body : RStmt) (cs : Counters) (k : ℕ) (e : stmt_
   one_turn_finds first past c f lt =
       let n : past - first ≡ suc (past - first - 1) = omega arith in
       ap (λ m. turns_found modes find cover first m c f) n ∙ rest_finds first (suc first) (past - first - 1) c f
+
+-- turns that are enough find and cover what all turns do
+module _ (modes : List Mode) (body : RStmt) (cs : Counters) (k : ℕ) (is_named : Bool) (e : is_named ≡ false → stmt_names body k ≡ false) where
+  pub enough_cover : (first past end : ℕ) (c : Covered) → Enough is_named first past end → turns_covered (λ i d. covered_after body (with_counter cs k (pos i)) d) first (end - first) c ≡ turns_covered (λ i d. covered_after body (with_counter cs k (pos i)) d) first (past - first) c
+  enough_cover first past end c (inl h) = ap (λ m. turns_covered (λ i d. covered_after body (with_counter cs k (pos i)) d) first (m - first) c) h
+  enough_cover first past end c (inr h) =
+      let q = h.2 in
+      let one : end - first ≡ 1 = omega (arith, q) in
+      ap (λ m. turns_covered (λ i d. covered_after body (with_counter cs k (pos i)) d) first m c) one ∙ sym (one_turn_covers modes body cs k (e h.0) first past c h.1)
+
+  pub enough_find : (first past end : ℕ) (c : Covered) (f : Found) → Enough is_named first past end → turns_found modes (λ i d g. stmt_found modes body (with_counter cs k (pos i)) d g) (λ i d. covered_after body (with_counter cs k (pos i)) d) first (end - first) c f ≡ turns_found modes (λ i d g. stmt_found modes body (with_counter cs k (pos i)) d g) (λ i d. covered_after body (with_counter cs k (pos i)) d) first (past - first) c f
+  enough_find first past end c f (inl h) = ap (λ m. turns_found modes (λ i d g. stmt_found modes body (with_counter cs k (pos i)) d g) (λ i d. covered_after body (with_counter cs k (pos i)) d) first (m - first) c f) h
+  enough_find first past end c f (inr h) =
+      let q = h.2 in
+      let one : end - first ≡ 1 = omega (arith, q) in
+      ap (λ m. turns_found modes (λ i d g. stmt_found modes body (with_counter cs k (pos i)) d g) (λ i d. covered_after body (with_counter cs k (pos i)) d) first m c f) one ∙ sym (one_turn_finds modes body cs k (e h.0) first past c f h.1)

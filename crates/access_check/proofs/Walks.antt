@@ -37,14 +37,14 @@ covered_of_block all cs c =
     let row = row_of (Block all) in
     covered_of_row row.0 row.1 cs c ∙ ap (λ l. list_covered l cs c) (items_hidden-the_row-RStmt-0 all)
 
-fits_row : (cells : ℕ) (m : _) (row : Row_of-RStmt m) → RowCountersFit cells row → ListFits cells (items-the_row-RStmt m row)
-fits_row cells m end_of-RStmt h = tt
-fits_row cells m (more_of-RStmt first rest) h = (h.0, fits_row cells _ rest h.1)
+fits_row : (cells : ℕ) (named : ℕ → Bool) (m : _) (row : Row_of-RStmt m) → RowCountersFit cells named row → ListFits cells named (items-the_row-RStmt m row)
+fits_row cells named m end_of-RStmt h = tt
+fits_row cells named m (more_of-RStmt first rest) h = (h.0, fits_row cells named _ rest h.1)
 
-pub fits_block : (cells : ℕ) (all : Vec RStmt Global) → CountersFit cells (Block all) → ListFits cells all.items
-fits_block cells all h =
+pub fits_block : (cells : ℕ) (named : ℕ → Bool) (all : Vec RStmt Global) → CountersFit cells named (Block all) → ListFits cells named all.items
+fits_block cells named all h =
     let row = row_of (Block all) in
-    subst (ListFits cells) (items_hidden-the_row-RStmt-0 all) (fits_row cells row.0 row.1 h)
+    subst (ListFits cells named) (items_hidden-the_row-RStmt-0 all) (fits_row cells named row.0 row.1 h)
 
 names_of_row : (n : _) (row : Row_of-RStmt n) (k : ℕ) → row_names row k ≡ list_names (items-the_row-RStmt n row) k
 names_of_row n end_of-RStmt k = refl

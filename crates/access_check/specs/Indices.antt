@@ -1,5 +1,5 @@
 -- Which counters the indices of a kernel's arguments name.
-use Rattle.std.specs.Prelude.{◌≡◌, ℕ, Bool, true, false, ◌&&◌, ◌||◌, List, [], ◌∷◌, nat_eq, slice_index_or}
+use Rattle.std.specs.Prelude.{◌≡◌, ℕ, Bool, true, false, ◌&&◌, ◌||◌, ◌⊎◌, ◌<◌, ◌+◌, List, [], ◌∷◌, nat_eq, slice_index_or}
 use Rattle.kernel_types.specs.declared.expressions.RExpr.{RExpr}
 use Rattle.kernel_types.specs.declared.expressions.RExpr.TheVariants.{Number, Scalar, Constant, Arg', Local', Const', Unary', Binary', Choice', Paren', Extremum', Absolute'}
 use Rattle.kernel_types.specs.declared.statements.RStmt.{RStmt, Block', Declare, SetScalar, SetLocal, SetArg, If', For', Row_of-RStmt, end_of-RStmt, more_of-RStmt}
@@ -39,6 +39,10 @@ abbrev mutual
 abbrev pub list_names : List RStmt → ℕ → Bool
 list_names [] k = false
 list_names (st ∷ rest) k = stmt_names st k || list_names rest k
+
+-- turns up to `end` are enough: they are all, or one where the counter isn't named
+abbrev pub Enough : Bool → ℕ → ℕ → ℕ → Type 0
+Enough is_named first past end = (end ≡ past) ⊎ ((is_named ≡ false) × (first < past) × (end ≡ first + 1))
 
 -- the table says so of the cell; it says so of each cell that it hasn't
 abbrev pub names_of : List Bool → ℕ → Bool

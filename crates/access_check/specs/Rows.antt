@@ -1,5 +1,5 @@
 -- The walk over statements in a list.
-use Rattle.std.specs.Prelude.{ℕ, List, [], ◌∷◌, Option}
+use Rattle.std.specs.Prelude.{ℕ, List, [], ◌∷◌, Option, Bool}
 use Rattle.kernel_types.specs.declared.statements.RStmt.{RStmt}
 use Rattle.kernel_model.specs.Obeys.{Mode, Counters}
 use Rattle.kernel_model.specs.Walk.{Breach, Covered, stmt_found, covered_after}
@@ -15,7 +15,7 @@ abbrev pub list_found : List Mode → List RStmt → Counters → Covered → Op
 list_found modes [] cs c found = found
 list_found modes (st ∷ rest) cs c found = list_found modes rest cs (covered_after st cs c) (stmt_found modes st cs c found)
 
--- the counters of each have their cells
-abbrev pub ListFits : ℕ → List RStmt → Type 0
-ListFits cells [] = Unit {0}
-ListFits cells (st ∷ rest) = CountersFit cells st × ListFits cells rest
+-- the counters of each have their cells, and the table says which are named
+abbrev pub ListFits : ℕ → (ℕ → Bool) → List RStmt → Type 0
+ListFits cells named [] = Unit {0}
+ListFits cells named (st ∷ rest) = CountersFit cells named st × ListFits cells named rest

@@ -1,12 +1,11 @@
 // The access rules, on a whole kernel.
 
 ghost use Rattle.std.specs.Prelude.{◌≡◌, ◌-◌, ◌<◌, ◌≤◌, ◌⊎◌, ◌&&◌, ℕ, None, length, map, IfOk, IfErr, slice_index_or};
-ghost use Rattle.kernel_types.specs.Resolved.{IsResolved};
+ghost use Rattle.kernel_types.specs.Resolved.{IsResolved, StmtWithin};
 ghost use Rattle.kernel_model.specs.Obeys.{KernelObeys};
 ghost use Rattle.kernel_model.specs.Walk as model;
 ghost use Rattle.kernel_model.specs.Refusals.{opposite, parameter_place};
 ghost use Rattle.kernel_model.specs.Walk.{all_below, is_op_write};
-ghost use Rattle.access_check.specs.Agree.{CountersFit};
 ghost use Rattle.reductions.specs.Access.{access_of};
 ghost use Rattle.access_check.specs.Modes.{model_of, AreSmall};
 ghost use Rattle.access_check.specs.Found.{found_of};
@@ -14,6 +13,7 @@ ghost use Rattle.access_check.specs.Refusals.{Refuses, Disobeys};
 ghost use Rattle.access_check.specs.States.{has_component};
 
 use crate::components::{Components, is_among, no_components};
+use crate::indices::note_indices;
 use crate::found::{Breach, Rule, with_rule};
 use crate::modes::{Mode, mode_of};
 use crate::refusals::{AccessRefusal, refusal_of};
@@ -51,18 +51,20 @@ fn place_of_parameter(kernel: &RKernel, arg: u32) -> Pos
 }
 
 // What the walk finds, where no counter is known yet.
-fn found_in(kernel: &RKernel, modes: &[Mode], counters: &mut [Option<i32>]) -> Option<Breach>
+fn found_in(kernel: &RKernel, modes: &[Mode], counters: &mut [Option<i32>], named: &mut [bool]) -> Option<Breach>
     requires params { length kernel.now.body.param_places.items ≡ length modes.now }
     requires modes { AreSmall modes.now }
-    requires fits { CountersFit (length counters.old) kernel.now.body.statement }
+    requires within { (consts : ℕ) × StmtWithin kernel.now.params (length counters.old) consts kernel.now.body.statement }
     requires unknown { (k : ℕ) → slice_index_or counters.old k None ≡ None }
     ensures { found_of result ≡ model.walk kernel.now (map model_of modes.now) }
 {
+    note_indices(&kernel.body.statement, named);
     let mut covered = no_components();
     let mut found = None;
     walk(
         &kernel.body.statement,
         modes,
+        named,
         counters,
         &mut covered,
         &mut found,
@@ -91,12 +93,14 @@ pub fn check(alloc: Global, kernel: &RKernel, modes: &[Mode]) -> Result<(), Acce
 {
     kernel_model::walk_finds();
     kernel_model::rules_are_broken();
-    let counters = vec![in alloc; None; kernel.scratch as usize];
-    match counters {
-        Err(_) => Err(AccessRefusal::OutOfMemory),
-        Ok(mut cells) => match found_in(kernel, modes, &mut cells) {
-            None => Ok(()),
-            Some(breach) => Err(refusal_of(breach)),
-        },
+    let Ok(mut counters) = vec![in alloc; None; kernel.scratch as usize] else {
+        return Err(AccessRefusal::OutOfMemory);
+    };
+    let Ok(mut named) = vec![in alloc; false; kernel.scratch as usize] else {
+        return Err(AccessRefusal::OutOfMemory);
+    };
+    match found_in(kernel, modes, &mut counters, &mut named) {
+        None => Ok(()),
+        Some(breach) => Err(refusal_of(breach)),
     }
 }

@@ -5,6 +5,16 @@ ghost use Rattle.access_check.specs.Indices.{names_of, expr_names, stmt_names};
 
 use kernel_types::{RExpr, RStmt};
 
+/// Whether the table says that an index names the cell.
+pub fn is_named(named: &[bool], cell: u32) -> bool
+    ensures { result ≡ names_of named.now cell }
+{
+    match named.get(cell as usize) {
+        Some(is_named) => *is_named,
+        None => true,
+    }
+}
+
 // Notes one cell, where the table has it.
 fn note_cell(named: &mut [bool], cell: u32)
     ensures { (k : ℕ) → names_of named.new k ≡ (nat_eq cell k || names_of named.old k) }

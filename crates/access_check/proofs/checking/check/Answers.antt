@@ -1,17 +1,16 @@
 use Rattle.std.proofs.Common.{rules, ◌≡◌, ◌∙◌, sym, ap, subst, length, map}
 use Rattle.kernel_model.specs.Walk.{IsFound}
-use Rattle.access_check.specs.Agree.{CountersFit}
+use Rattle.kernel_types.specs.Resolved.{StmtWithin}
 use Rattle.access_check.specs.Modes.{model_of}
 use Rattle.access_check.specs.Found.{found_of}
-use Rattle.access_check.proofs.Ends.{counters_fit}
 use Rattle.access_check.proofs.Refused.{refused_disobeys}
 use Rattle.access_check.proofs.checking.check.Goals as goal
 
-pub found_in-requires-clause-fits : goal.found_in-requires-clause-fits
-found_in-requires-clause-fits c =
+pub found_in-requires-clause-within : goal.found_in-requires-clause-within
+found_in-requires-clause-within c =
     let k = c.args.kernel.now in
     let len : length c.deref_mut.result.now ≡ k.scratch = search rules in
-    subst (λ n. CountersFit n k.body.statement) (sym len) (counters_fit k.params k.scratch c.requires.resolved.0 k.body.statement c.requires.resolved.1.within)
+    (c.requires.resolved.0, subst (λ n. StmtWithin k.params n c.requires.resolved.0 k.body.statement) (sym len) c.requires.resolved.1.within)
 
 pub returns-clause-refused : goal.returns-clause-refused
 returns-clause-refused c =

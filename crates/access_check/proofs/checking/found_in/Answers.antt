@@ -6,7 +6,9 @@ use Rattle.access_check.specs.Agree.{Agree}
 use Rattle.access_check.specs.Modes.{model_of}
 use Rattle.access_check.specs.Found.{found_of}
 use Rattle.access_check.specs.States.{has_component, counters_of}
-use Rattle.access_check.proofs.Ends.{end_step, no_counter, no_component}
+use Rattle.access_check.specs.Indices.{names_of, stmt_names}
+use Rattle.access_check.proofs.Unnamed.{or_left}
+use Rattle.access_check.proofs.Ends.{counters_fit, end_step, no_counter, no_component}
 use Rattle.access_check.proofs.checking.found_in.Goals as goal
 
 pub loop-a-preserved : goal.loop-a-preserved
@@ -23,3 +25,10 @@ loop-a-preserved c =
     (c.lacks_some-broken.ensures ∙ ap (λ (m : Mode). is_op_write m.access && opposite (all_below (after c.loop-a.a) m.dim)) c.mode_of.ensures)
     c.place_of_parameter.ensures c.with_rule-found.ensures
     ∙ c.loop-a.invariant
+
+pub walk-requires-clause-fits : goal.walk-requires-clause-fits
+walk-requires-clause-fits c =
+    let k = c.args.kernel.now in
+    let st = k.body.statement in
+    counters_fit k.params (length c.args.counters.now) c.requires.within.0 (names_of c.note_indices.new.named) st c.requires.within.1
+    (λ j e. or_left (stmt_names st j) (names_of c.args.named.now j) (sym (c.note_indices.ensures j) ∙ e))

@@ -5,13 +5,14 @@ use Rattle.access_check.specs.Modes.{model_of}
 use Rattle.access_check.specs.Found.{found_of}
 use Rattle.access_check.specs.States.{has_component, counters_of}
 use Rattle.access_check.specs.Agree.{Agree}
+use Rattle.access_check.specs.Indices.{names_of}
 use Rattle.access_check.specs.Rows.{list_found, list_covered, ListFits}
 use Rattle.access_check.proofs.walking.+walk.Given as goal
 
 abbrev pub invariant-walk-loop-inner : goal.invariant-walk-loop-inner
 invariant-walk-loop-inner l = record {
   counters : l.counters ≡ l.initial.counters;
-  fits : ListFits (length l.initial.counters) (drop l.inner-index l.inner-items);
+  fits : ListFits (length l.initial.counters) (names_of l.named) (drop l.inner-index l.inner-items);
   found : list_found (map model_of l.modes) (drop l.inner-index l.inner-items) (counters_of l.initial.counters) (has_component l.covered) (found_of l.found) ≡ stmt_found (map model_of l.modes) l.st (counters_of l.initial.counters) (has_component l.fn.covered) (found_of l.fn.found);
   covered : Agree (map model_of l.modes) (covered_after l.st (counters_of l.initial.counters) (has_component l.fn.covered)) (list_covered (drop l.inner-index l.inner-items) (counters_of l.initial.counters) (has_component l.covered));
 }
