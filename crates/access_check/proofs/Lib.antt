@@ -11,3 +11,4 @@ pub mod Settled
 pub mod Unnamed
 pub mod OneTurn
 pub mod Sizes
+pub mod Chains

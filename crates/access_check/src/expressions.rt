@@ -16,7 +16,31 @@ use crate::uses::{Occurrence, Use, occurrence_found};
 use c_tree::MinMax;
 use kernel_types::RExpr;
 
+// What is found after an expression. A chain of operators, each the left operand of the one before it, is gone along by
+// a loop from its end, since what counts doesn't turn on the order.
+#[cycle(expressions)]
+#[tactic(auto, using(crate::proofs::Chains::found_down))]
+fn after_chain(
+    e: &RExpr,
+    modes: &[Mode],
+    counters: &[Option<i32>],
+    covered: &Components,
+    found: Option<Breach>,
+) -> Option<Breach>
+    requires modes { AreSmall modes.now }
+    ensures { found_of result ≡ expr_found (map model_of modes.now) e.now (counters_of counters.now) (has_component covered.now) (found_of found) }
+{
+    let mut rest = e;
+    let mut now = found;
+    'down: while let RExpr::Binary { left, right, .. } = rest {
+        now = after_expression(right, modes, counters, covered, now);
+        rest = left;
+    }
+    after_expression(rest, modes, counters, covered, now)
+}
+
 /// What is found after an expression.
+#[cycle(expressions)]
 pub fn after_expression(
     e: &RExpr,
     modes: &[Mode],
@@ -48,7 +72,7 @@ pub fn after_expression(
         RExpr::Const { index, .. } => after_expression(index, modes, counters, covered, found),
         RExpr::Unary { operand, .. } => after_expression(operand, modes, counters, covered, found),
         RExpr::Binary { left, right, .. } => {
-            let first = after_expression(left, modes, counters, covered, found);
+            let first = after_chain(left, modes, counters, covered, found);
             after_expression(right, modes, counters, covered, first)
         }
         RExpr::Choice {

@@ -64,7 +64,44 @@ fn is_same_op(a: BinaryOp, b: BinaryOp) -> bool
     }
 }
 
+// Whether both expressions are written in the same tokens. A chain of operators, each the left operand of the one before
+// it, is gone along by a loop.
+#[cycle(same)]
+#[tactic(auto, using(crate::proofs::Chains::same_swap))]
+fn is_same_chain(a: &RExpr, b: &RExpr) -> bool
+    ensures { result ≡ same_tokens a.now b.now }
+{
+    let mut one = a;
+    let mut other = b;
+    'down: loop {
+        match one {
+            RExpr::Binary {
+                op,
+                left,
+                right,
+                ..
+            } => match other {
+                RExpr::Binary {
+                    op: other_op,
+                    left: other_left,
+                    right: other_right,
+                    ..
+                } => {
+                    if !is_same_op(*op, *other_op) || !is_same(right, other_right) {
+                        return false;
+                    }
+                    one = left;
+                    other = other_left;
+                }
+                _ => return false,
+            },
+            _ => return is_same(one, other),
+        }
+    }
+}
+
 /// Whether both expressions are written in the same tokens: they are the same tree, places aside.
+#[cycle(same)]
 pub fn is_same(a: &RExpr, b: &RExpr) -> bool
     ensures { result ≡ same_tokens a.now b.now }
 {
@@ -158,7 +195,9 @@ pub fn is_same(a: &RExpr, b: &RExpr) -> bool
                 right: other_right,
                 ..
             } => {
-                is_same_op(*op, *other) && is_same(left, other_left) && is_same(right, other_right)
+                is_same_op(*op, *other)
+                    && is_same_chain(left, other_left)
+                    && is_same(right, other_right)
             }
             _ => false,
         },
