@@ -12,3 +12,4 @@ pub mod Unnamed
 pub mod OneTurn
 pub mod Sizes
 pub mod Chains
+pub mod StaticChains

@@ -7,3 +7,4 @@ pub mod Agree
 pub mod Rows
 pub mod Refusals
 pub mod Indices
+pub mod Chains
