@@ -13,8 +13,8 @@ ghost use Rattle.access_check.specs.Refusals.{Refuses, Disobeys};
 ghost use Rattle.access_check.specs.States.{has_component};
 
 use crate::components::{Components, is_among, no_components};
-use crate::indices::note_indices;
 use crate::found::{Breach, Rule, with_rule};
+use crate::indices::note_indices;
 use crate::modes::{Mode, mode_of};
 use crate::refusals::{AccessRefusal, refusal_of};
 use crate::uses::only_writes;
@@ -51,7 +51,12 @@ fn place_of_parameter(kernel: &RKernel, arg: u32) -> Pos
 }
 
 // What the walk finds, where no counter is known yet.
-fn found_in(kernel: &RKernel, modes: &[Mode], counters: &mut [Option<i32>], named: &mut [bool]) -> Option<Breach>
+fn found_in(
+    kernel: &RKernel,
+    modes: &[Mode],
+    counters: &mut [Option<i32>],
+    named: &mut [bool],
+) -> Option<Breach>
     requires params { length kernel.now.body.param_places.items ≡ length modes.now }
     requires modes { AreSmall modes.now }
     requires within { (consts : ℕ) × StmtWithin kernel.now.params (length counters.old) consts kernel.now.body.statement }
