@@ -1,5 +1,7 @@
 // What no clause says: that calls succeed, and what the real files and streams hold.
 use super::*;
+use std::io::Write;
+use std::os::fd::AsRawFd;
 use std::test::Fail;
 use std::{fs, io};
 
@@ -84,6 +86,19 @@ fn a_file_replaced_while_it_is_read(rt: HostRuntime) -> Result<(), Fail> {
     );
     assert_eq!(rt; piece.as_slice(), b"new ".as_slice());
     fs::remove_file(&rt, "op_outside_replaced.txt")?;
+    Ok(())
+}
+
+#[test]
+fn a_pipe_is_read_whole(rt: HostRuntime) -> Result<(), Fail> {
+    let alloc = rt.alloc();
+    let (reader, mut writer) = io::pipe(&rt)?;
+    writer.write_all(b"through a pipe")?;
+    drop(writer);
+    let name = format!(in alloc; "/proc/self/fd/{}", reader.as_raw_fd())?;
+    let mut shelf = FileShelf::new(rt.clone()?);
+    let bytes = read_whole(alloc, &mut shelf, &name, 14)?;
+    assert_eq!(rt; bytes.as_slice(), b"through a pipe".as_slice());
     Ok(())
 }
 
