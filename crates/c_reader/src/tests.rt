@@ -300,7 +300,7 @@ fn nests_up_to_64_levels(rt: HostRuntime) -> Result<(), Fail> {
     for (before, open, count, end) in [
         ("int x = ", "(", 63, 71),
         ("int main(int argc, char **argv) ", "{", 65, 97),
-        ("void f(int *p) {", "if (1) ", 64, 464),
+        ("int x = ", "!", 63, 71),
     ] {
         let source = repeated(alloc, [before, open, "", "", ""], count)?;
         assert!(rt;
