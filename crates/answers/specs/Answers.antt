@@ -1,0 +1,55 @@
+-- What the program answers to its words, over files that are told.
+use Rattle.std.specs.Prelude.{◌≡◌, ℕ, List, Option, Some, None, Result, Ok, Err, ◌⊎◌, if◌then◌else◌}
+use Rattle.std.specs.Str.{bytes_eq}
+use Rattle.kernel_types.specs.declared.faults.KernelFault.{KernelFault}
+use Rattle.schedule_model.specs.Sequential.{Stop}
+use Rattle.bound_program.specs.Values.{BoundValue}
+use Rattle.run_model.specs.Programs.{printed, first_fault}
+use Rattle.op_outside.specs.Outside.{Files}
+use Rattle.answers.specs.declared.usage.TheConstants.{USAGE, VERSION}
+use Rattle.answers.specs.Refusal.{Refusal, CannotRead}
+use Rattle.answers.specs.Lines.{Answer, done, refused, faulted}
+use Rattle.answers.specs.Words.{Job, Run, Command, OnProgram, ShowsUsage, ShowsVersion, WordsAre}
+use Rattle.answers.specs.Judgements.{SourceIs, TreeIs, TypesAre, MeshIs, EntriesAre, BoundIs, AccessesAre}
+
+-- A judgement, and what comes after it: its refusal ends it, and what it gives goes on.
+abbrev pub given : {A : Type 0} → (Result A Refusal → Type 0) → (A → Answer → Type 0) → Answer → Type 0
+given {A} judged rest a = ((r : Refusal) × judged (Err r) × (a ≡ refused r)) ⊎ ((x : A) × judged (Ok x) × rest x a)
+
+-- what a run printed, up to its first fault if it has one
+abbrev pub ran : Option (Stop KernelFault) → List ℕ → Answer
+ran None bytes = done bytes
+ran (Some x) bytes = faulted bytes x
+
+-- the answer of a job on a bound program
+abbrev pub JobAnswers : Job → BoundValue → Answer → Type 0
+JobAnswers Run b a = a ≡ ran (first_fault b) (printed b)
+
+-- The answer of a job on a source and a mesh: seven judgements in this order, and then what the job does.
+abbrev pub ProgramAnswers : Job → (source mesh : List ℕ) → Files → Answer → Type 0
+ProgramAnswers j source mesh files =
+    given (SourceIs source files) (λ bytes.
+    given (TreeIs bytes) (λ p.
+    given (TypesAre p) (λ types.
+    given (MeshIs mesh files) (λ text.
+    given (EntriesAre text) (λ es.
+    given (BoundIs p types es) (λ b.
+    given (AccessesAre b) (λ _. JobAnswers j b)))))))
+
+-- the answer of a command
+abbrev pub CommandAnswers : Command → Files → Answer → Type 0
+CommandAnswers (OnProgram j source mesh) files = ProgramAnswers j source mesh files
+CommandAnswers ShowsUsage files = λ a. a ≡ done USAGE.now
+CommandAnswers ShowsVersion files = λ a. a ≡ done VERSION.now
+
+-- The answer to the words.
+abbrev pub Answers : List (List ℕ) → Files → Answer → Type 0
+Answers words files = given (WordsAre words) (λ c. CommandAnswers c files)
+
+-- the files without the one of this name
+abbrev pub without : List ℕ → Files → Files
+without name files other = if bytes_eq other name then None else files other
+
+-- This file comes to be read: were it missing, the answer would say so.
+abbrev pub ComesToBeRead : List (List ℕ) → Files → List ℕ → Type 0
+ComesToBeRead words files name = Answers words (without name files) (refused (CannotRead name))

@@ -1,0 +1,135 @@
+-- How a call of the program ends, and what stands on `out` and `err` then.
+use Rattle.std.specs.Prelude.{◌≡◌, ℕ, ◌⊎◌, List, [], ◌∷◌, Option, Some, None, nat_eq, codes, if◌then◌else◌}
+use Rattle.std.specs.List.{Contains}
+use Rattle.kernel_types.specs.declared.faults.KernelFault.{KernelFault}
+use Rattle.schedule_model.specs.Sequential.{Stop}
+use Rattle.op_outside.specs.Outside.{Files, Rose, appended, AppendsFront}
+use Rattle.answers.specs.Refusal.{Refusal, Usage, CannotRead, status_of}
+use Rattle.answers.specs.Lines.{Answer, done, refused, faulted, whole_line, line_of}
+use Rattle.answers.specs.Words.{named_by}
+use Rattle.answers.specs.Answers.{Answers, ComesToBeRead}
+
+-- An answer; want of memory; a file that could not be read; an answer that could not be written.
+pub data Ending : Type 0 where
+  Answered : Answer → Ending
+  OutOfMemory : Ending
+  Unread : (name : List ℕ) → Ending
+  Unwritten : Answer → Ending
+
+-- the status of an answer that could not be written: a run with a fault keeps its own
+abbrev pub unwritten_status : Answer → ℕ
+unwritten_status a = if nat_eq a.status 0 then 4 else a.status
+
+-- the line of an answer that could not be written: a run with a fault keeps its own
+abbrev pub unwritten_line : Answer → List ℕ
+unwritten_line a = if nat_eq a.status 0 then whole_line (codes "cannot write") else a.line
+
+-- the status that the program ends with
+abbrev pub ending_status : Ending → ℕ
+ending_status (Answered a) = a.status
+ending_status OutOfMemory = 1
+ending_status (Unread name) = status_of (CannotRead name)
+ending_status (Unwritten a) = unwritten_status a
+
+-- the one line of an ending, or nothing where nothing is wrong
+abbrev pub ending_line : Ending → List ℕ
+ending_line (Answered a) = a.line
+ending_line OutOfMemory = whole_line (codes "out of memory")
+ending_line (Unread name) = line_of (CannotRead name)
+ending_line (Unwritten a) = unwritten_line a
+
+-- ---- a call
+
+-- The words, and the files that the shelf tells, if it does. The counts of faults of the shelf, of `out` and of `err`, and the
+-- bytes that `out` and `err` tell, if they do: each before the call and after it.
+pub record Call : Type 0 where
+  pub words : List (List ℕ)
+  pub told : Option Files
+  pub reads : ℕ × ℕ
+  pub writes : ℕ × ℕ
+  pub reports : ℕ × ℕ
+  pub out : Option (List ℕ) × Option (List ℕ)
+  pub err : Option (List ℕ) × Option (List ℕ)
+
+-- ---- what the answer is
+
+-- a refusal of what a file holds
+abbrev pub IsOfContents : Refusal → Type 0
+IsOfContents Usage = ⊥
+IsOfContents (CannotRead name) = ⊥
+IsOfContents r = Unit {0}
+
+-- an answer that there is over some contents of files: all is well, what they hold is refused, or a run has a fault
+abbrev pub IsSomeAnswer : Answer → Type 0
+IsSomeAnswer a =
+    ((bytes : List ℕ) × (a ≡ done bytes))
+    ⊎ ((r : Refusal) × IsOfContents r × (a ≡ refused r))
+    ⊎ ((bytes : List ℕ) × (x : Stop KernelFault) × (a ≡ faulted bytes x))
+
+-- no file is held
+abbrev pub no_files : Files
+no_files name = None
+
+-- The answer of words that name these files, where none are told: what the files hold is not known. Words that name none have
+-- their answer over no files.
+abbrev pub TellsUntold : List (List ℕ) → List (List ℕ) → Answer → Type 0
+TellsUntold words [] a = Answers words no_files a
+TellsUntold words (name ∷ names) a = IsSomeAnswer a
+
+-- the words have this answer over the files that are told, if they are
+abbrev pub Tells : List (List ℕ) → Option Files → Answer → Type 0
+Tells words (Some files) a = Answers words files a
+Tells words None a = TellsUntold words (named_by words) a
+
+-- This file comes to be read, over the files that are told; where none are told, over some.
+abbrev pub Asks : List (List ℕ) → Option Files → List ℕ → Type 0
+Asks words (Some files) name = ComesToBeRead words files name
+Asks words None name = (files : Files) × ComesToBeRead words files name
+
+-- the bytes of an answer are written where it has status 0 or 9
+abbrev pub IsWritten : Answer → Type 0
+IsWritten a = (a.status ≡ 0) ⊎ (a.status ≡ 9)
+
+-- ---- the endings
+
+-- Each ending has its cause, and what it leaves on `out`. Want of memory alone is free.
+abbrev pub EndsBy : Call → Ending → Type 0
+EndsBy c (Answered a) = Tells c.words c.told a × (c.out.1 ≡ appended c.out.0 a.out)
+EndsBy c OutOfMemory = c.out.1 ≡ c.out.0
+EndsBy c (Unread name) =
+    Rose c.reads.0 c.reads.1
+    × Contains (named_by c.words) name
+    × Asks c.words c.told name
+    × (c.out.1 ≡ c.out.0)
+EndsBy c (Unwritten a) =
+    Rose c.writes.0 c.writes.1
+    × Tells c.words c.told a
+    × IsWritten a
+    × AppendsFront c.out.0 a.out c.out.1
+
+-- `err` gets this line, or, where its count rose, a front of it
+abbrev pub IsReported : Call → List ℕ → Type 0
+IsReported c line = (c.err.1 ≡ appended c.err.0 line) ⊎ (Rose c.reports.0 c.reports.1 × AppendsFront c.err.0 line c.err.1)
+
+-- The call ends with this status: it has one of the endings, with its cause, its status and its line.
+pub record Ends (c : Call) (status : ℕ) : Type 0 where
+  pub ending : Ending
+  pub is : status ≡ ending_status ending
+  pub cause : EndsBy c ending
+  pub report : IsReported c (ending_line ending)
+
+-- These files tell the answer: they are told, or the words name none.
+abbrev pub TellTheAnswer : Call → Files → Type 0
+TellTheAnswer c files = (c.told ≡ Some files) ⊎ (named_by c.words ≡ [])
+
+-- The status is that of any answer over files that tell it, unless memory ran out or a count of faults rose. So where nothing is
+-- refused and neither count rose, it is 0 without a fault of the run and 9 with one, or 1.
+abbrev pub IsComplete : Call → ℕ → Type 0
+IsComplete c status =
+    (files : Files) (a : Answer)
+    → TellTheAnswer c files
+    → Answers c.words files a
+    → (status ≡ a.status)
+    ⊎ (status ≡ 1)
+    ⊎ ((status ≡ 3) × Rose c.reads.0 c.reads.1)
+    ⊎ ((status ≡ 4) × Rose c.writes.0 c.writes.1)

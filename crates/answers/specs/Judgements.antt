@@ -1,0 +1,102 @@
+-- The judgements, each a relation between what it looks at and what it gives: a value, or its refusal.
+use Rattle.std.specs.Prelude.{◌≡◌, ℕ, suc, ◌<◌, ◌≤◌, List, ◌∷◌, ◌++◌, length, All, Option, Some, None, Result, Ok, Err}
+use Rattle.c_lex.specs.declared.tokens.Pos.{Pos}
+use Rattle.c_tree.specs.Tree.{ProgramTree}
+use Rattle.c_tree.specs.Reads.{Reads, Deep}
+use Rattle.c_reader.specs.declared.refusals.SourceRefusal.{SourceRefusal}
+use Rattle.c_reader.specs.declared.refusals.SourceRefusal.TheVariants as source
+use Rattle.c_reader.specs.Answered.{place_at, CanRefuse}
+use Rattle.kernel_types.specs.declared.kernels.RKernel.{RKernel}
+use Rattle.kernel_types.specs.declared.kernels.Resolved.{Resolved}
+use Rattle.kernel_types.specs.View.{resolved_of}
+use Rattle.name_resolution.specs.declared.refusals.TypeRefusal.{TypeRefusal}
+use Rattle.name_resolution.specs.Programs.{Resolves}
+use Rattle.mesh_text.specs.declared.entry.MeshRefusal.{MeshRefusal}
+use Rattle.mesh_text.specs.Spelling.{Named, Spells, total}
+use Rattle.mesh_text.specs.Reading.{Refuses}
+use Rattle.bind_refusals.specs.declared.refusals.BindRefusal.{BindRefusal}
+use Rattle.bound_program.specs.Values.{BoundValue, SiteValue}
+use Rattle.loop_bind.specs.Bound.{bound}
+use Rattle.kernel_model.specs.Obeys.{KernelObeys}
+use Rattle.kernel_model.specs.Refusals.{Rule, IsRefusal, number_of}
+use Rattle.run_model.specs.Kernels.{kernel_at}
+use Rattle.run_model.specs.Arguments.{modes_of}
+use Rattle.op_outside.specs.Outside.{Files}
+use Rattle.answers.specs.Refusal.{Limit, SourceBytes, MeshBytes, MeshValues, Refusal, CannotRead, BadAccess, BeyondLimit}
+use Rattle.answers.specs.Lines.{most}
+use Rattle.answers.specs.Said.{SaysSource, SaysTypes, SaysMesh, SaysBinding}
+
+-- ---- files
+
+-- The bytes of a file are what is held under its name, within the limit.
+abbrev pub IsHeld : Limit → List ℕ → Option (List ℕ) → Result (List ℕ) Refusal → Type 0
+IsHeld limit name None (Ok bytes) = ⊥
+IsHeld limit name None (Err r) = r ≡ CannotRead name
+IsHeld limit name (Some held) (Ok bytes) = (bytes ≡ held) × (length held ≤ most limit)
+IsHeld limit name (Some held) (Err r) = (r ≡ BeyondLimit limit (suc (most limit))) × (most limit < length held)
+
+-- the bytes of the source
+abbrev pub SourceIs : List ℕ → Files → Result (List ℕ) Refusal → Type 0
+SourceIs name files r = IsHeld SourceBytes name (files name) r
+
+-- the bytes of the mesh
+abbrev pub MeshIs : List ℕ → Files → Result (List ℕ) Refusal → Type 0
+MeshIs name files r = IsHeld MeshBytes name (files name) r
+
+-- ---- the source
+
+-- The bytes have no tree of at most 64 levels; where they have a deeper one, they are refused for its depth, at its first token
+-- beyond them; and what is said of them is so.
+pub record IsUnread (bytes : List ℕ) (e : SourceRefusal) : Type 0 where
+  pub none : (p : ProgramTree) → ¬ Reads bytes p
+  pub deep : (p : ProgramTree) (n : ℕ) → Deep bytes p n → e ≡ source.TooDeep (place_at p.places bytes n)
+  pub cause : CanRefuse bytes e
+
+-- the tree of the source
+abbrev pub TreeIs : List ℕ → Result ProgramTree Refusal → Type 0
+TreeIs bytes (Ok p) = Reads bytes p
+TreeIs bytes (Err r) = (e : SourceRefusal) × IsUnread bytes e × SaysSource e r
+
+-- its kernels and constants, wherever they lie in memory
+abbrev pub TypesAre : ProgramTree → Result Resolved Refusal → Type 0
+TypesAre p (Ok types) = Resolves p (Ok (resolved_of types))
+TypesAre p (Err r) = (e : TypeRefusal) × Resolves p (Err e) × SaysTypes e r
+
+-- ---- the mesh
+
+-- the entries that the mesh text spells
+abbrev pub EntriesAre : List ℕ → Result (List Named) Refusal → Type 0
+EntriesAre bytes (Ok es) = Spells bytes es × (total es ≤ most MeshValues)
+EntriesAre bytes (Err r) = (e : MeshRefusal) × Refuses bytes e × SaysMesh e r
+
+-- ---- both
+
+-- the bound program
+abbrev pub BoundIs : ProgramTree → Resolved → List Named → Result BoundValue Refusal → Type 0
+BoundIs p types es (Ok b) = bound p types es ≡ Ok b
+BoundIs p types es (Err r) = (e : BindRefusal) × (bound p types es ≡ Err e) × SaysBinding p e r
+
+-- the kernel of a loop keeps to the accesses of its arguments
+abbrev pub SiteObeys : BoundValue → SiteValue → Type 0
+SiteObeys b site = (k : RKernel) → kernel_at b.kernels site.kernel ≡ Some k → KernelObeys k (modes_of b site)
+
+-- the kernel of a loop doesn't: the rule that it breaks at the earliest place, and that place
+abbrev pub SiteRefuses : BoundValue → SiteValue → Rule → Pos → Type 0
+SiteRefuses b site rule at = (k : RKernel) × (kernel_at b.kernels site.kernel ≡ Some k) × IsRefusal k (modes_of b site) rule at
+
+-- the first of the loops whose kernel doesn't, and its refusal
+pub record IsFirstSite (b : BoundValue) (r : Refusal) : Type 0 where
+  pub earlier : List SiteValue
+  pub site : SiteValue
+  pub later : List SiteValue
+  pub whole : b.sites ≡ earlier ++ site ∷ later
+  pub before : All (SiteObeys b) earlier
+  pub rule : Rule
+  pub at : Pos
+  pub refuses : SiteRefuses b site rule at
+  pub says : r ≡ BadAccess (number_of rule) at
+
+-- the kernels of all loops keep to the accesses of their arguments
+abbrev pub AccessesAre : BoundValue → Result (Unit {0}) Refusal → Type 0
+AccessesAre b (Ok _) = All (SiteObeys b) b.sites
+AccessesAre b (Err r) = IsFirstSite b r

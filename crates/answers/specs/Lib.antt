@@ -1,0 +1,7 @@
+pub mod Refusal
+pub mod Lines
+pub mod Words
+pub mod Said
+pub mod Judgements
+pub mod Answers
+pub mod Endings

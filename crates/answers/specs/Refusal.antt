@@ -1,0 +1,57 @@
+-- What the program can refuse, and what it answers.
+use Rattle.std.specs.Prelude.{ℕ, List}
+use Rattle.c_lex.specs.declared.tokens.Pos.{Pos}
+
+-- a size that has a limit
+pub data Limit : Type 0 where
+  SourceBytes : Limit
+  MeshBytes : Limit
+  MeshValues : Limit
+  Sets : Limit
+  Maps : Limit
+  Dats : Limit
+  SetSize : Limit
+  Dim : Limit
+  MeshCells : Limit
+  Arguments : Limit
+  Trace : Limit
+  PrintWeight : Limit
+
+-- One constructor for each line that the program writes about its words and its files.
+pub data Refusal : Type 0 where
+  -- the words are not those of a command
+  Usage : Refusal
+  -- the file of that name cannot be read
+  CannotRead : (name : List ℕ) → Refusal
+  -- the source has no tokens
+  NoTokens : (number : ℕ) (at : Pos) → Refusal
+  -- the source has no tree
+  NoTree : (at : Pos) → Refusal
+  -- the tree of the source has too many levels
+  TooDeep : (at : Pos) → Refusal
+  -- a rule on names and types is broken
+  BadName : (number : ℕ) (at : Pos) → Refusal
+  -- the source can't be bound to the mesh
+  BadBinding : (number : ℕ) (at : Pos) → Refusal
+  -- a map leads to no element
+  BadTarget : (at : Pos) (map : List ℕ) (element place : ℕ) → Refusal
+  -- a kernel doesn't keep to the accesses of its arguments
+  BadAccess : (number : ℕ) (at : Pos) → Refusal
+  -- the mesh text spells no entries
+  BadMesh : (number line : ℕ) → Refusal
+  -- a size is beyond its limit
+  BeyondLimit : Limit → (size : ℕ) → Refusal
+
+-- the status that the program ends with
+abbrev pub status_of : Refusal → ℕ
+status_of Usage = 2
+status_of (CannotRead name) = 3
+status_of (NoTokens n at) = 5
+status_of (NoTree at) = 5
+status_of (TooDeep at) = 5
+status_of (BadName n at) = 5
+status_of (BadBinding n at) = 5
+status_of (BadTarget at map e p) = 5
+status_of (BadAccess n at) = 5
+status_of (BadMesh n line) = 6
+status_of (BeyondLimit l size) = 10

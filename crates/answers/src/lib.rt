@@ -1,0 +1,9 @@
+//! What the program answers to its words, over the files that are told: the status, the bytes for the output, and the line
+//! for the errors. Definitions, in `specs/`, and their laws.
+#![tactic(auto)]
+
+mod limits;
+mod usage;
+
+pub use limits::SOURCE_BYTES;
+pub use usage::{USAGE, VERSION};
