@@ -13,14 +13,14 @@ use Rattle.mesh_text.proofs.Standing.{stands_on}
 use Rattle.mesh_text.proofs.Complete.{stands_through}
 
 -- the tokens whose bytes can stand in front of a state
-abbrev Fronts : List Word → State → Type 0
+abbrev pub Fronts : List Word → State → Type 0
 Fronts ws p = Stands (map text_of ws) p
 
-fronts_on : (p q : State) (ws : List Word) (w : Word) → Fronts ws p → step p w ≡ Ok q → Fronts (ws ++ w ∷ []) q
+pub fronts_on : (p q : State) (ws : List Word) (w : Word) → Fronts ws p → step p w ≡ Ok q → Fronts (ws ++ w ∷ []) q
 fronts_on p q ws w s h = subst (λ ts. Stands ts q) (sym (map_push text_of ws w)) (stands_on p q (map text_of ws) w s h)
 
 -- only behind `done` the text may end
-finish_is : (p : State) (last : ℕ) (es : List Named) (ts : List (List ℕ)) → Stands ts p → finish p last ≡ Ok es → Stands ts (End es)
+pub finish_is : (p : State) (last : ℕ) (es : List Named) (ts : List (List ℕ)) → Stands ts p → finish p last ≡ Ok es → Stands ts (End es)
 finish_is (End ds) last es ts s h = let e : ds ≡ es = cc in subst (λ xs. Stands ts (End xs)) e s
 finish_is Magic last es ts s h = cc
 finish_is Version last es ts s h = cc
@@ -31,14 +31,14 @@ finish_is (OneValue f ds n) last es ts s h = cc
 finish_is (Count f ds n) last es ts s h = cc
 finish_is (Pieces f ds n l z) last es ts s h = cc
 
-end_spells : (bytes : List ℕ) (es : List Named) → Stands (texts bytes) (End es) → Spells bytes es × (total es ≤ MESH_VALUES)
+pub end_spells : (bytes : List ℕ) (es : List Named) → Stands (texts bytes) (End es) → Spells bytes es × (total es ≤ MESH_VALUES)
 end_spells bytes es s = ((s.0, s.1, s.2, s.3.0), s.3.1)
 
 spells_end : (bytes : List ℕ) (es : List Named) → Spells bytes es → total es ≤ MESH_VALUES → Stands (texts bytes) (End es)
 spells_end bytes es s r = (s.0, s.1, s.2, (s.3, r))
 
 -- the run over a text that spells entries ends with them
-spelled-run : (bytes : List ℕ) (es : List Named) → Spells bytes es → total es ≤ MESH_VALUES → run step finish Magic 1 (words 1 bytes) ≡ Ok es
+pub spelled-run : (bytes : List ℕ) (es : List Named) → Spells bytes es → total es ≤ MESH_VALUES → run step finish Magic 1 (words 1 bytes) ≡ Ok es
 spelled-run bytes es s t = exact.whole_run step finish Magic Fronts refl fronts_on stands_through (words 1 bytes) (End es) (spells_end bytes es s t)
 
 -- so a text spells one list of entries

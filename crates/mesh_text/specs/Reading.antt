@@ -18,7 +18,7 @@ use Rattle.mesh_text.specs.declared.piece.Piece.{Piece}
 use Rattle.mesh_text.specs.declared.piece.Piece.TheVariants.{Values, NoPiece, OutOfRange, NoTimes}
 use Rattle.mesh_text.specs.Token.{is_c_name, is_magic, version_of, keyword_of}
 use Rattle.mesh_text.specs.Piece.{piece_of}
-use Rattle.mesh_text.specs.Spelling.{Named, total, has_name, IsNew, ArePieces, AreMesh}
+use Rattle.mesh_text.specs.Spelling.{Named, total, has_name, IsNew, ArePieces, AreMesh, Spells}
 
 -- What is awaited behind the entries so far: the two tokens of the header, an entry or `done`, the name and the value of an `int`,
 -- the name and the count of an `ints`, some more values of an array that has the last of these so far, the end.
@@ -138,3 +138,8 @@ Stands ts (End es) = (f : Form) × (front : List (List ℕ)) × (ts ≡ front ++
 -- The first token that may not stand where it does, or the end, is refused so.
 abbrev pub Refuses : List ℕ → MeshRefusal → Type 0
 Refuses bytes r = RefusesAmong step finish (λ ws p. Stands (map text_of ws) p) (words 1 bytes) r
+
+-- What a text comes to: the entries that it spells, within the limit, or its refusal.
+abbrev pub Reads : List ℕ → Read → Type 0
+Reads bytes (Ok es) = Spells bytes es × (total es ≤ MESH_VALUES)
+Reads bytes (Err r) = Refuses bytes r

@@ -13,5 +13,5 @@ mod token;
 mod write;
 
 pub use entry::{Entries, Entry, Form, MESH_BYTES, MESH_VALUES, MeshRefusal, Values};
-pub use read::{one_spelling, read_mesh};
+pub use read::{one_outcome, one_spelling, read_mesh};
 pub use write::{read_can_be_written, write_mesh, written_is_spelled};

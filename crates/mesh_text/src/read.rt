@@ -7,7 +7,7 @@ ghost use Rattle.mesh_text.specs.declared.entry.MeshRefusal.{MeshRefusal as Refu
 ghost use Rattle.mesh_text.specs.declared.entry.Entry.TheVariants as Given;
 ghost use Rattle.mesh_text.specs.Spelling.{Named, Spells, total as total_of, size_of, has_name};
 ghost use Rattle.mesh_text.specs.Piece.{piece_of};
-ghost use Rattle.mesh_text.specs.Reading.{Magic, Between, OneName, ManyName, End, filled, named, one_of, count_of, given, room_for, stray, run_from, Refuses};
+ghost use Rattle.mesh_text.specs.Reading.{Magic, Between, OneName, ManyName, End, filled, named, one_of, count_of, given, room_for, stray, run_from, Refuses, Reads, Read as Outcome};
 ghost use Rattle.texts.specs.Automaton.{Answers, Told, IsNext, IsGiven, IsRefused};
 ghost use Rattle.mesh_text.specs.Answered.{Leads, Fitting, next_state};
 
@@ -39,6 +39,13 @@ pub fn read_mesh(alloc: Global, bytes: &[u8]) -> Result<Entries, MeshRefusal>
 /// A law: a text spells at most one list of entries of at most [`MESH_VALUES`] values.
 pub fn one_spelling()
     ensures { (bytes : List ℕ) (a b : List Named) → Spells bytes a → Spells bytes b → total_of a ≤ MESH_VALUES → total_of b ≤ MESH_VALUES → a ≡ b }
+{}
+
+/// A law: a text comes to one outcome, its entries within the limit or a refusal, and no refusal is want of memory.
+pub fn one_outcome()
+    ensures one { (bytes : List ℕ) (a b : Outcome) → Reads bytes a → Reads bytes b → a ≡ b }
+    ensures some { (bytes : List ℕ) → (o : Outcome) × Reads bytes o }
+    ensures causes { (bytes : List ℕ) → ¬ Refuses bytes Refusal.OutOfMemory }
 {}
 
 fn read(alloc: Global, bytes: &[u8]) -> Result<Entries, MeshRefusal>

@@ -65,7 +65,7 @@ module _ {S R V : Type 0} (step : S → Word → Result S R) (finish : S → ℕ
         (found_from ws (seen ++ w ∷ []) a.0 w.line v (sym (last_push 1 seen w)) (stands_on s a.0 seen w k a.1) a.2)
 
     -- what is read stood there whole
-    found_run : (ws : List Word) (v : V) → run step finish start 1 ws ≡ Ok v → (q : S) × Stands ws q × (finish q (last_line 1 ws) ≡ Ok v)
+    pub found_run : (ws : List Word) (v : V) → run step finish start 1 ws ≡ Ok v → (q : S) × Stands ws q × (finish q (last_line 1 ws) ≡ Ok v)
     found_run ws v h = found_from ws [] start 1 v refl begins h
 
     refused_by : (r : Result S R) (s : S) (w : Word) (seen ws : List Word) (e : R) → step s w ≡ r → Stands seen s → after r (λ q. run step finish q w.line ws) ≡ Err e → ((q : S) → step s w ≡ Ok q → run step finish q w.line ws ≡ Err e → RefusesAmong step finish Stands (seen ++ w ∷ ws) e) → RefusesAmong step finish Stands (seen ++ w ∷ ws) e
@@ -80,14 +80,14 @@ module _ {S R V : Type 0} (step : S → Word → Result S R) (finish : S → ℕ
         (λ q t m. subst (λ xs. RefusesAmong step finish Stands xs e) (append_assoc seen (w ∷ []) ws)
         (refused_from ws (seen ++ w ∷ []) q w.line e (sym (last_push 1 seen w)) (stands_on s q seen w k t) m))
 
-    refused_run : (ws : List Word) (e : R) → run step finish start 1 ws ≡ Err e → RefusesAmong step finish Stands ws e
+    pub refused_run : (ws : List Word) (e : R) → run step finish start 1 ws ≡ Err e → RefusesAmong step finish Stands ws e
     refused_run ws e h = refused_from ws [] start 1 e refl begins h
 
     -- what stands there whole is read as its state says
     pub whole_run : (ws : List Word) (s : S) → Stands ws s → run step finish start 1 ws ≡ finish s (last_line 1 ws)
     whole_run ws s k = ap (run step finish start 1) (sym (append-nil ws)) ∙ run_through ws [] start s 1 (leads s ws k) ∙ run-end s (last_line 1 ws)
 
-    refuses_run : (ws : List Word) (e : R) → RefusesAmong step finish Stands ws e → run step finish start 1 ws ≡ Err e
+    pub refuses_run : (ws : List Word) (e : R) → RefusesAmong step finish Stands ws e → run step finish start 1 ws ≡ Err e
     refuses_run ws e (inl r) = ap (run step finish start 1) r.4 ∙ run_through r.0 (r.1 ∷ r.2) start r.3 1 (leads r.3 r.0 r.5) ∙ run-more r.3 (last_line 1 r.0) r.1 r.2 ∙ ap (λ x. after x (λ q. run step finish q r.1.line r.2)) r.6
     refuses_run ws e (inr r) = whole_run ws r.0 r.1 ∙ r.2
 
