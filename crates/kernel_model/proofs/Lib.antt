@@ -20,3 +20,5 @@ pub mod Covers
 pub mod Steps
 pub mod Finding
 pub mod Found
+pub mod TreeMeaning
+pub mod TreeWalk

@@ -5,3 +5,4 @@ pub mod Obeys
 pub mod Independence
 pub mod Refusals
 pub mod Walk
+pub mod Trees

@@ -2,6 +2,7 @@
 
 ghost use Rattle.kernel_model.specs.Independence.{Independence, OthersStay, RangeStays, ReadsStay, ShapeStays, Transport};
 ghost use Rattle.kernel_model.specs.Refusals.{ObeysUnlessBroken, OneRefusal};
+ghost use Rattle.kernel_model.specs.Trees.{RunsAlike, WalksAlike};
 ghost use Rattle.kernel_model.specs.Walk.{WalkFinds};
 
 /// A law: over two lists of targets with the same aliases, and two stores that agree where OP_READ and OP_RW
@@ -47,4 +48,10 @@ pub fn rules_are_broken()
 /// exactly where the kernel obeys its modes.
 pub fn walk_finds()
     ensures { WalkFinds }
+{}
+
+/// A law: where a kernel lies in memory is nothing to it. Kernels with one tree run alike, and the walk finds the same in them.
+pub fn kernels_are_trees()
+    ensures runs { RunsAlike }
+    ensures walks { WalksAlike }
 {}
