@@ -6,12 +6,17 @@
 
 mod acts;
 mod classes;
+mod limits;
 mod programs;
 mod sites;
 
 pub use acts::{Act, Item};
 pub use classes::{class_of, is_access};
 pub use kernel_types::{AssignOp, ElementForm, Name, Pos, RExpr, RKernel};
+pub use limits::{
+    MAX_ARGUMENTS, MAX_CELLS, MAX_DATS, MAX_DIM, MAX_MAPS, MAX_SETS, MAX_SIZE, MAX_TRACE,
+    MAX_WEIGHT,
+};
 pub use mesh_decl::{Access, Mesh, Via};
 pub use op_num::Text;
 pub use programs::{Bound, Var};

@@ -8,12 +8,10 @@ ghost use Rattle.bound_program.specs.Values.{item_of};
 ghost use Rattle.loop_bind.specs.Weights.{line_weight, print_weight, weight, weight_of_all, within_weight};
 
 use bind_refusals::{BindRefusal, Counted};
-use bound_program::{Act, Item};
+use bound_program::{Act, Item, MAX_WEIGHT};
 use main_names::{dat_shape, set_size};
 use main_text::conversions;
 use mesh_decl::Mesh;
-
-const MAX_WEIGHT: u64 = 67_108_864;
 
 // How long the name of a dat is; 0 where there is none.
 #[tactic(auto, using(crate::proofs::NoNames::no_dat_name))]

@@ -11,18 +11,13 @@ ghost use Rattle.main_declarations.specs.Declarations.{awaited, are_awaited, is_
 ghost use Rattle.main_names.specs.Walks.{declared_of};
 
 use bind_refusals::{BindRefusal, Counted, Found, Turn, note_if, note_in, note_over, place};
+use bound_program::{MAX_CELLS, MAX_DIM, MAX_SIZE};
 use c_tree::{Ident, NumberLiteral, TextLiteral};
 use kernel_eval::KernelFault;
 use main_names::{Declared, Source, set_of, set_size};
 use mesh_decl::{Entries, Entry, Mesh};
 use op_num::{Name, OutOfMemory, Text};
 use std::alloc::AllocError;
-
-const MAX_SIZE: u64 = 4_194_304;
-
-const MAX_DIM: u64 = 64;
-
-const MAX_CELLS: u64 = 67_108_864;
 
 // A dim that a map or a dat can have.
 fn is_dim(n: u32) -> bool

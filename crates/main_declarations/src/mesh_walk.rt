@@ -15,6 +15,7 @@ use crate::mesh_notes::{
     note_value,
 };
 use bind_refusals::{BindRefusal, Counted, Found, Turn, note_if, note_over, place};
+use bound_program::{MAX_DATS, MAX_MAPS, MAX_SETS};
 use c_tree::{Expr, Ident, NumberLiteral, TextLiteral};
 use kernel_eval::KernelFault;
 use kernel_types::RExpr;
@@ -25,12 +26,6 @@ use main_names::{
 use main_trace::host_value;
 use op_num::OutOfMemory;
 use std::alloc::AllocError;
-
-const MAX_SETS: u64 = 64;
-
-const MAX_MAPS: u64 = 64;
-
-const MAX_DATS: u64 = 256;
 
 // What is wrong with the size of a set, which is this expression.
 fn note_size(

@@ -9,14 +9,12 @@ ghost use Rattle.main_names.specs.Walks.{declared_of};
 use crate::accesses::{access_of, is_reserved};
 use crate::globals::{GlobalVar, global_of};
 use bind_refusals::{BindRefusal, Counted, Found, Turn, note_if, note_over, place};
-use bound_program::{Arg, is_access};
+use bound_program::{Arg, MAX_DIM, is_access};
 use c_tree::{ArgIndex, ArgVia, GlobalName, Ident, LoopArg, NumberLiteral, TextLiteral};
 use main_declarations::{glob_token, note_ampersand, note_type};
 use main_names::{Declared, Source, dat_of, dat_shape, map_ends, map_of, or_zero};
 use mesh_decl::{Access, Mesh, Via};
 use op_num::OutOfMemory;
-
-const MAX_DIM: u64 = 64;
 
 /// A global of the loop so far.
 #[derive(Clone, Copy, PartialEq, Eq, Debug)]

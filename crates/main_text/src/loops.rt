@@ -9,13 +9,11 @@ ghost use Rattle.main_names.specs.Walks.{declared_of};
 use crate::arguments::{arg_of, note_args};
 use crate::globals::after_globals;
 use bind_refusals::{BindRefusal, Counted, Found, Turn, note_if, note_over, place};
-use bound_program::{Arg, Site, class_of};
+use bound_program::{Arg, MAX_ARGUMENTS, Site, class_of};
 use c_tree::{Ident, LoopArg};
 use main_declarations::note_set;
 use main_names::{Declared, Meaning, Source, or_zero, set_of};
 use op_num::OutOfMemory;
-
-const MAX_ARGUMENTS: u64 = 16;
 
 // No kernel is meant, or it doesn't take so many arguments.
 fn note_kernel(

@@ -15,4 +15,4 @@ pub use host_values::host_value;
 pub use kernel_types::RExpr;
 pub use laws::host_values_are_kernel_values;
 pub use steps::{Asked, Step, Told, Unrolled};
-pub use unroll::{Goes, Known, LoopForm, MAX_TRACE, unroll_main};
+pub use unroll::{Goes, Known, LoopForm, unroll_main};

@@ -12,13 +12,10 @@ use crate::closing::closed_copy;
 use crate::host_values::host_value;
 use crate::steps::{Asked, Step, Told, Unrolled};
 use bind_refusals::BindRefusal;
-use bound_program::{Act, Arg, Class, Item, Site};
+use bound_program::{Act, Arg, Class, Item, MAX_TRACE, Site};
 use mesh_decl::Access;
 use op_num::OutOfMemory;
 use std::alloc::Global;
-
-/// The most items and turns of a trace.
-pub const MAX_TRACE: usize = 65536;
 
 /// How a `for` goes on: its bound faults, is reached, or isn't.
 #[derive(Clone, Copy, PartialEq, Eq, Debug)]
@@ -316,7 +313,7 @@ pub fn unroll_main(alloc: Global, body: &Step, sites: &[Site]) -> Result<Unrolle
     let mut out = Unrolled {
         items: Vec::new(alloc),
         values: Vec::new(alloc),
-        left: MAX_TRACE,
+        left: MAX_TRACE as usize,
     };
     let mut told = Vec::new(alloc);
     unroll(alloc, body, sites, &mut told, &mut out)?;
