@@ -5,3 +5,4 @@ pub mod Said
 pub mod Judgements
 pub mod Answers
 pub mod Endings
+pub mod Laws

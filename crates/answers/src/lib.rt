@@ -2,8 +2,10 @@
 //! for the errors. Definitions, in `specs/`, and their laws.
 #![tactic(auto)]
 
+mod laws;
 mod limits;
 mod usage;
 
+pub use laws::{answers_agree, answers_exist, calls_are_complete, one_fault};
 pub use limits::SOURCE_BYTES;
 pub use usage::{USAGE, VERSION};

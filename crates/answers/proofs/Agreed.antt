@@ -1,0 +1,212 @@
+-- Any two answers to the same words agree.
+use Rattle.std.proofs.Common.{◌≡◌, ◌⊎◌, inl, inr, ℕ, List, Option, Some, None, Result, Ok, Err, refl, sym, ap, ◌∙◌, subst, arith}
+use Rattle.c_lex.specs.Lexed as lexer
+use Rattle.c_lex.specs.Lexed.{Lexes}
+use Rattle.c_tree.specs.Tree.{ProgramTree}
+use Rattle.c_tree.specs.Reads.{Reads}
+use Rattle.kernel_types.specs.declared.kernels.Resolved.{Resolved}
+use Rattle.kernel_types.specs.View.{resolved_of}
+use Rattle.kernel_model.specs.Refusals.{ObeysUnlessBroken, OneRefusal}
+use Rattle.kernel_model.specs.Walk.{Breach, WalkFinds}
+use Rattle.name_resolution.specs.Programs as names
+use Rattle.name_resolution.specs.Programs.{Resolves}
+use Rattle.mesh_text.specs.Spelling.{Named}
+use Rattle.mesh_text.specs.Reading.{Read, Reads as Spelled}
+use Rattle.kernel_model.specs.Trees.{RunsAlike, WalksAlike}
+use Rattle.bind_refusals.specs.declared.refusals.BindRefusal.{BindRefusal}
+use Rattle.bound_program.specs.Values.{BoundValue}
+use Rattle.loop_bind.specs.Bound.{bound}
+use Rattle.run_model.specs.Programs.{printed, first_fault}
+use Rattle.op_outside.specs.Outside.{Files}
+use Rattle.answers.specs.Refusal.{Limit, SourceBytes, MeshBytes, Refusal}
+use Rattle.answers.specs.Lines.{Answer, refused, line_of}
+use Rattle.answers.specs.Said.{SaysTypes, SaysMesh, SaysBinding}
+use Rattle.answers.specs.Words.{Job, Run, Command, OnProgram, ShowsUsage, ShowsVersion, WordsAre}
+use Rattle.answers.specs.Judgements.{IsHeld, SourceIs, MeshIs, TreeIs, TypesAre, EntriesAre, BoundIs, AccessesAre}
+use Rattle.answers.specs.Answers.{given, ran, JobAnswers, ProgramAnswers, CommandAnswers}
+use Rattle.answers.specs.Laws.{LacksTree, SourceLacksTree, Agree, AnswersAgree}
+use Rattle.answers.proofs.Given.{given_both, given_alike}
+use Rattle.answers.proofs.SaidOnce.{types_once, mesh_once, binding_once, source_status}
+use Rattle.answers.proofs.Trees.{tree_lines}
+use Rattle.answers.proofs.Sites.{site_found, first_found, accesses_none, accesses_some}
+use Rattle.answers.proofs.SameKernels.{sites_found, printed_same, faults_same}
+use Rattle.answers.proofs.SameBound.{IsSame, SameOutcome, same_bound}
+
+-- the same status and bytes, and the same line unless N
+record AgreeBut (N : Type 0) (a b : Answer) : Type 0 where
+  pub status : a.status ≡ b.status
+  pub out : a.out ≡ b.out
+  pub line : (a.line ≡ b.line) ⊎ N
+
+same_answers : (N : Type 0) (a b : Answer) → a ≡ b → AgreeBut N a b
+same_answers N a b e = record { status = ap (λ x. x.status) e; out = ap (λ x. x.out) e; line = inl (ap (λ x. x.line) e) }
+
+same_refusals : (N : Type 0) (r s : Refusal) → r ≡ s → AgreeBut N (refused r) (refused s)
+same_refusals N r s e = same_answers N (refused r) (refused s) (ap refused e)
+
+-- ---- files
+
+held_once : (l : Limit) (name : List ℕ) (o : Option (List ℕ)) (x y : List ℕ) → IsHeld l name o (Ok x) → IsHeld l name o (Ok y) → x ≡ y
+held_once l name None x y h k = absurd h
+held_once l name (Some held) x y h k = h.0 ∙ sym k.0
+
+held_refusal : (l : Limit) (name : List ℕ) (o : Option (List ℕ)) (r s : Refusal) → IsHeld l name o (Err r) → IsHeld l name o (Err s) → r ≡ s
+held_refusal l name None r s h k = h ∙ sym k
+held_refusal l name (Some held) r s h k = h.0 ∙ sym k.0
+
+held_or_not : (l : Limit) (name : List ℕ) (o : Option (List ℕ)) (r : Refusal) (x : List ℕ) → IsHeld l name o (Err r) → IsHeld l name o (Ok x) → ⊥
+held_or_not l name None r x h k = absurd k
+held_or_not l name (Some held) r x h k = let a = h.1 in let b = k.1 in omega (arith, a, b)
+
+module _ (runs_alike : RunsAlike) (walks_alike : WalksAlike) (one_read : (bytes : List ℕ) (a b : Read) → Spelled bytes a → Spelled bytes b → a ≡ b) (one_outcome : (bytes : List ℕ) (a b : lexer.Outcome) → Lexes bytes a → Lexes bytes b → a ≡ b) (one_tree : (bytes : List ℕ) (a b : ProgramTree) → Reads bytes a → Reads bytes b → a ≡ b) (one_resolved : (p : ProgramTree) (a b : names.Outcome) → Resolves p a → Resolves p b → a ≡ b) (walk_finds : WalkFinds) (obeys : ObeysUnlessBroken) (one_breach : OneRefusal) where
+  -- ---- the run
+
+  jobs_agree : (N : Type 0) (j : Job) (b c : BoundValue) → IsSame b c → (x y : Answer) → JobAnswers j b x → JobAnswers j c y → AgreeBut N x y
+  jobs_agree N Run b c same x y h k = same_answers N x y (h ∙ e ∙ sym k)
+    where
+      e : ran (first_fault b) (printed b) ≡ ran (first_fault c) (printed c)
+      e = rw (faults_same runs_alike b c.kernels same.1, printed_same runs_alike b c.kernels same.1) (ap (λ d. ran (first_fault d) (printed d)) (sym same.0))
+
+  -- ---- accesses
+
+  -- what is found in the loops' kernels
+  abbrev found : BoundValue → Option Breach
+  found b = first_found (site_found b) b.sites
+
+  found_same : (b c : BoundValue) → IsSame b c → found b ≡ found c
+  found_same b c same = sites_found walks_alike b c.kernels same.1 ∙ ap found (sym same.0)
+
+  accesses_agree : (N : Type 0) (j : Job) (b c : BoundValue) → IsSame b c → (x y : Answer) → given (AccessesAre b) (λ _. JobAnswers j b) x → given (AccessesAre c) (λ _. JobAnswers j c) y → AgreeBut N x y
+  accesses_agree N j b c same =
+      given_both (AccessesAre b) (AccessesAre c) (λ _. JobAnswers j b) (λ _. JobAnswers j c) (AgreeBut N) refusals refused_b refused_c (λ u v h k. jobs_agree N j b c same)
+    where
+      refusals : (r s : Refusal) → AccessesAre b (Err r) → AccessesAre c (Err s) → AgreeBut N (refused r) (refused s)
+      refusals r s h k =
+          let f = accesses_some walk_finds obeys one_breach b r h in
+          let g = accesses_some walk_finds obeys one_breach c s k in
+          let e : Some f.0 ≡ Some g.0 = sym f.1 ∙ found_same b c same ∙ g.1 in
+          let same_breach : f.0 ≡ g.0 = cc in
+          same_refusals N r s (f.2 ∙ rw same_breach refl ∙ sym g.2)
+
+      refused_b : (r : Refusal) (u : Unit {0}) → AccessesAre b (Err r) → AccessesAre c (Ok u) → ⊥
+      refused_b r u h k =
+          let f = accesses_some walk_finds obeys one_breach b r h in
+          let e : Some f.0 ≡ None = sym f.1 ∙ found_same b c same ∙ accesses_none walk_finds obeys one_breach c u k in
+          let bad : ⊥ = cc in bad
+
+      refused_c : (u : Unit {0}) (s : Refusal) → AccessesAre b (Ok u) → AccessesAre c (Err s) → ⊥
+      refused_c u s h k =
+          let g = accesses_some walk_finds obeys one_breach c s k in
+          let e : Some g.0 ≡ None = sym g.1 ∙ sym (found_same b c same) ∙ accesses_none walk_finds obeys one_breach b u h in
+          let bad : ⊥ = cc in bad
+
+  -- ---- binding
+
+  bounds_agree : (N : Type 0) (j : Job) (p : ProgramTree) (r q : Resolved) → resolved_of r ≡ resolved_of q → (es : List Named) → (x y : Answer) → given (BoundIs p r es) (λ b. given (AccessesAre b) (λ _. JobAnswers j b)) x → given (BoundIs p q es) (λ b. given (AccessesAre b) (λ _. JobAnswers j b)) y → AgreeBut N x y
+  bounds_agree N j p r q e es =
+      given_both (BoundIs p r es) (BoundIs p q es) (λ b. given (AccessesAre b) (λ _. JobAnswers j b)) (λ b. given (AccessesAre b) (λ _. JobAnswers j b)) (AgreeBut N) refusals one_refused other_refused values
+    where
+      both : (m n : Result BoundValue BindRefusal) → bound p r es ≡ m → bound p q es ≡ n → SameOutcome m n
+      both m n h k = let s = same_bound p r q es e in rw (← h, ← k) s
+
+      refusals : (s t : Refusal) → BoundIs p r es (Err s) → BoundIs p q es (Err t) → AgreeBut N (refused s) (refused t)
+      refusals s t h k = same_refusals N s t (binding_once p h.0 s t h.2 (subst (λ f. SaysBinding p f t) (sym (both (Err h.0) (Err k.0) h.1 k.1)) k.2))
+
+      one_refused : (s : Refusal) (c : BoundValue) → BoundIs p r es (Err s) → BoundIs p q es (Ok c) → ⊥
+      one_refused s c h k = both (Err h.0) (Ok c) h.1 k
+
+      other_refused : (b : BoundValue) (t : Refusal) → BoundIs p r es (Ok b) → BoundIs p q es (Err t) → ⊥
+      other_refused b t h k = both (Ok b) (Err k.0) h k.1
+
+      values : (b c : BoundValue) → BoundIs p r es (Ok b) → BoundIs p q es (Ok c) → (x y : Answer) → given (AccessesAre b) (λ _. JobAnswers j b) x → given (AccessesAre c) (λ _. JobAnswers j c) y → AgreeBut N x y
+      values b c h k = accesses_agree N j b c (both (Ok b) (Ok c) h k)
+
+  -- ---- the mesh
+
+  -- what comes after the kernels and constants
+  abbrev FromMesh : Job → List ℕ → Files → ProgramTree → Resolved → Answer → Type 0
+  FromMesh j mesh files p r =
+      given (MeshIs mesh files) (λ text.
+      given (EntriesAre text) (λ es.
+      given (BoundIs p r es) (λ b.
+      given (AccessesAre b) (λ _. JobAnswers j b))))
+
+  entries_agree : (N : Type 0) (j : Job) (p : ProgramTree) (r q : Resolved) → resolved_of r ≡ resolved_of q → (text : List ℕ) → (x y : Answer) → given (EntriesAre text) (λ es. given (BoundIs p r es) (λ b. given (AccessesAre b) (λ _. JobAnswers j b))) x → given (EntriesAre text) (λ es. given (BoundIs p q es) (λ b. given (AccessesAre b) (λ _. JobAnswers j b))) y → AgreeBut N x y
+  entries_agree N j p r q e text =
+      given_alike (EntriesAre text) (λ es. given (BoundIs p r es) (λ b. given (AccessesAre b) (λ _. JobAnswers j b))) (λ es. given (BoundIs p q es) (λ b. given (AccessesAre b) (λ _. JobAnswers j b))) (AgreeBut N) refusals (λ s es h k. let e : Err h.0 ≡ Ok es = one_read text (Err h.0) (Ok es) h.1 k in let bad : ⊥ = cc in bad) (λ a b h k. let e : ◌≡◌ {A = Read} (Ok a) (Ok b) = one_read text (Ok a) (Ok b) h k in let same : a ≡ b = cc in same) (λ es h. bounds_agree N j p r q e es)
+    where
+      refusals : (s t : Refusal) → EntriesAre text (Err s) → EntriesAre text (Err t) → AgreeBut N (refused s) (refused t)
+      refusals s t h k =
+          let e : ◌≡◌ {A = Read} (Err k.0) (Err h.0) = one_read text (Err k.0) (Err h.0) k.1 h.1 in
+          let same : k.0 ≡ h.0 = cc in
+          same_refusals N s t (mesh_once h.0 s t h.2 (subst (λ f. SaysMesh f t) same k.2))
+
+  meshes_agree : (N : Type 0) (j : Job) (mesh : List ℕ) (files : Files) (p : ProgramTree) (r q : Resolved) → resolved_of r ≡ resolved_of q → (x y : Answer) → FromMesh j mesh files p r x → FromMesh j mesh files p q y → AgreeBut N x y
+  meshes_agree N j mesh files p r q e =
+      given_alike (MeshIs mesh files) (λ text. given (EntriesAre text) (λ es. given (BoundIs p r es) (λ b. given (AccessesAre b) (λ _. JobAnswers j b)))) (λ text. given (EntriesAre text) (λ es. given (BoundIs p q es) (λ b. given (AccessesAre b) (λ _. JobAnswers j b)))) (AgreeBut N) (λ s t h k. same_refusals N s t (held_refusal MeshBytes mesh (files mesh) s t h k)) (λ s text h k. held_or_not MeshBytes mesh (files mesh) s text h k) (λ a b h k. held_once MeshBytes mesh (files mesh) a b h k) (λ text h. entries_agree N j p r q e text)
+
+  -- ---- the source
+
+  types_agree : (N : Type 0) (j : Job) (mesh : List ℕ) (files : Files) (p : ProgramTree) → (x y : Answer) → given (TypesAre p) (FromMesh j mesh files p) x → given (TypesAre p) (FromMesh j mesh files p) y → AgreeBut N x y
+  types_agree N j mesh files p =
+      given_both (TypesAre p) (TypesAre p) (FromMesh j mesh files p) (FromMesh j mesh files p) (AgreeBut N) refusals (λ s q h k. mixed s q h k) (λ r t h k. mixed t r k h) values
+    where
+      refusals : (s t : Refusal) → TypesAre p (Err s) → TypesAre p (Err t) → AgreeBut N (refused s) (refused t)
+      refusals s t h k =
+          let e = one_resolved p (Err h.0) (Err k.0) h.1 k.1 in
+          let same : h.0 ≡ k.0 = cc in
+          same_refusals N s t (types_once h.0 s t h.2 (subst (λ f. SaysTypes f t) (sym same) k.2))
+
+      mixed : (s : Refusal) (q : Resolved) → TypesAre p (Err s) → TypesAre p (Ok q) → ⊥
+      mixed s q h k = let e = one_resolved p (Err h.0) (Ok (resolved_of q)) h.1 k in let bad : ⊥ = cc in bad
+
+      values : (r q : Resolved) → TypesAre p (Ok r) → TypesAre p (Ok q) → (x y : Answer) → FromMesh j mesh files p r x → FromMesh j mesh files p q y → AgreeBut N x y
+      values r q h k = meshes_agree N j mesh files p r q (h.1 ∙ sym k.1)
+
+  -- the source lacks a tree
+  abbrev Lacks : List ℕ → Files → Type 0
+  Lacks source files = (bytes : List ℕ) × SourceIs source files (Ok bytes) × LacksTree bytes
+
+  trees_agree : (j : Job) (source mesh : List ℕ) (files : Files) (bytes : List ℕ) → SourceIs source files (Ok bytes) → (x y : Answer) → given (TreeIs bytes) (λ p. given (TypesAre p) (FromMesh j mesh files p)) x → given (TreeIs bytes) (λ p. given (TypesAre p) (FromMesh j mesh files p)) y → AgreeBut (Lacks source files) x y
+  trees_agree j source mesh files bytes is =
+      given_alike (TreeIs bytes) (λ p. given (TypesAre p) (FromMesh j mesh files p)) (λ p. given (TypesAre p) (FromMesh j mesh files p)) (AgreeBut (Lacks source files)) refusals (λ s p h k. h.1.none p k) (λ a b h k. one_tree bytes a b h k) (λ p h. types_agree (Lacks source files) j mesh files p)
+    where
+      lines : (s t : Refusal) → (line_of s ≡ line_of t) ⊎ LacksTree bytes → (line_of s ≡ line_of t) ⊎ Lacks source files
+      lines s t (inl e) = inl e
+      lines s t (inr l) = inr (bytes, is, l)
+
+      refusals : (s t : Refusal) → TreeIs bytes (Err s) → TreeIs bytes (Err t) → AgreeBut (Lacks source files) (refused s) (refused t)
+      refusals s t h k = record {
+        status = source_status h.0 s h.2 ∙ sym (source_status k.0 t k.2);
+        out = refl;
+        line = lines s t (tree_lines one_outcome bytes s t h k);
+      }
+
+  programs_agree : (j : Job) (source mesh : List ℕ) (files : Files) → (x y : Answer) → ProgramAnswers j source mesh files x → ProgramAnswers j source mesh files y → AgreeBut (Lacks source files) x y
+  programs_agree j source mesh files =
+      given_alike (SourceIs source files) (λ bytes. given (TreeIs bytes) (λ p. given (TypesAre p) (FromMesh j mesh files p))) (λ bytes. given (TreeIs bytes) (λ p. given (TypesAre p) (FromMesh j mesh files p))) (AgreeBut (Lacks source files)) (λ s t h k. same_refusals (Lacks source files) s t (held_refusal SourceBytes source (files source) s t h k)) (λ s text h k. held_or_not SourceBytes source (files source) s text h k) (λ a b h k. held_once SourceBytes source (files source) a b h k) (λ bytes h. trees_agree j source mesh files bytes h)
+
+  -- ---- the words
+
+  agree_for : (words : List (List ℕ)) (files : Files) (N : Type 0) → (N → SourceLacksTree words files) → (a b : Answer) → AgreeBut N a b → Agree words files a b
+  agree_for words files N f a b h = record { status = h.status; out = h.out; line = by_line h.line }
+    where
+      by_line : (a.line ≡ b.line) ⊎ N → (a.line ≡ b.line) ⊎ SourceLacksTree words files
+      by_line (inl e) = inl e
+      by_line (inr n) = inr (f n)
+
+  commands_agree : (words : List (List ℕ)) (files : Files) (c : Command) → WordsAre words (Ok c) → (a b : Answer) → CommandAnswers c files a → CommandAnswers c files b → Agree words files a b
+  commands_agree words files (OnProgram j source mesh) asks a b h k =
+      agree_for words files (Lacks source files) (λ l. record { job = j; source = source; mesh = mesh; bytes = l.0; asks = asks; held = l.1; lacks = l.2 }) a b (programs_agree j source mesh files a b h k)
+  commands_agree words files ShowsUsage asks a b h k = agree_for words files ⊥ (λ x. absurd x) a b (same_answers ⊥ a b (h ∙ sym k))
+  commands_agree words files ShowsVersion asks a b h k = agree_for words files ⊥ (λ x. absurd x) a b (same_answers ⊥ a b (h ∙ sym k))
+
+  pub answers_agree : AnswersAgree
+  answers_agree words files =
+      given_alike (WordsAre words) (λ c. CommandAnswers c files) (λ c. CommandAnswers c files) (Agree words files) refusals (λ s c h k. let e : Err s ≡ Ok c = sym h ∙ k in let bad : ⊥ = cc in bad) (λ c d h k. let e : Ok c ≡ Ok d = sym h ∙ k in let same : c ≡ d = cc in same) (λ c h. commands_agree words files c h)
+    where
+      refusals : (s t : Refusal) → WordsAre words (Err s) → WordsAre words (Err t) → Agree words files (refused s) (refused t)
+      refusals s t h k =
+          let e : Err s ≡ Err t = sym h ∙ k in
+          let same : s ≡ t = cc in
+          agree_for words files ⊥ (λ x. absurd x) (refused s) (refused t) (same_refusals ⊥ s t same)

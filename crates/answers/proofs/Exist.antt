@@ -1,0 +1,131 @@
+-- There is an answer to all words.
+use Rattle.std.proofs.Common.{◌≡◌, ◌≢◌, ◌≤◌, ◌<◌, ◌⊎◌, inl, inr, ℕ, suc, List, length, Option, Some, None, Result, Ok, Err, refl, sym, ap, ◌∙◌, subst}
+use Rattle.std.proofs.lemmas.Bool.{cases_lt}
+use Rattle.c_lex.specs.declared.tokens.Token.{Token}
+use Rattle.c_lex.specs.declared.refusals.LexRefusal.{LexRefusal}
+use Rattle.c_lex.specs.declared.refusals.LexRefusal.TheVariants as lex
+use Rattle.c_lex.specs.Lexed.{Lexes, Outcome, Stop, AtEnd, AtBadByte, AtOpenComment, AtOpenText, AtNumberTooLarge, Part, outcome_of}
+use Rattle.c_tree.specs.Tree.{ProgramTree}
+use Rattle.c_tree.specs.Reads.{Reads, Deep}
+use Rattle.c_reader.specs.declared.refusals.SourceRefusal.TheVariants as source
+use Rattle.c_reader.specs.Answered.{place_at}
+use Rattle.c_reader.specs.Kinds.{places}
+use Rattle.kernel_types.specs.declared.kernels.Resolved.{Resolved}
+use Rattle.kernel_model.specs.Refusals.{ObeysUnlessBroken, OneRefusal}
+use Rattle.kernel_model.specs.Walk.{WalkFinds}
+use Rattle.mesh_text.specs.declared.entry.MeshRefusal.TheVariants as mesh
+use Rattle.mesh_text.specs.Spelling.{Named}
+use Rattle.mesh_text.specs.Reading.{Read, Reads as Spelled, Refuses}
+use Rattle.bind_refusals.specs.declared.refusals.BindRefusal.{BindRefusal}
+use Rattle.bound_program.specs.Values.{BoundValue}
+use Rattle.loop_bind.specs.Bound.{bound}
+use Rattle.op_outside.specs.Outside.{Files}
+use Rattle.answers.specs.Refusal.{Limit, SourceBytes, MeshBytes, Refusal, CannotRead, NoTree, TooDeep, BeyondLimit}
+use Rattle.answers.specs.Lines.{Answer, most}
+use Rattle.answers.specs.Words.{Job, Run, Command, OnProgram, ShowsUsage, ShowsVersion, WordsAre}
+use Rattle.answers.specs.Judgements.{IsHeld, IsUnread, TreeIs, EntriesAre, BoundIs}
+use Rattle.answers.specs.Answers.{JobAnswers, ProgramAnswers, CommandAnswers}
+use Rattle.answers.specs.Laws.{AnswersExist, OutcomesExist}
+use Rattle.answers.proofs.Given.{given_one}
+use Rattle.answers.proofs.SaidOnce.{lex_said, mesh_said, binding_said}
+use Rattle.answers.proofs.Trees.{shallow_or_deep}
+use Rattle.answers.proofs.Sites.{accesses_exist}
+
+held_exists : (l : Limit) (name : List ℕ) (o : Option (List ℕ)) → ¬ ((r : Result (List ℕ) Refusal) → ¬ IsHeld l name o r)
+held_exists l name None none = none (Err (CannotRead name)) refl
+held_exists l name (Some held) none = by_size (cases_lt (most l) (length held))
+  where
+    by_size : (most l < length held) ⊎ (length held ≤ most l) → ⊥
+    by_size (inl lt) = none (Err (BeyondLimit l (suc (most l)))) (refl, lt)
+    by_size (inr le) = none (Ok held) (refl, le)
+
+-- no refusal of tokens is want of memory
+has_cause : (parts : List Part) (stop : Stop) (l : LexRefusal) → Err l ≡ outcome_of parts stop → l ≢ lex.OutOfMemory
+has_cause parts AtEnd l e is = let bad : ⊥ = cc in bad
+has_cause parts (AtBadByte good) l e is = let bad : ⊥ = cc in bad
+has_cause parts AtOpenComment l e is = let bad : ⊥ = cc in bad
+has_cause parts AtOpenText l e is = let bad : ⊥ = cc in bad
+has_cause parts AtNumberTooLarge l e is = let bad : ⊥ = cc in bad
+
+module _ (some : OutcomesExist) (some_read : (bytes : List ℕ) → (o : Read) × Spelled bytes o) (mesh_causes : (bytes : List ℕ) → ¬ Refuses bytes mesh.OutOfMemory) (one_outcome : (bytes : List ℕ) (a b : Outcome) → Lexes bytes a → Lexes bytes b → a ≡ b) (one_depth : (bytes : List ℕ) (a b : ProgramTree) (n m : ℕ) → Deep bytes a n → Deep bytes b m → n ≡ m) (one_shape : (bytes : List ℕ) (a b : ProgramTree) (n : ℕ) → Reads bytes a → Deep bytes b n → ⊥) (walk_finds : WalkFinds) (obeys : ObeysUnlessBroken) (one_breach : OneRefusal) where
+  -- bytes that the lexer refuses have no tree
+  unlexed : (bytes : List ℕ) (l : LexRefusal) → Lexes bytes (Err l) → IsUnread bytes (source.Lex l)
+  unlexed bytes l h = record {
+    none = λ p r. no_tokens r.tokens r.lexed;
+    deep = λ p n d. absurd (no_tokens d.tokens d.lexed);
+    cause = h;
+  }
+    where
+      no_tokens : (tokens : List Token) → Lexes bytes (Ok tokens) → ⊥
+      no_tokens tokens k = let e = one_outcome bytes (Err l) (Ok tokens) h k in let bad : ⊥ = cc in bad
+
+  -- bytes that have tokens, where no tree has these
+  treeless : (bytes : List ℕ) (tokens : List Token) → Lexes bytes (Ok tokens) → ((p : ProgramTree) → ¬ Reads bytes p) → ((p : ProgramTree) (n : ℕ) → ¬ Deep bytes p n) → IsUnread bytes (source.Syntax (place_at (places tokens) bytes 0))
+  treeless bytes tokens h reads deep = record {
+    none = reads;
+    deep = λ p n d. absurd (deep p n d);
+    cause = record { tokens = tokens; lexed = h; number = 0; here = refl; none = λ p prints. by_depth p (shallow_or_deep bytes tokens h p prints) };
+  }
+    where
+      by_depth : (p : ProgramTree) → Reads bytes p ⊎ ((n : ℕ) × Deep bytes p n) → ⊥
+      by_depth p (inl r) = reads p r
+      by_depth p (inr d) = deep p d.0 d.1
+
+  -- a tree that is too deep
+  too_deep : (bytes : List ℕ) (p : ProgramTree) (n : ℕ) → Deep bytes p n → IsUnread bytes (source.TooDeep (place_at p.places bytes n))
+  too_deep bytes p n d = record {
+    none = λ q r. one_shape bytes q p n r d;
+    deep = λ q m e. ap source.TooDeep (rw (one_depth bytes p q n m d e, same_places q m e) refl);
+    cause = some.deep bytes p n d;
+  }
+    where
+      same_places : (q : ProgramTree) (m : ℕ) → Deep bytes q m → p.places ≡ q.places
+      same_places q m e =
+          let outcome = one_outcome bytes (Ok d.tokens) (Ok e.tokens) d.lexed e.lexed in
+          let same : d.tokens ≡ e.tokens = cc in
+          d.prints.places ∙ rw same refl ∙ sym e.prints.places
+
+  tree_exists : (bytes : List ℕ) → ¬ ((r : Result ProgramTree Refusal) → ¬ TreeIs bytes r)
+  tree_exists bytes none = some.lexed bytes by_outcome
+    where
+      no_deep : (p : ProgramTree) (n : ℕ) → ¬ Deep bytes p n
+      no_deep p n d = none (Err (TooDeep (place_at p.places bytes n))) (source.TooDeep (place_at p.places bytes n), too_deep bytes p n d, refl)
+
+      by_outcome : (o : Outcome) → ¬ Lexes bytes o
+      by_outcome (Err l) h = let said = lex_said l (has_cause h.parts h.stop l h.gives) in none (Err said.0) (source.Lex l, unlexed bytes l h, said.1)
+      by_outcome (Ok tokens) h = none (Err (NoTree (place_at (places tokens) bytes 0))) (source.Syntax (place_at (places tokens) bytes 0), treeless bytes tokens h (λ p r. none (Ok p) r) no_deep, refl)
+
+  bound_exists : (p : ProgramTree) (types : Resolved) (es : List Named) → ¬ ((r : Result BoundValue Refusal) → ¬ BoundIs p types es r)
+  bound_exists p types es none = by_outcome (bound p types es) refl
+    where
+      by_outcome : (o : Result BoundValue BindRefusal) → bound p types es ≡ o → ⊥
+      by_outcome (Ok b) is = none (Ok b) is
+      by_outcome (Err e) is = let said = binding_said p e (λ m. some.binding p types es (is ∙ ap (λ f. Err f) m)) in none (Err said.0) (e, is, said.1)
+
+  entries_exist : (bytes : List ℕ) → ¬ ((r : Result (List Named) Refusal) → ¬ EntriesAre bytes r)
+  entries_exist bytes none = by_outcome (some_read bytes).0 (some_read bytes).1
+    where
+      by_outcome : (o : Read) → ¬ Spelled bytes o
+      by_outcome (Ok es) h = none (Ok es) h
+      by_outcome (Err e) h = let said = mesh_said e (λ m. mesh_causes bytes (subst (λ f. Refuses bytes f) m h)) in none (Err said.0) (e, h, said.1)
+
+  program_exists : (j : Job) (source mesh : List ℕ) (files : Files) → ¬ ((a : Answer) → ¬ ProgramAnswers j source mesh files a)
+  program_exists j source mesh files =
+      given_one _ _ (held_exists SourceBytes source (files source)) (λ bytes _.
+      given_one _ _ (tree_exists bytes) (λ p _.
+      given_one _ _ (some.types p) (λ types _.
+      given_one _ _ (held_exists MeshBytes mesh (files mesh)) (λ text _.
+      given_one _ _ (entries_exist text) (λ es _.
+      given_one _ _ (bound_exists p types es) (λ b _.
+      given_one _ _ (accesses_exist walk_finds obeys one_breach b) (λ u _. job_exists j b)))))))
+    where
+      job_exists : (j : Job) (b : BoundValue) → ¬ ((a : Answer) → ¬ JobAnswers j b a)
+      job_exists Run b none = none _ refl
+
+  command_exists : (c : Command) (files : Files) → ¬ ((a : Answer) → ¬ CommandAnswers c files a)
+  command_exists (OnProgram j source mesh) files none = program_exists j source mesh files none
+  command_exists ShowsUsage files none = none _ refl
+  command_exists ShowsVersion files none = none _ refl
+
+  pub answers_exist : AnswersExist
+  answers_exist words files = given_one (WordsAre words) (λ c. CommandAnswers c files) (λ none. none _ refl) (λ c _. command_exists c files)

@@ -1,0 +1,11 @@
+mod Given
+mod SaidOnce
+mod Trees
+mod Sites
+mod SameKernels
+mod SameBound
+mod Agreed
+mod Exist
+mod Complete
+mod OneFault
+mod Examples

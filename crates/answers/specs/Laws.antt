@@ -1,0 +1,66 @@
+-- What any two answers to the same words have in common, that there is one, and how a call ends by it.
+use Rattle.std.specs.Prelude.{◌≡◌, ◌≢◌, ℕ, ◌⊎◌, List, Result, Ok, Err}
+use Rattle.c_lex.specs.declared.tokens.Token.{Token}
+use Rattle.c_lex.specs.Lexed as lexer
+use Rattle.c_lex.specs.Lexed.{Lexes}
+use Rattle.c_tree.specs.Tree.{ProgramTree}
+use Rattle.c_tree.specs.Reads.{Prints, Deep}
+use Rattle.c_reader.specs.Answered.{place_at, IsFar}
+use Rattle.kernel_types.specs.declared.kernels.Resolved.{Resolved}
+use Rattle.mesh_text.specs.Spelling.{Named}
+use Rattle.bind_refusals.specs.declared.refusals.BindRefusal.TheVariants as bind
+use Rattle.loop_bind.specs.Bound.{bound}
+use Rattle.op_outside.specs.Outside.{Files}
+use Rattle.answers.specs.Refusal.{Refusal}
+use Rattle.answers.specs.Lines.{Answer}
+use Rattle.answers.specs.Words.{Job, OnProgram, WordsAre}
+use Rattle.answers.specs.Judgements.{SourceIs, TypesAre}
+use Rattle.answers.specs.Answers.{Answers}
+
+-- ---- two answers
+
+-- the bytes have tokens, and no tree prints them, however deep
+pub record LacksTree (bytes : List ℕ) : Type 0 where
+  pub tokens : List Token
+  pub lexed : Lexes bytes (Ok tokens)
+  pub none : (p : ProgramTree) → ¬ Prints tokens p
+
+-- the words ask for a job on a source that has tokens and no tree
+pub record SourceLacksTree (words : List (List ℕ)) (files : Files) : Type 0 where
+  pub job : Job
+  pub source : List ℕ
+  pub mesh : List ℕ
+  pub bytes : List ℕ
+  pub asks : WordsAre words (Ok (OnProgram job source mesh))
+  pub held : SourceIs source files (Ok bytes)
+  pub lacks : LacksTree bytes
+
+-- Both have the same status and the same bytes, and the same line unless the source has tokens and no tree.
+pub record Agree (words : List (List ℕ)) (files : Files) (a b : Answer) : Type 0 where
+  pub status : a.status ≡ b.status
+  pub out : a.out ≡ b.out
+  pub line : (a.line ≡ b.line) ⊎ SourceLacksTree words files
+
+-- any two answers to the same words agree
+abbrev pub AnswersAgree : Type 0
+AnswersAgree =
+    (words : List (List ℕ)) (files : Files) (a b : Answer)
+    → Answers words files a
+    → Answers words files b
+    → Agree words files a b
+
+-- ---- an answer
+
+-- there is an answer
+abbrev pub AnswersExist : Type 0
+AnswersExist = (words : List (List ℕ)) (files : Files) → ¬ ((a : Answer) → ¬ Answers words files a)
+
+-- ---- the laws of the parts that are awaited
+
+-- each source has tokens or is refused for them; the first token beyond level 64 stands behind at least 64 others; kernels can lie
+-- in memory; binding is never refused for want of memory
+pub record OutcomesExist : Type 0 where
+  pub lexed : (bytes : List ℕ) → ¬ ((o : lexer.Outcome) → ¬ Lexes bytes o)
+  pub deep : (bytes : List ℕ) (p : ProgramTree) (n : ℕ) → Deep bytes p n → IsFar bytes (place_at p.places bytes n)
+  pub types : (p : ProgramTree) → ¬ ((r : Result Resolved Refusal) → ¬ TypesAre p r)
+  pub binding : (p : ProgramTree) (types : Resolved) (es : List Named) → bound p types es ≢ Err bind.OutOfMemory

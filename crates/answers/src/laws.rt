@@ -1,0 +1,47 @@
+// Laws of the definitions, each as the contract of a function that does nothing.
+
+ghost use Rattle.std.specs.Prelude.{◌≡◌, ℕ, List, [], ◌∷◌};
+ghost use Rattle.clap.specs.Kinds.{IsAmong};
+ghost use Rattle.clap.specs.Faults.{fault_of};
+ghost use Rattle.clap.specs.declared.error.kind.ErrorKind.{ErrorKind as Kind};
+ghost use Rattle.answers.specs.Words.{command};
+ghost use Rattle.answers.specs.Endings.{Call, Ends, IsComplete};
+ghost use Rattle.answers.specs.Laws.{AnswersAgree, AnswersExist, OutcomesExist};
+
+/// A law: `clap` has at most one kind of fault to answer the words with.
+pub fn one_fault()
+    ensures { (words : List (List ℕ)) (k : Kind) → IsAmong k (fault_of command words) → fault_of command words ≡ k ∷ [] }
+{}
+
+/// A law: any two answers to the same words over the same files have the same status and the same bytes for the output, and
+/// the same line, unless the source has tokens and no tree.
+pub fn answers_agree()
+    ensures { AnswersAgree }
+{
+    c_lex::one_outcome();
+    c_reader::one_tree();
+    name_resolution::one_answer();
+    mesh_text::one_outcome();
+    kernel_model::walk_finds();
+    kernel_model::rules_are_broken();
+    kernel_model::kernels_are_trees();
+}
+
+/// A law: there is an answer to all words over all files. It rests on laws of the parts that are still to come.
+pub fn answers_exist()
+    ensures { OutcomesExist → AnswersExist }
+{
+    c_lex::one_outcome();
+    c_reader::one_depth();
+    mesh_text::one_outcome();
+    kernel_model::walk_finds();
+    kernel_model::rules_are_broken();
+}
+
+/// A law: where a call ends, its status is that of any answer over files that tell it, unless memory ran out or a count of
+/// faults rose.
+pub fn calls_are_complete()
+    ensures { (c : Call) (status : ℕ) → Ends c status → IsComplete c status }
+{
+    answers_agree();
+}
