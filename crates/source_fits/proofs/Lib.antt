@@ -1,0 +1,14 @@
+pub mod Apart
+pub mod Assigned
+pub mod Entries
+pub mod Found
+pub mod Kept
+pub mod Kernels
+pub mod Listed
+pub mod Marks
+pub mod Named
+pub mod Nothing
+pub mod Numbers
+pub mod Takes
+pub mod Uses
+pub mod Whole
