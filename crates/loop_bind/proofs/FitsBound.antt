@@ -20,7 +20,7 @@ use Rattle.main_trace.specs.Limited.{UnrolledValue, unrolled}
 use Rattle.loop_bind.specs.Weights.{weight_of_all, within_weight, weighed, trace, with_told}
 use Rattle.loop_bind.specs.Bound.{text, happens, finished, unrolled_text, bound}
 use Rattle.bound_program.specs.Fits.{SiteFits, ItemsFit, EndsWithHost}
-use Rattle.loop_bind.specs.Sources.{TopIsRead, HostsAreRead, HaveNumbers, TopsTake}
+use Rattle.source_fits.specs.Sources.{TopIsRead, HostsAreRead, HaveNumbers, TopsTake}
 use Rattle.loop_bind.proofs.FitsTargets.{AllAssignVariables, MainAssignsVariables}
 use Rattle.loop_bind.proofs.FitsJudged.{Gives, gives_then}
 use Rattle.loop_bind.proofs.FitsState.{NameFits, NameIsOwn, ExternFits, HasDim, so_far, Lawful}

@@ -29,7 +29,7 @@ use Rattle.main_declarations.specs.Declarations.{set_decl_found, map_decl_found,
 use Rattle.main_declarations.specs.Variables.{with_fixed, with_fixed_later, with_turning, const_at, with_changing, judged_declr, judged_declrs, judged_constant}
 use Rattle.main_text.specs.Arguments.{after_globals, loop_found, site, judged_loop}
 use Rattle.main_text.specs.Text.{nested, turning, line_found, declares, judged_call, opened, followed_by, ended, with_counter, judged_bounds, judged_host, judged_hosts}
-use Rattle.loop_bind.specs.Constants.{FileVariable, NamesApart, call_names, constant_names, all_constant_names}
+use Rattle.source_fits.specs.Constants.{FileVariable, NamesApart, call_names, constant_names, all_constant_names}
 use Rattle.loop_bind.proofs.FitsJudged.{Gives, gives_then, gives_unless}
 use Rattle.loop_bind.proofs.FitsState.{known-fits}
 use Rattle.loop_bind.proofs.FitsFileConsts.{gives_any, EntryNamed}
@@ -125,7 +125,7 @@ module _ (cs : List ConstDecl) (fs : List FileVariable) (apart : NamesApart fs) 
   closed_goes : (done : List (List ℕ)) (j k : Declared) → MainConsts cs fs apart done k → MainConsts cs fs apart done (record k { names = closed j.names k.names })
   closed_goes done j k h = record { tagged = h.tagged; file = h.file; own = All-take EntryOfMain (length j.names.own) k.names.own h.own }
 
-  counter_goes : (done : List (List ℕ)) (a : Walked) (x : Ident) → Have done a → Have done (with_counter places cs es a x)
+  pub counter_goes : (done : List (List ℕ)) (a : Walked) (x : Ident) → Have done a → Have done (with_counter places cs es a x)
   counter_goes done a x h = name_goes cs fs apart done a.declared x.name (m.Turning (told_later a.declared.names)) h tt
 
   moved : (r : Judged Walked) (d e : List (List ℕ)) → d ≡ e → Gives (Have d) r → Gives (Have e) r

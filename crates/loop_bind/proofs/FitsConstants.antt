@@ -14,7 +14,7 @@ use Rattle.main_names.specs.Meanings.{or_zero}
 use Rattle.main_names.specs.SoFar.{first_cell}
 use Rattle.main_trace.specs.Limited.{ToldValue}
 use Rattle.loop_bind.specs.Weights.{started, with_told}
-use Rattle.loop_bind.specs.Constants.{FileVariable, is_constant, Begins, AreConstants, AreOfOne}
+use Rattle.source_fits.specs.Constants.{FileVariable, is_constant, Begins, AreConstants, AreOfOne}
 use Rattle.bound_program.specs.Fits.{cells_from, constant_cells, HasCells, NamesConstants, UsesConstants, RowUsesConstants, AreOfVariable, KernelFits, ConstantsFit}
 use Rattle.loop_bind.proofs.FitsState.{at}
 use Rattle.loop_bind.proofs.FitsTold.{AllOne, one_same, all_moved}

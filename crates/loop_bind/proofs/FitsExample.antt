@@ -13,12 +13,12 @@ use Rattle.kernel_types.specs.declared.kernels.ConstDecl.{ConstDecl}
 use Rattle.kernel_types.specs.declared.kernels.RKernel.{RKernel}
 use Rattle.kernel_types.specs.declared.kernels.Resolved.{Resolved}
 use Rattle.kernel_types.specs.Resolved.{AreResolved, cells_of, FollowOn}
-use Rattle.mesh_text.specs.Spelling.{Named}
 use Rattle.main_names.specs.SoFar.{first_cell}
+use Rattle.name_resolution.specs.Programs.{named_in}
 use Rattle.bound_program.specs.Fits.{UsesConstants}
-use Rattle.loop_bind.specs.Sources.{HasNumbers, IsRead, TopIsRead, HostsAreRead, HasNumber}
-use Rattle.loop_bind.specs.Constants.{FileVariable, file_variables, NamesApart, all_constant_names, AreConstants, AreFound, AreOfOne}
-use Rattle.loop_bind.specs.Resolvable.{IsResolvedSource}
+use Rattle.source_fits.specs.Sources.{HasNumbers, IsRead, TopIsRead, HostsAreRead}
+use Rattle.source_fits.specs.Constants.{FileVariable, file_variables, NamesApart, AreConstants, AreFound, AreOfOne}
+use Rattle.source_fits.specs.Resolvable.{IsResolvedSource}
 use Rattle.loop_bind.proofs.FitsMesh.{never}
 
 -- int x; const int c = 5; int a[2]; .. x = 1; op_decl_const(1, "int", &x); op_printf("%d", c);
@@ -87,7 +87,7 @@ body_read : HostsAreRead body
 body_read = ((tt, record { sfits = omega arith }), (tt, (All-from_recursion HasNumbers (tree.Name (named (codes "c")) ∷ []) (tt, tt), tt)))
 
 module _ (r : Resolved) (no_kernels : r.kernels.items ≡ []) (consts : r.consts.items ≡ constants) where
-  met : IsResolvedSource program r []
+  met : IsResolvedSource program r
   met = record {
     resolved = record {
       consts = subst (FollowOn 0) (sym consts) (refl, (refl, tt));
@@ -95,11 +95,10 @@ module _ (r : Resolved) (no_kernels : r.kernels.items ≡ []) (consts : r.consts
     };
     takes = tt;
     uses = subst (All (λ (k : RKernel). UsesConstants (AreOfOne r.consts.items) k.body.statement)) (sym no_kernels) (All-nil (λ (k : RKernel). UsesConstants (AreOfOne r.consts.items) k.body.statement));
-    constants = subst (AreConstants (all_constant_names body) (file_variables tops)) (sym consts) (refl, refl, (refl, refl, tt));
+    constants = subst (AreConstants (named_in program) (file_variables tops)) (sym consts) (refl, refl, (refl, refl, tt));
     found = subst AreFound (sym consts) found;
     apart = apart;
     tops = tops_read;
     body = body_read;
-    entries = All-nil (λ (e : Named). HasNumber e.1);
     assigns = (tt, (tt, (tt, tt)));
   }

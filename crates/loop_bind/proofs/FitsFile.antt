@@ -28,7 +28,7 @@ use Rattle.main_names.specs.SoFar.{Declared, with_var, with_file_name, next_cell
 use Rattle.main_names.specs.Meanings.{count_of}
 use Rattle.main_declarations.specs.Variables.{with_file_value, judged_file_declr, judged_file_declrs}
 use Rattle.main_declarations.specs.File.{judged_extern, judged_array, judged_top, judged_tops}
-use Rattle.loop_bind.specs.Sources.{HasNumbers, IsRead, TopIsRead, HasNumber, HaveNumbers, TopsTake}
+use Rattle.source_fits.specs.Sources.{HasNumbers, IsRead, TopIsRead, HasNumber, HaveNumbers, TopsTake}
 use Rattle.loop_bind.proofs.FitsJudged.{Gives, gives_then, gives_unless}
 use Rattle.loop_bind.proofs.FitsValues.{Num, OkNum, no_nums, Within, value_num}
 use Rattle.loop_bind.proofs.FitsState.{MeaningFits, Lawful}

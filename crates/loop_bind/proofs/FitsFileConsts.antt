@@ -21,7 +21,7 @@ use Rattle.main_names.specs.Meanings.{count_of}
 use Rattle.main_names.specs.Expressions.{judged_value}
 use Rattle.main_declarations.specs.Variables.{with_file_value, judged_file_declr, judged_file_declrs}
 use Rattle.main_declarations.specs.File.{judged_extern, judged_array, judged_top, judged_tops}
-use Rattle.loop_bind.specs.Constants.{FileVariable, declr_variable, declrs_variables, top_variables, file_variables}
+use Rattle.source_fits.specs.Constants.{FileVariable, declr_variable, declrs_variables, top_variables, file_variables}
 use Rattle.loop_bind.proofs.FitsJudged.{Gives, gives_then}
 use Rattle.loop_bind.proofs.FitsState.{known-fits}
 use Rattle.loop_bind.proofs.FitsTags.{no_variable, Tag, Tagged, tagged_next, HasName, name_more}

@@ -13,7 +13,7 @@ use Rattle.bound_program.specs.Values.{VarValue}
 use Rattle.main_names.specs.Names.{means}
 use Rattle.main_names.specs.Expressions.{read, cells_of, resolved}
 use Rattle.main_names.specs.SoFar.{Declared}
-use Rattle.loop_bind.specs.Sources.{HasNumbers}
+use Rattle.source_fits.specs.Sources.{HasNumbers}
 use Rattle.loop_bind.proofs.FitsValues.{Within, zero_is_num}
 use Rattle.loop_bind.proofs.FitsState.{MeaningFits, Lawful, means_fits}
 

@@ -31,7 +31,7 @@ use Rattle.main_declarations.specs.Variables.{with_file_value, judged_file_declr
 use Rattle.main_text.specs.Arguments.{with_extern, extern_var, after_global, after_globals, loop_found, site, judged_loop}
 use Rattle.main_text.specs.Text.{nested, turning, target_name, line_found, declares, judged_call, opened, followed_by, ended, with_counter, judged_bounds, judged_host, judged_hosts}
 use Rattle.main_declarations.specs.File.{judged_extern, judged_array, judged_top, judged_tops}
-use Rattle.loop_bind.specs.Assigned.{Known, knows, after_declr, after_declrs, after_top, after_tops, after_call, after_host, after_hosts, place_name, CanBeAssigned, Assigns, AllAssign}
+use Rattle.source_fits.specs.Assigned.{Known, knows, after_declr, after_declrs, after_top, after_tops, after_call, after_host, after_hosts, place_name, CanBeAssigned, Assigns, AllAssign}
 use Rattle.loop_bind.proofs.FitsJudged.{Gives, gives_then, gives_unless}
 use Rattle.loop_bind.proofs.FitsFileConsts.{gives_any}
 use Rattle.loop_bind.proofs.FitsTargets.{IsVariable, Behind, AssignsVariables, AllAssignVariables}
@@ -203,7 +203,7 @@ module _ (places : List Pos) (cs : List ConstDecl) (es : List Named) where
       own = subst (λ n. Same (take n later) (take (length j.names.own) k.names.own)) (sym (same_length own j.names.own h.own)) (same_take (length j.names.own) later k.names.own i.own);
     }
 
-    counter_scoped : (own : Known) (a : Walked) (x : Ident) → At own a → At (knows x.name false own) (with_counter places cs es a x)
+    pub counter_scoped : (own : Known) (a : Walked) (x : Ident) → At own a → At (knows x.name false own) (with_counter places cs es a x)
     counter_scoped own a x h = own_name file own a.declared x.name false (m.Turning (told_later a.declared.names)) tt h
 
     mutual

@@ -11,7 +11,7 @@ use Rattle.kernel_types.specs.declared.kernels.ConstDecl.{ConstDecl}
 use Rattle.bound_program.specs.Values.{VarValue}
 use Rattle.main_names.specs.SoFar.{first_cell}
 use Rattle.main_declarations.specs.Variables.{with_constant}
-use Rattle.loop_bind.specs.Constants.{FileVariable, NamesApart, is_constant}
+use Rattle.source_fits.specs.Constants.{FileVariable, NamesApart, is_constant}
 
 -- ---- names among those that are told
 

@@ -28,7 +28,7 @@ use Rattle.main_declarations.specs.Declarations.{judged_set, judged_map, judged_
 use Rattle.main_declarations.specs.Variables.{judged_constant}
 use Rattle.main_text.specs.Arguments.{judged_loop}
 use Rattle.main_text.specs.Text.{nested, turning, target_name, target_index, target_var, assignment, line_found, declares, judged_call, opened, followed_by, ended, with_counter, judged_bounds, judged_host, judged_hosts}
-use Rattle.loop_bind.specs.Sources.{HasNumbers, PlaceIsRead, CallIsRead, HostIsRead, HostsAreRead}
+use Rattle.source_fits.specs.Sources.{HasNumbers, PlaceIsRead, CallIsRead, HostIsRead, HostsAreRead}
 use Rattle.loop_bind.proofs.FitsTargets.{IsVariable, Behind, AssignsVariables, AllAssignVariables}
 use Rattle.loop_bind.proofs.FitsJudged.{Gives, gives_then, gives_unless, not_if, not_equal_false}
 use Rattle.loop_bind.proofs.FitsValues.{Within, within_more, zero_is_num}

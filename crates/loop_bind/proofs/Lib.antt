@@ -12,6 +12,7 @@ mod FitsExample
 pub mod FitsExterns
 pub mod FitsFile
 pub mod FitsFileConsts
+pub mod FitsHidden
 pub mod FitsJudged
 pub mod FitsLoop
 pub mod FitsMain
@@ -30,5 +31,3 @@ pub mod FitsTold
 pub mod FitsTrace
 pub mod FitsValues
 pub mod FitsVars
-pub mod FitsAssigned
-pub mod FitsApart

@@ -1,8 +1,14 @@
 // Programs bound to the entries of a mesh text.
 
-ghost use Rattle.std.specs.Prelude.{map};
+ghost use Rattle.std.specs.Prelude.{ℕ, List, map, Ok, IfOk};
+ghost use Rattle.c_tree.specs.Reads.{Reads};
 ghost use Rattle.c_tree.specs.View.{program_of};
+ghost use Rattle.kernel_types.specs.Resolved.{IsResolvedProgram};
+ghost use Rattle.kernel_types.specs.View.{resolved_of};
+ghost use Rattle.mesh_text.specs.Spelling.{Spells};
+ghost use Rattle.name_resolution.specs.Programs.{Resolves};
 ghost use Rattle.bind_refusals.specs.Refusals.{JudgesBy};
+ghost use Rattle.bound_program.specs.Fits.{Fits};
 ghost use Rattle.bound_program.specs.Limits.{max_trace};
 ghost use Rattle.bound_program.specs.Values.{bound_of, site_of};
 ghost use Rattle.main_names.specs.Walks.{walked};
@@ -13,6 +19,7 @@ ghost use Rattle.main_trace.specs.Unrolling.{steps_of, seen, Gives};
 ghost use Rattle.loop_bind.specs.Weights.{trace};
 ghost use Rattle.loop_bind.specs.Bound.{text, happens, bound};
 
+use crate::laws::bound_programs_fit;
 use crate::told::with_told;
 use crate::weights::judged_weight;
 use bind_refusals::BindRefusal;
@@ -24,6 +31,7 @@ use main_names::{Declared, Source, Spot};
 use main_text::judged_hosts;
 use main_trace::{Step, Unrolled, unroll_main};
 use mesh_decl::Entries;
+use source_fits::{resolved_sources_are, spelled_entries_fit};
 use std::alloc::Global;
 
 // The text, judged in its order: what it declares, and the steps of `main`.
@@ -70,16 +78,8 @@ fn judged_trace(alloc: Global, k: &Declared, steps: Vec<Step>) -> Result<Unrolle
     Ok(unrolled)
 }
 
-/// The bound program of a source over the entries of a mesh text, or the first refusal: of the text in its order, then of
-/// `main` as it is unrolled, then of the limit on what it prints.
-///
-/// `resolved` are the kernels and constants that `resolve` gave for this program; they become part of the bound program, so
-/// they are taken by value.
-///
-/// # Errors
-/// Exactly the refusal that is defined for these, with its place. Beside want of memory, `OutOfMemory` stands for counts that
-/// their numbers cannot hold: 2^32 variables, cells or loops, and a print weight of 2^64 bytes.
-pub fn bind(
+// The bound program of a source over the entries of a mesh text, or the first refusal.
+fn judged_program(
     alloc: Global,
     program: &Program,
     resolved: Resolved,
@@ -97,4 +97,32 @@ pub fn bind(
         vars: k.vars,
         trace: unrolled.items,
     })
+}
+
+/// The bound program of a source over the entries of a mesh text, or the first refusal: of the text in its order, then of
+/// `main` as it is unrolled, then of the limit on what it prints.
+///
+/// `resolved` are the kernels and constants that `resolve` gave for this program; they become part of the bound program, so
+/// they are taken by value.
+///
+/// # Errors
+/// Exactly the refusal that is defined for these, with its place. Beside want of memory, `OutOfMemory` stands for counts that
+/// their numbers cannot hold: 2^32 variables, cells or loops, and a print weight of 2^64 bytes.
+pub fn bind(
+    alloc: Global,
+    program: &Program,
+    resolved: Resolved,
+    entries: &Entries,
+) -> Result<Bound, BindRefusal>
+    // What is answered is the judgement, unless memory runs out.
+    ensures judged { JudgesBy bound_of result (bound (program_of program.now) resolved entries.now.entries) }
+    // What is bound fits, where the source was read, this is what it resolves to, and the entries are those of a mesh text.
+    ensures fits { (source mesh : List ℕ) → Reads source (program_of program.now)
+        → Resolves (program_of program.now) (Ok (resolved_of resolved)) → IsResolvedProgram resolved
+        → Spells mesh entries.now.entries → IfOk result (λ b. Fits (bound_of b)) }
+{
+    resolved_sources_are();
+    spelled_entries_fit();
+    bound_programs_fit();
+    judged_program(alloc, program, resolved, entries)
 }

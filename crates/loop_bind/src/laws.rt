@@ -1,14 +1,12 @@
 // Laws of the definitions, each as the contract of a function that does nothing.
 
-ghost use Rattle.loop_bind.specs.Resolvable.{BoundProgramsFit, ResolvedNamesHold};
+ghost use Rattle.loop_bind.specs.Resolvable.{BoundProgramsFit};
 
-/// A law: a program that is bound fits, where names and types of its source refuse nothing.
+use source_fits::named_names_are_all;
+
+/// A law: a program that is bound fits, where its source is a resolved one and the values of its mesh text are of 32 bits.
 pub fn bound_programs_fit()
     ensures { BoundProgramsFit }
-{}
-
-/// A law: where names and types of a source refuse nothing, its `main` assigns variables alone, and no two variables of its
-/// file have one name.
-pub fn resolved_names_hold()
-    ensures { ResolvedNamesHold }
-{}
+{
+    named_names_are_all();
+}

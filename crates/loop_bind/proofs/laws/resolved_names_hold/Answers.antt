@@ -1,6 +1,0 @@
-use Rattle.loop_bind.proofs.FitsAssigned.{main_assigns}
-use Rattle.loop_bind.proofs.FitsApart.{variables_apart}
-use Rattle.loop_bind.proofs.laws.resolved_names_hold.Goals as goal
-
-pub returns : goal.returns
-returns c = λ p e. (main_assigns p e, variables_apart p e)
