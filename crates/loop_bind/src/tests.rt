@@ -1,3 +1,7 @@
+ghost use Rattle.std.specs.Prelude.{◌+◌, ◌<◌, ◌^◌, length, IfSome};
+ghost use Rattle.bound_program.specs.Fits.{Fits};
+ghost use Rattle.bound_program.specs.Values.{bound_of};
+
 use crate::{BindRefusal, Bound, Counted, Item, Pos, bind};
 use c_reader::read_program;
 use mesh_text::read_mesh;
@@ -18,6 +22,35 @@ void g(const int *a, int *s) { *s += a[0]; } void h(const int *a, int *b) { b[0]
 // The third line of each source: what it declares.
 const DECLARED: &str = "op_set ns = op_decl_set(n, \"ns\"); op_set ms = op_decl_set(m, \"ms\"); \
 op_map mp = op_decl_map(ms, ns, 2, e, \"mp\"); op_dat x = op_decl_dat(ns, 1, \"int\", d, \"x\");";
+
+// The bound program of a source and a mesh text, if there is one. It fits by what the four calls ensure.
+fn bound_texts(alloc: Global, source: &[u8], mesh: &[u8]) -> Option<Bound>
+    requires source { length source.now + 2 < 2 ^ 32 }
+    requires mesh { length mesh.now + 1 < 2 ^ 32 }
+    ensures { IfSome result (λ b. Fits (bound_of b)) }
+{
+    let Ok(program) = read_program(alloc, source) else {
+        return None;
+    };
+    let Ok(resolved) = resolve(alloc, &program) else {
+        return None;
+    };
+    let Ok(entries) = read_mesh(alloc, mesh) else {
+        return None;
+    };
+    match bind(alloc, &program, resolved, &entries) {
+        Ok(bound) => Some(bound),
+        Err(_) => None,
+    }
+}
+
+#[test]
+fn a_source_and_a_mesh_text_are_bound(rt: HostRuntime) -> Result<(), Fail> {
+    let alloc = rt.alloc();
+    let source = "int main(int argc, char **argv) { op_exit(); }";
+    assert!(rt; bound_texts(alloc, source.as_bytes(), MESH.as_bytes()).is_some());
+    Ok(())
+}
 
 // What binding a source of these statements of `main` answers; its fourth line.
 fn answer(alloc: Global, body: &str) -> Option<Result<Bound, BindRefusal>> {
