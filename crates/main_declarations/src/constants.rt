@@ -141,7 +141,8 @@ pub fn judged_constant(
     l: &TextLiteral,
     g: &GlobalName,
 ) -> Result<(), BindRefusal>
-    ensures { Judges result (declared_of k.new) (judged_constant source.now.places.now source.now.consts.now (declared_of k.old) is_nested t n l.now g.now) }
+    ensures { Judges result (declared_of k.new)
+        (judged_constant source.now.places.now source.now.consts.now (declared_of k.old) is_nested t n l.now g.now) }
 {
     let first = first_in_constant(source, k, is_nested, t, n, l, g);
     if let Some(found) = first {

@@ -70,7 +70,8 @@ fn judged_const(
     name: &Name,
     e: &Expr,
 ) -> Result<(), BindRefusal>
-    ensures { Judges result (walked k.new steps.new.items) (const_at source.now.places.now spot.in_for spot.is_nested (walked k.old steps.old.items) name.now (expr_of e.now)) }
+    ensures { Judges result (walked k.new steps.new.items)
+        (const_at source.now.places.now spot.in_for spot.is_nested (walked k.old steps.old.items) name.now (expr_of e.now)) }
 {
     if spot.in_for {
         let value = judged_static(source.alloc, source.places, &k.names, e)?;
@@ -121,7 +122,9 @@ fn cleared(
     is_array: bool,
     count: u32,
 ) -> Result<(), OutOfMemory>
-    ensures { OnOk result (walked k.new steps.new.items ≡ does (Do (Clear (length (declared_of k.old).vars))) (behind (walked k.old steps.old.items) (with_changing source.now.places.now (declared_of k.old) name.now is_array count))) }
+    ensures { OnOk result (walked k.new steps.new.items ≡ does
+        (Do (Clear (length (declared_of k.old).vars)))
+        (behind (walked k.old steps.old.items) (with_changing source.now.places.now (declared_of k.old) name.now is_array count))) }
 {
     let var = k.next_var()?;
     with_changing(source, k, name, is_array, count)?;
@@ -136,7 +139,9 @@ fn initialized(
     x: &Ident,
     e: &Expr,
 ) -> Result<(), OutOfMemory>
-    ensures { OnOk result (walked k.new steps.new.items ≡ does (Do (initializer source.now.places.now (declared_of k.old) x.now (expr_of e.now))) (behind (walked k.old steps.old.items) (with_changing source.now.places.now (declared_of k.old) x.now.name false 1))) }
+    ensures { OnOk result (walked k.new steps.new.items ≡ does
+        (Do (initializer source.now.places.now (declared_of k.old) x.now (expr_of e.now)))
+        (behind (walked k.old steps.old.items) (with_changing source.now.places.now (declared_of k.old) x.now.name false 1))) }
 {
     let var = k.next_var()?;
     let value = resolved(source.alloc, source.places, &k.names, e)?;
@@ -164,7 +169,8 @@ pub fn judged_declr(
     is_const: bool,
     declr: &Declr,
 ) -> Result<(), BindRefusal>
-    ensures { Judges result (walked k.new steps.new.items) (judged_declr source.now.places.now (walked k.old steps.old.items) spot is_const (declr_of declr.now)) }
+    ensures { Judges result (walked k.new steps.new.items)
+        (judged_declr source.now.places.now (walked k.old steps.old.items) spot is_const (declr_of declr.now)) }
 {
     match declr {
         Declr::Init { name, value } => {
@@ -196,7 +202,8 @@ pub fn judged_declrs(
     is_const: bool,
     declrs: &[Declr],
 ) -> Result<(), BindRefusal>
-    ensures { Judges result (walked k.new steps.new.items) (judged_declrs source.now.places.now (walked k.old steps.old.items) spot is_const (map declr_of declrs.now)) }
+    ensures { Judges result (walked k.new steps.new.items)
+        (judged_declrs source.now.places.now (walked k.old steps.old.items) spot is_const (map declr_of declrs.now)) }
 {
     for declr in declrs {
         judged_declr(source, k, steps, spot, is_const, declr)?;

@@ -27,7 +27,9 @@ fn with_cells(
     is_array: bool,
     count: u32,
 ) -> Result<(), OutOfMemory>
-    ensures { OnOk result (declared_of k.new ≡ with_file_name name.now (Variable (next_cells (declared_of k.old) true is_array count)) (with_var (changing name.now (replicate count (pos 0))) (declared_of k.old))) }
+    ensures { OnOk result (declared_of k.new ≡ with_file_name name.now
+        (Variable (next_cells (declared_of k.old) true is_array count))
+        (with_var (changing name.now (replicate count (pos 0))) (declared_of k.old))) }
 {
     let cells = k.next_cells(true, is_array, count)?;
     let start = zeros(alloc, count)?;
@@ -43,7 +45,8 @@ fn with_value(
     name: &Name,
     value: i32,
 ) -> Result<(), OutOfMemory>
-    ensures { OnOk result (declared_of k.new ≡ with_file_value source.now.places.now source.now.consts.now (declared_of k.old) is_const name.now value) }
+    ensures { OnOk result (declared_of k.new ≡
+        with_file_value source.now.places.now source.now.consts.now (declared_of k.old) is_const name.now value) }
 {
     let cells = k.next_cells(true, false, 1)?;
     if is_const {
@@ -65,7 +68,8 @@ fn judged_file_declr(
     is_const: bool,
     declr: &Declr,
 ) -> Result<(), BindRefusal>
-    ensures { Judges result (declared_of k.new) (judged_file_declr source.now.places.now source.now.consts.now (declared_of k.old) is_const (declr_of declr.now)) }
+    ensures { Judges result (declared_of k.new)
+        (judged_file_declr source.now.places.now source.now.consts.now (declared_of k.old) is_const (declr_of declr.now)) }
 {
     match declr {
         Declr::Plain(x) => {
@@ -97,7 +101,8 @@ pub fn judged_file_declrs(
     is_const: bool,
     declrs: &[Declr],
 ) -> Result<(), BindRefusal>
-    ensures { Judges result (declared_of k.new) (judged_file_declrs source.now.places.now source.now.consts.now (declared_of k.old) is_const (map declr_of declrs.now)) }
+    ensures { Judges result (declared_of k.new)
+        (judged_file_declrs source.now.places.now source.now.consts.now (declared_of k.old) is_const (map declr_of declrs.now)) }
 {
     for declr in declrs {
         judged_file_declr(source, k, is_const, declr)?;
@@ -107,7 +112,8 @@ pub fn judged_file_declrs(
 
 // `extern int x;` has an entry of one value.
 fn judged_extern(source: &Source<'_>, k: &mut Declared, x: &Ident) -> Result<(), BindRefusal>
-    ensures { Judges result (declared_of k.new) (judged_top source.now.places.now source.now.consts.now source.now.entries.now.entries (declared_of k.old) (Extern x.now)) }
+    ensures { Judges result (declared_of k.new)
+        (judged_top source.now.places.now source.now.consts.now source.now.entries.now.entries (declared_of k.old) (Extern x.now)) }
 {
     match source.entries.get(&x.name) {
         Some(Entry::One(z)) => {
@@ -122,7 +128,9 @@ fn judged_extern(source: &Source<'_>, k: &mut Declared, x: &Ident) -> Result<(),
 
 // `extern int x[];` has an entry of many.
 fn judged_array(source: &Source<'_>, k: &mut Declared, x: &Ident) -> Result<(), BindRefusal>
-    ensures { Judges result (declared_of k.new) (judged_top source.now.places.now source.now.consts.now source.now.entries.now.entries (declared_of k.old) (ExternArray x.now)) }
+    ensures { Judges result (declared_of k.new)
+        (judged_top source.now.places.now source.now.consts.now source.now.entries.now.entries
+        (declared_of k.old) (ExternArray x.now)) }
 {
     match source.entries.get(&x.name) {
         Some(Entry::Many(_)) => {
@@ -137,7 +145,9 @@ fn judged_array(source: &Source<'_>, k: &mut Declared, x: &Ident) -> Result<(), 
 
 // One kernel more.
 fn with_kernel(k: &mut Declared, f: &Kernel) -> Result<(), OutOfMemory>
-    ensures { OnOk result (declared_of k.new ≡ record (with_file_name f.now.name.name (Meaning.Kernel k.old.kernels (length f.now.params.items)) (declared_of k.old)) { kernels = suc k.old.kernels }) }
+    ensures { OnOk result (declared_of k.new ≡ record
+        (with_file_name f.now.name.name (Meaning.Kernel k.old.kernels (length f.now.params.items)) (declared_of k.old))
+        { kernels = suc k.old.kernels }) }
 {
     let number = k.kernels;
     let Some(kernels) = number.checked_add(1) else {
@@ -152,7 +162,8 @@ fn with_kernel(k: &mut Declared, f: &Kernel) -> Result<(), OutOfMemory>
 
 /// A part of the file.
 pub fn judged_top(source: &Source<'_>, k: &mut Declared, top: &Top) -> Result<(), BindRefusal>
-    ensures { Judges result (declared_of k.new) (judged_top source.now.places.now source.now.consts.now source.now.entries.now.entries (declared_of k.old) (top_of top.now)) }
+    ensures { Judges result (declared_of k.new)
+        (judged_top source.now.places.now source.now.consts.now source.now.entries.now.entries (declared_of k.old) (top_of top.now)) }
 {
     match top {
         Top::Extern(x) => judged_extern(source, k, x),
@@ -167,7 +178,9 @@ pub fn judged_top(source: &Source<'_>, k: &mut Declared, top: &Top) -> Result<()
 
 /// The file before `main`, in order.
 pub fn judged_tops(source: &Source<'_>, k: &mut Declared, tops: &[Top]) -> Result<(), BindRefusal>
-    ensures { Judges result (declared_of k.new) (judged_tops source.now.places.now source.now.consts.now source.now.entries.now.entries (declared_of k.old) (map top_of tops.now)) }
+    ensures { Judges result (declared_of k.new)
+        (judged_tops source.now.places.now source.now.consts.now source.now.entries.now.entries
+        (declared_of k.old) (map top_of tops.now)) }
 {
     for top in tops {
         judged_top(source, k, top)?;

@@ -202,7 +202,8 @@ pub fn note_targets(
     awaits: Option<u64>,
     to: Option<u32>,
 ) -> Result<(), OutOfMemory>
-    ensures { OnOk result (first.new ≡ least_from first.old (target_found source.now.places.now mesh.now dim x.now (array_if is_array values.now) awaits to)) }
+    ensures { OnOk result (first.new ≡ least_from first.old
+        (target_found source.now.places.now mesh.now dim x.now (array_if is_array values.now) awaits to)) }
 {
     if !is_array {
         return Ok(());

@@ -63,7 +63,11 @@ fn size_of(source: &Source<'_>, value: Result<i32, KernelFault>) -> u32
 
 // One set more.
 fn add_set(k: &mut Declared, x: &Ident, size: u32) -> Result<(), OutOfMemory>
-    ensures { OnOk result (declared_of k.new ≡ record (declared_of k.old) { filled = k.old.filled + size; mesh = with_set x.now.name size k.old.mesh; names = declare x.now.name (Meaning.Set (set_count k.old.mesh)) (declared_of k.old).names }) }
+    ensures { OnOk result (declared_of k.new ≡ record (declared_of k.old) {
+      filled = k.old.filled + size;
+      mesh = with_set x.now.name size k.old.mesh;
+      names = declare x.now.name (Meaning.Set (set_count k.old.mesh)) (declared_of k.old).names;
+    }) }
 {
     let Some(filled) = k.filled.checked_add(size as u64) else {
         return Err(AllocError);
@@ -133,7 +137,8 @@ fn note_map(
     n: NumberLiteral,
     array: &Ident,
 ) -> Result<(), OutOfMemory>
-    ensures { OnOk result (first.new ≡ least_from first.old (map_found source.now.places.now source.now.entries.now.entries (declared_of k.now) t from.now to.now n array.now)) }
+    ensures { OnOk result (first.new ≡ least_from first.old
+        (map_found source.now.places.now source.now.entries.now.entries (declared_of k.now) t from.now to.now n array.now)) }
 {
     let dim = n.value.unsigned_abs();
     let is_array = is_extern_array(k.names.means(&array.name));
@@ -166,7 +171,11 @@ fn add_map(
     dim: u32,
     values: &[i32],
 ) -> Result<(), OutOfMemory>
-    ensures { OnOk result (declared_of k.new ≡ record (declared_of k.old) { filled = k.old.filled + length values.now; mesh = with_map x.now.name from to dim values.now k.old.mesh; names = declare x.now.name (Meaning.Map (map_count k.old.mesh)) (declared_of k.old).names }) }
+    ensures { OnOk result (declared_of k.new ≡ record (declared_of k.old) {
+      filled = k.old.filled + length values.now;
+      mesh = with_map x.now.name from to dim values.now k.old.mesh;
+      names = declare x.now.name (Meaning.Map (map_count k.old.mesh)) (declared_of k.old).names;
+    }) }
 {
     let Some(filled) = k.filled.checked_add(values.len() as u64) else {
         return Err(AllocError);
@@ -201,7 +210,9 @@ fn first_in_map(
     n: NumberLiteral,
     values: &Ident,
 ) -> Result<Option<Found>, OutOfMemory>
-    ensures { IfOk result (λ f. f ≡ first_of (map_decl_found source.now.places.now source.now.entries.now.entries (declared_of k.now) is_nested t from.now to.now n values.now)) }
+    ensures { IfOk result (λ f. f ≡ first_of
+        (map_decl_found source.now.places.now source.now.entries.now.entries (declared_of k.now)
+        is_nested t from.now to.now n values.now)) }
 {
     let mut first = None;
     note_place(source, &mut first, k, is_nested, t);
@@ -229,7 +240,9 @@ pub fn judged_map(
     n: NumberLiteral,
     array: &Ident,
 ) -> Result<(), BindRefusal>
-    ensures { Judges result (declared_of k.new) (judged_map source.now.places.now source.now.entries.now.entries (declared_of k.old) is_nested t x.now from.now to.now n array.now) }
+    ensures { Judges result (declared_of k.new)
+        (judged_map source.now.places.now source.now.entries.now.entries (declared_of k.old)
+        is_nested t x.now from.now to.now n array.now) }
 {
     let first = first_in_map(source, k, is_nested, t, from, to, n, array)?;
     if let Some(found) = first {
@@ -255,7 +268,8 @@ fn note_dat(
     l: &TextLiteral,
     array: &Ident,
 ) -> Result<(), OutOfMemory>
-    ensures { OnOk result (first.new ≡ least_from first.old (dat_found source.now.places.now source.now.entries.now.entries (declared_of k.now) t set.now n l.now array.now)) }
+    ensures { OnOk result (first.new ≡ least_from first.old
+        (dat_found source.now.places.now source.now.entries.now.entries (declared_of k.now) t set.now n l.now array.now)) }
 {
     let dim = n.value.unsigned_abs();
     let is_array = is_extern_array(k.names.means(&array.name));
@@ -283,7 +297,11 @@ fn add_dat(
     dim: u32,
     values: &[i32],
 ) -> Result<(), OutOfMemory>
-    ensures { OnOk result (declared_of k.new ≡ record (declared_of k.old) { filled = k.old.filled + length values.now; mesh = with_dat x.now.name set dim values.now k.old.mesh; names = declare x.now.name (Meaning.Dat (dat_count k.old.mesh)) (declared_of k.old).names }) }
+    ensures { OnOk result (declared_of k.new ≡ record (declared_of k.old) {
+      filled = k.old.filled + length values.now;
+      mesh = with_dat x.now.name set dim values.now k.old.mesh;
+      names = declare x.now.name (Meaning.Dat (dat_count k.old.mesh)) (declared_of k.old).names;
+    }) }
 {
     let Some(filled) = k.filled.checked_add(values.len() as u64) else {
         return Err(AllocError);
@@ -313,7 +331,9 @@ fn first_in_dat(
     l: &TextLiteral,
     values: &Ident,
 ) -> Result<Option<Found>, OutOfMemory>
-    ensures { IfOk result (λ f. f ≡ first_of (dat_decl_found source.now.places.now source.now.entries.now.entries (declared_of k.now) is_nested t set.now n l.now values.now)) }
+    ensures { IfOk result (λ f. f ≡ first_of
+        (dat_decl_found source.now.places.now source.now.entries.now.entries (declared_of k.now)
+        is_nested t set.now n l.now values.now)) }
 {
     let mut first = None;
     note_place(source, &mut first, k, is_nested, t);
@@ -341,7 +361,9 @@ pub fn judged_dat(
     l: &TextLiteral,
     array: &Ident,
 ) -> Result<(), BindRefusal>
-    ensures { Judges result (declared_of k.new) (judged_dat source.now.places.now source.now.entries.now.entries (declared_of k.old) is_nested t x.now set.now n l.now array.now) }
+    ensures { Judges result (declared_of k.new)
+        (judged_dat source.now.places.now source.now.entries.now.entries (declared_of k.old)
+        is_nested t x.now set.now n l.now array.now) }
 {
     let first = first_in_dat(source, k, is_nested, t, set, n, l, array)?;
     if let Some(found) = first {

@@ -121,7 +121,8 @@ fn is_twice(before: &[Earlier], var: u32, access: Access) -> bool
 
 // No map is meant.
 fn note_map(source: &Source<'_>, first: &mut Option<Found>, k: &Declared, via: &ArgVia)
-    ensures { first.new ≡ least_from first.old (map_found source.now.places.now source.now.entries.now.entries (declared_of k.now).names via.now) }
+    ensures { first.new ≡ least_from first.old
+        (map_found source.now.places.now source.now.entries.now.entries (declared_of k.now).names via.now) }
 {
     match via {
         ArgVia::Map(x) => {
@@ -145,7 +146,8 @@ fn note_global(
     access_at: usize,
     var: Option<GlobalVar>,
 )
-    ensures { first.new ≡ least_from first.old (global_found source.now.places.now source.now.entries.now.entries before.now g.now n access access_at var) }
+    ensures { first.new ≡ least_from first.old
+        (global_found source.now.places.now source.now.entries.now.entries before.now g.now n access access_at var) }
 {
     let dim = n.value.unsigned_abs();
     let at = place(source.places, n.at);
@@ -188,7 +190,8 @@ fn note_reach(
     i: ArgIndex,
     via: &ArgVia,
 )
-    ensures { first.new ≡ least_from first.old (reach_found source.now.places.now source.now.entries.now.entries (declared_of k.now) set x.now i via.now) }
+    ensures { first.new ≡ least_from first.old
+        (reach_found source.now.places.now source.now.entries.now.entries (declared_of k.now) set x.now i via.now) }
 {
     let dat = dat_of(k.names.means(&x.name));
     let map = via_map(k, via);
@@ -214,7 +217,8 @@ fn note_dat(
     n: NumberLiteral,
     l: &TextLiteral,
 )
-    ensures { first.new ≡ least_from first.old (dat_arg_found source.now.places.now source.now.entries.now.entries (declared_of k.now) set x.now i via.now n l.now) }
+    ensures { first.new ≡ least_from first.old
+        (dat_arg_found source.now.places.now source.now.entries.now.entries (declared_of k.now) set x.now i via.now n l.now) }
 {
     note_reach(source, first, k, set, x, i, via);
     note_map(source, first, k, via);
@@ -235,7 +239,8 @@ fn note_arg(
     before: &[Earlier],
     arg: &LoopArg,
 )
-    ensures { first.new ≡ least_from first.old (arg_found source.now.places.now source.now.entries.now.entries (declared_of k.now) set before.now arg.now) }
+    ensures { first.new ≡ least_from first.old
+        (arg_found source.now.places.now source.now.entries.now.entries (declared_of k.now) set before.now arg.now) }
 {
     match arg {
         LoopArg::Dat {
@@ -271,7 +276,8 @@ fn add_earlier(
     before: &mut Vec<Earlier>,
     arg: &LoopArg,
 ) -> Result<(), OutOfMemory>
-    ensures { OnOk result (before.new.items ≡ with_earlier source.now.places.now source.now.entries.now.entries (declared_of k.now) arg.now before.old.items) }
+    ensures { OnOk result (before.new.items ≡
+        with_earlier source.now.places.now source.now.entries.now.entries (declared_of k.now) arg.now before.old.items) }
 {
     match arg {
         LoopArg::Dat { .. } => Ok(()),
@@ -298,7 +304,8 @@ pub fn note_args(
     set: Option<u32>,
     args: &[LoopArg],
 ) -> Result<(), OutOfMemory>
-    ensures { OnOk result (first.new ≡ least_from first.old (args_found source.now.places.now source.now.entries.now.entries (declared_of k.now) set [] args.now)) }
+    ensures { OnOk result (first.new ≡ least_from first.old
+        (args_found source.now.places.now source.now.entries.now.entries (declared_of k.now) set [] args.now)) }
 {
     let mut before = Vec::new(source.alloc);
     for arg in args {

@@ -114,7 +114,8 @@ fn extern_var(source: &Source<'_>, name: &Name, values: &[i32]) -> Result<Var, O
 // An extern that isn't a variable yet becomes one.
 fn add_extern(k: &mut Declared, name: &Name, var: Var) -> Result<(), OutOfMemory>
     requires { lookup (bytes_eq name.now) k.old.externs.entries ≡ None }
-    ensures { OnOk result (declared_of k.new ≡ record (with_var (var_of var) (declared_of k.old)) { externs = k.old.externs.entries ++ (name.now, length (declared_of k.old).vars) ∷ [] }) }
+    ensures { OnOk result (declared_of k.new ≡ record (with_var (var_of var) (declared_of k.old))
+        { externs = k.old.externs.entries ++ (name.now, length (declared_of k.old).vars) ∷ [] }) }
 {
     let number = k.next_var()?;
     let key = name.clone()?;

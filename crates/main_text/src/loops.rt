@@ -59,7 +59,8 @@ fn first_in_loop(
     on: &Ident,
     args: &[LoopArg],
 ) -> Result<Option<Found>, OutOfMemory>
-    ensures { IfOk result (λ r. r ≡ first_of (loop_found source.now.places.now source.now.entries.now.entries (declared_of k.now) t f.now on.now args.now)) }
+    ensures { IfOk result (λ r. r ≡ first_of
+        (loop_found source.now.places.now source.now.entries.now.entries (declared_of k.now) t f.now on.now args.now)) }
 {
     let mut first = None;
     let count = args.len();
@@ -81,7 +82,8 @@ fn first_in_loop(
 
 // The arguments of a loop.
 fn args_of(source: &Source<'_>, k: &Declared, args: &[LoopArg]) -> Result<Vec<Arg>, OutOfMemory>
-    ensures { IfOk result (λ r. r.items ≡ map (arg_of source.now.places.now source.now.entries.now.entries (declared_of k.now)) args.now) }
+    ensures { IfOk result (λ r. r.items ≡
+        map (arg_of source.now.places.now source.now.entries.now.entries (declared_of k.now)) args.now) }
 {
     let mut all = Vec::new(source.alloc);
     for arg in args {
@@ -99,7 +101,8 @@ fn site_at(
     on: &Ident,
     args: &[LoopArg],
 ) -> Result<Site, OutOfMemory>
-    ensures { IfOk result (λ r. site_of r ≡ site source.now.places.now source.now.entries.now.entries (declared_of k.now) t f.now on.now args.now) }
+    ensures { IfOk result (λ r. site_of r ≡
+        site source.now.places.now source.now.entries.now.entries (declared_of k.now) t f.now on.now args.now) }
 {
     let args = args_of(source, k, args)?;
     let class = class_of(&args);
@@ -129,7 +132,8 @@ fn judged_args(
     on: &Ident,
     args: &[LoopArg],
 ) -> Result<(), BindRefusal>
-    ensures { Judges result (declared_of k.new) (judged_args source.now.places.now source.now.entries.now.entries (declared_of k.old) t f.now on.now args.now) }
+    ensures { Judges result (declared_of k.new)
+        (judged_args source.now.places.now source.now.entries.now.entries (declared_of k.old) t f.now on.now args.now) }
 {
     let first = first_in_loop(source, k, t, f, on, args)?;
     if let Some(found) = first {
@@ -149,7 +153,8 @@ pub fn judged_loop(
     on: &Ident,
     args: &[LoopArg],
 ) -> Result<(), BindRefusal>
-    ensures { Judges result (declared_of k.new) (judged_loop source.now.places.now source.now.entries.now.entries (declared_of k.old) t f.now on.now args.now) }
+    ensures { Judges result (declared_of k.new)
+        (judged_loop source.now.places.now source.now.entries.now.entries (declared_of k.old) t f.now on.now args.now) }
 {
     after_globals(source, k, args)?;
     judged_args(source, k, t, f, on, args)

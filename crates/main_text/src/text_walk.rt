@@ -46,7 +46,9 @@ fn target_index(
     k: &Declared,
     target: &Place,
 ) -> Result<Option<RExpr>, OutOfMemory>
-    ensures { IfOk result (λ r. option_map host_expr_of r ≡ target_index source.now.places.now source.now.consts.now source.now.entries.now.entries (declared_of k.now).names (place_of target.now)) }
+    ensures { IfOk result (λ r. option_map host_expr_of r ≡
+        target_index source.now.places.now source.now.consts.now source.now.entries.now.entries
+        (declared_of k.now).names (place_of target.now)) }
 {
     match target {
         Place::Name(_) => Ok(None),
@@ -59,7 +61,9 @@ fn target_index(
 }
 
 fn assignment(source: &Source<'_>, k: &Declared, a: &Assignment) -> Result<Act, OutOfMemory>
-    ensures { IfOk result (λ r. act_of r ≡ assignment source.now.places.now source.now.consts.now source.now.entries.now.entries (declared_of k.now).names (assignment_of a.now)) }
+    ensures { IfOk result (λ r. act_of r ≡
+        assignment source.now.places.now source.now.consts.now source.now.entries.now.entries
+        (declared_of k.now).names (assignment_of a.now)) }
 {
     let name = target_name(source, &a.place);
     let cells = cells_of(k.names.means(&name.name));
@@ -77,7 +81,8 @@ fn assignment(source: &Source<'_>, k: &Declared, a: &Assignment) -> Result<Act, 
 
 // The values of an `op_printf`.
 fn resolved_all(source: &Source<'_>, k: &Declared, all: &[Expr]) -> Result<Vec<RExpr>, OutOfMemory>
-    ensures { IfOk result (λ r. map host_expr_of r.items ≡ map (resolved source.now.places.now (declared_of k.now).names) (map expr_of all.now)) }
+    ensures { IfOk result (λ r. map host_expr_of r.items ≡
+        map (resolved source.now.places.now (declared_of k.now).names) (map expr_of all.now)) }
 {
     let mut values = Vec::new(source.alloc);
     for e in all {
@@ -117,7 +122,8 @@ fn line(
     l: &TextLiteral,
     values: &[Expr],
 ) -> Result<Act, OutOfMemory>
-    ensures { IfOk result (λ r. act_of r ≡ Line l.now.text (map (resolved source.now.places.now (declared_of k.now).names) (map expr_of values.now))) }
+    ensures { IfOk result (λ r. act_of r ≡ Line l.now.text
+        (map (resolved source.now.places.now (declared_of k.now).names) (map expr_of values.now))) }
 {
     let values = resolved_all(source, k, values)?;
     let text = l.text.clone()?;
@@ -132,7 +138,10 @@ fn judged_line(
     l: &TextLiteral,
     values: &[Expr],
 ) -> Result<Act, BindRefusal>
-    ensures { JudgesBy act_of result (unless_found (line_found source.now.places.now source.now.consts.now source.now.entries.now.entries t l.now (length values.now) (conversions l.now.text)) (Line l.now.text (map (resolved source.now.places.now (declared_of k.now).names) (map expr_of values.now)))) }
+    ensures { JudgesBy act_of result (unless_found
+        (line_found source.now.places.now source.now.consts.now source.now.entries.now.entries
+        t l.now (length values.now) (conversions l.now.text))
+        (Line l.now.text (map (resolved source.now.places.now (declared_of k.now).names) (map expr_of values.now)))) }
 {
     match conversions(l.text.bytes()) {
         None => Err(BindRefusal::TypeMismatch {
@@ -157,7 +166,10 @@ fn judged_print(
     x: &Ident,
     file: &TextLiteral,
 ) -> Result<Act, BindRefusal>
-    ensures { JudgesBy act_of result (unless_found (found_if source.now.places.now (is_none (dat_of (means (declared_of k.now).names x.now.name))) x.now.at (λ at. BindRefusal.UnknownDat at)) (Print (or_zero (dat_of (means (declared_of k.now).names x.now.name))) file.now.text)) }
+    ensures { JudgesBy act_of result (unless_found
+        (found_if source.now.places.now (is_none (dat_of (means (declared_of k.now).names x.now.name)))
+        x.now.at (λ at. BindRefusal.UnknownDat at))
+        (Print (or_zero (dat_of (means (declared_of k.now).names x.now.name))) file.now.text)) }
 {
     let dat = dat_of(k.names.means(&x.name));
     if dat.is_none() {
@@ -190,7 +202,9 @@ fn judged_call(
     spot: Spot,
     call: &OpCall,
 ) -> Result<(), BindRefusal>
-    ensures { Judges result (walked k.new steps.new.items) (judged_call source.now.places.now source.now.consts.now source.now.entries.now.entries (walked k.old steps.old.items) spot (call_of call.now)) }
+    ensures { Judges result (walked k.new steps.new.items)
+        (judged_call source.now.places.now source.now.consts.now source.now.entries.now.entries
+        (walked k.old steps.old.items) spot (call_of call.now)) }
 {
     match call {
         OpCall::Init { .. } => Ok(()),
@@ -276,7 +290,9 @@ fn judged_host(
     steps: &mut Vec<Step>,
     spot: Spot,
 ) -> Result<(), BindRefusal>
-    ensures { Judges result (walked k.new steps.new.items) (judged_host source.now.places.now source.now.consts.now source.now.entries.now.entries (walked k.old steps.old.items) spot (host_of host.now)) }
+    ensures { Judges result (walked k.new steps.new.items)
+        (judged_host source.now.places.now source.now.consts.now source.now.entries.now.entries
+        (walked k.old steps.old.items) spot (host_of host.now)) }
 {
     match host {
         Host::Declaration(v) => judged_declrs(source, k, steps, spot, v.is_const, &v.declrs),
@@ -352,7 +368,9 @@ pub fn judged_hosts(
     steps: &mut Vec<Step>,
     spot: Spot,
 ) -> Result<(), BindRefusal>
-    ensures { Judges result (walked k.new steps.new.items) (judged_hosts source.now.places.now source.now.consts.now source.now.entries.now.entries (walked k.old steps.old.items) spot (hosts_of all.now)) }
+    ensures { Judges result (walked k.new steps.new.items)
+        (judged_hosts source.now.places.now source.now.consts.now source.now.entries.now.entries
+        (walked k.old steps.old.items) spot (hosts_of all.now)) }
 {
     for host in all {
         judged_host(source, host, k, steps, spot)?;
