@@ -29,7 +29,9 @@ use Rattle.main_names.specs.SoFar.{Declared}
 -- the cells of a mesh: the elements of its sets, and the values of its maps and dats
 abbrev pub mesh_cells : MeshValue → ℕ
 mesh_cells g =
-    sum_by (λ (s : SetDecl). s.size) g.sets + sum_by (λ (m : MapDecl). length m.targets) g.maps + sum_by (λ (d : DatDecl). length d.values) g.dats
+    sum_by (λ (s : SetDecl). s.size) g.sets
+    + sum_by (λ (m : MapDecl). length m.targets) g.maps
+    + sum_by (λ (d : DatDecl). length d.values) g.dats
 
 -- a dim that a map or a dat can have
 abbrev pub is_dim : ℕ → Bool
@@ -167,7 +169,8 @@ module _ (places : List Pos) where
         (map_decl_found k nested t from to n data_name)
         (record k {
           filled = k.filled + length (or_none (array_of entries data_name.name (means k.names data_name.name)));
-          mesh = with_map x.name (number from) (number to) (count_of n) (or_none (array_of entries data_name.name (means k.names data_name.name))) k.mesh;
+          mesh = with_map x.name (number from) (number to) (count_of n)
+              (or_none (array_of entries data_name.name (means k.names data_name.name))) k.mesh;
           names = declare x.name (Map (map_count k.mesh)) k.names;
         })
       where
@@ -198,6 +201,7 @@ module _ (places : List Pos) where
         (dat_decl_found k nested t set n l data_name)
         (record k {
           filled = k.filled + length (or_none (array_of entries data_name.name (means k.names data_name.name)));
-          mesh = with_dat x.name (or_zero (set_of (means k.names set.name))) (count_of n) (or_none (array_of entries data_name.name (means k.names data_name.name))) k.mesh;
+          mesh = with_dat x.name (or_zero (set_of (means k.names set.name))) (count_of n)
+              (or_none (array_of entries data_name.name (means k.names data_name.name))) k.mesh;
           names = declare x.name (Dat (dat_count k.mesh)) k.names;
         })

@@ -39,7 +39,8 @@ module _ (places : List Pos) where
         Ok (with_file_name x.name (Variable (next_cells k true false 1)) (with_var (changing x.name (pos 0 ∷ [])) k))
     judged_file_declr k c (Init x e) = judged_value places k.names e >>= λ z. Ok (with_file_value k c x.name z)
     judged_file_declr k c (Array x n) =
-        Ok (with_file_name x.name (Variable (next_cells k true true (count_of n))) (with_var (changing x.name (replicate (count_of n) (pos 0))) k))
+        Ok (with_file_name x.name (Variable (next_cells k true true (count_of n)))
+        (with_var (changing x.name (replicate (count_of n) (pos 0))) k))
 
     abbrev pub judged_file_declrs : Declared → Bool → List DeclrTree → Judged Declared
     judged_file_declrs k c [] = Ok k
@@ -64,7 +65,8 @@ module _ (places : List Pos) where
   const_at true is_nested a x e =
       judged_static places a.declared.names e >>= λ v. Ok (does (Fix v None) (behind a (with_turning a.declared x)))
   const_at false true a x e =
-      judged_static places a.declared.names e >>= λ v. Ok (does (Fix v (Some (length a.declared.vars))) (behind a (with_fixed_later a.declared x)))
+      judged_static places a.declared.names e
+      >>= λ v. Ok (does (Fix v (Some (length a.declared.vars))) (behind a (with_fixed_later a.declared x)))
   const_at false false a x e = judged_value places a.declared.names e >>= λ z. Ok (behind a (with_fixed a.declared x z))
 
   -- a variable of `main` with so many cells
@@ -137,7 +139,8 @@ module _ (places : List Pos) where
       place_found places k nested t ++ constant_found n g (file_cells (means k.names g.name.name)) ++ type_found places l
 
   -- `op_decl_const(n, l, g);`
-  abbrev pub judged_constant : List ConstDecl → Declared → Bool → ℕ → NumberLiteral → TextLiteral → GlobalName → Judged Declared
+  abbrev pub judged_constant :
+      List ConstDecl → Declared → Bool → ℕ → NumberLiteral → TextLiteral → GlobalName → Judged Declared
   judged_constant consts k nested t n l g =
       unless_found
       (constant_decl_found k nested t n l g)

@@ -219,7 +219,8 @@ module _ (places : List Pos) (entries : List Named) where
   -- how an argument is reached
   abbrev pub via_of : Scope → ArgIndex → ArgVia → Option Via
   via_of s i (via.Identity at) = None
-  via_of s i (via.Map x) = Some (record { map = or_zero (map_of (means s x.name)); index = count_of (record { value = i.value; at = i.at }) })
+  via_of s i (via.Map x) =
+      Some (record { map = or_zero (map_of (means s x.name)); index = count_of (record { value = i.value; at = i.at }) })
 
   abbrev pub var_number : Option GlobalVar → ℕ
   var_number None = 0

@@ -86,7 +86,8 @@ module _ (places : List Pos) (consts : List ConstDecl) (entries : List Named) wh
   judged_call a w (tree.ParLoop at f l on args) =
       judged_loop places entries a.declared at f on args >>= λ k. Ok (does (Loop (length a.declared.sites)) (behind a k))
   judged_call a w (tree.Printf at l es) =
-      unless_found (line_found at l (length es) (conversions l.text)) (does (Do (Line l.text (map (resolved places a.declared.names) es))) a)
+      unless_found (line_found at l (length es) (conversions l.text))
+      (does (Do (Line l.text (map (resolved places a.declared.names) es))) a)
   judged_call a w (tree.PrintDat at x l) = judged_print a x l.text (dat_of (means a.declared.names x.name))
 
   -- ---- statements
