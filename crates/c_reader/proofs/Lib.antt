@@ -25,3 +25,4 @@ pub mod TopRows
 pub mod Parts
 pub mod Mains
 pub mod Programs
+mod DeepFar

@@ -19,5 +19,5 @@ mod statements;
 mod tests;
 mod tops;
 
-pub use reading::{one_depth, one_tree, read_program, shows_its_tokens};
+pub use reading::{deep_is_far, one_depth, one_tree, read_program, shows_its_tokens};
 pub use refusals::SourceRefusal;

@@ -7,7 +7,7 @@ ghost use Rattle.c_lex.specs.Lexed.{Lexes};
 ghost use Rattle.c_tree.specs.Tree.{ProgramTree};
 ghost use Rattle.c_tree.specs.View.{main_of, program_of};
 ghost use Rattle.c_tree.specs.Reads.{Reads, Deep, shown};
-ghost use Rattle.c_reader.specs.Answered.{IsTree, IsRefusal, CanRefuse, not_lexed, place_at, refusal_of};
+ghost use Rattle.c_reader.specs.Answered.{IsTree, IsRefusal, IsFar, CanRefuse, not_lexed, place_at, refusal_of};
 ghost use Rattle.c_reader.specs.declared.refusals.SourceRefusal.TheVariants.{Lex, TooDeep};
 ghost use Rattle.c_reader.specs.Descent.{Gives};
 ghost use Rattle.c_reader.specs.Rows.{seen_by};
@@ -67,6 +67,13 @@ pub fn shows_its_tokens()
 pub fn one_depth()
     ensures both { (bytes : List ℕ) (a b : ProgramTree) (n : ℕ) → Reads bytes a → Deep bytes b n → ⊥ }
     ensures same { (bytes : List ℕ) (a b : ProgramTree) (n m : ℕ) → Deep bytes a n → Deep bytes b m → n ≡ m }
+{
+    one_outcome();
+}
+
+/// A law: the first token beyond level 64 of a tree stands behind at least 64 others.
+pub fn deep_is_far()
+    ensures { (bytes : List ℕ) (p : ProgramTree) (n : ℕ) → Deep bytes p n → IsFar bytes (place_at p.places bytes n) }
 {
     one_outcome();
 }
