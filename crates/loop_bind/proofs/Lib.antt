@@ -31,3 +31,5 @@ pub mod FitsTold
 pub mod FitsTrace
 pub mod FitsValues
 pub mod FitsVars
+pub mod CausedFinds
+mod CausedText

@@ -1,5 +1,11 @@
 // Laws of the definitions, each as the contract of a function that does nothing.
 
+ghost use Rattle.std.specs.Prelude.{◌≢◌, List, Err};
+ghost use Rattle.bind_refusals.specs.declared.refusals.BindRefusal.TheVariants.{OutOfMemory};
+ghost use Rattle.c_tree.specs.Tree.{ProgramTree};
+ghost use Rattle.kernel_types.specs.declared.kernels.Resolved.{Resolved as Kernels};
+ghost use Rattle.mesh_text.specs.Spelling.{Named};
+ghost use Rattle.loop_bind.specs.Bound.{bound};
 ghost use Rattle.loop_bind.specs.Resolvable.{BoundProgramsFit};
 
 use source_fits::named_names_are_all;
@@ -10,3 +16,8 @@ pub fn bound_programs_fit()
 {
     named_names_are_all();
 }
+
+/// A law: no program is refused for want of memory by definition, so where binding answers it, memory ran out.
+pub fn refusals_have_causes()
+    ensures { (p : ProgramTree) (kernels : Kernels) (es : List Named) → bound p kernels es ≢ Err OutOfMemory }
+{}
