@@ -8,7 +8,7 @@ use Rattle.c_lex.specs.Lexed.{Lexes, Outcome, Stop, AtEnd, AtBadByte, AtOpenComm
 use Rattle.c_tree.specs.Tree.{ProgramTree}
 use Rattle.c_tree.specs.Reads.{Reads, Deep}
 use Rattle.c_reader.specs.declared.refusals.SourceRefusal.TheVariants as source
-use Rattle.c_reader.specs.Answered.{place_at}
+use Rattle.c_reader.specs.Answered.{place_at, IsFar}
 use Rattle.c_reader.specs.Kinds.{places}
 use Rattle.kernel_types.specs.declared.kernels.Resolved.{Resolved}
 use Rattle.kernel_model.specs.Refusals.{ObeysUnlessBroken, OneRefusal}
@@ -17,6 +17,7 @@ use Rattle.mesh_text.specs.declared.entry.MeshRefusal.TheVariants as mesh
 use Rattle.mesh_text.specs.Spelling.{Named}
 use Rattle.mesh_text.specs.Reading.{Read, Reads as Spelled, Refuses}
 use Rattle.bind_refusals.specs.declared.refusals.BindRefusal.{BindRefusal}
+use Rattle.bind_refusals.specs.declared.refusals.BindRefusal.TheVariants as bind
 use Rattle.bound_program.specs.Values.{BoundValue}
 use Rattle.loop_bind.specs.Bound.{bound}
 use Rattle.op_outside.specs.Outside.{Files}
@@ -39,6 +40,10 @@ held_exists l name (Some held) none = by_size (cases_lt (most l) (length held))
     by_size (inl lt) = none (Err (BeyondLimit l (suc (most l)))) (refl, lt)
     by_size (inr le) = none (Ok held) (refl, le)
 
+held_within : (l : Limit) (name : List ℕ) (o : Option (List ℕ)) (bytes : List ℕ) → IsHeld l name o (Ok bytes) → length bytes ≤ most l
+held_within l name None bytes h = absurd h
+held_within l name (Some held) bytes h = rw h.0 h.1
+
 -- no refusal of tokens is want of memory
 has_cause : (parts : List Part) (stop : Stop) (l : LexRefusal) → Err l ≡ outcome_of parts stop → l ≢ lex.OutOfMemory
 has_cause parts AtEnd l e is = let bad : ⊥ = cc in bad
@@ -47,7 +52,7 @@ has_cause parts AtOpenComment l e is = let bad : ⊥ = cc in bad
 has_cause parts AtOpenText l e is = let bad : ⊥ = cc in bad
 has_cause parts AtNumberTooLarge l e is = let bad : ⊥ = cc in bad
 
-module _ (some : OutcomesExist) (some_read : (bytes : List ℕ) → (o : Read) × Spelled bytes o) (mesh_causes : (bytes : List ℕ) → ¬ Refuses bytes mesh.OutOfMemory) (one_outcome : (bytes : List ℕ) (a b : Outcome) → Lexes bytes a → Lexes bytes b → a ≡ b) (one_depth : (bytes : List ℕ) (a b : ProgramTree) (n m : ℕ) → Deep bytes a n → Deep bytes b m → n ≡ m) (one_shape : (bytes : List ℕ) (a b : ProgramTree) (n : ℕ) → Reads bytes a → Deep bytes b n → ⊥) (walk_finds : WalkFinds) (obeys : ObeysUnlessBroken) (one_breach : OneRefusal) where
+module _ (some : OutcomesExist) (deep : (bytes : List ℕ) (p : ProgramTree) (n : ℕ) → Deep bytes p n → IsFar bytes (place_at p.places bytes n)) (causes : (p : ProgramTree) (types : Resolved) (es : List Named) → bound p types es ≢ Err bind.OutOfMemory) (some_read : (bytes : List ℕ) → (o : Read) × Spelled bytes o) (mesh_causes : (bytes : List ℕ) → ¬ Refuses bytes mesh.OutOfMemory) (one_outcome : (bytes : List ℕ) (a b : Outcome) → Lexes bytes a → Lexes bytes b → a ≡ b) (one_depth : (bytes : List ℕ) (a b : ProgramTree) (n m : ℕ) → Deep bytes a n → Deep bytes b m → n ≡ m) (one_shape : (bytes : List ℕ) (a b : ProgramTree) (n : ℕ) → Reads bytes a → Deep bytes b n → ⊥) (walk_finds : WalkFinds) (obeys : ObeysUnlessBroken) (one_breach : OneRefusal) where
   -- bytes that the lexer refuses have no tree
   unlexed : (bytes : List ℕ) (l : LexRefusal) → Lexes bytes (Err l) → IsUnread bytes (source.Lex l)
   unlexed bytes l h = record {
@@ -76,7 +81,7 @@ module _ (some : OutcomesExist) (some_read : (bytes : List ℕ) → (o : Read) �
   too_deep bytes p n d = record {
     none = λ q r. one_shape bytes q p n r d;
     deep = λ q m e. ap source.TooDeep (rw (one_depth bytes p q n m d e, same_places q m e) refl);
-    cause = some.deep bytes p n d;
+    cause = deep bytes p n d;
   }
     where
       same_places : (q : ProgramTree) (m : ℕ) → Deep bytes q m → p.places ≡ q.places
@@ -85,8 +90,8 @@ module _ (some : OutcomesExist) (some_read : (bytes : List ℕ) → (o : Read) �
           let same : d.tokens ≡ e.tokens = cc in
           d.prints.places ∙ rw same refl ∙ sym e.prints.places
 
-  tree_exists : (bytes : List ℕ) → ¬ ((r : Result ProgramTree Refusal) → ¬ TreeIs bytes r)
-  tree_exists bytes none = some.lexed bytes by_outcome
+  tree_exists : (bytes : List ℕ) → length bytes ≤ most SourceBytes → ¬ ((r : Result ProgramTree Refusal) → ¬ TreeIs bytes r)
+  tree_exists bytes within none = some.lexed bytes within by_outcome
     where
       no_deep : (p : ProgramTree) (n : ℕ) → ¬ Deep bytes p n
       no_deep p n d = none (Err (TooDeep (place_at p.places bytes n))) (source.TooDeep (place_at p.places bytes n), too_deep bytes p n d, refl)
@@ -100,7 +105,7 @@ module _ (some : OutcomesExist) (some_read : (bytes : List ℕ) → (o : Read) �
     where
       by_outcome : (o : Result BoundValue BindRefusal) → bound p types es ≡ o → ⊥
       by_outcome (Ok b) is = none (Ok b) is
-      by_outcome (Err e) is = let said = binding_said p e (λ m. some.binding p types es (is ∙ ap (λ f. Err f) m)) in none (Err said.0) (e, is, said.1)
+      by_outcome (Err e) is = let said = binding_said p e (λ m. causes p types es (is ∙ ap (λ f. Err f) m)) in none (Err said.0) (e, is, said.1)
 
   entries_exist : (bytes : List ℕ) → ¬ ((r : Result (List Named) Refusal) → ¬ EntriesAre bytes r)
   entries_exist bytes none = by_outcome (some_read bytes).0 (some_read bytes).1
@@ -111,9 +116,9 @@ module _ (some : OutcomesExist) (some_read : (bytes : List ℕ) → (o : Read) �
 
   program_exists : (j : Job) (source mesh : List ℕ) (files : Files) → ¬ ((a : Answer) → ¬ ProgramAnswers j source mesh files a)
   program_exists j source mesh files =
-      given_one _ _ (held_exists SourceBytes source (files source)) (λ bytes _.
-      given_one _ _ (tree_exists bytes) (λ p _.
-      given_one _ _ (some.types p) (λ types _.
+      given_one _ _ (held_exists SourceBytes source (files source)) (λ bytes held.
+      given_one _ _ (tree_exists bytes (held_within SourceBytes source (files source) bytes held)) (λ p reads.
+      given_one _ _ (some.types bytes p (held_within SourceBytes source (files source) bytes held) reads) (λ types _.
       given_one _ _ (held_exists MeshBytes mesh (files mesh)) (λ text _.
       given_one _ _ (entries_exist text) (λ es _.
       given_one _ _ (bound_exists p types es) (λ b _.

@@ -1,18 +1,14 @@
 -- What any two answers to the same words have in common, that there is one, and how a call ends by it.
-use Rattle.std.specs.Prelude.{◌≡◌, ◌≢◌, ℕ, ◌⊎◌, List, Result, Ok, Err}
+use Rattle.std.specs.Prelude.{◌≡◌, ℕ, ◌≤◌, ◌⊎◌, List, length, Result, Ok}
 use Rattle.c_lex.specs.declared.tokens.Token.{Token}
 use Rattle.c_lex.specs.Lexed as lexer
 use Rattle.c_lex.specs.Lexed.{Lexes}
 use Rattle.c_tree.specs.Tree.{ProgramTree}
-use Rattle.c_tree.specs.Reads.{Prints, Deep}
-use Rattle.c_reader.specs.Answered.{place_at, IsFar}
+use Rattle.c_tree.specs.Reads.{Prints, Reads}
 use Rattle.kernel_types.specs.declared.kernels.Resolved.{Resolved}
-use Rattle.mesh_text.specs.Spelling.{Named}
-use Rattle.bind_refusals.specs.declared.refusals.BindRefusal.TheVariants as bind
-use Rattle.loop_bind.specs.Bound.{bound}
 use Rattle.op_outside.specs.Outside.{Files}
-use Rattle.answers.specs.Refusal.{Refusal}
-use Rattle.answers.specs.Lines.{Answer}
+use Rattle.answers.specs.Refusal.{SourceBytes, Refusal}
+use Rattle.answers.specs.Lines.{Answer, most}
 use Rattle.answers.specs.Words.{Job, OnProgram, WordsAre}
 use Rattle.answers.specs.Judgements.{SourceIs, TypesAre}
 use Rattle.answers.specs.Answers.{Answers}
@@ -57,10 +53,10 @@ AnswersExist = (words : List (List ℕ)) (files : Files) → ¬ ((a : Answer) �
 
 -- ---- the laws of the parts that are awaited
 
--- each source has tokens or is refused for them; the first token beyond level 64 stands behind at least 64 others; kernels can lie
--- in memory; binding is never refused for want of memory
+-- A source within the limit has tokens or is refused for them; and its kernels and constants, or their refusal, are there.
 pub record OutcomesExist : Type 0 where
-  pub lexed : (bytes : List ℕ) → ¬ ((o : lexer.Outcome) → ¬ Lexes bytes o)
-  pub deep : (bytes : List ℕ) (p : ProgramTree) (n : ℕ) → Deep bytes p n → IsFar bytes (place_at p.places bytes n)
-  pub types : (p : ProgramTree) → ¬ ((r : Result Resolved Refusal) → ¬ TypesAre p r)
-  pub binding : (p : ProgramTree) (types : Resolved) (es : List Named) → bound p types es ≢ Err bind.OutOfMemory
+  pub lexed : (bytes : List ℕ) → length bytes ≤ most SourceBytes → ¬ ((o : lexer.Outcome) → ¬ Lexes bytes o)
+  pub types : (bytes : List ℕ) (p : ProgramTree)
+      → length bytes ≤ most SourceBytes
+      → Reads bytes p
+      → ¬ ((r : Result Resolved Refusal) → ¬ TypesAre p r)

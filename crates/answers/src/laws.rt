@@ -33,6 +33,8 @@ pub fn answers_exist()
 {
     c_lex::one_outcome();
     c_reader::one_depth();
+    c_reader::deep_is_far();
+    loop_bind::refusals_have_causes();
     mesh_text::one_outcome();
     kernel_model::walk_finds();
     kernel_model::rules_are_broken();
