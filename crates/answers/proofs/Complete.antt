@@ -19,7 +19,7 @@ same_over words none f g a (inl h) = inl h
 same_over words none f g a (inr h) = inr (h.0, h.1, same_command h.0 (sym (ap names_in h.1) ∙ none) f g a h.2)
 
 -- what a call tells is an answer over files that tell it
-tells_answer : (c : Call) (files : Files) (a : Answer) → TellTheAnswer c files → Tells c.words c.told a → Answers c.words files a
+pub tells_answer : (c : Call) (files : Files) (a : Answer) → TellTheAnswer c files → Tells c.words c.told a → Answers c.words files a
 tells_answer c files a (inl told) h = subst (λ t. Tells c.words t a) told h
 tells_answer c files a (inr none) h = by_told c.told h
   where
@@ -27,7 +27,7 @@ tells_answer c files a (inr none) h = by_told c.told h
     by_told (Some f) k = same_over c.words none f files a k
     by_told None k = same_over c.words none no_files files a (subst (λ names. TellsUntold c.words names a) none k)
 
-unwritten_is : (a : Answer) → IsWritten a → (unwritten_status a ≡ a.status) ⊎ (unwritten_status a ≡ 4)
+pub unwritten_is : (a : Answer) → IsWritten a → (unwritten_status a ≡ a.status) ⊎ (unwritten_status a ≡ 4)
 unwritten_is a (inl e) = inr (rw e refl)
 unwritten_is a (inr e) = inl (rw e refl)
 

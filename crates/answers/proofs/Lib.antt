@@ -7,5 +7,6 @@ mod SameBound
 mod Agreed
 mod Exist
 mod Complete
+mod WordsRefused
 mod OneFault
 mod Examples

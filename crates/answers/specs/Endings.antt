@@ -1,12 +1,12 @@
 -- How a call of the program ends, and what stands on `out` and `err` then.
-use Rattle.std.specs.Prelude.{◌≡◌, ℕ, ◌⊎◌, List, [], ◌∷◌, Option, Some, None, nat_eq, codes, if◌then◌else◌}
+use Rattle.std.specs.Prelude.{◌≡◌, ℕ, ◌⊎◌, List, [], ◌∷◌, Option, Some, None, Err, nat_eq, codes, if◌then◌else◌}
 use Rattle.std.specs.List.{Contains}
 use Rattle.kernel_types.specs.declared.faults.KernelFault.{KernelFault}
 use Rattle.schedule_model.specs.Sequential.{Stop}
 use Rattle.op_outside.specs.Outside.{Files, Rose, appended, AppendsFront}
 use Rattle.answers.specs.Refusal.{Refusal, Usage, CannotRead, status_of}
 use Rattle.answers.specs.Lines.{Answer, done, refused, faulted, whole_line, line_of}
-use Rattle.answers.specs.Words.{named_by}
+use Rattle.answers.specs.Words.{WordsAre, named_by}
 use Rattle.answers.specs.Answers.{Answers, ComesToBeRead}
 
 -- An answer; want of memory; a file that could not be read; an answer that could not be written.
@@ -133,3 +133,8 @@ IsComplete c status =
     ⊎ (status ≡ 1)
     ⊎ ((status ≡ 3) × Rose c.reads.0 c.reads.1)
     ⊎ ((status ≡ 4) × Rose c.writes.0 c.writes.1)
+
+-- Status 2 comes exactly where the words are refused, unless memory ran out.
+pub record IsUsage (c : Call) (status : ℕ) : Type 0 where
+  pub only : status ≡ 2 → WordsAre c.words (Err Usage)
+  pub where_refused : WordsAre c.words (Err Usage) → (status ≡ 2) ⊎ (status ≡ 1)

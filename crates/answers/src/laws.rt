@@ -5,7 +5,7 @@ ghost use Rattle.clap.specs.Kinds.{IsAmong};
 ghost use Rattle.clap.specs.Faults.{fault_of};
 ghost use Rattle.clap.specs.declared.error.kind.ErrorKind.{ErrorKind as Kind};
 ghost use Rattle.answers.specs.Words.{command};
-ghost use Rattle.answers.specs.Endings.{Call, Ends, IsComplete};
+ghost use Rattle.answers.specs.Endings.{Call, Ends, IsComplete, IsUsage};
 ghost use Rattle.answers.specs.Laws.{AnswersAgree, AnswersExist, OutcomesExist};
 
 /// A law: `clap` has at most one kind of fault to answer the words with.
@@ -47,3 +47,8 @@ pub fn calls_are_complete()
 {
     answers_agree();
 }
+
+/// A law: where a call ends, its status is 2 exactly where the words are refused, unless memory ran out.
+pub fn usage_is_of_words()
+    ensures { (c : Call) (status : ℕ) → Ends c status → IsUsage c status }
+{}

@@ -6,6 +6,6 @@ mod laws;
 mod limits;
 mod usage;
 
-pub use laws::{answers_agree, answers_exist, calls_are_complete, one_fault};
+pub use laws::{answers_agree, answers_exist, calls_are_complete, one_fault, usage_is_of_words};
 pub use limits::SOURCE_BYTES;
 pub use usage::{USAGE, VERSION};

@@ -1,0 +1,233 @@
+-- Status 2 comes exactly where the words are refused, unless memory ran out.
+use Rattle.std.proofs.Common.{◌≡◌, ◌⊎◌, inl, inr, ℕ, List, [], ◌∷◌, Option, Some, None, Result, Ok, Err, sym, ap, ◌∙◌, subst, arith}
+use Rattle.std.specs.List.{Contains}
+use Rattle.c_tree.specs.Tree.{ProgramTree}
+use Rattle.c_lex.specs.declared.refusals.LexRefusal.{LexRefusal}
+use Rattle.c_lex.specs.declared.refusals.LexRefusal.TheVariants as lex
+use Rattle.c_reader.specs.declared.refusals.SourceRefusal.{SourceRefusal}
+use Rattle.c_reader.specs.declared.refusals.SourceRefusal.TheVariants as source
+use Rattle.name_resolution.specs.declared.refusals.TypeRefusal.{TypeRefusal}
+use Rattle.name_resolution.specs.declared.refusals.TypeRefusal.TheVariants as types
+use Rattle.mesh_text.specs.declared.entry.MeshRefusal.{MeshRefusal}
+use Rattle.mesh_text.specs.declared.entry.MeshRefusal.TheVariants as mesh
+use Rattle.bind_refusals.specs.declared.refusals.BindRefusal.{BindRefusal}
+use Rattle.bind_refusals.specs.declared.refusals.BindRefusal.TheVariants as bind
+use Rattle.kernel_types.specs.declared.faults.KernelFault.{KernelFault}
+use Rattle.schedule_model.specs.Sequential.{Stop}
+use Rattle.bound_program.specs.Values.{BoundValue}
+use Rattle.run_model.specs.Programs.{printed, first_fault}
+use Rattle.op_outside.specs.Outside.{Files}
+use Rattle.answers.specs.Refusal.{Limit, SourceBytes, MeshBytes, Refusal, Usage, CannotRead, NoTokens, NoTree, TooDeep, BadName, BadBinding, BadTarget, BadAccess, BadMesh, BeyondLimit, status_of}
+use Rattle.answers.specs.Lines.{Answer, done, refused, faulted}
+use Rattle.answers.specs.Said.{SaysLex, SaysSource, SaysTypes, SaysMesh, SaysBinding}
+use Rattle.answers.specs.Words.{Job, Run, Command, OnProgram, ShowsUsage, ShowsVersion, WordsAre, named_by, names_in}
+use Rattle.answers.specs.Judgements.{IsHeld, SourceIs, TreeIs, TypesAre, MeshIs, EntriesAre, BoundIs, AccessesAre}
+use Rattle.answers.specs.Answers.{given, ran, JobAnswers, ProgramAnswers, CommandAnswers, Answers}
+use Rattle.answers.specs.Endings.{Ending, Answered, OutOfMemory, Unread, Unwritten, ending_status, unwritten_status, Call, IsOfContents, IsSomeAnswer, TellsUntold, Tells, no_files, IsWritten, EndsBy, Ends, IsUsage}
+use Rattle.answers.proofs.Complete.{tells_answer, unwritten_is}
+
+-- ---- refusals
+
+-- a refusal of something else than the words
+abbrev IsOther : Refusal → Type 0
+IsOther Usage = ⊥
+IsOther r = Unit {0}
+
+other_status : (r : Refusal) → IsOther r → status_of r ≡ 2 → ⊥
+other_status Usage o e = o
+other_status (CannotRead n) o e = cc
+other_status (NoTokens n at) o e = cc
+other_status (NoTree at) o e = cc
+other_status (TooDeep at) o e = cc
+other_status (BadName n at) o e = cc
+other_status (BadBinding n at) o e = cc
+other_status (BadTarget at m x p) o e = cc
+other_status (BadAccess n at) o e = cc
+other_status (BadMesh n line) o e = cc
+other_status (BeyondLimit l n) o e = cc
+
+of_contents : (r : Refusal) → IsOfContents r → IsOther r
+of_contents Usage h = h
+of_contents (CannotRead n) h = tt
+of_contents (NoTokens n at) h = tt
+of_contents (NoTree at) h = tt
+of_contents (TooDeep at) h = tt
+of_contents (BadName n at) h = tt
+of_contents (BadBinding n at) h = tt
+of_contents (BadTarget at m x p) h = tt
+of_contents (BadAccess n at) h = tt
+of_contents (BadMesh n line) h = tt
+of_contents (BeyondLimit l n) h = tt
+
+is_other : (r s : Refusal) → r ≡ s → IsOther s → IsOther r
+is_other r s e h = rw e h
+
+held_other : (l : Limit) (name : List ℕ) (o : Option (List ℕ)) (r : Refusal) → IsHeld l name o (Err r) → IsOther r
+held_other l name None r h = is_other r (CannotRead name) h tt
+held_other l name (Some held) r h = is_other r _ h.0 tt
+
+lex_other : (l : LexRefusal) (r : Refusal) → SaysLex l r → IsOther r
+lex_other (lex.BadByte at) r h = is_other r _ h tt
+lex_other (lex.OpenComment at) r h = is_other r _ h tt
+lex_other (lex.OpenText at) r h = is_other r _ h tt
+lex_other (lex.NumberTooLarge at) r h = is_other r _ h tt
+lex_other lex.OutOfMemory r h = absurd h
+
+source_other : (e : SourceRefusal) (r : Refusal) → SaysSource e r → IsOther r
+source_other (source.Lex l) r h = lex_other l r h
+source_other (source.Syntax at) r h = is_other r _ h tt
+source_other (source.TooDeep at) r h = is_other r _ h tt
+source_other source.OutOfMemory r h = absurd h
+
+types_other : (e : TypeRefusal) (r : Refusal) → SaysTypes e r → IsOther r
+types_other (types.UnknownName at) r h = is_other r _ h tt
+types_other (types.DuplicateName at) r h = is_other r _ h tt
+types_other (types.NotAnArray at) r h = is_other r _ h tt
+types_other (types.NotAScalar at) r h = is_other r _ h tt
+types_other (types.AssignsCounter at) r h = is_other r _ h tt
+types_other (types.AssignsConst at) r h = is_other r _ h tt
+types_other (types.TooMuchWork at) r h = is_other r _ h tt
+types_other types.OutOfMemory r h = absurd h
+
+mesh_other : (e : MeshRefusal) (r : Refusal) → SaysMesh e r → IsOther r
+mesh_other (mesh.Header line) r h = is_other r _ h tt
+mesh_other (mesh.Syntax line) r h = is_other r _ h tt
+mesh_other (mesh.DuplicateEntry line) r h = is_other r _ h tt
+mesh_other (mesh.WrongCount line) r h = is_other r _ h tt
+mesh_other (mesh.NumberRange line) r h = is_other r _ h tt
+mesh_other (mesh.Limit size) r h = is_other r _ h tt
+mesh_other mesh.OutOfMemory r h = absurd h
+
+binding_other : (p : ProgramTree) (e : BindRefusal) (r : Refusal) → SaysBinding p e r → IsOther r
+binding_other p (bind.UnknownSet at) r h = is_other r _ h tt
+binding_other p (bind.UnknownMap at) r h = is_other r _ h tt
+binding_other p (bind.UnknownDat at) r h = is_other r _ h tt
+binding_other p (bind.UnknownKernel at) r h = is_other r _ h tt
+binding_other p (bind.ArgCount at) r h = is_other r _ h tt
+binding_other p (bind.DimMismatch at) r h = is_other r _ h tt
+binding_other p (bind.TypeMismatch at) r h = is_other r _ h tt
+binding_other p (bind.SetMismatch at) r h = is_other r _ h tt
+binding_other p (bind.IndexRange at) r h = is_other r _ h tt
+binding_other p (bind.MapTarget at m e i) r h = is_other r _ h tt
+binding_other p (bind.GlobalTwice at) r h = is_other r _ h tt
+binding_other p (bind.ReservedAccess at) r h = is_other r _ h tt
+binding_other p (bind.ControlNotStatic at) r h = is_other r _ h tt
+binding_other p bind.TraceTooLong r h = is_other r _ h tt
+binding_other p (bind.Limit c size) r h = is_other r _ h tt
+binding_other p (bind.DeclarationPlace at) r h = is_other r _ h tt
+binding_other p (bind.UnknownEntry at) r h = is_other r _ h tt
+binding_other p bind.OutOfMemory r h = absurd h
+
+-- ---- answers
+
+-- an answer with another status
+abbrev NotTwo : Answer → Type 0
+NotTwo a = ¬ (a.status ≡ 2)
+
+refused_not : (r : Refusal) (a : Answer) → a ≡ refused r → IsOther r → NotTwo a
+refused_not r a e o h = other_status r o (sym (ap (λ x. x.status) e) ∙ h)
+
+done_not : (bytes : List ℕ) (a : Answer) → a ≡ done bytes → NotTwo a
+done_not bytes a e h = let f : 0 ≡ 2 = sym (ap (λ x. x.status) e) ∙ h in let bad : ⊥ = cc in bad
+
+faulted_not : (bytes : List ℕ) (x : Stop KernelFault) (a : Answer) → a ≡ faulted bytes x → NotTwo a
+faulted_not bytes x a e h = let f : 9 ≡ 2 = sym (ap (λ y. y.status) e) ∙ h in let bad : ⊥ = cc in bad
+
+given_not : {A : Type 0} (J : Result A Refusal → Type 0) (f : A → Answer → Type 0) → ((r : Refusal) → J (Err r) → IsOther r) → ((x : A) (a : Answer) → f x a → NotTwo a) → (a : Answer) → given J f a → NotTwo a
+given_not J f others rest a (inl h) = refused_not h.0 a h.2 (others h.0 h.1)
+given_not J f others rest a (inr h) = rest h.0 a h.2
+
+ran_not : (o : Option (Stop KernelFault)) (bytes : List ℕ) (a : Answer) → a ≡ ran o bytes → NotTwo a
+ran_not None bytes a e = done_not bytes a e
+ran_not (Some x) bytes a e = faulted_not bytes x a e
+
+job_not : (j : Job) (b : BoundValue) (a : Answer) → JobAnswers j b a → NotTwo a
+job_not Run b a h = ran_not (first_fault b) (printed b) a h
+
+program_not : (j : Job) (source mesh : List ℕ) (files : Files) (a : Answer) → ProgramAnswers j source mesh files a → NotTwo a
+program_not j source mesh files =
+    given_not (SourceIs source files) _ (λ r h. held_other SourceBytes source (files source) r h) (λ bytes.
+    given_not (TreeIs bytes) _ (λ r h. source_other h.0 r h.2) (λ p.
+    given_not (TypesAre p) _ (λ r h. types_other h.0 r h.2) (λ types.
+    given_not (MeshIs mesh files) _ (λ r h. held_other MeshBytes mesh (files mesh) r h) (λ text.
+    given_not (EntriesAre text) _ (λ r h. mesh_other h.0 r h.2) (λ es.
+    given_not (BoundIs p types es) _ (λ r h. binding_other p h.0 r h.2) (λ b.
+    given_not (AccessesAre b) _ (λ r h. is_other r _ h.says tt) (λ u a h. job_not j b a h)))))))
+
+command_not : (c : Command) (files : Files) (a : Answer) → CommandAnswers c files a → NotTwo a
+command_not (OnProgram j source mesh) files a h = program_not j source mesh files a h
+command_not ShowsUsage files a h = done_not _ a h
+command_not ShowsVersion files a h = done_not _ a h
+
+-- the words of an answer with status 2 are refused
+words_refused : (words : List (List ℕ)) (files : Files) (a : Answer) → Answers words files a → a.status ≡ 2 → WordsAre words (Err Usage)
+words_refused words files a (inl h) two = by_refusal h.0 h.1 h.2
+  where
+    by_refusal : (r : Refusal) → WordsAre words (Err r) → a ≡ refused r → WordsAre words (Err Usage)
+    by_refusal Usage j e = j
+    by_refusal (CannotRead n) j e = absurd (refused_not (CannotRead n) a e tt two)
+    by_refusal (NoTokens n at) j e = absurd (refused_not (NoTokens n at) a e tt two)
+    by_refusal (NoTree at) j e = absurd (refused_not (NoTree at) a e tt two)
+    by_refusal (TooDeep at) j e = absurd (refused_not (TooDeep at) a e tt two)
+    by_refusal (BadName n at) j e = absurd (refused_not (BadName n at) a e tt two)
+    by_refusal (BadBinding n at) j e = absurd (refused_not (BadBinding n at) a e tt two)
+    by_refusal (BadTarget at m x p) j e = absurd (refused_not (BadTarget at m x p) a e tt two)
+    by_refusal (BadAccess n at) j e = absurd (refused_not (BadAccess n at) a e tt two)
+    by_refusal (BadMesh n line) j e = absurd (refused_not (BadMesh n line) a e tt two)
+    by_refusal (BeyondLimit l n) j e = absurd (refused_not (BeyondLimit l n) a e tt two)
+words_refused words files a (inr h) two = absurd (command_not h.0 files a h.2 two)
+
+-- refused words have the answer with status 2 alone
+refused_words : (words : List (List ℕ)) (files : Files) (a : Answer) → WordsAre words (Err Usage) → Answers words files a → a.status ≡ 2
+refused_words words files a w (inl h) = let e : Err h.0 ≡ Err Usage = sym h.1 ∙ w in let same : h.0 ≡ Usage = cc in ap (λ x. x.status) h.2 ∙ ap status_of same
+refused_words words files a w (inr h) = let e : Ok h.0 ≡ Err Usage = sym h.1 ∙ w in let bad : ⊥ = cc in absurd bad
+
+some_not : (a : Answer) → IsSomeAnswer a → NotTwo a
+some_not a (inl h) = done_not h.0 a h.1
+some_not a (inr (inl h)) = refused_not h.0 a h.2 (of_contents h.0 h.1)
+some_not a (inr (inr h)) = faulted_not h.0 h.1 a h.2
+
+-- ---- calls
+
+no_member : (name : List ℕ) → Contains [] name → ⊥
+no_member name m = let lt = m.1 in omega (arith, lt)
+
+told_refused : (words : List (List ℕ)) (told : Option Files) (a : Answer) → Tells words told a → a.status ≡ 2 → WordsAre words (Err Usage)
+told_refused words (Some files) a h two = words_refused words files a h two
+told_refused words None a h two = by_names (named_by words) h
+  where
+    by_names : (names : List (List ℕ)) → TellsUntold words names a → WordsAre words (Err Usage)
+    by_names [] k = words_refused words no_files a k two
+    by_names (n ∷ ns) k = absurd (some_not a k two)
+
+not_written : (a : Answer) → IsWritten a → a.status ≡ 2 → ⊥
+not_written a (inl e) two = let f : 0 ≡ 2 = sym e ∙ two in let bad : ⊥ = cc in bad
+not_written a (inr e) two = let f : 9 ≡ 2 = sym e ∙ two in let bad : ⊥ = cc in bad
+
+unwritten_not : (a : Answer) → IsWritten a → unwritten_status a ≡ 2 → ⊥
+unwritten_not a w two = by_status (unwritten_is a w)
+  where
+    by_status : (unwritten_status a ≡ a.status) ⊎ (unwritten_status a ≡ 4) → ⊥
+    by_status (inl e) = not_written a w (sym e ∙ two)
+    by_status (inr e) = let f : 4 ≡ 2 = sym e ∙ two in let bad : ⊥ = cc in bad
+
+pub usage : (c : Call) (status : ℕ) → Ends c status → IsUsage c status
+usage c status ends = record { only = only ends.ending ends.is ends.cause; where_refused = back ends.ending ends.is ends.cause }
+  where
+    only : (e : Ending) → status ≡ ending_status e → EndsBy c e → status ≡ 2 → WordsAre c.words (Err Usage)
+    only (Answered a) is h two = told_refused c.words c.told a h.0 (sym is ∙ two)
+    only OutOfMemory is h two = let f : 1 ≡ 2 = sym is ∙ two in let bad : ⊥ = cc in absurd bad
+    only (Unread name) is h two = let f : 3 ≡ 2 = sym is ∙ two in let bad : ⊥ = cc in absurd bad
+    only (Unwritten a) is h two = absurd (unwritten_not a h.2 (sym is ∙ two))
+
+    nameless : WordsAre c.words (Err Usage) → named_by c.words ≡ []
+    nameless w = ap names_in w
+
+    told_two : (a : Answer) → Tells c.words c.told a → WordsAre c.words (Err Usage) → a.status ≡ 2
+    told_two a h w = refused_words c.words no_files a w (tells_answer c no_files a (inr (nameless w)) h)
+
+    back : (e : Ending) → status ≡ ending_status e → EndsBy c e → WordsAre c.words (Err Usage) → (status ≡ 2) ⊎ (status ≡ 1)
+    back (Answered a) is h w = inl (is ∙ told_two a h.0 w)
+    back OutOfMemory is h w = inr is
+    back (Unread name) is h w = absurd (no_member name (subst (λ ns. Contains ns name) (nameless w) h.1))
+    back (Unwritten a) is h w = absurd (not_written a h.2 (told_two a h.1 w))
