@@ -12,3 +12,5 @@ pub mod OneStep
 pub mod Outcomes
 pub mod Turns
 mod Order
+pub mod SomeFront
+pub mod SomeOutcome

@@ -31,6 +31,11 @@ pub fn one_outcome()
     ensures { (bytes : List ℕ) (a b : Outcome) → Lexes bytes a → Lexes bytes b → a ≡ b }
 {}
 
+/// A law: the bytes of a source have an outcome, however many they are.
+pub fn some_outcome()
+    ensures { (bytes : List ℕ) → (o : Outcome) × Lexes bytes o }
+{}
+
 /// A law: of two tokens of a source, the one with the lower number stands at the earlier place.
 pub fn tokens_in_order()
     ensures { (bytes : List ℕ) (tokens : List Token) → Lexes bytes (Ok tokens) → AreInOrder (map (λ t. t.at) tokens) }
