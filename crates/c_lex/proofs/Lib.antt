@@ -14,3 +14,4 @@ pub mod Turns
 mod Order
 pub mod SomeFront
 pub mod SomeOutcome
+mod Few

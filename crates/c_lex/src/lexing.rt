@@ -1,6 +1,6 @@
 // The tokens of the bytes.
 
-ghost use Rattle.std.specs.Prelude.{◌≡◌, ◌+◌, ◌<◌, ◌^◌, ◌&&◌, length, map, slice_index, List, ℕ};
+ghost use Rattle.std.specs.Prelude.{◌≡◌, ◌+◌, ◌≤◌, ◌<◌, ◌^◌, ◌&&◌, length, map, slice_index, List, ℕ};
 ghost use Rattle.c_lex.specs.Spelling.{part};
 ghost use Rattle.c_lex.specs.Lexed.{Outcome, Lexes, is_number as number_kind};
 ghost use Rattle.c_lex.specs.Answered.{Answers};
@@ -34,6 +34,11 @@ pub fn one_outcome()
 /// A law: the bytes of a source have an outcome, however many they are.
 pub fn some_outcome()
     ensures { (bytes : List ℕ) → (o : Outcome) × Lexes bytes o }
+{}
+
+/// A law: a source has no more tokens than bytes.
+pub fn tokens_are_few()
+    ensures { (bytes : List ℕ) (tokens : List Token) → Lexes bytes (Ok tokens) → length tokens ≤ length bytes }
 {}
 
 /// A law: of two tokens of a source, the one with the lower number stands at the earlier place.

@@ -13,7 +13,7 @@ mod tests;
 mod texts;
 mod tokens;
 
-pub use lexing::{lex, one_outcome, some_outcome, tokens_in_order};
+pub use lexing::{lex, one_outcome, some_outcome, tokens_are_few, tokens_in_order};
 pub use op_num::{Name, Text};
 pub use places::end_place;
 pub use refusals::LexRefusal;
