@@ -17,3 +17,6 @@ pub mod Counters
 pub mod Bridge
 pub mod Whole
 pub mod Programs
+pub mod MadeKernels
+pub mod ShortLists
+pub mod Comes

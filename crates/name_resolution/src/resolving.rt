@@ -1,13 +1,16 @@
 // Names and types of a whole source.
 
-ghost use Rattle.std.specs.Prelude.{◌≡◌, [], None, Ok, IfOk};
+ghost use Rattle.std.specs.Prelude.{◌≡◌, ◌<◌, ◌^◌, ℕ, List, [], None, Ok, Err, IfOk, length};
 ghost use Rattle.c_tree.specs.Tree.{ProgramTree};
+ghost use Rattle.c_tree.specs.Reads.{Reads};
 ghost use Rattle.c_tree.specs.View.{program_of, hosts_of};
 ghost use Rattle.kernel_types.specs.Resolved.{IsResolvedProgram};
 ghost use Rattle.name_resolution.specs.Numbers.{KernelsFit};
 ghost use Rattle.name_resolution.specs.First.{least_from};
 ghost use Rattle.name_resolution.specs.Programs.{Answers, Outcome, Resolves, breaches, resolved, refusal_of};
+ghost use Rattle.kernel_types.specs.declared.kernels.Resolved.{Resolved as Kernels};
 ghost use Rattle.kernel_types.specs.View.{resolved_of};
+ghost use Rattle.name_resolution.specs.declared.refusals.TypeRefusal.TheVariants.{OutOfMemory};
 ghost use Rattle.name_resolution.specs.Mains.{named_after_all, hosts_breaches};
 
 use crate::breaches::{Breach, TypeRule};
@@ -121,6 +124,16 @@ pub fn resolve(alloc: Global, program: &Program) -> Result<Resolved, TypeRefusal
     ensures resolved { IfOk result IsResolvedProgram }
 {
     outcome(alloc, program)
+}
+
+/// A law: a source comes to an outcome, and no refusal is want of memory. There are values of the machine's types that have
+/// the resolved trees of a source that was read.
+pub fn some_answer()
+    ensures some { (p : ProgramTree) → (o : Outcome) × Resolves p o }
+    ensures causes { (p : ProgramTree) → ¬ Resolves p (Err OutOfMemory) }
+    ensures kernels { (bytes : List ℕ) (p : ProgramTree) → Reads bytes p → length bytes < 2 ^ 63 → (r : Kernels) × (resolved_of r ≡ resolved p) }
+{
+    c_lex::tokens_are_few();
 }
 
 /// A law: a source comes to one outcome, its kernels and constants or a refusal.
