@@ -1,5 +1,5 @@
 -- There is an answer to all words.
-use Rattle.std.proofs.Common.{◌≡◌, ◌≢◌, ◌≤◌, ◌<◌, ◌⊎◌, inl, inr, ℕ, suc, List, length, Option, Some, None, Result, Ok, Err, refl, sym, ap, ◌∙◌, subst}
+use Rattle.std.proofs.Common.{◌≡◌, ◌^◌, ◌≢◌, ◌≤◌, ◌<◌, ◌⊎◌, inl, inr, ℕ, suc, List, length, Option, Some, None, Result, Ok, Err, refl, sym, ap, ◌∙◌, subst, arith}
 use Rattle.std.proofs.lemmas.Bool.{cases_lt}
 use Rattle.c_lex.specs.declared.tokens.Token.{Token}
 use Rattle.c_lex.specs.declared.refusals.LexRefusal.{LexRefusal}
@@ -11,6 +11,10 @@ use Rattle.c_reader.specs.declared.refusals.SourceRefusal.TheVariants as source
 use Rattle.c_reader.specs.Answered.{place_at, IsFar}
 use Rattle.c_reader.specs.Kinds.{places}
 use Rattle.kernel_types.specs.declared.kernels.Resolved.{Resolved}
+use Rattle.kernel_types.specs.View.{resolved_of}
+use Rattle.name_resolution.specs.declared.refusals.TypeRefusal.TheVariants as types
+use Rattle.name_resolution.specs.Programs as names
+use Rattle.name_resolution.specs.Programs.{Resolves, resolved}
 use Rattle.kernel_model.specs.Refusals.{ObeysUnlessBroken, OneRefusal}
 use Rattle.kernel_model.specs.Walk.{WalkFinds}
 use Rattle.mesh_text.specs.declared.entry.MeshRefusal.TheVariants as mesh
@@ -24,11 +28,11 @@ use Rattle.op_outside.specs.Outside.{Files}
 use Rattle.answers.specs.Refusal.{Limit, SourceBytes, MeshBytes, Refusal, CannotRead, NoTree, TooDeep, BeyondLimit}
 use Rattle.answers.specs.Lines.{Answer, most}
 use Rattle.answers.specs.Words.{Job, Run, Command, OnProgram, ShowsUsage, ShowsVersion, WordsAre}
-use Rattle.answers.specs.Judgements.{IsHeld, IsUnread, TreeIs, EntriesAre, BoundIs}
+use Rattle.answers.specs.Judgements.{IsHeld, IsUnread, TreeIs, TypesAre, EntriesAre, BoundIs}
 use Rattle.answers.specs.Answers.{JobAnswers, ProgramAnswers, CommandAnswers}
-use Rattle.answers.specs.Laws.{AnswersExist, OutcomesExist}
+use Rattle.answers.specs.Laws.{AnswersExist}
 use Rattle.answers.proofs.Given.{given_one}
-use Rattle.answers.proofs.SaidOnce.{lex_said, mesh_said, binding_said}
+use Rattle.answers.proofs.SaidOnce.{lex_said, types_said, mesh_said, binding_said}
 use Rattle.answers.proofs.Trees.{shallow_or_deep}
 use Rattle.answers.proofs.Sites.{accesses_exist}
 
@@ -52,7 +56,7 @@ has_cause parts AtOpenComment l e is = let bad : ⊥ = cc in bad
 has_cause parts AtOpenText l e is = let bad : ⊥ = cc in bad
 has_cause parts AtNumberTooLarge l e is = let bad : ⊥ = cc in bad
 
-module _ (some : OutcomesExist) (deep : (bytes : List ℕ) (p : ProgramTree) (n : ℕ) → Deep bytes p n → IsFar bytes (place_at p.places bytes n)) (causes : (p : ProgramTree) (types : Resolved) (es : List Named) → bound p types es ≢ Err bind.OutOfMemory) (some_read : (bytes : List ℕ) → (o : Read) × Spelled bytes o) (mesh_causes : (bytes : List ℕ) → ¬ Refuses bytes mesh.OutOfMemory) (one_outcome : (bytes : List ℕ) (a b : Outcome) → Lexes bytes a → Lexes bytes b → a ≡ b) (one_depth : (bytes : List ℕ) (a b : ProgramTree) (n m : ℕ) → Deep bytes a n → Deep bytes b m → n ≡ m) (one_shape : (bytes : List ℕ) (a b : ProgramTree) (n : ℕ) → Reads bytes a → Deep bytes b n → ⊥) (walk_finds : WalkFinds) (obeys : ObeysUnlessBroken) (one_breach : OneRefusal) where
+module _ (some_lexed : (bytes : List ℕ) → (o : Outcome) × Lexes bytes o) (some_types : (p : ProgramTree) → (o : names.Outcome) × Resolves p o) (types_causes : (p : ProgramTree) → ¬ Resolves p (Err types.OutOfMemory)) (some_kernels : (bytes : List ℕ) (p : ProgramTree) → Reads bytes p → length bytes < 2 ^ 63 → (r : Resolved) × (resolved_of r ≡ resolved p)) (deep : (bytes : List ℕ) (p : ProgramTree) (n : ℕ) → Deep bytes p n → IsFar bytes (place_at p.places bytes n)) (causes : (p : ProgramTree) (types : Resolved) (es : List Named) → bound p types es ≢ Err bind.OutOfMemory) (some_read : (bytes : List ℕ) → (o : Read) × Spelled bytes o) (mesh_causes : (bytes : List ℕ) → ¬ Refuses bytes mesh.OutOfMemory) (one_outcome : (bytes : List ℕ) (a b : Outcome) → Lexes bytes a → Lexes bytes b → a ≡ b) (one_depth : (bytes : List ℕ) (a b : ProgramTree) (n m : ℕ) → Deep bytes a n → Deep bytes b m → n ≡ m) (one_shape : (bytes : List ℕ) (a b : ProgramTree) (n : ℕ) → Reads bytes a → Deep bytes b n → ⊥) (walk_finds : WalkFinds) (obeys : ObeysUnlessBroken) (one_breach : OneRefusal) where
   -- bytes that the lexer refuses have no tree
   unlexed : (bytes : List ℕ) (l : LexRefusal) → Lexes bytes (Err l) → IsUnread bytes (source.Lex l)
   unlexed bytes l h = record {
@@ -90,8 +94,8 @@ module _ (some : OutcomesExist) (deep : (bytes : List ℕ) (p : ProgramTree) (n 
           let same : d.tokens ≡ e.tokens = cc in
           d.prints.places ∙ rw same refl ∙ sym e.prints.places
 
-  tree_exists : (bytes : List ℕ) → length bytes ≤ most SourceBytes → ¬ ((r : Result ProgramTree Refusal) → ¬ TreeIs bytes r)
-  tree_exists bytes within none = some.lexed bytes within by_outcome
+  tree_exists : (bytes : List ℕ) → ¬ ((r : Result ProgramTree Refusal) → ¬ TreeIs bytes r)
+  tree_exists bytes none = by_outcome (some_lexed bytes).0 (some_lexed bytes).1
     where
       no_deep : (p : ProgramTree) (n : ℕ) → ¬ Deep bytes p n
       no_deep p n d = none (Err (TooDeep (place_at p.places bytes n))) (source.TooDeep (place_at p.places bytes n), too_deep bytes p n d, refl)
@@ -99,6 +103,16 @@ module _ (some : OutcomesExist) (deep : (bytes : List ℕ) (p : ProgramTree) (n 
       by_outcome : (o : Outcome) → ¬ Lexes bytes o
       by_outcome (Err l) h = let said = lex_said l (has_cause h.parts h.stop l h.gives) in none (Err said.0) (source.Lex l, unlexed bytes l h, said.1)
       by_outcome (Ok tokens) h = none (Err (NoTree (place_at (places tokens) bytes 0))) (source.Syntax (place_at (places tokens) bytes 0), treeless bytes tokens h (λ p r. none (Ok p) r) no_deep, refl)
+
+  types_exist : (bytes : List ℕ) (p : ProgramTree) → length bytes ≤ most SourceBytes → Reads bytes p → ¬ ((r : Result Resolved Refusal) → ¬ TypesAre p r)
+  types_exist bytes p within reads none = by_outcome (some_types p).0 (some_types p).1
+    where
+      by_outcome : (o : names.Outcome) → ¬ Resolves p o
+      by_outcome (Ok r) h =
+          let small : length bytes < 2 ^ 63 = omega (arith, within) in
+          let k = some_kernels bytes p reads small in
+          none (Ok k.0) (h.0, k.1)
+      by_outcome (Err e) h = let said = types_said e (λ m. types_causes p (subst (λ f. Resolves p (Err f)) m h)) in none (Err said.0) (e, h, said.1)
 
   bound_exists : (p : ProgramTree) (types : Resolved) (es : List Named) → ¬ ((r : Result BoundValue Refusal) → ¬ BoundIs p types es r)
   bound_exists p types es none = by_outcome (bound p types es) refl
@@ -117,8 +131,8 @@ module _ (some : OutcomesExist) (deep : (bytes : List ℕ) (p : ProgramTree) (n 
   program_exists : (j : Job) (source mesh : List ℕ) (files : Files) → ¬ ((a : Answer) → ¬ ProgramAnswers j source mesh files a)
   program_exists j source mesh files =
       given_one _ _ (held_exists SourceBytes source (files source)) (λ bytes held.
-      given_one _ _ (tree_exists bytes (held_within SourceBytes source (files source) bytes held)) (λ p reads.
-      given_one _ _ (some.types bytes p (held_within SourceBytes source (files source) bytes held) reads) (λ types _.
+      given_one _ _ (tree_exists bytes) (λ p reads.
+      given_one _ _ (types_exist bytes p (held_within SourceBytes source (files source) bytes held) reads) (λ types _.
       given_one _ _ (held_exists MeshBytes mesh (files mesh)) (λ text _.
       given_one _ _ (entries_exist text) (λ es _.
       given_one _ _ (bound_exists p types es) (λ b _.

@@ -77,6 +77,16 @@ lex_said (lex.OpenText at) n = (_, refl)
 lex_said (lex.NumberTooLarge at) n = (_, refl)
 lex_said lex.OutOfMemory n = absurd (n refl)
 
+pub types_said : (e : TypeRefusal) → e ≢ types.OutOfMemory → (r : Refusal) × SaysTypes e r
+types_said (types.UnknownName at) n = (_, refl)
+types_said (types.DuplicateName at) n = (_, refl)
+types_said (types.NotAnArray at) n = (_, refl)
+types_said (types.NotAScalar at) n = (_, refl)
+types_said (types.AssignsCounter at) n = (_, refl)
+types_said (types.AssignsConst at) n = (_, refl)
+types_said (types.TooMuchWork at) n = (_, refl)
+types_said types.OutOfMemory n = absurd (n refl)
+
 pub mesh_said : (e : MeshRefusal) → e ≢ mesh.OutOfMemory → (r : Refusal) × SaysMesh e r
 mesh_said (mesh.Header line) n = (_, refl)
 mesh_said (mesh.Syntax line) n = (_, refl)

@@ -120,6 +120,21 @@ binding_other p bind.OutOfMemory r h = absurd h
 
 -- ---- answers
 
+zero_two : ◌≡◌ {A = ℕ} 0 2 → ⊥
+zero_two e = cc
+
+one_two : ◌≡◌ {A = ℕ} 1 2 → ⊥
+one_two e = cc
+
+three_two : ◌≡◌ {A = ℕ} 3 2 → ⊥
+three_two e = cc
+
+four_two : ◌≡◌ {A = ℕ} 4 2 → ⊥
+four_two e = cc
+
+nine_two : ◌≡◌ {A = ℕ} 9 2 → ⊥
+nine_two e = cc
+
 -- an answer with another status
 abbrev NotTwo : Answer → Type 0
 NotTwo a = ¬ (a.status ≡ 2)
@@ -128,10 +143,10 @@ refused_not : (r : Refusal) (a : Answer) → a ≡ refused r → IsOther r → N
 refused_not r a e o h = other_status r o (sym (ap (λ x. x.status) e) ∙ h)
 
 done_not : (bytes : List ℕ) (a : Answer) → a ≡ done bytes → NotTwo a
-done_not bytes a e h = let f : 0 ≡ 2 = sym (ap (λ x. x.status) e) ∙ h in let bad : ⊥ = cc in bad
+done_not bytes a e h = zero_two (sym (ap (λ x. x.status) e) ∙ h)
 
 faulted_not : (bytes : List ℕ) (x : Stop KernelFault) (a : Answer) → a ≡ faulted bytes x → NotTwo a
-faulted_not bytes x a e h = let f : 9 ≡ 2 = sym (ap (λ y. y.status) e) ∙ h in let bad : ⊥ = cc in bad
+faulted_not bytes x a e h = nine_two (sym (ap (λ y. y.status) e) ∙ h)
 
 given_not : {A : Type 0} (J : Result A Refusal → Type 0) (f : A → Answer → Type 0) → ((r : Refusal) → J (Err r) → IsOther r) → ((x : A) (a : Answer) → f x a → NotTwo a) → (a : Answer) → given J f a → NotTwo a
 given_not J f others rest a (inl h) = refused_not h.0 a h.2 (others h.0 h.1)
@@ -201,23 +216,23 @@ told_refused words None a h two = by_names (named_by words) h
     by_names (n ∷ ns) k = absurd (some_not a k two)
 
 not_written : (a : Answer) → IsWritten a → a.status ≡ 2 → ⊥
-not_written a (inl e) two = let f : 0 ≡ 2 = sym e ∙ two in let bad : ⊥ = cc in bad
-not_written a (inr e) two = let f : 9 ≡ 2 = sym e ∙ two in let bad : ⊥ = cc in bad
+not_written a (inl e) two = zero_two (sym e ∙ two)
+not_written a (inr e) two = nine_two (sym e ∙ two)
 
 unwritten_not : (a : Answer) → IsWritten a → unwritten_status a ≡ 2 → ⊥
 unwritten_not a w two = by_status (unwritten_is a w)
   where
     by_status : (unwritten_status a ≡ a.status) ⊎ (unwritten_status a ≡ 4) → ⊥
     by_status (inl e) = not_written a w (sym e ∙ two)
-    by_status (inr e) = let f : 4 ≡ 2 = sym e ∙ two in let bad : ⊥ = cc in bad
+    by_status (inr e) = four_two (sym e ∙ two)
 
 pub usage : (c : Call) (status : ℕ) → Ends c status → IsUsage c status
 usage c status ends = record { only = only ends.ending ends.is ends.cause; where_refused = back ends.ending ends.is ends.cause }
   where
     only : (e : Ending) → status ≡ ending_status e → EndsBy c e → status ≡ 2 → WordsAre c.words (Err Usage)
     only (Answered a) is h two = told_refused c.words c.told a h.0 (sym is ∙ two)
-    only OutOfMemory is h two = let f : 1 ≡ 2 = sym is ∙ two in let bad : ⊥ = cc in absurd bad
-    only (Unread name) is h two = let f : 3 ≡ 2 = sym is ∙ two in let bad : ⊥ = cc in absurd bad
+    only OutOfMemory is h two = absurd (one_two (sym is ∙ two))
+    only (Unread name) is h two = absurd (three_two (sym is ∙ two))
     only (Unwritten a) is h two = absurd (unwritten_not a h.2 (sym is ∙ two))
 
     nameless : WordsAre c.words (Err Usage) → named_by c.words ≡ []

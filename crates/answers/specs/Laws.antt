@@ -1,16 +1,13 @@
--- What any two answers to the same words have in common, that there is one, and how a call ends by it.
-use Rattle.std.specs.Prelude.{◌≡◌, ℕ, ◌≤◌, ◌⊎◌, List, length, Result, Ok}
+-- What any two answers to the same words have in common, and that there is one.
+use Rattle.std.specs.Prelude.{◌≡◌, ℕ, ◌⊎◌, List, Ok}
 use Rattle.c_lex.specs.declared.tokens.Token.{Token}
-use Rattle.c_lex.specs.Lexed as lexer
 use Rattle.c_lex.specs.Lexed.{Lexes}
 use Rattle.c_tree.specs.Tree.{ProgramTree}
-use Rattle.c_tree.specs.Reads.{Prints, Reads}
-use Rattle.kernel_types.specs.declared.kernels.Resolved.{Resolved}
+use Rattle.c_tree.specs.Reads.{Prints}
 use Rattle.op_outside.specs.Outside.{Files}
-use Rattle.answers.specs.Refusal.{SourceBytes, Refusal}
-use Rattle.answers.specs.Lines.{Answer, most}
+use Rattle.answers.specs.Lines.{Answer}
 use Rattle.answers.specs.Words.{Job, OnProgram, WordsAre}
-use Rattle.answers.specs.Judgements.{SourceIs, TypesAre}
+use Rattle.answers.specs.Judgements.{SourceIs}
 use Rattle.answers.specs.Answers.{Answers}
 
 -- ---- two answers
@@ -50,13 +47,3 @@ AnswersAgree =
 -- there is an answer
 abbrev pub AnswersExist : Type 0
 AnswersExist = (words : List (List ℕ)) (files : Files) → ¬ ((a : Answer) → ¬ Answers words files a)
-
--- ---- the laws of the parts that are awaited
-
--- A source within the limit has tokens or is refused for them; and its kernels and constants, or their refusal, are there.
-pub record OutcomesExist : Type 0 where
-  pub lexed : (bytes : List ℕ) → length bytes ≤ most SourceBytes → ¬ ((o : lexer.Outcome) → ¬ Lexes bytes o)
-  pub types : (bytes : List ℕ) (p : ProgramTree)
-      → length bytes ≤ most SourceBytes
-      → Reads bytes p
-      → ¬ ((r : Result Resolved Refusal) → ¬ TypesAre p r)

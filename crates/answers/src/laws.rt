@@ -6,7 +6,7 @@ ghost use Rattle.clap.specs.Faults.{fault_of};
 ghost use Rattle.clap.specs.declared.error.kind.ErrorKind.{ErrorKind as Kind};
 ghost use Rattle.answers.specs.Words.{command};
 ghost use Rattle.answers.specs.Endings.{Call, Ends, IsComplete, IsUsage};
-ghost use Rattle.answers.specs.Laws.{AnswersAgree, AnswersExist, OutcomesExist};
+ghost use Rattle.answers.specs.Laws.{AnswersAgree, AnswersExist};
 
 /// A law: `clap` has at most one kind of fault to answer the words with.
 pub fn one_fault()
@@ -27,15 +27,17 @@ pub fn answers_agree()
     kernel_model::kernels_are_trees();
 }
 
-/// A law: there is an answer to all words over all files. It rests on laws of the parts that are still to come.
+/// A law: there is an answer to all words over all files.
 pub fn answers_exist()
-    ensures { OutcomesExist → AnswersExist }
+    ensures { AnswersExist }
 {
+    c_lex::some_outcome();
     c_lex::one_outcome();
     c_reader::one_depth();
     c_reader::deep_is_far();
-    loop_bind::refusals_have_causes();
+    name_resolution::some_answer();
     mesh_text::one_outcome();
+    loop_bind::refusals_have_causes();
     kernel_model::walk_finds();
     kernel_model::rules_are_broken();
 }
