@@ -9,4 +9,6 @@ mod values;
 
 pub use interpreter::{run, run_on};
 pub use kernel_types::{Fault, KernelFault};
-pub use operators::{absolute, apply_op, apply_unary_op, extreme, index_of, settles, truth_of};
+pub use operators::{
+    absolute, apply_op, apply_unary_op, extreme, index_of, settles, stored_value, truth_of,
+};
