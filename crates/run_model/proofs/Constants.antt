@@ -9,7 +9,7 @@ use Rattle.bound_program.specs.Values.{BoundValue, VarValue, no_var}
 use Rattle.bound_program.specs.Fits.{constant_cells, ConstantsFit, var_at}
 use Rattle.run_model.specs.Kernels.{is_among, constant_or, constant_in, constants, constant_values}
 use Rattle.run_model.specs.Arguments.{is_there, is_constant, var_width}
-use Rattle.run_model.specs.Constants.{no_constant, ConstantsAreNumbered}
+use Rattle.run_model.specs.Constants.{no_constant, IsNumbered, ConstantsAreNumbered}
 use Rattle.run_model.proofs.Tiling.{covers_by, covers, IsCovered, all_covered, among_bounds, among_true}
 
 -- the cell is of a variable that has the constant, among those from number v on
@@ -159,8 +159,26 @@ module _ (b : BoundValue) where
         let component : (constant_in b.vars 0 (first + i)).component ≡ i = omega (arith, m.component, firsts) in
         ap₂ (λ x y. record { variable = x; component = y }) variable component
 
+is_numbered : (b : BoundValue) (j : ℕ) (c : VarCell) → Named b.vars 0 j c → IsNumbered b j c
+is_numbered b j c m =
+    let same : m.number ≡ c.variable = omega (arith, m.variable) in
+    let wide : var_width b m.number ≡ var_width b c.variable = ap (var_width b) same in
+    record {
+      variable = omega (arith, m.below, same);
+      component = omega (arith, m.component, m.from, m.before, wide);
+      first = m.first;
+      constant = ap (λ v. (var_at b v).constant) (sym same) ∙ m.constant;
+      number = omega (arith, m.component, m.from);
+    }
+
 pub constants_are_numbered : ConstantsAreNumbered
 constants_are_numbered b fit = record {
+  count = constants_long b;
+  cells = λ j lt.
+      let l : j < count b = omega (arith, constants_long b) in
+      subst (IsNumbered b j)
+      (sym (get_or-map-range_with_len (constant_in b.vars 0) 0 (count b) j j no_constant l (omega arith)))
+      (is_numbered b j (constant_in b.vars 0 j) (is_named b fit j l));
   constant = λ j d lt.
       let l : j < count b = omega (arith, constants_long b) in
       subst (λ v. is_constant b (Variable v) ≡ true)

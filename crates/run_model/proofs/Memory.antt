@@ -8,7 +8,7 @@ use Rattle.schedule_model.specs.Cells.{Cell, Data, Variable, DatCell, VarCell}
 use Rattle.bound_program.specs.Values.{BoundValue}
 use Rattle.run_model.specs.Windows.{Reached, Element, Whole, cell_in}
 use Rattle.run_model.specs.Arguments.{dat_width, var_width}
-use Rattle.run_model.specs.Memory.{dat_start, var_start, memory_length, place_of, has_cell}
+use Rattle.run_model.specs.Memory.{dat_start, var_start, memory_length, place_of, has_cell, MemoryIsInOrder}
 
 module _ (b : BoundValue) where
   -- the elements of a dat
@@ -127,3 +127,6 @@ module _ (b : BoundValue) where
   pub follow : (r : Reached) (i : ℕ) → place_of b (cell_in r 0) + i ≡ place_of b (cell_in r i)
   follow (Element d x) i = omega arith
   follow (Whole v) i = omega arith
+
+pub memory_is_in_order : MemoryIsInOrder
+memory_is_in_order b = record { dats = dats_follow b; vars = vars_follow b; behind = after_dats b; components = has_var b }

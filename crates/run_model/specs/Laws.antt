@@ -1,5 +1,5 @@
 -- The runs of a loop's elements are those of its kernel.
-use Rattle.std.specs.Prelude.{◌≡◌, ℕ, true, length, Some}
+use Rattle.std.specs.Prelude.{◌≡◌, ◌<◌, ℕ, true, length, Some}
 use Rattle.reductions.specs.Access.{OpRead}
 use Rattle.kernel_types.specs.declared.faults.KernelFault.{KernelFault}
 use Rattle.kernel_types.specs.declared.kernels.RKernel.{RKernel}
@@ -11,15 +11,23 @@ use Rattle.schedule_laws.specs.Tells.{All}
 use Rattle.element_runs.specs.ElementRun.{IsElementRun}
 use Rattle.element_runs.specs.OnWindows.{OnWindows}
 use Rattle.bound_program.specs.Values.{BoundValue, SiteValue}
-use Rattle.bound_program.specs.Fits.{Fits, site_at}
+use Rattle.bound_program.specs.Fits.{Fits, ActFits, site_at}
 use Rattle.run_model.specs.Windows.{window_cells, windows}
 use Rattle.run_model.specs.Kernels.{kernel_at, constant_values}
-use Rattle.run_model.specs.Programs.{item_at, kind_of, loop_of, program_of}
+use Rattle.run_model.specs.Programs.{item_at, kind_of, loop_of, act_in, program_of}
 use Rattle.run_model.specs.Arguments.{argument_at, entries, dat_width, var_width, modes_of, cell_of, is_constant}
 
 -- the loop of an item
 abbrev pub site_of : BoundValue → ℕ → SiteValue
 site_of b k = site_at b (loop_of (item_at b k))
+
+-- the loop of an item is there
+abbrev pub LoopsAreThere : Type 0
+LoopsAreThere = (b : BoundValue) (k : ℕ) → Fits b → is_loop (kind_of (item_at b k)) ≡ true → loop_of (item_at b k) < length b.sites
+
+-- what an item's statement names is there
+abbrev pub ActsAreThere : Type 0
+ActsAreThere = (b : BoundValue) (k : ℕ) → Fits b → ActFits b (act_in (item_at b k))
 
 -- the run of a loop for an element is that of this kernel, which obeys the modes of the loop's arguments
 pub record RunsKernel (b : BoundValue) (site : SiteValue) (e : ℕ) (f : RKernel) (run : Store → Ran KernelFault) : Type 0 where

@@ -67,6 +67,18 @@ module _ (b : BoundValue) where
   EndsHolding (kernel.Finished l) (Faulted g) = ⊥
   EndsHolding (kernel.Stopped l f) (Finished t) = ⊥
 
+-- each dat ends where the next begins at the latest, and so does each variable, behind the dats; a variable has its components
+pub record IsInOrder (b : BoundValue) : Type 0 where
+  pub dats : (d n : ℕ) → d < n → dat_start b d + set_size b.mesh (dat_set b.mesh d) * dat_width b d ≤ dat_start b n
+  pub vars : (v n : ℕ) → v < n → var_start b v + var_width b v ≤ var_start b n
+  pub behind : (n : ℕ) → var_start b 0 ≤ var_start b n
+  pub components : (v i : ℕ)
+      → v < length b.vars → i < var_width b v → has_cell b (Variable (record { variable = v; component = i })) ≡ true
+
+-- dats and variables stand in the memory in order
+abbrev pub MemoryIsInOrder : Type 0
+MemoryIsInOrder = (b : BoundValue) → IsInOrder b
+
 -- the run of a loop for an element is the kernel's meaning on the memory
 abbrev pub ElementsRunOnMemory : Type 0
 ElementsRunOnMemory =

@@ -6,15 +6,21 @@ ghost use Rattle.std.specs.Prelude.{◌≡◌};
 ghost use Rattle.bound_program.specs.Values.{BoundValue};
 ghost use Rattle.schedule_model.specs.Sequential.{sequential};
 ghost use Rattle.run_model.specs.Programs.{program_of, run_of_program};
-ghost use Rattle.run_model.specs.Laws.{ElementsRunKernels, LoopsKeepRange, LoopsKeepReads, WindowsAreReached};
+ghost use Rattle.run_model.specs.Laws.{ActsAreThere, ElementsRunKernels, LoopsAreThere, LoopsKeepRange, LoopsKeepReads, WindowsAreReached};
 ghost use Rattle.run_model.specs.Constants.{ConstantsAreNumbered, ConstantsAreRead};
 ghost use Rattle.run_model.specs.Memory.{ElementsRunOnMemory, FirstMemoryHolds, MemoryEndsWithVariables};
-ghost use Rattle.run_model.specs.Memory.{MemoryHasDats, MemoryTakesAssignments, MemoryTakesZeros};
+ghost use Rattle.run_model.specs.Memory.{MemoryHasDats, MemoryIsInOrder, MemoryTakesAssignments, MemoryTakesZeros};
 ghost use Rattle.run_model.specs.Stops.{RunsStopAtFaults};
 
 /// The run of a program is the sequential run of the program that the theorem on schedules sees.
 pub fn runs_as_sequential()
     ensures { (b : BoundValue) → run_of_program b ≡ sequential (program_of b) }
+{}
+
+/// A law: the loop of an item is there, and all that its statement names.
+pub fn items_are_there()
+    ensures loops { LoopsAreThere }
+    ensures acts { ActsAreThere }
 {}
 
 /// A law: an item that is a loop, whose kernel obeys its modes, runs that kernel for each element, with the values of the
@@ -44,9 +50,10 @@ pub fn elements_run_on_memory()
     kernel_model::shape_stays();
 }
 
-/// A law: what that memory is before the run, where the variables and each dat stand in it, and what an assignment to a
+/// A law: dats and variables stand in that memory in order; what it is before the run, and what an assignment to a
 /// variable's cell, or zeros in all of its cells, make of it.
 pub fn memory_holds()
+    ensures order { MemoryIsInOrder }
     ensures first { FirstMemoryHolds }
     ensures variables { MemoryEndsWithVariables }
     ensures dats { MemoryHasDats }
