@@ -19,8 +19,7 @@ use Rattle.bound_program.specs.Values.{BoundValue}
 use Rattle.bound_program.specs.Fits.{var_at}
 use Rattle.run_model.specs.Hosts.{variables_of, variable_cells, dat_cells, with_cell, with_zeros, value_of, values_of, component_of, assigned, prints}
 use Rattle.run_model.specs.Arguments.{dat_width, var_width}
-use Rattle.run_model.specs.Memory.{dat_start, var_start, Holds, MemoryEndsWithVariables, MemoryTakesAssignments, MemoryTakesZeros, MemoryHasDats}
-use Rattle.run_model.proofs.Memory.{has_var}
+use Rattle.run_model.specs.Memory.{dat_start, var_start, Holds, MemoryEndsWithVariables, MemoryTakesAssignments, MemoryTakesZeros, MemoryHasDats, IsInOrder}
 use Rattle.sequential_run.specs.Acts.{values_in, component_in, new_value_in, ActEnds, PrintsLine}
 use Rattle.sequential_run.proofs.Stores.{same_variables}
 
@@ -87,13 +86,13 @@ module _ (v : ℕ) (vars : VarCell → ℤ) (op : AssignOp) (op_at : Pos) where
   by_component (Ok i) x count old own below same = by_value x i (old i) (own i) (same i (below i refl))
   by_component (Err f) x count old own below same = refl
 
-module _ (b : BoundValue) (m : List ℤ) (s : Store) (holds : Holds b m s) (v start : ℕ) (lv : v < length b.vars) (some : 0 < var_width b v) (begins : start + var_start b 0 ≡ var_start b v)
+module _ (b : BoundValue) (order : IsInOrder b) (m : List ℤ) (s : Store) (holds : Holds b m s) (v start : ℕ) (lv : v < length b.vars) (some : 0 < var_width b v) (begins : start + var_start b 0 ≡ var_start b v)
     (cells : List ℤ) (is : its_cells b s ≡ cells) (are : cells ≡ drop (var_start b 0) m) where
   old_value : (i : ℕ) → i < var_width b v → s (Variable (record { variable = v; component = i })) ≡ get_or cells (start + i) (pos 0)
   old_value i li =
       sym (ap (λ l. get_or l (start + i) (pos 0)) are ∙ get_or-drop (var_start b 0) m (start + i) (pos 0)
       ∙ ap (λ k. get_or m k (pos 0)) (let at : var_start b 0 + (start + i) ≡ var_start b v + i = omega (arith, begins) in at)
-      ∙ holds.values (Variable (record { variable = v; component = i })) (has_var b v i lv li))
+      ∙ holds.values (Variable (record { variable = v; component = i })) (order.components v i lv li))
 
   component_same : (at : Pos) (index : Option HostExpr) → component_of b s (var_at b v) at index ≡ component_in cells (var_width b v) at index
   component_same at None = refl
@@ -142,7 +141,7 @@ var_cleared b law m left v from count lv begins wide long zeros others s holds =
 
 -- ---- an assignment, as the code goes
 
-module _ (b : BoundValue) (law : MemoryEndsWithVariables) (m cells : List ℤ) (s : Store) (holds : Holds b m s) (v from count first : ℕ)
+module _ (b : BoundValue) (order : IsInOrder b) (law : MemoryEndsWithVariables) (m cells : List ℤ) (s : Store) (holds : Holds b m s) (v from count first : ℕ)
     (lv : v < length b.vars) (some : 0 < var_width b v) (from_is : from ≡ var_start b v) (count_is : count ≡ var_width b v) (first_is : first ≡ var_start b 0)
     (behind : first ≤ from) (are : cells ≡ drop first m) (index : Option HostExpr) (op : AssignOp) (op_at : Pos) (e : HostExpr) (at : Pos) (out : List ℕ) where
   begins : (from - first) + var_start b 0 ≡ var_start b v
@@ -166,20 +165,20 @@ module _ (b : BoundValue) (law : MemoryEndsWithVariables) (m cells : List ℤ) (
   pub index_faults : {A : Type 0} (f g : KernelFault) (r : Result A KernelFault) → r ≡ Err g → g ≡ f → component_in cells count at index ≡ Err f
       → ActEnds b m s out out r (assigned b s v index op op_at e at)
   index_faults f g r is same h =
-      halted f g r is same (bad_component b m s holds v (from - first) lv some begins cells its behind_dats index op op_at e at f (wide (Err f) h))
+      halted f g r is same (bad_component b order m s holds v (from - first) lv some begins cells its behind_dats index op op_at e at f (wide (Err f) h))
 
   module _ (i : ℕ) (h : component_in cells count at index ≡ Ok i) where
     pub value_faults : {A : Type 0} (f g : KernelFault) (r : Result A KernelFault) → r ≡ Err g → g ≡ f → new_value_in cells ((from - first) + i) op op_at e ≡ Err f
         → ActEnds b m s out out r (assigned b s v index op op_at e at)
     value_faults f g r is same k =
-        halted f g r is same (bad_value b m s holds v (from - first) lv some begins cells its behind_dats index op op_at e at i (wide (Ok i) h) f k)
+        halted f g r is same (bad_value b order m s holds v (from - first) lv some begins cells its behind_dats index op op_at e at i (wide (Ok i) h) f k)
 
     pub assigns : {A : Type 0} → MemoryTakesAssignments → (x : A) (z y : ℤ) → y ≡ z → i < count → new_value_in cells ((from - first) + i) op op_at e ≡ Ok z
         → ActEnds b (set m (from + i) y) s out out (Ok x) (assigned b s v index op op_at e at)
     assigns takes x z y same lt k =
         let left : set m (var_start b v + i) z ≡ set m (from + i) y = ap₂ (λ p q. set m (p + i) q) (sym from_is) (sym same) in
         subst (λ w. ActEnds b (set m (from + i) y) s out out (Ok x) w)
-        (sym (is_stored b m s holds v (from - first) lv some begins cells its behind_dats index op op_at e at i (wide (Ok i) h) z k)) (
+        (sym (is_stored b order m s holds v (from - first) lv some begins cells its behind_dats index op op_at e at i (wide (Ok i) h) z k)) (
           subst (λ l. Holds b l (with_variables (with_cell (record { variable = v; component = i }) z (variables_of s)) s)) left
               (takes b m s v i z holds lv (omega (arith, lt, count_is))),
           sym (append-nil out),

@@ -14,34 +14,33 @@ use Rattle.bound_program.specs.Values.{BoundValue, SiteValue, var_of, no_var}
 use Rattle.bound_program.specs.Fits.{ArgFits, SiteFits}
 use Rattle.run_model.specs.Windows.{Whole, reached}
 use Rattle.run_model.specs.Arguments.{no_arg, dat_width, var_width}
-use Rattle.run_model.specs.Memory.{dat_start, var_start, memory_length, span_of, spans}
-use Rattle.run_model.proofs.Memory.{dats_follow, vars_follow, after_dats}
+use Rattle.run_model.specs.Memory.{dat_start, var_start, memory_length, span_of, spans, IsInOrder}
 use Rattle.sequential_run.specs.declared.layout.Layout.{Layout}
 use Rattle.sequential_run.specs.Layouts.{ArgThere, Begins}
 
 -- a dat's element and a variable stand in the memory
-pub element_within : (b : BoundValue) (d x : ℕ) → d < dat_count b.mesh → x < set_size b.mesh (dat_set b.mesh d)
+pub element_within : (b : BoundValue) → IsInOrder b → (d x : ℕ) → d < dat_count b.mesh → x < set_size b.mesh (dat_set b.mesh d)
     → dat_start b d + x * dat_width b d + dat_width b d ≤ memory_length b
-element_within b d x ld lx =
-    omega (arith, row_fits x (dat_width b d) (set_size b.mesh (dat_set b.mesh d)) (dat_width b d) lx (omega arith), dats_follow b d (dat_count b.mesh) ld, after_dats b (length b.vars))
+element_within b order d x ld lx =
+    omega (arith, row_fits x (dat_width b d) (set_size b.mesh (dat_set b.mesh d)) (dat_width b d) lx (omega arith), order.dats d (dat_count b.mesh) ld, order.behind (length b.vars))
 
-pub var_within : (b : BoundValue) (v : ℕ) → v < length b.vars → var_start b v + var_width b v ≤ memory_length b
-var_within b v lv = vars_follow b v (length b.vars) lv
+pub var_within : (b : BoundValue) → IsInOrder b → (v : ℕ) → v < length b.vars → var_start b v + var_width b v ≤ memory_length b
+var_within b order v lv = order.vars v (length b.vars) lv
 
-pub element_fits : (b : BoundValue) (d x start dim : ℕ) → d < dat_count b.mesh → x < set_size b.mesh (dat_set b.mesh d)
+pub element_fits : (b : BoundValue) → IsInOrder b → (d x start dim : ℕ) → d < dat_count b.mesh → x < set_size b.mesh (dat_set b.mesh d)
     → start ≡ dat_start b d → dim ≡ dat_width b d → start + x * dim + dim ≤ memory_length b
-element_fits b d x start dim ld lx e g =
+element_fits b order d x start dim ld lx e g =
     let row : x * dim ≡ x * dat_width b d = ap (λ w. x * w) g in
-    omega (arith, element_within b d x ld lx, row, e, g)
+    omega (arith, element_within b order d x ld lx, row, e, g)
 
-pub dat_within : (b : BoundValue) (d : ℕ) → d < dat_count b.mesh → dat_start b d + set_size b.mesh (dat_set b.mesh d) * dat_width b d ≤ memory_length b
-dat_within b d ld = omega (arith, dats_follow b d (dat_count b.mesh) ld, after_dats b (length b.vars))
+pub dat_within : (b : BoundValue) → IsInOrder b → (d : ℕ) → d < dat_count b.mesh → dat_start b d + set_size b.mesh (dat_set b.mesh d) * dat_width b d ≤ memory_length b
+dat_within b order d ld = omega (arith, order.dats d (dat_count b.mesh) ld, order.behind (length b.vars))
 
-pub dat_fits : (b : BoundValue) (d start size dim : ℕ) → d < dat_count b.mesh → start ≡ dat_start b d → size ≡ set_size b.mesh (dat_set b.mesh d) → dim ≡ dat_width b d
+pub dat_fits : (b : BoundValue) → IsInOrder b → (d start size dim : ℕ) → d < dat_count b.mesh → start ≡ dat_start b d → size ≡ set_size b.mesh (dat_set b.mesh d) → dim ≡ dat_width b d
     → start + size * dim ≤ memory_length b
-dat_fits b d start size dim ld e n g =
+dat_fits b order d start size dim ld e n g =
     let cells : size * dim ≡ set_size b.mesh (dat_set b.mesh d) * dat_width b d = ap₂ (λ x y. x * y) n g in
-    omega (arith, dat_within b d ld, cells, e)
+    omega (arith, dat_within b order d ld, cells, e)
 
 pub var_span : (b : BoundValue) (v : ℕ) (p : Place) → p.from ≡ var_start b v → p.count ≡ var_width b v → target_of p ≡ span_of b (Whole v)
 var_span b v p e g = ap₂ (λ x y. record { array = 0; from = x; count = y }) (let f : p.from ≡ var_start b v + 0 = omega (arith, e) in f) g
@@ -61,15 +60,15 @@ var_is xs v x lt e = get_or-map var_of xs v x no_var (omega (arith, length-map x
 pub var_item : (xs items : List Var) (v : ℕ) (x : Var) → items ≡ xs → v < length (map var_of xs) → x ≡ get_or items v x → get_or (map var_of xs) v no_var ≡ var_of x
 var_item xs items v x same lt e = var_is xs v x lt (e ∙ ap (λ l. get_or l v x) same)
 
-pub var_reaches : (b : BoundValue) (v from count : ℕ) → v < length b.vars → from ≡ var_start b v → count ≡ var_width b v → from + count ≤ memory_length b
-var_reaches b v from count lv e g = omega (arith, var_within b v lv, e, g)
+pub var_reaches : (b : BoundValue) → IsInOrder b → (v from count : ℕ) → v < length b.vars → from ≡ var_start b v → count ≡ var_width b v → from + count ≤ memory_length b
+var_reaches b order v from count lv e g = omega (arith, var_within b order v lv, e, g)
 
-pub var_behind : (b : BoundValue) (l : Layout) (v from : ℕ) → Begins b l → from ≡ var_start b v → l.first_var ≤ from
-var_behind b l v from h e = omega (arith, h.first_var, after_dats b v, e)
+pub var_behind : (b : BoundValue) → IsInOrder b → (l : Layout) (v from : ℕ) → Begins b l → from ≡ var_start b v → l.first_var ≤ from
+var_behind b order l v from h e = omega (arith, h.first_var, order.behind v, e)
 
 -- the variables stand in the memory
-pub vars_within : (b : BoundValue) (l : Layout) → Begins b l → l.first_var ≤ memory_length b
-vars_within b l h = omega (arith, h.first_var, after_dats b (length b.vars))
+pub vars_within : (b : BoundValue) → IsInOrder b → (l : Layout) → Begins b l → l.first_var ≤ memory_length b
+vars_within b order l h = omega (arith, h.first_var, order.behind (length b.vars))
 
 -- what a loop's argument reaches is there
 pub arg_there : (b : BoundValue) (set e : ℕ) (x : Arg) → ArgFits b set x → e < set_size b.mesh set → ArgThere b e x

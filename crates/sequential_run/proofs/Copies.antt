@@ -1,18 +1,15 @@
 -- The constants that kernels read, in a memory that holds the store.
-use Rattle.std.proofs.Common.{◌≡◌, ◌<◌, ◌≤◌, ◌+◌, ◌-◌, ◌⊎◌, inl, inr, ℕ, ℤ, pos, true, List, length, get_or, Option, Some, None, sym, ap, ◌∙◌, subst, ⊎_elim, arith}
+use Rattle.std.proofs.Common.{◌≡◌, ◌<◌, ◌≤◌, ◌+◌, ◌-◌, ◌⊎◌, inl, inr, ℕ, ℤ, pos, List, length, get_or, Option, Some, None, sym, ap, ◌∙◌, ⊎_elim, arith}
 use Rattle.std.specs.Prelude.{IfSome}
 use Rattle.std.proofs.lemmas.Bool.{cases_lt}
 use Rattle.std.proofs.lemmas.List.{length-map, get_or-map, ext_get_or}
-use Rattle.std.proofs.lemmas.List.FromFn.{get_or-map-range_with_len}
 use Rattle.schedule_model.specs.Cells.{Variable, VarCell, Store}
 use Rattle.bound_program.specs.Values.{BoundValue}
 use Rattle.bound_program.specs.Fits.{ConstantsFit, var_at}
-use Rattle.run_model.specs.Kernels.{constant_in, constants, constant_values}
+use Rattle.run_model.specs.Kernels.{constants, constant_values}
 use Rattle.run_model.specs.Arguments.{var_width}
-use Rattle.run_model.specs.Constants.{no_constant}
-use Rattle.run_model.specs.Memory.{var_start, place_of, has_cell, Holds}
-use Rattle.run_model.proofs.Constants.{Named, count, constants_long, is_named, constants_are_numbered}
-use Rattle.run_model.proofs.Memory.{has_var}
+use Rattle.run_model.specs.Constants.{no_constant, AreNumbered}
+use Rattle.run_model.specs.Memory.{var_start, place_of, Holds, IsInOrder}
 use Rattle.sequential_run.specs.Layouts.{CopiedFrom, constants_in}
 
 module _ (b : BoundValue) where
@@ -25,35 +22,24 @@ module _ (b : BoundValue) where
   SoFar m consts v =
       (j : ℕ) → j < length (constants b) → (cell_at j).variable < v → get_or consts j (pos 0) ≡ get_or m (place_of b (Variable (cell_at j))) (pos 0)
 
-  module _ (fit : ConstantsFit b) where
-    pub is_cell : (j : ℕ) → j < length (constants b) → Named b.vars 0 j (cell_at j)
-    is_cell j lt =
-        let l : j < count b = omega (arith, constants_long b) in
-        subst (Named b.vars 0 j) (sym (get_or-map-range_with_len (constant_in b.vars 0) 0 (count b) j j no_constant l (omega arith))) (is_named b fit j l)
+  pub constants_held : AreNumbered b → IsInOrder b → (m : List ℤ) (s : Store) → Holds b m s → constants_in b m ≡ constant_values b s
+  constants_held numbered order m s holds = ext_get_or (pos 0) (constants_in b m) (constant_values b s)
+      (length-map (constants b) (λ v. get_or m (place_of b (Variable v)) (pos 0)) ∙ sym (length-map (constants b) (λ v. s (Variable v))))
+      (λ j lt.
+      let l : j < length (constants b) = omega (arith, length-map (constants b) (λ v. get_or m (place_of b (Variable v)) (pos 0))) in
+      let n = numbered.cells j l in
+      get_or-map (λ v. get_or m (place_of b (Variable v)) (pos 0)) (constants b) j no_constant (pos 0) l
+      ∙ holds.values (Variable (cell_at j)) (order.components (cell_at j).variable (cell_at j).component n.variable n.component)
+      ∙ sym (get_or-map (λ v. s (Variable v)) (constants b) j no_constant (pos 0) l))
 
-    pub has_constant : (j : ℕ) → j < length (constants b) → has_cell b (Variable (cell_at j)) ≡ true
-    has_constant j lt =
-        let n = is_cell j lt in
-        let same : (cell_at j).variable ≡ n.number = omega (arith, n.variable) in
-        let wide : var_width b (cell_at j).variable ≡ var_width b n.number = ap (var_width b) same in
-        has_var b (cell_at j).variable (cell_at j).component (omega (arith, same, n.below)) (omega (arith, wide, n.component, n.from, n.before))
-
-    pub constants_held : (m : List ℤ) (s : Store) → Holds b m s → constants_in b m ≡ constant_values b s
-    constants_held m s holds = ext_get_or (pos 0) (constants_in b m) (constant_values b s)
-        (length-map (constants b) (λ v. get_or m (place_of b (Variable v)) (pos 0)) ∙ sym (length-map (constants b) (λ v. s (Variable v))))
-        (λ j lt.
-        let l : j < length (constants b) = omega (arith, length-map (constants b) (λ v. get_or m (place_of b (Variable v)) (pos 0))) in
-        get_or-map (λ v. get_or m (place_of b (Variable v)) (pos 0)) (constants b) j no_constant (pos 0) l
-        ∙ holds.values (Variable (cell_at j)) (has_constant j l)
-        ∙ sym (get_or-map (λ v. s (Variable v)) (constants b) j no_constant (pos 0) l))
-
+  module _ (numbered : AreNumbered b) where
     -- ---- copying them, one variable after another
 
     -- the cells of a variable's constants are among all
-    pub has_room : (v : ℕ) (c : Option ℕ) (wide all : ℕ) → v < length b.vars → (var_at b v).constant ≡ c → wide ≡ var_width b v → all ≡ length (constants b)
+    pub has_room : ConstantsFit b → (v : ℕ) (c : Option ℕ) (wide all : ℕ) → v < length b.vars → (var_at b v).constant ≡ c → wide ≡ var_width b v → all ≡ length (constants b)
         → IfSome c (λ first. first + wide ≤ all)
-    has_room v None wide all lv is many long = tt {0}
-    has_room v (Some first) wide all lv is many long = omega (arith, fit.within v first lv is, constants_long b, many, long)
+    has_room fit v None wide all lv is many long = tt {0}
+    has_room fit v (Some first) wide all lv is many long = omega (arith, fit.within v first lv is, numbered.count, many, long)
 
     module _ (v : ℕ) (lv : v < length b.vars) (wide start : ℕ) (many : wide ≡ var_width b v) (begins : start ≡ var_start b v) (m old new : List ℤ) where
       of_other : (j : ℕ) → j < length (constants b) → (cell_at j).variable < v → (first : ℕ) → (var_at b v).constant ≡ Some first → (j < first) ⊎ (first + wide ≤ j)
@@ -64,7 +50,7 @@ module _ (b : BoundValue) where
           let i : ℕ = j - first in
           let lt : i < var_width b v = omega (arith, k, l, many) in
           let at : first + i ≡ j = omega (arith, l) in
-          let own : cell_at (first + i) ≡ record { variable = v; component = i } = ((constants_are_numbered b fit).numbers v first i lv is lt).1 in
+          let own : cell_at (first + i) ≡ record { variable = v; component = i } = (numbered.numbers v first i lv is lt).1 in
           let number : (cell_at j).variable ≡ v = ap (λ k. (cell_at k).variable) (sym at) ∙ ap (λ (x : VarCell). x.variable) own in
           absurd (omega (arith, before, number)))
           (λ (k : first + wide ≤ j). inr k)
@@ -83,14 +69,13 @@ module _ (b : BoundValue) where
 
       own : (j : ℕ) → j < length (constants b) → (cell_at j).variable ≡ v → Own j
       own j lj e =
-          let n = is_cell j lj in
-          let same : n.number ≡ v = omega (arith, n.variable, e) in
-          let width : var_width b n.number ≡ var_width b v = ap (var_width b) same in
+          let n = numbered.cells j lj in
+          let wide : var_width b (cell_at j).variable ≡ var_width b v = ap (var_width b) e in
           record {
             first = n.first;
-            is = ap (λ k. (var_at b k).constant) (sym same) ∙ n.constant;
-            at = omega (arith, n.component, n.from);
-            below = omega (arith, n.component, n.from, n.before, width);
+            is = ap (λ k. (var_at b k).constant) (sym e) ∙ n.constant;
+            at = n.number;
+            below = omega (arith, n.component, wide);
           }
 
       pub copied : (c : Option ℕ) → (var_at b v).constant ≡ c → CopiedFrom c wide start m old new → SoFar m old v → SoFar m new (v + 1)
@@ -113,5 +98,5 @@ module _ (b : BoundValue) where
         (long ∙ sym (length-map (constants b) (λ v. get_or m (place_of b (Variable v)) (pos 0))))
         (λ j lt.
         let l : j < length (constants b) = omega (arith, long) in
-        let n = is_cell j l in
-        so j l (omega (arith, n.variable, n.below, all)) ∙ sym (get_or-map (λ v. get_or m (place_of b (Variable v)) (pos 0)) (constants b) j no_constant (pos 0) l))
+        let n = numbered.cells j l in
+        so j l (omega (arith, n.variable, all)) ∙ sym (get_or-map (λ v. get_or m (place_of b (Variable v)) (pos 0)) (constants b) j no_constant (pos 0) l))

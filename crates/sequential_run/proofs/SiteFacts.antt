@@ -1,18 +1,17 @@
 -- The loop of an item is there, with its kernel.
-use Rattle.std.proofs.Common.{◌≡◌, ◌<◌, ◌≤◌, ℕ, zero, suc, ℤ, true, List, [], ◌∷◌, ◌++◌, map, length, get_or, take, drop, Option, None, Some, refl, sym, ap, ◌∙◌, subst, arith}
+use Rattle.std.proofs.Common.{◌≡◌, ◌<◌, ◌≤◌, ℕ, zero, suc, ℤ, true, List, [], ◌∷◌, ◌++◌, map, length, get_or, take, drop, sum_by, Some, refl, sym, ap, ◌∙◌, subst, arith}
 use Rattle.std.proofs.lemmas.List.{length-map, get_or-map, append-nil, drop_all, take_all}
 use Rattle.kernel_types.specs.declared.kernels.RKernel.{RKernel}
 use Rattle.kernel_types.specs.Resolved.{IsResolved}
 use Rattle.schedule_model.specs.Program.{is_loop}
 use Rattle.bound_program.specs.declared.sites.Site.{Site}
-use Rattle.bound_program.specs.Values.{BoundValue, SiteValue, site_of, no_site, ActValue, Exit, ItemValue, Free, Reduce, Ordered, Host}
-use Rattle.bound_program.specs.Fits.{Fits, SiteFits, TakesArgs, ActFits, ItemsFit, due}
+use Rattle.bound_program.specs.Values.{BoundValue, SiteValue, site_of, no_site}
+use Rattle.bound_program.specs.Fits.{Fits, SiteFits, TakesArgs, constant_cells}
 use Rattle.run_model.specs.Kernels.{constants, kernel_at}
 use Rattle.run_model.specs.Laws as laws
-use Rattle.run_model.specs.Laws.{IsLoopOf}
-use Rattle.run_model.specs.Programs.{item_at, kind_of, loop_of, act_in}
-use Rattle.run_model.proofs.Constants.{count, constants_long}
-use Rattle.run_model.proofs.Items.{loop_there}
+use Rattle.run_model.specs.Laws.{IsLoopOf, LoopsAreThere}
+use Rattle.run_model.specs.Constants.{AreNumbered}
+use Rattle.run_model.specs.Programs.{item_at, kind_of, loop_of}
 use Rattle.sequential_run.specs.Conditions.{LoopsObey}
 use Rattle.sequential_run.specs.Layouts.{HasRoom}
 
@@ -37,9 +36,6 @@ kernel_is (x ∷ xs) zero f lt = refl
 kernel_is (x ∷ xs) (suc k) f lt = kernel_is xs k f (omega arith)
 
 module _ (b : BoundValue) (fits : Fits b) where
-  pub item_loop_there : (k : ℕ) → is_loop (kind_of (item_at b k)) ≡ true → loop_of (item_at b k) < length b.sites
-  item_loop_there k h = loop_there b None b.trace k fits.items h
-
   pub site_fits : (xs : List Site) (n : ℕ) (x : Site) → b.sites ≡ map site_of xs → n < length xs → x ≡ get_or xs n x → SiteFits b (site_of x)
   site_fits xs n x same lt e =
       subst (SiteFits b) (ap (λ l. get_or l n no_site) same ∙ site_is xs n x lt e)
@@ -52,47 +48,24 @@ module _ (b : BoundValue) (fits : Fits b) where
     pub takes : length site.args ≡ f.params
     takes = takes_all b.kernels site.kernel (length site.args) f fit.kernel ∙ ap (λ (x : RKernel). x.params) (sym is)
 
-    pub resolved : (consts : ℕ) → consts ≡ length (constants b) → IsResolved consts f
-    resolved consts long = subst (λ n. IsResolved n f) (sym (long ∙ constants_long b))
-        (subst (λ (x : RKernel). IsResolved (count b) x) (sym is) (fits.kernels site.kernel f there).resolved)
+    pub resolved : AreNumbered b → (consts : ℕ) → consts ≡ length (constants b) → IsResolved consts f
+    resolved numbered consts long = subst (λ n. IsResolved n f) (sym (long ∙ numbered.count))
+        (subst (λ (x : RKernel). IsResolved (sum_by constant_cells b.vars) x) (sym is) (fits.kernels site.kernel f there).resolved)
 
     pub has_room : (n : ℕ) → HasRoom b.kernels n → f.scratch ≤ n
     has_room n h = let r = h site.kernel f there in let same : f.scratch ≡ (get_or b.kernels site.kernel f).scratch = ap (λ (x : RKernel). x.scratch) is in omega (arith, r, same)
 
-    pub is_loop_of : LoopsObey b → (k : ℕ) → laws.site_of b k ≡ site → is_loop (kind_of (item_at b k)) ≡ true → IsLoopOf b k f
-    is_loop_of obey k same h =
+    pub is_loop_of : LoopsAreThere → LoopsObey b → (k : ℕ) → laws.site_of b k ≡ site → is_loop (kind_of (item_at b k)) ≡ true → IsLoopOf b k f
+    is_loop_of there_is obey k same h =
         let kernel : kernel_at b.kernels (laws.site_of b k).kernel ≡ Some f =
         ap (λ (x : SiteValue). kernel_at b.kernels x.kernel) same ∙ kernel_is b.kernels site.kernel f there ∙ ap Some (sym is) in
         record {
           is_loop = h;
           kernel = kernel;
-          obeys = obey (loop_of (item_at b k)) f (item_loop_there k h) kernel;
+          obeys = obey (loop_of (item_at b k)) f (there_is b k fits h) kernel;
         }
 
 -- what was written through a slice of a whole list
 pub written_back : (a xs : List ℤ) (n : ℕ) → length a ≡ length xs → n ≡ length xs → take n (a ++ drop (length a) xs) ≡ a
 written_back a xs n long all =
     ap (λ l. take n (a ++ l)) (drop_all (length a) xs (omega (arith, long))) ∙ ap (take n) (append-nil a) ∙ take_all n a (omega (arith, long, all))
-
--- the statement of an item fits
-module _ (b : BoundValue) where
-  fits_at : (x : ItemValue) (a : ActValue) → x ≡ Host a → ActFits b (act_in x) → ActFits b a
-  fits_at x a e h = subst (λ y. ActFits b (act_in y)) e h
-
-  pub acts_fit : (o : Option ℕ) (xs : List ItemValue) (k : ℕ) → ItemsFit b o xs → ActFits b (act_in (get_or xs k (Host Exit)))
-  acts_fit o [] k f = tt {0}
-  acts_fit None (Free n ∷ xs) zero f = tt {0}
-  acts_fit None (Ordered n ∷ xs) zero f = tt {0}
-  acts_fit None (Host a ∷ xs) zero f = f.0
-  acts_fit None (Reduce n ∷ xs) k f = absurd f
-  acts_fit None (Free n ∷ xs) (suc k) f = acts_fit (due b n) xs k f.2
-  acts_fit None (Ordered n ∷ xs) (suc k) f = acts_fit None xs k f.2
-  acts_fit None (Host a ∷ xs) (suc k) f = acts_fit None xs k f.1
-  acts_fit (Some m) (Reduce n ∷ xs) zero f = tt {0}
-  acts_fit (Some m) (Reduce n ∷ xs) (suc k) f = acts_fit None xs k f.1
-  acts_fit (Some m) (Free n ∷ xs) k f = absurd f
-  acts_fit (Some m) (Ordered n ∷ xs) k f = absurd f
-  acts_fit (Some m) (Host a ∷ xs) k f = absurd f
-
-  pub act_fits : Fits b → (k : ℕ) (a : ActValue) → item_at b k ≡ Host a → ActFits b a
-  act_fits fits k a e = fits_at (item_at b k) a e (acts_fit None b.trace k fits.items)

@@ -1,6 +1,6 @@
 // The statements of `main` that are no loop.
 
-ghost use Rattle.std.specs.Prelude.{◌≡◌, ◌<◌, ◌≤◌, ◌+◌, ◌*◌, ◌++◌, ◌⊎◌, [], ℕ, pos, List, length, map, take, drop, option_map, slice_index_or, FitsSigned, IfOk, OnOk};
+ghost use Rattle.std.specs.Prelude.{◌≡◌, ◌<◌, ◌≤◌, ◌+◌, ◌++◌, ◌⊎◌, [], ℕ, pos, List, length, map, take, drop, option_map, slice_index_or, FitsSigned, IfOk, OnOk};
 ghost use Rattle.std.specs.Int.{w32};
 ghost use Rattle.kernel_types.specs.declared.faults.KernelFault.{KernelFault};
 ghost use Rattle.mesh_decl.specs.Mesh.{dat_count};

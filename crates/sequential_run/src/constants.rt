@@ -32,6 +32,8 @@ pub fn copy_constants(bound: &Bound, layout: &Layout, memory: &[i32], consts: &m
     requires consts { length consts.old ≡ length (constants (bound_of bound.now)) }
     ensures { consts.new ≡ constants_in (bound_of bound.now) memory.now }
 {
+    run_model::memory_holds();
+    run_model::constants_are_read();
     for (v, var) in bound.vars.iter().enumerate() {
         copy_constant(var, layout.vars[v], memory, consts);
     }

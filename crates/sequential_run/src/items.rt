@@ -64,6 +64,9 @@ fn run_site(
         → Holds (bound_of all.now.bound.now) memory.old s
         → LoopEnds (bound_of all.now.bound.now) memory.new result (loop_run (bound_of all.now.bound.now) k s) }
 {
+    run_model::items_are_there();
+    run_model::memory_holds();
+    run_model::constants_are_read();
     copy_constants(all.bound, all.layout, memory, consts);
     let looped = Looped {
         bound: all.bound,
@@ -88,6 +91,7 @@ fn run_loop(all: &Running<'_>, k: u32, site: u32, state: &mut State) -> Option<S
         → Ends (bound_of all.now.bound.now) state.new.memory.items state.new.out.items result
         (after_loop k state.old.out.items (loop_run (bound_of all.now.bound.now) k s)) }
 {
+    run_model::items_are_there();
     let site = &all.bound.sites[site as usize];
     let ran = run_site(
         all,
@@ -157,6 +161,7 @@ pub fn run_item(
         → Ends (bound_of all.now.bound.now) state.new.memory.items state.new.out.items r
         (after_item (program_of (bound_of all.now.bound.now)) k (Going s state.old.out.items))) }
 {
+    run_model::items_are_there();
     match item {
         Item::Free { site } => Ok(run_loop(all, k, *site, state)),
         Item::Reduce { .. } => Ok(None),

@@ -36,6 +36,7 @@ pub fn dat_place(bound: &Bound, layout: &Layout, dat: u32) -> Place
         ≡ set_size bound.now.mesh (dat_set bound.now.mesh dat) * dat_width (bound_of bound.now) dat }
     ensures within { result.from + result.count ≤ memory_length (bound_of bound.now) }
 {
+    run_model::memory_holds();
     bound.mesh.dat_count();
     let (set, dim) = bound.mesh.dat_shape(dat);
     Place {
@@ -53,6 +54,7 @@ fn element_place(bound: &Bound, layout: &Layout, dat: u32, element: u32) -> Plac
     ensures place { target_of result ≡ span_of (bound_of bound.now) (Element dat element) }
     ensures within { result.from + result.count ≤ memory_length (bound_of bound.now) }
 {
+    run_model::memory_holds();
     let (_, dim) = bound.mesh.dat_shape(dat);
     Place {
         from: layout.dats[dat as usize] + element as usize * dim as usize,
@@ -69,6 +71,7 @@ pub fn var_place(bound: &Bound, layout: &Layout, var: u32) -> Place
     ensures behind { layout.now.first_var ≤ result.from }
     ensures within { result.from + result.count ≤ memory_length (bound_of bound.now) }
 {
+    run_model::memory_holds();
     Place {
         from: layout.vars[var as usize],
         count: bound.vars[var as usize].start.as_slice().len(),

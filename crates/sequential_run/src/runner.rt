@@ -78,6 +78,7 @@ pub fn run(alloc: Global, bound: &Bound) -> Result<Outcome, OutOfMemory>
     ensures { IfOk result (IsRunOf (bound_of bound.now)) }
 {
     run_model::memory_holds();
+    run_model::constants_are_read();
     bound.mesh.dat_count();
     let (layout, memory) = lay_out(alloc, bound)?;
     let mut state = State {

@@ -11,7 +11,7 @@ pub returns-in_err-i : goal.returns-in_err-i
 returns-in_err-i c s out holds =
     let a = c.args.all.now in
     let p = err_from_is_err_and c.from_residual.result c.from_residual.ensures.1 in
-    index_faults (bound_of c.args.bound.now) c.memory_holds.ensures.variables c.args.memory.now c.variables_in-vars.result.now s holds
+    index_faults (bound_of c.args.bound.now) (c.memory_holds.ensures.order (bound_of c.args.bound.now)) c.memory_holds.ensures.variables c.args.memory.now c.variables_in-vars.result.now s holds
     c.args.var c.var_place-place.result.from c.var_place-place.result.count c.args.layout.now.first_var
     c.requires.var c.requires.some c.var_place-place.ensures.from c.var_place-place.ensures.count c.requires.begins.first_var c.var_place-place.ensures.behind c.variables_in-vars.ensures
     (option_map host_expr_of a.index.now) a.op a.op_at (host_expr_of a.value.now) a.at out
@@ -21,7 +21,7 @@ pub returns-in_err-z : goal.returns-in_err-z
 returns-in_err-z c s out holds =
     let a = c.args.all.now in
     let p = err_from_is_err_and c.from_residual-in_err-z.result c.from_residual-in_err-z.ensures.1 in
-    value_faults (bound_of c.args.bound.now) c.memory_holds.ensures.variables c.args.memory.now c.variables_in-vars.result.now s holds
+    value_faults (bound_of c.args.bound.now) (c.memory_holds.ensures.order (bound_of c.args.bound.now)) c.memory_holds.ensures.variables c.args.memory.now c.variables_in-vars.result.now s holds
     c.args.var c.var_place-place.result.from c.var_place-place.result.count c.args.layout.now.first_var
     c.requires.var c.requires.some c.var_place-place.ensures.from c.var_place-place.ensures.count c.requires.begins.first_var c.var_place-place.ensures.behind c.variables_in-vars.ensures
     (option_map host_expr_of a.index.now) a.op a.op_at (host_expr_of a.value.now) a.at out
@@ -32,7 +32,7 @@ pub returns : goal.returns
 returns c s out holds =
     let a = c.args.all.now in
     let some : 0 < c.var_place-place.result.count = omega (arith, c.requires.some, c.var_place-place.ensures.count) in
-    assigns (bound_of c.args.bound.now) c.memory_holds.ensures.variables c.args.memory.now c.variables_in-vars.result.now s holds
+    assigns (bound_of c.args.bound.now) (c.memory_holds.ensures.order (bound_of c.args.bound.now)) c.memory_holds.ensures.variables c.args.memory.now c.variables_in-vars.result.now s holds
     c.args.var c.var_place-place.result.from c.var_place-place.result.count c.args.layout.now.first_var
     c.requires.var c.requires.some c.var_place-place.ensures.from c.var_place-place.ensures.count c.requires.begins.first_var c.var_place-place.ensures.behind c.variables_in-vars.ensures
     (option_map host_expr_of a.index.now) a.op a.op_at (host_expr_of a.value.now) a.at out

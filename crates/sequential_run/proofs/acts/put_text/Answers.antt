@@ -7,7 +7,7 @@ use Rattle.sequential_run.proofs.ArgPlaces.{vars_within}
 use Rattle.sequential_run.proofs.acts.put_text.Goals as goal
 
 pub variables_in-requires : goal.variables_in-requires
-variables_in-requires c = omega (arith, vars_within (bound_of c.args.bound.now) c.args.layout.now c.requires.begins, c.requires.memory)
+variables_in-requires c = omega (arith, vars_within (bound_of c.args.bound.now) (c.memory_holds.ensures.order (bound_of c.args.bound.now)) c.args.layout.now c.requires.begins, c.requires.memory)
 
 pub returns : goal.returns
 returns c =

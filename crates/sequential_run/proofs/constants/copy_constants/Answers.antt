@@ -22,11 +22,11 @@ begins c = var_begins (bound_of c.args.bound.now) c.args.layout.now c.loop-v.v c
 
 pub copy_constant-requires-clause-memory : goal.copy_constant-requires-clause-memory
 copy_constant-requires-clause-memory c =
-    omega (arith, c.requires.memory, var_reaches (bound_of c.args.bound.now) c.loop-v.v c.index.result.now (length c.var-item.result.start) (below c) (begins c) (wide c))
+    omega (arith, c.requires.memory, var_reaches (bound_of c.args.bound.now) (c.memory_holds.ensures.order (bound_of c.args.bound.now)) c.loop-v.v c.index.result.now (length c.var-item.result.start) (below c) (begins c) (wide c))
 
 pub copy_constant-requires-clause-consts : goal.copy_constant-requires-clause-consts
 copy_constant-requires-clause-consts c =
-    has_room (bound_of c.args.bound.now) c.requires.fit c.loop-v.v c.var-item.result.constant (length c.var-item.result.start) (length c.loop-v.consts)
+    has_room (bound_of c.args.bound.now) (c.constants_are_read.ensures.numbered (bound_of c.args.bound.now) c.requires.fit) c.requires.fit c.loop-v.v c.var-item.result.constant (length c.var-item.result.start) (length c.loop-v.consts)
     (below c) (ap (λ (v : VarValue). v.constant) (own c)) (wide c) (c.loop-v.auto.consts ∙ c.requires.consts)
 
 pub loop-v-preserved : goal.loop-v-preserved
@@ -35,12 +35,12 @@ loop-v-preserved c =
     let lv : c.loop-v.v < length b.vars = omega (arith, length-map c.args.bound.now.vars.items var_of, c.loop-v-test.true, c.deref-var-items.ensures.len, c.args.bound.now.vars.ok.0) in
     let is : var_at b c.loop-v.v ≡ var_of c.var-item.result =
     var_item c.args.bound.now.vars.items c.deref-var-items.result.now c.loop-v.v c.var-item.result c.deref-var-items.ensures.value lv c.var-item.is in
-    copied b c.requires.fit c.loop-v.v lv (length c.var-item.result.start) c.index.result.now (sym (ap (λ (v : VarValue). length v.start) is))
+    copied b (c.constants_are_read.ensures.numbered b c.requires.fit) c.loop-v.v lv (length c.var-item.result.start) c.index.result.now (sym (ap (λ (v : VarValue). length v.start) is))
     (var_begins b c.args.layout.now c.loop-v.v c.index.result.now c.requires.begins lv c.index.ensures)
     c.args.memory.now c.loop-v.consts c.copy_constant.new.consts c.var-item.result.constant (ap (λ (v : VarValue). v.constant) is) c.copy_constant.ensures c.loop-v.invariant
 
 pub returns : goal.returns
 returns c =
     let l = length-map c.args.bound.now.vars.items var_of in
-    all_copied (bound_of c.args.bound.now) c.requires.fit c.args.memory.now c.loop-v.consts c.loop-v.v
+    all_copied (bound_of c.args.bound.now) (c.constants_are_read.ensures.numbered (bound_of c.args.bound.now) c.requires.fit) c.args.memory.now c.loop-v.consts c.loop-v.v
     (omega (arith, l, c.loop-v-test.false, c.deref-var-items.ensures.len, c.args.bound.now.vars.ok.0)) (c.loop-v.auto.consts ∙ c.requires.consts) c.loop-v.invariant

@@ -2,14 +2,16 @@ use Rattle.std.proofs.Common.{◌≡◌, ap, sym, ◌∙◌, subst}
 use Rattle.schedule_model.specs.Program as program
 use Rattle.schedule_model.specs.Program.{Kind}
 use Rattle.schedule_model.specs.Sequential.{item_from}
-use Rattle.bound_program.specs.Values.{bound_of, act_of, item_of}
-use Rattle.run_model.specs.Programs.{item_at, kind_of, program_of}
+use Rattle.bound_program.specs.Values.{bound_of, item_of}
+use Rattle.bound_program.specs.Fits.{ActFits}
+use Rattle.run_model.specs.Programs.{item_at, kind_of, act_in, program_of}
 use Rattle.sequential_run.specs.Steps.{Ends}
-use Rattle.sequential_run.proofs.SiteFacts.{act_fits}
 use Rattle.sequential_run.proofs.items.run_item.Goals as goal
 
 pub run_host-requires-clause-act : goal.run_host-requires-clause-act
-run_host-requires-clause-act c = act_fits (bound_of c.args.all.now.bound.now) c.requires.fits c.args.k (act_of c.in-Host.act) (c.requires.item ∙ ap item_of c.in-Host.is)
+run_host-requires-clause-act c =
+    let b = bound_of c.args.all.now.bound.now in
+    subst (λ x. ActFits b (act_in x)) (c.requires.item ∙ ap item_of c.in-Host.is) (c.items_are_there.ensures.acts b c.args.k c.requires.fits)
 
 pub returns-in-Free-clause-ends : goal.returns-in-Free-clause-ends
 returns-in-Free-clause-ends c s holds =

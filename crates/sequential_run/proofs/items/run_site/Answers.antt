@@ -19,7 +19,7 @@ run_elements-requires-clause-ready c =
       begins = c.requires.begins;
       site = c.requires.site;
       params = takes b c.requires.fits x c.requires.site f c.index.ensures;
-      resolved = resolved b c.requires.fits x c.requires.site f c.index.ensures (length c.copy_constants.new.consts) (c.copy_constants.auto.consts ∙ c.requires.consts);
+      resolved = resolved b c.requires.fits x c.requires.site f c.index.ensures (c.constants_are_read.ensures.numbered b c.requires.fits.constants) (length c.copy_constants.new.consts) (c.copy_constants.auto.consts ∙ c.requires.consts);
       memory = c.requires.memory;
       scratch = has_room b c.requires.fits x c.requires.site f c.index.ensures (length c.args.scratch.now) c.requires.scratch;
     }
@@ -28,5 +28,5 @@ pub returns : goal.returns
 returns c k s same loops holds =
     let b = bound_of c.args.all.now.bound.now in
     let x = site_of c.args.site.now in
-    c.run_elements.ensures k s same (is_loop_of b c.requires.fits x c.requires.site c.index.result.now c.index.ensures c.requires.obey k same loops) holds
-    (c.copy_constants.ensures ∙ constants_held b c.requires.fits.constants c.args.memory.now s holds)
+    c.run_elements.ensures k s same (is_loop_of b c.requires.fits x c.requires.site c.index.result.now c.index.ensures c.items_are_there.ensures.loops c.requires.obey k same loops) holds
+    (c.copy_constants.ensures ∙ constants_held b (c.constants_are_read.ensures.numbered b c.requires.fits.constants) (c.memory_holds.ensures.order b) c.args.memory.now s holds)

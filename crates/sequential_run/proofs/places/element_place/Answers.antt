@@ -7,7 +7,7 @@ use Rattle.sequential_run.proofs.places.element_place.Goals as goal
 within : (c : goal.After-row_known-1) → c.index.result.now + c.args.element * c.dat_shape-dim.result.1 + c.dat_shape-dim.result.1 ≤ memory_length (bound_of c.args.bound.now)
 within c =
     let b = bound_of c.args.bound.now in
-    element_fits b c.args.dat c.args.element c.index.result.now c.dat_shape-dim.result.1 c.requires.dat c.requires.element
+    element_fits b (c.memory_holds.ensures.order b) c.args.dat c.args.element c.index.result.now c.dat_shape-dim.result.1 c.requires.dat c.requires.element
     (dat_begins b c.args.layout.now c.args.dat c.index.result.now c.requires.begins c.requires.dat c.index.ensures) (ap (λ p. p.1) c.dat_shape-dim.ensures)
 
 pub overflow_add-result : goal.overflow_add-result

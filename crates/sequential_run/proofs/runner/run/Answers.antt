@@ -5,7 +5,6 @@ use Rattle.bound_program.specs.Values.{bound_of, var_of}
 use Rattle.bound_program.specs.Fits.{constant_cells}
 use Rattle.run_model.specs.Memory.{Holds}
 use Rattle.run_model.specs.Programs.{program_of}
-use Rattle.run_model.proofs.Constants.{constants_long}
 use Rattle.sequential_run.specs.Layouts.{HasRoom}
 use Rattle.sequential_run.proofs.runner.run.Goals as goal
 
@@ -19,7 +18,7 @@ run_items-requires-clause-state c =
     let b = bound_of c.args.bound.now in
     record {
       memory = (begins c).length;
-      consts = c.in_ok-no_constants.ensures ∙ ap (λ (l : List Var). sum_by constant_cells (map var_of l)) c.deref.ensures.value ∙ sym (constants_long b);
+      consts = c.in_ok-no_constants.ensures ∙ ap (λ (l : List Var). sum_by constant_cells (map var_of l)) c.deref.ensures.value ∙ sym (c.constants_are_read.ensures.numbered b c.requires.fits.constants).count;
       scratch = subst (HasRoom b.kernels) (let long : c.room_for.result ≡ length c.in_ok-vec.field-0.items = omega (arith, c.in_ok-vec.ensures.len, c.in_ok-vec.field-0.ok.0) in long) (subst (λ (l : List RKernel). HasRoom l c.room_for.result) c.deref-2.ensures.value c.room_for.ensures);
     }
 
