@@ -232,7 +232,6 @@ pub fn run_act(
     ensures { IfOk result (λ r. (s : Store) → Holds (bound_of bound.now) memory.old s
         → ActEnds (bound_of bound.now) memory.new s out.old.items out.new.items r (act_run (bound_of bound.now) s (act_of act.now))) }
 {
-    run_model::memory_holds();
     match act {
         Act::Clear { var } => {
             clear(bound, layout, *var, memory);

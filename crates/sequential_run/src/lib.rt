@@ -12,6 +12,8 @@ mod loops;
 mod outcome;
 mod places;
 mod runner;
+#[cfg(test)]
+mod tests;
 
 pub use bound_program::Bound;
 pub use kernel_types::KernelFault;
