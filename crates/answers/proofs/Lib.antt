@@ -8,5 +8,7 @@ mod Agreed
 mod Exist
 mod Complete
 mod WordsRefused
+mod Shown
+mod Reported
 mod OneFault
 mod Examples

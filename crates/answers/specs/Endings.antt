@@ -8,6 +8,7 @@ use Rattle.answers.specs.Refusal.{Refusal, Usage, CannotRead, status_of}
 use Rattle.answers.specs.Lines.{Answer, done, refused, faulted, whole_line, line_of}
 use Rattle.answers.specs.Words.{WordsAre, named_by}
 use Rattle.answers.specs.Answers.{Answers, ComesToBeRead}
+use Rattle.answers.specs.Laws.{SourceLacksTree}
 
 -- An answer; want of memory; a file that could not be read; an answer that could not be written.
 pub data Ending : Type 0 where
@@ -138,3 +139,27 @@ IsComplete c status =
 pub record IsUsage (c : Call) (status : ℕ) : Type 0 where
   pub only : status ≡ 2 → WordsAre c.words (Err Usage)
   pub where_refused : WordsAre c.words (Err Usage) → (status ≡ 2) ⊎ (status ≡ 1)
+
+-- What stands on `out`, by any answer over files that tell it: its bytes with status 0; its bytes or, where the count of `out`
+-- rose, a front of them with status 9; and a front of those of an answer with status 0 with status 4.
+pub record Shows (c : Call) (status : ℕ) (a : Answer) : Type 0 where
+  pub whole : status ≡ 0 → c.out.1 ≡ appended c.out.0 a.out
+  pub faulty : status ≡ 9 → (c.out.1 ≡ appended c.out.0 a.out) ⊎ (Rose c.writes.0 c.writes.1 × AppendsFront c.out.0 a.out c.out.1)
+  pub front : status ≡ 4 → (a.status ≡ 0) × Rose c.writes.0 c.writes.1 × AppendsFront c.out.0 a.out c.out.1
+
+abbrev pub IsShown : Call → ℕ → Type 0
+IsShown c status = (files : Files) (a : Answer) → TellTheAnswer c files → Answers c.words files a → Shows c status a
+
+-- What `err` gets: with every status but 1, 3 and 4 the line of any answer over files that tell it, unless the source has tokens
+-- and no tree.
+pub record Reports (c : Call) (status : ℕ) (files : Files) (a : Answer) : Type 0 where
+  pub line : List ℕ
+  pub reported : IsReported c line
+  pub of_answer : ¬ (status ≡ 1) → ¬ (status ≡ 3) → ¬ (status ≡ 4) → (line ≡ a.line) ⊎ SourceLacksTree c.words files
+
+abbrev pub AreReported : Call → ℕ → Type 0
+AreReported c status = (files : Files) (a : Answer) → TellTheAnswer c files → Answers c.words files a → Reports c status files a
+
+-- With every status but 0, 4 and 9 nothing is written to `out`.
+abbrev pub IsSilent : Call → ℕ → Type 0
+IsSilent c status = ¬ (status ≡ 0) → ¬ (status ≡ 4) → ¬ (status ≡ 9) → c.out.1 ≡ c.out.0

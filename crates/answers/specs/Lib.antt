@@ -4,5 +4,5 @@ pub mod Words
 pub mod Said
 pub mod Judgements
 pub mod Answers
-pub mod Endings
 pub mod Laws
+pub mod Endings

@@ -5,7 +5,7 @@ ghost use Rattle.clap.specs.Kinds.{IsAmong};
 ghost use Rattle.clap.specs.Faults.{fault_of};
 ghost use Rattle.clap.specs.declared.error.kind.ErrorKind.{ErrorKind as Kind};
 ghost use Rattle.answers.specs.Words.{command};
-ghost use Rattle.answers.specs.Endings.{Call, Ends, IsComplete, IsUsage};
+ghost use Rattle.answers.specs.Endings.{Call, Ends, IsComplete, IsUsage, IsShown, IsSilent, AreReported};
 ghost use Rattle.answers.specs.Laws.{AnswersAgree, AnswersExist};
 
 /// A law: `clap` has at most one kind of fault to answer the words with.
@@ -53,4 +53,25 @@ pub fn calls_are_complete()
 /// A law: where a call ends, its status is 2 exactly where the words are refused, unless memory ran out.
 pub fn usage_is_of_words()
     ensures { (c : Call) (status : ℕ) → Ends c status → IsUsage c status }
+{}
+
+/// A law: where a call ends, what stands on the output is what any answer over files that tell it has, whole or, where the
+/// count of the output rose, a front of it.
+pub fn calls_show_their_answers()
+    ensures { (c : Call) (status : ℕ) → Ends c status → IsShown c status }
+{
+    answers_agree();
+}
+
+/// A law: where a call ends with another status than 1, 3 and 4, the line for the errors is that of any answer over files that
+/// tell it, unless the source has tokens and no tree.
+pub fn calls_report_their_answers()
+    ensures { (c : Call) (status : ℕ) → Ends c status → AreReported c status }
+{
+    answers_agree();
+}
+
+/// A law: where a call ends with another status than 0, 4 and 9, nothing is written to the output.
+pub fn others_write_nothing()
+    ensures { (c : Call) (status : ℕ) → Ends c status → IsSilent c status }
 {}

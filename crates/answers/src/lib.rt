@@ -6,6 +6,9 @@ mod laws;
 mod limits;
 mod usage;
 
-pub use laws::{answers_agree, answers_exist, calls_are_complete, one_fault, usage_is_of_words};
+pub use laws::{
+    answers_agree, answers_exist, calls_are_complete, calls_report_their_answers,
+    calls_show_their_answers, one_fault, others_write_nothing, usage_is_of_words,
+};
 pub use limits::SOURCE_BYTES;
 pub use usage::{USAGE, VERSION};
