@@ -1,17 +1,26 @@
 //! The program `op2`.
 #![tactic(auto)]
 
-mod outcome;
+mod accesses;
+mod answered;
+mod files;
+mod limits;
+mod lines;
+mod meshes;
+#[cfg(test)]
+mod refusal_tests;
+mod refusals;
 mod report;
-mod steps;
+#[cfg(test)]
+mod run_tests;
+mod sources;
 #[cfg(test)]
 mod tests;
 mod top;
 mod words;
 
 use op_outside::{FileShelf, OutSink};
-use outcome::Outcome;
-use report::report;
+use report::{Line, report};
 use std::process::ExitCode;
 use std::rt::Env;
 use std::{env, io};
@@ -21,10 +30,7 @@ fn main(rt: HostRuntime) -> ExitCode {
     let mut err = OutSink::new(rt.stderr());
     let words = match words_of(&rt) {
         Ok(words) => words,
-        Err(outcome) => {
-            let _ = report(&mut err, outcome);
-            return ExitCode::from(outcome.status());
-        }
+        Err(line) => return ExitCode::from(report(&mut err, line)),
     };
     let mut out = OutSink::new(rt.stdout());
     let mut shelf = FileShelf::new(rt);
@@ -32,16 +38,16 @@ fn main(rt: HostRuntime) -> ExitCode {
 }
 
 // The words of the command line, the program's name first. No command has a word that isn't UTF-8.
-fn words_of(rt: &HostRuntime) -> Result<Vec<String>, Outcome<'static>> {
+fn words_of(rt: &HostRuntime) -> Result<Vec<String>, Line<'static>> {
     let args = match env::args(rt) {
         Ok(args) => args,
-        Err(error) if error.kind() == io::ErrorKind::InvalidData => return Err(Outcome::Usage),
-        Err(_) => return Err(Outcome::OutOfMemory),
+        Err(error) if error.kind() == io::ErrorKind::InvalidData => return Err(Line::Usage),
+        Err(_) => return Err(Line::OutOfMemory),
     };
     let mut words = Vec::new(rt.alloc());
     for word in args {
         if words.push(word).is_err() {
-            return Err(Outcome::OutOfMemory);
+            return Err(Line::OutOfMemory);
         }
     }
     Ok(words)

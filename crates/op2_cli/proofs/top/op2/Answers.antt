@@ -1,9 +1,14 @@
-use Rattle.op2_cli.specs.Words.{texts}
-use Rattle.op2_cli.specs.Outcome.{Seen}
-use Rattle.op2_cli.proofs.OneAnswer.{completes}
+use Rattle.std.proofs.Common.{refl}
+use Rattle.op2_cli.specs.Chains.{answer_of}
+use Rattle.op2_cli.proofs.Ended.{ended, failed, defined}
 use Rattle.op2_cli.proofs.top.op2.Goals as goal
 
-pub returns-clause-complete : goal.returns-clause-complete
-returns-clause-complete g c =
-    let seen : Seen = record { words = texts c.args.words.now.items; told = g.F.Shelf.told c.args.shelf.now; reads = (g.F.Shelf.faults c.args.shelf.now, g.F.Shelf.faults c.run-outcome.new.shelf); writes = (g.O.Sink.faults c.args.out.now, g.O.Sink.faults c.run-outcome.new.out); old = g.O.Sink.written c.args.out.now; new = g.O.Sink.written c.run-outcome.new.out } in
-    completes c.one_answer.ensures seen c.run-outcome.result c.status.result c.status.ensures c.run-outcome.ensures.ends
+pub returns-in-Ok : goal.returns-in-Ok
+returns-in-Ok g c =
+    defined _ _ c.calls_are_complete.ensures c.usage_is_of_words.ensures c.calls_show_their_answers.ensures c.calls_report_their_answers.ensures c.others_write_nothing.ensures
+    (ended _ _ (answer_of c.in-Ok.answer) c.in-Ok.ensures c.write_answer.ensures)
+
+pub returns-in-Err : goal.returns-in-Err
+returns-in-Err g c =
+    defined _ _ c.calls_are_complete.ensures c.usage_is_of_words.ensures c.calls_show_their_answers.ensures c.calls_report_their_answers.ensures c.others_write_nothing.ensures
+    (failed _ _ c.in-Err.failure c.in-Err.ensures refl c.write_failure.ensures.status c.write_failure.ensures.said)

@@ -1,0 +1,263 @@
+-- From the parts of the chain of judgements to the whole.
+use Rattle.std.proofs.Common.{◌≡◌, ℕ, ◌⊎◌, inl, inr, ◌≤◌, ◌<◌, zero, suc, arith, Bool, true, false, List, [], ◌∷◌, length, Option, None, Some, Result, Ok, Err, IfOk, IfErr, IfSome, refl, ap, sym, ◌∙◌, subst, true≢false}
+use Rattle.std.specs.List.{Contains}
+use Rattle.std.specs.Str.{bytes_eq}
+use Rattle.std.specs.Prelude.{if◌then◌else◌}
+use Rattle.std.proofs.lemmas.Slice.Eq.{bytes_eq-Decides}
+use Rattle.op_outside.specs.Outside.{Files}
+use Rattle.c_tree.specs.Tree.{ProgramTree}
+use Rattle.kernel_types.specs.declared.kernels.Resolved.{Resolved}
+use Rattle.answers.specs.Refusal as answer
+use Rattle.answers.specs.Refusal.{Refusal, SourceBytes, MeshBytes, CannotRead}
+use Rattle.answers.specs.Lines as lines
+use Rattle.answers.specs.Lines.{most, refused}
+use Rattle.answers.specs.Words.{Command, Run, WordsAre, names_of, named_by, names_in}
+use Rattle.answers.specs.Judgements.{IsHeld, SourceIs, MeshIs, TreeIs, TypesAre}
+use Rattle.answers.specs.Answers.{given, without, ProgramAnswers, CommandAnswers, Answers}
+use Rattle.answers.specs.Endings.{IsOfContents, IsSomeAnswer, Tells, TellsUntold, no_files}
+use Rattle.op2_cli.specs.declared.answered.Answer.{Answer}
+use Rattle.op2_cli.specs.declared.refusals.Failure.{Failure}
+use Rattle.op2_cli.specs.declared.refusals.Failure.TheVariants.{Unread, OutOfMemory}
+use Rattle.op2_cli.specs.declared.refusals.Halt.{Halt}
+use Rattle.op2_cli.specs.declared.refusals.Halt.TheVariants.{Refused, Failed}
+use Rattle.op2_cli.specs.Halts.{refusal_of, StopsWhere, SpoiltWhere, UnreadWhere}
+use Rattle.op2_cli.specs.Chains.{answer_of, MeshAnswers, TextAnswers, IsAnswered, AnswersBy, Over, AsksFor, AnswersOver}
+use Rattle.op2_cli.specs.Writes.{CallAnswers}
+
+-- ---- halts
+
+-- what a halt shows, where it follows
+pub stops_weaker : (P Q : Refusal → Type 0) (h : Halt) → ((r : Refusal) → P r → Q r) → StopsWhere P h → StopsWhere Q h
+stops_weaker P Q (Refused r) step s = step (refusal_of r) s
+stops_weaker P Q (Failed (Unread n)) step s = absurd s
+stops_weaker P Q (Failed OutOfMemory) step s = tt
+
+-- a refusal of what a file holds is an answer
+pub spoilt_answers : (J : Refusal → Type 0) (P : lines.Answer → Type 0) (h : Halt)
+    → ((r : Refusal) → J r → P (refused r))
+    → SpoiltWhere J h
+    → StopsWhere (λ r. IsAnswered P (refused r)) h
+spoilt_answers J P h step s =
+    stops_weaker (λ r. J r × IsOfContents r) (λ r. IsAnswered P (refused r)) h (λ r j. (step r j.0, inr (inl (r, j.1, refl)))) s
+
+-- ---- names of files
+
+contains_first : (n : List ℕ) (ns : List (List ℕ)) → Contains (n ∷ ns) n
+contains_first n ns = (0, omega arith, refl)
+
+contains_later : (m n : List ℕ) (ns : List (List ℕ)) → Contains ns n → Contains (m ∷ ns) n
+contains_later m n ns (k, below, is) = (suc k, omega (arith, below), is)
+
+-- of one name
+of_one : (m n : List ℕ) → Contains (m ∷ []) n → m ≡ n
+of_one m n (zero, below, is) = is
+of_one m n (suc k, below, is) = absurd (omega (arith, below))
+
+-- ---- over files
+
+module _ (told : Option Files) (name : List ℕ) (names : List (List ℕ)) (P : Files → lines.Answer → Type 0) (rose : Type 0) where
+  -- an answer that is P over files that are told, and one of some contents
+  over : (Q : lines.Answer → Type 0) (a : lines.Answer) → IfSome told (λ files. Q a → P files a) → IsAnswered Q a → Over told (name ∷ names) P a
+  over Q a step h = go told step
+    where
+      go : (o : Option Files) → IfSome o (λ files. Q a → P files a) → Over o (name ∷ names) P a
+      go None s = h.1
+      go (Some files) s = s h.0
+
+  -- the answer of what holds what was read
+  pub lifted : (Q : lines.Answer → Type 0) (r : Result Answer Halt)
+      → ((a : lines.Answer) → IfSome told (λ files. Q a → P files a))
+      → AnswersBy Q r
+      → AnswersOver told (name ∷ names) P rose r
+  lifted Q (Ok a) step h = over Q (answer_of a) (step (answer_of a)) h
+  lifted Q (Err (Refused r)) step h = over Q (refused (refusal_of r)) (step (refused (refusal_of r))) h
+  lifted Q (Err (Failed (Unread n))) step h = absurd h
+  lifted Q (Err (Failed OutOfMemory)) step h = tt
+
+-- ---- the reading of a file
+
+-- a file that isn't there
+pub missing : (limit : answer.Limit) (name : List ℕ) (files : Files) → IsHeld limit name (without name files name) (Err (CannotRead name))
+missing limit name files = rw ((bytes_eq-Decides name name).1 refl) refl
+
+-- the first file that is asked for could not be read, or is refused
+module _ (told : Option Files) (limit : answer.Limit) (name : List ℕ) (names : List (List ℕ)) (rose : Type 0) where
+  pub read_first : (rest : Files → List ℕ → lines.Answer → Type 0) (h : Halt)
+      → UnreadWhere told limit name rose h
+      → AnswersOver told (name ∷ names) (λ files. given (IsHeld limit name (files name)) (rest files)) rose (Err h)
+  read_first rest (Refused r) u = go told u
+    where
+      go : (o : Option Files)
+          → UnreadWhere o limit name rose (Refused r)
+          → Over o (name ∷ names) (λ files. given (IsHeld limit name (files name)) (rest files)) (refused (refusal_of r))
+      go None c = inr (inl (refusal_of r, c, refl))
+      go (Some files) held = inl (refusal_of r, held, refl)
+  read_first rest (Failed (Unread other)) u = (u.1, subst (Contains (name ∷ names)) (sym u.0) (contains_first name names), go told)
+    where
+      asked : (files : Files)
+          → given (IsHeld limit name (without other.now files name)) (rest (without other.now files)) (refused (CannotRead other.now))
+      asked files =
+          subst
+          (λ n. given (IsHeld limit name (without n files name)) (rest (without n files)) (refused (CannotRead n)))
+          (sym u.0) (inl (CannotRead name, missing limit name files, refl))
+
+      go : (o : Option Files) → AsksFor o (λ files. given (IsHeld limit name (files name)) (rest files)) other.now
+      go None = (no_files, asked no_files)
+      go (Some files) = asked files
+  read_first rest (Failed OutOfMemory) u = tt
+
+-- ---- the source, and then the mesh
+
+module _ (p : ProgramTree) (types : Resolved) (source mesh bytes : List ℕ) (fits : length bytes ≤ most SourceBytes) (reads : TreeIs bytes (Ok p)) (typed : TypesAre p (Ok types)) where
+  -- where the source holds these bytes, the answer over the mesh is that of both
+  over_both : (files : Files) (a : lines.Answer)
+      → SourceIs source files (Ok bytes)
+      → MeshAnswers p types mesh files a
+      → ProgramAnswers Run source mesh files a
+  over_both files a held m = inr (bytes, held, inr (p, reads, inr (types, typed, m)))
+
+  -- the mesh is asked for, where the source is there
+  mesh_asked : (files : Files) → SourceIs source files (Ok bytes) → ProgramAnswers Run source mesh (without mesh files) (refused (CannotRead mesh))
+  mesh_asked files held = go (bytes_eq source mesh) refl
+    where
+      no_mesh : MeshAnswers p types mesh (without mesh files) (refused (CannotRead mesh))
+      no_mesh = inl (CannotRead mesh, missing MeshBytes mesh files, refl)
+
+      go : (b : Bool) → bytes_eq source mesh ≡ b → ProgramAnswers Run source mesh (without mesh files) (refused (CannotRead mesh))
+      go true e =
+          let same : source ≡ mesh = (bytes_eq-Decides source mesh).0 e in
+          inl (CannotRead source, rw e refl, ap (λ n. refused (CannotRead n)) (sym same))
+      go false e = over_both (without mesh files) (refused (CannotRead mesh)) (rw e held) no_mesh
+
+  -- a file that holds these bytes
+  abbrev holding : Files
+  holding name = if bytes_eq name source then Some bytes else None
+
+  pub both_answered : (told : Option Files) (rose : Type 0) (r : Result Answer Halt)
+      → IfSome told (λ files. SourceIs source files (Ok bytes))
+      → AnswersOver told (mesh ∷ []) (MeshAnswers p types mesh) rose r
+      → AnswersOver told (source ∷ mesh ∷ []) (ProgramAnswers Run source mesh) rose r
+  both_answered (Some files) rose (Ok a) held h = over_both files (answer_of a) held h
+  both_answered None rose (Ok a) held h = h
+  both_answered (Some files) rose (Err (Refused r)) held h = over_both files (refused (refusal_of r)) held h
+  both_answered None rose (Err (Refused r)) held h = h
+  both_answered told rose (Err (Failed (Unread n))) held h = (h.0, contains_later source n.now (mesh ∷ []) h.1, go told held (of_one mesh n.now h.1))
+    where
+      go : (o : Option Files) → IfSome o (λ files. SourceIs source files (Ok bytes)) → mesh ≡ n.now → AsksFor o (ProgramAnswers Run source mesh) n.now
+      go None held e =
+          subst
+          (AsksFor None (ProgramAnswers Run source mesh))
+          e (holding, mesh_asked holding (rw ((bytes_eq-Decides source source).1 refl) (refl, fits)))
+      go (Some files) held e = subst (AsksFor (Some files) (ProgramAnswers Run source mesh)) e (mesh_asked files held)
+  both_answered told rose (Err (Failed OutOfMemory)) held h = tt
+
+-- ---- parts that the code goes along
+
+module _ (p : ProgramTree) (types : Resolved) (mesh text : List ℕ) (told : Option Files) (rose : Type 0) where
+  -- the answer over the text is that over the mesh which holds it
+  pub text_answered : (r : Result Answer Halt)
+      → IfSome told (λ files. MeshIs mesh files (Ok text))
+      → AnswersBy (TextAnswers p types text) r
+      → AnswersOver told (mesh ∷ []) (MeshAnswers p types mesh) rose r
+  text_answered r held h = lifted told mesh [] (MeshAnswers p types mesh) rose (TextAnswers p types text) r (λ a. step a told held) h
+    where
+      step : (a : lines.Answer) (o : Option Files)
+          → IfSome o (λ files. MeshIs mesh files (Ok text))
+          → IfSome o (λ files. TextAnswers p types text a → MeshAnswers p types mesh files a)
+      step a None held = tt
+      step a (Some files) held = λ q. inr (text, held, q)
+
+-- the answer is that of a refusal of which J is so
+abbrev RefusedBy : (Refusal → Type 0) → lines.Answer → Type 0
+RefusedBy J a = (r : Refusal) × J r × (a ≡ refused r)
+
+module _ (source mesh bytes : List ℕ) (told : Option Files) (rose : Type 0) (held : IfSome told (λ files. SourceIs source files (Ok bytes))) where
+  -- what a judgement of the source refuses
+  refused_over : (J : Refusal → Type 0) (h : Halt)
+      → ((files : Files) (r : Refusal) → SourceIs source files (Ok bytes) → J r → ProgramAnswers Run source mesh files (refused r))
+      → SpoiltWhere J h
+      → AnswersOver told (source ∷ mesh ∷ []) (ProgramAnswers Run source mesh) rose (Err h)
+  refused_over J h step s =
+      lifted told source (mesh ∷ []) (ProgramAnswers Run source mesh) rose (RefusedBy J) (Err h) (λ a. go a told held) (spoilt_answers J (RefusedBy J) h (λ r j. (r, j, refl)) s)
+    where
+      go : (a : lines.Answer) (o : Option Files)
+          → IfSome o (λ files. SourceIs source files (Ok bytes))
+          → IfSome o (λ files. RefusedBy J a → ProgramAnswers Run source mesh files a)
+      go a None held = tt
+      go a (Some files) held = λ q. subst (ProgramAnswers Run source mesh files) (sym q.2) (step files q.0 held q.1)
+
+  pub tree_refused_over : (h : Halt)
+      → SpoiltWhere (λ r. TreeIs bytes (Err r)) h
+      → AnswersOver told (source ∷ mesh ∷ []) (ProgramAnswers Run source mesh) rose (Err h)
+  tree_refused_over h s = refused_over (λ r. TreeIs bytes (Err r)) h (λ files r held j. inr (bytes, held, inl (r, j, refl))) s
+
+  pub types_refused_over : (p : ProgramTree) (h : Halt)
+      → TreeIs bytes (Ok p)
+      → SpoiltWhere (λ r. TypesAre p (Err r)) h
+      → AnswersOver told (source ∷ mesh ∷ []) (ProgramAnswers Run source mesh) rose (Err h)
+  types_refused_over p h reads s =
+      refused_over (λ r. TypesAre p (Err r)) h (λ files r held j. inr (bytes, held, inr (p, reads, inl (r, j, refl)))) s
+
+-- ---- the words
+
+-- what is said of answers over files, where it follows
+over_weaker : (told : Option Files) (names : List (List ℕ)) (P Q : Files → lines.Answer → Type 0) (a : lines.Answer)
+    → ((files : Files) → P files a → Q files a)
+    → Over told names P a
+    → Over told names Q a
+over_weaker (Some files) names P Q a step h = step files h
+over_weaker None [] P Q a step h = step no_files h
+over_weaker None (n ∷ ns) P Q a step h = h
+
+asks_weaker : (told : Option Files) (P Q : Files → lines.Answer → Type 0) (name : List ℕ)
+    → ((files : Files) (a : lines.Answer) → P files a → Q files a)
+    → AsksFor told P name
+    → AsksFor told Q name
+asks_weaker (Some files) P Q name step h = step (without name files) (refused (CannotRead name)) h
+asks_weaker None P Q name step h = (h.0, step (without name h.0) (refused (CannotRead name)) h.1)
+
+weaker : (told : Option Files) (names : List (List ℕ)) (P Q : Files → lines.Answer → Type 0) (rose : Type 0) (r : Result Answer Halt)
+    → ((files : Files) (a : lines.Answer) → P files a → Q files a)
+    → AnswersOver told names P rose r
+    → AnswersOver told names Q rose r
+weaker told names P Q rose (Ok a) step h = over_weaker told names P Q (answer_of a) (λ files. step files (answer_of a)) h
+weaker told names P Q rose (Err (Refused r)) step h =
+    over_weaker told names P Q (refused (refusal_of r)) (λ files. step files (refused (refusal_of r))) h
+weaker told names P Q rose (Err (Failed (Unread n))) step h = (h.0, h.1, asks_weaker told P Q n.now step h.2)
+weaker told names P Q rose (Err (Failed OutOfMemory)) step h = tt
+
+-- the command's answer is that of its words
+pub command_answered : (words : List (List ℕ)) (told : Option Files) (c : Command) (rose : Type 0) (r : Result Answer Halt)
+    → WordsAre words (Ok c)
+    → AnswersOver told (names_of c) (CommandAnswers c) rose r
+    → AnswersOver told (named_by words) (Answers words) rose r
+command_answered words told c rose r w h =
+    subst (λ ns. AnswersOver told ns (Answers words) rose r) (sym (ap names_in w))
+    (weaker told (names_of c) (CommandAnswers c) (Answers words) rose r (λ files a x. inr (c, w, x)) h)
+
+-- and so is the refusal of the words
+pub words_refused : (words : List (List ℕ)) (told : Option Files) (rose : Type 0) (h : Halt)
+    → StopsWhere (λ r. WordsAre words (Err r)) h
+    → AnswersOver told (named_by words) (Answers words) rose (Err h)
+words_refused words told rose (Refused r) w =
+    subst (λ ns. Over told ns (Answers words) (refused (refusal_of r))) (sym (ap names_in w)) (go told)
+  where
+    go : (o : Option Files) → Over o [] (Answers words) (refused (refusal_of r))
+    go None = inl (refusal_of r, w, refl)
+    go (Some files) = inl (refusal_of r, w, refl)
+words_refused words told rose (Failed (Unread n)) w = absurd w
+words_refused words told rose (Failed OutOfMemory) w = tt
+
+-- words that ask what the program says of itself
+pub itself_answered : (told : Option Files) (P : lines.Answer → Type 0) (a : lines.Answer) → P a → Over told [] (λ files. P) a
+itself_answered None P a h = h
+itself_answered (Some files) P a h = h
+
+-- the answer that a call tells
+pub tells : (words : List (List ℕ)) (told : Option Files) (a : lines.Answer) → Over told (named_by words) (Answers words) a → Tells words told a
+tells words (Some files) a h = h
+tells words None a h = go (named_by words) h
+  where
+    go : (names : List (List ℕ)) → Over None names (Answers words) a → TellsUntold words names a
+    go [] x = x
+    go (n ∷ ns) x = x

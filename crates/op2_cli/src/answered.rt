@@ -1,0 +1,196 @@
+// The answer to the words: the judgements in order, up to the first refusal, and then what is asked for.
+
+ghost use Rattle.std.specs.Prelude.{◌≡◌, ◌≤◌, [], ◌∷◌, All, map, length, string_bytes, option_map, IfOk};
+ghost use Rattle.op_outside.specs.Outside.{Rose};
+ghost use Rattle.c_tree.specs.View.{program_of};
+ghost use Rattle.mesh_text.specs.declared.entry.TheConstants.{MESH_BYTES};
+ghost use Rattle.sequential_run.specs.Outcomes.{stop_of};
+ghost use Rattle.answers.specs.Refusal.{status_of};
+ghost use Rattle.answers.specs.Lines as lines;
+ghost use Rattle.answers.specs.Words.{Run, names_of, named_by};
+ghost use Rattle.answers.specs.Answers.{ran, ProgramAnswers, CommandAnswers, Answers};
+ghost use Rattle.op2_cli.specs.Halts.{refusal_of, command_of, IsJudged};
+ghost use Rattle.op2_cli.specs.Chains.{answer_of, TextAnswers, MeshAnswers, AnswersBy, AnswersOver};
+ghost use Rattle.op2_cli.specs.Writes.{CallAnswers};
+
+use crate::accesses::judge_accesses;
+use crate::files::file_of;
+use crate::lines::{put_fault, put_refusal};
+use crate::meshes::{bound_of, entries_of};
+use crate::refusals::{Failure, Halt, Limit, Refusal};
+use crate::sources::{tree_of, types_of};
+use crate::words::{Asked, read_words};
+use answers::{USAGE, VERSION};
+use c_tree::Program;
+use kernel_types::Resolved;
+use op_num::OutOfMemory;
+use op_outside::Shelf;
+use sequential_run::{Outcome, run};
+use std::alloc::Global;
+
+/// An answer: the bytes for the output, and the line for the errors.
+#[derive(Debug, Drop)]
+pub enum Answer {
+    /// All is well, and these bytes are the output.
+    Done(Vec<u8>),
+    /// A run had a fault, and this was printed before it.
+    Faulted { out: Vec<u8>, line: Vec<u8> },
+    /// The words or a file are refused, with this status.
+    Refused { status: u8, line: Vec<u8> },
+}
+
+// The answer that says this, and nothing else.
+fn done(alloc: Global, text: &str) -> Result<Answer, OutOfMemory>
+    ensures { IfOk result (λ a. answer_of a ≡ lines.done text.now) }
+{
+    Ok(Answer::Done(text.as_bytes().to_vec(alloc)?))
+}
+
+// The status of a refusal.
+fn status_of(refusal: &Refusal<'_>) -> u8
+    ensures { result ≡ status_of (refusal_of refusal.now) }
+{
+    match refusal {
+        Refusal::Usage => 2,
+        Refusal::CannotRead(_) => 3,
+        Refusal::NoTokens { .. } => 5,
+        Refusal::NoTree { .. } => 5,
+        Refusal::TooDeep { .. } => 5,
+        Refusal::BadName { .. } => 5,
+        Refusal::BadBinding { .. } => 5,
+        Refusal::BadTarget { .. } => 5,
+        Refusal::BadAccess { .. } => 5,
+        Refusal::BadMesh { .. } => 6,
+        Refusal::BeyondLimit { .. } => 10,
+    }
+}
+
+// The answer of a refusal.
+fn refused(alloc: Global, refusal: &Refusal<'_>) -> Result<Answer, OutOfMemory>
+    ensures { IfOk result (λ a. answer_of a ≡ lines.refused (refusal_of refusal.now)) }
+{
+    let mut line = Vec::new(alloc);
+    put_refusal(&mut line, refusal)?;
+    Ok(Answer::Refused {
+        status: status_of(refusal),
+        line,
+    })
+}
+
+// The answer of a run.
+fn ran(alloc: Global, outcome: Outcome) -> Result<Answer, OutOfMemory>
+    ensures { IfOk result (λ a. answer_of a ≡ ran (option_map stop_of outcome.stop) outcome.out.items) }
+{
+    let Some(stop) = outcome.stop else {
+        return Ok(Answer::Done(outcome.out));
+    };
+    let mut line = Vec::new(alloc);
+    put_fault(&mut line, &stop)?;
+    Ok(Answer::Faulted {
+        out: outcome.out,
+        line,
+    })
+}
+
+// The answer of a program over the text of a mesh.
+fn over_text<'a>(
+    alloc: Global,
+    program: &Program,
+    types: Resolved,
+    text: &[u8],
+) -> Result<Answer, Halt<'a>>
+    requires judged { IsJudged (program_of program.now) types }
+    requires text { length text.now ≤ MESH_BYTES }
+    ensures { AnswersBy (TextAnswers (program_of program.now) types text.now) result }
+{
+    let entries = entries_of(alloc, text)?;
+    let bound = bound_of(alloc, program, types, &entries)?;
+    judge_accesses(alloc, &bound)?;
+    let outcome = run(alloc, &bound)?;
+    Ok(ran(alloc, outcome)?)
+}
+
+// The answer of a program over the mesh in a file.
+fn over_mesh<'a, F: Shelf>(
+    alloc: Global,
+    shelf: &mut F,
+    program: &Program,
+    types: Resolved,
+    mesh: &'a str,
+) -> Result<Answer, Halt<'a>>
+    requires judged { IsJudged (program_of program.now) types }
+    requires lent { F.lends shelf.old mesh.now }
+    ensures { AnswersOver (F.told shelf.old) (mesh.now ∷ []) (MeshAnswers (program_of program.now) types mesh.now)
+        (Rose (F.faults shelf.old) (F.faults shelf.new)) result }
+{
+    let text = file_of(alloc, shelf, mesh, Limit::MeshBytes)?;
+    over_text(alloc, program, types, &text)
+}
+
+// The answer of the program in a file over the mesh in a file.
+fn over_files<'a, F: Shelf>(
+    alloc: Global,
+    shelf: &mut F,
+    source: &'a str,
+    mesh: &'a str,
+) -> Result<Answer, Halt<'a>>
+    requires source { F.lends shelf.old source.now }
+    requires mesh { F.lends shelf.old mesh.now }
+    ensures { AnswersOver (F.told shelf.old) (source.now ∷ mesh.now ∷ []) (ProgramAnswers Run source.now mesh.now)
+        (Rose (F.faults shelf.old) (F.faults shelf.new)) result }
+{
+    let bytes = file_of(alloc, shelf, source, Limit::SourceBytes)?;
+    let program = tree_of(alloc, &bytes)?;
+    let types = types_of(alloc, &program)?;
+    over_mesh(alloc, shelf, &program, types, mesh)
+}
+
+// The answer to what is asked for.
+fn to_asked<'a, F: Shelf>(
+    alloc: Global,
+    shelf: &mut F,
+    asked: Asked<'a>,
+) -> Result<Answer, Halt<'a>>
+    requires { All (λ name. F.lends shelf.old name) (names_of (command_of asked)) }
+    ensures { AnswersOver (F.told shelf.old) (names_of (command_of asked.entry)) (CommandAnswers (command_of asked.entry))
+        (Rose (F.faults shelf.old) (F.faults shelf.new)) result }
+{
+    match asked {
+        Asked::Run { source, mesh } => over_files(alloc, shelf, source, mesh),
+        Asked::Usage => Ok(done(alloc, USAGE)?),
+        Asked::Version => Ok(done(alloc, VERSION)?),
+    }
+}
+
+// The answer to the words, where nothing is refused.
+fn to_words<'a, F: Shelf>(
+    alloc: Global,
+    words: &'a Vec<String>,
+    shelf: &mut F,
+) -> Result<Answer, Halt<'a>>
+    requires { All (λ name. F.lends shelf.old name) (named_by (map string_bytes words.now.items)) }
+    ensures { AnswersOver (F.told shelf.old) (named_by (map string_bytes words.now.items)) (Answers (map string_bytes words.now.items))
+        (Rose (F.faults shelf.old) (F.faults shelf.new)) result }
+{
+    let asked = read_words(alloc, words)?;
+    to_asked(alloc, shelf, asked)
+}
+
+/// The answer to the words, or what failed before there is one.
+pub fn answered<'a, F: Shelf>(
+    alloc: Global,
+    words: &'a Vec<String>,
+    shelf: &mut F,
+) -> Result<Answer, Failure<'a>>
+    requires { All (λ name. F.lends shelf.old name) (named_by (map string_bytes words.now.items)) }
+    ensures { CallAnswers (map string_bytes words.now.items) (F.told shelf.old) (Rose (F.faults shelf.old) (F.faults shelf.new)) result }
+{
+    match to_words(alloc, words, shelf) {
+        Ok(answer) => Ok(answer),
+        Err(Halt::Failed(failure)) => Err(failure),
+        Err(Halt::Refused(refusal)) => match refused(alloc, &refusal) {
+            Ok(answer) => Ok(answer),
+            Err(_) => Err(Failure::OutOfMemory),
+        },
+    }
+}

@@ -1,0 +1,53 @@
+// The limits of sizes.
+
+ghost use Rattle.std.specs.Prelude.{◌≡◌};
+ghost use Rattle.answers.specs.Lines.{most, limit_name};
+ghost use Rattle.op2_cli.specs.Halts.{limit_of};
+
+use crate::refusals::Limit;
+use answers::SOURCE_BYTES;
+use bound_program::{
+    MAX_ARGUMENTS, MAX_CELLS, MAX_DATS, MAX_DIM, MAX_MAPS, MAX_SETS, MAX_SIZE, MAX_TRACE,
+    MAX_WEIGHT,
+};
+use mesh_decl::{MESH_BYTES, MESH_VALUES};
+
+/// The greatest size that the limit allows.
+pub fn most(limit: Limit) -> u64
+    ensures { result ≡ most (limit_of limit) }
+{
+    match limit {
+        Limit::SourceBytes => SOURCE_BYTES,
+        Limit::MeshBytes => MESH_BYTES,
+        Limit::MeshValues => MESH_VALUES,
+        Limit::Sets => MAX_SETS,
+        Limit::Maps => MAX_MAPS,
+        Limit::Dats => MAX_DATS,
+        Limit::SetSize => MAX_SIZE,
+        Limit::Dim => MAX_DIM,
+        Limit::MeshCells => MAX_CELLS,
+        Limit::Arguments => MAX_ARGUMENTS,
+        Limit::Trace => MAX_TRACE,
+        Limit::PrintWeight => MAX_WEIGHT,
+    }
+}
+
+/// The name of the limit, as lines have it.
+pub fn limit_name(limit: Limit) -> &'static [u8]
+    ensures { result.now ≡ limit_name (limit_of limit) }
+{
+    match limit {
+        Limit::SourceBytes => b"source-bytes",
+        Limit::MeshBytes => b"mesh-bytes",
+        Limit::MeshValues => b"mesh-values",
+        Limit::Sets => b"sets",
+        Limit::Maps => b"maps",
+        Limit::Dats => b"dats",
+        Limit::SetSize => b"set-size",
+        Limit::Dim => b"dim",
+        Limit::MeshCells => b"mesh-cells",
+        Limit::Arguments => b"arguments",
+        Limit::Trace => b"trace",
+        Limit::PrintWeight => b"print-weight",
+    }
+}

@@ -1,0 +1,169 @@
+// The lines on the errors, each appended whole.
+
+ghost use Rattle.std.specs.Prelude.{◌≡◌, ◌++◌, codes, OnOk};
+ghost use Rattle.std.specs.Fmt.{decimal};
+ghost use Rattle.answers.specs.Refusal.{BadTarget};
+ghost use Rattle.answers.specs.Lines.{at_place, numbered, said_of, line_of, fault_name, part_name, fault_line};
+ghost use Rattle.op2_cli.specs.Halts.{refusal_of};
+ghost use Rattle.sequential_run.specs.Outcomes.{stop_of};
+
+use crate::limits::{limit_name, most};
+use crate::refusals::Refusal;
+use c_tree::Pos;
+use kernel_types::KernelFault;
+use op_num::{Fault, OutOfMemory, put_u64};
+use sequential_run::Stop;
+
+// A place in the source.
+fn put_place(out: &mut Vec<u8>, at: Pos) -> Result<(), OutOfMemory>
+    ensures { OnOk result (out.new.items ≡ out.old.items ++ at_place at) }
+{
+    out.extend_from_slice(b" at ")?;
+    put_u64(out, at.line as u64)?;
+    out.extend_from_slice(b":")?;
+    put_u64(out, at.column as u64)
+}
+
+// What is refused, and a number.
+fn put_counted(out: &mut Vec<u8>, what: &[u8], number: u64) -> Result<(), OutOfMemory>
+    ensures { OnOk result (out.new.items ≡ out.old.items ++ what.now ++ codes " " ++ decimal number) }
+{
+    out.extend_from_slice(what)?;
+    out.extend_from_slice(b" ")?;
+    put_u64(out, number)
+}
+
+// What is refused, its number and its place.
+fn put_numbered(out: &mut Vec<u8>, what: &[u8], number: u8, at: Pos) -> Result<(), OutOfMemory>
+    ensures { OnOk result (out.new.items ≡ out.old.items ++ numbered what.now number at) }
+{
+    put_counted(out, what, number as u64)?;
+    put_place(out, at)
+}
+
+// What is refused, and its place.
+fn put_placed(out: &mut Vec<u8>, what: &[u8], at: Pos) -> Result<(), OutOfMemory>
+    ensures { OnOk result (out.new.items ≡ out.old.items ++ what.now ++ at_place at) }
+{
+    out.extend_from_slice(what)?;
+    put_place(out, at)
+}
+
+// An entry of a map that is no element.
+fn put_target(
+    out: &mut Vec<u8>,
+    at: Pos,
+    map: &[u8],
+    element: u32,
+    place: u32,
+) -> Result<(), OutOfMemory>
+    ensures { OnOk result (out.new.items ≡ out.old.items ++ said_of (BadTarget at map.now element place)) }
+{
+    put_numbered(out, b"source bind", 10, at)?;
+    put_named(out, b" map ", map)?;
+    put_entry(out, element, place)
+}
+
+// What a name is of, and the name.
+fn put_named(out: &mut Vec<u8>, what: &[u8], name: &[u8]) -> Result<(), OutOfMemory>
+    ensures { OnOk result (out.new.items ≡ out.old.items ++ (what.now ++ name.now)) }
+{
+    out.extend_from_slice(what)?;
+    out.extend_from_slice(name)
+}
+
+// The element and the place of an entry of a map.
+fn put_entry(out: &mut Vec<u8>, element: u32, place: u32) -> Result<(), OutOfMemory>
+    ensures { OnOk result (out.new.items ≡ out.old.items ++ codes " element " ++ decimal element ++ codes " place " ++ decimal place) }
+{
+    put_counted(out, b" element", element as u64)?;
+    put_counted(out, b" place", place as u64)
+}
+
+// What is refused, without what all lines begin and end with.
+fn put_said(out: &mut Vec<u8>, refusal: &Refusal<'_>) -> Result<(), OutOfMemory>
+    ensures { OnOk result (out.new.items ≡ out.old.items ++ said_of (refusal_of refusal.now)) }
+{
+    match refusal {
+        Refusal::Usage => out.extend_from_slice(b"usage"),
+        Refusal::CannotRead(name) => put_named(out, b"cannot read ", name.as_bytes()),
+        Refusal::NoTokens { number, at } => put_numbered(out, b"source lex", *number, *at),
+        Refusal::NoTree { at } => put_placed(out, b"source syntax", *at),
+        Refusal::TooDeep { at } => put_placed(out, b"source depth", *at),
+        Refusal::BadName { number, at } => put_numbered(out, b"source type", *number, *at),
+        Refusal::BadBinding { number, at } => put_numbered(out, b"source bind", *number, *at),
+        Refusal::BadTarget {
+            at,
+            map,
+            element,
+            place,
+        } => put_target(out, *at, map.bytes(), *element, *place),
+        Refusal::BadAccess { number, at } => put_numbered(out, b"source access", *number, *at),
+        Refusal::BadMesh { number, line } => {
+            put_counted(out, b"mesh", *number as u64)?;
+            put_counted(out, b" line", *line as u64)
+        }
+        Refusal::BeyondLimit { limit, size } => {
+            out.extend_from_slice(b"limit ")?;
+            put_counted(out, limit_name(*limit), most(*limit))?;
+            put_counted(out, b"", *size)
+        }
+    }
+}
+
+/// Appends the line of a refusal.
+pub fn put_refusal(out: &mut Vec<u8>, refusal: &Refusal<'_>) -> Result<(), OutOfMemory>
+    ensures { OnOk result (out.new.items ≡ out.old.items ++ line_of (refusal_of refusal.now)) }
+{
+    out.extend_from_slice(b"op2: ")?;
+    put_said(out, refusal)?;
+    out.extend_from_slice(b"\n")
+}
+
+// The name of a kind of fault.
+fn fault_name(kind: Fault) -> &'static [u8]
+    ensures { result.now ≡ fault_name kind }
+{
+    match kind {
+        Fault::DivZero => b"div-zero",
+        Fault::ShiftCount => b"shift-count",
+        Fault::Index => b"index",
+    }
+}
+
+// The element at which a loop stopped, or that a statement of `main` did.
+fn put_part(out: &mut Vec<u8>, element: Option<u32>) -> Result<(), OutOfMemory>
+    ensures { OnOk result (out.new.items ≡ out.old.items ++ part_name element) }
+{
+    match element {
+        Some(element) => put_counted(out, b"element", element as u64),
+        None => out.extend_from_slice(b"host"),
+    }
+}
+
+/// Appends the line of a fault.
+pub fn put_fault(out: &mut Vec<u8>, stop: &Stop) -> Result<(), OutOfMemory>
+    ensures { OnOk result (out.new.items ≡ out.old.items ++ fault_line (stop_of stop.now)) }
+{
+    put_named(out, b"op2: ", b"fault item ")?;
+    put_stop(out, stop.item, stop.element)?;
+    put_kind(out, stop.fault)?;
+    out.extend_from_slice(b"\n")
+}
+
+// The item, and where in it the run stopped.
+fn put_stop(out: &mut Vec<u8>, item: u32, element: Option<u32>) -> Result<(), OutOfMemory>
+    ensures { OnOk result (out.new.items ≡ out.old.items ++ decimal item ++ codes " " ++ part_name element) }
+{
+    put_u64(out, item as u64)?;
+    out.extend_from_slice(b" ")?;
+    put_part(out, element)
+}
+
+// The kind of a fault, and its place.
+fn put_kind(out: &mut Vec<u8>, fault: KernelFault) -> Result<(), OutOfMemory>
+    ensures { OnOk result (out.new.items ≡ out.old.items ++ codes " " ++ fault_name fault.kind ++ at_place fault.at) }
+{
+    out.extend_from_slice(b" ")?;
+    put_placed(out, fault_name(fault.kind), fault.at)
+}

@@ -1,0 +1,102 @@
+// What the program can refuse, and what ends a call before there is an answer.
+
+use c_tree::Pos;
+use op_num::Name;
+use std::alloc::AllocError;
+
+/// A size that has a limit.
+#[derive(Clone, Copy, PartialEq, Eq, Debug)]
+pub enum Limit {
+    SourceBytes,
+    MeshBytes,
+    MeshValues,
+    Sets,
+    Maps,
+    Dats,
+    SetSize,
+    Dim,
+    MeshCells,
+    Arguments,
+    Trace,
+    PrintWeight,
+}
+
+/// A refusal: one variant for each line that the program writes about its words and its files.
+#[derive(Debug, Drop)]
+pub enum Refusal<'a> {
+    /// The words are not those of a command.
+    Usage,
+    /// The file of that name isn't there.
+    CannotRead(&'a str),
+    /// The source has no tokens.
+    NoTokens {
+        number: u8,
+        at: Pos,
+    },
+    /// The source has no tree.
+    NoTree {
+        at: Pos,
+    },
+    /// The tree of the source has too many levels.
+    TooDeep {
+        at: Pos,
+    },
+    /// A rule on names and types is broken.
+    BadName {
+        number: u8,
+        at: Pos,
+    },
+    /// The source can't be bound to the mesh.
+    BadBinding {
+        number: u8,
+        at: Pos,
+    },
+    /// An entry of the map of that name is no element.
+    BadTarget {
+        at: Pos,
+        map: Name,
+        element: u32,
+        place: u32,
+    },
+    /// A kernel doesn't keep to the accesses of its arguments.
+    BadAccess {
+        number: u8,
+        at: Pos,
+    },
+    /// The mesh text spells no entries.
+    BadMesh {
+        number: u8,
+        line: u32,
+    },
+    /// A size is beyond its limit.
+    BeyondLimit {
+        limit: Limit,
+        size: u64,
+    },
+}
+
+/// What ends a call that has no answer: a file could not be read, or memory ran out.
+#[derive(Clone, Copy, PartialEq, Eq, Debug)]
+pub enum Failure<'a> {
+    Unread(&'a str),
+    OutOfMemory,
+}
+
+/// What ends a judgement that gives nothing.
+#[derive(Debug, Drop)]
+pub enum Halt<'a> {
+    Refused(Refusal<'a>),
+    Failed(Failure<'a>),
+}
+
+impl<'a> From<AllocError> for Halt<'a> {
+    ghost use Rattle.std.specs.Prelude.{◌≡◌};
+    ghost use Rattle.op2_cli.specs.declared.refusals.Halt.TheVariants.{Failed};
+    ghost use Rattle.op2_cli.specs.declared.refusals.Failure.TheVariants.{OutOfMemory};
+
+    ghost from_gives = { λ _ e. e ≡ Failed OutOfMemory };
+
+    fn from(_: AllocError) -> Halt<'a> {
+        Halt::Failed(Failure::OutOfMemory)
+    }
+}
