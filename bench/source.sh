@@ -1,6 +1,6 @@
 #!/bin/sh
 # Times `op2 run` on sources of doubling size, and shows each run's peak memory. The sources have kernels with statements of
-# every form, up to the 1 MiB that a source may have; the program reads them and answers that it can't run them yet.
+# every form, up to the 1 MiB that a source may have; their `main` does nothing.
 # Then times reading a source of 1 MiB with 100,000 names, and resolving them (crates/name_bench).
 # Usage: bench/source.sh [BYTES ..]     (131072 262144 524288 1048576 where none is given)
 here=$(CDPATH= cd -- "$(dirname -- "$0")/.." && pwd) || exit 1

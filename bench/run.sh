@@ -1,0 +1,111 @@
+#!/bin/sh
+# Times `op2 run` on grids of doubling size: the residual on edges (examples/residual.c), and a program in the manner of OP2's airfoil, with nodes,
+# cells, edges, boundary edges and ten turns of five loops. Prints time and peak memory, beside those of plain C loops where gcc is there.
+# Usage: bench/run.sh [N ..]     (cells a side; 100 200 400 where none is given)
+here=$(CDPATH= cd -- "$(dirname -- "$0")/.." && pwd) || exit 1
+work=$(mktemp -d) || exit 1
+trap 'rm -rf "$work"' EXIT
+"$here/op2" run "$here/examples/bump.c" "$here/examples/bump.mesh" >/dev/null || exit 1
+[ $# -gt 0 ] || set -- 100 200 400
+cat >"$work/airfoil.c" <<'C'
+extern int nnode; extern int ncell; extern int nedge; extern int nbedge;
+extern int cell[]; extern int ecell[]; extern int bcell[]; extern int wall0[]; extern int x0[]; extern int q0[]; extern int zero[];
+void save(const int *q, int *old) { old[0] = q[0]; }
+void area(const int *a, const int *b, const int *d, int *adt) { adt[0] = ABS(b[0] - a[0]) + ABS(d[1] - a[1]) + 1; }
+void flux(const int *qa, const int *qb, const int *aa, const int *ab, int *ra, int *rb) {
+  int f = (qa[0] - qb[0]) / (aa[0] + ab[0]); ra[0] -= f; rb[0] += f;
+}
+void bound(const int *w, int *r) { r[0] += w[0]; }
+void update(const int *old, int *q, int *r, int *change) { q[0] = old[0] + r[0]; *change += ABS(r[0]); r[0] = 0; }
+int main(int argc, char **argv) {
+  op_set nodes = op_decl_set(nnode, "nodes"); op_set cells = op_decl_set(ncell, "cells");
+  op_set edges = op_decl_set(nedge, "edges"); op_set bedges = op_decl_set(nbedge, "bedges");
+  op_map pcell = op_decl_map(cells, nodes, 4, cell, "pcell"); op_map pedge = op_decl_map(edges, cells, 2, ecell, "pedge");
+  op_map pbedge = op_decl_map(bedges, cells, 1, bcell, "pbedge");
+  op_dat x = op_decl_dat(nodes, 2, "int", x0, "x"); op_dat q = op_decl_dat(cells, 1, "int", q0, "q");
+  op_dat old = op_decl_dat(cells, 1, "int", zero, "old"); op_dat adt = op_decl_dat(cells, 1, "int", zero, "adt");
+  op_dat res = op_decl_dat(cells, 1, "int", zero, "res"); op_dat w = op_decl_dat(bedges, 1, "int", wall0, "w");
+  int change = 0;
+  for (int t = 0; t < 10; t++) {
+    op_par_loop(save, "save", cells, op_arg_dat(q, -1, OP_ID, 1, "int", OP_READ), op_arg_dat(old, -1, OP_ID, 1, "int", OP_WRITE));
+    op_par_loop(area, "area", cells, op_arg_dat(x, 0, pcell, 2, "int", OP_READ), op_arg_dat(x, 1, pcell, 2, "int", OP_READ),
+      op_arg_dat(x, 3, pcell, 2, "int", OP_READ), op_arg_dat(adt, -1, OP_ID, 1, "int", OP_WRITE));
+    op_par_loop(flux, "flux", edges, op_arg_dat(q, 0, pedge, 1, "int", OP_READ), op_arg_dat(q, 1, pedge, 1, "int", OP_READ),
+      op_arg_dat(adt, 0, pedge, 1, "int", OP_READ), op_arg_dat(adt, 1, pedge, 1, "int", OP_READ),
+      op_arg_dat(res, 0, pedge, 1, "int", OP_INC), op_arg_dat(res, 1, pedge, 1, "int", OP_INC));
+    op_par_loop(bound, "bound", bedges, op_arg_dat(w, -1, OP_ID, 1, "int", OP_READ), op_arg_dat(res, 0, pbedge, 1, "int", OP_INC));
+    op_par_loop(update, "update", cells, op_arg_dat(old, -1, OP_ID, 1, "int", OP_READ), op_arg_dat(q, -1, OP_ID, 1, "int", OP_WRITE),
+      op_arg_dat(res, -1, OP_ID, 1, "int", OP_RW), op_arg_gbl(&change, 1, "int", OP_INC));
+  }
+  op_printf("change %d\n", change);
+  op_exit();
+}
+C
+cat >"$work/plain.c" <<'C'
+#include <stdio.h>
+#include <stdlib.h>
+static int scan(FILE *f) { int v; if (fscanf(f, "%d", &v) != 1) exit(1); return v; }
+static int *ints(FILE *f) { char s[64]; int n; if (fscanf(f, " ints %63s %d", s, &n) != 2) exit(1);
+  int *v = malloc(4 * (size_t)(n ? n : 1)); for (int i = 0; i < n; i++) v[i] = scan(f); return v; }
+static int one(FILE *f) { char s[64]; int n; if (fscanf(f, " int %63s %d", s, &n) != 2) exit(1); return n; }
+int main(int argc, char **argv) {
+  FILE *f = fopen(argv[1], "r"); if (!f || argc < 2) return 1;
+  if (fscanf(f, "op2mesh 1")) return 1;
+  int nn = one(f), nc = one(f), ne = one(f), nb = one(f); (void)nn;
+  int *cell = ints(f), *ecell = ints(f), *bcell = ints(f), *w = ints(f), *x = ints(f), *q = ints(f), *res = ints(f);
+  int *old = calloc(nc, 4), *adt = calloc(nc, 4); unsigned change = 0;
+  for (int t = 0; t < 10; t++) {
+    for (int i = 0; i < nc; i++) old[i] = q[i];
+    for (int i = 0; i < nc; i++) { int *a = x + 2 * cell[4 * i], *b = x + 2 * cell[4 * i + 1], *d = x + 2 * cell[4 * i + 3];
+      adt[i] = abs(b[0] - a[0]) + abs(d[1] - a[1]) + 1; }
+    for (int i = 0; i < ne; i++) { int a = ecell[2 * i], b = ecell[2 * i + 1];
+      int v = (q[a] - q[b]) / (adt[a] + adt[b]); res[a] -= v; res[b] += v; }
+    for (int i = 0; i < nb; i++) res[bcell[i]] += w[i];
+    for (int i = 0; i < nc; i++) { q[i] = old[i] + res[i]; change += abs(res[i]); res[i] = 0; }
+  }
+  printf("change %d\n", (int)change);
+  return 0;
+}
+C
+[ -n "$(command -v gcc)" ] && gcc -O2 -fwrapv -o "$work/plain" "$work/plain.c"
+cat >"$work/bench.py" <<'PY'
+import os, resource, subprocess, sys, time
+op2, examples, work, sizes = sys.argv[1], sys.argv[2], sys.argv[3], [int(n) for n in sys.argv[4:]]
+
+def write(name, entries):
+    with open(name, "w") as f:
+        f.write("op2mesh 1\n")
+        for key, value in entries:
+            if isinstance(value, int):
+                f.write(f"int {key} {value}\n")
+            else:
+                f.write(f"ints {key} {len(value)}\n" + (" ".join(map(str, value)) + "\n" if value else ""))
+        f.write("done\n")
+
+def timed(what, words):
+    pid = os.fork()
+    if pid == 0:
+        null = os.open(os.devnull, os.O_WRONLY); os.dup2(null, 1); os.execv(words[0], words)
+    begun = time.time(); _, status, used = os.wait4(pid, 0)
+    print(f"{what}: status {os.waitstatus_to_exitcode(status)}, {time.time() - begun:.2f} s, {used.ru_maxrss / 1024:.0f} MiB at the peak", flush=True)
+
+for n in sizes:
+    node = lambda i, j: j * (n + 1) + i
+    cell = lambda i, j: j * n + i
+    cells = [(i, j) for j in range(n) for i in range(n)]
+    across = [(cell(i, j), cell(i + 1, j)) for j in range(n) for i in range(n - 1)]
+    up = [(cell(i, j), cell(i, j + 1)) for j in range(n - 1) for i in range(n)]
+    edges = [c for e in across + up for c in e]
+    rim = [cell(i, 0) for i in range(n)] + [cell(i, n - 1) for i in range(n)] + [cell(0, j) for j in range(n)] + [cell(n - 1, j) for j in range(n)]
+    write(work + "/residual.mesh", [("nnode", n * n), ("nedge", len(edges) // 2), ("edge", edges), ("x0", [i % 1000 for i in range(n * n)]), ("r0", [0] * (n * n))])
+    write(work + "/airfoil.mesh", [
+        ("nnode", (n + 1) ** 2), ("ncell", n * n), ("nedge", len(edges) // 2), ("nbedge", 4 * n),
+        ("cell", [v for i, j in cells for v in (node(i, j), node(i + 1, j), node(i + 1, j + 1), node(i, j + 1))]),
+        ("ecell", edges), ("bcell", rim), ("wall0", [1] * n + [-1] * n + [0] * (2 * n)),
+        ("x0", [v for j in range(n + 1) for i in range(n + 1) for v in (i, j)]), ("q0", [i + j for i, j in cells]), ("zero", [0] * (n * n))])
+    timed(f"residual, {len(edges) // 2} edges", [op2, "run", examples + "/residual.c", work + "/residual.mesh"])
+    timed(f"airfoil, {n * n} cells", [op2, "run", work + "/airfoil.c", work + "/airfoil.mesh"])
+    if os.path.exists(work + "/plain"):
+        timed(f"plain C, {n * n} cells", [work + "/plain", work + "/airfoil.mesh"])
+PY
+python3 "$work/bench.py" "$here/op2" "$here/examples" "$work" "$@"
