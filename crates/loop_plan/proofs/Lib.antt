@@ -1,0 +1,13 @@
+pub mod StepsCounted
+pub mod Counting
+pub mod Numbers
+pub mod Behind
+pub mod History
+pub mod Ranges
+pub mod Imports
+pub mod Exporting
+pub mod Lines
+pub mod Pairing
+pub mod Collecting
+pub mod Receiving
+pub mod PlansMore

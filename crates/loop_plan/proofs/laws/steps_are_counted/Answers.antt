@@ -1,0 +1,5 @@
+use Rattle.loop_plan.proofs.Counting.{steps_counted}
+use Rattle.loop_plan.proofs.laws.steps_are_counted.Goals as goal
+
+pub returns : goal.returns
+returns c = steps_counted

@@ -1,0 +1,12 @@
+use Rattle.std.proofs.Common.{◌≡◌, ◌++◌, map}
+use Rattle.rank_sets.specs.Below.{listed}
+use Rattle.rank_sets.specs.RankSet.{has}
+use Rattle.loop_plan.specs.Pairs.{pair}
+use Rattle.loop_plan.proofs.messages.push_messages.Given as goal
+
+abbrev pub invariant-loop-rank : goal.invariant-loop-rank
+invariant-loop-rank l =
+    l.pairs.items ++ map (pair l.owner) (listed 64 (has l.rest)) ≡ l.initial.pairs.items ++ map (pair l.owner) (listed 64 (has l.fn.receivers))
+
+abbrev pub decreases-loop-rank : goal.decreases-loop-rank
+decreases-loop-rank l = l.rest.bits

@@ -1,0 +1,19 @@
+-- A mesh on several ranks.
+use Rattle.std.specs.Prelude.{List}
+use Rattle.mesh_decl.specs.Mesh.{MeshValue}
+use Rattle.mesh_decl.specs.declared.owners.Owners.{Owners}
+use Rattle.mesh_decl.specs.declared.owners.Perms.{Perms}
+use Rattle.mesh_decl.specs.Owners.{AreOwners, ArePerms}
+use Rattle.halo_lists.specs.declared.types.Halos.{Halos}
+use Rattle.halo_lists.specs.Halos.{AreHalos}
+use Rattle.local_mesh.specs.declared.types.RankMesh.{RankMesh}
+use Rattle.local_mesh.specs.LocalMesh.{AreRankMeshes}
+
+-- these are the halos and local meshes of a mesh by some owners and new numbers
+pub record Distributed (g : MeshValue) (h : Halos) (meshes : List RankMesh) : Type 0 where
+  pub owners : Owners
+  pub numbers : Perms
+  pub are_owners : AreOwners g owners
+  pub are_perms : ArePerms g numbers
+  pub are_halos : AreHalos g owners h
+  pub are_meshes : AreRankMeshes g owners numbers meshes

@@ -1,0 +1,20 @@
+-- What the plan of an item holds.
+use Rattle.std.specs.Prelude.{◌≡◌, ℕ, ◌<◌, List, map, slice_index_or}
+use Rattle.rank_sets.specs.Below.{listed}
+use Rattle.mesh_decl.specs.Mesh.{dat_count}
+use Rattle.halo_lists.specs.declared.types.Halos.{Halos}
+use Rattle.bound_program.specs.Values.{BoundValue}
+use Rattle.loop_plan.specs.declared.types.ItemPlan.{ItemPlan}
+use Rattle.loop_plan.specs.Values.{ItemPlanValue, item_plan_of, no_item_plan}
+use Rattle.loop_plan.specs.Needs.{exchanged_at}
+use Rattle.loop_plan.specs.Pairs.{pairs_below}
+use Rattle.loop_plan.specs.Exports.{passes_by_exports}
+
+-- by one bit a dat and the lists of exports, the exchanges and messages of item k
+pub record IsItemPlan (b : BoundValue) (h : Halos) (k : ℕ) (i : ItemPlanValue) : Type 0 where
+  pub exchange : i.exchange ≡ listed (dat_count b.mesh) (exchanged_at b k)
+  pub pairs : i.pairs ≡ pairs_below (passes_by_exports b.mesh h i.exchange) h.ranks h.ranks
+
+-- the plans of the first items
+abbrev pub AreItemPlans : BoundValue → Halos → ℕ → List ItemPlan → Type 0
+AreItemPlans b h n plans = (k : ℕ) → k < n → IsItemPlan b h k (slice_index_or (map item_plan_of plans) k no_item_plan)

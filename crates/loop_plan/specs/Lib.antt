@@ -1,0 +1,14 @@
+pub mod Values
+pub mod Needs
+pub mod Pairs
+pub mod Exports
+pub mod Distributed
+pub mod Places
+pub mod StepOutline
+pub mod Counted
+pub mod Counts
+pub mod StepCounts
+pub mod ItemPlans
+pub mod Proper
+pub mod Spaced
+pub mod PlanText

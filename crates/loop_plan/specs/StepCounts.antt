@@ -1,0 +1,37 @@
+-- How many steps a program has on these ranks.
+use Rattle.std.specs.Prelude.{ℕ, ◌+◌, ◌*◌, Bool, cond, List, length}
+use Rattle.rank_sets.specs.Below.{listed}
+use Rattle.mesh_decl.specs.Mesh.{dat_count}
+use Rattle.local_mesh.specs.declared.types.RankMesh.{RankMesh}
+use Rattle.bound_program.specs.Values.{BoundValue}
+use Rattle.bound_program.specs.Fits.{site_at}
+use Rattle.loop_plan.specs.Counted.{sum_below}
+use Rattle.loop_plan.specs.Needs.{item_at, exchanged_at}
+use Rattle.loop_plan.specs.Pairs.{passes, pairs_below}
+use Rattle.loop_plan.specs.Places.{places_of}
+use Rattle.loop_plan.specs.StepOutline.{is_free, loop_of}
+
+module _ (b : BoundValue) (meshes : List RankMesh) where
+  -- the dats that an item exchanges
+  abbrev pub exchange_of : ℕ → List ℕ
+  exchange_of k = listed (dat_count b.mesh) (exchanged_at b k)
+
+  -- how many messages an item has
+  abbrev pub message_count : ℕ → ℕ
+  message_count k = length (pairs_below (passes b.mesh meshes (exchange_of k)) (length meshes) (length meshes))
+
+  -- how many places all ranks execute of a loop
+  abbrev pub place_count : ℕ → ℕ
+  place_count s = sum_below (places_of meshes (site_at b s)) (length meshes)
+
+  -- two steps for each message and each place of an item, or one join
+  abbrev pub steps_at : ℕ → ℕ
+  steps_at k = cond (is_free (item_at b k)) (2 * message_count k + 2 * place_count (loop_of (item_at b k))) 1
+
+  -- all steps
+  abbrev pub program_steps : ℕ
+  program_steps = sum_below steps_at (length b.trace)
+
+-- the limit
+abbrev pub max_steps : ℕ
+max_steps = 8388608

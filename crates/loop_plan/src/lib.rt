@@ -1,0 +1,24 @@
+//! Plans: which dats each item exchanges and between which ranks, which places the ranks execute, and their colours.
+#![tactic(auto)]
+
+mod dirty;
+mod exchange;
+mod items;
+mod laws;
+mod messages;
+mod needs;
+mod stream;
+mod types;
+
+pub use colouring::Colours;
+pub use dirty::Dirty;
+pub use exchange::LoopRun;
+pub use items::item_plans;
+pub use laws::{
+    bound_is_in_range, exports_are_messages, imports_are_exports, lines_are_spaced,
+    one_bit_gives_exchanges, standard_is_counted, steps_are_counted,
+};
+pub use needs::is_scattering;
+pub use schedule_steps::Step;
+pub use stream::{Listed, Steps};
+pub use types::{ItemPlan, Pair, Plan, PlanRefusal, SitePlan, SitePlans};
