@@ -1,5 +1,5 @@
 -- Messages go where something is exported.
-use Rattle.std.proofs.Common.{◌≡◌, ◌<◌, ◌↔◌, ℕ, zero, suc, Bool, true, false, refl, sym, ap, subst, ◌∙◌, arith, ⊎_elim, List, [], ◌∷◌, length, get_or, take, drop, map}
+use Rattle.std.proofs.Common.{◌≡◌, ◌<◌, ◌≤◌, ◌+◌, ◌^◌, ◌↔◌, ℕ, zero, suc, Bool, true, false, refl, sym, ap, subst, ◌∙◌, arith, ⊎_elim, List, [], ◌∷◌, length, get_or, take, drop, map}
 use Rattle.std.specs.Prelude.{◌||◌, nat_eq}
 use Rattle.std.specs.List.{list_any}
 use Rattle.std.proofs.lemmas.Bool.{cases_Bool, false≢true}
@@ -13,8 +13,8 @@ use Rattle.local_mesh.specs.declared.types.LocalSet.{LocalSet}
 use Rattle.local_mesh.specs.declared.types.RankMesh.{RankMesh}
 use Rattle.local_mesh.specs.Local.{earlier, AreApart}
 use Rattle.local_mesh.specs.Parts.{by_new}
-use Rattle.local_mesh.specs.LocalMesh.{IsLocalSet, IsRankMesh, AreRankMeshes, originals_in}
-use Rattle.local_mesh.proofs.Numbered.{groups_apart}
+use Rattle.local_mesh.specs.LocalMesh.{IsLocalSet, IsRankMesh, AreRankMeshes, originals_in, executed_in}
+use Rattle.local_mesh.proofs.Numbered.{groups_apart, number_few}
 use Rattle.loop_plan.specs.Pairs.{sets_of, own_in, owned, imported, imports_from}
 use Rattle.loop_plan.proofs.Imports.{witness, owned_is_own, own_is_owned, imported_is_import, imported_below, import_is_imported}
 
@@ -31,10 +31,11 @@ module _ (g : MeshValue) (o : Owners) (p : Perms) (meshes : List RankMesh) where
     is : IsLocalSet g o p t r set
     originals : originals_in (sets_of meshes r) t ≡ set.original
     own : own_in (sets_of meshes r) t ≡ set.own
+    executed : executed_in (sets_of meshes r) t ≡ set.own + set.exec
 
   module _ (perms : ArePerms g p) (h : AreRankMeshes g o p meshes) where
     local : (r t : ℕ) → r < o.ranks → t < set_count g → IsLocal r t
-    unfolding sets_of own_in originals_in
+    unfolding sets_of own_in executed_in originals_in
     local r t lr lt =
         let lm : r < length meshes = (let e : length meshes ≡ o.ranks = h.count in omega arith) in
         let m : (x : RankMesh) × ((d : RankMesh) → get_or meshes r d ≡ x) = pick meshes r lm in
@@ -49,6 +50,8 @@ module _ (g : MeshValue) (o : Owners) (p : Perms) (meshes : List RankMesh) where
               ∙ (get_or-map (λ (x : LocalSet). x.original) m.0.sets.items t s.0 [] ls ∙ ap (λ (x : LocalSet). x.original) (s.1 s.0));
           own = ap (λ (z : List LocalSet). get_or (map (λ (x : LocalSet). x.own) z) t 0) e
               ∙ (get_or-map (λ (x : LocalSet). x.own) m.0.sets.items t s.0 0 ls ∙ ap (λ (x : LocalSet). x.own) (s.1 s.0));
+          executed = ap (λ (z : List LocalSet). get_or (map (λ (x : LocalSet). x.own + x.exec) z) t 0) e
+              ∙ (get_or-map (λ (x : LocalSet). x.own + x.exec) m.0.sets.items t s.0 0 ls ∙ ap (λ (x : LocalSet). x.own + x.exec) (s.1 s.0));
         }
 
     abbrev own_count : ℕ → ℕ → ℕ
@@ -59,6 +62,24 @@ module _ (g : MeshValue) (o : Owners) (p : Perms) (meshes : List RankMesh) where
 
     imported_are : (r t : ℕ) (l : IsLocal r t) → imported (sets_of meshes r) t ≡ drop (own_count r t) l.set.original
     imported_are r t l = ap (λ z. drop z (originals_in (sets_of meshes r) t)) (l.own ∙ l.is.own) ∙ ap (drop (own_count r t)) l.originals
+
+    -- a rank executes no more elements of a set than there are
+    pub executed_few : (r t : ℕ) → r < o.ranks → t < set_count g → set_size g t < 2 ^ 32 → executed_in (sets_of meshes r) t < 2 ^ 32
+    executed_few r t lr lt few =
+        let l : IsLocal r t = local r t lr lt in
+        let n : length l.set.original ≤ set_size g t =
+        number_few (set_size g t) (perm_in p t) (λ x. owns o t x r) (λ x. imports_execute g o t x r) (λ x. imports_nonexecute g o t x r) l.set.original (perms.numbers t lt) l.is.inverse (groups_apart g o t r) in
+        omega (arith, l.executed, l.is.own, l.is.exec, l.is.inverse.count)
+
+    -- each rank has each set
+    pub sets_counted : (r : ℕ) → r < o.ranks → length (sets_of meshes r) ≡ set_count g
+    unfolding sets_of
+    sets_counted r lr =
+        let lm : r < length meshes = (let e : length meshes ≡ o.ranks = h.count in omega arith) in
+        let m : (x : RankMesh) × ((d : RankMesh) → get_or meshes r d ≡ x) = pick meshes r lm in
+        let mesh : IsRankMesh g o p r m.0 = subst (IsRankMesh g o p r) (m.1 m.0) (h.ranks r m.0 lr) in
+        let e : get_or (map (λ (x : RankMesh). x.sets.items) meshes) r [] ≡ m.0.sets.items = get_or-map (λ (x : RankMesh). x.sets.items) meshes r m.0 [] lm ∙ ap (λ (x : RankMesh). x.sets.items) (m.1 m.0) in
+        ap (λ (z : List LocalSet). length z) e ∙ mesh.sets_count
 
     -- what is imported is not owned
     not_own : (t x r : ℕ) → (imports_execute g o t x r || imports_nonexecute g o t x r) ≡ true → owns o t x r ≡ false

@@ -1,5 +1,5 @@
 pub mod StepsCounted
-pub mod Counting
+pub mod StepTotals
 pub mod Numbers
 pub mod Behind
 pub mod History
@@ -11,3 +11,6 @@ pub mod Pairing
 pub mod Collecting
 pub mod Receiving
 pub mod PlansMore
+pub mod SetReads
+pub mod Running
+pub mod SitePlanning

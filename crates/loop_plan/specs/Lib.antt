@@ -7,8 +7,9 @@ pub mod Places
 pub mod StepOutline
 pub mod Counted
 pub mod Counts
-pub mod StepCounts
 pub mod ItemPlans
+pub mod StepCounts
 pub mod Proper
+pub mod SitePlans
 pub mod Spaced
 pub mod PlanText

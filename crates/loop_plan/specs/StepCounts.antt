@@ -1,12 +1,16 @@
 -- How many steps a program has on these ranks.
-use Rattle.std.specs.Prelude.{ℕ, ◌+◌, ◌*◌, Bool, cond, List, length}
+use Rattle.std.specs.Prelude.{ℕ, ◌+◌, ◌*◌, Bool, cond, List, length, slice_index}
 use Rattle.rank_sets.specs.Below.{listed}
 use Rattle.mesh_decl.specs.Mesh.{dat_count}
 use Rattle.local_mesh.specs.declared.types.RankMesh.{RankMesh}
 use Rattle.bound_program.specs.Values.{BoundValue}
 use Rattle.bound_program.specs.Fits.{site_at}
 use Rattle.loop_plan.specs.Counted.{sum_below}
-use Rattle.loop_plan.specs.Needs.{item_at, exchanged_at}
+use Rattle.loop_plan.specs.declared.types.ItemPlan.{ItemPlan}
+use Rattle.loop_plan.specs.declared.exchange.LoopRun.{LoopRun}
+use Rattle.loop_plan.specs.declared.exchange.LoopRun.TheVariants as run
+use Rattle.loop_plan.specs.ItemPlans.{plan_in}
+use Rattle.loop_plan.specs.Needs.{item_at, run_of, exchanged_at}
 use Rattle.loop_plan.specs.Pairs.{passes, pairs_below}
 use Rattle.loop_plan.specs.Places.{places_of}
 use Rattle.loop_plan.specs.StepOutline.{is_free, loop_of}
@@ -35,3 +39,13 @@ module _ (b : BoundValue) (meshes : List RankMesh) where
 -- the limit
 abbrev pub max_steps : ℕ
 max_steps = 8388608
+
+-- the steps of an item that runs this loop, by its messages and the places of each loop
+abbrev pub steps_by : LoopRun → ℕ → List ℕ → ℕ
+steps_by (run.Free s) messages totals = 2 * (messages + slice_index totals s)
+steps_by (run.Ordered s) messages totals = 1
+steps_by run.No messages totals = 1
+
+-- all steps, by the plans of the items and the places of each loop
+abbrev pub steps_of_plans : BoundValue → List ItemPlan → List ℕ → ℕ → ℕ
+steps_of_plans b plans totals n = sum_below (λ k. steps_by (run_of (item_at b k)) (length (plan_in plans k).pairs) totals) n

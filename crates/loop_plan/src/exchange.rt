@@ -82,7 +82,7 @@ fn spoil_modified(dirty: &mut Dirty, args: &[Arg])
 }
 
 // The arguments of a loop.
-fn args_of(bound: &Bound, site: u32) -> &[Arg]
+pub fn args_of(bound: &Bound, site: u32) -> &[Arg]
     requires { site < length (bound_of bound.now).sites }
     ensures { result.now ≡ (site_at (bound_of bound.now) site).args }
 {
@@ -128,7 +128,7 @@ fn run_of_item(item: &Item) -> LoopRun
 }
 
 // How the item of this number runs a loop.
-fn run_at(bound: &Bound, item: usize) -> LoopRun
+pub fn run_at(bound: &Bound, item: usize) -> LoopRun
     requires { item < length (bound_of bound.now).trace }
     ensures { result ≡ run_of (item_at (bound_of bound.now) item) }
 {

@@ -1,16 +1,20 @@
 //! Plans: which dats each item exchanges and between which ranks, which places the ranks execute, and their colours.
 #![tactic(auto)]
 
+mod counting;
 mod dirty;
 mod exchange;
 mod items;
 mod laws;
 mod messages;
 mod needs;
+mod places;
+mod sites;
 mod stream;
 mod types;
 
 pub use colouring::Colours;
+pub use counting::{count_steps, totals_by_loop};
 pub use dirty::Dirty;
 pub use exchange::LoopRun;
 pub use items::item_plans;
@@ -19,6 +23,8 @@ pub use laws::{
     one_bit_gives_exchanges, standard_is_counted, steps_are_counted,
 };
 pub use needs::is_scattering;
+pub use places::{place_count, places_by_rank};
 pub use schedule_steps::Step;
+pub use sites::site_plans;
 pub use stream::{Listed, Steps};
 pub use types::{ItemPlan, Pair, Plan, PlanRefusal, SitePlan, SitePlans};

@@ -6,7 +6,7 @@ ghost use Rattle.loop_plan.specs.Needs.{reads_copies, arg_needs, needs};
 
 use bound_program::{Access, Arg, Via};
 
-fn is_merged(access: Access) -> bool
+pub fn is_merged(access: Access) -> bool
     ensures { result ≡ is_reducing access }
 {
     matches!(access, Access::Inc | Access::Min | Access::Max)

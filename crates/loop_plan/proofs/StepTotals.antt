@@ -51,7 +51,7 @@ from_front : (f : ℕ → ℕ) (n : ℕ) → sum_below f (suc n) ≡ f 0 + sum_b
 from_front f zero = omega arith
 from_front f (suc n) = let a : sum_below f (suc n) ≡ f 0 + sum_below (λ i. f (suc i)) n = from_front f n in omega arith
 
-sum_of_list : (xs : List ℕ) → sum_below (slice_index xs) (length xs) ≡ sum xs
+pub sum_of_list : (xs : List ℕ) → sum_below (slice_index xs) (length xs) ≡ sum xs
 sum_of_list [] = refl
 sum_of_list (x ∷ xs) =
     let a : sum_below (slice_index (x ∷ xs)) (suc (length xs)) ≡ x + sum_below (slice_index xs) (length xs) = from_front (slice_index (x ∷ xs)) (length xs) in
