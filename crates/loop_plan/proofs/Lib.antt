@@ -14,3 +14,5 @@ pub mod PlansMore
 pub mod SetReads
 pub mod Running
 pub mod SitePlanning
+pub mod Planning
+pub mod ProperPlan

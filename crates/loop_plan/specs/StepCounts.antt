@@ -1,5 +1,5 @@
 -- How many steps a program has on these ranks.
-use Rattle.std.specs.Prelude.{ℕ, ◌+◌, ◌*◌, Bool, cond, List, length, slice_index}
+use Rattle.std.specs.Prelude.{◌≡◌, ℕ, ◌+◌, ◌*◌, ◌<◌, Bool, cond, List, length, slice_index}
 use Rattle.rank_sets.specs.Below.{listed}
 use Rattle.mesh_decl.specs.Mesh.{dat_count}
 use Rattle.local_mesh.specs.declared.types.RankMesh.{RankMesh}
@@ -7,6 +7,8 @@ use Rattle.bound_program.specs.Values.{BoundValue}
 use Rattle.bound_program.specs.Fits.{site_at}
 use Rattle.loop_plan.specs.Counted.{sum_below}
 use Rattle.loop_plan.specs.declared.types.ItemPlan.{ItemPlan}
+use Rattle.loop_plan.specs.declared.types.PlanRefusal.{PlanRefusal}
+use Rattle.loop_plan.specs.declared.types.PlanRefusal.TheVariants as refusal
 use Rattle.loop_plan.specs.declared.exchange.LoopRun.{LoopRun}
 use Rattle.loop_plan.specs.declared.exchange.LoopRun.TheVariants as run
 use Rattle.loop_plan.specs.ItemPlans.{plan_in}
@@ -49,3 +51,8 @@ steps_by run.No messages totals = 1
 -- all steps, by the plans of the items and the places of each loop
 abbrev pub steps_of_plans : BoundValue → List ItemPlan → List ℕ → ℕ → ℕ
 steps_of_plans b plans totals n = sum_below (λ k. steps_by (run_of (item_at b k)) (length (plan_in plans k).pairs) totals) n
+
+-- a refusal names the number of steps, which is beyond the limit, or is want of memory
+abbrev pub Refuses : ℕ → PlanRefusal → Type 0
+Refuses n (refusal.TooManySteps steps) = (steps ≡ n) × (max_steps < n)
+Refuses n refusal.OutOfMemory = Unit {0}

@@ -9,6 +9,7 @@ mod laws;
 mod messages;
 mod needs;
 mod places;
+mod plans;
 mod sites;
 mod stream;
 mod types;
@@ -24,6 +25,7 @@ pub use laws::{
 };
 pub use needs::is_scattering;
 pub use places::{place_count, places_by_rank};
+pub use plans::{MAX_STEPS, plan};
 pub use schedule_steps::Step;
 pub use sites::site_plans;
 pub use stream::{Listed, Steps};

@@ -2,7 +2,7 @@
 
 use colouring::Colours;
 use indexmap::IndexMap;
-use std::alloc::AllocFailed;
+use std::alloc::AllocError;
 use thiserror::Error;
 
 /// A Free loop on all ranks: by rank, how many places it executes, and the colours of its blocks and places.
@@ -50,13 +50,13 @@ pub enum PlanRefusal {
     OutOfMemory,
 }
 
-impl<T: Drop> From<AllocFailed<T>> for PlanRefusal {
+impl From<AllocError> for PlanRefusal {
     ghost use Rattle.std.specs.Prelude.{◌≡◌};
     ghost use Rattle.loop_plan.specs.declared.types.PlanRefusal.TheVariants.{OutOfMemory};
 
     ghost from_gives = { λ _ e. e ≡ OutOfMemory };
 
-    fn from(_: AllocFailed<T>) -> PlanRefusal {
+    fn from(_: AllocError) -> PlanRefusal {
         PlanRefusal::OutOfMemory
     }
 }
