@@ -71,6 +71,13 @@ module _ (g : MeshValue) (o : Owners) (p : Perms) (meshes : List RankMesh) where
         number_few (set_size g t) (perm_in p t) (λ x. owns o t x r) (λ x. imports_execute g o t x r) (λ x. imports_nonexecute g o t x r) l.set.original (perms.numbers t lt) l.is.inverse (groups_apart g o t r) in
         omega (arith, l.executed, l.is.own, l.is.exec, l.is.inverse.count)
 
+    -- it has copies of them
+    pub executed_held : (r t : ℕ) → r < o.ranks → t < set_count g → executed_in (sets_of meshes r) t ≤ length (originals_in (sets_of meshes r) t)
+    executed_held r t lr lt =
+        let l : IsLocal r t = local r t lr lt in
+        let n : length (originals_in (sets_of meshes r) t) ≡ length l.set.original = ap (λ (z : List ℕ). length z) l.originals in
+        omega (arith, l.executed, l.is.own, l.is.exec, l.is.inverse.count)
+
     -- each rank has each set
     pub sets_counted : (r : ℕ) → r < o.ranks → length (sets_of meshes r) ≡ set_count g
     unfolding sets_of

@@ -28,7 +28,7 @@ use Rattle.loop_plan.specs.StepCounts.{message_count, place_count, steps_at, pro
 use Rattle.loop_plan.specs.SitePlans.{IsLeastPlan, ArePlans}
 use Rattle.loop_plan.proofs.StepsCounted.{same_sum}
 use Rattle.loop_plan.proofs.StepTotals.{sum_of_list, steps_counted}
-use Rattle.loop_plan.proofs.Exporting.{executed_few, sets_counted}
+use Rattle.loop_plan.proofs.Exporting.{executed_few, executed_held, sets_counted}
 use Rattle.loop_plan.proofs.Pairing.{have_exports, exported_is_imported}
 
 -- ---- messages
@@ -52,6 +52,7 @@ module _ (g : MeshValue) (h : Halos) (meshes : List RankMesh) (d : Distributed g
     few = (let e : length meshes ≡ d.owners.ranks = d.are_meshes.count in let f = d.are_owners.few_ranks in omega arith);
     sets = λ r l. sets_counted g d.owners d.numbers meshes d.are_perms d.are_meshes r (there r l);
     executed = λ r t l lt. executed_few g d.owners d.numbers meshes d.are_perms d.are_meshes r t (there r l) lt (sizes t);
+    held = λ r t l lt. executed_held g d.owners d.numbers meshes d.are_perms d.are_meshes r t (there r l) lt;
   }
     where
       there : (r : ℕ) → r < length meshes → r < d.owners.ranks

@@ -4,7 +4,7 @@ use Rattle.std.specs.declared.alloc.Global.{Global}
 use Rattle.std.proofs.lemmas.List.{get_or-map}
 use Rattle.local_mesh.specs.declared.types.LocalSet.{LocalSet}
 use Rattle.local_mesh.specs.declared.types.RankMesh.{RankMesh}
-use Rattle.local_mesh.specs.LocalMesh.{executed_in}
+use Rattle.local_mesh.specs.LocalMesh.{originals_in, executed_in}
 use Rattle.loop_plan.specs.Pairs.{sets_of, own_in}
 use Rattle.loop_plan.specs.Places.{maps_of}
 
@@ -33,3 +33,7 @@ unfolding own_in executed_in
 own_within [] t = omega arith
 own_within (x ∷ xs) zero = omega arith
 own_within (x ∷ xs) (suc t) = own_within xs t
+
+pub originals_read : (sets : List LocalSet) (t : ℕ) (s : LocalSet) → t < length sets → s ≡ get_or sets t s → s.original ≡ originals_in sets t
+unfolding originals_in
+originals_read sets t s l e = ap (λ (x : LocalSet). x.original) e ∙ sym (get_or-map (λ (x : LocalSet). x.original) sets t s [] l)

@@ -1,10 +1,11 @@
 -- Which places the ranks execute of a loop, and which of its arguments ask for colours.
-use Rattle.std.specs.Prelude.{◌≡◌, ℕ, ◌^◌, ◌<◌, ◌≤◌, Bool, false, cond, nat_eq, List, [], ◌∷◌, Vec, map, length, slice_index_or, if◌then◌else◌}
+use Rattle.std.specs.Prelude.{◌≡◌, ℕ, ◌^◌, ◌<◌, ◌≤◌, Bool, false, cond, nat_eq, if◌then◌else◌}
+use Rattle.std.specs.Prelude.{List, [], ◌∷◌, Vec, map, length, slice_index_or}
 use Rattle.std.specs.declared.alloc.Global.{Global}
 use Rattle.std.specs.List.{list_any}
 use Rattle.mesh_decl.specs.Mesh.{MeshValue, set_count}
 use Rattle.local_mesh.specs.declared.types.RankMesh.{RankMesh}
-use Rattle.local_mesh.specs.LocalMesh.{executed_in}
+use Rattle.local_mesh.specs.LocalMesh.{originals_in, executed_in}
 use Rattle.colouring.specs.declared.types.IncArg.{IncArg}
 use Rattle.bound_program.specs.declared.sites.Arg.{Arg}
 use Rattle.bound_program.specs.declared.sites.Arg.TheVariants.{Dat, Global as Variable}
@@ -42,6 +43,8 @@ pub record HaveSets (g : MeshValue) (meshes : List RankMesh) : Type 0 where
   pub few : length meshes ≤ 64
   pub sets : (r : ℕ) → r < length meshes → length (sets_of meshes r) ≡ set_count g
   pub executed : (r t : ℕ) → r < length meshes → t < set_count g → executed_in (sets_of meshes r) t < 2 ^ 32
+  pub held : (r t : ℕ) → r < length meshes → t < set_count g
+      → executed_in (sets_of meshes r) t ≤ length (originals_in (sets_of meshes r) t)
 
 -- the item's loop runs as a Free one and is this one
 abbrev pub is_run : LoopRun → ℕ → Bool

@@ -23,10 +23,12 @@ pub fn totals_by_loop(
     ranks: &[RankMesh],
 ) -> Result<Vec<u64>, OutOfMemory>
     requires ranks { HaveSets (bound_of bound.now).mesh ranks.now }
-    requires sets { (s : ℕ) → s < length (bound_of bound.now).sites → (site_at (bound_of bound.now) s).set < set_count (bound_of bound.now).mesh }
+    requires sets { (s : ℕ) → s < length (bound_of bound.now).sites
+        → (site_at (bound_of bound.now) s).set < set_count (bound_of bound.now).mesh }
     requires few { length (bound_of bound.now).sites < 2 ^ 32 }
     ensures count { IfOk result (λ v. length v.items ≡ length (bound_of bound.now).sites) }
-    ensures totals { IfOk result (λ v. (s : ℕ) → s < length (bound_of bound.now).sites → slice_index v.items s ≡ place_count (bound_of bound.now) ranks.now s) }
+    ensures totals { IfOk result (λ v. (s : ℕ) → s < length (bound_of bound.now).sites
+        → slice_index v.items s ≡ place_count (bound_of bound.now) ranks.now s) }
 {
     let mut totals = Vec::new(alloc);
     for site in 0..bound.sites.len() as u32 {

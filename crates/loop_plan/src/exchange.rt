@@ -1,5 +1,6 @@
 // Exchanges, item by item.
-ghost use Rattle.std.specs.Prelude.{◌≡◌, ◌<◌, ◌&&◌, ◌||◌, ℕ, false, not, nat_eq, cond, [], ◌∷◌, ◌++◌, IfOk, OnOk, length, slice_index, slice_index_or};
+ghost use Rattle.std.specs.Prelude.{◌≡◌, ◌<◌, ◌&&◌, ◌||◌, ℕ, false, not, nat_eq, cond, [], ◌∷◌, ◌++◌, IfOk, OnOk};
+ghost use Rattle.std.specs.Prelude.{length, slice_index, slice_index_or};
 ghost use Rattle.std.specs.List.{list_any};
 ghost use Rattle.rank_sets.specs.Below.{listed};
 ghost use Rattle.mesh_decl.specs.Mesh.{dat_count};
@@ -100,7 +101,8 @@ fn exchange_free(
     requires args { AreOfDats dats args.now }
     ensures exchange { IfOk result (λ v. v.items ≡ listed dats (λ d. slice_index_or dirty.old d false && needs args.now d)) }
     ensures count { OnOk result (length dirty.new ≡ dats) }
-    ensures bits { OnOk result ((d : ℕ) → d < dats → slice_index_or dirty.new d false ≡ (modifies args.now d || (slice_index_or dirty.old d false && not (needs args.now d)))) }
+    ensures bits { OnOk result ((d : ℕ) → d < dats
+        → slice_index_or dirty.new d false ≡ (modifies args.now d || (slice_index_or dirty.old d false && not (needs args.now d)))) }
 {
     let exchange = stale_needed(alloc, args, dirty, dats)?;
     cleanse_each(dirty, &exchange);
@@ -147,9 +149,12 @@ pub fn exchange_at(
     requires dats { dats ≡ dat_count (bound_of bound.now).mesh }
     requires count { length dirty.old ≡ dats }
     requires range { IsInRange (bound_of bound.now) }
-    ensures exchange { IfOk result (λ v. v.items ≡ listed dats (λ d. slice_index_or dirty.old d false && needs (free_args (bound_of bound.now) (item_at (bound_of bound.now) item)) d)) }
+    ensures exchange { IfOk result (λ v. v.items ≡ listed dats (λ d. slice_index_or dirty.old d false
+        && needs (free_args (bound_of bound.now) (item_at (bound_of bound.now) item)) d)) }
     ensures count { OnOk result (length dirty.new ≡ dats) }
-    ensures bits { OnOk result ((d : ℕ) → d < dats → slice_index_or dirty.new d false ≡ (modifies (loop_args (bound_of bound.now) (item_at (bound_of bound.now) item)) d || (slice_index_or dirty.old d false && not (needs (free_args (bound_of bound.now) (item_at (bound_of bound.now) item)) d)))) }
+    ensures bits { OnOk result ((d : ℕ) → d < dats
+        → slice_index_or dirty.new d false ≡ (modifies (loop_args (bound_of bound.now) (item_at (bound_of bound.now) item)) d
+        || (slice_index_or dirty.old d false && not (needs (free_args (bound_of bound.now) (item_at (bound_of bound.now) item)) d)))) }
 {
     match run_at(bound, item) {
         LoopRun::Free { site } => exchange_free(alloc, args_of(bound, site), dirty, dats),

@@ -34,10 +34,14 @@ fn plan_item(
     requires range { IsInRange (bound_of bound.now) }
     requires exports { HaveExports (bound_of bound.now).mesh halos.now }
     requires receivers { AreReceivers (bound_of bound.now).mesh halos.now receivers.now }
-    ensures exchange { IfOk result (λ v. v.exchange.items ≡ listed dats (λ d. slice_index_or dirty.old d false && item_needs (bound_of bound.now) item d)) }
-    ensures pairs { IfOk result (λ v. v.pairs.items ≡ pairs_below (passes_by_exports (bound_of bound.now).mesh halos.now v.exchange.items) halos.now.ranks halos.now.ranks) }
+    ensures exchange { IfOk result (λ v. v.exchange.items ≡ listed dats (λ d. slice_index_or dirty.old d false
+        && item_needs (bound_of bound.now) item d)) }
+    ensures pairs { IfOk result (λ v. v.pairs.items
+        ≡ pairs_below (passes_by_exports (bound_of bound.now).mesh halos.now v.exchange.items) halos.now.ranks halos.now.ranks) }
     ensures count { OnOk result (length dirty.new ≡ dats) }
-    ensures bits { OnOk result ((d : ℕ) → d < dats → slice_index_or dirty.new d false ≡ (item_modifies (bound_of bound.now) item d || (slice_index_or dirty.old d false && not (item_needs (bound_of bound.now) item d)))) }
+    ensures bits { OnOk result ((d : ℕ) → d < dats
+        → slice_index_or dirty.new d false ≡ (item_modifies (bound_of bound.now) item d
+        || (slice_index_or dirty.old d false && not (item_needs (bound_of bound.now) item d)))) }
 {
     let exchange = exchange_at(alloc, bound, item, dirty, dats)?;
     let pairs = messages(alloc, &bound.mesh, halos, receivers, &exchange)?;

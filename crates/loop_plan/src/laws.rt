@@ -33,7 +33,8 @@ pub fn standard_is_counted()
 
 /// A plan has two steps for each message and each place of an item, and one for each join.
 pub fn steps_are_counted()
-    ensures { (b : BoundValue) (meshes : List RankMesh) (p : PlanValue) → Counts b meshes p → step_count (step_outline b meshes p) ≡ plan_step_count b meshes p }
+    ensures { (b : BoundValue) (meshes : List RankMesh) (p : PlanValue) → Counts b meshes p
+        → step_count (step_outline b meshes p) ≡ plan_step_count b meshes p }
 {}
 
 /// Exchanges by one bit a dat are those of the history: each is needed, some earlier item modified the dat, and none

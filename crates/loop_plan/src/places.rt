@@ -16,7 +16,7 @@ use op_num::OutOfMemory;
 use std::alloc::Global;
 
 // The sets of a rank.
-fn sets_on(ranks: &[RankMesh], rank: usize) -> &[LocalSet]
+pub fn sets_on(ranks: &[RankMesh], rank: usize) -> &[LocalSet]
     requires { rank < length ranks.now }
     ensures { result.now ≡ sets_of ranks.now rank }
 {
@@ -56,7 +56,8 @@ pub fn places_by_rank(
     requires site { site < length (bound_of bound.now).sites }
     requires set { (site_at (bound_of bound.now) site).set < set_count (bound_of bound.now).mesh }
     ensures count { IfOk result (λ v. length v.items ≡ length ranks.now) }
-    ensures places { IfOk result (λ v. (r : ℕ) → r < length ranks.now → slice_index v.items r ≡ places_of ranks.now (site_at (bound_of bound.now) site) r) }
+    ensures places { IfOk result (λ v. (r : ℕ) → r < length ranks.now
+        → slice_index v.items r ≡ places_of ranks.now (site_at (bound_of bound.now) site) r) }
 {
     let scattering = is_scattering(args_of(bound, site));
     let set = set_of(bound, site);

@@ -1,5 +1,6 @@
 // The plans of Free loops.
-ghost use Rattle.std.specs.Prelude.{◌≡◌, ℕ, ◌<◌, ◌+◌, ◌||◌, ◌++◌, ◌∷◌, [], ◌^◌, false, cond, map, nat_eq, None, IfOk, OnOk, length, slice_index, slice_index_or};
+ghost use Rattle.std.specs.Prelude.{◌≡◌, ℕ, ◌<◌, ◌+◌, ◌||◌, ◌++◌, ◌∷◌, [], ◌^◌, false, map, nat_eq, None};
+ghost use Rattle.std.specs.Prelude.{IfOk, OnOk, length, slice_index, slice_index_or};
 ghost use Rattle.indexmap.specs.IndexMap.{get};
 ghost use Rattle.mesh_decl.specs.Mesh.{set_count};
 ghost use Rattle.halo_lists.specs.declared.types.Halos.{Halos};
@@ -83,11 +84,13 @@ fn colours_by_rank(
 ) -> Result<Vec<Colours>, OutOfMemory>
     requires ranks { (h : Halos) × Distributed mesh.now h ranks.now }
     requires places { length places.now ≡ length ranks.now }
-    requires args { (r : ℕ) (m : RankMeshValue) → r < length ranks.now → AreArgs mesh.now (slice_index_or ranks.now r m).sets.items (slice_index places.now r) args.now }
+    requires args { (r : ℕ) (m : RankMeshValue) → r < length ranks.now
+        → AreArgs mesh.now (slice_index_or ranks.now r m).sets.items (slice_index places.now r) args.now }
     requires block { 0 < block }
     ensures count { IfOk result (λ v. length v.items ≡ length ranks.now) }
     ensures colours { IfOk result (λ v. (r : ℕ) (m : RankMeshValue) (d : ColoursValue) → r < length ranks.now
-        → AreColours mesh.now (slice_index_or ranks.now r m).maps.items args.now (slice_index places.now r) block (slice_index_or v.items r d)) }
+        → AreColours mesh.now (slice_index_or ranks.now r m).maps.items args.now (slice_index places.now r) block
+        (slice_index_or v.items r d)) }
 {
     let mut colours = Vec::new(alloc);
     for rank in 0..ranks.len() {
@@ -176,7 +179,8 @@ pub fn site_plans(
     requires ranks { (h : Halos) × Distributed (bound_of bound.now).mesh h ranks.now }
     requires sets { HaveSets (bound_of bound.now).mesh ranks.now }
     requires block { 0 < block }
-    ensures { IfOk result (λ m. ArePlans (bound_of bound.now) ranks.now block (length (bound_of bound.now).sites) (map entry_of m.entries)) }
+    ensures { IfOk result (λ m.
+        ArePlans (bound_of bound.now) ranks.now block (length (bound_of bound.now).sites) (map entry_of m.entries)) }
 {
     let runs = running_loops(alloc, bound)?;
     let mut plans = IndexMap::new(alloc);
