@@ -1,0 +1,32 @@
+-- The mesh of the sample.
+use Rattle.std.specs.Prelude.{ℕ, pos, ◌+◌, ◌-◌, ◌*◌, List, [], ◌∷◌, ◌++◌, codes}
+use Rattle.mesh_text.specs.declared.entry.Form.TheVariants as form
+use Rattle.mesh_text.specs.declared.entry.Entry.TheVariants.{One, Many}
+use Rattle.mesh_text.specs.Spelling.{Named}
+use Rattle.mesh_text.specs.Canonical.{canonical}
+use Rattle.mesh_gen.specs.Grid.{nodes_of_cells, cells_of_edges, cells_of_boundary, walls, coordinates, sums, zeros}
+
+-- how many nodes, cells, edges and boundary edges there are
+abbrev pub sizes : ℕ → List Named
+sizes n =
+    (codes "nnode", One (pos ((n + 1) * (n + 1))))
+    ∷ (codes "ncell", One (pos (n * n)))
+    ∷ (codes "nedge", One (pos (2 * n * (n - 1))))
+    ∷ (codes "nbedge", One (pos (4 * n)))
+    ∷ []
+
+-- where the maps lead: from cells to nodes, from edges to cells, from boundary edges to cells
+abbrev pub maps : ℕ → List Named
+maps n = (codes "cell", Many (nodes_of_cells n)) ∷ (codes "ecell", Many (cells_of_edges n)) ∷ (codes "bcell", Many (cells_of_boundary n)) ∷ []
+
+-- the values of the dats
+abbrev pub data_of : ℕ → List Named
+data_of n = (codes "wall0", Many (walls n)) ∷ (codes "x0", Many (coordinates n)) ∷ (codes "q0", Many (sums n)) ∷ (codes "zero", Many (zeros n)) ∷ []
+
+-- the entries of the mesh of n times n cells
+abbrev pub mesh_entries : ℕ → List Named
+mesh_entries n = sizes n ++ maps n ++ data_of n
+
+-- their canonical text, in the first version
+abbrev pub sample_mesh : ℕ → List ℕ
+sample_mesh n = canonical form.One (mesh_entries n)
