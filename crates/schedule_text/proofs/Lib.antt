@@ -1,0 +1,7 @@
+pub mod Chosen
+pub mod Running
+pub mod Standing
+pub mod Complete
+pub mod Exact
+pub mod Causes
+pub mod Written
