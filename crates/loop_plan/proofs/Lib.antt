@@ -16,3 +16,4 @@ pub mod Running
 pub mod SitePlanning
 pub mod Planning
 pub mod ProperPlan
+pub mod PlanLines

@@ -13,6 +13,7 @@ mod plans;
 mod sites;
 mod stream;
 mod types;
+mod writing;
 
 pub use colouring::Colours;
 pub use counting::{count_steps, totals_by_loop};

@@ -1,0 +1,9 @@
+use Rattle.std.proofs.Common.{[], ◌∷◌}
+use Rattle.std.specs.Fmt.{decimal}
+use Rattle.loop_plan.proofs.Lines.{parts_put}
+use Rattle.loop_plan.proofs.writing.put_count.Goals as goal
+
+pub returns : goal.returns
+returns c =
+    parts_put c.args.out.now.items c.put_word.new.out.items c.put_number.new.out.items (c.args.word.now ∷ []) (decimal c.args.number ∷ [])
+    c.in_ok-put_word.ensures c.in_ok-put_number.ensures
