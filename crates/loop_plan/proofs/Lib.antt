@@ -17,3 +17,4 @@ pub mod SitePlanning
 pub mod Planning
 pub mod ProperPlan
 pub mod PlanLines
+pub mod PlanWriting

@@ -1,5 +1,5 @@
 -- The plans of loops with least colours.
-use Rattle.std.specs.Prelude.{◌≡◌, ℕ, ◌<◌, true, List, length, map, nat_eq, slice_index, slice_index_or}
+use Rattle.std.specs.Prelude.{◌≡◌, ℕ, ◌<◌, ◌≤◌, true, List, length, map, nat_eq, slice_index, slice_index_or}
 use Rattle.std.specs.Map.{lookup}
 use Rattle.rank_sets.specs.Below.{listed}
 use Rattle.local_mesh.specs.declared.types.RankMesh.{RankMesh}
@@ -10,6 +10,11 @@ use Rattle.bound_program.specs.Fits.{site_at}
 use Rattle.loop_plan.specs.Values.{SitePlanValue, or_none}
 use Rattle.loop_plan.specs.Places.{places_of, runs_free}
 use Rattle.loop_plan.specs.Proper.{HasColours}
+
+-- by rank: colours for each number of places, of at most 64 ranks
+pub record IsByRank (l : SitePlanValue) : Type 0 where
+  pub count : length l.places ≡ length l.colours
+  pub few : length l.places ≤ 64
 
 module _ (b : BoundValue) (meshes : List RankMesh) where
   -- the plan of loop s: by rank its places, and their least colours in blocks of this size

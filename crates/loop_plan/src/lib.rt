@@ -31,3 +31,4 @@ pub use schedule_steps::Step;
 pub use sites::site_plans;
 pub use stream::{Listed, Steps};
 pub use types::{ItemPlan, Pair, Plan, PlanRefusal, SitePlan, SitePlans};
+pub use writing::write_plan;

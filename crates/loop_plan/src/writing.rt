@@ -1,21 +1,33 @@
 // Plan texts.
-ghost use Rattle.std.specs.Prelude.{◌≡◌, ◌<◌, ◌≤◌, ◌^◌, ◌++◌, [], ◌∷◌, map, length, take, drop, OnOk, codes};
+ghost use Rattle.std.specs.Prelude.{◌≡◌, ◌<◌, ◌≤◌, ◌^◌, ◌++◌, ℕ, [], ◌∷◌, map, length, take, drop, All, OnOk, IfOk, codes};
+ghost use Rattle.std.specs.List.{flat_map};
 ghost use Rattle.std.specs.Fmt.{decimal};
 ghost use Rattle.texts.specs.Lines.{line_of, text_of_lines};
 ghost use Rattle.mesh_decl.specs.Mesh.{set_count, set_name, dat_name};
+ghost use Rattle.halo_lists.specs.declared.types.Halos.{Halos};
 ghost use Rattle.local_mesh.specs.LocalMesh.{originals_in, executed_in};
 ghost use Rattle.loop_plan.specs.Exports.{AreDats};
 ghost use Rattle.loop_plan.specs.Pairs.{own_in};
 ghost use Rattle.loop_plan.specs.Spaced.{spaced};
-ghost use Rattle.bound_program.specs.Values.{Free, item_of};
+ghost use Rattle.bound_program.specs.Values.{Free, item_of, bound_of};
+ghost use Rattle.bound_program.specs.Fits.{Fits};
+ghost use Rattle.loop_plan.specs.Values.{site_plan_of, item_plan_of, entry_of, plan_of};
+ghost use Rattle.loop_plan.specs.Needs.{item_at};
+ghost use Rattle.loop_plan.specs.ItemPlans.{plan_in};
+ghost use Rattle.loop_plan.specs.SitePlans.{IsByRank};
 ghost use Rattle.loop_plan.specs.Places.{HaveSets};
-ghost use Rattle.loop_plan.specs.PlanText.{halo_line, halo_lines, all_halo_lines, site_line, site_lines, item_line};
+ghost use Rattle.loop_plan.specs.Distributed.{Distributed};
+ghost use Rattle.loop_plan.specs.Proper.{Proper};
+ghost use Rattle.loop_plan.specs.PlanText.{halo_line, halo_lines, all_halo_lines, site_line, site_lines, loop_lines};
+ghost use Rattle.loop_plan.specs.PlanText.{item_line, item_lines, plan_text};
 
 use crate::places::sets_on;
-use bound_program::{Item, Mesh};
+use crate::types::{ItemPlan, Plan, SitePlan, SitePlans};
+use bound_program::{Bound, Item, Mesh};
 use colouring::Colours;
 use local_mesh::{LocalSet, RankMesh};
 use op_num::{OutOfMemory, put_u64};
+use std::alloc::Global;
 
 // A word behind a space.
 fn put_word(out: &mut Vec<u8>, word: &[u8]) -> Result<(), OutOfMemory>
@@ -199,6 +211,27 @@ fn put_sites(
     Ok(())
 }
 
+// The lines of a loop that has this plan.
+fn put_site_plan(out: &mut Vec<u8>, site: u32, plan: &SitePlan) -> Result<(), OutOfMemory>
+    requires { IsByRank (site_plan_of plan.now) }
+    ensures { OnOk result (out.new.items ≡ out.old.items ++ text_of_lines (loop_lines (entry_of (site, plan.now)))) }
+{
+    put_sites(out, site, plan.places.as_slice(), plan.colours.as_slice())?;
+    Ok(())
+}
+
+// The lines of all loops that have plans.
+fn put_all_sites(out: &mut Vec<u8>, sites: &SitePlans) -> Result<(), OutOfMemory>
+    requires { All (λ e. IsByRank (site_plan_of e.1)) sites.now.entries }
+    ensures { OnOk result (out.new.items
+        ≡ out.old.items ++ text_of_lines (flat_map loop_lines (map entry_of sites.now.entries))) }
+{
+    for (site, plan) in sites.iter() {
+        put_site_plan(out, *site, plan)?;
+    }
+    Ok(())
+}
+
 // The names of dats, each behind a space.
 fn put_names(out: &mut Vec<u8>, mesh: &Mesh, dats: &[u32]) -> Result<(), OutOfMemory>
     requires { AreDats mesh.now dats.now }
@@ -269,4 +302,76 @@ fn put_item(
         Item::Ordered { site } => put_loop(out, number, b"ordered", *site),
         Item::Host { .. } => put_host(out, number),
     }
+}
+
+// The line of an item by its number.
+fn put_item_at(
+    out: &mut Vec<u8>,
+    bound: &Bound,
+    plans: &[ItemPlan],
+    item: usize,
+) -> Result<(), OutOfMemory>
+    requires few { length (bound_of bound.now).trace < 2 ^ 32 }
+    requires item { item < length (bound_of bound.now).trace }
+    requires plan { item < length plans.now }
+    requires dats { AreDats (bound_of bound.now).mesh (plan_in plans.now item).exchange }
+    ensures { OnOk result (out.new.items ≡ out.old.items ++ line_of (item_line (bound_of bound.now).mesh item
+        (item_at (bound_of bound.now) item) (plan_in plans.now item).exchange)) }
+{
+    let exchange = plans[item].exchange.as_slice();
+    put_item(out, &bound.mesh, item as u32, &bound.trace[item], exchange)?;
+    Ok(())
+}
+
+// The lines of all items.
+fn put_items(out: &mut Vec<u8>, bound: &Bound, plans: &[ItemPlan]) -> Result<(), OutOfMemory>
+    requires few { length (bound_of bound.now).trace < 2 ^ 32 }
+    requires count { length plans.now ≡ length (bound_of bound.now).trace }
+    requires dats { (k : ℕ) → k < length plans.now → AreDats (bound_of bound.now).mesh (plan_in plans.now k).exchange }
+    ensures { OnOk result (out.new.items ≡ out.old.items ++ text_of_lines (item_lines (bound_of bound.now).mesh 0
+        (bound_of bound.now).trace (map item_plan_of plans.now))) }
+{
+    for item in 0..plans.len() {
+        put_item_at(out, bound, plans, item)?;
+    }
+    Ok(())
+}
+
+// The line of the sizes.
+fn put_sizes(out: &mut Vec<u8>, ranks: u32, block: u32) -> Result<(), OutOfMemory>
+    ensures { OnOk result (out.new.items
+        ≡ out.old.items ++ line_of (codes "ranks" ∷ decimal ranks ∷ codes "block" ∷ decimal block ∷ [])) }
+{
+    out.extend_from_slice(b"ranks")?;
+    put_number(out, ranks)?;
+    put_count(out, b"block", block)?;
+    out.extend_from_slice(b"\n")?;
+    Ok(())
+}
+
+/// The text of a plan: a line for each set and rank with the elements that the rank owns, imports to execute and imports
+/// otherwise, by local number; one for each Free loop that runs and each rank, with its colours; one for each item, with
+/// the dats that it exchanges.
+///
+/// It fails only for want of memory.
+pub fn write_plan(
+    alloc: Global,
+    bound: &Bound,
+    ranks: &[RankMesh],
+    plan: &Plan,
+) -> Result<Vec<u8>, OutOfMemory>
+    requires fits { Fits (bound_of bound.now) }
+    requires ranks { (h : Halos) × Distributed (bound_of bound.now).mesh h ranks.now }
+    requires plan { Proper (bound_of bound.now) ranks.now (plan_of plan.now) }
+    ensures { IfOk result (λ v. v.items ≡ plan_text (bound_of bound.now) ranks.now (plan_of plan.now)) }
+{
+    let _ = bound.mesh.set_count();
+    let mut out = Vec::new(alloc);
+    out.extend_from_slice(b"op2plan 1\n")?;
+    put_sizes(&mut out, plan.ranks, plan.block)?;
+    put_all_halos(&mut out, &bound.mesh, ranks)?;
+    put_all_sites(&mut out, &plan.sites)?;
+    put_items(&mut out, bound, plan.items.as_slice())?;
+    out.extend_from_slice(b"done\n")?;
+    Ok(out)
 }
