@@ -1,3 +1,5 @@
 pub mod Bounds
 pub mod Rows
 pub mod Fresh
+pub mod Weights
+pub mod Short

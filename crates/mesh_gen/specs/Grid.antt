@@ -22,14 +22,25 @@ cell_at n i j = pos (j * n + i)
 abbrev pub nodes_of_cells : ℕ → List ℤ
 nodes_of_cells n = in_rows n n (λ i j. node_at n i j ∷ node_at n (i + 1) j ∷ node_at n (i + 1) (j + 1) ∷ node_at n i (j + 1) ∷ [])
 
--- for each edge its two cells: first the edges between cells (i, j) and (i+1, j), then those between (i, j) and (i, j+1)
+-- for each edge between neighbours in a row its cells (i, j) and (i+1, j)
+abbrev pub cells_beside : ℕ → List ℤ
+cells_beside n = in_rows (n - 1) n (λ i j. cell_at n i j ∷ cell_at n (i + 1) j ∷ [])
+
+-- for each edge between neighbours in a column its cells (i, j) and (i, j+1)
+abbrev pub cells_above : ℕ → List ℤ
+cells_above n = in_rows n (n - 1) (λ i j. cell_at n i j ∷ cell_at n i (j + 1) ∷ [])
+
+-- for each edge its two cells
 abbrev pub cells_of_edges : ℕ → List ℤ
-cells_of_edges n = in_rows (n - 1) n (λ i j. cell_at n i j ∷ cell_at n (i + 1) j ∷ []) ++ in_rows n (n - 1) (λ i j. cell_at n i j ∷ cell_at n i (j + 1) ∷ [])
+cells_of_edges n = cells_beside n ++ cells_above n
 
 -- for each boundary edge its cell: along row 0, along the last row, along column 0, along the last column
 abbrev pub cells_of_boundary : ℕ → List ℤ
 cells_of_boundary n =
-    map (λ i. cell_at n i 0) (below n) ++ map (λ i. cell_at n i (n - 1)) (below n) ++ map (λ j. cell_at n 0 j) (below n) ++ map (λ j. cell_at n (n - 1) j) (below n)
+    map (λ i. cell_at n i 0) (below n)
+    ++ map (λ i. cell_at n i (n - 1)) (below n)
+    ++ map (λ j. cell_at n 0 j) (below n)
+    ++ map (λ j. cell_at n (n - 1) j) (below n)
 
 -- for each boundary edge: 1 along row 0, -1 along the last row, 0 along the two columns
 abbrev pub walls : ℕ → List ℤ

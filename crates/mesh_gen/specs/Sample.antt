@@ -17,14 +17,23 @@ sizes n =
 
 -- where the maps lead: from cells to nodes, from edges to cells, from boundary edges to cells
 abbrev pub maps : ℕ → List Named
-maps n = (codes "cell", Many (nodes_of_cells n)) ∷ (codes "ecell", Many (cells_of_edges n)) ∷ (codes "bcell", Many (cells_of_boundary n)) ∷ []
+maps n =
+    (codes "cell", Many (nodes_of_cells n))
+    ∷ (codes "ecell", Many (cells_of_edges n))
+    ∷ (codes "bcell", Many (cells_of_boundary n))
+    ∷ []
 
 -- the values of the dats
 abbrev pub data_of : ℕ → List Named
-data_of n = (codes "wall0", Many (walls n)) ∷ (codes "x0", Many (coordinates n)) ∷ (codes "q0", Many (sums n)) ∷ (codes "zero", Many (zeros n)) ∷ []
+data_of n =
+    (codes "wall0", Many (walls n))
+    ∷ (codes "x0", Many (coordinates n))
+    ∷ (codes "q0", Many (sums n))
+    ∷ (codes "zero", Many (zeros n))
+    ∷ []
 
 -- the entries of the mesh of n times n cells
-abbrev pub mesh_entries : ℕ → List Named
+unfoldable pub mesh_entries : ℕ → List Named
 mesh_entries n = sizes n ++ maps n ++ data_of n
 
 -- their canonical text, in the first version

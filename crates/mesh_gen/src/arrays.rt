@@ -1,5 +1,5 @@
 // The arrays of the mesh.
-ghost use Rattle.std.specs.Prelude.{◌≡◌, ◌<◌, ◌≤◌, ◌++◌, ℤ, OnOk, IfOk, replicate};
+ghost use Rattle.std.specs.Prelude.{◌≡◌, ◌<◌, ◌≤◌, ◌++◌, OnOk, IfOk, replicate};
 ghost use Rattle.mesh_gen.specs.Grid.{nodes_of_cells, cells_of_edges, cells_of_boundary, walls, coordinates, sums, zeros};
 
 use crate::places::{MAX_SIDE, Pattern, Side, put_rows, put_side};

@@ -1,7 +1,7 @@
 // The entries of the mesh text.
 ghost use Rattle.std.specs.Prelude.{◌≡◌, ◌<◌, ◌≤◌, ◌++◌, [], ◌∷◌, false, OnOk, IfOk};
 ghost use Rattle.mesh_text.specs.Spelling.{has_name};
-ghost use Rattle.mesh_gen.specs.Sample.{sizes, maps, data_of, mesh_entries};
+ghost use Rattle.mesh_gen.specs.Sample.{sizes, maps, mesh_entries};
 
 use crate::arrays::{
     boundary_cells, cell_nodes, cell_sums, cell_zeros, edge_cells, node_coordinates, wall_values,
@@ -73,6 +73,7 @@ fn put_maps(alloc: Global, entries: &mut Entries, n: u32) -> Result<(), OutOfMem
     )
 }
 
+#[tactic(auto, unfolding(crate::specs::Sample::mesh_entries))]
 fn put_data(alloc: Global, entries: &mut Entries, n: u32) -> Result<(), OutOfMemory>
     requires some { 0 < n }
     requires size { n ≤ MAX_SIDE }

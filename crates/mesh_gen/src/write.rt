@@ -1,6 +1,8 @@
 // The texts of the sample.
-ghost use Rattle.std.specs.Prelude.{◌≡◌, ◌<◌, ◌⊎◌, ◌↔◌, IfOk, Err};
-ghost use Rattle.mesh_gen.specs.Sample.{sample_mesh};
+ghost use Rattle.std.specs.Prelude.{◌≡◌, ◌<◌, ◌⊎◌, ◌≤◌, ◌↔◌, length, IfOk, Ok, Err};
+ghost use Rattle.mesh_text.specs.Reading.{Reads};
+ghost use Rattle.mesh_text.specs.declared.entry.TheConstants.{MESH_BYTES};
+ghost use Rattle.mesh_gen.specs.Sample.{mesh_entries, sample_mesh};
 
 use crate::entries::grid_entries;
 use crate::places::MAX_SIDE;
@@ -17,6 +19,9 @@ use std::alloc::Global;
 pub fn sample(alloc: Global, n: u32) -> Result<Sample, SampleRefusal>
     ensures source { IfOk result (λ s. s.source.items ≡ SOURCE.now) }
     ensures mesh { IfOk result (λ s. s.mesh.items ≡ sample_mesh n) }
+    // `read_mesh` reads the entries from it, and it is no longer than a mesh file may be.
+    ensures read { IfOk result (λ s. Reads s.mesh.items (Ok (mesh_entries n))) }
+    ensures short { IfOk result (λ s. length s.mesh.items ≤ MESH_BYTES) }
     ensures outside { (result ≡ Err SampleRefusal.SizeRange) ↔ ((n ≡ 0) ⊎ (MAX_SIDE < n)) }
 {
     if n == 0 || n > MAX_SIDE {
