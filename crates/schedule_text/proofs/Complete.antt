@@ -14,10 +14,9 @@ use Rattle.schedule_text.specs.declared.token.RankWord.{RankWord}
 use Rattle.schedule_text.specs.declared.token.RankWord.TheVariants as word
 use Rattle.schedule_text.specs.declared.token.StepWord.{StepWord}
 use Rattle.schedule_text.specs.declared.token.StepWord.TheVariants.{Rank, Join}
-use Rattle.schedule_text.specs.declared.token.Keyword.{Keyword}
 use Rattle.schedule_text.specs.declared.token.Keyword.TheVariants as keyword
 use Rattle.schedule_text.specs.Token.{keyword_of, word_text}
-use Rattle.schedule_text.specs.Spelling.{word_of, numbers_of, at_line, IsNumber, AreNumbers, IsStep, AreSteps, AreSchedule}
+use Rattle.schedule_text.specs.Spelling.{word_of, numbers_of, at_line, IsNumber, AreNumbers, IsStep, AreSteps}
 use Rattle.schedule_text.specs.Reading.{Begun, First, Second, Third, State, Magic, Version, Between, Numbers, End, step_of, opened, began, numbered, grown, first_word, so_far, step, finish, AreSome, Stands}
 use Rattle.schedule_text.proofs.Chosen.{eq_itself}
 use Rattle.schedule_text.proofs.Running.{step-magic, step-version, step-between, step-numbers}
@@ -86,11 +85,16 @@ goes_last ls line b q n (w ∷ []) a e = goes_on (Numbers ls line b) (grown ls l
 goes_last ls line b q n (w ∷ v ∷ ws) a e = absurd a.1
 
 -- a number, and more
-goes_number : (ls : List Line) (line : ℕ) (b : Begun) (q : State) (n : ℕ) (ns : List ℕ) (ws : List Word) → AreNumbers ws (n ∷ ns) → ((vs : List Word) → AreNumbers vs ns → Goes (grown ls line b n) vs q) → Goes (Numbers ls line b) ws q
+goes_number : (ls : List Line) (line : ℕ) (b : Begun) (q : State) (n : ℕ) (ns : List ℕ) (ws : List Word)
+    → AreNumbers ws (n ∷ ns)
+    → ((vs : List Word) → AreNumbers vs ns → Goes (grown ls line b n) vs q)
+    → Goes (Numbers ls line b) ws q
 goes_number ls line b q n ns [] a k = absurd a
 goes_number ls line b q n ns (w ∷ ws) a k = goes_on (Numbers ls line b) (grown ls line b n) q w ws (number_on ls line b w n a.0) (k ws a.1)
 
-goes_three : (ls : List Line) (line : ℕ) (r : RankWord) (a b c : ℕ) (ws : List Word) → AreNumbers ws (a ∷ b ∷ c ∷ []) → Goes (Numbers ls line (First (Rank r))) ws (Between (ls ++ at_line (step_of r a b c) line ∷ []))
+goes_three : (ls : List Line) (line : ℕ) (r : RankWord) (a b c : ℕ) (ws : List Word)
+    → AreNumbers ws (a ∷ b ∷ c ∷ [])
+    → Goes (Numbers ls line (First (Rank r))) ws (Between (ls ++ at_line (step_of r a b c) line ∷ []))
 goes_three ls line r a b c ws h =
     let q = Between (ls ++ at_line (step_of r a b c) line ∷ []) in
     goes_number ls line (First (Rank r)) q a (b ∷ c ∷ []) ws h

@@ -45,17 +45,28 @@ pub run_done : (ls : List Line) (u : Uncut) → first_of u ≡ None → run_from
 run_done ls u n = run_end step finish (End ls) u (Ok ls) n refl
 
 -- behind the first word of a step, or `done`
-pub word_taken : (ls : List Line) (count : ℕ) (u v : Uncut) (w : Word) (x : Option StepWord) → count ≡ length ls → IsNext u v w → Ok x ≡ opened count (keyword_of w.text) w.line → run_from (Between ls) u ≡ run_from (began ls w.line x) v
+pub word_taken : (ls : List Line) (count : ℕ) (u v : Uncut) (w : Word) (x : Option StepWord)
+    → count ≡ length ls
+    → IsNext u v w
+    → Ok x ≡ opened count (keyword_of w.text) w.line
+    → run_from (Between ls) u ≡ run_from (began ls w.line x) v
 word_taken ls count u v w x c n h =
     run_onto step finish (Between ls) u v w x (opened (length ls) (keyword_of w.text) w.line) (began ls w.line) n (step-between ls w) (ap (λ k. opened k (keyword_of w.text) w.line) (sym c) ∙ sym h)
 
 -- at another token, or at a step beyond the limit
-pub word_refused : (ls : List Line) (count : ℕ) (u v : Uncut) (w : Word) (e : ScheduleTextRefusal) → count ≡ length ls → IsNext u v w → Err e ≡ opened count (keyword_of w.text) w.line → run_from (Between ls) u ≡ Err e
+pub word_refused : (ls : List Line) (count : ℕ) (u v : Uncut) (w : Word) (e : ScheduleTextRefusal)
+    → count ≡ length ls
+    → IsNext u v w
+    → Err e ≡ opened count (keyword_of w.text) w.line
+    → run_from (Between ls) u ≡ Err e
 word_refused ls count u v w e c n h =
     run_refused step finish (Between ls) u v w e n
     (step-between ls w ∙ onto_err (opened (length ls) (keyword_of w.text) w.line) (began ls w.line) e (ap (λ k. opened k (keyword_of w.text) w.line) (sym c) ∙ sym h))
 
 -- behind a token where a number is awaited, or at it
-pub number_leads : (ls : List Line) (line : ℕ) (b : Begun) (u v : Uncut) (w : Word) (r : Result ℕ ScheduleTextRefusal) → IsNext u v w → r ≡ numbered (number_of w.text) w.line → Leads (Numbers ls line b) u r (grown ls line b) v
+pub number_leads : (ls : List Line) (line : ℕ) (b : Begun) (u v : Uncut) (w : Word) (r : Result ℕ ScheduleTextRefusal)
+    → IsNext u v w
+    → r ≡ numbered (number_of w.text) w.line
+    → Leads (Numbers ls line b) u r (grown ls line b) v
 number_leads ls line b u v w (Ok k) n h = run_onto step finish (Numbers ls line b) u v w k (numbered (number_of w.text) w.line) (grown ls line b) n (step-numbers ls line b w) (sym h)
 number_leads ls line b u v w (Err e) n h = inr (run_refused step finish (Numbers ls line b) u v w e n (step-numbers ls line b w ∙ onto_err (numbered (number_of w.text) w.line) (grown ls line b) e (sym h)))

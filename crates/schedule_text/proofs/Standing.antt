@@ -1,5 +1,5 @@
 -- A token that is taken stands behind those before it.
-use Rattle.std.proofs.Common.{◌≡◌, ℕ, ◌+◌, ◌^◌, ◌<◌, ◌≤◌, Bool, true, false, cond, inl, inr, nat_lt, List, [], ◌∷◌, ◌++◌, length, Option, Some, None, Result, Ok, Err, codes, refl, sym, ap, subst, ◌∙◌, arith, append_assoc, append-nil, length-append}
+use Rattle.std.proofs.Common.{◌≡◌, ℕ, ◌+◌, ◌^◌, ◌<◌, ◌≤◌, cond, inl, inr, nat_lt, List, [], ◌∷◌, ◌++◌, length, Option, Some, None, Ok, codes, refl, sym, ap, subst, ◌∙◌, arith, append_assoc, append-nil, length-append}
 use Rattle.std.specs.Str.{bytes_eq}
 use Rattle.std.proofs.lemmas.Bool.Decides.{nat_tests}
 use Rattle.op_num.specs.Spelling.{number_of}
@@ -104,7 +104,14 @@ schedule_more : (ws front : List Word) (ls : List Line) (l : Line) → AreSchedu
 schedule_more ws front ls l p i = (p.0, p.1, p.2 ++ front, ap (λ xs. xs ++ front) p.3, p.4, p.5, steps_more p.2 front ls l p.6 i)
 
 -- a whole step more
-step_stands : (ws : List Word) (ls : List Line) (line : ℕ) (s : Step) (front : List Word) (w : Word) (numbers : List Word) → ws ≡ front ++ w ∷ numbers → AreSchedule front ls → length ls < SCHEDULE_STEPS → w.text ≡ word_of s → w.line ≡ line → AreNumbers numbers (numbers_of s) → Stands ws (Between (ls ++ at_line s line ∷ []))
+step_stands : (ws : List Word) (ls : List Line) (line : ℕ) (s : Step) (front : List Word) (w : Word) (numbers : List Word)
+    → ws ≡ front ++ w ∷ numbers
+    → AreSchedule front ls
+    → length ls < SCHEDULE_STEPS
+    → w.text ≡ word_of s
+    → w.line ≡ line
+    → AreNumbers numbers (numbers_of s)
+    → Stands ws (Between (ls ++ at_line s line ∷ []))
 step_stands ws ls line s front w numbers whole part room text on are =
     let len : length (ls ++ at_line s line ∷ []) ≡ length ls + 1 = length-append ls (at_line s line ∷ []) in
     let within : length (ls ++ at_line s line ∷ []) ≤ SCHEDULE_STEPS = omega arith in
@@ -123,7 +130,14 @@ rank_numbers word.Begin a b c = refl
 rank_numbers word.End a b c = refl
 
 -- a number of a step more
-grown_stands : (ws : List Word) (ls : List Line) (line : ℕ) (b : Begun) (n : ℕ) (front : List Word) (w : Word) (numbers : List Word) → ws ≡ front ++ w ∷ numbers → AreSchedule front ls → length ls < SCHEDULE_STEPS → w.text ≡ word_text (first_word b) → w.line ≡ line → AreNumbers numbers (so_far b ++ n ∷ []) → Stands ws (grown ls line b n)
+grown_stands : (ws : List Word) (ls : List Line) (line : ℕ) (b : Begun) (n : ℕ) (front : List Word) (w : Word) (numbers : List Word)
+    → ws ≡ front ++ w ∷ numbers
+    → AreSchedule front ls
+    → length ls < SCHEDULE_STEPS
+    → w.text ≡ word_text (first_word b)
+    → w.line ≡ line
+    → AreNumbers numbers (so_far b ++ n ∷ [])
+    → Stands ws (grown ls line b n)
 grown_stands ws ls line (First (Rank r)) n front w numbers whole part room text on are = (front, w, numbers, whole, part, room, text, on, are)
 grown_stands ws ls line (First Join) n front w numbers whole part room text on are = step_stands ws ls line (taken.Join n) front w numbers whole part room text on are
 grown_stands ws ls line (Second r a) n front w numbers whole part room text on are = (front, w, numbers, whole, part, room, text, on, are)
@@ -149,7 +163,10 @@ behind_version q ws w s h =
     let stands : Stands (ws ++ w ∷ []) (Between []) = (part, omega arith) in
     subst (Stands (ws ++ w ∷ [])) e stands
 
-behind_word : (ls : List Line) (q : State) (ws : List Word) (w : Word) → Stands ws (Between ls) → onto (opened (length ls) (keyword_of w.text) w.line) (began ls w.line) ≡ Ok q → Stands (ws ++ w ∷ []) q
+behind_word : (ls : List Line) (q : State) (ws : List Word) (w : Word)
+    → Stands ws (Between ls)
+    → onto (opened (length ls) (keyword_of w.text) w.line) (began ls w.line) ≡ Ok q
+    → Stands (ws ++ w ∷ []) q
 behind_word ls q ws w s h =
     let o = onto_is (opened (length ls) (keyword_of w.text) w.line) (began ls w.line) q h in
     subst (Stands (ws ++ w ∷ [])) o.2 (go o.0 o.1)
@@ -160,7 +177,10 @@ behind_word ls q ws w s h =
         let k = opened_step (length ls) (keyword_of w.text) w.line v t in
         (ws, w, [], refl, s.0, k.1, keyword_is w.text (keyword.Step v) k.0, refl, tt)
 
-behind_number : (ls : List Line) (line : ℕ) (b : Begun) (q : State) (ws : List Word) (w : Word) → Stands ws (Numbers ls line b) → onto (numbered (number_of w.text) w.line) (grown ls line b) ≡ Ok q → Stands (ws ++ w ∷ []) q
+behind_number : (ls : List Line) (line : ℕ) (b : Begun) (q : State) (ws : List Word) (w : Word)
+    → Stands ws (Numbers ls line b)
+    → onto (numbered (number_of w.text) w.line) (grown ls line b) ≡ Ok q
+    → Stands (ws ++ w ∷ []) q
 behind_number ls line b q ws w s h =
     let o = onto_is (numbered (number_of w.text) w.line) (grown ls line b) q h in
     let v = numbered_is (number_of w.text) w.line o.0 o.1 in

@@ -1,5 +1,5 @@
 -- What is written spells its steps.
-use Rattle.std.proofs.Common.{◌≡◌, ℕ, ◌+◌, ◌^◌, ◌<◌, suc, List, [], ◌∷◌, ◌++◌, map, length, Some, codes, refl, sym, ap, subst, ◌∙◌, arith, append_assoc}
+use Rattle.std.proofs.Common.{◌≡◌, ℕ, ◌+◌, ◌^◌, ◌<◌, suc, List, [], ◌∷◌, ◌++◌, map, length, Some, codes, refl, sym, ap, ◌∙◌, arith, append_assoc}
 use Rattle.std.proofs.lemmas.List.Concat.{flat_map-append}
 use Rattle.std.specs.Fmt.{decimal}
 use Rattle.op_num.specs.Spelling.{number_of}
@@ -40,7 +40,9 @@ module _ (counted : (n : ℕ) → n < 2 ^ 64 → number_of (decimal n) ≡ Some 
   steps_lines (s ∷ steps) f = ((word_token s, numbers_tokens (numbers_of s) f.0), steps_lines steps f.1)
 
   -- the tokens of the steps, and `done`
-  steps_are : (line : ℕ) (steps : List Step) → AllFit steps → (body : List Word) × (w : Word) × (placed line (map tokens_of steps ++ (codes "done" ∷ []) ∷ []) ≡ body ++ w ∷ []) × (w.text ≡ codes "done") × AreSteps body (one_a_line line steps)
+  steps_are : (line : ℕ) (steps : List Step)
+      → AllFit steps
+      → (body : List Word) × (w : Word) × (placed line (map tokens_of steps ++ (codes "done" ∷ []) ∷ []) ≡ body ++ w ∷ []) × (w.text ≡ codes "done") × AreSteps body (one_a_line line steps)
   steps_are line [] f = ([], on_line line (codes "done"), refl, refl, refl)
   steps_are line (s ∷ steps) f =
       let r = steps_are (line + 1) steps f.1 in

@@ -109,7 +109,8 @@ abbrev pub Stands : List Word → State → Type 0
 Stands ws Magic = ws ≡ []
 Stands ws Version = (a : Word) × (ws ≡ a ∷ []) × (a.text ≡ codes "op2sched")
 Stands ws (Between ls) = AreSome ws ls
-Stands ws (Numbers ls line b) = (front : List Word) × (w : Word) × (numbers : List Word) × (ws ≡ front ++ w ∷ numbers) × AreSchedule front ls × (length ls < SCHEDULE_STEPS)
+Stands ws (Numbers ls line b) = (front : List Word) × (w : Word) × (numbers : List Word) × (ws ≡ front ++ w ∷ numbers)
+    × AreSchedule front ls × (length ls < SCHEDULE_STEPS)
     × (w.text ≡ word_text (first_word b)) × (w.line ≡ line) × AreNumbers numbers (so_far b)
 Stands ws (End ls) = (front : List Word) × (w : Word) × (ws ≡ front ++ w ∷ []) × (w.text ≡ codes "done") × AreSome front ls
 

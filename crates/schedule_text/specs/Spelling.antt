@@ -49,7 +49,8 @@ AreSteps ws (l ∷ ls) = (front : List Word) × (rest : List Word) × (ws ≡ fr
 
 -- the two tokens of the header, and steps
 abbrev pub AreSchedule : List Word → List Line → Type 0
-AreSchedule ws ls = (a : Word) × (b : Word) × (body : List Word) × (ws ≡ a ∷ b ∷ body) × (a.text ≡ codes "op2sched") × (b.text ≡ codes "1") × AreSteps body ls
+AreSchedule ws ls = (a : Word) × (b : Word) × (body : List Word) × (ws ≡ a ∷ b ∷ body)
+    × (a.text ≡ codes "op2sched") × (b.text ≡ codes "1") × AreSteps body ls
 
 -- The bytes, cut into tokens at blanks, are the header, the tokens of the steps, and `done`.
 abbrev pub Spells : List ℕ → List Line → Type 0

@@ -1,7 +1,7 @@
 //! Schedule texts: the steps of a schedule, in order.
 //!
-//! `read_schedule` is exact: the steps that the text spells, within the limit, are given with their lines, and each refusal
-//! is the first in the order of the tokens. `write_schedule` writes one step a line.
+//! `read_schedule` is exact: the steps that the text spells, within the limit, are given with their lines, and each
+//! refusal is the first in the order of the tokens. `write_schedule` writes one step a line.
 #![tactic(auto)]
 
 mod lines;

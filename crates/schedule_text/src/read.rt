@@ -7,7 +7,8 @@ ghost use Rattle.schedule_text.specs.declared.lines.Line.{Line as Given};
 ghost use Rattle.schedule_text.specs.declared.refusals.ScheduleTextRefusal.{ScheduleTextRefusal as Refusal};
 ghost use Rattle.schedule_text.specs.Token.{keyword_of};
 ghost use Rattle.schedule_text.specs.Spelling.{at_line, Spells};
-ghost use Rattle.schedule_text.specs.Reading.{Begun, First, Magic, Between, Numbers, step_of, opened, numbered, grown, run_from, Refuses, Reads, Read as Outcome};
+ghost use Rattle.schedule_text.specs.Reading.{Begun, First, Magic, Between, Numbers, step_of, opened, numbered, grown, run_from, Refuses, Reads};
+ghost use Rattle.schedule_text.specs.Reading.{Read as Outcome};
 ghost use Rattle.schedule_text.specs.Answered.{Leads, next_state};
 
 use crate::lines::{Line, SCHEDULE_STEPS};
@@ -18,15 +19,17 @@ use schedule_steps::Step;
 use std::alloc::Global;
 use texts::{Token, Tokens};
 
-/// The steps that the schedule text `bytes` spells, at most [`SCHEDULE_STEPS`], in order, each with its line. Each refusal
-/// is that of the first token, in order, that may not stand where it does, or of the end; `ScheduleTextRefusal` says what
-/// each is. Lines are counted in `u32`, so the text has fewer than 2 ^ 32 - 1 bytes. It takes time linear in the bytes.
+/// The steps that the schedule text `bytes` spells, at most [`SCHEDULE_STEPS`], in order, each with its line. Each
+/// refusal is that of the first token, in order, that may not stand where it does, or of the end;
+/// `ScheduleTextRefusal` says what each is. Lines are counted in `u32`, so the text has fewer than 2 ^ 32 - 1 bytes. It
+/// takes time linear in the bytes.
 pub fn read_schedule(alloc: Global, bytes: &[u8]) -> Result<Vec<Line>, ScheduleTextRefusal>
     requires { length bytes.now + 1 < 2 ^ 32 }
     // What is given is spelled so, with no more steps than the limit.
     ensures found { IfOk result (λ v. Spells bytes.now v.items × (length v.items ≤ SCHEDULE_STEPS)) }
     // What is spelled so is given, unless memory runs out.
-    ensures only { (ls : List Given) → Spells bytes.now ls → length ls ≤ SCHEDULE_STEPS → IsGiven Refusal.OutOfMemory result (λ v. v.items ≡ ls) }
+    ensures only { (ls : List Given) → Spells bytes.now ls → length ls ≤ SCHEDULE_STEPS
+        → IsGiven Refusal.OutOfMemory result (λ v. v.items ≡ ls) }
     // Each refusal is the first, in the order of the tokens.
     ensures refused { IfErr result (λ r. (r ≡ Refusal.OutOfMemory) ⊎ Refuses bytes.now r) }
     // And the first refusal is given, unless memory runs out.
@@ -37,7 +40,8 @@ pub fn read_schedule(alloc: Global, bytes: &[u8]) -> Result<Vec<Line>, ScheduleT
 
 /// A law: a text spells at most one list of at most [`SCHEDULE_STEPS`] steps.
 pub fn one_schedule()
-    ensures { (bytes : List ℕ) (a b : List Given) → Spells bytes a → Spells bytes b → length a ≤ SCHEDULE_STEPS → length b ≤ SCHEDULE_STEPS → a ≡ b }
+    ensures { (bytes : List ℕ) (a b : List Given) → Spells bytes a → Spells bytes b
+        → length a ≤ SCHEDULE_STEPS → length b ≤ SCHEDULE_STEPS → a ≡ b }
 {}
 
 /// A law: a text comes to one outcome, its steps within the limit or a refusal, and no refusal is want of memory.
@@ -116,7 +120,8 @@ fn step_word(token: &Token<'_>, count: u64) -> Result<Option<StepWord>, Schedule
 
 // The step with this first word, whose numbers are the next tokens.
 fn read_numbers(tokens: &mut Tokens<'_>, word: StepWord) -> Result<Step, ScheduleTextRefusal>
-    ensures leads { (ls : List Given) (line : ℕ) → Leads (Numbers ls line (First word)) tokens.old result (λ s. Between (ls ++ at_line s line ∷ [])) tokens.new }
+    ensures leads { (ls : List Given) (line : ℕ)
+        → Leads (Numbers ls line (First word)) tokens.old result (λ s. Between (ls ++ at_line s line ∷ [])) tokens.new }
     ensures fewer { OnOk result (length tokens.new.words ≤ length tokens.old.words) }
 {
     let item = next_number(tokens)?;

@@ -34,7 +34,8 @@ pub fn write_schedule(alloc: Global, steps: &[Step]) -> Result<Vec<u8>, OutOfMem
 /// it is read as these.
 pub fn written_is_read()
     ensures spells { (steps : List Steps) → AllFit steps → Spells (schedule_text steps) (one_a_line 2 steps) }
-    ensures reads { (steps : List Steps) → AllFit steps → length steps ≤ SCHEDULE_STEPS → Reads (schedule_text steps) (Ok (one_a_line 2 steps)) }
+    ensures reads { (steps : List Steps) → AllFit steps → length steps ≤ SCHEDULE_STEPS
+        → Reads (schedule_text steps) (Ok (one_a_line 2 steps)) }
 {
     lines_are_cut();
     number_is_read();

@@ -1,4 +1,4 @@
-use Rattle.std.proofs.Common.{◌≤◌, length, sym, subst}
+use Rattle.std.proofs.Common.{◌≤◌, sym, subst}
 use Rattle.schedule_text.specs.declared.lines.TheConstants.{SCHEDULE_STEPS}
 use Rattle.schedule_text.proofs.Written.{spelled, lines_len}
 use Rattle.schedule_text.proofs.write.written_is_read.Goals as goal
