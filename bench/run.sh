@@ -68,9 +68,9 @@ int main(int argc, char **argv) {
 }
 C
 [ -n "$(command -v gcc)" ] && gcc -O2 -fwrapv -o "$work/plain" "$work/plain.c"
-cat >"$work/bench.py" <<'PY'
-import os, resource, subprocess, sys, time
-op2, examples, work, sizes = sys.argv[1], sys.argv[2], sys.argv[3], [int(n) for n in sys.argv[4:]]
+cat >"$work/grid.py" <<'PY'
+import sys
+work, n = sys.argv[1], int(sys.argv[2])
 
 def write(name, entries):
     with open(name, "w") as f:
@@ -82,30 +82,30 @@ def write(name, entries):
                 f.write(f"ints {key} {len(value)}\n" + (" ".join(map(str, value)) + "\n" if value else ""))
         f.write("done\n")
 
-def timed(what, words):
-    pid = os.fork()
-    if pid == 0:
-        null = os.open(os.devnull, os.O_WRONLY); os.dup2(null, 1); os.execv(words[0], words)
-    begun = time.time(); _, status, used = os.wait4(pid, 0)
-    print(f"{what}: status {os.waitstatus_to_exitcode(status)}, {time.time() - begun:.2f} s, {used.ru_maxrss / 1024:.0f} MiB at the peak", flush=True)
-
-for n in sizes:
-    node = lambda i, j: j * (n + 1) + i
-    cell = lambda i, j: j * n + i
-    cells = [(i, j) for j in range(n) for i in range(n)]
-    across = [(cell(i, j), cell(i + 1, j)) for j in range(n) for i in range(n - 1)]
-    up = [(cell(i, j), cell(i, j + 1)) for j in range(n - 1) for i in range(n)]
-    edges = [c for e in across + up for c in e]
-    rim = [cell(i, 0) for i in range(n)] + [cell(i, n - 1) for i in range(n)] + [cell(0, j) for j in range(n)] + [cell(n - 1, j) for j in range(n)]
-    write(work + "/residual.mesh", [("nnode", n * n), ("nedge", len(edges) // 2), ("edge", edges), ("x0", [i % 1000 for i in range(n * n)]), ("r0", [0] * (n * n))])
-    write(work + "/airfoil.mesh", [
-        ("nnode", (n + 1) ** 2), ("ncell", n * n), ("nedge", len(edges) // 2), ("nbedge", 4 * n),
-        ("cell", [v for i, j in cells for v in (node(i, j), node(i + 1, j), node(i + 1, j + 1), node(i, j + 1))]),
-        ("ecell", edges), ("bcell", rim), ("wall0", [1] * n + [-1] * n + [0] * (2 * n)),
-        ("x0", [v for j in range(n + 1) for i in range(n + 1) for v in (i, j)]), ("q0", [i + j for i, j in cells]), ("zero", [0] * (n * n))])
-    timed(f"residual, {len(edges) // 2} edges", [op2, "run", examples + "/residual.c", work + "/residual.mesh"])
-    timed(f"airfoil, {n * n} cells", [op2, "run", work + "/airfoil.c", work + "/airfoil.mesh"])
-    if os.path.exists(work + "/plain"):
-        timed(f"plain C, {n * n} cells", [work + "/plain", work + "/airfoil.mesh"])
+node = lambda i, j: j * (n + 1) + i
+cell = lambda i, j: j * n + i
+cells = [(i, j) for j in range(n) for i in range(n)]
+across = [(cell(i, j), cell(i + 1, j)) for j in range(n) for i in range(n - 1)]
+up = [(cell(i, j), cell(i, j + 1)) for j in range(n - 1) for i in range(n)]
+edges = [c for e in across + up for c in e]
+rim = [cell(i, 0) for i in range(n)] + [cell(i, n - 1) for i in range(n)] + [cell(0, j) for j in range(n)] + [cell(n - 1, j) for j in range(n)]
+write(work + "/residual.mesh", [("nnode", n * n), ("nedge", len(edges) // 2), ("edge", edges), ("x0", [i % 1000 for i in range(n * n)]), ("r0", [0] * (n * n))])
+write(work + "/airfoil.mesh", [
+    ("nnode", (n + 1) ** 2), ("ncell", n * n), ("nedge", len(edges) // 2), ("nbedge", 4 * n),
+    ("cell", [v for i, j in cells for v in (node(i, j), node(i + 1, j), node(i + 1, j + 1), node(i, j + 1))]),
+    ("ecell", edges), ("bcell", rim), ("wall0", [1] * n + [-1] * n + [0] * (2 * n)),
+    ("x0", [v for j in range(n + 1) for i in range(n + 1) for v in (i, j)]), ("q0", [i + j for i, j in cells]), ("zero", [0] * (n * n))])
 PY
-python3 "$work/bench.py" "$here/op2" "$here/examples" "$work" "$@"
+cat >"$work/timed.py" <<'PY'
+import resource, subprocess, sys, time
+begun = time.time()
+status = subprocess.call(sys.argv[2:], stdout=subprocess.DEVNULL)
+peak = resource.getrusage(resource.RUSAGE_CHILDREN).ru_maxrss
+print(f"{sys.argv[1]}: status {status}, {time.time() - begun:.2f} s, {peak / 1024:.0f} MiB at the peak")
+PY
+for n in "$@"; do
+    python3 "$work/grid.py" "$work" "$n"
+    python3 "$work/timed.py" "residual, $((2 * n * (n - 1))) edges" "$here/op2" run "$here/examples/residual.c" "$work/residual.mesh"
+    python3 "$work/timed.py" "airfoil, $((n * n)) cells" "$here/op2" run "$work/airfoil.c" "$work/airfoil.mesh"
+    [ ! -x "$work/plain" ] || python3 "$work/timed.py" "plain C, $((n * n)) cells" "$work/plain" "$work/airfoil.mesh"
+done
