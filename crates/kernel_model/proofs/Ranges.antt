@@ -24,6 +24,7 @@ use Rattle.op_num.specs.Wrapping.{remainder}
 use Rattle.kernel_types.specs.Resolved.{ExprWithin, StmtWithin, RowWithin}
 use Rattle.kernel_model.specs.Numbers.{Value, fault, truth, is_zero, is_shift, is_settled, apply, apply_unary, magnitude, reduction_of, unless_zero, if_shift, sum, difference, product, quotient, rest, shifted_left, shifted_right, and_bits, or_bits, xor_bits, complement, negated}
 use Rattle.kernel_model.specs.Meaning.{Store, cell, Target, target_at, read_arg, store_arg, and_then, index_in, value_of, Outcome, Done, Faulted, then_do, with_value, stored, cleared, turns, meaning, meaning_of_all, without_locals}
+use Rattle.kernel_model.specs.Operators.{IsNumber, OperatorsStayInRange}
 use Rattle.kernel_model.specs.Independence.{Fits, InRange, RangeStays, store_after}
 use Rattle.kernel_model.proofs.Stores.{cell-with_cell}
 use Rattle.kernel_model.proofs.Reached.{SameShape, shape_kept}
@@ -98,25 +99,21 @@ complement_is_num : (x : ℤ) → Num (complement x)
 unfolding complement
 complement_is_num x = read_is_num _
 
-abbrev OkNum : Value → Type 0
-OkNum (Ok v) = Num v
-OkNum (Err f) = Unit {0}
-
-unless_zero_num : (d v : ℤ) (at : Pos) → Num v → OkNum (unless_zero d at v)
+unless_zero_num : (d v : ℤ) (at : Pos) → Num v → IsNumber (unless_zero d at v)
 unless_zero_num d v at f = pick (is_zero d)
   where
-    pick : (b : Bool) → OkNum (cond b (Err (fault DivZero at)) (Ok v))
+    pick : (b : Bool) → IsNumber (cond b (Err (fault DivZero at)) (Ok v))
     pick true = tt
     pick false = f
 
-if_shift_num : (n v : ℤ) (at : Pos) → Num v → OkNum (if_shift n at v)
+if_shift_num : (n v : ℤ) (at : Pos) → Num v → IsNumber (if_shift n at v)
 if_shift_num n v at f = pick (is_shift n)
   where
-    pick : (b : Bool) → OkNum (cond b (Ok v) (Err (fault ShiftCount at)))
+    pick : (b : Bool) → IsNumber (cond b (Ok v) (Err (fault ShiftCount at)))
     pick true = f
     pick false = tt
 
-apply_num : (op : BinaryOp) (at : Pos) (x y : ℤ) → Num x → Num y → OkNum (apply op at x y)
+apply_num : (op : BinaryOp) (at : Pos) (x y : ℤ) → Num x → Num y → IsNumber (apply op at x y)
 apply_num binary.LogicalOr at x y f g = truth_is_num _
 apply_num binary.LogicalAnd at x y f g = truth_is_num _
 apply_num binary.BitOr at x y f g = or_is_num x y
@@ -142,7 +139,7 @@ unary_num unary.Plus x f = f
 unary_num unary.Not x f = truth_is_num _
 unary_num unary.Complement x f = complement_is_num x
 
-stored_num : (op : AssignOp) (at : Pos) (old v : ℤ) → Num old → Num v → OkNum (stored op at old v)
+stored_num : (op : AssignOp) (at : Pos) (old v : ℤ) → Num old → Num v → IsNumber (stored op at old v)
 stored_num assign.Set at old v f g = g
 stored_num assign.Add at old v f g = apply_num binary.Add at old v f g
 stored_num assign.Sub at old v f g = apply_num binary.Sub at old v f g
@@ -154,6 +151,16 @@ stored_num assign.ShiftRight at old v f g = apply_num binary.ShiftRight at old v
 stored_num assign.BitAnd at old v f g = apply_num binary.BitAnd at old v f g
 stored_num assign.BitOr at old v f g = apply_num binary.BitOr at old v f g
 stored_num assign.BitXor at old v f g = apply_num binary.BitXor at old v f g
+
+pub operators_stay_in_range : OperatorsStayInRange
+operators_stay_in_range = record {
+  tests = truth_is_num;
+  unary = unary_num;
+  binary = apply_num;
+  extrema = λ which. (commuting (reduction_of which)).fits;
+  magnitudes = magnitude_is_num;
+  assigned = stored_num;
+}
 
 -- ---- cells
 
@@ -216,19 +223,19 @@ module _ (ts : List Target) (consts : List ℤ) (s0 : Store) (fits : Fits ts s0)
 
   -- ---- expressions
 
-  num_then : (r : Value) (go : ℤ → Value) → OkNum r → ((x : ℤ) → Num x → OkNum (go x)) → OkNum (and_then r go)
+  num_then : (r : Value) (go : ℤ → Value) → IsNumber r → ((x : ℤ) → Num x → IsNumber (go x)) → IsNumber (and_then r go)
   num_then (Ok x) go f h = h x f
   num_then (Err e) go f h = tt
 
-  index_then : (r : Result ℕ KernelFault) (go : ℕ → Value) → ((i : ℕ) → OkNum (go i)) → OkNum (and_then r go)
+  index_then : (r : Result ℕ KernelFault) (go : ℕ → Value) → ((i : ℕ) → IsNumber (go i)) → IsNumber (and_then r go)
   index_then (Ok i) go h = h i
   index_then (Err e) go h = tt
 
-  num_cond : (b : Bool) (x y : Value) → OkNum x → OkNum y → OkNum (cond b x y)
+  num_cond : (b : Bool) (x y : Value) → IsNumber x → IsNumber y → IsNumber (cond b x y)
   num_cond true x y f g = f
   num_cond false x y f g = g
 
-  expr_num : (e : RExpr) (s : Store) (ls : List ℤ) → ExprWithin params scratch (length consts) e → Good s → Nums ls → OkNum (value_of ts consts e s ls)
+  expr_num : (e : RExpr) (s : Store) (ls : List ℤ) → ExprWithin params scratch (length consts) e → Good s → Nums ls → IsNumber (value_of ts consts e s ls)
   expr_num (Number n) s ls w g h = w
   expr_num (Scalar k) s ls w g h = h k
   expr_num (Constant k) s ls w g h = nums k
@@ -256,7 +263,7 @@ module _ (ts : List Target) (consts : List ℤ) (s0 : Store) (fits : Fits ts s0)
   Ends (Done s ls) = Good s × Nums ls
   Ends (Faulted s ls f) = Good s
 
-  num_ends : (s : Store) (ls : List ℤ) (r : Value) (go : ℤ → Outcome) → Good s → OkNum r → ((x : ℤ) → Num x → Ends (go x)) → Ends (with_value s ls r go)
+  num_ends : (s : Store) (ls : List ℤ) (r : Value) (go : ℤ → Outcome) → Good s → IsNumber r → ((x : ℤ) → Num x → Ends (go x)) → Ends (with_value s ls r go)
   num_ends s ls (Ok x) go g f h = h x f
   num_ends s ls (Err e) go g f h = g
 

@@ -6,3 +6,4 @@ pub mod Independence
 pub mod Refusals
 pub mod Walk
 pub mod Trees
+pub mod Operators

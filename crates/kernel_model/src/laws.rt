@@ -1,6 +1,7 @@
 // The laws of kernels, each as the contract of a function that does nothing.
 
 ghost use Rattle.kernel_model.specs.Independence.{Independence, OthersStay, RangeStays, ReadsStay, ShapeStays, Transport};
+ghost use Rattle.kernel_model.specs.Operators.{OperatorsStayInRange};
 ghost use Rattle.kernel_model.specs.Refusals.{ObeysUnlessBroken, OneRefusal};
 ghost use Rattle.kernel_model.specs.Trees.{RunsAlike, WalksAlike};
 ghost use Rattle.kernel_model.specs.Walk.{WalkFinds};
@@ -35,6 +36,11 @@ pub fn shape_stays()
 /// A law: where all cells and constants hold numbers of 32 bits, all cells do after a run, after a fault too.
 pub fn range_stays()
     ensures { RangeStays }
+{}
+
+/// A law: operators on numbers of 32 bits have numbers of 32 bits, where they have no fault.
+pub fn operators_stay_in_range()
+    ensures { OperatorsStayInRange }
 {}
 
 /// A law: a kernel obeys its modes exactly where it breaks none of the eight access rules at any place, and of the rules

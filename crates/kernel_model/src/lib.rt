@@ -4,6 +4,6 @@
 mod laws;
 
 pub use laws::{
-    independence, kernels_are_trees, others_stay, range_stays, reads_stay, rules_are_broken,
-    shape_stays, transport, walk_finds,
+    independence, kernels_are_trees, operators_stay_in_range, others_stay, range_stays, reads_stay,
+    rules_are_broken, shape_stays, transport, walk_finds,
 };
