@@ -14,3 +14,5 @@ pub mod Parts
 pub mod FirstMemory
 pub mod Assignments
 pub mod Items
+pub mod HostRange
+pub mod Runs

@@ -7,3 +7,4 @@ pub mod Stops
 pub mod Laws
 pub mod Constants
 pub mod Memory
+pub mod Ranges

@@ -10,6 +10,7 @@ ghost use Rattle.run_model.specs.Laws.{ActsAreThere, ElementsRunKernels, LoopsAr
 ghost use Rattle.run_model.specs.Constants.{ConstantsAreNumbered, ConstantsAreRead};
 ghost use Rattle.run_model.specs.Memory.{ElementsRunOnMemory, FirstMemoryHolds, MemoryEndsWithVariables};
 ghost use Rattle.run_model.specs.Memory.{MemoryHasDats, MemoryIsInOrder, MemoryTakesAssignments, MemoryTakesZeros};
+ghost use Rattle.run_model.specs.Ranges.{FirstValuesInRange, HostsKeepRange, RunsKeepRange};
 ghost use Rattle.run_model.specs.Stops.{RunsStopAtFaults};
 
 /// The run of a program is the sequential run of the program that the theorem on schedules sees.
@@ -38,6 +39,23 @@ pub fn loops_keep()
 {
     elements_run_kernels();
     element_runs::element_runs_keep();
+}
+
+/// A law: where the mesh and the variables begin with numbers of 32 bits, all cells hold such numbers before the run; and a
+/// statement that is no loop leaves such numbers in the variables.
+pub fn values_stay_in_range()
+    ensures first { FirstValuesInRange }
+    ensures hosts { HostsKeepRange }
+{
+    kernel_model::operators_stay_in_range();
+}
+
+/// A law: so, where each loop's kernel obeys its modes, all values are such numbers throughout the run.
+pub fn runs_keep_range()
+    ensures { RunsKeepRange }
+{
+    loops_keep();
+    values_stay_in_range();
 }
 
 /// A law: over one memory that holds all cells, the dats in order and then the variables, the meaning of the loop's kernel
