@@ -39,11 +39,11 @@ at_ordered n k order p l =
 
 module _ (n : ℕ) (order : ℕ → ℕ) (p q r : ℕ → Bool) where
   -- an element of each group at its local number
-  number_own : (j : ℕ) → p (order j) ≡ true → local_number n order p q r j ≡ earlier order p j
+  pub number_own : (j : ℕ) → p (order j) ≡ true → local_number n order p q r j ≡ earlier order p j
   unfolding local_number
   number_own j h = rw h refl
 
-  number_exec : (j : ℕ) → p (order j) ≡ false → q (order j) ≡ true → local_number n order p q r j ≡ earlier order p n + earlier order q j
+  pub number_exec : (j : ℕ) → p (order j) ≡ false → q (order j) ≡ true → local_number n order p q r j ≡ earlier order p n + earlier order q j
   unfolding local_number
   number_exec j h k = rw (h, k) refl
 

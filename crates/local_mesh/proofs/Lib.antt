@@ -8,3 +8,5 @@ pub mod Growing
 pub mod Grouping
 pub mod Looking
 pub mod Standing
+pub mod Firsts
+pub mod LocalTargets

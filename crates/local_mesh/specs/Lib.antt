@@ -3,3 +3,4 @@ pub mod Local
 pub mod Lookup
 pub mod Parts
 pub mod LocalMesh
+pub mod Numbers
