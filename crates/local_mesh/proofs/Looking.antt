@@ -16,6 +16,7 @@ lookup_is room original copies kept locals now scratch parts ek en ll at num = s
   stands = λ k l. rw (local_is k l) (contains_get original (get_or copies k 0) (parts.found k l));
   all = parts.all;
   rising = parts.rising;
+  apart = parts.apart;
 })
   where
     numbers : (k : ℕ) → k < length original → get_or scratch (get_or original k 0) 0 ≡ k

@@ -1,5 +1,5 @@
 // Original numbers by local number, and local numbers by original number.
-ghost use Rattle.std.specs.Prelude.{◌≡◌, ◌≢◌, ℕ, ◌<◌, ◌≤◌, ◌^◌, IfOk, IfSome, IfNone, length, slice_index};
+ghost use Rattle.std.specs.Prelude.{◌≡◌, ◌≢◌, ℕ, ◌<◌, ◌≤◌, ◌^◌, IfOk, IfSome, IfNone, Some, length, slice_index};
 ghost use Rattle.local_mesh.specs.Parts.{AreParts};
 
 use op_num::OutOfMemory;
@@ -58,6 +58,7 @@ impl Originals {
     pub fn local_of(&self, original: u32) -> Option<u32>
         ensures some { IfSome result (λ l. (l < length self.now) × (slice_index self.now l ≡ original)) }
         ensures none { IfNone result ((k : ℕ) → k < length self.now → slice_index self.now k ≢ original) }
+        ensures at { (k : ℕ) → k < length self.now → slice_index self.now k ≡ original → result ≡ Some k }
     {
         match self.copies.binary_search(&original) {
             Ok(at) => Some(self.locals[at]),

@@ -1,5 +1,5 @@
 // One rank's part of a mesh.
-ghost use Rattle.std.specs.Prelude.{◌≡◌, ◌≢◌, ℕ, ◌<◌, ◌≤◌, ◌+◌, ◌*◌, IfSome, IfNone, length, slice_index};
+ghost use Rattle.std.specs.Prelude.{◌≡◌, ◌≢◌, ℕ, ◌<◌, ◌≤◌, ◌+◌, ◌*◌, IfSome, IfNone, Some, length, slice_index};
 ghost use Rattle.local_mesh.specs.LocalMesh.{originals_in};
 
 use crate::originals::Originals;
@@ -49,6 +49,7 @@ impl RankMesh {
         requires { set < length self.now.sets.items }
         ensures some { IfSome result (λ l. (l < length (originals_in self.now.sets.items set)) × (slice_index (originals_in self.now.sets.items set) l ≡ original)) }
         ensures none { IfNone result ((k : ℕ) → k < length (originals_in self.now.sets.items set) → slice_index (originals_in self.now.sets.items set) k ≢ original) }
+        ensures at { (k : ℕ) → k < length (originals_in self.now.sets.items set) → slice_index (originals_in self.now.sets.items set) k ≡ original → result ≡ Some k }
     {
         self.sets[set as usize].original.local_of(original)
     }

@@ -14,14 +14,14 @@ use Rattle.part_text.proofs.Complete.{stands_through}
 
 module _ (g : MeshValue) (ranks : ℕ) where
   -- the tokens whose bytes can stand in front of a state
-  abbrev Fronts : List Word → State → Type 0
+  abbrev pub Fronts : List Word → State → Type 0
   Fronts ws p = Stands g ranks (map text_of ws) p
 
-  fronts_on : (p q : State) (ws : List Word) (w : Word) → Fronts ws p → step g ranks p w ≡ Ok q → Fronts (ws ++ w ∷ []) q
+  pub fronts_on : (p q : State) (ws : List Word) (w : Word) → Fronts ws p → step g ranks p w ≡ Ok q → Fronts (ws ++ w ∷ []) q
   fronts_on p q ws w s h = subst (λ ts. Stands g ranks ts q) (sym (map_push text_of ws w)) (stands_on g ranks p q (map text_of ws) w s h)
 
   -- only behind `done` the text may end
-  finish_is : (p : State) (last : ℕ) (owners : List (List ℕ)) (ts : List (List ℕ)) → Stands g ranks ts p → finish p last ≡ Ok owners → Stands g ranks ts (End owners)
+  pub finish_is : (p : State) (last : ℕ) (owners : List (List ℕ)) (ts : List (List ℕ)) → Stands g ranks ts p → finish p last ≡ Ok owners → Stands g ranks ts (End owners)
   finish_is (End xs) last owners ts s h = let e : xs ≡ owners = cc in subst (λ ys. Stands g ranks ts (End ys)) e s
   finish_is Magic last owners ts s h = cc
   finish_is Version last owners ts s h = cc
@@ -31,7 +31,7 @@ module _ (g : MeshValue) (ranks : ℕ) where
   finish_is (Ranks t k left rs) last owners ts s h = cc
 
   -- the run over a text that spells owners ends with them
-  spelled-run : (bytes : List ℕ) (owners : List (List ℕ)) → Spells g ranks bytes owners → run (step g ranks) finish Magic 1 (words 1 bytes) ≡ Ok owners
+  pub spelled-run : (bytes : List ℕ) (owners : List (List ℕ)) → Spells g ranks bytes owners → run (step g ranks) finish Magic 1 (words 1 bytes) ≡ Ok owners
   spelled-run bytes owners s = exact.whole_run (step g ranks) finish Magic Fronts refl fronts_on (stands_through g ranks) (words 1 bytes) (End owners) s
 
   -- the four clauses

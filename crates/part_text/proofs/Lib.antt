@@ -5,3 +5,4 @@ pub mod Standing
 pub mod Complete
 pub mod Exact
 pub mod Owned
+pub mod Causes

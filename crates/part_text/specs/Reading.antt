@@ -11,7 +11,7 @@ use Rattle.part_text.specs.declared.refusals.PartRefusal.TheVariants.{Header, Sy
 use Rattle.part_text.specs.declared.token.Keyword.{Keyword}
 use Rattle.part_text.specs.declared.token.Keyword.TheVariants as keyword
 use Rattle.part_text.specs.Token.{is_magic, is_version, keyword_of}
-use Rattle.part_text.specs.Spelling.{Table, no_ranks, IsNamed, AreRanks, ArePart}
+use Rattle.part_text.specs.Spelling.{Table, no_ranks, IsNamed, AreRanks, ArePart, Spells}
 
 -- What is awaited behind the sets that have their ranks so far: the two tokens of the header, a set or `done`, the name of a set,
 -- its size, some more ranks of a set that has the last of these so far, the end.
@@ -90,8 +90,12 @@ module _ (g : MeshValue) (ranks : ℕ) where
   step (Ranks t k left rs) w = onto (ranked ranks (number_of w.text) w.line) (λ r. filled t k (left - 1) (rs ++ r ∷ []))
   step (End owners) w = Err (Syntax w.line)
 
+-- what reading a whole text gives, the ranks of every set or why it is refused
+abbrev pub Read : Type 0
+Read = Result (List (List ℕ)) PartRefusal
+
 -- no token is left, behind one on this line
-abbrev pub finish : State → ℕ → Result (List (List ℕ)) PartRefusal
+abbrev pub finish : State → ℕ → Read
 finish Magic line = Err (Header line)
 finish Version line = Err (Header line)
 finish (Between t) line = Err (Syntax line)
@@ -102,7 +106,7 @@ finish (End owners) line = Ok owners
 
 module _ (g : MeshValue) (ranks : ℕ) where
   -- what reading the tokens to come gives, in this state
-  abbrev pub run_from : State → Uncut → Result (List (List ℕ)) PartRefusal
+  abbrev pub run_from : State → Uncut → Read
   run_from p u = Automaton.run_from (step g ranks) finish p u
 
   -- a set of the mesh that has no ranks, by its name
@@ -123,3 +127,8 @@ module _ (g : MeshValue) (ranks : ℕ) where
   -- The first token that may not stand where it does, or the end, is refused so.
   abbrev pub Refuses : List ℕ → PartRefusal → Type 0
   Refuses bytes r = RefusesAmong (step g ranks) finish (λ ws p. Stands (map text_of ws) p) (words 1 bytes) r
+
+  -- The text comes to this outcome: owners that it spells, or its first refusal.
+  abbrev pub Reads : List ℕ → Read → Type 0
+  Reads bytes (Ok owners) = Spells g ranks bytes owners
+  Reads bytes (Err r) = Refuses bytes r

@@ -10,5 +10,5 @@ mod refusals;
 mod tests;
 mod token;
 
-pub use read::{one_partition, read_partition};
+pub use read::{one_outcome, one_partition, read_partition};
 pub use refusals::PartRefusal;

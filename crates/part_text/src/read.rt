@@ -7,7 +7,7 @@ ghost use Rattle.mesh_decl.specs.Mesh.{MeshValue, set_count, set_size};
 ghost use Rattle.mesh_decl.specs.Owners.{AreOwners};
 ghost use Rattle.part_text.specs.declared.refusals.PartRefusal.{PartRefusal as Refusal};
 ghost use Rattle.part_text.specs.Spelling.{Table, no_ranks, Spells};
-ghost use Rattle.part_text.specs.Reading.{Magic, Between, SetName, Count, filled, set_of, named, sized, ranked, stray, gathered, run_from, Refuses};
+ghost use Rattle.part_text.specs.Reading.{Magic, Between, SetName, Count, filled, set_of, named, sized, ranked, stray, gathered, run_from, Refuses, Reads, Read as Outcome};
 ghost use Rattle.part_text.specs.Answered.{Leads, LeadsToSet};
 
 use crate::refusals::PartRefusal;
@@ -48,6 +48,13 @@ pub fn read_partition(
 /// A law: a text spells at most one partition of a mesh.
 pub fn one_partition()
     ensures { (mesh : MeshValue) (ranks : ℕ) (bytes : List ℕ) (a b : List (List ℕ)) → Spells mesh ranks bytes a → Spells mesh ranks bytes b → a ≡ b }
+{}
+
+/// A law: a text comes to one outcome, a partition of the mesh or a refusal, and no refusal is want of memory.
+pub fn one_outcome()
+    ensures one { (mesh : MeshValue) (ranks : ℕ) (bytes : List ℕ) (a b : Outcome) → Reads mesh ranks bytes a → Reads mesh ranks bytes b → a ≡ b }
+    ensures some { (mesh : MeshValue) (ranks : ℕ) (bytes : List ℕ) → (o : Outcome) × Reads mesh ranks bytes o }
+    ensures causes { (mesh : MeshValue) (ranks : ℕ) (bytes : List ℕ) → ¬ Refuses mesh ranks bytes Refusal.OutOfMemory }
 {}
 
 fn read(alloc: Global, bytes: &[u8], mesh: &Mesh, ranks: u32) -> Result<Owners, PartRefusal>

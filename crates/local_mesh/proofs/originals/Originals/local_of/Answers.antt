@@ -24,3 +24,6 @@ returns-in-Err-clause-none c = λ k l e.
     (rw c.deref.ensures.value c.self.invariant.rising)
     (subst (λ (q : List ℕ). Contains q c.args.original) (sym c.deref.ensures.value)
     (subst (λ z. Contains v.copies.items z) (ap (λ (q : List ℕ). get_or q k 0) c.self.view_is ∙ e) (c.self.invariant.all k (subst (λ (q : List ℕ). k < length q) (sym c.self.view_is) l))))
+
+pub returns-in-Err-clause-at : goal.returns-in-Err-clause-at
+returns-in-Err-clause-at c = λ k l e. absurd (returns-in-Err-clause-none c k l e)
