@@ -4,6 +4,9 @@ ghost use Rattle.mesh_decl.specs.Mesh.{MeshValue, map_count, set_size, map_from,
 ghost use Rattle.mesh_decl.specs.declared.owners.Owners.{Owners};
 ghost use Rattle.mesh_decl.specs.Owners.{owner_of};
 ghost use Rattle.halo_lists.specs.Halo.{has_copy, executes, imports, imports_execute, is_core};
+ghost use Rattle.halo_lists.specs.declared.types.Halos.{Halos as TheHalos};
+ghost use Rattle.halo_lists.specs.Halos.{AreHalos};
+ghost use Rattle.halo_lists.specs.Values.{halos_value};
 
 /// A rank imports an element to execute exactly where it doesn't own it and owns a target of it by some map.
 pub fn execute_halo_owns_a_target()
@@ -23,4 +26,9 @@ pub fn core_targets_are_owned()
 /// A rank imports nothing of its own: who sends and who receives differ.
 pub fn imports_are_of_others()
     ensures { (g : MeshValue) (o : Owners) (s x r : ℕ) → imports g o s x r ≡ true → owner_of o s x ≢ r }
+{}
+
+/// Owners of a mesh have one halo.
+pub fn one_halos()
+    ensures { (g : MeshValue) (o : Owners) (a b : TheHalos) → AreHalos g o a → AreHalos g o b → halos_value a ≡ halos_value b }
 {}

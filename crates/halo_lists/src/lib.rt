@@ -26,7 +26,7 @@ use exports::exports_by_owner;
 pub use fit::owners_fit;
 pub use laws::{
     core_targets_are_owned, execute_halo_owns_a_target, executed_targets_are_copies,
-    imports_are_of_others,
+    imports_are_of_others, one_halos,
 };
 use masks::executing_all;
 use mesh_decl::{Mesh, Owners};
