@@ -10,3 +10,4 @@ pub mod Looking
 pub mod Standing
 pub mod Firsts
 pub mod LocalTargets
+pub mod OneMesh

@@ -16,6 +16,14 @@ row_apart w l i k j li lj e = ⊎_elim
     o)
     (cases_order l k)
 
+-- a place in a table of rows is one in a row
+pub in_row : (c n w : ℕ) → c < n * w → (l : ℕ) × (i : ℕ) × (l < n) × (i < w) × (l * w + i ≡ c)
+in_row c zero w h = absurd (omega arith)
+in_row c (suc n) w h = ⊎_elim
+    (λ (m : c < n * w). let r = in_row c n w m in (r.0, r.1, omega (arith, r.2), r.3, r.4))
+    (λ (m : n * w ≤ c). (n, c - n * w, omega arith, omega arith, omega arith))
+    (cases_lt c (n * w))
+
 module _ (g : MeshValue) (sets : List LocalSet) where
   abbrev pub copies : ℕ → ℕ
   copies d = length (originals_in sets (dat_set g d))
@@ -62,10 +70,3 @@ module _ (g : MeshValue) (sets : List LocalSet) where
       let a = in_row (c - cells_before g sets n) (copies n) (dat_dim g n) (omega arith) in
       (n, a.0, a.1, omega arith, a.2, a.3, (let q : cells_before g sets n + a.0 * dat_dim g n + a.1 ≡ c = omega (arith, a.4) in q)))
       (cases_lt c (cells_before g sets n))
-    where
-      in_row : (c n w : ℕ) → c < n * w → (l : ℕ) × (i : ℕ) × (l < n) × (i < w) × (l * w + i ≡ c)
-      in_row c zero w h = absurd (omega arith)
-      in_row c (suc n) w h = ⊎_elim
-          (λ (m : c < n * w). let r = in_row c n w m in (r.0, r.1, omega (arith, r.2), r.3, r.4))
-          (λ (m : n * w ≤ c). (n, c - n * w, omega arith, omega arith, omega arith))
-          (cases_lt c (n * w))

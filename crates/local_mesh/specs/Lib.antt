@@ -4,3 +4,4 @@ pub mod Lookup
 pub mod Parts
 pub mod LocalMesh
 pub mod Numbers
+pub mod Values

@@ -28,8 +28,8 @@ use halo_lists::{Halos, executed_targets_are_copies};
 pub use laws::{cells_are_of_copies, originals_are_copies, places_are_disjoint, places_fit};
 use mesh_decl::{Mesh, Owners, Perms};
 pub use number_laws::{
-    equal_targets_are_local, executed_come_first, originals_are_distinct, owned_come_first,
-    rank_meshes_are_closed, targets_are_local,
+    equal_targets_are_local, executed_come_first, one_rank_meshes, originals_are_distinct,
+    owned_come_first, rank_meshes_are_closed, targets_are_local,
 };
 use numbers::local_sets;
 use op_num::OutOfMemory;

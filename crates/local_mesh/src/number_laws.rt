@@ -1,6 +1,7 @@
 // What the local numbers of a rank say.
 ghost use Rattle.local_mesh.specs.Numbers.{OwnedComeFirst, ExecutedComeFirst, OriginalsAreDistinct};
 ghost use Rattle.local_mesh.specs.Numbers.{RankMeshesAreClosed, TargetsAreLocal, EqualTargetsAreLocal};
+ghost use Rattle.local_mesh.specs.Values.{AreOne};
 
 use halo_lists::executed_targets_are_copies;
 
@@ -34,4 +35,9 @@ pub fn targets_are_local()
 /// Two targets of elements that a rank executes are one element exactly where their local numbers are one.
 pub fn equal_targets_are_local()
     ensures { EqualTargetsAreLocal }
+{}
+
+/// Owners and new numbers of a mesh have one local mesh for each rank.
+pub fn one_rank_meshes()
+    ensures { AreOne }
 {}
