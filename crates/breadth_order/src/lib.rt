@@ -12,12 +12,14 @@ ghost use Rattle.breadth_order.specs.Degrees.{degree_order};
 ghost use Rattle.breadth_order.specs.Taken.{is_near, IsTaken, IsWalk, Rises, AreRising, AreWithin};
 
 mod keys;
+mod laws;
 mod neighbours;
 #[cfg(test)]
 mod tests;
 
 pub use keys::by_keys;
 use keys::{by_degree, reorder};
+pub use laws::one_taking_order;
 use mesh_decl::Mesh;
 pub use neighbours::make_neighbours;
 use op_num::OutOfMemory;
