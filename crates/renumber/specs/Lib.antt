@@ -1,2 +1,3 @@
 pub mod Identity
 pub mod CuthillMcKee
+pub mod OneNumbering

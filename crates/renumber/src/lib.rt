@@ -7,11 +7,13 @@ ghost use Rattle.renumber.specs.Identity.{IsIdentity};
 ghost use Rattle.renumber.specs.CuthillMcKee.{IsCuthillMcKee};
 
 mod by_targets;
+mod laws;
 mod orders;
 #[cfg(test)]
 mod tests;
 
 use breadth_order::taking_order;
+pub use laws::one_numbering;
 use mesh_decl::{Mesh, Numbers, Perms};
 use op_num::OutOfMemory;
 use orders::{counting, reversed, set_order};
