@@ -11,3 +11,5 @@ pub mod Standing
 pub mod Firsts
 pub mod LocalTargets
 pub mod OneMesh
+pub mod AtOwners
+pub mod Held

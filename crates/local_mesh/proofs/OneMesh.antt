@@ -1,10 +1,10 @@
 -- Owners and new numbers have one local mesh for each rank.
-use Rattle.std.proofs.Common.{◌≡◌, ℕ, zero, suc, ◌+◌, ◌*◌, ◌<◌, Bool, true, false, ◌&&◌, nat_lt, List, [], map, length, get_or, refl, sym, ap, ◌∙◌, arith, subst}
+use Rattle.std.proofs.Common.{◌≡◌, ℕ, zero, suc, ◌+◌, ◌*◌, ◌<◌, Bool, false, ◌&&◌, nat_lt, List, [], map, length, get_or, refl, sym, ap, ◌∙◌, arith, subst}
 use Rattle.std.proofs.lemmas.List.{ext_get_or, get_or-map, length-map}
 use Rattle.std.proofs.lemmas.Simd.{map-map}
 use Rattle.mesh_decl.specs.declared.owners.Owners.{Owners}
 use Rattle.mesh_decl.specs.declared.owners.Perms.{Perms}
-use Rattle.mesh_decl.specs.Mesh.{MeshValue, set_count, map_count, dat_count, set_size, map_from, map_to, map_dim, target, dat_set, dat_dim}
+use Rattle.mesh_decl.specs.Mesh.{MeshValue, set_count, map_count, dat_count, set_size, map_from, map_to, map_dim, target, dat_set}
 use Rattle.mesh_decl.specs.Owners.{ArePerms}
 use Rattle.mesh_decl.proofs.FieldReads.{some_in}
 use Rattle.rank_sets.specs.Below.{row}
@@ -13,9 +13,9 @@ use Rattle.halo_lists.specs.Values.{lists_of}
 use Rattle.halo_lists.proofs.OneHalo.{same_lists}
 use Rattle.local_mesh.specs.declared.types.LocalSet.{LocalSet}
 use Rattle.local_mesh.specs.declared.types.RankMesh.{RankMesh}
-use Rattle.local_mesh.specs.Local.{local_number, AreInverse}
+use Rattle.local_mesh.specs.Local.{AreInverse}
 use Rattle.local_mesh.specs.Parts.{by_new}
-use Rattle.local_mesh.specs.LocalMesh.{IsLocalSet, IsRankMesh, AreRankMeshes, AreLocalTargets, AreBases, originals_in, executed_in, cells_before}
+use Rattle.local_mesh.specs.LocalMesh.{IsLocalSet, IsRankMesh, AreRankMeshes, AreLocalTargets, originals_in, executed_in, cells_before}
 use Rattle.local_mesh.specs.Values.{LocalSetValue, local_set_value, RankMeshValue, rank_mesh_value}
 use Rattle.local_mesh.proofs.Standing.{in_row}
 use Rattle.local_mesh.proofs.Firsts.{distinct}

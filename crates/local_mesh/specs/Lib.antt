@@ -5,3 +5,4 @@ pub mod Parts
 pub mod LocalMesh
 pub mod Numbers
 pub mod Values
+pub mod Lists

@@ -16,6 +16,7 @@ ghost use Rattle.local_mesh.specs.LocalMesh.{AreRankMeshes};
 mod cells;
 mod groups;
 mod laws;
+mod lists;
 mod number_laws;
 mod numbers;
 mod originals;
@@ -26,6 +27,7 @@ use cells::first_cells;
 use groups::groups_by_rank;
 use halo_lists::{Halos, executed_targets_are_copies};
 pub use laws::{cells_are_of_copies, originals_are_copies, places_are_disjoint, places_fit};
+pub use lists::{LocalLists, local_lists};
 use mesh_decl::{Mesh, Owners, Perms};
 pub use number_laws::{
     equal_targets_are_local, executed_come_first, one_rank_meshes, originals_are_distinct,

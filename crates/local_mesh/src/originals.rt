@@ -1,5 +1,5 @@
 // Original numbers by local number, and local numbers by original number.
-ghost use Rattle.std.specs.Prelude.{◌≡◌, ◌≢◌, ℕ, ◌<◌, ◌≤◌, ◌^◌, IfOk, IfSome, IfNone, Some, length, slice_index};
+ghost use Rattle.std.specs.Prelude.{◌≡◌, ◌≢◌, ℕ, ◌<◌, ◌≤◌, ◌^◌, IfOk, IfSome, IfNone, Some, length, slice_index, Contains};
 ghost use Rattle.local_mesh.specs.Parts.{AreParts};
 
 use op_num::OutOfMemory;
@@ -72,7 +72,8 @@ pub fn number_locals(numbers: &mut [u32], original: &[u32])
     requires few { length original.now < 2 ^ 32 }
     requires within { (k : ℕ) → k < length original.now → slice_index original.now k < length numbers.old }
     requires apart { (j k : ℕ) → j < k → k < length original.now → slice_index original.now j ≢ slice_index original.now k }
-    ensures { (k : ℕ) → k < length original.now → slice_index numbers.new (slice_index original.now k) ≡ k }
+    ensures at { (k : ℕ) → k < length original.now → slice_index numbers.new (slice_index original.now k) ≡ k }
+    ensures others { (y : ℕ) → ¬ Contains original.now y → slice_index numbers.new y ≡ slice_index numbers.old y }
 {
     for (local, element) in original.iter().enumerate() {
         numbers[*element as usize] = local as u32;
@@ -80,7 +81,7 @@ pub fn number_locals(numbers: &mut [u32], original: &[u32])
 }
 
 // What stands at each of these places.
-fn locals_of(alloc: Global, places: &[u32], numbers: &[u32]) -> Result<Vec<u32>, OutOfMemory>
+pub fn locals_of(alloc: Global, places: &[u32], numbers: &[u32]) -> Result<Vec<u32>, OutOfMemory>
     requires { (k : ℕ) → k < length places.now → slice_index places.now k < length numbers.now }
     ensures length { IfOk result (λ v. length v.items ≡ length places.now) }
     ensures at { IfOk result (λ v. (k : ℕ) → k < length places.now → slice_index v.items k ≡ slice_index numbers.now (slice_index places.now k)) }

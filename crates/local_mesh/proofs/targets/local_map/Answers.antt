@@ -75,4 +75,4 @@ returns c =
     (read sets c.map_ends-from.result.1 t c.index-sets-to.result c.as_slice.result.now (ap (λ z. z.1) c.map_ends-from.ensures) lt c.as_slice.ensures)
     (read sets c.map_ends-from.result.0 s c.index-sets-from.result c.as_slice-elements.result.now f ls (c.as_slice-elements.ensures ∙ ap (λ (z : LocalSet). z.original) c.index-sets-from.is))
     (executed sets c.map_ends-from.result.0 s c.index-sets-from.result f ls c.index-sets-from.is)
-    refl c.number_locals.ensures c.in_ok-table.ensures.length c.in_ok-table.ensures.targets
+    refl c.number_locals.ensures.at c.in_ok-table.ensures.length c.in_ok-table.ensures.targets

@@ -1,0 +1,215 @@
+// Local numbers of elements on their owners, and of what ranks export and import.
+ghost use Rattle.std.specs.Prelude.{◌≡◌, ℕ, ◌<◌, ◌≤◌, IfOk, length, take, slice_index, slice_index_or};
+ghost use Rattle.rank_sets.specs.Below.{row, rows};
+ghost use Rattle.mesh_decl.specs.Mesh.{set_count, set_size};
+ghost use Rattle.mesh_decl.specs.Owners.{AreOwners, ArePerms};
+ghost use Rattle.mesh_decl.specs.declared.owners.Perms.{Perms as ThePerms};
+ghost use Rattle.halo_lists.specs.Halos.{IsSetHalo, AreHalos};
+ghost use Rattle.local_mesh.specs.LocalMesh.{originals_in, AreRankMeshes};
+ghost use Rattle.local_mesh.specs.Numbers.{own_in};
+ghost use Rattle.local_mesh.specs.Lists.{sets_of as the_sets_of, originals_of as the_originals_of, AreRead, AreAtOwners, AreImports, IsLocalLists, AreLocalLists, AreHeld};
+
+use crate::number_laws::rank_meshes_are_closed;
+use crate::originals::{locals_of, number_locals};
+use crate::types::{LocalSet, RankMesh};
+use halo_lists::{Halos, SetHalo};
+use mesh_decl::{Mesh, Owners};
+use op_num::OutOfMemory;
+use std::alloc::Global;
+
+/// Of one set, the local numbers that ranks need of each other's elements.
+#[derive(Debug, Drop)]
+pub struct LocalLists {
+    /// By element, its local number on the rank that owns it.
+    pub at_owner: Vec<u32>,
+    /// By owner and then by importing rank, the owner's local numbers of what the rank imports from it, by increasing
+    /// original number.
+    pub exports: Vec<Vec<Vec<u32>>>,
+    /// By importing rank and then by owner, the importing rank's local numbers of the same elements, in the same order.
+    pub imports: Vec<Vec<Vec<u32>>>,
+}
+
+// The sets of a rank.
+fn sets_of(meshes: &[RankMesh], rank: u32) -> &[LocalSet]
+    requires { rank < length meshes.now }
+    ensures { result.now ≡ the_sets_of meshes.now rank }
+{
+    &meshes[rank as usize].sets
+}
+
+// Of one set, the original numbers of a rank's elements, by local number.
+fn originals_of(meshes: &[RankMesh], rank: u32, set: u32) -> &[u32]
+    requires rank { rank < length meshes.now }
+    requires set { set < length (the_sets_of meshes.now rank) }
+    ensures { result.now ≡ the_originals_of meshes.now rank set }
+{
+    sets_of(meshes, rank)[set as usize].original.as_slice()
+}
+
+// Of one set, how many elements a rank owns.
+fn own_count(meshes: &[RankMesh], rank: u32, set: u32) -> usize
+    requires rank { rank < length meshes.now }
+    requires set { set < length (the_sets_of meshes.now rank) }
+    ensures { result ≡ own_in (the_sets_of meshes.now rank) set }
+{
+    sets_of(meshes, rank)[set as usize].own as usize
+}
+
+// Of one set, the original numbers of what a rank owns, by local number.
+fn owned_of(meshes: &[RankMesh], rank: u32, set: u32) -> &[u32]
+    requires rank { rank < length meshes.now }
+    requires set { set < length (the_sets_of meshes.now rank) }
+    requires held { own_in (the_sets_of meshes.now rank) set ≤ length (the_originals_of meshes.now rank set) }
+    ensures { result.now ≡ take (own_in (the_sets_of meshes.now rank) set) (the_originals_of meshes.now rank set) }
+{
+    let count = own_count(meshes, rank, set);
+    &originals_of(meshes, rank, set)[..count]
+}
+
+// By element of a set, its local number on its owner.
+fn locals_at_owners(
+    alloc: Global,
+    mesh: &Mesh,
+    owners: &Owners,
+    meshes: &[RankMesh],
+    set: u32,
+) -> Result<Vec<u32>, OutOfMemory>
+    requires set { set < set_count mesh.now }
+    requires owners { AreOwners mesh.now owners.now }
+    requires held { AreHeld mesh.now owners.now meshes.now set }
+    ensures { IfOk result (λ v. AreAtOwners mesh.now owners.now meshes.now set v.items) }
+{
+    let mut numbers = vec![in alloc; 0; mesh.set_size(set) as usize]?;
+    for rank in 0..owners.ranks {
+        number_locals(&mut numbers, owned_of(meshes, rank, set));
+    }
+    Ok(numbers)
+}
+
+// Of each list what stands in the table at its places.
+fn read_lists(
+    alloc: Global,
+    lists: &[Vec<u32>],
+    numbers: &[u32],
+) -> Result<Vec<Vec<u32>>, OutOfMemory>
+    requires { (r k : ℕ) → r < length lists.now → k < length (row lists.now r) → slice_index (row lists.now r) k < length numbers.now }
+    ensures length { IfOk result (λ v. length v.items ≡ length lists.now) }
+    ensures read { IfOk result (λ v. (r : ℕ) → r < length lists.now → AreRead numbers.now (row lists.now r) (row v.items r)) }
+{
+    let mut found = Vec::with_capacity(alloc, lists.len())?;
+    for places in lists {
+        found.push(locals_of(alloc, places, numbers)?)?;
+    }
+    Ok(found)
+}
+
+// By owner and rank what stands in the table at each export.
+fn read_exports(
+    alloc: Global,
+    exports: &[Vec<Vec<u32>>],
+    numbers: &[u32],
+) -> Result<Vec<Vec<Vec<u32>>>, OutOfMemory>
+    requires { (a r k : ℕ) → a < length exports.now → r < length (rows exports.now a) → k < length (row (rows exports.now a) r) → slice_index (row (rows exports.now a) r) k < length numbers.now }
+    ensures length { IfOk result (λ v. length v.items ≡ length exports.now) }
+    ensures lengths { IfOk result (λ v. (a : ℕ) → a < length exports.now → length (rows v.items a) ≡ length (rows exports.now a)) }
+    ensures read { IfOk result (λ v. (a r : ℕ) → a < length exports.now → r < length (rows exports.now a) → AreRead numbers.now (row (rows exports.now a) r) (row (rows v.items a) r)) }
+{
+    let mut found = Vec::with_capacity(alloc, exports.len())?;
+    for lists in exports {
+        found.push(read_lists(alloc, lists, numbers)?)?;
+    }
+    Ok(found)
+}
+
+// By owner what stands in the table at each of a rank's imports.
+fn read_imports(
+    alloc: Global,
+    exports: &[Vec<Vec<u32>>],
+    rank: u32,
+    numbers: &[u32],
+) -> Result<Vec<Vec<u32>>, OutOfMemory>
+    requires rank { (a : ℕ) → a < length exports.now → rank < length (rows exports.now a) }
+    requires within { (a k : ℕ) → a < length exports.now → k < length (row (rows exports.now a) rank) → slice_index (row (rows exports.now a) rank) k < length numbers.now }
+    ensures length { IfOk result (λ v. length v.items ≡ length exports.now) }
+    ensures read { IfOk result (λ v. (a : ℕ) → a < length exports.now → AreRead numbers.now (row (rows exports.now a) rank) (row v.items a)) }
+{
+    let mut found = Vec::with_capacity(alloc, exports.len())?;
+    for lists in exports {
+        found.push(locals_of(alloc, &lists[rank as usize], numbers)?)?;
+    }
+    Ok(found)
+}
+
+// By importing rank and owner the rank's local numbers of what it imports of a set.
+fn locals_of_imports(
+    alloc: Global,
+    mesh: &Mesh,
+    owners: &Owners,
+    meshes: &[RankMesh],
+    halo: &SetHalo,
+    set: u32,
+) -> Result<Vec<Vec<Vec<u32>>>, OutOfMemory>
+    requires set { set < set_count mesh.now }
+    requires held { AreHeld mesh.now owners.now meshes.now set }
+    requires halo { IsSetHalo mesh.now owners.now set halo.now }
+    ensures { IfOk result (λ v. AreImports owners.now meshes.now set halo.now v.items) }
+{
+    let mut numbers = vec![in alloc; 0; mesh.set_size(set) as usize]?;
+    let mut imports = Vec::new(alloc);
+    for rank in 0..owners.ranks {
+        number_locals(&mut numbers, originals_of(meshes, rank, set));
+        imports.push(read_imports(alloc, &halo.exports, rank, &numbers)?)?;
+    }
+    Ok(imports)
+}
+
+// The lists of one set.
+fn set_lists(
+    alloc: Global,
+    mesh: &Mesh,
+    owners: &Owners,
+    meshes: &[RankMesh],
+    halo: &SetHalo,
+    set: u32,
+) -> Result<LocalLists, OutOfMemory>
+    requires set { set < set_count mesh.now }
+    requires owners { AreOwners mesh.now owners.now }
+    requires held { AreHeld mesh.now owners.now meshes.now set }
+    requires halo { IsSetHalo mesh.now owners.now set halo.now }
+    ensures { IfOk result (IsLocalLists mesh.now owners.now meshes.now set halo.now) }
+{
+    let at_owner = locals_at_owners(alloc, mesh, owners, meshes, set)?;
+    let exports = read_exports(alloc, &halo.exports, &at_owner)?;
+    let imports = locals_of_imports(alloc, mesh, owners, meshes, halo, set)?;
+    Ok(LocalLists {
+        at_owner,
+        exports,
+        imports,
+    })
+}
+
+/// For each set the local number of each element on its owner, and the local numbers of what ranks export and import,
+/// from the local meshes of all ranks.
+///
+/// It takes time linear in the elements and in what the ranks have, and fails only for want of memory.
+pub fn local_lists(
+    alloc: Global,
+    mesh: &Mesh,
+    owners: &Owners,
+    halos: &Halos,
+    meshes: &[RankMesh],
+) -> Result<Vec<LocalLists>, OutOfMemory>
+    requires owners { AreOwners mesh.now owners.now }
+    requires halos { AreHalos mesh.now owners.now halos.now }
+    requires meshes { (p : ThePerms) × ArePerms mesh.now p × AreRankMeshes mesh.now owners.now p meshes.now }
+    ensures { IfOk result (λ v. AreLocalLists mesh.now owners.now halos.now meshes.now v.items) }
+{
+    rank_meshes_are_closed();
+    let _ = (mesh.set_count(), mesh.map_count());
+    let mut lists = Vec::new(alloc);
+    for set in 0..mesh.set_count() {
+        let halo = &halos.sets[set as usize];
+        lists.push(set_lists(alloc, mesh, owners, meshes, halo, set)?)?;
+    }
+    Ok(lists)
+}
