@@ -1,7 +1,8 @@
 -- Where what comes next is one, an order is one.
 use Rattle.std.proofs.Common.{◌≡◌, ℕ, zero, suc, ◌+◌, ◌*◌, ◌^◌, ◌<◌, ◌≤◌, Bool, List, [], ◌∷◌, ◌++◌, length, take, get_or, refl, sym, ap, ◌∙◌, arith, ⊎_elim, subst}
 use Rattle.std.proofs.Math.Seq.{take-suc}
-use Rattle.std.proofs.lemmas.List.{take_all}
+use Rattle.std.specs.List.{Contains}
+use Rattle.std.proofs.lemmas.List.{take_all, length-take-le, get_or_default, get_or-take}
 use Rattle.mesh_decl.specs.Mesh.{MeshValue}
 use Rattle.breadth_order.specs.Taken.{IsNext, IsTaken}
 use Rattle.breadth_order.specs.Degrees.{degree, degree_order}
@@ -36,3 +37,10 @@ low_parts d e x y lx ly h = omega arith
 pub degrees_apart : (g : MeshValue) (m : ℕ) → AreApart (2 ^ 32) (degree_order g m)
 unfolding degree_order
 degrees_apart g m x y lx ly e = low_parts (degree g m x) (degree g m y) x y lx ly e
+
+-- what stands at an earlier place stands in the front
+pub in_front : (xs : List ℕ) (k j : ℕ) → k ≤ length xs → j < k → Contains (take k xs) (get_or xs j 0)
+in_front xs k j lk l =
+    let n : length (take k xs) ≡ k = length-take-le k xs lk in
+    let lj : j < length (take k xs) = omega arith in
+    (j, lj, get_or_default (take k xs) j (get_or xs j 0) 0 lj ∙ get_or-take k xs j 0 l)

@@ -10,3 +10,5 @@ pub mod Axes
 pub mod Along
 pub mod Parts
 pub mod Halving
+pub mod OneGrowth
+pub mod OneBisection

@@ -17,6 +17,7 @@ mod elect;
 mod given;
 mod growth;
 mod halves;
+mod laws;
 mod next;
 #[cfg(test)]
 mod tests;
@@ -26,6 +27,7 @@ use blocks::block_set;
 pub use given::given_fits;
 use growth::grow_set;
 use halves::bisect_set;
+pub use laws::{one_bisection, one_growth};
 use mesh_decl::{Mesh, Numbers, Owners};
 use op_num::OutOfMemory;
 pub use part_text::{PartRefusal, one_partition, read_partition};

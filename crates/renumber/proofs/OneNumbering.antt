@@ -10,7 +10,7 @@ use Rattle.breadth_order.specs.Taken.{IsTaken, IsNext, Rises, earliest}
 use Rattle.breadth_order.specs.Neighbours.{are_neighbours}
 use Rattle.breadth_order.specs.Degrees.{degree_order}
 use Rattle.breadth_order.specs.OneOrder.{AreApart, IsOneOrder, DegreesAreApart}
-use Rattle.breadth_order.proofs.OneOrder.{low_parts}
+use Rattle.breadth_order.proofs.OneOrder.{in_front, low_parts}
 use Rattle.renumber.specs.Identity.{IsIdentity}
 use Rattle.renumber.specs.CuthillMcKee.{IsCuthillMcKee, IsByTargets, least_below, target_key}
 
@@ -30,12 +30,6 @@ one_identity g a b h k = same_perms g a b h.perms k.perms
 -- no two elements are near
 abbrev none : ℕ → ℕ → Bool
 none x y = false
-
-in_front : (xs : List ℕ) (k j : ℕ) → k ≤ length xs → j < k → Contains (take k xs) (get_or xs j 0)
-in_front xs k j lk l =
-    let n : length (take k xs) ≡ k = length-take-le k xs lk in
-    let lj : j < length (take k xs) = omega arith in
-    (j, lj, get_or_default (take k xs) j (get_or xs j 0) 0 lj ∙ get_or-take k xs j 0 l)
 
 -- by rising keys the next of a numbering is the least
 rising_is_taken : (n : ℕ) (key : ℕ → ℕ) (xs : List ℕ) → IsNumbering n xs → Rises key xs → IsTaken n none key xs
