@@ -79,7 +79,20 @@ pub record AreHeld (g : MeshValue) (o : Owners) (meshes : List RankMesh) (s : �
   pub count : length meshes ≡ o.ranks
   pub ranks : (r : ℕ) → r < o.ranks → IsHeld g o s r (sets_of meshes r)
 
+-- each number of a list is below n
+abbrev pub IsBelow : ℕ → List ℕ → Type 0
+IsBelow n xs = (k : ℕ) → k < length xs → slice_index xs k < n
+
+-- each number of each list is below n
+abbrev pub AreBelow : ℕ → List (Vec ℕ Global) → Type 0
+AreBelow n lists = (r : ℕ) → r < length lists → IsBelow n (row lists r)
+
 -- what stands in the table at each of these places
-pub record AreRead (numbers places read : List ℕ) : Type 0 where
+pub record AreRead (table places read : List ℕ) : Type 0 where
   pub count : length read ≡ length places
-  pub each : (k : ℕ) → k < length places → slice_index read k ≡ slice_index numbers (slice_index places k)
+  pub each : (k : ℕ) → k < length places → slice_index read k ≡ slice_index table (slice_index places k)
+
+-- the same of each list
+pub record AreAllRead (table : List ℕ) (lists read : List (Vec ℕ Global)) : Type 0 where
+  pub count : length read ≡ length lists
+  pub each : (r : ℕ) → r < length lists → AreRead table (row lists r) (row read r)

@@ -7,7 +7,8 @@ ghost use Rattle.mesh_decl.specs.declared.owners.Perms.{Perms as ThePerms};
 ghost use Rattle.halo_lists.specs.Halos.{IsSetHalo, AreHalos};
 ghost use Rattle.local_mesh.specs.LocalMesh.{originals_in, AreRankMeshes};
 ghost use Rattle.local_mesh.specs.Numbers.{own_in};
-ghost use Rattle.local_mesh.specs.Lists.{sets_of as the_sets_of, originals_of as the_originals_of, AreRead, AreAtOwners, AreImports, IsLocalLists, AreLocalLists, AreHeld};
+ghost use Rattle.local_mesh.specs.Lists.{sets_of as the_sets_of, originals_of as the_originals_of, IsBelow, AreBelow, AreRead, AreAllRead};
+ghost use Rattle.local_mesh.specs.Lists.{AreAtOwners, AreImports, IsLocalLists, AreLocalLists, AreHeld};
 
 use crate::number_laws::rank_meshes_are_closed;
 use crate::originals::{locals_of, number_locals};
@@ -90,15 +91,14 @@ fn locals_at_owners(
 fn read_lists(
     alloc: Global,
     lists: &[Vec<u32>],
-    numbers: &[u32],
+    table: &[u32],
 ) -> Result<Vec<Vec<u32>>, OutOfMemory>
-    requires { (r k : ℕ) → r < length lists.now → k < length (row lists.now r) → slice_index (row lists.now r) k < length numbers.now }
-    ensures length { IfOk result (λ v. length v.items ≡ length lists.now) }
-    ensures read { IfOk result (λ v. (r : ℕ) → r < length lists.now → AreRead numbers.now (row lists.now r) (row v.items r)) }
+    requires { AreBelow (length table.now) lists.now }
+    ensures { IfOk result (λ v. AreAllRead table.now lists.now v.items) }
 {
     let mut found = Vec::with_capacity(alloc, lists.len())?;
     for places in lists {
-        found.push(locals_of(alloc, places, numbers)?)?;
+        found.push(locals_of(alloc, places, table)?)?;
     }
     Ok(found)
 }
@@ -107,16 +107,15 @@ fn read_lists(
 fn read_exports(
     alloc: Global,
     exports: &[Vec<Vec<u32>>],
-    numbers: &[u32],
+    table: &[u32],
 ) -> Result<Vec<Vec<Vec<u32>>>, OutOfMemory>
-    requires { (a r k : ℕ) → a < length exports.now → r < length (rows exports.now a) → k < length (row (rows exports.now a) r) → slice_index (row (rows exports.now a) r) k < length numbers.now }
+    requires { (a : ℕ) → a < length exports.now → AreBelow (length table.now) (rows exports.now a) }
     ensures length { IfOk result (λ v. length v.items ≡ length exports.now) }
-    ensures lengths { IfOk result (λ v. (a : ℕ) → a < length exports.now → length (rows v.items a) ≡ length (rows exports.now a)) }
-    ensures read { IfOk result (λ v. (a r : ℕ) → a < length exports.now → r < length (rows exports.now a) → AreRead numbers.now (row (rows exports.now a) r) (row (rows v.items a) r)) }
+    ensures read { IfOk result (λ v. (a : ℕ) → a < length exports.now → AreAllRead table.now (rows exports.now a) (rows v.items a)) }
 {
     let mut found = Vec::with_capacity(alloc, exports.len())?;
     for lists in exports {
-        found.push(read_lists(alloc, lists, numbers)?)?;
+        found.push(read_lists(alloc, lists, table)?)?;
     }
     Ok(found)
 }
@@ -126,16 +125,16 @@ fn read_imports(
     alloc: Global,
     exports: &[Vec<Vec<u32>>],
     rank: u32,
-    numbers: &[u32],
+    table: &[u32],
 ) -> Result<Vec<Vec<u32>>, OutOfMemory>
     requires rank { (a : ℕ) → a < length exports.now → rank < length (rows exports.now a) }
-    requires within { (a k : ℕ) → a < length exports.now → k < length (row (rows exports.now a) rank) → slice_index (row (rows exports.now a) rank) k < length numbers.now }
+    requires within { (a : ℕ) → a < length exports.now → IsBelow (length table.now) (row (rows exports.now a) rank) }
     ensures length { IfOk result (λ v. length v.items ≡ length exports.now) }
-    ensures read { IfOk result (λ v. (a : ℕ) → a < length exports.now → AreRead numbers.now (row (rows exports.now a) rank) (row v.items a)) }
+    ensures at { IfOk result (λ v. (a : ℕ) → a < length exports.now → AreRead table.now (row (rows exports.now a) rank) (row v.items a)) }
 {
     let mut found = Vec::with_capacity(alloc, exports.len())?;
     for lists in exports {
-        found.push(locals_of(alloc, &lists[rank as usize], numbers)?)?;
+        found.push(locals_of(alloc, &lists[rank as usize], table)?)?;
     }
     Ok(found)
 }

@@ -25,7 +25,7 @@ pub locals_of-requires : goal.locals_of-requires
 locals_of-requires c =
     let a : ℕ = c.loop-lists.lists-index in
     let e = list_is c.args.exports.now a c.args.rank c.lists-item.result c.index.result.now c.deref.result.now c.loop-lists-test.true (c.requires.rank a c.loop-lists-test.true) c.lists-item.is c.index.ensures c.deref.ensures.value in
-    subst (λ (z : List ℕ). (k : ℕ) → k < length z → get_or z k 0 < length c.args.numbers.now) (sym e) (λ k l. c.requires.within a k c.loop-lists-test.true l)
+    subst (λ (z : List ℕ). (k : ℕ) → k < length z → get_or z k 0 < length c.args.table.now) (sym e) (c.requires.within a c.loop-lists-test.true)
 
 pub loop-lists-preserved : goal.loop-lists-preserved
 loop-lists-preserved c =
@@ -33,9 +33,9 @@ loop-lists-preserved c =
     let xs = c.loop-lists.found.items in
     let e = list_is c.args.exports.now a c.args.rank c.lists-item.result c.index.result.now c.deref.result.now c.loop-lists-test.true (c.requires.rank a c.loop-lists-test.true) c.lists-item.is c.index.ensures c.deref.ensures.value in
     let v = c.in_ok-locals_of.field-0 in
-    let read : AreRead c.args.numbers.now (row (rows c.args.exports.now a) c.args.rank) v.items =
-    subst (λ (z : List ℕ). AreRead c.args.numbers.now z v.items) e (record { count = c.in_ok-locals_of.ensures.length; each = c.in_ok-locals_of.ensures.at }) in
+    let read : AreRead c.args.table.now (row (rows c.args.exports.now a) c.args.rank) v.items =
+    subst (λ (z : List ℕ). AreRead c.args.table.now z v.items) e (record { count = c.in_ok-locals_of.ensures.length; each = c.in_ok-locals_of.ensures.at }) in
     rw c.in_ok-push.ensures.items (
       omega (arith, length_push xs v, c.loop-lists.invariant.0),
-      each_row xs v a (λ b t. AreRead c.args.numbers.now (row (rows c.args.exports.now b) c.args.rank) t) c.loop-lists.invariant.0 c.loop-lists.invariant.1 read,
+      each_row xs v a (λ b t. AreRead c.args.table.now (row (rows c.args.exports.now b) c.args.rank) t) c.loop-lists.invariant.0 c.loop-lists.invariant.1 read,
     )
