@@ -2,3 +2,4 @@ pub mod FieldReads
 pub mod Declared
 pub mod Targets
 pub mod Examples
+pub mod FirstNamed

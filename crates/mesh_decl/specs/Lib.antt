@@ -1,3 +1,4 @@
 pub mod Mesh
 pub mod Owners
 pub mod Printed
+pub mod Named

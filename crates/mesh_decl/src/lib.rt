@@ -7,6 +7,7 @@
 mod access;
 mod decl;
 mod mesh;
+mod named;
 mod numbers;
 mod owners;
 #[cfg(test)]
@@ -19,6 +20,7 @@ pub use mesh_text::{
     Entries, Entry, Form, MESH_BYTES, MESH_VALUES, MeshRefusal, Values, one_spelling,
     read_can_be_written, read_mesh, write_mesh, written_is_spelled,
 };
+pub use named::one_named;
 pub use numbers::Numbers;
 pub use owners::{Owners, Perms};
 pub use reductions::Access;
