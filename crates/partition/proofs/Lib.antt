@@ -12,3 +12,4 @@ pub mod Parts
 pub mod Halving
 pub mod OneGrowth
 pub mod OneBisection
+pub mod OneDerivation

@@ -19,6 +19,7 @@ mod growth;
 mod halves;
 mod laws;
 mod next;
+mod one_derivation;
 #[cfg(test)]
 mod tests;
 mod turns;
@@ -29,6 +30,7 @@ use growth::grow_set;
 use halves::bisect_set;
 pub use laws::{one_bisection, one_growth};
 use mesh_decl::{Mesh, Numbers, Owners};
+pub use one_derivation::one_derived;
 use op_num::OutOfMemory;
 pub use part_text::{PartRefusal, one_partition, read_partition};
 use std::alloc::Global;
