@@ -18,3 +18,5 @@ pub mod Planning
 pub mod ProperPlan
 pub mod PlanLines
 pub mod PlanWriting
+pub mod AlikeMeshes
+pub mod OnePlan

@@ -13,3 +13,4 @@ pub mod Proper
 pub mod SitePlans
 pub mod Spaced
 pub mod PlanText
+pub mod OnePlan

@@ -24,6 +24,7 @@ ghost use Rattle.loop_plan.specs.Exports.{exports_in, is_some_exported, HaveExpo
 ghost use Rattle.loop_plan.specs.Counted.{counted_steps};
 ghost use Rattle.loop_plan.specs.Counts.{Counts};
 ghost use Rattle.loop_plan.specs.Spaced.{spaced};
+ghost use Rattle.loop_plan.specs.OnePlan.{PlanTextsAreOne};
 
 /// The standard order with groups of any size has two steps for each message and for each element that
 /// a rank runs, and one for each join.
@@ -71,4 +72,10 @@ pub fn exports_are_messages()
     ensures messages { (g : MeshValue) (o : Owners) (h : Halos) → AreHalos g o h → (p : Perms) (meshes : List RankMesh)
         → ArePerms g p → AreRankMeshes g o p meshes → (s r t : ℕ) → s < o.ranks → r < o.ranks → t < set_count g
         → is_some_exported (exports_in h t) s r ≡ imports_from (sets_of meshes s) (sets_of meshes r) t }
+{}
+
+/// Two plans of a program with least colours, in blocks of one size and on local meshes that are the same as lists, have
+/// one text and one number of steps.
+pub fn one_plan_text()
+    ensures { PlanTextsAreOne }
 {}
