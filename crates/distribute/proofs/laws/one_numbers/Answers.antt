@@ -1,0 +1,5 @@
+use Rattle.distribute.proofs.OneOutcome.{one_numbers}
+use Rattle.distribute.proofs.laws.one_numbers.Goals as goal
+
+pub returns : goal.returns
+returns c = one_numbers c.one_named.ensures c.one_numbering.ensures.identity c.one_numbering.ensures.cuthill_mckee

@@ -1,0 +1,4 @@
+pub mod Parts
+pub mod Judgements
+pub mod Distributions
+pub mod Laws

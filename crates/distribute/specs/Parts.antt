@@ -1,0 +1,59 @@
+-- How the elements of a mesh are given to ranks, and why they are not.
+use Rattle.std.specs.Prelude.{ℕ, ◌+◌, ◌^◌, ◌<◌, List, length, Option, Some, None}
+use Rattle.std.specs.Borrow.{Bor}
+use Rattle.part_text.specs.declared.refusals.PartRefusal.{PartRefusal}
+use Rattle.distribute.specs.declared.types.Parts.{Parts as Given}
+use Rattle.distribute.specs.declared.types.Parts.TheVariants as given
+use Rattle.distribute.specs.declared.types.NumbersRefusal.{NumbersRefusal as Unnumbered}
+use Rattle.distribute.specs.declared.types.NumbersRefusal.TheVariants as unnumbered
+use Rattle.distribute.specs.declared.types.OwnersRefusal.{OwnersRefusal as Unowned}
+use Rattle.distribute.specs.declared.types.OwnersRefusal.TheVariants as unowned
+
+-- by blocks; by cuts along the values of a dat; by growth over the neighbours by a map; as a text says
+pub data Parts : Type 0 where
+  Block : Parts
+  Bisect : (dat : List ℕ) → Parts
+  Grow : (map : List ℕ) → Parts
+  Text : (bytes : List ℕ) → Parts
+
+-- no map of the mesh has the name
+pub data NumbersRefusal : Type 0 where
+  UnknownMap : (name : List ℕ) → NumbersRefusal
+
+-- no dat, or no map, of the mesh has the name; or the text spells no owners of the mesh
+pub data OwnersRefusal : Type 0 where
+  NoDat : (name : List ℕ) → OwnersRefusal
+  NoMap : (name : List ℕ) → OwnersRefusal
+  Unspelled : PartRefusal → OwnersRefusal
+
+-- ---- the values of the program's types
+
+abbrev pub parts_of : Given → Parts
+parts_of given.Block = Block
+parts_of (given.Bisect dat) = Bisect dat.now
+parts_of (given.Grow map) = Grow map.now
+parts_of (given.Text bytes) = Text bytes.now
+
+-- the name that is given, where one is
+abbrev pub name_of : Option (Bor (List ℕ)) → Option (List ℕ)
+name_of None = None
+name_of (Some name) = Some name.now
+
+-- It ended with a refusal of which P is so, or memory ran out.
+abbrev pub UnnumberedWhere : (NumbersRefusal → Type 0) → Unnumbered → Type 0
+UnnumberedWhere P (unnumbered.UnknownMap name) = P (UnknownMap name.now)
+UnnumberedWhere P unnumbered.OutOfMemory = Unit {0}
+
+-- the same of owners
+abbrev pub UnownedWhere : (OwnersRefusal → Type 0) → Unowned → Type 0
+UnownedWhere P (unowned.UnknownDat name) = P (NoDat name.now)
+UnownedWhere P (unowned.UnknownMap name) = P (NoMap name.now)
+UnownedWhere P (unowned.Text r) = P (Unspelled r)
+UnownedWhere P unowned.OutOfMemory = Unit {0}
+
+-- a text, where there is one, has lines that 32 bits can count
+abbrev pub HasLines : Parts → Type 0
+HasLines Block = Unit {0}
+HasLines (Bisect dat) = Unit {0}
+HasLines (Grow map) = Unit {0}
+HasLines (Text bytes) = length bytes + 1 < 2 ^ 32

@@ -1,0 +1,87 @@
+// What is asked of a distribution, what it is, and why there is none.
+use halo_lists::Halos;
+use local_mesh::RankMesh;
+use mesh_decl::{Owners, Perms};
+use part_text::PartRefusal;
+use std::alloc::AllocError;
+
+/// How the elements of a mesh are given to ranks.
+#[derive(Clone, Copy, Debug)]
+pub enum Parts<'a> {
+    /// Each set by blocks.
+    Block,
+    /// The set of the first dat of this name by cuts along its values, and the other sets from it.
+    Bisect(&'a [u8]),
+    /// The set to which the first map of this name leads by growth over its neighbours, and the other sets from it.
+    Grow(&'a [u8]),
+    /// Each set as the text of a partition says.
+    Text(&'a [u8]),
+}
+
+impl<'a> Parts<'a> {
+    ghost use Rattle.std.specs.Prelude.{◌↔◌, IsTrue};
+    ghost use Rattle.distribute.specs.Parts.{parts_of, HasLines};
+
+    /// Whether a text, where there is one, has lines that 32 bits can count: it has fewer than 2^32 - 1 bytes.
+    pub fn has_lines(&self) -> bool
+        ensures { IsTrue result ↔ HasLines (parts_of self.now) }
+    {
+        match *self {
+            Parts::Text(bytes) => bytes.len() < 4_294_967_295,
+            _ => true,
+        }
+    }
+}
+
+/// Why there are no new numbers.
+#[derive(Clone, Copy, PartialEq, Eq, Debug)]
+pub enum NumbersRefusal<'a> {
+    /// No map has this name.
+    UnknownMap(&'a [u8]),
+    /// Want of memory.
+    OutOfMemory,
+}
+
+/// Why there are no owners.
+#[derive(Clone, Copy, PartialEq, Eq, Debug)]
+pub enum OwnersRefusal<'a> {
+    /// No dat has this name.
+    UnknownDat(&'a [u8]),
+    /// No map has this name.
+    UnknownMap(&'a [u8]),
+    /// The text spells no owners of the mesh; never for want of memory.
+    Text(PartRefusal),
+    /// Want of memory.
+    OutOfMemory,
+}
+
+/// A mesh on several ranks: who owns which element, new numbers, the halos, and the local mesh of each rank.
+#[derive(Debug, Drop)]
+pub struct Distribution {
+    pub owners: Owners,
+    pub perms: Perms,
+    pub halos: Halos,
+    pub ranks: Vec<RankMesh>,
+}
+
+impl<'a> From<AllocError> for NumbersRefusal<'a> {
+    ghost use Rattle.std.specs.Prelude.{◌≡◌};
+    ghost use Rattle.distribute.specs.declared.types.NumbersRefusal.TheVariants.{OutOfMemory};
+
+    ghost from_gives = { λ _ e. e ≡ OutOfMemory };
+
+    fn from(_: AllocError) -> NumbersRefusal<'a> {
+        NumbersRefusal::OutOfMemory
+    }
+}
+
+impl<'a> From<AllocError> for OwnersRefusal<'a> {
+    ghost use Rattle.std.specs.Prelude.{◌≡◌};
+    ghost use Rattle.distribute.specs.declared.types.OwnersRefusal.TheVariants.{OutOfMemory};
+
+    ghost from_gives = { λ _ e. e ≡ OutOfMemory };
+
+    fn from(_: AllocError) -> OwnersRefusal<'a> {
+        OwnersRefusal::OutOfMemory
+    }
+}
