@@ -1,11 +1,11 @@
 -- What is asked for comes to one outcome.
-use Rattle.std.proofs.Common.{◌≡◌, ◌≢◌, ℕ, ◌<◌, Bool, true, nat_eq, List, [], length, get_or, Option, Some, None, Result, Ok, Err, refl, sym, ap, subst, ◌∙◌, arith}
+use Rattle.std.proofs.Common.{◌≡◌, ℕ, ◌<◌, nat_eq, List, [], length, Option, Some, None, Result, Ok, Err, sym, ap, subst, ◌∙◌, arith}
 use Rattle.std.proofs.lemmas.Bool.{eqb-true}
 use Rattle.std.proofs.lemmas.List.{ext_get_or}
 use Rattle.mesh_decl.specs.declared.owners.Owners.{Owners}
 use Rattle.mesh_decl.specs.declared.owners.Perms.{Perms}
 use Rattle.mesh_decl.specs.Mesh.{MeshValue, IsDatAt, map_count, dat_count, map_name, dat_name, set_count, set_size, map_to, dat_set, dat_dim, dat_values}
-use Rattle.mesh_decl.specs.Named.{IsFirstNamed, Names, NamesMap, NamesOne}
+use Rattle.mesh_decl.specs.Named.{Names, NamesOne}
 use Rattle.mesh_decl.specs.Owners.{owners_in, owner_of}
 use Rattle.breadth_order.specs.Neighbours.{are_neighbours}
 use Rattle.part_text.specs.declared.refusals.PartRefusal.{PartRefusal}
@@ -16,7 +16,7 @@ use Rattle.partition.specs.OneOwner.{IsOneGrowth, IsOneBisection}
 use Rattle.halo_lists.specs.Halo.{IsInRange}
 use Rattle.renumber.specs.CuthillMcKee.{IsCuthillMcKee}
 use Rattle.renumber.specs.OneNumbering.{IsOneIdentity, IsOneCuthillMcKee}
-use Rattle.distribute.specs.Parts.{Parts, Block, Bisect, Grow, Text, NumbersRefusal, UnknownMap, OwnersRefusal, NoDat, NoMap, Unspelled}
+use Rattle.distribute.specs.Parts.{Parts, Block, Bisect, Grow, Text, NumbersRefusal, OwnersRefusal, Unspelled}
 use Rattle.distribute.specs.Judgements.{NumbersAre, AreBisected, AreGrown, OwnersAre}
 use Rattle.distribute.specs.Laws.{SamePerms, SameOwners, SameOutcome}
 

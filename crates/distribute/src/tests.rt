@@ -28,12 +28,9 @@ fn path(rt: &HostRuntime) -> Result<Mesh, Fail> {
     Ok(mesh)
 }
 
-fn are(rt: &HostRuntime, sets: &[Numbers], nodes: &[u32], edges: &[u32]) -> Result<(), Fail> {
-    assert_eq!(rt; sets.len(), 2);
-    for (found, want) in sets.iter().zip([nodes, edges].iter()) {
-        assert_eq!(rt; found.as_slice(), *want);
-    }
-    Ok(())
+// Whether two sets have these numbers.
+fn are(sets: &[Numbers], nodes: &[u32], edges: &[u32]) -> bool {
+    sets.len() == 2 && sets[0].as_slice() == nodes && sets[1].as_slice() == edges
 }
 
 // What is asked for on two ranks, and the ranks of nodes and edges.
@@ -74,7 +71,7 @@ fn owned(rt: HostRuntime) -> Result<(), Fail> {
     for (parts, nodes, edges) in OWNED {
         assert!(rt; parts.has_lines());
         match owners_by(rt.alloc(), &mesh, 2, parts) {
-            Ok(owners) => are(&rt, &owners.sets, *nodes, *edges)?,
+            Ok(owners) => assert!(rt; are(&owners.sets, *nodes, *edges)),
             Err(_) => assert!(rt; false),
         }
     }
@@ -93,7 +90,7 @@ fn numbered_and_distributed(rt: HostRuntime) -> Result<(), Fail> {
     let alloc = rt.alloc();
     let mesh = path(&rt)?;
     match numbers_by(alloc, &mesh, Some(b"ends")) {
-        Ok(perms) => are(&rt, &perms.sets, &[2, 1, 3, 0], &[2, 1, 0])?,
+        Ok(perms) => assert!(rt; are(&perms.sets, &[2, 1, 3, 0], &[2, 1, 0])),
         Err(_) => assert!(rt; false),
     }
     match numbers_by(alloc, &mesh, Some(b"x")) {
