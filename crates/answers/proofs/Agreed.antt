@@ -21,9 +21,11 @@ use Rattle.op_outside.specs.Outside.{Files}
 use Rattle.answers.specs.Refusal.{Limit, SourceBytes, MeshBytes, Refusal}
 use Rattle.answers.specs.Lines.{Answer, refused, line_of}
 use Rattle.answers.specs.Said.{SaysTypes, SaysMesh, SaysBinding}
-use Rattle.answers.specs.Words.{Job, Run, Command, OnProgram, ShowsUsage, ShowsVersion, WordsAre}
-use Rattle.answers.specs.Judgements.{IsHeld, SourceIs, MeshIs, TreeIs, TypesAre, EntriesAre, BoundIs, AccessesAre}
-use Rattle.answers.specs.Answers.{given, ran, JobAnswers, ProgramAnswers, CommandAnswers}
+use Rattle.mesh_text.specs.declared.entry.Form.{Form}
+use Rattle.mesh_gen.specs.Sample.{sample_source, sample_mesh}
+use Rattle.answers.specs.Words.{Job, Run, Input, InFiles, OfSample, Command, OnProgram, Converts, ShowsUsage, ShowsVersion, WordsAre}
+use Rattle.answers.specs.Judgements.{IsHeld, SourceIs, FileIs, MeshIs, TreeIs, TypesAre, EntriesAre, BoundIs, AccessesAre}
+use Rattle.answers.specs.Answers.{given, ran, JobAnswers, ProgramAnswers, ConvertAnswers, CommandAnswers}
 use Rattle.answers.specs.Laws.{LacksTree, SourceLacksTree, Agree, AnswersAgree}
 use Rattle.answers.proofs.Given.{given_both, given_alike}
 use Rattle.answers.proofs.SaidOnce.{types_once, mesh_once, binding_once, source_status}
@@ -46,17 +48,35 @@ same_refusals N r s e = same_answers N (refused r) (refused s) (ap refused e)
 
 -- ---- files
 
-held_once : (l : Limit) (name : List ℕ) (o : Option (List ℕ)) (x y : List ℕ) → IsHeld l name o (Ok x) → IsHeld l name o (Ok y) → x ≡ y
-held_once l name None x y h k = absurd h
-held_once l name (Some held) x y h k = h.0 ∙ sym k.0
+-- a judgement has one outcome
+record IsOne {A : Type 0} (J : Result A Refusal → Type 0) : Type 0 where
+  refusals : (r s : Refusal) → J (Err r) → J (Err s) → r ≡ s
+  apart : (r : Refusal) (x : A) → J (Err r) → J (Ok x) → ⊥
+  values : (x y : A) → J (Ok x) → J (Ok y) → x ≡ y
 
-held_refusal : (l : Limit) (name : List ℕ) (o : Option (List ℕ)) (r s : Refusal) → IsHeld l name o (Err r) → IsHeld l name o (Err s) → r ≡ s
-held_refusal l name None r s h k = h ∙ sym k
-held_refusal l name (Some held) r s h k = h.0 ∙ sym k.0
+held_is_one : (l : Limit) (name : List ℕ) (o : Option (List ℕ)) → IsOne (IsHeld l name o)
+held_is_one l name None = record { refusals = λ r s h k. h ∙ sym k; apart = λ r x h k. k; values = λ x y h k. absurd h }
+held_is_one l name (Some held) = record {
+  refusals = λ r s h k. h.0 ∙ sym k.0;
+  apart = λ r x h k. let a = h.1 in let b = k.1 in omega (arith, a, b);
+  values = λ x y h k. h.0 ∙ sym k.0;
+}
 
-held_or_not : (l : Limit) (name : List ℕ) (o : Option (List ℕ)) (r : Refusal) (x : List ℕ) → IsHeld l name o (Err r) → IsHeld l name o (Ok x) → ⊥
-held_or_not l name None r x h k = absurd k
-held_or_not l name (Some held) r x h k = let a = h.1 in let b = k.1 in omega (arith, a, b)
+-- what is told outright
+told_is_one : (bytes : List ℕ) → IsOne (λ r. r ≡ Ok bytes)
+told_is_one bytes = record {
+  refusals = λ r s h k. let bad : ⊥ = cc in absurd bad;
+  apart = λ r x h k. cc;
+  values = λ x y h k. let e : Ok x ≡ Ok y = h ∙ sym k in cc;
+}
+
+source_is_one : (input : Input) (files : Files) → IsOne (SourceIs input files)
+source_is_one (InFiles source mesh) files = held_is_one SourceBytes source (files source)
+source_is_one (OfSample side) files = told_is_one sample_source
+
+mesh_is_one : (input : Input) (files : Files) → IsOne (MeshIs input files)
+mesh_is_one (InFiles source mesh) files = held_is_one MeshBytes mesh (files mesh)
+mesh_is_one (OfSample side) files = told_is_one (sample_mesh side)
 
 module _ (runs_alike : RunsAlike) (walks_alike : WalksAlike) (one_read : (bytes : List ℕ) (a b : Read) → Spelled bytes a → Spelled bytes b → a ≡ b) (one_outcome : (bytes : List ℕ) (a b : lexer.Outcome) → Lexes bytes a → Lexes bytes b → a ≡ b) (one_tree : (bytes : List ℕ) (a b : ProgramTree) → Reads bytes a → Reads bytes b → a ≡ b) (one_resolved : (p : ProgramTree) (a b : names.Outcome) → Resolves p a → Resolves p b → a ≡ b) (walk_finds : WalkFinds) (obeys : ObeysUnlessBroken) (one_breach : OneRefusal) where
   -- ---- the run
@@ -124,32 +144,40 @@ module _ (runs_alike : RunsAlike) (walks_alike : WalksAlike) (one_read : (bytes 
   -- ---- the mesh
 
   -- what comes after the kernels and constants
-  abbrev FromMesh : Job → List ℕ → Files → ProgramTree → Resolved → Answer → Type 0
-  FromMesh j mesh files p r =
-      given (MeshIs mesh files) (λ text.
+  abbrev FromMesh : Job → Input → Files → ProgramTree → Resolved → Answer → Type 0
+  FromMesh j input files p r =
+      given (MeshIs input files) (λ text.
       given (EntriesAre text) (λ es.
       given (BoundIs p r es) (λ b.
       given (AccessesAre b) (λ _. JobAnswers j b))))
 
+  entries_are_one : (text : List ℕ) → IsOne (EntriesAre text)
+  entries_are_one text = record {
+    refusals = λ s t h k.
+        let e : ◌≡◌ {A = Read} (Err k.0) (Err h.0) = one_read text (Err k.0) (Err h.0) k.1 h.1 in
+        let same : k.0 ≡ h.0 = cc in
+        mesh_once h.0 s t h.2 (subst (λ f. SaysMesh f t) same k.2);
+    apart = λ s es h k. let e : Err h.0 ≡ Ok es = one_read text (Err h.0) (Ok es) h.1 k in cc;
+    values = λ a b h k. let e : ◌≡◌ {A = Read} (Ok a) (Ok b) = one_read text (Ok a) (Ok b) h k in cc;
+  }
+
   entries_agree : (N : Type 0) (j : Job) (p : ProgramTree) (r q : Resolved) → resolved_of r ≡ resolved_of q → (text : List ℕ) → (x y : Answer) → given (EntriesAre text) (λ es. given (BoundIs p r es) (λ b. given (AccessesAre b) (λ _. JobAnswers j b))) x → given (EntriesAre text) (λ es. given (BoundIs p q es) (λ b. given (AccessesAre b) (λ _. JobAnswers j b))) y → AgreeBut N x y
   entries_agree N j p r q e text =
-      given_alike (EntriesAre text) (λ es. given (BoundIs p r es) (λ b. given (AccessesAre b) (λ _. JobAnswers j b))) (λ es. given (BoundIs p q es) (λ b. given (AccessesAre b) (λ _. JobAnswers j b))) (AgreeBut N) refusals (λ s es h k. let e : Err h.0 ≡ Ok es = one_read text (Err h.0) (Ok es) h.1 k in let bad : ⊥ = cc in bad) (λ a b h k. let e : ◌≡◌ {A = Read} (Ok a) (Ok b) = one_read text (Ok a) (Ok b) h k in let same : a ≡ b = cc in same) (λ es h. bounds_agree N j p r q e es)
-    where
-      refusals : (s t : Refusal) → EntriesAre text (Err s) → EntriesAre text (Err t) → AgreeBut N (refused s) (refused t)
-      refusals s t h k =
-          let e : ◌≡◌ {A = Read} (Err k.0) (Err h.0) = one_read text (Err k.0) (Err h.0) k.1 h.1 in
-          let same : k.0 ≡ h.0 = cc in
-          same_refusals N s t (mesh_once h.0 s t h.2 (subst (λ f. SaysMesh f t) same k.2))
+      given_alike (EntriesAre text) (λ es. given (BoundIs p r es) (λ b. given (AccessesAre b) (λ _. JobAnswers j b))) (λ es. given (BoundIs p q es) (λ b. given (AccessesAre b) (λ _. JobAnswers j b))) (AgreeBut N)
+      (λ s t h k. same_refusals N s t ((entries_are_one text).refusals s t h k)) (entries_are_one text).apart (entries_are_one text).values
+      (λ es h. bounds_agree N j p r q e es)
 
-  meshes_agree : (N : Type 0) (j : Job) (mesh : List ℕ) (files : Files) (p : ProgramTree) (r q : Resolved) → resolved_of r ≡ resolved_of q → (x y : Answer) → FromMesh j mesh files p r x → FromMesh j mesh files p q y → AgreeBut N x y
-  meshes_agree N j mesh files p r q e =
-      given_alike (MeshIs mesh files) (λ text. given (EntriesAre text) (λ es. given (BoundIs p r es) (λ b. given (AccessesAre b) (λ _. JobAnswers j b)))) (λ text. given (EntriesAre text) (λ es. given (BoundIs p q es) (λ b. given (AccessesAre b) (λ _. JobAnswers j b)))) (AgreeBut N) (λ s t h k. same_refusals N s t (held_refusal MeshBytes mesh (files mesh) s t h k)) (λ s text h k. held_or_not MeshBytes mesh (files mesh) s text h k) (λ a b h k. held_once MeshBytes mesh (files mesh) a b h k) (λ text h. entries_agree N j p r q e text)
+  meshes_agree : (N : Type 0) (j : Job) (input : Input) (files : Files) (p : ProgramTree) (r q : Resolved) → resolved_of r ≡ resolved_of q → (x y : Answer) → FromMesh j input files p r x → FromMesh j input files p q y → AgreeBut N x y
+  meshes_agree N j input files p r q e =
+      given_alike (MeshIs input files) (λ text. given (EntriesAre text) (λ es. given (BoundIs p r es) (λ b. given (AccessesAre b) (λ _. JobAnswers j b)))) (λ text. given (EntriesAre text) (λ es. given (BoundIs p q es) (λ b. given (AccessesAre b) (λ _. JobAnswers j b)))) (AgreeBut N)
+      (λ s t h k. same_refusals N s t ((mesh_is_one input files).refusals s t h k)) (mesh_is_one input files).apart (mesh_is_one input files).values
+      (λ text h. entries_agree N j p r q e text)
 
   -- ---- the source
 
-  types_agree : (N : Type 0) (j : Job) (mesh : List ℕ) (files : Files) (p : ProgramTree) → (x y : Answer) → given (TypesAre p) (FromMesh j mesh files p) x → given (TypesAre p) (FromMesh j mesh files p) y → AgreeBut N x y
-  types_agree N j mesh files p =
-      given_both (TypesAre p) (TypesAre p) (FromMesh j mesh files p) (FromMesh j mesh files p) (AgreeBut N) refusals (λ s q h k. mixed s q h k) (λ r t h k. mixed t r k h) values
+  types_agree : (N : Type 0) (j : Job) (input : Input) (files : Files) (p : ProgramTree) → (x y : Answer) → given (TypesAre p) (FromMesh j input files p) x → given (TypesAre p) (FromMesh j input files p) y → AgreeBut N x y
+  types_agree N j input files p =
+      given_both (TypesAre p) (TypesAre p) (FromMesh j input files p) (FromMesh j input files p) (AgreeBut N) refusals (λ s q h k. mixed s q h k) (λ r t h k. mixed t r k h) values
     where
       refusals : (s t : Refusal) → TypesAre p (Err s) → TypesAre p (Err t) → AgreeBut N (refused s) (refused t)
       refusals s t h k =
@@ -160,31 +188,42 @@ module _ (runs_alike : RunsAlike) (walks_alike : WalksAlike) (one_read : (bytes 
       mixed : (s : Refusal) (q : Resolved) → TypesAre p (Err s) → TypesAre p (Ok q) → ⊥
       mixed s q h k = let e = one_resolved p (Err h.0) (Ok (resolved_of q)) h.1 k in let bad : ⊥ = cc in bad
 
-      values : (r q : Resolved) → TypesAre p (Ok r) → TypesAre p (Ok q) → (x y : Answer) → FromMesh j mesh files p r x → FromMesh j mesh files p q y → AgreeBut N x y
-      values r q h k = meshes_agree N j mesh files p r q (h.1 ∙ sym k.1)
+      values : (r q : Resolved) → TypesAre p (Ok r) → TypesAre p (Ok q) → (x y : Answer) → FromMesh j input files p r x → FromMesh j input files p q y → AgreeBut N x y
+      values r q h k = meshes_agree N j input files p r q (h.1 ∙ sym k.1)
 
   -- the source lacks a tree
-  abbrev Lacks : List ℕ → Files → Type 0
-  Lacks source files = (bytes : List ℕ) × SourceIs source files (Ok bytes) × LacksTree bytes
+  abbrev Lacks : Input → Files → Type 0
+  Lacks input files = (bytes : List ℕ) × SourceIs input files (Ok bytes) × LacksTree bytes
 
-  trees_agree : (j : Job) (source mesh : List ℕ) (files : Files) (bytes : List ℕ) → SourceIs source files (Ok bytes) → (x y : Answer) → given (TreeIs bytes) (λ p. given (TypesAre p) (FromMesh j mesh files p)) x → given (TreeIs bytes) (λ p. given (TypesAre p) (FromMesh j mesh files p)) y → AgreeBut (Lacks source files) x y
-  trees_agree j source mesh files bytes is =
-      given_alike (TreeIs bytes) (λ p. given (TypesAre p) (FromMesh j mesh files p)) (λ p. given (TypesAre p) (FromMesh j mesh files p)) (AgreeBut (Lacks source files)) refusals (λ s p h k. h.1.none p k) (λ a b h k. one_tree bytes a b h k) (λ p h. types_agree (Lacks source files) j mesh files p)
+  trees_agree : (j : Job) (input : Input) (files : Files) (bytes : List ℕ) → SourceIs input files (Ok bytes) → (x y : Answer) → given (TreeIs bytes) (λ p. given (TypesAre p) (FromMesh j input files p)) x → given (TreeIs bytes) (λ p. given (TypesAre p) (FromMesh j input files p)) y → AgreeBut (Lacks input files) x y
+  trees_agree j input files bytes is =
+      given_alike (TreeIs bytes) (λ p. given (TypesAre p) (FromMesh j input files p)) (λ p. given (TypesAre p) (FromMesh j input files p)) (AgreeBut (Lacks input files)) refusals (λ s p h k. h.1.none p k) (λ a b h k. one_tree bytes a b h k) (λ p h. types_agree (Lacks input files) j input files p)
     where
-      lines : (s t : Refusal) → (line_of s ≡ line_of t) ⊎ LacksTree bytes → (line_of s ≡ line_of t) ⊎ Lacks source files
+      lines : (s t : Refusal) → (line_of s ≡ line_of t) ⊎ LacksTree bytes → (line_of s ≡ line_of t) ⊎ Lacks input files
       lines s t (inl e) = inl e
       lines s t (inr l) = inr (bytes, is, l)
 
-      refusals : (s t : Refusal) → TreeIs bytes (Err s) → TreeIs bytes (Err t) → AgreeBut (Lacks source files) (refused s) (refused t)
+      refusals : (s t : Refusal) → TreeIs bytes (Err s) → TreeIs bytes (Err t) → AgreeBut (Lacks input files) (refused s) (refused t)
       refusals s t h k = record {
         status = source_status h.0 s h.2 ∙ sym (source_status k.0 t k.2);
         out = refl;
         line = lines s t (tree_lines one_outcome bytes s t h k);
       }
 
-  programs_agree : (j : Job) (source mesh : List ℕ) (files : Files) → (x y : Answer) → ProgramAnswers j source mesh files x → ProgramAnswers j source mesh files y → AgreeBut (Lacks source files) x y
-  programs_agree j source mesh files =
-      given_alike (SourceIs source files) (λ bytes. given (TreeIs bytes) (λ p. given (TypesAre p) (FromMesh j mesh files p))) (λ bytes. given (TreeIs bytes) (λ p. given (TypesAre p) (FromMesh j mesh files p))) (AgreeBut (Lacks source files)) (λ s t h k. same_refusals (Lacks source files) s t (held_refusal SourceBytes source (files source) s t h k)) (λ s text h k. held_or_not SourceBytes source (files source) s text h k) (λ a b h k. held_once SourceBytes source (files source) a b h k) (λ bytes h. trees_agree j source mesh files bytes h)
+  programs_agree : (j : Job) (input : Input) (files : Files) → (x y : Answer) → ProgramAnswers j input files x → ProgramAnswers j input files y → AgreeBut (Lacks input files) x y
+  programs_agree j input files =
+      given_alike (SourceIs input files) (λ bytes. given (TreeIs bytes) (λ p. given (TypesAre p) (FromMesh j input files p))) (λ bytes. given (TreeIs bytes) (λ p. given (TypesAre p) (FromMesh j input files p))) (AgreeBut (Lacks input files))
+      (λ s t h k. same_refusals (Lacks input files) s t ((source_is_one input files).refusals s t h k)) (source_is_one input files).apart (source_is_one input files).values
+      (λ bytes h. trees_agree j input files bytes h)
+
+  converts_agree : (form : Form) (mesh : List ℕ) (files : Files) → (x y : Answer) → ConvertAnswers form mesh files x → ConvertAnswers form mesh files y → AgreeBut ⊥ x y
+  converts_agree form mesh files =
+      given_alike (FileIs mesh files) _ _ (AgreeBut ⊥) (λ s t h k. same_refusals ⊥ s t ((held_is_one MeshBytes mesh (files mesh)).refusals s t h k))
+      (held_is_one MeshBytes mesh (files mesh)).apart (held_is_one MeshBytes mesh (files mesh)).values
+      (λ text _.
+      given_alike (EntriesAre text) _ _ (AgreeBut ⊥) (λ s t h k. same_refusals ⊥ s t ((entries_are_one text).refusals s t h k))
+      (entries_are_one text).apart (entries_are_one text).values
+      (λ es _ x y h k. same_answers ⊥ x y (h ∙ sym k)))
 
   -- ---- the words
 
@@ -196,8 +235,9 @@ module _ (runs_alike : RunsAlike) (walks_alike : WalksAlike) (one_read : (bytes 
       by_line (inr n) = inr (f n)
 
   commands_agree : (words : List (List ℕ)) (files : Files) (c : Command) → WordsAre words (Ok c) → (a b : Answer) → CommandAnswers c files a → CommandAnswers c files b → Agree words files a b
-  commands_agree words files (OnProgram j source mesh) asks a b h k =
-      agree_for words files (Lacks source files) (λ l. record { job = j; source = source; mesh = mesh; bytes = l.0; asks = asks; held = l.1; lacks = l.2 }) a b (programs_agree j source mesh files a b h k)
+  commands_agree words files (OnProgram j input) asks a b h k =
+      agree_for words files (Lacks input files) (λ l. record { job = j; input = input; bytes = l.0; asks = asks; held = l.1; lacks = l.2 }) a b (programs_agree j input files a b h k)
+  commands_agree words files (Converts form mesh) asks a b h k = agree_for words files ⊥ (λ x. absurd x) a b (converts_agree form mesh files a b h k)
   commands_agree words files ShowsUsage asks a b h k = agree_for words files ⊥ (λ x. absurd x) a b (same_answers ⊥ a b (h ∙ sym k))
   commands_agree words files ShowsVersion asks a b h k = agree_for words files ⊥ (λ x. absurd x) a b (same_answers ⊥ a b (h ∙ sym k))
 

@@ -3,9 +3,10 @@ use Rattle.std.proofs.Common.{◌≡◌, [], ◌∷◌, Some, None, Ok, Err, cod
 use Rattle.std.specs.Fmt.{digits}
 use Rattle.op_num.specs.declared.refusals.Fault.TheVariants.{DivZero}
 use Rattle.clap.proofs.OnLiterals.{clap_on_literals}
+use Rattle.mesh_text.specs.declared.entry.Form.TheVariants as form
 use Rattle.answers.specs.Refusal.{CannotRead, TooDeep, NoTokens, BadName, BadTarget, BadAccess, BadMesh, BeyondLimit, SetSize, Usage}
 use Rattle.answers.specs.Lines.{line_of, fault_line}
-use Rattle.answers.specs.Words.{Run, OnProgram, ShowsUsage, ShowsVersion, WordsAre}
+use Rattle.answers.specs.Words.{Run, InFiles, OfSample, OnProgram, Converts, ShowsUsage, ShowsVersion, WordsAre}
 
 -- ---- lines
 
@@ -52,13 +53,45 @@ line_of_host_fault = refl
 
 -- ---- words
 
-a_run : WordsAre (codes "op2" ∷ codes "run" ∷ codes "s.c" ∷ codes "m" ∷ []) (Ok (OnProgram Run (codes "s.c") (codes "m")))
+a_run : WordsAre (codes "op2" ∷ codes "run" ∷ codes "s.c" ∷ codes "m" ∷ []) (Ok (OnProgram Run (InFiles (codes "s.c") (codes "m"))))
 unfolding clap_on_literals
 a_run = refl
 
-a_run_behind_dashes : WordsAre (codes "op2" ∷ codes "--" ∷ codes "run" ∷ codes "-s" ∷ codes "-" ∷ []) (Ok (OnProgram Run (codes "-s") (codes "-")))
+a_run_behind_dashes : WordsAre (codes "op2" ∷ codes "--" ∷ codes "run" ∷ codes "-s" ∷ codes "-" ∷ []) (Ok (OnProgram Run (InFiles (codes "-s") (codes "-"))))
 unfolding clap_on_literals
 a_run_behind_dashes = refl
+
+a_sample : WordsAre (codes "op2" ∷ codes "sample" ∷ codes "020" ∷ []) (Ok (OnProgram Run (OfSample 20)))
+unfolding clap_on_literals
+a_sample = refl
+
+a_sample_too_large : WordsAre (codes "op2" ∷ codes "sample" ∷ codes "201" ∷ []) (Err Usage)
+unfolding clap_on_literals
+a_sample_too_large = refl
+
+a_sample_of_a_mesh : WordsAre (codes "op2" ∷ codes "sample" ∷ codes "2" ∷ codes "m" ∷ []) (Err Usage)
+unfolding clap_on_literals
+a_sample_of_a_mesh = refl
+
+a_mesh_in_runs : WordsAre (codes "op2" ∷ codes "convert" ∷ codes "m" ∷ []) (Ok (Converts form.Two (codes "m")))
+unfolding clap_on_literals
+a_mesh_in_runs = refl
+
+a_plain_mesh : WordsAre (codes "op2" ∷ codes "convert" ∷ codes "--form" ∷ codes "1" ∷ codes "m" ∷ []) (Ok (Converts form.One (codes "m")))
+unfolding clap_on_literals
+a_plain_mesh = refl
+
+a_third_version : WordsAre (codes "op2" ∷ codes "convert" ∷ codes "m" ∷ codes "--form=3" ∷ []) (Err Usage)
+unfolding clap_on_literals
+a_third_version = refl
+
+two_versions : WordsAre (codes "op2" ∷ codes "convert" ∷ codes "m" ∷ codes "--form=1" ∷ codes "--form=1" ∷ []) (Err Usage)
+unfolding clap_on_literals
+two_versions = refl
+
+a_run_in_runs : WordsAre (codes "op2" ∷ codes "run" ∷ codes "s.c" ∷ codes "m" ∷ codes "--form=1" ∷ []) (Err Usage)
+unfolding clap_on_literals
+a_run_in_runs = refl
 
 no_words : WordsAre (codes "op2" ∷ []) (Err Usage)
 unfolding clap_on_literals

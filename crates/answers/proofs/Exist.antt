@@ -27,8 +27,9 @@ use Rattle.loop_bind.specs.Bound.{bound}
 use Rattle.op_outside.specs.Outside.{Files}
 use Rattle.answers.specs.Refusal.{Limit, SourceBytes, MeshBytes, Refusal, CannotRead, NoTree, TooDeep, BeyondLimit}
 use Rattle.answers.specs.Lines.{Answer, most}
-use Rattle.answers.specs.Words.{Job, Run, Command, OnProgram, ShowsUsage, ShowsVersion, WordsAre}
-use Rattle.answers.specs.Judgements.{IsHeld, IsUnread, TreeIs, TypesAre, EntriesAre, BoundIs}
+use Rattle.mesh_gen.specs.Sample.{sample_source}
+use Rattle.answers.specs.Words.{Job, Run, Input, InFiles, OfSample, Command, OnProgram, Converts, ShowsUsage, ShowsVersion, WordsAre}
+use Rattle.answers.specs.Judgements.{IsHeld, IsUnread, SourceIs, MeshIs, TreeIs, TypesAre, EntriesAre, BoundIs}
 use Rattle.answers.specs.Answers.{JobAnswers, ProgramAnswers, CommandAnswers}
 use Rattle.answers.specs.Laws.{AnswersExist}
 use Rattle.answers.proofs.Given.{given_one}
@@ -47,6 +48,19 @@ held_exists l name (Some held) none = by_size (cases_lt (most l) (length held))
 held_within : (l : Limit) (name : List ℕ) (o : Option (List ℕ)) (bytes : List ℕ) → IsHeld l name o (Ok bytes) → length bytes ≤ most l
 held_within l name None bytes h = absurd h
 held_within l name (Some held) bytes h = rw h.0 h.1
+
+source_exists : (input : Input) (files : Files) → ¬ ((r : Result (List ℕ) Refusal) → ¬ SourceIs input files r)
+source_exists (InFiles source mesh) files none = held_exists SourceBytes source (files source) none
+source_exists (OfSample side) files none = none _ refl
+
+source_within : (input : Input) (files : Files) (bytes : List ℕ) → SourceIs input files (Ok bytes) → length bytes ≤ most SourceBytes
+unfolding sample_source
+source_within (InFiles source mesh) files bytes h = held_within SourceBytes source (files source) bytes h
+source_within (OfSample side) files bytes h = let e : bytes ≡ sample_source = cc in rw e (omega arith)
+
+mesh_exists : (input : Input) (files : Files) → ¬ ((r : Result (List ℕ) Refusal) → ¬ MeshIs input files r)
+mesh_exists (InFiles source mesh) files none = held_exists MeshBytes mesh (files mesh) none
+mesh_exists (OfSample side) files none = none _ refl
 
 -- no refusal of tokens is want of memory
 has_cause : (parts : List Part) (stop : Stop) (l : LexRefusal) → Err l ≡ outcome_of parts stop → l ≢ lex.OutOfMemory
@@ -128,12 +142,12 @@ module _ (some_lexed : (bytes : List ℕ) → (o : Outcome) × Lexes bytes o) (s
       by_outcome (Ok es) h = none (Ok es) h
       by_outcome (Err e) h = let said = mesh_said e (λ m. mesh_causes bytes (subst (λ f. Refuses bytes f) m h)) in none (Err said.0) (e, h, said.1)
 
-  program_exists : (j : Job) (source mesh : List ℕ) (files : Files) → ¬ ((a : Answer) → ¬ ProgramAnswers j source mesh files a)
-  program_exists j source mesh files =
-      given_one _ _ (held_exists SourceBytes source (files source)) (λ bytes held.
+  program_exists : (j : Job) (input : Input) (files : Files) → ¬ ((a : Answer) → ¬ ProgramAnswers j input files a)
+  program_exists j input files =
+      given_one _ _ (source_exists input files) (λ bytes held.
       given_one _ _ (tree_exists bytes) (λ p reads.
-      given_one _ _ (types_exist bytes p (held_within SourceBytes source (files source) bytes held) reads) (λ types _.
-      given_one _ _ (held_exists MeshBytes mesh (files mesh)) (λ text _.
+      given_one _ _ (types_exist bytes p (source_within input files bytes held) reads) (λ types _.
+      given_one _ _ (mesh_exists input files) (λ text _.
       given_one _ _ (entries_exist text) (λ es _.
       given_one _ _ (bound_exists p types es) (λ b _.
       given_one _ _ (accesses_exist walk_finds obeys one_breach b) (λ u _. job_exists j b)))))))
@@ -142,7 +156,10 @@ module _ (some_lexed : (bytes : List ℕ) → (o : Outcome) × Lexes bytes o) (s
       job_exists Run b none = none _ refl
 
   command_exists : (c : Command) (files : Files) → ¬ ((a : Answer) → ¬ CommandAnswers c files a)
-  command_exists (OnProgram j source mesh) files none = program_exists j source mesh files none
+  command_exists (OnProgram j input) files none = program_exists j input files none
+  command_exists (Converts form mesh) files none =
+      given_one _ _ (held_exists MeshBytes mesh (files mesh)) (λ text _.
+      given_one _ _ (entries_exist text) (λ es _ n. n _ refl)) none
   command_exists ShowsUsage files none = none _ refl
   command_exists ShowsVersion files none = none _ refl
 

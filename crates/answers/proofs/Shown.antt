@@ -4,11 +4,12 @@ use Rattle.kernel_types.specs.declared.faults.KernelFault.{KernelFault}
 use Rattle.schedule_model.specs.Sequential.{Stop}
 use Rattle.bound_program.specs.Values.{BoundValue}
 use Rattle.run_model.specs.Programs.{printed, first_fault}
+use Rattle.mesh_text.specs.Canonical.{canonical}
 use Rattle.op_outside.specs.Outside.{Files, appended, AppendsFront}
 use Rattle.answers.specs.Refusal.{Refusal, Usage, CannotRead, NoTokens, NoTree, TooDeep, BadName, BadBinding, BadTarget, BadAccess, BadMesh, BeyondLimit, status_of}
 use Rattle.answers.specs.Lines.{Answer, done, refused, faulted}
-use Rattle.answers.specs.Words.{Job, Run, Command, OnProgram, ShowsUsage, ShowsVersion, WordsAre, named_by}
-use Rattle.answers.specs.Judgements.{SourceIs, TreeIs, TypesAre, MeshIs, EntriesAre, BoundIs, AccessesAre}
+use Rattle.answers.specs.Words.{Job, Run, Input, Command, OnProgram, Converts, ShowsUsage, ShowsVersion, WordsAre, named_by}
+use Rattle.answers.specs.Judgements.{SourceIs, TreeIs, TypesAre, FileIs, MeshIs, EntriesAre, BoundIs, AccessesAre}
 use Rattle.answers.specs.Answers.{given, ran, JobAnswers, ProgramAnswers, CommandAnswers, Answers}
 use Rattle.answers.specs.Endings.{Ending, Answered, OutOfMemory, Unread, Unwritten, ending_status, unwritten_status, Call, IsSomeAnswer, TellsUntold, Tells, no_files, IsWritten, EndsBy, Ends, Shows, IsShown, IsSilent}
 use Rattle.answers.specs.Laws.{Agree, AnswersAgree}
@@ -32,18 +33,20 @@ ran_form (Some x) bytes a e = IsFaulted bytes x e
 job_form : (j : Job) (b : BoundValue) (a : Answer) → JobAnswers j b a → Form a
 job_form Run b a h = ran_form (first_fault b) (printed b) a h
 
-program_form : (j : Job) (source mesh : List ℕ) (files : Files) (a : Answer) → ProgramAnswers j source mesh files a → Form a
-program_form j source mesh files =
-    given_form (SourceIs source files) _ (λ bytes.
+program_form : (j : Job) (input : Input) (files : Files) (a : Answer) → ProgramAnswers j input files a → Form a
+program_form j input files =
+    given_form (SourceIs input files) _ (λ bytes.
     given_form (TreeIs bytes) _ (λ p.
     given_form (TypesAre p) _ (λ types.
-    given_form (MeshIs mesh files) _ (λ text.
+    given_form (MeshIs input files) _ (λ text.
     given_form (EntriesAre text) _ (λ es.
     given_form (BoundIs p types es) _ (λ b.
     given_form (AccessesAre b) _ (λ u a h. job_form j b a h)))))))
 
 command_form : (c : Command) (files : Files) (a : Answer) → CommandAnswers c files a → Form a
-command_form (OnProgram j source mesh) files a h = program_form j source mesh files a h
+command_form (OnProgram j input) files a h = program_form j input files a h
+command_form (Converts form mesh) files a h =
+    given_form (FileIs mesh files) _ (λ text. given_form (EntriesAre text) (λ es a. a ≡ done (canonical form es)) (λ es a h. IsDone (canonical form es) h)) a h
 command_form ShowsUsage files a h = IsDone _ h
 command_form ShowsVersion files a h = IsDone _ h
 

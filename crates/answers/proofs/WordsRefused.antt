@@ -16,12 +16,13 @@ use Rattle.kernel_types.specs.declared.faults.KernelFault.{KernelFault}
 use Rattle.schedule_model.specs.Sequential.{Stop}
 use Rattle.bound_program.specs.Values.{BoundValue}
 use Rattle.run_model.specs.Programs.{printed, first_fault}
+use Rattle.mesh_text.specs.Canonical.{canonical}
 use Rattle.op_outside.specs.Outside.{Files}
 use Rattle.answers.specs.Refusal.{Limit, SourceBytes, MeshBytes, Refusal, Usage, CannotRead, NoTokens, NoTree, TooDeep, BadName, BadBinding, BadTarget, BadAccess, BadMesh, BeyondLimit, status_of}
 use Rattle.answers.specs.Lines.{Answer, done, refused, faulted}
 use Rattle.answers.specs.Said.{SaysLex, SaysSource, SaysTypes, SaysMesh, SaysBinding}
-use Rattle.answers.specs.Words.{Job, Run, Command, OnProgram, ShowsUsage, ShowsVersion, WordsAre, named_by, names_in}
-use Rattle.answers.specs.Judgements.{IsHeld, SourceIs, TreeIs, TypesAre, MeshIs, EntriesAre, BoundIs, AccessesAre}
+use Rattle.answers.specs.Words.{Job, Run, Input, InFiles, OfSample, Command, OnProgram, Converts, ShowsUsage, ShowsVersion, WordsAre, named_by, names_in}
+use Rattle.answers.specs.Judgements.{IsHeld, SourceIs, TreeIs, TypesAre, FileIs, MeshIs, EntriesAre, BoundIs, AccessesAre}
 use Rattle.answers.specs.Answers.{given, ran, JobAnswers, ProgramAnswers, CommandAnswers, Answers}
 use Rattle.answers.specs.Endings.{Ending, Answered, OutOfMemory, Unread, Unwritten, ending_status, unwritten_status, Call, IsOfContents, IsSomeAnswer, TellsUntold, Tells, no_files, IsWritten, EndsBy, Ends, IsUsage}
 use Rattle.answers.proofs.Complete.{tells_answer, unwritten_is}
@@ -159,18 +160,29 @@ ran_not (Some x) bytes a e = faulted_not bytes x a e
 job_not : (j : Job) (b : BoundValue) (a : Answer) → JobAnswers j b a → NotTwo a
 job_not Run b a h = ran_not (first_fault b) (printed b) a h
 
-program_not : (j : Job) (source mesh : List ℕ) (files : Files) (a : Answer) → ProgramAnswers j source mesh files a → NotTwo a
-program_not j source mesh files =
-    given_not (SourceIs source files) _ (λ r h. held_other SourceBytes source (files source) r h) (λ bytes.
+source_other_words : (input : Input) (files : Files) (r : Refusal) → SourceIs input files (Err r) → IsOther r
+source_other_words (InFiles source mesh) files r h = held_other SourceBytes source (files source) r h
+source_other_words (OfSample side) files r h = absurd (let bad : ⊥ = cc in bad)
+
+mesh_other_words : (input : Input) (files : Files) (r : Refusal) → MeshIs input files (Err r) → IsOther r
+mesh_other_words (InFiles source mesh) files r h = held_other MeshBytes mesh (files mesh) r h
+mesh_other_words (OfSample side) files r h = absurd (let bad : ⊥ = cc in bad)
+
+program_not : (j : Job) (input : Input) (files : Files) (a : Answer) → ProgramAnswers j input files a → NotTwo a
+program_not j input files =
+    given_not (SourceIs input files) _ (λ r h. source_other_words input files r h) (λ bytes.
     given_not (TreeIs bytes) _ (λ r h. source_other h.0 r h.2) (λ p.
     given_not (TypesAre p) _ (λ r h. types_other h.0 r h.2) (λ types.
-    given_not (MeshIs mesh files) _ (λ r h. held_other MeshBytes mesh (files mesh) r h) (λ text.
+    given_not (MeshIs input files) _ (λ r h. mesh_other_words input files r h) (λ text.
     given_not (EntriesAre text) _ (λ r h. mesh_other h.0 r h.2) (λ es.
     given_not (BoundIs p types es) _ (λ r h. binding_other p h.0 r h.2) (λ b.
     given_not (AccessesAre b) _ (λ r h. is_other r _ h.says tt) (λ u a h. job_not j b a h)))))))
 
 command_not : (c : Command) (files : Files) (a : Answer) → CommandAnswers c files a → NotTwo a
-command_not (OnProgram j source mesh) files a h = program_not j source mesh files a h
+command_not (OnProgram j input) files a h = program_not j input files a h
+command_not (Converts form mesh) files a h =
+    given_not (FileIs mesh files) _ (λ r h. held_other MeshBytes mesh (files mesh) r h) (λ text.
+    given_not (EntriesAre text) (λ es a. a ≡ done (canonical form es)) (λ r h. mesh_other h.0 r h.2) (λ es a h. done_not (canonical form es) a h)) a h
 command_not ShowsUsage files a h = done_not _ a h
 command_not ShowsVersion files a h = done_not _ a h
 

@@ -6,11 +6,13 @@ use Rattle.schedule_model.specs.Sequential.{Stop}
 use Rattle.bound_program.specs.Values.{BoundValue}
 use Rattle.run_model.specs.Programs.{printed, first_fault}
 use Rattle.op_outside.specs.Outside.{Files}
+use Rattle.mesh_text.specs.declared.entry.Form.{Form}
+use Rattle.mesh_text.specs.Canonical.{canonical}
 use Rattle.answers.specs.declared.usage.TheConstants.{USAGE, VERSION}
 use Rattle.answers.specs.Refusal.{Refusal, CannotRead}
 use Rattle.answers.specs.Lines.{Answer, done, refused, faulted}
-use Rattle.answers.specs.Words.{Job, Run, Command, OnProgram, ShowsUsage, ShowsVersion, WordsAre}
-use Rattle.answers.specs.Judgements.{SourceIs, TreeIs, TypesAre, MeshIs, EntriesAre, BoundIs, AccessesAre}
+use Rattle.answers.specs.Words.{Job, Run, Input, Command, OnProgram, Converts, ShowsUsage, ShowsVersion, WordsAre}
+use Rattle.answers.specs.Judgements.{SourceIs, TreeIs, TypesAre, FileIs, MeshIs, EntriesAre, BoundIs, AccessesAre}
 
 -- A judgement, and what comes after it: its refusal ends it, and what it gives goes on.
 abbrev pub given : {A : Type 0} → (Result A Refusal → Type 0) → (A → Answer → Type 0) → Answer → Type 0
@@ -26,19 +28,26 @@ abbrev pub JobAnswers : Job → BoundValue → Answer → Type 0
 JobAnswers Run b a = a ≡ ran (first_fault b) (printed b)
 
 -- The answer of a job on a source and a mesh: seven judgements in this order, and then what the job does.
-abbrev pub ProgramAnswers : Job → (source mesh : List ℕ) → Files → Answer → Type 0
-ProgramAnswers j source mesh files =
-    given (SourceIs source files) (λ bytes.
+abbrev pub ProgramAnswers : Job → Input → Files → Answer → Type 0
+ProgramAnswers j input files =
+    given (SourceIs input files) (λ bytes.
     given (TreeIs bytes) (λ p.
     given (TypesAre p) (λ types.
-    given (MeshIs mesh files) (λ text.
+    given (MeshIs input files) (λ text.
     given (EntriesAre text) (λ es.
     given (BoundIs p types es) (λ b.
     given (AccessesAre b) (λ _. JobAnswers j b)))))))
 
+-- The answer to a mesh in a file that is written again: two judgements, and then the canonical text of its entries in this version.
+abbrev pub ConvertAnswers : Form → (mesh : List ℕ) → Files → Answer → Type 0
+ConvertAnswers form mesh files =
+    given (FileIs mesh files) (λ text.
+    given (EntriesAre text) (λ es a. a ≡ done (canonical form es)))
+
 -- the answer of a command
 abbrev pub CommandAnswers : Command → Files → Answer → Type 0
-CommandAnswers (OnProgram j source mesh) files = ProgramAnswers j source mesh files
+CommandAnswers (OnProgram j input) files = ProgramAnswers j input files
+CommandAnswers (Converts form mesh) files = ConvertAnswers form mesh files
 CommandAnswers ShowsUsage files = λ a. a ≡ done USAGE.now
 CommandAnswers ShowsVersion files = λ a. a ≡ done VERSION.now
 

@@ -22,6 +22,8 @@ use Rattle.kernel_model.specs.Refusals.{Rule, IsRefusal, number_of}
 use Rattle.run_model.specs.Kernels.{kernel_at}
 use Rattle.run_model.specs.Arguments.{modes_of}
 use Rattle.op_outside.specs.Outside.{Files}
+use Rattle.mesh_gen.specs.Sample.{sample_source, sample_mesh}
+use Rattle.answers.specs.Words.{Input, InFiles, OfSample}
 use Rattle.answers.specs.Refusal.{Limit, SourceBytes, MeshBytes, MeshValues, Refusal, CannotRead, BadAccess, BeyondLimit}
 use Rattle.answers.specs.Lines.{most}
 use Rattle.answers.specs.Said.{SaysSource, SaysTypes, SaysMesh, SaysBinding}
@@ -36,12 +38,18 @@ IsHeld limit name (Some held) (Ok bytes) = (bytes ≡ held) × (length held ≤ 
 IsHeld limit name (Some held) (Err r) = (r ≡ BeyondLimit limit (suc (most limit))) × (most limit < length held)
 
 -- the bytes of the source
-abbrev pub SourceIs : List ℕ → Files → Result (List ℕ) Refusal → Type 0
-SourceIs name files r = IsHeld SourceBytes name (files name) r
+abbrev pub SourceIs : Input → Files → Result (List ℕ) Refusal → Type 0
+SourceIs (InFiles source mesh) files r = IsHeld SourceBytes source (files source) r
+SourceIs (OfSample side) files r = r ≡ Ok sample_source
+
+-- the bytes of a mesh in a file
+abbrev pub FileIs : List ℕ → Files → Result (List ℕ) Refusal → Type 0
+FileIs mesh files r = IsHeld MeshBytes mesh (files mesh) r
 
 -- the bytes of the mesh
-abbrev pub MeshIs : List ℕ → Files → Result (List ℕ) Refusal → Type 0
-MeshIs name files r = IsHeld MeshBytes name (files name) r
+abbrev pub MeshIs : Input → Files → Result (List ℕ) Refusal → Type 0
+MeshIs (InFiles source mesh) files r = FileIs mesh files r
+MeshIs (OfSample side) files r = r ≡ Ok (sample_mesh side)
 
 -- ---- the source
 

@@ -6,7 +6,7 @@ use Rattle.c_tree.specs.Tree.{ProgramTree}
 use Rattle.c_tree.specs.Reads.{Prints}
 use Rattle.op_outside.specs.Outside.{Files}
 use Rattle.answers.specs.Lines.{Answer}
-use Rattle.answers.specs.Words.{Job, OnProgram, WordsAre}
+use Rattle.answers.specs.Words.{Job, Input, OnProgram, WordsAre}
 use Rattle.answers.specs.Judgements.{SourceIs}
 use Rattle.answers.specs.Answers.{Answers}
 
@@ -21,11 +21,10 @@ pub record LacksTree (bytes : List ℕ) : Type 0 where
 -- the words ask for a job on a source that has tokens and no tree
 pub record SourceLacksTree (words : List (List ℕ)) (files : Files) : Type 0 where
   pub job : Job
-  pub source : List ℕ
-  pub mesh : List ℕ
+  pub input : Input
   pub bytes : List ℕ
-  pub asks : WordsAre words (Ok (OnProgram job source mesh))
-  pub held : SourceIs source files (Ok bytes)
+  pub asks : WordsAre words (Ok (OnProgram job input))
+  pub held : SourceIs input files (Ok bytes)
   pub lacks : LacksTree bytes
 
 -- Both have the same status and the same bytes, and the same line unless the source has tokens and no tree.

@@ -1,10 +1,15 @@
--- The mesh of the sample.
+-- The source and the mesh of the sample.
 use Rattle.std.specs.Prelude.{ℕ, pos, ◌+◌, ◌-◌, ◌*◌, List, [], ◌∷◌, ◌++◌, codes}
 use Rattle.mesh_text.specs.declared.entry.Form.TheVariants as form
 use Rattle.mesh_text.specs.declared.entry.Entry.TheVariants.{One, Many}
 use Rattle.mesh_text.specs.Spelling.{Named}
 use Rattle.mesh_text.specs.Canonical.{canonical}
+use Rattle.mesh_gen.specs.declared.source.TheConstants.{SOURCE}
 use Rattle.mesh_gen.specs.Grid.{nodes_of_cells, cells_of_edges, cells_of_boundary, walls, coordinates, sums, zeros}
+
+-- the source of the program
+unfoldable pub sample_source : List ℕ
+sample_source = SOURCE.now
 
 -- how many nodes, cells, edges and boundary edges there are
 abbrev pub sizes : ℕ → List Named

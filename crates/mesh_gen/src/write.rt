@@ -1,8 +1,8 @@
 // The texts of the sample.
-ghost use Rattle.std.specs.Prelude.{◌≡◌, ◌<◌, ◌⊎◌, ◌≤◌, ◌↔◌, length, IfOk, Ok, Err};
+ghost use Rattle.std.specs.Prelude.{◌≡◌, ◌<◌, ◌^◌, ◌⊎◌, ◌≤◌, ◌↔◌, length, IfOk, Ok, Err};
 ghost use Rattle.mesh_text.specs.Reading.{Reads};
 ghost use Rattle.mesh_text.specs.declared.entry.TheConstants.{MESH_BYTES};
-ghost use Rattle.mesh_gen.specs.Sample.{mesh_entries, sample_mesh};
+ghost use Rattle.mesh_gen.specs.Sample.{mesh_entries, sample_mesh, sample_source};
 
 use crate::entries::grid_entries;
 use crate::places::MAX_SIDE;
@@ -17,9 +17,10 @@ use std::alloc::Global;
 /// # Errors
 /// `SizeRange` exactly where `n` is outside 1 to [`MAX_SIDE`]; `OutOfMemory` where memory runs out.
 pub fn sample(alloc: Global, n: u32) -> Result<Sample, SampleRefusal>
-    ensures source { IfOk result (λ s. s.source.items ≡ SOURCE.now) }
+    ensures source { IfOk result (λ s. s.source.items ≡ sample_source) }
     ensures mesh { IfOk result (λ s. s.mesh.items ≡ sample_mesh n) }
-    // `read_mesh` reads the entries from it, and it is no longer than a mesh file may be.
+    // The source is short. `read_mesh` reads the entries from the mesh text, which is no longer than a mesh file may be.
+    ensures short_source { IfOk result (λ s. length s.source.items < 2 ^ 16) }
     ensures read { IfOk result (λ s. Reads s.mesh.items (Ok (mesh_entries n))) }
     ensures short { IfOk result (λ s. length s.mesh.items ≤ MESH_BYTES) }
     ensures outside { (result ≡ Err SampleRefusal.SizeRange) ↔ ((n ≡ 0) ⊎ (MAX_SIDE < n)) }

@@ -38,10 +38,11 @@ asks_as words j (Err x) e h = record { ok = tt; err = stops_weaker (λ r. j ≡ 
 pub matched_asks : (words : List (List ℕ)) (m : ArgMatches) (r : Result Asked Halt)
     → fault_of command words ≡ []
     → rows_of (found_of m) ≡ matches_of command words
-    → AsksBy r (asked (first_value (found_of m) (codes "JOB")) (first_value (found_of m) (codes "INPUT")) (first_value (found_of m) (codes "MESH")))
+    → AsksBy r (asked (first_value (found_of m) (codes "JOB")) (first_value (found_of m) (codes "INPUT"))
+    (first_value (found_of m) (codes "MESH")) (first_value (found_of m) (codes "form")))
     → AsksAs words r
 matched_asks words m r none rows h =
-    asks_as words _ r (rw (none, first_value-rows (found_of m) (codes "JOB"), first_value-rows (found_of m) (codes "INPUT"), first_value-rows (found_of m) (codes "MESH"), rows) refl) h
+    asks_as words _ r (rw (none, first_value-rows (found_of m) (codes "JOB"), first_value-rows (found_of m) (codes "INPUT"), first_value-rows (found_of m) (codes "MESH"), first_value-rows (found_of m) (codes "form"), rows) refl) h
 
 -- by the one kind of a refusal
 pub refused_asks : (words : List (List ℕ)) (e : Error) (r : Result Asked Halt)

@@ -1,5 +1,5 @@
 -- From the parts of the chain of judgements to the whole.
-use Rattle.std.proofs.Common.{◌≡◌, ℕ, ◌⊎◌, inl, inr, ◌≤◌, ◌<◌, zero, suc, arith, Bool, true, false, List, [], ◌∷◌, length, Option, None, Some, Result, Ok, Err, IfOk, IfErr, IfSome, refl, ap, sym, ◌∙◌, subst, true≢false}
+use Rattle.std.proofs.Common.{◌≡◌, ℕ, inl, inr, ◌≤◌, zero, suc, arith, Bool, true, false, List, [], ◌∷◌, length, Option, None, Some, Result, Ok, Err, IfSome, refl, ap, sym, subst}
 use Rattle.std.specs.List.{Contains}
 use Rattle.std.specs.Str.{bytes_eq}
 use Rattle.std.specs.Prelude.{if◌then◌else◌}
@@ -11,18 +11,17 @@ use Rattle.answers.specs.Refusal as answer
 use Rattle.answers.specs.Refusal.{Refusal, SourceBytes, MeshBytes, CannotRead}
 use Rattle.answers.specs.Lines as lines
 use Rattle.answers.specs.Lines.{most, refused}
-use Rattle.answers.specs.Words.{Command, Run, WordsAre, names_of, named_by, names_in}
-use Rattle.answers.specs.Judgements.{IsHeld, SourceIs, MeshIs, TreeIs, TypesAre}
+use Rattle.mesh_gen.specs.Sample.{sample_source, sample_mesh}
+use Rattle.answers.specs.Words.{Command, Run, InFiles, OfSample, WordsAre, names_of, named_by, names_in}
+use Rattle.answers.specs.Judgements.{IsHeld, SourceIs, FileIs, TreeIs, TypesAre}
 use Rattle.answers.specs.Answers.{given, without, ProgramAnswers, CommandAnswers, Answers}
-use Rattle.answers.specs.Endings.{IsOfContents, IsSomeAnswer, Tells, TellsUntold, no_files}
+use Rattle.answers.specs.Endings.{IsOfContents, Tells, TellsUntold, no_files}
 use Rattle.op2_cli.specs.declared.answered.Answer.{Answer}
-use Rattle.op2_cli.specs.declared.refusals.Failure.{Failure}
 use Rattle.op2_cli.specs.declared.refusals.Failure.TheVariants.{Unread, OutOfMemory}
 use Rattle.op2_cli.specs.declared.refusals.Halt.{Halt}
 use Rattle.op2_cli.specs.declared.refusals.Halt.TheVariants.{Refused, Failed}
 use Rattle.op2_cli.specs.Halts.{refusal_of, StopsWhere, SpoiltWhere, UnreadWhere}
 use Rattle.op2_cli.specs.Chains.{answer_of, MeshAnswers, TextAnswers, IsAnswered, AnswersBy, Over, AsksFor, AnswersOver}
-use Rattle.op2_cli.specs.Writes.{CallAnswers}
 
 -- ---- halts
 
@@ -111,19 +110,19 @@ module _ (told : Option Files) (limit : answer.Limit) (name : List ℕ) (names :
 module _ (p : ProgramTree) (types : Resolved) (source mesh bytes : List ℕ) (fits : length bytes ≤ most SourceBytes) (reads : TreeIs bytes (Ok p)) (typed : TypesAre p (Ok types)) where
   -- where the source holds these bytes, the answer over the mesh is that of both
   over_both : (files : Files) (a : lines.Answer)
-      → SourceIs source files (Ok bytes)
+      → SourceIs (InFiles source mesh) files (Ok bytes)
       → MeshAnswers p types mesh files a
-      → ProgramAnswers Run source mesh files a
+      → ProgramAnswers Run (InFiles source mesh) files a
   over_both files a held m = inr (bytes, held, inr (p, reads, inr (types, typed, m)))
 
   -- the mesh is asked for, where the source is there
-  mesh_asked : (files : Files) → SourceIs source files (Ok bytes) → ProgramAnswers Run source mesh (without mesh files) (refused (CannotRead mesh))
+  mesh_asked : (files : Files) → SourceIs (InFiles source mesh) files (Ok bytes) → ProgramAnswers Run (InFiles source mesh) (without mesh files) (refused (CannotRead mesh))
   mesh_asked files held = go (bytes_eq source mesh) refl
     where
       no_mesh : MeshAnswers p types mesh (without mesh files) (refused (CannotRead mesh))
       no_mesh = inl (CannotRead mesh, missing MeshBytes mesh files, refl)
 
-      go : (b : Bool) → bytes_eq source mesh ≡ b → ProgramAnswers Run source mesh (without mesh files) (refused (CannotRead mesh))
+      go : (b : Bool) → bytes_eq source mesh ≡ b → ProgramAnswers Run (InFiles source mesh) (without mesh files) (refused (CannotRead mesh))
       go true e =
           let same : source ≡ mesh = (bytes_eq-Decides source mesh).0 e in
           inl (CannotRead source, rw e refl, ap (λ n. refused (CannotRead n)) (sym same))
@@ -134,36 +133,36 @@ module _ (p : ProgramTree) (types : Resolved) (source mesh bytes : List ℕ) (fi
   holding name = if bytes_eq name source then Some bytes else None
 
   pub both_answered : (told : Option Files) (rose : Type 0) (r : Result Answer Halt)
-      → IfSome told (λ files. SourceIs source files (Ok bytes))
+      → IfSome told (λ files. SourceIs (InFiles source mesh) files (Ok bytes))
       → AnswersOver told (mesh ∷ []) (MeshAnswers p types mesh) rose r
-      → AnswersOver told (source ∷ mesh ∷ []) (ProgramAnswers Run source mesh) rose r
+      → AnswersOver told (source ∷ mesh ∷ []) (ProgramAnswers Run (InFiles source mesh)) rose r
   both_answered (Some files) rose (Ok a) held h = over_both files (answer_of a) held h
   both_answered None rose (Ok a) held h = h
   both_answered (Some files) rose (Err (Refused r)) held h = over_both files (refused (refusal_of r)) held h
   both_answered None rose (Err (Refused r)) held h = h
   both_answered told rose (Err (Failed (Unread n))) held h = (h.0, contains_later source n.now (mesh ∷ []) h.1, go told held (of_one mesh n.now h.1))
     where
-      go : (o : Option Files) → IfSome o (λ files. SourceIs source files (Ok bytes)) → mesh ≡ n.now → AsksFor o (ProgramAnswers Run source mesh) n.now
+      go : (o : Option Files) → IfSome o (λ files. SourceIs (InFiles source mesh) files (Ok bytes)) → mesh ≡ n.now → AsksFor o (ProgramAnswers Run (InFiles source mesh)) n.now
       go None held e =
           subst
-          (AsksFor None (ProgramAnswers Run source mesh))
+          (AsksFor None (ProgramAnswers Run (InFiles source mesh)))
           e (holding, mesh_asked holding (rw ((bytes_eq-Decides source source).1 refl) (refl, fits)))
-      go (Some files) held e = subst (AsksFor (Some files) (ProgramAnswers Run source mesh)) e (mesh_asked files held)
+      go (Some files) held e = subst (AsksFor (Some files) (ProgramAnswers Run (InFiles source mesh))) e (mesh_asked files held)
   both_answered told rose (Err (Failed OutOfMemory)) held h = tt
 
 -- ---- parts that the code goes along
 
-module _ (p : ProgramTree) (types : Resolved) (mesh text : List ℕ) (told : Option Files) (rose : Type 0) where
-  -- the answer over the text is that over the mesh which holds it
+module _ (Q : List ℕ → lines.Answer → Type 0) (mesh text : List ℕ) (told : Option Files) (rose : Type 0) where
+  -- the answer over the text is that over the file which holds it
   pub text_answered : (r : Result Answer Halt)
-      → IfSome told (λ files. MeshIs mesh files (Ok text))
-      → AnswersBy (TextAnswers p types text) r
-      → AnswersOver told (mesh ∷ []) (MeshAnswers p types mesh) rose r
-  text_answered r held h = lifted told mesh [] (MeshAnswers p types mesh) rose (TextAnswers p types text) r (λ a. step a told held) h
+      → IfSome told (λ files. FileIs mesh files (Ok text))
+      → AnswersBy (Q text) r
+      → AnswersOver told (mesh ∷ []) (λ files. given (FileIs mesh files) Q) rose r
+  text_answered r held h = lifted told mesh [] (λ files. given (FileIs mesh files) Q) rose (Q text) r (λ a. step a told held) h
     where
       step : (a : lines.Answer) (o : Option Files)
-          → IfSome o (λ files. MeshIs mesh files (Ok text))
-          → IfSome o (λ files. TextAnswers p types text a → MeshAnswers p types mesh files a)
+          → IfSome o (λ files. FileIs mesh files (Ok text))
+          → IfSome o (λ files. Q text a → given (FileIs mesh files) Q a)
       step a None held = tt
       step a (Some files) held = λ q. inr (text, held, q)
 
@@ -171,32 +170,75 @@ module _ (p : ProgramTree) (types : Resolved) (mesh text : List ℕ) (told : Opt
 abbrev RefusedBy : (Refusal → Type 0) → lines.Answer → Type 0
 RefusedBy J a = (r : Refusal) × J r × (a ≡ refused r)
 
-module _ (source mesh bytes : List ℕ) (told : Option Files) (rose : Type 0) (held : IfSome told (λ files. SourceIs source files (Ok bytes))) where
+module _ (source mesh bytes : List ℕ) (told : Option Files) (rose : Type 0) (held : IfSome told (λ files. SourceIs (InFiles source mesh) files (Ok bytes))) where
   -- what a judgement of the source refuses
   refused_over : (J : Refusal → Type 0) (h : Halt)
-      → ((files : Files) (r : Refusal) → SourceIs source files (Ok bytes) → J r → ProgramAnswers Run source mesh files (refused r))
+      → ((files : Files) (r : Refusal) → SourceIs (InFiles source mesh) files (Ok bytes) → J r → ProgramAnswers Run (InFiles source mesh) files (refused r))
       → SpoiltWhere J h
-      → AnswersOver told (source ∷ mesh ∷ []) (ProgramAnswers Run source mesh) rose (Err h)
+      → AnswersOver told (source ∷ mesh ∷ []) (ProgramAnswers Run (InFiles source mesh)) rose (Err h)
   refused_over J h step s =
-      lifted told source (mesh ∷ []) (ProgramAnswers Run source mesh) rose (RefusedBy J) (Err h) (λ a. go a told held) (spoilt_answers J (RefusedBy J) h (λ r j. (r, j, refl)) s)
+      lifted told source (mesh ∷ []) (ProgramAnswers Run (InFiles source mesh)) rose (RefusedBy J) (Err h) (λ a. go a told held) (spoilt_answers J (RefusedBy J) h (λ r j. (r, j, refl)) s)
     where
       go : (a : lines.Answer) (o : Option Files)
-          → IfSome o (λ files. SourceIs source files (Ok bytes))
-          → IfSome o (λ files. RefusedBy J a → ProgramAnswers Run source mesh files a)
+          → IfSome o (λ files. SourceIs (InFiles source mesh) files (Ok bytes))
+          → IfSome o (λ files. RefusedBy J a → ProgramAnswers Run (InFiles source mesh) files a)
       go a None held = tt
-      go a (Some files) held = λ q. subst (ProgramAnswers Run source mesh files) (sym q.2) (step files q.0 held q.1)
+      go a (Some files) held = λ q. subst (ProgramAnswers Run (InFiles source mesh) files) (sym q.2) (step files q.0 held q.1)
 
   pub tree_refused_over : (h : Halt)
       → SpoiltWhere (λ r. TreeIs bytes (Err r)) h
-      → AnswersOver told (source ∷ mesh ∷ []) (ProgramAnswers Run source mesh) rose (Err h)
+      → AnswersOver told (source ∷ mesh ∷ []) (ProgramAnswers Run (InFiles source mesh)) rose (Err h)
   tree_refused_over h s = refused_over (λ r. TreeIs bytes (Err r)) h (λ files r held j. inr (bytes, held, inl (r, j, refl))) s
 
   pub types_refused_over : (p : ProgramTree) (h : Halt)
       → TreeIs bytes (Ok p)
       → SpoiltWhere (λ r. TypesAre p (Err r)) h
-      → AnswersOver told (source ∷ mesh ∷ []) (ProgramAnswers Run source mesh) rose (Err h)
+      → AnswersOver told (source ∷ mesh ∷ []) (ProgramAnswers Run (InFiles source mesh)) rose (Err h)
   types_refused_over p h reads s =
       refused_over (λ r. TypesAre p (Err r)) h (λ files r held j. inr (bytes, held, inr (p, reads, inl (r, j, refl)))) s
+
+-- words that ask what the program says of itself
+pub itself_answered : (told : Option Files) (P : lines.Answer → Type 0) (a : lines.Answer) → P a → Over told [] (λ files. P) a
+itself_answered None P a h = h
+itself_answered (Some files) P a h = h
+
+-- ---- the sample
+
+-- what an answer shows, where it follows
+answers_weaker : (P Q : lines.Answer → Type 0) (r : Result Answer Halt) → ((a : lines.Answer) → P a → Q a) → AnswersBy P r → AnswersBy Q r
+answers_weaker P Q (Ok a) step h = (step (answer_of a) h.0, h.1)
+answers_weaker P Q (Err h) step s =
+    stops_weaker (λ r. IsAnswered P (refused r)) (λ r. IsAnswered Q (refused r)) h (λ r j. (step (refused r) j.0, j.1)) s
+
+module _ (side : ℕ) where
+  -- the answer of the sample; no file matters
+  abbrev pub OfSide : lines.Answer → Type 0
+  OfSide = ProgramAnswers Run (OfSample side) no_files
+
+  pub tree_refused : (h : Halt) → SpoiltWhere (λ r. TreeIs sample_source (Err r)) h → AnswersBy OfSide (Err h)
+  tree_refused h s = spoilt_answers (λ r. TreeIs sample_source (Err r)) OfSide h (λ r j. inr (sample_source, refl, inl (r, j, refl))) s
+
+  pub types_refused : (p : ProgramTree) (h : Halt) → TreeIs sample_source (Ok p) → SpoiltWhere (λ r. TypesAre p (Err r)) h → AnswersBy OfSide (Err h)
+  types_refused p h reads s =
+      spoilt_answers (λ r. TypesAre p (Err r)) OfSide h (λ r j. inr (sample_source, refl, inr (p, reads, inl (r, j, refl)))) s
+
+  pub sample_answered : (p : ProgramTree) (types : Resolved) (r : Result Answer Halt)
+      → TreeIs sample_source (Ok p)
+      → TypesAre p (Ok types)
+      → AnswersBy (TextAnswers p types (sample_mesh side)) r
+      → AnswersBy OfSide r
+  sample_answered p types r reads typed h =
+      answers_weaker (TextAnswers p types (sample_mesh side)) OfSide r
+      (λ a t. inr (sample_source, refl, inr (p, reads, inr (types, typed, inr (sample_mesh side, refl, t))))) h
+
+  -- words that name no file
+  pub sample_over : (told : Option Files) (rose : Type 0) (r : Result Answer Halt)
+      → AnswersBy OfSide r
+      → AnswersOver told [] (ProgramAnswers Run (OfSample side)) rose r
+  sample_over told rose (Ok a) h = itself_answered told OfSide (answer_of a) h.0
+  sample_over told rose (Err (Refused r)) h = itself_answered told OfSide (refused (refusal_of r)) h.0
+  sample_over told rose (Err (Failed (Unread n))) h = absurd h
+  sample_over told rose (Err (Failed OutOfMemory)) h = tt
 
 -- ---- the words
 
@@ -247,11 +289,6 @@ words_refused words told rose (Refused r) w =
     go (Some files) = inl (refusal_of r, w, refl)
 words_refused words told rose (Failed (Unread n)) w = absurd w
 words_refused words told rose (Failed OutOfMemory) w = tt
-
--- words that ask what the program says of itself
-pub itself_answered : (told : Option Files) (P : lines.Answer → Type 0) (a : lines.Answer) → P a → Over told [] (λ files. P) a
-itself_answered None P a h = h
-itself_answered (Some files) P a h = h
 
 -- the answer that a call tells
 pub tells : (words : List (List ℕ)) (told : Option Files) (a : lines.Answer) → Over told (named_by words) (Answers words) a → Tells words told a

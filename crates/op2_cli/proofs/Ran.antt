@@ -1,12 +1,11 @@
 -- From the last judgements and the run to the answer over a text.
-use Rattle.std.proofs.Common.{◌≡◌, ℕ, List, All, Option, None, Some, Result, Ok, Err, inl, inr, option_map, refl, sym, ap, ap₂, ◌∙◌, subst}
+use Rattle.std.proofs.Common.{◌≡◌, ℕ, List, All, Option, None, Some, Ok, Err, inl, inr, option_map, refl, sym, ap₂, ◌∙◌, subst}
 use Rattle.c_tree.specs.Tree.{ProgramTree}
 use Rattle.kernel_types.specs.declared.faults.KernelFault.{KernelFault}
 use Rattle.kernel_types.specs.declared.kernels.Resolved.{Resolved}
 use Rattle.schedule_model.specs.Sequential.{Stop}
 use Rattle.mesh_text.specs.Spelling.{Named}
 use Rattle.bound_program.specs.Values.{BoundValue}
-use Rattle.run_model.specs.Programs.{printed, first_fault}
 use Rattle.sequential_run.specs.declared.outcome.Outcome.{Outcome}
 use Rattle.sequential_run.specs.Outcomes.{IsRunOf, stop_of}
 use Rattle.answers.specs.Lines as lines

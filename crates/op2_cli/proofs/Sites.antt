@@ -1,20 +1,19 @@
 -- The kernels of a bound program's loops, and the modes of their arguments.
-use Rattle.std.proofs.Common.{◌≡◌, ◌<◌, ◌≤◌, ◌+◌, ℕ, zero, suc, List, [], ◌∷◌, ◌++◌, map, length, get_or, take, drop, All, Option, None, Some, Result, Ok, Err, refl, sym, ap, ◌∙◌, subst, arith}
+use Rattle.std.proofs.Common.{◌≡◌, ◌<◌, ◌≤◌, ◌+◌, ℕ, zero, suc, List, [], ◌∷◌, ◌++◌, map, length, get_or, take, drop, All, Some, Err, refl, sym, ap, ◌∙◌, subst, arith}
 use Rattle.std.proofs.Math.Seq.{drop-cons}
 use Rattle.std.proofs.lemmas.List.{length-map, get_or-map, take-append-drop, take_all, map-append}
 use Rattle.std.proofs.lemmas.List.Elements.{All-nil, All-cons}
-use Rattle.c_lex.specs.declared.tokens.Pos.{Pos}
 use Rattle.kernel_types.specs.declared.kernels.RKernel.{RKernel}
 use Rattle.kernel_types.specs.Resolved.{IsResolved}
 use Rattle.kernel_model.specs.Obeys.{Mode, KernelObeys, mode_at}
-use Rattle.kernel_model.specs.Refusals.{Rule, IsRefusal, number_of}
+use Rattle.kernel_model.specs.Refusals.{IsRefusal}
 use Rattle.access_check.specs.declared.modes.Mode as code
 use Rattle.access_check.specs.Modes.{model_of, AreSmall}
 use Rattle.bound_program.specs.declared.sites.Arg.{Arg}
 use Rattle.bound_program.specs.declared.sites.Arg.TheVariants.{Dat, Global}
 use Rattle.bound_program.specs.declared.sites.Site.{Site}
 use Rattle.bound_program.specs.Values.{BoundValue, SiteValue, site_of, no_site}
-use Rattle.bound_program.specs.Fits.{Fits, SiteFits, ArgFits, TakesArgs, constant_cells}
+use Rattle.bound_program.specs.Fits.{Fits, SiteFits, ArgFits, TakesArgs}
 use Rattle.run_model.specs.Kernels.{kernel_at}
 use Rattle.run_model.specs.Arguments.{mode_of, modes_of, arg_width}
 use Rattle.answers.specs.Refusal as answer

@@ -1,11 +1,10 @@
 -- The refusal of a source without a tree.
-use Rattle.std.proofs.Common.{◌≡◌, ℕ, List, Result, Ok, Err}
+use Rattle.std.proofs.Common.{ℕ, List, Err}
 use Rattle.c_tree.specs.Tree.{ProgramTree}
 use Rattle.c_tree.specs.Reads.{Reads, Deep}
 use Rattle.c_reader.specs.declared.refusals.SourceRefusal.{SourceRefusal}
 use Rattle.c_reader.specs.declared.refusals.SourceRefusal.TheVariants as source
 use Rattle.c_reader.specs.Answered.{place_at, CanRefuse, IsTree, IsRefusal}
-use Rattle.answers.specs.Refusal.{Refusal}
 use Rattle.answers.specs.Judgements.{IsUnread, TreeIs}
 use Rattle.answers.specs.Said.{SaysSource}
 use Rattle.answers.specs.Endings.{IsOfContents}

@@ -4,11 +4,13 @@ use Rattle.std.specs.List.{Contains}
 use Rattle.c_tree.specs.Tree.{ProgramTree}
 use Rattle.kernel_types.specs.declared.kernels.Resolved.{Resolved}
 use Rattle.op_outside.specs.Outside.{Files}
+use Rattle.mesh_text.specs.declared.entry.Form.{Form}
+use Rattle.mesh_text.specs.Canonical.{canonical}
 use Rattle.answers.specs.Refusal.{CannotRead}
 use Rattle.answers.specs.Lines as lines
 use Rattle.answers.specs.Lines.{refused}
 use Rattle.answers.specs.Words.{Run}
-use Rattle.answers.specs.Judgements.{MeshIs, EntriesAre, BoundIs, AccessesAre}
+use Rattle.answers.specs.Judgements.{FileIs, EntriesAre, BoundIs, AccessesAre}
 use Rattle.answers.specs.Answers.{given, JobAnswers, without}
 use Rattle.answers.specs.Endings.{IsSomeAnswer, no_files}
 use Rattle.op2_cli.specs.declared.answered.Answer.{Answer}
@@ -33,7 +35,11 @@ TextAnswers p types text =
 
 -- what is answered over the mesh in a file
 abbrev pub MeshAnswers : ProgramTree → Resolved → List ℕ → Files → lines.Answer → Type 0
-MeshAnswers p types mesh files = given (MeshIs mesh files) (TextAnswers p types)
+MeshAnswers p types mesh files = given (FileIs mesh files) (TextAnswers p types)
+
+-- what is answered over the text of a mesh that is written again
+abbrev pub RewriteAnswers : Form → List ℕ → lines.Answer → Type 0
+RewriteAnswers form text = given (EntriesAre text) (λ es a. a ≡ lines.done (canonical form es))
 
 -- ---- what a part of the code shows
 

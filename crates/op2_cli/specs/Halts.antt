@@ -10,7 +10,7 @@ use Rattle.kernel_model.specs.Refusals.{Rule, number_of}
 use Rattle.name_resolution.specs.Programs.{Resolves}
 use Rattle.op_outside.specs.Outside.{Files}
 use Rattle.answers.specs.Refusal as answer
-use Rattle.answers.specs.Words.{Run, Command, OnProgram, ShowsUsage, ShowsVersion}
+use Rattle.answers.specs.Words.{Run, InFiles, OfSample, Command, OnProgram, Converts, ShowsUsage, ShowsVersion}
 use Rattle.answers.specs.Judgements.{IsHeld}
 use Rattle.answers.specs.Endings.{IsOfContents}
 use Rattle.op2_cli.specs.declared.refusals.Limit.{Limit}
@@ -54,7 +54,9 @@ refusal_of (refusal.BeyondLimit l size) = answer.BeyondLimit (limit_of l) size
 
 -- what the words ask for
 abbrev pub command_of : Asked → Command
-command_of (asked.Run source mesh) = OnProgram Run source.now mesh.now
+command_of (asked.Run source mesh) = OnProgram Run (InFiles source.now mesh.now)
+command_of (asked.Sample side) = OnProgram Run (OfSample side)
+command_of (asked.Convert form mesh) = Converts form mesh.now
 command_of asked.Usage = ShowsUsage
 command_of asked.Version = ShowsVersion
 

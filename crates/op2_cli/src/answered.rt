@@ -7,10 +7,11 @@ ghost use Rattle.mesh_text.specs.declared.entry.TheConstants.{MESH_BYTES};
 ghost use Rattle.sequential_run.specs.Outcomes.{stop_of};
 ghost use Rattle.answers.specs.Refusal.{status_of};
 ghost use Rattle.answers.specs.Lines as lines;
-ghost use Rattle.answers.specs.Words.{Run, names_of, named_by};
-ghost use Rattle.answers.specs.Answers.{ran, ProgramAnswers, CommandAnswers, Answers};
+ghost use Rattle.answers.specs.Words.{Run, InFiles, OfSample, names_of, named_by};
+ghost use Rattle.answers.specs.Answers.{ran, ProgramAnswers, ConvertAnswers, CommandAnswers, Answers};
+ghost use Rattle.answers.specs.Endings.{no_files};
 ghost use Rattle.op2_cli.specs.Halts.{refusal_of, command_of, IsJudged};
-ghost use Rattle.op2_cli.specs.Chains.{answer_of, TextAnswers, MeshAnswers, AnswersBy, AnswersOver};
+ghost use Rattle.op2_cli.specs.Chains.{answer_of, TextAnswers, MeshAnswers, RewriteAnswers, AnswersBy, AnswersOver};
 ghost use Rattle.op2_cli.specs.Writes.{CallAnswers};
 
 use crate::accesses::judge_accesses;
@@ -23,6 +24,8 @@ use crate::words::{Asked, read_words};
 use answers::{USAGE, VERSION};
 use c_tree::Program;
 use kernel_types::Resolved;
+use mesh_gen::sample;
+use mesh_text::{Form, write_mesh};
 use op_num::OutOfMemory;
 use op_outside::Shelf;
 use sequential_run::{Outcome, run};
@@ -136,13 +139,49 @@ fn over_files<'a, F: Shelf>(
 ) -> Result<Answer, Halt<'a>>
     requires source { F.lends shelf.old source.now }
     requires mesh { F.lends shelf.old mesh.now }
-    ensures { AnswersOver (F.told shelf.old) (source.now ∷ mesh.now ∷ []) (ProgramAnswers Run source.now mesh.now)
+    ensures { AnswersOver (F.told shelf.old) (source.now ∷ mesh.now ∷ []) (ProgramAnswers Run (InFiles source.now mesh.now))
         (Rose (F.faults shelf.old) (F.faults shelf.new)) result }
 {
     let bytes = file_of(alloc, shelf, source, Limit::SourceBytes)?;
     let program = tree_of(alloc, &bytes)?;
     let types = types_of(alloc, &program)?;
     over_mesh(alloc, shelf, &program, types, mesh)
+}
+
+// The answer of the sample on a grid of this many cells a side.
+fn over_sample<'a>(alloc: Global, side: u32) -> Result<Answer, Halt<'a>>
+    ensures { AnswersBy (ProgramAnswers Run (OfSample side) no_files) result }
+{
+    let Ok(texts) = sample(alloc, side) else {
+        return Err(Halt::Failed(Failure::OutOfMemory));
+    };
+    let program = tree_of(alloc, &texts.source)?;
+    let types = types_of(alloc, &program)?;
+    over_text(alloc, &program, types, &texts.mesh)
+}
+
+// The answer that is the text of a mesh, written again.
+fn rewritten<'a>(alloc: Global, form: Form, text: &[u8]) -> Result<Answer, Halt<'a>>
+    requires { length text.now ≤ MESH_BYTES }
+    ensures { AnswersBy (RewriteAnswers form text.now) result }
+{
+    let entries = entries_of(alloc, text)?;
+    Ok(Answer::Done(write_mesh(alloc, &entries, form)?))
+}
+
+// The answer that is the mesh in a file, written again.
+fn converted<'a, F: Shelf>(
+    alloc: Global,
+    shelf: &mut F,
+    form: Form,
+    mesh: &'a str,
+) -> Result<Answer, Halt<'a>>
+    requires { F.lends shelf.old mesh.now }
+    ensures { AnswersOver (F.told shelf.old) (mesh.now ∷ []) (ConvertAnswers form mesh.now)
+        (Rose (F.faults shelf.old) (F.faults shelf.new)) result }
+{
+    let text = file_of(alloc, shelf, mesh, Limit::MeshBytes)?;
+    rewritten(alloc, form, &text)
 }
 
 // The answer to what is asked for.
@@ -157,6 +196,8 @@ fn to_asked<'a, F: Shelf>(
 {
     match asked {
         Asked::Run { source, mesh } => over_files(alloc, shelf, source, mesh),
+        Asked::Sample { side } => over_sample(alloc, side),
+        Asked::Convert { form, mesh } => converted(alloc, shelf, form, mesh),
         Asked::Usage => Ok(done(alloc, USAGE)?),
         Asked::Version => Ok(done(alloc, VERSION)?),
     }

@@ -1,14 +1,14 @@
 // The words of the command line, judged by `clap`.
 
-ghost use Rattle.std.specs.Prelude.{◌≡◌, [], ◌∷◌, List, map, codes, string_bytes, Ok, Err, IfOk, IfErr};
+ghost use Rattle.std.specs.Prelude.{◌≡◌, [], ◌∷◌, List, map, codes, string_bytes, option_map, Ok, Err, IfOk, IfErr};
 ghost use Rattle.clap.specs.Matches.{found_of, first_value};
 ghost use Rattle.clap.specs.Faults.{fault_of};
 ghost use Rattle.clap.specs.Kinds.{HasKind};
-ghost use Rattle.clap.specs.Simple.{app_of, matches_of};
+ghost use Rattle.clap.specs.Simple.{app_of, matches_of, with_rule};
 ghost use Rattle.clap.specs.Values.{kind_of};
 ghost use Rattle.clap.specs.Walk.{Row, rows_of};
 ghost use Rattle.clap.specs.declared.error.kind.ErrorKind.TheVariants as kind;
-ghost use Rattle.answers.specs.Words.{command, asked, judged, WordsAre};
+ghost use Rattle.answers.specs.Words.{command, positional, option, asked, judged, by_job, runs, samples, converts, form_of, number_to, WordsAre};
 ghost use Rattle.op2_cli.specs.declared.refusals.Failure.TheVariants.{OutOfMemory};
 ghost use Rattle.op2_cli.specs.declared.refusals.Halt.TheVariants.{Failed};
 ghost use Rattle.op2_cli.specs.Halts.{StopsWhere, AsksBy, command_of};
@@ -17,6 +17,9 @@ use crate::refusals::{Failure, Halt, Refusal};
 use answers::{VERSION, one_fault};
 use clap::error::ErrorKind;
 use clap::{Arg, ArgMatches, Command, Error};
+use mesh_gen::MAX_SIDE;
+use mesh_text::Form;
+use op_num::read_u64;
 use std::alloc::{AllocError, Global};
 
 /// What the words ask for.
@@ -24,21 +27,48 @@ use std::alloc::{AllocError, Global};
 pub enum Asked<'a> {
     /// To run the program in the file `source` over the mesh in the file `mesh`.
     Run { source: &'a str, mesh: &'a str },
+    /// To run the sample on a grid of `side` times `side` cells.
+    Sample { side: u32 },
+    /// To write the mesh text in the file `mesh` again, in this version of the format.
+    Convert { form: Form, mesh: &'a str },
     /// What the program says of its use.
     Usage,
     /// The version of the program.
     Version,
 }
 
-// The command as `clap` has it: `op2 JOB INPUT [MESH]`, with `--help` and `--version`.
+// The command with a further word that has no `-`, required or not.
+fn with_positional<'a>(
+    alloc: Global,
+    command: Command<'a>,
+    id: &'a str,
+    required: bool,
+) -> Result<Command<'a>, AllocError>
+    ensures { IfOk result (λ c. app_of c ≡ with_rule (app_of command.entry) (positional required id.entry.now)) }
+{
+    command.arg(Arg::new(alloc, id).required(required))
+}
+
+// The command with a further option that takes one value.
+fn with_option<'a>(
+    alloc: Global,
+    command: Command<'a>,
+    id: &'a str,
+) -> Result<Command<'a>, AllocError>
+    ensures { IfOk result (λ c. app_of c ≡ with_rule (app_of command.entry) (option id.entry.now)) }
+{
+    command.arg(Arg::new(alloc, id).long(id))
+}
+
+// The command as `clap` has it: `op2 JOB INPUT [MESH] [--form FORM]`, with `--help` and `--version`.
 fn command<'a>(alloc: Global) -> Result<Command<'a>, AllocError>
     ensures { IfOk result (λ c. app_of c ≡ command) }
 {
-    Command::new(alloc, "op2")
-        .version(VERSION)
-        .arg(Arg::new(alloc, "JOB").required(true))?
-        .arg(Arg::new(alloc, "INPUT").required(true))?
-        .arg(Arg::new(alloc, "MESH"))
+    let command = Command::new(alloc, "op2").version(VERSION);
+    let command = with_positional(alloc, command, "JOB", true)?;
+    let command = with_positional(alloc, command, "INPUT", true)?;
+    let command = with_positional(alloc, command, "MESH", false)?;
+    with_option(alloc, command, "form")
 }
 
 // What `clap` matches of the words, the program's name first, or its refusal.
@@ -65,19 +95,104 @@ pub fn read_words<'a>(alloc: Global, words: &'a Vec<String>) -> Result<Asked<'a>
 // What words are asked for that `clap` has matched.
 fn job_of<'a>(matches: &ArgMatches<'a>) -> Result<Asked<'a>, Halt<'a>>
     ensures { AsksBy result (asked (first_value (found_of matches.now) (codes "JOB"))
-        (first_value (found_of matches.now) (codes "INPUT")) (first_value (found_of matches.now) (codes "MESH"))) }
+        (first_value (found_of matches.now) (codes "INPUT")) (first_value (found_of matches.now) (codes "MESH"))
+        (first_value (found_of matches.now) (codes "form"))) }
 {
-    let (Some(job), Some(source), Some(mesh)) = (
-        matches.get_str("JOB"),
-        matches.get_str("INPUT"),
-        matches.get_str("MESH"),
-    ) else {
+    let (Some(job), Some(input)) = (matches.get_str("JOB"), matches.get_str("INPUT")) else {
         return Err(Halt::Refused(Refusal::Usage));
     };
+    match by_job(job, input, matches.get_str("MESH"), matches.get_str("form")) {
+        Some(asked) => Ok(asked),
+        None => Err(Halt::Refused(Refusal::Usage)),
+    }
+}
+
+// What is asked for by the job's name.
+fn by_job<'a>(
+    job: &str,
+    input: &'a str,
+    mesh: Option<&'a str>,
+    form: Option<&str>,
+) -> Option<Asked<'a>>
+    ensures { option_map command_of result
+        ≡ by_job job.now input.now (option_map (λ s. s.now) mesh.entry) (option_map (λ s. s.now) form.entry) }
+{
     if job == "run" {
-        Ok(Asked::Run { source, mesh })
+        runs(input, mesh, form)
+    } else if job == "sample" {
+        samples(input, mesh, form)
+    } else if job == "convert" {
+        converts(input, mesh, form)
     } else {
-        Err(Halt::Refused(Refusal::Usage))
+        None
+    }
+}
+
+// `run SOURCE MESH`.
+fn runs<'a>(input: &'a str, mesh: Option<&'a str>, form: Option<&str>) -> Option<Asked<'a>>
+    ensures { option_map command_of result
+        ≡ runs input.now (option_map (λ s. s.now) mesh.entry) (option_map (λ s. s.now) form.entry) }
+{
+    match (mesh, form) {
+        (Some(mesh), None) => Some(Asked::Run {
+            source: input,
+            mesh,
+        }),
+        _ => None,
+    }
+}
+
+// `sample SIDE`.
+fn samples<'a>(input: &str, mesh: Option<&str>, form: Option<&str>) -> Option<Asked<'a>>
+    ensures { option_map command_of result
+        ≡ samples input.now (option_map (λ s. s.now) mesh.entry) (option_map (λ s. s.now) form.entry) }
+{
+    match (mesh, form) {
+        (None, None) => Some(Asked::Sample {
+            side: number_to(MAX_SIDE, input)?,
+        }),
+        _ => None,
+    }
+}
+
+// `convert MESH`, with `--form`.
+fn converts<'a>(input: &'a str, mesh: Option<&str>, form: Option<&str>) -> Option<Asked<'a>>
+    ensures { option_map command_of result
+        ≡ converts input.now (option_map (λ s. s.now) mesh.entry) (option_map (λ s. s.now) form.entry) }
+{
+    match mesh {
+        Some(_) => None,
+        None => Some(Asked::Convert {
+            form: form_of(form)?,
+            mesh: input,
+        }),
+    }
+}
+
+// A version of the mesh format; the second, where no word says which.
+fn form_of(word: Option<&str>) -> Option<Form>
+    ensures { result ≡ form_of (option_map (λ s. s.now) word.entry) }
+{
+    let Some(word) = word else {
+        return Some(Form::Two);
+    };
+    match number_to(2, word)? {
+        1 => Some(Form::One),
+        _ => Some(Form::Two),
+    }
+}
+
+// A number from 1 to the most, in decimal digits.
+fn number_to(most: u32, word: &str) -> Option<u32>
+    ensures { result ≡ number_to most word.now }
+{
+    let Ok(number) = read_u64(word.as_bytes()) else {
+        return None;
+    };
+    if number > 0 && number <= u64::from(most) {
+        Some(number as u32)
+    } else {
+        None
     }
 }
 

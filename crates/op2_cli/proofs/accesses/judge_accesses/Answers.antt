@@ -1,6 +1,6 @@
-use Rattle.std.proofs.Common.{◌≡◌, ◌<◌, length, map, get_or, rules, refl, arith}
+use Rattle.std.proofs.Common.{rules, refl}
 use Rattle.std.proofs.lemmas.Result.{err_from_is_err_and}
-use Rattle.bound_program.specs.Values.{bound_of, site_of}
+use Rattle.bound_program.specs.Values.{bound_of}
 use Rattle.op2_cli.proofs.Sites.{site_fits, first_refused, obey_next, all_obey}
 use Rattle.op2_cli.proofs.accesses.judge_accesses.Goals as goal
 

@@ -1,4 +1,4 @@
-use Rattle.std.proofs.Common.{rules, arith}
+use Rattle.std.proofs.Common.{rules}
 use Rattle.bound_program.specs.Values.{bound_of, site_of}
 use Rattle.op2_cli.proofs.Sites.{arg_fits}
 use Rattle.op2_cli.proofs.accesses.modes_of.Goals as goal

@@ -3,7 +3,7 @@ use Rattle.std.proofs.lemmas.Result.{err_from_is_err_and}
 use Rattle.op_outside.specs.Outside.{Rose}
 use Rattle.c_tree.specs.View.{program_of}
 use Rattle.answers.specs.Refusal.{SourceBytes}
-use Rattle.op2_cli.proofs.Chained.{read_first, tree_refused_over, types_refused_over, both_answered}
+use Rattle.op2_cli.proofs.Chained.{read_first, types_refused_over, both_answered}
 use Rattle.op2_cli.proofs.answered.over_files.Goals as goal
 
 pub returns-in_err-bytes : goal.returns-in_err-bytes

@@ -14,4 +14,4 @@ returns-in_err-text g c =
 
 pub returns : goal.returns
 returns g c =
-    text_answered (program_of c.args.program.now) c.args.types c.args.mesh.now c.deref.result.now (g.F.Shelf.told c.args.shelf.now) (Rose (g.F.Shelf.faults c.args.shelf.now) (g.F.Shelf.faults c.file_of.new.shelf)) c.over_text.result (rw c.deref.ensures.value c.in_ok-text.ensures.read) c.over_text.ensures
+    text_answered (TextAnswers (program_of c.args.program.now) c.args.types) c.args.mesh.now c.deref.result.now (g.F.Shelf.told c.args.shelf.now) (Rose (g.F.Shelf.faults c.args.shelf.now) (g.F.Shelf.faults c.file_of.new.shelf)) c.over_text.result (rw c.deref.ensures.value c.in_ok-text.ensures.read) c.over_text.ensures

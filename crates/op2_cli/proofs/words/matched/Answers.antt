@@ -1,4 +1,4 @@
-use Rattle.std.proofs.Common.{◌≡◌, ap, map, rules, string_bytes}
+use Rattle.std.proofs.Common.{ap, map, rules, string_bytes}
 use Rattle.clap.specs.Simple.{app_of}
 use Rattle.op2_cli.proofs.Asking.{matched_ok, matched_err}
 use Rattle.op2_cli.proofs.words.matched.Goals as goal

@@ -1,5 +1,5 @@
 use Rattle.std.proofs.Common.{map, string_bytes}
-use Rattle.op2_cli.proofs.Asking.{AsksAs, matched_asks, refused_asks}
+use Rattle.op2_cli.proofs.Asking.{matched_asks, refused_asks}
 use Rattle.op2_cli.proofs.words.read_words.Goals as goal
 
 pub returns-in-Ok-clause-ok : goal.returns-in-Ok-clause-ok

@@ -1,0 +1,22 @@
+#!/bin/sh
+# Runs each example and compares what it prints with NAME.out, and the example `sample2` with the sample on a grid of 2 times 2 cells.
+# Ends with the number of differences.
+here=$(CDPATH= cd -- "$(dirname -- "$0")" && pwd) || exit 70
+op2=${1:-$here/../op2}
+bad=0
+for out in "$here"/*.out; do
+    name=${out%.out}
+    if ! "$op2" run "$name.c" "$name.mesh" | cmp -s - "$out"; then
+        echo "differs: $(basename "$name")" >&2
+        bad=$((bad + 1))
+    fi
+done
+if ! "$op2" sample 2 | cmp -s - "$here/sample2.out"; then
+    echo 'differs: sample 2' >&2
+    bad=$((bad + 1))
+fi
+if ! "$op2" convert --form 1 "$here/sample2.mesh" | cmp -s - "$here/sample2.mesh"; then
+    echo 'differs: the mesh of sample2, written again' >&2
+    bad=$((bad + 1))
+fi
+exit "$bad"
