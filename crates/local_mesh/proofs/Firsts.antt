@@ -1,6 +1,6 @@
 -- What is owned, and what is executed, has the first local numbers; and an element has one.
-use Rattle.std.proofs.Common.{◌≡◌, ℕ, ◌+◌, ◌<◌, ◌≤◌, ◌↔◌, Bool, true, false, ◌||◌, List, length, get_or, sym, ap, ◌∙◌, arith, ⊎_elim, subst}
-use Rattle.std.proofs.lemmas.Bool.{cases_Bool, cases_lt}
+use Rattle.std.proofs.Common.{◌≡◌, ℕ, ◌+◌, ◌<◌, ◌≤◌, ◌↔◌, Bool, true, false, ◌&&◌, ◌||◌, nat_lt, List, [], length, get_or, sym, ap, ◌∙◌, arith, ⊎_elim, subst}
+use Rattle.std.proofs.lemmas.Bool.{cases_Bool, cases_lt, ltb_from_iff}
 use Rattle.std.proofs.lemmas.List.{get_or-map}
 use Rattle.mesh_decl.specs.declared.owners.Owners.{Owners}
 use Rattle.mesh_decl.specs.declared.owners.Perms.{Perms}
@@ -8,13 +8,13 @@ use Rattle.mesh_decl.specs.Mesh.{MeshValue, set_count, set_size}
 use Rattle.mesh_decl.specs.Owners.{ArePerms, perm_in}
 use Rattle.mesh_decl.proofs.FieldReads.{some_in}
 use Rattle.rank_sets.proofs.Below.{count_lt}
-use Rattle.halo_lists.specs.Halo.{owns, executes, imports_execute, imports_nonexecute}
+use Rattle.halo_lists.specs.Halo.{owns, executes, imports_execute, imports_nonexecute, is_core}
 use Rattle.local_mesh.specs.declared.types.LocalSet.{LocalSet}
 use Rattle.local_mesh.specs.declared.types.RankMesh.{RankMesh}
 use Rattle.local_mesh.specs.Local.{earlier, local_number, AreInverse}
 use Rattle.local_mesh.specs.Parts.{by_new}
 use Rattle.local_mesh.specs.LocalMesh.{IsLocalSet, IsRankMesh, originals_in, executed_in}
-use Rattle.local_mesh.specs.Numbers.{own_in}
+use Rattle.local_mesh.specs.Numbers.{own_in, core_in}
 use Rattle.local_mesh.proofs.Inverse.{number_own, number_exec, number_executed}
 use Rattle.local_mesh.proofs.Numbered.{number_apart}
 use Rattle.local_mesh.proofs.Closing.{originals_at, executed_at}
@@ -62,6 +62,10 @@ pub own_at : (sets : List LocalSet) (s : ℕ) (d : LocalSet) → s < length sets
 unfolding own_in
 own_at sets s d l = get_or-map (λ (l : LocalSet). l.own) sets s d 0 l
 
+core_at : (sets : List LocalSet) (s : ℕ) (d : LocalSet) → s < length sets → core_in sets s ≡ (get_or sets s d).core.items
+unfolding core_in
+core_at sets s d l = get_or-map (λ (l : LocalSet). l.core.items) sets s d [] l
+
 module _ (g : MeshValue) (o : Owners) (p : Perms) (r : ℕ) (m : RankMesh) (is : IsRankMesh g o p r m) (s : ℕ) (l : s < set_count g) where
   has : s < length m.sets.items
   has = rw is.sets_count l
@@ -106,3 +110,17 @@ module _ (g : MeshValue) (o : Owners) (p : Perms) (r : ℕ) (m : RankMesh) (is :
       (λ (b : j ≤ k). omega arith)
       (cases_lt k j))
       (cases_lt j k)
+
+  -- a core element is marked
+  pub core_marked : (k : ℕ) → k < length (originals_in m.sets.items s) → get_or (core_in m.sets.items s) k false ≡ (owns o s (get_or (originals_in m.sets.items s) k 0) r && is_core g o s (get_or (originals_in m.sets.items s) k 0))
+  core_marked k lk =
+      let b : k < length (get_or m.sets.items s some).original = subst (λ (z : List ℕ). k < length z) at lk in
+      let x : ℕ = get_or (originals_in m.sets.items s) k 0 in
+      let n : ℕ = (get_or m.sets.items s some).own in
+      let e : own_in m.sets.items s ≡ n = own_at m.sets.items s some has in
+      let first = owned_first k lk in
+      let same : owns o s x r ≡ nat_lt k n = ltb_from_iff (λ t. subst (λ z. k < z) e (first.1 t), λ q. first.0 (subst (λ z. k < z) (sym e) q)) in
+      ap (λ (z : List Bool). get_or z k false) (core_at m.sets.items s some has)
+      ∙ (set.core k b
+      ∙ (ap (λ z. z && is_core g o s (get_or (get_or m.sets.items s some).original k 0)) (sym same)
+      ∙ ap (λ (z : List ℕ). owns o s x r && is_core g o s (get_or z k 0)) (sym at)))

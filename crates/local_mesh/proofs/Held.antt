@@ -21,12 +21,21 @@ unfolding sets_of
 sets_at meshes r d l = get_or-map (λ (m : RankMesh). m.sets.items) meshes r d [] l
 
 module _ (g : MeshValue) (o : Owners) (p : Perms) (perms : ArePerms g p) (s : ℕ) (l : s < set_count g) where
-  held_by : (r : ℕ) (m : RankMesh) → IsRankMesh g o p r m → AreClosed g m.sets.items → IsHeld g o s r m.sets.items
-  held_by r m is closed =
+  pub copies_by : (r : ℕ) (m : RankMesh) → IsRankMesh g o p r m → (x : ℕ) → Contains (originals_in m.sets.items s) x ↔ ((x < set_size g s) × (has_copy g o s x r ≡ true))
+  copies_by r m is x =
       let here : s < length m.sets.items = rw is.sets_count l in
       let d : LocalSet = some_in m.sets.items s here in
       let at : originals_in m.sets.items s ≡ (get_or m.sets.items s d).original = originals_at m.sets.items s d here in
       let inv = (is.sets s d l).inverse in
+      subst (λ (z : List ℕ). Contains z x ↔ ((x < set_size g s) × (has_copy g o s x r ≡ true))) (sym at) (
+        number_is_copy (set_size g s) (perm_in p s) (λ x. owns o s x r) (λ x. imports_execute g o s x r) (λ x. imports_nonexecute g o s x r) (get_or m.sets.items s d).original (perms.numbers s l) inv x,
+        λ h. number_contains (set_size g s) (perm_in p s) (λ x. owns o s x r) (λ x. imports_execute g o s x r) (λ x. imports_nonexecute g o s x r) (get_or m.sets.items s d).original (perms.numbers s l) inv x h.0 h.1,
+      )
+
+  held_by : (r : ℕ) (m : RankMesh) → IsRankMesh g o p r m → AreClosed g m.sets.items → IsHeld g o s r m.sets.items
+  held_by r m is closed =
+      let here : s < length m.sets.items = rw is.sets_count l in
+      let d : LocalSet = some_in m.sets.items s here in
       record {
         here = here;
         few = closed.few s l;
@@ -34,10 +43,7 @@ module _ (g : MeshValue) (o : Owners) (p : Perms) (perms : ArePerms g p) (s : �
         within = λ k. closed.within s k l;
         apart = λ j k. closed.apart s j k l;
         owned = owned_first g o p r m is s l;
-        copies = λ x. subst (λ (z : List ℕ). Contains z x ↔ ((x < set_size g s) × (has_copy g o s x r ≡ true))) (sym at) (
-          number_is_copy (set_size g s) (perm_in p s) (λ x. owns o s x r) (λ x. imports_execute g o s x r) (λ x. imports_nonexecute g o s x r) (get_or m.sets.items s d).original (perms.numbers s l) inv x,
-          λ h. number_contains (set_size g s) (perm_in p s) (λ x. owns o s x r) (λ x. imports_execute g o s x r) (λ x. imports_nonexecute g o s x r) (get_or m.sets.items s d).original (perms.numbers s l) inv x h.0 h.1,
-        );
+        copies = copies_by r m is;
       }
 
   pub all_held : (meshes : List RankMesh) → AreRankMeshes g o p meshes → ((r : ℕ) (m : RankMesh) → IsRankMesh g o p r m → AreClosed g m.sets.items) → AreHeld g o meshes s

@@ -1,11 +1,11 @@
 -- What the local numbers of a rank say.
-use Rattle.std.specs.Prelude.{◌≡◌, ℕ, ◌+◌, ◌*◌, ◌<◌, ◌↔◌, true, List, map, length, slice_index}
+use Rattle.std.specs.Prelude.{◌≡◌, ℕ, ◌+◌, ◌*◌, ◌<◌, ◌↔◌, Bool, true, false, ◌&&◌, List, [], map, length, slice_index, slice_index_or, Contains}
 use Rattle.mesh_decl.specs.declared.owners.Owners.{Owners}
 use Rattle.mesh_decl.specs.declared.owners.Perms.{Perms}
-use Rattle.mesh_decl.specs.Mesh.{MeshValue, set_count, map_count, map_from, map_to, map_dim, target}
+use Rattle.mesh_decl.specs.Mesh.{MeshValue, set_count, set_size, map_count, map_from, map_to, map_dim, target}
 use Rattle.mesh_decl.specs.Owners.{ArePerms}
 use Rattle.rank_sets.specs.Below.{row}
-use Rattle.halo_lists.specs.Halo.{IsInRange, owns, executes}
+use Rattle.halo_lists.specs.Halo.{IsInRange, owns, executes, has_copy, is_core}
 use Rattle.local_mesh.specs.declared.types.LocalSet.{LocalSet}
 use Rattle.local_mesh.specs.declared.types.RankMesh.{RankMesh}
 use Rattle.local_mesh.specs.LocalMesh.{originals_in, executed_in, AreClosed, IsRankMesh}
@@ -13,6 +13,10 @@ use Rattle.local_mesh.specs.LocalMesh.{originals_in, executed_in, AreClosed, IsR
 -- how many elements of a set a rank owns
 unfoldable pub own_in : List LocalSet → ℕ → ℕ
 own_in sets s = slice_index (map (λ (l : LocalSet). l.own) sets) s
+
+-- which local elements of a set are core
+unfoldable pub core_in : List LocalSet → ℕ → List Bool
+core_in sets s = slice_index_or (map (λ (l : LocalSet). l.core.items) sets) s []
 
 -- the original number of the element of set s with local number k
 abbrev pub original_at : RankMesh → ℕ → ℕ → ℕ
@@ -48,6 +52,23 @@ OriginalsAreDistinct =
     → j < length (originals_in m.sets.items s) → k < length (originals_in m.sets.items s)
     → original_at m s j ≡ original_at m s k
     → j ≡ k
+
+-- the elements that a rank has are those that it owns or imports
+abbrev pub OriginalsAreHeld : Type 0
+OriginalsAreHeld =
+    (g : MeshValue) (o : Owners) (p : Perms) (r : ℕ) (m : RankMesh)
+    → ArePerms g p
+    → IsRankMesh g o p r m
+    → (s x : ℕ) → s < set_count g
+    → Contains (originals_in m.sets.items s) x ↔ ((x < set_size g s) × (has_copy g o s x r ≡ true))
+
+-- a local element is marked as core exactly where the rank owns it and all its targets
+abbrev pub CoreIsMarked : Type 0
+CoreIsMarked =
+    (g : MeshValue) (o : Owners) (p : Perms) (r : ℕ) (m : RankMesh)
+    → IsRankMesh g o p r m
+    → (s k : ℕ) → s < set_count g → k < length (originals_in m.sets.items s)
+    → slice_index_or (core_in m.sets.items s) k false ≡ (owns o s (original_at m s k) r && is_core g o s (original_at m s k))
 
 -- a rank has different elements, with the targets of what it executes among them
 abbrev pub RankMeshesAreClosed : Type 0

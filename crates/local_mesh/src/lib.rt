@@ -30,8 +30,9 @@ pub use laws::{cells_are_of_copies, originals_are_copies, places_are_disjoint, p
 pub use lists::{LocalLists, local_lists};
 use mesh_decl::{Mesh, Owners, Perms};
 pub use number_laws::{
-    equal_targets_are_local, executed_come_first, one_rank_meshes, originals_are_distinct,
-    owned_come_first, rank_meshes_are_closed, targets_are_local,
+    core_is_marked, equal_targets_are_local, executed_come_first, one_rank_meshes,
+    originals_are_distinct, originals_are_held, owned_come_first, rank_meshes_are_closed,
+    targets_are_local,
 };
 use numbers::local_sets;
 use op_num::OutOfMemory;

@@ -1,5 +1,5 @@
 // What the local numbers of a rank say.
-ghost use Rattle.local_mesh.specs.Numbers.{OwnedComeFirst, ExecutedComeFirst, OriginalsAreDistinct};
+ghost use Rattle.local_mesh.specs.Numbers.{OwnedComeFirst, ExecutedComeFirst, OriginalsAreDistinct, OriginalsAreHeld, CoreIsMarked};
 ghost use Rattle.local_mesh.specs.Numbers.{RankMeshesAreClosed, TargetsAreLocal, EqualTargetsAreLocal};
 ghost use Rattle.local_mesh.specs.Values.{AreOne};
 
@@ -18,6 +18,16 @@ pub fn executed_come_first()
 /// Different local numbers of a set are those of different elements.
 pub fn originals_are_distinct()
     ensures { OriginalsAreDistinct }
+{}
+
+/// The elements that a rank has of a set are those that it owns or imports.
+pub fn originals_are_held()
+    ensures { OriginalsAreHeld }
+{}
+
+/// A local element is marked as core exactly where the rank owns it and all its targets.
+pub fn core_is_marked()
+    ensures { CoreIsMarked }
 {}
 
 /// A rank has different elements of the mesh, with the targets of all that it executes among them.
