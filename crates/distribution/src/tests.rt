@@ -1,9 +1,13 @@
 // Local meshes of small meshes, by the renumbering of Cuthill and McKee.
-use halo_lists::{halos, owners_fit};
-use local_mesh::{LocalSet, RankMesh, localise};
-use mesh_decl::{Mesh, Numbers, Owners};
-use op_num::Name;
+ghost use Rattle.mesh_decl.specs.Owners.{AreOwners, ArePerms};
+ghost use Rattle.halo_lists.specs.Halos.{AreHalos};
+
+use halo_lists::{Halos, halos, owners_fit};
+use local_mesh::{LocalLists, LocalSet, RankMesh, local_lists, localise};
+use mesh_decl::{Mesh, Numbers, Owners, Perms};
+use op_num::{Name, OutOfMemory};
 use renumber::cuthill_mckee;
+use std::alloc::Global;
 use std::process::Abort;
 use std::test::Fail;
 
@@ -18,12 +22,21 @@ struct Want {
     cells: usize,
 }
 
-// The owners of nodes and edges, the ends of the edges, and what ranks 0 and 1 have.
+// Of nodes or edges, by element the local number on its owner; the local numbers of what rank 0 exports to rank 1 and of
+// what rank 1 exports to rank 0, and those that the importing rank has of the same.
+struct WantLists {
+    at_owner: &'static [u32],
+    exports: [&'static [u32]; 2],
+    imports: [&'static [u32]; 2],
+}
+
+// The owners of nodes and edges, the ends of the edges, what ranks 0 and 1 have, and the lists of nodes and of edges.
 struct Case {
     nodes: &'static [u32],
     edges: &'static [u32],
     ends: &'static [i32],
     want: &'static [Want],
+    lists: &'static [WantLists],
 }
 
 const CASES: &[Case] = &[
@@ -50,6 +63,18 @@ const CASES: &[Case] = &[
                 cells: 5,
             },
         ],
+        lists: &[
+            WantLists {
+                at_owner: &[1, 0, 0],
+                exports: [&[0], &[0]],
+                imports: [&[1], &[2]],
+            },
+            WantLists {
+                at_owner: &[0, 0],
+                exports: [&[], &[0]],
+                imports: [&[], &[1]],
+            },
+        ],
     },
     // a star; new numbers: nodes 2 0 1, edges 1 0
     Case {
@@ -72,6 +97,18 @@ const CASES: &[Case] = &[
                 core_edges: &[false, false],
                 targets: &[2, 0, 2, 1],
                 cells: 8,
+            },
+        ],
+        lists: &[
+            WantLists {
+                at_owner: &[0, 1, 0],
+                exports: [&[0], &[1, 0]],
+                imports: [&[2], &[2, 1]],
+            },
+            WantLists {
+                at_owner: &[0, 0],
+                exports: [&[0], &[0]],
+                imports: [&[1], &[1]],
             },
         ],
     },
@@ -98,6 +135,18 @@ const CASES: &[Case] = &[
                 cells: 11,
             },
         ],
+        lists: &[
+            WantLists {
+                at_owner: &[1, 0, 0, 1],
+                exports: [&[1, 0], &[0, 1]],
+                imports: [&[3, 2], &[2, 3]],
+            },
+            WantLists {
+                at_owner: &[1, 0, 0, 1],
+                exports: [&[0], &[1]],
+                imports: [&[2], &[2]],
+            },
+        ],
     },
     // two components; an edge from a node to itself, which the other rank owns; new numbers: nodes 3 2 1 0, edges 1 0
     Case {
@@ -122,6 +171,18 @@ const CASES: &[Case] = &[
                 cells: 8,
             },
         ],
+        lists: &[
+            WantLists {
+                at_owner: &[1, 0, 1, 0],
+                exports: [&[1], &[]],
+                imports: [&[2], &[]],
+            },
+            WantLists {
+                at_owner: &[1, 0],
+                exports: [&[], &[1]],
+                imports: [&[], &[0]],
+            },
+        ],
     },
     // a node, no edge, and a rank without elements
     Case {
@@ -144,6 +205,18 @@ const CASES: &[Case] = &[
                 core_edges: &[],
                 targets: &[],
                 cells: 2,
+            },
+        ],
+        lists: &[
+            WantLists {
+                at_owner: &[0],
+                exports: [&[], &[]],
+                imports: [&[], &[]],
+            },
+            WantLists {
+                at_owner: &[],
+                exports: [&[], &[]],
+                imports: [&[], &[]],
             },
         ],
     },
@@ -203,6 +276,37 @@ fn same_mesh(rt: &impl Abort, local: &RankMesh, want: &Want) {
     }
 }
 
+fn same_lists(rt: &impl Abort, have: &LocalLists, want: &WantLists) {
+    assert_eq!(rt; have.at_owner.as_slice(), want.at_owner);
+    assert_eq!(rt; have.exports.len(), 2);
+    assert_eq!(rt; have.exports[0].len(), 2);
+    assert_eq!(rt; have.exports[1].len(), 2);
+    assert_eq!(rt; have.exports[0][1].as_slice(), want.exports[0]);
+    assert_eq!(rt; have.exports[1][0].as_slice(), want.exports[1]);
+    assert_eq!(rt; have.imports.len(), 2);
+    assert_eq!(rt; have.imports[0].len(), 2);
+    assert_eq!(rt; have.imports[1].len(), 2);
+    assert_eq!(rt; have.imports[1][0].as_slice(), want.imports[0]);
+    assert_eq!(rt; have.imports[0][1].as_slice(), want.imports[1]);
+}
+
+// The local meshes, and the lists of each set.
+fn localise_all(
+    alloc: Global,
+    mesh: &Mesh,
+    owners: &Owners,
+    halos: &Halos,
+    perms: &Perms,
+) -> Result<(Vec<RankMesh>, Vec<LocalLists>), OutOfMemory>
+    requires owners { AreOwners mesh.now owners.now }
+    requires halos { AreHalos mesh.now owners.now halos.now }
+    requires perms { ArePerms mesh.now perms.now }
+{
+    let meshes = localise(alloc, mesh, owners, halos, perms)?;
+    let lists = local_lists(alloc, mesh, owners, halos, &meshes)?;
+    Ok((meshes, lists))
+}
+
 #[test]
 fn edges_on_two_ranks(rt: HostRuntime) -> Result<(), Fail> {
     let alloc = rt.alloc();
@@ -218,10 +322,14 @@ fn edges_on_two_ranks(rt: HostRuntime) -> Result<(), Fail> {
         if mesh.map_count() == 1 && owners_fit(&mesh, &owners) {
             let perms = cuthill_mckee(alloc, &mesh, 0)?;
             let halos = halos(alloc, &mesh, &owners)?;
-            let found = localise(alloc, &mesh, &owners, &halos, &perms)?;
+            let (found, lists) = localise_all(alloc, &mesh, &owners, &halos, &perms)?;
             assert_eq!(rt; found.len(), 2);
             for (local, want) in found.iter().zip(case.want.iter()) {
                 same_mesh(&rt, local, want);
+            }
+            assert_eq!(rt; lists.len(), 2);
+            for (have, want) in lists.iter().zip(case.lists.iter()) {
+                same_lists(&rt, have, want);
             }
         }
     }
