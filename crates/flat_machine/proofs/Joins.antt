@@ -8,10 +8,10 @@ use Rattle.schedule_model.specs.Program.{Kind, Free, Reduce, Ordered, Host, Host
 use Rattle.schedule_model.specs.Setup.{Setup, owner_of}
 use Rattle.schedule_model.specs.Sequential.{Stop, Loop, Broke, Ran_through, after_run, one_more, loop}
 use Rattle.schedule_model.specs.Machine.{State, unit_at, merge_at, merged_from, reduced, gathered, spread, looped, hosted, done, joined, least}
-use Rattle.flat_machine.specs.Layout.{Core, Faults, Leaves, Layout, IsLayout, AreConstants, lookup, of_core, Exists}
-use Rattle.flat_machine.specs.Flat.{Flat, variable, owned, merge_ranks, reduce_flat, element_flat, loop_flat, host_flat, done_flat, join_flat}
+use Rattle.flat_machine.specs.Layout.{Core, Faults, Leaves, Layout, IsLayout, AreConstants, HostedAlike, lookup, of_core, Exists}
+use Rattle.flat_machine.specs.Flat.{Flat, updated, variable, owned, merge_ranks, reduce_flat, element_flat, loop_flat, host_flat, done_flat, join_flat}
 use Rattle.flat_machine.proofs.Rows.{map_same}
-use Rattle.flat_machine.proofs.Same.{Same, all_changed, values_changed, read_is, variable_is}
+use Rattle.flat_machine.proofs.Same.{Same, Values, all_changed, values_changed, read_is, variable_is}
 
 -- each owner is a rank
 abbrev pub Owners : {F : Type 0} → Setup F → Type 0
@@ -118,24 +118,29 @@ module _ {F : Type 0} (p : Setup F) (own : Owners p) (l : Layout F) (q : IsLayou
   loop_same k (suc n) f a lp le none h = more_same k n a lp (omega arith) none (loop_flat p l k n f) (loop p.program k n (gathered p a)) (loop_same k n f a lp (omega arith) none h)
 
   -- ---- Host
-  host_same : (k : ℕ) (f : Flat F) (a : State F) → Same p l f a → (b : Hosted F) → Same p l (host_flat p l k b f) (hosted k b a)
-  host_same k f a h (Halts n) = stop_same f a (record { item = k; element = None; fault = n }) h
-  host_same k f a h (Goes v w) = record {
+  host_same : (k : ℕ) (f : Flat F) (a : State F) → Same p l f a → (b c : Hosted F) → HostedAlike p l b c → Same p l (host_flat p l k b f) (hosted k c a)
+  host_same k f a h (Halts n) (Halts m) e = subst (λ z. Same p l (host_flat p l k (Halts n) f) (hosted k (Halts z) a)) e (stop_same f a (record { item = k; element = None; fault = n }) h)
+  host_same k f a h (Goes v w) (Goes u o) e = record {
     memories = h.memories;
-    variables = values_changed l f.variables a.variables (λ u x. v u) v h.variables (λ u. refl);
+    variables = given v u (values_changed l f.variables a.variables (λ u x. v u) v h.variables (λ u. refl)) e.0;
     partials = h.partials;
     mail = h.mail;
     panes = h.panes;
     faults = h.faults;
-    output = ap (λ z. z ++ w) h.output;
+    output = ap (λ z. z ++ w) h.output ∙ ap (λ z. a.output ++ z) e.1;
     stop = h.stop;
   }
+    where
+      given : (v u : VarCell → ℤ) → Values l (updated (λ i x. v (l.variable_at i)) 0 f.variables) v → ((i : ℕ) → i < l.variables → v (l.variable_at i) ≡ u (l.variable_at i)) → Values l (updated (λ i x. v (l.variable_at i)) 0 f.variables) u
+      given v u x y = record { wide = x.wide; values = λ i lt. x.values i lt ∙ y i lt }
+  host_same k f a h (Halts n) (Goes u o) e = absurd e
+  host_same k f a h (Goes v w) (Halts m) e = absurd e
 
   done_same : (k : ℕ) (f : Flat F) (a : State F) → a.stop ≡ None → Same p l f a → (x : Kind) → p.program.kind k ≡ x → Same p l (done_flat p l k x f) (done p k x a)
   done_same k f a none h Free e = h
   done_same k f a none h Reduce e = reduce_same k f a h
   done_same k f a none h Ordered e = loop_same k (elements p.program k) f a (ap is_loop e) (omega arith) none h
-  done_same k f a none h Host e = subst (λ z. Same p l (host_flat p l k (p.program.host k (owned p l f)) f) (hosted k z a)) (q.host_sees k (owned p l f) (gathered p a) e (owned_is f a h)) (host_same k f a h (p.program.host k (owned p l f)))
+  done_same k f a none h Host e = host_same k f a h (p.program.host k (owned p l f)) (p.program.host k (gathered p a)) (q.host_sees k (owned p l f) (gathered p a) e (owned_is f a h))
 
   join_same : (k : ℕ) (f : Flat F) (a : State F) → a.stop ≡ None → Same p l f a → (x : Option (Stop F)) → Same p l (join_flat p l k x f) (joined p k x a)
   join_same k f a none h (Some x) = stop_same f a x h

@@ -5,7 +5,7 @@ use Rattle.reductions.specs.Reduction.{Reduction}
 use Rattle.schedule_steps.specs.Outline.{Outline}
 use Rattle.schedule_model.specs.Cells.{Cell, Data, Variable, DatCell, VarCell, Store, same_cell}
 use Rattle.schedule_model.specs.Effects.{Ran, Faulted, Finished, is_modified}
-use Rattle.schedule_model.specs.Program.{Free, Host, is_free, elements, is_loop}
+use Rattle.schedule_model.specs.Program.{Free, Host, Hosted, Halts, Goes, is_free, elements, is_loop}
 use Rattle.schedule_model.specs.Setup.{Setup, in_set, owner_of, has_copy, executes}
 use Rattle.schedule_model.specs.Machine.{arrives}
 
@@ -80,6 +80,13 @@ module _ {F : Type 0} (p : Setup F) (l : Layout F) where
   AreConstants [] = Unit {0}
   AreConstants (v ∷ vs) = IsVariable v × ((k : ℕ) → p.program.kind k ≡ Free → p.reduces (p.program.site k) v ≡ None) × AreConstants vs
 
+  -- both statements stop with one fault, or both leave the variables' cells alike and print the same
+  abbrev pub HostedAlike : Hosted F → Hosted F → Type 0
+  HostedAlike (Halts f) (Halts g) = f ≡ g
+  HostedAlike (Goes v o) (Goes u w) = ((i : ℕ) → i < l.variables → v (l.variable_at i) ≡ u (l.variable_at i)) × (o ≡ w)
+  HostedAlike (Halts f) (Goes u w) = ⊥
+  HostedAlike (Goes v o) (Halts g) = ⊥
+
   -- the layout is that of the setup
   pub record IsLayout : Type 0 where
     -- windows
@@ -122,11 +129,11 @@ module _ {F : Type 0} (p : Setup F) (l : Layout F) where
         → Has r c
         → (l.place r c < l.width r) × (l.cell_at r (l.place r c) ≡ c)
     pub real : (r i : ℕ) → r < p.ranks → i < l.width r → is_cell (l.cell_at r i) ≡ true
-    -- a host statement sees the cells that exist
+    -- a host statement goes by the cells that exist, and does alike to them
     pub host_sees : (k : ℕ) (s t : Store)
         → p.program.kind k ≡ Host
         → ((c : Cell) → Exists c → s c ≡ t c)
-        → p.program.host k s ≡ p.program.host k t
+        → HostedAlike (p.program.host k s) (p.program.host k t)
     -- messages
     pub exported : (k s r : ℕ) (c : DatCell)
         → r < p.ranks

@@ -9,7 +9,7 @@ use Rattle.schedule_model.specs.Effects.{Untouched, Written, is_modified}
 use Rattle.schedule_model.specs.Program.{Free, is_free, Goes, is_loop}
 use Rattle.schedule_model.specs.Setup.{owner_of, has_copy, executes}
 use Rattle.schedule_model.specs.Machine.{arrives, unit_at}
-use Rattle.flat_machine.specs.Layout.{IsLayout, among, is_cell, Exists, Has}
+use Rattle.flat_machine.specs.Layout.{IsLayout, HostedAlike, among, is_cell, Exists, Has}
 use Rattle.flat_machine.specs.Flat.{StartsFlat}
 use Rattle.schedule_examples.specs.Ring.{other, x_cell, r_cell, x, r, sum, is_x, is_r, is_sum, kind, site, touch, reduces, digits, modifies, needs, ring, one_cell, base, is_variable, kept_variables, first_value}
 use Rattle.schedule_examples.specs.RingLayout.{cells, side, of_side, cell_at, exports, count, ring_layout, ring_start}
@@ -268,7 +268,7 @@ module _ (faulty : Bool) where
     reduced_held = reduced_held;
     placed = λ t c lt h has. placed t c lt h;
     real = all_real;
-    host_sees = λ k s t ho h. host_sees k s t h;
+    host_sees = λ k s t ho h. subst (λ z. HostedAlike (ring faulty) (ring_layout faulty) (Goes (kept_variables s) (digits (s sum))) z) (host_sees k s t h) (λ i lt. refl, refl);
     exported = exported;
     exports_own = exports_own;
     inside = inside;
