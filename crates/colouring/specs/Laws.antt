@@ -1,7 +1,7 @@
 -- What colours say of places in conflict.
 use Rattle.std.specs.Prelude.{◌≡◌, ◌≢◌, ℕ, ◌<◌, ◌⊎◌, true, List, Vec, slice_index, Contains}
 use Rattle.std.specs.declared.alloc.Global.{Global}
-use Rattle.mesh_decl.specs.Mesh.{MeshValue}
+use Rattle.mesh_decl.specs.Mesh.{MeshValue, IsDatAt, dat_count}
 use Rattle.mesh_decl.specs.declared.owners.Owners.{Owners}
 use Rattle.mesh_decl.specs.declared.owners.Perms.{Perms}
 use Rattle.mesh_decl.specs.Owners.{ArePerms}
@@ -52,3 +52,17 @@ TargetsAreOrdered g =
     → e ≢ f
     → reached_by g e x.via ≡ reached_by g f y.via
     → (by_colour t k r e f ≡ true) ⊎ (by_colour t k r f e ≡ true)
+
+-- two places that a rank executes and that reduce into one element of a dat are in conflict; elements have their original numbers
+abbrev pub CommonTargetsConflict : Type 0
+CommonTargetsConflict =
+    (g : MeshValue) (o : Owners) (p : Perms) (r : ℕ) (m : RankMesh) (args : List IncArg) (places : ℕ)
+    → ((d : ℕ) → d < dat_count g → IsDatAt g d)
+    → ArePerms g p
+    → IsRankMesh g o p r m
+    → (a : AreArgs g m.sets.items places args)
+    → (x y : IncArg) (e f : ℕ)
+    → Contains args x → Contains args y → x.dat ≡ y.dat
+    → e < places → f < places
+    → reached_by g (slice_index (originals_in m.sets.items a.set) e) x.via ≡ reached_by g (slice_index (originals_in m.sets.items a.set) f) y.via
+    → Conflict g m.maps.items args e f

@@ -1,5 +1,5 @@
 // What colours say of places in conflict.
-ghost use Rattle.colouring.specs.Laws.{PlacesAreOrdered, BlocksDiffer, TargetsAreOrdered};
+ghost use Rattle.colouring.specs.Laws.{PlacesAreOrdered, BlocksDiffer, CommonTargetsConflict, TargetsAreOrdered};
 
 use mesh_decl::Mesh;
 
@@ -7,6 +7,12 @@ use mesh_decl::Mesh;
 /// have in one block.
 pub fn conflicting_places_are_ordered()
     ensures { PlacesAreOrdered }
+{}
+
+/// Two places that a rank executes and that reduce into one element of a dat are in conflict. Elements have their
+/// original numbers.
+pub fn common_targets_conflict()
+    ensures { CommonTargetsConflict }
 {}
 
 /// Of two elements that a rank executes and that reduce into one element of a dat, one goes before the other by an

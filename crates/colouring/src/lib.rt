@@ -18,7 +18,8 @@ mod types;
 mod within;
 
 pub use laws::{
-    common_targets_are_ordered, conflicting_blocks_differ, conflicting_places_are_ordered,
+    common_targets_are_ordered, common_targets_conflict, conflicting_blocks_differ,
+    conflicting_places_are_ordered,
 };
 use local_mesh::RankMesh;
 use mesh_decl::Mesh;

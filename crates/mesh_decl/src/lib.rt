@@ -6,6 +6,7 @@
 
 mod access;
 mod decl;
+mod laws;
 mod mesh;
 mod named;
 mod numbers;
@@ -15,6 +16,7 @@ mod tests;
 
 pub use access::Via;
 pub use decl::{DatDecl, MapDecl, MapRefusal, SetDecl};
+pub use laws::declarations_hold;
 pub use mesh::Mesh;
 pub use mesh_text::{
     Entries, Entry, Form, MESH_BYTES, MESH_VALUES, MeshRefusal, Values, one_spelling,
