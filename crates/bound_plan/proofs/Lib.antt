@@ -5,3 +5,6 @@ pub mod Loops
 pub mod Placed
 pub mod AlikeBack
 pub mod ByPlace
+pub mod Trace
+pub mod Globals
+pub mod DatArgs

@@ -12,12 +12,13 @@ use Rattle.flat_machine.specs.Layout.{Layout}
 use Rattle.bound_program.specs.Values.{BoundValue}
 use Rattle.run_model.specs.Windows.{Element, cells_in}
 use Rattle.run_model.specs.Kernels.{constants}
+use Rattle.run_model.specs.Hosts.{variable_cells}
 use Rattle.run_model.specs.Laws.{site_of}
 use Rattle.loop_plan.specs.Values.{PlanValue, item_plan, places_in}
 use Rattle.loop_plan.specs.StepOutline.{loop_at}
 use Rattle.bound_plan.specs.Places.{original_at, local_at, cells_of, place_of, cell_at}
 use Rattle.bound_plan.specs.Windows.{frame_cells, site_core}
-use Rattle.bound_plan.specs.Variables.{variable_list, variable_index, variable_at}
+use Rattle.bound_plan.specs.Variables.{variable_index, variable_at}
 
 -- set, sender, receiver: the sender's elements that the receiver imports, by original number
 abbrev pub exported : MeshValue → Owners → ℕ → ℕ → ℕ → List ℕ
@@ -37,7 +38,7 @@ layout_of b o meshes p = record {
   width = cells_of meshes;
   place = place_of meshes b.mesh;
   cell_at = cell_at meshes b.mesh;
-  variables = length (variable_list b);
+  variables = length (variable_cells b);
   index_of = variable_index b;
   variable_at = variable_at b;
   exports = λ k s r. exported_cells b o (item_plan p k).exchange s r;
