@@ -1,8 +1,8 @@
 -- How the arguments of a loop reach dats.
-use Rattle.std.proofs.Common.{◌≡◌, ◌<◌, ℕ, zero, suc, Bool, true, false, not, ◌⊎◌, inl, inr, List, [], ◌∷◌, length, get_or, Option, Some, None, refl, sym, ap, subst, ◌∙◌, arith, ⊎_elim}
-use Rattle.std.specs.Prelude.{◌&&◌, ◌||◌, nat_eq, is_none, is_some, if◌then◌else◌}
-use Rattle.std.specs.List.{list_all, list_any}
-use Rattle.std.proofs.lemmas.Bool.{cases_Bool, false≢true, or_cases, or_from, or_parts, and_parts, and_from, eqb-true, eq-eqb, not-true, not-false, not_from_true, not_from_false}
+use Rattle.std.proofs.Common.{◌≡◌, ◌<◌, ℕ, zero, suc, Bool, true, false, not, ◌⊎◌, inl, inr, List, [], ◌∷◌, length, get_or, Option, Some, None, refl, sym, ap, ◌∙◌, arith, ⊎_elim}
+use Rattle.std.specs.Prelude.{◌&&◌, ◌||◌, nat_eq, is_none, if◌then◌else◌}
+use Rattle.std.specs.List.{list_all}
+use Rattle.std.proofs.lemmas.Bool.{cases_Bool, false≢true, or_cases, or_from, or_parts, and_from, eqb-true, eq-eqb, not-true, not-false, not_from_true, not_from_false}
 use Rattle.std.proofs.lemmas.List.Folds.{list_all_at, list_any_at}
 use Rattle.reductions.specs.Reduction.{Reduction, Add, Min, Max}
 use Rattle.reductions.specs.Access as laws
@@ -15,7 +15,7 @@ use Rattle.schedule_laws.specs.Arguments as theorem
 use Rattle.bound_program.specs.declared.sites.Arg.{Arg}
 use Rattle.bound_program.specs.declared.sites.Arg.TheVariants.{Dat, Global}
 use Rattle.bound_program.specs.declared.sites.Class.TheVariants as class
-use Rattle.bound_program.specs.Classes.{is_read, is_inc, is_min, is_max, is_reducing, passes, all_on, modifies, is_orderly, is_orderly_arg, class_of, is_scattered, scatters}
+use Rattle.bound_program.specs.Classes.{is_read, is_inc, is_min, is_max, passes, all_on, modifies, is_orderly, is_orderly_arg, class_of, is_scattered, scatters}
 use Rattle.run_model.specs.Arguments.{no_arg, argument_of}
 use Rattle.loop_plan.specs.Needs.{reads_copies, arg_needs, needs}
 use Rattle.bound_plan.proofs.Globals.{is_reducing_is}
@@ -205,9 +205,12 @@ free_class false h = let q : ⊥ = cc in absurd q
 
 one_reduction : (xs : List Arg) (d : ℕ) (o : Reduction) (test : Access → Bool) → ((x : Access) → test x ≡ true → access_of x ≡ OpReduce o)
     → all_on d (λ v a. test a) xs ≡ true → OneReduction xs d
-one_reduction xs d o test is h = (o, λ a l on.
-    let w : OnDat (get_or xs a no_arg) d = on_dat (get_or xs a no_arg) d on in
-    w.how ∙ is w.access (on_passes xs d a (λ v x. test x) w.via w.access h l w.is))
+one_reduction xs d o test is h = (
+  o,
+  λ a l on.
+      let w : OnDat (get_or xs a no_arg) d = on_dat (get_or xs a no_arg) d on in
+      w.how ∙ is w.access (on_passes xs d a (λ v x. test x) w.via w.access h l w.is),
+)
 
 all_direct : (xs : List Arg) (d : ℕ) → all_on d (λ v a. is_none v) xs ≡ true → AllDirect xs d
 all_direct xs d h a l on =

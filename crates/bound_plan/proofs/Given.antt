@@ -1,12 +1,15 @@
 -- The laws of the lower crates on which the proofs rest.
-use Rattle.std.specs.Prelude.{◌≡◌, ◌↔◌, ◌<◌, ℕ, true, List, Contains}
+use Rattle.std.specs.Prelude.{◌≡◌, ◌≢◌, ◌↔◌, ◌<◌, ℕ, true, List, Contains}
 use Rattle.mesh_decl.specs.declared.owners.Owners.{Owners}
 use Rattle.mesh_decl.specs.declared.owners.Perms.{Perms}
-use Rattle.mesh_decl.specs.Mesh.{MeshValue, set_size}
-use Rattle.mesh_decl.specs.Owners.{IsNumbering, perm_in}
-use Rattle.halo_lists.specs.Halo.{has_copy}
+use Rattle.mesh_decl.specs.Mesh.{MeshValue, IsMesh, IsMapAt, IsDatAt, set_count, map_count, dat_count, set_size, map_from, map_to, map_dim, target}
+use Rattle.mesh_decl.specs.Owners.{IsNumbering, ArePerms, owner_of, perm_in}
+use Rattle.halo_lists.specs.Halo.{has_copy, owns, executes, imports, imports_execute, is_core}
 use Rattle.local_mesh.specs.declared.types.LocalSet.{LocalSet}
-use Rattle.local_mesh.specs.LocalMesh.{IsLocalSet}
+use Rattle.local_mesh.specs.LocalMesh.{IsLocalSet, AreRankMeshes}
+use Rattle.local_mesh.specs.declared.types.RankMesh.{RankMesh}
+use Rattle.loop_plan.specs.Pairs.{sets_of, imports_from}
+use Rattle.colouring.specs.Laws.{CommonTargetsConflict}
 use Rattle.local_mesh.specs.Numbers.{OwnedComeFirst, ExecutedComeFirst, OriginalsAreDistinct}
 use Rattle.schedule_steps.specs.Outline.{Outline}
 use Rattle.schedule_steps.specs.declared.step.Step.{Step}
@@ -31,3 +34,34 @@ pub record Itemed : Type 0 where
 -- of outlines
 abbrev pub AlikeAcceptAlike : Type 0
 AlikeAcceptAlike = (o n : Outline) → AlikeOutlines o n → (l : List Step) → Accepted o l → Accepted n l
+
+-- of halos and of meshes
+pub record Haloed : Type 0 where
+  pub imported : (g : MeshValue) (o : Owners) (s x r : ℕ) → (imports_execute g o s x r ≡ true)
+      ↔ ((owner_of o s x ≢ r)
+      × ((m : ℕ) × (i : ℕ) × (m < map_count g) × (map_from g m ≡ s) × (i < map_dim g m) × (owner_of o (map_to g m) (target g m x i) ≡ r)))
+  pub targets : (g : MeshValue) (o : Owners) (m x i r : ℕ)
+      → m < map_count g
+      → x < set_size g (map_from g m)
+      → executes g o (map_from g m) x r ≡ true
+      → i < map_dim g m
+      → has_copy g o (map_to g m) (target g m x i) r ≡ true
+  pub core : (g : MeshValue) (o : Owners) (s x m i : ℕ)
+      → is_core g o s x ≡ true
+      → m < map_count g
+      → map_from g m ≡ s
+      → i < map_dim g m
+      → owner_of o (map_to g m) (target g m x i) ≡ owner_of o s x
+  pub others : (g : MeshValue) (o : Owners) (s x r : ℕ) → imports g o s x r ≡ true → owner_of o s x ≢ r
+  pub maps : (g : MeshValue) → IsMesh g → (m : ℕ) → m < map_count g → IsMapAt g m
+  pub dats : (g : MeshValue) → IsMesh g → (d : ℕ) → d < dat_count g → IsDatAt g d
+  pub messages : (g : MeshValue) (o : Owners) (p : Perms) (meshes : List RankMesh)
+      → ArePerms g p
+      → AreRankMeshes g o p meshes
+      → (s r t : ℕ)
+      → s < o.ranks
+      → r < o.ranks
+      → t < set_count g
+      → (imports_from (sets_of meshes s) (sets_of meshes r) t ≡ true)
+      ↔ ((x : ℕ) × (x < set_size g t) × (imports g o t x r ≡ true) × (owns o t x s ≡ true))
+  pub conflicts : CommonTargetsConflict

@@ -1,10 +1,10 @@
 -- How the arguments of a loop reach variables.
-use Rattle.std.proofs.Common.{◌≡◌, ◌<◌, ◌≤◌, ℕ, zero, suc, Bool, true, false, cond, List, [], ◌∷◌, length, get_or, Option, Some, None, refl, sym, ap, subst, ◌∙◌, arith, ⊎_elim}
+use Rattle.std.proofs.Common.{◌≡◌, ◌<◌, ◌≤◌, ℕ, zero, suc, true, false, List, [], ◌∷◌, length, get_or, Some, None, refl, sym, ap, subst, ◌∙◌, arith, ⊎_elim}
 use Rattle.std.specs.Prelude.{nat_eq}
 use Rattle.std.proofs.lemmas.Bool.{cases_Bool, cases_lt, cond-true, cond-false, eqb-true, eq-eqb}
 use Rattle.std.proofs.lemmas.List.Folds.{list_any_at}
 use Rattle.reductions.specs.Reduction.{Reduction, Add, Min, Max}
-use Rattle.reductions.specs.Access.{OpRead, OpReduce, access_of}
+use Rattle.reductions.specs.Access.{OpReduce, access_of}
 use Rattle.reductions.specs.declared.access.Access.{Access}
 use Rattle.reductions.specs.declared.access.Access.TheVariants as code
 use Rattle.bound_program.specs.declared.sites.Arg.{Arg}

@@ -8,3 +8,12 @@ pub mod ByPlace
 pub mod Trace
 pub mod Globals
 pub mod DatArgs
+pub mod Halos
+pub mod Separated
+pub mod ReducingArgs
+pub mod Sides
+pub mod Coloured
+pub mod Touched
+pub mod Parts
+pub mod ItemLaws
+pub mod KernelLaws

@@ -1,11 +1,12 @@
 -- The loops of items, as the program, the plan and the setup name them.
 use Rattle.std.proofs.Common.{◌≡◌, ℕ, ◌<◌, true, length, refl, sym, ap, ◌∙◌, arith, ⊎_elim}
-use Rattle.std.proofs.lemmas.Bool.{cases_lt, eq-eqb}
+use Rattle.std.proofs.lemmas.Bool.{cases_lt, false≢true, eq-eqb}
 use Rattle.std.proofs.lemmas.List.{get_or_past}
 use Rattle.std.proofs.lemmas.List.Folds.{list_any_at}
 use Rattle.schedule_model.specs.Program as program
 use Rattle.schedule_model.specs.Program.{Kind}
 use Rattle.bound_program.specs.Values.{ItemValue, Free, Reduce, Ordered, Host, Exit, BoundValue}
+use Rattle.bound_program.specs.Fits.{site_at}
 use Rattle.run_model.specs.Programs.{kind_of, loop_of, item_at}
 use Rattle.run_model.specs.Laws.{site_of}
 use Rattle.loop_plan.specs.Needs as plan
@@ -68,3 +69,23 @@ module _ (b : BoundValue) where
 
   pub loop_args_are : (k : ℕ) → kind_of (item_at b k) ≡ program.Free → plan.loop_args b (plan.item_at b k) ≡ (site_of b k).args
   loop_args_are k h = ap (plan.loop_args b) (item_is k ∙ free_item (item_at b k) h)
+
+  -- the arguments of an item's loop
+  args_of : (i : ItemValue) → program.is_loop (kind_of i) ≡ true → plan.loop_args b i ≡ (site_at b (loop_of i)).args
+  args_of (Free s) h = refl
+  args_of (Ordered s) h = refl
+  args_of (Reduce s) h = absurd (false≢true h)
+  args_of (Host a) h = absurd (false≢true h)
+
+  pub args_are : (k : ℕ) → program.is_loop (kind_of (item_at b k)) ≡ true → plan.loop_args b (plan.item_at b k) ≡ (site_of b k).args
+  args_are k h = ap (plan.loop_args b) (item_is k) ∙ args_of (item_at b k) h
+
+  -- what an item needs it needs as a Free loop
+  need_free : (i : ItemValue) (d : ℕ) → plan.needs (plan.free_args b i) d ≡ true → kind_of i ≡ program.Free
+  need_free (Free s) d h = refl
+  need_free (Ordered s) d h = absurd (false≢true h)
+  need_free (Reduce s) d h = absurd (false≢true h)
+  need_free (Host a) d h = absurd (false≢true h)
+
+  pub needs_free : (k d : ℕ) → plan.item_needs b k d ≡ true → kind_of (item_at b k) ≡ program.Free
+  needs_free k d h = need_free (item_at b k) d (ap (λ i. plan.needs (plan.free_args b i) d) (sym (item_is k)) ∙ h)

@@ -7,6 +7,9 @@ use Rattle.schedule_steps.specs.declared.step.Step.{Step}
 use Rattle.schedule_steps.specs.Steps.{Accepted}
 use Rattle.schedule_steps.specs.Alike.{AlikeOutlines}
 use Rattle.flat_machine.specs.Layout.{by_place}
+use Rattle.schedule_model.specs.Laws.{Items, Lawful, Coloured}
+use Rattle.schedule_laws.specs.LoopParts.{LoopParts}
+use Rattle.run_model.specs.Ranges.{AllObey, StartsInRange}
 use Rattle.bound_program.specs.Values.{BoundValue}
 use Rattle.bound_program.specs.Fits.{Fits}
 use Rattle.loop_plan.specs.Values.{PlanValue}
@@ -36,3 +39,30 @@ PlansAcceptByPlace =
     → Planned b o n meshes p
     → (steps : List Step)
     → Accepted (step_outline b meshes p) steps ↔ Accepted (by_place (setup_of b o meshes p) (layout_of b o meshes p)) steps
+
+-- such a program whose kernels obey their modes, and that begins with numbers of 32 bits
+pub record Runnable (b : BoundValue) (o : Owners) (n : Perms) (meshes : List RankMesh) (p : PlanValue) : Type 0 where
+  pub planned : Planned b o n meshes p
+  pub obey : AllObey b
+  pub start : StartsInRange b
+
+-- the setup has what the theorem on schedules asks of it
+abbrev pub SetupsAreLawful : Type 0
+SetupsAreLawful =
+    (b : BoundValue) (o : Owners) (n : Perms) (meshes : List RankMesh) (p : PlanValue)
+    → Runnable b o n meshes p
+    → Lawful (setup_of b o meshes p)
+
+-- its colours order the elements that modify a common cell
+abbrev pub SetupsAreColoured : Type 0
+SetupsAreColoured =
+    (b : BoundValue) (o : Owners) (n : Perms) (meshes : List RankMesh) (p : PlanValue)
+    → Planned b o n meshes p
+    → Coloured (setup_of b o meshes p)
+
+-- its parts are lawful, each as its own definition says it
+abbrev pub SetupsHaveParts : Type 0
+SetupsHaveParts =
+    (b : BoundValue) (o : Owners) (n : Perms) (meshes : List RankMesh) (p : PlanValue)
+    → Planned b o n meshes p
+    → Items (setup_of b o meshes p) × LoopParts (setup_of b o meshes p)

@@ -4,17 +4,8 @@
 //! The laws here say that this setup and this layout are what the theorem asks, and that the plan's steps are its steps.
 #![tactic(auto)]
 
-ghost use Rattle.bound_plan.specs.Laws.{PlansAreByPlace, PlansAcceptByPlace};
+mod setup;
+mod steps;
 
-/// A law: the steps of a proper plan, and their order, are those of the theorem by places.
-pub fn plans_are_by_place()
-    ensures alike { PlansAreByPlace }
-    ensures accept { PlansAcceptByPlace }
-{
-    local_mesh::owned_come_first();
-    local_mesh::executed_come_first();
-    local_mesh::originals_are_distinct();
-    local_mesh::originals_are_copies();
-    run_model::items_are_there();
-    schedule_steps::alike_outlines_accept_alike();
-}
+pub use setup::{setups_are_coloured, setups_are_lawful, setups_have_parts};
+pub use steps::plans_are_by_place;

@@ -1,6 +1,6 @@
 use Rattle.bound_plan.specs.Laws.{PlansAreByPlace}
 use Rattle.bound_plan.proofs.ByPlace.{plans_are_by_place, plans_accept_by_place}
-use Rattle.bound_plan.proofs.plans_are_by_place.Goals as goal
+use Rattle.bound_plan.proofs.steps.plans_are_by_place.Goals as goal
 
 pub returns : goal.returns
 returns c =
