@@ -55,7 +55,7 @@ module _ (laws : Haloed) (g : MeshValue) (mesh : IsMesh g) (o : Owners) where
   pub execute_other : (r s e : ℕ) → imports_execute g o s e r ≡ true → owner_of o s e ≢ r
   execute_other r s e h = ((laws.imported g o s e r).0 h).0
 
-  executing : (r s e : ℕ) → (owner_of o s e ≡ r) ⊎ (imports_execute g o s e r ≡ true) → executes g o s e r ≡ true
+  pub executing : (r s e : ℕ) → (owner_of o s e ≡ r) ⊎ (imports_execute g o s e r ≡ true) → executes g o s e r ≡ true
   unfolding executes
   executing r s e h = ⊎_elim
       (λ t. or_left (owns o s e r) (imports_execute g o s e r) (owns_is o s e r t))

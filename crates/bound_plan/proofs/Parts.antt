@@ -37,18 +37,18 @@ use Rattle.bound_plan.proofs.Touched.{Merges, merges, merged_touch, constant_tou
 
 module _ (numbers : Numbered) (items : Itemed) (halos : Haloed) (b : BoundValue) (o : Owners) (n : Perms) (meshes : List RankMesh) (p : PlanValue) (pl : Planned b o n meshes p) where
   module _ (k : ℕ) (free : kind_of (item_at b k) ≡ Free) where
-    fits : SiteFits b (site_of b k)
+    pub fits : SiteFits b (site_of b k)
     fits = site_fits numbers items b o n meshes p pl k free
 
     arg_fits : (a : ℕ) (y : Arg) → a < length (site_of b k).args → get_or (site_of b k).args a no_arg ≡ y → ArgFits b (site_of b k).set y
     arg_fits a y l e = subst (ArgFits b (site_of b k).set) e (fits.args a no_arg l)
 
-    direct_set : (a d : ℕ) (x : laws.Access) → a < length (site_of b k).args → argument_at (site_of b k) a ≡ Direct d x → dat_set b.mesh d ≡ (site_of b k).set
+    pub direct_set : (a d : ℕ) (x : laws.Access) → a < length (site_of b k).args → argument_at (site_of b k) a ≡ Direct d x → dat_set b.mesh d ≡ (site_of b k).set
     direct_set a d x l e =
         let w = args.direct_is (get_or (site_of b k).args a no_arg) d x e in
         (arg_fits a (Dat d _ w.0) l w.1).2
 
-    indirect_set : (a d m i : ℕ) (x : laws.Access) → a < length (site_of b k).args → argument_at (site_of b k) a ≡ Indirect d m i x
+    pub indirect_set : (a d m i : ℕ) (x : laws.Access) → a < length (site_of b k).args → argument_at (site_of b k) a ≡ Indirect d m i x
         → (m < map_count b.mesh) × (map_from b.mesh m ≡ (site_of b k).set) × (map_to b.mesh m ≡ dat_set b.mesh d) × (i < map_dim b.mesh m)
     indirect_set a d m i x l e =
         let w = args.indirect_is (get_or (site_of b k).args a no_arg) d m i x e in
@@ -56,14 +56,14 @@ module _ (numbers : Numbered) (items : Itemed) (halos : Haloed) (b : BoundValue)
         subst (λ z. (z < map_count b.mesh) × (map_from b.mesh z ≡ (site_of b k).set) × (map_to b.mesh z ≡ dat_set b.mesh d) × (i < map_dim b.mesh z)) w.3
         (f.0, f.1, f.2, subst (λ z. z < map_dim b.mesh w.0.map) w.4 f.3)
 
-    named_once : (a c v : ℕ) (x : laws.Access) (r : Reduction) → a < length (site_of b k).args → c < length (site_of b k).args
+    pub named_once : (a c v : ℕ) (x : laws.Access) (r : Reduction) → a < length (site_of b k).args → c < length (site_of b k).args
         → argument_at (site_of b k) a ≡ theorem.Global v x → argument_at (site_of b k) c ≡ theorem.Global v (OpReduce r) → a ≡ c
     named_once a c v x r la lc ea ec =
         let u = args.global_is (get_or (site_of b k).args a no_arg) v x ea in
         let w = args.global_is (get_or (site_of b k).args c no_arg) v (OpReduce r) ec in
         variables.named_once (site_of b k).args fits.apart a c v u.0 w.0 r la lc u.1 w.1 (variables.reducing_is w.0 r w.2)
 
-    reduces_only : (v : VarCell) (r : Reduction) → reduces_at b (loop_of (item_at b k)) v ≡ Some r
+    pub reduces_only : (v : VarCell) (r : Reduction) → reduces_at b (loop_of (item_at b k)) v ≡ Some r
         → (a : ℕ) × (a < length (site_of b k).args) × (argument_at (site_of b k) a ≡ theorem.Global v.variable (OpReduce r)) × (v.component < var_width b v.variable)
     reduces_only v r h =
         let w : Merges b (loop_of (item_at b k)) fits v r = merges b (loop_of (item_at b k)) fits v r h in (
@@ -73,29 +73,29 @@ module _ (numbers : Numbered) (items : Itemed) (halos : Haloed) (b : BoundValue)
           w.component,
         )
 
-    modifies_is : (a d : ℕ) → a < length (site_of b k).args → is_on d (argument_at (site_of b k) a) ≡ true
+    pub modifies_is : (a d : ℕ) → a < length (site_of b k).args → is_on d (argument_at (site_of b k) a) ≡ true
         → modifying (theorem.access_of (argument_at (site_of b k) a)) ≡ true → modifies (site_of b k).args d ≡ true
     modifies_is a d l on m =
         let w : args.OnDat (get_or (site_of b k).args a no_arg) d = args.on_dat (get_or (site_of b k).args a no_arg) d on in
         args.modifies_is (site_of b k).args d a w.via w.access l w.is (ap modifying (sym w.how) ∙ m)
 
-    scattering : (a d m i : ℕ) (r : Reduction) → a < length (site_of b k).args → argument_at (site_of b k) a ≡ Indirect d m i (OpReduce r) → item_scatters b k ≡ true
+    pub scattering : (a d m i : ℕ) (r : Reduction) → a < length (site_of b k).args → argument_at (site_of b k) a ≡ Indirect d m i (OpReduce r) → item_scatters b k ≡ true
     scattering a d m i r l e =
         let w = args.indirect_is (get_or (site_of b k).args a no_arg) d m i (OpReduce r) e in
         scatters_is numbers items b o n meshes p pl k free ∙ args.scatters_is (site_of b k).args a d w.0 w.1 r l w.2 w.5
 
-    needs_indirect : (a d m i : ℕ) → a < length (site_of b k).args → argument_at (site_of b k) a ≡ Indirect d m i OpRead → needs (site_of b k).args d ≡ true
+    pub needs_indirect : (a d m i : ℕ) → a < length (site_of b k).args → argument_at (site_of b k) a ≡ Indirect d m i OpRead → needs (site_of b k).args d ≡ true
     needs_indirect a d m i l e =
         let w = args.indirect_is (get_or (site_of b k).args a no_arg) d m i OpRead e in
         args.needs_through (site_of b k).args a d w.0 w.1 l w.2 w.5
 
-    needs_direct : (a d : ℕ) (x : laws.Access) → a < length (site_of b k).args → argument_at (site_of b k) a ≡ Direct d x → reading x ≡ true → item_scatters b k ≡ true
+    pub needs_direct : (a d : ℕ) (x : laws.Access) → a < length (site_of b k).args → argument_at (site_of b k) a ≡ Direct d x → reading x ≡ true → item_scatters b k ≡ true
         → needs (site_of b k).args d ≡ true
     needs_direct a d x l e r s =
         let w = args.direct_is (get_or (site_of b k).args a no_arg) d x e in
         args.needs_directly (site_of b k).args a d w.0 l w.1 (ap reading w.2 ∙ r) (sym (scatters_is numbers items b o n meshes p pl k free) ∙ s)
 
-  pub parts : LoopParts (setup_of b o meshes p)
+  unfoldable pub parts : LoopParts (setup_of b o meshes p)
   parts = record {
     args = λ s. length (site_at b s).args;
     arg = λ s. argument_at (site_at b s);

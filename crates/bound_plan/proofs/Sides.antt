@@ -25,7 +25,7 @@ use Rattle.bound_plan.proofs.Placed.{site_fits, count_executes, place_there}
 
 module _ (laws : Numbered) (items : Itemed) (b : BoundValue) (o : Owners) (n : Perms) (meshes : List RankMesh) (p : PlanValue) (pl : Planned b o n meshes p) (k : ℕ) (free : kind_of (item_at b k) ≡ Free) (r : ℕ) (lr : r < o.ranks) where
   -- a rank has a copy of what it executes
-  executed_copy : (e : ℕ) → executes (setup_of b o meshes p) k r e ≡ true → has_copy b.mesh o (site_of b k).set e r ≡ true
+  pub executed_copy : (e : ℕ) → executes (setup_of b o meshes p) k r e ≡ true → has_copy b.mesh o (site_of b k).set e r ≡ true
   unfolding owns
   executed_copy e h = ⊎_elim
       (λ t. or_left (owner_of o (site_of b k).set e == r) (imports_execute b.mesh o (site_of b k).set e r || imports_nonexecute b.mesh o (site_of b k).set e r) t)

@@ -1,21 +1,32 @@
 -- What a bound program on several ranks, with its plan, gives to the theorem on schedules.
-use Rattle.std.specs.Prelude.{◌↔◌, List}
+use Rattle.std.specs.Prelude.{◌≡◌, ◌<◌, ◌↔◌, ℕ, List, length}
+use Rattle.kernel_types.specs.declared.faults.KernelFault.{KernelFault}
 use Rattle.mesh_decl.specs.declared.owners.Owners.{Owners}
 use Rattle.mesh_decl.specs.declared.owners.Perms.{Perms}
 use Rattle.local_mesh.specs.declared.types.RankMesh.{RankMesh}
 use Rattle.schedule_steps.specs.declared.step.Step.{Step}
 use Rattle.schedule_steps.specs.Steps.{Accepted}
 use Rattle.schedule_steps.specs.Alike.{AlikeOutlines}
-use Rattle.flat_machine.specs.Layout.{by_place}
+use Rattle.schedule_model.specs.Setup.{Setup}
+use Rattle.flat_machine.specs.Layout.{Layout, IsLayout, by_place}
+use Rattle.flat_machine.specs.Flat.{Flat, StartsFlat, flat_from, AgreesFlat}
+use Rattle.element_runs.specs.OnWindows.{OnWindows}
 use Rattle.schedule_model.specs.Laws.{Items, Lawful, Coloured}
 use Rattle.schedule_laws.specs.LoopParts.{LoopParts}
 use Rattle.run_model.specs.Ranges.{AllObey, StartsInRange}
-use Rattle.bound_program.specs.Values.{BoundValue}
+use Rattle.bound_program.specs.Values.{BoundValue, SiteValue}
 use Rattle.bound_program.specs.Fits.{Fits}
+use Rattle.run_model.specs.Programs.{run_of_program}
+use Rattle.run_model.specs.Hosts.{variable_cells}
+use Rattle.run_model.specs.Arguments.{modes_of, cell_of}
 use Rattle.loop_plan.specs.Values.{PlanValue}
 use Rattle.loop_plan.specs.StepOutline.{step_outline}
 use Rattle.loop_plan.specs.Proper.{Proper}
 use Rattle.bound_plan.specs.Distributed.{IsDistributed}
+use Rattle.bound_plan.specs.Places.{cells_of, place_of, cell_at}
+use Rattle.bound_plan.specs.Windows.{frame_cells, frame_windows}
+use Rattle.bound_plan.specs.Variables.{variable_index, variable_at}
+use Rattle.bound_plan.specs.Starts.{first_flat}
 use Rattle.bound_plan.specs.Setups.{setup_of}
 use Rattle.bound_plan.specs.Layouts.{layout_of}
 
@@ -66,3 +77,42 @@ SetupsHaveParts =
     (b : BoundValue) (o : Owners) (n : Perms) (meshes : List RankMesh) (p : PlanValue)
     → Planned b o n meshes p
     → Items (setup_of b o meshes p) × LoopParts (setup_of b o meshes p)
+
+-- the layout is that of the setup
+abbrev pub LayoutsFit : Type 0
+LayoutsFit =
+    (b : BoundValue) (o : Owners) (n : Perms) (meshes : List RankMesh) (p : PlanValue)
+    → Runnable b o n meshes p
+    → IsLayout (setup_of b o meshes p) (layout_of b o meshes p)
+
+-- each index of a rank's buffer is its cell's place, and each index of the variables its cell's
+pub record HasOneIndex (b : BoundValue) (o : Owners) (meshes : List RankMesh) : Type 0 where
+  pub places : (r i : ℕ) → r < o.ranks → i < cells_of meshes r → place_of meshes b.mesh r (cell_at meshes b.mesh r i) ≡ i
+  pub variables : (i : ℕ) → i < length (variable_cells b) → variable_index b (variable_at b i) ≡ i
+
+abbrev pub CellsHaveOneIndex : Type 0
+CellsHaveOneIndex =
+    (b : BoundValue) (o : Owners) (n : Perms) (meshes : List RankMesh) (p : PlanValue)
+    → Planned b o n meshes p
+    → HasOneIndex b o meshes
+
+-- the windows of a frame are the cells that the arguments reach, each once
+abbrev pub FramesAreReached : Type 0
+FramesAreReached =
+    (b : BoundValue) (site : SiteValue) (e : ℕ)
+    → OnWindows (modes_of b site) (cell_of b site e) (frame_cells b site.args e) (frame_windows b site.args e)
+
+-- the first state is one in which the machine starts
+abbrev pub FirstStatesStart : Type 0
+FirstStatesStart = (p : Setup KernelFault) (l : Layout KernelFault) → StartsFlat p l (first_flat p l)
+
+-- every list of steps that the plan accepts runs on flat buffers as the program does in sequence
+abbrev pub PlansRunAsSequential : Type 0
+PlansRunAsSequential =
+    (b : BoundValue) (o : Owners) (n : Perms) (meshes : List RankMesh) (p : PlanValue)
+    → Runnable b o n meshes p
+    → (f : Flat KernelFault)
+    → StartsFlat (setup_of b o meshes p) (layout_of b o meshes p) f
+    → (steps : List Step)
+    → Accepted (step_outline b meshes p) steps
+    → AgreesFlat (setup_of b o meshes p) (layout_of b o meshes p) (run_of_program b) (flat_from (setup_of b o meshes p) (layout_of b o meshes p) steps f)

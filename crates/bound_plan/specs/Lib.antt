@@ -4,4 +4,5 @@ pub mod Windows
 pub mod Variables
 pub mod Setups
 pub mod Layouts
+pub mod Starts
 pub mod Laws

@@ -4,8 +4,12 @@
 //! The laws here say that this setup and this layout are what the theorem asks, and that the plan's steps are its steps.
 #![tactic(auto)]
 
+mod layout;
+mod runs;
 mod setup;
 mod steps;
 
+pub use layout::{cells_have_one_index, first_states_start, frames_are_reached, layouts_fit};
+pub use runs::plans_run_as_sequential;
 pub use setup::{setups_are_coloured, setups_are_lawful, setups_have_parts};
 pub use steps::plans_are_by_place;
