@@ -31,11 +31,11 @@ right : (xs ys : List Cell) (c : Cell) → among ys c ≡ true → among (xs ++ 
 right [] ys c h = h
 right (x ∷ xs) ys c h = or_right (same_cell x c) (among (xs ++ ys) c) (right xs ys c h)
 
-either : (xs ys : List Cell) (c : Cell) → among (xs ++ ys) c ≡ true → (among xs c ≡ true) ⊎ (among ys c ≡ true)
-either [] ys c h = inr h
-either (x ∷ xs) ys c h = ⊎_elim
+pub either_among : (xs ys : List Cell) (c : Cell) → among (xs ++ ys) c ≡ true → (among xs c ≡ true) ⊎ (among ys c ≡ true)
+either_among [] ys c h = inr h
+either_among (x ∷ xs) ys c h = ⊎_elim
     (λ t. inl (or_left (same_cell x c) (among xs c) t))
-    (λ t. ⊎_elim (λ u. inl (or_right (same_cell x c) (among xs c) u)) (λ u. inr u) (either xs ys c t))
+    (λ t. ⊎_elim (λ u. inl (or_right (same_cell x c) (among xs c) u)) (λ u. inr u) (either_among xs ys c t))
     (or_cases (same_cell x c) (among (xs ++ ys) c) h)
 
 pub among_pieces : (f : ℕ → List Cell) (xs : List ℕ) (k : ℕ) (c : Cell) → k < length xs → among (f (get_or xs k 0)) c ≡ true → among (flat_map f xs) c ≡ true
@@ -50,4 +50,4 @@ piece_among f (x ∷ xs) c h = ⊎_elim
     (λ t.
     let w : (k : ℕ) × (k < length xs) × (among (f (get_or xs k 0)) c ≡ true) = piece_among f xs c t in
     (suc w.0, (let l : w.0 < length xs = w.1 in omega arith), w.2))
-    (either (f x) (flat_map f xs) c h)
+    (either_among (f x) (flat_map f xs) c h)

@@ -102,7 +102,7 @@ module _ (laws : Numbered) (halos : Haloed) (b : BoundValue) (o : Owners) (n : P
     component = (i - get_or (bases_of meshes r) d 0) % dat_dim b.mesh d;
   }
 
-  cell_is : (d l i : ℕ) → d < dat_count b.mesh → l < length (originals meshes r (dat_set b.mesh d)) → i < dat_dim b.mesh d
+  pub cell_is : (d l i : ℕ) → d < dat_count b.mesh → l < length (originals meshes r (dat_set b.mesh d)) → i < dat_dim b.mesh d
       → (get_or (bases_of meshes r) d 0 + l * dat_dim b.mesh d + i < cells_of meshes r)
       × (cell_at meshes b.mesh r (get_or (bases_of meshes r) d 0 + l * dat_dim b.mesh d + i) ≡ record { dat = d; element = original_at meshes r (dat_set b.mesh d) l; component = i })
   cell_is d l i ld ll li =

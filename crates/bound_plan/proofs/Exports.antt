@@ -32,21 +32,21 @@ use Rattle.bound_plan.proofs.FrameFacts.{dat_cell}
 -- ---- the numbers that pass a test
 
 -- a number that passes stands in the list
-listed_has : (n x : ℕ) (t : ℕ → Bool) → x < n → t x ≡ true → (k : ℕ) × (k < length (listed n t)) × (get_or (listed n t) k 0 ≡ x)
+pub listed_has : (n x : ℕ) (t : ℕ → Bool) → x < n → t x ≡ true → (k : ℕ) × (k < length (listed n t)) × (get_or (listed n t) k 0 ≡ x)
 listed_has n x t l h = (count_below x t, omega (arith, length_listed n t, count_lt x n t l h), listed_at n x 0 t l h)
 
-has_listed : (n k : ℕ) (t : ℕ → Bool) → k < length (listed n t) → (get_or (listed n t) k 0 < n) × (t (get_or (listed n t) k 0) ≡ true)
+pub has_listed : (n k : ℕ) (t : ℕ → Bool) → k < length (listed n t) → (get_or (listed n t) k 0 < n) × (t (get_or (listed n t) k 0) ≡ true)
 has_listed n k t l = let w = at_listed n k 0 t (omega (arith, length_listed n t)) in (w.0, w.1)
 
 module _ (b : BoundValue) where
   -- the cells of an element
-  cell_among : (d x i : ℕ) → i < dat_dim b.mesh d → among (cells_in b (Element d x)) (Data (record { dat = d; element = x; component = i })) ≡ true
+  pub cell_among : (d x i : ℕ) → i < dat_dim b.mesh d → among (cells_in b (Element d x)) (Data (record { dat = d; element = x; component = i })) ≡ true
   cell_among d x i l =
       among_at (cells_in b (Element d x)) i (Data (record { dat = d; element = x; component = i }))
       (omega (arith, length-map-range_with_len (cell_in (Element d x)) 0 (dat_dim b.mesh d)))
       (get_or-map-range_with_len (cell_in (Element d x)) 0 (dat_dim b.mesh d) i i no_cell l (omega arith))
 
-  among_cell : (d x : ℕ) (c : DatCell) → among (cells_in b (Element d x)) (Data c) ≡ true → (i : ℕ) × (i < dat_dim b.mesh d) × (record { dat = d; element = x; component = i } ≡ c)
+  pub among_cell : (d x : ℕ) (c : DatCell) → among (cells_in b (Element d x)) (Data c) ≡ true → (i : ℕ) × (i < dat_dim b.mesh d) × (record { dat = d; element = x; component = i } ≡ c)
   among_cell d x c h =
       let w = at_among (cells_in b (Element d x)) (Data c) h in
       let lw : w.0 < length (cells_in b (Element d x)) = w.1 in
@@ -85,7 +85,7 @@ module _ (halos : Haloed) (b : BoundValue) (o : Owners) (n : Perms) (meshes : Li
       (subst (λ x. among (cells_in b (Element c.dat x)) (Data c) ≡ true) (sym el.2) (cell_among b c.dat c.element c.component (ltb-true c.component (dat_dim b.mesh c.dat) j.1)))))
 
   -- the dats that an item exchanges are dats
-  exchanged_there : (k j : ℕ) → j < length (item_plan p k).exchange → get_or (item_plan p k).exchange j 0 < dat_count b.mesh
+  pub exchanged_there : (k j : ℕ) → j < length (item_plan p k).exchange → get_or (item_plan p k).exchange j 0 < dat_count b.mesh
   unfolding item_plan
   exchanged_there k j l = ⊎_elim
       (λ (h : k < length b.trace).

@@ -26,6 +26,10 @@ pub mod ConstantCells
 pub mod Buffers
 pub mod Exports
 pub mod HostSees
+pub mod Onces
+pub mod DatsFirst
+pub mod Messages
+pub mod Standing
 pub mod Laid
 pub mod FirstState
 pub mod ItemLaws

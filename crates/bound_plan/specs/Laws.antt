@@ -115,4 +115,5 @@ PlansRunAsSequential =
     → StartsFlat (setup_of b o meshes p) (layout_of b o meshes p) f
     → (steps : List Step)
     → Accepted (step_outline b meshes p) steps
-    → AgreesFlat (setup_of b o meshes p) (layout_of b o meshes p) (run_of_program b) (flat_from (setup_of b o meshes p) (layout_of b o meshes p) steps f)
+    → AgreesFlat (setup_of b o meshes p) (layout_of b o meshes p) (run_of_program b)
+    (flat_from (setup_of b o meshes p) (layout_of b o meshes p) steps f)

@@ -6,3 +6,4 @@ pub mod Setups
 pub mod Layouts
 pub mod Starts
 pub mod Laws
+pub mod Machine

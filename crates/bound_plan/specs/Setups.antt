@@ -21,7 +21,8 @@ use Rattle.bound_plan.specs.Variables.{reduces_at}
 abbrev pub setup_of : BoundValue → Owners → List RankMesh → PlanValue → Setup KernelFault
 setup_of b o meshes p = record {
   program = program_of b;
-  touch = λ k e. touch_with (entries b) (dat_width b) (var_width b) (argument_at (site_of b k)) (length (site_of b k).args) e (is_constant b);
+  touch = λ k e.
+      touch_with (entries b) (dat_width b) (var_width b) (argument_at (site_of b k)) (length (site_of b k).args) e (is_constant b);
   reduces = reduces_at b;
   modifies = item_modifies b;
   scatters = item_scatters b;

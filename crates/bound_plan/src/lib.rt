@@ -5,11 +5,13 @@
 #![tactic(auto)]
 
 mod layout;
+mod machine;
 mod runs;
 mod setup;
 mod steps;
 
 pub use layout::{cells_have_one_index, first_states_start, frames_are_reached, layouts_fit};
+pub use machine::{elements_stand, frames_have_cells, messages_have_cells};
 pub use runs::plans_run_as_sequential;
 pub use setup::{setups_are_coloured, setups_are_lawful, setups_have_parts};
 pub use steps::plans_are_by_place;
