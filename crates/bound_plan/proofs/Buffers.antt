@@ -23,7 +23,7 @@ use Rattle.bound_plan.specs.Places.{last_upto, originals, original_at, local_at,
 use Rattle.bound_plan.specs.Setups.{setup_of}
 use Rattle.bound_plan.specs.Layouts.{layout_of}
 use Rattle.bound_plan.specs.Laws.{Planned}
-use Rattle.bound_plan.proofs.Given.{Numbered, Haloed}
+use Rattle.bound_plan.specs.Given.{Numbered, Haloed}
 use Rattle.bound_plan.proofs.Halos.{owns_is}
 use Rattle.bound_plan.proofs.Locals.{rank_there, is_mesh, sets_are, stands, is_copy, local_is}
 use Rattle.bound_plan.proofs.FrameFacts.{dat_cell}

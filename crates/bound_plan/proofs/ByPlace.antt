@@ -21,7 +21,7 @@ use Rattle.bound_plan.specs.Places.{originals, original_at, local_at}
 use Rattle.bound_plan.specs.Setups.{setup_of}
 use Rattle.bound_plan.specs.Layouts.{layout_of}
 use Rattle.bound_plan.specs.Laws.{Planned, PlansAreByPlace, PlansAcceptByPlace}
-use Rattle.bound_plan.proofs.Given.{Numbered, Itemed, AlikeAcceptAlike}
+use Rattle.bound_plan.specs.Given.{Numbered, Itemed, AlikeAcceptAlike}
 use Rattle.bound_plan.proofs.AlikeBack.{alike_back}
 use Rattle.bound_plan.proofs.Loops.{item_is, loop_is, free_same}
 use Rattle.bound_plan.proofs.Locals.{local_is, core_is}

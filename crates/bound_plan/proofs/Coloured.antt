@@ -30,7 +30,7 @@ use Rattle.loop_plan.specs.StepOutline.{loop_at}
 use Rattle.bound_plan.specs.Places.{local_at}
 use Rattle.bound_plan.specs.Setups.{setup_of}
 use Rattle.bound_plan.specs.Laws.{Planned}
-use Rattle.bound_plan.proofs.Given.{Numbered, Itemed, Haloed}
+use Rattle.bound_plan.specs.Given.{Numbered, Itemed, Haloed}
 use Rattle.bound_plan.proofs.Loops.{loop_is, runs}
 use Rattle.bound_plan.proofs.Globals.{is_reducing_is}
 use Rattle.bound_plan.proofs.DatArgs.{OnDat, on_dat}

@@ -17,7 +17,7 @@ use Rattle.bound_plan.specs.Setups.{setup_of}
 use Rattle.bound_plan.specs.Layouts.{layout_of}
 use Rattle.bound_plan.specs.Laws.{Planned}
 use Rattle.bound_plan.specs.Variables.{reduces_at}
-use Rattle.bound_plan.proofs.Given.{Numbered, Itemed}
+use Rattle.bound_plan.specs.Given.{Numbered, Itemed}
 use Rattle.bound_plan.proofs.Placed.{site_fits}
 use Rattle.bound_plan.proofs.Touched.{Merges, merges}
 use Rattle.bound_plan.proofs.Indexed.{indexed}

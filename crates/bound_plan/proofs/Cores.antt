@@ -17,8 +17,8 @@ use Rattle.run_model.specs.Arguments.{argument_at, entries, dat_width, var_width
 use Rattle.run_model.specs.Laws.{site_of, RunsKernel, WindowsAreReached}
 use Rattle.run_model.specs.Ranges.{AllObey}
 use Rattle.bound_plan.specs.Windows.{frame_cells, frame_windows, core_with, site_core}
-use Rattle.bound_plan.proofs.Given.{Itemed}
-use Rattle.bound_plan.proofs.KernelLaws.{Kerneled, kernel as kernel_of, is_loop_of}
+use Rattle.bound_plan.specs.Given.{Itemed, Kerneled}
+use Rattle.bound_plan.proofs.KernelLaws.{kernel as kernel_of, is_loop_of}
 use Rattle.bound_plan.proofs.Framed.{on_frames}
 
 -- what a run leaves in its one list

@@ -1,12 +1,12 @@
 -- Frames have the windows on dats first.
-use Rattle.std.proofs.Common.{◌≡◌, ℕ, Bool, true, false, List, [], ◌∷◌, ◌++◌, map, flat_map, refl, sym, ap, ap₂, ◌∙◌, subst}
+use Rattle.std.proofs.Common.{◌≡◌, ℕ, Bool, true, false, List, [], ◌∷◌, ◌++◌, map, flat_map, refl, ap, ◌∙◌}
 use Rattle.std.specs.Prelude.{if◌then◌else◌}
 use Rattle.std.proofs.lemmas.List.{map-append}
 use Rattle.std.proofs.lemmas.List.Concat.{flat_map-append}
 use Rattle.bound_program.specs.declared.sites.Arg.{Arg}
 use Rattle.bound_program.specs.declared.sites.Arg.TheVariants.{Dat, Global}
 use Rattle.bound_program.specs.Values.{BoundValue}
-use Rattle.run_model.specs.Windows.{Reached, Element, Whole, is_same, without, different, element_by, reached, cells_in, window_cells}
+use Rattle.run_model.specs.Windows.{Reached, Element, Whole, is_same, without, different, reached, cells_in, window_cells}
 use Rattle.bound_plan.specs.Windows.{on_dats, on_variables, frame_cells}
 
 -- each is a variable

@@ -24,7 +24,7 @@ use Rattle.loop_plan.specs.Needs.{exchanges}
 use Rattle.bound_plan.specs.Setups.{setup_of}
 use Rattle.bound_plan.specs.Layouts.{layout_of, exported, exported_cells}
 use Rattle.bound_plan.specs.Laws.{Planned}
-use Rattle.bound_plan.proofs.Given.{Haloed}
+use Rattle.bound_plan.specs.Given.{Haloed}
 use Rattle.bound_plan.proofs.Halos.{any_at, owns_is, owner_is}
 use Rattle.bound_plan.proofs.Among.{among_at, at_among, among_pieces, piece_among}
 use Rattle.bound_plan.proofs.FrameFacts.{dat_cell}

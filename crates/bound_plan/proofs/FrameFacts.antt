@@ -30,7 +30,7 @@ use Rattle.bound_plan.specs.Windows.{frame_cells, frame_windows}
 use Rattle.bound_plan.specs.Setups.{setup_of}
 use Rattle.bound_plan.specs.Layouts.{layout_of}
 use Rattle.bound_plan.specs.Laws.{Planned}
-use Rattle.bound_plan.proofs.Given.{Numbered, Itemed, Haloed}
+use Rattle.bound_plan.specs.Given.{Numbered, Itemed, Haloed}
 use Rattle.bound_plan.proofs.Halos.{owner_is, executing}
 use Rattle.bound_plan.proofs.Sides.{executed_copy}
 use Rattle.bound_plan.proofs.Framed.{mode_is, is_argument, on_frames}

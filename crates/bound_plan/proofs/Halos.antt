@@ -14,7 +14,7 @@ use Rattle.halo_lists.specs.Halo.{owns, executes, imports, imports_execute, impo
 use Rattle.local_mesh.specs.declared.types.RankMesh.{RankMesh}
 use Rattle.loop_plan.specs.Pairs.{sets_of, imports_from, passes}
 use Rattle.bound_plan.specs.Distributed.{IsDistributed}
-use Rattle.bound_plan.proofs.Given.{Haloed}
+use Rattle.bound_plan.specs.Given.{Haloed}
 
 -- where a test of some holds
 pub any_at : (f : ℕ → Bool) (xs : List ℕ) → list_any f xs ≡ true → (k : ℕ) × (k < length xs) × (f (get_or xs k 0) ≡ true)

@@ -28,7 +28,7 @@ use Rattle.loop_plan.specs.Values.{PlanValue}
 use Rattle.bound_plan.specs.Variables.{variable_at}
 use Rattle.bound_plan.specs.Setups.{setup_of}
 use Rattle.bound_plan.specs.Layouts.{layout_of}
-use Rattle.bound_plan.proofs.Given.{Haloed}
+use Rattle.bound_plan.specs.Given.{Haloed}
 use Rattle.bound_plan.proofs.Among.{among_at, piece_among, at_among}
 use Rattle.bound_plan.proofs.Indexed.{indexed, is_variable}
 use Rattle.bound_plan.proofs.FrameFacts.{dat_cell}

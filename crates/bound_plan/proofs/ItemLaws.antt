@@ -10,7 +10,7 @@ use Rattle.run_model.specs.Laws.{site_of}
 use Rattle.loop_plan.specs.Values.{PlanValue}
 use Rattle.bound_plan.specs.Setups.{setup_of}
 use Rattle.bound_plan.specs.Laws.{Planned}
-use Rattle.bound_plan.proofs.Given.{Numbered, Itemed, Haloed}
+use Rattle.bound_plan.specs.Given.{Numbered, Itemed, Haloed}
 use Rattle.bound_plan.proofs.Loops.{needs_free}
 use Rattle.bound_plan.proofs.Trace.{first_item, reduce_after, reduce_next, last_item}
 use Rattle.bound_plan.proofs.Globals.{reduces_is}

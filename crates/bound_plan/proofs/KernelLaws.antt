@@ -13,32 +13,20 @@ use Rattle.schedule_model.specs.Program.{is_loop}
 use Rattle.schedule_model.specs.Laws.{Kernels}
 use Rattle.schedule_laws.specs.Arguments.{Argument, Direct, Indirect, Global, access_of, modifying, is_on, reaches}
 use Rattle.schedule_laws.specs.Tells.{All}
-use Rattle.element_runs.specs.ElementRun.{ElementRunsAreIndependentByTouches}
 use Rattle.bound_program.specs.Values.{BoundValue, no_site}
 use Rattle.bound_program.specs.Classes.{modifies}
 use Rattle.bound_program.specs.Fits.{Fits, SiteFits, TakesArgs}
 use Rattle.run_model.specs.Programs.{kind_of, loop_of, item_at, program_of}
 use Rattle.run_model.specs.Kernels.{kernel_at}
 use Rattle.run_model.specs.Arguments.{no_arg, argument_at, entries, dat_width, var_width, modes_of, cell_of, is_constant}
-use Rattle.run_model.specs.Laws.{site_of, IsLoopOf, ElementsRunKernels, LoopsKeepRange, LoopsKeepReads}
-use Rattle.run_model.specs.Constants.{ConstantsAreRead}
-use Rattle.run_model.specs.Ranges.{AllObey, FirstValuesInRange, HostsKeepRange}
+use Rattle.run_model.specs.Laws.{site_of, IsLoopOf}
+use Rattle.run_model.specs.Ranges.{AllObey}
 use Rattle.loop_plan.specs.Values.{PlanValue}
 use Rattle.bound_plan.specs.Setups.{setup_of}
 use Rattle.bound_plan.specs.Laws.{Runnable}
-use Rattle.bound_plan.proofs.Given.{Itemed}
+use Rattle.bound_plan.specs.Given.{Itemed, Kerneled}
 use Rattle.bound_plan.proofs.Loops.{args_are}
 use Rattle.bound_plan.proofs.DatArgs as args
-
--- the laws of kernels and of the values of runs
-pub record Kerneled : Type 0 where
-  pub runs : ElementsRunKernels
-  pub independent : ElementRunsAreIndependentByTouches
-  pub read : ConstantsAreRead
-  pub range : LoopsKeepRange
-  pub reads : LoopsKeepReads
-  pub first : FirstValuesInRange
-  pub hosts : HostsKeepRange
 
 kernel_there : (xs : List RKernel) (n m : ℕ) → TakesArgs xs n m → (f : RKernel) × (kernel_at xs n ≡ Some f)
 kernel_there [] n m h = absurd h

@@ -1,39 +1,27 @@
 -- The layout is that of the setup.
 use Rattle.std.proofs.Common.{List}
-use Rattle.kernel_model.specs.Independence.{ShapeStays}
 use Rattle.mesh_decl.specs.declared.owners.Owners.{Owners}
 use Rattle.mesh_decl.specs.declared.owners.Perms.{Perms}
 use Rattle.local_mesh.specs.declared.types.RankMesh.{RankMesh}
 use Rattle.flat_machine.specs.Layout.{IsLayout}
-use Rattle.element_runs.specs.OnWindows.{ElementRunsOnWindows}
 use Rattle.bound_program.specs.Values.{BoundValue}
 use Rattle.run_model.specs.Programs.{item_at, act_in}
-use Rattle.run_model.specs.Constants.{ConstantsAreNumbered}
-use Rattle.run_model.specs.Laws.{site_of, ActsAreThere, WindowsAreReached}
+use Rattle.run_model.specs.Laws.{site_of}
 use Rattle.loop_plan.specs.Values.{PlanValue}
 use Rattle.bound_plan.specs.Setups.{setup_of}
 use Rattle.bound_plan.specs.Layouts.{layout_of}
 use Rattle.bound_plan.specs.Laws.{Planned, Runnable}
-use Rattle.bound_plan.proofs.Given.{Numbered, Itemed, Haloed}
-use Rattle.bound_plan.proofs.KernelLaws.{Kerneled, loop_fits}
+use Rattle.bound_plan.specs.Given.{Numbered, Itemed, Haloed, Kerneled, FrameLaws}
+use Rattle.bound_plan.proofs.KernelLaws.{loop_fits}
 use Rattle.bound_plan.proofs.Placed.{site_fits}
 use Rattle.bound_plan.proofs.Sides.{inside, outside}
 use Rattle.bound_plan.proofs.FrameFacts.{exist, held}
-use Rattle.bound_plan.proofs.Modified.{ExactlyModified, modified_is, reduced_held}
+use Rattle.bound_plan.proofs.Modified.{modified_is, reduced_held}
 use Rattle.bound_plan.proofs.Cores.{run_is, same_length}
 use Rattle.bound_plan.proofs.ConstantCells.{constants_are}
 use Rattle.bound_plan.proofs.Buffers.{placed, real}
 use Rattle.bound_plan.proofs.Exports.{arrive, exports_own}
 use Rattle.bound_plan.proofs.HostSees.{act_alike}
-
--- the laws on which frames rest
-pub record FrameLaws : Type 0 where
-  pub windows : WindowsAreReached
-  pub modified : ExactlyModified
-  pub on_windows : ElementRunsOnWindows
-  pub shape : ShapeStays
-  pub constants : ConstantsAreNumbered
-  pub acts : ActsAreThere
 
 module _ (numbers : Numbered) (items : Itemed) (halos : Haloed) (kernels : Kerneled) (frames : FrameLaws) (b : BoundValue) (o : Owners) (n : Perms) (meshes : List RankMesh) (p : PlanValue) (r : Runnable b o n meshes p) where
   abbrev pl : Planned b o n meshes p

@@ -1,4 +1,3 @@
-pub mod Given
 pub mod Places
 pub mod Locals
 pub mod Loops

@@ -1,7 +1,7 @@
 -- The cells of messages.
-use Rattle.std.proofs.Common.{◌≡◌, ◌<◌, ◌+◌, ℕ, zero, suc, Bool, true, false, List, [], length, get_or, map, flat_map, refl, sym, ap, subst, ◌∙◌, ⊎_elim, arith}
+use Rattle.std.proofs.Common.{◌≡◌, ◌<◌, ℕ, Bool, true, List, length, get_or, flat_map, refl, sym, ap, subst, ◌∙◌, ⊎_elim, arith}
 use Rattle.std.specs.Prelude.{◌&&◌, ◌||◌, ◌==◌, nat_eq, nat_lt}
-use Rattle.std.proofs.lemmas.Bool.{cases_lt, cond-true, and_parts, and_from, eqb-true, eq-eqb, lt-ltb}
+use Rattle.std.proofs.lemmas.Bool.{cases_lt, cond-true, and_parts, and_from, eq-eqb, lt-ltb}
 use Rattle.std.proofs.lemmas.List.{get_or_past}
 use Rattle.std.proofs.lemmas.List.Folds.{list_any_at}
 use Rattle.std.proofs.lemmas.List.FromFn.{length-map-range_with_len, get_or-map-range_with_len}
@@ -16,11 +16,11 @@ use Rattle.local_mesh.specs.declared.types.RankMesh.{RankMesh}
 use Rattle.schedule_model.specs.Cells.{Cell, Data, Variable, DatCell}
 use Rattle.schedule_model.specs.Setup as setup
 use Rattle.schedule_model.specs.Machine.{arrives}
-use Rattle.flat_machine.specs.Layout.{among, is_cell}
+use Rattle.flat_machine.specs.Layout.{among}
 use Rattle.flat_machine.specs.Scatter.{Once}
 use Rattle.element_runs.specs.OnWindows.{no_cell}
 use Rattle.bound_program.specs.Values.{BoundValue}
-use Rattle.run_model.specs.Windows.{Element, cell_in, cells_in, numbers}
+use Rattle.run_model.specs.Windows.{Element, cell_in, cells_in}
 use Rattle.loop_plan.specs.Values.{PlanValue, ItemPlanValue, item_plan, no_item_plan}
 use Rattle.loop_plan.specs.Needs.{exchanges}
 use Rattle.loop_plan.specs.Pairs.{sets_of, imports_from, passes}
@@ -28,9 +28,9 @@ use Rattle.bound_plan.specs.Setups.{setup_of}
 use Rattle.bound_plan.specs.Layouts.{exported, exported_cells}
 use Rattle.bound_plan.specs.Laws.{Planned}
 use Rattle.bound_plan.specs.Machine.{AreMessages}
-use Rattle.bound_plan.proofs.Given.{Haloed}
-use Rattle.bound_plan.proofs.Halos.{any_at, owns_is, owner_is, set_there}
-use Rattle.bound_plan.proofs.Among.{among_at, at_among, among_pieces, piece_among}
+use Rattle.bound_plan.specs.Given.{Haloed}
+use Rattle.bound_plan.proofs.Halos.{any_at, owner_is}
+use Rattle.bound_plan.proofs.Among.{at_among, among_pieces, piece_among}
 use Rattle.bound_plan.proofs.Onces.{Apart, once_of, once_pieces}
 use Rattle.bound_plan.proofs.Exports.{listed_has, has_listed, cell_among, among_cell, exchanged_there}
 

@@ -1,9 +1,8 @@
 -- What elements modify are the cells of their windows on the dats that the loop modifies.
 use Rattle.std.proofs.Common.{◌≡◌, ◌<◌, ℕ, Bool, true, false, List, length, Some, refl, sym, ap, subst, ◌∙◌}
-use Rattle.std.specs.Prelude.{◌&&◌, ◌↔◌}
+use Rattle.std.specs.Prelude.{◌&&◌}
 use Rattle.std.proofs.lemmas.Bool.{and_parts, and_from}
 use Rattle.reductions.specs.Reduction.{Reduction}
-use Rattle.kernel_types.specs.declared.faults.KernelFault.{KernelFault}
 use Rattle.kernel_model.specs.Obeys.{Mode, mode_at}
 use Rattle.mesh_decl.specs.declared.owners.Owners.{Owners}
 use Rattle.mesh_decl.specs.declared.owners.Perms.{Perms}
@@ -11,10 +10,8 @@ use Rattle.mesh_decl.specs.Mesh.{set_size}
 use Rattle.local_mesh.specs.declared.types.RankMesh.{RankMesh}
 use Rattle.schedule_model.specs.Cells.{Data, Variable, DatCell, VarCell}
 use Rattle.schedule_model.specs.Effects.{is_modified}
-use Rattle.schedule_model.specs.Program.{Free, elements, is_loop}
-use Rattle.schedule_model.specs.Setup.{Setup}
+use Rattle.schedule_model.specs.Program.{Free, is_loop}
 use Rattle.schedule_laws.specs.Arguments.{reaches}
-use Rattle.schedule_laws.specs.LoopParts.{LoopParts}
 use Rattle.flat_machine.specs.Layout.{among}
 use Rattle.element_runs.specs.ElementRun.{IsElementRun}
 use Rattle.kernel_types.specs.declared.kernels.RKernel.{RKernel}
@@ -29,20 +26,13 @@ use Rattle.bound_plan.specs.Windows.{frame_cells}
 use Rattle.bound_plan.specs.Variables.{reduces_at}
 use Rattle.bound_plan.specs.Setups.{setup_of}
 use Rattle.bound_plan.specs.Laws.{Runnable}
-use Rattle.bound_plan.proofs.Given.{Numbered, Itemed, Haloed}
-use Rattle.bound_plan.proofs.KernelLaws.{Kerneled, kernel, is_loop_of}
+use Rattle.bound_plan.specs.Given.{Numbered, Itemed, Haloed, Kerneled, ExactlyModified}
+use Rattle.bound_plan.proofs.KernelLaws.{kernel, is_loop_of}
 use Rattle.bound_plan.proofs.Placed.{site_fits}
 use Rattle.bound_plan.proofs.Touched.{Merges, merges}
 use Rattle.bound_plan.proofs.Parts.{parts}
 use Rattle.bound_plan.proofs.Framed.{mode_is, is_argument}
 use Rattle.bound_plan.proofs.FrameFacts.{among_arg, arg_among}
-
--- the law on windows of dats that a Free loop modifies
-abbrev pub ExactlyModified : Type 0
-ExactlyModified =
-    (p : Setup KernelFault) (f : LoopParts p) (k e : ℕ) (c : DatCell) → p.program.kind k ≡ Free → e < elements p.program k
-    → (is_modified (p.touch k e (Data c)) ≡ true) ↔ ((p.modifies k c.dat ≡ true)
-    × (a : ℕ) × (a < f.args (p.program.site k)) × (reaches f.entry f.dim f.width e (f.arg (p.program.site k) a) (Data c) ≡ true))
 
 one_test : (x y : Bool) → (x ≡ true → y ≡ true) → (y ≡ true → x ≡ true) → x ≡ y
 one_test true true f g = refl

@@ -1,9 +1,7 @@
 -- Lists in which no cell stands twice.
-use Rattle.std.proofs.Common.{◌≡◌, ◌<◌, ℕ, zero, suc, Bool, true, false, List, [], ◌∷◌, ◌++◌, length, get_or, map, flat_map, refl, sym, ap, subst, ◌∙◌, ⊎_elim, arith}
-use Rattle.std.specs.Prelude.{◌||◌}
-use Rattle.std.proofs.lemmas.Bool.{false≢true, false_from_ne_true, or_parts}
-use Rattle.schedule_model.specs.Cells.{Cell, same_cell}
-use Rattle.schedule_model.specs.Tests.{same_cell_refl}
+use Rattle.std.proofs.Common.{◌≡◌, ◌<◌, ℕ, suc, true, List, [], ◌∷◌, ◌++◌, length, get_or, flat_map, refl, sym, ◌∙◌, ⊎_elim, arith}
+use Rattle.std.proofs.lemmas.Bool.{false≢true, false_from_ne_true}
+use Rattle.schedule_model.specs.Cells.{Cell}
 use Rattle.flat_machine.specs.Layout.{among}
 use Rattle.flat_machine.specs.Scatter.{Once}
 use Rattle.element_runs.specs.OnWindows.{no_cell}

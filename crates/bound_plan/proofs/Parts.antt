@@ -25,7 +25,7 @@ use Rattle.loop_plan.specs.Needs.{item_scatters, needs}
 use Rattle.bound_plan.specs.Setups.{setup_of}
 use Rattle.bound_plan.specs.Laws.{Planned}
 use Rattle.bound_plan.specs.Variables.{reduces_at}
-use Rattle.bound_plan.proofs.Given.{Numbered, Itemed, Haloed}
+use Rattle.bound_plan.specs.Given.{Numbered, Itemed, Haloed}
 use Rattle.bound_plan.proofs.Loops.{free_args_are, loop_args_are}
 use Rattle.bound_plan.proofs.Trace.{class_is}
 use Rattle.bound_plan.proofs.Globals as variables

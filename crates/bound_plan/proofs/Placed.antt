@@ -23,7 +23,7 @@ use Rattle.loop_plan.specs.StepOutline.{loop_at}
 use Rattle.bound_plan.specs.Places.{originals, original_at}
 use Rattle.bound_plan.specs.Setups.{setup_of}
 use Rattle.bound_plan.specs.Laws.{Planned}
-use Rattle.bound_plan.proofs.Given.{Numbered, Itemed}
+use Rattle.bound_plan.specs.Given.{Numbered, Itemed}
 use Rattle.bound_plan.proofs.Loops.{loop_is, runs, free_args_are}
 use Rattle.bound_plan.proofs.Locals.{owned, executed, few, own_few}
 

@@ -19,7 +19,7 @@ use Rattle.loop_plan.specs.StepOutline.{loop_at}
 use Rattle.bound_plan.specs.Places.{originals, original_at, local_at}
 use Rattle.bound_plan.specs.Setups.{setup_of}
 use Rattle.bound_plan.specs.Laws.{Planned}
-use Rattle.bound_plan.proofs.Given.{Numbered, Itemed}
+use Rattle.bound_plan.specs.Given.{Numbered, Itemed}
 use Rattle.bound_plan.proofs.Locals.{stands, is_copy, local_is}
 use Rattle.bound_plan.proofs.Placed.{site_fits, count_executes, place_there}
 

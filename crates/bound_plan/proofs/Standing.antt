@@ -1,5 +1,5 @@
 -- Where elements and their values stand on a rank.
-use Rattle.std.proofs.Common.{◌≡◌, ◌<◌, ◌≤◌, ◌+◌, ◌-◌, ◌*◌, ℕ, List, length, get_or, arith}
+use Rattle.std.proofs.Common.{◌<◌, ◌≤◌, ◌+◌, ◌-◌, ◌*◌, ℕ, List, length, get_or, arith}
 use Rattle.mesh_decl.specs.declared.owners.Owners.{Owners}
 use Rattle.mesh_decl.specs.declared.owners.Perms.{Perms}
 use Rattle.mesh_decl.specs.Mesh.{dat_count, dat_set, dat_dim}
@@ -9,7 +9,7 @@ use Rattle.loop_plan.specs.Values.{PlanValue}
 use Rattle.bound_plan.specs.Places.{originals, bases_of, cells_of}
 use Rattle.bound_plan.specs.Laws.{Planned}
 use Rattle.bound_plan.specs.Machine.{Stand}
-use Rattle.bound_plan.proofs.Given.{Numbered, Haloed}
+use Rattle.bound_plan.specs.Given.{Numbered, Haloed}
 use Rattle.bound_plan.proofs.Locals.{stands, local_is}
 use Rattle.bound_plan.proofs.Buffers.{cell_is}
 

@@ -7,3 +7,4 @@ pub mod Layouts
 pub mod Starts
 pub mod Laws
 pub mod Machine
+pub mod Given

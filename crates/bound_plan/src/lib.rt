@@ -4,6 +4,7 @@
 //! The laws here say that this setup and this layout are what the theorem asks, and that the plan's steps are its steps.
 #![tactic(auto)]
 
+mod given;
 mod layout;
 mod machine;
 mod runs;

@@ -1,6 +1,7 @@
 // What the code of a machine asks of the layout beside the theorem.
 ghost use Rattle.bound_plan.specs.Machine.{DatsComeFirst, ElementsStand, FramesHaveCellsOnce, MessagesHaveCells};
 
+use crate::given::meshes_and_items;
 use crate::layout::frames_are_reached;
 
 /// A law: an element's frame has the windows on dats first and then those on variables, and no cell twice.
@@ -15,13 +16,7 @@ pub fn frames_have_cells()
 pub fn messages_have_cells()
     ensures { MessagesHaveCells }
 {
-    mesh_decl::declarations_hold();
-    halo_lists::execute_halo_owns_a_target();
-    halo_lists::executed_targets_are_copies();
-    halo_lists::core_targets_are_owned();
-    halo_lists::imports_are_of_others();
-    loop_plan::imports_are_exports();
-    colouring::common_targets_conflict();
+    meshes_and_items();
 }
 
 /// A law: an element of which a rank has a copy stands at one local number, and the values of a local element of a dat stand
@@ -29,15 +24,5 @@ pub fn messages_have_cells()
 pub fn elements_stand()
     ensures { ElementsStand }
 {
-    local_mesh::owned_come_first();
-    local_mesh::executed_come_first();
-    local_mesh::originals_are_distinct();
-    local_mesh::originals_are_copies();
-    mesh_decl::declarations_hold();
-    halo_lists::execute_halo_owns_a_target();
-    halo_lists::executed_targets_are_copies();
-    halo_lists::core_targets_are_owned();
-    halo_lists::imports_are_of_others();
-    loop_plan::imports_are_exports();
-    colouring::common_targets_conflict();
+    meshes_and_items();
 }

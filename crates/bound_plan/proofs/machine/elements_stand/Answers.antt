@@ -1,23 +1,5 @@
-use Rattle.bound_plan.proofs.Given.{Numbered, Haloed}
 use Rattle.bound_plan.proofs.Standing.{stand}
 use Rattle.bound_plan.proofs.machine.elements_stand.Goals as goal
 
 pub returns : goal.returns
-returns c =
-    let numbers : Numbered = record {
-      owned = c.owned_come_first.ensures;
-      executed = c.executed_come_first.ensures;
-      distinct = c.originals_are_distinct.ensures;
-      copies = c.originals_are_copies.ensures;
-    } in
-    let halos : Haloed = record {
-      imported = c.execute_halo_owns_a_target.ensures;
-      targets = c.executed_targets_are_copies.ensures;
-      core = c.core_targets_are_owned.ensures;
-      others = c.imports_are_of_others.ensures;
-      maps = c.declarations_hold.ensures.maps;
-      dats = c.declarations_hold.ensures.dats;
-      messages = c.imports_are_exports.ensures;
-      conflicts = c.common_targets_conflict.ensures;
-    } in
-    λ b o n meshes p pl r lr. stand numbers halos b o n meshes p pl r lr
+returns c = λ b o n meshes p pl r lr. stand c.meshes_and_items.ensures.numbers c.meshes_and_items.ensures.halos b o n meshes p pl r lr

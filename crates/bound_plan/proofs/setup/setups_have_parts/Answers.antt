@@ -1,25 +1,9 @@
-use Rattle.bound_plan.proofs.Given.{Numbered, Itemed, Haloed}
 use Rattle.bound_plan.proofs.ItemLaws.{item_laws}
 use Rattle.bound_plan.proofs.Parts.{parts}
 use Rattle.bound_plan.proofs.setup.setups_have_parts.Goals as goal
 
 pub returns : goal.returns
-returns c =
-    let numbers : Numbered = record {
-      owned = c.owned_come_first.ensures;
-      executed = c.executed_come_first.ensures;
-      distinct = c.originals_are_distinct.ensures;
-      copies = c.originals_are_copies.ensures;
-    } in
-    let items : Itemed = record { loops = c.items_are_there.ensures.loops } in
-    let halos : Haloed = record {
-      imported = c.execute_halo_owns_a_target.ensures;
-      targets = c.executed_targets_are_copies.ensures;
-      core = c.core_targets_are_owned.ensures;
-      others = c.imports_are_of_others.ensures;
-      maps = c.declarations_hold.ensures.maps;
-      dats = c.declarations_hold.ensures.dats;
-      messages = c.imports_are_exports.ensures;
-      conflicts = c.common_targets_conflict.ensures;
-    } in
-    λ b o n meshes p pl. (item_laws numbers items halos b o n meshes p pl, parts numbers items halos b o n meshes p pl)
+returns c = λ b o n meshes p pl. (
+  item_laws c.meshes_and_items.ensures.numbers c.meshes_and_items.ensures.items c.meshes_and_items.ensures.halos b o n meshes p pl,
+  parts c.meshes_and_items.ensures.numbers c.meshes_and_items.ensures.items c.meshes_and_items.ensures.halos b o n meshes p pl,
+)

@@ -15,7 +15,19 @@ use Rattle.schedule_steps.specs.Outline.{Outline}
 use Rattle.schedule_steps.specs.declared.step.Step.{Step}
 use Rattle.schedule_steps.specs.Steps.{Accepted}
 use Rattle.schedule_steps.specs.Alike.{AlikeOutlines}
-use Rattle.run_model.specs.Laws.{LoopsAreThere}
+use Rattle.run_model.specs.Laws.{ActsAreThere, LoopsAreThere, ElementsRunKernels, LoopsKeepRange, LoopsKeepReads, WindowsAreReached}
+use Rattle.kernel_types.specs.declared.faults.KernelFault.{KernelFault}
+use Rattle.kernel_model.specs.Independence.{ShapeStays}
+use Rattle.schedule_model.specs.Cells.{Data, DatCell}
+use Rattle.schedule_model.specs.Effects.{is_modified}
+use Rattle.schedule_model.specs.Program.{Free, elements}
+use Rattle.schedule_model.specs.Setup.{Setup}
+use Rattle.schedule_laws.specs.Arguments.{reaches}
+use Rattle.schedule_laws.specs.LoopParts.{LoopParts}
+use Rattle.element_runs.specs.ElementRun.{ElementRunsAreIndependentByTouches}
+use Rattle.element_runs.specs.OnWindows.{ElementRunsOnWindows}
+use Rattle.run_model.specs.Constants.{ConstantsAreNumbered, ConstantsAreRead}
+use Rattle.run_model.specs.Ranges.{FirstValuesInRange, HostsKeepRange}
 
 -- of local numbers
 pub record Numbered : Type 0 where
@@ -65,3 +77,29 @@ pub record Haloed : Type 0 where
       → (imports_from (sets_of meshes s) (sets_of meshes r) t ≡ true)
       ↔ ((x : ℕ) × (x < set_size g t) × (imports g o t x r ≡ true) × (owns o t x s ≡ true))
   pub conflicts : CommonTargetsConflict
+
+-- the laws of kernels and of the values of runs
+pub record Kerneled : Type 0 where
+  pub runs : ElementsRunKernels
+  pub independent : ElementRunsAreIndependentByTouches
+  pub read : ConstantsAreRead
+  pub range : LoopsKeepRange
+  pub reads : LoopsKeepReads
+  pub first : FirstValuesInRange
+  pub hosts : HostsKeepRange
+
+-- the law on windows of dats that a Free loop modifies
+abbrev pub ExactlyModified : Type 0
+ExactlyModified =
+    (p : Setup KernelFault) (f : LoopParts p) (k e : ℕ) (c : DatCell) → p.program.kind k ≡ Free → e < elements p.program k
+    → (is_modified (p.touch k e (Data c)) ≡ true) ↔ ((p.modifies k c.dat ≡ true)
+    × (a : ℕ) × (a < f.args (p.program.site k)) × (reaches f.entry f.dim f.width e (f.arg (p.program.site k) a) (Data c) ≡ true))
+
+-- the laws on which frames rest
+pub record FrameLaws : Type 0 where
+  pub windows : WindowsAreReached
+  pub modified : ExactlyModified
+  pub on_windows : ElementRunsOnWindows
+  pub shape : ShapeStays
+  pub constants : ConstantsAreNumbered
+  pub acts : ActsAreThere
