@@ -23,7 +23,7 @@ use Rattle.bound_plan.specs.Places.{last_upto, originals, original_at, local_at,
 use Rattle.bound_plan.specs.Setups.{setup_of}
 use Rattle.bound_plan.specs.Layouts.{layout_of}
 use Rattle.bound_plan.specs.Laws.{Planned}
-use Rattle.bound_plan.specs.Given.{Numbered, Haloed}
+use Rattle.bound_plan.specs.Given.{NumberLaws, HaloLaws}
 use Rattle.bound_plan.proofs.Halos.{owns_is}
 use Rattle.bound_plan.proofs.Locals.{rank_there, is_mesh, sets_are, stands, is_copy, local_is}
 use Rattle.bound_plan.proofs.FrameFacts.{dat_cell}
@@ -76,7 +76,7 @@ module _ (g : MeshValue) (sets : List LocalSet) where
 
 -- ---- the buffer of a rank
 
-module _ (laws : Numbered) (halos : Haloed) (b : BoundValue) (o : Owners) (n : Perms) (meshes : List RankMesh) (p : PlanValue) (pl : Planned b o n meshes p) (r : ℕ) (lr : r < o.ranks) where
+module _ (laws : NumberLaws) (halos : HaloLaws) (b : BoundValue) (o : Owners) (n : Perms) (meshes : List RankMesh) (p : PlanValue) (pl : Planned b o n meshes p) (r : ℕ) (lr : r < o.ranks) where
   there : r < length meshes
   there = rank_there laws b.mesh o n meshes pl.distributed r lr
 

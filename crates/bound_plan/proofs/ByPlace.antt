@@ -21,13 +21,13 @@ use Rattle.bound_plan.specs.Places.{originals, original_at, local_at}
 use Rattle.bound_plan.specs.Setups.{setup_of}
 use Rattle.bound_plan.specs.Layouts.{layout_of}
 use Rattle.bound_plan.specs.Laws.{Planned, PlansAreByPlace, PlansAcceptByPlace}
-use Rattle.bound_plan.specs.Given.{Numbered, Itemed, AlikeAcceptAlike}
+use Rattle.bound_plan.specs.Given.{NumberLaws, ItemLaws, AlikeAcceptAlike}
 use Rattle.bound_plan.proofs.AlikeBack.{alike_back}
 use Rattle.bound_plan.proofs.Loops.{item_is, loop_is, free_same}
 use Rattle.bound_plan.proofs.Locals.{local_is, core_is}
 use Rattle.bound_plan.proofs.Placed.{site_fits, place_there}
 
-module _ (laws : Numbered) (items : Itemed) (b : BoundValue) (o : Owners) (n : Perms) (meshes : List RankMesh) (p : PlanValue) (pl : Planned b o n meshes p) where
+module _ (laws : NumberLaws) (items : ItemLaws) (b : BoundValue) (o : Owners) (n : Perms) (meshes : List RankMesh) (p : PlanValue) (pl : Planned b o n meshes p) where
   abbrev plan_steps : Outline
   plan_steps = step_outline b meshes p
 
@@ -72,7 +72,7 @@ module _ (laws : Numbered) (items : Itemed) (b : BoundValue) (o : Owners) (n : P
       sym (ap (λ x. before k r x (local_at meshes r (site_of b k).set (original_at meshes r (site_of b k).set f))) (stays k r e h lr re)
       ∙ ap (before k r e) (stays k r f h lr rf))
 
-pub plans_are_by_place : Numbered → Itemed → PlansAreByPlace
+pub plans_are_by_place : NumberLaws → ItemLaws → PlansAreByPlace
 plans_are_by_place laws items b o n meshes p pl = record {
   items = refl;
   ranks = ranks laws items b o n meshes p pl;

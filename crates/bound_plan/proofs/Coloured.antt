@@ -30,7 +30,7 @@ use Rattle.loop_plan.specs.StepOutline.{loop_at}
 use Rattle.bound_plan.specs.Places.{local_at}
 use Rattle.bound_plan.specs.Setups.{setup_of}
 use Rattle.bound_plan.specs.Laws.{Planned}
-use Rattle.bound_plan.specs.Given.{Numbered, Itemed, Haloed}
+use Rattle.bound_plan.specs.Given.{NumberLaws, ItemLaws, HaloLaws}
 use Rattle.bound_plan.proofs.Loops.{loop_is, runs}
 use Rattle.bound_plan.proofs.Globals.{is_reducing_is}
 use Rattle.bound_plan.proofs.DatArgs.{OnDat, on_dat}
@@ -46,7 +46,7 @@ before blocks inner size x y =
     nat_lt (get_or blocks (x / size) 0) (get_or blocks (y / size) 0)
     || ((x / size == y / size) && nat_lt (get_or inner x 0) (get_or inner y 0))
 
-module _ (laws : Numbered) (items : Itemed) (halos : Haloed) (b : BoundValue) (o : Owners) (n : Perms) (meshes : List RankMesh) (p : PlanValue) (pl : Planned b o n meshes p) (k : ℕ) (free : kind_of (item_at b k) ≡ Free) (r : ℕ) (lr : r < o.ranks) where
+module _ (laws : NumberLaws) (items : ItemLaws) (halos : HaloLaws) (b : BoundValue) (o : Owners) (n : Perms) (meshes : List RankMesh) (p : PlanValue) (pl : Planned b o n meshes p) (k : ℕ) (free : kind_of (item_at b k) ≡ Free) (r : ℕ) (lr : r < o.ranks) where
   abbrev plan : SitePlanValue
   plan = site_plan p (loop_of (item_at b k))
 

@@ -17,7 +17,7 @@ use Rattle.bound_plan.specs.Setups.{setup_of}
 use Rattle.bound_plan.specs.Layouts.{layout_of}
 use Rattle.bound_plan.specs.Laws.{Planned}
 use Rattle.bound_plan.specs.Variables.{reduces_at}
-use Rattle.bound_plan.specs.Given.{Numbered, Itemed}
+use Rattle.bound_plan.specs.Given.{NumberLaws, ItemLaws}
 use Rattle.bound_plan.proofs.Placed.{site_fits}
 use Rattle.bound_plan.proofs.Touched.{Merges, merges}
 use Rattle.bound_plan.proofs.Indexed.{indexed}
@@ -34,7 +34,7 @@ some_or_none : (r : Option Reduction) → (r ≡ None) ⊎ ((o : Reduction) × (
 some_or_none None = inl refl
 some_or_none (Some o) = inr (o, refl)
 
-module _ (numbers : Numbered) (items : Itemed) (law : ConstantsAreNumbered) (b : BoundValue) (o : Owners) (n : Perms) (meshes : List RankMesh) (p : PlanValue) (pl : Planned b o n meshes p) where
+module _ (numbers : NumberLaws) (items : ItemLaws) (law : ConstantsAreNumbered) (b : BoundValue) (o : Owners) (n : Perms) (meshes : List RankMesh) (p : PlanValue) (pl : Planned b o n meshes p) where
   none_merged : (j : ℕ) (v : VarCell) → IsNumbered b j v → (k : ℕ) → kind_of (item_at b k) ≡ Free → reduces_at b (loop_of (item_at b k)) v ≡ None
   none_merged j v is k free = ⊎_elim
       (λ z. z)

@@ -17,8 +17,8 @@ use Rattle.run_model.specs.Arguments.{argument_at, entries, dat_width, var_width
 use Rattle.run_model.specs.Laws.{site_of, RunsKernel, WindowsAreReached}
 use Rattle.run_model.specs.Ranges.{AllObey}
 use Rattle.bound_plan.specs.Windows.{frame_cells, frame_windows, core_with, site_core}
-use Rattle.bound_plan.specs.Given.{Itemed, Kerneled}
-use Rattle.bound_plan.proofs.KernelLaws.{kernel as kernel_of, is_loop_of}
+use Rattle.bound_plan.specs.Given.{ItemLaws, KernelLaws}
+use Rattle.bound_plan.proofs.KernelsHold.{kernel as kernel_of, is_loop_of}
 use Rattle.bound_plan.proofs.Framed.{on_frames}
 
 -- what a run leaves in its one list
@@ -26,7 +26,7 @@ left : (r : kernel.Ran) (us : List ℤ) → core_of r ≡ Leaves us → slice_in
 left (kernel.Finished l) us h = cc
 left (kernel.Stopped l f) us h = let q : ⊥ = cc in absurd q
 
-module _ (kernels : Kerneled) (items : Itemed) (windows : WindowsAreReached) (law : ElementRunsOnWindows) (shape : ShapeStays) (b : BoundValue) (fits : Fits b) (obey : AllObey b) (k : ℕ) (loops : is_loop (kind_of (item_at b k)) ≡ true) (e : ℕ) where
+module _ (kernels : KernelLaws) (items : ItemLaws) (windows : WindowsAreReached) (law : ElementRunsOnWindows) (shape : ShapeStays) (b : BoundValue) (fits : Fits b) (obey : AllObey b) (k : ℕ) (loops : is_loop (kind_of (item_at b k)) ≡ true) (e : ℕ) where
   abbrev f : RKernel
   f = (kernel_of kernels items b fits obey k loops).0
 

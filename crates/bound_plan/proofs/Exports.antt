@@ -24,7 +24,7 @@ use Rattle.loop_plan.specs.Needs.{exchanges}
 use Rattle.bound_plan.specs.Setups.{setup_of}
 use Rattle.bound_plan.specs.Layouts.{layout_of, exported, exported_cells}
 use Rattle.bound_plan.specs.Laws.{Planned}
-use Rattle.bound_plan.specs.Given.{Haloed}
+use Rattle.bound_plan.specs.Given.{HaloLaws}
 use Rattle.bound_plan.proofs.Halos.{any_at, owns_is, owner_is}
 use Rattle.bound_plan.proofs.Among.{among_at, at_among, among_pieces, piece_among}
 use Rattle.bound_plan.proofs.FrameFacts.{dat_cell}
@@ -55,7 +55,7 @@ module _ (b : BoundValue) where
       sym (get_or-map-range_with_len (cell_in (Element d x)) 0 (dat_dim b.mesh d) w.0 w.0 no_cell l (omega arith)) ∙ w.2 in
       (w.0, l, (let s : record { dat = d; element = x; component = w.0 } ≡ c = cc in s))
 
-module _ (halos : Haloed) (b : BoundValue) (o : Owners) (n : Perms) (meshes : List RankMesh) (p : PlanValue) (pl : Planned b o n meshes p) where
+module _ (halos : HaloLaws) (b : BoundValue) (o : Owners) (n : Perms) (meshes : List RankMesh) (p : PlanValue) (pl : Planned b o n meshes p) where
   either : (s x r : ℕ) → (imports_execute b.mesh o s x r || imports_nonexecute b.mesh o s x r) ≡ true → imports b.mesh o s x r ≡ true
   unfolding imports
   either s x r h = h

@@ -30,7 +30,7 @@ use Rattle.bound_plan.specs.Windows.{frame_cells, frame_windows}
 use Rattle.bound_plan.specs.Setups.{setup_of}
 use Rattle.bound_plan.specs.Layouts.{layout_of}
 use Rattle.bound_plan.specs.Laws.{Planned}
-use Rattle.bound_plan.specs.Given.{Numbered, Itemed, Haloed}
+use Rattle.bound_plan.specs.Given.{NumberLaws, ItemLaws, HaloLaws}
 use Rattle.bound_plan.proofs.Halos.{owner_is, executing}
 use Rattle.bound_plan.proofs.Sides.{executed_copy}
 use Rattle.bound_plan.proofs.Framed.{mode_is, is_argument, on_frames}
@@ -66,7 +66,7 @@ module _ (windows : WindowsAreReached) (b : BoundValue) (site : SiteValue) (e : 
       let l = is_argument b site w.0 w.1 w.2 in
       record { number = w.0; there = l; index = w.1; below = subst (λ (m : Mode). w.1 < m.dim) (mode_is b site w.0 l) w.2; is = w.3 }
 
-module _ (halos : Haloed) (b : BoundValue) (fits : Fits b) (set e : ℕ) (le : e < set_size b.mesh set) where
+module _ (halos : HaloLaws) (b : BoundValue) (fits : Fits b) (set e : ℕ) (le : e < set_size b.mesh set) where
   -- what an argument reaches is an element
   pub element_there : (d : ℕ) (v : Option Via) → ViaFits b set d v → element_by b v e < set_size b.mesh (dat_set b.mesh d)
   element_there d None f = subst (λ z. e < set_size b.mesh z) (sym f) le
@@ -74,7 +74,7 @@ module _ (halos : Haloed) (b : BoundValue) (fits : Fits b) (set e : ℕ) (le : e
       subst (λ z. target b.mesh v.map e v.index < set_size b.mesh z) f.2
       ((halos.maps b.mesh fits.mesh v.map f.0).within e v.index (subst (λ z. e < set_size b.mesh z) (sym f.1) le) f.3)
 
-module _ (halos : Haloed) (b : BoundValue) (o : Owners) (meshes : List RankMesh) (p : PlanValue) (fits : Fits b) where
+module _ (halos : HaloLaws) (b : BoundValue) (o : Owners) (meshes : List RankMesh) (p : PlanValue) (fits : Fits b) where
   -- a cell of an element of a dat
   pub dat_cell : (d x i : ℕ) → d < dat_count b.mesh → x < set_size b.mesh (dat_set b.mesh d) → i < dat_dim b.mesh d
       → is_cell (setup_of b o meshes p) (layout_of b o meshes p) (record { dat = d; element = x; component = i }) ≡ true
@@ -105,7 +105,7 @@ module _ (halos : Haloed) (b : BoundValue) (o : Owners) (meshes : List RankMesh)
       (λ t. inr (and_from (nat_lt x (set_size b.mesh (dat_set b.mesh d))) other inside t))
       (or_cases (owns o (dat_set b.mesh d) x r) other h)
 
-module _ (numbers : Numbered) (items : Itemed) (halos : Haloed) (b : BoundValue) (o : Owners) (n : Perms) (meshes : List RankMesh) (p : PlanValue) (pl : Planned b o n meshes p) (k : ℕ) (free : kind_of (item_at b k) ≡ Free) (r : ℕ) (lr : r < o.ranks) where
+module _ (numbers : NumberLaws) (items : ItemLaws) (halos : HaloLaws) (b : BoundValue) (o : Owners) (n : Perms) (meshes : List RankMesh) (p : PlanValue) (pl : Planned b o n meshes p) (k : ℕ) (free : kind_of (item_at b k) ≡ Free) (r : ℕ) (lr : r < o.ranks) where
   -- a rank has a copy of what an argument of an executed element reaches
   reached_copy : (e d : ℕ) (v : Option Via) → e < set_size b.mesh (site_of b k).set → setup.executes (setup_of b o meshes p) k r e ≡ true → ViaFits b (site_of b k).set d v
       → has_copy b.mesh o (dat_set b.mesh d) (element_by b v e) r ≡ true

@@ -13,8 +13,8 @@ use Rattle.mesh_decl.specs.Owners.{AreOwners, owner_of}
 use Rattle.halo_lists.specs.Halo.{owns, executes, imports, imports_execute, imports_nonexecute, is_core}
 use Rattle.local_mesh.specs.declared.types.RankMesh.{RankMesh}
 use Rattle.loop_plan.specs.Pairs.{sets_of, imports_from, passes}
-use Rattle.bound_plan.specs.Distributed.{IsDistributed}
-use Rattle.bound_plan.specs.Given.{Haloed}
+use Rattle.loop_plan.specs.Distributed.{IsDistributed}
+use Rattle.bound_plan.specs.Given.{HaloLaws}
 
 -- where a test of some holds
 pub any_at : (f : ℕ → Bool) (xs : List ℕ) → list_any f xs ≡ true → (k : ℕ) × (k < length xs) × (f (get_or xs k 0) ≡ true)
@@ -44,7 +44,7 @@ pub owner_is : (o : Owners) (s e r : ℕ) → owns o s e r ≡ true → owner_of
 unfolding owns
 owner_is o s e r h = eqb-true (owner_of o s e) r h
 
-module _ (laws : Haloed) (g : MeshValue) (mesh : IsMesh g) (o : Owners) where
+module _ (laws : HaloLaws) (g : MeshValue) (mesh : IsMesh g) (o : Owners) where
   pub owners : AreOwners g o → (s e : ℕ) → e < set_size g s → owner_of o s e < o.ranks
   owners are s e l = are.below s e (set_there g s e l) l
 

@@ -28,7 +28,7 @@ use Rattle.loop_plan.specs.Values.{PlanValue}
 use Rattle.bound_plan.specs.Variables.{variable_at}
 use Rattle.bound_plan.specs.Setups.{setup_of}
 use Rattle.bound_plan.specs.Layouts.{layout_of}
-use Rattle.bound_plan.specs.Given.{Haloed}
+use Rattle.bound_plan.specs.Given.{HaloLaws}
 use Rattle.bound_plan.proofs.Among.{among_at, piece_among, at_among}
 use Rattle.bound_plan.proofs.Indexed.{indexed, is_variable}
 use Rattle.bound_plan.proofs.FrameFacts.{dat_cell}
@@ -56,7 +56,7 @@ index_ok count at (pos j) i h = ⊎_elim
     (cases_Bool (nat_lt j count))
 index_ok count at (negsuc j) i h = let q : ⊥ = cc in absurd q
 
-module _ (halos : Haloed) (b : BoundValue) (o : Owners) (meshes : List RankMesh) (p : PlanValue) (fits : Fits b) (s t : Store)
+module _ (halos : HaloLaws) (b : BoundValue) (o : Owners) (meshes : List RankMesh) (p : PlanValue) (fits : Fits b) (s t : Store)
     (agree : (c : Cell) → Exists (setup_of b o meshes p) (layout_of b o meshes p) c → s c ≡ t c) where
   abbrev Alike : Hosted KernelFault → Hosted KernelFault → Type 0
   Alike x y = HostedAlike (setup_of b o meshes p) (layout_of b o meshes p) x y

@@ -11,8 +11,8 @@ use Rattle.loop_plan.specs.Values.{PlanValue}
 use Rattle.bound_plan.specs.Setups.{setup_of}
 use Rattle.bound_plan.specs.Layouts.{layout_of}
 use Rattle.bound_plan.specs.Laws.{Planned, Runnable}
-use Rattle.bound_plan.specs.Given.{Numbered, Itemed, Haloed, Kerneled, FrameLaws}
-use Rattle.bound_plan.proofs.KernelLaws.{loop_fits}
+use Rattle.bound_plan.specs.Given.{NumberLaws, ItemLaws, HaloLaws, KernelLaws, FrameLaws}
+use Rattle.bound_plan.proofs.KernelsHold.{loop_fits}
 use Rattle.bound_plan.proofs.Placed.{site_fits}
 use Rattle.bound_plan.proofs.Sides.{inside, outside}
 use Rattle.bound_plan.proofs.FrameFacts.{exist, held}
@@ -23,7 +23,7 @@ use Rattle.bound_plan.proofs.Buffers.{placed, real}
 use Rattle.bound_plan.proofs.Exports.{arrive, exports_own}
 use Rattle.bound_plan.proofs.HostSees.{act_alike}
 
-module _ (numbers : Numbered) (items : Itemed) (halos : Haloed) (kernels : Kerneled) (frames : FrameLaws) (b : BoundValue) (o : Owners) (n : Perms) (meshes : List RankMesh) (p : PlanValue) (r : Runnable b o n meshes p) where
+module _ (numbers : NumberLaws) (items : ItemLaws) (halos : HaloLaws) (kernels : KernelLaws) (frames : FrameLaws) (b : BoundValue) (o : Owners) (n : Perms) (meshes : List RankMesh) (p : PlanValue) (r : Runnable b o n meshes p) where
   abbrev pl : Planned b o n meshes p
   pl = r.planned
 

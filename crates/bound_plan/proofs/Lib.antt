@@ -31,5 +31,5 @@ pub mod Messages
 pub mod Standing
 pub mod Laid
 pub mod FirstState
-pub mod ItemLaws
-pub mod KernelLaws
+pub mod ItemsHold
+pub mod KernelsHold

@@ -14,12 +14,12 @@ use Rattle.local_mesh.specs.LocalMesh.{IsLocalSet, IsRankMesh, originals_in, exe
 use Rattle.local_mesh.specs.Numbers as numbers
 use Rattle.local_mesh.proofs.Stands.{contains_at, contains_get}
 use Rattle.loop_plan.specs.Pairs.{sets_of, own_in, core_in}
-use Rattle.bound_plan.specs.Distributed.{IsDistributed}
+use Rattle.loop_plan.specs.Distributed.{IsDistributed}
 use Rattle.bound_plan.specs.Places.{originals, original_at, local_at}
-use Rattle.bound_plan.specs.Given.{Numbered}
+use Rattle.bound_plan.specs.Given.{NumberLaws}
 use Rattle.bound_plan.proofs.Places.{first_stands, first_is}
 
-module _ (laws : Numbered) (g : MeshValue) (o : Owners) (n : Perms) (meshes : List RankMesh) (d : IsDistributed g o n meshes) (r : ℕ) (lr : r < o.ranks) where
+module _ (laws : NumberLaws) (g : MeshValue) (o : Owners) (n : Perms) (meshes : List RankMesh) (d : IsDistributed g o n meshes) (r : ℕ) (lr : r < o.ranks) where
   pub rank_there : r < length meshes
   rank_there = subst (λ z. r < z) (sym d.are_meshes.count) lr
 

@@ -28,7 +28,7 @@ use Rattle.bound_plan.specs.Setups.{setup_of}
 use Rattle.bound_plan.specs.Layouts.{exported, exported_cells}
 use Rattle.bound_plan.specs.Laws.{Planned}
 use Rattle.bound_plan.specs.Machine.{AreMessages}
-use Rattle.bound_plan.specs.Given.{Haloed}
+use Rattle.bound_plan.specs.Given.{HaloLaws}
 use Rattle.bound_plan.proofs.Halos.{any_at, owner_is}
 use Rattle.bound_plan.proofs.Among.{at_among, among_pieces, piece_among}
 use Rattle.bound_plan.proofs.Onces.{Apart, once_of, once_pieces}
@@ -88,7 +88,7 @@ module _ (b : BoundValue) where
     rows_once : (dats : List ℕ) → Apart dats → Once (exported_cells b o dats s r)
     rows_once dats apart = once_pieces row dat_of row_tells dats (λ k l. row_once (get_or dats k 0)) apart
 
-module _ (halos : Haloed) (b : BoundValue) (o : Owners) (n : Perms) (meshes : List RankMesh) (p : PlanValue) (pl : Planned b o n meshes p) where
+module _ (halos : HaloLaws) (b : BoundValue) (o : Owners) (n : Perms) (meshes : List RankMesh) (p : PlanValue) (pl : Planned b o n meshes p) where
   exchange_apart : (k : ℕ) → Apart (item_plan p k).exchange
   unfolding item_plan
   exchange_apart k = ⊎_elim

@@ -26,8 +26,8 @@ use Rattle.bound_plan.specs.Windows.{frame_cells}
 use Rattle.bound_plan.specs.Variables.{reduces_at}
 use Rattle.bound_plan.specs.Setups.{setup_of}
 use Rattle.bound_plan.specs.Laws.{Runnable}
-use Rattle.bound_plan.specs.Given.{Numbered, Itemed, Haloed, Kerneled, ExactlyModified}
-use Rattle.bound_plan.proofs.KernelLaws.{kernel, is_loop_of}
+use Rattle.bound_plan.specs.Given.{NumberLaws, ItemLaws, HaloLaws, KernelLaws, ExactlyModified}
+use Rattle.bound_plan.proofs.KernelsHold.{kernel, is_loop_of}
 use Rattle.bound_plan.proofs.Placed.{site_fits}
 use Rattle.bound_plan.proofs.Touched.{Merges, merges}
 use Rattle.bound_plan.proofs.Parts.{parts}
@@ -40,7 +40,7 @@ one_test false false f g = refl
 one_test true false f g = sym (f refl)
 one_test false true f g = g refl
 
-module _ (numbers : Numbered) (items : Itemed) (halos : Haloed) (kernels : Kerneled) (windows : WindowsAreReached) (law : ExactlyModified) (b : BoundValue) (o : Owners) (n : Perms) (meshes : List RankMesh) (p : PlanValue) (r : Runnable b o n meshes p) (k : ℕ) (free : kind_of (item_at b k) ≡ Free) (e : ℕ) where
+module _ (numbers : NumberLaws) (items : ItemLaws) (halos : HaloLaws) (kernels : KernelLaws) (windows : WindowsAreReached) (law : ExactlyModified) (b : BoundValue) (o : Owners) (n : Perms) (meshes : List RankMesh) (p : PlanValue) (r : Runnable b o n meshes p) (k : ℕ) (free : kind_of (item_at b k) ≡ Free) (e : ℕ) where
   abbrev f : RKernel
   f = (kernel kernels items b r.planned.fits r.obey k (ap is_loop free)).0
 

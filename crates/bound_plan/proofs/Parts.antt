@@ -25,7 +25,7 @@ use Rattle.loop_plan.specs.Needs.{item_scatters, needs}
 use Rattle.bound_plan.specs.Setups.{setup_of}
 use Rattle.bound_plan.specs.Laws.{Planned}
 use Rattle.bound_plan.specs.Variables.{reduces_at}
-use Rattle.bound_plan.specs.Given.{Numbered, Itemed, Haloed}
+use Rattle.bound_plan.specs.Given.{NumberLaws, ItemLaws, HaloLaws}
 use Rattle.bound_plan.proofs.Loops.{free_args_are, loop_args_are}
 use Rattle.bound_plan.proofs.Trace.{class_is}
 use Rattle.bound_plan.proofs.Globals as variables
@@ -35,7 +35,7 @@ use Rattle.bound_plan.proofs.Placed.{site_fits, scatters_is}
 use Rattle.bound_plan.proofs.Coloured.{coloured}
 use Rattle.bound_plan.proofs.Touched.{Merges, merges, merged_touch, constant_touch}
 
-module _ (numbers : Numbered) (items : Itemed) (halos : Haloed) (b : BoundValue) (o : Owners) (n : Perms) (meshes : List RankMesh) (p : PlanValue) (pl : Planned b o n meshes p) where
+module _ (numbers : NumberLaws) (items : ItemLaws) (halos : HaloLaws) (b : BoundValue) (o : Owners) (n : Perms) (meshes : List RankMesh) (p : PlanValue) (pl : Planned b o n meshes p) where
   module _ (k : ℕ) (free : kind_of (item_at b k) ≡ Free) where
     pub fits : SiteFits b (site_of b k)
     fits = site_fits numbers items b o n meshes p pl k free

@@ -23,11 +23,11 @@ use Rattle.loop_plan.specs.StepOutline.{loop_at}
 use Rattle.bound_plan.specs.Places.{originals, original_at}
 use Rattle.bound_plan.specs.Setups.{setup_of}
 use Rattle.bound_plan.specs.Laws.{Planned}
-use Rattle.bound_plan.specs.Given.{Numbered, Itemed}
+use Rattle.bound_plan.specs.Given.{NumberLaws, ItemLaws}
 use Rattle.bound_plan.proofs.Loops.{loop_is, runs, free_args_are}
 use Rattle.bound_plan.proofs.Locals.{owned, executed, few, own_few}
 
-module _ (laws : Numbered) (items : Itemed) (b : BoundValue) (o : Owners) (n : Perms) (meshes : List RankMesh) (p : PlanValue) (pl : Planned b o n meshes p) (k : ℕ) (free : kind_of (item_at b k) ≡ Free) where
+module _ (laws : NumberLaws) (items : ItemLaws) (b : BoundValue) (o : Owners) (n : Perms) (meshes : List RankMesh) (p : PlanValue) (pl : Planned b o n meshes p) (k : ℕ) (free : kind_of (item_at b k) ≡ Free) where
   pub site_there : loop_of (item_at b k) < length b.sites
   site_there = items.loops b k pl.fits (ap is_loop free)
 

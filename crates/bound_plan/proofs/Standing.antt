@@ -9,11 +9,11 @@ use Rattle.loop_plan.specs.Values.{PlanValue}
 use Rattle.bound_plan.specs.Places.{originals, bases_of, cells_of}
 use Rattle.bound_plan.specs.Laws.{Planned}
 use Rattle.bound_plan.specs.Machine.{Stand}
-use Rattle.bound_plan.specs.Given.{Numbered, Haloed}
+use Rattle.bound_plan.specs.Given.{NumberLaws, HaloLaws}
 use Rattle.bound_plan.proofs.Locals.{stands, local_is}
 use Rattle.bound_plan.proofs.Buffers.{cell_is}
 
-module _ (laws : Numbered) (halos : Haloed) (b : BoundValue) (o : Owners) (n : Perms) (meshes : List RankMesh) (p : PlanValue) (pl : Planned b o n meshes p) (r : ℕ) (lr : r < o.ranks) where
+module _ (laws : NumberLaws) (halos : HaloLaws) (b : BoundValue) (o : Owners) (n : Perms) (meshes : List RankMesh) (p : PlanValue) (pl : Planned b o n meshes p) (r : ℕ) (lr : r < o.ranks) where
   inside : (d k : ℕ) → d < dat_count b.mesh → k < length (originals meshes r (dat_set b.mesh d))
       → get_or (bases_of meshes r) d 0 + k * dat_dim b.mesh d + dat_dim b.mesh d ≤ cells_of meshes r
   inside d k ld lk =

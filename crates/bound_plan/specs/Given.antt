@@ -2,7 +2,8 @@
 use Rattle.std.specs.Prelude.{◌≡◌, ◌≢◌, ◌↔◌, ◌<◌, ℕ, true, List, Contains}
 use Rattle.mesh_decl.specs.declared.owners.Owners.{Owners}
 use Rattle.mesh_decl.specs.declared.owners.Perms.{Perms}
-use Rattle.mesh_decl.specs.Mesh.{MeshValue, IsMesh, IsMapAt, IsDatAt, set_count, map_count, dat_count, set_size, map_from, map_to, map_dim, target}
+use Rattle.mesh_decl.specs.Mesh.{MeshValue, IsMesh, IsMapAt, IsDatAt, set_count, map_count, dat_count, set_size}
+use Rattle.mesh_decl.specs.Mesh.{map_from, map_to, map_dim, target}
 use Rattle.mesh_decl.specs.Owners.{IsNumbering, ArePerms, owner_of, perm_in}
 use Rattle.halo_lists.specs.Halo.{has_copy, owns, executes, imports, imports_execute, is_core}
 use Rattle.local_mesh.specs.declared.types.LocalSet.{LocalSet}
@@ -30,7 +31,7 @@ use Rattle.run_model.specs.Constants.{ConstantsAreNumbered, ConstantsAreRead}
 use Rattle.run_model.specs.Ranges.{FirstValuesInRange, HostsKeepRange}
 
 -- of local numbers
-pub record Numbered : Type 0 where
+pub record NumberLaws : Type 0 where
   pub owned : OwnedComeFirst
   pub executed : ExecutedComeFirst
   pub distinct : OriginalsAreDistinct
@@ -40,7 +41,7 @@ pub record Numbered : Type 0 where
       → (x : ℕ) → Contains l.original x ↔ ((x < set_size g s) × (has_copy g o s x r ≡ true))
 
 -- of items
-pub record Itemed : Type 0 where
+pub record ItemLaws : Type 0 where
   pub loops : LoopsAreThere
 
 -- of outlines
@@ -48,7 +49,7 @@ abbrev pub AlikeAcceptAlike : Type 0
 AlikeAcceptAlike = (o n : Outline) → AlikeOutlines o n → (l : List Step) → Accepted o l → Accepted n l
 
 -- of halos and of meshes
-pub record Haloed : Type 0 where
+pub record HaloLaws : Type 0 where
   pub imported : (g : MeshValue) (o : Owners) (s x r : ℕ) → (imports_execute g o s x r ≡ true)
       ↔ ((owner_of o s x ≢ r)
       × ((m : ℕ) × (i : ℕ) × (m < map_count g) × (map_from g m ≡ s) × (i < map_dim g m) × (owner_of o (map_to g m) (target g m x i) ≡ r)))
@@ -79,7 +80,7 @@ pub record Haloed : Type 0 where
   pub conflicts : CommonTargetsConflict
 
 -- the laws of kernels and of the values of runs
-pub record Kerneled : Type 0 where
+pub record KernelLaws : Type 0 where
   pub runs : ElementsRunKernels
   pub independent : ElementRunsAreIndependentByTouches
   pub read : ConstantsAreRead

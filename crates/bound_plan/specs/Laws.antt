@@ -22,7 +22,7 @@ use Rattle.run_model.specs.Arguments.{modes_of, cell_of}
 use Rattle.loop_plan.specs.Values.{PlanValue}
 use Rattle.loop_plan.specs.StepOutline.{step_outline}
 use Rattle.loop_plan.specs.Proper.{Proper}
-use Rattle.bound_plan.specs.Distributed.{IsDistributed}
+use Rattle.loop_plan.specs.Distributed.{IsDistributed}
 use Rattle.bound_plan.specs.Places.{cells_of, place_of, cell_at}
 use Rattle.bound_plan.specs.Windows.{frame_cells, frame_windows}
 use Rattle.bound_plan.specs.Variables.{variable_index, variable_at}

@@ -1,5 +1,4 @@
 pub mod Places
-pub mod Distributed
 pub mod Windows
 pub mod Variables
 pub mod Setups

@@ -1,13 +1,13 @@
 // The laws of the lower crates on which the laws here rest.
-ghost use Rattle.bound_plan.specs.Given.{AlikeAcceptAlike, FrameLaws, Haloed, Itemed, Kerneled, Numbered};
+ghost use Rattle.bound_plan.specs.Given.{AlikeAcceptAlike, FrameLaws, HaloLaws, ItemLaws, KernelLaws, NumberLaws};
 
 use kernel_types::KernelFault;
 
 // Of local numbers, items, halos and meshes, and outlines.
 pub(crate) fn meshes_and_items()
-    ensures numbers { Numbered }
-    ensures items { Itemed }
-    ensures halos { Haloed }
+    ensures numbers { NumberLaws }
+    ensures items { ItemLaws }
+    ensures halos { HaloLaws }
     ensures outlines { AlikeAcceptAlike }
 {
     mesh_decl::declarations_hold();
@@ -27,7 +27,7 @@ pub(crate) fn meshes_and_items()
 
 // Of kernels, the values of runs, and frames.
 pub(crate) fn kernels_and_frames()
-    ensures kernels { Kerneled }
+    ensures kernels { KernelLaws }
     ensures frames { FrameLaws }
 {
     kernel_model::shape_stays();

@@ -64,5 +64,6 @@ CommonTargetsConflict =
     → (x y : IncArg) (e f : ℕ)
     → Contains args x → Contains args y → x.dat ≡ y.dat
     → e < places → f < places
-    → reached_by g (slice_index (originals_in m.sets.items a.set) e) x.via ≡ reached_by g (slice_index (originals_in m.sets.items a.set) f) y.via
+    → reached_by g (slice_index (originals_in m.sets.items a.set) e) x.via
+    ≡ reached_by g (slice_index (originals_in m.sets.items a.set) f) y.via
     → Conflict g m.maps.items args e f

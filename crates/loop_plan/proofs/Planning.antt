@@ -41,22 +41,22 @@ pairs_agree t u n (suc m) h =
 
 module _ (g : MeshValue) (h : Halos) (meshes : List RankMesh) (d : Distributed g h meshes) where
   ranks_are : h.ranks ≡ length meshes
-  ranks_are = d.are_halos.ranks ∙ sym d.are_meshes.count
+  ranks_are = d.are_halos.ranks ∙ sym d.distributed.are_meshes.count
 
   pub exports_had : HaveExports g h
-  exports_had = have_exports g d.owners h d.are_halos d.are_owners
+  exports_had = have_exports g d.owners h d.are_halos d.distributed.are_owners
 
   -- the local meshes are there
   pub sets_had : ((s : ℕ) → set_size g s < 2 ^ 32) → HaveSets g meshes
   sets_had sizes = record {
-    few = (let e : length meshes ≡ d.owners.ranks = d.are_meshes.count in let f = d.are_owners.few_ranks in omega arith);
-    sets = λ r l. sets_counted g d.owners d.numbers meshes d.are_perms d.are_meshes r (there r l);
-    executed = λ r t l lt. executed_few g d.owners d.numbers meshes d.are_perms d.are_meshes r t (there r l) lt (sizes t);
-    held = λ r t l lt. executed_held g d.owners d.numbers meshes d.are_perms d.are_meshes r t (there r l) lt;
+    few = (let e : length meshes ≡ d.owners.ranks = d.distributed.are_meshes.count in let f = d.distributed.are_owners.few_ranks in omega arith);
+    sets = λ r l. sets_counted g d.owners d.numbers meshes d.distributed.are_perms d.distributed.are_meshes r (there r l);
+    executed = λ r t l lt. executed_few g d.owners d.numbers meshes d.distributed.are_perms d.distributed.are_meshes r t (there r l) lt (sizes t);
+    held = λ r t l lt. executed_held g d.owners d.numbers meshes d.distributed.are_perms d.distributed.are_meshes r t (there r l) lt;
   }
     where
       there : (r : ℕ) → r < length meshes → r < d.owners.ranks
-      there r l = let e : length meshes ≡ d.owners.ranks = d.are_meshes.count in omega arith
+      there r l = let e : length meshes ≡ d.owners.ranks = d.distributed.are_meshes.count in omega arith
 
   module _ (sets : (e : ℕ) → e < dat_count g → IsDatAt g e) where
     -- between two ranks
@@ -66,7 +66,7 @@ module _ (g : MeshValue) (h : Halos) (meshes : List RankMesh) (d : Distributed g
     passes_agree (e ∷ es) a s r ls lr =
         let q : h.ranks ≡ d.owners.ranks = d.are_halos.ranks in
         ap (λ z. z || passes_by_exports g h es s r)
-        (exported_is_imported g d.owners h d.are_halos d.numbers meshes d.are_perms d.are_meshes s r (dat_set g e) (omega arith) (omega arith) (sets e (a 0 (omega arith))).set)
+        (exported_is_imported g d.owners h d.are_halos d.numbers meshes d.distributed.are_perms d.distributed.are_meshes s r (dat_set g e) (omega arith) (omega arith) (sets e (a 0 (omega arith))).set)
         ∙ ap (λ z. imports_from (sets_of meshes s) (sets_of meshes r) (dat_set g e) || z) (passes_agree es (λ k l. a (suc k) (omega arith)) s r ls lr)
 
     pub pairs_are : (dats : List ℕ) → AreDats g dats

@@ -9,11 +9,15 @@ use Rattle.halo_lists.specs.Halos.{AreHalos}
 use Rattle.local_mesh.specs.declared.types.RankMesh.{RankMesh}
 use Rattle.local_mesh.specs.LocalMesh.{AreRankMeshes}
 
+-- these are the local meshes of a mesh by these owners and new numbers
+pub record IsDistributed (g : MeshValue) (o : Owners) (n : Perms) (meshes : List RankMesh) : Type 0 where
+  pub are_owners : AreOwners g o
+  pub are_perms : ArePerms g n
+  pub are_meshes : AreRankMeshes g o n meshes
+
 -- these are the halos and local meshes of a mesh by some owners and new numbers
 pub record Distributed (g : MeshValue) (h : Halos) (meshes : List RankMesh) : Type 0 where
   pub owners : Owners
   pub numbers : Perms
-  pub are_owners : AreOwners g owners
-  pub are_perms : ArePerms g numbers
   pub are_halos : AreHalos g owners h
-  pub are_meshes : AreRankMeshes g owners numbers meshes
+  pub distributed : IsDistributed g owners numbers meshes

@@ -1,5 +1,5 @@
 use Rattle.bound_plan.specs.Setups.{setup_of}
-use Rattle.bound_plan.proofs.KernelLaws.{kernel_laws}
+use Rattle.bound_plan.proofs.KernelsHold.{kernel_laws}
 use Rattle.bound_plan.proofs.setup.setups_are_lawful.Goals as goal
 
 pub returns : goal.returns

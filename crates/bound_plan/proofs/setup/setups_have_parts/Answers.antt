@@ -1,4 +1,4 @@
-use Rattle.bound_plan.proofs.ItemLaws.{item_laws}
+use Rattle.bound_plan.proofs.ItemsHold.{item_laws}
 use Rattle.bound_plan.proofs.Parts.{parts}
 use Rattle.bound_plan.proofs.setup.setups_have_parts.Goals as goal
 

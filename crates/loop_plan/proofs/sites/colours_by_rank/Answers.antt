@@ -11,8 +11,8 @@ pub colour-requires-clause-rank : goal.colour-requires-clause-rank
 colour-requires-clause-rank c =
     let d = c.requires.ranks.1 in
     let m : RankMesh = c.index-ranks-rank.result in
-    let l : c.loop-rank.rank < d.owners.ranks = omega (arith, c.loop-rank-test.true, c.loop-rank.auto.rank-end, d.are_meshes.count) in
-    (d.owners, d.numbers, c.loop-rank.rank, subst (IsRankMesh c.args.mesh.now d.owners d.numbers c.loop-rank.rank) (sym c.index-ranks-rank.is) (d.are_meshes.ranks c.loop-rank.rank m l))
+    let l : c.loop-rank.rank < d.owners.ranks = omega (arith, c.loop-rank-test.true, c.loop-rank.auto.rank-end, d.distributed.are_meshes.count) in
+    (d.owners, d.numbers, c.loop-rank.rank, subst (IsRankMesh c.args.mesh.now d.owners d.numbers c.loop-rank.rank) (sym c.index-ranks-rank.is) (d.distributed.are_meshes.ranks c.loop-rank.rank m l))
 
 pub loop-rank-preserved : goal.loop-rank-preserved
 loop-rank-preserved c =

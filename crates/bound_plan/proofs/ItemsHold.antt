@@ -10,7 +10,7 @@ use Rattle.run_model.specs.Laws.{site_of}
 use Rattle.loop_plan.specs.Values.{PlanValue}
 use Rattle.bound_plan.specs.Setups.{setup_of}
 use Rattle.bound_plan.specs.Laws.{Planned}
-use Rattle.bound_plan.specs.Given.{Numbered, Itemed, Haloed}
+use Rattle.bound_plan.specs.Given.{NumberLaws, ItemLaws, HaloLaws}
 use Rattle.bound_plan.proofs.Loops.{needs_free}
 use Rattle.bound_plan.proofs.Trace.{first_item, reduce_after, reduce_next, last_item}
 use Rattle.bound_plan.proofs.Globals.{reduces_is}
@@ -18,7 +18,7 @@ use Rattle.bound_plan.proofs.Halos.{owners}
 use Rattle.bound_plan.proofs.Placed.{site_fits}
 use Rattle.bound_plan.proofs.Touched.{merges}
 
-module _ (numbers : Numbered) (items : Itemed) (halos : Haloed) (b : BoundValue) (o : Owners) (n : Perms) (meshes : List RankMesh) (p : PlanValue) (pl : Planned b o n meshes p) where
+module _ (numbers : NumberLaws) (items : ItemLaws) (halos : HaloLaws) (b : BoundValue) (o : Owners) (n : Perms) (meshes : List RankMesh) (p : PlanValue) (pl : Planned b o n meshes p) where
   pub item_laws : Items (setup_of b o meshes p)
   item_laws = record {
     first_item = λ h. first_item b b.trace pl.fits.items h;

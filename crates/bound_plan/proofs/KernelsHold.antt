@@ -24,7 +24,7 @@ use Rattle.run_model.specs.Ranges.{AllObey}
 use Rattle.loop_plan.specs.Values.{PlanValue}
 use Rattle.bound_plan.specs.Setups.{setup_of}
 use Rattle.bound_plan.specs.Laws.{Runnable}
-use Rattle.bound_plan.specs.Given.{Itemed, Kerneled}
+use Rattle.bound_plan.specs.Given.{ItemLaws, KernelLaws}
 use Rattle.bound_plan.proofs.Loops.{args_are}
 use Rattle.bound_plan.proofs.DatArgs as args
 
@@ -45,7 +45,7 @@ only_reads OpWrite h = absurd (false≢true (sym h))
 only_reads OpRw h = absurd (false≢true (sym h))
 only_reads (OpReduce r) h = absurd (false≢true (sym h))
 
-module _ (kernels : Kerneled) (items : Itemed) (b : BoundValue) (fits : Fits b) (obey : AllObey b) (k : ℕ) (loops : is_loop (kind_of (item_at b k)) ≡ true) where
+module _ (kernels : KernelLaws) (items : ItemLaws) (b : BoundValue) (fits : Fits b) (obey : AllObey b) (k : ℕ) (loops : is_loop (kind_of (item_at b k)) ≡ true) where
   pub loop_there : loop_of (item_at b k) < length b.sites
   loop_there = items.loops b k fits loops
 
@@ -69,7 +69,7 @@ module _ (kernels : Kerneled) (items : Itemed) (b : BoundValue) (fits : Fits b) 
       (λ m. only_reads (access_of (argument_at (site_of b k) a)) m)
       (cases_Bool (modifying (access_of (argument_at (site_of b k) a))))
 
-module _ (kernels : Kerneled) (items : Itemed) (b : BoundValue) (o : Owners) (n : Perms) (meshes : List RankMesh) (p : PlanValue) (r : Runnable b o n meshes p) where
+module _ (kernels : KernelLaws) (items : ItemLaws) (b : BoundValue) (o : Owners) (n : Perms) (meshes : List RankMesh) (p : PlanValue) (r : Runnable b o n meshes p) where
   pub kernel_laws : Kernels (setup_of b o meshes p)
   kernel_laws = record {
     start_in_range = kernels.first b r.start;
