@@ -9,7 +9,7 @@ use Rattle.mesh_decl.specs.declared.owners.Owners.{Owners}
 use Rattle.mesh_decl.specs.declared.owners.Perms.{Perms}
 use Rattle.mesh_decl.specs.Mesh.{MeshValue, set_count, set_size, dat_count, dat_set, dat_dim}
 use Rattle.mesh_decl.specs.Owners.{owner_of}
-use Rattle.mesh_decl.proofs.FieldReads.{some_in}
+use Rattle.bound_plan.proofs.Places.{one_of}
 use Rattle.halo_lists.specs.Halo.{owns, imports_execute, imports_nonexecute, has_copy}
 use Rattle.local_mesh.specs.declared.types.LocalSet.{LocalSet}
 use Rattle.local_mesh.specs.declared.types.RankMesh.{RankMesh}
@@ -83,14 +83,14 @@ module _ (laws : NumberLaws) (halos : HaloLaws) (b : BoundValue) (o : Owners) (n
   bases_are : (d : ℕ) → d < dat_count b.mesh → get_or (bases_of meshes r) d 0 ≡ cells_before b.mesh (sets_of meshes r) d
   unfolding bases_of
   bases_are d l =
-      ap (λ z. get_or z d 0) (get_or-map (λ (m : RankMesh). m.bases.items) meshes r (some_in meshes r (rank_there laws b.mesh o n meshes pl.distributed r lr)) [] (rank_there laws b.mesh o n meshes pl.distributed r lr))
+      ap (λ z. get_or z d 0) (get_or-map (λ (m : RankMesh). m.bases.items) meshes r (one_of meshes r (rank_there laws b.mesh o n meshes pl.distributed r lr)) [] (rank_there laws b.mesh o n meshes pl.distributed r lr))
       ∙ (is_mesh laws b.mesh o n meshes pl.distributed r lr).bases.bases d l
       ∙ ap (λ z. cells_before b.mesh z d) (sets_are laws b.mesh o n meshes pl.distributed r lr)
 
   cells_are : cells_of meshes r ≡ cells_before b.mesh (sets_of meshes r) (dat_count b.mesh)
   unfolding cells_of
   cells_are =
-      get_or-map (λ (m : RankMesh). m.cells) meshes r (some_in meshes r (rank_there laws b.mesh o n meshes pl.distributed r lr)) 0 (rank_there laws b.mesh o n meshes pl.distributed r lr)
+      get_or-map (λ (m : RankMesh). m.cells) meshes r (one_of meshes r (rank_there laws b.mesh o n meshes pl.distributed r lr)) 0 (rank_there laws b.mesh o n meshes pl.distributed r lr)
       ∙ (is_mesh laws b.mesh o n meshes pl.distributed r lr).bases.cells
       ∙ ap (λ z. cells_before b.mesh z (dat_count b.mesh)) (sets_are laws b.mesh o n meshes pl.distributed r lr)
 

@@ -7,7 +7,7 @@ use Rattle.reductions.specs.Access.{OpReduce}
 use Rattle.mesh_decl.specs.declared.owners.Owners.{Owners}
 use Rattle.mesh_decl.specs.declared.owners.Perms.{Perms}
 use Rattle.mesh_decl.specs.Mesh.{set_size}
-use Rattle.mesh_decl.proofs.FieldReads.{some_in}
+use Rattle.bound_plan.proofs.Places.{one_of}
 use Rattle.local_mesh.specs.declared.types.RankMesh.{RankMesh}
 use Rattle.local_mesh.specs.LocalMesh.{originals_in, executed_in}
 use Rattle.colouring.specs.declared.types.IncArg.{IncArg}
@@ -60,7 +60,7 @@ module _ (laws : NumberLaws) (items : ItemLaws) (halos : HaloLaws) (b : BoundVal
   colours_there = subst (λ z. r < z) (sym is_plan.colours_count) there
 
   abbrev colours : Colours
-  colours = get_or plan.colours r (some_in plan.colours r colours_there)
+  colours = get_or plan.colours r (one_of plan.colours r colours_there)
 
   abbrev args : List IncArg
   args = reducing (site_of b k).args
@@ -69,17 +69,17 @@ module _ (laws : NumberLaws) (items : ItemLaws) (halos : HaloLaws) (b : BoundVal
   places = places_of meshes (site_of b k) r
 
   separate : Separate b.mesh (maps_of meshes r) args places p.block colours
-  separate = is_plan.colours r (some_in plan.colours r colours_there) there
+  separate = is_plan.colours r (one_of plan.colours r colours_there) there
 
   blocks_are : get_or (map (λ (c : Colours). c.blocks.items) (site_plan p (loop_at b meshes p k)).colours) r [] ≡ colours.blocks.items
   blocks_are =
       ap (λ s. get_or (map (λ (c : Colours). c.blocks.items) (site_plan p s).colours) r []) (loop_is b k)
-      ∙ get_or-map (λ (c : Colours). c.blocks.items) plan.colours r (some_in plan.colours r colours_there) [] colours_there
+      ∙ get_or-map (λ (c : Colours). c.blocks.items) plan.colours r (one_of plan.colours r colours_there) [] colours_there
 
   inner_are : get_or (map (λ (c : Colours). c.inner.items) (site_plan p (loop_at b meshes p k)).colours) r [] ≡ colours.inner.items
   inner_are =
       ap (λ s. get_or (map (λ (c : Colours). c.inner.items) (site_plan p s).colours) r []) (loop_is b k)
-      ∙ get_or-map (λ (c : Colours). c.inner.items) plan.colours r (some_in plan.colours r colours_there) [] colours_there
+      ∙ get_or-map (λ (c : Colours). c.inner.items) plan.colours r (one_of plan.colours r colours_there) [] colours_there
 
   by_colours : (x y : ℕ) → by_colour (outline (setup_of b o meshes p)) k r x y ≡ goes_before colours p.block (local_at meshes r (site_of b k).set x) (local_at meshes r (site_of b k).set y)
   by_colours x y =
@@ -88,7 +88,7 @@ module _ (laws : NumberLaws) (items : ItemLaws) (halos : HaloLaws) (b : BoundVal
 
   maps_are : (mesh laws b.mesh o n meshes pl.distributed r lr).maps.items ≡ maps_of meshes r
   unfolding maps_of
-  maps_are = sym (get_or-map (λ (x : RankMesh). x.maps.items) meshes r (some_in meshes r (rank_there laws b.mesh o n meshes pl.distributed r lr)) [] (rank_there laws b.mesh o n meshes pl.distributed r lr))
+  maps_are = sym (get_or-map (λ (x : RankMesh). x.maps.items) meshes r (one_of meshes r (rank_there laws b.mesh o n meshes pl.distributed r lr)) [] (rank_there laws b.mesh o n meshes pl.distributed r lr))
 
   are : AreArgs b.mesh (mesh laws b.mesh o n meshes pl.distributed r lr).sets.items places args
   are = record {

@@ -4,8 +4,6 @@ use Rattle.std.specs.Prelude.{◌&&◌, ◌||◌, ◌==◌, nat_eq, nat_lt}
 use Rattle.std.proofs.lemmas.Bool.{cases_lt, cond-true, and_parts, and_from, eqb-true, ltb-true}
 use Rattle.std.proofs.lemmas.List.{get_or_past}
 use Rattle.std.proofs.lemmas.List.FromFn.{length-map-range_with_len, get_or-map-range_with_len}
-use Rattle.rank_sets.specs.Below.{count_below, listed}
-use Rattle.rank_sets.proofs.Below.{length_listed, count_lt, listed_at, at_listed}
 use Rattle.mesh_decl.specs.declared.owners.Owners.{Owners}
 use Rattle.mesh_decl.specs.declared.owners.Perms.{Perms}
 use Rattle.mesh_decl.specs.Mesh.{set_size, dat_count, dat_set, dat_dim}
@@ -28,15 +26,6 @@ use Rattle.bound_plan.specs.Given.{HaloLaws}
 use Rattle.bound_plan.proofs.Halos.{any_at, owns_is, owner_is}
 use Rattle.bound_plan.proofs.Among.{among_at, at_among, among_pieces, piece_among}
 use Rattle.bound_plan.proofs.FrameFacts.{dat_cell}
-
--- ---- the numbers that pass a test
-
--- a number that passes stands in the list
-pub listed_has : (n x : ℕ) (t : ℕ → Bool) → x < n → t x ≡ true → (k : ℕ) × (k < length (listed n t)) × (get_or (listed n t) k 0 ≡ x)
-listed_has n x t l h = (count_below x t, omega (arith, length_listed n t, count_lt x n t l h), listed_at n x 0 t l h)
-
-pub has_listed : (n k : ℕ) (t : ℕ → Bool) → k < length (listed n t) → (get_or (listed n t) k 0 < n) × (t (get_or (listed n t) k 0) ≡ true)
-has_listed n k t l = let w = at_listed n k 0 t (omega (arith, length_listed n t)) in (w.0, w.1)
 
 module _ (b : BoundValue) where
   -- the cells of an element
@@ -75,7 +64,7 @@ module _ (halos : HaloLaws) (b : BoundValue) (o : Owners) (n : Perms) (meshes : 
       and_from (imports b.mesh o (dat_set b.mesh c.dat) c.element r) (owns o (dat_set b.mesh c.dat) c.element s) (either (dat_set b.mesh c.dat) c.element r w.1) (owns_is o (dat_set b.mesh c.dat) c.element s own) in
       let at = any_at (nat_eq c.dat) (item_plan p k).exchange v.0 in
       let same : c.dat ≡ get_or (item_plan p k).exchange at.0 0 = eqb-true c.dat (get_or (item_plan p k).exchange at.0 0) at.2 in
-      let el = listed_has g c.element (λ x. imports b.mesh o (dat_set b.mesh c.dat) x r && owns o (dat_set b.mesh c.dat) x s) (ltb-true c.element g w.0) test in
+      let el = (halos.listed g (λ x. imports b.mesh o (dat_set b.mesh c.dat) x r && owns o (dat_set b.mesh c.dat) x s)).has c.element (ltb-true c.element g w.0) test in
       let i : (nat_lt c.dat (dat_count b.mesh) ≡ true) × ((nat_lt c.element g && nat_lt c.component (dat_dim b.mesh c.dat)) ≡ true)
       = and_parts (nat_lt c.dat (dat_count b.mesh)) (nat_lt c.element g && nat_lt c.component (dat_dim b.mesh c.dat)) h in
       let j : (nat_lt c.element g ≡ true) × (nat_lt c.component (dat_dim b.mesh c.dat) ≡ true) = and_parts (nat_lt c.element g) (nat_lt c.component (dat_dim b.mesh c.dat)) i.1 in
@@ -90,7 +79,7 @@ module _ (halos : HaloLaws) (b : BoundValue) (o : Owners) (n : Perms) (meshes : 
   exchanged_there k j l = ⊎_elim
       (λ (h : k < length b.trace).
       let e = pl.proper.exchanges.in_order k h in
-      subst (λ z. get_or z j 0 < dat_count b.mesh) (sym e) (has_listed (dat_count b.mesh) j (exchanges b p k) (subst (λ z. j < length z) e l)).0)
+      subst (λ z. get_or z j 0 < dat_count b.mesh) (sym e) ((halos.listed (dat_count b.mesh) (exchanges b p k)).passes j (subst (λ z. j < length z) e l)).0)
       (λ (h : length b.trace ≤ k).
       let z : length (item_plan p k).exchange ≡ 0 = ap (λ (i : ItemPlanValue). length i.exchange) (get_or_past p.items k no_item_plan (omega (arith, pl.proper.items))) in
       absurd (omega arith))
@@ -105,7 +94,7 @@ module _ (halos : HaloLaws) (b : BoundValue) (o : Owners) (n : Perms) (meshes : 
       let x : ℕ = get_or (exported b.mesh o (dat_set b.mesh d) s r) v.0 0 in
       let w = among_cell b d x c v.2 in
       let el : (x < set_size b.mesh (dat_set b.mesh d)) × ((imports b.mesh o (dat_set b.mesh d) x r && owns o (dat_set b.mesh d) x s) ≡ true)
-      = has_listed (set_size b.mesh (dat_set b.mesh d)) v.0 (λ x. imports b.mesh o (dat_set b.mesh d) x r && owns o (dat_set b.mesh d) x s) v.1 in
+      = (halos.listed (set_size b.mesh (dat_set b.mesh d)) (λ x. imports b.mesh o (dat_set b.mesh d) x r && owns o (dat_set b.mesh d) x s)).passes v.0 v.1 in
       let own : owns o (dat_set b.mesh d) x s ≡ true = (and_parts (imports b.mesh o (dat_set b.mesh d) x r) (owns o (dat_set b.mesh d) x s) el.1).1 in
       let there : is_cell (setup_of b o meshes p) (layout_of b o meshes p) (record { dat = d; element = x; component = w.0 }) ≡ true =
       dat_cell halos b o meshes p pl.fits d x w.0 (exchanged_there k u.0 u.1) el.0 w.1 in (

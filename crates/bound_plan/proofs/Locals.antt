@@ -1,64 +1,62 @@
 -- What the local numbers of a rank say of the elements of the whole mesh.
-use Rattle.std.proofs.Common.{◌≡◌, ℕ, ◌<◌, ◌≤◌, ◌+◌, true, false, List, [], length, get_or, refl, sym, ap, subst, ◌∙◌, arith}
+use Rattle.std.proofs.Common.{◌≡◌, ℕ, ◌<◌, ◌≤◌, ◌+◌, true, false, List, [], length, get_or, sym, ap, subst, ◌∙◌, arith}
 use Rattle.std.specs.Prelude.{◌&&◌, ◌↔◌, nat_lt, Contains}
 use Rattle.std.proofs.lemmas.List.{get_or-map}
 use Rattle.std.proofs.lemmas.Bool.{ltb_from_iff}
 use Rattle.mesh_decl.specs.declared.owners.Owners.{Owners}
 use Rattle.mesh_decl.specs.declared.owners.Perms.{Perms}
 use Rattle.mesh_decl.specs.Mesh.{MeshValue, set_count, set_size}
-use Rattle.mesh_decl.proofs.FieldReads.{some_in}
 use Rattle.halo_lists.specs.Halo.{owns, executes, has_copy, is_core}
 use Rattle.local_mesh.specs.declared.types.LocalSet.{LocalSet}
 use Rattle.local_mesh.specs.declared.types.RankMesh.{RankMesh}
 use Rattle.local_mesh.specs.LocalMesh.{IsLocalSet, IsRankMesh, originals_in, executed_in}
 use Rattle.local_mesh.specs.Numbers as numbers
-use Rattle.local_mesh.proofs.Stands.{contains_at, contains_get}
 use Rattle.loop_plan.specs.Pairs.{sets_of, own_in, core_in}
 use Rattle.loop_plan.specs.Distributed.{IsDistributed}
 use Rattle.bound_plan.specs.Places.{originals, original_at, local_at}
 use Rattle.bound_plan.specs.Given.{NumberLaws}
-use Rattle.bound_plan.proofs.Places.{first_stands, first_is}
+use Rattle.bound_plan.proofs.Places.{one_of, at_place, place_of, first_stands, first_is}
 
 module _ (laws : NumberLaws) (g : MeshValue) (o : Owners) (n : Perms) (meshes : List RankMesh) (d : IsDistributed g o n meshes) (r : ℕ) (lr : r < o.ranks) where
   pub rank_there : r < length meshes
   rank_there = subst (λ z. r < z) (sym d.are_meshes.count) lr
 
   abbrev pub mesh : RankMesh
-  mesh = get_or meshes r (some_in meshes r rank_there)
+  mesh = get_or meshes r (one_of meshes r rank_there)
 
   pub is_mesh : IsRankMesh g o n r mesh
-  is_mesh = d.are_meshes.ranks r (some_in meshes r rank_there) lr
+  is_mesh = d.are_meshes.ranks r (one_of meshes r rank_there) lr
 
   pub sets_are : mesh.sets.items ≡ sets_of meshes r
   unfolding sets_of
-  sets_are = sym (get_or-map (λ (x : RankMesh). x.sets.items) meshes r (some_in meshes r rank_there) [] rank_there)
+  sets_are = sym (get_or-map (λ (x : RankMesh). x.sets.items) meshes r (one_of meshes r rank_there) [] rank_there)
 
   module _ (s : ℕ) (ls : s < set_count g) where
     pub set_there : s < length mesh.sets.items
     set_there = subst (λ z. s < z) (sym is_mesh.sets_count) ls
 
     abbrev set : LocalSet
-    set = get_or mesh.sets.items s (some_in mesh.sets.items s set_there)
+    set = get_or mesh.sets.items s (one_of mesh.sets.items s set_there)
 
     is_set : IsLocalSet g o n s r set
-    is_set = is_mesh.sets s (some_in mesh.sets.items s set_there) ls
+    is_set = is_mesh.sets s (one_of mesh.sets.items s set_there) ls
 
     originals_are : set.original ≡ originals meshes r s
     unfolding originals_in
     originals_are =
-        sym (get_or-map (λ (x : LocalSet). x.original) mesh.sets.items s (some_in mesh.sets.items s set_there) [] set_there)
+        sym (get_or-map (λ (x : LocalSet). x.original) mesh.sets.items s (one_of mesh.sets.items s set_there) [] set_there)
         ∙ ap (λ z. originals_in z s) sets_are
 
     own_is : set.own ≡ own_in (sets_of meshes r) s
     unfolding own_in
     own_is =
-        sym (get_or-map (λ (x : LocalSet). x.own) mesh.sets.items s (some_in mesh.sets.items s set_there) 0 set_there)
+        sym (get_or-map (λ (x : LocalSet). x.own) mesh.sets.items s (one_of mesh.sets.items s set_there) 0 set_there)
         ∙ ap (λ z. own_in z s) sets_are
 
     executed_is : set.own + set.exec ≡ executed_in (sets_of meshes r) s
     unfolding executed_in
     executed_is =
-        sym (get_or-map (λ (x : LocalSet). x.own + x.exec) mesh.sets.items s (some_in mesh.sets.items s set_there) 0 set_there)
+        sym (get_or-map (λ (x : LocalSet). x.own + x.exec) mesh.sets.items s (one_of mesh.sets.items s set_there) 0 set_there)
         ∙ ap (λ z. executed_in z s) sets_are
 
     pub few : executed_in (sets_of meshes r) s ≤ length (originals meshes r s)
@@ -73,7 +71,7 @@ module _ (laws : NumberLaws) (g : MeshValue) (o : Owners) (n : Perms) (meshes : 
     cores_are : set.core.items ≡ core_in (sets_of meshes r) s
     unfolding core_in
     cores_are =
-        sym (get_or-map (λ (x : LocalSet). x.core.items) mesh.sets.items s (some_in mesh.sets.items s set_there) [] set_there)
+        sym (get_or-map (λ (x : LocalSet). x.core.items) mesh.sets.items s (one_of mesh.sets.items s set_there) [] set_there)
         ∙ ap (λ z. core_in z s) sets_are
 
     pub apart : (j k : ℕ) → j < length (originals meshes r s) → k < length (originals meshes r s) → original_at meshes r s j ≡ original_at meshes r s k → j ≡ k
@@ -104,11 +102,11 @@ module _ (laws : NumberLaws) (g : MeshValue) (o : Owners) (n : Perms) (meshes : 
     pub stands : (e : ℕ) → e < set_size g s → has_copy g o s e r ≡ true → (local_at meshes r s e < length (originals meshes r s)) × (original_at meshes r s (local_at meshes r s e) ≡ e)
     stands e le h =
         let c : Contains (originals meshes r s) e = (copies e).1 (le, h) in
-        first_stands (originals meshes r s) e c.0 c.1 (contains_get (originals meshes r s) e c)
+        first_stands (originals meshes r s) e c.0 c.1 (place_of (originals meshes r s) e c)
 
     -- the element with a local number is one of which the rank has a copy, and has this number
     pub is_copy : (k : ℕ) → k < length (originals meshes r s) → (original_at meshes r s k < set_size g s) × (has_copy g o s (original_at meshes r s k) r ≡ true)
-    is_copy k l = (copies (original_at meshes r s k)).0 (contains_at (originals meshes r s) k (original_at meshes r s k) l refl)
+    is_copy k l = (copies (original_at meshes r s k)).0 (at_place (originals meshes r s) k l)
 
     pub local_is : (k : ℕ) → k < length (originals meshes r s) → local_at meshes r s (original_at meshes r s k) ≡ k
     local_is k l = first_is (originals meshes r s) k apart l

@@ -1,12 +1,10 @@
 -- The cells of messages.
-use Rattle.std.proofs.Common.{◌≡◌, ◌<◌, ℕ, Bool, true, List, length, get_or, flat_map, refl, sym, ap, subst, ◌∙◌, ⊎_elim, arith}
+use Rattle.std.proofs.Common.{◌≡◌, ◌<◌, ℕ, true, List, length, get_or, flat_map, refl, sym, ap, subst, ◌∙◌, ⊎_elim, arith}
 use Rattle.std.specs.Prelude.{◌&&◌, ◌||◌, ◌==◌, nat_eq, nat_lt}
 use Rattle.std.proofs.lemmas.Bool.{cases_lt, cond-true, and_parts, and_from, eq-eqb, lt-ltb}
 use Rattle.std.proofs.lemmas.List.{get_or_past}
 use Rattle.std.proofs.lemmas.List.Folds.{list_any_at}
 use Rattle.std.proofs.lemmas.List.FromFn.{length-map-range_with_len, get_or-map-range_with_len}
-use Rattle.rank_sets.specs.Below.{listed, count_below}
-use Rattle.rank_sets.proofs.Below.{length_listed, at_listed}
 use Rattle.mesh_decl.specs.declared.owners.Owners.{Owners}
 use Rattle.mesh_decl.specs.declared.owners.Perms.{Perms}
 use Rattle.mesh_decl.specs.Mesh.{set_size, dat_count, dat_set, dat_dim}
@@ -32,14 +30,7 @@ use Rattle.bound_plan.specs.Given.{HaloLaws}
 use Rattle.bound_plan.proofs.Halos.{any_at, owner_is}
 use Rattle.bound_plan.proofs.Among.{at_among, among_pieces, piece_among}
 use Rattle.bound_plan.proofs.Onces.{Apart, once_of, once_pieces}
-use Rattle.bound_plan.proofs.Exports.{listed_has, has_listed, cell_among, among_cell, exchanged_there}
-
--- the numbers that pass a test stand at one place each
-listed_apart : (n : ℕ) (t : ℕ → Bool) → Apart (listed n t)
-listed_apart n t i j li lj e =
-    let a = at_listed n i 0 t (omega (arith, length_listed n t)) in
-    let b = at_listed n j 0 t (omega (arith, length_listed n t)) in
-    sym a.2 ∙ ap (λ z. count_below z t) e ∙ b.2
+use Rattle.bound_plan.proofs.Exports.{cell_among, among_cell, exchanged_there}
 
 abbrev dat_of : Cell → ℕ
 dat_of (Data c) = c.dat
@@ -69,7 +60,7 @@ module _ (b : BoundValue) where
       let c : get_or (cells_in b (Element d x)) j no_cell ≡ cell_in (Element d x) j = get_or-map-range_with_len (cell_in (Element d x)) 0 (dat_dim b.mesh d) j j no_cell (omega arith) (omega arith) in
       ap component_of (sym a ∙ e ∙ c))
 
-  module _ (o : Owners) (s r : ℕ) where
+  module _ (halos : HaloLaws) (o : Owners) (s r : ℕ) where
     abbrev row : ℕ → List Cell
     row d = flat_map (λ x. cells_in b (Element d x)) (exported b.mesh o (dat_set b.mesh d) s r)
 
@@ -83,7 +74,7 @@ module _ (b : BoundValue) where
     row_once d = once_pieces (λ x. cells_in b (Element d x)) element_of
         (λ x c h. let w = tells d x c h in ap element_of (sym w.2))
         (exported b.mesh o (dat_set b.mesh d) s r) (λ k l. cells_once d (get_or (exported b.mesh o (dat_set b.mesh d) s r) k 0))
-        (listed_apart (set_size b.mesh (dat_set b.mesh d)) (λ x. imports b.mesh o (dat_set b.mesh d) x r && owns o (dat_set b.mesh d) x s))
+        (halos.listed (set_size b.mesh (dat_set b.mesh d)) (λ x. imports b.mesh o (dat_set b.mesh d) x r && owns o (dat_set b.mesh d) x s)).once
 
     rows_once : (dats : List ℕ) → Apart dats → Once (exported_cells b o dats s r)
     rows_once dats apart = once_pieces row dat_of row_tells dats (λ k l. row_once (get_or dats k 0)) apart
@@ -92,7 +83,7 @@ module _ (halos : HaloLaws) (b : BoundValue) (o : Owners) (n : Perms) (meshes : 
   exchange_apart : (k : ℕ) → Apart (item_plan p k).exchange
   unfolding item_plan
   exchange_apart k = ⊎_elim
-      (λ (h : k < length b.trace). subst Apart (sym (pl.proper.exchanges.in_order k h)) (listed_apart (dat_count b.mesh) (exchanges b p k)))
+      (λ (h : k < length b.trace). subst Apart (sym (pl.proper.exchanges.in_order k h)) (halos.listed (dat_count b.mesh) (exchanges b p k)).once)
       (λ h i j li lj e.
       let z : length (item_plan p k).exchange ≡ 0 = ap (λ (i : ItemPlanValue). length i.exchange) (get_or_past p.items k no_item_plan (omega (arith, pl.proper.items))) in
       absurd (omega arith))
@@ -110,7 +101,7 @@ module _ (halos : HaloLaws) (b : BoundValue) (o : Owners) (n : Perms) (meshes : 
       let x : ℕ = get_or (exported b.mesh o (dat_set b.mesh d) s r) v.0 0 in
       let w = among_cell b d x c v.2 in
       let el : (x < set_size b.mesh (dat_set b.mesh d)) × ((imports b.mesh o (dat_set b.mesh d) x r && owns o (dat_set b.mesh d) x s) ≡ true)
-      = has_listed (set_size b.mesh (dat_set b.mesh d)) v.0 (λ x. imports b.mesh o (dat_set b.mesh d) x r && owns o (dat_set b.mesh d) x s) v.1 in
+      = (halos.listed (set_size b.mesh (dat_set b.mesh d)) (λ x. imports b.mesh o (dat_set b.mesh d) x r && owns o (dat_set b.mesh d) x s)).passes v.0 v.1 in
       let t : (imports b.mesh o (dat_set b.mesh d) x r ≡ true) × (owns o (dat_set b.mesh d) x s ≡ true) = and_parts (imports b.mesh o (dat_set b.mesh d) x r) (owns o (dat_set b.mesh d) x s) el.1 in
       let inside : nat_lt x (set_size b.mesh (dat_set b.mesh d)) ≡ true = lt-ltb x (set_size b.mesh (dat_set b.mesh d)) el.0 in
       let y : DatCell = record { dat = d; element = x; component = w.0 } in
@@ -130,7 +121,7 @@ module _ (halos : HaloLaws) (b : BoundValue) (o : Owners) (n : Perms) (meshes : 
       let ld : d < dat_count b.mesh = exchanged_there halos b o n meshes p pl k u.0 u.1 in
       let dat = halos.dats b.mesh pl.fits.mesh d ld in
       let w = (halos.messages b.mesh o n meshes pl.distributed.are_perms pl.distributed.are_meshes s r (dat_set b.mesh d) ls lr dat.set).0 u.2 in
-      let el = listed_has (set_size b.mesh (dat_set b.mesh d)) w.0 (λ x. imports b.mesh o (dat_set b.mesh d) x r && owns o (dat_set b.mesh d) x s) w.1
+      let el = (halos.listed (set_size b.mesh (dat_set b.mesh d)) (λ x. imports b.mesh o (dat_set b.mesh d) x r && owns o (dat_set b.mesh d) x s)).has w.0 w.1
       (and_from (imports b.mesh o (dat_set b.mesh d) w.0 r) (owns o (dat_set b.mesh d) w.0 s) w.2 w.3) in
       let c : Cell = Data (record { dat = d; element = w.0; component = 0 }) in
       let m : among (exported_cells b o (item_plan p k).exchange s r) c ≡ true =
@@ -143,7 +134,7 @@ module _ (halos : HaloLaws) (b : BoundValue) (o : Owners) (n : Perms) (meshes : 
 
   pub messages : AreMessages b o meshes p
   messages = record {
-    once = λ k s r. rows_once b o s r (item_plan p k).exchange (exchange_apart k);
+    once = λ k s r. rows_once b halos o s r (item_plan p k).exchange (exchange_apart k);
     arrive = arriving;
     some = some;
   }

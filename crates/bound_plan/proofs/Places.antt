@@ -1,8 +1,21 @@
--- Where a number first stands in a list.
+-- Where a number stands in a list.
 use Rattle.std.proofs.Common.{◌≡◌, ℕ, zero, suc, ◌<◌, true, false, List, [], ◌∷◌, length, get_or, refl, sym, ap, subst, ◌∙◌, arith, ⊎_elim}
-use Rattle.std.specs.Prelude.{◌==◌}
+use Rattle.std.specs.Prelude.{◌==◌, Contains}
+use Rattle.std.proofs.lemmas.List.{get_or_default}
 use Rattle.std.proofs.lemmas.Bool.{cases_Bool, cond-true, cond-false, eqb-true, eq-eqb}
 use Rattle.bound_plan.specs.Places.{first_place}
+
+-- an element of a list that has some
+pub one_of : {X : Type 0} (xs : List X) (k : ℕ) → k < length xs → X
+one_of [] k l = absurd (omega arith)
+one_of (x ∷ xs) k l = x
+
+-- the list has the number at a place
+pub at_place : (xs : List ℕ) (k : ℕ) → k < length xs → Contains xs (get_or xs k 0)
+at_place xs k l = (k, l, get_or_default xs k (get_or xs k 0) 0 l)
+
+pub place_of : (xs : List ℕ) (x : ℕ) (c : Contains xs x) → get_or xs c.0 0 ≡ x
+place_of xs x c = get_or_default xs c.0 0 x c.1 ∙ c.2
 
 -- a number of the list stands at its first place
 pub first_stands : (xs : List ℕ) (x k : ℕ) → k < length xs → get_or xs k 0 ≡ x → (first_place xs x < length xs) × (get_or xs (first_place xs x) 0 ≡ x)

@@ -1,10 +1,11 @@
 -- The laws of the lower crates on which the proofs rest.
-use Rattle.std.specs.Prelude.{◌≡◌, ◌≢◌, ◌↔◌, ◌<◌, ℕ, true, List, Contains}
+use Rattle.std.specs.Prelude.{◌≡◌, ◌≢◌, ◌↔◌, ◌<◌, ℕ, Bool, true, List, Contains}
 use Rattle.mesh_decl.specs.declared.owners.Owners.{Owners}
 use Rattle.mesh_decl.specs.declared.owners.Perms.{Perms}
 use Rattle.mesh_decl.specs.Mesh.{MeshValue, IsMesh, IsMapAt, IsDatAt, set_count, map_count, dat_count, set_size}
 use Rattle.mesh_decl.specs.Mesh.{map_from, map_to, map_dim, target}
 use Rattle.mesh_decl.specs.Owners.{IsNumbering, ArePerms, owner_of, perm_in}
+use Rattle.rank_sets.specs.Below.{HasNumbers}
 use Rattle.halo_lists.specs.Halo.{has_copy, owns, executes, imports, imports_execute, is_core}
 use Rattle.local_mesh.specs.declared.types.LocalSet.{LocalSet}
 use Rattle.local_mesh.specs.LocalMesh.{IsLocalSet, AreRankMeshes}
@@ -78,6 +79,7 @@ pub record HaloLaws : Type 0 where
       → (imports_from (sets_of meshes s) (sets_of meshes r) t ≡ true)
       ↔ ((x : ℕ) × (x < set_size g t) × (imports g o t x r ≡ true) × (owns o t x s ≡ true))
   pub conflicts : CommonTargetsConflict
+  pub listed : (n : ℕ) (t : ℕ → Bool) → HasNumbers n t
 
 -- the laws of kernels and of the values of runs
 pub record KernelLaws : Type 0 where

@@ -4,10 +4,12 @@
 //! is said of owners, halos and local numbers is said by these.
 #![tactic(auto)]
 
+mod laws;
 mod lists;
 mod rank_set;
 #[cfg(test)]
 mod tests;
 
+pub use laws::numbers_are_listed;
 pub use lists::{empty_lists, places_by_rank, push_each};
 pub use rank_set::RankSet;

@@ -18,6 +18,7 @@ returns c = record {
     dats = c.declarations_hold.ensures.dats;
     messages = c.imports_are_exports.ensures;
     conflicts = c.common_targets_conflict.ensures;
+    listed = c.numbers_are_listed.ensures;
   };
   outlines = c.alike_outlines_accept_alike.ensures;
 }
