@@ -6,6 +6,7 @@
 mod flux;
 mod run;
 
+use kernel_code::compile;
 use kernel_types::is_resolved;
 use op_num::read_u64;
 use std::alloc::Global;
@@ -34,10 +35,11 @@ fn ran(alloc: Global, edges: u32) -> Option<(u32, i32)> {
     let cells = edges / 2 + 1;
     let kernel = flux::flux(alloc).ok()?;
     let mut memory = run::filled(alloc, cells).ok()?;
-    if !is_resolved(&kernel, 0) || kernel.params != 6 || kernel.scratch != 1 {
+    let code = compile(alloc, &kernel).ok()?;
+    if !is_resolved(&kernel, 0) || kernel.params != 6 || code.slots > 8 {
         return None;
     }
-    let done = run::run_edges(&kernel, &mut memory, cells, edges);
+    let done = run::run_edges(&code, &mut memory, cells, edges);
     Some((done, run::sum_from(&memory, 2 * cells as usize)))
 }
 

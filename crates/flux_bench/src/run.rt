@@ -2,9 +2,9 @@
 
 ghost use Rattle.std.specs.Prelude.{◌≡◌, ◌<◌, ◌≤◌, ◌^◌};
 ghost use Rattle.kernel_types.specs.Resolved.{IsResolved};
+ghost use Rattle.kernel_code.specs.Coded.{IsCode};
 
-use kernel_eval::run_on;
-use kernel_types::RKernel;
+use kernel_code::{Code, run_on};
 use op_num::wrap_add;
 use std::alloc::{AllocError, Global};
 use views::{Place, are_places_in};
@@ -48,21 +48,22 @@ fn places_of(a: u32, b: u32, cells: u32) -> [Place; 6] {
     ]
 }
 
-/// Runs the kernel for each edge; how many edges had no fault.
-pub fn run_edges(kernel: &RKernel, memory: &mut [i32], cells: u32, edges: u32) -> u32
-    requires resolved { IsResolved 0 kernel.now }
-    requires params { kernel.now.params ≡ 6 }
-    requires scratch { kernel.now.scratch ≡ 1 }
+/// Runs the code of a kernel for each edge; how many edges had no fault.
+pub fn run_edges(code: &Code<'_>, memory: &mut [i32], cells: u32, edges: u32) -> u32
+    requires code { IsCode code.now }
+    requires resolved { IsResolved 0 code.now.kernel.now }
+    requires params { code.now.kernel.now.params ≡ 6 }
+    requires slots { code.now.slots ≤ 8 }
     requires cells { 0 < cells }
 {
     let mut done = 0u32;
-    let mut scratch = [0; 1];
+    let mut scratch = [0; 8];
     for edge in 0..edges {
         let a = edge % cells;
         let b = (edge as u64 * 31 + 1) % cells as u64;
         let places = places_of(a, b as u32, cells);
         if are_places_in(&places, memory.len())
-            && run_on(kernel, memory, &places, &[], &mut scratch).is_ok()
+            && run_on(code, memory, &places, &[], &mut scratch).is_ok()
         {
             done = done.saturating_add(1);
         }

@@ -13,7 +13,7 @@ ghost use Rattle.main_names.specs.Walks.{declared_of};
 use bind_refusals::{BindRefusal, Counted, Found, Turn, note_if, note_in, note_over, place};
 use bound_program::{MAX_CELLS, MAX_DIM, MAX_SIZE};
 use c_tree::{Ident, NumberLiteral, TextLiteral};
-use kernel_eval::KernelFault;
+use kernel_types::KernelFault;
 use main_names::{Declared, Source, set_of, set_size};
 use mesh_decl::{Entries, Entry, Mesh};
 use op_num::{Name, OutOfMemory, Text};

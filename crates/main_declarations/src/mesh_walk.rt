@@ -17,8 +17,7 @@ use crate::mesh_notes::{
 use bind_refusals::{BindRefusal, Counted, Found, Turn, note_if, note_over, place};
 use bound_program::{MAX_DATS, MAX_MAPS, MAX_SETS};
 use c_tree::{Expr, Ident, NumberLiteral, TextLiteral};
-use kernel_eval::KernelFault;
-use kernel_types::RExpr;
+use kernel_types::{KernelFault, RExpr};
 use main_names::{
     Declared, Meaning, Source, first_token, is_extern_array, is_static, known, or_zero, resolved,
     set_of, values_named,

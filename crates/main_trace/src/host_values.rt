@@ -3,10 +3,10 @@
 ghost use Rattle.std.specs.Prelude.{◌≡◌, ◌+◌, pos, slice_index_or};
 ghost use Rattle.bound_program.specs.HostExpr.{host_expr_of, value};
 
-use kernel_eval::{
+use kernel_types::RExpr;
+use operators::{
     KernelFault, absolute, apply_op, apply_unary_op, extreme, index_of, settles, truth_of,
 };
-use kernel_types::RExpr;
 
 // The cell with this number behind the first ones, or 0 where there is none.
 fn cell_behind(cells: &[i32], from: usize, index: usize) -> i32

@@ -1,5 +1,5 @@
 -- The loop of an item is there, with its kernel.
-use Rattle.std.proofs.Common.{◌≡◌, ◌<◌, ◌≤◌, ℕ, zero, suc, ℤ, true, List, [], ◌∷◌, ◌++◌, map, length, get_or, take, drop, sum_by, Some, refl, sym, ap, ◌∙◌, subst, arith}
+use Rattle.std.proofs.Common.{◌≡◌, ◌<◌, ℕ, zero, suc, ℤ, true, List, [], ◌∷◌, ◌++◌, map, length, get_or, take, drop, sum_by, Some, refl, sym, ap, ◌∙◌, subst, arith}
 use Rattle.std.proofs.lemmas.List.{length-map, get_or-map, append-nil, drop_all, take_all}
 use Rattle.kernel_types.specs.declared.kernels.RKernel.{RKernel}
 use Rattle.kernel_types.specs.Resolved.{IsResolved}
@@ -13,7 +13,6 @@ use Rattle.run_model.specs.Laws.{IsLoopOf, LoopsAreThere}
 use Rattle.run_model.specs.Constants.{AreNumbered}
 use Rattle.run_model.specs.Programs.{item_at, kind_of, loop_of}
 use Rattle.sequential_run.specs.Conditions.{LoopsObey}
-use Rattle.sequential_run.specs.Layouts.{HasRoom}
 
 -- a loop, as it is read
 pub site_is : (xs : List Site) (n : ℕ) (x : Site) → n < length xs → x ≡ get_or xs n x → get_or (map site_of xs) n no_site ≡ site_of x
@@ -51,9 +50,6 @@ module _ (b : BoundValue) (fits : Fits b) where
     pub resolved : AreNumbered b → (consts : ℕ) → consts ≡ length (constants b) → IsResolved consts f
     resolved numbered consts long = subst (λ n. IsResolved n f) (sym (long ∙ numbered.count))
         (subst (λ (x : RKernel). IsResolved (sum_by constant_cells b.vars) x) (sym is) (fits.kernels site.kernel f there).resolved)
-
-    pub has_room : (n : ℕ) → HasRoom b.kernels n → f.scratch ≤ n
-    has_room n h = let r = h site.kernel f there in let same : f.scratch ≡ (get_or b.kernels site.kernel f).scratch = ap (λ (x : RKernel). x.scratch) is in omega (arith, r, same)
 
     pub is_loop_of : LoopsAreThere → LoopsObey b → (k : ℕ) → laws.site_of b k ≡ site → is_loop (kind_of (item_at b k)) ≡ true → IsLoopOf b k f
     is_loop_of there_is obey k same h =

@@ -1,6 +1,5 @@
 -- Where the dats and the variables begin in the memory of a run, and what it holds.
 use Rattle.std.specs.Prelude.{◌≡◌, ◌<◌, ◌+◌, ◌≤◌, ◌⊎◌, ℕ, ℤ, List, map, length, Option, Some, None, slice_index, slice_index_or, pos}
-use Rattle.kernel_types.specs.declared.kernels.RKernel.{RKernel}
 use Rattle.mesh_decl.specs.declared.access.Via.{Via}
 use Rattle.mesh_decl.specs.Mesh.{dat_count, map_count, map_from, map_to, map_dim, set_size, dat_set}
 use Rattle.schedule_model.specs.Cells.{Variable}
@@ -44,10 +43,6 @@ ArgThere b e (Global v a) = v < length b.vars
 -- the values of the constants that kernels read, in a memory
 abbrev pub constants_in : BoundValue → List ℤ → List ℤ
 constants_in b m = map (λ v. slice_index_or m (place_of b (Variable v)) (pos 0)) (constants b)
-
--- each kernel's locals have room
-abbrev pub HasRoom : List RKernel → ℕ → Type 0
-HasRoom kernels n = (k : ℕ) (d : RKernel) → k < length kernels → (slice_index_or kernels k d).scratch ≤ n
 
 -- the cells of a variable's constants are those that begin there in the memory, and all others stay
 abbrev pub CopiedFrom : Option ℕ → (count start : ℕ) → (memory old new : List ℤ) → Type 0

@@ -20,10 +20,10 @@ use crate::layout::Layout;
 use crate::places::{dat_place, var_place};
 use bound_program::{Act, Bound};
 use gather::{print_dat, print_line};
-use kernel_eval::{index_of, stored_value};
 use kernel_types::{AssignOp, KernelFault, Pos, RExpr};
 use main_trace::host_value;
 use op_num::{OutOfMemory, Text};
+use operators::{index_of, stored_value};
 use std::alloc::Global;
 use views::Place;
 

@@ -12,7 +12,8 @@ ghost use Rattle.run_model.specs.Hosts.{act_run};
 ghost use Rattle.run_model.specs.Memory.{Holds, memory_length};
 ghost use Rattle.run_model.specs.Programs.{item_at, kind_of, loop_of, program_of};
 ghost use Rattle.sequential_run.specs.Conditions.{LoopsObey};
-ghost use Rattle.sequential_run.specs.Layouts.{Begins, HasRoom};
+ghost use Rattle.kernel_code.specs.Codes.{AreCodesOf, HaveRoom};
+ghost use Rattle.sequential_run.specs.Layouts.{Begins};
 ghost use Rattle.sequential_run.specs.States.{StateFits};
 ghost use Rattle.sequential_run.specs.Steps.{loop_run, LoopEnds, Ends};
 
@@ -22,19 +23,21 @@ use crate::layout::Layout;
 use crate::loops::{Looped, run_elements};
 use crate::outcome::Stop;
 use bound_program::{Act, Bound, Item, Site};
+use kernel_code::Code;
 use kernel_types::KernelFault;
 use op_num::OutOfMemory;
 use std::alloc::Global;
 
-/// The program that is run, with where its dats and variables begin in the memory.
+/// The program that is run, with the codes of its kernels and where its dats and variables begin in the memory.
 #[derive(Drop)]
 pub struct Running<'a> {
     pub alloc: Global,
     pub bound: &'a Bound,
+    pub codes: &'a [Code<'a>],
     pub layout: &'a Layout,
 }
 
-/// What a run has: the memory of all cells, the constants that kernels read, their locals, and what was printed so far.
+/// What a run has: the memory of all cells, the constants that kernels read, the slots of their codes, and what was printed so far.
 #[derive(Drop)]
 pub struct State {
     pub memory: Vec<i32>,
@@ -53,11 +56,12 @@ fn run_site(
 ) -> Result<(), (u32, KernelFault)>
     requires fits { Fits (bound_of all.now.bound.now) }
     requires obey { LoopsObey (bound_of all.now.bound.now) }
+    requires codes { AreCodesOf (bound_of all.now.bound.now).kernels all.now.codes.now }
     requires begins { Begins (bound_of all.now.bound.now) all.now.layout.now }
     requires site { SiteFits (bound_of all.now.bound.now) (site_of site.now) }
     requires memory { length memory.old ≡ memory_length (bound_of all.now.bound.now) }
     requires consts { length consts.old ≡ length (constants (bound_of all.now.bound.now)) }
-    requires scratch { HasRoom (bound_of all.now.bound.now).kernels (length scratch.old) }
+    requires scratch { HaveRoom all.now.codes.now (length scratch.old) }
     ensures { (k : ℕ) (s : Store)
         → laws.site_of (bound_of all.now.bound.now) k ≡ site_of site.now
         → is_loop (kind_of (item_at (bound_of all.now.bound.now) k)) ≡ true
@@ -72,7 +76,7 @@ fn run_site(
         bound: all.bound,
         layout: all.layout,
         site,
-        kernel: &all.bound.kernels[site.kernel as usize],
+        code: &all.codes[site.kernel as usize],
         consts,
     };
     run_elements(&looped, memory, scratch)
@@ -82,11 +86,12 @@ fn run_site(
 fn run_loop(all: &Running<'_>, k: u32, site: u32, state: &mut State) -> Option<Stop>
     requires fits { Fits (bound_of all.now.bound.now) }
     requires obey { LoopsObey (bound_of all.now.bound.now) }
+    requires codes { AreCodesOf (bound_of all.now.bound.now).kernels all.now.codes.now }
     requires begins { Begins (bound_of all.now.bound.now) all.now.layout.now }
-    requires state { StateFits (bound_of all.now.bound.now) state.old }
+    requires state { StateFits (bound_of all.now.bound.now) all.now.codes.now state.old }
     requires is_loop { is_loop (kind_of (item_at (bound_of all.now.bound.now) k)) ≡ true }
     requires site { loop_of (item_at (bound_of all.now.bound.now) k) ≡ site }
-    ensures state { StateFits (bound_of all.now.bound.now) state.new }
+    ensures state { StateFits (bound_of all.now.bound.now) all.now.codes.now state.new }
     ensures ends { (s : Store) → Holds (bound_of all.now.bound.now) state.old.memory.items s
         → Ends (bound_of all.now.bound.now) state.new.memory.items state.new.out.items result
         (after_loop k state.old.out.items (loop_run (bound_of all.now.bound.now) k s)) }
@@ -118,9 +123,9 @@ fn run_host(
     state: &mut State,
 ) -> Result<Option<Stop>, OutOfMemory>
     requires begins { Begins (bound_of all.now.bound.now) all.now.layout.now }
-    requires state { StateFits (bound_of all.now.bound.now) state.old }
+    requires state { StateFits (bound_of all.now.bound.now) all.now.codes.now state.old }
     requires act { ActFits (bound_of all.now.bound.now) (act_of act.now) }
-    ensures state { StateFits (bound_of all.now.bound.now) state.new }
+    ensures state { StateFits (bound_of all.now.bound.now) all.now.codes.now state.new }
     ensures ends { IfOk result (λ r. (s : Store) → Holds (bound_of all.now.bound.now) state.old.memory.items s
         → Ends (bound_of all.now.bound.now) state.new.memory.items state.new.out.items r
         (after_host k s state.old.out.items (act_run (bound_of all.now.bound.now) s (act_of act.now)))) }
@@ -153,10 +158,11 @@ pub fn run_item(
 ) -> Result<Option<Stop>, OutOfMemory>
     requires fits { Fits (bound_of all.now.bound.now) }
     requires obey { LoopsObey (bound_of all.now.bound.now) }
+    requires codes { AreCodesOf (bound_of all.now.bound.now).kernels all.now.codes.now }
     requires begins { Begins (bound_of all.now.bound.now) all.now.layout.now }
-    requires state { StateFits (bound_of all.now.bound.now) state.old }
+    requires state { StateFits (bound_of all.now.bound.now) all.now.codes.now state.old }
     requires item { item_at (bound_of all.now.bound.now) k ≡ item_of item.now }
-    ensures state { StateFits (bound_of all.now.bound.now) state.new }
+    ensures state { StateFits (bound_of all.now.bound.now) all.now.codes.now state.new }
     ensures ends { IfOk result (λ r. (s : Store) → Holds (bound_of all.now.bound.now) state.old.memory.items s
         → Ends (bound_of all.now.bound.now) state.new.memory.items state.new.out.items r
         (after_item (program_of (bound_of all.now.bound.now)) k (Going s state.old.out.items))) }

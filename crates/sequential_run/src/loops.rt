@@ -21,20 +21,20 @@ ghost use Rattle.sequential_run.specs.Ready.{IsReady};
 use crate::layout::Layout;
 use crate::places::put_places;
 use bound_program::{Bound, Site};
-use kernel_eval::run_on;
-use kernel_types::{KernelFault, RKernel};
+use kernel_code::{Code, run_on};
+use kernel_types::KernelFault;
 use views::Place;
 
 // As many as a loop has arguments at most.
 const MAX_ARGS: usize = 16;
 
-/// A loop with its kernel, and the values of all constants.
+/// A loop with the code of its kernel, and the values of all constants.
 #[derive(Drop)]
 pub struct Looped<'a> {
     pub bound: &'a Bound,
     pub layout: &'a Layout,
     pub site: &'a Site,
-    pub kernel: &'a RKernel,
+    pub code: &'a Code<'a>,
     pub consts: &'a [i32],
 }
 
@@ -50,11 +50,11 @@ fn run_element(
     requires element { element < set_size all.now.bound.now.mesh all.now.site.now.set }
     requires places { length places.old ≡ length all.now.site.now.args.items }
     ensures { ran_of (memory.new ∷ []) result
-        ≡ kernel_meaning (spans (bound_of all.now.bound.now) all.now.site.now.args.items element) all.now.consts.now all.now.kernel.now
+        ≡ kernel_meaning (spans (bound_of all.now.bound.now) all.now.site.now.args.items element) all.now.consts.now all.now.code.now.kernel.now
         (memory.old ∷ []) }
 {
     put_places(all.bound, all.layout, &all.site.args, element, places);
-    run_on(all.kernel, memory, places, all.consts, scratch)
+    run_on(all.code, memory, places, all.consts, scratch)
 }
 
 /// Runs a loop's elements in order, up to the first that faults, whose number and fault are the error.
@@ -67,7 +67,7 @@ pub fn run_elements(
     requires ready { IsReady all.now (length memory.old) (length scratch.old) }
     ensures { (k : ℕ) (s : Store)
         → laws.site_of (bound_of all.now.bound.now) k ≡ site_of all.now.site.now
-        → IsLoopOf (bound_of all.now.bound.now) k all.now.kernel.now
+        → IsLoopOf (bound_of all.now.bound.now) k all.now.code.now.kernel.now
         → Holds (bound_of all.now.bound.now) memory.old s
         → all.now.consts.now ≡ constant_values (bound_of all.now.bound.now) s
         → LoopEnds (bound_of all.now.bound.now) memory.new result (loop_run (bound_of all.now.bound.now) k s) }

@@ -5,7 +5,8 @@ ghost use Rattle.bound_program.specs.Values.{bound_of, var_of};
 ghost use Rattle.bound_program.specs.Fits.{Fits, constant_cells};
 ghost use Rattle.run_model.specs.Memory.{Holds};
 ghost use Rattle.run_model.specs.Programs.{program_of, run_of_program};
-ghost use Rattle.sequential_run.specs.Layouts.{Begins, HasRoom};
+ghost use Rattle.kernel_code.specs.Codes.{AreCodesOf};
+ghost use Rattle.sequential_run.specs.Layouts.{Begins};
 ghost use Rattle.sequential_run.specs.Outcomes.{IsRunOf};
 ghost use Rattle.sequential_run.specs.States.{StateFits};
 ghost use Rattle.sequential_run.specs.Steps.{Ends};
@@ -15,23 +16,9 @@ use crate::items::{Running, State, run_item};
 use crate::layout::lay_out;
 use crate::outcome::{Outcome, Stop};
 use bound_program::{Bound, Var};
-use kernel_types::RKernel;
+use kernel_code::{compile_all, room_for};
 use op_num::OutOfMemory;
 use std::alloc::Global;
-
-// How many cells the largest of the kernels' scratches has.
-fn room_for(kernels: &[RKernel]) -> usize
-    ensures { HasRoom kernels.now result }
-{
-    let mut room: usize = 0;
-    for kernel in kernels {
-        let scratch = kernel.scratch as usize;
-        if room < scratch {
-            room = scratch;
-        }
-    }
-    room
-}
 
 // As many cells as there are constants, all 0.
 fn no_constants(alloc: Global, vars: &[Var]) -> Result<Vec<i32>, OutOfMemory>
@@ -50,8 +37,9 @@ fn no_constants(alloc: Global, vars: &[Var]) -> Result<Vec<i32>, OutOfMemory>
 fn run_items(all: &Running<'_>, state: &mut State) -> Result<Option<Stop>, OutOfMemory>
     requires fits { Fits (bound_of all.now.bound.now) }
     requires obey { LoopsObey (bound_of all.now.bound.now) }
+    requires codes { AreCodesOf (bound_of all.now.bound.now).kernels all.now.codes.now }
     requires begins { Begins (bound_of all.now.bound.now) all.now.layout.now }
-    requires state { StateFits (bound_of all.now.bound.now) state.old }
+    requires state { StateFits (bound_of all.now.bound.now) all.now.codes.now state.old }
     requires memory { Holds (bound_of all.now.bound.now) state.old.memory.items (program_of (bound_of all.now.bound.now)).start }
     requires out { state.old.out.items ≡ [] }
     ensures { IfOk result (λ r. Ends (bound_of all.now.bound.now) state.new.memory.items state.new.out.items r
@@ -68,7 +56,7 @@ fn run_items(all: &Running<'_>, state: &mut State) -> Result<Option<Stop>, OutOf
 /// The sequential run of a bound program: what it prints, and where it stops at its first fault.
 ///
 /// Items go in order, each loop one element after another in its set's original order. An element that faults leaves
-/// what was stored before; what was printed before a fault stays.
+/// what was stored before; what was printed before a fault stays. Each kernel is compiled once, before the first item.
 ///
 /// # Errors
 /// Want of memory alone.
@@ -80,16 +68,18 @@ pub fn run(alloc: Global, bound: &Bound) -> Result<Outcome, OutOfMemory>
     run_model::memory_holds();
     run_model::constants_are_read();
     bound.mesh.dat_count();
+    let codes = compile_all(alloc, &bound.kernels)?;
     let (layout, memory) = lay_out(alloc, bound)?;
     let mut state = State {
         memory,
         consts: no_constants(alloc, &bound.vars)?,
-        scratch: vec![in alloc; 0; room_for(&bound.kernels)]?,
+        scratch: vec![in alloc; 0; room_for(&codes)]?,
         out: Vec::new(alloc),
     };
     let all = Running {
         alloc,
         bound,
+        codes: &codes,
         layout: &layout,
     };
     let stop = run_items(&all, &mut state)?;

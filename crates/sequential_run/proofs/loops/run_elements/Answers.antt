@@ -9,7 +9,7 @@ returns-in-Err c k s same is holds consts =
     let a = c.args.all.now in
     let b = bound_of a.bound.now in
     breaks b c.elements_run_on_memory.ensures c.loops_keep.ensures.reads c.constants_are_read.ensures.numbered c.constants_are_read.ensures.read
-    c.map_count.ensures.maps c.requires.fits k a.kernel.now (site_of a.site.now) same c.requires.ready.site is
+    c.map_count.ensures.maps c.requires.fits k a.code.now.kernel.now (site_of a.site.now) same c.requires.ready.site is
     c.loop-element.element (omega (arith, c.loop-element-test.true, c.set_size-element-end.ensures)) s c.loop-element.memory a.consts.now c.run_element.new.memory
     (c.loop-element.invariant k s same is holds consts) (Unit {0}) c.in-Err.fault c.in-Err.ensures
 
@@ -18,7 +18,7 @@ loop-element-preserved c k s same is holds consts =
     let a = c.args.all.now in
     let b = bound_of a.bound.now in
     goes_on b c.elements_run_on_memory.ensures c.loops_keep.ensures.reads c.constants_are_read.ensures.numbered c.constants_are_read.ensures.read
-    c.map_count.ensures.maps c.requires.fits k a.kernel.now (site_of a.site.now) same c.requires.ready.site is
+    c.map_count.ensures.maps c.requires.fits k a.code.now.kernel.now (site_of a.site.now) same c.requires.ready.site is
     c.loop-element.element (omega (arith, c.loop-element-test.true, c.set_size-element-end.ensures)) s c.loop-element.memory a.consts.now c.run_element.new.memory
     (c.loop-element.invariant k s same is holds consts) (tt {0}) c.in_default.ensures
 

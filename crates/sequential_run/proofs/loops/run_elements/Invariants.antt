@@ -12,7 +12,7 @@ abbrev pub invariant-loop-element : goal.invariant-loop-element
 invariant-loop-element l =
     (k : ℕ) (s : Store)
     → laws.site_of (bound_of l.all.bound.now) k ≡ site_of l.all.site.now
-    → IsLoopOf (bound_of l.all.bound.now) k l.all.kernel.now
+    → IsLoopOf (bound_of l.all.bound.now) k l.all.code.now.kernel.now
     → Holds (bound_of l.all.bound.now) l.fn.memory s
     → l.all.consts.now ≡ constant_values (bound_of l.all.bound.now) s
     → SoFar (bound_of l.all.bound.now) k s l.memory l.all.consts.now l.element

@@ -1,0 +1,9 @@
+pub mod Blocks
+pub mod Effects
+pub mod Kernels
+pub mod Patch
+pub mod Rows
+pub mod Runs
+pub mod Steps
+pub mod Values
+pub mod Within

@@ -1,0 +1,23 @@
+//! Kernels as straight lists of operations over slots, and the machine that runs them.
+#![tactic(auto)]
+
+mod code;
+mod codes;
+mod compiling;
+mod expressions;
+mod machine;
+mod op;
+mod part;
+mod putting;
+mod running;
+mod slots;
+mod statements;
+#[cfg(test)]
+mod tests;
+
+pub use code::{Code, compile, run, run_on};
+pub use codes::{compile_all, room_for};
+pub use kernel_types::{AssignOp, BinaryOp, Fault, KernelFault, MinMax, Pos, UnaryOp};
+pub use machine::run_ops;
+pub use op::Op;
+pub use part::Part;
