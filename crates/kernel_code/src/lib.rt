@@ -12,6 +12,7 @@ mod putting;
 mod running;
 mod slots;
 mod statements;
+mod stores;
 #[cfg(test)]
 mod tests;
 
