@@ -1,32 +1,21 @@
 -- Places whose elements have a common target are in conflict.
-use Rattle.std.proofs.Common.{◌≡◌, ◌≢◌, ℕ, ◌+◌, ◌*◌, ◌<◌, ◌≤◌, sym, ap, subst, ◌∙◌, arith, ⊎_elim, List, Option, Some, None, length, get_or}
+use Rattle.std.proofs.Common.{◌≡◌, ℕ, ◌+◌, ◌*◌, ◌<◌, ◌≤◌, sym, ap, subst, ◌∙◌, arith, List, Option, Some, None, length, get_or}
 use Rattle.std.specs.Prelude.{Contains}
-use Rattle.std.proofs.lemmas.Bool.{cases_lt}
 use Rattle.mesh_decl.specs.declared.owners.Owners.{Owners}
 use Rattle.mesh_decl.specs.declared.owners.Perms.{Perms}
 use Rattle.mesh_decl.specs.declared.access.Via.{Via}
-use Rattle.mesh_decl.specs.Mesh.{MeshValue, IsDatAt, set_count, dat_count, map_dim, target, dat_set, set_size}
-use Rattle.mesh_decl.specs.Owners.{ArePerms, perm_in}
-use Rattle.mesh_decl.proofs.FieldReads.{some_in}
+use Rattle.mesh_decl.specs.Mesh.{MeshValue, IsDatAt, set_count, dat_count, map_dim, target, dat_set}
+use Rattle.mesh_decl.specs.Owners.{ArePerms}
 use Rattle.rank_sets.specs.Below.{row}
-use Rattle.halo_lists.specs.Halo.{owns, imports_execute, imports_nonexecute}
 use Rattle.local_mesh.specs.declared.types.RankMesh.{RankMesh}
-use Rattle.local_mesh.specs.declared.types.LocalSet.{LocalSet}
 use Rattle.local_mesh.specs.LocalMesh.{IsRankMesh, executed_in, originals_in}
-use Rattle.local_mesh.proofs.Closing.{originals_at}
-use Rattle.local_mesh.proofs.Numbered.{number_apart}
+use Rattle.local_mesh.specs.Numbers.{OriginalsAreDistinct}
 use Rattle.colouring.specs.declared.types.IncArg.{IncArg}
 use Rattle.colouring.specs.Colours.{target_of, target_by, reached_by, Conflict, Leads, IsArg, AreArgs}
 use Rattle.colouring.specs.Table.{IsRankOf}
 use Rattle.colouring.proofs.Numbering.{rank_is, target_within}
 
-module _ (g : MeshValue) (o : Owners) (p : Perms) (r : ℕ) (m : RankMesh) (perms : ArePerms g p) (dats : (d : ℕ) → d < dat_count g → IsDatAt g d) (is : IsRankMesh g o p r m) where
-  apart : (s j k : ℕ) → s < set_count g → j < k → k < length (originals_in m.sets.items s) → get_or (originals_in m.sets.items s) j 0 ≢ get_or (originals_in m.sets.items s) k 0
-  apart s j k l =
-      let ls : s < length m.sets.items = rw is.sets_count l in
-      let d : LocalSet = some_in m.sets.items s ls in
-      rw (originals_at m.sets.items s d ls) (number_apart (set_size g s) (perm_in p s) (λ x. owns o s x r) (λ x. imports_execute g o s x r) (λ x. imports_nonexecute g o s x r) (get_or m.sets.items s d).original (perms.numbers s l) (is.sets s d l).inverse j k)
-
+module _ (distinct : OriginalsAreDistinct) (g : MeshValue) (o : Owners) (p : Perms) (r : ℕ) (m : RankMesh) (perms : ArePerms g p) (dats : (d : ℕ) → d < dat_count g → IsDatAt g d) (is : IsRankMesh g o p r m) where
   -- the target's original number
   at_target : (s t x : ℕ) (v : Option Via) → Leads g s t v → x < executed_in m.sets.items s → get_or (originals_in m.sets.items t) (target_by g m.maps.items x v) 0 ≡ reached_by g (get_or (originals_in m.sets.items s) x 0) v
   at_target s t x None e l = ap (λ z. get_or (originals_in m.sets.items z) x 0) e
@@ -34,15 +23,6 @@ module _ (g : MeshValue) (o : Owners) (p : Perms) (r : ℕ) (m : RankMesh) (perm
       ap (λ z. get_or (originals_in m.sets.items z) (get_or (row m.maps.items v.map) (x * map_dim g v.map + v.index) 0) 0) (sym e.3)
       ∙ ((is.maps v.map e.0).targets x v.index (rw e.2 l) e.1
       ∙ ap (λ z. target g v.map (get_or (originals_in m.sets.items z) x 0) v.index) e.2)
-
-  one_local : (s j k : ℕ) → s < set_count g → j < length (originals_in m.sets.items s) → k < length (originals_in m.sets.items s) → get_or (originals_in m.sets.items s) j 0 ≡ get_or (originals_in m.sets.items s) k 0 → j ≡ k
-  one_local s j k l lj lk e = ⊎_elim
-      (λ (a : j < k). absurd (apart s j k l a lk e))
-      (λ (a : k ≤ j). ⊎_elim
-      (λ (b : k < j). absurd (apart s k j l b lj (sym e)))
-      (λ (b : j ≤ k). omega arith)
-      (cases_lt k j))
-      (cases_lt j k)
 
   pub reached_conflict : (args : List IncArg) (places : ℕ) (a : AreArgs g m.sets.items places args) (x y : IncArg) (e f : ℕ) → Contains args x → Contains args y → x.dat ≡ y.dat → e < places → f < places → reached_by g (get_or (originals_in m.sets.items a.set) e 0) x.via ≡ reached_by g (get_or (originals_in m.sets.items a.set) f 0) y.via → Conflict g m.maps.items args e f
   reached_conflict args places a x y e f cx cy d le lf same =
@@ -62,7 +42,7 @@ module _ (g : MeshValue) (o : Owners) (p : Perms) (r : ℕ) (m : RankMesh) (perm
         cx,
         cy,
         d,
-        one_local (dat_set g x.dat) (target_of g m.maps.items e x) (target_of g m.maps.items f y) sx wx
+        distinct g o p r m perms is (dat_set g x.dat) (target_of g m.maps.items e x) (target_of g m.maps.items f y) sx wx
             (subst (λ z. target_of g m.maps.items f y < length (originals_in m.sets.items z)) t wy)
             (ox ∙ (same ∙ (sym oy ∙ ap (λ z. get_or (originals_in m.sets.items z) (target_of g m.maps.items f y) 0) t))),
       )

@@ -1,6 +1,7 @@
 // What colours say of places in conflict.
 ghost use Rattle.colouring.specs.Laws.{PlacesAreOrdered, BlocksDiffer, CommonTargetsConflict, TargetsAreOrdered};
 
+use local_mesh::originals_are_distinct;
 use mesh_decl::Mesh;
 
 /// Of two places in conflict one goes before the other by the colours: their blocks have different colours, or they
@@ -20,6 +21,7 @@ pub fn common_targets_conflict()
 pub fn common_targets_are_ordered(mesh: &Mesh)
     ensures { TargetsAreOrdered mesh.now }
 {
+    originals_are_distinct();
     let _ = mesh.dat_count();
 }
 
