@@ -1,24 +1,14 @@
 -- Which rank imports from which, and the messages of an item.
-use Rattle.std.specs.Prelude.{ℕ, zero, suc, Bool, nat_eq, List, [], ◌++◌, map, take, drop, slice_index, slice_index_or}
+use Rattle.std.specs.Prelude.{ℕ, zero, suc, Bool, nat_eq, List, [], ◌++◌, map, take, drop}
 use Rattle.std.specs.List.{list_any}
 use Rattle.rank_sets.specs.Below.{listed}
 use Rattle.mesh_decl.specs.Mesh.{MeshValue, dat_set}
 use Rattle.local_mesh.specs.declared.types.LocalSet.{LocalSet}
 use Rattle.local_mesh.specs.declared.types.RankMesh.{RankMesh}
 use Rattle.local_mesh.specs.LocalMesh.{originals_in}
+unfoldable pub use Rattle.local_mesh.specs.Numbers.{own_in, core_in}
+unfoldable pub use Rattle.local_mesh.specs.Lists.{sets_of}
 use Rattle.loop_plan.specs.declared.types.Pair.{Pair}
-
--- the sets of a rank
-unfoldable pub sets_of : List RankMesh → ℕ → List LocalSet
-sets_of meshes r = slice_index_or (map (λ (m : RankMesh). m.sets.items) meshes) r []
-
--- how many elements of a set a rank owns
-unfoldable pub own_in : List LocalSet → ℕ → ℕ
-own_in sets s = slice_index (map (λ (l : LocalSet). l.own) sets) s
-
--- which local elements of a set are core
-unfoldable pub core_in : List LocalSet → ℕ → List Bool
-core_in sets s = slice_index_or (map (λ (l : LocalSet). l.core.items) sets) s []
 
 -- by local number, the original numbers of what a rank owns of a set
 abbrev pub owned : List LocalSet → ℕ → List ℕ
