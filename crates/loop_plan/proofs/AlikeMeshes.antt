@@ -1,15 +1,13 @@
 -- What is read of local meshes is read of their lists.
-use Rattle.std.proofs.Common.{◌≡◌, ◌+◌, ◌<◌, ◌≤◌, ℕ, zero, suc, Bool, List, [], ◌∷◌, ◌++◌, Vec, cond, nat_eq, codes, length, get_or, map, take, drop, refl, sym, ap, ◌∙◌, arith, ⊎_elim}
+use Rattle.std.proofs.Common.{◌≡◌, ◌+◌, ◌<◌, ◌≤◌, ℕ, zero, suc, Bool, List, [], ◌∷◌, Vec, cond, nat_eq, length, get_or, map, drop, refl, sym, ap, ◌∙◌, arith, ⊎_elim}
 use Rattle.std.specs.declared.alloc.Global.{Global}
 use Rattle.std.specs.List.{list_any}
-use Rattle.std.specs.Fmt.{decimal}
 use Rattle.std.proofs.lemmas.Bool.{cases_lt}
 use Rattle.std.proofs.lemmas.List.{get_or-map, get_or_past, length-map}
 use Rattle.std.proofs.lemmas.Simd.{map-map}
 use Rattle.std.proofs.Math.Path.{fun_ext}
 use Rattle.rank_sets.specs.Below.{row}
-use Rattle.mesh_decl.specs.Mesh.{MeshValue, dat_set, set_name}
-use Rattle.mesh_decl.proofs.FieldReads.{some_in}
+use Rattle.mesh_decl.specs.Mesh.{MeshValue, dat_set}
 use Rattle.halo_lists.specs.Values.{lists_of}
 use Rattle.local_mesh.specs.declared.types.LocalSet.{LocalSet}
 use Rattle.local_mesh.specs.declared.types.RankMesh.{RankMesh}
@@ -19,7 +17,7 @@ use Rattle.bound_program.specs.Values.{SiteValue}
 use Rattle.bound_program.specs.Classes.{scatters}
 use Rattle.loop_plan.specs.Pairs.{sets_of, own_in, core_in, owned, imported, imports_from, passes}
 use Rattle.loop_plan.specs.Places.{places_of, maps_of}
-use Rattle.loop_plan.specs.PlanText.{Line, halo_line, halo_lines, all_halo_lines}
+use Rattle.loop_plan.specs.PlanText.{halo_line, halo_lines, all_halo_lines}
 
 -- what a list has at a place, under a map that takes the empty to the empty
 map_at : {X Y : Type 0} (f : X → Y) (xs : List X) (k : ℕ) (d : X) (e : Y) → f d ≡ e → f (get_or xs k d) ≡ get_or (map f xs) k e

@@ -1,11 +1,10 @@
 -- Two plans that are alike have one text and one number of steps.
-use Rattle.std.proofs.Common.{◌≡◌, ◌≢◌, ◌↔◌, ◌+◌, ◌*◌, ◌/◌, ◌<◌, ◌≤◌, ℕ, zero, suc, Bool, true, false, cond, nat_eq, List, [], ◌∷◌, ◌++◌, Vec, Option, Some, None, length, get_or, map, drop, refl, sym, ap, subst, ◌∙◌, arith, ⊎_elim}
+use Rattle.std.proofs.Common.{◌≡◌, ◌≢◌, ◌↔◌, ◌+◌, ◌*◌, ◌/◌, ◌<◌, ◌≤◌, ℕ, zero, suc, Bool, true, false, nat_eq, List, [], ◌∷◌, Vec, Option, Some, None, length, get_or, map, drop, refl, sym, ap, subst, ◌∙◌, arith, ⊎_elim}
 use Rattle.std.specs.declared.alloc.Global.{Global}
 use Rattle.std.specs.Map.{lookup}
 use Rattle.std.specs.List.{flat_map}
 use Rattle.std.proofs.lemmas.Bool.{cases_Bool, cases_lt, cases_eq, eq-eqb, ne_eqb}
 use Rattle.std.proofs.lemmas.List.{ext_get_or, get_or-map, get_or_past, length-map}
-use Rattle.std.proofs.lemmas.List.Folds.{flat_map-map}
 use Rattle.std.proofs.Math.Path.{fun_ext}
 use Rattle.rank_sets.specs.Below.{row, listed, count_below}
 use Rattle.rank_sets.proofs.Below.{listed_agree, length_listed, at_listed}
@@ -15,18 +14,17 @@ use Rattle.mesh_decl.proofs.FieldReads.{some_in}
 use Rattle.local_mesh.specs.declared.types.RankMesh.{RankMesh}
 use Rattle.colouring.specs.declared.types.IncArg.{IncArg}
 use Rattle.colouring.specs.declared.types.Colours.{Colours}
-use Rattle.colouring.specs.Colours.{target_by, target_of, Conflict, ConflictWithin, BlocksConflict, IsLeast, AreColours}
+use Rattle.colouring.specs.Colours.{target_by, Conflict, ConflictWithin, BlocksConflict, IsLeast, AreColours}
 use Rattle.schedule_model.proofs.History.{by_bit}
 use Rattle.schedule_steps.specs.Outline.{Outline}
 use Rattle.schedule_steps.specs.Peaks.{step_count}
-use Rattle.bound_program.specs.Values.{ItemValue, Free, Reduce, Ordered, Host, BoundValue}
+use Rattle.bound_program.specs.Values.{ItemValue, BoundValue}
 use Rattle.bound_program.specs.Fits.{site_at}
 use Rattle.loop_plan.specs.Values.{SitePlanValue, ItemPlanValue, PlanValue, site_plan, item_plan, no_item_plan, no_site_plan, or_none}
 use Rattle.loop_plan.specs.Needs.{item_modifies, item_needs, exchanges, item_at}
 use Rattle.loop_plan.specs.Pairs.{passes, sets_of, core_in}
 use Rattle.loop_plan.specs.Places.{reducing, places_of, maps_of, runs_free}
-use Rattle.loop_plan.specs.Proper.{Proper, HasLeastColours}
-use Rattle.loop_plan.specs.PlanText.{Line, site_line, site_lines, loop_lines, item_line, item_lines, plan_text}
+use Rattle.loop_plan.specs.PlanText.{site_line, site_lines, loop_lines, item_lines, plan_text}
 use Rattle.loop_plan.specs.StepOutline.{is_free, loop_of, step_outline}
 use Rattle.loop_plan.specs.OnePlan.{AreAlike}
 use Rattle.loop_plan.proofs.AlikeMeshes.{length_same, sets_same, rows_same, places_same, passes_same, core_same, halo_lines_same}
@@ -150,9 +148,12 @@ site_lines_same s r (n ∷ ns) (c ∷ cs) (d ∷ ds) e f =
     let blocks : c.blocks.items ≡ d.blocks.items = same_head [] c.blocks.items d.blocks.items (map (λ (c : Colours). c.blocks.items) cs) (map (λ (c : Colours). c.blocks.items) ds) e in
     let inner : c.inner.items ≡ d.inner.items = same_head [] c.inner.items d.inner.items (map (λ (c : Colours). c.inner.items) cs) (map (λ (c : Colours). c.inner.items) ds) f in
     let here : site_line s r n c ≡ site_line s r n d = rw (blocks, inner) refl in
-    rw (here, site_lines_same s (suc r) ns cs ds
-      (same_tail c.blocks.items d.blocks.items (map (λ (c : Colours). c.blocks.items) cs) (map (λ (c : Colours). c.blocks.items) ds) e)
-      (same_tail c.inner.items d.inner.items (map (λ (c : Colours). c.inner.items) cs) (map (λ (c : Colours). c.inner.items) ds) f)) refl
+    rw (
+      here,
+      site_lines_same s (suc r) ns cs ds
+          (same_tail c.blocks.items d.blocks.items (map (λ (c : Colours). c.blocks.items) cs) (map (λ (c : Colours). c.blocks.items) ds) e)
+          (same_tail c.inner.items d.inner.items (map (λ (c : Colours). c.inner.items) cs) (map (λ (c : Colours). c.inner.items) ds) f),
+    ) refl
 
 loop_same : (e f : ℕ × SitePlanValue) → entry e ≡ entry f → loop_lines e ≡ loop_lines f
 loop_same e f h =
@@ -173,8 +174,10 @@ items_same g k (i ∷ is) [] [] h = refl
 items_same g k (i ∷ is) [] (q ∷ qs) h = longer q.exchange (map (λ (p : ItemPlanValue). p.exchange) qs) h
 items_same g k (i ∷ is) (p ∷ ps) [] h = longer p.exchange (map (λ (p : ItemPlanValue). p.exchange) ps) (sym h)
 items_same g k (i ∷ is) (p ∷ ps) (q ∷ qs) h =
-    rw (same_head [] p.exchange q.exchange (map (λ (p : ItemPlanValue). p.exchange) ps) (map (λ (p : ItemPlanValue). p.exchange) qs) h,
-      items_same g (suc k) is ps qs (same_tail p.exchange q.exchange (map (λ (p : ItemPlanValue). p.exchange) ps) (map (λ (p : ItemPlanValue). p.exchange) qs) h)) refl
+    rw (
+      same_head [] p.exchange q.exchange (map (λ (p : ItemPlanValue). p.exchange) ps) (map (λ (p : ItemPlanValue). p.exchange) qs) h,
+      items_same g (suc k) is ps qs (same_tail p.exchange q.exchange (map (λ (p : ItemPlanValue). p.exchange) ps) (map (λ (p : ItemPlanValue). p.exchange) qs) h),
+    ) refl
 
 -- ---- both plans
 

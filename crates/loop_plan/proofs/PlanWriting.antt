@@ -1,5 +1,5 @@
 -- The text of a whole plan, and what a proper plan has for its lines.
-use Rattle.std.proofs.Common.{◌≡◌, ◌<◌, ◌≤◌, ◌+◌, ℕ, zero, suc, Bool, true, false, cond, refl, sym, ap, subst, ◌∙◌, arith, List, [], ◌∷◌, ◌++◌, append-nil, length, get_or, take, map}
+use Rattle.std.proofs.Common.{◌≡◌, ◌<◌, ◌≤◌, ℕ, zero, suc, Bool, true, cond, refl, sym, ap, subst, ◌∙◌, arith, List, [], ◌∷◌, ◌++◌, append-nil, length, get_or, take, map}
 use Rattle.std.specs.Prelude.{All, Some, nat_eq, slice_get, slice_index_or, codes}
 use Rattle.std.specs.Map.{lookup}
 use Rattle.std.specs.List.{flat_map}
@@ -7,7 +7,6 @@ use Rattle.std.specs.Fmt.{decimal}
 use Rattle.std.proofs.lemmas.Bool.{eq-eqb, ne_eqb}
 use Rattle.std.proofs.lemmas.Grind.{flat_map-append}
 use Rattle.std.proofs.lemmas.List.{get_or-map, length-map, map_push, take_all}
-use Rattle.std.proofs.lemmas.List.Elements.{All-get_or}
 use Rattle.std.proofs.lemmas.Option.{get_or_from_slice_get}
 use Rattle.rank_sets.specs.Below.{count_below, listed}
 use Rattle.rank_sets.proofs.Below.{length_listed, at_listed}

@@ -1,33 +1,23 @@
 -- Plans are proper.
-use Rattle.std.proofs.Common.{◌≡◌, ◌<◌, ◌+◌, ◌*◌, ◌^◌, ℕ, zero, suc, Bool, true, false, cond, sum, refl, sym, ap, subst, ◌∙◌, arith, List, [], ◌∷◌, ◌++◌, length, get_or, map}
-use Rattle.std.specs.Prelude.{◌||◌, slice_index, slice_index_or}
-use Rattle.std.specs.List.{list_any}
-use Rattle.std.proofs.lemmas.Bool.{false≢true, eq-eqb}
-use Rattle.std.proofs.lemmas.List.Folds.{list_any_at}
+use Rattle.std.proofs.Common.{◌≡◌, ◌<◌, ◌+◌, ◌*◌, ◌^◌, ℕ, zero, suc, Bool, cond, refl, sym, ap, ◌∙◌, arith, List, [], ◌∷◌, ◌++◌, length, map}
+use Rattle.std.specs.Prelude.{◌||◌, slice_index}
 use Rattle.rank_sets.specs.Below.{listed}
 use Rattle.rank_sets.proofs.Below.{listed_agree}
-use Rattle.mesh_decl.specs.Mesh.{MeshValue, IsDatAt, set_count, set_size, dat_count, dat_set}
+use Rattle.mesh_decl.specs.Mesh.{MeshValue, IsDatAt, set_size, dat_count, dat_set}
 use Rattle.halo_lists.specs.declared.types.Halos.{Halos}
 use Rattle.local_mesh.specs.declared.types.RankMesh.{RankMesh}
 use Rattle.local_mesh.proofs.Grouping.{listed_within}
-use Rattle.schedule_steps.specs.Peaks.{step_count}
-use Rattle.bound_program.specs.Values.{Exit, ItemValue, Free, Reduce, Ordered, Host, BoundValue}
-use Rattle.bound_program.specs.Fits.{site_at}
+use Rattle.bound_program.specs.Values.{ItemValue, Free, Reduce, Ordered, Host, BoundValue}
 use Rattle.loop_plan.specs.declared.types.ItemPlan.{ItemPlan}
-use Rattle.loop_plan.specs.Values.{PlanValue, item_plan, item_plan_of, no_item_plan, site_plan, or_none}
 use Rattle.loop_plan.specs.Needs.{item_at, run_of, exchanged_at, IsLoopOf, IsInRange}
 use Rattle.loop_plan.specs.Pairs.{sets_of, imports_from, passes, pair, pairs_below}
-use Rattle.loop_plan.specs.Exports.{exports_in, is_some_exported, passes_by_exports, HaveExports, AreDats}
+use Rattle.loop_plan.specs.Exports.{passes_by_exports, HaveExports, AreDats}
 use Rattle.loop_plan.specs.Distributed.{Distributed}
-use Rattle.loop_plan.specs.Places.{places_of, runs_loop, runs_free, HaveSets}
-use Rattle.loop_plan.specs.Counted.{sum_below}
-use Rattle.loop_plan.specs.Counts.{Counts}
-use Rattle.loop_plan.specs.StepOutline.{is_free, loop_of, loop_at, step_outline, item_step_count, plan_step_count}
-use Rattle.loop_plan.specs.ItemPlans.{plan_in, IsItemPlan, AreItemPlans, IsPlanned, ArePlanned}
+use Rattle.loop_plan.specs.Places.{HaveSets}
+use Rattle.loop_plan.specs.StepOutline.{is_free, loop_of}
+use Rattle.loop_plan.specs.ItemPlans.{plan_in, AreItemPlans, ArePlanned}
 use Rattle.loop_plan.specs.StepCounts.{message_count, place_count, steps_at, program_steps, steps_by, steps_of_plans}
-use Rattle.loop_plan.specs.SitePlans.{IsLeastPlan, ArePlans}
 use Rattle.loop_plan.proofs.StepsCounted.{same_sum}
-use Rattle.loop_plan.proofs.StepTotals.{sum_of_list, steps_counted}
 use Rattle.loop_plan.proofs.Exporting.{executed_few, executed_held, sets_counted}
 use Rattle.loop_plan.proofs.Pairing.{have_exports, exported_is_imported}
 

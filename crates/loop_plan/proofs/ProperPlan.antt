@@ -1,13 +1,11 @@
 -- A plan that is made of the right parts is proper.
-use Rattle.std.proofs.Common.{◌≡◌, ◌≢◌, ◌<◌, ◌+◌, ◌*◌, ◌/◌, ℕ, zero, suc, Bool, true, false, cond, sum, refl, sym, ap, subst, ◌∙◌, arith, ⊎_elim, List, [], ◌∷◌, Vec, length, get_or, map}
+use Rattle.std.proofs.Common.{◌≡◌, ◌<◌, ◌+◌, ◌*◌, ℕ, Bool, true, false, cond, sum, refl, sym, ap, subst, ◌∙◌, arith, ⊎_elim, List, Vec, length, get_or, map}
 use Rattle.std.specs.Prelude.{slice_index, slice_index_or}
-use Rattle.std.specs.List.{list_any}
 use Rattle.std.specs.declared.alloc.Global.{Global}
 use Rattle.std.proofs.lemmas.Bool.{cases_lt, false≢true, eq-eqb}
 use Rattle.std.proofs.lemmas.List.{length-map}
 use Rattle.std.proofs.lemmas.List.Folds.{list_any_at}
-use Rattle.rank_sets.specs.Below.{listed}
-use Rattle.mesh_decl.specs.Mesh.{MeshValue, dat_count}
+use Rattle.mesh_decl.specs.Mesh.{MeshValue}
 use Rattle.local_mesh.specs.declared.types.RankMesh.{RankMesh}
 use Rattle.schedule_steps.specs.Peaks.{step_count}
 use Rattle.colouring.specs.declared.types.IncArg.{IncArg}
@@ -17,17 +15,17 @@ use Rattle.colouring.proofs.Ordering.{blocks_differ}
 use Rattle.bound_program.specs.Values.{Exit, ItemValue, Free, Reduce, Ordered, Host, BoundValue}
 use Rattle.bound_program.specs.Fits.{site_at}
 use Rattle.loop_plan.specs.declared.types.ItemPlan.{ItemPlan}
-use Rattle.loop_plan.specs.Values.{PlanValue, item_plan, item_plan_of, no_item_plan, site_plan, or_none}
-use Rattle.loop_plan.specs.Needs.{item_at, run_of, exchanged_at, IsLoopOf, IsInRange}
+use Rattle.loop_plan.specs.Values.{PlanValue, item_plan, item_plan_of, no_item_plan, site_plan}
+use Rattle.loop_plan.specs.Needs.{item_at, run_of, IsLoopOf, IsInRange}
 use Rattle.loop_plan.specs.Pairs.{passes, pairs_below}
 use Rattle.loop_plan.specs.Places.{reducing, places_of, maps_of, runs_loop, runs_free}
 use Rattle.loop_plan.specs.Counted.{sum_below}
 use Rattle.loop_plan.specs.Counts.{Counts}
-use Rattle.loop_plan.specs.StepOutline.{is_free, loop_of, loop_at, step_outline, item_step_count, plan_step_count}
-use Rattle.loop_plan.specs.ItemPlans.{plan_in, IsPlanned, ArePlanned}
+use Rattle.loop_plan.specs.StepOutline.{is_free, loop_of, loop_at, step_outline, item_step_count}
+use Rattle.loop_plan.specs.ItemPlans.{plan_in, ArePlanned}
 use Rattle.loop_plan.specs.StepCounts.{message_count, place_count, steps_at, program_steps}
 use Rattle.loop_plan.specs.SitePlans.{IsLeastPlan, ArePlans}
-use Rattle.loop_plan.specs.Proper.{Separate, IsSitePlan, Proper, HasLeastColours}
+use Rattle.loop_plan.specs.Proper.{Separate, Proper, HasLeastColours}
 use Rattle.loop_plan.proofs.History.{are_exchanges}
 use Rattle.loop_plan.proofs.StepsCounted.{same_sum}
 use Rattle.loop_plan.proofs.StepTotals.{sum_of_list, steps_counted}

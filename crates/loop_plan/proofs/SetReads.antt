@@ -1,6 +1,5 @@
 -- One rank's sets and maps, read from the local meshes.
-use Rattle.std.proofs.Common.{◌≡◌, ◌+◌, ◌<◌, ◌≤◌, ℕ, zero, suc, List, [], ◌∷◌, Vec, length, get_or, map, sym, ap, ◌∙◌, arith}
-use Rattle.std.specs.declared.alloc.Global.{Global}
+use Rattle.std.proofs.Common.{◌≡◌, ◌+◌, ◌<◌, ◌≤◌, ℕ, zero, suc, List, [], ◌∷◌, length, get_or, sym, ap, ◌∙◌, arith}
 use Rattle.std.proofs.lemmas.List.{get_or-map}
 use Rattle.local_mesh.specs.declared.types.LocalSet.{LocalSet}
 use Rattle.local_mesh.specs.declared.types.RankMesh.{RankMesh}

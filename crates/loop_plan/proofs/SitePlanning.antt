@@ -1,6 +1,6 @@
 -- Plans of loops, one more.
-use Rattle.std.proofs.Common.{◌≡◌, ◌<◌, ◌≤◌, ◌+◌, ◌^◌, ℕ, zero, suc, Bool, true, false, cond, refl, sym, ap, subst, ◌∙◌, arith, ⊎_elim, List, [], ◌∷◌, ◌++◌, Vec, length, get_or, map}
-use Rattle.std.specs.Prelude.{◌||◌, nat_eq, Option, Some, None, slice_index_or}
+use Rattle.std.proofs.Common.{◌≡◌, ◌<◌, ◌≤◌, ◌+◌, ℕ, Bool, true, false, cond, refl, sym, ap, subst, ◌∙◌, arith, ⊎_elim, List, [], ◌∷◌, ◌++◌, Vec, length, get_or, map}
+use Rattle.std.specs.Prelude.{◌||◌, nat_eq, Some, None}
 use Rattle.std.specs.declared.alloc.Global.{Global}
 use Rattle.std.specs.Map.{lookup}
 use Rattle.std.specs.List.{list_any}
@@ -16,7 +16,7 @@ use Rattle.local_mesh.specs.LocalMesh.{executed_in}
 use Rattle.colouring.specs.declared.types.IncArg.{IncArg}
 use Rattle.colouring.specs.declared.types.Colours.{Colours}
 use Rattle.colouring.specs.Colours.{AreArgs, AreColours}
-use Rattle.bound_program.specs.Values.{BoundValue, SiteValue, no_site}
+use Rattle.bound_program.specs.Values.{BoundValue, no_site}
 use Rattle.bound_program.specs.Classes.{scatters}
 use Rattle.bound_program.specs.Fits.{site_at, SiteFits, Fits}
 use Rattle.loop_plan.specs.declared.types.SitePlan.{SitePlan}

@@ -1,4 +1,4 @@
-use Rattle.std.proofs.Common.{◌≡◌, ◌∙◌, ap, ◌++◌, map, List}
+use Rattle.std.proofs.Common.{◌∙◌, ap, ◌++◌, map, List}
 use Rattle.rank_sets.specs.Below.{listed}
 use Rattle.rank_sets.specs.RankSet.{has}
 use Rattle.loop_plan.specs.Pairs.{pair}

@@ -1,7 +1,6 @@
-use Rattle.std.proofs.Common.{◌≡◌, ◌∙◌, ℕ, ap, length, List}
+use Rattle.std.proofs.Common.{◌∙◌, ℕ, ap, List}
 use Rattle.std.specs.Prelude.{slice_index}
 use Rattle.bound_program.specs.Values.{bound_of}
-use Rattle.loop_plan.specs.StepCounts.{place_count}
 use Rattle.loop_plan.proofs.Ranges.{in_range}
 use Rattle.loop_plan.proofs.Planning.{steps_are}
 use Rattle.loop_plan.proofs.plans.number_of_steps.Goals as goal

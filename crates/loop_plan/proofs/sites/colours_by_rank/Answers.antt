@@ -1,4 +1,4 @@
-use Rattle.std.proofs.Common.{◌≡◌, ◌<◌, ℕ, sym, subst, length, get_or, arith}
+use Rattle.std.proofs.Common.{◌<◌, ℕ, sym, subst, length, get_or, arith}
 use Rattle.std.proofs.lemmas.List.{length_push, get_or_read}
 use Rattle.local_mesh.specs.declared.types.RankMesh.{RankMesh}
 use Rattle.local_mesh.specs.LocalMesh.{IsRankMesh}

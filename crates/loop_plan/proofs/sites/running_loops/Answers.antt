@@ -1,4 +1,4 @@
-use Rattle.std.proofs.Common.{◌∙◌, ap, false, length, arith}
+use Rattle.std.proofs.Common.{◌∙◌, ap, false, arith}
 use Rattle.std.specs.Prelude.{◌||◌, slice_index_or}
 use Rattle.std.proofs.lemmas.List.{length-map}
 use Rattle.bound_program.specs.Values.{bound_of, item_of}

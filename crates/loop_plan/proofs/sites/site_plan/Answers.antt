@@ -1,12 +1,11 @@
-use Rattle.std.proofs.Common.{◌≡◌, ◌∙◌, ℕ, ap, sym, get_or, List}
+use Rattle.std.proofs.Common.{◌∙◌, ℕ, ap, get_or, List}
 use Rattle.local_mesh.specs.declared.types.RankMesh.{RankMesh}
-use Rattle.colouring.specs.declared.types.IncArg.{IncArg}
 use Rattle.bound_program.specs.Values.{bound_of}
 use Rattle.bound_program.specs.Fits.{site_at}
 use Rattle.loop_plan.specs.Places.{reducing, places_of, maps_of}
 use Rattle.loop_plan.proofs.Exporting.{pick}
 use Rattle.loop_plan.proofs.SetReads.{sets_at, maps_at}
-use Rattle.loop_plan.proofs.SitePlanning.{args_are, set_fits, colours_moved}
+use Rattle.loop_plan.proofs.SitePlanning.{args_are, colours_moved}
 use Rattle.loop_plan.proofs.sites.site_plan.Goals as goal
 
 pub colours_by_rank-requires-clause-args : goal.colours_by_rank-requires-clause-args

@@ -1,4 +1,4 @@
-use Rattle.std.proofs.Common.{◌≡◌, ◌≤◌, ◌+◌, ◌++◌, ◌∙◌, ℕ, List, ap, length, arith}
+use Rattle.std.proofs.Common.{◌≡◌, ◌+◌, ◌++◌, ◌∙◌, ℕ, List, ap, length, arith}
 use Rattle.texts.specs.Lines.{line_of}
 use Rattle.local_mesh.specs.LocalMesh.{originals_in, executed_in}
 use Rattle.loop_plan.specs.PlanText.{Line}

@@ -1,4 +1,4 @@
-use Rattle.std.proofs.Common.{◌≡◌, ◌≤◌, ◌∙◌, ◌++◌, ℕ, refl, sym, ap, length, map, arith, List}
+use Rattle.std.proofs.Common.{◌≡◌, ◌∙◌, ◌++◌, refl, sym, ap, length, map, arith, List}
 use Rattle.std.proofs.lemmas.List.{length-map}
 use Rattle.texts.specs.Lines.{text_of_lines}
 use Rattle.bound_program.specs.Values.{bound_of}
