@@ -1,0 +1,47 @@
+-- What the machine's calls need of its lists.
+use Rattle.std.specs.Prelude.{◌<◌, ◌≤◌, ◌+◌, ℕ, List, [], length, get_or}
+use Rattle.rank_state.specs.declared.spans.Span.{Span}
+use Rattle.rank_state.specs.declared.scalars.Scalar.{Scalar}
+use Rattle.rank_state.specs.Spans.{Within, total}
+use Rattle.rank_state.specs.Windows.{Reads, Merges}
+use Rattle.rank_state.specs.Frames.{pane_at, Enough, Exactly}
+use Rattle.rank_state.specs.declared.owned.Owned.{Owned}
+use Rattle.rank_state.specs.Machine.{State, row}
+use Rattle.rank_state.specs.Ordered.{Within_all, InLength, total_all}
+
+module _ {F : Type 0} (st : State F) where
+  -- the spans stand in the rank's buffer
+  pub record CanCopy (r : ℕ) (spans : List Span) : Type 0 where
+    pub rank : r < length st.memories
+    pub inside : Within (length (row st.memories r)) spans
+
+  -- the place has a row in the table of panes
+  pub record HasPlace (r x : ℕ) : Type 0 where
+    pub rank : r < length st.frames.panes
+    pub place : x < length (get_or st.frames.panes r [])
+
+  pub record CanBegin (n r x : ℕ) (spans : List Span) (scalars : List Scalar) : Type 0 where
+    pub memory : CanCopy r spans
+    pub frame : HasPlace r x
+    pub reads : Reads (length st.variables) scalars
+    pub constants : n ≤ length st.variables
+    pub fits : total spans + length scalars ≤ st.frames.stride
+
+  pub record CanEnd (r x : ℕ) (spans : List Span) (scalars : List Scalar) : Type 0 where
+    pub memory : CanCopy r spans
+    pub frame : HasPlace r x
+    pub partials : r < length st.partials
+    pub slots : Merges (length (row st.partials r)) scalars
+    pub enough : Enough (total spans) (pane_at st.frames.panes r x)
+    pub exact : Exactly (total spans + length scalars) (pane_at st.frames.panes r x)
+
+  pub record CanReduce (scalars : List Scalar) : Type 0 where
+    pub reads : Reads (length st.variables) scalars
+    pub rows : (i : ℕ) → i < length st.partials → Merges (length (row st.partials i)) scalars
+
+  -- n is the number of constants
+  pub record CanRun (n : ℕ) (spans : List Owned) (indices : List ℕ) : Type 0 where
+    pub inside : Within_all st.memories spans
+    pub reads : InLength (length st.variables) indices
+    pub constants : n ≤ length st.variables
+    pub room : total_all spans + length indices ≤ st.frames.stride

@@ -1,0 +1,11 @@
+-- A kernel's run on the windows of an element.
+use Rattle.std.specs.Prelude.{ℤ, List, Result, Ok, Err, Option, Some, None}
+use Rattle.flat_machine.specs.Layout.{Core, Faults, Leaves}
+
+abbrev pub ran_of : {A F : Type 0} → List ℤ → Result A F → Core F
+ran_of ws (Ok x) = Leaves ws
+ran_of ws (Err f) = Faults f
+
+abbrev pub fault_of : {F : Type 0} → Core F → Option F
+fault_of (Faults f) = Some f
+fault_of (Leaves ws) = None

@@ -1,0 +1,12 @@
+pub mod Spans
+pub mod Windows
+pub mod Core
+pub mod Frames
+pub mod Mail
+pub mod Machine
+pub mod Shows
+pub mod Joins
+pub mod Can
+pub mod Ordered
+pub mod Starting
+pub mod Groups

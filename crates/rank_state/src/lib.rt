@@ -1,0 +1,15 @@
+//! The state of the distributed machine as lists, its steps, and how it shows a state of the machine on flat buffers.
+#![tactic(auto)]
+
+mod laws;
+mod owned;
+mod scalars;
+mod spans;
+
+pub use laws::{
+    begin_opens, begin_shows, element_shows, end_shows, join_shows, loop_shows, recv_shows,
+    send_shows, start_shows, steps_are_ready, steps_can,
+};
+pub use owned::Owned;
+pub use scalars::{Operation, Scalar};
+pub use spans::Span;
