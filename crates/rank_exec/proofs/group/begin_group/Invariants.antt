@@ -1,0 +1,17 @@
+use Rattle.std.proofs.Common.{◌≡◌, ◌+◌, ℕ, take, drop}
+use Rattle.kernel_types.specs.declared.faults.KernelFault.{KernelFault}
+use Rattle.flat_machine.specs.Layout.{by_place}
+use Rattle.flat_machine.specs.Flat.{Flat, flat_from}
+use Rattle.rank_state.specs.Shows.{Shows}
+use Rattle.rank_state.specs.Groups.{begins, Distinct, Planned, AllShut}
+use Rattle.rank_exec.proofs.group.begin_group.Given as goal
+
+abbrev pub invariant-loop-place : goal.invariant-loop-place
+invariant-loop-place g l = record {
+  planned : Planned (by_place (g.P.Parts.setup l.parts) (g.P.Parts.layout l.parts)) l.item l.rank (drop l.place-index l.places);
+  shut : AllShut l.machine.frames.panes l.rank (drop l.place-index l.places);
+  distinct : Distinct (drop l.place-index l.places);
+  shows : (f : Flat KernelFault) → Shows (g.P.Parts.setup l.parts) (g.P.Parts.layout l.parts) (g.P.Parts.tables l.parts) l.initial.machine f → Shows (g.P.Parts.setup l.parts) (g.P.Parts.layout l.parts) (g.P.Parts.tables l.parts) l.machine (flat_from (g.P.Parts.setup l.parts) (g.P.Parts.layout l.parts) (begins l.item l.rank (take l.place-index l.places)) f);
+  mail : l.machine.mail.left ≡ l.initial.machine.mail.left;
+  frames : l.machine.frames.left + l.place-index ≡ l.initial.machine.frames.left;
+}

@@ -1,0 +1,5 @@
+pub mod Slots
+pub mod Letters
+pub mod Stops
+pub mod Driving
+pub mod Kinds

@@ -1,0 +1,112 @@
+// The steps of a list, one after another, up to the first that stops.
+
+ghost use Rattle.std.specs.Prelude.{◌≡◌, ◌<◌, ◌≤◌, ◌+◌, ℕ, List, length, Option, None, IfOk};
+ghost use Rattle.kernel_types.specs.declared.faults.KernelFault.{KernelFault};
+ghost use Rattle.schedule_steps.specs.declared.step.Step.TheVariants.{Send, Recv, Begin, End, Join};
+ghost use Rattle.schedule_steps.specs.Steps.{IsStep, Accepted};
+ghost use Rattle.schedule_model.specs.Laws.{Lawful, Coloured};
+ghost use Rattle.schedule_model.specs.Sequential.{sequential};
+ghost use Rattle.flat_machine.specs.Layout.{by_place};
+ghost use Rattle.flat_machine.specs.Flat.{Flat, StartsFlat, flat_step, flat_from};
+ghost use Rattle.rank_state.specs.Shows.{Shows};
+ghost use Rattle.rank_exec.specs.Stops.{stop_in};
+ghost use Rattle.rank_exec.specs.Driving.{Ready, After, posts, takes, opens, shuts, FitsPeak, AsSequential};
+
+use crate::group::run_begins;
+use crate::joins::{Items, join};
+use crate::machine::{Machine, Stop};
+use crate::steps;
+use crate::stream::Steps;
+use kernel_types::KernelFault;
+use schedule_steps::Step;
+use std::alloc::{AllocError, Global};
+
+/// One step.
+pub fn take<P: Items>(
+    machine: &mut Machine,
+    parts: &P,
+    step: Step,
+) -> Result<Option<Stop>, AllocError>
+    requires planned { IsStep (by_place (P.setup parts.now) (P.layout parts.now)) step }
+    requires shows { (f : Flat KernelFault) × Shows (P.setup parts.now) (P.layout parts.now) (P.tables parts.now) machine.old f }
+    requires ready { Ready (P.setup parts.now) (P.layout parts.now) (P.tables parts.now) step machine.old }
+    ensures after { IfOk result
+        (λ stop. (f : Flat KernelFault) → Shows (P.setup parts.now) (P.layout parts.now) (P.tables parts.now) machine.old f
+        → After (P.setup parts.now) (P.layout parts.now) (P.tables parts.now) (stop_in stop) machine.new
+        (flat_step (P.setup parts.now) (P.layout parts.now) step f)) }
+    ensures mail { machine.new.mail.left + posts (P.layout parts.now) step ≡ machine.old.mail.left + takes (P.layout parts.now) step }
+    ensures frames { machine.new.frames.left + opens step ≡ machine.old.frames.left + shuts step }
+{
+    match step {
+        Step::Send { item, from, to } => {
+            steps::send(machine, parts, item as usize, from as usize, to as usize);
+            Ok(None)
+        }
+        Step::Recv { item, rank, from } => {
+            steps::recv(machine, parts, item as usize, rank as usize, from as usize);
+            Ok(None)
+        }
+        Step::Begin { item, rank, place } => {
+            steps::begin(machine, parts, item as usize, rank as usize, place as usize);
+            Ok(None)
+        }
+        Step::End { item, rank, place } => {
+            steps::end(machine, parts, item as usize, rank as usize, place as usize);
+            Ok(None)
+        }
+        Step::Join { item } => join(machine, parts, item as usize),
+    }
+}
+
+/// The steps of an accepted list, up to the first that stops.
+pub fn run<P: Items, S: Steps>(
+    alloc: Global,
+    machine: &mut Machine,
+    parts: &P,
+    steps: &mut S,
+) -> Result<Option<Stop>, AllocError>
+    requires accepted { Accepted (by_place (P.setup parts.now) (P.layout parts.now)) (S.left steps.old) }
+    requires starts { (f : Flat KernelFault) × StartsFlat (P.setup parts.now) (P.layout parts.now) f
+        × Shows (P.setup parts.now) (P.layout parts.now) (P.tables parts.now) machine.old f }
+    requires peak { FitsPeak (P.layout parts.now) machine.old.frames.left machine.old.mail.left (S.left steps.old) }
+    ensures { IfOk result
+        (λ stop. (f : Flat KernelFault) → StartsFlat (P.setup parts.now) (P.layout parts.now) f
+        → Shows (P.setup parts.now) (P.layout parts.now) (P.tables parts.now) machine.old f
+        → After (P.setup parts.now) (P.layout parts.now) (P.tables parts.now) (stop_in stop) machine.new
+        (flat_from (P.setup parts.now) (P.layout parts.now) (S.left steps.old) f)) }
+{
+    schedule_steps::peak_is_room();
+    rank_state::steps_are_ready::<KernelFault>();
+    let mut next = steps.next_step();
+    while let Some(step) = next {
+        if let Step::Begin { item, rank, place } = step {
+            next = run_begins(alloc, machine, parts, steps, item, rank, place)?;
+        } else {
+            if let Some(stop) = take(machine, parts, step)? {
+                return Ok(Some(stop));
+            }
+            next = steps.next_step();
+        }
+    }
+    Ok(None)
+}
+
+/// The steps of an accepted list: the stop and the output are those of the sequential run.
+pub fn drive<P: Items, S: Steps>(
+    alloc: Global,
+    machine: &mut Machine,
+    parts: &P,
+    steps: &mut S,
+) -> Result<Option<Stop>, AllocError>
+    requires lawful { Lawful (P.setup parts.now) }
+    requires coloured { Coloured (P.setup parts.now) }
+    requires accepted { Accepted (by_place (P.setup parts.now) (P.layout parts.now)) (S.left steps.old) }
+    requires starts { (f : Flat KernelFault) × StartsFlat (P.setup parts.now) (P.layout parts.now) f
+        × Shows (P.setup parts.now) (P.layout parts.now) (P.tables parts.now) machine.old f }
+    requires peak { FitsPeak (P.layout parts.now) machine.old.frames.left machine.old.mail.left (S.left steps.old) }
+    ensures { IfOk result (λ stop. AsSequential (sequential (P.setup parts.now).program) (stop_in stop) machine.new.output) }
+{
+    flat_machine::flat_runs_as_sequential::<KernelFault>();
+    let stop = run(alloc, machine, parts, steps)?;
+    Ok(stop)
+}

@@ -1,0 +1,123 @@
+// Runs of begins.
+
+ghost use Rattle.std.specs.Prelude.{◌≡◌, ◌<◌, ◌≤◌, ◌+◌, ◌++◌, ◌∷◌, ℕ, true, [], List, length, None, Some, IfOk};
+ghost use Rattle.kernel_types.specs.declared.faults.KernelFault.{KernelFault};
+ghost use Rattle.schedule_steps.specs.declared.step.Step.{Step};
+ghost use Rattle.schedule_steps.specs.declared.step.Step.TheVariants.{Begin, End};
+ghost use Rattle.flat_machine.specs.Layout.{by_place};
+ghost use Rattle.flat_machine.specs.Flat.{Flat, flat_from};
+ghost use Rattle.rank_state.specs.Shows.{Shows};
+ghost use Rattle.rank_state.specs.Groups.{begins, Distinct, Planned, AllShut};
+ghost use Rattle.rank_exec.specs.Driving.{Done, to_come, GroupReady};
+
+use crate::machine::Machine;
+use crate::parts::Parts;
+use crate::steps::{begin, in_place};
+use crate::stream::Steps;
+use kernel_types::KernelFault;
+use schedule_steps::Step;
+use std::alloc::{AllocError, Global};
+
+/// The begins of a group, in their order.
+pub fn begin_group<P: Parts>(
+    machine: &mut Machine,
+    parts: &P,
+    item: usize,
+    rank: usize,
+    places: &[u32],
+)
+    requires planned { Planned (by_place (P.setup parts.now) (P.layout parts.now)) item rank places.now }
+    requires shows { (f : Flat KernelFault) × Shows (P.setup parts.now) (P.layout parts.now) (P.tables parts.now) machine.old f }
+    requires shut { AllShut machine.old.frames.panes rank places.now }
+    requires distinct { Distinct places.now }
+    requires room { length places.now ≤ machine.old.frames.left }
+    ensures shows { (f : Flat KernelFault) → Shows (P.setup parts.now) (P.layout parts.now) (P.tables parts.now) machine.old f
+        → Shows (P.setup parts.now) (P.layout parts.now) (P.tables parts.now) machine.new
+        (flat_from (P.setup parts.now) (P.layout parts.now) (begins item rank places.now) f) }
+    ensures mail { machine.new.mail.left ≡ machine.old.mail.left }
+    ensures frames { machine.new.frames.left + length places.now ≡ machine.old.frames.left }
+{
+    rank_state::begin_opens::<KernelFault>();
+    for place in places {
+        begin(machine, parts, item, rank, *place as usize);
+    }
+}
+
+/// Adds the places of the begins of the item and rank that come next, and answers the step after them.
+fn collect<S: Steps>(
+    steps: &mut S,
+    item: u32,
+    rank: u32,
+    places: &mut Vec<u32>,
+) -> Result<Option<Step>, AllocError>
+    ensures all { IfOk result
+        (λ next. begins item rank places.new.items ++ to_come next (S.left steps.new)
+        ≡ begins item rank places.old.items ++ S.left steps.old) }
+    ensures over { IfOk result (λ next. next ≡ None → S.left steps.new ≡ []) }
+    ensures more { IfOk result (λ next. length places.old.items ≤ length places.new.items) }
+{
+    'begins: loop {
+        let next = steps.next_step();
+        if let Some(step) = next {
+            if let Step::Begin {
+                item: i,
+                rank: r,
+                place,
+            } = step
+            {
+                if i == item && r == rank {
+                    places.push(place)?;
+                    continue 'begins;
+                }
+            }
+        }
+        return Ok(next);
+    }
+}
+
+/// The step is this end.
+fn is_end(step: Option<Step>, item: u32, rank: u32, place: u32) -> bool
+    ensures { result ≡ true → step ≡ Some (End item rank place) }
+{
+    match step {
+        Some(
+            Step::End {
+                item: i,
+                rank: r,
+                place: p,
+            },
+        ) => i == item && r == rank && p == place,
+        _ => false,
+    }
+}
+
+/// A begin and those of its item and rank that come next, as one group; a begin that its own end
+/// follows, in place. Answers the step after them.
+pub fn run_begins<P: Parts, S: Steps>(
+    alloc: Global,
+    machine: &mut Machine,
+    parts: &P,
+    steps: &mut S,
+    item: u32,
+    rank: u32,
+    place: u32,
+) -> Result<Option<Step>, AllocError>
+    requires shows { (f : Flat KernelFault) × Shows (P.setup parts.now) (P.layout parts.now) (P.tables parts.now) machine.old f }
+    requires ready { GroupReady (by_place (P.setup parts.now) (P.layout parts.now)) item rank
+        (Begin item rank place ∷ S.left steps.old) machine.old }
+    ensures done { IfOk result
+        (λ next. (done : List Step) × (Begin item rank place ∷ S.left steps.old ≡ done ++ to_come next (S.left steps.new))
+        × (0 < length done)
+        × Done (P.setup parts.now) (P.layout parts.now) (P.tables parts.now) done machine.old machine.new) }
+    ensures over { IfOk result (λ next. next ≡ None → S.left steps.new ≡ []) }
+{
+    let mut places = vec![in alloc; place; 1]?;
+    let next = collect(steps, item, rank, &mut places)?;
+    if places.len() == 1 && is_end(next, item, rank, place) {
+        in_place(machine, parts, item as usize, rank as usize, place as usize);
+        let after = steps.next_step();
+        return Ok(after);
+    }
+    begin_group(machine, parts, item as usize, rank as usize, &places);
+    Ok(next)
+}

@@ -1,0 +1,18 @@
+// The distributed machine on flat memories.
+#![tactic(auto)]
+
+pub mod core_run;
+pub mod drive;
+pub mod frames;
+pub mod group;
+pub mod joins;
+pub mod machine;
+pub mod mail;
+pub mod owned;
+pub mod parts;
+pub mod reduce;
+pub mod scalars;
+pub mod spans;
+pub mod start;
+pub mod steps;
+pub mod stream;

@@ -1,0 +1,333 @@
+// The machine: memories, variables, partials, frames, messages, and the least recorded fault.
+
+ghost use Rattle.std.specs.Prelude.{◌≡◌, ◌≢◌, [], ℕ, ℤ, ◌+◌, ◌<◌, ◌≤◌, List, length, map, slice_index_or, take, Some, ◌*◌, ◌^◌, IfOk};
+ghost use Rattle.kernel_types.specs.declared.faults.KernelFault.{KernelFault};
+ghost use Rattle.schedule_model.specs.Machine.{is_less_element};
+ghost use Rattle.schedule_model.specs.Kept.{if_before};
+ghost use Rattle.flat_machine.specs.Layout.{Core};
+ghost use Rattle.rank_state.specs.Spans.{Within, total};
+ghost use Rattle.rank_state.specs.Windows.{Reads, Merges};
+ghost use Rattle.rank_state.specs.Frames.{Shut, pane_at, Enough, Exactly};
+ghost use Rattle.rank_state.specs.Mail.{Carries};
+ghost use Rattle.rank_state.specs.Machine.{State, row, posted, taken, noted, begun, ended};
+ghost use Rattle.rank_state.specs.Joins.{reduced};
+ghost use Rattle.rank_state.specs.Core.{fault_of};
+ghost use Rattle.rank_state.specs.Starting.{units as united, started};
+ghost use Rattle.rank_state.specs.Ordered.{Within_all, InLength, total_all, all_windows, left_in};
+ghost use Rattle.rank_exec.specs.Stops.{stop_in};
+
+use crate::core_run::Kernels;
+use crate::frames::Frames;
+use crate::mail::Mail;
+use crate::owned::run_element;
+use crate::reduce::{reduce_variables, unite_all};
+use crate::scalars::unit;
+use kernel_types::KernelFault;
+use rank_state::{Operation, Owned, Scalar, Span};
+use std::alloc::{AllocError, Global};
+use std::marker::Model;
+
+/// A fault and where it came; a host statement has no element.
+#[derive(Clone, Copy, PartialEq, Eq, Debug)]
+pub struct Stop {
+    pub item: usize,
+    pub element: Option<usize>,
+    pub fault: KernelFault,
+}
+
+#[derive(Drop)]
+pub struct Machine {
+    memories: Vec<Vec<i32>>,
+    variables: Vec<i32>,
+    partials: Vec<Vec<i32>>,
+    frames: Frames,
+    mail: Mail,
+    fault: Option<Stop>,
+    output: Vec<u8>,
+    // room for the windows of an element of an Ordered loop
+    window: Vec<i32>,
+}
+
+impl Model for Machine {
+    ghost use Rattle.std.specs.Prelude.{◌≡◌, ℕ, map, vec_len};
+    ghost use Rattle.kernel_types.specs.declared.faults.KernelFault.{KernelFault};
+    ghost use Rattle.rank_state.specs.Machine.{State};
+
+    ghost Value = { State KernelFault };
+
+    ghost use Rattle.rank_exec.specs.Stops.{stop_in};
+
+    ghost view = { λ m. record {
+      memories = map (λ v. v.items) m.memories.items;
+      variables = m.variables.items;
+      partials = map
+          (λ v. v.items) m.partials.items;
+      frames = m.frames;
+      mail = m.mail;
+      fault = stop_in m.fault;
+      output = m.output.items;
+    } };
+
+    ghost invariant = { λ m. vec_len m.window ≡ m.frames.stride };
+}
+
+// The first element is before the second.
+fn is_before(element: usize, other: Option<usize>) -> bool
+    ensures { result ≡ is_less_element (Some element) other }
+{
+    match other {
+        Some(b) => element < b,
+        None => false,
+    }
+}
+
+// The earlier of a recorded fault and a new one; of two of one element, the first.
+fn least(
+    before: Option<Stop>,
+    item: usize,
+    element: usize,
+    fault: Option<KernelFault>,
+) -> Option<Stop>
+    ensures { stop_in result ≡ noted item element fault (stop_in before) }
+{
+    let Some(fault) = fault else {
+        return before;
+    };
+    let new = Stop {
+        item,
+        element: Some(element),
+        fault,
+    };
+    match before {
+        Some(old) => {
+            if item < old.item || (item == old.item && is_before(element, old.element)) {
+                Some(new)
+            } else {
+                Some(old)
+            }
+        }
+        None => Some(new),
+    }
+}
+
+// The fault, where its item is before this one.
+fn before(fault: Option<Stop>, item: usize) -> Option<Stop>
+    ensures { stop_in result ≡ if_before item (stop_in fault) }
+{
+    let Some(stop) = fault else {
+        return None;
+    };
+    if stop.item < item { Some(stop) } else { None }
+}
+
+// How many cells the spans have.
+fn cells(spans: &[Span]) -> usize
+    requires { total spans.now < 2 ^ 64 }
+    ensures { result ≡ total spans.now }
+{
+    let mut count = 0;
+    for span in spans {
+        count += span.dim;
+    }
+    count
+}
+
+/// A unit for each slot.
+fn units(alloc: Global, slots: &[Operation]) -> Result<Vec<i32>, AllocError>
+    ensures { IfOk result (λ v. v.items ≡ united slots.now) }
+{
+    let mut row = Vec::with_capacity(alloc, slots.len())?;
+    for how in slots {
+        row.push(unit(*how))?;
+    }
+    Ok(row)
+}
+
+/// The same for each rank.
+fn units_of_ranks(
+    alloc: Global,
+    memories: &[Vec<i32>],
+    slots: &[Operation],
+) -> Result<Vec<Vec<i32>>, AllocError>
+    ensures { IfOk result (λ v. map (λ row. row.items) v.items ≡ map (λ m. united slots.now) memories.now) }
+{
+    let mut rows = Vec::with_capacity(alloc, memories.len())?;
+    for _memory in memories {
+        rows.push(units(alloc, slots)?)?;
+    }
+    Ok(rows)
+}
+
+impl Machine {
+    /// A machine whose memories and variables hold their first values, with a partial for each slot,
+    /// and room for so many frames, of at most `stride` cells each, and for so many cells under way.
+    /// `places` says for each rank how many places there may be.
+    pub fn new(
+        alloc: Global,
+        memories: Vec<Vec<i32>>,
+        variables: Vec<i32>,
+        slots: &[Operation],
+        places: &[usize],
+        frames: usize,
+        mail: usize,
+        stride: usize,
+    ) -> Result<Machine, AllocError>
+        requires { frames * stride < 2 ^ 60 }
+        ensures { IfOk result
+            (λ m. m ≡ started (map (λ v. v.items) memories.items) variables.items slots.now places.now frames mail stride) }
+    {
+        let partials = units_of_ranks(alloc, &memories, slots)?;
+        let frames = Frames::new(alloc, places, frames, stride)?;
+        let mail = Mail::new(alloc, mail)?;
+        let output = Vec::new(alloc);
+        let window = vec![in alloc; 0; stride]?;
+        Ok(Machine {
+            memories,
+            variables,
+            partials,
+            frames,
+            mail,
+            fault: None,
+            output,
+            window,
+        })
+    }
+
+    /// Runs an element's kernel in a frame of its own.
+    pub fn begin<C: Kernels>(
+        &mut self,
+        core: &C,
+        constants: usize,
+        item: usize,
+        rank: usize,
+        place: usize,
+        original: usize,
+        spans: &[Span],
+        scalars: &[Scalar],
+    )
+        requires rank { rank < length self.old.memories }
+        requires frames { rank < length self.old.frames.panes }
+        requires place { place < length (slice_index_or self.old.frames.panes rank []) }
+        requires shut { pane_at self.old.frames.panes rank place ≡ Shut }
+        requires room { 0 < self.old.frames.left }
+        requires inside { Within (length (row self.old.memories rank)) spans.now }
+        requires reads { Reads (length self.old.variables) scalars.now }
+        requires constants { constants ≤ length self.old.variables }
+        requires fits { total spans.now + length scalars.now ≤ self.old.frames.stride }
+        ensures { self.new ≡ begun (C.core core.now) constants item rank place original spans.now scalars.now self.old }
+    {
+        let fault = self.frames.begin(
+            core,
+            item,
+            rank,
+            place,
+            original,
+            &self.variables[..constants],
+            &self.memories[rank],
+            spans,
+            &self.variables,
+            scalars,
+        );
+        self.fault = least(self.fault, item, original, fault);
+    }
+
+    /// Copies an element's frame back, and merges its amounts where the element is owned.
+    pub fn end(&mut self, own: bool, rank: usize, place: usize, spans: &[Span], scalars: &[Scalar])
+        requires rank { rank < length self.old.memories }
+        requires partials { rank < length self.old.partials }
+        requires frames { rank < length self.old.frames.panes }
+        requires place { place < length (slice_index_or self.old.frames.panes rank []) }
+        requires open { pane_at self.old.frames.panes rank place ≢ Shut }
+        requires inside { Within (length (row self.old.memories rank)) spans.now }
+        requires slots { Merges (length (row self.old.partials rank)) scalars.now }
+        requires small { total spans.now < 2 ^ 64 }
+        requires enough { Enough (total spans.now) (pane_at self.old.frames.panes rank place) }
+        requires exact { Exactly (total spans.now + length scalars.now) (pane_at self.old.frames.panes rank place) }
+        ensures { self.new ≡ ended own rank place spans.now scalars.now self.old }
+    {
+        let skip = cells(spans);
+        self.frames.end(
+            own,
+            rank,
+            place,
+            &mut self.memories[rank],
+            spans,
+            &mut self.partials[rank],
+            scalars,
+            skip,
+        );
+    }
+
+    /// Stores the sender's cells as a message.
+    pub fn send(&mut self, item: usize, from: usize, to: usize, spans: &[Span])
+        requires rank { from < length self.old.memories }
+        requires inside { Within (length (row self.old.memories from)) spans.now }
+        requires some { 0 < total spans.now }
+        requires room { total spans.now ≤ self.old.mail.left }
+        ensures { self.new ≡ posted item from to spans.now self.old }
+    {
+        self.mail.send(item, from, to, &self.memories[from], spans);
+    }
+
+    /// Takes the oldest message of the pair into the receiver's copies.
+    pub fn recv(&mut self, item: usize, rank: usize, from: usize, spans: &[Span])
+        requires rank { rank < length self.old.memories }
+        requires inside { Within (length (row self.old.memories rank)) spans.now }
+        requires oldest { Carries item from rank (total spans.now) self.old.mail }
+        ensures { self.new ≡ taken rank from spans.now self.old }
+    {
+        self.mail
+            .recv(item, from, rank, &mut self.memories[rank], spans);
+    }
+
+    /// The kept fault, where its item is before this one.
+    pub fn fault_before(&self, item: usize) -> Option<Stop>
+        ensures { stop_in result ≡ if_before item self.now.fault }
+    {
+        before(self.fault, item)
+    }
+
+    /// Merges the partials of all ranks into the variables, and sets them to their units.
+    pub fn reduce(&mut self, scalars: &[Scalar])
+        requires reads { Reads (length self.old.variables) scalars.now }
+        requires rows { (i : ℕ) → i < length self.old.partials → Merges (length (row self.old.partials i)) scalars.now }
+        ensures { self.new ≡ reduced scalars.now self.old }
+    {
+        reduce_variables(&mut self.variables, &self.partials, scalars);
+        unite_all(&mut self.partials, scalars);
+    }
+
+    /// Runs an element of an Ordered loop on the owners' cells and the variables; its fault, where it
+    /// has one.
+    pub fn element<C: Kernels>(
+        &mut self,
+        core: &C,
+        constants: usize,
+        item: usize,
+        element: usize,
+        spans: &[Owned],
+        indices: &[usize],
+    ) -> Option<KernelFault>
+        requires inside { Within_all self.old.memories spans.now }
+        requires reads { InLength (length self.old.variables) indices.now }
+        requires constants { constants ≤ length self.old.variables }
+        requires room { total_all spans.now + length indices.now ≤ self.old.frames.stride }
+        ensures fault { result
+            ≡ fault_of (C.core core.now item element (take constants self.old.variables) (all_windows spans.now indices.now self.old)) }
+        ensures state { self.new
+            ≡ left_in spans.now indices.now
+            (C.core core.now item element (take constants self.old.variables) (all_windows spans.now indices.now self.old)) self.old }
+    {
+        run_element(
+            core,
+            constants,
+            item,
+            element,
+            &mut self.memories,
+            &mut self.variables,
+            spans,
+            indices,
+            &mut self.window,
+        )
+    }
+}
