@@ -11,7 +11,10 @@ use Rattle.schedule_model.specs.Sequential.{Seq, Going, Stopped}
 use Rattle.flat_machine.specs.Layout.{Layout, message_cells}
 use Rattle.flat_machine.specs.Flat.{Flat, Shut_pane, flat_from, StartsFlat}
 use Rattle.rank_state.specs.declared.spans.Span.{Span}
+use Rattle.rank_state.specs.declared.owned.Owned.{Owned}
 use Rattle.rank_state.specs.Spans.{total}
+use Rattle.rank_state.specs.Core.{fault_of}
+use Rattle.rank_state.specs.Ordered.{AreOwned, run_of, left_in}
 use Rattle.rank_state.specs.Frames.{Shut, pane_at}
 use Rattle.rank_state.specs.Groups.{begins, Distinct, Planned, AllShut}
 use Rattle.rank_state.specs.Mail.{Carries}
@@ -45,6 +48,14 @@ module _ {F : Type 0} (p : Setup F) (l : Layout F) (t : Tables) where
   abbrev pub After : Option (model.Stop F) → State F → Flat F → Type 0
   After None st f = Shows p l t st f
   After (Some x) st f = (f.stop ≡ Some x) × (f.output ≡ st.output)
+
+  -- an element of an Ordered loop was run on its owners' cells and the variables
+  pub record RanElement (k e : ℕ) (old new : State F) (fault : Option F) : Type 0 where
+    pub spans : List Owned
+    pub indices : List ℕ
+    pub are : AreOwned p l t k e spans indices
+    pub fault_is : fault ≡ fault_of (run_of l t k e spans indices old)
+    pub state_is : new ≡ left_in spans indices (run_of l t k e spans indices old) old
 
 module _ {F : Type 0} (l : Layout F) where
   -- cells that a step puts into the mail, and that it takes

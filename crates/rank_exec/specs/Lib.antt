@@ -3,3 +3,5 @@ pub mod Letters
 pub mod Stops
 pub mod Driving
 pub mod Kinds
+pub mod Copies
+pub mod Rooms

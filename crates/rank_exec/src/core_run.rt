@@ -1,26 +1,45 @@
 // A kernel's run on the windows of an element.
 
-ghost use Rattle.std.specs.Prelude.{◌≡◌, ℕ, ℤ, List, length};
+ghost use Rattle.std.specs.Prelude.{◌≡◌, ◌≤◌, ℕ, ℤ, List, length};
 ghost use Rattle.kernel_types.specs.declared.faults.KernelFault.{KernelFault};
 ghost use Rattle.flat_machine.specs.Layout.{Core, Leaves};
 ghost use Rattle.rank_state.specs.Core.{ran_of};
 
 use kernel_types::KernelFault;
+use std::marker::Sync;
 
-/// Runs kernels on windows.
-pub trait Kernels {
+/// Runs the kernels of loops on windows: the cells of an element's different targets, one target after another.
+pub trait Kernels: Sync {
     /// From item, element, constants and windows: the fault, or the windows after the run.
     ghost core: { Self → ℕ → ℕ → List ℤ → List ℤ → Core KernelFault };
 
+    /// The item is a loop with this element, whose kernel reads so many constants, and whose windows have so many cells.
+    ghost takes: { Self → ℕ → ℕ → ℕ → ℕ → Type 0 };
+
+    /// How many cells the locals of a kernel have at most.
+    ghost locals: { Self → ℕ };
+
+    /// How many cells the locals of a kernel have at most.
+    fn most_locals(&self) -> usize
+        ensures { result ≡ locals self.now };
+
+    /// Runs the kernel of the loop that is the item for an element, with the values of all constants. What the run
+    /// leaves in `scratch`, the room for locals, means nothing. Takes no memory.
+    ///
+    /// # Errors
+    /// The first fault of the run; the windows then mean nothing.
     fn run(
         &self,
-        item: usize,
-        element: usize,
+        item: u32,
+        element: u32,
         constants: &[i32],
         windows: &mut [i32],
+        scratch: &mut [i32],
     ) -> Result<(), KernelFault>
+        requires takes { takes self.now item element (length constants.now) (length windows.old) }
+        requires room { locals self.now ≤ length scratch.old }
         ensures { ran_of windows.new result ≡ core self.now item element constants.now windows.old };
 
-    /// No window grows or shrinks.
+    /// A law: no window grows or shrinks.
     ghost same_length: { (c : Self) (k e : ℕ) (cs ws us : List ℤ) → core c k e cs ws ≡ Leaves us → length us ≡ length ws };
 }

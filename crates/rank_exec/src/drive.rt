@@ -8,13 +8,15 @@ ghost use Rattle.schedule_model.specs.Laws.{Lawful, Coloured};
 ghost use Rattle.schedule_model.specs.Sequential.{sequential};
 ghost use Rattle.flat_machine.specs.Layout.{by_place};
 ghost use Rattle.flat_machine.specs.Flat.{Flat, StartsFlat, flat_step, flat_from};
+ghost use Rattle.rank_exec.specs.Rooms.{HasRoom};
 ghost use Rattle.rank_state.specs.Shows.{Shows};
 ghost use Rattle.rank_exec.specs.Stops.{stop_in};
 ghost use Rattle.rank_exec.specs.Driving.{Ready, After, posts, takes, opens, shuts, FitsPeak, AsSequential};
 
 use crate::group::run_begins;
-use crate::joins::{Items, join};
+use crate::joins::{Hosts, join};
 use crate::machine::{Machine, Stop};
+use crate::room::Room;
 use crate::steps;
 use crate::stream::Steps;
 use kernel_types::KernelFault;
@@ -22,11 +24,13 @@ use schedule_steps::Step;
 use std::alloc::{AllocError, Global};
 
 /// One step.
-pub fn take<P: Items>(
+pub fn take<P: Hosts>(
     machine: &mut Machine,
     parts: &P,
+    room: &mut Room,
     step: Step,
 ) -> Result<Option<Stop>, AllocError>
+    requires space { HasRoom (P.span_count parts.now) (P.locals parts.now) room.old }
     requires planned { IsStep (by_place (P.setup parts.now) (P.layout parts.now)) step }
     requires shows { (f : Flat KernelFault) × Shows (P.setup parts.now) (P.layout parts.now) (P.tables parts.now) machine.old f }
     requires ready { Ready (P.setup parts.now) (P.layout parts.now) (P.tables parts.now) step machine.old }
@@ -36,35 +40,38 @@ pub fn take<P: Items>(
         (flat_step (P.setup parts.now) (P.layout parts.now) step f)) }
     ensures mail { machine.new.mail.left + posts (P.layout parts.now) step ≡ machine.old.mail.left + takes (P.layout parts.now) step }
     ensures frames { machine.new.frames.left + opens step ≡ machine.old.frames.left + shuts step }
+    ensures space { HasRoom (P.span_count parts.now) (P.locals parts.now) room.new }
 {
     match step {
         Step::Send { item, from, to } => {
-            steps::send(machine, parts, item as usize, from as usize, to as usize);
+            steps::send(machine, parts, room, item, from, to);
             Ok(None)
         }
         Step::Recv { item, rank, from } => {
-            steps::recv(machine, parts, item as usize, rank as usize, from as usize);
+            steps::recv(machine, parts, room, item, rank, from);
             Ok(None)
         }
         Step::Begin { item, rank, place } => {
-            steps::begin(machine, parts, item as usize, rank as usize, place as usize);
+            steps::begin(machine, parts, room, item, rank, place);
             Ok(None)
         }
         Step::End { item, rank, place } => {
-            steps::end(machine, parts, item as usize, rank as usize, place as usize);
+            steps::end(machine, parts, room, item, rank, place);
             Ok(None)
         }
-        Step::Join { item } => join(machine, parts, item as usize),
+        Step::Join { item } => join(machine, parts, room, item),
     }
 }
 
 /// The steps of an accepted list, up to the first that stops.
-pub fn run<P: Items, S: Steps>(
+pub fn run<P: Hosts, S: Steps>(
     alloc: Global,
     machine: &mut Machine,
     parts: &P,
+    room: &mut Room,
     steps: &mut S,
 ) -> Result<Option<Stop>, AllocError>
+    requires space { HasRoom (P.span_count parts.now) (P.locals parts.now) room.old }
     requires accepted { Accepted (by_place (P.setup parts.now) (P.layout parts.now)) (S.left steps.old) }
     requires starts { (f : Flat KernelFault) × StartsFlat (P.setup parts.now) (P.layout parts.now) f
         × Shows (P.setup parts.now) (P.layout parts.now) (P.tables parts.now) machine.old f }
@@ -80,9 +87,9 @@ pub fn run<P: Items, S: Steps>(
     let mut next = steps.next_step();
     while let Some(step) = next {
         if let Step::Begin { item, rank, place } = step {
-            next = run_begins(alloc, machine, parts, steps, item, rank, place)?;
+            next = run_begins(alloc, machine, parts, room, steps, item, rank, place)?;
         } else {
-            if let Some(stop) = take(machine, parts, step)? {
+            if let Some(stop) = take(machine, parts, room, step)? {
                 return Ok(Some(stop));
             }
             next = steps.next_step();
@@ -92,12 +99,14 @@ pub fn run<P: Items, S: Steps>(
 }
 
 /// The steps of an accepted list: the stop and the output are those of the sequential run.
-pub fn drive<P: Items, S: Steps>(
+pub fn drive<P: Hosts, S: Steps>(
     alloc: Global,
     machine: &mut Machine,
     parts: &P,
+    room: &mut Room,
     steps: &mut S,
 ) -> Result<Option<Stop>, AllocError>
+    requires space { HasRoom (P.span_count parts.now) (P.locals parts.now) room.old }
     requires lawful { Lawful (P.setup parts.now) }
     requires coloured { Coloured (P.setup parts.now) }
     requires accepted { Accepted (by_place (P.setup parts.now) (P.layout parts.now)) (S.left steps.old) }
@@ -107,6 +116,6 @@ pub fn drive<P: Items, S: Steps>(
     ensures { IfOk result (λ stop. AsSequential (sequential (P.setup parts.now).program) (stop_in stop) machine.new.output) }
 {
     flat_machine::flat_runs_as_sequential::<KernelFault>();
-    let stop = run(alloc, machine, parts, steps)?;
+    let stop = run(alloc, machine, parts, room, steps)?;
     Ok(stop)
 }

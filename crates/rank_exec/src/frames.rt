@@ -29,9 +29,9 @@ pub enum Held {
 /// The element that a slot is for.
 #[derive(Clone, Copy, PartialEq, Eq, Debug)]
 pub struct Slot {
-    pub item: usize,
-    pub rank: usize,
-    pub element: usize,
+    pub item: u32,
+    pub rank: u32,
+    pub element: u32,
     pub held: Held,
 }
 
@@ -58,15 +58,18 @@ fn load(
 /// Copies an element's windows into the frame and runs its kernel there.
 fn run_in<C: Kernels>(
     core: &C,
-    item: usize,
-    element: usize,
+    item: u32,
+    element: u32,
     constants: &[i32],
     memory: &[i32],
     spans: &[Span],
     variables: &[i32],
     scalars: &[Scalar],
     frame: &mut [i32],
+    scratch: &mut [i32],
 ) -> Held
+    requires takes { C.takes core.now item element (length constants.now) (total spans.now + length scalars.now) }
+    requires locals { C.locals core.now ≤ length scratch.old }
     requires inside { Within (length memory.now) spans.now }
     requires reads { Reads (length variables.now) scalars.now }
     requires room { total spans.now + length scalars.now ≤ length frame.old }
@@ -79,7 +82,7 @@ fn run_in<C: Kernels>(
         (gathered memory.now spans.now ++ firsts variables.now scalars.now)) }
 {
     let count = load(memory, spans, variables, scalars, frame);
-    match core.run(item, element, constants, &mut frame[..count]) {
+    match core.run(item, element, constants, &mut frame[..count], scratch) {
         Ok(()) => Held::Cells(count),
         Err(fault) => Held::Fault(fault),
     }
@@ -88,8 +91,8 @@ fn run_in<C: Kernels>(
 /// The same in a part of the staging buffer.
 fn run_at<C: Kernels>(
     core: &C,
-    item: usize,
-    element: usize,
+    item: u32,
+    element: u32,
     constants: &[i32],
     memory: &[i32],
     spans: &[Span],
@@ -98,7 +101,10 @@ fn run_at<C: Kernels>(
     staging: &mut [i32],
     at: usize,
     stride: usize,
+    scratch: &mut [i32],
 ) -> Held
+    requires takes { C.takes core.now item element (length constants.now) (total spans.now + length scalars.now) }
+    requires locals { C.locals core.now ≤ length scratch.old }
     requires part { at + stride ≤ length staging.old }
     requires inside { Within (length memory.now) spans.now }
     requires reads { Reads (length variables.now) scalars.now }
@@ -122,6 +128,7 @@ fn run_at<C: Kernels>(
         variables,
         scalars,
         &mut staging[at..at + stride],
+        scratch,
     )
 }
 
@@ -175,12 +182,12 @@ fn merge_back(
 }
 
 /// The slot of an element, where it is open.
-fn entry_at(table: &[Vec<Option<usize>>], rank: usize, element: usize) -> Option<usize>
+fn entry_at(table: &[Vec<Option<usize>>], rank: u32, element: u32) -> Option<usize>
     requires rank { rank < length table.now }
     requires element { element < length (slice_index_or (map (λ row. row.items) table.now) rank []) }
     ensures { result ≡ entry (map (λ row. row.items) table.now) rank element }
 {
-    table[rank][element]
+    table[rank as usize][element as usize]
 }
 
 fn fault_in(held: Held) -> Option<KernelFault>
@@ -275,16 +282,19 @@ impl Frames {
     pub fn begin<C: Kernels>(
         &mut self,
         core: &C,
-        item: usize,
-        rank: usize,
-        element: usize,
-        original: usize,
+        item: u32,
+        rank: u32,
+        element: u32,
+        original: u32,
         constants: &[i32],
         memory: &[i32],
         spans: &[Span],
         variables: &[i32],
         scalars: &[Scalar],
+        scratch: &mut [i32],
     ) -> Option<KernelFault>
+        requires takes { C.takes core.now item original (length constants.now) (total spans.now + length scalars.now) }
+        requires locals { C.locals core.now ≤ length scratch.old }
         requires rank { rank < length self.old.panes }
         requires element { element < length (slice_index_or self.old.panes rank []) }
         requires shut { pane_at self.old.panes rank element ≡ Shut }
@@ -314,6 +324,7 @@ impl Frames {
             &mut self.staging,
             slot * self.stride,
             self.stride,
+            scratch,
         );
         self.slots[slot] = Slot {
             item,
@@ -321,7 +332,7 @@ impl Frames {
             element,
             held,
         };
-        self.table[rank][element] = Some(slot);
+        self.table[rank as usize][element as usize] = Some(slot);
         fault_in(held)
     }
 
@@ -330,8 +341,8 @@ impl Frames {
     pub fn end(
         &mut self,
         own: bool,
-        rank: usize,
-        element: usize,
+        rank: u32,
+        element: u32,
         memory: &mut [i32],
         spans: &[Span],
         partials: &mut [i32],
@@ -371,7 +382,7 @@ impl Frames {
             skip,
         );
         self.slots[slot].held = Held::Nothing;
-        self.table[rank][element] = None;
+        self.table[rank as usize][element as usize] = None;
         self.free.push_reserved(slot);
     }
 }

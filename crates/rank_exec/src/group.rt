@@ -6,12 +6,14 @@ ghost use Rattle.schedule_steps.specs.declared.step.Step.{Step};
 ghost use Rattle.schedule_steps.specs.declared.step.Step.TheVariants.{Begin, End};
 ghost use Rattle.flat_machine.specs.Layout.{by_place};
 ghost use Rattle.flat_machine.specs.Flat.{Flat, flat_from};
+ghost use Rattle.rank_exec.specs.Rooms.{HasRoom};
 ghost use Rattle.rank_state.specs.Shows.{Shows};
 ghost use Rattle.rank_state.specs.Groups.{begins, Distinct, Planned, AllShut};
 ghost use Rattle.rank_exec.specs.Driving.{Done, to_come, GroupReady};
 
 use crate::machine::Machine;
 use crate::parts::Parts;
+use crate::room::Room;
 use crate::steps::{begin, in_place};
 use crate::stream::Steps;
 use kernel_types::KernelFault;
@@ -22,11 +24,13 @@ use std::alloc::{AllocError, Global};
 pub fn begin_group<P: Parts>(
     machine: &mut Machine,
     parts: &P,
-    item: usize,
-    rank: usize,
+    room: &mut Room,
+    item: u32,
+    rank: u32,
     places: &[u32],
 )
     requires planned { Planned (by_place (P.setup parts.now) (P.layout parts.now)) item rank places.now }
+    requires space { HasRoom (P.span_count parts.now) (P.locals parts.now) room.old }
     requires shows { (f : Flat KernelFault) × Shows (P.setup parts.now) (P.layout parts.now) (P.tables parts.now) machine.old f }
     requires shut { AllShut machine.old.frames.panes rank places.now }
     requires distinct { Distinct places.now }
@@ -34,12 +38,13 @@ pub fn begin_group<P: Parts>(
     ensures shows { (f : Flat KernelFault) → Shows (P.setup parts.now) (P.layout parts.now) (P.tables parts.now) machine.old f
         → Shows (P.setup parts.now) (P.layout parts.now) (P.tables parts.now) machine.new
         (flat_from (P.setup parts.now) (P.layout parts.now) (begins item rank places.now) f) }
+    ensures space { HasRoom (P.span_count parts.now) (P.locals parts.now) room.new }
     ensures mail { machine.new.mail.left ≡ machine.old.mail.left }
     ensures frames { machine.new.frames.left + length places.now ≡ machine.old.frames.left }
 {
     rank_state::begin_opens::<KernelFault>();
     for place in places {
-        begin(machine, parts, item, rank, *place as usize);
+        begin(machine, parts, room, item, rank, *place);
     }
 }
 
@@ -97,11 +102,13 @@ pub fn run_begins<P: Parts, S: Steps>(
     alloc: Global,
     machine: &mut Machine,
     parts: &P,
+    room: &mut Room,
     steps: &mut S,
     item: u32,
     rank: u32,
     place: u32,
 ) -> Result<Option<Step>, AllocError>
+    requires space { HasRoom (P.span_count parts.now) (P.locals parts.now) room.old }
     requires shows { (f : Flat KernelFault) × Shows (P.setup parts.now) (P.layout parts.now) (P.tables parts.now) machine.old f }
     requires ready { GroupReady (by_place (P.setup parts.now) (P.layout parts.now)) item rank
         (Begin item rank place ∷ S.left steps.old) machine.old }
@@ -110,14 +117,15 @@ pub fn run_begins<P: Parts, S: Steps>(
         × (0 < length done)
         × Done (P.setup parts.now) (P.layout parts.now) (P.tables parts.now) done machine.old machine.new) }
     ensures over { IfOk result (λ next. next ≡ None → S.left steps.new ≡ []) }
+    ensures space { HasRoom (P.span_count parts.now) (P.locals parts.now) room.new }
 {
     let mut places = vec![in alloc; place; 1]?;
     let next = collect(steps, item, rank, &mut places)?;
     if places.len() == 1 && is_end(next, item, rank, place) {
-        in_place(machine, parts, item as usize, rank as usize, place as usize);
+        in_place(machine, parts, room, item, rank, place);
         let after = steps.next_step();
         return Ok(after);
     }
-    begin_group(machine, parts, item as usize, rank as usize, &places);
+    begin_group(machine, parts, room, item, rank, &places);
     Ok(next)
 }

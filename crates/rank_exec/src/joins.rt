@@ -1,6 +1,6 @@
 // The joins.
 
-ghost use Rattle.std.specs.Prelude.{◌≡◌, ◌<◌, ℕ, None, IfOk};
+ghost use Rattle.std.specs.Prelude.{◌≡◌, ◌<◌, ◌≤◌, ℕ, length, None, IfOk};
 ghost use Rattle.kernel_types.specs.declared.faults.KernelFault.{KernelFault};
 ghost use Rattle.schedule_steps.specs.declared.step.Step.TheVariants.{Join};
 ghost use Rattle.schedule_steps.specs.Steps.{IsStep};
@@ -8,17 +8,19 @@ ghost use Rattle.schedule_model.specs.Program.{Reduce, Ordered, Host, elements};
 ghost use Rattle.schedule_model.specs.Kept.{if_before};
 ghost use Rattle.flat_machine.specs.Layout.{by_place};
 ghost use Rattle.flat_machine.specs.Flat.{Flat, flat_step};
+ghost use Rattle.rank_state.specs.Core.{fault_of};
+ghost use Rattle.rank_state.specs.Ordered.{AreOwned, run_of, left_in};
 ghost use Rattle.rank_state.specs.Shows.{Shows};
-ghost use Rattle.rank_state.specs.Joins.{AreReduced};
-ghost use Rattle.rank_state.specs.Ordered.{AreOwned};
 ghost use Rattle.rank_exec.specs.Kinds.{kind_of};
 ghost use Rattle.rank_exec.specs.Stops.{stop_in};
-ghost use Rattle.rank_exec.specs.Driving.{After};
+ghost use Rattle.rank_exec.specs.Driving.{After, RanElement};
+ghost use Rattle.rank_exec.specs.Rooms.{HasRoom};
 
+use crate::items::Items;
 use crate::machine::{Machine, Stop};
-use crate::parts::Parts;
+use crate::room::Room;
 use kernel_types::KernelFault;
-use rank_state::{Owned, Scalar};
+use rank_state::Owned;
 use std::alloc::AllocError;
 
 /// What an item that is a join does.
@@ -29,32 +31,20 @@ pub enum JoinKind {
     Host,
 }
 
-/// The items that are joins.
-pub trait Items: Parts {
+/// Host statements.
+pub trait Hosts: Items {
     /// What the item does.
-    fn join_kind(&self, item: usize) -> JoinKind
+    fn join_kind(&self, item: u32) -> JoinKind
         requires { IsStep (by_place (Self.setup self.now) (Self.layout self.now)) (Join item) }
         ensures { kind_of result ≡ (Self.setup self.now).program.kind item };
 
-    /// The cells into which the loop of a Reduce reduces.
-    fn reductions(&self, item: usize) -> &[Scalar]
-        requires { (Self.setup self.now).program.kind item ≡ Reduce }
-        ensures { AreReduced (Self.setup self.now) (Self.layout self.now) (Self.tables self.now) item result.now };
-
     /// How many elements an Ordered loop has.
-    fn elements(&self, item: usize) -> usize
+    fn elements(&self, item: u32) -> u32
         requires { (Self.setup self.now).program.kind item ≡ Ordered }
         ensures { result ≡ elements (Self.setup self.now).program item };
 
-    /// Where the windows of an element of an Ordered loop stand in the buffers of their owners, and
-    /// behind them the variables.
-    fn owned_windows(&self, item: usize, element: usize) -> (&[Owned], &[usize])
-        requires kind { (Self.setup self.now).program.kind item ≡ Ordered }
-        requires element { element < elements (Self.setup self.now).program item }
-        ensures { AreOwned (Self.setup self.now) (Self.layout self.now) (Self.tables self.now) item element result.0.now result.1.now };
-
     /// A host statement, where no fault of an earlier item is kept.
-    fn host(&self, machine: &mut Machine, item: usize) -> Result<Option<Stop>, AllocError>
+    fn host(&self, machine: &mut Machine, item: u32) -> Result<Option<Stop>, AllocError>
         requires kind { (Self.setup self.now).program.kind item ≡ Host }
         requires shows { (f : Flat KernelFault) × Shows (Self.setup self.now) (Self.layout self.now) (Self.tables self.now) machine.old f }
         requires going { if_before item machine.old.fault ≡ None }
@@ -67,7 +57,7 @@ pub trait Items: Parts {
 }
 
 /// A Reduce, where no fault of an earlier item is kept.
-fn reduce<P: Items>(machine: &mut Machine, parts: &P, item: usize)
+fn reduce<P: Items>(machine: &mut Machine, parts: &P, item: u32)
     requires kind { (P.setup parts.now).program.kind item ≡ Reduce }
     requires shows { (f : Flat KernelFault) × Shows (P.setup parts.now) (P.layout parts.now) (P.tables parts.now) machine.old f }
     requires going { if_before item machine.old.fault ≡ None }
@@ -82,12 +72,74 @@ fn reduce<P: Items>(machine: &mut Machine, parts: &P, item: usize)
     machine.reduce(parts.reductions(item));
 }
 
+// One element of an Ordered loop, on the cells of these spans and variables; its fault, where it has one.
+fn run_one_on<P: Items>(
+    machine: &mut Machine,
+    parts: &P,
+    item: u32,
+    element: u32,
+    spans: &[Owned],
+    indices: &[usize],
+    locals: &mut [i32],
+) -> Option<KernelFault>
+    requires kind { (P.setup parts.now).program.kind item ≡ Ordered }
+    requires element { element < elements (P.setup parts.now).program item }
+    requires are { AreOwned (P.setup parts.now) (P.layout parts.now) (P.tables parts.now) item element spans.now indices.now }
+    requires locals { P.locals parts.now ≤ length locals.old }
+    requires shows { (f : Flat KernelFault) × Shows (P.setup parts.now) (P.layout parts.now) (P.tables parts.now) machine.old f }
+    ensures fault { result
+        ≡ fault_of (run_of (P.layout parts.now) (P.tables parts.now) item element spans.now indices.now machine.old) }
+    ensures state { machine.new
+        ≡ left_in spans.now indices.now
+        (run_of (P.layout parts.now) (P.tables parts.now) item element spans.now indices.now machine.old) machine.old }
+{
+    rank_state::steps_can::<KernelFault>();
+    rank_state::windows_are_counted::<KernelFault>();
+    let constants = parts.constants();
+    machine.element(parts, constants, item, element, spans, indices, locals)
+}
+
+// One element of an Ordered loop; its fault, where it has one.
+fn run_one<P: Items>(
+    machine: &mut Machine,
+    parts: &P,
+    room: &mut Room,
+    item: u32,
+    element: u32,
+) -> Option<KernelFault>
+    requires kind { (P.setup parts.now).program.kind item ≡ Ordered }
+    requires element { element < elements (P.setup parts.now).program item }
+    requires space { HasRoom (P.span_count parts.now) (P.locals parts.now) room.old }
+    requires shows { (f : Flat KernelFault) × Shows (P.setup parts.now) (P.layout parts.now) (P.tables parts.now) machine.old f }
+    ensures ran { RanElement (P.setup parts.now) (P.layout parts.now) (P.tables parts.now) item element machine.old machine.new result }
+    ensures space { HasRoom (P.span_count parts.now) (P.locals parts.now) room.new }
+{
+    room.owned.clear();
+    let indices = parts.owned_windows(item, element, &mut room.owned);
+    run_one_on(
+        machine,
+        parts,
+        item,
+        element,
+        &room.owned,
+        indices,
+        &mut room.locals,
+    )
+}
+
 /// An Ordered loop, where no fault of an earlier item is kept: its elements one after another, up to
 /// the first that faults.
-fn run_ordered<P: Items>(machine: &mut Machine, parts: &P, item: usize) -> Option<Stop>
+fn run_ordered<P: Hosts>(
+    machine: &mut Machine,
+    parts: &P,
+    room: &mut Room,
+    item: u32,
+) -> Option<Stop>
+    requires space { HasRoom (P.span_count parts.now) (P.locals parts.now) room.old }
     requires kind { (P.setup parts.now).program.kind item ≡ Ordered }
     requires shows { (f : Flat KernelFault) × Shows (P.setup parts.now) (P.layout parts.now) (P.tables parts.now) machine.old f }
     requires going { if_before item machine.old.fault ≡ None }
+    ensures space { HasRoom (P.span_count parts.now) (P.locals parts.now) room.new }
     ensures after { (f : Flat KernelFault) → Shows (P.setup parts.now) (P.layout parts.now) (P.tables parts.now) machine.old f
         → After (P.setup parts.now) (P.layout parts.now) (P.tables parts.now) (stop_in result) machine.new
         (flat_step (P.setup parts.now) (P.layout parts.now) (Join item) f) }
@@ -95,11 +147,8 @@ fn run_ordered<P: Items>(machine: &mut Machine, parts: &P, item: usize) -> Optio
     ensures frames { machine.new.frames.left ≡ machine.old.frames.left }
 {
     rank_state::loop_shows::<KernelFault>();
-    rank_state::steps_can::<KernelFault>();
-    let constants = parts.constants();
     for element in 0..parts.elements(item) {
-        let (spans, indices) = parts.owned_windows(item, element);
-        if let Some(fault) = machine.element(parts, constants, item, element, spans, indices) {
+        if let Some(fault) = run_one(machine, parts, room, item, element) {
             return Some(Stop {
                 item,
                 element: Some(element),
@@ -111,17 +160,20 @@ fn run_ordered<P: Items>(machine: &mut Machine, parts: &P, item: usize) -> Optio
 }
 
 /// A join: it stops by the kept fault of an earlier item, and else does its item.
-pub fn join<P: Items>(
+pub fn join<P: Hosts>(
     machine: &mut Machine,
     parts: &P,
-    item: usize,
+    room: &mut Room,
+    item: u32,
 ) -> Result<Option<Stop>, AllocError>
+    requires space { HasRoom (P.span_count parts.now) (P.locals parts.now) room.old }
     requires planned { IsStep (by_place (P.setup parts.now) (P.layout parts.now)) (Join item) }
     requires shows { (f : Flat KernelFault) × Shows (P.setup parts.now) (P.layout parts.now) (P.tables parts.now) machine.old f }
     ensures after { IfOk result
         (λ stop. (f : Flat KernelFault) → Shows (P.setup parts.now) (P.layout parts.now) (P.tables parts.now) machine.old f
         → After (P.setup parts.now) (P.layout parts.now) (P.tables parts.now) (stop_in stop) machine.new
         (flat_step (P.setup parts.now) (P.layout parts.now) (Join item) f)) }
+    ensures space { HasRoom (P.span_count parts.now) (P.locals parts.now) room.new }
     ensures mail { machine.new.mail.left ≡ machine.old.mail.left }
     ensures frames { machine.new.frames.left ≡ machine.old.frames.left }
 {
@@ -134,7 +186,7 @@ pub fn join<P: Items>(
             reduce(machine, parts, item);
             Ok(None)
         }
-        JoinKind::Ordered => Ok(run_ordered(machine, parts, item)),
+        JoinKind::Ordered => Ok(run_ordered(machine, parts, room, item)),
         JoinKind::Host => parts.host(machine, item),
     }
 }

@@ -30,8 +30,8 @@ use std::marker::Model;
 /// A fault and where it came; a host statement has no element.
 #[derive(Clone, Copy, PartialEq, Eq, Debug)]
 pub struct Stop {
-    pub item: usize,
-    pub element: Option<usize>,
+    pub item: u32,
+    pub element: Option<u32>,
     pub fault: KernelFault,
 }
 
@@ -72,7 +72,7 @@ impl Model for Machine {
 }
 
 // The first element is before the second.
-fn is_before(element: usize, other: Option<usize>) -> bool
+fn is_before(element: u32, other: Option<u32>) -> bool
     ensures { result ≡ is_less_element (Some element) other }
 {
     match other {
@@ -82,12 +82,7 @@ fn is_before(element: usize, other: Option<usize>) -> bool
 }
 
 // The earlier of a recorded fault and a new one; of two of one element, the first.
-fn least(
-    before: Option<Stop>,
-    item: usize,
-    element: usize,
-    fault: Option<KernelFault>,
-) -> Option<Stop>
+fn least(before: Option<Stop>, item: u32, element: u32, fault: Option<KernelFault>) -> Option<Stop>
     ensures { stop_in result ≡ noted item element fault (stop_in before) }
 {
     let Some(fault) = fault else {
@@ -111,7 +106,7 @@ fn least(
 }
 
 // The fault, where its item is before this one.
-fn before(fault: Option<Stop>, item: usize) -> Option<Stop>
+fn before(fault: Option<Stop>, item: u32) -> Option<Stop>
     ensures { stop_in result ≡ if_before item (stop_in fault) }
 {
     let Some(stop) = fault else {
@@ -198,13 +193,16 @@ impl Machine {
         &mut self,
         core: &C,
         constants: usize,
-        item: usize,
-        rank: usize,
-        place: usize,
-        original: usize,
+        item: u32,
+        rank: u32,
+        place: u32,
+        original: u32,
         spans: &[Span],
         scalars: &[Scalar],
+        scratch: &mut [i32],
     )
+        requires takes { C.takes core.now item original constants (total spans.now + length scalars.now) }
+        requires locals { C.locals core.now ≤ length scratch.old }
         requires rank { rank < length self.old.memories }
         requires frames { rank < length self.old.frames.panes }
         requires place { place < length (slice_index_or self.old.frames.panes rank []) }
@@ -223,16 +221,17 @@ impl Machine {
             place,
             original,
             &self.variables[..constants],
-            &self.memories[rank],
+            &self.memories[rank as usize],
             spans,
             &self.variables,
             scalars,
+            scratch,
         );
         self.fault = least(self.fault, item, original, fault);
     }
 
     /// Copies an element's frame back, and merges its amounts where the element is owned.
-    pub fn end(&mut self, own: bool, rank: usize, place: usize, spans: &[Span], scalars: &[Scalar])
+    pub fn end(&mut self, own: bool, rank: u32, place: u32, spans: &[Span], scalars: &[Scalar])
         requires rank { rank < length self.old.memories }
         requires partials { rank < length self.old.partials }
         requires frames { rank < length self.old.frames.panes }
@@ -250,38 +249,39 @@ impl Machine {
             own,
             rank,
             place,
-            &mut self.memories[rank],
+            &mut self.memories[rank as usize],
             spans,
-            &mut self.partials[rank],
+            &mut self.partials[rank as usize],
             scalars,
             skip,
         );
     }
 
     /// Stores the sender's cells as a message.
-    pub fn send(&mut self, item: usize, from: usize, to: usize, spans: &[Span])
+    pub fn send(&mut self, item: u32, from: u32, to: u32, spans: &[Span])
         requires rank { from < length self.old.memories }
         requires inside { Within (length (row self.old.memories from)) spans.now }
         requires some { 0 < total spans.now }
         requires room { total spans.now ≤ self.old.mail.left }
         ensures { self.new ≡ posted item from to spans.now self.old }
     {
-        self.mail.send(item, from, to, &self.memories[from], spans);
+        self.mail
+            .send(item, from, to, &self.memories[from as usize], spans);
     }
 
     /// Takes the oldest message of the pair into the receiver's copies.
-    pub fn recv(&mut self, item: usize, rank: usize, from: usize, spans: &[Span])
+    pub fn recv(&mut self, item: u32, rank: u32, from: u32, spans: &[Span])
         requires rank { rank < length self.old.memories }
         requires inside { Within (length (row self.old.memories rank)) spans.now }
         requires oldest { Carries item from rank (total spans.now) self.old.mail }
         ensures { self.new ≡ taken rank from spans.now self.old }
     {
         self.mail
-            .recv(item, from, rank, &mut self.memories[rank], spans);
+            .recv(item, from, rank, &mut self.memories[rank as usize], spans);
     }
 
     /// The kept fault, where its item is before this one.
-    pub fn fault_before(&self, item: usize) -> Option<Stop>
+    pub fn fault_before(&self, item: u32) -> Option<Stop>
         ensures { stop_in result ≡ if_before item self.now.fault }
     {
         before(self.fault, item)
@@ -303,11 +303,14 @@ impl Machine {
         &mut self,
         core: &C,
         constants: usize,
-        item: usize,
-        element: usize,
+        item: u32,
+        element: u32,
         spans: &[Owned],
         indices: &[usize],
+        scratch: &mut [i32],
     ) -> Option<KernelFault>
+        requires takes { C.takes core.now item element constants (total_all spans.now + length indices.now) }
+        requires locals { C.locals core.now ≤ length scratch.old }
         requires inside { Within_all self.old.memories spans.now }
         requires reads { InLength (length self.old.variables) indices.now }
         requires constants { constants ≤ length self.old.variables }
@@ -328,6 +331,7 @@ impl Machine {
             spans,
             indices,
             &mut self.window,
+            scratch,
         )
     }
 }

@@ -14,9 +14,9 @@ use std::marker::Model;
 /// A message's head.
 #[derive(Clone, Copy, PartialEq, Eq, Debug)]
 pub struct Letter {
-    pub item: usize,
-    pub from: usize,
-    pub to: usize,
+    pub item: u32,
+    pub from: u32,
+    pub to: u32,
     pub count: usize,
 }
 
@@ -52,7 +52,7 @@ impl Mail {
     }
 
     /// Stores the spans' cells of the sender's memory as a message.
-    pub fn send(&mut self, item: usize, from: usize, to: usize, memory: &[i32], spans: &[Span])
+    pub fn send(&mut self, item: u32, from: u32, to: u32, memory: &[i32], spans: &[Span])
         requires inside { Within (length memory.now) spans.now }
         requires some { 0 < total spans.now }
         requires room { total spans.now ≤ self.old.left }
@@ -69,7 +69,7 @@ impl Mail {
     }
 
     /// Takes the oldest message of the pair, and puts its cells into the receiver's memory.
-    pub fn recv(&mut self, item: usize, from: usize, to: usize, memory: &mut [i32], spans: &[Span])
+    pub fn recv(&mut self, item: u32, from: u32, to: u32, memory: &mut [i32], spans: &[Span])
         requires inside { Within (length memory.old) spans.now }
         requires oldest { Carries item from to (total spans.now) self.old }
         ensures mail { self.new ≡ received from to (total spans.now) self.old }
@@ -84,7 +84,7 @@ impl Mail {
 }
 
 /// The place of the oldest letter of the pair, the place of its cells, and their number.
-fn place_of(letters: &[Letter], from: usize, to: usize) -> (usize, usize, usize)
+fn place_of(letters: &[Letter], from: u32, to: u32) -> (usize, usize, usize)
     requires has { index_of from to letters.now < length letters.now }
     requires small { cells_of letters.now < 2 ^ 64 }
     ensures index { result.0 ≡ index_of from to letters.now }
@@ -97,7 +97,7 @@ fn place_of(letters: &[Letter], from: usize, to: usize) -> (usize, usize, usize)
 }
 
 /// The place of the oldest letter of the pair, and of its cells.
-fn find(letters: &[Letter], from: usize, to: usize) -> (usize, usize)
+fn find(letters: &[Letter], from: u32, to: u32) -> (usize, usize)
     requires has { index_of from to letters.now < length letters.now }
     requires small { cells_of letters.now < 2 ^ 64 }
     ensures index { result.0 ≡ index_of from to letters.now }

@@ -47,7 +47,7 @@ pub fn scatter_all(memories: &mut [Vec<i32>], spans: &[Owned], frame: &[i32])
 {
     let mut from = 0;
     for span in spans {
-        put_row(memories, span.rank, span.at, frame, from, span.dim);
+        put_row(memories, span.rank as usize, span.at, frame, from, span.dim);
         from += span.dim;
     }
 }
@@ -61,7 +61,13 @@ pub fn gather_all(memories: &[Vec<i32>], spans: &[Owned], frame: &mut [i32]) -> 
 {
     let mut from = 0;
     for span in spans {
-        copy_in(frame, from, &memories[span.rank], span.at, span.dim);
+        copy_in(
+            frame,
+            from,
+            &memories[span.rank as usize],
+            span.at,
+            span.dim,
+        );
         from += span.dim;
     }
     from
@@ -113,14 +119,17 @@ pub fn load_all(
 pub fn run_element<C: Kernels>(
     core: &C,
     constants: usize,
-    item: usize,
-    element: usize,
+    item: u32,
+    element: u32,
     memories: &mut [Vec<i32>],
     variables: &mut [i32],
     spans: &[Owned],
     indices: &[usize],
     frame: &mut [i32],
+    scratch: &mut [i32],
 ) -> Option<KernelFault>
+    requires takes { C.takes core.now item element constants (total_all spans.now + length indices.now) }
+    requires locals { C.locals core.now ≤ length scratch.old }
     requires inside { Within_all (map (λ v. v.items) memories.old) spans.now }
     requires reads { InLength (length variables.old) indices.now }
     requires constants { constants ≤ length variables.old }
@@ -140,7 +149,14 @@ pub fn run_element<C: Kernels>(
 {
     let count = load_all(memories, spans, variables, indices, frame);
     let whole = count + indices.len();
-    match core.run(item, element, &variables[..constants], &mut frame[..whole]) {
+    let ran = core.run(
+        item,
+        element,
+        &variables[..constants],
+        &mut frame[..whole],
+        scratch,
+    );
+    match ran {
         Ok(()) => {
             scatter_all(memories, spans, &frame[..whole]);
             put_back_values(variables, indices, &frame[count..whole]);

@@ -1,28 +1,34 @@
-// What the machine reads of a bound program and its setup on several ranks.
+// What the machine reads of a bound program and its distribution over several ranks.
 
-ghost use Rattle.std.specs.Prelude.{◌≡◌, ◌<◌, ◌==◌, ◌^◌, ◌*◌, ℕ, ℤ, List, length};
+ghost use Rattle.std.specs.Prelude.{◌≡◌, ◌<◌, ◌≤◌, ◌==◌, ◌^◌, ℕ, ℤ, true, List, [], length, vec_capacity};
 ghost use Rattle.kernel_types.specs.declared.faults.KernelFault.{KernelFault};
-ghost use Rattle.schedule_steps.specs.declared.step.Step.{Step};
-ghost use Rattle.schedule_steps.specs.declared.step.Step.TheVariants.{Send, Recv, Begin, End, Join};
+ghost use Rattle.schedule_steps.specs.declared.step.Step.TheVariants.{Send, Recv, Begin};
 ghost use Rattle.schedule_steps.specs.Steps.{IsStep};
+ghost use Rattle.schedule_model.specs.Program.{is_loop, elements};
 ghost use Rattle.schedule_model.specs.Setup.{Setup};
 ghost use Rattle.flat_machine.specs.Layout.{Layout, IsLayout, by_place};
-ghost use Rattle.rank_state.specs.declared.scalars.Scalar.{Scalar};
 ghost use Rattle.rank_state.specs.Spans.{total};
 ghost use Rattle.rank_state.specs.Starting.{AreSlots, ArePlaces};
 ghost use Rattle.rank_state.specs.Shows.{Tables, Indexed, AreExports, AreImports, AreWindows};
 
 use crate::core_run::Kernels;
-use kernel_types::KernelFault;
 use rank_state::{Operation, Scalar, Span};
 
-/// A setup and its layout, as the machine reads them.
+/// A setup and its layout, as the machine reads them. No call takes memory: those that find spans put them into a vector
+/// that is lent empty, with room for `most_spans`.
 pub trait Parts: Kernels {
     ghost setup: { Self → Setup KernelFault };
 
     ghost layout: { Self → Layout KernelFault };
 
     ghost tables: { Self → Tables };
+
+    /// How many spans an element or a message has at most.
+    ghost span_count: { Self → ℕ };
+
+    /// How many spans an element or a message has at most.
+    fn most_spans(&self) -> usize
+        ensures { result ≡ span_count self.now };
 
     /// How many of the variables' first cells are the constants.
     fn constants(&self) -> usize
@@ -40,32 +46,48 @@ pub trait Parts: Kernels {
     fn stride(&self) -> usize
         ensures { result ≡ (tables self.now).stride };
 
-    /// The element at a place.
-    fn original(&self, item: usize, rank: usize, place: usize) -> usize
+    /// The element at a place of the rank, in the set of the item's loop, by its original number.
+    fn original(&self, item: u32, rank: u32, place: u32) -> u32
         requires { IsStep (by_place (setup self.now) (layout self.now)) (Begin item rank place) }
         ensures { result ≡ (layout self.now).original item rank place };
 
-    /// The rank owns the element of the item's set.
-    fn owns(&self, item: usize, rank: usize, element: usize) -> bool
-        ensures { result ≡ ((setup self.now).owner ((setup self.now).program.set item) element == rank) };
-
-    /// Where the windows of a place's element stand in its rank's buffer, and behind them the scalars.
-    fn windows(&self, item: usize, rank: usize, place: usize) -> (&[Span], &[Scalar])
+    /// Whether the rank owns the element at a place.
+    fn owns(&self, item: u32, rank: u32, place: u32) -> bool
         requires { IsStep (by_place (setup self.now) (layout self.now)) (Begin item rank place) }
-        ensures are { AreWindows (setup self.now) (layout self.now) (tables self.now) item rank place result.0.now result.1.now };
+        ensures { result
+            ≡ ((setup self.now).owner ((setup self.now).program.set item) ((layout self.now).original item rank place) == rank) };
 
-    /// Where the cells of a message stand on its sender.
-    fn exports(&self, item: usize, from: usize, to: usize) -> &[Span]
-        requires { IsStep (by_place (setup self.now) (layout self.now)) (Send item from to) }
-        ensures are { AreExports (setup self.now) (layout self.now) (tables self.now) item from to from result.now }
-        ensures some { 0 < total result.now };
+    /// Puts down where the windows of a place's element stand in its rank's buffer, and gives the scalars behind them.
+    fn windows(&self, item: u32, rank: u32, place: u32, spans: &mut Vec<Span>) -> &[Scalar]
+        requires step { IsStep (by_place (setup self.now) (layout self.now)) (Begin item rank place) }
+        requires empty { spans.old.items ≡ [] }
+        requires room { span_count self.now ≤ vec_capacity spans.old }
+        ensures are { AreWindows (setup self.now) (layout self.now) (tables self.now) item rank place spans.new.items result.now }
+        ensures room { vec_capacity spans.new ≡ vec_capacity spans.old };
 
-    /// Where they stand on its receiver.
-    fn imports(&self, item: usize, rank: usize, from: usize) -> &[Span]
-        requires { IsStep (by_place (setup self.now) (layout self.now)) (Recv item rank from) }
-        ensures { AreImports (setup self.now) (layout self.now) (tables self.now) item from rank result.now };
+    /// Puts down where the cells of a message stand on its sender.
+    fn exports(&self, item: u32, from: u32, to: u32, spans: &mut Vec<Span>)
+        requires step { IsStep (by_place (setup self.now) (layout self.now)) (Send item from to) }
+        requires empty { spans.old.items ≡ [] }
+        requires room { span_count self.now ≤ vec_capacity spans.old }
+        ensures are { AreExports (setup self.now) (layout self.now) (tables self.now) item from to from spans.new.items }
+        ensures some { 0 < total spans.new.items }
+        ensures room { vec_capacity spans.new ≡ vec_capacity spans.old };
 
+    /// Puts down where the cells of a message from `from` stand on its receiver.
+    fn imports(&self, item: u32, rank: u32, from: u32, spans: &mut Vec<Span>)
+        requires step { IsStep (by_place (setup self.now) (layout self.now)) (Recv item rank from) }
+        requires empty { spans.old.items ≡ [] }
+        requires room { span_count self.now ≤ vec_capacity spans.old }
+        ensures are { AreImports (setup self.now) (layout self.now) (tables self.now) item from rank spans.new.items }
+        ensures room { vec_capacity spans.new ≡ vec_capacity spans.old };
+
+    /// A law: the kernels are those of the layout.
     ghost core_is: { (c : Self) (k e : ℕ) (cs ws : List ℤ) → Self.core c k e cs ws ≡ (layout c).core k e cs ws };
+
+    /// A law: each loop's kernel runs for each element, on all constants and the cells of the element's windows.
+    ghost runs: { (c : Self) (k e : ℕ) → is_loop ((setup c).program.kind k) ≡ true → e < elements (setup c).program k
+        → Self.takes c k e (tables c).constants (length ((layout c).cells k e)) };
 
     ghost indexed: { (c : Self) → Indexed (setup c) (layout c) (tables c) };
 

@@ -10,15 +10,27 @@ ghost use Rattle.rank_state.specs.declared.spans.Span.{Span};
 ghost use Rattle.rank_state.specs.Spans.{total};
 ghost use Rattle.rank_state.specs.Frames.{Shut, pane_at};
 ghost use Rattle.rank_state.specs.Mail.{Carries};
-ghost use Rattle.rank_state.specs.Shows.{AreImports, Shows, pane_in};
+ghost use Rattle.rank_state.specs.Shows.{AreExports, AreImports, AreWindows, Shows, pane_in};
+ghost use Rattle.rank_exec.specs.Rooms.{HasRoom};
 
 use crate::machine::Machine;
 use crate::parts::Parts;
+use crate::room::Room;
 use kernel_types::KernelFault;
+use rank_state::{Scalar, Span};
 
-/// A send.
-pub fn send<P: Parts>(machine: &mut Machine, parts: &P, item: usize, from: usize, to: usize)
+// A send of the cells of these spans.
+fn send_on<P: Parts>(
+    machine: &mut Machine,
+    parts: &P,
+    item: u32,
+    from: u32,
+    to: u32,
+    spans: &[Span],
+)
     requires planned { IsStep (by_place (P.setup parts.now) (P.layout parts.now)) (Send item from to) }
+    requires are { AreExports (P.setup parts.now) (P.layout parts.now) (P.tables parts.now) item from to from spans.now }
+    requires some { 0 < total spans.now }
     requires shows { (f : Flat KernelFault) × Shows (P.setup parts.now) (P.layout parts.now) (P.tables parts.now) machine.old f }
     requires room { length ((P.layout parts.now).exports item from to) ≤ machine.old.mail.left }
     ensures shows { (f : Flat KernelFault) → Shows (P.setup parts.now) (P.layout parts.now) (P.tables parts.now) machine.old f
@@ -29,16 +41,47 @@ pub fn send<P: Parts>(machine: &mut Machine, parts: &P, item: usize, from: usize
 {
     rank_state::send_shows::<KernelFault>();
     rank_state::steps_can::<KernelFault>();
-    machine.send(item, from, to, parts.exports(item, from, to));
+    machine.send(item, from, to, spans);
 }
 
-/// A receive.
-pub fn recv<P: Parts>(machine: &mut Machine, parts: &P, item: usize, rank: usize, from: usize)
-    requires planned { IsStep (by_place (P.setup parts.now) (P.layout parts.now)) (Recv item rank from) }
+/// A send.
+pub fn send<P: Parts>(
+    machine: &mut Machine,
+    parts: &P,
+    room: &mut Room,
+    item: u32,
+    from: u32,
+    to: u32,
+)
+    requires planned { IsStep (by_place (P.setup parts.now) (P.layout parts.now)) (Send item from to) }
+    requires space { HasRoom (P.span_count parts.now) (P.locals parts.now) room.old }
     requires shows { (f : Flat KernelFault) × Shows (P.setup parts.now) (P.layout parts.now) (P.tables parts.now) machine.old f }
-    requires oldest { (spans : List Span)
-        → AreImports (P.setup parts.now) (P.layout parts.now) (P.tables parts.now) item from rank spans
-        → Carries item from rank (total spans) machine.old.mail }
+    requires room { length ((P.layout parts.now).exports item from to) ≤ machine.old.mail.left }
+    ensures shows { (f : Flat KernelFault) → Shows (P.setup parts.now) (P.layout parts.now) (P.tables parts.now) machine.old f
+        → Shows (P.setup parts.now) (P.layout parts.now) (P.tables parts.now) machine.new
+        (flat_step (P.setup parts.now) (P.layout parts.now) (Send item from to) f) }
+    ensures space { HasRoom (P.span_count parts.now) (P.locals parts.now) room.new }
+    ensures mail { machine.new.mail.left + length ((P.layout parts.now).exports item from to) ≡ machine.old.mail.left }
+    ensures frames { machine.new.frames.left ≡ machine.old.frames.left }
+{
+    room.spans.clear();
+    parts.exports(item, from, to, &mut room.spans);
+    send_on(machine, parts, item, from, to, &room.spans);
+}
+
+// A receive into the cells of these spans.
+fn recv_on<P: Parts>(
+    machine: &mut Machine,
+    parts: &P,
+    item: u32,
+    rank: u32,
+    from: u32,
+    spans: &[Span],
+)
+    requires planned { IsStep (by_place (P.setup parts.now) (P.layout parts.now)) (Recv item rank from) }
+    requires are { AreImports (P.setup parts.now) (P.layout parts.now) (P.tables parts.now) item from rank spans.now }
+    requires shows { (f : Flat KernelFault) × Shows (P.setup parts.now) (P.layout parts.now) (P.tables parts.now) machine.old f }
+    requires oldest { Carries item from rank (total spans.now) machine.old.mail }
     ensures shows { (f : Flat KernelFault) → Shows (P.setup parts.now) (P.layout parts.now) (P.tables parts.now) machine.old f
         → Shows (P.setup parts.now) (P.layout parts.now) (P.tables parts.now) machine.new
         (flat_step (P.setup parts.now) (P.layout parts.now) (Recv item rank from) f) }
@@ -47,12 +90,50 @@ pub fn recv<P: Parts>(machine: &mut Machine, parts: &P, item: usize, rank: usize
 {
     rank_state::recv_shows::<KernelFault>();
     rank_state::steps_can::<KernelFault>();
-    machine.recv(item, rank, from, parts.imports(item, rank, from));
+    machine.recv(item, rank, from, spans);
 }
 
-/// A begin.
-pub fn begin<P: Parts>(machine: &mut Machine, parts: &P, item: usize, rank: usize, place: usize)
+/// A receive.
+pub fn recv<P: Parts>(
+    machine: &mut Machine,
+    parts: &P,
+    room: &mut Room,
+    item: u32,
+    rank: u32,
+    from: u32,
+)
+    requires planned { IsStep (by_place (P.setup parts.now) (P.layout parts.now)) (Recv item rank from) }
+    requires space { HasRoom (P.span_count parts.now) (P.locals parts.now) room.old }
+    requires shows { (f : Flat KernelFault) × Shows (P.setup parts.now) (P.layout parts.now) (P.tables parts.now) machine.old f }
+    requires oldest { (spans : List Span)
+        → AreImports (P.setup parts.now) (P.layout parts.now) (P.tables parts.now) item from rank spans
+        → Carries item from rank (total spans) machine.old.mail }
+    ensures shows { (f : Flat KernelFault) → Shows (P.setup parts.now) (P.layout parts.now) (P.tables parts.now) machine.old f
+        → Shows (P.setup parts.now) (P.layout parts.now) (P.tables parts.now) machine.new
+        (flat_step (P.setup parts.now) (P.layout parts.now) (Recv item rank from) f) }
+    ensures space { HasRoom (P.span_count parts.now) (P.locals parts.now) room.new }
+    ensures mail { machine.new.mail.left ≡ machine.old.mail.left + length ((P.layout parts.now).exports item from rank) }
+    ensures frames { machine.new.frames.left ≡ machine.old.frames.left }
+{
+    room.spans.clear();
+    parts.imports(item, rank, from, &mut room.spans);
+    recv_on(machine, parts, item, rank, from, &room.spans);
+}
+
+// A begin on the windows of these spans and scalars.
+fn begin_on<P: Parts>(
+    machine: &mut Machine,
+    parts: &P,
+    item: u32,
+    rank: u32,
+    place: u32,
+    spans: &[Span],
+    scalars: &[Scalar],
+    locals: &mut [i32],
+)
     requires planned { IsStep (by_place (P.setup parts.now) (P.layout parts.now)) (Begin item rank place) }
+    requires are { AreWindows (P.setup parts.now) (P.layout parts.now) (P.tables parts.now) item rank place spans.now scalars.now }
+    requires locals { P.locals parts.now ≤ length locals.old }
     requires shows { (f : Flat KernelFault) × Shows (P.setup parts.now) (P.layout parts.now) (P.tables parts.now) machine.old f }
     requires shut { pane_at machine.old.frames.panes rank place ≡ Shut }
     requires room { 0 < machine.old.frames.left }
@@ -64,8 +145,8 @@ pub fn begin<P: Parts>(machine: &mut Machine, parts: &P, item: usize, rank: usiz
 {
     rank_state::begin_shows::<KernelFault>();
     rank_state::steps_can::<KernelFault>();
+    rank_state::windows_are_counted::<KernelFault>();
     let original = parts.original(item, rank, place);
-    let (spans, scalars) = parts.windows(item, rank, place);
     machine.begin(
         parts,
         parts.constants(),
@@ -75,12 +156,57 @@ pub fn begin<P: Parts>(machine: &mut Machine, parts: &P, item: usize, rank: usiz
         original,
         spans,
         scalars,
+        locals,
     );
 }
 
-/// An end.
-pub fn end<P: Parts>(machine: &mut Machine, parts: &P, item: usize, rank: usize, place: usize)
+/// A begin.
+pub fn begin<P: Parts>(
+    machine: &mut Machine,
+    parts: &P,
+    room: &mut Room,
+    item: u32,
+    rank: u32,
+    place: u32,
+)
+    requires planned { IsStep (by_place (P.setup parts.now) (P.layout parts.now)) (Begin item rank place) }
+    requires space { HasRoom (P.span_count parts.now) (P.locals parts.now) room.old }
+    requires shows { (f : Flat KernelFault) × Shows (P.setup parts.now) (P.layout parts.now) (P.tables parts.now) machine.old f }
+    requires shut { pane_at machine.old.frames.panes rank place ≡ Shut }
+    requires room { 0 < machine.old.frames.left }
+    ensures shows { (f : Flat KernelFault) → Shows (P.setup parts.now) (P.layout parts.now) (P.tables parts.now) machine.old f
+        → Shows (P.setup parts.now) (P.layout parts.now) (P.tables parts.now) machine.new
+        (flat_step (P.setup parts.now) (P.layout parts.now) (Begin item rank place) f) }
+    ensures space { HasRoom (P.span_count parts.now) (P.locals parts.now) room.new }
+    ensures mail { machine.new.mail.left ≡ machine.old.mail.left }
+    ensures frames { machine.new.frames.left + 1 ≡ machine.old.frames.left }
+{
+    room.spans.clear();
+    let scalars = parts.windows(item, rank, place, &mut room.spans);
+    begin_on(
+        machine,
+        parts,
+        item,
+        rank,
+        place,
+        &room.spans,
+        scalars,
+        &mut room.locals,
+    );
+}
+
+// An end on the windows of these spans and scalars.
+fn end_on<P: Parts>(
+    machine: &mut Machine,
+    parts: &P,
+    item: u32,
+    rank: u32,
+    place: u32,
+    spans: &[Span],
+    scalars: &[Scalar],
+)
     requires planned { IsStep (by_place (P.setup parts.now) (P.layout parts.now)) (End item rank place) }
+    requires are { AreWindows (P.setup parts.now) (P.layout parts.now) (P.tables parts.now) item rank place spans.now scalars.now }
     requires shows { (f : Flat KernelFault) × Shows (P.setup parts.now) (P.layout parts.now) (P.tables parts.now) machine.old f }
     requires open { pane_in item (pane_at machine.old.frames.panes rank place) ≢ Shut_pane }
     ensures shows { (f : Flat KernelFault) → Shows (P.setup parts.now) (P.layout parts.now) (P.tables parts.now) machine.old f
@@ -91,20 +217,46 @@ pub fn end<P: Parts>(machine: &mut Machine, parts: &P, item: usize, rank: usize,
 {
     rank_state::end_shows::<KernelFault>();
     rank_state::steps_can::<KernelFault>();
-    let original = parts.original(item, rank, place);
-    let (spans, scalars) = parts.windows(item, rank, place);
-    machine.end(
-        parts.owns(item, rank, original),
-        rank,
-        place,
-        spans,
-        scalars,
-    );
+    let own = parts.owns(item, rank, place);
+    machine.end(own, rank, place, spans, scalars);
+}
+
+/// An end.
+pub fn end<P: Parts>(
+    machine: &mut Machine,
+    parts: &P,
+    room: &mut Room,
+    item: u32,
+    rank: u32,
+    place: u32,
+)
+    requires planned { IsStep (by_place (P.setup parts.now) (P.layout parts.now)) (End item rank place) }
+    requires space { HasRoom (P.span_count parts.now) (P.locals parts.now) room.old }
+    requires shows { (f : Flat KernelFault) × Shows (P.setup parts.now) (P.layout parts.now) (P.tables parts.now) machine.old f }
+    requires open { pane_in item (pane_at machine.old.frames.panes rank place) ≢ Shut_pane }
+    ensures shows { (f : Flat KernelFault) → Shows (P.setup parts.now) (P.layout parts.now) (P.tables parts.now) machine.old f
+        → Shows (P.setup parts.now) (P.layout parts.now) (P.tables parts.now) machine.new
+        (flat_step (P.setup parts.now) (P.layout parts.now) (End item rank place) f) }
+    ensures space { HasRoom (P.span_count parts.now) (P.locals parts.now) room.new }
+    ensures mail { machine.new.mail.left ≡ machine.old.mail.left }
+    ensures frames { machine.new.frames.left ≡ machine.old.frames.left + 1 }
+{
+    room.spans.clear();
+    let scalars = parts.windows(item, rank, place, &mut room.spans);
+    end_on(machine, parts, item, rank, place, &room.spans, scalars);
 }
 
 /// A begin that is followed at once by its own end.
-pub fn in_place<P: Parts>(machine: &mut Machine, parts: &P, item: usize, rank: usize, place: usize)
+pub fn in_place<P: Parts>(
+    machine: &mut Machine,
+    parts: &P,
+    room: &mut Room,
+    item: u32,
+    rank: u32,
+    place: u32,
+)
     requires planned { IsStep (by_place (P.setup parts.now) (P.layout parts.now)) (Begin item rank place) }
+    requires space { HasRoom (P.span_count parts.now) (P.locals parts.now) room.old }
     requires shows { (f : Flat KernelFault) × Shows (P.setup parts.now) (P.layout parts.now) (P.tables parts.now) machine.old f }
     requires shut { pane_at machine.old.frames.panes rank place ≡ Shut }
     requires room { 0 < machine.old.frames.left }
@@ -112,10 +264,11 @@ pub fn in_place<P: Parts>(machine: &mut Machine, parts: &P, item: usize, rank: u
         → Shows (P.setup parts.now) (P.layout parts.now) (P.tables parts.now) machine.new
         (flat_step (P.setup parts.now) (P.layout parts.now) (End item rank place)
         (flat_step (P.setup parts.now) (P.layout parts.now) (Begin item rank place) f)) }
+    ensures space { HasRoom (P.span_count parts.now) (P.locals parts.now) room.new }
     ensures mail { machine.new.mail.left ≡ machine.old.mail.left }
     ensures frames { machine.new.frames.left ≡ machine.old.frames.left }
 {
     rank_state::begin_opens::<KernelFault>();
-    begin(machine, parts, item, rank, place);
-    end(machine, parts, item, rank, place);
+    begin(machine, parts, room, item, rank, place);
+    end(machine, parts, room, item, rank, place);
 }

@@ -55,7 +55,7 @@ cells_length : (cell_at : ℕ → DatCell) (at n : ℕ) (xs : List Cell) → len
 cells_length cell_at at zero xs = omega arith
 cells_length cell_at at (suc n) xs = let e : length (cells_from cell_at (suc at) n ++ xs) ≡ n + length xs = cells_length cell_at (suc at) n xs in omega arith
 
-owned_length : (cell_at : ℕ → ℕ → DatCell) (ss : List Owned) (xs : List Cell) → length (owned_cells cell_at ss ++ xs) ≡ total_all ss + length xs
+pub owned_length : (cell_at : ℕ → ℕ → DatCell) (ss : List Owned) (xs : List Cell) → length (owned_cells cell_at ss ++ xs) ≡ total_all ss + length xs
 owned_length cell_at [] xs = omega arith
 owned_length cell_at (s ∷ ss) xs =
     let e : length (cells_from (cell_at s.rank) s.at s.dim ++ (owned_cells cell_at ss ++ xs)) ≡ s.dim + length (owned_cells cell_at ss ++ xs) = cells_length (cell_at s.rank) s.at s.dim (owned_cells cell_at ss ++ xs) in

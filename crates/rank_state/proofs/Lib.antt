@@ -17,3 +17,4 @@ pub mod Steps
 pub mod Ready
 pub mod Opening
 pub mod Groups
+pub mod Counted

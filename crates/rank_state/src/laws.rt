@@ -1,10 +1,10 @@
 // Each step of the lists is one of the machine on flat buffers. Each function's contract is the law.
-ghost use Rattle.std.specs.Prelude.{◌≡◌, ◌≢◌, ◌<◌, ◌≤◌, ◌==◌, ℕ, suc, ℤ, pos, List, [], ◌∷◌, ◌++◌, Some, None, map, length, slice_index_or};
+ghost use Rattle.std.specs.Prelude.{◌+◌, ◌≡◌, ◌≢◌, ◌<◌, ◌≤◌, ◌==◌, ℕ, suc, ℤ, pos, List, [], ◌∷◌, ◌++◌, Some, None, map, length, slice_index_or};
 ghost use Rattle.schedule_steps.specs.declared.step.Step.{Step};
 ghost use Rattle.schedule_steps.specs.declared.step.Step.TheVariants.{Send, Recv, Begin, End, Join};
 ghost use Rattle.schedule_steps.specs.Steps.{IsStep, Accepted};
 ghost use Rattle.schedule_model.specs.Cells.{VarCell};
-ghost use Rattle.schedule_model.specs.Program.{Reduce, Ordered, Host, Halts, Goes, elements};
+ghost use Rattle.schedule_model.specs.Program.{Free, Reduce, Ordered, Host, Halts, Goes, elements};
 ghost use Rattle.schedule_model.specs.Setup.{Setup};
 ghost use Rattle.schedule_model.specs.Sequential.{Stop};
 ghost use Rattle.schedule_model.specs.Kept.{if_before};
@@ -22,7 +22,7 @@ ghost use Rattle.rank_state.specs.Groups.{begins, Distinct, Planned, AllShut};
 ghost use Rattle.rank_state.specs.Starting.{Starts, started, AreFirst, AreSlots, ArePlaces};
 ghost use Rattle.rank_state.specs.Joins.{reduced, AreReduced};
 ghost use Rattle.rank_state.specs.declared.owned.Owned.{Owned};
-ghost use Rattle.rank_state.specs.Ordered.{AreOwned, put_back, all_windows, left_in, run_of};
+ghost use Rattle.rank_state.specs.Ordered.{AreOwned, total_all, put_back, all_windows, left_in, run_of};
 ghost use Rattle.rank_state.specs.Can.{CanCopy, CanBegin, CanEnd, CanReduce, CanRun};
 
 /// A send that packs the exported cells.
@@ -177,3 +177,15 @@ pub fn loop_shows<F>()
     flat_machine::scatter_is_look_up();
     schedule_model::one_fault_is_enough::<F>();
 }
+
+/// How many cells an element's windows have; and a begin is one of an element of a Free loop.
+pub fn windows_are_counted<F>()
+    ensures windows { (p : Setup F) (l : Layout F) (t : Tables) (k r x : ℕ) (spans : List Span) (scalars : List Scalar)
+        → AreWindows p l t k r x spans scalars
+        → total spans + length scalars ≡ length (l.cells k (l.original k r x)) }
+    ensures owned { (p : Setup F) (l : Layout F) (t : Tables) (k e : ℕ) (spans : List Owned) (indices : List ℕ)
+        → AreOwned p l t k e spans indices
+        → total_all spans + length indices ≡ length (l.cells k e) }
+    ensures elements { (p : Setup F) (l : Layout F) → IsLayout p l → (k r x : ℕ) → IsStep (by_place p l) (Begin k r x)
+        → (p.program.kind k ≡ Free) × (l.original k r x < elements p.program k) }
+{}

@@ -4,7 +4,7 @@
 /// and the `dim - 1` behind it.
 #[derive(Clone, Copy, PartialEq, Eq, Debug)]
 pub struct Owned {
-    pub rank: usize,
+    pub rank: u32,
     pub at: usize,
     pub dim: usize,
 }

@@ -15,11 +15,12 @@ use Rattle.rank_exec.proofs.drive.run.Goals as goal
 pub loop-next-init : goal.loop-next-init
 loop-next-init g c = record {
   reached = reached_none (g.P.Parts.setup c.args.parts.now) (g.P.Parts.layout c.args.parts.now) (g.P.Parts.tables c.args.parts.now) (g.S.Steps.left c.args.steps.now) (to_come c.next_step-next.result (g.S.Steps.left c.next_step-next.new.self)) c.args.machine.now c.next_step-next.ensures.next;
+  space = c.requires.space;
   over = c.next_step-next.ensures.over;
 }
 
 pub run_begins-requires-clause-ready : goal.run_begins-requires-clause-ready
-run_begins-requires-clause-ready g c places rest e =
+run_begins-requires-clause-ready g c κs le places rest e =
     let split : g.S.Steps.left c.args.steps.now ≡ r.front ++ (begins c.in-Begin.item c.in-Begin.rank places ++ rest) = r.split ∙ ap (λ z. r.front ++ z) e in
     let ready = c.steps_are_ready.ensures.begin (g.P.Parts.setup c.args.parts.now) (g.P.Parts.layout c.args.parts.now) (g.P.Parts.tables c.args.parts.now) (g.S.Steps.left c.args.steps.now) c.requires.accepted c.requires.starts.0 c.requires.starts.1 r.front rest c.in-Begin.item c.in-Begin.rank places split c.loop-next.machine (r.shows c.requires.starts.0 c.requires.starts.1 c.requires.starts.2) in
     let below : count_after open_step 0 (r.front ++ begins c.in-Begin.item c.in-Begin.rank places) ≤ greatest open_step 0 (g.S.Steps.left c.args.steps.now) =
@@ -39,18 +40,27 @@ loop-next-preserved-in-Begin g c =
     let done = c.in_ok-next.ensures.done in
     record {
       reached = reached_more (g.P.Parts.setup c.args.parts.now) (g.P.Parts.layout c.args.parts.now) (g.P.Parts.tables c.args.parts.now) (g.S.Steps.left c.args.steps.now) (Begin c.in-Begin.item c.in-Begin.rank c.in-Begin.place ∷ g.S.Steps.left c.loop-next.steps) (to_come c.in_ok-next.next (g.S.Steps.left c.run_begins.new.steps)) done.0 c.args.machine.now c.loop-next.machine c.run_begins.new.machine r done.1 done.3;
+      space = c.run_begins.ensures.space;
       over = c.in_ok-next.ensures.over;
     }
   where
     r : Reached (g.P.Parts.setup c.args.parts.now) (g.P.Parts.layout c.args.parts.now) (g.P.Parts.tables c.args.parts.now) (g.S.Steps.left c.args.steps.now) (Begin c.in-Begin.item c.in-Begin.rank c.in-Begin.place ∷ g.S.Steps.left c.loop-next.steps) c.args.machine.now c.loop-next.machine
     r = reached_at (g.P.Parts.setup c.args.parts.now) (g.P.Parts.layout c.args.parts.now) (g.P.Parts.tables c.args.parts.now) (g.S.Steps.left c.args.steps.now) (g.S.Steps.left c.loop-next.steps) c.args.machine.now c.loop-next.machine c.loop-next.next (Begin c.in-Begin.item c.in-Begin.rank c.in-Begin.place) (c.in-Some.is ∙ ap Some c.in-Begin.is) c.loop-next.invariant.reached
 
-pub take-requires : goal.take-requires
-take-requires g c = record {
-  planned = c.requires.accepted.steps r.front c.in-Some.step (g.S.Steps.left c.loop-next.steps) r.split;
-  shows = (flat_from (g.P.Parts.setup c.args.parts.now) (g.P.Parts.layout c.args.parts.now) r.front c.requires.starts.0, r.shows c.requires.starts.0 c.requires.starts.1 c.requires.starts.2);
-  ready = by_step c.in-Some.step r.split;
-}
+pub take-requires-clause-planned : goal.take-requires-clause-planned
+take-requires-clause-planned g c κs le = c.requires.accepted.steps r.front c.in-Some.step (g.S.Steps.left c.loop-next.steps) r.split
+  where
+    r : Reached (g.P.Parts.setup c.args.parts.now) (g.P.Parts.layout c.args.parts.now) (g.P.Parts.tables c.args.parts.now) (g.S.Steps.left c.args.steps.now) (c.in-Some.step ∷ g.S.Steps.left c.loop-next.steps) c.args.machine.now c.loop-next.machine
+    r = reached_at (g.P.Parts.setup c.args.parts.now) (g.P.Parts.layout c.args.parts.now) (g.P.Parts.tables c.args.parts.now) (g.S.Steps.left c.args.steps.now) (g.S.Steps.left c.loop-next.steps) c.args.machine.now c.loop-next.machine c.loop-next.next (c.in-Some.step) (c.in-Some.is) c.loop-next.invariant.reached
+
+pub take-requires-clause-shows : goal.take-requires-clause-shows
+take-requires-clause-shows g c κs le = (flat_from (g.P.Parts.setup c.args.parts.now) (g.P.Parts.layout c.args.parts.now) r.front c.requires.starts.0, r.shows c.requires.starts.0 c.requires.starts.1 c.requires.starts.2)
+  where
+    r : Reached (g.P.Parts.setup c.args.parts.now) (g.P.Parts.layout c.args.parts.now) (g.P.Parts.tables c.args.parts.now) (g.S.Steps.left c.args.steps.now) (c.in-Some.step ∷ g.S.Steps.left c.loop-next.steps) c.args.machine.now c.loop-next.machine
+    r = reached_at (g.P.Parts.setup c.args.parts.now) (g.P.Parts.layout c.args.parts.now) (g.P.Parts.tables c.args.parts.now) (g.S.Steps.left c.args.steps.now) (g.S.Steps.left c.loop-next.steps) c.args.machine.now c.loop-next.machine c.loop-next.next (c.in-Some.step) (c.in-Some.is) c.loop-next.invariant.reached
+
+pub take-requires-clause-ready : goal.take-requires-clause-ready
+take-requires-clause-ready g c κs le = by_step c.in-Some.step r.split
   where
     r : Reached (g.P.Parts.setup c.args.parts.now) (g.P.Parts.layout c.args.parts.now) (g.P.Parts.tables c.args.parts.now) (g.S.Steps.left c.args.steps.now) (c.in-Some.step ∷ g.S.Steps.left c.loop-next.steps) c.args.machine.now c.loop-next.machine
     r = reached_at (g.P.Parts.setup c.args.parts.now) (g.P.Parts.layout c.args.parts.now) (g.P.Parts.tables c.args.parts.now) (g.S.Steps.left c.args.steps.now) (g.S.Steps.left c.loop-next.steps) c.args.machine.now c.loop-next.machine c.loop-next.next (c.in-Some.step) (c.in-Some.is) c.loop-next.invariant.reached
@@ -86,6 +96,7 @@ loop-next-preserved g c = record {
       c.next_step-next-in_default-step.ensures.next
       (λ f h. subst (λ o. After (g.P.Parts.setup c.args.parts.now) (g.P.Parts.layout c.args.parts.now) (g.P.Parts.tables c.args.parts.now) (stop_in o) c.take.new.machine (flat_step (g.P.Parts.setup c.args.parts.now) (g.P.Parts.layout c.args.parts.now) c.in-Some.step f)) c.in_default-2.is (c.in_ok-stop.ensures.after f h))
       c.take.ensures.mail c.take.ensures.frames (by_recv c.in-Some.step r.split) (by_end c.in-Some.step r.split);
+  space = c.take.ensures.space;
   over = c.next_step-next-in_default-step.ensures.over;
 }
   where

@@ -4,7 +4,7 @@ use Rattle.rank_exec.specs.Slots.{held_pane}
 use Rattle.rank_exec.proofs.Middles.{mid_same, before_mid, after_mid}
 use Rattle.rank_exec.proofs.frames.run_at.Goals as goal
 
-same_length : (g : _) (c : goal.After-staging-1 g) → length c.run_in.new.frame ≡ c.args.stride
+same_length : (g : _) (c : goal.After-scratch-1 g) → length c.run_in.new.frame ≡ c.args.stride
 same_length g c = grind (arith, common_steps)
 
 pub returns-clause-pane : goal.returns-clause-pane

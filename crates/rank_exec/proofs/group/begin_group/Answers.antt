@@ -28,6 +28,7 @@ loop-place-preserved g c =
           let at = c.loop-place.invariant.shows f h in
           subst (Shows (g.P.Parts.setup c.args.parts.now) (g.P.Parts.layout c.args.parts.now) (g.P.Parts.tables c.args.parts.now) c.begin.new.machine) (sym (ap (λ z. flat_from (g.P.Parts.setup c.args.parts.now) (g.P.Parts.layout c.args.parts.now) z f) next ∙ from_push (g.P.Parts.setup c.args.parts.now) (g.P.Parts.layout c.args.parts.now) (begins c.args.item c.args.rank (take c.loop-place.place-index c.args.places.now)) (Begin c.args.item c.args.rank (get_or c.args.places.now c.loop-place.place-index 0)) f at.stop))
           (c.begin.ensures.shows (flat_from (g.P.Parts.setup c.args.parts.now) (g.P.Parts.layout c.args.parts.now) (begins c.args.item c.args.rank (take c.loop-place.place-index c.args.places.now)) f) at);
+      space = c.begin.ensures.space;
       mail = c.begin.ensures.mail ∙ c.loop-place.invariant.mail;
       frames = (let m = c.begin.ensures.frames in omega (arith, c.loop-place.invariant.frames));
     }

@@ -4,6 +4,7 @@ use Rattle.flat_machine.specs.Layout.{by_place}
 use Rattle.flat_machine.specs.Flat.{Flat, flat_from}
 use Rattle.rank_state.specs.Shows.{Shows}
 use Rattle.rank_state.specs.Groups.{begins, Distinct, Planned, AllShut}
+use Rattle.rank_exec.specs.Rooms.{HasRoom}
 use Rattle.rank_exec.proofs.group.begin_group.Given as goal
 
 abbrev pub invariant-loop-place : goal.invariant-loop-place
@@ -12,6 +13,7 @@ invariant-loop-place g l = record {
   shut : AllShut l.machine.frames.panes l.rank (drop l.place-index l.places);
   distinct : Distinct (drop l.place-index l.places);
   shows : (f : Flat KernelFault) → Shows (g.P.Parts.setup l.parts) (g.P.Parts.layout l.parts) (g.P.Parts.tables l.parts) l.initial.machine f → Shows (g.P.Parts.setup l.parts) (g.P.Parts.layout l.parts) (g.P.Parts.tables l.parts) l.machine (flat_from (g.P.Parts.setup l.parts) (g.P.Parts.layout l.parts) (begins l.item l.rank (take l.place-index l.places)) f);
+  space : HasRoom (g.P.Parts.span_count l.parts) (g.P.Kernels.locals l.parts) l.room;
   mail : l.machine.mail.left ≡ l.initial.machine.mail.left;
   frames : l.machine.frames.left + l.place-index ≡ l.initial.machine.frames.left;
 }

@@ -8,45 +8,34 @@ use Rattle.rank_state.specs.Core.{fault_of}
 use Rattle.rank_state.specs.Machine.{State}
 use Rattle.rank_state.specs.Shows.{Shows}
 use Rattle.rank_state.specs.Ordered.{all_windows, left_in, run_of}
-use Rattle.rank_exec.proofs.Kernels.{same_run, no_fault, a_fault}
+use Rattle.rank_exec.proofs.Kernels.{no_fault, a_fault}
 use Rattle.rank_exec.proofs.joins.run_ordered.Goals as goal
-
-pub element-requires-clause-inside : goal.element-requires-clause-inside
-element-requires-clause-inside g c =
-    (c.steps_can.ensures.element (g.P.Parts.setup c.args.parts.now) (g.P.Parts.layout c.args.parts.now) (g.P.Parts.tables c.args.parts.now) c.loop-element.machine (loop_flat (g.P.Parts.setup c.args.parts.now) (g.P.Parts.layout c.args.parts.now) c.args.item c.loop-element.element c.requires.shows.0) (c.loop-element.invariant.reached c.requires.shows.0 c.requires.shows.1) (g.met.P.Parts.indexed c.args.parts.now) c.args.item c.loop-element.element c.owned_windows.result.0.now c.owned_windows.result.1.now c.owned_windows.ensures).inside
-
-pub element-requires-clause-reads : goal.element-requires-clause-reads
-element-requires-clause-reads g c =
-    (c.steps_can.ensures.element (g.P.Parts.setup c.args.parts.now) (g.P.Parts.layout c.args.parts.now) (g.P.Parts.tables c.args.parts.now) c.loop-element.machine (loop_flat (g.P.Parts.setup c.args.parts.now) (g.P.Parts.layout c.args.parts.now) c.args.item c.loop-element.element c.requires.shows.0) (c.loop-element.invariant.reached c.requires.shows.0 c.requires.shows.1) (g.met.P.Parts.indexed c.args.parts.now) c.args.item c.loop-element.element c.owned_windows.result.0.now c.owned_windows.result.1.now c.owned_windows.ensures).reads
 
 pub returns-in-Some-clause-after : goal.returns-in-Some-clause-after
 returns-in-Some-clause-after g c f h =
-    let same : g.P.Kernels.core c.args.parts.now c.args.item c.loop-element.element (take c.constants-constants.result c.loop-element.machine.variables) (all_windows c.owned_windows.result.0.now c.owned_windows.result.1.now c.loop-element.machine) ≡ run_of (g.P.Parts.layout c.args.parts.now) (g.P.Parts.tables c.args.parts.now) c.args.item c.loop-element.element c.owned_windows.result.0.now c.owned_windows.result.1.now c.loop-element.machine =
-    same_run (g.P.Kernels.core c.args.parts.now) (g.P.Parts.layout c.args.parts.now).core (g.met.P.Parts.core_is c.args.parts.now) c.constants-constants.result (g.P.Parts.tables c.args.parts.now).constants c.constants-constants.ensures c.args.item c.loop-element.element c.loop-element.machine.variables (all_windows c.owned_windows.result.0.now c.owned_windows.result.1.now c.loop-element.machine) in
-    let fault : run_of (g.P.Parts.layout c.args.parts.now) (g.P.Parts.tables c.args.parts.now) c.args.item c.loop-element.element c.owned_windows.result.0.now c.owned_windows.result.1.now c.loop-element.machine ≡ Faults c.in-Some.fault =
-    a_fault (run_of (g.P.Parts.layout c.args.parts.now) (g.P.Parts.tables c.args.parts.now) c.args.item c.loop-element.element c.owned_windows.result.0.now c.owned_windows.result.1.now c.loop-element.machine) c.in-Some.fault (ap fault_of (sym same) ∙ (sym c.element.ensures.fault ∙ c.in-Some.is)) in
+    let fault : run_of (g.P.Parts.layout c.args.parts.now) (g.P.Parts.tables c.args.parts.now) c.args.item c.loop-element.element c.run_one.ensures.ran.spans c.run_one.ensures.ran.indices c.loop-element.machine ≡ Faults c.in-Some.fault =
+    a_fault (run_of (g.P.Parts.layout c.args.parts.now) (g.P.Parts.tables c.args.parts.now) c.args.item c.loop-element.element c.run_one.ensures.ran.spans c.run_one.ensures.ran.indices c.loop-element.machine) c.in-Some.fault (sym c.run_one.ensures.ran.fault_is ∙ c.in-Some.is) in
     let shows = c.loop-element.invariant.reached f h in
-    let stopped = c.loop_shows.ensures.breaks (g.P.Parts.setup c.args.parts.now) (g.P.Parts.layout c.args.parts.now) (g.P.Parts.tables c.args.parts.now) (g.met.P.Parts.indexed c.args.parts.now) (g.met.P.Parts.fits c.args.parts.now) c.args.item f c.loop-element.element c.loop-element.machine shows c.owned_windows.result.0.now c.owned_windows.result.1.now c.owned_windows.ensures c.in-Some.fault fault in
+    let stopped = c.loop_shows.ensures.breaks (g.P.Parts.setup c.args.parts.now) (g.P.Parts.layout c.args.parts.now) (g.P.Parts.tables c.args.parts.now) ((g.met.P.Parts g.world.𝓛 g.world.𝓜 g.world.𝓡 ((λ s x. x), (λ x. x), (λ x. x), λ x. x)).indexed c.args.parts.now) ((g.met.P.Parts g.world.𝓛 g.world.𝓜 g.world.𝓡 ((λ s x. x), (λ x. x), (λ x. x), λ x. x)).fits c.args.parts.now) c.args.item f c.loop-element.element c.loop-element.machine shows c.run_one.ensures.ran.spans c.run_one.ensures.ran.indices c.run_one.ensures.ran.are c.in-Some.fault fault in
     let last : suc c.loop-element.element ≤ elements (g.P.Parts.setup c.args.parts.now).program c.args.item = (let e = c.elements-element-end.ensures in omega (arith, c.loop-element-test.true)) in
     let whole : flat_step (g.P.Parts.setup c.args.parts.now) (g.P.Parts.layout c.args.parts.now) (Join c.args.item) f ≡ record (loop_flat (g.P.Parts.setup c.args.parts.now) (g.P.Parts.layout c.args.parts.now) c.args.item c.loop-element.element f) { stop = Some (record { item = c.args.item; element = Some c.loop-element.element; fault = c.in-Some.fault }) } =
     c.loop_shows.ensures.join (g.P.Parts.setup c.args.parts.now) (g.P.Parts.layout c.args.parts.now) (g.P.Parts.tables c.args.parts.now) c.args.machine.now f h c.args.item c.requires.going c.requires.kind
     ∙ (c.loop_shows.ensures.ended (g.P.Parts.setup c.args.parts.now) (g.P.Parts.layout c.args.parts.now) c.args.item f (suc c.loop-element.element) (elements (g.P.Parts.setup c.args.parts.now).program c.args.item) last (record { item = c.args.item; element = Some c.loop-element.element; fault = c.in-Some.fault }) (ap (λ (z : Flat KernelFault). z.stop) stopped) ∙ stopped) in
-    (ap (λ (z : Flat KernelFault). z.stop) whole, ap (λ (z : Flat KernelFault). z.output) whole ∙ (sym shows.output ∙ sym (ap (λ (s : State KernelFault). s.output) c.element.ensures.state)))
+    (ap (λ (z : Flat KernelFault). z.stop) whole, ap (λ (z : Flat KernelFault). z.output) whole ∙ (sym shows.output ∙ sym (ap (λ (s : State KernelFault). s.output) c.run_one.ensures.ran.state_is)))
 
 pub loop-element-preserved : goal.loop-element-preserved
 loop-element-preserved g c =
-    let same : g.P.Kernels.core c.args.parts.now c.args.item c.loop-element.element (take c.constants-constants.result c.loop-element.machine.variables) (all_windows c.owned_windows.result.0.now c.owned_windows.result.1.now c.loop-element.machine) ≡ run_of (g.P.Parts.layout c.args.parts.now) (g.P.Parts.tables c.args.parts.now) c.args.item c.loop-element.element c.owned_windows.result.0.now c.owned_windows.result.1.now c.loop-element.machine =
-    same_run (g.P.Kernels.core c.args.parts.now) (g.P.Parts.layout c.args.parts.now).core (g.met.P.Parts.core_is c.args.parts.now) c.constants-constants.result (g.P.Parts.tables c.args.parts.now).constants c.constants-constants.ensures c.args.item c.loop-element.element c.loop-element.machine.variables (all_windows c.owned_windows.result.0.now c.owned_windows.result.1.now c.loop-element.machine) in
-    let left = no_fault (run_of (g.P.Parts.layout c.args.parts.now) (g.P.Parts.tables c.args.parts.now) c.args.item c.loop-element.element c.owned_windows.result.0.now c.owned_windows.result.1.now c.loop-element.machine) (ap fault_of (sym same) ∙ (sym c.element.ensures.fault ∙ c.in_default.is)) in
+    let left = no_fault (run_of (g.P.Parts.layout c.args.parts.now) (g.P.Parts.tables c.args.parts.now) c.args.item c.loop-element.element c.run_one.ensures.ran.spans c.run_one.ensures.ran.indices c.loop-element.machine) (sym c.run_one.ensures.ran.fault_is ∙ c.in_default.is) in
     let in_loop : c.loop-element.element < elements (g.P.Parts.setup c.args.parts.now).program c.args.item = (let e = c.elements-element-end.ensures in omega (arith, c.loop-element-test.true)) in
     let next : suc c.loop-element.element ≡ c.loop-element.element + 1 = omega arith in
     record {
       reached = λ f h.
-          subst (λ i. Shows (g.P.Parts.setup c.args.parts.now) (g.P.Parts.layout c.args.parts.now) (g.P.Parts.tables c.args.parts.now) c.element.new.self (loop_flat (g.P.Parts.setup c.args.parts.now) (g.P.Parts.layout c.args.parts.now) c.args.item i f)) next
-          (subst (λ (s : State KernelFault). Shows (g.P.Parts.setup c.args.parts.now) (g.P.Parts.layout c.args.parts.now) (g.P.Parts.tables c.args.parts.now) s (loop_flat (g.P.Parts.setup c.args.parts.now) (g.P.Parts.layout c.args.parts.now) c.args.item (suc c.loop-element.element) f)) (sym (c.element.ensures.state ∙ ap (λ r. left_in c.owned_windows.result.0.now c.owned_windows.result.1.now r c.loop-element.machine) same))
-          (c.loop_shows.ensures.goes (g.P.Parts.setup c.args.parts.now) (g.P.Parts.layout c.args.parts.now) (g.P.Parts.tables c.args.parts.now) (g.met.P.Parts.indexed c.args.parts.now) (g.met.P.Parts.fits c.args.parts.now) c.args.item f c.loop-element.element c.loop-element.machine (c.loop-element.invariant.reached f h) c.requires.kind in_loop c.owned_windows.result.0.now c.owned_windows.result.1.now c.owned_windows.ensures left.0 left.1));
-      mail = ap (λ (s : State KernelFault). s.mail.left) c.element.ensures.state ∙ c.loop-element.invariant.mail;
-      frames = ap (λ (s : State KernelFault). s.frames.left) c.element.ensures.state ∙ c.loop-element.invariant.frames;
+          subst (λ i. Shows (g.P.Parts.setup c.args.parts.now) (g.P.Parts.layout c.args.parts.now) (g.P.Parts.tables c.args.parts.now) c.run_one.new.machine (loop_flat (g.P.Parts.setup c.args.parts.now) (g.P.Parts.layout c.args.parts.now) c.args.item i f)) next
+          (subst (λ (s : State KernelFault). Shows (g.P.Parts.setup c.args.parts.now) (g.P.Parts.layout c.args.parts.now) (g.P.Parts.tables c.args.parts.now) s (loop_flat (g.P.Parts.setup c.args.parts.now) (g.P.Parts.layout c.args.parts.now) c.args.item (suc c.loop-element.element) f)) (sym c.run_one.ensures.ran.state_is)
+          (c.loop_shows.ensures.goes (g.P.Parts.setup c.args.parts.now) (g.P.Parts.layout c.args.parts.now) (g.P.Parts.tables c.args.parts.now) ((g.met.P.Parts g.world.𝓛 g.world.𝓜 g.world.𝓡 ((λ s x. x), (λ x. x), (λ x. x), λ x. x)).indexed c.args.parts.now) ((g.met.P.Parts g.world.𝓛 g.world.𝓜 g.world.𝓡 ((λ s x. x), (λ x. x), (λ x. x), λ x. x)).fits c.args.parts.now) c.args.item f c.loop-element.element c.loop-element.machine (c.loop-element.invariant.reached f h) c.requires.kind in_loop c.run_one.ensures.ran.spans c.run_one.ensures.ran.indices c.run_one.ensures.ran.are left.0 left.1));
+      space = c.run_one.ensures.space;
+      mail = ap (λ (s : State KernelFault). s.mail.left) c.run_one.ensures.ran.state_is ∙ c.loop-element.invariant.mail;
+      frames = ap (λ (s : State KernelFault). s.frames.left) c.run_one.ensures.ran.state_is ∙ c.loop-element.invariant.frames;
     }
 
 pub returns-clause-after : goal.returns-clause-after
