@@ -15,7 +15,7 @@ ghost use Rattle.host_acts.specs.Acts.{new_value_in};
 
 use bound_program::{Act, Var};
 use gather::print_line;
-use kernel_eval::{index_of, stored_value};
+use operators::{index_of, stored_value};
 use kernel_types::{AssignOp, KernelFault, Pos, RExpr};
 use main_trace::host_value;
 use op_num::{OutOfMemory, Text};

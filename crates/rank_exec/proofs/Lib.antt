@@ -12,3 +12,4 @@ pub mod Driving
 pub mod FromIndex
 pub mod Kept
 mod Grouping
+pub mod Hosting

@@ -1,7 +1,7 @@
 -- Where the values of a dat stand on the ranks that own them.
 use Rattle.std.specs.Prelude.{◌≡◌, ◌<◌, ◌≤◌, ◌+◌, ℕ}
 use Rattle.mesh_decl.specs.Mesh.{dat_dim}
-use Rattle.schedule_model.specs.Setup.{Setup, owner_of}
+use Rattle.schedule_model.specs.Setup.{Setup}
 use Rattle.flat_machine.specs.Layout.{Layout}
 use Rattle.bound_program.specs.Values.{BoundValue}
 use Rattle.rank_state.specs.declared.owned.Owned.{Owned}

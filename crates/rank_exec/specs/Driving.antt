@@ -1,10 +1,15 @@
 -- What a step needs of the machine, what it leaves, and the room that a list of steps needs.
-use Rattle.std.specs.Prelude.{◌≡◌, ◌≢◌, ◌<◌, ◌≤◌, ◌+◌, ℕ, List, ◌∷◌, ◌++◌, length, Option, Some, None}
+use Rattle.std.specs.Prelude.{◌≡◌, ◌≢◌, ◌<◌, ◌≤◌, ◌+◌, ℕ, ℤ, map, List, ◌∷◌, ◌++◌, length, Option, Some, None}
 use Rattle.kernel_types.specs.declared.faults.KernelFault.{KernelFault}
 use Rattle.schedule_steps.specs.declared.step.Step.{Step}
 use Rattle.schedule_steps.specs.declared.step.Step.TheVariants.{Send, Recv, Begin, End, Join}
 use Rattle.schedule_steps.specs.Peaks.{open_step, mail_step, count_after, greatest}
 use Rattle.schedule_steps.specs.Outline.{Outline}
+use Rattle.mesh_decl.specs.Mesh.{dat_dim}
+use Rattle.bound_program.specs.Values.{BoundValue, Host, Print}
+use Rattle.run_model.specs.Programs.{item_at}
+use Rattle.run_model.specs.Windows.{numbers}
+use Rattle.schedule_model.specs.Cells.{Data, Store}
 use Rattle.schedule_model.specs.Setup.{Setup}
 use Rattle.schedule_model.specs.Sequential as model
 use Rattle.schedule_model.specs.Sequential.{Seq, Going, Stopped}
@@ -107,3 +112,12 @@ to_come (Some s) rest = s ∷ rest
 abbrev pub GroupReady : Outline → ℕ → ℕ → List Step → State KernelFault → Type 0
 GroupReady o k r come st = (places : List ℕ) (rest : List Step) → come ≡ begins k r places ++ rest
     → Planned o k r places × AllShut st.frames.panes r places × Distinct places × (length places ≤ st.frames.left)
+
+-- item k prints the dat to the file
+abbrev pub IsPrint : BoundValue → ℕ → ℕ → List ℕ → Type 0
+IsPrint b k d file = item_at b k ≡ Host (Print d file)
+
+-- the values of the dat's element stand behind the old list
+abbrev pub ItsCells : BoundValue → (d e : ℕ) → Store → (old new : List ℤ) → Type 0
+ItsCells b d e s old new =
+    new ≡ old ++ map s (map (λ i. Data (record { dat = d; element = e; component = i })) (numbers (dat_dim b.mesh d)))

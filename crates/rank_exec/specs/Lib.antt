@@ -2,6 +2,5 @@ pub mod Slots
 pub mod Letters
 pub mod Stops
 pub mod Driving
-pub mod Kinds
 pub mod Copies
 pub mod Rooms

@@ -1,5 +1,5 @@
 -- A stop of the program as one of the model.
-use Rattle.std.specs.Prelude.{ℕ, Option, Some, None}
+use Rattle.std.specs.Prelude.{Option, Some, None}
 use Rattle.kernel_types.specs.declared.faults.KernelFault.{KernelFault}
 use Rattle.schedule_model.specs.Sequential as model
 use Rattle.rank_exec.specs.declared.machine.Stop.{Stop}

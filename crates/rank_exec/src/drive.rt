@@ -14,22 +14,25 @@ ghost use Rattle.rank_exec.specs.Stops.{stop_in};
 ghost use Rattle.rank_exec.specs.Driving.{Ready, After, posts, takes, opens, shuts, FitsPeak, AsSequential};
 
 use crate::group::run_begins;
-use crate::joins::{Hosts, join};
+use crate::items::Items;
+use crate::joins::join;
 use crate::machine::{Machine, Stop};
 use crate::room::Room;
 use crate::steps;
 use crate::stream::Steps;
 use kernel_types::KernelFault;
+use op_num::OutOfMemory;
 use schedule_steps::Step;
-use std::alloc::{AllocError, Global};
+use std::alloc::Global;
 
 /// One step.
-pub fn take<P: Hosts>(
+pub fn take<P: Items>(
+    alloc: Global,
     machine: &mut Machine,
     parts: &P,
     room: &mut Room,
     step: Step,
-) -> Result<Option<Stop>, AllocError>
+) -> Result<Option<Stop>, OutOfMemory>
     requires space { HasRoom (P.span_count parts.now) (P.locals parts.now) room.old }
     requires planned { IsStep (by_place (P.setup parts.now) (P.layout parts.now)) step }
     requires shows { (f : Flat KernelFault) × Shows (P.setup parts.now) (P.layout parts.now) (P.tables parts.now) machine.old f }
@@ -59,18 +62,18 @@ pub fn take<P: Hosts>(
             steps::end(machine, parts, room, item, rank, place);
             Ok(None)
         }
-        Step::Join { item } => join(machine, parts, room, item),
+        Step::Join { item } => join(alloc, machine, parts, room, item),
     }
 }
 
 /// The steps of an accepted list, up to the first that stops.
-pub fn run<P: Hosts, S: Steps>(
+pub fn run<P: Items, S: Steps>(
     alloc: Global,
     machine: &mut Machine,
     parts: &P,
     room: &mut Room,
     steps: &mut S,
-) -> Result<Option<Stop>, AllocError>
+) -> Result<Option<Stop>, OutOfMemory>
     requires space { HasRoom (P.span_count parts.now) (P.locals parts.now) room.old }
     requires accepted { Accepted (by_place (P.setup parts.now) (P.layout parts.now)) (S.left steps.old) }
     requires starts { (f : Flat KernelFault) × StartsFlat (P.setup parts.now) (P.layout parts.now) f
@@ -89,7 +92,7 @@ pub fn run<P: Hosts, S: Steps>(
         if let Step::Begin { item, rank, place } = step {
             next = run_begins(alloc, machine, parts, room, steps, item, rank, place)?;
         } else {
-            if let Some(stop) = take(machine, parts, room, step)? {
+            if let Some(stop) = take(alloc, machine, parts, room, step)? {
                 return Ok(Some(stop));
             }
             next = steps.next_step();
@@ -99,13 +102,13 @@ pub fn run<P: Hosts, S: Steps>(
 }
 
 /// The steps of an accepted list: the stop and the output are those of the sequential run.
-pub fn drive<P: Hosts, S: Steps>(
+pub fn drive<P: Items, S: Steps>(
     alloc: Global,
     machine: &mut Machine,
     parts: &P,
     room: &mut Room,
     steps: &mut S,
-) -> Result<Option<Stop>, AllocError>
+) -> Result<Option<Stop>, OutOfMemory>
     requires space { HasRoom (P.span_count parts.now) (P.locals parts.now) room.old }
     requires lawful { Lawful (P.setup parts.now) }
     requires coloured { Coloured (P.setup parts.now) }

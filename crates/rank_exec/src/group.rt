@@ -17,8 +17,9 @@ use crate::room::Room;
 use crate::steps::{begin, in_place};
 use crate::stream::Steps;
 use kernel_types::KernelFault;
+use op_num::OutOfMemory;
 use schedule_steps::Step;
-use std::alloc::{AllocError, Global};
+use std::alloc::Global;
 
 /// The begins of a group, in their order.
 pub fn begin_group<P: Parts>(
@@ -54,7 +55,7 @@ fn collect<S: Steps>(
     item: u32,
     rank: u32,
     places: &mut Vec<u32>,
-) -> Result<Option<Step>, AllocError>
+) -> Result<Option<Step>, OutOfMemory>
     ensures all { IfOk result
         (λ next. begins item rank places.new.items ++ to_come next (S.left steps.new)
         ≡ begins item rank places.old.items ++ S.left steps.old) }
@@ -107,7 +108,7 @@ pub fn run_begins<P: Parts, S: Steps>(
     item: u32,
     rank: u32,
     place: u32,
-) -> Result<Option<Step>, AllocError>
+) -> Result<Option<Step>, OutOfMemory>
     requires space { HasRoom (P.span_count parts.now) (P.locals parts.now) room.old }
     requires shows { (f : Flat KernelFault) × Shows (P.setup parts.now) (P.layout parts.now) (P.tables parts.now) machine.old f }
     requires ready { GroupReady (by_place (P.setup parts.now) (P.layout parts.now)) item rank

@@ -5,6 +5,7 @@ ghost use Rattle.mesh_decl.specs.Mesh.{dat_count, dat_set, set_size};
 ghost use Rattle.schedule_model.specs.Program.{Reduce, Ordered, elements};
 ghost use Rattle.bound_program.specs.Values.{BoundValue, bound_of};
 ghost use Rattle.bound_program.specs.Fits.{Fits};
+ghost use Rattle.host_acts.specs.Variables.{VarsBegin};
 ghost use Rattle.run_model.specs.Hosts.{variable_cells};
 ghost use Rattle.run_model.specs.Programs.{program_of};
 ghost use Rattle.rank_state.specs.Shows.{variables_from};
@@ -23,6 +24,10 @@ pub trait Items: Parts {
     /// The program.
     fn bound(&self) -> &Bound
         ensures { bound_of result.now ≡ program self.now };
+
+    /// Where each variable begins among the cells of all variables.
+    fn starts(&self) -> &[usize]
+        ensures { VarsBegin (program self.now).vars result.now };
 
     /// The cells into which the loop of a Reduce reduces.
     fn reductions(&self, item: u32) -> &[Scalar]

@@ -4,57 +4,28 @@ ghost use Rattle.std.specs.Prelude.{◌≡◌, ◌<◌, ◌≤◌, ℕ, length, 
 ghost use Rattle.kernel_types.specs.declared.faults.KernelFault.{KernelFault};
 ghost use Rattle.schedule_steps.specs.declared.step.Step.TheVariants.{Join};
 ghost use Rattle.schedule_steps.specs.Steps.{IsStep};
-ghost use Rattle.schedule_model.specs.Program.{Reduce, Ordered, Host, elements};
+ghost use Rattle.schedule_model.specs.Program.{Reduce, Ordered, elements};
+ghost use Rattle.bound_program.specs.Values.{Ordered as OrderedItem};
+ghost use Rattle.run_model.specs.Programs.{item_at};
 ghost use Rattle.schedule_model.specs.Kept.{if_before};
 ghost use Rattle.flat_machine.specs.Layout.{by_place};
 ghost use Rattle.flat_machine.specs.Flat.{Flat, flat_step};
 ghost use Rattle.rank_state.specs.Core.{fault_of};
 ghost use Rattle.rank_state.specs.Ordered.{AreOwned, run_of, left_in};
 ghost use Rattle.rank_state.specs.Shows.{Shows};
-ghost use Rattle.rank_exec.specs.Kinds.{kind_of};
 ghost use Rattle.rank_exec.specs.Stops.{stop_in};
 ghost use Rattle.rank_exec.specs.Driving.{After, RanElement};
 ghost use Rattle.rank_exec.specs.Rooms.{HasRoom};
 
+use crate::hosts::run_host;
 use crate::items::Items;
 use crate::machine::{Machine, Stop};
 use crate::room::Room;
+use bound_program::Item;
 use kernel_types::KernelFault;
+use op_num::OutOfMemory;
 use rank_state::Owned;
-use std::alloc::AllocError;
-
-/// What an item that is a join does.
-#[derive(Clone, Copy, PartialEq, Eq, Debug)]
-pub enum JoinKind {
-    Reduce,
-    Ordered,
-    Host,
-}
-
-/// Host statements.
-pub trait Hosts: Items {
-    /// What the item does.
-    fn join_kind(&self, item: u32) -> JoinKind
-        requires { IsStep (by_place (Self.setup self.now) (Self.layout self.now)) (Join item) }
-        ensures { kind_of result ≡ (Self.setup self.now).program.kind item };
-
-    /// How many elements an Ordered loop has.
-    fn elements(&self, item: u32) -> u32
-        requires { (Self.setup self.now).program.kind item ≡ Ordered }
-        ensures { result ≡ elements (Self.setup self.now).program item };
-
-    /// A host statement, where no fault of an earlier item is kept.
-    fn host(&self, machine: &mut Machine, item: u32) -> Result<Option<Stop>, AllocError>
-        requires kind { (Self.setup self.now).program.kind item ≡ Host }
-        requires shows { (f : Flat KernelFault) × Shows (Self.setup self.now) (Self.layout self.now) (Self.tables self.now) machine.old f }
-        requires going { if_before item machine.old.fault ≡ None }
-        ensures after { IfOk result
-            (λ stop. (f : Flat KernelFault) → Shows (Self.setup self.now) (Self.layout self.now) (Self.tables self.now) machine.old f
-            → After (Self.setup self.now) (Self.layout self.now) (Self.tables self.now) (stop_in stop) machine.new
-            (flat_step (Self.setup self.now) (Self.layout self.now) (Join item) f)) }
-        ensures mail { machine.new.mail.left ≡ machine.old.mail.left }
-        ensures frames { machine.new.frames.left ≡ machine.old.frames.left };
-}
+use std::alloc::Global;
 
 /// A Reduce, where no fault of an earlier item is kept.
 fn reduce<P: Items>(machine: &mut Machine, parts: &P, item: u32)
@@ -127,14 +98,26 @@ fn run_one<P: Items>(
     )
 }
 
+// How many elements an Ordered loop has.
+fn elements_of<P: Items>(parts: &P, item: u32, site: u32) -> u32
+    requires site { item_at (P.program parts.now) item ≡ OrderedItem site }
+    ensures { result ≡ elements (P.setup parts.now).program item }
+{
+    run_model::items_are_there();
+    let bound = parts.bound();
+    bound.mesh.set_size(bound.sites[site as usize].set)
+}
+
 /// An Ordered loop, where no fault of an earlier item is kept: its elements one after another, up to
 /// the first that faults.
-fn run_ordered<P: Hosts>(
+fn run_ordered<P: Items>(
     machine: &mut Machine,
     parts: &P,
     room: &mut Room,
     item: u32,
+    site: u32,
 ) -> Option<Stop>
+    requires site { item_at (P.program parts.now) item ≡ OrderedItem site }
     requires space { HasRoom (P.span_count parts.now) (P.locals parts.now) room.old }
     requires kind { (P.setup parts.now).program.kind item ≡ Ordered }
     requires shows { (f : Flat KernelFault) × Shows (P.setup parts.now) (P.layout parts.now) (P.tables parts.now) machine.old f }
@@ -147,7 +130,7 @@ fn run_ordered<P: Hosts>(
     ensures frames { machine.new.frames.left ≡ machine.old.frames.left }
 {
     rank_state::loop_shows::<KernelFault>();
-    for element in 0..parts.elements(item) {
+    for element in 0..elements_of(parts, item, site) {
         if let Some(fault) = run_one(machine, parts, room, item, element) {
             return Some(Stop {
                 item,
@@ -160,12 +143,13 @@ fn run_ordered<P: Hosts>(
 }
 
 /// A join: it stops by the kept fault of an earlier item, and else does its item.
-pub fn join<P: Hosts>(
+pub fn join<P: Items>(
+    alloc: Global,
     machine: &mut Machine,
     parts: &P,
     room: &mut Room,
     item: u32,
-) -> Result<Option<Stop>, AllocError>
+) -> Result<Option<Stop>, OutOfMemory>
     requires space { HasRoom (P.span_count parts.now) (P.locals parts.now) room.old }
     requires planned { IsStep (by_place (P.setup parts.now) (P.layout parts.now)) (Join item) }
     requires shows { (f : Flat KernelFault) × Shows (P.setup parts.now) (P.layout parts.now) (P.tables parts.now) machine.old f }
@@ -181,12 +165,13 @@ pub fn join<P: Hosts>(
     if let Some(stop) = machine.fault_before(item) {
         return Ok(Some(stop));
     }
-    match parts.join_kind(item) {
-        JoinKind::Reduce => {
+    match &parts.bound().trace[item as usize] {
+        Item::Reduce { .. } => {
             reduce(machine, parts, item);
             Ok(None)
         }
-        JoinKind::Ordered => Ok(run_ordered(machine, parts, room, item)),
-        JoinKind::Host => parts.host(machine, item),
+        Item::Ordered { site } => Ok(run_ordered(machine, parts, room, item, *site)),
+        Item::Host { act } => run_host(alloc, machine, parts, item, act),
+        Item::Free { .. } => unreachable!(),
     }
 }

@@ -5,6 +5,7 @@ pub mod core_run;
 pub mod drive;
 pub mod frames;
 pub mod group;
+pub mod hosts;
 pub mod items;
 pub mod joins;
 pub mod machine;

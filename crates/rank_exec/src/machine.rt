@@ -1,11 +1,20 @@
 // The machine: memories, variables, partials, frames, messages, and the least recorded fault.
 
-ghost use Rattle.std.specs.Prelude.{◌≡◌, ◌≢◌, [], ℕ, ℤ, ◌+◌, ◌<◌, ◌≤◌, List, length, map, slice_index_or, take, Some, ◌*◌, ◌^◌, IfOk};
+ghost use Rattle.std.specs.Prelude.{◌≡◌, ◌≢◌, [], ℕ, ℤ, ◌+◌, ◌<◌, ◌≤◌, List, length, map, slice_index_or, take, Some, ◌*◌, ◌^◌, ◌++◌, IfOk};
+ghost use Rattle.std.specs.Prelude.{OnOk};
 ghost use Rattle.kernel_types.specs.declared.faults.KernelFault.{KernelFault};
+ghost use Rattle.mesh_decl.specs.Mesh.{dat_count, dat_set, dat_dim, set_size};
+ghost use Rattle.mesh_decl.specs.Printed.{printed_dat};
+ghost use Rattle.bound_program.specs.Values.{act_of};
+ghost use Rattle.bound_program.specs.Fits.{ActFits};
+ghost use Rattle.run_model.specs.Hosts.{act_run};
+ghost use Rattle.run_model.specs.Memory.{Holds, memory_length};
+ghost use Rattle.host_acts.specs.Acts.{program_of, Begins, ActEnds};
+ghost use Rattle.schedule_model.specs.Cells.{Store};
 ghost use Rattle.schedule_model.specs.Machine.{is_less_element};
 ghost use Rattle.schedule_model.specs.Kept.{if_before};
 ghost use Rattle.flat_machine.specs.Layout.{Core};
-ghost use Rattle.rank_state.specs.Spans.{Within, total};
+ghost use Rattle.rank_state.specs.Spans.{Within, total, cells_at};
 ghost use Rattle.rank_state.specs.Windows.{Reads, Merges};
 ghost use Rattle.rank_state.specs.Frames.{Shut, pane_at, Enough, Exactly};
 ghost use Rattle.rank_state.specs.Mail.{Carries};
@@ -22,7 +31,11 @@ use crate::mail::Mail;
 use crate::owned::run_element;
 use crate::reduce::{reduce_variables, unite_all};
 use crate::scalars::unit;
+use bound_program::{Act, Mesh};
+use gather::print_dat;
+use host_acts::{Variables, run_act};
 use kernel_types::KernelFault;
+use op_num::{OutOfMemory, Text};
 use rank_state::{Operation, Owned, Scalar, Span};
 use std::alloc::{AllocError, Global};
 use std::marker::Model;
@@ -333,5 +346,51 @@ impl Machine {
             &mut self.window,
             scratch,
         )
+    }
+
+    /// Appends the values of cells that a rank owns.
+    pub fn push_owned(&self, place: Owned, values: &mut Vec<i32>) -> Result<(), OutOfMemory>
+        requires rank { place.rank < length self.now.memories }
+        requires inside { place.at + place.dim ≤ length (row self.now.memories place.rank) }
+        ensures { OnOk result (values.new.items ≡ values.old.items ++ cells_at place.at place.dim (row self.now.memories place.rank)) }
+    {
+        let memory = &self.memories[place.rank as usize];
+        values.extend_from_slice(&memory[place.at..place.at + place.dim])?;
+        Ok(())
+    }
+
+    /// Prints the values of a dat.
+    pub fn print(
+        &mut self,
+        file: &Text,
+        mesh: &Mesh,
+        dat: u32,
+        values: &[i32],
+    ) -> Result<(), OutOfMemory>
+        requires dat { dat < dat_count mesh.now }
+        requires values { length values.now ≡ set_size mesh.now (dat_set mesh.now dat) * dat_dim mesh.now dat }
+        ensures others { self.new ≡ record self.old { output = self.new.output } }
+        ensures printed { OnOk result (self.new.output ≡ self.old.output ++ printed_dat file.now mesh.now dat values.now) }
+    {
+        print_dat(&mut self.output, file, mesh, dat, values)?;
+        Ok(())
+    }
+
+    /// Does a statement of `main` that is no loop and prints no dat, up to its first fault.
+    pub fn act(
+        &mut self,
+        alloc: Global,
+        known: &Variables<'_>,
+        act: &Act,
+    ) -> Result<Result<(), KernelFault>, OutOfMemory>
+        requires begins { Begins known.now }
+        requires fits { ActFits (program_of known.now) (act_of act.now) }
+        requires cells { length self.old.variables ≡ memory_length (program_of known.now) }
+        ensures others { self.new ≡ record self.old { variables = self.new.variables; output = self.new.output } }
+        ensures ends { IfOk result (λ r. (s : Store) → Holds (program_of known.now) self.old.variables s
+            → ActEnds (program_of known.now) self.new.variables s self.old.output self.new.output r
+            (act_run (program_of known.now) s (act_of act.now))) }
+    {
+        run_act(alloc, known, act, &mut self.variables, &mut self.output)
     }
 }

@@ -2,7 +2,7 @@
 use Rattle.std.proofs.Common.{◌≡◌, ℕ, zero, suc, ℤ, pos, ◌+◌, ◌<◌, ◌≤◌, false, cond, refl, sym, ap, ap₂, subst, ◌∙◌, arith, ⊎_elim, List, [], ◌∷◌, ◌++◌, map, length, take, drop, get_or, set, get_or-set_same, get_or-set_other, length-set, length-drop, append_assoc}
 use Rattle.std.specs.Prelude.{◌==◌}
 use Rattle.std.proofs.lemmas.Bool.{cases_Bool, cases_eq, false≢true, false_from_ne_true, cond-true, cond-false}
-use Rattle.std.proofs.lemmas.List.{map-append, ext_get_or, drop-drop}
+use Rattle.std.proofs.lemmas.List.{append-nil, map-append, ext_get_or, drop-drop}
 use Rattle.std.proofs.Math.Seq.{drop-cons}
 use Rattle.schedule_model.specs.Cells.{Cell, Data, Variable, DatCell, VarCell, same_cell}
 use Rattle.schedule_model.specs.Tests.{same_cell_refl, same_cell_true}
@@ -12,6 +12,7 @@ use Rattle.flat_machine.specs.Scatter.{Once}
 use Rattle.flat_machine.specs.Flat.{Flat, updated, updated_rows, owned, element_flat}
 use Rattle.rank_state.specs.declared.owned.Owned.{Owned}
 use Rattle.rank_state.specs.Windows.{cells_from}
+use Rattle.rank_state.specs.Spans.{cells_at}
 use Rattle.rank_state.specs.Machine.{State}
 use Rattle.rank_state.specs.Shows.{Tables, Indexed, Shows}
 use Rattle.rank_state.specs.Ordered.{total_all, gathered_all, scattered_all, index_cells, values_at, put_values, owned_cells, OwnedBy, InVariables, AreOwned, put_back, all_windows}
@@ -83,6 +84,10 @@ module _ {F : Type 0} (p : Setup F) (l : Layout F) (t : Tables) (q : Indexed p l
       (gather_range (l.cell_at s.rank) (owned p l f) (get_or st.memories s.rank []) s.at s.dim (let w : length (get_or st.memories s.rank []) ≡ l.width s.rank = h.sized.widths s.rank own.0 in omega (arith, own.1)) (λ j lt. owned_at s.rank (s.at + j) own.0 (omega (arith, own.1)) (own.2 j lt)))
       (gathers ss own.3)
       ∙ sym (map-append (owned p l f) (cells_from (l.cell_at s.rank) s.at s.dim) (owned_cells l.cell_at ss))
+
+  pub owner_gathers : (o : Owned) → o.rank < p.ranks → o.at + o.dim ≤ l.width o.rank → ((j : ℕ) → j < o.dim → owner_of p (l.cell_at o.rank (o.at + j)) ≡ o.rank)
+      → cells_at o.at o.dim (get_or st.memories o.rank []) ≡ map (owned p l f) (cells_from (l.cell_at o.rank) o.at o.dim)
+  owner_gathers o lr room own = sym (append-nil (cells_at o.at o.dim (get_or st.memories o.rank []))) ∙ (gathers (o ∷ []) (lr, room, own, tt) ∙ ap (map (owned p l f)) (append-nil (cells_from (l.cell_at o.rank) o.at o.dim)))
 
   values : (is : List ℕ) → InVariables p l t is → values_at st.variables is ≡ map (owned p l f) (index_cells l.variable_at is)
   values [] g = refl

@@ -2,7 +2,7 @@
 use Rattle.std.proofs.Common.{◌≡◌, ℕ, zero, suc, ℤ, pos, ◌+◌, ◌<◌, ◌≤◌, Bool, true, false, cond, refl, sym, ap, ap₂, subst, ◌∙◌, arith, ⊎_elim, Some, None, List, [], ◌∷◌, ◌++◌, map, length, get_or, set, take, drop, get_or-set_same, get_or-set_other, length-set, length-drop}
 use Rattle.std.specs.Prelude.{◌==◌}
 use Rattle.std.proofs.lemmas.Bool.{cases_Bool, cases_eq, false≢true, false_from_ne_true, and_parts, ltb-true, eqb-true, eq-eqb, cond-true, cond-false}
-use Rattle.std.proofs.lemmas.List.{map-append, length-map, set-get_or}
+use Rattle.std.proofs.lemmas.List.{take_all, map-append, length-map, set-get_or}
 use Rattle.std.proofs.Math.Seq.{drop-cons}
 use Rattle.schedule_steps.specs.declared.step.Step.TheVariants.{Begin, End}
 use Rattle.schedule_steps.specs.Steps.{IsStep}
@@ -59,6 +59,10 @@ module _ {F : Type 0} (p : Setup F) (l : Layout F) (t : Tables) (q : Indexed p l
 
   pub constants_are : take t.constants st.variables ≡ map (variable p l f) l.constants
   constants_are = constants_from 0 t.constants (omega (arith, q.constants_fit)) ∙ ap (map (variable p l f)) (sym q.constants_are)
+
+  -- all variables
+  pub variables_are : st.variables ≡ map (variable p l f) (variables_from l.variable_at 0 l.variables)
+  variables_are = sym (take_all l.variables st.variables (let n = h.sized.count in omega (arith, n))) ∙ constants_from 0 l.variables (omega arith)
 
   scalar_first : (k r : ℕ) (x : Scalar) → IsScalar p l t k x → window p l f k r (Variable (l.variable_at (index x))) ≡ first st.variables x
   scalar_first k r (Value at) g =

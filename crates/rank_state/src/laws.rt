@@ -5,19 +5,20 @@ ghost use Rattle.schedule_steps.specs.declared.step.Step.TheVariants.{Send, Recv
 ghost use Rattle.schedule_steps.specs.Steps.{IsStep, Accepted};
 ghost use Rattle.schedule_model.specs.Cells.{VarCell};
 ghost use Rattle.schedule_model.specs.Program.{Free, Reduce, Ordered, Host, Halts, Goes, elements};
-ghost use Rattle.schedule_model.specs.Setup.{Setup};
+ghost use Rattle.schedule_model.specs.Setup.{Setup, owner_of};
 ghost use Rattle.schedule_model.specs.Sequential.{Stop};
 ghost use Rattle.schedule_model.specs.Kept.{if_before};
 ghost use Rattle.flat_machine.specs.Layout.{Layout, Faults, Leaves, IsLayout, by_place};
-ghost use Rattle.flat_machine.specs.Flat.{Flat, Shut_pane, flat_step, flat_from, StartsFlat, owned, element_flat, loop_flat};
+ghost use Rattle.flat_machine.specs.Flat.{Flat, Shut_pane, variable, flat_step, flat_from, StartsFlat, owned, element_flat, loop_flat};
 ghost use Rattle.rank_state.specs.declared.spans.Span.{Span};
 ghost use Rattle.rank_state.specs.declared.scalars.Operation.{Operation};
 ghost use Rattle.rank_state.specs.declared.scalars.Scalar.{Scalar};
-ghost use Rattle.rank_state.specs.Spans.{Within, total};
+ghost use Rattle.rank_state.specs.Spans.{Within, total, cells_at};
+ghost use Rattle.rank_state.specs.Windows.{cells_from};
 ghost use Rattle.rank_state.specs.Frames.{Shut, pane_at};
 ghost use Rattle.rank_state.specs.Mail.{Carries};
-ghost use Rattle.rank_state.specs.Machine.{State, posted, taken, begun, ended};
-ghost use Rattle.rank_state.specs.Shows.{Tables, Indexed, AreScalars, AreExports, AreImports, AreWindows, Shows, pane_in};
+ghost use Rattle.rank_state.specs.Machine.{State, row, posted, taken, begun, ended};
+ghost use Rattle.rank_state.specs.Shows.{Tables, variables_from, Indexed, AreScalars, AreExports, AreImports, AreWindows, Shows, pane_in};
 ghost use Rattle.rank_state.specs.Groups.{begins, Distinct, Planned, AllShut};
 ghost use Rattle.rank_state.specs.Starting.{Starts, started, AreFirst, AreSlots, ArePlaces};
 ghost use Rattle.rank_state.specs.Joins.{reduced, AreReduced};
@@ -188,4 +189,15 @@ pub fn windows_are_counted<F>()
         → total_all spans + length indices ≡ length (l.cells k e) }
     ensures elements { (p : Setup F) (l : Layout F) → IsLayout p l → (k r x : ℕ) → IsStep (by_place p l) (Begin k r x)
         → (p.program.kind k ≡ Free) × (l.original k r x < elements p.program k) }
+{}
+
+/// The cells of one owner that stand side by side have the values of the owners' copies, and the variables are those of the
+/// state.
+pub fn owners_show<F>()
+    ensures cells { (p : Setup F) (l : Layout F) (t : Tables) → Indexed p l t → (st : State F) (f : Flat F) → Shows p l t st f
+        → (o : Owned) → o.rank < p.ranks → o.at + o.dim ≤ l.width o.rank
+        → ((j : ℕ) → j < o.dim → owner_of p (l.cell_at o.rank (o.at + j)) ≡ o.rank)
+        → cells_at o.at o.dim (row st.memories o.rank) ≡ map (owned p l f) (cells_from (l.cell_at o.rank) o.at o.dim) }
+    ensures variables { (p : Setup F) (l : Layout F) (t : Tables) → Indexed p l t → (st : State F) (f : Flat F) → Shows p l t st f
+        → st.variables ≡ map (variable p l f) (variables_from l.variable_at 0 l.variables) }
 {}

@@ -1,4 +1,4 @@
-use Rattle.std.proofs.Common.{◌≡◌, ◌+◌, ℕ, take, drop}
+use Rattle.std.proofs.Common.{◌≡◌, ◌+◌, take, drop}
 use Rattle.kernel_types.specs.declared.faults.KernelFault.{KernelFault}
 use Rattle.flat_machine.specs.Layout.{by_place}
 use Rattle.flat_machine.specs.Flat.{Flat, flat_from}

@@ -1,4 +1,4 @@
-use Rattle.std.proofs.Common.{◌≡◌, ◌∙◌, sym, subst}
+use Rattle.std.proofs.Common.{sym, subst}
 use Rattle.rank_state.specs.Ordered.{AreOwned}
 use Rattle.rank_exec.proofs.joins.run_one.Goals as goal
 

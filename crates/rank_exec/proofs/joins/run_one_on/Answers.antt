@@ -1,7 +1,7 @@
-use Rattle.std.proofs.Common.{◌≡◌, ◌+◌, sym, ap, ap₂, subst, ◌∙◌, length, take}
+use Rattle.std.proofs.Common.{◌+◌, sym, ap, subst, ◌∙◌, length}
 use Rattle.schedule_model.specs.Program.{is_loop}
 use Rattle.rank_state.specs.Core.{fault_of}
-use Rattle.rank_state.specs.Ordered.{all_windows, left_in, run_of, total_all}
+use Rattle.rank_state.specs.Ordered.{all_windows, left_in, total_all}
 use Rattle.rank_exec.proofs.Kernels.{same_run}
 use Rattle.rank_exec.proofs.joins.run_one_on.Goals as goal
 

@@ -1,13 +1,12 @@
-use Rattle.std.proofs.Common.{◌≡◌, ◌+◌, ◌<◌, ◌≤◌, ℕ, suc, Some, sym, ap, subst, ◌∙◌, arith, take}
+use Rattle.std.proofs.Common.{◌≡◌, ◌+◌, ◌<◌, ◌≤◌, suc, Some, sym, ap, subst, ◌∙◌, arith}
 use Rattle.kernel_types.specs.declared.faults.KernelFault.{KernelFault}
 use Rattle.schedule_steps.specs.declared.step.Step.TheVariants.{Join}
 use Rattle.schedule_model.specs.Program.{elements}
 use Rattle.flat_machine.specs.Layout.{Faults}
 use Rattle.flat_machine.specs.Flat.{Flat, flat_step, loop_flat}
-use Rattle.rank_state.specs.Core.{fault_of}
 use Rattle.rank_state.specs.Machine.{State}
 use Rattle.rank_state.specs.Shows.{Shows}
-use Rattle.rank_state.specs.Ordered.{all_windows, left_in, run_of}
+use Rattle.rank_state.specs.Ordered.{run_of}
 use Rattle.rank_exec.proofs.Kernels.{no_fault, a_fault}
 use Rattle.rank_exec.proofs.joins.run_ordered.Goals as goal
 
@@ -17,7 +16,7 @@ returns-in-Some-clause-after g c f h =
     a_fault (run_of (g.P.Parts.layout c.args.parts.now) (g.P.Parts.tables c.args.parts.now) c.args.item c.loop-element.element c.run_one.ensures.ran.spans c.run_one.ensures.ran.indices c.loop-element.machine) c.in-Some.fault (sym c.run_one.ensures.ran.fault_is ∙ c.in-Some.is) in
     let shows = c.loop-element.invariant.reached f h in
     let stopped = c.loop_shows.ensures.breaks (g.P.Parts.setup c.args.parts.now) (g.P.Parts.layout c.args.parts.now) (g.P.Parts.tables c.args.parts.now) ((g.met.P.Parts g.world.𝓛 g.world.𝓜 g.world.𝓡 ((λ s x. x), (λ x. x), (λ x. x), λ x. x)).indexed c.args.parts.now) ((g.met.P.Parts g.world.𝓛 g.world.𝓜 g.world.𝓡 ((λ s x. x), (λ x. x), (λ x. x), λ x. x)).fits c.args.parts.now) c.args.item f c.loop-element.element c.loop-element.machine shows c.run_one.ensures.ran.spans c.run_one.ensures.ran.indices c.run_one.ensures.ran.are c.in-Some.fault fault in
-    let last : suc c.loop-element.element ≤ elements (g.P.Parts.setup c.args.parts.now).program c.args.item = (let e = c.elements-element-end.ensures in omega (arith, c.loop-element-test.true)) in
+    let last : suc c.loop-element.element ≤ elements (g.P.Parts.setup c.args.parts.now).program c.args.item = (let e = c.elements_of-element-end.ensures in omega (arith, c.loop-element-test.true)) in
     let whole : flat_step (g.P.Parts.setup c.args.parts.now) (g.P.Parts.layout c.args.parts.now) (Join c.args.item) f ≡ record (loop_flat (g.P.Parts.setup c.args.parts.now) (g.P.Parts.layout c.args.parts.now) c.args.item c.loop-element.element f) { stop = Some (record { item = c.args.item; element = Some c.loop-element.element; fault = c.in-Some.fault }) } =
     c.loop_shows.ensures.join (g.P.Parts.setup c.args.parts.now) (g.P.Parts.layout c.args.parts.now) (g.P.Parts.tables c.args.parts.now) c.args.machine.now f h c.args.item c.requires.going c.requires.kind
     ∙ (c.loop_shows.ensures.ended (g.P.Parts.setup c.args.parts.now) (g.P.Parts.layout c.args.parts.now) c.args.item f (suc c.loop-element.element) (elements (g.P.Parts.setup c.args.parts.now).program c.args.item) last (record { item = c.args.item; element = Some c.loop-element.element; fault = c.in-Some.fault }) (ap (λ (z : Flat KernelFault). z.stop) stopped) ∙ stopped) in
@@ -26,7 +25,7 @@ returns-in-Some-clause-after g c f h =
 pub loop-element-preserved : goal.loop-element-preserved
 loop-element-preserved g c =
     let left = no_fault (run_of (g.P.Parts.layout c.args.parts.now) (g.P.Parts.tables c.args.parts.now) c.args.item c.loop-element.element c.run_one.ensures.ran.spans c.run_one.ensures.ran.indices c.loop-element.machine) (sym c.run_one.ensures.ran.fault_is ∙ c.in_default.is) in
-    let in_loop : c.loop-element.element < elements (g.P.Parts.setup c.args.parts.now).program c.args.item = (let e = c.elements-element-end.ensures in omega (arith, c.loop-element-test.true)) in
+    let in_loop : c.loop-element.element < elements (g.P.Parts.setup c.args.parts.now).program c.args.item = (let e = c.elements_of-element-end.ensures in omega (arith, c.loop-element-test.true)) in
     let next : suc c.loop-element.element ≡ c.loop-element.element + 1 = omega arith in
     record {
       reached = λ f h.
@@ -40,7 +39,7 @@ loop-element-preserved g c =
 
 pub returns-clause-after : goal.returns-clause-after
 returns-clause-after g c f h =
-    let done : c.loop-element.element ≡ elements (g.P.Parts.setup c.args.parts.now).program c.args.item = (let e = c.elements-element-end.ensures in omega (arith, c.loop-element-test.false, c.loop-element.auto.element-end)) in
+    let done : c.loop-element.element ≡ elements (g.P.Parts.setup c.args.parts.now).program c.args.item = (let e = c.elements_of-element-end.ensures in omega (arith, c.loop-element-test.false, c.loop-element.auto.element-end)) in
     subst (Shows (g.P.Parts.setup c.args.parts.now) (g.P.Parts.layout c.args.parts.now) (g.P.Parts.tables c.args.parts.now) c.loop-element.machine)
     (ap (λ i. loop_flat (g.P.Parts.setup c.args.parts.now) (g.P.Parts.layout c.args.parts.now) c.args.item i f) done ∙ sym (c.loop_shows.ensures.join (g.P.Parts.setup c.args.parts.now) (g.P.Parts.layout c.args.parts.now) (g.P.Parts.tables c.args.parts.now) c.args.machine.now f h c.args.item c.requires.going c.requires.kind))
     (c.loop-element.invariant.reached f h)

@@ -1,4 +1,4 @@
-use Rattle.std.proofs.Common.{◌≡◌, ℕ, ℤ, Vec, Global, map, sym, ap, ◌∙◌, subst}
+use Rattle.std.proofs.Common.{◌≡◌, ℤ, Vec, Global, map, sym, ap, ◌∙◌, subst}
 use Rattle.kernel_types.specs.declared.faults.KernelFault.{KernelFault}
 use Rattle.flat_machine.specs.Flat.{Flat, StartsFlat}
 use Rattle.rank_state.specs.Machine.{State}

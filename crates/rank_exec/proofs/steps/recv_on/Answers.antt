@@ -1,4 +1,4 @@
-use Rattle.std.proofs.Common.{◌+◌, ℕ, ap, sym, subst, ◌∙◌}
+use Rattle.std.proofs.Common.{◌+◌, ap, sym, subst, ◌∙◌}
 use Rattle.schedule_steps.specs.declared.step.Step.TheVariants.{Recv}
 use Rattle.flat_machine.specs.Flat.{flat_step}
 use Rattle.rank_state.specs.Shows.{Shows}

@@ -1,4 +1,4 @@
-use Rattle.std.proofs.Common.{◌≡◌, ℕ, ℤ, ◌<◌, ◌∙◌, ap, ap₂, sym, subst, length, set, List}
+use Rattle.std.proofs.Common.{◌≡◌, ℤ, ◌<◌, ◌∙◌, ap, ap₂, sym, subst, length, set, List}
 use Rattle.std.specs.Vec.{with_items}
 use Rattle.kernel_types.specs.declared.faults.KernelFault.{KernelFault}
 use Rattle.rank_state.specs.Spans.{total}
