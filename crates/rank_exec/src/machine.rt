@@ -18,7 +18,7 @@ ghost use Rattle.rank_state.specs.Spans.{Within, total, cells_at};
 ghost use Rattle.rank_state.specs.Windows.{Reads, Merges};
 ghost use Rattle.rank_state.specs.Frames.{Shut, pane_at, Enough, Exactly};
 ghost use Rattle.rank_state.specs.Mail.{Carries};
-ghost use Rattle.rank_state.specs.Machine.{State, row, posted, taken, noted, begun, ended};
+ghost use Rattle.rank_state.specs.Machine.{State, row, posted, taken, noted, begun, ended, passed, windows_of};
 ghost use Rattle.rank_state.specs.Joins.{reduced};
 ghost use Rattle.rank_state.specs.Core.{fault_of};
 ghost use Rattle.rank_state.specs.Starting.{units as united, started};
@@ -26,7 +26,7 @@ ghost use Rattle.rank_state.specs.Ordered.{Within_all, InLength, total_all, all_
 ghost use Rattle.rank_exec.specs.Stops.{stop_in};
 
 use crate::core_run::Kernels;
-use crate::frames::Frames;
+use crate::frames::{Frames, run_through};
 use crate::mail::Mail;
 use crate::owned::run_element;
 use crate::reduce::{reduce_variables, unite_all};
@@ -238,6 +238,49 @@ impl Machine {
             spans,
             &self.variables,
             scalars,
+            scratch,
+        );
+        self.fault = least(self.fault, item, original, fault);
+    }
+
+    /// Runs an element's kernel and puts back at once what it leaves. No frame is opened for it.
+    pub fn in_place<C: Kernels>(
+        &mut self,
+        core: &C,
+        constants: usize,
+        own: bool,
+        item: u32,
+        rank: u32,
+        original: u32,
+        spans: &[Span],
+        scalars: &[Scalar],
+        scratch: &mut [i32],
+    )
+        requires takes { C.takes core.now item original constants (total spans.now + length scalars.now) }
+        requires locals { C.locals core.now ≤ length scratch.old }
+        requires rank { rank < length self.old.memories }
+        requires partials { rank < length self.old.partials }
+        requires inside { Within (length (row self.old.memories rank)) spans.now }
+        requires reads { Reads (length self.old.variables) scalars.now }
+        requires slots { Merges (length (row self.old.partials rank)) scalars.now }
+        requires constants { constants ≤ length self.old.variables }
+        requires fits { total spans.now + length scalars.now ≤ self.old.frames.stride }
+        ensures { self.new
+            ≡ passed own item rank original spans.now scalars.now
+            (C.core core.now item original (take constants self.old.variables) (windows_of self.old rank spans.now scalars.now)) self.old }
+    {
+        let fault = run_through(
+            core,
+            own,
+            item,
+            original,
+            &self.variables[..constants],
+            &mut self.memories[rank as usize],
+            spans,
+            &self.variables,
+            &mut self.partials[rank as usize],
+            scalars,
+            &mut self.window,
             scratch,
         );
         self.fault = least(self.fault, item, original, fault);

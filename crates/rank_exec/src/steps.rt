@@ -246,6 +246,41 @@ pub fn end<P: Parts>(
     end_on(machine, parts, item, rank, place, &room.spans, scalars);
 }
 
+// A begin and its own end on the windows of these spans and scalars.
+fn in_place_on<P: Parts>(
+    machine: &mut Machine,
+    parts: &P,
+    item: u32,
+    rank: u32,
+    place: u32,
+    spans: &[Span],
+    scalars: &[Scalar],
+    locals: &mut [i32],
+)
+    requires planned { IsStep (by_place (P.setup parts.now) (P.layout parts.now)) (Begin item rank place) }
+    requires are { AreWindows (P.setup parts.now) (P.layout parts.now) (P.tables parts.now) item rank place spans.now scalars.now }
+    requires locals { P.locals parts.now ≤ length locals.old }
+    requires shows { (f : Flat KernelFault) × Shows (P.setup parts.now) (P.layout parts.now) (P.tables parts.now) machine.old f }
+    requires shut { pane_at machine.old.frames.panes rank place ≡ Shut }
+    requires room { 0 < machine.old.frames.left }
+    ensures shows { (f : Flat KernelFault) → Shows (P.setup parts.now) (P.layout parts.now) (P.tables parts.now) machine.old f
+        → Shows (P.setup parts.now) (P.layout parts.now) (P.tables parts.now) machine.new
+        (flat_step (P.setup parts.now) (P.layout parts.now) (End item rank place)
+        (flat_step (P.setup parts.now) (P.layout parts.now) (Begin item rank place) f)) }
+    ensures mail { machine.new.mail.left ≡ machine.old.mail.left }
+    ensures frames { machine.new.frames.left ≡ machine.old.frames.left }
+{
+    rank_state::in_place_shows::<KernelFault>();
+    rank_state::steps_can::<KernelFault>();
+    rank_state::windows_are_counted::<KernelFault>();
+    let original = parts.original(item, rank, place);
+    let constants = parts.constants();
+    let own = parts.owns(item, rank, place);
+    machine.in_place(
+        parts, constants, own, item, rank, original, spans, scalars, locals,
+    );
+}
+
 /// A begin that is followed at once by its own end.
 pub fn in_place<P: Parts>(
     machine: &mut Machine,
@@ -268,7 +303,16 @@ pub fn in_place<P: Parts>(
     ensures mail { machine.new.mail.left ≡ machine.old.mail.left }
     ensures frames { machine.new.frames.left ≡ machine.old.frames.left }
 {
-    rank_state::begin_opens::<KernelFault>();
-    begin(machine, parts, room, item, rank, place);
-    end(machine, parts, room, item, rank, place);
+    room.spans.clear();
+    let scalars = parts.windows(item, rank, place, &mut room.spans);
+    in_place_on(
+        machine,
+        parts,
+        item,
+        rank,
+        place,
+        &room.spans,
+        scalars,
+        &mut room.locals,
+    );
 }

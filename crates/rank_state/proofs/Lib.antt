@@ -18,3 +18,4 @@ pub mod Ready
 pub mod Opening
 pub mod Groups
 pub mod Counted
+pub mod Passing

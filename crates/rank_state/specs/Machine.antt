@@ -9,7 +9,7 @@ use Rattle.rank_state.specs.Spans.{total, gathered}
 use Rattle.rank_state.specs.Core.{fault_of}
 use Rattle.rank_state.specs.Windows.{firsts, amounts}
 use Rattle.rank_state.specs.Mail.{Box, sent, received, arrived, first_post}
-use Rattle.rank_state.specs.Frames.{Pane, Shut, Broken, Holds, Panes, pane_at, opened, shut, closed}
+use Rattle.rank_state.specs.Frames.{Pane, Shut, Broken, Holds, Panes, pane_at, pane_after, opened, shut, closed}
 
 -- F is the type of faults
 pub record State (F : Type 0) : Type 0 where
@@ -66,4 +66,13 @@ taken r s spans st =
     record st {
       memories = set st.memories r (arrived spans (first_post s r st.mail.posts) (row st.memories r));
       mail = received s r (total spans) st.mail;
+    }
+
+-- a begin and its own end at once: what the run leaves goes back, or its fault is recorded
+abbrev pub passed : {F : Type 0} → Bool → ℕ → ℕ → ℕ → List Span → List Scalar → Core F → State F → State F
+passed own k r e spans scalars ran st =
+    record st {
+      memories = set st.memories r (closed spans (pane_after k ran) (row st.memories r));
+      partials = set st.partials r (merged_pane own (total spans) scalars (pane_after k ran) (row st.partials r));
+      fault = noted k e (fault_of ran) st.fault;
     }

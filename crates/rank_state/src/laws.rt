@@ -1,5 +1,6 @@
 // Each step of the lists is one of the machine on flat buffers. Each function's contract is the law.
-ghost use Rattle.std.specs.Prelude.{◌+◌, ◌≡◌, ◌≢◌, ◌<◌, ◌≤◌, ◌==◌, ℕ, suc, ℤ, pos, List, [], ◌∷◌, ◌++◌, Some, None, map, length, slice_index_or};
+ghost use Rattle.std.specs.Prelude.{◌+◌, ◌≡◌, ◌≢◌, ◌<◌, ◌≤◌, ◌==◌, ℕ, suc, ℤ, pos, List, [], ◌∷◌, ◌++◌, Some, None, map, length, take};
+ghost use Rattle.std.specs.Prelude.{slice_index_or};
 ghost use Rattle.schedule_steps.specs.declared.step.Step.{Step};
 ghost use Rattle.schedule_steps.specs.declared.step.Step.TheVariants.{Send, Recv, Begin, End, Join};
 ghost use Rattle.schedule_steps.specs.Steps.{IsStep, Accepted};
@@ -17,7 +18,7 @@ ghost use Rattle.rank_state.specs.Spans.{Within, total, cells_at};
 ghost use Rattle.rank_state.specs.Windows.{cells_from};
 ghost use Rattle.rank_state.specs.Frames.{Shut, pane_at};
 ghost use Rattle.rank_state.specs.Mail.{Carries};
-ghost use Rattle.rank_state.specs.Machine.{State, row, posted, taken, begun, ended};
+ghost use Rattle.rank_state.specs.Machine.{State, row, posted, taken, begun, ended, passed, windows_of};
 ghost use Rattle.rank_state.specs.Shows.{Tables, variables_from, Indexed, AreScalars, AreExports, AreImports, AreWindows, Shows, pane_in};
 ghost use Rattle.rank_state.specs.Groups.{begins, Distinct, Planned, AllShut};
 ghost use Rattle.rank_state.specs.Starting.{Starts, started, AreFirst, AreSlots, ArePlaces};
@@ -201,3 +202,16 @@ pub fn owners_show<F>()
     ensures variables { (p : Setup F) (l : Layout F) (t : Tables) → Indexed p l t → (st : State F) (f : Flat F) → Shows p l t st f
         → st.variables ≡ map (variable p l f) (variables_from l.variable_at 0 l.variables) }
 {}
+
+/// A begin at a place where nothing is open, and its own end at once.
+pub fn in_place_shows<F>()
+    ensures { (p : Setup F) (l : Layout F) (t : Tables) → Indexed p l t → IsLayout p l → (k r x : ℕ) → IsStep (by_place p l) (Begin k r x)
+        → (spans : List Span) (scalars : List Scalar) → AreWindows p l t k r x spans scalars → (st : State F) (f : Flat F)
+        → Shows p l t st f → pane_at st.frames.panes r x ≡ Shut → 0 < st.frames.left
+        → Shows p l t
+        (passed (p.owner (p.program.set k) (l.original k r x) == r) k r (l.original k r x) spans scalars
+        (l.core k (l.original k r x) (take t.constants st.variables) (windows_of st r spans scalars)) st)
+        (flat_step p l (End k r x) (flat_step p l (Begin k r x) f)) }
+{
+    flat_machine::scatter_is_look_up();
+}

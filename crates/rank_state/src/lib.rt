@@ -7,8 +7,9 @@ mod scalars;
 mod spans;
 
 pub use laws::{
-    begin_opens, begin_shows, element_shows, end_shows, join_shows, loop_shows, owners_show, recv_shows,
-    send_shows, start_shows, steps_are_ready, steps_can, windows_are_counted,
+    begin_opens, begin_shows, element_shows, end_shows, in_place_shows, join_shows, loop_shows,
+    owners_show, recv_shows, send_shows, start_shows, steps_are_ready, steps_can,
+    windows_are_counted,
 };
 pub use owned::Owned;
 pub use scalars::{Operation, Scalar};
