@@ -1,0 +1,12 @@
+pub mod Count
+pub mod Rank
+pub mod Ends
+pub mod NewRuns
+pub mod Pairs
+pub mod Ready
+pub mod Marking
+pub mod Runs
+pub mod Advance
+pub mod Start
+pub mod AlikeJudged
+pub mod Loads

@@ -1,0 +1,11 @@
+pub mod Marks
+pub mod Counts
+pub mod Ranked
+pub mod Run
+pub mod RunKept
+pub mod NewRun
+pub mod Item
+pub mod NewItem
+pub mod Marked
+pub mod Kept
+pub mod Load
