@@ -10,3 +10,4 @@ pub mod Judged
 pub mod UnderWay
 pub mod Alike
 pub mod Peaks
+pub mod FirstElements

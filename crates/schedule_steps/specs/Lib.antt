@@ -5,6 +5,7 @@ pub mod Turns
 pub mod Standard
 pub mod Drawn
 pub mod Judged
+pub mod Firsts
 pub mod UnderWay
 pub mod Alike
 pub mod Peaks
