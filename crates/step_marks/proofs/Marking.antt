@@ -1,5 +1,5 @@
 -- One step more is taken.
-use Rattle.std.proofs.Common.{◌≡◌, ℕ, ◌<◌, Bool, true, false, refl, sym, ap, subst, ◌∙◌, ⊎_elim, List, length, get_or, set}
+use Rattle.std.proofs.Common.{◌≡◌, ℕ, ◌<◌, ◌^◌, Bool, true, false, refl, sym, ap, subst, ◌∙◌, ⊎_elim, List, length, get_or, set}
 use Rattle.std.specs.Prelude.{◌&&◌, ◌||◌, ◌==◌, not, nat_lt}
 use Rattle.std.proofs.lemmas.Bool.{eq-eqb, ne_eqb, cases_eq, or_left, or_right, and_from, and_left, and_right, ltb-true}
 use Rattle.std.proofs.lemmas.List.{get_or_read, get_or-set_same, get_or-set_other, length-set}
@@ -150,6 +150,7 @@ module _ (v : Marked) (k : ℕ) (u : Item) (inn : k < length v.items) (shape : S
   laid_after : LaidOut v → LaidOut after
   laid_after w = record {
     some = w.some;
+    few = subst (λ n. n < 2 ^ 32) (sym (length-set v.items k u)) w.few;
     ranked = λ i a b l. w.ranked i a b (sym (linked_same i a b) ∙ l);
     runs = λ i il f. (shape_at i).ranks ∙ w.runs i (inside_back i il) (free_back i true f);
   }

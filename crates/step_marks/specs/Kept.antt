@@ -1,11 +1,12 @@
 -- What holds of the marks of a plan.
-use Rattle.std.specs.Prelude.{◌≡◌, ◌<◌, ◌≤◌, ℕ, true, List, get_or, length}
+use Rattle.std.specs.Prelude.{◌≡◌, ◌<◌, ◌≤◌, ◌^◌, ℕ, true, List, get_or, length}
 use Rattle.step_marks.specs.Item.{linked}
 use Rattle.step_marks.specs.Marked.{Marked, item_at, Stands}
 
--- there is a rank, messages go between ranks, and each rank has its places in each Free item
+-- there is a rank, items are few, messages go between ranks, and each rank has its places in each Free item
 pub record LaidOut (v : Marked) : Type 0 where
   pub some : 1 ≤ v.ranks
+  pub few : length v.items < 2 ^ 32
   pub ranked : (k s r : ℕ) → linked (item_at v k) s r ≡ true → (s < v.ranks) × (r < v.ranks)
   pub runs : (k : ℕ) → k < length v.items → (item_at v k).free ≡ true → length (item_at v k).ranks ≡ v.ranks
 

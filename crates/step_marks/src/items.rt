@@ -209,7 +209,7 @@ impl ItemMarks {
     }
 
     /// How many places the rank has.
-    pub fn places(&self, rank: usize) -> usize
+    pub fn places(&self, rank: usize) -> u32
         requires { rank < length self.now.ranks }
         ensures { result ≡ length (run_at self.now rank).begun }
     {

@@ -69,6 +69,38 @@ impl StepMarks {
         Ok(StepMarks { ranks, items, at })
     }
 
+    /// How many ranks there are.
+    pub fn ranks(&self) -> u32
+        ensures { result ≡ self.now.ranks }
+    {
+        self.ranks
+    }
+
+    /// How many items there are.
+    pub fn items(&self) -> u32
+        ensures { result ≡ length self.now.items }
+    {
+        self.items.len() as u32
+    }
+
+    /// Whether the item is Free; any other is one join.
+    pub fn is_free(&self, item: u32) -> bool
+        requires { item < length self.now.items }
+        ensures { result ≡ (item_at self.now item).free }
+    {
+        self.items[item as usize].is_free()
+    }
+
+    /// How many places the rank has in a Free item.
+    pub fn places(&self, item: u32, rank: u32) -> u32
+        requires item { item < length self.now.items }
+        requires free { (item_at self.now item).free ≡ true }
+        requires rank { rank < self.now.ranks }
+        ensures { result ≡ length (run_at (item_at self.now item) rank).begun }
+    {
+        self.items[item as usize].places(rank as usize)
+    }
+
     // Whether the rank's steps of all items before this one are taken.
     fn stands(&mut self, rank: u32, item: u32) -> bool
         requires rank { rank < self.old.ranks }
@@ -130,7 +162,7 @@ impl StepMarks {
             return false;
         }
         let here = &self.items[item as usize];
-        here.is_free() && (rank < self.ranks && (place as usize) < here.places(rank as usize))
+        here.is_free() && (rank < self.ranks && place < here.places(rank as usize))
     }
 
     /// Whether the step is taken.

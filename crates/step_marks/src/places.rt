@@ -112,10 +112,10 @@ impl Places {
     }
 
     /// How many places there are.
-    pub fn len(&self) -> usize
+    pub fn len(&self) -> u32
         ensures { result ≡ length self.now.begun }
     {
-        self.begun.len()
+        self.begun.len() as u32
     }
 
     /// Whether the place has begun.
