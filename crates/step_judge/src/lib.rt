@@ -1,0 +1,12 @@
+//! The judgement of a step in its turn, and of the end of a schedule, by marks of what is taken.
+#![tactic(auto)]
+
+mod elements;
+mod judge;
+mod messages;
+mod refusal;
+mod search;
+
+pub use judge::{end_steps, take_step};
+pub use refusal::ScheduleRefusal;
+pub use search::first_wanted;
