@@ -1,3 +1,5 @@
 pub mod FirstPlaces
 pub mod Firsts
 pub mod Judging
+pub mod Own
+pub mod Room

@@ -1,2 +1,3 @@
 pub mod Verdicts
 pub mod Wanted
+pub mod Checking

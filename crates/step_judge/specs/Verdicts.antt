@@ -2,6 +2,7 @@
 use Rattle.std.specs.Prelude.{Bool, cond, Option, Some, None, Result, Ok, Err}
 use Rattle.schedule_steps.specs.Outline.{Outline}
 use Rattle.schedule_steps.specs.declared.step.Step.{Step}
+use Rattle.schedule_steps.specs.declared.peak.Peak.{Peak}
 use Rattle.schedule_steps.specs.Judged.{is_step, missing, left_over}
 use Rattle.step_judge.specs.declared.refusal.ScheduleRefusal.{ScheduleRefusal}
 use Rattle.step_judge.specs.declared.refusal.ScheduleRefusal.TheVariants.{NoSuchStep, Repeated, TooEarly, Incomplete}
@@ -23,3 +24,8 @@ incomplete (Some t) = Err (Incomplete t)
 -- at the end, where m is taken
 abbrev pub ended : Outline → (Step → Bool) → Result (Unit {0}) ScheduleRefusal
 ended o m = incomplete (left_over o m)
+
+-- the peak, unless a step is left
+abbrev pub finished : Peak → Option Step → Result Peak ScheduleRefusal
+finished k None = Ok k
+finished k (Some t) = Err (Incomplete t)

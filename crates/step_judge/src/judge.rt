@@ -15,7 +15,6 @@ use step_marks::StepMarks;
 /// `NoSuchStep` where the plan hasn't the step; else `Repeated` where it was taken; else `TooEarly` where a step that has to come
 /// before it isn't taken, with the first of these in standard order.
 pub fn take_step(marks: &mut StepMarks, step: Step) -> Result<(), ScheduleRefusal>
-    requires plan { (o : Outline) × AreMarksOf o marks.old }
     ensures answer { (o : Outline) → AreMarksOf o marks.old → result ≡ judged o (taken marks.old) step }
     ensures ok { OnOk result (TakesOne marks.old marks.new step) }
     ensures err { OnErr result (marks.new ≡ marks.old) }

@@ -1,12 +1,14 @@
 //! The judgement of a step in its turn, and of the end of a schedule, by marks of what is taken.
 #![tactic(auto)]
 
+mod checker;
 mod elements;
 mod judge;
 mod messages;
 mod refusal;
 mod search;
 
+pub use checker::StepChecker;
 pub use judge::{end_steps, take_step};
 pub use refusal::ScheduleRefusal;
 pub use search::first_wanted;

@@ -11,6 +11,7 @@ use Rattle.schedule_steps.specs.declared.step.Step.TheVariants.{Send, Recv, Begi
 use Rattle.step_marks.specs.Kept.{Whole, LaidOut}
 use Rattle.step_marks.proofs.Ready.{stands_iff}
 use Rattle.schedule_steps.specs.Steps.{item, IsStep, same3, same}
+use Rattle.schedule_steps.specs.Alike.{AlikeOutlines}
 use Rattle.schedule_steps.specs.Judged.{is_step, rank_of, share_rank, is_earlier_in_item, is_earlier}
 use Rattle.step_marks.specs.Marked.{Marked, no_item, item_at, outline_of, taken, TakesOne}
 
@@ -122,11 +123,24 @@ module _ (v : Marked) (k : ℕ) (u : Item) (inn : k < length v.items) (shape : S
   other_item (End i r p) ne = ap (λ z. ended_at (run_at z r) p) (there i ne)
   other_item (Join i) ne = ap (λ z. z.joined) (there i ne)
 
+  alike_after : AlikeOutlines (outline_of after) (outline_of v)
+  alike_after = record {
+    items = length-set v.items k u;
+    ranks = refl;
+    is_free = λ i h. (shape_at i).free;
+    sends = λ i a b h f la lb. linked_same i a b;
+    executed = λ i r x h f l. ap (λ n. nat_lt x n && true) ((shape_at i).places r);
+    core = λ i r x h f l e. ap (λ z. get_or z x false) ((shape_at i).core r);
+    colours = λ i r x y h f l a b. (shape_at i).lower r x y;
+  }
+
   pub takes_from : (s : Step) → item s ≡ k → ((t : Step) → item t ≡ k → taken after t ≡ (same t s || taken v t)) → TakesOne v after s
   takes_from s es h = record {
     ranks = refl;
+    alike = alike_after;
     steps = steps_same;
     before = earlier_same;
+    pairs = λ i a b. (shape_at i).links a b;
     marks = λ t. ⊎_elim
         (λ (e : item t ≡ k). h t e)
         (λ (ne : item t ≡ k → ⊥). other_item t ne ∙ sym (ap (λ z. z || taken v t) (not_same t (λ q. ne (q ∙ es)))))

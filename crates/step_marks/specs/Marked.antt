@@ -4,10 +4,11 @@ use Rattle.schedule_steps.specs.Outline.{Outline}
 use Rattle.schedule_steps.specs.declared.step.Step.{Step}
 use Rattle.schedule_steps.specs.declared.step.Step.TheVariants.{Send, Recv, Begin, End, Join}
 use Rattle.schedule_steps.specs.Steps.{IsStep, Earlier, same}
+use Rattle.schedule_steps.specs.Alike.{AlikeOutlines}
 use Rattle.schedule_steps.specs.Judged.{is_step, is_earlier}
 use Rattle.step_marks.specs.Marks.{no_marks}
 use Rattle.step_marks.specs.Run.{inner, begun_at, ended_at, core_at}
-use Rattle.step_marks.specs.Item.{Item, run_at, linked, sent, received, Complete}
+use Rattle.step_marks.specs.Item.{Item, run_at, place_of, linked, sent, received, Complete}
 
 pub record Marked : Type 0 where
   pub ranks : ℕ
@@ -43,12 +44,14 @@ taken v (Begin k r p) = begun_at (run_at (item_at v k) r) p
 taken v (End k r p) = ended_at (run_at (item_at v k) r) p
 taken v (Join k) = (item_at v k).joined
 
--- the same plan, and one step more is taken
+-- the same plan, with its messages in the same places, and one step more is taken
 pub record TakesOne (v w : Marked) (s : Step) : Type 0 where
   pub ranks : w.ranks ≡ v.ranks
+  pub alike : AlikeOutlines (outline_of w) (outline_of v)
   pub steps : (t : Step) → is_step (outline_of w) t ≡ is_step (outline_of v) t
   pub before : (t u : Step) → is_earlier (outline_of w) t u ≡ is_earlier (outline_of v) t u
   pub marks : (t : Step) → taken w t ≡ (same t s || taken v t)
+  pub pairs : (k s r : ℕ) → place_of (item_at w k) s r ≡ place_of (item_at v k) s r
 
 -- each earlier step is taken
 abbrev pub IsReady : Marked → Step → Type 0

@@ -6,7 +6,7 @@ ghost use Rattle.schedule_steps.specs.declared.step.Step.TheVariants.{Send, Recv
 ghost use Rattle.schedule_steps.specs.Steps.{IsStep};
 ghost use Rattle.schedule_steps.specs.Judged.{is_step};
 ghost use Rattle.step_marks.specs.Run.{core_at};
-ghost use Rattle.step_marks.specs.Item.{Item, Complete, MayGo, run_at};
+ghost use Rattle.step_marks.specs.Item.{Item, Complete, MayGo, run_at, place_of};
 ghost use Rattle.step_marks.specs.Marked.{item_at, outline_of, taken, IsReady, Stands, TakesOne};
 ghost use Rattle.step_marks.specs.Kept.{LaidOut};
 
@@ -99,6 +99,16 @@ impl StepMarks {
         ensures { result ≡ length (run_at (item_at self.now item) rank).begun }
     {
         self.items[item as usize].places(rank as usize)
+    }
+
+    /// The place of the message in its item, or the number of messages.
+    pub fn pair(&self, item: u32, from: u32, to: u32) -> usize
+        ensures { result ≡ place_of (item_at self.now item) from to }
+    {
+        match self.items.get(item as usize) {
+            Some(here) => here.find(from, to),
+            None => 0,
+        }
     }
 
     // Whether the rank's steps of all items before this one are taken.

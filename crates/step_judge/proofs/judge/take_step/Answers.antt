@@ -6,14 +6,15 @@ use Rattle.schedule_steps.specs.Standard.{standard}
 use Rattle.schedule_steps.specs.Judged.{is_step, first_of, missing}
 use Rattle.step_marks.specs.Marked.{Marked, outline_of, taken, IsReady}
 use Rattle.step_judge.specs.Wanted.{wanted, AreMarksOf}
+use Rattle.step_judge.proofs.Own.{own}
 use Rattle.step_judge.proofs.Judging.{none_ready, missing_same, untaken}
 use Rattle.step_judge.proofs.judge.take_step.Goals as goal
 
 pub unreachable-requires : goal.unreachable-requires
 unreachable-requires c =
     let v : Marked = c.args.marks.now in
-    let o : Outline = c.requires.plan.0 in
-    let m : AreMarksOf o v = c.requires.plan.1 in
+    let o : Outline = outline_of v in
+    let m : AreMarksOf o v = own v in
     let st : IsStep (outline_of v) c.args.step = (c.tests_decide.ensures.steps (outline_of v) c.args.step).0 (sym c.has_step.ensures ∙ c.if-not-has_step.false) in
     let free : taken v c.args.step ≡ false = sym c.is_taken.ensures ∙ c.if-is_taken.false in
     let first : (o : Outline) → AreMarksOf o v → None ≡ first_of (wanted v (Some c.args.step)) (standard o 1) =

@@ -1,0 +1,31 @@
+-- Marks are those of a plan.
+use Rattle.std.proofs.Common.{◌≡◌, ℕ, zero, suc, ◌*◌, ◌<◌, ◌≤◌, ◌/◌, refl, arith}
+use Rattle.std.proofs.Math.Nat.{div-zero, div-mul-le_self}
+use Rattle.std.proofs.lemmas.Nat.{le-div}
+use Rattle.schedule_steps.specs.Outline.{Outline}
+use Rattle.schedule_steps.specs.Alike.{AlikeOutlines}
+use Rattle.step_marks.specs.Run.{Run}
+use Rattle.step_marks.specs.Item.{run_at}
+use Rattle.step_marks.specs.Marked.{Marked, item_at, outline_of}
+use Rattle.step_judge.specs.Wanted.{AreMarksOf}
+
+pub alike_self : (o : Outline) → AlikeOutlines o o
+alike_self o = record {
+  items = refl;
+  ranks = refl;
+  is_free = λ k h. refl;
+  sends = λ k s r h f a b. refl;
+  executed = λ k r e h f a. refl;
+  core = λ k r e h f a b. refl;
+  colours = λ k r e f h i a b d. refl;
+}
+
+grows : (x y n : ℕ) → x ≤ y → x / n ≤ y / n
+grows x y zero l = omega (arith, div-zero x, div-zero y)
+grows x y (suc n) l = le-div (x / suc n) y (suc n) (omega arith) (let h : x / suc n * suc n ≤ x = div-mul-le_self x (suc n) in omega arith)
+
+pub own : (v : Marked) → AreMarksOf (outline_of v) v
+own v = record {
+  alike = alike_self (outline_of v);
+  in_order = λ k r x y lt. grows x y (run_at (item_at v k) r).size (omega arith);
+}
