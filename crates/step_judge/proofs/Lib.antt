@@ -3,3 +3,4 @@ pub mod Firsts
 pub mod Judging
 pub mod Own
 pub mod Room
+pub mod FreshMarks

@@ -1,3 +1,4 @@
 pub mod Verdicts
 pub mod Wanted
 pub mod Checking
+pub mod Fresh

@@ -3,12 +3,14 @@
 
 mod checker;
 mod elements;
+mod fresh;
 mod judge;
 mod messages;
 mod refusal;
 mod search;
 
 pub use checker::StepChecker;
+pub use fresh::fresh_marks;
 pub use judge::{end_steps, take_step};
 pub use refusal::ScheduleRefusal;
 pub use search::first_wanted;
