@@ -129,7 +129,7 @@ fn run_of_item(item: &Item) -> LoopRun
     }
 }
 
-// How the item of this number runs a loop.
+/// How the item of this number runs a loop.
 pub fn run_at(bound: &Bound, item: usize) -> LoopRun
     requires { item < length (bound_of bound.now).trace }
     ensures { result ≡ run_of (item_at (bound_of bound.now) item) }

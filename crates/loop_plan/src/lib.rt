@@ -18,7 +18,7 @@ mod writing;
 pub use colouring::Colours;
 pub use counting::{count_steps, totals_by_loop};
 pub use dirty::Dirty;
-pub use exchange::LoopRun;
+pub use exchange::{LoopRun, run_at};
 pub use items::item_plans;
 pub use laws::{
     bound_is_in_range, exports_are_messages, imports_are_exports, lines_are_spaced,

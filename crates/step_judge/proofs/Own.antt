@@ -20,7 +20,7 @@ alike_self o = record {
   colours = λ k r e f h i a b d. refl;
 }
 
-grows : (x y n : ℕ) → x ≤ y → x / n ≤ y / n
+pub grows : (x y n : ℕ) → x ≤ y → x / n ≤ y / n
 grows x y zero l = omega (arith, div-zero x, div-zero y)
 grows x y (suc n) l = le-div (x / suc n) y (suc n) (omega arith) (let h : x / suc n * suc n ≤ x = div-mul-le_self x (suc n) in omega arith)
 

@@ -24,10 +24,10 @@ fewer m n [] h = omega arith
 fewer m n (s ∷ l) h =
     let r : untaken n l ≤ untaken m l = fewer m n l h in
     let here : one_if (not (n s)) ≤ one_if (not (m s)) = ⊎_elim
-      (λ (e : n s ≡ true). subst (λ b. one_if (not b) ≤ one_if (not (m s))) (sym e) (omega arith))
-      (λ (e : n s ≡ false). (let f : m s ≡ false = ⊎_elim (λ i. absurd (false≢true (sym e ∙ h s i))) (λ i. i) (cases_Bool (m s)) in
-        subst (λ b. one_if (not b) ≤ one_if (not (m s))) (sym e) (subst (λ b. 1 ≤ one_if (not b)) (sym f) (omega arith))))
-      (cases_Bool (n s)) in
+    (λ (e : n s ≡ true). subst (λ b. one_if (not b) ≤ one_if (not (m s))) (sym e) (omega arith))
+    (λ (e : n s ≡ false). (let f : m s ≡ false = ⊎_elim (λ i. absurd (false≢true (sym e ∙ h s i))) (λ i. i) (cases_Bool (m s)) in
+    subst (λ b. one_if (not b) ≤ one_if (not (m s))) (sym e) (subst (λ b. 1 ≤ one_if (not b)) (sym f) (omega arith))))
+    (cases_Bool (n s)) in
     omega arith
 
 -- a step more is taken
@@ -36,15 +36,15 @@ pub one_fewer : (m n : Step → Bool) (l : List Step) (s : Step) → ((t : Step)
 one_fewer m n [] s h new old i = absurd (false≢true i)
 one_fewer m n (t ∷ l) s h new old i = ⊎_elim
     (λ (e : same s t ≡ true).
-      let q : s ≡ t = same_true s t e in
-      let a : one_if (not (n t)) ≡ 0 = ap (λ b. one_if (not b)) (ap n (sym q) ∙ new) in
-      let b : one_if (not (m t)) ≡ 1 = ap (λ b. one_if (not b)) (ap m (sym q) ∙ old) in
-      let r : untaken n l ≤ untaken m l = stay l in
-      omega arith)
+    let q : s ≡ t = same_true s t e in
+    let a : one_if (not (n t)) ≡ 0 = ap (λ b. one_if (not b)) (ap n (sym q) ∙ new) in
+    let b : one_if (not (m t)) ≡ 1 = ap (λ b. one_if (not b)) (ap m (sym q) ∙ old) in
+    let r : untaken n l ≤ untaken m l = stay l in
+    omega arith)
     (λ (e : has l s ≡ true).
-      let r : untaken n l + 1 ≤ untaken m l = one_fewer m n l s h new old e in
-      let a : untaken n (t ∷ []) ≤ untaken m (t ∷ []) = stay (t ∷ []) in
-      omega arith)
+    let r : untaken n l + 1 ≤ untaken m l = one_fewer m n l s h new old e in
+    let a : untaken n (t ∷ []) ≤ untaken m (t ∷ []) = stay (t ∷ []) in
+    omega arith)
     (or_cases (same s t) (has l s) i)
   where
     stay : (l : List Step) → untaken n l ≤ untaken m l
@@ -54,9 +54,9 @@ one_fewer m n (t ∷ l) s h new old i = ⊎_elim
 pub judged_well : (o : Outline) (m : Step → Bool) (s : Step) → Ok tt ≡ judged o m s → (is_step o s ≡ true) × (m s ≡ false)
 judged_well o m s h = ⊎_elim
     (λ (u : is_step o s ≡ true). ⊎_elim
-      (λ (t : m s ≡ true). (let e : Ok tt ≡ Err Repeated = h ∙ (cond-true (is_step o s) (cond (m s) (Err Repeated) (too_early (missing o m s))) (Err NoSuchStep) u ∙ cond-true (m s) (Err Repeated) (too_early (missing o m s)) t) in cc))
-      (λ (t : m s ≡ false). (u, t))
-      (cases_Bool (m s)))
+    (λ (t : m s ≡ true). (let e : Ok tt ≡ Err Repeated = h ∙ (cond-true (is_step o s) (cond (m s) (Err Repeated) (too_early (missing o m s))) (Err NoSuchStep) u ∙ cond-true (m s) (Err Repeated) (too_early (missing o m s)) t) in cc))
+    (λ (t : m s ≡ false). (u, t))
+    (cases_Bool (m s)))
     (λ (u : is_step o s ≡ false). (let e : Ok tt ≡ Err NoSuchStep = h ∙ cond-false (is_step o s) (cond (m s) (Err Repeated) (too_early (missing o m s))) (Err NoSuchStep) u in cc))
     (cases_Bool (is_step o s))
 
@@ -80,7 +80,7 @@ module _ (v w : Marked) (cells : List (List ℕ)) (n u : ℕ) (s : Step) (room :
 
   grows : room.most * untaken (taken w) room.all + room.most ≤ room.most * untaken (taken v) room.all
   grows = (let l : room.most * (untaken (taken w) room.all + 1) ≤ room.most * untaken (taken v) room.all = mul-le room.most (untaken (taken w) room.all + 1) room.most (untaken (taken v) room.all) (omega arith) drops in
-    let e : room.most * (untaken (taken w) room.all + 1) ≡ room.most * untaken (taken w) room.all + room.most = grind arith in omega arith)
+      let e : room.most * (untaken (taken w) room.all + 1) ≡ room.most * untaken (taken w) room.all + room.most = grind arith in omega arith)
 
   -- there is room for the step
   pub one_fits : n + 1 < 2 ^ 32
@@ -101,7 +101,7 @@ module _ (v w : Marked) (cells : List (List ℕ)) (n u : ℕ) (s : Step) (room :
     messages = λ k a b. subst (λ z. z ≤ room.most) (sym (same_cells k a b)) (room.messages k a b);
     frames = (let o : open_step s n ≤ n + 1 = opens_one s n in let d : untaken (taken w) room.all + 1 ≤ untaken (taken v) room.all = drops in let f : n + untaken (taken v) room.all < 2 ^ 32 = room.frames in omega arith);
     mail = (let o : mail_step (cells_in cells v) s u ≤ u + room.most = mails_most (cells_in cells v) room.most room.messages s u in
-      let g : room.most * untaken (taken w) room.all + room.most ≤ room.most * untaken (taken v) room.all = grows in let f : u + room.most * untaken (taken v) room.all < 2 ^ 64 = room.mail in omega arith);
+        let g : room.most * untaken (taken w) room.all + room.most ≤ room.most * untaken (taken v) room.all = grows in let f : u + room.most * untaken (taken v) room.all < 2 ^ 64 = room.mail in omega arith);
   }
 
 -- the cells of a step's message

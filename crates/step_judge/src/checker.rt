@@ -71,7 +71,11 @@ impl StepChecker {
                 number_at(&self.cells, item as usize, self.marks.pair(item, from, to))
             }
             Step::Recv { item, rank, from } => {
-                number_at(&self.cells, item as usize, self.marks.pair(item, from, rank))
+                number_at(
+                    &self.cells,
+                    item as usize,
+                    self.marks.pair(item, from, rank),
+                )
             }
             Step::Begin { .. } => 0,
             Step::End { .. } => 0,

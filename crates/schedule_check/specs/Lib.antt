@@ -1,0 +1,3 @@
+pub mod NewPlaces
+pub mod Froms
+pub mod ItemMarks
