@@ -15,10 +15,10 @@ use Rattle.schedule_check.specs.ItemMarks.{AreItemMarks}
 
 -- there is a rank
 pub some_rank : (g : MeshValue) (h : Halos) (meshes : List RankMesh) → Distributed g h meshes → 0 < length meshes
-some_rank g h meshes d = (let a : 0 < d.owners.ranks = d.are_owners.some_rank in let e : length meshes ≡ d.owners.ranks = d.are_meshes.count in omega arith)
+some_rank g h meshes d = (let a : 0 < d.owners.ranks = d.distributed.are_owners.some_rank in let e : length meshes ≡ d.owners.ranks = d.distributed.are_meshes.count in omega arith)
 
 pub few_ranks : (g : MeshValue) (h : Halos) (meshes : List RankMesh) → Distributed g h meshes → length meshes ≤ 64
-few_ranks g h meshes d = (let a : d.owners.ranks ≤ 64 = d.are_owners.few_ranks in let e : length meshes ≡ d.owners.ranks = d.are_meshes.count in omega arith)
+few_ranks g h meshes d = (let a : d.owners.ranks ≤ 64 = d.distributed.are_owners.few_ranks in let e : length meshes ≡ d.owners.ranks = d.distributed.are_meshes.count in omega arith)
 
 pub are_fresh : (b : BoundValue) (meshes : List RankMesh) (p : PlanValue) (ws : List Item)
     → p.ranks ≡ length meshes
