@@ -1,6 +1,6 @@
 -- The marks of an item are those of the plan's.
-use Rattle.std.proofs.Common.{◌≡◌, ℕ, zero, suc, ◌+◌, ◌*◌, ◌/◌, ◌^◌, ◌<◌, ◌≤◌, Bool, true, false, cond, refl, sym, ap, subst, ◌∙◌, arith, ⊎_elim, List, [], ◌∷◌, length, get_or, map}
-use Rattle.std.specs.Prelude.{nat_lt, slice_index, slice_index_or, EachIndex}
+use Rattle.std.proofs.Common.{◌≡◌, ℕ, ◌*◌, ◌^◌, ◌<◌, ◌≤◌, Bool, true, false, refl, sym, ap, subst, ◌∙◌, arith, ⊎_elim, List, length, get_or}
+use Rattle.std.specs.Prelude.{slice_index}
 use Rattle.std.proofs.lemmas.Bool.{cases_lt, false≢true}
 use Rattle.std.proofs.lemmas.List.{length-map, get_or-map, get_or_past}
 use Rattle.local_mesh.specs.declared.types.RankMesh.{RankMesh}
@@ -9,7 +9,7 @@ use Rattle.schedule_steps.specs.Outline.{Outline}
 use Rattle.bound_program.specs.Values.{BoundValue, Free}
 use Rattle.bound_program.specs.Fits.{site_at}
 use Rattle.step_marks.specs.Run.{Run, begun_at, ended_at}
-use Rattle.step_marks.specs.Item.{Item, no_run, run_at, pair_at, linked}
+use Rattle.step_marks.specs.Item.{Item, no_run, pair_at, linked}
 use Rattle.step_marks.specs.NewRun.{ends_before}
 use Rattle.std.proofs.lemmas.Nat.{mul-le}
 use Rattle.step_marks.specs.NewItem.{free_item, join_item}

@@ -2,8 +2,8 @@
 use Rattle.std.proofs.Common.{◌≡◌, ℕ, zero, suc, ◌+◌, ◌-◌, ◌*◌, ◌<◌, ◌≤◌, Bool, true, false, cond, refl, sym, ap, subst, ◌∙◌, arith, ⊎_elim, List, [], ◌∷◌, ◌++◌, length, get_or, map}
 use Rattle.std.specs.Prelude.{◌&&◌, ◌||◌, ◌==◌, nat_lt, nat_eq}
 use Rattle.std.specs.List.{list_any}
-use Rattle.std.proofs.lemmas.Bool.{cases_Bool, cases_eq, cases_lt, false≢true, eq-eqb, eqb-true, ne_eqb, lt-ltb, le-ltb, ltb-true, and_parts, and_from, or_left, or_right, or_cases}
-use Rattle.std.proofs.lemmas.List.{length-map, length-append, map-append, get_or_append_left, get_or-append_right, get_or-map}
+use Rattle.std.proofs.lemmas.Bool.{cases_Bool, cases_eq, cases_lt, false≢true, eq-eqb, ne_eqb, lt-ltb, le-ltb, and_from, or_left, or_right}
+use Rattle.std.proofs.lemmas.List.{length-map, length-append, map-append, get_or_append_left, get_or-append_right}
 use Rattle.rank_sets.specs.Below.{listed}
 use Rattle.step_marks.specs.Item.{pair_at}
 use Rattle.loop_plan.specs.Pairs.{pair, pairs_below}
@@ -115,6 +115,12 @@ unfolding holds
 nth_holds [] i lt = absurd (omega arith)
 nth_holds (p ∷ l) zero lt = or_left ((p.from == p.from) && (p.to == p.to)) (holds l p.from p.to) (and_from (p.from == p.from) (p.to == p.to) (eq-eqb p.from p.from refl) (eq-eqb p.to p.to refl))
 nth_holds (p ∷ l) (suc i) lt = or_right ((p.from == (nth l i).from) && (p.to == (nth l i).to)) (holds l (nth l i).from (nth l i).to) (nth_holds l i (omega arith))
+
+pub pair_holds : (l : List Pair) (i : ℕ) (d : Pair) → i < length l → holds l (get_or l i d).from (get_or l i d).to ≡ true
+unfolding holds
+pair_holds [] i d lt = absurd (omega arith)
+pair_holds (p ∷ l) zero d lt = or_left ((p.from == p.from) && (p.to == p.to)) (holds l p.from p.to) (and_from (p.from == p.from) (p.to == p.to) (eq-eqb p.from p.from refl) (eq-eqb p.to p.to refl))
+pair_holds (p ∷ l) (suc i) d lt = or_right ((p.from == (get_or l i d).from) && (p.to == (get_or l i d).to)) (holds l (get_or l i d).from (get_or l i d).to) (pair_holds l i d (omega arith))
 
 at_left : (a b : List Pair) (s r : ℕ) → holds a s r ≡ true → at (a ++ b) s r ≡ at a s r
 unfolding holds

@@ -4,3 +4,8 @@ pub mod Holds
 pub mod FreshItems
 pub mod Loops
 pub mod PlanMarks
+pub mod Owning
+pub mod RowReads
+pub mod Distinct
+pub mod Rooms
+pub mod OfPlan

@@ -1,14 +1,13 @@
 -- How items run loops, and the colours of those loops.
-use Rattle.std.proofs.Common.{◌≡◌, ℕ, zero, suc, ◌*◌, ◌<◌, Bool, true, false, refl, sym, ap, subst, ◌∙◌, arith, List, [], ◌∷◌, length, get_or}
+use Rattle.std.proofs.Common.{◌≡◌, ℕ, zero, suc, ◌*◌, ◌<◌, true, false, refl, sym, ap, subst, ◌∙◌, arith, List, [], ◌∷◌, length, get_or}
 use Rattle.std.specs.Prelude.{◌↔◌, slice_index}
 use Rattle.local_mesh.specs.declared.types.RankMesh.{RankMesh}
 use Rattle.colouring.specs.declared.types.Colours.{Colours}
 use Rattle.bound_program.specs.Values.{BoundValue, ItemValue, Free, Reduce, Ordered, Host}
-use Rattle.bound_program.specs.Fits.{site_at}
 use Rattle.loop_plan.specs.declared.exchange.LoopRun.TheVariants as run
 use Rattle.loop_plan.specs.Values.{PlanValue, site_plan}
 use Rattle.loop_plan.specs.Needs.{run_of}
-use Rattle.loop_plan.specs.Places.{places_of, runs_free}
+use Rattle.loop_plan.specs.Places.{runs_free}
 use Rattle.loop_plan.specs.StepOutline.{is_free}
 use Rattle.loop_plan.specs.Proper.{IsSitePlan, Proper}
 use Rattle.schedule_check.specs.NewPlaces.{AreColoured, blocks_of, inner_of}

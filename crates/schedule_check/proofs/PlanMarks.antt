@@ -1,7 +1,7 @@
 -- The marks of all items are the marks of the plan.
-use Rattle.std.proofs.Common.{◌≡◌, ℕ, ◌^◌, ◌<◌, ◌≤◌, refl, sym, ap, subst, ◌∙◌, arith, List, length, get_or}
+use Rattle.std.proofs.Common.{◌≡◌, ℕ, ◌^◌, ◌<◌, ◌≤◌, refl, arith, List, length, get_or}
 use Rattle.local_mesh.specs.declared.types.RankMesh.{RankMesh}
-use Rattle.mesh_decl.specs.Mesh.{MeshValue, set_size}
+use Rattle.mesh_decl.specs.Mesh.{MeshValue}
 use Rattle.halo_lists.specs.declared.types.Halos.{Halos}
 use Rattle.bound_program.specs.Values.{BoundValue}
 use Rattle.step_marks.specs.Item.{Item}

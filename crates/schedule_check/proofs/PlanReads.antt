@@ -1,12 +1,12 @@
 -- Parts of a plan, read one by one.
-use Rattle.std.proofs.Common.{◌≡◌, ℕ, ◌<◌, Bool, true, false, cond, refl, sym, ap, subst, ◌∙◌, ⊎_elim, List, [], ◌∷◌, length, get_or, map, Option, Some, None, nat_eq}
+use Rattle.std.proofs.Common.{◌≡◌, ℕ, ◌<◌, Bool, true, false, cond, refl, sym, ap, ◌∙◌, ⊎_elim, List, [], ◌∷◌, length, get_or, map, Option, Some, None, nat_eq}
 use Rattle.std.specs.Map.{lookup}
 use Rattle.std.proofs.lemmas.Bool.{cases_Bool}
 use Rattle.std.proofs.lemmas.List.{get_or-map}
 use Rattle.loop_plan.specs.declared.types.SitePlan.{SitePlan}
 use Rattle.loop_plan.specs.declared.types.ItemPlan.{ItemPlan}
 use Rattle.loop_plan.specs.declared.types.Plan.{Plan}
-use Rattle.loop_plan.specs.Values.{SitePlanValue, PlanValue, ItemPlanValue, site_plan_of, item_plan_of, entry_of, plan_of, no_item_plan, no_site_plan, or_none, site_plan, item_plan}
+use Rattle.loop_plan.specs.Values.{SitePlanValue, site_plan_of, item_plan_of, entry_of, plan_of, no_item_plan, no_site_plan, or_none, site_plan, item_plan}
 
 -- a plan by its key, or none
 value_of : Option SitePlan → SitePlanValue

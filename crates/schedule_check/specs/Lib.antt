@@ -1,3 +1,5 @@
 pub mod NewPlaces
 pub mod Froms
 pub mod ItemMarks
+pub mod Mail
+pub mod PlanChecking

@@ -1,9 +1,14 @@
 //! Whether a schedule of a plan is accepted: each step in its turn, and the end.
 #![tactic(auto)]
 
+mod cells;
+mod checker;
 mod items;
 mod marks;
 mod pairs;
 mod places;
+mod rows;
 
+pub use checker::Checker;
 pub use marks::plan_marks;
+pub use step_judge::ScheduleRefusal;

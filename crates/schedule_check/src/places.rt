@@ -61,8 +61,8 @@ fn core_in(sets: &[LocalSet], set: u32) -> &[bool]
     &sets[set as usize].core
 }
 
-// The sets of a rank.
-fn sets_on(ranks: &[RankMesh], rank: usize) -> &[LocalSet]
+/// The sets of a rank.
+pub fn sets_on(ranks: &[RankMesh], rank: usize) -> &[LocalSet]
     requires { rank < length ranks.now }
     ensures { result.now ≡ sets_of ranks.now rank }
 {

@@ -1,4 +1,4 @@
-use Rattle.std.proofs.Common.{◌≡◌, ◌<◌, ◌+◌, ℕ, List, length, get_or, arith}
+use Rattle.std.proofs.Common.{List, arith}
 use Rattle.std.proofs.lemmas.List.{length_push}
 use Rattle.bound_program.specs.Values.{bound_of}
 use Rattle.step_marks.specs.Item.{Item}

@@ -3,11 +3,11 @@ use Rattle.std.proofs.lemmas.List.{length-map}
 use Rattle.bound_program.specs.Values.{bound_of, BoundValue}
 use Rattle.bound_program.specs.Fits.{site_at}
 use Rattle.step_marks.specs.Run.{Run}
-use Rattle.step_marks.specs.Item.{Item, no_run, pair_at}
+use Rattle.step_marks.specs.Item.{no_run, pair_at}
 use Rattle.step_marks.specs.NewItem.{free_item}
 use Rattle.schedule_check.specs.ItemMarks.{AreItemMarks}
 use Rattle.loop_plan.specs.declared.types.Pair.{Pair}
-use Rattle.loop_plan.specs.Values.{PlanValue, SitePlanValue, ItemPlanValue, plan_of, item_plan, item_plan_of, site_plan, site_plan_of}
+use Rattle.loop_plan.specs.Values.{PlanValue, SitePlanValue, ItemPlanValue, plan_of, item_plan, item_plan_of, site_plan_of}
 use Rattle.loop_plan.specs.Pairs.{passes, pairs_below, sets_of, core_in}
 use Rattle.schedule_check.specs.Froms.{froms, tos}
 use Rattle.schedule_check.specs.NewPlaces.{AreNewPlaces, AreColoured, blocks_of, inner_of}

@@ -1,12 +1,11 @@
-use Rattle.std.proofs.Common.{◌≡◌, ◌<◌, ◌∙◌, sym, ap, subst, length, true}
+use Rattle.std.proofs.Common.{◌≡◌, ◌<◌, ap, subst, length, true}
 use Rattle.bound_program.specs.Values.{bound_of, Free, BoundValue}
 use Rattle.loop_plan.specs.Values.{plan_of}
 use Rattle.loop_plan.specs.Needs.{item_at}
 use Rattle.loop_plan.specs.Places.{runs_free}
 use Rattle.loop_plan.specs.StepOutline.{is_free, loop_of}
 use Rattle.loop_plan.proofs.ProperPlan.{loop_below, loop_runs}
-use Rattle.schedule_check.proofs.Loops.{runs_as_free, runs_in_order, runs_not, coloured}
-use Rattle.schedule_check.proofs.FreshItems.{join_marks}
+use Rattle.schedule_check.proofs.Loops.{runs_as_free, coloured}
 use Rattle.schedule_check.proofs.items.item_marks.Goals as goal
 
 pub free_item-requires-clause-runs : goal.free_item-requires-clause-runs

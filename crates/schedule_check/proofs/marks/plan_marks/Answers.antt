@@ -1,6 +1,4 @@
-use Rattle.std.proofs.Common.{◌≡◌, ◌<◌, List, length, subst, sym}
 use Rattle.bound_program.specs.Values.{bound_of, BoundValue}
-use Rattle.step_judge.specs.Fresh.{AreFresh}
 use Rattle.loop_plan.specs.Values.{plan_of, PlanValue}
 use Rattle.loop_plan.specs.StepOutline.{step_outline}
 use Rattle.schedule_check.proofs.PlanMarks.{some_rank, few_ranks, are_fresh}

@@ -1,4 +1,4 @@
-use Rattle.std.proofs.Common.{◌≡◌, ◌∙◌}
+use Rattle.std.proofs.Common.{◌∙◌}
 use Rattle.schedule_check.proofs.PlaceReads.{core_at, core_past}
 use Rattle.schedule_check.proofs.places.core_in.Goals as goal
 

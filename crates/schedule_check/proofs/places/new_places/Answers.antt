@@ -1,4 +1,4 @@
-use Rattle.std.proofs.Common.{◌≡◌, ◌<◌, ℕ, List, length, subst, arith}
+use Rattle.std.proofs.Common.{◌≡◌, length, arith}
 use Rattle.step_marks.specs.NewRun.{IsNewRun}
 use Rattle.schedule_check.proofs.PlaceReads.{new_are}
 use Rattle.schedule_check.proofs.places.new_places.Goals as goal

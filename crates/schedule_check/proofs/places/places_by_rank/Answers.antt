@@ -1,4 +1,4 @@
-use Rattle.std.proofs.Common.{◌≡◌, ◌<◌, ◌≤◌, ◌+◌, ◌*◌, ◌∙◌, ℕ, List, length, get_or, subst, sym, ap, arith}
+use Rattle.std.proofs.Common.{◌≡◌, ◌<◌, ◌*◌, ◌∙◌, ℕ, List, length, subst, sym, ap, arith}
 use Rattle.std.specs.Prelude.{◌↔◌, slice_index}
 use Rattle.std.proofs.lemmas.List.{length_push, get_or_read}
 use Rattle.colouring.specs.declared.types.Colours.{Colours}
