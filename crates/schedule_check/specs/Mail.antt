@@ -1,5 +1,6 @@
 -- How many cells a message has.
-use Rattle.std.specs.Prelude.{◌≡◌, ◌≢◌, ◌<◌, ◌≤◌, ◌+◌, ◌*◌, ℕ, Bool, nat_eq, List, [], ◌∷◌, length, take, drop, filter, map, slice_index, All, Vec}
+use Rattle.std.specs.Prelude.{◌≡◌, ◌≢◌, ◌<◌, ◌≤◌, ◌+◌, ◌*◌, ℕ, Bool, nat_eq, List, [], ◌∷◌, length}
+use Rattle.std.specs.Prelude.{take, drop, filter, map, slice_index, All, Vec}
 use Rattle.std.specs.List.{list_any}
 use Rattle.std.specs.declared.alloc.Global.{Global}
 use Rattle.mesh_decl.specs.Mesh.{MeshValue, set_count, dat_count, dat_set, dat_dim}
@@ -16,7 +17,8 @@ is_among own originals x = list_any (nat_eq x) (take own originals)
 -- sender, receiver, set: how many elements of the set the receiver imports that the sender owns
 abbrev pub imported_from : List RankMesh → ℕ → ℕ → ℕ → ℕ
 imported_from meshes s r t =
-    length (filter (is_among (own_in (sets_of meshes s) t) (originals_in (sets_of meshes s) t)) (drop (own_in (sets_of meshes r) t) (originals_in (sets_of meshes r) t)))
+    length (filter (is_among (own_in (sets_of meshes s) t) (originals_in (sets_of meshes s) t))
+    (drop (own_in (sets_of meshes r) t) (originals_in (sets_of meshes r) t)))
 
 -- the cells of these dats that the receiver imports from the sender
 abbrev pub cells_between : MeshValue → List RankMesh → List ℕ → ℕ → ℕ → ℕ

@@ -1,5 +1,5 @@
 -- Marks of a plan of which no step is taken.
-use Rattle.std.proofs.Common.{◌≡◌, ℕ, ◌<◌, ◌≤◌, Bool, true, false, refl, sym, ap, subst, ◌∙◌, arith, ⊎_elim, List, length, get_or}
+use Rattle.std.proofs.Common.{◌≡◌, ℕ, ◌<◌, ◌≤◌, true, false, sym, ap, subst, ◌∙◌, arith, ⊎_elim, List, length}
 use Rattle.std.specs.Prelude.{◌&&◌, nat_lt}
 use Rattle.std.proofs.lemmas.Bool.{cases_lt, false≢true, and_parts, ltb-true}
 use Rattle.std.proofs.lemmas.List.{get_or_past}
@@ -12,7 +12,7 @@ use Rattle.step_marks.specs.Item.{Item, linked, run_at}
 use Rattle.step_marks.specs.Marked.{Marked, no_item, item_at, outline_of, taken}
 use Rattle.step_marks.specs.Kept.{LaidOut}
 use Rattle.step_judge.specs.Wanted.{AreMarksOf}
-use Rattle.step_judge.specs.Fresh.{IsFreshRun, IsFreshItem, AreFresh}
+use Rattle.step_judge.specs.Fresh.{IsFreshRun, AreFresh}
 
 module _ (o : Outline) (n : ℕ) (items : List Item) (fresh : AreFresh o n items) where
   abbrev v : Marked

@@ -4,3 +4,4 @@ pub mod Judging
 pub mod Own
 pub mod Room
 pub mod FreshMarks
+pub mod TakenWhole

@@ -1,6 +1,6 @@
 -- The counts stay within their types.
-use Rattle.std.proofs.Common.{◌≡◌, ℕ, ◌+◌, ◌-◌, ◌*◌, ◌^◌, ◌<◌, ◌≤◌, Bool, true, false, cond, refl, sym, ap, subst, ◌∙◌, arith, ⊎_elim, List, [], ◌∷◌, Err}
-use Rattle.std.specs.Prelude.{◌||◌, not, slice_index, slice_index_or, Result, Ok}
+use Rattle.std.proofs.Common.{◌≡◌, ℕ, ◌+◌, ◌*◌, ◌^◌, ◌<◌, ◌≤◌, Bool, true, false, cond, refl, sym, ap, subst, ◌∙◌, arith, ⊎_elim, List, [], ◌∷◌, Err}
+use Rattle.std.specs.Prelude.{◌||◌, not, slice_index, slice_index_or, Ok}
 use Rattle.std.proofs.lemmas.Bool.{cases_Bool, false≢true, or_cases, or_left, or_right, cond-true, cond-false}
 use Rattle.std.proofs.lemmas.Nat.{mul-le}
 use Rattle.schedule_steps.specs.Outline.{Outline}
@@ -13,7 +13,6 @@ use Rattle.schedule_steps.specs.Judged.{is_step, missing}
 use Rattle.schedule_steps.specs.Peaks.{open_step, mail_step}
 use Rattle.step_marks.specs.Load.{HasCells}
 use Rattle.step_marks.specs.Marked.{Marked, outline_of, taken, TakesOne}
-use Rattle.step_judge.specs.declared.refusal.ScheduleRefusal.{ScheduleRefusal}
 use Rattle.step_judge.specs.declared.refusal.ScheduleRefusal.TheVariants.{NoSuchStep, Repeated}
 use Rattle.step_judge.specs.Verdicts.{too_early, judged}
 use Rattle.step_judge.specs.Checking.{cells_in, step_cells, untaken, HasRoom}

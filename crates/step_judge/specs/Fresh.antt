@@ -1,5 +1,5 @@
 -- Marks of a plan of which no step is taken.
-use Rattle.std.specs.Prelude.{◌≡◌, ◌<◌, ◌≤◌, ◌^◌, ℕ, Bool, true, false, List, length, get_or}
+use Rattle.std.specs.Prelude.{◌≡◌, ◌<◌, ◌≤◌, ◌^◌, ℕ, true, false, List, length, get_or}
 use Rattle.schedule_steps.specs.Outline.{Outline, by_colour}
 use Rattle.schedule_steps.specs.Firsts.{BlocksInOrder}
 use Rattle.step_marks.specs.Run.{Run, begun_at, ended_at, core_at, lower}

@@ -1,5 +1,4 @@
-use Rattle.std.proofs.Common.{◌≡◌, sym, subst}
-use Rattle.step_judge.proofs.FreshMarks.{laid, untaken, marks_of}
+use Rattle.step_judge.proofs.FreshMarks.{laid}
 use Rattle.step_judge.proofs.fresh.fresh_marks.Goals as goal
 
 pub new-requires : goal.new-requires

@@ -1,16 +1,15 @@
-use Rattle.std.proofs.Common.{◌≡◌, ◌≤◌, ◌∙◌, ℕ, false, true, List, map, Vec, sym, subst, ap, refl, Err}
+use Rattle.std.proofs.Common.{◌≡◌, ◌≤◌, ◌∙◌, ℕ, false, true, List, map, Vec, sym, subst, ap, Err}
 use Rattle.std.specs.Prelude.{Result, Ok}
 use Rattle.std.specs.Result.{IsErr, IsErrAnd}
 use Rattle.std.specs.declared.alloc.Global.{Global as GlobalValue}
 use Rattle.std.proofs.lemmas.Bool.{false≢true}
-use Rattle.schedule_steps.specs.Outline.{Outline}
 use Rattle.schedule_steps.specs.Judged.{is_step}
 use Rattle.step_marks.specs.Load.{HasCells}
-use Rattle.step_marks.specs.Marked.{Marked, outline_of, taken, TakesOne}
+use Rattle.step_marks.specs.Marked.{Marked, outline_of, taken}
 use Rattle.step_judge.specs.declared.refusal.ScheduleRefusal.{ScheduleRefusal}
 use Rattle.step_judge.specs.Verdicts.{judged}
 use Rattle.step_judge.specs.Wanted.{AreMarksOf}
-use Rattle.step_judge.specs.Checking.{Checking, cells_in, step_cells, HasRoom}
+use Rattle.step_judge.specs.Checking.{Checking, cells_in, step_cells}
 use Rattle.step_judge.proofs.Own.{own}
 use Rattle.step_judge.proofs.Room.{judged_well, one_fits, message_fits, room_after, has_cells, at_most}
 use Rattle.step_judge.proofs.checker.StepChecker.take.Goals as goal
