@@ -1,3 +1,4 @@
+pub mod Ranges
 pub mod Alike
 pub mod OneDistribution
 pub mod OneOutcome

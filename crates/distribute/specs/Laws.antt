@@ -2,9 +2,8 @@
 use Rattle.std.specs.Prelude.{◌≡◌, ℕ, ◌<◌, List, Option, Result, Ok, Err}
 use Rattle.mesh_decl.specs.declared.owners.Owners.{Owners}
 use Rattle.mesh_decl.specs.declared.owners.Perms.{Perms}
-use Rattle.mesh_decl.specs.Mesh.{MeshValue, IsDatAt, dat_count}
+use Rattle.mesh_decl.specs.Mesh.{MeshValue, IsMesh}
 use Rattle.mesh_decl.specs.Owners.{ArePerms}
-use Rattle.halo_lists.specs.Halo.{IsInRange}
 use Rattle.distribute.specs.declared.types.Distribution.{Distribution}
 use Rattle.distribute.specs.Parts.{Parts, NumbersRefusal, OwnersRefusal}
 use Rattle.distribute.specs.Judgements.{NumbersAre, OwnersAre}
@@ -29,7 +28,7 @@ SameOutcome Same (Err e) (Err f) = e ≡ f
 abbrev pub NumbersAreOne : Type 0
 NumbersAreOne =
     (g : MeshValue) (name : Option (List ℕ)) (a b : Result Perms NumbersRefusal)
-    → IsInRange g
+    → IsMesh g
     → NumbersAre g name a
     → NumbersAre g name b
     → SameOutcome SamePerms a b
@@ -38,8 +37,7 @@ NumbersAreOne =
 abbrev pub OwnersAreOne : Type 0
 OwnersAreOne =
     (g : MeshValue) (ranks : ℕ) (parts : Parts) (a b : Result Owners OwnersRefusal)
-    → IsInRange g
-    → ((d : ℕ) → d < dat_count g → IsDatAt g d)
+    → IsMesh g
     → 0 < ranks
     → OwnersAre g ranks parts a
     → OwnersAre g ranks parts b
@@ -49,7 +47,7 @@ OwnersAreOne =
 abbrev pub DistributionsAreOne : Type 0
 DistributionsAreOne =
     (g : MeshValue) (o u : Owners) (p q : Perms) (a b : Distribution)
-    → IsInRange g
+    → IsMesh g
     → ArePerms g p
     → SameOwners o u
     → SamePerms p q

@@ -1,5 +1,6 @@
+use Rattle.distribute.proofs.Ranges.{in_range}
 use Rattle.distribute.proofs.OneDistribution.{one_distribution}
 use Rattle.distribute.proofs.laws.one_distribution.Goals as goal
 
 pub returns : goal.returns
-returns c = one_distribution c.one_halos.ensures c.one_rank_meshes.ensures
+returns c = λ g o u p q a b mesh perms same numbers h k. one_distribution c.one_halos.ensures c.one_rank_meshes.ensures g o u p q a b (in_range g mesh) perms same numbers h k

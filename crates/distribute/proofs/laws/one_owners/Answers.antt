@@ -1,5 +1,9 @@
+use Rattle.mesh_decl.proofs.Declared.{dat_at}
+use Rattle.distribute.proofs.Ranges.{in_range}
 use Rattle.distribute.proofs.OneOutcome.{one_owners}
 use Rattle.distribute.proofs.laws.one_owners.Goals as goal
 
 pub returns : goal.returns
-returns c = one_owners c.one_named.ensures c.one_derived.ensures.blocks c.one_derived.ensures.derived c.one_bisection.ensures c.one_growth.ensures c.one_outcome.ensures.one
+returns c = λ g ranks parts a b mesh some h k.
+    one_owners c.one_named.ensures c.one_derived.ensures.blocks c.one_derived.ensures.derived c.one_bisection.ensures c.one_growth.ensures c.one_outcome.ensures.one
+    g ranks parts a b (in_range g mesh) (dat_at g mesh) some h k
