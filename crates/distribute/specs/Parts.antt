@@ -1,5 +1,5 @@
 -- How the elements of a mesh are given to ranks, and why they are not.
-use Rattle.std.specs.Prelude.{ℕ, ◌+◌, ◌^◌, ◌<◌, List, length, Option, Some, None}
+use Rattle.std.specs.Prelude.{◌≡◌, ℕ, ◌+◌, ◌^◌, ◌<◌, List, length, Option, Some, None, Result, Ok, Err}
 use Rattle.std.specs.Borrow.{Bor}
 use Rattle.part_text.specs.declared.refusals.PartRefusal.{PartRefusal}
 use Rattle.distribute.specs.declared.types.Parts.{Parts as Given}
@@ -50,6 +50,16 @@ UnownedWhere P (unowned.UnknownDat name) = P (NoDat name.now)
 UnownedWhere P (unowned.UnknownMap name) = P (NoMap name.now)
 UnownedWhere P (unowned.Text r) = P (Unspelled r)
 UnownedWhere P unowned.OutOfMemory = Unit {0}
+
+-- The result is this refusal, unless memory ran out.
+abbrev pub IsUnnumbered : {X : Type 0} → Result X Unnumbered → NumbersRefusal → Type 0
+IsUnnumbered (Ok x) r = ⊥
+IsUnnumbered (Err e) r = UnnumberedWhere (λ s. s ≡ r) e
+
+-- the same of owners
+abbrev pub IsUnowned : {X : Type 0} → Result X Unowned → OwnersRefusal → Type 0
+IsUnowned (Ok x) r = ⊥
+IsUnowned (Err e) r = UnownedWhere (λ s. s ≡ r) e
 
 -- a text, where there is one, has lines that 32 bits can count
 abbrev pub HasLines : Parts → Type 0

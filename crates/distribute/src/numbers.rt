@@ -1,7 +1,7 @@
 // New numbers, as they are asked for.
 ghost use Rattle.std.specs.Prelude.{Ok, Err, IfOk, IfErr};
 ghost use Rattle.mesh_decl.specs.Owners.{ArePerms};
-ghost use Rattle.distribute.specs.Parts.{name_of, UnnumberedWhere};
+ghost use Rattle.distribute.specs.Parts.{NumbersRefusal as Refusal, name_of, UnnumberedWhere, IsUnnumbered};
 ghost use Rattle.distribute.specs.Judgements.{NumbersAre};
 
 use crate::types::NumbersRefusal;
@@ -19,7 +19,10 @@ pub fn numbers_by<'a>(
 ) -> Result<Perms, NumbersRefusal<'a>>
     ensures ok { IfOk result (λ p. NumbersAre mesh.now (name_of map.entry) (Ok p)) }
     ensures fit { IfOk result (ArePerms mesh.now) }
+    // A refusal is so.
     ensures refused { IfErr result (UnnumberedWhere (λ r. NumbersAre mesh.now (name_of map.entry) (Err r))) }
+    // And one that is so is given, unless memory runs out.
+    ensures refuses { (r : Refusal) → NumbersAre mesh.now (name_of map.entry) (Err r) → IsUnnumbered result r }
 {
     let Some(name) = map else {
         return Ok(identity(alloc, mesh)?);

@@ -1,7 +1,7 @@
 // Owners, as they are asked for.
 ghost use Rattle.std.specs.Prelude.{◌+◌, ◌^◌, ◌<◌, ◌≤◌, length, Ok, Err, IfOk, IfErr};
 ghost use Rattle.mesh_decl.specs.Owners.{AreOwners};
-ghost use Rattle.distribute.specs.Parts.{Bisect, Grow, Text, parts_of, HasLines, UnownedWhere};
+ghost use Rattle.distribute.specs.Parts.{Bisect, Grow, Text, OwnersRefusal as Refusal, parts_of, HasLines, UnownedWhere, IsUnowned};
 ghost use Rattle.distribute.specs.Judgements.{OwnersAre};
 
 use crate::types::{OwnersRefusal, Parts};
@@ -22,6 +22,7 @@ fn bisected<'a>(
     ensures ok { IfOk result (λ o. OwnersAre mesh.now ranks (Bisect name.now) (Ok o)) }
     ensures fit { IfOk result (AreOwners mesh.now) }
     ensures refused { IfErr result (UnownedWhere (λ r. OwnersAre mesh.now ranks (Bisect name.now) (Err r))) }
+    ensures refuses { (r : Refusal) → OwnersAre mesh.now ranks (Bisect name.now) (Err r) → IsUnowned result r }
 {
     match mesh.dat_named(name) {
         Some(dat) => Ok(bisect(alloc, mesh, ranks, dat)?),
@@ -41,6 +42,7 @@ fn grown<'a>(
     ensures ok { IfOk result (λ o. OwnersAre mesh.now ranks (Grow name.now) (Ok o)) }
     ensures fit { IfOk result (AreOwners mesh.now) }
     ensures refused { IfErr result (UnownedWhere (λ r. OwnersAre mesh.now ranks (Grow name.now) (Err r))) }
+    ensures refuses { (r : Refusal) → OwnersAre mesh.now ranks (Grow name.now) (Err r) → IsUnowned result r }
 {
     match mesh.map_named(name) {
         Some(map) => Ok(grow(alloc, mesh, ranks, map)?),
@@ -61,6 +63,7 @@ fn read<'a>(
     ensures ok { IfOk result (λ o. OwnersAre mesh.now ranks (Text bytes.now) (Ok o)) }
     ensures fit { IfOk result (AreOwners mesh.now) }
     ensures refused { IfErr result (UnownedWhere (λ r. OwnersAre mesh.now ranks (Text bytes.now) (Err r))) }
+    ensures refuses { (r : Refusal) → OwnersAre mesh.now ranks (Text bytes.now) (Err r) → IsUnowned result r }
 {
     match read_partition(alloc, bytes, mesh, ranks) {
         Ok(owners) => Ok(owners),
@@ -83,7 +86,10 @@ pub fn owners_by<'a>(
     requires lines { HasLines (parts_of parts.now) }
     ensures ok { IfOk result (λ o. OwnersAre mesh.now ranks (parts_of parts.now) (Ok o)) }
     ensures fit { IfOk result (AreOwners mesh.now) }
+    // A refusal is so.
     ensures refused { IfErr result (UnownedWhere (λ r. OwnersAre mesh.now ranks (parts_of parts.now) (Err r))) }
+    // And one that is so is given, unless memory runs out.
+    ensures refuses { (r : Refusal) → OwnersAre mesh.now ranks (parts_of parts.now) (Err r) → IsUnowned result r }
 {
     match *parts {
         Parts::Block => Ok(block(alloc, mesh, ranks)?),
