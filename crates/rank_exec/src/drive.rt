@@ -33,7 +33,7 @@ pub fn take<P: Items>(
     room: &mut Room,
     step: Step,
 ) -> Result<Option<Stop>, OutOfMemory>
-    requires space { HasRoom (P.span_count parts.now) (P.locals parts.now) room.old }
+    requires space { HasRoom (P.span_count parts.now) (P.locals parts.now) (length (P.tables parts.now).constants) room.old }
     requires planned { IsStep (by_place (P.setup parts.now) (P.layout parts.now)) step }
     requires shows { (f : Flat KernelFault) × Shows (P.setup parts.now) (P.layout parts.now) (P.tables parts.now) machine.old f }
     requires ready { Ready (P.setup parts.now) (P.layout parts.now) (P.tables parts.now) step machine.old }
@@ -43,7 +43,7 @@ pub fn take<P: Items>(
         (flat_step (P.setup parts.now) (P.layout parts.now) step f)) }
     ensures mail { machine.new.mail.left + posts (P.layout parts.now) step ≡ machine.old.mail.left + takes (P.layout parts.now) step }
     ensures frames { machine.new.frames.left + opens step ≡ machine.old.frames.left + shuts step }
-    ensures space { HasRoom (P.span_count parts.now) (P.locals parts.now) room.new }
+    ensures space { HasRoom (P.span_count parts.now) (P.locals parts.now) (length (P.tables parts.now).constants) room.new }
 {
     match step {
         Step::Send { item, from, to } => {
@@ -74,7 +74,7 @@ pub fn run<P: Items, S: Steps>(
     room: &mut Room,
     steps: &mut S,
 ) -> Result<Option<Stop>, OutOfMemory>
-    requires space { HasRoom (P.span_count parts.now) (P.locals parts.now) room.old }
+    requires space { HasRoom (P.span_count parts.now) (P.locals parts.now) (length (P.tables parts.now).constants) room.old }
     requires accepted { Accepted (by_place (P.setup parts.now) (P.layout parts.now)) (S.left steps.old) }
     requires starts { (f : Flat KernelFault) × StartsFlat (P.setup parts.now) (P.layout parts.now) f
         × Shows (P.setup parts.now) (P.layout parts.now) (P.tables parts.now) machine.old f }
@@ -109,7 +109,7 @@ pub fn drive<P: Items, S: Steps>(
     room: &mut Room,
     steps: &mut S,
 ) -> Result<Option<Stop>, OutOfMemory>
-    requires space { HasRoom (P.span_count parts.now) (P.locals parts.now) room.old }
+    requires space { HasRoom (P.span_count parts.now) (P.locals parts.now) (length (P.tables parts.now).constants) room.old }
     requires lawful { Lawful (P.setup parts.now) }
     requires coloured { Coloured (P.setup parts.now) }
     requires accepted { Accepted (by_place (P.setup parts.now) (P.layout parts.now)) (S.left steps.old) }

@@ -31,7 +31,7 @@ pub fn begin_group<P: Parts>(
     places: &[u32],
 )
     requires planned { Planned (by_place (P.setup parts.now) (P.layout parts.now)) item rank places.now }
-    requires space { HasRoom (P.span_count parts.now) (P.locals parts.now) room.old }
+    requires space { HasRoom (P.span_count parts.now) (P.locals parts.now) (length (P.tables parts.now).constants) room.old }
     requires shows { (f : Flat KernelFault) × Shows (P.setup parts.now) (P.layout parts.now) (P.tables parts.now) machine.old f }
     requires shut { AllShut machine.old.frames.panes rank places.now }
     requires distinct { Distinct places.now }
@@ -39,7 +39,7 @@ pub fn begin_group<P: Parts>(
     ensures shows { (f : Flat KernelFault) → Shows (P.setup parts.now) (P.layout parts.now) (P.tables parts.now) machine.old f
         → Shows (P.setup parts.now) (P.layout parts.now) (P.tables parts.now) machine.new
         (flat_from (P.setup parts.now) (P.layout parts.now) (begins item rank places.now) f) }
-    ensures space { HasRoom (P.span_count parts.now) (P.locals parts.now) room.new }
+    ensures space { HasRoom (P.span_count parts.now) (P.locals parts.now) (length (P.tables parts.now).constants) room.new }
     ensures mail { machine.new.mail.left ≡ machine.old.mail.left }
     ensures frames { machine.new.frames.left + length places.now ≡ machine.old.frames.left }
 {
@@ -109,7 +109,7 @@ pub fn run_begins<P: Parts, S: Steps>(
     rank: u32,
     place: u32,
 ) -> Result<Option<Step>, OutOfMemory>
-    requires space { HasRoom (P.span_count parts.now) (P.locals parts.now) room.old }
+    requires space { HasRoom (P.span_count parts.now) (P.locals parts.now) (length (P.tables parts.now).constants) room.old }
     requires shows { (f : Flat KernelFault) × Shows (P.setup parts.now) (P.layout parts.now) (P.tables parts.now) machine.old f }
     requires ready { GroupReady (by_place (P.setup parts.now) (P.layout parts.now)) item rank
         (Begin item rank place ∷ S.left steps.old) machine.old }
@@ -118,7 +118,7 @@ pub fn run_begins<P: Parts, S: Steps>(
         × (0 < length done)
         × Done (P.setup parts.now) (P.layout parts.now) (P.tables parts.now) done machine.old machine.new) }
     ensures over { IfOk result (λ next. next ≡ None → S.left steps.new ≡ []) }
-    ensures space { HasRoom (P.span_count parts.now) (P.locals parts.now) room.new }
+    ensures space { HasRoom (P.span_count parts.now) (P.locals parts.now) (length (P.tables parts.now).constants) room.new }
 {
     let mut places = vec![in alloc; place; 1]?;
     let next = collect(steps, item, rank, &mut places)?;

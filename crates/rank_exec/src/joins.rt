@@ -11,6 +11,7 @@ ghost use Rattle.schedule_model.specs.Kept.{if_before};
 ghost use Rattle.flat_machine.specs.Layout.{by_place};
 ghost use Rattle.flat_machine.specs.Flat.{Flat, flat_step};
 ghost use Rattle.rank_state.specs.Core.{fault_of};
+ghost use Rattle.rank_state.specs.Indices.{values_at};
 ghost use Rattle.rank_state.specs.Ordered.{AreOwned, run_of, left_in};
 ghost use Rattle.rank_state.specs.Shows.{Shows};
 ghost use Rattle.rank_exec.specs.Stops.{stop_in};
@@ -21,6 +22,7 @@ use crate::hosts::run_host;
 use crate::items::Items;
 use crate::machine::{Machine, Stop};
 use crate::room::Room;
+use crate::steps::read_constants;
 use bound_program::Item;
 use kernel_types::KernelFault;
 use op_num::OutOfMemory;
@@ -51,11 +53,13 @@ fn run_one_on<P: Items>(
     element: u32,
     spans: &[Owned],
     indices: &[usize],
+    constants: &[i32],
     locals: &mut [i32],
 ) -> Option<KernelFault>
     requires kind { (P.setup parts.now).program.kind item ≡ Ordered }
     requires element { element < elements (P.setup parts.now).program item }
     requires are { AreOwned (P.setup parts.now) (P.layout parts.now) (P.tables parts.now) item element spans.now indices.now }
+    requires values { constants.now ≡ values_at machine.old.variables (P.tables parts.now).constants }
     requires locals { P.locals parts.now ≤ length locals.old }
     requires shows { (f : Flat KernelFault) × Shows (P.setup parts.now) (P.layout parts.now) (P.tables parts.now) machine.old f }
     ensures fault { result
@@ -66,7 +70,6 @@ fn run_one_on<P: Items>(
 {
     rank_state::steps_can::<KernelFault>();
     rank_state::windows_are_counted::<KernelFault>();
-    let constants = parts.constants();
     machine.element(parts, constants, item, element, spans, indices, locals)
 }
 
@@ -80,11 +83,12 @@ fn run_one<P: Items>(
 ) -> Option<KernelFault>
     requires kind { (P.setup parts.now).program.kind item ≡ Ordered }
     requires element { element < elements (P.setup parts.now).program item }
-    requires space { HasRoom (P.span_count parts.now) (P.locals parts.now) room.old }
+    requires space { HasRoom (P.span_count parts.now) (P.locals parts.now) (length (P.tables parts.now).constants) room.old }
     requires shows { (f : Flat KernelFault) × Shows (P.setup parts.now) (P.layout parts.now) (P.tables parts.now) machine.old f }
     ensures ran { RanElement (P.setup parts.now) (P.layout parts.now) (P.tables parts.now) item element machine.old machine.new result }
-    ensures space { HasRoom (P.span_count parts.now) (P.locals parts.now) room.new }
+    ensures space { HasRoom (P.span_count parts.now) (P.locals parts.now) (length (P.tables parts.now).constants) room.new }
 {
+    read_constants(machine, parts, &mut room.constants);
     room.owned.clear();
     let indices = parts.owned_windows(item, element, &mut room.owned);
     run_one_on(
@@ -94,6 +98,7 @@ fn run_one<P: Items>(
         element,
         &room.owned,
         indices,
+        &room.constants,
         &mut room.locals,
     )
 }
@@ -118,11 +123,11 @@ fn run_ordered<P: Items>(
     site: u32,
 ) -> Option<Stop>
     requires site { item_at (P.program parts.now) item ≡ OrderedItem site }
-    requires space { HasRoom (P.span_count parts.now) (P.locals parts.now) room.old }
+    requires space { HasRoom (P.span_count parts.now) (P.locals parts.now) (length (P.tables parts.now).constants) room.old }
     requires kind { (P.setup parts.now).program.kind item ≡ Ordered }
     requires shows { (f : Flat KernelFault) × Shows (P.setup parts.now) (P.layout parts.now) (P.tables parts.now) machine.old f }
     requires going { if_before item machine.old.fault ≡ None }
-    ensures space { HasRoom (P.span_count parts.now) (P.locals parts.now) room.new }
+    ensures space { HasRoom (P.span_count parts.now) (P.locals parts.now) (length (P.tables parts.now).constants) room.new }
     ensures after { (f : Flat KernelFault) → Shows (P.setup parts.now) (P.layout parts.now) (P.tables parts.now) machine.old f
         → After (P.setup parts.now) (P.layout parts.now) (P.tables parts.now) (stop_in result) machine.new
         (flat_step (P.setup parts.now) (P.layout parts.now) (Join item) f) }
@@ -150,14 +155,14 @@ pub fn join<P: Items>(
     room: &mut Room,
     item: u32,
 ) -> Result<Option<Stop>, OutOfMemory>
-    requires space { HasRoom (P.span_count parts.now) (P.locals parts.now) room.old }
+    requires space { HasRoom (P.span_count parts.now) (P.locals parts.now) (length (P.tables parts.now).constants) room.old }
     requires planned { IsStep (by_place (P.setup parts.now) (P.layout parts.now)) (Join item) }
     requires shows { (f : Flat KernelFault) × Shows (P.setup parts.now) (P.layout parts.now) (P.tables parts.now) machine.old f }
     ensures after { IfOk result
         (λ stop. (f : Flat KernelFault) → Shows (P.setup parts.now) (P.layout parts.now) (P.tables parts.now) machine.old f
         → After (P.setup parts.now) (P.layout parts.now) (P.tables parts.now) (stop_in stop) machine.new
         (flat_step (P.setup parts.now) (P.layout parts.now) (Join item) f)) }
-    ensures space { HasRoom (P.span_count parts.now) (P.locals parts.now) room.new }
+    ensures space { HasRoom (P.span_count parts.now) (P.locals parts.now) (length (P.tables parts.now).constants) room.new }
     ensures mail { machine.new.mail.left ≡ machine.old.mail.left }
     ensures frames { machine.new.frames.left ≡ machine.old.frames.left }
 {

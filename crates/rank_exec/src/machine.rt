@@ -18,17 +18,18 @@ ghost use Rattle.rank_state.specs.Spans.{Within, total, cells_at};
 ghost use Rattle.rank_state.specs.Windows.{Reads, Merges};
 ghost use Rattle.rank_state.specs.Frames.{Shut, pane_at, Enough, Exactly};
 ghost use Rattle.rank_state.specs.Mail.{Carries};
-ghost use Rattle.rank_state.specs.Machine.{State, row, posted, taken, noted, begun, ended, passed, windows_of};
+ghost use Rattle.rank_state.specs.Machine.{State, row, posted, taken, noted, begun_as, ended, passed, windows_of};
 ghost use Rattle.rank_state.specs.Joins.{reduced};
 ghost use Rattle.rank_state.specs.Core.{fault_of};
 ghost use Rattle.rank_state.specs.Starting.{units as united, started};
-ghost use Rattle.rank_state.specs.Ordered.{Within_all, InLength, total_all, all_windows, left_in};
+ghost use Rattle.rank_state.specs.Ordered.{Within_all, total_all, all_windows, left_in};
+ghost use Rattle.rank_state.specs.Indices.{values_at, InLength};
 ghost use Rattle.rank_exec.specs.Stops.{stop_in};
 
 use crate::core_run::Kernels;
 use crate::frames::{Frames, run_through};
 use crate::mail::Mail;
-use crate::owned::run_element;
+use crate::owned::{gather_values, run_element};
 use crate::reduce::{reduce_variables, unite_all};
 use crate::scalars::unit;
 use bound_program::{Act, Mesh};
@@ -201,11 +202,20 @@ impl Machine {
         })
     }
 
+    /// Copies the variables' cells at the indices into as many cells.
+    pub fn read(&self, indices: &[usize], values: &mut [i32])
+        requires inside { InLength (length self.now.variables) indices.now }
+        requires room { length values.old ≡ length indices.now }
+        ensures { values.new ≡ values_at self.now.variables indices.now }
+    {
+        gather_values(&self.variables, indices, 0, values);
+    }
+
     /// Runs an element's kernel in a frame of its own.
     pub fn begin<C: Kernels>(
         &mut self,
         core: &C,
-        constants: usize,
+        constants: &[i32],
         item: u32,
         rank: u32,
         place: u32,
@@ -214,7 +224,7 @@ impl Machine {
         scalars: &[Scalar],
         scratch: &mut [i32],
     )
-        requires takes { C.takes core.now item original constants (total spans.now + length scalars.now) }
+        requires takes { C.takes core.now item original (length constants.now) (total spans.now + length scalars.now) }
         requires locals { C.locals core.now ≤ length scratch.old }
         requires rank { rank < length self.old.memories }
         requires frames { rank < length self.old.frames.panes }
@@ -223,9 +233,10 @@ impl Machine {
         requires room { 0 < self.old.frames.left }
         requires inside { Within (length (row self.old.memories rank)) spans.now }
         requires reads { Reads (length self.old.variables) scalars.now }
-        requires constants { constants ≤ length self.old.variables }
         requires fits { total spans.now + length scalars.now ≤ self.old.frames.stride }
-        ensures { self.new ≡ begun (C.core core.now) constants item rank place original spans.now scalars.now self.old }
+        ensures { self.new
+            ≡ begun_as item rank place original
+            (C.core core.now item original constants.now (windows_of self.old rank spans.now scalars.now)) self.old }
     {
         let fault = self.frames.begin(
             core,
@@ -233,7 +244,7 @@ impl Machine {
             rank,
             place,
             original,
-            &self.variables[..constants],
+            constants,
             &self.memories[rank as usize],
             spans,
             &self.variables,
@@ -247,7 +258,7 @@ impl Machine {
     pub fn in_place<C: Kernels>(
         &mut self,
         core: &C,
-        constants: usize,
+        constants: &[i32],
         own: bool,
         item: u32,
         rank: u32,
@@ -256,25 +267,24 @@ impl Machine {
         scalars: &[Scalar],
         scratch: &mut [i32],
     )
-        requires takes { C.takes core.now item original constants (total spans.now + length scalars.now) }
+        requires takes { C.takes core.now item original (length constants.now) (total spans.now + length scalars.now) }
         requires locals { C.locals core.now ≤ length scratch.old }
         requires rank { rank < length self.old.memories }
         requires partials { rank < length self.old.partials }
         requires inside { Within (length (row self.old.memories rank)) spans.now }
         requires reads { Reads (length self.old.variables) scalars.now }
         requires slots { Merges (length (row self.old.partials rank)) scalars.now }
-        requires constants { constants ≤ length self.old.variables }
         requires fits { total spans.now + length scalars.now ≤ self.old.frames.stride }
         ensures { self.new
             ≡ passed own item rank original spans.now scalars.now
-            (C.core core.now item original (take constants self.old.variables) (windows_of self.old rank spans.now scalars.now)) self.old }
+            (C.core core.now item original constants.now (windows_of self.old rank spans.now scalars.now)) self.old }
     {
         let fault = run_through(
             core,
             own,
             item,
             original,
-            &self.variables[..constants],
+            constants,
             &mut self.memories[rank as usize],
             spans,
             &self.variables,
@@ -358,24 +368,23 @@ impl Machine {
     pub fn element<C: Kernels>(
         &mut self,
         core: &C,
-        constants: usize,
+        constants: &[i32],
         item: u32,
         element: u32,
         spans: &[Owned],
         indices: &[usize],
         scratch: &mut [i32],
     ) -> Option<KernelFault>
-        requires takes { C.takes core.now item element constants (total_all spans.now + length indices.now) }
+        requires takes { C.takes core.now item element (length constants.now) (total_all spans.now + length indices.now) }
         requires locals { C.locals core.now ≤ length scratch.old }
         requires inside { Within_all self.old.memories spans.now }
         requires reads { InLength (length self.old.variables) indices.now }
-        requires constants { constants ≤ length self.old.variables }
         requires room { total_all spans.now + length indices.now ≤ self.old.frames.stride }
         ensures fault { result
-            ≡ fault_of (C.core core.now item element (take constants self.old.variables) (all_windows spans.now indices.now self.old)) }
+            ≡ fault_of (C.core core.now item element constants.now (all_windows spans.now indices.now self.old)) }
         ensures state { self.new
             ≡ left_in spans.now indices.now
-            (C.core core.now item element (take constants self.old.variables) (all_windows spans.now indices.now self.old)) self.old }
+            (C.core core.now item element constants.now (all_windows spans.now indices.now self.old)) self.old }
     {
         run_element(
             core,

@@ -3,7 +3,8 @@
 ghost use Rattle.std.specs.Prelude.{◌≡◌, ◌+◌, ◌<◌, ◌≤◌, ◌++◌, ℕ, ℤ, [], List, length, map, take, slice_set, slice_index_or};
 ghost use Rattle.kernel_types.specs.declared.faults.KernelFault.{KernelFault};
 ghost use Rattle.rank_state.specs.Spans.{with_window, cells_at};
-ghost use Rattle.rank_state.specs.Ordered.{Within_all, InLength, total_all, gathered_all, scattered_all, values_at, put_values};
+ghost use Rattle.rank_state.specs.Ordered.{Within_all, total_all, gathered_all, scattered_all, put_values};
+ghost use Rattle.rank_state.specs.Indices.{InLength, values_at};
 ghost use Rattle.rank_state.specs.Ordered.{memories_after, variables_after};
 ghost use Rattle.rank_state.specs.Core.{fault_of};
 
@@ -118,7 +119,7 @@ pub fn load_all(
 /// Runs an element of an Ordered loop on the owners' cells and the variables; its fault, where it has one.
 pub fn run_element<C: Kernels>(
     core: &C,
-    constants: usize,
+    constants: &[i32],
     item: u32,
     element: u32,
     memories: &mut [Vec<i32>],
@@ -128,34 +129,27 @@ pub fn run_element<C: Kernels>(
     frame: &mut [i32],
     scratch: &mut [i32],
 ) -> Option<KernelFault>
-    requires takes { C.takes core.now item element constants (total_all spans.now + length indices.now) }
+    requires takes { C.takes core.now item element (length constants.now) (total_all spans.now + length indices.now) }
     requires locals { C.locals core.now ≤ length scratch.old }
     requires inside { Within_all (map (λ v. v.items) memories.old) spans.now }
     requires reads { InLength (length variables.old) indices.now }
-    requires constants { constants ≤ length variables.old }
     requires room { total_all spans.now + length indices.now ≤ length frame.old }
     ensures fault { result
-        ≡ fault_of (C.core core.now item element (take constants variables.old)
+        ≡ fault_of (C.core core.now item element constants.now
         (gathered_all (map (λ v. v.items) memories.old) spans.now ++ values_at variables.old indices.now)) }
     ensures memories { map (λ v. v.items) memories.new
         ≡ memories_after spans.now
-        (C.core core.now item element (take constants variables.old)
+        (C.core core.now item element constants.now
         (gathered_all (map (λ v. v.items) memories.old) spans.now ++ values_at variables.old indices.now))
         (map (λ v. v.items) memories.old) }
     ensures variables { variables.new
         ≡ variables_after (total_all spans.now) indices.now
-        (C.core core.now item element (take constants variables.old)
+        (C.core core.now item element constants.now
         (gathered_all (map (λ v. v.items) memories.old) spans.now ++ values_at variables.old indices.now)) variables.old }
 {
     let count = load_all(memories, spans, variables, indices, frame);
     let whole = count + indices.len();
-    let ran = core.run(
-        item,
-        element,
-        &variables[..constants],
-        &mut frame[..whole],
-        scratch,
-    );
+    let ran = core.run(item, element, constants, &mut frame[..whole], scratch);
     match ran {
         Ok(()) => {
             scatter_all(memories, spans, &frame[..whole]);

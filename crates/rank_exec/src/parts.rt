@@ -30,9 +30,9 @@ pub trait Parts: Kernels {
     fn most_spans(&self) -> usize
         ensures { result ≡ span_count self.now };
 
-    /// How many of the variables' first cells are the constants.
-    fn constants(&self) -> usize
-        ensures { result ≡ (tables self.now).constants };
+    /// Which of the variables' cells are the constants, by the numbers that kernels give these.
+    fn constants(&self) -> &[usize]
+        ensures { result.now ≡ (tables self.now).constants };
 
     /// How the loops reduce into the partials, by slot.
     fn slots(&self) -> &[Operation]
@@ -87,7 +87,7 @@ pub trait Parts: Kernels {
 
     /// A law: each loop's kernel runs for each element, on all constants and the cells of the element's windows.
     ghost runs: { (c : Self) (k e : ℕ) → is_loop ((setup c).program.kind k) ≡ true → e < elements (setup c).program k
-        → Self.takes c k e (tables c).constants (length ((layout c).cells k e)) };
+        → Self.takes c k e (length (tables c).constants) (length ((layout c).cells k e)) };
 
     ghost indexed: { (c : Self) → Indexed (setup c) (layout c) (tables c) };
 

@@ -1,31 +1,33 @@
 // What steps need on their way, taken once.
 
-ghost use Rattle.std.specs.Prelude.{IfOk};
+ghost use Rattle.std.specs.Prelude.{IfOk, length};
 ghost use Rattle.rank_exec.specs.Rooms.{HasRoom};
 
 use crate::parts::Parts;
 use rank_state::{Owned, Span};
 use std::alloc::{AllocError, Global};
 
-/// Room for the spans of an element or a message, and for the locals of a kernel. What stands there means nothing
+/// Room for the spans of an element or a message, for the locals of a kernel, and for the values of all constants. What stands there means nothing
 /// between two steps.
 #[derive(Drop)]
 pub struct Room {
     pub spans: Vec<Span>,
     pub owned: Vec<Owned>,
     pub locals: Vec<i32>,
+    pub constants: Vec<i32>,
 }
 
 impl Room {
     /// As much room as any step needs.
     pub fn new<P: Parts>(alloc: Global, parts: &P) -> Result<Room, AllocError>
-        ensures { IfOk result (HasRoom (P.span_count parts.now) (P.locals parts.now)) }
+        ensures { IfOk result (HasRoom (P.span_count parts.now) (P.locals parts.now) (length (P.tables parts.now).constants)) }
     {
         let most = parts.most_spans();
         Ok(Room {
             spans: Vec::with_capacity(alloc, most)?,
             owned: Vec::with_capacity(alloc, most)?,
             locals: vec![in alloc; 0; parts.most_locals()]?,
+            constants: vec![in alloc; 0; parts.constants().len()]?,
         })
     }
 }

@@ -9,6 +9,7 @@ ghost use Rattle.flat_machine.specs.Flat.{Flat, Shut_pane, flat_step};
 ghost use Rattle.rank_state.specs.declared.spans.Span.{Span};
 ghost use Rattle.rank_state.specs.Spans.{total};
 ghost use Rattle.rank_state.specs.Frames.{Shut, pane_at};
+ghost use Rattle.rank_state.specs.Indices.{values_at};
 ghost use Rattle.rank_state.specs.Mail.{Carries};
 ghost use Rattle.rank_state.specs.Shows.{AreExports, AreImports, AreWindows, Shows, pane_in};
 ghost use Rattle.rank_exec.specs.Rooms.{HasRoom};
@@ -54,13 +55,13 @@ pub fn send<P: Parts>(
     to: u32,
 )
     requires planned { IsStep (by_place (P.setup parts.now) (P.layout parts.now)) (Send item from to) }
-    requires space { HasRoom (P.span_count parts.now) (P.locals parts.now) room.old }
+    requires space { HasRoom (P.span_count parts.now) (P.locals parts.now) (length (P.tables parts.now).constants) room.old }
     requires shows { (f : Flat KernelFault) × Shows (P.setup parts.now) (P.layout parts.now) (P.tables parts.now) machine.old f }
     requires room { length ((P.layout parts.now).exports item from to) ≤ machine.old.mail.left }
     ensures shows { (f : Flat KernelFault) → Shows (P.setup parts.now) (P.layout parts.now) (P.tables parts.now) machine.old f
         → Shows (P.setup parts.now) (P.layout parts.now) (P.tables parts.now) machine.new
         (flat_step (P.setup parts.now) (P.layout parts.now) (Send item from to) f) }
-    ensures space { HasRoom (P.span_count parts.now) (P.locals parts.now) room.new }
+    ensures space { HasRoom (P.span_count parts.now) (P.locals parts.now) (length (P.tables parts.now).constants) room.new }
     ensures mail { machine.new.mail.left + length ((P.layout parts.now).exports item from to) ≡ machine.old.mail.left }
     ensures frames { machine.new.frames.left ≡ machine.old.frames.left }
 {
@@ -103,7 +104,7 @@ pub fn recv<P: Parts>(
     from: u32,
 )
     requires planned { IsStep (by_place (P.setup parts.now) (P.layout parts.now)) (Recv item rank from) }
-    requires space { HasRoom (P.span_count parts.now) (P.locals parts.now) room.old }
+    requires space { HasRoom (P.span_count parts.now) (P.locals parts.now) (length (P.tables parts.now).constants) room.old }
     requires shows { (f : Flat KernelFault) × Shows (P.setup parts.now) (P.layout parts.now) (P.tables parts.now) machine.old f }
     requires oldest { (spans : List Span)
         → AreImports (P.setup parts.now) (P.layout parts.now) (P.tables parts.now) item from rank spans
@@ -111,13 +112,23 @@ pub fn recv<P: Parts>(
     ensures shows { (f : Flat KernelFault) → Shows (P.setup parts.now) (P.layout parts.now) (P.tables parts.now) machine.old f
         → Shows (P.setup parts.now) (P.layout parts.now) (P.tables parts.now) machine.new
         (flat_step (P.setup parts.now) (P.layout parts.now) (Recv item rank from) f) }
-    ensures space { HasRoom (P.span_count parts.now) (P.locals parts.now) room.new }
+    ensures space { HasRoom (P.span_count parts.now) (P.locals parts.now) (length (P.tables parts.now).constants) room.new }
     ensures mail { machine.new.mail.left ≡ machine.old.mail.left + length ((P.layout parts.now).exports item from rank) }
     ensures frames { machine.new.frames.left ≡ machine.old.frames.left }
 {
     room.spans.clear();
     parts.imports(item, rank, from, &mut room.spans);
     recv_on(machine, parts, item, rank, from, &room.spans);
+}
+
+/// Copies the values of all constants.
+pub fn read_constants<P: Parts>(machine: &Machine, parts: &P, values: &mut Vec<i32>)
+    requires count { length values.old.items ≡ length (P.tables parts.now).constants }
+    requires shows { (f : Flat KernelFault) × Shows (P.setup parts.now) (P.layout parts.now) (P.tables parts.now) machine.now f }
+    ensures values { values.new.items ≡ values_at machine.now.variables (P.tables parts.now).constants }
+    ensures count { length values.new.items ≡ length (P.tables parts.now).constants }
+{
+    machine.read(parts.constants(), values);
 }
 
 // A begin on the windows of these spans and scalars.
@@ -129,10 +140,12 @@ fn begin_on<P: Parts>(
     place: u32,
     spans: &[Span],
     scalars: &[Scalar],
+    constants: &[i32],
     locals: &mut [i32],
 )
     requires planned { IsStep (by_place (P.setup parts.now) (P.layout parts.now)) (Begin item rank place) }
     requires are { AreWindows (P.setup parts.now) (P.layout parts.now) (P.tables parts.now) item rank place spans.now scalars.now }
+    requires values { constants.now ≡ values_at machine.old.variables (P.tables parts.now).constants }
     requires locals { P.locals parts.now ≤ length locals.old }
     requires shows { (f : Flat KernelFault) × Shows (P.setup parts.now) (P.layout parts.now) (P.tables parts.now) machine.old f }
     requires shut { pane_at machine.old.frames.panes rank place ≡ Shut }
@@ -148,15 +161,7 @@ fn begin_on<P: Parts>(
     rank_state::windows_are_counted::<KernelFault>();
     let original = parts.original(item, rank, place);
     machine.begin(
-        parts,
-        parts.constants(),
-        item,
-        rank,
-        place,
-        original,
-        spans,
-        scalars,
-        locals,
+        parts, constants, item, rank, place, original, spans, scalars, locals,
     );
 }
 
@@ -170,17 +175,18 @@ pub fn begin<P: Parts>(
     place: u32,
 )
     requires planned { IsStep (by_place (P.setup parts.now) (P.layout parts.now)) (Begin item rank place) }
-    requires space { HasRoom (P.span_count parts.now) (P.locals parts.now) room.old }
+    requires space { HasRoom (P.span_count parts.now) (P.locals parts.now) (length (P.tables parts.now).constants) room.old }
     requires shows { (f : Flat KernelFault) × Shows (P.setup parts.now) (P.layout parts.now) (P.tables parts.now) machine.old f }
     requires shut { pane_at machine.old.frames.panes rank place ≡ Shut }
     requires room { 0 < machine.old.frames.left }
     ensures shows { (f : Flat KernelFault) → Shows (P.setup parts.now) (P.layout parts.now) (P.tables parts.now) machine.old f
         → Shows (P.setup parts.now) (P.layout parts.now) (P.tables parts.now) machine.new
         (flat_step (P.setup parts.now) (P.layout parts.now) (Begin item rank place) f) }
-    ensures space { HasRoom (P.span_count parts.now) (P.locals parts.now) room.new }
+    ensures space { HasRoom (P.span_count parts.now) (P.locals parts.now) (length (P.tables parts.now).constants) room.new }
     ensures mail { machine.new.mail.left ≡ machine.old.mail.left }
     ensures frames { machine.new.frames.left + 1 ≡ machine.old.frames.left }
 {
+    read_constants(machine, parts, &mut room.constants);
     room.spans.clear();
     let scalars = parts.windows(item, rank, place, &mut room.spans);
     begin_on(
@@ -191,6 +197,7 @@ pub fn begin<P: Parts>(
         place,
         &room.spans,
         scalars,
+        &room.constants,
         &mut room.locals,
     );
 }
@@ -231,13 +238,13 @@ pub fn end<P: Parts>(
     place: u32,
 )
     requires planned { IsStep (by_place (P.setup parts.now) (P.layout parts.now)) (End item rank place) }
-    requires space { HasRoom (P.span_count parts.now) (P.locals parts.now) room.old }
+    requires space { HasRoom (P.span_count parts.now) (P.locals parts.now) (length (P.tables parts.now).constants) room.old }
     requires shows { (f : Flat KernelFault) × Shows (P.setup parts.now) (P.layout parts.now) (P.tables parts.now) machine.old f }
     requires open { pane_in item (pane_at machine.old.frames.panes rank place) ≢ Shut_pane }
     ensures shows { (f : Flat KernelFault) → Shows (P.setup parts.now) (P.layout parts.now) (P.tables parts.now) machine.old f
         → Shows (P.setup parts.now) (P.layout parts.now) (P.tables parts.now) machine.new
         (flat_step (P.setup parts.now) (P.layout parts.now) (End item rank place) f) }
-    ensures space { HasRoom (P.span_count parts.now) (P.locals parts.now) room.new }
+    ensures space { HasRoom (P.span_count parts.now) (P.locals parts.now) (length (P.tables parts.now).constants) room.new }
     ensures mail { machine.new.mail.left ≡ machine.old.mail.left }
     ensures frames { machine.new.frames.left ≡ machine.old.frames.left + 1 }
 {
@@ -255,10 +262,12 @@ fn in_place_on<P: Parts>(
     place: u32,
     spans: &[Span],
     scalars: &[Scalar],
+    constants: &[i32],
     locals: &mut [i32],
 )
     requires planned { IsStep (by_place (P.setup parts.now) (P.layout parts.now)) (Begin item rank place) }
     requires are { AreWindows (P.setup parts.now) (P.layout parts.now) (P.tables parts.now) item rank place spans.now scalars.now }
+    requires values { constants.now ≡ values_at machine.old.variables (P.tables parts.now).constants }
     requires locals { P.locals parts.now ≤ length locals.old }
     requires shows { (f : Flat KernelFault) × Shows (P.setup parts.now) (P.layout parts.now) (P.tables parts.now) machine.old f }
     requires shut { pane_at machine.old.frames.panes rank place ≡ Shut }
@@ -274,7 +283,6 @@ fn in_place_on<P: Parts>(
     rank_state::steps_can::<KernelFault>();
     rank_state::windows_are_counted::<KernelFault>();
     let original = parts.original(item, rank, place);
-    let constants = parts.constants();
     let own = parts.owns(item, rank, place);
     machine.in_place(
         parts, constants, own, item, rank, original, spans, scalars, locals,
@@ -291,7 +299,7 @@ pub fn in_place<P: Parts>(
     place: u32,
 )
     requires planned { IsStep (by_place (P.setup parts.now) (P.layout parts.now)) (Begin item rank place) }
-    requires space { HasRoom (P.span_count parts.now) (P.locals parts.now) room.old }
+    requires space { HasRoom (P.span_count parts.now) (P.locals parts.now) (length (P.tables parts.now).constants) room.old }
     requires shows { (f : Flat KernelFault) × Shows (P.setup parts.now) (P.layout parts.now) (P.tables parts.now) machine.old f }
     requires shut { pane_at machine.old.frames.panes rank place ≡ Shut }
     requires room { 0 < machine.old.frames.left }
@@ -299,10 +307,11 @@ pub fn in_place<P: Parts>(
         → Shows (P.setup parts.now) (P.layout parts.now) (P.tables parts.now) machine.new
         (flat_step (P.setup parts.now) (P.layout parts.now) (End item rank place)
         (flat_step (P.setup parts.now) (P.layout parts.now) (Begin item rank place) f)) }
-    ensures space { HasRoom (P.span_count parts.now) (P.locals parts.now) room.new }
+    ensures space { HasRoom (P.span_count parts.now) (P.locals parts.now) (length (P.tables parts.now).constants) room.new }
     ensures mail { machine.new.mail.left ≡ machine.old.mail.left }
     ensures frames { machine.new.frames.left ≡ machine.old.frames.left }
 {
+    read_constants(machine, parts, &mut room.constants);
     room.spans.clear();
     let scalars = parts.windows(item, rank, place, &mut room.spans);
     in_place_on(
@@ -313,6 +322,7 @@ pub fn in_place<P: Parts>(
         place,
         &room.spans,
         scalars,
+        &room.constants,
         &mut room.locals,
     );
 }

@@ -17,7 +17,8 @@ use Rattle.rank_state.specs.Windows.{span_cells, scalar_cells, Reads, InSlots, M
 use Rattle.rank_state.specs.Frames.{Pane, Shut, Broken, Holds, pane_at, Enough, Exactly}
 use Rattle.rank_state.specs.declared.owned.Owned.{Owned}
 use Rattle.rank_state.specs.Machine.{State}
-use Rattle.rank_state.specs.Ordered.{Within_all, InLength, total_all, OwnedBy, InVariables, AreOwned}
+use Rattle.rank_state.specs.Ordered.{Within_all, total_all, OwnedBy, InVariables, AreOwned}
+use Rattle.rank_state.specs.Indices.{InLength}
 use Rattle.rank_state.specs.Shows.{Tables, Indexed, IsScalar, AreScalars, AreWindows, AreExports, AreImports, Shows, pane_in}
 use Rattle.rank_state.specs.Can.{CanCopy, HasPlace, CanBegin, CanEnd, CanReduce, CanRun}
 use Rattle.rank_state.proofs.Amounts.{windows_length, cells_total}
@@ -68,7 +69,7 @@ module _ {F : Type 0} (p : Setup F) (l : Layout F) (t : Tables) (st : State F) (
         memory = can_copy r spans plan.2 e.within;
         frame = has_place q k r x plan;
         reads = subst (λ n. Reads n scalars) (sym h.sized.count) (reads p l t k scalars e.are_scalars);
-        constants = (let c : t.constants ≤ l.variables = q.constants_fit in omega arith);
+        constants = subst (λ n. InLength n t.constants) (sym h.sized.count) q.constants_fit;
         fits = (let s : st.frames.stride ≡ t.stride = h.sized.stride in let i : total spans + length scalars ≤ t.stride = e.fits in omega arith);
       }
 
@@ -123,6 +124,6 @@ module _ {F : Type 0} (p : Setup F) (l : Layout F) (t : Tables) (st : State F) (
       record {
         inside = within_all spans o.owned;
         reads = in_length indices o.variables;
-        constants = (let c : t.constants ≤ l.variables = q.constants_fit in omega arith);
+        constants = subst (λ n. InLength n t.constants) (sym h.sized.count) q.constants_fit;
         room = (let s : st.frames.stride ≡ t.stride = h.sized.stride in let i : total_all spans + length indices ≤ t.stride = o.fits in omega arith);
       }

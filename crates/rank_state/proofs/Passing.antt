@@ -1,6 +1,6 @@
 -- A begin and its own end at once.
 use Rattle.std.proofs.Common.{◌≡◌, ℕ, ◌+◌, ◌-◌, ◌<◌, Bool, List, [], length, get_or, set, sym, ap, ap₂, subst, ◌∙◌, arith, get_or-set_same}
-use Rattle.std.specs.Prelude.{◌==◌, take}
+use Rattle.std.specs.Prelude.{◌==◌}
 use Rattle.std.proofs.lemmas.List.{set-set, set-get_or}
 use Rattle.schedule_steps.specs.declared.step.Step.TheVariants.{Begin, End}
 use Rattle.schedule_steps.specs.Steps.{IsStep}
@@ -12,6 +12,7 @@ use Rattle.rank_state.specs.declared.scalars.Scalar.{Scalar}
 use Rattle.rank_state.specs.Frames.{Pane, Panes, Shut, pane_at, pane_after, with_pane, closed}
 use Rattle.rank_state.specs.Machine.{State, row, windows_of, begun_as, merged_pane, ended, passed}
 use Rattle.rank_state.specs.Spans.{total}
+use Rattle.rank_state.specs.Indices.{values_at}
 use Rattle.rank_state.specs.Shows.{Tables, Indexed, AreWindows, Shows}
 use Rattle.rank_state.proofs.Scatters.{LookUp}
 use Rattle.rank_state.proofs.Panes.{pane_here}
@@ -46,11 +47,11 @@ module _ {F : Type 0} (st : State F) where
 
 module _ {F : Type 0} (p : Setup F) (l : Layout F) (t : Tables) (q : Indexed p l t) (z : IsLayout p l) (st : State F) (f : Flat F) (h : Shows p l t st f) where
   pub pass_step : LookUp → (k r x : ℕ) → IsStep (by_place p l) (Begin k r x) → (spans : List Span) (scalars : List Scalar) → AreWindows p l t k r x spans scalars → pane_at st.frames.panes r x ≡ Shut → 0 < st.frames.left
-      → Shows p l t (passed (p.owner (p.program.set k) (l.original k r x) == r) k r (l.original k r x) spans scalars (l.core k (l.original k r x) (take t.constants st.variables) (windows_of st r spans scalars)) st)
+      → Shows p l t (passed (p.owner (p.program.set k) (l.original k r x) == r) k r (l.original k r x) spans scalars (l.core k (l.original k r x) (values_at st.variables t.constants) (windows_of st r spans scalars)) st)
       (flat_step p l (End k r x) (flat_step p l (Begin k r x) f))
   pass_step law k r x plan spans scalars e none some =
       let can = can_begin p l t st f h q k r x plan spans scalars e in
       let begun = begin_step p l t q st f h z k r x plan spans scalars e none in
       subst (λ s. Shows p l t s (flat_step p l (End k r x) (flat_step p l (Begin k r x) f)))
-      (passes st (p.owner (p.program.set k) (l.original k r x) == r) k r x (l.original k r x) spans scalars (l.core k (l.original k r x) (take t.constants st.variables) (windows_of st r spans scalars)) can.frame.rank can.frame.place none some)
-      (end_step p l t q (begun_as k r x (l.original k r x) (l.core k (l.original k r x) (take t.constants st.variables) (windows_of st r spans scalars)) st) (flat_step p l (Begin k r x) f) begun law k r x plan spans scalars e (λ shut. begin_opens p l k r x f (sym (begun.panes k r x) ∙ shut)))
+      (passes st (p.owner (p.program.set k) (l.original k r x) == r) k r x (l.original k r x) spans scalars (l.core k (l.original k r x) (values_at st.variables t.constants) (windows_of st r spans scalars)) can.frame.rank can.frame.place none some)
+      (end_step p l t q (begun_as k r x (l.original k r x) (l.core k (l.original k r x) (values_at st.variables t.constants) (windows_of st r spans scalars)) st) (flat_step p l (Begin k r x) f) begun law k r x plan spans scalars e (λ shut. begin_opens p l k r x f (sym (begun.panes k r x) ∙ shut)))

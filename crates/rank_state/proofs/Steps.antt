@@ -30,6 +30,7 @@ use Rattle.rank_state.proofs.Panes.{ranks_kept, places_kept, pane_here, pane_els
 use Rattle.rank_state.proofs.Faults.{kept_push, elements_push}
 use Rattle.rank_state.proofs.Amounts.{amounts_length, amounts_other, amounts_here, slot_site, lookup_scalar, once_behind, windows_length}
 use Rattle.rank_state.proofs.Scatters.{LookUp, scattered_length, copied_back}
+use Rattle.rank_state.specs.Indices.{values_at, InLength}
 use Rattle.rank_state.proofs.Messages as messages
 use Rattle.rank_state.proofs.Messages.{lengths_kept}
 
@@ -57,8 +58,12 @@ module _ {F : Type 0} (p : Setup F) (l : Layout F) (t : Tables) (q : Indexed p l
       variable_at_index : (i : ℕ) → i < l.variables → variable p l f (l.variable_at i) ≡ get_or st.variables i (pos 0)
       variable_at_index i lt = ap (λ j. get_or f.variables j (pos 0)) (q.index_at i lt) ∙ ap (λ vs. get_or vs i (pos 0)) (sym h.variables)
 
-  pub constants_are : take t.constants st.variables ≡ map (variable p l f) l.constants
-  constants_are = constants_from 0 t.constants (omega (arith, q.constants_fit)) ∙ ap (map (variable p l f)) (sym q.constants_are)
+  constants_at : (is : List ℕ) → InLength l.variables is → values_at st.variables is ≡ map (variable p l f) (map l.variable_at is)
+  constants_at [] g = refl
+  constants_at (i ∷ is) g = ap₂ (λ a b. a ∷ b) (ap (λ vs. get_or vs i (pos 0)) h.variables ∙ ap (λ j. get_or f.variables j (pos 0)) (sym (q.index_at i g.0))) (constants_at is g.1)
+
+  pub constants_are : values_at st.variables t.constants ≡ map (variable p l f) l.constants
+  constants_are = constants_at t.constants q.constants_fit ∙ ap (map (variable p l f)) (sym q.constants_are)
 
   -- all variables
   pub variables_are : st.variables ≡ map (variable p l f) (variables_from l.variable_at 0 l.variables)
@@ -171,7 +176,7 @@ module _ {F : Type 0} (p : Setup F) (l : Layout F) (t : Tables) (q : Indexed p l
       let fr : p.program.kind k ≡ Free = free_kind (p.program.kind k) plan.1 in
       let lt : x < l.count k r = ltb-true x (l.count k r) (and_parts (Rattle.std.specs.Prelude.nat_lt x (l.count k r)) true plan.3).0 in
       let el : l.original k r x < elements p.program k = (z.outside k r x fr plan.2 lt).0 in
-      let same : l.core k (l.original k r x) (take t.constants st.variables) (windows_of st r spans scalars) ≡ l.core k (l.original k r x) (map (variable p l f) l.constants) (map (window p l f k r) (l.cells k (l.original k r x))) =
+      let same : l.core k (l.original k r x) (values_at st.variables t.constants) (windows_of st r spans scalars) ≡ l.core k (l.original k r x) (map (variable p l f) l.constants) (map (window p l f k r) (l.cells k (l.original k r x))) =
       ap₂ (l.core k (l.original k r x)) constants_are (windows_are k r x plan.2 spans scalars e) in
       subst (λ ran. Shows p l t (begun_as k r x (l.original k r x) ran st) (flat_step p l (Begin k r x) f)) (sym same)
       (open_step k r x (at_place k r x plan) none (l.core k (l.original k r x) (map (variable p l f) l.constants) (map (window p l f k r) (l.cells k (l.original k r x))))

@@ -7,7 +7,8 @@ use Rattle.rank_state.specs.Windows.{Reads, Merges}
 use Rattle.rank_state.specs.Frames.{pane_at, Enough, Exactly}
 use Rattle.rank_state.specs.declared.owned.Owned.{Owned}
 use Rattle.rank_state.specs.Machine.{State, row}
-use Rattle.rank_state.specs.Ordered.{Within_all, InLength, total_all}
+use Rattle.rank_state.specs.Ordered.{Within_all, total_all}
+use Rattle.rank_state.specs.Indices.{InLength}
 
 module _ {F : Type 0} (st : State F) where
   -- the spans stand in the rank's buffer
@@ -20,11 +21,11 @@ module _ {F : Type 0} (st : State F) where
     pub rank : r < length st.frames.panes
     pub place : x < length (get_or st.frames.panes r [])
 
-  pub record CanBegin (n r x : ℕ) (spans : List Span) (scalars : List Scalar) : Type 0 where
+  pub record CanBegin (cs : List ℕ) (r x : ℕ) (spans : List Span) (scalars : List Scalar) : Type 0 where
     pub memory : CanCopy r spans
     pub frame : HasPlace r x
     pub reads : Reads (length st.variables) scalars
-    pub constants : n ≤ length st.variables
+    pub constants : InLength (length st.variables) cs
     pub fits : total spans + length scalars ≤ st.frames.stride
 
   pub record CanEnd (r x : ℕ) (spans : List Span) (scalars : List Scalar) : Type 0 where
@@ -39,9 +40,8 @@ module _ {F : Type 0} (st : State F) where
     pub reads : Reads (length st.variables) scalars
     pub rows : (i : ℕ) → i < length st.partials → Merges (length (row st.partials i)) scalars
 
-  -- n is the number of constants
-  pub record CanRun (n : ℕ) (spans : List Owned) (indices : List ℕ) : Type 0 where
+  pub record CanRun (cs : List ℕ) (spans : List Owned) (indices : List ℕ) : Type 0 where
     pub inside : Within_all st.memories spans
     pub reads : InLength (length st.variables) indices
-    pub constants : n ≤ length st.variables
+    pub constants : InLength (length st.variables) cs
     pub room : total_all spans + length indices ≤ st.frames.stride

@@ -10,3 +10,4 @@ pub mod Can
 pub mod Ordered
 pub mod Starting
 pub mod Groups
+pub mod Indices

@@ -1,5 +1,5 @@
 -- The machine's state as lists, and its steps.
-use Rattle.std.specs.Prelude.{◌-◌, cond, ℕ, ℤ, Bool, List, [], ◌++◌, take, drop, get_or, set, Option, Some, None}
+use Rattle.std.specs.Prelude.{◌-◌, cond, ℕ, ℤ, Bool, List, [], ◌++◌, drop, get_or, set, Option, Some, None}
 use Rattle.schedule_model.specs.Sequential.{Stop}
 use Rattle.schedule_model.specs.Kept.{kept}
 use Rattle.flat_machine.specs.Layout.{Core}
@@ -7,6 +7,7 @@ use Rattle.rank_state.specs.declared.spans.Span.{Span}
 use Rattle.rank_state.specs.declared.scalars.Scalar.{Scalar}
 use Rattle.rank_state.specs.Spans.{total, gathered}
 use Rattle.rank_state.specs.Core.{fault_of}
+use Rattle.rank_state.specs.Indices.{values_at}
 use Rattle.rank_state.specs.Windows.{firsts, amounts}
 use Rattle.rank_state.specs.Mail.{Box, sent, received, arrived, first_post}
 use Rattle.rank_state.specs.Frames.{Pane, Shut, Broken, Holds, Panes, pane_at, pane_after, opened, shut, closed}
@@ -37,9 +38,10 @@ noted k e (Some f) before = kept before (record { item = k; element = Some e; fa
 abbrev pub begun_as : {F : Type 0} → ℕ → ℕ → ℕ → ℕ → Core F → State F → State F
 begun_as k r x e ran st = record st { frames = opened k r x ran (st.frames.left - 1) st.frames; fault = noted k e (fault_of ran) st.fault }
 
--- the first n variables are the constants
-abbrev pub begun : {F : Type 0} → (ℕ → ℕ → List ℤ → List ℤ → Core F) → ℕ → ℕ → ℕ → ℕ → ℕ → List Span → List Scalar → State F → State F
-begun core n k r x e spans scalars st = begun_as k r x e (core k e (take n st.variables) (windows_of st r spans scalars)) st
+-- the constants are the variables at these indices
+abbrev pub begun : {F : Type 0} → (ℕ → ℕ → List ℤ → List ℤ → Core F) → List ℕ → ℕ → ℕ → ℕ → ℕ → List Span → List Scalar → State F → State F
+begun core cs k r x e spans scalars st =
+    begun_as k r x e (core k e (values_at st.variables cs) (windows_of st r spans scalars)) st
 
 -- what an element's own reductions leave in its rank's partials
 abbrev pub merged_pane : Bool → ℕ → List Scalar → Pane → List ℤ → List ℤ

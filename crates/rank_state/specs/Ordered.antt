@@ -1,5 +1,5 @@
 -- One element of an Ordered loop, on the buffers of all ranks.
-use Rattle.std.specs.Prelude.{◌≡◌, ◌<◌, ◌≤◌, ◌+◌, ℕ, ℤ, pos, List, [], ◌∷◌, ◌++◌, length, get_or, set, drop, take}
+use Rattle.std.specs.Prelude.{◌≡◌, ◌<◌, ◌≤◌, ◌+◌, ℕ, ℤ, List, [], ◌∷◌, ◌++◌, length, get_or, set, drop}
 use Rattle.schedule_model.specs.Cells.{Cell, Variable, DatCell, VarCell}
 use Rattle.schedule_model.specs.Setup.{Setup, owner_of}
 use Rattle.flat_machine.specs.Layout.{Layout, Core, Faults, Leaves}
@@ -7,6 +7,7 @@ use Rattle.flat_machine.specs.Scatter.{Once}
 use Rattle.rank_state.specs.declared.owned.Owned.{Owned}
 use Rattle.rank_state.specs.Spans.{with_window, cells_at}
 use Rattle.rank_state.specs.Windows.{cells_from}
+use Rattle.rank_state.specs.Indices.{values_at}
 use Rattle.rank_state.specs.Machine.{State}
 use Rattle.rank_state.specs.Shows.{Tables}
 
@@ -34,10 +35,6 @@ scattered_all from f (s ∷ ss) ms =
 abbrev pub index_cells : (ℕ → VarCell) → List ℕ → List Cell
 index_cells variable_at [] = []
 index_cells variable_at (i ∷ is) = Variable (variable_at i) ∷ index_cells variable_at is
-
-abbrev pub values_at : List ℤ → List ℕ → List ℤ
-values_at variables [] = []
-values_at variables (i ∷ is) = get_or variables i (pos 0) ∷ values_at variables is
 
 -- a frame's values at their indices
 abbrev pub put_values : List ℕ → List ℤ → List ℤ → List ℤ
@@ -91,11 +88,6 @@ abbrev pub left_in : {F : Type 0} → List Owned → List ℕ → Core F → Sta
 left_in spans indices ran st =
     record st { memories = memories_after spans ran st.memories; variables = variables_after (total_all spans) indices ran st.variables }
 
--- each index is below n
-abbrev pub InLength : ℕ → List ℕ → Type 0
-InLength n [] = Unit {0}
-InLength n (i ∷ is) = (i < n) × InLength n is
-
 -- what the machine runs for the element
 abbrev pub run_of : {F : Type 0} → Layout F → Tables → ℕ → ℕ → List Owned → List ℕ → State F → Core F
-run_of l t k e spans indices st = l.core k e (take t.constants st.variables) (all_windows spans indices st)
+run_of l t k e spans indices st = l.core k e (values_at st.variables t.constants) (all_windows spans indices st)

@@ -1,5 +1,6 @@
 -- The machine's lists show a state of the distributed machine on flat buffers.
-use Rattle.std.specs.Prelude.{◌≡◌, ◌<◌, ◌≤◌, ◌+◌, ◌==◌, cond, ℕ, suc, zero, ℤ, pos, true, List, [], ◌∷◌, ◌++◌, length, get_or, Some, None}
+use Rattle.std.specs.Prelude.{◌≡◌, ◌<◌, ◌≤◌, ◌+◌, ◌==◌, cond, ℕ, suc, zero, ℤ, pos, true, List, [], ◌∷◌, ◌++◌, map, length, get_or, Some}
+use Rattle.std.specs.Prelude.{None}
 use Rattle.schedule_model.specs.Cells.{VarCell}
 use Rattle.schedule_model.specs.Program.{Free}
 use Rattle.schedule_model.specs.Setup.{Setup}
@@ -16,6 +17,7 @@ use Rattle.rank_state.specs.Spans.{Within, total}
 use Rattle.rank_state.specs.Windows.{span_cells, scalar_cells, Marked, operation, has_slot}
 use Rattle.rank_state.specs.Mail.{Post, is_of}
 use Rattle.rank_state.specs.Frames.{Pane, Shut, Broken, Holds, pane_at}
+use Rattle.rank_state.specs.Indices.{InLength}
 use Rattle.rank_state.specs.Machine.{State}
 
 -- the item's pane, of what stands open at its rank and place
@@ -34,7 +36,7 @@ queue s r (x ∷ xs) = cond (is_of s r x) (post_of x ∷ queue s r xs) (queue s 
 
 -- what the machine keeps beside the layout
 pub record Tables : Type 0 where
-  pub constants : ℕ  -- the variables' first cells are the constants
+  pub constants : List ℕ  -- the indices of the variables' cells that are constants
   pub slots : ℕ  -- partials of a rank
   pub site_at : ℕ → ℕ  -- slot: the loop that reduces into it
   pub reduced_at : ℕ → VarCell  -- slot: the cell
@@ -51,8 +53,8 @@ module _ {F : Type 0} (p : Setup F) (l : Layout F) (t : Tables) where
   pub record Indexed : Type 0 where
     pub place_at : (r i : ℕ) → r < p.ranks → i < l.width r → l.place r (l.cell_at r i) ≡ i
     pub index_at : (i : ℕ) → i < l.variables → l.index_of (l.variable_at i) ≡ i
-    pub constants_are : l.constants ≡ variables_from l.variable_at 0 t.constants
-    pub constants_fit : t.constants ≤ l.variables
+    pub constants_are : l.constants ≡ map l.variable_at t.constants
+    pub constants_fit : InLength l.variables t.constants
     pub counts_fit : (k r : ℕ) → p.program.kind k ≡ Free → r < p.ranks → l.count k r ≤ t.places r
 
   -- ---- what the code hands to a step

@@ -24,6 +24,7 @@ ghost use Rattle.rank_state.specs.Groups.{begins, Distinct, Planned, AllShut};
 ghost use Rattle.rank_state.specs.Starting.{Starts, started, AreFirst, AreSlots, ArePlaces};
 ghost use Rattle.rank_state.specs.Joins.{reduced, AreReduced};
 ghost use Rattle.rank_state.specs.declared.owned.Owned.{Owned};
+ghost use Rattle.rank_state.specs.Indices.{values_at};
 ghost use Rattle.rank_state.specs.Ordered.{AreOwned, total_all, put_back, all_windows, left_in, run_of};
 ghost use Rattle.rank_state.specs.Can.{CanCopy, CanBegin, CanEnd, CanReduce, CanRun};
 
@@ -210,7 +211,7 @@ pub fn in_place_shows<F>()
         → Shows p l t st f → pane_at st.frames.panes r x ≡ Shut → 0 < st.frames.left
         → Shows p l t
         (passed (p.owner (p.program.set k) (l.original k r x) == r) k r (l.original k r x) spans scalars
-        (l.core k (l.original k r x) (take t.constants st.variables) (windows_of st r spans scalars)) st)
+        (l.core k (l.original k r x) (values_at st.variables t.constants) (windows_of st r spans scalars)) st)
         (flat_step p l (End k r x) (flat_step p l (Begin k r x) f)) }
 {
     flat_machine::scatter_is_look_up();

@@ -6,7 +6,7 @@ use Rattle.rank_exec.proofs.drive.run.Given as goal
 abbrev pub invariant-loop-next : goal.invariant-loop-next
 invariant-loop-next g l = record {
   reached : Reached (g.P.Parts.setup l.parts) (g.P.Parts.layout l.parts) (g.P.Parts.tables l.parts) (g.S.Steps.left l.fn.steps) (to_come l.next (g.S.Steps.left l.steps)) l.initial.machine l.machine;
-  space : HasRoom (g.P.Parts.span_count l.parts) (g.P.Kernels.locals l.parts) l.room;
+  space : HasRoom (g.P.Parts.span_count l.parts) (g.P.Kernels.locals l.parts) (length (g.P.Parts.tables l.parts).constants) l.room;
   over : l.next ≡ None → g.S.Steps.left l.steps ≡ [];
 }
 

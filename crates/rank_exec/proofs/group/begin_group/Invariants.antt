@@ -1,4 +1,4 @@
-use Rattle.std.proofs.Common.{◌≡◌, ◌+◌, take, drop}
+use Rattle.std.proofs.Common.{length, ◌≡◌, ◌+◌, take, drop}
 use Rattle.kernel_types.specs.declared.faults.KernelFault.{KernelFault}
 use Rattle.flat_machine.specs.Layout.{by_place}
 use Rattle.flat_machine.specs.Flat.{Flat, flat_from}
@@ -13,7 +13,7 @@ invariant-loop-place g l = record {
   shut : AllShut l.machine.frames.panes l.rank (drop l.place-index l.places);
   distinct : Distinct (drop l.place-index l.places);
   shows : (f : Flat KernelFault) → Shows (g.P.Parts.setup l.parts) (g.P.Parts.layout l.parts) (g.P.Parts.tables l.parts) l.initial.machine f → Shows (g.P.Parts.setup l.parts) (g.P.Parts.layout l.parts) (g.P.Parts.tables l.parts) l.machine (flat_from (g.P.Parts.setup l.parts) (g.P.Parts.layout l.parts) (begins l.item l.rank (take l.place-index l.places)) f);
-  space : HasRoom (g.P.Parts.span_count l.parts) (g.P.Kernels.locals l.parts) l.room;
+  space : HasRoom (g.P.Parts.span_count l.parts) (g.P.Kernels.locals l.parts) (length (g.P.Parts.tables l.parts).constants) l.room;
   mail : l.machine.mail.left ≡ l.initial.machine.mail.left;
   frames : l.machine.frames.left + l.place-index ≡ l.initial.machine.frames.left;
 }

@@ -1,5 +1,5 @@
 use Rattle.std.proofs.Common.{◌≡◌, ◌+◌, ◌++◌, take, drop, length}
-use Rattle.rank_state.specs.Ordered.{InLength, values_at}
+use Rattle.rank_state.specs.Indices.{InLength, values_at}
 use Rattle.rank_exec.proofs.owned.gather_values.Given as goal
 
 abbrev pub invariant-loop-i : goal.invariant-loop-i

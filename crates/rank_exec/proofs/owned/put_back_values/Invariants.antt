@@ -1,5 +1,6 @@
 use Rattle.std.proofs.Common.{◌≡◌, drop, length}
-use Rattle.rank_state.specs.Ordered.{InLength, put_values}
+use Rattle.rank_state.specs.Ordered.{put_values}
+use Rattle.rank_state.specs.Indices.{InLength}
 use Rattle.rank_exec.proofs.owned.put_back_values.Given as goal
 
 abbrev pub invariant-loop-i : goal.invariant-loop-i

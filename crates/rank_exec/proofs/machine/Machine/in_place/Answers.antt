@@ -1,4 +1,4 @@
-use Rattle.std.proofs.Common.{◌≡◌, ℤ, ◌<◌, ◌++◌, ◌∙◌, ap, ap₂, sym, subst, length, set, take, List, Option}
+use Rattle.std.proofs.Common.{◌≡◌, ℤ, ◌<◌, ◌++◌, ◌∙◌, ap, ap₂, sym, subst, length, set, List, Option}
 use Rattle.std.specs.Vec.{with_items}
 use Rattle.kernel_types.specs.declared.faults.KernelFault.{KernelFault}
 use Rattle.schedule_model.specs.Sequential.{Stop}
@@ -25,11 +25,10 @@ returns g c =
     let kept : length c.run_through-fault.new.memory ≡ length c.index_mut.result.now.items = c.run_through-fault.auto.memory ∙ ap length c.deref_mut.ensures.value in
     let stays : length c.run_through-fault.new.partials ≡ length c.index_mut-2.result.now.items = c.run_through-fault.auto.partials ∙ ap length c.deref_mut-2.ensures.value in
     let viewed : State KernelFault = record { memories = lists inside.memories.items; variables = inside.variables.items; partials = lists inside.partials.items; frames = inside.frames; mail = inside.mail; fault = stop_in inside.fault; output = inside.output.items } in
-    let ran : Core KernelFault = g.C.Kernels.core c.args.core.now c.args.item c.args.original (take c.args.constants inside.variables.items) (gathered (row (lists inside.memories.items) c.args.rank) c.args.spans.now ++ firsts inside.variables.items c.args.scalars.now) in
-    let same : g.C.Kernels.core c.args.core.now c.args.item c.args.original (take c.args.constants c.deref.result.now) (gathered c.deref_mut.result.now c.args.spans.now ++ firsts c.deref-2.result.now c.args.scalars.now)
-    ≡ g.C.Kernels.core c.args.core.now c.args.item c.args.original (take c.args.constants inside.variables.items) (gathered (row (lists inside.memories.items) c.args.rank) c.args.spans.now ++ firsts inside.variables.items c.args.scalars.now) =
-    ap (λ v. g.C.Kernels.core c.args.core.now c.args.item c.args.original (take c.args.constants v) (gathered c.deref_mut.result.now c.args.spans.now ++ firsts c.deref-2.result.now c.args.scalars.now)) c.deref.ensures.value
-    ∙ ap₂ (λ m v. g.C.Kernels.core c.args.core.now c.args.item c.args.original (take c.args.constants inside.variables.items) (gathered m c.args.spans.now ++ firsts v c.args.scalars.now)) here c.deref-2.ensures.value in
+    let ran : Core KernelFault = g.C.Kernels.core c.args.core.now c.args.item c.args.original c.args.constants.now (gathered (row (lists inside.memories.items) c.args.rank) c.args.spans.now ++ firsts inside.variables.items c.args.scalars.now) in
+    let same : g.C.Kernels.core c.args.core.now c.args.item c.args.original c.args.constants.now (gathered c.deref_mut.result.now c.args.spans.now ++ firsts c.deref.result.now c.args.scalars.now)
+    ≡ g.C.Kernels.core c.args.core.now c.args.item c.args.original c.args.constants.now (gathered (row (lists inside.memories.items) c.args.rank) c.args.spans.now ++ firsts inside.variables.items c.args.scalars.now) =
+    ap₂ (λ m v. g.C.Kernels.core c.args.core.now c.args.item c.args.original c.args.constants.now (gathered m c.args.spans.now ++ firsts v c.args.scalars.now)) here c.deref.ensures.value in
     let memories = row_put inside.memories.items c.args.rank c.index_mut.result.now c.run_through-fault.new.memory (closed c.args.spans.now (pane_after c.args.item ran) (row (lists inside.memories.items) c.args.rank)) kept
     (c.run_through-fault.ensures.memory ∙ ap₂ (λ r m. closed c.args.spans.now (pane_after c.args.item r) m) same here) in
     let partials = row_put inside.partials.items c.args.rank c.index_mut-2.result.now c.run_through-fault.new.partials (merged_pane c.args.own (total c.args.spans.now) c.args.scalars.now (pane_after c.args.item ran) (row (lists inside.partials.items) c.args.rank)) stays
@@ -37,6 +36,6 @@ returns g c =
     let fault : stop_in c.least-self-inside.result ≡ noted c.args.item c.args.original (fault_of ran) (stop_in inside.fault) =
     c.least-self-inside.ensures ∙ ap (λ x. noted c.args.item c.args.original x (stop_in inside.fault)) (c.run_through-fault.ensures.fault ∙ ap fault_of same) in
     subst (λ (s : State KernelFault). of_parts viewed (lists (set inside.memories.items c.args.rank (with_items c.index_mut.result.now c.run_through-fault.new.memory))) (lists (set inside.partials.items c.args.rank (with_items c.index_mut-2.result.now c.run_through-fault.new.partials))) (stop_in c.least-self-inside.result)
-    ≡ passed c.args.own c.args.item c.args.rank c.args.original c.args.spans.now c.args.scalars.now (g.C.Kernels.core c.args.core.now c.args.item c.args.original (take c.args.constants s.variables) (windows_of s c.args.rank c.args.spans.now c.args.scalars.now)) s) c.self.view_is
+    ≡ passed c.args.own c.args.item c.args.rank c.args.original c.args.spans.now c.args.scalars.now (g.C.Kernels.core c.args.core.now c.args.item c.args.original c.args.constants.now (windows_of s c.args.rank c.args.spans.now c.args.scalars.now)) s) c.self.view_is
     (ap₂ (λ ms ps. of_parts viewed ms ps (stop_in c.least-self-inside.result)) memories partials
     ∙ ap (of_parts viewed (set (lists inside.memories.items) c.args.rank (closed c.args.spans.now (pane_after c.args.item ran) (row (lists inside.memories.items) c.args.rank))) (set (lists inside.partials.items) c.args.rank (merged_pane c.args.own (total c.args.spans.now) c.args.scalars.now (pane_after c.args.item ran) (row (lists inside.partials.items) c.args.rank)))) fault)
