@@ -7,8 +7,8 @@ use crate::parts::Parts;
 use rank_state::{Owned, Span};
 use std::alloc::{AllocError, Global};
 
-/// Room for the spans of an element or a message, for the locals of a kernel, and for the values of all constants. What stands there means nothing
-/// between two steps.
+/// Room for the spans of an element or a message, for the locals of a kernel, and for the values of all constants. What
+/// stands there means nothing between two steps.
 #[derive(Drop)]
 pub struct Room {
     pub spans: Vec<Span>,
