@@ -14,7 +14,9 @@ pub fn conflicting_places_are_ordered()
 /// original numbers.
 pub fn common_targets_conflict()
     ensures { CommonTargetsConflict }
-{}
+{
+    originals_are_distinct();
+}
 
 /// Of two elements that a rank executes and that reduce into one element of a dat, one goes before the other by an
 /// outline with these colours. Elements have their original numbers.
