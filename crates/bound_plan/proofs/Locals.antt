@@ -10,7 +10,6 @@ use Rattle.halo_lists.specs.Halo.{owns, executes, has_copy, is_core}
 use Rattle.local_mesh.specs.declared.types.LocalSet.{LocalSet}
 use Rattle.local_mesh.specs.declared.types.RankMesh.{RankMesh}
 use Rattle.local_mesh.specs.LocalMesh.{IsLocalSet, IsRankMesh, originals_in, executed_in}
-use Rattle.local_mesh.specs.Numbers as numbers
 use Rattle.loop_plan.specs.Pairs.{sets_of, own_in, core_in}
 use Rattle.loop_plan.specs.Distributed.{IsDistributed}
 use Rattle.bound_plan.specs.Places.{originals, original_at, local_at}
@@ -82,7 +81,7 @@ module _ (laws : NumberLaws) (g : MeshValue) (o : Owners) (n : Perms) (meshes : 
 
     -- what the rank owns stands first
     pub owned : (k : ℕ) → k < length (originals meshes r s) → (k < own_in (sets_of meshes r) s) ↔ (owns o s (original_at meshes r s k) r ≡ true)
-    unfolding own_in numbers.own_in
+    unfolding own_in
     owned = subst
         (λ z. (k : ℕ) → k < length (originals_in z s) → (k < own_in z s) ↔ (owns o s (get_or (originals_in z s) k 0) r ≡ true))
         sets_are
