@@ -1,0 +1,13 @@
+// Halos and local meshes are there.
+ghost use Rattle.plan_exists.specs.Laws.{DistributionsExist};
+
+use halo_lists::executed_targets_are_copies;
+use mesh_decl::declarations_hold;
+
+/// A mesh has halos and local meshes for any owners and new numbers of its elements.
+pub fn some_distribution()
+    ensures { DistributionsExist }
+{
+    executed_targets_are_copies();
+    declarations_hold();
+}
