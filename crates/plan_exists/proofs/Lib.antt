@@ -5,3 +5,8 @@ pub mod Sets
 pub mod Found
 pub mod RankMeshes
 pub mod Distributed
+pub mod Tests
+pub mod Free
+pub mod Coloured
+pub mod LoopPlans
+pub mod Planned

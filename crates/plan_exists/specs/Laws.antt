@@ -1,11 +1,17 @@
 -- That there is what words ask for.
-use Rattle.std.specs.Prelude.{ℕ, ◌<◌, ◌^◌, length}
+use Rattle.std.specs.Prelude.{◌≡◌, ℕ, ◌<◌, ◌^◌, List, length}
 use Rattle.mesh_decl.specs.declared.owners.Owners.{Owners}
 use Rattle.mesh_decl.specs.declared.owners.Perms.{Perms}
 use Rattle.mesh_decl.specs.Mesh.{MeshValue, IsMesh, map_count, map_targets}
 use Rattle.mesh_decl.specs.Owners.{AreOwners, ArePerms}
 use Rattle.distribute.specs.declared.types.Distribution.{Distribution}
 use Rattle.distribute.specs.Distributions.{IsDistribution}
+use Rattle.local_mesh.specs.declared.types.RankMesh.{RankMesh}
+use Rattle.bound_program.specs.Values.{BoundValue}
+use Rattle.bound_program.specs.Fits.{Fits}
+use Rattle.loop_plan.specs.Distributed.{IsDistributed}
+use Rattle.loop_plan.specs.Values.{PlanValue}
+use Rattle.loop_plan.specs.Proper.{Proper, HasLeastColours}
 
 -- the lists of targets are as short as those of memory
 abbrev pub FitsMemory : MeshValue → Type 0
@@ -20,3 +26,12 @@ DistributionsExist =
     → AreOwners g o
     → ArePerms g p
     → (d : Distribution) × IsDistribution g o p d
+
+-- a program that fits has a plan with blocks of any size, on the local meshes of any owners and new numbers
+abbrev pub PlansExist : Type 0
+PlansExist =
+    (b : BoundValue) (o : Owners) (p : Perms) (meshes : List RankMesh) (size : ℕ)
+    → Fits b
+    → IsDistributed b.mesh o p meshes
+    → 0 < size
+    → (l : PlanValue) × (l.block ≡ size) × Proper b meshes l × HasLeastColours b meshes l

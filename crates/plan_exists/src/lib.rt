@@ -5,5 +5,7 @@
 #![tactic(auto)]
 
 mod distributions;
+mod plans;
 
 pub use distributions::some_distribution;
+pub use plans::some_plan;
