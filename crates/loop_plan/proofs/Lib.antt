@@ -20,3 +20,4 @@ pub mod PlanLines
 pub mod PlanWriting
 pub mod AlikeMeshes
 pub mod OnePlan
+mod OneStepCount

@@ -24,7 +24,7 @@ ghost use Rattle.loop_plan.specs.Exports.{exports_in, is_some_exported, HaveExpo
 ghost use Rattle.loop_plan.specs.Counted.{counted_steps};
 ghost use Rattle.loop_plan.specs.Counts.{Counts};
 ghost use Rattle.loop_plan.specs.Spaced.{spaced};
-ghost use Rattle.loop_plan.specs.OnePlan.{PlanTextsAreOne};
+ghost use Rattle.loop_plan.specs.OnePlan.{PlanTextsAreOne, StepCountsAreOne};
 
 /// The standard order with groups of any size has two steps for each message and for each element that
 /// a rank runs, and one for each join.
@@ -78,4 +78,9 @@ pub fn exports_are_messages()
 /// one text and one number of steps.
 pub fn one_plan_text()
     ensures { PlanTextsAreOne }
+{}
+
+/// A program has one number of steps on local meshes that are the same as lists.
+pub fn one_step_count()
+    ensures { StepCountsAreOne }
 {}

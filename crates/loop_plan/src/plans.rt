@@ -75,6 +75,7 @@ pub fn plan(
     ensures proper { IfOk result (λ p. Proper (bound_of bound.now) ranks.now (plan_of p)) }
     ensures colours { IfOk result (λ p. HasLeastColours (bound_of bound.now) ranks.now (plan_of p)) }
     ensures block { IfOk result (λ p. p.block ≡ block) }
+    ensures steps { IfOk result (λ p. p.steps ≡ program_steps (bound_of bound.now) ranks.now) }
     ensures few { IfOk result (λ p. p.steps ≤ max_steps) }
     ensures refused { IfErr result (λ e. Refuses (program_steps (bound_of bound.now) ranks.now) e) }
 {
