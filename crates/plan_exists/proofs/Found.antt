@@ -9,7 +9,7 @@ pub found : ℕ → List ℕ → ℕ
 found y [] = 0
 found y (x ∷ xs) = cond (nat_eq x y) 0 (suc (found y xs))
 
-found_at : (y : ℕ) (xs : List ℕ) (k : ℕ) → k < length xs → get_or xs k 0 ≡ y → (found y xs < length xs) × (get_or xs (found y xs) 0 ≡ y)
+pub found_at : (y : ℕ) (xs : List ℕ) (k : ℕ) → k < length xs → get_or xs k 0 ≡ y → (found y xs < length xs) × (get_or xs (found y xs) 0 ≡ y)
 unfolding found
 found_at y [] k l e = absurd (omega arith)
 found_at y (x ∷ xs) k l e = ⊎_elim

@@ -10,3 +10,7 @@ pub mod Free
 pub mod Coloured
 pub mod LoopPlans
 pub mod Planned
+pub mod Picked
+pub mod Turns
+pub mod Named
+pub mod Numbered

@@ -21,14 +21,14 @@ pub and_holds : (a b : Bool) → a ≡ true → b ≡ true → (a && b) ≡ true
 and_holds a b h k = ap (λ z. z && b) h ∙ k
 
 -- what passes
-any_in : {X : Type 0} (test : X → Bool) (xs : List X) → list_any test xs ≡ true → (x : X) × Contains xs x × (test x ≡ true)
+pub any_in : {X : Type 0} (test : X → Bool) (xs : List X) → list_any test xs ≡ true → (x : X) × Contains xs x × (test x ≡ true)
 any_in test [] h = let bad : false ≡ true = h in cc
 any_in test (x ∷ xs) h = ⊎_elim
     (λ (e : test x ≡ true). (x, (0, omega arith, refl), e))
     (λ (e : list_any test xs ≡ true). let w = any_in test xs e in (w.0, (suc w.1.0, (let l = w.1.1 in omega arith), w.1.2), w.2))
     (or_cases (test x) (list_any test xs) h)
 
-any_of : {X : Type 0} (test : X → Bool) (xs : List X) (x : X) → Contains xs x → test x ≡ true → list_any test xs ≡ true
+pub any_of : {X : Type 0} (test : X → Bool) (xs : List X) (x : X) → Contains xs x → test x ≡ true → list_any test xs ≡ true
 any_of test xs x c h = list_any_at test xs c.0 x c.1 (ap test c.2 ∙ h)
 
 -- ---- conflicts

@@ -1,10 +1,12 @@
 -- That there is what words ask for.
-use Rattle.std.specs.Prelude.{◌≡◌, ℕ, ◌<◌, ◌^◌, List, length}
+use Rattle.std.specs.Prelude.{◌≡◌, ℕ, ◌<◌, ◌^◌, List, length, Option, Result}
 use Rattle.mesh_decl.specs.declared.owners.Owners.{Owners}
 use Rattle.mesh_decl.specs.declared.owners.Perms.{Perms}
 use Rattle.mesh_decl.specs.Mesh.{MeshValue, IsMesh, map_count, map_targets}
 use Rattle.mesh_decl.specs.Owners.{AreOwners, ArePerms}
 use Rattle.distribute.specs.declared.types.Distribution.{Distribution}
+use Rattle.distribute.specs.Parts.{NumbersRefusal}
+use Rattle.distribute.specs.Judgements.{NumbersAre}
 use Rattle.distribute.specs.Distributions.{IsDistribution}
 use Rattle.local_mesh.specs.declared.types.RankMesh.{RankMesh}
 use Rattle.bound_program.specs.Values.{BoundValue}
@@ -12,6 +14,10 @@ use Rattle.bound_program.specs.Fits.{Fits}
 use Rattle.loop_plan.specs.Distributed.{IsDistributed}
 use Rattle.loop_plan.specs.Values.{PlanValue}
 use Rattle.loop_plan.specs.Proper.{Proper, HasLeastColours}
+
+-- what is asked for new numbers of a mesh has an outcome
+abbrev pub NumbersExist : Type 0
+NumbersExist = (g : MeshValue) (name : Option (List ℕ)) → IsMesh g → (r : Result Perms NumbersRefusal) × NumbersAre g name r
 
 -- the lists of targets are as short as those of memory
 abbrev pub FitsMemory : MeshValue → Type 0

@@ -5,7 +5,9 @@
 #![tactic(auto)]
 
 mod distributions;
+mod numbers;
 mod plans;
 
 pub use distributions::some_distribution;
+pub use numbers::some_numbers;
 pub use plans::some_plan;
