@@ -14,3 +14,12 @@ pub mod Picked
 pub mod Turns
 pub mod Named
 pub mod Numbered
+pub mod Blocks
+pub mod Firsts
+pub mod NextSets
+pub mod Derived
+pub mod Grown
+pub mod Sorted
+pub mod Cut
+pub mod Halved
+pub mod Owned

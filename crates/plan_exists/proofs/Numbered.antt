@@ -25,14 +25,14 @@ use Rattle.plan_exists.proofs.Turns.{IsWhole, whole, rises_by}
 -- ---- lists of numbers for each set
 
 -- 0, 1, .. below n
-counting : ℕ → List ℕ
+pub counting : ℕ → List ℕ
 counting n = table n (λ x. x)
 
-kept : (n x : ℕ) → x < n → get_or (counting n) x 0 ≡ x
+pub kept : (n x : ℕ) → x < n → get_or (counting n) x 0 ≡ x
 unfolding counting
 kept n x l = table_at n (λ x. x) x 0 l
 
-counting_is : (n : ℕ) → IsNumbering n (counting n)
+pub counting_is : (n : ℕ) → IsNumbering n (counting n)
 unfolding counting
 counting_is n = kept_numbers n (counting n) (length_table n (λ x. x)) (kept n)
 

@@ -7,7 +7,7 @@ abbrev pub By : (ℕ → ℕ) → (ℕ → ℕ) → ℕ → ℕ → Type 0
 By f key x y = (f x < f y) ⊎ ((f x ≡ f y) × (key x ≤ key y))
 
 module _ (f key : ℕ → ℕ) where
-  by_total : (x y : ℕ) → By f key x y ⊎ By f key y x
+  pub by_total : (x y : ℕ) → By f key x y ⊎ By f key y x
   by_total x y = ⊎_elim
       (λ (l : f x < f y). inl (inl l))
       (λ (m : f y ≤ f x). ⊎_elim
@@ -19,7 +19,7 @@ module _ (f key : ℕ → ℕ) where
       (cases_eq (f x) (f y)))
       (cases_lt (f x) (f y))
 
-  by_trans : (x y z : ℕ) → By f key x y → By f key y z → By f key x z
+  pub by_trans : (x y z : ℕ) → By f key x y → By f key y z → By f key x z
   by_trans x y z (inl a) (inl b) = inl (omega arith)
   by_trans x y z (inl a) (inr b) = inl (let e = b.0 in omega arith)
   by_trans x y z (inr a) (inl b) = inl (let e = a.0 in omega arith)

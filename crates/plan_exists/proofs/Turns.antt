@@ -13,14 +13,14 @@ use Rattle.plan_exists.proofs.Picked.{By, IsPicked, picked}
 -- ---- what is taken
 
 -- y stands in the list
-has : List ℕ → ℕ → Bool
+pub has : List ℕ → ℕ → Bool
 has xs y = list_any (nat_eq y) xs
 
-has_holds : (xs : List ℕ) (y : ℕ) → has xs y ≡ true → Contains xs y
+pub has_holds : (xs : List ℕ) (y : ℕ) → has xs y ≡ true → Contains xs y
 unfolding has
 has_holds xs y h = let w = any_in (nat_eq y) xs h in subst (Contains xs) (sym (eqb-true y w.0 w.2)) w.1
 
-has_found : (xs : List ℕ) (y : ℕ) → Contains xs y → has xs y ≡ true
+pub has_found : (xs : List ℕ) (y : ℕ) → Contains xs y → has xs y ≡ true
 unfolding has
 has_found xs y c = any_of (nat_eq y) xs y c (eq-eqb y y refl)
 

@@ -1,12 +1,12 @@
 -- That there is what words ask for.
-use Rattle.std.specs.Prelude.{◌≡◌, ℕ, ◌<◌, ◌^◌, List, length, Option, Result}
+use Rattle.std.specs.Prelude.{◌≡◌, ℕ, ◌<◌, ◌≤◌, ◌^◌, List, length, Option, Result}
 use Rattle.mesh_decl.specs.declared.owners.Owners.{Owners}
 use Rattle.mesh_decl.specs.declared.owners.Perms.{Perms}
 use Rattle.mesh_decl.specs.Mesh.{MeshValue, IsMesh, map_count, map_targets}
 use Rattle.mesh_decl.specs.Owners.{AreOwners, ArePerms}
 use Rattle.distribute.specs.declared.types.Distribution.{Distribution}
-use Rattle.distribute.specs.Parts.{NumbersRefusal}
-use Rattle.distribute.specs.Judgements.{NumbersAre}
+use Rattle.distribute.specs.Parts.{Parts, NumbersRefusal, OwnersRefusal}
+use Rattle.distribute.specs.Judgements.{NumbersAre, OwnersAre}
 use Rattle.distribute.specs.Distributions.{IsDistribution}
 use Rattle.local_mesh.specs.declared.types.RankMesh.{RankMesh}
 use Rattle.bound_program.specs.Values.{BoundValue}
@@ -18,6 +18,15 @@ use Rattle.loop_plan.specs.Proper.{Proper, HasLeastColours}
 -- what is asked for new numbers of a mesh has an outcome
 abbrev pub NumbersExist : Type 0
 NumbersExist = (g : MeshValue) (name : Option (List ℕ)) → IsMesh g → (r : Result Perms NumbersRefusal) × NumbersAre g name r
+
+-- what is asked for owners of a mesh, among 1 to 64 ranks, has an outcome
+abbrev pub OwnersExist : Type 0
+OwnersExist =
+    (g : MeshValue) (ranks : ℕ) (parts : Parts)
+    → IsMesh g
+    → 0 < ranks
+    → ranks ≤ 64
+    → (r : Result Owners OwnersRefusal) × OwnersAre g ranks parts r
 
 -- the lists of targets are as short as those of memory
 abbrev pub FitsMemory : MeshValue → Type 0

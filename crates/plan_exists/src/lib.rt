@@ -6,8 +6,10 @@
 
 mod distributions;
 mod numbers;
+mod owners;
 mod plans;
 
 pub use distributions::some_distribution;
 pub use numbers::some_numbers;
+pub use owners::some_owners;
 pub use plans::some_plan;

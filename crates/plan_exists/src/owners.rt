@@ -1,0 +1,13 @@
+// Owners are there.
+ghost use Rattle.plan_exists.specs.Laws.{OwnersExist};
+
+use mesh_decl::declarations_hold;
+use part_text::one_outcome;
+
+/// Whatever is asked for the owners of a mesh among 1 to 64 ranks, there are such owners, or the refusal.
+pub fn some_owners()
+    ensures { OwnersExist }
+{
+    declarations_hold();
+    one_outcome();
+}
