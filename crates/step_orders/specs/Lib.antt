@@ -1,0 +1,3 @@
+pub mod Runs
+pub mod ElementRuns
+pub mod Left

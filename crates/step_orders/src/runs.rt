@@ -1,0 +1,71 @@
+// Runs of elements.
+ghost use Rattle.std.specs.Prelude.{◌≡◌, ◌<◌, ◌≤◌, ◌-◌, [], length, get_or, take, drop};
+ghost use Rattle.step_orders.specs.Runs.{cut, start_of, AreEnds};
+
+use std::marker::Model;
+
+/// Elements in runs, one run after another. `ends` has by run the number of elements in it and before it.
+#[derive(Debug, Drop)]
+pub struct Runs {
+    elements: Vec<u32>,
+    ends: Vec<usize>,
+}
+
+impl Model for Runs {
+    ghost use Rattle.std.specs.Prelude.{List, ℕ};
+    ghost use Rattle.step_orders.specs.Runs.{cut, AreEnds};
+
+    ghost Value = { List (List ℕ) };
+
+    ghost view = { λ s. cut 0 s.elements.items s.ends.items };
+
+    ghost invariant = { λ s. AreEnds 0 s.elements.items s.ends.items };
+}
+
+// Where a run starts.
+fn start(ends: &[usize], run: usize) -> usize
+    requires { run < length ends.now }
+    ensures { result ≡ start_of 0 ends.now run }
+{
+    if run == 0 {
+        return 0;
+    }
+    ends[run - 1]
+}
+
+// The elements from one place up to another.
+fn between(elements: &[u32], from: usize, to: usize) -> &[u32]
+    requires order { from ≤ to }
+    requires within { to ≤ length elements.now }
+    ensures { result.now ≡ take (to - from) (drop from elements.now) }
+{
+    &elements[from..to]
+}
+
+// A run of elements that are cut at these places.
+fn part<'a>(elements: &'a [u32], ends: &[usize], run: usize) -> &'a [u32]
+    requires run { run < length ends.now }
+    requires ends { AreEnds 0 elements.now ends.now }
+    ensures { result.now ≡ get_or (cut 0 elements.now ends.now) run [] }
+{
+    let from = start(ends, run);
+    let to = ends[run];
+    between(elements, from, to)
+}
+
+impl Runs {
+    /// How many runs there are.
+    pub fn len(&self) -> usize
+        ensures { result ≡ length self.now }
+    {
+        self.ends.len()
+    }
+
+    /// The elements of a run, in order.
+    pub fn run(&self, run: usize) -> &[u32]
+        requires { run < length self.now }
+        ensures { result.now ≡ get_or self.now run [] }
+    {
+        part(&self.elements, &self.ends, run)
+    }
+}
