@@ -1,13 +1,15 @@
 //! The standard order of a plan's steps, one step after another, with no list of them.
 #![tactic(auto)]
 
+mod list;
 mod runs;
 mod shape;
-mod standard;
+mod standard_order;
 mod stream;
 mod walks;
 
+pub use list::{list_of, standard};
 pub use runs::Runs;
 pub use shape::Shape;
-pub use standard::Standard;
+pub use standard_order::Standard;
 pub use stream::{Listed, Steps};

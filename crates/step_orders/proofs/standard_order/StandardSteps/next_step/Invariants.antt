@@ -1,6 +1,6 @@
 use Rattle.std.proofs.Common.{◌≡◌, ◌-◌}
 use Rattle.step_orders.specs.Left.{standard_left}
-use Rattle.step_orders.proofs.standard.StandardSteps.next_step.Given as goal
+use Rattle.step_orders.proofs.standard_order.StandardSteps.next_step.Given as goal
 
 abbrev pub invariant-loop-self : goal.invariant-loop-self
 invariant-loop-self g l = record {

@@ -1,7 +1,7 @@
 use Rattle.std.proofs.Common.{◌∙◌, sym, arith, ℕ}
 use Rattle.schedule_steps.specs.Outline.{Outline}
 use Rattle.step_orders.proofs.Whole.{join_head, item_over}
-use Rattle.step_orders.proofs.standard.StandardSteps.next_step.Goals as goal
+use Rattle.step_orders.proofs.standard_order.StandardSteps.next_step.Goals as goal
 
 pub returns-then-not-is_free-clause-some : goal.returns-then-not-is_free-clause-some
 returns-then-not-is_free-clause-some g c =

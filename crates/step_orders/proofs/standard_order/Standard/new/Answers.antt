@@ -4,7 +4,7 @@ use Rattle.schedule_steps.specs.Standard.{item_steps}
 use Rattle.step_orders.specs.Left.{onward}
 use Rattle.step_orders.proofs.Places.{upward_all}
 use Rattle.step_orders.proofs.Whole.{all_left, upward_below}
-use Rattle.step_orders.proofs.standard.Standard.new.Goals as goal
+use Rattle.step_orders.proofs.standard_order.Standard.new.Goals as goal
 
 pub returns : goal.returns
 returns g c =
