@@ -1,0 +1,2 @@
+pub mod SeenSoFar
+pub mod Putting
