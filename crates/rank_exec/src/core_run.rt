@@ -10,6 +10,9 @@ use std::marker::Sync;
 
 /// Runs the kernels of loops on windows: the cells of an element's different targets, one target after another.
 pub trait Kernels: Sync {
+    /// What an instance asks of its values; the laws are of these values.
+    ghost sound: { Self → Type 0 };
+
     /// From item, element, constants and windows: the fault, or the windows after the run.
     ghost core: { Self → ℕ → ℕ → List ℤ → List ℤ → Core KernelFault };
 
@@ -41,5 +44,6 @@ pub trait Kernels: Sync {
         ensures { ran_of windows.new result ≡ core self.now item element constants.now windows.old };
 
     /// A law: no window grows or shrinks.
-    ghost same_length: { (c : Self) (k e : ℕ) (cs ws us : List ℤ) → core c k e cs ws ≡ Leaves us → length us ≡ length ws };
+    ghost same_length: { (c : Self) → sound c
+        → (k e : ℕ) (cs ws us : List ℤ) → core c k e cs ws ≡ Leaves us → length us ≡ length ws };
 }

@@ -33,6 +33,7 @@ pub fn take<P: Items>(
     room: &mut Room,
     step: Step,
 ) -> Result<Option<Stop>, OutOfMemory>
+    requires sound { P.sound parts.now }
     requires space { HasRoom (P.span_count parts.now) (P.locals parts.now) (length (P.tables parts.now).constants) room.old }
     requires planned { IsStep (by_place (P.setup parts.now) (P.layout parts.now)) step }
     requires shows { (f : Flat KernelFault) × Shows (P.setup parts.now) (P.layout parts.now) (P.tables parts.now) machine.old f }
@@ -74,6 +75,7 @@ pub fn run<P: Items, S: Steps>(
     room: &mut Room,
     steps: &mut S,
 ) -> Result<Option<Stop>, OutOfMemory>
+    requires sound { P.sound parts.now }
     requires space { HasRoom (P.span_count parts.now) (P.locals parts.now) (length (P.tables parts.now).constants) room.old }
     requires accepted { Accepted (by_place (P.setup parts.now) (P.layout parts.now)) (S.left steps.old) }
     requires starts { (f : Flat KernelFault) × StartsFlat (P.setup parts.now) (P.layout parts.now) f
@@ -109,6 +111,7 @@ pub fn drive<P: Items, S: Steps>(
     room: &mut Room,
     steps: &mut S,
 ) -> Result<Option<Stop>, OutOfMemory>
+    requires sound { P.sound parts.now }
     requires space { HasRoom (P.span_count parts.now) (P.locals parts.now) (length (P.tables parts.now).constants) room.old }
     requires lawful { Lawful (P.setup parts.now) }
     requires coloured { Coloured (P.setup parts.now) }

@@ -30,6 +30,7 @@ pub fn begin_group<P: Parts>(
     rank: u32,
     places: &[u32],
 )
+    requires sound { P.sound parts.now }
     requires planned { Planned (by_place (P.setup parts.now) (P.layout parts.now)) item rank places.now }
     requires space { HasRoom (P.span_count parts.now) (P.locals parts.now) (length (P.tables parts.now).constants) room.old }
     requires shows { (f : Flat KernelFault) × Shows (P.setup parts.now) (P.layout parts.now) (P.tables parts.now) machine.old f }
@@ -109,6 +110,7 @@ pub fn run_begins<P: Parts, S: Steps>(
     rank: u32,
     place: u32,
 ) -> Result<Option<Step>, OutOfMemory>
+    requires sound { P.sound parts.now }
     requires space { HasRoom (P.span_count parts.now) (P.locals parts.now) (length (P.tables parts.now).constants) room.old }
     requires shows { (f : Flat KernelFault) × Shows (P.setup parts.now) (P.layout parts.now) (P.tables parts.now) machine.old f }
     requires ready { GroupReady (by_place (P.setup parts.now) (P.layout parts.now)) item rank

@@ -30,6 +30,7 @@ fn push_element<P: Items>(
     element: u32,
     values: &mut Vec<i32>,
 ) -> Result<(), OutOfMemory>
+    requires sound { P.sound parts.now }
     requires dat { dat < dat_count (P.program parts.now).mesh }
     requires element { element < set_size (P.program parts.now).mesh (dat_set (P.program parts.now).mesh dat) }
     requires shows { (f : Flat KernelFault) × Shows (P.setup parts.now) (P.layout parts.now) (P.tables parts.now) machine.now f }
@@ -47,6 +48,7 @@ fn dat_values<P: Items>(
     parts: &P,
     dat: u32,
 ) -> Result<Vec<i32>, OutOfMemory>
+    requires sound { P.sound parts.now }
     requires dat { dat < dat_count (P.program parts.now).mesh }
     requires shows { (f : Flat KernelFault) × Shows (P.setup parts.now) (P.layout parts.now) (P.tables parts.now) machine.now f }
     ensures values { IfOk result
@@ -74,6 +76,7 @@ fn run_print<P: Items>(
     dat: u32,
     file: &Text,
 ) -> Result<(), OutOfMemory>
+    requires sound { P.sound parts.now }
     requires is { IsPrint (P.program parts.now) item dat file.now }
     requires shows { (f : Flat KernelFault) × Shows (P.setup parts.now) (P.layout parts.now) (P.tables parts.now) machine.old f }
     requires going { if_before item machine.old.fault ≡ None }
@@ -98,6 +101,7 @@ fn run_plain<P: Items>(
     item: u32,
     act: &Act,
 ) -> Result<Option<Stop>, OutOfMemory>
+    requires sound { P.sound parts.now }
     requires is { item_at (P.program parts.now) item ≡ HostItem (act_of act.now) }
     requires plain { (d : ℕ) (file : List ℕ) → act_of act.now ≢ Print d file }
     requires shows { (f : Flat KernelFault) × Shows (P.setup parts.now) (P.layout parts.now) (P.tables parts.now) machine.old f }
@@ -136,6 +140,7 @@ pub fn run_host<P: Items>(
     item: u32,
     act: &Act,
 ) -> Result<Option<Stop>, OutOfMemory>
+    requires sound { P.sound parts.now }
     requires is { item_at (P.program parts.now) item ≡ HostItem (act_of act.now) }
     requires shows { (f : Flat KernelFault) × Shows (P.setup parts.now) (P.layout parts.now) (P.tables parts.now) machine.old f }
     requires going { if_before item machine.old.fault ≡ None }

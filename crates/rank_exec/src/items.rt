@@ -27,16 +27,19 @@ pub trait Items: Parts {
 
     /// Where each variable begins among the cells of all variables.
     fn starts(&self) -> &[usize]
+        requires { Self.sound self.now }
         ensures { VarsBegin (program self.now).vars result.now };
 
     /// The cells into which the loop of a Reduce reduces.
     fn reductions(&self, item: u32) -> &[Scalar]
-        requires { (Self.setup self.now).program.kind item ≡ Reduce }
+        requires sound { Self.sound self.now }
+        requires kind { (Self.setup self.now).program.kind item ≡ Reduce }
         ensures { AreReduced (Self.setup self.now) (Self.layout self.now) (Self.tables self.now) item result.now };
 
     /// Puts down where the windows of an element of an Ordered loop stand in the buffers of their owners, and gives the
     /// numbers of the variables' cells behind them. `spans` is lent empty, with room for `most_spans`.
     fn owned_windows(&self, item: u32, element: u32, spans: &mut Vec<Owned>) -> &[usize]
+        requires sound { Self.sound self.now }
         requires kind { (Self.setup self.now).program.kind item ≡ Ordered }
         requires element { element < elements (Self.setup self.now).program item }
         requires empty { spans.old.items ≡ [] }
@@ -46,6 +49,7 @@ pub trait Items: Parts {
 
     /// Where an element's values of a dat stand in the buffer of its owner; both by their numbers in the mesh.
     fn owners_copy(&self, dat: u32, element: u32) -> Owned
+        requires sound { Self.sound self.now }
         requires dat { dat < dat_count (program self.now).mesh }
         requires element { element < set_size (program self.now).mesh (dat_set (program self.now).mesh dat) }
         ensures { IsOwnersCopy (program self.now) (Self.setup self.now) (Self.layout self.now) dat element result };
@@ -54,9 +58,9 @@ pub trait Items: Parts {
     ghost program_is: { (c : Self) → (Self.setup c).program ≡ program_of (program c) };
 
     /// A law: what every bound program keeps.
-    ghost program_fits: { (c : Self) → Fits (program c) };
+    ghost program_fits: { (c : Self) → Self.sound c → Fits (program c) };
 
     /// A law: the layout has the variables' cells in the order of the program.
-    ghost variables_are: { (c : Self)
+    ghost variables_are: { (c : Self) → Self.sound c
         → variables_from (Self.layout c).variable_at 0 (Self.layout c).variables ≡ variable_cells (program c) };
 }

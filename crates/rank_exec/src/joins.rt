@@ -31,6 +31,7 @@ use std::alloc::Global;
 
 /// A Reduce, where no fault of an earlier item is kept.
 fn reduce<P: Items>(machine: &mut Machine, parts: &P, item: u32)
+    requires sound { P.sound parts.now }
     requires kind { (P.setup parts.now).program.kind item ≡ Reduce }
     requires shows { (f : Flat KernelFault) × Shows (P.setup parts.now) (P.layout parts.now) (P.tables parts.now) machine.old f }
     requires going { if_before item machine.old.fault ≡ None }
@@ -56,6 +57,7 @@ fn run_one_on<P: Items>(
     constants: &[i32],
     locals: &mut [i32],
 ) -> Option<KernelFault>
+    requires sound { P.sound parts.now }
     requires kind { (P.setup parts.now).program.kind item ≡ Ordered }
     requires element { element < elements (P.setup parts.now).program item }
     requires are { AreOwned (P.setup parts.now) (P.layout parts.now) (P.tables parts.now) item element spans.now indices.now }
@@ -81,6 +83,7 @@ fn run_one<P: Items>(
     item: u32,
     element: u32,
 ) -> Option<KernelFault>
+    requires sound { P.sound parts.now }
     requires kind { (P.setup parts.now).program.kind item ≡ Ordered }
     requires element { element < elements (P.setup parts.now).program item }
     requires space { HasRoom (P.span_count parts.now) (P.locals parts.now) (length (P.tables parts.now).constants) room.old }
@@ -105,6 +108,7 @@ fn run_one<P: Items>(
 
 // How many elements an Ordered loop has.
 fn elements_of<P: Items>(parts: &P, item: u32, site: u32) -> u32
+    requires sound { P.sound parts.now }
     requires site { item_at (P.program parts.now) item ≡ OrderedItem site }
     ensures { result ≡ elements (P.setup parts.now).program item }
 {
@@ -122,6 +126,7 @@ fn run_ordered<P: Items>(
     item: u32,
     site: u32,
 ) -> Option<Stop>
+    requires sound { P.sound parts.now }
     requires site { item_at (P.program parts.now) item ≡ OrderedItem site }
     requires space { HasRoom (P.span_count parts.now) (P.locals parts.now) (length (P.tables parts.now).constants) room.old }
     requires kind { (P.setup parts.now).program.kind item ≡ Ordered }
@@ -155,6 +160,7 @@ pub fn join<P: Items>(
     room: &mut Room,
     item: u32,
 ) -> Result<Option<Stop>, OutOfMemory>
+    requires sound { P.sound parts.now }
     requires space { HasRoom (P.span_count parts.now) (P.locals parts.now) (length (P.tables parts.now).constants) room.old }
     requires planned { IsStep (by_place (P.setup parts.now) (P.layout parts.now)) (Join item) }
     requires shows { (f : Flat KernelFault) × Shows (P.setup parts.now) (P.layout parts.now) (P.tables parts.now) machine.old f }

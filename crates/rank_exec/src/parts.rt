@@ -32,33 +32,40 @@ pub trait Parts: Kernels {
 
     /// Which of the variables' cells are the constants, by the numbers that kernels give these.
     fn constants(&self) -> &[usize]
+        requires { Self.sound self.now }
         ensures { result.now ≡ (tables self.now).constants };
 
     /// How the loops reduce into the partials, by slot.
     fn slots(&self) -> &[Operation]
+        requires { Self.sound self.now }
         ensures { AreSlots (setup self.now) (layout self.now) (tables self.now) result.now };
 
     /// How many places there may be on each rank.
     fn places(&self) -> &[usize]
+        requires { Self.sound self.now }
         ensures { ArePlaces (setup self.now) (layout self.now) (tables self.now) result.now };
 
     /// The most cells of an element's windows.
     fn stride(&self) -> usize
+        requires { Self.sound self.now }
         ensures { result ≡ (tables self.now).stride };
 
     /// The element at a place of the rank, in the set of the item's loop, by its original number.
     fn original(&self, item: u32, rank: u32, place: u32) -> u32
-        requires { IsStep (by_place (setup self.now) (layout self.now)) (Begin item rank place) }
+        requires sound { Self.sound self.now }
+        requires step { IsStep (by_place (setup self.now) (layout self.now)) (Begin item rank place) }
         ensures { result ≡ (layout self.now).original item rank place };
 
     /// Whether the rank owns the element at a place.
     fn owns(&self, item: u32, rank: u32, place: u32) -> bool
-        requires { IsStep (by_place (setup self.now) (layout self.now)) (Begin item rank place) }
+        requires sound { Self.sound self.now }
+        requires step { IsStep (by_place (setup self.now) (layout self.now)) (Begin item rank place) }
         ensures { result
             ≡ ((setup self.now).owner ((setup self.now).program.set item) ((layout self.now).original item rank place) == rank) };
 
     /// Puts down where the windows of a place's element stand in its rank's buffer, and gives the scalars behind them.
     fn windows(&self, item: u32, rank: u32, place: u32, spans: &mut Vec<Span>) -> &[Scalar]
+        requires sound { Self.sound self.now }
         requires step { IsStep (by_place (setup self.now) (layout self.now)) (Begin item rank place) }
         requires empty { spans.old.items ≡ [] }
         requires room { span_count self.now ≤ vec_capacity spans.old }
@@ -67,6 +74,7 @@ pub trait Parts: Kernels {
 
     /// Puts down where the cells of a message stand on its sender.
     fn exports(&self, item: u32, from: u32, to: u32, spans: &mut Vec<Span>)
+        requires sound { Self.sound self.now }
         requires step { IsStep (by_place (setup self.now) (layout self.now)) (Send item from to) }
         requires empty { spans.old.items ≡ [] }
         requires room { span_count self.now ≤ vec_capacity spans.old }
@@ -76,6 +84,7 @@ pub trait Parts: Kernels {
 
     /// Puts down where the cells of a message from `from` stand on its receiver.
     fn imports(&self, item: u32, rank: u32, from: u32, spans: &mut Vec<Span>)
+        requires sound { Self.sound self.now }
         requires step { IsStep (by_place (setup self.now) (layout self.now)) (Recv item rank from) }
         requires empty { spans.old.items ≡ [] }
         requires room { span_count self.now ≤ vec_capacity spans.old }
@@ -86,12 +95,12 @@ pub trait Parts: Kernels {
     ghost core_is: { (c : Self) (k e : ℕ) (cs ws : List ℤ) → Self.core c k e cs ws ≡ (layout c).core k e cs ws };
 
     /// A law: each loop's kernel runs for each element, on all constants and the cells of the element's windows.
-    ghost runs: { (c : Self) (k e : ℕ) → is_loop ((setup c).program.kind k) ≡ true → e < elements (setup c).program k
+    ghost runs: { (c : Self) → Self.sound c → (k e : ℕ) → is_loop ((setup c).program.kind k) ≡ true → e < elements (setup c).program k
         → Self.takes c k e (length (tables c).constants) (length ((layout c).cells k e)) };
 
-    ghost indexed: { (c : Self) → Indexed (setup c) (layout c) (tables c) };
+    ghost indexed: { (c : Self) → Self.sound c → Indexed (setup c) (layout c) (tables c) };
 
-    ghost fits: { (c : Self) → IsLayout (setup c) (layout c) };
+    ghost fits: { (c : Self) → Self.sound c → IsLayout (setup c) (layout c) };
 
-    ghost small: { (c : Self) → (tables c).stride < 2 ^ 60 };
+    ghost small: { (c : Self) → Self.sound c → (tables c).stride < 2 ^ 60 };
 }

@@ -20,6 +20,7 @@ pub struct Room {
 impl Room {
     /// As much room as any step needs.
     pub fn new<P: Parts>(alloc: Global, parts: &P) -> Result<Room, AllocError>
+        requires { P.sound parts.now }
         ensures { IfOk result (HasRoom (P.span_count parts.now) (P.locals parts.now) (length (P.tables parts.now).constants)) }
     {
         let most = parts.most_spans();

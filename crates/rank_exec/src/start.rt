@@ -21,6 +21,7 @@ pub fn start<P: Parts>(
     frames: usize,
     mail: usize,
 ) -> Result<Machine, AllocError>
+    requires sound { P.sound parts.now }
     requires first { AreFirst (P.setup parts.now) (P.layout parts.now) (P.tables parts.now)
         (map (λ v. v.items) memories.items) variables.items }
     requires small { frames * (P.tables parts.now).stride < 2 ^ 60 }

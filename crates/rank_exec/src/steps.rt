@@ -29,6 +29,7 @@ fn send_on<P: Parts>(
     to: u32,
     spans: &[Span],
 )
+    requires sound { P.sound parts.now }
     requires planned { IsStep (by_place (P.setup parts.now) (P.layout parts.now)) (Send item from to) }
     requires are { AreExports (P.setup parts.now) (P.layout parts.now) (P.tables parts.now) item from to from spans.now }
     requires some { 0 < total spans.now }
@@ -54,6 +55,7 @@ pub fn send<P: Parts>(
     from: u32,
     to: u32,
 )
+    requires sound { P.sound parts.now }
     requires planned { IsStep (by_place (P.setup parts.now) (P.layout parts.now)) (Send item from to) }
     requires space { HasRoom (P.span_count parts.now) (P.locals parts.now) (length (P.tables parts.now).constants) room.old }
     requires shows { (f : Flat KernelFault) × Shows (P.setup parts.now) (P.layout parts.now) (P.tables parts.now) machine.old f }
@@ -79,6 +81,7 @@ fn recv_on<P: Parts>(
     from: u32,
     spans: &[Span],
 )
+    requires sound { P.sound parts.now }
     requires planned { IsStep (by_place (P.setup parts.now) (P.layout parts.now)) (Recv item rank from) }
     requires are { AreImports (P.setup parts.now) (P.layout parts.now) (P.tables parts.now) item from rank spans.now }
     requires shows { (f : Flat KernelFault) × Shows (P.setup parts.now) (P.layout parts.now) (P.tables parts.now) machine.old f }
@@ -103,6 +106,7 @@ pub fn recv<P: Parts>(
     rank: u32,
     from: u32,
 )
+    requires sound { P.sound parts.now }
     requires planned { IsStep (by_place (P.setup parts.now) (P.layout parts.now)) (Recv item rank from) }
     requires space { HasRoom (P.span_count parts.now) (P.locals parts.now) (length (P.tables parts.now).constants) room.old }
     requires shows { (f : Flat KernelFault) × Shows (P.setup parts.now) (P.layout parts.now) (P.tables parts.now) machine.old f }
@@ -123,6 +127,7 @@ pub fn recv<P: Parts>(
 
 /// Copies the values of all constants.
 pub fn read_constants<P: Parts>(machine: &Machine, parts: &P, values: &mut Vec<i32>)
+    requires sound { P.sound parts.now }
     requires count { length values.old.items ≡ length (P.tables parts.now).constants }
     requires shows { (f : Flat KernelFault) × Shows (P.setup parts.now) (P.layout parts.now) (P.tables parts.now) machine.now f }
     ensures values { values.new.items ≡ values_at machine.now.variables (P.tables parts.now).constants }
@@ -143,6 +148,7 @@ fn begin_on<P: Parts>(
     constants: &[i32],
     locals: &mut [i32],
 )
+    requires sound { P.sound parts.now }
     requires planned { IsStep (by_place (P.setup parts.now) (P.layout parts.now)) (Begin item rank place) }
     requires are { AreWindows (P.setup parts.now) (P.layout parts.now) (P.tables parts.now) item rank place spans.now scalars.now }
     requires values { constants.now ≡ values_at machine.old.variables (P.tables parts.now).constants }
@@ -174,6 +180,7 @@ pub fn begin<P: Parts>(
     rank: u32,
     place: u32,
 )
+    requires sound { P.sound parts.now }
     requires planned { IsStep (by_place (P.setup parts.now) (P.layout parts.now)) (Begin item rank place) }
     requires space { HasRoom (P.span_count parts.now) (P.locals parts.now) (length (P.tables parts.now).constants) room.old }
     requires shows { (f : Flat KernelFault) × Shows (P.setup parts.now) (P.layout parts.now) (P.tables parts.now) machine.old f }
@@ -212,6 +219,7 @@ fn end_on<P: Parts>(
     spans: &[Span],
     scalars: &[Scalar],
 )
+    requires sound { P.sound parts.now }
     requires planned { IsStep (by_place (P.setup parts.now) (P.layout parts.now)) (End item rank place) }
     requires are { AreWindows (P.setup parts.now) (P.layout parts.now) (P.tables parts.now) item rank place spans.now scalars.now }
     requires shows { (f : Flat KernelFault) × Shows (P.setup parts.now) (P.layout parts.now) (P.tables parts.now) machine.old f }
@@ -237,6 +245,7 @@ pub fn end<P: Parts>(
     rank: u32,
     place: u32,
 )
+    requires sound { P.sound parts.now }
     requires planned { IsStep (by_place (P.setup parts.now) (P.layout parts.now)) (End item rank place) }
     requires space { HasRoom (P.span_count parts.now) (P.locals parts.now) (length (P.tables parts.now).constants) room.old }
     requires shows { (f : Flat KernelFault) × Shows (P.setup parts.now) (P.layout parts.now) (P.tables parts.now) machine.old f }
@@ -265,6 +274,7 @@ fn in_place_on<P: Parts>(
     constants: &[i32],
     locals: &mut [i32],
 )
+    requires sound { P.sound parts.now }
     requires planned { IsStep (by_place (P.setup parts.now) (P.layout parts.now)) (Begin item rank place) }
     requires are { AreWindows (P.setup parts.now) (P.layout parts.now) (P.tables parts.now) item rank place spans.now scalars.now }
     requires values { constants.now ≡ values_at machine.old.variables (P.tables parts.now).constants }
@@ -298,6 +308,7 @@ pub fn in_place<P: Parts>(
     rank: u32,
     place: u32,
 )
+    requires sound { P.sound parts.now }
     requires planned { IsStep (by_place (P.setup parts.now) (P.layout parts.now)) (Begin item rank place) }
     requires space { HasRoom (P.span_count parts.now) (P.locals parts.now) (length (P.tables parts.now).constants) room.old }
     requires shows { (f : Flat KernelFault) × Shows (P.setup parts.now) (P.layout parts.now) (P.tables parts.now) machine.old f }

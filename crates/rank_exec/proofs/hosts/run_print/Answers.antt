@@ -25,5 +25,5 @@ returns-clause-after g c =
     (variables_of (owned (g.P.Parts.setup c.args.parts.now) (g.P.Parts.layout c.args.parts.now) f)) (printed_dat c.args.file.now (g.P.Items.program c.args.parts.now).mesh c.args.dat (map (owned (g.P.Parts.setup c.args.parts.now) (g.P.Parts.layout c.args.parts.now) f) (dat_cells (g.P.Items.program c.args.parts.now) c.args.dat))) c.args.machine.now.variables
     (host_is (g.P.Items.program c.args.parts.now) (g.P.Parts.setup c.args.parts.now) (g.P.Parts.layout c.args.parts.now) (g.P.Parts.tables c.args.parts.now) ((g.met.P.Items g.world.𝓛 g.world.𝓜 g.world.𝓡 ((λ s x. x), (λ x. x), (λ x. x), λ x. x)).program_is c.args.parts.now) c.args.item (Print c.args.dat c.args.file.now) c.requires.is (owned (g.P.Parts.setup c.args.parts.now) (g.P.Parts.layout c.args.parts.now) f))
     h.sized.count
-    (variable_here (g.P.Items.program c.args.parts.now) (g.P.Parts.setup c.args.parts.now) (g.P.Parts.layout c.args.parts.now) (g.P.Parts.tables c.args.parts.now) ((g.met.P.Items g.world.𝓛 g.world.𝓜 g.world.𝓡 ((λ s x. x), (λ x. x), (λ x. x), λ x. x)).program_is c.args.parts.now) ((g.met.P.Parts g.world.𝓛 g.world.𝓜 g.world.𝓡 ((λ s x. x), (λ x. x), (λ x. x), λ x. x)).indexed c.args.parts.now) c.args.machine.now f h)))
+    (variable_here (g.P.Items.program c.args.parts.now) (g.P.Parts.setup c.args.parts.now) (g.P.Parts.layout c.args.parts.now) (g.P.Parts.tables c.args.parts.now) ((g.met.P.Items g.world.𝓛 g.world.𝓜 g.world.𝓡 ((λ s x. x), (λ x. x), (λ x. x), λ x. x)).program_is c.args.parts.now) ((g.met.P.Parts g.world.𝓛 g.world.𝓜 g.world.𝓡 ((λ s x. x), (λ x. x), (λ x. x), λ x. x)).indexed c.args.parts.now c.requires.sound) c.args.machine.now f h)))
     c.print.ensures.printed
