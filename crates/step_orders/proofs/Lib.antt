@@ -1,3 +1,5 @@
 pub mod Cuts
 pub mod Places
 pub mod Whole
+pub mod Buckets
+pub mod Flat

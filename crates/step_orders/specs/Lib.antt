@@ -1,3 +1,4 @@
 pub mod Runs
 pub mod ElementRuns
 pub mod Left
+pub mod Order

@@ -2,6 +2,7 @@
 #![tactic(auto)]
 
 mod list;
+mod order;
 mod runs;
 mod shape;
 mod standard_order;
@@ -9,6 +10,7 @@ mod stream;
 mod walks;
 
 pub use list::{list_of, standard};
+pub use order::places_in_order;
 pub use runs::Runs;
 pub use shape::Shape;
 pub use standard_order::Standard;
