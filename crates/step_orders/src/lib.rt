@@ -7,6 +7,8 @@ mod runs;
 mod shape;
 mod standard_order;
 mod stream;
+#[cfg(test)]
+mod tests;
 mod walks;
 
 pub use list::{list_of, standard};

@@ -54,6 +54,15 @@ fn part<'a>(elements: &'a [u32], ends: &[usize], run: usize) -> &'a [u32]
 }
 
 impl Runs {
+    /// The elements, cut into runs: a run ends before each of the places, and the next begins there. Elements from the last place
+    /// on are in no run.
+    pub fn new(elements: Vec<u32>, ends: Vec<usize>) -> Runs
+        requires { AreEnds 0 elements.items ends.items }
+        ensures { result ≡ cut 0 elements.items ends.items }
+    {
+        Runs { elements, ends }
+    }
+
     /// How many runs there are.
     pub fn len(&self) -> usize
         ensures { result ≡ length self.now }
