@@ -1,3 +1,5 @@
 pub mod Seen
 pub mod Numbered
 pub mod Placed
+pub mod Sound
+pub mod Messages

@@ -13,8 +13,8 @@ ghost use Rattle.rank_program.specs.Placed.{is_dat, IsPut, DatsPut, AllPut};
 use bound_program::{Arg, Bound, Via};
 use views::Place;
 
-// As many as a loop has arguments at most.
-const MAX_ARGS: usize = 16;
+/// As many as a loop has arguments at most.
+pub const MAX_ARGS: usize = 16;
 
 // The element that an element of the loop reaches directly, or by a map.
 fn element_by(bound: &Bound, via: Option<Via>, element: u32) -> u32

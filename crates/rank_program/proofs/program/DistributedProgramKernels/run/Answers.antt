@@ -1,0 +1,104 @@
+use Rattle.std.proofs.Common.{◌<◌, ◌∷◌, length, get_or, refl, sym, ap, subst, ◌∙◌, arith}
+use Rattle.mesh_decl.specs.Mesh.{set_size}
+use Rattle.bound_program.specs.Values.{SiteValue, bound_of, site_of}
+use Rattle.bound_plan.specs.Windows.{frame_cells, core_with, site_core}
+use Rattle.rank_program.proofs.ItemParts.{takes, kernel_of, resolved}
+use Rattle.rank_program.proofs.ProgramRun.{site_there, site_same, site_fit, code_there}
+use Rattle.rank_program.proofs.program.DistributedProgramKernels.run.Goals as goal
+
+pub index-site-requires : goal.index-site-requires
+index-site-requires c =
+    let b = bound_of c.args.self.now.bound.now in
+    let t = c.requires.takes in
+    let lt = site_there b t.sound.runnable.planned.fits c.items_are_there.ensures.loops c.args.item c.loop_of.result t.is_loop c.loop_of.ensures
+    c.args.self.now.bound.now.sites.items refl in
+    omega (arith, lt)
+
+pub bounds-self-site : goal.bounds-self-site
+bounds-self-site c =
+    let b = bound_of c.args.self.now.bound.now in
+    let t = c.requires.takes in
+    code_there b t.sound.runnable.planned.fits c.items_are_there.ensures.loops c.args.item c.loop_of.result t.is_loop c.loop_of.ensures
+    c.args.self.now.bound.now.sites.items refl c.index-site.result.now c.index-site.ensures c.args.self.now.codes.now t.sound.codes
+
+pub run_kernel-requires-clause-site : goal.run_kernel-requires-clause-site
+run_kernel-requires-clause-site c =
+    let b = bound_of c.args.self.now.bound.now in
+    let t = c.requires.takes in
+    site_fit b t.sound.runnable.planned.fits c.items_are_there.ensures.loops c.args.item c.loop_of.result t.is_loop c.loop_of.ensures
+    c.args.self.now.bound.now.sites.items refl c.index-site.result.now c.index-site.ensures
+
+pub run_kernel-requires-clause-element : goal.run_kernel-requires-clause-element
+run_kernel-requires-clause-element c =
+    let b = bound_of c.args.self.now.bound.now in
+    let t = c.requires.takes in
+    let same = site_same b t.sound.runnable.planned.fits c.items_are_there.ensures.loops c.args.item c.loop_of.result t.is_loop c.loop_of.ensures
+    c.args.self.now.bound.now.sites.items refl c.index-site.result.now c.index-site.ensures in
+    subst (λ (s : SiteValue). c.args.element < set_size b.mesh s.set) same t.element
+
+pub run_kernel-requires-clause-code : goal.run_kernel-requires-clause-code
+run_kernel-requires-clause-code c =
+    let b = bound_of c.args.self.now.bound.now in
+    let t = c.requires.takes in
+    let lt = code_there b t.sound.runnable.planned.fits c.items_are_there.ensures.loops c.args.item c.loop_of.result t.is_loop c.loop_of.ensures
+    c.args.self.now.bound.now.sites.items refl c.index-site.result.now c.index-site.ensures c.args.self.now.codes.now t.sound.codes in
+    t.sound.codes.each c.index-site.result.now.kernel c.index-self-site.result lt
+
+pub run_kernel-requires-clause-params : goal.run_kernel-requires-clause-params
+run_kernel-requires-clause-params c =
+    let b = bound_of c.args.self.now.bound.now in
+    let t = c.requires.takes in
+    let x = c.index-site.result.now in
+    let fit = site_fit b t.sound.runnable.planned.fits c.items_are_there.ensures.loops c.args.item c.loop_of.result t.is_loop c.loop_of.ensures
+    c.args.self.now.bound.now.sites.items refl x c.index-site.ensures in
+    let lt = code_there b t.sound.runnable.planned.fits c.items_are_there.ensures.loops c.args.item c.loop_of.result t.is_loop c.loop_of.ensures
+    c.args.self.now.bound.now.sites.items refl x c.index-site.ensures c.args.self.now.codes.now t.sound.codes in
+    let f = (get_or c.args.self.now.codes.now x.kernel c.index-self-site.result).kernel.now in
+    takes b t.sound.runnable.planned.fits (site_of x) fit f (t.sound.codes.of_kernel x.kernel c.index-self-site.result f lt)
+
+pub run_kernel-requires-clause-resolved : goal.run_kernel-requires-clause-resolved
+run_kernel-requires-clause-resolved c =
+    let b = bound_of c.args.self.now.bound.now in
+    let t = c.requires.takes in
+    let x = c.index-site.result.now in
+    let fit = site_fit b t.sound.runnable.planned.fits c.items_are_there.ensures.loops c.args.item c.loop_of.result t.is_loop c.loop_of.ensures
+    c.args.self.now.bound.now.sites.items refl x c.index-site.ensures in
+    let lt = code_there b t.sound.runnable.planned.fits c.items_are_there.ensures.loops c.args.item c.loop_of.result t.is_loop c.loop_of.ensures
+    c.args.self.now.bound.now.sites.items refl x c.index-site.ensures c.args.self.now.codes.now t.sound.codes in
+    let f = (get_or c.args.self.now.codes.now x.kernel c.index-self-site.result).kernel.now in
+    resolved b t.sound.runnable.planned.fits (site_of x) fit f (t.sound.codes.of_kernel x.kernel c.index-self-site.result f lt)
+    (c.constants_are_read.ensures.numbered b t.sound.runnable.planned.fits.constants) (length c.args.constants.now) t.constants
+
+pub run_kernel-requires-clause-windows : goal.run_kernel-requires-clause-windows
+run_kernel-requires-clause-windows c =
+    let b = bound_of c.args.self.now.bound.now in
+    let t = c.requires.takes in
+    let same = site_same b t.sound.runnable.planned.fits c.items_are_there.ensures.loops c.args.item c.loop_of.result t.is_loop c.loop_of.ensures
+    c.args.self.now.bound.now.sites.items refl c.index-site.result.now c.index-site.ensures in
+    t.windows ∙ ap (λ (s : SiteValue). length (frame_cells b s.args c.args.element)) same
+
+pub run_kernel-requires-clause-scratch : goal.run_kernel-requires-clause-scratch
+run_kernel-requires-clause-scratch c =
+    let b = bound_of c.args.self.now.bound.now in
+    let t = c.requires.takes in
+    let lt = code_there b t.sound.runnable.planned.fits c.items_are_there.ensures.loops c.args.item c.loop_of.result t.is_loop c.loop_of.ensures
+    c.args.self.now.bound.now.sites.items refl c.index-site.result.now c.index-site.ensures c.args.self.now.codes.now t.sound.codes in
+    let room = t.sound.room c.index-site.result.now.kernel c.index-self-site.result lt in
+    omega (arith, room, c.requires.room)
+
+pub returns : goal.returns
+returns c =
+    let b = bound_of c.args.self.now.bound.now in
+    let t = c.requires.takes in
+    let x = c.index-site.result.now in
+    let fit = site_fit b t.sound.runnable.planned.fits c.items_are_there.ensures.loops c.args.item c.loop_of.result t.is_loop c.loop_of.ensures
+    c.args.self.now.bound.now.sites.items refl x c.index-site.ensures in
+    let same = site_same b t.sound.runnable.planned.fits c.items_are_there.ensures.loops c.args.item c.loop_of.result t.is_loop c.loop_of.ensures
+    c.args.self.now.bound.now.sites.items refl x c.index-site.ensures in
+    let lt = code_there b t.sound.runnable.planned.fits c.items_are_there.ensures.loops c.args.item c.loop_of.result t.is_loop c.loop_of.ensures
+    c.args.self.now.bound.now.sites.items refl x c.index-site.ensures c.args.self.now.codes.now t.sound.codes in
+    let f = (get_or c.args.self.now.codes.now x.kernel c.index-self-site.result).kernel.now in
+    c.run_kernel.ensures
+    ∙ sym (ap (λ (s : SiteValue). site_core b s c.args.element c.args.constants.now c.args.windows.now) same
+    ∙ ap (λ o. core_with b o (site_of x) c.args.element c.args.constants.now c.args.windows.now)
+    (kernel_of b t.sound.runnable.planned.fits (site_of x) fit f (t.sound.codes.of_kernel x.kernel c.index-self-site.result f lt)))

@@ -1,0 +1,51 @@
+-- What the machine asks of a distributed program.
+use Rattle.std.specs.Prelude.{◌≡◌, ◌<◌, ℕ, ℤ, true, List, length}
+use Rattle.kernel_types.specs.declared.faults.KernelFault.{KernelFault}
+use Rattle.kernel_code.specs.Codes.{AreCodesOf, HaveRoom}
+use Rattle.mesh_decl.specs.Mesh.{set_size}
+use Rattle.mesh_decl.specs.declared.owners.Perms.{Perms}
+use Rattle.schedule_model.specs.Program.{is_loop}
+use Rattle.schedule_model.specs.Setup.{Setup}
+use Rattle.flat_machine.specs.Layout.{Layout, Core, Leaves}
+use Rattle.bound_program.specs.Values.{BoundValue, bound_of}
+use Rattle.run_model.specs.Kernels.{constants}
+use Rattle.run_model.specs.Laws.{site_of}
+use Rattle.run_model.specs.Programs.{item_at, kind_of}
+use Rattle.loop_plan.specs.Values.{PlanValue, plan_of}
+use Rattle.bound_plan.specs.Laws.{Runnable}
+use Rattle.bound_plan.specs.Windows.{frame_cells}
+use Rattle.bound_plan.specs.Setups.{setup_of}
+use Rattle.bound_plan.specs.Layouts.{layout_of}
+use Rattle.rank_program.specs.declared.program.DistributedProgram.{DistributedProgram}
+
+module _ (c : DistributedProgram) where
+  abbrev pub program_in : BoundValue
+  program_in = bound_of c.bound.now
+
+  abbrev pub plan_in : PlanValue
+  plan_in = plan_of c.plan.now
+
+  abbrev pub setup_in : Setup KernelFault
+  setup_in = setup_of program_in c.owners.now c.meshes.now plan_in
+
+  abbrev pub layout_in : Layout KernelFault
+  layout_in = layout_of program_in c.owners.now c.meshes.now plan_in
+
+  abbrev pub core_in : ℕ → ℕ → List ℤ → List ℤ → Core KernelFault
+  core_in = layout_in.core
+
+  -- the program can be run on these ranks by its plan, with the codes of its kernels
+  pub record Sound : Type 0 where
+    pub numbers : Perms
+    pub runnable : Runnable program_in c.owners.now numbers c.meshes.now plan_in
+    pub codes : AreCodesOf program_in.kernels c.codes.now
+    pub room : HaveRoom c.codes.now c.locals
+    pub same_length : (k e : ℕ) (cs ws us : List ℤ) → core_in k e cs ws ≡ Leaves us → length us ≡ length ws
+
+  -- the item is a loop with this element, with so many constants and cells of its frame
+  pub record Takes (k e cs ws : ℕ) : Type 0 where
+    pub sound : Sound
+    pub is_loop : is_loop (kind_of (item_at program_in k)) ≡ true
+    pub element : e < set_size program_in.mesh (site_of program_in k).set
+    pub constants : cs ≡ length (constants program_in)
+    pub windows : ws ≡ length (frame_cells program_in (site_of program_in k).args e)

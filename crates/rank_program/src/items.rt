@@ -1,0 +1,21 @@
+// The loops of items.
+
+ghost use Rattle.std.specs.Prelude.{◌≡◌, ◌<◌, true, length};
+ghost use Rattle.schedule_model.specs.Program.{is_loop};
+ghost use Rattle.bound_program.specs.Values.{bound_of};
+ghost use Rattle.run_model.specs.Programs.{item_at, kind_of, loop_of};
+
+use bound_program::{Bound, Item};
+
+/// The number of the loop of an item that is one.
+pub fn loop_of(bound: &Bound, item: u32) -> u32
+    requires { is_loop (kind_of (item_at (bound_of bound.now) item)) ≡ true }
+    ensures { result ≡ loop_of (item_at (bound_of bound.now) item) }
+{
+    match &bound.trace[item as usize] {
+        Item::Free { site } => *site,
+        Item::Reduce { site } => *site,
+        Item::Ordered { site } => *site,
+        Item::Host { .. } => 0,
+    }
+}

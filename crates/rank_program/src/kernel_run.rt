@@ -1,0 +1,48 @@
+// A kernel's run on an element's frame.
+
+ghost use Rattle.std.specs.Prelude.{◌≡◌, ◌<◌, ◌≤◌, [], ◌∷◌, length};
+ghost use Rattle.kernel_types.specs.Resolved.{IsResolved};
+ghost use Rattle.kernel_model.specs.Meaning.{kernel_meaning};
+ghost use Rattle.kernel_code.specs.Coded.{IsCode};
+ghost use Rattle.mesh_decl.specs.Mesh.{set_size};
+ghost use Rattle.element_runs.specs.OnWindows.{core_of};
+ghost use Rattle.bound_program.specs.Values.{bound_of, site_of};
+ghost use Rattle.bound_program.specs.Fits.{SiteFits};
+ghost use Rattle.rank_state.specs.Core.{ran_of};
+ghost use Rattle.bound_plan.specs.Windows.{frame_cells, frame_windows};
+
+use crate::windows::{MAX_ARGS, put_windows};
+use bound_program::{Bound, Site};
+use kernel_code::{Code, run_on};
+use kernel_types::KernelFault;
+use views::Place;
+
+/// Runs a loop's kernel for an element on the windows of its frame, with the values of all constants. Takes no memory.
+///
+/// # Errors
+/// The first fault of the run.
+pub fn run_kernel(
+    bound: &Bound,
+    site: &Site,
+    code: &Code<'_>,
+    element: u32,
+    constants: &[i32],
+    windows: &mut [i32],
+    scratch: &mut [i32],
+) -> Result<(), KernelFault>
+    requires site { SiteFits (bound_of bound.now) (site_of site.now) }
+    requires element { element < set_size bound.now.mesh site.now.set }
+    requires code { IsCode code.now }
+    requires params { length site.now.args.items ≡ code.now.kernel.now.params }
+    requires resolved { IsResolved (length constants.now) code.now.kernel.now }
+    requires windows { length windows.old ≡ length (frame_cells (bound_of bound.now) site.now.args.items element) }
+    requires scratch { code.now.slots ≤ length scratch.old }
+    ensures { ran_of windows.new result
+        ≡ core_of (kernel_meaning (frame_windows (bound_of bound.now) site.now.args.items element) constants.now code.now.kernel.now
+        (windows.old ∷ [])) }
+{
+    let mut room = [Place { from: 0, count: 0 }; MAX_ARGS];
+    let places = &mut room[..site.args.len()];
+    put_windows(bound, &site.args, element, places);
+    run_on(code, windows, places, constants, scratch)
+}
