@@ -5,3 +5,5 @@ pub mod ItemParts
 pub mod MessageSpans
 pub mod MessageCells
 pub mod ProgramRun
+pub mod MessagesStand
+pub mod Widest

@@ -9,7 +9,7 @@ use Rattle.bound_program.specs.declared.sites.Arg.TheVariants.{Dat, Global}
 use Rattle.bound_program.specs.Values.{BoundValue, SiteValue}
 use Rattle.bound_program.specs.Fits.{ArgFits, SiteFits}
 use Rattle.rank_state.specs.Core.{ran_of}
-use Rattle.rank_program.specs.Numbered.{ArgThere}
+use Rattle.rank_program.specs.Numbered.{ArgNamed, ArgThere}
 
 arg_there : (b : BoundValue) (set e : ℕ) (x : Arg) → ArgFits b set x → e < set_size b.mesh set → ArgThere b e x
 arg_there b set e (Dat d None a) fit le = ((fit.0, fit.1), tt)
@@ -20,6 +20,13 @@ arg_there b set e (Global v a) fit le = ((fit.0, fit.2), tt)
 
 pub args_there : (b : BoundValue) (site : SiteValue) (e : ℕ) → SiteFits b site → e < set_size b.mesh site.set → All (ArgThere b e) site.args
 args_there b site e fits le = λ i d lt. arg_there b site.set e (get_or site.args i d) (fits.args i d lt) le
+
+pub arg_named : (b : BoundValue) (set : ℕ) (x : Arg) → ArgFits b set x → ArgNamed b x
+arg_named b set (Dat d v a) fit = (fit.0, fit.1)
+arg_named b set (Global v a) fit = (fit.0, fit.2)
+
+pub args_named : (b : BoundValue) (site : SiteValue) → SiteFits b site → All (ArgNamed b) site.args
+args_named b site fits = λ i d lt. arg_named b site.set (get_or site.args i d) (fits.args i d lt)
 
 -- a run of a kernel as a run on windows
 pub as_core : {A : Type 0} (ws : List ℤ) (r : Result A KernelFault) → ran_of ws r ≡ core_of (kernel.ran_of (ws ∷ []) r)

@@ -1,11 +1,17 @@
 //! A bound program, distributed and planned, as the distributed machine reads it.
 #![tactic(auto)]
 
+mod elements;
 mod items;
 mod kernel_run;
+mod laws;
 mod messages;
 mod program;
+mod widths;
 mod windows;
 
+pub use elements::{is_owner, original_of};
+pub use laws::messages_stand;
 pub use messages::{push_exports, push_imports};
 pub use program::DistributedProgram;
+pub use widths::stride;

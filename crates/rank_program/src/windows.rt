@@ -49,8 +49,8 @@ fn put_numbers(bound: &Bound, args: &[Arg], element: u32, numbers: &mut [u32])
     }
 }
 
-// How many cells an argument's window has.
-fn width_of(bound: &Bound, arg: Arg) -> usize
+/// How many cells an argument's window has.
+pub fn width_of(bound: &Bound, arg: Arg) -> usize
     requires { ArgNamed (bound_of bound.now) arg }
     ensures { result ≡ arg_width (bound_of bound.now) arg }
 {

@@ -1,0 +1,46 @@
+// The elements at the places of ranks.
+
+ghost use Rattle.std.specs.Prelude.{◌≡◌, ◌<◌, ◌==◌, length};
+ghost use Rattle.mesh_decl.specs.Owners.{owners_in, owner_of};
+ghost use Rattle.local_mesh.specs.LocalMesh.{originals_in};
+ghost use Rattle.local_mesh.specs.Lists as the;
+ghost use Rattle.bound_plan.specs.Places.{original_at};
+
+use local_mesh::{LocalSet, RankMesh};
+use mesh_decl::Owners;
+
+// The sets of a rank.
+fn sets_of(meshes: &[RankMesh], rank: u32) -> &[LocalSet]
+    requires { rank < length meshes.now }
+    ensures { result.now ≡ the.sets_of meshes.now rank }
+{
+    &meshes[rank as usize].sets
+}
+
+// Of one set, the original numbers of a rank's elements, by local number.
+fn originals_of(meshes: &[RankMesh], rank: u32, set: u32) -> &[u32]
+    requires rank { rank < length meshes.now }
+    requires set { set < length (the.sets_of meshes.now rank) }
+    ensures { result.now ≡ the.originals_of meshes.now rank set }
+{
+    sets_of(meshes, rank)[set as usize].original.as_slice()
+}
+
+/// The original number of the element of a set that has a local number on a rank.
+pub fn original_of(meshes: &[RankMesh], rank: u32, set: u32, place: u32) -> u32
+    requires rank { rank < length meshes.now }
+    requires set { set < length (the.sets_of meshes.now rank) }
+    requires place { place < length (the.originals_of meshes.now rank set) }
+    ensures { result ≡ original_at meshes.now rank set place }
+{
+    originals_of(meshes, rank, set)[place as usize]
+}
+
+/// Whether a rank owns an element of a set, by its original number.
+pub fn is_owner(owners: &Owners, rank: u32, set: u32, element: u32) -> bool
+    requires set { set < length owners.now.sets.items }
+    requires element { element < length (owners_in owners.now set) }
+    ensures { result ≡ (owner_of owners.now set element == rank) }
+{
+    owners.rank_of(set, element) == rank
+}
