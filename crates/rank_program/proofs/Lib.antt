@@ -7,3 +7,5 @@ pub mod MessageCells
 pub mod ProgramRun
 pub mod MessagesStand
 pub mod Widest
+pub mod RankWindows
+pub mod WindowsStand

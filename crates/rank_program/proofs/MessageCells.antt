@@ -29,7 +29,7 @@ from_run d x j (suc n) at cell_at h =
 module _ (b : BoundValue) (d base : ℕ) (original : List ℕ) (cell_at : ℕ → DatCell)
     (values : (k i : ℕ) → k < length original → i < dat_dim b.mesh d
     → cell_at (base + k * dat_dim b.mesh d + i) ≡ record { dat = d; element = get_or original k 0; component = i }) where
-  one_element : (k x : ℕ) → IsLocal original x k → cells_from cell_at (base + k * dat_dim b.mesh d) (dat_dim b.mesh d) ≡ cells_in b (Element d x)
+  pub one_element : (k x : ℕ) → IsLocal original x k → cells_from cell_at (base + k * dat_dim b.mesh d) (dat_dim b.mesh d) ≡ cells_in b (Element d x)
   one_element k x is = from_run d x 0 (dat_dim b.mesh d) (base + k * dat_dim b.mesh d) cell_at
       (λ i lt. values k i is.0 lt ∙ ap₂ (λ e m. record { dat = d; element = e; component = m }) is.1 (let e : i ≡ 0 + i = omega arith in e))
 

@@ -99,7 +99,7 @@ imports_at : (lists : List LocalLists) (t : ℕ) (e : LocalLists) → t < length
 unfolding imports_in
 imports_at lists t e lt = get_or-map (λ (x : LocalLists). x.imports.items) lists t e [] lt
 
-bases_at : (meshes : List RankMesh) (r : ℕ) (m : RankMesh) → r < length meshes → m ≡ get_or meshes r m → m.bases.items ≡ bases_of meshes r
+pub bases_at : (meshes : List RankMesh) (r : ℕ) (m : RankMesh) → r < length meshes → m ≡ get_or meshes r m → m.bases.items ≡ bases_of meshes r
 unfolding bases_of
 bases_at meshes r m lt is = ap (λ (x : RankMesh). x.bases.items) is ∙ sym (get_or-map (λ (x : RankMesh). x.bases.items) meshes r m [] lt)
 

@@ -101,7 +101,7 @@ has_different (x ∷ xs) r h = ⊎_elim
     (still x r (different xs) t (has_different xs r (⊎_elim (λ s. absurd (false≢true (sym t ∙ s))) (λ s. s) (or_cases (is_same x r) (has xs r) h)))))
     (cases_Bool (is_same x r))
 
-has_of : (xs : List Reached) (r : Reached) → has (different xs) r ≡ true → has xs r ≡ true
+pub has_of : (xs : List Reached) (r : Reached) → has (different xs) r ≡ true → has xs r ≡ true
 has_of [] r h = h
 has_of (x ∷ xs) r h = ⊎_elim
     (λ (s : is_same x r ≡ true). or_left (is_same x r) (has xs r) s)

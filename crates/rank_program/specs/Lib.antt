@@ -5,3 +5,5 @@ pub mod Sound
 pub mod Messages
 pub mod Tables
 pub mod MessageLaws
+pub mod DatWindows
+pub mod WindowLaws

@@ -1,5 +1,6 @@
 // What the spans of messages say.
 ghost use Rattle.rank_program.specs.MessageLaws.{ExportsStand, ImportsStand};
+ghost use Rattle.rank_program.specs.WindowLaws.{DatWindowsStand};
 
 /// A law: the spans of a message by local numbers are where its cells stand on its sender and on its receiver, and at the
 /// receiver each of them arrives.
@@ -11,4 +12,14 @@ pub fn messages_stand()
     mesh_decl::declarations_hold();
     bound_plan::elements_stand();
     bound_plan::messages_have_cells();
+}
+
+/// A law: the spans of the arguments on dats by local numbers, each once, are where the windows on dats of an element
+/// stand on a rank that executes it.
+pub fn windows_stand()
+    ensures { DatWindowsStand }
+{
+    mesh_decl::declarations_hold();
+    local_mesh::rank_meshes_are_closed();
+    bound_plan::elements_stand();
 }

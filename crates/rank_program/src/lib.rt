@@ -1,6 +1,7 @@
 //! A bound program, distributed and planned, as the distributed machine reads it.
 #![tactic(auto)]
 
+mod dat_windows;
 mod elements;
 mod items;
 mod kernel_run;
@@ -10,8 +11,9 @@ mod program;
 mod widths;
 mod windows;
 
+pub use dat_windows::{local_target, push_span};
 pub use elements::{is_owner, original_of};
-pub use laws::messages_stand;
+pub use laws::{messages_stand, windows_stand};
 pub use messages::{push_exports, push_imports};
 pub use program::DistributedProgram;
 pub use widths::stride;
