@@ -30,7 +30,7 @@ filter_numbers t s (suc n) =
     one true = refl
     one false = refl
 
-numbers_same : (s t : ℕ → Bool) (n : ℕ) → ((x : ℕ) → x < n → s x ≡ t x) → numbers s n ≡ numbers t n
+pub numbers_same : (s t : ℕ → Bool) (n : ℕ) → ((x : ℕ) → x < n → s x ≡ t x) → numbers s n ≡ numbers t n
 numbers_same s t zero h = refl
 numbers_same s t (suc n) h =
     ap (λ z. z ++ cond (s n) (n ∷ []) []) (numbers_same s t n (λ x lt. h x (omega arith)))

@@ -3,3 +3,4 @@ pub mod Places
 pub mod Whole
 pub mod Buckets
 pub mod Flat
+pub mod Windows

@@ -1,6 +1,7 @@
 //! The standard order of a plan's steps, one step after another, with no list of them.
 #![tactic(auto)]
 
+mod laws;
 mod list;
 mod order;
 mod runs;
@@ -11,6 +12,7 @@ mod stream;
 mod tests;
 mod walks;
 
+pub use laws::runs_are_windows;
 pub use list::{list_of, standard};
 pub use order::places_in_order;
 pub use runs::Runs;
