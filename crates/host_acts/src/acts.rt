@@ -15,10 +15,10 @@ ghost use Rattle.host_acts.specs.Acts.{new_value_in};
 
 use bound_program::{Act, Var};
 use gather::print_line;
-use operators::{index_of, stored_value};
 use kernel_types::{AssignOp, KernelFault, Pos, RExpr};
 use main_trace::host_value;
 use op_num::{OutOfMemory, Text};
+use operators::{index_of, stored_value};
 use std::alloc::Global;
 use views::Place;
 
