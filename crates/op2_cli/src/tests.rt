@@ -102,7 +102,7 @@ pub fn replaced(alloc: Global, text: &str, old: &str, new: &str) -> Result<Strin
 #[test]
 fn words_have_their_answers(rt: HostRuntime) -> Result<(), Fail> {
     let alloc = rt.alloc();
-    let usage: [&[&str]; 21] = [
+    let usage: [&[&str]; 22] = [
         &[],
         &["run"],
         &["run", "s.c"],
@@ -167,9 +167,9 @@ const IN_RUNS: &str = "op2mesh 2\nint nnode 3\nints edge 4\n0 2*1 2\nints r0 3\n
 fn samples_run_and_meshes_are_written_again(rt: HostRuntime) -> Result<(), Fail> {
     let alloc = rt.alloc();
     let mismatch = "op2mesh 2 ints a 3 2*5 2*6 done";
-    for (words, mesh, status, out, err) in [
+    let jobs: [(&[&str], &str, u8, &str, &str); 7] = [
         (
-            &["sample", "1"] as &[&str],
+            &["sample", "1"],
             "",
             0,
             "total 0\nmin 0 max 0\nchange 0\n",
@@ -193,7 +193,8 @@ fn samples_run_and_meshes_are_written_again(rt: HostRuntime) -> Result<(), Fail>
             "op2: mesh 4 line 1\n",
         ),
         (&["convert", "no"], "", 3, "", "op2: cannot read no\n"),
-    ] {
+    ];
+    for (words, mesh, status, out, err) in jobs {
         let ended = called(&rt, alloc, words, b"", mesh, NEVER)?;
         assert_eq!(rt; ended.status, status);
         assert_eq!(rt; ended.out.bytes(), out.as_bytes());
