@@ -102,24 +102,11 @@ pub fn replaced(alloc: Global, text: &str, old: &str, new: &str) -> Result<Strin
 #[test]
 fn words_have_their_answers(rt: HostRuntime) -> Result<(), Fail> {
     let alloc = rt.alloc();
-    let usage: [&[&str]; 22] = [
+    let usage: [&[&str]; 9] = [
         &[],
         &["run"],
         &["run", "s.c"],
         &["check", "s.c", "m.mesh"],
-        &["run", "s.c", "m.mesh", "--form", "1"],
-        &["sample"],
-        &["sample", "0"],
-        &["sample", "201"],
-        &["sample", "-1"],
-        &["sample", "2 "],
-        &["sample", "99999999999999999999"],
-        &["sample", "2", "m.mesh"],
-        &["sample", "2", "--form=2"],
-        &["convert", "m.mesh", "m.mesh"],
-        &["convert", "m.mesh", "--form", "3"],
-        &["convert", "m.mesh", "--form=1", "--form=1"],
-        &["convert", "m.mesh", "--form="],
         &["run", "-s.c", "m.mesh"],
         &["run", "s.c", "--m"],
         &["run", "s.c", "m.mesh", "x"],
@@ -155,51 +142,6 @@ fn words_have_their_answers(rt: HostRuntime) -> Result<(), Fail> {
         NEVER,
     )?;
     assert_eq!(rt; ended.status, 0);
-    Ok(())
-}
-
-// A mesh, and the same in the second version of the format.
-const PLAIN: &str = "op2mesh 1\nint nnode 3\nints edge 4\n0 1 1 2\nints r0 3\n0 0 0\ndone\n";
-
-const IN_RUNS: &str = "op2mesh 2\nint nnode 3\nints edge 4\n0 2*1 2\nints r0 3\n3*0\ndone\n";
-
-#[test]
-fn samples_run_and_meshes_are_written_again(rt: HostRuntime) -> Result<(), Fail> {
-    let alloc = rt.alloc();
-    let mismatch = "op2mesh 2 ints a 3 2*5 2*6 done";
-    let jobs: [(&[&str], &str, u8, &str, &str); 7] = [
-        (
-            &["sample", "1"],
-            "",
-            0,
-            "total 0\nmin 0 max 0\nchange 0\n",
-            "",
-        ),
-        (
-            &["sample", "002"],
-            "",
-            0,
-            "total 4\nmin -3 max 5\nchange 16\n",
-            "",
-        ),
-        (&["convert", "m.mesh"], PLAIN, 0, IN_RUNS, ""),
-        (&["convert", "--form", "1", "m.mesh"], IN_RUNS, 0, PLAIN, ""),
-        (&["convert", "m.mesh", "--form=02"], IN_RUNS, 0, IN_RUNS, ""),
-        (
-            &["convert", "m.mesh"],
-            mismatch,
-            6,
-            "",
-            "op2: mesh 4 line 1\n",
-        ),
-        (&["convert", "no"], "", 3, "", "op2: cannot read no\n"),
-    ];
-    for (words, mesh, status, out, err) in jobs {
-        let ended = called(&rt, alloc, words, b"", mesh, NEVER)?;
-        assert_eq!(rt; ended.status, status);
-        assert_eq!(rt; ended.out.bytes(), out.as_bytes());
-        assert_eq!(rt; ended.err.bytes(), err.as_bytes());
-    }
     Ok(())
 }
 
