@@ -1,10 +1,10 @@
 -- Owners by blocks.
-use Rattle.std.proofs.Common.{◌≡◌, ◌<◌, ◌≤◌, ◌+◌, ◌-◌, ◌*◌, ◌/◌, ◌^◌, ℕ, zero, suc, List, [], length, get_or, refl, sym, ap, ◌∙◌, subst, arith, ⊎_elim, inl, inr, ◌⊎◌, nat_eq}
+use Rattle.std.proofs.Common.{◌≡◌, ◌<◌, ◌≤◌, ◌^◌, ℕ, List, [], length, get_or, refl, sym, ap, ◌∙◌, subst, arith, ⊎_elim, inl, inr, ◌⊎◌}
 use Rattle.std.proofs.lemmas.Bool.{cases_lt}
 use Rattle.std.proofs.Math.Nat.{mul-div_cancel_left}
 use Rattle.mesh_decl.specs.declared.owners.Owners.{Owners}
 use Rattle.mesh_decl.specs.Mesh.{MeshValue, IsMesh, set_count, set_size}
-use Rattle.mesh_decl.specs.Owners.{AreOwners, owners_in, owner_of}
+use Rattle.mesh_decl.specs.Owners.{owners_in, owner_of}
 use Rattle.partition.specs.Block.{block_start, InBlock, AreBlocks}
 use Rattle.partition.proofs.Giving.{start_le, block_unique, in_some_block}
 use Rattle.partition.proofs.Shares.{share_count}

@@ -1,5 +1,5 @@
 -- A list cut along its longest axis.
-use Rattle.std.proofs.Common.{◌≡◌, ◌<◌, ◌≤◌, ◌+◌, ◌-◌, ℕ, ℤ, zero, suc, pred, Bool, true, false, List, length, get_or, take, drop, refl, sym, ap, ◌∙◌, subst, arith, ⊎_elim, inl, inr, ◌⊎◌}
+use Rattle.std.proofs.Common.{◌≡◌, ◌<◌, ◌≤◌, ◌-◌, ℕ, ℤ, zero, suc, pred, true, false, List, length, get_or, take, drop, refl, subst, arith, ⊎_elim, inl, inr}
 use Rattle.partition.specs.Elected.{IsElected}
 use Rattle.partition.specs.Bisect.{height, IsSpread, IsAxis, IsAlong, IsCut}
 use Rattle.partition.proofs.Axes.{spread_from, spread_le}

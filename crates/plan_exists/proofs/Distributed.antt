@@ -1,8 +1,8 @@
 -- Halos and local meshes for any owners and new numbers.
-use Rattle.std.proofs.Common.{◌≡◌, ◌<◌, ◌^◌, ℕ, true, List, length, get_or, refl, sym, ap, ◌∙◌, subst, arith}
+use Rattle.std.proofs.Common.{◌≡◌, ◌<◌, ℕ, true, List, refl, sym, subst, arith}
 use Rattle.mesh_decl.specs.declared.owners.Owners.{Owners}
 use Rattle.mesh_decl.specs.declared.owners.Perms.{Perms}
-use Rattle.mesh_decl.specs.Mesh.{MeshValue, IsMesh, IsMapAt, set_count, map_count, set_size, map_from, map_to, map_dim, target}
+use Rattle.mesh_decl.specs.Mesh.{MeshValue, IsMesh, IsMapAt, map_count, set_size, map_from, map_to, map_dim, target}
 use Rattle.mesh_decl.specs.Owners.{AreOwners, ArePerms}
 use Rattle.mesh_decl.proofs.Declared.{sizes_fit}
 use Rattle.halo_lists.specs.Halo.{executes, has_copy}

@@ -1,8 +1,8 @@
 -- Owners by growth over neighbours.
-use Rattle.std.proofs.Common.{◌≡◌, ◌<◌, ◌≤◌, ◌+◌, ℕ, Bool, List, length, get_or, take, drop, refl, sym, ap, ◌∙◌, subst, arith}
+use Rattle.std.proofs.Common.{◌≡◌, ◌<◌, ℕ, Bool, List, length, get_or, take, drop, refl, sym, ap, ◌∙◌, subst, arith}
 use Rattle.std.proofs.lemmas.List.{length-take-le, get_or_default}
 use Rattle.breadth_order.specs.Taken.{earliest}
-use Rattle.partition.specs.Block.{block_start, InBlock}
+use Rattle.partition.specs.Block.{block_start}
 use Rattle.partition.specs.Grow.{IsNextFree, IsGrown}
 use Rattle.renumber.proofs.Numbering.{numbering_from}
 use Rattle.plan_exists.proofs.Built.{table, length_table, table_at}

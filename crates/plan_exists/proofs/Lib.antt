@@ -23,3 +23,4 @@ pub mod Sorted
 pub mod Cut
 pub mod Halved
 pub mod Owned
+pub mod Fitting

@@ -1,15 +1,14 @@
 -- Plans of the loops that run, by number.
-use Rattle.std.proofs.Common.{◌≡◌, ◌+◌, ◌<◌, ◌≤◌, ◌^◌, ℕ, zero, suc, Bool, true, false, List, [], ◌∷◌, ◌++◌, length, map, refl, sym, ap, ◌∙◌, subst, arith, ⊎_elim, add-one, get_or, cond}
+use Rattle.std.proofs.Common.{◌≡◌, ◌+◌, ◌<◌, ◌≤◌, ◌^◌, ℕ, zero, suc, Bool, true, false, List, [], ◌∷◌, ◌++◌, length, refl, sym, subst, arith, ⊎_elim, cond}
 use Rattle.std.proofs.lemmas.Bool.{cases_Bool}
 use Rattle.mesh_decl.specs.declared.owners.Owners.{Owners}
 use Rattle.mesh_decl.specs.declared.owners.Perms.{Perms}
-use Rattle.mesh_decl.specs.Mesh.{set_count, set_size, IsMesh}
 use Rattle.mesh_decl.proofs.Declared.{sizes_fit}
 use Rattle.local_mesh.specs.declared.types.RankMesh.{RankMesh}
 use Rattle.local_mesh.specs.LocalMesh.{executed_in}
 use Rattle.colouring.specs.declared.types.Colours.{Colours}
 use Rattle.colouring.specs.Colours.{AreColours}
-use Rattle.bound_program.specs.Values.{BoundValue, SiteValue}
+use Rattle.bound_program.specs.Values.{BoundValue}
 use Rattle.bound_program.specs.Fits.{site_at, Fits}
 use Rattle.bound_program.specs.Classes.{scatters}
 use Rattle.loop_plan.specs.Distributed.{IsDistributed}

@@ -1,9 +1,9 @@
 -- The first number of a name, or none.
-use Rattle.std.proofs.Common.{◌≡◌, ◌≢◌, ◌<◌, ◌+◌, ℕ, zero, suc, Bool, true, false, List, Option, Some, None, refl, sym, ap, ◌∙◌, subst, arith, ⊎_elim, inl, inr, ◌⊎◌}
+use Rattle.std.proofs.Common.{◌≡◌, ℕ, zero, suc, true, false, List, Option, Some, None, sym, ◌∙◌, subst, arith, ⊎_elim, inl, inr, ◌⊎◌}
 use Rattle.std.specs.Str.{bytes_eq}
 use Rattle.std.proofs.lemmas.Bool.{cases_eq, cases_Bool}
 use Rattle.std.proofs.lemmas.Slice.Eq.{bytes_eq-Decides}
-use Rattle.mesh_decl.specs.Named.{IsFirstNamed, Names}
+use Rattle.mesh_decl.specs.Named.{Names}
 
 module _ (name_of : ℕ → List ℕ) (name : List ℕ) where
   pub some_named : (n : ℕ) → (o : Option ℕ) × Names n name_of name o

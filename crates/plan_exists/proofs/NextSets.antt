@@ -1,11 +1,11 @@
 -- The set that gets owners next, and they.
-use Rattle.std.proofs.Common.{◌≡◌, ◌<◌, ◌≤◌, ◌+◌, ℕ, zero, suc, pred, Bool, true, false, not, ◌&&◌, cond, List, length, get_or, refl, sym, ap, ◌∙◌, subst, arith, ⊎_elim, inl, inr, ◌⊎◌}
+use Rattle.std.proofs.Common.{◌≡◌, ◌<◌, ℕ, zero, suc, pred, Bool, true, false, not, cond, List, length, get_or, refl, sym, ◌∙◌, subst, arith, ⊎_elim, inl, inr, ◌⊎◌}
 use Rattle.std.proofs.lemmas.Bool.{cases_Bool}
 use Rattle.mesh_decl.specs.Mesh.{MeshValue, set_count, map_count, set_size, map_from, map_to}
 use Rattle.rank_sets.specs.Below.{any_below}
 use Rattle.partition.specs.Block.{InBlock}
 use Rattle.partition.specs.Elected.{IsElected, target_votes, naming_votes, is_named}
-use Rattle.partition.specs.Derive.{IsFirst, IsNextSet, IsByTargets, IsByNames, IsByBlocks, can_follow_targets, can_follow_names, leads_to_known, leads_from_known}
+use Rattle.partition.specs.Derive.{IsFirst, IsNextSet, can_follow_targets, can_follow_names, leads_to_known, leads_from_known}
 use Rattle.plan_exists.proofs.Built.{table, length_table, table_at}
 use Rattle.plan_exists.proofs.Tests.{both}
 use Rattle.plan_exists.proofs.Firsts.{first, elected}

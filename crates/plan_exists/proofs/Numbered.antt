@@ -1,6 +1,5 @@
 -- New numbers: kept, or those of Cuthill and McKee.
-use Rattle.std.proofs.Common.{◌≡◌, ◌≢◌, ◌<◌, ◌≤◌, ◌+◌, ◌^◌, ℕ, zero, suc, Bool, true, false, List, [], length, get_or, reverse, take, Option, Some, None, Result, Ok, Err, refl, sym, ap, ◌∙◌, subst, arith, ⊎_elim, inl, inr, ◌⊎◌}
-use Rattle.std.specs.List.{Contains}
+use Rattle.std.proofs.Common.{◌≡◌, ◌<◌, ◌≤◌, ◌^◌, ℕ, List, [], length, get_or, reverse, Option, Some, None, Result, Ok, Err, refl, sym, ap, ◌∙◌, subst, arith, ⊎_elim, inl, inr}
 use Rattle.std.proofs.lemmas.Bool.{cases_eq}
 use Rattle.mesh_decl.specs.declared.owners.Perms.{Perms}
 use Rattle.mesh_decl.specs.Mesh.{MeshValue, IsMesh, IsMapAt, set_count, map_count, set_size, map_from, map_to, map_name}
@@ -8,7 +7,7 @@ use Rattle.mesh_decl.specs.Owners.{IsNumbering, ArePerms, perm_in}
 use Rattle.mesh_decl.specs.Named.{Names}
 use Rattle.breadth_order.specs.Neighbours.{are_neighbours}
 use Rattle.breadth_order.specs.Degrees.{degree_order}
-use Rattle.breadth_order.specs.Taken.{earliest, IsNext, IsTaken}
+use Rattle.breadth_order.specs.Taken.{earliest, IsTaken}
 use Rattle.renumber.specs.Identity.{IsIdentity}
 use Rattle.renumber.specs.CuthillMcKee.{target_key, IsByTargets, IsSetOrder, IsCuthillMcKee}
 use Rattle.renumber.proofs.Kept.{kept_numbers}

@@ -1,12 +1,11 @@
 -- Owners, as they are asked for.
-use Rattle.std.proofs.Common.{◌≡◌, ◌<◌, ◌≤◌, ◌+◌, ◌^◌, ℕ, Bool, true, List, [], ◌∷◌, slice_set, length, get_or, map, Option, Some, None, Result, Ok, Err, refl, sym, ap, ◌∙◌, subst, arith}
+use Rattle.std.proofs.Common.{◌≡◌, ◌<◌, ◌≤◌, ℕ, List, [], ◌∷◌, slice_set, length, get_or, map, Option, Some, None, Result, Ok, Err, refl, sym, ap, ◌∙◌, subst, arith}
 use Rattle.std.proofs.lemmas.List.{length-map, length-set, length-replicate}
 use Rattle.mesh_decl.specs.declared.owners.Owners.{Owners}
 use Rattle.mesh_decl.specs.Mesh.{MeshValue, IsMesh, IsMapAt, IsDatAt, set_count, map_count, dat_count, set_size, map_to, map_name, dat_set, dat_dim, dat_values, dat_name}
-use Rattle.mesh_decl.specs.Owners.{owners_in, owner_of}
+use Rattle.mesh_decl.specs.Owners.{owner_of}
 use Rattle.mesh_decl.specs.Named.{Names}
 use Rattle.breadth_order.specs.Neighbours.{are_neighbours}
-use Rattle.part_text.specs.declared.refusals.PartRefusal.{PartRefusal}
 use Rattle.part_text.specs.Spelling.{Table, Given, no_ranks, AreSets, Spells}
 use Rattle.part_text.specs.Reading.{Read, Reads}
 use Rattle.partition.specs.Grow.{IsGrown}

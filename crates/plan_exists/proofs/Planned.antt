@@ -1,5 +1,5 @@
 -- A plan of a program that fits.
-use Rattle.std.proofs.Common.{◌≡◌, ◌+◌, ◌*◌, ◌<◌, ◌≤◌, ◌^◌, ℕ, zero, suc, Bool, List, [], ◌∷◌, ◌++◌, length, map, refl, sym, ap, ◌∙◌, subst, arith, get_or}
+use Rattle.std.proofs.Common.{◌≡◌, ◌*◌, ◌<◌, ◌≤◌, ℕ, zero, suc, Bool, List, length, map, refl, sym, ap, ◌∙◌, subst, arith}
 use Rattle.std.proofs.lemmas.List.{length-map}
 use Rattle.std.proofs.lemmas.List.{length-append}
 use Rattle.rank_sets.specs.Below.{listed}
@@ -7,13 +7,12 @@ use Rattle.mesh_decl.specs.declared.owners.Owners.{Owners}
 use Rattle.mesh_decl.specs.declared.owners.Perms.{Perms}
 use Rattle.mesh_decl.specs.Mesh.{dat_count}
 use Rattle.local_mesh.specs.declared.types.RankMesh.{RankMesh}
-use Rattle.schedule_steps.specs.Peaks.{step_count}
 use Rattle.bound_program.specs.Values.{BoundValue}
 use Rattle.bound_program.specs.Fits.{Fits}
 use Rattle.loop_plan.specs.declared.types.Pair.{Pair}
 use Rattle.loop_plan.specs.declared.types.ItemPlan.{ItemPlan}
 use Rattle.loop_plan.specs.Distributed.{IsDistributed}
-use Rattle.loop_plan.specs.Values.{PlanValue, ItemPlanValue, item_plan_of, no_item_plan}
+use Rattle.loop_plan.specs.Values.{PlanValue, item_plan_of, no_item_plan}
 use Rattle.loop_plan.specs.Needs.{exchanged_at}
 use Rattle.loop_plan.specs.Pairs.{passes, pair, pairs_below}
 use Rattle.loop_plan.specs.ItemPlans.{plan_in, IsPlanned, ArePlanned}

@@ -1,5 +1,5 @@
 -- The local mesh of a rank, by number.
-use Rattle.std.proofs.Common.{◌≡◌, ◌+◌, ◌*◌, ◌/◌, ◌%◌, ◌≤◌, ◌<◌, ◌^◌, ℕ, true, List, length, get_or, refl, sym, ap, ◌∙◌, subst, arith, Vec, Global, mul-le-mul_right}
+use Rattle.std.proofs.Common.{◌≡◌, ◌+◌, ◌*◌, ◌/◌, ◌%◌, ◌≤◌, ◌<◌, ◌^◌, ℕ, true, List, length, get_or, sym, ap, ◌∙◌, subst, arith, mul-le-mul_right}
 use Rattle.std.proofs.lemmas.Nat.{div-mul-add, mod-mul-add, mul-add-lt}
 use Rattle.rank_sets.specs.Below.{row}
 use Rattle.mesh_decl.specs.declared.owners.Owners.{Owners}
@@ -9,11 +9,11 @@ use Rattle.mesh_decl.specs.Owners.{ArePerms}
 use Rattle.halo_lists.specs.Halo.{executes, has_copy}
 use Rattle.local_mesh.specs.declared.types.LocalSet.{LocalSet}
 use Rattle.local_mesh.specs.declared.types.RankMesh.{RankMesh}
-use Rattle.local_mesh.specs.LocalMesh.{IsLocalSet, IsRankMesh, AreRankMeshes, AreLocalTargets, AreClosed, originals_in, executed_in, cells_before}
+use Rattle.local_mesh.specs.LocalMesh.{IsLocalSet, IsRankMesh, AreLocalTargets, AreClosed, originals_in, executed_in, cells_before}
 use Rattle.local_mesh.proofs.Closing.{originals_at, sets_closed}
 use Rattle.plan_exists.proofs.Built.{table, length_table, table_at, vec_of, items_are, row_is}
 use Rattle.plan_exists.proofs.Found.{found, found_in}
-use Rattle.plan_exists.proofs.Sets.{originals, local_set, originals_are, few_originals, local_set_is}
+use Rattle.plan_exists.proofs.Sets.{local_set, originals_are, few_originals, local_set_is}
 
 module _ (g : MeshValue) (o : Owners) (p : Perms) (r : ℕ) where
   sets : List LocalSet

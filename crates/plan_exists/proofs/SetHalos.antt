@@ -1,10 +1,8 @@
 -- The halos of a mesh, by number.
 use Rattle.std.proofs.Common.{◌≡◌, ◌≤◌, ◌<◌, ◌^◌, ℕ, true, ◌&&◌, List, length, refl, sym, ap, ◌∙◌, subst, arith, Vec, Global, get_or}
-use Rattle.rank_sets.specs.Below.{listed, row, rows, count_below}
-use Rattle.rank_sets.proofs.Below.{length_listed}
+use Rattle.rank_sets.specs.Below.{listed, row, rows}
 use Rattle.mesh_decl.specs.declared.owners.Owners.{Owners}
 use Rattle.mesh_decl.specs.Mesh.{MeshValue, set_count, set_size}
-use Rattle.mesh_decl.specs.Owners.{AreOwners}
 use Rattle.halo_lists.specs.declared.types.SetHalo.{SetHalo}
 use Rattle.halo_lists.specs.declared.types.Halos.{Halos}
 use Rattle.halo_lists.specs.Halo.{imports_execute, imports_nonexecute, imports, is_core, owns}

@@ -1,9 +1,9 @@
 -- What a rank has of a set, by number.
-use Rattle.std.proofs.Common.{◌≡◌, ◌+◌, ◌≤◌, ◌<◌, ◌^◌, ℕ, Bool, true, false, ◌&&◌, nat_lt, List, ◌++◌, length, get_or, refl, sym, ap, ◌∙◌, subst, arith, Vec, Global}
+use Rattle.std.proofs.Common.{◌≡◌, ◌≤◌, ◌<◌, ◌^◌, ℕ, Bool, false, ◌&&◌, nat_lt, List, ◌++◌, length, get_or, refl, ap, ◌∙◌, arith}
 use Rattle.mesh_decl.specs.declared.owners.Owners.{Owners}
 use Rattle.mesh_decl.specs.declared.owners.Perms.{Perms}
 use Rattle.mesh_decl.specs.Mesh.{MeshValue, set_count, set_size}
-use Rattle.mesh_decl.specs.Owners.{IsNumbering, ArePerms, perm_in}
+use Rattle.mesh_decl.specs.Owners.{ArePerms, perm_in}
 use Rattle.halo_lists.specs.Halo.{owns, imports_execute, imports_nonexecute, is_core}
 use Rattle.local_mesh.specs.declared.types.LocalSet.{LocalSet}
 use Rattle.local_mesh.specs.Local.{ordered, earlier, AreInverse}

@@ -1,5 +1,5 @@
 -- Lists that memory can have.
-use Rattle.std.proofs.Common.{◌≡◌, ℕ, ◌<◌, ◌≤◌, ◌^◌, Bool, length, arith, cond, suc, zero, ◌+◌, true, false}
+use Rattle.std.proofs.Common.{ℕ, ◌<◌, ◌≤◌, ◌^◌, Bool, length, arith, cond, suc, zero, true, false}
 use Rattle.rank_sets.specs.Below.{listed, count_below}
 use Rattle.rank_sets.proofs.Below.{length_listed}
 

@@ -1,5 +1,5 @@
 -- That there is what words ask for.
-use Rattle.std.specs.Prelude.{◌≡◌, ℕ, ◌<◌, ◌≤◌, ◌^◌, List, length, Option, Result}
+use Rattle.std.specs.Prelude.{◌≡◌, ℕ, ◌<◌, ◌≤◌, ◌^◌, List, length, Option, Result, Ok}
 use Rattle.mesh_decl.specs.declared.owners.Owners.{Owners}
 use Rattle.mesh_decl.specs.declared.owners.Perms.{Perms}
 use Rattle.mesh_decl.specs.Mesh.{MeshValue, IsMesh, map_count, map_targets}
@@ -27,6 +27,14 @@ OwnersExist =
     → 0 < ranks
     → ranks ≤ 64
     → (r : Result Owners OwnersRefusal) × OwnersAre g ranks parts r
+
+-- what comes of it are owners and new numbers of the mesh
+pub record OutcomesFit : Type 0 where
+  pub owners : (g : MeshValue) (ranks : ℕ) (parts : Parts) (o : Owners)
+      → 0 < ranks → ranks ≤ 64
+      → OwnersAre g ranks parts (Ok o)
+      → (o.ranks ≡ ranks) × AreOwners g o
+  pub numbers : (g : MeshValue) (name : Option (List ℕ)) (p : Perms) → NumbersAre g name (Ok p) → ArePerms g p
 
 -- the lists of targets are as short as those of memory
 abbrev pub FitsMemory : MeshValue → Type 0

@@ -11,5 +11,5 @@ mod plans;
 
 pub use distributions::some_distribution;
 pub use numbers::some_numbers;
-pub use owners::some_owners;
+pub use owners::{outcomes_fit, some_owners};
 pub use plans::some_plan;

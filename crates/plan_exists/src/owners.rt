@@ -1,5 +1,5 @@
 // Owners are there.
-ghost use Rattle.plan_exists.specs.Laws.{OwnersExist};
+ghost use Rattle.plan_exists.specs.Laws.{OwnersExist, OutcomesFit};
 
 use mesh_decl::declarations_hold;
 use part_text::one_outcome;
@@ -11,3 +11,8 @@ pub fn some_owners()
     declarations_hold();
     one_outcome();
 }
+
+/// Owners and new numbers that come of what is asked for are those of the mesh, among as many ranks.
+pub fn outcomes_fit()
+    ensures { OutcomesFit }
+{}
