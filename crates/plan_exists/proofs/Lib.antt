@@ -24,3 +24,4 @@ pub mod Cut
 pub mod Halved
 pub mod Owned
 pub mod Fitting
+pub mod Memory

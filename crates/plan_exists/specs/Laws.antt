@@ -1,7 +1,8 @@
 -- That there is what words ask for.
-use Rattle.std.specs.Prelude.{◌≡◌, ℕ, ◌<◌, ◌≤◌, ◌^◌, List, length, Option, Result, Ok}
+use Rattle.std.specs.Prelude.{◌≡◌, ℕ, ◌<◌, ◌≤◌, ◌^◌, List, length, Option, Result, Ok, All}
 use Rattle.mesh_decl.specs.declared.owners.Owners.{Owners}
 use Rattle.mesh_decl.specs.declared.owners.Perms.{Perms}
+use Rattle.mesh_decl.specs.declared.decl.MapDecl.{MapDecl}
 use Rattle.mesh_decl.specs.Mesh.{MeshValue, IsMesh, map_count, map_targets}
 use Rattle.mesh_decl.specs.Owners.{AreOwners, ArePerms}
 use Rattle.distribute.specs.declared.types.Distribution.{Distribution}
@@ -10,6 +11,7 @@ use Rattle.distribute.specs.Judgements.{NumbersAre, OwnersAre}
 use Rattle.distribute.specs.Distributions.{IsDistribution}
 use Rattle.local_mesh.specs.declared.types.RankMesh.{RankMesh}
 use Rattle.bound_program.specs.Values.{BoundValue}
+use Rattle.bound_program.specs.Limits.{max_dim}
 use Rattle.bound_program.specs.Fits.{Fits}
 use Rattle.loop_plan.specs.Distributed.{IsDistributed}
 use Rattle.loop_plan.specs.Values.{PlanValue}
@@ -39,6 +41,10 @@ pub record OutcomesFit : Type 0 where
 -- the lists of targets are as short as those of memory
 abbrev pub FitsMemory : MeshValue → Type 0
 FitsMemory g = (m : ℕ) → m < map_count g → length (map_targets g m) < 2 ^ 63
+
+-- so they are where each map has a dim of at most 64
+abbrev pub NarrowMeshesFitMemory : Type 0
+NarrowMeshesFitMemory = (g : MeshValue) → IsMesh g → All (λ (d : MapDecl). d.dim ≤ max_dim) g.maps → FitsMemory g
 
 -- owners and new numbers of a mesh have a distribution
 abbrev pub DistributionsExist : Type 0

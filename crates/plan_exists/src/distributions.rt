@@ -1,5 +1,5 @@
 // Halos and local meshes are there.
-ghost use Rattle.plan_exists.specs.Laws.{DistributionsExist};
+ghost use Rattle.plan_exists.specs.Laws.{DistributionsExist, NarrowMeshesFitMemory};
 
 use halo_lists::executed_targets_are_copies;
 use mesh_decl::declarations_hold;
@@ -9,5 +9,12 @@ pub fn some_distribution()
     ensures { DistributionsExist }
 {
     executed_targets_are_copies();
+    declarations_hold();
+}
+
+/// The lists of targets of a mesh whose maps have a dim of at most 64 are as short as those of memory.
+pub fn narrow_meshes_fit_memory()
+    ensures { NarrowMeshesFitMemory }
+{
     declarations_hold();
 }

@@ -9,7 +9,7 @@ mod numbers;
 mod owners;
 mod plans;
 
-pub use distributions::some_distribution;
+pub use distributions::{narrow_meshes_fit_memory, some_distribution};
 pub use numbers::some_numbers;
 pub use owners::{outcomes_fit, some_owners};
 pub use plans::some_plan;
