@@ -1,21 +1,13 @@
 -- A list cut along its longest axis.
-use Rattle.std.proofs.Common.{◌≡◌, ◌<◌, ◌≤◌, ◌-◌, ℕ, ℤ, zero, suc, pred, true, false, List, length, get_or, take, drop, refl, subst, arith, ⊎_elim, inl, inr}
-use Rattle.partition.specs.Elected.{IsElected}
+use Rattle.std.proofs.Common.{◌≡◌, ◌<◌, ◌≤◌, ◌-◌, ℕ, ℤ, true, false, List, length, get_or, take, drop, refl, arith, ⊎_elim, inl, inr}
 use Rattle.partition.specs.Bisect.{height, IsSpread, IsAxis, IsAlong, IsCut}
 use Rattle.partition.proofs.Axes.{spread_from, spread_le}
 use Rattle.partition.proofs.Parts.{cut_from}
-use Rattle.plan_exists.proofs.Firsts.{elected}
+use Rattle.plan_exists.proofs.Firsts.{greatest}
 use Rattle.plan_exists.proofs.Picked.{By, IsPicked, picked}
 use Rattle.plan_exists.proofs.Sorted.{sorted, sorted_same, sorted_by}
 
-one_less : (n : ℕ) → 0 < n → suc (pred n) ≡ n
-one_less zero l = absurd (omega arith)
-one_less (suc n) l = refl
-
--- the greatest and the least of f 0, f 1, .. below n
-greatest : (n : ℕ) (f : ℕ → ℕ) → 0 < n → (r : ℕ) × IsElected n f r
-greatest n f some = let e = elected f (pred n) in (e.0, subst (λ z. IsElected z f e.0) (one_less n some) e.1)
-
+-- the least of f 0, f 1, .. below n
 least : (n : ℕ) (f : ℕ → ℕ) → 0 < n → (z : ℕ) × (z < n) × ((y : ℕ) → y < n → f z ≤ f y)
 least n f some = ⊎_elim
     (λ (none : (y : ℕ) → y < n → true ≡ false). (let bad : true ≡ false = none 0 some in cc))

@@ -1,5 +1,5 @@
 -- The first that passes, and the rank with the most votes.
-use Rattle.std.proofs.Common.{◌≡◌, ◌<◌, ◌≤◌, ℕ, zero, suc, Bool, true, false, ◌||◌, refl, sym, ap, ◌∙◌, subst, arith, ⊎_elim, inl, inr, ◌⊎◌}
+use Rattle.std.proofs.Common.{◌≡◌, ◌<◌, ◌≤◌, ℕ, zero, suc, pred, Bool, true, false, ◌||◌, refl, sym, ap, ◌∙◌, subst, arith, ⊎_elim, inl, inr, ◌⊎◌}
 use Rattle.std.proofs.lemmas.Bool.{cases_lt, cases_eq, cases_Bool}
 use Rattle.rank_sets.specs.Below.{any_below}
 use Rattle.partition.specs.Derive.{IsFirst}
@@ -15,7 +15,7 @@ first p (suc n) = step (first p n) (cases_Bool (p n))
     step (inl none) (inl t) = inr (n, record { within = omega arith; passes = t; before = none_passes n p none })
     step (inl none) (inr t) = inl (ap (λ z. z || p n) none ∙ t)
 
-pub elected : (votes : ℕ → ℕ) (n : ℕ) → (r : ℕ) × IsElected (suc n) votes r
+elected : (votes : ℕ → ℕ) (n : ℕ) → (r : ℕ) × IsElected (suc n) votes r
 elected votes zero = (
   0,
   record {
@@ -51,3 +51,11 @@ elected votes (suc n) = step (elected votes n)
           },
         ))
         (cases_lt (votes r) (votes (suc n)))
+
+one_less : (n : ℕ) → 0 < n → suc (pred n) ≡ n
+one_less zero l = absurd (omega arith)
+one_less (suc n) l = refl
+
+-- the same of any number of ranks
+pub greatest : (n : ℕ) (votes : ℕ → ℕ) → 0 < n → (r : ℕ) × IsElected n votes r
+greatest n votes some = let e = elected votes (pred n) in (e.0, subst (λ z. IsElected z votes e.0) (one_less n some) e.1)

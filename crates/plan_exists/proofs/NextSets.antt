@@ -1,5 +1,5 @@
 -- The set that gets owners next, and they.
-use Rattle.std.proofs.Common.{◌≡◌, ◌<◌, ℕ, zero, suc, pred, Bool, true, false, not, cond, List, length, get_or, refl, sym, ◌∙◌, subst, arith, ⊎_elim, inl, inr, ◌⊎◌}
+use Rattle.std.proofs.Common.{◌≡◌, ◌<◌, ℕ, Bool, true, false, not, cond, List, length, get_or, sym, ◌∙◌, subst, ⊎_elim, inl, inr, ◌⊎◌}
 use Rattle.std.proofs.lemmas.Bool.{cases_Bool}
 use Rattle.mesh_decl.specs.Mesh.{MeshValue, set_count, map_count, set_size, map_from, map_to}
 use Rattle.rank_sets.specs.Below.{any_below}
@@ -8,20 +8,16 @@ use Rattle.partition.specs.Elected.{IsElected, target_votes, naming_votes, is_na
 use Rattle.partition.specs.Derive.{IsFirst, IsNextSet, can_follow_targets, can_follow_names, leads_to_known, leads_from_known}
 use Rattle.plan_exists.proofs.Built.{table, length_table, table_at}
 use Rattle.plan_exists.proofs.Tests.{both}
-use Rattle.plan_exists.proofs.Firsts.{first, elected}
+use Rattle.plan_exists.proofs.Firsts.{first, greatest}
 use Rattle.plan_exists.proofs.Blocks.{block_of, in_block, block_below, block_list, length_block, block_at}
 
 module _ (ranks : ℕ) (some : 0 < ranks) where
   chosen : (ℕ → ℕ) → ℕ
-  chosen votes = (elected votes (pred ranks)).0
+  chosen votes = (greatest ranks votes some).0
 
   chosen_is : (votes : ℕ → ℕ) → IsElected ranks votes (chosen votes)
   unfolding chosen
-  chosen_is votes = subst (λ z. IsElected z votes (elected votes (pred ranks)).0) (one_less ranks some) (elected votes (pred ranks)).1
-    where
-      one_less : (n : ℕ) → 0 < n → suc (pred n) ≡ n
-      one_less zero l = absurd (omega arith)
-      one_less (suc n) l = refl
+  chosen_is votes = (greatest ranks votes some).1
 
   module _ (g : MeshValue) (owners : ℕ → List ℕ) (known : ℕ → Bool) where
     -- a set that gets owners, and they
