@@ -7,3 +7,4 @@ pub mod Tables
 pub mod MessageLaws
 pub mod DatWindows
 pub mod WindowLaws
+pub mod Made

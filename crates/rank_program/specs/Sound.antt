@@ -4,6 +4,7 @@ use Rattle.kernel_types.specs.declared.faults.KernelFault.{KernelFault}
 use Rattle.kernel_code.specs.Codes.{AreCodesOf, HaveRoom}
 use Rattle.mesh_decl.specs.Mesh.{set_size}
 use Rattle.mesh_decl.specs.declared.owners.Perms.{Perms}
+use Rattle.halo_lists.specs.declared.types.Halos.{Halos}
 use Rattle.schedule_model.specs.Program.{is_loop}
 use Rattle.schedule_model.specs.Setup.{Setup}
 use Rattle.flat_machine.specs.Layout.{Layout, Core, Leaves}
@@ -16,6 +17,8 @@ use Rattle.bound_plan.specs.Laws.{Runnable}
 use Rattle.bound_plan.specs.Windows.{frame_cells}
 use Rattle.bound_plan.specs.Setups.{setup_of}
 use Rattle.bound_plan.specs.Layouts.{layout_of}
+use Rattle.rank_program.specs.MessageLaws.{HasLists}
+use Rattle.rank_program.specs.Made.{AreMade}
 use Rattle.rank_program.specs.declared.program.DistributedProgram.{DistributedProgram}
 
 module _ (c : DistributedProgram) where
@@ -37,7 +40,10 @@ module _ (c : DistributedProgram) where
   -- the program can be run on these ranks by its plan, with the codes of its kernels
   pub record Sound : Type 0 where
     pub numbers : Perms
+    pub halos : Halos
     pub runnable : Runnable program_in c.owners.now numbers c.meshes.now plan_in
+    pub lists : HasLists program_in c.owners.now numbers c.meshes.now plan_in halos c.lists.now
+    pub made : AreMade program_in c.owners.now plan_in c.lists.now c.tables
     pub codes : AreCodesOf program_in.kernels c.codes.now
     pub room : HaveRoom c.codes.now c.locals
     pub same_length : (k e : ℕ) (cs ws us : List ℤ) → core_in k e cs ws ≡ Leaves us → length us ≡ length ws

@@ -9,6 +9,7 @@ mod laws;
 mod messages;
 mod modified;
 mod program;
+mod tables;
 mod widths;
 mod windows;
 
@@ -18,4 +19,5 @@ pub use laws::{messages_stand, windows_stand};
 pub use messages::{push_exports, push_imports};
 pub use modified::is_modified;
 pub use program::DistributedProgram;
+pub use tables::MachineTables;
 pub use widths::stride;

@@ -4,10 +4,11 @@ ghost use Rattle.std.specs.Prelude.{◌≡◌};
 
 use crate::items::loop_of;
 use crate::kernel_run::run_kernel;
+use crate::tables::MachineTables;
 use bound_program::Bound;
 use kernel_code::Code;
 use kernel_types::KernelFault;
-use local_mesh::RankMesh;
+use local_mesh::{LocalLists, RankMesh};
 use loop_plan::Plan;
 use mesh_decl::Owners;
 use rank_exec::core_run::Kernels;
@@ -19,11 +20,14 @@ pub struct DistributedProgram<'a> {
     pub owners: &'a Owners,
     /// The local mesh of each rank.
     pub meshes: &'a [RankMesh],
+    /// By set, the local numbers of what ranks own, export and import.
+    pub lists: &'a [LocalLists],
     pub plan: &'a Plan,
     /// The codes of the program's kernels.
     pub codes: &'a [Code<'a>],
     /// The most cells that the locals of a kernel have.
     pub locals: usize,
+    pub tables: MachineTables,
 }
 
 impl<'a> Kernels for DistributedProgram<'a> {
