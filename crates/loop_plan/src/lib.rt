@@ -11,7 +11,6 @@ mod needs;
 mod places;
 mod plans;
 mod sites;
-mod stream;
 mod types;
 mod writing;
 
@@ -29,6 +28,6 @@ pub use places::{place_count, places_by_rank};
 pub use plans::{MAX_STEPS, plan};
 pub use schedule_steps::Step;
 pub use sites::site_plans;
-pub use stream::{Listed, Steps};
+pub use step_orders::{Listed, Steps};
 pub use types::{ItemPlan, Pair, Plan, PlanRefusal, SitePlan, SitePlans};
 pub use writing::write_plan;
