@@ -2,7 +2,7 @@
 
 ghost use Rattle.std.specs.Prelude.{◌≡◌, ◌≤◌, ℕ, ℤ, List, length};
 ghost use Rattle.kernel_types.specs.declared.faults.KernelFault.{KernelFault};
-ghost use Rattle.flat_machine.specs.Layout.{Core, Leaves};
+ghost use Rattle.flat_machine.specs.Layout.{Core};
 ghost use Rattle.rank_state.specs.Core.{ran_of};
 
 use kernel_types::KernelFault;
@@ -42,8 +42,4 @@ pub trait Kernels: Sync {
         requires takes { takes self.now item element (length constants.now) (length windows.old) }
         requires room { locals self.now ≤ length scratch.old }
         ensures { ran_of windows.new result ≡ core self.now item element constants.now windows.old };
-
-    /// A law: no window grows or shrinks.
-    ghost same_length: { (c : Self) → sound c
-        → (k e : ℕ) (cs ws us : List ℤ) → core c k e cs ws ≡ Leaves us → length us ≡ length ws };
 }

@@ -19,7 +19,7 @@ use crate::joins::join;
 use crate::machine::{Machine, Stop};
 use crate::room::Room;
 use crate::steps;
-use crate::stream::Steps;
+use crate::stream::{Steps, next_of};
 use kernel_types::KernelFault;
 use op_num::OutOfMemory;
 use schedule_steps::Step;
@@ -89,7 +89,7 @@ pub fn run<P: Items, S: Steps>(
 {
     schedule_steps::peak_is_room();
     rank_state::steps_are_ready::<KernelFault>();
-    let mut next = steps.next_step();
+    let mut next = next_of(steps);
     while let Some(step) = next {
         if let Step::Begin { item, rank, place } = step {
             next = run_begins(alloc, machine, parts, room, steps, item, rank, place)?;
@@ -97,7 +97,7 @@ pub fn run<P: Items, S: Steps>(
             if let Some(stop) = take(alloc, machine, parts, room, step)? {
                 return Ok(Some(stop));
             }
-            next = steps.next_step();
+            next = next_of(steps);
         }
     }
     Ok(None)

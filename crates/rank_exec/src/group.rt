@@ -15,7 +15,7 @@ use crate::machine::Machine;
 use crate::parts::Parts;
 use crate::room::Room;
 use crate::steps::{begin, in_place};
-use crate::stream::Steps;
+use crate::stream::{Steps, next_of};
 use kernel_types::KernelFault;
 use op_num::OutOfMemory;
 use schedule_steps::Step;
@@ -64,7 +64,7 @@ fn collect<S: Steps>(
     ensures more { IfOk result (λ next. length places.old.items ≤ length places.new.items) }
 {
     'begins: loop {
-        let next = steps.next_step();
+        let next = next_of(steps);
         if let Some(step) = next {
             if let Step::Begin {
                 item: i,
@@ -126,7 +126,7 @@ pub fn run_begins<P: Parts, S: Steps>(
     let next = collect(steps, item, rank, &mut places)?;
     if places.len() == 1 && is_end(next, item, rank, place) {
         in_place(machine, parts, room, item, rank, place);
-        let after = steps.next_step();
+        let after = next_of(steps);
         return Ok(after);
     }
     begin_group(machine, parts, room, item, rank, &places);

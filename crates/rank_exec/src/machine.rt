@@ -445,4 +445,11 @@ impl Machine {
     {
         run_act(alloc, known, act, &mut self.variables, &mut self.output)
     }
+
+    /// What the machine has printed.
+    pub fn into_output(self) -> Vec<u8>
+        ensures { result.items ≡ self.output }
+    {
+        self.output
+    }
 }

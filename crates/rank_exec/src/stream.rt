@@ -1,34 +1,15 @@
 // Steps that come one after another.
 
-ghost use Rattle.std.specs.Prelude.{◌≡◌, List, [], None};
-ghost use Rattle.schedule_steps.specs.declared.step.Step.{Step};
+ghost use Rattle.std.specs.Prelude.{◌≡◌, [], None};
 ghost use Rattle.rank_exec.specs.Driving.{to_come};
 
 use schedule_steps::Step;
+pub use step_orders::{Listed, Steps};
 
-/// Steps, one after another.
-pub trait Steps {
-    /// The list still to come.
-    ghost left: { Self → List Step };
-
-    /// The first of them; `None` where there is none.
-    fn next_step(&mut self) -> Option<Step>
-        ensures next { left self.old ≡ to_come result (left self.new) }
-        ensures over { result ≡ None → left self.new ≡ [] };
-}
-
-/// The steps of a list.
-#[derive(Drop)]
-pub struct Listed<'a> {
-    pub steps: &'a [Step],
-}
-
-impl<'a> Steps for Listed<'a> {
-    ghost left = { λ s. s.steps.now };
-
-    fn next_step(&mut self) -> Option<Step> {
-        let (step, rest) = self.steps.split_first()?;
-        self.steps = rest;
-        Some(*step)
-    }
+/// The first of the steps still to come; `None` where there is none.
+pub fn next_of<S: Steps>(steps: &mut S) -> Option<Step>
+    ensures next { S.left steps.old ≡ to_come result (S.left steps.new) }
+    ensures over { result ≡ None → S.left steps.new ≡ [] }
+{
+    steps.next_step()
 }

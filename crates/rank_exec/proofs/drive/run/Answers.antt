@@ -14,9 +14,9 @@ use Rattle.rank_exec.proofs.drive.run.Goals as goal
 
 pub loop-next-init : goal.loop-next-init
 loop-next-init g c = record {
-  reached = reached_none (g.P.Parts.setup c.args.parts.now) (g.P.Parts.layout c.args.parts.now) (g.P.Parts.tables c.args.parts.now) (g.S.Steps.left c.args.steps.now) (to_come c.next_step-next.result (g.S.Steps.left c.next_step-next.new.self)) c.args.machine.now c.next_step-next.ensures.next;
+  reached = reached_none (g.P.Parts.setup c.args.parts.now) (g.P.Parts.layout c.args.parts.now) (g.P.Parts.tables c.args.parts.now) (g.S.Steps.left c.args.steps.now) (to_come c.next_of-next.result (g.S.Steps.left c.next_of-next.new.steps)) c.args.machine.now c.next_of-next.ensures.next;
   space = c.requires.space;
-  over = c.next_step-next.ensures.over;
+  over = c.next_of-next.ensures.over;
 }
 
 pub run_begins-requires-clause-ready : goal.run_begins-requires-clause-ready
@@ -92,12 +92,12 @@ returns-in-Some-2 g c f hs h =
 
 pub loop-next-preserved : goal.loop-next-preserved
 loop-next-preserved g c = record {
-  reached = reached_step (g.P.Parts.setup c.args.parts.now) (g.P.Parts.layout c.args.parts.now) (g.P.Parts.tables c.args.parts.now) (g.S.Steps.left c.args.steps.now) (g.S.Steps.left c.loop-next.steps) (to_come c.next_step-next-in_default-step.result (g.S.Steps.left c.next_step-next-in_default-step.new.self)) c.in-Some.step c.args.machine.now c.loop-next.machine c.take.new.machine r
-      c.next_step-next-in_default-step.ensures.next
+  reached = reached_step (g.P.Parts.setup c.args.parts.now) (g.P.Parts.layout c.args.parts.now) (g.P.Parts.tables c.args.parts.now) (g.S.Steps.left c.args.steps.now) (g.S.Steps.left c.loop-next.steps) (to_come c.next_of-next-in_default-step.result (g.S.Steps.left c.next_of-next-in_default-step.new.steps)) c.in-Some.step c.args.machine.now c.loop-next.machine c.take.new.machine r
+      c.next_of-next-in_default-step.ensures.next
       (λ f h. subst (λ o. After (g.P.Parts.setup c.args.parts.now) (g.P.Parts.layout c.args.parts.now) (g.P.Parts.tables c.args.parts.now) (stop_in o) c.take.new.machine (flat_step (g.P.Parts.setup c.args.parts.now) (g.P.Parts.layout c.args.parts.now) c.in-Some.step f)) c.in_default-2.is (c.in_ok-stop.ensures.after f h))
       c.take.ensures.mail c.take.ensures.frames (by_recv c.in-Some.step r.split) (by_end c.in-Some.step r.split);
   space = c.take.ensures.space;
-  over = c.next_step-next-in_default-step.ensures.over;
+  over = c.next_of-next-in_default-step.ensures.over;
 }
   where
     r : Reached (g.P.Parts.setup c.args.parts.now) (g.P.Parts.layout c.args.parts.now) (g.P.Parts.tables c.args.parts.now) (g.S.Steps.left c.args.steps.now) (c.in-Some.step ∷ g.S.Steps.left c.loop-next.steps) c.args.machine.now c.loop-next.machine

@@ -16,8 +16,8 @@ returns-then-is_end-clause-done g c =
     c.in_ok-next.ensures.all ∙ ap (λ xs. begins c.args.item c.args.rank xs ++ g.S.Steps.left c.args.steps.now) one in
     let n : length c.collect.new.places.items ≡ 1 = omega (arith, c.if-len-eq1.true, c.len.ensures) in
     let rest : to_come c.in_ok-next.next (g.S.Steps.left c.collect.new.steps) ≡ g.S.Steps.left c.args.steps.now = after_one c.args.item c.args.rank c.args.place c.collect.new.places.items (to_come c.in_ok-next.next (g.S.Steps.left c.collect.new.steps)) (g.S.Steps.left c.args.steps.now) n all in
-    let here : g.S.Steps.left c.args.steps.now ≡ End c.args.item c.args.rank c.args.place ∷ to_come c.next_step-after.result (g.S.Steps.left c.next_step-after.new.self) =
-    sym rest ∙ (ap (λ s. to_come s (g.S.Steps.left c.collect.new.steps)) (c.is_end.ensures c.if-is_end.true) ∙ ap (λ z. End c.args.item c.args.rank c.args.place ∷ z) c.next_step-after.ensures.next) in
+    let here : g.S.Steps.left c.args.steps.now ≡ End c.args.item c.args.rank c.args.place ∷ to_come c.next_of-after.result (g.S.Steps.left c.next_of-after.new.steps) =
+    sym rest ∙ (ap (λ s. to_come s (g.S.Steps.left c.collect.new.steps)) (c.is_end.ensures c.if-is_end.true) ∙ ap (λ z. End c.args.item c.args.rank c.args.place ∷ z) c.next_of-after.ensures.next) in
     let some : 0 < 2 = omega arith in (
       Begin c.args.item c.args.rank c.args.place ∷ End c.args.item c.args.rank c.args.place ∷ [],
       ap (λ z. Begin c.args.item c.args.rank c.args.place ∷ z) here,
