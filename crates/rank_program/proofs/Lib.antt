@@ -9,3 +9,5 @@ pub mod MessagesStand
 pub mod Widest
 pub mod RankWindows
 pub mod WindowsStand
+pub mod FirstCells
+pub mod FirstStand

@@ -36,7 +36,7 @@ use Rattle.rank_program.proofs.MessageCells.{one_element}
 use Rattle.rank_program.proofs.MessagesStand.{bases_at}
 use Rattle.rank_program.proofs.RankWindows.{all_spans, reached_cells, reached_within}
 
-sets_at : (meshes : List RankMesh) (r : ℕ) (m : RankMesh) → r < length meshes → m ≡ get_or meshes r m → m.sets.items ≡ sets_of meshes r
+pub sets_at : (meshes : List RankMesh) (r : ℕ) (m : RankMesh) → r < length meshes → m ≡ get_or meshes r m → m.sets.items ≡ sets_of meshes r
 unfolding sets_of
 sets_at meshes r m lt is = ap (λ (x : RankMesh). x.sets.items) is ∙ sym (get_or-map (λ (x : RankMesh). x.sets.items) meshes r m [] lt)
 
@@ -159,11 +159,11 @@ module _ (b : BoundValue) (o : Owners) (meshes : List RankMesh) (r x : ℕ) (m :
 
 -- ---- the law
 
-some_at : {A : Type 0} (xs : List A) (i : ℕ) → i < length xs → A
+pub some_at : {A : Type 0} (xs : List A) (i : ℕ) → i < length xs → A
 some_at [] i lt = absurd (omega arith)
 some_at (y ∷ ys) i lt = y
 
-size_small : (g : MeshValue) → IsMesh g → (s : ℕ) → set_size g s < 2 ^ 32
+pub size_small : (g : MeshValue) → IsMesh g → (s : ℕ) → set_size g s < 2 ^ 32
 unfolding size_in
 size_small g mesh s = ⊎_elim
     (λ (lt : s < length g.sets).

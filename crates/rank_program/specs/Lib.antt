@@ -8,3 +8,4 @@ pub mod MessageLaws
 pub mod DatWindows
 pub mod WindowLaws
 pub mod Made
+pub mod First

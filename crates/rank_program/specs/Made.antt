@@ -29,7 +29,7 @@ use Rattle.rank_program.specs.declared.tables.MachineTables.{MachineTables}
 
 -- the list at place s of a list of lists
 unfoldable pub row_of : {A : Type 0} → List (Vec A Global) → ℕ → List A
-row_of lists s = slice_index_or (map (λ (v : Vec A Global). v.items) lists) s []
+row_of {A = A} lists s = slice_index_or (map (λ (v : Vec A Global). v.items) lists) s []
 
 module _ (b : BoundValue) (s : ℕ) where
   -- the scalar is a cell that loop s reads, or one into which it reduces, with its slot
@@ -75,5 +75,6 @@ pub record AreMade (b : BoundValue) (o : Owners) (p : PlanValue) (lists : List L
   pub place_count : length t.places.items ≡ o.ranks
   pub places : (r : ℕ) → r < o.ranks → get_or t.places.items r 0 ≡ (tables_of b p).places r
   pub stride : t.stride ≡ (tables_of b p).stride
+  pub narrow : t.stride ≤ 1024
   pub elements : (s : ℕ) → s < length b.sites → length (site_at b s).args ≤ t.spans
   pub messages : (k s r : ℕ) → k < length b.trace → s < o.ranks → r < o.ranks → message_spans b p lists k s r ≤ t.spans

@@ -5,14 +5,16 @@ use Rattle.kernel_code.specs.Codes.{AreCodesOf, HaveRoom}
 use Rattle.mesh_decl.specs.Mesh.{set_size}
 use Rattle.mesh_decl.specs.declared.owners.Perms.{Perms}
 use Rattle.halo_lists.specs.declared.types.Halos.{Halos}
+use Rattle.schedule_steps.specs.Outline.{Outline}
 use Rattle.schedule_model.specs.Program.{is_loop}
 use Rattle.schedule_model.specs.Setup.{Setup}
-use Rattle.flat_machine.specs.Layout.{Layout, Core, Leaves}
+use Rattle.flat_machine.specs.Layout.{Layout, Core}
 use Rattle.bound_program.specs.Values.{BoundValue, bound_of}
 use Rattle.run_model.specs.Kernels.{constants}
 use Rattle.run_model.specs.Laws.{site_of}
 use Rattle.run_model.specs.Programs.{item_at, kind_of}
 use Rattle.loop_plan.specs.Values.{PlanValue, plan_of}
+use Rattle.loop_plan.specs.StepOutline.{step_outline}
 use Rattle.bound_plan.specs.Laws.{Runnable}
 use Rattle.bound_plan.specs.Windows.{frame_cells}
 use Rattle.bound_plan.specs.Setups.{setup_of}
@@ -34,6 +36,9 @@ module _ (c : DistributedProgram) where
   abbrev pub layout_in : Layout KernelFault
   layout_in = layout_of program_in c.owners.now c.meshes.now plan_in
 
+  abbrev pub outline_in : Outline
+  outline_in = step_outline program_in c.meshes.now plan_in
+
   abbrev pub core_in : ℕ → ℕ → List ℤ → List ℤ → Core KernelFault
   core_in = layout_in.core
 
@@ -46,7 +51,6 @@ module _ (c : DistributedProgram) where
     pub made : AreMade program_in c.owners.now plan_in c.lists.now c.tables
     pub codes : AreCodesOf program_in.kernels c.codes.now
     pub room : HaveRoom c.codes.now c.locals
-    pub same_length : (k e : ℕ) (cs ws us : List ℤ) → core_in k e cs ws ≡ Leaves us → length us ≡ length ws
 
   -- the item is a loop with this element, with so many constants and cells of its frame
   pub record Takes (k e cs ws : ℕ) : Type 0 where

@@ -1,6 +1,7 @@
 // What the spans of messages say.
 ghost use Rattle.rank_program.specs.MessageLaws.{ExportsStand, ImportsStand};
 ghost use Rattle.rank_program.specs.WindowLaws.{DatWindowsStand};
+ghost use Rattle.rank_program.specs.First.{FirstCellsStand};
 
 /// A law: the spans of a message by local numbers are where its cells stand on its sender and on its receiver, and at the
 /// receiver each of them arrives.
@@ -21,5 +22,17 @@ pub fn windows_stand()
 {
     mesh_decl::declarations_hold();
     local_mesh::rank_meshes_are_closed();
+    bound_plan::elements_stand();
+}
+
+/// A law: the mesh's values in each copy, and the variables' first values, are the cells with which the machine starts.
+pub fn first_cells_stand()
+    ensures { FirstCellsStand }
+{
+    mesh_decl::declarations_hold();
+    local_mesh::rank_meshes_are_closed();
+    local_mesh::cells_are_of_copies();
+    run_model::memory_holds();
+    host_acts::variables_hold();
     bound_plan::elements_stand();
 }

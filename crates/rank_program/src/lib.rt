@@ -3,6 +3,7 @@
 
 mod dat_windows;
 mod elements;
+mod first;
 mod items;
 mod kernel_run;
 mod laws;
@@ -15,7 +16,8 @@ mod windows;
 
 pub use dat_windows::{local_target, push_span};
 pub use elements::{is_owner, original_of};
-pub use laws::{messages_stand, windows_stand};
+pub use first::{first_memories, first_variables};
+pub use laws::{first_cells_stand, messages_stand, windows_stand};
 pub use messages::{push_exports, push_imports};
 pub use modified::is_modified;
 pub use program::DistributedProgram;

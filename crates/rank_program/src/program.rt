@@ -59,6 +59,4 @@ impl<'a> Kernels for DistributedProgram<'a> {
         let code = &self.codes[site.kernel as usize];
         run_kernel(self.bound, site, code, element, constants, windows, scratch)
     }
-
-    ghost same_length = { λ c s. s.same_length };
 }
