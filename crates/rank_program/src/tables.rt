@@ -1,5 +1,8 @@
 // What the machine looks up while it runs, made once for a program, its distribution and its plan.
 
+ghost use Rattle.std.specs.Prelude.{◌≡◌, ◌<◌, length};
+ghost use Rattle.rank_program.specs.Made as the;
+
 use rank_state::{Operation, Scalar};
 
 /// Tables of a bound program on several ranks with its plan. A variable's cell goes by its number among the cells of all
@@ -24,4 +27,12 @@ pub struct MachineTables {
     pub stride: usize,
     /// The most spans of an element's frame or of a message.
     pub spans: usize,
+}
+
+/// The row of a table for the loop numbered `site`.
+pub fn row_of<T: Drop>(rows: &[Vec<T>], site: u32) -> &[T]
+    requires { site < length rows.now }
+    ensures { result.now ≡ the.row_of rows.now site }
+{
+    &rows[site as usize]
 }
