@@ -11,3 +11,4 @@ pub mod RankWindows
 pub mod WindowsStand
 pub mod FirstCells
 pub mod FirstStand
+pub mod Sending

@@ -87,15 +87,15 @@ dats_write g m locals (d ∷ ds) =
 
 -- ---- what stands in lists
 
-some_at : {A : Type 0} (xs : List A) (i : ℕ) → i < length xs → A
+pub some_at : {A : Type 0} (xs : List A) (i : ℕ) → i < length xs → A
 some_at [] i lt = absurd (omega arith)
 some_at (x ∷ xs) i lt = x
 
-exports_at : (lists : List LocalLists) (t : ℕ) (e : LocalLists) → t < length lists → exports_in lists t ≡ (get_or lists t e).exports.items
+pub exports_at : (lists : List LocalLists) (t : ℕ) (e : LocalLists) → t < length lists → exports_in lists t ≡ (get_or lists t e).exports.items
 unfolding exports_in
 exports_at lists t e lt = get_or-map (λ (x : LocalLists). x.exports.items) lists t e [] lt
 
-imports_at : (lists : List LocalLists) (t : ℕ) (e : LocalLists) → t < length lists → imports_in lists t ≡ (get_or lists t e).imports.items
+pub imports_at : (lists : List LocalLists) (t : ℕ) (e : LocalLists) → t < length lists → imports_in lists t ≡ (get_or lists t e).imports.items
 unfolding imports_in
 imports_at lists t e lt = get_or-map (λ (x : LocalLists). x.imports.items) lists t e [] lt
 
@@ -107,15 +107,15 @@ module _ (numbered : (n : ℕ) (t : ℕ → Bool) → HasNumbers n t) (declared 
     (standing : ElementsStand) (sent : MessagesHaveCells)
     (b : BoundValue) (o : Owners) (n : Perms) (meshes : List RankMesh) (p : PlanValue) (h : Halos) (lists : List LocalLists)
     (has : HasLists b o n meshes p h lists) where
-  set_there : (d : ℕ) → d < dat_count b.mesh → dat_set b.mesh d < set_count b.mesh
+  pub set_there : (d : ℕ) → d < dat_count b.mesh → dat_set b.mesh d < set_count b.mesh
   set_there d ld = (declared b.mesh has.planned.fits.mesh d ld).set
 
-  exchange_there : (k : ℕ) → k < length b.trace → All (λ d. d < dat_count b.mesh) (item_plan p k).exchange
+  pub exchange_there : (k : ℕ) → k < length b.trace → All (λ d. d < dat_count b.mesh) (item_plan p k).exchange
   exchange_there k lk = subst (All (λ d. d < dat_count b.mesh)) (sym (has.planned.proper.exchanges.in_order k lk))
       (λ i d lt. subst (λ x. x < dat_count b.mesh) (get_or_default _ i 0 d lt) ((numbered (dat_count b.mesh) _).passes i lt).0)
 
   -- local numbers of what is exported
-  local_exports : (t s r : ℕ) → t < set_count b.mesh → s < o.ranks → r < o.ranks
+  pub local_exports : (t s r : ℕ) → t < set_count b.mesh → s < o.ranks → r < o.ranks
       → AreLocals (originals meshes s t) (exported b.mesh o t s r) (exported_locals lists t s r)
   local_exports t s r lt ls lr =
       let here : t < length lists = omega (arith, has.lists.count) in
@@ -127,7 +127,7 @@ module _ (numbered : (n : ℕ) (t : ℕ → Bool) → HasNumbers n t) (declared 
       ((has.lists.sets t d e lt).exports.each s r ls lr))
 
   -- and imported
-  local_imports : (t s r : ℕ) → t < set_count b.mesh → s < o.ranks → r < o.ranks
+  pub local_imports : (t s r : ℕ) → t < set_count b.mesh → s < o.ranks → r < o.ranks
       → AreLocals (originals meshes r t) (exported b.mesh o t s r) (imported_locals lists t r s)
   local_imports t s r lt ls lr =
       let here : t < length lists = omega (arith, has.lists.count) in

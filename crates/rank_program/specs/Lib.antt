@@ -9,3 +9,4 @@ pub mod DatWindows
 pub mod WindowLaws
 pub mod Made
 pub mod First
+pub mod SendLaws

@@ -3,23 +3,30 @@
 
 mod dat_windows;
 mod elements;
+mod exchanges;
 mod first;
 mod items;
 mod kernel_run;
 mod laws;
+mod laws_sent;
 mod messages;
 mod modified;
 mod program;
+mod rooms;
 mod tables;
 mod widths;
 mod windows;
 
 pub use dat_windows::{local_target, push_span};
 pub use elements::{is_owner, original_of};
+pub use exchanges::{push_received, push_sent};
 pub use first::{first_memories, first_variables};
 pub use laws::{first_cells_stand, messages_stand, windows_stand};
+pub use laws::{messages_stand, windows_stand};
+pub use laws_sent::{exports_are_few, messages_have_room, receives_stand, sends_stand};
 pub use messages::{push_exports, push_imports};
 pub use modified::is_modified;
 pub use program::DistributedProgram;
+pub use rooms::most_spans;
 pub use tables::MachineTables;
 pub use widths::stride;

@@ -73,8 +73,8 @@ fn imports_of(lists: &[LocalLists], set: u32) -> &[Vec<Vec<u32>>]
     &lists[set as usize].imports
 }
 
-// Of a set, the owner's local numbers of what a rank imports from it.
-fn exported_locals(lists: &[LocalLists], set: u32, owner: u32, rank: u32) -> &[u32]
+/// Of a set, the owner's local numbers of what a rank imports from it.
+pub fn exported_locals(lists: &[LocalLists], set: u32, owner: u32, rank: u32) -> &[u32]
     requires set { set < length lists.now }
     requires has { HasList (exports_in lists.now set) owner rank }
     ensures { result.now ≡ the.exported_locals lists.now set owner rank }
