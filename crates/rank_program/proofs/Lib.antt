@@ -11,4 +11,8 @@ pub mod RankWindows
 pub mod WindowsStand
 pub mod FirstCells
 pub mod FirstStand
+pub mod FrameWidths
+pub mod OwnedSpans
+pub mod OwnedStand
 pub mod Sending
+pub mod VariableCells

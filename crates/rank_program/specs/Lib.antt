@@ -9,4 +9,6 @@ pub mod DatWindows
 pub mod WindowLaws
 pub mod Made
 pub mod First
+pub mod OwnedWindows
+pub mod OwnedLaws
 pub mod SendLaws

@@ -16,8 +16,8 @@ use views::Place;
 /// As many as a loop has arguments at most.
 pub const MAX_ARGS: usize = 16;
 
-// The element that an element of the loop reaches directly, or by a map.
-fn element_by(bound: &Bound, via: Option<Via>, element: u32) -> u32
+/// The element that an element of the loop reaches directly, or by a map.
+pub fn element_by(bound: &Bound, via: Option<Via>, element: u32) -> u32
     requires { ViaThere (bound_of bound.now) element via }
     ensures { result ≡ element_by (bound_of bound.now) via element }
 {
