@@ -1,0 +1,18 @@
+use Rattle.std.proofs.Common.{sym, subst}
+use Rattle.rank_state.specs.declared.owned.Owned.{Owned}
+use Rattle.rank_exec.specs.Copies.{IsOwnersCopy}
+use Rattle.rank_program.specs.Sound.{program_in, plan_in, setup_in, layout_in}
+use Rattle.rank_program.proofs.joins.owners_copy.Goals as goal
+
+pub owners_span-requires : goal.owners_span-requires
+owners_span-requires c =
+    let x = c.args.program.now in
+    (c.copies_stand.ensures (program_in x) x.owners.now c.requires.sound.numbers x.meshes.now (plan_in x) c.requires.sound.halos x.lists.now
+    c.requires.sound.lists c.args.dat c.args.element c.requires.dat c.requires.element).0
+
+pub returns : goal.returns
+returns c =
+    let x = c.args.program.now in
+    subst (λ (s : Owned). IsOwnersCopy (program_in x) (setup_in x) (layout_in x) c.args.dat c.args.element s) (sym c.owners_span.ensures)
+    (c.copies_stand.ensures (program_in x) x.owners.now c.requires.sound.numbers x.meshes.now (plan_in x) c.requires.sound.halos x.lists.now
+    c.requires.sound.lists c.args.dat c.args.element c.requires.dat c.requires.element).1

@@ -1,0 +1,76 @@
+// The items that are joins, and the copies of owners.
+
+ghost use Rattle.std.specs.Prelude.{◌≡◌, ◌<◌, ◌≤◌, [], length, vec_capacity};
+ghost use Rattle.mesh_decl.specs.Mesh.{dat_count, dat_set, set_size};
+ghost use Rattle.schedule_model.specs.Program.{Ordered, elements};
+ghost use Rattle.bound_program.specs.Values.{bound_of};
+ghost use Rattle.bound_program.specs.Fits.{site_at};
+ghost use Rattle.rank_state.specs.Ordered.{AreOwned};
+ghost use Rattle.rank_exec.specs.Copies.{IsOwnersCopy};
+ghost use Rattle.rank_program.specs.Tables.{tables_of};
+ghost use Rattle.rank_program.specs.Sound.{Sound, program_in, plan_in, setup_in, layout_in};
+
+use crate::items::loop_of;
+use crate::laws_owned::{copies_stand, owned_stand};
+use crate::owned_windows::{owners_span, push_windows};
+use crate::program::DistributedProgram;
+use crate::tables::row_of;
+use bound_program::{Arg, Bound};
+use rank_state::Owned;
+
+// The arguments of a loop.
+fn args_of(bound: &Bound, site: u32) -> &[Arg]
+    requires { site < length (bound_of bound.now).sites }
+    ensures { result.now ≡ (site_at (bound_of bound.now) site).args }
+{
+    &bound.sites[site as usize].args
+}
+
+/// Puts down where the windows of an element of an Ordered loop stand in the buffers of their owners, and gives the
+/// numbers of the variables' cells behind them. Takes no memory.
+pub fn push_owned_windows<'p>(
+    program: &'p DistributedProgram<'_>,
+    item: u32,
+    element: u32,
+    spans: &mut Vec<Owned>,
+) -> &'p [usize]
+    requires sound { Sound program.now }
+    requires kind { (setup_in program.now).program.kind item ≡ Ordered }
+    requires element { element < elements (setup_in program.now).program item }
+    requires empty { spans.old.items ≡ [] }
+    requires room { program.now.tables.spans ≤ vec_capacity spans.old }
+    ensures are { AreOwned (setup_in program.now) (layout_in program.now) (tables_of (program_in program.now) (plan_in program.now))
+        item element spans.new.items result.now }
+    ensures room { vec_capacity spans.new ≡ vec_capacity spans.old }
+{
+    owned_stand();
+    let site = loop_of(program.bound, item);
+    push_windows(
+        program.bound,
+        program.owners,
+        program.meshes,
+        program.lists,
+        args_of(program.bound, site),
+        element,
+        spans,
+    );
+    row_of(&program.tables.indices, site)
+}
+
+/// Where an element's values of a dat stand in the buffer of its owner; both by their numbers in the mesh.
+pub fn owners_copy(program: &DistributedProgram<'_>, dat: u32, element: u32) -> Owned
+    requires sound { Sound program.now }
+    requires dat { dat < dat_count (program_in program.now).mesh }
+    requires element { element < set_size (program_in program.now).mesh (dat_set (program_in program.now).mesh dat) }
+    ensures { IsOwnersCopy (program_in program.now) (setup_in program.now) (layout_in program.now) dat element result }
+{
+    copies_stand();
+    owners_span(
+        &program.bound.mesh,
+        program.owners,
+        program.meshes,
+        program.lists,
+        dat,
+        element,
+    )
+}
