@@ -26,7 +26,7 @@ use Rattle.bound_plan.specs.Places.{originals, original_at, bases_of, cells_of, 
 use Rattle.bound_plan.specs.Machine.{Stand, ElementsStand}
 use Rattle.rank_program.specs.First.{first_cells, first_variables, FirstCellsStand}
 use Rattle.rank_program.proofs.MessagesStand.{bases_at}
-use Rattle.rank_program.proofs.WindowsStand.{sets_at, size_small, some_at}
+use Rattle.rank_program.proofs.RankMeshes.{sets_at, size_small, some_at}
 use Rattle.rank_program.proofs.FirstCells.{whole, cell_is}
 
 -- each cell of a rank is a value of an element

@@ -2,6 +2,9 @@ pub mod SeenSoFar
 pub mod Putting
 pub mod SiteArgs
 pub mod ItemParts
+pub mod ItemLoops
+pub mod RankMeshes
+pub mod StepsStand
 pub mod MessageSpans
 pub mod MessageCells
 pub mod ProgramRun
@@ -16,3 +19,8 @@ pub mod OwnedSpans
 pub mod OwnedStand
 pub mod Sending
 pub mod VariableCells
+pub mod PushedWindows
+pub mod ElementWindows
+pub mod StrideSmall
+pub mod ProgramParts
+pub mod BegunParts

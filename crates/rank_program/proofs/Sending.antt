@@ -28,7 +28,7 @@ use Rattle.rank_program.specs.Messages.{element_span, exports_in, imports_in, ex
 use Rattle.rank_program.specs.MessageLaws.{HasLists, ExportsStand, ImportsStand}
 use Rattle.rank_program.specs.SendLaws.{pair_spans, FewExports, ExportsAreFew, MessagesHaveRoom, HasSpans, SendsStand, ReceivesStand}
 use Rattle.rank_program.proofs.MessagesStand.{some_at, exports_at, imports_at, bases_at, set_there, exchange_there, local_exports, local_imports}
-use Rattle.rank_program.proofs.WindowsStand.{size_small}
+use Rattle.rank_program.proofs.RankMeshes.{size_small}
 
 -- ---- counts
 

@@ -1,16 +1,14 @@
 -- The windows on dats of an element stand where its local targets do.
-use Rattle.std.proofs.Common.{◌≡◌, ◌<◌, ◌≤◌, ◌+◌, ◌*◌, ◌^◌, ℕ, suc, Bool, true, false, List, [], ◌∷◌, All, map, length, get_or, Some, None, refl, sym, ap, ap₂, ◌∙◌, subst, ⊎_elim, arith}
+use Rattle.std.proofs.Common.{◌≡◌, ◌<◌, ◌≤◌, ◌+◌, ◌*◌, ℕ, suc, Bool, true, false, List, [], ◌∷◌, ◌++◌, All, map, length, get_or, Some, None, refl, sym, ap, ◌∙◌, subst, ⊎_elim, arith}
 use Rattle.std.specs.Prelude.{slice_index}
-use Rattle.std.proofs.lemmas.Bool.{cases_lt, false≢true, or_cases}
-use Rattle.std.proofs.lemmas.List.{get_or-map, get_or_past, length-map}
+use Rattle.std.proofs.Math.Nat.{mul-le-mul_left}
+use Rattle.std.proofs.lemmas.Bool.{false≢true, or_cases}
 use Rattle.rank_sets.specs.Below.{row}
-use Rattle.mesh_decl.specs.declared.access.Via.{Via}
 use Rattle.mesh_decl.specs.declared.owners.Owners.{Owners}
 use Rattle.mesh_decl.specs.declared.owners.Perms.{Perms}
-use Rattle.mesh_decl.specs.declared.decl.SetDecl.{SetDecl}
-use Rattle.mesh_decl.specs.Mesh.{MeshValue, IsMesh, IsMapAt, IsDatAt, size_in, set_size, map_count, dat_count, dat_set, dat_dim, map_from, map_to, map_dim, target}
+use Rattle.mesh_decl.specs.Mesh.{MeshValue, IsMesh, IsMapAt, IsDatAt, map_count, dat_count, dat_set, dat_dim, map_from, map_dim, target}
 use Rattle.local_mesh.specs.declared.types.RankMesh.{RankMesh}
-use Rattle.local_mesh.specs.LocalMesh.{originals_in, executed_in, AreLocalTargets, AreClosed, IsRankMesh}
+use Rattle.local_mesh.specs.LocalMesh.{executed_in, AreLocalTargets, IsRankMesh}
 use Rattle.local_mesh.specs.Numbers.{RankMeshesAreClosed}
 use Rattle.local_mesh.specs.Lists.{sets_of, IsLocal}
 use Rattle.schedule_model.specs.Cells.{DatCell}
@@ -26,19 +24,28 @@ use Rattle.bound_plan.specs.Machine.{Stand, ElementsStand}
 use Rattle.bound_plan.specs.Windows.{on_dats}
 use Rattle.rank_state.specs.declared.spans.Span.{Span}
 use Rattle.rank_state.specs.Spans.{Within}
-use Rattle.rank_state.specs.Windows.{cells_from, span_cells}
+use Rattle.rank_state.specs.Windows.{cells_from, span_cells, Marked}
 use Rattle.rank_program.specs.Seen.{has}
 use Rattle.rank_program.specs.Placed.{is_dat}
-use Rattle.rank_program.specs.DatWindows.{local_by, spans_after}
-use Rattle.rank_program.specs.WindowLaws.{arg_span, AreDatWindows, DatWindowsStand}
-use Rattle.rank_program.proofs.SeenSoFar.{same_true, same_refl, has_of}
+use Rattle.rank_program.specs.DatWindows.{local_by, begins_at, with_span, spans_after, ViaHere, ArgHere}
+use Rattle.rank_program.specs.WindowLaws.{arg_span, AreDatWindows, IsPlaceOf, DatWindowsStand, ArgsAreHere}
+use Rattle.rank_program.proofs.SeenSoFar.{same_true, has_of}
 use Rattle.rank_program.proofs.MessageCells.{one_element}
 use Rattle.rank_program.proofs.MessagesStand.{bases_at}
+use Rattle.rank_program.proofs.PushedWindows.{pick}
+use Rattle.rank_program.proofs.RankMeshes.{sets_at, cells_at, rank_there, rank_mesh, closed_at}
 use Rattle.rank_program.proofs.RankWindows.{all_spans, reached_cells, reached_within}
 
-pub sets_at : (meshes : List RankMesh) (r : ℕ) (m : RankMesh) → r < length meshes → m ≡ get_or meshes r m → m.sets.items ≡ sets_of meshes r
-unfolding sets_of
-sets_at meshes r m lt is = ap (λ (x : RankMesh). x.sets.items) is ∙ sym (get_or-map (λ (x : RankMesh). x.sets.items) meshes r m [] lt)
+-- ---- marks
+
+marked_append : (taken : ℕ → Bool) (xs : List Span) (s : Span) → Marked taken xs → ((j : ℕ) → j < s.dim → taken (s.at + j) ≡ s.writes)
+    → Marked taken (xs ++ s ∷ [])
+marked_append taken [] s h g = (g, tt)
+marked_append taken (x ∷ xs) s h g = (h.0, marked_append taken xs s h.1 g)
+
+marked_with : (taken : ℕ → Bool) (xs : List Span) (s : Span) → Marked taken xs → ((j : ℕ) → j < s.dim → taken (s.at + j) ≡ s.writes)
+    → Marked taken (with_span s xs)
+marked_with taken xs s h g = pick (Marked taken) (begins_at s.at xs) xs (xs ++ s ∷ []) h (marked_append taken xs s h g)
 
 module _ (b : BoundValue) (o : Owners) (meshes : List RankMesh) (r x : ℕ) (m : RankMesh) (writes : ℕ → Bool)
     (declared : (d : ℕ) → d < dat_count b.mesh → IsDatAt b.mesh d)
@@ -142,7 +149,24 @@ module _ (b : BoundValue) (o : Owners) (meshes : List RankMesh) (r x : ℕ) (m :
       ∙ ap (λ z. record { at = z; dim = dat_dim b.mesh d; writes = writes d })
       (sym (span_is d (element_by b v e) (local_by b.mesh m x v) fit.0 (local_is d v fit.2)))
 
-  pub dat_windows : AreDatWindows b meshes site r x (spans_after (arg_span b.mesh m x writes) site.args [])
+  -- what the mark of an argument's span says of its cells
+  span_marked : (d : ℕ) (v : _) (a : _) → ArgFits b set (Dat d v a) → (j : ℕ) → j < dat_dim b.mesh d
+      → writes (cell_at meshes b.mesh r ((arg_span b.mesh m x writes (Dat d v a)).at + j)).dat ≡ writes d
+  span_marked d v a fit j lj =
+      let local = local_is d v fit.2 in
+      ap (λ z. writes (cell_at meshes b.mesh r (slice_index z d + local_by b.mesh m x v * dat_dim b.mesh d + j)).dat) bases
+      ∙ ap (λ (c : DatCell). writes c.dat) (stand.values d (local_by b.mesh m x v) j fit.0 local.0 lj)
+
+  all_marked : (xs : List Arg) → All (ArgFits b set) xs → (seen : List Span) → Marked (λ i. writes (cell_at meshes b.mesh r i).dat) seen
+      → Marked (λ i. writes (cell_at meshes b.mesh r i).dat) (spans_after (arg_span b.mesh m x writes) xs seen)
+  all_marked [] fits seen h = h
+  all_marked (Global v a ∷ xs) fits seen h = all_marked xs (λ i z lt. fits (suc i) z (omega arith)) seen h
+  all_marked (Dat d v a ∷ xs) fits seen h =
+      all_marked xs (λ i z lt. fits (suc i) z (omega arith)) (with_span (arg_span b.mesh m x writes (Dat d v a)) seen)
+      (marked_with (λ i. writes (cell_at meshes b.mesh r i).dat) seen (arg_span b.mesh m x writes (Dat d v a)) h
+      (span_marked d v a (fits 0 (Dat d v a) (omega arith))))
+
+  pub dat_windows : AreDatWindows b meshes site r x writes (spans_after (arg_span b.mesh m x writes) site.args [])
   dat_windows =
       let reach = reached b e in
       let spans = all_spans span reach (arg_span b.mesh m x writes) site.args []
@@ -155,37 +179,67 @@ module _ (b : BoundValue) (o : Owners) (meshes : List RankMesh) (r x : ℕ) (m :
         within = subst (Within (cells_of meshes r)) (sym spans)
             (reached_within span (cells_of meshes r) (different (map reach (on_dats site.args)))
             (λ q h. is_within q (all_here site.args fit.args q (has_of (map reach (on_dats site.args)) q h))));
+        marked = all_marked site.args fit.args [] tt;
       }
+
+  module _ (base_count : length m.bases.items ≡ dat_count b.mesh) (maps_count : length m.maps.items ≡ map_count b.mesh)
+      (cells : m.cells ≡ cells_of meshes r) where
+    via_here : (d : ℕ) (v : _) → ViaFits b set d v → ViaHere b.mesh m x v
+    via_here d None fit = tt
+    via_here d (Some v) fit =
+        let t = targets v.map fit.0 in
+        let run : suc x ≤ executed_in (sets_of meshes r) (map_from b.mesh v.map) = subst (λ s. suc x ≤ executed_in (sets_of meshes r) s) (sym fit.1) (omega (arith, lx)) in
+        let rows = mul-le-mul_left (map_dim b.mesh v.map) run in
+        (fit.0, omega (arith, maps_count, fit.0), omega (arith, rows, t.count, fit.3))
+
+    arg_here : (y : Arg) → ArgFits b set y → ArgHere b.mesh m x y
+    arg_here (Global v a) fit = tt
+    arg_here (Dat d v a) fit =
+        let local = local_is d v fit.2 in
+        let inside = stand.inside d (local_by b.mesh m x v) fit.0 local.0 in
+        let base : slice_index m.bases.items d ≡ slice_index (bases_of meshes r) d = ap (λ z. slice_index z d) bases in
+        (fit.0, omega (arith, base_count, fit.0), via_here d v fit.2, omega (arith, inside, base, cells))
+
+    pub args_here : All (ArgHere b.mesh m x) site.args
+    args_here i y lt = arg_here (get_or site.args i y) (fit.args i y lt)
 
 -- ---- the law
 
-pub some_at : {A : Type 0} (xs : List A) (i : ℕ) → i < length xs → A
-some_at [] i lt = absurd (omega arith)
-some_at (y ∷ ys) i lt = y
+module _ (maps : (g : MeshValue) → IsMesh g → (a : ℕ) → a < map_count g → IsMapAt g a)
+    (dats : (g : MeshValue) → IsMesh g → (d : ℕ) → d < dat_count g → IsDatAt g d)
+    (standing : ElementsStand) (closed : RankMeshesAreClosed)
+    (b : BoundValue) (o : Owners) (n : Perms) (meshes : List RankMesh) (p : PlanValue) (pl : Planned b o n meshes p)
+    (s r x : ℕ) (m : RankMesh) (here : IsPlaceOf b o meshes s r x m) where
+  there : r < length meshes
+  there = rank_there b o n meshes p pl r here.rank
 
-pub size_small : (g : MeshValue) → IsMesh g → (s : ℕ) → set_size g s < 2 ^ 32
-unfolding size_in
-size_small g mesh s = ⊎_elim
-    (λ (lt : s < length g.sets).
-    let d = some_at g.sets s lt in
-    subst (λ z. z < 2 ^ 32) (sym (get_or-map (λ (z : SetDecl). z.size) g.sets s d 0 lt)) (mesh.sizes s d lt))
-    (λ (ge : length g.sets ≤ s).
-    let none : set_size g s ≡ 0 = get_or_past (map (λ (z : SetDecl). z.size) g.sets) s 0 (omega (arith, length-map g.sets (λ (z : SetDecl). z.size))) in
-    omega (arith, none))
-    (cases_lt s (length g.sets))
+  mesh : IsRankMesh b.mesh o n r m
+  mesh = rank_mesh b o n meshes p pl r here.rank m here.part
+
+  targets_at : (a : ℕ) → a < map_count b.mesh → AreLocalTargets b.mesh a (sets_of meshes r) (row m.maps.items a)
+  targets_at a la = subst (λ z. AreLocalTargets b.mesh a z (row m.maps.items a)) (sets_at meshes r m there here.part) (mesh.maps a la)
+
+  fits : SiteFits b (site_at b s)
+  fits = pl.fits.sites s no_site here.loop
+
+  held_at : executed_in (sets_of meshes r) (site_at b s).set ≤ length (originals meshes r (site_at b s).set)
+  held_at = (closed_at b o n meshes p pl r here.rank maps closed).executed (site_at b s).set fits.set
+
+  pub windows_at : (writes : ℕ → Bool) → AreDatWindows b meshes (site_at b s) r x writes (spans_after (arg_span b.mesh m x writes) (site_at b s).args [])
+  windows_at writes = dat_windows b o meshes r x m writes (dats b.mesh pl.fits.mesh) (standing b o n meshes p pl r here.rank)
+      (bases_at meshes r m there here.part) targets_at (site_at b s) fits here.place held_at
+
+  pub args_at : All (ArgHere b.mesh m x) (site_at b s).args
+  args_at = args_here b o meshes r x m (λ d. false) (dats b.mesh pl.fits.mesh) (standing b o n meshes p pl r here.rank)
+      (bases_at meshes r m there here.part) targets_at (site_at b s) fits here.place held_at
+      mesh.bases.count mesh.maps_count (cells_at meshes r m there here.part)
 
 pub windows_stand : ((g : MeshValue) → IsMesh g → (a : ℕ) → a < map_count g → IsMapAt g a)
     → ((g : MeshValue) → IsMesh g → (d : ℕ) → d < dat_count g → IsDatAt g d)
     → ElementsStand → RankMeshesAreClosed → DatWindowsStand
-windows_stand maps dats standing closed b o n meshes p pl s r x m writes ls lr lx is =
-    let are = pl.distributed.are_meshes in
-    let lm : r < length meshes = omega (arith, are.count) in
-    let rank_mesh : IsRankMesh b.mesh o n r m = subst (IsRankMesh b.mesh o n r) (sym is) (are.ranks r m lr) in
-    let same = sets_at meshes r m lm is in
-    let shut : AreClosed b.mesh (sets_of meshes r) =
-    subst (AreClosed b.mesh) same
-    (closed b.mesh o n r m (record { sizes = size_small b.mesh pl.fits.mesh; maps = maps b.mesh pl.fits.mesh }) pl.distributed.are_perms rank_mesh) in
-    let fit : SiteFits b (site_at b s) = pl.fits.sites s no_site ls in
-    dat_windows b o meshes r x m writes (dats b.mesh pl.fits.mesh) (standing b o n meshes p pl r lr) (bases_at meshes r m lm is)
-    (λ a la. subst (λ z. AreLocalTargets b.mesh a z (row m.maps.items a)) same (rank_mesh.maps a la))
-    (site_at b s) fit lx (shut.executed (site_at b s).set fit.set)
+windows_stand maps dats standing closed b o n meshes p pl s r x m writes here = windows_at maps dats standing closed b o n meshes p pl s r x m here writes
+
+pub args_stand : ((g : MeshValue) → IsMesh g → (a : ℕ) → a < map_count g → IsMapAt g a)
+    → ((g : MeshValue) → IsMesh g → (d : ℕ) → d < dat_count g → IsDatAt g d)
+    → ElementsStand → RankMeshesAreClosed → ArgsAreHere
+args_stand maps dats standing closed b o n meshes p pl s r x m here = args_at maps dats standing closed b o n meshes p pl s r x m here

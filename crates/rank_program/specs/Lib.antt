@@ -6,8 +6,9 @@ pub mod Messages
 pub mod Tables
 pub mod MessageLaws
 pub mod DatWindows
-pub mod WindowLaws
 pub mod Made
+pub mod StepLaws
+pub mod WindowLaws
 pub mod First
 pub mod OwnedWindows
 pub mod OwnedLaws

@@ -8,7 +8,7 @@ use Rattle.halo_lists.specs.declared.types.Halos.{Halos}
 use Rattle.schedule_steps.specs.Outline.{Outline}
 use Rattle.schedule_model.specs.Program.{is_loop}
 use Rattle.schedule_model.specs.Setup.{Setup}
-use Rattle.flat_machine.specs.Layout.{Layout, Core}
+use Rattle.flat_machine.specs.Layout.{Layout, IsLayout, Core}
 use Rattle.bound_program.specs.Values.{BoundValue, bound_of}
 use Rattle.run_model.specs.Kernels.{constants}
 use Rattle.run_model.specs.Laws.{site_of}
@@ -19,6 +19,8 @@ use Rattle.bound_plan.specs.Laws.{Runnable}
 use Rattle.bound_plan.specs.Windows.{frame_cells}
 use Rattle.bound_plan.specs.Setups.{setup_of}
 use Rattle.bound_plan.specs.Layouts.{layout_of}
+use Rattle.rank_state.specs.Shows.{Tables, Indexed}
+use Rattle.rank_program.specs.Tables.{tables_of}
 use Rattle.rank_program.specs.MessageLaws.{HasLists}
 use Rattle.rank_program.specs.Made.{AreMade}
 use Rattle.rank_program.specs.declared.program.DistributedProgram.{DistributedProgram}
@@ -39,6 +41,9 @@ module _ (c : DistributedProgram) where
   abbrev pub outline_in : Outline
   outline_in = step_outline program_in c.meshes.now plan_in
 
+  abbrev pub tables_in : Tables
+  tables_in = tables_of program_in plan_in
+
   abbrev pub core_in : ℕ → ℕ → List ℤ → List ℤ → Core KernelFault
   core_in = layout_in.core
 
@@ -51,6 +56,8 @@ module _ (c : DistributedProgram) where
     pub made : AreMade program_in c.owners.now plan_in c.lists.now c.tables
     pub codes : AreCodesOf program_in.kernels c.codes.now
     pub room : HaveRoom c.codes.now c.locals
+    pub layout : IsLayout setup_in layout_in
+    pub indexed : Indexed setup_in layout_in tables_in
 
   -- the item is a loop with this element, with so many constants and cells of its frame
   pub record Takes (k e cs ws : ℕ) : Type 0 where

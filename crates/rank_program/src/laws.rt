@@ -1,6 +1,6 @@
-// What the spans of messages say.
+// What the spans of messages and windows say.
 ghost use Rattle.rank_program.specs.MessageLaws.{ExportsStand, ImportsStand};
-ghost use Rattle.rank_program.specs.WindowLaws.{DatWindowsStand};
+ghost use Rattle.rank_program.specs.WindowLaws.{ArgsAreHere, DatWindowsStand};
 ghost use Rattle.rank_program.specs.First.{FirstCellsStand};
 
 /// A law: the spans of a message by local numbers are where its cells stand on its sender and on its receiver, and at the
@@ -16,9 +16,10 @@ pub fn messages_stand()
 }
 
 /// A law: the spans of the arguments on dats by local numbers, each once, are where the windows on dats of an element
-/// stand on a rank that executes it.
+/// stand on a rank that executes it. All of them are within the rank's buffer.
 pub fn windows_stand()
-    ensures { DatWindowsStand }
+    ensures stand { DatWindowsStand }
+    ensures here { ArgsAreHere }
 {
     mesh_decl::declarations_hold();
     local_mesh::rank_meshes_are_closed();

@@ -1,7 +1,9 @@
 //! A bound program, distributed and planned, as the distributed machine reads it.
 #![tactic(auto)]
 
+mod begun;
 mod dat_windows;
+mod element_windows;
 mod elements;
 mod exchanges;
 mod first;
@@ -11,6 +13,7 @@ mod kernel_run;
 mod laws;
 mod laws_owned;
 mod laws_sent;
+mod laws_steps;
 mod messages;
 mod modified;
 mod owned_windows;
@@ -20,7 +23,9 @@ mod tables;
 mod widths;
 mod windows;
 
+pub use begun::{original_at, owns_at};
 pub use dat_windows::{local_target, push_span};
+pub use element_windows::push_local_windows;
 pub use elements::{is_owner, original_of};
 pub use exchanges::{push_received, push_sent};
 pub use first::{first_memories, first_variables};
@@ -28,6 +33,7 @@ pub use joins::{owners_copy, push_owned_windows};
 pub use laws::{first_cells_stand, messages_stand, windows_stand};
 pub use laws_owned::{copies_stand, frames_fit, owned_stand, variables_stand};
 pub use laws_sent::{exports_are_few, messages_have_room, receives_stand, sends_stand};
+pub use laws_steps::steps_stand;
 pub use messages::{push_exports, push_imports};
 pub use modified::is_modified;
 pub use owned_windows::{owners_span, push_windows};
