@@ -1,11 +1,10 @@
 -- The windows of an element that a step begins.
-use Rattle.std.proofs.Common.{◌≡◌, ◌<◌, ◌≤◌, ◌+◌, ℕ, zero, suc, List, [], ◌∷◌, ◌++◌, length, refl, sym, ap, ap₂, ◌∙◌, subst, length-append}
+use Rattle.std.proofs.Common.{◌≡◌, ◌≤◌, ◌+◌, ℕ, zero, suc, List, [], ◌∷◌, ◌++◌, length, refl, sym, ap, ap₂, ◌∙◌, subst, length-append}
 use Rattle.mesh_decl.specs.declared.owners.Owners.{Owners}
 use Rattle.local_mesh.specs.declared.types.RankMesh.{RankMesh}
 use Rattle.schedule_model.specs.Cells.{DatCell, VarCell}
 use Rattle.bound_program.specs.Values.{BoundValue}
 use Rattle.bound_program.specs.Classes.{modifies}
-use Rattle.bound_program.specs.Fits.{site_at}
 use Rattle.run_model.specs.Programs.{item_at, loop_of}
 use Rattle.run_model.specs.Laws.{site_of}
 use Rattle.loop_plan.specs.Values.{PlanValue}
@@ -24,6 +23,7 @@ use Rattle.rank_state.specs.Shows.{AreScalars}
 use Rattle.rank_program.specs.DatWindows.{spans_after}
 use Rattle.rank_program.specs.Tables.{tables_of}
 use Rattle.rank_program.specs.Made.{EachIsScalar}
+use Rattle.rank_program.specs.OwnedLaws.{FramesFit}
 use Rattle.rank_program.specs.WindowLaws.{arg_span, AreDatWindows, DatWindowsStand, ElementWindowsStand}
 use Rattle.rank_program.proofs.ItemLoops.{args_are}
 
@@ -47,9 +47,7 @@ module _ (b : BoundValue) (o : Owners) (meshes : List RankMesh) (p : PlanValue) 
   scalars_are (Value at ∷ xs) h = (h.0, scalars_are xs h.1)
   scalars_are (Amount at slot how ∷ xs) h = (h.0, scalars_are xs h.1)
 
-pub windows_are : DatWindowsStand → DatsComeFirst → FramesHaveCellsOnce
-    → ((b : BoundValue) (p : PlanValue) (s e : ℕ) → s < length b.sites → length (frame_cells b (site_at b s).args e) ≤ (tables_of b p).stride)
-    → ElementWindowsStand
+pub windows_are : DatWindowsStand → DatsComeFirst → FramesHaveCellsOnce → FramesFit → ElementWindowsStand
 windows_are stand first once fit b o n meshes p pl k r x m scalars is part are =
     let site = site_of b k in
     let e = original_at meshes r site.set x in

@@ -1,15 +1,20 @@
 // What the machine reads of the element at a place.
 
-ghost use Rattle.std.specs.Prelude.{◌≡◌, ◌==◌};
+ghost use Rattle.std.specs.Prelude.{◌≡◌, ◌≤◌, ◌==◌, [], vec_capacity};
 ghost use Rattle.schedule_steps.specs.declared.step.Step.TheVariants.{Begin};
 ghost use Rattle.schedule_steps.specs.Steps.{IsStep};
 ghost use Rattle.flat_machine.specs.Layout.{by_place};
-ghost use Rattle.rank_program.specs.Sound.{Sound, setup_in, layout_in};
+ghost use Rattle.rank_state.specs.Shows.{AreWindows};
+ghost use Rattle.rank_program.specs.Sound.{Sound, setup_in, layout_in, tables_in};
 
+use crate::element_windows::push_local_windows;
 use crate::elements::{is_owner, original_of};
-use crate::items::site_of;
+use crate::items::{loop_of, site_of};
+use crate::laws::{element_windows_stand, windows_stand};
 use crate::laws_steps::steps_stand;
 use crate::program::DistributedProgram;
+use crate::tables::row_of;
+use rank_state::{Scalar, Span};
 
 /// The element at a place of a rank, in the set of the item's loop, by its original number.
 pub fn original_at(program: &DistributedProgram<'_>, item: u32, rank: u32, place: u32) -> u32
@@ -34,4 +39,31 @@ pub fn owns_at(program: &DistributedProgram<'_>, item: u32, rank: u32, place: u3
     let site = site_of(program.bound, item);
     let element = original_of(program.meshes, rank, site.set, place);
     is_owner(program.owners, rank, site.set, element)
+}
+
+/// Puts down where the windows of a place's element stand in its rank's buffer, and gives the scalars behind them. `spans`
+/// is lent empty, with room for as many as an element has at most. Takes no memory.
+pub fn push_element<'p>(
+    program: &'p DistributedProgram<'_>,
+    item: u32,
+    rank: u32,
+    place: u32,
+    spans: &mut Vec<Span>,
+) -> &'p [Scalar]
+    requires sound { Sound program.now }
+    requires step { IsStep (by_place (setup_in program.now) (layout_in program.now)) (Begin item rank place) }
+    requires empty { spans.old.items ≡ [] }
+    requires room { program.now.tables.spans ≤ vec_capacity spans.old }
+    ensures are { AreWindows (setup_in program.now) (layout_in program.now) (tables_in program.now) item rank place spans.new.items result.now }
+    ensures room { vec_capacity spans.new ≡ vec_capacity spans.old }
+{
+    steps_stand();
+    windows_stand();
+    element_windows_stand();
+    let site = loop_of(program.bound, item);
+    let args = &site_of(program.bound, item).args;
+    let part = &program.meshes[rank as usize];
+    let writes = row_of(&program.tables.writes, site);
+    push_local_windows(&program.bound.mesh, part, args, writes, place, spans);
+    row_of(&program.tables.scalars, site)
 }

@@ -1,7 +1,9 @@
 // What the spans of messages and windows say.
 ghost use Rattle.rank_program.specs.MessageLaws.{ExportsStand, ImportsStand};
-ghost use Rattle.rank_program.specs.WindowLaws.{ArgsAreHere, DatWindowsStand};
+ghost use Rattle.rank_program.specs.WindowLaws.{ArgsAreHere, DatWindowsStand, ElementWindowsStand};
 ghost use Rattle.rank_program.specs.First.{FirstCellsStand};
+
+use crate::laws_owned::frames_fit;
 
 /// A law: the spans of a message by local numbers are where its cells stand on its sender and on its receiver, and at the
 /// receiver each of them arrives.
@@ -24,6 +26,15 @@ pub fn windows_stand()
     mesh_decl::declarations_hold();
     local_mesh::rank_meshes_are_closed();
     bound_plan::elements_stand();
+}
+
+/// A law: those spans, with the scalars of the loop behind them, are the windows of the element.
+pub fn element_windows_stand()
+    ensures { ElementWindowsStand }
+{
+    windows_stand();
+    bound_plan::frames_have_cells();
+    frames_fit();
 }
 
 /// A law: the mesh's values in each copy, and the variables' first values, are the cells with which the machine starts.
