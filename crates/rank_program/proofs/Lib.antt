@@ -24,3 +24,4 @@ pub mod ElementWindows
 pub mod StrideSmall
 pub mod ProgramParts
 pub mod BegunParts
+pub mod ReduceItems

@@ -6,13 +6,14 @@ use Rattle.mesh_decl.specs.Mesh.{dat_count, dat_set, set_size}
 use Rattle.halo_lists.specs.declared.types.Halos.{Halos}
 use Rattle.local_mesh.specs.declared.types.RankMesh.{RankMesh}
 use Rattle.local_mesh.specs.declared.lists.LocalLists.{LocalLists}
-use Rattle.schedule_model.specs.Program.{Ordered, elements}
+use Rattle.schedule_model.specs.Program.{Reduce, Ordered, elements}
 use Rattle.bound_program.specs.Values.{BoundValue}
 use Rattle.bound_program.specs.Fits.{site_at}
 use Rattle.run_model.specs.Hosts.{variable_cells}
 use Rattle.run_model.specs.Laws.{site_of}
 use Rattle.run_model.specs.Programs.{item_at, kind_of, loop_of, program_of}
 use Rattle.loop_plan.specs.Values.{PlanValue}
+use Rattle.bound_plan.specs.Laws.{Planned}
 use Rattle.bound_plan.specs.Setups.{setup_of}
 use Rattle.bound_plan.specs.Layouts.{layout_of}
 use Rattle.bound_plan.specs.Windows.{frame_cells}
@@ -62,3 +63,11 @@ OwnedStand =
 -- the variables' cells, one after another, are those of the program
 abbrev pub VariablesStand : Type 0
 VariablesStand = (b : BoundValue) → variables_from (variable_at b) 0 (length (variable_cells b)) ≡ variable_cells b
+
+-- the item of a Reduce is there, and so is its loop
+abbrev pub ReducesAreThere : Type 0
+ReducesAreThere =
+    (b : BoundValue) (o : Owners) (n : Perms) (meshes : List RankMesh) (p : PlanValue)
+    → Planned b o n meshes p
+    → (k : ℕ) → kind_of (item_at b k) ≡ Reduce
+    → (k < length b.trace) × (loop_of (item_at b k) < length b.sites)

@@ -1,5 +1,5 @@
 // Where the cells of elements stand on their owners.
-ghost use Rattle.rank_program.specs.OwnedLaws.{FramesFit, CopiesStand, OwnedStand, VariablesStand};
+ghost use Rattle.rank_program.specs.OwnedLaws.{FramesFit, CopiesStand, OwnedStand, ReducesAreThere, VariablesStand};
 
 /// A law: an element's frame has no more cells than the widest loop's windows have together.
 pub fn frames_fit()
@@ -31,3 +31,11 @@ pub fn owned_stand()
 pub fn variables_stand()
     ensures { VariablesStand }
 {}
+
+/// A law: a Reduce stands behind its loop, which is one of the program.
+pub fn reduces_are_there()
+    ensures { ReducesAreThere }
+{
+    run_model::items_are_there();
+    bound_plan::setups_have_parts();
+}
