@@ -27,11 +27,11 @@ use Rattle.rank_program.specs.OwnedLaws.{FramesFit}
 use Rattle.rank_program.specs.WindowLaws.{arg_span, AreDatWindows, DatWindowsStand, ElementWindowsStand}
 use Rattle.rank_program.proofs.ItemLoops.{args_are}
 
-run_count : (cell_at : ℕ → DatCell) (at n : ℕ) → length (cells_from cell_at at n) ≡ n
+pub run_count : (cell_at : ℕ → DatCell) (at n : ℕ) → length (cells_from cell_at at n) ≡ n
 run_count cell_at at zero = refl
 run_count cell_at at (suc n) = ap suc (run_count cell_at (suc at) n)
 
-spans_count : (cell_at : ℕ → DatCell) (spans : List Span) → length (span_cells cell_at spans) ≡ total spans
+pub spans_count : (cell_at : ℕ → DatCell) (spans : List Span) → length (span_cells cell_at spans) ≡ total spans
 spans_count cell_at [] = refl
 spans_count cell_at (s ∷ ss) =
     length-append (cells_from cell_at s.at s.dim) (span_cells cell_at ss) ∙ ap₂ (λ i j. i + j) (run_count cell_at s.at s.dim) (spans_count cell_at ss)

@@ -18,6 +18,7 @@ use Rattle.rank_state.specs.Windows.{cells_from}
 use Rattle.rank_program.specs.Seen.{has}
 use Rattle.rank_program.specs.Placed.{is_dat}
 use Rattle.rank_program.specs.OwnedWindows.{begins_with, begins_among, with_owned, owned_after}
+use Rattle.rank_program.proofs.ElementWindows.{run_count}
 use Rattle.rank_program.proofs.SeenSoFar.{same_true, same_refl, different_old, different_new, has_different, has_of, has_append}
 
 begins_self : (s : Owned) → begins_with s s ≡ true
@@ -101,15 +102,11 @@ module _ (span : Reached → Owned) where
 
 -- ---- how many cells
 
-run_length : (cell_at : ℕ → DatCell) (at n : ℕ) → length (cells_from cell_at at n) ≡ n
-run_length cell_at at zero = refl
-run_length cell_at at (suc n) = ap suc (run_length cell_at (suc at) n)
-
 owned_length : (cell_at : ℕ → ℕ → DatCell) (spans : List Owned) → length (owned_cells cell_at spans) ≡ total_all spans
 owned_length cell_at [] = refl
 owned_length cell_at (s ∷ ss) =
     length-append (cells_from (cell_at s.rank) s.at s.dim) (owned_cells cell_at ss)
-    ∙ ap₂ (λ m n. m + n) (run_length (cell_at s.rank) s.at s.dim) (owned_length cell_at ss)
+    ∙ ap₂ (λ m n. m + n) (run_count (cell_at s.rank) s.at s.dim) (owned_length cell_at ss)
 
 index_length : (variable_at : ℕ → VarCell) (indices : List ℕ) → length (index_cells variable_at indices) ≡ length indices
 index_length variable_at [] = refl

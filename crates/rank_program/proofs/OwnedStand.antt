@@ -44,11 +44,8 @@ use Rattle.rank_program.specs.OwnedLaws.{FramesFit, CopiesStand, OwnedStand}
 use Rattle.rank_program.proofs.SeenSoFar.{same_true, has_of}
 use Rattle.rank_program.proofs.MessageCells.{one_element}
 use Rattle.rank_program.proofs.MessagesStand.{bases_at}
+use Rattle.rank_program.proofs.RankMeshes.{some_at}
 use Rattle.rank_program.proofs.OwnedSpans.{all_owned, reached_cells, reached_owned, all_length}
-
-some_at : {A : Type 0} (xs : List A) (i : ℕ) → i < length xs → A
-some_at [] i lt = absurd (omega arith)
-some_at (y ∷ ys) i lt = y
 
 mesh_at : (meshes : List RankMesh) (r : ℕ) → r < length meshes → (m : RankMesh) × (m ≡ get_or meshes r m)
 mesh_at [] r lt = absurd (omega arith)

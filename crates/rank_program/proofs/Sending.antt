@@ -27,8 +27,9 @@ use Rattle.rank_state.specs.Windows.{cells_from, span_cells}
 use Rattle.rank_program.specs.Messages.{element_span, exports_in, imports_in, exported_locals, imported_locals, HasList, dat_spans, spans_of}
 use Rattle.rank_program.specs.MessageLaws.{HasLists, ExportsStand, ImportsStand}
 use Rattle.rank_program.specs.SendLaws.{pair_spans, FewExports, ExportsAreFew, MessagesHaveRoom, HasSpans, SendsStand, ReceivesStand}
-use Rattle.rank_program.proofs.MessagesStand.{some_at, exports_at, imports_at, bases_at, set_there, exchange_there, local_exports, local_imports}
-use Rattle.rank_program.proofs.RankMeshes.{size_small}
+use Rattle.rank_program.proofs.MessagesStand.{exports_at, imports_at, bases_at, set_there, exchange_there, local_exports, local_imports}
+use Rattle.rank_program.proofs.RankMeshes.{some_at, size_small, cells_at}
+use Rattle.rank_program.proofs.ElementWindows.{spans_count}
 
 -- ---- counts
 
@@ -56,29 +57,16 @@ listed_sum f (suc n) t =
     at_most true = omega arith
     at_most false = omega arith
 
-run_length : (cell_at : ℕ → DatCell) (at n : ℕ) → length (cells_from cell_at at n) ≡ n
-run_length cell_at at zero = refl
-run_length cell_at at (suc n) = ap suc (run_length cell_at (suc at) n)
-
-spans_length : (cell_at : ℕ → DatCell) (spans : List Span) → length (span_cells cell_at spans) ≡ total spans
-spans_length cell_at [] = refl
-spans_length cell_at (s ∷ ss) =
-    length-append (cells_from cell_at s.at s.dim) (span_cells cell_at ss) ∙ ap₂ (λ m n. m + n) (run_length cell_at s.at s.dim) (spans_length cell_at ss)
-
-pub cells_at : (meshes : List RankMesh) (r : ℕ) (m : RankMesh) → r < length meshes → m ≡ get_or meshes r m → m.cells ≡ cells_of meshes r
-unfolding cells_of
-cells_at meshes r m lt is = ap (λ (x : RankMesh). x.cells) is ∙ sym (get_or-map (λ (x : RankMesh). x.cells) meshes r m 0 lt)
-
 module _ (g : MeshValue) (m : RankMesh) (locals : ℕ → List ℕ) (count : ℕ → ℕ)
     (sets : (d : ℕ) → d < dat_count g → dat_set g d < set_count g)
     (counts : (t : ℕ) → t < set_count g → length (locals t) ≡ count t) where
-  spans_count : (dats : List ℕ) → All (λ d. d < dat_count g) dats → length (spans_of g m locals dats) ≡ sum_by (λ d. count (dat_set g d)) dats
-  spans_count [] there = refl
-  spans_count (d ∷ ds) there =
+  count_spans : (dats : List ℕ) → All (λ d. d < dat_count g) dats → length (spans_of g m locals dats) ≡ sum_by (λ d. count (dat_set g d)) dats
+  count_spans [] there = refl
+  count_spans (d ∷ ds) there =
       length-append (dat_spans g m locals d) (spans_of g m locals ds)
       ∙ ap₂ (λ x y. x + y)
       (length-map (locals (dat_set g d)) (element_span (slice_index m.bases.items d) (dat_dim g d)) ∙ counts (dat_set g d) (sets d (there 0 0 (omega arith))))
-      (spans_count ds (λ i e lt. there (suc i) e (omega arith)))
+      (count_spans ds (λ i e lt. there (suc i) e (omega arith)))
       ∙ sym (sum_by-cons (λ e. count (dat_set g e)) d ds)
 
 module _ (numbered : (n : ℕ) (t : ℕ → Bool) → HasNumbers n t) (declared : (g : MeshValue) → IsMesh g → (d : ℕ) → d < dat_count g → IsDatAt g d)
@@ -171,7 +159,7 @@ module _ (numbered : (n : ℕ) (t : ℕ → Bool) → HasNumbers n t) (declared 
             (subst (λ z. z < length (originals meshes a (dat_set b.mesh d))) (get_or_default (locals (dat_set b.mesh d)) i 0 e lt)
             (l.each i (omega (arith, l.count, lt))).0);
       };
-      spans = spans_count b.mesh m locals (λ t. length (exported_locals lists t s r)) sets_there
+      spans = count_spans b.mesh m locals (λ t. length (exported_locals lists t s r)) sets_there
           (λ t lt. (are t lt).count ∙ sym (exports_of t s r lt ls lr).count) (item_plan p k).exchange (dats_there k lk);
     }
 
@@ -195,7 +183,7 @@ sends_stand numbered declared standing sent stand b o n meshes p h lists has k s
     let lr = step.3 in
     let exports = stand b o n meshes p h lists has k s r m lk ls lr is in
     let some = (sent b o n meshes p has.planned).some k s r ls lr step.4 in
-    let all = ap length exports.cells ∙ spans_length (cell_at meshes b.mesh s) (spans_of b.mesh m (λ t. exported_locals lists t s r) (item_plan p k).exchange) in
+    let all = ap length exports.cells ∙ spans_count (cell_at meshes b.mesh s) (spans_of b.mesh m (λ t. exported_locals lists t s r) (item_plan p k).exchange) in
     record {
       sender = ls;
       receiver = lr;

@@ -1,7 +1,7 @@
 use Rattle.std.proofs.Common.{◌<◌, ◌+◌, ◌*◌, ℕ, List, length, sym, ap, ◌∙◌, subst, arith}
 use Rattle.std.specs.Prelude.{slice_index}
 use Rattle.rank_program.proofs.MessagesStand.{bases_at}
-use Rattle.rank_program.proofs.Sending.{cells_at}
+use Rattle.rank_program.proofs.RankMeshes.{cells_at}
 use Rattle.rank_program.proofs.owned_windows.place_on.Goals as goal
 
 pub place-requires-clause-dat : goal.place-requires-clause-dat
