@@ -25,3 +25,5 @@ pub mod StrideSmall
 pub mod ProgramParts
 pub mod BegunParts
 pub mod ReduceItems
+pub mod SlotNumbers
+pub mod TablesStand

@@ -13,3 +13,5 @@ pub mod First
 pub mod OwnedWindows
 pub mod OwnedLaws
 pub mod SendLaws
+pub mod Scalars
+pub mod TableLaws

@@ -17,7 +17,6 @@ use Rattle.run_model.specs.Windows.{window_cells}
 use Rattle.loop_plan.specs.Values.{PlanValue, item_plan}
 use Rattle.rank_state.specs.declared.scalars.Scalar.{Scalar}
 use Rattle.rank_state.specs.declared.scalars.Scalar.TheVariants.{Value, Amount}
-use Rattle.rank_state.specs.declared.scalars.Operation.{Operation}
 use Rattle.rank_state.specs.declared.scalars.Operation.TheVariants.{Sum}
 use Rattle.rank_state.specs.Windows.{operation, index, scalar_cells, has_slot}
 use Rattle.rank_state.specs.Joins.{has_index}
@@ -59,6 +58,11 @@ writes_by args (Variable v a) = false
 -- item, sender, receiver: how many spans the message has, one for each element of each dat
 abbrev pub message_spans : BoundValue → PlanValue → List LocalLists → ℕ → ℕ → ℕ → ℕ
 message_spans b p lists k s r = sum_by (λ d. length (exported_locals lists (dat_set b.mesh d) s r)) (item_plan p k).exchange
+
+-- so many spans are enough for an element's frame and for each message of program b by plan p between these ranks
+pub record HaveRoom (b : BoundValue) (ranks : ℕ) (p : PlanValue) (lists : List LocalLists) (spans : ℕ) : Type 0 where
+  pub elements : (s : ℕ) → s < length b.sites → length (site_at b s).args ≤ spans
+  pub messages : (k s r : ℕ) → k < length b.trace → s < ranks → r < ranks → message_spans b p lists k s r ≤ spans
 
 -- the tables of program b on the ranks of o by plan p; `lists` are the local numbers of what ranks export
 pub record AreMade (b : BoundValue) (o : Owners) (p : PlanValue) (lists : List LocalLists) (t : MachineTables) : Type 0 where

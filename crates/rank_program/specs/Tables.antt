@@ -35,6 +35,10 @@ abbrev pub slots_by : Option Reduction → ℕ → List VarCell → List Slot
 slots_by None s cells = []
 slots_by (Some o) s cells = map (λ v. record { site = s; cell = v; how = o }) cells
 
+-- plan, rank: the most places of a loop
+abbrev pub places_on : PlanValue → ℕ → ℕ
+places_on p r = most (map (λ (e : ℕ × SitePlanValue). slice_index e.1.places r) p.sites)
+
 module _ (b : BoundValue) where
   -- loop, argument
   abbrev pub arg_slots : ℕ → Arg → List Slot
@@ -48,10 +52,6 @@ module _ (b : BoundValue) where
   -- how many cells the loop's arguments have, each counted
   abbrev pub site_width : SiteValue → ℕ
   site_width site = sum_by (arg_width b) site.args
-
-  -- rank: the most places of a loop
-  abbrev pub places_on : PlanValue → ℕ → ℕ
-  places_on p r = most (map (λ (e : ℕ × SitePlanValue). slice_index e.1.places r) p.sites)
 
   abbrev pub tables_of : PlanValue → Tables
   tables_of p = record {

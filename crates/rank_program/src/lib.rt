@@ -14,6 +14,7 @@ mod laws;
 mod laws_owned;
 mod laws_sent;
 mod laws_steps;
+mod laws_tables;
 mod messages;
 mod modified;
 mod owned_windows;
@@ -34,6 +35,7 @@ pub use laws::{element_windows_stand, first_cells_stand, messages_stand, windows
 pub use laws_owned::{copies_stand, frames_fit, owned_stand, reduces_are_there, variables_stand};
 pub use laws_sent::{exports_are_few, messages_have_room, receives_stand, sends_stand};
 pub use laws_steps::steps_stand;
+pub use laws_tables::{places_stand, scalars_stand, slots_stand, tables_are_indexed};
 pub use messages::{push_exports, push_imports};
 pub use modified::is_modified;
 pub use owned_windows::{owners_span, push_windows};
