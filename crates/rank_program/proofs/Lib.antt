@@ -26,4 +26,11 @@ pub mod ProgramParts
 pub mod BegunParts
 pub mod ReduceItems
 pub mod SlotNumbers
+pub mod ScalarLists
+pub mod SiteScalars
+pub mod VariableNumbers
+pub mod ConstantNumbers
+pub mod LoopRows
 pub mod TablesStand
+pub mod PlanPlaces
+pub mod ArgVariables

@@ -6,7 +6,7 @@ use Rattle.bound_program.specs.Values.{BoundValue, SiteValue, site_of, no_site}
 use Rattle.bound_program.specs.Fits.{SiteFits}
 use Rattle.rank_program.specs.Tables.{most}
 
-most_more : (xs : List ℕ) (y : ℕ) → most (xs ++ y ∷ []) ≡ max y (most xs)
+pub most_more : (xs : List ℕ) (y : ℕ) → most (xs ++ y ∷ []) ≡ max y (most xs)
 most_more [] y = refl
 most_more (x ∷ xs) y = let more = most_more xs y in ap (max x) more ∙ swapped x y (most xs)
   where

@@ -14,4 +14,5 @@ pub mod OwnedWindows
 pub mod OwnedLaws
 pub mod SendLaws
 pub mod Scalars
+pub mod Constants
 pub mod TableLaws

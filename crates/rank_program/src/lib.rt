@@ -2,6 +2,7 @@
 #![tactic(auto)]
 
 mod begun;
+mod constant_table;
 mod dat_windows;
 mod element_windows;
 mod elements;
@@ -15,14 +16,18 @@ mod laws_owned;
 mod laws_sent;
 mod laws_steps;
 mod laws_tables;
+mod making;
 mod messages;
 mod modified;
 mod owned_windows;
+mod place_table;
 mod program;
 mod rooms;
+mod scalar_tables;
 mod tables;
 mod widths;
 mod windows;
+mod write_table;
 
 pub use begun::{original_at, owns_at, push_element};
 pub use dat_windows::{local_target, push_span};
