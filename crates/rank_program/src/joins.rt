@@ -2,21 +2,24 @@
 
 ghost use Rattle.std.specs.Prelude.{◌≡◌, ◌<◌, ◌≤◌, [], length, vec_capacity};
 ghost use Rattle.mesh_decl.specs.Mesh.{dat_count, dat_set, set_size};
-ghost use Rattle.schedule_model.specs.Program.{Ordered, elements};
+ghost use Rattle.schedule_model.specs.Program.{Reduce, Ordered, elements};
 ghost use Rattle.bound_program.specs.Values.{bound_of};
 ghost use Rattle.bound_program.specs.Fits.{site_at};
+ghost use Rattle.run_model.specs.Programs.{item_at, kind_of, loop_of};
+ghost use Rattle.rank_state.specs.Joins.{AreReduced};
 ghost use Rattle.rank_state.specs.Ordered.{AreOwned};
 ghost use Rattle.rank_exec.specs.Copies.{IsOwnersCopy};
 ghost use Rattle.rank_program.specs.Tables.{tables_of};
 ghost use Rattle.rank_program.specs.Sound.{Sound, program_in, plan_in, setup_in, layout_in};
 
 use crate::items::loop_of;
-use crate::laws_owned::{copies_stand, owned_stand};
+use crate::laws_owned::{copies_stand, owned_stand, reduces_are_there};
+use crate::laws_tables::scalars_stand;
 use crate::owned_windows::{owners_span, push_windows};
 use crate::program::DistributedProgram;
 use crate::tables::row_of;
-use bound_program::{Arg, Bound};
-use rank_state::Owned;
+use bound_program::{Arg, Bound, Item};
+use rank_state::{Owned, Scalar};
 
 // The arguments of a loop.
 fn args_of(bound: &Bound, site: u32) -> &[Arg]
@@ -55,6 +58,30 @@ pub fn push_owned_windows<'p>(
         spans,
     );
     row_of(&program.tables.indices, site)
+}
+
+// The number of the loop of a Reduce.
+fn reduced_loop(bound: &Bound, item: u32) -> u32
+    requires there { item < length (bound_of bound.now).trace }
+    requires kind { kind_of (item_at (bound_of bound.now) item) ≡ Reduce }
+    ensures { result ≡ loop_of (item_at (bound_of bound.now) item) }
+{
+    match &bound.trace[item as usize] {
+        Item::Reduce { site } => *site,
+        _ => 0,
+    }
+}
+
+/// The cells into which the loop of a Reduce reduces, beside others that it reads.
+pub fn reduced_scalars<'p>(program: &'p DistributedProgram<'_>, item: u32) -> &'p [Scalar]
+    requires sound { Sound program.now }
+    requires kind { (setup_in program.now).program.kind item ≡ Reduce }
+    ensures { AreReduced (setup_in program.now) (layout_in program.now) (tables_of (program_in program.now) (plan_in program.now))
+        item result.now }
+{
+    reduces_are_there();
+    scalars_stand();
+    row_of(&program.tables.scalars, reduced_loop(program.bound, item))
 }
 
 /// Where an element's values of a dat stand in the buffer of its owner; both by their numbers in the mesh.

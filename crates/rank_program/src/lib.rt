@@ -35,7 +35,7 @@ pub use element_windows::push_local_windows;
 pub use elements::{is_owner, original_of};
 pub use exchanges::{push_received, push_sent};
 pub use first::{first_memories, first_variables};
-pub use joins::{owners_copy, push_owned_windows};
+pub use joins::{owners_copy, push_owned_windows, reduced_scalars};
 pub use laws::{element_windows_stand, first_cells_stand, messages_stand, windows_stand};
 pub use laws_owned::{copies_stand, frames_fit, owned_stand, reduces_are_there, variables_stand};
 pub use laws_sent::{exports_are_few, messages_have_room, receives_stand, sends_stand};
