@@ -54,8 +54,8 @@ fn put_all(bound: &Bound, starts: &[usize], table: &mut [usize])
     }
 }
 
-/// By the number that kernels give a constant, its cell's number among the cells of all variables; `starts` says where each
-/// variable begins among these.
+/// By the number that kernels give a constant, its cell's number among the cells of all variables; `starts` says where
+/// each variable begins among these.
 ///
 /// # Errors
 /// Want of memory alone.

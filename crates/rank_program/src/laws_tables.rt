@@ -1,8 +1,8 @@
 // What the tables of a machine say of its setup and its layout.
 ghost use Rattle.rank_program.specs.TableLaws.{TablesAreIndexed, SlotsStand, PlacesStand, ScalarsStand};
 
-/// A law: of the machine's tables each index of a rank's buffer and of the variables is its cell's, the constants are cells
-/// of variables, and no Free loop has more places on a rank than there are for it.
+/// A law: of the machine's tables each index of a rank's buffer and of the variables is its cell's, the constants are
+/// cells of variables, and no Free loop has more places on a rank than there are for it.
 pub fn tables_are_indexed()
     ensures { TablesAreIndexed }
 {
@@ -20,8 +20,8 @@ pub fn places_stand()
     ensures { PlacesStand }
 {}
 
-/// A law: the scalars of a loop are those of each item that runs it: cells that it reads, and cells into which it reduces,
-/// each once; they have all of the loop's slots.
+/// A law: the scalars of a loop are those of each item that runs it: cells that it reads, and cells into which it
+/// reduces, each once; they have all of the loop's slots.
 pub fn scalars_stand()
     ensures { ScalarsStand }
 {}

@@ -22,8 +22,8 @@ use op_num::OutOfMemory;
 use std::alloc::Global;
 
 impl MachineTables {
-    /// The tables of a bound program on several ranks with its plan; `spans` is enough for the spans of an element's frame
-    /// and of each message. All variables together have fewer than 2^64 cells.
+    /// The tables of a bound program on several ranks with its plan; `spans` is enough for the spans of an element's
+    /// frame and of each message. All variables together have fewer than 2^64 cells.
     ///
     /// It takes time linear in the program's arguments and their cells, and in its Free loops times the ranks.
     ///

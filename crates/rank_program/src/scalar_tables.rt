@@ -176,8 +176,8 @@ fn site_scalars(
     Ok(scalars)
 }
 
-/// By loop, the cells of its arguments on variables, each once; `slots` is lent empty, and gets how each slot is merged.
-/// `starts` says where each variable begins.
+/// By loop, the cells of its arguments on variables, each once; `slots` is lent empty, and gets how each slot is
+/// merged. `starts` says where each variable begins among the cells of all.
 ///
 /// # Errors
 /// Want of memory alone.
