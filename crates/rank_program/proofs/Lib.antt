@@ -21,8 +21,6 @@ pub mod Sending
 pub mod VariableCells
 pub mod PushedWindows
 pub mod ElementWindows
-pub mod StrideSmall
-pub mod ProgramParts
 pub mod BegunParts
 pub mod ReduceItems
 pub mod SlotNumbers

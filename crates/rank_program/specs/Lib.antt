@@ -16,3 +16,4 @@ pub mod SendLaws
 pub mod Scalars
 pub mod Constants
 pub mod TableLaws
+pub mod ProgramLaws
