@@ -11,15 +11,17 @@ use Rattle.schedule_model.specs.Setup.{Setup}
 use Rattle.flat_machine.specs.Layout.{Layout, IsLayout, Core}
 use Rattle.bound_program.specs.Values.{BoundValue, bound_of}
 use Rattle.run_model.specs.Kernels.{constants}
+use Rattle.run_model.specs.Hosts.{variable_cells}
 use Rattle.run_model.specs.Laws.{site_of}
 use Rattle.run_model.specs.Programs.{item_at, kind_of}
 use Rattle.loop_plan.specs.Values.{PlanValue, plan_of}
 use Rattle.loop_plan.specs.StepOutline.{step_outline}
 use Rattle.bound_plan.specs.Laws.{Runnable}
 use Rattle.bound_plan.specs.Windows.{frame_cells}
+use Rattle.bound_plan.specs.Variables.{variable_at}
 use Rattle.bound_plan.specs.Setups.{setup_of}
 use Rattle.bound_plan.specs.Layouts.{layout_of}
-use Rattle.rank_state.specs.Shows.{Tables, Indexed}
+use Rattle.rank_state.specs.Shows.{variables_from, Tables, Indexed}
 use Rattle.rank_program.specs.Tables.{tables_of}
 use Rattle.rank_program.specs.MessageLaws.{HasLists}
 use Rattle.rank_program.specs.Made.{AreMade}
@@ -58,6 +60,7 @@ module _ (c : DistributedProgram) where
     pub room : HaveRoom c.codes.now c.locals
     pub layout : IsLayout setup_in layout_in
     pub indexed : Indexed setup_in layout_in tables_in
+    pub variables : variables_from (variable_at program_in) 0 (length (variable_cells program_in)) ≡ variable_cells program_in
 
   -- the item is a loop with this element, with so many constants and cells of its frame
   pub record Takes (k e cs ws : ℕ) : Type 0 where

@@ -22,6 +22,7 @@ mod modified;
 mod owned_windows;
 mod place_table;
 mod program;
+mod program_items;
 mod program_parts;
 mod rooms;
 mod scalar_tables;
