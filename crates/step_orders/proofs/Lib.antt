@@ -4,3 +4,6 @@ pub mod Whole
 pub mod Buckets
 pub mod Flat
 pub mod Windows
+pub mod Cutting
+pub mod KeyPieces
+pub mod RunOrder

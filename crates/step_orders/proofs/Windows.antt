@@ -31,7 +31,7 @@ push_before : (l : List ℕ) (x a g : ℕ) → length l < a → take g (drop a (
 push_before l x a g lt =
     ap (λ z. take g z) (drop_all a (l ++ (x ∷ [])) (omega (arith, length-append l (x ∷ []))) ∙ sym (drop_all a l (omega arith)))
 
-length_numbers : (t : ℕ → Bool) (n : ℕ) → length (numbers t n) ≡ tally t n
+pub length_numbers : (t : ℕ → Bool) (n : ℕ) → length (numbers t n) ≡ tally t n
 length_numbers t zero = refl
 length_numbers t (suc n) =
     length-append (numbers t n) (cond (t n) (n ∷ []) [])

@@ -1,4 +1,5 @@
 pub mod Runs
 pub mod ElementRuns
+pub mod Pieces
 pub mod Left
 pub mod Order

@@ -4,6 +4,7 @@
 mod laws;
 mod list;
 mod order;
+mod pieces;
 mod runs;
 mod shape;
 mod standard_order;

@@ -1,7 +1,14 @@
 // Runs of elements.
-ghost use Rattle.std.specs.Prelude.{◌≡◌, ◌<◌, ◌≤◌, ◌-◌, [], length, get_or, take, drop};
+ghost use Rattle.std.specs.Prelude.{◌≡◌, ◌<◌, ◌≤◌, ◌-◌, ◌^◌, ℕ, [], length, get_or, take, drop, IfOk};
+ghost use Rattle.schedule_steps.specs.Outline.{Outline};
 ghost use Rattle.step_orders.specs.Runs.{cut, start_of, AreEnds};
+ghost use Rattle.step_orders.specs.Order.{IsColoured};
+ghost use Rattle.step_orders.specs.ElementRuns.{runs_of};
 
+use crate::order::places_in_order;
+use crate::pieces::run_ends;
+use op_num::OutOfMemory;
+use std::alloc::Global;
 use std::marker::Model;
 
 /// Elements in runs, one run after another. `ends` has by run the number of elements in it and before it.
@@ -61,6 +68,30 @@ impl Runs {
         ensures { result ≡ cut 0 elements.items ends.items }
     {
         Runs { elements, ends }
+    }
+
+    /// The places of a rank by block colour, block, colour and number, in runs of at most `group` places of one block and colour.
+    /// There is a place for each of the colours, `size` of them to a block, and a colour for each block; a block without one has
+    /// the colour 0. It takes time n log n. An error is want of memory.
+    pub fn of_places(
+        alloc: Global,
+        size: u32,
+        block_colours: &[u32],
+        colours: &[u32],
+        group: u32,
+    ) -> Result<Runs, OutOfMemory>
+        requires size { 1 ≤ size }
+        requires few { length colours.now < 2 ^ 32 }
+        requires group { 1 ≤ group }
+        ensures { IfOk result (λ v. (o : Outline) (k r : ℕ) → IsColoured o k r size block_colours.now colours.now
+            → v ≡ runs_of o group k r) }
+    {
+        let places = places_in_order(alloc, size, block_colours, colours)?;
+        let ends = run_ends(alloc, size, colours, group, &places)?;
+        Ok(Runs {
+            elements: places,
+            ends,
+        })
     }
 
     /// How many runs there are.

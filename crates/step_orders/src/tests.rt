@@ -1,5 +1,5 @@
 // Orders of small plans.
-use crate::{Listed, list_of, places_in_order};
+use crate::{Listed, Runs, list_of, places_in_order};
 use op_num::OutOfMemory;
 use schedule_steps::Step;
 
@@ -32,6 +32,28 @@ fn places_go_by_colours(rt: HostRuntime) -> Result<(), OutOfMemory> {
         if 0 < *size && colours.len() < 10 {
             let places = places_in_order(alloc, *size, *block_colours, *colours)?;
             assert_eq!(rt; places.as_slice(), *want);
+        }
+    }
+    Ok(())
+}
+
+// Blocks of two places, the colours of the blocks and of the places, how many go together, and the runs.
+const RUNS: &[(&[u32], &[u32], u32, &[&[u32]])] = &[
+    (&[1, 0], &[0, 1, 1, 0], 2, &[&[3], &[2], &[0], &[1]]),
+    (&[0, 0], &[0, 0, 0, 0], 9, &[&[0, 1], &[2, 3]]),
+    (&[0, 1], &[0, 0, 0, 0], 1, &[&[0], &[1], &[2], &[3]]),
+];
+
+#[test]
+fn runs_are_of_one_block_and_colour(rt: HostRuntime) -> Result<(), OutOfMemory> {
+    let alloc = rt.alloc();
+    for (block_colours, colours, group, want) in RUNS {
+        if 0 < *group && colours.len() < 10 {
+            let runs = Runs::of_places(alloc, 2, *block_colours, *colours, *group)?;
+            assert!(rt; runs.len() == want.len());
+            for run in 0..runs.len() {
+                assert_eq!(rt; runs.run(run), want[run]);
+            }
         }
     }
     Ok(())
