@@ -32,3 +32,4 @@ pub mod LoopRows
 pub mod TablesStand
 pub mod PlanPlaces
 pub mod ArgVariables
+pub mod Runnables

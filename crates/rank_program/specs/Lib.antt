@@ -17,3 +17,4 @@ pub mod Scalars
 pub mod Constants
 pub mod TableLaws
 pub mod ProgramLaws
+pub mod Runnables

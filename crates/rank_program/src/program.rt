@@ -1,17 +1,29 @@
 // A bound program, distributed and planned.
 
-ghost use Rattle.std.specs.Prelude.{◌≡◌};
+ghost use Rattle.std.specs.Prelude.{◌≡◌, ◌<◌, ◌^◌, length, IfOk};
+ghost use Rattle.kernel_code.specs.Codes.{AreCodesOf};
+ghost use Rattle.bound_program.specs.Values.{bound_of};
+ghost use Rattle.run_model.specs.Hosts.{variable_cells};
+ghost use Rattle.loop_plan.specs.Values.{plan_of};
+ghost use Rattle.rank_program.specs.Sound.{Sound};
+ghost use Rattle.rank_program.specs.Runnables.{CanRun, IsProgramOf};
 
 use crate::items::loop_of;
 use crate::kernel_run::run_kernel;
+use crate::laws_owned::variables_stand;
+use crate::laws_sent::{exports_are_few, messages_have_room};
+use crate::laws_tables::tables_are_indexed;
+use crate::rooms::most_spans;
 use crate::tables::MachineTables;
 use bound_program::Bound;
-use kernel_code::Code;
+use kernel_code::{Code, room_for};
 use kernel_types::KernelFault;
 use local_mesh::{LocalLists, RankMesh};
 use loop_plan::Plan;
 use mesh_decl::Owners;
+use op_num::OutOfMemory;
 use rank_exec::core_run::Kernels;
+use std::alloc::Global;
 
 /// A bound program with its distribution over several ranks and its plan.
 #[derive(Drop)]
@@ -28,6 +40,51 @@ pub struct DistributedProgram<'a> {
     /// The most cells that the locals of a kernel have.
     pub locals: usize,
     pub tables: MachineTables,
+}
+
+impl<'a> DistributedProgram<'a> {
+    /// A bound program on the ranks of `owners`, with the local meshes of these, the plan for them, the local numbers of
+    /// what ranks own and exchange by set, and the codes of the program's kernels. All variables together have fewer than
+    /// 2^64 cells.
+    ///
+    /// It takes time linear in the program's arguments and their cells, in its Free loops times the ranks, and in the lists
+    /// of what ranks export, for each dat.
+    ///
+    /// # Errors
+    /// Want of memory alone.
+    pub fn new(
+        alloc: Global,
+        bound: &'a Bound,
+        owners: &'a Owners,
+        meshes: &'a [RankMesh],
+        lists: &'a [LocalLists],
+        plan: &'a Plan,
+        codes: &'a [Code<'a>],
+    ) -> Result<DistributedProgram<'a>, OutOfMemory>
+        requires few { length (variable_cells (bound_of bound.now)) < 2 ^ 64 }
+        requires runs { CanRun (bound_of bound.now) owners.now meshes.now (plan_of plan.now) lists.now }
+        requires codes { AreCodesOf (bound_of bound.now).kernels codes.now }
+        ensures sound { IfOk result Sound }
+        ensures of { IfOk result (IsProgramOf (bound_of bound.now) owners.now meshes.now (plan_of plan.now)) }
+    {
+        bound_plan::layouts_fit();
+        tables_are_indexed();
+        variables_stand();
+        exports_are_few();
+        messages_have_room();
+        let spans = most_spans(bound, lists, owners.ranks);
+        let tables = MachineTables::new(alloc, bound, owners, plan, spans)?;
+        Ok(DistributedProgram {
+            bound,
+            owners,
+            meshes,
+            lists,
+            plan,
+            codes,
+            locals: room_for(codes),
+            tables,
+        })
+    }
 }
 
 impl<'a> Kernels for DistributedProgram<'a> {

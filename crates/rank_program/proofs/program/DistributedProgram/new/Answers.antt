@@ -1,0 +1,31 @@
+use Rattle.bound_program.specs.Values.{bound_of}
+use Rattle.loop_plan.specs.Values.{plan_of}
+use Rattle.rank_program.proofs.Runnables.{has_lists, have_room}
+use Rattle.rank_program.proofs.program.DistributedProgram.new.Goals as goal
+
+pub most_spans-spans-requires-clause-few : goal.most_spans-spans-requires-clause-few
+most_spans-spans-requires-clause-few c =
+    let r = c.requires.runs in
+    c.exports_are_few.ensures (bound_of c.args.bound.now) c.args.owners.now r.numbers c.args.meshes.now (plan_of c.args.plan.now) r.halos c.args.lists.now
+    (has_lists (bound_of c.args.bound.now) c.args.owners.now c.args.meshes.now (plan_of c.args.plan.now) c.args.lists.now r)
+
+pub returns-clause-sound : goal.returns-clause-sound
+returns-clause-sound c =
+    let b = bound_of c.args.bound.now in
+    let p = plan_of c.args.plan.now in
+    let r = c.requires.runs in
+    let lists = has_lists b c.args.owners.now c.args.meshes.now p c.args.lists.now r in
+    record {
+      numbers = r.numbers;
+      halos = r.halos;
+      runnable = r.runnable;
+      lists = lists;
+      made = c.in_ok-tables.ensures c.args.lists.now
+          (have_room b c.args.owners.now r.numbers c.args.meshes.now p r.halos c.args.lists.now lists c.most_spans-spans.result
+          c.most_spans-spans.ensures.elements c.most_spans-spans.ensures.messages c.messages_have_room.ensures);
+      codes = c.requires.codes;
+      room = c.room_for.ensures;
+      layout = c.layouts_fit.ensures b c.args.owners.now r.numbers c.args.meshes.now p r.runnable;
+      indexed = c.tables_are_indexed.ensures b c.args.owners.now r.numbers c.args.meshes.now p r.runnable.planned;
+      variables = c.variables_stand.ensures b;
+    }
