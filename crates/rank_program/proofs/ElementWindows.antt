@@ -1,29 +1,21 @@
 -- The windows of an element that a step begins.
 use Rattle.std.proofs.Common.{◌≡◌, ◌≤◌, ◌+◌, ℕ, zero, suc, List, [], ◌∷◌, ◌++◌, length, refl, sym, ap, ap₂, ◌∙◌, subst, length-append}
-use Rattle.mesh_decl.specs.declared.owners.Owners.{Owners}
-use Rattle.local_mesh.specs.declared.types.RankMesh.{RankMesh}
 use Rattle.schedule_model.specs.Cells.{DatCell, VarCell}
-use Rattle.bound_program.specs.Values.{BoundValue}
 use Rattle.bound_program.specs.Classes.{modifies}
 use Rattle.run_model.specs.Programs.{item_at, loop_of}
 use Rattle.run_model.specs.Laws.{site_of}
-use Rattle.loop_plan.specs.Values.{PlanValue}
 use Rattle.bound_plan.specs.Machine.{DatsComeFirst, FramesHaveCellsOnce}
 use Rattle.bound_plan.specs.Places.{original_at, cell_at}
 use Rattle.bound_plan.specs.Windows.{frame_cells}
-use Rattle.bound_plan.specs.Setups.{setup_of}
-use Rattle.bound_plan.specs.Layouts.{layout_of}
 use Rattle.bound_plan.specs.Variables.{variable_at}
 use Rattle.rank_state.specs.declared.spans.Span.{Span}
 use Rattle.rank_state.specs.declared.scalars.Scalar.{Scalar}
-use Rattle.rank_state.specs.declared.scalars.Scalar.TheVariants.{Value, Amount}
 use Rattle.rank_state.specs.Spans.{total}
 use Rattle.rank_state.specs.Windows.{cells_from, span_cells, scalar_cells, Marked}
-use Rattle.rank_state.specs.Shows.{AreScalars}
 use Rattle.rank_program.specs.DatWindows.{spans_after}
 use Rattle.rank_program.specs.Tables.{tables_of}
-use Rattle.rank_program.specs.Made.{EachIsScalar}
 use Rattle.rank_program.specs.OwnedLaws.{FramesFit}
+use Rattle.rank_program.specs.TableLaws.{ScalarsStand}
 use Rattle.rank_program.specs.WindowLaws.{arg_span, AreDatWindows, DatWindowsStand, ElementWindowsStand}
 use Rattle.rank_program.proofs.ItemLoops.{args_are}
 
@@ -40,15 +32,8 @@ scalars_count : (variable_at : ℕ → VarCell) (scalars : List Scalar) → leng
 scalars_count variable_at [] = refl
 scalars_count variable_at (x ∷ xs) = ap suc (scalars_count variable_at xs)
 
-module _ (b : BoundValue) (o : Owners) (meshes : List RankMesh) (p : PlanValue) (k : ℕ) where
-  pub scalars_are : (scalars : List Scalar) → EachIsScalar b (loop_of (item_at b k)) scalars
-      → AreScalars (setup_of b o meshes p) (layout_of b o meshes p) (tables_of b p) k scalars
-  scalars_are [] h = tt
-  scalars_are (Value at ∷ xs) h = (h.0, scalars_are xs h.1)
-  scalars_are (Amount at slot how ∷ xs) h = (h.0, scalars_are xs h.1)
-
-pub windows_are : DatWindowsStand → DatsComeFirst → FramesHaveCellsOnce → FramesFit → ElementWindowsStand
-windows_are stand first once fit b o n meshes p pl k r x m scalars is part are =
+pub windows_are : DatWindowsStand → DatsComeFirst → FramesHaveCellsOnce → FramesFit → ScalarsStand → ElementWindowsStand
+windows_are stand first once fit reduced b o n meshes p pl k r x m scalars is part are =
     let site = site_of b k in
     let e = original_at meshes r site.set x in
     let spans = spans_after (arg_span b.mesh m x (modifies site.args)) site.args [] in
@@ -65,7 +50,7 @@ windows_are stand first once fit b o n meshes p pl k r x m scalars is part are =
       once = once b site e;
       within = dats.within;
       writes = subst (λ args. Marked (λ i. modifies args (cell_at meshes b.mesh r i).dat) spans) (sym (args_are b k is.free)) dats.marked;
-      are_scalars = scalars_are b o meshes p k scalars are.each;
+      are_scalars = (reduced b o meshes p k scalars are).are_scalars;
       covers = are.covers;
       fits = subst (λ z. z ≤ (tables_of b p).stride) count room;
     }

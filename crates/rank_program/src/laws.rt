@@ -4,6 +4,7 @@ ghost use Rattle.rank_program.specs.WindowLaws.{ArgsAreHere, DatWindowsStand, El
 ghost use Rattle.rank_program.specs.First.{FirstCellsStand};
 
 use crate::laws_owned::frames_fit;
+use crate::laws_tables::scalars_stand;
 
 /// A law: the spans of a message by local numbers are where its cells stand on its sender and on its receiver, and at the
 /// receiver each of them arrives.
@@ -35,6 +36,7 @@ pub fn element_windows_stand()
     windows_stand();
     bound_plan::frames_have_cells();
     frames_fit();
+    scalars_stand();
 }
 
 /// A law: the mesh's values in each copy, and the variables' first values, are the cells with which the machine starts.
