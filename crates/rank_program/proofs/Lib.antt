@@ -33,3 +33,4 @@ pub mod TablesStand
 pub mod PlanPlaces
 pub mod ArgVariables
 pub mod Runnables
+pub mod MostPairs

@@ -1,5 +1,5 @@
 -- The messages of a plan's steps: where their cells stand, and how many spans they have.
-use Rattle.std.proofs.Common.{◌≡◌, ◌<◌, ◌≤◌, ◌+◌, ◌*◌, ℕ, zero, suc, Bool, true, false, cond, List, [], ◌∷◌, All, length, get_or, sum_by, refl, sym, ap, ap₂, ◌∙◌, subst, arith, length-append}
+use Rattle.std.proofs.Common.{◌≡◌, ◌<◌, ◌≤◌, ◌+◌, ◌*◌, ℕ, zero, suc, Bool, true, false, cond, List, [], ◌∷◌, All, length, get_or, sum_by, refl, sym, ap, ap₂, ◌∙◌, subst, arith, length-append, le_trans}
 use Rattle.std.specs.Prelude.{◌&&◌, slice_index}
 use Rattle.std.proofs.lemmas.List.{get_or-map, get_or_default, length-map}
 use Rattle.std.proofs.lemmas.List.Sums.{sum_by-cons, sum_by-append}
@@ -26,7 +26,7 @@ use Rattle.rank_state.specs.Spans.{total}
 use Rattle.rank_state.specs.Windows.{cells_from, span_cells}
 use Rattle.rank_program.specs.Messages.{element_span, exports_in, imports_in, exported_locals, imported_locals, HasList, dat_spans, spans_of}
 use Rattle.rank_program.specs.MessageLaws.{HasLists, ExportsStand, ImportsStand}
-use Rattle.rank_program.specs.SendLaws.{pair_spans, FewExports, ExportsAreFew, MessagesHaveRoom, HasSpans, SendsStand, ReceivesStand}
+use Rattle.rank_program.specs.SendLaws.{pair_spans, FewExports, ExportsAreFew, MessagesHaveRoom, RoomsStand, HasSpans, SendsStand, ReceivesStand}
 use Rattle.rank_program.proofs.MessagesStand.{exports_at, imports_at, bases_at, set_there, exchange_there, local_exports, local_imports}
 use Rattle.rank_program.proofs.RankMeshes.{some_at, size_small, cells_at}
 use Rattle.rank_program.proofs.ElementWindows.{spans_count}
@@ -174,6 +174,12 @@ messages_have_room b o n meshes p h lists has k s r lk =
     subst (λ z. sum_by (λ d. length (exported_locals lists (dat_set b.mesh d) s r)) z ≤ pair_spans b.mesh lists s r)
     (sym (has.planned.proper.exchanges.in_order k lk))
     (listed_sum (λ d. length (exported_locals lists (dat_set b.mesh d) s r)) (dat_count b.mesh) (exchanges b p k))
+
+pub rooms_stand : MessagesHaveRoom → RoomsStand
+rooms_stand fewer b o n meshes p h lists has spans frames pairs = record {
+  elements = frames;
+  messages = λ k s r lk ls lr. le_trans (fewer b o n meshes p h lists has k s r lk) (pairs s r ls lr);
+}
 
 pub sends_stand : ((n : ℕ) (t : ℕ → Bool) → HasNumbers n t) → ((g : MeshValue) → IsMesh g → (d : ℕ) → d < dat_count g → IsDatAt g d)
     → ElementsStand → MessagesHaveCells → ExportsStand → SendsStand

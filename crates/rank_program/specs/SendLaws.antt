@@ -1,5 +1,5 @@
 -- The messages of a plan's steps: where their cells stand, and how many spans they have.
-use Rattle.std.specs.Prelude.{◌≡◌, ◌<◌, ◌≤◌, ◌^◌, ℕ, List, length, slice_index_or}
+use Rattle.std.specs.Prelude.{◌≡◌, ◌<◌, ◌≤◌, ◌^◌, ◌⊎◌, ℕ, List, length, slice_index_or}
 use Rattle.mesh_decl.specs.declared.owners.Owners.{Owners}
 use Rattle.mesh_decl.specs.declared.owners.Perms.{Perms}
 use Rattle.mesh_decl.specs.Mesh.{MeshValue, set_count, dat_count, dat_set}
@@ -10,6 +10,7 @@ use Rattle.schedule_steps.specs.declared.step.Step.TheVariants.{Send, Recv}
 use Rattle.schedule_steps.specs.Steps.{IsStep}
 use Rattle.flat_machine.specs.Layout.{by_place}
 use Rattle.bound_program.specs.Values.{BoundValue}
+use Rattle.bound_program.specs.Fits.{site_at}
 use Rattle.loop_plan.specs.Counted.{sum_below}
 use Rattle.loop_plan.specs.Values.{PlanValue, item_plan}
 use Rattle.bound_plan.specs.Setups.{setup_of}
@@ -18,7 +19,7 @@ use Rattle.rank_state.specs.Spans.{total}
 use Rattle.rank_state.specs.Shows.{AreExports, AreImports}
 use Rattle.rank_program.specs.Messages.{exports_in, imports_in, exported_locals, imported_locals, HasList, spans_of, AreThere}
 use Rattle.rank_program.specs.MessageLaws.{HasLists}
-use Rattle.rank_program.specs.Made.{message_spans}
+use Rattle.rank_program.specs.Made.{message_spans, HaveRoom}
 use Rattle.rank_program.specs.Tables.{tables_of}
 
 -- sender, receiver: how many spans a message has at most, one for each exported element of each dat
@@ -44,6 +45,26 @@ MessagesHaveRoom =
     → HasLists b o n meshes p h lists
     → (k s r : ℕ) → k < length b.trace
     → message_spans b p lists k s r ≤ pair_spans b.mesh lists s r
+
+-- what is enough for frames, and for messages where all dats are exchanged, is enough for the program's
+abbrev pub RoomsStand : Type 0
+RoomsStand =
+    (b : BoundValue) (o : Owners) (n : Perms) (meshes : List RankMesh) (p : PlanValue) (h : Halos) (lists : List LocalLists)
+    → HasLists b o n meshes p h lists
+    → (spans : ℕ)
+    → ((s : ℕ) → s < length b.sites → length (site_at b s).args ≤ spans)
+    → ((s r : ℕ) → s < o.ranks → r < o.ranks → pair_spans b.mesh lists s r ≤ spans)
+    → HaveRoom b o.ranks p lists spans
+
+-- m is the greatest of f below n, or 0
+pub record IsMost (f : ℕ → ℕ) (n m : ℕ) : Type 0 where
+  pub each : (i : ℕ) → i < n → f i ≤ m
+  pub some : (m ≡ 0) ⊎ ((i : ℕ) × (i < n) × (f i ≡ m))
+
+-- m is the greatest number of spans from a sender below n to one of so many ranks, or 0
+pub record IsMostSent (g : MeshValue) (lists : List LocalLists) (n ranks m : ℕ) : Type 0 where
+  pub each : (s r : ℕ) → s < n → r < ranks → pair_spans g lists s r ≤ m
+  pub some : (m ≡ 0) ⊎ ((s : ℕ) × (r : ℕ) × (s < n) × (r < ranks) × (pair_spans g lists s r ≡ m))
 
 -- a message of item k with these spans on rank `rank`, whose local mesh is m, by the local numbers in `tables`
 pub record HasSpans (b : BoundValue) (p : PlanValue) (meshes : List RankMesh) (lists : List LocalLists) (k s r rank : ℕ)

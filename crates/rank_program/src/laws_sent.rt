@@ -1,5 +1,5 @@
 // The messages of a plan's steps.
-ghost use Rattle.rank_program.specs.SendLaws.{ExportsAreFew, MessagesHaveRoom, SendsStand, ReceivesStand};
+ghost use Rattle.rank_program.specs.SendLaws.{ExportsAreFew, MessagesHaveRoom, RoomsStand, SendsStand, ReceivesStand};
 
 use crate::laws::messages_stand;
 
@@ -17,6 +17,14 @@ pub fn exports_are_few()
 pub fn messages_have_room()
     ensures { MessagesHaveRoom }
 {}
+
+/// A law: what is enough for the frames of all loops and for the messages between any two ranks where every dat is
+/// exchanged is enough for the program.
+pub fn rooms_stand()
+    ensures { RoomsStand }
+{
+    messages_have_room();
+}
 
 /// A law: the spans of a message on its sender are there, and have its cells, of which there are some.
 pub fn sends_stand()

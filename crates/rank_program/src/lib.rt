@@ -40,7 +40,9 @@ pub use first::{first_memories, first_variables};
 pub use joins::{owners_copy, push_owned_windows, reduced_scalars};
 pub use laws::{element_windows_stand, first_cells_stand, messages_stand, windows_stand};
 pub use laws_owned::{copies_stand, frames_fit, owned_stand, reduces_are_there, variables_stand};
-pub use laws_sent::{exports_are_few, messages_have_room, receives_stand, sends_stand};
+pub use laws_sent::{
+    exports_are_few, messages_have_room, receives_stand, rooms_stand, sends_stand,
+};
 pub use laws_steps::steps_stand;
 pub use laws_tables::{places_stand, scalars_stand, slots_stand, tables_are_indexed};
 pub use messages::{push_exports, push_imports};

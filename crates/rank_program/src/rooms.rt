@@ -1,10 +1,10 @@
 // How many spans an element's frame or a message has at most.
 
-ghost use Rattle.std.specs.Prelude.{◌≡◌, ◌<◌, ◌≤◌, ◌^◌, ℕ, length};
+ghost use Rattle.std.specs.Prelude.{◌≡◌, ◌<◌, ◌≤◌, ◌^◌, ◌⊎◌, ℕ, length};
 ghost use Rattle.mesh_decl.specs.Mesh.{set_count};
 ghost use Rattle.bound_program.specs.Values.{bound_of};
 ghost use Rattle.bound_program.specs.Fits.{Fits, site_at};
-ghost use Rattle.rank_program.specs.SendLaws.{pair_spans, FewExports};
+ghost use Rattle.rank_program.specs.SendLaws.{pair_spans, FewExports, IsMost, IsMostSent};
 
 use crate::messages::exported_locals;
 use crate::windows::MAX_ARGS;
@@ -31,7 +31,7 @@ fn pair_spans(mesh: &Mesh, lists: &[LocalLists], ranks: u32, from: u32, to: u32)
 fn most_from(mesh: &Mesh, lists: &[LocalLists], ranks: u32, from: u32) -> usize
     requires few { FewExports mesh.now ranks lists.now }
     requires from { from < ranks }
-    ensures { (r : ℕ) → r < ranks → pair_spans mesh.now lists.now from r ≤ result }
+    ensures { IsMost (pair_spans mesh.now lists.now from) ranks result }
 {
     let mut most = 0;
     for to in 0..ranks {
@@ -43,7 +43,7 @@ fn most_from(mesh: &Mesh, lists: &[LocalLists], ranks: u32, from: u32) -> usize
 // The most of all messages.
 fn most_sent(mesh: &Mesh, lists: &[LocalLists], ranks: u32) -> usize
     requires { FewExports mesh.now ranks lists.now }
-    ensures { (s r : ℕ) → s < ranks → r < ranks → pair_spans mesh.now lists.now s r ≤ result }
+    ensures { IsMostSent mesh.now lists.now ranks ranks result }
 {
     let mut most = 0;
     for from in 0..ranks {
@@ -52,13 +52,16 @@ fn most_sent(mesh: &Mesh, lists: &[LocalLists], ranks: u32) -> usize
     most
 }
 
-/// A bound of the spans of an element's frame and of a message, by the lists of what ranks export. It takes time linear
-/// in the number of these lists, for each dat, and no memory.
+/// The most spans of a message between two ranks where every dat is exchanged, by the lists of what ranks export, or 16
+/// where that is more, since a loop has no more arguments. It takes time linear in the number of these lists, for each
+/// dat, and no memory.
 pub fn most_spans(bound: &Bound, lists: &[LocalLists], ranks: u32) -> usize
     requires fits { Fits (bound_of bound.now) }
     requires few { FewExports (bound_of bound.now).mesh ranks lists.now }
     ensures elements { (s : ℕ) → s < length (bound_of bound.now).sites → length (site_at (bound_of bound.now) s).args ≤ result }
     ensures messages { (s r : ℕ) → s < ranks → r < ranks → pair_spans (bound_of bound.now).mesh lists.now s r ≤ result }
+    ensures least { (result ≡ 16)
+        ⊎ ((s : ℕ) × (r : ℕ) × (s < ranks) × (r < ranks) × (pair_spans (bound_of bound.now).mesh lists.now s r ≡ result)) }
 {
     most_sent(&bound.mesh, lists, ranks).max(MAX_ARGS)
 }
