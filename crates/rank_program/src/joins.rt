@@ -4,7 +4,6 @@ ghost use Rattle.std.specs.Prelude.{◌≡◌, ◌<◌, ◌≤◌, [], length, v
 ghost use Rattle.mesh_decl.specs.Mesh.{dat_count, dat_set, set_size};
 ghost use Rattle.schedule_model.specs.Program.{Reduce, Ordered, elements};
 ghost use Rattle.bound_program.specs.Values.{bound_of};
-ghost use Rattle.bound_program.specs.Fits.{site_at};
 ghost use Rattle.run_model.specs.Programs.{item_at, kind_of, loop_of};
 ghost use Rattle.rank_state.specs.Joins.{AreReduced};
 ghost use Rattle.rank_state.specs.Ordered.{AreOwned};
@@ -12,22 +11,14 @@ ghost use Rattle.rank_exec.specs.Copies.{IsOwnersCopy};
 ghost use Rattle.rank_program.specs.Tables.{tables_of};
 ghost use Rattle.rank_program.specs.Sound.{Sound, program_in, plan_in, setup_in, layout_in};
 
-use crate::items::loop_of;
+use crate::items::{args_of, loop_of};
 use crate::laws_owned::{copies_stand, owned_stand, reduces_are_there};
 use crate::laws_tables::scalars_stand;
 use crate::owned_windows::{owners_span, push_windows};
 use crate::program::DistributedProgram;
 use crate::tables::row_of;
-use bound_program::{Arg, Bound, Item};
+use bound_program::{Bound, Item};
 use rank_state::{Owned, Scalar};
-
-// The arguments of a loop.
-fn args_of(bound: &Bound, site: u32) -> &[Arg]
-    requires { site < length (bound_of bound.now).sites }
-    ensures { result.now ≡ (site_at (bound_of bound.now) site).args }
-{
-    &bound.sites[site as usize].args
-}
 
 /// Puts down where the windows of an element of an Ordered loop stand in the buffers of their owners, and gives the
 /// numbers of the variables' cells behind them. Takes no memory.
@@ -53,7 +44,7 @@ pub fn push_owned_windows<'p>(
         program.owners,
         program.meshes,
         program.lists,
-        args_of(program.bound, site),
+        args_of(program.bound, site as usize),
         element,
         spans,
     );

@@ -16,6 +16,7 @@ ghost use Rattle.rank_program.specs.Made.{row_of, AreSiteScalars};
 ghost use Rattle.rank_program.specs.Scalars.{is_on, names, operation_by, cell_scalars, cell_operations, new_scalars, new_operations};
 ghost use Rattle.rank_program.specs.Scalars.{AreOperations, slots_before};
 
+use crate::items::args_of;
 use bound_program::{Access, Arg, Bound};
 use op_num::OutOfMemory;
 use rank_state::{Operation, Scalar};
@@ -141,14 +142,6 @@ fn push_argument(
             )
         }
     }
-}
-
-// A loop's arguments.
-fn args_of(bound: &Bound, site: usize) -> &[Arg]
-    requires { site < length (bound_of bound.now).sites }
-    ensures { result.now ≡ (site_at (bound_of bound.now) site).args }
-{
-    &bound.sites[site].args
 }
 
 // The cells of a loop's arguments on variables, each once, with the slots that come next.
