@@ -1,5 +1,5 @@
 -- The most spans of a message, with one rank more.
-use Rattle.std.proofs.Common.{◌≡◌, ◌<◌, ◌≤◌, ◌+◌, max, ℕ, zero, suc, List, refl, sym, subst, ◌⊎◌, inl, inr, ⊎_elim, arith}
+use Rattle.std.proofs.Common.{◌≡◌, ◌<◌, ◌≤◌, ◌+◌, max, ℕ, List, refl, sym, subst, ◌⊎◌, inl, inr, ⊎_elim, arith}
 use Rattle.std.proofs.lemmas.Bool.{cases_lt}
 use Rattle.mesh_decl.specs.Mesh.{MeshValue}
 use Rattle.local_mesh.specs.declared.lists.LocalLists.{LocalLists}

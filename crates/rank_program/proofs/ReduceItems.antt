@@ -1,12 +1,12 @@
 -- The loop of a Reduce is that of the item before it.
-use Rattle.std.proofs.Common.{◌≡◌, ◌<◌, ◌≤◌, ℕ, zero, suc, Bool, true, false, List, length, get_or, sym, ap, ◌∙◌, subst, ⊎_elim}
+use Rattle.std.proofs.Common.{◌≡◌, ◌<◌, ℕ, zero, suc, Bool, true, false, List, length, get_or, sym, ap, ◌∙◌, subst, ⊎_elim}
 use Rattle.std.proofs.lemmas.Bool.{cases_lt, false≢true}
 use Rattle.std.proofs.lemmas.List.{get_or_past}
 use Rattle.schedule_model.specs.Program.{Kind, Reduce, is_loop}
 use Rattle.bound_program.specs.Values.{BoundValue, ItemValue, Host, Exit}
 use Rattle.bound_program.specs.Fits.{Fits}
 use Rattle.run_model.specs.Laws.{LoopsAreThere}
-use Rattle.run_model.specs.Programs.{item_at, kind_of, loop_of, program_of}
+use Rattle.run_model.specs.Programs.{item_at, kind_of, loop_of}
 use Rattle.schedule_model.specs.Laws.{Items}
 use Rattle.mesh_decl.specs.declared.owners.Owners.{Owners}
 use Rattle.local_mesh.specs.declared.types.RankMesh.{RankMesh}

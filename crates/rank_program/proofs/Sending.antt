@@ -1,7 +1,7 @@
 -- The messages of a plan's steps: where their cells stand, and how many spans they have.
 use Rattle.std.proofs.Common.{◌≡◌, ◌<◌, ◌≤◌, ◌+◌, ◌*◌, ℕ, zero, suc, Bool, true, false, cond, List, [], ◌∷◌, All, length, get_or, sum_by, refl, sym, ap, ap₂, ◌∙◌, subst, arith, length-append, le_trans}
 use Rattle.std.specs.Prelude.{◌&&◌, slice_index}
-use Rattle.std.proofs.lemmas.List.{get_or-map, get_or_default, length-map}
+use Rattle.std.proofs.lemmas.List.{get_or_default, length-map}
 use Rattle.std.proofs.lemmas.List.Sums.{sum_by-cons, sum_by-append}
 use Rattle.rank_sets.specs.Below.{HasNumbers, listed}
 use Rattle.mesh_decl.specs.declared.owners.Owners.{Owners}
@@ -13,7 +13,6 @@ use Rattle.local_mesh.specs.declared.types.RankMesh.{RankMesh}
 use Rattle.local_mesh.specs.declared.lists.LocalLists.{LocalLists}
 use Rattle.local_mesh.specs.LocalMesh.{IsRankMesh}
 use Rattle.local_mesh.specs.Lists.{AreLocals}
-use Rattle.schedule_model.specs.Cells.{DatCell}
 use Rattle.bound_program.specs.Values.{BoundValue}
 use Rattle.loop_plan.specs.Values.{PlanValue, item_plan}
 use Rattle.loop_plan.specs.Needs.{exchanges}
@@ -21,9 +20,6 @@ use Rattle.loop_plan.specs.Counted.{sum_below}
 use Rattle.bound_plan.specs.Places.{originals, bases_of, cells_of, cell_at}
 use Rattle.bound_plan.specs.Layouts.{exported}
 use Rattle.bound_plan.specs.Machine.{Stand, ElementsStand, MessagesHaveCells}
-use Rattle.rank_state.specs.declared.spans.Span.{Span}
-use Rattle.rank_state.specs.Spans.{total}
-use Rattle.rank_state.specs.Windows.{cells_from, span_cells}
 use Rattle.rank_program.specs.Messages.{element_span, exports_in, imports_in, exported_locals, imported_locals, HasList, dat_spans, spans_of}
 use Rattle.rank_program.specs.MessageLaws.{HasLists, ExportsStand, ImportsStand}
 use Rattle.rank_program.specs.SendLaws.{pair_spans, FewExports, ExportsAreFew, MessagesHaveRoom, RoomsStand, HasSpans, SendsStand, ReceivesStand}

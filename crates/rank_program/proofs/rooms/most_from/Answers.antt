@@ -1,4 +1,4 @@
-use Rattle.std.proofs.Common.{◌≡◌, max, ap, ◌∙◌}
+use Rattle.std.proofs.Common.{max, ap, ◌∙◌}
 use Rattle.rank_program.specs.SendLaws.{pair_spans}
 use Rattle.rank_program.proofs.MostPairs.{most_more}
 use Rattle.rank_program.proofs.rooms.most_from.Goals as goal
