@@ -6,10 +6,9 @@ ghost use Rattle.flat_machine.specs.Layout.{Core};
 ghost use Rattle.rank_state.specs.Core.{ran_of};
 
 use kernel_types::KernelFault;
-use std::marker::Sync;
 
 /// Runs the kernels of loops on windows: the cells of an element's different targets, one target after another.
-pub trait Kernels: Sync {
+pub trait Kernels {
     /// What an instance asks of its values; the laws are of these values.
     ghost sound: { Self → Type 0 };
 

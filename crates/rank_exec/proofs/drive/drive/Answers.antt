@@ -7,5 +7,5 @@ use Rattle.rank_exec.proofs.drive.drive.Goals as goal
 pub returns : goal.returns
 returns g c =
     as_sequential (g.P.Parts.setup c.args.parts.now) (g.P.Parts.layout c.args.parts.now) (g.P.Parts.tables c.args.parts.now) (sequential (g.P.Parts.setup c.args.parts.now).program) (stop_in c.in_ok-stop.stop) c.run.new.machine (flat_from (g.P.Parts.setup c.args.parts.now) (g.P.Parts.layout c.args.parts.now) (g.S.Steps.left c.args.steps.now) c.requires.starts.0)
-    (c.flat_runs_as_sequential.ensures (g.P.Parts.setup c.args.parts.now) c.requires.lawful c.requires.coloured (g.P.Parts.layout c.args.parts.now) ((g.met.P.Parts g.world.𝓛 g.world.𝓜 g.world.𝓡 ((λ s x. x), (λ x. x), (λ x. x), λ x. x)).fits c.args.parts.now c.requires.sound) c.requires.starts.0 c.requires.starts.1 (g.S.Steps.left c.args.steps.now) c.requires.accepted)
+    (c.flat_runs_as_sequential.ensures (g.P.Parts.setup c.args.parts.now) c.requires.lawful c.requires.coloured (g.P.Parts.layout c.args.parts.now) (g.met.P.Parts.fits c.args.parts.now c.requires.sound) c.requires.starts.0 c.requires.starts.1 (g.S.Steps.left c.args.steps.now) c.requires.accepted)
     (c.in_ok-stop.ensures c.requires.starts.0 c.requires.starts.1 c.requires.starts.2)

@@ -20,7 +20,7 @@ loop-next-init g c = record {
 }
 
 pub run_begins-requires-clause-ready : goal.run_begins-requires-clause-ready
-run_begins-requires-clause-ready g c κs le places rest e =
+run_begins-requires-clause-ready g c places rest e =
     let split : g.S.Steps.left c.args.steps.now ≡ r.front ++ (begins c.in-Begin.item c.in-Begin.rank places ++ rest) = r.split ∙ ap (λ z. r.front ++ z) e in
     let ready = c.steps_are_ready.ensures.begin (g.P.Parts.setup c.args.parts.now) (g.P.Parts.layout c.args.parts.now) (g.P.Parts.tables c.args.parts.now) (g.S.Steps.left c.args.steps.now) c.requires.accepted c.requires.starts.0 c.requires.starts.1 r.front rest c.in-Begin.item c.in-Begin.rank places split c.loop-next.machine (r.shows c.requires.starts.0 c.requires.starts.1 c.requires.starts.2) in
     let below : count_after open_step 0 (r.front ++ begins c.in-Begin.item c.in-Begin.rank places) ≤ greatest open_step 0 (g.S.Steps.left c.args.steps.now) =
@@ -48,19 +48,19 @@ loop-next-preserved-in-Begin g c =
     r = reached_at (g.P.Parts.setup c.args.parts.now) (g.P.Parts.layout c.args.parts.now) (g.P.Parts.tables c.args.parts.now) (g.S.Steps.left c.args.steps.now) (g.S.Steps.left c.loop-next.steps) c.args.machine.now c.loop-next.machine c.loop-next.next (Begin c.in-Begin.item c.in-Begin.rank c.in-Begin.place) (c.in-Some.is ∙ ap Some c.in-Begin.is) c.loop-next.invariant.reached
 
 pub take-requires-clause-planned : goal.take-requires-clause-planned
-take-requires-clause-planned g c κs le = c.requires.accepted.steps r.front c.in-Some.step (g.S.Steps.left c.loop-next.steps) r.split
+take-requires-clause-planned g c = c.requires.accepted.steps r.front c.in-Some.step (g.S.Steps.left c.loop-next.steps) r.split
   where
     r : Reached (g.P.Parts.setup c.args.parts.now) (g.P.Parts.layout c.args.parts.now) (g.P.Parts.tables c.args.parts.now) (g.S.Steps.left c.args.steps.now) (c.in-Some.step ∷ g.S.Steps.left c.loop-next.steps) c.args.machine.now c.loop-next.machine
     r = reached_at (g.P.Parts.setup c.args.parts.now) (g.P.Parts.layout c.args.parts.now) (g.P.Parts.tables c.args.parts.now) (g.S.Steps.left c.args.steps.now) (g.S.Steps.left c.loop-next.steps) c.args.machine.now c.loop-next.machine c.loop-next.next (c.in-Some.step) (c.in-Some.is) c.loop-next.invariant.reached
 
 pub take-requires-clause-shows : goal.take-requires-clause-shows
-take-requires-clause-shows g c κs le = (flat_from (g.P.Parts.setup c.args.parts.now) (g.P.Parts.layout c.args.parts.now) r.front c.requires.starts.0, r.shows c.requires.starts.0 c.requires.starts.1 c.requires.starts.2)
+take-requires-clause-shows g c = (flat_from (g.P.Parts.setup c.args.parts.now) (g.P.Parts.layout c.args.parts.now) r.front c.requires.starts.0, r.shows c.requires.starts.0 c.requires.starts.1 c.requires.starts.2)
   where
     r : Reached (g.P.Parts.setup c.args.parts.now) (g.P.Parts.layout c.args.parts.now) (g.P.Parts.tables c.args.parts.now) (g.S.Steps.left c.args.steps.now) (c.in-Some.step ∷ g.S.Steps.left c.loop-next.steps) c.args.machine.now c.loop-next.machine
     r = reached_at (g.P.Parts.setup c.args.parts.now) (g.P.Parts.layout c.args.parts.now) (g.P.Parts.tables c.args.parts.now) (g.S.Steps.left c.args.steps.now) (g.S.Steps.left c.loop-next.steps) c.args.machine.now c.loop-next.machine c.loop-next.next (c.in-Some.step) (c.in-Some.is) c.loop-next.invariant.reached
 
 pub take-requires-clause-ready : goal.take-requires-clause-ready
-take-requires-clause-ready g c κs le = by_step c.in-Some.step r.split
+take-requires-clause-ready g c = by_step c.in-Some.step r.split
   where
     r : Reached (g.P.Parts.setup c.args.parts.now) (g.P.Parts.layout c.args.parts.now) (g.P.Parts.tables c.args.parts.now) (g.S.Steps.left c.args.steps.now) (c.in-Some.step ∷ g.S.Steps.left c.loop-next.steps) c.args.machine.now c.loop-next.machine
     r = reached_at (g.P.Parts.setup c.args.parts.now) (g.P.Parts.layout c.args.parts.now) (g.P.Parts.tables c.args.parts.now) (g.S.Steps.left c.args.steps.now) (g.S.Steps.left c.loop-next.steps) c.args.machine.now c.loop-next.machine c.loop-next.next (c.in-Some.step) (c.in-Some.is) c.loop-next.invariant.reached

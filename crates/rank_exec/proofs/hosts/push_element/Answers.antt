@@ -10,7 +10,7 @@ returns g c =
     let own = c.owners_copy.ensures in
     on_ok_weaker c.push_owned.result
     (λ e f h. e ∙ ap (λ l. c.args.values.now.items ++ l)
-    (c.owners_show.ensures.cells (g.P.Parts.setup c.args.parts.now) (g.P.Parts.layout c.args.parts.now) (g.P.Parts.tables c.args.parts.now) ((g.met.P.Parts g.world.𝓛 g.world.𝓜 g.world.𝓡 ((λ s x. x), (λ x. x), (λ x. x), λ x. x)).indexed c.args.parts.now c.requires.sound) c.args.machine.now f h o own.rank own.inside
-    (owner_there (g.P.Items.program c.args.parts.now) (g.P.Parts.setup c.args.parts.now) (g.P.Parts.layout c.args.parts.now) (g.P.Parts.tables c.args.parts.now) ((g.met.P.Items g.world.𝓛 g.world.𝓜 g.world.𝓡 ((λ s x. x), (λ x. x), (λ x. x), λ x. x)).program_is c.args.parts.now) c.args.dat c.args.element c.requires.element o own)
+    (c.owners_show.ensures.cells (g.P.Parts.setup c.args.parts.now) (g.P.Parts.layout c.args.parts.now) (g.P.Parts.tables c.args.parts.now) (g.met.P.Parts.indexed c.args.parts.now c.requires.sound) c.args.machine.now f h o own.rank own.inside
+    (owner_there (g.P.Items.program c.args.parts.now) (g.P.Parts.setup c.args.parts.now) (g.P.Parts.layout c.args.parts.now) (g.P.Parts.tables c.args.parts.now) (g.met.P.Items.program_is c.args.parts.now) c.args.dat c.args.element c.requires.element o own)
     ∙ ap (map (owned (g.P.Parts.setup c.args.parts.now) (g.P.Parts.layout c.args.parts.now) f)) (row_is (g.P.Items.program c.args.parts.now) ((g.P.Parts.layout c.args.parts.now).cell_at o.rank) c.args.dat c.args.element o.at o.dim own.dim own.cells)))
     c.push_owned.ensures

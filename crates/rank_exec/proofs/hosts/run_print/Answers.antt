@@ -21,9 +21,9 @@ returns-clause-after g c =
     subst (λ (z : State KernelFault). Shows (g.P.Parts.setup c.args.parts.now) (g.P.Parts.layout c.args.parts.now) (g.P.Parts.tables c.args.parts.now) z (flat_step (g.P.Parts.setup c.args.parts.now) (g.P.Parts.layout c.args.parts.now) (Join c.args.item) f))
     (ap (λ o. record c.args.machine.now { output = o }) (sym out) ∙ sym c.print.ensures.others)
     (c.join_shows.ensures.hosts (g.P.Parts.setup c.args.parts.now) (g.P.Parts.layout c.args.parts.now) (g.P.Parts.tables c.args.parts.now) c.args.machine.now f h c.args.item c.requires.going
-    (kind_is (g.P.Items.program c.args.parts.now) (g.P.Parts.setup c.args.parts.now) (g.P.Parts.layout c.args.parts.now) (g.P.Parts.tables c.args.parts.now) ((g.met.P.Items g.world.𝓛 g.world.𝓜 g.world.𝓡 ((λ s x. x), (λ x. x), (λ x. x), λ x. x)).program_is c.args.parts.now) c.args.item (Print c.args.dat c.args.file.now) c.requires.is)
+    (kind_is (g.P.Items.program c.args.parts.now) (g.P.Parts.setup c.args.parts.now) (g.P.Parts.layout c.args.parts.now) (g.P.Parts.tables c.args.parts.now) (g.met.P.Items.program_is c.args.parts.now) c.args.item (Print c.args.dat c.args.file.now) c.requires.is)
     (variables_of (owned (g.P.Parts.setup c.args.parts.now) (g.P.Parts.layout c.args.parts.now) f)) (printed_dat c.args.file.now (g.P.Items.program c.args.parts.now).mesh c.args.dat (map (owned (g.P.Parts.setup c.args.parts.now) (g.P.Parts.layout c.args.parts.now) f) (dat_cells (g.P.Items.program c.args.parts.now) c.args.dat))) c.args.machine.now.variables
-    (host_is (g.P.Items.program c.args.parts.now) (g.P.Parts.setup c.args.parts.now) (g.P.Parts.layout c.args.parts.now) (g.P.Parts.tables c.args.parts.now) ((g.met.P.Items g.world.𝓛 g.world.𝓜 g.world.𝓡 ((λ s x. x), (λ x. x), (λ x. x), λ x. x)).program_is c.args.parts.now) c.args.item (Print c.args.dat c.args.file.now) c.requires.is (owned (g.P.Parts.setup c.args.parts.now) (g.P.Parts.layout c.args.parts.now) f))
+    (host_is (g.P.Items.program c.args.parts.now) (g.P.Parts.setup c.args.parts.now) (g.P.Parts.layout c.args.parts.now) (g.P.Parts.tables c.args.parts.now) (g.met.P.Items.program_is c.args.parts.now) c.args.item (Print c.args.dat c.args.file.now) c.requires.is (owned (g.P.Parts.setup c.args.parts.now) (g.P.Parts.layout c.args.parts.now) f))
     h.sized.count
-    (variable_here (g.P.Items.program c.args.parts.now) (g.P.Parts.setup c.args.parts.now) (g.P.Parts.layout c.args.parts.now) (g.P.Parts.tables c.args.parts.now) ((g.met.P.Items g.world.𝓛 g.world.𝓜 g.world.𝓡 ((λ s x. x), (λ x. x), (λ x. x), λ x. x)).program_is c.args.parts.now) ((g.met.P.Parts g.world.𝓛 g.world.𝓜 g.world.𝓡 ((λ s x. x), (λ x. x), (λ x. x), λ x. x)).indexed c.args.parts.now c.requires.sound) c.args.machine.now f h)))
+    (variable_here (g.P.Items.program c.args.parts.now) (g.P.Parts.setup c.args.parts.now) (g.P.Parts.layout c.args.parts.now) (g.P.Parts.tables c.args.parts.now) (g.met.P.Items.program_is c.args.parts.now) (g.met.P.Parts.indexed c.args.parts.now c.requires.sound) c.args.machine.now f h)))
     c.print.ensures.printed

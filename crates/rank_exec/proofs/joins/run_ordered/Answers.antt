@@ -15,7 +15,7 @@ returns-in-Some-clause-after g c f h =
     let fault : run_of (g.P.Parts.layout c.args.parts.now) (g.P.Parts.tables c.args.parts.now) c.args.item c.loop-element.element c.run_one.ensures.ran.spans c.run_one.ensures.ran.indices c.loop-element.machine ≡ Faults c.in-Some.fault =
     a_fault (run_of (g.P.Parts.layout c.args.parts.now) (g.P.Parts.tables c.args.parts.now) c.args.item c.loop-element.element c.run_one.ensures.ran.spans c.run_one.ensures.ran.indices c.loop-element.machine) c.in-Some.fault (sym c.run_one.ensures.ran.fault_is ∙ c.in-Some.is) in
     let shows = c.loop-element.invariant.reached f h in
-    let stopped = c.loop_shows.ensures.breaks (g.P.Parts.setup c.args.parts.now) (g.P.Parts.layout c.args.parts.now) (g.P.Parts.tables c.args.parts.now) ((g.met.P.Parts g.world.𝓛 g.world.𝓜 g.world.𝓡 ((λ s x. x), (λ x. x), (λ x. x), λ x. x)).indexed c.args.parts.now c.requires.sound) ((g.met.P.Parts g.world.𝓛 g.world.𝓜 g.world.𝓡 ((λ s x. x), (λ x. x), (λ x. x), λ x. x)).fits c.args.parts.now c.requires.sound) c.args.item f c.loop-element.element c.loop-element.machine shows c.run_one.ensures.ran.spans c.run_one.ensures.ran.indices c.run_one.ensures.ran.are c.in-Some.fault fault in
+    let stopped = c.loop_shows.ensures.breaks (g.P.Parts.setup c.args.parts.now) (g.P.Parts.layout c.args.parts.now) (g.P.Parts.tables c.args.parts.now) (g.met.P.Parts.indexed c.args.parts.now c.requires.sound) (g.met.P.Parts.fits c.args.parts.now c.requires.sound) c.args.item f c.loop-element.element c.loop-element.machine shows c.run_one.ensures.ran.spans c.run_one.ensures.ran.indices c.run_one.ensures.ran.are c.in-Some.fault fault in
     let last : suc c.loop-element.element ≤ elements (g.P.Parts.setup c.args.parts.now).program c.args.item = (let e = c.elements_of-element-end.ensures in omega (arith, c.loop-element-test.true)) in
     let whole : flat_step (g.P.Parts.setup c.args.parts.now) (g.P.Parts.layout c.args.parts.now) (Join c.args.item) f ≡ record (loop_flat (g.P.Parts.setup c.args.parts.now) (g.P.Parts.layout c.args.parts.now) c.args.item c.loop-element.element f) { stop = Some (record { item = c.args.item; element = Some c.loop-element.element; fault = c.in-Some.fault }) } =
     c.loop_shows.ensures.join (g.P.Parts.setup c.args.parts.now) (g.P.Parts.layout c.args.parts.now) (g.P.Parts.tables c.args.parts.now) c.args.machine.now f h c.args.item c.requires.going c.requires.kind
@@ -31,7 +31,7 @@ loop-element-preserved g c =
       reached = λ f h.
           subst (λ i. Shows (g.P.Parts.setup c.args.parts.now) (g.P.Parts.layout c.args.parts.now) (g.P.Parts.tables c.args.parts.now) c.run_one.new.machine (loop_flat (g.P.Parts.setup c.args.parts.now) (g.P.Parts.layout c.args.parts.now) c.args.item i f)) next
           (subst (λ (s : State KernelFault). Shows (g.P.Parts.setup c.args.parts.now) (g.P.Parts.layout c.args.parts.now) (g.P.Parts.tables c.args.parts.now) s (loop_flat (g.P.Parts.setup c.args.parts.now) (g.P.Parts.layout c.args.parts.now) c.args.item (suc c.loop-element.element) f)) (sym c.run_one.ensures.ran.state_is)
-          (c.loop_shows.ensures.goes (g.P.Parts.setup c.args.parts.now) (g.P.Parts.layout c.args.parts.now) (g.P.Parts.tables c.args.parts.now) ((g.met.P.Parts g.world.𝓛 g.world.𝓜 g.world.𝓡 ((λ s x. x), (λ x. x), (λ x. x), λ x. x)).indexed c.args.parts.now c.requires.sound) ((g.met.P.Parts g.world.𝓛 g.world.𝓜 g.world.𝓡 ((λ s x. x), (λ x. x), (λ x. x), λ x. x)).fits c.args.parts.now c.requires.sound) c.args.item f c.loop-element.element c.loop-element.machine (c.loop-element.invariant.reached f h) c.requires.kind in_loop c.run_one.ensures.ran.spans c.run_one.ensures.ran.indices c.run_one.ensures.ran.are left.0 left.1));
+          (c.loop_shows.ensures.goes (g.P.Parts.setup c.args.parts.now) (g.P.Parts.layout c.args.parts.now) (g.P.Parts.tables c.args.parts.now) (g.met.P.Parts.indexed c.args.parts.now c.requires.sound) (g.met.P.Parts.fits c.args.parts.now c.requires.sound) c.args.item f c.loop-element.element c.loop-element.machine (c.loop-element.invariant.reached f h) c.requires.kind in_loop c.run_one.ensures.ran.spans c.run_one.ensures.ran.indices c.run_one.ensures.ran.are left.0 left.1));
       space = c.run_one.ensures.space;
       mail = ap (λ (s : State KernelFault). s.mail.left) c.run_one.ensures.ran.state_is ∙ c.loop-element.invariant.mail;
       frames = ap (λ (s : State KernelFault). s.frames.left) c.run_one.ensures.ran.state_is ∙ c.loop-element.invariant.frames;

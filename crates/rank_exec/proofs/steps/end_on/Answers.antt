@@ -9,11 +9,11 @@ use Rattle.rank_exec.proofs.steps.end_on.Goals as goal
 
 pub end-requires-clause-enough : goal.end-requires-clause-enough
 end-requires-clause-enough g c =
-    (c.steps_can.ensures.end (g.P.Parts.setup c.args.parts.now) (g.P.Parts.layout c.args.parts.now) (g.P.Parts.tables c.args.parts.now) c.args.machine.now c.requires.shows.0 c.requires.shows.1 ((g.met.P.Parts g.world.𝓛 g.world.𝓜 g.world.𝓡 ((λ s x. x), (λ x. x), (λ x. x), λ x. x)).indexed c.args.parts.now c.requires.sound) c.args.item c.args.rank c.args.place c.requires.planned c.args.spans.now c.args.scalars.now c.requires.are c.requires.«open»).enough
+    (c.steps_can.ensures.end (g.P.Parts.setup c.args.parts.now) (g.P.Parts.layout c.args.parts.now) (g.P.Parts.tables c.args.parts.now) c.args.machine.now c.requires.shows.0 c.requires.shows.1 (g.met.P.Parts.indexed c.args.parts.now c.requires.sound) c.args.item c.args.rank c.args.place c.requires.planned c.args.spans.now c.args.scalars.now c.requires.are c.requires.«open»).enough
 
 pub end-requires-clause-exact : goal.end-requires-clause-exact
 end-requires-clause-exact g c =
-    (c.steps_can.ensures.end (g.P.Parts.setup c.args.parts.now) (g.P.Parts.layout c.args.parts.now) (g.P.Parts.tables c.args.parts.now) c.args.machine.now c.requires.shows.0 c.requires.shows.1 ((g.met.P.Parts g.world.𝓛 g.world.𝓜 g.world.𝓡 ((λ s x. x), (λ x. x), (λ x. x), λ x. x)).indexed c.args.parts.now c.requires.sound) c.args.item c.args.rank c.args.place c.requires.planned c.args.spans.now c.args.scalars.now c.requires.are c.requires.«open»).exact
+    (c.steps_can.ensures.end (g.P.Parts.setup c.args.parts.now) (g.P.Parts.layout c.args.parts.now) (g.P.Parts.tables c.args.parts.now) c.args.machine.now c.requires.shows.0 c.requires.shows.1 (g.met.P.Parts.indexed c.args.parts.now c.requires.sound) c.args.item c.args.rank c.args.place c.requires.planned c.args.spans.now c.args.scalars.now c.requires.are c.requires.«open»).exact
 
 pub returns-clause-shows : goal.returns-clause-shows
 returns-clause-shows g c f h =
@@ -21,4 +21,4 @@ returns-clause-shows g c f h =
     c.owns-own.ensures in
     subst (λ (s : State KernelFault). Shows (g.P.Parts.setup c.args.parts.now) (g.P.Parts.layout c.args.parts.now) (g.P.Parts.tables c.args.parts.now) s (flat_step (g.P.Parts.setup c.args.parts.now) (g.P.Parts.layout c.args.parts.now) (End c.args.item c.args.rank c.args.place) f))
     (sym (c.end.ensures ∙ ap (λ o. ended o c.args.rank c.args.place c.args.spans.now c.args.scalars.now c.args.machine.now) own))
-    (c.end_shows.ensures (g.P.Parts.setup c.args.parts.now) (g.P.Parts.layout c.args.parts.now) (g.P.Parts.tables c.args.parts.now) ((g.met.P.Parts g.world.𝓛 g.world.𝓜 g.world.𝓡 ((λ s x. x), (λ x. x), (λ x. x), λ x. x)).indexed c.args.parts.now c.requires.sound) c.args.item c.args.rank c.args.place c.requires.planned c.args.spans.now c.args.scalars.now c.requires.are c.args.machine.now f h c.requires.«open»)
+    (c.end_shows.ensures (g.P.Parts.setup c.args.parts.now) (g.P.Parts.layout c.args.parts.now) (g.P.Parts.tables c.args.parts.now) (g.met.P.Parts.indexed c.args.parts.now c.requires.sound) c.args.item c.args.rank c.args.place c.requires.planned c.args.spans.now c.args.scalars.now c.requires.are c.args.machine.now f h c.requires.«open»)

@@ -16,7 +16,7 @@ send-requires-clause-room g c =
 pub returns-clause-shows : goal.returns-clause-shows
 returns-clause-shows g c f h =
     subst (λ (s : State KernelFault). Shows (g.P.Parts.setup c.args.parts.now) (g.P.Parts.layout c.args.parts.now) (g.P.Parts.tables c.args.parts.now) s (flat_step (g.P.Parts.setup c.args.parts.now) (g.P.Parts.layout c.args.parts.now) (Send c.args.item c.args.from c.args.to) f)) (sym c.send.ensures)
-    (c.send_shows.ensures (g.P.Parts.setup c.args.parts.now) (g.P.Parts.layout c.args.parts.now) (g.P.Parts.tables c.args.parts.now) ((g.met.P.Parts g.world.𝓛 g.world.𝓜 g.world.𝓡 ((λ s x. x), (λ x. x), (λ x. x), λ x. x)).indexed c.args.parts.now c.requires.sound) c.args.item c.args.from c.args.to c.requires.planned.2 c.args.spans.now c.requires.are c.args.machine.now f h)
+    (c.send_shows.ensures (g.P.Parts.setup c.args.parts.now) (g.P.Parts.layout c.args.parts.now) (g.P.Parts.tables c.args.parts.now) (g.met.P.Parts.indexed c.args.parts.now c.requires.sound) c.args.item c.args.from c.args.to c.requires.planned.2 c.args.spans.now c.requires.are c.args.machine.now f h)
 
 pub returns-clause-mail : goal.returns-clause-mail
 returns-clause-mail g c =
