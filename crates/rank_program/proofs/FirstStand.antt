@@ -24,9 +24,9 @@ use Rattle.loop_plan.specs.Values.{PlanValue}
 use Rattle.bound_plan.specs.Laws.{Planned}
 use Rattle.bound_plan.specs.Places.{originals, original_at, bases_of, cells_of, cell_at}
 use Rattle.bound_plan.specs.Machine.{Stand, ElementsStand}
-use Rattle.rank_program.specs.First.{first_cells, first_variables, FirstCellsStand}
+use Rattle.rank_program.specs.First.{first_cells, first_variables, FirstCellsStand, MeshesAreClosed}
 use Rattle.rank_program.proofs.MessagesStand.{bases_at}
-use Rattle.rank_program.proofs.RankMeshes.{sets_at, size_small, some_at}
+use Rattle.rank_program.proofs.RankMeshes.{sets_at, cells_at, size_small, some_at}
 use Rattle.rank_program.proofs.FirstCells.{whole, cell_is}
 
 -- each cell of a rank is a value of an element
@@ -37,10 +37,6 @@ CellsAreOfCopies =
     → (c : ℕ) → c < total
     → (d : ℕ) × (l : ℕ) × (i : ℕ)
     × (d < dat_count g) × (l < length (originals_in sets (dat_set g d))) × (i < dat_dim g d) × (slice_index starts d + l * dat_dim g d + i ≡ c)
-
-cells_at : (meshes : List RankMesh) (r : ℕ) (m : RankMesh) → r < length meshes → m ≡ get_or meshes r m → m.cells ≡ cells_of meshes r
-unfolding cells_of
-cells_at meshes r m lt is = ap (λ (x : RankMesh). x.cells) is ∙ sym (get_or-map (λ (x : RankMesh). x.cells) meshes r m 0 lt)
 
 itself : (meshes : List RankMesh) (r : ℕ) → r < length meshes → (m : RankMesh) × (m ≡ get_or meshes r m)
 itself meshes r lt =
@@ -145,3 +141,10 @@ first_cells_stand maps dats standing closed copies first held b o n meshes p pl 
       count = count_is first held b;
       variables_are = variable_is first held b;
     }
+
+pub meshes_are_closed : ((g : MeshValue) → IsMesh g → (a : ℕ) → a < map_count g → IsMapAt g a) → RankMeshesAreClosed → MeshesAreClosed
+meshes_are_closed maps closed b o n meshes p pl r m lt =
+    let are = pl.distributed.are_meshes in
+    let lr : r < o.ranks = omega (arith, are.count, lt) in
+    closed b.mesh o n r (get_or meshes r m) (record { sizes = size_small b.mesh pl.fits.mesh; maps = maps b.mesh pl.fits.mesh })
+    pl.distributed.are_perms (are.ranks r m lr)

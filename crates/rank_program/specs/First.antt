@@ -1,11 +1,11 @@
 -- The cells of each rank and of the variables before the first step.
-use Rattle.std.specs.Prelude.{ℕ, ◌*◌, ℤ, List, map, take, drop}
+use Rattle.std.specs.Prelude.{ℕ, ◌<◌, ◌*◌, ℤ, List, map, length, take, drop, slice_index_or}
 use Rattle.std.specs.List.{flat_map}
 use Rattle.mesh_decl.specs.Mesh.{MeshValue, dat_count, dat_set, dat_dim, dat_values}
 use Rattle.mesh_decl.specs.declared.owners.Owners.{Owners}
 use Rattle.mesh_decl.specs.declared.owners.Perms.{Perms}
 use Rattle.local_mesh.specs.declared.types.RankMesh.{RankMesh}
-use Rattle.local_mesh.specs.LocalMesh.{originals_in}
+use Rattle.local_mesh.specs.LocalMesh.{originals_in, AreClosed}
 use Rattle.bound_program.specs.Values.{BoundValue, VarValue}
 use Rattle.run_model.specs.Windows.{numbers}
 use Rattle.loop_plan.specs.Values.{PlanValue}
@@ -38,3 +38,10 @@ FirstCellsStand =
     (b : BoundValue) (o : Owners) (n : Perms) (meshes : List RankMesh) (p : PlanValue)
     → Planned b o n meshes p
     → AreFirst (setup_of b o meshes p) (layout_of b o meshes p) (tables_of b p) (map (first_cells b.mesh) meshes) (first_variables b.vars)
+
+-- each rank has different elements, with the targets of what it executes among them
+abbrev pub MeshesAreClosed : Type 0
+MeshesAreClosed =
+    (b : BoundValue) (o : Owners) (n : Perms) (meshes : List RankMesh) (p : PlanValue)
+    → Planned b o n meshes p
+    → (r : ℕ) (m : RankMesh) → r < length meshes → AreClosed b.mesh (slice_index_or meshes r m).sets.items

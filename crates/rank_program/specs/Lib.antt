@@ -18,3 +18,4 @@ pub mod Constants
 pub mod TableLaws
 pub mod ProgramLaws
 pub mod Runnables
+pub mod Runs

@@ -1,7 +1,7 @@
 // What the spans of messages and windows say.
 ghost use Rattle.rank_program.specs.MessageLaws.{ExportsStand, ImportsStand};
 ghost use Rattle.rank_program.specs.WindowLaws.{ArgsAreHere, DatWindowsStand, ElementWindowsStand};
-ghost use Rattle.rank_program.specs.First.{FirstCellsStand};
+ghost use Rattle.rank_program.specs.First.{FirstCellsStand, MeshesAreClosed};
 
 use crate::laws_owned::frames_fit;
 use crate::laws_tables::scalars_stand;
@@ -39,9 +39,11 @@ pub fn element_windows_stand()
     scalars_stand();
 }
 
-/// A law: the mesh's values in each copy, and the variables' first values, are the cells with which the machine starts.
+/// A law: the mesh's values in each copy, and the variables' first values, are the cells with which the machine starts. Each
+/// rank has the targets of what it executes.
 pub fn first_cells_stand()
-    ensures { FirstCellsStand }
+    ensures stand { FirstCellsStand }
+    ensures closed { MeshesAreClosed }
 {
     mesh_decl::declarations_hold();
     local_mesh::rank_meshes_are_closed();

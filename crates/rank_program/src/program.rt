@@ -11,7 +11,7 @@ ghost use Rattle.rank_program.specs.Runnables.{CanRun, IsProgramOf};
 use crate::items::loop_of;
 use crate::kernel_run::run_kernel;
 use crate::laws_owned::variables_stand;
-use crate::laws_sent::{exports_are_few, messages_have_room};
+use crate::laws_sent::{exports_are_few, rooms_stand};
 use crate::laws_tables::tables_are_indexed;
 use crate::rooms::most_spans;
 use crate::tables::MachineTables;
@@ -71,7 +71,7 @@ impl<'a> DistributedProgram<'a> {
         tables_are_indexed();
         variables_stand();
         exports_are_few();
-        messages_have_room();
+        rooms_stand();
         let spans = most_spans(bound, lists, owners.ranks);
         let tables = MachineTables::new(alloc, bound, owners, plan, spans)?;
         Ok(DistributedProgram {

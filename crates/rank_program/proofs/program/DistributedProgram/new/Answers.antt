@@ -1,6 +1,6 @@
 use Rattle.bound_program.specs.Values.{bound_of}
 use Rattle.loop_plan.specs.Values.{plan_of}
-use Rattle.rank_program.proofs.Runnables.{has_lists, have_room}
+use Rattle.rank_program.proofs.Runnables.{has_lists}
 use Rattle.rank_program.proofs.program.DistributedProgram.new.Goals as goal
 
 pub most_spans-spans-requires-clause-few : goal.most_spans-spans-requires-clause-few
@@ -21,8 +21,8 @@ returns-clause-sound c =
       runnable = r.runnable;
       lists = lists;
       made = c.in_ok-tables.ensures c.args.lists.now
-          (have_room b c.args.owners.now r.numbers c.args.meshes.now p r.halos c.args.lists.now lists c.most_spans-spans.result
-          c.most_spans-spans.ensures.elements c.most_spans-spans.ensures.messages c.messages_have_room.ensures);
+          (c.rooms_stand.ensures b c.args.owners.now r.numbers c.args.meshes.now p r.halos c.args.lists.now lists c.most_spans-spans.result
+          c.most_spans-spans.ensures.elements c.most_spans-spans.ensures.messages);
       codes = c.requires.codes;
       room = c.room_for.ensures;
       layout = c.layouts_fit.ensures b c.args.owners.now r.numbers c.args.meshes.now p r.runnable;
