@@ -1,17 +1,14 @@
 -- The cells of messages.
-use Rattle.std.proofs.Common.{◌≡◌, ◌<◌, ◌≤◌, ◌+◌, ◌*◌, ℕ, zero, suc, Bool, true, false, List, [], ◌∷◌, ◌++◌, All, map, flat_map, length, get_or, refl, sym, ap, ap₂, ◌∙◌, subst, arith, append_assoc}
-use Rattle.std.specs.Prelude.{◌||◌, slice_index}
+use Rattle.std.proofs.Common.{◌≡◌, ◌<◌, ◌≤◌, ◌+◌, ◌*◌, ℕ, zero, suc, List, [], ◌∷◌, ◌++◌, All, map, flat_map, length, get_or, refl, sym, ap, ap₂, ◌∙◌, arith, append_assoc}
 use Rattle.std.specs.List.{range_with_len}
-use Rattle.std.proofs.lemmas.Bool.{or_left, or_right}
-use Rattle.mesh_decl.specs.Mesh.{dat_dim, dat_set}
-use Rattle.local_mesh.specs.Lists.{IsLocal, AreLocals}
-use Rattle.schedule_model.specs.Cells.{Cell, Data, DatCell, same_cell}
-use Rattle.flat_machine.specs.Layout.{among}
+use Rattle.mesh_decl.specs.Mesh.{dat_dim}
+use Rattle.local_mesh.specs.Lists.{IsLocal}
+use Rattle.schedule_model.specs.Cells.{Cell, Data, DatCell}
 use Rattle.bound_program.specs.Values.{BoundValue}
-use Rattle.run_model.specs.Windows.{Element, numbers, cell_in, cells_in}
+use Rattle.run_model.specs.Windows.{Element, cell_in, cells_in}
 use Rattle.rank_state.specs.declared.spans.Span.{Span}
 use Rattle.rank_state.specs.Spans.{Within}
-use Rattle.rank_state.specs.Windows.{cells_from, span_cells, Marked}
+use Rattle.rank_state.specs.Windows.{cells_from, span_cells}
 use Rattle.rank_program.specs.Messages.{element_span}
 
 -- the cells of an element that stand side by side

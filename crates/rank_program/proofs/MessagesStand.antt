@@ -1,28 +1,25 @@
 -- The spans of messages are where their cells stand.
-use Rattle.std.proofs.Common.{◌≡◌, ◌<◌, ◌≤◌, ◌+◌, ◌*◌, ℕ, zero, suc, Bool, true, false, List, [], ◌∷◌, ◌++◌, Vec, All, map, flat_map, length, get_or, refl, sym, ap, ◌∙◌, subst, arith}
-use Rattle.std.specs.Prelude.{◌&&◌, ◌||◌, slice_index}
-use Rattle.std.specs.declared.alloc.Global.{Global}
+use Rattle.std.proofs.Common.{◌≡◌, ◌<◌, ◌≤◌, ◌+◌, ◌*◌, ℕ, zero, suc, Bool, true, false, List, [], ◌∷◌, ◌++◌, All, map, flat_map, length, get_or, refl, sym, ap, ◌∙◌, subst, arith}
+use Rattle.std.specs.Prelude.{◌||◌, slice_index}
 use Rattle.std.proofs.lemmas.Bool.{and_from, or_left, or_right, eq-eqb}
 use Rattle.std.proofs.lemmas.List.{get_or-map, get_or_default}
 use Rattle.rank_sets.specs.Below.{HasNumbers, row, rows}
 use Rattle.mesh_decl.specs.declared.owners.Owners.{Owners}
 use Rattle.mesh_decl.specs.declared.owners.Perms.{Perms}
 use Rattle.mesh_decl.specs.Mesh.{MeshValue, IsMesh, IsDatAt, set_count, dat_count, dat_dim, dat_set}
-use Rattle.halo_lists.specs.declared.types.SetHalo.{SetHalo}
 use Rattle.halo_lists.specs.declared.types.Halos.{Halos}
 use Rattle.local_mesh.specs.declared.types.RankMesh.{RankMesh}
 use Rattle.local_mesh.specs.declared.lists.LocalLists.{LocalLists}
-use Rattle.local_mesh.specs.Lists.{IsLocal, AreLocals, originals_of}
+use Rattle.local_mesh.specs.Lists.{AreLocals}
 use Rattle.schedule_model.specs.Cells.{Cell, Data, DatCell, same_cell}
 use Rattle.schedule_model.specs.Machine.{arrives}
 use Rattle.flat_machine.specs.Layout.{among}
 use Rattle.bound_program.specs.Values.{BoundValue}
 use Rattle.run_model.specs.Windows.{Element, cells_in}
 use Rattle.loop_plan.specs.Values.{PlanValue, item_plan}
-use Rattle.bound_plan.specs.Laws.{Planned}
 use Rattle.bound_plan.specs.Places.{originals, bases_of, cells_of, cell_at}
 use Rattle.bound_plan.specs.Layouts.{exported, exported_cells}
-use Rattle.bound_plan.specs.Machine.{Stand, ElementsStand, AreMessages, MessagesHaveCells}
+use Rattle.bound_plan.specs.Machine.{Stand, ElementsStand, MessagesHaveCells}
 use Rattle.bound_plan.specs.Setups.{setup_of}
 use Rattle.rank_state.specs.declared.spans.Span.{Span}
 use Rattle.rank_state.specs.Spans.{Within}

@@ -1,7 +1,6 @@
 -- The loop of an item, with the code of its kernel.
 use Rattle.std.proofs.Common.{◌≡◌, ◌<◌, ℕ, true, List, map, length, get_or, sym, ap, ◌∙◌, subst, arith}
 use Rattle.std.proofs.lemmas.List.{length-map}
-use Rattle.kernel_types.specs.declared.kernels.RKernel.{RKernel}
 use Rattle.schedule_model.specs.Program.{is_loop}
 use Rattle.kernel_code.specs.declared.code.Code.{Code}
 use Rattle.kernel_code.specs.Codes.{AreCodesOf}

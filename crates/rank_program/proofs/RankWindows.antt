@@ -1,9 +1,9 @@
 -- Spans for what is reached, each once.
-use Rattle.std.proofs.Common.{◌≡◌, ◌<◌, ◌≤◌, ◌+◌, ℕ, suc, All, Bool, true, false, List, [], ◌∷◌, ◌++◌, map, flat_map, refl, sym, ap, ap₂, ◌∙◌, subst, ◌⊎◌, inl, inr, ⊎_elim, arith, append_assoc}
-use Rattle.std.specs.Prelude.{◌||◌, nat_eq, if◌then◌else◌}
+use Rattle.std.proofs.Common.{◌≡◌, ◌≤◌, ◌+◌, ℕ, suc, All, true, false, List, [], ◌∷◌, ◌++◌, map, flat_map, refl, sym, ap, ap₂, ◌∙◌, subst, ⊎_elim, arith, append_assoc}
+use Rattle.std.specs.Prelude.{nat_eq, if◌then◌else◌}
 use Rattle.std.proofs.lemmas.Bool.{cases_Bool, false≢true, or_cases, or_left, or_right, eq-eqb, eqb-true}
 use Rattle.std.proofs.lemmas.List.{append-nil, map-append}
-use Rattle.schedule_model.specs.Cells.{Cell, DatCell}
+use Rattle.schedule_model.specs.Cells.{DatCell}
 use Rattle.bound_program.specs.declared.sites.Arg.{Arg}
 use Rattle.bound_program.specs.declared.sites.Arg.TheVariants.{Dat, Global}
 use Rattle.bound_program.specs.Values.{BoundValue}
@@ -15,7 +15,7 @@ use Rattle.rank_state.specs.Windows.{cells_from, span_cells}
 use Rattle.rank_program.specs.Seen.{has}
 use Rattle.rank_program.specs.Placed.{is_dat}
 use Rattle.rank_program.specs.DatWindows.{begins_at, with_span, spans_after}
-use Rattle.rank_program.proofs.SeenSoFar.{same_true, same_refl, different_old, different_new, has_different, has_of, old_or_last}
+use Rattle.rank_program.proofs.SeenSoFar.{same_true, same_refl, different_old, different_new, has_different, has_of}
 
 module _ (span : Reached → Span) where
   begins_where : (qs : List Reached) (r : Reached) → has qs r ≡ true → begins_at (span r).at (map span qs) ≡ true

@@ -1,5 +1,5 @@
 -- What a loop's arguments reach for an element, by numbers: the element of a dat, or the variable.
-use Rattle.std.specs.Prelude.{◌≡◌, ◌<◌, ◌≤◌, ℕ, Bool, true, false, ◌&&◌, nat_eq, List, length, get_or, Option, Some, None}
+use Rattle.std.specs.Prelude.{◌≡◌, ◌<◌, ◌≤◌, ℕ, Bool, false, ◌&&◌, nat_eq, List, length, get_or, Option, Some, None}
 use Rattle.mesh_decl.specs.declared.access.Via.{Via}
 use Rattle.mesh_decl.specs.Mesh.{map_count, map_from, map_dim, set_size, dat_count}
 use Rattle.bound_program.specs.declared.sites.Arg.{Arg}

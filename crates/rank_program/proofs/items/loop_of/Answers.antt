@@ -1,4 +1,4 @@
-use Rattle.std.proofs.Common.{ap, sym, ◌∙◌, arith, length, map}
+use Rattle.std.proofs.Common.{arith}
 use Rattle.std.proofs.lemmas.List.{length-map}
 use Rattle.bound_program.specs.Values.{bound_of, item_of}
 use Rattle.rank_program.proofs.ItemParts.{item_there}

@@ -1,4 +1,4 @@
-use Rattle.std.proofs.Common.{◌<◌, ◌∷◌, length, get_or, refl, sym, ap, subst, ◌∙◌, arith}
+use Rattle.std.proofs.Common.{◌<◌, length, get_or, refl, sym, ap, subst, ◌∙◌, arith}
 use Rattle.mesh_decl.specs.Mesh.{set_size}
 use Rattle.bound_program.specs.Values.{SiteValue, bound_of, site_of}
 use Rattle.bound_plan.specs.Windows.{frame_cells, core_with, site_core}
