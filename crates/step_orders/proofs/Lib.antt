@@ -7,3 +7,4 @@ pub mod Windows
 pub mod Cutting
 pub mod KeyPieces
 pub mod RunOrder
+pub mod RankSteps

@@ -25,7 +25,7 @@ below_same : (f h : ℕ → List Step) (n : ℕ) → ((i : ℕ) → f i ≡ h i)
 below_same f h zero e = refl
 below_same f h (suc n) e = ap (λ z. z ++ f n) (below_same f h n e) ∙ ap (λ z. below h n ++ z) (e n)
 
-map_numbers : (f : ℕ → Step) (t : ℕ → Bool) (n : ℕ) → map f (numbers t n) ≡ below (λ x. where_true (t x) (f x ∷ [])) n
+pub map_numbers : (f : ℕ → Step) (t : ℕ → Bool) (n : ℕ) → map f (numbers t n) ≡ below (λ x. where_true (t x) (f x ∷ [])) n
 map_numbers f t zero = refl
 map_numbers f t (suc n) =
     map-append f (numbers t n) (cond (t n) (n ∷ []) [])

@@ -3,3 +3,4 @@ pub mod ElementRuns
 pub mod Pieces
 pub mod Left
 pub mod Order
+pub mod OwnLeft

@@ -4,6 +4,8 @@
 mod laws;
 mod list;
 mod order;
+mod own_steps;
+mod own_walks;
 mod pieces;
 mod runs;
 mod shape;
@@ -16,6 +18,7 @@ mod walks;
 pub use laws::runs_are_windows;
 pub use list::{list_of, standard};
 pub use order::places_in_order;
+pub use own_steps::OwnSteps;
 pub use runs::Runs;
 pub use shape::Shape;
 pub use standard_order::Standard;
