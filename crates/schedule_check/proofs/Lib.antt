@@ -9,3 +9,4 @@ pub mod RowReads
 pub mod Distinct
 pub mod Rooms
 pub mod OfPlan
+pub mod TakingAll

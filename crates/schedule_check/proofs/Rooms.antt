@@ -21,7 +21,7 @@ one_at_most : (b : Bool) → one_if b ≤ 1
 one_at_most true = omega arith
 one_at_most false = omega arith
 
-untaken_few : (m : Step → Bool) (l : List Step) → untaken m l ≤ length l
+pub untaken_few : (m : Step → Bool) (l : List Step) → untaken m l ≤ length l
 untaken_few m [] = omega arith
 untaken_few m (s ∷ l) = (let h : untaken m l ≤ length l = untaken_few m l in let b : one_if (not (m s)) ≤ 1 = one_at_most (not (m s)) in omega arith)
 

@@ -3,3 +3,4 @@ pub mod Froms
 pub mod ItemMarks
 pub mod Mail
 pub mod PlanChecking
+pub mod Whole

@@ -2,6 +2,7 @@
 ghost use Rattle.std.specs.Prelude.{◌≡◌, ◌<◌, ◌≤◌, ◌*◌, ◌^◌, ℕ, true, IsTrue, IfOk, OnOk, OnErr, [], length, slice_index, slice_index_or};
 ghost use Rattle.halo_lists.specs.declared.types.Halos.{Halos};
 ghost use Rattle.schedule_steps.specs.Judged.{left_over};
+ghost use Rattle.schedule_steps.specs.Peaks.{step_count};
 ghost use Rattle.bound_program.specs.Values.{bound_of};
 ghost use Rattle.bound_program.specs.Fits.{Fits};
 ghost use Rattle.step_judge.specs.Verdicts.{judged, finished};
@@ -30,6 +31,7 @@ pub struct Checker<'a> {
     ranks: &'a [RankMesh],
     steps: StepChecker,
     ghost of_plan: { IsOfPlan (checking (bound_of bound.now) ranks.now (plan_of plan.now) steps) },
+    ghost few: { step_count (step_outline (bound_of bound.now) ranks.now (plan_of plan.now)) < 2 ^ 32 },
 }
 
 // Whether 32 bits count these steps, and 64 bits so many cells for each.

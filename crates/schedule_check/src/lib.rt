@@ -8,7 +8,9 @@ mod marks;
 mod pairs;
 mod places;
 mod rows;
+mod whole;
 
 pub use checker::Checker;
 pub use marks::plan_marks;
 pub use step_judge::ScheduleRefusal;
+pub use whole::{Unaccepted, take_all};

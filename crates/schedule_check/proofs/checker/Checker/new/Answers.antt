@@ -1,4 +1,4 @@
-use Rattle.std.proofs.Common.{◌≡◌, ◌≤◌, ◌∙◌, ℕ, List, [], Vec, length, map, subst, sym, ap, refl, arith}
+use Rattle.std.proofs.Common.{◌≡◌, ◌<◌, ◌≤◌, ◌^◌, ◌∙◌, ℕ, List, [], Vec, length, map, subst, sym, ap, refl, arith}
 use Rattle.std.specs.Prelude.{slice_index, slice_index_or}
 use Rattle.std.specs.declared.alloc.Global.{Global}
 use Rattle.std.proofs.lemmas.List.{length-map}
@@ -55,7 +55,10 @@ invariant_of-result c =
     of_plan_new b c.args.ranks.now p c.in_ok-marks.marks (rows_of c.in_ok-cells.cells.items) c.deref.result.now c.requires.plan
     (ap (λ (z : List ItemPlan). map item_plan_of z) (sym c.deref.ensures.value))
     c.in_ok-marks.ensures.plan c.in_ok-marks.ensures.items c.in_ok-cells.ensures c.tests_decide.ensures.steps no_load in
-    record { of_plan = subst (λ (z : Checking). IsOfPlan (checking b c.args.ranks.now p z)) (sym c.new.ensures) of }
+    record {
+      of_plan = subst (λ (z : Checking). IsOfPlan (checking b c.args.ranks.now p z)) (sym c.new.ensures) of;
+      few = subst (λ z. z < 2 ^ 32) c.requires.plan.steps (c.can_count.ensures c.if-not-can_count.false).0;
+    }
 
 pub returns : goal.returns
 returns c =
