@@ -1,5 +1,5 @@
 -- Any two answers to the same words agree.
-use Rattle.std.proofs.Common.{◌≡◌, ◌⊎◌, inl, inr, ℕ, List, Option, Some, None, Result, Ok, Err, refl, sym, ap, ◌∙◌, subst, arith}
+use Rattle.std.proofs.Common.{◌≡◌, ◌<◌, ◌⊎◌, inl, inr, ℕ, List, Option, Some, None, Result, Ok, Err, refl, sym, ap, ◌∙◌, subst}
 use Rattle.c_lex.specs.Lexed as lexer
 use Rattle.c_lex.specs.Lexed.{Lexes}
 use Rattle.c_tree.specs.Tree.{ProgramTree}
@@ -18,21 +18,27 @@ use Rattle.bound_program.specs.Values.{BoundValue}
 use Rattle.loop_bind.specs.Bound.{bound}
 use Rattle.run_model.specs.Programs.{printed, first_fault}
 use Rattle.op_outside.specs.Outside.{Files}
-use Rattle.answers.specs.Refusal.{Limit, SourceBytes, MeshBytes, Refusal}
+use Rattle.answers.specs.Refusal.{SourceBytes, MeshBytes, Refusal}
 use Rattle.answers.specs.Lines.{Answer, refused, line_of}
 use Rattle.answers.specs.Said.{SaysTypes, SaysMesh, SaysBinding}
 use Rattle.mesh_text.specs.declared.entry.Form.{Form}
 use Rattle.mesh_gen.specs.Sample.{sample_source, sample_mesh}
-use Rattle.answers.specs.Words.{Job, Run, Input, InFiles, OfSample, Command, OnProgram, Converts, ShowsUsage, ShowsVersion, WordsAre}
-use Rattle.answers.specs.Judgements.{IsHeld, SourceIs, FileIs, MeshIs, TreeIs, TypesAre, EntriesAre, BoundIs, AccessesAre}
-use Rattle.answers.specs.Answers.{given, ran, JobAnswers, ProgramAnswers, ConvertAnswers, CommandAnswers}
+use Rattle.answers.specs.Words.{Job, Run, PlanJob, Options, Input, InFiles, OfSample, Command, OnProgram, OnPlan, Converts, ShowsUsage, ShowsVersion, WordsAre}
+use Rattle.answers.specs.Judgements.{SourceIs, FileIs, MeshIs, TreeIs, TypesAre, EntriesAre, BoundIs, AccessesAre}
+use Rattle.answers.specs.Answers.{given, ran, JobAnswers, PlannedAnswers, BoundAnswers, ConvertAnswers, CommandAnswers}
 use Rattle.answers.specs.Laws.{LacksTree, SourceLacksTree, Agree, AnswersAgree}
 use Rattle.answers.proofs.Given.{given_both, given_alike}
+use Rattle.answers.proofs.IsOne.{IsOne, held_is_one, told_is_one}
+use Rattle.answers.proofs.Within.{within}
 use Rattle.answers.proofs.SaidOnce.{types_once, mesh_once, binding_once, source_status}
 use Rattle.answers.proofs.Trees.{tree_lines}
 use Rattle.answers.proofs.Sites.{site_found, first_found, accesses_none, accesses_some}
 use Rattle.answers.proofs.SameKernels.{sites_found, printed_same, faults_same}
 use Rattle.answers.proofs.SameBound.{IsSame, SameOutcome, same_bound}
+
+-- what is answered of two bound programs that are the same but for their kernels is one
+abbrev Alike : (BoundValue → Answer → Type 0) → Type 0
+Alike rest = (b c : BoundValue) → IsSame b c → (x y : Answer) → rest b x → rest c y → x ≡ y
 
 -- the same status and bytes, and the same line unless N
 record AgreeBut (N : Type 0) (a b : Answer) : Type 0 where
@@ -48,28 +54,6 @@ same_refusals N r s e = same_answers N (refused r) (refused s) (ap refused e)
 
 -- ---- files
 
--- a judgement has one outcome
-record IsOne {A : Type 0} (J : Result A Refusal → Type 0) : Type 0 where
-  refusals : (r s : Refusal) → J (Err r) → J (Err s) → r ≡ s
-  apart : (r : Refusal) (x : A) → J (Err r) → J (Ok x) → ⊥
-  values : (x y : A) → J (Ok x) → J (Ok y) → x ≡ y
-
-held_is_one : (l : Limit) (name : List ℕ) (o : Option (List ℕ)) → IsOne (IsHeld l name o)
-held_is_one l name None = record { refusals = λ r s h k. h ∙ sym k; apart = λ r x h k. k; values = λ x y h k. absurd h }
-held_is_one l name (Some held) = record {
-  refusals = λ r s h k. h.0 ∙ sym k.0;
-  apart = λ r x h k. let a = h.1 in let b = k.1 in omega (arith, a, b);
-  values = λ x y h k. h.0 ∙ sym k.0;
-}
-
--- what is told outright
-told_is_one : (bytes : List ℕ) → IsOne (λ r. r ≡ Ok bytes)
-told_is_one bytes = record {
-  refusals = λ r s h k. let bad : ⊥ = cc in absurd bad;
-  apart = λ r x h k. cc;
-  values = λ x y h k. let e : Ok x ≡ Ok y = h ∙ sym k in cc;
-}
-
 source_is_one : (input : Input) (files : Files) → IsOne (SourceIs input files)
 source_is_one (InFiles source mesh) files = held_is_one SourceBytes source (files source)
 source_is_one (OfSample side) files = told_is_one sample_source
@@ -78,11 +62,11 @@ mesh_is_one : (input : Input) (files : Files) → IsOne (MeshIs input files)
 mesh_is_one (InFiles source mesh) files = held_is_one MeshBytes mesh (files mesh)
 mesh_is_one (OfSample side) files = told_is_one (sample_mesh side)
 
-module _ (runs_alike : RunsAlike) (walks_alike : WalksAlike) (one_read : (bytes : List ℕ) (a b : Read) → Spelled bytes a → Spelled bytes b → a ≡ b) (one_outcome : (bytes : List ℕ) (a b : lexer.Outcome) → Lexes bytes a → Lexes bytes b → a ≡ b) (one_tree : (bytes : List ℕ) (a b : ProgramTree) → Reads bytes a → Reads bytes b → a ≡ b) (one_resolved : (p : ProgramTree) (a b : names.Outcome) → Resolves p a → Resolves p b → a ≡ b) (walk_finds : WalkFinds) (obeys : ObeysUnlessBroken) (one_breach : OneRefusal) where
+module _ (runs_alike : RunsAlike) (walks_alike : WalksAlike) (one_read : (bytes : List ℕ) (a b : Read) → Spelled bytes a → Spelled bytes b → a ≡ b) (one_outcome : (bytes : List ℕ) (a b : lexer.Outcome) → Lexes bytes a → Lexes bytes b → a ≡ b) (one_tree : (bytes : List ℕ) (a b : ProgramTree) → Reads bytes a → Reads bytes b → a ≡ b) (one_resolved : (p : ProgramTree) (a b : names.Outcome) → Resolves p a → Resolves p b → a ≡ b) (walk_finds : WalkFinds) (obeys : ObeysUnlessBroken) (one_breach : OneRefusal) (plans_alike : (j : PlanJob) (o : Options) (files : Files) → 0 < o.ranks → Alike (PlannedAnswers j o files)) where
   -- ---- the run
 
-  jobs_agree : (N : Type 0) (j : Job) (b c : BoundValue) → IsSame b c → (x y : Answer) → JobAnswers j b x → JobAnswers j c y → AgreeBut N x y
-  jobs_agree N Run b c same x y h k = same_answers N x y (h ∙ e ∙ sym k)
+  jobs_alike : (j : Job) → Alike (JobAnswers j)
+  jobs_alike Run b c same x y h k = h ∙ e ∙ sym k
     where
       e : ran (first_fault b) (printed b) ≡ ran (first_fault c) (printed c)
       e = rw (faults_same runs_alike b c.kernels same.1, printed_same runs_alike b c.kernels same.1) (ap (λ d. ran (first_fault d) (printed d)) (sym same.0))
@@ -96,9 +80,9 @@ module _ (runs_alike : RunsAlike) (walks_alike : WalksAlike) (one_read : (bytes 
   found_same : (b c : BoundValue) → IsSame b c → found b ≡ found c
   found_same b c same = sites_found walks_alike b c.kernels same.1 ∙ ap found (sym same.0)
 
-  accesses_agree : (N : Type 0) (j : Job) (b c : BoundValue) → IsSame b c → (x y : Answer) → given (AccessesAre b) (λ _. JobAnswers j b) x → given (AccessesAre c) (λ _. JobAnswers j c) y → AgreeBut N x y
-  accesses_agree N j b c same =
-      given_both (AccessesAre b) (AccessesAre c) (λ _. JobAnswers j b) (λ _. JobAnswers j c) (AgreeBut N) refusals refused_b refused_c (λ u v h k. jobs_agree N j b c same)
+  accesses_agree : (N : Type 0) (rest : BoundValue → Answer → Type 0) → Alike rest → (b c : BoundValue) → IsSame b c → (x y : Answer) → given (AccessesAre b) (λ _. rest b) x → given (AccessesAre c) (λ _. rest c) y → AgreeBut N x y
+  accesses_agree N rest alike b c same =
+      given_both (AccessesAre b) (AccessesAre c) (λ _. rest b) (λ _. rest c) (AgreeBut N) refusals refused_b refused_c (λ u v h k x y p q. same_answers N x y (alike b c same x y p q))
     where
       refusals : (r s : Refusal) → AccessesAre b (Err r) → AccessesAre c (Err s) → AgreeBut N (refused r) (refused s)
       refusals r s h k =
@@ -122,9 +106,9 @@ module _ (runs_alike : RunsAlike) (walks_alike : WalksAlike) (one_read : (bytes 
 
   -- ---- binding
 
-  bounds_agree : (N : Type 0) (j : Job) (p : ProgramTree) (r q : Resolved) → resolved_of r ≡ resolved_of q → (es : List Named) → (x y : Answer) → given (BoundIs p r es) (λ b. given (AccessesAre b) (λ _. JobAnswers j b)) x → given (BoundIs p q es) (λ b. given (AccessesAre b) (λ _. JobAnswers j b)) y → AgreeBut N x y
-  bounds_agree N j p r q e es =
-      given_both (BoundIs p r es) (BoundIs p q es) (λ b. given (AccessesAre b) (λ _. JobAnswers j b)) (λ b. given (AccessesAre b) (λ _. JobAnswers j b)) (AgreeBut N) refusals one_refused other_refused values
+  bounds_agree : (N : Type 0) (rest : BoundValue → Answer → Type 0) → Alike rest → (p : ProgramTree) (r q : Resolved) → resolved_of r ≡ resolved_of q → (es : List Named) → (x y : Answer) → given (BoundIs p r es) (λ b. given (AccessesAre b) (λ _. rest b)) x → given (BoundIs p q es) (λ b. given (AccessesAre b) (λ _. rest b)) y → AgreeBut N x y
+  bounds_agree N rest alike p r q e es =
+      given_both (BoundIs p r es) (BoundIs p q es) (λ b. given (AccessesAre b) (λ _. rest b)) (λ b. given (AccessesAre b) (λ _. rest b)) (AgreeBut N) refusals one_refused other_refused values
     where
       both : (m n : Result BoundValue BindRefusal) → bound p r es ≡ m → bound p q es ≡ n → SameOutcome m n
       both m n h k = let s = same_bound p r q es e in rw (← h, ← k) s
@@ -138,18 +122,18 @@ module _ (runs_alike : RunsAlike) (walks_alike : WalksAlike) (one_read : (bytes 
       other_refused : (b : BoundValue) (t : Refusal) → BoundIs p r es (Ok b) → BoundIs p q es (Err t) → ⊥
       other_refused b t h k = both (Ok b) (Err k.0) h k.1
 
-      values : (b c : BoundValue) → BoundIs p r es (Ok b) → BoundIs p q es (Ok c) → (x y : Answer) → given (AccessesAre b) (λ _. JobAnswers j b) x → given (AccessesAre c) (λ _. JobAnswers j c) y → AgreeBut N x y
-      values b c h k = accesses_agree N j b c (both (Ok b) (Ok c) h k)
+      values : (b c : BoundValue) → BoundIs p r es (Ok b) → BoundIs p q es (Ok c) → (x y : Answer) → given (AccessesAre b) (λ _. rest b) x → given (AccessesAre c) (λ _. rest c) y → AgreeBut N x y
+      values b c h k = accesses_agree N rest alike b c (both (Ok b) (Ok c) h k)
 
   -- ---- the mesh
 
   -- what comes after the kernels and constants
-  abbrev FromMesh : Job → Input → Files → ProgramTree → Resolved → Answer → Type 0
-  FromMesh j input files p r =
+  abbrev FromMesh : (BoundValue → Answer → Type 0) → Input → Files → ProgramTree → Resolved → Answer → Type 0
+  FromMesh rest input files p r =
       given (MeshIs input files) (λ text.
       given (EntriesAre text) (λ es.
       given (BoundIs p r es) (λ b.
-      given (AccessesAre b) (λ _. JobAnswers j b))))
+      given (AccessesAre b) (λ _. rest b))))
 
   entries_are_one : (text : List ℕ) → IsOne (EntriesAre text)
   entries_are_one text = record {
@@ -161,23 +145,23 @@ module _ (runs_alike : RunsAlike) (walks_alike : WalksAlike) (one_read : (bytes 
     values = λ a b h k. let e : ◌≡◌ {A = Read} (Ok a) (Ok b) = one_read text (Ok a) (Ok b) h k in cc;
   }
 
-  entries_agree : (N : Type 0) (j : Job) (p : ProgramTree) (r q : Resolved) → resolved_of r ≡ resolved_of q → (text : List ℕ) → (x y : Answer) → given (EntriesAre text) (λ es. given (BoundIs p r es) (λ b. given (AccessesAre b) (λ _. JobAnswers j b))) x → given (EntriesAre text) (λ es. given (BoundIs p q es) (λ b. given (AccessesAre b) (λ _. JobAnswers j b))) y → AgreeBut N x y
-  entries_agree N j p r q e text =
-      given_alike (EntriesAre text) (λ es. given (BoundIs p r es) (λ b. given (AccessesAre b) (λ _. JobAnswers j b))) (λ es. given (BoundIs p q es) (λ b. given (AccessesAre b) (λ _. JobAnswers j b))) (AgreeBut N)
+  entries_agree : (N : Type 0) (rest : BoundValue → Answer → Type 0) → Alike rest → (p : ProgramTree) (r q : Resolved) → resolved_of r ≡ resolved_of q → (text : List ℕ) → (x y : Answer) → given (EntriesAre text) (λ es. given (BoundIs p r es) (λ b. given (AccessesAre b) (λ _. rest b))) x → given (EntriesAre text) (λ es. given (BoundIs p q es) (λ b. given (AccessesAre b) (λ _. rest b))) y → AgreeBut N x y
+  entries_agree N rest alike p r q e text =
+      given_alike (EntriesAre text) (λ es. given (BoundIs p r es) (λ b. given (AccessesAre b) (λ _. rest b))) (λ es. given (BoundIs p q es) (λ b. given (AccessesAre b) (λ _. rest b))) (AgreeBut N)
       (λ s t h k. same_refusals N s t ((entries_are_one text).refusals s t h k)) (entries_are_one text).apart (entries_are_one text).values
-      (λ es h. bounds_agree N j p r q e es)
+      (λ es h. bounds_agree N rest alike p r q e es)
 
-  meshes_agree : (N : Type 0) (j : Job) (input : Input) (files : Files) (p : ProgramTree) (r q : Resolved) → resolved_of r ≡ resolved_of q → (x y : Answer) → FromMesh j input files p r x → FromMesh j input files p q y → AgreeBut N x y
-  meshes_agree N j input files p r q e =
-      given_alike (MeshIs input files) (λ text. given (EntriesAre text) (λ es. given (BoundIs p r es) (λ b. given (AccessesAre b) (λ _. JobAnswers j b)))) (λ text. given (EntriesAre text) (λ es. given (BoundIs p q es) (λ b. given (AccessesAre b) (λ _. JobAnswers j b)))) (AgreeBut N)
+  meshes_agree : (N : Type 0) (rest : BoundValue → Answer → Type 0) → Alike rest → (input : Input) (files : Files) (p : ProgramTree) (r q : Resolved) → resolved_of r ≡ resolved_of q → (x y : Answer) → FromMesh rest input files p r x → FromMesh rest input files p q y → AgreeBut N x y
+  meshes_agree N rest alike input files p r q e =
+      given_alike (MeshIs input files) (λ text. given (EntriesAre text) (λ es. given (BoundIs p r es) (λ b. given (AccessesAre b) (λ _. rest b)))) (λ text. given (EntriesAre text) (λ es. given (BoundIs p q es) (λ b. given (AccessesAre b) (λ _. rest b)))) (AgreeBut N)
       (λ s t h k. same_refusals N s t ((mesh_is_one input files).refusals s t h k)) (mesh_is_one input files).apart (mesh_is_one input files).values
-      (λ text h. entries_agree N j p r q e text)
+      (λ text h. entries_agree N rest alike p r q e text)
 
   -- ---- the source
 
-  types_agree : (N : Type 0) (j : Job) (input : Input) (files : Files) (p : ProgramTree) → (x y : Answer) → given (TypesAre p) (FromMesh j input files p) x → given (TypesAre p) (FromMesh j input files p) y → AgreeBut N x y
-  types_agree N j input files p =
-      given_both (TypesAre p) (TypesAre p) (FromMesh j input files p) (FromMesh j input files p) (AgreeBut N) refusals (λ s q h k. mixed s q h k) (λ r t h k. mixed t r k h) values
+  types_agree : (N : Type 0) (rest : BoundValue → Answer → Type 0) → Alike rest → (input : Input) (files : Files) (p : ProgramTree) → (x y : Answer) → given (TypesAre p) (FromMesh rest input files p) x → given (TypesAre p) (FromMesh rest input files p) y → AgreeBut N x y
+  types_agree N rest alike input files p =
+      given_both (TypesAre p) (TypesAre p) (FromMesh rest input files p) (FromMesh rest input files p) (AgreeBut N) refusals (λ s q h k. mixed s q h k) (λ r t h k. mixed t r k h) values
     where
       refusals : (s t : Refusal) → TypesAre p (Err s) → TypesAre p (Err t) → AgreeBut N (refused s) (refused t)
       refusals s t h k =
@@ -188,16 +172,16 @@ module _ (runs_alike : RunsAlike) (walks_alike : WalksAlike) (one_read : (bytes 
       mixed : (s : Refusal) (q : Resolved) → TypesAre p (Err s) → TypesAre p (Ok q) → ⊥
       mixed s q h k = let e = one_resolved p (Err h.0) (Ok (resolved_of q)) h.1 k in let bad : ⊥ = cc in bad
 
-      values : (r q : Resolved) → TypesAre p (Ok r) → TypesAre p (Ok q) → (x y : Answer) → FromMesh j input files p r x → FromMesh j input files p q y → AgreeBut N x y
-      values r q h k = meshes_agree N j input files p r q (h.1 ∙ sym k.1)
+      values : (r q : Resolved) → TypesAre p (Ok r) → TypesAre p (Ok q) → (x y : Answer) → FromMesh rest input files p r x → FromMesh rest input files p q y → AgreeBut N x y
+      values r q h k = meshes_agree N rest alike input files p r q (h.1 ∙ sym k.1)
 
   -- the source lacks a tree
   abbrev Lacks : Input → Files → Type 0
   Lacks input files = (bytes : List ℕ) × SourceIs input files (Ok bytes) × LacksTree bytes
 
-  trees_agree : (j : Job) (input : Input) (files : Files) (bytes : List ℕ) → SourceIs input files (Ok bytes) → (x y : Answer) → given (TreeIs bytes) (λ p. given (TypesAre p) (FromMesh j input files p)) x → given (TreeIs bytes) (λ p. given (TypesAre p) (FromMesh j input files p)) y → AgreeBut (Lacks input files) x y
-  trees_agree j input files bytes is =
-      given_alike (TreeIs bytes) (λ p. given (TypesAre p) (FromMesh j input files p)) (λ p. given (TypesAre p) (FromMesh j input files p)) (AgreeBut (Lacks input files)) refusals (λ s p h k. h.1.none p k) (λ a b h k. one_tree bytes a b h k) (λ p h. types_agree (Lacks input files) j input files p)
+  trees_agree : (rest : BoundValue → Answer → Type 0) → Alike rest → (input : Input) (files : Files) (bytes : List ℕ) → SourceIs input files (Ok bytes) → (x y : Answer) → given (TreeIs bytes) (λ p. given (TypesAre p) (FromMesh rest input files p)) x → given (TreeIs bytes) (λ p. given (TypesAre p) (FromMesh rest input files p)) y → AgreeBut (Lacks input files) x y
+  trees_agree rest alike input files bytes is =
+      given_alike (TreeIs bytes) (λ p. given (TypesAre p) (FromMesh rest input files p)) (λ p. given (TypesAre p) (FromMesh rest input files p)) (AgreeBut (Lacks input files)) refusals (λ s p h k. h.1.none p k) (λ a b h k. one_tree bytes a b h k) (λ p h. types_agree (Lacks input files) rest alike input files p)
     where
       lines : (s t : Refusal) → (line_of s ≡ line_of t) ⊎ LacksTree bytes → (line_of s ≡ line_of t) ⊎ Lacks input files
       lines s t (inl e) = inl e
@@ -210,11 +194,11 @@ module _ (runs_alike : RunsAlike) (walks_alike : WalksAlike) (one_read : (bytes 
         line = lines s t (tree_lines one_outcome bytes s t h k);
       }
 
-  programs_agree : (j : Job) (input : Input) (files : Files) → (x y : Answer) → ProgramAnswers j input files x → ProgramAnswers j input files y → AgreeBut (Lacks input files) x y
-  programs_agree j input files =
-      given_alike (SourceIs input files) (λ bytes. given (TreeIs bytes) (λ p. given (TypesAre p) (FromMesh j input files p))) (λ bytes. given (TreeIs bytes) (λ p. given (TypesAre p) (FromMesh j input files p))) (AgreeBut (Lacks input files))
+  programs_agree : (rest : BoundValue → Answer → Type 0) → Alike rest → (input : Input) (files : Files) → (x y : Answer) → BoundAnswers rest input files x → BoundAnswers rest input files y → AgreeBut (Lacks input files) x y
+  programs_agree rest alike input files =
+      given_alike (SourceIs input files) (λ bytes. given (TreeIs bytes) (λ p. given (TypesAre p) (FromMesh rest input files p))) (λ bytes. given (TreeIs bytes) (λ p. given (TypesAre p) (FromMesh rest input files p))) (AgreeBut (Lacks input files))
       (λ s t h k. same_refusals (Lacks input files) s t ((source_is_one input files).refusals s t h k)) (source_is_one input files).apart (source_is_one input files).values
-      (λ bytes h. trees_agree j input files bytes h)
+      (λ bytes h. trees_agree rest alike input files bytes h)
 
   converts_agree : (form : Form) (mesh : List ℕ) (files : Files) → (x y : Answer) → ConvertAnswers form mesh files x → ConvertAnswers form mesh files y → AgreeBut ⊥ x y
   converts_agree form mesh files =
@@ -236,7 +220,10 @@ module _ (runs_alike : RunsAlike) (walks_alike : WalksAlike) (one_read : (bytes 
 
   commands_agree : (words : List (List ℕ)) (files : Files) (c : Command) → WordsAre words (Ok c) → (a b : Answer) → CommandAnswers c files a → CommandAnswers c files b → Agree words files a b
   commands_agree words files (OnProgram j input) asks a b h k =
-      agree_for words files (Lacks input files) (λ l. record { job = j; input = input; bytes = l.0; asks = asks; held = l.1; lacks = l.2 }) a b (programs_agree j input files a b h k)
+      agree_for words files (Lacks input files) (λ l. record { command = OnProgram j input; input = input; bytes = l.0; asks = asks; from = refl; held = l.1; lacks = l.2 }) a b (programs_agree (JobAnswers j) (jobs_alike j) input files a b h k)
+  commands_agree words files (OnPlan j o source mesh) asks a b h k =
+      agree_for words files (Lacks (InFiles source mesh) files) (λ l. record { command = OnPlan j o source mesh; input = InFiles source mesh; bytes = l.0; asks = asks; from = refl; held = l.1; lacks = l.2 }) a b
+      (programs_agree (PlannedAnswers j o files) (plans_alike j o files (within words j o source mesh asks).some) (InFiles source mesh) files a b h k)
   commands_agree words files (Converts form mesh) asks a b h k = agree_for words files ⊥ (λ x. absurd x) a b (converts_agree form mesh files a b h k)
   commands_agree words files ShowsUsage asks a b h k = agree_for words files ⊥ (λ x. absurd x) a b (same_answers ⊥ a b (h ∙ sym k))
   commands_agree words files ShowsVersion asks a b h k = agree_for words files ⊥ (λ x. absurd x) a b (same_answers ⊥ a b (h ∙ sym k))

@@ -2,7 +2,7 @@
 use Rattle.std.proofs.Common.{◌≡◌, ◌⊎◌, inl, inr, ℕ, List, [], Option, Some, None, refl, sym, ap, ◌∙◌, subst}
 use Rattle.op_outside.specs.Outside.{Files, Rose}
 use Rattle.answers.specs.Lines.{Answer}
-use Rattle.answers.specs.Words.{Command, OnProgram, InFiles, OfSample, Converts, ShowsUsage, ShowsVersion, names_in, names_of, named_by}
+use Rattle.answers.specs.Words.{Command, OnProgram, OnPlan, InFiles, OfSample, Converts, ShowsUsage, ShowsVersion, names_in, names_of, named_by}
 use Rattle.answers.specs.Answers.{CommandAnswers, Answers}
 use Rattle.answers.specs.Endings.{Ending, Answered, OutOfMemory, Unread, Unwritten, ending_status, unwritten_status, Call, Tells, TellsUntold, no_files, IsWritten, EndsBy, Ends, TellTheAnswer, IsComplete}
 use Rattle.answers.specs.Laws.{AnswersAgree}
@@ -11,6 +11,7 @@ use Rattle.answers.specs.Laws.{AnswersAgree}
 same_command : (c : Command) → names_of c ≡ [] → (f g : Files) (a : Answer) → CommandAnswers c f a → CommandAnswers c g a
 same_command (OnProgram j (InFiles source mesh)) none f g a h = absurd (let bad : ⊥ = cc in bad)
 same_command (OnProgram j (OfSample side)) none f g a h = h
+same_command (OnPlan j o source mesh) none f g a h = absurd (let bad : ⊥ = cc in bad)
 same_command (Converts form mesh) none f g a h = absurd (let bad : ⊥ = cc in bad)
 same_command ShowsUsage none f g a h = h
 same_command ShowsVersion none f g a h = h

@@ -4,9 +4,10 @@ use Rattle.std.specs.Fmt.{digits}
 use Rattle.op_num.specs.declared.refusals.Fault.TheVariants.{DivZero}
 use Rattle.clap.proofs.OnLiterals.{clap_on_literals}
 use Rattle.mesh_text.specs.declared.entry.Form.TheVariants as form
-use Rattle.answers.specs.Refusal.{CannotRead, TooDeep, NoTokens, BadName, BadTarget, BadAccess, BadMesh, BeyondLimit, SetSize, Usage}
+use Rattle.answers.specs.Refusal.{CannotRead, TooDeep, NoTokens, BadName, BadTarget, BadAccess, BadMesh, BadPart, BadPartition, BeyondLimit, PartitionBytes, Steps, SetSize, Usage}
 use Rattle.answers.specs.Lines.{line_of, fault_line}
-use Rattle.answers.specs.Words.{Run, InFiles, OfSample, OnProgram, Converts, ShowsUsage, ShowsVersion, WordsAre}
+use Rattle.distribute.specs.Parts.{Block, Bisect, Grow}
+use Rattle.answers.specs.Words.{Run, Check, ShowsPlan, ByRule, ByFile, InFiles, OfSample, OnProgram, OnPlan, Converts, ShowsUsage, ShowsVersion, WordsAre}
 
 -- ---- lines
 
@@ -50,6 +51,22 @@ line_of_host_fault : fault_line (record { item = 1; element = None; fault = reco
     ≡ codes "op2: fault item 1 host div-zero at 8:23\n"
 unfolding digits
 line_of_host_fault = refl
+
+line_of_part : line_of (BadPart (codes "pe")) ≡ codes "op2: partition name pe\n"
+unfolding digits
+line_of_part = refl
+
+line_of_partition : line_of (BadPartition 6 3) ≡ codes "op2: partition 6 line 3\n"
+unfolding digits
+line_of_partition = refl
+
+line_of_steps : line_of (BeyondLimit Steps 8388609) ≡ codes "op2: limit steps 8388608 8388609\n"
+unfolding digits
+line_of_steps = refl
+
+line_of_partition_bytes : line_of (BeyondLimit PartitionBytes 67108865) ≡ codes "op2: limit partition-bytes 67108864 67108865\n"
+unfolding digits
+line_of_partition_bytes = refl
 
 -- ---- words
 
@@ -101,17 +118,57 @@ no_mesh : WordsAre (codes "op2" ∷ codes "run" ∷ codes "s.c" ∷ []) (Err Usa
 unfolding clap_on_literals
 no_mesh = refl
 
-another_job : WordsAre (codes "op2" ∷ codes "check" ∷ codes "s.c" ∷ codes "m" ∷ []) (Err Usage)
+another_job : WordsAre (codes "op2" ∷ codes "walk" ∷ codes "s.c" ∷ codes "m" ∷ []) (Err Usage)
 unfolding clap_on_literals
 another_job = refl
+
+a_check : WordsAre (codes "op2" ∷ codes "check" ∷ codes "s.c" ∷ codes "m" ∷ [])
+    (Ok (OnPlan Check (record { ranks = 1; parting = ByRule Block; renumber = None; block = 256 }) (codes "s.c") (codes "m")))
+unfolding clap_on_literals
+a_check = refl
+
+a_plan : WordsAre (codes "op2" ∷ codes "plan" ∷ codes "--ranks=08" ∷ codes "s.c" ∷ codes "m" ∷ codes "--parts" ∷ codes "bisect:x" ∷ codes "--block=2" ∷ [])
+    (Ok (OnPlan ShowsPlan (record { ranks = 8; parting = ByRule (Bisect (codes "x")); renumber = None; block = 2 }) (codes "s.c") (codes "m")))
+unfolding clap_on_literals
+a_plan = refl
+
+a_plan_by_growth : WordsAre (codes "op2" ∷ codes "plan" ∷ codes "s.c" ∷ codes "m" ∷ codes "--parts=grow:" ∷ codes "--renumber=pe" ∷ [])
+    (Ok (OnPlan ShowsPlan (record { ranks = 1; parting = ByRule (Grow []); renumber = Some (codes "pe"); block = 256 }) (codes "s.c") (codes "m")))
+unfolding clap_on_literals
+a_plan_by_growth = refl
+
+a_plan_by_a_file : WordsAre (codes "op2" ∷ codes "plan" ∷ codes "s.c" ∷ codes "m" ∷ codes "--partition=p" ∷ [])
+    (Ok (OnPlan ShowsPlan (record { ranks = 1; parting = ByFile (codes "p"); renumber = None; block = 256 }) (codes "s.c") (codes "m")))
+unfolding clap_on_literals
+a_plan_by_a_file = refl
+
+two_partings : WordsAre (codes "op2" ∷ codes "plan" ∷ codes "s.c" ∷ codes "m" ∷ codes "--partition=p" ∷ codes "--parts=block" ∷ []) (Err Usage)
+unfolding clap_on_literals
+two_partings = refl
+
+an_unknown_rule : WordsAre (codes "op2" ∷ codes "plan" ∷ codes "s.c" ∷ codes "m" ∷ codes "--parts=bisect" ∷ []) (Err Usage)
+unfolding clap_on_literals
+an_unknown_rule = refl
+
+too_many_ranks : WordsAre (codes "op2" ∷ codes "check" ∷ codes "s.c" ∷ codes "m" ∷ codes "--ranks=65" ∷ []) (Err Usage)
+unfolding clap_on_literals
+too_many_ranks = refl
+
+an_empty_block : WordsAre (codes "op2" ∷ codes "check" ∷ codes "s.c" ∷ codes "m" ∷ codes "--block=0" ∷ []) (Err Usage)
+unfolding clap_on_literals
+an_empty_block = refl
+
+a_plan_of_a_version : WordsAre (codes "op2" ∷ codes "plan" ∷ codes "s.c" ∷ codes "m" ∷ codes "--form=1" ∷ []) (Err Usage)
+unfolding clap_on_literals
+a_plan_of_a_version = refl
 
 one_word_more : WordsAre (codes "op2" ∷ codes "run" ∷ codes "s.c" ∷ codes "m" ∷ codes "x" ∷ []) (Err Usage)
 unfolding clap_on_literals
 one_word_more = refl
 
-unknown_option : WordsAre (codes "op2" ∷ codes "run" ∷ codes "s.c" ∷ codes "m" ∷ codes "--ranks" ∷ codes "2" ∷ []) (Err Usage)
+a_run_on_ranks : WordsAre (codes "op2" ∷ codes "run" ∷ codes "s.c" ∷ codes "m" ∷ codes "--ranks" ∷ codes "2" ∷ []) (Err Usage)
 unfolding clap_on_literals
-unknown_option = refl
+a_run_on_ranks = refl
 
 help : WordsAre (codes "op2" ∷ codes "run" ∷ codes "--help" ∷ []) (Ok ShowsUsage)
 unfolding clap_on_literals

@@ -28,10 +28,10 @@ use Rattle.op_outside.specs.Outside.{Files}
 use Rattle.answers.specs.Refusal.{Limit, SourceBytes, MeshBytes, Refusal, CannotRead, NoTree, TooDeep, BeyondLimit}
 use Rattle.answers.specs.Lines.{Answer, most}
 use Rattle.mesh_gen.specs.Sample.{sample_source}
-use Rattle.answers.specs.Words.{Job, Run, Input, InFiles, OfSample, Command, OnProgram, Converts, ShowsUsage, ShowsVersion, WordsAre}
+use Rattle.answers.specs.Words.{Job, Run, Input, InFiles, OfSample, Command, OnProgram, OnPlan, Converts, ShowsUsage, ShowsVersion, WordsAre}
 use Rattle.answers.specs.Judgements.{IsHeld, IsUnread, SourceIs, MeshIs, TreeIs, TypesAre, EntriesAre, BoundIs}
 use Rattle.answers.specs.Answers.{JobAnswers, ProgramAnswers, CommandAnswers}
-use Rattle.answers.specs.Laws.{AnswersExist}
+use Rattle.answers.specs.Laws.{IsOfNoPlan, AnswersExist}
 use Rattle.answers.proofs.Given.{given_one}
 use Rattle.answers.proofs.SaidOnce.{lex_said, types_said, mesh_said, binding_said}
 use Rattle.answers.proofs.Trees.{shallow_or_deep}
@@ -155,13 +155,14 @@ module _ (some_lexed : (bytes : List ℕ) → (o : Outcome) × Lexes bytes o) (s
       job_exists : (j : Job) (b : BoundValue) → ¬ ((a : Answer) → ¬ JobAnswers j b a)
       job_exists Run b none = none _ refl
 
-  command_exists : (c : Command) (files : Files) → ¬ ((a : Answer) → ¬ CommandAnswers c files a)
-  command_exists (OnProgram j input) files none = program_exists j input files none
-  command_exists (Converts form mesh) files none =
+  command_exists : (c : Command) (files : Files) → IsOfNoPlan c → ¬ ((a : Answer) → ¬ CommandAnswers c files a)
+  command_exists (OnProgram j input) files about none = program_exists j input files none
+  command_exists (OnPlan j o source mesh) files about none = about
+  command_exists (Converts form mesh) files about none =
       given_one _ _ (held_exists MeshBytes mesh (files mesh)) (λ text _.
       given_one _ _ (entries_exist text) (λ es _ n. n _ refl)) none
-  command_exists ShowsUsage files none = none _ refl
-  command_exists ShowsVersion files none = none _ refl
+  command_exists ShowsUsage files about none = none _ refl
+  command_exists ShowsVersion files about none = none _ refl
 
   pub answers_exist : AnswersExist
-  answers_exist words files = given_one (WordsAre words) (λ c. CommandAnswers c files) (λ none. none _ refl) (λ c _. command_exists c files)
+  answers_exist words files asks = given_one (WordsAre words) (λ c. CommandAnswers c files) (λ none. none _ refl) (λ c h. command_exists c files (asks c h))

@@ -4,6 +4,9 @@ mod Trees
 mod Sites
 mod SameKernels
 mod SameBound
+mod IsOne
+mod Within
+mod PlansAgree
 mod Agreed
 mod Exist
 mod Complete

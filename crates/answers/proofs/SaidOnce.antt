@@ -11,8 +11,11 @@ use Rattle.mesh_text.specs.declared.entry.MeshRefusal.{MeshRefusal}
 use Rattle.mesh_text.specs.declared.entry.MeshRefusal.TheVariants as mesh
 use Rattle.bind_refusals.specs.declared.refusals.BindRefusal.{BindRefusal}
 use Rattle.bind_refusals.specs.declared.refusals.BindRefusal.TheVariants as bind
+use Rattle.part_text.specs.declared.refusals.PartRefusal.{PartRefusal}
+use Rattle.part_text.specs.declared.refusals.PartRefusal.TheVariants as part
+use Rattle.distribute.specs.Parts.{NumbersRefusal, UnknownMap, OwnersRefusal, NoDat, NoMap, Unspelled}
 use Rattle.answers.specs.Refusal.{Refusal, status_of}
-use Rattle.answers.specs.Said.{SaysLex, SaysSource, SaysTypes, SaysMesh, SaysBinding}
+use Rattle.answers.specs.Said.{SaysLex, SaysSource, SaysTypes, SaysMesh, SaysBinding, SaysNumbers, SaysPartition, SaysOwners}
 
 -- ---- no other
 
@@ -67,6 +70,23 @@ binding_once p (bind.Limit c size) r s h k = h ∙ sym k
 binding_once p (bind.DeclarationPlace at) r s h k = h ∙ sym k
 binding_once p (bind.UnknownEntry at) r s h k = h ∙ sym k
 binding_once p bind.OutOfMemory r s h k = absurd h
+
+pub numbers_once : (e : NumbersRefusal) (r s : Refusal) → SaysNumbers e r → SaysNumbers e s → r ≡ s
+numbers_once (UnknownMap name) r s h k = h ∙ sym k
+
+partition_once : (e : PartRefusal) (r s : Refusal) → SaysPartition e r → SaysPartition e s → r ≡ s
+partition_once (part.Header line) r s h k = h ∙ sym k
+partition_once (part.Syntax line) r s h k = h ∙ sym k
+partition_once (part.UnknownSet line) r s h k = h ∙ sym k
+partition_once (part.MissingSet line) r s h k = h ∙ sym k
+partition_once (part.WrongCount line) r s h k = h ∙ sym k
+partition_once (part.RankRange line) r s h k = h ∙ sym k
+partition_once part.OutOfMemory r s h k = absurd h
+
+pub owners_once : (e : OwnersRefusal) (r s : Refusal) → SaysOwners e r → SaysOwners e s → r ≡ s
+owners_once (NoDat name) r s h k = h ∙ sym k
+owners_once (NoMap name) r s h k = h ∙ sym k
+owners_once (Unspelled e) r s h k = partition_once e r s h k
 
 -- ---- one
 

@@ -6,11 +6,11 @@ use Rattle.bound_program.specs.Values.{BoundValue}
 use Rattle.run_model.specs.Programs.{printed, first_fault}
 use Rattle.mesh_text.specs.Canonical.{canonical}
 use Rattle.op_outside.specs.Outside.{Files, appended, AppendsFront}
-use Rattle.answers.specs.Refusal.{Refusal, Usage, CannotRead, NoTokens, NoTree, TooDeep, BadName, BadBinding, BadTarget, BadAccess, BadMesh, BeyondLimit, status_of}
+use Rattle.answers.specs.Refusal.{Refusal, Usage, CannotRead, NoTokens, NoTree, TooDeep, BadName, BadBinding, BadTarget, BadAccess, BadMesh, BadPart, BadPartition, BeyondLimit, status_of}
 use Rattle.answers.specs.Lines.{Answer, done, refused, faulted}
-use Rattle.answers.specs.Words.{Job, Run, Input, Command, OnProgram, Converts, ShowsUsage, ShowsVersion, WordsAre, named_by}
-use Rattle.answers.specs.Judgements.{SourceIs, TreeIs, TypesAre, FileIs, MeshIs, EntriesAre, BoundIs, AccessesAre}
-use Rattle.answers.specs.Answers.{given, ran, JobAnswers, ProgramAnswers, CommandAnswers, Answers}
+use Rattle.answers.specs.Words.{Job, Run, PlanJob, Options, Input, InFiles, Command, OnProgram, OnPlan, Converts, ShowsUsage, ShowsVersion, WordsAre, named_by}
+use Rattle.answers.specs.Judgements.{SourceIs, TreeIs, TypesAre, FileIs, MeshIs, EntriesAre, BoundIs, AccessesAre, NumbersOf, PartsOf, OwnersOf, PlanIs}
+use Rattle.answers.specs.Answers.{given, ran, JobAnswers, planned_text, PlannedAnswers, BoundAnswers, CommandAnswers, Answers}
 use Rattle.answers.specs.Endings.{Ending, Answered, OutOfMemory, Unread, Unwritten, ending_status, unwritten_status, Call, IsSomeAnswer, TellsUntold, Tells, no_files, IsWritten, EndsBy, Ends, Shows, IsShown, IsSilent}
 use Rattle.answers.specs.Laws.{Agree, AnswersAgree}
 use Rattle.answers.proofs.Complete.{tells_answer}
@@ -33,18 +33,26 @@ ran_form (Some x) bytes a e = IsFaulted bytes x e
 job_form : (j : Job) (b : BoundValue) (a : Answer) → JobAnswers j b a → Form a
 job_form Run b a h = ran_form (first_fault b) (printed b) a h
 
-program_form : (j : Job) (input : Input) (files : Files) (a : Answer) → ProgramAnswers j input files a → Form a
-program_form j input files =
+planned_form : (j : PlanJob) (o : Options) (files : Files) (b : BoundValue) (a : Answer) → PlannedAnswers j o files b a → Form a
+planned_form j o files b a h =
+    given_form (NumbersOf o b) _ (λ n.
+    given_form (PartsOf o.parting files) _ (λ parts.
+    given_form (OwnersOf o b parts) _ (λ u.
+    given_form (PlanIs o b u n) (λ p x. x ≡ done (planned_text j b p)) (λ p a h. IsDone (planned_text j b p) h)))) a h.1
+
+bound_form : (rest : BoundValue → Answer → Type 0) → ((b : BoundValue) (a : Answer) → rest b a → Form a) → (input : Input) (files : Files) (a : Answer) → BoundAnswers rest input files a → Form a
+bound_form rest form input files =
     given_form (SourceIs input files) _ (λ bytes.
     given_form (TreeIs bytes) _ (λ p.
     given_form (TypesAre p) _ (λ types.
     given_form (MeshIs input files) _ (λ text.
     given_form (EntriesAre text) _ (λ es.
     given_form (BoundIs p types es) _ (λ b.
-    given_form (AccessesAre b) _ (λ u a h. job_form j b a h)))))))
+    given_form (AccessesAre b) _ (λ u a h. form b a h)))))))
 
 command_form : (c : Command) (files : Files) (a : Answer) → CommandAnswers c files a → Form a
-command_form (OnProgram j input) files a h = program_form j input files a h
+command_form (OnProgram j input) files a h = bound_form (JobAnswers j) (job_form j) input files a h
+command_form (OnPlan j o source mesh) files a h = bound_form (PlannedAnswers j o files) (planned_form j o files) (InFiles source mesh) files a h
 command_form (Converts form mesh) files a h =
     given_form (FileIs mesh files) _ (λ text. given_form (EntriesAre text) (λ es a. a ≡ done (canonical form es)) (λ es a h. IsDone (canonical form es) h)) a h
 command_form ShowsUsage files a h = IsDone _ h
@@ -79,6 +87,8 @@ not_four (BadBinding n at) e = cc
 not_four (BadTarget at m x p) e = cc
 not_four (BadAccess n at) e = cc
 not_four (BadMesh n line) e = cc
+not_four (BadPart n) e = cc
+not_four (BadPartition n line) e = cc
 not_four (BeyondLimit l n) e = cc
 
 -- a number is one of these two and not the other

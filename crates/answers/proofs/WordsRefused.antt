@@ -18,12 +18,15 @@ use Rattle.bound_program.specs.Values.{BoundValue}
 use Rattle.run_model.specs.Programs.{printed, first_fault}
 use Rattle.mesh_text.specs.Canonical.{canonical}
 use Rattle.op_outside.specs.Outside.{Files}
-use Rattle.answers.specs.Refusal.{Limit, SourceBytes, MeshBytes, Refusal, Usage, CannotRead, NoTokens, NoTree, TooDeep, BadName, BadBinding, BadTarget, BadAccess, BadMesh, BeyondLimit, status_of}
+use Rattle.answers.specs.Refusal.{Limit, SourceBytes, MeshBytes, Refusal, Usage, CannotRead, NoTokens, NoTree, TooDeep, BadName, BadBinding, BadTarget, BadAccess, BadMesh, BadPart, BadPartition, BeyondLimit, PartitionBytes, status_of}
 use Rattle.answers.specs.Lines.{Answer, done, refused, faulted}
-use Rattle.answers.specs.Said.{SaysLex, SaysSource, SaysTypes, SaysMesh, SaysBinding}
-use Rattle.answers.specs.Words.{Job, Run, Input, InFiles, OfSample, Command, OnProgram, Converts, ShowsUsage, ShowsVersion, WordsAre, named_by, names_in}
-use Rattle.answers.specs.Judgements.{IsHeld, SourceIs, TreeIs, TypesAre, FileIs, MeshIs, EntriesAre, BoundIs, AccessesAre}
-use Rattle.answers.specs.Answers.{given, ran, JobAnswers, ProgramAnswers, CommandAnswers, Answers}
+use Rattle.part_text.specs.declared.refusals.PartRefusal.{PartRefusal}
+use Rattle.part_text.specs.declared.refusals.PartRefusal.TheVariants as part
+use Rattle.distribute.specs.Parts.{NumbersRefusal, UnknownMap, OwnersRefusal, NoDat, NoMap, Unspelled}
+use Rattle.answers.specs.Said.{SaysLex, SaysSource, SaysTypes, SaysMesh, SaysBinding, SaysNumbers, SaysPartition, SaysOwners}
+use Rattle.answers.specs.Words.{Job, Run, PlanJob, Parting, ByRule, ByFile, Options, Input, InFiles, OfSample, Command, OnProgram, OnPlan, Converts, ShowsUsage, ShowsVersion, WordsAre, named_by, names_in}
+use Rattle.answers.specs.Judgements.{IsHeld, SourceIs, TreeIs, TypesAre, FileIs, MeshIs, EntriesAre, BoundIs, AccessesAre, NumbersOf, PartsOf, OwnersOf, PlanIs}
+use Rattle.answers.specs.Answers.{given, ran, JobAnswers, planned_text, PlannedAnswers, BoundAnswers, CommandAnswers, Answers}
 use Rattle.answers.specs.Endings.{Ending, Answered, OutOfMemory, Unread, Unwritten, ending_status, unwritten_status, Call, IsOfContents, IsSomeAnswer, TellsUntold, Tells, no_files, IsWritten, EndsBy, Ends, IsUsage}
 use Rattle.answers.proofs.Complete.{tells_answer, unwritten_is}
 
@@ -45,6 +48,8 @@ other_status (BadBinding n at) o e = cc
 other_status (BadTarget at m x p) o e = cc
 other_status (BadAccess n at) o e = cc
 other_status (BadMesh n line) o e = cc
+other_status (BadPart n) o e = cc
+other_status (BadPartition n line) o e = cc
 other_status (BeyondLimit l n) o e = cc
 
 of_contents : (r : Refusal) → IsOfContents r → IsOther r
@@ -58,6 +63,8 @@ of_contents (BadBinding n at) h = tt
 of_contents (BadTarget at m x p) h = tt
 of_contents (BadAccess n at) h = tt
 of_contents (BadMesh n line) h = tt
+of_contents (BadPart n) h = tt
+of_contents (BadPartition n line) h = tt
 of_contents (BeyondLimit l n) h = tt
 
 is_other : (r s : Refusal) → r ≡ s → IsOther s → IsOther r
@@ -119,6 +126,27 @@ binding_other p (bind.DeclarationPlace at) r h = is_other r _ h tt
 binding_other p (bind.UnknownEntry at) r h = is_other r _ h tt
 binding_other p bind.OutOfMemory r h = absurd h
 
+numbers_other : (e : NumbersRefusal) (r : Refusal) → SaysNumbers e r → IsOther r
+numbers_other (UnknownMap name) r h = is_other r _ h tt
+
+partition_other : (e : PartRefusal) (r : Refusal) → SaysPartition e r → IsOther r
+partition_other (part.Header line) r h = is_other r _ h tt
+partition_other (part.Syntax line) r h = is_other r _ h tt
+partition_other (part.UnknownSet line) r h = is_other r _ h tt
+partition_other (part.MissingSet line) r h = is_other r _ h tt
+partition_other (part.WrongCount line) r h = is_other r _ h tt
+partition_other (part.RankRange line) r h = is_other r _ h tt
+partition_other part.OutOfMemory r h = absurd h
+
+owners_other : (e : OwnersRefusal) (r : Refusal) → SaysOwners e r → IsOther r
+owners_other (NoDat name) r h = is_other r _ h tt
+owners_other (NoMap name) r h = is_other r _ h tt
+owners_other (Unspelled e) r h = partition_other e r h
+
+parts_other : (p : Parting) (files : Files) (r : Refusal) → PartsOf p files (Err r) → IsOther r
+parts_other (ByRule rule) files r h = absurd (let bad : ⊥ = cc in bad)
+parts_other (ByFile name) files r h = held_other PartitionBytes name (files name) r h
+
 -- ---- answers
 
 zero_two : ◌≡◌ {A = ℕ} 0 2 → ⊥
@@ -168,18 +196,26 @@ mesh_other_words : (input : Input) (files : Files) (r : Refusal) → MeshIs inpu
 mesh_other_words (InFiles source mesh) files r h = held_other MeshBytes mesh (files mesh) r h
 mesh_other_words (OfSample side) files r h = absurd (let bad : ⊥ = cc in bad)
 
-program_not : (j : Job) (input : Input) (files : Files) (a : Answer) → ProgramAnswers j input files a → NotTwo a
-program_not j input files =
+planned_not : (j : PlanJob) (o : Options) (files : Files) (b : BoundValue) (a : Answer) → PlannedAnswers j o files b a → NotTwo a
+planned_not j o files b a h =
+    given_not (NumbersOf o b) _ (λ r h. numbers_other h.0 r h.2) (λ n.
+    given_not (PartsOf o.parting files) _ (λ r h. parts_other o.parting files r h) (λ parts.
+    given_not (OwnersOf o b parts) _ (λ r h. owners_other h.0 r h.2) (λ u.
+    given_not (PlanIs o b u n) (λ p x. x ≡ done (planned_text j b p)) (λ r h. is_other r _ h.says tt) (λ p a h. done_not (planned_text j b p) a h)))) a h.1
+
+bound_not : (rest : BoundValue → Answer → Type 0) → ((b : BoundValue) (a : Answer) → rest b a → NotTwo a) → (input : Input) (files : Files) (a : Answer) → BoundAnswers rest input files a → NotTwo a
+bound_not rest not input files =
     given_not (SourceIs input files) _ (λ r h. source_other_words input files r h) (λ bytes.
     given_not (TreeIs bytes) _ (λ r h. source_other h.0 r h.2) (λ p.
     given_not (TypesAre p) _ (λ r h. types_other h.0 r h.2) (λ types.
     given_not (MeshIs input files) _ (λ r h. mesh_other_words input files r h) (λ text.
     given_not (EntriesAre text) _ (λ r h. mesh_other h.0 r h.2) (λ es.
     given_not (BoundIs p types es) _ (λ r h. binding_other p h.0 r h.2) (λ b.
-    given_not (AccessesAre b) _ (λ r h. is_other r _ h.says tt) (λ u a h. job_not j b a h)))))))
+    given_not (AccessesAre b) _ (λ r h. is_other r _ h.says tt) (λ u a h. not b a h)))))))
 
 command_not : (c : Command) (files : Files) (a : Answer) → CommandAnswers c files a → NotTwo a
-command_not (OnProgram j input) files a h = program_not j input files a h
+command_not (OnProgram j input) files a h = bound_not (JobAnswers j) (job_not j) input files a h
+command_not (OnPlan j o source mesh) files a h = bound_not (PlannedAnswers j o files) (planned_not j o files) (InFiles source mesh) files a h
 command_not (Converts form mesh) files a h =
     given_not (FileIs mesh files) _ (λ r h. held_other MeshBytes mesh (files mesh) r h) (λ text.
     given_not (EntriesAre text) (λ es a. a ≡ done (canonical form es)) (λ r h. mesh_other h.0 r h.2) (λ es a h. done_not (canonical form es) a h)) a h
@@ -201,6 +237,8 @@ words_refused words files a (inl h) two = by_refusal h.0 h.1 h.2
     by_refusal (BadTarget at m x p) j e = absurd (refused_not (BadTarget at m x p) a e tt two)
     by_refusal (BadAccess n at) j e = absurd (refused_not (BadAccess n at) a e tt two)
     by_refusal (BadMesh n line) j e = absurd (refused_not (BadMesh n line) a e tt two)
+    by_refusal (BadPart n) j e = absurd (refused_not (BadPart n) a e tt two)
+    by_refusal (BadPartition n line) j e = absurd (refused_not (BadPartition n line) a e tt two)
     by_refusal (BeyondLimit l n) j e = absurd (refused_not (BeyondLimit l n) a e tt two)
 words_refused words files a (inr h) two = absurd (command_not h.0 files a h.2 two)
 

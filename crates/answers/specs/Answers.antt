@@ -1,18 +1,23 @@
 -- What the program answers to its words, over files that are told.
-use Rattle.std.specs.Prelude.{◌≡◌, ℕ, List, Option, Some, None, Result, Ok, Err, ◌⊎◌, if◌then◌else◌}
+use Rattle.std.specs.Prelude.{◌≡◌, ℕ, List, ◌++◌, length, Option, Some, None, Result, Ok, Err, ◌⊎◌, codes, if◌then◌else◌}
+use Rattle.std.specs.Fmt.{decimal}
 use Rattle.std.specs.Str.{bytes_eq}
 use Rattle.kernel_types.specs.declared.faults.KernelFault.{KernelFault}
 use Rattle.schedule_model.specs.Sequential.{Stop}
 use Rattle.bound_program.specs.Values.{BoundValue}
+use Rattle.bound_program.specs.Fits.{Fits}
 use Rattle.run_model.specs.Programs.{printed, first_fault}
+use Rattle.loop_plan.specs.PlanText.{plan_text}
 use Rattle.op_outside.specs.Outside.{Files}
 use Rattle.mesh_text.specs.declared.entry.Form.{Form}
 use Rattle.mesh_text.specs.Canonical.{canonical}
 use Rattle.answers.specs.declared.usage.TheConstants.{USAGE, VERSION}
 use Rattle.answers.specs.Refusal.{Refusal, CannotRead}
 use Rattle.answers.specs.Lines.{Answer, done, refused, faulted}
-use Rattle.answers.specs.Words.{Job, Run, Input, Command, OnProgram, Converts, ShowsUsage, ShowsVersion, WordsAre}
+use Rattle.answers.specs.Words.{Job, Run, PlanJob, Check, ShowsPlan, Options, Input, InFiles, Command, OnProgram, OnPlan, Converts}
+use Rattle.answers.specs.Words.{ShowsUsage, ShowsVersion, WordsAre}
 use Rattle.answers.specs.Judgements.{SourceIs, TreeIs, TypesAre, FileIs, MeshIs, EntriesAre, BoundIs, AccessesAre}
+use Rattle.answers.specs.Judgements.{NumbersOf, PartsOf, OwnersOf, Planned, PlanIs}
 
 -- A judgement, and what comes after it: its refusal ends it, and what it gives goes on.
 abbrev pub given : {A : Type 0} → (Result A Refusal → Type 0) → (A → Answer → Type 0) → Answer → Type 0
@@ -27,16 +32,45 @@ ran (Some x) bytes = faulted bytes x
 abbrev pub JobAnswers : Job → BoundValue → Answer → Type 0
 JobAnswers Run b a = a ≡ ran (first_fault b) (printed b)
 
--- The answer of a job on a source and a mesh: seven judgements in this order, and then what the job does.
-abbrev pub ProgramAnswers : Job → Input → Files → Answer → Type 0
-ProgramAnswers j input files =
+-- The answer over a source and a mesh: seven judgements in this order, and then what is answered of the bound program.
+abbrev pub BoundAnswers : (BoundValue → Answer → Type 0) → Input → Files → Answer → Type 0
+BoundAnswers rest input files =
     given (SourceIs input files) (λ bytes.
     given (TreeIs bytes) (λ p.
     given (TypesAre p) (λ types.
     given (MeshIs input files) (λ text.
     given (EntriesAre text) (λ es.
     given (BoundIs p types es) (λ b.
-    given (AccessesAre b) (λ _. JobAnswers j b)))))))
+    given (AccessesAre b) (λ _. rest b)))))))
+
+-- The answer of a job on a source and a mesh.
+abbrev pub ProgramAnswers : Job → Input → Files → Answer → Type 0
+ProgramAnswers j = BoundAnswers (JobAnswers j)
+
+-- the sizes of a plan: its items, loops and steps
+abbrev pub sizes_text : BoundValue → (steps : ℕ) → List ℕ
+sizes_text b steps =
+    codes "ok items " ++ decimal (length b.trace) ++ codes " sites " ++ decimal (length b.sites)
+    ++ codes " steps " ++ decimal steps ++ codes "\n"
+
+-- what a job on a plan writes
+abbrev pub planned_text : PlanJob → BoundValue → Planned → List ℕ
+planned_text Check b p = sizes_text b p.plan.steps
+planned_text ShowsPlan b p = plan_text b p.distribution.ranks.items p.plan
+
+-- The answer of a job on the plan of a bound program: four judgements in this order, and then what the job writes. The program fits,
+-- as all that is bound does; this stands here since distributions and plans are one where it is so.
+abbrev pub PlannedAnswers : PlanJob → Options → Files → BoundValue → Answer → Type 0
+PlannedAnswers j o files b a =
+    Fits b
+    × given (NumbersOf o b) (λ n.
+    given (PartsOf o.parting files) (λ parts.
+    given (OwnersOf o b parts) (λ u.
+    given (PlanIs o b u n) (λ p x. x ≡ done (planned_text j b p))))) a
+
+-- The answer of a job on the plan of the program in a file over the mesh in a file.
+abbrev pub PlanAnswers : PlanJob → Options → (source mesh : List ℕ) → Files → Answer → Type 0
+PlanAnswers j o source mesh files = BoundAnswers (PlannedAnswers j o files) (InFiles source mesh) files
 
 -- The answer to a mesh in a file that is written again: two judgements, and then the canonical text of its entries in this version.
 abbrev pub ConvertAnswers : Form → (mesh : List ℕ) → Files → Answer → Type 0
@@ -47,6 +81,7 @@ ConvertAnswers form mesh files =
 -- the answer of a command
 abbrev pub CommandAnswers : Command → Files → Answer → Type 0
 CommandAnswers (OnProgram j input) files = ProgramAnswers j input files
+CommandAnswers (OnPlan j o source mesh) files = PlanAnswers j o source mesh files
 CommandAnswers (Converts form mesh) files = ConvertAnswers form mesh files
 CommandAnswers ShowsUsage files = λ a. a ≡ done USAGE.now
 CommandAnswers ShowsVersion files = λ a. a ≡ done VERSION.now

@@ -23,10 +23,20 @@ use Rattle.run_model.specs.Kernels.{kernel_at}
 use Rattle.run_model.specs.Arguments.{modes_of}
 use Rattle.op_outside.specs.Outside.{Files}
 use Rattle.mesh_gen.specs.Sample.{sample_source, sample_mesh}
-use Rattle.answers.specs.Words.{Input, InFiles, OfSample}
-use Rattle.answers.specs.Refusal.{Limit, SourceBytes, MeshBytes, MeshValues, Refusal, CannotRead, BadAccess, BeyondLimit}
+use Rattle.mesh_decl.specs.declared.owners.Owners.{Owners}
+use Rattle.mesh_decl.specs.declared.owners.Perms.{Perms}
+use Rattle.distribute.specs.declared.types.Distribution.{Distribution}
+use Rattle.distribute.specs.Parts.{Parts, Text, NumbersRefusal, OwnersRefusal}
+use Rattle.distribute.specs.Judgements.{NumbersAre, OwnersAre}
+use Rattle.distribute.specs.Distributions.{IsDistribution}
+use Rattle.loop_plan.specs.Values.{PlanValue}
+use Rattle.loop_plan.specs.Proper.{Proper, HasLeastColours}
+use Rattle.loop_plan.specs.StepCounts.{program_steps}
+use Rattle.answers.specs.Words.{Input, InFiles, OfSample, Parting, ByRule, ByFile, Options}
+use Rattle.answers.specs.Refusal.{Limit, SourceBytes, MeshBytes, MeshValues, PartitionBytes, Steps, Refusal, CannotRead, BadAccess}
+use Rattle.answers.specs.Refusal.{BeyondLimit}
 use Rattle.answers.specs.Lines.{most}
-use Rattle.answers.specs.Said.{SaysSource, SaysTypes, SaysMesh, SaysBinding}
+use Rattle.answers.specs.Said.{SaysSource, SaysTypes, SaysMesh, SaysBinding, SaysNumbers, SaysOwners}
 
 -- ---- files
 
@@ -108,3 +118,47 @@ pub record IsFirstSite (b : BoundValue) (r : Refusal) : Type 0 where
 abbrev pub AccessesAre : BoundValue → Result (Unit {0}) Refusal → Type 0
 AccessesAre b (Ok _) = All (SiteObeys b) b.sites
 AccessesAre b (Err r) = IsFirstSite b r
+
+-- ---- ranks
+
+-- new numbers, as they are asked for
+abbrev pub NumbersOf : Options → BoundValue → Result Perms Refusal → Type 0
+NumbersOf o b (Ok p) = NumbersAre b.mesh o.renumber (Ok p)
+NumbersOf o b (Err r) = (e : NumbersRefusal) × NumbersAre b.mesh o.renumber (Err e) × SaysNumbers e r
+
+-- what owners come from: a rule, which is told outright, or the text of a partition in a file
+abbrev pub PartsOf : Parting → Files → Result Parts Refusal → Type 0
+PartsOf (ByRule rule) files r = r ≡ Ok rule
+PartsOf (ByFile name) files (Ok parts) = (bytes : List ℕ) × IsHeld PartitionBytes name (files name) (Ok bytes) × (parts ≡ Text bytes)
+PartsOf (ByFile name) files (Err r) = IsHeld PartitionBytes name (files name) (Err r)
+
+-- the owners that come of it
+abbrev pub OwnersOf : Options → BoundValue → Parts → Result Owners Refusal → Type 0
+OwnersOf o b parts (Ok u) = OwnersAre b.mesh o.ranks parts (Ok u)
+OwnersOf o b parts (Err r) = (e : OwnersRefusal) × OwnersAre b.mesh o.ranks parts (Err e) × SaysOwners e r
+
+-- a mesh on ranks, and the plan of a program there
+pub record Planned : Type 0 where
+  pub distribution : Distribution
+  pub plan : PlanValue
+
+-- the mesh by these owners and new numbers, and a plan with least colours in blocks of the size that is asked for; there are no more
+-- steps than the limit
+pub record IsPlanned (o : Options) (b : BoundValue) (u : Owners) (n : Perms) (p : Planned) : Type 0 where
+  pub distributed : IsDistribution b.mesh u n p.distribution
+  pub proper : Proper b p.distribution.ranks.items p.plan
+  pub colours : HasLeastColours b p.distribution.ranks.items p.plan
+  pub block : p.plan.block ≡ o.block
+  pub few : program_steps b p.distribution.ranks.items ≤ most Steps
+
+-- on these ranks the program has more steps than the limit
+pub record HasManySteps (b : BoundValue) (u : Owners) (n : Perms) (r : Refusal) : Type 0 where
+  pub distribution : Distribution
+  pub distributed : IsDistribution b.mesh u n distribution
+  pub many : most Steps < program_steps b distribution.ranks.items
+  pub says : r ≡ BeyondLimit Steps (program_steps b distribution.ranks.items)
+
+-- the plan
+abbrev pub PlanIs : Options → BoundValue → Owners → Perms → Result Planned Refusal → Type 0
+PlanIs o b u n (Ok p) = IsPlanned o b u n p
+PlanIs o b u n (Err r) = HasManySteps b u n r

@@ -1,14 +1,31 @@
 -- What any two answers to the same words have in common, and that there is one.
-use Rattle.std.specs.Prelude.{◌≡◌, ℕ, ◌⊎◌, List, Ok}
+use Rattle.std.specs.Prelude.{◌≡◌, ℕ, ◌<◌, ◌≤◌, ◌⊎◌, List, Option, Some, None, Ok}
 use Rattle.c_lex.specs.declared.tokens.Token.{Token}
 use Rattle.c_lex.specs.Lexed.{Lexes}
 use Rattle.c_tree.specs.Tree.{ProgramTree}
 use Rattle.c_tree.specs.Reads.{Prints}
 use Rattle.op_outside.specs.Outside.{Files}
 use Rattle.answers.specs.Lines.{Answer}
-use Rattle.answers.specs.Words.{Job, Input, OnProgram, WordsAre}
+use Rattle.answers.specs.declared.limits.TheConstants.{MAX_RANKS, MAX_BLOCK}
+use Rattle.answers.specs.Words.{PlanJob, Options, Input, InFiles, Command, OnProgram, OnPlan, WordsAre}
 use Rattle.answers.specs.Judgements.{SourceIs}
 use Rattle.answers.specs.Answers.{Answers}
+
+-- ---- words
+
+-- there are 1 to 64 ranks, and a block has 1 to 65,536 places
+pub record AreWithin (o : Options) : Type 0 where
+  pub some : 0 < o.ranks
+  pub few : o.ranks ≤ MAX_RANKS
+  pub some_places : 0 < o.block
+  pub few_places : o.block ≤ MAX_BLOCK
+
+-- the options that words ask for are so
+abbrev pub OptionsAreWithin : Type 0
+OptionsAreWithin =
+    (words : List (List ℕ)) (j : PlanJob) (o : Options) (source mesh : List ℕ)
+    → WordsAre words (Ok (OnPlan j o source mesh))
+    → AreWithin o
 
 -- ---- two answers
 
@@ -18,12 +35,19 @@ pub record LacksTree (bytes : List ℕ) : Type 0 where
   pub lexed : Lexes bytes (Ok tokens)
   pub none : (p : ProgramTree) → ¬ Prints tokens p
 
+-- where the source and the mesh of a command come from, if it has them
+abbrev pub input_of : Command → Option Input
+input_of (OnProgram j input) = Some input
+input_of (OnPlan j o source mesh) = Some (InFiles source mesh)
+input_of c = None
+
 -- the words ask for a job on a source that has tokens and no tree
 pub record SourceLacksTree (words : List (List ℕ)) (files : Files) : Type 0 where
-  pub job : Job
+  pub command : Command
   pub input : Input
   pub bytes : List ℕ
-  pub asks : WordsAre words (Ok (OnProgram job input))
+  pub asks : WordsAre words (Ok command)
+  pub from : input_of command ≡ Some input
   pub held : SourceIs input files (Ok bytes)
   pub lacks : LacksTree bytes
 
@@ -43,6 +67,16 @@ AnswersAgree =
 
 -- ---- an answer
 
--- there is an answer
+-- a command that is about no plan
+abbrev pub IsOfNoPlan : Command → Type 0
+IsOfNoPlan (OnPlan j o source mesh) = ⊥
+IsOfNoPlan c = Unit {0}
+
+-- the words ask for no plan
+abbrev pub AskForNoPlan : List (List ℕ) → Type 0
+AskForNoPlan words = (c : Command) → WordsAre words (Ok c) → IsOfNoPlan c
+
+-- There is an answer to all words that ask for no plan. That owners, distributions and plans exist is not stated, so that nothing is
+-- said of the words that ask for one.
 abbrev pub AnswersExist : Type 0
-AnswersExist = (words : List (List ℕ)) (files : Files) → ¬ ((a : Answer) → ¬ Answers words files a)
+AnswersExist = (words : List (List ℕ)) (files : Files) → AskForNoPlan words → ¬ ((a : Answer) → ¬ Answers words files a)

@@ -8,10 +8,12 @@ use Rattle.kernel_types.specs.declared.faults.KernelFault.{KernelFault}
 use Rattle.mesh_text.specs.declared.entry.TheConstants.{MESH_BYTES, MESH_VALUES}
 use Rattle.bound_program.specs.Limits.{max_sets, max_maps, max_dats, max_size, max_dim, max_cells, max_arguments, max_trace, max_weight}
 use Rattle.schedule_model.specs.Sequential.{Stop}
-use Rattle.answers.specs.declared.limits.TheConstants.{SOURCE_BYTES}
+use Rattle.loop_plan.specs.StepCounts.{max_steps}
+use Rattle.answers.specs.declared.limits.TheConstants.{SOURCE_BYTES, PARTITION_BYTES}
 use Rattle.answers.specs.Refusal.{Limit, SourceBytes, MeshBytes, MeshValues, Sets, Maps, Dats, SetSize, Dim, MeshCells}
-use Rattle.answers.specs.Refusal.{Arguments, Trace, PrintWeight, Refusal, Usage, CannotRead, NoTokens, NoTree, TooDeep, BadName}
-use Rattle.answers.specs.Refusal.{BadBinding, BadTarget, BadAccess, BadMesh, BeyondLimit, status_of}
+use Rattle.answers.specs.Refusal.{Arguments, Trace, PrintWeight, PartitionBytes, Steps, Refusal, Usage, CannotRead, NoTokens, NoTree}
+use Rattle.answers.specs.Refusal.{TooDeep, BadName, BadBinding, BadTarget, BadAccess, BadMesh, BadPart, BadPartition, BeyondLimit}
+use Rattle.answers.specs.Refusal.{status_of}
 
 -- the name of a limit
 abbrev pub limit_name : Limit → List ℕ
@@ -27,6 +29,8 @@ limit_name MeshCells = codes "mesh-cells"
 limit_name Arguments = codes "arguments"
 limit_name Trace = codes "trace"
 limit_name PrintWeight = codes "print-weight"
+limit_name PartitionBytes = codes "partition-bytes"
+limit_name Steps = codes "steps"
 
 -- the greatest size that is allowed
 abbrev pub most : Limit → ℕ
@@ -42,6 +46,8 @@ most MeshCells = max_cells
 most Arguments = max_arguments
 most Trace = max_trace
 most PrintWeight = max_weight
+most PartitionBytes = PARTITION_BYTES
+most Steps = max_steps
 
 -- ` at L:C`
 abbrev pub at_place : Pos → List ℕ
@@ -64,6 +70,8 @@ said_of (BadTarget at map e p) =
     numbered (codes "source bind") 10 at ++ codes " map " ++ map ++ codes " element " ++ decimal e ++ codes " place " ++ decimal p
 said_of (BadAccess n at) = numbered (codes "source access") n at
 said_of (BadMesh n line) = codes "mesh " ++ decimal n ++ codes " line " ++ decimal line
+said_of (BadPart name) = codes "partition name " ++ name
+said_of (BadPartition n line) = codes "partition " ++ decimal n ++ codes " line " ++ decimal line
 said_of (BeyondLimit l size) =
     codes "limit " ++ limit_name l ++ codes " " ++ decimal (most l) ++ codes " " ++ decimal size
 

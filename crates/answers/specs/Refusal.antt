@@ -16,6 +16,8 @@ pub data Limit : Type 0 where
   Arguments : Limit
   Trace : Limit
   PrintWeight : Limit
+  PartitionBytes : Limit
+  Steps : Limit
 
 -- One constructor for each line that the program writes about its words and its files.
 pub data Refusal : Type 0 where
@@ -39,6 +41,10 @@ pub data Refusal : Type 0 where
   BadAccess : (number : ℕ) (at : Pos) → Refusal
   -- the mesh text spells no entries
   BadMesh : (number line : ℕ) → Refusal
+  -- no dat or no map has the name that owners or new numbers are asked for by
+  BadPart : (name : List ℕ) → Refusal
+  -- the text of a partition spells no owners of the mesh
+  BadPartition : (number line : ℕ) → Refusal
   -- a size is beyond its limit
   BeyondLimit : Limit → (size : ℕ) → Refusal
 
@@ -54,4 +60,6 @@ status_of (BadBinding n at) = 5
 status_of (BadTarget at map e p) = 5
 status_of (BadAccess n at) = 5
 status_of (BadMesh n line) = 6
+status_of (BadPart name) = 7
+status_of (BadPartition n line) = 7
 status_of (BeyondLimit l size) = 10

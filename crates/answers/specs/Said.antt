@@ -17,8 +17,12 @@ use Rattle.bind_refusals.specs.declared.refusals.Counted.TheVariants as counted
 use Rattle.bind_refusals.specs.declared.refusals.BindRefusal.{BindRefusal}
 use Rattle.bind_refusals.specs.declared.refusals.BindRefusal.TheVariants as bind
 use Rattle.bind_refusals.specs.Refusals.{number_of as bind_number}
+use Rattle.part_text.specs.declared.refusals.PartRefusal.{PartRefusal}
+use Rattle.part_text.specs.declared.refusals.PartRefusal.TheVariants as part
+use Rattle.distribute.specs.Parts.{NumbersRefusal, UnknownMap, OwnersRefusal, NoDat, NoMap, Unspelled}
 use Rattle.answers.specs.Refusal.{Limit, MeshValues, Sets, Maps, Dats, SetSize, Dim, MeshCells, Arguments, Trace, PrintWeight}
-use Rattle.answers.specs.Refusal.{Refusal, NoTokens, NoTree, TooDeep, BadName, BadBinding, BadTarget, BadMesh, BeyondLimit}
+use Rattle.answers.specs.Refusal.{Refusal, NoTokens, NoTree, TooDeep, BadName, BadBinding, BadTarget, BadMesh, BadPart, BadPartition}
+use Rattle.answers.specs.Refusal.{BeyondLimit}
 use Rattle.answers.specs.Lines.{most}
 
 -- ---- the source
@@ -104,3 +108,25 @@ SaysBinding p (bind.Limit c size) r = r ≡ BeyondLimit (limit_of c) size
 SaysBinding p (bind.DeclarationPlace at) r = r ≡ BadBinding (bind_number (bind.DeclarationPlace at)) at
 SaysBinding p (bind.UnknownEntry at) r = r ≡ BadBinding (bind_number (bind.UnknownEntry at)) at
 SaysBinding p bind.OutOfMemory r = ⊥
+
+-- ---- ranks
+
+-- of new numbers
+abbrev pub SaysNumbers : NumbersRefusal → Refusal → Type 0
+SaysNumbers (UnknownMap name) r = r ≡ BadPart name
+
+-- of the text of a partition
+abbrev pub SaysPartition : PartRefusal → Refusal → Type 0
+SaysPartition (part.Header line) r = r ≡ BadPartition 1 line
+SaysPartition (part.Syntax line) r = r ≡ BadPartition 2 line
+SaysPartition (part.UnknownSet line) r = r ≡ BadPartition 3 line
+SaysPartition (part.MissingSet line) r = r ≡ BadPartition 4 line
+SaysPartition (part.WrongCount line) r = r ≡ BadPartition 5 line
+SaysPartition (part.RankRange line) r = r ≡ BadPartition 6 line
+SaysPartition part.OutOfMemory r = ⊥
+
+-- of owners
+abbrev pub SaysOwners : OwnersRefusal → Refusal → Type 0
+SaysOwners (NoDat name) r = r ≡ BadPart name
+SaysOwners (NoMap name) r = r ≡ BadPart name
+SaysOwners (Unspelled e) r = SaysPartition e r

@@ -1,6 +1,6 @@
 -- The words of the command line, by `clap`'s own model of the command.
 use Rattle.std.specs.Prelude.{◌≡◌, ℕ, Bool, true, false, not, ◌&&◌, nat_lt, nat_eq, List, [], ◌∷◌, Option, Some, None, Result, Ok, Err}
-use Rattle.std.specs.Prelude.{codes, if◌then◌else◌, option_and_then, option_map}
+use Rattle.std.specs.Prelude.{codes, if◌then◌else◌, option_and_then, option_map, is_some, length, take, drop}
 use Rattle.std.specs.Str.{bytes_eq}
 use Rattle.clap.specs.Walk.{Rule, Row, first_of}
 use Rattle.clap.specs.Simple.{App, new_rule, new_app, with_rule, on_top, matches_of}
@@ -11,21 +11,42 @@ use Rattle.op_num.specs.Spelling.{number_of}
 use Rattle.mesh_text.specs.declared.entry.Form.{Form}
 use Rattle.mesh_text.specs.declared.entry.Form.TheVariants as form
 use Rattle.mesh_gen.specs.declared.places.TheConstants.{MAX_SIDE}
+use Rattle.distribute.specs.Parts.{Parts, Block, Bisect, Grow}
+use Rattle.answers.specs.declared.limits.TheConstants.{MAX_RANKS, MAX_BLOCK}
 use Rattle.answers.specs.Refusal.{Refusal, Usage}
 
 -- what is done with a source and a mesh
 pub data Job : Type 0 where
   Run : Job
 
--- where they come from: from the files of these names, or they are the sample on a grid of this many cells a side
+-- what is done with a plan: its sizes are told, or its text is written
+pub data PlanJob : Type 0 where
+  Check : PlanJob
+  ShowsPlan : PlanJob
+
+-- who owns which element: by a rule, or as the file of this name says
+pub data Parting : Type 0 where
+  ByRule : Parts → Parting
+  ByFile : (name : List ℕ) → Parting
+
+-- how a program runs on ranks: how many; who owns which element; new numbers by the map of this name, or none; how many places a
+-- block has
+pub record Options : Type 0 where
+  pub ranks : ℕ
+  pub parting : Parting
+  pub renumber : Option (List ℕ)
+  pub block : ℕ
+
+-- where a source and a mesh come from: from the files of these names, or they are the sample on a grid of this many cells a side
 pub data Input : Type 0 where
   InFiles : (source mesh : List ℕ) → Input
   OfSample : (side : ℕ) → Input
 
--- What the words ask for: a job on a source and a mesh; the mesh text in a file written again, in a version of the format; or what the
--- program says of itself.
+-- What the words ask for: a job on a source and a mesh; a job on the plan of the program in a file over the mesh in a file, with
+-- these options; the mesh text in a file written again, in a version of the format; or what the program says of itself.
 pub data Command : Type 0 where
   OnProgram : Job → Input → Command
+  OnPlan : PlanJob → Options → (source mesh : List ℕ) → Command
   Converts : Form → (mesh : List ℕ) → Command
   ShowsUsage : Command
   ShowsVersion : Command
@@ -44,18 +65,57 @@ option id = record (new_rule id) { long = Some id }
 abbrev pub versioned : App → App
 versioned a = on_top (λ s. record s { has_version = true }) a
 
--- `op2 JOB INPUT [MESH] [--form FORM]`, with `--help` and `--version`
+-- `op2 JOB INPUT [MESH]` with six options of one value, `--help` and `--version`
 abbrev pub command : App
 command =
     with_rule
     (with_rule
     (with_rule
+    (with_rule
+    (with_rule
+    (with_rule
+    (with_rule
+    (with_rule
     (with_rule (versioned (new_app (codes "op2"))) (positional true (codes "JOB")))
     (positional true (codes "INPUT")))
     (positional false (codes "MESH")))
-    (option (codes "form"))
+    (option (codes "form")))
+    (option (codes "ranks")))
+    (option (codes "parts")))
+    (option (codes "partition")))
+    (option (codes "renumber")))
+    (option (codes "block"))
 
 -- ---- what its matches mean
+
+-- the values of the options, as the words have them
+pub record OptionWords : Type 0 where
+  pub form : Option (List ℕ)
+  pub ranks : Option (List ℕ)
+  pub parts : Option (List ℕ)
+  pub partition : Option (List ℕ)
+  pub renumber : Option (List ℕ)
+  pub block : Option (List ℕ)
+
+-- those of the matches
+abbrev pub options_in : List Row → OptionWords
+options_in rows = record {
+  form = first_of (codes "form") rows;
+  ranks = first_of (codes "ranks") rows;
+  parts = first_of (codes "parts") rows;
+  partition = first_of (codes "partition") rows;
+  renumber = first_of (codes "renumber") rows;
+  block = first_of (codes "block") rows;
+}
+
+-- none of a plan's options stands
+abbrev pub plans_nothing : OptionWords → Bool
+plans_nothing w =
+    not (is_some w.ranks) && not (is_some w.parts) && not (is_some w.partition) && not (is_some w.renumber) && not (is_some w.block)
+
+-- no option stands
+abbrev pub is_plain : OptionWords → Bool
+is_plain w = not (is_some w.form) && plans_nothing w
 
 -- what a match asks for, or the words are refused
 abbrev pub or_usage : Option Command → Result Command Refusal
@@ -71,39 +131,90 @@ abbrev pub form_of : Option (List ℕ) → Option Form
 form_of None = Some form.Two
 form_of (Some word) = option_map (λ n. if nat_eq n 1 then form.One else form.Two) (number_to 2 word)
 
+-- ---- a plan's options
+
+-- a number from 1 to the most, in decimal digits; this one, where no word says which
+abbrev pub number_or : (usual most : ℕ) → Option (List ℕ) → Option ℕ
+number_or usual most None = Some usual
+number_or usual most (Some word) = number_to most word
+
+-- what stands behind a prefix, if the word begins with it
+abbrev pub behind : (prefix word : List ℕ) → Option (List ℕ)
+behind prefix word = if bytes_eq (take (length prefix) word) prefix then Some (drop (length prefix) word) else None
+
+-- `grow:MAP`
+abbrev pub growth_of : List ℕ → Option Parts
+growth_of word = option_map Grow (behind (codes "grow:") word)
+
+-- what is by cuts along a dat's values, or else by growth
+abbrev pub cuts_or_growth : Option (List ℕ) → List ℕ → Option Parts
+cuts_or_growth (Some dat) word = Some (Bisect dat)
+cuts_or_growth None word = growth_of word
+
+-- `block`, `bisect:DAT` or `grow:MAP`
+abbrev pub rule_of : List ℕ → Option Parts
+rule_of word = if bytes_eq word (codes "block") then Some Block else cuts_or_growth (behind (codes "bisect:") word) word
+
+-- by `--parts`, or by `--partition`, or by blocks; not by both
+abbrev pub parting_of : (parts partition : Option (List ℕ)) → Option Parting
+parting_of None None = Some (ByRule Block)
+parting_of (Some word) None = option_map ByRule (rule_of word)
+parting_of None (Some name) = Some (ByFile name)
+parting_of (Some word) (Some name) = None
+
+-- with owners that are known, and a number of ranks
+abbrev pub options_with : (ranks : ℕ) → Parting → OptionWords → Option Options
+options_with ranks parting w =
+    option_map (λ block. record { ranks = ranks; parting = parting; renumber = w.renumber; block = block }) (number_or 256 MAX_BLOCK w.block)
+
+-- all options of a plan
+abbrev pub options_of : OptionWords → Option Options
+options_of w =
+    option_and_then (λ ranks. option_and_then (λ parting. options_with ranks parting w) (parting_of w.parts w.partition))
+    (number_or 1 MAX_RANKS w.ranks)
+
+-- ---- jobs
+
 -- `run SOURCE MESH`
-abbrev pub runs : (input : List ℕ) (mesh form : Option (List ℕ)) → Option Command
-runs input (Some mesh) None = Some (OnProgram Run (InFiles input mesh))
-runs input _ _ = None
+abbrev pub runs : (input : List ℕ) (mesh : Option (List ℕ)) → OptionWords → Option Command
+runs input (Some mesh) w = if is_plain w then Some (OnProgram Run (InFiles input mesh)) else None
+runs input None w = None
 
 -- `sample SIDE`
-abbrev pub samples : (input : List ℕ) (mesh form : Option (List ℕ)) → Option Command
-samples input None None = option_map (λ side. OnProgram Run (OfSample side)) (number_to MAX_SIDE input)
-samples input _ _ = None
+abbrev pub samples : (input : List ℕ) (mesh : Option (List ℕ)) → OptionWords → Option Command
+samples input None w = if is_plain w then option_map (λ side. OnProgram Run (OfSample side)) (number_to MAX_SIDE input) else None
+samples input (Some mesh) w = None
 
 -- `convert MESH`, with `--form`
-abbrev pub converts : (input : List ℕ) (mesh form : Option (List ℕ)) → Option Command
-converts input None form = option_map (λ f. Converts f input) (form_of form)
-converts input (Some mesh) form = None
+abbrev pub converts : (input : List ℕ) (mesh : Option (List ℕ)) → OptionWords → Option Command
+converts input None w = if plans_nothing w then option_map (λ f. Converts f input) (form_of w.form) else None
+converts input (Some mesh) w = None
+
+-- `check SOURCE MESH` and `plan SOURCE MESH`, with a plan's options
+abbrev pub plans : PlanJob → (input : List ℕ) (mesh : Option (List ℕ)) → OptionWords → Option Command
+plans j input (Some mesh) w = if is_some w.form then None else option_map (λ o. OnPlan j o input mesh) (options_of w)
+plans j input None w = None
 
 -- by the job's name
-abbrev pub by_job : (job input : List ℕ) (mesh form : Option (List ℕ)) → Option Command
-by_job job input mesh form =
-    if bytes_eq job (codes "run") then runs input mesh form
-    else if bytes_eq job (codes "sample") then samples input mesh form
-    else if bytes_eq job (codes "convert") then converts input mesh form
+abbrev pub by_job : (job input : List ℕ) (mesh : Option (List ℕ)) → OptionWords → Option Command
+by_job job input mesh w =
+    if bytes_eq job (codes "run") then runs input mesh w
+    else if bytes_eq job (codes "sample") then samples input mesh w
+    else if bytes_eq job (codes "convert") then converts input mesh w
+    else if bytes_eq job (codes "check") then plans Check input mesh w
+    else if bytes_eq job (codes "plan") then plans ShowsPlan input mesh w
     else None
 
 -- the words JOB and INPUT stand
-abbrev pub asked : (job input mesh form : Option (List ℕ)) → Result Command Refusal
-asked (Some job) (Some input) mesh form = or_usage (by_job job input mesh form)
-asked _ _ mesh form = Err Usage
+abbrev pub asked : (job input mesh : Option (List ℕ)) → OptionWords → Result Command Refusal
+asked (Some job) (Some input) mesh w = or_usage (by_job job input mesh w)
+asked _ _ mesh w = Err Usage
 
 -- what the matches ask for, where `clap` has nothing against the words; it answers those that ask for help or the version by kinds
 -- of their own
 abbrev pub judged : Kinds → List Row → Result Command Refusal
 judged [] rows =
-    asked (first_of (codes "JOB") rows) (first_of (codes "INPUT") rows) (first_of (codes "MESH") rows) (first_of (codes "form") rows)
+    asked (first_of (codes "JOB") rows) (first_of (codes "INPUT") rows) (first_of (codes "MESH") rows) (options_in rows)
 judged (kind.DisplayHelp ∷ ks) rows = Ok ShowsUsage
 judged (kind.DisplayVersion ∷ ks) rows = Ok ShowsVersion
 judged (k ∷ ks) rows = Err Usage
@@ -119,9 +230,15 @@ abbrev pub names_from : Input → List (List ℕ)
 names_from (InFiles source mesh) = source ∷ mesh ∷ []
 names_from (OfSample side) = []
 
+-- the one that owners come from, where they do
+abbrev pub names_by : Parting → List (List ℕ)
+names_by (ByRule parts) = []
+names_by (ByFile name) = name ∷ []
+
 -- those of a command
 abbrev pub names_of : Command → List (List ℕ)
 names_of (OnProgram j input) = names_from input
+names_of (OnPlan j o source mesh) = source ∷ mesh ∷ names_by o.parting
 names_of (Converts form mesh) = mesh ∷ []
 names_of ShowsUsage = []
 names_of ShowsVersion = []

@@ -6,11 +6,16 @@ ghost use Rattle.clap.specs.Faults.{fault_of};
 ghost use Rattle.clap.specs.declared.error.kind.ErrorKind.{ErrorKind as Kind};
 ghost use Rattle.answers.specs.Words.{command};
 ghost use Rattle.answers.specs.Endings.{Call, Ends, IsComplete, IsUsage, IsShown, IsSilent, AreReported};
-ghost use Rattle.answers.specs.Laws.{AnswersAgree, AnswersExist};
+ghost use Rattle.answers.specs.Laws.{AnswersAgree, AnswersExist, OptionsAreWithin};
 
 /// A law: `clap` has at most one kind of fault to answer the words with.
 pub fn one_fault()
     ensures { (words : List (List ℕ)) (k : Kind) → IsAmong k (fault_of command words) → fault_of command words ≡ k ∷ [] }
+{}
+
+/// A law: the numbers of the options that words ask for are in range.
+pub fn options_are_within()
+    ensures { OptionsAreWithin }
 {}
 
 /// A law: any two answers to the same words over the same files have the same status and the same bytes for the output, and
@@ -25,9 +30,14 @@ pub fn answers_agree()
     kernel_model::walk_finds();
     kernel_model::rules_are_broken();
     kernel_model::kernels_are_trees();
+    distribute::one_numbers();
+    distribute::one_owners();
+    distribute::one_distribution();
+    loop_plan::one_plan_text();
+    loop_plan::one_step_count();
 }
 
-/// A law: there is an answer to all words over all files.
+/// A law: there is an answer to all words that ask for no plan, over all files.
 pub fn answers_exist()
     ensures { AnswersExist }
 {

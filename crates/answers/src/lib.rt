@@ -8,7 +8,8 @@ mod usage;
 
 pub use laws::{
     answers_agree, answers_exist, calls_are_complete, calls_report_their_answers,
-    calls_show_their_answers, one_fault, others_write_nothing, usage_is_of_words,
+    calls_show_their_answers, one_fault, options_are_within, others_write_nothing,
+    usage_is_of_words,
 };
-pub use limits::SOURCE_BYTES;
+pub use limits::{MAX_BLOCK, MAX_RANKS, PARTITION_BYTES, SOURCE_BYTES};
 pub use usage::{USAGE, VERSION};

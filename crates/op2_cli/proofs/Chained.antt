@@ -1,11 +1,12 @@
 -- From the parts of the chain of judgements to the whole.
-use Rattle.std.proofs.Common.{◌≡◌, ℕ, inl, inr, ◌≤◌, zero, suc, arith, Bool, true, false, List, [], ◌∷◌, length, Option, None, Some, Result, Ok, Err, IfSome, refl, ap, sym, subst}
+use Rattle.std.proofs.Common.{◌≡◌, ℕ, All, inl, inr, ◌≤◌, zero, suc, arith, Bool, true, false, List, [], ◌∷◌, length, Option, None, Some, Result, Ok, Err, IfOk, IfErr, IfSome, refl, ap, sym, subst}
 use Rattle.std.specs.List.{Contains}
 use Rattle.std.specs.Str.{bytes_eq}
 use Rattle.std.specs.Prelude.{if◌then◌else◌}
 use Rattle.std.proofs.lemmas.Slice.Eq.{bytes_eq-Decides}
 use Rattle.op_outside.specs.Outside.{Files}
 use Rattle.c_tree.specs.Tree.{ProgramTree}
+use Rattle.bound_program.specs.Values.{BoundValue}
 use Rattle.kernel_types.specs.declared.kernels.Resolved.{Resolved}
 use Rattle.answers.specs.Refusal as answer
 use Rattle.answers.specs.Refusal.{Refusal, SourceBytes, MeshBytes, CannotRead}
@@ -14,14 +15,14 @@ use Rattle.answers.specs.Lines.{most, refused}
 use Rattle.mesh_gen.specs.Sample.{sample_source, sample_mesh}
 use Rattle.answers.specs.Words.{Command, Run, InFiles, OfSample, WordsAre, names_of, named_by, names_in}
 use Rattle.answers.specs.Judgements.{IsHeld, SourceIs, FileIs, TreeIs, TypesAre}
-use Rattle.answers.specs.Answers.{given, without, ProgramAnswers, CommandAnswers, Answers}
+use Rattle.answers.specs.Answers.{given, without, BoundAnswers, ProgramAnswers, CommandAnswers, Answers}
 use Rattle.answers.specs.Endings.{IsOfContents, Tells, TellsUntold, no_files}
 use Rattle.op2_cli.specs.declared.answered.Answer.{Answer}
 use Rattle.op2_cli.specs.declared.refusals.Failure.TheVariants.{Unread, OutOfMemory}
 use Rattle.op2_cli.specs.declared.refusals.Halt.{Halt}
 use Rattle.op2_cli.specs.declared.refusals.Halt.TheVariants.{Refused, Failed}
 use Rattle.op2_cli.specs.Halts.{refusal_of, StopsWhere, SpoiltWhere, UnreadWhere}
-use Rattle.op2_cli.specs.Chains.{answer_of, MeshAnswers, TextAnswers, IsAnswered, AnswersBy, Over, AsksFor, AnswersOver}
+use Rattle.op2_cli.specs.Chains.{answer_of, MeshAnswers, TextAnswers, TextOver, IsAnswered, AnswersBy, Over, AsksFor, AnswersOver}
 
 -- ---- halts
 
@@ -41,10 +42,10 @@ spoilt_answers J P h step s =
 
 -- ---- names of files
 
-contains_first : (n : List ℕ) (ns : List (List ℕ)) → Contains (n ∷ ns) n
+pub contains_first : (n : List ℕ) (ns : List (List ℕ)) → Contains (n ∷ ns) n
 contains_first n ns = (0, omega arith, refl)
 
-contains_later : (m n : List ℕ) (ns : List (List ℕ)) → Contains ns n → Contains (m ∷ ns) n
+pub contains_later : (m n : List ℕ) (ns : List (List ℕ)) → Contains ns n → Contains (m ∷ ns) n
 contains_later m n ns (k, below, is) = (suc k, omega (arith, below), is)
 
 -- of one name
@@ -107,22 +108,22 @@ module _ (told : Option Files) (limit : answer.Limit) (name : List ℕ) (names :
 
 -- ---- the source, and then the mesh
 
-module _ (p : ProgramTree) (types : Resolved) (source mesh bytes : List ℕ) (fits : length bytes ≤ most SourceBytes) (reads : TreeIs bytes (Ok p)) (typed : TypesAre p (Ok types)) where
+module _ (rest : BoundValue → lines.Answer → Type 0) (p : ProgramTree) (types : Resolved) (source mesh bytes : List ℕ) (fits : length bytes ≤ most SourceBytes) (reads : TreeIs bytes (Ok p)) (typed : TypesAre p (Ok types)) where
   -- where the source holds these bytes, the answer over the mesh is that of both
   over_both : (files : Files) (a : lines.Answer)
       → SourceIs (InFiles source mesh) files (Ok bytes)
-      → MeshAnswers p types mesh files a
-      → ProgramAnswers Run (InFiles source mesh) files a
+      → MeshAnswers rest p types mesh files a
+      → BoundAnswers rest (InFiles source mesh) files a
   over_both files a held m = inr (bytes, held, inr (p, reads, inr (types, typed, m)))
 
   -- the mesh is asked for, where the source is there
-  mesh_asked : (files : Files) → SourceIs (InFiles source mesh) files (Ok bytes) → ProgramAnswers Run (InFiles source mesh) (without mesh files) (refused (CannotRead mesh))
+  mesh_asked : (files : Files) → SourceIs (InFiles source mesh) files (Ok bytes) → BoundAnswers rest (InFiles source mesh) (without mesh files) (refused (CannotRead mesh))
   mesh_asked files held = go (bytes_eq source mesh) refl
     where
-      no_mesh : MeshAnswers p types mesh (without mesh files) (refused (CannotRead mesh))
+      no_mesh : MeshAnswers rest p types mesh (without mesh files) (refused (CannotRead mesh))
       no_mesh = inl (CannotRead mesh, missing MeshBytes mesh files, refl)
 
-      go : (b : Bool) → bytes_eq source mesh ≡ b → ProgramAnswers Run (InFiles source mesh) (without mesh files) (refused (CannotRead mesh))
+      go : (b : Bool) → bytes_eq source mesh ≡ b → BoundAnswers rest (InFiles source mesh) (without mesh files) (refused (CannotRead mesh))
       go true e =
           let same : source ≡ mesh = (bytes_eq-Decides source mesh).0 e in
           inl (CannotRead source, rw e refl, ap (λ n. refused (CannotRead n)) (sym same))
@@ -134,20 +135,20 @@ module _ (p : ProgramTree) (types : Resolved) (source mesh bytes : List ℕ) (fi
 
   pub both_answered : (told : Option Files) (rose : Type 0) (r : Result Answer Halt)
       → IfSome told (λ files. SourceIs (InFiles source mesh) files (Ok bytes))
-      → AnswersOver told (mesh ∷ []) (MeshAnswers p types mesh) rose r
-      → AnswersOver told (source ∷ mesh ∷ []) (ProgramAnswers Run (InFiles source mesh)) rose r
+      → AnswersOver told (mesh ∷ []) (MeshAnswers rest p types mesh) rose r
+      → AnswersOver told (source ∷ mesh ∷ []) (BoundAnswers rest (InFiles source mesh)) rose r
   both_answered (Some files) rose (Ok a) held h = over_both files (answer_of a) held h
   both_answered None rose (Ok a) held h = h
   both_answered (Some files) rose (Err (Refused r)) held h = over_both files (refused (refusal_of r)) held h
   both_answered None rose (Err (Refused r)) held h = h
   both_answered told rose (Err (Failed (Unread n))) held h = (h.0, contains_later source n.now (mesh ∷ []) h.1, go told held (of_one mesh n.now h.1))
     where
-      go : (o : Option Files) → IfSome o (λ files. SourceIs (InFiles source mesh) files (Ok bytes)) → mesh ≡ n.now → AsksFor o (ProgramAnswers Run (InFiles source mesh)) n.now
+      go : (o : Option Files) → IfSome o (λ files. SourceIs (InFiles source mesh) files (Ok bytes)) → mesh ≡ n.now → AsksFor o (BoundAnswers rest (InFiles source mesh)) n.now
       go None held e =
           subst
-          (AsksFor None (ProgramAnswers Run (InFiles source mesh)))
+          (AsksFor None (BoundAnswers rest (InFiles source mesh)))
           e (holding, mesh_asked holding (rw ((bytes_eq-Decides source source).1 refl) (refl, fits)))
-      go (Some files) held e = subst (AsksFor (Some files) (ProgramAnswers Run (InFiles source mesh))) e (mesh_asked files held)
+      go (Some files) held e = subst (AsksFor (Some files) (BoundAnswers rest (InFiles source mesh))) e (mesh_asked files held)
   both_answered told rose (Err (Failed OutOfMemory)) held h = tt
 
 -- ---- parts that the code goes along
@@ -170,32 +171,66 @@ module _ (Q : List ℕ → lines.Answer → Type 0) (mesh text : List ℕ) (told
 abbrev RefusedBy : (Refusal → Type 0) → lines.Answer → Type 0
 RefusedBy J a = (r : Refusal) × J r × (a ≡ refused r)
 
-module _ (source mesh bytes : List ℕ) (told : Option Files) (rose : Type 0) (held : IfSome told (λ files. SourceIs (InFiles source mesh) files (Ok bytes))) where
+module _ (rest : BoundValue → lines.Answer → Type 0) (source mesh bytes : List ℕ) (told : Option Files) (rose : Type 0) (held : IfSome told (λ files. SourceIs (InFiles source mesh) files (Ok bytes))) where
   -- what a judgement of the source refuses
   refused_over : (J : Refusal → Type 0) (h : Halt)
-      → ((files : Files) (r : Refusal) → SourceIs (InFiles source mesh) files (Ok bytes) → J r → ProgramAnswers Run (InFiles source mesh) files (refused r))
+      → ((files : Files) (r : Refusal) → SourceIs (InFiles source mesh) files (Ok bytes) → J r → BoundAnswers rest (InFiles source mesh) files (refused r))
       → SpoiltWhere J h
-      → AnswersOver told (source ∷ mesh ∷ []) (ProgramAnswers Run (InFiles source mesh)) rose (Err h)
+      → AnswersOver told (source ∷ mesh ∷ []) (BoundAnswers rest (InFiles source mesh)) rose (Err h)
   refused_over J h step s =
-      lifted told source (mesh ∷ []) (ProgramAnswers Run (InFiles source mesh)) rose (RefusedBy J) (Err h) (λ a. go a told held) (spoilt_answers J (RefusedBy J) h (λ r j. (r, j, refl)) s)
+      lifted told source (mesh ∷ []) (BoundAnswers rest (InFiles source mesh)) rose (RefusedBy J) (Err h) (λ a. go a told held) (spoilt_answers J (RefusedBy J) h (λ r j. (r, j, refl)) s)
     where
       go : (a : lines.Answer) (o : Option Files)
           → IfSome o (λ files. SourceIs (InFiles source mesh) files (Ok bytes))
-          → IfSome o (λ files. RefusedBy J a → ProgramAnswers Run (InFiles source mesh) files a)
+          → IfSome o (λ files. RefusedBy J a → BoundAnswers rest (InFiles source mesh) files a)
       go a None held = tt
-      go a (Some files) held = λ q. subst (ProgramAnswers Run (InFiles source mesh) files) (sym q.2) (step files q.0 held q.1)
+      go a (Some files) held = λ q. subst (BoundAnswers rest (InFiles source mesh) files) (sym q.2) (step files q.0 held q.1)
 
   pub tree_refused_over : (h : Halt)
       → SpoiltWhere (λ r. TreeIs bytes (Err r)) h
-      → AnswersOver told (source ∷ mesh ∷ []) (ProgramAnswers Run (InFiles source mesh)) rose (Err h)
+      → AnswersOver told (source ∷ mesh ∷ []) (BoundAnswers rest (InFiles source mesh)) rose (Err h)
   tree_refused_over h s = refused_over (λ r. TreeIs bytes (Err r)) h (λ files r held j. inr (bytes, held, inl (r, j, refl))) s
 
   pub types_refused_over : (p : ProgramTree) (h : Halt)
       → TreeIs bytes (Ok p)
       → SpoiltWhere (λ r. TypesAre p (Err r)) h
-      → AnswersOver told (source ∷ mesh ∷ []) (ProgramAnswers Run (InFiles source mesh)) rose (Err h)
+      → AnswersOver told (source ∷ mesh ∷ []) (BoundAnswers rest (InFiles source mesh)) rose (Err h)
   types_refused_over p h reads s =
       refused_over (λ r. TypesAre p (Err r)) h (λ files r held j. inr (bytes, held, inr (p, reads, inl (r, j, refl)))) s
+
+-- ---- the mesh, behind the source
+
+module _ (rest : BoundValue → lines.Answer → Type 0) (p : ProgramTree) (types : Resolved) (source mesh bytes : List ℕ) (fits : length bytes ≤ most SourceBytes) (reads : TreeIs bytes (Ok p)) (typed : TypesAre p (Ok types)) (told : Option Files) (rose : Type 0) (held : IfSome told (λ files. SourceIs (InFiles source mesh) files (Ok bytes))) where
+  pub mesh_unread_over : (h : Halt) → UnreadWhere told MeshBytes mesh rose h → AnswersOver told (source ∷ mesh ∷ []) (BoundAnswers rest (InFiles source mesh)) rose (Err h)
+  mesh_unread_over h u =
+      both_answered rest p types source mesh bytes fits reads typed told rose (Err h) held (read_first told MeshBytes mesh [] rose (λ files. TextOver rest p types) h u)
+
+  pub text_refused_over : (text : List ℕ) (h : Halt)
+      → IfSome told (λ files. FileIs mesh files (Ok text))
+      → SpoiltWhere (λ r. TextOver rest p types text (refused r)) h
+      → AnswersOver told (source ∷ mesh ∷ []) (BoundAnswers rest (InFiles source mesh)) rose (Err h)
+  text_refused_over text h there s =
+      both_answered rest p types source mesh bytes fits reads typed told rose (Err h) held
+      (text_answered (TextOver rest p types) mesh text told rose (Err h) there
+      (spoilt_answers (λ r. TextOver rest p types text (refused r)) (TextOver rest p types text) h (λ r j. j) s))
+
+-- what is so of all is so of the first
+pub lent_first : (P : List ℕ → Type 0) (n : List ℕ) (ns : List (List ℕ)) → All P (n ∷ ns) → P n
+lent_first P n ns h = h 0 n (omega arith)
+
+-- and of the others
+pub lent_rest : (P : List ℕ → Type 0) (n : List ℕ) (ns : List (List ℕ)) → All P (n ∷ ns) → All P ns
+lent_rest P n ns h k d lt = h (suc k) d (omega (arith, lt))
+
+-- what is so of a value, where it follows
+pub if_ok_weaker : {X E : Type 0} (r : Result X E) (P Q : X → Type 0) → ((x : X) → P x → Q x) → IfOk r P → IfOk r Q
+if_ok_weaker (Ok x) P Q step h = step x h
+if_ok_weaker (Err e) P Q step h = tt
+
+-- and of a refusal
+pub if_err_weaker : {X E : Type 0} (r : Result X E) (P Q : E → Type 0) → ((e : E) → P e → Q e) → IfErr r P → IfErr r Q
+if_err_weaker (Ok x) P Q step h = tt
+if_err_weaker (Err e) P Q step h = step e h
 
 -- words that ask what the program says of itself
 pub itself_answered : (told : Option Files) (P : lines.Answer → Type 0) (a : lines.Answer) → P a → Over told [] (λ files. P) a
@@ -205,7 +240,7 @@ itself_answered (Some files) P a h = h
 -- ---- the sample
 
 -- what an answer shows, where it follows
-answers_weaker : (P Q : lines.Answer → Type 0) (r : Result Answer Halt) → ((a : lines.Answer) → P a → Q a) → AnswersBy P r → AnswersBy Q r
+pub answers_weaker : (P Q : lines.Answer → Type 0) (r : Result Answer Halt) → ((a : lines.Answer) → P a → Q a) → AnswersBy P r → AnswersBy Q r
 answers_weaker P Q (Ok a) step h = (step (answer_of a) h.0, h.1)
 answers_weaker P Q (Err h) step s =
     stops_weaker (λ r. IsAnswered P (refused r)) (λ r. IsAnswered Q (refused r)) h (λ r j. (step (refused r) j.0, j.1)) s
@@ -251,7 +286,7 @@ over_weaker (Some files) names P Q a step h = step files h
 over_weaker None [] P Q a step h = step no_files h
 over_weaker None (n ∷ ns) P Q a step h = h
 
-asks_weaker : (told : Option Files) (P Q : Files → lines.Answer → Type 0) (name : List ℕ)
+pub asks_weaker : (told : Option Files) (P Q : Files → lines.Answer → Type 0) (name : List ℕ)
     → ((files : Files) (a : lines.Answer) → P files a → Q files a)
     → AsksFor told P name
     → AsksFor told Q name

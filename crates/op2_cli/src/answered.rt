@@ -1,27 +1,34 @@
 // The answer to the words: the judgements in order, up to the first refusal, and then what is asked for.
 
-ghost use Rattle.std.specs.Prelude.{◌≡◌, ◌≤◌, [], ◌∷◌, All, map, length, string_bytes, option_map, IfOk};
+ghost use Rattle.std.specs.Prelude.{◌≡◌, ◌≤◌, [], ◌∷◌, ◌++◌, Ok, All, map, length, string_bytes, option_map, IfOk};
 ghost use Rattle.op_outside.specs.Outside.{Rose};
 ghost use Rattle.c_tree.specs.View.{program_of};
 ghost use Rattle.mesh_text.specs.declared.entry.TheConstants.{MESH_BYTES};
 ghost use Rattle.sequential_run.specs.Outcomes.{stop_of};
 ghost use Rattle.answers.specs.Refusal.{status_of};
 ghost use Rattle.answers.specs.Lines as lines;
-ghost use Rattle.answers.specs.Words.{Run, InFiles, OfSample, names_of, named_by};
-ghost use Rattle.answers.specs.Answers.{ran, ProgramAnswers, ConvertAnswers, CommandAnswers, Answers};
+ghost use Rattle.bound_program.specs.Values.{bound_of};
+ghost use Rattle.bound_program.specs.Fits.{Fits};
+ghost use Rattle.answers.specs.Words.{Run, InFiles, OfSample, names_by, names_of, named_by};
+ghost use Rattle.answers.specs.Laws.{AreWithin};
+ghost use Rattle.answers.specs.Judgements.{AccessesAre};
+ghost use Rattle.answers.specs.Answers.{ran, JobAnswers, ProgramAnswers, PlanAnswers, ConvertAnswers, CommandAnswers, Answers};
 ghost use Rattle.answers.specs.Endings.{no_files};
-ghost use Rattle.op2_cli.specs.Halts.{refusal_of, command_of, IsJudged};
-ghost use Rattle.op2_cli.specs.Chains.{answer_of, TextAnswers, MeshAnswers, RewriteAnswers, AnswersBy, AnswersOver};
+ghost use Rattle.op2_cli.specs.Halts.{refusal_of, command_of, options_in, job_in, IsInRange, IsJudged};
+ghost use Rattle.op2_cli.specs.Chains.{answer_of, TextAnswers, RewriteAnswers, AnswersBy, AnswersOver};
 ghost use Rattle.op2_cli.specs.Writes.{CallAnswers};
 
-use crate::accesses::judge_accesses;
 use crate::files::file_of;
 use crate::lines::{put_fault, put_refusal};
-use crate::meshes::{bound_of, entries_of};
+use crate::meshes::entries_of;
+use crate::options::Options;
+use crate::plans::planned;
+use crate::programs::{bound_files, bound_over};
 use crate::refusals::{Failure, Halt, Limit, Refusal};
 use crate::sources::{tree_of, types_of};
-use crate::words::{Asked, read_words};
-use answers::{USAGE, VERSION};
+use crate::words::{Asked, PlanJob, read_words};
+use answers::{USAGE, VERSION, options_are_within};
+use bound_program::Bound;
 use c_tree::Program;
 use kernel_types::Resolved;
 use mesh_gen::sample;
@@ -64,6 +71,8 @@ fn status_of(refusal: &Refusal<'_>) -> u8
         Refusal::BadTarget { .. } => 5,
         Refusal::BadAccess { .. } => 5,
         Refusal::BadMesh { .. } => 6,
+        Refusal::BadPart(_) => 7,
+        Refusal::BadPartition { .. } => 7,
         Refusal::BeyondLimit { .. } => 10,
     }
 }
@@ -95,6 +104,16 @@ fn ran(alloc: Global, outcome: Outcome) -> Result<Answer, OutOfMemory>
     })
 }
 
+// The answer of the run of a bound program.
+fn run_of<'a>(alloc: Global, bound: &Bound) -> Result<Answer, Halt<'a>>
+    requires fits { Fits (bound_of bound.now) }
+    requires obeyed { AccessesAre (bound_of bound.now) (Ok tt) }
+    ensures { AnswersBy (JobAnswers Run (bound_of bound.now)) result }
+{
+    let outcome = run(alloc, bound)?;
+    Ok(ran(alloc, outcome)?)
+}
+
 // The answer of a program over the text of a mesh.
 fn over_text<'a>(
     alloc: Global,
@@ -106,28 +125,8 @@ fn over_text<'a>(
     requires text { length text.now ≤ MESH_BYTES }
     ensures { AnswersBy (TextAnswers (program_of program.now) types text.now) result }
 {
-    let entries = entries_of(alloc, text)?;
-    let bound = bound_of(alloc, program, types, &entries)?;
-    judge_accesses(alloc, &bound)?;
-    let outcome = run(alloc, &bound)?;
-    Ok(ran(alloc, outcome)?)
-}
-
-// The answer of a program over the mesh in a file.
-fn over_mesh<'a, F: Shelf>(
-    alloc: Global,
-    shelf: &mut F,
-    program: &Program,
-    types: Resolved,
-    mesh: &'a str,
-) -> Result<Answer, Halt<'a>>
-    requires judged { IsJudged (program_of program.now) types }
-    requires lent { F.lends shelf.old mesh.now }
-    ensures { AnswersOver (F.told shelf.old) (mesh.now ∷ []) (MeshAnswers (program_of program.now) types mesh.now)
-        (Rose (F.faults shelf.old) (F.faults shelf.new)) result }
-{
-    let text = file_of(alloc, shelf, mesh, Limit::MeshBytes)?;
-    over_text(alloc, program, types, &text)
+    let bound = bound_over(alloc, program, types, text)?;
+    run_of(alloc, &bound)
 }
 
 // The answer of the program in a file over the mesh in a file.
@@ -142,10 +141,29 @@ fn over_files<'a, F: Shelf>(
     ensures { AnswersOver (F.told shelf.old) (source.now ∷ mesh.now ∷ []) (ProgramAnswers Run (InFiles source.now mesh.now))
         (Rose (F.faults shelf.old) (F.faults shelf.new)) result }
 {
-    let bytes = file_of(alloc, shelf, source, Limit::SourceBytes)?;
-    let program = tree_of(alloc, &bytes)?;
-    let types = types_of(alloc, &program)?;
-    over_mesh(alloc, shelf, &program, types, mesh)
+    let bound = bound_files(alloc, shelf, source, mesh)?;
+    run_of(alloc, &bound)
+}
+
+// The answer of a job on the plan of the program in a file over the mesh in a file.
+fn plan_of_files<'a, F: Shelf>(
+    alloc: Global,
+    shelf: &mut F,
+    job: PlanJob,
+    options: &Options<'a>,
+    source: &'a str,
+    mesh: &'a str,
+) -> Result<Answer, Halt<'a>>
+    requires source { F.lends shelf.old source.now }
+    requires mesh { F.lends shelf.old mesh.now }
+    requires parting { All (λ name. F.lends shelf.old name) (names_by (options_in options.now).parting) }
+    requires within { AreWithin (options_in options.now) }
+    ensures { AnswersOver (F.told shelf.old) (source.now ∷ mesh.now ∷ names_by (options_in options.now).parting)
+        (PlanAnswers (job_in job) (options_in options.now) source.now mesh.now)
+        (Rose (F.faults shelf.old) (F.faults shelf.new)) result }
+{
+    let bound = bound_files(alloc, shelf, source, mesh)?;
+    planned(alloc, shelf, job, options, &bound)
 }
 
 // The answer of the sample on a grid of this many cells a side.
@@ -190,13 +208,20 @@ fn to_asked<'a, F: Shelf>(
     shelf: &mut F,
     asked: Asked<'a>,
 ) -> Result<Answer, Halt<'a>>
-    requires { All (λ name. F.lends shelf.old name) (names_of (command_of asked)) }
+    requires lent { All (λ name. F.lends shelf.old name) (names_of (command_of asked)) }
+    requires within { IsInRange asked }
     ensures { AnswersOver (F.told shelf.old) (names_of (command_of asked.entry)) (CommandAnswers (command_of asked.entry))
         (Rose (F.faults shelf.old) (F.faults shelf.new)) result }
 {
     match asked {
         Asked::Run { source, mesh } => over_files(alloc, shelf, source, mesh),
         Asked::Sample { side } => over_sample(alloc, side),
+        Asked::Plan {
+            job,
+            options,
+            source,
+            mesh,
+        } => plan_of_files(alloc, shelf, job, &options, source, mesh),
         Asked::Convert { form, mesh } => converted(alloc, shelf, form, mesh),
         Asked::Usage => Ok(done(alloc, USAGE)?),
         Asked::Version => Ok(done(alloc, VERSION)?),
@@ -213,6 +238,7 @@ fn to_words<'a, F: Shelf>(
     ensures { AnswersOver (F.told shelf.old) (named_by (map string_bytes words.now.items)) (Answers (map string_bytes words.now.items))
         (Rose (F.faults shelf.old) (F.faults shelf.new)) result }
 {
+    options_are_within();
     let asked = read_words(alloc, words)?;
     to_asked(alloc, shelf, asked)
 }

@@ -5,11 +5,12 @@ ghost use Rattle.answers.specs.Lines.{most, limit_name};
 ghost use Rattle.op2_cli.specs.Halts.{limit_of};
 
 use crate::refusals::Limit;
-use answers::SOURCE_BYTES;
+use answers::{PARTITION_BYTES, SOURCE_BYTES};
 use bound_program::{
     MAX_ARGUMENTS, MAX_CELLS, MAX_DATS, MAX_DIM, MAX_MAPS, MAX_SETS, MAX_SIZE, MAX_TRACE,
     MAX_WEIGHT,
 };
+use loop_plan::MAX_STEPS;
 use mesh_decl::{MESH_BYTES, MESH_VALUES};
 
 /// The greatest size that the limit allows.
@@ -29,6 +30,8 @@ pub fn most(limit: Limit) -> u64
         Limit::Arguments => MAX_ARGUMENTS,
         Limit::Trace => MAX_TRACE,
         Limit::PrintWeight => MAX_WEIGHT,
+        Limit::PartitionBytes => PARTITION_BYTES,
+        Limit::Steps => MAX_STEPS,
     }
 }
 
@@ -49,5 +52,7 @@ pub fn limit_name(limit: Limit) -> &'static [u8]
         Limit::Arguments => b"arguments",
         Limit::Trace => b"trace",
         Limit::PrintWeight => b"print-weight",
+        Limit::PartitionBytes => b"partition-bytes",
+        Limit::Steps => b"steps",
     }
 }

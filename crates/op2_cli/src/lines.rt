@@ -103,6 +103,11 @@ fn put_said(out: &mut Vec<u8>, refusal: &Refusal<'_>) -> Result<(), OutOfMemory>
             put_counted(out, b"mesh", *number as u64)?;
             put_counted(out, b" line", *line as u64)
         }
+        Refusal::BadPart(name) => put_named(out, b"partition name ", *name),
+        Refusal::BadPartition { number, line } => {
+            put_counted(out, b"partition", *number as u64)?;
+            put_counted(out, b" line", *line as u64)
+        }
         Refusal::BeyondLimit { limit, size } => {
             out.extend_from_slice(b"limit ")?;
             put_counted(out, limit_name(*limit), most(*limit))?;

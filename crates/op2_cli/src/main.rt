@@ -7,6 +7,11 @@ mod files;
 mod limits;
 mod lines;
 mod meshes;
+mod options;
+#[cfg(test)]
+mod plan_tests;
+mod plans;
+mod programs;
 #[cfg(test)]
 mod refusal_tests;
 mod refusals;

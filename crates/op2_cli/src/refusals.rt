@@ -19,6 +19,8 @@ pub enum Limit {
     Arguments,
     Trace,
     PrintWeight,
+    PartitionBytes,
+    Steps,
 }
 
 /// A refusal: one variant for each line that the program writes about its words and its files.
@@ -65,6 +67,13 @@ pub enum Refusal<'a> {
     },
     /// The mesh text spells no entries.
     BadMesh {
+        number: u8,
+        line: u32,
+    },
+    /// No dat or no map has the name that owners or new numbers are asked for by.
+    BadPart(&'a [u8]),
+    /// The text of a partition spells no owners of the mesh.
+    BadPartition {
         number: u8,
         line: u32,
     },

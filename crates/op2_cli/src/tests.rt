@@ -52,21 +52,18 @@ fn listed(alloc: Global, number: Option<u64>) -> Result<Vec<u64>, AllocError> {
     }
 }
 
-/// A call with these words behind the program's name, where `s.c` holds the source and `m.mesh` the mesh.
-pub fn called<R: Threads + Sync>(
+/// A call with these words behind the program's name, over files with these names and bytes.
+pub fn held<R: Threads + Sync>(
     rt: &R,
     alloc: Global,
     words: &[&str],
-    source: &[u8],
-    mesh: &str,
+    files: &[(&str, &[u8])],
     failing: Failing,
 ) -> Result<Ended, AllocError> {
     let mut shelf = MemoryShelf::new(alloc, listed(alloc, failing.reads)?);
-    shelf.hold(String::from_str(alloc, "s.c")?, source.to_vec(alloc)?)?;
-    shelf.hold(
-        String::from_str(alloc, "m.mesh")?,
-        mesh.as_bytes().to_vec(alloc)?,
-    )?;
+    for (name, bytes) in files {
+        shelf.hold(String::from_str(alloc, name)?, bytes.to_vec(alloc)?)?;
+    }
     let mut list = Vec::new(alloc);
     list.push(String::from_str(alloc, "op2")?)?;
     for word in words {
@@ -76,6 +73,19 @@ pub fn called<R: Threads + Sync>(
     let mut err = MemorySink::new(alloc, 1000, Vec::new(alloc))?;
     let status = op2(rt, alloc, &list, &mut shelf, &mut out, &mut err);
     Ok(Ended { status, out, err })
+}
+
+/// A call with these words behind the program's name, where `s.c` holds the source and `m.mesh` the mesh.
+pub fn called<R: Threads + Sync>(
+    rt: &R,
+    alloc: Global,
+    words: &[&str],
+    source: &[u8],
+    mesh: &str,
+    failing: Failing,
+) -> Result<Ended, AllocError> {
+    let files = [("s.c", source), ("m.mesh", mesh.as_bytes())];
+    held(rt, alloc, words, &files, failing)
 }
 
 /// A run of the source over the mesh.
@@ -106,7 +116,7 @@ fn words_have_their_answers(rt: HostRuntime) -> Result<(), Fail> {
         &[],
         &["run"],
         &["run", "s.c"],
-        &["check", "s.c", "m.mesh"],
+        &["walk", "s.c", "m.mesh"],
         &["run", "-s.c", "m.mesh"],
         &["run", "s.c", "--m"],
         &["run", "s.c", "m.mesh", "x"],

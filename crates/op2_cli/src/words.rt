@@ -8,29 +8,54 @@ ghost use Rattle.clap.specs.Simple.{app_of, matches_of, with_rule};
 ghost use Rattle.clap.specs.Values.{kind_of};
 ghost use Rattle.clap.specs.Walk.{Row, rows_of};
 ghost use Rattle.clap.specs.declared.error.kind.ErrorKind.TheVariants as kind;
-ghost use Rattle.answers.specs.Words.{command, positional, option, asked, judged, by_job, runs, samples, converts, form_of, number_to, WordsAre};
+ghost use Rattle.answers.specs.Words.{command, positional, option, asked, judged, by_job, runs, samples, converts, plans, form_of, WordsAre};
+ghost use Rattle.op2_cli.specs.Halts.{options_found};
 ghost use Rattle.op2_cli.specs.declared.refusals.Failure.TheVariants.{OutOfMemory};
 ghost use Rattle.op2_cli.specs.declared.refusals.Halt.TheVariants.{Failed};
-ghost use Rattle.op2_cli.specs.Halts.{StopsWhere, AsksBy, command_of};
+ghost use Rattle.op2_cli.specs.Halts.{StopsWhere, AsksBy, command_of, job_in, option_words_of};
 
+use crate::options::{OptionWords, Options, is_plain, number_to, options_of, plans_nothing};
 use crate::refusals::{Failure, Halt, Refusal};
 use answers::{VERSION, one_fault};
 use clap::error::ErrorKind;
 use clap::{Arg, ArgMatches, Command, Error};
 use mesh_gen::MAX_SIDE;
 use mesh_text::Form;
-use op_num::read_u64;
 use std::alloc::{AllocError, Global};
 
-/// What the words ask for.
+/// What is done with a plan.
 #[derive(Clone, Copy, PartialEq, Eq, Debug)]
+pub enum PlanJob {
+    /// Its sizes are told.
+    Check,
+    /// Its text is written.
+    ShowsPlan,
+}
+
+/// What the words ask for.
+#[derive(Clone, Copy, Debug)]
 pub enum Asked<'a> {
     /// To run the program in the file `source` over the mesh in the file `mesh`.
-    Run { source: &'a str, mesh: &'a str },
+    Run {
+        source: &'a str,
+        mesh: &'a str,
+    },
     /// To run the sample on a grid of `side` times `side` cells.
-    Sample { side: u32 },
+    Sample {
+        side: u32,
+    },
+    /// To plan the program in the file `source` over the mesh in the file `mesh`, with these options.
+    Plan {
+        job: PlanJob,
+        options: Options<'a>,
+        source: &'a str,
+        mesh: &'a str,
+    },
     /// To write the mesh text in the file `mesh` again, in this version of the format.
-    Convert { form: Form, mesh: &'a str },
+    Convert {
+        form: Form,
+        mesh: &'a str,
+    },
     /// What the program says of its use.
     Usage,
     /// The version of the program.
@@ -60,7 +85,7 @@ fn with_option<'a>(
     command.arg(Arg::new(alloc, id).long(id))
 }
 
-// The command as `clap` has it: `op2 JOB INPUT [MESH] [--form FORM]`, with `--help` and `--version`.
+// The command as `clap` has it: `op2 JOB INPUT [MESH]` with six options of one value, `--help` and `--version`.
 fn command<'a>(alloc: Global) -> Result<Command<'a>, AllocError>
     ensures { IfOk result (λ c. app_of c ≡ command) }
 {
@@ -68,7 +93,12 @@ fn command<'a>(alloc: Global) -> Result<Command<'a>, AllocError>
     let command = with_positional(alloc, command, "JOB", true)?;
     let command = with_positional(alloc, command, "INPUT", true)?;
     let command = with_positional(alloc, command, "MESH", false)?;
-    with_option(alloc, command, "form")
+    let command = with_option(alloc, command, "form")?;
+    let command = with_option(alloc, command, "ranks")?;
+    let command = with_option(alloc, command, "parts")?;
+    let command = with_option(alloc, command, "partition")?;
+    let command = with_option(alloc, command, "renumber")?;
+    with_option(alloc, command, "block")
 }
 
 // What `clap` matches of the words, the program's name first, or its refusal.
@@ -92,16 +122,30 @@ pub fn read_words<'a>(alloc: Global, words: &'a Vec<String>) -> Result<Asked<'a>
     }
 }
 
+// The values of the options, as `clap` has matched them.
+fn option_words<'a>(matches: &ArgMatches<'a>) -> OptionWords<'a>
+    ensures { option_words_of result ≡ options_found (found_of matches.now) }
+{
+    OptionWords {
+        form: matches.get_str("form"),
+        ranks: matches.get_str("ranks"),
+        parts: matches.get_str("parts"),
+        partition: matches.get_str("partition"),
+        renumber: matches.get_str("renumber"),
+        block: matches.get_str("block"),
+    }
+}
+
 // What words are asked for that `clap` has matched.
 fn job_of<'a>(matches: &ArgMatches<'a>) -> Result<Asked<'a>, Halt<'a>>
     ensures { AsksBy result (asked (first_value (found_of matches.now) (codes "JOB"))
         (first_value (found_of matches.now) (codes "INPUT")) (first_value (found_of matches.now) (codes "MESH"))
-        (first_value (found_of matches.now) (codes "form"))) }
+        (options_found (found_of matches.now))) }
 {
     let (Some(job), Some(input)) = (matches.get_str("JOB"), matches.get_str("INPUT")) else {
         return Err(Halt::Refused(Refusal::Usage));
     };
-    match by_job(job, input, matches.get_str("MESH"), matches.get_str("form")) {
+    match by_job(job, input, matches.get_str("MESH"), &option_words(matches)) {
         Some(asked) => Ok(asked),
         None => Err(Halt::Refused(Refusal::Usage)),
     }
@@ -112,60 +156,97 @@ fn by_job<'a>(
     job: &str,
     input: &'a str,
     mesh: Option<&'a str>,
-    form: Option<&str>,
+    options: &OptionWords<'a>,
 ) -> Option<Asked<'a>>
     ensures { option_map command_of result
-        ≡ by_job job.now input.now (option_map (λ s. s.now) mesh.entry) (option_map (λ s. s.now) form.entry) }
+        ≡ by_job job.now input.now (option_map (λ s. s.now) mesh.entry) (option_words_of options.now) }
 {
     if job == "run" {
-        runs(input, mesh, form)
+        runs(input, mesh, options)
     } else if job == "sample" {
-        samples(input, mesh, form)
+        samples(input, mesh, options)
     } else if job == "convert" {
-        converts(input, mesh, form)
+        converts(input, mesh, options)
+    } else if job == "check" {
+        plans(PlanJob::Check, input, mesh, options)
+    } else if job == "plan" {
+        plans(PlanJob::ShowsPlan, input, mesh, options)
     } else {
         None
     }
 }
 
 // `run SOURCE MESH`.
-fn runs<'a>(input: &'a str, mesh: Option<&'a str>, form: Option<&str>) -> Option<Asked<'a>>
+fn runs<'a>(input: &'a str, mesh: Option<&'a str>, options: &OptionWords<'a>) -> Option<Asked<'a>>
     ensures { option_map command_of result
-        ≡ runs input.now (option_map (λ s. s.now) mesh.entry) (option_map (λ s. s.now) form.entry) }
+        ≡ runs input.now (option_map (λ s. s.now) mesh.entry) (option_words_of options.now) }
 {
-    match (mesh, form) {
-        (Some(mesh), None) => Some(Asked::Run {
+    let mesh = mesh?;
+    if is_plain(options) {
+        Some(Asked::Run {
             source: input,
             mesh,
-        }),
-        _ => None,
+        })
+    } else {
+        None
     }
 }
 
 // `sample SIDE`.
-fn samples<'a>(input: &str, mesh: Option<&str>, form: Option<&str>) -> Option<Asked<'a>>
+fn samples<'a>(input: &str, mesh: Option<&str>, options: &OptionWords<'a>) -> Option<Asked<'a>>
     ensures { option_map command_of result
-        ≡ samples input.now (option_map (λ s. s.now) mesh.entry) (option_map (λ s. s.now) form.entry) }
+        ≡ samples input.now (option_map (λ s. s.now) mesh.entry) (option_words_of options.now) }
 {
-    match (mesh, form) {
-        (None, None) => Some(Asked::Sample {
+    if mesh.is_some() {
+        return None;
+    }
+    if is_plain(options) {
+        Some(Asked::Sample {
             side: number_to(MAX_SIDE, input)?,
-        }),
-        _ => None,
+        })
+    } else {
+        None
     }
 }
 
 // `convert MESH`, with `--form`.
-fn converts<'a>(input: &'a str, mesh: Option<&str>, form: Option<&str>) -> Option<Asked<'a>>
+fn converts<'a>(input: &'a str, mesh: Option<&str>, options: &OptionWords<'a>) -> Option<Asked<'a>>
     ensures { option_map command_of result
-        ≡ converts input.now (option_map (λ s. s.now) mesh.entry) (option_map (λ s. s.now) form.entry) }
+        ≡ converts input.now (option_map (λ s. s.now) mesh.entry) (option_words_of options.now) }
 {
-    match mesh {
-        Some(_) => None,
-        None => Some(Asked::Convert {
-            form: form_of(form)?,
+    if mesh.is_some() {
+        return None;
+    }
+    if plans_nothing(options) {
+        Some(Asked::Convert {
+            form: form_of(options.form)?,
             mesh: input,
-        }),
+        })
+    } else {
+        None
+    }
+}
+
+// `check SOURCE MESH` and `plan SOURCE MESH`, with a plan's options.
+fn plans<'a>(
+    job: PlanJob,
+    input: &'a str,
+    mesh: Option<&'a str>,
+    options: &OptionWords<'a>,
+) -> Option<Asked<'a>>
+    ensures { option_map command_of result
+        ≡ plans (job_in job) input.now (option_map (λ s. s.now) mesh.entry) (option_words_of options.now) }
+{
+    let mesh = mesh?;
+    if options.form.is_some() {
+        None
+    } else {
+        Some(Asked::Plan {
+            job,
+            options: options_of(options)?,
+            source: input,
+            mesh,
+        })
     }
 }
 
@@ -179,20 +260,6 @@ fn form_of(word: Option<&str>) -> Option<Form>
     match number_to(2, word)? {
         1 => Some(Form::One),
         _ => Some(Form::Two),
-    }
-}
-
-// A number from 1 to the most, in decimal digits.
-fn number_to(most: u32, word: &str) -> Option<u32>
-    ensures { result ≡ number_to most word.now }
-{
-    let Ok(number) = read_u64(word.as_bytes()) else {
-        return None;
-    };
-    if number > 0 && number <= u64::from(most) {
-        Some(number as u32)
-    } else {
-        None
     }
 }
 

@@ -1,22 +1,24 @@
-use Rattle.std.proofs.Common.{[], ◌∷◌, rules}
+use Rattle.std.proofs.Common.{[]}
 use Rattle.std.proofs.lemmas.Result.{err_from_is_err_and}
 use Rattle.op_outside.specs.Outside.{Rose}
-use Rattle.c_tree.specs.View.{program_of}
-use Rattle.answers.specs.Refusal.{SourceBytes}
-use Rattle.op2_cli.proofs.Chained.{read_first, types_refused_over, both_answered}
+use Rattle.bound_program.specs.Values.{bound_of}
+use Rattle.answers.specs.Words.{Run}
+use Rattle.answers.specs.Answers.{JobAnswers}
+use Rattle.op2_cli.proofs.BoundFiles.{bound_obeys, halted_over, files_answered}
+use Rattle.op2_cli.proofs.Ran.{run_with}
 use Rattle.op2_cli.proofs.answered.over_files.Goals as goal
 
-pub returns-in_err-bytes : goal.returns-in_err-bytes
-returns-in_err-bytes g c =
+pub returns-in_err-bound : goal.returns-in_err-bound
+returns-in_err-bound g c =
     let p = err_from_is_err_and c.from_residual.result c.from_residual.ensures.1 in
-    rw (p.1, p.2) (read_first (g.F.Shelf.told c.args.shelf.now) SourceBytes c.args.source.now (c.args.mesh.now ∷ []) (Rose (g.F.Shelf.faults c.args.shelf.now) (g.F.Shelf.faults c.file_of.new.shelf)) _ c.in_err-bytes.field-0.0 c.in_err-bytes.ensures.err)
+    rw (p.1, p.2) (halted_over (λ files. JobAnswers Run) (g.F.Shelf.told c.args.shelf.now) c.args.source.now c.args.mesh.now [] (Rose (g.F.Shelf.faults c.args.shelf.now) (g.F.Shelf.faults c.bound_files.new.shelf)) c.in_err-bound.field-0.0 c.in_err-bound.ensures.err)
 
-pub returns-in_err-types : goal.returns-in_err-types
-returns-in_err-types g c =
-    let p = err_from_is_err_and c.from_residual-in_err-types.result c.from_residual-in_err-types.ensures.1 in
-    rw (p.1, p.2) (types_refused_over c.args.source.now c.args.mesh.now c.deref.result.now (g.F.Shelf.told c.args.shelf.now) (Rose (g.F.Shelf.faults c.args.shelf.now) (g.F.Shelf.faults c.file_of.new.shelf)) (rw c.deref.ensures.value c.in_ok-bytes.ensures.read) (program_of c.in_ok-program.program) c.in_err-types.field-0.0 c.in_ok-program.ensures.ok c.in_err-types.ensures.err)
+pub run_of-requires-clause-obeyed : goal.run_of-requires-clause-obeyed
+run_of-requires-clause-obeyed g c =
+    bound_obeys (g.F.Shelf.told c.args.shelf.now) c.args.source.now c.args.mesh.now (bound_of c.in_ok-bound.bound) c.in_ok-bound.ensures.ok
 
 pub returns : goal.returns
 returns g c =
-    let over = rw c.in_ok-bytes.ensures.calm at (rw c.in_ok-bytes.ensures.told at c.over_mesh.ensures) in
-    both_answered (program_of c.in_ok-program.program) c.in_ok-types.types c.args.source.now c.args.mesh.now c.deref.result.now (search rules) c.in_ok-program.ensures.ok c.in_ok-types.ensures.ok (g.F.Shelf.told c.args.shelf.now) (Rose (g.F.Shelf.faults c.args.shelf.now) (g.F.Shelf.faults c.over_mesh.new.shelf)) c.over_mesh.result (rw c.deref.ensures.value c.in_ok-bytes.ensures.read) over
+    let rose = Rose (g.F.Shelf.faults c.args.shelf.now) (g.F.Shelf.faults c.bound_files.new.shelf) in
+    files_answered (λ files. JobAnswers Run) c.args.source.now c.args.mesh.now (bound_of c.in_ok-bound.bound) (g.F.Shelf.told c.args.shelf.now) [] rose c.run_of.result c.in_ok-bound.ensures.ok
+    (run_with (g.F.Shelf.told c.args.shelf.now) (bound_of c.in_ok-bound.bound) rose c.run_of.result c.run_of.ensures)

@@ -1,18 +1,16 @@
 use Rattle.std.proofs.lemmas.Result.{err_from_is_err_and}
 use Rattle.c_tree.specs.View.{program_of}
-use Rattle.bound_program.specs.Values.{bound_of, no_site}
-use Rattle.op2_cli.specs.Chains.{answer_of}
-use Rattle.op2_cli.proofs.Ran.{accesses_refused, run_answered}
+use Rattle.bound_program.specs.Values.{bound_of}
+use Rattle.answers.specs.Words.{Run}
+use Rattle.answers.specs.Answers.{JobAnswers}
+use Rattle.op2_cli.proofs.Ran.{text_refused, text_reached}
 use Rattle.op2_cli.proofs.answered.over_text.Goals as goal
 
-pub returns-in_err-judge_accesses : goal.returns-in_err-judge_accesses
-returns-in_err-judge_accesses c =
-    let p = err_from_is_err_and c.from_residual-in_err-judge_accesses.result c.from_residual-in_err-judge_accesses.ensures.1 in
-    rw (p.1, p.2) (accesses_refused (program_of c.args.program.now) c.args.types c.args.text.now c.in_ok-entries.entries.entries (bound_of c.in_ok-bound.bound) c.in_ok-entries.ensures.ok c.in_ok-bound.ensures.ok c.in_err-judge_accesses.field-0.0 c.in_err-judge_accesses.ensures.err)
-
-pub run-requires-clause-obey : goal.run-requires-clause-obey
-run-requires-clause-obey c = λ n f lt at. c.in_ok-judge_accesses.ensures.ok n no_site lt f at
+pub returns-in_err-bound : goal.returns-in_err-bound
+returns-in_err-bound c =
+    let p = err_from_is_err_and c.from_residual.result c.from_residual.ensures.1 in
+    rw (p.1, p.2) (text_refused (JobAnswers Run) (program_of c.args.program.now) c.args.types c.args.text.now c.in_err-bound.field-0.0 c.in_err-bound.ensures.err)
 
 pub returns : goal.returns
 returns c =
-    run_answered (program_of c.args.program.now) c.args.types c.args.text.now c.in_ok-entries.entries.entries (bound_of c.in_ok-bound.bound) c.in_ok-entries.ensures.ok c.in_ok-bound.ensures.ok c.in_ok-outcome.outcome (answer_of c.in_ok-ran.field-0) c.in_ok-judge_accesses.ensures.ok c.in_ok-outcome.ensures c.in_ok-ran.ensures
+    text_reached (program_of c.args.program.now) c.args.types c.args.text.now (JobAnswers Run) (bound_of c.in_ok-bound.bound) c.run_of.result c.in_ok-bound.ensures.ok c.run_of.ensures

@@ -1,0 +1,162 @@
+-- What is answered of a plan is one, whatever the addresses of kernels, owners and new numbers.
+use Rattle.std.proofs.Common.{◌≡◌, ◌<◌, ℕ, List, map, Option, Some, None, Result, Ok, Err, refl, sym, ap, ◌∙◌, subst, arith}
+use Rattle.kernel_types.specs.declared.kernels.RKernel.{RKernel}
+use Rattle.mesh_decl.specs.declared.owners.Owners.{Owners}
+use Rattle.mesh_decl.specs.declared.owners.Perms.{Perms}
+use Rattle.mesh_decl.specs.Mesh.{MeshValue}
+use Rattle.mesh_decl.specs.Owners.{ArePerms}
+use Rattle.local_mesh.specs.declared.types.RankMesh.{RankMesh}
+use Rattle.local_mesh.specs.Values.{rank_mesh_value}
+use Rattle.distribute.specs.Parts.{Parts, Text, NumbersRefusal, OwnersRefusal}
+use Rattle.distribute.specs.Judgements.{NumbersAre, OwnersAre}
+use Rattle.distribute.specs.Distributions.{IsDistribution, DistributionValue, distribution_value}
+use Rattle.distribute.specs.declared.types.Distribution.{Distribution}
+use Rattle.distribute.specs.Laws.{SamePerms, SameOwners, SameOutcome, NumbersAreOne, OwnersAreOne, DistributionsAreOne}
+use Rattle.bound_program.specs.Values.{BoundValue}
+use Rattle.bound_program.specs.Fits.{Fits}
+use Rattle.loop_plan.specs.Values.{PlanValue}
+use Rattle.loop_plan.specs.Needs.{item_at}
+use Rattle.loop_plan.specs.Proper.{Proper, HasLeastColours}
+use Rattle.loop_plan.specs.PlanText.{plan_text}
+use Rattle.loop_plan.specs.StepCounts.{program_steps}
+use Rattle.loop_plan.specs.OnePlan.{PlanTextsAreOne, StepCountsAreOne}
+use Rattle.op_outside.specs.Outside.{Files}
+use Rattle.answers.specs.Refusal.{Refusal, PartitionBytes, BeyondLimit, Steps}
+use Rattle.answers.specs.Lines.{Answer, done, refused}
+use Rattle.answers.specs.Said.{SaysNumbers, SaysOwners}
+use Rattle.answers.specs.Words.{PlanJob, Check, ShowsPlan, Parting, ByRule, ByFile, Options}
+use Rattle.answers.specs.Judgements.{NumbersOf, PartsOf, OwnersOf, Planned, IsPlanned, HasManySteps, PlanIs}
+use Rattle.answers.specs.Answers.{given, planned_text, PlannedAnswers}
+use Rattle.answers.proofs.Given.{given_both, given_alike}
+use Rattle.answers.proofs.IsOne.{IsOne, held_is_one, told_is_one}
+use Rattle.answers.proofs.SaidOnce.{numbers_once, owners_once}
+use Rattle.answers.proofs.SameKernels.{with_kernels}
+use Rattle.answers.proofs.SameBound.{IsSame}
+
+-- ---- plans know nothing of kernels
+
+module _ (b : BoundValue) (ks : List RKernel) (meshes : List RankMesh) where
+  same_steps : program_steps (with_kernels b ks) meshes ≡ program_steps b meshes
+  unfolding item_at
+  same_steps = refl
+
+  is_proper : (p : PlanValue) → Proper (with_kernels b ks) meshes p → Proper b meshes p
+  unfolding item_at
+  is_proper p h = record {
+    ranks = h.ranks;
+    block = h.block;
+    steps = h.steps;
+    items = h.items;
+    exchanges = record { history = h.exchanges.history; in_order = h.exchanges.in_order };
+    pairs = h.pairs;
+    sites = h.sites;
+    loops = λ s l r. let k = h.loops s l r in record { places_count = k.places_count; places = k.places; colours_count = k.colours_count; colours = k.colours };
+  }
+
+  has_least : (p : PlanValue) → HasLeastColours (with_kernels b ks) meshes p → HasLeastColours b meshes p
+  has_least p h = h
+
+-- ---- parts
+
+parts_are_one : (p : Parting) (files : Files) → IsOne (PartsOf p files)
+parts_are_one (ByRule rule) files = record { refusals = (told_is_one rule).refusals; apart = (told_is_one rule).apart; values = (told_is_one rule).values }
+parts_are_one (ByFile name) files =
+    let held = held_is_one PartitionBytes name (files name) in
+    record {
+      refusals = held.refusals;
+      apart = λ r x h k. held.apart r k.0 h k.1;
+      values = λ x y h k. h.2 ∙ ap Text (held.values h.0 k.0 h.1 k.1) ∙ sym k.2;
+    }
+
+are_perms : (g : MeshValue) (name : Option (List ℕ)) (p : Perms) → NumbersAre g name (Ok p) → ArePerms g p
+are_perms g None p h = h.perms
+are_perms g (Some name) p h = h.2.perms
+
+same_ranks : (d e : Distribution) → distribution_value d ≡ distribution_value e → map rank_mesh_value d.ranks.items ≡ map rank_mesh_value e.ranks.items
+unfolding distribution_value
+same_ranks d e h = ap (λ (v : DistributionValue). v.ranks) h
+
+module _ (one_numbers : NumbersAreOne) (one_owners : OwnersAreOne) (one_distribution : DistributionsAreOne) (one_plan_text : PlanTextsAreOne) (one_step_count : StepCountsAreOne) where
+  module _ (j : PlanJob) (o : Options) (files : Files) (some : 0 < o.ranks) (b : BoundValue) (ks : List RKernel) (fits : Fits b) where
+    abbrev c : BoundValue
+    c = with_kernels b ks
+
+    -- ---- the plan
+
+    module _ (u v : Owners) (n m : Perms) (owned : SameOwners u v) (numbered : SamePerms n m) (perms : ArePerms b.mesh n) where
+      ranks_alike : (d e : Distribution) → IsDistribution b.mesh u n d → IsDistribution b.mesh v m e → map rank_mesh_value d.ranks.items ≡ map rank_mesh_value e.ranks.items
+      ranks_alike d e h k = same_ranks d e (one_distribution b.mesh u v n m d e fits.mesh perms owned numbered h k)
+
+      step_counts : (d e : Distribution) → IsDistribution b.mesh u n d → IsDistribution b.mesh v m e → program_steps b d.ranks.items ≡ program_steps c e.ranks.items
+      step_counts d e h k = one_step_count b d.ranks.items e.ranks.items (ranks_alike d e h k) ∙ sym (same_steps b ks e.ranks.items)
+
+      many : (r s : Refusal) → HasManySteps b u n r → HasManySteps c v m s → refused r ≡ refused s
+      many r s h k = ap refused (h.says ∙ ap (BeyondLimit Steps) (step_counts h.distribution k.distribution h.distributed k.distributed) ∙ sym k.says)
+
+      many_few : (r : Refusal) (q : Planned) → HasManySteps b u n r → IsPlanned o c v m q → ⊥
+      many_few r q h k = let e = step_counts h.distribution q.distribution h.distributed k.distributed in let x = h.many in let y = k.few in omega (arith, e, x, y)
+
+      few_many : (p : Planned) (s : Refusal) → IsPlanned o b u n p → HasManySteps c v m s → ⊥
+      few_many p s h k = let e = step_counts p.distribution k.distribution h.distributed k.distributed in let x = h.few in let y = k.many in omega (arith, e, x, y)
+
+      texts : (p q : Planned) → IsPlanned o b u n p → IsPlanned o c v m q → planned_text j b p ≡ planned_text j c q
+      texts p q h k = by_job j
+        where
+          one : (plan_text b p.distribution.ranks.items p.plan ≡ plan_text b q.distribution.ranks.items q.plan) × (p.plan.steps ≡ q.plan.steps)
+          one = one_plan_text b p.distribution.ranks.items q.distribution.ranks.items p.plan q.plan (record {
+            alike = ranks_alike p.distribution q.distribution h.distributed k.distributed;
+            block = h.block ∙ sym k.block;
+            proper = h.proper;
+            colours = h.colours;
+            other_proper = is_proper b ks q.distribution.ranks.items q.plan k.proper;
+            other_colours = has_least b ks q.distribution.ranks.items q.plan k.colours;
+          })
+
+          by_job : (i : PlanJob) → planned_text i b p ≡ planned_text i c q
+          by_job Check = rw (one.1) refl
+          by_job ShowsPlan = one.0
+
+      plans_agree : (x y : Answer) → given (PlanIs o b u n) (λ p x. x ≡ done (planned_text j b p)) x → given (PlanIs o c v m) (λ p x. x ≡ done (planned_text j c p)) y → x ≡ y
+      plans_agree =
+          given_both (PlanIs o b u n) (PlanIs o c v m) (λ p x. x ≡ done (planned_text j b p)) (λ p x. x ≡ done (planned_text j c p)) (λ x y. x ≡ y) many many_few few_many
+          (λ p q h k x y e f. e ∙ ap done (texts p q h k) ∙ sym f)
+
+    -- ---- owners
+
+    abbrev FromOwners : BoundValue → Perms → Parts → Answer → Type 0
+    FromOwners d n parts = given (OwnersOf o d parts) (λ u. given (PlanIs o d u n) (λ p x. x ≡ done (planned_text j d p)))
+
+    module _ (n m : Perms) (numbered : SamePerms n m) (perms : ArePerms b.mesh n) where
+      owners_agree : (parts : Parts) (x y : Answer) → FromOwners b n parts x → FromOwners c m parts y → x ≡ y
+      owners_agree parts =
+          given_both (OwnersOf o b parts) (OwnersOf o c parts) (λ u. given (PlanIs o b u n) (λ p x. x ≡ done (planned_text j b p))) (λ u. given (PlanIs o c u m) (λ p x. x ≡ done (planned_text j c p))) (λ x y. x ≡ y)
+          (λ r s h k. ap refused (owners_once h.0 r s h.2 (subst (λ e. SaysOwners e s) (sym (both (Err h.0) (Err k.0) h.1 k.1)) k.2)))
+          (λ r v h k. both (Err h.0) (Ok v) h.1 k)
+          (λ u s h k. both (Ok u) (Err k.0) h k.1)
+          (λ u v h k. plans_agree u v n m (both (Ok u) (Ok v) h k) numbered perms)
+        where
+          both : (x y : Result Owners OwnersRefusal) → OwnersAre b.mesh o.ranks parts x → OwnersAre b.mesh o.ranks parts y → SameOutcome SameOwners x y
+          both x y h k = one_owners b.mesh o.ranks parts x y fits.mesh some h k
+
+      parts_agree : (x y : Answer) → given (PartsOf o.parting files) (FromOwners b n) x → given (PartsOf o.parting files) (FromOwners c m) y → x ≡ y
+      parts_agree =
+          let one = parts_are_one o.parting files in
+          given_alike (PartsOf o.parting files) (FromOwners b n) (FromOwners c m) (λ x y. x ≡ y) (λ r s h k. ap refused (one.refusals r s h k)) one.apart one.values
+          (λ parts h. owners_agree parts)
+
+    -- ---- new numbers
+
+    numbers_agree : (x y : Answer) → given (NumbersOf o b) (λ n. given (PartsOf o.parting files) (FromOwners b n)) x → given (NumbersOf o c) (λ n. given (PartsOf o.parting files) (FromOwners c n)) y → x ≡ y
+    numbers_agree =
+        given_both (NumbersOf o b) (NumbersOf o c) (λ n. given (PartsOf o.parting files) (FromOwners b n)) (λ n. given (PartsOf o.parting files) (FromOwners c n)) (λ x y. x ≡ y)
+        (λ r s h k. ap refused (numbers_once h.0 r s h.2 (subst (λ e. SaysNumbers e s) (sym (both (Err h.0) (Err k.0) h.1 k.1)) k.2)))
+        (λ r m h k. both (Err h.0) (Ok m) h.1 k)
+        (λ n s h k. both (Ok n) (Err k.0) h k.1)
+        (λ n m h k. parts_agree n m (both (Ok n) (Ok m) h k) (are_perms b.mesh o.renumber n h))
+      where
+        both : (x y : Result Perms NumbersRefusal) → NumbersAre b.mesh o.renumber x → NumbersAre b.mesh o.renumber y → SameOutcome SamePerms x y
+        both x y h k = one_numbers b.mesh o.renumber x y fits.mesh h k
+
+  pub plans_alike : (j : PlanJob) (o : Options) (files : Files) → 0 < o.ranks → (b c : BoundValue) → IsSame b c → (x y : Answer) → PlannedAnswers j o files b x → PlannedAnswers j o files c y → x ≡ y
+  plans_alike j o files some b c same x y h k =
+      numbers_agree j o files some b c.kernels h.0 x y h.1 (subst (λ d. PlannedAnswers j o files d y) same.0 k).1

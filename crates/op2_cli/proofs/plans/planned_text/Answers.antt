@@ -1,0 +1,7 @@
+use Rattle.bound_program.specs.Values.{bound_of}
+use Rattle.op2_cli.proofs.Planned.{spread_by}
+use Rattle.op2_cli.proofs.plans.planned_text.Goals as goal
+
+pub write_plan-requires-clause-ranks : goal.write_plan-requires-clause-ranks
+write_plan-requires-clause-ranks c =
+    (c.args.found.now.halos, rw c.deref.ensures.value (spread_by (bound_of c.args.bound.now) c.args.found.now c.requires.found))
