@@ -1,5 +1,6 @@
 #!/bin/sh
-# Runs each example and compares what it prints with NAME.out, and the example `sample2` with the sample on a grid of 2 times 2 cells.
+# Runs each example and compares what it prints with NAME.out, and the example `sample2` with the sample on a grid of 2 times 2 cells;
+# writes the mesh of `sample2` again, and the plan of `heat` on two ranks.
 # Ends with the number of differences.
 here=$(CDPATH= cd -- "$(dirname -- "$0")" && pwd) || exit 70
 op2=${1:-$here/../op2}
@@ -17,6 +18,10 @@ if ! "$op2" sample 2 | cmp -s - "$here/sample2.out"; then
 fi
 if ! "$op2" convert --form 1 "$here/sample2.mesh" | cmp -s - "$here/sample2.mesh"; then
     echo 'differs: the mesh of sample2, written again' >&2
+    bad=$((bad + 1))
+fi
+if ! "$op2" plan "$here/heat.c" "$here/heat.mesh" --ranks 2 --block 2 --renumber joined | cmp -s - "$here/heat.plan"; then
+    echo 'differs: the plan of heat on two ranks' >&2
     bad=$((bad + 1))
 fi
 exit "$bad"

@@ -49,56 +49,64 @@ item 1 host
 done
 ";
 
-// A call with this job and these options, where `p` holds the partition.
+// Owners by which the first rank has the first node and the first edge, and the second rank the others.
+const OWNERS: &str = "op2part 1 set nodes 3 0 1 1 set edges 2 0 1 done";
+
+// A call with these words, where `p` holds the partition.
 fn planned<R: Threads + Sync>(
     rt: &R,
     alloc: Global,
-    job: &str,
-    options: &[&str],
+    words: &[&str],
     partition: &str,
 ) -> Result<Ended, AllocError> {
-    let mut words = Vec::new(alloc);
-    words.push(job)?;
-    words.push("s.c")?;
-    words.push("m.mesh")?;
-    words.extend_from_slice(options)?;
     let files = [
         ("s.c", EDGES.as_bytes()),
         ("m.mesh", MESH.as_bytes()),
         ("p", partition.as_bytes()),
     ];
-    held(rt, alloc, &words, &files, NEVER)
+    held(rt, alloc, words, &files, NEVER)
 }
 
 #[test]
 fn plans_are_written(rt: HostRuntime) -> Result<(), Fail> {
     let alloc = rt.alloc();
-    let owners = "op2part 1 set nodes 3 0 1 1 set edges 2 0 1 done";
-    let by_file: &[&str] = &["--ranks=2", "--block=1", "--partition=p"];
-    let cases: [(&str, &[&str], &str); 8] = [
-        ("plan", &[], ONE_RANK),
-        ("plan", &["--ranks", "02", "--block=1"], TWO_RANKS),
-        ("plan", by_file, TWO_RANKS),
-        ("check", &[], "ok items 2 sites 1 steps 5\n"),
-        ("check", &["--ranks=2"], "ok items 2 sites 1 steps 7\n"),
+    let cases: [(&[&str], &str); 8] = [
+        (&["plan", "s.c", "m.mesh"], ONE_RANK),
         (
-            "check",
-            &["--parts=grow:pe"],
-            "ok items 2 sites 1 steps 5\n",
+            &["plan", "s.c", "m.mesh", "--ranks", "02", "--block=1"],
+            TWO_RANKS,
         ),
         (
-            "check",
-            &["--ranks=2", "--parts=bisect:r"],
+            &[
+                "plan",
+                "s.c",
+                "m.mesh",
+                "--ranks=2",
+                "--block=1",
+                "--partition=p",
+            ],
+            TWO_RANKS,
+        ),
+        (&["check", "s.c", "m.mesh"], "ok items 2 sites 1 steps 5\n"),
+        (
+            &["check", "s.c", "m.mesh", "--ranks=2"],
             "ok items 2 sites 1 steps 7\n",
         ),
         (
-            "check",
-            &["--ranks=3", "--renumber=pe"],
+            &["check", "s.c", "m.mesh", "--parts=grow:pe"],
+            "ok items 2 sites 1 steps 5\n",
+        ),
+        (
+            &["check", "s.c", "m.mesh", "--ranks=2", "--parts=bisect:r"],
+            "ok items 2 sites 1 steps 7\n",
+        ),
+        (
+            &["check", "s.c", "m.mesh", "--ranks=3", "--renumber=pe"],
             "ok items 2 sites 1 steps 9\n",
         ),
     ];
-    for (job, options, out) in cases {
-        let ended = planned(&rt, alloc, job, options, owners)?;
+    for (words, out) in cases {
+        let ended = planned(&rt, alloc, words, OWNERS)?;
         assert_eq!(rt; ended.status, 0);
         assert_eq!(rt; ended.out.bytes(), out.as_bytes());
         assert_eq!(rt; ended.err.bytes(), b"".as_slice());
@@ -107,81 +115,62 @@ fn plans_are_written(rt: HostRuntime) -> Result<(), Fail> {
 }
 
 #[test]
-fn names_and_partitions_are_refused(rt: HostRuntime) -> Result<(), Fail> {
+fn partitions_are_refused(rt: HostRuntime) -> Result<(), Fail> {
     let alloc = rt.alloc();
-    let cases: [(&[&str], &str, &str); 10] = [
-        (&["--parts=grow:r"], "", "op2: partition name r\n"),
-        (&["--parts=bisect:pe"], "", "op2: partition name pe\n"),
-        (&["--renumber="], "", "op2: partition name \n"),
-        (
-            &["--renumber=q", "--partition=no"],
-            "",
-            "op2: partition name q\n",
-        ),
-        (
-            &["--partition=p"],
-            "op2part\n2",
-            "op2: partition 1 line 2\n",
-        ),
-        (
-            &["--partition=p"],
-            "op2part 1 op2",
-            "op2: partition 2 line 1\n",
-        ),
-        (
-            &["--partition=p"],
-            "op2part 1\nset cells",
-            "op2: partition 3 line 2\n",
-        ),
-        (
-            &["--partition=p"],
-            "op2part 1\ndone",
-            "op2: partition 4 line 2\n",
-        ),
-        (
-            &["--partition=p"],
-            "op2part 1 set nodes 4",
-            "op2: partition 5 line 1\n",
-        ),
-        (
-            &["--partition=p"],
-            "op2part 1\nset nodes 3\n0 1 0",
-            "op2: partition 6 line 3\n",
-        ),
-    ];
-    for (options, partition, line) in cases {
-        let ended = planned(&rt, alloc, "check", options, partition)?;
+    for (partition, line) in [
+        ("op2part\n2", "op2: partition 1 line 2\n"),
+        ("op2part 1 op2", "op2: partition 2 line 1\n"),
+        ("op2part 1\nset cells", "op2: partition 3 line 2\n"),
+        ("op2part 1\ndone", "op2: partition 4 line 2\n"),
+        ("op2part 1 set nodes 4", "op2: partition 5 line 1\n"),
+        ("op2part 1\nset nodes 3\n0 1 0", "op2: partition 6 line 3\n"),
+    ] {
+        let ended = planned(
+            &rt,
+            alloc,
+            &["check", "s.c", "m.mesh", "--partition=p"],
+            partition,
+        )?;
         assert_eq!(rt; ended.status, 7);
         assert_eq!(rt; ended.out.bytes(), b"".as_slice());
         assert_eq!(rt; ended.err.bytes(), line.as_bytes());
     }
-    let ended = planned(&rt, alloc, "check", &["--partition=no"], "")?;
-    assert_eq!(rt; ended.status, 3);
-    assert_eq!(rt; ended.err.bytes(), b"op2: cannot read no\n".as_slice());
     Ok(())
 }
 
 #[test]
-fn options_out_of_range_are_refused(rt: HostRuntime) -> Result<(), Fail> {
+fn names_and_options_are_refused(rt: HostRuntime) -> Result<(), Fail> {
     let alloc = rt.alloc();
-    for option in [
-        "--ranks=0",
-        "--ranks=65",
-        "--ranks=x",
-        "--ranks=",
-        "--block=0",
-        "--block=65537",
-        "--parts=blocks",
-        "--parts=bisect",
-        "--form=1",
-        "--partitions=p",
+    for (option, status, line) in [
+        ("--parts=grow:r", 7, "op2: partition name r\n"),
+        ("--parts=bisect:pe", 7, "op2: partition name pe\n"),
+        ("--renumber=", 7, "op2: partition name \n"),
+        ("--partition=no", 3, "op2: cannot read no\n"),
+        ("--ranks=0", 2, "op2: usage\n"),
+        ("--ranks=65", 2, "op2: usage\n"),
+        ("--block=65537", 2, "op2: usage\n"),
+        ("--parts=blocks", 2, "op2: usage\n"),
+        ("--form=1", 2, "op2: usage\n"),
+        ("--partitions=p", 2, "op2: usage\n"),
     ] {
-        let ended = planned(&rt, alloc, "plan", &[option], "")?;
-        assert_eq!(rt; ended.status, 2, "{option}");
-        assert_eq!(rt; ended.err.bytes(), b"op2: usage\n".as_slice());
+        let ended = planned(&rt, alloc, &["plan", "s.c", "m.mesh", option], OWNERS)?;
+        assert_eq!(rt; ended.status, status, "{option}");
+        assert_eq!(rt; ended.out.bytes(), b"".as_slice());
+        assert_eq!(rt; ended.err.bytes(), line.as_bytes());
     }
-    let both = &["--partition=p", "--parts=block"];
-    let ended = planned(&rt, alloc, "check", both, "")?;
+    let ended = planned(
+        &rt,
+        alloc,
+        &["check", "s.c", "m.mesh", "--partition=p", "--parts=block"],
+        OWNERS,
+    )?;
     assert_eq!(rt; ended.status, 2);
+    let ended = planned(
+        &rt,
+        alloc,
+        &["check", "s.c", "m.mesh", "--renumber=q", "--partition=no"],
+        OWNERS,
+    )?;
+    assert_eq!(rt; ended.err.bytes(), b"op2: partition name q\n".as_slice());
     Ok(())
 }
