@@ -1,5 +1,5 @@
 -- From a bound program to what is answered over its files.
-use Rattle.std.proofs.Common.{◌≡◌, ℕ, inl, inr, ◌≤◌, zero, suc, arith, Bool, true, false, List, [], ◌∷◌, length, Option, None, Some, Result, Ok, Err, IfSome, refl, ap, sym, subst}
+use Rattle.std.proofs.Common.{◌≡◌, ℕ, inl, inr, ◌≤◌, zero, suc, arith, Bool, true, false, List, [], ◌∷◌, length, Option, None, Some, Result, Ok, Err, IfSome, refl, ap, sym}
 use Rattle.std.specs.List.{Contains}
 use Rattle.std.specs.Str.{bytes_eq}
 use Rattle.std.specs.Prelude.{if◌then◌else◌}
@@ -14,13 +14,12 @@ use Rattle.answers.specs.Lines.{most, refused}
 use Rattle.answers.specs.Words.{Input, InFiles}
 use Rattle.answers.specs.Judgements.{IsHeld, SourceIs, FileIs, MeshIs, TreeIs, TypesAre, EntriesAre, BoundIs, AccessesAre}
 use Rattle.answers.specs.Answers.{given, without, BoundAnswers}
-use Rattle.answers.specs.Endings.{IsOfContents}
 use Rattle.op2_cli.specs.declared.answered.Answer.{Answer}
 use Rattle.op2_cli.specs.declared.refusals.Failure.TheVariants.{Unread, OutOfMemory}
 use Rattle.op2_cli.specs.declared.refusals.Halt.{Halt}
 use Rattle.op2_cli.specs.declared.refusals.Halt.TheVariants.{Refused, Failed}
 use Rattle.op2_cli.specs.Halts.{refusal_of, SpoiltWhere}
-use Rattle.op2_cli.specs.Chains.{answer_of, Never, TextOver, IsBoundOver, IsBoundBy, BoundBy, AnswersBy, AnswersOver, Holds, AnswersWith}
+use Rattle.op2_cli.specs.Chains.{answer_of, Never, IsBoundOver, IsBoundBy, BoundBy, AnswersBy, AnswersOver, Holds, AnswersWith}
 use Rattle.op2_cli.proofs.Chained.{contains_later, asks_weaker}
 
 -- ---- what follows of answers

@@ -1,5 +1,5 @@
 -- From new numbers, owners and plans to what is answered of them.
-use Rattle.std.proofs.Common.{◌≡◌, ◌<◌, ◌≤◌, ℕ, inl, inr, arith, List, [], ◌∷◌, length, Option, None, Some, Result, Ok, Err, IfSome, refl, ap, sym, subst, ◌∙◌}
+use Rattle.std.proofs.Common.{◌≡◌, ◌<◌, ◌≤◌, ℕ, inl, inr, List, [], ◌∷◌, Option, None, Some, Result, Ok, Err, IfSome, refl, ap, sym, subst, ◌∙◌}
 use Rattle.std.specs.List.{Contains}
 use Rattle.op_outside.specs.Outside.{Files}
 use Rattle.mesh_decl.specs.declared.owners.Owners.{Owners}
@@ -22,11 +22,11 @@ use Rattle.loop_plan.specs.Distributed.{Distributed}
 use Rattle.answers.specs.Refusal.{Refusal, PartitionBytes, Steps, CannotRead, BeyondLimit}
 use Rattle.answers.specs.Lines as lines
 use Rattle.answers.specs.Lines.{most, refused}
-use Rattle.answers.specs.Words.{PlanJob, Parting, ByRule, ByFile, Options, names_by}
+use Rattle.answers.specs.Words.{PlanJob, ByRule, ByFile, Options, names_by}
 use Rattle.answers.specs.Said.{SaysOwners}
 use Rattle.answers.specs.Endings.{IsOfContents}
-use Rattle.answers.specs.Judgements.{IsHeld, NumbersOf, PartsOf, OwnersOf, IsPlanned, HasManySteps, PlanIs}
-use Rattle.answers.specs.Answers.{without, planned_text, PlannedAnswers}
+use Rattle.answers.specs.Judgements.{IsHeld, NumbersOf, PartsOf, OwnersOf, IsPlanned, HasManySteps}
+use Rattle.answers.specs.Answers.{planned_text, PlannedAnswers}
 use Rattle.op2_cli.specs.declared.answered.Answer.{Answer}
 use Rattle.op2_cli.specs.declared.refusals.Failure.TheVariants.{Unread, OutOfMemory}
 use Rattle.op2_cli.specs.declared.refusals.Halt.{Halt}
