@@ -29,8 +29,8 @@ pub enum Parting<'a> {
     ByFile(&'a str),
 }
 
-/// How a program runs on ranks: how many, 1 to 64; who owns which element; new numbers by the map of this name, if any; and
-/// how many places a block has, 1 to 65,536.
+/// How a program runs on ranks: how many, 1 to 64; who owns which element; new numbers by the map of this name, if any;
+/// and how many places a block has, 1 to 65,536.
 #[derive(Clone, Copy, Debug)]
 pub struct Options<'a> {
     pub ranks: u32,
