@@ -23,10 +23,9 @@ use Rattle.run_model.specs.Windows.{Element, cell_in, cells_in}
 use Rattle.loop_plan.specs.Values.{PlanValue, ItemPlanValue, item_plan, no_item_plan}
 use Rattle.loop_plan.specs.Needs.{exchanges}
 use Rattle.loop_plan.specs.Distributed.{IsDistributed}
-use Rattle.schedule_check.specs.Mail.{is_among, imported_from, cells_between}
+use Rattle.schedule_check.specs.Mail.{is_among, imported_from, cells_between, plan_cells}
 use Rattle.bound_plan.specs.Layouts.{exported, exported_cells, layout_of}
 use Rattle.bound_plan.specs.Laws.{Planned}
-use Rattle.planned_run.specs.Peaks.{plan_cells}
 use Rattle.planned_run.proofs.Elements.{Given, originals, own, apart, owned_is, is_owned, import_is, is_import}
 
 -- numbers at different places of a list differ

@@ -13,10 +13,10 @@ use Rattle.flat_machine.specs.Layout.{message_cells}
 use Rattle.bound_program.specs.Values.{BoundValue}
 use Rattle.loop_plan.specs.Values.{PlanValue}
 use Rattle.loop_plan.specs.StepOutline.{step_outline}
+use Rattle.schedule_check.specs.Mail.{plan_cells}
 use Rattle.bound_plan.specs.Layouts.{layout_of}
 use Rattle.bound_plan.specs.Laws.{Planned}
 use Rattle.rank_exec.specs.Driving.{FitsPeak}
-use Rattle.planned_run.specs.Peaks.{plan_cells}
 use Rattle.planned_run.proofs.Elements.{Given}
 use Rattle.planned_run.proofs.Counting.{cells_are_exported}
 

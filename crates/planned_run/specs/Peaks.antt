@@ -9,16 +9,12 @@ use Rattle.schedule_steps.specs.Steps.{Accepted}
 use Rattle.schedule_steps.specs.Peaks.{IsPeak}
 use Rattle.flat_machine.specs.Layout.{message_cells}
 use Rattle.bound_program.specs.Values.{BoundValue}
-use Rattle.loop_plan.specs.Values.{PlanValue, item_plan}
+use Rattle.loop_plan.specs.Values.{PlanValue}
 use Rattle.loop_plan.specs.StepOutline.{step_outline}
-use Rattle.schedule_check.specs.Mail.{cells_between}
+use Rattle.schedule_check.specs.Mail.{plan_cells}
 use Rattle.bound_plan.specs.Layouts.{layout_of}
 use Rattle.bound_plan.specs.Laws.{Planned}
 use Rattle.rank_exec.specs.Driving.{FitsPeak}
-
--- item, sender, receiver: how many cells a message has, by local meshes
-abbrev pub plan_cells : BoundValue → List RankMesh → PlanValue → ℕ → ℕ → ℕ → ℕ
-plan_cells b meshes p k s r = cells_between b.mesh meshes (item_plan p k).exchange s r
 
 -- the receiver imports by local meshes the cells that the sender exports
 abbrev pub CellsAreExported : Type 0

@@ -1,8 +1,9 @@
 -- Steps of a list that are taken one after another from where no step is taken.
-use Rattle.std.proofs.Common.{◌≡◌, ℕ, ◌+◌, ◌<◌, ◌≤◌, Bool, true, false, cond, refl, sym, ap, subst, ◌∙◌, arith, ⊎_elim, List, [], ◌∷◌, ◌++◌, length, Option, Some, None, Err}
-use Rattle.std.specs.Prelude.{◌&&◌, ◌||◌, ◌↔◌, not, Ok, Result}
-use Rattle.std.proofs.lemmas.Bool.{cases_Bool, cond-true, cond-false, or_left, or_right}
+use Rattle.std.proofs.Common.{◌≡◌, ℕ, ◌+◌, ◌≤◌, Bool, true, false, cond, refl, sym, ap, subst, ◌∙◌, arith, ⊎_elim, List, [], ◌∷◌, ◌++◌, length, Option, Some, None, Err}
+use Rattle.std.specs.Prelude.{◌&&◌, ◌||◌, ◌↔◌, not, Ok}
+use Rattle.std.proofs.lemmas.Bool.{cases_Bool, cond-false, or_left, or_right}
 use Rattle.std.proofs.lemmas.List.{append_assoc, append-nil, length_push}
+use Rattle.local_mesh.specs.declared.types.RankMesh.{RankMesh}
 use Rattle.schedule_steps.specs.Outline.{Outline}
 use Rattle.schedule_steps.specs.declared.step.Step.{Step}
 use Rattle.schedule_steps.specs.declared.peak.Peak.{Peak}
@@ -16,11 +17,15 @@ use Rattle.step_marks.specs.declared.load.Load.{Load}
 use Rattle.step_marks.specs.Load.{loaded, loaded_all, no_load}
 use Rattle.step_judge.specs.declared.refusal.ScheduleRefusal.{ScheduleRefusal}
 use Rattle.step_judge.specs.declared.refusal.ScheduleRefusal.TheVariants.{NoSuchStep, Repeated, Incomplete}
-use Rattle.step_judge.specs.Verdicts.{too_early, judged, incomplete, ended, finished}
+use Rattle.step_judge.specs.Verdicts.{too_early, judged, incomplete, finished}
 use Rattle.step_judge.specs.Checking.{untaken}
 use Rattle.step_judge.specs.TakenAll.{TakenAll}
 use Rattle.step_judge.proofs.Room.{one_fewer, judged_well}
-use Rattle.schedule_check.specs.declared.whole.Unaccepted.{Unaccepted}
+use Rattle.bound_program.specs.Values.{BoundValue}
+use Rattle.loop_plan.specs.Values.{PlanValue}
+use Rattle.loop_plan.specs.StepOutline.{step_outline}
+use Rattle.schedule_check.specs.Mail.{plan_cells}
+use Rattle.schedule_check.specs.PlanChecking.{PlanChecking, outline_in, taken_in, IsNew, TakesPlanStep}
 use Rattle.schedule_check.specs.Whole.{IsWhole, IsUnaccepted}
 use Rattle.schedule_check.proofs.Rooms.{untaken_few}
 
@@ -47,18 +52,6 @@ no_left : (x : Option Step) (e : ScheduleRefusal) → incomplete x ≡ Err e →
 no_left None e h i = cc
 no_left (Some t) e h i = cc
 
--- Of the list the steps in `come` are still to come, and those before them, as many as `step` says, are taken; then `now` is taken
--- of the plan's steps, and this is open and under way.
-pub record Taking (o : Outline) (cells : ℕ → ℕ → ℕ → ℕ) (l come : List Step) (step : ℕ) (now : Step → Bool) (load : Load) : Type 0 where
-  pub front : List Step
-  pub split : l ≡ front ++ come
-  pub number : step ≡ length front
-  pub after : Step → Bool
-  pub took : TakenAll o nothing_taken front after
-  pub agree : (t : Step) → IsStep o t → now t ≡ after t
-  pub loads : load ≡ loaded_all cells front no_load
-  pub few : step + untaken now (standard o 1) ≤ step_count o
-
 module _ (o : Outline) (tests : (n : Outline) (s : Step) → (is_step n s ≡ true) ↔ IsStep n s) (standards : (n : Outline) (g : ℕ) → Accepted n (standard n g)) where
   planned : (t : Step) → has (standard o 1) t ≡ true → IsStep o t
   planned t h = (let at : (x : List Step) × (y : List Step) × (standard o 1 ≡ x ++ (t ∷ y)) = split_at (standard o 1) t h in (standards o 1).steps at.0 t at.1 at.2)
@@ -83,92 +76,136 @@ module _ (o : Outline) (tests : (n : Outline) (s : Step) → (is_step n s ≡ tr
   taken_push [] m n s h j = (judged_agree m n s (λ t p. sym (h t)) ∙ j, (marked s m, (λ t. refl), (λ t. ap (λ b. same t s || b) (h t))))
   taken_push (t ∷ l) m n s h j = (h.0, (h.1.0, h.1.1, taken_push l h.1.0 n s h.1.2 j))
 
-  module _ (cells : ℕ → ℕ → ℕ → ℕ) (l : List Step) where
-    pub start : (now : Step → Bool) (load : Load) → ((t : Step) → IsStep o t → now t ≡ false) → load ≡ no_load → Taking o cells l l 0 now load
-    start now load fresh empty = record {
-      front = [];
-      split = refl;
-      number = refl;
-      after = nothing_taken;
-      took = λ t. refl;
-      agree = fresh;
-      loads = empty;
-      few = (let u : untaken now (standard o 1) ≤ step_count o = untaken_few now (standard o 1) in omega arith);
-    }
+-- The checker d is of this plan; of the list the steps in `come` are still to come, and it took those before them, as many as
+-- `step` says.
+pub record Reached (b : BoundValue) (ms : List RankMesh) (p : PlanValue) (l come : List Step) (step : ℕ) (d : PlanChecking) : Type 0 where
+  pub bound : d.bound ≡ b
+  pub meshes : d.meshes ≡ ms
+  pub plan : d.plan ≡ p
+  pub front : List Step
+  pub split : l ≡ front ++ come
+  pub number : step ≡ length front
+  pub after : Step → Bool
+  pub took : TakenAll (step_outline b ms p) nothing_taken front after
+  pub agree : (t : Step) → IsStep (step_outline b ms p) t → taken_in d t ≡ after t
+  pub loads : d.steps.load ≡ loaded_all (plan_cells b ms p) front no_load
+  pub few : step + untaken (taken_in d) (standard (step_outline b ms p) 1) ≤ step_count (step_outline b ms p)
 
-    module _ (come : List Step) (s : Step) (step : ℕ) (now : Step → Bool) (load : Load) (t : Taking o cells l (s ∷ come) step now load) where
-      judged_after : judged o now s ≡ judged o t.after s
-      judged_after = judged_agree now t.after s t.agree
+module _ (b : BoundValue) (meshes : List RankMesh) (p : PlanValue) (tests : (n : Outline) (s : Step) → (is_step n s ≡ true) ↔ IsStep n s) (standards : (n : Outline) (g : ℕ) → Accepted n (standard n g)) (l : List Step) where
+  abbrev o : Outline
+  o = step_outline b meshes p
 
-      longer : length (t.front ++ (s ∷ [])) ≡ length t.front + 1
-      longer = length_push t.front s
+  abbrev cells : ℕ → ℕ → ℕ → ℕ
+  cells = plan_cells b meshes p
 
-      fewer : (next : Step → Bool) → judged o now s ≡ Ok tt → ((u : Step) → next u ≡ marked s now u) → untaken next (standard o 1) + 1 ≤ untaken now (standard o 1)
-      fewer next j marks =
-          let well : (is_step o s ≡ true) × (now s ≡ false) = judged_well o now s (sym j) in
-          one_fewer now next (standard o 1) s marks (marks s ∙ or_left (same s s) (now s) (same_refl s)) well.1 ((standards o 1).whole s ((tests o s).0 well.0))
+  outlines : (d : PlanChecking) → d.bound ≡ b → d.meshes ≡ meshes → d.plan ≡ p → outline_in d ≡ o
+  outlines d eb em ep = ap (λ z. step_outline z d.meshes d.plan) eb ∙ (ap (λ z. step_outline b z d.plan) em ∙ ap (λ z. step_outline b meshes z) ep)
 
-      pub take_next : (next : Step → Bool) (behind : Load) → judged o now s ≡ Ok tt → ((u : Step) → next u ≡ marked s now u) → behind ≡ loaded cells s load
-          → Taking o cells l come (step + 1) next behind
-      take_next next behind j marks loads = record {
-        front = t.front ++ (s ∷ []);
-        split = t.split ∙ sym (append_assoc t.front (s ∷ []) come);
-        number = (let n : step ≡ length t.front = t.number in let e : length (t.front ++ (s ∷ [])) ≡ length t.front + 1 = longer in omega arith);
-        after = marked s t.after;
-        took = taken_push t.front nothing_taken t.after s t.took (sym judged_after ∙ j);
-        agree = λ u p. marks u ∙ ap (λ b. same u s || b) (t.agree u p);
-        loads = loads ∙ (ap (λ z. loaded cells s z) t.loads ∙ sym (loaded_push cells t.front s no_load));
-        few = (let d : untaken next (standard o 1) + 1 ≤ untaken now (standard o 1) = fewer next j marks in
-            let f : step + untaken now (standard o 1) ≤ step_count o = t.few in omega arith);
+  same_cells : (d : PlanChecking) → d.bound ≡ b → d.meshes ≡ meshes → d.plan ≡ p → plan_cells d.bound d.meshes d.plan ≡ cells
+  same_cells d eb em ep = ap (λ z. plan_cells z d.meshes d.plan) eb ∙ (ap (λ z. plan_cells b z d.plan) em ∙ ap (λ z. plan_cells b meshes z) ep)
+
+  pub start : (d : PlanChecking) → IsNew b meshes p d → Reached b meshes p l l 0 d
+  start d new = record {
+    bound = new.bound;
+    meshes = new.meshes;
+    plan = new.plan;
+    front = [];
+    split = refl;
+    number = refl;
+    after = nothing_taken;
+    took = λ t. refl;
+    agree = λ t h. new.marks t (subst (λ z. IsStep z t) (sym (outlines d new.bound new.meshes new.plan)) h);
+    loads = new.load;
+    few = (let u : untaken (taken_in d) (standard o 1) ≤ step_count o = untaken_few (taken_in d) (standard o 1) in omega arith);
+  }
+
+  module _ (d : PlanChecking) (come : List Step) (step : ℕ) (r : Reached b meshes p l come step d) where
+    outline : outline_in d ≡ o
+    outline = outlines d r.bound r.meshes r.plan
+
+    -- the step s comes next
+    module _ (s : Step) (rest : List Step) (next : come ≡ s ∷ rest) where
+      split_next : l ≡ r.front ++ (s ∷ rest)
+      split_next = r.split ∙ ap (λ z. r.front ++ z) next
+
+      judged_now : judged (outline_in d) (taken_in d) s ≡ judged o (taken_in d) s
+      judged_now = ap (λ z. judged z (taken_in d) s) outline
+
+      judged_after : judged (outline_in d) (taken_in d) s ≡ judged o r.after s
+      judged_after = judged_now ∙ judged_agree o tests standards (taken_in d) r.after s r.agree
+
+      pub take_next : (e : PlanChecking) → judged (outline_in d) (taken_in d) s ≡ Ok tt → TakesPlanStep d e s → Reached b meshes p l rest (step + 1) e
+      take_next e j t = record {
+        bound = t.bound ∙ r.bound;
+        meshes = t.meshes ∙ r.meshes;
+        plan = t.plan ∙ r.plan;
+        front = r.front ++ (s ∷ []);
+        split = split_next ∙ sym (append_assoc r.front (s ∷ []) rest);
+        number = (let n : step ≡ length r.front = r.number in let m : length (r.front ++ (s ∷ [])) ≡ length r.front + 1 = length_push r.front s in omega arith);
+        after = marked s r.after;
+        took = taken_push o tests standards r.front nothing_taken r.after s r.took (sym judged_after ∙ j);
+        agree = λ u h. t.marks u ∙ ap (λ z. same u s || z) (r.agree u h);
+        loads = t.load
+            ∙ (ap (λ z. loaded z s d.steps.load) (same_cells d r.bound r.meshes r.plan)
+            ∙ (ap (λ z. loaded cells s z) r.loads ∙ sym (loaded_push cells r.front s no_load)));
+        few = (let w : (is_step o s ≡ true) × (taken_in d s ≡ false) = judged_well o (taken_in d) s (sym (sym judged_now ∙ j)) in
+            let u : untaken (taken_in e) (standard o 1) + 1 ≤ untaken (taken_in d) (standard o 1) =
+            one_fewer (taken_in d) (taken_in e) (standard o 1) s t.marks (t.marks s ∙ or_left (same s s) (taken_in d s) (same_refl s)) w.1
+            ((standards o 1).whole s ((tests o s).0 w.0)) in
+            let f : step + untaken (taken_in d) (standard o 1) ≤ step_count o = r.few in omega arith);
       }
 
-      pub refuse_next : (e : ScheduleRefusal) → judged o now s ≡ Err e
+      pub refuse_next : (e : ScheduleRefusal) → judged (outline_in d) (taken_in d) s ≡ Err e
           → ((m n : Step → Bool) (x : List Step) → ((u : Step) → IsStep o u → m u ≡ false) → TakenAll o m x n
-          → (u : Step) (f : ScheduleRefusal) → judged o n u ≡ Err f → (rest : List Step) → Accepted o (x ++ (u ∷ rest)) → ⊥)
-          → IsUnaccepted o l come (record { step = step; refusal = e })
+          → (u : Step) (f : ScheduleRefusal) → judged o n u ≡ Err f → (more : List Step) → Accepted o (x ++ (u ∷ more)) → ⊥)
+          → IsUnaccepted b meshes p l rest (record { step = step; refusal = e })
       refuse_next e j law = record {
-        front = t.front;
-        rest = s ∷ come;
-        split = t.split;
-        number = t.number;
-        after = t.after;
-        took = t.took;
+        front = r.front;
+        rest = s ∷ rest;
+        split = split_next;
+        number = r.number;
+        after = r.after;
+        took = r.took;
         refused = sym judged_after ∙ j;
         left = refl;
-        unaccepted = λ a. law nothing_taken t.after t.front (λ u p. refl) t.took s e (sym judged_after ∙ j) come (subst (Accepted o) t.split a);
+        unaccepted = λ a. law nothing_taken r.after r.front (λ u h. refl) r.took s e (sym judged_after ∙ j) rest (subst (Accepted o) split_next a);
       }
 
-    module _ (step : ℕ) (now : Step → Bool) (load : Load) (t : Taking o cells l [] step now load)
+    -- no step comes any more
+    module _ (over : come ≡ [])
         (law : (m n : Step → Bool) (x : List Step) → ((u : Step) → IsStep o u → m u ≡ false) → TakenAll o m x n → Accepted o x ↔ (left_over o n ≡ None))
       where
-        all : l ≡ t.front
-        all = t.split ∙ append-nil t.front
+        all : l ≡ r.front
+        all = r.split ∙ (ap (λ z. r.front ++ z) over ∙ append-nil r.front)
 
-        accepts : Accepted o t.front ↔ (left_over o t.after ≡ None)
-        accepts = law nothing_taken t.after t.front (λ u p. refl) t.took
+        accepts : Accepted o r.front ↔ (left_over o r.after ≡ None)
+        accepts = law nothing_taken r.after r.front (λ u h. refl) r.took
 
-        left_after : left_over o now ≡ left_over o t.after
-        left_after = left_agree now t.after t.agree
+        left_after : left_over (outline_in d) (taken_in d) ≡ left_over o r.after
+        left_after = ap (λ z. left_over z (taken_in d)) outline ∙ left_agree o tests standards (taken_in d) r.after r.agree
 
-        pub whole_at_end : (k : Peak) → finished load.peak (left_over o now) ≡ Ok k → ((x : List Step) → IsPeak cells x (loaded_all cells x no_load).peak) → IsWhole o cells l k
+        pub whole_at_end : (k : Peak) → finished d.steps.load.peak (left_over (outline_in d) (taken_in d)) ≡ Ok k
+            → ((x : List Step) → IsPeak cells x (loaded_all cells x no_load).peak)
+            → IsWhole b meshes p l k
         whole_at_end k h peaks =
-            let f : (left_over o now ≡ None) × (load.peak ≡ k) = finished_ok load.peak k (left_over o now) h in
+            let f : (left_over (outline_in d) (taken_in d) ≡ None) × (d.steps.load.peak ≡ k) = finished_ok d.steps.load.peak k (left_over (outline_in d) (taken_in d)) h in
             record {
               accepted = subst (Accepted o) (sym all) (accepts.1 (sym left_after ∙ f.0));
-              peak = subst (λ x. IsPeak cells x k) (sym all) (subst (IsPeak cells t.front) (ap (λ (z : Load). z.peak) (sym t.loads) ∙ f.1) (peaks t.front));
+              peak = subst (λ x. IsPeak cells x k) (sym all) (subst (IsPeak cells r.front) (ap (λ (z : Load). z.peak) (sym r.loads) ∙ f.1) (peaks r.front));
             }
 
-        pub left_at_end : (e : ScheduleRefusal) → finished load.peak (left_over o now) ≡ Err e → IsUnaccepted o l [] (record { step = step; refusal = e })
+        pub left_at_end : (e : ScheduleRefusal) → finished d.steps.load.peak (left_over (outline_in d) (taken_in d)) ≡ Err e
+            → IsUnaccepted b meshes p l [] (record { step = step; refusal = e })
         left_at_end e h =
-            let i : incomplete (left_over o t.after) ≡ Err e = ap incomplete (sym left_after) ∙ finished_err load.peak e (left_over o now) h in
+            let i : incomplete (left_over o r.after) ≡ Err e = ap incomplete (sym left_after) ∙ finished_err d.steps.load.peak e (left_over (outline_in d) (taken_in d)) h in
             record {
-              front = t.front;
+              front = r.front;
               rest = [];
-              split = t.split;
-              number = t.number;
-              after = t.after;
-              took = t.took;
+              split = r.split ∙ ap (λ z. r.front ++ z) over;
+              number = r.number;
+              after = r.after;
+              took = r.took;
               refused = i;
               left = refl;
-              unaccepted = λ a. no_left (left_over o t.after) e i (accepts.0 (subst (Accepted o) all a));
+              unaccepted = λ a. no_left (left_over o r.after) e i (accepts.0 (subst (Accepted o) all a));
             }

@@ -6,9 +6,10 @@ use Rattle.std.specs.declared.alloc.Global.{Global}
 use Rattle.mesh_decl.specs.Mesh.{MeshValue, set_count, dat_count, dat_set, dat_dim}
 use Rattle.local_mesh.specs.declared.types.RankMesh.{RankMesh}
 use Rattle.local_mesh.specs.LocalMesh.{originals_in}
+use Rattle.bound_program.specs.Values.{BoundValue}
 use Rattle.loop_plan.specs.Pairs.{sets_of, own_in}
 use Rattle.loop_plan.specs.declared.types.Pair.{Pair}
-use Rattle.loop_plan.specs.Values.{ItemPlanValue}
+use Rattle.loop_plan.specs.Values.{ItemPlanValue, PlanValue, item_plan}
 
 -- among a rank's first so many elements
 abbrev pub is_among : ℕ → List ℕ → ℕ → Bool
@@ -24,6 +25,10 @@ imported_from meshes s r t =
 abbrev pub cells_between : MeshValue → List RankMesh → List ℕ → ℕ → ℕ → ℕ
 cells_between g meshes [] s r = 0
 cells_between g meshes (d ∷ ds) s r = dat_dim g d * imported_from meshes s r (dat_set g d) + cells_between g meshes ds s r
+
+-- item, sender, receiver: how many cells a message of the plan has
+abbrev pub plan_cells : BoundValue → List RankMesh → PlanValue → ℕ → ℕ → ℕ → ℕ
+plan_cells b meshes p k s r = cells_between b.mesh meshes (item_plan p k).exchange s r
 
 -- each rank has each set, its own elements among those that it has, and none twice
 pub record AreDistinct (g : MeshValue) (meshes : List RankMesh) : Type 0 where

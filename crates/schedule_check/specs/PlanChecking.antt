@@ -12,9 +12,9 @@ use Rattle.step_marks.specs.Marked.{outline_of, taken}
 use Rattle.step_judge.specs.Wanted.{AreMarksOf}
 use Rattle.step_judge.specs.Checking.{Checking, cells_of}
 use Rattle.bound_program.specs.Values.{BoundValue}
-use Rattle.loop_plan.specs.Values.{PlanValue, item_plan}
+use Rattle.loop_plan.specs.Values.{PlanValue}
 use Rattle.loop_plan.specs.StepOutline.{step_outline}
-use Rattle.schedule_check.specs.Mail.{cells_between}
+use Rattle.schedule_check.specs.Mail.{plan_cells}
 
 pub record PlanChecking : Type 0 where
   pub bound : BoundValue
@@ -36,7 +36,7 @@ module _ (c : PlanChecking) where
 
   -- item, sender, receiver: how many cells a message has
   abbrev pub cells_in : ℕ → ℕ → ℕ → ℕ
-  cells_in k s r = cells_between c.bound.mesh c.meshes (item_plan c.plan k).exchange s r
+  cells_in = plan_cells c.bound c.meshes c.plan
 
   -- the marks are those of the plan's steps, and the cells those of its messages
   pub record IsOfPlan : Type 0 where

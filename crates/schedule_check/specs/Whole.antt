@@ -1,5 +1,6 @@
 -- What taking a whole list of steps answers.
-use Rattle.std.specs.Prelude.{◌≡◌, ℕ, Bool, List, [], ◌∷◌, ◌++◌, length, Err}
+use Rattle.std.specs.Prelude.{◌≡◌, Bool, List, [], ◌∷◌, ◌++◌, length, Err}
+use Rattle.local_mesh.specs.declared.types.RankMesh.{RankMesh}
 use Rattle.schedule_steps.specs.Outline.{Outline}
 use Rattle.schedule_steps.specs.declared.step.Step.{Step}
 use Rattle.schedule_steps.specs.declared.peak.Peak.{Peak}
@@ -9,12 +10,16 @@ use Rattle.schedule_steps.specs.Peaks.{IsPeak}
 use Rattle.step_judge.specs.declared.refusal.ScheduleRefusal.{ScheduleRefusal}
 use Rattle.step_judge.specs.Verdicts.{judged, ended}
 use Rattle.step_judge.specs.TakenAll.{TakenAll}
+use Rattle.bound_program.specs.Values.{BoundValue}
+use Rattle.loop_plan.specs.Values.{PlanValue}
+use Rattle.loop_plan.specs.StepOutline.{step_outline}
 use Rattle.schedule_check.specs.declared.whole.Unaccepted.{Unaccepted}
+use Rattle.schedule_check.specs.Mail.{plan_cells}
 
--- the list is accepted, and this is its peak where messages have so many cells
-pub record IsWhole (o : Outline) (cells : ℕ → ℕ → ℕ → ℕ) (l : List Step) (k : Peak) : Type 0 where
-  pub accepted : Accepted o l
-  pub peak : IsPeak cells l k
+-- the plan accepts the list, and this is its peak
+pub record IsWhole (b : BoundValue) (meshes : List RankMesh) (p : PlanValue) (l : List Step) (k : Peak) : Type 0 where
+  pub accepted : Accepted (step_outline b meshes p) l
+  pub peak : IsPeak (plan_cells b meshes p) l k
 
 -- where m is taken, the first step of the list is refused, or, where there is none, the end
 abbrev pub IsRefusedNext : Outline → (Step → Bool) → List Step → ScheduleRefusal → Type 0
@@ -26,15 +31,15 @@ abbrev pub behind : List Step → List Step
 behind [] = []
 behind (s ∷ l) = l
 
--- The list is not accepted: from where no step is taken its front is taken step by step, and what comes next is refused; its
--- number is that of the steps before it, and `come` is what stands behind it.
-pub record IsUnaccepted (o : Outline) (l come : List Step) (u : Unaccepted) : Type 0 where
+-- The plan doesn't accept the list: from where no step is taken its front is taken step by step, and what comes next is refused;
+-- its number is that of the steps before it, and `come` is what stands behind it.
+pub record IsUnaccepted (b : BoundValue) (meshes : List RankMesh) (p : PlanValue) (l come : List Step) (u : Unaccepted) : Type 0 where
   pub front : List Step
   pub rest : List Step
   pub split : l ≡ front ++ rest
   pub number : u.step ≡ length front
   pub after : Step → Bool
-  pub took : TakenAll o nothing_taken front after
-  pub refused : IsRefusedNext o after rest u.refusal
+  pub took : TakenAll (step_outline b meshes p) nothing_taken front after
+  pub refused : IsRefusedNext (step_outline b meshes p) after rest u.refusal
   pub left : come ≡ behind rest
-  pub unaccepted : Accepted o l → ⊥
+  pub unaccepted : Accepted (step_outline b meshes p) l → ⊥

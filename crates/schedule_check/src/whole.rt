@@ -1,9 +1,8 @@
 // Whole lists of steps.
-ghost use Rattle.std.specs.Prelude.{IfOk, IfErr};
+ghost use Rattle.std.specs.Prelude.{◌≡◌, [], IfOk, IfErr};
 ghost use Rattle.bound_program.specs.Values.{bound_of};
 ghost use Rattle.loop_plan.specs.Values.{plan_of};
-ghost use Rattle.loop_plan.specs.StepOutline.{step_outline};
-ghost use Rattle.schedule_check.specs.PlanChecking.{checking, cells_in, IsNew};
+ghost use Rattle.schedule_check.specs.PlanChecking.{checking, IsNew};
 ghost use Rattle.schedule_check.specs.Whole.{IsWhole, IsUnaccepted};
 
 use crate::checker::Checker;
@@ -23,19 +22,18 @@ pub struct Unaccepted {
 /// Takes all steps that are still to come, one after another, and gives the peak of their list. Takes no memory.
 ///
 /// `checker` is of a plan of which no step is taken; in `steps` what stands behind the refused step is still to come.
-/// Exactly where the list is accepted there is a peak. Else the error is that of the first step that is refused: `NoSuchStep`
-/// where the plan hasn't the step; else `Repeated` where it was taken; else `TooEarly` where a step that has to come before it
-/// isn't taken, with the first of these in standard order. Where no step is refused, it is `Incomplete` with the first step in
-/// standard order that isn't taken.
+/// There is a peak exactly where the list is accepted. Else the error is that of the first step that is refused:
+/// `NoSuchStep` where the plan hasn't the step; else `Repeated` where it was taken; else `TooEarly` where a step that
+/// has to come before it isn't taken, with the first of these in standard order. Where no step is refused, it is
+/// `Incomplete` with the first step in standard order that isn't taken.
 pub fn take_all<S: Steps>(checker: Checker<'_>, steps: &mut S) -> Result<Peak, Unaccepted>
     requires { IsNew (bound_of checker.bound.now) checker.ranks.now (plan_of checker.plan.now)
         (checking (bound_of checker.bound.now) checker.ranks.now (plan_of checker.plan.now) checker.steps) }
-    ensures whole { IfOk result (IsWhole
-        (step_outline (bound_of checker.entry.bound.now) checker.entry.ranks.now (plan_of checker.entry.plan.now))
-        (cells_in (checking (bound_of checker.entry.bound.now) checker.entry.ranks.now (plan_of checker.entry.plan.now) checker.entry.steps))
-        (S.left steps.old)) }
-    ensures unaccepted { IfErr result (IsUnaccepted
-        (step_outline (bound_of checker.entry.bound.now) checker.entry.ranks.now (plan_of checker.entry.plan.now))
+    ensures whole { IfOk result
+        (IsWhole (bound_of checker.entry.bound.now) checker.entry.ranks.now (plan_of checker.entry.plan.now) (S.left steps.old)) }
+    ensures over { IfOk result (λ k. S.left steps.new ≡ []) }
+    ensures unaccepted { IfErr result
+        (IsUnaccepted (bound_of checker.entry.bound.now) checker.entry.ranks.now (plan_of checker.entry.plan.now)
         (S.left steps.old) (S.left steps.new)) }
 {
     schedule_steps::tests_decide();
