@@ -2,5 +2,8 @@
 #![tactic(auto)]
 
 mod peaks;
+mod running;
 
 pub use peaks::peaks_are_room;
+pub use rank_program::Outcome;
+pub use running::run_on_ranks;

@@ -1,15 +1,16 @@
 // A bound program, distributed and planned.
 
-ghost use Rattle.std.specs.Prelude.{◌≡◌, ◌<◌, ◌^◌, length, IfOk};
+ghost use Rattle.std.specs.Prelude.{◌≡◌, length, IfOk};
 ghost use Rattle.kernel_code.specs.Codes.{AreCodesOf};
 ghost use Rattle.bound_program.specs.Values.{bound_of};
-ghost use Rattle.run_model.specs.Hosts.{variable_cells};
 ghost use Rattle.loop_plan.specs.Values.{plan_of};
 ghost use Rattle.rank_program.specs.Sound.{Sound};
 ghost use Rattle.rank_program.specs.Runnables.{CanRun, IsProgramOf};
 
+use crate::first::first_variables;
 use crate::items::loop_of;
 use crate::kernel_run::run_kernel;
+use crate::laws::first_cells_stand;
 use crate::laws_owned::variables_stand;
 use crate::laws_sent::{exports_are_few, rooms_stand};
 use crate::laws_tables::tables_are_indexed;
@@ -44,8 +45,7 @@ pub struct DistributedProgram<'a> {
 
 impl<'a> DistributedProgram<'a> {
     /// A bound program on the ranks of `owners`, with the local meshes of these, the plan for them, the local numbers of
-    /// what ranks own and exchange by set, and the codes of the program's kernels. All variables together have fewer than
-    /// 2^64 cells.
+    /// what ranks own and exchange by set, and the codes of the program's kernels.
     ///
     /// It takes time linear in the program's arguments and their cells, in its Free loops times the ranks, and in the lists
     /// of what ranks export, for each dat.
@@ -61,7 +61,6 @@ impl<'a> DistributedProgram<'a> {
         plan: &'a Plan,
         codes: &'a [Code<'a>],
     ) -> Result<DistributedProgram<'a>, OutOfMemory>
-        requires few { length (variable_cells (bound_of bound.now)) < 2 ^ 64 }
         requires runs { CanRun (bound_of bound.now) owners.now meshes.now (plan_of plan.now) lists.now }
         requires codes { AreCodesOf (bound_of bound.now).kernels codes.now }
         ensures sound { IfOk result Sound }
@@ -72,6 +71,9 @@ impl<'a> DistributedProgram<'a> {
         variables_stand();
         exports_are_few();
         rooms_stand();
+        first_cells_stand();
+        // That one vector has them all says that 64 bits count the variables' cells.
+        let _variables = first_variables(alloc, &bound.vars)?;
         let spans = most_spans(bound, lists, owners.ranks);
         let tables = MachineTables::new(alloc, bound, owners, plan, spans)?;
         Ok(DistributedProgram {

@@ -1,5 +1,7 @@
-use Rattle.bound_program.specs.Values.{bound_of}
+use Rattle.std.proofs.Common.{◌≡◌, length, map, ap, ◌∙◌, arith}
+use Rattle.bound_program.specs.Values.{bound_of, var_of}
 use Rattle.loop_plan.specs.Values.{plan_of}
+use Rattle.rank_program.specs.First.{first_variables}
 use Rattle.rank_program.proofs.Runnables.{has_lists}
 use Rattle.rank_program.proofs.program.DistributedProgram.new.Goals as goal
 
@@ -29,3 +31,13 @@ returns-clause-sound c =
       indexed = c.tables_are_indexed.ensures b c.args.owners.now r.numbers c.args.meshes.now p r.runnable.planned;
       variables = c.variables_stand.ensures b;
     }
+
+pub new-requires-clause-few : goal.new-requires-clause-few
+new-requires-clause-few c =
+    let b = bound_of c.args.bound.now in
+    let r = c.requires.runs in
+    let v = c.in_ok-_variables._variables in
+    let first = c.first_cells_stand.ensures.stand b c.args.owners.now r.numbers c.args.meshes.now (plan_of c.args.plan.now) r.runnable.planned in
+    let items : length v.items ≡ length (first_variables b.vars) =
+    ap length (c.in_ok-_variables.ensures ∙ ap (λ vs. first_variables (map var_of vs)) c.deref.ensures.value) in
+    omega (arith, items, first.count, v.ok.0, v.small)
