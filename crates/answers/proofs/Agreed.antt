@@ -33,7 +33,7 @@ use Rattle.answers.proofs.Within.{within}
 use Rattle.answers.proofs.SaidOnce.{types_once, mesh_once, binding_once, source_status}
 use Rattle.answers.proofs.Trees.{tree_lines}
 use Rattle.answers.proofs.Sites.{site_found, first_found, accesses_none, accesses_some}
-use Rattle.answers.proofs.SameKernels.{sites_found, printed_same, faults_same}
+use Rattle.answers.proofs.SameKernels.{sites_found, answer_same}
 use Rattle.answers.proofs.SameBound.{IsSame, SameOutcome, same_bound}
 
 -- what is answered of two bound programs that are the same but for their kernels is one
@@ -69,7 +69,7 @@ module _ (runs_alike : RunsAlike) (walks_alike : WalksAlike) (one_read : (bytes 
   jobs_alike Run b c same x y h k = h ∙ e ∙ sym k
     where
       e : ran (first_fault b) (printed b) ≡ ran (first_fault c) (printed c)
-      e = rw (faults_same runs_alike b c.kernels same.1, printed_same runs_alike b c.kernels same.1) (ap (λ d. ran (first_fault d) (printed d)) (sym same.0))
+      e = answer_same runs_alike b c.kernels same.1 ∙ ap (λ d. ran (first_fault d) (printed d)) (sym same.0)
 
   -- ---- accesses
 

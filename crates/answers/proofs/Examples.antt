@@ -7,7 +7,7 @@ use Rattle.mesh_text.specs.declared.entry.Form.TheVariants as form
 use Rattle.answers.specs.Refusal.{CannotRead, TooDeep, NoTokens, BadName, BadTarget, BadAccess, BadMesh, BadPart, BadPartition, BeyondLimit, PartitionBytes, Steps, SetSize, Usage}
 use Rattle.answers.specs.Lines.{line_of, fault_line}
 use Rattle.distribute.specs.Parts.{Block, Bisect, Grow}
-use Rattle.answers.specs.Words.{Run, Check, ShowsPlan, ByRule, ByFile, InFiles, OfSample, OnProgram, OnPlan, Converts, ShowsUsage, ShowsVersion, WordsAre}
+use Rattle.answers.specs.Words.{Run, Check, ShowsPlan, RunsPlan, ByRule, ByFile, InFiles, OfSample, OnProgram, OnPlan, Converts, ShowsUsage, ShowsVersion, WordsAre}
 
 -- ---- lines
 
@@ -166,9 +166,23 @@ one_word_more : WordsAre (codes "op2" ∷ codes "run" ∷ codes "s.c" ∷ codes 
 unfolding clap_on_literals
 one_word_more = refl
 
-a_run_on_ranks : WordsAre (codes "op2" ∷ codes "run" ∷ codes "s.c" ∷ codes "m" ∷ codes "--ranks" ∷ codes "2" ∷ []) (Err Usage)
+a_run_on_ranks : WordsAre (codes "op2" ∷ codes "run" ∷ codes "s.c" ∷ codes "m" ∷ codes "--ranks" ∷ codes "2" ∷ [])
+    (Ok (OnPlan RunsPlan (record { ranks = 2; parting = ByRule Block; renumber = None; block = 256 }) (codes "s.c") (codes "m")))
 unfolding clap_on_literals
 a_run_on_ranks = refl
+
+a_run_in_blocks : WordsAre (codes "op2" ∷ codes "run" ∷ codes "s.c" ∷ codes "m" ∷ codes "--block=1" ∷ [])
+    (Ok (OnPlan RunsPlan (record { ranks = 1; parting = ByRule Block; renumber = None; block = 1 }) (codes "s.c") (codes "m")))
+unfolding clap_on_literals
+a_run_in_blocks = refl
+
+a_run_on_ranks_of_a_version : WordsAre (codes "op2" ∷ codes "run" ∷ codes "s.c" ∷ codes "m" ∷ codes "--ranks=2" ∷ codes "--form=1" ∷ []) (Err Usage)
+unfolding clap_on_literals
+a_run_on_ranks_of_a_version = refl
+
+a_sample_on_ranks : WordsAre (codes "op2" ∷ codes "sample" ∷ codes "20" ∷ codes "--ranks=2" ∷ []) (Err Usage)
+unfolding clap_on_literals
+a_sample_on_ranks = refl
 
 help : WordsAre (codes "op2" ∷ codes "run" ∷ codes "--help" ∷ []) (Ok ShowsUsage)
 unfolding clap_on_literals

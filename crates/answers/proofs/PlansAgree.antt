@@ -1,6 +1,8 @@
 -- What is answered of a plan is one, whatever the addresses of kernels, owners and new numbers.
 use Rattle.std.proofs.Common.{◌≡◌, ◌<◌, ℕ, List, map, Option, Some, None, Result, Ok, Err, refl, sym, ap, ◌∙◌, subst, arith}
 use Rattle.kernel_types.specs.declared.kernels.RKernel.{RKernel}
+use Rattle.kernel_types.specs.View.{rkernel_of}
+use Rattle.kernel_model.specs.Trees.{RunsAlike}
 use Rattle.mesh_decl.specs.declared.owners.Owners.{Owners}
 use Rattle.mesh_decl.specs.declared.owners.Perms.{Perms}
 use Rattle.mesh_decl.specs.Mesh.{MeshValue}
@@ -24,13 +26,13 @@ use Rattle.op_outside.specs.Outside.{Files}
 use Rattle.answers.specs.Refusal.{Refusal, PartitionBytes, BeyondLimit, Steps}
 use Rattle.answers.specs.Lines.{Answer, done, refused}
 use Rattle.answers.specs.Said.{SaysNumbers, SaysOwners}
-use Rattle.answers.specs.Words.{PlanJob, Check, ShowsPlan, Parting, ByRule, ByFile, Options}
+use Rattle.answers.specs.Words.{PlanJob, Check, ShowsPlan, RunsPlan, Parting, ByRule, ByFile, Options}
 use Rattle.answers.specs.Judgements.{NumbersOf, PartsOf, OwnersOf, Planned, IsPlanned, HasManySteps, PlanIs}
-use Rattle.answers.specs.Answers.{given, planned_text, PlannedAnswers}
+use Rattle.answers.specs.Answers.{given, sizes_text, planned_answer, PlannedAnswers}
 use Rattle.answers.proofs.Given.{given_both, given_alike}
 use Rattle.answers.proofs.IsOne.{IsOne, held_is_one, told_is_one}
 use Rattle.answers.proofs.SaidOnce.{numbers_once, owners_once}
-use Rattle.answers.proofs.SameKernels.{with_kernels}
+use Rattle.answers.proofs.SameKernels.{with_kernels, answer_same}
 use Rattle.answers.proofs.SameBound.{IsSame}
 
 -- ---- plans know nothing of kernels
@@ -76,8 +78,8 @@ same_ranks : (d e : Distribution) → distribution_value d ≡ distribution_valu
 unfolding distribution_value
 same_ranks d e h = ap (λ (v : DistributionValue). v.ranks) h
 
-module _ (one_numbers : NumbersAreOne) (one_owners : OwnersAreOne) (one_distribution : DistributionsAreOne) (one_plan_text : PlanTextsAreOne) (one_step_count : StepCountsAreOne) where
-  module _ (j : PlanJob) (o : Options) (files : Files) (some : 0 < o.ranks) (b : BoundValue) (ks : List RKernel) (fits : Fits b) where
+module _ (runs_alike : RunsAlike) (one_numbers : NumbersAreOne) (one_owners : OwnersAreOne) (one_distribution : DistributionsAreOne) (one_plan_text : PlanTextsAreOne) (one_step_count : StepCountsAreOne) where
+  module _ (j : PlanJob) (o : Options) (files : Files) (some : 0 < o.ranks) (b : BoundValue) (ks : List RKernel) (same : map rkernel_of b.kernels ≡ map rkernel_of ks) (fits : Fits b) where
     abbrev c : BoundValue
     c = with_kernels b ks
 
@@ -99,8 +101,8 @@ module _ (one_numbers : NumbersAreOne) (one_owners : OwnersAreOne) (one_distribu
       few_many : (p : Planned) (s : Refusal) → IsPlanned o b u n p → HasManySteps c v m s → ⊥
       few_many p s h k = let e = step_counts p.distribution k.distribution h.distributed k.distributed in let x = h.few in let y = k.many in omega (arith, e, x, y)
 
-      texts : (p q : Planned) → IsPlanned o b u n p → IsPlanned o c v m q → planned_text j b p ≡ planned_text j c q
-      texts p q h k = by_job j
+      answers : (p q : Planned) → IsPlanned o b u n p → IsPlanned o c v m q → planned_answer j b p ≡ planned_answer j c q
+      answers p q h k = by_job j
         where
           one : (plan_text b p.distribution.ranks.items p.plan ≡ plan_text b q.distribution.ranks.items q.plan) × (p.plan.steps ≡ q.plan.steps)
           one = one_plan_text b p.distribution.ranks.items q.distribution.ranks.items p.plan q.plan (record {
@@ -112,24 +114,25 @@ module _ (one_numbers : NumbersAreOne) (one_owners : OwnersAreOne) (one_distribu
             other_colours = has_least b ks q.distribution.ranks.items q.plan k.colours;
           })
 
-          by_job : (i : PlanJob) → planned_text i b p ≡ planned_text i c q
-          by_job Check = rw (one.1) refl
-          by_job ShowsPlan = one.0
+          by_job : (i : PlanJob) → planned_answer i b p ≡ planned_answer i c q
+          by_job Check = ap (λ n. done (sizes_text b n)) one.1
+          by_job ShowsPlan = ap done one.0
+          by_job RunsPlan = answer_same runs_alike b ks same
 
-      plans_agree : (x y : Answer) → given (PlanIs o b u n) (λ p x. x ≡ done (planned_text j b p)) x → given (PlanIs o c v m) (λ p x. x ≡ done (planned_text j c p)) y → x ≡ y
+      plans_agree : (x y : Answer) → given (PlanIs o b u n) (λ p x. x ≡ planned_answer j b p) x → given (PlanIs o c v m) (λ p x. x ≡ planned_answer j c p) y → x ≡ y
       plans_agree =
-          given_both (PlanIs o b u n) (PlanIs o c v m) (λ p x. x ≡ done (planned_text j b p)) (λ p x. x ≡ done (planned_text j c p)) (λ x y. x ≡ y) many many_few few_many
-          (λ p q h k x y e f. e ∙ ap done (texts p q h k) ∙ sym f)
+          given_both (PlanIs o b u n) (PlanIs o c v m) (λ p x. x ≡ planned_answer j b p) (λ p x. x ≡ planned_answer j c p) (λ x y. x ≡ y) many many_few few_many
+          (λ p q h k x y e f. e ∙ answers p q h k ∙ sym f)
 
     -- ---- owners
 
     abbrev FromOwners : BoundValue → Perms → Parts → Answer → Type 0
-    FromOwners d n parts = given (OwnersOf o d parts) (λ u. given (PlanIs o d u n) (λ p x. x ≡ done (planned_text j d p)))
+    FromOwners d n parts = given (OwnersOf o d parts) (λ u. given (PlanIs o d u n) (λ p x. x ≡ planned_answer j d p))
 
     module _ (n m : Perms) (numbered : SamePerms n m) (perms : ArePerms b.mesh n) where
       owners_agree : (parts : Parts) (x y : Answer) → FromOwners b n parts x → FromOwners c m parts y → x ≡ y
       owners_agree parts =
-          given_both (OwnersOf o b parts) (OwnersOf o c parts) (λ u. given (PlanIs o b u n) (λ p x. x ≡ done (planned_text j b p))) (λ u. given (PlanIs o c u m) (λ p x. x ≡ done (planned_text j c p))) (λ x y. x ≡ y)
+          given_both (OwnersOf o b parts) (OwnersOf o c parts) (λ u. given (PlanIs o b u n) (λ p x. x ≡ planned_answer j b p)) (λ u. given (PlanIs o c u m) (λ p x. x ≡ planned_answer j c p)) (λ x y. x ≡ y)
           (λ r s h k. ap refused (owners_once h.0 r s h.2 (subst (λ e. SaysOwners e s) (sym (both (Err h.0) (Err k.0) h.1 k.1)) k.2)))
           (λ r v h k. both (Err h.0) (Ok v) h.1 k)
           (λ u s h k. both (Ok u) (Err k.0) h k.1)
@@ -159,4 +162,4 @@ module _ (one_numbers : NumbersAreOne) (one_owners : OwnersAreOne) (one_distribu
 
   pub plans_alike : (j : PlanJob) (o : Options) (files : Files) → 0 < o.ranks → (b c : BoundValue) → IsSame b c → (x y : Answer) → PlannedAnswers j o files b x → PlannedAnswers j o files c y → x ≡ y
   plans_alike j o files some b c same x y h k =
-      numbers_agree j o files some b c.kernels h.0 x y h.1 (subst (λ d. PlannedAnswers j o files d y) same.0 k).1
+      numbers_agree j o files some b c.kernels same.1 h.0 x y h.1 (subst (λ d. PlannedAnswers j o files d y) same.0 k).1

@@ -1,5 +1,5 @@
 -- Kernels with the same trees, in bound programs that are the same but for these.
-use Rattle.std.proofs.Common.{◌≡◌, ℕ, zero, suc, List, [], ◌∷◌, map, Option, Some, None, refl, ap}
+use Rattle.std.proofs.Common.{◌≡◌, ℕ, zero, suc, List, [], ◌∷◌, map, Option, Some, None, refl, ap, ap₂}
 use Rattle.std.proofs.Math.Path.{fun_ext}
 use Rattle.kernel_types.specs.declared.faults.KernelFault.{KernelFault}
 use Rattle.kernel_types.specs.declared.kernels.RKernel.{RKernel}
@@ -18,6 +18,7 @@ use Rattle.run_model.specs.Kernels.{kernel_at, constant_values, run_of}
 use Rattle.run_model.specs.Arguments.{modes_of}
 use Rattle.run_model.specs.Programs.{program_of, item_at, loop_of, printed, printed_in, first_fault, stop_in}
 use Rattle.kernel_model.specs.Trees.{RunsAlike, WalksAlike}
+use Rattle.answers.specs.Answers.{ran}
 use Rattle.answers.proofs.Sites.{found_by, site_found, first_found, same_found}
 
 -- both are missing, or have one tree
@@ -70,8 +71,11 @@ module _ (runs_alike : RunsAlike) where
           let site = site_at b (loop_of (item_at b k)) in
           run_same b (kernel_at b.kernels site.kernel) (kernel_at ls site.kernel) (same_at b.kernels ls e site.kernel) site x s
 
-  pub printed_same : (b : BoundValue) (ls : List RKernel) → map rkernel_of b.kernels ≡ map rkernel_of ls → printed b ≡ printed (with_kernels b ls)
+  printed_same : (b : BoundValue) (ls : List RKernel) → map rkernel_of b.kernels ≡ map rkernel_of ls → printed b ≡ printed (with_kernels b ls)
   printed_same b ls e = ap (λ p. printed_in (sequential p)) (programs_same b ls e)
 
-  pub faults_same : (b : BoundValue) (ls : List RKernel) → map rkernel_of b.kernels ≡ map rkernel_of ls → first_fault b ≡ first_fault (with_kernels b ls)
+  faults_same : (b : BoundValue) (ls : List RKernel) → map rkernel_of b.kernels ≡ map rkernel_of ls → first_fault b ≡ first_fault (with_kernels b ls)
   faults_same b ls e = ap (λ p. stop_in (sequential p)) (programs_same b ls e)
+
+  pub answer_same : (b : BoundValue) (ls : List RKernel) → map rkernel_of b.kernels ≡ map rkernel_of ls → ran (first_fault b) (printed b) ≡ ran (first_fault (with_kernels b ls)) (printed (with_kernels b ls))
+  answer_same b ls e = ap₂ ran (faults_same b ls e) (printed_same b ls e)

@@ -8,9 +8,9 @@ use Rattle.mesh_text.specs.Canonical.{canonical}
 use Rattle.op_outside.specs.Outside.{Files, appended, AppendsFront}
 use Rattle.answers.specs.Refusal.{Refusal, Usage, CannotRead, NoTokens, NoTree, TooDeep, BadName, BadBinding, BadTarget, BadAccess, BadMesh, BadPart, BadPartition, BeyondLimit, status_of}
 use Rattle.answers.specs.Lines.{Answer, done, refused, faulted}
-use Rattle.answers.specs.Words.{Job, Run, PlanJob, Options, Input, InFiles, Command, OnProgram, OnPlan, Converts, ShowsUsage, ShowsVersion, WordsAre, named_by}
-use Rattle.answers.specs.Judgements.{SourceIs, TreeIs, TypesAre, FileIs, MeshIs, EntriesAre, BoundIs, AccessesAre, NumbersOf, PartsOf, OwnersOf, PlanIs}
-use Rattle.answers.specs.Answers.{given, ran, JobAnswers, planned_text, PlannedAnswers, BoundAnswers, CommandAnswers, Answers}
+use Rattle.answers.specs.Words.{Job, Run, PlanJob, Check, ShowsPlan, RunsPlan, Options, Input, InFiles, Command, OnProgram, OnPlan, Converts, ShowsUsage, ShowsVersion, WordsAre, named_by}
+use Rattle.answers.specs.Judgements.{SourceIs, TreeIs, TypesAre, FileIs, MeshIs, EntriesAre, BoundIs, AccessesAre, NumbersOf, PartsOf, OwnersOf, Planned, PlanIs}
+use Rattle.answers.specs.Answers.{given, ran, JobAnswers, planned_answer, PlannedAnswers, BoundAnswers, CommandAnswers, Answers}
 use Rattle.answers.specs.Endings.{Ending, Answered, OutOfMemory, Unread, Unwritten, ending_status, unwritten_status, Call, IsSomeAnswer, TellsUntold, Tells, no_files, IsWritten, EndsBy, Ends, Shows, IsShown, IsSilent}
 use Rattle.answers.specs.Laws.{Agree, AnswersAgree}
 use Rattle.answers.proofs.Complete.{tells_answer}
@@ -33,12 +33,17 @@ ran_form (Some x) bytes a e = IsFaulted bytes x e
 job_form : (j : Job) (b : BoundValue) (a : Answer) → JobAnswers j b a → Form a
 job_form Run b a h = ran_form (first_fault b) (printed b) a h
 
+plan_job_form : (j : PlanJob) (b : BoundValue) (p : Planned) (a : Answer) → a ≡ planned_answer j b p → Form a
+plan_job_form Check b p a e = IsDone _ e
+plan_job_form ShowsPlan b p a e = IsDone _ e
+plan_job_form RunsPlan b p a e = ran_form (first_fault b) (printed b) a e
+
 planned_form : (j : PlanJob) (o : Options) (files : Files) (b : BoundValue) (a : Answer) → PlannedAnswers j o files b a → Form a
 planned_form j o files b a h =
     given_form (NumbersOf o b) _ (λ n.
     given_form (PartsOf o.parting files) _ (λ parts.
     given_form (OwnersOf o b parts) _ (λ u.
-    given_form (PlanIs o b u n) (λ p x. x ≡ done (planned_text j b p)) (λ p a h. IsDone (planned_text j b p) h)))) a h.1
+    given_form (PlanIs o b u n) (λ p x. x ≡ planned_answer j b p) (plan_job_form j b)))) a h.1
 
 bound_form : (rest : BoundValue → Answer → Type 0) → ((b : BoundValue) (a : Answer) → rest b a → Form a) → (input : Input) (files : Files) (a : Answer) → BoundAnswers rest input files a → Form a
 bound_form rest form input files =

@@ -12,7 +12,7 @@ use Rattle.op_num.specs.Spelling.{number_of}
 use Rattle.mesh_gen.specs.declared.places.TheConstants.{MAX_SIDE}
 use Rattle.answers.specs.declared.limits.TheConstants.{MAX_RANKS, MAX_BLOCK}
 use Rattle.answers.specs.Refusal.{Refusal}
-use Rattle.answers.specs.Words.{PlanJob, Check, ShowsPlan, Parting, Options, Command, OnPlan, command, number_to, number_or, form_of, OptionWords, options_in, parting_of, options_with, options_of, plans_nothing, is_plain, runs, samples, converts, plans, by_job, or_usage, asked, judged, WordsAre}
+use Rattle.answers.specs.Words.{PlanJob, Check, ShowsPlan, RunsPlan, Parting, Options, Command, OnPlan, command, number_to, number_or, form_of, OptionWords, options_in, parting_of, options_with, options_of, plans_nothing, is_plain, runs, samples, converts, plans, by_job, or_usage, asked, judged, WordsAre}
 use Rattle.answers.specs.Laws.{AreWithin}
 
 -- P is so of what there is
@@ -79,10 +79,6 @@ abbrev IsWithin : Command → Type 0
 IsWithin (OnPlan j o source mesh) = AreWithin o
 IsWithin c = Unit {0}
 
-runs_hold : (input : List ℕ) (mesh : Option (List ℕ)) (w : OptionWords) → Holds IsWithin (runs input mesh w)
-runs_hold input None w = tt
-runs_hold input (Some mesh) w = holds_if IsWithin (is_plain w) _ _ tt tt
-
 samples_hold : (input : List ℕ) (mesh : Option (List ℕ)) (w : OptionWords) → Holds IsWithin (samples input mesh w)
 samples_hold input None w = holds_if IsWithin (is_plain w) _ _ (holds_map Any IsWithin _ (number_to MAX_SIDE input) (any (number_to MAX_SIDE input)) (λ n h. tt)) tt
 samples_hold input (Some mesh) w = tt
@@ -94,6 +90,10 @@ converts_hold input (Some mesh) w = tt
 plans_hold : (j : PlanJob) (input : List ℕ) (mesh : Option (List ℕ)) (w : OptionWords) → Holds IsWithin (plans j input mesh w)
 plans_hold j input None w = tt
 plans_hold j input (Some mesh) w = holds_if IsWithin (is_some w.form) _ _ tt (holds_map AreWithin IsWithin _ (options_of w) (options_hold w) (λ o h. h))
+
+runs_hold : (input : List ℕ) (mesh : Option (List ℕ)) (w : OptionWords) → Holds IsWithin (runs input mesh w)
+runs_hold input None w = tt
+runs_hold input (Some mesh) w = holds_if IsWithin (is_plain w) _ _ tt (plans_hold RunsPlan input (Some mesh) w)
 
 jobs_hold : (job input : List ℕ) (mesh : Option (List ℕ)) (w : OptionWords) → Holds IsWithin (by_job job input mesh w)
 jobs_hold job input mesh w =

@@ -24,9 +24,9 @@ use Rattle.part_text.specs.declared.refusals.PartRefusal.{PartRefusal}
 use Rattle.part_text.specs.declared.refusals.PartRefusal.TheVariants as part
 use Rattle.distribute.specs.Parts.{NumbersRefusal, UnknownMap, OwnersRefusal, NoDat, NoMap, Unspelled}
 use Rattle.answers.specs.Said.{SaysLex, SaysSource, SaysTypes, SaysMesh, SaysBinding, SaysNumbers, SaysPartition, SaysOwners}
-use Rattle.answers.specs.Words.{Job, Run, PlanJob, Parting, ByRule, ByFile, Options, Input, InFiles, OfSample, Command, OnProgram, OnPlan, Converts, ShowsUsage, ShowsVersion, WordsAre, named_by, names_in}
-use Rattle.answers.specs.Judgements.{IsHeld, SourceIs, TreeIs, TypesAre, FileIs, MeshIs, EntriesAre, BoundIs, AccessesAre, NumbersOf, PartsOf, OwnersOf, PlanIs}
-use Rattle.answers.specs.Answers.{given, ran, JobAnswers, planned_text, PlannedAnswers, BoundAnswers, CommandAnswers, Answers}
+use Rattle.answers.specs.Words.{Job, Run, PlanJob, Check, ShowsPlan, RunsPlan, Parting, ByRule, ByFile, Options, Input, InFiles, OfSample, Command, OnProgram, OnPlan, Converts, ShowsUsage, ShowsVersion, WordsAre, named_by, names_in}
+use Rattle.answers.specs.Judgements.{IsHeld, SourceIs, TreeIs, TypesAre, FileIs, MeshIs, EntriesAre, BoundIs, AccessesAre, NumbersOf, PartsOf, OwnersOf, Planned, PlanIs}
+use Rattle.answers.specs.Answers.{given, ran, JobAnswers, planned_answer, PlannedAnswers, BoundAnswers, CommandAnswers, Answers}
 use Rattle.answers.specs.Endings.{Ending, Answered, OutOfMemory, Unread, Unwritten, ending_status, unwritten_status, Call, IsOfContents, IsSomeAnswer, TellsUntold, Tells, no_files, IsWritten, EndsBy, Ends, IsUsage}
 use Rattle.answers.proofs.Complete.{tells_answer, unwritten_is}
 
@@ -196,12 +196,17 @@ mesh_other_words : (input : Input) (files : Files) (r : Refusal) → MeshIs inpu
 mesh_other_words (InFiles source mesh) files r h = held_other MeshBytes mesh (files mesh) r h
 mesh_other_words (OfSample side) files r h = absurd (let bad : ⊥ = cc in bad)
 
+plan_job_not : (j : PlanJob) (b : BoundValue) (p : Planned) (a : Answer) → a ≡ planned_answer j b p → NotTwo a
+plan_job_not Check b p a e = done_not _ a e
+plan_job_not ShowsPlan b p a e = done_not _ a e
+plan_job_not RunsPlan b p a e = ran_not (first_fault b) (printed b) a e
+
 planned_not : (j : PlanJob) (o : Options) (files : Files) (b : BoundValue) (a : Answer) → PlannedAnswers j o files b a → NotTwo a
 planned_not j o files b a h =
     given_not (NumbersOf o b) _ (λ r h. numbers_other h.0 r h.2) (λ n.
     given_not (PartsOf o.parting files) _ (λ r h. parts_other o.parting files r h) (λ parts.
     given_not (OwnersOf o b parts) _ (λ r h. owners_other h.0 r h.2) (λ u.
-    given_not (PlanIs o b u n) (λ p x. x ≡ done (planned_text j b p)) (λ r h. is_other r _ h.says tt) (λ p a h. done_not (planned_text j b p) a h)))) a h.1
+    given_not (PlanIs o b u n) (λ p x. x ≡ planned_answer j b p) (λ r h. is_other r _ h.says tt) (plan_job_not j b)))) a h.1
 
 bound_not : (rest : BoundValue → Answer → Type 0) → ((b : BoundValue) (a : Answer) → rest b a → NotTwo a) → (input : Input) (files : Files) (a : Answer) → BoundAnswers rest input files a → NotTwo a
 bound_not rest not input files =

@@ -14,8 +14,8 @@ use Rattle.mesh_text.specs.Canonical.{canonical}
 use Rattle.answers.specs.declared.usage.TheConstants.{USAGE, VERSION}
 use Rattle.answers.specs.Refusal.{Refusal, CannotRead}
 use Rattle.answers.specs.Lines.{Answer, done, refused, faulted}
-use Rattle.answers.specs.Words.{Job, Run, PlanJob, Check, ShowsPlan, Options, Input, InFiles, Command, OnProgram, OnPlan, Converts}
-use Rattle.answers.specs.Words.{ShowsUsage, ShowsVersion, WordsAre}
+use Rattle.answers.specs.Words.{Job, Run, PlanJob, Check, ShowsPlan, RunsPlan, Options, Input, InFiles, Command, OnProgram, OnPlan}
+use Rattle.answers.specs.Words.{Converts, ShowsUsage, ShowsVersion, WordsAre}
 use Rattle.answers.specs.Judgements.{SourceIs, TreeIs, TypesAre, FileIs, MeshIs, EntriesAre, BoundIs, AccessesAre}
 use Rattle.answers.specs.Judgements.{NumbersOf, PartsOf, OwnersOf, Planned, PlanIs}
 
@@ -53,12 +53,14 @@ sizes_text b steps =
     codes "ok items " ++ decimal (length b.trace) ++ codes " sites " ++ decimal (length b.sites)
     ++ codes " steps " ++ decimal steps ++ codes "\n"
 
--- what a job on a plan writes
-abbrev pub planned_text : PlanJob → BoundValue → Planned → List ℕ
-planned_text Check b p = sizes_text b p.plan.steps
-planned_text ShowsPlan b p = plan_text b p.distribution.ranks.items p.plan
+-- What a job on a plan answers: the sizes of the plan, its text, or what the program's run without ranks printed, up to its first
+-- fault if it has one.
+abbrev pub planned_answer : PlanJob → BoundValue → Planned → Answer
+planned_answer Check b p = done (sizes_text b p.plan.steps)
+planned_answer ShowsPlan b p = done (plan_text b p.distribution.ranks.items p.plan)
+planned_answer RunsPlan b p = ran (first_fault b) (printed b)
 
--- The answer of a job on the plan of a bound program: four judgements in this order, and then what the job writes. The program fits,
+-- The answer of a job on the plan of a bound program: four judgements in this order, and then what the job answers. The program fits,
 -- as all that is bound does; this stands here since distributions and plans are one where it is so.
 abbrev pub PlannedAnswers : PlanJob → Options → Files → BoundValue → Answer → Type 0
 PlannedAnswers j o files b a =
@@ -66,7 +68,7 @@ PlannedAnswers j o files b a =
     × given (NumbersOf o b) (λ n.
     given (PartsOf o.parting files) (λ parts.
     given (OwnersOf o b parts) (λ u.
-    given (PlanIs o b u n) (λ p x. x ≡ done (planned_text j b p))))) a
+    given (PlanIs o b u n) (λ p x. x ≡ planned_answer j b p)))) a
 
 -- The answer of a job on the plan of the program in a file over the mesh in a file.
 abbrev pub PlanAnswers : PlanJob → Options → (source mesh : List ℕ) → Files → Answer → Type 0

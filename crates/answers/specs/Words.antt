@@ -19,10 +19,11 @@ use Rattle.answers.specs.Refusal.{Refusal, Usage}
 pub data Job : Type 0 where
   Run : Job
 
--- what is done with a plan: its sizes are told, or its text is written
+-- what is done with a plan: its sizes are told, or its text is written, or the program runs by it
 pub data PlanJob : Type 0 where
   Check : PlanJob
   ShowsPlan : PlanJob
+  RunsPlan : PlanJob
 
 -- who owns which element: by a rule, or as the file of this name says
 pub data Parting : Type 0 where
@@ -175,11 +176,6 @@ options_of w =
 
 -- ---- jobs
 
--- `run SOURCE MESH`
-abbrev pub runs : (input : List ℕ) (mesh : Option (List ℕ)) → OptionWords → Option Command
-runs input (Some mesh) w = if is_plain w then Some (OnProgram Run (InFiles input mesh)) else None
-runs input None w = None
-
 -- `sample SIDE`
 abbrev pub samples : (input : List ℕ) (mesh : Option (List ℕ)) → OptionWords → Option Command
 samples input None w = if is_plain w then option_map (λ side. OnProgram Run (OfSample side)) (number_to MAX_SIDE input) else None
@@ -194,6 +190,11 @@ converts input (Some mesh) w = None
 abbrev pub plans : PlanJob → (input : List ℕ) (mesh : Option (List ℕ)) → OptionWords → Option Command
 plans j input (Some mesh) w = if is_some w.form then None else option_map (λ o. OnPlan j o input mesh) (options_of w)
 plans j input None w = None
+
+-- `run SOURCE MESH`: on ranks where it has a plan's options
+abbrev pub runs : (input : List ℕ) (mesh : Option (List ℕ)) → OptionWords → Option Command
+runs input (Some mesh) w = if is_plain w then Some (OnProgram Run (InFiles input mesh)) else plans RunsPlan input (Some mesh) w
+runs input None w = None
 
 -- by the job's name
 abbrev pub by_job : (job input : List ℕ) (mesh : Option (List ℕ)) → OptionWords → Option Command

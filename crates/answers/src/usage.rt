@@ -16,14 +16,14 @@ Words
 
 Options
   --form FORM    for convert: the version of the mesh format, 1 or 2 (runs of equal values); 2 where it isn't given
-  --ranks N      for check and plan: how many ranks there are, from 1 to 64; 1 where it isn't given
-  --parts RULE   for check and plan: who owns which element; block where it isn't given
+  --ranks N      for run, check and plan: how many ranks there are, from 1 to 64; 1 where it isn't given
+  --parts RULE   for run, check and plan: who owns which element; block where it isn't given
                    block       each set in blocks of consecutive elements
                    bisect:DAT  cuts along the values of the dat DAT, and the other sets by their maps
                    grow:MAP    growth over the neighbours by the map MAP, and the other sets by their maps
-  --partition F  for check and plan, in place of --parts: who owns which element, as the file F says
-  --renumber MAP for check and plan: new numbers by Cuthill and McKee over the map MAP; none where it isn't given
-  --block N      for check and plan: how many places a block has, from 1 to 65536; 256 where it isn't given
+  --partition F  for run, check and plan, in place of --parts: who owns which element, as the file F says
+  --renumber MAP for run, check and plan: new numbers by Cuthill and McKee over the map MAP; none where it isn't given
+  --block N      for run, check and plan: how many places a block has, from 1 to 65536; 256 where it isn't given
   -h, --help     writes this text
   -V, --version  writes the version
 

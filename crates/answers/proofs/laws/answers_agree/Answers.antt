@@ -7,5 +7,5 @@ returns c =
     law.answers_agree c.kernels_are_trees.ensures.runs c.kernels_are_trees.ensures.walks c.one_outcome-2.ensures.one
     c.one_outcome.ensures c.one_tree.ensures c.one_answer.ensures c.walk_finds.ensures c.rules_are_broken.ensures.obeys
     c.rules_are_broken.ensures.first
-    (plans.plans_alike c.one_numbers.ensures c.one_owners.ensures
+    (plans.plans_alike c.kernels_are_trees.ensures.runs c.one_numbers.ensures c.one_owners.ensures
     c.one_distribution.ensures c.one_plan_text.ensures c.one_step_count.ensures)
