@@ -18,15 +18,17 @@ use Rattle.local_mesh.specs.declared.types.RankMesh.{RankMesh}
 use Rattle.loop_plan.specs.Values.{PlanValue}
 use Rattle.loop_plan.specs.Proper.{Proper, HasLeastColours}
 use Rattle.loop_plan.specs.StepCounts.{program_steps}
-use Rattle.loop_plan.specs.Distributed.{Distributed}
+use Rattle.run_model.specs.Programs.{printed, first_fault}
+use Rattle.loop_plan.specs.Distributed.{IsDistributed, Distributed}
+use Rattle.halo_lists.specs.Halos.{AreHalos}
 use Rattle.answers.specs.Refusal.{Refusal, PartitionBytes, Steps, CannotRead, BeyondLimit}
 use Rattle.answers.specs.Lines as lines
 use Rattle.answers.specs.Lines.{most, refused}
-use Rattle.answers.specs.Words.{PlanJob, ByRule, ByFile, Options, names_by}
+use Rattle.answers.specs.Words.{PlanJob, Check, ShowsPlan, RunsPlan, ByRule, ByFile, Options, names_by}
 use Rattle.answers.specs.Said.{SaysOwners}
-use Rattle.answers.specs.Endings.{IsOfContents}
-use Rattle.answers.specs.Judgements.{IsHeld, NumbersOf, PartsOf, OwnersOf, IsPlanned, HasManySteps}
-use Rattle.answers.specs.Answers.{planned_text, PlannedAnswers}
+use Rattle.answers.specs.Endings.{IsOfContents, IsSomeAnswer}
+use Rattle.answers.specs.Judgements.{IsHeld, NumbersOf, PartsOf, OwnersOf, Planned, IsPlanned, HasManySteps}
+use Rattle.answers.specs.Answers.{planned_answer, PlannedAnswers}
 use Rattle.op2_cli.specs.declared.answered.Answer.{Answer}
 use Rattle.op2_cli.specs.declared.refusals.Failure.TheVariants.{Unread, OutOfMemory}
 use Rattle.op2_cli.specs.declared.refusals.Halt.{Halt}
@@ -35,6 +37,7 @@ use Rattle.op2_cli.specs.Halts.{refusal_of, SpoiltWhere, UnreadWhere}
 use Rattle.op2_cli.specs.Chains.{OwnersAnswers, NeverOwned, LastAnswers, IsAnswered, AnswersBy, OwnedBy, IsSpread, Holds, AnswersWith}
 use Rattle.op2_cli.proofs.Chained.{stops_weaker, contains_first, missing}
 use Rattle.op2_cli.proofs.BoundFiles.{given_weaker, answered_with, spoilt_with, with_weaker}
+use Rattle.op2_cli.proofs.Ran.{some_ran}
 
 -- ---- owners
 
@@ -149,16 +152,30 @@ spread g u n d are_owners are_perms h =
 pub spread_by : (b : BoundValue) (d : Distribution) → IsSpread b d → Distributed b.mesh d.halos d.ranks.items
 spread_by b d h = spread b.mesh h.owners h.numbers d h.are_owners h.are_perms h.distributed
 
+some_planned : (j : PlanJob) (b : BoundValue) (p : Planned) → IsSomeAnswer (planned_answer j b p)
+some_planned Check b p = inl (_, refl)
+some_planned ShowsPlan b p = inl (_, refl)
+some_planned RunsPlan b p = some_ran (first_fault b) (printed b)
+
+pub spread_on : (b : BoundValue) (d : Distribution) → IsSpread b d → (n : Perms) × IsDistributed b.mesh d.owners n d.ranks.items × AreHalos b.mesh d.owners d.halos
+spread_on b d h =
+    let k = h.distributed in (
+      h.numbers,
+      subst (λ u. IsDistributed b.mesh u h.numbers d.ranks.items) (sym k.owners) (record { are_owners = h.are_owners; are_perms = h.are_perms; are_meshes = k.ranks }),
+      subst (λ u. AreHalos b.mesh u d.halos) (sym k.owners) k.halos,
+    )
+
 module _ (j : PlanJob) (o : Options) (b : BoundValue) (u : Owners) (n : Perms) (d : Distribution) (ranks : List RankMesh) (same : ranks ≡ d.ranks.items) (distributed : IsDistribution b.mesh u n d) where
-  pub plan_written : (v : List ℕ) (p : PlanValue)
+  pub plan_answered : (a : lines.Answer) (p : PlanValue)
       → Proper b ranks p
       → HasLeastColours b ranks p
       → p.block ≡ o.block
       → p.steps ≡ program_steps b ranks
       → p.steps ≤ most Steps
-      → v ≡ planned_text j b (record { distribution = d; plan = p })
-      → IsAnswered (LastAnswers j o b u n) (lines.done v)
-  plan_written v p proper colours block steps few e = (inr (record { distribution = d; plan = p }, planned, ap lines.done e), inl (v, refl))
+      → a ≡ planned_answer j b (record { distribution = d; plan = p })
+      → IsAnswered (LastAnswers j o b u n) a
+  plan_answered a p proper colours block steps few e =
+      (inr (record { distribution = d; plan = p }, planned, e), subst IsSomeAnswer (sym e) (some_planned j b (record { distribution = d; plan = p })))
     where
       planned : IsPlanned o b u n (record { distribution = d; plan = p })
       planned = record {

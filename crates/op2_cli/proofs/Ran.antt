@@ -63,7 +63,7 @@ module _ (p : ProgramTree) (types : Resolved) (text : List ℕ) where
 
 -- ---- the run
 
-some_ran : (o : Option (Stop KernelFault)) (bytes : List ℕ) → IsSomeAnswer (ran o bytes)
+pub some_ran : (o : Option (Stop KernelFault)) (bytes : List ℕ) → IsSomeAnswer (ran o bytes)
 some_ran None bytes = inl (bytes, refl)
 some_ran (Some x) bytes = inr (inr (bytes, x, refl))
 

@@ -19,7 +19,7 @@ use Rattle.distribute.specs.Distributions.{IsDistribution}
 use Rattle.bound_program.specs.Values.{BoundValue}
 use Rattle.answers.specs.Words.{Run, PlanJob, Options, InFiles}
 use Rattle.answers.specs.Judgements.{SourceIs, TreeIs, TypesAre, FileIs, EntriesAre, BoundIs, AccessesAre, PartsOf, OwnersOf, PlanIs}
-use Rattle.answers.specs.Answers.{given, JobAnswers, planned_text, without}
+use Rattle.answers.specs.Answers.{given, JobAnswers, planned_answer, without}
 use Rattle.answers.specs.Endings.{IsSomeAnswer, no_files}
 use Rattle.op2_cli.specs.declared.answered.Answer.{Answer}
 use Rattle.op2_cli.specs.declared.answered.Answer.TheVariants as answer
@@ -61,9 +61,9 @@ OwnersAnswers o b rest files = given (PartsOf o.parting files) (λ parts. given 
 abbrev pub NeverOwned : Owners → lines.Answer → Type 0
 NeverOwned u a = ⊥
 
--- what is answered of owners and new numbers: the plan, and what the job writes of it
+-- what is answered of owners and new numbers: the plan, and what the job answers of it
 abbrev pub LastAnswers : PlanJob → Options → BoundValue → Owners → Perms → lines.Answer → Type 0
-LastAnswers j o b u n = given (PlanIs o b u n) (λ p a. a ≡ lines.done (planned_text j b p))
+LastAnswers j o b u n = given (PlanIs o b u n) (λ p a. a ≡ planned_answer j b p)
 
 -- what is answered over the text of a mesh that is written again
 abbrev pub RewriteAnswers : Form → List ℕ → lines.Answer → Type 0

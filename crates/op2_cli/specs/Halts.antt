@@ -104,6 +104,7 @@ options_in o = record { ranks = o.ranks; parting = parting_in o.parting; renumbe
 abbrev pub job_in : PlanJob → words.PlanJob
 job_in job.Check = words.Check
 job_in job.ShowsPlan = words.ShowsPlan
+job_in job.RunsPlan = words.RunsPlan
 
 -- what the words ask for
 abbrev pub command_of : Asked → Command

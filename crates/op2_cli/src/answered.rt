@@ -4,38 +4,33 @@ ghost use Rattle.std.specs.Prelude.{◌≡◌, ◌≤◌, [], ◌∷◌, ◌++�
 ghost use Rattle.op_outside.specs.Outside.{Rose};
 ghost use Rattle.c_tree.specs.View.{program_of};
 ghost use Rattle.mesh_text.specs.declared.entry.TheConstants.{MESH_BYTES};
-ghost use Rattle.sequential_run.specs.Outcomes.{stop_of};
 ghost use Rattle.answers.specs.Refusal.{status_of};
 ghost use Rattle.answers.specs.Lines as lines;
-ghost use Rattle.bound_program.specs.Values.{bound_of};
-ghost use Rattle.bound_program.specs.Fits.{Fits};
 ghost use Rattle.answers.specs.Words.{Run, InFiles, OfSample, names_by, names_of, named_by};
 ghost use Rattle.answers.specs.Laws.{AreWithin};
-ghost use Rattle.answers.specs.Judgements.{AccessesAre};
-ghost use Rattle.answers.specs.Answers.{ran, JobAnswers, ProgramAnswers, PlanAnswers, ConvertAnswers, CommandAnswers, Answers};
+ghost use Rattle.answers.specs.Answers.{ProgramAnswers, PlanAnswers, ConvertAnswers, CommandAnswers, Answers};
 ghost use Rattle.answers.specs.Endings.{no_files};
 ghost use Rattle.op2_cli.specs.Halts.{refusal_of, command_of, options_in, job_in, IsInRange, IsJudged};
 ghost use Rattle.op2_cli.specs.Chains.{answer_of, TextAnswers, RewriteAnswers, AnswersBy, AnswersOver};
 ghost use Rattle.op2_cli.specs.Writes.{CallAnswers};
 
 use crate::files::file_of;
-use crate::lines::{put_fault, put_refusal};
+use crate::lines::put_refusal;
 use crate::meshes::entries_of;
 use crate::options::Options;
 use crate::plans::planned;
 use crate::programs::{bound_files, bound_over};
 use crate::refusals::{Failure, Halt, Limit, Refusal};
+use crate::runs::run_of;
 use crate::sources::{tree_of, types_of};
 use crate::words::{Asked, PlanJob, read_words};
 use answers::{USAGE, VERSION, options_are_within};
-use bound_program::Bound;
 use c_tree::Program;
 use kernel_types::Resolved;
 use mesh_gen::sample;
 use mesh_text::{Form, write_mesh};
 use op_num::OutOfMemory;
 use op_outside::Shelf;
-use sequential_run::{Outcome, run};
 use std::alloc::Global;
 
 /// An answer: the bytes for the output, and the line for the errors.
@@ -87,31 +82,6 @@ fn refused(alloc: Global, refusal: &Refusal<'_>) -> Result<Answer, OutOfMemory>
         status: status_of(refusal),
         line,
     })
-}
-
-// The answer of a run.
-fn ran(alloc: Global, outcome: Outcome) -> Result<Answer, OutOfMemory>
-    ensures { IfOk result (λ a. answer_of a ≡ ran (option_map stop_of outcome.stop) outcome.out.items) }
-{
-    let Some(stop) = outcome.stop else {
-        return Ok(Answer::Done(outcome.out));
-    };
-    let mut line = Vec::new(alloc);
-    put_fault(&mut line, &stop)?;
-    Ok(Answer::Faulted {
-        out: outcome.out,
-        line,
-    })
-}
-
-// The answer of the run of a bound program.
-fn run_of<'a>(alloc: Global, bound: &Bound) -> Result<Answer, Halt<'a>>
-    requires fits { Fits (bound_of bound.now) }
-    requires obeyed { AccessesAre (bound_of bound.now) (Ok tt) }
-    ensures { AnswersBy (JobAnswers Run (bound_of bound.now)) result }
-{
-    let outcome = run(alloc, bound)?;
-    Ok(ran(alloc, outcome)?)
 }
 
 // The answer of a program over the text of a mesh.

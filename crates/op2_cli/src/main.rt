@@ -12,12 +12,14 @@ mod options;
 mod plan_tests;
 mod plans;
 mod programs;
+mod ranges;
 #[cfg(test)]
 mod refusal_tests;
 mod refusals;
 mod report;
 #[cfg(test)]
 mod run_tests;
+mod runs;
 mod sources;
 #[cfg(test)]
 mod tests;

@@ -13,17 +13,18 @@ ghost use Rattle.answers.specs.Said.{SaysPartition, SaysOwners};
 ghost use Rattle.answers.specs.declared.limits.TheConstants.{PARTITION_BYTES};
 ghost use Rattle.answers.specs.Words.{ByFile, names_by};
 ghost use Rattle.answers.specs.Laws.{AreWithin};
-ghost use Rattle.answers.specs.Judgements.{NumbersOf, OwnersOf};
-ghost use Rattle.answers.specs.Answers.{sizes_text, planned_text, PlannedAnswers};
+ghost use Rattle.answers.specs.Judgements.{AccessesAre, NumbersOf, OwnersOf};
+ghost use Rattle.answers.specs.Answers.{sizes_text, planned_answer, PlannedAnswers};
 ghost use Rattle.op2_cli.specs.declared.refusals.Failure.TheVariants.{OutOfMemory};
 ghost use Rattle.op2_cli.specs.declared.refusals.Halt.TheVariants.{Failed};
 ghost use Rattle.op2_cli.specs.Halts.{options_in, job_in, SpoiltWhere};
-ghost use Rattle.op2_cli.specs.Chains.{OwnedBy, OwnersAnswers, LastAnswers, NeverOwned, IsSpread, AnswersBy, AnswersWith};
+ghost use Rattle.op2_cli.specs.Chains.{answer_of, OwnedBy, OwnersAnswers, LastAnswers, NeverOwned, IsSpread, AnswersBy, AnswersWith};
 
 use crate::answered::Answer;
 use crate::files::file_of;
 use crate::options::{Options, Parting};
 use crate::refusals::{Failure, Halt, Limit, Refusal};
+use crate::runs::run_on;
 use crate::words::PlanJob;
 use bound_program::Bound;
 use distribute::{
@@ -177,23 +178,25 @@ fn sizes_text(alloc: Global, bound: &Bound, plan: &Plan) -> Result<Vec<u8>, OutO
     Ok(out)
 }
 
-// What a job writes of a plan.
-fn planned_text(
+// What a job answers of a plan.
+fn planned_answer(
     alloc: Global,
     job: PlanJob,
     bound: &Bound,
     found: &Distribution,
     plan: &Plan,
-) -> Result<Vec<u8>, OutOfMemory>
+) -> Result<Answer, OutOfMemory>
     requires fits { Fits (bound_of bound.now) }
+    requires obeyed { AccessesAre (bound_of bound.now) (Ok tt) }
     requires found { IsSpread (bound_of bound.now) found.now }
     requires plan { Proper (bound_of bound.now) found.now.ranks.items (plan_of plan.now) }
-    ensures { IfOk result (λ v. v.items
-        ≡ planned_text (job_in job) (bound_of bound.now) (record { distribution = found.now; plan = plan_of plan.now })) }
+    ensures { IfOk result (λ a. answer_of a
+        ≡ planned_answer (job_in job) (bound_of bound.now) (record { distribution = found.now; plan = plan_of plan.now })) }
 {
     match job {
-        PlanJob::Check => sizes_text(alloc, bound, plan),
-        PlanJob::ShowsPlan => write_plan(alloc, bound, &found.ranks, plan),
+        PlanJob::Check => Ok(Answer::Done(sizes_text(alloc, bound, plan)?)),
+        PlanJob::ShowsPlan => Ok(Answer::Done(write_plan(alloc, bound, &found.ranks, plan)?)),
+        PlanJob::RunsPlan => run_on(alloc, bound, found, plan),
     }
 }
 
@@ -207,6 +210,7 @@ fn last_answer<'a>(
     perms: Perms,
 ) -> Result<Answer, Halt<'a>>
     requires fits { Fits (bound_of bound.now) }
+    requires obeyed { AccessesAre (bound_of bound.now) (Ok tt) }
     requires within { AreWithin (options_in options.now) }
     requires owners { AreOwners (bound_of bound.now).mesh owners }
     requires perms { ArePerms (bound_of bound.now).mesh perms }
@@ -214,7 +218,7 @@ fn last_answer<'a>(
 {
     let found = distribute(alloc, &bound.mesh, owners, perms)?;
     match plan(alloc, bound, &found.ranks, &found.halos, options.block) {
-        Ok(plan) => Ok(Answer::Done(planned_text(alloc, job, bound, &found, &plan)?)),
+        Ok(plan) => Ok(planned_answer(alloc, job, bound, &found, &plan)?),
         Err(PlanRefusal::TooManySteps { steps }) => Err(Halt::Refused(Refusal::BeyondLimit {
             limit: Limit::Steps,
             size: steps,
@@ -234,6 +238,7 @@ pub fn planned<'a, F: Shelf>(
     requires lent { All (λ name. F.lends shelf.old name) (names_by (options_in options.now).parting) }
     requires within { AreWithin (options_in options.now) }
     requires fits { Fits (bound_of bound.now) }
+    requires obeyed { AccessesAre (bound_of bound.now) (Ok tt) }
     ensures { AnswersWith (F.told shelf.old) (names_by (options_in options.now).parting)
         (λ files. PlannedAnswers (job_in job) (options_in options.now) files (bound_of bound.now))
         (Rose (F.faults shelf.old) (F.faults shelf.new)) result }

@@ -1,7 +1,10 @@
 // Programs that run, and what they print.
 
-use crate::tests::{BUMP, replaced, run_of};
+use crate::tests::{BUMP, Ended, NEVER, called, replaced, run_of};
+use std::alloc::{AllocError, Global};
+use std::marker::Sync;
 use std::test::Fail;
+use std::thread::Threads;
 
 // The residual on edges: what each edge adds to its first node it takes from its second.
 const RESIDUAL: &str = "extern int nnode;
@@ -293,6 +296,69 @@ fn faults_end_runs(rt: HostRuntime) -> Result<(), Fail> {
         assert_eq!(rt; ended.err.bytes(), err.as_bytes(), "{new}");
         assert_eq!(rt; ended.status, 9, "{new}");
         assert_eq!(rt; ended.out.bytes(), out.as_bytes(), "{new}");
+    }
+    Ok(())
+}
+
+// A mesh of four nodes in a ring, whose edges have values of their own.
+const RING: &str = "op2mesh 1 int nnode 4 int nedge 4 ints edge 8 0 1 1 2 2 3 3 0
+ints x0 4 3 1 4 1 ints r0 4 0 0 0 0 ints d0 4 2 7 7 7 ints v0 4 0 0 0 0 ints w0 4 5 -3 8 2 done";
+
+// A run of the source over the ring with these options.
+fn run_by<R: Threads + Sync>(
+    rt: &R,
+    alloc: Global,
+    source: &[u8],
+    options: &[&str],
+) -> Result<Ended, AllocError> {
+    let mut words = Vec::new(alloc);
+    words.extend_from_slice(&["run", "s.c", "m.mesh"])?;
+    words.extend_from_slice(options)?;
+    called(rt, alloc, &words, source, RING, NEVER)
+}
+
+#[test]
+fn runs_on_ranks_are_those_without(rt: HostRuntime) -> Result<(), Fail> {
+    let alloc = rt.alloc();
+    let cases: [(&str, &[&str], u8); 8] = [
+        (RESIDUAL, &["--ranks", "2"], 0),
+        (RESIDUAL, &["--ranks=3", "--block=1"], 0),
+        (RESIDUAL, &["--ranks=4", "--parts=bisect:x"], 0),
+        (REDUCED, &["--ranks=2", "--parts=grow:pe"], 0),
+        (REDUCED, &["--ranks=3", "--renumber=pe"], 0),
+        (CHAIN, &["--ranks=2", "--block=1"], 0),
+        (CHAIN, &["--ranks=2"], 9),
+        (CHAIN, &["--renumber=pe"], 9),
+    ];
+    for (source, options, status) in cases {
+        let new = if status == 9 {
+            "8 / (4 - a[0])"
+        } else {
+            "a[0] + 1"
+        };
+        let source = replaced(alloc, source, "a[0] + 1", new)?;
+        let one = run_of(&rt, alloc, source.as_bytes(), RING)?;
+        let ended = run_by(&rt, alloc, source.as_bytes(), options)?;
+        assert_eq!(rt; ended.status, status, "{options:?}");
+        assert_eq!(rt; ended.status, one.status);
+        assert_eq!(rt; ended.out.bytes(), one.out.bytes());
+        assert_eq!(rt; ended.err.bytes(), one.err.bytes());
+    }
+    Ok(())
+}
+
+#[test]
+fn runs_refuse_their_ranks(rt: HostRuntime) -> Result<(), Fail> {
+    let alloc = rt.alloc();
+    for (option, status, line) in [
+        ("--renumber=edge", 7, "op2: partition name edge\n"),
+        ("--partition=s.c", 7, "op2: partition 1 line 1\n"),
+        ("--form=1", 2, "op2: usage\n"),
+    ] {
+        let ended = run_by(&rt, alloc, RESIDUAL.as_bytes(), &["--ranks=2", option])?;
+        assert_eq!(rt; ended.status, status, "{option}");
+        assert_eq!(rt; ended.out.bytes(), b"".as_slice());
+        assert_eq!(rt; ended.err.bytes(), line.as_bytes());
     }
     Ok(())
 }

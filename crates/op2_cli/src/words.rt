@@ -31,6 +31,8 @@ pub enum PlanJob {
     Check,
     /// Its text is written.
     ShowsPlan,
+    /// The program runs on its ranks.
+    RunsPlan,
 }
 
 /// What the words ask for.
@@ -177,19 +179,19 @@ fn by_job<'a>(
     }
 }
 
-// `run SOURCE MESH`.
+// `run SOURCE MESH`: on ranks where it has a plan's options.
 fn runs<'a>(input: &'a str, mesh: Option<&'a str>, options: &OptionWords<'a>) -> Option<Asked<'a>>
     ensures { option_map command_of result
         ≡ runs input.now (option_map (λ s. s.now) mesh.entry) (option_words_of options.now) }
 {
-    let mesh = mesh?;
+    let name = mesh?;
     if is_plain(options) {
         Some(Asked::Run {
             source: input,
-            mesh,
+            mesh: name,
         })
     } else {
-        None
+        plans(PlanJob::RunsPlan, input, mesh, options)
     }
 }
 

@@ -1,7 +1,8 @@
 use Rattle.bound_program.specs.Values.{bound_of}
 use Rattle.loop_plan.specs.Values.{plan_of}
 use Rattle.op2_cli.specs.Halts.{options_in, job_in}
-use Rattle.op2_cli.proofs.Planned.{spread, plan_written, many_steps}
+use Rattle.op2_cli.specs.Chains.{answer_of}
+use Rattle.op2_cli.proofs.Planned.{spread, plan_answered, many_steps}
 use Rattle.op2_cli.proofs.plans.last_answer.Goals as goal
 
 pub plan-requires-clause-ranks : goal.plan-requires-clause-ranks
@@ -10,8 +11,8 @@ plan-requires-clause-ranks c =
 
 pub returns-in-Ok : goal.returns-in-Ok
 returns-in-Ok c =
-    plan_written (job_in c.args.job) (options_in c.args.options.now) (bound_of c.args.bound.now) c.args.owners c.args.perms c.in_ok-found.found c.deref.result.now c.deref.ensures.value c.in_ok-found.ensures c.in_ok-planned_text-in-Ok.field-0.items
-    (plan_of c.in-Ok.plan) c.in-Ok.ensures.proper c.in-Ok.ensures.colours c.in-Ok.ensures.block c.in-Ok.ensures.steps c.in-Ok.ensures.few c.in_ok-planned_text-in-Ok.ensures
+    plan_answered (job_in c.args.job) (options_in c.args.options.now) (bound_of c.args.bound.now) c.args.owners c.args.perms c.in_ok-found.found c.deref.result.now c.deref.ensures.value c.in_ok-found.ensures (answer_of c.in_ok-planned_answer-in-Ok.field-0)
+    (plan_of c.in-Ok.plan) c.in-Ok.ensures.proper c.in-Ok.ensures.colours c.in-Ok.ensures.block c.in-Ok.ensures.steps c.in-Ok.ensures.few c.in_ok-planned_answer-in-Ok.ensures
 
 pub returns-in-Err-TooManySteps : goal.returns-in-Err-TooManySteps
 returns-in-Err-TooManySteps c =

@@ -1,6 +1,6 @@
 use Rattle.bound_program.specs.Values.{bound_of}
 use Rattle.op2_cli.proofs.Planned.{spread_by}
-use Rattle.op2_cli.proofs.plans.planned_text.Goals as goal
+use Rattle.op2_cli.proofs.plans.planned_answer.Goals as goal
 
 pub write_plan-requires-clause-ranks : goal.write_plan-requires-clause-ranks
 write_plan-requires-clause-ranks c =

@@ -1,0 +1,18 @@
+use Rattle.std.proofs.Common.{ap, ap₂, ◌∙◌}
+use Rattle.bound_program.specs.Values.{bound_of, no_site}
+use Rattle.answers.specs.Answers.{ran}
+use Rattle.op2_cli.proofs.Chained.{if_ok_weaker}
+use Rattle.op2_cli.proofs.Planned.{spread_on}
+use Rattle.op2_cli.proofs.runs.run_on.Goals as goal
+
+pub run_on_ranks-requires-clause-obey : goal.run_on_ranks-requires-clause-obey
+run_on_ranks-requires-clause-obey c = λ n f lt at. c.requires.obeyed n no_site lt f at
+
+pub run_on_ranks-requires-clause-spread : goal.run_on_ranks-requires-clause-spread
+run_on_ranks-requires-clause-spread c = rw c.deref.ensures.value (spread_on (bound_of c.args.bound.now) c.args.found.now c.requires.found)
+
+pub returns : goal.returns
+returns c =
+    if_ok_weaker c.ran.result _ _
+    (λ a e. e ∙ ap₂ ran (c.without_ranks.ensures.stop ∙ c.in_ok-outcome.ensures.stop) (ap (λ v. v.items) c.without_ranks.ensures.out ∙ c.in_ok-outcome.ensures.out))
+    c.ran.ensures

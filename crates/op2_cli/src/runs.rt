@@ -1,0 +1,96 @@
+// Runs of a bound program, without ranks and on them.
+
+ghost use Rattle.std.specs.Prelude.{◌≡◌, Ok, option_map, IfOk};
+ghost use Rattle.bound_program.specs.Values.{bound_of};
+ghost use Rattle.bound_program.specs.Fits.{Fits};
+ghost use Rattle.run_model.specs.Programs.{printed, first_fault};
+ghost use Rattle.sequential_run.specs.Outcomes.{stop_of};
+ghost use Rattle.rank_exec.specs.Stops.{stop_in};
+ghost use Rattle.loop_plan.specs.Values.{plan_of};
+ghost use Rattle.loop_plan.specs.Proper.{Proper};
+ghost use Rattle.answers.specs.Words.{Run};
+ghost use Rattle.answers.specs.Judgements.{AccessesAre};
+ghost use Rattle.answers.specs.Answers.{ran, JobAnswers};
+ghost use Rattle.op2_cli.specs.Chains.{answer_of, AnswersBy, IsSpread};
+
+use crate::answered::Answer;
+use crate::lines::put_fault;
+use crate::ranges::starts_in_range;
+use crate::refusals::Halt;
+use bound_program::Bound;
+use distribute::Distribution;
+use loop_plan::Plan;
+use op_num::OutOfMemory;
+use planned_run::run_on_ranks;
+use sequential_run::{Outcome, Stop, run};
+use std::alloc::Global;
+
+// The answer of a run.
+fn ran(alloc: Global, outcome: Outcome) -> Result<Answer, OutOfMemory>
+    ensures { IfOk result (λ a. answer_of a ≡ ran (option_map stop_of outcome.stop) outcome.out.items) }
+{
+    let Some(stop) = outcome.stop else {
+        return Ok(Answer::Done(outcome.out));
+    };
+    let mut line = Vec::new(alloc);
+    put_fault(&mut line, &stop)?;
+    Ok(Answer::Faulted {
+        out: outcome.out,
+        line,
+    })
+}
+
+/// The answer of the run of a bound program without ranks. An error is want of memory.
+pub fn run_of<'a>(alloc: Global, bound: &Bound) -> Result<Answer, Halt<'a>>
+    requires fits { Fits (bound_of bound.now) }
+    requires obeyed { AccessesAre (bound_of bound.now) (Ok tt) }
+    ensures { AnswersBy (JobAnswers Run (bound_of bound.now)) result }
+{
+    let outcome = run(alloc, bound)?;
+    Ok(ran(alloc, outcome)?)
+}
+
+// The outcome of a run on ranks, as one of a run without.
+fn without_ranks(outcome: planned_run::Outcome) -> Outcome
+    ensures out { result.out ≡ outcome.out }
+    ensures stop { option_map stop_of result.stop ≡ stop_in outcome.stop }
+{
+    let stop = match outcome.stop {
+        Some(stop) => Some(Stop {
+            item: stop.item,
+            element: stop.element,
+            fault: stop.fault,
+        }),
+        None => None,
+    };
+    Outcome {
+        out: outcome.out,
+        stop,
+    }
+}
+
+/// The answer of the run of a bound program on the ranks of a distribution, by a plan for them: that of its run without ranks.
+/// An error is want of memory.
+pub fn run_on(
+    alloc: Global,
+    bound: &Bound,
+    found: &Distribution,
+    plan: &Plan,
+) -> Result<Answer, OutOfMemory>
+    requires fits { Fits (bound_of bound.now) }
+    requires obeyed { AccessesAre (bound_of bound.now) (Ok tt) }
+    requires found { IsSpread (bound_of bound.now) found.now }
+    requires plan { Proper (bound_of bound.now) found.now.ranks.items (plan_of plan.now) }
+    ensures { IfOk result (λ a. answer_of a ≡ ran (first_fault (bound_of bound.now)) (printed (bound_of bound.now))) }
+{
+    starts_in_range(bound);
+    let outcome = run_on_ranks(
+        alloc,
+        bound,
+        &found.owners,
+        &found.halos,
+        &found.ranks,
+        plan,
+    )?;
+    ran(alloc, without_ranks(outcome))
+}
