@@ -10,3 +10,4 @@ pub mod Distinct
 pub mod Rooms
 pub mod OfPlan
 pub mod TakingAll
+pub mod NoMesh

@@ -8,6 +8,8 @@ mod marks;
 mod pairs;
 mod places;
 mod rows;
+#[cfg(test)]
+mod tests;
 mod whole;
 
 pub use checker::Checker;

@@ -10,3 +10,4 @@ pub mod Advance
 pub mod Start
 pub mod AlikeJudged
 pub mod Loads
+pub mod Rising

@@ -9,3 +9,4 @@ pub mod NewItem
 pub mod Marked
 pub mod Kept
 pub mod Load
+pub mod Rising

@@ -1,7 +1,8 @@
 // One item's steps, and which are taken.
-ghost use Rattle.std.specs.Prelude.{◌≡◌, ◌<◌, ◌^◌, ◌↔◌, ◌==◌, ◌||◌, ◌&&◌, ℕ, true, false, IsTrue, IfOk, length, slice_set};
+ghost use Rattle.std.specs.Prelude.{◌≡◌, ◌<◌, ◌≤◌, ◌^◌, ◌↔◌, ◌==◌, ◌||◌, ◌&&◌, ℕ, true, false, IsTrue, IfOk, length, slice_set};
 ghost use Rattle.std.specs.Prelude.{slice_index, slice_index_or, EachIndex};
 ghost use Rattle.step_marks.specs.Item.{Paired, Complete, MayGo, AllSent, AllReceived, pair_at, place_of, linked, run_at};
+ghost use Rattle.step_marks.specs.Rising.{Before, RisingUpTo, Rising};
 ghost use Rattle.step_marks.specs.NewItem.{free_item, join_item};
 ghost use Rattle.step_marks.specs.Run.{Run, begun_at, ended_at, core_at, lower, SamePlaces};
 
@@ -11,7 +12,7 @@ use std::alloc::{AllocError, Global};
 use std::marker::Model;
 
 /// The marks of one item: its messages by sender and by receiver, its places by rank, and whether it is joined. An item is Free or
-/// one join.
+/// one join. `rising` tells that the pairs rise by sender and receiver, so that one is found by halving.
 #[derive(Drop)]
 pub struct ItemMarks {
     free: bool,
@@ -19,17 +20,21 @@ pub struct ItemMarks {
     sends: Stages,
     receipts: Stages,
     ranks: Vec<Places>,
+    rising: bool,
 }
 
 impl Model for ItemMarks {
+    ghost use Rattle.std.specs.Prelude.{IsTrue};
     ghost use Rattle.step_marks.specs.Item.{Item, Paired};
+    ghost use Rattle.step_marks.specs.Rising.{Rising};
 
     ghost Value = { Item };
 
     ghost view = { λ s. record { free = s.free; joined = s.joined; sends = s.sends; receipts = s.receipts; ranks = s.ranks.items } };
 
     ghost invariant = { λ s. Paired
-        record { free = s.free; joined = s.joined; sends = s.sends; receipts = s.receipts; ranks = s.ranks.items } };
+        record { free = s.free; joined = s.joined; sends = s.sends; receipts = s.receipts; ranks = s.ranks.items }
+        × (IsTrue s.rising → Rising s.sends.of s.receipts.of) };
 }
 
 // Whether both are as asked.
@@ -56,6 +61,66 @@ fn pair_in(sends: &Stages, receipts: &Stages, from: u32, to: u32) -> usize
     here
 }
 
+// Whether the first pair stands before the second.
+fn is_before(from: u32, to: u32, next_from: u32, next_to: u32) -> bool
+    ensures { IsTrue result ↔ Before from to next_from next_to }
+{
+    from < next_from || (from == next_from && to < next_to)
+}
+
+// Whether each pair stands before the later ones.
+fn is_rising(sends: &Stages, receipts: &Stages) -> bool
+    requires { length receipts.now.of ≡ length sends.now.of }
+    ensures { IsTrue result → Rising sends.now.of receipts.now.of }
+{
+    for here in 1..sends.len() {
+        let from = sends.stage(here - 1);
+        let to = receipts.stage(here - 1);
+        if !is_before(from, to, sends.stage(here), receipts.stage(here)) {
+            return false;
+        }
+    }
+    true
+}
+
+// The first of rising pairs that doesn't stand before this one, or the number of pairs.
+fn first_from(sends: &Stages, receipts: &Stages, from: u32, to: u32) -> usize
+    requires both { length receipts.now.of ≡ length sends.now.of }
+    requires rising { Rising sends.now.of receipts.now.of }
+    ensures within { result ≤ length sends.now.of }
+    ensures before { (i : ℕ) → i < result → Before (slice_index sends.now.of i) (slice_index receipts.now.of i) from to }
+    ensures later { (i : ℕ) → result ≤ i → i < length sends.now.of
+        → Before (slice_index sends.now.of i) (slice_index receipts.now.of i) from to → ⊥ }
+{
+    let mut low = 0;
+    let mut high = sends.len();
+    while low < high {
+        let middle = low + (high - low) / 2;
+        if is_before(sends.stage(middle), receipts.stage(middle), from, to) {
+            low = middle + 1;
+        } else {
+            high = middle;
+        }
+    }
+    low
+}
+
+// Among rising pairs, the pair of this sender and this receiver, or the number of pairs.
+fn pair_among(sends: &Stages, receipts: &Stages, from: u32, to: u32) -> usize
+    requires both { length receipts.now.of ≡ length sends.now.of }
+    requires rising { Rising sends.now.of receipts.now.of }
+    ensures { result ≡ pair_at sends.now.of receipts.now.of from to }
+{
+    let here = first_from(sends, receipts, from, to);
+    if here >= sends.len() {
+        return sends.len();
+    }
+    if is_pair(sends.stage(here), receipts.stage(here), from, to) {
+        return here;
+    }
+    sends.len()
+}
+
 // Whether all three hold.
 fn all_of(first: bool, second: bool, third: bool) -> bool
     ensures { IsTrue result ↔ (IsTrue first × IsTrue second × IsTrue third) }
@@ -76,12 +141,14 @@ impl ItemMarks {
         requires { Paired record { free = free; joined = false; sends = sends; receipts = receipts; ranks = ranks.items } }
         ensures { result ≡ record { free = free; joined = false; sends = sends; receipts = receipts; ranks = ranks.items } }
     {
+        let rising = is_rising(&sends, &receipts);
         ItemMarks {
             free,
             joined: false,
             sends,
             receipts,
             ranks,
+            rising,
         }
     }
 
@@ -141,6 +208,9 @@ impl ItemMarks {
         ensures place { result ≡ place_of self.now from to }
         ensures paired { Paired self.now }
     {
+        if self.rising {
+            return pair_among(&self.sends, &self.receipts, from, to);
+        }
         pair_in(&self.sends, &self.receipts, from, to)
     }
 

@@ -1,0 +1,10 @@
+pub mod UnderWay
+pub mod OwnSteps
+pub mod Among
+pub mod TurnIs
+pub mod Onward
+pub mod Begin
+pub mod Writes
+pub mod Known
+pub mod Taking
+pub mod SmallLists
