@@ -1,2 +1,3 @@
 pub mod Grows
 pub mod Pieces
+pub mod Dump

@@ -2,11 +2,13 @@
 #![tactic(auto)]
 
 mod dats;
+mod dumps;
 mod lines;
 #[cfg(test)]
 mod tests;
 
 pub use dats::print_dat;
+pub use dumps::dump;
 pub use lines::print_line;
 pub use mesh_decl::Mesh;
 pub use op_num::{OutOfMemory, Text};
