@@ -13,3 +13,4 @@ pub mod FromIndex
 pub mod Kept
 mod Grouping
 pub mod Hosting
+mod Tasking

@@ -4,3 +4,4 @@ pub mod Stops
 pub mod Driving
 pub mod Copies
 pub mod Rooms
+pub mod Tasks

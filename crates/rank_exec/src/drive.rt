@@ -8,7 +8,7 @@ ghost use Rattle.schedule_model.specs.Laws.{Lawful, Coloured};
 ghost use Rattle.schedule_model.specs.Sequential.{sequential};
 ghost use Rattle.flat_machine.specs.Layout.{by_place};
 ghost use Rattle.flat_machine.specs.Flat.{Flat, StartsFlat, flat_step, flat_from};
-ghost use Rattle.rank_exec.specs.Rooms.{HasRoom};
+ghost use Rattle.rank_exec.specs.Rooms.{HasRoom, HasRunRoom};
 ghost use Rattle.rank_state.specs.Shows.{Shows};
 ghost use Rattle.rank_exec.specs.Stops.{stop_in};
 ghost use Rattle.rank_exec.specs.Driving.{Ready, After, posts, takes, opens, shuts, FitsPeak, AsSequential};
@@ -17,13 +17,16 @@ use crate::group::run_begins;
 use crate::items::Items;
 use crate::joins::join;
 use crate::machine::{Machine, Stop};
-use crate::room::Room;
+use crate::room::{Room, RunRoom};
 use crate::steps;
 use crate::stream::{Steps, next_of};
 use kernel_types::KernelFault;
 use op_num::OutOfMemory;
+use par_exec::Gate;
 use schedule_steps::Step;
 use std::alloc::Global;
+use std::marker::Sync;
+use std::thread::Threads;
 
 /// One step.
 pub fn take<P: Items>(
@@ -68,15 +71,20 @@ pub fn take<P: Items>(
 }
 
 /// The steps of an accepted list, up to the first that stops.
-pub fn run<P: Items, S: Steps>(
+pub fn run<R: Threads + Sync, G: Gate, P: Items, S: Steps>(
+    rt: &R,
     alloc: Global,
     machine: &mut Machine,
     parts: &P,
-    room: &mut Room,
+    room: &mut RunRoom,
     steps: &mut S,
+    workers: u32,
+    gate: &G,
 ) -> Result<Option<Stop>, OutOfMemory>
+    requires workers { 0 < workers }
     requires sound { P.sound parts.now }
-    requires space { HasRoom (P.span_count parts.now) (P.locals parts.now) (length (P.tables parts.now).constants) room.old }
+    requires space { HasRunRoom (P.span_count parts.now) (P.locals parts.now) (length (P.tables parts.now).constants)
+        (P.tables parts.now).stride room.old }
     requires accepted { Accepted (by_place (P.setup parts.now) (P.layout parts.now)) (S.left steps.old) }
     requires starts { (f : Flat KernelFault) × StartsFlat (P.setup parts.now) (P.layout parts.now) f
         × Shows (P.setup parts.now) (P.layout parts.now) (P.tables parts.now) machine.old f }
@@ -92,9 +100,11 @@ pub fn run<P: Items, S: Steps>(
     let mut next = next_of(steps);
     while let Some(step) = next {
         if let Step::Begin { item, rank, place } = step {
-            next = run_begins(alloc, machine, parts, room, steps, item, rank, place)?;
+            next = run_begins(
+                rt, machine, parts, room, steps, item, rank, place, workers, gate,
+            );
         } else {
-            if let Some(stop) = take(alloc, machine, parts, room, step)? {
+            if let Some(stop) = take(alloc, machine, parts, &mut room.step, step)? {
                 return Ok(Some(stop));
             }
             next = next_of(steps);
@@ -103,25 +113,43 @@ pub fn run<P: Items, S: Steps>(
     Ok(None)
 }
 
-/// The steps of an accepted list: the stop and the output are those of the sequential run.
-pub fn drive<P: Items, S: Steps>(
+/// The steps of an accepted list: the stop and the output are those of the sequential run. Where no step stops, the
+/// machine's lists, its memories among them, show where the machine on flat buffers ends.
+///
+/// A run of begins is done in groups by the `workers`, at least 1, and `gate` is told of each begin of a group; a begin that
+/// its own end follows is done in place, and the gate isn't told. The answer is the same for every number of workers and
+/// every gate. `room` is what [`RunRoom::new`] gives; memory is wanted for what joins print.
+///
+/// # Errors
+/// Want of memory alone.
+pub fn drive<R: Threads + Sync, G: Gate, P: Items, S: Steps>(
+    rt: &R,
     alloc: Global,
     machine: &mut Machine,
     parts: &P,
-    room: &mut Room,
+    room: &mut RunRoom,
     steps: &mut S,
+    workers: u32,
+    gate: &G,
 ) -> Result<Option<Stop>, OutOfMemory>
+    requires workers { 0 < workers }
     requires sound { P.sound parts.now }
-    requires space { HasRoom (P.span_count parts.now) (P.locals parts.now) (length (P.tables parts.now).constants) room.old }
+    requires space { HasRunRoom (P.span_count parts.now) (P.locals parts.now) (length (P.tables parts.now).constants)
+        (P.tables parts.now).stride room.old }
     requires lawful { Lawful (P.setup parts.now) }
     requires coloured { Coloured (P.setup parts.now) }
     requires accepted { Accepted (by_place (P.setup parts.now) (P.layout parts.now)) (S.left steps.old) }
     requires starts { (f : Flat KernelFault) × StartsFlat (P.setup parts.now) (P.layout parts.now) f
         × Shows (P.setup parts.now) (P.layout parts.now) (P.tables parts.now) machine.old f }
     requires peak { FitsPeak (P.layout parts.now) machine.old.frames.left machine.old.mail.left (S.left steps.old) }
-    ensures { IfOk result (λ stop. AsSequential (sequential (P.setup parts.now).program) (stop_in stop) machine.new.output) }
+    ensures same { IfOk result (λ stop. AsSequential (sequential (P.setup parts.now).program) (stop_in stop) machine.new.output) }
+    ensures shows { IfOk result
+        (λ stop. stop ≡ None → (f : Flat KernelFault) → StartsFlat (P.setup parts.now) (P.layout parts.now) f
+        → Shows (P.setup parts.now) (P.layout parts.now) (P.tables parts.now) machine.old f
+        → Shows (P.setup parts.now) (P.layout parts.now) (P.tables parts.now) machine.new
+        (flat_from (P.setup parts.now) (P.layout parts.now) (S.left steps.old) f)) }
 {
     flat_machine::flat_runs_as_sequential::<KernelFault>();
-    let stop = run(alloc, machine, parts, room, steps)?;
+    let stop = run(rt, alloc, machine, parts, room, steps, workers, gate)?;
     Ok(stop)
 }

@@ -7,7 +7,8 @@ ghost use Rattle.rank_state.specs.Spans.{Within, total, cells_at, gathered};
 ghost use Rattle.rank_state.specs.Core.{fault_of};
 ghost use Rattle.rank_state.specs.Windows.{firsts, Reads, Merges};
 ghost use Rattle.rank_state.specs.Machine.{merged_pane};
-ghost use Rattle.rank_state.specs.Frames.{pane_after, Panes, Shut, pane_at, opened, shut, closed, Enough, Exactly, fresh};
+ghost use Rattle.flat_machine.specs.Layout.{Leaves};
+ghost use Rattle.rank_state.specs.Frames.{pane_after, Holds, Panes, Shut, pane_at, opened, shut, closed, Enough, Exactly, fresh};
 ghost use Rattle.rank_exec.specs.Slots.{entry, held_pane, fits_held, fault_held, panes_in, Tied};
 
 use crate::core_run::Kernels;
@@ -36,7 +37,7 @@ pub struct Slot {
 }
 
 /// Copies an element's windows into the frame, and answers how many cells they have.
-fn load(
+pub fn load(
     memory: &[i32],
     spans: &[Span],
     variables: &[i32],
@@ -175,6 +176,20 @@ fn run_at<C: Kernels>(
         &mut staging[at..at + stride],
         scratch,
     )
+}
+
+/// Copies cells into a part of the staging buffer.
+fn hold_at(cells: &[i32], staging: &mut [i32], at: usize, stride: usize) -> Held
+    requires part { at + stride ≤ length staging.old }
+    requires fits { length cells.now ≤ stride }
+    ensures fits { fits_held stride result }
+    ensures open { result ≢ Held.Nothing }
+    ensures pane { (k : ℕ) → held_pane result k (cells_at at stride staging.new) ≡ Holds k cells.now }
+    ensures others { (b n : ℕ) → (b + n ≤ at) ⊎ (at + stride ≤ b) → cells_at b n staging.new ≡ cells_at b n staging.old }
+{
+    let count = cells.len();
+    staging[at..at + count].copy_from_slice(cells);
+    Held::Cells(count)
 }
 
 /// Copies what a frame holds back into the memory.
@@ -379,6 +394,28 @@ impl Frames {
         };
         self.table[rank as usize][element as usize] = Some(slot);
         fault_in(held)
+    }
+
+    /// Opens an element's frame, with the cells that its kernel left of its windows.
+    pub fn open(&mut self, item: u32, rank: u32, element: u32, cells: &[i32])
+        requires rank { rank < length self.old.panes }
+        requires element { element < length (slice_index_or self.old.panes rank []) }
+        requires shut { pane_at self.old.panes rank element ≡ Shut }
+        requires room { 0 < self.old.left }
+        requires fits { length cells.now ≤ self.old.stride }
+        ensures { self.new ≡ opened {F = KernelFault} item rank element (Leaves cells.now) (self.old.left - 1) self.old }
+    {
+        let Some(slot) = self.free.pop() else {
+            unreachable!()
+        };
+        let held = hold_at(cells, &mut self.staging, slot * self.stride, self.stride);
+        self.slots[slot] = Slot {
+            item,
+            rank,
+            element,
+            held,
+        };
+        self.table[rank as usize][element as usize] = Some(slot);
     }
 
     /// Shuts an element's frame. What its kernel left in written spans goes back into the memory, and

@@ -1,35 +1,85 @@
 // Runs of begins.
 
-ghost use Rattle.std.specs.Prelude.{◌≡◌, ◌<◌, ◌≤◌, ◌+◌, ◌++◌, ◌∷◌, ℕ, true, [], List, length, None, Some, IfOk};
+ghost use Rattle.std.specs.Prelude.{◌≡◌, ◌<◌, ◌≤◌, ◌+◌, ◌*◌, ◌++◌, ◌∷◌, ℕ, true, [], List, length, take, None, Some, vec_capacity};
 ghost use Rattle.kernel_types.specs.declared.faults.KernelFault.{KernelFault};
 ghost use Rattle.schedule_steps.specs.declared.step.Step.{Step};
 ghost use Rattle.schedule_steps.specs.declared.step.Step.TheVariants.{Begin, End};
 ghost use Rattle.flat_machine.specs.Layout.{by_place};
 ghost use Rattle.flat_machine.specs.Flat.{Flat, flat_from};
-ghost use Rattle.rank_exec.specs.Rooms.{HasRoom};
+ghost use Rattle.rank_exec.specs.Rooms.{HasRoom, HasRunRoom, most_begins};
 ghost use Rattle.rank_state.specs.Shows.{Shows};
 ghost use Rattle.rank_state.specs.Groups.{begins, Distinct, Planned, AllShut};
+ghost use Rattle.kernel_jobs.specs.Jobs.{RanIn, part, task_at};
+ghost use Rattle.rank_exec.specs.Tasks.{HasGroupRoom};
 ghost use Rattle.rank_exec.specs.Driving.{Done, to_come, GroupReady};
 
+use crate::core_run::Kernels;
+use crate::group_room::GroupRoom;
+use crate::group_steps::{load_all, open_all};
 use crate::machine::Machine;
 use crate::parts::Parts;
-use crate::room::Room;
-use crate::steps::{begin, in_place};
+use crate::room::{MOST_BEGINS, Room, RunRoom};
+use crate::steps::{in_place, read_constants};
 use crate::stream::{Steps, next_of};
+use kernel_jobs::{Targets, Task, run_tasks};
 use kernel_types::KernelFault;
-use op_num::OutOfMemory;
+use par_exec::Gate;
 use schedule_steps::Step;
-use std::alloc::Global;
+use std::marker::Sync;
+use std::thread::Threads;
 
-/// The begins of a group, in their order.
-pub fn begin_group<P: Parts>(
+// Runs the kernel of the loop that is the item once for each task, on the first cells of the task's window of `staging`.
+// Behind them stands a 0 then, or a 1 where the run had a fault.
+fn run_all<R: Threads + Sync, G: Gate, K: Kernels>(
+    rt: &R,
+    kernels: &K,
+    item: u32,
+    tasks: &[Task],
+    targets: &mut Vec<Targets>,
+    constants: &[i32],
+    staging: &mut [i32],
+    window: usize,
+    workers: u32,
+    gate: &G,
+)
+    requires workers { 0 < workers }
+    requires takes { (i : ℕ) → i < length tasks.now
+        → K.takes kernels.now item (task_at tasks.now i).element (length constants.now) (task_at tasks.now i).cells }
+    requires wide { 0 < window }
+    requires room { (i : ℕ) → i < length tasks.now → (task_at tasks.now i).cells + K.locals kernels.now < window }
+    requires whole { length staging.old ≡ length tasks.now * window }
+    requires empty { targets.old.items ≡ [] }
+    requires targets { length tasks.now ≤ vec_capacity targets.old }
+    ensures ran { (i : ℕ) → i < length tasks.now
+        → RanIn (K.core kernels.now item (task_at tasks.now i).element constants.now
+        (take (task_at tasks.now i).cells (part window i staging.old))) (task_at tasks.now i).cells (part window i staging.new) }
+    ensures targets { vec_capacity targets.new ≡ vec_capacity targets.old }
+{
+    if tasks.is_empty() {
+        return;
+    }
+    kernels.put_targets(item, tasks, targets);
+    let job = kernels.job(item, tasks, targets, constants);
+    run_tasks(rt, &job, staging, window, workers, gate);
+}
+
+// The begins of a group on windows of `window` cells of the staging buffer, with room for their tasks.
+fn begin_tasks<R: Threads + Sync, G: Gate, P: Parts>(
+    rt: &R,
     machine: &mut Machine,
     parts: &P,
     room: &mut Room,
     item: u32,
     rank: u32,
     places: &[u32],
+    tasks: &mut Vec<Task>,
+    targets: &mut Vec<Targets>,
+    staging: &mut [i32],
+    window: usize,
+    workers: u32,
+    gate: &G,
 )
+    requires workers { 0 < workers }
     requires sound { P.sound parts.now }
     requires planned { Planned (by_place (P.setup parts.now) (P.layout parts.now)) item rank places.now }
     requires space { HasRoom (P.span_count parts.now) (P.locals parts.now) (length (P.tables parts.now).constants) room.old }
@@ -37,48 +87,139 @@ pub fn begin_group<P: Parts>(
     requires shut { AllShut machine.old.frames.panes rank places.now }
     requires distinct { Distinct places.now }
     requires room { length places.now ≤ machine.old.frames.left }
+    requires wide { (P.tables parts.now).stride + P.locals parts.now < window }
+    requires enough { length places.now * window ≤ length staging.old }
+    requires none { tasks.old.items ≡ [] }
+    requires tasks { length places.now ≤ vec_capacity tasks.old }
+    requires empty { targets.old.items ≡ [] }
+    requires targets { length places.now ≤ vec_capacity targets.old }
     ensures shows { (f : Flat KernelFault) → Shows (P.setup parts.now) (P.layout parts.now) (P.tables parts.now) machine.old f
         → Shows (P.setup parts.now) (P.layout parts.now) (P.tables parts.now) machine.new
         (flat_from (P.setup parts.now) (P.layout parts.now) (begins item rank places.now) f) }
     ensures space { HasRoom (P.span_count parts.now) (P.locals parts.now) (length (P.tables parts.now).constants) room.new }
     ensures mail { machine.new.mail.left ≡ machine.old.mail.left }
     ensures frames { machine.new.frames.left + length places.now ≡ machine.old.frames.left }
+    ensures tasks { vec_capacity tasks.new ≡ vec_capacity tasks.old }
+    ensures targets { vec_capacity targets.new ≡ vec_capacity targets.old }
 {
-    rank_state::begin_opens::<KernelFault>();
-    for place in places {
-        begin(machine, parts, room, item, rank, *place);
-    }
+    rank_state::windows_are_counted::<KernelFault>();
+    let staging = &mut staging[..places.len() * window];
+    load_all(
+        machine, parts, room, item, rank, places, tasks, staging, window,
+    );
+    read_constants(machine, parts, &mut room.constants);
+    run_all(
+        rt,
+        parts,
+        item,
+        tasks,
+        targets,
+        &room.constants,
+        staging,
+        window,
+        workers,
+        gate,
+    );
+    open_all(
+        machine, parts, room, item, rank, places, tasks, staging, window,
+    );
 }
 
-/// Adds the places of the begins of the item and rank that come next, and answers the step after them.
-fn collect<S: Steps>(
-    steps: &mut S,
+/// The begins of a group of at most 1,024, in their order. Their kernels run first, by the `workers`, at least 1, and the
+/// gate is told of each run just before, by the begin's number in the group, from 0 on.
+pub fn begin_group<R: Threads + Sync, G: Gate, P: Parts>(
+    rt: &R,
+    machine: &mut Machine,
+    parts: &P,
+    room: &mut Room,
+    group: &mut GroupRoom,
     item: u32,
     rank: u32,
-    places: &mut Vec<u32>,
-) -> Result<Option<Step>, OutOfMemory>
-    ensures all { IfOk result
-        (λ next. begins item rank places.new.items ++ to_come next (S.left steps.new)
-        ≡ begins item rank places.old.items ++ S.left steps.old) }
-    ensures over { IfOk result (λ next. next ≡ None → S.left steps.new ≡ []) }
-    ensures more { IfOk result (λ next. length places.old.items ≤ length places.new.items) }
+    places: &[u32],
+    workers: u32,
+    gate: &G,
+)
+    requires workers { 0 < workers }
+    requires sound { P.sound parts.now }
+    requires planned { Planned (by_place (P.setup parts.now) (P.layout parts.now)) item rank places.now }
+    requires space { HasRoom (P.span_count parts.now) (P.locals parts.now) (length (P.tables parts.now).constants) room.old }
+    requires shows { (f : Flat KernelFault) × Shows (P.setup parts.now) (P.layout parts.now) (P.tables parts.now) machine.old f }
+    requires shut { AllShut machine.old.frames.panes rank places.now }
+    requires distinct { Distinct places.now }
+    requires room { length places.now ≤ machine.old.frames.left }
+    requires few { length places.now ≤ most_begins }
+    requires group { HasGroupRoom most_begins (P.tables parts.now).stride (P.locals parts.now) group.old }
+    ensures shows { (f : Flat KernelFault) → Shows (P.setup parts.now) (P.layout parts.now) (P.tables parts.now) machine.old f
+        → Shows (P.setup parts.now) (P.layout parts.now) (P.tables parts.now) machine.new
+        (flat_from (P.setup parts.now) (P.layout parts.now) (begins item rank places.now) f) }
+    ensures space { HasRoom (P.span_count parts.now) (P.locals parts.now) (length (P.tables parts.now).constants) room.new }
+    ensures mail { machine.new.mail.left ≡ machine.old.mail.left }
+    ensures frames { machine.new.frames.left + length places.now ≡ machine.old.frames.left }
+    ensures group { HasGroupRoom most_begins (P.tables parts.now).stride (P.locals parts.now) group.new }
 {
-    'begins: loop {
-        let next = next_of(steps);
-        if let Some(step) = next {
-            if let Step::Begin {
+    let window = group.window;
+    group.tasks.clear();
+    group.targets.clear();
+    begin_tasks(
+        rt,
+        machine,
+        parts,
+        room,
+        item,
+        rank,
+        places,
+        &mut group.tasks,
+        &mut group.targets,
+        &mut group.staging,
+        window,
+        workers,
+        gate,
+    );
+}
+
+// The place, where the step is a begin of the item and rank.
+fn begin_in(step: Option<Step>, item: u32, rank: u32) -> Option<u32>
+    ensures { (x : ℕ) → result ≡ Some x → step ≡ Some (Begin item rank x) }
+{
+    match step {
+        Some(
+            Step::Begin {
                 item: i,
                 rank: r,
                 place,
-            } = step
-            {
-                if i == item && r == rank {
-                    places.push(place)?;
-                    continue 'begins;
-                }
+            },
+        ) => {
+            if i == item && r == rank {
+                Some(place)
+            } else {
+                None
             }
         }
-        return Ok(next);
+        _ => None,
+    }
+}
+
+/// Adds the places of the begins of the item and rank that come next, while a group has room for them, and answers the step
+/// after them.
+fn collect<S: Steps>(steps: &mut S, item: u32, rank: u32, places: &mut Vec<u32>) -> Option<Step>
+    requires space { most_begins ≤ vec_capacity places.old }
+    requires few { length places.old.items ≤ most_begins }
+    ensures all { begins item rank places.new.items ++ to_come result (S.left steps.new)
+        ≡ begins item rank places.old.items ++ S.left steps.old }
+    ensures over { result ≡ None → S.left steps.new ≡ [] }
+    ensures more { length places.old.items ≤ length places.new.items }
+    ensures few { length places.new.items ≤ most_begins }
+    ensures space { vec_capacity places.new ≡ vec_capacity places.old }
+{
+    loop {
+        let next = next_of(steps);
+        if places.len() >= MOST_BEGINS {
+            return next;
+        }
+        let Some(place) = begin_in(next, item, rank) else {
+            return next;
+        };
+        places.push_reserved(place);
     }
 }
 
@@ -100,35 +241,50 @@ fn is_end(step: Option<Step>, item: u32, rank: u32, place: u32) -> bool
 
 /// A begin and those of its item and rank that come next, as one group; a begin that its own end
 /// follows, in place. Answers the step after them.
-pub fn run_begins<P: Parts, S: Steps>(
-    alloc: Global,
+pub fn run_begins<R: Threads + Sync, G: Gate, P: Parts, S: Steps>(
+    rt: &R,
     machine: &mut Machine,
     parts: &P,
-    room: &mut Room,
+    room: &mut RunRoom,
     steps: &mut S,
     item: u32,
     rank: u32,
     place: u32,
-) -> Result<Option<Step>, OutOfMemory>
+    workers: u32,
+    gate: &G,
+) -> Option<Step>
+    requires workers { 0 < workers }
     requires sound { P.sound parts.now }
-    requires space { HasRoom (P.span_count parts.now) (P.locals parts.now) (length (P.tables parts.now).constants) room.old }
+    requires space { HasRunRoom (P.span_count parts.now) (P.locals parts.now) (length (P.tables parts.now).constants)
+        (P.tables parts.now).stride room.old }
     requires shows { (f : Flat KernelFault) × Shows (P.setup parts.now) (P.layout parts.now) (P.tables parts.now) machine.old f }
     requires ready { GroupReady (by_place (P.setup parts.now) (P.layout parts.now)) item rank
         (Begin item rank place ∷ S.left steps.old) machine.old }
-    ensures done { IfOk result
-        (λ next. (done : List Step) × (Begin item rank place ∷ S.left steps.old ≡ done ++ to_come next (S.left steps.new))
+    ensures done { (done : List Step) × (Begin item rank place ∷ S.left steps.old ≡ done ++ to_come result (S.left steps.new))
         × (0 < length done)
-        × Done (P.setup parts.now) (P.layout parts.now) (P.tables parts.now) done machine.old machine.new) }
-    ensures over { IfOk result (λ next. next ≡ None → S.left steps.new ≡ []) }
-    ensures space { HasRoom (P.span_count parts.now) (P.locals parts.now) (length (P.tables parts.now).constants) room.new }
+        × Done (P.setup parts.now) (P.layout parts.now) (P.tables parts.now) done machine.old machine.new }
+    ensures over { result ≡ None → S.left steps.new ≡ [] }
+    ensures space { HasRunRoom (P.span_count parts.now) (P.locals parts.now) (length (P.tables parts.now).constants)
+        (P.tables parts.now).stride room.new }
 {
-    let mut places = vec![in alloc; place; 1]?;
-    let next = collect(steps, item, rank, &mut places)?;
-    if places.len() == 1 && is_end(next, item, rank, place) {
-        in_place(machine, parts, room, item, rank, place);
-        let after = next_of(steps);
-        return Ok(after);
+    room.places.clear();
+    room.places.push_reserved(place);
+    let next = collect(steps, item, rank, &mut room.places);
+    if room.places.len() == 1 && is_end(next, item, rank, place) {
+        in_place(machine, parts, &mut room.step, item, rank, place);
+        return next_of(steps);
     }
-    begin_group(machine, parts, room, item, rank, &places);
-    Ok(next)
+    begin_group(
+        rt,
+        machine,
+        parts,
+        &mut room.step,
+        &mut room.group,
+        item,
+        rank,
+        &room.places,
+        workers,
+        gate,
+    );
+    next
 }

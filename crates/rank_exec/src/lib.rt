@@ -5,6 +5,8 @@ pub mod core_run;
 pub mod drive;
 pub mod frames;
 pub mod group;
+pub mod group_room;
+pub mod group_steps;
 pub mod hosts;
 pub mod items;
 pub mod joins;

@@ -13,7 +13,7 @@ ghost use Rattle.host_acts.specs.Acts.{program_of, Begins, ActEnds};
 ghost use Rattle.schedule_model.specs.Cells.{Store};
 ghost use Rattle.schedule_model.specs.Machine.{is_less_element};
 ghost use Rattle.schedule_model.specs.Kept.{if_before};
-ghost use Rattle.flat_machine.specs.Layout.{Core};
+ghost use Rattle.flat_machine.specs.Layout.{Core, Leaves};
 ghost use Rattle.rank_state.specs.Spans.{Within, total, cells_at};
 ghost use Rattle.rank_state.specs.Windows.{Reads, Merges};
 ghost use Rattle.rank_state.specs.Frames.{Shut, pane_at, Enough, Exactly};
@@ -27,7 +27,7 @@ ghost use Rattle.rank_state.specs.Indices.{values_at, InLength};
 ghost use Rattle.rank_exec.specs.Stops.{stop_in};
 
 use crate::core_run::Kernels;
-use crate::frames::{Frames, run_through};
+use crate::frames::{Frames, load, run_through};
 use crate::mail::Mail;
 use crate::owned::{gather_values, run_element};
 use crate::reduce::{reduce_variables, unite_all};
@@ -254,6 +254,36 @@ impl Machine {
         self.fault = least(self.fault, item, original, fault);
     }
 
+    /// Copies an element's windows into as many cells from the front of `window` on, and answers how many they are.
+    pub fn load(&self, rank: u32, spans: &[Span], scalars: &[Scalar], window: &mut [i32]) -> usize
+        requires rank { rank < length self.now.memories }
+        requires inside { Within (length (row self.now.memories rank)) spans.now }
+        requires reads { Reads (length self.now.variables) scalars.now }
+        requires room { total spans.now + length scalars.now ≤ length window.old }
+        ensures count { result ≡ total spans.now + length scalars.now }
+        ensures cells { take (total spans.now + length scalars.now) window.new ≡ windows_of self.now rank spans.now scalars.now }
+    {
+        load(
+            &self.memories[rank as usize],
+            spans,
+            &self.variables,
+            scalars,
+            window,
+        )
+    }
+
+    /// Opens an element's frame with what its kernel left of its windows.
+    pub fn open(&mut self, item: u32, rank: u32, place: u32, cells: &[i32])
+        requires frames { rank < length self.old.frames.panes }
+        requires place { place < length (slice_index_or self.old.frames.panes rank []) }
+        requires shut { pane_at self.old.frames.panes rank place ≡ Shut }
+        requires room { 0 < self.old.frames.left }
+        requires fits { length cells.now ≤ self.old.frames.stride }
+        ensures { (e : ℕ) → self.new ≡ begun_as item rank place e (Leaves cells.now) self.old }
+    {
+        self.frames.open(item, rank, place, cells);
+    }
+
     /// Runs an element's kernel and puts back at once what it leaves. No frame is opened for it.
     pub fn in_place<C: Kernels>(
         &mut self,
@@ -446,10 +476,11 @@ impl Machine {
         run_act(alloc, known, act, &mut self.variables, &mut self.output)
     }
 
-    /// What the machine has printed.
-    pub fn into_output(self) -> Vec<u8>
-        ensures { result.items ≡ self.output }
+    /// What the machine has printed, and the memories of its ranks. Takes no memory.
+    pub fn into_parts(self) -> (Vec<u8>, Vec<Vec<i32>>)
+        ensures output { result.0.items ≡ self.output }
+        ensures memories { map (λ v. v.items) result.1.items ≡ self.memories }
     {
-        self.output
+        (self.output, self.memories)
     }
 }

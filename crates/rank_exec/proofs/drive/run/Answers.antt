@@ -19,8 +19,8 @@ loop-next-init g c = record {
   over = c.next_of-next.ensures.over;
 }
 
-pub run_begins-requires-clause-ready : goal.run_begins-requires-clause-ready
-run_begins-requires-clause-ready g c places rest e =
+pub run_begins-next-requires-clause-ready : goal.run_begins-next-requires-clause-ready
+run_begins-next-requires-clause-ready g c κs within places rest e =
     let split : g.S.Steps.left c.args.steps.now ≡ r.front ++ (begins c.in-Begin.item c.in-Begin.rank places ++ rest) = r.split ∙ ap (λ z. r.front ++ z) e in
     let ready = c.steps_are_ready.ensures.begin (g.P.Parts.setup c.args.parts.now) (g.P.Parts.layout c.args.parts.now) (g.P.Parts.tables c.args.parts.now) (g.S.Steps.left c.args.steps.now) c.requires.accepted c.requires.starts.0 c.requires.starts.1 r.front rest c.in-Begin.item c.in-Begin.rank places split c.loop-next.machine (r.shows c.requires.starts.0 c.requires.starts.1 c.requires.starts.2) in
     let below : count_after open_step 0 (r.front ++ begins c.in-Begin.item c.in-Begin.rank places) ≤ greatest open_step 0 (g.S.Steps.left c.args.steps.now) =
@@ -37,11 +37,11 @@ run_begins-requires-clause-ready g c places rest e =
 
 pub loop-next-preserved-in-Begin : goal.loop-next-preserved-in-Begin
 loop-next-preserved-in-Begin g c =
-    let done = c.in_ok-next.ensures.done in
+    let done = c.run_begins-next.ensures.done in
     record {
-      reached = reached_more (g.P.Parts.setup c.args.parts.now) (g.P.Parts.layout c.args.parts.now) (g.P.Parts.tables c.args.parts.now) (g.S.Steps.left c.args.steps.now) (Begin c.in-Begin.item c.in-Begin.rank c.in-Begin.place ∷ g.S.Steps.left c.loop-next.steps) (to_come c.in_ok-next.next (g.S.Steps.left c.run_begins.new.steps)) done.0 c.args.machine.now c.loop-next.machine c.run_begins.new.machine r done.1 done.3;
-      space = c.run_begins.ensures.space;
-      over = c.in_ok-next.ensures.over;
+      reached = reached_more (g.P.Parts.setup c.args.parts.now) (g.P.Parts.layout c.args.parts.now) (g.P.Parts.tables c.args.parts.now) (g.S.Steps.left c.args.steps.now) (Begin c.in-Begin.item c.in-Begin.rank c.in-Begin.place ∷ g.S.Steps.left c.loop-next.steps) (to_come c.run_begins-next.result (g.S.Steps.left c.run_begins-next.new.steps)) done.0 c.args.machine.now c.loop-next.machine c.run_begins-next.new.machine r done.1 done.3;
+      space = c.run_begins-next.ensures.space;
+      over = c.run_begins-next.ensures.over;
     }
   where
     r : Reached (g.P.Parts.setup c.args.parts.now) (g.P.Parts.layout c.args.parts.now) (g.P.Parts.tables c.args.parts.now) (g.S.Steps.left c.args.steps.now) (Begin c.in-Begin.item c.in-Begin.rank c.in-Begin.place ∷ g.S.Steps.left c.loop-next.steps) c.args.machine.now c.loop-next.machine
@@ -96,7 +96,7 @@ loop-next-preserved g c = record {
       c.next_of-next-in_default-step.ensures.next
       (λ f h. subst (λ o. After (g.P.Parts.setup c.args.parts.now) (g.P.Parts.layout c.args.parts.now) (g.P.Parts.tables c.args.parts.now) (stop_in o) c.take.new.machine (flat_step (g.P.Parts.setup c.args.parts.now) (g.P.Parts.layout c.args.parts.now) c.in-Some.step f)) c.in_default-2.is (c.in_ok-stop.ensures.after f h))
       c.take.ensures.mail c.take.ensures.frames (by_recv c.in-Some.step r.split) (by_end c.in-Some.step r.split);
-  space = c.take.ensures.space;
+  space = record { step_fits = c.take.ensures.space; places_fit = c.loop-next.invariant.space.places_fit; group_fits = c.loop-next.invariant.space.group_fits };
   over = c.next_of-next-in_default-step.ensures.over;
 }
   where

@@ -1,0 +1,220 @@
+// The begins of a group in three phases: windows are gathered, kernels run on them, and frames are opened with what these
+// leave.
+
+ghost use Rattle.std.specs.Prelude.{◌≡◌, ◌⊎◌, ◌<◌, ◌≤◌, ◌+◌, ◌*◌, ℕ, pos, true, [], length, get_or, vec_capacity};
+ghost use Rattle.kernel_types.specs.declared.faults.KernelFault.{KernelFault};
+ghost use Rattle.schedule_steps.specs.declared.step.Step.TheVariants.{Begin};
+ghost use Rattle.schedule_steps.specs.Steps.{IsStep};
+ghost use Rattle.flat_machine.specs.Layout.{by_place};
+ghost use Rattle.flat_machine.specs.Flat.{Flat, flat_step, flat_from};
+ghost use Rattle.rank_state.specs.Spans.{cells_at};
+ghost use Rattle.rank_state.specs.Frames.{Shut, pane_at};
+ghost use Rattle.rank_state.specs.Groups.{begins, Distinct, Planned, AllShut};
+ghost use Rattle.rank_state.specs.Shows.{Shows};
+ghost use Rattle.rank_exec.specs.Rooms.{HasRoom};
+ghost use Rattle.kernel_jobs.specs.Jobs.{part, task_at};
+ghost use Rattle.rank_exec.specs.Tasks.{IsLoaded, IsRun};
+
+use crate::machine::Machine;
+use crate::parts::Parts;
+use crate::room::Room;
+use crate::steps::begin;
+use kernel_jobs::Task;
+use kernel_types::KernelFault;
+
+// The task of a begin, with its element's windows in the window.
+fn load_one<P: Parts>(
+    machine: &Machine,
+    parts: &P,
+    room: &mut Room,
+    item: u32,
+    rank: u32,
+    place: u32,
+    window: &mut [i32],
+) -> Task
+    requires sound { P.sound parts.now }
+    requires planned { IsStep (by_place (P.setup parts.now) (P.layout parts.now)) (Begin item rank place) }
+    requires space { HasRoom (P.span_count parts.now) (P.locals parts.now) (length (P.tables parts.now).constants) room.old }
+    requires shows { (f : Flat KernelFault) × Shows (P.setup parts.now) (P.layout parts.now) (P.tables parts.now) machine.now f }
+    requires wide { (P.tables parts.now).stride ≤ length window.old }
+    ensures loaded { IsLoaded (P.setup parts.now) (P.layout parts.now) (P.tables parts.now) item rank place machine.now result window.new }
+    ensures space { HasRoom (P.span_count parts.now) (P.locals parts.now) (length (P.tables parts.now).constants) room.new }
+{
+    rank_state::steps_can::<KernelFault>();
+    let element = parts.original(item, rank, place);
+    room.spans.clear();
+    let scalars = parts.windows(item, rank, place, &mut room.spans);
+    let cells = machine.load(rank, &room.spans, scalars, window);
+    Task { element, cells }
+}
+
+// The same in a part of the staging buffer.
+fn load_at<P: Parts>(
+    machine: &Machine,
+    parts: &P,
+    room: &mut Room,
+    item: u32,
+    rank: u32,
+    place: u32,
+    staging: &mut [i32],
+    at: usize,
+    window: usize,
+) -> Task
+    requires sound { P.sound parts.now }
+    requires planned { IsStep (by_place (P.setup parts.now) (P.layout parts.now)) (Begin item rank place) }
+    requires space { HasRoom (P.span_count parts.now) (P.locals parts.now) (length (P.tables parts.now).constants) room.old }
+    requires shows { (f : Flat KernelFault) × Shows (P.setup parts.now) (P.layout parts.now) (P.tables parts.now) machine.now f }
+    requires wide { (P.tables parts.now).stride ≤ window }
+    requires part { at + window ≤ length staging.old }
+    ensures loaded { IsLoaded (P.setup parts.now) (P.layout parts.now) (P.tables parts.now) item rank place machine.now result
+        (cells_at at window staging.new) }
+    ensures others { (b n : ℕ) → (b + n ≤ at) ⊎ (at + window ≤ b) → cells_at b n staging.new ≡ cells_at b n staging.old }
+    ensures space { HasRoom (P.span_count parts.now) (P.locals parts.now) (length (P.tables parts.now).constants) room.new }
+{
+    load_one(
+        machine,
+        parts,
+        room,
+        item,
+        rank,
+        place,
+        &mut staging[at..at + window],
+    )
+}
+
+/// The tasks of a group's begins, with their elements' windows in the windows of the staging buffer.
+pub fn load_all<P: Parts>(
+    machine: &Machine,
+    parts: &P,
+    room: &mut Room,
+    item: u32,
+    rank: u32,
+    places: &[u32],
+    tasks: &mut Vec<Task>,
+    staging: &mut [i32],
+    window: usize,
+)
+    requires sound { P.sound parts.now }
+    requires planned { Planned (by_place (P.setup parts.now) (P.layout parts.now)) item rank places.now }
+    requires space { HasRoom (P.span_count parts.now) (P.locals parts.now) (length (P.tables parts.now).constants) room.old }
+    requires shows { (f : Flat KernelFault) × Shows (P.setup parts.now) (P.layout parts.now) (P.tables parts.now) machine.now f }
+    requires wide { (P.tables parts.now).stride ≤ window }
+    requires whole { length staging.old ≡ length places.now * window }
+    requires empty { tasks.old.items ≡ [] }
+    requires tasks { length places.now ≤ vec_capacity tasks.old }
+    ensures loaded { (i : ℕ) → i < length places.now
+        → IsLoaded (P.setup parts.now) (P.layout parts.now) (P.tables parts.now) item rank (get_or places.now i 0) machine.now
+        (task_at tasks.new.items i) (part window i staging.new) }
+    ensures count { length tasks.new.items ≡ length places.now }
+    ensures tasks { vec_capacity tasks.new ≡ vec_capacity tasks.old }
+    ensures space { HasRoom (P.span_count parts.now) (P.locals parts.now) (length (P.tables parts.now).constants) room.new }
+{
+    for i in 0..places.len() {
+        let task = load_at(
+            machine,
+            parts,
+            room,
+            item,
+            rank,
+            places[i],
+            staging,
+            i * window,
+            window,
+        );
+        tasks.push_reserved(task);
+    }
+}
+
+// Whether the cell is 0.
+fn is_zero(window: &[i32], cell: usize) -> bool
+    requires { cell < length window.now }
+    ensures { result ≡ true → get_or window.now cell (pos 0) ≡ pos 0 }
+{
+    let value = window[cell];
+    value == 0
+}
+
+// A begin whose kernel has run on the window, on the first `cells` of its cells.
+fn open_one<P: Parts>(
+    machine: &mut Machine,
+    parts: &P,
+    room: &mut Room,
+    item: u32,
+    rank: u32,
+    place: u32,
+    cells: usize,
+    window: &[i32],
+)
+    requires sound { P.sound parts.now }
+    requires planned { IsStep (by_place (P.setup parts.now) (P.layout parts.now)) (Begin item rank place) }
+    requires space { HasRoom (P.span_count parts.now) (P.locals parts.now) (length (P.tables parts.now).constants) room.old }
+    requires shows { (f : Flat KernelFault) × Shows (P.setup parts.now) (P.layout parts.now) (P.tables parts.now) machine.old f }
+    requires shut { pane_at machine.old.frames.panes rank place ≡ Shut }
+    requires room { 0 < machine.old.frames.left }
+    requires cells { cells < length window.now }
+    requires narrow { cells ≤ (P.tables parts.now).stride }
+    requires ran { IsRun (P.setup parts.now) (P.layout parts.now) (P.tables parts.now) item rank place machine.old cells window.now }
+    ensures shows { (f : Flat KernelFault) → Shows (P.setup parts.now) (P.layout parts.now) (P.tables parts.now) machine.old f
+        → Shows (P.setup parts.now) (P.layout parts.now) (P.tables parts.now) machine.new
+        (flat_step (P.setup parts.now) (P.layout parts.now) (Begin item rank place) f) }
+    ensures space { HasRoom (P.span_count parts.now) (P.locals parts.now) (length (P.tables parts.now).constants) room.new }
+    ensures mail { machine.new.mail.left ≡ machine.old.mail.left }
+    ensures frames { machine.new.frames.left + 1 ≡ machine.old.frames.left }
+{
+    rank_state::begin_shows::<KernelFault>();
+    rank_state::steps_can::<KernelFault>();
+    if is_zero(window, cells) {
+        machine.open(item, rank, place, &window[..cells]);
+    } else {
+        begin(machine, parts, room, item, rank, place);
+    }
+}
+
+/// The begins of a group whose kernels have run on the windows of the staging buffer, in their order.
+pub fn open_all<P: Parts>(
+    machine: &mut Machine,
+    parts: &P,
+    room: &mut Room,
+    item: u32,
+    rank: u32,
+    places: &[u32],
+    tasks: &[Task],
+    staging: &[i32],
+    window: usize,
+)
+    requires sound { P.sound parts.now }
+    requires planned { Planned (by_place (P.setup parts.now) (P.layout parts.now)) item rank places.now }
+    requires space { HasRoom (P.span_count parts.now) (P.locals parts.now) (length (P.tables parts.now).constants) room.old }
+    requires shows { (f : Flat KernelFault) × Shows (P.setup parts.now) (P.layout parts.now) (P.tables parts.now) machine.old f }
+    requires shut { AllShut machine.old.frames.panes rank places.now }
+    requires distinct { Distinct places.now }
+    requires room { length places.now ≤ machine.old.frames.left }
+    requires count { length tasks.now ≡ length places.now }
+    requires whole { length staging.now ≡ length places.now * window }
+    requires wide { (P.tables parts.now).stride < window }
+    requires narrow { (i : ℕ) → i < length tasks.now → (task_at tasks.now i).cells ≤ (P.tables parts.now).stride }
+    requires ran { (i : ℕ) → i < length places.now
+        → IsRun (P.setup parts.now) (P.layout parts.now) (P.tables parts.now) item rank (get_or places.now i 0) machine.old
+        (task_at tasks.now i).cells (part window i staging.now) }
+    ensures shows { (f : Flat KernelFault) → Shows (P.setup parts.now) (P.layout parts.now) (P.tables parts.now) machine.old f
+        → Shows (P.setup parts.now) (P.layout parts.now) (P.tables parts.now) machine.new
+        (flat_from (P.setup parts.now) (P.layout parts.now) (begins item rank places.now) f) }
+    ensures space { HasRoom (P.span_count parts.now) (P.locals parts.now) (length (P.tables parts.now).constants) room.new }
+    ensures mail { machine.new.mail.left ≡ machine.old.mail.left }
+    ensures frames { machine.new.frames.left + length places.now ≡ machine.old.frames.left }
+{
+    rank_state::begin_opens::<KernelFault>();
+    for i in 0..places.len() {
+        let at = i * window;
+        open_one(
+            machine,
+            parts,
+            room,
+            item,
+            rank,
+            places[i],
+            tasks[i].cells,
+            &staging[at..at + window],
+        );
+    }
+}
