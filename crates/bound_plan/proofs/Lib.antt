@@ -33,3 +33,6 @@ pub mod Laid
 pub mod FirstState
 pub mod ItemsHold
 pub mod KernelsHold
+pub mod SameKernels
+pub mod AlikeDumps
+pub mod OneRun

@@ -4,6 +4,8 @@ pub mod Variables
 pub mod Setups
 pub mod Layouts
 pub mod Starts
+pub mod Memories
+pub mod OneRun
 pub mod Laws
 pub mod Machine
 pub mod Given

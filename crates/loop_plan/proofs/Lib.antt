@@ -20,4 +20,5 @@ pub mod PlanLines
 pub mod PlanWriting
 pub mod AlikeMeshes
 pub mod OnePlan
+pub mod OneReading
 mod OneStepCount

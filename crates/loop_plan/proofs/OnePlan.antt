@@ -91,12 +91,12 @@ module _ (g : MeshValue) (ms ns : List (Vec ℕ Global)) (rows : (k : ℕ) → r
 
 -- ---- the plan of a loop, as lists alone
 
-record Lists : Type 0 where
-  places : List ℕ
-  blocks : List (List ℕ)
-  inner : List (List ℕ)
+pub record Lists : Type 0 where
+  pub places : List ℕ
+  pub blocks : List (List ℕ)
+  pub inner : List (List ℕ)
 
-abbrev lists : SitePlanValue → Lists
+abbrev pub lists : SitePlanValue → Lists
 lists l = record { places = l.places; blocks = map (λ (c : Colours). c.blocks.items) l.colours; inner = map (λ (c : Colours). c.inner.items) l.colours }
 
 abbrev none : Lists
@@ -194,7 +194,7 @@ module _ (b : BoundValue) (meshes others : List RankMesh) (p q : PlanValue) (h :
   unfolding item_plan
   past_items u k l = get_or_past u.items k no_item_plan l
 
-  exchange_same : (k : ℕ) → (item_plan p k).exchange ≡ (item_plan q k).exchange
+  pub exchange_same : (k : ℕ) → (item_plan p k).exchange ≡ (item_plan q k).exchange
   exchange_same k = ⊎_elim
       (λ (l : k < length b.trace).
       h.proper.exchanges.in_order k l
@@ -330,7 +330,7 @@ module _ (b : BoundValue) (meshes others : List RankMesh) (p q : PlanValue) (h :
       ∙ (ap (λ (v : Lists). (get_or keys i 0, v)) (same_loop (get_or keys i 0) at.0 at.1)
       ∙ (sym (entry_is q h.other_proper.sites i d z) ∙ sym (get_or-map entry q.sites i d empty z)))))
 
-  lists_same : (s : ℕ) → lists (site_plan p s) ≡ lists (site_plan q s)
+  pub lists_same : (s : ℕ) → lists (site_plan p s) ≡ lists (site_plan q s)
   unfolding site_plan
   lists_same s = found_lists s p.sites ∙ (ap (λ es. or_empty (lookup (nat_eq s) es)) entries_same ∙ sym (found_lists s q.sites))
 
@@ -385,7 +385,7 @@ module _ (b : BoundValue) (meshes others : List RankMesh) (p q : PlanValue) (h :
   colours_same : colour_of p ≡ colour_of q
   colours_same = fun_ext (λ k. fun_ext (λ r. fun_ext (λ x. ap (λ (v : Lists). get_or (get_or v.inner r []) x 0) (lists_same (loop_of (item_at b k))))))
 
-  outlines_same : step_outline b meshes p ≡ step_outline b others q
+  pub outlines_same : step_outline b meshes p ≡ step_outline b others q
   outlines_same =
       ap (λ z. outline z (sends_of meshes p) (count_of p) (core_of meshes) p.block (block_colour_of p) (colour_of p)) rank_count
       ∙ (ap (λ z. outline q.ranks z (count_of p) (core_of meshes) p.block (block_colour_of p) (colour_of p)) sends_same

@@ -1,11 +1,14 @@
 -- That a plan is one, and the number of its steps.
-use Rattle.std.specs.Prelude.{◌≡◌, List, map}
+use Rattle.std.specs.Prelude.{◌≡◌, ℕ, List, map}
 use Rattle.local_mesh.specs.declared.types.RankMesh.{RankMesh}
+use Rattle.local_mesh.specs.LocalMesh.{originals_in}
 use Rattle.local_mesh.specs.Values.{rank_mesh_value}
 use Rattle.bound_program.specs.Values.{BoundValue}
-use Rattle.loop_plan.specs.Values.{PlanValue}
+use Rattle.loop_plan.specs.Values.{PlanValue, item_plan, places_in, block_colour_in, inner_colour_in}
+use Rattle.loop_plan.specs.Pairs.{sets_of}
 use Rattle.loop_plan.specs.Proper.{Proper, HasLeastColours}
 use Rattle.loop_plan.specs.PlanText.{plan_text}
+use Rattle.loop_plan.specs.StepOutline.{step_outline}
 use Rattle.loop_plan.specs.StepCounts.{program_steps}
 
 -- two plans of a program with least colours, on local meshes that are the same as lists, and in blocks of one size
@@ -23,6 +26,23 @@ PlanTextsAreOne =
     (b : BoundValue) (meshes others : List RankMesh) (p q : PlanValue)
     → AreAlike b meshes others p q
     → (plan_text b meshes p ≡ plan_text b others q) × (p.steps ≡ q.steps)
+
+-- What is read of two plans is one: their steps, by item the dats that are exchanged, by loop and rank the places and their colours,
+-- and by rank and set the elements in local order.
+pub record ReadAlike (b : BoundValue) (meshes others : List RankMesh) (p q : PlanValue) : Type 0 where
+  pub outline : step_outline b meshes p ≡ step_outline b others q
+  pub exchange : (k : ℕ) → (item_plan p k).exchange ≡ (item_plan q k).exchange
+  pub places : (s r : ℕ) → places_in p s r ≡ places_in q s r
+  pub block_colours : (s r c : ℕ) → block_colour_in p s r c ≡ block_colour_in q s r c
+  pub colours : (s r x : ℕ) → inner_colour_in p s r x ≡ inner_colour_in q s r x
+  pub originals : (r s : ℕ) → originals_in (sets_of meshes r) s ≡ originals_in (sets_of others r) s
+
+-- they are read alike
+abbrev pub PlansAreOne : Type 0
+PlansAreOne =
+    (b : BoundValue) (meshes others : List RankMesh) (p q : PlanValue)
+    → AreAlike b meshes others p q
+    → ReadAlike b meshes others p q
 
 -- on local meshes that are the same as lists a program has one number of steps
 abbrev pub StepCountsAreOne : Type 0

@@ -24,7 +24,7 @@ ghost use Rattle.loop_plan.specs.Exports.{exports_in, is_some_exported, HaveExpo
 ghost use Rattle.loop_plan.specs.Counted.{counted_steps};
 ghost use Rattle.loop_plan.specs.Counts.{Counts};
 ghost use Rattle.loop_plan.specs.Spaced.{spaced};
-ghost use Rattle.loop_plan.specs.OnePlan.{PlanTextsAreOne, StepCountsAreOne};
+ghost use Rattle.loop_plan.specs.OnePlan.{PlanTextsAreOne, PlansAreOne, StepCountsAreOne};
 
 /// The standard order with groups of any size has two steps for each message and for each element that
 /// a rank runs, and one for each join.
@@ -78,6 +78,12 @@ pub fn exports_are_messages()
 /// one text and one number of steps.
 pub fn one_plan_text()
     ensures { PlanTextsAreOne }
+{}
+
+/// Two plans of a program with least colours, in blocks of one size and on local meshes that are the same as lists,
+/// have the same steps, exchange the same dats, and have the same places and colours; each rank has the same elements.
+pub fn one_plan()
+    ensures { PlansAreOne }
 {}
 
 /// A program has one number of steps on local meshes that are the same as lists.

@@ -21,7 +21,8 @@ pub use exchange::{LoopRun, run_at};
 pub use items::item_plans;
 pub use laws::{
     bound_is_in_range, exports_are_messages, imports_are_exports, lines_are_spaced,
-    one_bit_gives_exchanges, one_plan_text, one_step_count, standard_is_counted, steps_are_counted,
+    one_bit_gives_exchanges, one_plan, one_plan_text, one_step_count, standard_is_counted,
+    steps_are_counted,
 };
 pub use needs::is_scattering;
 pub use places::{place_count, places_by_rank};

@@ -1,11 +1,14 @@
 // The run of a bound program on several ranks.
 
-ghost use Rattle.std.specs.Prelude.{◌≡◌, IfOk};
+ghost use Rattle.std.specs.Prelude.{◌≡◌, ◌<◌, ◌≤◌, List, IfOk};
 ghost use Rattle.mesh_decl.specs.declared.owners.Perms.{Perms};
 ghost use Rattle.halo_lists.specs.declared.types.Halos.{Halos as TheHalos};
 ghost use Rattle.halo_lists.specs.Halos.{AreHalos};
+ghost use Rattle.schedule_steps.specs.declared.step.Step.{Step};
 ghost use Rattle.schedule_steps.specs.Steps.{Accepted};
 ghost use Rattle.schedule_steps.specs.Peaks.{IsPeak};
+ghost use Rattle.schedule_steps.specs.Standard as the;
+ghost use Rattle.schedule_steps.specs.Drawn.{IsDrawn};
 ghost use Rattle.bound_program.specs.Values.{bound_of};
 ghost use Rattle.bound_program.specs.Fits.{Fits};
 ghost use Rattle.run_model.specs.Ranges.{AllObey, StartsInRange};
@@ -13,10 +16,13 @@ ghost use Rattle.loop_plan.specs.Values.{plan_of};
 ghost use Rattle.loop_plan.specs.Distributed.{IsDistributed, Distributed};
 ghost use Rattle.loop_plan.specs.Proper.{Proper};
 ghost use Rattle.loop_plan.specs.StepOutline.{step_outline};
-ghost use Rattle.rank_program.specs.Sound.{Sound, program_in, outline_in};
-ghost use Rattle.rank_program.specs.Runs.{IsRunOf};
+ghost use Rattle.bound_plan.specs.Memories.{dump_of};
+ghost use Rattle.rank_program.specs.Sound.{Sound, program_in, plan_in, outline_in};
+ghost use Rattle.rank_program.specs.Runs.{IsRunBy};
 ghost use Rattle.schedule_check.specs.Mail.{plan_cells};
+ghost use Rattle.planned_run.specs.Orders.{InOrder, CanTake};
 
+use crate::orders::{Order, drawn_steps};
 use crate::peaks::peaks_are_room;
 use bound_program::Bound;
 use halo_lists::Halos;
@@ -25,11 +31,15 @@ use local_mesh::{RankMesh, local_lists};
 use loop_plan::{Plan, Steps};
 use mesh_decl::Owners;
 use op_num::OutOfMemory;
+use par_exec::Gate;
 use plan_orders::{PlanShape, standard_order};
 use rank_program::{DistributedProgram, Outcome, run_planned};
 use schedule_check::{Checker, take_all};
 use schedule_steps::Peak;
 use std::alloc::Global;
+use std::marker::Sync;
+use std::thread::Threads;
+use step_orders::Listed;
 
 // The peak of an accepted list of a plan's steps. An error is want of memory.
 fn peak_of<S: Steps>(
@@ -52,37 +62,165 @@ fn peak_of<S: Steps>(
     }
 }
 
+// Runs a program by an accepted list of its plan's steps that has this peak. An error is want of memory.
+fn run_peaked<R: Threads + Sync, G: Gate, S: Steps>(
+    rt: &R,
+    alloc: Global,
+    program: &DistributedProgram<'_>,
+    peak: Peak,
+    steps: &mut S,
+    workers: u32,
+    gate: &G,
+    dumps: bool,
+) -> Result<Outcome, OutOfMemory>
+    requires workers { 0 < workers }
+    requires sound { Sound program.now }
+    requires accepted { Accepted (outline_in program.now) (S.left steps.old) }
+    requires peak { IsPeak (plan_cells (program_in program.now) program.now.meshes.now (plan_in program.now)) (S.left steps.old) peak }
+    ensures { IfOk result (IsRunBy (program_in program.now)
+        (dump_of dumps (program_in program.now) program.now.owners.now program.now.meshes.now (plan_in program.now) (S.left steps.old))) }
+{
+    peaks_are_room();
+    run_planned(rt, alloc, program, peak, steps, workers, gate, dumps)
+}
+
 // Runs a program by an accepted list of its plan's steps, which comes twice: for its peak, and for the run. An error is want
 // of memory.
-fn run_steps<S: Steps>(
+fn run_steps<R: Threads + Sync, G: Gate, S: Steps>(
+    rt: &R,
     alloc: Global,
     program: &DistributedProgram<'_>,
     steps: &mut S,
     again: &mut S,
+    workers: u32,
+    gate: &G,
+    dumps: bool,
 ) -> Result<Outcome, OutOfMemory>
+    requires workers { 0 < workers }
     requires sound { Sound program.now }
     requires accepted { Accepted (outline_in program.now) (S.left steps.old) }
     requires same { S.left again.old ≡ S.left steps.old }
-    ensures { IfOk result (IsRunOf (program_in program.now)) }
+    ensures { IfOk result (IsRunBy (program_in program.now)
+        (dump_of dumps (program_in program.now) program.now.owners.now program.now.meshes.now (plan_in program.now) (S.left steps.old))) }
 {
-    peaks_are_room();
     let peak = peak_of(alloc, program.bound, program.meshes, program.plan, steps)?;
-    run_planned(alloc, program, peak, again)
+    run_peaked(rt, alloc, program, peak, again, workers, gate, dumps)
 }
 
-/// Runs a bound program on ranks with these owners, halos and local meshes, by the standard order of a plan for them: the
+// Runs a program by the standard order of its plan. An error is want of memory.
+fn run_standard<R: Threads + Sync, G: Gate>(
+    rt: &R,
+    alloc: Global,
+    program: &DistributedProgram<'_>,
+    group: u32,
+    workers: u32,
+    gate: &G,
+    dumps: bool,
+) -> Result<Outcome, OutOfMemory>
+    requires workers { 0 < workers }
+    requires sound { Sound program.now }
+    requires group { 1 ≤ group }
+    ensures { IfOk result (λ x. (l : List Step) → l ≡ the.standard (outline_in program.now) group → IsRunBy (program_in program.now)
+        (dump_of dumps (program_in program.now) program.now.owners.now program.now.meshes.now (plan_in program.now) l) x) }
+{
+    let shape = PlanShape::new(alloc, program.bound, program.meshes, program.plan, group)?;
+    let mut steps = standard_order(&shape);
+    let mut again = standard_order(&shape);
+    let outcome = run_steps(
+        rt, alloc, program, &mut steps, &mut again, workers, gate, dumps,
+    )?;
+    Ok(outcome)
+}
+
+// Runs a program by a drawn order of its plan. An error is want of memory.
+fn run_drawn<R: Threads + Sync, G: Gate>(
+    rt: &R,
+    alloc: Global,
+    program: &DistributedProgram<'_>,
+    group: u32,
+    seed: u64,
+    workers: u32,
+    gate: &G,
+    dumps: bool,
+) -> Result<Outcome, OutOfMemory>
+    requires workers { 0 < workers }
+    requires sound { Sound program.now }
+    requires group { 1 ≤ group }
+    ensures { IfOk result (λ x. (l : List Step) → IsDrawn (outline_in program.now) group seed l → IsRunBy (program_in program.now)
+        (dump_of dumps (program_in program.now) program.now.owners.now program.now.meshes.now (plan_in program.now) l) x) }
+{
+    schedule_steps::drawn_once();
+    let list = drawn_steps(
+        alloc,
+        program.bound,
+        program.meshes,
+        program.plan,
+        group,
+        seed,
+    )?;
+    let mut steps = Listed::new(&list);
+    let mut again = Listed::new(&list);
+    let outcome = run_steps(
+        rt, alloc, program, &mut steps, &mut again, workers, gate, dumps,
+    )?;
+    Ok(outcome)
+}
+
+// Runs a program by this order of its plan's steps. An error is want of memory.
+fn run_in_order<R: Threads + Sync, G: Gate>(
+    rt: &R,
+    alloc: Global,
+    program: &DistributedProgram<'_>,
+    order: &Order<'_>,
+    workers: u32,
+    gate: &G,
+    dumps: bool,
+) -> Result<Outcome, OutOfMemory>
+    requires workers { 0 < workers }
+    requires sound { Sound program.now }
+    requires order { CanTake (outline_in program.now)
+        (plan_cells (program_in program.now) program.now.meshes.now (plan_in program.now)) order.now }
+    ensures { IfOk result (λ x. (l : List Step) → InOrder (outline_in program.now) order.now l → IsRunBy (program_in program.now)
+        (dump_of dumps (program_in program.now) program.now.owners.now program.now.meshes.now (plan_in program.now) l) x) }
+{
+    match order {
+        Order::Standard { group } => {
+            run_standard(rt, alloc, program, *group, workers, gate, dumps)
+        }
+        Order::Drawn { group, seed } => {
+            run_drawn(rt, alloc, program, *group, *seed, workers, gate, dumps)
+        }
+        Order::Listed { steps, peak } => {
+            let mut steps = Listed::new(steps);
+            let outcome = run_peaked(rt, alloc, program, *peak, &mut steps, workers, gate, dumps)?;
+            Ok(outcome)
+        }
+    }
+}
+
+/// Runs a bound program on ranks with these owners, halos and local meshes, by this order of the steps of a plan for them: the
 /// printed bytes and the first fault are those of running each loop one element after another in its set's original order.
+/// Where `dumps` and no fault stops the run, a dump of what the ranks hold after these steps stands behind the printed bytes.
+///
+/// Begins that come one after another are done in groups by the `workers`, at least 1, on threads of `rt`; `gate` is told of
+/// each begin of a group just before it. The answer is the same for every number of workers and every gate.
 ///
 /// # Errors
 /// Want of memory alone.
-pub fn run_on_ranks(
+pub fn run_on_ranks<R: Threads + Sync, G: Gate>(
+    rt: &R,
     alloc: Global,
     bound: &Bound,
     owners: &Owners,
     halos: &Halos,
     meshes: &[RankMesh],
     plan: &Plan,
+    order: &Order<'_>,
+    workers: u32,
+    gate: &G,
+    dumps: bool,
 ) -> Result<Outcome, OutOfMemory>
+    requires workers { 0 < workers }
     requires fits { Fits (bound_of bound.now) }
     requires obey { AllObey (bound_of bound.now) }
     requires start { StartsInRange (bound_of bound.now) }
@@ -90,13 +228,15 @@ pub fn run_on_ranks(
         × IsDistributed (bound_of bound.now).mesh owners.now n meshes.now
         × AreHalos (bound_of bound.now).mesh owners.now halos.now }
     requires plan { Proper (bound_of bound.now) meshes.now (plan_of plan.now) }
-    ensures { IfOk result (IsRunOf (bound_of bound.now)) }
+    requires order { CanTake (step_outline (bound_of bound.now) meshes.now (plan_of plan.now))
+        (plan_cells (bound_of bound.now) meshes.now (plan_of plan.now)) order.now }
+    ensures { IfOk result (λ x. (l : List Step)
+        → InOrder (step_outline (bound_of bound.now) meshes.now (plan_of plan.now)) order.now l
+        → IsRunBy (bound_of bound.now) (dump_of dumps (bound_of bound.now) owners.now meshes.now (plan_of plan.now) l) x) }
 {
     let lists = local_lists(alloc, &bound.mesh, owners, halos, meshes)?;
     let codes = compile_all(alloc, &bound.kernels)?;
     let program = DistributedProgram::new(alloc, bound, owners, meshes, &lists, plan, &codes)?;
-    let shape = PlanShape::new(alloc, bound, meshes, plan, 1)?;
-    let mut steps = standard_order(&shape);
-    let mut again = standard_order(&shape);
-    run_steps(alloc, &program, &mut steps, &mut again)
+    let outcome = run_in_order(rt, alloc, &program, order, workers, gate, dumps)?;
+    Ok(outcome)
 }

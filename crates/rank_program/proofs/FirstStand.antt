@@ -1,10 +1,9 @@
 -- The machine starts with the first cells.
-use Rattle.std.proofs.Common.{◌≡◌, ◌<◌, ◌+◌, ◌*◌, ℕ, ℤ, pos, true, List, [], map, length, get_or, refl, sym, ap, subst, ◌∙◌, arith}
+use Rattle.std.proofs.Common.{◌≡◌, ◌<◌, ◌+◌, ◌*◌, ℕ, pos, true, List, [], map, length, get_or, refl, sym, ap, subst, ◌∙◌, arith}
 use Rattle.std.specs.Prelude.{slice_index, slice_index_or, nat_lt, ◌&&◌}
 use Rattle.std.proofs.lemmas.Bool.{and_parts, ltb-true}
 use Rattle.std.proofs.lemmas.List.{get_or-map, length-map, get_or_default}
 use Rattle.mesh_decl.specs.declared.owners.Owners.{Owners}
-use Rattle.mesh_decl.specs.declared.owners.Perms.{Perms}
 use Rattle.mesh_decl.specs.Mesh.{MeshValue, IsMesh, IsMapAt, IsDatAt, no_mesh, set_size, map_count, dat_count, dat_set, dat_dim, dat_values}
 use Rattle.halo_lists.specs.Halo.{IsInRange}
 use Rattle.local_mesh.specs.declared.types.RankMesh.{RankMesh}
@@ -13,15 +12,13 @@ use Rattle.local_mesh.specs.LocalMesh.{originals_in, cells_before, AreClosed, Ar
 use Rattle.local_mesh.specs.Numbers.{RankMeshesAreClosed}
 use Rattle.local_mesh.specs.Lists.{sets_of}
 use Rattle.schedule_model.specs.Cells.{Cell, Data, Variable, DatCell}
-use Rattle.bound_program.specs.Values.{BoundValue, VarValue}
+use Rattle.bound_program.specs.Values.{BoundValue}
 use Rattle.run_model.specs.Hosts.{variables_of, variable_cells}
 use Rattle.run_model.specs.Constants.{no_constant}
 use Rattle.run_model.specs.Programs.{program_of}
 use Rattle.run_model.specs.Arguments.{dat_width}
-use Rattle.run_model.specs.Memory.{Holds, has_cell, first_memory, FirstMemoryHolds}
+use Rattle.run_model.specs.Memory.{has_cell, FirstMemoryHolds}
 use Rattle.host_acts.specs.Variables.{of_vars, HoldsVariables, CellsAreHeld}
-use Rattle.loop_plan.specs.Values.{PlanValue}
-use Rattle.bound_plan.specs.Laws.{Planned}
 use Rattle.bound_plan.specs.Places.{originals, original_at, bases_of, cells_of, cell_at}
 use Rattle.bound_plan.specs.Machine.{Stand, ElementsStand}
 use Rattle.rank_program.specs.First.{first_cells, first_variables, FirstCellsStand, MeshesAreClosed}

@@ -14,6 +14,8 @@ pub mod RankWindows
 pub mod WindowsStand
 pub mod FirstCells
 pub mod FirstStand
+pub mod SameStart
+pub mod Held
 pub mod FrameWidths
 pub mod OwnedSpans
 pub mod OwnedStand
@@ -34,3 +36,4 @@ pub mod PlanPlaces
 pub mod ArgVariables
 pub mod Runnables
 pub mod MostPairs
+mod JobTargets

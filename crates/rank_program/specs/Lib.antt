@@ -19,3 +19,4 @@ pub mod TableLaws
 pub mod ProgramLaws
 pub mod Runnables
 pub mod Runs
+pub mod Targets

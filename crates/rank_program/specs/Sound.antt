@@ -24,7 +24,10 @@ use Rattle.bound_plan.specs.Layouts.{layout_of}
 use Rattle.rank_state.specs.Shows.{variables_from, Tables, Indexed}
 use Rattle.rank_program.specs.Tables.{tables_of}
 use Rattle.rank_program.specs.MessageLaws.{HasLists}
+use Rattle.kernel_jobs.specs.declared.tasks.Task.{Task}
+use Rattle.kernel_jobs.specs.declared.tasks.Targets.{Targets}
 use Rattle.rank_program.specs.Made.{AreMade}
+use Rattle.rank_program.specs.Targets.{AllTargets}
 use Rattle.rank_program.specs.declared.program.DistributedProgram.{DistributedProgram}
 
 module _ (c : DistributedProgram) where
@@ -48,6 +51,10 @@ module _ (c : DistributedProgram) where
 
   abbrev pub core_in : ℕ → ℕ → List ℤ → List ℤ → Core KernelFault
   core_in = layout_in.core
+
+  -- the targets of tasks of the item's loop
+  abbrev pub targeted_in : ℕ → List Task → List Targets → Type 0
+  targeted_in k = AllTargets program_in (site_of program_in k).args
 
   -- the program can be run on these ranks by its plan, with the codes of its kernels
   pub record Sound : Type 0 where

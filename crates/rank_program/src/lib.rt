@@ -9,6 +9,7 @@ mod elements;
 mod exchanges;
 mod first;
 mod items;
+mod job_targets;
 mod joins;
 mod kernel_run;
 mod laws;

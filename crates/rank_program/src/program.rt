@@ -8,7 +8,8 @@ ghost use Rattle.rank_program.specs.Sound.{Sound};
 ghost use Rattle.rank_program.specs.Runnables.{CanRun, IsProgramOf};
 
 use crate::first::first_variables;
-use crate::items::loop_of;
+use crate::items::{args_of, loop_of};
+use crate::job_targets::push_all;
 use crate::kernel_run::run_kernel;
 use crate::laws::first_cells_stand;
 use crate::laws_owned::variables_stand;
@@ -18,6 +19,7 @@ use crate::rooms::most_spans;
 use crate::tables::MachineTables;
 use bound_program::Bound;
 use kernel_code::{Code, room_for};
+use kernel_jobs::{KernelJob, Targets, Task};
 use kernel_types::KernelFault;
 use local_mesh::{LocalLists, RankMesh};
 use loop_plan::Plan;
@@ -90,7 +92,7 @@ impl<'a> DistributedProgram<'a> {
 }
 
 impl<'a> Kernels for DistributedProgram<'a> {
-    ghost use Rattle.rank_program.specs.Sound.{Sound, Takes, core_in};
+    ghost use Rattle.rank_program.specs.Sound.{Sound, Takes, core_in, targeted_in};
 
     ghost sound = { Sound };
 
@@ -99,6 +101,8 @@ impl<'a> Kernels for DistributedProgram<'a> {
     ghost takes = { Takes };
 
     ghost locals = { λ c. c.locals };
+
+    ghost targeted = { targeted_in };
 
     fn most_locals(&self) -> usize {
         self.locals
@@ -117,5 +121,31 @@ impl<'a> Kernels for DistributedProgram<'a> {
         let site = &self.bound.sites[loop_of(self.bound, item) as usize];
         let code = &self.codes[site.kernel as usize];
         run_kernel(self.bound, site, code, element, constants, windows, scratch)
+    }
+
+    fn put_targets(&self, item: u32, tasks: &[Task], targets: &mut Vec<Targets>) {
+        run_model::items_are_there();
+        let site = &self.bound.sites[loop_of(self.bound, item) as usize];
+        push_all(self.bound, site, tasks, targets);
+    }
+
+    fn job<'t>(
+        &'t self,
+        item: u32,
+        tasks: &'t [Task],
+        targets: &'t [Targets],
+        constants: &'t [i32],
+    ) -> KernelJob<'t> {
+        run_model::items_are_there();
+        run_model::constants_are_read();
+        let number = loop_of(self.bound, item) as usize;
+        let site = &self.bound.sites[number];
+        KernelJob {
+            code: &self.codes[site.kernel as usize],
+            tasks,
+            targets,
+            args: args_of(self.bound, number).len(),
+            constants,
+        }
     }
 }

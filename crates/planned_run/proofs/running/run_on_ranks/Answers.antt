@@ -1,9 +1,12 @@
 use Rattle.std.proofs.Common.{sym, subst}
 use Rattle.local_mesh.specs.Lists.{AreLocalLists}
+use Rattle.bound_program.specs.Values.{bound_of}
+use Rattle.loop_plan.specs.Values.{plan_of}
+use Rattle.planned_run.proofs.SameProgram.{told, can_take}
 use Rattle.planned_run.proofs.running.run_on_ranks.Goals as goal
 
 pub new-requires-clause-runs : goal.new-requires-clause-runs
-new-requires-clause-runs c =
+new-requires-clause-runs g c =
     let s = c.requires.spread in
     record {
       numbers = s.0;
@@ -16,3 +19,11 @@ new-requires-clause-runs c =
       are_halos = s.2;
       lists = subst (AreLocalLists c.args.bound.now.mesh c.args.owners.now c.args.halos.now c.args.meshes.now) (sym c.deref-2.ensures.value) c.in_ok-lists.ensures;
     }
+
+pub run_in_order-requires-clause-order : goal.run_in_order-requires-clause-order
+run_in_order-requires-clause-order g c κs within = can_take (bound_of c.args.bound.now) c.args.owners.now c.args.meshes.now (plan_of c.args.plan.now)
+    c.in_ok-program.program c.in_ok-program.ensures.of c.args.order.now c.requires.order
+
+pub returns : goal.returns
+returns g c = told (bound_of c.args.bound.now) c.args.owners.now c.args.meshes.now (plan_of c.args.plan.now)
+    c.in_ok-program.program c.in_ok-program.ensures.of c.args.order.now c.args.dumps c.in_ok-outcome.outcome c.in_ok-outcome.ensures

@@ -1,7 +1,12 @@
 use Rattle.std.proofs.Common.{List, sym, subst}
+use Rattle.std.specs.Prelude.{IfOk}
 use Rattle.schedule_steps.specs.declared.step.Step.{Step}
-use Rattle.rank_exec.specs.Driving.{FitsPeak}
-use Rattle.rank_program.specs.Sound.{program_in, plan_in, layout_in}
+use Rattle.schedule_steps.specs.Steps.{Accepted}
+use Rattle.schedule_steps.specs.Peaks.{IsPeak}
+use Rattle.bound_plan.specs.Memories.{dump_of}
+use Rattle.rank_program.specs.Runs.{IsRunBy}
+use Rattle.rank_program.specs.Sound.{program_in, plan_in, outline_in}
+use Rattle.schedule_check.specs.Mail.{plan_cells}
 use Rattle.planned_run.proofs.running.run_steps.Goals as goal
 
 pub peak_of-requires-clause-ranks : goal.peak_of-requires-clause-ranks
@@ -16,10 +21,16 @@ peak_of-requires-clause-ranks g c =
       },
     )
 
-pub run_planned-requires-clause-peak : goal.run_planned-requires-clause-peak
-run_planned-requires-clause-peak g c =
+pub run_peaked-requires-clause-accepted : goal.run_peaked-requires-clause-accepted
+run_peaked-requires-clause-accepted g c κs within = subst (Accepted (outline_in c.args.program.now)) (sym c.requires.same) c.requires.accepted
+
+pub run_peaked-requires-clause-peak : goal.run_peaked-requires-clause-peak
+run_peaked-requires-clause-peak g c κs within =
     let x = c.args.program.now in
-    let s = c.requires.sound in
-    let room = c.peaks_are_room.ensures.room (program_in x) x.owners.now s.numbers x.meshes.now (plan_in x) s.runnable.planned
-    (g.S.Steps.left c.args.steps.now) c.in_ok-peak.peak c.requires.accepted c.in_ok-peak.ensures in
-    subst (λ (l : List Step). FitsPeak (layout_in x) c.in_ok-peak.peak.frames c.in_ok-peak.peak.mail l) (sym c.requires.same) room
+    subst (λ (l : List Step). IsPeak (plan_cells (program_in x) x.meshes.now (plan_in x)) l c.in_ok-peak.peak) (sym c.requires.same) c.in_ok-peak.ensures
+
+pub returns : goal.returns
+returns g c =
+    let x = c.args.program.now in
+    subst (λ (z : List Step). IfOk c.run_peaked.result (IsRunBy (program_in x) (dump_of c.args.dumps (program_in x) x.owners.now x.meshes.now (plan_in x) z)))
+    c.requires.same c.run_peaked.ensures
