@@ -12,11 +12,12 @@ use Rattle.name_resolution.specs.Programs as names
 use Rattle.name_resolution.specs.Programs.{Resolves}
 use Rattle.mesh_text.specs.Spelling.{Named}
 use Rattle.mesh_text.specs.Reading.{Read, Reads as Spelled}
-use Rattle.kernel_model.specs.Trees.{RunsAlike, WalksAlike}
+use Rattle.kernel_model.specs.Trees.{WalksAlike}
 use Rattle.bind_refusals.specs.declared.refusals.BindRefusal.{BindRefusal}
 use Rattle.bound_program.specs.Values.{BoundValue}
 use Rattle.loop_bind.specs.Bound.{bound}
 use Rattle.run_model.specs.Programs.{printed, first_fault}
+use Rattle.bound_plan.specs.OneRun.{KernelsAreOne, ProgramsAreOne}
 use Rattle.op_outside.specs.Outside.{Files}
 use Rattle.answers.specs.Refusal.{SourceBytes, MeshBytes, Refusal}
 use Rattle.answers.specs.Lines.{Answer, refused, line_of}
@@ -62,14 +63,14 @@ mesh_is_one : (input : Input) (files : Files) → IsOne (MeshIs input files)
 mesh_is_one (InFiles source mesh) files = held_is_one MeshBytes mesh (files mesh)
 mesh_is_one (OfSample side) files = told_is_one (sample_mesh side)
 
-module _ (runs_alike : RunsAlike) (walks_alike : WalksAlike) (one_read : (bytes : List ℕ) (a b : Read) → Spelled bytes a → Spelled bytes b → a ≡ b) (one_outcome : (bytes : List ℕ) (a b : lexer.Outcome) → Lexes bytes a → Lexes bytes b → a ≡ b) (one_tree : (bytes : List ℕ) (a b : ProgramTree) → Reads bytes a → Reads bytes b → a ≡ b) (one_resolved : (p : ProgramTree) (a b : names.Outcome) → Resolves p a → Resolves p b → a ≡ b) (walk_finds : WalkFinds) (obeys : ObeysUnlessBroken) (one_breach : OneRefusal) (plans_alike : (j : PlanJob) (o : Options) (files : Files) → 0 < o.ranks → Alike (PlannedAnswers j o files)) where
+module _ (walks_alike : WalksAlike) (kernels_are_one : KernelsAreOne) (programs_are_one : ProgramsAreOne) (one_read : (bytes : List ℕ) (a b : Read) → Spelled bytes a → Spelled bytes b → a ≡ b) (one_outcome : (bytes : List ℕ) (a b : lexer.Outcome) → Lexes bytes a → Lexes bytes b → a ≡ b) (one_tree : (bytes : List ℕ) (a b : ProgramTree) → Reads bytes a → Reads bytes b → a ≡ b) (one_resolved : (p : ProgramTree) (a b : names.Outcome) → Resolves p a → Resolves p b → a ≡ b) (walk_finds : WalkFinds) (obeys : ObeysUnlessBroken) (one_breach : OneRefusal) (plans_alike : (j : PlanJob) (o : Options) (files : Files) → 0 < o.ranks → Alike (PlannedAnswers j o files)) where
   -- ---- the run
 
   jobs_alike : (j : Job) → Alike (JobAnswers j)
   jobs_alike Run b c same x y h k = h ∙ e ∙ sym k
     where
       e : ran (first_fault b) (printed b) ≡ ran (first_fault c) (printed c)
-      e = answer_same runs_alike b c.kernels same.1 ∙ ap (λ d. ran (first_fault d) (printed d)) (sym same.0)
+      e = answer_same programs_are_one b c.kernels same.1 ∙ ap (λ d. ran (first_fault d) (printed d)) (sym same.0)
 
   -- ---- accesses
 
@@ -78,7 +79,7 @@ module _ (runs_alike : RunsAlike) (walks_alike : WalksAlike) (one_read : (bytes 
   found b = first_found (site_found b) b.sites
 
   found_same : (b c : BoundValue) → IsSame b c → found b ≡ found c
-  found_same b c same = sites_found walks_alike b c.kernels same.1 ∙ ap found (sym same.0)
+  found_same b c same = sites_found walks_alike kernels_are_one b c.kernels same.1 ∙ ap found (sym same.0)
 
   accesses_agree : (N : Type 0) (rest : BoundValue → Answer → Type 0) → Alike rest → (b c : BoundValue) → IsSame b c → (x y : Answer) → given (AccessesAre b) (λ _. rest b) x → given (AccessesAre c) (λ _. rest c) y → AgreeBut N x y
   accesses_agree N rest alike b c same =
@@ -221,9 +222,9 @@ module _ (runs_alike : RunsAlike) (walks_alike : WalksAlike) (one_read : (bytes 
   commands_agree : (words : List (List ℕ)) (files : Files) (c : Command) → WordsAre words (Ok c) → (a b : Answer) → CommandAnswers c files a → CommandAnswers c files b → Agree words files a b
   commands_agree words files (OnProgram j input) asks a b h k =
       agree_for words files (Lacks input files) (λ l. record { command = OnProgram j input; input = input; bytes = l.0; asks = asks; from = refl; held = l.1; lacks = l.2 }) a b (programs_agree (JobAnswers j) (jobs_alike j) input files a b h k)
-  commands_agree words files (OnPlan j o source mesh) asks a b h k =
-      agree_for words files (Lacks (InFiles source mesh) files) (λ l. record { command = OnPlan j o source mesh; input = InFiles source mesh; bytes = l.0; asks = asks; from = refl; held = l.1; lacks = l.2 }) a b
-      (programs_agree (PlannedAnswers j o files) (plans_alike j o files (within words j o source mesh asks).some) (InFiles source mesh) files a b h k)
+  commands_agree words files (OnPlan j o input) asks a b h k =
+      agree_for words files (Lacks input files) (λ l. record { command = OnPlan j o input; input = input; bytes = l.0; asks = asks; from = refl; held = l.1; lacks = l.2 }) a b
+      (programs_agree (PlannedAnswers j o files) (plans_alike j o files (within words j o input asks).some) input files a b h k)
   commands_agree words files (Converts form mesh) asks a b h k = agree_for words files ⊥ (λ x. absurd x) a b (converts_agree form mesh files a b h k)
   commands_agree words files ShowsUsage asks a b h k = agree_for words files ⊥ (λ x. absurd x) a b (same_answers ⊥ a b (h ∙ sym k))
   commands_agree words files ShowsVersion asks a b h k = agree_for words files ⊥ (λ x. absurd x) a b (same_answers ⊥ a b (h ∙ sym k))

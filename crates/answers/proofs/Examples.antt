@@ -1,13 +1,14 @@
 -- Lines and words that are written out.
-use Rattle.std.proofs.Common.{◌≡◌, [], ◌∷◌, Some, None, Ok, Err, codes, refl}
+use Rattle.std.proofs.Common.{◌≡◌, true, false, [], ◌∷◌, Some, None, Ok, Err, codes, refl}
 use Rattle.std.specs.Fmt.{digits}
 use Rattle.op_num.specs.declared.refusals.Fault.TheVariants.{DivZero}
 use Rattle.clap.proofs.OnLiterals.{clap_on_literals}
 use Rattle.mesh_text.specs.declared.entry.Form.TheVariants as form
-use Rattle.answers.specs.Refusal.{CannotRead, TooDeep, NoTokens, BadName, BadTarget, BadAccess, BadMesh, BadPart, BadPartition, BeyondLimit, PartitionBytes, Steps, SetSize, Usage}
+use Rattle.answers.specs.Refusal.{CannotRead, TooDeep, NoTokens, BadName, BadTarget, BadAccess, BadMesh, BadPart, BadPartition, BadSchedule, BadStep, EarlyStep, LeftStep, BeyondLimit, PartitionBytes, Steps, ScheduleSteps, SetSize, Usage}
 use Rattle.answers.specs.Lines.{line_of, fault_line}
 use Rattle.distribute.specs.Parts.{Block, Bisect, Grow}
-use Rattle.answers.specs.Words.{Run, Check, ShowsPlan, RunsPlan, ByRule, ByFile, InFiles, OfSample, OnProgram, OnPlan, Converts, ShowsUsage, ShowsVersion, WordsAre}
+use Rattle.schedule_steps.specs.declared.step.Step.TheVariants.{Send, Recv, Begin, Join}
+use Rattle.answers.specs.Words.{Run, Check, ShowsPlan, ShowsSchedule, RunsPlan, ByRule, ByFile, Standard, Drawn, Written, InFiles, OfSample, OnProgram, OnPlan, Converts, ShowsUsage, ShowsVersion, WordsAre}
 
 -- ---- lines
 
@@ -68,6 +69,26 @@ line_of_partition_bytes : line_of (BeyondLimit PartitionBytes 67108865) ≡ code
 unfolding digits
 line_of_partition_bytes = refl
 
+line_of_schedule : line_of (BadSchedule 2 4) ≡ codes "op2: schedule text 2 line 4\n"
+unfolding digits
+line_of_schedule = refl
+
+line_of_step : line_of (BadStep 1 7 (Send 0 1 2)) ≡ codes "op2: schedule step 1 line 7 send 0 1 2\n"
+unfolding digits
+line_of_step = refl
+
+line_of_early_step : line_of (EarlyStep 3 (Begin 2 0 14) (Recv 2 0 1)) ≡ codes "op2: schedule step 3 line 3 begin 2 0 14 needs recv 2 0 1\n"
+unfolding digits
+line_of_early_step = refl
+
+line_of_left_step : line_of (LeftStep 9 (Join 5)) ≡ codes "op2: schedule step 4 line 9 needs join 5\n"
+unfolding digits
+line_of_left_step = refl
+
+line_of_schedule_steps : line_of (BeyondLimit ScheduleSteps 8388609) ≡ codes "op2: limit schedule-steps 8388608 8388609\n"
+unfolding digits
+line_of_schedule_steps = refl
+
 -- ---- words
 
 a_run : WordsAre (codes "op2" ∷ codes "run" ∷ codes "s.c" ∷ codes "m" ∷ []) (Ok (OnProgram Run (InFiles (codes "s.c") (codes "m"))))
@@ -123,22 +144,22 @@ unfolding clap_on_literals
 another_job = refl
 
 a_check : WordsAre (codes "op2" ∷ codes "check" ∷ codes "s.c" ∷ codes "m" ∷ [])
-    (Ok (OnPlan Check (record { ranks = 1; parting = ByRule Block; renumber = None; block = 256 }) (codes "s.c") (codes "m")))
+    (Ok (OnPlan Check (record { ranks = 1; parting = ByRule Block; renumber = None; block = 256; schedule = Standard; workers = 1; dumps = false }) (InFiles (codes "s.c") (codes "m"))))
 unfolding clap_on_literals
 a_check = refl
 
 a_plan : WordsAre (codes "op2" ∷ codes "plan" ∷ codes "--ranks=08" ∷ codes "s.c" ∷ codes "m" ∷ codes "--parts" ∷ codes "bisect:x" ∷ codes "--block=2" ∷ [])
-    (Ok (OnPlan ShowsPlan (record { ranks = 8; parting = ByRule (Bisect (codes "x")); renumber = None; block = 2 }) (codes "s.c") (codes "m")))
+    (Ok (OnPlan ShowsPlan (record { ranks = 8; parting = ByRule (Bisect (codes "x")); renumber = None; block = 2; schedule = Standard; workers = 1; dumps = false }) (InFiles (codes "s.c") (codes "m"))))
 unfolding clap_on_literals
 a_plan = refl
 
 a_plan_by_growth : WordsAre (codes "op2" ∷ codes "plan" ∷ codes "s.c" ∷ codes "m" ∷ codes "--parts=grow:" ∷ codes "--renumber=pe" ∷ [])
-    (Ok (OnPlan ShowsPlan (record { ranks = 1; parting = ByRule (Grow []); renumber = Some (codes "pe"); block = 256 }) (codes "s.c") (codes "m")))
+    (Ok (OnPlan ShowsPlan (record { ranks = 1; parting = ByRule (Grow []); renumber = Some (codes "pe"); block = 256; schedule = Standard; workers = 1; dumps = false }) (InFiles (codes "s.c") (codes "m"))))
 unfolding clap_on_literals
 a_plan_by_growth = refl
 
 a_plan_by_a_file : WordsAre (codes "op2" ∷ codes "plan" ∷ codes "s.c" ∷ codes "m" ∷ codes "--partition=p" ∷ [])
-    (Ok (OnPlan ShowsPlan (record { ranks = 1; parting = ByFile (codes "p"); renumber = None; block = 256 }) (codes "s.c") (codes "m")))
+    (Ok (OnPlan ShowsPlan (record { ranks = 1; parting = ByFile (codes "p"); renumber = None; block = 256; schedule = Standard; workers = 1; dumps = false }) (InFiles (codes "s.c") (codes "m"))))
 unfolding clap_on_literals
 a_plan_by_a_file = refl
 
@@ -167,12 +188,12 @@ unfolding clap_on_literals
 one_word_more = refl
 
 a_run_on_ranks : WordsAre (codes "op2" ∷ codes "run" ∷ codes "s.c" ∷ codes "m" ∷ codes "--ranks" ∷ codes "2" ∷ [])
-    (Ok (OnPlan RunsPlan (record { ranks = 2; parting = ByRule Block; renumber = None; block = 256 }) (codes "s.c") (codes "m")))
+    (Ok (OnPlan RunsPlan (record { ranks = 2; parting = ByRule Block; renumber = None; block = 256; schedule = Standard; workers = 1; dumps = false }) (InFiles (codes "s.c") (codes "m"))))
 unfolding clap_on_literals
 a_run_on_ranks = refl
 
 a_run_in_blocks : WordsAre (codes "op2" ∷ codes "run" ∷ codes "s.c" ∷ codes "m" ∷ codes "--block=1" ∷ [])
-    (Ok (OnPlan RunsPlan (record { ranks = 1; parting = ByRule Block; renumber = None; block = 1 }) (codes "s.c") (codes "m")))
+    (Ok (OnPlan RunsPlan (record { ranks = 1; parting = ByRule Block; renumber = None; block = 1; schedule = Standard; workers = 1; dumps = false }) (InFiles (codes "s.c") (codes "m"))))
 unfolding clap_on_literals
 a_run_in_blocks = refl
 
@@ -180,9 +201,40 @@ a_run_on_ranks_of_a_version : WordsAre (codes "op2" ∷ codes "run" ∷ codes "s
 unfolding clap_on_literals
 a_run_on_ranks_of_a_version = refl
 
-a_sample_on_ranks : WordsAre (codes "op2" ∷ codes "sample" ∷ codes "20" ∷ codes "--ranks=2" ∷ []) (Err Usage)
+a_sample_on_ranks : WordsAre (codes "op2" ∷ codes "sample" ∷ codes "2" ∷ codes "--ranks" ∷ codes "2" ∷ codes "--workers" ∷ codes "4" ∷ [])
+    (Ok (OnPlan RunsPlan (record { ranks = 2; parting = ByRule Block; renumber = None; block = 256; schedule = Standard; workers = 4; dumps = false }) (OfSample 2)))
 unfolding clap_on_literals
 a_sample_on_ranks = refl
+
+a_drawn_schedule : WordsAre (codes "op2" ∷ codes "schedule" ∷ codes "s.c" ∷ codes "m" ∷ codes "--seed" ∷ codes "7" ∷ [])
+    (Ok (OnPlan ShowsSchedule (record { ranks = 1; parting = ByRule Block; renumber = None; block = 256; schedule = Drawn 7; workers = 1; dumps = false }) (InFiles (codes "s.c") (codes "m"))))
+unfolding clap_on_literals
+a_drawn_schedule = refl
+
+a_run_by_a_schedule : WordsAre (codes "op2" ∷ codes "run" ∷ codes "s.c" ∷ codes "m" ∷ codes "--schedule" ∷ codes "f" ∷ codes "--dump" ∷ [])
+    (Ok (OnPlan RunsPlan (record { ranks = 1; parting = ByRule Block; renumber = None; block = 256; schedule = Written (codes "f"); workers = 1; dumps = true }) (InFiles (codes "s.c") (codes "m"))))
+unfolding clap_on_literals
+a_run_by_a_schedule = refl
+
+two_schedules : WordsAre (codes "op2" ∷ codes "run" ∷ codes "s.c" ∷ codes "m" ∷ codes "--seed" ∷ codes "1" ∷ codes "--schedule" ∷ codes "f" ∷ []) (Err Usage)
+unfolding clap_on_literals
+two_schedules = refl
+
+too_many_workers : WordsAre (codes "op2" ∷ codes "run" ∷ codes "s.c" ∷ codes "m" ∷ codes "--workers" ∷ codes "65" ∷ []) (Err Usage)
+unfolding clap_on_literals
+too_many_workers = refl
+
+a_seed_too_large : WordsAre (codes "op2" ∷ codes "run" ∷ codes "s.c" ∷ codes "m" ∷ codes "--seed" ∷ codes "18446744073709551616" ∷ []) (Err Usage)
+unfolding clap_on_literals
+a_seed_too_large = refl
+
+a_mesh_and_a_dump : WordsAre (codes "op2" ∷ codes "convert" ∷ codes "m" ∷ codes "--dump" ∷ []) (Err Usage)
+unfolding clap_on_literals
+a_mesh_and_a_dump = refl
+
+a_schedule_of_no_mesh : WordsAre (codes "op2" ∷ codes "schedule" ∷ codes "s.c" ∷ []) (Err Usage)
+unfolding clap_on_literals
+a_schedule_of_no_mesh = refl
 
 help : WordsAre (codes "op2" ∷ codes "run" ∷ codes "--help" ∷ []) (Ok ShowsUsage)
 unfolding clap_on_literals

@@ -157,7 +157,7 @@ module _ (some_lexed : (bytes : List ℕ) → (o : Outcome) × Lexes bytes o) (s
 
   command_exists : (c : Command) (files : Files) → IsOfNoPlan c → ¬ ((a : Answer) → ¬ CommandAnswers c files a)
   command_exists (OnProgram j input) files about none = program_exists j input files none
-  command_exists (OnPlan j o source mesh) files about none = about
+  command_exists (OnPlan j o input) files about none = about
   command_exists (Converts form mesh) files about none =
       given_one _ _ (held_exists MeshBytes mesh (files mesh)) (λ text _.
       given_one _ _ (entries_exist text) (λ es _ n. n _ refl)) none

@@ -37,3 +37,11 @@ pub given_alike : {A : Type 0} (J : Result A Refusal → Type 0) (f g : A → An
     → (a b : Answer) → given J f a → given J g b → G a b
 given_alike J f g G ee eo same oo a b h k =
     given_both J J f g G ee eo (λ x s u v. eo s x v u) (λ x y u v c d p q. oo x u c d p (subst (λ z. g z d) (sym (same x y u v)) q)) a b h k
+
+-- what is so of judgements that give the same, and of what comes after each value
+pub given_on : {A : Type 0} (J K : Result A Refusal → Type 0) (f g : A → Answer → Type 0)
+    → ((r : Result A Refusal) → J r → K r)
+    → ((x : A) (a : Answer) → f x a → g x a)
+    → (a : Answer) → given J f a → given K g a
+given_on J K f g to after a (inl h) = inl (h.0, to (Err h.0) h.1, h.2)
+given_on J K f g to after a (inr h) = inr (h.0, to (Ok h.0) h.1, after h.0 a h.2)

@@ -6,6 +6,7 @@ mod SameKernels
 mod SameBound
 mod IsOne
 mod Within
+mod SchedulesAgree
 mod PlansAgree
 mod Agreed
 mod Exist

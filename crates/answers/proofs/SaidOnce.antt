@@ -1,5 +1,5 @@
 -- The refusal of a part is one of the program, and no other; only want of memory is none.
-use Rattle.std.proofs.Common.{◌≡◌, ◌≢◌, refl, sym, ◌∙◌, ap}
+use Rattle.std.proofs.Common.{◌≡◌, ◌≢◌, ℕ, List, [], ◌∷◌, refl, sym, ◌∙◌, ap}
 use Rattle.c_lex.specs.declared.refusals.LexRefusal.{LexRefusal}
 use Rattle.c_lex.specs.declared.refusals.LexRefusal.TheVariants as lex
 use Rattle.c_tree.specs.Tree.{ProgramTree}
@@ -13,9 +13,14 @@ use Rattle.bind_refusals.specs.declared.refusals.BindRefusal.{BindRefusal}
 use Rattle.bind_refusals.specs.declared.refusals.BindRefusal.TheVariants as bind
 use Rattle.part_text.specs.declared.refusals.PartRefusal.{PartRefusal}
 use Rattle.part_text.specs.declared.refusals.PartRefusal.TheVariants as part
+use Rattle.schedule_text.specs.declared.lines.Line.{Line}
+use Rattle.schedule_text.specs.declared.refusals.ScheduleTextRefusal.{ScheduleTextRefusal}
+use Rattle.schedule_text.specs.declared.refusals.ScheduleTextRefusal.TheVariants as text
+use Rattle.step_judge.specs.declared.refusal.ScheduleRefusal.{ScheduleRefusal}
+use Rattle.step_judge.specs.declared.refusal.ScheduleRefusal.TheVariants as taking
 use Rattle.distribute.specs.Parts.{NumbersRefusal, UnknownMap, OwnersRefusal, NoDat, NoMap, Unspelled}
 use Rattle.answers.specs.Refusal.{Refusal, status_of}
-use Rattle.answers.specs.Said.{SaysLex, SaysSource, SaysTypes, SaysMesh, SaysBinding, SaysNumbers, SaysPartition, SaysOwners}
+use Rattle.answers.specs.Said.{SaysLex, SaysSource, SaysTypes, SaysMesh, SaysBinding, SaysNumbers, SaysPartition, SaysOwners, SaysSchedule, SaysStep, SaysEnd, SaysNext}
 
 -- ---- no other
 
@@ -87,6 +92,28 @@ pub owners_once : (e : OwnersRefusal) (r s : Refusal) → SaysOwners e r → Say
 owners_once (NoDat name) r s h k = h ∙ sym k
 owners_once (NoMap name) r s h k = h ∙ sym k
 owners_once (Unspelled e) r s h k = partition_once e r s h k
+
+pub schedule_once : (e : ScheduleTextRefusal) (r s : Refusal) → SaysSchedule e r → SaysSchedule e s → r ≡ s
+schedule_once (text.Header line) r s h k = h ∙ sym k
+schedule_once (text.Syntax line) r s h k = h ∙ sym k
+schedule_once text.TooManySteps r s h k = h ∙ sym k
+schedule_once text.OutOfMemory r s h k = absurd h
+
+step_once : (l : Line) (e : ScheduleRefusal) (r s : Refusal) → SaysStep l e r → SaysStep l e s → r ≡ s
+step_once l taking.NoSuchStep r s h k = h ∙ sym k
+step_once l taking.Repeated r s h k = h ∙ sym k
+step_once l (taking.TooEarly t) r s h k = h ∙ sym k
+step_once l (taking.Incomplete t) r s h k = absurd h
+
+end_once : (line : ℕ) (e : ScheduleRefusal) (r s : Refusal) → SaysEnd line e r → SaysEnd line e s → r ≡ s
+end_once line taking.NoSuchStep r s h k = absurd h
+end_once line taking.Repeated r s h k = absurd h
+end_once line (taking.TooEarly t) r s h k = absurd h
+end_once line (taking.Incomplete t) r s h k = h ∙ sym k
+
+pub next_once : (ls : List Line) (end : ℕ) (e : ScheduleRefusal) (r s : Refusal) → SaysNext ls end e r → SaysNext ls end e s → r ≡ s
+next_once [] end e r s h k = end_once end e r s h k
+next_once (l ∷ ls) end e r s h k = step_once l e r s h k
 
 -- ---- one
 

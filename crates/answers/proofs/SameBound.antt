@@ -13,7 +13,7 @@ use Rattle.main_declarations.specs.File.{judged_tops}
 use Rattle.main_text.specs.Text.{judged_hosts, outermost}
 use Rattle.loop_bind.specs.Weights.{trace}
 use Rattle.loop_bind.specs.Bound.{text, happens, unrolled_text, bound}
-use Rattle.answers.proofs.SameKernels.{with_kernels}
+use Rattle.bound_plan.specs.OneRun.{with_kernels}
 
 -- the same program but for its kernels, which have the same trees
 abbrev pub IsSame : BoundValue → BoundValue → Type 0

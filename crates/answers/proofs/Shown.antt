@@ -1,15 +1,16 @@
 -- What a call leaves on `out`.
-use Rattle.std.proofs.Common.{◌≡◌, ◌⊎◌, inl, inr, ℕ, List, [], ◌∷◌, Option, Some, None, Result, refl, sym, ap, ◌∙◌, subst, append-nil}
+use Rattle.std.proofs.Common.{◌≡◌, ◌⊎◌, inl, inr, ℕ, Bool, List, [], ◌∷◌, Option, Some, None, Result, refl, sym, ap, ◌∙◌, subst, append-nil}
 use Rattle.kernel_types.specs.declared.faults.KernelFault.{KernelFault}
 use Rattle.schedule_model.specs.Sequential.{Stop}
+use Rattle.schedule_steps.specs.declared.step.Step.{Step}
 use Rattle.bound_program.specs.Values.{BoundValue}
 use Rattle.run_model.specs.Programs.{printed, first_fault}
 use Rattle.mesh_text.specs.Canonical.{canonical}
 use Rattle.op_outside.specs.Outside.{Files, appended, AppendsFront}
-use Rattle.answers.specs.Refusal.{Refusal, Usage, CannotRead, NoTokens, NoTree, TooDeep, BadName, BadBinding, BadTarget, BadAccess, BadMesh, BadPart, BadPartition, BeyondLimit, status_of}
+use Rattle.answers.specs.Refusal.{Refusal, Usage, CannotRead, NoTokens, NoTree, TooDeep, BadName, BadBinding, BadTarget, BadAccess, BadMesh, BadPart, BadPartition, BadSchedule, BadStep, EarlyStep, LeftStep, BeyondLimit, status_of}
 use Rattle.answers.specs.Lines.{Answer, done, refused, faulted}
-use Rattle.answers.specs.Words.{Job, Run, PlanJob, Check, ShowsPlan, RunsPlan, Options, Input, InFiles, Command, OnProgram, OnPlan, Converts, ShowsUsage, ShowsVersion, WordsAre, named_by}
-use Rattle.answers.specs.Judgements.{SourceIs, TreeIs, TypesAre, FileIs, MeshIs, EntriesAre, BoundIs, AccessesAre, NumbersOf, PartsOf, OwnersOf, Planned, PlanIs}
+use Rattle.answers.specs.Words.{Job, Run, PlanJob, Check, ShowsPlan, ShowsSchedule, RunsPlan, Options, group_of, Input, Command, OnProgram, OnPlan, Converts, ShowsUsage, ShowsVersion, WordsAre, named_by}
+use Rattle.answers.specs.Judgements.{SourceIs, TreeIs, TypesAre, FileIs, MeshIs, EntriesAre, BoundIs, AccessesAre, NumbersOf, PartsOf, OwnersOf, Planned, PlanIs, OrderOf, outline_of, StepsOf}
 use Rattle.answers.specs.Answers.{given, ran, JobAnswers, planned_answer, PlannedAnswers, BoundAnswers, CommandAnswers, Answers}
 use Rattle.answers.specs.Endings.{Ending, Answered, OutOfMemory, Unread, Unwritten, ending_status, unwritten_status, Call, IsSomeAnswer, TellsUntold, Tells, no_files, IsWritten, EndsBy, Ends, Shows, IsShown, IsSilent}
 use Rattle.answers.specs.Laws.{Agree, AnswersAgree}
@@ -33,17 +34,20 @@ ran_form (Some x) bytes a e = IsFaulted bytes x e
 job_form : (j : Job) (b : BoundValue) (a : Answer) → JobAnswers j b a → Form a
 job_form Run b a h = ran_form (first_fault b) (printed b) a h
 
-plan_job_form : (j : PlanJob) (b : BoundValue) (p : Planned) (a : Answer) → a ≡ planned_answer j b p → Form a
-plan_job_form Check b p a e = IsDone _ e
-plan_job_form ShowsPlan b p a e = IsDone _ e
-plan_job_form RunsPlan b p a e = ran_form (first_fault b) (printed b) a e
+plan_job_form : (j : PlanJob) (dumps : Bool) (b : BoundValue) (p : Planned) (steps : List Step) (a : Answer) → a ≡ planned_answer j dumps b p steps → Form a
+plan_job_form Check dumps b p steps a e = IsDone _ e
+plan_job_form ShowsPlan dumps b p steps a e = IsDone _ e
+plan_job_form ShowsSchedule dumps b p steps a e = IsDone _ e
+plan_job_form RunsPlan dumps b p steps a e = ran_form (first_fault b) _ a e
 
 planned_form : (j : PlanJob) (o : Options) (files : Files) (b : BoundValue) (a : Answer) → PlannedAnswers j o files b a → Form a
 planned_form j o files b a h =
     given_form (NumbersOf o b) _ (λ n.
     given_form (PartsOf o.parting files) _ (λ parts.
     given_form (OwnersOf o b parts) _ (λ u.
-    given_form (PlanIs o b u n) (λ p x. x ≡ planned_answer j b p) (plan_job_form j b)))) a h.1
+    given_form (PlanIs o b u n) _ (λ p.
+    given_form (OrderOf o.schedule files) _ (λ order.
+    given_form (StepsOf (outline_of b p) (group_of o) order) (λ steps x. x ≡ planned_answer j o.dumps b p steps) (plan_job_form j o.dumps b p)))))) a h.1
 
 bound_form : (rest : BoundValue → Answer → Type 0) → ((b : BoundValue) (a : Answer) → rest b a → Form a) → (input : Input) (files : Files) (a : Answer) → BoundAnswers rest input files a → Form a
 bound_form rest form input files =
@@ -57,7 +61,7 @@ bound_form rest form input files =
 
 command_form : (c : Command) (files : Files) (a : Answer) → CommandAnswers c files a → Form a
 command_form (OnProgram j input) files a h = bound_form (JobAnswers j) (job_form j) input files a h
-command_form (OnPlan j o source mesh) files a h = bound_form (PlannedAnswers j o files) (planned_form j o files) (InFiles source mesh) files a h
+command_form (OnPlan j o input) files a h = bound_form (PlannedAnswers j o files) (planned_form j o files) input files a h
 command_form (Converts form mesh) files a h =
     given_form (FileIs mesh files) _ (λ text. given_form (EntriesAre text) (λ es a. a ≡ done (canonical form es)) (λ es a h. IsDone (canonical form es) h)) a h
 command_form ShowsUsage files a h = IsDone _ h
@@ -94,6 +98,10 @@ not_four (BadAccess n at) e = cc
 not_four (BadMesh n line) e = cc
 not_four (BadPart n) e = cc
 not_four (BadPartition n line) e = cc
+not_four (BadSchedule n line) e = cc
+not_four (BadStep n line s) e = cc
+not_four (EarlyStep line s t) e = cc
+not_four (LeftStep line t) e = cc
 not_four (BeyondLimit l n) e = cc
 
 -- a number is one of these two and not the other

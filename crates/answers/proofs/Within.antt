@@ -10,9 +10,9 @@ use Rattle.clap.specs.Simple.{matches_of}
 use Rattle.clap.specs.declared.error.kind.ErrorKind.TheVariants as kind
 use Rattle.op_num.specs.Spelling.{number_of}
 use Rattle.mesh_gen.specs.declared.places.TheConstants.{MAX_SIDE}
-use Rattle.answers.specs.declared.limits.TheConstants.{MAX_RANKS, MAX_BLOCK}
+use Rattle.answers.specs.declared.limits.TheConstants.{MAX_RANKS, MAX_BLOCK, MAX_WORKERS}
 use Rattle.answers.specs.Refusal.{Refusal}
-use Rattle.answers.specs.Words.{PlanJob, Check, ShowsPlan, RunsPlan, Parting, Options, Command, OnPlan, command, number_to, number_or, form_of, OptionWords, options_in, parting_of, options_with, options_of, plans_nothing, is_plain, runs, samples, converts, plans, by_job, or_usage, asked, judged, WordsAre}
+use Rattle.answers.specs.Words.{PlanJob, Check, ShowsPlan, ShowsSchedule, RunsPlan, Parting, Schedule, Options, Input, InFiles, OfSample, Command, OnPlan, command, number_to, number_or, form_of, OptionWords, options_in, parting_of, schedule_of, options_with, options_of, plans_nothing, is_plain, runs, on_files, samples, converts, plans, by_job, or_usage, asked, judged, WordsAre}
 use Rattle.answers.specs.Laws.{AreWithin}
 
 -- P is so of what there is
@@ -62,46 +62,53 @@ or_holds usual most (Some word) h = number_holds most word
 
 -- ---- options
 
-with_holds : (ranks : ℕ) (parting : Parting) (w : OptionWords) → IsTo MAX_RANKS ranks → Holds AreWithin (options_with ranks parting w)
-with_holds ranks parting w h =
-    holds_map (IsTo MAX_BLOCK) AreWithin _ (number_or 256 MAX_BLOCK w.block) (or_holds 256 MAX_BLOCK w.block (omega arith, omega arith))
-    (λ n k. record { some = h.0; few = h.1; some_places = k.0; few_places = k.1 })
+with_holds : (ranks : ℕ) (parting : Parting) (schedule : Schedule) (w : OptionWords) → IsTo MAX_RANKS ranks → Holds AreWithin (options_with ranks parting schedule w)
+with_holds ranks parting schedule w h =
+    holds_then (IsTo MAX_BLOCK) AreWithin _ (number_or 256 MAX_BLOCK w.block) (or_holds 256 MAX_BLOCK w.block (omega arith, omega arith))
+    (λ block k. holds_map (IsTo MAX_WORKERS) AreWithin _ (number_or 1 MAX_WORKERS w.workers) (or_holds 1 MAX_WORKERS w.workers (omega arith, omega arith))
+    (λ workers l. record { some = h.0; few = h.1; some_places = k.0; few_places = k.1; some_workers = l.0; few_workers = l.1 }))
 
 options_hold : (w : OptionWords) → Holds AreWithin (options_of w)
 options_hold w =
     holds_then (IsTo MAX_RANKS) AreWithin _ (number_or 1 MAX_RANKS w.ranks) (or_holds 1 MAX_RANKS w.ranks (omega arith, omega arith))
-    (λ ranks h. holds_then Any AreWithin _ (parting_of w.parts w.partition) (any (parting_of w.parts w.partition)) (λ parting _. with_holds ranks parting w h))
+    (λ ranks h. holds_then Any AreWithin _ (parting_of w.parts w.partition) (any (parting_of w.parts w.partition))
+    (λ parting _. holds_then Any AreWithin _ (schedule_of w.schedule w.seed) (any (schedule_of w.schedule w.seed))
+    (λ schedule _. with_holds ranks parting schedule w h)))
 
 -- ---- commands
 
 -- the options of a command are in range
 abbrev IsWithin : Command → Type 0
-IsWithin (OnPlan j o source mesh) = AreWithin o
+IsWithin (OnPlan j o input) = AreWithin o
 IsWithin c = Unit {0}
-
-samples_hold : (input : List ℕ) (mesh : Option (List ℕ)) (w : OptionWords) → Holds IsWithin (samples input mesh w)
-samples_hold input None w = holds_if IsWithin (is_plain w) _ _ (holds_map Any IsWithin _ (number_to MAX_SIDE input) (any (number_to MAX_SIDE input)) (λ n h. tt)) tt
-samples_hold input (Some mesh) w = tt
 
 converts_hold : (input : List ℕ) (mesh : Option (List ℕ)) (w : OptionWords) → Holds IsWithin (converts input mesh w)
 converts_hold input None w = holds_if IsWithin (plans_nothing w) _ _ (holds_map Any IsWithin _ (form_of w.form) (any (form_of w.form)) (λ f h. tt)) tt
 converts_hold input (Some mesh) w = tt
 
-plans_hold : (j : PlanJob) (input : List ℕ) (mesh : Option (List ℕ)) (w : OptionWords) → Holds IsWithin (plans j input mesh w)
-plans_hold j input None w = tt
-plans_hold j input (Some mesh) w = holds_if IsWithin (is_some w.form) _ _ tt (holds_map AreWithin IsWithin _ (options_of w) (options_hold w) (λ o h. h))
+plans_hold : (j : PlanJob) (input : Input) (w : OptionWords) → Holds IsWithin (plans j input w)
+plans_hold j input w = holds_if IsWithin (is_some w.form) _ _ tt (holds_map AreWithin IsWithin _ (options_of w) (options_hold w) (λ o h. h))
 
-runs_hold : (input : List ℕ) (mesh : Option (List ℕ)) (w : OptionWords) → Holds IsWithin (runs input mesh w)
-runs_hold input None w = tt
-runs_hold input (Some mesh) w = holds_if IsWithin (is_plain w) _ _ tt (plans_hold RunsPlan input (Some mesh) w)
+runs_hold : (input : Input) (w : OptionWords) → Holds IsWithin (runs input w)
+runs_hold input w = holds_if IsWithin (is_plain w) _ _ tt (plans_hold RunsPlan input w)
+
+files_hold : (job : Input → OptionWords → Option Command) → ((input : Input) (w : OptionWords) → Holds IsWithin (job input w))
+    → (input : List ℕ) (mesh : Option (List ℕ)) (w : OptionWords) → Holds IsWithin (on_files job input mesh w)
+files_hold job h input None w = tt
+files_hold job h input (Some mesh) w = h (InFiles input mesh) w
+
+samples_hold : (input : List ℕ) (mesh : Option (List ℕ)) (w : OptionWords) → Holds IsWithin (samples input mesh w)
+samples_hold input None w = holds_then Any IsWithin _ (number_to MAX_SIDE input) (any (number_to MAX_SIDE input)) (λ side _. runs_hold (OfSample side) w)
+samples_hold input (Some mesh) w = tt
 
 jobs_hold : (job input : List ℕ) (mesh : Option (List ℕ)) (w : OptionWords) → Holds IsWithin (by_job job input mesh w)
 jobs_hold job input mesh w =
-    holds_if IsWithin (bytes_eq job (codes "run")) _ _ (runs_hold input mesh w)
+    holds_if IsWithin (bytes_eq job (codes "run")) _ _ (files_hold runs runs_hold input mesh w)
     (holds_if IsWithin (bytes_eq job (codes "sample")) _ _ (samples_hold input mesh w)
     (holds_if IsWithin (bytes_eq job (codes "convert")) _ _ (converts_hold input mesh w)
-    (holds_if IsWithin (bytes_eq job (codes "check")) _ _ (plans_hold Check input mesh w)
-    (holds_if IsWithin (bytes_eq job (codes "plan")) _ _ (plans_hold ShowsPlan input mesh w) tt))))
+    (holds_if IsWithin (bytes_eq job (codes "check")) _ _ (files_hold (plans Check) (plans_hold Check) input mesh w)
+    (holds_if IsWithin (bytes_eq job (codes "plan")) _ _ (files_hold (plans ShowsPlan) (plans_hold ShowsPlan) input mesh w)
+    (holds_if IsWithin (bytes_eq job (codes "schedule")) _ _ (files_hold (plans ShowsSchedule) (plans_hold ShowsSchedule) input mesh w) tt)))))
 
 -- ---- words
 
@@ -125,5 +132,5 @@ judged_asks (kind.DisplayHelp ∷ ks) rows = tt
 judged_asks (kind.DisplayVersion ∷ ks) rows = tt
 judged_asks (k ∷ ks) rows = tt
 
-pub within : (words : List (List ℕ)) (j : PlanJob) (o : Options) (source mesh : List ℕ) → WordsAre words (Ok (OnPlan j o source mesh)) → AreWithin o
-within words j o source mesh h = subst Asks h (judged_asks (fault_of command words) (matches_of command words))
+pub within : (words : List (List ℕ)) (j : PlanJob) (o : Options) (input : Input) → WordsAre words (Ok (OnPlan j o input)) → AreWithin o
+within words j o input h = subst Asks h (judged_asks (fault_of command words) (matches_of command words))

@@ -1,5 +1,5 @@
 -- Status 2 comes exactly where the words are refused, unless memory ran out.
-use Rattle.std.proofs.Common.{◌≡◌, ◌⊎◌, inl, inr, ℕ, List, [], ◌∷◌, Option, Some, None, Result, Ok, Err, sym, ap, ◌∙◌, subst, arith}
+use Rattle.std.proofs.Common.{◌≡◌, ◌⊎◌, inl, inr, ℕ, Bool, List, [], ◌∷◌, Option, Some, None, Result, Ok, Err, sym, ap, ◌∙◌, subst, arith}
 use Rattle.std.specs.List.{Contains}
 use Rattle.c_tree.specs.Tree.{ProgramTree}
 use Rattle.c_lex.specs.declared.refusals.LexRefusal.{LexRefusal}
@@ -18,14 +18,21 @@ use Rattle.bound_program.specs.Values.{BoundValue}
 use Rattle.run_model.specs.Programs.{printed, first_fault}
 use Rattle.mesh_text.specs.Canonical.{canonical}
 use Rattle.op_outside.specs.Outside.{Files}
-use Rattle.answers.specs.Refusal.{Limit, SourceBytes, MeshBytes, Refusal, Usage, CannotRead, NoTokens, NoTree, TooDeep, BadName, BadBinding, BadTarget, BadAccess, BadMesh, BadPart, BadPartition, BeyondLimit, PartitionBytes, status_of}
+use Rattle.answers.specs.Refusal.{Limit, SourceBytes, MeshBytes, Refusal, Usage, CannotRead, NoTokens, NoTree, TooDeep, BadName, BadBinding, BadTarget, BadAccess, BadMesh, BadPart, BadPartition, BadSchedule, BadStep, EarlyStep, LeftStep, BeyondLimit, PartitionBytes, ScheduleBytes, status_of}
 use Rattle.answers.specs.Lines.{Answer, done, refused, faulted}
 use Rattle.part_text.specs.declared.refusals.PartRefusal.{PartRefusal}
 use Rattle.part_text.specs.declared.refusals.PartRefusal.TheVariants as part
+use Rattle.schedule_text.specs.declared.lines.Line.{Line}
+use Rattle.schedule_text.specs.declared.refusals.ScheduleTextRefusal.{ScheduleTextRefusal}
+use Rattle.schedule_text.specs.declared.refusals.ScheduleTextRefusal.TheVariants as text
+use Rattle.step_judge.specs.declared.refusal.ScheduleRefusal.{ScheduleRefusal}
+use Rattle.step_judge.specs.declared.refusal.ScheduleRefusal.TheVariants as taking
+use Rattle.schedule_steps.specs.declared.step.Step.{Step}
+use Rattle.schedule_steps.specs.Outline.{Outline}
 use Rattle.distribute.specs.Parts.{NumbersRefusal, UnknownMap, OwnersRefusal, NoDat, NoMap, Unspelled}
-use Rattle.answers.specs.Said.{SaysLex, SaysSource, SaysTypes, SaysMesh, SaysBinding, SaysNumbers, SaysPartition, SaysOwners}
-use Rattle.answers.specs.Words.{Job, Run, PlanJob, Check, ShowsPlan, RunsPlan, Parting, ByRule, ByFile, Options, Input, InFiles, OfSample, Command, OnProgram, OnPlan, Converts, ShowsUsage, ShowsVersion, WordsAre, named_by, names_in}
-use Rattle.answers.specs.Judgements.{IsHeld, SourceIs, TreeIs, TypesAre, FileIs, MeshIs, EntriesAre, BoundIs, AccessesAre, NumbersOf, PartsOf, OwnersOf, Planned, PlanIs}
+use Rattle.answers.specs.Said.{SaysLex, SaysSource, SaysTypes, SaysMesh, SaysBinding, SaysNumbers, SaysPartition, SaysOwners, SaysSchedule, SaysStep, SaysEnd, SaysNext}
+use Rattle.answers.specs.Words.{Job, Run, PlanJob, Check, ShowsPlan, ShowsSchedule, RunsPlan, Parting, ByRule, ByFile, Schedule, Standard, Drawn, Written, Options, group_of, Input, InFiles, OfSample, Command, OnProgram, OnPlan, Converts, ShowsUsage, ShowsVersion, WordsAre, named_by, names_in}
+use Rattle.answers.specs.Judgements.{IsHeld, SourceIs, TreeIs, TypesAre, FileIs, MeshIs, EntriesAre, BoundIs, AccessesAre, NumbersOf, PartsOf, OwnersOf, Planned, PlanIs, Order, InStandardOrder, BySeed, ByText, OrderOf, outline_of, StepsOf}
 use Rattle.answers.specs.Answers.{given, ran, JobAnswers, planned_answer, PlannedAnswers, BoundAnswers, CommandAnswers, Answers}
 use Rattle.answers.specs.Endings.{Ending, Answered, OutOfMemory, Unread, Unwritten, ending_status, unwritten_status, Call, IsOfContents, IsSomeAnswer, TellsUntold, Tells, no_files, IsWritten, EndsBy, Ends, IsUsage}
 use Rattle.answers.proofs.Complete.{tells_answer, unwritten_is}
@@ -50,6 +57,10 @@ other_status (BadAccess n at) o e = cc
 other_status (BadMesh n line) o e = cc
 other_status (BadPart n) o e = cc
 other_status (BadPartition n line) o e = cc
+other_status (BadSchedule n line) o e = cc
+other_status (BadStep n line s) o e = cc
+other_status (EarlyStep line s t) o e = cc
+other_status (LeftStep line t) o e = cc
 other_status (BeyondLimit l n) o e = cc
 
 of_contents : (r : Refusal) → IsOfContents r → IsOther r
@@ -65,6 +76,10 @@ of_contents (BadAccess n at) h = tt
 of_contents (BadMesh n line) h = tt
 of_contents (BadPart n) h = tt
 of_contents (BadPartition n line) h = tt
+of_contents (BadSchedule n line) h = tt
+of_contents (BadStep n line s) h = tt
+of_contents (EarlyStep line s t) h = tt
+of_contents (LeftStep line t) h = tt
 of_contents (BeyondLimit l n) h = tt
 
 is_other : (r s : Refusal) → r ≡ s → IsOther s → IsOther r
@@ -147,6 +162,39 @@ parts_other : (p : Parting) (files : Files) (r : Refusal) → PartsOf p files (E
 parts_other (ByRule rule) files r h = absurd (let bad : ⊥ = cc in bad)
 parts_other (ByFile name) files r h = held_other PartitionBytes name (files name) r h
 
+order_other : (s : Schedule) (files : Files) (r : Refusal) → OrderOf s files (Err r) → IsOther r
+order_other Standard files r h = absurd (let bad : ⊥ = cc in bad)
+order_other (Drawn seed) files r h = absurd (let bad : ⊥ = cc in bad)
+order_other (Written name) files r h = held_other ScheduleBytes name (files name) r h
+
+schedule_other : (e : ScheduleTextRefusal) (r : Refusal) → SaysSchedule e r → IsOther r
+schedule_other (text.Header line) r h = is_other r _ h tt
+schedule_other (text.Syntax line) r h = is_other r _ h tt
+schedule_other text.TooManySteps r h = is_other r _ h tt
+schedule_other text.OutOfMemory r h = absurd h
+
+step_other : (l : Line) (e : ScheduleRefusal) (r : Refusal) → SaysStep l e r → IsOther r
+step_other l taking.NoSuchStep r h = is_other r _ h tt
+step_other l taking.Repeated r h = is_other r _ h tt
+step_other l (taking.TooEarly t) r h = is_other r _ h tt
+step_other l (taking.Incomplete t) r h = absurd h
+
+end_other : (line : ℕ) (e : ScheduleRefusal) (r : Refusal) → SaysEnd line e r → IsOther r
+end_other line taking.NoSuchStep r h = absurd h
+end_other line taking.Repeated r h = absurd h
+end_other line (taking.TooEarly t) r h = absurd h
+end_other line (taking.Incomplete t) r h = is_other r _ h tt
+
+next_other : (ls : List Line) (end : ℕ) (e : ScheduleRefusal) (r : Refusal) → SaysNext ls end e r → IsOther r
+next_other [] end e r h = end_other end e r h
+next_other (l ∷ ls) end e r h = step_other l e r h
+
+steps_other : (o : Outline) (g : ℕ) (order : Order) (r : Refusal) → StepsOf o g order (Err r) → IsOther r
+steps_other o g InStandardOrder r h = absurd (let bad : ⊥ = cc in bad)
+steps_other o g (BySeed seed) r h = absurd h
+steps_other o g (ByText bytes) r (inl h) = schedule_other h.0 r h.2
+steps_other o g (ByText bytes) r (inr h) = next_other h.2.rest _ h.2.refusal r h.2.says
+
 -- ---- answers
 
 zero_two : ◌≡◌ {A = ℕ} 0 2 → ⊥
@@ -196,17 +244,21 @@ mesh_other_words : (input : Input) (files : Files) (r : Refusal) → MeshIs inpu
 mesh_other_words (InFiles source mesh) files r h = held_other MeshBytes mesh (files mesh) r h
 mesh_other_words (OfSample side) files r h = absurd (let bad : ⊥ = cc in bad)
 
-plan_job_not : (j : PlanJob) (b : BoundValue) (p : Planned) (a : Answer) → a ≡ planned_answer j b p → NotTwo a
-plan_job_not Check b p a e = done_not _ a e
-plan_job_not ShowsPlan b p a e = done_not _ a e
-plan_job_not RunsPlan b p a e = ran_not (first_fault b) (printed b) a e
+plan_job_not : (j : PlanJob) (dumps : Bool) (b : BoundValue) (p : Planned) (steps : List Step) (a : Answer) → a ≡ planned_answer j dumps b p steps → NotTwo a
+plan_job_not Check dumps b p steps a e = done_not _ a e
+plan_job_not ShowsPlan dumps b p steps a e = done_not _ a e
+plan_job_not ShowsSchedule dumps b p steps a e = done_not _ a e
+plan_job_not RunsPlan dumps b p steps a e = ran_not (first_fault b) _ a e
 
 planned_not : (j : PlanJob) (o : Options) (files : Files) (b : BoundValue) (a : Answer) → PlannedAnswers j o files b a → NotTwo a
 planned_not j o files b a h =
     given_not (NumbersOf o b) _ (λ r h. numbers_other h.0 r h.2) (λ n.
     given_not (PartsOf o.parting files) _ (λ r h. parts_other o.parting files r h) (λ parts.
     given_not (OwnersOf o b parts) _ (λ r h. owners_other h.0 r h.2) (λ u.
-    given_not (PlanIs o b u n) (λ p x. x ≡ planned_answer j b p) (λ r h. is_other r _ h.says tt) (plan_job_not j b)))) a h.1
+    given_not (PlanIs o b u n) _ (λ r h. is_other r _ h.says tt) (λ p.
+    given_not (OrderOf o.schedule files) _ (λ r h. order_other o.schedule files r h) (λ order.
+    given_not (StepsOf (outline_of b p) (group_of o) order) (λ steps x. x ≡ planned_answer j o.dumps b p steps)
+    (λ r h. steps_other (outline_of b p) (group_of o) order r h) (plan_job_not j o.dumps b p)))))) a h.1
 
 bound_not : (rest : BoundValue → Answer → Type 0) → ((b : BoundValue) (a : Answer) → rest b a → NotTwo a) → (input : Input) (files : Files) (a : Answer) → BoundAnswers rest input files a → NotTwo a
 bound_not rest not input files =
@@ -220,7 +272,7 @@ bound_not rest not input files =
 
 command_not : (c : Command) (files : Files) (a : Answer) → CommandAnswers c files a → NotTwo a
 command_not (OnProgram j input) files a h = bound_not (JobAnswers j) (job_not j) input files a h
-command_not (OnPlan j o source mesh) files a h = bound_not (PlannedAnswers j o files) (planned_not j o files) (InFiles source mesh) files a h
+command_not (OnPlan j o input) files a h = bound_not (PlannedAnswers j o files) (planned_not j o files) input files a h
 command_not (Converts form mesh) files a h =
     given_not (FileIs mesh files) _ (λ r h. held_other MeshBytes mesh (files mesh) r h) (λ text.
     given_not (EntriesAre text) (λ es a. a ≡ done (canonical form es)) (λ r h. mesh_other h.0 r h.2) (λ es a h. done_not (canonical form es) a h)) a h
@@ -244,6 +296,10 @@ words_refused words files a (inl h) two = by_refusal h.0 h.1 h.2
     by_refusal (BadMesh n line) j e = absurd (refused_not (BadMesh n line) a e tt two)
     by_refusal (BadPart n) j e = absurd (refused_not (BadPart n) a e tt two)
     by_refusal (BadPartition n line) j e = absurd (refused_not (BadPartition n line) a e tt two)
+    by_refusal (BadSchedule n line) j e = absurd (refused_not (BadSchedule n line) a e tt two)
+    by_refusal (BadStep n line s) j e = absurd (refused_not (BadStep n line s) a e tt two)
+    by_refusal (EarlyStep line s t) j e = absurd (refused_not (EarlyStep line s t) a e tt two)
+    by_refusal (LeftStep line t) j e = absurd (refused_not (LeftStep line t) a e tt two)
     by_refusal (BeyondLimit l n) j e = absurd (refused_not (BeyondLimit l n) a e tt two)
 words_refused words files a (inr h) two = absurd (command_not h.0 files a h.2 two)
 

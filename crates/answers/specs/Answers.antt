@@ -1,5 +1,5 @@
 -- What the program answers to its words, over files that are told.
-use Rattle.std.specs.Prelude.{◌≡◌, ℕ, List, ◌++◌, length, Option, Some, None, Result, Ok, Err, ◌⊎◌, codes, if◌then◌else◌}
+use Rattle.std.specs.Prelude.{◌≡◌, ℕ, Bool, List, ◌++◌, length, Option, Some, None, Result, Ok, Err, ◌⊎◌, codes, if◌then◌else◌}
 use Rattle.std.specs.Fmt.{decimal}
 use Rattle.std.specs.Str.{bytes_eq}
 use Rattle.kernel_types.specs.declared.faults.KernelFault.{KernelFault}
@@ -8,16 +8,19 @@ use Rattle.bound_program.specs.Values.{BoundValue}
 use Rattle.bound_program.specs.Fits.{Fits}
 use Rattle.run_model.specs.Programs.{printed, first_fault}
 use Rattle.loop_plan.specs.PlanText.{plan_text}
+use Rattle.schedule_steps.specs.declared.step.Step.{Step}
+use Rattle.schedule_text.specs.Written.{schedule_text}
+use Rattle.bound_plan.specs.Memories.{dump_of, run_output}
 use Rattle.op_outside.specs.Outside.{Files}
 use Rattle.mesh_text.specs.declared.entry.Form.{Form}
 use Rattle.mesh_text.specs.Canonical.{canonical}
 use Rattle.answers.specs.declared.usage.TheConstants.{USAGE, VERSION}
 use Rattle.answers.specs.Refusal.{Refusal, CannotRead}
 use Rattle.answers.specs.Lines.{Answer, done, refused, faulted}
-use Rattle.answers.specs.Words.{Job, Run, PlanJob, Check, ShowsPlan, RunsPlan, Options, Input, InFiles, Command, OnProgram, OnPlan}
-use Rattle.answers.specs.Words.{Converts, ShowsUsage, ShowsVersion, WordsAre}
+use Rattle.answers.specs.Words.{Job, Run, PlanJob, Check, ShowsPlan, ShowsSchedule, RunsPlan, Options, group_of, Input}
+use Rattle.answers.specs.Words.{Command, OnProgram, OnPlan, Converts, ShowsUsage, ShowsVersion, WordsAre}
 use Rattle.answers.specs.Judgements.{SourceIs, TreeIs, TypesAre, FileIs, MeshIs, EntriesAre, BoundIs, AccessesAre}
-use Rattle.answers.specs.Judgements.{NumbersOf, PartsOf, OwnersOf, Planned, PlanIs}
+use Rattle.answers.specs.Judgements.{NumbersOf, PartsOf, OwnersOf, Planned, PlanIs, OrderOf, outline_of, StepsOf}
 
 -- A judgement, and what comes after it: its refusal ends it, and what it gives goes on.
 abbrev pub given : {A : Type 0} → (Result A Refusal → Type 0) → (A → Answer → Type 0) → Answer → Type 0
@@ -53,14 +56,17 @@ sizes_text b steps =
     codes "ok items " ++ decimal (length b.trace) ++ codes " sites " ++ decimal (length b.sites)
     ++ codes " steps " ++ decimal steps ++ codes "\n"
 
--- What a job on a plan answers: the sizes of the plan, its text, or what the program's run without ranks printed, up to its first
--- fault if it has one.
-abbrev pub planned_answer : PlanJob → BoundValue → Planned → Answer
-planned_answer Check b p = done (sizes_text b p.plan.steps)
-planned_answer ShowsPlan b p = done (plan_text b p.distribution.ranks.items p.plan)
-planned_answer RunsPlan b p = ran (first_fault b) (printed b)
+-- What a job on a plan answers, where its steps are taken in this order: the sizes of the plan, its text, the text of the schedule, or
+-- what the program's run without ranks printed, up to its first fault if it has one; behind a run without a fault the dump, if it is
+-- asked for.
+abbrev pub planned_answer : PlanJob → (dumps : Bool) → BoundValue → Planned → List Step → Answer
+planned_answer Check dumps b p steps = done (sizes_text b p.plan.steps)
+planned_answer ShowsPlan dumps b p steps = done (plan_text b p.distribution.ranks.items p.plan)
+planned_answer ShowsSchedule dumps b p steps = done (schedule_text steps)
+planned_answer RunsPlan dumps b p steps =
+    ran (first_fault b) (run_output b (dump_of dumps b p.distribution.owners p.distribution.ranks.items p.plan steps))
 
--- The answer of a job on the plan of a bound program: four judgements in this order, and then what the job answers. The program fits,
+-- The answer of a job on the plan of a bound program: six judgements in this order, and then what the job answers. The program fits,
 -- as all that is bound does; this stands here since distributions and plans are one where it is so.
 abbrev pub PlannedAnswers : PlanJob → Options → Files → BoundValue → Answer → Type 0
 PlannedAnswers j o files b a =
@@ -68,11 +74,13 @@ PlannedAnswers j o files b a =
     × given (NumbersOf o b) (λ n.
     given (PartsOf o.parting files) (λ parts.
     given (OwnersOf o b parts) (λ u.
-    given (PlanIs o b u n) (λ p x. x ≡ planned_answer j b p)))) a
+    given (PlanIs o b u n) (λ p.
+    given (OrderOf o.schedule files) (λ order.
+    given (StepsOf (outline_of b p) (group_of o) order) (λ steps x. x ≡ planned_answer j o.dumps b p steps)))))) a
 
--- The answer of a job on the plan of the program in a file over the mesh in a file.
-abbrev pub PlanAnswers : PlanJob → Options → (source mesh : List ℕ) → Files → Answer → Type 0
-PlanAnswers j o source mesh files = BoundAnswers (PlannedAnswers j o files) (InFiles source mesh) files
+-- The answer of a job on the plan of a program over a mesh.
+abbrev pub PlanAnswers : PlanJob → Options → Input → Files → Answer → Type 0
+PlanAnswers j o input files = BoundAnswers (PlannedAnswers j o files) input files
 
 -- The answer to a mesh in a file that is written again: two judgements, and then the canonical text of its entries in this version.
 abbrev pub ConvertAnswers : Form → (mesh : List ℕ) → Files → Answer → Type 0
@@ -83,7 +91,7 @@ ConvertAnswers form mesh files =
 -- the answer of a command
 abbrev pub CommandAnswers : Command → Files → Answer → Type 0
 CommandAnswers (OnProgram j input) files = ProgramAnswers j input files
-CommandAnswers (OnPlan j o source mesh) files = PlanAnswers j o source mesh files
+CommandAnswers (OnPlan j o input) files = PlanAnswers j o input files
 CommandAnswers (Converts form mesh) files = ConvertAnswers form mesh files
 CommandAnswers ShowsUsage files = λ a. a ≡ done USAGE.now
 CommandAnswers ShowsVersion files = λ a. a ≡ done VERSION.now

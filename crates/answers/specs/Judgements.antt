@@ -1,5 +1,5 @@
 -- The judgements, each a relation between what it looks at and what it gives: a value, or its refusal.
-use Rattle.std.specs.Prelude.{◌≡◌, ℕ, suc, ◌<◌, ◌≤◌, List, ◌∷◌, ◌++◌, length, All, Option, Some, None, Result, Ok, Err}
+use Rattle.std.specs.Prelude.{◌≡◌, ℕ, suc, ◌<◌, ◌≤◌, ◌⊎◌, Bool, List, [], ◌∷◌, ◌++◌, map, length, All, Option, Some, None, Result, Ok, Err}
 use Rattle.c_lex.specs.declared.tokens.Pos.{Pos}
 use Rattle.c_tree.specs.Tree.{ProgramTree}
 use Rattle.c_tree.specs.Reads.{Reads, Deep}
@@ -32,11 +32,24 @@ use Rattle.distribute.specs.Distributions.{IsDistribution}
 use Rattle.loop_plan.specs.Values.{PlanValue}
 use Rattle.loop_plan.specs.Proper.{Proper, HasLeastColours}
 use Rattle.loop_plan.specs.StepCounts.{program_steps}
-use Rattle.answers.specs.Words.{Input, InFiles, OfSample, Parting, ByRule, ByFile, Options}
-use Rattle.answers.specs.Refusal.{Limit, SourceBytes, MeshBytes, MeshValues, PartitionBytes, Steps, Refusal, CannotRead, BadAccess}
-use Rattle.answers.specs.Refusal.{BeyondLimit}
+use Rattle.loop_plan.specs.StepOutline.{step_outline}
+use Rattle.texts.specs.Cut.{words}
+use Rattle.texts.specs.Automaton.{last_line}
+use Rattle.schedule_steps.specs.Outline.{Outline}
+use Rattle.schedule_steps.specs.declared.step.Step.{Step}
+use Rattle.schedule_steps.specs.Steps.{has, Accepted}
+use Rattle.schedule_steps.specs.Standard.{standard}
+use Rattle.schedule_steps.specs.Drawn.{IsDrawn}
+use Rattle.schedule_text.specs.declared.lines.Line.{Line}
+use Rattle.schedule_text.specs.declared.refusals.ScheduleTextRefusal.{ScheduleTextRefusal}
+use Rattle.schedule_text.specs.Reading.{Reads as SchedulesRead}
+use Rattle.step_judge.specs.declared.refusal.ScheduleRefusal.{ScheduleRefusal}
+use Rattle.step_judge.specs.Verdicts.{judged, ended}
+use Rattle.answers.specs.Words.{Input, InFiles, OfSample, Parting, ByRule, ByFile, Schedule, Standard, Drawn, Written, Options}
+use Rattle.answers.specs.Refusal.{Limit, SourceBytes, MeshBytes, MeshValues, PartitionBytes, Steps, ScheduleBytes, Refusal, CannotRead}
+use Rattle.answers.specs.Refusal.{BadAccess, BeyondLimit}
 use Rattle.answers.specs.Lines.{most}
-use Rattle.answers.specs.Said.{SaysSource, SaysTypes, SaysMesh, SaysBinding, SaysNumbers, SaysOwners}
+use Rattle.answers.specs.Said.{SaysSource, SaysTypes, SaysMesh, SaysBinding, SaysNumbers, SaysOwners, SaysSchedule, SaysNext}
 
 -- ---- files
 
@@ -162,3 +175,61 @@ pub record HasManySteps (b : BoundValue) (u : Owners) (n : Perms) (r : Refusal) 
 abbrev pub PlanIs : Options → BoundValue → Owners → Perms → Result Planned Refusal → Type 0
 PlanIs o b u n (Ok p) = IsPlanned o b u n p
 PlanIs o b u n (Err r) = HasManySteps b u n r
+
+-- ---- schedules
+
+-- what the steps of a schedule come from: the standard order, a seed, or a text
+pub data Order : Type 0 where
+  InStandardOrder : Order
+  BySeed : (seed : ℕ) → Order
+  ByText : (bytes : List ℕ) → Order
+
+-- what they come from, as it is asked for: the text in a file, or what is told outright
+abbrev pub OrderOf : Schedule → Files → Result Order Refusal → Type 0
+OrderOf Standard files r = r ≡ Ok InStandardOrder
+OrderOf (Drawn seed) files r = r ≡ Ok (BySeed seed)
+OrderOf (Written name) files (Ok order) = (bytes : List ℕ) × IsHeld ScheduleBytes name (files name) (Ok bytes) × (order ≡ ByText bytes)
+OrderOf (Written name) files (Err r) = IsHeld ScheduleBytes name (files name) (Err r)
+
+-- the steps of these lines
+abbrev pub steps_in : List Line → List Step
+steps_in ls = map (λ (l : Line). l.step) ls
+
+-- the line of the last token of a text
+abbrev pub end_line : List ℕ → ℕ
+end_line bytes = last_line 1 (words 1 bytes)
+
+-- the text of a schedule spells no steps
+abbrev pub IsTextRefused : List ℕ → Refusal → Type 0
+IsTextRefused bytes r = (e : ScheduleTextRefusal) × SchedulesRead bytes (Err e) × SaysSchedule e r
+
+-- what the first of the steps is judged where m is taken, or, where there is none, the end
+abbrev pub judged_next : Outline → (Step → Bool) → List Step → Result (Unit {0}) ScheduleRefusal
+judged_next o m [] = ended o m
+judged_next o m (s ∷ l) = judged o m s
+
+-- The first step that may not be taken where it stands, or the end: each of the steps before it may be taken where those before that
+-- one are; `end` is the line of the end.
+pub record IsStepRefused (o : Outline) (ls : List Line) (end : ℕ) (r : Refusal) : Type 0 where
+  pub front : List Line
+  pub rest : List Line
+  pub split : ls ≡ front ++ rest
+  pub before : (xs ys : List Step) (s : Step) → steps_in front ≡ xs ++ s ∷ ys → judged o (has xs) s ≡ Ok tt
+  pub refusal : ScheduleRefusal
+  pub refused : judged_next o (has (steps_in front)) (steps_in rest) ≡ Err refusal
+  pub says : SaysNext rest end refusal r
+
+-- The steps of a plan, at most g places of one colour begun together: in standard order, drawn, or as the text has them, where the plan
+-- accepts these.
+abbrev pub StepsOf : Outline → (g : ℕ) → Order → Result (List Step) Refusal → Type 0
+StepsOf o g InStandardOrder r = r ≡ Ok (standard o g)
+StepsOf o g (BySeed seed) (Ok l) = IsDrawn o g seed l
+StepsOf o g (BySeed seed) (Err r) = ⊥
+StepsOf o g (ByText bytes) (Ok l) = (ls : List Line) × SchedulesRead bytes (Ok ls) × (l ≡ steps_in ls) × Accepted o l
+StepsOf o g (ByText bytes) (Err r) =
+    IsTextRefused bytes r
+    ⊎ ((ls : List Line) × SchedulesRead bytes (Ok ls) × IsStepRefused o ls (end_line bytes) r)
+
+-- the steps of a plan of the program
+abbrev pub outline_of : BoundValue → Planned → Outline
+outline_of b p = step_outline b p.distribution.ranks.items p.plan

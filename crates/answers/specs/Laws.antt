@@ -6,25 +6,27 @@ use Rattle.c_tree.specs.Tree.{ProgramTree}
 use Rattle.c_tree.specs.Reads.{Prints}
 use Rattle.op_outside.specs.Outside.{Files}
 use Rattle.answers.specs.Lines.{Answer}
-use Rattle.answers.specs.declared.limits.TheConstants.{MAX_RANKS, MAX_BLOCK}
-use Rattle.answers.specs.Words.{PlanJob, Options, Input, InFiles, Command, OnProgram, OnPlan, WordsAre}
+use Rattle.answers.specs.declared.limits.TheConstants.{MAX_RANKS, MAX_BLOCK, MAX_WORKERS}
+use Rattle.answers.specs.Words.{PlanJob, Options, Input, Command, OnProgram, OnPlan, WordsAre}
 use Rattle.answers.specs.Judgements.{SourceIs}
 use Rattle.answers.specs.Answers.{Answers}
 
 -- ---- words
 
--- there are 1 to 64 ranks, and a block has 1 to 65,536 places
+-- there are 1 to 64 ranks, a block has 1 to 65,536 places, and there are 1 to 64 workers
 pub record AreWithin (o : Options) : Type 0 where
   pub some : 0 < o.ranks
   pub few : o.ranks ≤ MAX_RANKS
   pub some_places : 0 < o.block
   pub few_places : o.block ≤ MAX_BLOCK
+  pub some_workers : 0 < o.workers
+  pub few_workers : o.workers ≤ MAX_WORKERS
 
 -- the options that words ask for are so
 abbrev pub OptionsAreWithin : Type 0
 OptionsAreWithin =
-    (words : List (List ℕ)) (j : PlanJob) (o : Options) (source mesh : List ℕ)
-    → WordsAre words (Ok (OnPlan j o source mesh))
+    (words : List (List ℕ)) (j : PlanJob) (o : Options) (input : Input)
+    → WordsAre words (Ok (OnPlan j o input))
     → AreWithin o
 
 -- ---- two answers
@@ -38,7 +40,7 @@ pub record LacksTree (bytes : List ℕ) : Type 0 where
 -- where the source and the mesh of a command come from, if it has them
 abbrev pub input_of : Command → Option Input
 input_of (OnProgram j input) = Some input
-input_of (OnPlan j o source mesh) = Some (InFiles source mesh)
+input_of (OnPlan j o input) = Some input
 input_of c = None
 
 -- the words ask for a job on a source that has tokens and no tree
@@ -69,7 +71,7 @@ AnswersAgree =
 
 -- a command that is about no plan
 abbrev pub IsOfNoPlan : Command → Type 0
-IsOfNoPlan (OnPlan j o source mesh) = ⊥
+IsOfNoPlan (OnPlan j o input) = ⊥
 IsOfNoPlan c = Unit {0}
 
 -- the words ask for no plan

@@ -1,5 +1,6 @@
 -- The one line that the program writes about a refusal or a fault, and its answers.
 use Rattle.std.specs.Prelude.{ℕ, List, [], ◌++◌, Option, Some, None, codes}
+use Rattle.std.specs.List.{flat_map}
 use Rattle.std.specs.Fmt.{decimal}
 use Rattle.c_lex.specs.declared.tokens.Pos.{Pos}
 use Rattle.op_num.specs.declared.refusals.Fault.{Fault}
@@ -8,12 +9,15 @@ use Rattle.kernel_types.specs.declared.faults.KernelFault.{KernelFault}
 use Rattle.mesh_text.specs.declared.entry.TheConstants.{MESH_BYTES, MESH_VALUES}
 use Rattle.bound_program.specs.Limits.{max_sets, max_maps, max_dats, max_size, max_dim, max_cells, max_arguments, max_trace, max_weight}
 use Rattle.schedule_model.specs.Sequential.{Stop}
+use Rattle.schedule_steps.specs.declared.step.Step.{Step}
+use Rattle.schedule_text.specs.declared.lines.TheConstants.{SCHEDULE_STEPS}
+use Rattle.schedule_text.specs.Written.{tokens_of}
 use Rattle.loop_plan.specs.StepCounts.{max_steps}
-use Rattle.answers.specs.declared.limits.TheConstants.{SOURCE_BYTES, PARTITION_BYTES}
+use Rattle.answers.specs.declared.limits.TheConstants.{SOURCE_BYTES, PARTITION_BYTES, SCHEDULE_BYTES}
 use Rattle.answers.specs.Refusal.{Limit, SourceBytes, MeshBytes, MeshValues, Sets, Maps, Dats, SetSize, Dim, MeshCells}
-use Rattle.answers.specs.Refusal.{Arguments, Trace, PrintWeight, PartitionBytes, Steps, Refusal, Usage, CannotRead, NoTokens, NoTree}
-use Rattle.answers.specs.Refusal.{TooDeep, BadName, BadBinding, BadTarget, BadAccess, BadMesh, BadPart, BadPartition, BeyondLimit}
-use Rattle.answers.specs.Refusal.{status_of}
+use Rattle.answers.specs.Refusal.{Arguments, Trace, PrintWeight, PartitionBytes, Steps, ScheduleBytes, ScheduleSteps, Refusal, Usage}
+use Rattle.answers.specs.Refusal.{CannotRead, NoTokens, NoTree, TooDeep, BadName, BadBinding, BadTarget, BadAccess, BadMesh, BadPart}
+use Rattle.answers.specs.Refusal.{BadPartition, BadSchedule, BadStep, EarlyStep, LeftStep, BeyondLimit, status_of}
 
 -- the name of a limit
 abbrev pub limit_name : Limit → List ℕ
@@ -31,6 +35,8 @@ limit_name Trace = codes "trace"
 limit_name PrintWeight = codes "print-weight"
 limit_name PartitionBytes = codes "partition-bytes"
 limit_name Steps = codes "steps"
+limit_name ScheduleBytes = codes "schedule-bytes"
+limit_name ScheduleSteps = codes "schedule-steps"
 
 -- the greatest size that is allowed
 abbrev pub most : Limit → ℕ
@@ -48,6 +54,8 @@ most Trace = max_trace
 most PrintWeight = max_weight
 most PartitionBytes = PARTITION_BYTES
 most Steps = max_steps
+most ScheduleBytes = SCHEDULE_BYTES
+most ScheduleSteps = SCHEDULE_STEPS
 
 -- ` at L:C`
 abbrev pub at_place : Pos → List ℕ
@@ -56,6 +64,10 @@ at_place at = codes " at " ++ decimal at.line ++ codes ":" ++ decimal at.column
 -- what is refused, its number and its place
 abbrev pub numbered : List ℕ → ℕ → Pos → List ℕ
 numbered what n at = what ++ codes " " ++ decimal n ++ at_place at
+
+-- a step: its first word and its numbers, each with a space before it
+abbrev pub step_name : Step → List ℕ
+step_name s = flat_map (λ t. codes " " ++ t) (tokens_of s)
 
 -- what stands behind `op2: ` for a refusal
 abbrev pub said_of : Refusal → List ℕ
@@ -72,6 +84,10 @@ said_of (BadAccess n at) = numbered (codes "source access") n at
 said_of (BadMesh n line) = codes "mesh " ++ decimal n ++ codes " line " ++ decimal line
 said_of (BadPart name) = codes "partition name " ++ name
 said_of (BadPartition n line) = codes "partition " ++ decimal n ++ codes " line " ++ decimal line
+said_of (BadSchedule n line) = codes "schedule text " ++ decimal n ++ codes " line " ++ decimal line
+said_of (BadStep n line s) = codes "schedule step " ++ decimal n ++ codes " line " ++ decimal line ++ step_name s
+said_of (EarlyStep line s t) = codes "schedule step 3 line " ++ decimal line ++ step_name s ++ codes " needs" ++ step_name t
+said_of (LeftStep line t) = codes "schedule step 4 line " ++ decimal line ++ codes " needs" ++ step_name t
 said_of (BeyondLimit l size) =
     codes "limit " ++ limit_name l ++ codes " " ++ decimal (most l) ++ codes " " ++ decimal size
 

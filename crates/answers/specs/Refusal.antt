@@ -1,6 +1,7 @@
 -- What the program can refuse, and what it answers.
 use Rattle.std.specs.Prelude.{ℕ, List}
 use Rattle.c_lex.specs.declared.tokens.Pos.{Pos}
+use Rattle.schedule_steps.specs.declared.step.Step.{Step}
 
 -- a size that has a limit
 pub data Limit : Type 0 where
@@ -18,6 +19,8 @@ pub data Limit : Type 0 where
   PrintWeight : Limit
   PartitionBytes : Limit
   Steps : Limit
+  ScheduleBytes : Limit
+  ScheduleSteps : Limit
 
 -- One constructor for each line that the program writes about its words and its files.
 pub data Refusal : Type 0 where
@@ -45,6 +48,14 @@ pub data Refusal : Type 0 where
   BadPart : (name : List ℕ) → Refusal
   -- the text of a partition spells no owners of the mesh
   BadPartition : (number line : ℕ) → Refusal
+  -- the text of a schedule spells no steps
+  BadSchedule : (number line : ℕ) → Refusal
+  -- a step of a schedule that the plan hasn't, or that was taken
+  BadStep : (number line : ℕ) → Step → Refusal
+  -- a step of a schedule before one that has to come first
+  EarlyStep : (line : ℕ) (step missing : Step) → Refusal
+  -- a step of the plan that a schedule hasn't; its text ends on that line
+  LeftStep : (line : ℕ) (missing : Step) → Refusal
   -- a size is beyond its limit
   BeyondLimit : Limit → (size : ℕ) → Refusal
 
@@ -62,4 +73,8 @@ status_of (BadAccess n at) = 5
 status_of (BadMesh n line) = 6
 status_of (BadPart name) = 7
 status_of (BadPartition n line) = 7
+status_of (BadSchedule n line) = 8
+status_of (BadStep n line s) = 8
+status_of (EarlyStep line s t) = 8
+status_of (LeftStep line t) = 8
 status_of (BeyondLimit l size) = 10

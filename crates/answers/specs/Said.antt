@@ -19,10 +19,15 @@ use Rattle.bind_refusals.specs.declared.refusals.BindRefusal.TheVariants as bind
 use Rattle.bind_refusals.specs.Refusals.{number_of as bind_number}
 use Rattle.part_text.specs.declared.refusals.PartRefusal.{PartRefusal}
 use Rattle.part_text.specs.declared.refusals.PartRefusal.TheVariants as part
+use Rattle.schedule_text.specs.declared.lines.Line.{Line}
+use Rattle.schedule_text.specs.declared.refusals.ScheduleTextRefusal.{ScheduleTextRefusal}
+use Rattle.schedule_text.specs.declared.refusals.ScheduleTextRefusal.TheVariants as text
+use Rattle.step_judge.specs.declared.refusal.ScheduleRefusal.{ScheduleRefusal}
+use Rattle.step_judge.specs.declared.refusal.ScheduleRefusal.TheVariants as taking
 use Rattle.distribute.specs.Parts.{NumbersRefusal, UnknownMap, OwnersRefusal, NoDat, NoMap, Unspelled}
 use Rattle.answers.specs.Refusal.{Limit, MeshValues, Sets, Maps, Dats, SetSize, Dim, MeshCells, Arguments, Trace, PrintWeight}
-use Rattle.answers.specs.Refusal.{Refusal, NoTokens, NoTree, TooDeep, BadName, BadBinding, BadTarget, BadMesh, BadPart, BadPartition}
-use Rattle.answers.specs.Refusal.{BeyondLimit}
+use Rattle.answers.specs.Refusal.{ScheduleSteps, Refusal, NoTokens, NoTree, TooDeep, BadName, BadBinding, BadTarget, BadMesh, BadPart}
+use Rattle.answers.specs.Refusal.{BadPartition, BadSchedule, BadStep, EarlyStep, LeftStep, BeyondLimit}
 use Rattle.answers.specs.Lines.{most}
 
 -- ---- the source
@@ -130,3 +135,29 @@ abbrev pub SaysOwners : OwnersRefusal → Refusal → Type 0
 SaysOwners (NoDat name) r = r ≡ BadPart name
 SaysOwners (NoMap name) r = r ≡ BadPart name
 SaysOwners (Unspelled e) r = SaysPartition e r
+
+-- ---- schedules
+
+-- of the text of a schedule
+abbrev pub SaysSchedule : ScheduleTextRefusal → Refusal → Type 0
+SaysSchedule (text.Header line) r = r ≡ BadSchedule 1 line
+SaysSchedule (text.Syntax line) r = r ≡ BadSchedule 2 line
+SaysSchedule text.TooManySteps r = r ≡ BeyondLimit ScheduleSteps (suc (most ScheduleSteps))
+SaysSchedule text.OutOfMemory r = ⊥
+
+-- of taking a step on its line
+abbrev pub SaysStep : Line → ScheduleRefusal → Refusal → Type 0
+SaysStep l taking.NoSuchStep r = r ≡ BadStep 1 l.line l.step
+SaysStep l taking.Repeated r = r ≡ BadStep 2 l.line l.step
+SaysStep l (taking.TooEarly t) r = r ≡ EarlyStep l.line l.step t
+SaysStep l (taking.Incomplete t) r = ⊥
+
+-- of the end, on the line of `done`
+abbrev pub SaysEnd : (line : ℕ) → ScheduleRefusal → Refusal → Type 0
+SaysEnd line (taking.Incomplete t) r = r ≡ LeftStep line t
+SaysEnd line _ r = ⊥
+
+-- of what comes first of these steps, or of the end
+abbrev pub SaysNext : List Line → (end : ℕ) → ScheduleRefusal → Refusal → Type 0
+SaysNext [] end e r = SaysEnd end e r
+SaysNext (l ∷ ls) end e r = SaysStep l e r

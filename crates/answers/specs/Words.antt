@@ -1,28 +1,30 @@
 -- The words of the command line, by `clap`'s own model of the command.
-use Rattle.std.specs.Prelude.{◌≡◌, ℕ, Bool, true, false, not, ◌&&◌, nat_lt, nat_eq, List, [], ◌∷◌, Option, Some, None, Result, Ok, Err}
-use Rattle.std.specs.Prelude.{codes, if◌then◌else◌, option_and_then, option_map, is_some, length, take, drop}
+use Rattle.std.specs.Prelude.{◌≡◌, ℕ, ◌^◌, Bool, true, false, not, ◌&&◌, nat_lt, nat_eq, List, [], ◌∷◌, ◌++◌, Option, Some, None}
+use Rattle.std.specs.Prelude.{Result, Ok, Err, codes, if◌then◌else◌, option_and_then, option_map, is_some, length, take, drop}
 use Rattle.std.specs.Str.{bytes_eq}
 use Rattle.clap.specs.Walk.{Rule, Row, first_of}
 use Rattle.clap.specs.Simple.{App, new_rule, new_app, with_rule, on_top, matches_of}
 use Rattle.clap.specs.Kinds.{Kinds}
 use Rattle.clap.specs.Faults.{fault_of}
+use Rattle.clap.specs.declared.builder.action.ArgAction.TheVariants.{SetTrue}
 use Rattle.clap.specs.declared.error.kind.ErrorKind.TheVariants as kind
 use Rattle.op_num.specs.Spelling.{number_of}
 use Rattle.mesh_text.specs.declared.entry.Form.{Form}
 use Rattle.mesh_text.specs.declared.entry.Form.TheVariants as form
 use Rattle.mesh_gen.specs.declared.places.TheConstants.{MAX_SIDE}
 use Rattle.distribute.specs.Parts.{Parts, Block, Bisect, Grow}
-use Rattle.answers.specs.declared.limits.TheConstants.{MAX_RANKS, MAX_BLOCK}
+use Rattle.answers.specs.declared.limits.TheConstants.{MAX_RANKS, MAX_BLOCK, MAX_WORKERS, MAX_GROUP}
 use Rattle.answers.specs.Refusal.{Refusal, Usage}
 
 -- what is done with a source and a mesh
 pub data Job : Type 0 where
   Run : Job
 
--- what is done with a plan: its sizes are told, or its text is written, or the program runs by it
+-- what is done with a plan: its sizes are told, or its text or a schedule of it is written, or the program runs by it
 pub data PlanJob : Type 0 where
   Check : PlanJob
   ShowsPlan : PlanJob
+  ShowsSchedule : PlanJob
   RunsPlan : PlanJob
 
 -- who owns which element: by a rule, or as the file of this name says
@@ -30,24 +32,37 @@ pub data Parting : Type 0 where
   ByRule : Parts → Parting
   ByFile : (name : List ℕ) → Parting
 
+-- in which order the steps of a plan are taken: in the standard order, in the one drawn by a seed, or as the file of this name says
+pub data Schedule : Type 0 where
+  Standard : Schedule
+  Drawn : (seed : ℕ) → Schedule
+  Written : (name : List ℕ) → Schedule
+
 -- how a program runs on ranks: how many; who owns which element; new numbers by the map of this name, or none; how many places a
--- block has
+-- block has; in which order the steps are taken, and by how many workers; and whether the memories are dumped behind the output
 pub record Options : Type 0 where
   pub ranks : ℕ
   pub parting : Parting
   pub renumber : Option (List ℕ)
   pub block : ℕ
+  pub schedule : Schedule
+  pub workers : ℕ
+  pub dumps : Bool
+
+-- how many places of one colour are begun together at most: one worker begins them one by one
+abbrev pub group_of : Options → ℕ
+group_of o = if nat_eq o.workers 1 then 1 else MAX_GROUP
 
 -- where a source and a mesh come from: from the files of these names, or they are the sample on a grid of this many cells a side
 pub data Input : Type 0 where
   InFiles : (source mesh : List ℕ) → Input
   OfSample : (side : ℕ) → Input
 
--- What the words ask for: a job on a source and a mesh; a job on the plan of the program in a file over the mesh in a file, with
--- these options; the mesh text in a file written again, in a version of the format; or what the program says of itself.
+-- What the words ask for: a job on a source and a mesh; a job on the plan of a program over a mesh, with these options; the mesh text
+-- in a file written again, in a version of the format; or what the program says of itself.
 pub data Command : Type 0 where
   OnProgram : Job → Input → Command
-  OnPlan : PlanJob → Options → (source mesh : List ℕ) → Command
+  OnPlan : PlanJob → Options → Input → Command
   Converts : Form → (mesh : List ℕ) → Command
   ShowsUsage : Command
   ShowsVersion : Command
@@ -62,14 +77,22 @@ positional required id = record (new_rule id) { required = required }
 abbrev pub option : List ℕ → Rule
 option id = record (new_rule id) { long = Some id }
 
+-- an option with no value, `--ID`
+abbrev pub flag : List ℕ → Rule
+flag id = record (option id) { action = Some SetTrue }
+
 -- the command has a version
 abbrev pub versioned : App → App
 versioned a = on_top (λ s. record s { has_version = true }) a
 
--- `op2 JOB INPUT [MESH]` with six options of one value, `--help` and `--version`
+-- `op2 JOB INPUT [MESH]` with nine options of one value, `--dump`, `--help` and `--version`
 abbrev pub command : App
 command =
     with_rule
+    (with_rule
+    (with_rule
+    (with_rule
+    (with_rule
     (with_rule
     (with_rule
     (with_rule
@@ -85,7 +108,11 @@ command =
     (option (codes "parts")))
     (option (codes "partition")))
     (option (codes "renumber")))
-    (option (codes "block"))
+    (option (codes "block")))
+    (option (codes "schedule")))
+    (option (codes "seed")))
+    (option (codes "workers")))
+    (flag (codes "dump"))
 
 -- ---- what its matches mean
 
@@ -97,6 +124,15 @@ pub record OptionWords : Type 0 where
   pub partition : Option (List ℕ)
   pub renumber : Option (List ℕ)
   pub block : Option (List ℕ)
+  pub schedule : Option (List ℕ)
+  pub seed : Option (List ℕ)
+  pub workers : Option (List ℕ)
+  pub dumps : Bool
+
+-- whether a flag's value says so
+abbrev pub is_set : Option (List ℕ) → Bool
+is_set None = false
+is_set (Some word) = bytes_eq word (codes "true")
 
 -- those of the matches
 abbrev pub options_in : List Row → OptionWords
@@ -107,12 +143,17 @@ options_in rows = record {
   partition = first_of (codes "partition") rows;
   renumber = first_of (codes "renumber") rows;
   block = first_of (codes "block") rows;
+  schedule = first_of (codes "schedule") rows;
+  seed = first_of (codes "seed") rows;
+  workers = first_of (codes "workers") rows;
+  dumps = is_set (first_of (codes "dump") rows);
 }
 
 -- none of a plan's options stands
 abbrev pub plans_nothing : OptionWords → Bool
 plans_nothing w =
     not (is_some w.ranks) && not (is_some w.parts) && not (is_some w.partition) && not (is_some w.renumber) && not (is_some w.block)
+    && not (is_some w.schedule) && not (is_some w.seed) && not (is_some w.workers) && not w.dumps
 
 -- no option stands
 abbrev pub is_plain : OptionWords → Bool
@@ -163,22 +204,57 @@ parting_of (Some word) None = option_map ByRule (rule_of word)
 parting_of None (Some name) = Some (ByFile name)
 parting_of (Some word) (Some name) = None
 
--- with owners that are known, and a number of ranks
-abbrev pub options_with : (ranks : ℕ) → Parting → OptionWords → Option Options
-options_with ranks parting w =
-    option_map (λ block. record { ranks = ranks; parting = parting; renumber = w.renumber; block = block }) (number_or 256 MAX_BLOCK w.block)
+-- a number below 2 ^ 64, in decimal digits
+abbrev pub seed_of : List ℕ → Option ℕ
+seed_of word = option_and_then (λ n. if nat_lt n (2 ^ 64) then Some n else None) (number_of word)
+
+-- by `--schedule`, or by `--seed`, or the standard order; not by both
+abbrev pub schedule_of : (schedule seed : Option (List ℕ)) → Option Schedule
+schedule_of None None = Some Standard
+schedule_of (Some name) None = Some (Written name)
+schedule_of None (Some word) = option_map Drawn (seed_of word)
+schedule_of (Some name) (Some word) = None
+
+-- with a number of ranks, owners and an order of steps that are known
+abbrev pub options_with : (ranks : ℕ) → Parting → Schedule → OptionWords → Option Options
+options_with ranks parting schedule w =
+    option_and_then (λ block. option_map (λ workers. record {
+      ranks = ranks;
+      parting = parting;
+      renumber = w.renumber;
+      block = block;
+      schedule = schedule;
+      workers = workers;
+      dumps = w.dumps;
+    }) (number_or 1 MAX_WORKERS w.workers))
+    (number_or 256 MAX_BLOCK w.block)
 
 -- all options of a plan
 abbrev pub options_of : OptionWords → Option Options
 options_of w =
-    option_and_then (λ ranks. option_and_then (λ parting. options_with ranks parting w) (parting_of w.parts w.partition))
+    option_and_then (λ ranks. option_and_then (λ parting. option_and_then (λ schedule. options_with ranks parting schedule w)
+    (schedule_of w.schedule w.seed))
+    (parting_of w.parts w.partition))
     (number_or 1 MAX_RANKS w.ranks)
 
 -- ---- jobs
 
+-- a job on the plan of a program over a mesh, with a plan's options
+abbrev pub plans : PlanJob → Input → OptionWords → Option Command
+plans j input w = if is_some w.form then None else option_map (λ o. OnPlan j o input) (options_of w)
+
+-- a run of a program over a mesh: on ranks where it has a plan's options
+abbrev pub runs : Input → OptionWords → Option Command
+runs input w = if is_plain w then Some (OnProgram Run input) else plans RunsPlan input w
+
+-- SOURCE and MESH
+abbrev pub on_files : (Input → OptionWords → Option Command) → (input : List ℕ) (mesh : Option (List ℕ)) → OptionWords → Option Command
+on_files job input (Some mesh) w = job (InFiles input mesh) w
+on_files job input None w = None
+
 -- `sample SIDE`
 abbrev pub samples : (input : List ℕ) (mesh : Option (List ℕ)) → OptionWords → Option Command
-samples input None w = if is_plain w then option_map (λ side. OnProgram Run (OfSample side)) (number_to MAX_SIDE input) else None
+samples input None w = option_and_then (λ side. runs (OfSample side) w) (number_to MAX_SIDE input)
 samples input (Some mesh) w = None
 
 -- `convert MESH`, with `--form`
@@ -186,24 +262,15 @@ abbrev pub converts : (input : List ℕ) (mesh : Option (List ℕ)) → OptionWo
 converts input None w = if plans_nothing w then option_map (λ f. Converts f input) (form_of w.form) else None
 converts input (Some mesh) w = None
 
--- `check SOURCE MESH` and `plan SOURCE MESH`, with a plan's options
-abbrev pub plans : PlanJob → (input : List ℕ) (mesh : Option (List ℕ)) → OptionWords → Option Command
-plans j input (Some mesh) w = if is_some w.form then None else option_map (λ o. OnPlan j o input mesh) (options_of w)
-plans j input None w = None
-
--- `run SOURCE MESH`: on ranks where it has a plan's options
-abbrev pub runs : (input : List ℕ) (mesh : Option (List ℕ)) → OptionWords → Option Command
-runs input (Some mesh) w = if is_plain w then Some (OnProgram Run (InFiles input mesh)) else plans RunsPlan input (Some mesh) w
-runs input None w = None
-
 -- by the job's name
 abbrev pub by_job : (job input : List ℕ) (mesh : Option (List ℕ)) → OptionWords → Option Command
 by_job job input mesh w =
-    if bytes_eq job (codes "run") then runs input mesh w
+    if bytes_eq job (codes "run") then on_files runs input mesh w
     else if bytes_eq job (codes "sample") then samples input mesh w
     else if bytes_eq job (codes "convert") then converts input mesh w
-    else if bytes_eq job (codes "check") then plans Check input mesh w
-    else if bytes_eq job (codes "plan") then plans ShowsPlan input mesh w
+    else if bytes_eq job (codes "check") then on_files (plans Check) input mesh w
+    else if bytes_eq job (codes "plan") then on_files (plans ShowsPlan) input mesh w
+    else if bytes_eq job (codes "schedule") then on_files (plans ShowsSchedule) input mesh w
     else None
 
 -- the words JOB and INPUT stand
@@ -236,10 +303,16 @@ abbrev pub names_by : Parting → List (List ℕ)
 names_by (ByRule parts) = []
 names_by (ByFile name) = name ∷ []
 
+-- the one that a schedule comes from, where it does
+abbrev pub names_at : Schedule → List (List ℕ)
+names_at Standard = []
+names_at (Drawn seed) = []
+names_at (Written name) = name ∷ []
+
 -- those of a command
 abbrev pub names_of : Command → List (List ℕ)
 names_of (OnProgram j input) = names_from input
-names_of (OnPlan j o source mesh) = source ∷ mesh ∷ names_by o.parting
+names_of (OnPlan j o input) = names_from input ++ names_by o.parting ++ names_at o.schedule
 names_of (Converts form mesh) = mesh ∷ []
 names_of ShowsUsage = []
 names_of ShowsVersion = []

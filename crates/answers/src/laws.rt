@@ -33,8 +33,14 @@ pub fn answers_agree()
     distribute::one_numbers();
     distribute::one_owners();
     distribute::one_distribution();
+    loop_plan::one_plan();
     loop_plan::one_plan_text();
     loop_plan::one_step_count();
+    schedule_text::one_outcome();
+    schedule_steps::drawn_once();
+    schedule_steps::tests_decide();
+    bound_plan::one_program();
+    bound_plan::one_dump();
 }
 
 /// A law: there is an answer to all words that ask for no plan, over all files.

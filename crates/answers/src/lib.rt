@@ -11,5 +11,7 @@ pub use laws::{
     calls_show_their_answers, one_fault, options_are_within, others_write_nothing,
     usage_is_of_words,
 };
-pub use limits::{MAX_BLOCK, MAX_RANKS, PARTITION_BYTES, SOURCE_BYTES};
+pub use limits::{
+    MAX_BLOCK, MAX_GROUP, MAX_RANKS, MAX_WORKERS, PARTITION_BYTES, SCHEDULE_BYTES, SOURCE_BYTES,
+};
 pub use usage::{USAGE, VERSION};

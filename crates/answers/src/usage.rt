@@ -5,25 +5,30 @@ pub const USAGE: &str = "op2 JOB INPUT [MESH]
 
 Jobs
   run            runs the OP2 program in the file INPUT over the mesh in the file MESH, and writes what it prints
-  sample         runs a program of fluxes on a grid of INPUT times INPUT cells, which it makes itself; no MESH
+  sample         as run, with a program of fluxes on a grid of INPUT times INPUT cells, which it makes itself; no MESH
   convert        writes the mesh in the file INPUT again, in the version that --form names; no MESH
   check          as run, but the program is planned and not run, and the sizes of the plan are written
   plan           as check, and the whole plan is written
+  schedule       as check, and the schedule is written: the steps of the plan in their order, one a line
 
 Words
   INPUT          the name of the source file; for sample a number from 1 to 200; for convert the name of the mesh file
-  MESH           the name of the mesh file; for run, check and plan
+  MESH           the name of the mesh file; for run, check, plan and schedule
 
 Options
   --form FORM    for convert: the version of the mesh format, 1 or 2 (runs of equal values); 2 where it isn't given
-  --ranks N      for run, check and plan: how many ranks there are, from 1 to 64; 1 where it isn't given
-  --parts RULE   for run, check and plan: who owns which element; block where it isn't given
+  --ranks N      not for convert: how many ranks there are, from 1 to 64; 1 where it isn't given
+  --parts RULE   not for convert: who owns which element; block where it isn't given
                    block       each set in blocks of consecutive elements
                    bisect:DAT  cuts along the values of the dat DAT, and the other sets by their maps
                    grow:MAP    growth over the neighbours by the map MAP, and the other sets by their maps
-  --partition F  for run, check and plan, in place of --parts: who owns which element, as the file F says
-  --renumber MAP for run, check and plan: new numbers by Cuthill and McKee over the map MAP; none where it isn't given
-  --block N      for run, check and plan: how many places a block has, from 1 to 65536; 256 where it isn't given
+  --partition F  not for convert, in place of --parts: who owns which element, as the file F says
+  --renumber MAP not for convert: new numbers by Cuthill and McKee over the map MAP; none where it isn't given
+  --block N      not for convert: how many places a block has, from 1 to 65536; 256 where it isn't given
+  --schedule F   not for convert: the steps in the order of the file F; in the standard order where it isn't given
+  --seed N       not for convert, in place of --schedule: the steps in an order drawn from N, from 0 to 2^64 - 1
+  --workers N    not for convert: how many threads run the elements, from 1 to 64; 1 where it isn't given
+  --dump         for run and sample: where the run has no fault, what each rank holds at its end is written too
   -h, --help     writes this text
   -V, --version  writes the version
 
@@ -36,6 +41,7 @@ Statuses
   5              the source is refused
   6              the mesh is refused
   7              the ranks are refused: no dat or map has the name, or the partition isn't one of the mesh
+  8              the schedule is refused: its file isn't one, or the plan doesn't accept its steps
   9              the run has a fault
   10             a size is beyond its limit
 ";

@@ -1,0 +1,111 @@
+-- What words ask for, as the definitions of the answers have it.
+use Rattle.std.specs.Prelude.{◌≡◌, Result, Ok, Err, codes, option_map}
+use Rattle.clap.specs.declared.parser.matches.Found.{Found}
+use Rattle.clap.specs.Matches.{first_value}
+use Rattle.distribute.specs.Parts.{parts_of, name_of}
+use Rattle.answers.specs.Refusal as answer
+use Rattle.answers.specs.Words as words
+use Rattle.answers.specs.Words.{is_set, Run, OnProgram, OnPlan, Converts, ShowsUsage, ShowsVersion}
+use Rattle.answers.specs.Laws.{AreWithin}
+use Rattle.command_words.specs.declared.refusals.WordsRefusal.{WordsRefusal}
+use Rattle.command_words.specs.declared.refusals.WordsRefusal.TheVariants.{Usage, OutOfMemory}
+use Rattle.command_words.specs.declared.options.OptionWords.{OptionWords}
+use Rattle.command_words.specs.declared.asked.Parting.{Parting}
+use Rattle.command_words.specs.declared.asked.Parting.TheVariants as parting
+use Rattle.command_words.specs.declared.asked.Schedule.{Schedule}
+use Rattle.command_words.specs.declared.asked.Schedule.TheVariants as schedule
+use Rattle.command_words.specs.declared.asked.Options.{Options}
+use Rattle.command_words.specs.declared.asked.PlanJob.{PlanJob}
+use Rattle.command_words.specs.declared.asked.PlanJob.TheVariants as job
+use Rattle.command_words.specs.declared.asked.Input.{Input}
+use Rattle.command_words.specs.declared.asked.Input.TheVariants as input
+use Rattle.command_words.specs.declared.asked.Asked.{Asked}
+use Rattle.command_words.specs.declared.asked.Asked.TheVariants as asked
+
+-- ---- options
+
+-- the values of the options
+abbrev pub option_words_of : OptionWords → words.OptionWords
+option_words_of w = record {
+  form = option_map (λ s. s.now) w.form;
+  ranks = option_map (λ s. s.now) w.ranks;
+  parts = option_map (λ s. s.now) w.parts;
+  partition = option_map (λ s. s.now) w.partition;
+  renumber = option_map (λ s. s.now) w.renumber;
+  block = option_map (λ s. s.now) w.block;
+  schedule = option_map (λ s. s.now) w.schedule;
+  seed = option_map (λ s. s.now) w.seed;
+  workers = option_map (λ s. s.now) w.workers;
+  dumps = w.dumps;
+}
+
+-- the same, as `clap` has found them
+abbrev pub options_found : Found → words.OptionWords
+options_found f = record {
+  form = first_value f (codes "form");
+  ranks = first_value f (codes "ranks");
+  parts = first_value f (codes "parts");
+  partition = first_value f (codes "partition");
+  renumber = first_value f (codes "renumber");
+  block = first_value f (codes "block");
+  schedule = first_value f (codes "schedule");
+  seed = first_value f (codes "seed");
+  workers = first_value f (codes "workers");
+  dumps = is_set (first_value f (codes "dump"));
+}
+
+-- who owns which element
+abbrev pub parting_in : Parting → words.Parting
+parting_in (parting.ByRule rule) = words.ByRule (parts_of rule)
+parting_in (parting.ByFile name) = words.ByFile name.now
+
+-- in which order the steps of a plan are taken
+abbrev pub schedule_in : Schedule → words.Schedule
+schedule_in schedule.Standard = words.Standard
+schedule_in (schedule.Drawn seed) = words.Drawn seed
+schedule_in (schedule.Written name) = words.Written name.now
+
+-- a plan's options
+abbrev pub options_in : Options → words.Options
+options_in o = record {
+  ranks = o.ranks;
+  parting = parting_in o.parting;
+  renumber = name_of o.renumber;
+  block = o.block;
+  schedule = schedule_in o.schedule;
+  workers = o.workers;
+  dumps = o.dumps;
+}
+
+-- ---- commands
+
+-- what is done with a plan
+abbrev pub job_in : PlanJob → words.PlanJob
+job_in job.Check = words.Check
+job_in job.ShowsPlan = words.ShowsPlan
+job_in job.ShowsSchedule = words.ShowsSchedule
+job_in job.RunsPlan = words.RunsPlan
+
+-- where a source and a mesh come from
+abbrev pub input_in : Input → words.Input
+input_in (input.InFiles source mesh) = words.InFiles source.now mesh.now
+input_in (input.OfSample side) = words.OfSample side
+
+-- what the words ask for
+abbrev pub command_of : Asked → words.Command
+command_of (asked.Run i) = OnProgram Run (input_in i)
+command_of (asked.Plan j o i) = OnPlan (job_in j) (options_in o) (input_in i)
+command_of (asked.Convert form mesh) = Converts form mesh.now
+command_of asked.Usage = ShowsUsage
+command_of asked.Version = ShowsVersion
+
+-- the numbers of a plan's options are in range
+abbrev pub IsInRange : Asked → Type 0
+IsInRange (asked.Plan j o i) = AreWithin (options_in o)
+IsInRange a = Unit {0}
+
+-- it is what the words ask for, or their refusal, unless memory ran out
+abbrev pub AsksBy : Result Asked WordsRefusal → Result words.Command answer.Refusal → Type 0
+AsksBy (Ok a) r = r ≡ Ok (command_of a)
+AsksBy (Err Usage) r = r ≡ Err answer.Usage
+AsksBy (Err OutOfMemory) r = Unit {0}

@@ -1,0 +1,97 @@
+// What words ask for.
+
+ghost use Rattle.std.specs.Prelude.{◌≡◌};
+ghost use Rattle.answers.specs.Words.{group_of};
+ghost use Rattle.command_words.specs.Values.{options_in};
+
+use answers::MAX_GROUP;
+use distribute::Parts;
+use mesh_text::Form;
+
+/// What is done with a plan.
+#[derive(Clone, Copy, PartialEq, Eq, Debug)]
+pub enum PlanJob {
+    /// Its sizes are told.
+    Check,
+    /// Its text is written.
+    ShowsPlan,
+    /// A schedule of it is written: its steps, in the order that the options ask for.
+    ShowsSchedule,
+    /// The program runs on its ranks.
+    RunsPlan,
+}
+
+/// Who owns which element.
+#[derive(Clone, Copy, Debug)]
+pub enum Parting<'a> {
+    /// By a rule.
+    ByRule(Parts<'a>),
+    /// As the file of this name says.
+    ByFile(&'a str),
+}
+
+/// In which order the steps of a plan are taken.
+#[derive(Clone, Copy, Debug)]
+pub enum Schedule<'a> {
+    /// In the standard order.
+    Standard,
+    /// In the order that is drawn by the seed, any number below 2 ^ 64.
+    Drawn { seed: u64 },
+    /// As the file of this name says.
+    Written(&'a str),
+}
+
+/// How a program runs on ranks: how many there are, 1 to 64; who owns which element; new numbers by the map of this
+/// name, if any; how many places a block has, 1 to 65,536; in which order the steps are taken, and by how many workers,
+/// 1 to 64; and whether the ranks' memories are dumped behind the output.
+#[derive(Clone, Copy, Debug)]
+pub struct Options<'a> {
+    pub ranks: u32,
+    pub parting: Parting<'a>,
+    pub renumber: Option<&'a [u8]>,
+    pub block: u32,
+    pub schedule: Schedule<'a>,
+    pub workers: u32,
+    pub dumps: bool,
+}
+
+impl<'a> Options<'a> {
+    /// How many places of one colour are begun together at most: 1 where there is one worker, which begins them one by
+    /// one, and else 64.
+    pub fn group(&self) -> u32
+        ensures { result ≡ group_of (options_in self.now) }
+    {
+        if self.workers == 1 { 1 } else { MAX_GROUP }
+    }
+}
+
+/// Where a source and a mesh come from.
+#[derive(Clone, Copy, Debug)]
+pub enum Input<'a> {
+    /// The source from the file `source`, and the mesh from the file `mesh`.
+    InFiles { source: &'a str, mesh: &'a str },
+    /// They are the sample on a grid of `side` times `side` cells, 1 to 200.
+    OfSample { side: u32 },
+}
+
+/// What the words ask for.
+#[derive(Clone, Copy, Debug)]
+pub enum Asked<'a> {
+    /// To run the program over the mesh.
+    Run(Input<'a>),
+    /// To plan the program over the mesh, with these options, and then the job.
+    Plan {
+        job: PlanJob,
+        options: Options<'a>,
+        input: Input<'a>,
+    },
+    /// To write the mesh text in the file `mesh` again, in this version of the format.
+    Convert {
+        form: Form,
+        mesh: &'a str,
+    },
+    /// What the program says of its use.
+    Usage,
+    /// The version of the program.
+    Version,
+}

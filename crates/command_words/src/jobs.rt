@@ -1,0 +1,116 @@
+// The jobs: what is asked for by the words JOB, INPUT and MESH, with the options.
+
+ghost use Rattle.std.specs.Prelude.{◌≡◌, option_map};
+ghost use Rattle.answers.specs.Words.{by_job, runs, samples, converts, plans, form_of, InFiles};
+ghost use Rattle.command_words.specs.Values.{input_in, command_of, job_in, option_words_of};
+
+use crate::asked::{Asked, Input, PlanJob};
+use crate::options::{OptionWords, is_plain, number_to, options_of, plans_nothing};
+use mesh_gen::MAX_SIDE;
+use mesh_text::Form;
+
+/// What is asked for by the job's name.
+pub fn by_job<'a>(
+    job: &str,
+    input: &'a str,
+    mesh: Option<&'a str>,
+    options: &OptionWords<'a>,
+) -> Option<Asked<'a>>
+    ensures { option_map command_of result
+        ≡ by_job job.now input.now (option_map (λ s. s.now) mesh.entry) (option_words_of options.now) }
+{
+    if job == "run" {
+        runs(in_files(input, mesh)?, options)
+    } else if job == "sample" {
+        samples(input, mesh, options)
+    } else if job == "convert" {
+        converts(input, mesh, options)
+    } else if job == "check" {
+        plans(PlanJob::Check, in_files(input, mesh)?, options)
+    } else if job == "plan" {
+        plans(PlanJob::ShowsPlan, in_files(input, mesh)?, options)
+    } else if job == "schedule" {
+        plans(PlanJob::ShowsSchedule, in_files(input, mesh)?, options)
+    } else {
+        None
+    }
+}
+
+// SOURCE and MESH.
+fn in_files<'a>(source: &'a str, mesh: Option<&'a str>) -> Option<Input<'a>>
+    ensures { option_map input_in result ≡ option_map (InFiles source.now) (option_map (λ s. s.now) mesh.entry) }
+{
+    match mesh {
+        None => None,
+        Some(mesh) => Some(Input::InFiles { source, mesh }),
+    }
+}
+
+// A run of a program over a mesh: on ranks where it has a plan's options.
+fn runs<'a>(input: Input<'a>, options: &OptionWords<'a>) -> Option<Asked<'a>>
+    ensures { option_map command_of result ≡ runs (input_in input.entry) (option_words_of options.now) }
+{
+    if is_plain(options) {
+        Some(Asked::Run(input))
+    } else {
+        plans(PlanJob::RunsPlan, input, options)
+    }
+}
+
+// `sample SIDE`.
+fn samples<'a>(input: &str, mesh: Option<&str>, options: &OptionWords<'a>) -> Option<Asked<'a>>
+    ensures { option_map command_of result
+        ≡ samples input.now (option_map (λ s. s.now) mesh.entry) (option_words_of options.now) }
+{
+    if mesh.is_some() {
+        return None;
+    }
+    let side = number_to(MAX_SIDE, input)?;
+    runs(Input::OfSample { side }, options)
+}
+
+// `convert MESH`, with `--form`.
+fn converts<'a>(input: &'a str, mesh: Option<&str>, options: &OptionWords<'a>) -> Option<Asked<'a>>
+    ensures { option_map command_of result
+        ≡ converts input.now (option_map (λ s. s.now) mesh.entry) (option_words_of options.now) }
+{
+    if mesh.is_some() {
+        return None;
+    }
+    if plans_nothing(options) {
+        Some(Asked::Convert {
+            form: form_of(options.form)?,
+            mesh: input,
+        })
+    } else {
+        None
+    }
+}
+
+// A job on the plan of a program over a mesh, with a plan's options.
+fn plans<'a>(job: PlanJob, input: Input<'a>, options: &OptionWords<'a>) -> Option<Asked<'a>>
+    ensures { option_map command_of result ≡ plans (job_in job) (input_in input.entry) (option_words_of options.now) }
+{
+    if options.form.is_some() {
+        None
+    } else {
+        Some(Asked::Plan {
+            job,
+            options: options_of(options)?,
+            input,
+        })
+    }
+}
+
+// A version of the mesh format; the second, where no word says which.
+fn form_of(word: Option<&str>) -> Option<Form>
+    ensures { result ≡ form_of (option_map (λ s. s.now) word.entry) }
+{
+    let Some(word) = word else {
+        return Some(Form::Two);
+    };
+    match number_to(2, word)? {
+        1 => Some(Form::One),
+        _ => Some(Form::Two),
+    }
+}

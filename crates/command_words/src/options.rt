@@ -1,0 +1,164 @@
+// The options of a plan, from the values that the words have.
+
+ghost use Rattle.std.specs.Prelude.{◌≡◌, ◌&&◌, not, is_some, option_map};
+ghost use Rattle.distribute.specs.Parts.{name_of, parts_of};
+ghost use Rattle.answers.specs.Words.{number_to, number_or, plans_nothing, is_plain, behind, rule_of, parting_of};
+ghost use Rattle.answers.specs.Words.{seed_of, schedule_of, options_of};
+ghost use Rattle.command_words.specs.Values.{option_words_of, parting_in, schedule_in, options_in};
+
+use crate::asked::{Options, Parting, Schedule};
+use answers::{MAX_BLOCK, MAX_RANKS, MAX_WORKERS};
+use distribute::Parts;
+use op_num::read_u64;
+
+/// The values of the options, as the words have them, and whether the flag stands.
+#[derive(Clone, Copy, Debug)]
+pub struct OptionWords<'a> {
+    pub form: Option<&'a str>,
+    pub ranks: Option<&'a str>,
+    pub parts: Option<&'a str>,
+    pub partition: Option<&'a str>,
+    pub renumber: Option<&'a str>,
+    pub block: Option<&'a str>,
+    pub schedule: Option<&'a str>,
+    pub seed: Option<&'a str>,
+    pub workers: Option<&'a str>,
+    pub dumps: bool,
+}
+
+/// A number from 1 to the most, in decimal digits.
+pub fn number_to(most: u32, word: &str) -> Option<u32>
+    ensures { result ≡ number_to most word.now }
+{
+    let Ok(number) = read_u64(word.as_bytes()) else {
+        return None;
+    };
+    if number > 0 && number <= u64::from(most) {
+        Some(number as u32)
+    } else {
+        None
+    }
+}
+
+// The same; this number, where no word says which.
+fn number_or(usual: u32, most: u32, word: Option<&str>) -> Option<u32>
+    ensures { result ≡ number_or usual most (option_map (λ s. s.now) word.entry) }
+{
+    match word {
+        None => Some(usual),
+        Some(word) => number_to(most, word),
+    }
+}
+
+/// Whether none of a plan's options stands.
+pub fn plans_nothing(words: &OptionWords<'_>) -> bool
+    ensures { result ≡ plans_nothing (option_words_of words.now) }
+{
+    words.ranks.is_none()
+        && words.parts.is_none()
+        && words.partition.is_none()
+        && words.renumber.is_none()
+        && words.block.is_none()
+        && orders_nothing(words)
+}
+
+// Whether none of those stands that say in which order the steps are taken, by how many workers, and that the memories
+// are dumped.
+fn orders_nothing(words: &OptionWords<'_>) -> bool
+    ensures { result ≡ (not (is_some words.now.schedule) && not (is_some words.now.seed)
+        && not (is_some words.now.workers) && not words.now.dumps) }
+{
+    words.schedule.is_none() && words.seed.is_none() && words.workers.is_none() && !words.dumps
+}
+
+/// Whether no option stands.
+pub fn is_plain(words: &OptionWords<'_>) -> bool
+    ensures { result ≡ is_plain (option_words_of words.now) }
+{
+    words.form.is_none() && plans_nothing(words)
+}
+
+// What stands behind a prefix, if the word begins with it.
+fn behind<'a>(prefix: &[u8], word: &'a str) -> Option<&'a [u8]>
+    ensures { name_of result ≡ behind prefix.now word.now }
+{
+    word.as_bytes().strip_prefix(prefix)
+}
+
+// `block`, `bisect:DAT` or `grow:MAP`.
+fn rule_of<'a>(word: &'a str) -> Option<Parts<'a>>
+    ensures { option_map parts_of result ≡ rule_of word.now }
+{
+    if word == "block" {
+        return Some(Parts::Block);
+    }
+    if let Some(dat) = behind(b"bisect:", word) {
+        return Some(Parts::Bisect(dat));
+    }
+    Some(Parts::Grow(behind(b"grow:", word)?))
+}
+
+// By `--parts`, or by `--partition`, or by blocks; not by both.
+fn parting_of<'a>(parts: Option<&'a str>, partition: Option<&'a str>) -> Option<Parting<'a>>
+    ensures { option_map parting_in result
+        ≡ parting_of (option_map (λ s. s.now) parts.entry) (option_map (λ s. s.now) partition.entry) }
+{
+    match (parts, partition) {
+        (None, None) => Some(Parting::ByRule(Parts::Block)),
+        (Some(word), None) => Some(Parting::ByRule(rule_of(word)?)),
+        (None, Some(name)) => Some(Parting::ByFile(name)),
+        (Some(_), Some(_)) => None,
+    }
+}
+
+// A number below 2 ^ 64, in decimal digits.
+fn seed_of(word: &str) -> Option<u64>
+    ensures { result ≡ seed_of word.now }
+{
+    read_u64(word.as_bytes()).ok()
+}
+
+// By `--schedule`, or by `--seed`, or the standard order; not by both.
+fn schedule_of<'a>(schedule: Option<&'a str>, seed: Option<&str>) -> Option<Schedule<'a>>
+    ensures { option_map schedule_in result
+        ≡ schedule_of (option_map (λ s. s.now) schedule.entry) (option_map (λ s. s.now) seed.entry) }
+{
+    match (schedule, seed) {
+        (None, None) => Some(Schedule::Standard),
+        (Some(name), None) => Some(Schedule::Written(name)),
+        (None, Some(word)) => Some(Schedule::Drawn {
+            seed: seed_of(word)?,
+        }),
+        (Some(_), Some(_)) => None,
+    }
+}
+
+// A name, as the bytes of its word.
+fn named<'a>(word: Option<&'a str>) -> Option<&'a [u8]>
+    ensures { name_of result ≡ option_map (λ s. s.now) word.entry }
+{
+    match word {
+        None => None,
+        Some(word) => Some(word.as_bytes()),
+    }
+}
+
+/// All options of a plan.
+pub fn options_of<'a>(words: &OptionWords<'a>) -> Option<Options<'a>>
+    ensures { option_map options_in result ≡ options_of (option_words_of words.now) }
+{
+    let ranks = number_or(1, MAX_RANKS, words.ranks)?;
+    let parting = parting_of(words.parts, words.partition)?;
+    let schedule = schedule_of(words.schedule, words.seed)?;
+    let block = number_or(256, MAX_BLOCK, words.block)?;
+    let workers = number_or(1, MAX_WORKERS, words.workers)?;
+    Some(Options {
+        ranks,
+        parting,
+        renumber: named(words.renumber),
+        block,
+        schedule,
+        workers,
+        dumps: words.dumps,
+    })
+}
