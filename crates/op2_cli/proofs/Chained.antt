@@ -12,17 +12,16 @@ use Rattle.answers.specs.Refusal as answer
 use Rattle.answers.specs.Refusal.{Refusal, SourceBytes, MeshBytes, CannotRead}
 use Rattle.answers.specs.Lines as lines
 use Rattle.answers.specs.Lines.{most, refused}
-use Rattle.mesh_gen.specs.Sample.{sample_source, sample_mesh}
-use Rattle.answers.specs.Words.{Command, Run, InFiles, OfSample, WordsAre, names_of, named_by, names_in}
+use Rattle.answers.specs.Words.{Command, InFiles, WordsAre, names_of, named_by, names_in}
 use Rattle.answers.specs.Judgements.{IsHeld, SourceIs, FileIs, TreeIs, TypesAre}
-use Rattle.answers.specs.Answers.{given, without, BoundAnswers, ProgramAnswers, CommandAnswers, Answers}
+use Rattle.answers.specs.Answers.{given, without, BoundAnswers, CommandAnswers, Answers}
 use Rattle.answers.specs.Endings.{IsOfContents, Tells, TellsUntold, no_files}
 use Rattle.op2_cli.specs.declared.answered.Answer.{Answer}
 use Rattle.op2_cli.specs.declared.refusals.Failure.TheVariants.{Unread, OutOfMemory}
 use Rattle.op2_cli.specs.declared.refusals.Halt.{Halt}
 use Rattle.op2_cli.specs.declared.refusals.Halt.TheVariants.{Refused, Failed}
 use Rattle.op2_cli.specs.Halts.{refusal_of, StopsWhere, SpoiltWhere, UnreadWhere}
-use Rattle.op2_cli.specs.Chains.{answer_of, MeshAnswers, TextAnswers, TextOver, IsAnswered, AnswersBy, Over, AsksFor, AnswersOver}
+use Rattle.op2_cli.specs.Chains.{answer_of, MeshAnswers, TextOver, IsAnswered, AnswersBy, Over, AsksFor, AnswersOver}
 
 -- ---- halts
 
@@ -237,43 +236,11 @@ pub itself_answered : (told : Option Files) (P : lines.Answer → Type 0) (a : l
 itself_answered None P a h = h
 itself_answered (Some files) P a h = h
 
--- ---- the sample
-
 -- what an answer shows, where it follows
 pub answers_weaker : (P Q : lines.Answer → Type 0) (r : Result Answer Halt) → ((a : lines.Answer) → P a → Q a) → AnswersBy P r → AnswersBy Q r
 answers_weaker P Q (Ok a) step h = (step (answer_of a) h.0, h.1)
 answers_weaker P Q (Err h) step s =
     stops_weaker (λ r. IsAnswered P (refused r)) (λ r. IsAnswered Q (refused r)) h (λ r j. (step (refused r) j.0, j.1)) s
-
-module _ (side : ℕ) where
-  -- the answer of the sample; no file matters
-  abbrev pub OfSide : lines.Answer → Type 0
-  OfSide = ProgramAnswers Run (OfSample side) no_files
-
-  pub tree_refused : (h : Halt) → SpoiltWhere (λ r. TreeIs sample_source (Err r)) h → AnswersBy OfSide (Err h)
-  tree_refused h s = spoilt_answers (λ r. TreeIs sample_source (Err r)) OfSide h (λ r j. inr (sample_source, refl, inl (r, j, refl))) s
-
-  pub types_refused : (p : ProgramTree) (h : Halt) → TreeIs sample_source (Ok p) → SpoiltWhere (λ r. TypesAre p (Err r)) h → AnswersBy OfSide (Err h)
-  types_refused p h reads s =
-      spoilt_answers (λ r. TypesAre p (Err r)) OfSide h (λ r j. inr (sample_source, refl, inr (p, reads, inl (r, j, refl)))) s
-
-  pub sample_answered : (p : ProgramTree) (types : Resolved) (r : Result Answer Halt)
-      → TreeIs sample_source (Ok p)
-      → TypesAre p (Ok types)
-      → AnswersBy (TextAnswers p types (sample_mesh side)) r
-      → AnswersBy OfSide r
-  sample_answered p types r reads typed h =
-      answers_weaker (TextAnswers p types (sample_mesh side)) OfSide r
-      (λ a t. inr (sample_source, refl, inr (p, reads, inr (types, typed, inr (sample_mesh side, refl, t))))) h
-
-  -- words that name no file
-  pub sample_over : (told : Option Files) (rose : Type 0) (r : Result Answer Halt)
-      → AnswersBy OfSide r
-      → AnswersOver told [] (ProgramAnswers Run (OfSample side)) rose r
-  sample_over told rose (Ok a) h = itself_answered told OfSide (answer_of a) h.0
-  sample_over told rose (Err (Refused r)) h = itself_answered told OfSide (refused (refusal_of r)) h.0
-  sample_over told rose (Err (Failed (Unread n))) h = absurd h
-  sample_over told rose (Err (Failed OutOfMemory)) h = tt
 
 -- ---- the words
 

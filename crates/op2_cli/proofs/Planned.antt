@@ -1,149 +1,45 @@
--- From new numbers, owners and plans to what is answered of them.
-use Rattle.std.proofs.Common.{◌≡◌, ◌<◌, ◌≤◌, ℕ, inl, inr, List, [], ◌∷◌, Option, None, Some, Result, Ok, Err, IfSome, refl, ap, sym, subst, ◌∙◌}
+-- From owners and new numbers to plans, and what is answered of them.
+use Rattle.std.proofs.Common.{◌≡◌, ◌<◌, ◌≤◌, ℕ, inl, inr, Bool, List, [], ◌∷◌, Option, None, Some, Result, Ok, Err, IfSome, refl, ap, sym, subst, ◌∙◌}
 use Rattle.std.specs.List.{Contains}
 use Rattle.op_outside.specs.Outside.{Files}
 use Rattle.mesh_decl.specs.declared.owners.Owners.{Owners}
 use Rattle.mesh_decl.specs.declared.owners.Perms.{Perms}
 use Rattle.mesh_decl.specs.Mesh.{MeshValue}
 use Rattle.mesh_decl.specs.Owners.{AreOwners, ArePerms}
-use Rattle.distribute.specs.Parts.{Parts, Text, OwnersRefusal, NoDat, NoMap, Unspelled, UnownedWhere}
-use Rattle.distribute.specs.declared.types.OwnersRefusal.{OwnersRefusal as Unowned}
-use Rattle.distribute.specs.declared.types.OwnersRefusal.TheVariants as unowned
-use Rattle.distribute.specs.Judgements.{OwnersAre}
 use Rattle.distribute.specs.declared.types.Distribution.{Distribution}
 use Rattle.distribute.specs.Distributions.{IsDistribution}
 use Rattle.bound_program.specs.Values.{BoundValue}
-use Rattle.bound_program.specs.Fits.{Fits}
 use Rattle.local_mesh.specs.declared.types.RankMesh.{RankMesh}
 use Rattle.loop_plan.specs.Values.{PlanValue}
 use Rattle.loop_plan.specs.Proper.{Proper, HasLeastColours}
 use Rattle.loop_plan.specs.StepCounts.{program_steps}
-use Rattle.run_model.specs.Programs.{printed, first_fault}
+use Rattle.run_model.specs.Programs.{first_fault}
 use Rattle.loop_plan.specs.Distributed.{IsDistributed, Distributed}
 use Rattle.halo_lists.specs.Halos.{AreHalos}
-use Rattle.answers.specs.Refusal.{Refusal, PartitionBytes, Steps, CannotRead, BeyondLimit}
+use Rattle.schedule_steps.specs.declared.step.Step.{Step}
+use Rattle.schedule_steps.specs.Standard.{standard}
+use Rattle.schedule_steps.specs.Drawn.{IsDrawn}
+use Rattle.answers.specs.Refusal.{ScheduleBytes, Steps, CannotRead, BeyondLimit}
 use Rattle.answers.specs.Lines as lines
 use Rattle.answers.specs.Lines.{most, refused}
-use Rattle.answers.specs.Words.{PlanJob, Check, ShowsPlan, RunsPlan, ByRule, ByFile, Options, names_by}
-use Rattle.answers.specs.Said.{SaysOwners}
+use Rattle.answers.specs.Words.{PlanJob, Check, ShowsPlan, ShowsSchedule, RunsPlan, Standard, Drawn, Written, Options, group_of, names_at}
 use Rattle.answers.specs.Endings.{IsOfContents, IsSomeAnswer}
-use Rattle.answers.specs.Judgements.{IsHeld, NumbersOf, PartsOf, OwnersOf, Planned, IsPlanned, HasManySteps}
-use Rattle.answers.specs.Answers.{planned_answer, PlannedAnswers}
+use Rattle.answers.specs.Judgements.{IsHeld, Planned, IsPlanned, HasManySteps, InStandardOrder, BySeed, ByText, OrderOf, outline_of}
+use Rattle.answers.specs.Judgements.{StepsOf, end_line, IsStepRefused}
+use Rattle.schedule_text.specs.declared.lines.Line.{Line}
+use Rattle.schedule_text.specs.Reading.{Reads as SchedulesRead}
+use Rattle.answers.specs.Answers.{planned_answer, without}
 use Rattle.op2_cli.specs.declared.answered.Answer.{Answer}
 use Rattle.op2_cli.specs.declared.refusals.Failure.TheVariants.{Unread, OutOfMemory}
 use Rattle.op2_cli.specs.declared.refusals.Halt.{Halt}
 use Rattle.op2_cli.specs.declared.refusals.Halt.TheVariants.{Refused, Failed}
 use Rattle.op2_cli.specs.Halts.{refusal_of, SpoiltWhere, UnreadWhere}
-use Rattle.op2_cli.specs.Chains.{OwnersAnswers, NeverOwned, LastAnswers, IsAnswered, AnswersBy, OwnedBy, IsSpread, Holds, AnswersWith}
+use Rattle.op2_cli.specs.Chains.{answer_of, StepsAnswers, ScheduleAnswers, LastAnswers, IsAnswered, AnswersBy, IsSpread, Tell, Holds, AnswersIn, AsksAlways}
 use Rattle.op2_cli.proofs.Chained.{stops_weaker, contains_first, missing}
-use Rattle.op2_cli.proofs.BoundFiles.{given_weaker, answered_with, spoilt_with, with_weaker}
+use Rattle.op2_cli.proofs.BoundFiles.{none_told}
 use Rattle.op2_cli.proofs.Ran.{some_ran}
 
--- ---- owners
-
--- a refusal that says why owners aren't there is one of theirs
-pub owners_refused_by : (o : Options) (b : BoundValue) (parts : Parts) (e : OwnersRefusal) (h : Halt)
-    → OwnersAre b.mesh o.ranks parts (Err e)
-    → SpoiltWhere (SaysOwners e) h
-    → SpoiltWhere (λ r. OwnersOf o b parts (Err r)) h
-owners_refused_by o b parts e h is says =
-    stops_weaker (λ r. SaysOwners e r × IsOfContents r) (λ r. OwnersOf o b parts (Err r) × IsOfContents r) h (λ r x. ((e, is, x.0), x.1)) says
-
--- and so is what ends the judgement of owners
-pub unowned_refuses : (o : Options) (b : BoundValue) (rule : Parts) (e : Unowned) (h : Halt)
-    → UnownedWhere (λ r. OwnersAre b.mesh o.ranks rule (Err r)) e
-    → UnownedWhere (λ r. SpoiltWhere (SaysOwners r) h) e
-    → (e ≡ unowned.OutOfMemory → h ≡ Failed OutOfMemory)
-    → SpoiltWhere (λ r. OwnersOf o b rule (Err r)) h
-unowned_refuses o b rule (unowned.UnknownDat name) h is says memory = owners_refused_by o b rule (NoDat name.now) h is says
-unowned_refuses o b rule (unowned.UnknownMap name) h is says memory = owners_refused_by o b rule (NoMap name.now) h is says
-unowned_refuses o b rule (unowned.Text r) h is says memory = owners_refused_by o b rule (Unspelled r) h is says
-unowned_refuses o b rule unowned.OutOfMemory h is says memory =
-    subst (SpoiltWhere (λ r. OwnersOf o b rule (Err r))) (sym (memory refl)) tt
-
-module _ (o : Options) (b : BoundValue) (told : Option Files) (rose : Type 0) where
-  -- nothing but refusals
-  abbrev Refusals : Files → lines.Answer → Type 0
-  Refusals = OwnersAnswers o b NeverOwned
-
-  pub parts_unread : (name : List ℕ) (h : Halt) → o.parting ≡ ByFile name → UnreadWhere told PartitionBytes name rose h → AnswersWith told (names_by o.parting) Refusals rose (Err h)
-  parts_unread name (Refused r) e u = go told u
-    where
-      go : (t : Option Files) → UnreadWhere t PartitionBytes name rose (Refused r) → Holds t Refusals (refused (refusal_of r))
-      go None c = inr (inl (refusal_of r, c, refl))
-      go (Some files) held = inl (refusal_of r, rw e held, refl)
-  parts_unread name (Failed (Unread other)) e u =
-      (u.1, rw e (subst (Contains (name ∷ [])) (sym u.0) (contains_first name [])), λ files. inl (CannotRead other.now, rw (e, u.0) (missing PartitionBytes name files), refl))
-  parts_unread name (Failed OutOfMemory) e u = tt
-
-  pub rule_refused : (rule : Parts) (h : Halt) → o.parting ≡ ByRule rule → SpoiltWhere (λ r. OwnersOf o b rule (Err r)) h → AnswersWith told (names_by o.parting) Refusals rose (Err h)
-  rule_refused rule h e s = spoilt_with told (names_by o.parting) Refusals rose (λ r. OwnersOf o b rule (Err r)) h (all told) s
-    where
-      all : (t : Option Files) → IfSome t (λ files. (r : Refusal) → OwnersOf o b rule (Err r) → Refusals files (refused r))
-      all None = tt
-      all (Some files) = λ r j. inr (rule, rw e refl, inl (r, j, refl))
-
-  pub text_refused : (name bytes : List ℕ) (h : Halt) → o.parting ≡ ByFile name
-      → IfSome told (λ files. IsHeld PartitionBytes name (files name) (Ok bytes))
-      → SpoiltWhere (λ r. OwnersOf o b (Text bytes) (Err r)) h
-      → AnswersWith told (names_by o.parting) Refusals rose (Err h)
-  text_refused name bytes h e held s = spoilt_with told (names_by o.parting) Refusals rose (λ r. OwnersOf o b (Text bytes) (Err r)) h (all told held) s
-    where
-      all : (t : Option Files)
-          → IfSome t (λ files. IsHeld PartitionBytes name (files name) (Ok bytes))
-          → IfSome t (λ files. (r : Refusal) → OwnersOf o b (Text bytes) (Err r) → Refusals files (refused r))
-      all None k = tt
-      all (Some files) k = λ r j. inr (Text bytes, rw e (bytes, k, refl), inl (r, j, refl))
-
-  pub rule_owned : (rule : Parts) (u : Owners) → o.parting ≡ ByRule rule → OwnersOf o b rule (Ok u) → OwnedBy told o b u
-  rule_owned rule u e h = all told
-    where
-      all : (t : Option Files) → OwnedBy t o b u
-      all None = tt
-      all (Some files) = (rule, rw e refl, h)
-
-  pub text_owned : (name bytes : List ℕ) (u : Owners) → o.parting ≡ ByFile name
-      → IfSome told (λ files. IsHeld PartitionBytes name (files name) (Ok bytes))
-      → OwnersOf o b (Text bytes) (Ok u)
-      → OwnedBy told o b u
-  text_owned name bytes u e held h = all told held
-    where
-      all : (t : Option Files) → IfSome t (λ files. IsHeld PartitionBytes name (files name) (Ok bytes)) → OwnedBy t o b u
-      all None k = tt
-      all (Some files) k = (Text bytes, rw e (bytes, k, refl), h)
-
--- ---- the whole
-
-module _ (j : PlanJob) (o : Options) (b : BoundValue) (fits : Fits b) (told : Option Files) (rose : Type 0) where
-  abbrev Whole : Files → lines.Answer → Type 0
-  Whole files = PlannedAnswers j o files b
-
-  pub numbers_refused : (h : Halt) → SpoiltWhere (λ r. NumbersOf o b (Err r)) h → AnswersWith told (names_by o.parting) Whole rose (Err h)
-  numbers_refused h s = spoilt_with told (names_by o.parting) Whole rose (λ r. NumbersOf o b (Err r)) h (all told) s
-    where
-      all : (t : Option Files) → IfSome t (λ files. (r : Refusal) → NumbersOf o b (Err r) → Whole files (refused r))
-      all None = tt
-      all (Some files) = λ r k. (fits, inl (r, k, refl))
-
-  pub owners_refused : (n : Perms) (h : Halt) → NumbersOf o b (Ok n)
-      → AnswersWith told (names_by o.parting) (OwnersAnswers o b NeverOwned) rose (Err h)
-      → AnswersWith told (names_by o.parting) Whole rose (Err h)
-  owners_refused n h numbered k = with_weaker told (names_by o.parting) (OwnersAnswers o b NeverOwned) Whole rose h step k
-    where
-      step : (files : Files) (a : lines.Answer) → OwnersAnswers o b NeverOwned files a → Whole files a
-      step files a x =
-          (fits, inr (n, numbered, given_weaker (PartsOf o.parting files) (λ parts. _) (λ parts. _) (λ parts. given_weaker (OwnersOf o b parts) NeverOwned (λ u. LastAnswers j o b u n) (λ u a f. absurd f)) a x))
-
-  pub last_answered : (n : Perms) (u : Owners) (r : Result Answer Halt) → NumbersOf o b (Ok n) → OwnedBy told o b u
-      → AnswersBy (LastAnswers j o b u n) r
-      → AnswersWith told (names_by o.parting) Whole rose r
-  last_answered n u r numbered owned h = answered_with told (names_by o.parting) Whole rose (LastAnswers j o b u n) r (all told owned) h
-    where
-      all : (t : Option Files) → OwnedBy t o b u → IfSome t (λ files. (a : lines.Answer) → LastAnswers j o b u n a → Whole files a)
-      all None k = tt
-      all (Some files) k = λ a x. (fits, inr (n, numbered, inr (k.0, k.1, inr (u, k.2, x))))
-
--- ---- plans
+-- ---- distributions
 
 pub spread : (g : MeshValue) (u : Owners) (n : Perms) (d : Distribution) → AreOwners g u → ArePerms g n → IsDistribution g u n d → Distributed g d.halos d.ranks.items
 spread g u n d are_owners are_perms h =
@@ -151,11 +47,6 @@ spread g u n d are_owners are_perms h =
 
 pub spread_by : (b : BoundValue) (d : Distribution) → IsSpread b d → Distributed b.mesh d.halos d.ranks.items
 spread_by b d h = spread b.mesh h.owners h.numbers d h.are_owners h.are_perms h.distributed
-
-some_planned : (j : PlanJob) (b : BoundValue) (p : Planned) → IsSomeAnswer (planned_answer j b p)
-some_planned Check b p = inl (_, refl)
-some_planned ShowsPlan b p = inl (_, refl)
-some_planned RunsPlan b p = some_ran (first_fault b) (printed b)
 
 pub spread_on : (b : BoundValue) (d : Distribution) → IsSpread b d → (n : Perms) × IsDistributed b.mesh d.owners n d.ranks.items × AreHalos b.mesh d.owners d.halos
 spread_on b d h =
@@ -165,17 +56,137 @@ spread_on b d h =
       subst (λ u. AreHalos b.mesh u d.halos) (sym k.owners) k.halos,
     )
 
-module _ (j : PlanJob) (o : Options) (b : BoundValue) (u : Owners) (n : Perms) (d : Distribution) (ranks : List RankMesh) (same : ranks ≡ d.ranks.items) (distributed : IsDistribution b.mesh u n d) where
-  pub plan_answered : (a : lines.Answer) (p : PlanValue)
+-- ---- schedules
+
+pub some_planned : (j : PlanJob) (dumps : Bool) (b : BoundValue) (p : Planned) (steps : List Step) → IsSomeAnswer (planned_answer j dumps b p steps)
+some_planned Check dumps b p steps = inl (_, refl)
+some_planned ShowsPlan dumps b p steps = inl (_, refl)
+some_planned ShowsSchedule dumps b p steps = inl (_, refl)
+some_planned RunsPlan dumps b p steps = some_ran (first_fault b) _
+
+module _ (j : PlanJob) (o : Options) (b : BoundValue) (p : Planned) where
+  pub steps_answered : (order : _) (steps : List Step) (a : lines.Answer)
+      → StepsOf (outline_of b p) (group_of o) order (Ok steps)
+      → a ≡ planned_answer j o.dumps b p steps
+      → IsAnswered (StepsAnswers j o b p order) a
+  steps_answered order steps a is e = (inr (steps, is, e), subst IsSomeAnswer (sym e) (some_planned j o.dumps b p steps))
+
+  -- a step of a text that is refused
+  pub step_refused_by : (bytes : List ℕ) (ls : List Line) (end : ℕ) (h : Halt)
+      → SchedulesRead bytes (Ok ls)
+      → end ≡ end_line bytes
+      → SpoiltWhere (IsStepRefused (outline_of b p) ls end) h
+      → AnswersBy (StepsAnswers j o b p (ByText bytes)) (Err h)
+  step_refused_by bytes ls end h reads e s =
+      stops_weaker (λ r. IsStepRefused (outline_of b p) ls end r × IsOfContents r) (λ r. IsAnswered (StepsAnswers j o b p (ByText bytes)) (refused r)) h
+      (λ r k. (inl (r, inr (ls, reads, subst (λ z. IsStepRefused (outline_of b p) ls z r) e k.0), refl), inr (inl (r, k.1, refl)))) s
+
+  module _ (told : Option Files) (rose : Type 0) where
+    abbrev P : Files → lines.Answer → Type 0
+    P = ScheduleAnswers j o b p
+
+    pub standard_answered : (a : Answer) → o.schedule ≡ Standard
+        → answer_of a ≡ planned_answer j o.dumps b p (standard (outline_of b p) (group_of o))
+        → AnswersIn told (names_at o.schedule) P (AsksAlways P) rose (Ok a)
+    standard_answered a e is = record {
+      all = λ files t. inr (
+        InStandardOrder,
+        subst (λ s. OrderOf s files (Ok InStandardOrder)) (sym e) refl,
+        inr (standard (outline_of b p) (group_of o), refl, is),
+      );
+      some = λ n. subst IsSomeAnswer (sym is) (some_planned j o.dumps b p (standard (outline_of b p) (group_of o)));
+    }
+
+    pub drawn_answered : (a : Answer) (seed : ℕ) (steps : List Step) → o.schedule ≡ Drawn seed
+        → IsDrawn (outline_of b p) (group_of o) seed steps
+        → answer_of a ≡ planned_answer j o.dumps b p steps
+        → AnswersIn told (names_at o.schedule) P (AsksAlways P) rose (Ok a)
+    drawn_answered a seed steps e d is = record {
+      all = λ files t. inr (BySeed seed, subst (λ s. OrderOf s files (Ok (BySeed seed))) (sym e) refl, inr (steps, d, is));
+      some = λ n. subst IsSomeAnswer (sym is) (some_planned j o.dumps b p steps);
+    }
+
+    some_named : (name : List ℕ) → o.schedule ≡ Written name → names_at o.schedule ≡ [] → ⊥
+    some_named name e n = (let w : name ∷ [] ≡ [] = sym (ap names_at e) ∙ n in cc)
+
+    at_told : (name : List ℕ) (Q : Files → Type 0) → o.schedule ≡ Written name → IfSome told Q → (files : Files) → Tell told (names_at o.schedule) files → Q files
+    at_told name Q e h files (inl i) = subst (λ t. IfSome t Q) i h
+    at_told name Q e h files (inr n) = absurd (some_named name e n)
+
+    pub schedule_unread : (name : List ℕ) (h : Halt) → o.schedule ≡ Written name
+        → UnreadWhere told ScheduleBytes name rose h
+        → AnswersIn told (names_at o.schedule) P (AsksAlways P) rose (Err h)
+    schedule_unread name (Refused r) e u = go told u
+      where
+        go : (t : Option Files) → UnreadWhere t ScheduleBytes name rose (Refused r) → Holds t (names_at o.schedule) P (refused (refusal_of r))
+        go None c = record {
+          all = λ files t. absurd (unseen files t);
+          some = λ n. inr (inl (refusal_of r, c, refl));
+        }
+          where
+            unseen : (files : Files) → Tell None (names_at o.schedule) files → ⊥
+            unseen files (inl i) = (let w : None ≡ Some files = i in cc)
+            unseen files (inr n) = some_named name e n
+        go (Some told_files) held = record { all = seen; some = λ n. absurd (none_told (Some told_files) told_files refl n) }
+          where
+            seen : (files : Files) → Tell (Some told_files) (names_at o.schedule) files → P files (refused (refusal_of r))
+            seen files (inl i) =
+                let w : told_files ≡ files = cc in
+                inl (refusal_of r, subst (λ s. OrderOf s files (Err (refusal_of r))) (sym e) (subst (λ f. IsHeld ScheduleBytes name (f name) (Err (refusal_of r))) w held), refl)
+            seen files (inr n) = absurd (some_named name e n)
+    schedule_unread name (Failed (Unread other)) e u = (
+      u.1,
+      subst (λ ns. Contains ns other.now) (sym (ap names_at e)) (subst (Contains (name ∷ [])) (sym u.0) (contains_first name [])),
+      λ files. inl (
+        CannotRead other.now,
+        subst (λ s. OrderOf s (without other.now files) (Err (CannotRead other.now))) (sym e)
+            (subst (λ m. IsHeld ScheduleBytes name (without m files name) (Err (CannotRead m))) (sym u.0) (missing ScheduleBytes name files)),
+        refl,
+      ),
+    )
+    schedule_unread name (Failed OutOfMemory) e u = tt
+
+    pub text_answered : (name bytes : List ℕ) (r : Result Answer Halt) → o.schedule ≡ Written name
+        → IfSome told (λ files. IsHeld ScheduleBytes name (files name) (Ok bytes))
+        → AnswersBy (StepsAnswers j o b p (ByText bytes)) r
+        → AnswersIn told (names_at o.schedule) P (AsksAlways P) rose r
+    text_answered name bytes r e held h = by r h
+      where
+        each : (a : lines.Answer) → IsAnswered (StepsAnswers j o b p (ByText bytes)) a → Holds told (names_at o.schedule) P a
+        each a k = record {
+          all = λ files t. inr (
+            ByText bytes,
+            subst (λ s. OrderOf s files (Ok (ByText bytes))) (sym e) (bytes, at_told name (λ f. IsHeld ScheduleBytes name (f name) (Ok bytes)) e held files t, refl),
+            k.0,
+          );
+          some = λ n. k.1;
+        }
+
+        by : (x : Result Answer Halt) → AnswersBy (StepsAnswers j o b p (ByText bytes)) x → AnswersIn told (names_at o.schedule) P (AsksAlways P) rose x
+        by (Ok a) k = each (answer_of a) k
+        by (Err (Refused r)) k = each (refused (refusal_of r)) k
+        by (Err (Failed (Unread n))) k = absurd k
+        by (Err (Failed OutOfMemory)) k = tt
+
+-- ---- plans
+
+module _ (j : PlanJob) (o : Options) (b : BoundValue) (u : Owners) (n : Perms) (d : Distribution) (ranks : List RankMesh) (same : ranks ≡ d.ranks.items) (distributed : IsDistribution b.mesh u n d)
+    (told : Option Files) (rose : Type 0) where
+  abbrev Last : Files → lines.Answer → Type 0
+  Last = LastAnswers j o b u n
+
+  abbrev Then : PlanValue → Files → lines.Answer → Type 0
+  Then p = ScheduleAnswers j o b (record { distribution = d; plan = p })
+
+  pub plan_answered : (p : PlanValue) (r : Result Answer Halt)
       → Proper b ranks p
       → HasLeastColours b ranks p
       → p.block ≡ o.block
       → p.steps ≡ program_steps b ranks
       → p.steps ≤ most Steps
-      → a ≡ planned_answer j b (record { distribution = d; plan = p })
-      → IsAnswered (LastAnswers j o b u n) a
-  plan_answered a p proper colours block steps few e =
-      (inr (record { distribution = d; plan = p }, planned, e), subst IsSomeAnswer (sym e) (some_planned j b (record { distribution = d; plan = p })))
+      → AnswersIn told (names_at o.schedule) (ScheduleAnswers j o b (record { distribution = d; plan = p })) (AsksAlways (ScheduleAnswers j o b (record { distribution = d; plan = p }))) rose r
+      → AnswersIn told (names_at o.schedule) Last (AsksAlways Last) rose r
+  plan_answered p r proper colours block steps few h = by r h
     where
       planned : IsPlanned o b u n (record { distribution = d; plan = p })
       planned = record {
@@ -186,11 +197,26 @@ module _ (j : PlanJob) (o : Options) (b : BoundValue) (u : Owners) (n : Perms) (
         few = subst (λ k. k ≤ most Steps) (steps ∙ ap (program_steps b) same) few;
       }
 
+      onward : (files : Files) (a : lines.Answer) → Then p files a → Last files a
+      onward files a x = inr (record { distribution = d; plan = p }, planned, x)
+
+      each : (a : lines.Answer) → Holds told (names_at o.schedule) (Then p) a → Holds told (names_at o.schedule) Last a
+      each a k = record { all = λ files t. onward files a (k.all files t); some = k.some }
+
+      by : (x : Result Answer Halt) → AnswersIn told (names_at o.schedule) (Then p) (AsksAlways (Then p)) rose x → AnswersIn told (names_at o.schedule) Last (AsksAlways Last) rose x
+      by (Ok a) k = each (answer_of a) k
+      by (Err (Refused r)) k = each (refused (refusal_of r)) k
+      by (Err (Failed (Unread m))) k = (k.0, k.1, λ files. onward (without m.now files) (refused (CannotRead m.now)) (k.2 files))
+      by (Err (Failed OutOfMemory)) k = tt
+
   pub many_steps : (steps : ℕ)
       → steps ≡ program_steps b ranks
       → most Steps < program_steps b ranks
-      → IsAnswered (LastAnswers j o b u n) (refused (BeyondLimit Steps steps))
-  many_steps steps e l = (inl (BeyondLimit Steps steps, refuses, refl), inr (inl (BeyondLimit Steps steps, tt, refl)))
+      → Holds told (names_at o.schedule) Last (refused (BeyondLimit Steps steps))
+  many_steps steps e l = record {
+    all = λ files t. inl (BeyondLimit Steps steps, refuses, refl);
+    some = λ z. inr (inl (BeyondLimit Steps steps, tt, refl));
+  }
     where
       refuses : HasManySteps b u n (BeyondLimit Steps steps)
       refuses = record {

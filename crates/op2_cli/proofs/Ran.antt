@@ -1,5 +1,6 @@
 -- From the bound program and its run to the answer over a text.
-use Rattle.std.proofs.Common.{◌≡◌, ℕ, List, [], IfSome, Result, Option, None, Some, Ok, Err, inl, inr, option_map, refl, sym, ap₂, ◌∙◌, subst}
+use Rattle.std.proofs.Common.{◌≡◌, ℕ, List, [], Result, Option, None, Some, Ok, Err, inl, inr, option_map, ◌++◌, refl, sym, ap₂, ◌∙◌, subst, append_assoc}
+use Rattle.std.proofs.lemmas.List.{append-nil}
 use Rattle.c_tree.specs.Tree.{ProgramTree}
 use Rattle.kernel_types.specs.declared.faults.KernelFault.{KernelFault}
 use Rattle.kernel_types.specs.declared.kernels.Resolved.{Resolved}
@@ -11,34 +12,21 @@ use Rattle.sequential_run.specs.Outcomes.{IsRunOf, stop_of}
 use Rattle.answers.specs.Lines as lines
 use Rattle.answers.specs.Lines.{refused}
 use Rattle.answers.specs.Refusal.{Refusal}
-use Rattle.answers.specs.Words.{Run}
+use Rattle.answers.specs.Words.{Run, PlanJob, Options, Input, names_from, names_by, names_at}
 use Rattle.answers.specs.Judgements.{EntriesAre, BoundIs, AccessesAre}
-use Rattle.answers.specs.Answers.{ran, JobAnswers}
+use Rattle.answers.specs.Answers.{ran, JobAnswers, BoundAnswers, ProgramAnswers, PlannedAnswers, PlanAnswers}
 use Rattle.answers.specs.Endings.{IsOfContents, IsSomeAnswer}
 use Rattle.op_outside.specs.Outside.{Files}
 use Rattle.op2_cli.specs.declared.answered.Answer.{Answer}
+use Rattle.op2_cli.specs.declared.refusals.Failure.TheVariants.{Unread, OutOfMemory}
 use Rattle.op2_cli.specs.declared.refusals.Halt.{Halt}
+use Rattle.op2_cli.specs.declared.refusals.Halt.TheVariants.{Refused, Failed}
 use Rattle.op2_cli.specs.Halts.{SpoiltWhere}
-use Rattle.op2_cli.specs.Chains.{Never, TextOver, IsBoundOver, IsAnswered, AnswersBy, AnswersWith}
-use Rattle.op2_cli.proofs.Chained.{stops_weaker, spoilt_answers, answers_weaker}
-use Rattle.op2_cli.proofs.BoundFiles.{given_weaker, answered_with}
+use Rattle.op2_cli.specs.Chains.{Never, TextOver, IsBoundWith, Known, IsAnswered, AnswersBy, AsksFor, AnswersOver, AnswersIn, AsksBehind}
+use Rattle.op2_cli.proofs.Chained.{stops_weaker}
+use Rattle.op2_cli.proofs.BoundFiles.{halted_in, bound_answered, in_over}
 
 -- ---- the text of a mesh
-
--- a refusal of the text is one, whatever is answered of the bound program
-pub text_weaker : (rest : BoundValue → lines.Answer → Type 0) (p : ProgramTree) (types : Resolved) (text : List ℕ) (a : lines.Answer)
-    → TextOver Never p types text a
-    → TextOver rest p types text a
-text_weaker rest p types text =
-    given_weaker (EntriesAre text) _ _ (λ es.
-    given_weaker (BoundIs p types es) _ _ (λ b.
-    given_weaker (AccessesAre b) _ _ (λ u a h. absurd h)))
-
-pub text_refused : (rest : BoundValue → lines.Answer → Type 0) (p : ProgramTree) (types : Resolved) (text : List ℕ) (h : Halt)
-    → SpoiltWhere (λ r. TextOver Never p types text (refused r)) h
-    → AnswersBy (TextOver rest p types text) (Err h)
-text_refused rest p types text h s =
-    spoilt_answers (λ r. TextOver Never p types text (refused r)) (TextOver rest p types text) h (λ r j. text_weaker rest p types text (refused r) j) s
 
 module _ (p : ProgramTree) (types : Resolved) (text : List ℕ) where
   abbrev Refuses : Refusal → Type 0
@@ -56,11 +44,6 @@ module _ (p : ProgramTree) (types : Resolved) (text : List ℕ) where
   pub accesses_refused : (es : List Named) (b : BoundValue) (h : Halt) → EntriesAre text (Ok es) → BoundIs p types es (Ok b) → SpoiltWhere (λ r. AccessesAre b (Err r)) h → SpoiltWhere Refuses h
   accesses_refused es b h entries bound s = weaker (λ r. AccessesAre b (Err r)) h (λ r j. inr (es, entries, inr (b, bound, inl (r, j, refl)))) s
 
-  -- the answer of the bound program is that over the text
-  pub text_reached : (rest : BoundValue → lines.Answer → Type 0) (b : BoundValue) (r : Result Answer Halt) → IsBoundOver p types text b → AnswersBy (rest b) r → AnswersBy (TextOver rest p types text) r
-  text_reached rest b r over h =
-      answers_weaker (rest b) (TextOver rest p types text) r (λ a k. inr (over.entries, over.spelled, inr (b, over.is, inr (tt, over.obeyed, k)))) h
-
 -- ---- the run
 
 pub some_ran : (o : Option (Stop KernelFault)) (bytes : List ℕ) → IsSomeAnswer (ran o bytes)
@@ -70,10 +53,53 @@ some_ran (Some x) bytes = inr (inr (bytes, x, refl))
 pub run_answered : (b : BoundValue) (o : Outcome) (a : lines.Answer) → IsRunOf b o → a ≡ ran (option_map stop_of o.stop) o.out.items → IsAnswered (JobAnswers Run b) a
 run_answered b o a run is = (is ∙ ap₂ ran run.stop run.out, subst IsSomeAnswer (sym is) (some_ran (option_map stop_of o.stop) o.out.items))
 
--- no file matters to a run
-pub run_with : (told : Option Files) (b : BoundValue) (rose : Type 0) (r : Result Answer Halt) → AnswersBy (JobAnswers Run b) r → AnswersWith told [] (λ files. JobAnswers Run b) rose r
-run_with told b rose r h = answered_with told [] (λ files. JobAnswers Run b) rose (JobAnswers Run b) r (all told) h
-  where
-    all : (t : Option Files) → IfSome t (λ files. (a : lines.Answer) → JobAnswers Run b a → JobAnswers Run b a)
-    all None = tt
-    all (Some files) = λ a k. k
+-- ---- over files
+
+module _ (told : Option Files) (input : Input) (rose : Type 0) where
+  pub run_halted : (h : Halt)
+      → AnswersIn told (names_from input) (BoundAnswers Never input) (AsksFor told (BoundAnswers Never input)) rose (Err h)
+      → AnswersOver told (names_from input) (ProgramAnswers Run input) rose (Err h)
+  run_halted h k =
+      subst (λ ns. AnswersOver told ns (ProgramAnswers Run input) rose (Err h)) (append-nil (names_from input))
+      (in_over told (names_from input ++ []) (ProgramAnswers Run input) rose (Err h) (halted_in (λ files. JobAnswers Run) input told [] rose h k))
+
+  -- no file matters to a run
+  run_in : (again kept : Option (List ℕ)) (b : BoundValue) (r : Result Answer Halt) → AnswersBy (JobAnswers Run b) r
+      → AnswersIn told [] (λ files. JobAnswers Run b) (AsksBehind told input again b kept (λ files. JobAnswers Run b)) rose r
+  run_in again kept b (Ok a) h = record { all = λ files t. h.0; some = λ n. h.1 }
+  run_in again kept b (Err (Refused r)) h = record { all = λ files t. h.0; some = λ n. h.1 }
+  run_in again kept b (Err (Failed (Unread n))) h = absurd h
+  run_in again kept b (Err (Failed OutOfMemory)) h = tt
+
+  pub run_over : (again kept : Option (List ℕ)) (b : BoundValue) (r : Result Answer Halt)
+      → Known told (names_from input) (IsBoundWith input again b kept)
+      → AnswersBy (JobAnswers Run b) r
+      → AnswersOver told (names_from input) (ProgramAnswers Run input) rose r
+  run_over again kept b r known h =
+      subst (λ ns. AnswersOver told ns (ProgramAnswers Run input) rose r) (append-nil (names_from input))
+      (in_over told (names_from input ++ []) (ProgramAnswers Run input) rose r
+      (bound_answered (λ files. JobAnswers Run) input b again kept told [] rose r known (run_in again kept b r h)))
+
+-- ---- a plan over files
+
+module _ (j : PlanJob) (o : Options) (told : Option Files) (input : Input) (rose : Type 0) where
+  abbrev whole_names : List (List ℕ)
+  whole_names = names_from input ++ names_by o.parting ++ names_at o.schedule
+
+  pub plan_halted : (h : Halt)
+      → AnswersIn told (names_from input) (BoundAnswers Never input) (AsksFor told (BoundAnswers Never input)) rose (Err h)
+      → AnswersOver told whole_names (PlanAnswers j o input) rose (Err h)
+  plan_halted h k =
+      subst (λ ns. AnswersOver told ns (PlanAnswers j o input) rose (Err h)) (sym (append_assoc (names_from input) (names_by o.parting) (names_at o.schedule)))
+      (in_over told (names_from input ++ (names_by o.parting ++ names_at o.schedule)) (PlanAnswers j o input) rose (Err h)
+      (halted_in (PlannedAnswers j o) input told (names_by o.parting ++ names_at o.schedule) rose h k))
+
+  pub plan_over : (again kept : Option (List ℕ)) (b : BoundValue) (r : Result Answer Halt)
+      → Known told (names_from input) (IsBoundWith input again b kept)
+      → AnswersIn told (names_by o.parting ++ names_at o.schedule) (λ files. PlannedAnswers j o files b)
+      (AsksBehind told input again b kept (λ files. PlannedAnswers j o files b)) rose r
+      → AnswersOver told whole_names (PlanAnswers j o input) rose r
+  plan_over again kept b r known h =
+      subst (λ ns. AnswersOver told ns (PlanAnswers j o input) rose r) (sym (append_assoc (names_from input) (names_by o.parting) (names_at o.schedule)))
+      (in_over told (names_from input ++ (names_by o.parting ++ names_at o.schedule)) (PlanAnswers j o input) rose r
+      (bound_answered (PlannedAnswers j o) input b again kept told (names_by o.parting ++ names_at o.schedule) rose r known h))

@@ -1,37 +1,34 @@
 // The answer to the words: the judgements in order, up to the first refusal, and then what is asked for.
 
-ghost use Rattle.std.specs.Prelude.{◌≡◌, ◌≤◌, [], ◌∷◌, ◌++◌, Ok, All, map, length, string_bytes, option_map, IfOk};
+ghost use Rattle.std.specs.Prelude.{◌≡◌, ◌≤◌, [], ◌∷◌, ◌++◌, Ok, Err, All, map, length, string_bytes, option_map, IfOk, IfErr};
 ghost use Rattle.op_outside.specs.Outside.{Rose};
-ghost use Rattle.c_tree.specs.View.{program_of};
 ghost use Rattle.mesh_text.specs.declared.entry.TheConstants.{MESH_BYTES};
 ghost use Rattle.answers.specs.Refusal.{status_of};
 ghost use Rattle.answers.specs.Lines as lines;
-ghost use Rattle.answers.specs.Words.{Run, InFiles, OfSample, names_by, names_of, named_by};
+ghost use Rattle.answers.specs.Words.{Run, WordsAre, names_from, names_by, names_at, names_of, named_by};
 ghost use Rattle.answers.specs.Laws.{AreWithin};
 ghost use Rattle.answers.specs.Answers.{ProgramAnswers, PlanAnswers, ConvertAnswers, CommandAnswers, Answers};
-ghost use Rattle.answers.specs.Endings.{no_files};
-ghost use Rattle.op2_cli.specs.Halts.{refusal_of, command_of, options_in, job_in, IsInRange, IsJudged};
-ghost use Rattle.op2_cli.specs.Chains.{answer_of, TextAnswers, RewriteAnswers, AnswersBy, AnswersOver};
+ghost use Rattle.command_words.specs.Values.{parting_in, options_in, job_in, input_in, command_of, IsInRange};
+ghost use Rattle.op2_cli.specs.Halts.{refusal_of, StopsWhere};
+ghost use Rattle.op2_cli.specs.Chains.{answer_of, again_of, RewriteAnswers, AnswersBy, AnswersOver};
 ghost use Rattle.op2_cli.specs.Writes.{CallAnswers};
 
 use crate::files::file_of;
 use crate::lines::put_refusal;
 use crate::meshes::entries_of;
-use crate::options::Options;
 use crate::plans::planned;
-use crate::programs::{bound_files, bound_over};
+use crate::programs::bound_input;
 use crate::refusals::{Failure, Halt, Limit, Refusal};
 use crate::runs::run_of;
-use crate::sources::{tree_of, types_of};
-use crate::words::{Asked, PlanJob, read_words};
-use answers::{USAGE, VERSION, options_are_within};
-use c_tree::Program;
-use kernel_types::Resolved;
-use mesh_gen::sample;
+use answers::{USAGE, VERSION};
+use command_words::{Asked, Input, Options, Parting, PlanJob, WordsRefusal, read_words};
 use mesh_text::{Form, write_mesh};
 use op_num::OutOfMemory;
 use op_outside::Shelf;
+use par_exec::Gate;
 use std::alloc::Global;
+use std::marker::Sync;
+use std::thread::Threads;
 
 /// An answer: the bytes for the output, and the line for the errors.
 #[derive(Debug, Drop)]
@@ -68,6 +65,10 @@ fn status_of(refusal: &Refusal<'_>) -> u8
         Refusal::BadMesh { .. } => 6,
         Refusal::BadPart(_) => 7,
         Refusal::BadPartition { .. } => 7,
+        Refusal::BadSchedule { .. } => 8,
+        Refusal::BadStep { .. } => 8,
+        Refusal::EarlyStep { .. } => 8,
+        Refusal::LeftStep { .. } => 8,
         Refusal::BeyondLimit { .. } => 10,
     }
 }
@@ -84,68 +85,47 @@ fn refused(alloc: Global, refusal: &Refusal<'_>) -> Result<Answer, OutOfMemory>
     })
 }
 
-// The answer of a program over the text of a mesh.
-fn over_text<'a>(
-    alloc: Global,
-    program: &Program,
-    types: Resolved,
-    text: &[u8],
-) -> Result<Answer, Halt<'a>>
-    requires judged { IsJudged (program_of program.now) types }
-    requires text { length text.now ≤ MESH_BYTES }
-    ensures { AnswersBy (TextAnswers (program_of program.now) types text.now) result }
-{
-    let bound = bound_over(alloc, program, types, text)?;
-    run_of(alloc, &bound)
-}
-
-// The answer of the program in a file over the mesh in a file.
-fn over_files<'a, F: Shelf>(
-    alloc: Global,
-    shelf: &mut F,
-    source: &'a str,
-    mesh: &'a str,
-) -> Result<Answer, Halt<'a>>
-    requires source { F.lends shelf.old source.now }
-    requires mesh { F.lends shelf.old mesh.now }
-    ensures { AnswersOver (F.told shelf.old) (source.now ∷ mesh.now ∷ []) (ProgramAnswers Run (InFiles source.now mesh.now))
+// The answer of the run of a program over a mesh.
+fn to_run<'a, F: Shelf>(alloc: Global, shelf: &mut F, input: Input<'a>) -> Result<Answer, Halt<'a>>
+    requires lent { All (λ name. F.lends shelf.old name) (names_from (input_in input)) }
+    ensures { AnswersOver (F.told shelf.old) (names_from (input_in input.entry)) (ProgramAnswers Run (input_in input.entry))
         (Rose (F.faults shelf.old) (F.faults shelf.new)) result }
 {
-    let bound = bound_files(alloc, shelf, source, mesh)?;
+    let (bound, _) = bound_input(alloc, shelf, input, None)?;
     run_of(alloc, &bound)
 }
 
-// The answer of a job on the plan of the program in a file over the mesh in a file.
-fn plan_of_files<'a, F: Shelf>(
+// The file that tells the owners, if one does.
+fn again_of<'a>(parting: Parting<'a>) -> Option<&'a str>
+    ensures { option_map (λ s. s.now) result ≡ again_of (parting_in parting.entry) }
+{
+    match parting {
+        Parting::ByRule(_) => None,
+        Parting::ByFile(name) => Some(name),
+    }
+}
+
+// The answer of a job on the plan of a program over a mesh.
+fn to_plan<'a, F: Shelf, R: Threads + Sync, G: Gate>(
+    rt: &R,
     alloc: Global,
     shelf: &mut F,
     job: PlanJob,
     options: &Options<'a>,
-    source: &'a str,
-    mesh: &'a str,
+    input: Input<'a>,
+    gate: &G,
 ) -> Result<Answer, Halt<'a>>
-    requires source { F.lends shelf.old source.now }
-    requires mesh { F.lends shelf.old mesh.now }
+    requires input { All (λ name. F.lends shelf.old name) (names_from (input_in input)) }
     requires parting { All (λ name. F.lends shelf.old name) (names_by (options_in options.now).parting) }
+    requires schedule { All (λ name. F.lends shelf.old name) (names_at (options_in options.now).schedule) }
     requires within { AreWithin (options_in options.now) }
-    ensures { AnswersOver (F.told shelf.old) (source.now ∷ mesh.now ∷ names_by (options_in options.now).parting)
-        (PlanAnswers (job_in job) (options_in options.now) source.now mesh.now)
+    ensures { AnswersOver (F.told shelf.old)
+        (names_from (input_in input.entry) ++ names_by (options_in options.now).parting ++ names_at (options_in options.now).schedule)
+        (PlanAnswers (job_in job) (options_in options.now) (input_in input.entry))
         (Rose (F.faults shelf.old) (F.faults shelf.new)) result }
 {
-    let bound = bound_files(alloc, shelf, source, mesh)?;
-    planned(alloc, shelf, job, options, &bound)
-}
-
-// The answer of the sample on a grid of this many cells a side.
-fn over_sample<'a>(alloc: Global, side: u32) -> Result<Answer, Halt<'a>>
-    ensures { AnswersBy (ProgramAnswers Run (OfSample side) no_files) result }
-{
-    let Ok(texts) = sample(alloc, side) else {
-        return Err(Halt::Failed(Failure::OutOfMemory));
-    };
-    let program = tree_of(alloc, &texts.source)?;
-    let types = types_of(alloc, &program)?;
-    over_text(alloc, &program, types, &texts.mesh)
+    let (bound, kept) = bound_input(alloc, shelf, input, again_of(options.parting))?;
+    planned(rt, alloc, shelf, job, options, input, &bound, kept, gate)
 }
 
 // The answer that is the text of a mesh, written again.
@@ -173,10 +153,12 @@ fn converted<'a, F: Shelf>(
 }
 
 // The answer to what is asked for.
-fn to_asked<'a, F: Shelf>(
+fn to_asked<'a, F: Shelf, R: Threads + Sync, G: Gate>(
+    rt: &R,
     alloc: Global,
     shelf: &mut F,
     asked: Asked<'a>,
+    gate: &G,
 ) -> Result<Answer, Halt<'a>>
     requires lent { All (λ name. F.lends shelf.old name) (names_of (command_of asked)) }
     requires within { IsInRange asked }
@@ -184,45 +166,59 @@ fn to_asked<'a, F: Shelf>(
         (Rose (F.faults shelf.old) (F.faults shelf.new)) result }
 {
     match asked {
-        Asked::Run { source, mesh } => over_files(alloc, shelf, source, mesh),
-        Asked::Sample { side } => over_sample(alloc, side),
+        Asked::Run(input) => to_run(alloc, shelf, input),
         Asked::Plan {
             job,
             options,
-            source,
-            mesh,
-        } => plan_of_files(alloc, shelf, job, &options, source, mesh),
+            input,
+        } => to_plan(rt, alloc, shelf, job, &options, input, gate),
         Asked::Convert { form, mesh } => converted(alloc, shelf, form, mesh),
         Asked::Usage => Ok(done(alloc, USAGE)?),
         Asked::Version => Ok(done(alloc, VERSION)?),
     }
 }
 
+// What the words ask for, or what ends the call.
+fn asked_by<'a>(alloc: Global, words: &'a Vec<String>) -> Result<Asked<'a>, Halt<'a>>
+    ensures ok { IfOk result (λ a. WordsAre (map string_bytes words.now.items) (Ok (command_of a))) }
+    ensures in_range { IfOk result IsInRange }
+    ensures err { IfErr result (StopsWhere (λ r. WordsAre (map string_bytes words.now.items) (Err r))) }
+{
+    match read_words(alloc, words) {
+        Ok(asked) => Ok(asked),
+        Err(WordsRefusal::Usage) => Err(Halt::Refused(Refusal::Usage)),
+        Err(WordsRefusal::OutOfMemory) => Err(Halt::Failed(Failure::OutOfMemory)),
+    }
+}
+
 // The answer to the words, where nothing is refused.
-fn to_words<'a, F: Shelf>(
+fn to_words<'a, F: Shelf, R: Threads + Sync, G: Gate>(
+    rt: &R,
     alloc: Global,
     words: &'a Vec<String>,
     shelf: &mut F,
+    gate: &G,
 ) -> Result<Answer, Halt<'a>>
     requires { All (λ name. F.lends shelf.old name) (named_by (map string_bytes words.now.items)) }
     ensures { AnswersOver (F.told shelf.old) (named_by (map string_bytes words.now.items)) (Answers (map string_bytes words.now.items))
         (Rose (F.faults shelf.old) (F.faults shelf.new)) result }
 {
-    options_are_within();
-    let asked = read_words(alloc, words)?;
-    to_asked(alloc, shelf, asked)
+    let asked = asked_by(alloc, words)?;
+    to_asked(rt, alloc, shelf, asked, gate)
 }
 
-/// The answer to the words, or what failed before there is one.
-pub fn answered<'a, F: Shelf>(
+/// The answer to the words, or what failed before there is one. `gate` is told of each element that a group begins.
+pub fn answered<'a, F: Shelf, R: Threads + Sync, G: Gate>(
+    rt: &R,
     alloc: Global,
     words: &'a Vec<String>,
     shelf: &mut F,
+    gate: &G,
 ) -> Result<Answer, Failure<'a>>
     requires { All (λ name. F.lends shelf.old name) (named_by (map string_bytes words.now.items)) }
     ensures { CallAnswers (map string_bytes words.now.items) (F.told shelf.old) (Rose (F.faults shelf.old) (F.faults shelf.new)) result }
 {
-    match to_words(alloc, words, shelf) {
+    match to_words(rt, alloc, words, shelf, gate) {
         Ok(answer) => Ok(answer),
         Err(Halt::Failed(failure)) => Err(failure),
         Err(Halt::Refused(refusal)) => match refused(alloc, &refusal) {

@@ -5,13 +5,14 @@ ghost use Rattle.answers.specs.Lines.{most, limit_name};
 ghost use Rattle.op2_cli.specs.Halts.{limit_of};
 
 use crate::refusals::Limit;
-use answers::{PARTITION_BYTES, SOURCE_BYTES};
+use answers::{PARTITION_BYTES, SCHEDULE_BYTES, SOURCE_BYTES};
 use bound_program::{
     MAX_ARGUMENTS, MAX_CELLS, MAX_DATS, MAX_DIM, MAX_MAPS, MAX_SETS, MAX_SIZE, MAX_TRACE,
     MAX_WEIGHT,
 };
 use loop_plan::MAX_STEPS;
 use mesh_decl::{MESH_BYTES, MESH_VALUES};
+use schedule_text::SCHEDULE_STEPS;
 
 /// The greatest size that the limit allows.
 pub fn most(limit: Limit) -> u64
@@ -32,6 +33,8 @@ pub fn most(limit: Limit) -> u64
         Limit::PrintWeight => MAX_WEIGHT,
         Limit::PartitionBytes => PARTITION_BYTES,
         Limit::Steps => MAX_STEPS,
+        Limit::ScheduleBytes => SCHEDULE_BYTES,
+        Limit::ScheduleSteps => SCHEDULE_STEPS,
     }
 }
 
@@ -54,5 +57,7 @@ pub fn limit_name(limit: Limit) -> &'static [u8]
         Limit::PrintWeight => b"print-weight",
         Limit::PartitionBytes => b"partition-bytes",
         Limit::Steps => b"steps",
+        Limit::ScheduleBytes => b"schedule-bytes",
+        Limit::ScheduleSteps => b"schedule-steps",
     }
 }

@@ -2,8 +2,8 @@
 
 ghost use Rattle.std.specs.Prelude.{◌≡◌, ◌++◌, codes, OnOk};
 ghost use Rattle.std.specs.Fmt.{decimal};
-ghost use Rattle.answers.specs.Refusal.{BadTarget};
-ghost use Rattle.answers.specs.Lines.{at_place, numbered, said_of, line_of, fault_name, part_name, fault_line};
+ghost use Rattle.answers.specs.Refusal.{BadTarget, BadStep, EarlyStep, LeftStep};
+ghost use Rattle.answers.specs.Lines.{at_place, numbered, step_name, said_of, line_of, fault_name, part_name, fault_line};
 ghost use Rattle.op2_cli.specs.Halts.{refusal_of};
 ghost use Rattle.sequential_run.specs.Outcomes.{stop_of};
 
@@ -12,6 +12,7 @@ use crate::refusals::Refusal;
 use c_tree::Pos;
 use kernel_types::KernelFault;
 use op_num::{Fault, OutOfMemory, put_u64};
+use schedule_steps::Step;
 use sequential_run::Stop;
 
 // A place in the source.
@@ -80,6 +81,79 @@ fn put_entry(out: &mut Vec<u8>, element: u32, place: u32) -> Result<(), OutOfMem
     put_counted(out, b" place", place as u64)
 }
 
+// A number, with a space before it.
+fn put_number(out: &mut Vec<u8>, number: u32) -> Result<(), OutOfMemory>
+    ensures { OnOk result (out.new.items ≡ out.old.items ++ (codes " " ++ decimal number)) }
+{
+    out.extend_from_slice(b" ")?;
+    put_u64(out, number as u64)
+}
+
+// The first word of a step and its three numbers, each with a space before it.
+fn put_three(out: &mut Vec<u8>, word: &[u8], a: u32, b: u32, c: u32) -> Result<(), OutOfMemory>
+    ensures { OnOk result (out.new.items
+        ≡ out.old.items ++ (codes " " ++ word.now ++ codes " " ++ decimal a ++ codes " " ++ decimal b ++ codes " " ++ decimal c)) }
+{
+    put_named(out, b" ", word)?;
+    put_number(out, a)?;
+    put_number(out, b)?;
+    put_number(out, c)
+}
+
+// A step.
+fn put_step(out: &mut Vec<u8>, step: Step) -> Result<(), OutOfMemory>
+    ensures { OnOk result (out.new.items ≡ out.old.items ++ step_name step) }
+{
+    match step {
+        Step::Send { item, from, to } => put_three(out, b"send", item, from, to),
+        Step::Recv { item, rank, from } => put_three(out, b"recv", item, rank, from),
+        Step::Begin { item, rank, place } => put_three(out, b"begin", item, rank, place),
+        Step::End { item, rank, place } => put_three(out, b"end", item, rank, place),
+        Step::Join { item } => put_counted(out, b" join", item as u64),
+    }
+}
+
+// What is refused, a number and a line.
+fn put_on_line(out: &mut Vec<u8>, what: &[u8], number: u8, line: u32) -> Result<(), OutOfMemory>
+    ensures { OnOk result (out.new.items ≡ out.old.items ++ (what.now ++ codes " " ++ decimal number ++ codes " line " ++ decimal line)) }
+{
+    put_counted(out, what, number as u64)?;
+    put_counted(out, b" line", line as u64)
+}
+
+// A step of a schedule, and why it is refused.
+fn put_bad_step(out: &mut Vec<u8>, number: u8, line: u32, step: Step) -> Result<(), OutOfMemory>
+    ensures { OnOk result (out.new.items ≡ out.old.items ++ said_of (BadStep number line step)) }
+{
+    put_on_line(out, b"schedule step", number, line)?;
+    put_step(out, step)
+}
+
+// A step that is missing.
+fn put_missing(out: &mut Vec<u8>, missing: Step) -> Result<(), OutOfMemory>
+    ensures { OnOk result (out.new.items ≡ out.old.items ++ (codes " needs" ++ step_name missing)) }
+{
+    out.extend_from_slice(b" needs")?;
+    put_step(out, missing)
+}
+
+// A step of a schedule that comes too early.
+fn put_early(out: &mut Vec<u8>, line: u32, step: Step, missing: Step) -> Result<(), OutOfMemory>
+    ensures { OnOk result (out.new.items ≡ out.old.items ++ said_of (EarlyStep line step missing)) }
+{
+    put_counted(out, b"schedule step 3 line", line as u64)?;
+    put_step(out, step)?;
+    put_missing(out, missing)
+}
+
+// A step that a schedule hasn't.
+fn put_left(out: &mut Vec<u8>, line: u32, missing: Step) -> Result<(), OutOfMemory>
+    ensures { OnOk result (out.new.items ≡ out.old.items ++ said_of (LeftStep line missing)) }
+{
+    put_counted(out, b"schedule step 4 line", line as u64)?;
+    put_missing(out, missing)
+}
+
 // What is refused, without what all lines begin and end with.
 fn put_said(out: &mut Vec<u8>, refusal: &Refusal<'_>) -> Result<(), OutOfMemory>
     ensures { OnOk result (out.new.items ≡ out.old.items ++ said_of (refusal_of refusal.now)) }
@@ -99,15 +173,17 @@ fn put_said(out: &mut Vec<u8>, refusal: &Refusal<'_>) -> Result<(), OutOfMemory>
             place,
         } => put_target(out, *at, map.bytes(), *element, *place),
         Refusal::BadAccess { number, at } => put_numbered(out, b"source access", *number, *at),
-        Refusal::BadMesh { number, line } => {
-            put_counted(out, b"mesh", *number as u64)?;
-            put_counted(out, b" line", *line as u64)
-        }
+        Refusal::BadMesh { number, line } => put_on_line(out, b"mesh", *number, *line),
         Refusal::BadPart(name) => put_named(out, b"partition name ", *name),
-        Refusal::BadPartition { number, line } => {
-            put_counted(out, b"partition", *number as u64)?;
-            put_counted(out, b" line", *line as u64)
-        }
+        Refusal::BadPartition { number, line } => put_on_line(out, b"partition", *number, *line),
+        Refusal::BadSchedule { number, line } => put_on_line(out, b"schedule text", *number, *line),
+        Refusal::BadStep { number, line, step } => put_bad_step(out, *number, *line, *step),
+        Refusal::EarlyStep {
+            line,
+            step,
+            missing,
+        } => put_early(out, *line, *step, *missing),
+        Refusal::LeftStep { line, missing } => put_left(out, *line, *missing),
         Refusal::BeyondLimit { limit, size } => {
             out.extend_from_slice(b"limit ")?;
             put_counted(out, limit_name(*limit), most(*limit))?;

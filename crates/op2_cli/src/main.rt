@@ -3,11 +3,13 @@
 
 mod accesses;
 mod answered;
+#[cfg(test)]
+mod colour_tests;
 mod files;
 mod limits;
 mod lines;
 mod meshes;
-mod options;
+mod owners;
 #[cfg(test)]
 mod plan_tests;
 mod plans;
@@ -20,11 +22,15 @@ mod report;
 #[cfg(test)]
 mod run_tests;
 mod runs;
+#[cfg(test)]
+mod schedule_tests;
+mod schedules;
 mod sources;
+#[cfg(test)]
+mod step_tests;
 #[cfg(test)]
 mod tests;
 mod top;
-mod words;
 
 use op_outside::{FileShelf, OutSink};
 use report::{Line, report};

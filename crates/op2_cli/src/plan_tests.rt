@@ -6,8 +6,8 @@ use std::marker::Sync;
 use std::test::Fail;
 use std::thread::Threads;
 
-// Two edges between three nodes; each edge adds to both of its nodes.
-const EDGES: &str = "extern int nnode;
+/// Two edges between three nodes; each edge adds to both of its nodes.
+pub const EDGES: &str = "extern int nnode;
 extern int nedge;
 extern int edge[];
 extern int r0[];

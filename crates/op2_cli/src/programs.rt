@@ -1,7 +1,7 @@
-// The program in a file, bound to the mesh in a file.
+// The program and the mesh that are asked for, bound.
 
-ghost use Rattle.std.specs.Prelude.{◌≡◌, ◌≤◌, ◌↔◌, ℕ, List, [], ◌∷◌, length, vec_len, Ok, Err, IfOk, IfErr, IfSome, OnOk};
-ghost use Rattle.op_outside.specs.Outside.{Rose};
+ghost use Rattle.std.specs.Prelude.{◌≡◌, ◌≤◌, ◌↔◌, ℕ, All, List, [], ◌∷◌, length, vec_len, option_map, Ok, Err, IfOk, IfErr, IfSome, OnOk};
+ghost use Rattle.op_outside.specs.Outside.{Files, Rose};
 ghost use Rattle.c_tree.specs.View.{program_of};
 ghost use Rattle.mesh_text.specs.declared.entry.TheConstants.{MESH_BYTES};
 ghost use Rattle.bound_program.specs.Values as values;
@@ -9,20 +9,25 @@ ghost use Rattle.bound_program.specs.Fits.{Fits};
 ghost use Rattle.answers.specs.declared.limits.TheConstants.{SOURCE_BYTES};
 ghost use Rattle.answers.specs.Refusal.{SourceBytes, MeshBytes};
 ghost use Rattle.answers.specs.Lines.{refused};
-ghost use Rattle.answers.specs.Words.{InFiles};
+ghost use Rattle.answers.specs.Words.{InFiles, OfSample, names_from};
 ghost use Rattle.answers.specs.Judgements.{IsHeld, FileIs};
 ghost use Rattle.answers.specs.Answers.{BoundAnswers};
+ghost use Rattle.answers.specs.Endings.{no_files};
+ghost use Rattle.command_words.specs.Values.{input_in};
 ghost use Rattle.op2_cli.specs.Halts.{IsJudged, SpoiltWhere, UnreadWhere};
-ghost use Rattle.op2_cli.specs.Chains.{Never, TextOver, IsBoundOver, BoundBy, AnswersOver};
+ghost use Rattle.op2_cli.specs.Chains.{Never, TextOver, IsBoundOver, kept_by, IsBoundIn, IsBoundWith, Known};
+ghost use Rattle.op2_cli.specs.Chains.{AsksFor, AnswersOver, AnswersIn};
 
 use crate::accesses::judge_accesses;
 use crate::files::file_of;
 use crate::meshes::{bound_of, entries_of};
-use crate::refusals::{Halt, Limit};
+use crate::refusals::{Failure, Halt, Limit};
 use crate::sources::{tree_of, types_of};
 use bound_program::Bound;
 use c_tree::Program;
+use command_words::Input;
 use kernel_types::Resolved;
+use mesh_gen::sample;
 use op_outside::Shelf;
 use std::alloc::Global;
 
@@ -70,20 +75,43 @@ fn mesh_of<'a, F: Shelf>(
     file_of(alloc, shelf, mesh, Limit::MeshBytes)
 }
 
-/// The program in the file `source`, bound to the mesh in the file `mesh`; its kernels keep to their accesses.
-pub fn bound_files<'a, F: Shelf>(
+// What is kept of the bytes of a source and a mesh: those of the file that is read again, if it is one of the two.
+fn kept<'a>(
+    again: Option<&'a str>,
+    source: &str,
+    bytes: Vec<u8>,
+    mesh: &str,
+    text: Vec<u8>,
+) -> Option<Vec<u8>>
+    ensures { option_map (λ v. v.items) result
+        ≡ kept_by (option_map (λ s. s.now) again.entry) source.entry.now bytes.items mesh.entry.now text.items }
+{
+    let name = again?;
+    if name == source {
+        Some(bytes)
+    } else if name == mesh {
+        Some(text)
+    } else {
+        None
+    }
+}
+
+// The program in the file `source`, bound to the mesh in the file `mesh`, and what is kept for the file that is read again.
+fn bound_files<'a, F: Shelf>(
     alloc: Global,
     shelf: &mut F,
     source: &'a str,
     mesh: &'a str,
-) -> Result<Bound, Halt<'a>>
+    again: Option<&'a str>,
+) -> Result<(Bound, Option<Vec<u8>>), Halt<'a>>
     requires source { F.lends shelf.old source.now }
     requires mesh { F.lends shelf.old mesh.now }
     ensures told { F.told shelf.new ≡ F.told shelf.old }
     ensures lends { (n : List ℕ) → F.lends shelf.old n ↔ F.lends shelf.new n }
     ensures calm { OnOk result (F.faults shelf.new ≡ F.faults shelf.old) }
-    ensures ok { IfOk result (λ b. BoundBy (F.told shelf.old) source.now mesh.now (values.bound_of b)) }
-    ensures fits { IfOk result (λ b. Fits (values.bound_of b)) }
+    ensures ok { IfOk result (λ r. Known (F.told shelf.old) (source.now ∷ mesh.now ∷ [])
+        (IsBoundWith (InFiles source.now mesh.now) (option_map (λ s. s.now) again.entry) (values.bound_of r.0) (option_map (λ v. v.items) r.1))) }
+    ensures fits { IfOk result (λ r. Fits (values.bound_of r.0)) }
     ensures err { IfErr result (λ h. AnswersOver (F.told shelf.old) (source.now ∷ mesh.now ∷ [])
         (BoundAnswers Never (InFiles source.now mesh.now)) (Rose (F.faults shelf.old) (F.faults shelf.new)) (Err h)) }
 {
@@ -92,5 +120,48 @@ pub fn bound_files<'a, F: Shelf>(
     let types = types_of(alloc, &program)?;
     let text = mesh_of(alloc, shelf, mesh, source, &bytes)?;
     let bound = bound_over(alloc, &program, types, &text)?;
+    Ok((bound, kept(again, source, bytes, mesh, text)))
+}
+
+// The sample on a grid of this many cells a side, bound to its mesh.
+fn bound_sample<'a>(alloc: Global, side: u32) -> Result<Bound, Halt<'a>>
+    ensures ok { IfOk result (λ b. (files : Files) → IsBoundIn (OfSample side) (values.bound_of b) files) }
+    ensures fits { IfOk result (λ b. Fits (values.bound_of b)) }
+    ensures err { IfErr result (SpoiltWhere (λ r. BoundAnswers Never (OfSample side) no_files (refused r))) }
+{
+    let Ok(texts) = sample(alloc, side) else {
+        return Err(Halt::Failed(Failure::OutOfMemory));
+    };
+    let program = tree_of(alloc, &texts.source)?;
+    let types = types_of(alloc, &program)?;
+    let bound = bound_over(alloc, &program, types, &texts.mesh)?;
     Ok(bound)
+}
+
+/// The program and the mesh that are asked for, bound; the program's kernels keep to their accesses. Beside it, of the file
+/// `again`, if it is that of the source or of the mesh, the bytes.
+pub fn bound_input<'a, F: Shelf>(
+    alloc: Global,
+    shelf: &mut F,
+    input: Input<'a>,
+    again: Option<&'a str>,
+) -> Result<(Bound, Option<Vec<u8>>), Halt<'a>>
+    requires lent { All (λ name. F.lends shelf.old name) (names_from (input_in input)) }
+    ensures told { F.told shelf.new ≡ F.told shelf.old }
+    ensures lends { (n : List ℕ) → F.lends shelf.old n ↔ F.lends shelf.new n }
+    ensures calm { OnOk result (F.faults shelf.new ≡ F.faults shelf.old) }
+    ensures ok { IfOk result (λ r. Known (F.told shelf.old) (names_from (input_in input.entry))
+        (IsBoundWith (input_in input.entry) (option_map (λ s. s.now) again.entry) (values.bound_of r.0) (option_map (λ v. v.items) r.1))) }
+    ensures fits { IfOk result (λ r. Fits (values.bound_of r.0)) }
+    ensures err { IfErr result (λ h. AnswersIn (F.told shelf.old) (names_from (input_in input.entry))
+        (BoundAnswers Never (input_in input.entry)) (AsksFor (F.told shelf.old) (BoundAnswers Never (input_in input.entry)))
+        (Rose (F.faults shelf.old) (F.faults shelf.new)) (Err h)) }
+{
+    match input {
+        Input::InFiles { source, mesh } => bound_files(alloc, shelf, source, mesh, again),
+        Input::OfSample { side } => {
+            let bound = bound_sample(alloc, side)?;
+            Ok((bound, None))
+        }
+    }
 }

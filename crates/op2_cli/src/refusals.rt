@@ -2,6 +2,7 @@
 
 use c_tree::Pos;
 use op_num::Name;
+use schedule_steps::Step;
 use std::alloc::AllocError;
 
 /// A size that has a limit.
@@ -21,6 +22,8 @@ pub enum Limit {
     PrintWeight,
     PartitionBytes,
     Steps,
+    ScheduleBytes,
+    ScheduleSteps,
 }
 
 /// A refusal: one variant for each line that the program writes about its words and its files.
@@ -76,6 +79,28 @@ pub enum Refusal<'a> {
     BadPartition {
         number: u8,
         line: u32,
+    },
+    /// The text of a schedule spells no steps.
+    BadSchedule {
+        number: u8,
+        line: u32,
+    },
+    /// A step of a schedule that the plan hasn't, or that was taken.
+    BadStep {
+        number: u8,
+        line: u32,
+        step: Step,
+    },
+    /// A step of a schedule before one that has to come first.
+    EarlyStep {
+        line: u32,
+        step: Step,
+        missing: Step,
+    },
+    /// A step of the plan that a schedule hasn't; its text ends on that line.
+    LeftStep {
+        line: u32,
+        missing: Step,
     },
     /// A size is beyond its limit.
     BeyondLimit {

@@ -1,6 +1,6 @@
 // Runs of a bound program, without ranks and on them.
 
-ghost use Rattle.std.specs.Prelude.{◌≡◌, Ok, option_map, IfOk};
+ghost use Rattle.std.specs.Prelude.{◌≡◌, List, Ok, option_map, IfOk};
 ghost use Rattle.bound_program.specs.Values.{bound_of};
 ghost use Rattle.bound_program.specs.Fits.{Fits};
 ghost use Rattle.run_model.specs.Programs.{printed, first_fault};
@@ -8,7 +8,14 @@ ghost use Rattle.sequential_run.specs.Outcomes.{stop_of};
 ghost use Rattle.rank_exec.specs.Stops.{stop_in};
 ghost use Rattle.loop_plan.specs.Values.{plan_of};
 ghost use Rattle.loop_plan.specs.Proper.{Proper};
+ghost use Rattle.loop_plan.specs.StepOutline.{step_outline};
+ghost use Rattle.schedule_steps.specs.declared.step.Step.{Step as StepValue};
+ghost use Rattle.schedule_check.specs.Mail.{plan_cells};
+ghost use Rattle.bound_plan.specs.Memories.{dump_of, run_output};
+ghost use Rattle.planned_run.specs.Orders.{InOrder, CanTake};
+ghost use Rattle.command_words.specs.Values.{options_in};
 ghost use Rattle.answers.specs.Words.{Run};
+ghost use Rattle.answers.specs.Laws.{AreWithin};
 ghost use Rattle.answers.specs.Judgements.{AccessesAre};
 ghost use Rattle.answers.specs.Answers.{ran, JobAnswers};
 ghost use Rattle.op2_cli.specs.Chains.{answer_of, AnswersBy, IsSpread};
@@ -18,12 +25,16 @@ use crate::lines::put_fault;
 use crate::ranges::starts_in_range;
 use crate::refusals::Halt;
 use bound_program::Bound;
+use command_words::Options;
 use distribute::Distribution;
 use loop_plan::Plan;
 use op_num::OutOfMemory;
-use planned_run::run_on_ranks;
+use par_exec::Gate;
+use planned_run::{Order, run_on_ranks};
 use sequential_run::{Outcome, Stop, run};
 use std::alloc::Global;
+use std::marker::Sync;
+use std::thread::Threads;
 
 // The answer of a run.
 fn ran(alloc: Global, outcome: Outcome) -> Result<Answer, OutOfMemory>
@@ -69,28 +80,44 @@ fn without_ranks(outcome: planned_run::Outcome) -> Outcome
     }
 }
 
-/// The answer of the run of a bound program on the ranks of a distribution, by a plan for them: that of its run without ranks.
-/// An error is want of memory.
-pub fn run_on(
+/// The answer of the run of a bound program on the ranks of a distribution, by a plan for them whose steps are taken in this
+/// order: that of its run without ranks, with a dump of the memories behind it where the options ask for one. An error is want of
+/// memory.
+pub fn run_on<R: Threads + Sync, G: Gate>(
+    rt: &R,
     alloc: Global,
+    options: &Options<'_>,
     bound: &Bound,
     found: &Distribution,
     plan: &Plan,
+    order: &Order<'_>,
+    gate: &G,
 ) -> Result<Answer, OutOfMemory>
+    requires within { AreWithin (options_in options.now) }
     requires fits { Fits (bound_of bound.now) }
     requires obeyed { AccessesAre (bound_of bound.now) (Ok tt) }
     requires found { IsSpread (bound_of bound.now) found.now }
     requires plan { Proper (bound_of bound.now) found.now.ranks.items (plan_of plan.now) }
-    ensures { IfOk result (λ a. answer_of a ≡ ran (first_fault (bound_of bound.now)) (printed (bound_of bound.now))) }
+    requires order { CanTake (step_outline (bound_of bound.now) found.now.ranks.items (plan_of plan.now))
+        (plan_cells (bound_of bound.now) found.now.ranks.items (plan_of plan.now)) order.now }
+    ensures { IfOk result (λ a. (l : List StepValue)
+        → InOrder (step_outline (bound_of bound.now) found.now.ranks.items (plan_of plan.now)) order.now l
+        → answer_of a ≡ ran (first_fault (bound_of bound.now)) (run_output (bound_of bound.now)
+        (dump_of options.now.dumps (bound_of bound.now) found.now.owners found.now.ranks.items (plan_of plan.now) l))) }
 {
     starts_in_range(bound);
     let outcome = run_on_ranks(
+        rt,
         alloc,
         bound,
         &found.owners,
         &found.halos,
         &found.ranks,
         plan,
+        order,
+        options.workers,
+        gate,
+        options.dumps,
     )?;
     ran(alloc, without_ranks(outcome))
 }

@@ -14,18 +14,18 @@ use answers::{
     usage_is_of_words,
 };
 use op_outside::{Shelf, Sink, write_all_of};
+use par_exec::{Gate, Open};
 use std::alloc::Global;
 use std::marker::Sync;
 use std::thread::Threads;
 
 /// Does what the words say, and answers the status that the program ends with.
 ///
-/// `words` has the program's name first; the words after it are `run`, the name of a source file and the name of a mesh
-/// file, or ask for the usage or the version. What the source prints is written to `out` when the run is over. Where the
-/// call ends with another status than 0, one line is written to `err`, and where it is neither 0, 4 nor 9, nothing to
-/// `out`. `rt` starts the threads of later stages.
+/// `words` has the program's name first; `op2 --help` tells what may stand behind it. What is written to `out` is written at the
+/// end. Where the call ends with another status than 0, one line is written to `err`, and where it is neither 0, 4 nor 9, nothing
+/// to `out`. `rt` starts the threads of `--workers`.
 pub fn op2<R: Threads + Sync, F: Shelf, O: Sink, E: Sink>(
-    _rt: &R,
+    rt: &R,
     alloc: Global,
     words: &Vec<String>,
     shelf: &mut F,
@@ -46,12 +46,37 @@ pub fn op2<R: Threads + Sync, F: Shelf, O: Sink, E: Sink>(
       err = (E.written err.old, E.written err.new);
     }) result }
 {
+    op2_gated(rt, alloc, words, shelf, out, err, &Open)
+}
+
+/// The same for every gate: it is told of each element that a group begins, on the thread that runs its kernel, by its number in
+/// the group.
+pub fn op2_gated<R: Threads + Sync, F: Shelf, O: Sink, E: Sink, G: Gate>(
+    rt: &R,
+    alloc: Global,
+    words: &Vec<String>,
+    shelf: &mut F,
+    out: &mut O,
+    err: &mut E,
+    gate: &G,
+) -> u8
+    requires { All (λ name. F.lends shelf.old name) (named_by (map string_bytes words.now.items)) }
+    ensures { EndsAsDefined (record {
+      words = map string_bytes words.now.items;
+      told = F.told shelf.old;
+      reads = (F.faults shelf.old, F.faults shelf.new);
+      writes = (O.faults out.old, O.faults out.new);
+      reports = (E.faults err.old, E.faults err.new);
+      out = (O.written out.old, O.written out.new);
+      err = (E.written err.old, E.written err.new);
+    }) result }
+{
     calls_are_complete();
     usage_is_of_words();
     calls_show_their_answers();
     calls_report_their_answers();
     others_write_nothing();
-    match answered(alloc, words, shelf) {
+    match answered(rt, alloc, words, shelf, gate) {
         Ok(answer) => write_answer(&answer, out, err),
         Err(failure) => write_failure(failure, err),
     }

@@ -1,16 +1,13 @@
 use Rattle.std.proofs.Common.{All, map, string_bytes, ap, subst}
+use Rattle.std.proofs.lemmas.Result.{err_from_is_err_and}
 use Rattle.op_outside.specs.Outside.{Rose}
 use Rattle.answers.specs.Words.{names_in}
-use Rattle.op2_cli.specs.Halts.{command_of}
-use Rattle.op2_cli.proofs.Asking.{in_range}
+use Rattle.command_words.specs.Values.{command_of}
 use Rattle.op2_cli.proofs.Chained.{command_answered}
 use Rattle.op2_cli.proofs.answered.to_words.Goals as goal
 
-pub to_asked-requires-clause-within : goal.to_asked-requires-clause-within
-to_asked-requires-clause-within g c = in_range c.options_are_within.ensures (map string_bytes c.args.words.now.items) c.in_ok-asked.asked c.in_ok-asked.ensures.ok
-
 pub to_asked-requires-clause-lent : goal.to_asked-requires-clause-lent
-to_asked-requires-clause-lent g c = subst (All (g.F.Shelf.lends c.args.shelf.now)) (ap names_in c.in_ok-asked.ensures.ok) c.requires
+to_asked-requires-clause-lent g c κs within = subst (All (g.F.Shelf.lends c.args.shelf.now)) (ap names_in c.in_ok-asked.ensures.ok) c.requires
 
 pub returns : goal.returns
 returns g c =

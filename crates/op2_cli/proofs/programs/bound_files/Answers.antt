@@ -1,10 +1,11 @@
-use Rattle.std.proofs.Common.{[], ◌∷◌, rules}
+use Rattle.std.proofs.Common.{◌≡◌, [], ◌∷◌, option_map, ap, sym, subst, ◌∙◌, rules}
 use Rattle.std.proofs.lemmas.Result.{err_from_is_err_and}
 use Rattle.op_outside.specs.Outside.{Rose}
 use Rattle.c_tree.specs.View.{program_of}
 use Rattle.bound_program.specs.Values.{bound_of}
 use Rattle.answers.specs.Refusal.{SourceBytes}
-use Rattle.op2_cli.specs.Chains.{Never}
+use Rattle.answers.specs.Words.{InFiles}
+use Rattle.op2_cli.specs.Chains.{Never, Known, IsBoundWith, kept_by}
 use Rattle.op2_cli.proofs.Chained.{read_first, tree_refused_over, types_refused_over, mesh_unread_over, text_refused_over}
 use Rattle.op2_cli.proofs.BoundFiles.{bound_by}
 use Rattle.op2_cli.proofs.programs.bound_files.Goals as goal
@@ -39,5 +40,16 @@ returns-in_err-bound-clause-err g c =
 pub returns-clause-ok : goal.returns-clause-ok
 returns-clause-ok g c =
     let there = rw c.in_ok-bytes.ensures.told at c.in_ok-text.ensures.read in
-    bound_by c.args.source.now c.args.mesh.now c.deref.result.now c.deref-3.result.now (program_of c.in_ok-program.program) c.in_ok-types.types (bound_of c.in_ok-bound.bound) (search rules) (search rules) c.in_ok-program.ensures.ok c.in_ok-types.ensures.ok c.in_ok-bound.ensures.ok
-    (λ e. rw (c.deref-3.ensures.value, c.deref.ensures.value, ← c.deref-2.ensures.value) (c.in_ok-text.ensures.once e)) (g.F.Shelf.told c.args.shelf.now) (rw c.deref.ensures.value c.in_ok-bytes.ensures.read) (rw c.deref-3.ensures.value there)
+    let told = g.F.Shelf.told c.args.shelf.now in
+    let source = c.args.source.now in
+    let mesh = c.args.mesh.now in
+    let again = option_map (λ s. s.now) c.args.again in
+    let b = bound_of c.in_ok-bound.bound in
+    let kept : option_map (λ v. v.items) c.kept.result ≡ kept_by again source c.deref.result.now mesh c.deref-3.result.now =
+    c.kept.ensures ∙ (ap (λ z. kept_by again source z mesh c.in_ok-text.text.items) (sym c.deref.ensures.value)
+    ∙ ap (λ z. kept_by again source c.deref.result.now mesh z) (sym c.deref-3.ensures.value)) in
+    subst (λ k. Known told (source ∷ mesh ∷ []) (IsBoundWith (InFiles source mesh) again b k)) (sym kept)
+    (bound_by source mesh c.deref.result.now c.deref-3.result.now (program_of c.in_ok-program.program) c.in_ok-types.types b (search rules) (search rules)
+    c.in_ok-program.ensures.ok c.in_ok-types.ensures.ok c.in_ok-bound.ensures.ok
+    (λ e. rw (c.deref-3.ensures.value, c.deref.ensures.value, ← c.deref-2.ensures.value) (c.in_ok-text.ensures.once e)) again told
+    (rw c.deref.ensures.value c.in_ok-bytes.ensures.read) (rw c.deref-3.ensures.value there))

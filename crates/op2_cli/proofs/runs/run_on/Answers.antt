@@ -6,13 +6,14 @@ use Rattle.op2_cli.proofs.Planned.{spread_on}
 use Rattle.op2_cli.proofs.runs.run_on.Goals as goal
 
 pub run_on_ranks-requires-clause-obey : goal.run_on_ranks-requires-clause-obey
-run_on_ranks-requires-clause-obey c = λ n f lt at. c.requires.obeyed n no_site lt f at
+run_on_ranks-requires-clause-obey g c κs within = λ n f lt at. c.requires.obeyed n no_site lt f at
 
 pub run_on_ranks-requires-clause-spread : goal.run_on_ranks-requires-clause-spread
-run_on_ranks-requires-clause-spread c = rw c.deref.ensures.value (spread_on (bound_of c.args.bound.now) c.args.found.now c.requires.found)
+run_on_ranks-requires-clause-spread g c κs within = rw c.deref.ensures.value (spread_on (bound_of c.args.bound.now) c.args.found.now c.requires.found)
 
 pub returns : goal.returns
-returns c =
+returns g c =
+    let run = rw c.deref.ensures.value at c.in_ok-outcome.ensures in
     if_ok_weaker c.ran.result _ _
-    (λ a e. e ∙ ap₂ ran (c.without_ranks.ensures.stop ∙ c.in_ok-outcome.ensures.stop) (ap (λ v. v.items) c.without_ranks.ensures.out ∙ c.in_ok-outcome.ensures.out))
+    (λ a e l i. e ∙ ap₂ ran (c.without_ranks.ensures.stop ∙ (run l i).stop) (ap (λ v. v.items) c.without_ranks.ensures.out ∙ (run l i).out))
     c.ran.ensures
