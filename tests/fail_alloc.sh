@@ -9,14 +9,19 @@ cat >"$work/shim.c" <<'C'
 #define _GNU_SOURCE
 #include <dlfcn.h>
 #include <errno.h>
-#include <stdio.h>
+#include <fcntl.h>
 #include <stdlib.h>
-static long count;
-static int fails(void) {
-  static long at = -1;
-  if (at < 0) { const char *s = getenv("FAIL_AT"); at = s ? atol(s) : 0; }
-  return __atomic_add_fetch(&count, 1, __ATOMIC_SEQ_CST) == at;
+#include <sys/mman.h>
+#include <unistd.h>
+static long here, at, *count = &here;
+// The count is in a file, so that it is there however the program ends.
+__attribute__((constructor)) static void begin(void) {
+  const char *name = getenv("COUNT_TO"), *number = getenv("FAIL_AT");
+  int f = name ? open(name, O_RDWR | O_CREAT, 0600) : -1;
+  if (f >= 0 && !ftruncate(f, sizeof here)) count = mmap(0, sizeof here, PROT_READ | PROT_WRITE, MAP_SHARED, f, 0);
+  at = number ? atol(number) : 0;
 }
+static int fails(void) { return __atomic_add_fetch(count, 1, __ATOMIC_SEQ_CST) == at; }
 void *malloc(size_t n) {
   static void *(*real)(size_t);
   if (!real) real = dlsym(RTLD_NEXT, "malloc");
@@ -41,11 +46,6 @@ int posix_memalign(void **p, size_t a, size_t n) {
   if (fails()) return ENOMEM;
   return real(p, a, n);
 }
-__attribute__((destructor)) static void tell(void) {
-  const char *name = getenv("COUNT_TO");
-  FILE *f = name ? fopen(name, "w") : 0;
-  if (f) { fprintf(f, "%ld\n", count); fclose(f); }
-}
 C
 cc -shared -fPIC -O1 -o "$work/shim.so" "$work/shim.c" -ldl || exit 70
 "$here/op2" --version >/dev/null || exit 70
@@ -54,9 +54,10 @@ bad=0
 
 # The words of a call.
 try() {
+    rm -f "$work/count"
     COUNT_TO=$work/count LD_PRELOAD=$work/shim.so "$program" "$@" >"$work/whole" 2>"$work/line"
     status=$?
-    all=$(cat "$work/count")
+    all=$(od -An -td8 "$work/count" | tr -d ' ')
     at=1
     spared=0
     while [ "$at" -le "$all" ]; do
