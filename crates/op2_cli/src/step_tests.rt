@@ -65,29 +65,38 @@ fn exchanging(alloc: Global) -> Result<String, AllocError> {
     )
 }
 
-// A job of them on two ranks in this order, where `t` holds the schedule.
-fn ordered<R: Threads + Sync>(
+// A call with these words on them, where `p` holds the owners and `t` the schedule.
+fn ordered<'a, R: Threads + Sync>(
     rt: &R,
     alloc: Global,
-    job: &str,
-    order: &str,
-    schedule: &str,
+    words: &[&str],
+    source: &'a str,
+    schedule: &'a str,
     failing: Failing,
 ) -> Result<Ended, AllocError> {
-    let source = exchanging(alloc)?;
-    let words = [job, "s.c", "m.mesh", "--ranks=2", "--partition=p", order];
     let files = [
         ("s.c", source.as_bytes()),
         ("m.mesh", MESH.as_bytes()),
         ("p", OWNERS.as_bytes()),
         ("t", schedule.as_bytes()),
     ];
-    held(rt, alloc, &words, &files, failing)
+    held(rt, alloc, words, &files, failing)
 }
 
 #[test]
 fn a_step_that_is_left_out_is_missed(rt: HostRuntime) -> Result<(), Fail> {
     let alloc = rt.alloc();
+    let source = exchanging(alloc)?;
+    let run: &[&str] = &[
+        "run",
+        "s.c",
+        "m.mesh",
+        "--ranks=2",
+        "--partition=p",
+        "--schedule=t",
+    ];
+    let steps: &[&str] = &["schedule", "s.c", "m.mesh", "--ranks=2", "--partition=p"];
+    let plan: &[&str] = &["plan", "s.c", "m.mesh", "--ranks=2", "--partition=p"];
     for (step, line) in [
         (
             "\nbegin 0 0 0",
@@ -120,7 +129,7 @@ fn a_step_that_is_left_out_is_missed(rt: HostRuntime) -> Result<(), Fail> {
         ("\njoin 3", "op2: schedule step 4 line 19 needs join 3\n"),
     ] {
         let schedule = replaced(alloc, STANDARD, step, "")?;
-        let ended = ordered(&rt, alloc, "run", "--schedule=t", &schedule, NEVER)?;
+        let ended = ordered(&rt, alloc, run, &source, &schedule, NEVER)?;
         assert_eq!(rt; ended.status, 8);
         assert_eq!(rt; ended.out.bytes(), b"".as_slice());
         assert_eq!(rt; ended.err.bytes(), line.as_bytes());
@@ -135,18 +144,17 @@ fn a_step_that_is_left_out_is_missed(rt: HostRuntime) -> Result<(), Fail> {
             reads: Some(read),
             ..NEVER
         };
-        let ended = ordered(&rt, alloc, "run", "--schedule=t", STANDARD, failing)?;
+        let ended = ordered(&rt, alloc, run, &source, STANDARD, failing)?;
         assert_eq!(rt; ended.status, 3);
         assert_eq!(rt; ended.out.bytes(), b"".as_slice());
         assert_eq!(rt; ended.err.bytes(), line.as_bytes());
     }
-    for (job, order, out) in [
-        ("run", "--schedule=t", "r.txt: r nodes 3 1\n1\n1\n-2\n"),
-        ("schedule", "--schedule=t", STANDARD),
-        ("schedule", "--workers=1", STANDARD),
-        ("plan", "--schedule=t", PLAN),
+    for (words, out) in [
+        (run, "r.txt: r nodes 3 1\n1\n1\n-2\n"),
+        (steps, STANDARD),
+        (plan, PLAN),
     ] {
-        let ended = ordered(&rt, alloc, job, order, STANDARD, NEVER)?;
+        let ended = ordered(&rt, alloc, words, &source, STANDARD, NEVER)?;
         assert_eq!(rt; ended.status, 0);
         assert_eq!(rt; ended.out.bytes(), out.as_bytes());
     }
