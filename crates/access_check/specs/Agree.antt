@@ -1,6 +1,7 @@
 -- Sets of components that have the same of those below the dims, and counters that have their cells.
 use Rattle.std.specs.Prelude.{◌≡◌, ℕ, ◌<◌, ◌^◌, List, Bool, false}
-use Rattle.kernel_types.specs.declared.statements.RStmt.{RStmt, Block', Declare, SetScalar, SetLocal, SetArg, If', For', Row_of-RStmt, end_of-RStmt, more_of-RStmt}
+use Rattle.kernel_types.specs.declared.statements.RStmt.{RStmt, Block', Declare, SetScalar, SetLocal, SetArg, If', For', Row_of-RStmt}
+use Rattle.kernel_types.specs.declared.statements.RStmt.{end_of-RStmt, more_of-RStmt}
 use Rattle.kernel_model.specs.Obeys.{Mode, mode_at, Counters}
 use Rattle.kernel_model.specs.Walk.{Breach, Covered, stmt_found, covered_after}
 use Rattle.access_check.specs.Indices.{stmt_names}
@@ -20,7 +21,8 @@ module _ (cells : ℕ) (named : ℕ → Bool) where
     CountersFit (SetLocal from count form ix at op opat e) = Unit {0}
     CountersFit (SetArg a form ix at op opat e) = Unit {0}
     CountersFit (If' e p a q b) = CountersFit a × CountersFit b
-    CountersFit (For' k first past p body) = (k < cells) × (past < 2 ^ 31) × (named k ≡ false → stmt_names body k ≡ false) × CountersFit body
+    CountersFit (For' k first past p body) = (k < cells) × (past < 2 ^ 31) × (named k ≡ false → stmt_names body k ≡ false)
+        × CountersFit body
 
     -- of each statement of a block
     pub RowCountersFit : {m : _} → Row_of-RStmt m → Type 0

@@ -28,7 +28,8 @@ fn after_chain(
     found: Option<Breach>,
 ) -> Option<Breach>
     requires modes { AreSmall modes.now }
-    ensures { found_of result ≡ expr_found (map model_of modes.now) e.now (counters_of counters.now) (has_component covered.now) (found_of found) }
+    ensures { found_of result
+        ≡ expr_found (map model_of modes.now) e.now (counters_of counters.now) (has_component covered.now) (found_of found) }
 {
     let mut rest = e;
     let mut now = found;
@@ -49,7 +50,8 @@ pub fn after_expression(
     found: Option<Breach>,
 ) -> Option<Breach>
     requires modes { AreSmall modes.now }
-    ensures { found_of result ≡ expr_found (map model_of modes.now) e.now (counters_of counters.now) (has_component covered.now) (found_of found) }
+    ensures { found_of result
+        ≡ expr_found (map model_of modes.now) e.now (counters_of counters.now) (has_component covered.now) (found_of found) }
 {
     match e {
         RExpr::Number(_) | RExpr::Scalar(_) | RExpr::Constant(_) => found,
@@ -103,7 +105,8 @@ fn after_own(
     found: Option<Breach>,
 ) -> Option<Breach>
     requires modes { AreSmall modes.now }
-    ensures { found_of result ≡ own_found (map model_of modes.now) which e.now (counters_of counters.now) (has_component covered.now) (found_of found) }
+    ensures { found_of result
+        ≡ own_found (map model_of modes.now) which e.now (counters_of counters.now) (has_component covered.now) (found_of found) }
 {
     match e {
         RExpr::Arg {
@@ -135,7 +138,8 @@ pub fn after_right(
     found: Option<Breach>,
 ) -> Option<Breach>
     requires modes { AreSmall modes.now }
-    ensures { found_of result ≡ right_found (map model_of modes.now) (own_of own) e.now (counters_of counters.now) (has_component covered.now) (found_of found) }
+    ensures { found_of result
+        ≡ right_found (map model_of modes.now) (own_of own) e.now (counters_of counters.now) (has_component covered.now) (found_of found) }
 {
     match own {
         OwnSide::Neither => after_expression(e, modes, counters, covered, found),

@@ -2,7 +2,8 @@
 
 ghost use Rattle.std.specs.Prelude.{◌≡◌, ◌≤◌, ◌<◌, ◌⊎◌, ◌&&◌, length, map};
 ghost use Rattle.kernel_model.specs.Refusals.{argument_of, is_target, is_sum, is_extremum, is_read, belongs, opposite, sum_reads};
-ghost use Rattle.kernel_model.specs.Walk.{is_op_read, is_op_write, is_op_reduce, is_op_inc, is_op_extremum, is_unknown, is_out, is_unwritten, event_found, with_rules};
+ghost use Rattle.kernel_model.specs.Walk.{is_op_read, is_op_write, is_op_reduce, is_op_inc, is_op_extremum, is_unknown, is_out};
+ghost use Rattle.kernel_model.specs.Walk.{is_unwritten, event_found, with_rules};
 ghost use Rattle.reductions.specs.Access.{access_of};
 ghost use Rattle.access_check.specs.Modes.{model_of, AreSmall};
 ghost use Rattle.access_check.specs.Found.{found_of};
@@ -208,7 +209,8 @@ fn is_no_sum(o: Occurrence, access: Access) -> bool
 fn reads_unwritten(o: Occurrence, mode: Mode, covered: &Components) -> bool
     requires arg { mode.dim ≤ 0 ⊎ (o.arg < 16) }
     requires dim { mode.dim ≤ 64 }
-    ensures { result ≡ (is_op_write (access_of mode.access) && (is_read (access_of mode.access) (event_of o) && is_unwritten mode.dim (has_component covered.now o.arg) (number_of o.index))) }
+    ensures { result ≡ (is_op_write (access_of mode.access)
+        && (is_read (access_of mode.access) (event_of o) && is_unwritten mode.dim (has_component covered.now o.arg) (number_of o.index))) }
 {
     only_writes(mode.access)
         && is_used(o, mode.access)
@@ -222,7 +224,8 @@ fn is_no_component(o: Occurrence, access: Access) -> bool
 }
 
 fn is_no_extremum(o: Occurrence, access: Access) -> bool
-    ensures { result ≡ (is_op_extremum (access_of access) && (is_target (event_of o) && opposite (is_extremum (access_of access) (event_of o)))) }
+    ensures { result ≡ (is_op_extremum (access_of access)
+        && (is_target (event_of o) && opposite (is_extremum (access_of access) (event_of o)))) }
 {
     takes_extremum(access) && is_stored(o) && !is_merged(o, access)
 }

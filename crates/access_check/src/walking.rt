@@ -55,8 +55,10 @@ pub fn walk(
     requires modes { AreSmall modes.now }
     requires fits { CountersFit (length counters.old) (names_of named.now) st.now }
     ensures counters { counters.new ≡ counters.old }
-    ensures found { found_of found.new ≡ stmt_found (map model_of modes.now) st.now (counters_of counters.old) (has_component covered.old) (found_of found.old) }
-    ensures covered { Agree (map model_of modes.now) (covered_after st.now (counters_of counters.old) (has_component covered.old)) (has_component covered.new) }
+    ensures found { found_of found.new
+        ≡ stmt_found (map model_of modes.now) st.now (counters_of counters.old) (has_component covered.old) (found_of found.old) }
+    ensures covered { Agree (map model_of modes.now) (covered_after st.now (counters_of counters.old) (has_component covered.old))
+        (has_component covered.new) }
 {
     match st {
         RStmt::Block(all) => {
@@ -139,8 +141,14 @@ fn walk_turns(
     requires past { past < 2 ^ 31 }
     requires fits { CountersFit (length counters.old) (names_of named.now) body.now }
     ensures counters { (v : Option ℤ) → slice_set counters.new counter v ≡ slice_set counters.old counter v }
-    ensures found { found_of found.new ≡ turns_found (map model_of modes.now) (λ i d g. stmt_found (map model_of modes.now) body.now (with_counter (counters_of counters.old) counter (pos i)) d g) (λ i d. covered_after body.now (with_counter (counters_of counters.old) counter (pos i)) d) first (past - first) (has_component covered.old) (found_of found.old) }
-    ensures covered { Agree (map model_of modes.now) (turns_covered (λ i d. covered_after body.now (with_counter (counters_of counters.old) counter (pos i)) d) first (past - first) (has_component covered.old)) (has_component covered.new) }
+    ensures found { found_of found.new
+        ≡ turns_found (map model_of modes.now)
+        (λ i d g. stmt_found (map model_of modes.now) body.now (with_counter (counters_of counters.old) counter (pos i)) d g)
+        (λ i d. covered_after body.now (with_counter (counters_of counters.old) counter (pos i)) d) first (past - first)
+        (has_component covered.old) (found_of found.old) }
+    ensures covered { Agree (map model_of modes.now)
+        (turns_covered (λ i d. covered_after body.now (with_counter (counters_of counters.old) counter (pos i)) d) first (past - first)
+        (has_component covered.old)) (has_component covered.new) }
 {
     for i in first..past {
         counters[counter as usize] = Some(i as i32);

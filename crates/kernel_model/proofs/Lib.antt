@@ -10,6 +10,7 @@ pub mod SameStores
 pub mod SameAssignments
 pub mod Law
 pub mod ReadOnly
+pub mod StoredThrough
 pub mod Copies
 pub mod Examples
 pub mod Ranges

@@ -7,3 +7,4 @@ pub mod Refusals
 pub mod Walk
 pub mod Trees
 pub mod Operators
+pub mod StoredThrough

@@ -1,15 +1,21 @@
 -- The refusal of a kernel by one walk over it, with the components that every path has assigned.
-use Rattle.std.specs.Prelude.{ℕ, zero, suc, ℤ, pos, negsuc, ◌-◌, List, length, Bool, true, false, cond, ◌&&◌, ◌||◌, Option, Some, None, nat_eq, nat_lt}
+use Rattle.std.specs.Prelude.{ℕ, zero, suc, ℤ, pos, negsuc, ◌-◌, List, length, Bool, true, false, cond, ◌&&◌, ◌||◌, Option, Some, None}
+use Rattle.std.specs.Prelude.{nat_eq, nat_lt}
 use Rattle.c_lex.specs.declared.tokens.Pos.{Pos}
 use Rattle.c_tree.specs.declared.expressions.MinMax.{MinMax}
 use Rattle.reductions.specs.Reduction.{Add, Min, Max}
 use Rattle.reductions.specs.Access.{Access, OpRead, OpWrite, OpRw, OpReduce}
 use Rattle.kernel_types.specs.declared.expressions.RExpr.{RExpr}
-use Rattle.kernel_types.specs.declared.expressions.RExpr.TheVariants.{Number, Scalar, Constant, Arg', Local', Const', Unary', Binary', Choice', Paren', Extremum', Absolute'}
-use Rattle.kernel_types.specs.declared.statements.RStmt.{RStmt, Block', Declare, SetScalar, SetLocal, SetArg, If', For', Row_of-RStmt, end_of-RStmt, more_of-RStmt}
+use Rattle.kernel_types.specs.declared.expressions.RExpr.TheVariants.{Number, Scalar, Constant, Arg', Local', Const', Unary', Binary'}
+use Rattle.kernel_types.specs.declared.expressions.RExpr.TheVariants.{Choice', Paren', Extremum', Absolute'}
+use Rattle.kernel_types.specs.declared.statements.RStmt.{RStmt, Block', Declare, SetScalar, SetLocal, SetArg, If', For', Row_of-RStmt}
+use Rattle.kernel_types.specs.declared.statements.RStmt.{end_of-RStmt, more_of-RStmt}
 use Rattle.kernel_types.specs.declared.kernels.RKernel.{RKernel}
-use Rattle.kernel_model.specs.Obeys.{Mode, mode_at, Counters, no_counters, with_counter, static, Event, Reads, Owns, Own, First, Second, own_side, target_event, KernelObeys}
-use Rattle.kernel_model.specs.Refusals.{Rule, WritesRead, ReadsReduced, NotSum, ReadsUnwritten, NotAllWritten, IndexNotStatic, IndexOut, NotExtremum, number_of, argument_of, index_of, place_of, is_target, is_sum, is_extremum, is_read, opposite, parameter_place, IsRefusal}
+use Rattle.kernel_model.specs.Obeys.{Mode, mode_at, Counters, no_counters, with_counter, static, Event, Reads, Owns, Own, First, Second}
+use Rattle.kernel_model.specs.Obeys.{own_side, target_event, KernelObeys}
+use Rattle.kernel_model.specs.Refusals.{Rule, WritesRead, ReadsReduced, NotSum, ReadsUnwritten, NotAllWritten, IndexNotStatic, IndexOut}
+use Rattle.kernel_model.specs.Refusals.{NotExtremum, number_of, argument_of, index_of, place_of, is_target, is_sum, is_extremum, is_read}
+use Rattle.kernel_model.specs.Refusals.{opposite, parameter_place, IsRefusal}
 
 -- ---- what was found so far
 
@@ -182,7 +188,8 @@ module _ (modes : List Mode) where
   right_found own e cs c found = expr_found e cs c found
 
   -- after the turns of a for
-  abbrev pub turns_found : (ℕ → Covered → Option Breach → Option Breach) → (ℕ → Covered → Covered) → ℕ → ℕ → Covered → Option Breach → Option Breach
+  abbrev pub turns_found : (ℕ → Covered → Option Breach → Option Breach) → (ℕ → Covered → Covered) → ℕ → ℕ → Covered → Option Breach
+      → Option Breach
   turns_found t f i zero c found = found
   turns_found t f i (suc n) c found = turns_found t f (suc i) n (f i c) (t i c found)
 
@@ -194,10 +201,12 @@ module _ (modes : List Mode) where
     stmt_found (SetScalar k op opat e) cs c found = expr_found e cs c found
     stmt_found (SetLocal from count form ix at op opat e) cs c found = expr_found e cs c (expr_found ix cs c found)
     stmt_found (SetArg a form ix at op opat e) cs c found =
-        event_found c (target_event (own_side a form ix op e) op a (static ix cs) at) (right_found (own_side a form ix op e) e cs c (expr_found ix cs c found))
+        event_found c (target_event (own_side a form ix op e) op a (static ix cs) at)
+        (right_found (own_side a form ix op e) e cs c (expr_found ix cs c found))
     stmt_found (If' e p a q b) cs c found = stmt_found b cs c (stmt_found a cs c (expr_found e cs c found))
     stmt_found (For' k first past p body) cs c found =
-        turns_found (λ i d g. stmt_found body (with_counter cs k (pos i)) d g) (λ i d. covered_after body (with_counter cs k (pos i)) d) first (past - first) c found
+        turns_found (λ i d g. stmt_found body (with_counter cs k (pos i)) d g)
+        (λ i d. covered_after body (with_counter cs k (pos i)) d) first (past - first) c found
 
     -- after the statements of a block
     pub row_found : {m : _} → Row_of-RStmt m → Counters → Covered → Option Breach → Option Breach
@@ -216,7 +225,8 @@ leaves_unwritten modes c a = is_op_write (mode_at modes a).access && opposite (a
 -- after the end, for n arguments from a on
 abbrev pub ends_found : (ℕ → Pos) → List Mode → Covered → (a n : ℕ) → Option Breach → Option Breach
 ends_found place modes c a zero found = found
-ends_found place modes c a (suc n) found = ends_found place modes c (suc a) n (noted_if (leaves_unwritten modes c a) NotAllWritten (place a) found)
+ends_found place modes c a (suc n) found =
+    ends_found place modes c (suc a) n (noted_if (leaves_unwritten modes c a) NotAllWritten (place a) found)
 
 -- what the walk finds in a kernel
 abbrev pub walk : RKernel → List Mode → Option Breach

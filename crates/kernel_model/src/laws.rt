@@ -3,6 +3,7 @@
 ghost use Rattle.kernel_model.specs.Independence.{Independence, OthersStay, RangeStays, ReadsStay, ShapeStays, Transport};
 ghost use Rattle.kernel_model.specs.Operators.{OperatorsStayInRange};
 ghost use Rattle.kernel_model.specs.Refusals.{ObeysUnlessBroken, OneRefusal};
+ghost use Rattle.kernel_model.specs.StoredThrough.{UnstoredStay};
 ghost use Rattle.kernel_model.specs.Trees.{RunsAlike, WalksAlike};
 ghost use Rattle.kernel_model.specs.Walk.{WalkFinds};
 
@@ -26,6 +27,12 @@ pub fn others_stay()
 /// A law: a cell that OP_READ arguments alone reach stays under a kernel that obeys its modes, after a fault too.
 pub fn reads_stay()
     ensures { ReadsStay }
+{}
+
+/// A law: a cell that is reached only by arguments through which the kernel's text stores nothing, or by none, stays under
+/// any kernel, after a fault too.
+pub fn unstored_stay()
+    ensures { UnstoredStay }
 {}
 
 /// A law: any run keeps how many arrays there are and how long each is, after a fault too.
