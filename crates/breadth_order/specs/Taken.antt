@@ -1,5 +1,6 @@
 -- Orders of taking (Cuthill and McKee 1969): at each place the least element by the place of its earliest neighbour and its key.
-use Rattle.std.specs.Prelude.{◌≡◌, ℕ, ◌<◌, ◌≤◌, ◌⊎◌, ◌+◌, Bool, true, false, not, nat_eq, List, Vec, length, take, slice_index, slice_index_or, Contains, count_by}
+use Rattle.std.specs.Prelude.{◌≡◌, ℕ, ◌<◌, ◌≤◌, ◌⊎◌, ◌+◌, Bool, true, false, not, nat_eq, List, Vec, length, take, slice_index}
+use Rattle.std.specs.Prelude.{slice_index_or, Contains, count_by}
 use Rattle.std.specs.declared.alloc.Global.{Global}
 use Rattle.std.specs.List.{position_or_len}
 use Rattle.rank_sets.specs.Below.{any_below, row}
@@ -16,7 +17,8 @@ earliest near taken y = position_or_len (λ x. near x y) taken
 pub record IsNext (n : ℕ) (near : ℕ → ℕ → Bool) (key : ℕ → ℕ) (taken : List ℕ) (z : ℕ) : Type 0 where
   pub within : z < n
   pub new : Contains taken z → ⊥
-  pub least : (y : ℕ) → y < n → (Contains taken y → ⊥) → (earliest near taken z < earliest near taken y) ⊎ ((earliest near taken z ≡ earliest near taken y) × (key z ≤ key y))
+  pub least : (y : ℕ) → y < n → (Contains taken y → ⊥) → (earliest near taken z < earliest near taken y)
+      ⊎ ((earliest near taken z ≡ earliest near taken y) × (key z ≤ key y))
 
 -- at each place stands the next after those at earlier places
 abbrev pub IsTaken : ℕ → (ℕ → ℕ → Bool) → (ℕ → ℕ) → List ℕ → Type 0

@@ -37,7 +37,9 @@ fn take_neighbours(
     requires lists { AreWithin (length near.now) near.now }
     ensures walk { OnOk result (IsWalk (length near.now) (is_near near.now) order.new.items seen.new (head + 1)) }
     ensures more { OnOk result (length order.old.items ≤ length order.new.items) }
-    ensures taken { OnOk result ((key : ℕ → ℕ) → AreRising (length near.now) key near.now → IsTaken (length near.now) (is_near near.now) key order.old.items → IsTaken (length near.now) (is_near near.now) key order.new.items) }
+    ensures taken { OnOk result ((key : ℕ → ℕ) → AreRising (length near.now) key near.now
+        → IsTaken (length near.now) (is_near near.now) key order.old.items
+        → IsTaken (length near.now) (is_near near.now) key order.new.items) }
     ensures kept { OnOk result ((y : ℕ) → slice_index_or seen.old y false ≡ true → slice_index_or seen.new y false ≡ true) }
 {
     for neighbour in &near[order[head] as usize] {
@@ -60,7 +62,9 @@ fn take_reached(
     requires from { from ≤ length order.old.items }
     requires lists { AreWithin (length near.now) near.now }
     ensures walk { OnOk result (IsWalk (length near.now) (is_near near.now) order.new.items seen.new (length order.new.items)) }
-    ensures taken { OnOk result ((key : ℕ → ℕ) → AreRising (length near.now) key near.now → IsTaken (length near.now) (is_near near.now) key order.old.items → IsTaken (length near.now) (is_near near.now) key order.new.items) }
+    ensures taken { OnOk result ((key : ℕ → ℕ) → AreRising (length near.now) key near.now
+        → IsTaken (length near.now) (is_near near.now) key order.old.items
+        → IsTaken (length near.now) (is_near near.now) key order.new.items) }
     ensures kept { OnOk result ((y : ℕ) → slice_index_or seen.old y false ≡ true → slice_index_or seen.new y false ≡ true) }
 {
     let mut head = from;
@@ -85,7 +89,8 @@ pub fn breadth_first(
     requires lists { AreWithin (length near.now) near.now }
     ensures length { IfOk result (λ v. length v.items ≡ length near.now) }
     ensures all { IfOk result (λ v. (y : ℕ) → y < length near.now → Contains v.items y) }
-    ensures taken { IfOk result (λ v. (key : ℕ → ℕ) → Rises key starts.now → AreRising (length near.now) key near.now → IsTaken (length near.now) (is_near near.now) key v.items) }
+    ensures taken { IfOk result (λ v. (key : ℕ → ℕ) → Rises key starts.now → AreRising (length near.now) key near.now
+        → IsTaken (length near.now) (is_near near.now) key v.items) }
 {
     let mut seen = vec![in alloc; false; near.len()]?;
     let mut order = Vec::with_capacity(alloc, near.len())?;
@@ -108,9 +113,10 @@ pub fn taking_order(alloc: Global, mesh: &Mesh, map: u32) -> Result<Vec<u32>, Ou
     requires { map < map_count mesh.now }
     ensures length { IfOk result (λ v. length v.items ≡ set_size mesh.now (map_to mesh.now map)) }
     ensures all { IfOk result (λ v. (y : ℕ) → y < set_size mesh.now (map_to mesh.now map) → Contains v.items y) }
-    ensures taken { IfOk result (λ v. IsTaken (set_size mesh.now (map_to mesh.now map)) (are_neighbours mesh.now map) (degree_order mesh.now map) v.items) }
+    ensures taken { IfOk result
+        (λ v. IsTaken (set_size mesh.now (map_to mesh.now map)) (are_neighbours mesh.now map) (degree_order mesh.now map) v.items) }
 {
-    let _ = (mesh.set_count(), mesh.map_count());
+    mesh.is_in_range();
     let near = make_neighbours(alloc, mesh, map)?;
     let starts = by_degree(alloc, &near)?;
     let lists = reorder(alloc, &starts, &near)?;

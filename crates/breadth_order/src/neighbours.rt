@@ -31,7 +31,9 @@ fn add_to_targets(
     requires map { map < map_count mesh.now }
     requires element { element < set_size mesh.now (map_from mesh.now map) }
     requires lists { length lists.old ≡ set_size mesh.now (map_to mesh.now map) }
-    ensures { OnOk result ((x : ℕ) → x < length lists.old → row lists.new x ≡ cond (has_target mesh.now map element x && not (nat_eq x besides)) (pushed (row lists.old x) number) (row lists.old x)) }
+    ensures { OnOk result ((x : ℕ) → x < length lists.old
+        → row lists.new x ≡ cond (has_target mesh.now map element x
+        && not (nat_eq x besides)) (pushed (row lists.old x) number) (row lists.old x)) }
 {
     let (_, _, dim) = mesh.map_ends(map);
     for place in 0..dim {
@@ -69,7 +71,9 @@ fn add_neighbour(
     requires map { map < map_count mesh.now }
     requires by { (k : ℕ) → k < length by.now → slice_index by.now k < set_size mesh.now (map_from mesh.now map) }
     requires lists { length lists.old ≡ set_size mesh.now (map_to mesh.now map) }
-    ensures { OnOk result ((x : ℕ) → x < length lists.old → row lists.new x ≡ cond (any_below (length by.now) (λ k. has_target mesh.now map (slice_index by.now k) x) && not (nat_eq x number)) (pushed (row lists.old x) number) (row lists.old x)) }
+    ensures { OnOk result ((x : ℕ) → x < length lists.old
+        → row lists.new x ≡ cond (any_below (length by.now) (λ k. has_target mesh.now map (slice_index by.now k) x)
+        && not (nat_eq x number)) (pushed (row lists.old x) number) (row lists.old x)) }
 {
     for element in by {
         add_to_targets(lists, mesh, map, *element, number, number)?;
@@ -82,7 +86,8 @@ pub fn make_neighbours(alloc: Global, mesh: &Mesh, map: u32) -> Result<Vec<Vec<u
     requires at { IsMapAt mesh.now map }
     requires map { map < map_count mesh.now }
     ensures length { IfOk result (λ v. length v.items ≡ set_size mesh.now (map_to mesh.now map)) }
-    ensures lists { IfOk result (λ v. (x : ℕ) → x < set_size mesh.now (map_to mesh.now map) → row v.items x ≡ listed (set_size mesh.now (map_to mesh.now map)) (are_neighbours mesh.now map x)) }
+    ensures lists { IfOk result (λ v. (x : ℕ) → x < set_size mesh.now (map_to mesh.now map)
+        → row v.items x ≡ listed (set_size mesh.now (map_to mesh.now map)) (are_neighbours mesh.now map x)) }
 {
     let by = inverse(alloc, mesh, map)?;
     let (_, to, _) = mesh.map_ends(map);

@@ -36,7 +36,8 @@ pub record AreBases (size : ℕ → ℕ) (bases : List ℕ) (total : ℕ) : Type
 abbrev pub HaveBases : List IncArg → List ℕ → List ℕ → ℕ → Type 0
 HaveBases args starts bases n =
     (a : ℕ) (x : IncArg) → a < n
-    → (slice_index starts a ≡ slice_index bases (slice_index_or args a x).dat) × (slice_index bases (slice_index_or args a x).dat ≡ none → ⊥)
+    → (slice_index starts a ≡ slice_index bases (slice_index_or args a x).dat)
+    × (slice_index bases (slice_index_or args a x).dat ≡ none → ⊥)
 
 -- The first number of each argument: one for each dat, and the numbers of different dats are apart.
 pub record AreStarts (size : ℕ → ℕ) (args : List IncArg) (starts : List ℕ) (total : ℕ) : Type 0 where

@@ -24,7 +24,7 @@ pub fn common_targets_are_ordered(mesh: &Mesh)
     ensures { TargetsAreOrdered mesh.now }
 {
     originals_are_distinct();
-    let _ = mesh.dat_count();
+    mesh.is_in_range();
 }
 
 /// Two blocks with places in conflict have different colours.

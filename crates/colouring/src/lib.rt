@@ -46,7 +46,7 @@ pub fn colour(
     requires size { 0 < size }
     ensures { IfOk result (AreColours mesh.now rank.now.maps.items args.now places size) }
 {
-    let _ = mesh.dat_count();
+    mesh.is_in_range();
     let (starts, total) = first_numbers(alloc, mesh, rank, args)?;
     let table = target_table(alloc, mesh, rank, args, &starts, total, places)?;
     let mut masks = vec![in alloc; 0; total as usize]?;

@@ -29,7 +29,8 @@ fn colour_row(
     ensures others { (q : ℕ) → (q ≡ row → ⊥) → slice_index colours.new q ≡ slice_index colours.old q }
     ensures skipped { (slice_index colours.old row ≡ none → ⊥) → masks.new ≡ masks.old }
     ensures first { ((t : ℕ) → t < length masks.old → slice_index masks.old t ≡ 0) → slice_index colours.new row ≡ none → ⊥ }
-    ensures touched { (t : ℕ) → ((k : ℕ) → row * width ≤ k → k < length targets.now → slice_index targets.now k ≡ t → ⊥) → slice_index masks.new t ≡ slice_index masks.old t }
+    ensures touched { (t : ℕ) → ((k : ℕ) → row * width ≤ k → k < length targets.now → slice_index targets.now k ≡ t → ⊥)
+        → slice_index masks.new t ≡ slice_index masks.old t }
 {
     if colours[row] != u32::MAX {
         return;
@@ -66,7 +67,8 @@ fn colour_round(
     ensures stands { Stands targets.now width colours.new round (length colours.old) }
     ensures kept { (q : ℕ) → (slice_index colours.old q ≡ none → ⊥) → slice_index colours.new q ≡ slice_index colours.old q }
     ensures given { slice_index colours.new next ≡ none → ⊥ }
-    ensures touched { (t : ℕ) → ((k : ℕ) → next * width ≤ k → k < length targets.now → slice_index targets.now k ≡ t → ⊥) → slice_index masks.new t ≡ 0 }
+    ensures touched { (t : ℕ) → ((k : ℕ) → next * width ≤ k → k < length targets.now → slice_index targets.now k ≡ t → ⊥)
+        → slice_index masks.new t ≡ 0 }
 {
     for row in next..colours.len() {
         colour_row(targets, width, colours, masks, round, row);

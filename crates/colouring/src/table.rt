@@ -46,7 +46,7 @@ fn give_numbers(
     requires fresh { (d : ℕ) → d < length bases.old → slice_index bases.old d ≡ none }
     ensures { IfOk result (λ s. AreStarts (copies_of mesh.now rank.now.sets.items) args.now s.0.items s.1) }
 {
-    let _ = mesh.dat_count();
+    mesh.is_in_range();
     let mut starts = Vec::with_capacity(alloc, args.len())?;
     let mut total = 0;
     for a in 0..args.len() {
@@ -82,7 +82,7 @@ fn target(mesh: &Mesh, rank: &RankMesh, arg: &IncArg, place: u32) -> u32
     ensures value { result ≡ target_of mesh.now rank.now.maps.items place arg.now }
     ensures within { result < copies_of mesh.now rank.now.sets.items arg.now.dat }
 {
-    let _ = (mesh.map_count(), mesh.dat_count());
+    mesh.is_in_range();
     match arg.via {
         None => place,
         Some(via) => {
@@ -107,7 +107,9 @@ fn push_numbers(
     requires starts { AreStarts (copies_of mesh.now rank.now.sets.items) args.now starts.now total }
     ensures length { OnOk result (length table.new.items ≡ length table.old.items + length args.now) }
     ensures before { OnOk result ((k : ℕ) → k < length table.old.items → slice_index table.new.items k ≡ slice_index table.old.items k) }
-    ensures at { OnOk result ((a : ℕ) (x : Arg) → a < length args.now → slice_index table.new.items (length table.old.items + a) ≡ slice_index starts.now a + target_of mesh.now rank.now.maps.items place (slice_index_or args.now a x)) }
+    ensures at { OnOk result ((a : ℕ) (x : Arg) → a < length args.now
+        → slice_index table.new.items (length table.old.items + a)
+        ≡ slice_index starts.now a + target_of mesh.now rank.now.maps.items place (slice_index_or args.now a x)) }
     ensures within { OnOk result ((a : ℕ) → a < length args.now → slice_index table.new.items (length table.old.items + a) < total) }
 {
     for a in 0..args.len() {

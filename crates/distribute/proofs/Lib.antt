@@ -1,4 +1,3 @@
-pub mod Ranges
 pub mod Alike
 pub mod OneDistribution
 pub mod OneOutcome

@@ -2,9 +2,8 @@
 use Rattle.std.proofs.Common.{◌≡◌, map, refl, sym, ap, ◌∙◌}
 use Rattle.mesh_decl.specs.declared.owners.Owners.{Owners}
 use Rattle.mesh_decl.specs.declared.owners.Perms.{Perms}
-use Rattle.mesh_decl.specs.Mesh.{MeshValue}
+use Rattle.mesh_decl.specs.Mesh.{MeshValue, IsInRange}
 use Rattle.mesh_decl.specs.Owners.{ArePerms}
-use Rattle.halo_lists.specs.Halo.{IsInRange}
 use Rattle.halo_lists.specs.declared.types.Halos.{Halos}
 use Rattle.halo_lists.specs.Halos.{AreHalos}
 use Rattle.halo_lists.specs.Values.{halos_value}

@@ -4,7 +4,7 @@ use Rattle.std.proofs.lemmas.Bool.{eqb-true}
 use Rattle.std.proofs.lemmas.List.{ext_get_or}
 use Rattle.mesh_decl.specs.declared.owners.Owners.{Owners}
 use Rattle.mesh_decl.specs.declared.owners.Perms.{Perms}
-use Rattle.mesh_decl.specs.Mesh.{MeshValue, IsDatAt, map_count, dat_count, map_name, dat_name, set_count, set_size, map_to, dat_set, dat_dim, dat_values}
+use Rattle.mesh_decl.specs.Mesh.{MeshValue, IsDatAt, map_count, dat_count, map_name, dat_name, set_count, set_size, map_to, dat_set, dat_dim, dat_values, IsInRange}
 use Rattle.mesh_decl.specs.Named.{Names, NamesOne}
 use Rattle.mesh_decl.specs.Owners.{owners_in, owner_of}
 use Rattle.breadth_order.specs.Neighbours.{are_neighbours}
@@ -13,7 +13,6 @@ use Rattle.part_text.specs.Reading.{Reads, Read}
 use Rattle.partition.specs.Derive.{AreDerived}
 use Rattle.partition.specs.OneDerived.{IsOneBlocks, IsOneDerived}
 use Rattle.partition.specs.OneOwner.{IsOneGrowth, IsOneBisection}
-use Rattle.halo_lists.specs.Halo.{IsInRange}
 use Rattle.renumber.specs.CuthillMcKee.{IsCuthillMcKee}
 use Rattle.renumber.specs.OneNumbering.{IsOneIdentity, IsOneCuthillMcKee}
 use Rattle.distribute.specs.Parts.{Parts, Block, Bisect, Grow, Text, NumbersRefusal, OwnersRefusal, Unspelled}

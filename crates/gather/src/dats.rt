@@ -56,10 +56,11 @@ fn put_dat(
 fn put_names(out: &mut Vec<u8>, file: &Text, mesh: &Mesh, dat: u32) -> Result<(), OutOfMemory>
     requires { dat < dat_count mesh.now }
     ensures ok { OnOk result (out.new.items
-        ≡ out.old.items ++ file.now ++ codes ": " ++ dat_name mesh.now dat ++ codes " " ++ set_name mesh.now (dat_set mesh.now dat) ++ codes " ") }
+        ≡ out.old.items ++ file.now ++ codes ": " ++ dat_name mesh.now dat ++ codes " " ++ set_name mesh.now (dat_set mesh.now dat)
+        ++ codes " ") }
     ensures grows { Grows out.old.items out.new.items }
 {
-    let _ = mesh.dat_count();
+    mesh.is_in_range();
     let (set, _) = mesh.dat_shape(dat);
     out.extend_from_slice(file.bytes())?;
     out.extend_from_slice(b": ")?;
@@ -73,10 +74,11 @@ fn put_names(out: &mut Vec<u8>, file: &Text, mesh: &Mesh, dat: u32) -> Result<()
 fn put_numbers(out: &mut Vec<u8>, mesh: &Mesh, dat: u32) -> Result<(), OutOfMemory>
     requires { dat < dat_count mesh.now }
     ensures ok { OnOk result (out.new.items
-        ≡ out.old.items ++ decimal (set_size mesh.now (dat_set mesh.now dat)) ++ codes " " ++ decimal (dat_dim mesh.now dat) ++ codes "\n") }
+        ≡ out.old.items ++ decimal (set_size mesh.now (dat_set mesh.now dat)) ++ codes " " ++ decimal (dat_dim mesh.now dat)
+        ++ codes "\n") }
     ensures grows { Grows out.old.items out.new.items }
 {
-    let _ = mesh.dat_count();
+    mesh.is_in_range();
     let (set, dim) = mesh.dat_shape(dat);
     let size = mesh.set_size(set);
     put_u64(out, size as u64)?;
@@ -93,7 +95,7 @@ fn put_elements(out: &mut Vec<u8>, mesh: &Mesh, dat: u32, values: &[i32]) -> Res
         ≡ out.old.items ++ flat_map row_text (rows (dat_dim mesh.now dat) (set_size mesh.now (dat_set mesh.now dat)) values.now)) }
     ensures grows { Grows out.old.items out.new.items }
 {
-    let _ = mesh.dat_count();
+    mesh.is_in_range();
     let (set, dim) = mesh.dat_shape(dat);
     let size = mesh.set_size(set);
     put_rows(out, values, size, dim)

@@ -109,7 +109,7 @@ fn put_dat(
     ensures ok { OnOk result (out.new.items ≡ out.old.items ++ dat_text mesh.now rank part.now memory.now dat) }
     ensures grows { Grows out.old.items out.new.items }
 {
-    let _ = mesh.dat_count();
+    mesh.is_in_range();
     let (set, dim) = mesh.dat_shape(dat);
     let elements = &part.sets[set as usize];
     put_counts(out, rank, mesh.dat_name(dat), elements)?;

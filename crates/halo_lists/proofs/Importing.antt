@@ -6,11 +6,11 @@ use Rattle.mesh_decl.specs.declared.owners.Owners.{Owners}
 use Rattle.rank_sets.specs.declared.rank_set.RankSet.{RankSet}
 use Rattle.rank_sets.specs.Below.{any_below, listed}
 use Rattle.rank_sets.specs.RankSet.{has_at}
-use Rattle.mesh_decl.specs.Mesh.{MeshValue, set_count, map_count, set_size, map_from, map_to, map_dim, target}
+use Rattle.mesh_decl.specs.Mesh.{MeshValue, set_count, map_count, set_size, map_from, map_to, map_dim, target, IsInRange}
 use Rattle.mesh_decl.specs.Owners.{AreOwners, owner_of, owners_in}
 use Rattle.rank_sets.proofs.Bools.{same_Bool}
 use Rattle.rank_sets.proofs.Below.{any_witness, any_from, any_agree, listed_agree}
-use Rattle.halo_lists.specs.Halo.{IsInRange, reaches_by, reaches, owns, imports_execute, executes, named_by, named_from, named, imports_nonexecute, imports, is_core}
+use Rattle.halo_lists.specs.Halo.{reaches_by, reaches, owns, imports_execute, executes, named_by, named_from, named, imports_nonexecute, imports, is_core}
 use Rattle.halo_lists.specs.Halos.{Marks}
 use Rattle.halo_lists.specs.Sets.{AreExecuting, has_in, sets_in}
 use Rattle.halo_lists.proofs.SetsReading.{sets_read}

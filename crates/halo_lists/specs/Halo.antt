@@ -1,14 +1,10 @@
--- Import execute, import non-execute, exports and core, as conditions on owners and targets. (The halos of OP2: Mudalige and others, "OP2: An active library framework for solving unstructured mesh-based applications on multi-core and many-core architectures", 2012.)
+-- Import execute, import non-execute, exports and core, as conditions on owners and targets. (The halos of OP2: Mudalige and others, "OP2:
+-- An active library framework for solving unstructured mesh-based applications on multi-core and many-core architectures", 2012.)
 use Rattle.std.specs.Prelude.{ℕ, ◌^◌, ◌<◌, Bool, ◌&&◌, ◌||◌, not, nat_eq}
 use Rattle.rank_sets.specs.Below.{any_below}
 use Rattle.mesh_decl.specs.declared.owners.Owners.{Owners}
 use Rattle.mesh_decl.specs.Mesh.{MeshValue, IsMapAt, map_count, set_size, map_from, map_to, map_dim, target}
 use Rattle.mesh_decl.specs.Owners.{owner_of}
-
--- Sizes, ends and targets are in range, as in every mesh.
-pub record IsInRange (g : MeshValue) : Type 0 where
-  pub sizes : (s : ℕ) → set_size g s < 2 ^ 32
-  pub maps : (m : ℕ) → m < map_count g → IsMapAt g m
 
 -- by map m, element x has a target that rank r owns
 abbrev pub reaches_by : MeshValue → Owners → ℕ → ℕ → ℕ → Bool
@@ -56,4 +52,5 @@ has_copy g o s x r = owns o s x r || (imports_execute g o s x r || imports_nonex
 
 -- all targets by all maps are the owner's
 unfoldable pub is_core : MeshValue → Owners → ℕ → ℕ → Bool
-is_core g o s x = not (any_below (map_count g) (λ m. nat_eq (map_from g m) s && any_below (map_dim g m) (λ i. not (nat_eq (owner_of o (map_to g m) (target g m x i)) (owner_of o s x)))))
+is_core g o s x = not (any_below (map_count g) (λ m. nat_eq (map_from g m) s
+    && any_below (map_dim g m) (λ i. not (nat_eq (owner_of o (map_to g m) (target g m x i)) (owner_of o s x)))))

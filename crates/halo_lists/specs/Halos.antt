@@ -18,7 +18,8 @@ pub record IsSetHalo (g : MeshValue) (o : Owners) (s : ℕ) (h : SetHalo) : Type
   pub nonexec : (r : ℕ) → r < o.ranks → row h.nonexec.items r ≡ listed (set_size g s) (λ x. imports_nonexecute g o s x r)
   pub export_count : length h.exports.items ≡ o.ranks
   pub export_counts : (a : ℕ) → a < o.ranks → length (rows h.exports.items a) ≡ o.ranks
-  pub exports : (a r : ℕ) → a < o.ranks → r < o.ranks → row (rows h.exports.items a) r ≡ listed (set_size g s) (λ x. imports g o s x r && owns o s x a)
+  pub exports : (a r : ℕ) → a < o.ranks → r < o.ranks
+      → row (rows h.exports.items a) r ≡ listed (set_size g s) (λ x. imports g o s x r && owns o s x a)
   pub core_count : length h.core.items ≡ set_size g s
   pub core : (x : ℕ) → x < set_size g s → slice_index_or h.core.items x true ≡ is_core g o s x
 

@@ -19,7 +19,8 @@ fn push_export(
     requires lengths { (a : ℕ) → a < length exports.old → length (rows exports.old a) ≡ length exports.old }
     requires ranks { (r : ℕ) → r < 64 → has ranks r ≡ true → r < length exports.old }
     ensures lengths { OnOk result ((a : ℕ) → a < length exports.old → length (rows exports.new a) ≡ length exports.old) }
-    ensures pushed { OnOk result ((a r : ℕ) → a < length exports.old → r < length exports.old → row (rows exports.new a) r ≡ row (rows exports.old a) r ++ cond (has ranks r && nat_eq owner a) (element ∷ []) []) }
+    ensures pushed { OnOk result ((a r : ℕ) → a < length exports.old → r < length exports.old
+        → row (rows exports.new a) r ≡ row (rows exports.old a) r ++ cond (has ranks r && nat_eq owner a) (element ∷ []) []) }
 {
     push_each(&mut exports[owner as usize], element, ranks)?;
     Ok(())
@@ -52,7 +53,8 @@ pub fn exports_by_owner(
     requires below { (x r : ℕ) → x < length imports.now → r < 64 → has_at imports.now x r ≡ true → r < ranks }
     ensures length { IfOk result (λ v. length v.items ≡ ranks) }
     ensures lengths { IfOk result (λ v. (a : ℕ) → a < ranks → length (rows v.items a) ≡ ranks) }
-    ensures lists { IfOk result (λ v. (a r : ℕ) → a < ranks → r < ranks → row (rows v.items a) r ≡ listed (length imports.now) (λ x. has_at imports.now x r && nat_eq (slice_index owners.now x) a)) }
+    ensures lists { IfOk result (λ v. (a r : ℕ) → a < ranks → r < ranks
+        → row (rows v.items a) r ≡ listed (length imports.now) (λ x. has_at imports.now x r && nat_eq (slice_index owners.now x) a)) }
 {
     let mut exports = empty_exports(alloc, ranks)?;
     for element in 0..imports.len() {

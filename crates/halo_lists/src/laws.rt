@@ -10,17 +10,23 @@ ghost use Rattle.halo_lists.specs.Values.{halos_value};
 
 /// A rank imports an element to execute exactly where it doesn't own it and owns a target of it by some map.
 pub fn execute_halo_owns_a_target()
-    ensures { (g : MeshValue) (o : Owners) (s x r : ℕ) → (imports_execute g o s x r ≡ true) ↔ ((owner_of o s x ≢ r) × ((m : ℕ) × (i : ℕ) × (m < map_count g) × (map_from g m ≡ s) × (i < map_dim g m) × (owner_of o (map_to g m) (target g m x i) ≡ r))) }
+    ensures { (g : MeshValue) (o : Owners) (s x r : ℕ)
+        → (imports_execute g o s x r ≡ true)
+        ↔ ((owner_of o s x ≢ r)
+        × ((m : ℕ) × (i : ℕ) × (m < map_count g) × (map_from g m ≡ s) × (i < map_dim g m)
+        × (owner_of o (map_to g m) (target g m x i) ≡ r))) }
 {}
 
 /// A rank has a copy of each target of what it executes.
 pub fn executed_targets_are_copies()
-    ensures { (g : MeshValue) (o : Owners) (m x i r : ℕ) → m < map_count g → x < set_size g (map_from g m) → executes g o (map_from g m) x r ≡ true → i < map_dim g m → has_copy g o (map_to g m) (target g m x i) r ≡ true }
+    ensures { (g : MeshValue) (o : Owners) (m x i r : ℕ) → m < map_count g → x < set_size g (map_from g m)
+        → executes g o (map_from g m) x r ≡ true → i < map_dim g m → has_copy g o (map_to g m) (target g m x i) r ≡ true }
 {}
 
 /// The owner of a core element owns all its targets.
 pub fn core_targets_are_owned()
-    ensures { (g : MeshValue) (o : Owners) (s x m i : ℕ) → is_core g o s x ≡ true → m < map_count g → map_from g m ≡ s → i < map_dim g m → owner_of o (map_to g m) (target g m x i) ≡ owner_of o s x }
+    ensures { (g : MeshValue) (o : Owners) (s x m i : ℕ) → is_core g o s x ≡ true → m < map_count g → map_from g m ≡ s → i < map_dim g m
+        → owner_of o (map_to g m) (target g m x i) ≡ owner_of o s x }
 {}
 
 /// A rank imports nothing of its own: who sends and who receives differ.

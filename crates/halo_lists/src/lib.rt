@@ -6,9 +6,8 @@
 #![tactic(auto)]
 
 ghost use Rattle.std.specs.Prelude.{◌≡◌, ℕ, ◌<◌, IfOk};
-ghost use Rattle.mesh_decl.specs.Mesh.{set_count, set_size};
+ghost use Rattle.mesh_decl.specs.Mesh.{set_count, set_size, IsInRange};
 ghost use Rattle.mesh_decl.specs.Owners.{AreOwners};
-ghost use Rattle.halo_lists.specs.Halo.{IsInRange};
 ghost use Rattle.halo_lists.specs.Sets.{AreExecuting};
 ghost use Rattle.halo_lists.specs.Halos.{IsSetHalo, AreHalos, AreImports};
 
@@ -37,13 +36,6 @@ use split::{core_places, import_either, import_execute, import_nonexecute};
 use std::alloc::Global;
 use types::ImportSets;
 pub use types::{Halos, SetHalo};
-
-// What is in range in every mesh.
-fn in_range(mesh: &Mesh)
-    ensures { IsInRange mesh.now }
-{
-    let _ = (mesh.set_count(), mesh.map_count());
-}
 
 // For each element of each set, the ranks that execute it.
 fn executing_sets(
@@ -116,7 +108,7 @@ pub fn halos(alloc: Global, mesh: &Mesh, owners: &Owners) -> Result<Halos, OutOf
     requires owners { AreOwners mesh.now owners.now }
     ensures { IfOk result (λ h. AreHalos mesh.now owners.now h) }
 {
-    in_range(mesh);
+    mesh.is_in_range();
     let executing = executing_sets(alloc, mesh, owners)?;
     let mut sets = Vec::new(alloc);
     for set in 0..mesh.set_count() {

@@ -1,10 +1,11 @@
 // The ranks that execute an element.
-ghost use Rattle.std.specs.Prelude.{◌≡◌, ℕ, Bool, false, true, ◌<◌, ◌≤◌, ◌↔◌, ◌&&◌, ◌||◌, not, nat_eq, IsTrue, IsSome, IfSome, IfNone, IfOk, length, slice_index_or};
+ghost use Rattle.std.specs.Prelude.{◌≡◌, ℕ, Bool, false, true, ◌<◌, ◌≤◌, ◌↔◌, ◌&&◌, ◌||◌, not, nat_eq, IsTrue, IsSome, IfSome, IfNone};
+ghost use Rattle.std.specs.Prelude.{IfOk, length, slice_index_or};
 ghost use Rattle.rank_sets.specs.Below.{any_below};
-ghost use Rattle.mesh_decl.specs.Mesh.{map_count, set_count, set_size, map_from, map_to, map_dim, target};
+ghost use Rattle.mesh_decl.specs.Mesh.{map_count, set_count, set_size, map_from, map_to, map_dim, target, IsInRange};
 ghost use Rattle.mesh_decl.specs.Owners.{AreOwners, owner_of};
 ghost use Rattle.rank_sets.specs.RankSet.{has, has_at};
-ghost use Rattle.halo_lists.specs.Halo.{IsInRange, reaches_by, reaches, executes, owns};
+ghost use Rattle.halo_lists.specs.Halo.{reaches_by, reaches, executes, owns};
 
 use mesh_decl::{Mesh, Owners};
 use op_num::OutOfMemory;

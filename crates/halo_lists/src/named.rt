@@ -1,9 +1,10 @@
 // The ranks that name an element as a target.
-ghost use Rattle.std.specs.Prelude.{◌≡◌, ℕ, Bool, false, true, ◌<◌, ◌≤◌, ◌↔◌, ◌&&◌, ◌||◌, not, nat_eq, IsTrue, IsSome, IfSome, IfNone, IfOk, length};
+ghost use Rattle.std.specs.Prelude.{◌≡◌, ℕ, Bool, false, true, ◌<◌, ◌≤◌, ◌↔◌, ◌&&◌, ◌||◌, not, nat_eq, IsTrue, IsSome, IfSome, IfNone};
+ghost use Rattle.std.specs.Prelude.{IfOk, length};
 ghost use Rattle.rank_sets.specs.Below.{any_below};
-ghost use Rattle.mesh_decl.specs.Mesh.{map_count, set_count, set_size, map_from, map_to, map_dim, target};
+ghost use Rattle.mesh_decl.specs.Mesh.{map_count, set_count, set_size, map_from, map_to, map_dim, target, IsInRange};
 ghost use Rattle.rank_sets.specs.RankSet.{has, has_at};
-ghost use Rattle.halo_lists.specs.Halo.{IsInRange, named_by, named_from};
+ghost use Rattle.halo_lists.specs.Halo.{named_by, named_from};
 ghost use Rattle.halo_lists.specs.Sets.{AreSets, has_in};
 
 use mesh_decl::Mesh;
@@ -17,7 +18,8 @@ fn name_targets(sets: &mut [RankSet], mesh: &Mesh, map: u32, element: u32, ranks
     requires map { map < map_count mesh.now }
     requires element { element < set_size mesh.now (map_from mesh.now map) }
     requires length { length sets.old ≡ set_size mesh.now (map_to mesh.now map) }
-    ensures { (y r : ℕ) → has_at sets.new y r ≡ (has_at sets.old y r || (has ranks r && any_below (map_dim mesh.now map) (λ i. nat_eq (target mesh.now map element i) y))) }
+    ensures { (y r : ℕ) → has_at sets.new y r
+        ≡ (has_at sets.old y r || (has ranks r && any_below (map_dim mesh.now map) (λ i. nat_eq (target mesh.now map element i) y))) }
 {
     let (_, _, dim) = mesh.map_ends(map);
     for place in 0..dim {

@@ -1,5 +1,6 @@
 // Which ranks import an element, from those that execute it and those that name it.
-ghost use Rattle.std.specs.Prelude.{◌≡◌, ℕ, Bool, false, true, ◌<◌, ◌≤◌, ◌^◌, ◌&&◌, ◌||◌, not, nat_eq, IfOk, OnOk, IsTrue, ◌↔◌, length, slice_index, slice_index_or};
+ghost use Rattle.std.specs.Prelude.{◌≡◌, ℕ, Bool, false, true, ◌<◌, ◌≤◌, ◌^◌, ◌&&◌, ◌||◌, not, nat_eq, IfOk, OnOk, IsTrue, ◌↔◌, length};
+ghost use Rattle.std.specs.Prelude.{slice_index, slice_index_or};
 ghost use Rattle.rank_sets.specs.Below.{listed, row};
 ghost use Rattle.rank_sets.specs.RankSet.{has, has_at};
 
@@ -16,7 +17,8 @@ pub fn import_execute(
     requires lengths { length executing.now ≡ length owners.now }
     requires below { (x : ℕ) → x < length owners.now → slice_index owners.now x < 64 }
     ensures length { IfOk result (λ v. length v.items ≡ length executing.now) }
-    ensures has { IfOk result (λ v. (x r : ℕ) → x < length executing.now → r < 64 → has_at v.items x r ≡ (has_at executing.now x r && not (nat_eq (slice_index owners.now x) r))) }
+    ensures has { IfOk result (λ v. (x r : ℕ) → x < length executing.now → r < 64
+        → has_at v.items x r ≡ (has_at executing.now x r && not (nat_eq (slice_index owners.now x) r))) }
 {
     let mut sets = Vec::new(alloc);
     for place in 0..executing.len() {
@@ -33,7 +35,8 @@ pub fn import_nonexecute(
 ) -> Result<Vec<RankSet>, OutOfMemory>
     requires lengths { length naming.now ≡ length executing.now }
     ensures length { IfOk result (λ v. length v.items ≡ length naming.now) }
-    ensures has { IfOk result (λ v. (x r : ℕ) → x < length naming.now → r < 64 → has_at v.items x r ≡ (has_at naming.now x r && not (has_at executing.now x r))) }
+    ensures has { IfOk result (λ v. (x r : ℕ) → x < length naming.now → r < 64
+        → has_at v.items x r ≡ (has_at naming.now x r && not (has_at executing.now x r))) }
 {
     let mut sets = Vec::new(alloc);
     for place in 0..naming.len() {
@@ -45,7 +48,8 @@ pub fn import_nonexecute(
 /// Whether each set is without ranks.
 pub fn core_places(alloc: Global, sets: &[RankSet]) -> Result<Vec<bool>, OutOfMemory>
     ensures length { IfOk result (λ v. length v.items ≡ length sets.now) }
-    ensures core { IfOk result (λ v. (x : ℕ) → x < length sets.now → (slice_index_or v.items x true ≡ true) ↔ ((r : ℕ) → r < 64 → has_at sets.now x r ≡ false)) }
+    ensures core { IfOk result (λ v. (x : ℕ) → x < length sets.now
+        → (slice_index_or v.items x true ≡ true) ↔ ((r : ℕ) → r < 64 → has_at sets.now x r ≡ false)) }
 {
     let mut core = Vec::new(alloc);
     for set in sets {

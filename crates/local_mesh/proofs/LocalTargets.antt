@@ -2,10 +2,9 @@
 use Rattle.std.proofs.Common.{◌≡◌, ℕ, ◌+◌, ◌*◌, ◌<◌, ◌↔◌, length, get_or, sym, ap, ◌∙◌, subst}
 use Rattle.mesh_decl.specs.declared.owners.Owners.{Owners}
 use Rattle.mesh_decl.specs.declared.owners.Perms.{Perms}
-use Rattle.mesh_decl.specs.Mesh.{MeshValue, map_count, map_from, map_to, map_dim, target}
+use Rattle.mesh_decl.specs.Mesh.{MeshValue, map_count, map_from, map_to, map_dim, target, IsInRange}
 use Rattle.mesh_decl.specs.Owners.{ArePerms}
 use Rattle.rank_sets.specs.Below.{row}
-use Rattle.halo_lists.specs.Halo.{IsInRange}
 use Rattle.local_mesh.specs.declared.types.RankMesh.{RankMesh}
 use Rattle.local_mesh.specs.LocalMesh.{IsRankMesh, originals_in, executed_in}
 use Rattle.local_mesh.proofs.Firsts.{distinct}

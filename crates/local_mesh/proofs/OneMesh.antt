@@ -4,11 +4,11 @@ use Rattle.std.proofs.lemmas.List.{ext_get_or, get_or-map, length-map}
 use Rattle.std.proofs.lemmas.Simd.{map-map}
 use Rattle.mesh_decl.specs.declared.owners.Owners.{Owners}
 use Rattle.mesh_decl.specs.declared.owners.Perms.{Perms}
-use Rattle.mesh_decl.specs.Mesh.{MeshValue, set_count, map_count, dat_count, set_size, map_from, map_to, map_dim, target, dat_set}
+use Rattle.mesh_decl.specs.Mesh.{MeshValue, set_count, map_count, dat_count, set_size, map_from, map_to, map_dim, target, dat_set, IsInRange}
 use Rattle.mesh_decl.specs.Owners.{ArePerms}
 use Rattle.mesh_decl.proofs.FieldReads.{some_in}
 use Rattle.rank_sets.specs.Below.{row}
-use Rattle.halo_lists.specs.Halo.{IsInRange, owns, imports_execute, imports_nonexecute, is_core}
+use Rattle.halo_lists.specs.Halo.{owns, imports_execute, imports_nonexecute, is_core}
 use Rattle.halo_lists.specs.Values.{lists_of}
 use Rattle.halo_lists.proofs.OneHalo.{same_lists}
 use Rattle.local_mesh.specs.declared.types.LocalSet.{LocalSet}

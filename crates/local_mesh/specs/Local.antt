@@ -27,6 +27,9 @@ pub record AreApart (own exec nonexec : ℕ → Bool) : Type 0 where
 -- The list of originals and the local numbers are inverse on the elements of the three groups.
 pub record AreInverse (n : ℕ) (order : ℕ → ℕ) (own exec nonexec : ℕ → Bool) (original : List ℕ) : Type 0 where
   pub count : length original ≡ earlier order own n + earlier order exec n + earlier order nonexec n
-  pub within : (j : ℕ) → j < n → (own (order j) || (exec (order j) || nonexec (order j))) ≡ true → local_number n order own exec nonexec j < length original
-  pub at_number : (j : ℕ) → j < n → (own (order j) || (exec (order j) || nonexec (order j))) ≡ true → slice_index original (local_number n order own exec nonexec j) ≡ order j
-  pub numbered : (k : ℕ) → k < length original → (j : ℕ) × (j < n) × ((own (order j) || (exec (order j) || nonexec (order j))) ≡ true) × (slice_index original k ≡ order j) × (local_number n order own exec nonexec j ≡ k)
+  pub within : (j : ℕ) → j < n → (own (order j) || (exec (order j) || nonexec (order j))) ≡ true
+      → local_number n order own exec nonexec j < length original
+  pub at_number : (j : ℕ) → j < n → (own (order j) || (exec (order j) || nonexec (order j))) ≡ true
+      → slice_index original (local_number n order own exec nonexec j) ≡ order j
+  pub numbered : (k : ℕ) → k < length original → (j : ℕ) × (j < n) × ((own (order j) || (exec (order j) || nonexec (order j))) ≡ true)
+      × (slice_index original k ≡ order j) × (local_number n order own exec nonexec j ≡ k)

@@ -1,5 +1,6 @@
 -- What the local mesh of a rank holds.
-use Rattle.std.specs.Prelude.{◌≡◌, ◌≢◌, ℕ, zero, suc, ◌+◌, ◌*◌, ◌^◌, ◌<◌, ◌≤◌, false, ◌&&◌, nat_lt, List, [], map, length, slice_index, slice_index_or, Contains}
+use Rattle.std.specs.Prelude.{◌≡◌, ◌≢◌, ℕ, zero, suc, ◌+◌, ◌*◌, ◌^◌, ◌<◌, ◌≤◌, false, ◌&&◌, nat_lt, List, [], map, length, slice_index}
+use Rattle.std.specs.Prelude.{slice_index_or, Contains}
 use Rattle.mesh_decl.specs.declared.owners.Owners.{Owners}
 use Rattle.mesh_decl.specs.declared.owners.Perms.{Perms}
 use Rattle.mesh_decl.specs.Mesh.{MeshValue, set_count, map_count, dat_count, set_size, map_from, map_to, map_dim, target, dat_set, dat_dim}
@@ -10,14 +11,17 @@ use Rattle.local_mesh.specs.declared.types.RankMesh.{RankMesh}
 use Rattle.local_mesh.specs.Local.{earlier, AreInverse}
 use Rattle.local_mesh.specs.Parts.{by_new}
 
--- One set of rank r: how many elements each group has; originals and local numbers are inverse; an element is core here where r owns it and it is core.
+-- One set of rank r: how many elements each group has; originals and local numbers are inverse; an element is core here where r owns it and
+-- it is core.
 pub record IsLocalSet (g : MeshValue) (o : Owners) (p : Perms) (s r : ℕ) (l : LocalSet) : Type 0 where
   pub own : l.own ≡ earlier (by_new p s) (λ x. owns o s x r) (set_size g s)
   pub exec : l.exec ≡ earlier (by_new p s) (λ x. imports_execute g o s x r) (set_size g s)
   pub nonexec : l.nonexec ≡ earlier (by_new p s) (λ x. imports_nonexecute g o s x r) (set_size g s)
-  pub inverse : AreInverse (set_size g s) (by_new p s) (λ x. owns o s x r) (λ x. imports_execute g o s x r) (λ x. imports_nonexecute g o s x r) l.original
+  pub inverse : AreInverse (set_size g s) (by_new p s) (λ x. owns o s x r) (λ x. imports_execute g o s x r)
+      (λ x. imports_nonexecute g o s x r) l.original
   pub core_count : length l.core.items ≡ length l.original
-  pub core : (k : ℕ) → k < length l.original → slice_index_or l.core.items k false ≡ (nat_lt k l.own && is_core g o s (slice_index l.original k))
+  pub core : (k : ℕ) → k < length l.original
+      → slice_index_or l.core.items k false ≡ (nat_lt k l.own && is_core g o s (slice_index l.original k))
 
 -- the original numbers of a rank's elements of a set, by local number
 unfoldable pub originals_in : List LocalSet → ℕ → List ℕ
@@ -35,8 +39,11 @@ cells_before g sets (suc d) = cells_before g sets d + length (originals_in sets 
 -- Local targets of what is executed: the element with that local number is the target.
 pub record AreLocalTargets (g : MeshValue) (m : ℕ) (sets : List LocalSet) (table : List ℕ) : Type 0 where
   pub count : length table ≡ executed_in sets (map_from g m) * map_dim g m
-  pub within : (k i : ℕ) → k < executed_in sets (map_from g m) → i < map_dim g m → slice_index table (k * map_dim g m + i) < length (originals_in sets (map_to g m))
-  pub targets : (k i : ℕ) → k < executed_in sets (map_from g m) → i < map_dim g m → slice_index (originals_in sets (map_to g m)) (slice_index table (k * map_dim g m + i)) ≡ target g m (slice_index (originals_in sets (map_from g m)) k) i
+  pub within : (k i : ℕ) → k < executed_in sets (map_from g m) → i < map_dim g m
+      → slice_index table (k * map_dim g m + i) < length (originals_in sets (map_to g m))
+  pub targets : (k i : ℕ) → k < executed_in sets (map_from g m) → i < map_dim g m
+      → slice_index (originals_in sets (map_to g m)) (slice_index table (k * map_dim g m + i))
+      ≡ target g m (slice_index (originals_in sets (map_from g m)) k) i
 
 -- Different elements of each set, with the targets of what is executed among them.
 pub record AreClosed (g : MeshValue) (sets : List LocalSet) : Type 0 where
@@ -44,8 +51,10 @@ pub record AreClosed (g : MeshValue) (sets : List LocalSet) : Type 0 where
   pub few : (s : ℕ) → s < set_count g → length (originals_in sets s) < 2 ^ 32
   pub executed : (s : ℕ) → s < set_count g → executed_in sets s ≤ length (originals_in sets s)
   pub within : (s k : ℕ) → s < set_count g → k < length (originals_in sets s) → slice_index (originals_in sets s) k < set_size g s
-  pub apart : (s j k : ℕ) → s < set_count g → j < k → k < length (originals_in sets s) → slice_index (originals_in sets s) j ≢ slice_index (originals_in sets s) k
-  pub targets : (m k i : ℕ) → m < map_count g → k < executed_in sets (map_from g m) → i < map_dim g m → Contains (originals_in sets (map_to g m)) (target g m (slice_index (originals_in sets (map_from g m)) k) i)
+  pub apart : (s j k : ℕ) → s < set_count g → j < k → k < length (originals_in sets s)
+      → slice_index (originals_in sets s) j ≢ slice_index (originals_in sets s) k
+  pub targets : (m k i : ℕ) → m < map_count g → k < executed_in sets (map_from g m) → i < map_dim g m
+      → Contains (originals_in sets (map_to g m)) (target g m (slice_index (originals_in sets (map_from g m)) k) i)
 
 -- Where each dat begins, and how many cells there are.
 pub record AreBases (g : MeshValue) (sets : List LocalSet) (starts : List ℕ) (total : ℕ) : Type 0 where

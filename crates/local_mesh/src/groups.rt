@@ -21,7 +21,8 @@ fn elements_by_rank(
     requires order { (j : ℕ) → j < length order.now → slice_index order.now j < length sets.now }
     requires below { (x r : ℕ) → x < length sets.now → r < 64 → has_at sets.now x r ≡ true → r < ranks }
     ensures length { IfOk result (λ v. length v.items ≡ ranks) }
-    ensures lists { IfOk result (λ v. (r : ℕ) → r < ranks → row v.items r ≡ ordered (length order.now) (slice_index order.now) (λ x. has_at sets.now x r)) }
+    ensures lists { IfOk result (λ v. (r : ℕ) → r < ranks
+        → row v.items r ≡ ordered (length order.now) (slice_index order.now) (λ x. has_at sets.now x r)) }
 {
     let mut lists = empty_lists(alloc, ranks)?;
     for element in order {
@@ -77,7 +78,8 @@ fn in_order(
     requires within { (r k : ℕ) → r < length lists.now → k < length (row lists.now r) → slice_index (row lists.now r) k < size }
     requires order { (j : ℕ) → j < length order.now → slice_index order.now j < size }
     ensures length { IfOk result (λ v. length v.items ≡ length lists.now) }
-    ensures lists { IfOk result (λ v. (r : ℕ) → r < length lists.now → row v.items r ≡ ordered (length order.now) (slice_index order.now) (λ x. stands (row lists.now r) x)) }
+    ensures lists { IfOk result (λ v. (r : ℕ) → r < length lists.now
+        → row v.items r ≡ ordered (length order.now) (slice_index order.now) (λ x. stands (row lists.now r) x)) }
 {
     let mut sets = vec![in alloc; RankSet::empty(); size as usize]?;
     add_ranks(&mut sets, lists);
@@ -96,7 +98,8 @@ fn owned_in_order(
     requires owners { (x : ℕ) → x < length owners.now → slice_index owners.now x < ranks }
     requires order { (j : ℕ) → j < length order.now → slice_index order.now j < length owners.now }
     ensures length { IfOk result (λ v. length v.items ≡ ranks) }
-    ensures lists { IfOk result (λ v. (r : ℕ) → r < ranks → row v.items r ≡ ordered (length order.now) (slice_index order.now) (λ x. nat_eq (slice_index owners.now x) r)) }
+    ensures lists { IfOk result (λ v. (r : ℕ) → r < ranks
+        → row v.items r ≡ ordered (length order.now) (slice_index order.now) (λ x. nat_eq (slice_index owners.now x) r)) }
 {
     let sets = owner_sets(alloc, owners)?;
     let found = elements_by_rank(alloc, &sets, order, ranks)?;
@@ -119,7 +122,9 @@ fn all_copies(
     requires nonexec_count { length nonexec.now ≡ ranks }
     requires nonexec { (r k : ℕ) → r < ranks → k < length (row nonexec.now r) → slice_index (row nonexec.now r) k < length owners.now }
     ensures length { IfOk result (λ v. length v.items ≡ ranks) }
-    ensures lists { IfOk result (λ v. (r : ℕ) → r < ranks → row v.items r ≡ listed (length owners.now) (λ x. nat_eq (slice_index owners.now x) r || (stands (row exec.now r) x || stands (row nonexec.now r) x))) }
+    ensures lists { IfOk result (λ v. (r : ℕ) → r < ranks
+        → row v.items r ≡ listed (length owners.now) (λ x. nat_eq (slice_index owners.now x) r
+        || (stands (row exec.now r) x || stands (row nonexec.now r) x))) }
 {
     let mut sets = owner_sets(alloc, owners)?;
     add_ranks(&mut sets, exec);
@@ -147,13 +152,19 @@ pub fn groups_by_rank(
     requires nonexec { (r k : ℕ) → r < ranks → k < length (row nonexec.now r) → slice_index (row nonexec.now r) k < length owners.now }
     requires order { (j : ℕ) → j < length order.now → slice_index order.now j < length owners.now }
     ensures own_count { IfOk result (λ t. length t.own.items ≡ ranks) }
-    ensures own { IfOk result (λ t. (r : ℕ) → r < ranks → row t.own.items r ≡ ordered (length order.now) (slice_index order.now) (λ x. nat_eq (slice_index owners.now x) r)) }
+    ensures own { IfOk result (λ t. (r : ℕ) → r < ranks
+        → row t.own.items r ≡ ordered (length order.now) (slice_index order.now) (λ x. nat_eq (slice_index owners.now x) r)) }
     ensures exec_count { IfOk result (λ t. length t.exec.items ≡ ranks) }
-    ensures exec { IfOk result (λ t. (r : ℕ) → r < ranks → row t.exec.items r ≡ ordered (length order.now) (slice_index order.now) (λ x. stands (row exec.now r) x)) }
+    ensures exec { IfOk result (λ t. (r : ℕ) → r < ranks
+        → row t.exec.items r ≡ ordered (length order.now) (slice_index order.now) (λ x. stands (row exec.now r) x)) }
     ensures nonexec_count { IfOk result (λ t. length t.nonexec.items ≡ ranks) }
-    ensures nonexec { IfOk result (λ t. (r : ℕ) → r < ranks → row t.nonexec.items r ≡ ordered (length order.now) (slice_index order.now) (λ x. stands (row nonexec.now r) x)) }
+    ensures nonexec { IfOk result (λ t. (r : ℕ) → r < ranks
+        → row t.nonexec.items r ≡ ordered (length order.now) (slice_index order.now) (λ x. stands (row nonexec.now r) x)) }
     ensures copies_count { IfOk result (λ t. length t.copies.items ≡ ranks) }
-    ensures copies { IfOk result (λ t. (r : ℕ) → r < ranks → row t.copies.items r ≡ listed (length owners.now) (λ x. nat_eq (slice_index owners.now x) r || (stands (row exec.now r) x || stands (row nonexec.now r) x))) }
+    ensures copies { IfOk result (λ t. (r : ℕ) → r < ranks
+        → row t.copies.items r
+        ≡ listed (length owners.now) (λ x. nat_eq (slice_index owners.now x) r
+        || (stands (row exec.now r) x || stands (row nonexec.now r) x))) }
 {
     let size = owners.len() as u32;
     Ok(Groups {

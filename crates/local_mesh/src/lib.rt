@@ -54,7 +54,8 @@ fn all_groups(
     requires halos { AreHalos mesh.now owners.now halos.now }
     requires perms { ArePerms mesh.now perms.now }
     ensures count { IfOk result (λ v. length v.items ≡ set_count mesh.now) }
-    ensures groups { IfOk result (λ v. (s : ℕ) (d : Groups) → s < set_count mesh.now → AreGroups mesh.now owners.now perms.now s (slice_index_or v.items s d)) }
+    ensures groups { IfOk result (λ v. (s : ℕ) (d : Groups) → s < set_count mesh.now
+        → AreGroups mesh.now owners.now perms.now s (slice_index_or v.items s d)) }
 {
     let mut groups = Vec::new(alloc);
     for set in 0..mesh.set_count() {
@@ -102,7 +103,7 @@ pub fn localise(
     ensures { IfOk result (λ v. AreRankMeshes mesh.now owners.now perms.now v.items) }
 {
     executed_targets_are_copies();
-    let _ = (mesh.set_count(), mesh.map_count());
+    mesh.is_in_range();
     let groups = all_groups(alloc, mesh, owners, halos, perms)?;
     let mut scratch = vec![in alloc; 0; largest_size(mesh) as usize]?;
     let mut ranks = Vec::new(alloc);

@@ -204,7 +204,7 @@ pub fn local_lists(
     ensures { IfOk result (λ v. AreLocalLists mesh.now owners.now halos.now meshes.now v.items) }
 {
     rank_meshes_are_closed();
-    let _ = (mesh.set_count(), mesh.map_count());
+    mesh.is_in_range();
     let mut lists = Vec::new(alloc);
     for set in 0..mesh.set_count() {
         let halo = &halos.sets[set as usize];

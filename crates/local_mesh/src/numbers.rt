@@ -1,5 +1,6 @@
 // The sets of a rank.
-ghost use Rattle.std.specs.Prelude.{◌≡◌, ℕ, Bool, true, false, ◌<◌, ◌≤◌, ◌+◌, ◌^◌, ◌&&◌, ◌++◌, nat_lt, IfOk, length, slice_index, slice_index_or};
+ghost use Rattle.std.specs.Prelude.{◌≡◌, ℕ, Bool, true, false, ◌<◌, ◌≤◌, ◌+◌, ◌^◌, ◌&&◌, ◌++◌, nat_lt, IfOk, length, slice_index};
+ghost use Rattle.std.specs.Prelude.{slice_index_or};
 ghost use Rattle.rank_sets.specs.Below.{row};
 ghost use Rattle.halo_lists.specs.declared.types.SetHalo.{SetHalo};
 ghost use Rattle.local_mesh.specs.declared.types.Groups.{Groups};
@@ -38,7 +39,8 @@ fn own_flags(
 ) -> Result<Vec<bool>, OutOfMemory>
     requires { (k : ℕ) → k < length numbers.now → slice_index numbers.now k < length flags.now }
     ensures length { IfOk result (λ v. length v.items ≡ length numbers.now) }
-    ensures flags { IfOk result (λ v. (k : ℕ) → k < length numbers.now → slice_index_or v.items k false ≡ (nat_lt k own && slice_index_or flags.now (slice_index numbers.now k) true)) }
+    ensures flags { IfOk result (λ v. (k : ℕ) → k < length numbers.now
+        → slice_index_or v.items k false ≡ (nat_lt k own && slice_index_or flags.now (slice_index numbers.now k) true)) }
 {
     let mut found = Vec::with_capacity(alloc, numbers.len())?;
     for (local, number) in numbers.iter().enumerate() {
@@ -102,9 +104,11 @@ pub fn local_sets(
     scratch: &mut [u32],
 ) -> Result<Vec<LocalSet>, OutOfMemory>
     requires halos { length halos.now.sets.items ≡ length groups.now }
-    requires ready { (s : ℕ) (t : Groups) (h : SetHalo) → s < length groups.now → IsReady rank (length scratch.old) (slice_index_or groups.now s t) (slice_index_or halos.now.sets.items s h) }
+    requires ready { (s : ℕ) (t : Groups) (h : SetHalo) → s < length groups.now
+        → IsReady rank (length scratch.old) (slice_index_or groups.now s t) (slice_index_or halos.now.sets.items s h) }
     ensures count { IfOk result (λ v. length v.items ≡ length groups.now) }
-    ensures joined { IfOk result (λ v. (s : ℕ) (t : Groups) (h : SetHalo) (d : LocalSet) → s < length groups.now → IsJoinedFrom rank (slice_index_or groups.now s t) (slice_index_or halos.now.sets.items s h) (slice_index_or v.items s d)) }
+    ensures joined { IfOk result (λ v. (s : ℕ) (t : Groups) (h : SetHalo) (d : LocalSet) → s < length groups.now
+        → IsJoinedFrom rank (slice_index_or groups.now s t) (slice_index_or halos.now.sets.items s h) (slice_index_or v.items s d)) }
 {
     let mut sets = Vec::new(alloc);
     for set in 0..groups.len() {

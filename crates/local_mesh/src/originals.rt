@@ -84,7 +84,8 @@ pub fn number_locals(numbers: &mut [u32], original: &[u32])
 pub fn locals_of(alloc: Global, places: &[u32], numbers: &[u32]) -> Result<Vec<u32>, OutOfMemory>
     requires { (k : ℕ) → k < length places.now → slice_index places.now k < length numbers.now }
     ensures length { IfOk result (λ v. length v.items ≡ length places.now) }
-    ensures at { IfOk result (λ v. (k : ℕ) → k < length places.now → slice_index v.items k ≡ slice_index numbers.now (slice_index places.now k)) }
+    ensures at { IfOk result (λ v. (k : ℕ) → k < length places.now
+        → slice_index v.items k ≡ slice_index numbers.now (slice_index places.now k)) }
 {
     let mut locals = Vec::with_capacity(alloc, places.len())?;
     for place in places {

@@ -23,7 +23,8 @@ fn push_targets(
     requires numbers { set_size mesh.now (map_to mesh.now map) ≤ length numbers.now }
     ensures length { OnOk result (length table.new.items ≡ length table.old.items + map_dim mesh.now map) }
     ensures before { OnOk result ((k : ℕ) → k < length table.old.items → slice_index table.new.items k ≡ slice_index table.old.items k) }
-    ensures targets { OnOk result ((i : ℕ) → i < map_dim mesh.now map → slice_index table.new.items (length table.old.items + i) ≡ slice_index numbers.now (target mesh.now map element i)) }
+    ensures targets { OnOk result ((i : ℕ) → i < map_dim mesh.now map
+        → slice_index table.new.items (length table.old.items + i) ≡ slice_index numbers.now (target mesh.now map element i)) }
 {
     let (_, _, dim) = mesh.map_ends(map);
     for place in 0..dim {
@@ -44,7 +45,9 @@ fn local_targets(
     requires elements { (k : ℕ) → k < length elements.now → slice_index elements.now k < set_size mesh.now (map_from mesh.now map) }
     requires numbers { set_size mesh.now (map_to mesh.now map) ≤ length numbers.now }
     ensures length { IfOk result (λ v. length v.items ≡ length elements.now * map_dim mesh.now map) }
-    ensures targets { IfOk result (λ v. (k i : ℕ) → k < length elements.now → i < map_dim mesh.now map → slice_index v.items (k * map_dim mesh.now map + i) ≡ slice_index numbers.now (target mesh.now map (slice_index elements.now k) i)) }
+    ensures targets { IfOk result (λ v. (k i : ℕ) → k < length elements.now → i < map_dim mesh.now map
+        → slice_index v.items (k * map_dim mesh.now map + i)
+        ≡ slice_index numbers.now (target mesh.now map (slice_index elements.now k) i)) }
 {
     let mut table = Vec::new(alloc);
     for element in elements {

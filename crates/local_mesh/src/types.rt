@@ -47,9 +47,12 @@ impl RankMesh {
     /// no copy of it. It takes time logarithmic in what the rank has, and no memory.
     pub fn local_of(&self, set: u32, original: u32) -> Option<u32>
         requires { set < length self.now.sets.items }
-        ensures some { IfSome result (λ l. (l < length (originals_in self.now.sets.items set)) × (slice_index (originals_in self.now.sets.items set) l ≡ original)) }
-        ensures none { IfNone result ((k : ℕ) → k < length (originals_in self.now.sets.items set) → slice_index (originals_in self.now.sets.items set) k ≢ original) }
-        ensures at { (k : ℕ) → k < length (originals_in self.now.sets.items set) → slice_index (originals_in self.now.sets.items set) k ≡ original → result ≡ Some k }
+        ensures some { IfSome result (λ l. (l < length (originals_in self.now.sets.items set))
+            × (slice_index (originals_in self.now.sets.items set) l ≡ original)) }
+        ensures none { IfNone result ((k : ℕ) → k < length (originals_in self.now.sets.items set)
+            → slice_index (originals_in self.now.sets.items set) k ≢ original) }
+        ensures at { (k : ℕ) → k < length (originals_in self.now.sets.items set)
+            → slice_index (originals_in self.now.sets.items set) k ≡ original → result ≡ Some k }
     {
         self.sets[set as usize].original.local_of(original)
     }

@@ -7,7 +7,7 @@ use Rattle.std.proofs.lemmas.List.Elements.{All-get_or, All-map, All-push, All-w
 use Rattle.mesh_decl.specs.declared.decl.SetDecl.{SetDecl}
 use Rattle.mesh_decl.specs.declared.decl.MapDecl.{MapDecl}
 use Rattle.mesh_decl.specs.declared.decl.DatDecl.{DatDecl}
-use Rattle.mesh_decl.specs.Mesh.{MeshValue, set_count, map_count, dat_count, size_in, set_size, map_from, map_to, map_dim, map_targets, target, dat_set, dat_dim, dat_values, is_element, AreElements, IsMap, IsDat, IsMesh, IsMapAt, IsDatAt}
+use Rattle.mesh_decl.specs.Mesh.{MeshValue, set_count, map_count, dat_count, size_in, set_size, map_from, map_to, map_dim, map_targets, target, dat_set, dat_dim, dat_values, is_element, AreElements, IsMap, IsDat, IsMesh, IsMapAt, IsDatAt, IsInRange}
 use Rattle.mesh_decl.proofs.FieldReads.{some_in, map_field}
 use native.Mathlib.Nat.{mul-le-mul_right}
 
@@ -192,3 +192,6 @@ module _ (v g : MeshValue) (view : v ≡ g) (i : IsMesh v) (m : ℕ) (x : MapDec
   pub read_target : (element place : ℕ) → unsigned_abs (get_or x.targets (element * x.dim + place) (pos 0)) ≡ target g m element place
   unfolding target
   read_target element place = rw (read_dim, read_targets) refl
+
+pub in_range : (g : MeshValue) → IsMesh g → IsInRange g
+in_range g i = record { sizes = sizes_fit g i; maps = map_at g i; dats = dat_at g i }

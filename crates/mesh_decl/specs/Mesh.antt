@@ -1,5 +1,6 @@
 -- Meshes as lists of what was declared.
-use Rattle.std.specs.Prelude.{◌≡◌, ℕ, ℤ, pos, negsuc, ◌+◌, ◌*◌, ◌^◌, ◌<◌, Bool, true, false, nat_lt, List, [], ◌∷◌, ◌++◌, length, map, All, slice_index, slice_index_or, unsigned_abs}
+use Rattle.std.specs.Prelude.{◌≡◌, ℕ, ℤ, pos, negsuc, ◌+◌, ◌*◌, ◌^◌, ◌<◌, Bool, true, false, nat_lt, List, [], ◌∷◌, ◌++◌, length, map, All}
+use Rattle.std.specs.Prelude.{slice_index, slice_index_or, unsigned_abs}
 use Rattle.mesh_decl.specs.declared.decl.SetDecl.{SetDecl}
 use Rattle.mesh_decl.specs.declared.decl.MapDecl.{MapDecl}
 use Rattle.mesh_decl.specs.declared.decl.DatDecl.{DatDecl}
@@ -121,7 +122,8 @@ pub record IsMapAt (g : MeshValue) (m : ℕ) : Type 0 where
   pub some : 0 < map_dim g m
   pub dim : map_dim g m < 2 ^ 32
   pub length : length (map_targets g m) ≡ set_size g (map_from g m) * map_dim g m
-  pub within : (element place : ℕ) → element < set_size g (map_from g m) → place < map_dim g m → target g m element place < set_size g (map_to g m)
+  pub within : (element place : ℕ) → element < set_size g (map_from g m) → place < map_dim g m
+      → target g m element place < set_size g (map_to g m)
 
 -- what is so of a dat by its number
 pub record IsDatAt (g : MeshValue) (d : ℕ) : Type 0 where
@@ -129,6 +131,12 @@ pub record IsDatAt (g : MeshValue) (d : ℕ) : Type 0 where
   pub some : 0 < dat_dim g d
   pub dim : dat_dim g d < 2 ^ 32
   pub length : length (dat_values g d) ≡ set_size g (dat_set g d) * dat_dim g d
+
+-- what is so of every mesh, by the numbers of its sets, maps and dats
+pub record IsInRange (g : MeshValue) : Type 0 where
+  pub sizes : (s : ℕ) → set_size g s < 2 ^ 32
+  pub maps : (m : ℕ) → m < map_count g → IsMapAt g m
+  pub dats : (d : ℕ) → d < dat_count g → IsDatAt g d
 
 -- The first target that is no element of a set of this size stands at this index.
 pub record IsFirstBad (size : ℕ) (targets : List ℤ) (index : ℕ) : Type 0 where

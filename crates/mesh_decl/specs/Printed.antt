@@ -1,5 +1,6 @@
 -- The bytes that a program prints.
-use Rattle.std.specs.Prelude.{ℕ, zero, suc, ℤ, ◌+◌, ◌&&◌, nat_eq, List, [], ◌∷◌, ◌++◌, map, take, drop, Option, Some, None, codes, if◌then◌else◌}
+use Rattle.std.specs.Prelude.{ℕ, zero, suc, ℤ, ◌+◌, ◌&&◌, nat_eq, List, [], ◌∷◌, ◌++◌, map, take, drop, Option, Some, None, codes}
+use Rattle.std.specs.Prelude.{if◌then◌else◌}
 use Rattle.std.specs.List.{flat_map}
 use Rattle.std.specs.Fmt.{decimal, signed_decimal}
 use Rattle.texts.specs.Lines.{line_of}
@@ -16,11 +17,13 @@ row_text zs = line_of (map signed_decimal zs)
 
 -- the parts of the first line: `F: D SET SIZE DIM` and LF
 abbrev pub dat_header : List ℕ → MeshValue → ℕ → List (List ℕ)
-dat_header file g d = file ∷ codes ": " ∷ dat_name g d ∷ codes " " ∷ set_name g (dat_set g d) ∷ codes " " ∷ decimal (set_size g (dat_set g d)) ∷ codes " " ∷ decimal (dat_dim g d) ∷ codes "\n" ∷ []
+dat_header file g d = file ∷ codes ": " ∷ dat_name g d ∷ codes " " ∷ set_name g (dat_set g d) ∷ codes " "
+    ∷ decimal (set_size g (dat_set g d)) ∷ codes " " ∷ decimal (dat_dim g d) ∷ codes "\n" ∷ []
 
 -- what `op_print_dat_to_txtfile` prints of a dat that has these values
 unfoldable pub printed_dat : List ℕ → MeshValue → ℕ → List ℤ → List ℕ
-printed_dat file g d zs = flat_map (λ part. part) (dat_header file g d) ++ flat_map row_text (rows (dat_dim g d) (set_size g (dat_set g d)) zs)
+printed_dat file g d zs = flat_map (λ part. part) (dat_header file g d)
+    ++ flat_map row_text (rows (dat_dim g d) (set_size g (dat_set g d)) zs)
 
 -- one more, where there is a count
 abbrev pub one_more : Option ℕ → Option ℕ
@@ -31,7 +34,9 @@ one_more (Some n) = Some (n + 1)
 abbrev pub conversions : List ℕ → Option ℕ
 conversions [] = Some 0
 conversions (c ∷ []) = if nat_eq c 37 then None else Some 0
-conversions (c ∷ d ∷ ds) = if nat_eq c 37 then (if nat_eq d 100 then one_more (conversions ds) else (if nat_eq d 37 then conversions ds else None)) else conversions (d ∷ ds)
+conversions (c ∷ d ∷ ds) =
+    if nat_eq c 37 then (if nat_eq d 100 then one_more (conversions ds) else
+    (if nat_eq d 37 then conversions ds else None)) else conversions (d ∷ ds)
 
 -- the next value, where there is one
 abbrev pub shown : List ℤ → List ℕ
@@ -43,4 +48,5 @@ unfoldable pub printed_line : List ℕ → List ℤ → List ℕ
 printed_line [] zs = []
 printed_line (c ∷ []) zs = c ∷ []
 printed_line (c ∷ d ∷ ds) zs =
-    if nat_eq c 37 && nat_eq d 100 then shown zs ++ printed_line ds (drop 1 zs) else (if nat_eq c 37 && nat_eq d 37 then 37 ∷ printed_line ds zs else c ∷ printed_line (d ∷ ds) zs)
+    if nat_eq c 37 && nat_eq d 100 then shown zs
+    ++ printed_line ds (drop 1 zs) else (if nat_eq c 37 && nat_eq d 37 then 37 ∷ printed_line ds zs else c ∷ printed_line (d ∷ ds) zs)

@@ -1,7 +1,10 @@
 // Meshes.
-ghost use Rattle.std.specs.Prelude.{◌≡◌, ℕ, ℤ, pos, ◌+◌, ◌*◌, ◌^◌, ◌<◌, ◌⊎◌, ◌++◌, List, [], ◌∷◌, length, unsigned_abs, slice_index_or, OnOk, OnErr, IfOk, IfErr, IfSome, IfNone};
+ghost use Rattle.std.specs.Prelude.{◌≡◌, ℕ, ℤ, pos, ◌+◌, ◌*◌, ◌^◌, ◌<◌, ◌⊎◌, ◌++◌, List, [], ◌∷◌, length, unsigned_abs, slice_index_or};
+ghost use Rattle.std.specs.Prelude.{OnOk, OnErr, IfOk, IfErr, IfSome, IfNone};
 ghost use Rattle.mesh_decl.specs.declared.decl.MapRefusal.{MapRefusal as Refusal};
-ghost use Rattle.mesh_decl.specs.Mesh.{no_mesh, set_count, map_count, dat_count, set_size, set_name, map_from, map_to, map_dim, map_name, target, dat_set, dat_dim, dat_name, dat_values, is_element as is_element_of, AreElements, IsMapAt, IsDatAt, IsFirstBad, RefusesTarget};
+ghost use Rattle.mesh_decl.specs.Mesh.{no_mesh, set_count, map_count, dat_count, set_size, set_name, map_from, map_to, map_dim, map_name};
+ghost use Rattle.mesh_decl.specs.Mesh.{target, dat_set, dat_dim, dat_name, dat_values, is_element as is_element_of, AreElements, IsMapAt};
+ghost use Rattle.mesh_decl.specs.Mesh.{IsDatAt, IsInRange, IsFirstBad, RefusesTarget};
 
 use crate::decl::{DatDecl, MapDecl, MapRefusal, SetDecl};
 use mesh_text::Values;
@@ -44,7 +47,8 @@ impl Mesh {
     /// Adds a set of `size` elements behind the others, and gives its number. Where that fails for want of memory, also
     /// where there are 4294967295 sets, the mesh stays as it was.
     pub fn add_set(&mut self, name: Name, size: u32) -> Result<u32, OutOfMemory>
-        ensures ok { IfOk result (λ n. (n ≡ set_count self.old) × (self.new ≡ record self.old { sets = self.old.sets ++ (record { name = name; size = size }) ∷ [] })) }
+        ensures ok { IfOk result (λ n. (n ≡ set_count self.old)
+            × (self.new ≡ record self.old { sets = self.old.sets ++ (record { name = name; size = size }) ∷ [] })) }
         ensures err { OnErr result (self.new ≡ self.old) }
     {
         let number = self.sets.len();
@@ -71,7 +75,11 @@ impl Mesh {
         requires to { to < set_count self.old }
         requires dim { 0 < dim }
         requires size { length targets.items ≡ set_size self.old from * dim }
-        ensures ok { IfOk result (λ n. (n ≡ map_count self.old) × (self.new ≡ record self.old { maps = self.old.maps ++ (record { name = name; from = from; to = to; dim = dim; targets = targets.items }) ∷ [] })) }
+        ensures ok { IfOk result (λ n. (n ≡ map_count self.old)
+            × (self.new ≡ record self.old {
+              maps = self.old.maps
+                  ++ (record { name = name; from = from; to = to; dim = dim; targets = targets.items }) ∷ [];
+            })) }
         ensures good { OnOk result (AreElements (set_size self.old to) targets.items) }
         ensures target { IfErr result (λ r. (r ≡ Refusal.OutOfMemory) ⊎ RefusesTarget (set_size self.old to) dim targets.items r) }
         ensures err { OnErr result (self.new ≡ self.old) }
@@ -107,7 +115,11 @@ impl Mesh {
         requires set { set < set_count self.old }
         requires dim { 0 < dim }
         requires size { length values.items ≡ set_size self.old set * dim }
-        ensures ok { IfOk result (λ n. (n ≡ dat_count self.old) × (self.new ≡ record self.old { dats = self.old.dats ++ (record { name = name; set = set; dim = dim; values = values.items }) ∷ [] })) }
+        ensures ok { IfOk result (λ n. (n ≡ dat_count self.old)
+            × (self.new ≡ record self.old {
+              dats = self.old.dats
+                  ++ (record { name = name; set = set; dim = dim; values = values.items }) ∷ [];
+            })) }
         ensures err { OnErr result (self.new ≡ self.old) }
     {
         let number = self.dats.len();
@@ -122,6 +134,13 @@ impl Mesh {
             values,
         })?;
         Ok(number as u32)
+    }
+
+    /// A law: what is so of every mesh, by the numbers of its sets, maps and dats.
+    pub fn is_in_range(&self)
+        ensures { IsInRange self.now }
+    {
+        let _ = self.sets.len();
     }
 
     /// How many sets there are. Each has fewer than 2 ^ 32 elements.

@@ -1,5 +1,6 @@
 -- Owners by repeated halving along the axis with the largest spread.
-use Rattle.std.specs.Prelude.{◌≡◌, ◌⊎◌, ℕ, ℤ, pos, zero, suc, ◌+◌, ◌-◌, ◌*◌, ◌/◌, ◌<◌, ◌≤◌, ◌+ℤ◌, List, ◌++◌, length, slice_index, slice_index_or, unsigned_abs, nat_eq}
+use Rattle.std.specs.Prelude.{◌≡◌, ◌⊎◌, ℕ, ℤ, pos, zero, suc, ◌+◌, ◌-◌, ◌*◌, ◌/◌, ◌<◌, ◌≤◌, ◌+ℤ◌, List, ◌++◌, length, slice_index}
+use Rattle.std.specs.Prelude.{slice_index_or, unsigned_abs, nat_eq}
 use Rattle.std.specs.List.Sorted.{IsPermutation}
 use Rattle.partition.specs.Block.{block_start, share}
 use Rattle.rank_sets.specs.Below.{count_below}
@@ -32,7 +33,8 @@ pub record IsAxis (values : List ℤ) (dim : ℕ) (xs : List ℕ) (a : ℕ) : Ty
 -- the same elements by (value on axis a, number)
 pub record IsAlong (values : List ℤ) (dim a : ℕ) (xs ys : List ℕ) : Type 0 where
   pub same : IsPermutation xs ys
-  pub rises : (i j : ℕ) → i < j → j < length ys → (height values dim a (slice_index ys i) < height values dim a (slice_index ys j)) ⊎ ((height values dim a (slice_index ys i) ≡ height values dim a (slice_index ys j)) × (slice_index ys i ≤ slice_index ys j))
+  pub rises : (i j : ℕ) → i < j → j < length ys → (height values dim a (slice_index ys i) < height values dim a (slice_index ys j))
+      ⊎ ((height values dim a (slice_index ys i) ≡ height values dim a (slice_index ys j)) × (slice_index ys i ≤ slice_index ys j))
 
 -- along the axis with the largest spread, the first `many` elements and the others
 pub record IsCut (values : List ℤ) (dim many : ℕ) (xs lower upper : List ℕ) : Type 0 where
@@ -41,13 +43,15 @@ pub record IsCut (values : List ℤ) (dim many : ℕ) (xs lower upper : List ℕ
   pub along : IsAlong values dim axis xs (lower ++ upper)
   pub count : length lower ≡ many
 
--- A list for the ranks from lo on, `many` of them, of n elements and `ranks` ranks: one rank has all; of an empty list nothing is said; else the list is cut, and the first part goes to the lower half of the ranks. Each cut uses up one of `depth`.
+-- A list for the ranks from lo on, `many` of them, of n elements and `ranks` ranks: one rank has all; of an empty list nothing is said;
+-- else the list is cut, and the first part goes to the lower half of the ranks. Each cut uses up one of `depth`.
 abbrev pub IsHalved : ℕ → ℕ → ℕ → List ℤ → ℕ → (ℕ → ℕ) → ℕ → ℕ → List ℕ → Type 0
 IsHalved zero n ranks values dim owner lo many xs = ⊥
 IsHalved (suc depth) n ranks values dim owner lo many xs =
     ((many ≡ 1) × ((k : ℕ) → k < length xs → owner (slice_index xs k) ≡ lo))
     ⊎ ((length xs ≡ 0)
-    ⊎ ((1 < many) × (lower : List ℕ) × (upper : List ℕ) × IsCut values dim (block_start n ranks (lo + many / 2) - block_start n ranks lo) xs lower upper
+    ⊎ ((1 < many) × (lower : List ℕ) × (upper : List ℕ)
+    × IsCut values dim (block_start n ranks (lo + many / 2) - block_start n ranks lo) xs lower upper
     × IsHalved depth n ranks values dim owner lo (many / 2) lower
     × IsHalved depth n ranks values dim owner (lo + many / 2) (many - many / 2) upper))
 

@@ -23,4 +23,5 @@ pub record AreBlocks (g : MeshValue) (ranks : ℕ) (o : Owners) : Type 0 where
   pub owners : AreOwners g o
   pub block : (s x : ℕ) → s < set_count g → x < set_size g s → InBlock (set_size g s) ranks (owner_of o s x) x
   pub only : (s x i : ℕ) → s < set_count g → x < set_size g s → InBlock (set_size g s) ranks i x → i ≡ owner_of o s x
-  pub shares : (s i : ℕ) → s < set_count g → i < ranks → count_below (set_size g s) (λ x. nat_eq (owner_of o s x) i) ≡ share (set_size g s) ranks i
+  pub shares : (s i : ℕ) → s < set_count g → i < ranks
+      → count_below (set_size g s) (λ x. nat_eq (owner_of o s x) i) ≡ share (set_size g s) ranks i

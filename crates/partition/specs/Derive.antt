@@ -1,5 +1,6 @@
 -- Owners of the sets that have none, by rule from those that have.
-use Rattle.std.specs.Prelude.{◌≡◌, ◌⊎◌, ℕ, ◌<◌, Bool, true, false, not, ◌&&◌, nat_eq, nat_lt, List, [], Option, Some, None, Vec, map, length, is_some, slice_index, slice_index_or}
+use Rattle.std.specs.Prelude.{◌≡◌, ◌⊎◌, ℕ, ◌<◌, Bool, true, false, not, ◌&&◌, nat_eq, nat_lt, List, [], Option, Some, None, Vec, map}
+use Rattle.std.specs.Prelude.{length, is_some, slice_index, slice_index_or}
 use Rattle.std.specs.declared.alloc.Global.{Global}
 use Rattle.mesh_decl.specs.declared.owners.Owners.{Owners}
 use Rattle.mesh_decl.specs.Mesh.{MeshValue, set_count, map_count, set_size, map_from, map_to}
@@ -42,7 +43,8 @@ AreNamesNext g known s m = IsFirst (set_count g) (can_follow_names g known) s ×
 abbrev pub AreByTargets : MeshValue → ℕ → List ℕ → ℕ → ℕ → List ℕ → Type 0
 AreByTargets g ranks owners m s xs = (x : ℕ) → x < set_size g s → IsElected ranks (target_votes g owners m x) (slice_index xs x)
 
--- each element of the set to which map m leads has the rank most frequent among the entries that name it, and where none does that of its block
+-- each element of the set to which map m leads has the rank most frequent among the entries that name it, and where none does that of its
+-- block
 pub record AreByNames (g : MeshValue) (ranks : ℕ) (owners : List ℕ) (m s : ℕ) (xs : List ℕ) : Type 0 where
   pub elected : (x : ℕ) → x < set_size g s → is_named g m x ≡ true → IsElected ranks (naming_votes g owners m x) (slice_index xs x)
   pub block : (x : ℕ) → x < set_size g s → is_named g m x ≡ false → InBlock (set_size g s) ranks (slice_index xs x) x
@@ -53,7 +55,8 @@ pub record IsByTargets (g : MeshValue) (ranks : ℕ) (owners : ℕ → List ℕ)
   pub next : AreTargetsNext g known s map
   pub elected : AreByTargets g ranks (owners (map_to g map)) map s xs
 
--- rule 2, where rule 1 has no set: the first set to which a map leads from a set with owners gets its owners by the entries that name its elements
+-- rule 2, where rule 1 has no set: the first set to which a map leads from a set with owners gets its owners by the entries that name its
+-- elements
 pub record IsByNames (g : MeshValue) (ranks : ℕ) (owners : ℕ → List ℕ) (known : ℕ → Bool) (s : ℕ) (xs : List ℕ) : Type 0 where
   pub none : any_below (set_count g) (can_follow_targets g known) ≡ false
   pub map : ℕ
@@ -69,14 +72,16 @@ pub record IsByBlocks (g : MeshValue) (ranks : ℕ) (known : ℕ → Bool) (s : 
 
 -- set s gets owners next, and they are these
 abbrev pub IsNextSet : MeshValue → ℕ → (ℕ → List ℕ) → (ℕ → Bool) → ℕ → List ℕ → Type 0
-IsNextSet g ranks owners known s xs = IsByTargets g ranks owners known s xs ⊎ (IsByNames g ranks owners known s xs ⊎ IsByBlocks g ranks known s xs)
+IsNextSet g ranks owners known s xs = IsByTargets g ranks owners known s xs
+    ⊎ (IsByNames g ranks owners known s xs ⊎ IsByBlocks g ranks known s xs)
 
 -- each set that has owners has a rank below `ranks` for each of its elements
 pub record AreKnown (g : MeshValue) (ranks : ℕ) (sets : List (List ℕ)) (known : List Bool) : Type 0 where
   pub each_set : length sets ≡ set_count g
   pub each_known : length known ≡ set_count g
   pub lengths : (s : ℕ) → s < set_count g → slice_index_or known s false ≡ true → length (slice_index_or sets s []) ≡ set_size g s
-  pub below : (s x : ℕ) → s < set_count g → slice_index_or known s false ≡ true → x < set_size g s → slice_index (slice_index_or sets s []) x < ranks
+  pub below : (s x : ℕ) → s < set_count g → slice_index_or known s false ≡ true → x < set_size g s
+      → slice_index (slice_index_or sets s []) x < ranks
 
 -- set s is given
 unfoldable pub is_given : List (Option (Vec ℕ Global)) → ℕ → Bool
@@ -97,10 +102,12 @@ pub record AreGiven (g : MeshValue) (ranks : ℕ) (given : List (Option (Vec ℕ
   pub lengths : (s : ℕ) → s < set_count g → is_given given s ≡ true → length (given_in given s) ≡ set_size g s
   pub below : (s x : ℕ) → s < set_count g → is_given given s ≡ true → x < set_size g s → slice_index (given_in given s) x < ranks
 
--- The sets get their owners in turns: those that are given keep theirs, at turn 0; at each later turn, from the sets of the turns before, one more set by the first rule that has one.
+-- The sets get their owners in turns: those that are given keep theirs, at turn 0; at each later turn, from the sets of the turns before,
+-- one more set by the first rule that has one.
 pub record AreDerived (g : MeshValue) (o : Owners) (given : ℕ → Bool) (lists : ℕ → List ℕ) : Type 0 where
   pub owners : AreOwners g o
   pub turn : ℕ → ℕ
   pub given_first : (s : ℕ) → s < set_count g → given s ≡ nat_eq (turn s) 0
   pub kept : (s : ℕ) → s < set_count g → given s ≡ true → owners_in o s ≡ lists s
-  pub next : (s : ℕ) → s < set_count g → given s ≡ false → IsNextSet g o.ranks (owners_in o) (λ t. nat_lt (turn t) (turn s)) s (owners_in o s)
+  pub next : (s : ℕ) → s < set_count g → given s ≡ false
+      → IsNextSet g o.ranks (owners_in o) (λ t. nat_lt (turn t) (turn s)) s (owners_in o s)

@@ -1,5 +1,6 @@
 -- Owners by growth over neighbours: elements are given out one after another, each rank's at the places of its block.
-use Rattle.std.specs.Prelude.{◌≡◌, ◌⊎◌, ℕ, ◌+◌, ◌<◌, ◌≤◌, Bool, true, false, List, length, take, drop, slice_index, slice_index_or, Contains}
+use Rattle.std.specs.Prelude.{◌≡◌, ◌⊎◌, ℕ, ◌+◌, ◌<◌, ◌≤◌, Bool, true, false, List, length, take, drop, slice_index, slice_index_or}
+use Rattle.std.specs.Prelude.{Contains}
 use Rattle.breadth_order.specs.Taken.{earliest}
 use Rattle.partition.specs.Block.{block_start, InBlock}
 
@@ -7,11 +8,13 @@ use Rattle.partition.specs.Block.{block_start, InBlock}
 pub record IsNextFree (n : ℕ) (near : ℕ → ℕ → Bool) (gone mine : List ℕ) (z : ℕ) : Type 0 where
   pub within : z < n
   pub new : Contains gone z → ⊥
-  pub least : (y : ℕ) → y < n → (Contains gone y → ⊥) → (earliest near mine z < earliest near mine y) ⊎ ((earliest near mine z ≡ earliest near mine y) × (z ≤ y))
+  pub least : (y : ℕ) → y < n → (Contains gone y → ⊥) → (earliest near mine z < earliest near mine y)
+      ⊎ ((earliest near mine z ≡ earliest near mine y) × (z ≤ y))
 
 -- at each place of rank i's block stands the next free element, by the elements that the rank has at earlier places
 abbrev pub AreNextFree : ℕ → ℕ → (ℕ → ℕ → Bool) → List ℕ → Type 0
-AreNextFree n ranks near order = (k i : ℕ) → k < length order → InBlock n ranks i k → IsNextFree n near (take k order) (drop (block_start n ranks i) (take k order)) (slice_index order k)
+AreNextFree n ranks near order = (k i : ℕ) → k < length order → InBlock n ranks i k
+    → IsNextFree n near (take k order) (drop (block_start n ranks i) (take k order)) (slice_index order k)
 
 -- All elements stand in the order in which they were given, and rank i owns those at the places of its block.
 pub record IsGrown (n ranks : ℕ) (near : ℕ → ℕ → Bool) (owner : ℕ → ℕ) : Type 0 where
@@ -24,5 +27,6 @@ pub record IsGrown (n ranks : ℕ) (near : ℕ → ℕ → Bool) (owner : ℕ �
 pub record IsGrowing (n ranks : ℕ) (near : ℕ → ℕ → Bool) (i h : ℕ) (order : List ℕ) (seen : List Bool) : Type 0 where
   pub some : 0 < ranks
   pub begun : block_start n ranks i ≤ length order
-  pub closed : length order < block_start n ranks (i + 1) → (j y : ℕ) → block_start n ranks i ≤ j → j < h → j < length order → y < n → near (slice_index order j) y ≡ true → slice_index_or seen y false ≡ true
+  pub closed : length order < block_start n ranks (i + 1) → (j y : ℕ) → block_start n ranks i ≤ j → j < h → j < length order → y < n
+      → near (slice_index order j) y ≡ true → slice_index_or seen y false ≡ true
   pub next : AreNextFree n ranks near order

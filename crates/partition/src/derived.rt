@@ -22,7 +22,8 @@ fn list_targets(
     requires map { map < map_count mesh.now }
     requires owners { length owners.now ≡ set_size mesh.now (map_to mesh.now map) }
     requires element { element < set_size mesh.now (map_from mesh.now map) }
-    ensures { OnOk result (list.new.items ≡ gathered (map_dim mesh.now map) (λ i. true) (λ i. slice_index owners.now (target mesh.now map element i))) }
+    ensures { OnOk result (list.new.items
+        ≡ gathered (map_dim mesh.now map) (λ i. true) (λ i. slice_index owners.now (target mesh.now map element i))) }
 {
     let (_, _, dim) = mesh.map_ends(map);
     list.clear();
@@ -72,7 +73,8 @@ fn owners_naming(
     requires at { IsMapAt mesh.now map }
     requires owners { length owners.now ≡ set_size mesh.now (map_from mesh.now map) }
     ensures length { IfOk result (λ v. length v.items ≡ set_size mesh.now (map_to mesh.now map)) }
-    ensures lists { IfOk result (λ v. (y : ℕ) → y < set_size mesh.now (map_to mesh.now map) → row v.items y ≡ gathered (entries mesh.now map) (names mesh.now map y) (λ e. slice_index owners.now (e / map_dim mesh.now map))) }
+    ensures lists { IfOk result (λ v. (y : ℕ) → y < set_size mesh.now (map_to mesh.now map)
+        → row v.items y ≡ gathered (entries mesh.now map) (names mesh.now map y) (λ e. slice_index owners.now (e / map_dim mesh.now map))) }
 {
     let (from, to, dim) = mesh.map_ends(map);
     let mut lists = empty_lists(alloc, mesh.set_size(to))?;

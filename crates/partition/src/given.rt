@@ -21,7 +21,9 @@ fn list_fits(size: u32, ranks: u32, owners: &[u32]) -> bool
 
 // Whether an entry, if it has owners, has a rank below `ranks` for each of `size` elements.
 fn entry_fits(size: u32, ranks: u32, entry: &Option<Vec<u32>>) -> bool
-    ensures { IsTrue result ↔ (is_some entry.now ≡ true → (length (given_list entry.now) ≡ size) × ((x : ℕ) → x < size → slice_index (given_list entry.now) x < ranks)) }
+    ensures { IsTrue result
+        ↔ (is_some entry.now ≡ true → (length (given_list entry.now) ≡ size)
+        × ((x : ℕ) → x < size → slice_index (given_list entry.now) x < ranks)) }
 {
     match entry {
         Some(owners) => list_fits(size, ranks, owners),

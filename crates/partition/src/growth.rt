@@ -1,5 +1,6 @@
 // Owners of one set by growth over neighbours.
-ghost use Rattle.std.specs.Prelude.{◌≡◌, ◌≢◌, ℕ, true, false, not, ◌<◌, ◌≤◌, ◌+◌, ◌^◌, IfOk, OnOk, count_by, length, slice_index, slice_index_or};
+ghost use Rattle.std.specs.Prelude.{◌≡◌, ◌≢◌, ℕ, true, false, not, ◌<◌, ◌≤◌, ◌+◌, ◌^◌, IfOk, OnOk, count_by, length, slice_index};
+ghost use Rattle.std.specs.Prelude.{slice_index_or};
 ghost use Rattle.mesh_decl.specs.Mesh.{IsMapAt, map_count, set_size, map_to};
 ghost use Rattle.breadth_order.specs.Neighbours.{are_neighbours};
 ghost use Rattle.breadth_order.specs.Taken.{is_near, IsWalk, AreRising, AreWithin};
@@ -44,7 +45,10 @@ fn take_neighbours(
     ensures more { OnOk result (length order.old.items ≤ length order.new.items) }
     ensures end { OnOk result (length order.new.items ≤ end) }
     ensures kept { OnOk result ((y : ℕ) → slice_index_or seen.old y false ≡ true → slice_index_or seen.new y false ≡ true) }
-    ensures grown { OnOk result ((ranks i : ℕ) → end ≡ block_start (length near.now) ranks (i + 1) → block_start (length near.now) ranks i ≤ head → IsGrowing (length near.now) ranks (is_near near.now) i head order.old.items seen.old → IsGrowing (length near.now) ranks (is_near near.now) i (head + 1) order.new.items seen.new) }
+    ensures grown { OnOk result ((ranks i : ℕ) → end ≡ block_start (length near.now) ranks (i + 1)
+        → block_start (length near.now) ranks i ≤ head
+        → IsGrowing (length near.now) ranks (is_near near.now) i head order.old.items seen.old
+        → IsGrowing (length near.now) ranks (is_near near.now) i (head + 1) order.new.items seen.new) }
 {
     for neighbour in &near[order[head] as usize] {
         if order.len() < end && !seen[*neighbour as usize] {
@@ -74,7 +78,10 @@ fn take_share(
     ensures walk { OnOk result (IsWalk (length near.now) (is_near near.now) order.new.items seen.new 0) }
     ensures end { OnOk result (length order.new.items ≡ end) }
     ensures before { IfOk result (λ least. (y : ℕ) → y < least → slice_index_or seen.new y false ≡ true) }
-    ensures grown { OnOk result ((ranks i : ℕ) → 0 < ranks → end ≡ block_start (length near.now) ranks (i + 1) → length order.old.items ≡ block_start (length near.now) ranks i → AreNextFree (length near.now) ranks (is_near near.now) order.old.items → AreNextFree (length near.now) ranks (is_near near.now) order.new.items) }
+    ensures grown { OnOk result ((ranks i : ℕ) → 0 < ranks → end ≡ block_start (length near.now) ranks (i + 1)
+        → length order.old.items ≡ block_start (length near.now) ranks i
+        → AreNextFree (length near.now) ranks (is_near near.now) order.old.items
+        → AreNextFree (length near.now) ranks (is_near near.now) order.new.items) }
 {
     let mut least = from;
     let mut head = order.len();
@@ -120,7 +127,8 @@ fn owners_by_places(alloc: Global, order: &[u32], ranks: u32) -> Result<Vec<u32>
     requires apart { (j k : ℕ) → j < k → k < length order.now → slice_index order.now j ≢ slice_index order.now k }
     ensures length { IfOk result (λ v. length v.items ≡ length order.now) }
     ensures below { IfOk result (λ v. (x : ℕ) → x < length order.now → slice_index v.items x < ranks) }
-    ensures owners { IfOk result (λ v. (k i : ℕ) → k < length order.now → InBlock (length order.now) ranks i k → slice_index v.items (slice_index order.now k) ≡ i) }
+    ensures owners { IfOk result (λ v. (k i : ℕ) → k < length order.now → InBlock (length order.now) ranks i k
+        → slice_index v.items (slice_index order.now k) ≡ i) }
 {
     let size = order.len() as u32;
     let mut owners = vec![in alloc; 0; order.len()]?;
@@ -138,7 +146,8 @@ pub fn grow_set(alloc: Global, mesh: &Mesh, map: u32, ranks: u32) -> Result<Vec<
     requires some { 0 < ranks }
     ensures length { IfOk result (λ v. length v.items ≡ set_size mesh.now (map_to mesh.now map)) }
     ensures below { IfOk result (λ v. (x : ℕ) → x < set_size mesh.now (map_to mesh.now map) → slice_index v.items x < ranks) }
-    ensures grown { IfOk result (λ v. IsGrown (set_size mesh.now (map_to mesh.now map)) ranks (are_neighbours mesh.now map) (slice_index v.items)) }
+    ensures grown { IfOk result
+        (λ v. IsGrown (set_size mesh.now (map_to mesh.now map)) ranks (are_neighbours mesh.now map) (slice_index v.items)) }
 {
     let near = make_neighbours(alloc, mesh, map)?;
     let order = giving_order(alloc, &near, ranks)?;

@@ -1,5 +1,6 @@
 // Owners of one set by repeated halving.
-ghost use Rattle.std.specs.Prelude.{◌≡◌, ◌≢◌, ◌⊎◌, ℕ, ◌<◌, ◌≤◌, ◌+◌, ◌*◌, ◌-◌, ◌^◌, nat_eq, count_by, IfOk, OnOk, length, take, drop, slice_index};
+ghost use Rattle.std.specs.Prelude.{◌≡◌, ◌≢◌, ◌⊎◌, ℕ, ◌<◌, ◌≤◌, ◌+◌, ◌*◌, ◌-◌, ◌^◌, nat_eq, count_by, IfOk, OnOk, length, take, drop};
+ghost use Rattle.std.specs.Prelude.{slice_index};
 ghost use Rattle.partition.specs.Block.{block_start};
 ghost use Rattle.partition.specs.Bisect.{IsCut, IsHalved, IsBisected};
 
@@ -19,7 +20,8 @@ fn start_of(size: u32, ranks: u32, rank: u32) -> u64
 fn give_all(owners: &mut [u32], elements: &[u32], rank: u32)
     requires { (k : ℕ) → k < length elements.now → slice_index elements.now k < length owners.old }
     ensures given { (k : ℕ) → k < length elements.now → slice_index owners.new (slice_index elements.now k) ≡ rank }
-    ensures kept { (x : ℕ) → ((k : ℕ) → k < length elements.now → slice_index elements.now k ≢ x) → slice_index owners.new x ≡ slice_index owners.old x }
+    ensures kept { (x : ℕ) → ((k : ℕ) → k < length elements.now → slice_index elements.now k ≢ x)
+        → slice_index owners.new x ≡ slice_index owners.old x }
     ensures only { (x : ℕ) → (slice_index owners.new x ≡ rank) ⊎ (slice_index owners.new x ≡ slice_index owners.old x) }
 {
     for element in elements {
@@ -79,8 +81,10 @@ fn halve(
     requires within { (k : ℕ) → k < length elements.items → slice_index elements.items k * dim + dim ≤ length values.now }
     requires once { (x : ℕ) → count_by (λ y. nat_eq y x) elements.items ≤ 1 }
     requires share { length elements.items ≡ block_start size ranks (low + many) - block_start size ranks low }
-    ensures halved { OnOk result ((depth : ℕ) → many ≤ depth → IsHalved depth size ranks values.now dim (slice_index owners.new) low many elements.items) }
-    ensures kept { OnOk result ((x : ℕ) → ((k : ℕ) → k < length elements.items → slice_index elements.items k ≢ x) → slice_index owners.new x ≡ slice_index owners.old x) }
+    ensures halved { OnOk result ((depth : ℕ) → many ≤ depth
+        → IsHalved depth size ranks values.now dim (slice_index owners.new) low many elements.items) }
+    ensures kept { OnOk result ((x : ℕ) → ((k : ℕ) → k < length elements.items → slice_index elements.items k ≢ x)
+        → slice_index owners.new x ≡ slice_index owners.old x) }
     ensures ranks { OnOk result ((x : ℕ) → slice_index owners.old x < ranks → slice_index owners.new x < ranks) }
 {
     if many == 1 {

@@ -93,10 +93,11 @@ pub fn grow(alloc: Global, mesh: &Mesh, ranks: u32, map: u32) -> Result<Owners, 
     requires few { ranks ≤ 64 }
     requires map { map < map_count mesh.now }
     ensures ranks { IfOk result (λ o. o.ranks ≡ ranks) }
-    ensures grown { IfOk result (λ o. IsGrown (set_size mesh.now (map_to mesh.now map)) ranks (are_neighbours mesh.now map) (owner_of o (map_to mesh.now map))) }
+    ensures grown { IfOk result
+        (λ o. IsGrown (set_size mesh.now (map_to mesh.now map)) ranks (are_neighbours mesh.now map) (owner_of o (map_to mesh.now map))) }
     ensures derived { IfOk result (λ o. AreDerived mesh.now o (λ s. nat_eq s (map_to mesh.now map)) (owners_in o)) }
 {
-    let _ = (mesh.set_count(), mesh.map_count());
+    mesh.is_in_range();
     let (_, to, _) = mesh.map_ends(map);
     let owners = grow_set(alloc, mesh, map, ranks)?;
     derive_from(alloc, mesh, ranks, to, owners)
@@ -115,7 +116,9 @@ pub fn bisect(alloc: Global, mesh: &Mesh, ranks: u32, dat: u32) -> Result<Owners
     requires few { ranks ≤ 64 }
     requires dat { dat < dat_count mesh.now }
     ensures ranks { IfOk result (λ o. o.ranks ≡ ranks) }
-    ensures bisected { IfOk result (λ o. IsBisected (set_size mesh.now (dat_set mesh.now dat)) ranks (dat_values mesh.now dat) (dat_dim mesh.now dat) (owners_in o (dat_set mesh.now dat))) }
+    ensures bisected { IfOk result
+        (λ o. IsBisected (set_size mesh.now (dat_set mesh.now dat)) ranks (dat_values mesh.now dat) (dat_dim mesh.now dat)
+        (owners_in o (dat_set mesh.now dat))) }
     ensures derived { IfOk result (λ o. AreDerived mesh.now o (λ s. nat_eq s (dat_set mesh.now dat)) (λ s. owners_in o s)) }
 {
     let _dat_count = mesh.dat_count();

@@ -2,7 +2,8 @@
 ghost use Rattle.std.specs.Prelude.{◌≡◌, ℕ, false, not, length, slice_index_or, IfSome, IfNone};
 ghost use Rattle.mesh_decl.specs.Mesh.{map_count, set_count};
 ghost use Rattle.rank_sets.specs.Below.{any_below};
-ghost use Rattle.partition.specs.Derive.{IsFirst, AreTargetsNext, AreNamesNext, leads_to_known, leads_from_known, can_follow_targets, can_follow_names};
+ghost use Rattle.partition.specs.Derive.{IsFirst, AreTargetsNext, AreNamesNext, leads_to_known, leads_from_known, can_follow_targets};
+ghost use Rattle.partition.specs.Derive.{can_follow_names};
 
 use mesh_decl::Mesh;
 
@@ -10,7 +11,8 @@ use mesh_decl::Mesh;
 fn map_to_known(mesh: &Mesh, known: &[bool], set: u32) -> Option<u32>
     requires { length known.now ≡ set_count mesh.now }
     ensures some { IfSome result (IsFirst (map_count mesh.now) (leads_to_known mesh.now (λ s. slice_index_or known.now s false) set)) }
-    ensures none { IfNone result (any_below (map_count mesh.now) (leads_to_known mesh.now (λ s. slice_index_or known.now s false) set) ≡ false) }
+    ensures none { IfNone result (any_below (map_count mesh.now) (leads_to_known mesh.now (λ s. slice_index_or known.now s false) set)
+        ≡ false) }
 {
     for map in 0..mesh.map_count() {
         let (from, to, _) = mesh.map_ends(map);
@@ -25,7 +27,8 @@ fn map_to_known(mesh: &Mesh, known: &[bool], set: u32) -> Option<u32>
 fn map_from_known(mesh: &Mesh, known: &[bool], set: u32) -> Option<u32>
     requires { length known.now ≡ set_count mesh.now }
     ensures some { IfSome result (IsFirst (map_count mesh.now) (leads_from_known mesh.now (λ s. slice_index_or known.now s false) set)) }
-    ensures none { IfNone result (any_below (map_count mesh.now) (leads_from_known mesh.now (λ s. slice_index_or known.now s false) set) ≡ false) }
+    ensures none { IfNone result (any_below (map_count mesh.now) (leads_from_known mesh.now (λ s. slice_index_or known.now s false) set)
+        ≡ false) }
 {
     for map in 0..mesh.map_count() {
         let (from, to, _) = mesh.map_ends(map);
@@ -40,7 +43,8 @@ fn map_from_known(mesh: &Mesh, known: &[bool], set: u32) -> Option<u32>
 pub fn next_by_targets(mesh: &Mesh, known: &[bool]) -> Option<(u32, u32)>
     requires { length known.now ≡ set_count mesh.now }
     ensures some { IfSome result (λ p. AreTargetsNext mesh.now (λ s. slice_index_or known.now s false) p.0 p.1) }
-    ensures none { IfNone result (any_below (set_count mesh.now) (can_follow_targets mesh.now (λ s. slice_index_or known.now s false)) ≡ false) }
+    ensures none { IfNone result (any_below (set_count mesh.now) (can_follow_targets mesh.now (λ s. slice_index_or known.now s false))
+        ≡ false) }
 {
     for set in 0..mesh.set_count() {
         if !known[set as usize] {
@@ -56,7 +60,8 @@ pub fn next_by_targets(mesh: &Mesh, known: &[bool]) -> Option<(u32, u32)>
 pub fn next_by_names(mesh: &Mesh, known: &[bool]) -> Option<(u32, u32)>
     requires { length known.now ≡ set_count mesh.now }
     ensures some { IfSome result (λ p. AreNamesNext mesh.now (λ s. slice_index_or known.now s false) p.0 p.1) }
-    ensures none { IfNone result (any_below (set_count mesh.now) (can_follow_names mesh.now (λ s. slice_index_or known.now s false)) ≡ false) }
+    ensures none { IfNone result (any_below (set_count mesh.now) (can_follow_names mesh.now (λ s. slice_index_or known.now s false))
+        ≡ false) }
 {
     for set in 0..mesh.set_count() {
         if !known[set as usize] {

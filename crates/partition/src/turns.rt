@@ -1,5 +1,6 @@
 // Owners for all sets, one set after another.
-ghost use Rattle.std.specs.Prelude.{◌≡◌, ℕ, true, false, ◌<◌, ◌≤◌, List, [], IfOk, IfSome, IfNone, Option, Vec, length, map, is_some, slice_index, slice_index_or, not, nat_eq};
+ghost use Rattle.std.specs.Prelude.{◌≡◌, ℕ, true, false, ◌<◌, ◌≤◌, List, [], IfOk, IfSome, IfNone, Option, Vec, length, map, is_some};
+ghost use Rattle.std.specs.Prelude.{slice_index, slice_index_or, not, nat_eq};
 ghost use Rattle.std.specs.declared.alloc.Global.{Global as TheGlobal};
 ghost use Rattle.mesh_decl.specs.Mesh.{set_count, set_size};
 ghost use Rattle.rank_sets.specs.Below.{any_below};
@@ -23,7 +24,9 @@ fn next_owners(
     requires some { 0 < ranks }
     requires few { ranks ≤ 64 }
     requires known { AreKnown mesh.now ranks sets.now known.now }
-    ensures next { IfOk result (λ o. IfSome o (λ p. IsNextSet mesh.now ranks (λ s. slice_index_or sets.now s []) (λ s. slice_index_or known.now s false) p.0 p.1.items)) }
+    ensures next { IfOk result
+        (λ o. IfSome o (λ p. IsNextSet mesh.now ranks (λ s. slice_index_or sets.now s [])
+        (λ s. slice_index_or known.now s false) p.0 p.1.items)) }
     ensures length { IfOk result (λ o. IfSome o (λ p. length p.1.items ≡ set_size mesh.now p.0)) }
     ensures within { IfOk result (λ o. IfSome o (λ p. (x : ℕ) → x < set_size mesh.now p.0 → slice_index p.1.items x < ranks)) }
     ensures none { IfOk result (λ o. IfNone o (any_below (set_count mesh.now) (λ s. not (slice_index_or known.now s false)) ≡ false)) }
@@ -57,7 +60,8 @@ pub fn derive_rest(
     requires few { ranks ≤ 64 }
     requires known { AreKnown mesh.now ranks sets.items known.items }
     ensures ranks { IfOk result (λ o. o.ranks ≡ ranks) }
-    ensures derived { IfOk result (λ o. AreDerived mesh.now o (λ s. slice_index_or known.items s false) (λ s. slice_index_or sets.items s [])) }
+    ensures derived { IfOk result
+        (λ o. AreDerived mesh.now o (λ s. slice_index_or known.items s false) (λ s. slice_index_or sets.items s [])) }
 {
     let mut sets = sets;
     let mut known = known;

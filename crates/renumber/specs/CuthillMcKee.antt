@@ -29,7 +29,8 @@ pub record IsSetOrder (g : MeshValue) (m : ℕ) (xs : List ℕ) (s : ℕ) (ys : 
   pub leading : s ≡ map_from g m → s ≢ map_to g m → IsByTargets g m xs ys
   pub others : s ≢ map_from g m → s ≢ map_to g m → (x : ℕ) → x < set_size g s → slice_index ys x ≡ x
 
--- The set to which map m leads is in the reverse of an order of taking; the set from which it leads, where that is another, by its targets; all other sets are kept.
+-- The set to which map m leads is in the reverse of an order of taking; the set from which it leads, where that is another, by its targets;
+-- all other sets are kept.
 pub record IsCuthillMcKee (g : MeshValue) (m : ℕ) (p : Perms) : Type 0 where
   pub perms : ArePerms g p
   pub order : List ℕ

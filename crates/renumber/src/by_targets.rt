@@ -60,7 +60,8 @@ fn least_targets(
     requires map { map < map_count mesh.now }
     requires numbers { length numbers.now ≡ set_size mesh.now (map_to mesh.now map) }
     ensures length { IfOk result (λ v. length v.items ≡ set_size mesh.now (map_from mesh.now map)) }
-    ensures least { IfOk result (λ v. (x : ℕ) → x < set_size mesh.now (map_from mesh.now map) → slice_index v.items x ≡ least_below (map_dim mesh.now map) (λ i. slice_index numbers.now (target mesh.now map x i))) }
+    ensures least { IfOk result (λ v. (x : ℕ) → x < set_size mesh.now (map_from mesh.now map)
+        → slice_index v.items x ≡ least_below (map_dim mesh.now map) (λ i. slice_index numbers.now (target mesh.now map x i))) }
 {
     let (from, _, _) = mesh.map_ends(map);
     let size = mesh.set_size(from);

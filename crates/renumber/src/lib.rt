@@ -38,7 +38,7 @@ pub fn cuthill_mckee(alloc: Global, mesh: &Mesh, map: u32) -> Result<Perms, OutO
     requires { map < map_count mesh.now }
     ensures { IfOk result (IsCuthillMcKee mesh.now map) }
 {
-    let _ = mesh.map_count();
+    mesh.is_in_range();
     let taken = taking_order(alloc, mesh, map)?;
     let order = reversed(alloc, &taken)?;
     let mut sets = Vec::new(alloc);

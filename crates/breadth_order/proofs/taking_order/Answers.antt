@@ -29,7 +29,7 @@ taken g m near lists now order e l same rows h k lk =
 pub by_degree-requires-clause-short : goal.by_degree-requires-clause-short
 by_degree-requires-clause-short c =
     let n : ℕ = set_size c.args.mesh.now (map_to c.args.mesh.now c.args.map) in
-    let s : n < 2 ^ 32 = (c.set_count.ensures.sizes (map_to c.args.mesh.now c.args.map)) in
+    let s : n < 2 ^ 32 = (c.is_in_range.ensures.sizes (map_to c.args.mesh.now c.args.map)) in
     rw c.deref.ensures.value (λ x l. (let h = row_short (row c.in_ok-near.near.items x) n (are_neighbours c.args.mesh.now c.args.map x) (c.in_ok-near.ensures.lists x (omega (arith, c.in_ok-near.ensures.length))) in omega arith))
 
 pub reorder-requires-clause-within : goal.reorder-requires-clause-within
@@ -66,7 +66,7 @@ breadth_first-requires-clause-lists c =
     let d : length c.deref.result.now ≡ n = ap (length {A = Vec ℕ Global}) c.deref.ensures.value ∙ c.in_ok-near.ensures.length in
     let d3 : length c.deref-3.result.now ≡ n = ap (length {A = Vec ℕ Global}) c.deref-3.ensures.value ∙ c.in_ok-near.ensures.length in
     let ll : length lists ≡ n = c.in_ok-lists.ensures.length ∙ d3 in
-    rw c.deref-5.ensures.value (λ x i lx li. rw ll (rows_within g m (c.map_count.ensures.maps c.args.map c.requires) c.requires near lists starts c.in_ok-near.ensures.lists ll
+    rw c.deref-5.ensures.value (λ x i lx li. rw ll (rows_within g m (c.is_in_range.ensures.maps c.args.map c.requires) c.requires near lists starts c.in_ok-near.ensures.lists ll
     (filtered c.deref-3.result.now near lists c.deref-2.result.now starts n c.deref-3.ensures.value c.deref-2.ensures.value d3 c.in_ok-lists.ensures.lists)
     (λ k lk. rw (← d) (c.in_ok-starts.ensures.within k lk)) (λ y ly. c.in_ok-starts.ensures.all y (rw d ly)) x i (omega arith) li))
 
@@ -85,9 +85,9 @@ returns-clause-taken c =
     let win : (k : ℕ) → k < length starts → get_or starts k 0 < n = λ k lk. rw (← d) (c.in_ok-starts.ensures.within k lk) in
     let all : (y : ℕ) → y < n → Contains starts y = λ y ly. c.in_ok-starts.ensures.all y (rw d ly) in
     let rises : Rises (degree_key near) starts = subst (λ (z : List (Vec ℕ Global)). Rises (degree_key z) starts) c.deref.ensures.value c.in_ok-starts.ensures.rises in
-    let rising : AreRising (length lists) (degree_key near) lists = λ x lx. rows_rise g m (c.map_count.ensures.maps c.args.map c.requires) c.requires near lists starts c.in_ok-near.ensures.lists ll fil win all (degree_key near) rises x (omega arith) in
+    let rising : AreRising (length lists) (degree_key near) lists = λ x lx. rows_rise g m (c.is_in_range.ensures.maps c.args.map c.requires) c.requires near lists starts c.in_ok-near.ensures.lists ll fil win all (degree_key near) rises x (omega arith) in
     taken g m near lists c.deref-5.result.now c.in_ok-order.order.items c.deref-5.ensures.value ll
-    (same_near g m (c.map_count.ensures.maps c.args.map c.requires) c.requires near lists starts c.in_ok-near.ensures.lists ll fil win all)
+    (same_near g m (c.is_in_range.ensures.maps c.args.map c.requires) c.requires near lists starts c.in_ok-near.ensures.lists ll fil win all)
     c.in_ok-near.ensures.lists
     (c.in_ok-order.ensures.taken (degree_key near)
     (subst (λ (z : List ℕ). Rises (degree_key near) z) (sym c.deref-4.ensures.value) rises)

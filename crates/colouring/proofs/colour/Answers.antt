@@ -27,7 +27,7 @@ returns c =
     let table = c.in_ok-table.table.items in
     are_colours g r.maps.items args places c.in_ok-starts.total (copies_of g r.sets.items) c.in_ok-starts.starts.items table c.in_ok-starts.ensures
     (subst (λ (z : List ℕ). IsTable g r.maps.items args z places table) c.deref.ensures.value c.in_ok-table.ensures.table)
-    (λ p a x lp la. target_within g r is (get_or args a x) p k.set (c.dat_count.ensures.dats (get_or args a x).dat (k.each a x la).dat).set (k.each a x la) (let e : places ≤ executed_in r.sets.items k.set = k.executed (omega arith) in omega arith))
+    (λ p a x lp la. target_within g r is (get_or args a x) p k.set (c.is_in_range.ensures.dats (get_or args a x).dat (k.each a x la).dat).set (k.each a x la) (let e : places ≤ executed_in r.sets.items k.set = k.executed (omega arith) in omega arith))
     size (record { blocks = blocks; inner = inner }) c.in_ok-blocks.ensures.length c.in_ok-inner.ensures.length
     (subst (λ (z : List ℕ). (b : ℕ) → b < length blocks.items → IsLeast (BlocksMeet z (length args) places size) blocks.items b) c.deref-3.ensures.value c.in_ok-blocks.ensures.least)
     (subst (λ (z : List ℕ). (p : ℕ) → p < places → IsLeast (MeetWithin z (length args) size) inner.items p) c.deref-2.ensures.value c.in_ok-inner.ensures.least)

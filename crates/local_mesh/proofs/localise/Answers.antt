@@ -35,7 +35,7 @@ local_sets-requires-clause-ready c =
     let e = c.in_ok-groups.ensures in
     rw (c.deref.ensures.value, c.deref_mut.ensures.value) (λ s t h l. (
     let ls : s < set_count g = rw (← e.count) l in
-    ready g c.args.owners.now c.args.perms.now s c.loop-rank.rank (get_or c.in_ok-groups.groups.items s t) (e.groups s t ls) c.loop-rank-test.true (c.requires.perms.numbers s ls) (c.set_count.ensures.sizes s) (get_or c.args.halos.now.sets.items s h) (length c.loop-rank.scratch.items) (c.requires.halos.sets s h ls) (c.loop-rank.invariant.2 s ls)))
+    ready g c.args.owners.now c.args.perms.now s c.loop-rank.rank (get_or c.in_ok-groups.groups.items s t) (e.groups s t ls) c.loop-rank-test.true (c.requires.perms.numbers s ls) (c.is_in_range.ensures.sizes s) (get_or c.args.halos.now.sets.items s h) (length c.loop-rank.scratch.items) (c.requires.halos.sets s h ls) (c.loop-rank.invariant.2 s ls)))
 
 pub local_maps-requires-clause-closed : goal.local_maps-requires-clause-closed
 local_maps-requires-clause-closed c =
@@ -46,8 +46,8 @@ local_maps-requires-clause-closed c =
     let e = c.in_ok-groups.ensures in
     let f = c.in_ok-sets.ensures in
     let n : length c.in_ok-sets.sets.items ≡ set_count g = f.count ∙ (ap (length {A = Groups}) c.deref.ensures.value ∙ e.count) in
-    let is = sets_are g o p r c.in_ok-groups.groups.items c.deref.result.now c.args.halos.now.sets.items c.in_ok-sets.sets.items c.loop-rank-test.true c.deref.ensures.value e.count c.requires.halos.count e.groups c.requires.halos.sets c.requires.perms c.set_count.ensures.sizes f.joined in
-    rw c.deref-in-loop-rank.ensures.value (sets_closed g o p r c.in_ok-sets.sets.items n c.requires.perms is c.set_count.ensures.sizes c.map_count.ensures.maps (λ m x i. c.executed_targets_are_copies.ensures g o m x i r))
+    let is = sets_are g o p r c.in_ok-groups.groups.items c.deref.result.now c.args.halos.now.sets.items c.in_ok-sets.sets.items c.loop-rank-test.true c.deref.ensures.value e.count c.requires.halos.count e.groups c.requires.halos.sets c.requires.perms c.is_in_range.ensures.sizes f.joined in
+    rw c.deref-in-loop-rank.ensures.value (sets_closed g o p r c.in_ok-sets.sets.items n c.requires.perms is c.is_in_range.ensures.sizes c.is_in_range.ensures.maps (λ m x i. c.executed_targets_are_copies.ensures g o m x i r))
 
 pub first_cells-requires-clause-few : goal.first_cells-requires-clause-few
 first_cells-requires-clause-few c =
@@ -58,8 +58,8 @@ first_cells-requires-clause-few c =
     let e = c.in_ok-groups.ensures in
     let f = c.in_ok-sets.ensures in
     let n : length c.in_ok-sets.sets.items ≡ set_count g = f.count ∙ (ap (length {A = Groups}) c.deref.ensures.value ∙ e.count) in
-    let is = sets_are g o p r c.in_ok-groups.groups.items c.deref.result.now c.args.halos.now.sets.items c.in_ok-sets.sets.items c.loop-rank-test.true c.deref.ensures.value e.count c.requires.halos.count e.groups c.requires.halos.sets c.requires.perms c.set_count.ensures.sizes f.joined in
-    rw c.deref-in-loop-rank-2.ensures.value (sets_closed g o p r c.in_ok-sets.sets.items n c.requires.perms is c.set_count.ensures.sizes c.map_count.ensures.maps (λ m x i. c.executed_targets_are_copies.ensures g o m x i r)).few
+    let is = sets_are g o p r c.in_ok-groups.groups.items c.deref.result.now c.args.halos.now.sets.items c.in_ok-sets.sets.items c.loop-rank-test.true c.deref.ensures.value e.count c.requires.halos.count e.groups c.requires.halos.sets c.requires.perms c.is_in_range.ensures.sizes f.joined in
+    rw c.deref-in-loop-rank-2.ensures.value (sets_closed g o p r c.in_ok-sets.sets.items n c.requires.perms is c.is_in_range.ensures.sizes c.is_in_range.ensures.maps (λ m x i. c.executed_targets_are_copies.ensures g o m x i r)).few
 
 pub loop-rank-preserved : goal.loop-rank-preserved
 loop-rank-preserved c =
@@ -71,7 +71,7 @@ loop-rank-preserved c =
     let f = c.in_ok-sets.ensures in
     let sets = c.in_ok-sets.sets.items in
     let n : length sets ≡ set_count g = f.count ∙ (ap (length {A = Groups}) c.deref.ensures.value ∙ e.count) in
-    let is = sets_are g o p r c.in_ok-groups.groups.items c.deref.result.now c.args.halos.now.sets.items sets c.loop-rank-test.true c.deref.ensures.value e.count c.requires.halos.count e.groups c.requires.halos.sets c.requires.perms c.set_count.ensures.sizes f.joined in
+    let is = sets_are g o p r c.in_ok-groups.groups.items c.deref.result.now c.args.halos.now.sets.items sets c.loop-rank-test.true c.deref.ensures.value e.count c.requires.halos.count e.groups c.requires.halos.sets c.requires.perms c.is_in_range.ensures.sizes f.joined in
     let v : RankMesh = record { sets = c.in_ok-sets.sets; maps = c.in_ok-maps.maps; bases = c.in_ok-bases.bases; cells = c.in_ok-bases.cells } in
     let mesh : IsRankMesh g o p r v = record {
       sets_count = n;

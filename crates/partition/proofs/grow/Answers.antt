@@ -21,7 +21,7 @@ returns-clause-grown c =
     let t : ℕ = c.map_ends-to.result.1 in
     let xs : List ℕ = c.in_ok-owners.owners.items in
     let e : t ≡ map_to g m = ap (λ z. z.1) c.map_ends-to.ensures in
-    let l : t < set_count g = rw e (c.map_count.ensures.maps m c.requires.map).to in
+    let l : t < set_count g = rw e (c.is_in_range.ensures.maps m c.requires.map).to in
     all_ok (λ o. AreDerived g o (λ s. nat_eq s t) (λ s. xs)) (λ o. IsGrown (set_size g (map_to g m)) c.args.ranks (are_neighbours g m) (owner_of o (map_to g m))) c.derive_from.result
     (λ o d. grown_kept g o m t c.args.ranks xs e l c.in_ok-owners.ensures.grown d) c.derive_from.ensures.derived
 

@@ -1,4 +1,4 @@
-use Rattle.distribute.proofs.Ranges.{in_range}
+use Rattle.mesh_decl.proofs.Declared.{in_range}
 use Rattle.distribute.proofs.OneDistribution.{one_distribution}
 use Rattle.distribute.proofs.laws.one_distribution.Goals as goal
 

@@ -1,5 +1,5 @@
 use Rattle.mesh_decl.proofs.Declared.{dat_at}
-use Rattle.distribute.proofs.Ranges.{in_range}
+use Rattle.mesh_decl.proofs.Declared.{in_range}
 use Rattle.distribute.proofs.OneOutcome.{one_owners}
 use Rattle.distribute.proofs.laws.one_owners.Goals as goal
 

@@ -1,7 +1,6 @@
 use Rattle.std.proofs.Common.{◌≡◌, ◌<◌, ℕ, length, get_or, arith, subst, ◌∙◌}
 use Rattle.std.proofs.lemmas.List.{length_push, get_or_default}
-use Rattle.mesh_decl.specs.Mesh.{set_count}
-use Rattle.halo_lists.specs.Halo.{IsInRange}
+use Rattle.mesh_decl.specs.Mesh.{set_count, IsInRange}
 use Rattle.halo_lists.specs.declared.types.SetHalo.{SetHalo}
 use Rattle.local_mesh.specs.declared.lists.LocalLists.{LocalLists}
 use Rattle.local_mesh.specs.Lists.{IsLocalLists}
@@ -14,7 +13,7 @@ set_lists-requires-clause-held c =
     let g = c.args.mesh.now in
     let o = c.args.owners.now in
     let d = c.requires.meshes in
-    let range : IsInRange g = record { sizes = c.set_count.ensures.sizes; maps = c.map_count.ensures.maps } in
+    let range : IsInRange g = c.is_in_range.ensures in
     let l : c.loop-set.set < set_count g = omega (arith, c.set_count-set-end.ensures.count, c.loop-set-test.true, c.loop-set.auto.set-end) in
     all_held g o d.0 d.1 c.loop-set.set l c.args.meshes.now d.2 (λ r m is. c.rank_meshes_are_closed.ensures g o d.0 r m range d.1 is)
 
