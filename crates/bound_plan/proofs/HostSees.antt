@@ -17,7 +17,8 @@ use Rattle.schedule_model.specs.Cells.{Cell, Data, Variable, VarCell, Store, sam
 use Rattle.schedule_model.specs.Program.{Hosted, Halts, Goes}
 use Rattle.flat_machine.specs.Layout.{among, Exists, HostedAlike}
 use Rattle.element_runs.specs.OnWindows.{no_cell}
-use Rattle.bound_program.specs.HostExpr.{HostExpr, value}
+use Rattle.kernel_types.specs.View.{RExprTree}
+use Rattle.bound_program.specs.HostExpr.{value}
 use Rattle.bound_program.specs.Values.{BoundValue, VarValue, ActValue, Clear, Assign, Line, Print, Exit}
 use Rattle.bound_program.specs.Fits.{Fits, ActFits, var_at}
 use Rattle.run_model.specs.Windows.{numbers}
@@ -70,10 +71,10 @@ module _ (halos : HaloLaws) (b : BoundValue) (o : Owners) (meshes : List RankMes
   cells_same : map (variables_of s) (variable_cells b) ≡ map (variables_of t) (variable_cells b)
   cells_same = same_list (variables_of s) (variables_of t) (variable_cells b) all_same
 
-  value_same : (e : HostExpr) → value_of b s e ≡ value_of b t e
+  value_same : (e : RExprTree) → value_of b s e ≡ value_of b t e
   value_same e = ap (λ xs. value [] xs e) cells_same
 
-  values_same : (es : List HostExpr) → values_of b s es ≡ values_of b t es
+  values_same : (es : List RExprTree) → values_of b s es ≡ values_of b t es
   values_same [] = refl
   values_same (e ∷ es) =
       ap (λ r. on_value Err r (λ z. on_value Err (values_of b s es) (λ zs. Ok (z ∷ zs)))) (value_same e)
@@ -128,7 +129,7 @@ module _ (halos : HaloLaws) (b : BoundValue) (o : Owners) (meshes : List RankMes
       subst (λ y. Alike (on_value Halts (stored op op_at (s (Variable c)) x) (λ z. Goes (with_cell c z (variables_of s)) [])) (on_value Halts (stored op op_at y x) (λ z. Goes (with_cell c z (variables_of t)) []))) same
       (store_alike c (stored op op_at (s (Variable c)) x))
 
-  index_alike : (v : ℕ) (op : AssignOp) (op_at : Pos) (e : HostExpr) → v < length b.vars → (r : Result ℕ KernelFault) → ((i : ℕ) → r ≡ Ok i → i < var_width b v)
+  index_alike : (v : ℕ) (op : AssignOp) (op_at : Pos) (e : RExprTree) → v < length b.vars → (r : Result ℕ KernelFault) → ((i : ℕ) → r ≡ Ok i → i < var_width b v)
       → Alike (on_value Halts r (λ i. on_value Halts (value_of b s e) (λ x. on_value Halts (stored op op_at (s (Variable (record { variable = v; component = i }))) x)
       (λ z. Goes (with_cell (record { variable = v; component = i }) z (variables_of s)) []))))
       (on_value Halts r (λ i. on_value Halts (value_of b t e) (λ x. on_value Halts (stored op op_at (t (Variable (record { variable = v; component = i }))) x)
@@ -142,7 +143,7 @@ module _ (halos : HaloLaws) (b : BoundValue) (o : Owners) (meshes : List RankMes
       (value_alike (record { variable = v; component = i }) op op_at (variable_same v i lv (w i refl)) (value_of b s e))
 
   -- which component an assignment names
-  component_there : (v : ℕ) (at : Pos) (index : Option HostExpr) → 0 < var_width b v → (i : ℕ) → component_of b s (var_at b v) at index ≡ Ok i → i < var_width b v
+  component_there : (v : ℕ) (at : Pos) (index : Option RExprTree) → 0 < var_width b v → (i : ℕ) → component_of b s (var_at b v) at index ≡ Ok i → i < var_width b v
   component_there v at None some i h = let e : 0 ≡ i = cc in omega arith
   component_there v at (Some x) some i h = by_value (value_of b s x) h
     where
@@ -150,7 +151,7 @@ module _ (halos : HaloLaws) (b : BoundValue) (o : Owners) (meshes : List RankMes
       by_value (Err f) h = let q : ⊥ = cc in absurd q
       by_value (Ok z) h = index_ok (var_width b v) at z i h
 
-  component_same : (v : VarValue) (at : Pos) (index : Option HostExpr) → component_of b s v at index ≡ component_of b t v at index
+  component_same : (v : VarValue) (at : Pos) (index : Option RExprTree) → component_of b s v at index ≡ component_of b t v at index
   component_same v at None = refl
   component_same v at (Some x) = ap (λ r. on_value Err r (λ z. index_in (length v.start) at z)) (value_same x)
 

@@ -49,7 +49,8 @@ modifies args d = not (all_on d (λ v a. is_read a) args)
 -- the dat has direct arguments alone, or arguments of one reducing access alone
 abbrev pub is_orderly : List Arg → ℕ → Bool
 is_orderly args d =
-    all_on d (λ v a. is_none v) args || all_on d (λ v a. is_inc a) args || all_on d (λ v a. is_min a) args || all_on d (λ v a. is_max a) args
+    all_on d (λ v a. is_none v) args || all_on d (λ v a. is_inc a) args || all_on d (λ v a. is_min a) args
+    || all_on d (λ v a. is_max a) args
 
 -- the argument's dat is only read or orderly
 abbrev pub is_orderly_arg : List Arg → Arg → Bool

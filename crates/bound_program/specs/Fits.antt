@@ -1,9 +1,11 @@
 -- What every bound program keeps.
-use Rattle.std.specs.Prelude.{◌≡◌, ◌≢◌, ℕ, zero, suc, ◌+◌, ◌<◌, ◌≤◌, ◌^◌, ◌⊎◌, List, [], ◌∷◌, length, sum_by, All, slice_index_or, FitsSigned, Option, Some, None, if◌then◌else◌}
+use Rattle.std.specs.Prelude.{◌≡◌, ◌≢◌, ℕ, zero, suc, ◌+◌, ◌<◌, ◌≤◌, ◌^◌, ◌⊎◌, List, [], ◌∷◌, length, sum_by, All, slice_index_or}
+use Rattle.std.specs.Prelude.{FitsSigned, Option, Some, None, if◌then◌else◌}
 use Rattle.std.specs.Int.{w32}
 use Rattle.kernel_types.specs.declared.expressions.RExpr.{RExpr}
 use Rattle.kernel_types.specs.declared.expressions.RExpr.TheVariants as r
-use Rattle.kernel_types.specs.declared.statements.RStmt.{RStmt, Block', Declare, SetScalar, SetLocal, SetArg, If', For', Row_of-RStmt, end_of-RStmt, more_of-RStmt}
+use Rattle.kernel_types.specs.declared.statements.RStmt.{RStmt, Block', Declare, SetScalar, SetLocal, SetArg, If', For', Row_of-RStmt}
+use Rattle.kernel_types.specs.declared.statements.RStmt.{end_of-RStmt, more_of-RStmt}
 use Rattle.kernel_types.specs.declared.kernels.RKernel.{RKernel}
 use Rattle.kernel_types.specs.Resolved.{IsResolved}
 use Rattle.reductions.specs.declared.access.Access.{Access}
@@ -14,8 +16,9 @@ use Rattle.mesh_decl.specs.Printed.{conversions}
 use Rattle.bound_program.specs.declared.sites.Arg.{Arg}
 use Rattle.bound_program.specs.declared.sites.Arg.TheVariants.{Dat, Global}
 use Rattle.bound_program.specs.declared.sites.Class.TheVariants as class
-use Rattle.bound_program.specs.HostExpr.{HostExpr, Number, Scalar, Told, Element, Unary, Binary, Choice, Paren, Extremum, Absolute}
-use Rattle.bound_program.specs.Values.{ActValue, Clear, Assign, Line, Print, Exit, ItemValue, Free, Reduce, Ordered, Host, SiteValue, VarValue, BoundValue, no_var, no_site}
+use Rattle.kernel_types.specs.View.{RExprTree, Number, Scalar, Constant, Arg as Param, Local, Const, Unary, Binary, Choice, Paren, Extremum, Absolute}
+use Rattle.bound_program.specs.Values.{ActValue, Clear, Assign, Line, Print, Exit, ItemValue, Free, Reduce, Ordered, Host, SiteValue}
+use Rattle.bound_program.specs.Values.{VarValue, BoundValue, no_var, no_site}
 use Rattle.bound_program.specs.Limits.{max_dim, max_arguments}
 use Rattle.bound_program.specs.Classes.{class_of, reduces}
 
@@ -165,11 +168,13 @@ module _ (b : BoundValue) where
   all_cells = sum_by (λ (v : VarValue). length v.start) b.vars
 
   -- the cells that an expression names are there, and all its names are known
-  abbrev pub HostWithin : HostExpr → Type 0
+  abbrev pub HostWithin : RExprTree → Type 0
   HostWithin (Number n) = FitsSigned w32 n
   HostWithin (Scalar k) = k < all_cells
-  HostWithin (Told k) = ⊥
-  HostWithin (Element from count form e at) = (from + count ≤ all_cells) × HostWithin e
+  HostWithin (Constant k) = ⊥
+  HostWithin (Param x form e at) = ⊥
+  HostWithin (Local from count form e at) = (from + count ≤ all_cells) × HostWithin e
+  HostWithin (Const from count form e at) = ⊥
   HostWithin (Unary op e) = HostWithin e
   HostWithin (Binary op x y at) = HostWithin x × HostWithin y
   HostWithin (Choice c x y) = HostWithin c × HostWithin x × HostWithin y
@@ -178,7 +183,7 @@ module _ (b : BoundValue) where
   HostWithin (Absolute e) = HostWithin e
 
   -- the cells that an index names are there
-  abbrev pub IndexWithin : Option HostExpr → Type 0
+  abbrev pub IndexWithin : Option RExprTree → Type 0
   IndexWithin None = Unit {0}
   IndexWithin (Some e) = HostWithin e
 

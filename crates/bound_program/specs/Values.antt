@@ -4,7 +4,7 @@ use Rattle.c_lex.specs.declared.tokens.Pos.{Pos}
 use Rattle.c_tree.specs.declared.declarations.AssignOp.{AssignOp}
 use Rattle.kernel_types.specs.declared.kernels.RKernel.{RKernel}
 use Rattle.mesh_decl.specs.Mesh.{MeshValue}
-use Rattle.bound_program.specs.HostExpr.{HostExpr, host_expr_of}
+use Rattle.kernel_types.specs.View.{RExprTree, rexpr_of}
 use Rattle.bound_program.specs.declared.acts.Act.{Act}
 use Rattle.bound_program.specs.declared.acts.Act.TheVariants as a
 use Rattle.bound_program.specs.declared.acts.Item.{Item}
@@ -19,8 +19,8 @@ use Rattle.bound_program.specs.declared.sites.Site.{Site}
 -- a statement of `main` that is no loop
 pub data ActValue : Type 0 where
   Clear : (var : ℕ) → ActValue
-  Assign : (var : ℕ) (index : Option HostExpr) (op : AssignOp) (op_at : Pos) (value : HostExpr) (at : Pos) → ActValue
-  Line : (text : List ℕ) (values : List HostExpr) → ActValue
+  Assign : (var : ℕ) (index : Option RExprTree) (op : AssignOp) (op_at : Pos) (value : RExprTree) (at : Pos) → ActValue
+  Line : (text : List ℕ) (values : List RExprTree) → ActValue
   Print : (dat : ℕ) (file : List ℕ) → ActValue
   Exit : ActValue
 
@@ -55,8 +55,8 @@ pub record BoundValue : Type 0 where
 
 abbrev pub act_of : Act → ActValue
 act_of (a.Clear v) = Clear v
-act_of (a.Assign v index op op_at e at) = Assign v (option_map host_expr_of index) op op_at (host_expr_of e) at
-act_of (a.Line text es) = Line text (map host_expr_of es.items)
+act_of (a.Assign v index op op_at e at) = Assign v (option_map rexpr_of index) op op_at (rexpr_of e) at
+act_of (a.Line text es) = Line text (map rexpr_of es.items)
 act_of (a.Print d file) = Print d file
 act_of a.Exit = Exit
 

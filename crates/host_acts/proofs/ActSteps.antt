@@ -13,7 +13,8 @@ use Rattle.mesh_decl.specs.Printed.{printed_line}
 use Rattle.schedule_model.specs.Cells.{Variable, VarCell, Store}
 use Rattle.schedule_model.specs.Program.{Hosted, Halts, Goes}
 use Rattle.schedule_model.specs.Sequential.{with_variables}
-use Rattle.bound_program.specs.HostExpr.{HostExpr, value}
+use Rattle.kernel_types.specs.View.{RExprTree}
+use Rattle.bound_program.specs.HostExpr.{value}
 use Rattle.bound_program.specs.Values.{BoundValue}
 use Rattle.bound_program.specs.Fits.{var_at}
 use Rattle.run_model.specs.Hosts.{variables_of, variable_cells, with_cell, with_zeros, value_of, values_of, component_of, assigned, prints}
@@ -29,7 +30,7 @@ module _ (b : BoundValue) (s : Store) where
   abbrev pub its_cells : List ℤ
   its_cells = map (variables_of s) (variable_cells b)
 
-  values_same : (es : List HostExpr) → values_of b s es ≡ values_in its_cells es
+  values_same : (es : List RExprTree) → values_of b s es ≡ values_in its_cells es
   values_same [] = refl
   values_same (e ∷ es) = ap (λ r. on_value Err (value [] its_cells e) (λ z. on_value Err r (λ zs. Ok (z ∷ zs)))) (values_same es)
 
@@ -41,7 +42,7 @@ module _ (b : BoundValue) (s : Store) where
     line_ends (Ok x) (Err g) h = absurd h
     line_ends (Err f) (Ok zs) h = absurd h
 
-    pub line_printed : {A : Type 0} (r : Result A KernelFault) (cells : List ℤ) (es : List HostExpr) → its_cells ≡ cells → PrintsLine text old new r (values_in cells es)
+    pub line_printed : {A : Type 0} (r : Result A KernelFault) (cells : List ℤ) (es : List RExprTree) → its_cells ≡ cells → PrintsLine text old new r (values_in cells es)
         → ActEnds b m s old new r (on_value Halts (values_of b s es) (λ zs. prints b s (printed_line text zs)))
     line_printed r cells es same h = line_ends r (values_of b s es)
         (subst (PrintsLine text old new r) (sym (values_same es ∙ ap (λ l. values_in l es) same)) h)
@@ -65,7 +66,7 @@ component_below : (count : ℕ) (at : Pos) (v : Value) (i : ℕ) → on_value Er
 component_below count at (Ok z) i e = index_below count at z i e
 component_below count at (Err f) i e = cc
 
-pub is_below : (cells : List ℤ) (count : ℕ) (at : Pos) (index : Option HostExpr) (i : ℕ) → 0 < count → component_in cells count at index ≡ Ok i → i < count
+pub is_below : (cells : List ℤ) (count : ℕ) (at : Pos) (index : Option RExprTree) (i : ℕ) → 0 < count → component_in cells count at index ≡ Ok i → i < count
 is_below cells count at None i some e = let same : 0 ≡ i = cc in omega arith
 is_below cells count at (Some x) i some e = component_below count at (value [] cells x) i e
 
@@ -93,7 +94,7 @@ module _ (b : BoundValue) (order : IsInOrder b) (m : List ℤ) (s : Store) (hold
       ∙ ap (λ k. get_or m k (pos 0)) (let at : var_start b 0 + (start + i) ≡ var_start b v + i = omega (arith, begins) in at)
       ∙ holds.values (Variable (record { variable = v; component = i })) (order.components v i lv li))
 
-  component_same : (at : Pos) (index : Option HostExpr) → component_of b s (var_at b v) at index ≡ component_in cells (var_width b v) at index
+  component_same : (at : Pos) (index : Option RExprTree) → component_of b s (var_at b v) at index ≡ component_in cells (var_width b v) at index
   component_same at None = refl
   component_same at (Some e) = ap (λ l. on_value Err (value [] l e) (λ z. index_in (var_width b v) at z)) is
 
@@ -101,7 +102,7 @@ module _ (b : BoundValue) (order : IsInOrder b) (m : List ℤ) (s : Store) (hold
   abbrev pub storing_at : ℕ → ℤ → Hosted KernelFault
   storing_at i z = Goes (with_cell (record { variable = v; component = i }) z (variables_of s)) []
 
-  module _ (index : Option HostExpr) (op : AssignOp) (op_at : Pos) (e : HostExpr) (at : Pos) where
+  module _ (index : Option RExprTree) (op : AssignOp) (op_at : Pos) (e : RExprTree) (at : Pos) where
     assigned_same : assigned b s v index op op_at e at
         ≡ on_value Halts (component_in cells (var_width b v) at index) (λ i. on_value Halts (new_value_in cells (start + i) op op_at e) (storing_at i))
     assigned_same =
@@ -142,7 +143,7 @@ var_cleared b law m left v from count lv begins wide long zeros others s holds =
 
 module _ (b : BoundValue) (order : IsInOrder b) (law : MemoryEndsWithVariables) (m : List ℤ) (s : Store) (holds : Holds b m s) (v from count : ℕ)
     (lv : v < length b.vars) (some : 0 < var_width b v) (from_is : from ≡ var_start b v) (count_is : count ≡ var_width b v) (none : var_start b 0 ≡ 0)
-    (index : Option HostExpr) (op : AssignOp) (op_at : Pos) (e : HostExpr) (at : Pos) (out : List ℕ) where
+    (index : Option RExprTree) (op : AssignOp) (op_at : Pos) (e : RExprTree) (at : Pos) (out : List ℕ) where
   begins : from + var_start b 0 ≡ var_start b v
   begins = omega arith
 

@@ -8,7 +8,8 @@ use Rattle.mesh_decl.specs.Printed.{printed_line}
 use Rattle.schedule_model.specs.Cells.{Store}
 use Rattle.schedule_model.specs.Program.{Hosted, Halts, Goes}
 use Rattle.schedule_model.specs.Sequential.{with_variables}
-use Rattle.bound_program.specs.HostExpr.{HostExpr, host_expr_of, value}
+use Rattle.kernel_types.specs.View.{RExprTree, rexpr_of}
+use Rattle.bound_program.specs.HostExpr.{value}
 use Rattle.bound_program.specs.Values.{BoundValue, ActValue, Assign, var_of}
 use Rattle.run_model.specs.Memory.{Holds}
 use Rattle.host_acts.specs.declared.acts.Assignment.{Assignment}
@@ -18,17 +19,17 @@ use Rattle.host_acts.specs.Variables.{of_vars, VarsBegin}
 -- the variables have these cells
 module _ (cells : List ℤ) where
   -- the values of expressions in order, or the first fault
-  abbrev pub values_in : List HostExpr → Result (List ℤ) KernelFault
+  abbrev pub values_in : List RExprTree → Result (List ℤ) KernelFault
   values_in [] = Ok []
   values_in (e ∷ es) = on_value Err (value [] cells e) (λ z. on_value Err (values_in es) (λ zs. Ok (z ∷ zs)))
 
   -- which of so many components is assigned: a scalar's first
-  abbrev pub component_in : ℕ → Pos → Option HostExpr → Result ℕ KernelFault
+  abbrev pub component_in : ℕ → Pos → Option RExprTree → Result ℕ KernelFault
   component_in count at None = Ok 0
   component_in count at (Some e) = on_value Err (value [] cells e) (λ z. index_in count at z)
 
   -- what an assignment stores in the cell at this place
-  abbrev pub new_value_in : ℕ → AssignOp → Pos → HostExpr → Result ℤ KernelFault
+  abbrev pub new_value_in : ℕ → AssignOp → Pos → RExprTree → Result ℤ KernelFault
   new_value_in place op op_at e = on_value Err (value [] cells e) (λ x. stored op op_at (slice_index_or cells place (pos 0)) x)
 
 -- the program of the variables
@@ -41,7 +42,7 @@ Begins x = VarsBegin (map var_of x.vars.now) x.starts.now
 
 -- an assignment of the program as a statement
 abbrev pub assignment_of : ℕ → Assignment → ActValue
-assignment_of var x = Assign var (option_map host_expr_of x.index.now) x.op x.op_at (host_expr_of x.value.now) x.at
+assignment_of var x = Assign var (option_map rexpr_of x.index.now) x.op x.op_at (rexpr_of x.value.now) x.at
 
 -- A statement has been done on the store s, with that memory and output after it: the memory holds the store after it and what
 -- it prints stands behind the old output, or it has a fault and prints nothing.

@@ -4,7 +4,7 @@ ghost use Rattle.std.specs.Prelude.{◌≡◌, ◌<◌, ◌≤◌, ◌+◌, ◌�
 ghost use Rattle.std.specs.Int.{w32};
 ghost use Rattle.schedule_model.specs.Cells.{Store};
 ghost use Rattle.schedule_model.specs.Sequential.{with_variables};
-ghost use Rattle.bound_program.specs.HostExpr.{host_expr_of};
+ghost use Rattle.kernel_types.specs.View.{rexpr_of};
 ghost use Rattle.bound_program.specs.Values.{act_of, Line};
 ghost use Rattle.bound_program.specs.Fits.{ActFits};
 ghost use Rattle.run_model.specs.Hosts.{variables_of, with_zeros, act_run};
@@ -88,7 +88,7 @@ fn component_of(
     count: usize,
     cells: &[i32],
 ) -> Result<usize, KernelFault>
-    ensures value { result ≡ component_in cells.now count at (option_map host_expr_of index.now) }
+    ensures value { result ≡ component_in cells.now count at (option_map rexpr_of index.now) }
     ensures within { 0 < count → IfOk result (λ i. i < count) }
 {
     match index {
@@ -109,7 +109,7 @@ fn cell_at(cells: &[i32], place: usize) -> i32
 
 // What an assignment stores in the cell at a place.
 fn new_value(all: &Assignment<'_>, cells: &[i32], place: usize) -> Result<i32, KernelFault>
-    ensures value { result ≡ new_value_in cells.now place all.now.op all.now.op_at (host_expr_of all.now.value.now) }
+    ensures value { result ≡ new_value_in cells.now place all.now.op all.now.op_at (rexpr_of all.now.value.now) }
     ensures range { IfOk result (FitsSigned w32) }
 {
     let x = host_value(all.value, &[], cells)?;
@@ -146,7 +146,7 @@ fn put_values(
     cells: &[i32],
 ) -> Result<Result<(), KernelFault>, OutOfMemory>
     requires { values.old.items ≡ [] }
-    ensures { IfOk result (λ r. GivesValues r values.new.items (values_in cells.now (map host_expr_of all.now))) }
+    ensures { IfOk result (λ r. GivesValues r values.new.items (values_in cells.now (map rexpr_of all.now))) }
 {
     for e in all {
         match host_value(e, &[], cells) {
@@ -165,7 +165,7 @@ fn put_line(
     cells: &[i32],
     out: &mut Vec<u8>,
 ) -> Result<Result<(), KernelFault>, OutOfMemory>
-    ensures { IfOk result (λ r. PrintsLine text.now out.old.items out.new.items r (values_in cells.now (map host_expr_of all.now))) }
+    ensures { IfOk result (λ r. PrintsLine text.now out.old.items out.new.items r (values_in cells.now (map rexpr_of all.now))) }
 {
     let mut values = Vec::new(alloc);
     if let Err(fault) = put_values(&mut values, all, cells)? {
@@ -186,7 +186,7 @@ fn put_text(
 ) -> Result<Result<(), KernelFault>, OutOfMemory>
     ensures { IfOk result (λ r. (s : Store) → Holds (program_of known.now) cells.now s
         → ActEnds (program_of known.now) cells.now s out.old.items out.new.items r
-        (act_run (program_of known.now) s (Line text.now (map host_expr_of all.now)))) }
+        (act_run (program_of known.now) s (Line text.now (map rexpr_of all.now)))) }
 {
     run_model::memory_holds();
     put_line(alloc, text, all, cells, out)

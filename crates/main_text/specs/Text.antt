@@ -10,7 +10,7 @@ use Rattle.mesh_text.specs.Spelling.{Named}
 use Rattle.mesh_decl.specs.Printed.{conversions}
 use Rattle.bind_refusals.specs.declared.refusals.BindRefusal.TheVariants as refusal
 use Rattle.main_names.specs.declared.walks.Spot.{Spot}
-use Rattle.bound_program.specs.HostExpr.{HostExpr, Number}
+use Rattle.kernel_types.specs.View.{RExprTree, Number}
 use Rattle.bound_program.specs.Values.{ActValue, Assign, Line, Print}
 use Rattle.main_names.specs.declared.scopes.Meaning.TheVariants.{Turning}
 use Rattle.main_names.specs.Names.{Scope, means, told_later, closed}
@@ -46,7 +46,7 @@ module _ (places : List Pos) (consts : List ConstDecl) (entries : List Named) wh
   target_name (tree.Target at x) = x
 
   -- its index; `*x` is `x[0]`
-  abbrev pub target_index : Scope → PlaceTree → Option HostExpr
+  abbrev pub target_index : Scope → PlaceTree → Option RExprTree
   target_index s (tree.Scalar x) = None
   target_index s (tree.Element x i) = Some (resolved places s i)
   target_index s (tree.Target at x) = Some (Number (pos 0))

@@ -3,7 +3,9 @@
 ghost use Rattle.std.specs.Prelude.{◌≡◌, [], OnOk};
 ghost use Rattle.mesh_decl.specs.Mesh.{dat_dim, map_dim};
 ghost use Rattle.bind_refusals.specs.Refusals.{least_from};
-ghost use Rattle.main_text.specs.Arguments.{is_same, is_twice, via_map, is_wrong_set, is_minus_one, is_wrong_index, is_wrong_dim, dim_of, map_found, global_found, reach_found, dat_arg_found, arg_found, with_earlier, args_found, via_of, arg_of};
+ghost use Rattle.main_text.specs.Arguments.{is_same, is_twice, via_map, is_wrong_set, is_minus_one, is_wrong_index, is_wrong_dim, dim_of};
+ghost use Rattle.main_text.specs.Arguments.{map_found, global_found, reach_found, dat_arg_found, arg_found, with_earlier, args_found};
+ghost use Rattle.main_text.specs.Arguments.{via_of, arg_of};
 ghost use Rattle.main_names.specs.Walks.{declared_of};
 
 use crate::accesses::{access_of, is_reserved};

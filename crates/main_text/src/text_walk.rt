@@ -2,7 +2,7 @@
 
 ghost use Rattle.std.specs.Prelude.{◌≡◌, length, map, option_map, is_none, IfOk};
 ghost use Rattle.c_tree.specs.View.{expr_of, place_of, assignment_of, call_of, host_of, hosts_of};
-ghost use Rattle.bound_program.specs.HostExpr.{host_expr_of};
+ghost use Rattle.kernel_types.specs.View.{rexpr_of};
 ghost use Rattle.mesh_decl.specs.Printed.{conversions};
 ghost use Rattle.bound_program.specs.Values.{act_of, Line, Print};
 ghost use Rattle.main_names.specs.Names.{means};
@@ -46,7 +46,7 @@ fn target_index(
     k: &Declared,
     target: &Place,
 ) -> Result<Option<RExpr>, OutOfMemory>
-    ensures { IfOk result (λ r. option_map host_expr_of r ≡
+    ensures { IfOk result (λ r. option_map rexpr_of r ≡
         target_index source.now.places.now source.now.consts.now source.now.entries.now.entries
         (declared_of k.now).names (place_of target.now)) }
 {
@@ -81,7 +81,7 @@ fn assignment(source: &Source<'_>, k: &Declared, a: &Assignment) -> Result<Act, 
 
 // The values of an `op_printf`.
 fn resolved_all(source: &Source<'_>, k: &Declared, all: &[Expr]) -> Result<Vec<RExpr>, OutOfMemory>
-    ensures { IfOk result (λ r. map host_expr_of r.items ≡
+    ensures { IfOk result (λ r. map rexpr_of r.items ≡
         map (resolved source.now.places.now (declared_of k.now).names) (map expr_of all.now)) }
 {
     let mut values = Vec::new(source.alloc);

@@ -3,10 +3,11 @@ use Rattle.std.proofs.Common.{◌≡◌, refl, List, ℤ}
 use Rattle.kernel_types.specs.declared.expressions.RExpr.{RExpr}
 use Rattle.kernel_types.specs.declared.expressions.RExpr.TheVariants as r
 use Rattle.kernel_model.specs.Meaning.{Store, Target, value_of}
-use Rattle.bound_program.specs.HostExpr.{host_expr_of, value, IsHost, MeansAsInKernels}
+use Rattle.kernel_types.specs.View.{rexpr_of}
+use Rattle.bound_program.specs.HostExpr.{value, IsHost, MeansAsInKernels}
 
 module _ (ts : List Target) (s : Store) (told cells : List ℤ) where
-  same : (e : RExpr) → IsHost e → value_of ts told e s cells ≡ value told cells (host_expr_of e)
+  same : (e : RExpr) → IsHost (rexpr_of e) → value_of ts told e s cells ≡ value told cells (rexpr_of e)
   same (r.Number n) h = refl
   same (r.Scalar k) h = refl
   same (r.Constant k) h = refl

@@ -1,12 +1,12 @@
 -- What is left of `main` when its names are numbers: the statements that are unrolled.
 use Rattle.std.specs.Prelude.{ℕ, Option}
 use Rattle.c_lex.specs.declared.tokens.Pos.{Pos}
-use Rattle.bound_program.specs.HostExpr.{HostExpr}
+use Rattle.kernel_types.specs.View.{RExprTree}
 use Rattle.bound_program.specs.Values.{ActValue}
 
 -- an expression that must be known before the run, and the place of its first token
 pub record Asked : Type 0 where
-  pub value : HostExpr
+  pub value : RExprTree
   pub at : Pos
 
 -- What a statement does; a loop; a `const` name whose value is told here, with the number of its variable where it is one; a block,

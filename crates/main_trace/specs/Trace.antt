@@ -1,11 +1,13 @@
 -- What `main` unrolls to, by recursion on its steps with the values that are told.
-use Rattle.std.specs.Prelude.{ℕ, zero, suc, ℤ, pos, ◌+ℤ◌, ◌-ℤ◌, int_lt, nat_abs, Bool, true, false, List, [], ◌∷◌, ◌++◌, map, option_map, Option, Some, None, Ok, Err, slice_index_or, if◌then◌else◌}
+use Rattle.std.specs.Prelude.{ℕ, zero, suc, ℤ, pos, ◌+ℤ◌, ◌-ℤ◌, int_lt, nat_abs, Bool, true, false, List, [], ◌∷◌, ◌++◌, map, option_map}
+use Rattle.std.specs.Prelude.{Option, Some, None, Ok, Err, slice_index_or, if◌then◌else◌}
 use Rattle.c_lex.specs.declared.tokens.Pos.{Pos}
 use Rattle.kernel_model.specs.Numbers.{Value, is_zero}
 use Rattle.bound_program.specs.declared.sites.Class.{Class}
 use Rattle.bound_program.specs.declared.sites.Class.TheVariants as class
 use Rattle.bound_program.specs.HostExpr.{value, closed}
-use Rattle.bound_program.specs.Values.{ActValue, Clear, Assign, Line, Print, Exit, ItemValue, Free, Reduce, Ordered, Host, SiteValue, no_site}
+use Rattle.bound_program.specs.Values.{ActValue, Clear, Assign, Line, Print, Exit, ItemValue, Free, Reduce, Ordered, Host, SiteValue}
+use Rattle.bound_program.specs.Values.{no_site}
 use Rattle.main_trace.specs.Steps.{Asked, Step, Do, Loop, Fix, Block, Choose, Repeat, Steps, NoStep, MoreStep}
 use Rattle.bound_program.specs.Classes.{reduces}
 
@@ -102,7 +104,8 @@ module _ (sites : List SiteValue) where
     events told (Choose e s t) =
         answer (number told e) e.at (λ z. choose (is_zero z) (λ u. events told t) (λ u. events told s))
     events told (Repeat from to s) =
-        answer (number told from) from.at (λ i. turns (λ j. number (told ++ j ∷ []) to) (λ j. events (told ++ j ∷ []) s) to.at (turns_left i) i)
+        answer (number told from) from.at (λ i. turns (λ j. number (told ++ j ∷ []) to) (λ j. events (told
+        ++ j ∷ []) s) to.at (turns_left i) i)
 
     pub all_events : List ℤ → Steps → List Event
     all_events told NoStep = []

@@ -13,7 +13,7 @@ use Rattle.main_trace.specs.declared.unroll.LoopForm.{LoopForm}
 use Rattle.main_trace.specs.declared.unroll.LoopForm.TheVariants as form
 use Rattle.bound_program.specs.declared.sites.Class.{Class}
 use Rattle.bound_program.specs.declared.sites.Class.TheVariants as class
-use Rattle.bound_program.specs.HostExpr.{host_expr_of}
+use Rattle.kernel_types.specs.View.{rexpr_of}
 use Rattle.bound_program.specs.Values.{act_of, item_of, SiteValue, Free, Reduce, Ordered}
 use Rattle.main_trace.specs.Steps.{Asked, Step, Do, Loop, Fix, Block, Choose, Repeat, Steps, NoStep, MoreStep}
 use Rattle.bind_refusals.specs.Refusals.{Judged}
@@ -22,7 +22,7 @@ use Rattle.bound_program.specs.Classes.{reduces}
 use Rattle.main_trace.specs.Limited.{ToldValue, UnrolledValue, before, unrolled}
 
 abbrev pub asked_of : AskedCode → Asked
-asked_of a = record { value = host_expr_of a.value; at = a.at }
+asked_of a = record { value = rexpr_of a.value; at = a.at }
 
 abbrev mutual
   pub step_of : StepCode → Step

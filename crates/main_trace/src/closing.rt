@@ -1,7 +1,8 @@
 // Expressions and statements of `main` with the values that are told when it is unrolled.
 
 ghost use Rattle.std.specs.Prelude.{◌≡◌, map, option_map, length, pos, slice_index_or, IfOk};
-ghost use Rattle.bound_program.specs.HostExpr.{host_expr_of, closed};
+ghost use Rattle.kernel_types.specs.View.{rexpr_of};
+ghost use Rattle.bound_program.specs.HostExpr.{closed};
 ghost use Rattle.bound_program.specs.Values.{act_of};
 ghost use Rattle.main_trace.specs.Trace.{closed_act};
 
@@ -19,7 +20,7 @@ fn told_value(told: &[i32], k: usize) -> i32
 
 /// The expression with these values in place of the names that are told later.
 pub fn closed_expr(alloc: Global, e: &RExpr, told: &[i32]) -> Result<RExpr, OutOfMemory>
-    ensures { IfOk result (λ x. host_expr_of x ≡ closed told.now (host_expr_of e.now)) }
+    ensures { IfOk result (λ x. rexpr_of x ≡ closed told.now (rexpr_of e.now)) }
 {
     match e {
         RExpr::Number(n) => Ok(RExpr::Number(*n)),
@@ -143,7 +144,7 @@ pub fn closed_expr(alloc: Global, e: &RExpr, told: &[i32]) -> Result<RExpr, OutO
 
 // The same of expressions in order.
 fn closed_exprs(alloc: Global, es: &[RExpr], told: &[i32]) -> Result<Vec<RExpr>, OutOfMemory>
-    ensures { IfOk result (λ v. map host_expr_of v.items ≡ map (λ e. closed told.now (host_expr_of e)) es.now) }
+    ensures { IfOk result (λ v. map rexpr_of v.items ≡ map (λ e. closed told.now (rexpr_of e)) es.now) }
 {
     let mut closed = Vec::new(alloc);
     for e in es {
@@ -159,7 +160,7 @@ fn closed_index(
     index: &Option<RExpr>,
     told: &[i32],
 ) -> Result<Option<RExpr>, OutOfMemory>
-    ensures { IfOk result (λ x. option_map host_expr_of x ≡ option_map (closed told.now) (option_map host_expr_of index.now)) }
+    ensures { IfOk result (λ x. option_map rexpr_of x ≡ option_map (closed told.now) (option_map rexpr_of index.now)) }
 {
     match index {
         None => Ok(None),

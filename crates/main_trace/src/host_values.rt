@@ -1,7 +1,8 @@
 // The values of expressions of `main`.
 
 ghost use Rattle.std.specs.Prelude.{◌≡◌, ◌+◌, pos, slice_index_or};
-ghost use Rattle.bound_program.specs.HostExpr.{host_expr_of, value};
+ghost use Rattle.kernel_types.specs.View.{rexpr_of};
+ghost use Rattle.bound_program.specs.HostExpr.{value};
 
 use kernel_types::RExpr;
 use operators::{
@@ -22,7 +23,7 @@ fn cell_behind(cells: &[i32], from: usize, index: usize) -> i32
 /// The value of an expression of `main`, or its first fault: `told` holds the values of the names that are told when `main`
 /// is unrolled, `cells` the cells of all variables. What isn't there is 0.
 pub fn host_value(e: &RExpr, told: &[i32], cells: &[i32]) -> Result<i32, KernelFault>
-    ensures { result ≡ value told.now cells.now (host_expr_of e.now) }
+    ensures { result ≡ value told.now cells.now (rexpr_of e.now) }
 {
     match e {
         RExpr::Number(n) => Ok(*n),

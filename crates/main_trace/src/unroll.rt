@@ -282,7 +282,9 @@ fn unroll_turns(
     told: &mut Vec<i32>,
     out: &mut Unrolled,
 ) -> Result<(), BindRefusal>
-    ensures leaves { Leaves out.old (turns (λ j. number (told.old.items ++ j ∷ []) (asked_of to.now)) (λ j. events (map site_of sites.now) (told.old.items ++ j ∷ []) (step_of body.now)) to.now.at (turns_left first.value) first.value) result out.new }
+    ensures leaves { Leaves out.old (turns (λ j. number (told.old.items
+        ++ j ∷ []) (asked_of to.now)) (λ j. events (map site_of sites.now) (told.old.items
+        ++ j ∷ []) (step_of body.now)) to.now.at (turns_left first.value) first.value) result out.new }
     ensures told { OnOk result (told.new.items ≡ told.old.items) }
     ensures fewer { OnOk result (out.new.left ≤ out.old.left) }
 {

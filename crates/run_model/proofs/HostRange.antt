@@ -8,7 +8,8 @@ use Rattle.kernel_model.specs.Operators.{IsNumber, OperatorsStayInRange}
 use Rattle.mesh_decl.specs.Mesh.{dat_dim}
 use Rattle.schedule_model.specs.Cells.{Data, Variable, VarCell, Store, InRange}
 use Rattle.schedule_model.specs.Program.{Hosted, Halts, Goes}
-use Rattle.bound_program.specs.HostExpr.{HostExpr, Number, Scalar, Told, Element, Unary, Binary, Choice, Paren, Extremum, Absolute, value}
+use Rattle.kernel_types.specs.View.{RExprTree, Number, Scalar, Constant, Arg, Local, Const, Unary, Binary, Choice, Paren, Extremum, Absolute}
+use Rattle.bound_program.specs.HostExpr.{value}
 use Rattle.bound_program.specs.Values.{BoundValue, ItemValue, Free, Reduce, Ordered, Host, ActValue, Clear, Assign, Line, Print, Exit}
 use Rattle.bound_program.specs.Fits.{HostWithin, ActFits, ItemsFit, due, var_at}
 use Rattle.run_model.specs.Hosts.{variables_of, variable_cells, value_of, values_of, component_of, act_run}
@@ -35,11 +36,13 @@ either true x y f g = f
 either false x y f g = g
 
 module _ (ops : OperatorsStayInRange) (b : BoundValue) (cells : List ℤ) (small : (j : ℕ) → FitsSigned w32 (slice_index_or cells j (pos 0))) where
-  number : (e : HostExpr) → HostWithin b e → IsNumber (value [] cells e)
+  number : (e : RExprTree) → HostWithin b e → IsNumber (value [] cells e)
   number (Number n) w = w
   number (Scalar k) w = small k
-  number (Told k) w = absurd w
-  number (Element from count form e at) w =
+  number (Constant k) w = absurd w
+  number (Arg x form e at) w = absurd w
+  number (Const from count form e at) w = absurd w
+  number (Local from count form e at) w =
       then_number (value [] cells e) (λ z. and_then (index_in count at z) (λ i. Ok (slice_index_or cells (from + i) (pos 0)))) (number e w.1)
       (λ z h. then_any (index_in count at z) (λ i. Ok (slice_index_or cells (from + i) (pos 0))) (λ i. small (from + i)))
   number (Unary op e) w = then_number (value [] cells e) _ (number e w) (λ x h. ops.unary op x h)
@@ -79,7 +82,7 @@ variables_fit s (x ∷ xs) h zero = h (Variable x)
 variables_fit s (x ∷ xs) h (suc j) = variables_fit s xs h j
 
 module _ (ops : OperatorsStayInRange) (b : BoundValue) (s : Store) (small : InRange s) where
-  value_fits : (e : HostExpr) → HostWithin b e → IsNumber (value_of b s e)
+  value_fits : (e : RExprTree) → HostWithin b e → IsNumber (value_of b s e)
   value_fits e w = number ops b (map (variables_of s) (variable_cells b)) (variables_fit s (variable_cells b) small) e w
 
   act_leaves : (a : ActValue) → ActFits b a → LeavesInRange (act_run b s a)

@@ -1,6 +1,7 @@
 -- What the statements of `main` that are no loop do: to the variables, and to what is printed (ISO C 6.5.16, with the target's index
 -- first, then the old value, then the right side; `op_printf`, `op_print_dat_to_txtfile` and `op_exit` of the OP2 C API).
-use Rattle.std.specs.Prelude.{ℕ, suc, ℤ, pos, ◌&&◌, List, [], ◌∷◌, ◌++◌, map, length, Option, Some, None, Result, Ok, Err, nat_eq, if◌then◌else◌}
+use Rattle.std.specs.Prelude.{ℕ, suc, ℤ, pos, ◌&&◌, List, [], ◌∷◌, ◌++◌, map, length, Option, Some, None, Result, Ok, Err, nat_eq}
+use Rattle.std.specs.Prelude.{if◌then◌else◌}
 use Rattle.std.specs.List.{flat_map}
 use Rattle.c_lex.specs.declared.tokens.Pos.{Pos}
 use Rattle.c_tree.specs.declared.declarations.AssignOp.{AssignOp}
@@ -10,7 +11,8 @@ use Rattle.mesh_decl.specs.Mesh.{set_size, dat_set, dat_dim}
 use Rattle.mesh_decl.specs.Printed.{printed_dat, printed_line}
 use Rattle.schedule_model.specs.Cells.{Cell, Data, Variable, VarCell, Store}
 use Rattle.schedule_model.specs.Program.{Hosted, Halts, Goes}
-use Rattle.bound_program.specs.HostExpr.{HostExpr, value}
+use Rattle.kernel_types.specs.View.{RExprTree}
+use Rattle.bound_program.specs.HostExpr.{value}
 use Rattle.bound_program.specs.Values.{BoundValue, VarValue, ActValue, Clear, Assign, Line, Print, Exit}
 use Rattle.bound_program.specs.Fits.{var_at}
 use Rattle.run_model.specs.Windows.{numbers}
@@ -46,16 +48,16 @@ module _ (b : BoundValue) where
 
   module _ (s : Store) where
     -- the value of an expression, or its first fault
-    abbrev pub value_of : HostExpr → Result ℤ KernelFault
+    abbrev pub value_of : RExprTree → Result ℤ KernelFault
     value_of e = value [] (map (variables_of s) variable_cells) e
 
     -- the values of expressions in order, or the first fault
-    abbrev pub values_of : List HostExpr → Result (List ℤ) KernelFault
+    abbrev pub values_of : List RExprTree → Result (List ℤ) KernelFault
     values_of [] = Ok []
     values_of (e ∷ es) = on_value Err (value_of e) (λ z. on_value Err (values_of es) (λ zs. Ok (z ∷ zs)))
 
     -- which component of the target is assigned: a scalar's first
-    abbrev pub component_of : VarValue → Pos → Option HostExpr → Result ℕ KernelFault
+    abbrev pub component_of : VarValue → Pos → Option RExprTree → Result ℕ KernelFault
     component_of v at None = Ok 0
     component_of v at (Some e) = on_value Err (value_of e) (λ z. index_in (length v.start) at z)
 
@@ -64,7 +66,7 @@ module _ (b : BoundValue) where
     prints bytes = Goes (variables_of s) bytes
 
     -- an assignment
-    abbrev pub assigned : ℕ → Option HostExpr → AssignOp → Pos → HostExpr → Pos → Hosted KernelFault
+    abbrev pub assigned : ℕ → Option RExprTree → AssignOp → Pos → RExprTree → Pos → Hosted KernelFault
     assigned v index op op_at e at =
         on_value Halts (component_of (var_at b v) at index) (λ i.
         on_value Halts (value_of e) (λ x.

@@ -1,13 +1,15 @@
 // The statements of `main` that are no loop.
 
-ghost use Rattle.std.specs.Prelude.{◌≡◌, ◌<◌, ◌≤◌, ◌+◌, ◌++◌, ◌⊎◌, [], ℕ, pos, List, length, map, take, drop, option_map, slice_index_or, FitsSigned, IfOk, OnOk};
+ghost use Rattle.std.specs.Prelude.{◌≡◌, ◌<◌, ◌≤◌, ◌+◌, ◌++◌, ◌⊎◌, [], ℕ, pos, List, length, map, take, drop, option_map, slice_index_or};
+ghost use Rattle.std.specs.Prelude.{FitsSigned, IfOk, OnOk};
 ghost use Rattle.std.specs.Int.{w32};
 ghost use Rattle.kernel_types.specs.declared.faults.KernelFault.{KernelFault};
 ghost use Rattle.mesh_decl.specs.Mesh.{dat_count};
 ghost use Rattle.mesh_decl.specs.Printed.{printed_line, printed_dat};
 ghost use Rattle.schedule_model.specs.Cells.{Store};
 ghost use Rattle.schedule_model.specs.Sequential.{with_variables};
-ghost use Rattle.bound_program.specs.HostExpr.{HostExpr, host_expr_of, value};
+ghost use Rattle.kernel_types.specs.View.{RExprTree, rexpr_of};
+ghost use Rattle.bound_program.specs.HostExpr.{value};
 ghost use Rattle.bound_program.specs.Values.{bound_of, act_of, Assign, Line, Print};
 ghost use Rattle.bound_program.specs.Fits.{ActFits};
 ghost use Rattle.run_model.specs.Hosts.{variables_of, with_zeros, dat_cells, act_run};
@@ -71,7 +73,7 @@ fn component_of(
     count: usize,
     vars: &[i32],
 ) -> Result<usize, KernelFault>
-    ensures value { result ≡ component_in vars.now count at (option_map host_expr_of index.now) }
+    ensures value { result ≡ component_in vars.now count at (option_map rexpr_of index.now) }
     ensures within { 0 < count → IfOk result (λ i. i < count) }
 {
     match index {
@@ -92,7 +94,7 @@ fn cell_at(vars: &[i32], place: usize) -> i32
 
 // What an assignment stores in the cell at a place of the variables.
 fn new_value(all: &Assignment<'_>, vars: &[i32], place: usize) -> Result<i32, KernelFault>
-    ensures value { result ≡ new_value_in vars.now place all.now.op all.now.op_at (host_expr_of all.now.value.now) }
+    ensures value { result ≡ new_value_in vars.now place all.now.op all.now.op_at (rexpr_of all.now.value.now) }
     ensures range { IfOk result (FitsSigned w32) }
 {
     let x = host_value(all.value, &[], vars)?;
@@ -140,7 +142,7 @@ fn put_values(
     vars: &[i32],
 ) -> Result<Result<(), KernelFault>, OutOfMemory>
     requires { values.old.items ≡ [] }
-    ensures { IfOk result (λ r. GivesValues r values.new.items (values_in vars.now (map host_expr_of all.now))) }
+    ensures { IfOk result (λ r. GivesValues r values.new.items (values_in vars.now (map rexpr_of all.now))) }
 {
     for e in all {
         match host_value(e, &[], vars) {
@@ -159,7 +161,7 @@ fn put_line(
     vars: &[i32],
     out: &mut Vec<u8>,
 ) -> Result<Result<(), KernelFault>, OutOfMemory>
-    ensures { IfOk result (λ r. PrintsLine text.now out.old.items out.new.items r (values_in vars.now (map host_expr_of all.now))) }
+    ensures { IfOk result (λ r. PrintsLine text.now out.old.items out.new.items r (values_in vars.now (map rexpr_of all.now))) }
 {
     let mut values = Vec::new(alloc);
     if let Err(fault) = put_values(&mut values, all, vars)? {
@@ -183,7 +185,7 @@ fn put_text(
     requires memory { length memory.now ≡ memory_length (bound_of bound.now) }
     ensures { IfOk result (λ r. (s : Store) → Holds (bound_of bound.now) memory.now s
         → ActEnds (bound_of bound.now) memory.now s out.old.items out.new.items r
-        (act_run (bound_of bound.now) s (Line text.now (map host_expr_of all.now)))) }
+        (act_run (bound_of bound.now) s (Line text.now (map rexpr_of all.now)))) }
 {
     run_model::memory_holds();
     put_line(alloc, text, all, variables_in(layout, memory), out)

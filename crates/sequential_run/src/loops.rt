@@ -50,7 +50,8 @@ fn run_element(
     requires element { element < set_size all.now.bound.now.mesh all.now.site.now.set }
     requires places { length places.old ≡ length all.now.site.now.args.items }
     ensures { ran_of (memory.new ∷ []) result
-        ≡ kernel_meaning (spans (bound_of all.now.bound.now) all.now.site.now.args.items element) all.now.consts.now all.now.code.now.kernel.now
+        ≡ kernel_meaning (spans
+        (bound_of all.now.bound.now) all.now.site.now.args.items element) all.now.consts.now all.now.code.now.kernel.now
         (memory.old ∷ []) }
 {
     put_places(all.bound, all.layout, &all.site.args, element, places);

@@ -1,7 +1,7 @@
 // A small program, with what it prints by hand.
 
 ghost use Rattle.std.specs.Prelude.{◌≡◌, None, IfOk};
-ghost use Rattle.bound_program.specs.HostExpr.{Number};
+ghost use Rattle.kernel_types.specs.View.{Number};
 ghost use Rattle.bound_program.specs.Values.{Assign, act_of, bound_of};
 ghost use Rattle.bound_program.specs.Fits.{Fits};
 ghost use Rattle.sequential_run.specs.Conditions.{LoopsObey};

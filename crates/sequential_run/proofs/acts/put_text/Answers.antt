@@ -1,6 +1,6 @@
 use Rattle.std.proofs.Common.{ap, sym, ◌∙◌, drop, map, arith}
 use Rattle.std.proofs.lemmas.Result.{IfOk-weaker}
-use Rattle.bound_program.specs.HostExpr.{host_expr_of}
+use Rattle.kernel_types.specs.View.{rexpr_of}
 use Rattle.bound_program.specs.Values.{bound_of}
 use Rattle.sequential_run.proofs.ActSteps.{line_printed}
 use Rattle.sequential_run.proofs.ArgPlaces.{vars_within}
@@ -15,6 +15,6 @@ returns c =
     let m = c.args.memory.now in
     IfOk-weaker c.put_line.result _ _
     (λ r h s holds.
-    line_printed b s m holds c.args.text.now c.args.out.now.items c.put_line.new.out.items r c.variables_in.result.now (map host_expr_of c.args.all.now)
+    line_printed b s m holds c.args.text.now c.args.out.now.items c.put_line.new.out.items r c.variables_in.result.now (map rexpr_of c.args.all.now)
     (c.memory_holds.ensures.variables b m s holds ∙ ap (λ k. drop k m) (sym c.requires.begins.first_var) ∙ sym c.variables_in.ensures) h)
     c.put_line.ensures
