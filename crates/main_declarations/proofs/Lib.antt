@@ -1,2 +1,3 @@
+pub mod MapTargets
 pub mod Strays
 pub mod WalkTurns

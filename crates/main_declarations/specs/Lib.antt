@@ -1,3 +1,4 @@
 pub mod Declarations
 pub mod Variables
 pub mod File
+pub mod Targets

@@ -3,14 +3,15 @@
 ghost use Rattle.std.specs.Prelude.{◌≡◌, map};
 ghost use Rattle.bound_program.specs.Values.{var_of};
 ghost use Rattle.bind_refusals.specs.Refusals.{least_from, first_of, Judges};
-ghost use Rattle.main_declarations.specs.Variables.{glob_token, is_wrong_ampersand, ampersand_found, file_cells, constant_found, constant_decl_found, with_constant, after_constant, judged_constant};
+ghost use Rattle.main_declarations.specs.Variables.{glob_token, is_wrong_ampersand, ampersand_found, file_cells, constant_found};
+ghost use Rattle.main_declarations.specs.Variables.{constant_decl_found, with_constant, after_constant, judged_constant};
 ghost use Rattle.main_names.specs.Walks.{declared_of};
 
 use crate::mesh_notes::{note_place, note_type};
 use bind_refusals::{BindRefusal, Found, note_if, place};
 use bound_program::Var;
 use c_tree::{GlobalName, NumberLiteral, TextLiteral};
-use main_names::{Cells, Declared, Meaning, Source, first_cell};
+use main_names::{Cells, Declared, Meaning, Source};
 use op_num::Name;
 
 /// The first token of a global.
@@ -126,7 +127,7 @@ fn with_constant(source: &Source<'_>, k: &mut Declared, name: &Name, cells: Opti
     ensures { declared_of k.new ≡ after_constant source.now.places.now source.now.consts.now (declared_of k.old) name.now cells }
 {
     if let Some(cells) = cells {
-        let constant = first_cell(source.consts, name);
+        let constant = source.consts.first_cell(name);
         set_constant(source, &mut k.vars, cells.var as usize, constant);
     }
 }

@@ -12,9 +12,7 @@ ghost use Rattle.bind_refusals.specs.Refusals.{Judges};
 
 use bind_refusals::{BindRefusal, place};
 use c_tree::{Declr, Ident, Kernel, Top};
-use main_names::{
-    Declared, Meaning, Source, changing, first_cell, judged_value, unchanging, zeros,
-};
+use main_names::{Declared, Meaning, Source, changing, judged_value, unchanging, zeros};
 use mesh_decl::Entry;
 use op_num::{Name, OutOfMemory};
 use std::alloc::{AllocError, Global};
@@ -50,7 +48,7 @@ fn with_value(
 {
     let cells = k.next_cells(true, false, 1)?;
     if is_const {
-        let constant = first_cell(source.consts, name);
+        let constant = source.consts.first_cell(name);
         k.add_var(unchanging(source.alloc, name, value, constant)?)?;
         k.names.declare_in_file(name, Meaning::Fixed(value, cells))
     } else {

@@ -5,11 +5,13 @@
 mod constants;
 mod declarations;
 mod file_walk;
+mod map_walk;
 mod mesh_notes;
 mod mesh_walk;
 
 pub use constants::{glob_token, judged_constant, note_ampersand};
 pub use declarations::{add_step, judged_declrs, with_turning};
 pub use file_walk::judged_tops;
+pub use map_walk::judged_map;
 pub use mesh_notes::{note_set, note_type};
-pub use mesh_walk::{judged_dat, judged_map, judged_set};
+pub use mesh_walk::{judged_dat, judged_set};

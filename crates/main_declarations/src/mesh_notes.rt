@@ -4,10 +4,12 @@ ghost use Rattle.std.specs.Prelude.{◌≡◌, ◌+◌, codes, length, pos, IfOk
 ghost use Rattle.std.specs.Str.{bytes_eq};
 ghost use Rattle.c_tree.specs.View.{expr_of};
 ghost use Rattle.mesh_decl.specs.Mesh.{set_size, is_element as is_element_of};
-ghost use Rattle.bound_program.specs.HostExpr.{host_expr_of, value, is_static};
+ghost use Rattle.kernel_types.specs.View.{rexpr_of};
+ghost use Rattle.bound_program.specs.HostExpr.{value, is_static};
 ghost use Rattle.bind_refusals.specs.Refusals.{least_from};
 ghost use Rattle.main_names.specs.Meanings.{array_if};
-ghost use Rattle.main_declarations.specs.Declarations.{awaited, are_awaited, is_dim, first_stray, place_found, set_found, dim_found, type_found, data_found, stray_found, target_found, cells_found, value_found};
+ghost use Rattle.main_declarations.specs.Declarations.{awaited, are_awaited, is_dim, first_stray, place_found, set_found, dim_found};
+ghost use Rattle.main_declarations.specs.Declarations.{type_found, data_found, stray_found, target_found, cells_found, value_found};
 ghost use Rattle.main_names.specs.Walks.{declared_of};
 
 use bind_refusals::{BindRefusal, Counted, Found, Turn, note_if, note_in, note_over, place};

@@ -1,21 +1,21 @@
-// Declarations of sets, maps and dats.
+// Declarations of sets and dats.
 
 ghost use Rattle.std.specs.Prelude.{◌≡◌, ◌+◌, length, IfOk, OnOk};
 ghost use Rattle.c_tree.specs.View.{expr_of};
-ghost use Rattle.mesh_decl.specs.Mesh.{set_count, map_count, dat_count};
-ghost use Rattle.bound_program.specs.HostExpr.{host_expr_of};
+ghost use Rattle.mesh_decl.specs.Mesh.{set_count, dat_count};
+ghost use Rattle.kernel_types.specs.View.{rexpr_of};
 ghost use Rattle.main_names.specs.Names.{declare};
 ghost use Rattle.bind_refusals.specs.Refusals.{least_from, first_of, Judges};
 ghost use Rattle.main_names.specs.Expressions.{resolved};
-ghost use Rattle.main_declarations.specs.Declarations.{with_set, with_map, with_dat, size_found, size_of, set_decl_found, map_found, map_decl_found, dat_found, dat_decl_found, judged_set, judged_map, judged_dat};
+ghost use Rattle.main_declarations.specs.Declarations.{with_set, with_dat, size_found, size_of, set_decl_found};
+ghost use Rattle.main_declarations.specs.Declarations.{dat_found, dat_decl_found, judged_set, judged_dat};
 ghost use Rattle.main_names.specs.Walks.{declared_of};
 
 use crate::mesh_notes::{
-    awaited, note_cells, note_data, note_dim, note_place, note_set, note_targets, note_type,
-    note_value,
+    awaited, note_cells, note_data, note_dim, note_place, note_set, note_type, note_value,
 };
 use bind_refusals::{BindRefusal, Counted, Found, Turn, note_if, note_over, place};
-use bound_program::{MAX_DATS, MAX_MAPS, MAX_SETS};
+use bound_program::{MAX_DATS, MAX_SETS};
 use c_tree::{Expr, Ident, NumberLiteral, TextLiteral};
 use kernel_types::{KernelFault, RExpr};
 use main_names::{
@@ -35,7 +35,7 @@ fn note_size(
     e: &Expr,
     size: &RExpr,
 ) -> Result<(), OutOfMemory>
-    requires { host_expr_of size.now ≡ resolved source.now.places.now (declared_of k.now).names (expr_of e.now) }
+    requires { rexpr_of size.now ≡ resolved source.now.places.now (declared_of k.now).names (expr_of e.now) }
     ensures { OnOk result (first.new ≡ least_from first.old (size_found source.now.places.now (declared_of k.now) t (expr_of e.now))) }
 {
     let at = first_token(e);
@@ -86,7 +86,7 @@ fn first_in_set(
     e: &Expr,
     size: &RExpr,
 ) -> Result<Option<Found>, OutOfMemory>
-    requires { host_expr_of size.now ≡ resolved source.now.places.now (declared_of k.now).names (expr_of e.now) }
+    requires { rexpr_of size.now ≡ resolved source.now.places.now (declared_of k.now).names (expr_of e.now) }
     ensures { IfOk result (λ f. f ≡ first_of (set_decl_found source.now.places.now (declared_of k.now) is_nested t (expr_of e.now))) }
 {
     let mut first = None;
@@ -121,137 +121,6 @@ pub fn judged_set(
     }
     let size = size_of(source, host_value(&size, &[], &[]));
     add_set(k, x, size)?;
-    Ok(())
-}
-
-// What is wrong with a map between these sets, with these values.
-#[tactic(auto, using(bind_refusals::proofs::Firsts::least_append))]
-fn note_map(
-    source: &Source<'_>,
-    first: &mut Option<Found>,
-    k: &Declared,
-    t: usize,
-    from: &Ident,
-    to: &Ident,
-    n: NumberLiteral,
-    array: &Ident,
-) -> Result<(), OutOfMemory>
-    ensures { OnOk result (first.new ≡ least_from first.old
-        (map_found source.now.places.now source.now.entries.now.entries (declared_of k.now) t from.now to.now n array.now)) }
-{
-    let dim = n.value.unsigned_abs();
-    let is_array = is_extern_array(k.names.means(&array.name));
-    let values = values_named(source.entries, &array.name);
-    let awaits = awaited(&k.mesh, set_of(k.names.means(&from.name)), dim);
-    let to_set = set_of(k.names.means(&to.name));
-    note_set(source, first, k, from);
-    note_set(source, first, k, to);
-    note_dim(source, first, n);
-    note_data(source, first, is_array, values, awaits, array);
-    note_targets(
-        source, first, &k.mesh, dim, array, is_array, values, awaits, to_set,
-    )?;
-    note_cells(
-        source,
-        first,
-        k.filled,
-        known(is_array, values).len() as u64,
-        t,
-    )
-}
-
-// One map more.
-fn add_map(
-    source: &Source<'_>,
-    k: &mut Declared,
-    x: &Ident,
-    from: u32,
-    to: u32,
-    dim: u32,
-    values: &[i32],
-) -> Result<(), OutOfMemory>
-    ensures { OnOk result (declared_of k.new ≡ record (declared_of k.old) {
-      filled = k.old.filled + length values.now;
-      mesh = with_map x.now.name from to dim values.now k.old.mesh;
-      names = declare x.now.name (Meaning.Map (map_count k.old.mesh)) (declared_of k.old).names;
-    }) }
-{
-    let Some(filled) = k.filled.checked_add(values.len() as u64) else {
-        return Err(AllocError);
-    };
-    let count = k.mesh.set_count();
-    if dim == 0 || from >= count || to >= count {
-        return Err(AllocError);
-    }
-    if values.len() as u64 != k.mesh.set_size(from) as u64 * dim as u64 {
-        return Err(AllocError);
-    }
-    let name = x.name.clone()?;
-    let targets = values.to_vec(source.alloc)?;
-    match k.mesh.add_map(name, from, to, dim, targets) {
-        Err(_) => Err(AllocError),
-        Ok(number) => {
-            k.filled = filled;
-            k.names.declare(&x.name, Meaning::Map(number))
-        }
-    }
-}
-
-// The first of what is wrong with the declaration of a map.
-#[tactic(auto, using(bind_refusals::proofs::Firsts::first_of_three))]
-fn first_in_map(
-    source: &Source<'_>,
-    k: &Declared,
-    is_nested: bool,
-    t: usize,
-    from: &Ident,
-    to: &Ident,
-    n: NumberLiteral,
-    values: &Ident,
-) -> Result<Option<Found>, OutOfMemory>
-    ensures { IfOk result (λ f. f ≡ first_of
-        (map_decl_found source.now.places.now source.now.entries.now.entries (declared_of k.now)
-        is_nested t from.now to.now n values.now)) }
-{
-    let mut first = None;
-    note_place(source, &mut first, k, is_nested, t);
-    note_over(
-        &mut first,
-        Turn::InOrder,
-        MAX_MAPS,
-        k.mesh.map_count() as u64 + 1,
-        t,
-        Counted::Maps,
-    );
-    note_map(source, &mut first, k, t, from, to, n, values)?;
-    Ok(first)
-}
-
-/// `op_map x = op_decl_map(from, to, n, array, "..");`, its word at the token t.
-pub fn judged_map(
-    source: &Source<'_>,
-    k: &mut Declared,
-    is_nested: bool,
-    t: usize,
-    x: &Ident,
-    from: &Ident,
-    to: &Ident,
-    n: NumberLiteral,
-    array: &Ident,
-) -> Result<(), BindRefusal>
-    ensures { Judges result (declared_of k.new)
-        (judged_map source.now.places.now source.now.entries.now.entries (declared_of k.old)
-        is_nested t x.now from.now to.now n array.now) }
-{
-    let first = first_in_map(source, k, is_nested, t, from, to, n, array)?;
-    if let Some(found) = first {
-        return Err(found.refusal);
-    }
-    let from = or_zero(set_of(k.names.means(&from.name)));
-    let to = or_zero(set_of(k.names.means(&to.name)));
-    let is_array = is_extern_array(k.names.means(&array.name));
-    let values = known(is_array, values_named(source.entries, &array.name));
-    add_map(source, k, x, from, to, n.value.unsigned_abs(), values)?;
     Ok(())
 }
 

@@ -6,7 +6,9 @@ use Rattle.c_tree.specs.Tree as tree
 use Rattle.c_tree.specs.Tree.{ExprTree}
 use Rattle.kernel_types.specs.declared.expressions.ElementForm.{ElementForm}
 use Rattle.kernel_types.specs.declared.expressions.ElementForm.TheVariants.{Index, Deref}
-use Rattle.bound_program.specs.HostExpr.{HostExpr, Number, Scalar, Told, Element, Unary, Binary, Choice, Paren, Extremum, Absolute, value, is_static}
+use Rattle.kernel_types.specs.View.{RExprTree, Number, Scalar, Constant, Local, Unary, Binary, Choice, Paren, Extremum, Absolute}
+use Rattle.bound_program.specs.HostExpr.{value}
+use Rattle.bound_program.specs.HostExpr.{is_static}
 use Rattle.main_names.specs.declared.scopes.Cells.{Cells}
 use Rattle.main_names.specs.declared.scopes.Meaning.{Meaning}
 use Rattle.main_names.specs.declared.scopes.Meaning.TheVariants.{Extern, Variable, Fixed, FixedLater, Turning}
@@ -30,11 +32,11 @@ first_token (tree.Extremum which at x y) = at
 first_token (tree.Absolute at x) = at
 
 -- a name as a value; what is no value stands for 0
-abbrev pub read : Option Meaning → HostExpr
+abbrev pub read : Option Meaning → RExprTree
 read (Some (Extern z)) = Number z
 read (Some (Fixed z c)) = Number z
-read (Some (FixedLater k c)) = Told k
-read (Some (Turning k)) = Told k
+read (Some (FixedLater k c)) = Constant k
+read (Some (Turning k)) = Constant k
 read (Some (Variable c)) = Scalar c.from
 read _ = Number (pos 0)
 
@@ -45,11 +47,11 @@ cells_of _ = record { var = 0; from = 0; count = 0; is_array = false; of_file = 
 
 module _ (places : List Pos) where
   -- an element of a variable
-  abbrev pub element : Ident → ElementForm → HostExpr → Cells → HostExpr
-  element x form i c = Element c.from c.count form i (place places x.at)
+  abbrev pub element : Ident → ElementForm → RExprTree → Cells → RExprTree
+  element x form i c = Local c.from c.count form i (place places x.at)
 
   -- an expression with the meanings of its names
-  abbrev pub resolved : Scope → ExprTree → HostExpr
+  abbrev pub resolved : Scope → ExprTree → RExprTree
   resolved s (tree.Number n) = Number n.value
   resolved s (tree.Name x) = read (means s x.name)
   resolved s (tree.Index x i) = element x Index (resolved s i) (cells_of (means s x.name))

@@ -2,13 +2,12 @@
 
 ghost use Rattle.std.specs.Prelude.{◌≡◌, pos, length, replicate, IfOk, OnOk};
 ghost use Rattle.bound_program.specs.Values.{var_of};
-ghost use Rattle.main_names.specs.SoFar.{next_cells, with_var, changing, unchanging, first_cell, nothing_declared};
+ghost use Rattle.main_names.specs.SoFar.{next_cells, with_var, changing, unchanging, nothing_declared};
 ghost use Rattle.main_names.specs.Walks.{declared_of};
 
 use crate::scopes::{Cells, Scope};
 use bound_program::{Site, Var};
 use indexmap::IndexMap;
-use kernel_types::ConstDecl;
 use mesh_decl::{Mesh, Values};
 use op_num::{Name, OutOfMemory};
 use std::alloc::{AllocError, Global};
@@ -130,16 +129,4 @@ pub fn unchanging(
         constant,
         is_const: true,
     })
-}
-
-/// The first cell of a constant of kernels.
-pub fn first_cell(consts: &[ConstDecl], name: &Name) -> Option<u32>
-    ensures { result ≡ first_cell consts.now name.now }
-{
-    for constant in consts {
-        if constant.name == *name {
-            return Some(constant.from);
-        }
-    }
-    None
 }

@@ -2,7 +2,8 @@
 
 ghost use Rattle.std.specs.Prelude.{◌≡◌, IfOk};
 ghost use Rattle.c_tree.specs.View.{expr_of};
-ghost use Rattle.bound_program.specs.HostExpr.{host_expr_of, is_static};
+ghost use Rattle.kernel_types.specs.View.{rexpr_of};
+ghost use Rattle.bound_program.specs.HostExpr.{is_static};
 ghost use Rattle.main_names.specs.Names.{scope_of};
 ghost use Rattle.main_names.specs.Expressions.{first_token, read, cells_of, resolved, judged_static, judged_value};
 ghost use Rattle.main_trace.specs.Unrolling.{asked_of};
@@ -36,7 +37,7 @@ pub fn first_token(e: &Expr) -> usize
 
 /// A name as a value; what is no value stands for 0.
 pub fn read(meaning: Option<Meaning>) -> RExpr
-    ensures { host_expr_of result ≡ read meaning }
+    ensures { rexpr_of result ≡ read meaning }
 {
     match meaning {
         Some(Meaning::Extern(z)) => RExpr::Number(z),
@@ -71,7 +72,7 @@ pub fn resolved(
     scope: &Scope,
     e: &Expr,
 ) -> Result<RExpr, OutOfMemory>
-    ensures { IfOk result (λ r. host_expr_of r ≡ resolved places.now (scope_of scope.now) (expr_of e.now)) }
+    ensures { IfOk result (λ r. rexpr_of r ≡ resolved places.now (scope_of scope.now) (expr_of e.now)) }
 {
     match e {
         Expr::Number(n) => Ok(RExpr::Number(n.value)),
@@ -168,7 +169,7 @@ pub fn resolved(
 
 /// Whether an expression names no cell of a variable, so that it is known before the run.
 pub fn is_static(e: &RExpr) -> bool
-    ensures { result ≡ is_static (host_expr_of e.now) }
+    ensures { result ≡ is_static (rexpr_of e.now) }
 {
     match e {
         RExpr::Number(_) => true,

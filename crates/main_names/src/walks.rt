@@ -1,7 +1,7 @@
 // Where the walk over the text stands.
 
+use crate::kernel_constants::KernelConstants;
 use c_tree::Pos;
-use kernel_types::ConstDecl;
 use mesh_decl::Entries;
 use std::alloc::Global;
 
@@ -10,7 +10,7 @@ use std::alloc::Global;
 pub struct Source<'a> {
     pub alloc: Global,
     pub places: &'a [Pos],
-    pub consts: &'a [ConstDecl],
+    pub consts: &'a KernelConstants<'a>,
     pub entries: &'a Entries,
 }
 

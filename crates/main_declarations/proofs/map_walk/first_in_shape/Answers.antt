@@ -4,10 +4,11 @@ use Rattle.bind_refusals.specs.declared.refusals.Counted.TheVariants as counted
 use Rattle.mesh_decl.specs.Mesh.{map_count}
 use Rattle.bound_program.specs.Limits.{max_maps}
 use Rattle.bind_refusals.specs.Refusals.{least_from, found_over}
-use Rattle.main_declarations.specs.Declarations.{place_found, map_found}
+use Rattle.main_declarations.specs.Declarations.{place_found}
+use Rattle.main_declarations.specs.Targets.{shape_found}
 use Rattle.main_names.specs.Walks.{declared_of}
 use Rattle.bind_refusals.proofs.Firsts.{first_of_three}
-use Rattle.main_declarations.proofs.mesh_walk.first_in_map.Goals as goal
+use Rattle.main_declarations.proofs.map_walk.first_in_shape.Goals as goal
 
 pub returns : goal.returns
 returns c =
@@ -15,6 +16,6 @@ returns c =
     let k = declared_of c.args.k.now in
     let a = place_found places k c.args.is_nested c.args.t in
     let b = found_over InOrder max_maps (suc (map_count k.mesh)) c.args.t counted.Maps in
-    let d = map_found places c.args.source.now.entries.now.entries k c.args.t c.args.from.now c.args.to.now c.args.n c.args.values.now in
+    let d = shape_found places c.args.source.now.entries.now.entries k c.args.t c.args.from.now c.args.to.now c.args.n c.args.values.now in
     let e : c.note_over.new.first ≡ least_from (least_from None a) b = search rules in
-    c.in_ok-note_map.ensures ∙ ap (λ x. least_from x d) e ∙ sym (first_of_three a b d)
+    c.in_ok-note_shape.ensures ∙ ap (λ x. least_from x d) e ∙ sym (first_of_three a b d)
