@@ -16,7 +16,7 @@ use Rattle.mesh_text.specs.declared.entry.Entry.TheVariants.{Many}
 use Rattle.mesh_text.specs.Spelling.{Named}
 use Rattle.mesh_decl.specs.Mesh.{size_in, map_from, map_to, map_dim, dat_set, dat_dim}
 use Rattle.bind_refusals.specs.declared.refusals.BindRefusal.TheVariants as refusal
-use Rattle.bound_program.specs.HostExpr.{Number, Scalar, Binary}
+use Rattle.kernel_types.specs.View.{Number, Scalar, Binary}
 use Rattle.bound_program.specs.Values.{Assign, Line, Exit, ItemValue, Free, Host, VarValue}
 use Rattle.bind_refusals.specs.Refusals.{Judged, ◌>>=◌}
 use Rattle.main_names.specs.SoFar.{Walked, quiet, nothing_declared}

@@ -23,7 +23,7 @@ use Rattle.bound_program.specs.Fits.{SiteFits, ItemsFit, EndsWithHost}
 use Rattle.source_fits.specs.Sources.{TopIsRead, HostsAreRead, HaveNumbers, TopsTake}
 use Rattle.loop_bind.proofs.FitsTargets.{AllAssignVariables, MainAssignsVariables}
 use Rattle.loop_bind.proofs.FitsJudged.{Gives, gives_then}
-use Rattle.loop_bind.proofs.FitsState.{NameFits, NameIsOwn, ExternFits, HasDim, so_far, Lawful}
+use Rattle.loop_bind.proofs.FitsState.{NameFits, NameIsOwn, ExternFits, HasDim, HasMapDim, so_far, Lawful}
 use Rattle.loop_bind.proofs.FitsVars.{site_more}
 use Rattle.loop_bind.proofs.FitsFile.{TopLawful, tops_are}
 use Rattle.loop_bind.proofs.FitsMain.{Walks, WalksOn}
@@ -59,6 +59,7 @@ module _ (ks : List RKernel) (es : List Named) where
       few_maps = omega arith;
       few_dats = omega arith;
       dims = All-nil HasDim;
+      map_dims = All-nil HasMapDim;
       cells = refl;
       file = All-nil (NameFits ks no_mesh [] 0);
       own = All-nil (NameFits ks no_mesh [] 0);
@@ -132,3 +133,10 @@ module _ (p : ProgramTree) (r : Resolved) (es : List Named) where
       gives_then (Walks ks es) Parts (text p r es) (unrolled_text r) (text_walks takes tops body numbers assigns)
       (λ w h. gives_then (λ u. Unrolls (so_far ks w.declared) None max_trace u × Last u) Parts (trace w.declared.mesh (happens w)) (λ u. Ok (finished r w.declared u)) (walk_unrolls w h)
       (λ u i. finished_fits w.declared u h.lawful i.0 i.1))
+
+  -- the maps are those of the text
+  pub maps_narrow : TopsTake ks 0 p.tops → All TopIsRead p.tops → HostsAreRead p.main.body → HaveNumbers es → MainAssignsVariables p r es → Gives (λ b. All HasMapDim b.mesh.maps) (bound p r es)
+  maps_narrow takes tops body numbers assigns =
+      gives_then (Walks ks es) (λ b. All HasMapDim b.mesh.maps) (text p r es) (unrolled_text r) (text_walks takes tops body numbers assigns)
+      (λ w h. gives_then (λ u. Unit {0}) (λ b. All HasMapDim b.mesh.maps) (trace w.declared.mesh (happens w)) (λ u. Ok (finished r w.declared u)) (gives_any (trace w.declared.mesh (happens w)))
+      (λ u i. h.lawful.map_dims))

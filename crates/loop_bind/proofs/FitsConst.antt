@@ -59,6 +59,7 @@ module _ (ks : List RKernel) (es : List Named) where
         few_maps = h.few_maps;
         few_dats = h.few_dats;
         dims = h.dims;
+        map_dims = h.map_dims;
         cells = constant_cells_in places v c k.vars ∙ h.cells;
         file = names_more ks k l grows k.names.file h.file;
         own = names_more ks k l grows k.names.own h.own;

@@ -124,6 +124,7 @@ module _ (ks : List RKernel) (es : List Named) where
         few_maps = m.few_maps;
         few_dats = m.few_dats;
         dims = m.dims;
+        map_dims = m.map_dims;
         cells = m.cells;
         file = m.file;
         own = m.own;

@@ -303,6 +303,7 @@ module _ (ks : List RKernel) (es : List Named) (places : List Pos) where
         few_maps = h.few_maps;
         few_dats = h.few_dats;
         dims = h.dims;
+        map_dims = h.map_dims;
         cells = h.cells;
         file = h.file;
         own = h.own;

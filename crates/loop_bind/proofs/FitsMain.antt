@@ -13,7 +13,7 @@ use Rattle.mesh_text.specs.Spelling.{Named}
 use Rattle.main_names.specs.declared.walks.Spot.{Spot}
 use Rattle.main_names.specs.declared.scopes.Meaning.{Meaning}
 use Rattle.main_names.specs.declared.scopes.Meaning.TheVariants.{Variable, Fixed, FixedLater, Turning}
-use Rattle.bound_program.specs.HostExpr.{HostExpr}
+use Rattle.kernel_types.specs.View.{RExprTree}
 use Rattle.bound_program.specs.Values.{VarValue, ActValue, Clear, Assign, Line, Print, Exit}
 use Rattle.main_trace.specs.Steps.{Asked, Step, Do, Loop, Fix, Block, Choose, Repeat, Steps, NoStep, MoreStep, followed, one_step}
 use Rattle.main_names.specs.Expressions.{resolved, judged_static, judged_value}
@@ -33,11 +33,11 @@ use Rattle.loop_bind.proofs.FitsMeshWalk.{Goes}
 
 -- ---- steps
 
-abbrev pub AllWithin : ℕ → List HostExpr → Type 0
+abbrev pub AllWithin : ℕ → List RExprTree → Type 0
 AllWithin n [] = Unit {0}
 AllWithin n (e ∷ es) = Within n e × AllWithin n es
 
-abbrev pub SomeWithin : ℕ → Option HostExpr → Type 0
+abbrev pub SomeWithin : ℕ → Option RExprTree → Type 0
 SomeWithin n None = Unit {0}
 SomeWithin n (Some e) = Within n e
 
@@ -78,11 +78,11 @@ abbrev mutual
   StepsFit vs n d s (MoreStep x xs) = StepFits vs n d s x × StepsFit vs n d s xs
 
 module _ (k l : Declared) (g : Grows k l) where
-  some_more : (o : Option HostExpr) → SomeWithin k.cells o → SomeWithin l.cells o
+  some_more : (o : Option RExprTree) → SomeWithin k.cells o → SomeWithin l.cells o
   some_more None h = tt
   some_more (Some e) h = within_more k.cells l.cells g.cells e h
 
-  all_more : (es : List HostExpr) → AllWithin k.cells es → AllWithin l.cells es
+  all_more : (es : List RExprTree) → AllWithin k.cells es → AllWithin l.cells es
   all_more [] h = tt
   all_more (e ∷ es) h = (within_more k.cells l.cells g.cells e h.0, all_more es h.1)
 

@@ -29,7 +29,7 @@ use Rattle.main_names.specs.Meanings.{set_of, or_zero, or_none, count_of, array_
 use Rattle.main_declarations.specs.Declarations.{awaited, with_set, with_map, with_dat, place_found, set_found, dim_found, type_found, data_found, target_found, cells_found, size_found, size_of, set_decl_found, judged_set, map_decl_found, judged_map, dat_decl_found, judged_dat}
 use Rattle.bound_program.specs.Fits.{SiteFits}
 use Rattle.loop_bind.proofs.FitsJudged.{Gives, gives_unless, left_nil, right_nil, not_over, not_if}
-use Rattle.loop_bind.proofs.FitsState.{vars-self, NameFits, Grows, names_more, known-fits, NameIsOwn, HasDim, so_far, Lawful, means_fits}
+use Rattle.loop_bind.proofs.FitsState.{vars-self, NameFits, Grows, names_more, known-fits, NameIsOwn, HasDim, HasMapDim, so_far, Lawful, means_fits}
 use Rattle.loop_bind.proofs.FitsMesh.{Below, set_below, no_site_yet, dim_fits, set_size_below, map_is, dat_is}
 
 -- lawful still, and nothing is lost
@@ -62,6 +62,7 @@ module _ (ks : List RKernel) (es : List Named) where
         few_maps = h.few_maps;
         few_dats = h.few_dats;
         dims = h.dims;
+        map_dims = h.map_dims;
         cells = h.cells;
         file = names_more ks k l grows k.names.file h.file;
         own = known-fits (NameFits ks l.mesh k.vars k.cells) x (Set (set_count k.mesh)) k.names.own (omega (arith, more)) (names_more ks k l grows k.names.own h.own);
@@ -70,10 +71,10 @@ module _ (ks : List RKernel) (es : List Named) where
         sites = subst (All (SiteFits (so_far ks l))) (sym e) (All-nil (SiteFits (so_far ks l)));
       }
 
-  map-goes : (k : Declared) (x : List ℕ) (from to dim filled : ℕ) (zs : List ℤ) → Lawful ks es k → k.sites ≡ [] → suc (map_count k.mesh) ≤ max_maps
+  map-goes : (k : Declared) (x : List ℕ) (from to dim filled : ℕ) (zs : List ℤ) → Lawful ks es k → k.sites ≡ [] → suc (map_count k.mesh) ≤ max_maps → dim ≤ max_dim
       → IsMap k.mesh.sets (record { name = x; from = from; to = to; dim = dim; targets = zs })
       → Goes ks es k (record k { filled = filled; mesh = with_map x from to dim zs k.mesh; names = declare x (Map (map_count k.mesh)) k.names })
-  map-goes k x from to dim filled zs h e few is = record { lawful = lawful; grows = grows; file = refl }
+  map-goes k x from to dim filled zs h e few small is = record { lawful = lawful; grows = grows; file = refl }
     where
       d : MapDecl
       d = record { name = x; from = from; to = to; dim = dim; targets = zs }
@@ -94,6 +95,7 @@ module _ (ks : List RKernel) (es : List Named) where
         few_maps = omega (arith, more, few);
         few_dats = h.few_dats;
         dims = h.dims;
+        map_dims = All-push HasMapDim k.mesh.maps d h.map_dims small;
         cells = h.cells;
         file = names_more ks k l grows k.names.file h.file;
         own = known-fits (NameFits ks l.mesh k.vars k.cells) x (Map (map_count k.mesh)) k.names.own (omega (arith, more)) (names_more ks k l grows k.names.own h.own);
@@ -126,6 +128,7 @@ module _ (ks : List RKernel) (es : List Named) where
         few_maps = h.few_maps;
         few_dats = omega (arith, more, few);
         dims = All-push HasDim k.mesh.dats d h.dims small;
+        map_dims = h.map_dims;
         cells = h.cells;
         file = names_more ks k l grows k.names.file h.file;
         own = known-fits (NameFits ks l.mesh k.vars k.cells) x (Dat (dat_count k.mesh)) k.names.own (omega (arith, more)) (names_more ks k l grows k.names.own h.own);
@@ -176,7 +179,7 @@ module _ (ks : List RKernel) (es : List Named) where
           let m2 : a ++ b ≡ [] = left_nil (a ++ b) d m3 in
           let dims = dim_fits places n (right_nil (a ++ b) d m3) in
           map-goes k x.name (or_zero (set_of (means k.names from.name))) (or_zero (set_of (means k.names to.name))) (count_of n) (k.filled + length (or_none vs)) (or_none vs) h (no_site_yet places k nested t (left_nil p o po))
-          (not_over InOrder max_maps (suc (map_count k.mesh)) t counted.Maps (right_nil p o po))
+          (not_over InOrder max_maps (suc (map_count k.mesh)) t counted.Maps (right_nil p o po)) dims.1
           (map_is places k.mesh v x.name (set_of (means k.names from.name)) (set_of (means k.names to.name)) (count_of n) vs (set_there from) (set_there to)
           (set_known from (left_nil a b m2)) (set_known to (right_nil a b m2)) dims.0 dims.1 (right_nil (a ++ b ++ d) f m4) (right_nil (a ++ b ++ d ++ f) g m5)))
 

@@ -19,18 +19,18 @@ use Rattle.bound_program.specs.Fits.{Fits, KernelFits}
 use Rattle.source_fits.specs.Hidden.{AllNameNoOwn}
 use Rattle.source_fits.specs.Resolvable.{IsResolvedSource, NamedNamesAreAll}
 use Rattle.source_fits.specs.Sources.{HaveNumbers}
-use Rattle.loop_bind.specs.Resolvable.{BoundProgramsFit}
+use Rattle.loop_bind.specs.Resolvable.{BoundProgramsFit, BoundMapsAreNarrow}
 use Rattle.name_resolution.specs.Programs.{named_in}
 use Rattle.loop_bind.proofs.FitsHidden.{hosts_unhidden, are_same}
 use Rattle.loop_bind.proofs.FitsJudged.{Gives, gives_then}
-use Rattle.loop_bind.proofs.FitsState.{so_far}
+use Rattle.loop_bind.proofs.FitsState.{HasMapDim, so_far}
 use Rattle.loop_bind.proofs.FitsTargets.{AllAssignVariables, MainAssignsVariables}
 use Rattle.loop_bind.proofs.FitsScopeWalk.{Scoped, tops_scoped, hosts_assign}
 use Rattle.source_fits.specs.Assigned.{after_tops}
 use Rattle.loop_bind.proofs.FitsMain.{Walks}
 use Rattle.loop_bind.proofs.FitsTrace.{Unrolls, Last}
 use Rattle.loop_bind.proofs.FitsTold.{all_one}
-use Rattle.loop_bind.proofs.FitsBound.{Parts, text_walks, walk_unrolls, finished_fits}
+use Rattle.loop_bind.proofs.FitsBound.{Parts, text_walks, walk_unrolls, maps_narrow, finished_fits}
 use Rattle.loop_bind.proofs.FitsFileConsts.{EntryNamed, FileConsts, tops_are_consts}
 use Rattle.loop_bind.proofs.FitsMainConsts.{EntryOfMain, MainConsts}
 use Rattle.loop_bind.proofs.FitsConstWalk.{Have, hosts_go}
@@ -121,5 +121,11 @@ module _ (named_names : NamedNamesAreAll) (p : ProgramTree) (r : Resolved) (es :
   all_fit =
       gives_then Whole Fits (text p r es) (unrolled_text r) (whole (text p r es) (text_walks p r es h.takes h.tops h.body numbers assigns) text_constants text_unhidden) whole_fits
 
+  maps_are_narrow : Gives (λ b. All HasMapDim b.mesh.maps) (bound p r es)
+  maps_are_narrow = maps_narrow p r es h.takes h.tops h.body numbers assigns
+
 pub bound_programs_fit : NamedNamesAreAll → BoundProgramsFit
 bound_programs_fit named_names p r es b h n e = subst (Gives Fits) e (all_fit named_names p r es h n)
+
+pub bound_maps_are_narrow : NamedNamesAreAll → BoundMapsAreNarrow
+bound_maps_are_narrow named_names p r es b h n e = subst (Gives (λ b. All HasMapDim b.mesh.maps)) e (maps_are_narrow named_names p r es h n)

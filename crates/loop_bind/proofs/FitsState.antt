@@ -5,6 +5,7 @@ use Rattle.std.proofs.lemmas.List.{get_or_append_left, length_push}
 use Rattle.std.proofs.lemmas.List.Elements.{All-push, All-weaker}
 use Rattle.std.proofs.lemmas.Map.Entries.{All-lookup}
 use Rattle.kernel_types.specs.declared.kernels.RKernel.{RKernel}
+use Rattle.mesh_decl.specs.declared.decl.MapDecl.{MapDecl}
 use Rattle.mesh_decl.specs.declared.decl.DatDecl.{DatDecl}
 use Rattle.mesh_decl.specs.Mesh.{MeshValue, set_count, map_count, dat_count, IsMesh}
 use Rattle.mesh_text.specs.Spelling.{Named}
@@ -168,6 +169,9 @@ so_far ks k = record { mesh = k.mesh; kernels = ks; sites = k.sites; vars = k.va
 abbrev pub HasDim : DatDecl → Type 0
 HasDim d = d.dim ≤ max_dim
 
+abbrev pub HasMapDim : MapDecl → Type 0
+HasMapDim d = d.dim ≤ max_dim
+
 -- what stays so
 pub record Lawful (ks : List RKernel) (es : List Named) (k : Declared) : Type 0 where
   pub mesh : IsMesh k.mesh
@@ -175,6 +179,7 @@ pub record Lawful (ks : List RKernel) (es : List Named) (k : Declared) : Type 0 
   pub few_maps : map_count k.mesh ≤ max_maps
   pub few_dats : dat_count k.mesh ≤ max_dats
   pub dims : All HasDim k.mesh.dats
+  pub map_dims : All HasMapDim k.mesh.maps
   pub cells : cells_in k.vars ≡ k.cells
   pub file : All (NameFits ks k.mesh k.vars k.cells) k.names.file
   pub own : All (NameFits ks k.mesh k.vars k.cells) k.names.own

@@ -67,6 +67,7 @@ module _ (ks : List RKernel) (es : List Named) where
         few_maps = g.lawful.few_maps;
         few_dats = g.lawful.few_dats;
         dims = g.lawful.dims;
+        map_dims = g.lawful.map_dims;
         cells = g.lawful.cells;
         file = g.lawful.file;
         own = All-take (NameFits ks k.mesh k.vars k.cells) (length j.names.own) k.names.own g.lawful.own;

@@ -5,7 +5,7 @@ use Rattle.std.proofs.lemmas.List.Elements.{All-weaker}
 use Rattle.std.proofs.lemmas.List.Sums.{sum_by-cons}
 use Rattle.kernel_types.specs.declared.kernels.RKernel.{RKernel}
 use Rattle.mesh_decl.specs.Mesh.{MeshValue}
-use Rattle.bound_program.specs.HostExpr.{HostExpr, Number, Scalar, Told, Element, Unary, Binary, Choice, Paren, Extremum, Absolute}
+use Rattle.kernel_types.specs.View.{RExprTree, Number, Scalar, Constant, Arg, Local, Const, Unary, Binary, Choice, Paren, Extremum, Absolute}
 use Rattle.bound_program.specs.Values.{ActValue, Clear, Assign, Line, Print, Exit, ItemValue, Free, Reduce, Ordered, Host, SiteValue, VarValue, BoundValue}
 use Rattle.main_trace.specs.Limited.{ToldValue}
 use Rattle.loop_bind.specs.Weights.{started, with_told}
@@ -101,11 +101,13 @@ module _ (g : MeshValue) (ks : List RKernel) (ss : List SiteValue) (vs ws : List
   abbrev c : BoundValue
   c = program g ks ss ws js
 
-  host_moved : (e : HostExpr) → HostWithin b e → HostWithin c e
+  host_moved : (e : RExprTree) → HostWithin b e → HostWithin c e
   host_moved (Number n) h = h
   host_moved (Scalar k) h = omega (arith, h, s.cells)
-  host_moved (Told k) h = absurd h
-  host_moved (Element from count form e at) h = (omega (arith, h.0, s.cells), host_moved e h.1)
+  host_moved (Constant k) h = absurd h
+  host_moved (Arg x form e at) h = absurd h
+  host_moved (Local from count form e at) h = (omega (arith, h.0, s.cells), host_moved e h.1)
+  host_moved (Const from count form e at) h = absurd h
   host_moved (Unary op e) h = host_moved e h
   host_moved (Binary op x y at) h = (host_moved x h.0, host_moved y h.1)
   host_moved (Choice d x y) h = (host_moved d h.0, host_moved x h.1, host_moved y h.2)
@@ -113,7 +115,7 @@ module _ (g : MeshValue) (ks : List RKernel) (ss : List SiteValue) (vs ws : List
   host_moved (Extremum which x y) h = (host_moved x h.0, host_moved y h.1)
   host_moved (Absolute e) h = host_moved e h
 
-  index_moved : (o : Option HostExpr) → IndexWithin b o → IndexWithin c o
+  index_moved : (o : Option RExprTree) → IndexWithin b o → IndexWithin c o
   index_moved None h = tt
   index_moved (Some e) h = host_moved e h
 

@@ -10,7 +10,8 @@ use Rattle.mesh_decl.specs.Mesh.{dat_count}
 use Rattle.bound_program.specs.declared.sites.Arg.{Arg}
 use Rattle.bound_program.specs.declared.sites.Class.{Class}
 use Rattle.bound_program.specs.declared.sites.Class.TheVariants as class
-use Rattle.bound_program.specs.HostExpr.{HostExpr, value, closed}
+use Rattle.kernel_types.specs.View.{RExprTree}
+use Rattle.bound_program.specs.HostExpr.{value, closed}
 use Rattle.bound_program.specs.Values.{ActValue, Clear, Assign, Line, Print, Exit, ItemValue, Free, Reduce, Ordered, Host, BoundValue}
 use Rattle.main_trace.specs.Steps.{Asked, Step, Do, Loop, Fix, Block, Choose, Repeat, Steps, NoStep, MoreStep}
 use Rattle.bind_refusals.specs.Refusals.{Judged}
@@ -106,14 +107,14 @@ module _ (b : BoundValue) where
   -- ---- statements
 
   module _ (n : ℕ) (same : all_cells b ≡ n) where
-    closes : (ts : List ℤ) → Nums ts → (e : HostExpr) → Within n e → HostWithin b (closed ts e)
+    closes : (ts : List ℤ) → Nums ts → (e : RExprTree) → Within n e → HostWithin b (closed ts e)
     closes ts t e w = closed_within b ts t e (subst (λ m. Within m e) (sym same) w)
 
-    index_closes : (ts : List ℤ) → Nums ts → (o : Option HostExpr) → SomeWithin n o → IndexWithin b (option_map (closed ts) o)
+    index_closes : (ts : List ℤ) → Nums ts → (o : Option RExprTree) → SomeWithin n o → IndexWithin b (option_map (closed ts) o)
     index_closes ts t None w = tt
     index_closes ts t (Some e) w = closes ts t e w
 
-    all_close : (ts : List ℤ) → Nums ts → (es : List HostExpr) → AllWithin n es → All (HostWithin b) (map (closed ts) es)
+    all_close : (ts : List ℤ) → Nums ts → (es : List RExprTree) → AllWithin n es → All (HostWithin b) (map (closed ts) es)
     all_close ts t [] w = All-nil (HostWithin b)
     all_close ts t (e ∷ es) w = All-cons (HostWithin b) (closed ts e) (map (closed ts) es) (closes ts t e w.0) (all_close ts t es w.1)
 

@@ -15,7 +15,8 @@ use Rattle.kernel_types.specs.declared.faults.KernelFault.{KernelFault}
 use Rattle.reductions.proofs.Laws.{commuting}
 use Rattle.kernel_model.specs.Numbers.{Value, fault, truth, is_zero, is_shift, is_settled, apply, apply_unary, magnitude, reduction_of, unless_zero, if_shift, sum, difference, product, quotient, rest, shifted_left, shifted_right, and_bits, or_bits, xor_bits, complement, negated}
 use Rattle.kernel_model.specs.Meaning.{and_then, index_in}
-use Rattle.bound_program.specs.HostExpr.{HostExpr, Number, Scalar, Told, Element, Unary, Binary, Choice, Paren, Extremum, Absolute, value, closed}
+use Rattle.kernel_types.specs.View.{RExprTree, Number, Scalar, Constant, Arg, Local, Const, Unary, Binary, Choice, Paren, Extremum, Absolute}
+use Rattle.bound_program.specs.HostExpr.{value, closed}
 use Rattle.bound_program.specs.Values.{BoundValue}
 use Rattle.bound_program.specs.Fits.{all_cells, HostWithin}
 
@@ -139,11 +140,13 @@ unary_num unary.Complement x f = complement_is_num x
 -- ---- expressions
 
 -- the numbers of an expression are of 32 bits, and the cells that it names are among so many
-abbrev pub Within : ℕ → HostExpr → Type 0
+abbrev pub Within : ℕ → RExprTree → Type 0
 Within n (Number z) = Num z
 Within n (Scalar k) = k < n
-Within n (Told k) = Unit {0}
-Within n (Element from count form e at) = (from + count ≤ n) × Within n e
+Within n (Constant k) = Unit {0}
+Within n (Arg x form e at) = ⊥
+Within n (Local from count form e at) = (from + count ≤ n) × Within n e
+Within n (Const from count form e at) = ⊥
 Within n (Unary op e) = Within n e
 Within n (Binary op x y at) = Within n x × Within n y
 Within n (Choice c x y) = Within n c × Within n x × Within n y
@@ -151,11 +154,13 @@ Within n (Paren e) = Within n e
 Within n (Extremum which x y) = Within n x × Within n y
 Within n (Absolute e) = Within n e
 
-pub within_more : (n m : ℕ) → n ≤ m → (e : HostExpr) → Within n e → Within m e
+pub within_more : (n m : ℕ) → n ≤ m → (e : RExprTree) → Within n e → Within m e
 within_more n m l (Number z) h = h
 within_more n m l (Scalar k) h = omega (arith, l, h)
-within_more n m l (Told k) h = tt
-within_more n m l (Element from count form e at) h = (omega (arith, l, h.0), within_more n m l e h.1)
+within_more n m l (Constant k) h = tt
+within_more n m l (Arg x form e at) h = absurd h
+within_more n m l (Const from count form e at) h = absurd h
+within_more n m l (Local from count form e at) h = (omega (arith, l, h.0), within_more n m l e h.1)
 within_more n m l (Unary op e) h = within_more n m l e h
 within_more n m l (Binary op x y at) h = (within_more n m l x h.0, within_more n m l y h.1)
 within_more n m l (Choice c x y) h = (within_more n m l c h.0, within_more n m l x h.1, within_more n m l y h.2)
@@ -187,11 +192,13 @@ num_cond : (b : Bool) (x y : Value) → OkNum x → OkNum y → OkNum (cond b x 
 num_cond true x y f g = f
 num_cond false x y f g = g
 
-pub value_num : (n : ℕ) (told cells : List ℤ) → Nums told → Nums cells → (e : HostExpr) → Within n e → OkNum (value told cells e)
+pub value_num : (n : ℕ) (told cells : List ℤ) → Nums told → Nums cells → (e : RExprTree) → Within n e → OkNum (value told cells e)
 value_num n told cells t c (Number z) w = w
 value_num n told cells t c (Scalar k) w = c k
-value_num n told cells t c (Told k) w = t k
-value_num n told cells t c (Element from count form e at) w =
+value_num n told cells t c (Constant k) w = t k
+value_num n told cells t c (Arg x form e at) w = absurd w
+value_num n told cells t c (Const from count form e at) w = absurd w
+value_num n told cells t c (Local from count form e at) w =
     num_then (value told cells e) _ (value_num n told cells t c e w.1) (λ z f. index_then (index_in count at z) _ (λ i. c (from + i)))
 value_num n told cells t c (Unary op e) w = num_then (value told cells e) _ (value_num n told cells t c e w) (λ x f. unary_num op x f)
 value_num n told cells t c (Binary op l r at) w =
@@ -206,11 +213,13 @@ value_num n told cells t c (Extremum which x y) w =
 value_num n told cells t c (Absolute e) w = num_then (value told cells e) _ (value_num n told cells t c e w) (λ z f. magnitude_is_num z)
 
 -- with values in place of the names that are told later, an expression names cells alone
-pub closed_within : (b : BoundValue) (told : List ℤ) → Nums told → (e : HostExpr) → Within (all_cells b) e → HostWithin b (closed told e)
+pub closed_within : (b : BoundValue) (told : List ℤ) → Nums told → (e : RExprTree) → Within (all_cells b) e → HostWithin b (closed told e)
 closed_within b told t (Number z) w = w
 closed_within b told t (Scalar k) w = w
-closed_within b told t (Told k) w = t k
-closed_within b told t (Element from count form e at) w = (w.0, closed_within b told t e w.1)
+closed_within b told t (Constant k) w = t k
+closed_within b told t (Arg x form e at) w = absurd w
+closed_within b told t (Const from count form e at) w = absurd w
+closed_within b told t (Local from count form e at) w = (w.0, closed_within b told t e w.1)
 closed_within b told t (Unary op e) w = closed_within b told t e w
 closed_within b told t (Binary op x y at) w = (closed_within b told t x w.0, closed_within b told t y w.1)
 closed_within b told t (Choice c x y) w = (closed_within b told t c w.0, closed_within b told t x w.1, closed_within b told t y w.2)

@@ -57,6 +57,7 @@ module _ (ks : List RKernel) (es : List Named) where
     few_maps = h.few_maps;
     few_dats = h.few_dats;
     dims = h.dims;
+    map_dims = h.map_dims;
     cells = h.cells;
     file = h.file;
     own = known-fits (NameFits ks k.mesh k.vars k.cells) x m k.names.own f h.own;
@@ -72,6 +73,7 @@ module _ (ks : List RKernel) (es : List Named) where
     few_maps = h.few_maps;
     few_dats = h.few_dats;
     dims = h.dims;
+    map_dims = h.map_dims;
     cells = h.cells;
     file = known-fits (NameFits ks k.mesh k.vars k.cells) x m k.names.file f h.file;
     own = h.own;
@@ -97,6 +99,7 @@ module _ (ks : List RKernel) (es : List Named) where
     few_maps = h.few_maps;
     few_dats = h.few_dats;
     dims = h.dims;
+    map_dims = h.map_dims;
     cells = sum_by_push (λ (v : VarValue). length v.start) k.vars v ∙ ap (λ n. n + length v.start) h.cells;
     file = names_more ks k (with_var v k) (grows-var k v) k.names.file h.file;
     own = names_more ks k (with_var v k) (grows-var k v) k.names.own h.own;

@@ -1,8 +1,10 @@
 -- Bound programs of resolved sources fit.
-use Rattle.std.specs.Prelude.{◌≡◌, List, Ok}
+use Rattle.std.specs.Prelude.{◌≡◌, ◌≤◌, List, Ok, All}
 use Rattle.c_tree.specs.Tree.{ProgramTree}
 use Rattle.kernel_types.specs.declared.kernels.Resolved.{Resolved}
 use Rattle.mesh_text.specs.Spelling.{Named}
+use Rattle.mesh_decl.specs.declared.decl.MapDecl.{MapDecl}
+use Rattle.bound_program.specs.Limits.{max_dim}
 use Rattle.bound_program.specs.Fits.{Fits}
 use Rattle.bound_program.specs.Values.{BoundValue}
 use Rattle.source_fits.specs.Resolvable.{IsResolvedSource}
@@ -14,3 +16,9 @@ abbrev pub BoundProgramsFit : Type 0
 BoundProgramsFit =
     (p : ProgramTree) (r : Resolved) (es : List Named) (b : BoundValue)
     → IsResolvedSource p r → HaveNumbers es → bound p r es ≡ Ok b → Fits b
+
+-- each map of such a program has a dim of at most 64
+abbrev pub BoundMapsAreNarrow : Type 0
+BoundMapsAreNarrow =
+    (p : ProgramTree) (r : Resolved) (es : List Named) (b : BoundValue)
+    → IsResolvedSource p r → HaveNumbers es → bound p r es ≡ Ok b → All (λ (d : MapDecl). d.dim ≤ max_dim) b.mesh.maps

@@ -3,7 +3,6 @@
 ghost use Rattle.std.specs.Prelude.{ℕ, List, map, Ok, IfOk};
 ghost use Rattle.c_tree.specs.Reads.{Reads};
 ghost use Rattle.c_tree.specs.View.{program_of};
-ghost use Rattle.kernel_types.specs.Resolved.{IsResolvedProgram};
 ghost use Rattle.kernel_types.specs.View.{resolved_of};
 ghost use Rattle.mesh_text.specs.Spelling.{Spells};
 ghost use Rattle.name_resolution.specs.Programs.{Resolves};
@@ -27,7 +26,7 @@ use bound_program::{Bound, Site};
 use c_tree::Program;
 use kernel_types::Resolved;
 use main_declarations::judged_tops;
-use main_names::{Declared, Source, Spot};
+use main_names::{Declared, KernelConstants, Source, Spot};
 use main_text::judged_hosts;
 use main_trace::{Step, Unrolled, unroll_main};
 use mesh_decl::Entries;
@@ -43,10 +42,11 @@ fn judged_text(
 ) -> Result<(Declared, Vec<Step>), BindRefusal>
     ensures { JudgesBy (λ w. walked w.0 w.1.items) result (text (program_of program.now) resolved.now entries.now.entries) }
 {
+    let constants = KernelConstants::new(alloc, &resolved.consts)?;
     let source = Source {
         alloc,
         places: &program.places,
-        consts: &resolved.consts,
+        consts: &constants,
         entries,
     };
     let mut k = Declared::new(alloc);
@@ -118,7 +118,7 @@ pub fn bind(
     ensures judged { JudgesBy bound_of result (bound (program_of program.now) resolved entries.now.entries) }
     // What is bound fits, where the source was read, this is what it resolves to, and the entries are those of a mesh text.
     ensures fits { (source mesh : List ℕ) → Reads source (program_of program.now)
-        → Resolves (program_of program.now) (Ok (resolved_of resolved)) → IsResolvedProgram resolved
+        → Resolves (program_of program.now) (Ok (resolved_of resolved))
         → Spells mesh entries.now.entries → IfOk result (λ b. Fits (bound_of b)) }
 {
     resolved_sources_are();

@@ -6,13 +6,20 @@ ghost use Rattle.c_tree.specs.Tree.{ProgramTree};
 ghost use Rattle.kernel_types.specs.declared.kernels.Resolved.{Resolved as Kernels};
 ghost use Rattle.mesh_text.specs.Spelling.{Named};
 ghost use Rattle.loop_bind.specs.Bound.{bound};
-ghost use Rattle.loop_bind.specs.Resolvable.{BoundProgramsFit};
+ghost use Rattle.loop_bind.specs.Resolvable.{BoundProgramsFit, BoundMapsAreNarrow};
 
 use source_fits::named_names_are_all;
 
 /// A law: a program that is bound fits, where its source is a resolved one and the values of its mesh text are of 32 bits.
 pub fn bound_programs_fit()
     ensures { BoundProgramsFit }
+{
+    named_names_are_all();
+}
+
+/// A law: each map of such a program has a dim of at most 64.
+pub fn bound_maps_are_narrow()
+    ensures { BoundMapsAreNarrow }
 {
     named_names_are_all();
 }

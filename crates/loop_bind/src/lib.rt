@@ -7,6 +7,8 @@
 mod binding;
 mod laws;
 #[cfg(test)]
+mod limit_tests;
+#[cfg(test)]
 mod tests;
 mod told;
 mod weights;
@@ -17,6 +19,6 @@ pub use bound_program::{
     Access, Act, Arg, AssignOp, Bound, Class, ElementForm, Item, Mesh, Name, Pos, RExpr, RKernel,
     Site, Text, Var, Via, class_of,
 };
-pub use laws::{bound_programs_fit, refusals_have_causes};
+pub use laws::{bound_maps_are_narrow, bound_programs_fit, refusals_have_causes};
 pub use main_trace::{host_value, host_values_are_kernel_values};
 pub use source_fits::{resolved_names_hold, resolved_sources_are, spelled_entries_fit};

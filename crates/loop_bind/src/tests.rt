@@ -2,11 +2,11 @@ ghost use Rattle.std.specs.Prelude.{◌+◌, ◌<◌, ◌^◌, length, IfSome};
 ghost use Rattle.bound_program.specs.Fits.{Fits};
 ghost use Rattle.bound_program.specs.Values.{bound_of};
 
-use crate::{BindRefusal, Bound, Counted, Item, Pos, bind};
+use crate::{BindRefusal, Bound, Item, Pos, bind};
 use c_reader::read_program;
 use mesh_text::read_mesh;
 use name_resolution::resolve;
-use std::alloc::{AllocError, Global};
+use std::alloc::Global;
 use std::test::Fail;
 
 const MESH: &str =
@@ -52,10 +52,15 @@ fn a_source_and_a_mesh_text_are_bound(rt: HostRuntime) -> Result<(), Fail> {
     Ok(())
 }
 
-// What binding a source of these statements of `main` answers; its fourth line.
-fn answer(alloc: Global, body: &str) -> Option<Result<Bound, BindRefusal>> {
+/// What binding a source of these statements of `main` answers; its fourth line.
+pub fn answer(alloc: Global, body: &str) -> Option<Result<Bound, BindRefusal>> {
+    answer_with(alloc, "", body)
+}
+
+/// The same, with more in the first line.
+pub fn answer_with(alloc: Global, tops: &str, body: &str) -> Option<Result<Bound, BindRefusal>> {
     let source = format!(in alloc;
-        "{TOPS}\nint main(int argc, char **argv) {{\n{DECLARED}\n{body} op_exit(); }}"
+        "{TOPS}{tops}\nint main(int argc, char **argv) {{\n{DECLARED}\n{body} op_exit(); }}"
     ).ok()?;
     if source.len() > 1048576 {
         return None;
@@ -256,82 +261,6 @@ fn the_first_target_that_is_no_element_is_named(rt: HostRuntime) -> Result<(), F
         }))
     );
     assert!(rt; is_first);
-    Ok(())
-}
-
-// The declarations of so many sets.
-fn sets(alloc: Global, count: u32) -> Result<String, AllocError> {
-    let mut all = String::new(alloc);
-    for i in 0..count {
-        let one = format!(in alloc; "op_set s{i} = op_decl_set(0, \"s\"); ")?;
-        all.push_str(one.as_str())?;
-    }
-    Ok(all)
-}
-
-// 16,384 lines of so many bytes each, with a value.
-fn lines(alloc: Global, bytes: u32) -> Result<String, AllocError> {
-    let mut all = String::new(alloc);
-    all.push_str("for (int i = 0; i < 16384; i++) op_printf(\"%d")?;
-    for _ in 2..bytes {
-        all.push('.')?;
-    }
-    all.push_str("\", f);")?;
-    Ok(all)
-}
-
-fn is_bound(alloc: Global, body: &str) -> bool {
-    matches!(answer(alloc, body), Some(Ok(_)))
-}
-
-fn is_refused(alloc: Global, body: &str, refusal: BindRefusal) -> bool {
-    matches!(answer(alloc, body), Some(Err(other)) if other == refusal)
-}
-
-fn limit(counted: Counted, size: u64) -> BindRefusal {
-    BindRefusal::Limit { counted, size }
-}
-
-#[test]
-fn limits_are_held_and_one_more_is_refused(rt: HostRuntime) -> Result<(), Fail> {
-    let alloc = rt.alloc();
-    assert!(rt; is_bound(alloc, "for (int i = 0; i < 65535; i++) ;"));
-    assert!(rt;
-        is_refused(
-            alloc,
-            "for (int i = 0; i < 65536; i++) ;",
-            BindRefusal::TraceTooLong
-        )
-    );
-    assert!(rt;
-        is_refused(
-            alloc,
-            "for (int i = 0; i < 2147483647; i++) f = i;",
-            BindRefusal::TraceTooLong
-        )
-    );
-    let empty = "op_set z = op_decl_set(0, \"z\"); ";
-    let held = format!(in alloc; "{empty}op_dat y = op_decl_dat(z, 64, \"int\", none, \"y\");")?;
-    let above = format!(in alloc; "{empty}op_dat y = op_decl_dat(z, 65, \"int\", none, \"y\");")?;
-    assert!(rt; is_bound(alloc, held.as_str()));
-    assert!(rt; is_refused(alloc, above.as_str(), limit(Counted::Dim, 65)));
-    assert!(rt; is_bound(alloc, sets(alloc, 62)?.as_str()));
-    assert!(rt; is_refused(alloc, sets(alloc, 63)?.as_str(), limit(Counted::Sets, 65)));
-    assert!(rt; is_bound(alloc, lines(alloc, 4084)?.as_str()));
-    assert!(rt;
-        is_refused(
-            alloc,
-            lines(alloc, 4085)?.as_str(),
-            limit(Counted::PrintWeight, 67125248)
-        )
-    );
-    assert!(rt;
-        is_refused(
-            alloc,
-            "op_set z = op_decl_set(big, \"z\");",
-            limit(Counted::SetSize, 4194305)
-        )
-    );
     Ok(())
 }
 

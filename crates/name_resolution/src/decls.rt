@@ -1,7 +1,8 @@
 // What names are declared as, and what a name means.
 
 ghost use Rattle.std.specs.Prelude.{◌≡◌, ◌&&◌, ◌||◌, not, ◌++◌, ◌∷◌, [], None, IfOk, OnOk};
-ghost use Rattle.name_resolution.specs.Scopes.{decl_in, declared, takes_no_index, needs_index, is_no_value, is_variable, is_extern, is_counter, is_out_of_reach, is_read_only, means, decl_or, scope, repeated, use_breaches};
+ghost use Rattle.name_resolution.specs.Scopes.{decl_in, declared, takes_no_index, needs_index, is_no_value, is_variable, is_extern};
+ghost use Rattle.name_resolution.specs.Scopes.{is_counter, is_out_of_reach, is_read_only, means, decl_or, scope, repeated, use_breaches};
 ghost use Rattle.name_resolution.specs.First.{least_from};
 
 use crate::breaches::{Breach, TypeRule, note_if};

@@ -7,7 +7,9 @@ ghost use Rattle.name_resolution.specs.Scopes.{scope, declared, repeated};
 ghost use Rattle.name_resolution.specs.Numbers.{KernelsFit};
 ghost use Rattle.kernel_types.specs.View.{rkernel_of};
 ghost use Rattle.name_resolution.specs.Mains.{declr_name, declr_breaches};
-ghost use Rattle.name_resolution.specs.Programs.{constant_cells, constants, added_cells, constant_of, declr_count, other_decl, variable_decl, with_variable, after_variables, after_top, after_tops, variables_breaches, top_breaches, tops_breaches, kernels, kernels_of};
+ghost use Rattle.name_resolution.specs.Programs.{constant_cells, constants, added_cells, constant_of, declr_count, other_decl};
+ghost use Rattle.name_resolution.specs.Programs.{variable_decl, with_variable, after_variables, after_top, after_tops, variables_breaches};
+ghost use Rattle.name_resolution.specs.Programs.{top_breaches, tops_breaches, kernels, kernels_of};
 
 use crate::breaches::Breach;
 use crate::decls::{Decl, Scope, Sort, declare};

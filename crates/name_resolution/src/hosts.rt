@@ -4,7 +4,11 @@ ghost use Rattle.std.specs.Prelude.{◌≡◌, ◌++◌, map, false, IfOk};
 ghost use Rattle.c_tree.specs.View.{expr_of, declr_of, place_of, call_of, host_for_header_of, host_of, hosts_of};
 ghost use Rattle.name_resolution.specs.First.{least_from};
 ghost use Rattle.name_resolution.specs.Scopes.{scope, repeated};
-ghost use Rattle.name_resolution.specs.Mains.{declr_name, declr_sort, is_wrong_size, size_breaches, init_breaches, with_name, with_host_counter, own_after_declrs, own_after_call, own_after, own_after_all, named_by_call, named_after, named_after_all, fix, is_fixed, fixed_by_call, fixed_after, fixed_after_all, declr_breaches, main_declrs_breaches, exprs_breaches, call_breaches, header_breaches, place_name, host_breaches, hosts_breaches, named_with};
+ghost use Rattle.name_resolution.specs.Mains.{declr_name, declr_sort, is_wrong_size, size_breaches, init_breaches, with_name};
+ghost use Rattle.name_resolution.specs.Mains.{with_host_counter, own_after_declrs, own_after_call, own_after, own_after_all, named_by_call};
+ghost use Rattle.name_resolution.specs.Mains.{named_after, named_after_all, fix, is_fixed, fixed_by_call, fixed_after, fixed_after_all};
+ghost use Rattle.name_resolution.specs.Mains.{declr_breaches, main_declrs_breaches, exprs_breaches, call_breaches, header_breaches};
+ghost use Rattle.name_resolution.specs.Mains.{place_name, host_breaches, hosts_breaches, named_with};
 ghost use Rattle.name_resolution.specs.Kernels.{expr_breaches};
 
 use crate::assignments::judge_assignment;

@@ -18,4 +18,4 @@ mod work;
 pub use breaches::{Breach, TypeRule};
 pub use kernel_types::{ConstDecl, Name, Pos, RKernel, Resolved};
 pub use refusals::TypeRefusal;
-pub use resolving::{one_answer, resolve, some_answer};
+pub use resolving::{kernels_are_resolved, one_answer, resolve, some_answer};

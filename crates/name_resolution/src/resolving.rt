@@ -131,10 +131,18 @@ pub fn resolve(alloc: Global, program: &Program) -> Result<Resolved, TypeRefusal
 pub fn some_answer()
     ensures some { (p : ProgramTree) → (o : Outcome) × Resolves p o }
     ensures causes { (p : ProgramTree) → ¬ Resolves p (Err OutOfMemory) }
-    ensures kernels { (bytes : List ℕ) (p : ProgramTree) → Reads bytes p → length bytes < 2 ^ 63 → (r : Kernels) × (resolved_of r ≡ resolved p) }
+    ensures kernels { (bytes : List ℕ) (p : ProgramTree) → Reads bytes p → length bytes < 2 ^ 63 → (r : Kernels)
+        × (resolved_of r ≡ resolved p) }
 {
     c_lex::tokens_are_few();
 }
+
+/// A law: the kernels and constants that a source comes to are those of a resolved program, where the numbers of the kernels are
+/// of 32 bits.
+pub fn kernels_are_resolved()
+    ensures { (p : ProgramTree) (r : Kernels)
+        → Resolves p (Ok (resolved_of r)) → KernelsFit (resolved_of r).kernels → IsResolvedProgram r }
+{}
 
 /// A law: a source comes to one outcome, its kernels and constants or a refusal.
 pub fn one_answer()

@@ -7,7 +7,9 @@ ghost use Rattle.name_resolution.specs.Scopes.{scope, repeated};
 ghost use Rattle.name_resolution.specs.Numbers.{ExprFits, StmtFits, RowFits};
 ghost use Rattle.kernel_types.specs.View.{rexpr_of, rstmt_of, rstmts_of, Block};
 ghost use Rattle.name_resolution.specs.Work.{declr_cells, declrs_cells, cells, cells_of_all, behind};
-ghost use Rattle.name_resolution.specs.Kernels.{value, expr_breaches, with_counter, place_breaches, assignment_breaches, local_decl, set_element, assigned, declr_breaches, declrs_breaches, stmt_breaches, stmts_breaches, after_declr, after_declrs, after_stmt, after_stmts, declr_step, declrs_steps, step, steps};
+ghost use Rattle.name_resolution.specs.Kernels.{value, expr_breaches, with_counter, place_breaches, assignment_breaches, local_decl};
+ghost use Rattle.name_resolution.specs.Kernels.{set_element, assigned, declr_breaches, declrs_breaches, stmt_breaches, stmts_breaches};
+ghost use Rattle.name_resolution.specs.Kernels.{after_declr, after_declrs, after_stmt, after_stmts, declr_step, declrs_steps, step, steps};
 
 use crate::assignments::{assigned, judge_assignment};
 use crate::breaches::{Breach, TypeRule, note_if};

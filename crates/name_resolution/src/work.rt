@@ -2,7 +2,8 @@
 
 ghost use Rattle.std.specs.Prelude.{◌≡◌, ◌<◌, ◌^◌, ◌+◌, ◌*◌, ◌≤◌, min, map};
 ghost use Rattle.c_tree.specs.View.{declr_of, stmt_of, stmts_of, kernel_of};
-ghost use Rattle.name_resolution.specs.Work.{size_of, nat_of, turns, work, work_of_all, declr_cells, declrs_cells, cells, cells_of_all, is_heavy, behind};
+ghost use Rattle.name_resolution.specs.Work.{size_of, nat_of, turns, work, work_of_all, declr_cells, declrs_cells, cells, cells_of_all};
+ghost use Rattle.name_resolution.specs.Work.{is_heavy, behind};
 
 use c_tree::{Declr, ForHeader, Kernel, NumberLiteral, Stmt};
 

@@ -3,6 +3,7 @@ pub mod Assigned
 pub mod Entries
 pub mod Found
 pub mod Kept
+pub mod KernelNumbers
 pub mod Kernels
 pub mod Listed
 pub mod Marks

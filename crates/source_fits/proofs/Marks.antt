@@ -29,11 +29,11 @@ from_kinds : (ms : List Mark) → KindsFit (map (λ m. m.kind) ms) → MarksFit 
 from_kinds [] h = tt
 from_kinds (m ∷ ms) h = (h.0, from_kinds ms h.1)
 
-front : (a b : List Mark) → MarksFit (a ++ b) → MarksFit a
+pub front : (a b : List Mark) → MarksFit (a ++ b) → MarksFit a
 front [] b h = tt
 front (m ∷ a) b h = (h.0, front a b h.1)
 
-back : (a b : List Mark) → MarksFit (a ++ b) → MarksFit b
+pub back : (a b : List Mark) → MarksFit (a ++ b) → MarksFit b
 back [] b h = h
 back (m ∷ a) b h = back a b h.1
 
@@ -42,7 +42,7 @@ marks_fit bytes p r = from_kinds (program p) (subst KindsFit (sym r.prints.kinds
 
 -- ---- expressions
 
-expr_fits : (k : ℕ) (e : ExprTree) → MarksFit (expr k e) → HasNumbers e
+pub expr_fits : (k : ℕ) (e : ExprTree) → MarksFit (expr k e) → HasNumbers e
 expr_fits k (tree.Number n) h = h.0
 expr_fits k (tree.Name x) h = tt
 expr_fits k (tree.Index x e) h = expr_fits (suc k) e (front (expr (suc k) e) (sign_at k sign.RightBracket ∷ []) h.1.1)
@@ -119,13 +119,13 @@ place_read k (tree.Scalar x) h = tt
 place_read k (tree.Element x e) h = expr_fits (suc k) e (front (expr (suc k) e) (sign_at k sign.RightBracket ∷ []) h.1.1)
 place_read k (tree.Target at x) h = tt
 
-assignment_read : (k : ℕ) (a : AssignmentTree) → MarksFit (assignment k a) → PlaceIsRead a.place × HasNumbers a.value
+pub assignment_read : (k : ℕ) (a : AssignmentTree) → MarksFit (assignment k a) → PlaceIsRead a.place × HasNumbers a.value
 assignment_read k a h =
     let last = sign_at k sign.Semicolon ∷ [] in
     let rest = named_sign k (assign_sign_of a.op) a.at ∷ (expr (suc k) a.value ++ last) in
     (place_read k a.place (front (place k a.place) rest h), expr_fits (suc k) a.value (front (expr (suc k) a.value) last (back (place k a.place) rest h).1))
 
-condition_read : (k at : ℕ) (e : ExprTree) → MarksFit (condition k at e) → HasNumbers e
+pub condition_read : (k at : ℕ) (e : ExprTree) → MarksFit (condition k at e) → HasNumbers e
 condition_read k at e h = expr_fits (suc k) e (front (expr (suc k) e) (sign_at k sign.RightParen ∷ []) h.1.1)
 
 header_read : (k : ℕ) (c : HostForHeaderTree) → MarksFit (host_counter k c) → HasNumbers c.from × HasNumbers c.to

@@ -33,7 +33,7 @@ pub record IsResolvedSource (p : ProgramTree) (r : Resolved) : Type 0 where
 abbrev pub ResolvedSourcesAre : Type 0
 ResolvedSourcesAre =
     (source : List ℕ) (p : ProgramTree) (r : Resolved)
-    → Reads source p → Resolves p (Ok (resolved_of r)) → IsResolvedProgram r → IsResolvedSource p r
+    → Reads source p → Resolves p (Ok (resolved_of r)) → IsResolvedSource p r
 
 -- where names and types refuse nothing, `main` assigns variables alone, and no two variables of the file have one name
 abbrev pub ResolvedNamesHold : Type 0

@@ -2,11 +2,15 @@
 
 ghost use Rattle.source_fits.specs.Resolvable.{ResolvedSourcesAre, ResolvedNamesHold, SpelledEntriesFit, NamedNamesAreAll};
 
-/// A law: a source that was read and resolves has kernels that name cells of single constants, constants that are its variables
-/// that kernels read, numbers of 32 bits and arrays with cells, and assigns variables alone.
+use name_resolution::kernels_are_resolved;
+
+/// A law: a source that was read and resolves has the kernels of a resolved program, which name cells of single constants,
+/// constants that are its variables that kernels read, numbers of 32 bits and arrays with cells, and assigns variables alone.
 pub fn resolved_sources_are()
     ensures { ResolvedSourcesAre }
-{}
+{
+    kernels_are_resolved();
+}
 
 /// A law: where names and types of a source refuse nothing, its `main` assigns variables alone, and no two variables of its
 /// file have one name.

@@ -20,7 +20,7 @@ fits p r es (Ok b) law h n j = law p r es (bound_of b) h n j
 fits p r es (Err e) law h n j = tt
 
 pub returns-clause-fits : goal.returns-clause-fits
-returns-clause-fits c = λ source mesh reads resolves whole spells.
+returns-clause-fits c = λ source mesh reads resolves spells.
     fits (program_of c.args.program.now) c.args.resolved c.args.entries.now.entries c.judged_program.result c.bound_programs_fit.ensures
-    (c.resolved_sources_are.ensures source (program_of c.args.program.now) c.args.resolved reads resolves whole)
+    (c.resolved_sources_are.ensures source (program_of c.args.program.now) c.args.resolved reads resolves)
     (c.spelled_entries_fit.ensures mesh c.args.entries.now.entries spells) c.judged_program.ensures
