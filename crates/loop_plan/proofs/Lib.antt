@@ -1,5 +1,6 @@
 pub mod StepsCounted
 pub mod StepTotals
+pub mod WholeSums
 pub mod Numbers
 pub mod Behind
 pub mod History

@@ -67,12 +67,14 @@ fn message_count(items: &[ItemPlan], item: usize) -> u64
     items[item].pairs.len() as u64
 }
 
-/// All steps of items with these plans, where 64 bits count them.
+/// All steps of items with these plans; none exactly where 64 bits can't count them.
 pub fn count_steps(bound: &Bound, items: &[ItemPlan], totals: &[u64]) -> Option<u64>
     requires range { IsInRange (bound_of bound.now) }
     requires items { length items.now ≡ length (bound_of bound.now).trace }
     requires totals { length totals.now ≡ length (bound_of bound.now).sites }
     ensures some { IfSome result (λ n. n ≡ steps_of_plans (bound_of bound.now) items.now totals.now (length (bound_of bound.now).trace)) }
+    ensures none { IfNone result (2 ^ 64
+        ≤ steps_of_plans (bound_of bound.now) items.now totals.now (length (bound_of bound.now).trace)) }
 {
     let mut steps = 0u64;
     for item in 0..bound.trace.len() {

@@ -126,7 +126,7 @@ fn receivers_for(
     requires owner { owner < halos.now.ranks }
     ensures { (r : ℕ) → has result r ≡ passes_by_exports mesh.now halos.now exchange.now owner r }
 {
-    let _ = mesh.dat_count();
+    mesh.is_in_range();
     let mut ranks = RankSet::empty();
     for dat in exchange {
         let (set, _) = mesh.dat_shape(*dat);
@@ -165,7 +165,7 @@ pub fn messages(
     requires dats { AreDats mesh.now exchange.now }
     ensures { IfOk result (λ v. v.items ≡ pairs_below (passes_by_exports mesh.now halos.now exchange.now) halos.now.ranks halos.now.ranks) }
 {
-    let _ = mesh.dat_count();
+    mesh.is_in_range();
     let mut pairs = Vec::new(alloc);
     for owner in 0..halos.ranks {
         let ranks = receivers_for(mesh, halos, receivers, exchange, owner);

@@ -33,7 +33,8 @@ fn planned_items(
     requires ranks { Distributed (bound_of bound.now).mesh halos.now ranks.now }
     ensures { IfOk result (λ v. ArePlanned (bound_of bound.now) ranks.now v.items) }
 {
-    let _ = (bound.mesh.dat_count(), ranks.len());
+    bound.mesh.is_in_range();
+    let _ = ranks.len();
     let plans = item_plans(alloc, bound, halos)?;
     Ok(plans)
 }
@@ -79,7 +80,7 @@ pub fn plan(
     ensures few { IfOk result (λ p. p.steps ≤ max_steps) }
     ensures refused { IfErr result (λ e. Refuses (program_steps (bound_of bound.now) ranks.now) e) }
 {
-    let _ = bound.mesh.set_count();
+    bound.mesh.is_in_range();
     if bound.sites.len() > u32::MAX as usize {
         return Err(PlanRefusal::OutOfMemory);
     }

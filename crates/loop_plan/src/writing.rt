@@ -365,7 +365,7 @@ pub fn write_plan(
     requires plan { Proper (bound_of bound.now) ranks.now (plan_of plan.now) }
     ensures { IfOk result (λ v. v.items ≡ plan_text (bound_of bound.now) ranks.now (plan_of plan.now)) }
 {
-    let _ = bound.mesh.set_count();
+    bound.mesh.is_in_range();
     let mut out = Vec::new(alloc);
     out.extend_from_slice(b"op2plan 1\n")?;
     put_sizes(&mut out, plan.ranks, plan.block)?;

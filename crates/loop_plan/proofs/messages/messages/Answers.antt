@@ -9,5 +9,5 @@ loop-owner-preserved c =
     let h = c.args.halos.now in
     senders_more (passes_by_exports g h c.args.exchange.now) h.ranks c.loop-owner.owner c.loop-owner.pairs.items c.push_messages.new.pairs.items
     c.receivers_for-ranks.result c.requires.exports.few c.receivers_for-ranks.ensures
-    (λ r l. none_passes g h c.requires.exports c.dat_count.ensures.dats c.loop-owner.owner r c.loop-owner-test.true l c.args.exchange.now c.requires.dats)
+    (λ r l. none_passes g h c.requires.exports c.is_in_range.ensures.dats c.loop-owner.owner r c.loop-owner-test.true l c.args.exchange.now c.requires.dats)
     c.loop-owner.invariant c.in_ok-push_messages.ensures

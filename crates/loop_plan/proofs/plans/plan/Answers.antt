@@ -7,13 +7,13 @@ use Rattle.loop_plan.proofs.ProperPlan.{is_proper, has_least}
 use Rattle.loop_plan.proofs.plans.plan.Goals as goal
 
 pub number_of_steps-requires-clause-sets : goal.number_of_steps-requires-clause-sets
-number_of_steps-requires-clause-sets c = sets_had c.args.bound.now.mesh c.args.halos.now c.args.ranks.now c.requires.ranks c.set_count.ensures.sizes
+number_of_steps-requires-clause-sets c = sets_had c.args.bound.now.mesh c.args.halos.now c.args.ranks.now c.requires.ranks c.is_in_range.ensures.sizes
 
 pub site_plans-requires-clause-range : goal.site_plans-requires-clause-range
 site_plans-requires-clause-range c = in_range (bound_of c.args.bound.now) c.requires.fits
 
 pub site_plans-requires-clause-sets : goal.site_plans-requires-clause-sets
-site_plans-requires-clause-sets c = sets_had c.args.bound.now.mesh c.args.halos.now c.args.ranks.now c.requires.ranks c.set_count.ensures.sizes
+site_plans-requires-clause-sets c = sets_had c.args.bound.now.mesh c.args.halos.now c.args.ranks.now c.requires.ranks c.is_in_range.ensures.sizes
 
 pub returns-clause-proper : goal.returns-clause-proper
 returns-clause-proper c =

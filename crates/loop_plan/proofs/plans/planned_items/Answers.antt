@@ -11,5 +11,5 @@ item_plans-requires-clause-exports c = exports_had c.args.bound.now.mesh c.args.
 
 pub returns : goal.returns
 returns c =
-    are_planned (bound_of c.args.bound.now) c.args.halos.now c.args.ranks.now c.requires.ranks c.dat_count.ensures.dats c.in_ok-plans.plans.items
+    are_planned (bound_of c.args.bound.now) c.args.halos.now c.args.ranks.now c.requires.ranks c.is_in_range.ensures.dats c.in_ok-plans.plans.items
     c.in_ok-plans.ensures.count c.in_ok-plans.ensures.plans

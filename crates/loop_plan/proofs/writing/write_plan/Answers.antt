@@ -10,11 +10,11 @@ use Rattle.loop_plan.proofs.PlanWriting.{are_by_rank, exchanges_are_dats, plan_p
 use Rattle.loop_plan.proofs.writing.write_plan.Goals as goal
 
 pub put_all_halos-requires : goal.put_all_halos-requires
-put_all_halos-requires c = record { ranks = sets_had c.args.bound.now.mesh c.requires.ranks.0 c.args.ranks.now c.requires.ranks.1 c.set_count.ensures.sizes }
+put_all_halos-requires c = record { ranks = sets_had c.args.bound.now.mesh c.requires.ranks.0 c.args.ranks.now c.requires.ranks.1 c.is_in_range.ensures.sizes }
 
 pub put_all_sites-requires : goal.put_all_sites-requires
 put_all_sites-requires c =
-    let few = (sets_had c.args.bound.now.mesh c.requires.ranks.0 c.args.ranks.now c.requires.ranks.1 c.set_count.ensures.sizes).few in
+    let few = (sets_had c.args.bound.now.mesh c.requires.ranks.0 c.args.ranks.now c.requires.ranks.1 c.is_in_range.ensures.sizes).few in
     are_by_rank (bound_of c.args.bound.now) c.args.ranks.now (plan_of c.args.plan.now) c.requires.plan few c.args.plan.now.sites.entries refl
 
 pub put_items-requires-clause-few : goal.put_items-requires-clause-few
