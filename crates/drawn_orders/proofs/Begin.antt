@@ -1,5 +1,6 @@
 -- A drawn order before its first step.
-use Rattle.std.proofs.Common.{◌≡◌, ℕ, zero, suc, ◌<◌, ◌≤◌, Bool, true, false, cond, refl, sym, ap, subst, ◌∙◌, arith, ⊎_elim, List, [], ◌∷◌, ◌++◌, length, get_or}
+use Rattle.std.proofs.Common.{◌≡◌, ℕ, zero, suc, ◌<◌, ◌≤◌, Bool, true, false, cond, refl, sym, ap, subst, ◌∙◌, arith, ⊎_elim, List, [], ◌∷◌, ◌++◌, length, get_or, Vec, Option}
+use Rattle.std.specs.declared.alloc.Global.{Global}
 use Rattle.std.specs.Prelude.{nat_lt, not, ◌&&◌, ◌==◌, ◌/◌, ◌%◌, ◌^◌}
 use Rattle.std.proofs.lemmas.Bool.{cases_lt, le-ltb, false≢true}
 use Rattle.schedule_steps.specs.Outline.{Outline}
@@ -7,10 +8,12 @@ use Rattle.schedule_steps.specs.declared.step.Step.{Step}
 use Rattle.schedule_steps.specs.Steps.{has, Accepted}
 use Rattle.schedule_steps.specs.Turns.{marked, nothing_taken}
 use Rattle.schedule_steps.specs.Drawn.{own, next_join, is_early, waits, numbers, drawn_number, picked, turn, turn_by, put_left, TakenBy, DrawnFrom, IsDrawn, Turn, Over, JoinOf, StepOf}
-use Rattle.drawn_orders.specs.UnderWay.{IsNextJoin}
-use Rattle.drawn_orders.proofs.UnderWay.{IsUnderWay}
+use Rattle.schedule_steps.specs.Peaks.{step_count}
+use Rattle.drawn_orders.specs.Rests.{rests, sent_below}
+use Rattle.drawn_orders.specs.UnderWay.{IsNextJoin, IsTable, IsUnderWay, IsKept, left_in}
+use Rattle.drawn_orders.proofs.ToCome.{left_is}
 use Rattle.drawn_orders.proofs.OwnSteps.{own_planned}
-use Rattle.drawn_orders.proofs.TurnIs.{numbers_same}
+use Rattle.drawn_orders.proofs.Masks.{numbers_same}
 
 abbrev Below : ℕ → List ℕ → Type 0
 Below n l = (i : ℕ) → i < length l → get_or l i 0 < n
@@ -92,13 +95,9 @@ module _ (o : Outline) where
       by (StepOf r) e w j st = (w.0, sym (h r (rank_below a m x r e)) ∙ w.1, st r w.0 w.2)
 
   pub begins : (g seed join : ℕ) (rest : ℕ → List Step) (whole : List Step) → IsDrawn o g seed whole → Accepted o whole → IsNextJoin o 0 join → Alike (own o g) rest
-      → IsUnderWay o g seed [] rest seed join (λ s r. 0)
+      → IsUnderWay o [] whole rest seed join (λ s r. 0)
   begins g seed join rest whole d accepted j h = record {
-    whole = whole;
-    is_drawn = d;
     accepted = accepted;
-    to_come = whole;
-    parts = refl;
     turns = drawn_alike whole (own o g) rest nothing_taken seed h d;
     planned = λ r lt t i. own_planned o g r lt t (ap (λ z. has z t) (h r lt) ∙ i);
     joins = λ k lt f. sym (le-ltb k join (past k f));
@@ -109,3 +108,37 @@ module _ (o : Outline) where
     where
       past : (k : ℕ) → o.is_free k ≡ false → join ≤ k
       past k f = ⊎_elim (λ (lt : k < join). absurd (false≢true (sym f ∙ j.free k (omega arith) lt))) (λ (le : join ≤ k). le) (cases_lt k join)
+
+-- what is kept before the first step
+module _ (o : Outline) (g seed : ℕ) (all : (l : List Step) → Accepted o l → length l ≡ step_count o) (whole : List Step) (d : IsDrawn o g seed whole) (accepted : Accepted o whole)
+    (heads : List (Option Step)) (tails : List (List Step)) (rows : List (Vec ℕ Global)) (room join : ℕ)
+    (few : o.ranks < 2 ^ 32)
+    (head_count : length heads ≡ o.ranks)
+    (tail_count : length tails ≡ o.ranks)
+    (table : IsTable o.ranks rows)
+    (room_count : room ≡ o.ranks)
+    (j : IsNextJoin o 0 join)
+    (first : (r : ℕ) → r < o.ranks → rests heads tails r ≡ own o g r)
+    (unsent : (s r : ℕ) → sent_below rows s r ≡ 0) where
+  way : IsUnderWay o [] whole (rests heads tails) seed join (sent_below rows)
+  way =
+      subst (λ z. IsUnderWay o [] whole (rests heads tails) seed join z) (λ i s r. sym (unsent s r) i)
+      (begins o g seed join (rests heads tails) whole d accepted j (λ r lt. sym (first r lt)))
+
+  here : left_in o heads tails rows seed join ≡ whole
+  here = left_is o [] whole (rests heads tails) seed join (sent_below rows) all way
+
+  pub kept_first : IsKept o heads tails rows room seed join
+  kept_first = record {
+    few = few;
+    head_count = head_count;
+    tail_count = tail_count;
+    table = table;
+    room_count = room_count;
+    list = [];
+    coming = whole;
+    way = way;
+  }
+
+  pub drawn_first : IsDrawn o g seed (left_in o heads tails rows seed join) × Accepted o (left_in o heads tails rows seed join)
+  drawn_first = (subst (IsDrawn o g seed) (sym here) d, subst (Accepted o) (sym here) accepted)

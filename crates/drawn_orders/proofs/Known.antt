@@ -8,24 +8,19 @@ use Rattle.schedule_steps.specs.Drawn.{turn, drawn_number}
 use Rattle.drawn_orders.specs.declared.turns.Turn.{Turn}
 use Rattle.drawn_orders.specs.Rests.{rests, is_sent, sent_below}
 use Rattle.drawn_orders.specs.TurnOf.{turn_of}
-use Rattle.drawn_orders.proofs.UnderWay.{IsUnderWay}
+use Rattle.drawn_orders.specs.UnderWay.{IsKept}
 use Rattle.drawn_orders.proofs.TurnIs.{turn_is, to_turn}
 
-pub known : (o : Outline) (g seed : ℕ) (list : List Step) (heads hs : List (Option Step)) (tails : List (List Step)) (x join number items : ℕ) (rows rs : List (Vec ℕ Global)) (tn : Turn)
-    → IsUnderWay o g seed list (rests heads tails) x join (sent_below rows)
-    → length heads ≡ o.ranks
-    → hs ≡ heads
-    → rs ≡ rows
+pub known : (o : Outline) (heads : List (Option Step)) (tails : List (List Step)) (rows : List (Vec ℕ Global)) (space x join number items : ℕ) (tn : Turn)
+    (kept : IsKept o heads tails rows space x join)
     → number ≡ drawn_number x
     → items ≡ o.items
-    → tn ≡ turn_of (rests hs tails) (is_sent (sent_below rs)) number join items (length hs)
-    → turn o (rests heads tails) (has list) x ≡ to_turn join tn
-known o g seed list heads hs tails x join number items rows rs tn u n eh er en ei e =
-    turn_is o g seed list (rests heads tails) x join (sent_below rows) u
+    → tn ≡ turn_of (rests heads tails) (is_sent (sent_below rows)) number join items (length heads)
+    → turn o (rests heads tails) (has kept.list) x ≡ to_turn join tn
+known o heads tails rows space x join number items tn kept en ei e =
+    turn_is o kept.list kept.coming (rests heads tails) x join (sent_below rows) kept.way
     ∙ ap (λ z. to_turn join z)
     (sym (e
-    ∙ (ap (λ z. turn_of (rests z tails) (is_sent (sent_below rs)) number join items (length z)) eh
-    ∙ (ap (λ z. turn_of (rests heads tails) (is_sent (sent_below z)) number join items (length heads)) er
     ∙ (ap (λ z. turn_of (rests heads tails) (is_sent (sent_below rows)) z join items (length heads)) en
     ∙ (ap (λ z. turn_of (rests heads tails) (is_sent (sent_below rows)) (drawn_number x) join z (length heads)) ei
-    ∙ ap (λ z. turn_of (rests heads tails) (is_sent (sent_below rows)) (drawn_number x) join o.items z) n))))))
+    ∙ ap (λ z. turn_of (rests heads tails) (is_sent (sent_below rows)) (drawn_number x) join o.items z) kept.head_count))))

@@ -1,5 +1,6 @@
-pub mod UnderWay
 pub mod OwnSteps
+pub mod Masks
+pub mod ToCome
 pub mod Among
 pub mod TurnIs
 pub mod Onward
@@ -8,3 +9,4 @@ pub mod Writes
 pub mod Known
 pub mod Taking
 pub mod SmallLists
+pub mod Firsts

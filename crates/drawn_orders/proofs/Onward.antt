@@ -1,27 +1,23 @@
 -- A drawn order under way after one more step.
-use Rattle.std.proofs.Common.{◌≡◌, ℕ, ◌+◌, ◌<◌, ◌≤◌, Bool, true, false, cond, refl, sym, ap, subst, ◌∙◌, arith, ⊎_elim, List, [], ◌∷◌, ◌++◌, append-nil}
+use Rattle.std.proofs.Common.{◌≡◌, ℕ, ◌+◌, ◌<◌, ◌≤◌, Bool, true, false, cond, refl, sym, ap, subst, ◌∙◌, arith, ⊎_elim, List, [], ◌∷◌, ◌++◌}
 use Rattle.std.specs.Prelude.{nat_lt, ◌&&◌, ◌||◌, ◌==◌}
-use Rattle.std.proofs.lemmas.Bool.{lt-ltb, le-ltb, ltb-false, cases_eq, cases_lt, false≢true, eq-eqb, ne_eqb, or_left, and_from, cond-true, cond-false}
+use Rattle.std.proofs.lemmas.Bool.{lt-ltb, le-ltb, ltb-false, cases_eq, cases_lt, false≢true, eq-eqb, ne_eqb, or_left, and_from}
 use Rattle.std.proofs.lemmas.List.{append_assoc}
 use Rattle.schedule_steps.specs.Outline.{Outline}
 use Rattle.schedule_steps.specs.declared.step.Step.{Step}
 use Rattle.schedule_steps.specs.declared.step.Step.TheVariants.{Send, Recv, Begin, End, Join}
-use Rattle.schedule_steps.specs.Steps.{IsStep, Earlier, by_item, same, has}
+use Rattle.schedule_steps.specs.Steps.{IsStep, Earlier, by_item, same, has, Accepted}
 use Rattle.schedule_steps.specs.Members.{same_refl, has_push}
 use Rattle.schedule_steps.specs.Turns.{marked}
-use Rattle.schedule_steps.specs.Drawn.{drawn_number, turn, put_left, TakenBy, DrawnFrom, IsDrawn, Over, JoinOf, StepOf}
-use Rattle.drawn_orders.specs.UnderWay.{IsNextJoin, sent_after}
-use Rattle.drawn_orders.proofs.UnderWay.{is_rank_step, IsUnderWay}
+use Rattle.schedule_steps.specs.Drawn.{drawn_number, turn, put_left, TakenBy, DrawnFrom, Over, JoinOf, StepOf}
+use Rattle.drawn_orders.proofs.Masks.{or_yes, left_planned}
+use Rattle.drawn_orders.specs.UnderWay.{IsNextJoin, sent_after, is_rank_step, IsUnderWay}
 
 pushed : (list : List Step) (s : Step) → has (list ++ (s ∷ [])) ≡ marked s (has list)
 pushed list s = λ i t. has_push list s t i
 
 or_same : (a b c : Bool) → a ≡ false → b ≡ c → (a || b) ≡ c
 or_same a b c e f = ap (λ z. z || b) e ∙ f
-
-or_yes : (a b : Bool) → b ≡ true → (a || b) ≡ true
-or_yes true b e = refl
-or_yes false b e = e
 
 module _ (o : Outline) (rest : ℕ → List Step) (m : Step → Bool) (x : ℕ) where
   -- nothing is to come
@@ -52,28 +48,18 @@ module _ (o : Outline) (rest : ℕ → List Step) (m : Step → Bool) (x : ℕ) 
       subst (λ z. TakenBy rest s z (DrawnFrom o rest (marked s m) x l) (λ r left. DrawnFrom o (put_left r left rest) (marked s m) (drawn_number x) l)) e h in
       record { step = s; later = l; left = y.0; first = refl; of_rank = y.1; turns = y.2 }
 
-module _ (o : Outline) (g seed : ℕ) (list : List Step) (rest : ℕ → List Step) (x join : ℕ) (below : ℕ → ℕ → ℕ) (u : IsUnderWay o g seed list rest x join below) where
-  -- at the end
-  pub at_end : turn o rest (has list) x ≡ Over → IsDrawn o g seed list
-  at_end e = subst (IsDrawn o g seed) (u.parts ∙ (ap (λ z. list ++ z) (over o rest (has list) x u.to_come u.turns e) ∙ append-nil list)) u.is_drawn
-
-  pub after_join : (next : ℕ) → turn o rest (has list) x ≡ JoinOf join → IsNextJoin o (join + 1) next
-      → IsUnderWay o g seed (list ++ (Join join ∷ [])) rest x next below
-  after_join next e j =
-      let d = joined o rest (has list) x join u.to_come u.turns e in
-      record {
-        whole = u.whole;
-        is_drawn = u.is_drawn;
-        accepted = u.accepted;
-        to_come = d.0;
-        parts = u.parts ∙ (ap (λ z. list ++ z) d.1 ∙ sym (append_assoc list (Join join ∷ []) d.0));
-        turns = subst (λ z. DrawnFrom o rest z x d.0) (sym (pushed list (Join join))) d.2;
-        planned = u.planned;
-        joins = λ k lt f. has_push list (Join join) (Join k) ∙ known k lt f;
-        within = j.within;
-        at = j.at;
-        sends = λ k s r p. has_push list (Join join) (Send k s r) ∙ u.sends k s r p;
-      }
+module _ (o : Outline) (list coming : List Step) (rest : ℕ → List Step) (x join : ℕ) (below : ℕ → ℕ → ℕ) (u : IsUnderWay o list coming rest x join below) where
+  pub after_join : (next : ℕ) (later : List Step) → coming ≡ Join join ∷ later → DrawnFrom o rest (marked (Join join) (has list)) x later → IsNextJoin o (join + 1) next
+      → IsUnderWay o (list ++ (Join join ∷ [])) later rest x next below
+  after_join next later first turns j = record {
+    accepted = subst (λ z. Accepted o z) (ap (λ z. list ++ z) first ∙ sym (append_assoc list (Join join ∷ []) later)) u.accepted;
+    turns = subst (λ z. DrawnFrom o rest z x later) (sym (pushed list (Join join))) turns;
+    planned = u.planned;
+    joins = λ k lt f. has_push list (Join join) (Join k) ∙ known k lt f;
+    within = j.within;
+    at = j.at;
+    sends = λ k s r p. has_push list (Join join) (Send k s r) ∙ u.sends k s r p;
+  }
     where
       far : join + 1 ≤ next
       far = j.after
@@ -91,12 +77,12 @@ module _ (o : Outline) (g seed : ℕ) (list : List Step) (rest : ℕ → List St
           (cases_eq k join))
           (cases_lt k join)
 
-  module _ (r : ℕ) (d : IsNext o rest (has list) x r u.to_come) (lr : r < o.ranks) where
+  module _ (r : ℕ) (d : IsNext o rest (has list) x r coming) (lr : r < o.ranks) where
     abbrev s : Step
     s = d.step
 
-    here : u.whole ≡ list ++ (s ∷ d.later)
-    here = u.parts ∙ ap (λ z. list ++ z) d.first
+    here : list ++ coming ≡ list ++ (s ∷ d.later)
+    here = ap (λ z. list ++ z) d.first
 
     pub mine : IsStep o s × (is_rank_step s ≡ true)
     mine = u.planned r lr s (ap (λ z. has z s) d.of_rank ∙ or_left (same s s) (has d.left s) (same_refl s))
@@ -159,21 +145,11 @@ module _ (o : Outline) (g seed : ℕ) (list : List Step) (rest : ℕ → List St
     sent (End i y z) step new before k a b p = u.sends k a b p
     sent (Join i) step new before k a b p = u.sends k a b p
 
-    left_planned : (y : ℕ) → y < o.ranks → (t : Step) → has (put_left r d.left rest y) t ≡ true → IsStep o t × (is_rank_step t ≡ true)
-    left_planned y ly t h = ⊎_elim
-        (λ (e : y ≡ r). u.planned r lr t (ap (λ z. has z t) d.of_rank ∙ or_yes (same t s) (has d.left t) (sym (ap (λ z. has z t) (cond-true (y == r) d.left (rest y) (eq-eqb y r e))) ∙ h)))
-        (λ (ne : y ≡ r → ⊥). u.planned y ly t (sym (ap (λ z. has z t) (cond-false (y == r) d.left (rest y) (ne_eqb y r ne))) ∙ h))
-        (cases_eq y r)
-
-    pub after_step : IsUnderWay o g seed (list ++ (s ∷ [])) (put_left r d.left rest) (drawn_number x) join (sent_after below s)
+    pub after_step : IsUnderWay o (list ++ (s ∷ [])) d.later (put_left r d.left rest) (drawn_number x) join (sent_after below s)
     after_step = record {
-      whole = u.whole;
-      is_drawn = u.is_drawn;
-      accepted = u.accepted;
-      to_come = d.later;
-      parts = here ∙ sym (append_assoc list (s ∷ []) d.later);
+      accepted = subst (λ z. Accepted o z) (here ∙ sym (append_assoc list (s ∷ []) d.later)) u.accepted;
       turns = subst (λ z. DrawnFrom o (put_left r d.left rest) z (drawn_number x) d.later) (sym (pushed list s)) d.turns;
-      planned = left_planned;
+      planned = left_planned o rest r s d.left d.of_rank u.planned;
       joins = λ k lt f. has_push list s (Join k) ∙ or_same (same (Join k) s) (has list (Join k)) (nat_lt k join) (no_join k s mine.1) (u.joins k lt f);
       within = u.within;
       at = u.at;

@@ -9,7 +9,7 @@ use Rattle.schedule_steps.specs.Steps.{IsStep, same, has}
 use Rattle.schedule_steps.specs.Members.{same_true, has_parts}
 use Rattle.schedule_steps.specs.Standard.{below, where_true, above, sends_of, receives_of, is_member, group_of, in_group, block_steps, blocks, element_steps}
 use Rattle.schedule_steps.specs.Drawn.{own_item, own}
-use Rattle.drawn_orders.proofs.UnderWay.{is_rank_step}
+use Rattle.drawn_orders.specs.UnderWay.{is_rank_step}
 
 module _ (P : Step → Type 0) where
   abbrev Holds : List Step → Type 0

@@ -5,7 +5,7 @@ use Rattle.std.proofs.Math.Seq.{take-length}
 use Rattle.std.proofs.lemmas.Bool.{lt-ltb, le-ltb, cases_eq}
 use Rattle.std.proofs.lemmas.List.{length-append, take-append-le, drop-append-le}
 use Rattle.schedule_steps.specs.Drawn.{numbers}
-use Rattle.drawn_orders.proofs.TurnIs.{numbers_same}
+use Rattle.drawn_orders.proofs.Masks.{numbers_same}
 
 abbrev pub all : ℕ → List ℕ
 all n = numbers (λ r. true) n

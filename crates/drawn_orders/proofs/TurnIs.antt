@@ -1,19 +1,19 @@
 -- A turn is known by the next join and the sends that are taken.
-use Rattle.std.proofs.Common.{◌≡◌, ℕ, zero, suc, ◌<◌, ◌≤◌, Bool, true, false, cond, refl, sym, ap, ◌∙◌, arith, ⊎_elim, List, [], ◌∷◌, ◌++◌}
+use Rattle.std.proofs.Common.{◌≡◌, ℕ, zero, suc, ◌<◌, ◌≤◌, Bool, true, false, cond, refl, sym, ap, ◌∙◌, arith, ⊎_elim, List, [], ◌∷◌}
 use Rattle.std.specs.Prelude.{nat_lt, not, ◌&&◌}
-use Rattle.std.proofs.lemmas.Bool.{lt-ltb, le-ltb, cases_eq, or_left}
+use Rattle.std.proofs.lemmas.Bool.{lt-ltb, le-ltb, cases_eq}
 use Rattle.schedule_steps.specs.Outline.{Outline}
 use Rattle.schedule_steps.specs.declared.step.Step.{Step}
-use Rattle.schedule_steps.specs.declared.step.Step.TheVariants.{Send, Recv, Begin, End, Join}
-use Rattle.schedule_steps.specs.Steps.{IsStep, same, has}
-use Rattle.schedule_steps.specs.Members.{same_refl}
+use Rattle.schedule_steps.specs.declared.step.Step.TheVariants.{Join}
+use Rattle.schedule_steps.specs.Steps.{has}
 use Rattle.schedule_steps.specs.Drawn as drawn
 use Rattle.schedule_steps.specs.Drawn.{first_below, next_join, is_early, waits, numbers, drawn_number, picked, turn, turn_by}
 use Rattle.drawn_orders.specs.declared.turns.Turn.{Turn}
 use Rattle.drawn_orders.specs.declared.turns.Turn.TheVariants as t
 use Rattle.drawn_orders.specs.Rests.{is_sent, can_go}
 use Rattle.drawn_orders.specs.TurnOf.{turn_among, turn_of}
-use Rattle.drawn_orders.proofs.UnderWay.{IsUnderWay}
+use Rattle.drawn_orders.specs.UnderWay.{IsUnderWay}
+use Rattle.drawn_orders.proofs.Masks.{numbers_same, waits_same}
 
 first_is : (t : ℕ → Bool) (n k : ℕ) → k ≤ n → ((i : ℕ) → i < k → t i ≡ false) → (k < n → t k ≡ true) → first_below t n ≡ k
 first_is t zero k le low hit = omega arith
@@ -34,19 +34,13 @@ first_is t (suc n) k le low hit = ⊎_elim
     (cases_eq k n))
     (cases_eq k (suc n))
 
-pub numbers_same : (s t : ℕ → Bool) (n : ℕ) → ((x : ℕ) → x < n → s x ≡ t x) → numbers s n ≡ numbers t n
-numbers_same s t zero h = refl
-numbers_same s t (suc n) h =
-    ap (λ z. z ++ cond (s n) (n ∷ []) []) (numbers_same s t n (λ x lt. h x (omega arith)))
-    ∙ ap (λ b. numbers t n ++ cond b (n ∷ []) []) (h n (omega arith))
-
 -- the turn with the item of its join
 abbrev pub to_turn : ℕ → Turn → drawn.Turn
 to_turn join t.Over = drawn.Over
 to_turn join t.Join = drawn.JoinOf join
 to_turn join (t.Rank r) = drawn.StepOf r
 
-module _ (o : Outline) (g seed : ℕ) (list : List Step) (rest : ℕ → List Step) (x join : ℕ) (below : ℕ → ℕ → ℕ) (u : IsUnderWay o g seed list rest x join below) where
+module _ (o : Outline) (list coming : List Step) (rest : ℕ → List Step) (x join : ℕ) (below : ℕ → ℕ → ℕ) (u : IsUnderWay o list coming rest x join below) where
   next_is : next_join o (has list) ≡ join
   next_is = first_is (λ j. not (o.is_free j) && not (has list (Join j))) o.items join u.within
       (λ j lt. low j lt (o.is_free j) refl)
@@ -58,16 +52,8 @@ module _ (o : Outline) (g seed : ℕ) (list : List Step) (rest : ℕ → List St
           let w : join ≤ o.items = u.within in
           ap (λ b. not b && not (has list (Join j))) e ∙ ap (λ b. not b) (u.joins j (omega arith) e ∙ lt-ltb j join lt)
 
-  waits_same : (l : List Step) → ((s : Step) → has l s ≡ true → IsStep o s) → waits (has list) l ≡ waits (is_sent below) l
-  waits_same [] h = refl
-  waits_same (Recv k r s ∷ l) h = ap (λ b. not b) (u.sends k s r (h (Recv k r s) (or_left (same (Recv k r s) (Recv k r s)) (has l (Recv k r s)) (same_refl (Recv k r s)))))
-  waits_same (Send k r s ∷ l) h = refl
-  waits_same (Begin k r s ∷ l) h = refl
-  waits_same (End k r s ∷ l) h = refl
-  waits_same (Join k ∷ l) h = refl
-
   going_same : numbers (λ r. is_early join (rest r) && not (waits (has list) (rest r))) o.ranks ≡ numbers (λ r. can_go (is_sent below) join (rest r)) o.ranks
-  going_same = numbers_same _ _ o.ranks (λ r lt. ap (λ b. is_early join (rest r) && not b) (waits_same (rest r) (λ s h. (u.planned r lt s h).0)))
+  going_same = numbers_same _ _ o.ranks (λ r lt. ap (λ b. is_early join (rest r) && not b) (waits_same o (has list) (is_sent below) u.sends (rest r) (λ s h. (u.planned r lt s h).0)))
 
   by_early : (early : List ℕ)
       → turn_by o rest (has list) x join early

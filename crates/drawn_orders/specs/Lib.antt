@@ -1,3 +1,4 @@
 pub mod Rests
 pub mod TurnOf
+pub mod ToCome
 pub mod UnderWay

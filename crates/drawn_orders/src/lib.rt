@@ -1,4 +1,4 @@
-//! The drawn order of a plan's steps.
+//! The drawn order of a plan's steps, one step after another, or as a list.
 #![tactic(auto)]
 
 mod heads;
@@ -8,4 +8,4 @@ mod ranks;
 mod tests;
 mod turns;
 
-pub use order::drawn;
+pub use order::{DrawnOrder, drawn};

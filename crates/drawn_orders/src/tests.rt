@@ -5,11 +5,11 @@ ghost use Rattle.schedule_steps.specs.Drawn.{numbers};
 ghost use Rattle.step_orders.specs.Order.{IsColoured};
 ghost use Rattle.step_orders.specs.ElementRuns.{runs_of};
 
-use crate::drawn;
+use crate::{DrawnOrder, drawn};
 use op_num::OutOfMemory;
 use schedule_steps::Step;
 use std::alloc::Global;
-use step_orders::{Runs, Shape};
+use step_orders::{Runs, Shape, Steps};
 
 // In each Free item each rank sends to those above it, and runs the same places, two of them to a block.
 #[derive(Drop)]
@@ -339,6 +339,16 @@ const ORDERS: &[(&[bool], u32, &[u32], &[u32], u32, u64, &[Step])] = &[
     (&[false, false], 2, &[], &[], 1, 5, JOINS),
 ];
 
+// Whether these steps come, one after another, and then none.
+fn gives<T: Steps>(steps: &mut T, want: &[Step]) -> bool {
+    for step in want {
+        if steps.next_step() != Some(*step) {
+            return false;
+        }
+    }
+    steps.next_step().is_none()
+}
+
 #[test]
 fn orders_are_drawn_by_the_seed(rt: HostRuntime) -> Result<(), OutOfMemory> {
     let alloc = rt.alloc();
@@ -347,6 +357,8 @@ fn orders_are_drawn_by_the_seed(rt: HostRuntime) -> Result<(), OutOfMemory> {
             let shape = Small::new(alloc, *free, *ranks, *block_colours, *colours, *group)?;
             let list = drawn(alloc, &shape, *seed)?;
             assert_eq!(rt; list.as_slice(), *want);
+            let mut order = DrawnOrder::new(alloc, &shape, *seed)?;
+            assert!(rt; gives(&mut order, *want));
         }
     }
     Ok(())

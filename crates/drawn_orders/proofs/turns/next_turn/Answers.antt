@@ -1,29 +1,21 @@
-use Rattle.std.proofs.Common.{rules, ◌≡◌, ◌∙◌, ℕ, List, Bool, length, ap}
-use Rattle.schedule_steps.specs.declared.step.Step.{Step}
-use Rattle.schedule_steps.specs.Drawn.{picked}
+use Rattle.std.proofs.Common.{◌∙◌, length, ap, take}
 use Rattle.drawn_orders.specs.declared.turns.Turn.TheVariants.{Rank}
 use Rattle.drawn_orders.specs.Rests.{rests, sent_below, is_sent}
 use Rattle.drawn_orders.proofs.Among.{takes_join, takes_none, takes_step}
 use Rattle.drawn_orders.proofs.turns.next_turn.Goals as goal
 
-pub returns-then-join-items : goal.returns-then-join-items
-returns-then-join-items c = λ tails.
-    let m : Step → Bool = is_sent (sent_below c.args.sent.now) in
-    let n : length c.put_early.new.found.items ≡ 0 = search rules in
-    takes_join (rests c.args.heads.now tails) m c.args.number c.args.join c.args.items (length c.args.heads.now)
-    c.put_early.new.found.items (c.in_ok-put_early.ensures tails) n c.if-join-items.true
+pub returns-then-join-items-clause-turn : goal.returns-then-join-items-clause-turn
+returns-then-join-items-clause-turn c = λ tails.
+    takes_join (rests c.args.heads.now tails) (is_sent (sent_below c.args.sent.now)) c.args.number c.args.join c.args.items (length c.args.heads.now)
+    (c.is_any_early.ensures.no c.if-not-is_any_early.true tails) c.if-join-items.true
 
-pub returns-else-join-items : goal.returns-else-join-items
-returns-else-join-items c = λ tails.
-    let m : Step → Bool = is_sent (sent_below c.args.sent.now) in
-    let n : length c.put_early.new.found.items ≡ 0 = search rules in
-    takes_none (rests c.args.heads.now tails) m c.args.number c.args.join c.args.items (length c.args.heads.now)
-    c.put_early.new.found.items (c.in_ok-put_early.ensures tails) n c.if-join-items.false
+pub returns-else-join-items-clause-turn : goal.returns-else-join-items-clause-turn
+returns-else-join-items-clause-turn c = λ tails.
+    takes_none (rests c.args.heads.now tails) (is_sent (sent_below c.args.sent.now)) c.args.number c.args.join c.args.items (length c.args.heads.now)
+    (c.is_any_early.ensures.no c.if-not-is_any_early.true tails) c.if-join-items.false
 
-pub returns : goal.returns
-returns c = λ tails.
-    let m : Step → Bool = is_sent (sent_below c.args.sent.now) in
-    let some : length c.put_early.new.found.items ≡ 0 → ⊥ = search rules in
-    ap Rank (c.picked.ensures ∙ ap (λ (z : List ℕ). picked c.args.number z) c.deref.ensures.value)
-    ∙ takes_step (rests c.args.heads.now tails) m c.args.number c.args.join c.args.items (length c.args.heads.now)
-    c.put_early.new.found.items c.put_going.new.found.items (c.in_ok-put_early.ensures tails) some (c.in_ok-put_going.ensures tails)
+pub returns-clause-turn : goal.returns-clause-turn
+returns-clause-turn c = λ tails.
+    ap Rank c.picked.ensures
+    ∙ takes_step (rests c.args.heads.now tails) (is_sent (sent_below c.args.sent.now)) c.args.number c.args.join c.args.items (length c.args.heads.now)
+    (take c.put_going-count.result c.put_going-count.new.found) (c.is_any_early.ensures.yes c.if-not-is_any_early.false tails) (c.put_going-count.ensures.found tails)
