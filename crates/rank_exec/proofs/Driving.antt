@@ -1,5 +1,5 @@
 -- A list of steps, at one of its steps.
-use Rattle.std.proofs.Common.{◌≡◌, ℕ, ◌+◌, ◌≤◌, true, false, refl, sym, ap, ⊎_elim, map, ◌∙◌, arith, Option, Some, None, List, [], ◌∷◌, ◌++◌, append_assoc, subst}
+use Rattle.std.proofs.Common.{◌≡◌, ℕ, suc, ◌+◌, ◌-◌, ◌≤◌, true, false, refl, sym, ap, ⊎_elim, map, ◌∙◌, arith, Option, Some, None, List, [], ◌∷◌, ◌++◌, append_assoc, subst}
 use Rattle.std.specs.Prelude.{is_some}
 use Rattle.std.proofs.lemmas.Bool.{cases_Bool, false≢true, cond-true, cond-false}
 use Rattle.schedule_steps.specs.declared.step.Step.{Step}
@@ -13,7 +13,8 @@ use Rattle.schedule_model.specs.Sequential.{Seq, Going, Stopped}
 use Rattle.flat_machine.specs.Flat.{AgreesFlat}
 use Rattle.rank_state.specs.Machine.{State}
 use Rattle.rank_state.specs.Shows.{Tables, Shows}
-use Rattle.rank_exec.specs.Driving.{Done, Reached, to_come, After, AsSequential, posts, takes, opens, shuts}
+use Rattle.rank_state.specs.Groups.{begins}
+use Rattle.rank_exec.specs.Driving.{Done, ComeReady, Reached, to_come, After, AsSequential, posts, takes, opens, shuts}
 
 pub count_push : (g : Step → ℕ → ℕ) (n : ℕ) (l : List Step) (s : Step) → count_after g n (l ++ (s ∷ [])) ≡ g s (count_after g n l)
 count_push g n [] s = refl
@@ -93,6 +94,43 @@ module _ {F : Type 0} (p : Setup F) (l : Layout F) where
       ∙ cond-false (is_some (flat_step p l (Begin k r x) f).stop) (flat_step p l (Begin k r x) f) (flat_step p l (End k r x) (flat_step p l (Begin k r x) f)) (ap is_some (begin_goes k r x f ∙ none))
 
 module _ {F : Type 0} (p : Setup F) (l : Layout F) (t : Tables) where
+  -- no step was taken
+  pub done_none : (st : State F) → Done p l t [] st st
+  done_none st = record {
+    shows = λ f h. h;
+    mail = λ n. refl;
+    frames = λ n. refl;
+  }
+
+  -- some steps, and then others
+  pub done_more : (some others : List Step) (old st new : State F) → Done p l t some old st → Done p l t others st new → Done p l t (some ++ others) old new
+  done_more some others old st new d e = record {
+    shows = λ f h. subst (Shows p l t new) (sym (from_append p l some others f)) (e.shows (flat_from p l some f) (d.shows f h));
+    mail = λ n. ap (λ m. new.mail.left + m) (count_append (mail_step (message_cells l)) n some others) ∙ (e.mail (count_after (mail_step (message_cells l)) n some) ∙ d.mail n);
+    frames = λ n. ap (λ m. new.frames.left + m) (count_append open_step n some others) ∙ (e.frames (count_after open_step n some) ∙ d.frames n);
+  }
+
+  -- a begin and its end
+  pub done_pair : (k r x : ℕ) (old new : State F)
+      → ((f : Flat F) → Shows p l t old f → Shows p l t new (flat_step p l (End k r x) (flat_step p l (Begin k r x) f)))
+      → new.mail.left ≡ old.mail.left → new.frames.left ≡ old.frames.left → Done p l t (Begin k r x ∷ End k r x ∷ []) old new
+  done_pair k r x old new h mail frames = record {
+    shows = λ f s. subst (Shows p l t new) (sym (from_pair p l k r x f s.stop)) (h f s);
+    mail = λ n. ap (λ m. m + n) mail;
+    frames = λ n. (let e : suc n - 1 ≡ n = omega arith in omega (arith, frames));
+  }
+
+  -- after some steps, the others are ready
+  pub ready_after : (come done rest : List Step) (st now : State F) → ComeReady p l t come st → come ≡ done ++ rest → Done p l t done st now → ComeReady p l t rest now
+  ready_after come done rest st now h e d more k r places left is at m =
+      h (done ++ more) k r places left (e ∙ (ap (λ z. done ++ z) is ∙ sym (append_assoc done more (begins k r places ++ left)))) at (done_more done more st now at d m)
+
+  -- the first of them are ready
+  pub ready_front : (come front rest : List Step) (st : State F) → ComeReady p l t come st → come ≡ front ++ rest → ComeReady p l t front st
+  ready_front come front rest st h e done k r places left is at d =
+      h done k r places (left ++ rest)
+      (e ∙ (ap (λ z. z ++ rest) is ∙ (append_assoc done (begins k r places ++ left) rest ∙ ap (λ z. done ++ z) (append_assoc (begins k r places) left rest)))) at d
+
   pub reached_none : (all come : List Step) (st : State F) → all ≡ come → Reached p l t all come st st
   reached_none all come st e = record {
     front = [];

@@ -1,9 +1,10 @@
 -- The begins of a group, one after another.
-use Rattle.std.proofs.Common.{◌≡◌, ℕ, zero, suc, ◌+◌, ◌<◌, Bool, true, false, refl, sym, ap, ◌∙◌, arith, List, [], ◌∷◌, ◌++◌, length, take, get_or}
+use Rattle.std.proofs.Common.{◌≡◌, ℕ, zero, suc, ◌+◌, ◌<◌, ◌≤◌, Bool, true, false, refl, sym, ap, subst, ◌∙◌, arith, List, [], ◌∷◌, ◌++◌, length, take, drop, get_or}
 use Rattle.std.specs.Prelude.{◌==◌, ◌||◌}
 use Rattle.std.proofs.lemmas.Bool.{false≢true, eq-eqb}
 use Rattle.schedule_steps.specs.declared.step.Step.{Step}
-use Rattle.schedule_steps.specs.declared.step.Step.TheVariants.{Begin}
+use Rattle.schedule_steps.specs.declared.step.Step.TheVariants.{Begin, End}
+use Rattle.step_orders.specs.Alone.{alone}
 use Rattle.schedule_steps.specs.Peaks.{open_step, mail_step, count_after}
 use Rattle.rank_state.specs.Frames.{Pane, Shut, pane_at}
 use Rattle.rank_state.specs.Groups.{begins, is_in, AllShut}
@@ -46,3 +47,36 @@ pub after_one : (k r x : ℕ) (ys : List ℕ) (m left : List Step) → length ys
 after_one k r x [] m left n e = absurd (omega (arith, n))
 after_one k r x (y ∷ []) m left n e = cc
 after_one k r x (y ∷ z ∷ ys) m left n e = absurd (omega (arith, n))
+
+-- at one of several elements that begin and end one after another
+pub alone_at : (k r : ℕ) (xs : List ℕ) (i : ℕ) → i < length xs
+    → alone k r xs ≡ alone k r (take i xs) ++ (Begin k r (get_or xs i 0) ∷ End k r (get_or xs i 0) ∷ alone k r (drop (suc i) xs))
+alone_at k r [] i lt = absurd (omega arith)
+alone_at k r (x ∷ xs) zero lt = refl
+alone_at k r (x ∷ xs) (suc i) lt = ap (λ z. Begin k r x ∷ End k r x ∷ z) (alone_at k r xs i (omega arith))
+
+alone_append : (k r : ℕ) (xs ys : List ℕ) → alone k r (xs ++ ys) ≡ alone k r xs ++ alone k r ys
+alone_append k r [] ys = refl
+alone_append k r (x ∷ xs) ys = ap (λ z. Begin k r x ∷ End k r x ∷ z) (alone_append k r xs ys)
+
+-- one more
+pub alone_next : (k r : ℕ) (xs : List ℕ) (i : ℕ) → i < length xs
+    → alone k r (take (i + 1) xs) ≡ alone k r (take i xs) ++ (Begin k r (get_or xs i 0) ∷ End k r (get_or xs i 0) ∷ [])
+alone_next k r xs i lt = ap (alone k r) (take_next xs i 0 lt) ∙ alone_append k r (take i xs) (get_or xs i 0 ∷ [])
+
+-- none
+pub alone_none : (k r : ℕ) (xs : List ℕ) → alone k r (take 0 xs) ≡ []
+alone_none k r [] = refl
+alone_none k r (x ∷ xs) = refl
+
+-- fewer steps are left
+pub alone_fewer : (k r : ℕ) (xs : List ℕ) (left rest : List Step) → left ≡ alone k r xs ++ rest → 0 < length xs → length rest < length left
+alone_fewer k r xs left rest e some = subst (λ z. length rest < length z) (sym e) (fewer xs some)
+  where
+    no_more : (ys : List ℕ) → length rest ≤ length (alone k r ys ++ rest)
+    no_more [] = omega arith
+    no_more (y ∷ ys) = let h = no_more ys in omega (arith, h)
+
+    fewer : (ys : List ℕ) → 0 < length ys → length rest < length (alone k r ys ++ rest)
+    fewer [] lt = absurd (omega (arith, lt))
+    fewer (y ∷ ys) lt = let h = no_more ys in omega (arith, h)

@@ -1,10 +1,8 @@
 -- What a step needs of the machine, what it leaves, and the room that a list of steps needs.
 use Rattle.std.specs.Prelude.{◌≡◌, ◌≢◌, ◌<◌, ◌≤◌, ◌+◌, ℕ, ℤ, map, List, ◌∷◌, ◌++◌, length, Option, Some, None}
-use Rattle.kernel_types.specs.declared.faults.KernelFault.{KernelFault}
 use Rattle.schedule_steps.specs.declared.step.Step.{Step}
 use Rattle.schedule_steps.specs.declared.step.Step.TheVariants.{Send, Recv, Begin, End, Join}
 use Rattle.schedule_steps.specs.Peaks.{open_step, mail_step, count_after, greatest}
-use Rattle.schedule_steps.specs.Outline.{Outline}
 use Rattle.mesh_decl.specs.Mesh.{dat_dim}
 use Rattle.bound_program.specs.Values.{BoundValue, Host, Print}
 use Rattle.run_model.specs.Programs.{item_at}
@@ -13,7 +11,7 @@ use Rattle.schedule_model.specs.Cells.{Data, Store}
 use Rattle.schedule_model.specs.Setup.{Setup}
 use Rattle.schedule_model.specs.Sequential as model
 use Rattle.schedule_model.specs.Sequential.{Seq, Going, Stopped}
-use Rattle.flat_machine.specs.Layout.{Layout, message_cells}
+use Rattle.flat_machine.specs.Layout.{Layout, by_place, message_cells}
 use Rattle.flat_machine.specs.Flat.{Flat, Shut_pane, flat_from, StartsFlat}
 use Rattle.rank_state.specs.declared.spans.Span.{Span}
 use Rattle.rank_state.specs.declared.owned.Owned.{Owned}
@@ -40,6 +38,12 @@ module _ {F : Type 0} (p : Setup F) (l : Layout F) (t : Tables) where
     pub shows : (f : Flat F) → Shows p l t old f → Shows p l t new (flat_from p l done f)
     pub mail : (n : ℕ) → new.mail.left + count_after (mail_step (message_cells l)) n done ≡ old.mail.left + n
     pub frames : (n : ℕ) → new.frames.left + count_after open_step n done ≡ old.frames.left + n
+
+  -- begins that come next can be taken, whatever of the steps was taken before them
+  abbrev pub ComeReady : List Step → State F → Type 0
+  ComeReady come st = (done : List Step) (k r : ℕ) (places : List ℕ) (rest : List Step) → come ≡ done ++ (begins k r places ++ rest)
+      → (at : State F) → Done done st at
+      → Planned (by_place p l) k r places × AllShut at.frames.panes r places × Distinct places × (length places ≤ at.frames.left)
 
   -- of all steps those are still to come
   pub record Reached (all come : List Step) (old new : State F) : Type 0 where
@@ -107,11 +111,6 @@ AsSequential (Stopped x s o) stop output = (stop ≡ Some x) × (output ≡ o)
 abbrev pub to_come : Option Step → List Step → List Step
 to_come None rest = rest
 to_come (Some s) rest = s ∷ rest
-
--- a run of begins, of whatever length it is, can be taken
-abbrev pub GroupReady : Outline → ℕ → ℕ → List Step → State KernelFault → Type 0
-GroupReady o k r come st = (places : List ℕ) (rest : List Step) → come ≡ begins k r places ++ rest
-    → Planned o k r places × AllShut st.frames.panes r places × Distinct places × (length places ≤ st.frames.left)
 
 -- item k prints the dat to the file
 abbrev pub IsPrint : BoundValue → ℕ → ℕ → List ℕ → Type 0

@@ -11,8 +11,9 @@ ghost use Rattle.rank_state.specs.Shows.{Shows};
 ghost use Rattle.rank_state.specs.Groups.{begins, Distinct, Planned, AllShut};
 ghost use Rattle.kernel_jobs.specs.Jobs.{RanIn, part, task_at};
 ghost use Rattle.rank_exec.specs.Tasks.{HasGroupRoom};
-ghost use Rattle.rank_exec.specs.Driving.{Done, to_come, GroupReady};
+ghost use Rattle.rank_exec.specs.Driving.{Done, ComeReady, to_come};
 
+use crate::alone::run_alone;
 use crate::core_run::Kernels;
 use crate::group_room::GroupRoom;
 use crate::group_steps::{load_all, open_all};
@@ -240,7 +241,7 @@ fn is_end(step: Option<Step>, item: u32, rank: u32, place: u32) -> bool
 }
 
 /// A begin and those of its item and rank that come next, as one group; a begin that its own end
-/// follows, in place. Answers the step after them.
+/// follows, in place, and with it those of which the stream tells that they follow in the same way. Answers the step after them.
 pub fn run_begins<R: Threads + Sync, G: Gate, P: Parts, S: Steps>(
     rt: &R,
     machine: &mut Machine,
@@ -258,7 +259,7 @@ pub fn run_begins<R: Threads + Sync, G: Gate, P: Parts, S: Steps>(
     requires space { HasRunRoom (P.span_count parts.now) (P.locals parts.now) (length (P.tables parts.now).constants)
         (P.tables parts.now).stride room.old }
     requires shows { (f : Flat KernelFault) × Shows (P.setup parts.now) (P.layout parts.now) (P.tables parts.now) machine.old f }
-    requires ready { GroupReady (by_place (P.setup parts.now) (P.layout parts.now)) item rank
+    requires ready { ComeReady (P.setup parts.now) (P.layout parts.now) (P.tables parts.now)
         (Begin item rank place ∷ S.left steps.old) machine.old }
     ensures done { (done : List Step) × (Begin item rank place ∷ S.left steps.old ≡ done ++ to_come result (S.left steps.new))
         × (0 < length done)
@@ -272,6 +273,7 @@ pub fn run_begins<R: Threads + Sync, G: Gate, P: Parts, S: Steps>(
     let next = collect(steps, item, rank, &mut room.places);
     if room.places.len() == 1 && is_end(next, item, rank, place) {
         in_place(machine, parts, &mut room.step, item, rank, place);
+        run_alone(machine, parts, room, steps);
         return next_of(steps);
     }
     begin_group(

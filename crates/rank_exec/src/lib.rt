@@ -1,6 +1,7 @@
 // The distributed machine on flat memories.
 #![tactic(auto)]
 
+pub mod alone;
 pub mod core_run;
 pub mod drive;
 pub mod frames;

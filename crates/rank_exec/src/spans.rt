@@ -1,9 +1,23 @@
 // Cells copied between a memory and a frame, one span after another.
 
 ghost use Rattle.std.specs.Prelude.{◌≡◌, ℕ, ◌+◌, ◌^◌, ◌<◌, ◌≤◌, List, length, take};
-ghost use Rattle.rank_state.specs.Spans.{Within, total, gathered, scattered};
+ghost use Rattle.rank_state.specs.Spans.{Within, total, cells_at, with_window, gathered, scattered};
 
 use rank_state::Span;
+
+// Copies cells from one place to another. Most spans have one cell, for which the compiler needs no call.
+#[inline]
+fn copy(source: &[i32], from: usize, target: &mut [i32], to: usize, dim: usize)
+    requires source { from + dim ≤ length source.now }
+    requires target { to + dim ≤ length target.old }
+    ensures { target.new ≡ with_window to (cells_at from dim source.now) target.old }
+{
+    if dim == 1 {
+        target[to..to + 1].copy_from_slice(&source[from..from + 1]);
+    } else {
+        target[to..to + dim].copy_from_slice(&source[from..from + dim]);
+    }
+}
 
 /// Copies the spans' cells into the frame, one span after another, and answers their number.
 pub fn gather(memory: &[i32], spans: &[Span], frame: &mut [i32]) -> usize
@@ -14,7 +28,7 @@ pub fn gather(memory: &[i32], spans: &[Span], frame: &mut [i32]) -> usize
 {
     let mut from = 0;
     for span in spans {
-        frame[from..from + span.dim].copy_from_slice(&memory[span.at..span.at + span.dim]);
+        copy(memory, span.at, frame, from, span.dim);
         from += span.dim;
     }
     from
@@ -29,7 +43,7 @@ pub fn scatter(memory: &mut [i32], spans: &[Span], frame: &[i32])
     let mut from = 0;
     for span in spans {
         if span.writes {
-            memory[span.at..span.at + span.dim].copy_from_slice(&frame[from..from + span.dim]);
+            copy(frame, from, memory, span.at, span.dim);
         }
         from += span.dim;
     }

@@ -287,6 +287,7 @@ fn in_place_on<P: Parts>(
         (flat_step (P.setup parts.now) (P.layout parts.now) (End item rank place)
         (flat_step (P.setup parts.now) (P.layout parts.now) (Begin item rank place) f)) }
     ensures mail { machine.new.mail.left ≡ machine.old.mail.left }
+    ensures variables { machine.new.variables ≡ machine.old.variables }
     ensures frames { machine.new.frames.left ≡ machine.old.frames.left }
 {
     rank_state::in_place_shows::<KernelFault>();
@@ -296,6 +297,47 @@ fn in_place_on<P: Parts>(
     let own = parts.owns(item, rank, place);
     machine.in_place(
         parts, constants, own, item, rank, original, spans, scalars, locals,
+    );
+}
+
+/// A begin that is followed at once by its own end, where `room` has the values of all constants. It keeps them: no element changes
+/// a variable.
+pub fn in_place_with<P: Parts>(
+    machine: &mut Machine,
+    parts: &P,
+    room: &mut Room,
+    item: u32,
+    rank: u32,
+    place: u32,
+)
+    requires sound { P.sound parts.now }
+    requires planned { IsStep (by_place (P.setup parts.now) (P.layout parts.now)) (Begin item rank place) }
+    requires space { HasRoom (P.span_count parts.now) (P.locals parts.now) (length (P.tables parts.now).constants) room.old }
+    requires values { room.old.constants.items ≡ values_at machine.old.variables (P.tables parts.now).constants }
+    requires shows { (f : Flat KernelFault) × Shows (P.setup parts.now) (P.layout parts.now) (P.tables parts.now) machine.old f }
+    requires shut { pane_at machine.old.frames.panes rank place ≡ Shut }
+    requires room { 0 < machine.old.frames.left }
+    ensures shows { (f : Flat KernelFault) → Shows (P.setup parts.now) (P.layout parts.now) (P.tables parts.now) machine.old f
+        → Shows (P.setup parts.now) (P.layout parts.now) (P.tables parts.now) machine.new
+        (flat_step (P.setup parts.now) (P.layout parts.now) (End item rank place)
+        (flat_step (P.setup parts.now) (P.layout parts.now) (Begin item rank place) f)) }
+    ensures values { room.new.constants.items ≡ values_at machine.new.variables (P.tables parts.now).constants }
+    ensures space { HasRoom (P.span_count parts.now) (P.locals parts.now) (length (P.tables parts.now).constants) room.new }
+    ensures mail { machine.new.mail.left ≡ machine.old.mail.left }
+    ensures frames { machine.new.frames.left ≡ machine.old.frames.left }
+{
+    room.spans.clear();
+    let scalars = parts.windows(item, rank, place, &mut room.spans);
+    in_place_on(
+        machine,
+        parts,
+        item,
+        rank,
+        place,
+        &room.spans,
+        scalars,
+        &room.constants,
+        &mut room.locals,
     );
 }
 
@@ -318,22 +360,10 @@ pub fn in_place<P: Parts>(
         → Shows (P.setup parts.now) (P.layout parts.now) (P.tables parts.now) machine.new
         (flat_step (P.setup parts.now) (P.layout parts.now) (End item rank place)
         (flat_step (P.setup parts.now) (P.layout parts.now) (Begin item rank place) f)) }
-    ensures space { HasRoom (P.span_count parts.now) (P.locals parts.now) (length (P.tables parts.now).constants) room.new }
     ensures mail { machine.new.mail.left ≡ machine.old.mail.left }
     ensures frames { machine.new.frames.left ≡ machine.old.frames.left }
+    ensures space { HasRoom (P.span_count parts.now) (P.locals parts.now) (length (P.tables parts.now).constants) room.new }
 {
     read_constants(machine, parts, &mut room.constants);
-    room.spans.clear();
-    let scalars = parts.windows(item, rank, place, &mut room.spans);
-    in_place_on(
-        machine,
-        parts,
-        item,
-        rank,
-        place,
-        &room.spans,
-        scalars,
-        &room.constants,
-        &mut room.locals,
-    );
+    in_place_with(machine, parts, room, item, rank, place);
 }

@@ -8,3 +8,4 @@ pub mod Cutting
 pub mod KeyPieces
 pub mod RunOrder
 pub mod RankSteps
+pub mod AloneRuns

@@ -52,7 +52,7 @@ on_next first f i n lt e = by (n - i) (n - (i + 1)) (omega arith)
     by zero l h = absurd (omega arith)
     by (suc m) l h = ap (λ z. z ++ upward f (suc i) m) e ∙ (upward_is f (suc i) m ∙ (ap (λ j. onward_by (f j) f j m) (sym (add-one i)) ∙ ap (λ x. onward_by (f (i + 1)) f (i + 1) x) (less m l h)))
 
-in_runs_from : (k r : ℕ) (runs : List (List ℕ)) (i : ℕ)
+pub in_runs_from : (k r : ℕ) (runs : List (List ℕ)) (i : ℕ)
     → in_runs k r (drop i runs) ≡ run_left k r (get_or runs i []) 0 false ++ in_runs k r (drop (suc i) runs)
 in_runs_from k r [] zero = refl
 in_runs_from k r [] (suc i) = refl

@@ -4,3 +4,4 @@ pub mod Pieces
 pub mod Left
 pub mod Order
 pub mod OwnLeft
+pub mod Alone

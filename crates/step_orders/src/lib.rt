@@ -1,6 +1,7 @@
 //! The standard order of a plan's steps, one step after another, with no list of them.
 #![tactic(auto)]
 
+mod alone_walks;
 mod laws;
 mod list;
 mod order;
@@ -22,4 +23,4 @@ pub use own_steps::OwnSteps;
 pub use runs::Runs;
 pub use shape::Shape;
 pub use standard_order::Standard;
-pub use stream::{Listed, Steps};
+pub use stream::{ItemOnRank, Listed, Steps};

@@ -2,8 +2,9 @@
 ghost use Rattle.std.specs.Prelude.{◌≡◌};
 ghost use Rattle.schedule_steps.specs.Standard.{standard};
 
+use crate::alone_walks::alone_in_item;
 use crate::shape::Shape;
-use crate::stream::Steps;
+use crate::stream::{ItemOnRank, Steps};
 use crate::walks::{ItemPlace, first_place, next_in_item};
 use schedule_steps::Step;
 
@@ -48,5 +49,16 @@ impl<'a, S: Shape> Steps for Standard<'a, S> {
             self.here = first_place();
         }
         None
+    }
+
+    fn next_alone(&mut self, places: &mut Vec<u32>) -> Option<ItemOnRank> {
+        let item = self.item;
+        if item >= self.shape.items() || !self.shape.is_free(item) {
+            return None;
+        }
+        let Some(rank) = alone_in_item(self.shape, item, &mut self.here, places) else {
+            return None;
+        };
+        Some(ItemOnRank { item, rank })
     }
 }

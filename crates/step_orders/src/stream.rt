@@ -1,9 +1,17 @@
 // Steps one after another.
-ghost use Rattle.std.specs.Prelude.{◌≡◌, [], ◌∷◌, List, IfSome, IfNone};
+ghost use Rattle.std.specs.Prelude.{◌≡◌, ◌<◌, [], ◌∷◌, ◌++◌, List, length, IfSome, IfNone, vec_capacity};
 ghost use Rattle.schedule_steps.specs.declared.step.Step.{Step as StepValue};
+ghost use Rattle.step_orders.specs.Alone.{alone};
 
 use schedule_steps::Step;
 use std::marker::Model;
+
+/// An item, and a rank in it.
+#[derive(Clone, Copy, PartialEq, Eq, Debug)]
+pub struct ItemOnRank {
+    pub item: u32,
+    pub rank: u32,
+}
 
 /// A list of steps that is not held as one.
 pub trait Steps {
@@ -14,6 +22,20 @@ pub trait Steps {
     fn next_step(&mut self) -> Option<Step>
         ensures some { IfSome result (λ s. left self.old ≡ s ∷ left self.new) }
         ensures none { IfNone result ((left self.old ≡ []) × (left self.new ≡ [])) };
+
+    /// Takes steps of elements of one item and rank that begin and end one after another, each before the next begins. Their
+    /// places are put into `places`, which is lent empty, at most as many as it has room for; gives their item and rank. `None`,
+    /// and no step is taken, where no such steps come next, or where the order can't tell. Takes no memory.
+    fn next_alone(&mut self, places: &mut Vec<u32>) -> Option<ItemOnRank>
+        requires empty { places.old.items ≡ [] }
+        ensures some { IfSome result (λ of. left self.old ≡ alone of.item of.rank places.new.items ++ left self.new) }
+        ensures more { IfSome result (λ of. 0 < length places.new.items) }
+        ensures none { IfNone result (left self.new ≡ left self.old) }
+        ensures room { vec_capacity places.new ≡ vec_capacity places.old }
+    {
+        let _none_taken = places;
+        None
+    }
 }
 
 /// The steps of a list. Contracts see those still to come.

@@ -20,16 +20,17 @@ loop-next-init g c = record {
 }
 
 pub run_begins-next-requires-clause-ready : goal.run_begins-next-requires-clause-ready
-run_begins-next-requires-clause-ready g c κs within places rest e =
-    let split : g.S.Steps.left c.args.steps.now ≡ r.front ++ (begins c.in-Begin.item c.in-Begin.rank places ++ rest) = r.split ∙ ap (λ z. r.front ++ z) e in
-    let ready = c.steps_are_ready.ensures.begin (g.P.Parts.setup c.args.parts.now) (g.P.Parts.layout c.args.parts.now) (g.P.Parts.tables c.args.parts.now) (g.S.Steps.left c.args.steps.now) c.requires.accepted c.requires.starts.0 c.requires.starts.1 r.front rest c.in-Begin.item c.in-Begin.rank places split c.loop-next.machine (r.shows c.requires.starts.0 c.requires.starts.1 c.requires.starts.2) in
-    let below : count_after open_step 0 (r.front ++ begins c.in-Begin.item c.in-Begin.rank places) ≤ greatest open_step 0 (g.S.Steps.left c.args.steps.now) =
-    subst (λ z. count_after open_step 0 (r.front ++ begins c.in-Begin.item c.in-Begin.rank places) ≤ greatest open_step 0 z) (append_assoc r.front (begins c.in-Begin.item c.in-Begin.rank places) rest ∙ sym split)
-    (count_below open_step 0 (r.front ++ begins c.in-Begin.item c.in-Begin.rank places) rest) in
-    let count = count_append open_step 0 r.front (begins c.in-Begin.item c.in-Begin.rank places) in
-    let opened = opened_by c.in-Begin.item c.in-Begin.rank (count_after open_step 0 r.front) places in
-    let frames = r.frames in
-    let room : length places ≤ c.loop-next.machine.frames.left = omega (arith, below, count, opened, frames, c.requires.peak.opened) in
+run_begins-next-requires-clause-ready g c κs within done k b places rest e at d =
+    let q = reached_more (g.P.Parts.setup c.args.parts.now) (g.P.Parts.layout c.args.parts.now) (g.P.Parts.tables c.args.parts.now) (g.S.Steps.left c.args.steps.now) (Begin c.in-Begin.item c.in-Begin.rank c.in-Begin.place ∷ g.S.Steps.left c.loop-next.steps) (begins k b places ++ rest) done c.args.machine.now c.loop-next.machine at r e d in
+    let split : g.S.Steps.left c.args.steps.now ≡ q.front ++ (begins k b places ++ rest) = q.split in
+    let ready = c.steps_are_ready.ensures.begin (g.P.Parts.setup c.args.parts.now) (g.P.Parts.layout c.args.parts.now) (g.P.Parts.tables c.args.parts.now) (g.S.Steps.left c.args.steps.now) c.requires.accepted c.requires.starts.0 c.requires.starts.1 q.front rest k b places split at (q.shows c.requires.starts.0 c.requires.starts.1 c.requires.starts.2) in
+    let below : count_after open_step 0 (q.front ++ begins k b places) ≤ greatest open_step 0 (g.S.Steps.left c.args.steps.now) =
+    subst (λ z. count_after open_step 0 (q.front ++ begins k b places) ≤ greatest open_step 0 z) (append_assoc q.front (begins k b places) rest ∙ sym split)
+    (count_below open_step 0 (q.front ++ begins k b places) rest) in
+    let count = count_append open_step 0 q.front (begins k b places) in
+    let opened = opened_by k b (count_after open_step 0 q.front) places in
+    let frames = q.frames in
+    let room : length places ≤ at.frames.left = omega (arith, below, count, opened, frames, c.requires.peak.opened) in
     (ready.0, ready.1, ready.2, room)
   where
     r : Reached (g.P.Parts.setup c.args.parts.now) (g.P.Parts.layout c.args.parts.now) (g.P.Parts.tables c.args.parts.now) (g.S.Steps.left c.args.steps.now) (Begin c.in-Begin.item c.in-Begin.rank c.in-Begin.place ∷ g.S.Steps.left c.loop-next.steps) c.args.machine.now c.loop-next.machine

@@ -1,13 +1,38 @@
-use Rattle.std.proofs.Common.{◌≡◌, ◌<◌, ◌+◌, ◌-◌, suc, ◌∷◌, ◌++◌, [], length, sym, ap, subst, ◌∙◌, arith}
+use Rattle.std.proofs.Common.{◌≡◌, ◌<◌, ◌≤◌, ◌+◌, suc, ◌∷◌, ◌++◌, [], length, refl, sym, ap, subst, ◌∙◌, arith}
 use Rattle.schedule_steps.specs.declared.step.Step.TheVariants.{Begin, End}
-use Rattle.flat_machine.specs.Layout.{message_cells}
-use Rattle.flat_machine.specs.Flat.{flat_from}
+use Rattle.flat_machine.specs.Layout.{by_place, message_cells}
+use Rattle.flat_machine.specs.Flat.{flat_step, flat_from}
 use Rattle.rank_state.specs.Shows.{Shows}
-use Rattle.rank_state.specs.Groups.{begins}
+use Rattle.rank_state.specs.Groups.{begins, Planned, AllShut, Distinct}
 use Rattle.rank_exec.specs.Driving.{to_come}
-use Rattle.rank_exec.proofs.Driving.{from_pair}
+use Rattle.rank_exec.proofs.Driving.{done_none, done_more, done_pair, ready_after}
 use Rattle.rank_exec.proofs.Grouping.{after_one, begins_length, opened_by, no_mail_by}
 use Rattle.rank_exec.proofs.group.run_begins.Goals as goal
+
+pub in_place-requires-clause-planned : goal.in_place-requires-clause-planned
+in_place-requires-clause-planned g c = (c.requires.ready [] c.args.item c.args.rank (c.args.place ∷ []) (g.S.Steps.left c.args.steps.now) refl c.args.machine.now (done_none (g.P.Parts.setup c.args.parts.now) (g.P.Parts.layout c.args.parts.now) (g.P.Parts.tables c.args.parts.now) c.args.machine.now)).0.0
+
+pub in_place-requires-clause-shut : goal.in_place-requires-clause-shut
+in_place-requires-clause-shut g c = (c.requires.ready [] c.args.item c.args.rank (c.args.place ∷ []) (g.S.Steps.left c.args.steps.now) refl c.args.machine.now (done_none (g.P.Parts.setup c.args.parts.now) (g.P.Parts.layout c.args.parts.now) (g.P.Parts.tables c.args.parts.now) c.args.machine.now)).1.0
+
+pub in_place-requires-clause-room : goal.in_place-requires-clause-room
+in_place-requires-clause-room g c =
+    let left : 1 ≤ c.args.machine.now.frames.left = (c.requires.ready [] c.args.item c.args.rank (c.args.place ∷ []) (g.S.Steps.left c.args.steps.now) refl c.args.machine.now (done_none (g.P.Parts.setup c.args.parts.now) (g.P.Parts.layout c.args.parts.now) (g.P.Parts.tables c.args.parts.now) c.args.machine.now)).3 in
+    omega (arith, left)
+
+pub run_alone-requires-clause-shows : goal.run_alone-requires-clause-shows
+run_alone-requires-clause-shows g c = (flat_step (g.P.Parts.setup c.args.parts.now) (g.P.Parts.layout c.args.parts.now) (End c.args.item c.args.rank c.args.place) (flat_step (g.P.Parts.setup c.args.parts.now) (g.P.Parts.layout c.args.parts.now) (Begin c.args.item c.args.rank c.args.place) c.requires.shows.0), c.in_place.ensures.shows c.requires.shows.0 c.requires.shows.1)
+
+pub run_alone-requires-clause-ready : goal.run_alone-requires-clause-ready
+run_alone-requires-clause-ready g c =
+    let one : c.push_reserved.new.self.items ≡ c.args.place ∷ [] = c.push_reserved.ensures.items ∙ ap (λ xs. xs ++ (c.args.place ∷ [])) c.clear.ensures.items in
+    let all : begins c.args.item c.args.rank c.collect-next.new.places.items ++ to_come c.collect-next.result (g.S.Steps.left c.collect-next.new.steps) ≡ Begin c.args.item c.args.rank c.args.place ∷ g.S.Steps.left c.args.steps.now =
+    c.collect-next.ensures.all ∙ ap (λ xs. begins c.args.item c.args.rank xs ++ g.S.Steps.left c.args.steps.now) one in
+    let n : length c.collect-next.new.places.items ≡ 1 = omega (arith, c.if-len-eq1.true, c.len.ensures) in
+    let rest : to_come c.collect-next.result (g.S.Steps.left c.collect-next.new.steps) ≡ g.S.Steps.left c.args.steps.now = after_one c.args.item c.args.rank c.args.place c.collect-next.new.places.items (to_come c.collect-next.result (g.S.Steps.left c.collect-next.new.steps)) (g.S.Steps.left c.args.steps.now) n all in
+    let here : g.S.Steps.left c.args.steps.now ≡ End c.args.item c.args.rank c.args.place ∷ g.S.Steps.left c.collect-next.new.steps = sym rest ∙ ap (λ s. to_come s (g.S.Steps.left c.collect-next.new.steps)) (c.is_end.ensures c.if-is_end.true) in
+    let pair = done_pair (g.P.Parts.setup c.args.parts.now) (g.P.Parts.layout c.args.parts.now) (g.P.Parts.tables c.args.parts.now) c.args.item c.args.rank c.args.place c.args.machine.now c.in_place.new.machine c.in_place.ensures.shows c.in_place.ensures.mail c.in_place.ensures.frames in
+    ready_after (g.P.Parts.setup c.args.parts.now) (g.P.Parts.layout c.args.parts.now) (g.P.Parts.tables c.args.parts.now) (Begin c.args.item c.args.rank c.args.place ∷ g.S.Steps.left c.args.steps.now) (Begin c.args.item c.args.rank c.args.place ∷ End c.args.item c.args.rank c.args.place ∷ []) (g.S.Steps.left c.collect-next.new.steps) c.args.machine.now c.in_place.new.machine c.requires.ready (ap (λ z. Begin c.args.item c.args.rank c.args.place ∷ z) here) pair
 
 pub returns-then-is_end-clause-done : goal.returns-then-is_end-clause-done
 returns-then-is_end-clause-done g c =
@@ -16,18 +41,48 @@ returns-then-is_end-clause-done g c =
     c.collect-next.ensures.all ∙ ap (λ xs. begins c.args.item c.args.rank xs ++ g.S.Steps.left c.args.steps.now) one in
     let n : length c.collect-next.new.places.items ≡ 1 = omega (arith, c.if-len-eq1.true, c.len.ensures) in
     let rest : to_come c.collect-next.result (g.S.Steps.left c.collect-next.new.steps) ≡ g.S.Steps.left c.args.steps.now = after_one c.args.item c.args.rank c.args.place c.collect-next.new.places.items (to_come c.collect-next.result (g.S.Steps.left c.collect-next.new.steps)) (g.S.Steps.left c.args.steps.now) n all in
-    let here : g.S.Steps.left c.args.steps.now ≡ End c.args.item c.args.rank c.args.place ∷ to_come c.next_of.result (g.S.Steps.left c.next_of.new.steps) =
-    sym rest ∙ (ap (λ s. to_come s (g.S.Steps.left c.collect-next.new.steps)) (c.is_end.ensures c.if-is_end.true) ∙ ap (λ z. End c.args.item c.args.rank c.args.place ∷ z) c.next_of.ensures.next) in
-    let some : 0 < 2 = omega arith in (
-      Begin c.args.item c.args.rank c.args.place ∷ End c.args.item c.args.rank c.args.place ∷ [],
-      ap (λ z. Begin c.args.item c.args.rank c.args.place ∷ z) here,
+    let here : g.S.Steps.left c.args.steps.now ≡ End c.args.item c.args.rank c.args.place ∷ g.S.Steps.left c.collect-next.new.steps = sym rest ∙ ap (λ s. to_come s (g.S.Steps.left c.collect-next.new.steps)) (c.is_end.ensures c.if-is_end.true) in
+    let pair = done_pair (g.P.Parts.setup c.args.parts.now) (g.P.Parts.layout c.args.parts.now) (g.P.Parts.tables c.args.parts.now) c.args.item c.args.rank c.args.place c.args.machine.now c.in_place.new.machine c.in_place.ensures.shows c.in_place.ensures.mail c.in_place.ensures.frames in
+    let more = c.run_alone.ensures.done in
+    let next : g.S.Steps.left c.collect-next.new.steps ≡ more.0 ++ to_come c.next_of.result (g.S.Steps.left c.next_of.new.steps) = more.1 ∙ ap (λ z. more.0 ++ z) c.next_of.ensures.next in
+    let some : 0 < suc (suc (length more.0)) = omega arith in (
+      Begin c.args.item c.args.rank c.args.place ∷ End c.args.item c.args.rank c.args.place ∷ more.0,
+      ap (λ z. Begin c.args.item c.args.rank c.args.place ∷ z) (here ∙ ap (λ z. End c.args.item c.args.rank c.args.place ∷ z) next),
       some,
-      record {
-        shows = λ f h. subst (Shows (g.P.Parts.setup c.args.parts.now) (g.P.Parts.layout c.args.parts.now) (g.P.Parts.tables c.args.parts.now) c.in_place.new.machine) (sym (from_pair (g.P.Parts.setup c.args.parts.now) (g.P.Parts.layout c.args.parts.now) c.args.item c.args.rank c.args.place f h.stop)) (c.in_place.ensures.shows f h);
-        mail = λ n. ap (λ m. m + n) c.in_place.ensures.mail;
-        frames = λ n. (let e : suc n - 1 ≡ n = omega arith in omega (arith, c.in_place.ensures.frames));
-      },
+      done_more (g.P.Parts.setup c.args.parts.now) (g.P.Parts.layout c.args.parts.now) (g.P.Parts.tables c.args.parts.now) (Begin c.args.item c.args.rank c.args.place ∷ End c.args.item c.args.rank c.args.place ∷ []) more.0 c.args.machine.now c.in_place.new.machine c.run_alone.new.machine pair more.2,
     )
+
+pub begin_group-requires-clause-planned : goal.begin_group-requires-clause-planned
+begin_group-requires-clause-planned g c κs within =
+    let one : c.push_reserved.new.self.items ≡ c.args.place ∷ [] = c.push_reserved.ensures.items ∙ ap (λ xs. xs ++ (c.args.place ∷ [])) c.clear.ensures.items in
+    let all : begins c.args.item c.args.rank c.collect-next.new.places.items ++ to_come c.collect-next.result (g.S.Steps.left c.collect-next.new.steps) ≡ Begin c.args.item c.args.rank c.args.place ∷ g.S.Steps.left c.args.steps.now =
+    c.collect-next.ensures.all ∙ ap (λ xs. begins c.args.item c.args.rank xs ++ g.S.Steps.left c.args.steps.now) one in
+    subst (λ xs. Planned (by_place (g.P.Parts.setup c.args.parts.now) (g.P.Parts.layout c.args.parts.now)) c.args.item c.args.rank xs) (sym c.deref.ensures.value)
+    (c.requires.ready [] c.args.item c.args.rank c.collect-next.new.places.items (to_come c.collect-next.result (g.S.Steps.left c.collect-next.new.steps)) (sym all) c.args.machine.now (done_none (g.P.Parts.setup c.args.parts.now) (g.P.Parts.layout c.args.parts.now) (g.P.Parts.tables c.args.parts.now) c.args.machine.now)).0
+
+pub begin_group-requires-clause-shut : goal.begin_group-requires-clause-shut
+begin_group-requires-clause-shut g c κs within =
+    let one : c.push_reserved.new.self.items ≡ c.args.place ∷ [] = c.push_reserved.ensures.items ∙ ap (λ xs. xs ++ (c.args.place ∷ [])) c.clear.ensures.items in
+    let all : begins c.args.item c.args.rank c.collect-next.new.places.items ++ to_come c.collect-next.result (g.S.Steps.left c.collect-next.new.steps) ≡ Begin c.args.item c.args.rank c.args.place ∷ g.S.Steps.left c.args.steps.now =
+    c.collect-next.ensures.all ∙ ap (λ xs. begins c.args.item c.args.rank xs ++ g.S.Steps.left c.args.steps.now) one in
+    subst (λ xs. AllShut c.args.machine.now.frames.panes c.args.rank xs) (sym c.deref.ensures.value)
+    (c.requires.ready [] c.args.item c.args.rank c.collect-next.new.places.items (to_come c.collect-next.result (g.S.Steps.left c.collect-next.new.steps)) (sym all) c.args.machine.now (done_none (g.P.Parts.setup c.args.parts.now) (g.P.Parts.layout c.args.parts.now) (g.P.Parts.tables c.args.parts.now) c.args.machine.now)).1
+
+pub begin_group-requires-clause-distinct : goal.begin_group-requires-clause-distinct
+begin_group-requires-clause-distinct g c κs within =
+    let one : c.push_reserved.new.self.items ≡ c.args.place ∷ [] = c.push_reserved.ensures.items ∙ ap (λ xs. xs ++ (c.args.place ∷ [])) c.clear.ensures.items in
+    let all : begins c.args.item c.args.rank c.collect-next.new.places.items ++ to_come c.collect-next.result (g.S.Steps.left c.collect-next.new.steps) ≡ Begin c.args.item c.args.rank c.args.place ∷ g.S.Steps.left c.args.steps.now =
+    c.collect-next.ensures.all ∙ ap (λ xs. begins c.args.item c.args.rank xs ++ g.S.Steps.left c.args.steps.now) one in
+    subst (λ xs. Distinct xs) (sym c.deref.ensures.value)
+    (c.requires.ready [] c.args.item c.args.rank c.collect-next.new.places.items (to_come c.collect-next.result (g.S.Steps.left c.collect-next.new.steps)) (sym all) c.args.machine.now (done_none (g.P.Parts.setup c.args.parts.now) (g.P.Parts.layout c.args.parts.now) (g.P.Parts.tables c.args.parts.now) c.args.machine.now)).2
+
+pub begin_group-requires-clause-room : goal.begin_group-requires-clause-room
+begin_group-requires-clause-room g c κs within =
+    let one : c.push_reserved.new.self.items ≡ c.args.place ∷ [] = c.push_reserved.ensures.items ∙ ap (λ xs. xs ++ (c.args.place ∷ [])) c.clear.ensures.items in
+    let all : begins c.args.item c.args.rank c.collect-next.new.places.items ++ to_come c.collect-next.result (g.S.Steps.left c.collect-next.new.steps) ≡ Begin c.args.item c.args.rank c.args.place ∷ g.S.Steps.left c.args.steps.now =
+    c.collect-next.ensures.all ∙ ap (λ xs. begins c.args.item c.args.rank xs ++ g.S.Steps.left c.args.steps.now) one in
+    subst (λ xs. length xs ≤ c.args.machine.now.frames.left) (sym c.deref.ensures.value)
+    (c.requires.ready [] c.args.item c.args.rank c.collect-next.new.places.items (to_come c.collect-next.result (g.S.Steps.left c.collect-next.new.steps)) (sym all) c.args.machine.now (done_none (g.P.Parts.setup c.args.parts.now) (g.P.Parts.layout c.args.parts.now) (g.P.Parts.tables c.args.parts.now) c.args.machine.now)).3
 
 pub returns-clause-done : goal.returns-clause-done
 returns-clause-done g c =

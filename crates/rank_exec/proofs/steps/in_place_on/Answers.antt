@@ -32,3 +32,6 @@ in_place-requires-clause-takes g c =
     (subst (λ n. g.P.Kernels.takes c.args.parts.now c.args.item ((g.P.Parts.layout c.args.parts.now).original c.args.item c.args.rank c.args.place) n (total c.args.spans.now + length c.args.scalars.now)) (sym (ap length c.requires.values ∙ count_values (g.P.Parts.tables c.args.parts.now).constants c.args.machine.now.variables))
     (subst (g.P.Kernels.takes c.args.parts.now c.args.item ((g.P.Parts.layout c.args.parts.now).original c.args.item c.args.rank c.args.place) (length (g.P.Parts.tables c.args.parts.now).constants)) (sym (c.windows_are_counted.ensures.windows (g.P.Parts.setup c.args.parts.now) (g.P.Parts.layout c.args.parts.now) (g.P.Parts.tables c.args.parts.now) c.args.item c.args.rank c.args.place c.args.spans.now c.args.scalars.now c.requires.are))
     (g.met.P.Parts.runs c.args.parts.now c.requires.sound c.args.item ((g.P.Parts.layout c.args.parts.now).original c.args.item c.args.rank c.args.place) (ap is_loop w.0) w.1)))
+
+pub returns-clause-variables : goal.returns-clause-variables
+returns-clause-variables g c = ap (λ (s : State KernelFault). s.variables) c.in_place.ensures
