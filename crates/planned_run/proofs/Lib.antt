@@ -2,3 +2,6 @@ pub mod Elements
 pub mod Counting
 pub mod Peaking
 pub mod SameProgram
+pub mod StandardPeak
+pub mod Messages
+pub mod InSequence

@@ -1,11 +1,13 @@
 //! Programs on several ranks that take their steps in an order that the checker accepts.
 #![tactic(auto)]
 
+mod alone;
 mod orders;
 mod peaks;
+mod rooms;
 mod running;
 
 pub use orders::{Order, judge_list, steps_of};
-pub use peaks::peaks_are_room;
+pub use peaks::{peaks_are_room, standard_has_room};
 pub use rank_program::Outcome;
 pub use running::run_on_ranks;

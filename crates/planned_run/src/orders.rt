@@ -38,8 +38,8 @@ pub enum Order<'a> {
     Listed { steps: &'a [Step], peak: Peak },
 }
 
-/// The drawn order of a plan's steps, in a list. An error is want of memory.
-pub fn drawn_steps(
+// The drawn order of a plan's steps, in a list. An error is want of memory.
+fn drawn_steps(
     alloc: Global,
     bound: &Bound,
     meshes: &[RankMesh],

@@ -4,8 +4,7 @@ use Rattle.std.specs.Prelude.{slice_index, slice_index_or, nat_lt, ◌&&◌}
 use Rattle.std.proofs.lemmas.Bool.{and_parts, ltb-true}
 use Rattle.std.proofs.lemmas.List.{get_or-map, length-map, get_or_default}
 use Rattle.mesh_decl.specs.declared.owners.Owners.{Owners}
-use Rattle.mesh_decl.specs.Mesh.{MeshValue, IsMesh, IsMapAt, IsDatAt, no_mesh, set_size, map_count, dat_count, dat_set, dat_dim, dat_values}
-use Rattle.halo_lists.specs.Halo.{IsInRange}
+use Rattle.mesh_decl.specs.Mesh.{MeshValue, IsMesh, IsDatAt, no_mesh, set_size, dat_count, dat_set, dat_dim, dat_values}
 use Rattle.local_mesh.specs.declared.types.RankMesh.{RankMesh}
 use Rattle.local_mesh.specs.declared.types.LocalSet.{LocalSet}
 use Rattle.local_mesh.specs.LocalMesh.{originals_in, cells_before, AreClosed, AreBases, IsRankMesh}
@@ -23,7 +22,8 @@ use Rattle.bound_plan.specs.Places.{originals, original_at, bases_of, cells_of, 
 use Rattle.bound_plan.specs.Machine.{Stand, ElementsStand}
 use Rattle.rank_program.specs.First.{first_cells, first_variables, FirstCellsStand, MeshesAreClosed}
 use Rattle.rank_program.proofs.MessagesStand.{bases_at}
-use Rattle.rank_program.proofs.RankMeshes.{sets_at, cells_at, size_small, some_at}
+use Rattle.mesh_decl.proofs.Declared.{in_range}
+use Rattle.rank_program.proofs.RankMeshes.{sets_at, cells_at, some_at}
 use Rattle.rank_program.proofs.FirstCells.{whole, cell_is}
 
 -- each cell of a rank is a value of an element
@@ -107,12 +107,11 @@ module _ (first : FirstMemoryHolds) (held : CellsAreHeld) (b : BoundValue) where
 
 -- ---- the law
 
-pub first_cells_stand : ((g : MeshValue) → IsMesh g → (a : ℕ) → a < map_count g → IsMapAt g a)
-    → ((g : MeshValue) → IsMesh g → (d : ℕ) → d < dat_count g → IsDatAt g d)
+pub first_cells_stand : ((g : MeshValue) → IsMesh g → (d : ℕ) → d < dat_count g → IsDatAt g d)
     → ElementsStand → RankMeshesAreClosed → CellsAreOfCopies → FirstMemoryHolds → CellsAreHeld → FirstCellsStand
-first_cells_stand maps dats standing closed copies first held b o n meshes p pl =
+first_cells_stand dats standing closed copies first held b o n meshes p pl =
     let are = pl.distributed.are_meshes in
-    let range : IsInRange b.mesh = record { sizes = size_small b.mesh pl.fits.mesh; maps = maps b.mesh pl.fits.mesh } in
+    let range = in_range b.mesh pl.fits.mesh in
     let there : (r : ℕ) → r < o.ranks → r < length meshes = λ r lr. omega (arith, are.count) in
     let mesh : (r : ℕ) → r < o.ranks → (m : RankMesh) × (m ≡ get_or meshes r m) = λ r lr. itself meshes r (there r lr) in
     let rank_mesh : (r : ℕ) (lr : r < o.ranks) → IsRankMesh b.mesh o n r (mesh r lr).0 =
@@ -139,9 +138,9 @@ first_cells_stand maps dats standing closed copies first held b o n meshes p pl 
       variables_are = variable_is first held b;
     }
 
-pub meshes_are_closed : ((g : MeshValue) → IsMesh g → (a : ℕ) → a < map_count g → IsMapAt g a) → RankMeshesAreClosed → MeshesAreClosed
-meshes_are_closed maps closed b o n meshes p pl r m lt =
+pub meshes_are_closed : RankMeshesAreClosed → MeshesAreClosed
+meshes_are_closed closed b o n meshes p pl r m lt =
     let are = pl.distributed.are_meshes in
     let lr : r < o.ranks = omega (arith, are.count, lt) in
-    closed b.mesh o n r (get_or meshes r m) (record { sizes = size_small b.mesh pl.fits.mesh; maps = maps b.mesh pl.fits.mesh })
+    closed b.mesh o n r (get_or meshes r m) (in_range b.mesh pl.fits.mesh)
     pl.distributed.are_perms (are.ranks r m lr)

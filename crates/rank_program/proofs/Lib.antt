@@ -16,6 +16,7 @@ pub mod FirstCells
 pub mod FirstStand
 pub mod SameStart
 pub mod Held
+pub mod FrameRows
 pub mod FrameWidths
 pub mod OwnedSpans
 pub mod OwnedStand

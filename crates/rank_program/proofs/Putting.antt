@@ -308,3 +308,6 @@ module _ (b : BoundValue) (e : ℕ) where
         let fits = start_within b (different (map (reached b e) (dats_first args))) (reached_at b e args j)
         (has_different (map (reached b e) (dats_first args)) (reached_at b e args j) put.0) in
         omega (arith, from, count, fits)
+
+    pub windows_counted : (places : List Place) (next : ℕ) → AllPut b e args (length args) places next → next ≡ length (frame_cells b args e)
+    windows_counted places next h = (all_seen places next h).next_is

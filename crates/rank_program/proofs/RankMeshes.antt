@@ -1,11 +1,9 @@
 -- The local mesh of a rank.
-use Rattle.std.proofs.Common.{◌≡◌, ◌<◌, ◌≤◌, ◌^◌, ℕ, List, [], ◌∷◌, map, length, get_or, sym, ap, ◌∙◌, subst, ⊎_elim, arith}
-use Rattle.std.proofs.lemmas.Bool.{cases_lt}
-use Rattle.std.proofs.lemmas.List.{get_or-map, get_or_past, get_or_default, length-map}
+use Rattle.std.proofs.Common.{◌≡◌, ◌<◌, ℕ, List, [], ◌∷◌, length, get_or, sym, ap, ◌∙◌, subst, arith}
+use Rattle.std.proofs.lemmas.List.{get_or-map, get_or_default}
 use Rattle.mesh_decl.specs.declared.owners.Owners.{Owners}
 use Rattle.mesh_decl.specs.declared.owners.Perms.{Perms}
-use Rattle.mesh_decl.specs.declared.decl.SetDecl.{SetDecl}
-use Rattle.mesh_decl.specs.Mesh.{MeshValue, IsMesh, IsMapAt, size_in, set_size, map_count}
+use Rattle.mesh_decl.proofs.Declared.{in_range}
 use Rattle.local_mesh.specs.declared.types.RankMesh.{RankMesh}
 use Rattle.local_mesh.specs.LocalMesh.{AreClosed, IsRankMesh}
 use Rattle.local_mesh.specs.Numbers.{RankMeshesAreClosed}
@@ -27,17 +25,6 @@ pub some_at : {A : Type 0} (xs : List A) (i : ℕ) → i < length xs → A
 some_at [] i lt = absurd (omega arith)
 some_at (y ∷ ys) i lt = y
 
-pub size_small : (g : MeshValue) → IsMesh g → (s : ℕ) → set_size g s < 2 ^ 32
-unfolding size_in
-size_small g mesh s = ⊎_elim
-    (λ (lt : s < length g.sets).
-    let d = some_at g.sets s lt in
-    subst (λ z. z < 2 ^ 32) (sym (get_or-map (λ (z : SetDecl). z.size) g.sets s d 0 lt)) (mesh.sizes s d lt))
-    (λ (ge : length g.sets ≤ s).
-    let none : set_size g s ≡ 0 = get_or_past (map (λ (z : SetDecl). z.size) g.sets) s 0 (omega (arith, length-map g.sets (λ (z : SetDecl). z.size))) in
-    omega (arith, none))
-    (cases_lt s (length g.sets))
-
 module _ (b : BoundValue) (o : Owners) (n : Perms) (meshes : List RankMesh) (p : PlanValue) (pl : Planned b o n meshes p) (r : ℕ) (lr : r < o.ranks) where
   pub rank_there : r < length meshes
   rank_there = omega (arith, pl.distributed.are_meshes.count)
@@ -46,9 +33,9 @@ module _ (b : BoundValue) (o : Owners) (n : Perms) (meshes : List RankMesh) (p :
   rank_mesh m is = subst (IsRankMesh b.mesh o n r) (sym is) (pl.distributed.are_meshes.ranks r m lr)
 
   -- its elements are different, and have their targets among them
-  pub closed_at : ((g : MeshValue) → IsMesh g → (a : ℕ) → a < map_count g → IsMapAt g a) → RankMeshesAreClosed → AreClosed b.mesh (sets_of meshes r)
-  closed_at maps closed =
+  pub closed_at : RankMeshesAreClosed → AreClosed b.mesh (sets_of meshes r)
+  closed_at closed =
       let m = get_or meshes r (some_at meshes r rank_there) in
       let is : m ≡ get_or meshes r m = get_or_default meshes r (some_at meshes r rank_there) m rank_there in
       subst (AreClosed b.mesh) (sets_at meshes r m rank_there is)
-      (closed b.mesh o n r m (record { sizes = size_small b.mesh pl.fits.mesh; maps = maps b.mesh pl.fits.mesh }) pl.distributed.are_perms (rank_mesh m is))
+      (closed b.mesh o n r m (in_range b.mesh pl.fits.mesh) pl.distributed.are_perms (rank_mesh m is))

@@ -24,7 +24,8 @@ use Rattle.rank_program.specs.Messages.{element_span, exports_in, imports_in, ex
 use Rattle.rank_program.specs.MessageLaws.{HasLists, ExportsStand, ImportsStand}
 use Rattle.rank_program.specs.SendLaws.{pair_spans, FewExports, ExportsAreFew, MessagesHaveRoom, RoomsStand, HasSpans, SendsStand, ReceivesStand}
 use Rattle.rank_program.proofs.MessagesStand.{exports_at, imports_at, bases_at, set_there, exchange_there, local_exports, local_imports}
-use Rattle.rank_program.proofs.RankMeshes.{some_at, size_small, cells_at}
+use Rattle.mesh_decl.proofs.Declared.{in_range}
+use Rattle.rank_program.proofs.RankMeshes.{some_at, cells_at}
 use Rattle.rank_program.proofs.ElementWindows.{spans_count}
 
 -- ---- counts
@@ -110,7 +111,7 @@ module _ (numbered : (n : ℕ) (t : ℕ → Bool) → HasNumbers n t) (declared 
     few = λ t s r lt ls lr.
         let same = (exports_of t s r lt ls lr).count in
         let most = listed_count (set_size b.mesh t) (λ x. imports b.mesh o t x r && owns o t x s) in
-        let size = size_small b.mesh has.planned.fits.mesh t in
+        let size = (in_range b.mesh has.planned.fits.mesh).sizes t in
         omega (arith, same, most, size);
   }
 

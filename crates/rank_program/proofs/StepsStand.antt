@@ -4,7 +4,6 @@ use Rattle.std.specs.Prelude.{nat_lt}
 use Rattle.std.proofs.lemmas.Bool.{and_parts, ltb-true, cond_both}
 use Rattle.mesh_decl.specs.declared.owners.Owners.{Owners}
 use Rattle.mesh_decl.specs.declared.owners.Perms.{Perms}
-use Rattle.mesh_decl.specs.Mesh.{MeshValue, IsMesh, IsMapAt, map_count}
 use Rattle.local_mesh.specs.declared.types.LocalSet.{LocalSet}
 use Rattle.local_mesh.specs.declared.types.RankMesh.{RankMesh}
 use Rattle.local_mesh.specs.LocalMesh.{AreClosed, executed_in}
@@ -40,7 +39,7 @@ places_few : (meshes : List RankMesh) (site : SiteValue) (r : ℕ) → places_of
 places_few meshes site r = cond_both (scatters site.args) (executed_in (sets_of meshes r) site.set) (own_in (sets_of meshes r) site.set)
     (λ n. n ≤ executed_in (sets_of meshes r) site.set) (λ s. omega arith) (λ s. own_few (sets_of meshes r) site.set)
 
-module _ (there : LoopsAreThere) (maps : (g : MeshValue) → IsMesh g → (a : ℕ) → a < map_count g → IsMapAt g a) (closed : RankMeshesAreClosed)
+module _ (there : LoopsAreThere) (closed : RankMeshesAreClosed)
     (b : BoundValue) (o : Owners) (n : Perms) (meshes : List RankMesh) (p : PlanValue) (pl : Planned b o n meshes p) where
   module _ (k r x : ℕ) (step : IsStep (places b o meshes p) (Begin k r x)) where
     free : kind_of (item_at b k) ≡ Free
@@ -66,7 +65,7 @@ module _ (there : LoopsAreThere) (maps : (g : MeshValue) → IsMesh g → (a : �
 
     begin : IsBegin b o meshes p k r x
     begin =
-        let shut : AreClosed b.mesh (sets_of meshes r) = closed_at b o n meshes p pl r step.2 maps closed in
+        let shut : AreClosed b.mesh (sets_of meshes r) = closed_at b o n meshes p pl r step.2 closed in
         let few = shut.executed (site_of b k).set fit.set in
         let held : x < length (originals_of meshes r (site_of b k).set) = omega (arith, few, executed) in
         record {
@@ -92,9 +91,9 @@ module _ (there : LoopsAreThere) (maps : (g : MeshValue) → IsMesh g → (a : �
     sent = step.4;
   }
 
-pub steps_stand : LoopsAreThere → ((g : MeshValue) → IsMesh g → (a : ℕ) → a < map_count g → IsMapAt g a) → RankMeshesAreClosed → StepsStand
-steps_stand there maps closed b o n meshes p pl = record {
-  begins = begin there maps closed b o n meshes p pl;
-  sends = message there maps closed b o n meshes p pl;
-  receives = λ k r s. message there maps closed b o n meshes p pl k s r;
+pub steps_stand : LoopsAreThere → RankMeshesAreClosed → StepsStand
+steps_stand there closed b o n meshes p pl = record {
+  begins = begin there closed b o n meshes p pl;
+  sends = message there closed b o n meshes p pl;
+  receives = λ k r s. message there closed b o n meshes p pl k s r;
 }

@@ -6,7 +6,7 @@ use Rattle.std.proofs.lemmas.Bool.{false≢true, or_cases}
 use Rattle.rank_sets.specs.Below.{row}
 use Rattle.mesh_decl.specs.declared.owners.Owners.{Owners}
 use Rattle.mesh_decl.specs.declared.owners.Perms.{Perms}
-use Rattle.mesh_decl.specs.Mesh.{MeshValue, IsMesh, IsMapAt, IsDatAt, map_count, dat_count, dat_set, dat_dim, map_from, map_dim, target}
+use Rattle.mesh_decl.specs.Mesh.{MeshValue, IsMesh, IsDatAt, map_count, dat_count, dat_set, dat_dim, map_from, map_dim, target}
 use Rattle.local_mesh.specs.declared.types.RankMesh.{RankMesh}
 use Rattle.local_mesh.specs.LocalMesh.{executed_in, AreLocalTargets, IsRankMesh}
 use Rattle.local_mesh.specs.Numbers.{RankMeshesAreClosed}
@@ -205,8 +205,7 @@ module _ (b : BoundValue) (o : Owners) (meshes : List RankMesh) (r x : ℕ) (m :
 
 -- ---- the law
 
-module _ (maps : (g : MeshValue) → IsMesh g → (a : ℕ) → a < map_count g → IsMapAt g a)
-    (dats : (g : MeshValue) → IsMesh g → (d : ℕ) → d < dat_count g → IsDatAt g d)
+module _ (dats : (g : MeshValue) → IsMesh g → (d : ℕ) → d < dat_count g → IsDatAt g d)
     (standing : ElementsStand) (closed : RankMeshesAreClosed)
     (b : BoundValue) (o : Owners) (n : Perms) (meshes : List RankMesh) (p : PlanValue) (pl : Planned b o n meshes p)
     (s r x : ℕ) (m : RankMesh) (here : IsPlaceOf b o meshes s r x m) where
@@ -223,7 +222,7 @@ module _ (maps : (g : MeshValue) → IsMesh g → (a : ℕ) → a < map_count g 
   fits = pl.fits.sites s no_site here.loop
 
   held_at : executed_in (sets_of meshes r) (site_at b s).set ≤ length (originals meshes r (site_at b s).set)
-  held_at = (closed_at b o n meshes p pl r here.rank maps closed).executed (site_at b s).set fits.set
+  held_at = (closed_at b o n meshes p pl r here.rank closed).executed (site_at b s).set fits.set
 
   pub windows_at : (writes : ℕ → Bool) → AreDatWindows b meshes (site_at b s) r x writes (spans_after (arg_span b.mesh m x writes) (site_at b s).args [])
   windows_at writes = dat_windows b o meshes r x m writes (dats b.mesh pl.fits.mesh) (standing b o n meshes p pl r here.rank)
@@ -234,12 +233,10 @@ module _ (maps : (g : MeshValue) → IsMesh g → (a : ℕ) → a < map_count g 
       (bases_at meshes r m there here.part) targets_at (site_at b s) fits here.place held_at
       mesh.bases.count mesh.maps_count (cells_at meshes r m there here.part)
 
-pub windows_stand : ((g : MeshValue) → IsMesh g → (a : ℕ) → a < map_count g → IsMapAt g a)
-    → ((g : MeshValue) → IsMesh g → (d : ℕ) → d < dat_count g → IsDatAt g d)
+pub windows_stand : ((g : MeshValue) → IsMesh g → (d : ℕ) → d < dat_count g → IsDatAt g d)
     → ElementsStand → RankMeshesAreClosed → DatWindowsStand
-windows_stand maps dats standing closed b o n meshes p pl s r x m writes here = windows_at maps dats standing closed b o n meshes p pl s r x m here writes
+windows_stand dats standing closed b o n meshes p pl s r x m writes here = windows_at dats standing closed b o n meshes p pl s r x m here writes
 
-pub args_stand : ((g : MeshValue) → IsMesh g → (a : ℕ) → a < map_count g → IsMapAt g a)
-    → ((g : MeshValue) → IsMesh g → (d : ℕ) → d < dat_count g → IsDatAt g d)
+pub args_stand : ((g : MeshValue) → IsMesh g → (d : ℕ) → d < dat_count g → IsDatAt g d)
     → ElementsStand → RankMeshesAreClosed → ArgsAreHere
-args_stand maps dats standing closed b o n meshes p pl s r x m here = args_at maps dats standing closed b o n meshes p pl s r x m here
+args_stand dats standing closed b o n meshes p pl s r x m here = args_at dats standing closed b o n meshes p pl s r x m here

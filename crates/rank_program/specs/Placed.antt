@@ -49,4 +49,5 @@ module _ (b : BoundValue) (e : ℕ) (args : List Arg) where
   -- all those on dats, and those on variables among the first i
   abbrev pub AllPut : ℕ → List Place → ℕ → Type 0
   AllPut i places next =
-      ArePut (map (reached b e) (on_dats args ++ on_variables (take i args))) (λ k. (k < i) ⊎ (is_dat (get_or args k no_arg) ≡ true)) places next
+      ArePut (map (reached b e) (on_dats args ++ on_variables (take i args))) (λ k. (k < i)
+      ⊎ (is_dat (get_or args k no_arg) ≡ true)) places next

@@ -54,7 +54,8 @@ pub fn push_element<'p>(
     requires step { IsStep (by_place (setup_in program.now) (layout_in program.now)) (Begin item rank place) }
     requires empty { spans.old.items ≡ [] }
     requires room { program.now.tables.spans ≤ vec_capacity spans.old }
-    ensures are { AreWindows (setup_in program.now) (layout_in program.now) (tables_in program.now) item rank place spans.new.items result.now }
+    ensures are { AreWindows (setup_in program.now) (layout_in program.now)
+        (tables_in program.now) item rank place spans.new.items result.now }
     ensures room { vec_capacity spans.new ≡ vec_capacity spans.old }
 {
     steps_stand();

@@ -23,7 +23,7 @@ fn targets_of(bound: &Bound, args: &[Arg], element: u32) -> Targets
     ensures within { PlacesIn (length (frame_cells (bound_of bound.now) args.now element)) (take (length args.now) result.places) }
 {
     let mut places = [Place { from: 0, count: 0 }; MOST_ARGS];
-    put_windows(bound, args, element, &mut places[..args.len()]);
+    let _cells = put_windows(bound, args, element, &mut places[..args.len()]);
     Targets { places }
 }
 

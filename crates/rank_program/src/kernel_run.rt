@@ -1,6 +1,6 @@
 // A kernel's run on an element's frame.
 
-ghost use Rattle.std.specs.Prelude.{◌≡◌, ◌<◌, ◌≤◌, [], ◌∷◌, length};
+ghost use Rattle.std.specs.Prelude.{◌≡◌, ◌<◌, ◌≤◌, [], ◌∷◌, IfSome, length};
 ghost use Rattle.kernel_types.specs.Resolved.{IsResolved};
 ghost use Rattle.kernel_model.specs.Meaning.{kernel_meaning};
 ghost use Rattle.kernel_code.specs.Coded.{IsCode};
@@ -10,18 +10,17 @@ ghost use Rattle.bound_program.specs.Values.{bound_of, site_of};
 ghost use Rattle.bound_program.specs.Fits.{SiteFits};
 ghost use Rattle.rank_state.specs.Core.{ran_of};
 ghost use Rattle.bound_plan.specs.Windows.{frame_cells, frame_windows};
+ghost use Rattle.rank_program.specs.Frames.{AreFrameWindows};
 
+use crate::tables::FrameWindows;
 use crate::windows::{MAX_ARGS, put_windows};
 use bound_program::{Bound, Site};
 use kernel_code::{Code, run_on};
 use kernel_types::KernelFault;
 use views::Place;
 
-/// Runs a loop's kernel for an element on the windows of its frame, with the values of all constants. Takes no memory.
-///
-/// # Errors
-/// The first fault of the run.
-pub fn run_kernel(
+// Runs a loop's kernel on the windows of an element's frame, wherever they stand.
+fn run_anywhere(
     bound: &Bound,
     site: &Site,
     code: &Code<'_>,
@@ -43,6 +42,41 @@ pub fn run_kernel(
 {
     let mut room = [Place { from: 0, count: 0 }; MAX_ARGS];
     let places = &mut room[..site.args.len()];
-    put_windows(bound, &site.args, element, places);
+    let _cells = put_windows(bound, &site.args, element, places);
     run_on(code, windows, places, constants, scratch)
+}
+
+/// Runs a loop's kernel for an element on the windows of its frame, with the values of all constants. `frames` says where the
+/// windows stand in the loop's frames that are alike. Takes no memory.
+///
+/// # Errors
+/// The first fault of the run.
+pub fn run_kernel(
+    bound: &Bound,
+    site: &Site,
+    frames: &Option<FrameWindows>,
+    code: &Code<'_>,
+    element: u32,
+    constants: &[i32],
+    windows: &mut [i32],
+    scratch: &mut [i32],
+) -> Result<(), KernelFault>
+    requires site { SiteFits (bound_of bound.now) (site_of site.now) }
+    requires frames { IfSome frames.now (AreFrameWindows (bound_of bound.now) (site_of site.now)) }
+    requires element { element < set_size bound.now.mesh site.now.set }
+    requires code { IsCode code.now }
+    requires params { length site.now.args.items ≡ code.now.kernel.now.params }
+    requires resolved { IsResolved (length constants.now) code.now.kernel.now }
+    requires windows { length windows.old ≡ length (frame_cells (bound_of bound.now) site.now.args.items element) }
+    requires scratch { code.now.slots ≤ length scratch.old }
+    ensures { ran_of windows.new result
+        ≡ core_of (kernel_meaning (frame_windows (bound_of bound.now) site.now.args.items element) constants.now code.now.kernel.now
+        (windows.old ∷ [])) }
+{
+    if let Some(found) = frames {
+        if found.cells == windows.len() {
+            return run_on(code, windows, &found.places, constants, scratch);
+        }
+    }
+    run_anywhere(bound, site, code, element, constants, windows, scratch)
 }

@@ -8,5 +8,4 @@ pub fn steps_stand()
 {
     run_model::items_are_there();
     local_mesh::rank_meshes_are_closed();
-    mesh_decl::declarations_hold();
 }

@@ -8,6 +8,7 @@ mod element_windows;
 mod elements;
 mod exchanges;
 mod first;
+mod frame_table;
 mod items;
 mod job_targets;
 mod joins;

@@ -9,6 +9,7 @@ ghost use Rattle.loop_plan.specs.Values.{plan_of};
 ghost use Rattle.rank_program.specs.Made.{HaveRoom, AreMade};
 
 use crate::constant_table::constant_table;
+use crate::frame_table::frame_table;
 use crate::place_table::place_table;
 use crate::scalar_tables::{loop_indices, loop_scalars};
 use crate::tables::MachineTables;
@@ -25,7 +26,8 @@ impl MachineTables {
     /// The tables of a bound program on several ranks with its plan; `spans` is enough for the spans of an element's
     /// frame and of each message. All variables together have fewer than 2^64 cells.
     ///
-    /// It takes time linear in the program's arguments and their cells, and in its Free loops times the ranks.
+    /// It takes time linear in the program's arguments and their cells, in the elements of its loops, and in its Free loops times
+    /// the ranks.
     ///
     /// # Errors
     /// Want of memory alone.
@@ -49,6 +51,7 @@ impl MachineTables {
         let indices = loop_indices(alloc, &scalars)?;
         let constants = constant_table(alloc, bound, &starts)?;
         let writes = loop_writes(alloc, bound)?;
+        let frames = frame_table(alloc, bound)?;
         let places = place_table(alloc, plan, owners.ranks)?;
         Ok(MachineTables {
             constants,
@@ -57,6 +60,7 @@ impl MachineTables {
             scalars,
             indices,
             writes,
+            frames,
             places,
             stride: stride(bound),
             spans,

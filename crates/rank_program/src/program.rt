@@ -118,9 +118,13 @@ impl<'a> Kernels for DistributedProgram<'a> {
     ) -> Result<(), KernelFault> {
         run_model::items_are_there();
         run_model::constants_are_read();
-        let site = &self.bound.sites[loop_of(self.bound, item) as usize];
+        let number = loop_of(self.bound, item) as usize;
+        let site = &self.bound.sites[number];
+        let frames = &self.tables.frames[number];
         let code = &self.codes[site.kernel as usize];
-        run_kernel(self.bound, site, code, element, constants, windows, scratch)
+        run_kernel(
+            self.bound, site, frames, code, element, constants, windows, scratch,
+        )
     }
 
     fn put_targets(&self, item: u32, tasks: &[Task], targets: &mut Vec<Targets>) {

@@ -202,8 +202,14 @@ fn put_dats(bound: &Bound, args: &[Arg], numbers: &[u32], places: &mut [Place]) 
     next
 }
 
-// Puts down the windows of the arguments on variables, behind those on dats.
-fn put_variables(bound: &Bound, args: &[Arg], numbers: &[u32], from: usize, places: &mut [Place])
+// Puts down the windows of the arguments on variables, behind those on dats, and gives where they end.
+fn put_variables(
+    bound: &Bound,
+    args: &[Arg],
+    numbers: &[u32],
+    from: usize,
+    places: &mut [Place],
+) -> usize
     requires named { All (ArgNamed (bound_of bound.now)) args.now }
     requires few { length args.now ≤ 16 }
     requires count { length args.now ≤ length numbers.now }
@@ -211,25 +217,27 @@ fn put_variables(bound: &Bound, args: &[Arg], numbers: &[u32], from: usize, plac
     requires from { from ≤ 1024 }
     ensures { (e : ℕ) → AreNumbers (bound_of bound.now) e args.now numbers.now
         → DatsPut (bound_of bound.now) e args.now (length args.now) places.old from
-        → (next : ℕ) × AllPut (bound_of bound.now) e args.now (length args.now) places.new next }
+        → AllPut (bound_of bound.now) e args.now (length args.now) places.new result }
 {
     let mut next = from;
     for i in 0..args.len() {
         next = put_variable(bound, args, numbers, i, next, places);
     }
+    next
 }
 
-/// Puts down where the windows of at most 16 arguments of at most 64 cells stand in an element's frame; `places` has as
-/// many places as there are arguments. Takes no memory.
-pub fn put_windows(bound: &Bound, args: &[Arg], element: u32, places: &mut [Place])
+/// Puts down where the windows of at most 16 arguments of at most 64 cells stand in an element's frame, and gives how many cells
+/// the frame has; `places` has as many places as there are arguments. Takes no memory.
+pub fn put_windows(bound: &Bound, args: &[Arg], element: u32, places: &mut [Place]) -> usize
     requires there { All (ArgThere (bound_of bound.now) element) args.now }
     requires few { length args.now ≤ 16 }
     requires count { length places.old ≡ length args.now }
     ensures places { map target_of places.new ≡ frame_windows (bound_of bound.now) args.now element }
     ensures within { PlacesIn (length (frame_cells (bound_of bound.now) args.now element)) places.new }
+    ensures count { result ≡ length (frame_cells (bound_of bound.now) args.now element) }
 {
     let mut numbers = [0; MAX_ARGS];
     put_numbers(bound, args, element, &mut numbers);
     let next = put_dats(bound, args, &numbers, places);
-    put_variables(bound, args, &numbers, next, places);
+    put_variables(bound, args, &numbers, next, places)
 }

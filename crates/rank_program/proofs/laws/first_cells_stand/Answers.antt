@@ -3,8 +3,8 @@ use Rattle.rank_program.proofs.laws.first_cells_stand.Goals as goal
 
 pub returns-clause-stand : goal.returns-clause-stand
 returns-clause-stand c =
-    first_cells_stand c.declarations_hold.ensures.maps c.declarations_hold.ensures.dats c.elements_stand.ensures c.rank_meshes_are_closed.ensures
+    first_cells_stand c.declarations_hold.ensures.dats c.elements_stand.ensures c.rank_meshes_are_closed.ensures
     c.cells_are_of_copies.ensures c.memory_holds.ensures.first c.variables_hold.ensures.are
 
 pub returns-clause-closed : goal.returns-clause-closed
-returns-clause-closed c = meshes_are_closed c.declarations_hold.ensures.maps c.rank_meshes_are_closed.ensures
+returns-clause-closed c = meshes_are_closed c.rank_meshes_are_closed.ensures

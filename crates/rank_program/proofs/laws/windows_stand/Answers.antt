@@ -2,7 +2,7 @@ use Rattle.rank_program.proofs.WindowsStand.{windows_stand, args_stand}
 use Rattle.rank_program.proofs.laws.windows_stand.Goals as goal
 
 pub returns-clause-stand : goal.returns-clause-stand
-returns-clause-stand c = windows_stand c.declarations_hold.ensures.maps c.declarations_hold.ensures.dats c.elements_stand.ensures c.rank_meshes_are_closed.ensures
+returns-clause-stand c = windows_stand c.declarations_hold.ensures.dats c.elements_stand.ensures c.rank_meshes_are_closed.ensures
 
 pub returns-clause-here : goal.returns-clause-here
-returns-clause-here c = args_stand c.declarations_hold.ensures.maps c.declarations_hold.ensures.dats c.elements_stand.ensures c.rank_meshes_are_closed.ensures
+returns-clause-here c = args_stand c.declarations_hold.ensures.dats c.elements_stand.ensures c.rank_meshes_are_closed.ensures

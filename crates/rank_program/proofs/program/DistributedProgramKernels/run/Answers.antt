@@ -1,7 +1,12 @@
-use Rattle.std.proofs.Common.{◌<◌, length, get_or, refl, sym, ap, subst, ◌∙◌, arith}
+use Rattle.std.proofs.Common.{◌≡◌, ◌<◌, length, get_or, refl, sym, ap, subst, ◌∙◌, arith}
+use Rattle.std.specs.Prelude.{Option, None, IfSome}
+use Rattle.std.proofs.lemmas.List.{get_or_default, length-map}
 use Rattle.mesh_decl.specs.Mesh.{set_size}
 use Rattle.bound_program.specs.Values.{SiteValue, bound_of, site_of}
+use Rattle.bound_program.specs.Fits.{site_at}
 use Rattle.bound_plan.specs.Windows.{frame_cells, core_with, site_core}
+use Rattle.rank_program.specs.declared.tables.FrameWindows.{FrameWindows}
+use Rattle.rank_program.specs.Frames.{AreFrameWindows}
 use Rattle.rank_program.proofs.ItemParts.{takes, kernel_of, resolved}
 use Rattle.rank_program.proofs.ProgramRun.{site_there, site_same, site_fit, code_there}
 use Rattle.rank_program.proofs.program.DistributedProgramKernels.run.Goals as goal
@@ -10,29 +15,55 @@ pub index-site-requires : goal.index-site-requires
 index-site-requires c =
     let b = bound_of c.args.self.now.bound.now in
     let t = c.requires.takes in
-    let lt = site_there b t.sound.runnable.planned.fits c.items_are_there.ensures.loops c.args.item c.loop_of.result t.is_loop c.loop_of.ensures
+    let lt = site_there b t.sound.runnable.planned.fits c.items_are_there.ensures.loops c.args.item c.loop_of-number.result t.is_loop c.loop_of-number.ensures
     c.args.self.now.bound.now.sites.items refl in
     omega (arith, lt)
+
+pub index-frames-requires : goal.index-frames-requires
+index-frames-requires c =
+    let b = bound_of c.args.self.now.bound.now in
+    let t = c.requires.takes in
+    let lt = site_there b t.sound.runnable.planned.fits c.items_are_there.ensures.loops c.args.item c.loop_of-number.result t.is_loop c.loop_of-number.ensures
+    c.args.self.now.bound.now.sites.items refl in
+    omega (arith, lt, t.sound.made.frame_count, length-map c.args.self.now.bound.now.sites.items site_of)
 
 pub bounds-self-site : goal.bounds-self-site
 bounds-self-site c =
     let b = bound_of c.args.self.now.bound.now in
     let t = c.requires.takes in
-    code_there b t.sound.runnable.planned.fits c.items_are_there.ensures.loops c.args.item c.loop_of.result t.is_loop c.loop_of.ensures
+    code_there b t.sound.runnable.planned.fits c.items_are_there.ensures.loops c.args.item c.loop_of-number.result t.is_loop c.loop_of-number.ensures
     c.args.self.now.bound.now.sites.items refl c.index-site.result.now c.index-site.ensures c.args.self.now.codes.now t.sound.codes
 
 pub run_kernel-requires-clause-site : goal.run_kernel-requires-clause-site
 run_kernel-requires-clause-site c =
     let b = bound_of c.args.self.now.bound.now in
     let t = c.requires.takes in
-    site_fit b t.sound.runnable.planned.fits c.items_are_there.ensures.loops c.args.item c.loop_of.result t.is_loop c.loop_of.ensures
+    site_fit b t.sound.runnable.planned.fits c.items_are_there.ensures.loops c.args.item c.loop_of-number.result t.is_loop c.loop_of-number.ensures
     c.args.self.now.bound.now.sites.items refl c.index-site.result.now c.index-site.ensures
+
+pub run_kernel-requires-clause-frames : goal.run_kernel-requires-clause-frames
+run_kernel-requires-clause-frames c =
+    let b = bound_of c.args.self.now.bound.now in
+    let t = c.requires.takes in
+    let x = c.index-site.result.now in
+    let f = c.args.self.now.tables.frames.items in
+    let n = c.loop_of-number.result in
+    let there = site_there b t.sound.runnable.planned.fits c.items_are_there.ensures.loops c.args.item n t.is_loop c.loop_of-number.ensures
+    c.args.self.now.bound.now.sites.items refl in
+    let ls : n < length b.sites = omega (arith, there, length-map c.args.self.now.bound.now.sites.items site_of) in
+    let lf : n < length f = omega (arith, ls, t.sound.made.frame_count) in
+    let same = site_same b t.sound.runnable.planned.fits c.items_are_there.ensures.loops c.args.item n t.is_loop c.loop_of-number.ensures
+    c.args.self.now.bound.now.sites.items refl x c.index-site.ensures in
+    let at : site_at b n ≡ site_of x = ap (λ m. site_at b m) c.loop_of-number.ensures ∙ same in
+    let read : get_or f n None ≡ c.index-frames.result.now = get_or_default f n None c.index-frames.result.now lf ∙ sym c.index-frames.ensures in
+    subst (λ (s : SiteValue). IfSome c.index-frames.result.now (AreFrameWindows b s)) at
+    (subst (λ (o : Option FrameWindows). IfSome o (AreFrameWindows b (site_at b n))) read (t.sound.made.frames n ls))
 
 pub run_kernel-requires-clause-element : goal.run_kernel-requires-clause-element
 run_kernel-requires-clause-element c =
     let b = bound_of c.args.self.now.bound.now in
     let t = c.requires.takes in
-    let same = site_same b t.sound.runnable.planned.fits c.items_are_there.ensures.loops c.args.item c.loop_of.result t.is_loop c.loop_of.ensures
+    let same = site_same b t.sound.runnable.planned.fits c.items_are_there.ensures.loops c.args.item c.loop_of-number.result t.is_loop c.loop_of-number.ensures
     c.args.self.now.bound.now.sites.items refl c.index-site.result.now c.index-site.ensures in
     subst (λ (s : SiteValue). c.args.element < set_size b.mesh s.set) same t.element
 
@@ -40,7 +71,7 @@ pub run_kernel-requires-clause-code : goal.run_kernel-requires-clause-code
 run_kernel-requires-clause-code c =
     let b = bound_of c.args.self.now.bound.now in
     let t = c.requires.takes in
-    let lt = code_there b t.sound.runnable.planned.fits c.items_are_there.ensures.loops c.args.item c.loop_of.result t.is_loop c.loop_of.ensures
+    let lt = code_there b t.sound.runnable.planned.fits c.items_are_there.ensures.loops c.args.item c.loop_of-number.result t.is_loop c.loop_of-number.ensures
     c.args.self.now.bound.now.sites.items refl c.index-site.result.now c.index-site.ensures c.args.self.now.codes.now t.sound.codes in
     t.sound.codes.each c.index-site.result.now.kernel c.index-self-site.result lt
 
@@ -49,9 +80,9 @@ run_kernel-requires-clause-params c =
     let b = bound_of c.args.self.now.bound.now in
     let t = c.requires.takes in
     let x = c.index-site.result.now in
-    let fit = site_fit b t.sound.runnable.planned.fits c.items_are_there.ensures.loops c.args.item c.loop_of.result t.is_loop c.loop_of.ensures
+    let fit = site_fit b t.sound.runnable.planned.fits c.items_are_there.ensures.loops c.args.item c.loop_of-number.result t.is_loop c.loop_of-number.ensures
     c.args.self.now.bound.now.sites.items refl x c.index-site.ensures in
-    let lt = code_there b t.sound.runnable.planned.fits c.items_are_there.ensures.loops c.args.item c.loop_of.result t.is_loop c.loop_of.ensures
+    let lt = code_there b t.sound.runnable.planned.fits c.items_are_there.ensures.loops c.args.item c.loop_of-number.result t.is_loop c.loop_of-number.ensures
     c.args.self.now.bound.now.sites.items refl x c.index-site.ensures c.args.self.now.codes.now t.sound.codes in
     let f = (get_or c.args.self.now.codes.now x.kernel c.index-self-site.result).kernel.now in
     takes b t.sound.runnable.planned.fits (site_of x) fit f (t.sound.codes.of_kernel x.kernel c.index-self-site.result f lt)
@@ -61,9 +92,9 @@ run_kernel-requires-clause-resolved c =
     let b = bound_of c.args.self.now.bound.now in
     let t = c.requires.takes in
     let x = c.index-site.result.now in
-    let fit = site_fit b t.sound.runnable.planned.fits c.items_are_there.ensures.loops c.args.item c.loop_of.result t.is_loop c.loop_of.ensures
+    let fit = site_fit b t.sound.runnable.planned.fits c.items_are_there.ensures.loops c.args.item c.loop_of-number.result t.is_loop c.loop_of-number.ensures
     c.args.self.now.bound.now.sites.items refl x c.index-site.ensures in
-    let lt = code_there b t.sound.runnable.planned.fits c.items_are_there.ensures.loops c.args.item c.loop_of.result t.is_loop c.loop_of.ensures
+    let lt = code_there b t.sound.runnable.planned.fits c.items_are_there.ensures.loops c.args.item c.loop_of-number.result t.is_loop c.loop_of-number.ensures
     c.args.self.now.bound.now.sites.items refl x c.index-site.ensures c.args.self.now.codes.now t.sound.codes in
     let f = (get_or c.args.self.now.codes.now x.kernel c.index-self-site.result).kernel.now in
     resolved b t.sound.runnable.planned.fits (site_of x) fit f (t.sound.codes.of_kernel x.kernel c.index-self-site.result f lt)
@@ -73,7 +104,7 @@ pub run_kernel-requires-clause-windows : goal.run_kernel-requires-clause-windows
 run_kernel-requires-clause-windows c =
     let b = bound_of c.args.self.now.bound.now in
     let t = c.requires.takes in
-    let same = site_same b t.sound.runnable.planned.fits c.items_are_there.ensures.loops c.args.item c.loop_of.result t.is_loop c.loop_of.ensures
+    let same = site_same b t.sound.runnable.planned.fits c.items_are_there.ensures.loops c.args.item c.loop_of-number.result t.is_loop c.loop_of-number.ensures
     c.args.self.now.bound.now.sites.items refl c.index-site.result.now c.index-site.ensures in
     t.windows ∙ ap (λ (s : SiteValue). length (frame_cells b s.args c.args.element)) same
 
@@ -81,7 +112,7 @@ pub run_kernel-requires-clause-scratch : goal.run_kernel-requires-clause-scratch
 run_kernel-requires-clause-scratch c =
     let b = bound_of c.args.self.now.bound.now in
     let t = c.requires.takes in
-    let lt = code_there b t.sound.runnable.planned.fits c.items_are_there.ensures.loops c.args.item c.loop_of.result t.is_loop c.loop_of.ensures
+    let lt = code_there b t.sound.runnable.planned.fits c.items_are_there.ensures.loops c.args.item c.loop_of-number.result t.is_loop c.loop_of-number.ensures
     c.args.self.now.bound.now.sites.items refl c.index-site.result.now c.index-site.ensures c.args.self.now.codes.now t.sound.codes in
     let room = t.sound.room c.index-site.result.now.kernel c.index-self-site.result lt in
     omega (arith, room, c.requires.room)
@@ -91,11 +122,11 @@ returns c =
     let b = bound_of c.args.self.now.bound.now in
     let t = c.requires.takes in
     let x = c.index-site.result.now in
-    let fit = site_fit b t.sound.runnable.planned.fits c.items_are_there.ensures.loops c.args.item c.loop_of.result t.is_loop c.loop_of.ensures
+    let fit = site_fit b t.sound.runnable.planned.fits c.items_are_there.ensures.loops c.args.item c.loop_of-number.result t.is_loop c.loop_of-number.ensures
     c.args.self.now.bound.now.sites.items refl x c.index-site.ensures in
-    let same = site_same b t.sound.runnable.planned.fits c.items_are_there.ensures.loops c.args.item c.loop_of.result t.is_loop c.loop_of.ensures
+    let same = site_same b t.sound.runnable.planned.fits c.items_are_there.ensures.loops c.args.item c.loop_of-number.result t.is_loop c.loop_of-number.ensures
     c.args.self.now.bound.now.sites.items refl x c.index-site.ensures in
-    let lt = code_there b t.sound.runnable.planned.fits c.items_are_there.ensures.loops c.args.item c.loop_of.result t.is_loop c.loop_of.ensures
+    let lt = code_there b t.sound.runnable.planned.fits c.items_are_there.ensures.loops c.args.item c.loop_of-number.result t.is_loop c.loop_of-number.ensures
     c.args.self.now.bound.now.sites.items refl x c.index-site.ensures c.args.self.now.codes.now t.sound.codes in
     let f = (get_or c.args.self.now.codes.now x.kernel c.index-self-site.result).kernel.now in
     c.run_kernel.ensures
