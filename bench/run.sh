@@ -1,12 +1,12 @@
 #!/bin/sh
 # Times `op2 run` on grids of doubling size: the residual on edges (examples/residual.c), and a program in the manner of OP2's airfoil, with nodes,
 # cells, edges, boundary edges and ten turns of five loops. Prints time and peak memory, beside those of plain C loops where gcc is there.
-# Usage: bench/run.sh [N ..]     (cells a side; 100 200 400 where none is given)
+# Usage: bench/run.sh [N ..]     (cells a side; 70 140 280 where none is given; a plan of 400 has too many steps)
 here=$(CDPATH= cd -- "$(dirname -- "$0")/.." && pwd) || exit 1
 work=$(mktemp -d) || exit 1
 trap 'rm -rf "$work"' EXIT
 "$here/op2" run "$here/examples/bump.c" "$here/examples/bump.mesh" >/dev/null || exit 1
-[ $# -gt 0 ] || set -- 100 200 400
+[ $# -gt 0 ] || set -- 70 140 280
 cat >"$work/airfoil.c" <<'C'
 extern int nnode; extern int ncell; extern int nedge; extern int nbedge;
 extern int cell[]; extern int ecell[]; extern int bcell[]; extern int wall0[]; extern int x0[]; extern int q0[]; extern int zero[];

@@ -16,17 +16,16 @@ use Rattle.kernel_model.specs.Trees.{WalksAlike}
 use Rattle.bind_refusals.specs.declared.refusals.BindRefusal.{BindRefusal}
 use Rattle.bound_program.specs.Values.{BoundValue}
 use Rattle.loop_bind.specs.Bound.{bound}
-use Rattle.run_model.specs.Programs.{printed, first_fault}
-use Rattle.bound_plan.specs.OneRun.{KernelsAreOne, ProgramsAreOne}
+use Rattle.bound_plan.specs.OneRun.{KernelsAreOne}
 use Rattle.op_outside.specs.Outside.{Files}
 use Rattle.answers.specs.Refusal.{SourceBytes, MeshBytes, Refusal}
 use Rattle.answers.specs.Lines.{Answer, refused, line_of}
 use Rattle.answers.specs.Said.{SaysTypes, SaysMesh, SaysBinding}
 use Rattle.mesh_text.specs.declared.entry.Form.{Form}
 use Rattle.mesh_gen.specs.Sample.{sample_source, sample_mesh}
-use Rattle.answers.specs.Words.{Job, Run, PlanJob, Options, Input, InFiles, OfSample, Command, OnProgram, OnPlan, Converts, ShowsUsage, ShowsVersion, WordsAre}
+use Rattle.answers.specs.Words.{PlanJob, Options, Input, InFiles, OfSample, Command, OnPlan, Converts, ShowsUsage, ShowsVersion, WordsAre}
 use Rattle.answers.specs.Judgements.{SourceIs, FileIs, MeshIs, TreeIs, TypesAre, EntriesAre, BoundIs, AccessesAre}
-use Rattle.answers.specs.Answers.{given, ran, JobAnswers, PlannedAnswers, BoundAnswers, ConvertAnswers, CommandAnswers}
+use Rattle.answers.specs.Answers.{given, PlannedAnswers, BoundAnswers, ConvertAnswers, CommandAnswers}
 use Rattle.answers.specs.Laws.{LacksTree, SourceLacksTree, Agree, AnswersAgree}
 use Rattle.answers.proofs.Given.{given_both, given_alike}
 use Rattle.answers.proofs.IsOne.{IsOne, held_is_one, told_is_one}
@@ -34,7 +33,7 @@ use Rattle.answers.proofs.Within.{within}
 use Rattle.answers.proofs.SaidOnce.{types_once, mesh_once, binding_once, source_status}
 use Rattle.answers.proofs.Trees.{tree_lines}
 use Rattle.answers.proofs.Sites.{site_found, first_found, accesses_none, accesses_some}
-use Rattle.answers.proofs.SameKernels.{sites_found, answer_same}
+use Rattle.answers.proofs.SameKernels.{sites_found}
 use Rattle.answers.proofs.SameBound.{IsSame, SameOutcome, same_bound}
 
 -- what is answered of two bound programs that are the same but for their kernels is one
@@ -63,15 +62,7 @@ mesh_is_one : (input : Input) (files : Files) → IsOne (MeshIs input files)
 mesh_is_one (InFiles source mesh) files = held_is_one MeshBytes mesh (files mesh)
 mesh_is_one (OfSample side) files = told_is_one (sample_mesh side)
 
-module _ (walks_alike : WalksAlike) (kernels_are_one : KernelsAreOne) (programs_are_one : ProgramsAreOne) (one_read : (bytes : List ℕ) (a b : Read) → Spelled bytes a → Spelled bytes b → a ≡ b) (one_outcome : (bytes : List ℕ) (a b : lexer.Outcome) → Lexes bytes a → Lexes bytes b → a ≡ b) (one_tree : (bytes : List ℕ) (a b : ProgramTree) → Reads bytes a → Reads bytes b → a ≡ b) (one_resolved : (p : ProgramTree) (a b : names.Outcome) → Resolves p a → Resolves p b → a ≡ b) (walk_finds : WalkFinds) (obeys : ObeysUnlessBroken) (one_breach : OneRefusal) (plans_alike : (j : PlanJob) (o : Options) (files : Files) → 0 < o.ranks → Alike (PlannedAnswers j o files)) where
-  -- ---- the run
-
-  jobs_alike : (j : Job) → Alike (JobAnswers j)
-  jobs_alike Run b c same x y h k = h ∙ e ∙ sym k
-    where
-      e : ran (first_fault b) (printed b) ≡ ran (first_fault c) (printed c)
-      e = answer_same programs_are_one b c.kernels same.1 ∙ ap (λ d. ran (first_fault d) (printed d)) (sym same.0)
-
+module _ (walks_alike : WalksAlike) (kernels_are_one : KernelsAreOne) (one_read : (bytes : List ℕ) (a b : Read) → Spelled bytes a → Spelled bytes b → a ≡ b) (one_outcome : (bytes : List ℕ) (a b : lexer.Outcome) → Lexes bytes a → Lexes bytes b → a ≡ b) (one_tree : (bytes : List ℕ) (a b : ProgramTree) → Reads bytes a → Reads bytes b → a ≡ b) (one_resolved : (p : ProgramTree) (a b : names.Outcome) → Resolves p a → Resolves p b → a ≡ b) (walk_finds : WalkFinds) (obeys : ObeysUnlessBroken) (one_breach : OneRefusal) (plans_alike : (j : PlanJob) (o : Options) (files : Files) → 0 < o.ranks → Alike (PlannedAnswers j o files)) where
   -- ---- accesses
 
   -- what is found in the loops' kernels
@@ -220,8 +211,6 @@ module _ (walks_alike : WalksAlike) (kernels_are_one : KernelsAreOne) (programs_
       by_line (inr n) = inr (f n)
 
   commands_agree : (words : List (List ℕ)) (files : Files) (c : Command) → WordsAre words (Ok c) → (a b : Answer) → CommandAnswers c files a → CommandAnswers c files b → Agree words files a b
-  commands_agree words files (OnProgram j input) asks a b h k =
-      agree_for words files (Lacks input files) (λ l. record { command = OnProgram j input; input = input; bytes = l.0; asks = asks; from = refl; held = l.1; lacks = l.2 }) a b (programs_agree (JobAnswers j) (jobs_alike j) input files a b h k)
   commands_agree words files (OnPlan j o input) asks a b h k =
       agree_for words files (Lacks input files) (λ l. record { command = OnPlan j o input; input = input; bytes = l.0; asks = asks; from = refl; held = l.1; lacks = l.2 }) a b
       (programs_agree (PlannedAnswers j o files) (plans_alike j o files (within words j o input asks).some) input files a b h k)

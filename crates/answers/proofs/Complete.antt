@@ -5,7 +5,7 @@ use Rattle.answers.specs.Lines.{Answer}
 use Rattle.distribute.specs.Parts.{Parts}
 use Rattle.bound_program.specs.Values.{BoundValue}
 use Rattle.answers.specs.Refusal.{Refusal}
-use Rattle.answers.specs.Words.{PlanJob, Parting, ByRule, ByFile, Schedule, Standard, Drawn, Written, Options, group_of, Command, OnProgram, OnPlan, InFiles, OfSample, Converts, ShowsUsage, ShowsVersion, names_by, names_at, names_in, names_of, named_by}
+use Rattle.answers.specs.Words.{PlanJob, Parting, ByRule, ByFile, Schedule, Standard, Drawn, Written, Options, group_of, Command, OnPlan, InFiles, OfSample, Converts, ShowsUsage, ShowsVersion, names_by, names_at, names_in, names_of, named_by}
 use Rattle.answers.specs.Judgements.{SourceIs, TreeIs, TypesAre, MeshIs, EntriesAre, BoundIs, AccessesAre, NumbersOf, PartsOf, OwnersOf, Planned, PlanIs, Order, OrderOf, outline_of, StepsOf}
 use Rattle.answers.specs.Answers.{given, planned_answer, PlannedAnswers, PlanAnswers, CommandAnswers, Answers}
 use Rattle.answers.specs.Endings.{Ending, Answered, OutOfMemory, Unread, Unwritten, ending_status, unwritten_status, Call, Tells, TellsUntold, no_files, IsWritten, EndsBy, Ends, TellTheAnswer, IsComplete}
@@ -52,8 +52,6 @@ sample_over j o side none f g =
 
 -- a command that names no file has its answers over any
 same_command : (c : Command) → names_of c ≡ [] → (f g : Files) (a : Answer) → CommandAnswers c f a → CommandAnswers c g a
-same_command (OnProgram j (InFiles source mesh)) none f g a h = absurd (let bad : ⊥ = cc in bad)
-same_command (OnProgram j (OfSample side)) none f g a h = h
 same_command (OnPlan j o (InFiles source mesh)) none f g a h = absurd (let bad : ⊥ = cc in bad)
 same_command (OnPlan j o (OfSample side)) none f g a h = sample_over j o side none f g a h
 same_command (Converts form mesh) none f g a h = absurd (let bad : ⊥ = cc in bad)

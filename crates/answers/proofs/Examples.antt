@@ -8,7 +8,7 @@ use Rattle.answers.specs.Refusal.{CannotRead, TooDeep, NoTokens, BadName, BadTar
 use Rattle.answers.specs.Lines.{line_of, fault_line}
 use Rattle.distribute.specs.Parts.{Block, Bisect, Grow}
 use Rattle.schedule_steps.specs.declared.step.Step.TheVariants.{Send, Recv, Begin, Join}
-use Rattle.answers.specs.Words.{Run, Check, ShowsPlan, ShowsSchedule, RunsPlan, ByRule, ByFile, Standard, Drawn, Written, InFiles, OfSample, OnProgram, OnPlan, Converts, ShowsUsage, ShowsVersion, WordsAre}
+use Rattle.answers.specs.Words.{Options, Check, ShowsPlan, ShowsSchedule, RunsPlan, ByRule, ByFile, Standard, Drawn, Written, InFiles, OfSample, OnPlan, Converts, ShowsUsage, ShowsVersion, WordsAre}
 
 -- ---- lines
 
@@ -91,15 +91,19 @@ line_of_schedule_steps = refl
 
 -- ---- words
 
-a_run : WordsAre (codes "op2" ∷ codes "run" ∷ codes "s.c" ∷ codes "m" ∷ []) (Ok (OnProgram Run (InFiles (codes "s.c") (codes "m"))))
+-- a plan's options where none is told
+abbrev plainly : Options
+plainly = record { ranks = 1; parting = ByRule Block; renumber = None; block = 256; schedule = Standard; workers = 1; dumps = false }
+
+a_run : WordsAre (codes "op2" ∷ codes "run" ∷ codes "s.c" ∷ codes "m" ∷ []) (Ok (OnPlan RunsPlan plainly (InFiles (codes "s.c") (codes "m"))))
 unfolding clap_on_literals
 a_run = refl
 
-a_run_behind_dashes : WordsAre (codes "op2" ∷ codes "--" ∷ codes "run" ∷ codes "-s" ∷ codes "-" ∷ []) (Ok (OnProgram Run (InFiles (codes "-s") (codes "-"))))
+a_run_behind_dashes : WordsAre (codes "op2" ∷ codes "--" ∷ codes "run" ∷ codes "-s" ∷ codes "-" ∷ []) (Ok (OnPlan RunsPlan plainly (InFiles (codes "-s") (codes "-"))))
 unfolding clap_on_literals
 a_run_behind_dashes = refl
 
-a_sample : WordsAre (codes "op2" ∷ codes "sample" ∷ codes "020" ∷ []) (Ok (OnProgram Run (OfSample 20)))
+a_sample : WordsAre (codes "op2" ∷ codes "sample" ∷ codes "020" ∷ []) (Ok (OnPlan RunsPlan plainly (OfSample 20)))
 unfolding clap_on_literals
 a_sample = refl
 
@@ -144,7 +148,7 @@ unfolding clap_on_literals
 another_job = refl
 
 a_check : WordsAre (codes "op2" ∷ codes "check" ∷ codes "s.c" ∷ codes "m" ∷ [])
-    (Ok (OnPlan Check (record { ranks = 1; parting = ByRule Block; renumber = None; block = 256; schedule = Standard; workers = 1; dumps = false }) (InFiles (codes "s.c") (codes "m"))))
+    (Ok (OnPlan Check plainly (InFiles (codes "s.c") (codes "m"))))
 unfolding clap_on_literals
 a_check = refl
 

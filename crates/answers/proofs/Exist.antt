@@ -1,6 +1,5 @@
 -- There is an answer to all words.
-use Rattle.std.proofs.Common.{◌≡◌, ◌^◌, ◌≢◌, ◌≤◌, ◌<◌, ◌⊎◌, inl, inr, ℕ, suc, List, length, Option, Some, None, Result, Ok, Err, refl, sym, ap, ◌∙◌, subst, arith}
-use Rattle.std.proofs.lemmas.Bool.{cases_lt}
+use Rattle.std.proofs.Common.{◌≡◌, ◌^◌, ◌≢◌, ◌≤◌, ◌<◌, ◌⊎◌, inl, inr, ℕ, List, length, Result, Ok, Err, refl, sym, ap, ◌∙◌, subst, arith}
 use Rattle.c_lex.specs.declared.tokens.Token.{Token}
 use Rattle.c_lex.specs.declared.refusals.LexRefusal.{LexRefusal}
 use Rattle.c_lex.specs.declared.refusals.LexRefusal.TheVariants as lex
@@ -18,36 +17,27 @@ use Rattle.name_resolution.specs.Programs.{Resolves, resolved}
 use Rattle.kernel_model.specs.Refusals.{ObeysUnlessBroken, OneRefusal}
 use Rattle.kernel_model.specs.Walk.{WalkFinds}
 use Rattle.mesh_text.specs.declared.entry.MeshRefusal.TheVariants as mesh
-use Rattle.mesh_text.specs.Spelling.{Named}
+use Rattle.mesh_text.specs.Spelling.{Named, Spells}
 use Rattle.mesh_text.specs.Reading.{Read, Reads as Spelled, Refuses}
 use Rattle.bind_refusals.specs.declared.refusals.BindRefusal.{BindRefusal}
 use Rattle.bind_refusals.specs.declared.refusals.BindRefusal.TheVariants as bind
 use Rattle.bound_program.specs.Values.{BoundValue}
 use Rattle.loop_bind.specs.Bound.{bound}
 use Rattle.op_outside.specs.Outside.{Files}
-use Rattle.answers.specs.Refusal.{Limit, SourceBytes, MeshBytes, Refusal, CannotRead, NoTree, TooDeep, BeyondLimit}
+use Rattle.answers.specs.Refusal.{SourceBytes, MeshBytes, Refusal, NoTree, TooDeep}
 use Rattle.answers.specs.Lines.{Answer, most}
 use Rattle.mesh_gen.specs.Sample.{sample_source}
-use Rattle.answers.specs.Words.{Job, Run, Input, InFiles, OfSample, Command, OnProgram, OnPlan, Converts, ShowsUsage, ShowsVersion, WordsAre}
-use Rattle.answers.specs.Judgements.{IsHeld, IsUnread, SourceIs, MeshIs, TreeIs, TypesAre, EntriesAre, BoundIs}
-use Rattle.answers.specs.Answers.{JobAnswers, ProgramAnswers, CommandAnswers}
-use Rattle.answers.specs.Laws.{IsOfNoPlan, AnswersExist}
+use Rattle.answers.specs.Words.{PlanJob, Options, Input, InFiles, OfSample, Command, OnPlan, Converts, ShowsUsage, ShowsVersion, WordsAre}
+use Rattle.answers.specs.Judgements.{IsUnread, SourceIs, MeshIs, TreeIs, TypesAre, EntriesAre, BoundIs}
+use Rattle.answers.specs.Answers.{BoundAnswers, PlannedAnswers, CommandAnswers}
+use Rattle.answers.specs.Laws.{AreWithin, AnswersExist}
 use Rattle.answers.proofs.Given.{given_one}
+use Rattle.answers.proofs.Held.{held_exists, held_within}
+use Rattle.answers.proofs.PlansExist.{Suits}
 use Rattle.answers.proofs.SaidOnce.{lex_said, types_said, mesh_said, binding_said}
 use Rattle.answers.proofs.Trees.{shallow_or_deep}
 use Rattle.answers.proofs.Sites.{accesses_exist}
-
-held_exists : (l : Limit) (name : List ℕ) (o : Option (List ℕ)) → ¬ ((r : Result (List ℕ) Refusal) → ¬ IsHeld l name o r)
-held_exists l name None none = none (Err (CannotRead name)) refl
-held_exists l name (Some held) none = by_size (cases_lt (most l) (length held))
-  where
-    by_size : (most l < length held) ⊎ (length held ≤ most l) → ⊥
-    by_size (inl lt) = none (Err (BeyondLimit l (suc (most l)))) (refl, lt)
-    by_size (inr le) = none (Ok held) (refl, le)
-
-held_within : (l : Limit) (name : List ℕ) (o : Option (List ℕ)) (bytes : List ℕ) → IsHeld l name o (Ok bytes) → length bytes ≤ most l
-held_within l name None bytes h = absurd h
-held_within l name (Some held) bytes h = rw h.0 h.1
+use Rattle.answers.proofs.Within.{within}
 
 source_exists : (input : Input) (files : Files) → ¬ ((r : Result (List ℕ) Refusal) → ¬ SourceIs input files r)
 source_exists (InFiles source mesh) files none = held_exists SourceBytes source (files source) none
@@ -70,7 +60,17 @@ has_cause parts AtOpenComment l e is = let bad : ⊥ = cc in bad
 has_cause parts AtOpenText l e is = let bad : ⊥ = cc in bad
 has_cause parts AtNumberTooLarge l e is = let bad : ⊥ = cc in bad
 
-module _ (some_lexed : (bytes : List ℕ) → (o : Outcome) × Lexes bytes o) (some_types : (p : ProgramTree) → (o : names.Outcome) × Resolves p o) (types_causes : (p : ProgramTree) → ¬ Resolves p (Err types.OutOfMemory)) (some_kernels : (bytes : List ℕ) (p : ProgramTree) → Reads bytes p → length bytes < 2 ^ 63 → (r : Resolved) × (resolved_of r ≡ resolved p)) (deep : (bytes : List ℕ) (p : ProgramTree) (n : ℕ) → Deep bytes p n → IsFar bytes (place_at p.places bytes n)) (causes : (p : ProgramTree) (types : Resolved) (es : List Named) → bound p types es ≢ Err bind.OutOfMemory) (some_read : (bytes : List ℕ) → (o : Read) × Spelled bytes o) (mesh_causes : (bytes : List ℕ) → ¬ Refuses bytes mesh.OutOfMemory) (one_outcome : (bytes : List ℕ) (a b : Outcome) → Lexes bytes a → Lexes bytes b → a ≡ b) (one_depth : (bytes : List ℕ) (a b : ProgramTree) (n m : ℕ) → Deep bytes a n → Deep bytes b m → n ≡ m) (one_shape : (bytes : List ℕ) (a b : ProgramTree) (n : ℕ) → Reads bytes a → Deep bytes b n → ⊥) (walk_finds : WalkFinds) (obeys : ObeysUnlessBroken) (one_breach : OneRefusal) where
+-- what is bound of a source that was read and of a mesh text suits
+abbrev pub SourcesSuit : Type 0
+SourcesSuit =
+    (bytes text : List ℕ) (p : ProgramTree) (types : Resolved) (es : List Named) (b : BoundValue)
+    → Reads bytes p → Resolves p (Ok (resolved_of types)) → Spells text es → bound p types es ≡ Ok b → Suits b
+
+-- there is an answer of each plan that is asked for
+abbrev pub PlansAnswered : Type 0
+PlansAnswered = (j : PlanJob) (o : Options) (files : Files) → AreWithin o → (b : BoundValue) → Suits b → ¬ ((a : Answer) → ¬ PlannedAnswers j o files b a)
+
+module _ (some_lexed : (bytes : List ℕ) → (o : Outcome) × Lexes bytes o) (some_types : (p : ProgramTree) → (o : names.Outcome) × Resolves p o) (types_causes : (p : ProgramTree) → ¬ Resolves p (Err types.OutOfMemory)) (some_kernels : (bytes : List ℕ) (p : ProgramTree) → Reads bytes p → length bytes < 2 ^ 63 → (r : Resolved) × (resolved_of r ≡ resolved p)) (deep : (bytes : List ℕ) (p : ProgramTree) (n : ℕ) → Deep bytes p n → IsFar bytes (place_at p.places bytes n)) (causes : (p : ProgramTree) (types : Resolved) (es : List Named) → bound p types es ≢ Err bind.OutOfMemory) (some_read : (bytes : List ℕ) → (o : Read) × Spelled bytes o) (mesh_causes : (bytes : List ℕ) → ¬ Refuses bytes mesh.OutOfMemory) (one_outcome : (bytes : List ℕ) (a b : Outcome) → Lexes bytes a → Lexes bytes b → a ≡ b) (one_depth : (bytes : List ℕ) (a b : ProgramTree) (n m : ℕ) → Deep bytes a n → Deep bytes b m → n ≡ m) (one_shape : (bytes : List ℕ) (a b : ProgramTree) (n : ℕ) → Reads bytes a → Deep bytes b n → ⊥) (walk_finds : WalkFinds) (obeys : ObeysUnlessBroken) (one_breach : OneRefusal) (suits : SourcesSuit) (planned : PlansAnswered) where
   -- bytes that the lexer refuses have no tree
   unlexed : (bytes : List ℕ) (l : LexRefusal) → Lexes bytes (Err l) → IsUnread bytes (source.Lex l)
   unlexed bytes l h = record {
@@ -142,27 +142,30 @@ module _ (some_lexed : (bytes : List ℕ) → (o : Outcome) × Lexes bytes o) (s
       by_outcome (Ok es) h = none (Ok es) h
       by_outcome (Err e) h = let said = mesh_said e (λ m. mesh_causes bytes (subst (λ f. Refuses bytes f) m h)) in none (Err said.0) (e, h, said.1)
 
-  program_exists : (j : Job) (input : Input) (files : Files) → ¬ ((a : Answer) → ¬ ProgramAnswers j input files a)
-  program_exists j input files =
+  -- ---- the program
+
+  -- there is an answer where there is one of each bound program that suits
+  bound_answers : (rest : BoundValue → Answer → Type 0) → ((b : BoundValue) → Suits b → ¬ ((a : Answer) → ¬ rest b a))
+      → (input : Input) (files : Files) → ¬ ((a : Answer) → ¬ BoundAnswers rest input files a)
+  bound_answers rest after input files =
       given_one _ _ (source_exists input files) (λ bytes held.
       given_one _ _ (tree_exists bytes) (λ p reads.
-      given_one _ _ (types_exist bytes p (source_within input files bytes held) reads) (λ types _.
+      given_one _ _ (types_exist bytes p (source_within input files bytes held) reads) (λ types resolves.
       given_one _ _ (mesh_exists input files) (λ text _.
-      given_one _ _ (entries_exist text) (λ es _.
-      given_one _ _ (bound_exists p types es) (λ b _.
-      given_one _ _ (accesses_exist walk_finds obeys one_breach b) (λ u _. job_exists j b)))))))
-    where
-      job_exists : (j : Job) (b : BoundValue) → ¬ ((a : Answer) → ¬ JobAnswers j b a)
-      job_exists Run b none = none _ refl
+      given_one _ _ (entries_exist text) (λ es spells.
+      given_one _ _ (bound_exists p types es) (λ b is.
+      given_one _ _ (accesses_exist walk_finds obeys one_breach b) (λ u _. after b (suits bytes text p types es b reads resolves spells.0 is))))))))
 
-  command_exists : (c : Command) (files : Files) → IsOfNoPlan c → ¬ ((a : Answer) → ¬ CommandAnswers c files a)
-  command_exists (OnProgram j input) files about none = program_exists j input files none
-  command_exists (OnPlan j o input) files about none = about
-  command_exists (Converts form mesh) files about none =
+  -- ---- commands
+
+  command_answers : (words : List (List ℕ)) (files : Files) (c : Command) → WordsAre words (Ok c) → ¬ ((a : Answer) → ¬ CommandAnswers c files a)
+  command_answers words files (OnPlan j o input) asks =
+      bound_answers (PlannedAnswers j o files) (planned j o files (within words j o input asks)) input files
+  command_answers words files (Converts form mesh) asks =
       given_one _ _ (held_exists MeshBytes mesh (files mesh)) (λ text _.
-      given_one _ _ (entries_exist text) (λ es _ n. n _ refl)) none
-  command_exists ShowsUsage files about none = none _ refl
-  command_exists ShowsVersion files about none = none _ refl
+      given_one _ _ (entries_exist text) (λ es _ n. n _ refl))
+  command_answers words files ShowsUsage asks = λ none. none _ refl
+  command_answers words files ShowsVersion asks = λ none. none _ refl
 
   pub answers_exist : AnswersExist
-  answers_exist words files asks = given_one (WordsAre words) (λ c. CommandAnswers c files) (λ none. none _ refl) (λ c h. command_exists c files (asks c h))
+  answers_exist words files = given_one (WordsAre words) (λ c. CommandAnswers c files) (λ none. none _ refl) (command_answers words files)

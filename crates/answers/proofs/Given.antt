@@ -28,6 +28,10 @@ given_one {A} J f some after none = some by_outcome
     by_outcome (Err r) j = none (refused r) (inl (r, j, refl))
     by_outcome (Ok x) j = after x j (λ a h. none a (inr (x, j, h)))
 
+-- there is one with a fact, where the fact is so
+pub given_with : {F : Type 0} {P : Answer → Type 0} → F → ¬ ((a : Answer) → ¬ P a) → ¬ ((a : Answer) → ¬ (F × P a))
+given_with fact some none = some (λ a h. none a (fact, h))
+
 -- the same, where both look at one thing, which has one outcome
 pub given_alike : {A : Type 0} (J : Result A Refusal → Type 0) (f g : A → Answer → Type 0) (G : Answer → Answer → Type 0)
     → ((r s : Refusal) → J (Err r) → J (Err s) → G (refused r) (refused s))

@@ -5,10 +5,13 @@ mod Sites
 mod SameKernels
 mod SameBound
 mod IsOne
+mod Held
 mod Within
 mod SchedulesAgree
 mod PlansAgree
 mod Agreed
+mod SchedulesExist
+mod PlansExist
 mod Exist
 mod Complete
 mod WordsRefused

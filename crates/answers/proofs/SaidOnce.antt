@@ -143,6 +143,24 @@ mesh_said (mesh.NumberRange line) n = (_, refl)
 mesh_said (mesh.Limit size) n = (_, refl)
 mesh_said mesh.OutOfMemory n = absurd (n refl)
 
+pub numbers_said : (e : NumbersRefusal) → (r : Refusal) × SaysNumbers e r
+numbers_said (UnknownMap name) = (_, refl)
+
+pub partition_said : (e : PartRefusal) → e ≢ part.OutOfMemory → (r : Refusal) × SaysPartition e r
+partition_said (part.Header line) n = (_, refl)
+partition_said (part.Syntax line) n = (_, refl)
+partition_said (part.UnknownSet line) n = (_, refl)
+partition_said (part.MissingSet line) n = (_, refl)
+partition_said (part.WrongCount line) n = (_, refl)
+partition_said (part.RankRange line) n = (_, refl)
+partition_said part.OutOfMemory n = absurd (n refl)
+
+pub schedule_said : (e : ScheduleTextRefusal) → e ≢ text.OutOfMemory → (r : Refusal) × SaysSchedule e r
+schedule_said (text.Header line) n = (_, refl)
+schedule_said (text.Syntax line) n = (_, refl)
+schedule_said text.TooManySteps n = (_, refl)
+schedule_said text.OutOfMemory n = absurd (n refl)
+
 pub binding_said : (p : ProgramTree) (e : BindRefusal) → e ≢ bind.OutOfMemory → (r : Refusal) × SaysBinding p e r
 binding_said p (bind.UnknownSet at) n = (_, refl)
 binding_said p (bind.UnknownMap at) n = (_, refl)

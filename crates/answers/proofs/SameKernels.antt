@@ -10,7 +10,7 @@ use Rattle.schedule_model.specs.Sequential.{sequential}
 use Rattle.bound_program.specs.Values.{BoundValue}
 use Rattle.run_model.specs.Kernels.{kernel_at}
 use Rattle.run_model.specs.Arguments.{modes_of}
-use Rattle.run_model.specs.Programs.{printed, printed_in, first_fault, stop_in}
+use Rattle.run_model.specs.Programs.{printed_in, first_fault, stop_in}
 use Rattle.bound_plan.specs.Memories.{unless_stopped, run_output}
 use Rattle.bound_plan.specs.OneRun.{SameTree, with_kernels, KernelsAreOne, ProgramsAreOne}
 use Rattle.answers.specs.Lines.{Answer}
@@ -33,8 +33,5 @@ abbrev ran_by : List ℕ → Program KernelFault → Answer
 ran_by dump p = ran (stop_in (sequential p)) (unless_stopped (stop_in (sequential p)) (printed_in (sequential p)) dump)
 
 module _ (programs_are_one : ProgramsAreOne) (b : BoundValue) (ls : List RKernel) (same : map rkernel_of b.kernels ≡ map rkernel_of ls) where
-  pub answer_same : ran (first_fault b) (printed b) ≡ ran (first_fault (with_kernels b ls)) (printed (with_kernels b ls))
-  answer_same = ap (λ (p : Program KernelFault). ran (stop_in (sequential p)) (printed_in (sequential p))) (programs_are_one b ls same)
-
   pub output_same : (dump : List ℕ) → ran (first_fault b) (run_output b dump) ≡ ran (first_fault (with_kernels b ls)) (run_output (with_kernels b ls) dump)
   output_same dump = ap (ran_by dump) (programs_are_one b ls same)

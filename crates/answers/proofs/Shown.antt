@@ -4,14 +4,14 @@ use Rattle.kernel_types.specs.declared.faults.KernelFault.{KernelFault}
 use Rattle.schedule_model.specs.Sequential.{Stop}
 use Rattle.schedule_steps.specs.declared.step.Step.{Step}
 use Rattle.bound_program.specs.Values.{BoundValue}
-use Rattle.run_model.specs.Programs.{printed, first_fault}
+use Rattle.run_model.specs.Programs.{first_fault}
 use Rattle.mesh_text.specs.Canonical.{canonical}
 use Rattle.op_outside.specs.Outside.{Files, appended, AppendsFront}
 use Rattle.answers.specs.Refusal.{Refusal, Usage, CannotRead, NoTokens, NoTree, TooDeep, BadName, BadBinding, BadTarget, BadAccess, BadMesh, BadPart, BadPartition, BadSchedule, BadStep, EarlyStep, LeftStep, BeyondLimit, status_of}
 use Rattle.answers.specs.Lines.{Answer, done, refused, faulted}
-use Rattle.answers.specs.Words.{Job, Run, PlanJob, Check, ShowsPlan, ShowsSchedule, RunsPlan, Options, group_of, Input, Command, OnProgram, OnPlan, Converts, ShowsUsage, ShowsVersion, WordsAre, named_by}
+use Rattle.answers.specs.Words.{PlanJob, Check, ShowsPlan, ShowsSchedule, RunsPlan, Options, group_of, Input, Command, OnPlan, Converts, ShowsUsage, ShowsVersion, WordsAre, named_by}
 use Rattle.answers.specs.Judgements.{SourceIs, TreeIs, TypesAre, FileIs, MeshIs, EntriesAre, BoundIs, AccessesAre, NumbersOf, PartsOf, OwnersOf, Planned, PlanIs, OrderOf, outline_of, StepsOf}
-use Rattle.answers.specs.Answers.{given, ran, JobAnswers, planned_answer, PlannedAnswers, BoundAnswers, CommandAnswers, Answers}
+use Rattle.answers.specs.Answers.{given, ran, planned_answer, PlannedAnswers, BoundAnswers, CommandAnswers, Answers}
 use Rattle.answers.specs.Endings.{Ending, Answered, OutOfMemory, Unread, Unwritten, ending_status, unwritten_status, Call, IsSomeAnswer, TellsUntold, Tells, no_files, IsWritten, EndsBy, Ends, Shows, IsShown, IsSilent}
 use Rattle.answers.specs.Laws.{Agree, AnswersAgree}
 use Rattle.answers.proofs.Complete.{tells_answer}
@@ -30,9 +30,6 @@ given_form J f rest a (inr h) = rest h.0 a h.2
 ran_form : (o : Option (Stop KernelFault)) (bytes : List ℕ) (a : Answer) → a ≡ ran o bytes → Form a
 ran_form None bytes a e = IsDone bytes e
 ran_form (Some x) bytes a e = IsFaulted bytes x e
-
-job_form : (j : Job) (b : BoundValue) (a : Answer) → JobAnswers j b a → Form a
-job_form Run b a h = ran_form (first_fault b) (printed b) a h
 
 plan_job_form : (j : PlanJob) (dumps : Bool) (b : BoundValue) (p : Planned) (steps : List Step) (a : Answer) → a ≡ planned_answer j dumps b p steps → Form a
 plan_job_form Check dumps b p steps a e = IsDone _ e
@@ -60,7 +57,6 @@ bound_form rest form input files =
     given_form (AccessesAre b) _ (λ u a h. form b a h)))))))
 
 command_form : (c : Command) (files : Files) (a : Answer) → CommandAnswers c files a → Form a
-command_form (OnProgram j input) files a h = bound_form (JobAnswers j) (job_form j) input files a h
 command_form (OnPlan j o input) files a h = bound_form (PlannedAnswers j o files) (planned_form j o files) input files a h
 command_form (Converts form mesh) files a h =
     given_form (FileIs mesh files) _ (λ text. given_form (EntriesAre text) (λ es a. a ≡ done (canonical form es)) (λ es a h. IsDone (canonical form es) h)) a h

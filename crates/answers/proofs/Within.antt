@@ -12,7 +12,7 @@ use Rattle.op_num.specs.Spelling.{number_of}
 use Rattle.mesh_gen.specs.declared.places.TheConstants.{MAX_SIDE}
 use Rattle.answers.specs.declared.limits.TheConstants.{MAX_RANKS, MAX_BLOCK, MAX_WORKERS}
 use Rattle.answers.specs.Refusal.{Refusal}
-use Rattle.answers.specs.Words.{PlanJob, Check, ShowsPlan, ShowsSchedule, RunsPlan, Parting, Schedule, Options, Input, InFiles, OfSample, Command, OnPlan, command, number_to, number_or, form_of, OptionWords, options_in, parting_of, schedule_of, options_with, options_of, plans_nothing, is_plain, runs, on_files, samples, converts, plans, by_job, or_usage, asked, judged, WordsAre}
+use Rattle.answers.specs.Words.{PlanJob, Check, ShowsPlan, ShowsSchedule, RunsPlan, Parting, Schedule, Options, Input, InFiles, OfSample, Command, OnPlan, command, number_to, number_or, form_of, OptionWords, options_in, parting_of, schedule_of, options_with, options_of, plans_nothing, on_files, samples, converts, plans, by_job, or_usage, asked, judged, WordsAre}
 use Rattle.answers.specs.Laws.{AreWithin}
 
 -- P is so of what there is
@@ -89,21 +89,18 @@ converts_hold input (Some mesh) w = tt
 plans_hold : (j : PlanJob) (input : Input) (w : OptionWords) → Holds IsWithin (plans j input w)
 plans_hold j input w = holds_if IsWithin (is_some w.form) _ _ tt (holds_map AreWithin IsWithin _ (options_of w) (options_hold w) (λ o h. h))
 
-runs_hold : (input : Input) (w : OptionWords) → Holds IsWithin (runs input w)
-runs_hold input w = holds_if IsWithin (is_plain w) _ _ tt (plans_hold RunsPlan input w)
-
 files_hold : (job : Input → OptionWords → Option Command) → ((input : Input) (w : OptionWords) → Holds IsWithin (job input w))
     → (input : List ℕ) (mesh : Option (List ℕ)) (w : OptionWords) → Holds IsWithin (on_files job input mesh w)
 files_hold job h input None w = tt
 files_hold job h input (Some mesh) w = h (InFiles input mesh) w
 
 samples_hold : (input : List ℕ) (mesh : Option (List ℕ)) (w : OptionWords) → Holds IsWithin (samples input mesh w)
-samples_hold input None w = holds_then Any IsWithin _ (number_to MAX_SIDE input) (any (number_to MAX_SIDE input)) (λ side _. runs_hold (OfSample side) w)
+samples_hold input None w = holds_then Any IsWithin _ (number_to MAX_SIDE input) (any (number_to MAX_SIDE input)) (λ side _. plans_hold RunsPlan (OfSample side) w)
 samples_hold input (Some mesh) w = tt
 
 jobs_hold : (job input : List ℕ) (mesh : Option (List ℕ)) (w : OptionWords) → Holds IsWithin (by_job job input mesh w)
 jobs_hold job input mesh w =
-    holds_if IsWithin (bytes_eq job (codes "run")) _ _ (files_hold runs runs_hold input mesh w)
+    holds_if IsWithin (bytes_eq job (codes "run")) _ _ (files_hold (plans RunsPlan) (plans_hold RunsPlan) input mesh w)
     (holds_if IsWithin (bytes_eq job (codes "sample")) _ _ (samples_hold input mesh w)
     (holds_if IsWithin (bytes_eq job (codes "convert")) _ _ (converts_hold input mesh w)
     (holds_if IsWithin (bytes_eq job (codes "check")) _ _ (files_hold (plans Check) (plans_hold Check) input mesh w)

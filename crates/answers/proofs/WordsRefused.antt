@@ -15,7 +15,7 @@ use Rattle.bind_refusals.specs.declared.refusals.BindRefusal.TheVariants as bind
 use Rattle.kernel_types.specs.declared.faults.KernelFault.{KernelFault}
 use Rattle.schedule_model.specs.Sequential.{Stop}
 use Rattle.bound_program.specs.Values.{BoundValue}
-use Rattle.run_model.specs.Programs.{printed, first_fault}
+use Rattle.run_model.specs.Programs.{first_fault}
 use Rattle.mesh_text.specs.Canonical.{canonical}
 use Rattle.op_outside.specs.Outside.{Files}
 use Rattle.answers.specs.Refusal.{Limit, SourceBytes, MeshBytes, Refusal, Usage, CannotRead, NoTokens, NoTree, TooDeep, BadName, BadBinding, BadTarget, BadAccess, BadMesh, BadPart, BadPartition, BadSchedule, BadStep, EarlyStep, LeftStep, BeyondLimit, PartitionBytes, ScheduleBytes, status_of}
@@ -31,9 +31,9 @@ use Rattle.schedule_steps.specs.declared.step.Step.{Step}
 use Rattle.schedule_steps.specs.Outline.{Outline}
 use Rattle.distribute.specs.Parts.{NumbersRefusal, UnknownMap, OwnersRefusal, NoDat, NoMap, Unspelled}
 use Rattle.answers.specs.Said.{SaysLex, SaysSource, SaysTypes, SaysMesh, SaysBinding, SaysNumbers, SaysPartition, SaysOwners, SaysSchedule, SaysStep, SaysEnd, SaysNext}
-use Rattle.answers.specs.Words.{Job, Run, PlanJob, Check, ShowsPlan, ShowsSchedule, RunsPlan, Parting, ByRule, ByFile, Schedule, Standard, Drawn, Written, Options, group_of, Input, InFiles, OfSample, Command, OnProgram, OnPlan, Converts, ShowsUsage, ShowsVersion, WordsAre, named_by, names_in}
+use Rattle.answers.specs.Words.{PlanJob, Check, ShowsPlan, ShowsSchedule, RunsPlan, Parting, ByRule, ByFile, Schedule, Standard, Drawn, Written, Options, group_of, Input, InFiles, OfSample, Command, OnPlan, Converts, ShowsUsage, ShowsVersion, WordsAre, named_by, names_in}
 use Rattle.answers.specs.Judgements.{IsHeld, SourceIs, TreeIs, TypesAre, FileIs, MeshIs, EntriesAre, BoundIs, AccessesAre, NumbersOf, PartsOf, OwnersOf, Planned, PlanIs, Order, InStandardOrder, BySeed, ByText, OrderOf, outline_of, StepsOf}
-use Rattle.answers.specs.Answers.{given, ran, JobAnswers, planned_answer, PlannedAnswers, BoundAnswers, CommandAnswers, Answers}
+use Rattle.answers.specs.Answers.{given, ran, planned_answer, PlannedAnswers, BoundAnswers, CommandAnswers, Answers}
 use Rattle.answers.specs.Endings.{Ending, Answered, OutOfMemory, Unread, Unwritten, ending_status, unwritten_status, Call, IsOfContents, IsSomeAnswer, TellsUntold, Tells, no_files, IsWritten, EndsBy, Ends, IsUsage}
 use Rattle.answers.proofs.Complete.{tells_answer, unwritten_is}
 
@@ -233,9 +233,6 @@ ran_not : (o : Option (Stop KernelFault)) (bytes : List ℕ) (a : Answer) → a 
 ran_not None bytes a e = done_not bytes a e
 ran_not (Some x) bytes a e = faulted_not bytes x a e
 
-job_not : (j : Job) (b : BoundValue) (a : Answer) → JobAnswers j b a → NotTwo a
-job_not Run b a h = ran_not (first_fault b) (printed b) a h
-
 source_other_words : (input : Input) (files : Files) (r : Refusal) → SourceIs input files (Err r) → IsOther r
 source_other_words (InFiles source mesh) files r h = held_other SourceBytes source (files source) r h
 source_other_words (OfSample side) files r h = absurd (let bad : ⊥ = cc in bad)
@@ -271,7 +268,6 @@ bound_not rest not input files =
     given_not (AccessesAre b) _ (λ r h. is_other r _ h.says tt) (λ u a h. not b a h)))))))
 
 command_not : (c : Command) (files : Files) (a : Answer) → CommandAnswers c files a → NotTwo a
-command_not (OnProgram j input) files a h = bound_not (JobAnswers j) (job_not j) input files a h
 command_not (OnPlan j o input) files a h = bound_not (PlannedAnswers j o files) (planned_not j o files) input files a h
 command_not (Converts form mesh) files a h =
     given_not (FileIs mesh files) _ (λ r h. held_other MeshBytes mesh (files mesh) r h) (λ text.

@@ -6,7 +6,7 @@ use Rattle.kernel_types.specs.declared.faults.KernelFault.{KernelFault}
 use Rattle.schedule_model.specs.Sequential.{Stop}
 use Rattle.bound_program.specs.Values.{BoundValue}
 use Rattle.bound_program.specs.Fits.{Fits}
-use Rattle.run_model.specs.Programs.{printed, first_fault}
+use Rattle.run_model.specs.Programs.{first_fault}
 use Rattle.loop_plan.specs.PlanText.{plan_text}
 use Rattle.schedule_steps.specs.declared.step.Step.{Step}
 use Rattle.schedule_text.specs.Written.{schedule_text}
@@ -17,8 +17,8 @@ use Rattle.mesh_text.specs.Canonical.{canonical}
 use Rattle.answers.specs.declared.usage.TheConstants.{USAGE, VERSION}
 use Rattle.answers.specs.Refusal.{Refusal, CannotRead}
 use Rattle.answers.specs.Lines.{Answer, done, refused, faulted}
-use Rattle.answers.specs.Words.{Job, Run, PlanJob, Check, ShowsPlan, ShowsSchedule, RunsPlan, Options, group_of, Input}
-use Rattle.answers.specs.Words.{Command, OnProgram, OnPlan, Converts, ShowsUsage, ShowsVersion, WordsAre}
+use Rattle.answers.specs.Words.{PlanJob, Check, ShowsPlan, ShowsSchedule, RunsPlan, Options, group_of, Input}
+use Rattle.answers.specs.Words.{Command, OnPlan, Converts, ShowsUsage, ShowsVersion, WordsAre}
 use Rattle.answers.specs.Judgements.{SourceIs, TreeIs, TypesAre, FileIs, MeshIs, EntriesAre, BoundIs, AccessesAre}
 use Rattle.answers.specs.Judgements.{NumbersOf, PartsOf, OwnersOf, Planned, PlanIs, OrderOf, outline_of, StepsOf}
 
@@ -31,10 +31,6 @@ abbrev pub ran : Option (Stop KernelFault) → List ℕ → Answer
 ran None bytes = done bytes
 ran (Some x) bytes = faulted bytes x
 
--- the answer of a job on a bound program
-abbrev pub JobAnswers : Job → BoundValue → Answer → Type 0
-JobAnswers Run b a = a ≡ ran (first_fault b) (printed b)
-
 -- The answer over a source and a mesh: seven judgements in this order, and then what is answered of the bound program.
 abbrev pub BoundAnswers : (BoundValue → Answer → Type 0) → Input → Files → Answer → Type 0
 BoundAnswers rest input files =
@@ -46,10 +42,6 @@ BoundAnswers rest input files =
     given (BoundIs p types es) (λ b.
     given (AccessesAre b) (λ _. rest b)))))))
 
--- The answer of a job on a source and a mesh.
-abbrev pub ProgramAnswers : Job → Input → Files → Answer → Type 0
-ProgramAnswers j = BoundAnswers (JobAnswers j)
-
 -- the sizes of a plan: its items, loops and steps
 abbrev pub sizes_text : BoundValue → (steps : ℕ) → List ℕ
 sizes_text b steps =
@@ -57,7 +49,8 @@ sizes_text b steps =
     ++ codes " steps " ++ decimal steps ++ codes "\n"
 
 -- What a job on a plan answers, where its steps are taken in this order: the sizes of the plan, its text, the text of the schedule, or
--- what the program's run without ranks printed, up to its first fault if it has one; behind a run without a fault the dump, if it is
+-- what running each loop one element after another prints, up to the first fault if there is one; behind a run without a fault the dump, if
+-- it is
 -- asked for.
 abbrev pub planned_answer : PlanJob → (dumps : Bool) → BoundValue → Planned → List Step → Answer
 planned_answer Check dumps b p steps = done (sizes_text b p.plan.steps)
@@ -90,7 +83,6 @@ ConvertAnswers form mesh files =
 
 -- the answer of a command
 abbrev pub CommandAnswers : Command → Files → Answer → Type 0
-CommandAnswers (OnProgram j input) files = ProgramAnswers j input files
 CommandAnswers (OnPlan j o input) files = PlanAnswers j o input files
 CommandAnswers (Converts form mesh) files = ConvertAnswers form mesh files
 CommandAnswers ShowsUsage files = λ a. a ≡ done USAGE.now

@@ -7,7 +7,7 @@ use Rattle.c_tree.specs.Reads.{Prints}
 use Rattle.op_outside.specs.Outside.{Files}
 use Rattle.answers.specs.Lines.{Answer}
 use Rattle.answers.specs.declared.limits.TheConstants.{MAX_RANKS, MAX_BLOCK, MAX_WORKERS}
-use Rattle.answers.specs.Words.{PlanJob, Options, Input, Command, OnProgram, OnPlan, WordsAre}
+use Rattle.answers.specs.Words.{PlanJob, Options, Input, Command, OnPlan, WordsAre}
 use Rattle.answers.specs.Judgements.{SourceIs}
 use Rattle.answers.specs.Answers.{Answers}
 
@@ -39,7 +39,6 @@ pub record LacksTree (bytes : List ℕ) : Type 0 where
 
 -- where the source and the mesh of a command come from, if it has them
 abbrev pub input_of : Command → Option Input
-input_of (OnProgram j input) = Some input
 input_of (OnPlan j o input) = Some input
 input_of c = None
 
@@ -69,16 +68,6 @@ AnswersAgree =
 
 -- ---- an answer
 
--- a command that is about no plan
-abbrev pub IsOfNoPlan : Command → Type 0
-IsOfNoPlan (OnPlan j o input) = ⊥
-IsOfNoPlan c = Unit {0}
-
--- the words ask for no plan
-abbrev pub AskForNoPlan : List (List ℕ) → Type 0
-AskForNoPlan words = (c : Command) → WordsAre words (Ok c) → IsOfNoPlan c
-
--- There is an answer to all words that ask for no plan. That owners, distributions and plans exist is not stated, so that nothing is
--- said of the words that ask for one.
+-- no words and files are without an answer
 abbrev pub AnswersExist : Type 0
-AnswersExist = (words : List (List ℕ)) (files : Files) → AskForNoPlan words → ¬ ((a : Answer) → ¬ Answers words files a)
+AnswersExist = (words : List (List ℕ)) (files : Files) → ¬ ((a : Answer) → ¬ Answers words files a)

@@ -16,11 +16,7 @@ use Rattle.distribute.specs.Parts.{Parts, Block, Bisect, Grow}
 use Rattle.answers.specs.declared.limits.TheConstants.{MAX_RANKS, MAX_BLOCK, MAX_WORKERS, MAX_GROUP}
 use Rattle.answers.specs.Refusal.{Refusal, Usage}
 
--- what is done with a source and a mesh
-pub data Job : Type 0 where
-  Run : Job
-
--- what is done with a plan: its sizes are told, or its text or a schedule of it is written, or the program runs by it
+-- what is done with the plan of a program: its sizes are told, or its text or a schedule of it is written, or the program runs by it
 pub data PlanJob : Type 0 where
   Check : PlanJob
   ShowsPlan : PlanJob
@@ -58,10 +54,9 @@ pub data Input : Type 0 where
   InFiles : (source mesh : List ℕ) → Input
   OfSample : (side : ℕ) → Input
 
--- What the words ask for: a job on a source and a mesh; a job on the plan of a program over a mesh, with these options; the mesh text
--- in a file written again, in a version of the format; or what the program says of itself.
+-- What the words ask for: a job on the plan of a program over a mesh, with these options; the mesh text in a file written again, in a
+-- version of the format; or what the program says of itself.
 pub data Command : Type 0 where
-  OnProgram : Job → Input → Command
   OnPlan : PlanJob → Options → Input → Command
   Converts : Form → (mesh : List ℕ) → Command
   ShowsUsage : Command
@@ -155,10 +150,6 @@ plans_nothing w =
     not (is_some w.ranks) && not (is_some w.parts) && not (is_some w.partition) && not (is_some w.renumber) && not (is_some w.block)
     && not (is_some w.schedule) && not (is_some w.seed) && not (is_some w.workers) && not w.dumps
 
--- no option stands
-abbrev pub is_plain : OptionWords → Bool
-is_plain w = not (is_some w.form) && plans_nothing w
-
 -- what a match asks for, or the words are refused
 abbrev pub or_usage : Option Command → Result Command Refusal
 or_usage None = Err Usage
@@ -243,10 +234,6 @@ options_of w =
 abbrev pub plans : PlanJob → Input → OptionWords → Option Command
 plans j input w = if is_some w.form then None else option_map (λ o. OnPlan j o input) (options_of w)
 
--- a run of a program over a mesh: on ranks where it has a plan's options
-abbrev pub runs : Input → OptionWords → Option Command
-runs input w = if is_plain w then Some (OnProgram Run input) else plans RunsPlan input w
-
 -- SOURCE and MESH
 abbrev pub on_files : (Input → OptionWords → Option Command) → (input : List ℕ) (mesh : Option (List ℕ)) → OptionWords → Option Command
 on_files job input (Some mesh) w = job (InFiles input mesh) w
@@ -254,7 +241,7 @@ on_files job input None w = None
 
 -- `sample SIDE`
 abbrev pub samples : (input : List ℕ) (mesh : Option (List ℕ)) → OptionWords → Option Command
-samples input None w = option_and_then (λ side. runs (OfSample side) w) (number_to MAX_SIDE input)
+samples input None w = option_and_then (λ side. plans RunsPlan (OfSample side) w) (number_to MAX_SIDE input)
 samples input (Some mesh) w = None
 
 -- `convert MESH`, with `--form`
@@ -265,7 +252,7 @@ converts input (Some mesh) w = None
 -- by the job's name
 abbrev pub by_job : (job input : List ℕ) (mesh : Option (List ℕ)) → OptionWords → Option Command
 by_job job input mesh w =
-    if bytes_eq job (codes "run") then on_files runs input mesh w
+    if bytes_eq job (codes "run") then on_files (plans RunsPlan) input mesh w
     else if bytes_eq job (codes "sample") then samples input mesh w
     else if bytes_eq job (codes "convert") then converts input mesh w
     else if bytes_eq job (codes "check") then on_files (plans Check) input mesh w
@@ -311,7 +298,6 @@ names_at (Written name) = name ∷ []
 
 -- those of a command
 abbrev pub names_of : Command → List (List ℕ)
-names_of (OnProgram j input) = names_from input
 names_of (OnPlan j o input) = names_from input ++ names_by o.parting ++ names_at o.schedule
 names_of (Converts form mesh) = mesh ∷ []
 names_of ShowsUsage = []

@@ -43,7 +43,7 @@ pub fn answers_agree()
     bound_plan::one_dump();
 }
 
-/// A law: there is an answer to all words that ask for no plan, over all files.
+/// A law: no words and files are without an answer.
 pub fn answers_exist()
     ensures { AnswersExist }
 {
@@ -54,8 +54,22 @@ pub fn answers_exist()
     name_resolution::some_answer();
     mesh_text::one_outcome();
     loop_bind::refusals_have_causes();
+    loop_bind::resolved_sources_are();
+    loop_bind::spelled_entries_fit();
+    loop_bind::bound_programs_fit();
+    loop_bind::bound_maps_are_narrow();
     kernel_model::walk_finds();
     kernel_model::rules_are_broken();
+    part_text::one_outcome();
+    plan_exists::some_numbers();
+    plan_exists::some_owners();
+    plan_exists::outcomes_fit();
+    plan_exists::some_distribution();
+    plan_exists::narrow_meshes_fit_memory();
+    plan_exists::some_plan();
+    schedule_steps::drawn_exists();
+    schedule_text::one_outcome();
+    step_judge::taken_lists_are_accepted();
 }
 
 /// A law: where a call ends, its status is that of any answer over files that tell it, unless memory ran out or a count of

@@ -38,7 +38,6 @@ pub record IsRead (words : List (List ℕ)) (r : Result Asked WordsRefusal) : Ty
 -- the options of what is asked for are in range
 in_range : OptionsAreWithin → (words : List (List ℕ)) (a : Asked) → WordsAre words (Ok (command_of a)) → IsInRange a
 in_range law words (wanted.Plan j o i) h = law words (job_in j) (options_in_plan o) (input_in i) h
-in_range law words (wanted.Run i) h = tt
 in_range law words (wanted.Convert form mesh) h = tt
 in_range law words wanted.Usage h = tt
 in_range law words wanted.Version h = tt

@@ -5,7 +5,7 @@ use Rattle.clap.specs.Matches.{first_value}
 use Rattle.distribute.specs.Parts.{parts_of, name_of}
 use Rattle.answers.specs.Refusal as answer
 use Rattle.answers.specs.Words as words
-use Rattle.answers.specs.Words.{is_set, Run, OnProgram, OnPlan, Converts, ShowsUsage, ShowsVersion}
+use Rattle.answers.specs.Words.{is_set, OnPlan, Converts, ShowsUsage, ShowsVersion}
 use Rattle.answers.specs.Laws.{AreWithin}
 use Rattle.command_words.specs.declared.refusals.WordsRefusal.{WordsRefusal}
 use Rattle.command_words.specs.declared.refusals.WordsRefusal.TheVariants.{Usage, OutOfMemory}
@@ -93,7 +93,6 @@ input_in (input.OfSample side) = words.OfSample side
 
 -- what the words ask for
 abbrev pub command_of : Asked → words.Command
-command_of (asked.Run i) = OnProgram Run (input_in i)
 command_of (asked.Plan j o i) = OnPlan (job_in j) (options_in o) (input_in i)
 command_of (asked.Convert form mesh) = Converts form mesh.now
 command_of asked.Usage = ShowsUsage

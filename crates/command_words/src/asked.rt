@@ -77,8 +77,6 @@ pub enum Input<'a> {
 /// What the words ask for.
 #[derive(Clone, Copy, Debug)]
 pub enum Asked<'a> {
-    /// To run the program over the mesh.
-    Run(Input<'a>),
     /// To plan the program over the mesh, with these options, and then the job.
     Plan {
         job: PlanJob,

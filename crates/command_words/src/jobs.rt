@@ -1,11 +1,11 @@
 // The jobs: what is asked for by the words JOB, INPUT and MESH, with the options.
 
 ghost use Rattle.std.specs.Prelude.{◌≡◌, option_map};
-ghost use Rattle.answers.specs.Words.{by_job, runs, samples, converts, plans, form_of, InFiles};
+ghost use Rattle.answers.specs.Words.{by_job, samples, converts, plans, form_of, InFiles};
 ghost use Rattle.command_words.specs.Values.{input_in, command_of, job_in, option_words_of};
 
 use crate::asked::{Asked, Input, PlanJob};
-use crate::options::{OptionWords, is_plain, number_to, options_of, plans_nothing};
+use crate::options::{OptionWords, number_to, options_of, plans_nothing};
 use mesh_gen::MAX_SIDE;
 use mesh_text::Form;
 
@@ -20,7 +20,7 @@ pub fn by_job<'a>(
         ≡ by_job job.now input.now (option_map (λ s. s.now) mesh.entry) (option_words_of options.now) }
 {
     if job == "run" {
-        runs(in_files(input, mesh)?, options)
+        plans(PlanJob::RunsPlan, in_files(input, mesh)?, options)
     } else if job == "sample" {
         samples(input, mesh, options)
     } else if job == "convert" {
@@ -46,17 +46,6 @@ fn in_files<'a>(source: &'a str, mesh: Option<&'a str>) -> Option<Input<'a>>
     }
 }
 
-// A run of a program over a mesh: on ranks where it has a plan's options.
-fn runs<'a>(input: Input<'a>, options: &OptionWords<'a>) -> Option<Asked<'a>>
-    ensures { option_map command_of result ≡ runs (input_in input.entry) (option_words_of options.now) }
-{
-    if is_plain(options) {
-        Some(Asked::Run(input))
-    } else {
-        plans(PlanJob::RunsPlan, input, options)
-    }
-}
-
 // `sample SIDE`.
 fn samples<'a>(input: &str, mesh: Option<&str>, options: &OptionWords<'a>) -> Option<Asked<'a>>
     ensures { option_map command_of result
@@ -66,7 +55,7 @@ fn samples<'a>(input: &str, mesh: Option<&str>, options: &OptionWords<'a>) -> Op
         return None;
     }
     let side = number_to(MAX_SIDE, input)?;
-    runs(Input::OfSample { side }, options)
+    plans(PlanJob::RunsPlan, Input::OfSample { side }, options)
 }
 
 // `convert MESH`, with `--form`.

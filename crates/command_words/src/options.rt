@@ -2,7 +2,7 @@
 
 ghost use Rattle.std.specs.Prelude.{◌≡◌, ◌&&◌, not, is_some, option_map};
 ghost use Rattle.distribute.specs.Parts.{name_of, parts_of};
-ghost use Rattle.answers.specs.Words.{number_to, number_or, plans_nothing, is_plain, behind, rule_of, parting_of};
+ghost use Rattle.answers.specs.Words.{number_to, number_or, plans_nothing, behind, rule_of, parting_of};
 ghost use Rattle.answers.specs.Words.{seed_of, schedule_of, options_of};
 ghost use Rattle.command_words.specs.Values.{option_words_of, parting_in, schedule_in, options_in};
 
@@ -69,13 +69,6 @@ fn orders_nothing(words: &OptionWords<'_>) -> bool
         && not (is_some words.now.workers) && not words.now.dumps) }
 {
     words.schedule.is_none() && words.seed.is_none() && words.workers.is_none() && !words.dumps
-}
-
-/// Whether no option stands.
-pub fn is_plain(words: &OptionWords<'_>) -> bool
-    ensures { result ≡ is_plain (option_words_of words.now) }
-{
-    words.form.is_none() && plans_nothing(words)
 }
 
 // What stands behind a prefix, if the word begins with it.

@@ -6,7 +6,7 @@ use std::test::Fail;
 
 const FILES: &str = "InFiles { source: \"s.c\", mesh: \"m\" }";
 
-// Words that ask for a job on a plan where an option stands behind them, the job, and where source and mesh come from.
+// Words that ask for a job on a plan, the job, and where source and mesh come from.
 const JOBS: &[(&str, &str, &str)] = &[
     ("check s.c m", "Check", FILES),
     ("plan s.c m", "ShowsPlan", FILES),
@@ -22,6 +22,7 @@ const ORDERED: &str = "schedule: Standard, workers: 1, dumps: false";
 
 // Options, and the values of a plan's options.
 const OPTIONS: &[(&str, &str, &str)] = &[
+    ("", DEALT, ORDERED),
     ("--ranks 1", DEALT, ORDERED),
     (
         "--ranks=64 --block 65536 --workers 64 --dump",
@@ -77,12 +78,7 @@ const OPTIONS: &[(&str, &str, &str)] = &[
 
 // Words of the other commands, and the command.
 const OTHERS: &[(&str, &str)] = &[
-    ("run s.c m", "Run(InFiles { source: \"s.c\", mesh: \"m\" })"),
-    (
-        "run -- s.c -m",
-        "Run(InFiles { source: \"s.c\", mesh: \"-m\" })",
-    ),
-    ("sample 1", "Run(OfSample { side: 1 })"),
+    ("convert -- -m", "Convert { form: Two, mesh: \"-m\" }"),
     ("convert m", "Convert { form: Two, mesh: \"m\" }"),
     ("convert m --form 1", "Convert { form: One, mesh: \"m\" }"),
     ("--form=2 convert m", "Convert { form: Two, mesh: \"m\" }"),

@@ -1,4 +1,4 @@
--- From the bound program and its run to the answer over a text.
+-- From the bound program to the answer over files.
 use Rattle.std.proofs.Common.{◌≡◌, ℕ, List, [], Result, Option, None, Some, Ok, Err, inl, inr, option_map, ◌++◌, refl, sym, ap₂, ◌∙◌, subst, append_assoc}
 use Rattle.std.proofs.lemmas.List.{append-nil}
 use Rattle.c_tree.specs.Tree.{ProgramTree}
@@ -7,14 +7,12 @@ use Rattle.kernel_types.specs.declared.kernels.Resolved.{Resolved}
 use Rattle.schedule_model.specs.Sequential.{Stop}
 use Rattle.mesh_text.specs.Spelling.{Named}
 use Rattle.bound_program.specs.Values.{BoundValue}
-use Rattle.sequential_run.specs.declared.outcome.Outcome.{Outcome}
-use Rattle.sequential_run.specs.Outcomes.{IsRunOf, stop_of}
 use Rattle.answers.specs.Lines as lines
 use Rattle.answers.specs.Lines.{refused}
 use Rattle.answers.specs.Refusal.{Refusal}
-use Rattle.answers.specs.Words.{Run, PlanJob, Options, Input, names_from, names_by, names_at}
+use Rattle.answers.specs.Words.{PlanJob, Options, Input, names_from, names_by, names_at}
 use Rattle.answers.specs.Judgements.{EntriesAre, BoundIs, AccessesAre}
-use Rattle.answers.specs.Answers.{ran, JobAnswers, BoundAnswers, ProgramAnswers, PlannedAnswers, PlanAnswers}
+use Rattle.answers.specs.Answers.{ran, BoundAnswers, PlannedAnswers, PlanAnswers}
 use Rattle.answers.specs.Endings.{IsOfContents, IsSomeAnswer}
 use Rattle.op_outside.specs.Outside.{Files}
 use Rattle.op2_cli.specs.declared.answered.Answer.{Answer}
@@ -49,36 +47,6 @@ module _ (p : ProgramTree) (types : Resolved) (text : List ℕ) where
 pub some_ran : (o : Option (Stop KernelFault)) (bytes : List ℕ) → IsSomeAnswer (ran o bytes)
 some_ran None bytes = inl (bytes, refl)
 some_ran (Some x) bytes = inr (inr (bytes, x, refl))
-
-pub run_answered : (b : BoundValue) (o : Outcome) (a : lines.Answer) → IsRunOf b o → a ≡ ran (option_map stop_of o.stop) o.out.items → IsAnswered (JobAnswers Run b) a
-run_answered b o a run is = (is ∙ ap₂ ran run.stop run.out, subst IsSomeAnswer (sym is) (some_ran (option_map stop_of o.stop) o.out.items))
-
--- ---- over files
-
-module _ (told : Option Files) (input : Input) (rose : Type 0) where
-  pub run_halted : (h : Halt)
-      → AnswersIn told (names_from input) (BoundAnswers Never input) (AsksFor told (BoundAnswers Never input)) rose (Err h)
-      → AnswersOver told (names_from input) (ProgramAnswers Run input) rose (Err h)
-  run_halted h k =
-      subst (λ ns. AnswersOver told ns (ProgramAnswers Run input) rose (Err h)) (append-nil (names_from input))
-      (in_over told (names_from input ++ []) (ProgramAnswers Run input) rose (Err h) (halted_in (λ files. JobAnswers Run) input told [] rose h k))
-
-  -- no file matters to a run
-  run_in : (again kept : Option (List ℕ)) (b : BoundValue) (r : Result Answer Halt) → AnswersBy (JobAnswers Run b) r
-      → AnswersIn told [] (λ files. JobAnswers Run b) (AsksBehind told input again b kept (λ files. JobAnswers Run b)) rose r
-  run_in again kept b (Ok a) h = record { all = λ files t. h.0; some = λ n. h.1 }
-  run_in again kept b (Err (Refused r)) h = record { all = λ files t. h.0; some = λ n. h.1 }
-  run_in again kept b (Err (Failed (Unread n))) h = absurd h
-  run_in again kept b (Err (Failed OutOfMemory)) h = tt
-
-  pub run_over : (again kept : Option (List ℕ)) (b : BoundValue) (r : Result Answer Halt)
-      → Known told (names_from input) (IsBoundWith input again b kept)
-      → AnswersBy (JobAnswers Run b) r
-      → AnswersOver told (names_from input) (ProgramAnswers Run input) rose r
-  run_over again kept b r known h =
-      subst (λ ns. AnswersOver told ns (ProgramAnswers Run input) rose r) (append-nil (names_from input))
-      (in_over told (names_from input ++ []) (ProgramAnswers Run input) rose r
-      (bound_answered (λ files. JobAnswers Run) input b again kept told [] rose r known (run_in again kept b r h)))
 
 -- ---- a plan over files
 

@@ -4,7 +4,6 @@ use Rattle.c_lex.specs.declared.tokens.Pos.{Pos}
 use Rattle.c_tree.specs.Tree.{ProgramTree}
 use Rattle.c_tree.specs.Reads.{Reads}
 use Rattle.kernel_types.specs.declared.kernels.Resolved.{Resolved}
-use Rattle.kernel_types.specs.Resolved.{IsResolvedProgram}
 use Rattle.kernel_types.specs.View.{resolved_of}
 use Rattle.kernel_model.specs.Refusals.{Rule, number_of}
 use Rattle.name_resolution.specs.Programs.{Resolves}
@@ -94,7 +93,6 @@ pub record IsJudged (p : ProgramTree) (types : Resolved) : Type 0 where
   pub source : List ℕ
   pub reads : Reads source p
   pub resolves : Resolves p (Ok (resolved_of types))
-  pub resolved : IsResolvedProgram types
 
 -- of what comes first, or of the end, in the list of a schedule's steps
 abbrev pub SaysFirst : Option Line → (end : ℕ) → ScheduleRefusal → answer.Refusal → Type 0

@@ -5,9 +5,9 @@ ghost use Rattle.op_outside.specs.Outside.{Rose};
 ghost use Rattle.mesh_text.specs.declared.entry.TheConstants.{MESH_BYTES};
 ghost use Rattle.answers.specs.Refusal.{status_of};
 ghost use Rattle.answers.specs.Lines as lines;
-ghost use Rattle.answers.specs.Words.{Run, WordsAre, names_from, names_by, names_at, names_of, named_by};
+ghost use Rattle.answers.specs.Words.{WordsAre, names_from, names_by, names_at, names_of, named_by};
 ghost use Rattle.answers.specs.Laws.{AreWithin};
-ghost use Rattle.answers.specs.Answers.{ProgramAnswers, PlanAnswers, ConvertAnswers, CommandAnswers, Answers};
+ghost use Rattle.answers.specs.Answers.{PlanAnswers, ConvertAnswers, CommandAnswers, Answers};
 ghost use Rattle.command_words.specs.Values.{parting_in, options_in, job_in, input_in, command_of, IsInRange};
 ghost use Rattle.op2_cli.specs.Halts.{refusal_of, StopsWhere};
 ghost use Rattle.op2_cli.specs.Chains.{answer_of, again_of, RewriteAnswers, AnswersBy, AnswersOver};
@@ -19,7 +19,6 @@ use crate::meshes::entries_of;
 use crate::plans::planned;
 use crate::programs::bound_input;
 use crate::refusals::{Failure, Halt, Limit, Refusal};
-use crate::runs::run_of;
 use answers::{USAGE, VERSION};
 use command_words::{Asked, Input, Options, Parting, PlanJob, WordsRefusal, read_words};
 use mesh_text::{Form, write_mesh};
@@ -83,16 +82,6 @@ fn refused(alloc: Global, refusal: &Refusal<'_>) -> Result<Answer, OutOfMemory>
         status: status_of(refusal),
         line,
     })
-}
-
-// The answer of the run of a program over a mesh.
-fn to_run<'a, F: Shelf>(alloc: Global, shelf: &mut F, input: Input<'a>) -> Result<Answer, Halt<'a>>
-    requires lent { All (λ name. F.lends shelf.old name) (names_from (input_in input)) }
-    ensures { AnswersOver (F.told shelf.old) (names_from (input_in input.entry)) (ProgramAnswers Run (input_in input.entry))
-        (Rose (F.faults shelf.old) (F.faults shelf.new)) result }
-{
-    let (bound, _) = bound_input(alloc, shelf, input, None)?;
-    run_of(alloc, &bound)
 }
 
 // The file that tells the owners, if one does.
@@ -166,7 +155,6 @@ fn to_asked<'a, F: Shelf, R: Threads + Sync, G: Gate>(
         (Rose (F.faults shelf.old) (F.faults shelf.new)) result }
 {
     match asked {
-        Asked::Run(input) => to_run(alloc, shelf, input),
         Asked::Plan {
             job,
             options,

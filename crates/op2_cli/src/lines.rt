@@ -5,15 +5,15 @@ ghost use Rattle.std.specs.Fmt.{decimal};
 ghost use Rattle.answers.specs.Refusal.{BadTarget, BadStep, EarlyStep, LeftStep};
 ghost use Rattle.answers.specs.Lines.{at_place, numbered, step_name, said_of, line_of, fault_name, part_name, fault_line};
 ghost use Rattle.op2_cli.specs.Halts.{refusal_of};
-ghost use Rattle.sequential_run.specs.Outcomes.{stop_of};
+ghost use Rattle.rank_exec.specs.Stops.{stop_of};
 
 use crate::limits::{limit_name, most};
 use crate::refusals::Refusal;
 use c_tree::Pos;
 use kernel_types::KernelFault;
 use op_num::{Fault, OutOfMemory, put_u64};
+use rank_exec::machine::Stop;
 use schedule_steps::Step;
-use sequential_run::Stop;
 
 // A place in the source.
 fn put_place(out: &mut Vec<u8>, at: Pos) -> Result<(), OutOfMemory>

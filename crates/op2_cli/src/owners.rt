@@ -162,7 +162,8 @@ pub fn partition_of<'a, F: Shelf>(
     ensures told { F.told shelf.new ≡ F.told shelf.old }
     ensures lends { (n : List ℕ) → F.lends shelf.old n ↔ F.lends shelf.new n }
     ensures calm { OnOk result (F.faults shelf.new ≡ F.faults shelf.old) }
-    ensures read { IfOk result (λ v. option_map (λ w. w.items) kept ≡ None → IfSome (F.told shelf.old) (HoldsParts (parting_in parting.entry) v.items)) }
+    ensures read { IfOk result (λ v. option_map (λ w. w.items) kept ≡ None
+        → IfSome (F.told shelf.old) (HoldsParts (parting_in parting.entry) v.items)) }
     ensures again { IfOk result (λ v. IfSome (option_map (λ w. w.items) kept) (λ w. IsFilePart (parting_in parting.entry) → v.items ≡ w)) }
     ensures fits { IfOk result (λ v. length v.items ≤ PARTITION_BYTES) }
     ensures err { IfErr result (λ h. IsPartUnread (parting_in parting.entry) (option_map (λ w. w.items) kept) (F.told shelf.old)

@@ -140,7 +140,11 @@ fn scheduled<'a, F: Shelf, R: Threads + Sync, G: Gate>(
     requires found { IsSpread (bound_of bound.now) found.now }
     requires plan { Proper (bound_of bound.now) found.now.ranks.items (plan_of plan.now) }
     ensures { AnswersIn (F.told shelf.old) (names_at (options_in options.now).schedule)
-        (ScheduleAnswers (job_in job) (options_in options.now) (bound_of bound.now) (record { distribution = found.now; plan = plan_of plan.now }))
+        (ScheduleAnswers (job_in job) (options_in options.now) (bound_of bound.now) (record {
+          distribution = found.now;
+          plan =
+              plan_of plan.now;
+        }))
         (AsksAlways (ScheduleAnswers (job_in job) (options_in options.now) (bound_of bound.now)
         (record { distribution = found.now; plan = plan_of plan.now })))
         (Rose (F.faults shelf.old) (F.faults shelf.new)) result }

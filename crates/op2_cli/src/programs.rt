@@ -110,7 +110,8 @@ fn bound_files<'a, F: Shelf>(
     ensures lends { (n : List ℕ) → F.lends shelf.old n ↔ F.lends shelf.new n }
     ensures calm { OnOk result (F.faults shelf.new ≡ F.faults shelf.old) }
     ensures ok { IfOk result (λ r. Known (F.told shelf.old) (source.now ∷ mesh.now ∷ [])
-        (IsBoundWith (InFiles source.now mesh.now) (option_map (λ s. s.now) again.entry) (values.bound_of r.0) (option_map (λ v. v.items) r.1))) }
+        (IsBoundWith (InFiles source.now mesh.now) (option_map (λ s. s.now) again.entry) (values.bound_of r.0)
+        (option_map (λ v. v.items) r.1))) }
     ensures fits { IfOk result (λ r. Fits (values.bound_of r.0)) }
     ensures err { IfErr result (λ h. AnswersOver (F.told shelf.old) (source.now ∷ mesh.now ∷ [])
         (BoundAnswers Never (InFiles source.now mesh.now)) (Rose (F.faults shelf.old) (F.faults shelf.new)) (Err h)) }

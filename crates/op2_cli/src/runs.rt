@@ -1,10 +1,9 @@
-// Runs of a bound program, without ranks and on them.
+// Runs of a bound program on ranks.
 
-ghost use Rattle.std.specs.Prelude.{◌≡◌, List, Ok, option_map, IfOk};
+ghost use Rattle.std.specs.Prelude.{◌≡◌, List, Ok, IfOk};
 ghost use Rattle.bound_program.specs.Values.{bound_of};
 ghost use Rattle.bound_program.specs.Fits.{Fits};
-ghost use Rattle.run_model.specs.Programs.{printed, first_fault};
-ghost use Rattle.sequential_run.specs.Outcomes.{stop_of};
+ghost use Rattle.run_model.specs.Programs.{first_fault};
 ghost use Rattle.rank_exec.specs.Stops.{stop_in};
 ghost use Rattle.loop_plan.specs.Values.{plan_of};
 ghost use Rattle.loop_plan.specs.Proper.{Proper};
@@ -14,31 +13,28 @@ ghost use Rattle.schedule_check.specs.Mail.{plan_cells};
 ghost use Rattle.bound_plan.specs.Memories.{dump_of, run_output};
 ghost use Rattle.planned_run.specs.Orders.{InOrder, CanTake};
 ghost use Rattle.command_words.specs.Values.{options_in};
-ghost use Rattle.answers.specs.Words.{Run};
 ghost use Rattle.answers.specs.Laws.{AreWithin};
 ghost use Rattle.answers.specs.Judgements.{AccessesAre};
-ghost use Rattle.answers.specs.Answers.{ran, JobAnswers};
-ghost use Rattle.op2_cli.specs.Chains.{answer_of, AnswersBy, IsSpread};
+ghost use Rattle.answers.specs.Answers.{ran};
+ghost use Rattle.op2_cli.specs.Chains.{answer_of, IsSpread};
 
 use crate::answered::Answer;
 use crate::lines::put_fault;
 use crate::ranges::starts_in_range;
-use crate::refusals::Halt;
 use bound_program::Bound;
 use command_words::Options;
 use distribute::Distribution;
 use loop_plan::Plan;
 use op_num::OutOfMemory;
 use par_exec::Gate;
-use planned_run::{Order, run_on_ranks};
-use sequential_run::{Outcome, Stop, run};
+use planned_run::{Order, Outcome, run_on_ranks};
 use std::alloc::Global;
 use std::marker::Sync;
 use std::thread::Threads;
 
 // The answer of a run.
 fn ran(alloc: Global, outcome: Outcome) -> Result<Answer, OutOfMemory>
-    ensures { IfOk result (λ a. answer_of a ≡ ran (option_map stop_of outcome.stop) outcome.out.items) }
+    ensures { IfOk result (λ a. answer_of a ≡ ran (stop_in outcome.stop) outcome.out.items) }
 {
     let Some(stop) = outcome.stop else {
         return Ok(Answer::Done(outcome.out));
@@ -51,38 +47,9 @@ fn ran(alloc: Global, outcome: Outcome) -> Result<Answer, OutOfMemory>
     })
 }
 
-/// The answer of the run of a bound program without ranks. An error is want of memory.
-pub fn run_of<'a>(alloc: Global, bound: &Bound) -> Result<Answer, Halt<'a>>
-    requires fits { Fits (bound_of bound.now) }
-    requires obeyed { AccessesAre (bound_of bound.now) (Ok tt) }
-    ensures { AnswersBy (JobAnswers Run (bound_of bound.now)) result }
-{
-    let outcome = run(alloc, bound)?;
-    Ok(ran(alloc, outcome)?)
-}
-
-// The outcome of a run on ranks, as one of a run without.
-fn without_ranks(outcome: planned_run::Outcome) -> Outcome
-    ensures out { result.out ≡ outcome.out }
-    ensures stop { option_map stop_of result.stop ≡ stop_in outcome.stop }
-{
-    let stop = match outcome.stop {
-        Some(stop) => Some(Stop {
-            item: stop.item,
-            element: stop.element,
-            fault: stop.fault,
-        }),
-        None => None,
-    };
-    Outcome {
-        out: outcome.out,
-        stop,
-    }
-}
-
 /// The answer of the run of a bound program on the ranks of a distribution, by a plan for them whose steps are taken in this
-/// order: that of its run without ranks, with a dump of the memories behind it where the options ask for one. An error is want of
-/// memory.
+/// order: what running each loop one element after another prints, and its first fault, with a dump of the memories behind it where
+/// the options ask for one. An error is want of memory.
 pub fn run_on<R: Threads + Sync, G: Gate>(
     rt: &R,
     alloc: Global,
@@ -119,5 +86,5 @@ pub fn run_on<R: Threads + Sync, G: Gate>(
         gate,
         options.dumps,
     )?;
-    ran(alloc, without_ranks(outcome))
+    ran(alloc, outcome)
 }

@@ -134,7 +134,8 @@ pub fn judged<'a>(
     requires plan { Proper (bound_of bound.now) found.now.ranks.items (plan_of plan.now) }
     ensures steps { IfOk result (λ r. r.0.items ≡ steps_in lines.now) }
     ensures whole { IfOk result (λ r. IsWhole (bound_of bound.now) found.now.ranks.items (plan_of plan.now) (steps_in lines.now) r.1) }
-    ensures err { IfErr result (SpoiltWhere (IsStepRefused (step_outline (bound_of bound.now) found.now.ranks.items (plan_of plan.now)) lines.now end)) }
+    ensures err { IfErr result
+        (SpoiltWhere (IsStepRefused (step_outline (bound_of bound.now) found.now.ranks.items (plan_of plan.now)) lines.now end)) }
 {
     let steps = steps_in(alloc, lines)?;
     match judge_list(alloc, bound, &found.ranks, plan, &steps)? {

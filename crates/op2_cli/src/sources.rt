@@ -3,7 +3,6 @@
 ghost use Rattle.std.specs.Prelude.{◌≡◌, ◌≤◌, Ok, Err, length, IfOk, IfErr};
 ghost use Rattle.c_tree.specs.View.{program_of};
 ghost use Rattle.answers.specs.Judgements.{TreeIs, TypesAre};
-ghost use Rattle.kernel_types.specs.Resolved.{IsResolvedProgram};
 ghost use Rattle.answers.specs.Said.{SaysLex, SaysSource, SaysTypes};
 ghost use Rattle.answers.specs.declared.limits.TheConstants.{SOURCE_BYTES};
 ghost use Rattle.op2_cli.specs.Halts.{SpoiltWhere};
@@ -56,7 +55,6 @@ fn unlexed<'a>(refusal: LexRefusal) -> Halt<'a>
 /// The kernels and constants of the source, with each name resolved.
 pub fn types_of<'a>(alloc: Global, program: &Program) -> Result<Resolved, Halt<'a>>
     ensures ok { IfOk result (λ types. TypesAre (program_of program.now) (Ok types)) }
-    ensures resolved { IfOk result IsResolvedProgram }
     ensures err { IfErr result (SpoiltWhere (λ r. TypesAre (program_of program.now) (Err r))) }
 {
     match resolve(alloc, program) {

@@ -4,7 +4,7 @@ use Rattle.answers.proofs.laws.answers_agree.Goals as goal
 
 pub returns : goal.returns
 returns c =
-    law.answers_agree c.kernels_are_trees.ensures.walks c.one_program.ensures.kernels c.one_program.ensures.programs
+    law.answers_agree c.kernels_are_trees.ensures.walks c.one_program.ensures.kernels
     c.one_outcome-2.ensures.one c.one_outcome.ensures c.one_tree.ensures c.one_answer.ensures c.walk_finds.ensures
     c.rules_are_broken.ensures.obeys c.rules_are_broken.ensures.first
     (plans.plans_alike c.one_program.ensures.programs c.one_dump.ensures c.one_plan.ensures schedules c.one_numbers.ensures
