@@ -1,8 +1,12 @@
 -- What is wrong with a statement, and which of it counts: the least place, and there the lowest number.
-use Rattle.std.specs.Prelude.{◌≡◌, ◌⊎◌, ℕ, slice_index_or, Bool, true, false, ◌&&◌, ◌||◌, List, [], ◌∷◌, ◌++◌, All, Option, Some, None, Result, Ok, Err, nat_lt, nat_eq, if◌then◌else◌, IfSome, IfNone}
+use Rattle.std.specs.Prelude.{◌≡◌, ◌⊎◌, ℕ, slice_index_or, Bool, true, false, ◌&&◌, ◌||◌, List, [], ◌∷◌, ◌++◌, All, Option, Some, None}
+use Rattle.std.specs.Prelude.{Result, Ok, Err, nat_lt, nat_eq, if◌then◌else◌, IfSome, IfNone}
 use Rattle.c_lex.specs.declared.tokens.Pos.{Pos}
 use Rattle.bind_refusals.specs.declared.refusals.BindRefusal.{BindRefusal}
-use Rattle.bind_refusals.specs.declared.refusals.BindRefusal.TheVariants.{UnknownSet, UnknownMap, UnknownDat, UnknownKernel, ArgCount, DimMismatch, TypeMismatch, SetMismatch, IndexRange, MapTarget, GlobalTwice, ReservedAccess, ControlNotStatic, TraceTooLong, Limit, DeclarationPlace, UnknownEntry, OutOfMemory}
+use Rattle.bind_refusals.specs.declared.refusals.BindRefusal.TheVariants.{UnknownSet, UnknownMap, UnknownDat, UnknownKernel, ArgCount}
+use Rattle.bind_refusals.specs.declared.refusals.BindRefusal.TheVariants.{DimMismatch, TypeMismatch, SetMismatch, IndexRange, MapTarget}
+use Rattle.bind_refusals.specs.declared.refusals.BindRefusal.TheVariants.{GlobalTwice, ReservedAccess, ControlNotStatic, TraceTooLong}
+use Rattle.bind_refusals.specs.declared.refusals.BindRefusal.TheVariants.{Limit, DeclarationPlace, UnknownEntry, OutOfMemory}
 use Rattle.bind_refusals.specs.declared.refusals.Counted.{Counted}
 use Rattle.bind_refusals.specs.declared.founds.Turn.{Turn}
 use Rattle.bind_refusals.specs.declared.founds.Turn.TheVariants.{InOrder, SizeValue, MeshCells}

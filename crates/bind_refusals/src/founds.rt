@@ -1,7 +1,8 @@
 // What is wrong with a statement, and the first of it.
 
 ghost use Rattle.std.specs.Prelude.{◌≡◌, None, Ok, Err};
-ghost use Rattle.bind_refusals.specs.Refusals.{place, turn_number, number_of, is_before, earlier, least_from, found_in, found_over, found_if, refusal_of_first};
+ghost use Rattle.bind_refusals.specs.Refusals.{place, turn_number, number_of, is_before, earlier, least_from, found_in, found_over};
+ghost use Rattle.bind_refusals.specs.Refusals.{found_if, refusal_of_first};
 
 use crate::refusals::{BindRefusal, Counted};
 use c_tree::Pos;

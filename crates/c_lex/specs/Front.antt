@@ -1,5 +1,6 @@
 -- What stands at the front of the bytes: what the lexer finds there, as functions.
-use Rattle.std.specs.Prelude.{◌≡◌, ◌⊎◌, ◌++◌, drop, nat_le, true, ℕ, ◌+◌, ◌≤◌, ◌<◌, Bool, false, nat_eq, nat_lt, not, List, [], ◌∷◌, Option, Some, None, ◌&&◌, if◌then◌else◌, length, take, find, pos, codes, ◌||◌}
+use Rattle.std.specs.Prelude.{◌≡◌, ◌⊎◌, ◌++◌, drop, nat_le, true, ℕ, ◌+◌, ◌≤◌, ◌<◌, Bool, false, nat_eq, nat_lt, not, List, [], ◌∷◌}
+use Rattle.std.specs.Prelude.{Option, Some, None, ◌&&◌, if◌then◌else◌, length, take, find, pos, codes, ◌||◌}
 use Rattle.std.specs.List.{starts_with, prefix_len}
 use Rattle.std.specs.Str.{bytes_eq}
 use Rattle.c_lex.specs.declared.tokens.Kind.{Kind}
@@ -73,7 +74,8 @@ plain b = nat_le 32 b && not (nat_eq b 127) && not (nat_eq b 34) && not (nat_eq 
 abbrev pub escape_of : List ℕ → Option (ℕ × ℕ)
 escape_of [] = None
 escape_of (b ∷ bs) =
-    if nat_eq b 110 then Some (10, 2) else if nat_eq b 116 then Some (9, 2) else if nat_eq b 92 then Some (92, 2) else if nat_eq b 34 then Some (34, 2) else None
+    if nat_eq b 110 then Some (10, 2) else if nat_eq b 116 then Some (9, 2) else if nat_eq b 92 then Some
+    (92, 2) else if nat_eq b 34 then Some (34, 2) else None
 
 -- the byte that the front of a text's bytes stands for, and how many bytes spell it
 abbrev pub unit_of : List ℕ → Option (ℕ × ℕ)

@@ -1,5 +1,6 @@
 -- The tokens of the bytes of a source, or the first place where it has none.
-use Rattle.std.specs.Prelude.{◌≡◌, ◌≢◌, ℕ, ◌+◌, ◌≤◌, ◌<◌, Bool, true, false, ◌||◌, ◌&&◌, nat_eq, List, [], ◌∷◌, ◌++◌, length, Result, Ok, Err, ◌⊎◌, codes, if◌then◌else◌}
+use Rattle.std.specs.Prelude.{◌≡◌, ◌≢◌, ℕ, ◌+◌, ◌≤◌, ◌<◌, Bool, true, false, ◌||◌, ◌&&◌, nat_eq, List, [], ◌∷◌, ◌++◌, length, Result, Ok}
+use Rattle.std.specs.Prelude.{Err, ◌⊎◌, codes, if◌then◌else◌}
 use Rattle.std.specs.List.{list_all}
 use Rattle.c_lex.specs.declared.tokens.Kind.{Kind}
 use Rattle.c_lex.specs.declared.tokens.Kind.TheVariants as kind
@@ -159,7 +160,8 @@ pub data Stop : Type 0 where
 abbrev pub Stops : Bool → Bool → List ℕ → Stop → Type 0
 Stops fresh number bs AtEnd = bs ≡ []
 Stops fresh number bs (AtBadByte good) =
-    ((number ≡ true) × (good ≡ []) × BeginsWithPart bs) ⊎ ((number ≡ true → IsApart bs) × (good ≡ []) × BeginsNothing fresh bs) ⊎ HasBadByte good bs
+    ((number ≡ true) × (good ≡ []) × BeginsWithPart bs) ⊎ ((number ≡ true → IsApart bs) × (good ≡ []) × BeginsNothing fresh bs)
+    ⊎ HasBadByte good bs
 Stops fresh number bs AtOpenComment = (rest : List ℕ) × (bs ≡ codes "/*" ++ rest) × HasNoClose rest
 Stops fresh number bs AtOpenText = (rest : List ℕ) × (bs ≡ 34 ∷ rest) × (is_closed rest ≡ false)
 Stops fresh number bs AtNumberTooLarge = (number ≡ true → IsApart bs) × IsTooLarge bs
@@ -192,7 +194,9 @@ is_fresh_behind fresh (Spelled k s) = false
 abbrev pub AreParts : Stop → Bool → Bool → List ℕ → List Part → Type 0
 AreParts stop fresh number bs [] = Stops fresh number bs stop
 AreParts stop fresh number bs (x ∷ xs) =
-    (number ≡ true → IsApart bs) × ((rest : List ℕ) × (bs ≡ bytes_of x ++ rest) × IsPartBefore fresh x rest × AreParts stop (is_fresh_behind fresh x) (is_number_part x) rest xs)
+    (number ≡ true → IsApart bs)
+    × ((rest : List ℕ) × (bs ≡ bytes_of x ++ rest) × IsPartBefore fresh x rest
+    × AreParts stop (is_fresh_behind fresh x) (is_number_part x) rest xs)
 
 -- the tokens among the parts; n bytes stand before them, and p is the place of their first byte
 abbrev pub tokens_of : ℕ → Pos → List Part → List Token

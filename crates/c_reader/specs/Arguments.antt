@@ -21,11 +21,26 @@ use Rattle.c_reader.specs.Rows.{Reader, both, made, word_is, sign, marked, ident
 
 unfoldable pub global_at : List Kind → Reader GlobalName
 global_at ks n =
-    if sign_is s.And (slice_get ks n) then (ident ks (suc n) >>= λ x. Ok (record { ampersand = Some n; name = x.0 }, x.1)) else (ident ks n >>= λ x. Ok (record { ampersand = None; name = x.0 }, x.1))
+    if sign_is s.And (slice_get ks n) then (ident ks (suc n) >>= λ x. Ok (
+      record {
+        ampersand = Some n;
+        name =
+            x.0;
+      },
+      x.1,
+    )) else (ident ks n >>= λ x. Ok (record { ampersand = None; name = x.0 }, x.1))
 
 unfoldable pub index_at : List Kind → Reader ArgIndex
 index_at ks n =
-    if sign_is s.Minus (slice_get ks n) then (number ks (suc n) >>= λ v. Ok (record { is_negative = true; at = n; value = v.0.value }, v.1)) else (number ks n >>= λ v. Ok (record { is_negative = false; at = n; value = v.0.value }, v.1))
+    if sign_is s.Minus (slice_get ks n) then (number ks (suc n) >>= λ v. Ok (
+      record {
+        is_negative = true;
+        at = n;
+        value =
+            v.0.value;
+      },
+      v.1,
+    )) else (number ks n >>= λ v. Ok (record { is_negative = false; at = n; value = v.0.value }, v.1))
 
 unfoldable pub via_at : List Kind → Reader ArgVia
 via_at ks n =
@@ -47,17 +62,32 @@ access_at ks n = access_in (slice_get ks n) n
 abbrev pub placed_access : List Kind → Reader (AccessWord × ℕ)
 placed_access ks n = access_at ks n >>= λ a. Ok ((a.0, n), a.1)
 
-abbrev pub dat_row : List Kind → Reader (ℕ × (Unit {0} × (Ident × (Unit {0} × (ArgIndex × (Unit {0} × (ArgVia × (Unit {0} × (NumberLiteral × (Unit {0} × (TextLiteral × (Unit {0} × ((AccessWord × ℕ) × Unit {0})))))))))))))
+abbrev pub dat_row : List Kind
+    → Reader (ℕ × (Unit {0}
+    × (Ident × (Unit {0} × (ArgIndex
+    × (Unit {0} × (ArgVia × (Unit {0} × (NumberLiteral × (Unit {0} × (TextLiteral × (Unit {0} × ((AccessWord × ℕ) × Unit {0})))))))))))))
 dat_row ks =
-    both (marked ks w.OpArgDat) (both (sign ks s.LeftParen) (both (ident ks) (both (sign ks s.Comma) (both (index_at ks) (both (sign ks s.Comma) (both (via_at ks) (both (sign ks s.Comma) (both (number ks) (both (sign ks s.Comma) (both (text ks) (both (sign ks s.Comma) (both (placed_access ks) (sign ks s.RightParen)))))))))))))
+    both (marked ks w.OpArgDat)
+    (both (sign ks s.LeftParen)
+    (both (ident ks) (both (sign ks s.Comma)
+    (both (index_at ks) (both (sign ks s.Comma)
+    (both (via_at ks) (both (sign ks s.Comma)
+    (both (number ks) (both (sign ks s.Comma)
+    (both (text ks) (both (sign ks s.Comma) (both (placed_access ks) (sign ks s.RightParen)))))))))))))
 
 abbrev pub dat_arg : List Kind → Reader LoopArg
 dat_arg ks =
     made (λ v. arg.Dat v.0 v.1.1.0 v.1.1.1.1.0 v.1.1.1.1.1.1.0 v.1.1.1.1.1.1.1.1.0 v.1.1.1.1.1.1.1.1.1.1.0 v.1.1.1.1.1.1.1.1.1.1.1.1.0.0 v.1.1.1.1.1.1.1.1.1.1.1.1.0.1) (dat_row ks)
 
-abbrev pub global_row : List Kind → Reader (ℕ × (Unit {0} × (GlobalName × (Unit {0} × (NumberLiteral × (Unit {0} × (TextLiteral × (Unit {0} × ((AccessWord × ℕ) × Unit {0})))))))))
+abbrev pub global_row : List Kind
+    → Reader (ℕ × (Unit {0}
+    × (GlobalName × (Unit {0} × (NumberLiteral × (Unit {0} × (TextLiteral × (Unit {0} × ((AccessWord × ℕ) × Unit {0})))))))))
 global_row ks =
-    both (marked ks w.OpArgGbl) (both (sign ks s.LeftParen) (both (global_at ks) (both (sign ks s.Comma) (both (number ks) (both (sign ks s.Comma) (both (text ks) (both (sign ks s.Comma) (both (placed_access ks) (sign ks s.RightParen)))))))))
+    both (marked ks w.OpArgGbl)
+    (both (sign ks s.LeftParen)
+    (both (global_at ks) (both (sign ks s.Comma)
+    (both (number ks) (both (sign ks s.Comma)
+    (both (text ks) (both (sign ks s.Comma) (both (placed_access ks) (sign ks s.RightParen)))))))))
 
 abbrev pub global_arg : List Kind → Reader LoopArg
 global_arg ks =

@@ -19,29 +19,63 @@ use Rattle.c_reader.specs.Arguments.{global_at, args_at}
 abbrev pub close : List Kind → Reader (Unit {0} × Unit {0})
 close ks = both (sign ks s.RightParen) (sign ks s.Semicolon)
 
-abbrev pub init_row : List Kind → Reader (ℕ × (Unit {0} × (Unit {0} × (Unit {0} × (Unit {0} × (Unit {0} × (NumberLiteral × (Unit {0} × Unit {0}))))))))
+abbrev pub init_row : List Kind
+    → Reader (ℕ × (Unit {0} × (Unit {0} × (Unit {0} × (Unit {0} × (Unit {0} × (NumberLiteral × (Unit {0} × Unit {0}))))))))
 init_row ks =
-    both (marked ks w.OpInit) (both (sign ks s.LeftParen) (both (word ks w.Argc) (both (sign ks s.Comma) (both (word ks w.Argv) (both (sign ks s.Comma) (both (number ks) (close ks)))))))
+    both (marked ks w.OpInit)
+    (both (sign ks s.LeftParen)
+    (both (word ks w.Argc) (both (sign ks s.Comma) (both (word ks w.Argv) (both (sign ks s.Comma) (both (number ks) (close ks)))))))
 
-abbrev pub decl_set_row : List Kind → ℕ → Reader (Unit {0} × (Ident × (Unit {0} × (ℕ × (Unit {0} × (ExprTree × (Unit {0} × (TextLiteral × (Unit {0} × Unit {0})))))))))
+abbrev pub decl_set_row : List Kind → ℕ
+    → Reader (Unit {0} × (Ident × (Unit {0} × (ℕ × (Unit {0} × (ExprTree × (Unit {0} × (TextLiteral × (Unit {0} × Unit {0})))))))))
 decl_set_row ks d =
-    both (word ks w.OpSet) (both (ident ks) (both (sign ks s.Assign) (both (marked ks w.OpDeclSet) (both (sign ks s.LeftParen) (both (read ks d 0) (both (sign ks s.Comma) (both (text ks) (close ks))))))))
+    both (word ks w.OpSet)
+    (both (ident ks) (both (sign ks s.Assign)
+    (both (marked ks w.OpDeclSet)
+    (both (sign ks s.LeftParen) (both (read ks d 0) (both (sign ks s.Comma) (both (text ks) (close ks))))))))
 
-abbrev pub decl_map_row : List Kind → Reader (Unit {0} × (Ident × (Unit {0} × (ℕ × (Unit {0} × (Ident × (Unit {0} × (Ident × (Unit {0} × (NumberLiteral × (Unit {0} × (Ident × (Unit {0} × (TextLiteral × (Unit {0} × Unit {0})))))))))))))))
+abbrev pub decl_map_row : List Kind
+    → Reader (Unit {0} × (Ident
+    × (Unit {0} × (ℕ × (Unit {0}
+    × (Ident × (Unit {0} × (Ident
+    × (Unit {0} × (NumberLiteral × (Unit {0} × (Ident × (Unit {0} × (TextLiteral × (Unit {0} × Unit {0})))))))))))))))
 decl_map_row ks =
-    both (word ks w.OpMap) (both (ident ks) (both (sign ks s.Assign) (both (marked ks w.OpDeclMap) (both (sign ks s.LeftParen) (both (ident ks) (both (sign ks s.Comma) (both (ident ks) (both (sign ks s.Comma) (both (number ks) (both (sign ks s.Comma) (both (ident ks) (both (sign ks s.Comma) (both (text ks) (close ks))))))))))))))
+    both (word ks w.OpMap)
+    (both (ident ks) (both (sign ks s.Assign)
+    (both (marked ks w.OpDeclMap)
+    (both (sign ks s.LeftParen)
+    (both (ident ks) (both (sign ks s.Comma)
+    (both (ident ks) (both (sign ks s.Comma)
+    (both (number ks) (both (sign ks s.Comma) (both (ident ks) (both (sign ks s.Comma) (both (text ks) (close ks))))))))))))))
 
-abbrev pub decl_dat_row : List Kind → Reader (Unit {0} × (Ident × (Unit {0} × (ℕ × (Unit {0} × (Ident × (Unit {0} × (NumberLiteral × (Unit {0} × (TextLiteral × (Unit {0} × (Ident × (Unit {0} × (TextLiteral × (Unit {0} × Unit {0})))))))))))))))
+abbrev pub decl_dat_row : List Kind
+    → Reader (Unit {0} × (Ident
+    × (Unit {0} × (ℕ × (Unit {0}
+    × (Ident × (Unit {0} × (NumberLiteral
+    × (Unit {0} × (TextLiteral × (Unit {0} × (Ident × (Unit {0} × (TextLiteral × (Unit {0} × Unit {0})))))))))))))))
 decl_dat_row ks =
-    both (word ks w.OpDat) (both (ident ks) (both (sign ks s.Assign) (both (marked ks w.OpDeclDat) (both (sign ks s.LeftParen) (both (ident ks) (both (sign ks s.Comma) (both (number ks) (both (sign ks s.Comma) (both (text ks) (both (sign ks s.Comma) (both (ident ks) (both (sign ks s.Comma) (both (text ks) (close ks))))))))))))))
+    both (word ks w.OpDat)
+    (both (ident ks) (both (sign ks s.Assign)
+    (both (marked ks w.OpDeclDat)
+    (both (sign ks s.LeftParen)
+    (both (ident ks) (both (sign ks s.Comma)
+    (both (number ks) (both (sign ks s.Comma)
+    (both (text ks) (both (sign ks s.Comma) (both (ident ks) (both (sign ks s.Comma) (both (text ks) (close ks))))))))))))))
 
-abbrev pub decl_const_row : List Kind → Reader (ℕ × (Unit {0} × (NumberLiteral × (Unit {0} × (TextLiteral × (Unit {0} × (GlobalName × (Unit {0} × Unit {0}))))))))
+abbrev pub decl_const_row : List Kind
+    → Reader (ℕ × (Unit {0} × (NumberLiteral × (Unit {0} × (TextLiteral × (Unit {0} × (GlobalName × (Unit {0} × Unit {0}))))))))
 decl_const_row ks =
-    both (marked ks w.OpDeclConst) (both (sign ks s.LeftParen) (both (number ks) (both (sign ks s.Comma) (both (text ks) (both (sign ks s.Comma) (both (global_at ks) (close ks)))))))
+    both (marked ks w.OpDeclConst)
+    (both (sign ks s.LeftParen)
+    (both (number ks) (both (sign ks s.Comma) (both (text ks) (both (sign ks s.Comma) (both (global_at ks) (close ks)))))))
 
-abbrev pub par_loop_row : List Kind → Reader (ℕ × (Unit {0} × (Ident × (Unit {0} × (TextLiteral × (Unit {0} × (Ident × (List LoopArg × (Unit {0} × Unit {0})))))))))
+abbrev pub par_loop_row : List Kind
+    → Reader (ℕ × (Unit {0} × (Ident × (Unit {0} × (TextLiteral × (Unit {0} × (Ident × (List LoopArg × (Unit {0} × Unit {0})))))))))
 par_loop_row ks =
-    both (marked ks w.OpParLoop) (both (sign ks s.LeftParen) (both (ident ks) (both (sign ks s.Comma) (both (text ks) (both (sign ks s.Comma) (both (ident ks) (both (args_at ks) (close ks))))))))
+    both (marked ks w.OpParLoop)
+    (both (sign ks s.LeftParen)
+    (both (ident ks) (both (sign ks s.Comma)
+    (both (text ks) (both (sign ks s.Comma) (both (ident ks) (both (args_at ks) (close ks))))))))
 
 -- the values of a printed line
 abbrev pub values_at : List Kind → ℕ → Reader (List ExprTree)
@@ -53,7 +87,8 @@ printf_row ks d =
 
 abbrev pub print_dat_row : List Kind → Reader (ℕ × (Unit {0} × (Ident × (Unit {0} × (TextLiteral × (Unit {0} × Unit {0}))))))
 print_dat_row ks =
-    both (marked ks w.OpPrintDatToTxtfile) (both (sign ks s.LeftParen) (both (ident ks) (both (sign ks s.Comma) (both (text ks) (close ks)))))
+    both (marked ks w.OpPrintDatToTxtfile)
+    (both (sign ks s.LeftParen) (both (ident ks) (both (sign ks s.Comma) (both (text ks) (close ks)))))
 
 abbrev pub call_at : List Kind → ℕ → CallLead → Reader OpCallTree
 call_at ks d lead.Init = made (λ v. CallInit v.0 v.1.1.1.1.1.1.0) (init_row ks)

@@ -1,5 +1,6 @@
 -- What the readers of an expression answer, as functions of the kinds of all tokens and of a place among them.
-use Rattle.std.specs.Prelude.{◌≡◌, ℕ, zero, suc, Bool, false, List, Option, Some, None, Result, Ok, Err, slice_get, nat_le, nat_eq, length, if◌then◌else◌}
+use Rattle.std.specs.Prelude.{◌≡◌, ℕ, zero, suc, Bool, false, List, Option, Some, None, Result, Ok, Err, slice_get, nat_le, nat_eq, length}
+use Rattle.std.specs.Prelude.{if◌then◌else◌}
 use Rattle.c_lex.specs.declared.tokens.Kind.{Kind}
 use Rattle.c_lex.specs.declared.tokens.Kind.TheVariants as kind
 use Rattle.c_lex.specs.declared.tokens.Sign.{Sign}
@@ -70,7 +71,15 @@ operator_at ks m n = operator_in m (slice_get ks n)
 -- a name, or a name with an index
 unfoldable pub name_at : List Kind → Rec → List ℕ → ℕ → Step
 name_at ks rec x n =
-    if sign_is sign.LeftBracket (slice_get ks (suc n)) then (rec 0 (suc (suc n)) >>= λ i. sign_at ks sign.RightBracket i.1 >>= λ e. Ok (Index (record { name = x; at = n }) i.0, e)) else Ok (Name (record { name = x; at = n }), suc n)
+    if sign_is sign.LeftBracket (slice_get ks (suc n)) then
+    (rec 0 (suc (suc n)) >>= λ i. sign_at ks sign.RightBracket i.1 >>= λ e. Ok (
+      Index (record {
+        name = x;
+        at =
+            n;
+      }) i.0,
+      e,
+    )) else Ok (Name (record { name = x; at = n }), suc n)
 
 abbrev pub name_in : Option Kind → ℕ → Result (List ℕ) Fault
 name_in (Some (kind.Name x)) n = Ok x
@@ -85,7 +94,9 @@ led_by ks rec lead.Nothing n = Err (Syntax n)
 
 abbrev pub worded_by : List Kind → Rec → WordLead → ℕ → Step
 worded_by ks rec (word_lead.Extremum w) n =
-    sign_at ks sign.LeftParen (suc n) >>= λ o. rec 0 o >>= λ a. sign_at ks sign.Comma a.1 >>= λ c. rec 0 c >>= λ b. sign_at ks sign.RightParen b.1 >>= λ e. Ok (Extremum w n a.0 b.0, e)
+    sign_at ks sign.LeftParen
+    (suc n) >>= λ o. rec 0 o >>= λ a. sign_at ks sign.Comma a.1 >>= λ c. rec 0 c >>= λ b. sign_at ks sign.RightParen b.1 >>= λ e. Ok
+    (Extremum w n a.0 b.0, e)
 worded_by ks rec word_lead.Absolute n =
     sign_at ks sign.LeftParen (suc n) >>= λ o. rec 0 o >>= λ a. sign_at ks sign.RightParen a.1 >>= λ e. Ok (Absolute n a.0, e)
 worded_by ks rec word_lead.Nothing n = Err (Syntax n)
@@ -114,7 +125,8 @@ chain ks rec (suc c) m l n =
 -- the rest of a choice, where one may stand
 unfoldable pub choice : List Kind → Rec → ℕ → ExprTree → ℕ → Step
 choice ks rec zero l n =
-    if sign_is sign.Question (slice_get ks n) then (rec 0 (suc n) >>= λ y. sign_at ks sign.Colon y.1 >>= λ e. rec 0 e >>= λ z. Ok (Choice n l y.0 z.0, z.1)) else Ok (l, n)
+    if sign_is sign.Question (slice_get ks n) then
+    (rec 0 (suc n) >>= λ y. sign_at ks sign.Colon y.1 >>= λ e. rec 0 e >>= λ z. Ok (Choice n l y.0 z.0, z.1)) else Ok (l, n)
 choice ks rec (suc m) l n = Ok (l, n)
 
 -- an expression of at least level m at a place, with d levels of nesting left

@@ -4,7 +4,8 @@ use Rattle.c_lex.specs.declared.tokens.Kind.{Kind}
 use Rattle.c_lex.specs.declared.tokens.Sign.TheVariants as s
 use Rattle.c_lex.specs.declared.tokens.Word.TheVariants as w
 use Rattle.c_tree.specs.declared.expressions.Ident.{Ident}
-use Rattle.c_tree.specs.Tree.{ExprTree, HostForHeaderTree, HostTree, HostDeclaration, HostBlock, HostEmpty, HostAssign, HostIf, HostIfElse, HostFor, HostCall, HostTrees, NoHost, MoreHost}
+use Rattle.c_tree.specs.Tree.{ExprTree, HostForHeaderTree, HostTree, HostDeclaration, HostBlock, HostEmpty, HostAssign, HostIf, HostIfElse}
+use Rattle.c_tree.specs.Tree.{HostFor, HostCall, HostTrees, NoHost, MoreHost}
 use Rattle.c_reader.specs.declared.faults.Fault.TheVariants.{Syntax, TooDeep}
 use Rattle.c_reader.specs.declared.hosts.Closing.{Closing}
 use Rattle.c_reader.specs.declared.hosts.Closing.TheVariants as closing
@@ -20,15 +21,30 @@ use Rattle.c_reader.specs.Calls.{call_at}
 -- the head of a `for` up to its first `;`, and from there on
 abbrev pub for_front : List Kind → ℕ → Reader (ℕ × (Unit {0} × (Unit {0} × (Ident × (Unit {0} × (ExprTree × Unit {0}))))))
 for_front ks d =
-    both (marked ks w.For) (both (sign ks s.LeftParen) (both (word ks w.Int) (both (ident ks) (both (sign ks s.Assign) (both (read ks d 0) (sign ks s.Semicolon))))))
+    both (marked ks w.For)
+    (both (sign ks s.LeftParen)
+    (both (word ks w.Int) (both (ident ks) (both (sign ks s.Assign) (both (read ks d 0) (sign ks s.Semicolon))))))
 
 abbrev pub for_behind : List Kind → ℕ → Ident → Reader (Ident × (Unit {0} × (ExprTree × (Unit {0} × (Ident × (Unit {0} × Unit {0}))))))
 for_behind ks d x =
-    both (same_ident ks x) (both (sign ks s.Less) (both (read ks d 0) (both (sign ks s.Semicolon) (both (same_ident ks x) (both (sign ks s.PlusPlus) (sign ks s.RightParen))))))
+    both (same_ident ks x)
+    (both (sign ks s.Less)
+    (both (read ks d 0) (both (sign ks s.Semicolon) (both (same_ident ks x) (both (sign ks s.PlusPlus) (sign ks s.RightParen))))))
 
 unfoldable pub for_header_at : List Kind → ℕ → Reader HostForHeaderTree
 for_header_at ks d n =
-    for_front ks d n >>= λ a. for_behind ks d a.0.1.1.1.0 a.1 >>= λ b. Ok (record { at = a.0.0; name = a.0.1.1.1.0; from = a.0.1.1.1.1.1.0; tested = b.0.0; to = b.0.1.1.0; stepped = b.0.1.1.1.1.0 }, b.1)
+    for_front ks d n >>= λ a. for_behind ks d a.0.1.1.1.0 a.1 >>= λ b. Ok (
+      record {
+        at = a.0.0;
+        name = a.0.1.1.1.0;
+        from =
+            a.0.1.1.1.1.1.0;
+        tested = b.0.0;
+        to = b.0.1.1.0;
+        stepped = b.0.1.1.1.1.0;
+      },
+      b.1,
+    )
 
 abbrev pub lead_in : Option Kind → HostLead
 lead_in None = lead.Nothing
@@ -57,12 +73,14 @@ hosts_in ks c rec n = until (is_closed ks c) rec (length ks) n
 
 unfoldable pub if_at : List Kind → ℕ → Reader HostTree → Reader HostTree
 if_at ks d rec n =
-    condition_at ks d n >>= λ c. body_at ks rec c.1 >>= λ s. if word_is w.Else (slice_get ks s.1) then (body_at ks rec (suc s.1) >>= λ t. Ok (HostIfElse n c.0 s.0 t.0, t.1)) else Ok (HostIf n c.0 s.0, s.1)
+    condition_at ks d n >>= λ c. body_at ks rec c.1 >>= λ s. if word_is w.Else (slice_get ks s.1) then
+    (body_at ks rec (suc s.1) >>= λ t. Ok (HostIfElse n c.0 s.0 t.0, t.1)) else Ok (HostIf n c.0 s.0, s.1)
 
 abbrev pub host_led : List Kind → ℕ → Reader HostTree → HostLead → Reader HostTree
 host_led ks d rec lead.Declaration n = declaration_at ks d n >>= λ v. Ok (HostDeclaration v.0, v.1)
 host_led ks d rec lead.Block n =
-    sign_at ks s.LeftBrace n >>= λ o. hosts_in ks closing.Brace rec o >>= λ b. sign_at ks s.RightBrace b.1 >>= λ e. Ok (HostBlock n (host_trees b.0), e)
+    sign_at ks s.LeftBrace n >>= λ o. hosts_in ks closing.Brace rec o >>= λ b. sign_at ks s.RightBrace b.1 >>= λ e. Ok
+    (HostBlock n (host_trees b.0), e)
 host_led ks d rec lead.Empty n = sign_at ks s.Semicolon n >>= λ e. Ok (HostEmpty n, e)
 host_led ks d rec lead.Assignment n = assignment_at ks d n >>= λ a. Ok (HostAssign a.0, a.1)
 host_led ks d rec lead.If n = if_at ks d rec n

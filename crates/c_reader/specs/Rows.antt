@@ -1,5 +1,6 @@
 -- Readers of a row of tokens, one after another.
-use Rattle.std.specs.Prelude.{ℕ, suc, Bool, false, zero, List, [], ◌∷◌, ◌++◌, Option, Some, Result, Ok, Err, slice_get, map, Vec, if◌then◌else◌}
+use Rattle.std.specs.Prelude.{ℕ, suc, Bool, false, zero, List, [], ◌∷◌, ◌++◌, Option, Some, Result, Ok, Err, slice_get, map, Vec}
+use Rattle.std.specs.Prelude.{if◌then◌else◌}
 use Rattle.std.specs.Global.{Global}
 use Rattle.c_lex.specs.declared.tokens.Sign.TheVariants as the_sign
 use Rattle.c_lex.specs.declared.tokens.Kind.{Kind}
@@ -74,13 +75,21 @@ text ks n = text_in (slice_get ks n) n
 unfoldable pub separated : {A : Type 0} → List Kind → Reader A → Sign → ℕ → Reader (List A)
 separated ks p s zero n = Err (Syntax n)
 separated ks p s (suc c) n =
-    p n >>= λ a. if sign_is the_sign.Comma (slice_get ks a.1) then (separated ks p s c (suc a.1) >>= λ r. Ok (a.0 ∷ r.0, r.1)) else (sign_at ks s a.1 >>= λ e. Ok (a.0 ∷ [], e))
+    p n >>= λ a. if sign_is the_sign.Comma (slice_get ks a.1) then (separated ks p s c (suc a.1) >>= λ r. Ok (
+      a.0
+          ∷ r.0,
+      r.1,
+    )) else (sign_at ks s a.1 >>= λ e. Ok (a.0 ∷ [], e))
 
 -- items that each stand behind a comma
 unfoldable pub behind_commas : {A : Type 0} → List Kind → Reader A → ℕ → Reader (List A)
 behind_commas ks p zero n = Err (Syntax n)
 behind_commas ks p (suc c) n =
-    if sign_is the_sign.Comma (slice_get ks n) then (p (suc n) >>= λ a. behind_commas ks p c a.1 >>= λ r. Ok (a.0 ∷ r.0, r.1)) else Ok ([], n)
+    if sign_is the_sign.Comma (slice_get ks n) then (p (suc n) >>= λ a. behind_commas ks p c a.1 >>= λ r. Ok (
+      a.0
+          ∷ r.0,
+      r.1,
+    )) else Ok ([], n)
 
 -- items up to what closes them, and its place
 unfoldable pub until : {A : Type 0} → (ℕ → Bool) → Reader A → ℕ → Reader (List A)

@@ -30,15 +30,30 @@ same_ident ks x n = ident ks n >>= λ y. if bytes_eq y.0.name x.name then Ok y e
 -- the head of a `for` up to its first `;`, and from there on
 abbrev pub for_front : List Kind → Reader (ℕ × (Unit {0} × (Unit {0} × (Ident × (Unit {0} × (NumberLiteral × Unit {0}))))))
 for_front ks =
-    both (marked ks w.For) (both (sign ks s.LeftParen) (both (word ks w.Int) (both (ident ks) (both (sign ks s.Assign) (both (number ks) (sign ks s.Semicolon))))))
+    both (marked ks w.For)
+    (both (sign ks s.LeftParen)
+    (both (word ks w.Int) (both (ident ks) (both (sign ks s.Assign) (both (number ks) (sign ks s.Semicolon))))))
 
 abbrev pub for_behind : List Kind → Ident → Reader (Ident × (Unit {0} × (NumberLiteral × (Unit {0} × (Ident × (Unit {0} × Unit {0}))))))
 for_behind ks x =
-    both (same_ident ks x) (both (sign ks s.Less) (both (number ks) (both (sign ks s.Semicolon) (both (same_ident ks x) (both (sign ks s.PlusPlus) (sign ks s.RightParen))))))
+    both (same_ident ks x)
+    (both (sign ks s.Less)
+    (both (number ks) (both (sign ks s.Semicolon) (both (same_ident ks x) (both (sign ks s.PlusPlus) (sign ks s.RightParen))))))
 
 unfoldable pub for_header_at : List Kind → Reader ForHeader
 for_header_at ks n =
-    for_front ks n >>= λ a. for_behind ks a.0.1.1.1.0 a.1 >>= λ b. Ok (record { at = a.0.0; name = a.0.1.1.1.0; from = a.0.1.1.1.1.1.0; tested = b.0.0; to = b.0.1.1.0; stepped = b.0.1.1.1.1.0 }, b.1)
+    for_front ks n >>= λ a. for_behind ks a.0.1.1.1.0 a.1 >>= λ b. Ok (
+      record {
+        at = a.0.0;
+        name = a.0.1.1.1.0;
+        from =
+            a.0.1.1.1.1.1.0;
+        tested = b.0.0;
+        to = b.0.1.1.0;
+        stepped = b.0.1.1.1.1.0;
+      },
+      b.1,
+    )
 
 abbrev pub lead_in : Option Kind → StmtLead
 lead_in None = lead.Nothing
@@ -58,7 +73,8 @@ stmts_in ks rec n = until (λ m. sign_is s.RightBrace (slice_get ks m)) rec (len
 
 unfoldable pub if_at : List Kind → ℕ → Reader StmtTree → Reader StmtTree
 if_at ks d rec n =
-    condition_at ks d n >>= λ c. body_at ks rec c.1 >>= λ s. if word_is w.Else (slice_get ks s.1) then (body_at ks rec (suc s.1) >>= λ t. Ok (IfElse n c.0 s.0 t.0, t.1)) else Ok (If n c.0 s.0, s.1)
+    condition_at ks d n >>= λ c. body_at ks rec c.1 >>= λ s. if word_is w.Else (slice_get ks s.1) then
+    (body_at ks rec (suc s.1) >>= λ t. Ok (IfElse n c.0 s.0 t.0, t.1)) else Ok (If n c.0 s.0, s.1)
 
 abbrev pub stmt_led : List Kind → ℕ → Reader StmtTree → StmtLead → Reader StmtTree
 stmt_led ks d rec lead.Declaration n = declaration_at ks d n >>= λ v. Ok (LocalDeclaration v.0, v.1)

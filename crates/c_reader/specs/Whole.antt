@@ -1,5 +1,6 @@
 -- What the readers of the parts of the file, of `main` and of the whole source answer.
-use Rattle.std.specs.Prelude.{ℕ, suc, Bool, true, false, ◌&&◌, List, Option, Some, None, Result, Ok, Err, slice_get, length, nat_eq, if◌then◌else◌}
+use Rattle.std.specs.Prelude.{ℕ, suc, Bool, true, false, ◌&&◌, List, Option, Some, None, Result, Ok, Err, slice_get, length, nat_eq}
+use Rattle.std.specs.Prelude.{if◌then◌else◌}
 use Rattle.c_lex.specs.declared.tokens.Kind.{Kind}
 use Rattle.c_lex.specs.declared.tokens.Pos.{Pos}
 use Rattle.c_lex.specs.declared.tokens.Sign.TheVariants as s
@@ -27,7 +28,9 @@ extern_front ks = both (word ks w.Extern) (both (word ks w.Int) (ident ks))
 
 unfoldable pub extern_at : List Kind → Reader TopTree
 extern_at ks n =
-    extern_front ks n >>= λ x. if sign_is s.LeftBracket (slice_get ks x.1) then (both (sign ks s.RightBracket) (sign ks s.Semicolon) (suc x.1) >>= λ e. Ok (ExternArray x.0.1.1, e.1)) else (sign_at ks s.Semicolon x.1 >>= λ e. Ok (Extern x.0.1.1, e))
+    extern_front ks n >>= λ x. if sign_is s.LeftBracket (slice_get ks x.1) then
+    (both (sign ks s.RightBracket) (sign ks s.Semicolon) (suc x.1) >>= λ e. Ok (ExternArray x.0.1.1, e.1)) else
+    (sign_at ks s.Semicolon x.1 >>= λ e. Ok (Extern x.0.1.1, e))
 
 -- whether a word stands there, and the place after it
 abbrev pub skipped : List Kind → Word → ℕ → Bool × ℕ
@@ -48,11 +51,23 @@ params_at ks n = separated ks (param_at ks) s.RightParen (length ks) n
 
 abbrev pub kernel_row : List Kind → Reader (Unit {0} × (Ident × (Unit {0} × (List Param × (Unit {0} × (List StmtTree × Unit {0}))))))
 kernel_row ks =
-    both (word ks w.Void) (both (ident ks) (both (sign ks s.LeftParen) (both (params_at ks) (both (sign ks s.LeftBrace) (both (stmts_in ks (stmt_at ks 64)) (sign ks s.RightBrace))))))
+    both (word ks w.Void)
+    (both (ident ks) (both (sign ks s.LeftParen)
+    (both (params_at ks) (both (sign ks s.LeftBrace) (both (stmts_in ks (stmt_at ks 64)) (sign ks s.RightBrace))))))
 
 abbrev pub kernel_behind : List Kind → Bool → Bool × ℕ → Result (KernelTree × ℕ) Fault
 kernel_behind ks t i =
-    kernel_row ks i.1 >>= λ v. Ok (record { is_static = t; is_inline = i.0; name = v.0.1.0; params = v.0.1.1.1.0; body = stmt_trees v.0.1.1.1.1.1.0 }, v.1)
+    kernel_row ks i.1 >>= λ v. Ok (
+      record {
+        is_static = t;
+        is_inline = i.0;
+        name = v.0.1.0;
+        params = v.0.1.1.1.0;
+        body =
+            stmt_trees v.0.1.1.1.1.1.0;
+      },
+      v.1,
+    )
 
 abbrev pub kernel_after : List Kind → Bool × ℕ → Result (KernelTree × ℕ) Fault
 kernel_after ks t = kernel_behind ks t.0 (skipped ks w.Inline t.1)
@@ -84,27 +99,47 @@ tops_at ks n = until (begins_main ks) (top_at ks) (length ks) n
 -- `**argv` or `*argv[]`: whether it has brackets
 unfoldable pub argv_at : List Kind → Reader Bool
 argv_at ks n =
-    sign_at ks s.Star n >>= λ m. if sign_is s.Star (slice_get ks m) then (word_at ks w.Argv (suc m) >>= λ e. Ok (false, e)) else (both (word ks w.Argv) (both (sign ks s.LeftBracket) (sign ks s.RightBracket)) m >>= λ e. Ok (true, e.1))
+    sign_at ks s.Star n >>= λ m. if sign_is s.Star (slice_get ks m) then (word_at ks w.Argv (suc m) >>= λ e. Ok (false, e)) else
+    (both (word ks w.Argv) (both (sign ks s.LeftBracket) (sign ks s.RightBracket)) m >>= λ e. Ok (true, e.1))
 
 -- `return` and its number, where they stand there
 unfoldable pub return_at : List Kind → Reader (Option NumberLiteral)
 return_at ks n =
-    if word_is w.Return (slice_get ks n) then (number ks (suc n) >>= λ v. sign_at ks s.Semicolon v.1 >>= λ e. Ok (Some v.0, e)) else Ok (None, n)
+    if word_is w.Return (slice_get ks n) then (number ks (suc n) >>= λ v. sign_at ks s.Semicolon v.1 >>= λ e. Ok (Some v.0, e)) else Ok
+    (None, n)
 
 -- `main` from its name up to its statements, and from there on
-abbrev pub main_front : List Kind → Reader (Unit {0} × (ℕ × (Unit {0} × (Unit {0} × (Unit {0} × (Unit {0} × (Unit {0} × (Bool × (Unit {0} × Unit {0})))))))))
+abbrev pub main_front : List Kind
+    → Reader (Unit {0} × (ℕ × (Unit {0} × (Unit {0} × (Unit {0} × (Unit {0} × (Unit {0} × (Bool × (Unit {0} × Unit {0})))))))))
 main_front ks =
-    both (word ks w.Int) (both (marked ks w.Main) (both (sign ks s.LeftParen) (both (word ks w.Int) (both (word ks w.Argc) (both (sign ks s.Comma) (both (word ks w.Char) (both (argv_at ks) (both (sign ks s.RightParen) (sign ks s.LeftBrace)))))))))
+    both (word ks w.Int) (both (marked ks w.Main)
+    (both (sign ks s.LeftParen)
+    (both (word ks w.Int)
+    (both (word ks w.Argc)
+    (both (sign ks s.Comma) (both (word ks w.Char) (both (argv_at ks) (both (sign ks s.RightParen) (sign ks s.LeftBrace)))))))))
 
 abbrev pub main_end : List Kind → Reader (ℕ × (Unit {0} × (Unit {0} × (Unit {0} × (Option NumberLiteral × Unit {0})))))
 main_end ks =
-    both (marked ks w.OpExit) (both (sign ks s.LeftParen) (both (sign ks s.RightParen) (both (sign ks s.Semicolon) (both (return_at ks) (sign ks s.RightBrace)))))
+    both (marked ks w.OpExit)
+    (both (sign ks s.LeftParen) (both (sign ks s.RightParen) (both (sign ks s.Semicolon) (both (return_at ks) (sign ks s.RightBrace)))))
 
 unfoldable pub main_at : List Kind → Reader MainTree
 main_at ks =
-    made (λ v. record { at = v.0.1.0; argv_has_brackets = v.0.1.1.1.1.1.1.1.0; body = host_trees v.1.0; exit_at = v.1.1.0; returned = v.1.1.1.1.1.1.0 }) (both (main_front ks) (both (hosts_in ks closing.Exit (host_at ks 64)) (main_end ks)))
+    made (λ v. record {
+      at = v.0.1.0;
+      argv_has_brackets = v.0.1.1.1.1.1.1.1.0;
+      body = host_trees v.1.0;
+      exit_at = v.1.1.0;
+      returned =
+          v.1.1.1.1.1.1.0;
+    }) (both (main_front ks) (both (hosts_in ks closing.Exit (host_at ks 64)) (main_end ks)))
 
 -- the tree of all tokens, whose places are given
 unfoldable pub whole : List Kind → List Pos → Result ProgramTree Fault
 whole ks places =
-    tops_at ks 0 >>= λ t. main_at ks t.1 >>= λ m. if nat_eq m.1 (length ks) then Ok (record { tops = t.0; main = m.0; places = places }) else Err (Syntax m.1)
+    tops_at ks 0 >>= λ t. main_at ks t.1 >>= λ m. if nat_eq m.1 (length ks) then Ok (record {
+      tops = t.0;
+      main = m.0;
+      places =
+          places;
+    }) else Err (Syntax m.1)

@@ -62,7 +62,8 @@ fn read_declrs(
     is_const: bool,
     at: usize,
 ) -> Result<(Vec<Declr>, usize), ReadError>
-    ensures { Gives (items_seen declr_of) result (separated (kinds tokens.now) (declr_at (kinds tokens.now) depth is_const) the_sign.Semicolon (length (kinds tokens.now)) at) }
+    ensures { Gives (items_seen declr_of) result
+        (separated (kinds tokens.now) (declr_at (kinds tokens.now) depth is_const) the_sign.Semicolon (length (kinds tokens.now)) at) }
 {
     let mut all = Vec::new(alloc);
     let mut next = at;

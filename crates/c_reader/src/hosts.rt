@@ -4,7 +4,8 @@ ghost use Rattle.std.specs.Prelude.{◌≡◌, slice_get};
 ghost use Rattle.c_tree.specs.View.{host_of, host_for_header_of};
 ghost use Rattle.c_reader.specs.Descent.{Gives};
 ghost use Rattle.c_reader.specs.Rows.{seen_by, items_seen};
-ghost use Rattle.c_reader.specs.Hosts.{for_header_at, lead_in, declares as declares_at, body_at, is_closed as is_closed_at, hosts_in, if_at, host_led, host_at};
+ghost use Rattle.c_reader.specs.Hosts.{for_header_at, lead_in, declares as declares_at, body_at, is_closed as is_closed_at, hosts_in};
+ghost use Rattle.c_reader.specs.Hosts.{if_at, host_led, host_at};
 ghost use Rattle.c_reader.specs.Kinds.{kinds};
 
 use crate::assignments::read_assignment;
@@ -87,7 +88,8 @@ fn read_led(
     depth: usize,
     at: usize,
 ) -> Result<(Host, usize), ReadError>
-    ensures { Gives (seen_by host_of) result (host_led (kinds tokens.now) depth (host_at (kinds tokens.now) depth) (lead_in (slice_get (kinds tokens.now) at)) at) }
+    ensures { Gives (seen_by host_of) result
+        (host_led (kinds tokens.now) depth (host_at (kinds tokens.now) depth) (lead_in (slice_get (kinds tokens.now) at)) at) }
 {
     match host_lead(tokens, at) {
         HostLead::Declaration => {

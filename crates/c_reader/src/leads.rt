@@ -1,7 +1,8 @@
 // What a sign begins or joins.
 
 ghost use Rattle.std.specs.Prelude.{◌≡◌};
-ghost use Rattle.c_reader.specs.Leads.{binary_of, lead_of, word_lead_of, assign_of, access_of, stmt_lead_of, host_word_lead_of, host_lead_of, top_lead_of};
+ghost use Rattle.c_reader.specs.Leads.{binary_of, lead_of, word_lead_of, assign_of, access_of, stmt_lead_of, host_word_lead_of};
+ghost use Rattle.c_reader.specs.Leads.{host_lead_of, top_lead_of};
 ghost use Rattle.c_tree.specs.Signs.{level_of};
 
 use c_tree::{AccessWord, AssignOp, BinaryOp, Kind, MinMax, Sign, UnaryOp, Word};

@@ -58,7 +58,8 @@ pub fn one_tree()
 
 /// A law: what `show` gives for the tree of a source are the kinds of the tokens of its bytes.
 pub fn shows_its_tokens()
-    ensures { (bytes : List ℕ) (p : ProgramTree) (tokens : List LexedToken) → Reads bytes p → Lexes bytes (Ok tokens) → shown p ≡ kinds tokens }
+    ensures { (bytes : List ℕ) (p : ProgramTree) (tokens : List LexedToken) → Reads bytes p → Lexes bytes (Ok tokens)
+        → shown p ≡ kinds tokens }
 {
     one_outcome();
 }

@@ -4,7 +4,8 @@ ghost use Rattle.std.specs.Prelude.{◌≡◌, slice_get};
 ghost use Rattle.c_tree.specs.View.{expr_of, stmt_of};
 ghost use Rattle.c_reader.specs.Descent.{Gives};
 ghost use Rattle.c_reader.specs.Rows.{seen_by, items_seen};
-ghost use Rattle.c_reader.specs.Statements.{condition_at, same_ident as same_at, for_header_at, lead_in, body_at, stmts_in, if_at, stmt_led, stmt_at};
+ghost use Rattle.c_reader.specs.Statements.{condition_at, same_ident as same_at, for_header_at, lead_in, body_at, stmts_in, if_at};
+ghost use Rattle.c_reader.specs.Statements.{stmt_led, stmt_at};
 ghost use Rattle.c_reader.specs.Kinds.{kinds};
 
 use crate::assignments::read_assignment;
@@ -111,7 +112,8 @@ fn read_led(
     depth: usize,
     at: usize,
 ) -> Result<(Stmt, usize), ReadError>
-    ensures { Gives (seen_by stmt_of) result (stmt_led (kinds tokens.now) depth (stmt_at (kinds tokens.now) depth) (lead_in (slice_get (kinds tokens.now) at)) at) }
+    ensures { Gives (seen_by stmt_of) result
+        (stmt_led (kinds tokens.now) depth (stmt_at (kinds tokens.now) depth) (lead_in (slice_get (kinds tokens.now) at)) at) }
 {
     match stmt_lead(tokens, at) {
         StmtLead::Declaration => {

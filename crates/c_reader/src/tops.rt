@@ -4,7 +4,8 @@ ghost use Rattle.std.specs.Prelude.{◌≡◌, slice_get};
 ghost use Rattle.c_tree.specs.View.{top_of, kernel_of};
 ghost use Rattle.c_reader.specs.Descent.{Gives};
 ghost use Rattle.c_reader.specs.Rows.{seen_by, items_seen};
-ghost use Rattle.c_reader.specs.Whole.{extern_at, skipped, param_at, params_at, kernel_at, lead_in, top_at, begins_main as begins_main_at, tops_at};
+ghost use Rattle.c_reader.specs.Whole.{extern_at, skipped, param_at, params_at, kernel_at, lead_in, top_at, begins_main as begins_main_at};
+ghost use Rattle.c_reader.specs.Whole.{tops_at};
 ghost use Rattle.c_reader.specs.Kinds.{kinds};
 
 use crate::cursor::{after_sign, after_word, ident, is_sign, is_word};

@@ -24,7 +24,8 @@ use Rattle.c_tree.specs.Tree.{DeclrTree, Plain, Init, Array, DeclarationTree, Pl
 use Rattle.c_tree.specs.Tree.{StmtTree, LocalDeclaration, Block, Empty, Assign, If, IfElse, For, StmtTrees, NoStmt, MoreStmt}
 use Rattle.c_tree.specs.Tree.{KernelTree, TopTree, Extern, ExternArray, FileDeclaration, Kernel, HostForHeaderTree}
 use Rattle.c_tree.specs.Tree.{OpCallTree, CallInit, DeclSet, DeclMap, DeclDat, DeclConst, ParLoop, Printf, PrintDat}
-use Rattle.c_tree.specs.Tree.{HostTree, HostDeclaration, HostBlock, HostEmpty, HostAssign, HostIf, HostIfElse, HostFor, HostCall, HostTrees, NoHost, MoreHost}
+use Rattle.c_tree.specs.Tree.{HostTree, HostDeclaration, HostBlock, HostEmpty, HostAssign, HostIf, HostIfElse, HostFor, HostCall}
+use Rattle.c_tree.specs.Tree.{HostTrees, NoHost, MoreHost}
 use Rattle.c_tree.specs.Tree.{MainTree, ProgramTree}
 
 -- a sign, word, name, number or text before the rest
@@ -59,7 +60,8 @@ expr_first (Choice at c y n) rest =
     expr_first c (sign_first sign.Question (expr_first y (sign_first sign.Colon (expr_first n rest))))
 expr_first (Paren at e) rest = sign_first sign.LeftParen (expr_first e (sign_first sign.RightParen rest))
 expr_first (Extremum w at a b) rest =
-    word_first (min_max_word_of w) (sign_first sign.LeftParen (expr_first a (sign_first sign.Comma (expr_first b (sign_first sign.RightParen rest)))))
+    word_first (min_max_word_of w)
+    (sign_first sign.LeftParen (expr_first a (sign_first sign.Comma (expr_first b (sign_first sign.RightParen rest)))))
 expr_first (Absolute at e) rest =
     word_first word.Abs (sign_first sign.LeftParen (expr_first e (sign_first sign.RightParen rest)))
 
@@ -102,7 +104,13 @@ assignment_first a rest =
 
 abbrev pub header_first : ForHeader → List Kind → List Kind
 header_first c rest =
-    word_first word.For (sign_first sign.LeftParen (word_first word.Int (name_first c.name (sign_first sign.Assign (number_first c.from (sign_first sign.Semicolon (name_first c.tested (sign_first sign.Less (number_first c.to (sign_first sign.Semicolon (name_first c.stepped (sign_first sign.PlusPlus (sign_first sign.RightParen rest)))))))))))))
+    word_first word.For (sign_first sign.LeftParen
+    (word_first word.Int (name_first c.name
+    (sign_first sign.Assign
+    (number_first c.from (sign_first sign.Semicolon
+    (name_first c.tested (sign_first sign.Less
+    (number_first c.to (sign_first sign.Semicolon
+    (name_first c.stepped (sign_first sign.PlusPlus (sign_first sign.RightParen rest)))))))))))))
 
 abbrev pub condition_first : ExprTree → List Kind → List Kind
 condition_first e rest = word_first word.If (enclosed_first e rest)
@@ -137,13 +145,19 @@ params_first (p ∷ ps) rest = param_first p (more_params_first ps rest)
 
 abbrev pub kernel_first : KernelTree → List Kind → List Kind
 kernel_first f rest =
-    word_first_if f.is_static word.Static (word_first_if f.is_inline word.Inline (word_first word.Void (name_first f.name (sign_first sign.LeftParen (params_first f.params (sign_first sign.RightParen (sign_first sign.LeftBrace (stmts_first f.body (sign_first sign.RightBrace rest)))))))))
+    word_first_if f.is_static word.Static
+    (word_first_if f.is_inline word.Inline
+    (word_first word.Void
+    (name_first f.name (sign_first sign.LeftParen
+    (params_first f.params
+    (sign_first sign.RightParen (sign_first sign.LeftBrace (stmts_first f.body (sign_first sign.RightBrace rest)))))))))
 
 abbrev pub top_first : TopTree → List Kind → List Kind
 top_first (Extern x) rest =
     word_first word.Extern (word_first word.Int (name_first x (sign_first sign.Semicolon rest)))
 top_first (ExternArray x) rest =
-    word_first word.Extern (word_first word.Int (name_first x (sign_first sign.LeftBracket (sign_first sign.RightBracket (sign_first sign.Semicolon rest)))))
+    word_first word.Extern
+    (word_first word.Int (name_first x (sign_first sign.LeftBracket (sign_first sign.RightBracket (sign_first sign.Semicolon rest)))))
 top_first (FileDeclaration v) rest = declaration_first v rest
 top_first (Kernel f) rest = kernel_first f rest
 
@@ -160,7 +174,13 @@ global_first g rest = ampersand_first g.ampersand (name_first g.name rest)
 
 abbrev pub host_header_first : HostForHeaderTree → List Kind → List Kind
 host_header_first c rest =
-    word_first word.For (sign_first sign.LeftParen (word_first word.Int (name_first c.name (sign_first sign.Assign (expr_first c.from (sign_first sign.Semicolon (name_first c.tested (sign_first sign.Less (expr_first c.to (sign_first sign.Semicolon (name_first c.stepped (sign_first sign.PlusPlus (sign_first sign.RightParen rest)))))))))))))
+    word_first word.For (sign_first sign.LeftParen
+    (word_first word.Int (name_first c.name
+    (sign_first sign.Assign
+    (expr_first c.from (sign_first sign.Semicolon
+    (name_first c.tested (sign_first sign.Less
+    (expr_first c.to (sign_first sign.Semicolon
+    (name_first c.stepped (sign_first sign.PlusPlus (sign_first sign.RightParen rest)))))))))))))
 
 abbrev pub minus_first_if : Bool → List Kind → List Kind
 minus_first_if true rest = sign_first sign.Minus rest
@@ -176,11 +196,16 @@ via_first (via.Identity at) rest = word_first word.OpId rest
 -- `, dim, "type", access)`: the end of an argument
 abbrev pub arg_end_first : NumberLiteral → TextLiteral → Word → List Kind → List Kind
 arg_end_first dim text access rest =
-    sign_first sign.Comma (number_first dim (sign_first sign.Comma (text_first text (sign_first sign.Comma (word_first access (sign_first sign.RightParen rest))))))
+    sign_first sign.Comma
+    (number_first dim (sign_first sign.Comma
+    (text_first text (sign_first sign.Comma (word_first access (sign_first sign.RightParen rest))))))
 
 abbrev pub arg_first : LoopArg → List Kind → List Kind
 arg_first (arg.Dat at dat index through dim text access access_at) rest =
-    word_first word.OpArgDat (sign_first sign.LeftParen (name_first dat (sign_first sign.Comma (index_first index (sign_first sign.Comma (via_first through (arg_end_first dim text (access_word_of access) rest)))))))
+    word_first word.OpArgDat
+    (sign_first sign.LeftParen
+    (name_first dat (sign_first sign.Comma
+    (index_first index (sign_first sign.Comma (via_first through (arg_end_first dim text (access_word_of access) rest)))))))
 arg_first (arg.Global at g dim text access access_at) rest =
     word_first word.OpArgGbl (sign_first sign.LeftParen (global_first g (arg_end_first dim text (access_word_of access) rest)))
 
@@ -209,16 +234,26 @@ decl_front type x call rest =
 
 abbrev pub call_first : OpCallTree → List Kind → List Kind
 call_first (CallInit at n) rest =
-    word_first word.OpInit (sign_first sign.LeftParen (word_first word.Argc (sign_first sign.Comma (word_first word.Argv (sign_first sign.Comma (number_first n (close_first rest)))))))
+    word_first word.OpInit
+    (sign_first sign.LeftParen
+    (word_first word.Argc (sign_first sign.Comma (word_first word.Argv (sign_first sign.Comma (number_first n (close_first rest)))))))
 call_first (DeclSet at x e t) rest = decl_front word.OpSet x word.OpDeclSet (expr_first e (label_first t rest))
 call_first (DeclMap at x from to n d t) rest =
-    decl_front word.OpMap x word.OpDeclMap (name_first from (sign_first sign.Comma (name_first to (sign_first sign.Comma (number_first n (sign_first sign.Comma (name_first d (label_first t rest))))))))
+    decl_front word.OpMap x word.OpDeclMap
+    (name_first from (sign_first sign.Comma
+    (name_first to (sign_first sign.Comma (number_first n (sign_first sign.Comma (name_first d (label_first t rest))))))))
 call_first (DeclDat at x s n u d t) rest =
-    decl_front word.OpDat x word.OpDeclDat (name_first s (sign_first sign.Comma (number_first n (sign_first sign.Comma (text_first u (sign_first sign.Comma (name_first d (label_first t rest))))))))
+    decl_front word.OpDat x word.OpDeclDat
+    (name_first s (sign_first sign.Comma
+    (number_first n (sign_first sign.Comma (text_first u (sign_first sign.Comma (name_first d (label_first t rest))))))))
 call_first (DeclConst at n t g) rest =
-    word_first word.OpDeclConst (sign_first sign.LeftParen (number_first n (sign_first sign.Comma (text_first t (sign_first sign.Comma (global_first g (close_first rest)))))))
+    word_first word.OpDeclConst
+    (sign_first sign.LeftParen
+    (number_first n (sign_first sign.Comma (text_first t (sign_first sign.Comma (global_first g (close_first rest)))))))
 call_first (ParLoop at f t s xs) rest =
-    word_first word.OpParLoop (sign_first sign.LeftParen (name_first f (sign_first sign.Comma (text_first t (sign_first sign.Comma (name_first s (args_first xs (close_first rest))))))))
+    word_first word.OpParLoop
+    (sign_first sign.LeftParen
+    (name_first f (sign_first sign.Comma (text_first t (sign_first sign.Comma (name_first s (args_first xs (close_first rest))))))))
 call_first (Printf at t es) rest =
     word_first word.OpPrintf (sign_first sign.LeftParen (text_first t (values_first es (close_first rest))))
 call_first (PrintDat at x t) rest =
@@ -253,12 +288,18 @@ return_first (Some n) rest = word_first word.Return (number_first n (sign_first 
 -- `op_exit(); return 0; }`: the end of `main`
 abbrev pub exit_first : Option NumberLiteral → List Kind → List Kind
 exit_first n rest =
-    word_first word.OpExit (sign_first sign.LeftParen (sign_first sign.RightParen (sign_first sign.Semicolon (return_first n (sign_first sign.RightBrace rest)))))
+    word_first word.OpExit
+    (sign_first sign.LeftParen
+    (sign_first sign.RightParen (sign_first sign.Semicolon (return_first n (sign_first sign.RightBrace rest)))))
 
 -- `int main(int argc, char **argv) {`: the front of `main`
 abbrev pub main_front : Bool → List Kind → List Kind
 main_front brackets rest =
-    word_first word.Int (word_first word.Main (sign_first sign.LeftParen (word_first word.Int (word_first word.Argc (sign_first sign.Comma (word_first word.Char (argv_first brackets (sign_first sign.RightParen (sign_first sign.LeftBrace rest)))))))))
+    word_first word.Int (word_first word.Main
+    (sign_first sign.LeftParen
+    (word_first word.Int (word_first word.Argc
+    (sign_first sign.Comma
+    (word_first word.Char (argv_first brackets (sign_first sign.RightParen (sign_first sign.LeftBrace rest)))))))))
 
 abbrev pub main_first : MainTree → List Kind → List Kind
 main_first m rest = main_front m.argv_has_brackets (hosts_first m.body (exit_first m.returned rest))

@@ -7,7 +7,8 @@ use Rattle.c_tree.specs.Tree.{DeclrTree, Init, DeclarationTree, PlaceTree, Scala
 use Rattle.c_tree.specs.Tree.{StmtTree, LocalDeclaration, Block, Empty, Assign, If, IfElse, For, StmtTrees, NoStmt, MoreStmt}
 use Rattle.c_tree.specs.Tree.{KernelTree, TopTree, Extern, ExternArray, FileDeclaration, Kernel, HostForHeaderTree}
 use Rattle.c_tree.specs.Tree.{OpCallTree, DeclSet, Printf}
-use Rattle.c_tree.specs.Tree.{HostTree, HostDeclaration, HostBlock, HostEmpty, HostAssign, HostIf, HostIfElse, HostFor, HostCall, HostTrees, NoHost, MoreHost}
+use Rattle.c_tree.specs.Tree.{HostTree, HostDeclaration, HostBlock, HostEmpty, HostAssign, HostIf, HostIfElse, HostFor, HostCall}
+use Rattle.c_tree.specs.Tree.{HostTrees, NoHost, MoreHost}
 use Rattle.c_tree.specs.Tree.{ProgramTree}
 
 -- the operator level of an expression

@@ -23,7 +23,8 @@ use Rattle.c_tree.specs.Tree.{DeclrTree, Plain, Init, Array, DeclarationTree, Pl
 use Rattle.c_tree.specs.Tree.{StmtTree, LocalDeclaration, Block, Empty, Assign, If, IfElse, For, StmtTrees, NoStmt, MoreStmt}
 use Rattle.c_tree.specs.Tree.{KernelTree, TopTree, Extern, ExternArray, FileDeclaration, Kernel, HostForHeaderTree}
 use Rattle.c_tree.specs.Tree.{OpCallTree, CallInit, DeclSet, DeclMap, DeclDat, DeclConst, ParLoop, Printf, PrintDat}
-use Rattle.c_tree.specs.Tree.{HostTree, HostDeclaration, HostBlock, HostEmpty, HostAssign, HostIf, HostIfElse, HostFor, HostCall, HostTrees, NoHost, MoreHost}
+use Rattle.c_tree.specs.Tree.{HostTree, HostDeclaration, HostBlock, HostEmpty, HostAssign, HostIf, HostIfElse, HostFor, HostCall}
+use Rattle.c_tree.specs.Tree.{HostTrees, NoHost, MoreHost}
 use Rattle.c_tree.specs.Tree.{MainTree, ProgramTree}
 
 -- a printed token: what it is, the number that its node keeps of it, and its level
@@ -76,7 +77,8 @@ expr k (Choice at c y n) =
     expr k c ++ (named_sign k sign.Question at ∷ (expr (suc k) y ++ (sign_at k sign.Colon ∷ expr (suc k) n)))
 expr k (Paren at e) = named_sign k sign.LeftParen at ∷ (expr (suc k) e ++ sign_at k sign.RightParen ∷ [])
 expr k (Extremum w at a b) =
-    named_word k (min_max_word_of w) at ∷ sign_at k sign.LeftParen ∷ (expr (suc k) a ++ (sign_at k sign.Comma ∷ (expr (suc k) b ++ sign_at k sign.RightParen ∷ [])))
+    named_word k (min_max_word_of w) at ∷ sign_at k sign.LeftParen
+    ∷ (expr (suc k) a ++ (sign_at k sign.Comma ∷ (expr (suc k) b ++ sign_at k sign.RightParen ∷ [])))
 expr k (Absolute at e) =
     named_word k word.Abs at ∷ sign_at k sign.LeftParen ∷ (expr (suc k) e ++ sign_at k sign.RightParen ∷ [])
 
@@ -117,7 +119,9 @@ assignment k a =
 
 abbrev pub counter : ℕ → ForHeader → List Mark
 counter k c =
-    named_word k word.For c.at ∷ sign_at k sign.LeftParen ∷ word_at k word.Int ∷ ident k c.name ∷ sign_at k sign.Assign ∷ figure k c.from ∷ sign_at k sign.Semicolon ∷ ident k c.tested ∷ sign_at k sign.Less ∷ figure k c.to ∷ sign_at k sign.Semicolon ∷ ident k c.stepped ∷ sign_at k sign.PlusPlus ∷ sign_at k sign.RightParen ∷ []
+    named_word k word.For c.at ∷ sign_at k sign.LeftParen ∷ word_at k word.Int ∷ ident k c.name ∷ sign_at k sign.Assign ∷ figure k c.from
+    ∷ sign_at k sign.Semicolon ∷ ident k c.tested ∷ sign_at k sign.Less ∷ figure k c.to ∷ sign_at k sign.Semicolon ∷ ident k c.stepped
+    ∷ sign_at k sign.PlusPlus ∷ sign_at k sign.RightParen ∷ []
 
 -- the head of an `if`
 abbrev pub condition : ℕ → ℕ → ExprTree → List Mark
@@ -147,12 +151,17 @@ params (p ∷ ps) = param p ∷ params ps
 
 abbrev pub kernel : KernelTree → List Mark
 kernel f =
-    word_if f.is_static 0 word.Static ++ (word_if f.is_inline 0 word.Inline ++ (word_at 0 word.Void ∷ ident 0 f.name ∷ sign_at 0 sign.LeftParen ∷ (commas 0 (params f.params) ++ (sign_at 0 sign.RightParen ∷ sign_at 0 sign.LeftBrace ∷ (stmts 1 f.body ++ sign_at 0 sign.RightBrace ∷ [])))))
+    word_if f.is_static 0 word.Static
+    ++ (word_if f.is_inline 0 word.Inline
+    ++ (word_at 0 word.Void ∷ ident 0 f.name ∷ sign_at 0 sign.LeftParen
+    ∷ (commas 0 (params f.params)
+    ++ (sign_at 0 sign.RightParen ∷ sign_at 0 sign.LeftBrace ∷ (stmts 1 f.body ++ sign_at 0 sign.RightBrace ∷ [])))))
 
 abbrev pub top : TopTree → List Mark
 top (Extern x) = word_at 0 word.Extern ∷ word_at 0 word.Int ∷ ident 0 x ∷ sign_at 0 sign.Semicolon ∷ []
 top (ExternArray x) =
-    word_at 0 word.Extern ∷ word_at 0 word.Int ∷ ident 0 x ∷ sign_at 0 sign.LeftBracket ∷ sign_at 0 sign.RightBracket ∷ sign_at 0 sign.Semicolon ∷ []
+    word_at 0 word.Extern ∷ word_at 0 word.Int ∷ ident 0 x ∷ sign_at 0 sign.LeftBracket ∷ sign_at 0 sign.RightBracket
+    ∷ sign_at 0 sign.Semicolon ∷ []
 top (FileDeclaration v) = vars 1 v
 top (Kernel f) = kernel f
 
@@ -170,7 +179,10 @@ glob k g = and_marks g.ampersand k ++ ident k g.name ∷ []
 
 abbrev pub host_counter : ℕ → HostForHeaderTree → List Mark
 host_counter k c =
-    named_word k word.For c.at ∷ sign_at k sign.LeftParen ∷ word_at k word.Int ∷ ident k c.name ∷ sign_at k sign.Assign ∷ (expr (suc k) c.from ++ (sign_at k sign.Semicolon ∷ ident k c.tested ∷ sign_at k sign.Less ∷ (expr (suc k) c.to ++ (sign_at k sign.Semicolon ∷ ident k c.stepped ∷ sign_at k sign.PlusPlus ∷ sign_at k sign.RightParen ∷ []))))
+    named_word k word.For c.at ∷ sign_at k sign.LeftParen ∷ word_at k word.Int ∷ ident k c.name ∷ sign_at k sign.Assign
+    ∷ (expr (suc k) c.from
+    ++ (sign_at k sign.Semicolon ∷ ident k c.tested ∷ sign_at k sign.Less
+    ∷ (expr (suc k) c.to ++ (sign_at k sign.Semicolon ∷ ident k c.stepped ∷ sign_at k sign.PlusPlus ∷ sign_at k sign.RightParen ∷ []))))
 
 abbrev pub arg_index : ℕ → ArgIndex → List Mark
 arg_index k i = index_by i.is_negative k i
@@ -185,9 +197,13 @@ via_mark k (via.Identity at) = named_word k word.OpId at
 
 abbrev pub argument : ℕ → LoopArg → List Mark
 argument k (arg.Dat at dat index through dim text access access_at) =
-    named_word k word.OpArgDat at ∷ sign_at k sign.LeftParen ∷ ident k dat ∷ sign_at k sign.Comma ∷ (arg_index k index ++ (sign_at k sign.Comma ∷ via_mark k through ∷ sign_at k sign.Comma ∷ figure k dim ∷ sign_at k sign.Comma ∷ label k text ∷ sign_at k sign.Comma ∷ named_word k (access_word_of access) access_at ∷ sign_at k sign.RightParen ∷ []))
+    named_word k word.OpArgDat at ∷ sign_at k sign.LeftParen ∷ ident k dat ∷ sign_at k sign.Comma
+    ∷ (arg_index k index ++ (sign_at k sign.Comma ∷ via_mark k through ∷ sign_at k sign.Comma ∷ figure k dim ∷ sign_at k sign.Comma
+    ∷ label k text ∷ sign_at k sign.Comma ∷ named_word k (access_word_of access) access_at ∷ sign_at k sign.RightParen ∷ []))
 argument k (arg.Global at g dim text access access_at) =
-    named_word k word.OpArgGbl at ∷ sign_at k sign.LeftParen ∷ (glob k g ++ (sign_at k sign.Comma ∷ figure k dim ∷ sign_at k sign.Comma ∷ label k text ∷ sign_at k sign.Comma ∷ named_word k (access_word_of access) access_at ∷ sign_at k sign.RightParen ∷ []))
+    named_word k word.OpArgGbl at ∷ sign_at k sign.LeftParen
+    ∷ (glob k g ++ (sign_at k sign.Comma ∷ figure k dim ∷ sign_at k sign.Comma ∷ label k text ∷ sign_at k sign.Comma
+    ∷ named_word k (access_word_of access) access_at ∷ sign_at k sign.RightParen ∷ []))
 
 -- the arguments after the first three, each behind a comma
 abbrev pub arguments : ℕ → List LoopArg → List Mark
@@ -204,17 +220,25 @@ close k = sign_at k sign.RightParen ∷ sign_at k sign.Semicolon ∷ []
 
 abbrev pub call : ℕ → OpCallTree → List Mark
 call k (CallInit at n) =
-    named_word k word.OpInit at ∷ sign_at k sign.LeftParen ∷ word_at k word.Argc ∷ sign_at k sign.Comma ∷ word_at k word.Argv ∷ sign_at k sign.Comma ∷ figure k n ∷ close k
+    named_word k word.OpInit at ∷ sign_at k sign.LeftParen ∷ word_at k word.Argc ∷ sign_at k sign.Comma ∷ word_at k word.Argv
+    ∷ sign_at k sign.Comma ∷ figure k n ∷ close k
 call k (DeclSet at x e t) =
-    word_at k word.OpSet ∷ ident k x ∷ sign_at k sign.Assign ∷ named_word k word.OpDeclSet at ∷ sign_at k sign.LeftParen ∷ (expr (suc k) e ++ (sign_at k sign.Comma ∷ label k t ∷ close k))
+    word_at k word.OpSet ∷ ident k x ∷ sign_at k sign.Assign ∷ named_word k word.OpDeclSet at ∷ sign_at k sign.LeftParen
+    ∷ (expr (suc k) e ++ (sign_at k sign.Comma ∷ label k t ∷ close k))
 call k (DeclMap at x from to n d t) =
-    word_at k word.OpMap ∷ ident k x ∷ sign_at k sign.Assign ∷ named_word k word.OpDeclMap at ∷ sign_at k sign.LeftParen ∷ ident k from ∷ sign_at k sign.Comma ∷ ident k to ∷ sign_at k sign.Comma ∷ figure k n ∷ sign_at k sign.Comma ∷ ident k d ∷ sign_at k sign.Comma ∷ label k t ∷ close k
+    word_at k word.OpMap ∷ ident k x ∷ sign_at k sign.Assign ∷ named_word k word.OpDeclMap at ∷ sign_at k sign.LeftParen ∷ ident k from
+    ∷ sign_at k sign.Comma ∷ ident k to ∷ sign_at k sign.Comma ∷ figure k n ∷ sign_at k sign.Comma ∷ ident k d ∷ sign_at k sign.Comma
+    ∷ label k t ∷ close k
 call k (DeclDat at x s n u d t) =
-    word_at k word.OpDat ∷ ident k x ∷ sign_at k sign.Assign ∷ named_word k word.OpDeclDat at ∷ sign_at k sign.LeftParen ∷ ident k s ∷ sign_at k sign.Comma ∷ figure k n ∷ sign_at k sign.Comma ∷ label k u ∷ sign_at k sign.Comma ∷ ident k d ∷ sign_at k sign.Comma ∷ label k t ∷ close k
+    word_at k word.OpDat ∷ ident k x ∷ sign_at k sign.Assign ∷ named_word k word.OpDeclDat at ∷ sign_at k sign.LeftParen ∷ ident k s
+    ∷ sign_at k sign.Comma ∷ figure k n ∷ sign_at k sign.Comma ∷ label k u ∷ sign_at k sign.Comma ∷ ident k d ∷ sign_at k sign.Comma
+    ∷ label k t ∷ close k
 call k (DeclConst at n t g) =
-    named_word k word.OpDeclConst at ∷ sign_at k sign.LeftParen ∷ figure k n ∷ sign_at k sign.Comma ∷ label k t ∷ sign_at k sign.Comma ∷ (glob k g ++ close k)
+    named_word k word.OpDeclConst at ∷ sign_at k sign.LeftParen ∷ figure k n ∷ sign_at k sign.Comma ∷ label k t ∷ sign_at k sign.Comma
+    ∷ (glob k g ++ close k)
 call k (ParLoop at f t s xs) =
-    named_word k word.OpParLoop at ∷ sign_at k sign.LeftParen ∷ ident k f ∷ sign_at k sign.Comma ∷ label k t ∷ sign_at k sign.Comma ∷ ident k s ∷ (arguments k xs ++ close k)
+    named_word k word.OpParLoop at ∷ sign_at k sign.LeftParen ∷ ident k f ∷ sign_at k sign.Comma ∷ label k t ∷ sign_at k sign.Comma
+    ∷ ident k s ∷ (arguments k xs ++ close k)
 call k (Printf at t es) = named_word k word.OpPrintf at ∷ sign_at k sign.LeftParen ∷ label k t ∷ (values k es ++ close k)
 call k (PrintDat at x t) =
     named_word k word.OpPrintDatToTxtfile at ∷ sign_at k sign.LeftParen ∷ ident k x ∷ sign_at k sign.Comma ∷ label k t ∷ close k
@@ -244,7 +268,12 @@ return_marks (Some n) = word_at 0 word.Return ∷ figure 0 n ∷ sign_at 0 sign.
 
 abbrev pub main : MainTree → List Mark
 main m =
-    word_at 0 word.Int ∷ named_word 0 word.Main m.at ∷ sign_at 0 sign.LeftParen ∷ word_at 0 word.Int ∷ word_at 0 word.Argc ∷ sign_at 0 sign.Comma ∷ word_at 0 word.Char ∷ (argv_marks m.argv_has_brackets ++ (sign_at 0 sign.RightParen ∷ sign_at 0 sign.LeftBrace ∷ (hosts 1 m.body ++ (named_word 0 word.OpExit m.exit_at ∷ sign_at 0 sign.LeftParen ∷ sign_at 0 sign.RightParen ∷ sign_at 0 sign.Semicolon ∷ (return_marks m.returned ++ sign_at 0 sign.RightBrace ∷ [])))))
+    word_at 0 word.Int ∷ named_word 0 word.Main m.at ∷ sign_at 0 sign.LeftParen ∷ word_at 0 word.Int ∷ word_at 0 word.Argc
+    ∷ sign_at 0 sign.Comma ∷ word_at 0 word.Char
+    ∷ (argv_marks m.argv_has_brackets
+    ++ (sign_at 0 sign.RightParen ∷ sign_at 0 sign.LeftBrace
+    ∷ (hosts 1 m.body ++ (named_word 0 word.OpExit m.exit_at ∷ sign_at 0 sign.LeftParen ∷ sign_at 0 sign.RightParen
+    ∷ sign_at 0 sign.Semicolon ∷ (return_marks m.returned ++ sign_at 0 sign.RightBrace ∷ [])))))
 
 abbrev pub program : ProgramTree → List Mark
 program p = tops p.tops ++ main p.main

@@ -5,7 +5,8 @@ ghost use Rattle.c_tree.specs.Signs.{access_word_of};
 ghost use Rattle.c_tree.specs.View.{expr_of, call_of};
 ghost use Rattle.c_lex.specs.declared.tokens.Sign.TheVariants.{LeftParen, Comma};
 ghost use Rattle.c_tree.specs.Ahead.{sign_first, word_first, name_first, number_first, text_first};
-ghost use Rattle.c_tree.specs.Ahead.{global_first, index_first, via_first, arg_end_first, arg_first, args_first, values_first, close_first, label_first, decl_front, call_first};
+ghost use Rattle.c_tree.specs.Ahead.{global_first, index_first, via_first, arg_end_first, arg_first, args_first, values_first, close_first};
+ghost use Rattle.c_tree.specs.Ahead.{label_first, decl_front, call_first};
 
 use crate::expressions::{Expr, Ident, NumberLiteral, TextLiteral};
 use crate::hosts::{AccessWord, ArgIndex, ArgVia, GlobalName, LoopArg, OpCall};

@@ -2,7 +2,8 @@
 
 ghost use Rattle.std.specs.Prelude.{◌≡◌, IfOk, reverse};
 ghost use Rattle.c_tree.specs.View.{host_for_header_of, host_of, hosts_of, main_of};
-ghost use Rattle.c_tree.specs.Ahead.{host_header_first, host_first, hosts_first, argv_first, return_first, exit_first, main_front, main_first};
+ghost use Rattle.c_tree.specs.Ahead.{host_header_first, host_first, hosts_first, argv_first, return_first, exit_first, main_front};
+ghost use Rattle.c_tree.specs.Ahead.{main_first};
 
 use crate::expressions::NumberLiteral;
 use crate::hosts::{Host, HostForHeader};

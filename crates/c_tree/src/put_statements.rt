@@ -3,7 +3,8 @@
 ghost use Rattle.std.specs.Prelude.{◌≡◌, IfOk, reverse, map};
 ghost use Rattle.c_tree.specs.Signs.{assign_sign_of};
 ghost use Rattle.c_tree.specs.View.{expr_of, declr_of, declaration_of, place_of, assignment_of, stmt_of, stmts_of};
-ghost use Rattle.c_tree.specs.Ahead.{word_first_if, declr_first, declrs_first, more_declrs_first, declaration_first, place_first, assignment_first, condition_first, header_first, stmt_first, stmts_first};
+ghost use Rattle.c_tree.specs.Ahead.{word_first_if, declr_first, declrs_first, more_declrs_first, declaration_first, place_first};
+ghost use Rattle.c_tree.specs.Ahead.{assignment_first, condition_first, header_first, stmt_first, stmts_first};
 
 use crate::declarations::{AssignOp, Assignment, Declaration, Declr, Place};
 use crate::expressions::Expr;

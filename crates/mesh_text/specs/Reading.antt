@@ -1,5 +1,6 @@
 -- Reading a mesh text: what is awaited, what a token does there, and the first token that may not stand where it does.
-use Rattle.std.specs.Prelude.{◌≡◌, ℕ, ℤ, ◌+◌, ◌-◌, ◌^◌, ◌<◌, ◌≤◌, nat_eq, nat_lt, nat_le, List, [], ◌∷◌, ◌++◌, length, map, Option, Some, None, Result, Ok, Err, codes, if◌then◌else◌}
+use Rattle.std.specs.Prelude.{◌≡◌, ℕ, ℤ, ◌+◌, ◌-◌, ◌^◌, ◌<◌, ◌≤◌, nat_eq, nat_lt, nat_le, List, [], ◌∷◌, ◌++◌, length, map, Option, Some}
+use Rattle.std.specs.Prelude.{None, Result, Ok, Err, codes, if◌then◌else◌}
 use lib.ListN.{replicate}
 use Rattle.op_num.specs.Spelling.{number_of, integer_of, i32_judged}
 use Rattle.op_num.specs.declared.refusals.NumRefusal.{NumRefusal}
@@ -95,7 +96,8 @@ step (OneName f es) w = onto (named es w) (OneValue f es)
 step (ManyName f es) w = onto (named es w) (Count f es)
 step (OneValue f es name) w = onto (one_of (total es) w.line (i32_judged (integer_of w.text))) (λ z. Between f (es ++ (name, One z) ∷ []))
 step (Count f es name) w = onto (count_of (total es) w.line (number_of w.text)) (λ n. filled f es name n [])
-step (Pieces f es name left zs) w = onto (given left w.line (piece_of f w.text)) (λ g. filled f es name (left - g.0) (zs ++ replicate g.0 g.1))
+step (Pieces f es name left zs) w =
+    onto (given left w.line (piece_of f w.text)) (λ g. filled f es name (left - g.0) (zs ++ replicate g.0 g.1))
 step (End es) w = Err (Syntax w.line)
 
 -- the entries of a text, or why it is refused
@@ -131,8 +133,10 @@ Stands ts (OneName f es) = (front : List (List ℕ)) × (ts ≡ front ++ codes "
 Stands ts (ManyName f es) = (front : List (List ℕ)) × (ts ≡ front ++ codes "ints" ∷ []) × AreSome f front es
 Stands ts (OneValue f es name) = (front : List (List ℕ)) × (ts ≡ front ++ codes "int" ∷ name ∷ []) × AreSome f front es × IsNew name es
 Stands ts (Count f es name) = (front : List (List ℕ)) × (ts ≡ front ++ codes "ints" ∷ name ∷ []) × AreSome f front es × IsNew name es
-Stands ts (Pieces f es name left zs) = (front : List (List ℕ)) × (count : List ℕ) × (pieces : List (List ℕ)) × (ts ≡ front ++ codes "ints" ∷ name ∷ count ∷ pieces) × AreSome f front es × IsNew name es
-    × (number_of count ≡ Some (length zs + left)) × (length zs + left < 2 ^ 31) × (total es + (length zs + left) ≤ MESH_VALUES) × (0 < left) × ArePieces f pieces zs
+Stands ts (Pieces f es name left zs) = (front : List (List ℕ)) × (count : List ℕ) × (pieces : List (List ℕ))
+    × (ts ≡ front ++ codes "ints" ∷ name ∷ count ∷ pieces) × AreSome f front es × IsNew name es
+    × (number_of count ≡ Some (length zs + left)) × (length zs + left < 2 ^ 31) × (total es + (length zs + left) ≤ MESH_VALUES)
+    × (0 < left) × ArePieces f pieces zs
 Stands ts (End es) = (f : Form) × (front : List (List ℕ)) × (ts ≡ front ++ codes "done" ∷ []) × AreSome f front es
 
 -- The first token that may not stand where it does, or the end, is refused so.

@@ -39,7 +39,8 @@ ArePieces f (p ∷ ps) zs = (front : List ℤ) × (rest : List ℤ) × (zs ≡ f
 -- the tokens of an entry
 abbrev pub IsEntry : Form → List (List ℕ) → List ℕ → Entry → Type 0
 IsEntry f ts name (One z) = (value : List ℕ) × (ts ≡ codes "int" ∷ name ∷ value ∷ []) × IsValue value z
-IsEntry f ts name (Many zs) = (count : List ℕ) × (pieces : List (List ℕ)) × (ts ≡ codes "ints" ∷ name ∷ count ∷ pieces) × (number_of count ≡ Some (length zs)) × (length zs < 2 ^ 31) × ArePieces f pieces zs
+IsEntry f ts name (Many zs) = (count : List ℕ) × (pieces : List (List ℕ)) × (ts ≡ codes "ints" ∷ name ∷ count ∷ pieces)
+    × (number_of count ≡ Some (length zs)) × (length zs < 2 ^ 31) × ArePieces f pieces zs
 
 -- a C name that no entry before has
 abbrev pub IsNew : List ℕ → List Named → Type 0
@@ -48,7 +49,8 @@ IsNew name es = (is_c_name name ≡ true) × (has_name name es ≡ false)
 -- the tokens of entries that stand behind others
 abbrev pub AreEntries : Form → List Named → List (List ℕ) → List Named → Type 0
 AreEntries f before ts [] = ts ≡ []
-AreEntries f before ts (e ∷ es) = (front : List (List ℕ)) × (rest : List (List ℕ)) × (ts ≡ front ++ rest) × IsEntry f front e.0 e.1 × IsNew e.0 before × AreEntries f (before ++ e ∷ []) rest es
+AreEntries f before ts (e ∷ es) = (front : List (List ℕ)) × (rest : List (List ℕ)) × (ts ≡ front ++ rest) × IsEntry f front e.0 e.1
+    × IsNew e.0 before × AreEntries f (before ++ e ∷ []) rest es
 
 -- the second token of the header
 abbrev pub digit_of : Form → List ℕ

@@ -31,4 +31,5 @@ version_of text = if bytes_eq text (codes "1") then Some One else if bytes_eq te
 -- the word that a token is where an entry or `done` is awaited, where it is one
 abbrev pub keyword_of : List ℕ → Option Keyword
 keyword_of text =
-    if bytes_eq text (codes "int") then Some Int else if bytes_eq text (codes "ints") then Some Ints else if bytes_eq text (codes "done") then Some Done else None
+    if bytes_eq text (codes "int") then Some Int else if bytes_eq text (codes "ints") then Some Ints else if bytes_eq text
+    (codes "done") then Some Done else None

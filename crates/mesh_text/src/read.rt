@@ -1,5 +1,6 @@
 // Reading a mesh text.
-ghost use Rattle.std.specs.Prelude.{◌≡◌, ◌+◌, ◌<◌, ◌≤◌, ◌^◌, ◌⊎◌, false, length, List, ℕ, [], ◌∷◌, ◌++◌, OnOk, IfOk, IfErr, Ok, Err, Some, None};
+ghost use Rattle.std.specs.Prelude.{◌≡◌, ◌+◌, ◌<◌, ◌≤◌, ◌^◌, ◌⊎◌, false, length, List, ℕ, [], ◌∷◌, ◌++◌, OnOk, IfOk, IfErr, Ok, Err, Some};
+ghost use Rattle.std.specs.Prelude.{None};
 ghost use Rattle.op_num.specs.Spelling.{number_of, integer_of, i32_judged};
 ghost use Rattle.texts.specs.Cut.{uncut, first_of, rest_of};
 ghost use Rattle.mesh_text.specs.declared.entry.Form.{Form as Version};
@@ -7,7 +8,8 @@ ghost use Rattle.mesh_text.specs.declared.entry.MeshRefusal.{MeshRefusal as Refu
 ghost use Rattle.mesh_text.specs.declared.entry.Entry.TheVariants as Given;
 ghost use Rattle.mesh_text.specs.Spelling.{Named, Spells, total as total_of, size_of, has_name};
 ghost use Rattle.mesh_text.specs.Piece.{piece_of};
-ghost use Rattle.mesh_text.specs.Reading.{Magic, Between, OneName, ManyName, End, filled, named, one_of, count_of, given, room_for, stray, run_from, Refuses, Reads, Read as Outcome};
+ghost use Rattle.mesh_text.specs.Reading.{Magic, Between, OneName, ManyName, End, filled, named, one_of, count_of, given, room_for, stray};
+ghost use Rattle.mesh_text.specs.Reading.{run_from, Refuses, Reads, Read as Outcome};
 ghost use Rattle.texts.specs.Automaton.{Answers, Told, IsNext, IsGiven, IsRefused};
 ghost use Rattle.mesh_text.specs.Answered.{Leads, Fitting, next_state};
 
@@ -27,7 +29,8 @@ pub fn read_mesh(alloc: Global, bytes: &[u8]) -> Result<Entries, MeshRefusal>
     // What is given is spelled so, with no more values than the limit.
     ensures found { IfOk result (λ m. Spells bytes.now m.entries × (total_of m.entries ≤ MESH_VALUES)) }
     // What is spelled so is given, unless memory runs out.
-    ensures only { (es : List Named) → Spells bytes.now es → total_of es ≤ MESH_VALUES → IsGiven Refusal.OutOfMemory result (λ m. m.entries ≡ es) }
+    ensures only { (es : List Named) → Spells bytes.now es → total_of es ≤ MESH_VALUES
+        → IsGiven Refusal.OutOfMemory result (λ m. m.entries ≡ es) }
     // Each refusal is the first, in the order of the tokens.
     ensures refused { IfErr result (λ r. (r ≡ Refusal.OutOfMemory) ⊎ Refuses bytes.now r) }
     // And the first refusal is given, unless memory runs out.
@@ -38,7 +41,8 @@ pub fn read_mesh(alloc: Global, bytes: &[u8]) -> Result<Entries, MeshRefusal>
 
 /// A law: a text spells at most one list of entries of at most [`MESH_VALUES`] values.
 pub fn one_spelling()
-    ensures { (bytes : List ℕ) (a b : List Named) → Spells bytes a → Spells bytes b → total_of a ≤ MESH_VALUES → total_of b ≤ MESH_VALUES → a ≡ b }
+    ensures { (bytes : List ℕ) (a b : List Named) → Spells bytes a → Spells bytes b → total_of a ≤ MESH_VALUES → total_of b ≤ MESH_VALUES
+        → a ≡ b }
 {}
 
 /// A law: a text comes to one outcome, its entries within the limit or a refusal, and no refusal is want of memory.
@@ -150,7 +154,9 @@ fn read_one(
 ) -> Result<(Name, i32), MeshRefusal>
     requires total { total ≡ total_of entries.now.entries }
     requires room { total ≤ MESH_VALUES }
-    ensures leads { (f : Version) → Leads (OneName f entries.now.entries) tokens.old result (λ e. Between f (entries.now.entries ++ (e.0, Given.One e.1) ∷ [])) tokens.new }
+    ensures leads { (f : Version)
+        → Leads (OneName f entries.now.entries) tokens.old result (λ e. Between f (entries.now.entries
+        ++ (e.0, Given.One e.1) ∷ [])) tokens.new }
     ensures new { IfOk result (λ e. has_name e.0 entries.now.entries ≡ false) }
     ensures within { OnOk result (total + 1 ≤ MESH_VALUES) }
     ensures fewer { OnOk result (length tokens.new.words ≤ length tokens.old.words) }
@@ -170,7 +176,8 @@ fn read_many(
 ) -> Result<(Name, Values), MeshRefusal>
     requires total { total ≡ total_of entries.now.entries }
     requires room { total ≤ MESH_VALUES }
-    ensures leads { Leads (ManyName form entries.now.entries) tokens.old result (λ e. Between form (entries.now.entries ++ (e.0, Given.Many e.1) ∷ [])) tokens.new }
+    ensures leads { Leads (ManyName form entries.now.entries) tokens.old result (λ e. Between form (entries.now.entries
+        ++ (e.0, Given.Many e.1) ∷ [])) tokens.new }
     ensures new { IfOk result (λ e. has_name e.0 entries.now.entries ≡ false) }
     ensures within { IfOk result (λ e. total + length e.1 ≤ MESH_VALUES) }
     ensures fewer { OnOk result (length tokens.new.words ≤ length tokens.old.words) }
@@ -189,7 +196,8 @@ fn read_values(
     count: u64,
 ) -> Result<Values, MeshRefusal>
     requires { count < 2 ^ 31 }
-    ensures leads { (es : List Named) (name : List ℕ) → Leads (filled form es name count []) tokens.old result (λ zs. Between form (es ++ (name, Given.Many zs) ∷ [])) tokens.new }
+    ensures leads { (es : List Named) (name : List ℕ)
+        → Leads (filled form es name count []) tokens.old result (λ zs. Between form (es ++ (name, Given.Many zs) ∷ [])) tokens.new }
     ensures size { IfOk result (λ zs. length zs ≡ count) }
     ensures fewer { OnOk result (length tokens.new.words ≤ length tokens.old.words) }
 {

@@ -5,7 +5,8 @@ ghost use Rattle.std.specs.Ordering.{int_eq};
 ghost use Rattle.texts.specs.Lines.{line_of};
 ghost use Rattle.mesh_text.specs.declared.entry.Form.{Form as Version};
 ghost use Rattle.mesh_text.specs.Spelling.{Named, Spells, header};
-ghost use Rattle.mesh_text.specs.Canonical.{canonical, entry_text, groups, piece_text, pieces_of, FitI32, HasI32, CanBeSpelled, HaveSpelling};
+ghost use Rattle.mesh_text.specs.Canonical.{canonical, entry_text, groups, piece_text, pieces_of, FitI32, HasI32, CanBeSpelled};
+ghost use Rattle.mesh_text.specs.Canonical.{HaveSpelling};
 
 use crate::entry::{Entries, Entry, Form};
 use op_num::{Name, OutOfMemory, number_is_read, printed_is_read, put_i32, put_u64};
@@ -97,7 +98,8 @@ fn put_piece(out: &mut Vec<u8>, times: usize, value: i32) -> Result<(), OutOfMem
 // How many values at the front are written as one token.
 fn group_len(values: &[i32], form: Form) -> usize
     requires { 0 < length values.now }
-    ensures group { (z : ℤ) (zs : List ℤ) → values.now ≡ z ∷ zs → groups form values.now ≡ (result, z) ∷ groups form (drop result values.now) }
+    ensures group { (z : ℤ) (zs : List ℤ) → values.now ≡ z ∷ zs
+        → groups form values.now ≡ (result, z) ∷ groups form (drop result values.now) }
     ensures some { 0 < result }
     ensures within { result ≤ length values.now }
 {

@@ -1,6 +1,7 @@
 // Arithmetic on `i32` in two's complement (ISO C 6.5.3 to 6.5.7), each result reduced modulo 2 ^ 32
 // into the range of `i32`; C leaves the overflows undefined, and this profile makes them wrap.
-ghost use Rattle.std.specs.Prelude.{◌≡◌, ◌<◌, ◌≤◌, ◌↔◌, ◌⊎◌, ℤ, pos, neg_ℤ, ◌+ℤ◌, ◌-ℤ◌, ◌*ℤ◌, ◌<ℤ◌, ◌≤ℤ◌, int_div, unsigned_abs, IfOk, IfErr, IsErrOf};
+ghost use Rattle.std.specs.Prelude.{◌≡◌, ◌<◌, ◌≤◌, ◌↔◌, ◌⊎◌, ℤ, pos, neg_ℤ, ◌+ℤ◌, ◌-ℤ◌, ◌*ℤ◌, ◌<ℤ◌, ◌≤ℤ◌, int_div, unsigned_abs, IfOk};
+ghost use Rattle.std.specs.Prelude.{IfErr, IsErrOf};
 ghost use Rattle.op_num.specs.Wrapping.{IsReduced, wrapped, absolute, remainder, doubled, halved};
 
 use crate::Fault;

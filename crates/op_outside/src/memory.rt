@@ -1,5 +1,6 @@
 // A shelf and a sink over memory, whose calls fail where their makers say.
-ghost use Rattle.std.specs.Prelude.{◌≡◌, ◌≢◌, ◌-◌, ◌<◌, ◌≤◌, ◌↔◌, ◌⊎◌, ◌++◌, ◌+◌, min, true, List, ℕ, Some, None, [], length, take, IsErr, IsOk, OnOk, OnErr, IfOk, IsErrOf, string_bytes, vec_len, vec_capacity};
+ghost use Rattle.std.specs.Prelude.{◌≡◌, ◌≢◌, ◌-◌, ◌<◌, ◌≤◌, ◌↔◌, ◌⊎◌, ◌++◌, ◌+◌, min, true, List, ℕ, Some, None, [], length, take, IsErr};
+ghost use Rattle.std.specs.Prelude.{IsOk, OnOk, OnErr, IfOk, IsErrOf, string_bytes, vec_len, vec_capacity};
 ghost use Rattle.op_outside.specs.Script.{IsFresh, Passes, Fails, is_due, failed};
 
 use crate::part::copy_part;

@@ -1,7 +1,8 @@
 // The operators on numbers, with the place of a fault.
 
 ghost use Rattle.std.specs.Prelude.{◌≡◌, ℤ, pos, Ok, Err};
-ghost use Rattle.kernel_model.specs.Numbers.{apply, apply_unary, sum, difference, product, and_bits, or_bits, xor_bits, complement, negated, magnitude, truth, is_settled, extremum};
+ghost use Rattle.kernel_model.specs.Numbers.{apply, apply_unary, sum, difference, product, and_bits, or_bits, xor_bits, complement};
+ghost use Rattle.kernel_model.specs.Numbers.{negated, magnitude, truth, is_settled, extremum};
 ghost use Rattle.kernel_model.specs.Meaning.{index_in, stored};
 ghost use Rattle.operators.specs.Placed.{placed};
 

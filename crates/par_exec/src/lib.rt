@@ -109,11 +109,13 @@ fn run_windows<R: Threads + Sync, J: Job, G: Gate>(
     join_mut(
         rt,
         &mut ||
-            requires { IsSync R.row × IsSync J.row × IsSync G.row × (0 < stride) × (0 < theirs) × (first + low < 2 ^ 64) × (length front.now ≡ low * stride) × ((i : ℕ) → first ≤ i → i < first + low → J.accepts jobs.now i stride) }
+            requires { IsSync R.row × IsSync J.row × IsSync G.row × (0 < stride) × (0 < theirs) × (first + low < 2 ^ 64)
+                × (length front.now ≡ low * stride) × ((i : ℕ) → first ≤ i → i < first + low → J.accepts jobs.now i stride) }
             ensures { EachWindow (J.new_window jobs.entry.now) stride first low front.entry.now front.exit.now }
         { run_windows(rt, theirs, first, low, stride, jobs, gate, front) },
         &mut ||
-            requires { IsSync R.row × IsSync J.row × IsSync G.row × (0 < stride) × (0 < ours) × (next + high < 2 ^ 64) × (length back.now ≡ high * stride) × ((i : ℕ) → next ≤ i → i < next + high → J.accepts jobs.now i stride) }
+            requires { IsSync R.row × IsSync J.row × IsSync G.row × (0 < stride) × (0 < ours) × (next + high < 2 ^ 64)
+                × (length back.now ≡ high * stride) × ((i : ℕ) → next ≤ i → i < next + high → J.accepts jobs.now i stride) }
             ensures { EachWindow (J.new_window jobs.entry.now) stride next high back.entry.now back.exit.now }
         { run_windows(rt, ours, next, high, stride, jobs, gate, back) },
     );

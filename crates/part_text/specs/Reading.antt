@@ -1,5 +1,6 @@
 -- Reading a partition text: what is awaited, what a token does there, and the first token that may not stand where it does.
-use Rattle.std.specs.Prelude.{◌≡◌, ℕ, zero, suc, ◌+◌, ◌-◌, ◌<◌, nat_eq, nat_lt, List, [], ◌∷◌, ◌++◌, length, map, slice_get, slice_set, Option, Some, None, Result, Ok, Err, codes, if◌then◌else◌}
+use Rattle.std.specs.Prelude.{◌≡◌, ℕ, zero, suc, ◌+◌, ◌-◌, ◌<◌, nat_eq, nat_lt, List, [], ◌∷◌, ◌++◌, length, map, slice_get, slice_set}
+use Rattle.std.specs.Prelude.{Option, Some, None, Result, Ok, Err, codes, if◌then◌else◌}
 use Rattle.std.specs.Str.{bytes_eq}
 use Rattle.op_num.specs.Spelling.{number_of}
 use Rattle.texts.specs.Cut.{Word, Uncut, words, text_of}
@@ -119,8 +120,10 @@ module _ (g : MeshValue) (ranks : ℕ) where
   Stands ts Version = ts ≡ codes "op2part" ∷ []
   Stands ts (Between t) = ArePart g ranks ts t
   Stands ts (SetName t) = (front : List (List ℕ)) × (ts ≡ front ++ codes "set" ∷ []) × ArePart g ranks front t
-  Stands ts (Count t k) = (front : List (List ℕ)) × (name : List ℕ) × (ts ≡ front ++ codes "set" ∷ name ∷ []) × ArePart g ranks front t × IsFree t name k
-  Stands ts (Ranks t k left rs) = (front : List (List ℕ)) × (name : List ℕ) × (count : List ℕ) × (digits : List (List ℕ)) × (ts ≡ front ++ codes "set" ∷ name ∷ count ∷ digits) × ArePart g ranks front t × IsFree t name k
+  Stands ts (Count t k) = (front : List (List ℕ)) × (name : List ℕ) × (ts ≡ front ++ codes "set" ∷ name ∷ []) × ArePart g ranks front t
+      × IsFree t name k
+  Stands ts (Ranks t k left rs) = (front : List (List ℕ)) × (name : List ℕ) × (count : List ℕ) × (digits : List (List ℕ))
+      × (ts ≡ front ++ codes "set" ∷ name ∷ count ∷ digits) × ArePart g ranks front t × IsFree t name k
       × (number_of count ≡ Some (set_size g k)) × (length rs + left ≡ set_size g k) × (0 < left) × AreRanks ranks digits rs
   Stands ts (End owners) = (front : List (List ℕ)) × (ts ≡ front ++ codes "done" ∷ []) × ArePart g ranks front (map (λ rs. Some rs) owners)
 

@@ -27,7 +27,8 @@ AreRanks ranks (t ∷ ts) rs = (r : ℕ) × (rest : List ℕ) × (rs ≡ r ∷ r
 -- the tokens of a set's ranks: `set`, its name, its size in digits, and a rank for each element
 abbrev pub IsSet : MeshValue → ℕ → List (List ℕ) → ℕ → List ℕ → Type 0
 IsSet g ranks ts k rs =
-    (name : List ℕ) × (count : List ℕ) × (digits : List (List ℕ)) × (ts ≡ codes "set" ∷ name ∷ count ∷ digits) × IsNamed g name k × (number_of count ≡ Some (set_size g k)) × (length rs ≡ set_size g k) × AreRanks ranks digits rs
+    (name : List ℕ) × (count : List ℕ) × (digits : List (List ℕ)) × (ts ≡ codes "set" ∷ name ∷ count ∷ digits) × IsNamed g name k
+    × (number_of count ≡ Some (set_size g k)) × (length rs ≡ set_size g k) × AreRanks ranks digits rs
 
 -- a set, and the ranks of its elements
 abbrev pub Given : Type 0
@@ -37,12 +38,15 @@ Given = ℕ × List ℕ
 abbrev pub AreSets : MeshValue → ℕ → List (List ℕ) → List Given → Table → Table → Type 0
 AreSets g ranks ts [] before after = (ts ≡ []) × (before ≡ after)
 AreSets g ranks ts (s ∷ ss) before after =
-    (front : List (List ℕ)) × (rest : List (List ℕ)) × (ts ≡ front ++ rest) × IsSet g ranks front s.0 s.1 × (slice_get before s.0 ≡ Some None) × AreSets g ranks rest ss (slice_set before s.0 (Some s.1)) after
+    (front : List (List ℕ)) × (rest : List (List ℕ)) × (ts ≡ front ++ rest) × IsSet g ranks front s.0 s.1
+    × (slice_get before s.0 ≡ Some None) × AreSets g ranks rest ss (slice_set before s.0 (Some s.1)) after
 
 -- the header, and sets with their ranks
 abbrev pub ArePart : MeshValue → ℕ → List (List ℕ) → Table → Type 0
-ArePart g ranks ts table = (body : List (List ℕ)) × (given : List Given) × (ts ≡ codes "op2part" ∷ codes "1" ∷ body) × AreSets g ranks body given (no_ranks g) table
+ArePart g ranks ts table = (body : List (List ℕ)) × (given : List Given) × (ts ≡ codes "op2part" ∷ codes "1" ∷ body)
+    × AreSets g ranks body given (no_ranks g) table
 
 -- The bytes, cut into tokens at blanks, are the header, each set once, in any order, with the ranks of its elements, and `done`.
 abbrev pub Spells : MeshValue → ℕ → List ℕ → List (List ℕ) → Type 0
-Spells g ranks bytes owners = (ts : List (List ℕ)) × (texts bytes ≡ ts ++ codes "done" ∷ []) × ArePart g ranks ts (map (λ rs. Some rs) owners)
+Spells g ranks bytes owners = (ts : List (List ℕ)) × (texts bytes ≡ ts ++ codes "done" ∷ [])
+    × ArePart g ranks ts (map (λ rs. Some rs) owners)

@@ -1,5 +1,6 @@
 // Reading a partition text.
-ghost use Rattle.std.specs.Prelude.{◌≡◌, ◌+◌, ◌<◌, ◌≤◌, ◌^◌, ◌⊎◌, length, List, ℕ, [], ◌∷◌, ◌++◌, slice_set, OnOk, OnErr, IfOk, IfErr, IfSome, Ok, Err, Some, None};
+ghost use Rattle.std.specs.Prelude.{◌≡◌, ◌+◌, ◌<◌, ◌≤◌, ◌^◌, ◌⊎◌, length, List, ℕ, [], ◌∷◌, ◌++◌, slice_set, OnOk, OnErr, IfOk, IfErr};
+ghost use Rattle.std.specs.Prelude.{IfSome, Ok, Err, Some, None};
 ghost use Rattle.op_num.specs.Spelling.{number_of};
 ghost use Rattle.texts.specs.Cut.{uncut, first_of};
 ghost use Rattle.texts.specs.Automaton.{Answers, Told, IsNext, IsGiven, IsRefused};
@@ -7,7 +8,8 @@ ghost use Rattle.mesh_decl.specs.Mesh.{MeshValue, set_count, set_size};
 ghost use Rattle.mesh_decl.specs.Owners.{AreOwners};
 ghost use Rattle.part_text.specs.declared.refusals.PartRefusal.{PartRefusal as Refusal};
 ghost use Rattle.part_text.specs.Spelling.{Table, no_ranks, Spells};
-ghost use Rattle.part_text.specs.Reading.{Magic, Between, SetName, Count, filled, set_of, named, sized, ranked, stray, gathered, run_from, Refuses, Reads, Read as Outcome};
+ghost use Rattle.part_text.specs.Reading.{Magic, Between, SetName, Count, filled, set_of, named, sized, ranked, stray, gathered, run_from};
+ghost use Rattle.part_text.specs.Reading.{Refuses, Reads, Read as Outcome};
 ghost use Rattle.part_text.specs.Answered.{Leads, LeadsToSet};
 
 use crate::refusals::PartRefusal;
@@ -36,7 +38,8 @@ pub fn read_partition(
     // So each element of each set has a rank.
     ensures owners { 0 < ranks → ranks ≤ 64 → IfOk result (AreOwners mesh.now) }
     // What is spelled so is given, unless memory runs out.
-    ensures only { (owners : List (List ℕ)) → Spells mesh.now ranks bytes.now owners → IsGiven Refusal.OutOfMemory result (λ o. o.sets.items ≡ owners) }
+    ensures only { (owners : List (List ℕ)) → Spells mesh.now ranks bytes.now owners
+        → IsGiven Refusal.OutOfMemory result (λ o. o.sets.items ≡ owners) }
     // Each refusal is the first, in the order of the tokens.
     ensures refused { IfErr result (λ r. (r ≡ Refusal.OutOfMemory) ⊎ Refuses mesh.now ranks bytes.now r) }
     // And the first refusal is given, unless memory runs out.
@@ -47,12 +50,14 @@ pub fn read_partition(
 
 /// A law: a text spells at most one partition of a mesh.
 pub fn one_partition()
-    ensures { (mesh : MeshValue) (ranks : ℕ) (bytes : List ℕ) (a b : List (List ℕ)) → Spells mesh ranks bytes a → Spells mesh ranks bytes b → a ≡ b }
+    ensures { (mesh : MeshValue) (ranks : ℕ) (bytes : List ℕ) (a b : List (List ℕ)) → Spells mesh ranks bytes a
+        → Spells mesh ranks bytes b → a ≡ b }
 {}
 
 /// A law: a text comes to one outcome, a partition of the mesh or a refusal, and no refusal is want of memory.
 pub fn one_outcome()
-    ensures one { (mesh : MeshValue) (ranks : ℕ) (bytes : List ℕ) (a b : Outcome) → Reads mesh ranks bytes a → Reads mesh ranks bytes b → a ≡ b }
+    ensures one { (mesh : MeshValue) (ranks : ℕ) (bytes : List ℕ) (a b : Outcome) → Reads mesh ranks bytes a → Reads mesh ranks bytes b
+        → a ≡ b }
     ensures some { (mesh : MeshValue) (ranks : ℕ) (bytes : List ℕ) → (o : Outcome) × Reads mesh ranks bytes o }
     ensures causes { (mesh : MeshValue) (ranks : ℕ) (bytes : List ℕ) → ¬ Refuses mesh ranks bytes Refusal.OutOfMemory }
 {}
@@ -196,7 +201,8 @@ fn read_ranks(
     ranks: u32,
 ) -> Result<Numbers, PartRefusal>
     requires { set < set_count mesh.now }
-    ensures leads { (t : Table) → Leads mesh.now ranks (Count t set) tokens.old result (λ rs. Between (slice_set t set (Some rs))) tokens.new }
+    ensures leads { (t : Table)
+        → Leads mesh.now ranks (Count t set) tokens.old result (λ rs. Between (slice_set t set (Some rs))) tokens.new }
     ensures fewer { OnOk result (length tokens.new.words ≤ length tokens.old.words) }
 {
     let mut left = size_value(&next_in_set(tokens)?, mesh.set_size(set))?;

@@ -1,5 +1,6 @@
 // Lists of numbers, one for each rank.
-ghost use Rattle.std.specs.Prelude.{◌≡◌, ℕ, Bool, false, true, ◌<◌, ◌≤◌, ◌^◌, ◌↔◌, ◌&&◌, ◌||◌, not, nat_eq, IsTrue, OnOk, IfOk, length, cond, [], ◌∷◌, ◌++◌};
+ghost use Rattle.std.specs.Prelude.{◌≡◌, ℕ, Bool, false, true, ◌<◌, ◌≤◌, ◌^◌, ◌↔◌, ◌&&◌, ◌||◌, not, nat_eq, IsTrue, OnOk, IfOk, length};
+ghost use Rattle.std.specs.Prelude.{cond, [], ◌∷◌, ◌++◌};
 ghost use Rattle.rank_sets.specs.Below.{listed, row};
 ghost use Rattle.rank_sets.specs.RankSet.{has, has_at};
 

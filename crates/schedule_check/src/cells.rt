@@ -55,7 +55,7 @@ fn imported_count(mesh: &Mesh, ranks: &[RankMesh], from: u32, to: u32, set: u32)
     requires set { set < set_count mesh.now }
     ensures { result ≡ imported_from ranks.now from to set }
 {
-    let _ = mesh.set_count();
+    mesh.is_in_range();
     let sender = local_set(ranks, from, set);
     let receiver = local_set(ranks, to, set);
     let imported = receiver
@@ -88,7 +88,7 @@ pub fn message_cells(
     requires dats { (k : ℕ) → k < length exchange.now → slice_index exchange.now k < dat_count mesh.now }
     ensures { IfOk result (λ n. n ≡ cells_between mesh.now ranks.now exchange.now from to) }
 {
-    let _ = mesh.dat_count();
+    mesh.is_in_range();
     let mut total = 0;
     for dat in exchange {
         let (set, dim) = mesh.dat_shape(*dat);

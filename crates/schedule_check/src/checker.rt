@@ -65,7 +65,7 @@ impl<'a> Checker<'a> {
         schedule_steps::alike_outlines_accept_alike();
         schedule_steps::accepted_lists_have_all_steps();
         step_marks::alike_outlines_judge_alike();
-        let _ = bound.mesh.set_count();
+        bound.mesh.is_in_range();
         let marks = plan_marks(alloc, bound, plan, ranks)?;
         let cells = all_cells(alloc, &bound.mesh, ranks, &plan.items)?;
         if !can_count(plan.steps, largest(&cells)) {

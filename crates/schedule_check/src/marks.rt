@@ -38,7 +38,7 @@ pub fn plan_marks(
         → AreItemMarks (bound_of bound.now) ranks.now (plan_of plan.now) k (marks_at v k)) }
 {
     loop_plan::bound_is_in_range();
-    let _ = bound.mesh.set_count();
+    bound.mesh.is_in_range();
     let items = all_items(alloc, bound, plan, ranks)?;
     let marks = fresh_marks(alloc, plan.ranks, items)?;
     Ok(marks)

@@ -7,7 +7,8 @@ ghost use Rattle.schedule_text.specs.declared.lines.Line.{Line as Given};
 ghost use Rattle.schedule_text.specs.declared.refusals.ScheduleTextRefusal.{ScheduleTextRefusal as Refusal};
 ghost use Rattle.schedule_text.specs.Token.{keyword_of};
 ghost use Rattle.schedule_text.specs.Spelling.{at_line, Spells};
-ghost use Rattle.schedule_text.specs.Reading.{Begun, First, Magic, Between, Numbers, step_of, opened, numbered, grown, run_from, Refuses, Reads};
+ghost use Rattle.schedule_text.specs.Reading.{Begun, First, Magic, Between, Numbers, step_of, opened, numbered, grown, run_from, Refuses};
+ghost use Rattle.schedule_text.specs.Reading.{Reads};
 ghost use Rattle.schedule_text.specs.Reading.{Read as Outcome};
 ghost use Rattle.schedule_text.specs.Answered.{Leads, next_state};
 
