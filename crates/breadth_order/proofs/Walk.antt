@@ -1,26 +1,11 @@
 -- A breadth-first walk takes, at each place, the next element.
-use Rattle.std.proofs.Common.{◌≡◌, ℕ, suc, ◌+◌, ◌<◌, ◌≤◌, Bool, true, false, not, cond, nat_eq, List, [], ◌∷◌, ◌++◌, length, take, get_or, set, Vec, refl, sym, ap, ◌∙◌, arith, inl, inr, ⊎_elim, subst}
-use Rattle.std.specs.declared.alloc.Global.{Global}
+use Rattle.std.proofs.Common.{◌≡◌, ℕ, suc, ◌+◌, ◌<◌, ◌≤◌, Bool, true, false, not, cond, List, [], ◌∷◌, ◌++◌, length, take, get_or, set, sym, ap, ◌∙◌, arith, inl, inr, ⊎_elim, subst, refl}
 use Rattle.std.specs.List.{count_by, Contains}
-use Rattle.std.proofs.lemmas.Bool.{cases_eq, cases_lt, eq-eqb, eqb-true, false_from_ne_true}
-use Rattle.std.proofs.lemmas.List.{length_push, length-set, get_or_push, get_or_append_left, get_or-set_same, get_or-set_other, take-append-le, take_all, get_or_default, get_or_read}
+use Rattle.std.proofs.lemmas.Bool.{cases_Bool, cases_eq, cases_lt, false_from_ne_true}
+use Rattle.std.proofs.lemmas.List.{length_push, length-set, get_or_push, get_or_append_left, get_or-set_same, get_or-set_other, take-append-le, take_all, get_or_default}
 use Rattle.std.proofs.lemmas.List.Elements.{Contains-append_left, Contains-push}
 use Rattle.std.proofs.lemmas.List.Sums.{sum_by-set, sum_by-cons, position_or_len_is, passes_at_first}
-use Rattle.rank_sets.specs.Below.{row}
-use Rattle.rank_sets.proofs.Rows.{row_read}
-use Rattle.rank_sets.proofs.Below.{any_from, any_witness}
-use Rattle.breadth_order.specs.Taken.{is_near, earliest, IsNext, IsTaken, IsWalk, Rises}
-
--- a neighbour stands in the list
-pub near_witness : (lists : List (Vec ℕ Global)) (x y : ℕ) → is_near lists x y ≡ true → (i : ℕ) × (i < length (row lists x)) × (get_or (row lists x) i 0 ≡ y)
-unfolding is_near
-near_witness lists x y t =
-    let w = any_witness (length (row lists x)) (λ i. nat_eq (get_or (row lists x) i 0) y) t in
-    (w.0, w.1, eqb-true (get_or (row lists x) w.0 0) y w.2)
-
-pub near_at : (lists : List (Vec ℕ Global)) (x i : ℕ) → i < length (row lists x) → is_near lists x (get_or (row lists x) i 0) ≡ true
-unfolding is_near
-near_at lists x i l = any_from (length (row lists x)) (λ k. nat_eq (get_or (row lists x) k 0) (get_or (row lists x) i 0)) i l (eq-eqb (get_or (row lists x) i 0) (get_or (row lists x) i 0) refl)
+use Rattle.breadth_order.specs.Taken.{earliest, IsNext, IsTaken, IsWalk, Rises}
 
 pub both : (b : Bool) → b ≡ true → b ≡ false → ⊥
 both b t f = let z : true ≡ false = sym t ∙ f in cc
@@ -123,58 +108,55 @@ module _ (n : ℕ) (near : ℕ → ℕ → Bool) where
             marked_more seen z y lseen (w.closed j y lj lo ly (subst (λ q. near q y ≡ true) (get_or_append_left order (z ∷ []) 0 j lo) t)));
       }
 
-pub near_items_at : (lists : List (Vec ℕ Global)) (x : ℕ) (items : List ℕ) (i : ℕ) → items ≡ row lists x → i < length items → is_near lists x (get_or items i 0) ≡ true
-near_items_at lists x items i e = subst (λ (q : List ℕ). i < length q → is_near lists x (get_or q i 0) ≡ true) (sym e) (near_at lists x i)
-
-pub near_items_witness : (lists : List (Vec ℕ Global)) (x : ℕ) (items : List ℕ) (y : ℕ) → items ≡ row lists x → is_near lists x y ≡ true → (i : ℕ) × (i < length items) × (get_or items i 0 ≡ y)
-near_items_witness lists x items y e t = subst (λ (q : List ℕ). (i : ℕ) × (i < length q) × (get_or q i 0 ≡ y)) (sym e) (near_witness lists x y t)
+-- what isn't marked now wasn't marked before
+pub before : (old new : List Bool) (y : ℕ) → ((y : ℕ) → get_or old y false ≡ true → get_or new y false ≡ true) → get_or new y false ≡ false → get_or old y false ≡ false
+before old new y kept f = false_from_ne_true (get_or old y false) (λ t. both (get_or new y false) (kept y t) f)
 
 -- the first neighbour of place h that isn't marked comes next, where all neighbours of earlier places are marked
-pub next_near : (n : ℕ) (lists : List (Vec ℕ Global)) (key : ℕ → ℕ) (order : List ℕ) (seen : List Bool) (h i x : ℕ) (items : List ℕ) → IsWalk n (is_near lists) order seen h → h < length order → get_or order h 0 ≡ x → items ≡ row lists x → i < length items → get_or items i 0 < n → get_or seen (get_or items i 0) false ≡ false → ((j : ℕ) → j < i → get_or seen (get_or items j 0) false ≡ true) → Rises key items → IsNext n (is_near lists) key order (get_or items i 0)
-next_near n lists key order seen h i x items w lh ex er li lz f done rises =
+pub next_near : (n : ℕ) (near : ℕ → ℕ → Bool) (key : ℕ → ℕ) (order : List ℕ) (seen : List Bool) (h i : ℕ) (items : List ℕ) → IsWalk n near order seen h → h < length order → i < length items → get_or items i 0 < n → near (get_or order h 0) (get_or items i 0) ≡ true → get_or seen (get_or items i 0) false ≡ false → ((y : ℕ) → near (get_or order h 0) y ≡ true → get_or seen y false ≡ false → Contains items y) → ((j : ℕ) → j < i → get_or seen (get_or items j 0) false ≡ true) → Rises key items → IsNext n near key order (get_or items i 0)
+next_near n near key order seen h i items w lh li lz nz f all done rises =
     let z : ℕ = get_or items i 0 in
-    let nz : is_near lists (get_or order h 0) z ≡ true = subst (λ q. is_near lists q z ≡ true) (sym ex) (near_items_at lists x items i er li) in
-    let ez : earliest (is_near lists) order z ≡ h = earliest_is n (is_near lists) order z h lh (far n (is_near lists) order seen h z w (omega arith) lz f) nz in
+    let ez : earliest near order z ≡ h = earliest_is n near order z h lh (far n near order seen h z w (omega arith) lz f) nz in
     record {
       within = lz;
-      new = untaken n (is_near lists) order seen h z w f;
+      new = untaken n near order seen h z w f;
       least = λ y ly absent. (
-          let g : get_or seen y false ≡ false = unmarked n (is_near lists) order seen h y w ly absent in
-          let ge : h ≤ earliest (is_near lists) order y = earliest_ge n (is_near lists) order y h (omega arith) (far n (is_near lists) order seen h y w (omega arith) ly g) in
+          let g : get_or seen y false ≡ false = unmarked n near order seen h y w ly absent in
+          let ge : h ≤ earliest near order y = earliest_ge n near order y h (omega arith) (far n near order seen h y w (omega arith) ly g) in
           ⊎_elim
-          (λ (m : h < earliest (is_near lists) order y). inl (omega arith))
-          (λ (m : earliest (is_near lists) order y ≤ h).
-          let e : earliest (is_near lists) order y ≡ h = omega arith in
-          let t : is_near lists (get_or order h 0) y ≡ true = subst (λ q. is_near lists (get_or order q 0) y ≡ true) e (earliest_at n (is_near lists) order y (omega arith)) in
-          let k = near_items_witness lists x items y er (subst (λ q. is_near lists q y ≡ true) ex t) in
-          let le : i ≤ k.0 = ⊎_elim (λ (q : k.0 < i). absurd (both (get_or seen y false) (subst (λ v. get_or seen v false ≡ true) k.2 (done k.0 q)) g)) (λ (q : i ≤ k.0). q) (cases_lt k.0 i) in
-          inr (ez ∙ sym e, subst (λ v. key z ≤ key v) k.2 (rises i k.0 le k.1)))
-          (cases_lt h (earliest (is_near lists) order y)));
+          (λ (m : h < earliest near order y). inl (omega arith))
+          (λ (m : earliest near order y ≤ h).
+          let e : earliest near order y ≡ h = omega arith in
+          let t : near (get_or order h 0) y ≡ true = subst (λ q. near (get_or order q 0) y ≡ true) e (earliest_at n near order y (omega arith)) in
+          let k = all y t g in
+          let at : get_or items k.0 0 ≡ y = get_or_default items k.0 0 y k.1 ∙ k.2 in
+          let le : i ≤ k.0 = ⊎_elim (λ (q : k.0 < i). absurd (both (get_or seen y false) (subst (λ v. get_or seen v false ≡ true) at (done k.0 q)) g)) (λ (q : i ≤ k.0). q) (cases_lt k.0 i) in
+          inr (ez ∙ sym e, subst (λ v. key z ≤ key v) at (rises i k.0 le k.1)))
+          (cases_lt h (earliest near order y)));
     }
 
+-- all that weren't marked before and stand in a list are marked
+pub all_done : (near : ℕ → Bool) (old new : List Bool) (items : List ℕ) → ((y : ℕ) → near y ≡ true → get_or old y false ≡ false → Contains items y) → ((y : ℕ) → get_or old y false ≡ true → get_or new y false ≡ true) → ((i : ℕ) → i < length items → get_or new (get_or items i 0) false ≡ true) → (y : ℕ) → near y ≡ true → get_or new y false ≡ true
+all_done near old new items all kept done y t = ⊎_elim
+    (λ (o : get_or old y false ≡ true). kept y o)
+    (λ (o : get_or old y false ≡ false).
+    let k = all y t o in
+    subst (λ v. get_or new v false ≡ true) (get_or_default items k.0 0 y k.1 ∙ k.2) (done k.0 k.1))
+    (cases_Bool (get_or old y false))
+
 -- all neighbours of one more place are marked
-pub walk_closed : (n : ℕ) (lists : List (Vec ℕ Global)) (order : List ℕ) (seen : List Bool) (h x : ℕ) (items : List ℕ) → IsWalk n (is_near lists) order seen h → get_or order h 0 ≡ x → items ≡ row lists x → ((i : ℕ) → i < length items → get_or seen (get_or items i 0) false ≡ true) → IsWalk n (is_near lists) order seen (h + 1)
-walk_closed n lists order seen h x items w ex er done = record {
+pub walk_closed : (n : ℕ) (near : ℕ → ℕ → Bool) (order : List ℕ) (seen : List Bool) (h : ℕ) → IsWalk n near order seen h → ((y : ℕ) → near (get_or order h 0) y ≡ true → get_or seen y false ≡ true) → IsWalk n near order seen (h + 1)
+walk_closed n near order seen h w done = record {
   size = w.size;
   count = w.count;
   within = w.within;
   marked = w.marked;
   taken = w.taken;
   closed = λ j y lj l ly t. ⊎_elim
-      (λ (e : j ≡ h).
-      let th : is_near lists (get_or order h 0) y ≡ true = subst (λ q. is_near lists (get_or order q 0) y ≡ true) e t in
-      let k = near_items_witness lists x items y er (subst (λ q. is_near lists q y ≡ true) ex th) in
-      subst (λ v. get_or seen v false ≡ true) k.2 (done k.0 k.1))
+      (λ (e : j ≡ h). done y (subst (λ q. near (get_or order q 0) y ≡ true) e t))
       (λ (e : j ≡ h → ⊥). w.closed j y (omega arith) l ly t)
       (cases_eq j h);
 }
-
--- the list that the code reads is the row of the element at place h
-pub row_is : (order : List ℕ) (lists : List (Vec ℕ Global)) (h x : ℕ) (v : Vec ℕ Global) (items : List ℕ) → h < length order → x ≡ get_or order h x → get_or order h 0 < length lists → v ≡ get_or lists x v → items ≡ v.items → items ≡ row lists (get_or order h 0)
-row_is order lists h x v items l r lx rv e =
-    let q : x ≡ get_or order h 0 = get_or_read order h x l r 0 in
-    let m : x < length lists = omega arith in
-    e ∙ (row_read lists x v m rv ∙ ap (row lists) q)
 
 -- marks stay, and one more neighbour is marked
 pub marked_set : (seen : List Bool) (z y : ℕ) → z < length seen → get_or seen y false ≡ true → get_or (set seen z true) y false ≡ true

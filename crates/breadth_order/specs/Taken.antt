@@ -1,13 +1,7 @@
 -- Orders of taking (Cuthill and McKee 1969): at each place the least element by the place of its earliest neighbour and its key.
-use Rattle.std.specs.Prelude.{◌≡◌, ℕ, ◌<◌, ◌≤◌, ◌⊎◌, ◌+◌, Bool, true, false, not, nat_eq, List, Vec, length, take, slice_index}
-use Rattle.std.specs.Prelude.{slice_index_or, Contains, count_by}
-use Rattle.std.specs.declared.alloc.Global.{Global}
+use Rattle.std.specs.Prelude.{◌≡◌, ℕ, ◌<◌, ◌≤◌, ◌⊎◌, ◌+◌, Bool, true, false, not, List, length, take, slice_index, slice_index_or}
+use Rattle.std.specs.Prelude.{Contains, count_by}
 use Rattle.std.specs.List.{position_or_len}
-use Rattle.rank_sets.specs.Below.{any_below, row}
-
--- y stands in x's list of neighbours
-unfoldable pub is_near : List (Vec ℕ Global) → ℕ → ℕ → Bool
-is_near lists x y = any_below (length (row lists x)) (λ i. nat_eq (slice_index (row lists x) i) y)
 
 -- the place of y's earliest neighbour among those taken; where it has none, how many are taken
 unfoldable pub earliest : (ℕ → ℕ → Bool) → List ℕ → ℕ → ℕ
@@ -27,13 +21,6 @@ IsTaken n near key order = (k : ℕ) → k < length order → IsNext n near key 
 -- the keys don't fall
 abbrev pub Rises : (ℕ → ℕ) → List ℕ → Type 0
 Rises key xs = (i j : ℕ) → i ≤ j → j < length xs → key (slice_index xs i) ≤ key (slice_index xs j)
-
--- lists of neighbours: of elements below n, with rising keys
-abbrev pub AreRising : ℕ → (ℕ → ℕ) → List (Vec ℕ Global) → Type 0
-AreRising n key lists = (x : ℕ) → x < n → Rises key (row lists x)
-
-abbrev pub AreWithin : ℕ → List (Vec ℕ Global) → Type 0
-AreWithin n lists = (x i : ℕ) → x < n → i < length (row lists x) → slice_index (row lists x) i < n
 
 -- marks: taken exactly where marked, and all neighbours of the first h are marked
 pub record IsWalk (n : ℕ) (near : ℕ → ℕ → Bool) (order : List ℕ) (seen : List Bool) (h : ℕ) : Type 0 where

@@ -29,11 +29,26 @@ fn cells_of_edges(alloc: Global, side: u32) -> Result<Vec<i32>, OutOfMemory>
     Ok(ends)
 }
 
+// The column and the row of each cell.
+fn places_of_cells(alloc: Global, side: u32) -> Result<Vec<i32>, OutOfMemory>
+    requires { side ≤ 4096 }
+{
+    let mut places = Vec::new(alloc);
+    for row in 0..side {
+        for column in 0..side {
+            places.push(column as i32)?;
+            places.push(row as i32)?;
+        }
+    }
+    Ok(places)
+}
+
 fn name(alloc: Global, bytes: &[u8]) -> Result<Name, OutOfMemory> {
     Ok(Name::new(Vec::from_slice(alloc, bytes)?))
 }
 
-/// The sets `cells` and `edges`, and the map `ends` from edges to the two cells of each.
+/// The sets `cells` and `edges`, the map `ends` from edges to the two cells of each, and the dat `x` with the column and
+/// the row of each cell.
 #[tactic(auto, unfolding(mesh_decl::specs::Mesh::size_in))]
 pub fn grid(alloc: Global, side: u32) -> Result<Mesh, OutOfMemory>
     requires some { 0 < side }
@@ -50,6 +65,10 @@ pub fn grid(alloc: Global, side: u32) -> Result<Mesh, OutOfMemory>
     mesh.add_set(name(alloc, b"edges")?, edges as u32)?;
     if mesh.add_map(name(alloc, b"ends")?, 1, 0, 2, ends).is_err() {
         return Err(AllocError);
+    }
+    let places = places_of_cells(alloc, side)?;
+    if places.len() == cells as usize * 2 && mesh.set_count() == 2 && mesh.set_size(0) == cells {
+        mesh.add_dat(name(alloc, b"x")?, 0, 2, places)?;
     }
     Ok(mesh)
 }

@@ -1,11 +1,11 @@
-// The steps from a grid to local meshes, with the time of each.
+// The steps from a mesh to local meshes, with the time of each.
 ghost use Rattle.std.specs.Prelude.{◌<◌, ◌≤◌};
 
-use crate::grid::grid;
 use anyhow::Error;
 use halo_lists::halos;
 use local_mesh::localise;
-use partition::block;
+use mesh_decl::Mesh;
+use partition::{bisect, block, grow};
 use renumber::cuthill_mckee;
 use std::rt::Clock;
 use std::time::Instant;
@@ -19,28 +19,30 @@ fn line(rt: &HostRuntime, timed: bool, step: &str, from: Instant) -> Result<Inst
     Ok(Instant::now(rt)?)
 }
 
-/// Makes the grid, owners by blocks, the renumbering of Cuthill and McKee, halos and local meshes, and prints what was
-/// made.
-pub fn run(rt: &HostRuntime, side: u32, ranks: u32, timed: bool) -> Result<(), Error>
-    requires some { 0 < side }
-    requires few { side ≤ 4096 }
+/// Makes owners by blocks, by growth, and by the values of the first dat, the renumbering of Cuthill and McKee, halos and local meshes by the owners by
+/// blocks, and prints what was made.
+pub fn run(rt: &HostRuntime, mesh: &Mesh, ranks: u32, timed: bool) -> Result<(), Error>
     requires some_rank { 0 < ranks }
     requires few_ranks { ranks ≤ 64 }
 {
     let alloc = rt.alloc();
-    let begun = Instant::now(rt)?;
-    let mesh = grid(alloc, side)?;
     if mesh.map_count() == 0 {
         return Ok(());
     }
-    let at = line(rt, timed, "grid", begun)?;
-    let owners = block(alloc, &mesh, ranks)?;
+    let at = Instant::now(rt)?;
+    let owners = block(alloc, mesh, ranks)?;
     let at = line(rt, timed, "block", at)?;
-    let perms = cuthill_mckee(alloc, &mesh, 0)?;
+    let _grown = grow(alloc, mesh, ranks, 0)?;
+    let at = line(rt, timed, "grow", at)?;
+    if mesh.dat_count() > 0 {
+        let _halves = bisect(alloc, mesh, ranks, 0)?;
+    }
+    let at = line(rt, timed, "bisect", at)?;
+    let perms = cuthill_mckee(alloc, mesh, 0)?;
     let at = line(rt, timed, "cuthill_mckee", at)?;
-    let halos = halos(alloc, &mesh, &owners)?;
+    let halos = halos(alloc, mesh, &owners)?;
     let at = line(rt, timed, "halos", at)?;
-    let meshes = localise(alloc, &mesh, &owners, &halos, &perms)?;
+    let meshes = localise(alloc, mesh, &owners, &halos, &perms)?;
     let _ = line(rt, timed, "localise", at)?;
     for (rank, local) in meshes.iter().enumerate() {
         for (set, here) in local.sets.iter().enumerate() {

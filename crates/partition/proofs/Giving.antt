@@ -1,13 +1,13 @@
 -- Growth: at each place of a rank's block stands the next free element.
-use Rattle.std.proofs.Common.{◌≡◌, ◌≢◌, ℕ, zero, suc, ◌+◌, ◌-◌, ◌*◌, ◌/◌, ◌<◌, ◌≤◌, Bool, true, false, List, [], ◌∷◌, ◌++◌, length, take, drop, get_or, set, Vec, refl, sym, ◌∙◌, arith, inl, inr, ⊎_elim, subst, add-one}
-use Rattle.std.specs.declared.alloc.Global.{Global}
+use Rattle.std.proofs.Common.{◌≡◌, ◌≢◌, ℕ, zero, suc, ◌+◌, ◌-◌, ◌*◌, ◌/◌, ◌<◌, ◌≤◌, Bool, true, false, List, [], ◌∷◌, ◌++◌, length, take, drop, get_or, set, refl, sym, ap, ◌∙◌, arith, inl, inr, ⊎_elim, subst, add-one}
+use Rattle.std.specs.List.{Contains}
 use Rattle.std.proofs.Math.Nat.{div-le_self, div-mul-le_self, mul-le-mul_right, zero-mul}
 use Rattle.std.proofs.lemmas.Nat.{le-div}
 use Rattle.std.proofs.lemmas.Bool.{cases_eq, cases_lt, false_from_ne_true}
 use Rattle.std.proofs.lemmas.List.{length_push, length-drop, get_or-drop, get_or_push, get_or_append_left, take-append-le, take_all, get_or-take, length-take-le, get_or_default}
-use Rattle.rank_sets.specs.Below.{row}
-use Rattle.breadth_order.specs.Taken.{is_near, earliest, IsWalk, Rises}
-use Rattle.breadth_order.proofs.Walk.{both, walk_push, near_items_at, near_items_witness, earliest_is, earliest_none, earliest_at, earliest_ge, unmarked, untaken, marked_set}
+use Rattle.breadth_order.specs.Keys.{keyed}
+use Rattle.breadth_order.specs.Taken.{earliest, IsWalk, Rises}
+use Rattle.breadth_order.proofs.Walk.{both, walk_push, earliest_is, earliest_none, earliest_at, earliest_ge, unmarked, untaken, marked_set}
 use Rattle.partition.specs.Block.{block_start, InBlock}
 use Rattle.partition.specs.Grow.{IsNextFree, AreNextFree, IsGrowing}
 
@@ -97,17 +97,15 @@ next_start_free n ranks near i order seen s z es w g short lz f before =
     }
 
 -- the first neighbour of the element at place h that isn't marked comes next
-pub next_near_free : (n ranks : ℕ) (lists : List (Vec ℕ Global)) (i h : ℕ) (order : List ℕ) (seen : List Bool) (s k x : ℕ) (items : List ℕ) → s ≡ block_start n ranks i → IsWalk n (is_near lists) order seen 0 → IsGrowing n ranks (is_near lists) i h order seen → length order < block_start n ranks (i + 1) → s ≤ h → h < length order → get_or order h 0 ≡ x → items ≡ row lists x → k < length items → get_or items k 0 < n → get_or seen (get_or items k 0) false ≡ false → ((j : ℕ) → j < k → get_or seen (get_or items j 0) false ≡ true) → Rises (λ v. v) items → IsNextFree n (is_near lists) order (drop s order) (get_or items k 0)
-next_near_free n ranks lists i h order seen s k x items es w g short sh lh ex er lk lz f done rises =
-    let near = is_near lists in
+pub next_near_free : (n ranks : ℕ) (near : ℕ → ℕ → Bool) (i h : ℕ) (order : List ℕ) (seen : List Bool) (s k : ℕ) (items : List ℕ) → s ≡ block_start n ranks i → IsWalk n near order seen 0 → IsGrowing n ranks near i h order seen → length order < block_start n ranks (i + 1) → s ≤ h → h < length order → k < length items → get_or items k 0 < n → near (get_or order h 0) (get_or items k 0) ≡ true → get_or seen (get_or items k 0) false ≡ false → ((y : ℕ) → near (get_or order h 0) y ≡ true → get_or seen y false ≡ false → Contains items y) → ((j : ℕ) → j < k → get_or seen (get_or items j 0) false ≡ true) → Rises (λ v. v) items → IsNextFree n near order (drop s order) (get_or items k 0)
+next_near_free n ranks near i h order seen s k items es w g short sh lh lk lz nz f all done rises =
     let z : ℕ = get_or items k 0 in
     let mine : List ℕ = drop s order in
     let len : length mine ≡ length order - s = length-drop s order in
     let place : s + (h - s) ≡ h = omega (arith, sh) in
-    let at : get_or mine (h - s) 0 ≡ x = get_or-drop s order (h - s) 0 ∙ (subst (λ q. get_or order q 0 ≡ x) (sym place) ex) in
+    let at : get_or mine (h - s) 0 ≡ get_or order h 0 = get_or-drop s order (h - s) 0 ∙ ap (λ q. get_or order q 0) place in
     let lm : h - s < length mine = omega (arith, len, sh, lh) in
-    let nz : near (get_or mine (h - s) 0) z ≡ true = subst (λ q. near q z ≡ true) (sym at) (near_items_at lists x items k er lk) in
-    let ez : earliest near mine z ≡ h - s = earliest_is n near mine z (h - s) lm (far_mine n ranks near i h order seen s z es g short (omega (arith, lh)) lz f) nz in
+    let ez : earliest near mine z ≡ h - s = earliest_is n near mine z (h - s) lm (far_mine n ranks near i h order seen s z es g short (omega (arith, lh)) lz f) (subst (λ q. near q z ≡ true) (sym at) nz) in
     record {
       within = lz;
       new = untaken n near order seen 0 z w f;
@@ -119,22 +117,20 @@ next_near_free n ranks lists i h order seen s k x items es w g short sh lh ex er
           (λ (m : earliest near mine y ≤ h - s).
           let e : earliest near mine y ≡ h - s = omega (arith, m, ge) in
           let t : near (get_or mine (h - s) 0) y ≡ true = subst (λ q. near (get_or mine q 0) y ≡ true) e (earliest_at n near mine y (omega (arith, e, lm))) in
-          let c = near_items_witness lists x items y er (subst (λ q. near q y ≡ true) at t) in
-          let le : k ≤ c.0 = ⊎_elim (λ (q : c.0 < k). absurd (both (get_or seen y false) (subst (λ v. get_or seen v false ≡ true) c.2 (done c.0 q)) fy)) (λ (q : k ≤ c.0). q) (cases_lt c.0 k) in
-          inr (ez ∙ sym e, subst (λ v. z ≤ v) c.2 (rises k c.0 le c.1)))
+          let c = all y (subst (λ q. near q y ≡ true) at t) fy in
+          let here : get_or items c.0 0 ≡ y = get_or_default items c.0 0 y c.1 ∙ c.2 in
+          let le : k ≤ c.0 = ⊎_elim (λ (q : c.0 < k). absurd (both (get_or seen y false) (subst (λ v. get_or seen v false ≡ true) here (done c.0 q)) fy)) (λ (q : k ≤ c.0). q) (cases_lt c.0 k) in
+          inr (ez ∙ sym e, subst (λ v. z ≤ v) here (rises k c.0 le c.1)))
           (cases_lt (h - s) (earliest near mine y)));
     }
 
 -- all neighbours of one more of the rank's elements are marked
-pub growing_closed : (n ranks : ℕ) (lists : List (Vec ℕ Global)) (i h : ℕ) (order : List ℕ) (seen : List Bool) (x : ℕ) (items : List ℕ) → IsGrowing n ranks (is_near lists) i h order seen → get_or order h 0 ≡ x → items ≡ row lists x → (length order < block_start n ranks (i + 1) → (k : ℕ) → k < length items → get_or seen (get_or items k 0) false ≡ true) → IsGrowing n ranks (is_near lists) i (h + 1) order seen
-growing_closed n ranks lists i h order seen x items g ex er done = record {
+pub growing_closed : (n ranks : ℕ) (near : ℕ → ℕ → Bool) (i h : ℕ) (order : List ℕ) (seen : List Bool) → IsGrowing n ranks near i h order seen → (length order < block_start n ranks (i + 1) → (y : ℕ) → near (get_or order h 0) y ≡ true → get_or seen y false ≡ true) → IsGrowing n ranks near i (h + 1) order seen
+growing_closed n ranks near i h order seen g done = record {
   some = g.some;
   begun = g.begun;
   closed = λ s j y lo lj l ly t. ⊎_elim
-      (λ (e : j ≡ h).
-      let th : is_near lists (get_or order h 0) y ≡ true = subst (λ q. is_near lists (get_or order q 0) y ≡ true) e t in
-      let k = near_items_witness lists x items y er (subst (λ q. is_near lists q y ≡ true) ex th) in
-      subst (λ v. get_or seen v false ≡ true) k.2 (done s k.0 k.1))
+      (λ (e : j ≡ h). done s y (subst (λ q. near (get_or order q 0) y ≡ true) e t))
       (λ (e : j ≡ h → ⊥). g.closed s j y lo (omega (arith, lj, e)) l ly t)
       (cases_eq j h);
   next = g.next;
@@ -179,3 +175,8 @@ apart n ranks m near order h e j k l lk = λ q.
     let lt : length (take k order) ≡ k = length-take-le k order (omega (arith, lk)) in
     let lj : j < length (take k order) = omega (arith, lt, l) in
     (h k b.0 lk b.1).new (j, lj, get_or_default (take k order) j (get_or order k 0) 0 lj ∙ (get_or-take k order j 0 l ∙ q))
+
+-- without keys the order is by number
+pub by_number : (items : List ℕ) → Rises (keyed []) items → Rises (λ v. v) items
+unfolding keyed
+by_number items h i j le l = let a = h i j le l in omega (arith, a)

@@ -4,7 +4,6 @@ pub mod Gathered
 pub mod Naming
 pub mod TurnSteps
 pub mod Giving
-pub mod NearRows
 pub mod OneSet
 pub mod Axes
 pub mod Along
@@ -13,3 +12,4 @@ pub mod Halving
 pub mod OneGrowth
 pub mod OneBisection
 pub mod OneDerivation
+pub mod Votes

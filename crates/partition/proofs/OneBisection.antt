@@ -3,11 +3,11 @@ use Rattle.std.proofs.Common.{◌≡◌, ℕ, ℤ, zero, suc, ◌+◌, ◌-◌, 
 use Rattle.std.specs.List.{Contains, sum_by}
 use Rattle.std.specs.List.Sorted.{IsPermutation}
 use Rattle.std.proofs.lemmas.Bool.{cases_Bool, cases_lt, eqb-true, eq-eqb}
-use Rattle.std.proofs.lemmas.List.{ext_get_or, get_or_default, length-append, get_or_append_left, get_or-append-add, take-append-le, take_all}
+use Rattle.std.proofs.lemmas.List.{ext_get_or, get_or_default, length-append, get_or_append_left, get_or-append-add}
 use Rattle.std.proofs.lemmas.List.Sorted.{sum_by-IsPermutation, Contains-permutation}
 use Rattle.std.proofs.lemmas.List.Sums.{sum_by-cons}
 use Rattle.partition.specs.Block.{block_start}
-use Rattle.partition.specs.Bisect.{height, IsSpread, IsAxis, IsAlong, IsCut, IsHalved, IsBisected}
+use Rattle.partition.specs.Bisect.{height, IsAxis, IsAlong, IsCut, IsHalved, IsBisected}
 
 -- ---- one list in order
 

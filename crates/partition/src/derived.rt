@@ -1,14 +1,14 @@
 // Owners by those of targets, or by those of the entries that name an element.
-ghost use Rattle.std.specs.Prelude.{◌≡◌, ℕ, true, ◌<◌, ◌≤◌, ◌/◌, OnOk, IfOk, length, slice_index};
+ghost use Rattle.std.specs.Prelude.{◌≡◌, ℕ, true, ◌<◌, ◌≤◌, ◌/◌, ◌^◌, [], OnOk, IfOk, length, slice_index, slice_index_or};
 ghost use Rattle.mesh_decl.specs.Mesh.{IsMapAt, map_count, set_size, map_from, map_to, map_dim, target};
-ghost use Rattle.rank_sets.specs.Below.{row};
+ghost use Rattle.rank_sets.specs.Below.{count_below};
 ghost use Rattle.partition.specs.Elected.{names, entries, gathered};
 ghost use Rattle.partition.specs.Derive.{AreByTargets, AreByNames};
 
 use crate::elect::{most_frequent, most_frequent_or_block};
 use mesh_decl::Mesh;
 use op_num::OutOfMemory;
-use rank_sets::empty_lists;
+use rows::{Filling, Rows};
 use std::alloc::Global;
 
 // Puts the owners of an element's targets into a list.
@@ -54,37 +54,55 @@ pub fn elect_by_targets(
     let (from, _, _) = mesh.map_ends(map);
     let size = mesh.set_size(from);
     let mut list = Vec::new(alloc);
+    let mut votes = [0u64; 64];
     let mut elected = Vec::with_capacity(alloc, size as usize)?;
     for element in 0..size {
         list_targets(&mut list, mesh, owners, map, element)?;
-        elected.push(most_frequent(&list, ranks))?;
+        elected.push(most_frequent(&mut votes, &list, ranks))?;
     }
     Ok(elected)
 }
 
-// For each element of the set to which a map leads, the owners of the entries that name it.
-fn owners_naming(
-    alloc: Global,
-    mesh: &Mesh,
-    owners: &[u32],
-    map: u32,
-) -> Result<Vec<Vec<u32>>, OutOfMemory>
+// For each element of the set to which a map leads, how many entries name it.
+fn naming_counts(alloc: Global, mesh: &Mesh, map: u32) -> Result<Vec<usize>, OutOfMemory>
     requires map { map < map_count mesh.now }
     requires at { IsMapAt mesh.now map }
-    requires owners { length owners.now ≡ set_size mesh.now (map_from mesh.now map) }
     ensures length { IfOk result (λ v. length v.items ≡ set_size mesh.now (map_to mesh.now map)) }
-    ensures lists { IfOk result (λ v. (y : ℕ) → y < set_size mesh.now (map_to mesh.now map)
-        → row v.items y ≡ gathered (entries mesh.now map) (names mesh.now map y) (λ e. slice_index owners.now (e / map_dim mesh.now map))) }
+    ensures counts { IfOk result (λ v. (y : ℕ) → y < set_size mesh.now (map_to mesh.now map)
+        → slice_index v.items y ≡ count_below (entries mesh.now map) (names mesh.now map y)) }
 {
     let (from, to, dim) = mesh.map_ends(map);
-    let mut lists = empty_lists(alloc, mesh.set_size(to))?;
+    let mut counts = vec![in alloc; 0usize; mesh.set_size(to) as usize]?;
     let entries = mesh.set_size(from) as u64 * dim as u64;
     for entry in 0..entries {
         let (element, place) = (entry / dim as u64, entry % dim as u64);
         let target = mesh.target(map, element as u32, place as u32);
-        lists[target as usize].push(owners[element as usize])?;
+        counts[target as usize] += 1;
     }
-    Ok(lists)
+    Ok(counts)
+}
+
+// For each element of the set to which a map leads, the owners of the entries that name it.
+fn owners_naming(alloc: Global, mesh: &Mesh, owners: &[u32], map: u32) -> Result<Rows, OutOfMemory>
+    requires map { map < map_count mesh.now }
+    requires at { IsMapAt mesh.now map }
+    requires owners { length owners.now ≡ set_size mesh.now (map_from mesh.now map) }
+    requires size { set_size mesh.now (map_to mesh.now map) < 2 ^ 32 }
+    ensures length { IfOk result (λ v. length v ≡ set_size mesh.now (map_to mesh.now map)) }
+    ensures lists { IfOk result (λ v. (y : ℕ) → y < set_size mesh.now (map_to mesh.now map)
+        → slice_index_or v y []
+        ≡ gathered (entries mesh.now map) (names mesh.now map y) (λ e. slice_index owners.now (e / map_dim mesh.now map))) }
+{
+    let counts = naming_counts(alloc, mesh, map)?;
+    let (from, _, dim) = mesh.map_ends(map);
+    let mut filling = Filling::new(alloc, &counts)?;
+    let entries = mesh.set_size(from) as u64 * dim as u64;
+    for entry in 0..entries {
+        let (element, place) = (entry / dim as u64, entry % dim as u64);
+        let target = mesh.target(map, element as u32, place as u32);
+        filling.push(target as usize, owners[element as usize]);
+    }
+    Ok(filling.finish())
 }
 
 /// The owners of the set to which a map leads, by those of the entries that name its elements.
@@ -108,10 +126,11 @@ pub fn elect_by_names(
     let (_, to, _) = mesh.map_ends(map);
     let size = mesh.set_size(to);
     let lists = owners_naming(alloc, mesh, owners, map)?;
+    let mut votes = [0u64; 64];
     let mut elected = Vec::with_capacity(alloc, size as usize)?;
     for element in 0..size {
-        let list = &lists[element as usize];
-        elected.push(most_frequent_or_block(list, size, ranks, element))?;
+        let list = lists.row(element as usize);
+        elected.push(most_frequent_or_block(&mut votes, list, size, ranks, element))?;
     }
     Ok(elected)
 }

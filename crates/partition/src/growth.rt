@@ -2,15 +2,16 @@
 ghost use Rattle.std.specs.Prelude.{◌≡◌, ◌≢◌, ℕ, true, false, not, ◌<◌, ◌≤◌, ◌+◌, ◌^◌, IfOk, OnOk, count_by, length, slice_index};
 ghost use Rattle.std.specs.Prelude.{slice_index_or};
 ghost use Rattle.mesh_decl.specs.Mesh.{IsMapAt, map_count, set_size, map_to};
-ghost use Rattle.breadth_order.specs.Neighbours.{are_neighbours};
-ghost use Rattle.breadth_order.specs.Taken.{is_near, IsWalk, AreRising, AreWithin};
+ghost use Rattle.breadth_order.specs.Neighbours.{are_neighbours, IsInverse};
+ghost use Rattle.breadth_order.specs.Taken.{IsWalk};
 ghost use Rattle.partition.specs.Block.{InBlock, block_start};
 ghost use Rattle.partition.specs.Grow.{AreNextFree, IsGrown, IsGrowing};
 
 use crate::blocks::block_owner;
-use breadth_order::make_neighbours;
+use breadth_order::{inverse, unseen_neighbours};
 use mesh_decl::Mesh;
 use op_num::OutOfMemory;
+use rows::Rows;
 use std::alloc::Global;
 
 // The least element that isn't marked, where those below `from` are.
@@ -32,25 +33,30 @@ fn least_free(seen: &[bool], from: usize) -> usize
 fn take_neighbours(
     order: &mut Vec<u32>,
     seen: &mut [bool],
-    near: &[Vec<u32>],
+    found: &mut Vec<u32>,
+    mesh: &Mesh,
+    map: u32,
+    by: &Rows,
     head: usize,
     end: usize,
 ) -> Result<(), OutOfMemory>
-    requires walk { IsWalk (length near.now) (is_near near.now) order.old.items seen.old 0 }
+    requires walk { IsWalk (set_size mesh.now (map_to mesh.now map)) (are_neighbours mesh.now map) order.old.items seen.old 0 }
     requires head { head < length order.old.items }
     requires end { length order.old.items ≤ end }
-    requires lists { AreWithin (length near.now) near.now }
-    requires rising { AreRising (length near.now) (λ x. x) near.now }
-    ensures walk { OnOk result (IsWalk (length near.now) (is_near near.now) order.new.items seen.new 0) }
+    requires at { IsMapAt mesh.now map }
+    requires map { map < map_count mesh.now }
+    requires by { IsInverse mesh.now map by.now }
+    ensures walk { OnOk result (IsWalk (set_size mesh.now (map_to mesh.now map)) (are_neighbours mesh.now map) order.new.items seen.new 0) }
     ensures more { OnOk result (length order.old.items ≤ length order.new.items) }
     ensures end { OnOk result (length order.new.items ≤ end) }
     ensures kept { OnOk result ((y : ℕ) → slice_index_or seen.old y false ≡ true → slice_index_or seen.new y false ≡ true) }
-    ensures grown { OnOk result ((ranks i : ℕ) → end ≡ block_start (length near.now) ranks (i + 1)
-        → block_start (length near.now) ranks i ≤ head
-        → IsGrowing (length near.now) ranks (is_near near.now) i head order.old.items seen.old
-        → IsGrowing (length near.now) ranks (is_near near.now) i (head + 1) order.new.items seen.new) }
+    ensures grown { OnOk result ((ranks i : ℕ) → end ≡ block_start (set_size mesh.now (map_to mesh.now map)) ranks (i + 1)
+        → block_start (set_size mesh.now (map_to mesh.now map)) ranks i ≤ head
+        → IsGrowing (set_size mesh.now (map_to mesh.now map)) ranks (are_neighbours mesh.now map) i head order.old.items seen.old
+        → IsGrowing (set_size mesh.now (map_to mesh.now map)) ranks (are_neighbours mesh.now map) i (head + 1) order.new.items seen.new) }
 {
-    for neighbour in &near[order[head] as usize] {
+    unseen_neighbours(found, mesh, map, by, order[head], seen, &[])?;
+    for neighbour in found.as_slice() {
         if order.len() < end && !seen[*neighbour as usize] {
             seen[*neighbour as usize] = true;
             order.push(*neighbour)?;
@@ -64,24 +70,28 @@ fn take_neighbours(
 fn take_share(
     order: &mut Vec<u32>,
     seen: &mut [bool],
-    near: &[Vec<u32>],
+    found: &mut Vec<u32>,
+    mesh: &Mesh,
+    map: u32,
+    by: &Rows,
     end: usize,
     from: usize,
 ) -> Result<usize, OutOfMemory>
-    requires few { length near.now < 2 ^ 32 }
-    requires walk { IsWalk (length near.now) (is_near near.now) order.old.items seen.old 0 }
-    requires end { end ≤ length near.now }
+    requires few { set_size mesh.now (map_to mesh.now map) < 2 ^ 32 }
+    requires walk { IsWalk (set_size mesh.now (map_to mesh.now map)) (are_neighbours mesh.now map) order.old.items seen.old 0 }
+    requires end { end ≤ set_size mesh.now (map_to mesh.now map) }
     requires more { length order.old.items ≤ end }
-    requires lists { AreWithin (length near.now) near.now }
-    requires rising { AreRising (length near.now) (λ x. x) near.now }
+    requires at { IsMapAt mesh.now map }
+    requires map { map < map_count mesh.now }
+    requires by { IsInverse mesh.now map by.now }
     requires before { (y : ℕ) → y < from → slice_index_or seen.old y false ≡ true }
-    ensures walk { OnOk result (IsWalk (length near.now) (is_near near.now) order.new.items seen.new 0) }
+    ensures walk { OnOk result (IsWalk (set_size mesh.now (map_to mesh.now map)) (are_neighbours mesh.now map) order.new.items seen.new 0) }
     ensures end { OnOk result (length order.new.items ≡ end) }
     ensures before { IfOk result (λ least. (y : ℕ) → y < least → slice_index_or seen.new y false ≡ true) }
-    ensures grown { OnOk result ((ranks i : ℕ) → 0 < ranks → end ≡ block_start (length near.now) ranks (i + 1)
-        → length order.old.items ≡ block_start (length near.now) ranks i
-        → AreNextFree (length near.now) ranks (is_near near.now) order.old.items
-        → AreNextFree (length near.now) ranks (is_near near.now) order.new.items) }
+    ensures grown { OnOk result ((ranks i : ℕ) → 0 < ranks → end ≡ block_start (set_size mesh.now (map_to mesh.now map)) ranks (i + 1)
+        → length order.old.items ≡ block_start (set_size mesh.now (map_to mesh.now map)) ranks i
+        → AreNextFree (set_size mesh.now (map_to mesh.now map)) ranks (are_neighbours mesh.now map) order.old.items
+        → AreNextFree (set_size mesh.now (map_to mesh.now map)) ranks (are_neighbours mesh.now map) order.new.items) }
 {
     let mut least = from;
     let mut head = order.len();
@@ -91,30 +101,42 @@ fn take_share(
             seen[least] = true;
             order.push(least as u32)?;
         }
-        take_neighbours(order, seen, near, head, end)?;
+        take_neighbours(order, seen, found, mesh, map, by, head, end)?;
         head += 1;
     }
     Ok(least)
 }
 
 // All elements in the order in which they are given to ranks.
-fn giving_order(alloc: Global, near: &[Vec<u32>], ranks: u32) -> Result<Vec<u32>, OutOfMemory>
-    requires few { length near.now < 2 ^ 32 }
+fn giving_order(alloc: Global, mesh: &Mesh, map: u32, ranks: u32) -> Result<Vec<u32>, OutOfMemory>
+    requires sizes { (s : ℕ) → set_size mesh.now s < 2 ^ 32 }
     requires some { 0 < ranks }
-    requires lists { AreWithin (length near.now) near.now }
-    requires rising { AreRising (length near.now) (λ x. x) near.now }
-    ensures length { IfOk result (λ v. length v.items ≡ length near.now) }
-    ensures within { IfOk result (λ v. (k : ℕ) → k < length v.items → slice_index v.items k < length near.now) }
+    requires at { IsMapAt mesh.now map }
+    requires map { map < map_count mesh.now }
+    ensures length { IfOk result (λ v. length v.items ≡ set_size mesh.now (map_to mesh.now map)) }
+    ensures within { IfOk result (λ v. (k : ℕ) → k < length v.items → slice_index v.items k < set_size mesh.now (map_to mesh.now map)) }
     ensures apart { IfOk result (λ v. (j k : ℕ) → j < k → k < length v.items → slice_index v.items j ≢ slice_index v.items k) }
-    ensures next { IfOk result (λ v. AreNextFree (length near.now) ranks (is_near near.now) v.items) }
+    ensures next { IfOk result (λ v. AreNextFree (set_size mesh.now (map_to mesh.now map)) ranks (are_neighbours mesh.now map) v.items) }
 {
-    let size = near.len();
+    let by = inverse(alloc, mesh, map)?;
+    let (_, to, _) = mesh.map_ends(map);
+    let size = mesh.set_size(to) as usize;
+    let mut found = Vec::new(alloc);
     let mut seen = vec![in alloc; false; size]?;
     let mut order = Vec::with_capacity(alloc, size)?;
     let mut least = 0;
     for rank in 0..ranks {
         let end = (rank as u64 + 1) * size as u64 / ranks as u64;
-        least = take_share(&mut order, &mut seen, near, end as usize, least)?;
+        least = take_share(
+            &mut order,
+            &mut seen,
+            &mut found,
+            mesh,
+            map,
+            &by,
+            end as usize,
+            least,
+        )?;
     }
     Ok(order)
 }
@@ -142,15 +164,14 @@ fn owners_by_places(alloc: Global, order: &[u32], ranks: u32) -> Result<Vec<u32>
 pub fn grow_set(alloc: Global, mesh: &Mesh, map: u32, ranks: u32) -> Result<Vec<u32>, OutOfMemory>
     requires at { IsMapAt mesh.now map }
     requires map { map < map_count mesh.now }
-    requires few { set_size mesh.now (map_to mesh.now map) < 2 ^ 32 }
+    requires sizes { (s : ℕ) → set_size mesh.now s < 2 ^ 32 }
     requires some { 0 < ranks }
     ensures length { IfOk result (λ v. length v.items ≡ set_size mesh.now (map_to mesh.now map)) }
     ensures below { IfOk result (λ v. (x : ℕ) → x < set_size mesh.now (map_to mesh.now map) → slice_index v.items x < ranks) }
     ensures grown { IfOk result
         (λ v. IsGrown (set_size mesh.now (map_to mesh.now map)) ranks (are_neighbours mesh.now map) (slice_index v.items)) }
 {
-    let near = make_neighbours(alloc, mesh, map)?;
-    let order = giving_order(alloc, &near, ranks)?;
+    let order = giving_order(alloc, mesh, map, ranks)?;
     let owners = owners_by_places(alloc, &order, ranks)?;
     Ok(owners)
 }

@@ -62,8 +62,8 @@ pub fn block(alloc: Global, mesh: &Mesh, ranks: u32) -> Result<Owners, OutOfMemo
 /// 3. where there is neither, the first set without owners is given as by `block`.
 ///
 /// Of ranks equally frequent the lowest is taken; sets and maps come in order of declaration. For each set that gets
-/// owners it takes time linear in the entries of one map and 64 times the elements of the set, and it fails only for want
-/// of memory.
+/// owners it takes time and memory linear in the entries of one map and the elements of the set, and it fails only for
+/// want of memory.
 pub fn derive(
     alloc: Global,
     mesh: &Mesh,
@@ -86,8 +86,8 @@ pub fn derive(
 /// takes, breadth first, the neighbours of its elements that no rank has, those of one element by number; where none is
 /// left, it goes on with the least element that no rank has.
 ///
-/// There are 1 to 64 ranks. It takes time linear in the elements and in the pairs of targets of one element, and fails
-/// only for want of memory.
+/// There are 1 to 64 ranks. It takes time linear in the elements and n log n in the pairs of targets of one element, and
+/// fails only for want of memory.
 pub fn grow(alloc: Global, mesh: &Mesh, ranks: u32, map: u32) -> Result<Owners, OutOfMemory>
     requires some { 0 < ranks }
     requires few { ranks ≤ 64 }

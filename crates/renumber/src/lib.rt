@@ -33,7 +33,7 @@ pub fn identity(alloc: Global, mesh: &Mesh) -> Result<Perms, OutOfMemory>
 /// The reverse renumbering of Cuthill and McKee by the map numbered `map`. The elements of the set to which it leads
 /// stand in the reverse of the order in which they are taken; those of the set from which it leads, where that is
 /// another, by (least new number among the targets, original number); all others keep their numbers. It takes time
-/// linear in the neighbours and n log n in the elements, and fails only for want of memory.
+/// n log n in the elements and in the pairs of targets of one element, and fails only for want of memory.
 pub fn cuthill_mckee(alloc: Global, mesh: &Mesh, map: u32) -> Result<Perms, OutOfMemory>
     requires { map < map_count mesh.now }
     ensures { IfOk result (IsCuthillMcKee mesh.now map) }

@@ -1,10 +1,13 @@
 use Rattle.std.proofs.Common.{◌≡◌, ◌<◌, ℕ, true, false, length, get_or}
-use Rattle.breadth_order.specs.Taken.{is_near, IsTaken, IsWalk, AreRising, Rises}
+use Rattle.mesh_decl.specs.Mesh.{set_size, map_to}
+use Rattle.breadth_order.specs.Keys.{keyed}
+use Rattle.breadth_order.specs.Neighbours.{are_neighbours}
+use Rattle.breadth_order.specs.Taken.{IsTaken, IsWalk}
 use Rattle.breadth_order.proofs.breadth_first.Given as goal
 
 abbrev pub invariant-loop-start : goal.invariant-loop-start
 invariant-loop-start l = record {
-  walk : IsWalk (length l.near) (is_near l.near) l.order.items l.seen.items (length l.order.items);
+  walk : IsWalk (set_size l.mesh (map_to l.mesh l.map)) (are_neighbours l.mesh l.map) l.order.items l.seen.items (length l.order.items);
   done : (i : ℕ) → i < l.start-index → get_or l.seen.items (get_or l.starts i 0) false ≡ true;
-  taken : (key : ℕ → ℕ) → Rises key l.starts → AreRising (length l.near) key l.near → IsTaken (length l.near) (is_near l.near) key l.order.items;
+  taken : IsTaken (set_size l.mesh (map_to l.mesh l.map)) (are_neighbours l.mesh l.map) (keyed l.keys) l.order.items;
 }

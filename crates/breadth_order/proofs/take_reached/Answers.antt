@@ -5,6 +5,6 @@ pub loop-head-preserved : goal.loop-head-preserved
 loop-head-preserved c = record {
   walk = c.in_ok-take_neighbours.ensures.walk;
   within = omega (arith, c.in_ok-take_neighbours.ensures.more);
-  taken = λ key rising was. c.in_ok-take_neighbours.ensures.taken key rising (c.loop-head.invariant.taken key rising was);
+  taken = λ was. c.in_ok-take_neighbours.ensures.taken (c.loop-head.invariant.taken was);
   kept = λ y t. c.in_ok-take_neighbours.ensures.kept y (c.loop-head.invariant.kept y t);
 }

@@ -1,5 +1,6 @@
 use Rattle.std.proofs.Common.{◌≡◌, ◌<◌, ◌∙◌, ℕ, List, true, arith, length, get_or, sym, ap, subst}
-use Rattle.std.proofs.lemmas.List.{length_push}
+use Rattle.std.proofs.lemmas.List.{length_push, length-replicate}
+use Rattle.partition.proofs.Votes.{zeros}
 use Rattle.mesh_decl.specs.Mesh.{set_size, map_from, map_dim, target}
 use Rattle.partition.specs.Elected.{IsElected, target_votes, gathered}
 use Rattle.partition.proofs.Shares.{each_more}
@@ -26,7 +27,12 @@ loop-element-preserved c =
     let xs = c.loop-element.elected.items in
     let y : ℕ = c.most_frequent.result in
     rw c.in_ok-push.ensures.items (
-      omega (arith, length_push xs y, c.loop-element.invariant.0),
-      each_more xs y x (λ z i. IsElected c.args.ranks (target_votes g c.args.owners.now m z) i) c.loop-element.invariant.0 c.loop-element.invariant.1
-          (target_elected g c.args.owners.now m x c.args.ranks y c.deref.result.now (c.deref.ensures.value ∙ c.in_ok-list_targets.ensures) c.most_frequent.ensures),
+      c.most_frequent.ensures.length ∙ c.loop-element.invariant.0,
+      c.most_frequent.ensures.none,
+      omega (arith, length_push xs y, c.loop-element.invariant.2),
+      each_more xs y x (λ z i. IsElected c.args.ranks (target_votes g c.args.owners.now m z) i) c.loop-element.invariant.2 c.loop-element.invariant.3
+          (target_elected g c.args.owners.now m x c.args.ranks y c.deref.result.now (c.deref.ensures.value ∙ c.in_ok-list_targets.ensures) c.most_frequent.ensures.elected),
     )
+
+pub loop-element-init : goal.loop-element-init
+loop-element-init c = (length-replicate {A = ℕ} 64 0, zeros 64, ap (length {A = ℕ}) c.in_ok-elected.ensures.items, λ x l. absurd (omega (arith, l)))

@@ -1,35 +1,39 @@
 use Rattle.std.proofs.Common.{◌≡◌, ◌<◌, ◌++◌, ◌∷◌, [], ℕ, arith, length, List, Vec, ap, ◌∙◌}
 use Rattle.std.specs.declared.alloc.Global.{Global}
 use Rattle.std.proofs.lemmas.List.{length_push}
-use Rattle.breadth_order.specs.Taken.{is_near}
+use Rattle.mesh_decl.specs.Mesh.{set_size, map_to}
+use Rattle.breadth_order.specs.Neighbours.{are_neighbours}
 use Rattle.partition.proofs.Giving.{IsShare, share_start}
 use Rattle.partition.proofs.growth.take_share.Goals as goal
 use Rattle.partition.proofs.growth.take_share.Goals.{then-head-len+in_ok-push, else-head-len}
 
 pub take_neighbours-requires-clause-walk : goal.take_neighbours-requires-clause-walk
 take_neighbours-requires-clause-walk c =
-    let near = c.args.near.now in
+    let g' = c.args.mesh.now in
+    let near = are_neighbours g' c.args.map in
+    let n : ℕ = set_size g' (map_to g' c.args.map) in
     let order : List ℕ = c.loop-order.order.items in
     let inv = c.loop-order.invariant in
     let short : length order < c.args.end = omega (arith, c.loop-order-test.true, c.len.ensures, c.loop-order.order.ok.0) in
     elim c.if-head-len.branch [
       | then-head-len+in_ok-push w ↦
           (let io : c.if-head-len.order.items ≡ order ++ w.least_free-least.result ∷ [] = ap (λ (v : Vec ℕ Global). v.items) w.order-is ∙ w.in_ok-push.ensures.items in
-          rw (io, w.seen-is) (share_start (length near) (is_near near) c.args.end c.loop-order.head c.loop-order.least c.args.order.now.items order c.loop-order.seen w.least_free-least.result inv short (omega (arith, w.if-head-len.true, c.len-in-loop-order.ensures, c.loop-order.order.ok.0)) w.least_free-least.ensures.within w.least_free-least.ensures.free w.least_free-least.ensures.before).walk)
+          rw (io, w.seen-is) (share_start n near c.args.end c.loop-order.head c.loop-order.least c.args.order.now.items order c.loop-order.seen w.least_free-least.result inv short (omega (arith, w.if-head-len.true, c.len-in-loop-order.ensures, c.loop-order.order.ok.0)) w.least_free-least.ensures.within w.least_free-least.ensures.free w.least_free-least.ensures.before).walk)
       | else-head-len w ↦ rw (w.order-is, w.seen-is) inv.walk
     ]
 
 pub loop-order-preserved : goal.loop-order-preserved
 loop-order-preserved c =
-    let near = c.args.near.now in
-    let n : ℕ = length near in
+    let g' = c.args.mesh.now in
+    let near = are_neighbours g' c.args.map in
+    let n : ℕ = set_size g' (map_to g' c.args.map) in
     let order : List ℕ = c.loop-order.order.items in
     let inv = c.loop-order.invariant in
     let short : length order < c.args.end = omega (arith, c.loop-order-test.true, c.len.ensures, c.loop-order.order.ok.0) in
-    let mid : IsShare n (is_near near) c.args.end c.loop-order.head c.if-head-len.least c.args.order.now.items c.if-head-len.order.items c.if-head-len.seen = elim c.if-head-len.branch [
+    let mid : IsShare n near c.args.end c.loop-order.head c.if-head-len.least c.args.order.now.items c.if-head-len.order.items c.if-head-len.seen = elim c.if-head-len.branch [
       | then-head-len+in_ok-push w ↦
           (let io : c.if-head-len.order.items ≡ order ++ w.least_free-least.result ∷ [] = ap (λ (v : Vec ℕ Global). v.items) w.order-is ∙ w.in_ok-push.ensures.items in
-          rw (io, w.seen-is, w.least-is) (share_start n (is_near near) c.args.end c.loop-order.head c.loop-order.least c.args.order.now.items order c.loop-order.seen w.least_free-least.result inv short (omega (arith, w.if-head-len.true, c.len-in-loop-order.ensures, c.loop-order.order.ok.0)) w.least_free-least.ensures.within w.least_free-least.ensures.free w.least_free-least.ensures.before))
+          rw (io, w.seen-is, w.least-is) (share_start n near c.args.end c.loop-order.head c.loop-order.least c.args.order.now.items order c.loop-order.seen w.least_free-least.result inv short (omega (arith, w.if-head-len.true, c.len-in-loop-order.ensures, c.loop-order.order.ok.0)) w.least_free-least.ensures.within w.least_free-least.ensures.free w.least_free-least.ensures.before))
       | else-head-len w ↦ rw (w.order-is, w.seen-is, w.least-is) inv
     ] in
     let here : c.loop-order.head < length c.if-head-len.order.items = elim c.if-head-len.branch [
