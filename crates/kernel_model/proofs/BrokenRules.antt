@@ -6,7 +6,7 @@ use Rattle.c_tree.specs.declared.expressions.MinMax.TheVariants as min_max
 use Rattle.reductions.specs.Reduction.{Reduction, Add, Min, Max}
 use Rattle.reductions.specs.Access.{Access, OpRead, OpWrite, OpRw, OpReduce}
 use Rattle.kernel_model.specs.Obeys.{Event, Reads, Assigns, Adds, Changes, Owns, Merges, Assigned, HasAssigned, InDim, IsComponent, MayRead, MayAssign, MayChange, MayAdd, MayOwn, MayMerge}
-use Rattle.kernel_model.specs.Refusals.{Rule, WritesRead, ReadsReduced, NotSum, ReadsUnwritten, NotAllWritten, IndexNotStatic, IndexOut, NotExtremum, IsOut, IsUnwritten, argument_of, index_of, is_target, is_sum, is_extremum, is_read, Breaks}
+use Rattle.kernel_model.specs.Refusals.{Rule, WritesRead, ReadsInc, IncNotSum, ReadsUnwritten, NotAllWritten, WriteIndexNotStatic, LiteralIndexOut, MinMaxForm, IsOut, IsUnwritten, argument_of, index_of, is_target, is_sum, is_extremum, is_read, Breaks}
 
 -- what is allowed under one access
 abbrev pub Fits : Access → ℕ → Assigned → Event → Type 0
@@ -205,14 +205,14 @@ only_maxima dim before (Merges min_max.Max a ix at) h t s = never' s
 
 pub breaks_none : (acc : Access) (dim : ℕ) (before : Assigned) (e : Event) (rule : Rule) → Fits acc dim before e → Breaks acc dim before e rule → ⊥
 breaks_none acc dim before e WritesRead h b = no_target_read dim before e (subst (λ x. Fits x dim before e) b.0 h) b.1
-breaks_none acc dim before e ReadsReduced h b =
+breaks_none acc dim before e ReadsInc h b =
     no_reduced_read b.0.0 dim before e (subst (λ x. Fits x dim before e) b.0.1 h) (subst (λ x. is_read x e ≡ true) b.0.1 b.1)
-breaks_none acc dim before e NotSum h b = only_sums dim before e (subst (λ x. Fits x dim before e) b.0 h) b.1 b.2
+breaks_none acc dim before e IncNotSum h b = only_sums dim before e (subst (λ x. Fits x dim before e) b.0 h) b.1 b.2
 breaks_none acc dim before e ReadsUnwritten h b = only_written dim before e (subst (λ x. Fits x dim before e) b.0 h) (subst (λ x. is_read x e ≡ true) b.0 b.1) b.2
 breaks_none acc dim before e NotAllWritten h b = b
-breaks_none acc dim before e IndexNotStatic h b = only_static dim before e (subst (λ x. Fits x dim before e) b.0 h) b.1
-breaks_none acc dim before e IndexOut h b = both_never dim (index_of e) (fits_in acc dim before e h) b
-breaks_none acc dim before e NotExtremum h b =
+breaks_none acc dim before e WriteIndexNotStatic h b = only_static dim before e (subst (λ x. Fits x dim before e) b.0 h) b.1
+breaks_none acc dim before e LiteralIndexOut h b = both_never dim (index_of e) (fits_in acc dim before e h) b
+breaks_none acc dim before e MinMaxForm h b =
     ⊎_elim (λ m. only_minima dim before e (subst (λ x. Fits x dim before e) m h) b.1 (subst (λ x. is_extremum x e ≡ false) m b.2))
     (λ m. only_maxima dim before e (subst (λ x. Fits x dim before e) m h) b.1 (subst (λ x. is_extremum x e ≡ false) m b.2)) b.0
 
@@ -222,10 +222,10 @@ abbrev FitsOr : Access → ℕ → Assigned → Event → Type 0
 FitsOr acc dim before e = Fits acc dim before e ⊎ ((rule : Rule) × Breaks acc dim before e rule)
 
 in_dim : (acc : Access) (dim : ℕ) (before : Assigned) (e : Event) → (InDim dim (index_of e) → Fits acc dim before e) → FitsOr acc dim before e
-in_dim acc dim before e f = ⊎_elim (λ h. inl (f h)) (λ o. inr (IndexOut, o)) (in_or_out dim (index_of e))
+in_dim acc dim before e f = ⊎_elim (λ h. inl (f h)) (λ o. inr (LiteralIndexOut, o)) (in_or_out dim (index_of e))
 
 bad_index : (dim : ℕ) (before : Assigned) (e : Event) → BadIndex dim (index_of e) → (rule : Rule) × Breaks OpWrite dim before e rule
-bad_index dim before e b = ⊎_elim (λ n. (IndexNotStatic, (refl, n))) (λ o. (IndexOut, o)) b
+bad_index dim before e b = ⊎_elim (λ n. (WriteIndexNotStatic, (refl, n))) (λ o. (LiteralIndexOut, o)) b
 
 written : (dim : ℕ) (before : Assigned) (e : Event) → is_read OpWrite e ≡ true → (IsComponent dim (index_of e) (λ i. HasAssigned before (argument_of e) i) → Fits OpWrite dim before e) → FitsOr OpWrite dim before e
 written dim before e r f =
@@ -258,23 +258,23 @@ fits_or OpWrite dim before (Owns min_max.Min a ix at) = written dim before (Owns
 fits_or OpWrite dim before (Owns min_max.Max a ix at) = written dim before (Owns min_max.Max a ix at) refl (λ h. h)
 fits_or OpWrite dim before (Merges min_max.Min a ix at) = component dim before (Merges min_max.Min a ix at) (λ h. h)
 fits_or OpWrite dim before (Merges min_max.Max a ix at) = component dim before (Merges min_max.Max a ix at) (λ h. h)
-fits_or (OpReduce r) dim before (Reads a ix at) = inr (ReadsReduced, ((r, refl), refl))
-fits_or (OpReduce r) dim before (Changes a ix at) = inr (ReadsReduced, ((r, refl), refl))
-fits_or (OpReduce Add) dim before (Assigns a ix at) = inr (NotSum, (refl, refl, refl))
-fits_or (OpReduce Min) dim before (Assigns a ix at) = inr (NotExtremum, (inl refl, refl, refl))
-fits_or (OpReduce Max) dim before (Assigns a ix at) = inr (NotExtremum, (inr refl, refl, refl))
+fits_or (OpReduce r) dim before (Reads a ix at) = inr (ReadsInc, ((r, refl), refl))
+fits_or (OpReduce r) dim before (Changes a ix at) = inr (ReadsInc, ((r, refl), refl))
+fits_or (OpReduce Add) dim before (Assigns a ix at) = inr (IncNotSum, (refl, refl, refl))
+fits_or (OpReduce Min) dim before (Assigns a ix at) = inr (MinMaxForm, (inl refl, refl, refl))
+fits_or (OpReduce Max) dim before (Assigns a ix at) = inr (MinMaxForm, (inr refl, refl, refl))
 fits_or (OpReduce Add) dim before (Adds a ix at) = in_dim (OpReduce Add) dim before (Adds a ix at) (λ h. h)
-fits_or (OpReduce Min) dim before (Adds a ix at) = inr (ReadsReduced, ((Min, refl), refl))
-fits_or (OpReduce Max) dim before (Adds a ix at) = inr (ReadsReduced, ((Max, refl), refl))
-fits_or (OpReduce Add) dim before (Owns min_max.Min a ix at) = inr (ReadsReduced, ((Add, refl), refl))
-fits_or (OpReduce Add) dim before (Owns min_max.Max a ix at) = inr (ReadsReduced, ((Add, refl), refl))
+fits_or (OpReduce Min) dim before (Adds a ix at) = inr (ReadsInc, ((Min, refl), refl))
+fits_or (OpReduce Max) dim before (Adds a ix at) = inr (ReadsInc, ((Max, refl), refl))
+fits_or (OpReduce Add) dim before (Owns min_max.Min a ix at) = inr (ReadsInc, ((Add, refl), refl))
+fits_or (OpReduce Add) dim before (Owns min_max.Max a ix at) = inr (ReadsInc, ((Add, refl), refl))
 fits_or (OpReduce Min) dim before (Owns min_max.Min a ix at) = in_dim (OpReduce Min) dim before (Owns min_max.Min a ix at) (λ h. h)
-fits_or (OpReduce Min) dim before (Owns min_max.Max a ix at) = inr (ReadsReduced, ((Min, refl), refl))
-fits_or (OpReduce Max) dim before (Owns min_max.Min a ix at) = inr (ReadsReduced, ((Max, refl), refl))
+fits_or (OpReduce Min) dim before (Owns min_max.Max a ix at) = inr (ReadsInc, ((Min, refl), refl))
+fits_or (OpReduce Max) dim before (Owns min_max.Min a ix at) = inr (ReadsInc, ((Max, refl), refl))
 fits_or (OpReduce Max) dim before (Owns min_max.Max a ix at) = in_dim (OpReduce Max) dim before (Owns min_max.Max a ix at) (λ h. h)
-fits_or (OpReduce Add) dim before (Merges min_max.Min a ix at) = inr (NotSum, (refl, refl, refl))
-fits_or (OpReduce Add) dim before (Merges min_max.Max a ix at) = inr (NotSum, (refl, refl, refl))
+fits_or (OpReduce Add) dim before (Merges min_max.Min a ix at) = inr (IncNotSum, (refl, refl, refl))
+fits_or (OpReduce Add) dim before (Merges min_max.Max a ix at) = inr (IncNotSum, (refl, refl, refl))
 fits_or (OpReduce Min) dim before (Merges min_max.Min a ix at) = in_dim (OpReduce Min) dim before (Merges min_max.Min a ix at) (λ h. h)
-fits_or (OpReduce Min) dim before (Merges min_max.Max a ix at) = inr (NotExtremum, (inl refl, refl, refl))
-fits_or (OpReduce Max) dim before (Merges min_max.Min a ix at) = inr (NotExtremum, (inr refl, refl, refl))
+fits_or (OpReduce Min) dim before (Merges min_max.Max a ix at) = inr (MinMaxForm, (inl refl, refl, refl))
+fits_or (OpReduce Max) dim before (Merges min_max.Min a ix at) = inr (MinMaxForm, (inr refl, refl, refl))
 fits_or (OpReduce Max) dim before (Merges min_max.Max a ix at) = in_dim (OpReduce Max) dim before (Merges min_max.Max a ix at) (λ h. h)

@@ -1,5 +1,5 @@
 -- What every path has assigned, and which rules an event breaks on some path.
-use Rattle.std.proofs.Common.{◌≡◌, ℕ, zero, suc, ℤ, pos, negsuc, ◌+◌, ◌-◌, ◌<◌, ◌≤◌, List, [], ◌∷◌, ◌++◌, Option, Some, None, Bool, true, false, cond, ◌&&◌, ◌||◌, refl, sym, ap, ◌∙◌, subst, ◌⊎◌, inl, inr, ⊎_elim, arith}
+use Rattle.std.proofs.Common.{◌≡◌, ℕ, ℤ, pos, negsuc, ◌<◌, ◌≤◌, [], ◌∷◌, Option, Some, None, Bool, true, false, ◌&&◌, ◌||◌, refl, sym, subst, ◌⊎◌, inl, inr, ⊎_elim, arith}
 use Rattle.std.specs.Prelude.{nat_lt, nat_eq}
 use Rattle.std.specs.Bool.{Decides}
 use Rattle.std.proofs.lemmas.Bool.{eqb-true, eq-eqb, cases_lt}
@@ -7,10 +7,10 @@ use Rattle.std.proofs.lemmas.Bool.Decides.{Decides-ltb}
 use Rattle.c_lex.specs.declared.tokens.Pos.{Pos}
 use Rattle.reductions.specs.Reduction.{Reduction, Add, Min, Max}
 use Rattle.reductions.specs.Access.{Access, OpRead, OpWrite, OpRw, OpReduce}
-use Rattle.kernel_model.specs.Obeys.{Mode, mode_at, Event, Assigned, HasAssigned, with_assigned}
-use Rattle.kernel_model.specs.Refusals.{Rule, WritesRead, ReadsReduced, NotSum, ReadsUnwritten, NotAllWritten, IndexNotStatic, IndexOut, NotExtremum, number_of, argument_of, index_of, place_of, is_target, is_sum, is_extremum, is_read, opposite, IsOut, IsUnwritten, Breaks}
+use Rattle.kernel_model.specs.Obeys.{Event, Assigned, HasAssigned, with_assigned}
+use Rattle.kernel_model.specs.Refusals.{Rule, WritesRead, ReadsInc, IncNotSum, ReadsUnwritten, NotAllWritten, WriteIndexNotStatic, LiteralIndexOut, MinMaxForm, argument_of, index_of, place_of, is_target, is_sum, is_extremum, is_read, opposite, IsOut, IsUnwritten, Breaks}
 use Rattle.kernel_model.specs.Walk.{Breach, Covered, none_covered, with_covered, both_covered, is_op_read, is_op_write, is_op_reduce, is_op_inc, is_op_extremum, is_unknown, is_out, is_unwritten, breaks, with_rule, with_rules}
-use Rattle.kernel_model.proofs.Firsts.{d_iff, d_and, d_three, d_or, d_true, d_false, d_holds, d_fails, d_some, IsFirst, first_iff, OrIf, noted_if_first}
+use Rattle.kernel_model.proofs.Firsts.{d_iff, d_and, d_three, d_true, d_false, d_holds, d_fails, d_some, IsFirst, first_iff, OrIf, noted_if_first}
 
 -- ---- what every path has assigned
 
@@ -128,15 +128,15 @@ d_unwritten c f cov dim a (Some (pos i)) =
 module _ {I : Type 0} (p0 : I) (c : Covered) (f : I → Assigned) (cov : Covers c f) (acc : Access) (dim : ℕ) (e : Event) where
   d_breaks : (rule : Rule) → Decides (breaks c acc dim e rule) ((p : I) × Breaks acc dim (f p) e rule)
   d_breaks WritesRead = d_some _ p0 (d_and _ _ (d_op_read acc) (d_holds (is_target e)))
-  d_breaks ReadsReduced = d_some _ p0 (d_and _ _ (d_op_reduce acc) (d_holds (is_read acc e)))
-  d_breaks NotSum = d_some _ p0 (d_three _ _ _ (d_op_inc acc) (d_holds (is_target e)) (d_fails (is_sum e)))
+  d_breaks ReadsInc = d_some _ p0 (d_and _ _ (d_op_reduce acc) (d_holds (is_read acc e)))
+  d_breaks IncNotSum = d_some _ p0 (d_three _ _ _ (d_op_inc acc) (d_holds (is_target e)) (d_fails (is_sum e)))
   d_breaks ReadsUnwritten =
       d_iff _ (λ h. (h.1.1.0, (h.0, h.1.0, h.1.1.1))) (λ h. (h.1.0, (h.1.1, (h.0, h.1.2))))
       (d_and _ _ (d_op_write acc) (d_and _ _ (d_holds (is_read acc e)) (d_unwritten c f cov dim (argument_of e) (index_of e))))
   d_breaks NotAllWritten = d_false (λ h. h.1)
-  d_breaks IndexNotStatic = d_some _ p0 (d_and _ _ (d_op_write acc) (d_unknown (index_of e)))
-  d_breaks IndexOut = d_some _ p0 (d_out dim (index_of e))
-  d_breaks NotExtremum = d_some _ p0 (d_three _ _ _ (d_op_extremum acc) (d_holds (is_target e)) (d_fails (is_extremum acc e)))
+  d_breaks WriteIndexNotStatic = d_some _ p0 (d_and _ _ (d_op_write acc) (d_unknown (index_of e)))
+  d_breaks LiteralIndexOut = d_some _ p0 (d_out dim (index_of e))
+  d_breaks MinMaxForm = d_some _ p0 (d_three _ _ _ (d_op_extremum acc) (d_holds (is_target e)) (d_fails (is_extremum acc e)))
 
   -- a rule that the event breaks on some path
   abbrev pub EventBreach : Rule → Pos → Type 0
@@ -149,33 +149,33 @@ module _ {I : Type 0} (p0 : I) (c : Covered) (f : I → Assigned) (cov : Covers 
   one_rule rule found P h = noted_if_first (breaks c acc dim e rule) ((p : I) × Breaks acc dim (f p) e rule) rule (place_of e) found P (d_breaks rule) h
 
   abbrev All_rules : (Rule → Pos → Type 0) → Rule → Pos → Type 0
-  All_rules P = With (With (With (With (With (With (With P WritesRead) ReadsReduced) NotSum) ReadsUnwritten) IndexNotStatic) IndexOut) NotExtremum
+  All_rules P = With (With (With (With (With (With (With P WritesRead) ReadsInc) IncNotSum) ReadsUnwritten) WriteIndexNotStatic) LiteralIndexOut) MinMaxForm
 
   this_rule : (P : Rule → Pos → Type 0) (rule other : Rule) (there : Pos) → (rule ≡ other) × ((place_of e ≡ there) × ((p : I) × Breaks acc dim (f p) e rule)) → P other there ⊎ EventBreach other there
   this_rule P rule other there q = inr (q.1.1.0, q.1.0, subst (λ r. Breaks acc dim (f q.1.1.0) e r) q.0 q.1.1.1)
 
   gather : (P : Rule → Pos → Type 0) (other : Rule) (there : Pos) → All_rules P other there → P other there ⊎ EventBreach other there
-  gather P other there (inr q) = this_rule P NotExtremum other there q
-  gather P other there (inl (inr q)) = this_rule P IndexOut other there q
-  gather P other there (inl (inl (inr q))) = this_rule P IndexNotStatic other there q
+  gather P other there (inr q) = this_rule P MinMaxForm other there q
+  gather P other there (inl (inr q)) = this_rule P LiteralIndexOut other there q
+  gather P other there (inl (inl (inr q))) = this_rule P WriteIndexNotStatic other there q
   gather P other there (inl (inl (inl (inr q)))) = this_rule P ReadsUnwritten other there q
-  gather P other there (inl (inl (inl (inl (inr q))))) = this_rule P NotSum other there q
-  gather P other there (inl (inl (inl (inl (inl (inr q)))))) = this_rule P ReadsReduced other there q
+  gather P other there (inl (inl (inl (inl (inr q))))) = this_rule P IncNotSum other there q
+  gather P other there (inl (inl (inl (inl (inl (inr q)))))) = this_rule P ReadsInc other there q
   gather P other there (inl (inl (inl (inl (inl (inl (inr q))))))) = this_rule P WritesRead other there q
   gather P other there (inl (inl (inl (inl (inl (inl (inl h))))))) = inl h
 
   scatter : (P : Rule → Pos → Type 0) (other : Rule) (there : Pos) → P other there ⊎ EventBreach other there → All_rules P other there
   scatter P other there (inl h) = inl (inl (inl (inl (inl (inl (inl h))))))
   scatter P WritesRead there (inr q) = inl (inl (inl (inl (inl (inl (inr (refl, (q.1, (q.0, q.2)))))))))
-  scatter P ReadsReduced there (inr q) = inl (inl (inl (inl (inl (inr (refl, (q.1, (q.0, q.2))))))))
-  scatter P NotSum there (inr q) = inl (inl (inl (inl (inr (refl, (q.1, (q.0, q.2)))))))
+  scatter P ReadsInc there (inr q) = inl (inl (inl (inl (inl (inr (refl, (q.1, (q.0, q.2))))))))
+  scatter P IncNotSum there (inr q) = inl (inl (inl (inl (inr (refl, (q.1, (q.0, q.2)))))))
   scatter P ReadsUnwritten there (inr q) = inl (inl (inl (inr (refl, (q.1, (q.0, q.2))))))
   scatter P NotAllWritten there (inr q) = absurd q.2
-  scatter P IndexNotStatic there (inr q) = inl (inl (inr (refl, (q.1, (q.0, q.2)))))
-  scatter P IndexOut there (inr q) = inl (inr (refl, (q.1, (q.0, q.2))))
-  scatter P NotExtremum there (inr q) = inr (refl, (q.1, (q.0, q.2)))
+  scatter P WriteIndexNotStatic there (inr q) = inl (inl (inr (refl, (q.1, (q.0, q.2)))))
+  scatter P LiteralIndexOut there (inr q) = inl (inr (refl, (q.1, (q.0, q.2))))
+  scatter P MinMaxForm there (inr q) = inr (refl, (q.1, (q.0, q.2)))
 
   pub rules_first : (found : Option Breach) (P : Rule → Pos → Type 0) → IsFirst found P → IsFirst (with_rules c acc dim e found) (λ rule at. P rule at ⊎ EventBreach rule at)
   rules_first found P h =
       first_iff (with_rules c acc dim e found) (All_rules P) (λ rule at. P rule at ⊎ EventBreach rule at) (gather P) (scatter P)
-      (one_rule NotExtremum _ _ (one_rule IndexOut _ _ (one_rule IndexNotStatic _ _ (one_rule ReadsUnwritten _ _ (one_rule NotSum _ _ (one_rule ReadsReduced _ _ (one_rule WritesRead found P h)))))))
+      (one_rule MinMaxForm _ _ (one_rule LiteralIndexOut _ _ (one_rule WriteIndexNotStatic _ _ (one_rule ReadsUnwritten _ _ (one_rule IncNotSum _ _ (one_rule ReadsInc _ _ (one_rule WritesRead found P h)))))))

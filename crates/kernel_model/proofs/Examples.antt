@@ -15,7 +15,7 @@ use Rattle.kernel_model.specs.Numbers.{fault, sum, difference}
 use Rattle.kernel_model.specs.Meaning.{Target, Done, Faulted, meaning, meaning_of_all}
 use Rattle.reductions.specs.Access.{OpRead, OpWrite, OpReduce}
 use Rattle.kernel_model.specs.Obeys.{Mode, mode_at, Obeys, Reads, Adds, Owns, Merges}
-use Rattle.kernel_model.specs.Refusals.{ReadsReduced, NotAllWritten, NotExtremum, EventBreaks, EndBreaks}
+use Rattle.kernel_model.specs.Refusals.{ReadsInc, NotAllWritten, MinMaxForm, EventBreaks, EndBreaks}
 
 abbrev here : Pos
 here = record { line = 1; column = 1 }
@@ -104,7 +104,7 @@ in_other_tokens p q r h = (h (tt, (tt, tt))).0.0
 -- ---- which rules they break, and where
 
 -- a[0] += a[0]; under OP_INC: the second a is read
-breaks_where_it_is_read : (p : _) → EventBreaks (SetArg 0 form.Index n0 here assign.Add here (Arg' 0 form.Index p n0 there)) (record { access = OpReduce Add; dim = 1 } ∷ []) ReadsReduced there
+breaks_where_it_is_read : (p : _) → EventBreaks (SetArg 0 form.Index n0 here assign.Add here (Arg' 0 form.Index p n0 there)) (record { access = OpReduce Add; dim = 1 } ∷ []) ReadsInc there
 breaks_where_it_is_read p = ((tt, tt), [], Reads 0 (Some (pos 0)) there, Adds 0 (Some (pos 0)) here ∷ [], refl, refl, ((Add, refl), refl))
 
 -- if (1) a[0] = 2; under OP_WRITE: the path through the other branch assigns nothing
@@ -112,6 +112,6 @@ breaks_at_the_parameter : (p q : _) → EndBreaks (If' (Number (pos 1)) p (SetAr
 breaks_at_the_parameter p q = ((tt, inr tt), 0, 0, refl, refl, refl, omega arith, λ h. h)
 
 -- a[0] = MAX(a[0], 3); under OP_MIN: another form at the target, and a read inside it
-breaks_the_form : (p q r : _) → EventBreaks (SetArg 0 form.Index n0 here assign.Set here (Extremum' min_max.Max p (Arg' 0 form.Index q n0 there) r (Number (pos 3)))) (least_mode ∷ []) NotExtremum here
+breaks_the_form : (p q r : _) → EventBreaks (SetArg 0 form.Index n0 here assign.Set here (Extremum' min_max.Max p (Arg' 0 form.Index q n0 there) r (Number (pos 3)))) (least_mode ∷ []) MinMaxForm here
 breaks_the_form p q r =
     ((tt, (tt, tt)), Owns min_max.Max 0 (Some (pos 0)) there ∷ [], Merges min_max.Max 0 (Some (pos 0)) here, [], refl, refl, (inl refl, refl, refl))

@@ -1,18 +1,15 @@
 -- The walk finds the refusal of a kernel.
-use Rattle.std.proofs.Common.{◌≡◌, ℕ, zero, suc, ℤ, pos, ◌+◌, ◌-◌, ◌<◌, ◌≤◌, List, [], ◌∷◌, ◌++◌, length, get_or, Option, Some, None, Bool, true, false, ◌&&◌, refl, sym, ap, ◌∙◌, subst, ◌⊎◌, inl, inr, ⊎_elim, arith}
-use Rattle.std.specs.Prelude.{nat_lt, nat_eq, slice_index_or}
-use Rattle.std.specs.Bool.{Decides}
-use Rattle.c_lex.specs.declared.tokens.Pos.{Pos}
+use Rattle.std.proofs.Common.{◌≡◌, ℕ, zero, suc, pos, ◌-◌, List, [], ◌∷◌, ◌++◌, Option, Some, None, refl, ap, ◌∙◌, ◌⊎◌, inl, inr}
 use Rattle.c_tree.specs.declared.expressions.MinMax.{MinMax}
 use Rattle.kernel_types.specs.declared.expressions.RExpr.{RExpr}
 use Rattle.kernel_types.specs.declared.expressions.RExpr.TheVariants.{Number, Scalar, Constant, Arg', Local', Const', Unary', Binary', Choice', Paren', Extremum', Absolute'}
 use Rattle.kernel_types.specs.declared.statements.RStmt.{RStmt, Block', Declare, SetScalar, SetLocal, SetArg, If', For', Row_of-RStmt, end_of-RStmt, more_of-RStmt}
 use Rattle.kernel_model.specs.Numbers.{is_lazy}
-use Rattle.kernel_model.specs.Obeys.{Mode, mode_at, Counters, with_counter, static, Event, Reads, Owns, ExprPath, if_taken, taken_if, expr_events, Own, Neither, First, Second, own_side, own_events, right_events, target_event, EachTurn, Path, RowPath, on_branch, turn_events, events, row_events, Assigned, HasAssigned, with_assigned, assigned_after}
-use Rattle.kernel_model.specs.Walk.{Breach, Covered, with_covered, both_covered, turns_covered, covered_after, row_covered_after, event_found, expr_found, own_found, right_found, turns_found, stmt_found, row_found}
+use Rattle.kernel_model.specs.Obeys.{Mode, Counters, with_counter, static, Event, Reads, Owns, ExprPath, if_taken, taken_if, expr_events, Own, First, Second, own_side, own_events, right_events, target_event, EachTurn, Path, RowPath, on_branch, turn_events, events, row_events, Assigned, with_assigned, assigned_after}
+use Rattle.kernel_model.specs.Walk.{Breach, Covered, with_covered, turns_covered, covered_after, row_covered_after, event_found, expr_found, own_found, right_found, turns_found, stmt_found, row_found}
 use Rattle.kernel_model.proofs.Paths.{some_if, some_expr_path, each_turn, some_path, some_row_path, assigned_after-append, expr_keeps, own_keeps, right_keeps, target_event_after}
 use Rattle.kernel_model.proofs.Covers.{Covers, covers_along, covers_with, covers_both}
-use Rattle.kernel_model.proofs.Steps.{Step, s_none, s_then, s_family, s_keep, s_taken, s_taken_if, s_branch, s_event, s_last, s_along}
+use Rattle.kernel_model.proofs.Steps.{Step, s_none, s_then, s_keep, s_taken, s_taken_if, s_branch, s_last, s_along}
 
 -- ---- expressions
 

@@ -1,14 +1,14 @@
 -- The walk over a whole kernel, with its end.
-use Rattle.std.proofs.Common.{◌≡◌, ℕ, zero, suc, ◌+◌, ◌<◌, ◌≤◌, List, [], ◌∷◌, ◌++◌, length, get_or, Option, Some, None, Bool, true, false, ◌&&◌, refl, sym, ap, ◌∙◌, subst, ◌⊎◌, inl, inr, ⊎_elim, arith}
+use Rattle.std.proofs.Common.{◌≡◌, ℕ, zero, suc, ◌+◌, ◌<◌, ◌≤◌, List, [], ◌∷◌, ◌++◌, length, Option, Some, None, Bool, true, false, ◌&&◌, refl, sym, ap, ◌∙◌, subst, ◌⊎◌, inl, inr, ⊎_elim, arith}
 use Rattle.std.specs.Bool.{Decides}
 use Rattle.std.proofs.lemmas.Bool.{cases_lt}
 use Rattle.std.proofs.Math.ListN.{get_or-eq_default}
 use Rattle.c_lex.specs.declared.tokens.Pos.{Pos}
-use Rattle.reductions.specs.Access.{Access, OpRead, OpWrite}
+use Rattle.reductions.specs.Access.{OpRead, OpWrite}
 use Rattle.kernel_types.specs.declared.kernels.RKernel.{RKernel}
 use Rattle.kernel_types.specs.declared.statements.RStmt.{RStmt}
 use Rattle.kernel_model.specs.Obeys.{Mode, mode_at, no_mode, no_counters, Event, Path, events, Assigned, HasAssigned, after_event, assigned_after}
-use Rattle.kernel_model.specs.Refusals.{Rule, NotAllWritten, argument_of, place_of, opposite, Breaks, EventBreaks, EndBreaks, KernelBreaks, parameter_place}
+use Rattle.kernel_model.specs.Refusals.{Rule, NotAllWritten, argument_of, place_of, opposite, Breaks, KernelBreaks, parameter_place}
 use Rattle.kernel_model.specs.Walk.{Breach, Covered, none_covered, covered_after, stmt_found, all_below, leaves_unwritten, ends_found, walk, IsFound, WalkFinds, noted_if}
 use Rattle.kernel_model.proofs.Refused.{obeys_unless_broken}
 use Rattle.kernel_model.proofs.Firsts.{d_iff, d_and, d_true, d_false, IsFirst, first_iff, OrIf, noted_if_first}

@@ -4,7 +4,7 @@ use Rattle.c_lex.specs.declared.tokens.Pos.{Pos}
 use Rattle.kernel_types.specs.declared.kernels.RKernel.{RKernel}
 use Rattle.kernel_model.specs.Obeys.{Mode, mode_at, Event, Reads, Assigns, Adds, Changes, Owns, Merges, events, no_counters, Assigned, Allowed, after_event, AllAllowed, assigned_after, KernelObeys}
 use Rattle.c_lex.specs.Order.{IsEarlier}
-use Rattle.kernel_model.specs.Refusals.{Rule, WritesRead, ReadsReduced, NotSum, ReadsUnwritten, NotAllWritten, IndexNotStatic, IndexOut, NotExtremum, number_of, argument_of, place_of, Breaks, KernelBreaks, ObeysUnlessBroken, OneRefusal}
+use Rattle.kernel_model.specs.Refusals.{Rule, WritesRead, ReadsInc, IncNotSum, ReadsUnwritten, NotAllWritten, WriteIndexNotStatic, LiteralIndexOut, MinMaxForm, number_of, argument_of, place_of, Breaks, KernelBreaks, ObeysUnlessBroken, OneRefusal}
 use Rattle.kernel_model.proofs.Paths.{allowed_back}
 use Rattle.kernel_model.proofs.BrokenRules.{Fits, has_assigned, breaks_none, fits_or}
 
@@ -73,24 +73,24 @@ obeys_unless_broken k modes = (broken_by_none k modes, obeys_if_unbroken k modes
 rule_at : ℕ → Rule
 rule_at zero = WritesRead
 rule_at (suc zero) = WritesRead
-rule_at (suc (suc zero)) = ReadsReduced
-rule_at (suc (suc (suc zero))) = NotSum
+rule_at (suc (suc zero)) = ReadsInc
+rule_at (suc (suc (suc zero))) = IncNotSum
 rule_at (suc (suc (suc (suc zero)))) = ReadsUnwritten
 rule_at (suc (suc (suc (suc (suc zero))))) = NotAllWritten
-rule_at (suc (suc (suc (suc (suc (suc zero)))))) = IndexNotStatic
-rule_at (suc (suc (suc (suc (suc (suc (suc zero))))))) = IndexOut
-rule_at (suc (suc (suc (suc (suc (suc (suc (suc n)))))))) = NotExtremum
+rule_at (suc (suc (suc (suc (suc (suc zero)))))) = WriteIndexNotStatic
+rule_at (suc (suc (suc (suc (suc (suc (suc zero))))))) = LiteralIndexOut
+rule_at (suc (suc (suc (suc (suc (suc (suc (suc n)))))))) = MinMaxForm
 
 rule_back : (r : Rule) → rule_at (number_of r) ≡ r
 unfolding rule_at
 rule_back WritesRead = refl
-rule_back ReadsReduced = refl
-rule_back NotSum = refl
+rule_back ReadsInc = refl
+rule_back IncNotSum = refl
 rule_back ReadsUnwritten = refl
 rule_back NotAllWritten = refl
-rule_back IndexNotStatic = refl
-rule_back IndexOut = refl
-rule_back NotExtremum = refl
+rule_back WriteIndexNotStatic = refl
+rule_back LiteralIndexOut = refl
+rule_back MinMaxForm = refl
 
 not_both_earlier : (p q : Pos) → IsEarlier p q → IsEarlier q p → ⊥
 not_both_earlier p q (inl a) (inl b) = omega arith

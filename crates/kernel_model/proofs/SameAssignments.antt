@@ -64,9 +64,9 @@ module _ (modes : List Mode) (consts : List ℤ) (ts us : List Target) (aliases 
 
     -- the target itself on the right
     place_value : (rs : List Target) (u : Store) (x : RExpr) (z : ℤ) (i : ℕ) → is_place a form ix x ≡ true → value_of rs consts ix u ls ≡ Ok z → index_in (target_at rs a).count at z ≡ Ok i → value_of rs consts x u ls ≡ Ok (read_arg rs u a i)
-    place_value rs u (Arg' b gorm p jx bt) z i e f g =
+    place_value rs u (Arg' b other_form p jx bt) z i e f g =
         let same : a ≡ b = eqb-true a b (and_left _ _ e) in
-        let tok : same_tokens ix jx ≡ true = and_right (same_form form gorm) (same_tokens ix jx) (and_right (nat_eq a b) (same_form form gorm && same_tokens ix jx) e) in
+        let tok : same_tokens ix jx ≡ true = and_right (same_form form other_form) (same_tokens ix jx) (and_right (nat_eq a b) (same_form form other_form && same_tokens ix jx) e) in
         subst (λ c. and_then (value_of rs consts jx u ls) (λ z. and_then (index_in (target_at rs c).count bt z) (λ i. Ok (read_arg rs u c i))) ≡ Ok (read_arg rs u a i)) same
         (ap (λ r. and_then r (λ z. and_then (index_in (target_at rs a).count bt z) (λ i. Ok (read_arg rs u a i)))) (same_value rs consts u ls ix jx tok z f)
         ∙ ap (λ r. on_value Err r (λ i. Ok (read_arg rs u a i))) (index_other_place (target_at rs a).count at bt z i g))
@@ -138,7 +138,7 @@ module _ (modes : List Mode) (consts : List ℤ) (ts us : List Target) (aliases 
     merge_assign which acc dim b jx n m = m
 
     own_relaxed : (which : MinMax) (x : RExpr) (w : ExprPath x) → is_place a form ix x ≡ true → (access modes a ≡ OpReduce (reduction_of which) → ⊥) → AllAllowed modes before (own_events which x w cs) → AllAllowed modes before (expr_events x w cs)
-    own_relaxed which (Arg' b gorm p jx bt) w e n h =
+    own_relaxed which (Arg' b other_form p jx bt) w e n h =
         let same : a ≡ b = eqb-true a b (and_left _ _ e) in
         let own = after_expr modes jx w cs before (Owns which b (static jx cs) bt ∷ []) h in
         keeping_both modes (expr_events jx w cs) (Reads b (static jx cs) bt ∷ []) before (expr_keeps jx w cs before) (allowed_front modes before (expr_events jx w cs) (Owns which b (static jx cs) bt ∷ []) h)

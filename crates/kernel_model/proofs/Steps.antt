@@ -1,12 +1,11 @@
 -- Which rules are broken along the events of a family of paths, one part after another.
-use Rattle.std.proofs.Common.{◌≡◌, ℕ, zero, suc, ◌+◌, List, [], ◌∷◌, ◌++◌, Option, Some, None, Bool, true, false, refl, sym, ap, ◌∙◌, subst, ◌⊎◌, inl, inr, ⊎_elim}
+use Rattle.std.proofs.Common.{◌≡◌, List, [], ◌∷◌, ◌++◌, Option, Some, None, Bool, true, false, sym, subst, ◌⊎◌, inl, inr, ⊎_elim}
 use Rattle.c_lex.specs.declared.tokens.Pos.{Pos}
-use Rattle.kernel_model.specs.Obeys.{Mode, mode_at, Event, Assigned, after_event, assigned_after, PathIf, if_taken, taken_if, on_branch, EachTurn, turn_events}
+use Rattle.kernel_model.specs.Obeys.{Mode, mode_at, Event, Assigned, after_event, assigned_after, PathIf, if_taken, taken_if, on_branch}
 use Rattle.kernel_model.specs.Refusals.{Rule, argument_of, place_of, Breaks}
-use Rattle.kernel_model.specs.Walk.{Breach, Covered, event_found, turns_found, turns_covered}
-use Rattle.kernel_model.proofs.Paths.{assigned_after-append, each_turn}
+use Rattle.kernel_model.specs.Walk.{Breach, Covered, event_found}
 use Rattle.kernel_model.proofs.Firsts.{IsFirst, first_iff}
-use Rattle.kernel_model.proofs.Covers.{Covers, covers_along, rules_first}
+use Rattle.kernel_model.proofs.Covers.{Covers, rules_first}
 
 module _ (modes : List Mode) where
   -- the event breaks the rule where it stands

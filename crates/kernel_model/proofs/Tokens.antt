@@ -121,22 +121,22 @@ module _ (ts : List Target) (consts : List ℤ) (s : Store) (ls : List ℤ) wher
   same_value (Number n) (Number m) h z v = let k : n ≡ m = (Decides-int_eq n m).0 h in subst (λ x. ◌≡◌ {A = Value} (Ok x) (Ok z)) k v
   same_value (Scalar k) (Scalar j) h z v = let e : k ≡ j = eqb-true k j h in subst (λ x. ◌≡◌ {A = Value} (Ok (slice_index_or ls x (pos 0))) (Ok z)) e v
   same_value (Constant k) (Constant j) h z v = let e : k ≡ j = eqb-true k j h in subst (λ x. ◌≡◌ {A = Value} (Ok (slice_index_or consts x (pos 0))) (Ok z)) e v
-  same_value (Arg' a form p e at) (Arg' b gorm q f bt) h z v =
+  same_value (Arg' a form p e at) (Arg' b other_form q f bt) h z v =
       let k : a ≡ b = eqb-true a b (and_left _ _ h) in
       subst (λ c. and_then (val f) (λ z. and_then (index_in (target_at ts c).count bt z) (λ i. Ok (read_arg ts s c i))) ≡ Ok z) k
       (element_other (target_at ts a).count at bt (val e) (val f) (read_arg ts s a) z (λ x w. same_value e f (and_right _ _ (and_right _ _ h)) x w) v)
-  same_value (Local' from count form p e at) (Local' grom dount gorm q f bt) h z v =
-      let k : from ≡ grom = eqb-true from grom (and_left _ _ h) in
-      let l : count ≡ dount = eqb-true count dount (and_left _ _ (and_right _ _ h)) in
-      subst (λ c. and_then (val f) (λ z. and_then (index_in c bt z) (λ i. Ok (slice_index_or ls (grom + i) (pos 0)))) ≡ Ok z) l
+  same_value (Local' from count form p e at) (Local' other_from other_count other_form q f bt) h z v =
+      let k : from ≡ other_from = eqb-true from other_from (and_left _ _ h) in
+      let l : count ≡ other_count = eqb-true count other_count (and_left _ _ (and_right _ _ h)) in
+      subst (λ c. and_then (val f) (λ z. and_then (index_in c bt z) (λ i. Ok (slice_index_or ls (other_from + i) (pos 0)))) ≡ Ok z) l
       (subst (λ g. and_then (val f) (λ z. and_then (index_in count bt z) (λ i. Ok (slice_index_or ls (g + i) (pos 0)))) ≡ Ok z) k
-      (element_other count at bt (val e) (val f) (λ i. slice_index_or ls (from + i) (pos 0)) z (λ x w. same_value e f (and_fourth (nat_eq from grom) (nat_eq count dount) (same_form form gorm) (same_tokens e f) h) x w) v))
-  same_value (Const' from count form p e at) (Const' grom dount gorm q f bt) h z v =
-      let k : from ≡ grom = eqb-true from grom (and_left _ _ h) in
-      let l : count ≡ dount = eqb-true count dount (and_left _ _ (and_right _ _ h)) in
-      subst (λ c. and_then (val f) (λ z. and_then (index_in c bt z) (λ i. Ok (slice_index_or consts (grom + i) (pos 0)))) ≡ Ok z) l
+      (element_other count at bt (val e) (val f) (λ i. slice_index_or ls (from + i) (pos 0)) z (λ x w. same_value e f (and_fourth (nat_eq from other_from) (nat_eq count other_count) (same_form form other_form) (same_tokens e f) h) x w) v))
+  same_value (Const' from count form p e at) (Const' other_from other_count other_form q f bt) h z v =
+      let k : from ≡ other_from = eqb-true from other_from (and_left _ _ h) in
+      let l : count ≡ other_count = eqb-true count other_count (and_left _ _ (and_right _ _ h)) in
+      subst (λ c. and_then (val f) (λ z. and_then (index_in c bt z) (λ i. Ok (slice_index_or consts (other_from + i) (pos 0)))) ≡ Ok z) l
       (subst (λ g. and_then (val f) (λ z. and_then (index_in count bt z) (λ i. Ok (slice_index_or consts (g + i) (pos 0)))) ≡ Ok z) k
-      (element_other count at bt (val e) (val f) (λ i. slice_index_or consts (from + i) (pos 0)) z (λ x w. same_value e f (and_fourth (nat_eq from grom) (nat_eq count dount) (same_form form gorm) (same_tokens e f) h) x w) v))
+      (element_other count at bt (val e) (val f) (λ i. slice_index_or consts (from + i) (pos 0)) z (λ x w. same_value e f (and_fourth (nat_eq from other_from) (nat_eq count other_count) (same_form form other_form) (same_tokens e f) h) x w) v))
   same_value (Unary' op p a) (Unary' oq q b) h z v =
       let k : op ≡ oq = same_unary_is op oq (and_left _ _ h) in
       subst (λ o. and_then (val b) (λ x. Ok (apply_unary o x)) ≡ Ok z) k
@@ -151,8 +151,8 @@ module _ (ts : List Target) (consts : List ℤ) (s : Store) (ls : List ℤ) wher
       chained (val x) (val y) _ _ z (λ k w. same_value x y (and_left _ _ h) k w)
       (λ k w. chose (is_zero k) _ _ _ _ z (λ l. same_value b d (and_right _ _ (and_right _ _ h)) z l) (λ l. same_value a c (and_left _ _ (and_right _ _ h)) z l) w) v
   same_value (Paren' p a) (Paren' q b) h z v = same_value a b h z v
-  same_value (Extremum' which p a q b) (Extremum' whych r c t d) h z v =
-      let k : which ≡ whych = same_which_is which whych (and_left _ _ h) in
+  same_value (Extremum' which p a q b) (Extremum' other_which r c t d) h z v =
+      let k : which ≡ other_which = same_which_is which other_which (and_left _ _ h) in
       subst (λ o. and_then (val c) (λ x. and_then (val d) (λ y. Ok (extremum o x y))) ≡ Ok z) k
       (chained (val a) (val c) _ _ z (λ x w. same_value a c (and_left _ _ (and_right _ _ h)) x w)
       (λ x w. chained (val b) (val d) _ _ z (λ y u. same_value b d (and_right _ _ (and_right _ _ h)) y u) (λ y u. u) w) v)

@@ -54,16 +54,16 @@ abbrev same : RExprTree → RExprTree → Bool
 same (tree.Number n) (tree.Number m) = int_eq n m
 same (tree.Scalar k) (tree.Scalar j) = nat_eq k j
 same (tree.Constant k) (tree.Constant j) = nat_eq k j
-same (tree.Arg a form e at) (tree.Arg b gorm f bt) = nat_eq a b && (same_form form gorm && same e f)
-same (tree.Local from count form e at) (tree.Local grom dount gorm f bt) =
-    nat_eq from grom && (nat_eq count dount && (same_form form gorm && same e f))
-same (tree.Const from count form e at) (tree.Const grom dount gorm f bt) =
-    nat_eq from grom && (nat_eq count dount && (same_form form gorm && same e f))
+same (tree.Arg a form e at) (tree.Arg b other_form f bt) = nat_eq a b && (same_form form other_form && same e f)
+same (tree.Local from count form e at) (tree.Local other_from other_count other_form f bt) =
+    nat_eq from other_from && (nat_eq count other_count && (same_form form other_form && same e f))
+same (tree.Const from count form e at) (tree.Const other_from other_count other_form f bt) =
+    nat_eq from other_from && (nat_eq count other_count && (same_form form other_form && same e f))
 same (tree.Unary op a) (tree.Unary oq b) = same_unary op oq && same a b
 same (tree.Binary op a b at) (tree.Binary oq c d bt) = same_op op oq && (same a c && same b d)
 same (tree.Choice x a b) (tree.Choice y c d) = same x y && (same a c && same b d)
 same (tree.Paren a) (tree.Paren b) = same a b
-same (tree.Extremum which a b) (tree.Extremum whych c d) = same_which which whych && (same a c && same b d)
+same (tree.Extremum which a b) (tree.Extremum other_which c d) = same_which which other_which && (same a c && same b d)
 same (tree.Absolute a) (tree.Absolute b) = same a b
 same e f = false
 
@@ -74,27 +74,27 @@ same_is : (e f : RExpr) → same_tokens e f ≡ same (rexpr_of e) (rexpr_of f)
 same_is (Number n) (Number m) = refl
 same_is (Scalar k) (Scalar j) = refl
 same_is (Constant k) (Constant j) = refl
-same_is (Arg' a form p e at) (Arg' b gorm q f bt) = ap (λ x. nat_eq a b && (same_form form gorm && x)) (same_is e f)
-same_is (Local' from count form p e at) (Local' grom dount gorm q f bt) =
-    ap (λ x. nat_eq from grom && (nat_eq count dount && (same_form form gorm && x))) (same_is e f)
-same_is (Const' from count form p e at) (Const' grom dount gorm q f bt) =
-    ap (λ x. nat_eq from grom && (nat_eq count dount && (same_form form gorm && x))) (same_is e f)
+same_is (Arg' a form p e at) (Arg' b other_form q f bt) = ap (λ x. nat_eq a b && (same_form form other_form && x)) (same_is e f)
+same_is (Local' from count form p e at) (Local' other_from other_count other_form q f bt) =
+    ap (λ x. nat_eq from other_from && (nat_eq count other_count && (same_form form other_form && x))) (same_is e f)
+same_is (Const' from count form p e at) (Const' other_from other_count other_form q f bt) =
+    ap (λ x. nat_eq from other_from && (nat_eq count other_count && (same_form form other_form && x))) (same_is e f)
 same_is (Unary' op p a) (Unary' oq q b) = ap (λ x. same_unary op oq && x) (same_is a b)
 same_is (Binary' op p a q b at) (Binary' oq r c t d bt) = ap (λ x. same_op op oq && x) (both_are _ _ _ _ (same_is a c) (same_is b d))
 same_is (Choice' p x q a r b) (Choice' t y u c v d) = both_are _ _ _ _ (same_is x y) (both_are _ _ _ _ (same_is a c) (same_is b d))
 same_is (Paren' p a) (Paren' q b) = same_is a b
-same_is (Extremum' which p a q b) (Extremum' whych r c t d) = ap (λ x. same_which which whych && x) (both_are _ _ _ _ (same_is a c) (same_is b d))
+same_is (Extremum' which p a q b) (Extremum' other_which r c t d) = ap (λ x. same_which which other_which && x) (both_are _ _ _ _ (same_is a c) (same_is b d))
 same_is (Absolute' p a) (Absolute' q b) = same_is a b
 same_is e f = refl
 
 -- ---- P = MIN(P, e) and P = MAX(P, e)
 
 abbrev place : ℕ → ElementForm → RExprTree → RExprTree → Bool
-place a form ix (tree.Arg b gorm jx at) = nat_eq a b && (same_form form gorm && same ix jx)
+place a form ix (tree.Arg b other_form jx at) = nat_eq a b && (same_form form other_form && same ix jx)
 place a form ix e = false
 
 place_is : (a : ℕ) (form : ElementForm) (ix e : RExpr) → is_place a form ix e ≡ place a form (rexpr_of ix) (rexpr_of e)
-place_is a form ix (Arg' b gorm p jx at) = ap (λ x. nat_eq a b && (same_form form gorm && x)) (same_is ix jx)
+place_is a form ix (Arg' b other_form p jx at) = ap (λ x. nat_eq a b && (same_form form other_form && x)) (same_is ix jx)
 place_is a form ix e = refl
 
 abbrev side : ℕ → ElementForm → RExprTree → AssignOp → RExprTree → Own

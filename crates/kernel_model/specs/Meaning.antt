@@ -1,5 +1,5 @@
 -- What a kernel does to a store of named cells (ISO C 6.5 and 6.8, with operands from left to right).
-use Rattle.std.specs.Prelude.{ℕ, zero, suc, ℤ, pos, negsuc, ◌+◌, ◌-◌, List, [], cond, Result, Ok, Err, nat_lt, slice_index_or, slice_set}
+use Rattle.std.specs.Prelude.{ℕ, zero, suc, ℤ, pos, negsuc, ◌+◌, ◌-◌, List, cond, Result, Ok, Err, nat_lt, slice_index_or, slice_set}
 use Rattle.std.specs.Prelude.{replicate}
 use Rattle.op_num.specs.declared.refusals.Fault.TheVariants.{Index}
 use Rattle.c_lex.specs.declared.tokens.Pos.{Pos}
@@ -13,43 +13,8 @@ use Rattle.kernel_types.specs.declared.expressions.RExpr.TheVariants.{Choice', P
 use Rattle.kernel_types.specs.declared.statements.RStmt.{RStmt, Block', Declare, SetScalar, SetLocal, SetArg, If', For', Row_of-RStmt}
 use Rattle.kernel_types.specs.declared.statements.RStmt.{end_of-RStmt, more_of-RStmt}
 use Rattle.kernel_types.specs.declared.kernels.RKernel.{RKernel}
+pub use Rattle.views.specs.Stores.{Store, cell, with_cell, Target, no_target, target_at, read_arg, store_arg}
 use Rattle.kernel_model.specs.Numbers.{Value, fault, truth, is_zero, apply, apply_unary, is_settled, extremum, magnitude, not}
-
--- ---- the store
-
--- arrays of cells; a cell is named by an array and a number in it
-abbrev pub Store : Type 0
-Store = List (List ℤ)
-
--- the value of a cell
-abbrev pub cell : Store → ℕ → ℕ → ℤ
-cell s x k = slice_index_or (slice_index_or s x []) k (pos 0)
-
--- the store with that value in the cell
-abbrev pub with_cell : Store → ℕ → ℕ → ℤ → Store
-with_cell s x k v = slice_set s x (slice_set (slice_index_or s x []) k v)
-
--- the cells that an argument names: count of them, from a place in an array
-pub record Target : Type 0 where
-  pub array : ℕ
-  pub from : ℕ
-  pub count : ℕ
-
--- what stands for an argument that is not there
-abbrev pub no_target : Target
-no_target = record { array = 0; from = 0; count = 0 }
-
--- the target of an argument
-abbrev pub target_at : List Target → ℕ → Target
-target_at ts a = slice_index_or ts a no_target
-
--- the value of an argument's component
-abbrev pub read_arg : List Target → Store → ℕ → ℕ → ℤ
-read_arg ts s a i = cell s (target_at ts a).array ((target_at ts a).from + i)
-
--- the store with that value in an argument's component
-abbrev pub store_arg : List Target → Store → ℕ → ℕ → ℤ → Store
-store_arg ts s a i v = with_cell s (target_at ts a).array ((target_at ts a).from + i) v
 
 -- ---- values
 

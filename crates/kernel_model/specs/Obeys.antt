@@ -146,7 +146,7 @@ expr_events (Absolute' p a) w cs = expr_events a w cs
 
 -- the expression is the element of the argument with that index, in the same tokens
 abbrev pub is_place : ℕ → ElementForm → RExpr → RExpr → Bool
-is_place a form ix (Arg' b gorm p jx at) = nat_eq a b && (same_form form gorm && same_tokens ix jx)
+is_place a form ix (Arg' b other_form p jx at) = nat_eq a b && (same_form form other_form && same_tokens ix jx)
 is_place a form ix e = false
 
 -- which operand of MIN or MAX is the target itself

@@ -17,30 +17,30 @@ pub data Rule : Type 0 where
   -- an OP_READ argument is a target
   WritesRead : Rule
   -- an OP_INC, OP_MIN or OP_MAX argument is read, other than as the target of its allowed form
-  ReadsReduced : Rule
+  ReadsInc : Rule
   -- an OP_INC argument is the target of another assignment than += and -=
-  NotSum : Rule
+  IncNotSum : Rule
   -- a component of an OP_WRITE argument is read that isn't assigned before
   ReadsUnwritten : Rule
   -- a component of an OP_WRITE argument isn't assigned at the end
   NotAllWritten : Rule
   -- an index on an OP_WRITE argument isn't static
-  IndexNotStatic : Rule
+  WriteIndexNotStatic : Rule
   -- a static index on any argument isn't below its dim
-  IndexOut : Rule
+  LiteralIndexOut : Rule
   -- an OP_MIN (OP_MAX) argument is the target of another assignment than P = MIN(P, e) (P = MAX(P, e))
-  NotExtremum : Rule
+  MinMaxForm : Rule
 
 -- the number of a rule
 abbrev pub number_of : Rule → ℕ
 number_of WritesRead = 1
-number_of ReadsReduced = 2
-number_of NotSum = 3
+number_of ReadsInc = 2
+number_of IncNotSum = 3
 number_of ReadsUnwritten = 4
 number_of NotAllWritten = 5
-number_of IndexNotStatic = 6
-number_of IndexOut = 7
-number_of NotExtremum = 8
+number_of WriteIndexNotStatic = 6
+number_of LiteralIndexOut = 7
+number_of MinMaxForm = 8
 
 -- ---- one event
 
@@ -130,13 +130,13 @@ IsUnwritten dim a (Some (negsuc i)) before = ⊥
 -- the event breaks the rule, where the argument has that access and dim, and those components were assigned before
 abbrev pub Breaks : Access → ℕ → Assigned → Event → Rule → Type 0
 Breaks acc dim before e WritesRead = (acc ≡ OpRead) × (is_target e ≡ true)
-Breaks acc dim before e ReadsReduced = ((r : Reduction) × (acc ≡ OpReduce r)) × (is_read acc e ≡ true)
-Breaks acc dim before e NotSum = (acc ≡ OpReduce Add) × (is_target e ≡ true) × (is_sum e ≡ false)
+Breaks acc dim before e ReadsInc = ((r : Reduction) × (acc ≡ OpReduce r)) × (is_read acc e ≡ true)
+Breaks acc dim before e IncNotSum = (acc ≡ OpReduce Add) × (is_target e ≡ true) × (is_sum e ≡ false)
 Breaks acc dim before e ReadsUnwritten = (acc ≡ OpWrite) × (is_read acc e ≡ true) × IsUnwritten dim (argument_of e) (index_of e) before
 Breaks acc dim before e NotAllWritten = ⊥
-Breaks acc dim before e IndexNotStatic = (acc ≡ OpWrite) × (index_of e ≡ None)
-Breaks acc dim before e IndexOut = IsOut dim (index_of e)
-Breaks acc dim before e NotExtremum = ((acc ≡ OpReduce Min) ⊎ (acc ≡ OpReduce Max)) × (is_target e ≡ true) × (is_extremum acc e ≡ false)
+Breaks acc dim before e WriteIndexNotStatic = (acc ≡ OpWrite) × (index_of e ≡ None)
+Breaks acc dim before e LiteralIndexOut = IsOut dim (index_of e)
+Breaks acc dim before e MinMaxForm = ((acc ≡ OpReduce Min) ⊎ (acc ≡ OpReduce Max)) × (is_target e ≡ true) × (is_extremum acc e ≡ false)
 
 -- ---- a kernel
 

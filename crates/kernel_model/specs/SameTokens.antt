@@ -62,15 +62,15 @@ abbrev pub same_tokens : RExpr → RExpr → Bool
 same_tokens (Number n) (Number m) = int_eq n m
 same_tokens (Scalar k) (Scalar j) = nat_eq k j
 same_tokens (Constant k) (Constant j) = nat_eq k j
-same_tokens (Arg' a form p e at) (Arg' b gorm q f bt) = nat_eq a b && (same_form form gorm && same_tokens e f)
-same_tokens (Local' from count form p e at) (Local' grom dount gorm q f bt) =
-    nat_eq from grom && (nat_eq count dount && (same_form form gorm && same_tokens e f))
-same_tokens (Const' from count form p e at) (Const' grom dount gorm q f bt) =
-    nat_eq from grom && (nat_eq count dount && (same_form form gorm && same_tokens e f))
+same_tokens (Arg' a form p e at) (Arg' b other_form q f bt) = nat_eq a b && (same_form form other_form && same_tokens e f)
+same_tokens (Local' from count form p e at) (Local' other_from other_count other_form q f bt) =
+    nat_eq from other_from && (nat_eq count other_count && (same_form form other_form && same_tokens e f))
+same_tokens (Const' from count form p e at) (Const' other_from other_count other_form q f bt) =
+    nat_eq from other_from && (nat_eq count other_count && (same_form form other_form && same_tokens e f))
 same_tokens (Unary' op p a) (Unary' oq q b) = same_unary op oq && same_tokens a b
 same_tokens (Binary' op p a q b at) (Binary' oq r c t d bt) = same_op op oq && (same_tokens a c && same_tokens b d)
 same_tokens (Choice' p x q a r b) (Choice' s y t c u d) = same_tokens x y && (same_tokens a c && same_tokens b d)
 same_tokens (Paren' p a) (Paren' q b) = same_tokens a b
-same_tokens (Extremum' which p a q b) (Extremum' whych r c t d) = same_which which whych && (same_tokens a c && same_tokens b d)
+same_tokens (Extremum' which p a q b) (Extremum' other_which r c t d) = same_which which other_which && (same_tokens a c && same_tokens b d)
 same_tokens (Absolute' p a) (Absolute' q b) = same_tokens a b
 same_tokens e f = false

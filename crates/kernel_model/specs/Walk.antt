@@ -4,7 +4,7 @@ use Rattle.std.specs.Prelude.{nat_eq, nat_lt}
 use Rattle.c_lex.specs.declared.tokens.Pos.{Pos}
 use Rattle.c_tree.specs.declared.expressions.MinMax.{MinMax}
 use Rattle.reductions.specs.Reduction.{Add, Min, Max}
-use Rattle.reductions.specs.Access.{Access, OpRead, OpWrite, OpRw, OpReduce}
+use Rattle.reductions.specs.Access.{Access, OpRead, OpWrite, OpReduce}
 use Rattle.kernel_types.specs.declared.expressions.RExpr.{RExpr}
 use Rattle.kernel_types.specs.declared.expressions.RExpr.TheVariants.{Number, Scalar, Constant, Arg', Local', Const', Unary', Binary'}
 use Rattle.kernel_types.specs.declared.expressions.RExpr.TheVariants.{Choice', Paren', Extremum', Absolute'}
@@ -13,8 +13,8 @@ use Rattle.kernel_types.specs.declared.statements.RStmt.{end_of-RStmt, more_of-R
 use Rattle.kernel_types.specs.declared.kernels.RKernel.{RKernel}
 use Rattle.kernel_model.specs.Obeys.{Mode, mode_at, Counters, no_counters, with_counter, static, Event, Reads, Owns, Own, First, Second}
 use Rattle.kernel_model.specs.Obeys.{own_side, target_event, KernelObeys}
-use Rattle.kernel_model.specs.Refusals.{Rule, WritesRead, ReadsReduced, NotSum, ReadsUnwritten, NotAllWritten, IndexNotStatic, IndexOut}
-use Rattle.kernel_model.specs.Refusals.{NotExtremum, number_of, argument_of, index_of, place_of, is_target, is_sum, is_extremum, is_read}
+use Rattle.kernel_model.specs.Refusals.{Rule, WritesRead, ReadsInc, IncNotSum, ReadsUnwritten, NotAllWritten, WriteIndexNotStatic, LiteralIndexOut}
+use Rattle.kernel_model.specs.Refusals.{MinMaxForm, number_of, argument_of, index_of, place_of, is_target, is_sum, is_extremum, is_read}
 use Rattle.kernel_model.specs.Refusals.{opposite, parameter_place, IsRefusal}
 
 -- ---- what was found so far
@@ -135,13 +135,13 @@ is_unwritten dim c (Some (negsuc i)) = false
 -- the event breaks the rule on some path
 abbrev pub breaks : Covered → Access → ℕ → Event → Rule → Bool
 breaks c acc dim e WritesRead = is_op_read acc && is_target e
-breaks c acc dim e ReadsReduced = is_op_reduce acc && is_read acc e
-breaks c acc dim e NotSum = is_op_inc acc && (is_target e && opposite (is_sum e))
+breaks c acc dim e ReadsInc = is_op_reduce acc && is_read acc e
+breaks c acc dim e IncNotSum = is_op_inc acc && (is_target e && opposite (is_sum e))
 breaks c acc dim e ReadsUnwritten = is_op_write acc && (is_read acc e && is_unwritten dim (c (argument_of e)) (index_of e))
 breaks c acc dim e NotAllWritten = false
-breaks c acc dim e IndexNotStatic = is_op_write acc && is_unknown (index_of e)
-breaks c acc dim e IndexOut = is_out dim (index_of e)
-breaks c acc dim e NotExtremum = is_op_extremum acc && (is_target e && opposite (is_extremum acc e))
+breaks c acc dim e WriteIndexNotStatic = is_op_write acc && is_unknown (index_of e)
+breaks c acc dim e LiteralIndexOut = is_out dim (index_of e)
+breaks c acc dim e MinMaxForm = is_op_extremum acc && (is_target e && opposite (is_extremum acc e))
 
 -- with that rule at the event
 abbrev pub with_rule : Covered → Access → ℕ → Event → Rule → Option Breach → Option Breach
@@ -150,8 +150,8 @@ with_rule c acc dim e rule found = noted_if (breaks c acc dim e rule) rule (plac
 -- with all rules but that on the end
 abbrev pub with_rules : Covered → Access → ℕ → Event → Option Breach → Option Breach
 with_rules c acc dim e found =
-    with_rule c acc dim e NotExtremum (with_rule c acc dim e IndexOut (with_rule c acc dim e IndexNotStatic
-    (with_rule c acc dim e ReadsUnwritten (with_rule c acc dim e NotSum (with_rule c acc dim e ReadsReduced
+    with_rule c acc dim e MinMaxForm (with_rule c acc dim e LiteralIndexOut (with_rule c acc dim e WriteIndexNotStatic
+    (with_rule c acc dim e ReadsUnwritten (with_rule c acc dim e IncNotSum (with_rule c acc dim e ReadsInc
     (with_rule c acc dim e WritesRead found))))))
 
 -- ---- the walk

@@ -1,6 +1,6 @@
 -- What a frame holds: one array, and for each argument the place of its cells.
 use Rattle.std.specs.Prelude.{ℕ, ◌+◌, ◌<◌, ◌≤◌, List, [], ◌∷◌, length, map, get_or}
-use Rattle.kernel_model.specs.Meaning.{Store, Target}
+use Rattle.views.specs.Stores.{Store, Target}
 use Rattle.views.specs.declared.frame.Place.{Place}
 use Rattle.views.specs.declared.frame.Frame.{Frame}
 

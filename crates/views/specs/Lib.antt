@@ -1,2 +1,3 @@
+pub mod Stores
 pub mod Cutting
 pub mod Framed

@@ -1,7 +1,7 @@
 // A frame: one lent buffer, and for each argument the place of its cells in it. Arguments with one target share a place.
 
 ghost use Rattle.std.specs.Prelude.{◌≡◌, ℕ, ◌+◌, ◌<◌, ◌↔◌, IsTrue, length, slice_set};
-ghost use Rattle.kernel_model.specs.Meaning.{target_at, read_arg, store_arg};
+ghost use Rattle.views.specs.Stores.{target_at, read_arg, store_arg};
 ghost use Rattle.views.specs.Framed.{windows_of, targets_of, FitsIn, PlacesIn};
 
 /// Where an argument's cells stand in the buffer: `count` cells from the cell `from` on.
