@@ -8,7 +8,7 @@ use Rattle.kernel_types.specs.declared.expressions.RExpr.{RExpr}
 use Rattle.kernel_types.specs.declared.expressions.RExpr.TheVariants.{Number, Scalar, Constant, Arg', Local', Const', Unary', Binary', Choice', Paren', Extremum', Absolute'}
 use Rattle.kernel_types.specs.declared.statements.RStmt.{RStmt, Block', Declare, SetScalar, SetLocal, SetArg, If', For', Row_of-RStmt, end_of-RStmt, more_of-RStmt}
 use Rattle.kernel_model.specs.Obeys.{Mode, mode_at, Counters, with_counter, static, Event, Reads, Owns, Own, Neither, First, Second, own_side, target_event}
-use Rattle.kernel_model.specs.Refusals.{WritesRead, ReadsReduced, NotSum, ReadsUnwritten, IndexNotStatic, IndexOut, NotExtremum, argument_of, index_of, place_of, is_read, opposite}
+use Rattle.kernel_model.specs.Refusals.{WritesRead, ReadsInc, IncNotSum, ReadsUnwritten, WriteIndexNotStatic, LiteralIndexOut, MinMaxForm, argument_of, index_of, place_of, is_read, opposite}
 use Rattle.kernel_model.specs.Walk.{Breach, Covered, with_covered, both_covered, turns_covered, covered_after, row_covered_after, is_op_write, is_unwritten, noted_if, with_rule, event_found, expr_found, own_found, right_found, turns_found, stmt_found, row_found}
 use Rattle.access_check.specs.Agree.{Agree}
 
@@ -26,7 +26,7 @@ module _ (modes : List Mode) where
   event_same c d h e found =
       let acc = (mode_at modes (argument_of e)).access in
       let dim = (mode_at modes (argument_of e)).dim in
-      ap (λ u. with_rule d acc dim e NotExtremum (with_rule d acc dim e IndexOut (with_rule d acc dim e IndexNotStatic (noted_if (is_op_write acc && (is_read acc e && u)) ReadsUnwritten (place_of e) (with_rule d acc dim e NotSum (with_rule d acc dim e ReadsReduced (with_rule d acc dim e WritesRead found)))))))
+      ap (λ u. with_rule d acc dim e MinMaxForm (with_rule d acc dim e LiteralIndexOut (with_rule d acc dim e WriteIndexNotStatic (noted_if (is_op_write acc && (is_read acc e && u)) ReadsUnwritten (place_of e) (with_rule d acc dim e IncNotSum (with_rule d acc dim e ReadsInc (with_rule d acc dim e WritesRead found)))))))
       (unwritten_same c d h (argument_of e) (index_of e))
 
   module _ (c d : Covered) (h : Agree modes c d) (cs : Counters) where

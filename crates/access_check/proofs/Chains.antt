@@ -4,7 +4,7 @@ use Rattle.c_lex.specs.declared.tokens.Pos.{Pos}
 use Rattle.kernel_types.specs.declared.expressions.RExpr.{RExpr}
 use Rattle.kernel_types.specs.declared.expressions.RExpr.TheVariants.{Number, Scalar, Constant, Arg', Local', Const', Unary', Binary', Choice', Paren', Extremum', Absolute'}
 use Rattle.kernel_model.specs.Obeys.{Mode, mode_at, Counters, static, Event, Reads}
-use Rattle.kernel_model.specs.Refusals.{Rule, WritesRead, ReadsReduced, NotSum, ReadsUnwritten, IndexNotStatic, IndexOut, NotExtremum, argument_of, place_of}
+use Rattle.kernel_model.specs.Refusals.{Rule, WritesRead, ReadsInc, IncNotSum, ReadsUnwritten, WriteIndexNotStatic, LiteralIndexOut, MinMaxForm, argument_of, place_of}
 use Rattle.kernel_model.specs.Walk.{Covered, noted_if, breaks, with_rule, event_found, expr_found}
 use Rattle.access_check.proofs.Least.{Found, note_swap}
 
@@ -29,16 +29,16 @@ module _ (modes : List Mode) (cs : Counters) (c : Covered) (F : Found → Found)
       let acc = (mode_at modes (argument_of e)).access in
       let dim = (mode_at modes (argument_of e)).dim in
       let p = place_of e in
-      swap_then F (λ x. with_rule c acc dim e IndexOut (with_rule c acc dim e IndexNotStatic (with_rule c acc dim e ReadsUnwritten (with_rule c acc dim e NotSum (with_rule c acc dim e ReadsReduced (with_rule c acc dim e WritesRead x)))))) (with_rule c acc dim e NotExtremum)
-      (swap_then F (λ x. with_rule c acc dim e IndexNotStatic (with_rule c acc dim e ReadsUnwritten (with_rule c acc dim e NotSum (with_rule c acc dim e ReadsReduced (with_rule c acc dim e WritesRead x))))) (with_rule c acc dim e IndexOut)
-      (swap_then F (λ x. with_rule c acc dim e ReadsUnwritten (with_rule c acc dim e NotSum (with_rule c acc dim e ReadsReduced (with_rule c acc dim e WritesRead x)))) (with_rule c acc dim e IndexNotStatic)
-      (swap_then F (λ x. with_rule c acc dim e NotSum (with_rule c acc dim e ReadsReduced (with_rule c acc dim e WritesRead x))) (with_rule c acc dim e ReadsUnwritten)
-      (swap_then F (λ x. with_rule c acc dim e ReadsReduced (with_rule c acc dim e WritesRead x)) (with_rule c acc dim e NotSum)
-      (swap_then F (with_rule c acc dim e WritesRead) (with_rule c acc dim e ReadsReduced)
-      (one (breaks c acc dim e WritesRead) WritesRead p) (one (breaks c acc dim e ReadsReduced) ReadsReduced p))
-      (one (breaks c acc dim e NotSum) NotSum p)) (one (breaks c acc dim e ReadsUnwritten) ReadsUnwritten p))
-      (one (breaks c acc dim e IndexNotStatic) IndexNotStatic p)) (one (breaks c acc dim e IndexOut) IndexOut p))
-      (one (breaks c acc dim e NotExtremum) NotExtremum p)
+      swap_then F (λ x. with_rule c acc dim e LiteralIndexOut (with_rule c acc dim e WriteIndexNotStatic (with_rule c acc dim e ReadsUnwritten (with_rule c acc dim e IncNotSum (with_rule c acc dim e ReadsInc (with_rule c acc dim e WritesRead x)))))) (with_rule c acc dim e MinMaxForm)
+      (swap_then F (λ x. with_rule c acc dim e WriteIndexNotStatic (with_rule c acc dim e ReadsUnwritten (with_rule c acc dim e IncNotSum (with_rule c acc dim e ReadsInc (with_rule c acc dim e WritesRead x))))) (with_rule c acc dim e LiteralIndexOut)
+      (swap_then F (λ x. with_rule c acc dim e ReadsUnwritten (with_rule c acc dim e IncNotSum (with_rule c acc dim e ReadsInc (with_rule c acc dim e WritesRead x)))) (with_rule c acc dim e WriteIndexNotStatic)
+      (swap_then F (λ x. with_rule c acc dim e IncNotSum (with_rule c acc dim e ReadsInc (with_rule c acc dim e WritesRead x))) (with_rule c acc dim e ReadsUnwritten)
+      (swap_then F (λ x. with_rule c acc dim e ReadsInc (with_rule c acc dim e WritesRead x)) (with_rule c acc dim e IncNotSum)
+      (swap_then F (with_rule c acc dim e WritesRead) (with_rule c acc dim e ReadsInc)
+      (one (breaks c acc dim e WritesRead) WritesRead p) (one (breaks c acc dim e ReadsInc) ReadsInc p))
+      (one (breaks c acc dim e IncNotSum) IncNotSum p)) (one (breaks c acc dim e ReadsUnwritten) ReadsUnwritten p))
+      (one (breaks c acc dim e WriteIndexNotStatic) WriteIndexNotStatic p)) (one (breaks c acc dim e LiteralIndexOut) LiteralIndexOut p))
+      (one (breaks c acc dim e MinMaxForm) MinMaxForm p)
 
   swap_expr : (e : RExpr) → Swap F (expr_found modes e cs c)
   swap_expr (Number n) = λ x. refl

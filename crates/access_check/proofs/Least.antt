@@ -3,7 +3,7 @@ use Rattle.std.proofs.Common.{◌≡◌, ℕ, zero, suc, ◌<◌, ◌≤◌, Opt
 use Rattle.std.specs.Prelude.{nat_eq}
 use Rattle.c_lex.specs.declared.tokens.Pos.{Pos}
 use Rattle.c_lex.specs.Order.{IsEarlier}
-use Rattle.kernel_model.specs.Refusals.{Rule, WritesRead, ReadsReduced, NotSum, ReadsUnwritten, NotAllWritten, IndexNotStatic, IndexOut, NotExtremum, number_of}
+use Rattle.kernel_model.specs.Refusals.{Rule, WritesRead, ReadsInc, IncNotSum, ReadsUnwritten, NotAllWritten, WriteIndexNotStatic, LiteralIndexOut, MinMaxForm, number_of}
 use Rattle.kernel_model.specs.Walk.{Breach, noted_if}
 use Rattle.kernel_model.proofs.Firsts.{d_holds, Counts, IsFirst, first_iff, OrIf, noted_if_first}
 
@@ -14,18 +14,18 @@ Found = Option Breach
 
 abbrev rule_at : ℕ → Rule
 rule_at n =
-    cond (nat_eq n 1) WritesRead (cond (nat_eq n 2) ReadsReduced (cond (nat_eq n 3) NotSum (cond (nat_eq n 4) ReadsUnwritten
-    (cond (nat_eq n 5) NotAllWritten (cond (nat_eq n 6) IndexNotStatic (cond (nat_eq n 7) IndexOut NotExtremum))))))
+    cond (nat_eq n 1) WritesRead (cond (nat_eq n 2) ReadsInc (cond (nat_eq n 3) IncNotSum (cond (nat_eq n 4) ReadsUnwritten
+    (cond (nat_eq n 5) NotAllWritten (cond (nat_eq n 6) WriteIndexNotStatic (cond (nat_eq n 7) LiteralIndexOut MinMaxForm))))))
 
 rule_back : (r : Rule) → rule_at (number_of r) ≡ r
 rule_back WritesRead = refl
-rule_back ReadsReduced = refl
-rule_back NotSum = refl
+rule_back ReadsInc = refl
+rule_back IncNotSum = refl
 rule_back ReadsUnwritten = refl
 rule_back NotAllWritten = refl
-rule_back IndexNotStatic = refl
-rule_back IndexOut = refl
-rule_back NotExtremum = refl
+rule_back WriteIndexNotStatic = refl
+rule_back LiteralIndexOut = refl
+rule_back MinMaxForm = refl
 
 same_rule : (r s : Rule) → number_of r ≡ number_of s → r ≡ s
 same_rule r s e = sym (rule_back r) ∙ ap rule_at e ∙ rule_back s

@@ -8,7 +8,7 @@ use Rattle.kernel_types.specs.declared.expressions.RExpr.{RExpr}
 use Rattle.kernel_types.specs.declared.expressions.RExpr.TheVariants.{Number, Scalar, Constant, Arg', Local', Const', Unary', Binary', Choice', Paren', Extremum', Absolute'}
 use Rattle.kernel_types.specs.declared.statements.RStmt.{RStmt, Block', Declare, SetScalar, SetLocal, SetArg, If', For', Row_of-RStmt, end_of-RStmt, more_of-RStmt}
 use Rattle.kernel_model.specs.Obeys.{Mode, mode_at, Counters, with_counter, static, Event, Reads, Owns, Own, Neither, First, Second, own_side, target_event}
-use Rattle.kernel_model.specs.Refusals.{Rule, WritesRead, ReadsReduced, NotSum, ReadsUnwritten, NotAllWritten, IndexNotStatic, IndexOut, NotExtremum, argument_of, index_of, place_of, is_read, opposite}
+use Rattle.kernel_model.specs.Refusals.{Rule, WritesRead, ReadsInc, IncNotSum, ReadsUnwritten, NotAllWritten, WriteIndexNotStatic, LiteralIndexOut, MinMaxForm, argument_of, index_of, place_of, is_read, opposite}
 use Rattle.kernel_model.specs.Walk.{Covered, covered_after, row_covered_after, turns_covered, is_op_write, is_unwritten, noted_if, breaks, event_found, expr_found, own_found, right_found, turns_found, stmt_found, row_found}
 use Rattle.access_check.proofs.Least.{Found, Has, has_still, has_now, note_again}
 use Rattle.access_check.proofs.Assigning.{Within, within_after}
@@ -67,12 +67,12 @@ module _ (modes : List Mode) where
         (settled_then _ _ _ _
         (settled_then _ _ _ _
         (settled_note (breaks d acc dim e WritesRead) (breaks c acc dim e WritesRead) WritesRead p (λ q. q))
-        (settled_note (breaks d acc dim e ReadsReduced) (breaks c acc dim e ReadsReduced) ReadsReduced p (λ q. q)))
-        (settled_note (breaks d acc dim e NotSum) (breaks c acc dim e NotSum) NotSum p (λ q. q)))
+        (settled_note (breaks d acc dim e ReadsInc) (breaks c acc dim e ReadsInc) ReadsInc p (λ q. q)))
+        (settled_note (breaks d acc dim e IncNotSum) (breaks c acc dim e IncNotSum) IncNotSum p (λ q. q)))
         (settled_note (breaks d acc dim e ReadsUnwritten) (breaks c acc dim e ReadsUnwritten) ReadsUnwritten p (breaks_less acc dim e)))
-        (settled_note (breaks d acc dim e IndexNotStatic) (breaks c acc dim e IndexNotStatic) IndexNotStatic p (λ q. q)))
-        (settled_note (breaks d acc dim e IndexOut) (breaks c acc dim e IndexOut) IndexOut p (λ q. q)))
-        (settled_note (breaks d acc dim e NotExtremum) (breaks c acc dim e NotExtremum) NotExtremum p (λ q. q))
+        (settled_note (breaks d acc dim e WriteIndexNotStatic) (breaks c acc dim e WriteIndexNotStatic) WriteIndexNotStatic p (λ q. q)))
+        (settled_note (breaks d acc dim e LiteralIndexOut) (breaks c acc dim e LiteralIndexOut) LiteralIndexOut p (λ q. q)))
+        (settled_note (breaks d acc dim e MinMaxForm) (breaks c acc dim e MinMaxForm) MinMaxForm p (λ q. q))
 
     module _ (cs : Counters) where
       abbrev At : RExpr → Type 0

@@ -9,13 +9,13 @@ use Rattle.access_check.specs.declared.found.Breach.{Breach}
 -- a rule
 abbrev pub rule_of : Rule → model.Rule
 rule_of rule.WritesRead = model.WritesRead
-rule_of rule.ReadsReduced = model.ReadsReduced
-rule_of rule.NotSum = model.NotSum
+rule_of rule.ReadsInc = model.ReadsInc
+rule_of rule.IncNotSum = model.IncNotSum
 rule_of rule.ReadsUnwritten = model.ReadsUnwritten
 rule_of rule.NotAllWritten = model.NotAllWritten
-rule_of rule.IndexNotStatic = model.IndexNotStatic
-rule_of rule.IndexOut = model.IndexOut
-rule_of rule.NotExtremum = model.NotExtremum
+rule_of rule.WriteIndexNotStatic = model.WriteIndexNotStatic
+rule_of rule.LiteralIndexOut = model.LiteralIndexOut
+rule_of rule.MinMaxForm = model.MinMaxForm
 
 -- a breach
 abbrev pub breach_of : Breach → walk.Breach

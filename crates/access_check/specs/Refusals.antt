@@ -10,13 +10,13 @@ use Rattle.access_check.specs.declared.refusals.AccessRefusal.TheVariants as ref
 -- it names the rule that counts, and its place; want of memory says nothing
 abbrev pub Refuses : RKernel → List Mode → AccessRefusal → Type 0
 Refuses k modes (refusal.WritesRead at) = IsRefusal k modes model.WritesRead at
-Refuses k modes (refusal.ReadsInc at) = IsRefusal k modes model.ReadsReduced at
-Refuses k modes (refusal.IncNotSum at) = IsRefusal k modes model.NotSum at
+Refuses k modes (refusal.ReadsInc at) = IsRefusal k modes model.ReadsInc at
+Refuses k modes (refusal.IncNotSum at) = IsRefusal k modes model.IncNotSum at
 Refuses k modes (refusal.ReadsUnwritten at) = IsRefusal k modes model.ReadsUnwritten at
 Refuses k modes (refusal.NotAllWritten at) = IsRefusal k modes model.NotAllWritten at
-Refuses k modes (refusal.WriteIndexNotStatic at) = IsRefusal k modes model.IndexNotStatic at
-Refuses k modes (refusal.LiteralIndexOut at) = IsRefusal k modes model.IndexOut at
-Refuses k modes (refusal.MinMaxForm at) = IsRefusal k modes model.NotExtremum at
+Refuses k modes (refusal.WriteIndexNotStatic at) = IsRefusal k modes model.WriteIndexNotStatic at
+Refuses k modes (refusal.LiteralIndexOut at) = IsRefusal k modes model.LiteralIndexOut at
+Refuses k modes (refusal.MinMaxForm at) = IsRefusal k modes model.MinMaxForm at
 Refuses k modes refusal.OutOfMemory = Unit {0}
 
 -- the kernel doesn't obey its modes, unless memory ran out

@@ -11,13 +11,13 @@ use kernel_types::Pos;
 #[derive(Clone, Copy, Debug, PartialEq, Eq)]
 pub enum Rule {
     WritesRead,
-    ReadsReduced,
-    NotSum,
+    ReadsInc,
+    IncNotSum,
     ReadsUnwritten,
     NotAllWritten,
-    IndexNotStatic,
-    IndexOut,
-    NotExtremum,
+    WriteIndexNotStatic,
+    LiteralIndexOut,
+    MinMaxForm,
 }
 
 /// A rule that is broken, and where.
@@ -32,13 +32,13 @@ fn number(rule: Rule) -> u32
 {
     match rule {
         Rule::WritesRead => 1,
-        Rule::ReadsReduced => 2,
-        Rule::NotSum => 3,
+        Rule::ReadsInc => 2,
+        Rule::IncNotSum => 3,
         Rule::ReadsUnwritten => 4,
         Rule::NotAllWritten => 5,
-        Rule::IndexNotStatic => 6,
-        Rule::IndexOut => 7,
-        Rule::NotExtremum => 8,
+        Rule::WriteIndexNotStatic => 6,
+        Rule::LiteralIndexOut => 7,
+        Rule::MinMaxForm => 8,
     }
 }
 

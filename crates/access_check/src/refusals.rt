@@ -50,12 +50,12 @@ pub fn refusal_of(breach: Breach) -> AccessRefusal
     let at = breach.at;
     match breach.rule {
         Rule::WritesRead => AccessRefusal::WritesRead { at },
-        Rule::ReadsReduced => AccessRefusal::ReadsInc { at },
-        Rule::NotSum => AccessRefusal::IncNotSum { at },
+        Rule::ReadsInc => AccessRefusal::ReadsInc { at },
+        Rule::IncNotSum => AccessRefusal::IncNotSum { at },
         Rule::ReadsUnwritten => AccessRefusal::ReadsUnwritten { at },
         Rule::NotAllWritten => AccessRefusal::NotAllWritten { at },
-        Rule::IndexNotStatic => AccessRefusal::WriteIndexNotStatic { at },
-        Rule::IndexOut => AccessRefusal::LiteralIndexOut { at },
-        Rule::NotExtremum => AccessRefusal::MinMaxForm { at },
+        Rule::WriteIndexNotStatic => AccessRefusal::WriteIndexNotStatic { at },
+        Rule::LiteralIndexOut => AccessRefusal::LiteralIndexOut { at },
+        Rule::MinMaxForm => AccessRefusal::MinMaxForm { at },
     }
 }

@@ -242,17 +242,22 @@ fn rules_found(
 {
     let access = mode.access;
     let a = with_rule(found, writes_read(o, access), Rule::WritesRead, o.at);
-    let b = with_rule(a, reads_reduced(o, access), Rule::ReadsReduced, o.at);
-    let c = with_rule(b, is_no_sum(o, access), Rule::NotSum, o.at);
+    let b = with_rule(a, reads_reduced(o, access), Rule::ReadsInc, o.at);
+    let c = with_rule(b, is_no_sum(o, access), Rule::IncNotSum, o.at);
     let d = with_rule(
         c,
         reads_unwritten(o, mode, covered),
         Rule::ReadsUnwritten,
         o.at,
     );
-    let e = with_rule(d, is_no_component(o, access), Rule::IndexNotStatic, o.at);
-    let f = with_rule(e, is_beyond(mode.dim, o.index), Rule::IndexOut, o.at);
-    with_rule(f, is_no_extremum(o, access), Rule::NotExtremum, o.at)
+    let e = with_rule(
+        d,
+        is_no_component(o, access),
+        Rule::WriteIndexNotStatic,
+        o.at,
+    );
+    let f = with_rule(e, is_beyond(mode.dim, o.index), Rule::LiteralIndexOut, o.at);
+    with_rule(f, is_no_extremum(o, access), Rule::MinMaxForm, o.at)
 }
 
 /// What is found after an occurrence.
