@@ -7,7 +7,8 @@ use Rattle.std.proofs.lemmas.List.Sums.{sum_by_push, sum_by-append}
 use Rattle.op_num.specs.Spelling.{number_of, integer_of, i32_judged}
 use Rattle.texts.specs.Cut.{Word, text_of}
 use Rattle.texts.specs.Automaton.{onto}
-use Rattle.texts.proofs.Exact.{through, through-none, through-more, through-join}
+use Rattle.texts.proofs.Exact.{through}
+use Rattle.texts.proofs.Leading.{Goes, goes_nowhere, goes_join, goes_one, goes_on}
 use Rattle.mesh_text.specs.declared.entry.Form.{Form}
 use Rattle.mesh_text.specs.declared.entry.Form.TheVariants as form
 use Rattle.mesh_text.specs.declared.entry.Entry.{Entry}
@@ -18,44 +19,9 @@ use Rattle.mesh_text.specs.Token.{is_c_name, version_of, keyword_of}
 use Rattle.mesh_text.specs.Piece.{IsValue, Gives, piece_of}
 use Rattle.mesh_text.specs.Spelling.{Named, total, size_of, has_name, ArePieces, IsEntry, IsNew, AreEntries, digit_of}
 use Rattle.mesh_text.specs.Reading.{State, finish, Magic, Version, Between, OneName, ManyName, OneValue, Count, Pieces, End, step, versioned, began, named, room_for, one_of, count_of, given, filled, AreSome, Stands}
-use Rattle.mesh_text.proofs.Chosen.{eq_itself}
+use Rattle.texts.proofs.Chosen.{eq_itself}
 use Rattle.mesh_text.proofs.PieceExact.{piece_complete, gives_some}
 use Rattle.mesh_text.proofs.Running.{step-version, step-between, step-one_name, step-many_name, step-one_value, step-count, step-pieces, step-magic, filled-more}
-
--- whatever tokens have these bytes lead from one state to the other
-abbrev pub Goes : State → List (List ℕ) → State → Type 0
-Goes p ts q = (ws : List Word) → map text_of ws ≡ ts → through step finish p ws ≡ Ok q
-
-same_cons : (t u : List ℕ) (ts us : List (List ℕ)) → t ≡ u → ts ≡ us → t ∷ ts ≡ u ∷ us
-same_cons t u ts us e h = ap (λ x. x ∷ ts) e ∙ ap (λ xs. u ∷ xs) h
-
--- tokens whose bytes are two lists are two lists
-split_map : (ws : List Word) (cs bs : List (List ℕ)) → map text_of ws ≡ cs ++ bs → (us : List Word) × (vs : List Word) × (ws ≡ us ++ vs) × (map text_of us ≡ cs) × (map text_of vs ≡ bs)
-split_map ws [] bs h = ([], ws, refl, refl, h)
-split_map [] (a ∷ cs) bs h = cc
-split_map (w ∷ ws) (a ∷ cs) bs h =
-    let t : map text_of ws ≡ cs ++ bs = cc in
-    let e : w.text ≡ a = cc in
-    let r = split_map ws cs bs t in
-    (w ∷ r.0, r.1, ap (λ xs. w ∷ xs) r.2, same_cons w.text a (map text_of r.0) cs e r.3, r.4)
-
-goes_nowhere : (p : State) → Goes p [] p
-goes_nowhere p [] h = through-none step finish p
-goes_nowhere p (w ∷ ws) h = cc
-
-goes_join : (p q r : State) (cs bs : List (List ℕ)) → Goes p cs q → Goes q bs r → Goes p (cs ++ bs) r
-goes_join p q r cs bs g k ws h =
-    let s = split_map ws cs bs h in
-    ap (through step finish p) s.2 ∙ through-join step finish s.0 s.1 p q (g s.0 s.3) ∙ k s.1 s.4
-
-goes_one : (p q : State) (t : List ℕ) → ((w : Word) → w.text ≡ t → step p w ≡ Ok q) → Goes p (t ∷ []) q
-goes_one p q t k [] h = cc
-goes_one p q t k (w ∷ []) h = let e : w.text ≡ t = cc in through-more step finish p q w [] (k w e) ∙ through-none step finish q
-goes_one p q t k (w ∷ v ∷ ws) h = cc
-
--- one token, and more
-goes_on : (p q r : State) (t : List ℕ) (ts : List (List ℕ)) → ((w : Word) → w.text ≡ t → step p w ≡ Ok q) → Goes q ts r → Goes p (t ∷ ts) r
-goes_on p q r t ts k g = goes_join p q r (t ∷ []) ts (goes_one p q t k) g
 
 new_named : (es : List Named) (w : Word) (name : List ℕ) → w.text ≡ name → IsNew name es → named es w ≡ Ok name
 unfolding named
@@ -84,12 +50,12 @@ fits_given left line f text n z g h =
     ap (given left line) (piece_complete f text n z g) ∙ ap (λ b. cond b (Ok (n, z)) (Err (WrongCount line))) t
 
 -- the values of an array
-goes_pieces : (f : Form) (es : List Named) (name : List ℕ) (ps : List (List ℕ)) (left : ℕ) (zs ys : List ℤ) → ArePieces f ps ys → length ys ≤ left → Goes (filled f es name left zs) ps (filled f es name (left - length ys) (zs ++ ys))
+goes_pieces : (f : Form) (es : List Named) (name : List ℕ) (ps : List (List ℕ)) (left : ℕ) (zs ys : List ℤ) → ArePieces f ps ys → length ys ≤ left → Goes step finish (filled f es name left zs) ps (filled f es name (left - length ys) (zs ++ ys))
 goes_pieces f es name [] left zs ys a h =
     let none : length ys ≡ 0 = ap length a in
     let same : left - length ys ≡ left = omega arith in
-    subst (λ n. Goes (filled f es name left zs) [] (filled f es name n (zs ++ ys))) (sym same)
-    (subst (λ xs. Goes (filled f es name left zs) [] (filled f es name left xs)) (sym (ap (λ xs. zs ++ xs) a ∙ append-nil zs)) (goes_nowhere (filled f es name left zs)))
+    subst (λ n. Goes step finish (filled f es name left zs) [] (filled f es name n (zs ++ ys))) (sym same)
+    (subst (λ xs. Goes step finish (filled f es name left zs) [] (filled f es name left xs)) (sym (ap (λ xs. zs ++ xs) a ∙ append-nil zs)) (goes_nowhere step finish (filled f es name left zs)))
 goes_pieces f es name (p ∷ ps) left zs ys a h =
     let n = a.3.0 in
     let z = a.3.1 in
@@ -98,52 +64,52 @@ goes_pieces f es name (p ∷ ps) left zs ys a h =
     let more : 0 < left = omega arith in
     let rest : left - n - length a.1 ≡ left - length ys = omega arith in
     let all : (zs ++ replicate n z) ++ a.1 ≡ zs ++ ys = append_assoc zs (replicate n z) a.1 ∙ ap (λ xs. zs ++ xs) (ap (λ xs. xs ++ a.1) (sym a.3.3) ∙ sym a.2) in
-    let tail : Goes (filled f es name (left - n) (zs ++ replicate n z)) ps (filled f es name (left - n - length a.1) ((zs ++ replicate n z) ++ a.1)) = goes_pieces f es name ps (left - n) (zs ++ replicate n z) a.1 a.4 (omega arith) in
-    let tail2 = subst (λ k. Goes (filled f es name (left - n) (zs ++ replicate n z)) ps (filled f es name k ((zs ++ replicate n z) ++ a.1))) rest tail in
-    let tail3 = subst (λ xs. Goes (filled f es name (left - n) (zs ++ replicate n z)) ps (filled f es name (left - length ys) xs)) all tail2 in
-    goes_on (filled f es name left zs) (filled f es name (left - n) (zs ++ replicate n z)) (filled f es name (left - length ys) (zs ++ ys)) p ps
+    let tail : Goes step finish (filled f es name (left - n) (zs ++ replicate n z)) ps (filled f es name (left - n - length a.1) ((zs ++ replicate n z) ++ a.1)) = goes_pieces f es name ps (left - n) (zs ++ replicate n z) a.1 a.4 (omega arith) in
+    let tail2 = subst (λ k. Goes step finish (filled f es name (left - n) (zs ++ replicate n z)) ps (filled f es name k ((zs ++ replicate n z) ++ a.1))) rest tail in
+    let tail3 = subst (λ xs. Goes step finish (filled f es name (left - n) (zs ++ replicate n z)) ps (filled f es name (left - length ys) xs)) all tail2 in
+    goes_on step finish (filled f es name left zs) (filled f es name (left - n) (zs ++ replicate n z)) (filled f es name (left - length ys) (zs ++ ys)) p ps
     (λ w e. ap (λ q. step q w) (filled-more f es name left zs more) ∙ step-pieces f es name left zs w
     ∙ ap (λ r. onto r (λ g. filled f es name (left - g.0) (zs ++ replicate g.0 g.1))) (ap (λ t. given left w.line (piece_of f t)) e ∙ fits_given left w.line f p n z a.3.2 (omega arith)))
     tail3
 
 -- the tokens that begin an array, and some of its values
-goes_many : (f : Form) (es : List Named) (name count : List ℕ) (pieces : List (List ℕ)) (n : ℕ) (zs : List ℤ) → IsNew name es → number_of count ≡ Some n → n < 2 ^ 31 → total es + n ≤ MESH_VALUES → ArePieces f pieces zs → length zs ≤ n → Goes (Between f es) (codes "ints" ∷ name ∷ count ∷ pieces) (filled f es name (n - length zs) zs)
+goes_many : (f : Form) (es : List Named) (name count : List ℕ) (pieces : List (List ℕ)) (n : ℕ) (zs : List ℤ) → IsNew name es → number_of count ≡ Some n → n < 2 ^ 31 → total es + n ≤ MESH_VALUES → ArePieces f pieces zs → length zs ≤ n → Goes step finish (Between f es) (codes "ints" ∷ name ∷ count ∷ pieces) (filled f es name (n - length zs) zs)
 goes_many f es name count pieces n zs new e fits room a le =
-    goes_on (Between f es) (ManyName f es) _ (codes "ints") (name ∷ count ∷ pieces) (λ w t. step-between f es w ∙ ap (λ x. began f es (keyword_of x) (piece_of f x) w.line) t)
-    (goes_on (ManyName f es) (Count f es name) _ name (count ∷ pieces) (λ w t. step-many_name f es w ∙ ap (λ r. onto r (Count f es)) (new_named es w name t new))
-    (goes_on (Count f es name) (filled f es name n []) _ count pieces (λ w t. step-count f es name w ∙ ap (λ r. onto r (λ k. filled f es name k [])) (ap (λ x. count_of (total es) w.line (number_of x)) t ∙ fits_count (total es) w.line count n e fits room))
+    goes_on step finish (Between f es) (ManyName f es) _ (codes "ints") (name ∷ count ∷ pieces) (λ w t. step-between f es w ∙ ap (λ x. began f es (keyword_of x) (piece_of f x) w.line) t)
+    (goes_on step finish (ManyName f es) (Count f es name) _ name (count ∷ pieces) (λ w t. step-many_name f es w ∙ ap (λ r. onto r (Count f es)) (new_named es w name t new))
+    (goes_on step finish (Count f es name) (filled f es name n []) _ count pieces (λ w t. step-count f es name w ∙ ap (λ r. onto r (λ k. filled f es name k [])) (ap (λ x. count_of (total es) w.line (number_of x)) t ∙ fits_count (total es) w.line count n e fits room))
     (goes_pieces f es name pieces n [] zs a le)))
 
-goes_one_entry : (f : Form) (es : List Named) (name value : List ℕ) (z : ℤ) → IsNew name es → IsValue value z → total es + 1 ≤ MESH_VALUES → Goes (Between f es) (codes "int" ∷ name ∷ value ∷ []) (Between f (es ++ (name, One z) ∷ []))
+goes_one_entry : (f : Form) (es : List Named) (name value : List ℕ) (z : ℤ) → IsNew name es → IsValue value z → total es + 1 ≤ MESH_VALUES → Goes step finish (Between f es) (codes "int" ∷ name ∷ value ∷ []) (Between f (es ++ (name, One z) ∷ []))
 goes_one_entry f es name value z new v room =
-    goes_on (Between f es) (OneName f es) _ (codes "int") (name ∷ value ∷ []) (λ w t. step-between f es w ∙ ap (λ x. began f es (keyword_of x) (piece_of f x) w.line) t)
-    (goes_on (OneName f es) (OneValue f es name) _ name (value ∷ []) (λ w t. step-one_name f es w ∙ ap (λ r. onto r (OneValue f es)) (new_named es w name t new))
-    (goes_one (OneValue f es name) (Between f (es ++ (name, One z) ∷ [])) value (λ w t. step-one_value f es name w ∙ ap (λ r. onto r (λ y. Between f (es ++ (name, One y) ∷ []))) (ap (λ x. one_of (total es) w.line (i32_judged (integer_of x))) t ∙ fits_one (total es) w.line value z v room))))
+    goes_on step finish (Between f es) (OneName f es) _ (codes "int") (name ∷ value ∷ []) (λ w t. step-between f es w ∙ ap (λ x. began f es (keyword_of x) (piece_of f x) w.line) t)
+    (goes_on step finish (OneName f es) (OneValue f es name) _ name (value ∷ []) (λ w t. step-one_name f es w ∙ ap (λ r. onto r (OneValue f es)) (new_named es w name t new))
+    (goes_one step finish (OneValue f es name) (Between f (es ++ (name, One z) ∷ [])) value (λ w t. step-one_value f es name w ∙ ap (λ r. onto r (λ y. Between f (es ++ (name, One y) ∷ []))) (ap (λ x. one_of (total es) w.line (i32_judged (integer_of x))) t ∙ fits_one (total es) w.line value z v room))))
 
-goes_entry : (f : Form) (es : List Named) (ts : List (List ℕ)) (name : List ℕ) (e : Entry) → IsEntry f ts name e → IsNew name es → total es + size_of (name, e) ≤ MESH_VALUES → Goes (Between f es) ts (Between f (es ++ (name, e) ∷ []))
-goes_entry f es ts name (One z) i new room = subst (λ xs. Goes (Between f es) xs (Between f (es ++ (name, One z) ∷ []))) (sym i.1) (goes_one_entry f es name i.0 z new i.2 room)
+goes_entry : (f : Form) (es : List Named) (ts : List (List ℕ)) (name : List ℕ) (e : Entry) → IsEntry f ts name e → IsNew name es → total es + size_of (name, e) ≤ MESH_VALUES → Goes step finish (Between f es) ts (Between f (es ++ (name, e) ∷ []))
+goes_entry f es ts name (One z) i new room = subst (λ xs. Goes step finish (Between f es) xs (Between f (es ++ (name, One z) ∷ []))) (sym i.1) (goes_one_entry f es name i.0 z new i.2 room)
 goes_entry f es ts name (Many zs) i new room =
     let le : length zs ≤ length zs = omega arith in
     let none : length zs - length zs ≡ 0 = omega arith in
-    let all : Goes (Between f es) (codes "ints" ∷ name ∷ i.0 ∷ i.1) (filled f es name (length zs - length zs) zs) = goes_many f es name i.0 i.1 (length zs) zs new i.3 i.4 room i.5 le in
-    subst (λ xs. Goes (Between f es) xs (Between f (es ++ (name, Many zs) ∷ []))) (sym i.2)
-    (subst (λ k. Goes (Between f es) (codes "ints" ∷ name ∷ i.0 ∷ i.1) (filled f es name k zs)) none all)
+    let all : Goes step finish (Between f es) (codes "ints" ∷ name ∷ i.0 ∷ i.1) (filled f es name (length zs - length zs) zs) = goes_many f es name i.0 i.1 (length zs) zs new i.3 i.4 room i.5 le in
+    subst (λ xs. Goes step finish (Between f es) xs (Between f (es ++ (name, Many zs) ∷ []))) (sym i.2)
+    (subst (λ k. Goes step finish (Between f es) (codes "ints" ∷ name ∷ i.0 ∷ i.1) (filled f es name k zs)) none all)
 
-goes_entries : (f : Form) (before : List Named) (ts : List (List ℕ)) (es : List Named) → AreEntries f before ts es → total (before ++ es) ≤ MESH_VALUES → Goes (Between f before) ts (Between f (before ++ es))
+goes_entries : (f : Form) (before : List Named) (ts : List (List ℕ)) (es : List Named) → AreEntries f before ts es → total (before ++ es) ≤ MESH_VALUES → Goes step finish (Between f before) ts (Between f (before ++ es))
 goes_entries f before ts [] a room =
-    subst (λ xs. Goes (Between f before) xs (Between f (before ++ []))) (sym a)
-    (subst (λ es. Goes (Between f before) [] (Between f es)) (sym (append-nil before)) (goes_nowhere (Between f before)))
+    subst (λ xs. Goes step finish (Between f before) xs (Between f (before ++ []))) (sym a)
+    (subst (λ es. Goes step finish (Between f before) [] (Between f es)) (sym (append-nil before)) (goes_nowhere step finish (Between f before)))
 goes_entries f before ts (e ∷ es) a room =
     let regroup : (before ++ e ∷ []) ++ es ≡ before ++ e ∷ es = append_assoc before (e ∷ []) es in
     let sum : total ((before ++ e ∷ []) ++ es) ≡ total (before ++ e ∷ []) + total es = sum_by-append size_of (before ++ e ∷ []) es in
     let push : total (before ++ e ∷ []) ≡ total before + size_of e = sum_by_push size_of before e in
     let all : total ((before ++ e ∷ []) ++ es) ≡ total (before ++ e ∷ es) = ap total regroup in
     let one : total before + size_of e ≤ MESH_VALUES = omega arith in
-    let rest : Goes (Between f (before ++ e ∷ [])) a.1 (Between f ((before ++ e ∷ []) ++ es)) = goes_entries f (before ++ e ∷ []) a.1 es a.5 (subst (λ xs. total xs ≤ MESH_VALUES) (sym regroup) room) in
-    subst (λ xs. Goes (Between f before) xs (Between f (before ++ e ∷ es))) (sym a.2)
-    (goes_join (Between f before) (Between f (before ++ e ∷ [])) (Between f (before ++ e ∷ es)) a.0 a.1
+    let rest : Goes step finish (Between f (before ++ e ∷ [])) a.1 (Between f ((before ++ e ∷ []) ++ es)) = goes_entries f (before ++ e ∷ []) a.1 es a.5 (subst (λ xs. total xs ≤ MESH_VALUES) (sym regroup) room) in
+    subst (λ xs. Goes step finish (Between f before) xs (Between f (before ++ e ∷ es))) (sym a.2)
+    (goes_join step finish (Between f before) (Between f (before ++ e ∷ [])) (Between f (before ++ e ∷ es)) a.0 a.1
     (goes_entry f before a.0 e.0 e.1 a.3 a.4 one)
-    (subst (λ xs. Goes (Between f (before ++ e ∷ [])) a.1 (Between f xs)) regroup rest))
+    (subst (λ xs. Goes step finish (Between f (before ++ e ∷ [])) a.1 (Between f xs)) regroup rest))
 
 version_read : (f : Form) → version_of (digit_of f) ≡ Some f
 version_read form.One = refl
@@ -152,48 +118,48 @@ version_read form.Two = refl
 magic_on : (w : Word) → w.text ≡ codes "op2mesh" → step Magic w ≡ Ok Version
 magic_on w e = step-magic w (eq_itself w.text (codes "op2mesh") e)
 
-goes_mesh : (f : Form) (ts : List (List ℕ)) (es : List Named) → AreSome f ts es → Goes Magic ts (Between f es)
+goes_mesh : (f : Form) (ts : List (List ℕ)) (es : List Named) → AreSome f ts es → Goes step finish Magic ts (Between f es)
 goes_mesh f ts es s =
-    subst (λ xs. Goes Magic xs (Between f es)) (sym s.0.1)
-    (goes_on Magic Version (Between f es) (codes "op2mesh") (digit_of f ∷ s.0.0) magic_on
-    (goes_on Version (Between f []) (Between f es) (digit_of f) s.0.0 (λ w t. step-version w ∙ ap (λ o. versioned o w.line) (ap version_of t ∙ version_read f))
+    subst (λ xs. Goes step finish Magic xs (Between f es)) (sym s.0.1)
+    (goes_on step finish Magic Version (Between f es) (codes "op2mesh") (digit_of f ∷ s.0.0) magic_on
+    (goes_on step finish Version (Between f []) (Between f es) (digit_of f) s.0.0 (λ w t. step-version w ∙ ap (λ o. versioned o w.line) (ap version_of t ∙ version_read f))
     (goes_entries f [] s.0.0 es s.0.2 s.1)))
 
 -- the tokens that stand at the front lead where they stand
-stands_goes : (p : State) (ts : List (List ℕ)) → Stands ts p → Goes Magic ts p
-stands_goes Magic ts s = subst (λ xs. Goes Magic xs Magic) (sym s) (goes_nowhere Magic)
-stands_goes Version ts s = subst (λ xs. Goes Magic xs Version) (sym s) (goes_one Magic Version (codes "op2mesh") magic_on)
+stands_goes : (p : State) (ts : List (List ℕ)) → Stands ts p → Goes step finish Magic ts p
+stands_goes Magic ts s = subst (λ xs. Goes step finish Magic xs Magic) (sym s) (goes_nowhere step finish Magic)
+stands_goes Version ts s = subst (λ xs. Goes step finish Magic xs Version) (sym s) (goes_one step finish Magic Version (codes "op2mesh") magic_on)
 stands_goes (Between f es) ts s = goes_mesh f ts es s
 stands_goes (OneName f es) ts s =
-    subst (λ xs. Goes Magic xs (OneName f es)) (sym s.1)
-    (goes_join Magic (Between f es) (OneName f es) s.0 (codes "int" ∷ []) (goes_mesh f s.0 es s.2)
-    (goes_one (Between f es) (OneName f es) (codes "int") (λ w t. step-between f es w ∙ ap (λ x. began f es (keyword_of x) (piece_of f x) w.line) t)))
+    subst (λ xs. Goes step finish Magic xs (OneName f es)) (sym s.1)
+    (goes_join step finish Magic (Between f es) (OneName f es) s.0 (codes "int" ∷ []) (goes_mesh f s.0 es s.2)
+    (goes_one step finish (Between f es) (OneName f es) (codes "int") (λ w t. step-between f es w ∙ ap (λ x. began f es (keyword_of x) (piece_of f x) w.line) t)))
 stands_goes (ManyName f es) ts s =
-    subst (λ xs. Goes Magic xs (ManyName f es)) (sym s.1)
-    (goes_join Magic (Between f es) (ManyName f es) s.0 (codes "ints" ∷ []) (goes_mesh f s.0 es s.2)
-    (goes_one (Between f es) (ManyName f es) (codes "ints") (λ w t. step-between f es w ∙ ap (λ x. began f es (keyword_of x) (piece_of f x) w.line) t)))
+    subst (λ xs. Goes step finish Magic xs (ManyName f es)) (sym s.1)
+    (goes_join step finish Magic (Between f es) (ManyName f es) s.0 (codes "ints" ∷ []) (goes_mesh f s.0 es s.2)
+    (goes_one step finish (Between f es) (ManyName f es) (codes "ints") (λ w t. step-between f es w ∙ ap (λ x. began f es (keyword_of x) (piece_of f x) w.line) t)))
 stands_goes (OneValue f es name) ts s =
-    subst (λ xs. Goes Magic xs (OneValue f es name)) (sym s.1)
-    (goes_join Magic (Between f es) (OneValue f es name) s.0 (codes "int" ∷ name ∷ []) (goes_mesh f s.0 es s.2)
-    (goes_on (Between f es) (OneName f es) (OneValue f es name) (codes "int") (name ∷ []) (λ w t. step-between f es w ∙ ap (λ x. began f es (keyword_of x) (piece_of f x) w.line) t)
-    (goes_one (OneName f es) (OneValue f es name) name (λ w t. step-one_name f es w ∙ ap (λ r. onto r (OneValue f es)) (new_named es w name t s.3)))))
+    subst (λ xs. Goes step finish Magic xs (OneValue f es name)) (sym s.1)
+    (goes_join step finish Magic (Between f es) (OneValue f es name) s.0 (codes "int" ∷ name ∷ []) (goes_mesh f s.0 es s.2)
+    (goes_on step finish (Between f es) (OneName f es) (OneValue f es name) (codes "int") (name ∷ []) (λ w t. step-between f es w ∙ ap (λ x. began f es (keyword_of x) (piece_of f x) w.line) t)
+    (goes_one step finish (OneName f es) (OneValue f es name) name (λ w t. step-one_name f es w ∙ ap (λ r. onto r (OneValue f es)) (new_named es w name t s.3)))))
 stands_goes (Count f es name) ts s =
-    subst (λ xs. Goes Magic xs (Count f es name)) (sym s.1)
-    (goes_join Magic (Between f es) (Count f es name) s.0 (codes "ints" ∷ name ∷ []) (goes_mesh f s.0 es s.2)
-    (goes_on (Between f es) (ManyName f es) (Count f es name) (codes "ints") (name ∷ []) (λ w t. step-between f es w ∙ ap (λ x. began f es (keyword_of x) (piece_of f x) w.line) t)
-    (goes_one (ManyName f es) (Count f es name) name (λ w t. step-many_name f es w ∙ ap (λ r. onto r (Count f es)) (new_named es w name t s.3)))))
+    subst (λ xs. Goes step finish Magic xs (Count f es name)) (sym s.1)
+    (goes_join step finish Magic (Between f es) (Count f es name) s.0 (codes "ints" ∷ name ∷ []) (goes_mesh f s.0 es s.2)
+    (goes_on step finish (Between f es) (ManyName f es) (Count f es name) (codes "ints") (name ∷ []) (λ w t. step-between f es w ∙ ap (λ x. began f es (keyword_of x) (piece_of f x) w.line) t)
+    (goes_one step finish (ManyName f es) (Count f es name) name (λ w t. step-many_name f es w ∙ ap (λ r. onto r (Count f es)) (new_named es w name t s.3)))))
 stands_goes (Pieces f es name left zs) ts s =
     let le : length zs ≤ length zs + left = omega arith in
     let some : 0 < left = s.9 in
     let rest : length zs + left - length zs ≡ left = omega arith in
-    let many : Goes (Between f es) (codes "ints" ∷ name ∷ s.1 ∷ s.2) (filled f es name (length zs + left - length zs) zs) = goes_many f es name s.1 s.2 (length zs + left) zs s.5 s.6 s.7 s.8 s.10 le in
-    subst (λ xs. Goes Magic xs (Pieces f es name left zs)) (sym s.3)
-    (goes_join Magic (Between f es) (Pieces f es name left zs) s.0 (codes "ints" ∷ name ∷ s.1 ∷ s.2) (goes_mesh f s.0 es s.4)
-    (subst (λ q. Goes (Between f es) (codes "ints" ∷ name ∷ s.1 ∷ s.2) q) (ap (λ k. filled f es name k zs) rest ∙ filled-more f es name left zs some) many))
+    let many : Goes step finish (Between f es) (codes "ints" ∷ name ∷ s.1 ∷ s.2) (filled f es name (length zs + left - length zs) zs) = goes_many f es name s.1 s.2 (length zs + left) zs s.5 s.6 s.7 s.8 s.10 le in
+    subst (λ xs. Goes step finish Magic xs (Pieces f es name left zs)) (sym s.3)
+    (goes_join step finish Magic (Between f es) (Pieces f es name left zs) s.0 (codes "ints" ∷ name ∷ s.1 ∷ s.2) (goes_mesh f s.0 es s.4)
+    (subst (λ q. Goes step finish (Between f es) (codes "ints" ∷ name ∷ s.1 ∷ s.2) q) (ap (λ k. filled f es name k zs) rest ∙ filled-more f es name left zs some) many))
 stands_goes (End es) ts s =
-    subst (λ xs. Goes Magic xs (End es)) (sym s.2)
-    (goes_join Magic (Between s.0 es) (End es) s.1 (codes "done" ∷ []) (goes_mesh s.0 s.1 es s.3)
-    (goes_one (Between s.0 es) (End es) (codes "done") (λ w t. step-between s.0 es w ∙ ap (λ x. began s.0 es (keyword_of x) (piece_of s.0 x) w.line) t)))
+    subst (λ xs. Goes step finish Magic xs (End es)) (sym s.2)
+    (goes_join step finish Magic (Between s.0 es) (End es) s.1 (codes "done" ∷ []) (goes_mesh s.0 s.1 es s.3)
+    (goes_one step finish (Between s.0 es) (End es) (codes "done") (λ w t. step-between s.0 es w ∙ ap (λ x. began s.0 es (keyword_of x) (piece_of s.0 x) w.line) t)))
 
 pub stands_through : (p : State) (ws : List Word) → Stands (map text_of ws) p → through step finish Magic ws ≡ Ok p
 stands_through p ws s = stands_goes p (map text_of ws) s ws refl

@@ -11,7 +11,7 @@ use Rattle.mesh_text.specs.declared.entry.Form.{Form}
 use Rattle.mesh_text.specs.declared.entry.Form.TheVariants as form
 use Rattle.mesh_text.specs.declared.piece.Piece.TheVariants.{Values, OutOfRange, NoTimes}
 use Rattle.mesh_text.specs.Piece.{IsValue, Gives, no_star, one_value, value_piece, times_piece, run_of, run_piece, split_piece, piece_of}
-use Rattle.mesh_text.proofs.Chosen.{ok_then}
+use Rattle.texts.proofs.Chosen.{ok_then}
 
 value_sound : (r : Result ℤ NumRefusal) (n : ℕ) (z : ℤ) → one_value r ≡ Values n z → (n ≡ 1) × (r ≡ Ok z)
 value_sound (Ok y) n z h = (cc, cc)

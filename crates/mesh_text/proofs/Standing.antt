@@ -25,7 +25,7 @@ use Rattle.mesh_text.specs.Token.{is_c_name, is_magic, version_of, keyword_of}
 use Rattle.mesh_text.specs.Piece.{IsPiece, piece_of}
 use Rattle.mesh_text.specs.Spelling.{Named, total, size_of, has_name, ArePieces, IsEntry, IsNew, AreEntries, AreMesh, header, digit_of}
 use Rattle.mesh_text.specs.Reading.{State, Magic, Version, Between, OneName, ManyName, OneValue, Count, Pieces, End, step, versioned, began, named, room_for, one_of, count_of, given, filled, AreSome, Stands}
-use Rattle.mesh_text.proofs.Chosen.{chosen, ok_then, ok_else, same_bytes}
+use Rattle.texts.proofs.Chosen.{chosen, ok_then, ok_else, same_bytes}
 use Rattle.mesh_text.proofs.PieceExact.{piece_sound}
 use Rattle.mesh_text.proofs.Running.{step-version, step-between, step-one_name, step-many_name, step-one_value, step-count, step-pieces, step-end}
 

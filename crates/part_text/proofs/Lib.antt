@@ -1,4 +1,3 @@
-pub mod Chosen
 pub mod Names
 pub mod Running
 pub mod Standing

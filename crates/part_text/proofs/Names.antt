@@ -5,7 +5,7 @@ use Rattle.std.proofs.lemmas.Bool.Decides.{nat_tests}
 use Rattle.mesh_decl.specs.Mesh.{MeshValue, set_count, set_name}
 use Rattle.part_text.specs.Spelling.{IsNamed}
 use Rattle.part_text.specs.Reading.{set_below, set_of}
-use Rattle.part_text.proofs.Chosen.{chosen, same_bytes, eq_itself}
+use Rattle.texts.proofs.Chosen.{chosen, same_bytes, eq_itself}
 
 -- the same of the sets below n
 record IsBelow (g : MeshValue) (name : List ℕ) (n k : ℕ) : Type 0 where

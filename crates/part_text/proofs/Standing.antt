@@ -13,7 +13,7 @@ use Rattle.part_text.specs.declared.token.Keyword.TheVariants as keyword
 use Rattle.part_text.specs.Token.{is_magic, is_version, keyword_of}
 use Rattle.part_text.specs.Spelling.{Table, Given, no_ranks, AreRanks, IsSet, AreSets, ArePart}
 use Rattle.part_text.specs.Reading.{set_of, State, Magic, Version, Between, SetName, Count, Ranks, End, step, began, free_set, named, sized, ranked, gathered, filled, IsFree, Stands}
-use Rattle.part_text.proofs.Chosen.{chosen, ok_then, same_bytes}
+use Rattle.texts.proofs.Chosen.{chosen, ok_then, same_bytes}
 use Rattle.part_text.proofs.Names.{set_is}
 use Rattle.part_text.proofs.Running.{step-between, step-set_name, step-count, step-ranks, step-end}
 

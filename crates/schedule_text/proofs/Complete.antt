@@ -18,7 +18,7 @@ use Rattle.schedule_text.specs.declared.token.Keyword.TheVariants as keyword
 use Rattle.schedule_text.specs.Token.{keyword_of, word_text}
 use Rattle.schedule_text.specs.Spelling.{word_of, numbers_of, at_line, IsNumber, AreNumbers, IsStep, AreSteps}
 use Rattle.schedule_text.specs.Reading.{Begun, First, Second, Third, State, Magic, Version, Between, Numbers, End, step_of, opened, began, numbered, grown, first_word, so_far, step, finish, AreSome, Stands}
-use Rattle.schedule_text.proofs.Chosen.{eq_itself}
+use Rattle.texts.proofs.Chosen.{eq_itself}
 use Rattle.schedule_text.proofs.Running.{step-magic, step-version, step-between, step-numbers}
 
 -- the tokens lead from one state to the other

@@ -20,7 +20,7 @@ use Rattle.schedule_text.specs.declared.token.Keyword.TheVariants as keyword
 use Rattle.schedule_text.specs.Token.{is_magic, is_version, rank_word_of, keyword_by, keyword_of, rank_text, word_text}
 use Rattle.schedule_text.specs.Spelling.{word_of, numbers_of, at_line, IsNumber, AreNumbers, IsStep, AreSteps, AreSchedule}
 use Rattle.schedule_text.specs.Reading.{Begun, First, Second, Third, State, Magic, Version, Between, Numbers, End, step_of, opened, began, numbered, grown, first_word, so_far, step, Stands}
-use Rattle.schedule_text.proofs.Chosen.{chosen, ok_then, same_bytes}
+use Rattle.texts.proofs.Chosen.{chosen, ok_then, same_bytes}
 use Rattle.schedule_text.proofs.Running.{step-between, step-numbers, step-end}
 
 -- ---- what a token said

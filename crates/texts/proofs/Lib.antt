@@ -1,5 +1,7 @@
+pub mod Chosen
 pub mod Cutting
-pub mod Written
-pub mod Reading
 pub mod Exact
+pub mod Leading
+pub mod Reading
 pub mod Words
+pub mod Written
