@@ -1,12 +1,11 @@
 -- Owners have one halo.
-use Rattle.std.proofs.Common.{◌≡◌, ℕ, ◌<◌, Bool, true, ◌&&◌, List, [], Vec, map, length, get_or, refl, sym, ap, ◌∙◌, arith}
+use Rattle.std.proofs.Common.{◌≡◌, ℕ, ◌<◌, false, List, [], Vec, map, length, get_or, refl, sym, ap, ◌∙◌, arith}
 use Rattle.std.specs.declared.alloc.Global.{Global}
 use Rattle.std.proofs.lemmas.List.{ext_get_or, get_or-map, length-map}
 use Rattle.mesh_decl.specs.declared.owners.Owners.{Owners}
 use Rattle.mesh_decl.specs.Mesh.{MeshValue, set_count, set_size}
 use Rattle.mesh_decl.proofs.FieldReads.{some_in}
-use Rattle.rank_sets.specs.Below.{listed, row, rows}
-use Rattle.halo_lists.specs.Halo.{imports, owns}
+use Rattle.rank_sets.specs.Below.{row, rows}
 use Rattle.halo_lists.specs.declared.types.SetHalo.{SetHalo}
 use Rattle.halo_lists.specs.declared.types.Halos.{Halos}
 use Rattle.halo_lists.specs.Halos.{IsSetHalo, AreHalos}
@@ -49,7 +48,7 @@ module _ (g : MeshValue) (o : Owners) where
       let nonexec : lists_of a.nonexec.items ≡ lists_of b.nonexec.items = same_lists a.nonexec.items b.nonexec.items o.ranks h.nonexec_count k.nonexec_count (λ r l. h.nonexec r l ∙ sym (k.nonexec r l)) in
       let exports : deep a.exports.items ≡ deep b.exports.items = same_deep a.exports.items b.exports.items o.ranks h.export_count k.export_count
       (λ q l. same_lists (rows a.exports.items q) (rows b.exports.items q) o.ranks (h.export_counts q l) (k.export_counts q l) (λ r lr. h.exports q r l lr ∙ sym (k.exports q r l lr))) in
-      let core : a.core.items ≡ b.core.items = ext_get_or true a.core.items b.core.items (h.core_count ∙ sym k.core_count)
+      let core : a.core.items ≡ b.core.items = ext_get_or false a.core.items b.core.items (h.core_count ∙ sym k.core_count)
       (λ x l. let lx : x < set_size g s = omega (arith, h.core_count) in h.core x lx ∙ sym (k.core x lx)) in
       rw (exec, nonexec, exports, core) refl
 

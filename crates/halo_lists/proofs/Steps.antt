@@ -63,10 +63,10 @@ has_more_below xs s n p e h k x r l lr = ⊎_elim
     (cases_eq x n)
 
 -- one more answer pushed
-pub answer_more : (xs : List Bool) (b : Bool) (n : ℕ) (P : ℕ → Type 0) → length xs ≡ n → ((x : ℕ) → x < n → (get_or xs x true ≡ true) ↔ P x) → (b ≡ true) ↔ P n → (x : ℕ) → x < n + 1 → (get_or (xs ++ b ∷ []) x true ≡ true) ↔ P x
+pub answer_more : (xs : List Bool) (b : Bool) (n : ℕ) (P : ℕ → Type 0) → length xs ≡ n → ((x : ℕ) → x < n → (get_or xs x false ≡ true) ↔ P x) → (b ≡ true) ↔ P n → (x : ℕ) → x < n + 1 → (get_or (xs ++ b ∷ []) x false ≡ true) ↔ P x
 answer_more xs b n P e h k x l = ⊎_elim
-    (λ (q : x ≡ n). subst (λ z. (get_or (xs ++ b ∷ []) z true ≡ true) ↔ P z) (sym q) (rw (get_or_push xs b true n e) k))
-    (λ (m : x ≡ n → ⊥). let lx : x < n = omega arith in rw (get_or_append_left xs (b ∷ []) true x (rw e lx)) (h x lx))
+    (λ (q : x ≡ n). subst (λ z. (get_or (xs ++ b ∷ []) z false ≡ true) ↔ P z) (sym q) (rw (get_or_push xs b false n e) k))
+    (λ (m : x ≡ n → ⊥). let lx : x < n = omega arith in rw (get_or_append_left xs (b ∷ []) false x (rw e lx)) (h x lx))
     (cases_eq x n)
 
 pub eqb_comm : (a b : ℕ) → nat_eq a b ≡ nat_eq b a

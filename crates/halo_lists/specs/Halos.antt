@@ -1,5 +1,5 @@
 -- What the halos of a mesh hold.
-use Rattle.std.specs.Prelude.{◌≡◌, ℕ, Bool, true, ◌<◌, ◌&&◌, List, length, slice_index_or}
+use Rattle.std.specs.Prelude.{◌≡◌, ℕ, Bool, false, ◌<◌, ◌&&◌, List, length, slice_index_or}
 use Rattle.mesh_decl.specs.declared.owners.Owners.{Owners}
 use Rattle.rank_sets.specs.Below.{listed, row, rows}
 use Rattle.mesh_decl.specs.Mesh.{MeshValue, set_count, set_size}
@@ -21,7 +21,7 @@ pub record IsSetHalo (g : MeshValue) (o : Owners) (s : ℕ) (h : SetHalo) : Type
   pub exports : (a r : ℕ) → a < o.ranks → r < o.ranks
       → row (rows h.exports.items a) r ≡ listed (set_size g s) (λ x. imports g o s x r && owns o s x a)
   pub core_count : length h.core.items ≡ set_size g s
-  pub core : (x : ℕ) → x < set_size g s → slice_index_or h.core.items x true ≡ is_core g o s x
+  pub core : (x : ℕ) → x < set_size g s → slice_index_or h.core.items x false ≡ is_core g o s x
 
 -- the halos of each set
 pub record AreHalos (g : MeshValue) (o : Owners) (h : Halos) : Type 0 where

@@ -49,7 +49,7 @@ pub fn import_nonexecute(
 pub fn core_places(alloc: Global, sets: &[RankSet]) -> Result<Vec<bool>, OutOfMemory>
     ensures length { IfOk result (λ v. length v.items ≡ length sets.now) }
     ensures core { IfOk result (λ v. (x : ℕ) → x < length sets.now
-        → (slice_index_or v.items x true ≡ true) ↔ ((r : ℕ) → r < 64 → has_at sets.now x r ≡ false)) }
+        → (slice_index_or v.items x false ≡ true) ↔ ((r : ℕ) → r < 64 → has_at sets.now x r ≡ false)) }
 {
     let mut core = Vec::new(alloc);
     for set in sets {

@@ -1,5 +1,5 @@
 -- From the groups of a set to the set of a rank.
-use Rattle.std.proofs.Common.{◌≡◌, ℕ, ◌^◌, ◌<◌, ◌≤◌, Bool, true, ◌&&◌, ltb, List, ◌++◌, length, get_or, sym, ap, ◌∙◌, arith, subst}
+use Rattle.std.proofs.Common.{◌≡◌, ℕ, ◌^◌, ◌<◌, ◌≤◌, Bool, false, ◌&&◌, ltb, List, ◌++◌, length, get_or, sym, ap, ◌∙◌, arith, subst}
 use Rattle.std.specs.List.{Contains}
 use Rattle.mesh_decl.specs.declared.owners.Owners.{Owners}
 use Rattle.mesh_decl.specs.declared.owners.Perms.{Perms}
@@ -79,5 +79,5 @@ module _ (g : MeshValue) (o : Owners) (p : Perms) (s r : ℕ) (t : Groups) (grou
           nonexec = j.nonexec ∙ (ap (length {A = ℕ}) (groups.nonexec r lr) ∙ length-ordered n (by_new p s) (λ x. imports_nonexecute g o s x r));
           inverse = inv;
           core_count = j.core_count;
-          core = λ k lk. j.core k lk ∙ (ap (λ z. ltb k z && get_or h.core.items (get_or l.original k 0) true) (sym j.own) ∙ ap (λ z. ltb k l.own && z) (halo.core (get_or l.original k 0) (number_below n (perm_in p s) (λ x. owns o s x r) (λ x. imports_execute g o s x r) (λ x. imports_nonexecute g o s x r) l.original perms inv k lk)));
+          core = λ k lk. j.core k lk ∙ (ap (λ z. ltb k z && get_or h.core.items (get_or l.original k 0) false) (sym j.own) ∙ ap (λ z. ltb k l.own && z) (halo.core (get_or l.original k 0) (number_below n (perm_in p s) (λ x. owns o s x r) (λ x. imports_execute g o s x r) (λ x. imports_nonexecute g o s x r) l.original perms inv k lk)));
         }

@@ -1,5 +1,5 @@
 -- What the set of a rank is made from.
-use Rattle.std.specs.Prelude.{◌≡◌, ◌≢◌, ℕ, ◌^◌, ◌<◌, ◌≤◌, Bool, true, false, ◌&&◌, nat_lt, List, ◌++◌, length, slice_index, slice_index_or}
+use Rattle.std.specs.Prelude.{◌≡◌, ◌≢◌, ℕ, ◌^◌, ◌<◌, ◌≤◌, Bool, false, ◌&&◌, nat_lt, List, ◌++◌, length, slice_index, slice_index_or}
 use Rattle.std.specs.Prelude.{Contains}
 use Rattle.mesh_decl.specs.declared.owners.Owners.{Owners}
 use Rattle.mesh_decl.specs.declared.owners.Perms.{Perms}
@@ -53,7 +53,7 @@ pub record IsJoined (a b c : List ℕ) (flags : List Bool) (l : LocalSet) : Type
   pub original : l.original ≡ a ++ b ++ c
   pub core_count : length l.core.items ≡ length l.original
   pub core : (k : ℕ) → k < length l.original
-      → slice_index_or l.core.items k false ≡ (nat_lt k (length a) && slice_index_or flags (slice_index l.original k) true)
+      → slice_index_or l.core.items k false ≡ (nat_lt k (length a) && slice_index_or flags (slice_index l.original k) false)
 
 -- a local set of rank r
 abbrev pub IsJoinedFrom : ℕ → Groups → SetHalo → LocalSet → Type 0

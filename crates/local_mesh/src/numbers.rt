@@ -1,5 +1,5 @@
 // The sets of a rank.
-ghost use Rattle.std.specs.Prelude.{◌≡◌, ℕ, Bool, true, false, ◌<◌, ◌≤◌, ◌+◌, ◌^◌, ◌&&◌, ◌++◌, nat_lt, IfOk, length, slice_index};
+ghost use Rattle.std.specs.Prelude.{◌≡◌, ℕ, Bool, false, ◌<◌, ◌≤◌, ◌+◌, ◌^◌, ◌&&◌, ◌++◌, nat_lt, IfOk, length, slice_index};
 ghost use Rattle.std.specs.Prelude.{slice_index_or};
 ghost use Rattle.rank_sets.specs.Below.{row};
 ghost use Rattle.halo_lists.specs.declared.types.SetHalo.{SetHalo};
@@ -40,7 +40,7 @@ fn own_flags(
     requires { (k : ℕ) → k < length numbers.now → slice_index numbers.now k < length flags.now }
     ensures length { IfOk result (λ v. length v.items ≡ length numbers.now) }
     ensures flags { IfOk result (λ v. (k : ℕ) → k < length numbers.now
-        → slice_index_or v.items k false ≡ (nat_lt k own && slice_index_or flags.now (slice_index numbers.now k) true)) }
+        → slice_index_or v.items k false ≡ (nat_lt k own && slice_index_or flags.now (slice_index numbers.now k) false)) }
 {
     let mut found = Vec::with_capacity(alloc, numbers.len())?;
     for (local, number) in numbers.iter().enumerate() {

@@ -1,5 +1,5 @@
 -- The halos of a mesh, by number.
-use Rattle.std.proofs.Common.{◌≡◌, ◌≤◌, ◌<◌, ◌^◌, ℕ, true, ◌&&◌, List, length, refl, sym, ap, ◌∙◌, subst, arith, Vec, Global, get_or}
+use Rattle.std.proofs.Common.{◌≡◌, ◌≤◌, ◌<◌, ◌^◌, ℕ, false, ◌&&◌, List, length, refl, sym, ap, ◌∙◌, subst, arith, Vec, Global, get_or}
 use Rattle.rank_sets.specs.Below.{listed, row, rows}
 use Rattle.mesh_decl.specs.declared.owners.Owners.{Owners}
 use Rattle.mesh_decl.specs.Mesh.{MeshValue, set_count, set_size}
@@ -53,7 +53,7 @@ module _ (g : MeshValue) (o : Owners) where
       exports = λ a r l lr. ap (λ z. row z r) (owner_rows a l)
           ∙ row_is o.ranks (export_list s a) r lr (short_listed (set_size g s) (λ x. imports g o s x r && owns o s x a) (sizes s));
       core_count = ap length core_items ∙ length_table (set_size g s) (is_core g o s);
-      core = λ x l. ap (λ z. get_or z x true) core_items ∙ table_at (set_size g s) (is_core g o s) x true l;
+      core = λ x l. ap (λ z. get_or z x false) core_items ∙ table_at (set_size g s) (is_core g o s) x false l;
     }
       where
         owner_rows : (a : ℕ) → a < o.ranks → rows (vec_of (table o.ranks (λ a. vec_of (by_owner s a)))).items a ≡ by_owner s a

@@ -1,4 +1,4 @@
-use Rattle.std.proofs.Common.{◌≡◌, ◌<◌, ◌≤◌, ◌^◌, ℕ, Bool, true, arith, length, ap, ◌∙◌, sym, List, get_or}
+use Rattle.std.proofs.Common.{◌≡◌, ◌<◌, ◌≤◌, ◌^◌, ℕ, Bool, false, arith, length, ap, ◌∙◌, sym, List, get_or}
 use Rattle.mesh_decl.specs.Mesh.{set_size}
 use Rattle.rank_sets.specs.declared.rank_set.RankSet.{RankSet}
 use Rattle.halo_lists.specs.Halo.{imports_execute, imports_nonexecute, imports}
@@ -61,6 +61,6 @@ returns c =
       core_count = c.in_ok-core_places.ensures.length ∙ core.count;
       core = λ x lx. (
           let h = c.in_ok-core_places.ensures.core x (rw core.count lx) in
-          core_iff g o s x c.requires.mesh c.requires.owners c.requires.set lx (get_or c.in_ok-core_places.field-0.items x true)
+          core_iff g o s x c.requires.mesh c.requires.owners c.requires.set lx (get_or c.in_ok-core_places.field-0.items x false)
           (λ t r lr. sym (core.has x r lx lr) ∙ h.0 t r lr, λ k. h.1 (λ r lr. core.has x r lx lr ∙ k r lr)));
     }

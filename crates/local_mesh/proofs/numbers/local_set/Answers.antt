@@ -1,4 +1,4 @@
-use Rattle.std.proofs.Common.{◌≡◌, ◌+◌, ◌<◌, ◌≤◌, ◌∙◌, ◌++◌, ◌&&◌, ℕ, List, length, get_or, true, false, ltb, refl, arith, sym, ap, subst}
+use Rattle.std.proofs.Common.{◌≡◌, ◌+◌, ◌<◌, ◌≤◌, ◌∙◌, ◌++◌, ◌&&◌, ℕ, List, length, get_or, false, ltb, refl, arith, sym, ap, subst}
 use Rattle.std.proofs.lemmas.List.{length-append}
 use Rattle.local_mesh.specs.Parts.{AreParts}
 use Rattle.local_mesh.proofs.numbers.local_set.Goals as goal
@@ -43,5 +43,5 @@ returns c =
       nonexec = refl;
       original = c.in_ok-original.ensures ∙ c.in_ok-numbers.ensures;
       core_count = c.in_ok-core.ensures.length ∙ ap (length {A = ℕ}) e;
-      core = subst (λ (z : List ℕ). (k : ℕ) → k < length z → get_or c.in_ok-core.core.items k false ≡ (ltb k (length c.args.own.now) && get_or c.args.core.now (get_or z k 0) true)) e c.in_ok-core.ensures.flags;
+      core = subst (λ (z : List ℕ). (k : ℕ) → k < length z → get_or c.in_ok-core.core.items k false ≡ (ltb k (length c.args.own.now) && get_or c.args.core.now (get_or z k 0) false)) e c.in_ok-core.ensures.flags;
     }
