@@ -30,7 +30,8 @@ use Rattle.main_declarations.specs.Variables.{with_file_value, judged_file_declr
 use Rattle.main_declarations.specs.File.{judged_extern, judged_array, judged_top, judged_tops}
 use Rattle.source_fits.specs.Sources.{HasNumbers, IsRead, TopIsRead, HasNumber, HaveNumbers, TopsTake}
 use Rattle.loop_bind.proofs.FitsJudged.{Gives, gives_then, gives_unless}
-use Rattle.loop_bind.proofs.FitsValues.{Num, OkNum, no_nums, Within, value_num}
+use Rattle.kernel_model.specs.Operators.{IsNumber}
+use Rattle.loop_bind.proofs.FitsValues.{Num, no_nums, Within, value_num}
 use Rattle.loop_bind.proofs.FitsState.{MeaningFits, Lawful}
 use Rattle.loop_bind.proofs.FitsVars.{lawful-file, lawful-var, next-fits}
 use Rattle.loop_bind.proofs.FitsReads.{resolved_within}
@@ -41,7 +42,7 @@ module _ (ks : List RKernel) (es : List Named) (places : List Pos) (k : Declared
   pub static_within : (e : ExprTree) → HasNumbers e → Gives (λ (a : Asked). Within k.cells a.value) (judged_static places k.names e)
   static_within e f = gives_unless (λ (a : Asked). Within k.cells a.value) (found_if places (not (is_static (resolved places k.names e))) (first_token e) refusal.ControlNotStatic) (asked places k.names e) (λ n. resolved_within ks es places k h e f)
 
-  known_num : (first : ℕ) (v : Value) → OkNum v → Gives Num (known places first v)
+  known_num : (first : ℕ) (v : Value) → IsNumber v → Gives Num (known places first v)
   known_num first (Ok z) f = f
   known_num first (Err e) f = tt
 

@@ -20,7 +20,8 @@ use Rattle.main_trace.specs.Limited.{ToldValue, UnrolledValue, before, item, tol
 use Rattle.bound_program.specs.Classes.{reduces}
 use Rattle.bound_program.specs.Fits.{site_at, all_cells, HostWithin, IndexWithin, ActFits, due, ItemsFit, EndsWithHost}
 use Rattle.loop_bind.proofs.FitsJudged.{Gives}
-use Rattle.loop_bind.proofs.FitsValues.{Num, OkNum, Nums, no_nums, more_nums, Within, value_num, closed_within}
+use Rattle.kernel_model.specs.Operators.{IsNumber}
+use Rattle.loop_bind.proofs.FitsValues.{Num, Nums, no_nums, more_nums, Within, value_num, closed_within}
 use Rattle.loop_bind.proofs.FitsMain.{AllWithin, SomeWithin, IsOne, TellsOne, StepActFits, StepFits, StepsFit}
 
 -- ---- counters
@@ -76,7 +77,7 @@ module _ (b : BoundValue) where
 
   -- ---- expressions that must be known
 
-  known_num : (v : Value) → OkNum v → IfSome (known v) Num
+  known_num : (v : Value) → IsNumber v → IfSome (known v) Num
   known_num (Ok z) f = f
   known_num (Err e) f = tt
 

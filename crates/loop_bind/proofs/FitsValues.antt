@@ -14,6 +14,8 @@ use Rattle.c_tree.specs.declared.expressions.UnaryOp.TheVariants as unary
 use Rattle.kernel_types.specs.declared.faults.KernelFault.{KernelFault}
 use Rattle.reductions.proofs.Laws.{commuting}
 use Rattle.kernel_model.specs.Numbers.{Value, fault, truth, is_zero, is_shift, is_settled, apply, apply_unary, magnitude, reduction_of, unless_zero, if_shift, sum, difference, product, quotient, rest, shifted_left, shifted_right, and_bits, or_bits, xor_bits, complement, negated}
+use Rattle.kernel_model.specs.Operators.{IsNumber}
+use Rattle.kernel_model.proofs.Ranges.{operators_stay_in_range}
 use Rattle.kernel_model.specs.Meaning.{and_then, index_in}
 use Rattle.kernel_types.specs.View.{RExprTree, Number, Scalar, Constant, Arg, Local, Const, Unary, Binary, Choice, Paren, Extremum, Absolute}
 use Rattle.bound_program.specs.HostExpr.{value, closed}
@@ -28,114 +30,17 @@ zero_is_num = record { sfits = omega arith }
 
 -- ---- operators
 
-read_is_num : (n : ℕ) → Num (to_z w32 n)
-read_is_num n = omega (arith, fits_in, read_fits w32 n)
-
 truth_is_num : (b : Bool) → Num (truth b)
-truth_is_num true = record { sfits = omega arith }
-truth_is_num false = record { sfits = omega arith }
-
-sum_is_num : (x y : ℤ) → Num (sum x y)
-unfolding sum
-sum_is_num x y = SFits-int_wrap w32 _
-
-difference_is_num : (x y : ℤ) → Num (difference x y)
-unfolding difference
-difference_is_num x y = SFits-int_wrap w32 _
-
-product_is_num : (x y : ℤ) → Num (product x y)
-unfolding product
-product_is_num x y = SFits-int_wrap w32 _
-
-quotient_is_num : (x y : ℤ) → Num (quotient x y)
-unfolding quotient
-quotient_is_num x y = SFits-int_wrap w32 _
-
-shifted_left_is_num : (x y : ℤ) → Num (shifted_left x y)
-unfolding shifted_left
-shifted_left_is_num x y = SFits-int_wrap w32 _
-
-negated_is_num : (x : ℤ) → Num (negated x)
-unfolding negated
-negated_is_num x = SFits-int_wrap w32 _
+truth_is_num = operators_stay_in_range.tests
 
 magnitude_is_num : (x : ℤ) → Num (magnitude x)
-unfolding magnitude
-magnitude_is_num x = SFits-int_wrap w32 _
+magnitude_is_num = operators_stay_in_range.magnitudes
 
-remainder_is : (x y : ℤ) → remainder x y ≡ int_rem x y
-remainder_is x y = omega (arith, ints, quot-rem x y)
-
-int_rem_is_num : (x y : ℤ) → Num x → Num (int_rem x y)
-int_rem_is_num x y f = record { sfits = omega (arith, mag_rem x y, f.sfits) }
-
-rest_is_num : (x y : ℤ) → Num x → Num (rest x y)
-unfolding rest
-rest_is_num x y f = subst (FitsSigned w32) (sym (remainder_is x y)) (int_rem_is_num x y f)
-
-shifted_right_is_num : (x y : ℤ) → Num x → Num (shifted_right x y)
-unfolding shifted_right
-shifted_right_is_num x y f = record { sfits = omega (arith, mag_shr x (2 ^ unsigned_abs y), f.sfits) }
-
-and_is_num : (x y : ℤ) → Num (and_bits x y)
-unfolding and_bits
-and_is_num x y = read_is_num _
-
-or_is_num : (x y : ℤ) → Num (or_bits x y)
-unfolding or_bits
-or_is_num x y = read_is_num _
-
-xor_is_num : (x y : ℤ) → Num (xor_bits x y)
-unfolding xor_bits
-xor_is_num x y = read_is_num _
-
-complement_is_num : (x : ℤ) → Num (complement x)
-unfolding complement
-complement_is_num x = read_is_num _
-
-abbrev pub OkNum : Value → Type 0
-OkNum (Ok v) = Num v
-OkNum (Err f) = Unit {0}
-
-unless_zero_num : (d v : ℤ) (at : Pos) → Num v → OkNum (unless_zero d at v)
-unless_zero_num d v at f = pick (is_zero d)
-  where
-    pick : (b : Bool) → OkNum (cond b (Err (fault DivZero at)) (Ok v))
-    pick true = tt
-    pick false = f
-
-if_shift_num : (n v : ℤ) (at : Pos) → Num v → OkNum (if_shift n at v)
-if_shift_num n v at f = pick (is_shift n)
-  where
-    pick : (b : Bool) → OkNum (cond b (Ok v) (Err (fault ShiftCount at)))
-    pick true = f
-    pick false = tt
-
-apply_num : (op : BinaryOp) (at : Pos) (x y : ℤ) → Num x → Num y → OkNum (apply op at x y)
-apply_num binary.LogicalOr at x y f g = truth_is_num _
-apply_num binary.LogicalAnd at x y f g = truth_is_num _
-apply_num binary.BitOr at x y f g = or_is_num x y
-apply_num binary.BitXor at x y f g = xor_is_num x y
-apply_num binary.BitAnd at x y f g = and_is_num x y
-apply_num binary.Equal at x y f g = truth_is_num _
-apply_num binary.NotEqual at x y f g = truth_is_num _
-apply_num binary.Less at x y f g = truth_is_num _
-apply_num binary.Greater at x y f g = truth_is_num _
-apply_num binary.LessEqual at x y f g = truth_is_num _
-apply_num binary.GreaterEqual at x y f g = truth_is_num _
-apply_num binary.ShiftLeft at x y f g = if_shift_num y (shifted_left x y) at (shifted_left_is_num x y)
-apply_num binary.ShiftRight at x y f g = if_shift_num y (shifted_right x y) at (shifted_right_is_num x y f)
-apply_num binary.Add at x y f g = sum_is_num x y
-apply_num binary.Sub at x y f g = difference_is_num x y
-apply_num binary.Mul at x y f g = product_is_num x y
-apply_num binary.Div at x y f g = unless_zero_num y (quotient x y) at (quotient_is_num x y)
-apply_num binary.Rem at x y f g = unless_zero_num y (rest x y) at (rest_is_num x y f)
+apply_num : (op : BinaryOp) (at : Pos) (x y : ℤ) → Num x → Num y → IsNumber (apply op at x y)
+apply_num = operators_stay_in_range.binary
 
 unary_num : (op : UnaryOp) (x : ℤ) → Num x → Num (apply_unary op x)
-unary_num unary.Minus x f = negated_is_num x
-unary_num unary.Plus x f = f
-unary_num unary.Not x f = truth_is_num _
-unary_num unary.Complement x f = complement_is_num x
+unary_num = operators_stay_in_range.unary
 
 -- ---- expressions
 
@@ -180,19 +85,19 @@ more_nums [] z h f (suc k) = zero_is_num
 more_nums (x ∷ xs) z h f zero = h zero
 more_nums (x ∷ xs) z h f (suc k) = more_nums xs z (λ j. h (suc j)) f k
 
-num_then : (r : Value) (go : ℤ → Value) → OkNum r → ((x : ℤ) → Num x → OkNum (go x)) → OkNum (and_then r go)
+num_then : (r : Value) (go : ℤ → Value) → IsNumber r → ((x : ℤ) → Num x → IsNumber (go x)) → IsNumber (and_then r go)
 num_then (Ok x) go f h = h x f
 num_then (Err e) go f h = tt
 
-index_then : (r : Result ℕ KernelFault) (go : ℕ → Value) → ((i : ℕ) → OkNum (go i)) → OkNum (and_then r go)
+index_then : (r : Result ℕ KernelFault) (go : ℕ → Value) → ((i : ℕ) → IsNumber (go i)) → IsNumber (and_then r go)
 index_then (Ok i) go h = h i
 index_then (Err e) go h = tt
 
-num_cond : (b : Bool) (x y : Value) → OkNum x → OkNum y → OkNum (cond b x y)
+num_cond : (b : Bool) (x y : Value) → IsNumber x → IsNumber y → IsNumber (cond b x y)
 num_cond true x y f g = f
 num_cond false x y f g = g
 
-pub value_num : (n : ℕ) (told cells : List ℤ) → Nums told → Nums cells → (e : RExprTree) → Within n e → OkNum (value told cells e)
+pub value_num : (n : ℕ) (told cells : List ℤ) → Nums told → Nums cells → (e : RExprTree) → Within n e → IsNumber (value told cells e)
 value_num n told cells t c (Number z) w = w
 value_num n told cells t c (Scalar k) w = c k
 value_num n told cells t c (Constant k) w = t k
@@ -209,7 +114,7 @@ value_num n told cells t c (Choice d x y) w =
 value_num n told cells t c (Paren e) w = value_num n told cells t c e w
 value_num n told cells t c (Extremum which x y) w =
     num_then (value told cells x) _ (value_num n told cells t c x w.0)
-    (λ a f. num_then (value told cells y) _ (value_num n told cells t c y w.1) (λ b g. (commuting (reduction_of which)).fits a b f g))
+    (λ a f. num_then (value told cells y) _ (value_num n told cells t c y w.1) (λ b g. operators_stay_in_range.extrema which a b f g))
 value_num n told cells t c (Absolute e) w = num_then (value told cells e) _ (value_num n told cells t c e w) (λ z f. magnitude_is_num z)
 
 -- with values in place of the names that are told later, an expression names cells alone

@@ -65,7 +65,23 @@ pub fn cells_of(meaning: Option<Meaning>) -> Cells
     }
 }
 
+// The same in a box.
+#[cycle(resolved)]
+fn resolved_box(
+    alloc: Global,
+    places: &[Pos],
+    scope: &Scope,
+    e: &Expr,
+) -> Result<Box<RExpr>, OutOfMemory>
+    ensures { IfOk result (λ r. rexpr_of r.value ≡ resolved places.now (scope_of scope.now) (expr_of e.now)) }
+{
+    let resolved = resolved(alloc, places, scope, e)?;
+    let boxed = Box::new(alloc, resolved)?;
+    Ok(boxed)
+}
+
 /// An expression with the meanings of its names.
+#[cycle(resolved)]
 pub fn resolved(
     alloc: Global,
     places: &[Pos],
@@ -78,91 +94,65 @@ pub fn resolved(
         Expr::Number(n) => Ok(RExpr::Number(n.value)),
         Expr::Name(x) => Ok(read(scope.means(&x.name))),
         Expr::Index { name, index } => {
-            let index = resolved(alloc, places, scope, index)?;
-            let index = Box::new(alloc, index)?;
             let cells = cells_of(scope.means(&name.name));
             Ok(RExpr::Local {
                 from: cells.from,
                 count: cells.count,
                 form: ElementForm::Index,
-                index,
+                index: resolved_box(alloc, places, scope, index)?,
                 at: place(places, name.at),
             })
         }
         Expr::Deref { name, .. } => {
-            let index = Box::new(alloc, RExpr::Number(0))?;
             let cells = cells_of(scope.means(&name.name));
             Ok(RExpr::Local {
                 from: cells.from,
                 count: cells.count,
                 form: ElementForm::Deref,
-                index,
+                index: Box::new(alloc, RExpr::Number(0))?,
                 at: place(places, name.at),
             })
         }
-        Expr::Unary { op, operand, .. } => {
-            let operand = resolved(alloc, places, scope, operand)?;
-            let operand = Box::new(alloc, operand)?;
-            Ok(RExpr::Unary { op: *op, operand })
-        }
+        Expr::Unary { op, operand, .. } => Ok(RExpr::Unary {
+            op: *op,
+            operand: resolved_box(alloc, places, scope, operand)?,
+        }),
         Expr::Binary {
             op,
             at,
             left,
             right,
-        } => {
-            let left = resolved(alloc, places, scope, left)?;
-            let left = Box::new(alloc, left)?;
-            let right = resolved(alloc, places, scope, right)?;
-            let right = Box::new(alloc, right)?;
-            Ok(RExpr::Binary {
-                op: *op,
-                left,
-                right,
-                at: place(places, *at),
-            })
-        }
+        } => Ok(RExpr::Binary {
+            op: *op,
+            left: resolved_box(alloc, places, scope, left)?,
+            right: resolved_box(alloc, places, scope, right)?,
+            at: place(places, *at),
+        }),
         Expr::Choice {
             condition,
             if_true,
             if_false,
             ..
-        } => {
-            let condition = resolved(alloc, places, scope, condition)?;
-            let condition = Box::new(alloc, condition)?;
-            let if_true = resolved(alloc, places, scope, if_true)?;
-            let if_true = Box::new(alloc, if_true)?;
-            let if_false = resolved(alloc, places, scope, if_false)?;
-            let if_false = Box::new(alloc, if_false)?;
-            Ok(RExpr::Choice {
-                condition,
-                if_true,
-                if_false,
-            })
-        }
+        } => Ok(RExpr::Choice {
+            condition: resolved_box(alloc, places, scope, condition)?,
+            if_true: resolved_box(alloc, places, scope, if_true)?,
+            if_false: resolved_box(alloc, places, scope, if_false)?,
+        }),
         Expr::Paren { inner, .. } => {
-            let inner = resolved(alloc, places, scope, inner)?;
-            Ok(RExpr::Paren(Box::new(alloc, inner)?))
+            Ok(RExpr::Paren(resolved_box(alloc, places, scope, inner)?))
         }
         Expr::Extremum {
             which,
             first,
             second,
             ..
-        } => {
-            let first = resolved(alloc, places, scope, first)?;
-            let first = Box::new(alloc, first)?;
-            let second = resolved(alloc, places, scope, second)?;
-            let second = Box::new(alloc, second)?;
-            Ok(RExpr::Extremum {
-                which: *which,
-                first,
-                second,
-            })
-        }
+        } => Ok(RExpr::Extremum {
+            which: *which,
+            first: resolved_box(alloc, places, scope, first)?,
+            second: resolved_box(alloc, places, scope, second)?,
+        }),
         Expr::Absolute { operand, .. } => {
-            let operand = resolved(alloc, places, scope, operand)?;
-            Ok(RExpr::Absolute(Box::new(alloc, operand)?))
+            Ok(RExpr::Absolute(resolved_box(alloc, places, scope, operand)?))
         }
     }
 }

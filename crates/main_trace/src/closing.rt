@@ -18,7 +18,18 @@ fn told_value(told: &[i32], k: usize) -> i32
     if k < told.len() { told[k] } else { 0 }
 }
 
+// The same in a box.
+#[cycle(closed)]
+fn closed_box(alloc: Global, e: &RExpr, told: &[i32]) -> Result<Box<RExpr>, OutOfMemory>
+    ensures { IfOk result (λ x. rexpr_of x.value ≡ closed told.now (rexpr_of e.now)) }
+{
+    let closed = closed_expr(alloc, e, told)?;
+    let boxed = Box::new(alloc, closed)?;
+    Ok(boxed)
+}
+
 /// The expression with these values in place of the names that are told later.
+#[cycle(closed)]
 pub fn closed_expr(alloc: Global, e: &RExpr, told: &[i32]) -> Result<RExpr, OutOfMemory>
     ensures { IfOk result (λ x. rexpr_of x ≡ closed told.now (rexpr_of e.now)) }
 {
@@ -31,114 +42,73 @@ pub fn closed_expr(alloc: Global, e: &RExpr, told: &[i32]) -> Result<RExpr, OutO
             form,
             index,
             at,
-        } => {
-            let index = closed_expr(alloc, index, told)?;
-            let index = Box::new(alloc, index)?;
-            Ok(RExpr::Arg {
-                param: *param,
-                form: *form,
-                index,
-                at: *at,
-            })
-        }
+        } => Ok(RExpr::Arg {
+            param: *param,
+            form: *form,
+            index: closed_box(alloc, index, told)?,
+            at: *at,
+        }),
         RExpr::Local {
             from,
             count,
             form,
             index,
             at,
-        } => {
-            let index = closed_expr(alloc, index, told)?;
-            let index = Box::new(alloc, index)?;
-            Ok(RExpr::Local {
-                from: *from,
-                count: *count,
-                form: *form,
-                index,
-                at: *at,
-            })
-        }
+        } => Ok(RExpr::Local {
+            from: *from,
+            count: *count,
+            form: *form,
+            index: closed_box(alloc, index, told)?,
+            at: *at,
+        }),
         RExpr::Const {
             from,
             count,
             form,
             index,
             at,
-        } => {
-            let index = closed_expr(alloc, index, told)?;
-            let index = Box::new(alloc, index)?;
-            Ok(RExpr::Const {
-                from: *from,
-                count: *count,
-                form: *form,
-                index,
-                at: *at,
-            })
-        }
-        RExpr::Unary { op, operand } => {
-            let operand = closed_expr(alloc, operand, told)?;
-            let operand = Box::new(alloc, operand)?;
-            Ok(RExpr::Unary { op: *op, operand })
-        }
+        } => Ok(RExpr::Const {
+            from: *from,
+            count: *count,
+            form: *form,
+            index: closed_box(alloc, index, told)?,
+            at: *at,
+        }),
+        RExpr::Unary { op, operand } => Ok(RExpr::Unary {
+            op: *op,
+            operand: closed_box(alloc, operand, told)?,
+        }),
         RExpr::Binary {
             op,
             left,
             right,
             at,
-        } => {
-            let left = closed_expr(alloc, left, told)?;
-            let left = Box::new(alloc, left)?;
-            let right = closed_expr(alloc, right, told)?;
-            let right = Box::new(alloc, right)?;
-            Ok(RExpr::Binary {
-                op: *op,
-                left,
-                right,
-                at: *at,
-            })
-        }
+        } => Ok(RExpr::Binary {
+            op: *op,
+            left: closed_box(alloc, left, told)?,
+            right: closed_box(alloc, right, told)?,
+            at: *at,
+        }),
         RExpr::Choice {
             condition,
             if_true,
             if_false,
-        } => {
-            let condition = closed_expr(alloc, condition, told)?;
-            let condition = Box::new(alloc, condition)?;
-            let if_true = closed_expr(alloc, if_true, told)?;
-            let if_true = Box::new(alloc, if_true)?;
-            let if_false = closed_expr(alloc, if_false, told)?;
-            let if_false = Box::new(alloc, if_false)?;
-            Ok(RExpr::Choice {
-                condition,
-                if_true,
-                if_false,
-            })
-        }
-        RExpr::Paren(inner) => {
-            let inner = closed_expr(alloc, inner, told)?;
-            let inner = Box::new(alloc, inner)?;
-            Ok(RExpr::Paren(inner))
-        }
+        } => Ok(RExpr::Choice {
+            condition: closed_box(alloc, condition, told)?,
+            if_true: closed_box(alloc, if_true, told)?,
+            if_false: closed_box(alloc, if_false, told)?,
+        }),
+        RExpr::Paren(inner) => Ok(RExpr::Paren(closed_box(alloc, inner, told)?)),
         RExpr::Extremum {
             which,
             first,
             second,
-        } => {
-            let first = closed_expr(alloc, first, told)?;
-            let first = Box::new(alloc, first)?;
-            let second = closed_expr(alloc, second, told)?;
-            let second = Box::new(alloc, second)?;
-            Ok(RExpr::Extremum {
-                which: *which,
-                first,
-                second,
-            })
-        }
-        RExpr::Absolute(operand) => {
-            let operand = closed_expr(alloc, operand, told)?;
-            let operand = Box::new(alloc, operand)?;
-            Ok(RExpr::Absolute(operand))
-        }
+        } => Ok(RExpr::Extremum {
+            which: *which,
+            first: closed_box(alloc, first, told)?,
+            second: closed_box(alloc, second, told)?,
+        }),
+        RExpr::Absolute(operand) => Ok(RExpr::Absolute(closed_box(alloc, operand, told)?)),
     }
 }
 

@@ -184,6 +184,24 @@ fn chain_value(
     Ok(whole)
 }
 
+// What an expression of a kernel means, in a box.
+#[cycle(values)]
+fn value_box(
+    alloc: Global,
+    places: &[Pos],
+    known: Scope<'_>,
+    expr: &Expr,
+) -> Result<Box<RExpr>, OutOfMemory>
+    ensures value { IfOk result (λ r.
+        rexpr_of r.value ≡ value places.now
+        (scope known.entry.file.now.entries known.entry.own.now.entries) (expr_of expr.now)) }
+    ensures fits { IfOk result (λ r. ExprFits (rexpr_of r.value)) }
+{
+    let value = value(alloc, places, known, expr)?;
+    let boxed = Box::new(alloc, value)?;
+    Ok(boxed)
+}
+
 /// What an expression of a kernel means, where it breaks no rule.
 #[cycle(values)]
 pub fn value(
@@ -210,11 +228,10 @@ pub fn value(
             let at = pos_of(places, name.at);
             element(alloc, known.decl(&name.name), ElementForm::Deref, index, at)
         }
-        Expr::Unary { op, operand, .. } => {
-            let operand = value(alloc, places, known, operand)?;
-            let operand = Box::new(alloc, operand)?;
-            Ok(RExpr::Unary { op: *op, operand })
-        }
+        Expr::Unary { op, operand, .. } => Ok(RExpr::Unary {
+            op: *op,
+            operand: value_box(alloc, places, known, operand)?,
+        }),
         Expr::Binary {
             op,
             at,
@@ -223,12 +240,10 @@ pub fn value(
         } => {
             let left = chain_value(alloc, places, known, left)?;
             let left = Box::new(alloc, left)?;
-            let right = value(alloc, places, known, right)?;
-            let right = Box::new(alloc, right)?;
             Ok(RExpr::Binary {
                 op: *op,
                 left,
-                right,
+                right: value_box(alloc, places, known, right)?,
                 at: pos_of(places, *at),
             })
         }
@@ -237,42 +252,24 @@ pub fn value(
             if_true,
             if_false,
             ..
-        } => {
-            let condition = value(alloc, places, known, condition)?;
-            let condition = Box::new(alloc, condition)?;
-            let if_true = value(alloc, places, known, if_true)?;
-            let if_true = Box::new(alloc, if_true)?;
-            let if_false = value(alloc, places, known, if_false)?;
-            let if_false = Box::new(alloc, if_false)?;
-            Ok(RExpr::Choice {
-                condition,
-                if_true,
-                if_false,
-            })
-        }
-        Expr::Paren { inner, .. } => {
-            let inner = value(alloc, places, known, inner)?;
-            Ok(RExpr::Paren(Box::new(alloc, inner)?))
-        }
+        } => Ok(RExpr::Choice {
+            condition: value_box(alloc, places, known, condition)?,
+            if_true: value_box(alloc, places, known, if_true)?,
+            if_false: value_box(alloc, places, known, if_false)?,
+        }),
+        Expr::Paren { inner, .. } => Ok(RExpr::Paren(value_box(alloc, places, known, inner)?)),
         Expr::Extremum {
             which,
             first,
             second,
             ..
-        } => {
-            let first = value(alloc, places, known, first)?;
-            let first = Box::new(alloc, first)?;
-            let second = value(alloc, places, known, second)?;
-            let second = Box::new(alloc, second)?;
-            Ok(RExpr::Extremum {
-                which: *which,
-                first,
-                second,
-            })
-        }
+        } => Ok(RExpr::Extremum {
+            which: *which,
+            first: value_box(alloc, places, known, first)?,
+            second: value_box(alloc, places, known, second)?,
+        }),
         Expr::Absolute { operand, .. } => {
-            let operand = value(alloc, places, known, operand)?;
-            Ok(RExpr::Absolute(Box::new(alloc, operand)?))
+            Ok(RExpr::Absolute(value_box(alloc, places, known, operand)?))
         }
     }
 }

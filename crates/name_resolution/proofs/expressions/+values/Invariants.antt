@@ -11,6 +11,9 @@ use Rattle.name_resolution.proofs.expressions.+values.Given as goal
 abbrev pub decreases-chain_value : goal.decreases-chain_value
 decreases-chain_value l = 2 * size (expr_of l.expr.now) + 1
 
+abbrev pub decreases-value_box : goal.decreases-value_box
+decreases-value_box l = 2 * size (expr_of l.expr.now) + 1
+
 abbrev pub decreases-value : goal.decreases-value
 decreases-value l = 2 * size (expr_of l.expr.now)
 
