@@ -5,6 +5,7 @@ pub mod Kernels
 pub mod Patch
 pub mod Rows
 pub mod Runs
+pub mod Safe
 pub mod Steps
 pub mod Values
 pub mod Within
