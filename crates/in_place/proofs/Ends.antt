@@ -1,0 +1,32 @@
+-- How a run in place ends, as its caller sees it.
+use Rattle.std.proofs.Common.{◌≡◌, ℕ, ℤ, List, [], ◌∷◌, Some, None, refl, ap}
+use Rattle.std.specs.Prelude.{slice_index_or}
+use Rattle.kernel_types.specs.declared.faults.KernelFault.{KernelFault}
+use Rattle.kernel_model.specs.Meaning.{Target, Ran, Finished, Stopped}
+use Rattle.element_runs.specs.OnWindows.{core_of}
+use Rattle.rank_state.specs.declared.spans.Span.{Span}
+use Rattle.rank_state.specs.Spans.{scattered}
+use Rattle.rank_state.specs.Core.{fault_of}
+use Rattle.rank_state.specs.Frames.{pane_after, closed}
+use Rattle.in_place.specs.InPlace.{AreSpared, EndsInPlace}
+
+module _ (spans : List Span) (ts us : List Target) (old new : List ℤ) where
+  pub finished_alone : (y : Ran) → EndsInPlace spans ts us old (Finished (new ∷ [])) y → None ≡ fault_of (core_of y)
+  finished_alone (Finished t) e = refl
+  finished_alone (Stopped t g) e = absurd e
+
+  pub finished_leaves : (item : ℕ) (y : Ran) → EndsInPlace spans ts us old (Finished (new ∷ [])) y → new ≡ closed spans (pane_after item (core_of y)) old
+  finished_leaves item (Finished t) e = let h : new ≡ scattered 0 (slice_index_or t 0 []) spans old = cc in h
+  finished_leaves item (Stopped t g) e = absurd e
+
+  pub stopped_faults : (f : KernelFault) (y : Ran) → EndsInPlace spans ts us old (Stopped (new ∷ []) f) y → Some f ≡ fault_of (core_of y)
+  stopped_faults f (Finished t) e = absurd e
+  stopped_faults f (Stopped t g) e = ap Some e.0
+
+  pub stopped_spares : (f : KernelFault) (y : Ran) → EndsInPlace spans ts us old (Stopped (new ∷ []) f) y → AreSpared spans ts us old new
+  stopped_spares f (Finished t) e = absurd e
+  stopped_spares f (Stopped t g) e = e.1
+
+  pub stopped_leaves : (item : ℕ) (f : KernelFault) (y : Ran) → EndsInPlace spans ts us old (Stopped (new ∷ []) f) y → old ≡ closed spans (pane_after item (core_of y)) old
+  stopped_leaves item f (Finished t) e = absurd e
+  stopped_leaves item f (Stopped t g) e = refl

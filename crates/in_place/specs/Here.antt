@@ -1,0 +1,28 @@
+-- The places in a memory at which a kernel runs as it does on windows that are gathered from it.
+use Rattle.std.specs.Prelude.{◌≡◌, ◌<◌, ◌+◌, ℕ, ℤ, Bool, true, false, List, [], ◌∷◌, map, get_or}
+use Rattle.kernel_types.specs.declared.faults.KernelFault.{KernelFault}
+use Rattle.kernel_types.specs.declared.kernels.RKernel.{RKernel}
+use Rattle.kernel_model.specs.Meaning.{Target, target_at, kernel_meaning}
+use Rattle.views.specs.declared.frame.Place.{Place}
+use Rattle.views.specs.Framed.{target_of}
+use Rattle.flat_machine.specs.Layout.{Core}
+use Rattle.element_runs.specs.OnWindows.{core_of}
+use Rattle.rank_state.specs.declared.spans.Span.{Span}
+use Rattle.rank_state.specs.Spans.{Within, gathered}
+use Rattle.in_place.specs.Standing.{is_written, Apart}
+use Rattle.in_place.specs.InPlace.{NameTheSame, LeavesUnwritten}
+
+-- the run on the windows that the spans gather: the windows after it, or its fault
+abbrev pub core_on_gathered : RKernel → List ℤ → List ℤ → List Span → List Target → Core KernelFault
+core_on_gathered k consts m spans ts = core_of (kernel_meaning ts consts k (gathered m spans ∷ []))
+
+-- In a memory of n cells the arguments' windows, which stand at `ts` among those that the spans gather, stand at the places; and
+-- what the kernel changes is in written spans, whose arguments are marked.
+pub record IsHere (k : RKernel) (consts : List ℤ) (n : ℕ) (places : List Place) (marks : List Bool) (spans : List Span) (ts : List Target)
+    : Type 0 where
+  pub within : Within n spans
+  pub apart : Apart spans
+  pub same : NameTheSame spans ts (map target_of places)
+  pub leaves : LeavesUnwritten spans ts consts k
+  pub marked : (a i : ℕ)
+      → i < (target_at ts a).count → is_written spans ((target_at ts a).from + i) ≡ true → get_or marks a false ≡ true

@@ -1,0 +1,5 @@
+pub mod Standing
+pub mod InPlace
+pub mod Leaving
+pub mod Saving
+pub mod Here
