@@ -14,3 +14,4 @@ pub mod Kept
 mod Grouping
 pub mod Hosting
 mod Tasking
+mod Passed

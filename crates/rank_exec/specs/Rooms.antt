@@ -4,11 +4,16 @@ use Rattle.rank_exec.specs.declared.room.Room.{Room}
 use Rattle.rank_exec.specs.declared.room.RunRoom.{RunRoom}
 use Rattle.rank_exec.specs.Tasks.{HasGroupRoom}
 
+-- as many cells as the arguments of a kernel that runs on a rank's own cells have at most
+abbrev pub most_saved : ℕ
+most_saved = 1024
+
 -- for so many spans, for locals of so many cells, and for so many constants
 pub record HasRoom (spans locals constants : ℕ) (room : Room) : Type 0 where
   pub spans_fit : spans ≤ vec_capacity room.spans
   pub owned_fit : spans ≤ vec_capacity room.owned
   pub locals_fit : locals ≤ length room.locals.items
+  pub saved_fits : most_saved ≤ length room.saved.items
   pub constants_fit : length room.constants.items ≡ constants
 
 -- as many begins as a group has at most

@@ -1,7 +1,7 @@
 // The machine: memories, variables, partials, frames, messages, and the least recorded fault.
 
 ghost use Rattle.std.specs.Prelude.{◌≡◌, ◌≢◌, [], ℕ, ℤ, ◌+◌, ◌<◌, ◌≤◌, List, length, map, slice_index_or, take, Some, ◌*◌, ◌^◌, ◌++◌, IfOk};
-ghost use Rattle.std.specs.Prelude.{OnOk};
+ghost use Rattle.std.specs.Prelude.{Bool, OnOk};
 ghost use Rattle.kernel_types.specs.declared.faults.KernelFault.{KernelFault};
 ghost use Rattle.mesh_decl.specs.Mesh.{dat_count, dat_set, dat_dim, set_size};
 ghost use Rattle.mesh_decl.specs.Printed.{printed_dat};
@@ -10,26 +10,32 @@ ghost use Rattle.bound_program.specs.Fits.{ActFits};
 ghost use Rattle.run_model.specs.Hosts.{act_run};
 ghost use Rattle.run_model.specs.Memory.{Holds, memory_length};
 ghost use Rattle.host_acts.specs.Acts.{program_of, Begins, ActEnds};
+ghost use Rattle.schedule_steps.specs.declared.step.Step.TheVariants.{Begin};
+ghost use Rattle.schedule_steps.specs.Steps.{IsStep};
 ghost use Rattle.schedule_model.specs.Cells.{Store};
 ghost use Rattle.schedule_model.specs.Machine.{is_less_element};
 ghost use Rattle.schedule_model.specs.Kept.{if_before};
-ghost use Rattle.flat_machine.specs.Layout.{Core, Leaves};
+ghost use Rattle.flat_machine.specs.Layout.{Core, Leaves, by_place};
+ghost use Rattle.rank_state.specs.declared.spans.Span.{Span};
 ghost use Rattle.rank_state.specs.Spans.{Within, total, cells_at};
 ghost use Rattle.rank_state.specs.Windows.{Reads, Merges};
 ghost use Rattle.rank_state.specs.Frames.{Shut, pane_at, Enough, Exactly};
 ghost use Rattle.rank_state.specs.Mail.{Carries};
 ghost use Rattle.rank_state.specs.Machine.{State, row, posted, taken, noted, begun_as, ended, passed, windows_of};
+ghost use Rattle.rank_state.specs.Shows.{AreWindows};
 ghost use Rattle.rank_state.specs.Joins.{reduced};
 ghost use Rattle.rank_state.specs.Core.{fault_of};
 ghost use Rattle.rank_state.specs.Starting.{units as united, started};
 ghost use Rattle.rank_state.specs.Ordered.{Within_all, total_all, all_windows, left_in};
 ghost use Rattle.rank_state.specs.Indices.{values_at, InLength};
 ghost use Rattle.rank_exec.specs.Stops.{stop_in};
+ghost use Rattle.rank_exec.specs.Rooms.{most_saved};
 
 use crate::core_run::Kernels;
 use crate::frames::{Frames, load, run_through};
 use crate::mail::Mail;
 use crate::owned::{gather_values, run_element};
+use crate::parts::Parts;
 use crate::reduce::{reduce_variables, unite_all};
 use crate::scalars::unit;
 use bound_program::{Act, Mesh};
@@ -116,6 +122,25 @@ fn least(before: Option<Stop>, item: u32, element: u32, fault: Option<KernelFaul
             }
         }
         None => Some(new),
+    }
+}
+
+// The same for the element at a place of a rank, whose original number is looked up only for a fault.
+fn least_at<P: Parts>(
+    before: Option<Stop>,
+    parts: &P,
+    item: u32,
+    rank: u32,
+    place: u32,
+    fault: Option<KernelFault>,
+) -> Option<Stop>
+    requires sound { P.sound parts.now }
+    requires step { IsStep (by_place (P.setup parts.now) (P.layout parts.now)) (Begin item rank place) }
+    ensures { stop_in result ≡ noted item ((P.layout parts.now).original item rank place) fault (stop_in before) }
+{
+    match fault {
+        None => before,
+        Some(_) => least(before, item, parts.original(item, rank, place), fault),
     }
 }
 
@@ -324,6 +349,45 @@ impl Machine {
             scratch,
         );
         self.fault = least(self.fault, item, original, fault);
+    }
+
+    /// Runs an element's kernel on its rank's own cells, where it has no windows on variables. No frame is opened for it.
+    pub fn run_here<P: Parts>(
+        &mut self,
+        parts: &P,
+        constants: &[i32],
+        item: u32,
+        rank: u32,
+        place: u32,
+        saved: &mut [i32],
+        scratch: &mut [i32],
+    )
+        requires sound { P.sound parts.now }
+        requires step { IsStep (by_place (P.setup parts.now) (P.layout parts.now)) (Begin item rank place) }
+        requires alone { (spans : List Span)
+            × AreWindows (P.setup parts.now) (P.layout parts.now) (P.tables parts.now) item rank place spans [] }
+        requires constants { length constants.now ≡ length (P.tables parts.now).constants }
+        requires rank { rank < length self.old.memories }
+        requires width { length (row self.old.memories rank) ≡ (P.layout parts.now).width rank }
+        requires saved { most_saved ≤ length saved.old }
+        requires locals { P.locals parts.now ≤ length scratch.old }
+        ensures { (own : Bool) (spans : List Span)
+            → AreWindows (P.setup parts.now) (P.layout parts.now) (P.tables parts.now) item rank place spans []
+            → self.new
+            ≡ passed own item rank ((P.layout parts.now).original item rank place) spans []
+            (P.core parts.now item ((P.layout parts.now).original item rank place) constants.now (windows_of self.old rank spans []))
+            self.old }
+    {
+        let fault = parts.run_here(
+            item,
+            rank,
+            place,
+            constants,
+            &mut self.memories[rank as usize],
+            saved,
+            scratch,
+        );
+        self.fault = least_at(self.fault, parts, item, rank, place, fault);
     }
 
     /// Copies an element's frame back, and merges its amounts where the element is owned.

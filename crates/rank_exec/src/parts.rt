@@ -1,17 +1,22 @@
 // What the machine reads of a bound program and its distribution over several ranks.
 
 ghost use Rattle.std.specs.Prelude.{◌≡◌, ◌<◌, ◌≤◌, ◌==◌, ◌^◌, ℕ, ℤ, true, List, [], length, vec_capacity};
+ghost use Rattle.rank_state.specs.declared.spans.Span.{Span};
 ghost use Rattle.kernel_types.specs.declared.faults.KernelFault.{KernelFault};
 ghost use Rattle.schedule_steps.specs.declared.step.Step.TheVariants.{Send, Recv, Begin};
 ghost use Rattle.schedule_steps.specs.Steps.{IsStep};
 ghost use Rattle.schedule_model.specs.Program.{is_loop, elements};
 ghost use Rattle.schedule_model.specs.Setup.{Setup};
 ghost use Rattle.flat_machine.specs.Layout.{Layout, IsLayout, by_place};
-ghost use Rattle.rank_state.specs.Spans.{total};
+ghost use Rattle.rank_state.specs.Spans.{total, gathered};
+ghost use Rattle.rank_state.specs.Core.{fault_of};
+ghost use Rattle.rank_state.specs.Frames.{pane_after, closed};
 ghost use Rattle.rank_state.specs.Starting.{AreSlots, ArePlaces};
 ghost use Rattle.rank_state.specs.Shows.{Tables, Indexed, AreExports, AreImports, AreWindows};
+ghost use Rattle.rank_exec.specs.Rooms.{most_saved};
 
 use crate::core_run::Kernels;
+use kernel_types::KernelFault;
 use rank_state::{Operation, Scalar, Span};
 
 /// A setup and its layout, as the machine reads them. No call takes memory: those that find spans put them into a vector
@@ -71,6 +76,45 @@ pub trait Parts: Kernels {
         requires room { span_count self.now ≤ vec_capacity spans.old }
         ensures are { AreWindows (setup self.now) (layout self.now) (tables self.now) item rank place spans.new.items result.now }
         ensures room { vec_capacity spans.new ≡ vec_capacity spans.old };
+
+    /// Whether the elements of the item that begins at a place have no windows on variables, so that its kernel can run on the
+    /// ranks' own cells.
+    fn runs_here(&self, item: u32, rank: u32, place: u32) -> bool
+        requires sound { Self.sound self.now }
+        requires step { IsStep (by_place (setup self.now) (layout self.now)) (Begin item rank place) }
+        ensures { result ≡ true → (r x : ℕ) → IsStep (by_place (setup self.now) (layout self.now)) (Begin item r x)
+            → (spans : List Span) × AreWindows (setup self.now) (layout self.now) (tables self.now) item r x spans [] };
+
+    /// Runs the kernel for the element at a place on the cells of the rank's buffer, with the values of all constants: what is
+    /// there in the end is what a run on the element's windows and its end would leave. Answers its fault, after which the
+    /// buffer is as it was. What the run leaves in `saved` and in `scratch`, the room for locals, means nothing.
+    fn run_here(
+        &self,
+        item: u32,
+        rank: u32,
+        place: u32,
+        constants: &[i32],
+        memory: &mut [i32],
+        saved: &mut [i32],
+        scratch: &mut [i32],
+    ) -> Option<KernelFault>
+        requires sound { Self.sound self.now }
+        requires step { IsStep (by_place (setup self.now) (layout self.now)) (Begin item rank place) }
+        requires alone { (spans : List Span) × AreWindows (setup self.now) (layout self.now) (tables self.now) item rank place spans [] }
+        requires constants { length constants.now ≡ length (tables self.now).constants }
+        requires memory { length memory.old ≡ (layout self.now).width rank }
+        requires saved { most_saved ≤ length saved.old }
+        requires room { Self.locals self.now ≤ length scratch.old }
+        ensures fault { (spans : List Span)
+            → AreWindows (setup self.now) (layout self.now) (tables self.now) item rank place spans []
+            → result
+            ≡ fault_of (Self.core self.now item ((layout self.now).original item rank place) constants.now (gathered memory.old spans)) }
+        ensures memory { (spans : List Span)
+            → AreWindows (setup self.now) (layout self.now) (tables self.now) item rank place spans []
+            → memory.new
+            ≡ closed spans
+            (pane_after item
+            (Self.core self.now item ((layout self.now).original item rank place) constants.now (gathered memory.old spans))) memory.old };
 
     /// Puts down where the cells of a message stand on its sender.
     fn exports(&self, item: u32, from: u32, to: u32, spans: &mut Vec<Span>)

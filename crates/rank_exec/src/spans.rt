@@ -3,21 +3,8 @@
 ghost use Rattle.std.specs.Prelude.{◌≡◌, ℕ, ◌+◌, ◌^◌, ◌<◌, ◌≤◌, List, length, take};
 ghost use Rattle.rank_state.specs.Spans.{Within, total, cells_at, with_window, gathered, scattered};
 
+use in_place::copy;
 use rank_state::Span;
-
-// Copies cells from one place to another. Most spans have one cell, for which the compiler needs no call.
-#[inline]
-fn copy(source: &[i32], from: usize, target: &mut [i32], to: usize, dim: usize)
-    requires source { from + dim ≤ length source.now }
-    requires target { to + dim ≤ length target.old }
-    ensures { target.new ≡ with_window to (cells_at from dim source.now) target.old }
-{
-    if dim == 1 {
-        target[to..to + 1].copy_from_slice(&source[from..from + 1]);
-    } else {
-        target[to..to + dim].copy_from_slice(&source[from..from + dim]);
-    }
-}
 
 /// Copies the spans' cells into the frame, one span after another, and answers their number.
 pub fn gather(memory: &[i32], spans: &[Span], frame: &mut [i32]) -> usize

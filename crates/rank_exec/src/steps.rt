@@ -1,6 +1,6 @@
 // Each step of a list, on a machine whose lists show a state of the machine on flat buffers.
 
-ghost use Rattle.std.specs.Prelude.{◌≡◌, ◌≢◌, ◌<◌, ◌≤◌, ◌+◌, ◌-◌, ℕ, List, length};
+ghost use Rattle.std.specs.Prelude.{◌≡◌, ◌≢◌, ◌<◌, ◌≤◌, ◌+◌, ◌-◌, ℕ, true, List, [], length};
 ghost use Rattle.kernel_types.specs.declared.faults.KernelFault.{KernelFault};
 ghost use Rattle.schedule_steps.specs.declared.step.Step.TheVariants.{Send, Recv, Begin, End};
 ghost use Rattle.schedule_steps.specs.Steps.{IsStep};
@@ -12,7 +12,7 @@ ghost use Rattle.rank_state.specs.Frames.{Shut, pane_at};
 ghost use Rattle.rank_state.specs.Indices.{values_at};
 ghost use Rattle.rank_state.specs.Mail.{Carries};
 ghost use Rattle.rank_state.specs.Shows.{AreExports, AreImports, AreWindows, Shows, pane_in};
-ghost use Rattle.rank_exec.specs.Rooms.{HasRoom};
+ghost use Rattle.rank_exec.specs.Rooms.{HasRoom, most_saved};
 
 use crate::machine::Machine;
 use crate::parts::Parts;
@@ -300,8 +300,41 @@ fn in_place_on<P: Parts>(
     );
 }
 
-/// A begin that is followed at once by its own end, where `room` has the values of all constants. It keeps them: no element changes
-/// a variable.
+// A begin and its own end on the rank's own cells.
+fn here_on<P: Parts>(
+    machine: &mut Machine,
+    parts: &P,
+    item: u32,
+    rank: u32,
+    place: u32,
+    constants: &[i32],
+    saved: &mut [i32],
+    locals: &mut [i32],
+)
+    requires sound { P.sound parts.now }
+    requires planned { IsStep (by_place (P.setup parts.now) (P.layout parts.now)) (Begin item rank place) }
+    requires alone { (spans : List Span)
+        × AreWindows (P.setup parts.now) (P.layout parts.now) (P.tables parts.now) item rank place spans [] }
+    requires values { constants.now ≡ values_at machine.old.variables (P.tables parts.now).constants }
+    requires saved { most_saved ≤ length saved.old }
+    requires locals { P.locals parts.now ≤ length locals.old }
+    requires shows { (f : Flat KernelFault) × Shows (P.setup parts.now) (P.layout parts.now) (P.tables parts.now) machine.old f }
+    requires shut { pane_at machine.old.frames.panes rank place ≡ Shut }
+    requires room { 0 < machine.old.frames.left }
+    ensures shows { (f : Flat KernelFault) → Shows (P.setup parts.now) (P.layout parts.now) (P.tables parts.now) machine.old f
+        → Shows (P.setup parts.now) (P.layout parts.now) (P.tables parts.now) machine.new
+        (flat_step (P.setup parts.now) (P.layout parts.now) (End item rank place)
+        (flat_step (P.setup parts.now) (P.layout parts.now) (Begin item rank place) f)) }
+    ensures mail { machine.new.mail.left ≡ machine.old.mail.left }
+    ensures variables { machine.new.variables ≡ machine.old.variables }
+    ensures frames { machine.new.frames.left ≡ machine.old.frames.left }
+{
+    rank_state::in_place_shows::<KernelFault>();
+    machine.run_here(parts, constants, item, rank, place, saved, locals);
+}
+
+/// A begin that is followed at once by its own end, where `room` has the values of all constants, and `here` says whether the
+/// element runs on the rank's own cells. It keeps them: no element changes a variable.
 pub fn in_place_with<P: Parts>(
     machine: &mut Machine,
     parts: &P,
@@ -309,10 +342,13 @@ pub fn in_place_with<P: Parts>(
     item: u32,
     rank: u32,
     place: u32,
+    here: bool,
 )
     requires sound { P.sound parts.now }
     requires planned { IsStep (by_place (P.setup parts.now) (P.layout parts.now)) (Begin item rank place) }
     requires space { HasRoom (P.span_count parts.now) (P.locals parts.now) (length (P.tables parts.now).constants) room.old }
+    requires alone { here ≡ true → (spans : List Span)
+        × AreWindows (P.setup parts.now) (P.layout parts.now) (P.tables parts.now) item rank place spans [] }
     requires values { room.old.constants.items ≡ values_at machine.old.variables (P.tables parts.now).constants }
     requires shows { (f : Flat KernelFault) × Shows (P.setup parts.now) (P.layout parts.now) (P.tables parts.now) machine.old f }
     requires shut { pane_at machine.old.frames.panes rank place ≡ Shut }
@@ -326,6 +362,19 @@ pub fn in_place_with<P: Parts>(
     ensures mail { machine.new.mail.left ≡ machine.old.mail.left }
     ensures frames { machine.new.frames.left ≡ machine.old.frames.left }
 {
+    if here {
+        here_on(
+            machine,
+            parts,
+            item,
+            rank,
+            place,
+            &room.constants,
+            &mut room.saved,
+            &mut room.locals,
+        );
+        return;
+    }
     room.spans.clear();
     let scalars = parts.windows(item, rank, place, &mut room.spans);
     in_place_on(
@@ -365,5 +414,6 @@ pub fn in_place<P: Parts>(
     ensures space { HasRoom (P.span_count parts.now) (P.locals parts.now) (length (P.tables parts.now).constants) room.new }
 {
     read_constants(machine, parts, &mut room.constants);
-    in_place_with(machine, parts, room, item, rank, place);
+    let here = parts.runs_here(item, rank, place);
+    in_place_with(machine, parts, room, item, rank, place, here);
 }

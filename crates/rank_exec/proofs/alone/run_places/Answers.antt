@@ -18,6 +18,7 @@ loop-i-init g c = record {
     spans_fit = c.requires.space.spans_fit;
     owned_fit = c.requires.space.owned_fit;
     locals_fit = c.requires.space.locals_fit;
+    saved_fits = c.requires.space.saved_fits;
     constants_fit = c.read_constants.ensures.count;
   };
 }
@@ -46,3 +47,12 @@ loop-i-preserved g c = record {
 pub returns-clause-done : goal.returns-clause-done
 returns-clause-done g c =
     subst (λ z. Done (g.P.Parts.setup c.args.parts.now) (g.P.Parts.layout c.args.parts.now) (g.P.Parts.tables c.args.parts.now) (alone c.args.item c.args.rank z) c.args.machine.now c.loop-i.machine) (take_all c.loop-i.i c.args.places.now (omega (arith, c.loop-i-test.false))) c.loop-i.invariant.done
+
+pub run_here-here-requires-clause-planned : goal.run_here-here-requires-clause-planned
+run_here-here-requires-clause-planned g c some =
+    (c.requires.ready (alone c.args.item c.args.rank (take 0 c.args.places.now)) c.args.item c.args.rank (get_or c.args.places.now 0 0 ∷ [])
+    (End c.args.item c.args.rank (get_or c.args.places.now 0 0) ∷ alone c.args.item c.args.rank (drop 1 c.args.places.now)) (alone_at c.args.item c.args.rank c.args.places.now 0 some) c.args.machine.now
+    (subst (λ z. Done (g.P.Parts.setup c.args.parts.now) (g.P.Parts.layout c.args.parts.now) (g.P.Parts.tables c.args.parts.now) z c.args.machine.now c.args.machine.now) (sym (alone_none c.args.item c.args.rank c.args.places.now)) (done_none (g.P.Parts.setup c.args.parts.now) (g.P.Parts.layout c.args.parts.now) (g.P.Parts.tables c.args.parts.now) c.args.machine.now))).0.0
+
+pub in_place_with-requires-clause-alone : goal.in_place_with-requires-clause-alone
+in_place_with-requires-clause-alone g c here = c.run_here-here.ensures here c.args.rank (get_or c.args.places.now c.loop-i.i 0) (c.requires.ready (alone c.args.item c.args.rank (take c.loop-i.i c.args.places.now)) c.args.item c.args.rank (get_or c.args.places.now c.loop-i.i 0 ∷ []) (End c.args.item c.args.rank (get_or c.args.places.now c.loop-i.i 0) ∷ alone c.args.item c.args.rank (drop (suc c.loop-i.i) c.args.places.now)) (alone_at c.args.item c.args.rank c.args.places.now c.loop-i.i c.loop-i-test.true) c.loop-i.machine c.loop-i.invariant.done).0.0
