@@ -37,4 +37,6 @@ pub mod PlanPlaces
 pub mod ArgVariables
 pub mod Runnables
 pub mod MostPairs
+mod HereStands
+mod HereParts
 mod JobTargets

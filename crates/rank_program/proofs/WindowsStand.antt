@@ -11,12 +11,12 @@ use Rattle.local_mesh.specs.declared.types.RankMesh.{RankMesh}
 use Rattle.local_mesh.specs.LocalMesh.{executed_in, AreLocalTargets, IsRankMesh}
 use Rattle.local_mesh.specs.Numbers.{RankMeshesAreClosed}
 use Rattle.local_mesh.specs.Lists.{sets_of, IsLocal}
-use Rattle.schedule_model.specs.Cells.{DatCell}
+use Rattle.schedule_model.specs.Cells.{Data, DatCell}
 use Rattle.bound_program.specs.declared.sites.Arg.{Arg}
 use Rattle.bound_program.specs.declared.sites.Arg.TheVariants.{Dat, Global}
 use Rattle.bound_program.specs.Values.{BoundValue, SiteValue, no_site}
 use Rattle.bound_program.specs.Fits.{ArgFits, ViaFits, SiteFits, site_at}
-use Rattle.run_model.specs.Windows.{Reached, Element, Whole, is_same, reached, element_by, different, cells_in}
+use Rattle.run_model.specs.Windows.{Reached, Element, Whole, is_same, reached, element_by, different, cell_in, cells_in}
 use Rattle.loop_plan.specs.Values.{PlanValue}
 use Rattle.bound_plan.specs.Laws.{Planned}
 use Rattle.bound_plan.specs.Places.{originals, original_at, local_at, bases_of, cells_of, cell_at}
@@ -28,7 +28,7 @@ use Rattle.rank_state.specs.Windows.{cells_from, span_cells, Marked}
 use Rattle.rank_program.specs.Seen.{has}
 use Rattle.rank_program.specs.Placed.{is_dat}
 use Rattle.rank_program.specs.DatWindows.{local_by, begins_at, with_span, spans_after, ViaHere, ArgHere}
-use Rattle.rank_program.specs.WindowLaws.{arg_span, AreDatWindows, IsPlaceOf, DatWindowsStand, ArgsAreHere}
+use Rattle.rank_program.specs.WindowLaws.{arg_span, AreDatWindows, IsPlaceOf, DatWindowsStand, ArgsAreHere, ArgsHaveCells}
 use Rattle.rank_program.proofs.SeenSoFar.{same_true, has_of}
 use Rattle.rank_program.proofs.MessageCells.{one_element}
 use Rattle.rank_program.proofs.MessagesStand.{bases_at}
@@ -157,6 +157,20 @@ module _ (b : BoundValue) (o : Owners) (meshes : List RankMesh) (r x : ℕ) (m :
       ap (λ z. writes (cell_at meshes b.mesh r (slice_index z d + local_by b.mesh m x v * dat_dim b.mesh d + j)).dat) bases
       ∙ ap (λ (c : DatCell). writes c.dat) (stand.values d (local_by b.mesh m x v) j fit.0 local.0 lj)
 
+  -- the cells of an argument's span are those that the element reaches by it
+  span_cell : (y : Arg) → ArgFits b set y → (j : ℕ) → j < (arg_span b.mesh m x writes y).dim
+      → Data (cell_at meshes b.mesh r ((arg_span b.mesh m x writes y).at + j)) ≡ cell_in (reached b e y) j
+  span_cell (Global v a) fit j lj = absurd (omega arith)
+  span_cell (Dat d v a) fit j lj =
+      let local = local_is d v fit.2 in
+      ap (λ z. Data (cell_at meshes b.mesh r (slice_index z d + local_by b.mesh m x v * dat_dim b.mesh d + j))) bases
+      ∙ ap Data (stand.values d (local_by b.mesh m x v) j fit.0 local.0 lj)
+      ∙ ap (λ y. Data (record { dat = d; element = y; component = j })) local.1
+
+  pub all_cells : All (λ y. (j : ℕ) → j < (arg_span b.mesh m x writes y).dim
+      → Data (cell_at meshes b.mesh r ((arg_span b.mesh m x writes y).at + j)) ≡ cell_in (reached b e y) j) site.args
+  all_cells i y lt = span_cell (get_or site.args i y) (fit.args i y lt)
+
   all_marked : (xs : List Arg) → All (ArgFits b set) xs → (seen : List Span) → Marked (λ i. writes (cell_at meshes b.mesh r i).dat) seen
       → Marked (λ i. writes (cell_at meshes b.mesh r i).dat) (spans_after (arg_span b.mesh m x writes) xs seen)
   all_marked [] fits seen h = h
@@ -228,6 +242,11 @@ module _ (dats : (g : MeshValue) → IsMesh g → (d : ℕ) → d < dat_count g 
   windows_at writes = dat_windows b o meshes r x m writes (dats b.mesh pl.fits.mesh) (standing b o n meshes p pl r here.rank)
       (bases_at meshes r m there here.part) targets_at (site_at b s) fits here.place held_at
 
+  pub cells_here : (writes : ℕ → Bool) → All (λ y. (j : ℕ) → j < (arg_span b.mesh m x writes y).dim
+      → Data (cell_at meshes b.mesh r ((arg_span b.mesh m x writes y).at + j)) ≡ cell_in (reached b (original_at meshes r (site_at b s).set x) y) j) (site_at b s).args
+  cells_here writes = all_cells b o meshes r x m writes (dats b.mesh pl.fits.mesh) (standing b o n meshes p pl r here.rank)
+      (bases_at meshes r m there here.part) targets_at (site_at b s) fits here.place held_at
+
   pub args_at : All (ArgHere b.mesh m x) (site_at b s).args
   args_at = args_here b o meshes r x m (λ d. false) (dats b.mesh pl.fits.mesh) (standing b o n meshes p pl r here.rank)
       (bases_at meshes r m there here.part) targets_at (site_at b s) fits here.place held_at
@@ -240,3 +259,7 @@ windows_stand dats standing closed b o n meshes p pl s r x m writes here = windo
 pub args_stand : ((g : MeshValue) → IsMesh g → (d : ℕ) → d < dat_count g → IsDatAt g d)
     → ElementsStand → RankMeshesAreClosed → ArgsAreHere
 args_stand dats standing closed b o n meshes p pl s r x m here = args_at dats standing closed b o n meshes p pl s r x m here
+
+pub args_have_cells : ((g : MeshValue) → IsMesh g → (d : ℕ) → d < dat_count g → IsDatAt g d)
+    → ElementsStand → RankMeshesAreClosed → ArgsHaveCells
+args_have_cells dats standing closed b o n meshes p pl s r x m writes here = cells_here dats standing closed b o n meshes p pl s r x m here writes

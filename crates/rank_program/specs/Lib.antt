@@ -21,3 +21,4 @@ pub mod ProgramLaws
 pub mod Runnables
 pub mod Runs
 pub mod Targets
+pub mod Here

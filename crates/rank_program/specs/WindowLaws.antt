@@ -11,7 +11,8 @@ use Rattle.bound_program.specs.declared.sites.Arg.TheVariants.{Dat, Global}
 use Rattle.bound_program.specs.Values.{BoundValue, SiteValue}
 use Rattle.bound_program.specs.Fits.{site_at}
 use Rattle.bound_program.specs.Classes.{modifies}
-use Rattle.run_model.specs.Windows.{window_cells}
+use Rattle.schedule_model.specs.Cells.{Data}
+use Rattle.run_model.specs.Windows.{window_cells, cell_in, reached}
 use Rattle.run_model.specs.Programs.{item_at, loop_of}
 use Rattle.run_model.specs.Laws.{site_of}
 use Rattle.loop_plan.specs.Values.{PlanValue}
@@ -70,6 +71,17 @@ ArgsAreHere =
     → (s r x : ℕ) (m : RankMesh)
     → IsPlaceOf b o meshes s r x m
     → All (ArgHere b.mesh m x) (site_at b s).args
+
+-- the cells of an argument's span are those that the element reaches by it
+abbrev pub ArgsHaveCells : Type 0
+ArgsHaveCells =
+    (b : BoundValue) (o : Owners) (n : Perms) (meshes : List RankMesh) (p : PlanValue)
+    → Planned b o n meshes p
+    → (s r x : ℕ) (m : RankMesh) (writes : ℕ → Bool)
+    → IsPlaceOf b o meshes s r x m
+    → All (λ y. (j : ℕ) → j < (arg_span b.mesh m x writes y).dim
+    → Data (cell_at meshes b.mesh r ((arg_span b.mesh m x writes y).at + j))
+    ≡ cell_in (reached b (original_at meshes r (site_at b s).set x) y) j) (site_at b s).args
 
 -- together with the scalars of the loop they are the windows of the element that a step begins
 abbrev pub ElementWindowsStand : Type 0

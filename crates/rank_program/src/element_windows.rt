@@ -13,8 +13,8 @@ use local_mesh::RankMesh;
 use mesh_decl::Mesh;
 use rank_state::Span;
 
-// The local number of the element that the one at the place reaches directly, or by a map.
-fn local_by(mesh: &Mesh, part: &RankMesh, place: u32, via: Option<Via>) -> u32
+/// The local number of the element that the one at the place reaches directly, or by a map.
+pub fn local_by(mesh: &Mesh, part: &RankMesh, place: u32, via: Option<Via>) -> u32
     requires { ViaHere mesh.now part.now place via }
     ensures { result ≡ local_by mesh.now part.now place via }
 {

@@ -1,6 +1,6 @@
 // What the spans of messages and windows say.
 ghost use Rattle.rank_program.specs.MessageLaws.{ExportsStand, ImportsStand};
-ghost use Rattle.rank_program.specs.WindowLaws.{ArgsAreHere, DatWindowsStand, ElementWindowsStand};
+ghost use Rattle.rank_program.specs.WindowLaws.{ArgsAreHere, ArgsHaveCells, DatWindowsStand, ElementWindowsStand};
 ghost use Rattle.rank_program.specs.First.{FirstCellsStand, MeshesAreClosed};
 
 use crate::laws_owned::frames_fit;
@@ -19,10 +19,11 @@ pub fn messages_stand()
 }
 
 /// A law: the spans of the arguments on dats by local numbers, each once, are where the windows on dats of an element
-/// stand on a rank that executes it. All of them are within the rank's buffer.
+/// stand on a rank that executes it. All of them are within the rank's buffer, and have the cells that the element reaches.
 pub fn windows_stand()
     ensures stand { DatWindowsStand }
     ensures here { ArgsAreHere }
+    ensures cells { ArgsHaveCells }
 {
     mesh_decl::declarations_hold();
     local_mesh::rank_meshes_are_closed();

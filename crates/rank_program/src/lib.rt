@@ -9,6 +9,7 @@ mod elements;
 mod exchanges;
 mod first;
 mod frame_table;
+mod here;
 mod items;
 mod job_targets;
 mod joins;

@@ -2,8 +2,10 @@
 
 use crate::begun::{original_at, owns_at, push_element};
 use crate::exchanges::{push_received, push_sent};
+use crate::here::{is_alone, run_alone};
 use crate::laws_tables::{places_stand, slots_stand};
 use crate::program::DistributedProgram;
+use kernel_types::KernelFault;
 use rank_exec::parts::Parts;
 use rank_state::{Operation, Scalar, Span};
 
@@ -52,6 +54,23 @@ impl<'a> Parts for DistributedProgram<'a> {
 
     fn windows(&self, item: u32, rank: u32, place: u32, spans: &mut Vec<Span>) -> &[Scalar] {
         push_element(self, item, rank, place, spans)
+    }
+
+    fn runs_here(&self, item: u32, rank: u32, place: u32) -> bool {
+        is_alone(self, item, rank, place)
+    }
+
+    fn run_here(
+        &self,
+        item: u32,
+        rank: u32,
+        place: u32,
+        constants: &[i32],
+        memory: &mut [i32],
+        saved: &mut [i32],
+        scratch: &mut [i32],
+    ) -> Option<KernelFault> {
+        run_alone(self, item, rank, place, constants, memory, saved, scratch)
     }
 
     fn exports(&self, item: u32, from: u32, to: u32, spans: &mut Vec<Span>) {

@@ -14,7 +14,7 @@ put_windows-cells-requires-clause-there c =
 
 pub returns : goal.returns
 returns c =
-    as_core c.run_on.new.memory c.run_on.result ∙ ap core_of c.run_on.ensures
+    as_core c.run_on.new.memory c.run_on.result ∙ ap core_of c.run_on.ensures.ran
     ∙ ap (λ ts. core_of (kernel_meaning ts c.args.constants.now c.args.code.now.kernel.now (c.args.windows.now ∷ []))) c.put_windows-cells.ensures.places
     ∙ ap
     (λ xs. core_of (kernel_meaning (frame_windows (bound_of c.args.bound.now) xs c.args.element) c.args.constants.now c.args.code.now.kernel.now (c.args.windows.now ∷ [])))
