@@ -2,6 +2,7 @@ pub mod PlaceReads
 pub mod PlanReads
 pub mod Holds
 pub mod FreshItems
+pub mod ItemPairs
 pub mod Loops
 pub mod PlanMarks
 pub mod Owning
