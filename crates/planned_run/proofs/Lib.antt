@@ -4,4 +4,3 @@ pub mod Peaking
 pub mod SameProgram
 pub mod StandardPeak
 pub mod Messages
-pub mod InSequence

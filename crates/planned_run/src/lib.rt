@@ -1,7 +1,6 @@
 //! Programs on several ranks that take their steps in an order that the checker accepts.
 #![tactic(auto)]
 
-mod alone;
 mod orders;
 mod peaks;
 mod rooms;

@@ -22,7 +22,6 @@ ghost use Rattle.rank_program.specs.Runs.{IsRunBy};
 ghost use Rattle.schedule_check.specs.Mail.{plan_cells};
 ghost use Rattle.planned_run.specs.Orders.{InOrder, CanTake};
 
-use crate::alone::{is_sequence, run_alone};
 use crate::orders::Order;
 use crate::peaks::peaks_are_room;
 use crate::rooms::standard_room;
@@ -192,49 +191,12 @@ fn run_in_order<R: Threads + Sync, G: Gate>(
     }
 }
 
-// Runs a bound program by the steps of a plan on simulated ranks. An error is want of memory.
-fn run_machine<R: Threads + Sync, G: Gate>(
-    rt: &R,
-    alloc: Global,
-    bound: &Bound,
-    owners: &Owners,
-    halos: &Halos,
-    meshes: &[RankMesh],
-    plan: &Plan,
-    order: &Order<'_>,
-    workers: u32,
-    gate: &G,
-    dumps: bool,
-) -> Result<Outcome, OutOfMemory>
-    requires workers { 0 < workers }
-    requires fits { Fits (bound_of bound.now) }
-    requires obey { AllObey (bound_of bound.now) }
-    requires start { StartsInRange (bound_of bound.now) }
-    requires spread { (n : Perms)
-        × IsDistributed (bound_of bound.now).mesh owners.now n meshes.now
-        × AreHalos (bound_of bound.now).mesh owners.now halos.now }
-    requires plan { Proper (bound_of bound.now) meshes.now (plan_of plan.now) }
-    requires order { CanTake (step_outline (bound_of bound.now) meshes.now (plan_of plan.now))
-        (plan_cells (bound_of bound.now) meshes.now (plan_of plan.now)) order.now }
-    ensures { IfOk result (λ x. (l : List Step)
-        → InOrder (step_outline (bound_of bound.now) meshes.now (plan_of plan.now)) order.now l
-        → IsRunBy (bound_of bound.now) (dump_of dumps (bound_of bound.now) owners.now meshes.now (plan_of plan.now) l) x) }
-{
-    let lists = local_lists(alloc, &bound.mesh, owners, halos, meshes)?;
-    let codes = compile_all(alloc, &bound.kernels)?;
-    let program = DistributedProgram::new(alloc, bound, owners, meshes, &lists, plan, &codes)?;
-    let outcome = run_in_order(rt, alloc, &program, order, workers, gate, dumps)?;
-    Ok(outcome)
-}
-
 /// Runs a bound program on ranks with these owners, halos and local meshes, by this order of the steps of a plan for them: the
 /// printed bytes and the first fault are those of running each loop one element after another in its set's original order.
 /// Where `dumps` and no fault stops the run, a dump of what the ranks hold after these steps stands behind the printed bytes.
 ///
 /// Begins that come one after another are done in groups by the `workers`, at least 1, on threads of `rt`; `gate` is told of
-/// each begin of a group just before it. The answer is the same for every number of workers and every gate. On one rank the
-/// standard order exchanges nothing, and with one worker ends each element before the next begins: such a run without a dump
-/// is one of loops over the elements, and keeps no steps.
+/// each begin of a group just before it. The answer is the same for every number of workers and every gate.
 ///
 /// # Errors
 /// Want of memory alone.
@@ -265,12 +227,9 @@ pub fn run_on_ranks<R: Threads + Sync, G: Gate>(
         → InOrder (step_outline (bound_of bound.now) meshes.now (plan_of plan.now)) order.now l
         → IsRunBy (bound_of bound.now) (dump_of dumps (bound_of bound.now) owners.now meshes.now (plan_of plan.now) l) x) }
 {
-    if is_sequence(order, meshes, workers, dumps) {
-        let alone = run_alone(alloc, bound, dumps)?;
-        return Ok(alone);
-    }
-    let outcome = run_machine(
-        rt, alloc, bound, owners, halos, meshes, plan, order, workers, gate, dumps,
-    )?;
+    let lists = local_lists(alloc, &bound.mesh, owners, halos, meshes)?;
+    let codes = compile_all(alloc, &bound.kernels)?;
+    let program = DistributedProgram::new(alloc, bound, owners, meshes, &lists, plan, &codes)?;
+    let outcome = run_in_order(rt, alloc, &program, order, workers, gate, dumps)?;
     Ok(outcome)
 }

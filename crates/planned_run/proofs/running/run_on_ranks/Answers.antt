@@ -3,7 +3,7 @@ use Rattle.local_mesh.specs.Lists.{AreLocalLists}
 use Rattle.bound_program.specs.Values.{bound_of}
 use Rattle.loop_plan.specs.Values.{plan_of}
 use Rattle.planned_run.proofs.SameProgram.{told, can_take}
-use Rattle.planned_run.proofs.running.run_machine.Goals as goal
+use Rattle.planned_run.proofs.running.run_on_ranks.Goals as goal
 
 pub new-requires-clause-runs : goal.new-requires-clause-runs
 new-requires-clause-runs g c =

@@ -1,9 +1,0 @@
-pub mod ElementSteps
-pub mod ItemEnds
-pub mod Runs
-pub mod ArgPlaces
-pub mod Stores
-pub mod Copies
-pub mod Layouts
-pub mod ActSteps
-pub mod SiteFacts
