@@ -65,7 +65,7 @@ pub fn cells_of(meaning: Option<Meaning>) -> Cells
     }
 }
 
-// The same in a box.
+// The expression that `resolved` gives, in a box.
 #[cycle(resolved)]
 fn resolved_box(
     alloc: Global,

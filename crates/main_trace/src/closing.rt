@@ -18,7 +18,7 @@ fn told_value(told: &[i32], k: usize) -> i32
     if k < told.len() { told[k] } else { 0 }
 }
 
-// The same in a box.
+// The expression that `closed_expr` gives, in a box.
 #[cycle(closed)]
 fn closed_box(alloc: Global, e: &RExpr, told: &[i32]) -> Result<Box<RExpr>, OutOfMemory>
     ensures { IfOk result (λ x. rexpr_of x.value ≡ closed told.now (rexpr_of e.now)) }

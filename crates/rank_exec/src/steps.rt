@@ -333,8 +333,8 @@ fn here_on<P: Parts>(
     machine.run_here(parts, constants, item, rank, place, saved, locals);
 }
 
-/// A begin that is followed at once by its own end, where `room` has the values of all constants, and `here` says whether the
-/// element runs on the rank's own cells. It keeps them: no element changes a variable.
+/// A begin that is followed at once by its own end, where `room` has the values of all constants and keeps them, since no element
+/// changes a variable. `here` says whether the element runs on the rank's own cells, which asks that it has no windows on variables.
 pub fn in_place_with<P: Parts>(
     machine: &mut Machine,
     parts: &P,
