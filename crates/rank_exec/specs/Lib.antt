@@ -1,7 +1,4 @@
-pub mod Slots
-pub mod Letters
-pub mod Stops
 pub mod Driving
 pub mod Copies
-pub mod Rooms
+pub mod RunRooms
 pub mod Tasks

@@ -1,35 +1,22 @@
 // Elements that begin and end one after another.
 
-ghost use Rattle.std.specs.Prelude.{◌≡◌, ◌<◌, ◌++◌, ℕ, true, List, [], length, slice_index};
+ghost use Rattle.std.specs.Prelude.{◌≡◌, ◌++◌, List, length};
 ghost use Rattle.kernel_types.specs.declared.faults.KernelFault.{KernelFault};
 ghost use Rattle.schedule_steps.specs.declared.step.Step.{Step};
-ghost use Rattle.schedule_steps.specs.declared.step.Step.TheVariants.{Begin};
-ghost use Rattle.schedule_steps.specs.Steps.{IsStep};
 ghost use Rattle.step_orders.specs.Alone.{alone};
-ghost use Rattle.flat_machine.specs.Layout.{by_place};
 ghost use Rattle.flat_machine.specs.Flat.{Flat};
-ghost use Rattle.rank_state.specs.declared.spans.Span.{Span};
-ghost use Rattle.rank_exec.specs.Rooms.{HasRoom, HasRunRoom};
-ghost use Rattle.rank_state.specs.Shows.{AreWindows, Shows};
+ghost use Rattle.rank_state.specs.Shows.{Shows};
+ghost use Rattle.rank_machine.specs.Rooms.{HasRoom};
+ghost use Rattle.rank_exec.specs.RunRooms.{HasRunRoom};
 ghost use Rattle.rank_exec.specs.Driving.{Done, ComeReady};
 
-use crate::machine::Machine;
-use crate::parts::Parts;
-use crate::room::{Room, RunRoom};
-use crate::steps::{in_place_with, read_constants};
+use crate::run_room::RunRoom;
 use crate::stream::Steps;
 use kernel_types::KernelFault;
-
-// Whether the elements at the places, the first of which begins, run on the rank's own cells.
-fn run_here<P: Parts>(parts: &P, item: u32, rank: u32, places: &[u32]) -> bool
-    requires sound { P.sound parts.now }
-    requires planned { 0 < length places.now
-        → IsStep (by_place (P.setup parts.now) (P.layout parts.now)) (Begin item rank (slice_index places.now 0)) }
-    ensures { result ≡ true → (r x : ℕ) → IsStep (by_place (P.setup parts.now) (P.layout parts.now)) (Begin item r x)
-        → (spans : List Span) × AreWindows (P.setup parts.now) (P.layout parts.now) (P.tables parts.now) item r x spans [] }
-{
-    !places.is_empty() && parts.runs_here(item, rank, places[0])
-}
+use rank_machine::machine::Machine;
+use rank_machine::parts::Parts;
+use rank_machine::room::Room;
+use rank_machine::steps::read_constants;
 
 // Begins of one item and rank, each followed at once by its own end. The constants are read once: no element changes a variable.
 fn run_places<P: Parts>(
@@ -47,11 +34,12 @@ fn run_places<P: Parts>(
     ensures done { Done (P.setup parts.now) (P.layout parts.now) (P.tables parts.now) (alone item rank places.now) machine.old machine.new }
     ensures space { HasRoom (P.span_count parts.now) (P.locals parts.now) (length (P.tables parts.now).constants) room.new }
 {
-    read_constants(machine, parts, &mut room.constants);
-    let here = run_here(parts, item, rank, places);
-    for i in 0..places.len() {
-        in_place_with(machine, parts, room, item, rank, places[i], here);
+    if places.is_empty() {
+        return;
     }
+    rank_state::in_place_shows::<KernelFault>();
+    read_constants(machine, parts, &mut room.constants);
+    machine.in_place(parts, item, rank, places, room);
 }
 
 /// The steps that come next, as long as the stream tells that they are of elements that begin and end one after another.

@@ -8,28 +8,31 @@ ghost use Rattle.schedule_model.specs.Laws.{Lawful, Coloured};
 ghost use Rattle.schedule_model.specs.Sequential.{sequential};
 ghost use Rattle.flat_machine.specs.Layout.{by_place};
 ghost use Rattle.flat_machine.specs.Flat.{Flat, StartsFlat, flat_step, flat_from};
-ghost use Rattle.rank_exec.specs.Rooms.{HasRoom, HasRunRoom};
+ghost use Rattle.rank_machine.specs.Rooms.{HasRoom};
+ghost use Rattle.rank_exec.specs.RunRooms.{HasRunRoom};
 ghost use Rattle.rank_state.specs.Shows.{Shows};
-ghost use Rattle.rank_exec.specs.Stops.{stop_in};
+ghost use Rattle.rank_machine.specs.Stops.{stop_in};
 ghost use Rattle.rank_exec.specs.Driving.{Ready, After, posts, takes, opens, shuts, FitsPeak, AsSequential};
 
 use crate::group::run_begins;
 use crate::items::Items;
 use crate::joins::join;
-use crate::machine::{Machine, Stop};
-use crate::room::{Room, RunRoom};
-use crate::steps;
+use crate::run_room::RunRoom;
 use crate::stream::{Steps, next_of};
 use kernel_types::KernelFault;
 use op_num::OutOfMemory;
 use par_exec::Gate;
+use rank_machine::machine::Machine;
+use rank_machine::room::Room;
+use rank_machine::stop::Stop;
+use rank_machine::{messages, steps};
 use schedule_steps::Step;
 use std::alloc::Global;
 use std::marker::Sync;
 use std::thread::Threads;
 
-/// One step.
-pub fn take<P: Items>(
+// One step.
+fn take<P: Items>(
     alloc: Global,
     machine: &mut Machine,
     parts: &P,
@@ -51,11 +54,11 @@ pub fn take<P: Items>(
 {
     match step {
         Step::Send { item, from, to } => {
-            steps::send(machine, parts, room, item, from, to);
+            messages::send(machine, parts, room, item, from, to);
             Ok(None)
         }
         Step::Recv { item, rank, from } => {
-            steps::recv(machine, parts, room, item, rank, from);
+            messages::recv(machine, parts, room, item, rank, from);
             Ok(None)
         }
         Step::Begin { item, rank, place } => {
@@ -70,8 +73,8 @@ pub fn take<P: Items>(
     }
 }
 
-/// The steps of an accepted list, up to the first that stops.
-pub fn run<R: Threads + Sync, G: Gate, P: Items, S: Steps>(
+// The steps of an accepted list, up to the first that stops.
+fn run<R: Threads + Sync, G: Gate, P: Items, S: Steps>(
     rt: &R,
     alloc: Global,
     machine: &mut Machine,

@@ -6,7 +6,8 @@ ghost use Rattle.schedule_steps.specs.declared.step.Step.{Step};
 ghost use Rattle.schedule_steps.specs.declared.step.Step.TheVariants.{Begin, End};
 ghost use Rattle.flat_machine.specs.Layout.{by_place};
 ghost use Rattle.flat_machine.specs.Flat.{Flat, flat_from};
-ghost use Rattle.rank_exec.specs.Rooms.{HasRoom, HasRunRoom, most_begins};
+ghost use Rattle.rank_machine.specs.Rooms.{HasRoom};
+ghost use Rattle.rank_exec.specs.RunRooms.{HasRunRoom, most_begins};
 ghost use Rattle.rank_state.specs.Shows.{Shows};
 ghost use Rattle.rank_state.specs.Groups.{begins, Distinct, Planned, AllShut};
 ghost use Rattle.kernel_jobs.specs.Jobs.{RanIn, part, task_at};
@@ -14,17 +15,18 @@ ghost use Rattle.rank_exec.specs.Tasks.{HasGroupRoom};
 ghost use Rattle.rank_exec.specs.Driving.{Done, ComeReady, to_come};
 
 use crate::alone::run_alone;
-use crate::core_run::Kernels;
 use crate::group_room::GroupRoom;
 use crate::group_steps::{load_all, open_all};
-use crate::machine::Machine;
-use crate::parts::Parts;
-use crate::room::{MOST_BEGINS, Room, RunRoom};
-use crate::steps::{in_place, read_constants};
+use crate::run_room::{MOST_BEGINS, RunRoom};
 use crate::stream::{Steps, next_of};
 use kernel_jobs::{Targets, Task, run_tasks};
 use kernel_types::KernelFault;
 use par_exec::Gate;
+use rank_machine::machine::Machine;
+use rank_machine::parts::Parts;
+use rank_machine::room::Room;
+use rank_machine::steps::{in_place, read_constants};
+use rank_memory::core_run::Kernels;
 use schedule_steps::Step;
 use std::marker::Sync;
 use std::thread::Threads;
@@ -200,8 +202,8 @@ fn begin_in(step: Option<Step>, item: u32, rank: u32) -> Option<u32>
     }
 }
 
-/// Adds the places of the begins of the item and rank that come next, while a group has room for them, and answers the step
-/// after them.
+// Adds the places of the begins of the item and rank that come next, while a group has room for them, and answers the step
+// after them.
 fn collect<S: Steps>(steps: &mut S, item: u32, rank: u32, places: &mut Vec<u32>) -> Option<Step>
     requires space { most_begins ≤ vec_capacity places.old }
     requires few { length places.old.items ≤ most_begins }
@@ -224,7 +226,7 @@ fn collect<S: Steps>(steps: &mut S, item: u32, rank: u32, places: &mut Vec<u32>)
     }
 }
 
-/// The step is this end.
+// The step is this end.
 fn is_end(step: Option<Step>, item: u32, rank: u32, place: u32) -> bool
     ensures { result ≡ true → step ≡ Some (End item rank place) }
 {

@@ -11,16 +11,16 @@ ghost use Rattle.rank_state.specs.Spans.{cells_at};
 ghost use Rattle.rank_state.specs.Frames.{Shut, pane_at};
 ghost use Rattle.rank_state.specs.Groups.{begins, Distinct, Planned, AllShut};
 ghost use Rattle.rank_state.specs.Shows.{Shows};
-ghost use Rattle.rank_exec.specs.Rooms.{HasRoom};
+ghost use Rattle.rank_machine.specs.Rooms.{HasRoom};
 ghost use Rattle.kernel_jobs.specs.Jobs.{part, task_at};
 ghost use Rattle.rank_exec.specs.Tasks.{IsLoaded, IsRun};
 
-use crate::machine::Machine;
-use crate::parts::Parts;
-use crate::room::Room;
-use crate::steps::begin;
 use kernel_jobs::Task;
 use kernel_types::KernelFault;
+use rank_machine::machine::Machine;
+use rank_machine::parts::Parts;
+use rank_machine::room::Room;
+use rank_machine::steps::begin;
 
 // The task of a begin, with its element's windows in the window.
 fn load_one<P: Parts>(

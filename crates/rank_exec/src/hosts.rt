@@ -11,15 +11,16 @@ ghost use Rattle.bound_program.specs.Values.{Host as HostItem, Print, act_of};
 ghost use Rattle.run_model.specs.Hosts.{dat_cells};
 ghost use Rattle.run_model.specs.Programs.{item_at};
 ghost use Rattle.rank_state.specs.Shows.{Shows};
-ghost use Rattle.rank_exec.specs.Stops.{stop_in};
+ghost use Rattle.rank_machine.specs.Stops.{stop_in};
 ghost use Rattle.rank_exec.specs.Driving.{After, IsPrint, ItsCells};
 
 use crate::items::Items;
-use crate::machine::{Machine, Stop};
 use bound_program::Act;
 use host_acts::Variables;
 use kernel_types::KernelFault;
 use op_num::{OutOfMemory, Text};
+use rank_machine::machine::Machine;
+use rank_machine::stop::Stop;
 use std::alloc::Global;
 
 // Appends the values of an element of a dat, from its owner.

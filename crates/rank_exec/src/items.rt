@@ -13,8 +13,8 @@ ghost use Rattle.rank_state.specs.Joins.{AreReduced};
 ghost use Rattle.rank_state.specs.Ordered.{AreOwned};
 ghost use Rattle.rank_exec.specs.Copies.{IsOwnersCopy};
 
-use crate::parts::Parts;
 use bound_program::Bound;
+use rank_machine::parts::Parts;
 use rank_state::{Owned, Scalar};
 
 /// The items that are joins, and the program that they are of. No call takes memory.

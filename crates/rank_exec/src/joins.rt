@@ -14,22 +14,23 @@ ghost use Rattle.rank_state.specs.Core.{fault_of};
 ghost use Rattle.rank_state.specs.Indices.{values_at};
 ghost use Rattle.rank_state.specs.Ordered.{AreOwned, run_of, left_in};
 ghost use Rattle.rank_state.specs.Shows.{Shows};
-ghost use Rattle.rank_exec.specs.Stops.{stop_in};
+ghost use Rattle.rank_machine.specs.Stops.{stop_in};
 ghost use Rattle.rank_exec.specs.Driving.{After, RanElement};
-ghost use Rattle.rank_exec.specs.Rooms.{HasRoom};
+ghost use Rattle.rank_machine.specs.Rooms.{HasRoom};
 
 use crate::hosts::run_host;
 use crate::items::Items;
-use crate::machine::{Machine, Stop};
-use crate::room::Room;
-use crate::steps::read_constants;
 use bound_program::Item;
 use kernel_types::KernelFault;
 use op_num::OutOfMemory;
+use rank_machine::machine::Machine;
+use rank_machine::room::Room;
+use rank_machine::steps::read_constants;
+use rank_machine::stop::Stop;
 use rank_state::Owned;
 use std::alloc::Global;
 
-/// A Reduce, where no fault of an earlier item is kept.
+// A Reduce, where no fault of an earlier item is kept.
 fn reduce<P: Items>(machine: &mut Machine, parts: &P, item: u32)
     requires sound { P.sound parts.now }
     requires kind { (P.setup parts.now).program.kind item ≡ Reduce }
@@ -117,8 +118,8 @@ fn elements_of<P: Items>(parts: &P, item: u32, site: u32) -> u32
     bound.mesh.set_size(bound.sites[site as usize].set)
 }
 
-/// An Ordered loop, where no fault of an earlier item is kept: its elements one after another, up to
-/// the first that faults.
+// An Ordered loop, where no fault of an earlier item is kept: its elements one after another, up to
+// the first that faults.
 fn run_ordered<P: Items>(
     machine: &mut Machine,
     parts: &P,

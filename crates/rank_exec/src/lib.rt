@@ -1,24 +1,16 @@
-// The distributed machine on flat memories.
+//! The run over the steps of a schedule, each of which shows a step of the machine on flat buffers.
 #![tactic(auto)]
 
-pub mod alone;
-pub mod core_run;
+mod alone;
 pub mod drive;
-pub mod frames;
-pub mod group;
-pub mod group_room;
-pub mod group_steps;
-pub mod hosts;
+mod group;
+mod group_room;
+mod group_steps;
+mod hosts;
 pub mod items;
-pub mod joins;
-pub mod machine;
-pub mod mail;
-pub mod owned;
-pub mod parts;
-pub mod reduce;
-pub mod room;
-pub mod scalars;
-pub mod spans;
-pub mod start;
-pub mod steps;
+mod joins;
+pub mod run_room;
 pub mod stream;
+
+pub use rank_machine::machine::Machine;
+pub use rank_machine::stop::Stop;

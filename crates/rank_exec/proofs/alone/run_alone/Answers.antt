@@ -1,7 +1,7 @@
 use Rattle.std.proofs.Common.{◌≤◌, ◌++◌, [], ◌∙◌, refl, sym, ap, subst, append_assoc}
 use Rattle.step_orders.specs.Alone.{alone}
 use Rattle.flat_machine.specs.Flat.{flat_from}
-use Rattle.rank_exec.specs.Rooms.{most_begins}
+use Rattle.rank_exec.specs.RunRooms.{most_begins}
 use Rattle.rank_exec.specs.Driving.{Done, ComeReady}
 use Rattle.rank_exec.proofs.Driving.{done_none, done_more, ready_after, ready_front}
 use Rattle.rank_exec.proofs.Grouping.{alone_fewer}

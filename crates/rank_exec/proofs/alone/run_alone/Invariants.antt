@@ -1,7 +1,7 @@
 use Rattle.std.proofs.Common.{◌≡◌, ◌++◌, List, length}
 use Rattle.schedule_steps.specs.declared.step.Step.{Step}
 use Rattle.rank_exec.specs.Driving.{Done}
-use Rattle.rank_exec.specs.Rooms.{HasRunRoom}
+use Rattle.rank_exec.specs.RunRooms.{HasRunRoom}
 use Rattle.rank_exec.proofs.alone.run_alone.Given as goal
 
 abbrev pub invariant-loop-of : goal.invariant-loop-of

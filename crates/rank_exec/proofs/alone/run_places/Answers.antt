@@ -1,58 +1,33 @@
-use Rattle.std.proofs.Common.{◌≤◌, suc, [], ◌∷◌, take, drop, get_or, sym, subst, arith}
+use Rattle.std.proofs.Common.{◌<◌, sym, subst, length, take, arith}
+use Rattle.std.proofs.lemmas.Bool.{eqb-false}
 use Rattle.std.proofs.lemmas.List.{take_all}
-use Rattle.schedule_steps.specs.declared.step.Step.TheVariants.{Begin, End}
+use Rattle.kernel_types.specs.declared.faults.KernelFault.{KernelFault}
 use Rattle.step_orders.specs.Alone.{alone}
-use Rattle.flat_machine.specs.Layout.{by_place}
-use Rattle.flat_machine.specs.Flat.{flat_from}
-use Rattle.rank_state.specs.Groups.{Planned, AllShut, Distinct}
+use Rattle.rank_state.specs.Machine.{State}
 use Rattle.rank_exec.specs.Driving.{Done}
-use Rattle.rank_exec.proofs.Driving.{done_none, done_more, done_pair}
-use Rattle.rank_exec.proofs.Grouping.{alone_at, alone_next, alone_none}
+use Rattle.rank_machine.specs.AloneRuns.{Reaches, share_of}
+use Rattle.rank_exec.proofs.AloneRuns.{all_begin, runs_done}
 use Rattle.rank_exec.proofs.alone.run_places.Goals as goal
 
-pub loop-i-init : goal.loop-i-init
-loop-i-init g c = record {
-  done = subst (λ z. Done (g.P.Parts.setup c.args.parts.now) (g.P.Parts.layout c.args.parts.now) (g.P.Parts.tables c.args.parts.now) z c.args.machine.now c.args.machine.now) (sym (alone_none c.args.item c.args.rank c.args.places.now)) (done_none (g.P.Parts.setup c.args.parts.now) (g.P.Parts.layout c.args.parts.now) (g.P.Parts.tables c.args.parts.now) c.args.machine.now);
-  values = c.read_constants.ensures.values;
-  space = record {
-    spans_fit = c.requires.space.spans_fit;
-    owned_fit = c.requires.space.owned_fit;
-    locals_fit = c.requires.space.locals_fit;
-    saved_fits = c.requires.space.saved_fits;
-    constants_fit = c.read_constants.ensures.count;
-  };
-}
-
-pub in_place_with-requires-clause-planned : goal.in_place_with-requires-clause-planned
-in_place_with-requires-clause-planned g c = (c.requires.ready (alone c.args.item c.args.rank (take c.loop-i.i c.args.places.now)) c.args.item c.args.rank (get_or c.args.places.now c.loop-i.i 0 ∷ []) (End c.args.item c.args.rank (get_or c.args.places.now c.loop-i.i 0) ∷ alone c.args.item c.args.rank (drop (suc c.loop-i.i) c.args.places.now)) (alone_at c.args.item c.args.rank c.args.places.now c.loop-i.i c.loop-i-test.true) c.loop-i.machine c.loop-i.invariant.done).0.0
-
-pub in_place_with-requires-clause-shut : goal.in_place_with-requires-clause-shut
-in_place_with-requires-clause-shut g c = (c.requires.ready (alone c.args.item c.args.rank (take c.loop-i.i c.args.places.now)) c.args.item c.args.rank (get_or c.args.places.now c.loop-i.i 0 ∷ []) (End c.args.item c.args.rank (get_or c.args.places.now c.loop-i.i 0) ∷ alone c.args.item c.args.rank (drop (suc c.loop-i.i) c.args.places.now)) (alone_at c.args.item c.args.rank c.args.places.now c.loop-i.i c.loop-i-test.true) c.loop-i.machine c.loop-i.invariant.done).1.0
-
-pub in_place_with-requires-clause-room : goal.in_place_with-requires-clause-room
-in_place_with-requires-clause-room g c = let now : Planned (by_place (g.P.Parts.setup c.args.parts.now) (g.P.Parts.layout c.args.parts.now)) c.args.item c.args.rank (get_or c.args.places.now c.loop-i.i 0 ∷ []) × AllShut c.loop-i.machine.frames.panes c.args.rank (get_or c.args.places.now c.loop-i.i 0 ∷ []) × Distinct (get_or c.args.places.now c.loop-i.i 0 ∷ []) × (1 ≤ c.loop-i.machine.frames.left) = c.requires.ready (alone c.args.item c.args.rank (take c.loop-i.i c.args.places.now)) c.args.item c.args.rank (get_or c.args.places.now c.loop-i.i 0 ∷ []) (End c.args.item c.args.rank (get_or c.args.places.now c.loop-i.i 0) ∷ alone c.args.item c.args.rank (drop (suc c.loop-i.i) c.args.places.now)) (alone_at c.args.item c.args.rank c.args.places.now c.loop-i.i c.loop-i-test.true) c.loop-i.machine c.loop-i.invariant.done in let left = now.3 in omega (arith, left)
-
-pub in_place_with-requires-clause-shows : goal.in_place_with-requires-clause-shows
-in_place_with-requires-clause-shows g c = (flat_from (g.P.Parts.setup c.args.parts.now) (g.P.Parts.layout c.args.parts.now) (alone c.args.item c.args.rank (take c.loop-i.i c.args.places.now)) c.requires.shows.0, c.loop-i.invariant.done.shows c.requires.shows.0 c.requires.shows.1)
-
-pub loop-i-preserved : goal.loop-i-preserved
-loop-i-preserved g c = record {
-  done = subst (λ z. Done (g.P.Parts.setup c.args.parts.now) (g.P.Parts.layout c.args.parts.now) (g.P.Parts.tables c.args.parts.now) z c.args.machine.now c.in_place_with.new.machine) (sym (alone_next c.args.item c.args.rank c.args.places.now c.loop-i.i c.loop-i-test.true))
-      (done_more (g.P.Parts.setup c.args.parts.now) (g.P.Parts.layout c.args.parts.now) (g.P.Parts.tables c.args.parts.now) (alone c.args.item c.args.rank (take c.loop-i.i c.args.places.now)) (Begin c.args.item c.args.rank (get_or c.args.places.now c.loop-i.i 0) ∷ End c.args.item c.args.rank (get_or c.args.places.now c.loop-i.i 0) ∷ []) c.args.machine.now c.loop-i.machine c.in_place_with.new.machine c.loop-i.invariant.done
-      (done_pair (g.P.Parts.setup c.args.parts.now) (g.P.Parts.layout c.args.parts.now) (g.P.Parts.tables c.args.parts.now) c.args.item c.args.rank (get_or c.args.places.now c.loop-i.i 0) c.loop-i.machine c.in_place_with.new.machine c.in_place_with.ensures.shows c.in_place_with.ensures.mail c.in_place_with.ensures.frames));
-  values = c.in_place_with.ensures.values;
-  space = c.in_place_with.ensures.space;
-}
+pub in_place-requires-clause-steps : goal.in_place-requires-clause-steps
+in_place-requires-clause-steps g c =
+    all_begin (g.P.Parts.setup c.args.parts.now) (g.P.Parts.layout c.args.parts.now) (g.P.Parts.tables c.args.parts.now) c.args.item c.args.rank
+    (c.in_place_shows.ensures (g.P.Parts.setup c.args.parts.now) (g.P.Parts.layout c.args.parts.now) (g.P.Parts.tables c.args.parts.now) (g.met.P.Parts.indexed c.args.parts.now c.requires.sound) (g.met.P.Parts.fits c.args.parts.now c.requires.sound) c.args.item c.args.rank)
+    (g.met.P.Parts.windowed c.args.parts.now c.requires.sound c.args.item c.args.rank) c.args.places.now c.args.machine.now c.requires.ready
 
 pub returns-clause-done : goal.returns-clause-done
 returns-clause-done g c =
-    subst (λ z. Done (g.P.Parts.setup c.args.parts.now) (g.P.Parts.layout c.args.parts.now) (g.P.Parts.tables c.args.parts.now) (alone c.args.item c.args.rank z) c.args.machine.now c.loop-i.machine) (take_all c.loop-i.i c.args.places.now (omega (arith, c.loop-i-test.false))) c.loop-i.invariant.done
-
-pub run_here-here-requires-clause-planned : goal.run_here-here-requires-clause-planned
-run_here-here-requires-clause-planned g c some =
-    (c.requires.ready (alone c.args.item c.args.rank (take 0 c.args.places.now)) c.args.item c.args.rank (get_or c.args.places.now 0 0 ∷ [])
-    (End c.args.item c.args.rank (get_or c.args.places.now 0 0) ∷ alone c.args.item c.args.rank (drop 1 c.args.places.now)) (alone_at c.args.item c.args.rank c.args.places.now 0 some) c.args.machine.now
-    (subst (λ z. Done (g.P.Parts.setup c.args.parts.now) (g.P.Parts.layout c.args.parts.now) (g.P.Parts.tables c.args.parts.now) z c.args.machine.now c.args.machine.now) (sym (alone_none c.args.item c.args.rank c.args.places.now)) (done_none (g.P.Parts.setup c.args.parts.now) (g.P.Parts.layout c.args.parts.now) (g.P.Parts.tables c.args.parts.now) c.args.machine.now))).0.0
-
-pub in_place_with-requires-clause-alone : goal.in_place_with-requires-clause-alone
-in_place_with-requires-clause-alone g c here = c.run_here-here.ensures here c.args.rank (get_or c.args.places.now c.loop-i.i 0) (c.requires.ready (alone c.args.item c.args.rank (take c.loop-i.i c.args.places.now)) c.args.item c.args.rank (get_or c.args.places.now c.loop-i.i 0 ∷ []) (End c.args.item c.args.rank (get_or c.args.places.now c.loop-i.i 0) ∷ alone c.args.item c.args.rank (drop (suc c.loop-i.i) c.args.places.now)) (alone_at c.args.item c.args.rank c.args.places.now c.loop-i.i c.loop-i-test.true) c.loop-i.machine c.loop-i.invariant.done).0.0
+    let p = g.P.Parts.setup c.args.parts.now in
+    let l = g.P.Parts.layout c.args.parts.now in
+    let t = g.P.Parts.tables c.args.parts.now in
+    let ran = c.in_place.ensures.runs in
+    let law = c.in_place_shows.ensures p l t (g.met.P.Parts.indexed c.args.parts.now c.requires.sound) (g.met.P.Parts.fits c.args.parts.now c.requires.sound) c.args.item c.args.rank in
+    let some : 0 < length c.args.places.now = (let not_zero = eqb-false (length c.args.places.now) 0 (sym c.if-is_empty.ensures) in omega (arith, not_zero)) in
+    let rank = (all_begin p l t c.args.item c.args.rank law (g.met.P.Parts.windowed c.args.parts.now c.requires.sound c.args.item c.args.rank) c.args.places.now c.args.machine.now c.requires.ready 0 some).2 in
+    let sized = c.requires.shows.1.sized in
+    let here : c.args.rank < length c.args.machine.now.memories = subst (λ n. c.args.rank < n) (sym sized.ranks) rank in
+    let there : c.args.rank < length c.args.machine.now.partials = subst (λ n. c.args.rank < n) (sym sized.partials) rank in
+    let reach = subst (λ vs. Reaches p l t c.args.item c.args.rank vs c.args.machine.now.variables c.args.places.now (share_of c.args.rank c.args.machine.now) (length c.args.places.now) ran.0) c.read_constants.ensures.values ran.1 in
+    let done = runs_done p l t c.args.item c.args.rank c.args.machine.now here there law c.args.places.now c.requires.ready (length c.args.places.now) (omega arith) ran.0 reach in
+    subst (λ z. Done p l t (alone c.args.item c.args.rank z) c.args.machine.now c.in_place.new.self) (take_all (length c.args.places.now) c.args.places.now (omega arith))
+    (subst (λ (s : State KernelFault). Done p l t (alone c.args.item c.args.rank (take (length c.args.places.now) c.args.places.now)) c.args.machine.now s) (sym ran.2) done)

@@ -2,7 +2,7 @@ use Rattle.std.proofs.Common.{subst}
 use Rattle.schedule_model.specs.Sequential.{sequential}
 use Rattle.flat_machine.specs.Flat.{flat_from}
 use Rattle.rank_exec.specs.Driving.{After}
-use Rattle.rank_exec.specs.Stops.{stop_in}
+use Rattle.rank_machine.specs.Stops.{stop_in}
 use Rattle.rank_exec.proofs.Driving.{as_sequential}
 use Rattle.rank_exec.proofs.drive.drive.Goals as goal
 

@@ -6,7 +6,7 @@ use Rattle.schedule_steps.specs.Peaks.{open_step, mail_step, count_after, greate
 use Rattle.flat_machine.specs.Layout.{by_place, message_cells}
 use Rattle.flat_machine.specs.Flat.{Flat, flat_step, flat_from}
 use Rattle.rank_state.specs.Groups.{begins}
-use Rattle.rank_exec.specs.Stops.{stop_of, stop_in}
+use Rattle.rank_machine.specs.Stops.{stop_of, stop_in}
 use Rattle.rank_exec.specs.Driving.{Ready, After, Reached, to_come, takes, shuts}
 use Rattle.rank_exec.proofs.Driving.{reached_none, reached_at, reached_more, reached_step, count_append, count_below, at_stop}
 use Rattle.rank_exec.proofs.Grouping.{opened_by}

@@ -1,6 +1,6 @@
 use Rattle.std.proofs.Common.{◌≡◌, [], length, None}
 use Rattle.rank_exec.specs.Driving.{Reached, to_come}
-use Rattle.rank_exec.specs.Rooms.{HasRunRoom}
+use Rattle.rank_exec.specs.RunRooms.{HasRunRoom}
 use Rattle.rank_exec.proofs.drive.run.Given as goal
 
 abbrev pub invariant-loop-next : goal.invariant-loop-next

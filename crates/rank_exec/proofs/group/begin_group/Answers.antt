@@ -1,6 +1,6 @@
 use Rattle.std.proofs.Common.{arith, ◌≡◌, ◌≤◌, ◌*◌, ◌∙◌, ap, sym, length, subst}
-use Rattle.rank_exec.specs.Rooms.{most_begins}
-use Rattle.rank_exec.proofs.Vecs.{refilled}
+use Rattle.rank_exec.specs.RunRooms.{most_begins}
+use Rattle.rank_memory.proofs.Vecs.{refilled}
 use Rattle.rank_exec.proofs.group.begin_group.Goals as goal
 
 pub returns-clause-group : goal.returns-clause-group

@@ -1,6 +1,6 @@
 use Rattle.std.proofs.Common.{◌≡◌, ◌≤◌, ◌++◌, length}
 use Rattle.std.specs.Prelude.{vec_capacity}
-use Rattle.rank_exec.specs.Rooms.{most_begins}
+use Rattle.rank_exec.specs.RunRooms.{most_begins}
 use Rattle.rank_state.specs.Groups.{begins}
 use Rattle.rank_exec.proofs.group.collect.Given as goal
 

@@ -1,6 +1,6 @@
 use Rattle.std.proofs.Common.{◌≡◌, ◌<◌, ℕ, length, get_or}
 use Rattle.std.specs.Prelude.{vec_capacity}
-use Rattle.rank_exec.specs.Rooms.{HasRoom}
+use Rattle.rank_machine.specs.Rooms.{HasRoom}
 use Rattle.kernel_jobs.specs.Jobs.{part, task_at}
 use Rattle.rank_exec.specs.Tasks.{IsLoaded}
 use Rattle.rank_exec.proofs.group_steps.load_all.Given as goal

@@ -4,7 +4,7 @@ use Rattle.flat_machine.specs.Layout.{by_place}
 use Rattle.flat_machine.specs.Flat.{Flat, flat_from}
 use Rattle.rank_state.specs.Shows.{Shows}
 use Rattle.rank_state.specs.Groups.{begins, Distinct, Planned, AllShut}
-use Rattle.rank_exec.specs.Rooms.{HasRoom}
+use Rattle.rank_machine.specs.Rooms.{HasRoom}
 use Rattle.rank_exec.proofs.group_steps.open_all.Given as goal
 
 abbrev pub invariant-loop-i : goal.invariant-loop-i

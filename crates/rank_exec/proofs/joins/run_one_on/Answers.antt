@@ -3,7 +3,7 @@ use Rattle.schedule_model.specs.Program.{is_loop}
 use Rattle.rank_state.specs.Core.{fault_of}
 use Rattle.rank_state.specs.Ordered.{all_windows, left_in, total_all}
 use Rattle.rank_state.specs.Indices.{values_at}
-use Rattle.rank_exec.proofs.Kernels.{count_values}
+use Rattle.rank_machine.proofs.Values.{count_values}
 use Rattle.rank_exec.proofs.joins.run_one_on.Goals as goal
 
 pub element-requires-clause-takes : goal.element-requires-clause-takes

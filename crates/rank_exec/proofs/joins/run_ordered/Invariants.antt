@@ -2,7 +2,7 @@ use Rattle.std.proofs.Common.{length, ◌≡◌}
 use Rattle.kernel_types.specs.declared.faults.KernelFault.{KernelFault}
 use Rattle.flat_machine.specs.Flat.{Flat, loop_flat}
 use Rattle.rank_state.specs.Shows.{Shows}
-use Rattle.rank_exec.specs.Rooms.{HasRoom}
+use Rattle.rank_machine.specs.Rooms.{HasRoom}
 use Rattle.rank_exec.proofs.joins.run_ordered.Given as goal
 
 abbrev pub invariant-loop-element : goal.invariant-loop-element

@@ -1,7 +1,0 @@
-use Rattle.std.proofs.Common.{◌≡◌, map, take}
-use Rattle.rank_state.specs.Starting.{units}
-use Rattle.rank_exec.proofs.Views.{lists}
-use Rattle.rank_exec.proofs.machine.units_of_ranks.Given as goal
-
-abbrev pub invariant-loop-memory : goal.invariant-loop-memory
-invariant-loop-memory l = lists l.rows.items ≡ map (λ m. units l.slots) (take l._memory-index l.memories)

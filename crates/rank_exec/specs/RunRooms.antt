@@ -1,0 +1,15 @@
+-- Enough room for what the steps of a list need on their way.
+use Rattle.std.specs.Prelude.{◌≤◌, ℕ, vec_capacity}
+use Rattle.rank_machine.specs.Rooms.{HasRoom}
+use Rattle.rank_exec.specs.declared.run_room.RunRoom.{RunRoom}
+use Rattle.rank_exec.specs.Tasks.{HasGroupRoom}
+
+-- as many begins as a group has at most
+abbrev pub most_begins : ℕ
+most_begins = 1024
+
+-- enough for a step, and for a group
+pub record HasRunRoom (spans locals constants stride : ℕ) (room : RunRoom) : Type 0 where
+  pub step_fits : HasRoom spans locals constants room.step
+  pub places_fit : most_begins ≤ vec_capacity room.places
+  pub group_fits : HasGroupRoom most_begins stride locals room.group

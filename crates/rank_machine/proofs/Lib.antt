@@ -1,0 +1,3 @@
+pub mod FromIndex
+pub mod Values
+pub mod AloneRuns

@@ -1,0 +1,169 @@
+// The elements of loops on the machine: begun and ended, or both at once.
+
+ghost use Rattle.std.specs.Prelude.{◌≡◌, ◌≢◌, [], ℕ, ◌+◌, ◌<◌, ◌≤◌, ◌^◌, length, slice_index_or, take};
+ghost use Rattle.kernel_types.specs.declared.faults.KernelFault.{KernelFault};
+ghost use Rattle.flat_machine.specs.Layout.{Leaves};
+ghost use Rattle.rank_state.specs.Spans.{Within, total};
+ghost use Rattle.rank_state.specs.Windows.{Reads, Merges};
+ghost use Rattle.rank_state.specs.Frames.{Shut, pane_at, Enough, Exactly};
+ghost use Rattle.rank_state.specs.Machine.{row, begun_as, ended, windows_of};
+ghost use Rattle.rank_state.specs.Shows.{Sized};
+ghost use Rattle.rank_machine.specs.Rooms.{HasRoom};
+ghost use Rattle.rank_machine.specs.AloneRuns.{AllBegin, Share, Reaches, share_of, with_share};
+
+use crate::machine::Machine;
+use crate::parts::Parts;
+use crate::room::Room;
+use crate::stop::least;
+use rank_memory::core_run::Kernels;
+use rank_memory::running::load;
+use rank_state::{Scalar, Span};
+
+// How many cells the spans have.
+fn cells(spans: &[Span]) -> usize
+    requires { total spans.now < 2 ^ 64 }
+    ensures { result ≡ total spans.now }
+{
+    let mut count = 0;
+    for span in spans {
+        count += span.dim;
+    }
+    count
+}
+
+impl Machine {
+    /// Runs an element's kernel in a frame of its own.
+    pub fn begin<C: Kernels>(
+        &mut self,
+        core: &C,
+        constants: &[i32],
+        item: u32,
+        rank: u32,
+        place: u32,
+        original: u32,
+        spans: &[Span],
+        scalars: &[Scalar],
+        scratch: &mut [i32],
+    )
+        requires takes { C.takes core.now item original (length constants.now) (total spans.now + length scalars.now) }
+        requires locals { C.locals core.now ≤ length scratch.old }
+        requires rank { rank < length self.old.memories }
+        requires frames { rank < length self.old.frames.panes }
+        requires place { place < length (slice_index_or self.old.frames.panes rank []) }
+        requires shut { pane_at self.old.frames.panes rank place ≡ Shut }
+        requires room { 0 < self.old.frames.left }
+        requires inside { Within (length (row self.old.memories rank)) spans.now }
+        requires reads { Reads (length self.old.variables) scalars.now }
+        requires fits { total spans.now + length scalars.now ≤ self.old.frames.stride }
+        ensures { self.new
+            ≡ begun_as item rank place original
+            (C.core core.now item original constants.now (windows_of self.old rank spans.now scalars.now)) self.old }
+    {
+        let fault = self.frames.begin(
+            core,
+            item,
+            rank,
+            place,
+            original,
+            constants,
+            &self.memories[rank as usize],
+            spans,
+            &self.variables,
+            scalars,
+            scratch,
+        );
+        self.fault = least(self.fault, item, original, fault);
+    }
+
+    /// Copies an element's windows into as many cells from the front of `window` on, and answers how many they are.
+    pub fn load(&self, rank: u32, spans: &[Span], scalars: &[Scalar], window: &mut [i32]) -> usize
+        requires rank { rank < length self.now.memories }
+        requires inside { Within (length (row self.now.memories rank)) spans.now }
+        requires reads { Reads (length self.now.variables) scalars.now }
+        requires room { total spans.now + length scalars.now ≤ length window.old }
+        ensures count { result ≡ total spans.now + length scalars.now }
+        ensures cells { take (total spans.now + length scalars.now) window.new ≡ windows_of self.now rank spans.now scalars.now }
+    {
+        load(
+            &self.memories[rank as usize],
+            spans,
+            &self.variables,
+            scalars,
+            window,
+        )
+    }
+
+    /// Opens an element's frame with what its kernel left of its windows.
+    pub fn open(&mut self, item: u32, rank: u32, place: u32, cells: &[i32])
+        requires frames { rank < length self.old.frames.panes }
+        requires place { place < length (slice_index_or self.old.frames.panes rank []) }
+        requires shut { pane_at self.old.frames.panes rank place ≡ Shut }
+        requires room { 0 < self.old.frames.left }
+        requires fits { length cells.now ≤ self.old.frames.stride }
+        ensures { (e : ℕ) → self.new ≡ begun_as item rank place e (Leaves cells.now) self.old }
+    {
+        self.frames.open(item, rank, place, cells);
+    }
+
+    /// Runs the kernel for the elements at the places, one after another, and puts back at once what each leaves. No frame is opened
+    /// for them. `room` has the values of all constants.
+    pub fn in_place<P: Parts>(
+        &mut self,
+        parts: &P,
+        item: u32,
+        rank: u32,
+        places: &[u32],
+        room: &mut Room,
+    )
+        requires sound { P.sound parts.now }
+        requires some { 0 < length places.now }
+        requires steps { AllBegin (P.setup parts.now) (P.layout parts.now) (P.tables parts.now) item rank places.now }
+        requires sized { Sized (P.setup parts.now) (P.layout parts.now) (P.tables parts.now) self.old }
+        requires space { HasRoom (P.span_count parts.now) (P.locals parts.now) (length (P.tables parts.now).constants) room.old }
+        ensures runs { (new : Share KernelFault)
+            × Reaches (P.setup parts.now) (P.layout parts.now) (P.tables parts.now) item rank
+            room.old.constants.items self.old.variables places.now (share_of rank self.old) (length places.now) new
+            × (self.new ≡ with_share rank new self.old) }
+        ensures space { HasRoom (P.span_count parts.now) (P.locals parts.now) (length (P.tables parts.now).constants) room.new }
+    {
+        let fault = parts.run_places(
+            item,
+            rank,
+            places,
+            &self.variables,
+            &mut self.memories[rank as usize],
+            &mut self.partials[rank as usize],
+            self.fault,
+            &mut self.window,
+            room,
+        );
+        self.fault = fault;
+    }
+
+    /// Copies an element's frame back, and merges its amounts where the element is owned.
+    pub fn end(&mut self, own: bool, rank: u32, place: u32, spans: &[Span], scalars: &[Scalar])
+        requires rank { rank < length self.old.memories }
+        requires partials { rank < length self.old.partials }
+        requires frames { rank < length self.old.frames.panes }
+        requires place { place < length (slice_index_or self.old.frames.panes rank []) }
+        requires open { pane_at self.old.frames.panes rank place ≢ Shut }
+        requires inside { Within (length (row self.old.memories rank)) spans.now }
+        requires slots { Merges (length (row self.old.partials rank)) scalars.now }
+        requires small { total spans.now < 2 ^ 64 }
+        requires enough { Enough (total spans.now) (pane_at self.old.frames.panes rank place) }
+        requires exact { Exactly (total spans.now + length scalars.now) (pane_at self.old.frames.panes rank place) }
+        ensures { self.new ≡ ended own rank place spans.now scalars.now self.old }
+    {
+        let skip = cells(spans);
+        self.frames.end(
+            own,
+            rank,
+            place,
+            &mut self.memories[rank as usize],
+            spans,
+            &mut self.partials[rank as usize],
+            scalars,
+            skip,
+        );
+    }
+}

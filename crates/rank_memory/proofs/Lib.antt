@@ -1,0 +1,11 @@
+pub mod Gathering
+pub mod Middles
+pub mod Slots
+pub mod Vecs
+pub mod Entries
+pub mod Fresh
+pub mod Panes
+pub mod Letters
+pub mod Finding
+pub mod Views
+pub mod Kept

@@ -1,0 +1,41 @@
+// The slots of the staging buffer.
+
+ghost use Rattle.std.specs.Prelude.{◌≡◌};
+ghost use Rattle.rank_memory.specs.Slots.{fault_held};
+
+use kernel_types::KernelFault;
+
+/// What a slot holds.
+#[derive(Clone, Copy, PartialEq, Eq, Debug)]
+pub enum Held {
+    Nothing,
+    Fault(KernelFault),
+    Cells(usize),
+}
+
+/// The element that a slot is for.
+#[derive(Clone, Copy, PartialEq, Eq, Debug)]
+pub struct Slot {
+    pub item: u32,
+    pub rank: u32,
+    pub element: u32,
+    pub held: Held,
+}
+
+/// A slot that no element has.
+pub const EMPTY: Slot = Slot {
+    item: 0,
+    rank: 0,
+    element: 0,
+    held: Held::Nothing,
+};
+
+/// The fault of an element's kernel, where it had one.
+pub fn fault_in(held: Held) -> Option<KernelFault>
+    ensures { result ≡ fault_held held }
+{
+    match held {
+        Held::Fault(fault) => Some(fault),
+        _ => None,
+    }
+}
