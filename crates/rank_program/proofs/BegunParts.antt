@@ -19,11 +19,11 @@ use Rattle.rank_state.specs.declared.spans.Span.{Span}
 use Rattle.rank_state.specs.declared.scalars.Scalar.{Scalar}
 use Rattle.rank_state.specs.Shows.{AreWindows}
 use Rattle.rank_program.specs.declared.program.DistributedProgram.{DistributedProgram}
-use Rattle.rank_program.specs.DatWindows.{spans_after, ArgHere}
-use Rattle.rank_program.specs.Made.{row_of, writes_by, AreSiteScalars}
-use Rattle.rank_program.specs.StepLaws.{IsBegin, StepsStand}
+use Rattle.rank_windows.specs.DatWindows.{spans_after, ArgHere}
+use Rattle.machine_tables.specs.Made.{row_of, writes_by, AreSiteScalars}
+use Rattle.rank_windows.specs.StepLaws.{IsBegin, StepsStand}
 use Rattle.rank_program.specs.Sound.{Sound, program_in, plan_in, setup_in, layout_in, tables_in}
-use Rattle.rank_program.specs.WindowLaws.{arg_span, ArgsAreHere, ElementWindowsStand}
+use Rattle.rank_windows.specs.WindowLaws.{arg_span, ArgsAreHere, ElementWindowsStand}
 
 module _ (c : DistributedProgram) (sound : Sound c) (stand : StepsStand) (k r x : ℕ) (step : IsStep (by_place (setup_in c) (layout_in c)) (Begin k r x)) where
   pub begins : IsBegin (program_in c) c.owners.now c.meshes.now (plan_in c) k r x

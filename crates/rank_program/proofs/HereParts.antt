@@ -1,5 +1,5 @@
 -- Where the arguments of a place's element stand in its rank's buffer, as they are read in a distributed program.
-use Rattle.std.proofs.Common.{◌≡◌, ◌<◌, ◌≤◌, ◌+◌, ◌*◌, ℕ, zero, suc, ℤ, Bool, false, true, List, [], ◌∷◌, All, map, length, get_or, Some, refl, sym, ap, ◌∙◌, subst, arith, append-nil}
+use Rattle.std.proofs.Common.{◌≡◌, ◌<◌, ◌≤◌, ◌+◌, ◌*◌, ℕ, zero, suc, ℤ, Bool, false, true, List, [], ◌∷◌, All, map, length, get_or, Option, Some, refl, sym, ap, ◌∙◌, subst, arith, append-nil}
 use Rattle.std.proofs.lemmas.List.{get_or_default}
 use Rattle.kernel_types.specs.declared.kernels.RKernel.{RKernel}
 use Rattle.kernel_types.specs.Resolved.{IsResolved}
@@ -28,36 +28,34 @@ use Rattle.bound_plan.specs.Laws.{FramesAreReached}
 use Rattle.bound_plan.specs.Places.{original_at, cells_of, place_of, cell_at}
 use Rattle.bound_plan.specs.Windows.{frame_windows, core_with}
 use Rattle.rank_state.specs.declared.spans.Span.{Span}
-use Rattle.rank_state.specs.declared.scalars.Scalar.{Scalar}
 use Rattle.rank_state.specs.Spans.{gathered}
 use Rattle.rank_state.specs.Windows.{span_cells, Marked}
 use Rattle.in_place.specs.Leaving.{ObeyingLeave}
 use Rattle.in_place.specs.Saving.{place_cells}
 use Rattle.in_place.specs.Here.{IsHere, core_on_gathered}
 use Rattle.rank_program.specs.declared.program.DistributedProgram.{DistributedProgram}
-use Rattle.rank_program.specs.DatWindows.{spans_after, ArgHere}
+use Rattle.rank_windows.specs.DatWindows.{spans_after, ArgHere}
 use Rattle.rank_program.specs.Here.{arg_place, AreDatsAlone}
-use Rattle.rank_program.specs.Made.{row_of, writes_by, AreSiteScalars}
-use Rattle.rank_program.specs.Placed.{is_dat}
+use Rattle.rank_program.specs.declared.local_args.LocalArg.{LocalArg}
+use Rattle.rank_program.specs.LocalArgs.{AreArgs, InBuffer, place_in}
+use Rattle.machine_tables.specs.Made.{row_of, writes_by, AreSiteScalars}
+use Rattle.machine_tables.specs.Placed.{is_dat}
 use Rattle.rank_program.specs.Sound.{Sound, program_in, plan_in, setup_in, layout_in, core_in}
-use Rattle.rank_program.specs.StepLaws.{IsBegin, StepsStand}
-use Rattle.rank_program.specs.WindowLaws.{arg_span, IsPlaceOf, ArgsAreHere, ArgsHaveCells, ElementWindowsStand}
+use Rattle.rank_windows.specs.StepLaws.{IsBegin, StepsStand}
+use Rattle.rank_windows.specs.WindowLaws.{arg_span, IsPlaceOf, ArgsAreHere, ArgsHaveCells, ElementWindowsStand}
 use Rattle.rank_program.proofs.BegunParts.{begins}
 use Rattle.rank_program.proofs.HereStands.{name_the_same, spans_apart, unwritten_read, written_marked}
-use Rattle.rank_program.proofs.ItemLoops.{args_are}
+use Rattle.rank_windows.proofs.ItemLoops.{args_are}
+use Rattle.rank_program.proofs.LocalArgs.{place_within, same_places, in_buffer}
 use Rattle.rank_program.proofs.ItemParts.{kernel_there, kernel_of, takes, resolved}
-use Rattle.rank_program.proofs.RankMeshes.{cells_at, some_at}
+use Rattle.rank_windows.proofs.RankMeshes.{cells_at, some_at}
 
 -- ---- places
 
 module _ (g : MeshValue) (m : RankMesh) (x : ℕ) where
-  place_within : (y : Arg) → ArgHere g m x y → (arg_place g m x y).from + (arg_place g m x y).count ≤ m.cells
-  place_within (Dat d v a) h = let room = h.3 in omega (arith, room)
-  place_within (Global v a) h = omega arith
-
   pub places_within : (args : List Arg) → All (ArgHere g m x) args → PlacesIn m.cells (map (arg_place g m x) args)
   places_within [] h a lt = absurd (omega arith)
-  places_within (y ∷ ys) h zero lt = place_within y (h 0 y (omega arith))
+  places_within (y ∷ ys) h zero lt = place_within g m x y (h 0 y (omega arith))
   places_within (y ∷ ys) h (suc a) lt = places_within ys (λ i d l. h (suc i) d (omega arith)) a (omega arith)
 
   few : (b : BoundValue) (set : ℕ) → b.mesh ≡ g → (y : Arg) → ArgFits b set y → (arg_place g m x y).count ≤ max_dim
@@ -85,19 +83,14 @@ module _ (c : DistributedProgram) (sound : Sound c) (stand : StepsStand) (k r x 
   site_fits = sound.runnable.planned.fits.sites (loop_of (item_at b k)) no_site begun.loop
 
   -- without scalars the windows are on dats alone
-  pub dats_alone : ElementWindowsStand → (scalars : List Scalar) → scalars ≡ row_of c.tables.scalars.items (loop_of (item_at b k)) → length scalars ≡ 0
-      → (spans : List Span) × AreDatsAlone c k r x spans
-  dats_alone windows [] read none =
+  pub dats_alone : ElementWindowsStand → row_of c.tables.scalars.items (loop_of (item_at b k)) ≡ [] → (spans : List Span) × AreDatsAlone c k r x spans
+  dats_alone windows none =
       let m = get_or c.meshes.now r (some_at c.meshes.now r begun.here) in
       let part : m ≡ get_or c.meshes.now r m = get_or_default c.meshes.now r (some_at c.meshes.now r begun.here) m begun.here in
-      let are : AreSiteScalars b (loop_of (item_at b k)) [] = subst (AreSiteScalars b (loop_of (item_at b k))) (sym read) (sound.made.scalars (loop_of (item_at b k)) begun.loop) in
+      let are : AreSiteScalars b (loop_of (item_at b k)) [] = subst (AreSiteScalars b (loop_of (item_at b k))) none (sound.made.scalars (loop_of (item_at b k)) begun.loop) in
       (spans_after (arg_span b.mesh m x (modifies site.args)) site.args [], windows b c.owners.now sound.numbers c.meshes.now (plan_in c) sound.runnable.planned k r x m [] begun part are)
-  dats_alone windows (s ∷ ss) read none = absurd (omega arith)
 
   -- the loop as it is read, and the code of its kernel
-  pub places_read : (m : RankMesh) (args : List Arg) → args ≡ site.args → (places : List Place) → places ≡ map (arg_place b.mesh m x) args → places ≡ map (arg_place b.mesh m x) site.args
-  places_read m args all places at = at ∙ ap (map (arg_place b.mesh m x)) all
-
   pub marks_read : (n : ℕ) → n ≡ loop_of (item_at b k) → (marks : List Bool) → marks ≡ row_of c.tables.writes.items n → marks ≡ map (writes_by site.args) site.args
   marks_read n loop marks at = at ∙ ap (row_of c.tables.writes.items) loop ∙ sound.made.writes (loop_of (item_at b k)) begun.loop
 
@@ -139,6 +132,15 @@ module _ (c : DistributedProgram) (sound : Sound c) (stand : StepsStand) (k r x 
 
       pub args_fit : (args : List Arg) → args ≡ site.args → All (ArgHere b.mesh m x) args
       args_fit args all = subst (All (ArgHere b.mesh m x)) (sym all) here
+
+      -- the same of arguments by local numbers
+      pub locals_fit : (args : List Arg) → args ≡ site.args → (locals : List (Option LocalArg)) → AreArgs b.mesh m args locals → All (InBuffer m x) locals
+      locals_fit args all locals are = in_buffer b.mesh m x args locals are (args_fit args all)
+
+      pub places_are : (args : List Arg) → args ≡ site.args → (locals : List (Option LocalArg)) → AreArgs b.mesh m args locals
+          → (places : List Place) → places ≡ map (place_in m x) locals → places ≡ map (arg_place b.mesh m x) site.args
+      places_are args all locals are places at =
+          at ∙ same_places b.mesh m x args locals are (args_fit args all) ∙ ap (map (arg_place b.mesh m x)) all
 
       pub places_fit : (n : ℕ) → n ≡ cells_of c.meshes.now r → (places : List Place) → places ≡ map (arg_place b.mesh m x) site.args → PlacesIn n places
       places_fit n width places are =

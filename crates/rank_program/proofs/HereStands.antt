@@ -28,10 +28,10 @@ use Rattle.rank_state.specs.Windows.{cells_from, span_cells, Marked}
 use Rattle.in_place.specs.Standing.{stands_at, is_written, Apart}
 use Rattle.in_place.specs.InPlace.{NameTheSame}
 use Rattle.in_place.proofs.Standings.{in_first, in_rest, first_written, rest_written, by_span, stands_within}
-use Rattle.rank_program.specs.Placed.{is_dat}
-use Rattle.rank_program.specs.Made.{writes_by}
+use Rattle.machine_tables.specs.Placed.{is_dat}
+use Rattle.machine_tables.specs.Made.{writes_by}
 use Rattle.rank_program.specs.Here.{span_place}
-use Rattle.rank_program.proofs.ElementWindows.{run_count, spans_count}
+use Rattle.rank_windows.proofs.ElementWindows.{run_count, spans_count}
 
 -- ---- cells of spans
 

@@ -1,27 +1,11 @@
--- The parts of a program, as they are read.
-use Rattle.std.proofs.Common.{◌≡◌, ◌<◌, ℕ, zero, suc, true, List, [], ◌∷◌, map, length, get_or, sum_by, Some, refl, sym, ap, ◌∙◌, subst, ⊎_elim, arith}
-use Rattle.std.proofs.lemmas.Bool.{cases_lt, false≢true}
-use Rattle.std.proofs.lemmas.List.{get_or-map, get_or_past}
+-- The kernels that the loops of a program run.
+use Rattle.std.proofs.Common.{◌≡◌, ◌<◌, ℕ, zero, suc, List, [], ◌∷◌, length, get_or, sum_by, Some, refl, sym, ap, ◌∙◌, subst, arith}
 use Rattle.kernel_types.specs.declared.kernels.RKernel.{RKernel}
 use Rattle.kernel_types.specs.Resolved.{IsResolved}
-use Rattle.schedule_model.specs.Program.{is_loop}
-use Rattle.bound_program.specs.declared.acts.Item.{Item}
-use Rattle.bound_program.specs.declared.sites.Site.{Site}
-use Rattle.bound_program.specs.Values.{BoundValue, ItemValue, Host, Exit, SiteValue, item_of, site_of, no_site}
+use Rattle.bound_program.specs.Values.{BoundValue, SiteValue, no_site}
 use Rattle.bound_program.specs.Fits.{Fits, SiteFits, TakesArgs, constant_cells}
 use Rattle.run_model.specs.Kernels.{constants, kernel_at}
 use Rattle.run_model.specs.Constants.{AreNumbered}
-use Rattle.run_model.specs.Programs.{kind_of}
-
--- an item that is a loop is there
-pub item_there : (xs : List ItemValue) (k : ℕ) → is_loop (kind_of (get_or xs k (Host Exit))) ≡ true → k < length xs
-item_there xs k h = ⊎_elim (λ lt. lt) (λ ge. absurd (false≢true (sym (ap (λ x. is_loop (kind_of x)) (get_or_past xs k (Host Exit) ge)) ∙ h))) (cases_lt k (length xs))
-
-pub item_is : (xs : List Item) (n : ℕ) (x : Item) → n < length xs → x ≡ get_or xs n x → get_or (map item_of xs) n (Host Exit) ≡ item_of x
-item_is xs n x lt e = get_or-map item_of xs n x (Host Exit) lt ∙ ap item_of (sym e)
-
-pub site_is : (xs : List Site) (n : ℕ) (x : Site) → n < length xs → x ≡ get_or xs n x → get_or (map site_of xs) n no_site ≡ site_of x
-site_is xs n x lt e = get_or-map site_of xs n x no_site lt ∙ ap site_of (sym e)
 
 -- a kernel that takes the arguments is there
 pub kernel_there : (xs : List RKernel) (k n : ℕ) → TakesArgs xs k n → k < length xs

@@ -1,42 +1,15 @@
-pub mod SeenSoFar
-pub mod Putting
-pub mod SiteArgs
 pub mod ItemParts
-pub mod ItemLoops
-pub mod RankMeshes
-pub mod StepsStand
-pub mod MessageSpans
-pub mod MessageCells
+pub mod KernelRun
 pub mod ProgramRun
-pub mod MessagesStand
-pub mod Widest
-pub mod RankWindows
-pub mod WindowsStand
-pub mod FirstCells
-pub mod FirstStand
 pub mod SameStart
 pub mod Held
-pub mod FrameRows
-pub mod FrameWidths
-pub mod OwnedSpans
-pub mod OwnedStand
-pub mod Sending
-pub mod VariableCells
-pub mod PushedWindows
-pub mod ElementWindows
 pub mod BegunParts
-pub mod ReduceItems
-pub mod SlotNumbers
-pub mod ScalarLists
-pub mod SiteScalars
-pub mod VariableNumbers
-pub mod ConstantNumbers
-pub mod LoopRows
-pub mod TablesStand
-pub mod PlanPlaces
-pub mod ArgVariables
+mod CopiesStand
 pub mod Runnables
-pub mod MostPairs
 mod HereStands
+mod Passed
+mod ElementScalars
+mod LocalArgs
 mod HereParts
+pub mod Windowed
 mod JobTargets

@@ -10,7 +10,8 @@ use Rattle.bound_program.specs.Fits.{Fits, SiteFits}
 use Rattle.run_model.specs.Laws as laws
 use Rattle.run_model.specs.Laws.{LoopsAreThere}
 use Rattle.run_model.specs.Programs.{item_at, kind_of, loop_of}
-use Rattle.rank_program.proofs.ItemParts.{site_is, site_fits, kernel_there}
+use Rattle.machine_tables.proofs.Widest.{site_at}
+use Rattle.rank_program.proofs.ItemParts.{site_fits, kernel_there}
 
 module _ (b : BoundValue) (fits : Fits b) (there : LoopsAreThere) (k n : ℕ) (is : is_loop (kind_of (item_at b k)) ≡ true)
     (loop : n ≡ loop_of (item_at b k)) (sites : List Site) (all : b.sites ≡ map site_of sites) where
@@ -23,11 +24,11 @@ module _ (b : BoundValue) (fits : Fits b) (there : LoopsAreThere) (k n : ℕ) (i
   module _ (x : Site) (read : x ≡ get_or sites n x) where
     pub site_same : laws.site_of b k ≡ site_of x
     site_same =
-        ap (λ m. get_or b.sites m no_site) (sym loop) ∙ ap (λ l. get_or l n no_site) all ∙ site_is sites n x site_there read
+        ap (λ m. get_or b.sites m no_site) (sym loop) ∙ ap (λ l. get_or l n no_site) all ∙ site_at sites n x site_there read
 
     pub site_fit : SiteFits b (site_of x)
     site_fit =
-        subst (SiteFits b) (ap (λ l. get_or l n no_site) all ∙ site_is sites n x site_there read) (site_fits b fits n loop_there)
+        subst (SiteFits b) (ap (λ l. get_or l n no_site) all ∙ site_at sites n x site_there read) (site_fits b fits n loop_there)
 
     pub code_there : (codes : List Code) → AreCodesOf b.kernels codes → x.kernel < length codes
     code_there codes are =

@@ -5,7 +5,7 @@ use Rattle.local_mesh.specs.declared.types.RankMesh.{RankMesh}
 use Rattle.local_mesh.specs.declared.lists.LocalLists.{LocalLists}
 use Rattle.bound_program.specs.Values.{BoundValue}
 use Rattle.loop_plan.specs.Values.{PlanValue}
-use Rattle.rank_program.specs.MessageLaws.{HasLists}
+use Rattle.rank_windows.specs.MessageLaws.{HasLists}
 use Rattle.rank_program.specs.Runnables.{CanRun}
 
 pub has_lists : (b : BoundValue) (o : Owners) (meshes : List RankMesh) (p : PlanValue) (table : List LocalLists) → (r : CanRun b o meshes p table)

@@ -8,7 +8,7 @@ use Rattle.rank_state.specs.declared.spans.Span.{Span}
 use Rattle.rank_state.specs.Shows.{AreWindows}
 use Rattle.rank_program.specs.declared.program.DistributedProgram.{DistributedProgram}
 use Rattle.rank_program.specs.Sound.{setup_in, layout_in, tables_in}
-use Rattle.rank_program.specs.WindowLaws.{arg_span}
+use Rattle.rank_windows.specs.WindowLaws.{arg_span}
 
 abbrev pub span_place : Span → Place
 span_place s = record { from = s.at; count = s.dim }

@@ -6,9 +6,11 @@ use Rattle.mesh_decl.specs.Mesh.{set_size}
 use Rattle.mesh_decl.specs.declared.owners.Perms.{Perms}
 use Rattle.halo_lists.specs.declared.types.Halos.{Halos}
 use Rattle.schedule_steps.specs.Outline.{Outline}
+use Rattle.schedule_steps.specs.declared.step.Step.TheVariants.{Begin}
+use Rattle.schedule_steps.specs.Steps.{IsStep}
 use Rattle.schedule_model.specs.Program.{is_loop}
 use Rattle.schedule_model.specs.Setup.{Setup}
-use Rattle.flat_machine.specs.Layout.{Layout, IsLayout, Core}
+use Rattle.flat_machine.specs.Layout.{Layout, IsLayout, Core, by_place}
 use Rattle.bound_program.specs.Values.{BoundValue, bound_of}
 use Rattle.run_model.specs.Kernels.{constants}
 use Rattle.run_model.specs.Hosts.{variable_cells}
@@ -21,12 +23,14 @@ use Rattle.bound_plan.specs.Windows.{frame_cells}
 use Rattle.bound_plan.specs.Variables.{variable_at}
 use Rattle.bound_plan.specs.Setups.{setup_of}
 use Rattle.bound_plan.specs.Layouts.{layout_of}
-use Rattle.rank_state.specs.Shows.{variables_from, Tables, Indexed}
-use Rattle.rank_program.specs.Tables.{tables_of}
-use Rattle.rank_program.specs.MessageLaws.{HasLists}
+use Rattle.rank_state.specs.declared.spans.Span.{Span}
+use Rattle.rank_state.specs.declared.scalars.Scalar.{Scalar}
+use Rattle.rank_state.specs.Shows.{variables_from, Tables, Indexed, AreWindows}
+use Rattle.machine_tables.specs.Tables.{tables_of}
+use Rattle.rank_windows.specs.MessageLaws.{HasLists}
 use Rattle.kernel_jobs.specs.declared.tasks.Task.{Task}
 use Rattle.kernel_jobs.specs.declared.tasks.Targets.{Targets}
-use Rattle.rank_program.specs.Made.{AreMade}
+use Rattle.machine_tables.specs.Made.{AreMade}
 use Rattle.rank_program.specs.Targets.{AllTargets}
 use Rattle.rank_program.specs.declared.program.DistributedProgram.{DistributedProgram}
 
@@ -67,6 +71,8 @@ module _ (c : DistributedProgram) where
     pub room : HaveRoom c.codes.now c.locals
     pub layout : IsLayout setup_in layout_in
     pub indexed : Indexed setup_in layout_in tables_in
+    pub windowed : (k r x : ℕ) → IsStep (by_place setup_in layout_in) (Begin k r x)
+        → (spans : List Span) × (scalars : List Scalar) × AreWindows setup_in layout_in tables_in k r x spans scalars
     pub variables : variables_from (variable_at program_in) 0 (length (variable_cells program_in)) ≡ variable_cells program_in
 
   -- the item is a loop with this element, with so many constants and cells of its frame

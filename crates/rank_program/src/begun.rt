@@ -7,14 +7,12 @@ ghost use Rattle.flat_machine.specs.Layout.{by_place};
 ghost use Rattle.rank_state.specs.Shows.{AreWindows};
 ghost use Rattle.rank_program.specs.Sound.{Sound, setup_in, layout_in, tables_in};
 
-use crate::element_windows::push_local_windows;
 use crate::elements::{is_owner, original_of};
 use crate::items::{loop_of, site_of};
-use crate::laws::{element_windows_stand, windows_stand};
-use crate::laws_steps::steps_stand;
 use crate::program::DistributedProgram;
-use crate::tables::row_of;
+use machine_tables::row_of;
 use rank_state::{Scalar, Span};
+use rank_windows::{element_windows_stand, push_local_windows, steps_stand, windows_stand};
 
 /// The element at a place of a rank, in the set of the item's loop, by its original number.
 pub fn original_at(program: &DistributedProgram<'_>, item: u32, rank: u32, place: u32) -> u32

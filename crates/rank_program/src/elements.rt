@@ -2,7 +2,6 @@
 
 ghost use Rattle.std.specs.Prelude.{◌≡◌, ◌<◌, ◌==◌, length};
 ghost use Rattle.mesh_decl.specs.Owners.{owners_in, owner_of};
-ghost use Rattle.local_mesh.specs.LocalMesh.{originals_in};
 ghost use Rattle.local_mesh.specs.Lists as the;
 ghost use Rattle.bound_plan.specs.Places.{original_at};
 

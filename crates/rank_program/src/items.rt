@@ -1,14 +1,14 @@
 // The loops of items.
 
-ghost use Rattle.std.specs.Prelude.{◌≡◌, ◌<◌, true, length};
+ghost use Rattle.std.specs.Prelude.{◌≡◌, true};
 ghost use Rattle.schedule_model.specs.Program.{is_loop};
 ghost use Rattle.bound_program.specs.Values.{bound_of};
-ghost use Rattle.bound_program.specs.Fits.{Fits, site_at};
+ghost use Rattle.bound_program.specs.Fits.{Fits};
 ghost use Rattle.bound_program.specs.Values as value;
 ghost use Rattle.run_model.specs.Programs.{item_at, kind_of, loop_of};
 ghost use Rattle.run_model.specs.Laws as the;
 
-use bound_program::{Arg, Bound, Item, Site};
+use bound_program::{Bound, Item, Site};
 
 /// The number of the loop of an item that is one.
 pub fn loop_of(bound: &Bound, item: u32) -> u32
@@ -31,12 +31,4 @@ pub fn site_of(bound: &Bound, item: u32) -> &Site
 {
     run_model::items_are_there();
     &bound.sites[loop_of(bound, item) as usize]
-}
-
-/// A loop's arguments.
-pub fn args_of(bound: &Bound, site: usize) -> &[Arg]
-    requires { site < length (bound_of bound.now).sites }
-    ensures { result.now ≡ (site_at (bound_of bound.now) site).args }
-{
-    &bound.sites[site].args
 }

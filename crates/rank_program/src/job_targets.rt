@@ -7,12 +7,12 @@ ghost use Rattle.bound_program.specs.Values.{bound_of, site_of};
 ghost use Rattle.bound_program.specs.Fits.{SiteFits};
 ghost use Rattle.bound_plan.specs.Windows.{frame_cells, frame_windows};
 ghost use Rattle.kernel_jobs.specs.Jobs.{task_at};
-ghost use Rattle.rank_program.specs.Numbered.{ArgThere};
+ghost use Rattle.machine_tables.specs.Numbered.{ArgThere};
 ghost use Rattle.rank_program.specs.Targets.{AllTargets};
 
-use crate::windows::put_windows;
 use bound_program::{Arg, Bound, Site};
 use kernel_jobs::{MOST_ARGS, Targets, Task};
+use machine_tables::put_windows;
 use views::Place;
 
 // Where the windows of a loop's arguments stand in an element's frame.

@@ -8,17 +8,16 @@ ghost use Rattle.run_model.specs.Programs.{item_at, kind_of, loop_of};
 ghost use Rattle.rank_state.specs.Joins.{AreReduced};
 ghost use Rattle.rank_state.specs.Ordered.{AreOwned};
 ghost use Rattle.rank_exec.specs.Copies.{IsOwnersCopy};
-ghost use Rattle.rank_program.specs.Tables.{tables_of};
+ghost use Rattle.machine_tables.specs.Tables.{tables_of};
 ghost use Rattle.rank_program.specs.Sound.{Sound, program_in, plan_in, setup_in, layout_in};
 
-use crate::items::{args_of, loop_of};
-use crate::laws_owned::{copies_stand, owned_stand, reduces_are_there};
-use crate::laws_tables::scalars_stand;
-use crate::owned_windows::{owners_span, push_windows};
+use crate::items::loop_of;
+use crate::laws_copies::copies_stand;
 use crate::program::DistributedProgram;
-use crate::tables::row_of;
 use bound_program::{Bound, Item};
+use machine_tables::{args_of, row_of, scalars_stand};
 use rank_state::{Owned, Scalar};
+use rank_windows::{owned_stand, owners_span, push_windows, reduces_are_there};
 
 /// Puts down where the windows of an element of an Ordered loop stand in the buffers of their owners, and gives the
 /// numbers of the variables' cells behind them. Takes no memory.

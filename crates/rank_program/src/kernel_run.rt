@@ -10,13 +10,12 @@ ghost use Rattle.bound_program.specs.Values.{bound_of, site_of};
 ghost use Rattle.bound_program.specs.Fits.{SiteFits};
 ghost use Rattle.rank_state.specs.Core.{ran_of};
 ghost use Rattle.bound_plan.specs.Windows.{frame_cells, frame_windows};
-ghost use Rattle.rank_program.specs.Frames.{AreFrameWindows};
+ghost use Rattle.machine_tables.specs.Frames.{AreFrameWindows};
 
-use crate::tables::FrameWindows;
-use crate::windows::{MAX_ARGS, put_windows};
 use bound_program::{Bound, Site};
 use kernel_code::{Code, run_on};
 use kernel_types::KernelFault;
+use machine_tables::{FrameWindows, MAX_ARGS, put_windows};
 use views::Place;
 
 // Runs a loop's kernel on the windows of an element's frame, wherever they stand.

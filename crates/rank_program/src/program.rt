@@ -7,25 +7,23 @@ ghost use Rattle.loop_plan.specs.Values.{plan_of};
 ghost use Rattle.rank_program.specs.Sound.{Sound};
 ghost use Rattle.rank_program.specs.Runnables.{CanRun, IsProgramOf};
 
-use crate::first::first_variables;
-use crate::items::{args_of, loop_of};
+use crate::items::loop_of;
 use crate::job_targets::push_all;
 use crate::kernel_run::run_kernel;
-use crate::laws::first_cells_stand;
-use crate::laws_owned::variables_stand;
-use crate::laws_sent::{exports_are_few, rooms_stand};
-use crate::laws_tables::tables_are_indexed;
-use crate::rooms::most_spans;
-use crate::tables::MachineTables;
 use bound_program::Bound;
 use kernel_code::{Code, room_for};
 use kernel_jobs::{KernelJob, Targets, Task};
 use kernel_types::KernelFault;
 use local_mesh::{LocalLists, RankMesh};
 use loop_plan::Plan;
+use machine_tables::{MachineTables, args_of, tables_are_indexed};
 use mesh_decl::Owners;
 use op_num::OutOfMemory;
-use rank_exec::core_run::Kernels;
+use rank_memory::core_run::Kernels;
+use rank_windows::{
+    element_windows_stand, exports_are_few, first_cells_stand, first_variables, most_spans,
+    rooms_stand, steps_stand, variables_stand,
+};
 use std::alloc::Global;
 
 /// A bound program with its distribution over several ranks and its plan.
@@ -74,6 +72,8 @@ impl<'a> DistributedProgram<'a> {
         exports_are_few();
         rooms_stand();
         first_cells_stand();
+        steps_stand();
+        element_windows_stand();
         // That one vector has them all says that 64 bits count the variables' cells.
         let _variables = first_variables(alloc, &bound.vars)?;
         let spans = most_spans(bound, lists, owners.ranks);

@@ -1,18 +1,19 @@
 // A distributed program as the machine reads it.
 
+use crate::alone::run_places;
 use crate::begun::{original_at, owns_at, push_element};
 use crate::exchanges::{push_received, push_sent};
-use crate::here::{is_alone, run_alone};
-use crate::laws_tables::{places_stand, slots_stand};
 use crate::program::DistributedProgram;
-use kernel_types::KernelFault;
-use rank_exec::parts::Parts;
+use machine_tables::{places_stand, slots_stand};
+use rank_machine::parts::Parts;
+use rank_machine::room::Room;
+use rank_machine::stop::Stop;
 use rank_state::{Operation, Scalar, Span};
 
 impl<'a> Parts for DistributedProgram<'a> {
     ghost use Rattle.std.specs.Prelude.{refl};
     ghost use Rattle.rank_program.specs.Sound.{setup_in, layout_in, tables_in};
-    ghost use Rattle.rank_program.specs.ProgramLaws.{each_runs, frames_narrow};
+    ghost use Rattle.rank_program.specs.ProgramLaws.{each_runs, each_windowed, frames_narrow};
 
     ghost setup = { setup_in };
 
@@ -56,21 +57,21 @@ impl<'a> Parts for DistributedProgram<'a> {
         push_element(self, item, rank, place, spans)
     }
 
-    fn runs_here(&self, item: u32, rank: u32, place: u32) -> bool {
-        is_alone(self, item, rank, place)
-    }
-
-    fn run_here(
+    fn run_places(
         &self,
         item: u32,
         rank: u32,
-        place: u32,
-        constants: &[i32],
+        places: &[u32],
+        variables: &[i32],
         memory: &mut [i32],
-        saved: &mut [i32],
-        scratch: &mut [i32],
-    ) -> Option<KernelFault> {
-        run_alone(self, item, rank, place, constants, memory, saved, scratch)
+        partials: &mut [i32],
+        fault: Option<Stop>,
+        window: &mut [i32],
+        room: &mut Room,
+    ) -> Option<Stop> {
+        run_places(
+            self, item, rank, places, variables, memory, partials, fault, window, room,
+        )
     }
 
     fn exports(&self, item: u32, from: u32, to: u32, spans: &mut Vec<Span>) {
@@ -84,6 +85,8 @@ impl<'a> Parts for DistributedProgram<'a> {
     ghost core_is = { λ c k e cs ws. refl };
 
     ghost runs = { each_runs };
+
+    ghost windowed = { each_windowed };
 
     ghost indexed = { λ c s. s.indexed };
 

@@ -2,8 +2,8 @@ use Rattle.std.proofs.Common.{ℕ, List, length, sym, ap, ap₂, ◌∙◌, subs
 use Rattle.run_model.specs.Programs.{item_at, loop_of}
 use Rattle.rank_state.specs.declared.scalars.Scalar.{Scalar}
 use Rattle.rank_state.specs.Joins.{AreReduced}
-use Rattle.rank_program.specs.Made.{row_of}
-use Rattle.rank_program.specs.Tables.{tables_of}
+use Rattle.machine_tables.specs.Made.{row_of}
+use Rattle.machine_tables.specs.Tables.{tables_of}
 use Rattle.rank_program.specs.Sound.{program_in, plan_in, setup_in, layout_in}
 use Rattle.rank_program.proofs.joins.reduced_scalars.Goals as goal
 

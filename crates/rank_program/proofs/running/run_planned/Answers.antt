@@ -6,7 +6,7 @@ use Rattle.bound_plan.specs.Starts.{first_flat}
 use Rattle.bound_plan.specs.Memories.{dump_of}
 use Rattle.rank_state.specs.Starting.{AreFirst}
 use Rattle.rank_state.specs.Shows.{Shows}
-use Rattle.rank_program.specs.First.{first_cells, first_variables}
+use Rattle.rank_windows.specs.First.{first_cells, first_variables}
 use Rattle.rank_program.specs.Runs.{dump_in}
 use Rattle.rank_program.specs.Sound.{program_in, plan_in, setup_in, layout_in, tables_in}
 use Rattle.rank_program.proofs.Held.{are_held}

@@ -1,8 +1,9 @@
 use Rattle.std.proofs.Common.{◌≡◌, length, map, ap, ◌∙◌, arith}
 use Rattle.bound_program.specs.Values.{bound_of, var_of}
 use Rattle.loop_plan.specs.Values.{plan_of}
-use Rattle.rank_program.specs.First.{first_variables}
+use Rattle.rank_windows.specs.First.{first_variables}
 use Rattle.rank_program.proofs.Runnables.{has_lists}
+use Rattle.rank_program.proofs.Windowed.{windowed}
 use Rattle.rank_program.proofs.program.DistributedProgram.new.Goals as goal
 
 pub most_spans-spans-requires-clause-few : goal.most_spans-spans-requires-clause-few
@@ -17,18 +18,20 @@ returns-clause-sound c =
     let p = plan_of c.args.plan.now in
     let r = c.requires.runs in
     let lists = has_lists b c.args.owners.now c.args.meshes.now p c.args.lists.now r in
+    let made = c.in_ok-tables.ensures c.args.lists.now
+    (c.rooms_stand.ensures b c.args.owners.now r.numbers c.args.meshes.now p r.halos c.args.lists.now lists c.most_spans-spans.result
+    c.most_spans-spans.ensures.elements c.most_spans-spans.ensures.messages) in
     record {
       numbers = r.numbers;
       halos = r.halos;
       runnable = r.runnable;
       lists = lists;
-      made = c.in_ok-tables.ensures c.args.lists.now
-          (c.rooms_stand.ensures b c.args.owners.now r.numbers c.args.meshes.now p r.halos c.args.lists.now lists c.most_spans-spans.result
-          c.most_spans-spans.ensures.elements c.most_spans-spans.ensures.messages);
+      made = made;
       codes = c.requires.codes;
       room = c.room_for.ensures;
       layout = c.layouts_fit.ensures b c.args.owners.now r.numbers c.args.meshes.now p r.runnable;
       indexed = c.tables_are_indexed.ensures b c.args.owners.now r.numbers c.args.meshes.now p r.runnable.planned;
+      windowed = windowed b c.args.owners.now r.numbers c.args.meshes.now p r.runnable.planned c.args.lists.now c.in_ok-tables.tables made c.steps_stand.ensures c.element_windows_stand.ensures;
       variables = c.variables_stand.ensures b;
     }
 

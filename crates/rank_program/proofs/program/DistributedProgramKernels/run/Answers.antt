@@ -5,8 +5,8 @@ use Rattle.mesh_decl.specs.Mesh.{set_size}
 use Rattle.bound_program.specs.Values.{SiteValue, bound_of, site_of}
 use Rattle.bound_program.specs.Fits.{site_at}
 use Rattle.bound_plan.specs.Windows.{frame_cells, core_with, site_core}
-use Rattle.rank_program.specs.declared.tables.FrameWindows.{FrameWindows}
-use Rattle.rank_program.specs.Frames.{AreFrameWindows}
+use Rattle.machine_tables.specs.declared.tables.FrameWindows.{FrameWindows}
+use Rattle.machine_tables.specs.Frames.{AreFrameWindows}
 use Rattle.rank_program.proofs.ItemParts.{takes, kernel_of, resolved}
 use Rattle.rank_program.proofs.ProgramRun.{site_there, site_same, site_fit, code_there}
 use Rattle.rank_program.proofs.program.DistributedProgramKernels.run.Goals as goal

@@ -1,0 +1,15 @@
+pub mod SeenSoFar
+pub mod Putting
+pub mod SiteArgs
+pub mod Widest
+pub mod FrameRows
+pub mod FlatMaps
+pub mod SlotNumbers
+pub mod ScalarLists
+pub mod SiteScalars
+pub mod VariableNumbers
+pub mod ConstantNumbers
+pub mod LoopRows
+pub mod TablesStand
+pub mod PlanPlaces
+pub mod ArgVariables

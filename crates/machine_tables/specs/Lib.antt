@@ -1,0 +1,10 @@
+pub mod Frames
+pub mod Seen
+pub mod Numbered
+pub mod Placed
+pub mod Tables
+pub mod Exports
+pub mod Made
+pub mod Scalars
+pub mod Constants
+pub mod TableLaws

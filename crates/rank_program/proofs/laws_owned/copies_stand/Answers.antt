@@ -1,5 +1,0 @@
-use Rattle.rank_program.proofs.OwnedStand.{copies_stand}
-use Rattle.rank_program.proofs.laws_owned.copies_stand.Goals as goal
-
-pub returns : goal.returns
-returns c = copies_stand c.declarations_hold.ensures.dats c.elements_stand.ensures

@@ -1,5 +1,0 @@
-use Rattle.rank_program.proofs.Sending.{messages_have_room}
-use Rattle.rank_program.proofs.laws_sent.messages_have_room.Goals as goal
-
-pub returns : goal.returns
-returns c = messages_have_room

@@ -1,5 +1,0 @@
-use Rattle.rank_program.proofs.TablesStand.{scalars_stand}
-use Rattle.rank_program.proofs.laws_tables.scalars_stand.Goals as goal
-
-pub returns : goal.returns
-returns c = scalars_stand

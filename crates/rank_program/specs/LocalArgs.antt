@@ -1,0 +1,49 @@
+-- The arguments of a loop on dats by a rank's local numbers.
+use Rattle.std.specs.Prelude.{ℕ, ◌≡◌, ◌+◌, ◌*◌, ◌<◌, ◌≤◌, List, Option, Some, None, length, get_or, slice_index}
+use Rattle.views.specs.declared.frame.Place.{Place}
+use Rattle.mesh_decl.specs.declared.access.Via.{Via}
+use Rattle.mesh_decl.specs.Mesh.{MeshValue}
+use Rattle.local_mesh.specs.declared.types.RankMesh.{RankMesh}
+use Rattle.bound_program.specs.declared.sites.Arg.{Arg}
+use Rattle.rank_windows.specs.DatWindows.{local_by, ViaHere, ArgHere}
+use Rattle.rank_program.specs.Here.{arg_place}
+use Rattle.rank_program.specs.declared.local_args.LocalVia.{LocalVia}
+use Rattle.rank_program.specs.declared.local_args.LocalArg.{LocalArg}
+
+-- the local number of the element that a place reaches
+abbrev pub local_in : Option LocalVia → ℕ → ℕ
+local_in None x = x
+local_in (Some v) x = slice_index v.targets.now (x * v.step + v.index)
+
+abbrev pub HasTarget : Option LocalVia → ℕ → Type 0
+HasTarget None x = Unit {0}
+HasTarget (Some v) x = x * v.step + v.index < length v.targets.now
+
+module _ (m : RankMesh) (x : ℕ) where
+  -- where the argument's cells stand for a place
+  abbrev pub place_in : Option LocalArg → Place
+  place_in None = record { from = 0; count = 0 }
+  place_in (Some y) = record { from = slice_index m.bases.items y.dat + local_in y.via x * y.dim; count = y.dim }
+
+  -- they stand within the rank's buffer
+  abbrev pub InBuffer : Option LocalArg → Type 0
+  InBuffer None = Unit {0}
+  InBuffer (Some y) =
+      HasTarget y.via x
+      × (y.dat < length m.bases.items)
+      × (slice_index m.bases.items y.dat + (local_in y.via x + 1) * y.dim ≤ m.cells)
+
+module _ (g : MeshValue) (m : RankMesh) where
+  -- where the rank has the map's targets for a place, the local map leads where the map does
+  abbrev pub IsVia : Option Via → Option LocalVia → Type 0
+  IsVia via local = (x : ℕ) → ViaHere g m x via → HasTarget local x × (local_in local x ≡ local_by g m x via)
+
+  -- where the rank has the argument for a place, its cells stand where the local one finds them
+  abbrev pub IsArg : Arg → Option LocalArg → Type 0
+  IsArg arg local = (x : ℕ) → ArgHere g m x arg → InBuffer m x local × (place_in m x local ≡ arg_place g m x arg)
+
+  -- the same of each argument
+  abbrev pub AreArgs : List Arg → List (Option LocalArg) → Type 0
+  AreArgs args locals =
+      (length locals ≡ length args)
+      × ((i : ℕ) (a : Arg) (l : Option LocalArg) → i < length args → IsArg (get_or args i a) (get_or locals i l))

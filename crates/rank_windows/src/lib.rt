@@ -1,0 +1,24 @@
+//! Where the windows of elements and the cells of messages stand in the buffers of ranks, and what these hold at first.
+#![tactic(auto)]
+
+mod dat_windows;
+mod element_windows;
+mod first;
+mod laws;
+mod laws_owned;
+mod laws_sent;
+mod laws_steps;
+mod messages;
+mod owned_windows;
+mod rooms;
+
+pub use dat_windows::targets_of;
+pub use element_windows::push_local_windows;
+pub use first::{first_memories, first_variables};
+pub use laws::{element_windows_stand, first_cells_stand, windows_stand};
+pub use laws_owned::{owned_stand, reduces_are_there, variables_stand};
+pub use laws_sent::{exports_are_few, receives_stand, rooms_stand, sends_stand};
+pub use laws_steps::steps_stand;
+pub use messages::{push_exports, push_imports};
+pub use owned_windows::{owners_span, push_windows};
+pub use rooms::most_spans;
