@@ -5,8 +5,8 @@ use Rattle.answers.specs.Lines.{Answer}
 use Rattle.answers.specs.Endings as ending
 use Rattle.answers.specs.Endings.{Answered, Unwritten, Call, Ends, IsReported, Tells, ending_status, ending_line}
 use Rattle.answers.specs.Endings.{IsComplete, IsUsage, IsShown, AreReported, IsSilent}
-use Rattle.op2_cli.specs.declared.refusals.Failure.{Failure}
-use Rattle.op2_cli.specs.declared.refusals.Failure.TheVariants.{Unread, OutOfMemory}
+use Rattle.answer_lines.specs.declared.refusals.Failure.{Failure}
+use Rattle.answer_lines.specs.declared.refusals.Failure.TheVariants.{Unread, OutOfMemory}
 use Rattle.op2_cli.specs.Writes.{CallAnswers, EndsAsDefined, Writes, ending_of}
 
 -- with an answer

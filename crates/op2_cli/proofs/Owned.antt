@@ -1,5 +1,5 @@
 -- From new numbers and owners to what is answered of them.
-use Rattle.std.proofs.Common.{◌≡◌, ◌≤◌, ℕ, inl, inr, Bool, true, false, List, [], ◌∷◌, ◌++◌, length, Option, None, Some, Result, Ok, Err, IfErr, IfSome, refl, ap, sym, subst, ◌∙◌}
+use Rattle.std.proofs.Common.{◌≡◌, ◌≤◌, ℕ, inl, inr, Bool, true, false, List, [], ◌∷◌, ◌++◌, length, Option, None, Some, Result, Ok, Err, IfSome, refl, ap, sym, subst, ◌∙◌}
 use Rattle.std.specs.List.{Contains}
 use Rattle.std.specs.Str.{bytes_eq}
 use Rattle.std.specs.Prelude.{◌||◌, if◌then◌else◌}
@@ -7,63 +7,25 @@ use Rattle.std.proofs.lemmas.Slice.Eq.{bytes_eq-Decides}
 use Rattle.op_outside.specs.Outside.{Files}
 use Rattle.mesh_decl.specs.declared.owners.Owners.{Owners}
 use Rattle.mesh_decl.specs.declared.owners.Perms.{Perms}
-use Rattle.distribute.specs.Parts.{Parts, Text, OwnersRefusal, NoDat, NoMap, Unspelled, UnownedWhere}
-use Rattle.distribute.specs.declared.types.OwnersRefusal.{OwnersRefusal as Unowned}
-use Rattle.distribute.specs.declared.types.OwnersRefusal.TheVariants as unowned
-use Rattle.distribute.specs.Judgements.{OwnersAre}
 use Rattle.bound_program.specs.Values.{BoundValue}
 use Rattle.bound_program.specs.Fits.{Fits}
 use Rattle.answers.specs.Refusal.{Limit, Refusal, SourceBytes, MeshBytes, PartitionBytes, CannotRead}
 use Rattle.answers.specs.Lines as lines
 use Rattle.answers.specs.Lines.{most, refused}
 use Rattle.answers.specs.Words.{PlanJob, Parting, ByRule, ByFile, Options, Input, InFiles, OfSample, names_from, names_by, names_at}
-use Rattle.answers.specs.Said.{SaysOwners}
-use Rattle.answers.specs.Endings.{IsOfContents, IsSomeAnswer}
 use Rattle.answers.specs.Judgements.{IsHeld, NumbersOf, PartsOf, OwnersOf}
 use Rattle.answers.specs.Answers.{PlannedAnswers, without}
-use Rattle.op2_cli.specs.declared.answered.Answer.{Answer}
-use Rattle.op2_cli.specs.declared.refusals.Failure.TheVariants.{Unread, OutOfMemory}
-use Rattle.op2_cli.specs.declared.refusals.Halt.{Halt}
-use Rattle.op2_cli.specs.declared.refusals.Halt.TheVariants.{Refused, Failed}
-use Rattle.op2_cli.specs.Halts.{refusal_of, StopsWhere, SpoiltWhere}
-use Rattle.op2_cli.specs.Chains.{answer_of, LastAnswers, IsBoundIn, IsBoundWith, kept_of, Known, Tell, Holds, AnswersIn, AsksAlways, AsksBehind}
-use Rattle.op2_cli.specs.Chains.{again_of, parts_by, HoldsParts, IsFilePart, IsPartUnread}
-use Rattle.op2_cli.proofs.Chained.{stops_weaker, contains_first, missing}
-use Rattle.op2_cli.proofs.BoundFiles.{none_told, tell_left, tell_right, contains_left, contains_right}
-
--- ---- owners
-
--- a refusal that says why owners aren't there is one of theirs
-pub owners_refused_by : (o : Options) (b : BoundValue) (parts : Parts) (e : OwnersRefusal) (h : Halt)
-    → OwnersAre b.mesh o.ranks parts (Err e)
-    → SpoiltWhere (SaysOwners e) h
-    → SpoiltWhere (λ r. OwnersOf o b parts (Err r)) h
-owners_refused_by o b parts e h is says =
-    stops_weaker (λ r. SaysOwners e r × IsOfContents r) (λ r. OwnersOf o b parts (Err r) × IsOfContents r) h (λ r x. ((e, is, x.0), x.1)) says
-
--- and so is what ends the judgement of owners
-pub unowned_refuses : (o : Options) (b : BoundValue) (rule : Parts) (e : Unowned) (h : Halt)
-    → UnownedWhere (λ r. OwnersAre b.mesh o.ranks rule (Err r)) e
-    → UnownedWhere (λ r. SpoiltWhere (SaysOwners r) h) e
-    → (e ≡ unowned.OutOfMemory → h ≡ Failed OutOfMemory)
-    → SpoiltWhere (λ r. OwnersOf o b rule (Err r)) h
-unowned_refuses o b rule (unowned.UnknownDat name) h is says memory = owners_refused_by o b rule (NoDat name.now) h is says
-unowned_refuses o b rule (unowned.UnknownMap name) h is says memory = owners_refused_by o b rule (NoMap name.now) h is says
-unowned_refuses o b rule (unowned.Text r) h is says memory = owners_refused_by o b rule (Unspelled r) h is says
-unowned_refuses o b rule unowned.OutOfMemory h is says memory =
-    subst (SpoiltWhere (λ r. OwnersOf o b rule (Err r))) (sym (memory refl)) tt
-
--- what was kept of the file that tells the owners is refused as what is kept of that file
-pub kept_refused : {T : Type 0} (r : Result T Halt) (parting : Parting) (name : List ℕ) (kept : Option (List ℕ)) (w : List ℕ) (told : Option Files)
-    (rose : Type 0)
-    → parting ≡ ByFile name → kept ≡ Some w
-    → IfErr r (λ h. (n : List ℕ) → SpoiltWhere (λ e. IsHeld PartitionBytes n (Some w) (Err e)) h)
-    → IfErr r (λ h. IsPartUnread parting kept told rose h)
-kept_refused (Ok v) parting name kept w told rose p k h = tt
-kept_refused (Err halt) parting name kept w told rose p k h =
-    subst (λ z. IsPartUnread z kept told rose halt) (sym p) (subst (λ z. IsPartUnread (ByFile name) z told rose halt) (sym k) (h name))
-
--- ---- the whole
+use Rattle.answer_lines.specs.declared.call_answer.Answer.{Answer}
+use Rattle.answer_lines.specs.declared.refusals.Failure.TheVariants.{Unread, OutOfMemory}
+use Rattle.answer_lines.specs.declared.refusals.Halt.{Halt}
+use Rattle.answer_lines.specs.declared.refusals.Halt.TheVariants.{Refused, Failed}
+use Rattle.answer_lines.specs.Halts.{refusal_of, StopsWhere, SpoiltWhere, answer_of}
+use Rattle.job_inputs.specs.Inputs.{IsBoundIn, IsBoundWith, kept_of, parts_by, HoldsParts, IsFilePart, IsPartUnread}
+use Rattle.job_inputs.specs.Chains.{Known, Tell, Holds, AnswersIn}
+use Rattle.op2_cli.specs.Chains.{LastAnswers, AsksAlways, AsksBehind, again_of}
+use Rattle.job_inputs.proofs.Chained.{contains_first, missing}
+use Rattle.job_inputs.proofs.BoundFiles.{none_told}
+use Rattle.op2_cli.proofs.BoundFiles.{tell_right, contains_right}
 
 module _ (j : PlanJob) (o : Options) (b : BoundValue) (fits : Fits b) (input : Input) (kept : Option (List ℕ)) (told : Option Files) (rose : Type 0) where
   abbrev Whole : Files → lines.Answer → Type 0

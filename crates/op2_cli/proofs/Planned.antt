@@ -29,14 +29,17 @@ use Rattle.answers.specs.Judgements.{StepsOf, end_line, IsStepRefused}
 use Rattle.schedule_text.specs.declared.lines.Line.{Line}
 use Rattle.schedule_text.specs.Reading.{Reads as SchedulesRead}
 use Rattle.answers.specs.Answers.{planned_answer, without}
-use Rattle.op2_cli.specs.declared.answered.Answer.{Answer}
-use Rattle.op2_cli.specs.declared.refusals.Failure.TheVariants.{Unread, OutOfMemory}
-use Rattle.op2_cli.specs.declared.refusals.Halt.{Halt}
-use Rattle.op2_cli.specs.declared.refusals.Halt.TheVariants.{Refused, Failed}
-use Rattle.op2_cli.specs.Halts.{refusal_of, SpoiltWhere, UnreadWhere}
-use Rattle.op2_cli.specs.Chains.{answer_of, StepsAnswers, ScheduleAnswers, LastAnswers, IsAnswered, AnswersBy, IsSpread, Tell, Holds, AnswersIn, AsksAlways}
-use Rattle.op2_cli.proofs.Chained.{stops_weaker, contains_first, missing}
-use Rattle.op2_cli.proofs.BoundFiles.{none_told}
+use Rattle.answer_lines.specs.declared.call_answer.Answer.{Answer}
+use Rattle.answer_lines.specs.declared.refusals.Failure.TheVariants.{Unread, OutOfMemory}
+use Rattle.answer_lines.specs.declared.refusals.Halt.{Halt}
+use Rattle.answer_lines.specs.declared.refusals.Halt.TheVariants.{Refused, Failed}
+use Rattle.answer_lines.specs.Halts.{refusal_of, SpoiltWhere, answer_of}
+use Rattle.job_inputs.specs.Inputs.{UnreadWhere}
+use Rattle.job_inputs.specs.Chains.{IsAnswered, AnswersBy, Tell, Holds, AnswersIn}
+use Rattle.op2_cli.specs.Chains.{StepsAnswers, ScheduleAnswers, LastAnswers, IsSpread, AsksAlways}
+use Rattle.answer_lines.proofs.Halts.{stops_weaker}
+use Rattle.job_inputs.proofs.Chained.{contains_first, missing}
+use Rattle.job_inputs.proofs.BoundFiles.{none_told}
 use Rattle.op2_cli.proofs.Ran.{some_ran}
 
 -- ---- distributions

@@ -21,9 +21,10 @@ use Rattle.answers.specs.Refusal.{Refusal}
 use Rattle.answers.specs.Said.{SaysNext}
 use Rattle.answers.specs.Judgements.{steps_in, judged_next, IsStepRefused}
 use Rattle.answers.specs.Endings.{IsOfContents}
-use Rattle.op2_cli.specs.declared.refusals.Halt.{Halt}
-use Rattle.op2_cli.specs.Halts.{SpoiltWhere, SaysFirst}
-use Rattle.op2_cli.proofs.Chained.{stops_weaker}
+use Rattle.answer_lines.specs.declared.refusals.Halt.{Halt}
+use Rattle.answer_lines.specs.Halts.{SpoiltWhere}
+use Rattle.op2_cli.specs.Chains.{SaysFirst}
+use Rattle.answer_lines.proofs.Halts.{stops_weaker}
 
 module _ (o : Outline) where
   -- where the steps of l are taken in turn behind those of done, each is judged well where those before it are taken

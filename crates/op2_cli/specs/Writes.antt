@@ -1,38 +1,16 @@
 -- What is written of an answer, and of an ending without one.
-use Rattle.std.specs.Prelude.{◌≡◌, ℕ, ◌⊎◌, List, Option, Result, Ok, Err, codes}
+use Rattle.std.specs.Prelude.{◌≡◌, ℕ, ◌⊎◌, List, Option, Result, Ok, Err}
 use Rattle.std.specs.List.{Contains}
 use Rattle.op_outside.specs.Outside.{Files, Rose, appended, AppendsFront}
-use Rattle.answers.specs.Refusal as answer
 use Rattle.answers.specs.Lines as lines
-use Rattle.answers.specs.Lines.{line_of, whole_line}
 use Rattle.answers.specs.Words.{named_by}
 use Rattle.answers.specs.Endings as ending
 use Rattle.answers.specs.Endings.{Ending, unwritten_status, unwritten_line, Tells, Asks, IsWritten}
 use Rattle.answers.specs.Endings.{Call, Ends, IsComplete, IsUsage, IsShown, AreReported, IsSilent}
-use Rattle.op2_cli.specs.declared.answered.Answer.{Answer}
-use Rattle.op2_cli.specs.declared.refusals.Failure.{Failure}
-use Rattle.op2_cli.specs.declared.refusals.Failure.TheVariants.{Unread, OutOfMemory}
-use Rattle.op2_cli.specs.declared.report.Line.{Line}
-use Rattle.op2_cli.specs.declared.report.Line.TheVariants as report
-use Rattle.op2_cli.specs.Chains.{answer_of}
-
--- a line stands behind what was told before, or a front of it where the count of faults rose
-abbrev pub Stands : (faults : ℕ × ℕ) (told : Option (List ℕ) × Option (List ℕ)) → List ℕ → Type 0
-Stands faults told line = (told.1 ≡ appended told.0 line) ⊎ (Rose faults.0 faults.1 × AppendsFront told.0 line told.1)
-
--- the status of a line that takes no memory
-abbrev pub report_status : Line → ℕ
-report_status report.OutOfMemory = 1
-report_status report.Usage = 2
-report_status (report.CannotRead name) = 3
-report_status report.CannotWrite = 4
-
--- the line
-abbrev pub report_line : Line → List ℕ
-report_line report.OutOfMemory = whole_line (codes "out of memory")
-report_line report.Usage = line_of answer.Usage
-report_line (report.CannotRead name) = line_of (answer.CannotRead name.now)
-report_line report.CannotWrite = whole_line (codes "cannot write")
+use Rattle.answer_lines.specs.declared.call_answer.Answer.{Answer}
+use Rattle.answer_lines.specs.declared.refusals.Failure.{Failure}
+use Rattle.answer_lines.specs.declared.refusals.Failure.TheVariants.{Unread, OutOfMemory}
+use Rattle.answer_lines.specs.Halts.{answer_of}
 
 -- a call that has no answer ends so
 abbrev pub ending_of : Failure → Ending

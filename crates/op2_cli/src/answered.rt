@@ -3,86 +3,26 @@
 ghost use Rattle.std.specs.Prelude.{◌≡◌, ◌≤◌, [], ◌∷◌, ◌++◌, Ok, Err, All, map, length, string_bytes, option_map, IfOk, IfErr};
 ghost use Rattle.op_outside.specs.Outside.{Rose};
 ghost use Rattle.mesh_text.specs.declared.entry.TheConstants.{MESH_BYTES};
-ghost use Rattle.answers.specs.Refusal.{status_of};
-ghost use Rattle.answers.specs.Lines as lines;
 ghost use Rattle.answers.specs.Words.{WordsAre, names_from, names_by, names_at, names_of, named_by};
 ghost use Rattle.answers.specs.Laws.{AreWithin};
 ghost use Rattle.answers.specs.Answers.{PlanAnswers, ConvertAnswers, CommandAnswers, Answers};
 ghost use Rattle.command_words.specs.Values.{parting_in, options_in, job_in, input_in, command_of, IsInRange};
-ghost use Rattle.op2_cli.specs.Halts.{refusal_of, StopsWhere};
-ghost use Rattle.op2_cli.specs.Chains.{answer_of, again_of, RewriteAnswers, AnswersBy, AnswersOver};
+ghost use Rattle.answer_lines.specs.Halts.{StopsWhere};
+ghost use Rattle.job_inputs.specs.Chains.{AnswersBy, AnswersOver};
+ghost use Rattle.op2_cli.specs.Chains.{again_of, RewriteAnswers};
 ghost use Rattle.op2_cli.specs.Writes.{CallAnswers};
 
-use crate::files::file_of;
-use crate::lines::put_refusal;
-use crate::meshes::entries_of;
 use crate::plans::planned;
-use crate::programs::bound_input;
-use crate::refusals::{Failure, Halt, Limit, Refusal};
+use answer_lines::{Answer, Failure, Halt, Limit, Refusal, done, refused};
 use answers::{USAGE, VERSION};
 use command_words::{Asked, Input, Options, Parting, PlanJob, WordsRefusal, read_words};
+use job_inputs::{bound_input, entries_of, file_of};
 use mesh_text::{Form, write_mesh};
-use op_num::OutOfMemory;
 use op_outside::Shelf;
 use par_exec::Gate;
 use std::alloc::Global;
 use std::marker::Sync;
 use std::thread::Threads;
-
-/// An answer: the bytes for the output, and the line for the errors.
-#[derive(Debug, Drop)]
-pub enum Answer {
-    /// All is well, and these bytes are the output.
-    Done(Vec<u8>),
-    /// A run had a fault, and this was printed before it.
-    Faulted { out: Vec<u8>, line: Vec<u8> },
-    /// The words or a file are refused, with this status.
-    Refused { status: u8, line: Vec<u8> },
-}
-
-// The answer that says this, and nothing else.
-fn done(alloc: Global, text: &str) -> Result<Answer, OutOfMemory>
-    ensures { IfOk result (λ a. answer_of a ≡ lines.done text.now) }
-{
-    Ok(Answer::Done(text.as_bytes().to_vec(alloc)?))
-}
-
-// The status of a refusal.
-fn status_of(refusal: &Refusal<'_>) -> u8
-    ensures { result ≡ status_of (refusal_of refusal.now) }
-{
-    match refusal {
-        Refusal::Usage => 2,
-        Refusal::CannotRead(_) => 3,
-        Refusal::NoTokens { .. } => 5,
-        Refusal::NoTree { .. } => 5,
-        Refusal::TooDeep { .. } => 5,
-        Refusal::BadName { .. } => 5,
-        Refusal::BadBinding { .. } => 5,
-        Refusal::BadTarget { .. } => 5,
-        Refusal::BadAccess { .. } => 5,
-        Refusal::BadMesh { .. } => 6,
-        Refusal::BadPart(_) => 7,
-        Refusal::BadPartition { .. } => 7,
-        Refusal::BadSchedule { .. } => 8,
-        Refusal::BadStep { .. } => 8,
-        Refusal::EarlyStep { .. } => 8,
-        Refusal::LeftStep { .. } => 8,
-        Refusal::BeyondLimit { .. } => 10,
-    }
-}
-
-// The answer of a refusal.
-fn refused(alloc: Global, refusal: &Refusal<'_>) -> Result<Answer, OutOfMemory>
-    ensures { IfOk result (λ a. answer_of a ≡ lines.refused (refusal_of refusal.now)) }
-{
-    let mut line = Vec::new(alloc);
-    put_refusal(&mut line, refusal)?;
-    Ok(Answer::Refused {
-        status: status_of(refusal),
-        line,
-    })
-}
 
 // The file that tells the owners, if one does.
 fn again_of<'a>(parting: Parting<'a>) -> Option<&'a str>

@@ -1,39 +1,30 @@
 //! The program `op2`.
 #![tactic(auto)]
 
-mod accesses;
 mod answered;
 #[cfg(test)]
 mod colour_tests;
-mod files;
-mod limits;
-mod lines;
-mod meshes;
-mod owners;
+mod faults;
 #[cfg(test)]
 mod plan_tests;
 mod plans;
-mod programs;
 mod ranges;
 #[cfg(test)]
 mod refusal_tests;
-mod refusals;
-mod report;
 #[cfg(test)]
 mod run_tests;
 mod runs;
 #[cfg(test)]
 mod schedule_tests;
 mod schedules;
-mod sources;
 #[cfg(test)]
 mod step_tests;
 #[cfg(test)]
 mod tests;
 mod top;
 
+use answer_lines::{Line, report};
 use op_outside::{FileShelf, OutSink};
-use report::{Line, report};
 use std::process::ExitCode;
 use std::rt::Env;
 use std::{env, io};

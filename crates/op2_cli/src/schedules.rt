@@ -11,11 +11,10 @@ ghost use Rattle.schedule_text.specs.Reading.{Reads};
 ghost use Rattle.answers.specs.declared.limits.TheConstants.{SCHEDULE_BYTES};
 ghost use Rattle.answers.specs.Said.{SaysSchedule};
 ghost use Rattle.answers.specs.Judgements.{steps_in, end_line, IsTextRefused, IsStepRefused};
-ghost use Rattle.op2_cli.specs.Halts.{SpoiltWhere, SaysFirst};
-ghost use Rattle.op2_cli.specs.Chains.{IsSpread};
+ghost use Rattle.answer_lines.specs.Halts.{SpoiltWhere};
+ghost use Rattle.op2_cli.specs.Chains.{SaysFirst, IsSpread};
 
-use crate::limits::most;
-use crate::refusals::{Failure, Halt, Limit, Refusal};
+use answer_lines::{Failure, Halt, Limit, Refusal, most};
 use bound_program::Bound;
 use distribute::Distribution;
 use loop_plan::Plan;

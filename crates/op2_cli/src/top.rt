@@ -3,12 +3,12 @@
 ghost use Rattle.std.specs.Prelude.{◌≡◌, All, map, string_bytes};
 ghost use Rattle.answers.specs.Words.{named_by};
 ghost use Rattle.answers.specs.Endings.{ending_status, ending_line};
-ghost use Rattle.op2_cli.specs.Chains.{answer_of};
-ghost use Rattle.op2_cli.specs.Writes.{EndsAsDefined, Stands, Writes, ending_of};
+ghost use Rattle.answer_lines.specs.Halts.{answer_of};
+ghost use Rattle.answer_lines.specs.Reports.{Stands};
+ghost use Rattle.op2_cli.specs.Writes.{EndsAsDefined, Writes, ending_of};
 
-use crate::answered::{Answer, answered};
-use crate::refusals::Failure;
-use crate::report::{Line, report};
+use crate::answered::answered;
+use answer_lines::{Answer, Failure, Line, report};
 use answers::{
     calls_are_complete, calls_report_their_answers, calls_show_their_answers, others_write_nothing,
     usage_is_of_words,

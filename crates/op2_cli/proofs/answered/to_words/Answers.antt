@@ -1,5 +1,4 @@
 use Rattle.std.proofs.Common.{All, map, string_bytes, ap, subst}
-use Rattle.std.proofs.lemmas.Result.{err_from_is_err_and}
 use Rattle.op_outside.specs.Outside.{Rose}
 use Rattle.answers.specs.Words.{names_in}
 use Rattle.command_words.specs.Values.{command_of}

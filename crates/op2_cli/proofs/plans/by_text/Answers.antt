@@ -6,7 +6,7 @@ use Rattle.loop_plan.specs.Values.{plan_of}
 use Rattle.loop_plan.specs.StepOutline.{step_outline}
 use Rattle.answers.specs.Judgements.{ByText, steps_in}
 use Rattle.command_words.specs.Values.{options_in, job_in}
-use Rattle.op2_cli.specs.Chains.{answer_of}
+use Rattle.answer_lines.specs.Halts.{answer_of}
 use Rattle.op2_cli.proofs.Planned.{steps_answered, step_refused_by}
 use Rattle.op2_cli.proofs.plans.by_text.Goals as goal
 

@@ -2,7 +2,8 @@ use Rattle.std.proofs.Common.{subst, ◌∙◌}
 use Rattle.bound_program.specs.Values.{bound_of}
 use Rattle.loop_plan.specs.Values.{plan_of}
 use Rattle.schedule_check.specs.Whole.{IsUnaccepted}
-use Rattle.op2_cli.specs.Halts.{SpoiltWhere, SaysFirst}
+use Rattle.answer_lines.specs.Halts.{SpoiltWhere}
+use Rattle.op2_cli.specs.Chains.{SaysFirst}
 use Rattle.op2_cli.proofs.Planned.{spread_by}
 use Rattle.op2_cli.proofs.Refusing.{step_refused}
 use Rattle.op2_cli.proofs.schedules.judged.Goals as goal

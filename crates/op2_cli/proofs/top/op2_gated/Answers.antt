@@ -1,5 +1,5 @@
 use Rattle.std.proofs.Common.{refl}
-use Rattle.op2_cli.specs.Chains.{answer_of}
+use Rattle.answer_lines.specs.Halts.{answer_of}
 use Rattle.op2_cli.proofs.Ended.{ended, failed, defined}
 use Rattle.op2_cli.proofs.top.op2_gated.Goals as goal
 

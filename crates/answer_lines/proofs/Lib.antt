@@ -1,0 +1,4 @@
+pub mod Halts
+pub mod Pieces
+pub mod StepLines
+pub mod TargetLine

@@ -1,0 +1,63 @@
+// The limits of sizes.
+
+ghost use Rattle.std.specs.Prelude.{◌≡◌};
+ghost use Rattle.answers.specs.Lines.{most, limit_name};
+ghost use Rattle.answer_lines.specs.Halts.{limit_of};
+
+use crate::refusals::Limit;
+use answers::{PARTITION_BYTES, SCHEDULE_BYTES, SOURCE_BYTES};
+use bound_program::{
+    MAX_ARGUMENTS, MAX_CELLS, MAX_DATS, MAX_DIM, MAX_MAPS, MAX_SETS, MAX_SIZE, MAX_TRACE,
+    MAX_WEIGHT,
+};
+use loop_plan::MAX_STEPS;
+use mesh_decl::{MESH_BYTES, MESH_VALUES};
+use schedule_text::SCHEDULE_STEPS;
+
+/// The greatest size that the limit allows.
+pub fn most(limit: Limit) -> u64
+    ensures { result ≡ most (limit_of limit) }
+{
+    match limit {
+        Limit::SourceBytes => SOURCE_BYTES,
+        Limit::MeshBytes => MESH_BYTES,
+        Limit::MeshValues => MESH_VALUES,
+        Limit::Sets => MAX_SETS,
+        Limit::Maps => MAX_MAPS,
+        Limit::Dats => MAX_DATS,
+        Limit::SetSize => MAX_SIZE,
+        Limit::Dim => MAX_DIM,
+        Limit::MeshCells => MAX_CELLS,
+        Limit::Arguments => MAX_ARGUMENTS,
+        Limit::Trace => MAX_TRACE,
+        Limit::PrintWeight => MAX_WEIGHT,
+        Limit::PartitionBytes => PARTITION_BYTES,
+        Limit::Steps => MAX_STEPS,
+        Limit::ScheduleBytes => SCHEDULE_BYTES,
+        Limit::ScheduleSteps => SCHEDULE_STEPS,
+    }
+}
+
+/// The name of the limit, as lines have it.
+pub fn limit_name(limit: Limit) -> &'static [u8]
+    ensures { result.now ≡ limit_name (limit_of limit) }
+{
+    match limit {
+        Limit::SourceBytes => b"source-bytes",
+        Limit::MeshBytes => b"mesh-bytes",
+        Limit::MeshValues => b"mesh-values",
+        Limit::Sets => b"sets",
+        Limit::Maps => b"maps",
+        Limit::Dats => b"dats",
+        Limit::SetSize => b"set-size",
+        Limit::Dim => b"dim",
+        Limit::MeshCells => b"mesh-cells",
+        Limit::Arguments => b"arguments",
+        Limit::Trace => b"trace",
+        Limit::PrintWeight => b"print-weight",
+        Limit::PartitionBytes => b"partition-bytes",
+        Limit::Steps => b"steps",
+        Limit::ScheduleBytes => b"schedule-bytes",
+        Limit::ScheduleSteps => b"schedule-steps",
+    }
+}

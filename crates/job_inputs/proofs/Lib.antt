@@ -1,0 +1,7 @@
+pub mod Chained
+pub mod BoundFiles
+pub mod MeshText
+pub mod Unowned
+pub mod Unread
+pub mod Sites
+pub mod Maps

@@ -1,0 +1,30 @@
+-- The refusals of what the text of a mesh spells, as those of the chain over it.
+use Rattle.std.proofs.Common.{ℕ, List, Ok, Err, inl, inr, refl}
+use Rattle.c_tree.specs.Tree.{ProgramTree}
+use Rattle.kernel_types.specs.declared.kernels.Resolved.{Resolved}
+use Rattle.mesh_text.specs.Spelling.{Named}
+use Rattle.bound_program.specs.Values.{BoundValue}
+use Rattle.answers.specs.Lines.{refused}
+use Rattle.answers.specs.Refusal.{Refusal}
+use Rattle.answers.specs.Judgements.{EntriesAre, BoundIs, AccessesAre}
+use Rattle.answers.specs.Endings.{IsOfContents}
+use Rattle.answer_lines.specs.declared.refusals.Halt.{Halt}
+use Rattle.answer_lines.specs.Halts.{SpoiltWhere}
+use Rattle.job_inputs.specs.Chains.{Never, TextOver}
+use Rattle.answer_lines.proofs.Halts.{stops_weaker}
+
+module _ (p : ProgramTree) (types : Resolved) (text : List ℕ) where
+  abbrev Refuses : Refusal → Type 0
+  Refuses r = TextOver Never p types text (refused r)
+
+  weaker : (J : Refusal → Type 0) (h : Halt) → ((r : Refusal) → J r → Refuses r) → SpoiltWhere J h → SpoiltWhere Refuses h
+  weaker J h step s = stops_weaker (λ r. J r × IsOfContents r) (λ r. Refuses r × IsOfContents r) h (λ r x. (step r x.0, x.1)) s
+
+  pub entries_refused : (h : Halt) → SpoiltWhere (λ r. EntriesAre text (Err r)) h → SpoiltWhere Refuses h
+  entries_refused h s = weaker (λ r. EntriesAre text (Err r)) h (λ r j. inl (r, j, refl)) s
+
+  pub bound_refused : (es : List Named) (h : Halt) → EntriesAre text (Ok es) → SpoiltWhere (λ r. BoundIs p types es (Err r)) h → SpoiltWhere Refuses h
+  bound_refused es h entries s = weaker (λ r. BoundIs p types es (Err r)) h (λ r j. inr (es, entries, inl (r, j, refl))) s
+
+  pub accesses_refused : (es : List Named) (b : BoundValue) (h : Halt) → EntriesAre text (Ok es) → BoundIs p types es (Ok b) → SpoiltWhere (λ r. AccessesAre b (Err r)) h → SpoiltWhere Refuses h
+  accesses_refused es b h entries bound s = weaker (λ r. AccessesAre b (Err r)) h (λ r j. inr (es, entries, inr (b, bound, inl (r, j, refl)))) s

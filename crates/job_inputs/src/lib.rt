@@ -1,0 +1,17 @@
+//! What a job reads: its source, its mesh and its partition, each read and judged, and how the reading ends where it is refused.
+//!
+//! `bound_input` gives the program bound to its mesh, whose kernels keep to their accesses; `numbers_of`, `partition_of` and
+//! `owners_of` give the new numbers and the owners that the options ask for.
+#![tactic(auto)]
+
+mod accesses;
+mod files;
+mod meshes;
+mod owners;
+mod programs;
+mod sources;
+
+pub use files::file_of;
+pub use meshes::entries_of;
+pub use owners::{numbers_of, owners_of, partition_of};
+pub use programs::bound_input;

@@ -1,0 +1,81 @@
+// The source: its bytes, its tree, and its kernels and constants.
+
+ghost use Rattle.std.specs.Prelude.{◌≡◌, ◌≤◌, Ok, Err, length, IfOk, IfErr};
+ghost use Rattle.c_tree.specs.View.{program_of};
+ghost use Rattle.answers.specs.Judgements.{TreeIs, TypesAre};
+ghost use Rattle.answers.specs.Said.{SaysLex, SaysSource, SaysTypes};
+ghost use Rattle.answers.specs.declared.limits.TheConstants.{SOURCE_BYTES};
+ghost use Rattle.answer_lines.specs.Halts.{SpoiltWhere};
+
+use answer_lines::{Failure, Halt, Refusal};
+use c_reader::{SourceRefusal, read_program};
+use c_tree::{LexRefusal, Program};
+use kernel_types::Resolved;
+use name_resolution::{TypeRefusal, resolve};
+use std::alloc::Global;
+
+/// The tree of the source.
+pub fn tree_of<'a>(alloc: Global, source: &[u8]) -> Result<Program, Halt<'a>>
+    requires { length source.now ≤ SOURCE_BYTES }
+    ensures ok { IfOk result (λ p. TreeIs source.now (Ok (program_of p))) }
+    ensures err { IfErr result (SpoiltWhere (λ r. TreeIs source.now (Err r))) }
+{
+    match read_program(alloc, source) {
+        Ok(program) => Ok(program),
+        Err(refusal) => Err(unread(refusal)),
+    }
+}
+
+// A source without a tree.
+fn unread<'a>(refusal: SourceRefusal) -> Halt<'a>
+    ensures { SpoiltWhere (SaysSource refusal) result }
+{
+    match refusal {
+        SourceRefusal::Lex(refusal) => unlexed(refusal),
+        SourceRefusal::Syntax { at } => Halt::Refused(Refusal::NoTree { at }),
+        SourceRefusal::TooDeep { at } => Halt::Refused(Refusal::TooDeep { at }),
+        SourceRefusal::OutOfMemory => Halt::Failed(Failure::OutOfMemory),
+    }
+}
+
+// A source without tokens.
+fn unlexed<'a>(refusal: LexRefusal) -> Halt<'a>
+    ensures { SpoiltWhere (SaysLex refusal) result }
+{
+    let (number, at) = match refusal {
+        LexRefusal::BadByte { at } => (1, at),
+        LexRefusal::OpenComment { at } => (2, at),
+        LexRefusal::OpenText { at } => (3, at),
+        LexRefusal::NumberTooLarge { at } => (4, at),
+        LexRefusal::OutOfMemory => return Halt::Failed(Failure::OutOfMemory),
+    };
+    Halt::Refused(Refusal::NoTokens { number, at })
+}
+
+/// The kernels and constants of the source, with each name resolved.
+pub fn types_of<'a>(alloc: Global, program: &Program) -> Result<Resolved, Halt<'a>>
+    ensures ok { IfOk result (λ types. TypesAre (program_of program.now) (Ok types)) }
+    ensures err { IfErr result (SpoiltWhere (λ r. TypesAre (program_of program.now) (Err r))) }
+{
+    match resolve(alloc, program) {
+        Ok(resolved) => Ok(resolved),
+        Err(refusal) => Err(unresolved(refusal)),
+    }
+}
+
+// A source that breaks a rule on names and types.
+fn unresolved<'a>(refusal: TypeRefusal) -> Halt<'a>
+    ensures { SpoiltWhere (SaysTypes refusal) result }
+{
+    let (number, at) = match refusal {
+        TypeRefusal::UnknownName { at } => (1, at),
+        TypeRefusal::DuplicateName { at } => (2, at),
+        TypeRefusal::NotAnArray { at } => (3, at),
+        TypeRefusal::NotAScalar { at } => (4, at),
+        TypeRefusal::AssignsCounter { at } => (5, at),
+        TypeRefusal::AssignsConst { at } => (6, at),
+        TypeRefusal::TooMuchWork { at } => (7, at),
+        TypeRefusal::OutOfMemory => return Halt::Failed(Failure::OutOfMemory),
+    };
+    Halt::Refused(Refusal::BadName { number, at })
+}
