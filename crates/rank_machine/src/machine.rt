@@ -27,7 +27,7 @@ pub struct Machine {
     mail: Mail,
     fault: Option<Stop>,
     output: Vec<u8>,
-    // room for the windows of an element of an Ordered loop
+    // room for the windows of one element
     window: Vec<i32>,
 }
 
