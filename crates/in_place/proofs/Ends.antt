@@ -1,8 +1,9 @@
 -- How a run in place ends, as its caller sees it.
-use Rattle.std.proofs.Common.{◌≡◌, ℕ, ℤ, List, [], ◌∷◌, Some, None, refl, ap}
+use Rattle.std.proofs.Common.{◌≡◌, ℕ, ℤ, List, [], ◌∷◌, Some, None, Result, Ok, Err, refl, ap, ◌∙◌}
+use Rattle.std.specs.Result.{result_err}
 use Rattle.std.specs.Prelude.{slice_index_or}
 use Rattle.kernel_types.specs.declared.faults.KernelFault.{KernelFault}
-use Rattle.kernel_model.specs.Meaning.{Target, Ran, Finished, Stopped}
+use Rattle.kernel_model.specs.Meaning.{Target, Ran, Finished, Stopped, ran_of}
 use Rattle.element_runs.specs.OnWindows.{core_of}
 use Rattle.rank_state.specs.declared.spans.Span.{Span}
 use Rattle.rank_state.specs.Spans.{scattered}
@@ -30,3 +31,13 @@ module _ (spans : List Span) (ts us : List Target) (old new : List ℤ) where
   pub stopped_leaves : (item : ℕ) (f : KernelFault) (y : Ran) → EndsInPlace spans ts us old (Stopped (new ∷ []) f) y → old ≡ closed spans (pane_after item (core_of y)) old
   stopped_leaves item f (Finished t) e = absurd e
   stopped_leaves item f (Stopped t g) e = refl
+
+  -- ---- a kernel that leaves the memory as it was where it faults
+
+  pub ended_faults : {A : Type 0} → (r : Result A KernelFault) (y : Ran) → EndsInPlace spans ts us old (ran_of (new ∷ []) r) y → result_err r ≡ fault_of (core_of y)
+  ended_faults (Ok x) y e = finished_alone y e
+  ended_faults (Err f) y e = stopped_faults f y e
+
+  pub ended_leaves : {A : Type 0} → (item : ℕ) (r : Result A KernelFault) (y : Ran) → ((f : KernelFault) → ran_of (new ∷ []) r ≡ Stopped (new ∷ []) f → new ≡ old) → EndsInPlace spans ts us old (ran_of (new ∷ []) r) y → new ≡ closed spans (pane_after item (core_of y)) old
+  ended_leaves item (Ok x) y h e = finished_leaves item y e
+  ended_leaves item (Err f) y h e = h f refl ∙ stopped_leaves item f y e
