@@ -1,3 +1,4 @@
 pub mod Stops
 pub mod Rooms
+pub mod Machines
 pub mod AloneRuns

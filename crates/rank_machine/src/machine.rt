@@ -1,8 +1,9 @@
 // The machine: memories, variables, partials, frames, messages, and the least recorded fault.
 
-ghost use Rattle.std.specs.Prelude.{◌≡◌, ◌<◌, ◌*◌, ◌^◌, length, map, IfOk};
+ghost use Rattle.std.specs.Prelude.{◌≡◌, ◌<◌, ◌*◌, ◌^◌, All, length, map, IfOk};
 ghost use Rattle.rank_state.specs.Starting.{units as united, started};
 ghost use Rattle.rank_state.specs.Indices.{values_at, InLength};
+ghost use Rattle.rank_memory.specs.Spare.{HasSpare};
 
 mod elements;
 mod joins;
@@ -20,6 +21,7 @@ use std::marker::Model;
 /// The state of all ranks between two steps.
 #[derive(Drop)]
 pub struct Machine {
+    // each with spare capacity for the windows of one element
     memories: Vec<Vec<i32>>,
     variables: Vec<i32>,
     partials: Vec<Vec<i32>>,
@@ -32,13 +34,14 @@ pub struct Machine {
 }
 
 impl Model for Machine {
-    ghost use Rattle.std.specs.Prelude.{◌≡◌, ℕ, map, vec_len};
+    ghost use Rattle.std.specs.Prelude.{◌≡◌, ℕ, map};
     ghost use Rattle.kernel_types.specs.declared.faults.KernelFault.{KernelFault};
     ghost use Rattle.rank_state.specs.Machine.{State};
 
     ghost Value = { State KernelFault };
 
     ghost use Rattle.rank_machine.specs.Stops.{stop_in};
+    ghost use Rattle.rank_machine.specs.Machines.{IsMachine};
 
     ghost view = { λ m. record {
       memories = map (λ v. v.items) m.memories.items;
@@ -51,7 +54,7 @@ impl Model for Machine {
       output = m.output.items;
     } };
 
-    ghost invariant = { λ m. vec_len m.window ≡ m.frames.stride };
+    ghost invariant = { λ m. IsMachine m.frames.stride m.memories.items m.window };
 }
 
 // A unit for each slot.
@@ -83,7 +86,7 @@ fn units_of_ranks(
 impl Machine {
     /// A machine whose memories and variables hold their first values, with a partial for each slot,
     /// and room for so many frames, of at most `stride` cells each, and for so many cells under way.
-    /// `places` says for each rank how many places there may be.
+    /// Each memory has spare capacity for `stride` more cells. `places` says for each rank how many places there may be.
     pub fn new(
         alloc: Global,
         memories: Vec<Vec<i32>>,
@@ -94,7 +97,8 @@ impl Machine {
         mail: usize,
         stride: usize,
     ) -> Result<Machine, AllocError>
-        requires { frames * stride < 2 ^ 60 }
+        requires small { frames * stride < 2 ^ 60 }
+        requires spare { All (HasSpare stride) memories.items }
         ensures { IfOk result
             (λ m. m ≡ started (map (λ v. v.items) memories.items) variables.items slots.now places.now frames mail stride) }
     {

@@ -12,6 +12,7 @@ ghost use Rattle.flat_machine.specs.Layout.{Layout, IsLayout, by_place};
 ghost use Rattle.rank_state.specs.Spans.{total};
 ghost use Rattle.rank_state.specs.Starting.{AreSlots, ArePlaces};
 ghost use Rattle.rank_state.specs.Shows.{Tables, Indexed, AreExports, AreImports, AreWindows};
+ghost use Rattle.rank_memory.specs.Spare.{HasSpare};
 ghost use Rattle.rank_machine.specs.Stops.{stop_in};
 ghost use Rattle.rank_machine.specs.Rooms.{HasRoom};
 ghost use Rattle.rank_machine.specs.AloneRuns.{AllBegin, Reaches};
@@ -82,33 +83,33 @@ pub trait Parts: Kernels {
     /// Runs the kernel for the elements at the places, one after another, each begun and ended at once, with the values of all
     /// constants and variables: `memory`, the cells of the rank's buffer, and `partials` hold in the end what runs on the elements'
     /// windows and their ends would leave. Answers the fault to keep of `fault` and of those of the elements; an element that faults
-    /// leaves cells and partials as they were. `window` has room for an element's windows. What the runs leave there and in `room`
-    /// means nothing.
+    /// leaves cells and partials as they were. `memory` has spare capacity for the cells of a loop's variables, which the call may
+    /// put behind the buffer's cells while it runs. What the runs leave in `room` means nothing.
     fn run_places(
         &self,
         item: u32,
         rank: u32,
         places: &[u32],
         variables: &[i32],
-        memory: &mut [i32],
+        memory: &mut Vec<i32>,
         partials: &mut [i32],
         fault: Option<Stop>,
-        window: &mut [i32],
         room: &mut Room,
     ) -> Option<Stop>
         requires sound { Self.sound self.now }
         requires some { 0 < length places.now }
         requires steps { AllBegin (setup self.now) (layout self.now) (tables self.now) item rank places.now }
         requires variables { length variables.now ≡ (layout self.now).variables }
-        requires memory { length memory.old ≡ (layout self.now).width rank }
+        requires memory { length memory.old.items ≡ (layout self.now).width rank }
+        requires spare { HasSpare (tables self.now).stride memory.old }
         requires partials { length partials.old ≡ (tables self.now).slots }
-        requires window { (tables self.now).stride ≤ length window.old }
         requires space { HasRoom (span_count self.now) (Self.locals self.now) (length (tables self.now).constants) room.old }
         ensures runs { Reaches (setup self.now) (layout self.now) (tables self.now) item rank
             room.old.constants.items variables.now places.now
-            (record { cells = memory.old; partials = partials.old; fault = stop_in fault })
+            (record { cells = memory.old.items; partials = partials.old; fault = stop_in fault })
             (length places.now)
-            (record { cells = memory.new; partials = partials.new; fault = stop_in result }) }
+            (record { cells = memory.new.items; partials = partials.new; fault = stop_in result }) }
+        ensures spare { HasSpare (tables self.now).stride memory.new }
         ensures space { HasRoom (span_count self.now) (Self.locals self.now) (length (tables self.now).constants) room.new };
 
     /// Puts down where the cells of a message stand on its sender.

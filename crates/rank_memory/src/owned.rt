@@ -7,6 +7,7 @@ ghost use Rattle.rank_state.specs.Ordered.{Within_all, total_all, gathered_all, 
 ghost use Rattle.rank_state.specs.Indices.{InLength, values_at};
 ghost use Rattle.rank_state.specs.Ordered.{memories_after, variables_after};
 ghost use Rattle.rank_state.specs.Core.{fault_of};
+ghost use Rattle.rank_memory.specs.Spare.{KeepsSpare};
 
 use crate::core_run::Kernels;
 use kernel_types::KernelFault;
@@ -33,9 +34,10 @@ fn put_row(
     requires rank { rank < length memories.old }
     requires frame { from + dim ≤ length frame.now }
     requires memory { at + dim ≤ length (slice_index_or (map (λ v. v.items) memories.old) rank []) }
-    ensures { map (λ v. v.items) memories.new
+    ensures cells { map (λ v. v.items) memories.new
         ≡ slice_set (map (λ v. v.items) memories.old) rank
         (with_window at (cells_at from dim frame.now) (slice_index_or (map (λ v. v.items) memories.old) rank [])) }
+    ensures spare { KeepsSpare memories.old memories.new }
 {
     copy_in(&mut memories[rank], at, frame, from, dim);
 }
@@ -44,7 +46,8 @@ fn put_row(
 fn scatter_all(memories: &mut [Vec<i32>], spans: &[Owned], frame: &[i32])
     requires inside { Within_all (map (λ v. v.items) memories.old) spans.now }
     requires room { total_all spans.now ≤ length frame.now }
-    ensures { map (λ v. v.items) memories.new ≡ scattered_all 0 frame.now spans.now (map (λ v. v.items) memories.old) }
+    ensures cells { map (λ v. v.items) memories.new ≡ scattered_all 0 frame.now spans.now (map (λ v. v.items) memories.old) }
+    ensures spare { KeepsSpare memories.old memories.new }
 {
     let mut from = 0;
     for span in spans {
@@ -142,6 +145,7 @@ pub fn run_element<C: Kernels>(
         (C.core core.now item element constants.now
         (gathered_all (map (λ v. v.items) memories.old) spans.now ++ values_at variables.old indices.now))
         (map (λ v. v.items) memories.old) }
+    ensures spare { KeepsSpare memories.old memories.new }
     ensures variables { variables.new
         ≡ variables_after (total_all spans.now) indices.now
         (C.core core.now item element constants.now

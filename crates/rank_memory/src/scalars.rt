@@ -40,8 +40,8 @@ fn first_value(variables: &[i32], scalar: Scalar) -> i32
     }
 }
 
-// Puts the scalars' first values into the frame, from a place on.
-pub(crate) fn fill(variables: &[i32], scalars: &[Scalar], from: usize, frame: &mut [i32])
+/// Puts the scalars' first values into the frame, from a place on.
+pub fn fill(variables: &[i32], scalars: &[Scalar], from: usize, frame: &mut [i32])
     requires inside { Reads (length variables.now) scalars.now }
     requires room { from + length scalars.now ≤ length frame.old }
     ensures { take (from + length scalars.now) frame.new ≡ take from frame.old ++ firsts variables.now scalars.now }
@@ -51,8 +51,8 @@ pub(crate) fn fill(variables: &[i32], scalars: &[Scalar], from: usize, frame: &m
     }
 }
 
-// Merges a frame's amounts into the partials.
-pub(crate) fn merge_amounts(partials: &mut [i32], scalars: &[Scalar], windows: &[i32])
+/// Merges a frame's amounts, one for each scalar from its front on, into the partials.
+pub fn merge_amounts(partials: &mut [i32], scalars: &[Scalar], windows: &[i32])
     requires inside { Merges (length partials.old) scalars.now }
     requires room { length scalars.now ≤ length windows.now }
     ensures { partials.new ≡ amounts scalars.now windows.now partials.old }

@@ -1,6 +1,6 @@
 // The cells of each rank and of the variables before the first step.
 
-ghost use Rattle.std.specs.Prelude.{◌≡◌, ◌<◌, ◌≤◌, ◌+◌, ◌*◌, ◌++◌, All, map, length, take, drop, IfOk, OnOk};
+ghost use Rattle.std.specs.Prelude.{◌≡◌, ◌<◌, ◌≤◌, ◌+◌, ◌*◌, ◌++◌, All, map, length, take, drop, vec_len, vec_capacity, IfOk, OnOk};
 ghost use Rattle.std.specs.List.{flat_map};
 ghost use Rattle.mesh_decl.specs.Mesh.{dat_count};
 ghost use Rattle.local_mesh.specs.LocalMesh.{originals_in, AreClosed};
@@ -51,19 +51,28 @@ fn push_dat(mesh: &Mesh, part: &RankMesh, dat: u32, cells: &mut Vec<i32>) -> Res
     push_elements(mesh.dat_values(dat), dim as usize, elements, cells)
 }
 
-// The first cells of a rank. An error is want of memory.
-fn rank_cells(alloc: Global, mesh: &Mesh, part: &RankMesh) -> Result<Vec<i32>, OutOfMemory>
+// The first cells of a rank, with spare capacity for so many more. An error is want of memory.
+fn rank_cells(
+    alloc: Global,
+    mesh: &Mesh,
+    part: &RankMesh,
+    spare: usize,
+) -> Result<Vec<i32>, OutOfMemory>
     requires { AreClosed mesh.now part.now.sets.items }
-    ensures { IfOk result (λ v. v.items ≡ first_cells mesh.now part.now) }
+    ensures cells { IfOk result (λ v. v.items ≡ first_cells mesh.now part.now) }
+    ensures spare { IfOk result (λ v. vec_len v + spare ≤ vec_capacity v) }
 {
-    let mut cells = Vec::with_capacity(alloc, part.cells)?;
+    let mut cells = Vec::with_capacity(alloc, part.cells.saturating_add(spare))?;
     for dat in 0..mesh.dat_count() {
         push_dat(mesh, part, dat, &mut cells)?;
     }
+    // takes no more memory where the part counts its cells right
+    cells.reserve_exact(spare)?;
     Ok(cells)
 }
 
-/// The cells of each rank before the first step: in every copy its element's values in the mesh.
+/// The cells of each rank before the first step: in every copy its element's values in the mesh. Behind them there is spare
+/// capacity for so many more cells.
 ///
 /// # Errors
 /// Want of memory alone.
@@ -71,13 +80,15 @@ pub fn first_memories(
     alloc: Global,
     mesh: &Mesh,
     parts: &[RankMesh],
+    spare: usize,
 ) -> Result<Vec<Vec<i32>>, OutOfMemory>
     requires { All (λ (m : _). AreClosed mesh.now m.sets.items) parts.now }
-    ensures { IfOk result (λ v. map (λ x. x.items) v.items ≡ map (first_cells mesh.now) parts.now) }
+    ensures cells { IfOk result (λ v. map (λ x. x.items) v.items ≡ map (first_cells mesh.now) parts.now) }
+    ensures spare { IfOk result (λ v. All (λ x. vec_len x + spare ≤ vec_capacity x) v.items) }
 {
     let mut memories = Vec::with_capacity(alloc, parts.len())?;
     for part in parts {
-        memories.push(rank_cells(alloc, mesh, part)?)?;
+        memories.push(rank_cells(alloc, mesh, part, spare)?)?;
     }
     Ok(memories)
 }

@@ -134,7 +134,6 @@ impl Machine {
             &mut self.memories[rank as usize],
             &mut self.partials[rank as usize],
             self.fault,
-            &mut self.window,
             room,
         );
         self.fault = fault;

@@ -6,8 +6,8 @@ use Rattle.rank_memory.proofs.owned.put_row.Goals as goal
 row_here : (c : goal.After-memories-1) → c.deref_mut.result.now ≡ get_or (lists c.args.memories.now) c.args.rank []
 row_here c = c.deref_mut.ensures.value ∙ (ap (λ (v : Vec ℤ Global). v.items) (sym c.index-memories-rank.is) ∙ row_is c.args.memories.now c.args.rank c.index-memories-rank.result c.requires.rank c.index-memories-rank.is)
 
-pub returns : goal.returns
-returns c =
+pub returns-clause-cells : goal.returns-clause-cells
+returns-clause-cells c =
     row_put c.args.memories.now c.args.rank (get_or c.args.memories.now c.args.rank c.index-memories-rank.result) c.copy_in.new.frame (with_window c.args.at (cells_at c.args.from c.args.dim c.args.frame.now) (get_or (lists c.args.memories.now) c.args.rank []))
     (c.copy_in.auto.frame ∙ ap length c.deref_mut.ensures.value)
     (c.copy_in.ensures ∙ ap (with_window c.args.at (cells_at c.args.from c.args.dim c.args.frame.now)) (row_here c))

@@ -14,9 +14,10 @@ loop-span-preserved c =
     let inv = c.loop-span.invariant in
     let room : c.loop-span.from + total_all (get_or c.args.spans.now c.loop-span.span-index no_span ∷ drop (c.loop-span.span-index + 1) c.args.spans.now) ≤ length c.args.frame.now = subst (λ l. c.loop-span.from + total_all l ≤ length c.args.frame.now) e inv.room in
     let next = next_put c.loop-span.from c.args.frame.now (get_or c.args.spans.now c.loop-span.span-index no_span) (drop (c.loop-span.span-index + 1) c.args.spans.now) (lists c.loop-span.memories) (lists c.put_row.new.memories)
-    (subst (Within_all (lists c.loop-span.memories)) e inv.inside) room c.put_row.ensures in
+    (subst (Within_all (lists c.loop-span.memories)) e inv.inside) room c.put_row.ensures.cells in
     record {
       inside = next.0;
       room = omega arith;
       left = next.1 ∙ ap (λ l. scattered_all c.loop-span.from c.args.frame.now l (lists c.loop-span.memories)) (sym e) ∙ inv.left;
+      spare = λ n all. c.put_row.ensures.spare n (inv.spare n all);
     }
