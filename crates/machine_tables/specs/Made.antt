@@ -2,6 +2,8 @@
 use Rattle.std.specs.Prelude.{◌≡◌, ◌<◌, ◌≤◌, ℕ, Bool, true, false, List, [], ◌∷◌, Vec, map, length, sum_by, get_or, slice_index_or, Some}
 use Rattle.std.specs.Prelude.{None, IfSome}
 use Rattle.std.specs.declared.alloc.Global.{Global}
+use Rattle.kernel_types.specs.declared.kernels.RKernel.{RKernel}
+use Rattle.fault_order.specs.Effects.{faults_first}
 use Rattle.mesh_decl.specs.declared.owners.Owners.{Owners}
 use Rattle.mesh_decl.specs.Mesh.{dat_set}
 use Rattle.local_mesh.specs.declared.lists.LocalLists.{LocalLists}
@@ -9,12 +11,14 @@ use Rattle.reductions.specs.Reduction.{Reduction}
 use Rattle.flat_machine.specs.Scatter.{Once}
 use Rattle.bound_program.specs.declared.sites.Arg.{Arg}
 use Rattle.bound_program.specs.declared.sites.Arg.TheVariants.{Dat, Global as Variable}
-use Rattle.bound_program.specs.Values.{BoundValue}
+use Rattle.bound_program.specs.Values.{BoundValue, SiteValue}
 use Rattle.bound_program.specs.Fits.{site_at}
 use Rattle.bound_program.specs.Classes.{modifies}
 use Rattle.host_acts.specs.Variables.{VarsBegin}
 use Rattle.run_model.specs.Hosts.{variable_cells}
 use Rattle.run_model.specs.Windows.{window_cells}
+use Rattle.run_model.specs.Arguments.{arg_width}
+use Rattle.run_model.specs.Kernels.{kernel_at}
 use Rattle.loop_plan.specs.Values.{PlanValue, item_plan}
 use Rattle.rank_state.specs.declared.scalars.Scalar.{Scalar}
 use Rattle.rank_state.specs.declared.scalars.Scalar.TheVariants.{Value, Amount}
@@ -52,10 +56,15 @@ module _ (b : BoundValue) (s : ℕ) where
     pub reduced : (i : ℕ) (o : Reduction) → i < length (variable_cells b) → reduces_at b s (variable_at b i) ≡ Some o
         → has_index i scalars ≡ true
 
--- whether the loop with these arguments modifies the argument's dat
+-- whether the loop with these arguments modifies the argument's dat; so each variable's window, which is an element's own, counts
 abbrev pub writes_by : List Arg → Arg → Bool
 writes_by args (Dat d v a) = modifies args d
-writes_by args (Variable v a) = false
+writes_by args (Variable v a) = true
+
+-- whether the faults of the loop's kernel come before its stores, over the windows of its arguments
+abbrev pub FaultsFirst : BoundValue → SiteValue → Bool → Type 0
+FaultsFirst b site first =
+    (k : RKernel) → kernel_at b.kernels site.kernel ≡ Some k → first ≡ faults_first (map (arg_width b) site.args) k
 
 -- item, sender, receiver: how many spans the message has, one for each element of each dat
 abbrev pub message_spans : BoundValue → PlanValue → List LocalLists → ℕ → ℕ → ℕ → ℕ
@@ -78,6 +87,8 @@ pub record AreMade (b : BoundValue) (o : Owners) (p : PlanValue) (lists : List L
   pub indices : (s : ℕ) → s < length b.sites → row_of t.indices.items s ≡ map index (row_of t.scalars.items s)
   pub write_count : length t.writes.items ≡ length b.sites
   pub writes : (s : ℕ) → s < length b.sites → row_of t.writes.items s ≡ map (writes_by (site_at b s).args) (site_at b s).args
+  pub fault_count : length t.faults_first.items ≡ length b.sites
+  pub faults_first : (s : ℕ) → s < length b.sites → FaultsFirst b (site_at b s) (get_or t.faults_first.items s false)
   pub frame_count : length t.frames.items ≡ length b.sites
   pub frames : (s : ℕ) → s < length b.sites → IfSome (get_or t.frames.items s None) (AreFrameWindows b (site_at b s))
   pub place_count : length t.places.items ≡ o.ranks

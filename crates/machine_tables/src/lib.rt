@@ -2,6 +2,7 @@
 #![tactic(auto)]
 
 mod constant_table;
+mod fault_table;
 mod frame_table;
 mod laws_tables;
 mod making;

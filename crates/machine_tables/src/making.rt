@@ -9,6 +9,7 @@ ghost use Rattle.loop_plan.specs.Values.{plan_of};
 ghost use Rattle.machine_tables.specs.Made.{HaveRoom, AreMade};
 
 use crate::constant_table::constant_table;
+use crate::fault_table::loop_faults_first;
 use crate::frame_table::frame_table;
 use crate::place_table::place_table;
 use crate::scalar_tables::{loop_indices, loop_scalars};
@@ -51,6 +52,7 @@ impl MachineTables {
         let indices = loop_indices(alloc, &scalars)?;
         let constants = constant_table(alloc, bound, &starts)?;
         let writes = loop_writes(alloc, bound)?;
+        let faults_first = loop_faults_first(alloc, bound)?;
         let frames = frame_table(alloc, bound)?;
         let places = place_table(alloc, plan, owners.ranks)?;
         Ok(MachineTables {
@@ -60,6 +62,7 @@ impl MachineTables {
             scalars,
             indices,
             writes,
+            faults_first,
             frames,
             places,
             stride: stride(bound),

@@ -27,8 +27,10 @@ pub struct MachineTables {
     pub scalars: Vec<Vec<Scalar>>,
     /// By loop, the numbers of the same cells.
     pub indices: Vec<Vec<usize>>,
-    /// By loop and argument, whether the loop modifies the argument's dat; `false` for one on a variable.
+    /// By loop and argument, whether the loop modifies the argument's dat; `true` for one on a variable.
     pub writes: Vec<Vec<bool>>,
+    /// By loop, whether no part of its kernel that may fault can run after a store through an argument.
+    pub faults_first: Vec<bool>,
     /// By loop, where its arguments' windows stand in frames that are alike.
     pub frames: Vec<Option<FrameWindows>>,
     /// The most places of a loop, by rank.

@@ -10,13 +10,13 @@ use bound_program::{Arg, Bound};
 use op_num::OutOfMemory;
 use std::alloc::Global;
 
-// Whether a loop with these arguments modifies the argument's dat.
+// Whether a loop with these arguments modifies the argument's dat; each variable's window counts.
 fn is_written(args: &[Arg], arg: Arg) -> bool
     ensures { result ≡ writes_by args.now arg }
 {
     match arg {
         Arg::Dat { dat, .. } => is_modified(dat, args),
-        Arg::Global { .. } => false,
+        Arg::Global { .. } => true,
     }
 }
 
@@ -31,7 +31,8 @@ fn writes_of(alloc: Global, args: &[Arg]) -> Result<Vec<bool>, OutOfMemory>
     Ok(writes)
 }
 
-/// By loop and argument, whether the loop modifies the argument's dat; `false` for one on a variable.
+/// By loop and argument, whether the loop modifies the argument's dat; `true` for one on a variable, whose
+/// window is an element's own.
 ///
 /// # Errors
 /// Want of memory alone.

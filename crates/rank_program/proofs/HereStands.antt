@@ -3,7 +3,7 @@ use Rattle.std.proofs.Common.{◌≡◌, ◌<◌, ◌≤◌, ◌+◌, ℕ, zero,
 use Rattle.std.specs.Prelude.{nat_eq}
 use Rattle.std.specs.List.{list_all}
 use Rattle.std.proofs.lemmas.Bool.{cases_lt, cases_Bool, false≢true, lt-ltb, le-ltb, eq-eqb, or_cases, not-false, not_from_true}
-use Rattle.std.proofs.lemmas.List.{get_or-map, get_or_past, get_or_append_left, get_or-append-add, length-map}
+use Rattle.std.proofs.lemmas.List.{get_or-map, get_or_past, get_or_append_left, get_or-append-add, length-map, length-append}
 use Rattle.reductions.specs.Access.{OpRead, access_of}
 use Rattle.reductions.specs.declared.access.Access.{Access as Code}
 use Rattle.reductions.specs.declared.access.Access.TheVariants.{Read, Write, Rw, Inc, Min, Max}
@@ -11,12 +11,11 @@ use Rattle.kernel_model.specs.Meaning.{Target, no_target, target_at}
 use Rattle.kernel_model.specs.Obeys.{Mode, mode_at, no_mode}
 use Rattle.views.specs.declared.frame.Place.{Place}
 use Rattle.views.specs.Framed.{target_of}
-use Rattle.schedule_model.specs.Cells.{Data, DatCell}
+use Rattle.schedule_model.specs.Cells.{Cell, Data, Variable}
 use Rattle.element_runs.specs.OnWindows.{no_cell, OnWindows}
 use Rattle.bound_program.specs.declared.sites.Arg.{Arg}
 use Rattle.bound_program.specs.declared.sites.Arg.TheVariants.{Dat, Global}
 use Rattle.bound_program.specs.Values.{BoundValue, SiteValue}
-use Rattle.bound_program.specs.Fits.{ArgFits}
 use Rattle.bound_program.specs.Classes.{is_read, passes, all_on, modifies}
 use Rattle.run_model.specs.Windows.{reached, cell_in, window_of, targets}
 use Rattle.run_model.specs.Arguments.{no_arg, arg_at, arg_width, mode_of, modes_of, cell_of}
@@ -24,35 +23,51 @@ use Rattle.run_model.proofs.Windows.{is_argument}
 use Rattle.bound_plan.specs.Windows.{dats_first, frame_cells, frame_windows}
 use Rattle.rank_state.specs.declared.spans.Span.{Span}
 use Rattle.rank_state.specs.Spans.{Within, total}
-use Rattle.rank_state.specs.Windows.{cells_from, span_cells, Marked}
+use Rattle.rank_state.specs.Windows.{Marked}
 use Rattle.in_place.specs.Standing.{stands_at, is_written, Apart}
 use Rattle.in_place.specs.InPlace.{NameTheSame}
 use Rattle.in_place.proofs.Standings.{in_first, in_rest, first_written, rest_written, by_span, stands_within}
-use Rattle.machine_tables.specs.Placed.{is_dat}
 use Rattle.machine_tables.specs.Made.{writes_by}
 use Rattle.rank_program.specs.Here.{span_place}
-use Rattle.rank_windows.proofs.ElementWindows.{run_count, spans_count}
+use Rattle.rank_program.proofs.Buffer.{run_cells, buffer_cells}
+
+-- a run may leave something else there: on a dat that the loop modifies, or in a variable's window
+abbrev pub is_changed : List Arg → Cell → Bool
+is_changed args (Data c) = modifies args c.dat
+is_changed args (Variable v) = true
 
 -- ---- cells of spans
 
-run_at : (cell_at : ℕ → DatCell) (at n j : ℕ) → j < n → get_or (cells_from cell_at at n) j no_cell ≡ Data (cell_at (at + j))
-run_at cell_at at zero j lt = absurd (omega arith)
-run_at cell_at at (suc n) zero lt = let e : at ≡ at + 0 = omega arith in ap (λ i. Data (cell_at i)) e
-run_at cell_at at (suc n) (suc j) lt =
+run_length : (cell : ℕ → Cell) (at n : ℕ) → length (run_cells cell at n) ≡ n
+run_length cell at zero = refl
+run_length cell at (suc n) = ap suc (run_length cell (suc at) n)
+
+spans_length : (cell : ℕ → Cell) (spans : List Span) → length (buffer_cells cell spans) ≡ total spans
+spans_length cell [] = refl
+spans_length cell (s ∷ ss) =
+    let one = length-append (run_cells cell s.at s.dim) (buffer_cells cell ss) in
+    let first = run_length cell s.at s.dim in
+    let rest = spans_length cell ss in
+    omega (arith, one, first, rest)
+
+run_at : (cell : ℕ → Cell) (at n j : ℕ) → j < n → get_or (run_cells cell at n) j no_cell ≡ cell (at + j)
+run_at cell at zero j lt = absurd (omega arith)
+run_at cell at (suc n) zero lt = let e : at ≡ at + 0 = omega arith in ap cell e
+run_at cell at (suc n) (suc j) lt =
     let e : suc at + j ≡ at + suc j = omega arith in
-    run_at cell_at (suc at) n j (omega arith) ∙ ap (λ i. Data (cell_at i)) e
+    run_at cell (suc at) n j (omega arith) ∙ ap cell e
 
 -- a gathered cell is that of where it stands
-spans_at : (cell_at : ℕ → DatCell) (spans : List Span) (j : ℕ) → j < total spans → get_or (span_cells cell_at spans) j no_cell ≡ Data (cell_at (stands_at spans j))
-spans_at cell_at [] j lt = absurd (omega arith)
-spans_at cell_at (s ∷ ss) j lt =
-    let count : length (cells_from cell_at s.at s.dim) ≡ s.dim = run_count cell_at s.at s.dim in
-    by_span s ss (λ i. get_or (cells_from cell_at s.at s.dim ++ span_cells cell_at ss) i no_cell ≡ Data (cell_at (stands_at (s ∷ ss) i))) j lt
-    (λ i l. get_or_append_left (cells_from cell_at s.at s.dim) (span_cells cell_at ss) no_cell i (omega arith)
-    ∙ run_at cell_at s.at s.dim i l ∙ ap (λ n. Data (cell_at n)) (sym (in_first s ss i l)))
-    (λ i l. ap (λ n. get_or (cells_from cell_at s.at s.dim ++ span_cells cell_at ss) (n + i) no_cell) (sym count)
-    ∙ get_or-append-add (cells_from cell_at s.at s.dim) (span_cells cell_at ss) i no_cell
-    ∙ spans_at cell_at ss i l ∙ ap (λ n. Data (cell_at n)) (sym (in_rest s ss i)))
+spans_at : (cell : ℕ → Cell) (spans : List Span) (j : ℕ) → j < total spans → get_or (buffer_cells cell spans) j no_cell ≡ cell (stands_at spans j)
+spans_at cell [] j lt = absurd (omega arith)
+spans_at cell (s ∷ ss) j lt =
+    let count : length (run_cells cell s.at s.dim) ≡ s.dim = run_length cell s.at s.dim in
+    by_span s ss (λ i. get_or (run_cells cell s.at s.dim ++ buffer_cells cell ss) i no_cell ≡ cell (stands_at (s ∷ ss) i)) j lt
+    (λ i l. get_or_append_left (run_cells cell s.at s.dim) (buffer_cells cell ss) no_cell i (omega arith)
+    ∙ run_at cell s.at s.dim i l ∙ ap cell (sym (in_first s ss i l)))
+    (λ i l. ap (λ n. get_or (run_cells cell s.at s.dim ++ buffer_cells cell ss) (n + i) no_cell) (sym count)
+    ∙ get_or-append-add (run_cells cell s.at s.dim) (buffer_cells cell ss) i no_cell
+    ∙ spans_at cell ss i l ∙ ap cell (sym (in_rest s ss i)))
 
 -- a cell's mark is that of its span
 marked_at : (taken : ℕ → Bool) (spans : List Span) → Marked taken spans → (j : ℕ) → j < total spans → is_written spans j ≡ taken (stands_at spans j)
@@ -97,17 +112,16 @@ place_array [] a = refl
 place_array (p ∷ ps) zero = refl
 place_array (p ∷ ps) (suc a) = place_array ps a
 
-module _ (b : BoundValue) (site : SiteValue) (e n : ℕ) (cell_at : ℕ → DatCell) (place : DatCell → ℕ)
-    (one : (i : ℕ) → i < n → place (cell_at i) ≡ i)
+module _ (b : BoundValue) (site : SiteValue) (e n : ℕ) (cell : ℕ → Cell)
+    (one : (i j : ℕ) → i < n → j < n → cell i ≡ cell j → i ≡ j)
     (on : OnWindows (modes_of b site) (cell_of b site e) (frame_cells b site.args e) (frame_windows b site.args e))
-    (spans : List Span) (cells : frame_cells b site.args e ≡ span_cells cell_at spans)
+    (spans : List Span) (cells : frame_cells b site.args e ≡ buffer_cells cell spans)
     (within : Within n spans)
-    (marked : Marked (λ i. modifies site.args (cell_at i).dat) spans)
-    (fits : All (ArgFits b site.set) site.args)
+    (marked : Marked (λ i. is_changed site.args (cell i)) spans)
     (span : Arg → Span)
-    (dims : (d : ℕ) (v : _) (a : Code) → (span (Dat d v a)).dim ≡ arg_width b (Dat d v a))
-    (inside : All (λ y. is_dat y ≡ true → (span y).at + (span y).dim ≤ n) site.args)
-    (has : All (λ y. (j : ℕ) → j < (span y).dim → Data (cell_at ((span y).at + j)) ≡ cell_in (reached b e y) j) site.args) where
+    (dims : All (λ y. (span y).dim ≡ arg_width b y) site.args)
+    (inside : All (λ y. (span y).at + (span y).dim ≤ n) site.args)
+    (has : All (λ y. (j : ℕ) → j < (span y).dim → cell ((span y).at + j) ≡ cell_in (reached b e y) j) site.args) where
   abbrev ts : List Target
   ts = frame_windows b site.args e
 
@@ -115,10 +129,10 @@ module _ (b : BoundValue) (site : SiteValue) (e n : ℕ) (cell_at : ℕ → DatC
   us = map target_of (map (λ y. span_place (span y)) site.args)
 
   counted : total spans ≡ length (frame_cells b site.args e)
-  counted = sym (ap length cells ∙ spans_count cell_at spans)
+  counted = sym (ap length cells ∙ spans_length cell spans)
 
-  gathered_cell : (j : ℕ) → j < total spans → get_or (frame_cells b site.args e) j no_cell ≡ Data (cell_at (stands_at spans j))
-  gathered_cell j lt = ap (λ xs. get_or xs j no_cell) cells ∙ spans_at cell_at spans j lt
+  gathered_cell : (j : ℕ) → j < total spans → get_or (frame_cells b site.args e) j no_cell ≡ cell (stands_at spans j)
+  gathered_cell j lt = ap (λ xs. get_or xs j no_cell) cells ∙ spans_at cell spans j lt
 
   -- a component of an argument in the windows
   in_mode : (a i : ℕ) → i < (target_at ts a).count → i < (mode_at (modes_of b site) a).dim
@@ -127,33 +141,11 @@ module _ (b : BoundValue) (site : SiteValue) (e n : ℕ) (cell_at : ℕ → DatC
   in_windows : (a i : ℕ) → i < (target_at ts a).count → (target_at ts a).from + i < total spans
   in_windows a i lt = let h = on.inside a i (in_mode a i lt) in let e : total spans ≡ length (frame_cells b site.args e) = counted in omega arith
 
-  window_cell : (a i : ℕ) (lt : i < (target_at ts a).count) → Data (cell_at (stands_at spans ((target_at ts a).from + i))) ≡ cell_of b site e a i
+  window_cell : (a i : ℕ) (lt : i < (target_at ts a).count) → cell (stands_at spans ((target_at ts a).from + i)) ≡ cell_of b site e a i
   window_cell a i lt = sym (gathered_cell ((target_at ts a).from + i) (in_windows a i lt)) ∙ on.are a i (in_mode a i lt)
-
-  -- it is one of a dat
-  record IsOnDat (a : ℕ) : Type 0 where
-    dat : ℕ
-    via : _
-    access : Code
-    is : arg_at site a ≡ Dat dat via access
-
-  dat_or : (a : ℕ) (y : Arg) → arg_at site a ≡ y → a < length site.args → (0 < (target_at ts a).count → (c : DatCell) × (Data c ≡ cell_in (reached b e y) 0)) → (0 < arg_width b y → 0 < (target_at ts a).count) → IsOnDat a
-  dat_or a (Dat d v acc) is lt cell some = record { dat = d; via = v; access = acc; is = is }
-  dat_or a (Global v acc) is lt cell some =
-      let fit : ArgFits b site.set (Global v acc) = subst (ArgFits b site.set) is (fits a no_arg lt) in
-      let c = cell (some fit.1) in
-      absurd (apart c.0 c.1)
-    where
-      apart : (c : DatCell) → Data c ≡ cell_in (reached b e (Global v acc)) 0 → ⊥
-      apart c h = cc
 
   mode_is : (a : ℕ) → a < length site.args → mode_at (modes_of b site) a ≡ mode_of b (arg_at site a)
   mode_is a lt = get_or-map (mode_of b) site.args a no_arg no_mode lt
-
-  on_dat : (a : ℕ) → a < length site.args → IsOnDat a
-  on_dat a lt = dat_or a (arg_at site a) refl lt
-      (λ some. (cell_at (stands_at spans ((target_at ts a).from + 0)), window_cell a 0 some))
-      (λ w. subst (λ c. 0 < c) (sym (on.counts a ∙ ap (λ (m : Mode). m.dim) (mode_is a lt))) w)
 
   -- where it stands in the buffer
   target_is : (a : ℕ) → a < length site.args → target_at us a ≡ target_of (span_place (span (arg_at site a)))
@@ -161,11 +153,8 @@ module _ (b : BoundValue) (site : SiteValue) (e n : ℕ) (cell_at : ℕ → DatC
       get_or-map target_of (map (λ y. span_place (span y)) site.args) a (span_place (span no_arg)) no_target (omega (arith, length-map site.args (λ y. span_place (span y))))
       ∙ ap target_of (get_or-map (λ y. span_place (span y)) site.args a no_arg (span_place (span no_arg)) lt)
 
-  dim_is : (a : ℕ) → a < length site.args → (span (arg_at site a)).dim ≡ arg_width b (arg_at site a)
-  dim_is a lt = let h = on_dat a lt in subst (λ y. (span y).dim ≡ arg_width b y) (sym h.is) (dims h.dat h.via h.access)
-
   count_is : (a : ℕ) → a < length site.args → (target_at ts a).count ≡ (span (arg_at site a)).dim
-  count_is a lt = on.counts a ∙ ap (λ (m : Mode). m.dim) (mode_is a lt) ∙ sym (dim_is a lt)
+  count_is a lt = on.counts a ∙ ap (λ (m : Mode). m.dim) (mode_is a lt) ∙ sym (dims a no_arg lt)
 
   counts : (a : ℕ) → (target_at ts a).count ≡ (target_at us a).count
   counts a = ⊎_elim
@@ -180,17 +169,13 @@ module _ (b : BoundValue) (site : SiteValue) (e n : ℕ) (cell_at : ℕ → DatC
   argument : (a i : ℕ) → i < (target_at ts a).count → a < length site.args
   argument a i lt = is_argument b site a i (in_mode a i lt)
 
-  same_place : (i j : ℕ) → i < n → j < n → Data (cell_at i) ≡ Data (cell_at j) → i ≡ j
-  same_place i j li lj h = let e : cell_at i ≡ cell_at j = cc in sym (one i li) ∙ ap place e ∙ one j lj
-
   stands : (a i : ℕ) → i < (target_at ts a).count → stands_at spans ((target_at ts a).from + i) ≡ (target_at us a).from + i
   stands a i lt =
       let la : a < length site.args = argument a i lt in
-      let h = on_dat a la in
       let li : i < (span (arg_at site a)).dim = subst (λ c. i < c) (count_is a la) lt in
-      let room : (span (arg_at site a)).at + (span (arg_at site a)).dim ≤ n = inside a no_arg la (ap is_dat h.is) in
+      let room : (span (arg_at site a)).at + (span (arg_at site a)).dim ≤ n = inside a no_arg la in
       let there : (span (arg_at site a)).at + i < n = omega arith in
-      same_place (stands_at spans ((target_at ts a).from + i)) ((span (arg_at site a)).at + i)
+      one (stands_at spans ((target_at ts a).from + i)) ((span (arg_at site a)).at + i)
       (stands_within n spans within ((target_at ts a).from + i) (in_windows a i lt)) there
       (window_cell a i lt ∙ sym (has a no_arg la i li))
       ∙ ap (λ (t : Target). t.from + i) (sym (target_is a la))
@@ -207,25 +192,28 @@ module _ (b : BoundValue) (site : SiteValue) (e n : ℕ) (cell_at : ℕ → DatC
   pub spans_apart : Apart spans
   spans_apart i j li lj same =
       let e : total spans ≡ length (frame_cells b site.args e) = counted in
-      on.once i j (omega arith) (omega arith) (gathered_cell i li ∙ ap (λ k. Data (cell_at k)) same ∙ sym (gathered_cell j lj))
+      on.once i j (omega arith) (omega arith) (gathered_cell i li ∙ ap cell same ∙ sym (gathered_cell j lj))
 
-  -- whether its span is written is whether the loop modifies its dat
-  written_is : (a i : ℕ) (lt : i < (target_at ts a).count) (h : IsOnDat a) → is_written spans ((target_at ts a).from + i) ≡ modifies site.args h.dat
-  written_is a i lt h =
-      let c = cell_at (stands_at spans ((target_at ts a).from + i)) in
-      let whole : Data c ≡ cell_in (reached b e (Dat h.dat h.via h.access)) i = window_cell a i lt ∙ ap (λ y. cell_in (reached b e y) i) h.is in
-      marked_at (λ k. modifies site.args (cell_at k).dat) spans marked ((target_at ts a).from + i) (in_windows a i lt)
-      ∙ (let d : c.dat ≡ h.dat = cc in ap (modifies site.args) d)
+  -- whether its span is written is whether the loop changes its cell
+  written_is : (a i : ℕ) (lt : i < (target_at ts a).count) → is_written spans ((target_at ts a).from + i) ≡ is_changed site.args (cell_in (reached b e (arg_at site a)) i)
+  written_is a i lt =
+      marked_at (λ k. is_changed site.args (cell k)) spans marked ((target_at ts a).from + i) (in_windows a i lt)
+      ∙ ap (is_changed site.args) (window_cell a i lt)
+
+  read_by : (a i : ℕ) (y : Arg) → arg_at site a ≡ y → a < length site.args → is_changed site.args (cell_in (reached b e y) i) ≡ false → (mode_of b y).access ≡ OpRead
+  read_by a i (Dat d v acc) is lt un = left_is_read site.args a d v acc lt is un
+  read_by a i (Global v acc) is lt un = absurd (false≢true (sym un))
 
   pub unwritten_read : (a i : ℕ) → i < (target_at ts a).count → is_written spans ((target_at ts a).from + i) ≡ false → (mode_at (modes_of b site) a).access ≡ OpRead
   unwritten_read a i lt un =
       let la : a < length site.args = argument a i lt in
-      let h = on_dat a la in
-      ap (λ (m : Mode). m.access) (mode_is a la ∙ ap (mode_of b) h.is)
-      ∙ left_is_read site.args a h.dat h.via h.access la h.is (sym (written_is a i lt h) ∙ un)
+      ap (λ (m : Mode). m.access) (mode_is a la) ∙ read_by a i (arg_at site a) refl la (sym (written_is a i lt) ∙ un)
+
+  mark_is : (y : Arg) (i : ℕ) → writes_by site.args y ≡ is_changed site.args (cell_in (reached b e y) i)
+  mark_is (Dat d v acc) i = refl
+  mark_is (Global v acc) i = refl
 
   pub written_marked : (a i : ℕ) → i < (target_at ts a).count → is_written spans ((target_at ts a).from + i) ≡ true → get_or (map (writes_by site.args) site.args) a false ≡ true
   written_marked a i lt w =
       let la : a < length site.args = argument a i lt in
-      let h = on_dat a la in
-      get_or-map (writes_by site.args) site.args a no_arg false la ∙ ap (writes_by site.args) h.is ∙ sym (written_is a i lt h) ∙ w
+      get_or-map (writes_by site.args) site.args a no_arg false la ∙ mark_is (arg_at site a) i ∙ sym (written_is a i lt) ∙ w

@@ -6,10 +6,15 @@ pub mod Held
 pub mod BegunParts
 mod CopiesStand
 pub mod Runnables
+mod Tails
+mod Buffer
 mod HereStands
-mod Passed
+mod Behind
 mod ElementScalars
 mod LocalArgs
 mod HereParts
+mod ElementRuns
 pub mod Windowed
 mod JobTargets
+mod LocalLoops
+mod LocalElements

@@ -1,16 +1,42 @@
 -- Arguments by local numbers have their cells where the arguments have them.
-use Rattle.std.proofs.Common.{◌≡◌, ◌<◌, ◌≤◌, ◌+◌, ℕ, suc, refl, sym, ap₂, subst, Option, ⊎_elim, arith, List, [], ◌∷◌, All, map, length, get_or, set, get_or-set_other, get_or-set_same}
+use Rattle.std.proofs.Common.{◌≡◌, ◌<◌, ◌+◌, ℕ, zero, suc, refl, sym, ap, ap₂, ◌∙◌, subst, Option, Some, None, ⊎_elim, arith, List, [], ◌∷◌, All, map, take, length, get_or, set, get_or-set_other, get_or-set_same}
 use Rattle.std.proofs.lemmas.Bool.{cases_eq}
 use Rattle.std.proofs.lemmas.List.{get_or_default}
+use Rattle.views.specs.declared.frame.Place.{Place}
 use Rattle.mesh_decl.specs.Mesh.{MeshValue}
 use Rattle.local_mesh.specs.declared.types.RankMesh.{RankMesh}
 use Rattle.bound_program.specs.declared.sites.Arg.{Arg}
-use Rattle.bound_program.specs.declared.sites.Arg.TheVariants.{Dat, Global}
 use Rattle.run_model.specs.Arguments.{no_arg}
 use Rattle.rank_program.specs.declared.local_args.LocalArg.{LocalArg}
 use Rattle.rank_windows.specs.DatWindows.{ArgHere}
 use Rattle.rank_program.specs.Here.{arg_place}
-use Rattle.rank_program.specs.LocalArgs.{IsArg, AreArgs, InBuffer, place_in}
+use Rattle.rank_program.specs.LocalArgs.{IsArg, AreArgs, InBuffer, place_in, places_in}
+
+module _ (x : ℕ) where
+  -- one more is put down
+  next_place : (ls : List (Option LocalArg)) (ps : List Place) (i : ℕ) (l : Option LocalArg) (p : Place) → i < length ls → length ps ≡ length ls
+      → set (places_in x (take i ls) ps) i (place_in x (get_or ls i l) (get_or (places_in x (take i ls) ps) i p)) ≡ places_in x (take (suc i) ls) ps
+  next_place [] ps i l p lt n = absurd (omega arith)
+  next_place (k ∷ ls) [] i l p lt n = absurd (omega (arith, n))
+  next_place (k ∷ ls) (q ∷ ps) zero l p lt n = refl
+  next_place (k ∷ ls) (q ∷ ps) (suc i) l p lt n = ap (λ z. place_in x k q ∷ z) (next_place ls ps i l p (omega (arith, lt)) (omega (arith, n)))
+
+  pub put_next : (ls : List (Option LocalArg)) (ps qs : List Place) (i : ℕ) (l : Option LocalArg) (p new : Place) → i < length ls → length ps ≡ length ls
+      → qs ≡ places_in x (take i ls) ps → new ≡ place_in x (get_or ls i l) (get_or qs i p) → set qs i new ≡ places_in x (take (i + 1) ls) ps
+  put_next ls ps qs i l p new lt n so is =
+      let next : suc i ≡ i + 1 = omega arith in
+      ap (set qs i) is ∙ ap (λ zs. set zs i (place_in x (get_or ls i l) (get_or zs i p))) so
+      ∙ next_place ls ps i l p lt n ∙ ap (λ k. places_in x (take k ls) ps) next
+
+-- the places of another place of the rank, and then those of this one
+put_again : (x y : ℕ) (l : Option LocalArg) (p : Place) → place_in y l (place_in x l p) ≡ place_in y l p
+put_again x y None p = refl
+put_again x y (Some a) p = refl
+
+pub all_again : (x y : ℕ) (ls : List (Option LocalArg)) (ps : List Place) → places_in y ls (places_in x ls ps) ≡ places_in y ls ps
+all_again x y [] ps = refl
+all_again x y (l ∷ ls) [] = refl
+all_again x y (l ∷ ls) (p ∷ ps) = ap₂ (λ z zs. z ∷ zs) (put_again x y l p) (all_again x y ls ps)
 
 module _ (g : MeshValue) (m : RankMesh) where
   others : (a : Arg) (rest : List Arg) (l : Option LocalArg) (ls : List (Option LocalArg)) → AreArgs g m (a ∷ rest) (l ∷ ls) → AreArgs g m rest ls
@@ -29,20 +55,17 @@ module _ (g : MeshValue) (m : RankMesh) where
       (cases_eq i k)
 
   module _ (x : ℕ) where
-    pub place_within : (y : Arg) → ArgHere g m x y → (arg_place g m x y).from + (arg_place g m x y).count ≤ m.cells
-    place_within (Dat d v a) h = let room = h.3 in omega (arith, room)
-    place_within (Global v a) h = omega arith
+    -- where the arguments stand, if those on variables stand at these places
+    pub same_places : (at : Arg → Place) (args : List Arg) (locals : List (Option LocalArg)) → AreArgs g m args locals → All (ArgHere g m x) args
+        → places_in x locals (map at args) ≡ map (λ y. arg_place g m x (at y) y) args
+    same_places at [] [] are here = refl
+    same_places at [] (l ∷ ls) are here = let n = are.0 in absurd (omega (arith, n))
+    same_places at (a ∷ rest) [] are here = let n = are.0 in absurd (omega (arith, n))
+    same_places at (a ∷ rest) (l ∷ ls) are here =
+        ap₂ (λ z zs. z ∷ zs) ((are.1 0 a l (omega arith) x (here 0 a (omega arith))).1 (at a))
+        (same_places at rest ls (others a rest l ls are) (λ i d lt. here (suc i) d (omega (arith, lt))))
 
-    pub same_places : (args : List Arg) (locals : List (Option LocalArg)) → AreArgs g m args locals → All (ArgHere g m x) args
-        → map (place_in m x) locals ≡ map (arg_place g m x) args
-    same_places [] [] are here = refl
-    same_places [] (l ∷ ls) are here = let n = are.0 in absurd (omega (arith, n))
-    same_places (a ∷ rest) [] are here = let n = are.0 in absurd (omega (arith, n))
-    same_places (a ∷ rest) (l ∷ ls) are here =
-        ap₂ (λ z zs. z ∷ zs) (are.1 0 a l (omega arith) x (here 0 a (omega arith))).1
-        (same_places rest ls (others a rest l ls are) (λ i d lt. here (suc i) d (omega (arith, lt))))
-
-    pub in_buffer : (args : List Arg) (locals : List (Option LocalArg)) → AreArgs g m args locals → All (ArgHere g m x) args → All (InBuffer m x) locals
+    pub in_buffer : (args : List Arg) (locals : List (Option LocalArg)) → AreArgs g m args locals → All (ArgHere g m x) args → All (InBuffer x m.cells) locals
     in_buffer args locals are here i d lt =
         let n = are.0 in
         let there : i < length args = omega (arith, lt, n) in

@@ -6,3 +6,4 @@ pub mod Targets
 pub mod CopyLaws
 pub mod Here
 pub mod LocalArgs
+pub mod LocalLoops

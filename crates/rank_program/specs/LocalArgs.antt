@@ -1,5 +1,5 @@
 -- The arguments of a loop on dats by a rank's local numbers.
-use Rattle.std.specs.Prelude.{ℕ, ◌≡◌, ◌+◌, ◌*◌, ◌<◌, ◌≤◌, List, Option, Some, None, length, get_or, slice_index}
+use Rattle.std.specs.Prelude.{ℕ, ◌≡◌, ◌+◌, ◌*◌, ◌<◌, ◌≤◌, ◌^◌, List, [], ◌∷◌, Option, Some, None, length, get_or, slice_index}
 use Rattle.views.specs.declared.frame.Place.{Place}
 use Rattle.mesh_decl.specs.declared.access.Via.{Via}
 use Rattle.mesh_decl.specs.Mesh.{MeshValue}
@@ -19,19 +19,26 @@ abbrev pub HasTarget : Option LocalVia → ℕ → Type 0
 HasTarget None x = Unit {0}
 HasTarget (Some v) x = x * v.step + v.index < length v.targets.now
 
-module _ (m : RankMesh) (x : ℕ) where
-  -- where the argument's cells stand for a place
-  abbrev pub place_in : Option LocalArg → Place
-  place_in None = record { from = 0; count = 0 }
-  place_in (Some y) = record { from = slice_index m.bases.items y.dat + local_in y.via x * y.dim; count = y.dim }
+module _ (x : ℕ) where
+  -- where the argument's cells stand for a place; those of one on a variable stand where they stood
+  abbrev pub place_in : Option LocalArg → Place → Place
+  place_in None p = p
+  place_in (Some y) p = record { from = y.base + local_in y.via x * y.dim; count = y.dim }
 
-  -- they stand within the rank's buffer
-  abbrev pub InBuffer : Option LocalArg → Type 0
-  InBuffer None = Unit {0}
-  InBuffer (Some y) =
-      HasTarget y.via x
-      × (y.dat < length m.bases.items)
-      × (slice_index m.bases.items y.dat + (local_in y.via x + 1) * y.dim ≤ m.cells)
+  -- the same of each argument
+  abbrev pub places_in : List (Option LocalArg) → List Place → List Place
+  places_in [] ps = ps
+  places_in (l ∷ ls) [] = []
+  places_in (l ∷ ls) (p ∷ ps) = place_in l p ∷ places_in ls ps
+
+  -- they stand within a buffer of so many cells
+  abbrev pub InBuffer : ℕ → Option LocalArg → Type 0
+  InBuffer cells None = Unit {0}
+  InBuffer cells (Some y) = HasTarget y.via x × (y.base + (local_in y.via x + 1) * y.dim ≤ cells)
+
+  -- 64 bits count the cells up to them
+  abbrev pub CountsCells : Option LocalArg → Type 0
+  CountsCells y = (cells : ℕ) × (cells < 2 ^ 64) × InBuffer cells y
 
 module _ (g : MeshValue) (m : RankMesh) where
   -- where the rank has the map's targets for a place, the local map leads where the map does
@@ -40,7 +47,8 @@ module _ (g : MeshValue) (m : RankMesh) where
 
   -- where the rank has the argument for a place, its cells stand where the local one finds them
   abbrev pub IsArg : Arg → Option LocalArg → Type 0
-  IsArg arg local = (x : ℕ) → ArgHere g m x arg → InBuffer m x local × (place_in m x local ≡ arg_place g m x arg)
+  IsArg arg local =
+      (x : ℕ) → ArgHere g m x arg → InBuffer x m.cells local × ((p : Place) → place_in x local p ≡ arg_place g m x p arg)
 
   -- the same of each argument
   abbrev pub AreArgs : List Arg → List (Option LocalArg) → Type 0

@@ -12,6 +12,7 @@ mod joins;
 mod kernel_run;
 mod laws_copies;
 mod local_args;
+mod local_loops;
 mod program;
 mod program_items;
 mod program_parts;

@@ -1,8 +1,8 @@
 // The arguments of a loop on dats by a rank's local numbers, looked up once for all its places.
 
-ghost use Rattle.std.specs.Prelude.{◌≡◌, ◌<◌, ℕ, All, length, map};
+ghost use Rattle.std.specs.Prelude.{◌≡◌, ◌<◌, ℕ, All, length};
 ghost use Rattle.rank_windows.specs.DatWindows.{ArgHere, ViaHere};
-ghost use Rattle.rank_program.specs.LocalArgs.{HasTarget, InBuffer, IsVia, IsArg, AreArgs, local_in, place_in};
+ghost use Rattle.rank_program.specs.LocalArgs.{HasTarget, CountsCells, IsVia, IsArg, AreArgs, local_in, place_in, places_in};
 
 use bound_program::Arg;
 use local_mesh::RankMesh;
@@ -18,12 +18,13 @@ pub struct LocalVia<'a> {
     pub index: usize,
 }
 
-/// An argument on a dat: by which map it leads from a place, the dat, and how many cells each element has.
+/// An argument on a dat: by which map it leads from a place, the cell of the rank's buffer at which the dat begins, and how many
+/// cells each element has.
 #[derive(Clone, Copy)]
 pub struct LocalArg<'a> {
     pub via: Option<LocalVia<'a>>,
-    pub dat: u32,
-    pub dim: u32,
+    pub base: usize,
+    pub dim: usize,
 }
 
 // The same map by local numbers.
@@ -50,8 +51,8 @@ fn local_arg<'a>(mesh: &Mesh, part: &'a RankMesh, arg: Arg) -> Option<LocalArg<'
             let (_, dim) = mesh.dat_shape(dat);
             Some(LocalArg {
                 via: local_via(mesh, part, via),
-                dat,
-                dim,
+                base: part.bases[dat as usize],
+                dim: dim as usize,
             })
         }
         Arg::Global { .. } => None,
@@ -85,27 +86,27 @@ fn local_number(via: &Option<LocalVia<'_>>, place: u32) -> u32
     }
 }
 
-// Where the cells of an argument stand for a place; none for an argument on a variable.
-fn place_of(part: &RankMesh, arg: &Option<LocalArg<'_>>, place: u32) -> Place
-    requires { InBuffer part.now place arg.now }
-    ensures { result ≡ place_in part.now place arg.now }
+// Puts down where the cells of an argument stand for a place; those of one on a variable stay where they stood.
+fn put_place(arg: &Option<LocalArg<'_>>, place: u32, stood: &mut Place)
+    requires { CountsCells place arg.now }
+    ensures { stood.new ≡ place_in place arg.now stood.old }
 {
-    match arg {
-        Some(arg) => Place {
-            from: part.place(arg.dat, arg.dim, local_number(&arg.via, place)),
-            count: arg.dim as usize,
-        },
-        None => Place { from: 0, count: 0 },
+    if let Some(arg) = arg {
+        *stood = Place {
+            from: arg.base + local_number(&arg.via, place) as usize * arg.dim,
+            count: arg.dim,
+        };
     }
 }
 
-/// Where the cells of each argument stand in the buffer of a rank, whose local mesh is `part`, for the element at a place.
-pub fn put_places(part: &RankMesh, args: &[Option<LocalArg<'_>>], place: u32, places: &mut [Place])
-    requires here { All (InBuffer part.now place) args.now }
+/// Puts down where the cells of each argument stand in a rank's buffer, for the element at a place. The places of arguments on
+/// variables stay as they are.
+pub fn put_places(args: &[Option<LocalArg<'_>>], place: u32, places: &mut [Place])
+    requires here { All (CountsCells place) args.now }
     requires count { length places.old ≡ length args.now }
-    ensures { places.new ≡ map (place_in part.now place) args.now }
+    ensures { places.new ≡ places_in place args.now places.old }
 {
     for (i, arg) in args.iter().enumerate() {
-        places[i] = place_of(part, arg, place);
+        put_place(arg, place, &mut places[i]);
     }
 }

@@ -63,14 +63,13 @@ impl<'a> Parts for DistributedProgram<'a> {
         rank: u32,
         places: &[u32],
         variables: &[i32],
-        memory: &mut [i32],
+        memory: &mut Vec<i32>,
         partials: &mut [i32],
         fault: Option<Stop>,
-        window: &mut [i32],
         room: &mut Room,
     ) -> Option<Stop> {
         run_places(
-            self, item, rank, places, variables, memory, partials, fault, window, room,
+            self, item, rank, places, variables, memory, partials, fault, room,
         )
     }
 

@@ -18,6 +18,7 @@ use rank_exec::drive::drive;
 use rank_exec::run_room::RunRoom;
 use rank_exec::stream::Steps;
 use rank_exec::{Machine, Stop};
+use rank_machine::parts::Parts;
 use rank_machine::start::start;
 use rank_windows::{first_cells_stand, first_memories, first_variables};
 use schedule_steps::Peak;
@@ -97,7 +98,8 @@ pub fn run_planned<R: Threads + Sync, G: Gate, S: Steps>(
     bound_plan::setups_are_coloured();
     bound_plan::plans_are_by_place();
     bound_plan::first_states_start();
-    let memories = first_memories(alloc, &program.bound.mesh, program.meshes)?;
+    let spare = program.stride();
+    let memories = first_memories(alloc, &program.bound.mesh, program.meshes, spare)?;
     let variables = first_variables(alloc, &program.bound.vars)?;
     let mut machine = start(
         alloc,

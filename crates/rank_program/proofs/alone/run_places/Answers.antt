@@ -1,32 +1,59 @@
-use Rattle.std.proofs.Common.{length, get_or, ap, subst, ◌∙◌}
-use Rattle.schedule_model.specs.Program.{is_loop}
+use Rattle.std.proofs.Common.{◌≡◌, ◌≤◌, ◌++◌, List, ℕ, ℤ, take, drop, length, vec_len, get_or, sym, ap, subst, ◌∙◌, arith}
+use Rattle.std.proofs.Math.Seq.{take-append_seam}
 use Rattle.rank_machine.specs.Stops.{stop_in}
-use Rattle.rank_machine.specs.AloneRuns.{Reaches}
+use Rattle.rank_machine.specs.AloneRuns.{AllBegin, Reaches}
 use Rattle.rank_program.specs.Sound.{setup_in, layout_in, tables_in}
-use Rattle.rank_program.proofs.BegunParts.{row_there, begins}
+use Rattle.rank_program.proofs.LocalLoops.{of_loop, to_loop}
 use Rattle.rank_program.proofs.alone.run_places.Goals as goal
 
-pub loop_of-requires : goal.loop_of-requires
-loop_of-requires c =
-    ap is_loop (begins c.args.program.now c.requires.sound c.steps_stand.ensures c.args.item c.args.rank (get_or c.args.places.now 0 0) (c.requires.steps 0 c.requires.some)).free
+first_part : (n : ℕ) (xs ys : List ℤ) → n ≡ length xs → take n (xs ++ ys) ≡ xs
+first_part n xs ys e = ap (λ k. take k (xs ++ ys)) e ∙ take-append_seam xs ys
 
-pub row_of-requires : goal.row_of-requires
-row_of-requires c =
-    row_there c.args.program.now c.requires.sound c.steps_stand.ensures c.args.item c.args.rank (get_or c.args.places.now 0 0) (c.requires.steps 0 c.requires.some)
-    c.loop_of.result (length c.deref.result.now) c.loop_of.ensures (ap length c.deref.ensures.value ∙ c.requires.sound.made.scalar_count)
+all_same : (P : (cs old new : List ℤ) → Type 0) (cs ds : List ℤ) → cs ≡ ds → (old before : List ℤ) → old ≡ before → (new after : List ℤ) → new ≡ after
+    → P cs old new → P ds before after
+all_same P cs ds constants old before first new after last h =
+    subst (λ m. P ds before m) last (subst (λ m. P ds m new) first (subst (λ k. P k old new) constants h))
 
-pub returns-then-is_empty-clause-runs : goal.returns-then-is_empty-clause-runs
-returns-then-is_empty-clause-runs c =
-    let p = c.args.program.now in
-    subst (λ cs. Reaches (setup_in p) (layout_in p) (tables_in p) c.args.item c.args.rank cs c.args.variables.now c.args.places.now
-    (record { cells = c.args.memory.now; partials = c.args.partials.now; fault = stop_in c.args.fault }) (length c.args.places.now)
-    (record { cells = c.run_here.new.memory; partials = c.args.partials.now; fault = stop_in c.run_here.result })) c.deref-then-is_empty.ensures.value
-    (c.run_here.ensures c.args.variables.now c.args.partials.now)
+pub local_loop-local-requires-clause-step : goal.local_loop-local-requires-clause-step
+local_loop-local-requires-clause-step c = (get_or c.args.places.now 0 0, c.requires.steps 0 c.requires.some)
+
+pub lengthen-requires : goal.lengthen-requires
+lengthen-requires c =
+    let l = c.local_loop-local.result in
+    let few = of_loop c.args.program.now c.args.item c.args.rank c.deref.result.now c.args.variables.now l c.local_loop-local.ensures.of
+    (λ d j q cs vs. length l.scalars.now ≤ (tables_in d).stride) c.local_loop-local.ensures.is.stride in
+    record { spare = omega (arith, few, c.requires.spare) }
+
+pub run_here-kept-requires-clause-steps : goal.run_here-kept-requires-clause-steps
+run_here-kept-requires-clause-steps c =
+    to_loop c.args.program.now c.args.item c.args.rank c.deref.result.now c.args.variables.now c.local_loop-local.result c.local_loop-local.ensures.of
+    (λ d j q cs vs. AllBegin (setup_in d) (layout_in d) (tables_in d) j q c.args.places.now) c.requires.steps
 
 pub returns-clause-runs : goal.returns-clause-runs
 returns-clause-runs c =
     let p = c.args.program.now in
-    subst (λ cs. Reaches (setup_in p) (layout_in p) (tables_in p) c.args.item c.args.rank cs c.args.variables.now c.args.places.now
-    (record { cells = c.args.memory.now; partials = c.args.partials.now; fault = stop_in c.args.fault }) (length c.args.places.now)
-    (record { cells = c.run_on_windows.new.memory; partials = c.run_on_windows.new.partials; fault = stop_in c.run_on_windows.result })) c.deref-2.ensures.value
-    c.run_on_windows.ensures.runs
+    let l = c.local_loop-local.result in
+    let of = c.local_loop-local.ensures.of in
+    let w = l.part.now.cells in
+    let new = c.run_here-kept.new.memory in
+    let width : w ≡ (layout_in p).width c.args.rank =
+    of_loop p c.args.item c.args.rank c.deref.result.now c.args.variables.now l of (λ d j q cs vs. w ≡ (layout_in d).width q) c.local_loop-local.ensures.is.width in
+    let before : take w c.deref_mut.result.now ≡ c.args.memory.now.items =
+    ap (take w) c.deref_mut.ensures.value ∙ ap (λ n. take n c.lengthen.new.memory.items) (width ∙ sym c.requires.memory) ∙ c.lengthen.ensures.front in
+    let after : take w new ≡ c.truncate.new.self.items =
+    (let long = c.args.memory.now.ok.0 in
+    let count : w ≡ c.len-width.result = omega (arith, long, width, c.len-width.ensures, c.requires.memory) in
+    let whole : vec_len c.lengthen.new.memory ≡ length new =
+    (let stands = c.lengthen.new.memory.ok.0 in let same : length c.deref_mut.result.now ≡ length c.lengthen.new.memory.items = ap length c.deref_mut.ensures.value in
+    let left = c.run_here-kept.auto.memory in omega (arith, stands, same, left)) in
+    ap (λ n. take n new) count
+    ∙ ap (take c.len-width.result) (sym (first_part (vec_len c.lengthen.new.memory) new (drop (length new) c.lengthen.new.memory.items) whole))
+    ∙ sym c.truncate.ensures.items) in
+    all_same (λ cs old new. Reaches (setup_in p) (layout_in p) (tables_in p) c.args.item c.args.rank cs c.args.variables.now c.args.places.now
+    (record { cells = old; partials = c.args.partials.now; fault = stop_in c.args.fault }) (length c.args.places.now)
+    (record { cells = new; partials = c.run_here-kept.new.partials; fault = stop_in c.run_here-kept.result }))
+    c.deref.result.now c.args.room.now.constants.items c.deref.ensures.value (take w c.deref_mut.result.now) c.args.memory.now.items before (take w new) c.truncate.new.self.items after
+    (of_loop p c.args.item c.args.rank c.deref.result.now c.args.variables.now l of
+    (λ d j q cs vs. Reaches (setup_in d) (layout_in d) (tables_in d) j q cs vs c.args.places.now
+    (record { cells = take w c.deref_mut.result.now; partials = c.args.partials.now; fault = stop_in c.args.fault }) (length c.args.places.now)
+    (record { cells = take w new; partials = c.run_here-kept.new.partials; fault = stop_in c.run_here-kept.result })) c.run_here-kept.ensures)

@@ -26,7 +26,7 @@ start-requires-clause-first g c =
     let first = c.first_cells_stand.ensures.stand (program_in x) x.owners.now s.numbers x.meshes.now (plan_in x) s.runnable.planned in
     let vars : c.in_ok-variables.variables.items ≡ first_variables (program_in x).vars =
     c.in_ok-variables.ensures ∙ ap (λ vs. first_variables (map var_of vs)) c.deref.ensures.value in
-    subst (λ (ms : List (List ℤ)). AreFirst (setup_in x) (layout_in x) (tables_in x) ms c.in_ok-variables.variables.items) (sym c.in_ok-memories.ensures)
+    subst (λ (ms : List (List ℤ)). AreFirst (setup_in x) (layout_in x) (tables_in x) ms c.in_ok-variables.variables.items) (sym c.in_ok-memories.ensures.cells)
     (subst (AreFirst (setup_in x) (layout_in x) (tables_in x) (map (first_cells (program_in x).mesh) x.meshes.now)) (sym vars) first)
 
 pub drive-requires-clause-lawful : goal.drive-requires-clause-lawful

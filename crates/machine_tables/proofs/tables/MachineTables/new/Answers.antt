@@ -39,6 +39,8 @@ returns c = λ lists room. record {
       c.in_ok-indices.ensures.indices s ls ∙ ap (λ z. map index (row_of z s)) c.deref-3.ensures.value;
   write_count = c.in_ok-writes.ensures.count;
   writes = c.in_ok-writes.ensures.writes;
+  fault_count = c.in_ok-faults_first.ensures.count;
+  faults_first = c.in_ok-faults_first.ensures.first;
   frame_count = c.in_ok-frames.ensures.count;
   frames = c.in_ok-frames.ensures.frames;
   place_count = c.in_ok-places.ensures.count;

@@ -1,0 +1,6 @@
+use Rattle.std.proofs.Common.{◌≡◌, map, take}
+use Rattle.rank_program.specs.Here.{moved}
+use Rattle.rank_program.proofs.here.move_behind.Given as goal
+
+abbrev pub invariant-loop-i : goal.invariant-loop-i
+invariant-loop-i l = take l.i l.cells ≡ map (moved l.width l.others) (take l.i l.windows)

@@ -1,0 +1,69 @@
+use Rattle.std.proofs.Common.{◌≡◌, length, sym, ap, ap₂, map, ◌∙◌, arith}
+use Rattle.run_model.specs.Laws as the
+use Rattle.rank_program.specs.Here.{behind, scalars_in}
+use Rattle.rank_program.specs.LocalArgs.{places_in}
+use Rattle.rank_program.specs.Sound.{program_in, layout_in}
+use Rattle.rank_program.proofs.Behind.{put_is}
+use Rattle.rank_program.proofs.HereParts.{dat_spans, windows_here, stand_behind, scalars_fit, args_read, few_read, room_read, there_read, frame_read}
+use Rattle.rank_program.proofs.here.put_behind.Goals as goal
+
+pub put_windows-end-requires-clause-there : goal.put_windows-end-requires-clause-there
+put_windows-end-requires-clause-there c =
+    let l = c.args.local.now in
+    there_read l.program.now c.requires.sound c.steps_stand.ensures l.item l.rank c.args.place c.requires.step
+    c.site_of-site.result.now c.site_of-site.ensures c.deref.result.now c.deref.ensures.value c.original_at-element.result c.original_at-element.ensures
+
+pub put_windows-end-requires-clause-few : goal.put_windows-end-requires-clause-few
+put_windows-end-requires-clause-few c =
+    let l = c.args.local.now in
+    few_read l.program.now c.requires.sound c.steps_stand.ensures l.item l.rank c.args.place c.requires.step
+    c.site_of-site.result.now c.site_of-site.ensures c.deref.result.now c.deref.ensures.value
+
+pub put_windows-end-requires-clause-count : goal.put_windows-end-requires-clause-count
+put_windows-end-requires-clause-count c =
+    let l = c.args.local.now in
+    room_read l.program.now c.requires.sound c.steps_stand.ensures l.item l.rank c.args.place c.requires.step
+    c.site_of-site.result.now c.site_of-site.ensures c.deref.result.now c.deref.ensures.value c.len.result (omega (arith, c.len.ensures)) _ (omega arith)
+
+pub overflow_sub-end : goal.overflow_sub-end
+overflow_sub-end c =
+    let l = c.args.local.now in
+    let fit = scalars_fit l.program.now c.requires.sound c.steps_stand.ensures l.item l.rank c.args.place c.requires.step c.element_windows_stand.ensures in
+    let same = frame_read l.program.now c.requires.sound c.steps_stand.ensures l.item l.rank c.args.place c.requires.step
+    c.site_of-site.result.now c.site_of-site.ensures c.deref.result.now c.deref.ensures.value c.original_at-element.result c.original_at-element.ensures in
+    let count : length l.scalars.now ≡ length (scalars_in l.program.now l.item) = ap length c.requires.is.scalars in
+    omega (arith, fit, same, count, c.put_windows-end.ensures.count)
+
+pub move_behind-requires-clause-count : goal.move_behind-requires-clause-count
+move_behind-requires-clause-count c =
+    let l = c.args.local.now in
+    c.requires.cells ∙ c.requires.is.args.0
+    ∙ sym (ap length (args_read l.program.now c.requires.sound c.steps_stand.ensures l.item l.rank c.args.place c.requires.step
+    c.site_of-site.result.now c.site_of-site.ensures c.deref.result.now c.deref.ensures.value))
+    ∙ sym (c.put_windows-end.auto.places
+    ∙ room_read l.program.now c.requires.sound c.steps_stand.ensures l.item l.rank c.args.place c.requires.step
+    c.site_of-site.result.now c.site_of-site.ensures c.deref.result.now c.deref.ensures.value c.len.result (omega (arith, c.len.ensures)) _ (omega arith))
+
+pub returns : goal.returns
+returns c =
+    let l = c.args.local.now in
+    let p = l.program.now in
+    let b = program_in p in
+    let sound = c.requires.sound in
+    let stand = c.steps_stand.ensures in
+    let x = c.args.place in
+    let is = c.requires.is in
+    let site = the.site_of b l.item in
+    let e = (layout_in p).original l.item l.rank x in
+    let spans = dat_spans p sound stand l.item l.rank x c.requires.step l.part.now in
+    let put = put_is b site.args c.deref.result.now
+    (args_read p sound stand l.item l.rank x c.requires.step c.site_of-site.result.now c.site_of-site.ensures c.deref.result.now c.deref.ensures.value)
+    e c.original_at-element.result c.original_at-element.ensures (length l.scalars.now) l.part.now.cells c.put_windows-end.result
+    c.put_windows-end.new.places c.move_behind.new.cells c.put_windows-end.ensures.places c.put_windows-end.ensures.count c.move_behind.ensures in
+    record {
+      at = behind b site.args e (length (scalars_in p l.item)) ((layout_in p).width l.rank);
+      behind = stand_behind p sound stand l.item l.rank x c.requires.step c.frames_are_reached.ensures spans
+          (windows_here p sound stand l.item l.rank x c.requires.step c.element_windows_stand.ensures l.part.now is.part);
+      are = λ y. ap (places_in y l.args.now) (put ∙ ap₂ (λ n w. map (behind b site.args e n w) site.args) (ap length is.scalars) is.width);
+      count = c.move_behind.auto.cells ∙ c.requires.cells;
+    }
