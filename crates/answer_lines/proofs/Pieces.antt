@@ -9,11 +9,6 @@ pub appended_twice : (old : Option (List ℕ)) (a b : List ℕ) → appended (ap
 appended_twice None a b = refl
 appended_twice (Some x) a b = ap Some (append_assoc x a b)
 
--- nothing more
-pub appended_nothing : (old : Option (List ℕ)) → old ≡ appended old []
-appended_nothing None = refl
-appended_nothing (Some x) = ap Some (sym (append-nil x))
-
 -- what stops in the first piece is a front of the whole
 pub front_first : (old : Option (List ℕ)) (a b : List ℕ) (new : Option (List ℕ)) → AppendsFront old a new → AppendsFront old (a ++ b) new
 front_first old a b new f = record {

@@ -85,17 +85,6 @@ module _ (source mesh bytes text : List ℕ) (p : ProgramTree) (types : Resolved
       all t h m files (inr e) = absurd (let w : source ∷ mesh ∷ [] ≡ [] = e in cc)
       all t h m files (inl e) = bound_over_files files (subst (λ x. IfSome x (λ f. IsHeld SourceBytes source (f source) (Ok bytes))) e h) (subst (λ x. IfSome x (λ f. FileIs mesh f (Ok text))) e m)
 
--- what is held under one name within the limit of sources is within that of meshes
-pub held_again : (told : Option Files) (source mesh bytes : List ℕ) → mesh ≡ source → length bytes ≤ most SourceBytes
-    → IfSome told (λ files. IsHeld SourceBytes source (files source) (Ok bytes))
-    → IfSome told (λ files. FileIs mesh files (Ok bytes))
-held_again None source mesh bytes same fits h = tt
-held_again (Some files) source mesh bytes same fits h = rw same (go (files source) h)
-  where
-    go : (o : Option (List ℕ)) → IsHeld SourceBytes source o (Ok bytes) → IsHeld MeshBytes source o (Ok bytes)
-    go None k = absurd k
-    go (Some held) k = (k.0, let l = k.1 in omega (arith, l))
-
 -- ---- refusals before a bound program
 
 -- over the files of a source and a mesh
@@ -149,10 +138,6 @@ module _ (side : ℕ) where
   weaker J (Refused r) step s = (step (refusal_of r) s.0, s.1)
   weaker J (Failed (Unread n)) step s = absurd s
   weaker J (Failed OutOfMemory) step s = tt
-
-  pub sample_tree_refused : (bytes : List ℕ) (h : Halt) → bytes ≡ sample_source → SpoiltWhere (λ r. TreeIs bytes (Err r)) h → SpoiltWhere Refuses h
-  sample_tree_refused bytes h e s =
-      weaker (λ r. TreeIs bytes (Err r)) h (λ r j. inr (sample_source, refl, inl (r, subst (λ z. TreeIs z (Err r)) e j, refl))) s
 
   pub sample_types_refused : (bytes : List ℕ) (p : ProgramTree) (h : Halt) → bytes ≡ sample_source → TreeIs bytes (Ok p)
       → SpoiltWhere (λ r. TypesAre p (Err r)) h → SpoiltWhere Refuses h

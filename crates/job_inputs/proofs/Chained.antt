@@ -209,15 +209,7 @@ module _ (rest : BoundValue → lines.Answer → Type 0) (p : ProgramTree) (type
       (text_answered (TextOver rest p types) mesh text told rose (Err h) there
       (spoilt_answers (λ r. TextOver rest p types text (refused r)) (TextOver rest p types text) h (λ r j. j) s))
 
--- ---- what is lent, and what is refused
-
--- what is so of all is so of the first
-pub lent_first : (P : List ℕ → Type 0) (n : List ℕ) (ns : List (List ℕ)) → All P (n ∷ ns) → P n
-lent_first P n ns h = h 0 n (omega arith)
-
--- and of the others
-pub lent_rest : (P : List ℕ → Type 0) (n : List ℕ) (ns : List (List ℕ)) → All P (n ∷ ns) → All P ns
-lent_rest P n ns h k d lt = h (suc k) d (omega (arith, lt))
+-- ---- what is refused
 
 -- what is so of a refusal, where it follows
 pub if_err_weaker : {X E : Type 0} (r : Result X E) (P Q : E → Type 0) → ((e : E) → P e → Q e) → IfErr r P → IfErr r Q

@@ -20,17 +20,6 @@ pub if_ok_weaker : {X E : Type 0} (r : Result X E) (P Q : X → Type 0) → ((x 
 if_ok_weaker (Ok x) P Q step h = step x h
 if_ok_weaker (Err e) P Q step h = tt
 
--- words that ask what the program says of itself
-pub itself_answered : (told : Option Files) (P : lines.Answer → Type 0) (a : lines.Answer) → P a → Over told [] (λ files. P) a
-itself_answered None P a h = h
-itself_answered (Some files) P a h = h
-
--- what an answer shows, where it follows
-pub answers_weaker : (P Q : lines.Answer → Type 0) (r : Result Answer Halt) → ((a : lines.Answer) → P a → Q a) → AnswersBy P r → AnswersBy Q r
-answers_weaker P Q (Ok a) step h = (step (answer_of a) h.0, h.1)
-answers_weaker P Q (Err h) step s =
-    stops_weaker (λ r. IsAnswered P (refused r)) (λ r. IsAnswered Q (refused r)) h (λ r j. (step (refused r) j.0, j.1)) s
-
 -- ---- the words
 
 -- what is said of answers over files, where it follows
@@ -67,19 +56,6 @@ pub command_answered : (words : List (List ℕ)) (told : Option Files) (c : Comm
 command_answered words told c rose r w h =
     subst (λ ns. AnswersOver told ns (Answers words) rose r) (sym (ap names_in w))
     (weaker told (names_of c) (CommandAnswers c) (Answers words) rose r (λ files a x. inr (c, w, x)) h)
-
--- and so is the refusal of the words
-pub words_refused : (words : List (List ℕ)) (told : Option Files) (rose : Type 0) (h : Halt)
-    → StopsWhere (λ r. WordsAre words (Err r)) h
-    → AnswersOver told (named_by words) (Answers words) rose (Err h)
-words_refused words told rose (Refused r) w =
-    subst (λ ns. Over told ns (Answers words) (refused (refusal_of r))) (sym (ap names_in w)) (go told)
-  where
-    go : (o : Option Files) → Over o [] (Answers words) (refused (refusal_of r))
-    go None = inl (refusal_of r, w, refl)
-    go (Some files) = inl (refusal_of r, w, refl)
-words_refused words told rose (Failed (Unread n)) w = absurd w
-words_refused words told rose (Failed OutOfMemory) w = tt
 
 -- the answer that a call tells
 pub tells : (words : List (List ℕ)) (told : Option Files) (a : lines.Answer) → Over told (named_by words) (Answers words) a → Tells words told a

@@ -46,9 +46,6 @@ module _ (j : PlanJob) (o : Options) (b : BoundValue) (fits : Fits b) (input : I
   spoilt J (Failed (Unread n)) step s = absurd s
   spoilt J (Failed OutOfMemory) step s = tt
 
-  pub numbers_refused : (h : Halt) → SpoiltWhere (λ r. NumbersOf o b (Err r)) h → AnswersIn told all_names Whole Asks rose (Err h)
-  numbers_refused h s = spoilt (λ r. NumbersOf o b (Err r)) h (λ files t r k. (fits, inl (r, k, refl))) s
-
   module _ (n : Perms) (numbered : NumbersOf o b (Ok n)) where
     named : (parting : Parting) (name : List ℕ) → parting ≡ ByFile name → names_by parting ++ names_at o.schedule ≡ [] → ⊥
     named parting name e i = (let w : name ∷ names_at o.schedule ≡ [] = subst (λ z. names_by z ++ names_at o.schedule ≡ []) e i in cc)
