@@ -68,34 +68,6 @@ int main(int argc, char **argv) {
 }
 C
 [ -n "$(command -v gcc)" ] && gcc -O2 -fwrapv -o "$work/plain" "$work/plain.c"
-cat >"$work/grid.py" <<'PY'
-import sys
-work, n = sys.argv[1], int(sys.argv[2])
-
-def write(name, entries):
-    with open(name, "w") as f:
-        f.write("op2mesh 1\n")
-        for key, value in entries:
-            if isinstance(value, int):
-                f.write(f"int {key} {value}\n")
-            else:
-                f.write(f"ints {key} {len(value)}\n" + (" ".join(map(str, value)) + "\n" if value else ""))
-        f.write("done\n")
-
-node = lambda i, j: j * (n + 1) + i
-cell = lambda i, j: j * n + i
-cells = [(i, j) for j in range(n) for i in range(n)]
-across = [(cell(i, j), cell(i + 1, j)) for j in range(n) for i in range(n - 1)]
-up = [(cell(i, j), cell(i, j + 1)) for j in range(n - 1) for i in range(n)]
-edges = [c for e in across + up for c in e]
-rim = [cell(i, 0) for i in range(n)] + [cell(i, n - 1) for i in range(n)] + [cell(0, j) for j in range(n)] + [cell(n - 1, j) for j in range(n)]
-write(work + "/residual.mesh", [("nnode", n * n), ("nedge", len(edges) // 2), ("edge", edges), ("x0", [i % 1000 for i in range(n * n)]), ("r0", [0] * (n * n))])
-write(work + "/airfoil.mesh", [
-    ("nnode", (n + 1) ** 2), ("ncell", n * n), ("nedge", len(edges) // 2), ("nbedge", 4 * n),
-    ("cell", [v for i, j in cells for v in (node(i, j), node(i + 1, j), node(i + 1, j + 1), node(i, j + 1))]),
-    ("ecell", edges), ("bcell", rim), ("wall0", [1] * n + [-1] * n + [0] * (2 * n)),
-    ("x0", [v for j in range(n + 1) for i in range(n + 1) for v in (i, j)]), ("q0", [i + j for i, j in cells]), ("zero", [0] * (n * n))])
-PY
 cat >"$work/timed.py" <<'PY'
 import resource, subprocess, sys, time
 begun = time.time()
@@ -104,7 +76,7 @@ peak = resource.getrusage(resource.RUSAGE_CHILDREN).ru_maxrss
 print(f"{sys.argv[1]}: status {status}, {time.time() - begun:.2f} s, {peak / 1024:.0f} MiB at the peak")
 PY
 for n in "$@"; do
-    python3 "$work/grid.py" "$work" "$n"
+    python3 "$here/bench/grid.py" "$work" "$n"
     python3 "$work/timed.py" "residual, $((2 * n * (n - 1))) edges" "$here/op2" run "$here/examples/residual.c" "$work/residual.mesh"
     python3 "$work/timed.py" "airfoil, $((n * n)) cells" "$here/op2" run "$work/airfoil.c" "$work/airfoil.mesh"
     [ ! -x "$work/plain" ] || python3 "$work/timed.py" "plain C, $((n * n)) cells" "$work/plain" "$work/airfoil.mesh"
