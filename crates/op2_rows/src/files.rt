@@ -1,6 +1,6 @@
 // The files of a row.
 
-ghost use Rattle.std.specs.Prelude.{◌≡◌, ◌×◌, ◌-◌, ◌++◌, ℕ, List, None, Some, take, drop, length, replicate, string_bytes, IfOk, OnOk};
+ghost use Rattle.std.specs.Prelude.{◌≡◌, ◌-◌, ◌++◌, ℕ, List, None, Some, take, drop, length, replicate, string_bytes, IfOk, OnOk};
 ghost use Rattle.std.specs.Option.{MatchOption};
 ghost use Rattle.std.specs.Str.Pattern.{FindsText};
 

@@ -1,0 +1,181 @@
+// Gates on calls of `op2`: what they are told, and that two workers meet in one.
+
+use op_outside::{MemoryShelf, MemorySink};
+use op2_command::op2_gated;
+use par_exec::Gate;
+use std::alloc::{AllocError, Global};
+use std::marker::Sync;
+use std::sync::atomic::{AtomicU64, Ordering};
+use std::test::Fail;
+use std::thread::Threads;
+
+// A source of one set and one dat of one cell, and one loop over it; its print comes last.
+const BUMP: &str = "extern int n;
+extern int a0[];
+void bump(int *a) { a[0] = a[0] + 1; }
+int main(int argc, char **argv) {
+  op_set s = op_decl_set(n, \"s\");
+  op_dat a = op_decl_dat(s, 1, \"int\", a0, \"a\");
+  op_par_loop(bump, \"bump\", s, op_arg_dat(a, -1, OP_ID, 1, \"int\", OP_RW));
+  op_print_dat_to_txtfile(a, \"a\");
+  op_exit();
+}
+";
+
+const TWO: &str = "op2mesh 1 int n 2 ints a0 2 5 7 done";
+
+const SIXTY_FOUR: &str = "op2mesh 2 int n 64 ints a0 64 64*0 done";
+
+const PRINTED: &str = "a: a s 2 1\n6\n8\n";
+
+// Both elements are open at once.
+const TOGETHER: &str = "op2sched 1
+begin 0 0 0
+begin 0 0 1
+end 0 0 1
+end 0 0 0
+join 1
+join 2
+done
+";
+
+// How a call ended: its status, and what it wrote to the output.
+#[derive(Drop)]
+struct Ended {
+    status: u8,
+    out: MemorySink,
+}
+
+// A run of the loop over a mesh with these options, where `t` holds the schedule of both elements at once.
+fn gated<R: Threads + Sync, G: Gate>(
+    rt: &R,
+    alloc: Global,
+    options: &[&str],
+    mesh: &str,
+    gate: &G,
+) -> Result<Ended, AllocError> {
+    let mut shelf = MemoryShelf::new(alloc, Vec::new(alloc));
+    for (name, text) in [("s.c", BUMP), ("m.mesh", mesh), ("t", TOGETHER)] {
+        let bytes = text.as_bytes().to_vec(alloc)?;
+        shelf.hold(String::from_str(alloc, name)?, bytes)?;
+    }
+    let mut words = Vec::new(alloc);
+    for word in ["op2", "run", "s.c", "m.mesh"] {
+        words.push(String::from_str(alloc, word)?)?;
+    }
+    for word in options {
+        words.push(String::from_str(alloc, word)?)?;
+    }
+    let mut out = MemorySink::new(alloc, 10_000, Vec::new(alloc))?;
+    let mut err = MemorySink::new(alloc, 1000, Vec::new(alloc))?;
+    let status = op2_gated(rt, alloc, &words, &mut shelf, &mut out, &mut err, gate);
+    Ok(Ended { status, out })
+}
+
+// Notes the numbers that enter, one decimal place each, with 1 added.
+#[derive(Drop)]
+struct Notes {
+    seen: AtomicU64,
+}
+
+impl Gate for Notes {
+    fn enter(&self, index: usize) {
+        let seen = self.seen.load(Ordering::SeqCst);
+        self.seen.store(
+            seen.wrapping_mul(10)
+                .wrapping_add(index as u64)
+                .wrapping_add(1),
+            Ordering::SeqCst,
+        );
+    }
+}
+
+#[test]
+fn gates_are_told_of_groups(rt: HostRuntime) -> Result<(), Fail> {
+    let cases: [(&[&str], u64); 4] = [
+        (&["--schedule=t"], 12),
+        (&["--ranks=2", "--seed=0"], 11),
+        (&[], 0),
+        (&["--ranks=2"], 0),
+    ];
+    for (options, seen) in cases {
+        let gate = Notes {
+            seen: AtomicU64::new(0),
+        };
+        let ended = gated(&rt, rt.alloc(), options, TWO, &gate)?;
+        assert_eq!(rt; ended.status, 0);
+        assert_eq!(rt; ended.out.bytes(), PRINTED.as_bytes());
+        assert_eq!(rt; gate.seen.load(Ordering::SeqCst), seen);
+    }
+    Ok(())
+}
+
+// Holds the first element of a group until the one with the number `last` has entered, and that one until the first has; and
+// counts those of the two that saw the other.
+#[derive(Drop)]
+struct Meeting {
+    last: usize,
+    first_entered: AtomicU64,
+    last_entered: AtomicU64,
+    met: AtomicU64,
+}
+
+impl Meeting {
+    fn new(last: usize) -> Meeting {
+        Meeting {
+            last,
+            first_entered: AtomicU64::new(0),
+            last_entered: AtomicU64::new(0),
+            met: AtomicU64::new(0),
+        }
+    }
+
+    fn look(&self, at: &AtomicU64) {
+        for _ in 0..100_000_000u32 {
+            if at.load(Ordering::SeqCst) != 0 {
+                self.met.fetch_add(1, Ordering::SeqCst);
+                return;
+            }
+        }
+    }
+}
+
+impl Gate for Meeting {
+    fn enter(&self, index: usize) {
+        if index == 0 {
+            self.first_entered.store(1, Ordering::SeqCst);
+            self.look(&self.last_entered);
+        }
+        if index == self.last {
+            self.last_entered.store(1, Ordering::SeqCst);
+            self.look(&self.first_entered);
+        }
+    }
+}
+
+#[test]
+fn two_workers_meet_in_a_loop(rt: HostRuntime) -> Result<(), Fail> {
+    let gate = Meeting::new(1);
+    let options: &[&str] = &["--schedule=t", "--workers=2"];
+    let ended = gated(&rt, rt.alloc(), options, TWO, &gate)?;
+    assert_eq!(rt; ended.status, 0);
+    assert_eq!(rt; ended.out.bytes(), PRINTED.as_bytes());
+    assert_eq!(rt; gate.met.load(Ordering::SeqCst), 2);
+    Ok(())
+}
+
+#[test]
+fn two_workers_share_a_group_of_the_standard_order(rt: HostRuntime) -> Result<(), Fail> {
+    let alloc = rt.alloc();
+    let mut printed = String::from_str(alloc, "a: a s 64 1\n")?;
+    for _ in 0..64u32 {
+        printed.push_str("1\n")?;
+    }
+    let gate = Meeting::new(63);
+    let options: &[&str] = &["--workers", "2"];
+    let ended = gated(&rt, alloc, options, SIXTY_FOUR, &gate)?;
+    assert_eq!(rt; ended.status, 0);
+    assert_eq!(rt; ended.out.bytes(), printed.as_bytes());
+    assert_eq!(rt; gate.met.load(Ordering::SeqCst), 2);
+    Ok(())
+}
