@@ -18,18 +18,18 @@ use Rattle.bound_program.specs.Values.{BoundValue}
 use Rattle.loop_bind.specs.Bound.{bound}
 use Rattle.bound_plan.specs.OneRun.{KernelsAreOne}
 use Rattle.op_outside.specs.Outside.{Files}
-use Rattle.answers.specs.Refusal.{SourceBytes, MeshBytes, Refusal}
+use Rattle.command_words.specs.Refusal.{SourceBytes, MeshBytes, Refusal}
 use Rattle.answers.specs.Lines.{Answer, refused, line_of}
 use Rattle.answers.specs.Said.{SaysTypes, SaysMesh, SaysBinding}
 use Rattle.mesh_text.specs.declared.entry.Form.{Form}
 use Rattle.mesh_gen.specs.Sample.{sample_source, sample_mesh}
-use Rattle.answers.specs.Words.{PlanJob, Options, Input, InFiles, OfSample, Command, OnPlan, Converts, ShowsUsage, ShowsVersion, WordsAre}
+use Rattle.command_words.specs.Words.{PlanJob, Options, Input, InFiles, OfSample, Command, OnPlan, Converts, ShowsUsage, ShowsVersion, WordsAre}
 use Rattle.answers.specs.Judgements.{SourceIs, FileIs, MeshIs, TreeIs, TypesAre, EntriesAre, BoundIs, AccessesAre}
 use Rattle.answers.specs.Answers.{given, PlannedAnswers, BoundAnswers, ConvertAnswers, CommandAnswers}
+use Rattle.command_words.specs.Laws.{OptionsAreWithin}
 use Rattle.answers.specs.Laws.{LacksTree, SourceLacksTree, Agree, AnswersAgree}
 use Rattle.answers.proofs.Given.{given_both, given_alike}
 use Rattle.answers.proofs.IsOne.{IsOne, held_is_one, told_is_one}
-use Rattle.answers.proofs.Within.{within}
 use Rattle.answers.proofs.SaidOnce.{types_once, mesh_once, binding_once, source_status}
 use Rattle.answers.proofs.Trees.{tree_lines}
 use Rattle.answers.proofs.Sites.{site_found, first_found, accesses_none, accesses_some}
@@ -62,7 +62,7 @@ mesh_is_one : (input : Input) (files : Files) → IsOne (MeshIs input files)
 mesh_is_one (InFiles source mesh) files = held_is_one MeshBytes mesh (files mesh)
 mesh_is_one (OfSample side) files = told_is_one (sample_mesh side)
 
-module _ (walks_alike : WalksAlike) (kernels_are_one : KernelsAreOne) (one_read : (bytes : List ℕ) (a b : Read) → Spelled bytes a → Spelled bytes b → a ≡ b) (one_outcome : (bytes : List ℕ) (a b : lexer.Outcome) → Lexes bytes a → Lexes bytes b → a ≡ b) (one_tree : (bytes : List ℕ) (a b : ProgramTree) → Reads bytes a → Reads bytes b → a ≡ b) (one_resolved : (p : ProgramTree) (a b : names.Outcome) → Resolves p a → Resolves p b → a ≡ b) (walk_finds : WalkFinds) (obeys : ObeysUnlessBroken) (one_breach : OneRefusal) (plans_alike : (j : PlanJob) (o : Options) (files : Files) → 0 < o.ranks → Alike (PlannedAnswers j o files)) where
+module _ (walks_alike : WalksAlike) (kernels_are_one : KernelsAreOne) (one_read : (bytes : List ℕ) (a b : Read) → Spelled bytes a → Spelled bytes b → a ≡ b) (one_outcome : (bytes : List ℕ) (a b : lexer.Outcome) → Lexes bytes a → Lexes bytes b → a ≡ b) (one_tree : (bytes : List ℕ) (a b : ProgramTree) → Reads bytes a → Reads bytes b → a ≡ b) (one_resolved : (p : ProgramTree) (a b : names.Outcome) → Resolves p a → Resolves p b → a ≡ b) (walk_finds : WalkFinds) (obeys : ObeysUnlessBroken) (one_breach : OneRefusal) (plans_alike : (j : PlanJob) (o : Options) (files : Files) → 0 < o.ranks → Alike (PlannedAnswers j o files)) (within : OptionsAreWithin) where
   -- ---- accesses
 
   -- what is found in the loops' kernels

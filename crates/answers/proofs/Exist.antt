@@ -24,20 +24,20 @@ use Rattle.bind_refusals.specs.declared.refusals.BindRefusal.TheVariants as bind
 use Rattle.bound_program.specs.Values.{BoundValue}
 use Rattle.loop_bind.specs.Bound.{bound}
 use Rattle.op_outside.specs.Outside.{Files}
-use Rattle.answers.specs.Refusal.{SourceBytes, MeshBytes, Refusal, NoTree, TooDeep}
+use Rattle.command_words.specs.Refusal.{SourceBytes, MeshBytes, Refusal, NoTree, TooDeep}
 use Rattle.answers.specs.Lines.{Answer, most}
 use Rattle.mesh_gen.specs.Sample.{sample_source}
-use Rattle.answers.specs.Words.{PlanJob, Options, Input, InFiles, OfSample, Command, OnPlan, Converts, ShowsUsage, ShowsVersion, WordsAre}
+use Rattle.command_words.specs.Words.{PlanJob, Options, Input, InFiles, OfSample, Command, OnPlan, Converts, ShowsUsage, ShowsVersion, WordsAre}
 use Rattle.answers.specs.Judgements.{IsUnread, SourceIs, MeshIs, TreeIs, TypesAre, EntriesAre, BoundIs}
 use Rattle.answers.specs.Answers.{BoundAnswers, PlannedAnswers, CommandAnswers}
-use Rattle.answers.specs.Laws.{AreWithin, AnswersExist}
+use Rattle.command_words.specs.Laws.{AreWithin, OptionsAreWithin}
+use Rattle.answers.specs.Laws.{AnswersExist}
 use Rattle.answers.proofs.Given.{given_one}
 use Rattle.answers.proofs.Held.{held_exists, held_within}
 use Rattle.answers.proofs.PlansExist.{Suits}
 use Rattle.answers.proofs.SaidOnce.{lex_said, types_said, mesh_said, binding_said}
 use Rattle.answers.proofs.Trees.{shallow_or_deep}
 use Rattle.answers.proofs.Sites.{accesses_exist}
-use Rattle.answers.proofs.Within.{within}
 
 source_exists : (input : Input) (files : Files) → ¬ ((r : Result (List ℕ) Refusal) → ¬ SourceIs input files r)
 source_exists (InFiles source mesh) files none = held_exists SourceBytes source (files source) none
@@ -70,7 +70,7 @@ SourcesSuit =
 abbrev pub PlansAnswered : Type 0
 PlansAnswered = (j : PlanJob) (o : Options) (files : Files) → AreWithin o → (b : BoundValue) → Suits b → ¬ ((a : Answer) → ¬ PlannedAnswers j o files b a)
 
-module _ (some_lexed : (bytes : List ℕ) → (o : Outcome) × Lexes bytes o) (some_types : (p : ProgramTree) → (o : names.Outcome) × Resolves p o) (types_causes : (p : ProgramTree) → ¬ Resolves p (Err types.OutOfMemory)) (some_kernels : (bytes : List ℕ) (p : ProgramTree) → Reads bytes p → length bytes < 2 ^ 63 → (r : Resolved) × (resolved_of r ≡ resolved p)) (deep : (bytes : List ℕ) (p : ProgramTree) (n : ℕ) → Deep bytes p n → IsFar bytes (place_at p.places bytes n)) (causes : (p : ProgramTree) (types : Resolved) (es : List Named) → bound p types es ≢ Err bind.OutOfMemory) (some_read : (bytes : List ℕ) → (o : Read) × Spelled bytes o) (mesh_causes : (bytes : List ℕ) → ¬ Refuses bytes mesh.OutOfMemory) (one_outcome : (bytes : List ℕ) (a b : Outcome) → Lexes bytes a → Lexes bytes b → a ≡ b) (one_depth : (bytes : List ℕ) (a b : ProgramTree) (n m : ℕ) → Deep bytes a n → Deep bytes b m → n ≡ m) (one_shape : (bytes : List ℕ) (a b : ProgramTree) (n : ℕ) → Reads bytes a → Deep bytes b n → ⊥) (walk_finds : WalkFinds) (obeys : ObeysUnlessBroken) (one_breach : OneRefusal) (suits : SourcesSuit) (planned : PlansAnswered) where
+module _ (some_lexed : (bytes : List ℕ) → (o : Outcome) × Lexes bytes o) (some_types : (p : ProgramTree) → (o : names.Outcome) × Resolves p o) (types_causes : (p : ProgramTree) → ¬ Resolves p (Err types.OutOfMemory)) (some_kernels : (bytes : List ℕ) (p : ProgramTree) → Reads bytes p → length bytes < 2 ^ 63 → (r : Resolved) × (resolved_of r ≡ resolved p)) (deep : (bytes : List ℕ) (p : ProgramTree) (n : ℕ) → Deep bytes p n → IsFar bytes (place_at p.places bytes n)) (causes : (p : ProgramTree) (types : Resolved) (es : List Named) → bound p types es ≢ Err bind.OutOfMemory) (some_read : (bytes : List ℕ) → (o : Read) × Spelled bytes o) (mesh_causes : (bytes : List ℕ) → ¬ Refuses bytes mesh.OutOfMemory) (one_outcome : (bytes : List ℕ) (a b : Outcome) → Lexes bytes a → Lexes bytes b → a ≡ b) (one_depth : (bytes : List ℕ) (a b : ProgramTree) (n m : ℕ) → Deep bytes a n → Deep bytes b m → n ≡ m) (one_shape : (bytes : List ℕ) (a b : ProgramTree) (n : ℕ) → Reads bytes a → Deep bytes b n → ⊥) (walk_finds : WalkFinds) (obeys : ObeysUnlessBroken) (one_breach : OneRefusal) (suits : SourcesSuit) (planned : PlansAnswered) (within : OptionsAreWithin) where
   -- bytes that the lexer refuses have no tree
   unlexed : (bytes : List ℕ) (l : LexRefusal) → Lexes bytes (Err l) → IsUnread bytes (source.Lex l)
   unlexed bytes l h = record {

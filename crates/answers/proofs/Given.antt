@@ -1,6 +1,6 @@
 -- A judgement and what comes after it, twice.
 use Rattle.std.proofs.Common.{◌≡◌, inl, inr, Result, Ok, Err, refl, sym, subst}
-use Rattle.answers.specs.Refusal.{Refusal}
+use Rattle.command_words.specs.Refusal.{Refusal}
 use Rattle.answers.specs.Lines.{Answer, refused}
 use Rattle.answers.specs.Answers.{given}
 

@@ -1,7 +1,7 @@
 -- What is held under a name, or why it is not taken.
 use Rattle.std.proofs.Common.{◌≤◌, ◌<◌, ◌⊎◌, inl, inr, ℕ, suc, List, length, Option, Some, None, Result, Ok, Err, refl}
 use Rattle.std.proofs.lemmas.Bool.{cases_lt}
-use Rattle.answers.specs.Refusal.{Limit, Refusal, CannotRead, BeyondLimit}
+use Rattle.command_words.specs.Refusal.{Limit, Refusal, CannotRead, BeyondLimit}
 use Rattle.answers.specs.Lines.{most}
 use Rattle.answers.specs.Judgements.{IsHeld}
 

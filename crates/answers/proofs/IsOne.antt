@@ -1,6 +1,6 @@
 -- Judgements that have one outcome.
 use Rattle.std.proofs.Common.{◌≡◌, ℕ, List, Option, Some, None, Result, Ok, Err, sym, ◌∙◌, arith}
-use Rattle.answers.specs.Refusal.{Limit, Refusal}
+use Rattle.command_words.specs.Refusal.{Limit, Refusal}
 use Rattle.answers.specs.Judgements.{IsHeld}
 
 -- a judgement has one outcome

@@ -6,7 +6,6 @@ mod SameKernels
 mod SameBound
 mod IsOne
 mod Held
-mod Within
 mod SchedulesAgree
 mod PlansAgree
 mod Agreed
@@ -17,5 +16,4 @@ mod Complete
 mod WordsRefused
 mod Shown
 mod Reported
-mod OneFault
 mod Examples

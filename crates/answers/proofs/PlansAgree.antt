@@ -32,10 +32,10 @@ use Rattle.loop_plan.specs.OnePlan.{AreAlike, PlanTextsAreOne, PlansAreOne, Step
 use Rattle.bound_plan.specs.Memories.{dump_of, run_output}
 use Rattle.bound_plan.specs.OneRun.{with_kernels, ProgramsAreOne, DumpsAreOne}
 use Rattle.op_outside.specs.Outside.{Files}
-use Rattle.answers.specs.Refusal.{Refusal, PartitionBytes, BeyondLimit, Steps}
+use Rattle.command_words.specs.Refusal.{Refusal, PartitionBytes, BeyondLimit, Steps}
 use Rattle.answers.specs.Lines.{Answer, done, refused}
 use Rattle.answers.specs.Said.{SaysNumbers, SaysOwners}
-use Rattle.answers.specs.Words.{PlanJob, Check, ShowsPlan, ShowsSchedule, RunsPlan, Parting, ByRule, ByFile, Options, group_of}
+use Rattle.command_words.specs.Words.{PlanJob, Check, ShowsPlan, ShowsSchedule, RunsPlan, Parting, ByRule, ByFile, Options, group_of}
 use Rattle.answers.specs.Judgements.{NumbersOf, PartsOf, OwnersOf, Planned, IsPlanned, HasManySteps, PlanIs, Order, OrderOf, outline_of, StepsOf}
 use Rattle.answers.specs.Answers.{given, ran, sizes_text, planned_answer, PlannedAnswers}
 use Rattle.answers.proofs.Given.{given_both, given_alike}

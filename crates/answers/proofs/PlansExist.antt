@@ -21,13 +21,13 @@ use Rattle.bound_program.specs.Fits.{Fits}
 use Rattle.loop_plan.specs.StepCounts.{program_steps}
 use Rattle.plan_exists.specs.Laws.{NumbersExist, OwnersExist, OutcomesFit, NarrowMeshesFitMemory, DistributionsExist, PlansExist}
 use Rattle.op_outside.specs.Outside.{Files}
-use Rattle.answers.specs.Refusal.{PartitionBytes, ScheduleBytes, Steps, Refusal, BadPart, BeyondLimit}
+use Rattle.command_words.specs.Refusal.{PartitionBytes, ScheduleBytes, Steps, Refusal, BadPart, BeyondLimit}
 use Rattle.answers.specs.Lines.{Answer, most}
 use Rattle.answers.specs.Said.{SaysOwners}
-use Rattle.answers.specs.Words.{PlanJob, Parting, ByRule, ByFile, Schedule, Standard, Drawn, Written, Options, group_of}
+use Rattle.command_words.specs.Words.{PlanJob, Parting, ByRule, ByFile, Schedule, Standard, Drawn, Written, Options, group_of}
 use Rattle.answers.specs.Judgements.{IsHeld, NumbersOf, PartsOf, OwnersOf, Planned, PlanIs, Order, InStandardOrder, BySeed, ByText, OrderOf, outline_of, StepsOf}
 use Rattle.answers.specs.Answers.{PlannedAnswers}
-use Rattle.answers.specs.Laws.{AreWithin}
+use Rattle.command_words.specs.Laws.{AreWithin}
 use Rattle.answers.proofs.Given.{given_one, given_with}
 use Rattle.answers.proofs.Held.{held_exists}
 use Rattle.answers.proofs.SaidOnce.{numbers_said, partition_said}

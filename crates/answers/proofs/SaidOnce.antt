@@ -19,7 +19,7 @@ use Rattle.schedule_text.specs.declared.refusals.ScheduleTextRefusal.TheVariants
 use Rattle.step_judge.specs.declared.refusal.ScheduleRefusal.{ScheduleRefusal}
 use Rattle.step_judge.specs.declared.refusal.ScheduleRefusal.TheVariants as taking
 use Rattle.distribute.specs.Parts.{NumbersRefusal, UnknownMap, OwnersRefusal, NoDat, NoMap, Unspelled}
-use Rattle.answers.specs.Refusal.{Refusal, status_of}
+use Rattle.command_words.specs.Refusal.{Refusal, status_of}
 use Rattle.answers.specs.Said.{SaysLex, SaysSource, SaysTypes, SaysMesh, SaysBinding, SaysNumbers, SaysPartition, SaysOwners, SaysSchedule, SaysStep, SaysEnd, SaysNext}
 
 -- ---- no other

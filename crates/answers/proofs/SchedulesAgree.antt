@@ -12,9 +12,9 @@ use Rattle.schedule_text.specs.Reading.{Read, Reads}
 use Rattle.step_judge.specs.declared.refusal.ScheduleRefusal.{ScheduleRefusal}
 use Rattle.step_judge.specs.Verdicts.{judged, ended, too_early, incomplete}
 use Rattle.op_outside.specs.Outside.{Files}
-use Rattle.answers.specs.Refusal.{Refusal, ScheduleBytes}
+use Rattle.command_words.specs.Refusal.{Refusal, ScheduleBytes}
 use Rattle.answers.specs.Said.{SaysSchedule, SaysNext}
-use Rattle.answers.specs.Words.{Schedule, Standard, Drawn, Written}
+use Rattle.command_words.specs.Words.{Schedule, Standard, Drawn, Written}
 use Rattle.answers.specs.Judgements.{Order, InStandardOrder, BySeed, ByText, OrderOf, StepsOf, steps_in, end_line, IsTextRefused, judged_next, IsStepRefused}
 use Rattle.answers.proofs.IsOne.{IsOne, held_is_one, told_is_one}
 use Rattle.answers.proofs.SaidOnce.{schedule_once, next_once}

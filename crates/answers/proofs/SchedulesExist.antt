@@ -15,7 +15,7 @@ use Rattle.step_judge.specs.declared.refusal.ScheduleRefusal.{ScheduleRefusal}
 use Rattle.step_judge.specs.declared.refusal.ScheduleRefusal.TheVariants as taking
 use Rattle.step_judge.specs.Verdicts.{judged, too_early, incomplete}
 use Rattle.step_judge.specs.TakenAll.{TakenAll}
-use Rattle.answers.specs.Refusal.{Refusal, LeftStep}
+use Rattle.command_words.specs.Refusal.{Refusal, LeftStep}
 use Rattle.answers.specs.Said.{SaysStep}
 use Rattle.answers.specs.Judgements.{Order, InStandardOrder, BySeed, ByText, StepsOf, steps_in, end_line, IsStepRefused}
 use Rattle.answers.proofs.SaidOnce.{schedule_said}

@@ -8,7 +8,7 @@ use Rattle.kernel_model.specs.Walk.{Breach, walk, IsFound, WalkFinds}
 use Rattle.bound_program.specs.Values.{BoundValue, SiteValue}
 use Rattle.run_model.specs.Kernels.{kernel_at}
 use Rattle.run_model.specs.Arguments.{modes_of}
-use Rattle.answers.specs.Refusal.{Refusal, BadAccess}
+use Rattle.command_words.specs.Refusal.{Refusal, BadAccess}
 use Rattle.answers.specs.Judgements.{SiteObeys, SiteRefuses, AccessesAre}
 
 -- ---- lists

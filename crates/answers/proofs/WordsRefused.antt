@@ -18,7 +18,7 @@ use Rattle.bound_program.specs.Values.{BoundValue}
 use Rattle.run_model.specs.Programs.{first_fault}
 use Rattle.mesh_text.specs.Canonical.{canonical}
 use Rattle.op_outside.specs.Outside.{Files}
-use Rattle.answers.specs.Refusal.{Limit, SourceBytes, MeshBytes, Refusal, Usage, CannotRead, NoTokens, NoTree, TooDeep, BadName, BadBinding, BadTarget, BadAccess, BadMesh, BadPart, BadPartition, BadSchedule, BadStep, EarlyStep, LeftStep, BeyondLimit, PartitionBytes, ScheduleBytes, status_of}
+use Rattle.command_words.specs.Refusal.{Limit, SourceBytes, MeshBytes, Refusal, Usage, CannotRead, NoTokens, NoTree, TooDeep, BadName, BadBinding, BadTarget, BadAccess, BadMesh, BadPart, BadPartition, BadSchedule, BadStep, EarlyStep, LeftStep, BeyondLimit, PartitionBytes, ScheduleBytes, status_of}
 use Rattle.answers.specs.Lines.{Answer, done, refused, faulted}
 use Rattle.part_text.specs.declared.refusals.PartRefusal.{PartRefusal}
 use Rattle.part_text.specs.declared.refusals.PartRefusal.TheVariants as part
@@ -31,7 +31,7 @@ use Rattle.schedule_steps.specs.declared.step.Step.{Step}
 use Rattle.schedule_steps.specs.Outline.{Outline}
 use Rattle.distribute.specs.Parts.{NumbersRefusal, UnknownMap, OwnersRefusal, NoDat, NoMap, Unspelled}
 use Rattle.answers.specs.Said.{SaysLex, SaysSource, SaysTypes, SaysMesh, SaysBinding, SaysNumbers, SaysPartition, SaysOwners, SaysSchedule, SaysStep, SaysEnd, SaysNext}
-use Rattle.answers.specs.Words.{PlanJob, Check, ShowsPlan, ShowsSchedule, RunsPlan, Parting, ByRule, ByFile, Schedule, Standard, Drawn, Written, Options, group_of, Input, InFiles, OfSample, Command, OnPlan, Converts, ShowsUsage, ShowsVersion, WordsAre, named_by, names_in}
+use Rattle.command_words.specs.Words.{PlanJob, Check, ShowsPlan, ShowsSchedule, RunsPlan, Parting, ByRule, ByFile, Schedule, Standard, Drawn, Written, Options, group_of, Input, InFiles, OfSample, Command, OnPlan, Converts, ShowsUsage, ShowsVersion, WordsAre, named_by, names_in}
 use Rattle.answers.specs.Judgements.{IsHeld, SourceIs, TreeIs, TypesAre, FileIs, MeshIs, EntriesAre, BoundIs, AccessesAre, NumbersOf, PartsOf, OwnersOf, Planned, PlanIs, Order, InStandardOrder, BySeed, ByText, OrderOf, outline_of, StepsOf}
 use Rattle.answers.specs.Answers.{given, ran, planned_answer, PlannedAnswers, BoundAnswers, CommandAnswers, Answers}
 use Rattle.answers.specs.Endings.{Ending, Answered, OutOfMemory, Unread, Unwritten, ending_status, unwritten_status, Call, IsOfContents, IsSomeAnswer, TellsUntold, Tells, no_files, IsWritten, EndsBy, Ends, IsUsage}

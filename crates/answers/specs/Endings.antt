@@ -4,9 +4,9 @@ use Rattle.std.specs.List.{Contains}
 use Rattle.kernel_types.specs.declared.faults.KernelFault.{KernelFault}
 use Rattle.schedule_model.specs.Sequential.{Stop}
 use Rattle.op_outside.specs.Outside.{Files, Rose, appended, AppendsFront}
-use Rattle.answers.specs.Refusal.{Refusal, Usage, CannotRead, status_of}
+use Rattle.command_words.specs.Refusal.{Refusal, Usage, CannotRead, status_of}
 use Rattle.answers.specs.Lines.{Answer, done, refused, faulted, whole_line, line_of}
-use Rattle.answers.specs.Words.{WordsAre, named_by}
+use Rattle.command_words.specs.Words.{WordsAre, named_by}
 use Rattle.answers.specs.Answers.{Answers, ComesToBeRead}
 use Rattle.answers.specs.Laws.{SourceLacksTree}
 

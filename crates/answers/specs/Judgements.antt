@@ -45,9 +45,9 @@ use Rattle.schedule_text.specs.declared.refusals.ScheduleTextRefusal.{ScheduleTe
 use Rattle.schedule_text.specs.Reading.{Reads as SchedulesRead}
 use Rattle.step_judge.specs.declared.refusal.ScheduleRefusal.{ScheduleRefusal}
 use Rattle.step_judge.specs.Verdicts.{judged, ended}
-use Rattle.answers.specs.Words.{Input, InFiles, OfSample, Parting, ByRule, ByFile, Schedule, Standard, Drawn, Written, Options}
-use Rattle.answers.specs.Refusal.{Limit, SourceBytes, MeshBytes, MeshValues, PartitionBytes, Steps, ScheduleBytes, Refusal, CannotRead}
-use Rattle.answers.specs.Refusal.{BadAccess, BeyondLimit}
+use Rattle.command_words.specs.Words.{Input, InFiles, OfSample, Parting, ByRule, ByFile, Schedule, Standard, Drawn, Written, Options}
+use Rattle.command_words.specs.Refusal.{Limit, SourceBytes, MeshBytes, MeshValues, PartitionBytes, Steps, ScheduleBytes, Refusal, CannotRead}
+use Rattle.command_words.specs.Refusal.{BadAccess, BeyondLimit}
 use Rattle.answers.specs.Lines.{most}
 use Rattle.answers.specs.Said.{SaysSource, SaysTypes, SaysMesh, SaysBinding, SaysNumbers, SaysOwners, SaysSchedule, SaysNext}
 

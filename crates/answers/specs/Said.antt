@@ -25,9 +25,9 @@ use Rattle.schedule_text.specs.declared.refusals.ScheduleTextRefusal.TheVariants
 use Rattle.step_judge.specs.declared.refusal.ScheduleRefusal.{ScheduleRefusal}
 use Rattle.step_judge.specs.declared.refusal.ScheduleRefusal.TheVariants as taking
 use Rattle.distribute.specs.Parts.{NumbersRefusal, UnknownMap, OwnersRefusal, NoDat, NoMap, Unspelled}
-use Rattle.answers.specs.Refusal.{Limit, MeshValues, Sets, Maps, Dats, SetSize, Dim, MeshCells, Arguments, Trace, PrintWeight}
-use Rattle.answers.specs.Refusal.{ScheduleSteps, Refusal, NoTokens, NoTree, TooDeep, BadName, BadBinding, BadTarget, BadMesh, BadPart}
-use Rattle.answers.specs.Refusal.{BadPartition, BadSchedule, BadStep, EarlyStep, LeftStep, BeyondLimit}
+use Rattle.command_words.specs.Refusal.{Limit, MeshValues, Sets, Maps, Dats, SetSize, Dim, MeshCells, Arguments, Trace, PrintWeight}
+use Rattle.command_words.specs.Refusal.{ScheduleSteps, Refusal, NoTokens, NoTree, TooDeep, BadName, BadBinding, BadTarget, BadMesh, BadPart}
+use Rattle.command_words.specs.Refusal.{BadPartition, BadSchedule, BadStep, EarlyStep, LeftStep, BeyondLimit}
 use Rattle.answers.specs.Lines.{most}
 
 -- ---- the source

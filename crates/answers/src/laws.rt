@@ -1,28 +1,15 @@
 // Laws of the definitions, each as the contract of a function that does nothing.
 
-ghost use Rattle.std.specs.Prelude.{◌≡◌, ℕ, List, [], ◌∷◌};
-ghost use Rattle.clap.specs.Kinds.{IsAmong};
-ghost use Rattle.clap.specs.Faults.{fault_of};
-ghost use Rattle.clap.specs.declared.error.kind.ErrorKind.{ErrorKind as Kind};
-ghost use Rattle.answers.specs.Words.{command};
+ghost use Rattle.std.specs.Prelude.{ℕ};
 ghost use Rattle.answers.specs.Endings.{Call, Ends, IsComplete, IsUsage, IsShown, IsSilent, AreReported};
-ghost use Rattle.answers.specs.Laws.{AnswersAgree, AnswersExist, OptionsAreWithin};
-
-/// A law: `clap` has at most one kind of fault to answer the words with.
-pub fn one_fault()
-    ensures { (words : List (List ℕ)) (k : Kind) → IsAmong k (fault_of command words) → fault_of command words ≡ k ∷ [] }
-{}
-
-/// A law: the numbers of the options that words ask for are in range.
-pub fn options_are_within()
-    ensures { OptionsAreWithin }
-{}
+ghost use Rattle.answers.specs.Laws.{AnswersAgree, AnswersExist};
 
 /// A law: any two answers to the same words over the same files have the same status and the same bytes for the output, and
 /// the same line, unless the source has tokens and no tree.
 pub fn answers_agree()
     ensures { AnswersAgree }
 {
+    command_words::options_are_within();
     c_lex::one_outcome();
     c_reader::one_tree();
     name_resolution::one_answer();
@@ -47,6 +34,7 @@ pub fn answers_agree()
 pub fn answers_exist()
     ensures { AnswersExist }
 {
+    command_words::options_are_within();
     c_lex::some_outcome();
     c_lex::one_outcome();
     c_reader::one_depth();

@@ -4,14 +4,9 @@
 
 mod laws;
 mod limits;
-mod usage;
 
 pub use laws::{
     answers_agree, answers_exist, calls_are_complete, calls_report_their_answers,
-    calls_show_their_answers, one_fault, options_are_within, others_write_nothing,
-    usage_is_of_words,
+    calls_show_their_answers, others_write_nothing, usage_is_of_words,
 };
-pub use limits::{
-    MAX_BLOCK, MAX_GROUP, MAX_RANKS, MAX_WORKERS, PARTITION_BYTES, SCHEDULE_BYTES, SOURCE_BYTES,
-};
-pub use usage::{USAGE, VERSION};
+pub use limits::{PARTITION_BYTES, SCHEDULE_BYTES, SOURCE_BYTES};

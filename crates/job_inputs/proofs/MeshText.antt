@@ -5,7 +5,7 @@ use Rattle.kernel_types.specs.declared.kernels.Resolved.{Resolved}
 use Rattle.mesh_text.specs.Spelling.{Named}
 use Rattle.bound_program.specs.Values.{BoundValue}
 use Rattle.answers.specs.Lines.{refused}
-use Rattle.answers.specs.Refusal.{Refusal}
+use Rattle.command_words.specs.Refusal.{Refusal}
 use Rattle.answers.specs.Judgements.{EntriesAre, BoundIs, AccessesAre}
 use Rattle.answers.specs.Endings.{IsOfContents}
 use Rattle.answer_lines.specs.declared.refusals.Halt.{Halt}

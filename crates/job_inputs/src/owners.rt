@@ -8,9 +8,9 @@ ghost use Rattle.distribute.specs.declared.types.OwnersRefusal.TheVariants as un
 ghost use Rattle.bound_program.specs.Values.{bound_of};
 ghost use Rattle.answers.specs.Said.{SaysPartition, SaysOwners};
 ghost use Rattle.answers.specs.declared.limits.TheConstants.{PARTITION_BYTES};
-ghost use Rattle.answers.specs.Words.{names_by};
-ghost use Rattle.answers.specs.Laws.{AreWithin};
-ghost use Rattle.answers.specs.Refusal.{PartitionBytes};
+ghost use Rattle.command_words.specs.Words.{names_by};
+ghost use Rattle.command_words.specs.Laws.{AreWithin};
+ghost use Rattle.command_words.specs.Refusal.{PartitionBytes};
 ghost use Rattle.answers.specs.Judgements.{IsHeld, NumbersOf, OwnersOf};
 ghost use Rattle.command_words.specs.Values.{parting_in, options_in};
 ghost use Rattle.answer_lines.specs.declared.refusals.Failure.TheVariants.{OutOfMemory};

@@ -17,7 +17,7 @@ use Rattle.loop_plan.specs.StepOutline.{step_outline}
 use Rattle.schedule_check.specs.declared.whole.Unaccepted.{Unaccepted}
 use Rattle.schedule_check.specs.Whole.{IsRefusedNext, IsUnaccepted}
 use Rattle.schedule_text.specs.declared.lines.Line.{Line}
-use Rattle.answers.specs.Refusal.{Refusal}
+use Rattle.command_words.specs.Refusal.{Refusal}
 use Rattle.answers.specs.Said.{SaysNext}
 use Rattle.answers.specs.Judgements.{steps_in, judged_next, IsStepRefused}
 use Rattle.answers.specs.Endings.{IsOfContents}

@@ -3,7 +3,7 @@ use Rattle.std.specs.Prelude.{◌≡◌, ℕ, ◌⊎◌, List, Option, Result, O
 use Rattle.std.specs.List.{Contains}
 use Rattle.op_outside.specs.Outside.{Files, Rose, appended, AppendsFront}
 use Rattle.answers.specs.Lines as lines
-use Rattle.answers.specs.Words.{named_by}
+use Rattle.command_words.specs.Words.{named_by}
 use Rattle.answers.specs.Endings as ending
 use Rattle.answers.specs.Endings.{Ending, unwritten_status, unwritten_line, Tells, Asks, IsWritten}
 use Rattle.answers.specs.Endings.{Call, Ends, IsComplete, IsUsage, IsShown, AreReported, IsSilent}

@@ -1,7 +1,7 @@
 // The whole of what the program does.
 
 ghost use Rattle.std.specs.Prelude.{◌≡◌, All, map, string_bytes};
-ghost use Rattle.answers.specs.Words.{named_by};
+ghost use Rattle.command_words.specs.Words.{named_by};
 ghost use Rattle.answers.specs.Endings.{ending_status, ending_line};
 ghost use Rattle.answer_lines.specs.Halts.{answer_of};
 ghost use Rattle.answer_lines.specs.Reports.{Stands};

@@ -9,6 +9,7 @@ returns c =
     c.rules_are_broken.ensures.obeys c.rules_are_broken.ensures.first
     (plans.plans_alike c.one_program.ensures.programs c.one_dump.ensures c.one_plan.ensures schedules c.one_numbers.ensures
     c.one_owners.ensures c.one_distribution.ensures c.one_plan_text.ensures c.one_step_count.ensures)
+    c.options_are_within.ensures
   where
     schedules : plans.ScheduleLaws
     schedules = record {

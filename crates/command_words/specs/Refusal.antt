@@ -1,4 +1,4 @@
--- What the program can refuse, and what it answers.
+-- What the program can refuse, and the status that it ends with then.
 use Rattle.std.specs.Prelude.{ℕ, List}
 use Rattle.c_lex.specs.declared.tokens.Pos.{Pos}
 use Rattle.schedule_steps.specs.declared.step.Step.{Step}

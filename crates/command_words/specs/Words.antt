@@ -13,8 +13,8 @@ use Rattle.mesh_text.specs.declared.entry.Form.{Form}
 use Rattle.mesh_text.specs.declared.entry.Form.TheVariants as form
 use Rattle.mesh_gen.specs.declared.places.TheConstants.{MAX_SIDE}
 use Rattle.distribute.specs.Parts.{Parts, Block, Bisect, Grow}
-use Rattle.answers.specs.declared.limits.TheConstants.{MAX_RANKS, MAX_BLOCK, MAX_WORKERS, MAX_GROUP}
-use Rattle.answers.specs.Refusal.{Refusal, Usage}
+use Rattle.command_words.specs.declared.limits.TheConstants.{MAX_RANKS, MAX_BLOCK, MAX_WORKERS, MAX_GROUP}
+use Rattle.command_words.specs.Refusal.{Refusal, Usage}
 
 -- what is done with the plan of a program: its sizes are told, or its text or a schedule of it is written, or the program runs by it
 pub data PlanJob : Type 0 where

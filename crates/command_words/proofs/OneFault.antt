@@ -13,7 +13,7 @@ use Rattle.clap.specs.Walk as step
 use Rattle.clap.specs.Simple.{Shape, argument_words, built}
 use Rattle.clap.specs.Kinds.{Kinds, IsAmong, check_kinds, or_else, range_kinds, request_kinds, value_kinds, values_kinds}
 use Rattle.clap.specs.Faults
-use Rattle.answers.specs.Words.{command}
+use Rattle.command_words.specs.Words.{command}
 use Rattle.clap.specs.declared.builder.action.ArgAction.{ArgAction}
 use Rattle.clap.specs.declared.builder.action.ArgAction.TheVariants as action
 use Rattle.clap.specs.declared.builder.value_parser.ValueParser.{ValueParser}

@@ -10,10 +10,10 @@ use Rattle.clap.specs.Simple.{matches_of}
 use Rattle.clap.specs.declared.error.kind.ErrorKind.TheVariants as kind
 use Rattle.op_num.specs.Spelling.{number_of}
 use Rattle.mesh_gen.specs.declared.places.TheConstants.{MAX_SIDE}
-use Rattle.answers.specs.declared.limits.TheConstants.{MAX_RANKS, MAX_BLOCK, MAX_WORKERS}
-use Rattle.answers.specs.Refusal.{Refusal}
-use Rattle.answers.specs.Words.{PlanJob, Check, ShowsPlan, ShowsSchedule, RunsPlan, Parting, Schedule, Options, Input, InFiles, OfSample, Command, OnPlan, command, number_to, number_or, form_of, OptionWords, options_in, parting_of, schedule_of, options_with, options_of, plans_nothing, on_files, samples, converts, plans, by_job, or_usage, asked, judged, WordsAre}
-use Rattle.answers.specs.Laws.{AreWithin}
+use Rattle.command_words.specs.declared.limits.TheConstants.{MAX_RANKS, MAX_BLOCK, MAX_WORKERS}
+use Rattle.command_words.specs.Refusal.{Refusal}
+use Rattle.command_words.specs.Words.{PlanJob, Check, ShowsPlan, ShowsSchedule, RunsPlan, Parting, Schedule, Options, Input, InFiles, OfSample, Command, OnPlan, command, number_to, number_or, form_of, OptionWords, options_in, parting_of, schedule_of, options_with, options_of, plans_nothing, on_files, samples, converts, plans, by_job, or_usage, asked, judged, WordsAre}
+use Rattle.command_words.specs.Laws.{AreWithin}
 
 -- P is so of what there is
 abbrev Holds : {X : Type 0} → (X → Type 0) → Option X → Type 0
