@@ -2,7 +2,7 @@
 use Rattle.std.specs.Prelude.{◌≡◌, ℕ, ◌⊎◌, List, Option, codes}
 use Rattle.op_outside.specs.Outside.{Rose, appended, AppendsFront}
 use Rattle.command_words.specs.Refusal as answer
-use Rattle.answers.specs.Lines.{line_of, whole_line}
+use Rattle.answer_lines.specs.Lines.{line_of, whole_line}
 use Rattle.answer_lines.specs.declared.reports.Line.{Line}
 use Rattle.answer_lines.specs.declared.reports.Line.TheVariants as report
 

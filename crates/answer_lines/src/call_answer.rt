@@ -2,7 +2,7 @@
 
 ghost use Rattle.std.specs.Prelude.{◌≡◌, IfOk};
 ghost use Rattle.command_words.specs.Refusal.{status_of};
-ghost use Rattle.answers.specs.Lines as lines;
+ghost use Rattle.answer_lines.specs.Lines as lines;
 ghost use Rattle.answer_lines.specs.Halts.{refusal_of, answer_of};
 
 use crate::lines::put_refusal;

@@ -19,7 +19,7 @@ use Rattle.loop_bind.specs.Bound.{bound}
 use Rattle.bound_plan.specs.OneRun.{KernelsAreOne}
 use Rattle.op_outside.specs.Outside.{Files}
 use Rattle.command_words.specs.Refusal.{SourceBytes, MeshBytes, Refusal}
-use Rattle.answers.specs.Lines.{Answer, refused, line_of}
+use Rattle.answer_lines.specs.Lines.{Answer, refused, line_of}
 use Rattle.answers.specs.Said.{SaysTypes, SaysMesh, SaysBinding}
 use Rattle.mesh_text.specs.declared.entry.Form.{Form}
 use Rattle.mesh_gen.specs.Sample.{sample_source, sample_mesh}

@@ -5,7 +5,7 @@ use Rattle.op_num.specs.declared.refusals.Fault.TheVariants.{DivZero}
 use Rattle.clap.proofs.OnLiterals.{clap_on_literals}
 use Rattle.mesh_text.specs.declared.entry.Form.TheVariants as form
 use Rattle.command_words.specs.Refusal.{CannotRead, TooDeep, NoTokens, BadName, BadTarget, BadAccess, BadMesh, BadPart, BadPartition, BadSchedule, BadStep, EarlyStep, LeftStep, BeyondLimit, PartitionBytes, Steps, ScheduleSteps, SetSize, Usage}
-use Rattle.answers.specs.Lines.{line_of, fault_line}
+use Rattle.answer_lines.specs.Lines.{line_of, fault_line}
 use Rattle.distribute.specs.Parts.{Block, Bisect, Grow}
 use Rattle.schedule_steps.specs.declared.step.Step.TheVariants.{Send, Recv, Begin, Join}
 use Rattle.command_words.specs.Words.{Options, Check, ShowsPlan, ShowsSchedule, RunsPlan, ByRule, ByFile, Standard, Drawn, Written, InFiles, OfSample, OnPlan, Converts, ShowsUsage, ShowsVersion, WordsAre}

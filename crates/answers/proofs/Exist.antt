@@ -25,7 +25,7 @@ use Rattle.bound_program.specs.Values.{BoundValue}
 use Rattle.loop_bind.specs.Bound.{bound}
 use Rattle.op_outside.specs.Outside.{Files}
 use Rattle.command_words.specs.Refusal.{SourceBytes, MeshBytes, Refusal, NoTree, TooDeep}
-use Rattle.answers.specs.Lines.{Answer, most}
+use Rattle.answer_lines.specs.Lines.{Answer, most}
 use Rattle.mesh_gen.specs.Sample.{sample_source}
 use Rattle.command_words.specs.Words.{PlanJob, Options, Input, InFiles, OfSample, Command, OnPlan, Converts, ShowsUsage, ShowsVersion, WordsAre}
 use Rattle.answers.specs.Judgements.{IsUnread, SourceIs, MeshIs, TreeIs, TypesAre, EntriesAre, BoundIs}

@@ -33,7 +33,7 @@ use Rattle.bound_plan.specs.Memories.{dump_of, run_output}
 use Rattle.bound_plan.specs.OneRun.{with_kernels, ProgramsAreOne, DumpsAreOne}
 use Rattle.op_outside.specs.Outside.{Files}
 use Rattle.command_words.specs.Refusal.{Refusal, PartitionBytes, BeyondLimit, Steps}
-use Rattle.answers.specs.Lines.{Answer, done, refused}
+use Rattle.answer_lines.specs.Lines.{Answer, done, refused}
 use Rattle.answers.specs.Said.{SaysNumbers, SaysOwners}
 use Rattle.command_words.specs.Words.{PlanJob, Check, ShowsPlan, ShowsSchedule, RunsPlan, Parting, ByRule, ByFile, Options, group_of}
 use Rattle.answers.specs.Judgements.{NumbersOf, PartsOf, OwnersOf, Planned, IsPlanned, HasManySteps, PlanIs, Order, OrderOf, outline_of, StepsOf}

@@ -22,7 +22,7 @@ use Rattle.loop_plan.specs.StepCounts.{program_steps}
 use Rattle.plan_exists.specs.Laws.{NumbersExist, OwnersExist, OutcomesFit, NarrowMeshesFitMemory, DistributionsExist, PlansExist}
 use Rattle.op_outside.specs.Outside.{Files}
 use Rattle.command_words.specs.Refusal.{PartitionBytes, ScheduleBytes, Steps, Refusal, BadPart, BeyondLimit}
-use Rattle.answers.specs.Lines.{Answer, most}
+use Rattle.answer_lines.specs.Lines.{Answer, most}
 use Rattle.answers.specs.Said.{SaysOwners}
 use Rattle.command_words.specs.Words.{PlanJob, Parting, ByRule, ByFile, Schedule, Standard, Drawn, Written, Options, group_of}
 use Rattle.answers.specs.Judgements.{IsHeld, NumbersOf, PartsOf, OwnersOf, Planned, PlanIs, Order, InStandardOrder, BySeed, ByText, OrderOf, outline_of, StepsOf}

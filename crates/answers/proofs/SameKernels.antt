@@ -13,7 +13,7 @@ use Rattle.run_model.specs.Arguments.{modes_of}
 use Rattle.run_model.specs.Programs.{printed_in, first_fault, stop_in}
 use Rattle.bound_plan.specs.Memories.{unless_stopped, run_output}
 use Rattle.bound_plan.specs.OneRun.{SameTree, with_kernels, KernelsAreOne, ProgramsAreOne}
-use Rattle.answers.specs.Lines.{Answer}
+use Rattle.answer_lines.specs.Lines.{Answer}
 use Rattle.answers.specs.Answers.{ran}
 use Rattle.answers.proofs.Sites.{found_by, site_found, first_found, same_found}
 

@@ -12,7 +12,7 @@ use Rattle.c_reader.specs.declared.refusals.SourceRefusal.{SourceRefusal}
 use Rattle.c_reader.specs.declared.refusals.SourceRefusal.TheVariants as source
 use Rattle.c_reader.specs.Answered.{HasNoTree}
 use Rattle.command_words.specs.Refusal.{Refusal}
-use Rattle.answers.specs.Lines.{line_of}
+use Rattle.answer_lines.specs.Lines.{line_of}
 use Rattle.answers.specs.Said.{SaysLex, SaysSource}
 use Rattle.answers.specs.Judgements.{IsUnread, TreeIs}
 use Rattle.answers.specs.Laws.{LacksTree}

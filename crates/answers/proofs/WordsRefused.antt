@@ -19,7 +19,7 @@ use Rattle.run_model.specs.Programs.{first_fault}
 use Rattle.mesh_text.specs.Canonical.{canonical}
 use Rattle.op_outside.specs.Outside.{Files}
 use Rattle.command_words.specs.Refusal.{Limit, SourceBytes, MeshBytes, Refusal, Usage, CannotRead, NoTokens, NoTree, TooDeep, BadName, BadBinding, BadTarget, BadAccess, BadMesh, BadPart, BadPartition, BadSchedule, BadStep, EarlyStep, LeftStep, BeyondLimit, PartitionBytes, ScheduleBytes, status_of}
-use Rattle.answers.specs.Lines.{Answer, done, refused, faulted}
+use Rattle.answer_lines.specs.Lines.{Answer, done, refused, faulted}
 use Rattle.part_text.specs.declared.refusals.PartRefusal.{PartRefusal}
 use Rattle.part_text.specs.declared.refusals.PartRefusal.TheVariants as part
 use Rattle.schedule_text.specs.declared.lines.Line.{Line}
@@ -34,7 +34,8 @@ use Rattle.answers.specs.Said.{SaysLex, SaysSource, SaysTypes, SaysMesh, SaysBin
 use Rattle.command_words.specs.Words.{PlanJob, Check, ShowsPlan, ShowsSchedule, RunsPlan, Parting, ByRule, ByFile, Schedule, Standard, Drawn, Written, Options, group_of, Input, InFiles, OfSample, Command, OnPlan, Converts, ShowsUsage, ShowsVersion, WordsAre, named_by, names_in}
 use Rattle.answers.specs.Judgements.{IsHeld, SourceIs, TreeIs, TypesAre, FileIs, MeshIs, EntriesAre, BoundIs, AccessesAre, NumbersOf, PartsOf, OwnersOf, Planned, PlanIs, Order, InStandardOrder, BySeed, ByText, OrderOf, outline_of, StepsOf}
 use Rattle.answers.specs.Answers.{given, ran, planned_answer, PlannedAnswers, BoundAnswers, CommandAnswers, Answers}
-use Rattle.answers.specs.Endings.{Ending, Answered, OutOfMemory, Unread, Unwritten, ending_status, unwritten_status, Call, IsOfContents, IsSomeAnswer, TellsUntold, Tells, no_files, IsWritten, EndsBy, Ends, IsUsage}
+use Rattle.answer_lines.specs.Lines.{IsOfContents}
+use Rattle.answers.specs.Endings.{Ending, Answered, OutOfMemory, Unread, Unwritten, ending_status, unwritten_status, Call, IsSomeAnswer, TellsUntold, Tells, no_files, IsWritten, EndsBy, Ends, IsUsage}
 use Rattle.answers.proofs.Complete.{tells_answer, unwritten_is}
 
 -- ---- refusals

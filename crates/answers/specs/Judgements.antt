@@ -48,7 +48,7 @@ use Rattle.step_judge.specs.Verdicts.{judged, ended}
 use Rattle.command_words.specs.Words.{Input, InFiles, OfSample, Parting, ByRule, ByFile, Schedule, Standard, Drawn, Written, Options}
 use Rattle.command_words.specs.Refusal.{Limit, SourceBytes, MeshBytes, MeshValues, PartitionBytes, Steps, ScheduleBytes, Refusal, CannotRead}
 use Rattle.command_words.specs.Refusal.{BadAccess, BeyondLimit}
-use Rattle.answers.specs.Lines.{most}
+use Rattle.answer_lines.specs.Lines.{most}
 use Rattle.answers.specs.Said.{SaysSource, SaysTypes, SaysMesh, SaysBinding, SaysNumbers, SaysOwners, SaysSchedule, SaysNext}
 
 -- ---- files

@@ -1,4 +1,3 @@
-pub mod Lines
 pub mod Said
 pub mod Judgements
 pub mod Answers

@@ -28,7 +28,7 @@ use Rattle.distribute.specs.Parts.{NumbersRefusal, UnknownMap, OwnersRefusal, No
 use Rattle.command_words.specs.Refusal.{Limit, MeshValues, Sets, Maps, Dats, SetSize, Dim, MeshCells, Arguments, Trace, PrintWeight}
 use Rattle.command_words.specs.Refusal.{ScheduleSteps, Refusal, NoTokens, NoTree, TooDeep, BadName, BadBinding, BadTarget, BadMesh, BadPart}
 use Rattle.command_words.specs.Refusal.{BadPartition, BadSchedule, BadStep, EarlyStep, LeftStep, BeyondLimit}
-use Rattle.answers.specs.Lines.{most}
+use Rattle.answer_lines.specs.Lines.{most}
 
 -- ---- the source
 

@@ -3,10 +3,8 @@
 #![tactic(auto)]
 
 mod laws;
-mod limits;
 
 pub use laws::{
     answers_agree, answers_exist, calls_are_complete, calls_report_their_answers,
     calls_show_their_answers, others_write_nothing, usage_is_of_words,
 };
-pub use limits::{PARTITION_BYTES, SCHEDULE_BYTES, SOURCE_BYTES};

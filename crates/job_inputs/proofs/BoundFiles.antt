@@ -9,7 +9,7 @@ use Rattle.kernel_types.specs.declared.kernels.Resolved.{Resolved}
 use Rattle.bound_program.specs.Values.{BoundValue}
 use Rattle.mesh_gen.specs.Sample.{sample_source, sample_mesh}
 use Rattle.command_words.specs.Refusal.{Limit, Refusal, SourceBytes, MeshBytes}
-use Rattle.answers.specs.Lines.{most, refused}
+use Rattle.answer_lines.specs.Lines.{most, refused}
 use Rattle.command_words.specs.Words.{Input, InFiles, OfSample, names_from}
 use Rattle.answers.specs.Judgements.{IsHeld, SourceIs, FileIs, TreeIs, TypesAre}
 use Rattle.answers.specs.Answers.{BoundAnswers}

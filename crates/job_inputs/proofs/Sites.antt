@@ -18,7 +18,7 @@ use Rattle.run_model.specs.Kernels.{kernel_at}
 use Rattle.run_model.specs.Arguments.{mode_of, modes_of, arg_width}
 use Rattle.command_words.specs.Refusal as answer
 use Rattle.answers.specs.Judgements.{AccessesAre, IsFirstSite, SiteObeys, SiteRefuses}
-use Rattle.answers.specs.Endings.{IsOfContents}
+use Rattle.answer_lines.specs.Lines.{IsOfContents}
 use Rattle.answer_lines.specs.declared.refusals.Halt.{Halt}
 use Rattle.answer_lines.specs.Halts.{SpoiltWhere}
 use Rattle.job_inputs.specs.Inputs.{IsAccessRefusal}

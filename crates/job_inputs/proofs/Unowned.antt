@@ -9,7 +9,7 @@ use Rattle.bound_program.specs.Values.{BoundValue}
 use Rattle.command_words.specs.Refusal.{PartitionBytes}
 use Rattle.command_words.specs.Words.{Parting, ByFile, Options}
 use Rattle.answers.specs.Said.{SaysOwners}
-use Rattle.answers.specs.Endings.{IsOfContents}
+use Rattle.answer_lines.specs.Lines.{IsOfContents}
 use Rattle.answers.specs.Judgements.{IsHeld, OwnersOf}
 use Rattle.answer_lines.specs.declared.refusals.Failure.TheVariants.{OutOfMemory}
 use Rattle.answer_lines.specs.declared.refusals.Halt.{Halt}

@@ -7,7 +7,7 @@ use Rattle.c_reader.specs.declared.refusals.SourceRefusal.TheVariants as source
 use Rattle.c_reader.specs.Answered.{place_at, CanRefuse, IsTree, IsRefusal}
 use Rattle.answers.specs.Judgements.{IsUnread, TreeIs}
 use Rattle.answers.specs.Said.{SaysSource}
-use Rattle.answers.specs.Endings.{IsOfContents}
+use Rattle.answer_lines.specs.Lines.{IsOfContents}
 use Rattle.answer_lines.specs.declared.refusals.Halt.{Halt}
 use Rattle.answer_lines.specs.Halts.{SpoiltWhere}
 use Rattle.answer_lines.proofs.Halts.{stops_weaker}

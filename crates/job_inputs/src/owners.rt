@@ -7,7 +7,7 @@ ghost use Rattle.distribute.specs.Parts.{Text, parts_of, UnownedWhere};
 ghost use Rattle.distribute.specs.declared.types.OwnersRefusal.TheVariants as unowned;
 ghost use Rattle.bound_program.specs.Values.{bound_of};
 ghost use Rattle.answers.specs.Said.{SaysPartition, SaysOwners};
-ghost use Rattle.answers.specs.declared.limits.TheConstants.{PARTITION_BYTES};
+ghost use Rattle.answer_lines.specs.declared.limits.TheConstants.{PARTITION_BYTES};
 ghost use Rattle.command_words.specs.Words.{names_by};
 ghost use Rattle.command_words.specs.Laws.{AreWithin};
 ghost use Rattle.command_words.specs.Refusal.{PartitionBytes};
@@ -19,8 +19,7 @@ ghost use Rattle.answer_lines.specs.Halts.{SpoiltWhere};
 ghost use Rattle.job_inputs.specs.Inputs.{parts_by, HoldsParts, IsFilePart, IsPartUnread};
 
 use crate::files::file_of;
-use answer_lines::{Failure, Halt, Limit, Refusal};
-use answers::PARTITION_BYTES;
+use answer_lines::{Failure, Halt, Limit, PARTITION_BYTES, Refusal};
 use bound_program::Bound;
 use command_words::{Options, Parting};
 use distribute::{NumbersRefusal, OwnersRefusal, PartRefusal, Parts, numbers_by, owners_by};

@@ -2,8 +2,8 @@
 use Rattle.std.proofs.Common.{ℕ, inl, inr, List, [], ◌∷◌, Option, None, Some, Result, Ok, Err, IfOk, refl, ap, sym, subst}
 use Rattle.op_outside.specs.Outside.{Files}
 use Rattle.command_words.specs.Refusal.{CannotRead}
-use Rattle.answers.specs.Lines as lines
-use Rattle.answers.specs.Lines.{refused}
+use Rattle.answer_lines.specs.Lines as lines
+use Rattle.answer_lines.specs.Lines.{refused}
 use Rattle.command_words.specs.Words.{Command, WordsAre, names_of, named_by, names_in}
 use Rattle.answers.specs.Answers.{without, CommandAnswers, Answers}
 use Rattle.answers.specs.Endings.{Tells, TellsUntold, no_files}

@@ -11,7 +11,7 @@ ghost use Rattle.loop_plan.specs.StepOutline.{step_outline};
 ghost use Rattle.schedule_steps.specs.declared.step.Step.{Step as StepValue};
 ghost use Rattle.schedule_check.specs.Mail.{plan_cells};
 ghost use Rattle.planned_run.specs.Orders.{InOrder, CanTake};
-ghost use Rattle.answers.specs.declared.limits.TheConstants.{SCHEDULE_BYTES};
+ghost use Rattle.answer_lines.specs.declared.limits.TheConstants.{SCHEDULE_BYTES};
 ghost use Rattle.command_words.specs.Words.{names_from, names_by, names_at};
 ghost use Rattle.command_words.specs.Laws.{AreWithin};
 ghost use Rattle.answers.specs.Judgements.{AccessesAre, ByText};

@@ -13,11 +13,17 @@ use Rattle.schedule_steps.specs.declared.step.Step.{Step}
 use Rattle.schedule_text.specs.declared.lines.TheConstants.{SCHEDULE_STEPS}
 use Rattle.schedule_text.specs.Written.{tokens_of}
 use Rattle.loop_plan.specs.StepCounts.{max_steps}
-use Rattle.answers.specs.declared.limits.TheConstants.{SOURCE_BYTES, PARTITION_BYTES, SCHEDULE_BYTES}
+use Rattle.answer_lines.specs.declared.limits.TheConstants.{SOURCE_BYTES, PARTITION_BYTES, SCHEDULE_BYTES}
 use Rattle.command_words.specs.Refusal.{Limit, SourceBytes, MeshBytes, MeshValues, Sets, Maps, Dats, SetSize, Dim, MeshCells}
 use Rattle.command_words.specs.Refusal.{Arguments, Trace, PrintWeight, PartitionBytes, Steps, ScheduleBytes, ScheduleSteps, Refusal, Usage}
 use Rattle.command_words.specs.Refusal.{CannotRead, NoTokens, NoTree, TooDeep, BadName, BadBinding, BadTarget, BadAccess, BadMesh, BadPart}
 use Rattle.command_words.specs.Refusal.{BadPartition, BadSchedule, BadStep, EarlyStep, LeftStep, BeyondLimit, status_of}
+
+-- a refusal of what a file holds
+abbrev pub IsOfContents : Refusal → Type 0
+IsOfContents Usage = ⊥
+IsOfContents (CannotRead name) = ⊥
+IsOfContents r = Unit {0}
 
 -- the name of a limit
 abbrev pub limit_name : Limit → List ℕ
