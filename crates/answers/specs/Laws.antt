@@ -1,4 +1,4 @@
--- What any two answers to the same words have in common, and that there is one.
+-- The laws of the answers: what any two to the same words have in common, and that there is one.
 use Rattle.std.specs.Prelude.{◌≡◌, ℕ, ◌⊎◌, List, Option, Some, None, Ok}
 use Rattle.c_lex.specs.declared.tokens.Token.{Token}
 use Rattle.c_lex.specs.Lexed.{Lexes}

@@ -1,6 +1,6 @@
-use Rattle.answers.proofs.Agreed as law
-use Rattle.answers.proofs.PlansAgree as plans
-use Rattle.answers.proofs.laws.answers_agree.Goals as goal
+use Rattle.answer_laws.proofs.Agreed as law
+use Rattle.answer_laws.proofs.PlansAgree as plans
+use Rattle.answer_laws.proofs.laws.answers_agree.Goals as goal
 
 pub returns : goal.returns
 returns c =

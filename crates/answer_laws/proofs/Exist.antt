@@ -32,12 +32,12 @@ use Rattle.answers.specs.Judgements.{IsUnread, SourceIs, MeshIs, TreeIs, TypesAr
 use Rattle.answers.specs.Answers.{BoundAnswers, PlannedAnswers, CommandAnswers}
 use Rattle.command_words.specs.Laws.{AreWithin, OptionsAreWithin}
 use Rattle.answers.specs.Laws.{AnswersExist}
-use Rattle.answers.proofs.Given.{given_one}
-use Rattle.answers.proofs.Held.{held_exists, held_within}
-use Rattle.answers.proofs.PlansExist.{Suits}
-use Rattle.answers.proofs.SaidOnce.{lex_said, types_said, mesh_said, binding_said}
-use Rattle.answers.proofs.Trees.{shallow_or_deep}
-use Rattle.answers.proofs.Sites.{accesses_exist}
+use Rattle.answer_laws.proofs.Given.{given_one}
+use Rattle.answer_laws.proofs.Held.{held_exists, held_within}
+use Rattle.answer_laws.proofs.PlansExist.{Suits}
+use Rattle.answer_laws.proofs.SaidOnce.{lex_said, types_said, mesh_said, binding_said}
+use Rattle.answer_laws.proofs.Trees.{shallow_or_deep}
+use Rattle.answer_laws.proofs.Sites.{accesses_exist}
 
 source_exists : (input : Input) (files : Files) → ¬ ((r : Result (List ℕ) Refusal) → ¬ SourceIs input files r)
 source_exists (InFiles source mesh) files none = held_exists SourceBytes source (files source) none

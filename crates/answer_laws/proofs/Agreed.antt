@@ -28,13 +28,13 @@ use Rattle.answers.specs.Judgements.{SourceIs, FileIs, MeshIs, TreeIs, TypesAre,
 use Rattle.answers.specs.Answers.{given, PlannedAnswers, BoundAnswers, ConvertAnswers, CommandAnswers}
 use Rattle.command_words.specs.Laws.{OptionsAreWithin}
 use Rattle.answers.specs.Laws.{LacksTree, SourceLacksTree, Agree, AnswersAgree}
-use Rattle.answers.proofs.Given.{given_both, given_alike}
-use Rattle.answers.proofs.IsOne.{IsOne, held_is_one, told_is_one}
-use Rattle.answers.proofs.SaidOnce.{types_once, mesh_once, binding_once, source_status}
-use Rattle.answers.proofs.Trees.{tree_lines}
-use Rattle.answers.proofs.Sites.{site_found, first_found, accesses_none, accesses_some}
-use Rattle.answers.proofs.SameKernels.{sites_found}
-use Rattle.answers.proofs.SameBound.{IsSame, SameOutcome, same_bound}
+use Rattle.answer_laws.proofs.Given.{given_both, given_alike}
+use Rattle.answer_laws.proofs.IsOne.{IsOne, held_is_one, told_is_one}
+use Rattle.answer_laws.proofs.SaidOnce.{types_once, mesh_once, binding_once, source_status}
+use Rattle.answer_laws.proofs.Trees.{tree_lines}
+use Rattle.answer_laws.proofs.Sites.{site_found, first_found, accesses_none, accesses_some}
+use Rattle.answer_laws.proofs.SameKernels.{sites_found}
+use Rattle.answer_laws.proofs.SameBound.{IsSame, SameOutcome, same_bound}
 
 -- what is answered of two bound programs that are the same but for their kernels is one
 abbrev Alike : (BoundValue → Answer → Type 0) → Type 0

@@ -18,7 +18,7 @@ use Rattle.step_judge.specs.TakenAll.{TakenAll}
 use Rattle.command_words.specs.Refusal.{Refusal, LeftStep}
 use Rattle.answers.specs.Said.{SaysStep}
 use Rattle.answers.specs.Judgements.{Order, InStandardOrder, BySeed, ByText, StepsOf, steps_in, end_line, IsStepRefused}
-use Rattle.answers.proofs.SaidOnce.{schedule_said}
+use Rattle.answer_laws.proofs.SaidOnce.{schedule_said}
 
 -- ---- the places of a list with one more at its end
 

@@ -16,7 +16,7 @@ use Rattle.answer_lines.specs.Lines.{line_of}
 use Rattle.answers.specs.Said.{SaysLex, SaysSource}
 use Rattle.answers.specs.Judgements.{IsUnread, TreeIs}
 use Rattle.answers.specs.Laws.{LacksTree}
-use Rattle.answers.proofs.SaidOnce.{lex_once, source_once}
+use Rattle.answer_laws.proofs.SaidOnce.{lex_once, source_once}
 
 -- a tree that has the tokens has at most 64 levels, or is deeper
 pub shallow_or_deep : (bytes : List ℕ) (tokens : List Token) → Lexes bytes (Ok tokens) → (p : ProgramTree) → Prints tokens p

@@ -36,7 +36,7 @@ use Rattle.answers.specs.Judgements.{IsHeld, SourceIs, TreeIs, TypesAre, FileIs,
 use Rattle.answers.specs.Answers.{given, ran, planned_answer, PlannedAnswers, BoundAnswers, CommandAnswers, Answers}
 use Rattle.answer_lines.specs.Lines.{IsOfContents}
 use Rattle.answers.specs.Endings.{Ending, Answered, OutOfMemory, Unread, Unwritten, ending_status, unwritten_status, Call, IsSomeAnswer, TellsUntold, Tells, no_files, IsWritten, EndsBy, Ends, IsUsage}
-use Rattle.answers.proofs.Complete.{tells_answer, unwritten_is}
+use Rattle.answer_laws.proofs.Complete.{tells_answer, unwritten_is}
 
 -- ---- refusals
 

@@ -10,7 +10,7 @@ use Rattle.answers.specs.Judgements.{SourceIs, TreeIs, TypesAre, MeshIs, Entries
 use Rattle.answers.specs.Answers.{given, planned_answer, PlannedAnswers, PlanAnswers, CommandAnswers, Answers}
 use Rattle.answers.specs.Endings.{Ending, Answered, OutOfMemory, Unread, Unwritten, ending_status, unwritten_status, Call, Tells, TellsUntold, no_files, IsWritten, EndsBy, Ends, TellTheAnswer, IsComplete}
 use Rattle.answers.specs.Laws.{AnswersAgree}
-use Rattle.answers.proofs.Given.{given_on}
+use Rattle.answer_laws.proofs.Given.{given_on}
 
 -- owners and a schedule that come from no file
 parts_over : (p : Parting) → names_by p ≡ [] → (f g : Files) (r : Result Parts Refusal) → PartsOf p f r → PartsOf p g r

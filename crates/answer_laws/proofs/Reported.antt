@@ -3,8 +3,8 @@ use Rattle.std.proofs.Common.{◌≡◌, ◌⊎◌, inl, inr, ℕ, List, refl, �
 use Rattle.answer_lines.specs.Lines.{Answer}
 use Rattle.answers.specs.Endings.{Ending, Answered, OutOfMemory, Unread, Unwritten, ending_status, ending_line, unwritten_status, unwritten_line, Call, Tells, EndsBy, Ends, AreReported}
 use Rattle.answers.specs.Laws.{Agree, AnswersAgree, SourceLacksTree}
-use Rattle.answers.proofs.Complete.{tells_answer}
-use Rattle.answers.proofs.Shown.{unwritten_by}
+use Rattle.answer_laws.proofs.Complete.{tells_answer}
+use Rattle.answer_laws.proofs.Shown.{unwritten_by}
 
 faulty_line : (b : Answer) → b.status ≡ 9 → unwritten_line b ≡ b.line
 faulty_line b e = rw e refl

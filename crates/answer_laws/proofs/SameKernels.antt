@@ -15,7 +15,7 @@ use Rattle.bound_plan.specs.Memories.{unless_stopped, run_output}
 use Rattle.bound_plan.specs.OneRun.{SameTree, with_kernels, KernelsAreOne, ProgramsAreOne}
 use Rattle.answer_lines.specs.Lines.{Answer}
 use Rattle.answers.specs.Answers.{ran}
-use Rattle.answers.proofs.Sites.{found_by, site_found, first_found, same_found}
+use Rattle.answer_laws.proofs.Sites.{found_by, site_found, first_found, same_found}
 
 module _ (walks_alike : WalksAlike) (kernels_are_one : KernelsAreOne) where
   same_by : (o p : Option RKernel) → SameTree o p → (modes : List Mode) → found_by o modes ≡ found_by p modes

@@ -1,7 +1,7 @@
-use Rattle.answers.proofs.Exist as law
-use Rattle.answers.proofs.PlansExist as plans
-use Rattle.answers.proofs.SchedulesExist as schedules
-use Rattle.answers.proofs.laws.answers_exist.Goals as goal
+use Rattle.answer_laws.proofs.Exist as law
+use Rattle.answer_laws.proofs.PlansExist as plans
+use Rattle.answer_laws.proofs.SchedulesExist as schedules
+use Rattle.answer_laws.proofs.laws.answers_exist.Goals as goal
 
 pub returns : goal.returns
 returns c =

@@ -38,12 +38,12 @@ use Rattle.answers.specs.Said.{SaysNumbers, SaysOwners}
 use Rattle.command_words.specs.Words.{PlanJob, Check, ShowsPlan, ShowsSchedule, RunsPlan, Parting, ByRule, ByFile, Options, group_of}
 use Rattle.answers.specs.Judgements.{NumbersOf, PartsOf, OwnersOf, Planned, IsPlanned, HasManySteps, PlanIs, Order, OrderOf, outline_of, StepsOf}
 use Rattle.answers.specs.Answers.{given, ran, sizes_text, planned_answer, PlannedAnswers}
-use Rattle.answers.proofs.Given.{given_both, given_alike}
-use Rattle.answers.proofs.IsOne.{IsOne, held_is_one, told_is_one}
-use Rattle.answers.proofs.SaidOnce.{numbers_once, owners_once}
-use Rattle.answers.proofs.SameKernels.{output_same}
-use Rattle.answers.proofs.SameBound.{IsSame}
-use Rattle.answers.proofs.SchedulesAgree.{order_is_one, steps_are_one}
+use Rattle.answer_laws.proofs.Given.{given_both, given_alike}
+use Rattle.answer_laws.proofs.IsOne.{IsOne, held_is_one, told_is_one}
+use Rattle.answer_laws.proofs.SaidOnce.{numbers_once, owners_once}
+use Rattle.answer_laws.proofs.SameKernels.{output_same}
+use Rattle.answer_laws.proofs.SameBound.{IsSame}
+use Rattle.answer_laws.proofs.SchedulesAgree.{order_is_one, steps_are_one}
 
 -- ---- plans know nothing of kernels
 

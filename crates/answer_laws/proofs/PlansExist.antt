@@ -28,9 +28,9 @@ use Rattle.command_words.specs.Words.{PlanJob, Parting, ByRule, ByFile, Schedule
 use Rattle.answers.specs.Judgements.{IsHeld, NumbersOf, PartsOf, OwnersOf, Planned, PlanIs, Order, InStandardOrder, BySeed, ByText, OrderOf, outline_of, StepsOf}
 use Rattle.answers.specs.Answers.{PlannedAnswers}
 use Rattle.command_words.specs.Laws.{AreWithin}
-use Rattle.answers.proofs.Given.{given_one, given_with}
-use Rattle.answers.proofs.Held.{held_exists}
-use Rattle.answers.proofs.SaidOnce.{numbers_said, partition_said}
+use Rattle.answer_laws.proofs.Given.{given_one, given_with}
+use Rattle.answer_laws.proofs.Held.{held_exists}
+use Rattle.answer_laws.proofs.SaidOnce.{numbers_said, partition_said}
 
 -- what a bound program has of which there is a plan
 pub record Suits (b : BoundValue) : Type 0 where

@@ -16,8 +16,8 @@ use Rattle.command_words.specs.Refusal.{Refusal, ScheduleBytes}
 use Rattle.answers.specs.Said.{SaysSchedule, SaysNext}
 use Rattle.command_words.specs.Words.{Schedule, Standard, Drawn, Written}
 use Rattle.answers.specs.Judgements.{Order, InStandardOrder, BySeed, ByText, OrderOf, StepsOf, steps_in, end_line, IsTextRefused, judged_next, IsStepRefused}
-use Rattle.answers.proofs.IsOne.{IsOne, held_is_one, told_is_one}
-use Rattle.answers.proofs.SaidOnce.{schedule_once, next_once}
+use Rattle.answer_laws.proofs.IsOne.{IsOne, held_is_one, told_is_one}
+use Rattle.answer_laws.proofs.SaidOnce.{schedule_once, next_once}
 
 pub order_is_one : (s : Schedule) (files : Files) → IsOne (OrderOf s files)
 order_is_one Standard files = told_is_one InStandardOrder
