@@ -6,9 +6,8 @@ use Rattle.c_lex.specs.declared.refusals.LexRefusal.TheVariants as lex
 use Rattle.c_lex.specs.Lexed.{Lexes, Outcome, Stop, AtEnd, AtBadByte, AtOpenComment, AtOpenText, AtNumberTooLarge, Part, outcome_of}
 use Rattle.c_tree.specs.Tree.{ProgramTree}
 use Rattle.c_tree.specs.Reads.{Reads, Deep}
-use Rattle.c_reader.specs.declared.refusals.SourceRefusal.TheVariants as source
-use Rattle.c_reader.specs.Answered.{place_at, IsFar}
-use Rattle.c_reader.specs.Kinds.{places}
+use Rattle.c_tree.specs.declared.refusals.SourceRefusal.TheVariants as source
+use Rattle.c_tree.specs.Refused.{places, place_at, IsFar}
 use Rattle.kernel_types.specs.declared.kernels.Resolved.{Resolved}
 use Rattle.kernel_types.specs.View.{resolved_of}
 use Rattle.name_resolution.specs.declared.refusals.TypeRefusal.TheVariants as types

@@ -3,8 +3,8 @@ use Rattle.std.proofs.Common.{◌≡◌, ◌≢◌, ℕ, List, [], ◌∷◌, re
 use Rattle.c_lex.specs.declared.refusals.LexRefusal.{LexRefusal}
 use Rattle.c_lex.specs.declared.refusals.LexRefusal.TheVariants as lex
 use Rattle.c_tree.specs.Tree.{ProgramTree}
-use Rattle.c_reader.specs.declared.refusals.SourceRefusal.{SourceRefusal}
-use Rattle.c_reader.specs.declared.refusals.SourceRefusal.TheVariants as source
+use Rattle.c_tree.specs.declared.refusals.SourceRefusal.{SourceRefusal}
+use Rattle.c_tree.specs.declared.refusals.SourceRefusal.TheVariants as source
 use Rattle.name_resolution.specs.declared.refusals.TypeRefusal.{TypeRefusal}
 use Rattle.name_resolution.specs.declared.refusals.TypeRefusal.TheVariants as types
 use Rattle.mesh_text.specs.declared.entry.MeshRefusal.{MeshRefusal}

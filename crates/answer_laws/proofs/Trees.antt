@@ -8,9 +8,9 @@ use Rattle.c_lex.specs.Lexed.{Lexes, Outcome}
 use Rattle.c_tree.specs.Tree.{ProgramTree}
 use Rattle.c_tree.specs.Print.{program}
 use Rattle.c_tree.specs.Reads.{Reads, Deep, Prints, first_deep}
-use Rattle.c_reader.specs.declared.refusals.SourceRefusal.{SourceRefusal}
-use Rattle.c_reader.specs.declared.refusals.SourceRefusal.TheVariants as source
-use Rattle.c_reader.specs.Answered.{HasNoTree}
+use Rattle.c_tree.specs.declared.refusals.SourceRefusal.{SourceRefusal}
+use Rattle.c_tree.specs.declared.refusals.SourceRefusal.TheVariants as source
+use Rattle.c_tree.specs.Refused.{HasNoTree}
 use Rattle.command_words.specs.Refusal.{Refusal}
 use Rattle.answer_lines.specs.Lines.{line_of}
 use Rattle.answers.specs.Said.{SaysLex, SaysSource}

@@ -3,9 +3,9 @@ use Rattle.std.specs.Prelude.{◌≡◌, ℕ, suc, ◌<◌, ◌≤◌, ◌⊎◌
 use Rattle.c_lex.specs.declared.tokens.Pos.{Pos}
 use Rattle.c_tree.specs.Tree.{ProgramTree}
 use Rattle.c_tree.specs.Reads.{Reads, Deep}
-use Rattle.c_reader.specs.declared.refusals.SourceRefusal.{SourceRefusal}
-use Rattle.c_reader.specs.declared.refusals.SourceRefusal.TheVariants as source
-use Rattle.c_reader.specs.Answered.{place_at, CanRefuse}
+use Rattle.c_tree.specs.declared.refusals.SourceRefusal.{SourceRefusal}
+use Rattle.c_tree.specs.declared.refusals.SourceRefusal.TheVariants as source
+use Rattle.c_tree.specs.Refused.{place_at, CanRefuse}
 use Rattle.kernel_types.specs.declared.kernels.RKernel.{RKernel}
 use Rattle.kernel_types.specs.declared.kernels.Resolved.{Resolved}
 use Rattle.kernel_types.specs.View.{resolved_of}

@@ -7,6 +7,7 @@ mod hosts;
 mod kernels;
 mod places;
 mod programs;
+mod refusals;
 
 pub use c_lex::{Kind, LexRefusal, Name, Pos, Sign, Text, Token, Word, end_place, lex};
 pub use declarations::{AssignOp, Assignment, Declaration, Declr, Place};
@@ -15,3 +16,4 @@ pub use hosts::{AccessWord, ArgIndex, ArgVia, GlobalName, Host, HostForHeader, L
 pub use kernels::{ForHeader, Kernel, Param, Stmt};
 pub use places::{numbers_have_places, places_grow, pos_of};
 pub use programs::{Main, Program, Top};
+pub use refusals::SourceRefusal;
