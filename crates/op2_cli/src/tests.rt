@@ -130,12 +130,12 @@ fn words_have_their_answers(rt: HostRuntime) -> Result<(), Fail> {
         assert_eq!(rt; ended.err.bytes(), b"op2: usage\n".as_slice());
     }
     let told: [(&[&str], &str); 6] = [
-        (&["--help"], answers::USAGE),
-        (&["-h"], answers::USAGE),
-        (&["run", "--help"], answers::USAGE),
-        (&["run", "no.c", "-h"], answers::USAGE),
-        (&["--version"], answers::VERSION),
-        (&["run", "-V"], answers::VERSION),
+        (&["--help"], command_words::USAGE),
+        (&["-h"], command_words::USAGE),
+        (&["run", "--help"], command_words::USAGE),
+        (&["run", "no.c", "-h"], command_words::USAGE),
+        (&["--version"], command_words::VERSION),
+        (&["run", "-V"], command_words::VERSION),
     ];
     for (words, text) in told {
         let ended = called(&rt, alloc, words, b"", "", NEVER)?;
