@@ -1,29 +1,8 @@
-//! The program `op2`.
+//! The program `op2`: the words of its command line, over real files and streams.
 #![tactic(auto)]
 
-mod answered;
-#[cfg(test)]
-mod colour_tests;
-mod faults;
-#[cfg(test)]
-mod plan_tests;
-mod plans;
-mod ranges;
-#[cfg(test)]
-mod refusal_tests;
-#[cfg(test)]
-mod run_tests;
-mod runs;
-#[cfg(test)]
-mod schedule_tests;
-mod schedules;
-#[cfg(test)]
-mod step_tests;
-#[cfg(test)]
-mod tests;
-mod top;
-
 use answer_lines::{Line, report};
+use op2_command::op2;
 use op_outside::{FileShelf, OutSink};
 use std::process::ExitCode;
 use std::rt::Env;
@@ -38,7 +17,7 @@ fn main(rt: HostRuntime) -> ExitCode {
     };
     let mut out = OutSink::new(rt.stdout());
     let mut shelf = FileShelf::new(rt);
-    ExitCode::from(top::op2(&rt, alloc, &words, &mut shelf, &mut out, &mut err))
+    ExitCode::from(op2(&rt, alloc, &words, &mut shelf, &mut out, &mut err))
 }
 
 // The words of the command line, the program's name first. No command has a word that isn't UTF-8.

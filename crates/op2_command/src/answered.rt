@@ -1,0 +1,158 @@
+// The answer to the words: the judgements in order, up to the first refusal, and then what is asked for.
+
+ghost use Rattle.std.specs.Prelude.{◌≡◌, ◌≤◌, [], ◌∷◌, ◌++◌, Ok, Err, All, map, length, string_bytes, option_map, IfOk, IfErr};
+ghost use Rattle.op_outside.specs.Outside.{Rose};
+ghost use Rattle.mesh_text.specs.declared.entry.TheConstants.{MESH_BYTES};
+ghost use Rattle.command_words.specs.Words.{WordsAre, names_from, names_by, names_at, names_of, named_by};
+ghost use Rattle.command_words.specs.Laws.{AreWithin};
+ghost use Rattle.answers.specs.Answers.{PlanAnswers, ConvertAnswers, CommandAnswers, Answers};
+ghost use Rattle.command_words.specs.Values.{parting_in, options_in, job_in, input_in, command_of, IsInRange};
+ghost use Rattle.answer_lines.specs.Halts.{StopsWhere};
+ghost use Rattle.job_inputs.specs.Chains.{AnswersBy, AnswersOver};
+ghost use Rattle.op2_command.specs.Chains.{again_of, RewriteAnswers};
+ghost use Rattle.op2_command.specs.Writes.{CallAnswers};
+
+use crate::plans::planned;
+use answer_lines::{Answer, Failure, Halt, Limit, Refusal, done, refused};
+use command_words::{
+    Asked, Input, Options, Parting, PlanJob, USAGE, VERSION, WordsRefusal, read_words,
+};
+use job_inputs::{bound_input, entries_of, file_of};
+use mesh_text::{Form, write_mesh};
+use op_outside::Shelf;
+use par_exec::Gate;
+use std::alloc::Global;
+use std::marker::Sync;
+use std::thread::Threads;
+
+// The file that tells the owners, if one does.
+fn again_of<'a>(parting: Parting<'a>) -> Option<&'a str>
+    ensures { option_map (λ s. s.now) result ≡ again_of (parting_in parting.entry) }
+{
+    match parting {
+        Parting::ByRule(_) => None,
+        Parting::ByFile(name) => Some(name),
+    }
+}
+
+// The answer of a job on the plan of a program over a mesh.
+fn to_plan<'a, F: Shelf, R: Threads + Sync, G: Gate>(
+    rt: &R,
+    alloc: Global,
+    shelf: &mut F,
+    job: PlanJob,
+    options: &Options<'a>,
+    input: Input<'a>,
+    gate: &G,
+) -> Result<Answer, Halt<'a>>
+    requires input { All (λ name. F.lends shelf.old name) (names_from (input_in input)) }
+    requires parting { All (λ name. F.lends shelf.old name) (names_by (options_in options.now).parting) }
+    requires schedule { All (λ name. F.lends shelf.old name) (names_at (options_in options.now).schedule) }
+    requires within { AreWithin (options_in options.now) }
+    ensures { AnswersOver (F.told shelf.old)
+        (names_from (input_in input.entry) ++ names_by (options_in options.now).parting ++ names_at (options_in options.now).schedule)
+        (PlanAnswers (job_in job) (options_in options.now) (input_in input.entry))
+        (Rose (F.faults shelf.old) (F.faults shelf.new)) result }
+{
+    let (bound, kept) = bound_input(alloc, shelf, input, again_of(options.parting))?;
+    planned(rt, alloc, shelf, job, options, input, &bound, kept, gate)
+}
+
+// The answer that is the text of a mesh, written again.
+fn rewritten<'a>(alloc: Global, form: Form, text: &[u8]) -> Result<Answer, Halt<'a>>
+    requires { length text.now ≤ MESH_BYTES }
+    ensures { AnswersBy (RewriteAnswers form text.now) result }
+{
+    let entries = entries_of(alloc, text)?;
+    Ok(Answer::Done(write_mesh(alloc, &entries, form)?))
+}
+
+// The answer that is the mesh in a file, written again.
+fn converted<'a, F: Shelf>(
+    alloc: Global,
+    shelf: &mut F,
+    form: Form,
+    mesh: &'a str,
+) -> Result<Answer, Halt<'a>>
+    requires { F.lends shelf.old mesh.now }
+    ensures { AnswersOver (F.told shelf.old) (mesh.now ∷ []) (ConvertAnswers form mesh.now)
+        (Rose (F.faults shelf.old) (F.faults shelf.new)) result }
+{
+    let text = file_of(alloc, shelf, mesh, Limit::MeshBytes)?;
+    rewritten(alloc, form, &text)
+}
+
+// The answer to what is asked for.
+fn to_asked<'a, F: Shelf, R: Threads + Sync, G: Gate>(
+    rt: &R,
+    alloc: Global,
+    shelf: &mut F,
+    asked: Asked<'a>,
+    gate: &G,
+) -> Result<Answer, Halt<'a>>
+    requires lent { All (λ name. F.lends shelf.old name) (names_of (command_of asked)) }
+    requires within { IsInRange asked }
+    ensures { AnswersOver (F.told shelf.old) (names_of (command_of asked.entry)) (CommandAnswers (command_of asked.entry))
+        (Rose (F.faults shelf.old) (F.faults shelf.new)) result }
+{
+    match asked {
+        Asked::Plan {
+            job,
+            options,
+            input,
+        } => to_plan(rt, alloc, shelf, job, &options, input, gate),
+        Asked::Convert { form, mesh } => converted(alloc, shelf, form, mesh),
+        Asked::Usage => Ok(done(alloc, USAGE)?),
+        Asked::Version => Ok(done(alloc, VERSION)?),
+    }
+}
+
+// What the words ask for, or what ends the call.
+fn asked_by<'a>(alloc: Global, words: &'a Vec<String>) -> Result<Asked<'a>, Halt<'a>>
+    ensures ok { IfOk result (λ a. WordsAre (map string_bytes words.now.items) (Ok (command_of a))) }
+    ensures in_range { IfOk result IsInRange }
+    ensures err { IfErr result (StopsWhere (λ r. WordsAre (map string_bytes words.now.items) (Err r))) }
+{
+    match read_words(alloc, words) {
+        Ok(asked) => Ok(asked),
+        Err(WordsRefusal::Usage) => Err(Halt::Refused(Refusal::Usage)),
+        Err(WordsRefusal::OutOfMemory) => Err(Halt::Failed(Failure::OutOfMemory)),
+    }
+}
+
+// The answer to the words, where nothing is refused.
+fn to_words<'a, F: Shelf, R: Threads + Sync, G: Gate>(
+    rt: &R,
+    alloc: Global,
+    words: &'a Vec<String>,
+    shelf: &mut F,
+    gate: &G,
+) -> Result<Answer, Halt<'a>>
+    requires { All (λ name. F.lends shelf.old name) (named_by (map string_bytes words.now.items)) }
+    ensures { AnswersOver (F.told shelf.old) (named_by (map string_bytes words.now.items)) (Answers (map string_bytes words.now.items))
+        (Rose (F.faults shelf.old) (F.faults shelf.new)) result }
+{
+    let asked = asked_by(alloc, words)?;
+    to_asked(rt, alloc, shelf, asked, gate)
+}
+
+/// The answer to the words, or what failed before there is one. `gate` is told of each element that a group begins.
+pub fn answered<'a, F: Shelf, R: Threads + Sync, G: Gate>(
+    rt: &R,
+    alloc: Global,
+    words: &'a Vec<String>,
+    shelf: &mut F,
+    gate: &G,
+) -> Result<Answer, Failure<'a>>
+    requires { All (λ name. F.lends shelf.old name) (named_by (map string_bytes words.now.items)) }
+    ensures { CallAnswers (map string_bytes words.now.items) (F.told shelf.old) (Rose (F.faults shelf.old) (F.faults shelf.new)) result }
+{
+    match to_words(rt, alloc, words, shelf, gate) {
+        Ok(answer) => Ok(answer),
+        Err(Halt::Failed(failure)) => Err(failure),
+        Err(Halt::Refused(refusal)) => match refused(alloc, &refusal) {
+            Ok(answer) => Ok(answer),
+            Err(_) => Err(Failure::OutOfMemory),
+        },
+    }
+}

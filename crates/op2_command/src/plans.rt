@@ -1,0 +1,234 @@
+// The plan of a bound program: new numbers, owners, the mesh on ranks, the order of its steps, and what is written.
+
+ghost use Rattle.std.specs.Prelude.{◌≡◌, ◌≤◌, ◌++◌, List, All, length, option_map, Ok, IfOk};
+ghost use Rattle.op_outside.specs.Outside.{Rose};
+ghost use Rattle.mesh_decl.specs.Owners.{AreOwners, ArePerms};
+ghost use Rattle.bound_program.specs.Values.{bound_of};
+ghost use Rattle.bound_program.specs.Fits.{Fits};
+ghost use Rattle.loop_plan.specs.Values.{plan_of};
+ghost use Rattle.loop_plan.specs.Proper.{Proper};
+ghost use Rattle.loop_plan.specs.StepOutline.{step_outline};
+ghost use Rattle.schedule_steps.specs.declared.step.Step.{Step as StepValue};
+ghost use Rattle.schedule_check.specs.Mail.{plan_cells};
+ghost use Rattle.planned_run.specs.Orders.{InOrder, CanTake};
+ghost use Rattle.answer_lines.specs.declared.limits.TheConstants.{SCHEDULE_BYTES};
+ghost use Rattle.command_words.specs.Words.{names_from, names_by, names_at};
+ghost use Rattle.command_words.specs.Laws.{AreWithin};
+ghost use Rattle.answers.specs.Judgements.{AccessesAre, ByText};
+ghost use Rattle.answers.specs.Answers.{sizes_text, planned_answer, PlannedAnswers};
+ghost use Rattle.command_words.specs.Values.{options_in, job_in, input_in};
+ghost use Rattle.answer_lines.specs.Halts.{answer_of};
+ghost use Rattle.job_inputs.specs.Inputs.{IsBoundWith};
+ghost use Rattle.job_inputs.specs.Chains.{AnswersBy, AnswersIn, Known};
+ghost use Rattle.op2_command.specs.Chains.{StepsAnswers, ScheduleAnswers, LastAnswers, IsSpread, AsksAlways, AsksBehind, again_of};
+
+use crate::runs::run_on;
+use crate::schedules::{end_line, judged, lines_of};
+use answer_lines::{Answer, Failure, Halt, Limit, Refusal};
+use bound_program::Bound;
+use command_words::{Input, Options, PlanJob, Schedule};
+use distribute::{Distribution, distribute};
+use job_inputs::{file_of, numbers_of, owners_of, partition_of};
+use loop_plan::{Plan, PlanRefusal, plan, write_plan};
+use mesh_decl::{Owners, Perms};
+use op_num::{OutOfMemory, put_u64};
+use op_outside::Shelf;
+use par_exec::Gate;
+use planned_run::{Order, steps_of};
+use schedule_text::write_schedule;
+use std::alloc::Global;
+use std::marker::Sync;
+use std::thread::Threads;
+
+// The sizes of a plan.
+fn sizes_text(alloc: Global, bound: &Bound, plan: &Plan) -> Result<Vec<u8>, OutOfMemory>
+    ensures { IfOk result (λ v. v.items ≡ sizes_text (bound_of bound.now) plan.now.steps) }
+{
+    let mut out = Vec::new(alloc);
+    out.extend_from_slice(b"ok items ")?;
+    put_u64(&mut out, bound.trace.len() as u64)?;
+    out.extend_from_slice(b" sites ")?;
+    put_u64(&mut out, bound.sites.len() as u64)?;
+    out.extend_from_slice(b" steps ")?;
+    put_u64(&mut out, plan.steps)?;
+    out.extend_from_slice(b"\n")?;
+    Ok(out)
+}
+
+// What a job answers of a plan whose steps are taken in this order.
+fn planned_answer<R: Threads + Sync, G: Gate>(
+    rt: &R,
+    alloc: Global,
+    job: PlanJob,
+    options: &Options<'_>,
+    bound: &Bound,
+    found: &Distribution,
+    plan: &Plan,
+    order: &Order<'_>,
+    gate: &G,
+) -> Result<Answer, OutOfMemory>
+    requires within { AreWithin (options_in options.now) }
+    requires fits { Fits (bound_of bound.now) }
+    requires obeyed { AccessesAre (bound_of bound.now) (Ok tt) }
+    requires found { IsSpread (bound_of bound.now) found.now }
+    requires plan { Proper (bound_of bound.now) found.now.ranks.items (plan_of plan.now) }
+    requires order { CanTake (step_outline (bound_of bound.now) found.now.ranks.items (plan_of plan.now))
+        (plan_cells (bound_of bound.now) found.now.ranks.items (plan_of plan.now)) order.now }
+    ensures { IfOk result (λ a. (l : List StepValue)
+        → InOrder (step_outline (bound_of bound.now) found.now.ranks.items (plan_of plan.now)) order.now l
+        → answer_of a ≡ planned_answer (job_in job) options.now.dumps (bound_of bound.now)
+        (record { distribution = found.now; plan = plan_of plan.now }) l) }
+{
+    schedule_steps::drawn_once();
+    match job {
+        PlanJob::Check => Ok(Answer::Done(sizes_text(alloc, bound, plan)?)),
+        PlanJob::ShowsPlan => Ok(Answer::Done(write_plan(alloc, bound, &found.ranks, plan)?)),
+        PlanJob::ShowsSchedule => {
+            let steps = steps_of(alloc, bound, &found.ranks, plan, order)?;
+            Ok(Answer::Done(write_schedule(alloc, &steps)?))
+        }
+        PlanJob::RunsPlan => run_on(rt, alloc, options, bound, found, plan, order, gate),
+    }
+}
+
+// The answer of a job on a plan whose steps are taken as the text of a schedule has them.
+fn by_text<'a, R: Threads + Sync, G: Gate>(
+    rt: &R,
+    alloc: Global,
+    job: PlanJob,
+    options: &Options<'_>,
+    bound: &Bound,
+    found: &Distribution,
+    plan: &Plan,
+    bytes: &[u8],
+    gate: &G,
+) -> Result<Answer, Halt<'a>>
+    requires within { AreWithin (options_in options.now) }
+    requires fits { Fits (bound_of bound.now) }
+    requires obeyed { AccessesAre (bound_of bound.now) (Ok tt) }
+    requires found { IsSpread (bound_of bound.now) found.now }
+    requires plan { Proper (bound_of bound.now) found.now.ranks.items (plan_of plan.now) }
+    requires few { length bytes.now ≤ SCHEDULE_BYTES }
+    ensures { AnswersBy (StepsAnswers (job_in job) (options_in options.now) (bound_of bound.now)
+        (record { distribution = found.now; plan = plan_of plan.now }) (ByText bytes.now)) result }
+{
+    let lines = lines_of(alloc, bytes)?;
+    let (steps, peak) = judged(alloc, bound, found, plan, &lines, end_line(bytes))?;
+    let order = Order::Listed {
+        steps: &steps,
+        peak,
+    };
+    Ok(planned_answer(rt, alloc, job, options, bound, found, plan, &order, gate)?)
+}
+
+// The answer of a job on a plan whose steps are taken in the order that is asked for.
+fn scheduled<'a, F: Shelf, R: Threads + Sync, G: Gate>(
+    rt: &R,
+    alloc: Global,
+    shelf: &mut F,
+    job: PlanJob,
+    options: &Options<'a>,
+    bound: &Bound,
+    found: &Distribution,
+    plan: &Plan,
+    gate: &G,
+) -> Result<Answer, Halt<'a>>
+    requires lent { All (λ name. F.lends shelf.old name) (names_at (options_in options.now).schedule) }
+    requires within { AreWithin (options_in options.now) }
+    requires fits { Fits (bound_of bound.now) }
+    requires obeyed { AccessesAre (bound_of bound.now) (Ok tt) }
+    requires found { IsSpread (bound_of bound.now) found.now }
+    requires plan { Proper (bound_of bound.now) found.now.ranks.items (plan_of plan.now) }
+    ensures { AnswersIn (F.told shelf.old) (names_at (options_in options.now).schedule)
+        (ScheduleAnswers (job_in job) (options_in options.now) (bound_of bound.now) (record {
+          distribution = found.now;
+          plan =
+              plan_of plan.now;
+        }))
+        (AsksAlways (ScheduleAnswers (job_in job) (options_in options.now) (bound_of bound.now)
+        (record { distribution = found.now; plan = plan_of plan.now })))
+        (Rose (F.faults shelf.old) (F.faults shelf.new)) result }
+{
+    schedule_steps::drawn_exists();
+    let group = options.group();
+    match options.schedule {
+        Schedule::Standard => {
+            let order = Order::Standard { group };
+            Ok(planned_answer(rt, alloc, job, options, bound, found, plan, &order, gate)?)
+        }
+        Schedule::Drawn { seed } => {
+            let order = Order::Drawn { group, seed };
+            Ok(planned_answer(rt, alloc, job, options, bound, found, plan, &order, gate)?)
+        }
+        Schedule::Written(name) => {
+            let bytes = file_of(alloc, shelf, name, Limit::ScheduleBytes)?;
+            by_text(rt, alloc, job, options, bound, found, plan, &bytes, gate)
+        }
+    }
+}
+
+// The answer of a job on the plan by these owners and new numbers.
+fn last_answer<'a, F: Shelf, R: Threads + Sync, G: Gate>(
+    rt: &R,
+    alloc: Global,
+    shelf: &mut F,
+    job: PlanJob,
+    options: &Options<'a>,
+    bound: &Bound,
+    owners: Owners,
+    perms: Perms,
+    gate: &G,
+) -> Result<Answer, Halt<'a>>
+    requires lent { All (λ name. F.lends shelf.old name) (names_at (options_in options.now).schedule) }
+    requires fits { Fits (bound_of bound.now) }
+    requires obeyed { AccessesAre (bound_of bound.now) (Ok tt) }
+    requires within { AreWithin (options_in options.now) }
+    requires owners { AreOwners (bound_of bound.now).mesh owners }
+    requires perms { ArePerms (bound_of bound.now).mesh perms }
+    ensures { AnswersIn (F.told shelf.old) (names_at (options_in options.now).schedule)
+        (LastAnswers (job_in job) (options_in options.now) (bound_of bound.now) owners perms)
+        (AsksAlways (LastAnswers (job_in job) (options_in options.now) (bound_of bound.now) owners perms))
+        (Rose (F.faults shelf.old) (F.faults shelf.new)) result }
+{
+    let found = distribute(alloc, &bound.mesh, owners, perms)?;
+    match plan(alloc, bound, &found.ranks, &found.halos, options.block) {
+        Ok(plan) => scheduled(rt, alloc, shelf, job, options, bound, &found, &plan, gate),
+        Err(PlanRefusal::TooManySteps { steps }) => Err(Halt::Refused(Refusal::BeyondLimit {
+            limit: Limit::Steps,
+            size: steps,
+        })),
+        Err(PlanRefusal::OutOfMemory) => Err(Halt::Failed(Failure::OutOfMemory)),
+    }
+}
+
+/// The answer of a job on the plan of a bound program with these options. `kept` has the bytes of the file that tells the
+/// owners, where it was read before, as the source or the mesh.
+pub fn planned<'a, F: Shelf, R: Threads + Sync, G: Gate>(
+    rt: &R,
+    alloc: Global,
+    shelf: &mut F,
+    job: PlanJob,
+    options: &Options<'a>,
+    input: Input<'a>,
+    bound: &Bound,
+    kept: Option<Vec<u8>>,
+    gate: &G,
+) -> Result<Answer, Halt<'a>>
+    requires parting { All (λ name. F.lends shelf.old name) (names_by (options_in options.now).parting) }
+    requires schedule { All (λ name. F.lends shelf.old name) (names_at (options_in options.now).schedule) }
+    requires within { AreWithin (options_in options.now) }
+    requires fits { Fits (bound_of bound.now) }
+    requires obeyed { AccessesAre (bound_of bound.now) (Ok tt) }
+    requires known { Known (F.told shelf.old) (names_from (input_in input))
+        (IsBoundWith (input_in input) (again_of (options_in options.now).parting) (bound_of bound.now) (option_map (λ v. v.items) kept)) }
+    ensures { AnswersIn (F.told shelf.old) (names_by (options_in options.now).parting ++ names_at (options_in options.now).schedule)
+        (λ files. PlannedAnswers (job_in job) (options_in options.now) files (bound_of bound.now))
+        (AsksBehind (F.told shelf.old) (input_in input.entry) (again_of (options_in options.now).parting) (bound_of bound.now)
+        (option_map (λ v. v.items) kept) (λ files. PlannedAnswers (job_in job) (options_in options.now) files (bound_of bound.now)))
+        (Rose (F.faults shelf.old) (F.faults shelf.new)) result }
+{
+    let perms = numbers_of(alloc, options, bound)?;
+    let text = partition_of(alloc, shelf, options.parting, kept)?;
+    let owners = owners_of(alloc, options, bound, &text)?;
+    last_answer(rt, alloc, shelf, job, options, bound, owners, perms, gate)
+}

@@ -1,0 +1,91 @@
+// Runs of a bound program on ranks.
+
+ghost use Rattle.std.specs.Prelude.{◌≡◌, List, Ok, IfOk};
+ghost use Rattle.bound_program.specs.Values.{bound_of};
+ghost use Rattle.bound_program.specs.Fits.{Fits};
+ghost use Rattle.run_model.specs.Programs.{first_fault};
+ghost use Rattle.rank_machine.specs.Stops.{stop_in};
+ghost use Rattle.loop_plan.specs.Values.{plan_of};
+ghost use Rattle.loop_plan.specs.Proper.{Proper};
+ghost use Rattle.loop_plan.specs.StepOutline.{step_outline};
+ghost use Rattle.schedule_steps.specs.declared.step.Step.{Step as StepValue};
+ghost use Rattle.schedule_check.specs.Mail.{plan_cells};
+ghost use Rattle.bound_plan.specs.Memories.{dump_of, run_output};
+ghost use Rattle.planned_run.specs.Orders.{InOrder, CanTake};
+ghost use Rattle.command_words.specs.Values.{options_in};
+ghost use Rattle.command_words.specs.Laws.{AreWithin};
+ghost use Rattle.answers.specs.Judgements.{AccessesAre};
+ghost use Rattle.answers.specs.Answers.{ran};
+ghost use Rattle.answer_lines.specs.Halts.{answer_of};
+ghost use Rattle.op2_command.specs.Chains.{IsSpread};
+
+use crate::faults::put_fault;
+use crate::ranges::starts_in_range;
+use answer_lines::Answer;
+use bound_program::Bound;
+use command_words::Options;
+use distribute::Distribution;
+use loop_plan::Plan;
+use op_num::OutOfMemory;
+use par_exec::Gate;
+use planned_run::{Order, Outcome, run_on_ranks};
+use std::alloc::Global;
+use std::marker::Sync;
+use std::thread::Threads;
+
+// The answer of a run.
+fn ran(alloc: Global, outcome: Outcome) -> Result<Answer, OutOfMemory>
+    ensures { IfOk result (λ a. answer_of a ≡ ran (stop_in outcome.stop) outcome.out.items) }
+{
+    let Some(stop) = outcome.stop else {
+        return Ok(Answer::Done(outcome.out));
+    };
+    let mut line = Vec::new(alloc);
+    put_fault(&mut line, &stop)?;
+    Ok(Answer::Faulted {
+        out: outcome.out,
+        line,
+    })
+}
+
+/// The answer of the run of a bound program on the ranks of a distribution, by a plan for them whose steps are taken in this
+/// order: what running each loop one element after another prints, and its first fault, with a dump of the memories behind it where
+/// the options ask for one. An error is want of memory.
+pub fn run_on<R: Threads + Sync, G: Gate>(
+    rt: &R,
+    alloc: Global,
+    options: &Options<'_>,
+    bound: &Bound,
+    found: &Distribution,
+    plan: &Plan,
+    order: &Order<'_>,
+    gate: &G,
+) -> Result<Answer, OutOfMemory>
+    requires within { AreWithin (options_in options.now) }
+    requires fits { Fits (bound_of bound.now) }
+    requires obeyed { AccessesAre (bound_of bound.now) (Ok tt) }
+    requires found { IsSpread (bound_of bound.now) found.now }
+    requires plan { Proper (bound_of bound.now) found.now.ranks.items (plan_of plan.now) }
+    requires order { CanTake (step_outline (bound_of bound.now) found.now.ranks.items (plan_of plan.now))
+        (plan_cells (bound_of bound.now) found.now.ranks.items (plan_of plan.now)) order.now }
+    ensures { IfOk result (λ a. (l : List StepValue)
+        → InOrder (step_outline (bound_of bound.now) found.now.ranks.items (plan_of plan.now)) order.now l
+        → answer_of a ≡ ran (first_fault (bound_of bound.now)) (run_output (bound_of bound.now)
+        (dump_of options.now.dumps (bound_of bound.now) found.now.owners found.now.ranks.items (plan_of plan.now) l))) }
+{
+    starts_in_range(bound);
+    let outcome = run_on_ranks(
+        rt,
+        alloc,
+        bound,
+        &found.owners,
+        &found.halos,
+        &found.ranks,
+        plan,
+        order,
+        options.workers,
+        gate,
+        options.dumps,
+    )?;
+    ran(alloc, outcome)
+}

@@ -1,0 +1,144 @@
+// The text of a schedule: its lines, and its steps as the plan judges them.
+
+ghost use Rattle.std.specs.Prelude.{◌≡◌, ◌≤◌, length, option_map, slice_get, IfOk, IfErr, Ok};
+ghost use Rattle.bound_program.specs.Values.{bound_of};
+ghost use Rattle.bound_program.specs.Fits.{Fits};
+ghost use Rattle.loop_plan.specs.Values.{plan_of};
+ghost use Rattle.loop_plan.specs.Proper.{Proper};
+ghost use Rattle.loop_plan.specs.StepOutline.{step_outline};
+ghost use Rattle.schedule_check.specs.Whole.{IsWhole};
+ghost use Rattle.schedule_text.specs.Reading.{Reads};
+ghost use Rattle.answer_lines.specs.declared.limits.TheConstants.{SCHEDULE_BYTES};
+ghost use Rattle.answers.specs.Said.{SaysSchedule};
+ghost use Rattle.answers.specs.Judgements.{steps_in, end_line, IsTextRefused, IsStepRefused};
+ghost use Rattle.answer_lines.specs.Halts.{SpoiltWhere};
+ghost use Rattle.op2_command.specs.Chains.{SaysFirst, IsSpread};
+
+use answer_lines::{Failure, Halt, Limit, Refusal, most};
+use bound_program::Bound;
+use distribute::Distribution;
+use loop_plan::Plan;
+use op_num::OutOfMemory;
+use planned_run::judge_list;
+use schedule_check::ScheduleRefusal;
+use schedule_steps::{Peak, Step};
+use schedule_text::{Line, ScheduleTextRefusal, read_schedule};
+use std::alloc::Global;
+use texts::Tokens;
+
+// A text that spells no steps.
+fn unspelled<'a>(refusal: ScheduleTextRefusal) -> Halt<'a>
+    ensures { SpoiltWhere (SaysSchedule refusal) result }
+{
+    match refusal {
+        ScheduleTextRefusal::Header { line } => {
+            Halt::Refused(Refusal::BadSchedule { number: 1, line })
+        }
+        ScheduleTextRefusal::Syntax { line } => {
+            Halt::Refused(Refusal::BadSchedule { number: 2, line })
+        }
+        ScheduleTextRefusal::TooManySteps => Halt::Refused(Refusal::BeyondLimit {
+            limit: Limit::ScheduleSteps,
+            size: most(Limit::ScheduleSteps) + 1,
+        }),
+        ScheduleTextRefusal::OutOfMemory => Halt::Failed(Failure::OutOfMemory),
+    }
+}
+
+/// The steps that a text spells, each with its line.
+pub fn lines_of<'a>(alloc: Global, bytes: &[u8]) -> Result<Vec<Line>, Halt<'a>>
+    requires few { length bytes.now ≤ SCHEDULE_BYTES }
+    ensures ok { IfOk result (λ v. Reads bytes.now (Ok v.items)) }
+    ensures err { IfErr result (SpoiltWhere (IsTextRefused bytes.now)) }
+{
+    match read_schedule(alloc, bytes) {
+        Ok(lines) => Ok(lines),
+        Err(refusal) => Err(unspelled(refusal)),
+    }
+}
+
+/// The line of the last token of a text.
+pub fn end_line(bytes: &[u8]) -> u32
+    requires few { length bytes.now ≤ SCHEDULE_BYTES }
+    ensures { result ≡ end_line bytes.now }
+{
+    let mut tokens = Tokens::new(bytes);
+    while tokens.next().is_some() {}
+    tokens.last()
+}
+
+// A step that is refused on its line, or the end.
+fn unaccepted<'a>(line: Option<&Line>, end: u32, refusal: ScheduleRefusal) -> Halt<'a>
+    ensures { SpoiltWhere (SaysFirst (option_map (λ l. l.now) line.entry) end refusal) result }
+{
+    let Some(line) = line else {
+        return match refusal {
+            ScheduleRefusal::Incomplete { missing } => {
+                Halt::Refused(Refusal::LeftStep { line: end, missing })
+            }
+            _ => Halt::Failed(Failure::OutOfMemory),
+        };
+    };
+    match refusal {
+        ScheduleRefusal::NoSuchStep => Halt::Refused(Refusal::BadStep {
+            number: 1,
+            line: line.line,
+            step: line.step,
+        }),
+        ScheduleRefusal::Repeated => Halt::Refused(Refusal::BadStep {
+            number: 2,
+            line: line.line,
+            step: line.step,
+        }),
+        ScheduleRefusal::TooEarly { missing } => Halt::Refused(Refusal::EarlyStep {
+            line: line.line,
+            step: line.step,
+            missing,
+        }),
+        ScheduleRefusal::Incomplete { .. } => Halt::Failed(Failure::OutOfMemory),
+    }
+}
+
+// The steps of the lines.
+fn steps_in(alloc: Global, lines: &[Line]) -> Result<Vec<Step>, OutOfMemory>
+    ensures { IfOk result (λ v. v.items ≡ steps_in lines.now) }
+{
+    let mut steps = Vec::with_capacity(alloc, lines.len())?;
+    let mut rest = lines;
+    while let [line, more @ ..] = rest {
+        steps.push(line.step)?;
+        rest = more;
+    }
+    Ok(steps)
+}
+
+// The line of the step with this number, from 0, if there is one.
+fn line_at(lines: &[Line], step: u64) -> Option<&Line>
+    ensures { option_map (λ l. l.now) result ≡ slice_get lines.now step }
+{
+    lines.get(step as usize)
+}
+
+/// The steps of these lines, and their peak, where the plan accepts them; `end` is the line of the end.
+pub fn judged<'a>(
+    alloc: Global,
+    bound: &Bound,
+    found: &Distribution,
+    plan: &Plan,
+    lines: &[Line],
+    end: u32,
+) -> Result<(Vec<Step>, Peak), Halt<'a>>
+    requires fits { Fits (bound_of bound.now) }
+    requires found { IsSpread (bound_of bound.now) found.now }
+    requires plan { Proper (bound_of bound.now) found.now.ranks.items (plan_of plan.now) }
+    ensures steps { IfOk result (λ r. r.0.items ≡ steps_in lines.now) }
+    ensures whole { IfOk result (λ r. IsWhole (bound_of bound.now) found.now.ranks.items (plan_of plan.now) (steps_in lines.now) r.1) }
+    ensures err { IfErr result
+        (SpoiltWhere (IsStepRefused (step_outline (bound_of bound.now) found.now.ranks.items (plan_of plan.now)) lines.now end)) }
+{
+    let steps = steps_in(alloc, lines)?;
+    match judge_list(alloc, bound, &found.ranks, plan, &steps)? {
+        Ok(peak) => Ok((steps, peak)),
+        Err(refused) => Err(unaccepted(line_at(lines, refused.step), end, refused.refusal)),
+    }
+}

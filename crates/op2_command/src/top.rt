@@ -1,0 +1,117 @@
+// The whole of what the program does.
+
+ghost use Rattle.std.specs.Prelude.{◌≡◌, All, map, string_bytes};
+ghost use Rattle.command_words.specs.Words.{named_by};
+ghost use Rattle.answers.specs.Endings.{ending_status, ending_line};
+ghost use Rattle.answer_lines.specs.Halts.{answer_of};
+ghost use Rattle.answer_lines.specs.Reports.{Stands};
+ghost use Rattle.op2_command.specs.Writes.{EndsAsDefined, Writes, ending_of};
+
+use crate::answered::answered;
+use answer_laws::{
+    calls_are_complete, calls_report_their_answers, calls_show_their_answers, others_write_nothing,
+    usage_is_of_words,
+};
+use answer_lines::{Answer, Failure, Line, report};
+use op_outside::{Shelf, Sink, write_all_of};
+use par_exec::{Gate, Open};
+use std::alloc::Global;
+use std::marker::Sync;
+use std::thread::Threads;
+
+/// Does what the words say, and answers the status that the program ends with.
+///
+/// `words` has the program's name first; `op2 --help` tells what may stand behind it. What is written to `out` is written at the
+/// end. Where the call ends with another status than 0, one line is written to `err`, and where it is neither 0, 4 nor 9, nothing
+/// to `out`. `rt` starts the threads of `--workers`.
+pub fn op2<R: Threads + Sync, F: Shelf, O: Sink, E: Sink>(
+    rt: &R,
+    alloc: Global,
+    words: &Vec<String>,
+    shelf: &mut F,
+    out: &mut O,
+    err: &mut E,
+) -> u8
+    requires { All (λ name. F.lends shelf.old name) (named_by (map string_bytes words.now.items)) }
+
+    // The call has one ending, with its cause, its status and its line; and so its status, its output and its line are those of any
+    // answer that the files tell, as far as nothing failed outside.
+    ensures { EndsAsDefined (record {
+      words = map string_bytes words.now.items;
+      told = F.told shelf.old;
+      reads = (F.faults shelf.old, F.faults shelf.new);
+      writes = (O.faults out.old, O.faults out.new);
+      reports = (E.faults err.old, E.faults err.new);
+      out = (O.written out.old, O.written out.new);
+      err = (E.written err.old, E.written err.new);
+    }) result }
+{
+    op2_gated(rt, alloc, words, shelf, out, err, &Open)
+}
+
+/// The same for every gate: it is told of each element that a group begins, on the thread that runs its kernel, by its number in
+/// the group.
+pub fn op2_gated<R: Threads + Sync, F: Shelf, O: Sink, E: Sink, G: Gate>(
+    rt: &R,
+    alloc: Global,
+    words: &Vec<String>,
+    shelf: &mut F,
+    out: &mut O,
+    err: &mut E,
+    gate: &G,
+) -> u8
+    requires { All (λ name. F.lends shelf.old name) (named_by (map string_bytes words.now.items)) }
+    ensures { EndsAsDefined (record {
+      words = map string_bytes words.now.items;
+      told = F.told shelf.old;
+      reads = (F.faults shelf.old, F.faults shelf.new);
+      writes = (O.faults out.old, O.faults out.new);
+      reports = (E.faults err.old, E.faults err.new);
+      out = (O.written out.old, O.written out.new);
+      err = (E.written err.old, E.written err.new);
+    }) result }
+{
+    calls_are_complete();
+    usage_is_of_words();
+    calls_show_their_answers();
+    calls_report_their_answers();
+    others_write_nothing();
+    match answered(rt, alloc, words, shelf, gate) {
+        Ok(answer) => write_answer(&answer, out, err),
+        Err(failure) => write_failure(failure, err),
+    }
+}
+
+// Writes an answer, and gives the status. A run with a fault keeps its own where its output can't be written.
+fn write_answer<O: Sink, E: Sink>(answer: &Answer, out: &mut O, err: &mut E) -> u8
+    ensures { Writes (answer_of answer.now) result (O.faults out.old, O.faults out.new) (O.written out.old, O.written out.new)
+        (Stands (E.faults err.old, E.faults err.new) (E.written err.old, E.written err.new)) }
+{
+    match answer {
+        Answer::Done(bytes) => match write_all_of(out, bytes) {
+            Ok(()) => 0,
+            Err(_) => report(err, Line::CannotWrite),
+        },
+        Answer::Faulted { out: bytes, line } => {
+            let _ = write_all_of(out, bytes);
+            let _ = write_all_of(err, line);
+            9
+        }
+        Answer::Refused { status, line } => {
+            let _ = write_all_of(err, line);
+            *status
+        }
+    }
+}
+
+// Writes the line of a call that has no answer, and gives the status.
+fn write_failure<E: Sink>(failure: Failure<'_>, err: &mut E) -> u8
+    ensures status { result ≡ ending_status (ending_of failure.entry) }
+    ensures said { Stands (E.faults err.old, E.faults err.new) (E.written err.old, E.written err.new)
+        (ending_line (ending_of failure.entry)) }
+{
+    match failure {
+        Failure::Unread(name) => report(err, Line::CannotRead(name)),
+        Failure::OutOfMemory => report(err, Line::OutOfMemory),
+    }
+}
