@@ -1,3 +1,5 @@
 pub mod FromIndex
 pub mod Values
 pub mod AloneRuns
+pub mod LeastOfThree
+pub mod FromNone

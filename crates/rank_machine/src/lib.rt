@@ -2,6 +2,7 @@
 //! them, and what it reads of a program and its distribution.
 #![tactic(auto)]
 
+pub mod laws;
 pub mod machine;
 pub mod messages;
 pub mod parts;
