@@ -4,3 +4,4 @@ mod Grouping
 pub mod Hosting
 mod Tasking
 pub mod AloneRuns
+pub mod Rounds

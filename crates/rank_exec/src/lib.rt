@@ -9,6 +9,7 @@ mod group_steps;
 mod hosts;
 pub mod items;
 mod joins;
+pub mod laws;
 pub mod run_room;
 pub mod stream;
 
