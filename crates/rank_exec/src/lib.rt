@@ -11,6 +11,7 @@ pub mod items;
 mod joins;
 pub mod laws;
 pub mod run_room;
+mod sharing;
 pub mod stream;
 
 pub use rank_machine::machine::Machine;
