@@ -3,3 +3,4 @@ pub mod Values
 pub mod AloneRuns
 pub mod LeastOfThree
 pub mod FromNone
+pub mod OnRanks

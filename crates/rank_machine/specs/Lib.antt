@@ -3,3 +3,4 @@ pub mod Rooms
 pub mod Machines
 pub mod AloneRuns
 pub mod FromNone
+pub mod OnRanks

@@ -6,6 +6,7 @@ pub mod laws;
 pub mod machine;
 pub mod messages;
 pub mod parts;
+pub mod ranks;
 mod reduce;
 pub mod room;
 pub mod start;
