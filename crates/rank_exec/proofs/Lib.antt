@@ -5,3 +5,4 @@ pub mod Hosting
 mod Tasking
 pub mod AloneRuns
 pub mod Rounds
+pub mod AllShares

@@ -1,7 +1,8 @@
 -- Ranks whose elements ran from no fault on, each by itself: all of them were begun and ended, rank after rank.
-use Rattle.std.proofs.Common.{◌≡◌, ℕ, zero, suc, ◌+◌, ◌<◌, ◌≤◌, ℤ, refl, sym, ap, ap₂, subst, ◌∙◌, arith, List, [], ◌∷◌, ◌++◌, length, take, set, get_or, get_or-set_other, append_assoc, append-nil, ◌-◌}
+use Rattle.std.proofs.Common.{◌≡◌, ℕ, zero, suc, ◌+◌, ◌<◌, ◌≤◌, ℤ, refl, sym, ap, ap₂, subst, ◌∙◌, arith, List, [], ◌∷◌, ◌++◌, length, take, set, get_or, get_or-set_other, append_assoc, append-nil, ◌-◌, Option}
 use Rattle.std.proofs.lemmas.List.{take_all, length-set}
 use Rattle.schedule_steps.specs.declared.step.Step.{Step}
+use Rattle.schedule_model.specs.Sequential.{Stop}
 use Rattle.step_orders.specs.Alone.{alone}
 use Rattle.schedule_model.specs.Setup.{Setup}
 use Rattle.flat_machine.specs.Layout.{Layout}
@@ -23,13 +24,22 @@ module _ {F : Type 0} (old : State F) (new : ℕ → Share F) where
   same_variables zero = refl
   same_variables (suc n) = same_variables n
 
-  same_memories : (n : ℕ) → length (after_ranks old new n).memories ≡ length old.memories
+  pub same_memories : (n : ℕ) → length (after_ranks old new n).memories ≡ length old.memories
   same_memories zero = refl
   same_memories (suc n) = length-set (after_ranks old new n).memories n (new n).cells ∙ same_memories n
 
-  same_partials : (n : ℕ) → length (after_ranks old new n).partials ≡ length old.partials
+  pub same_partials : (n : ℕ) → length (after_ranks old new n).partials ≡ length old.partials
   same_partials zero = refl
   same_partials (suc n) = length-set (after_ranks old new n).partials n (new n).partials ∙ same_partials n
+
+  -- all but memories, partials and fault is as before
+  pub same_rest : (n : ℕ) (ms ps : List (List ℤ)) (x : Option (Stop F)) → (after_ranks old new n).memories ≡ ms → (after_ranks old new n).partials ≡ ps → (after_ranks old new n).fault ≡ x
+      → after_ranks old new n ≡ record old { memories = ms; partials = ps; fault = x }
+  same_rest n ms ps x a b c = as_old n ∙ (ap₂ (λ m q. record old { memories = m; partials = q; fault = (after_ranks old new n).fault }) a b ∙ ap (λ o. record old { memories = ms; partials = ps; fault = o }) c)
+    where
+      as_old : (n : ℕ) → after_ranks old new n ≡ record old { memories = (after_ranks old new n).memories; partials = (after_ranks old new n).partials; fault = (after_ranks old new n).fault }
+      as_old zero = refl
+      as_old (suc n) = ap (with_share n (with_fault (kept_both (after_ranks old new n).fault (new n).fault) (new n))) (as_old n)
 
   -- so are the cells and the partials of the other ranks
   cells_stay : (n r : ℕ) → n ≤ r → row (after_ranks old new n).memories r ≡ row old.memories r

@@ -1,5 +1,6 @@
 -- The elements of one item on all ranks, each rank's one after another, rank after rank.
-use Rattle.std.specs.Prelude.{◌<◌, ◌≤◌, ℕ, ℤ, zero, suc, List, [], ◌++◌, length, None}
+use Rattle.std.specs.Prelude.{◌≡◌, ◌<◌, ◌≤◌, ℕ, ℤ, zero, suc, List, [], ◌∷◌, ◌++◌, map, length, get_or, Option, None}
+use Rattle.schedule_model.specs.Sequential.{Stop}
 use Rattle.schedule_steps.specs.declared.step.Step.{Step}
 use Rattle.step_orders.specs.Alone.{alone}
 use Rattle.schedule_model.specs.Setup.{Setup}
@@ -39,3 +40,22 @@ RanksComeInTurn {F = F} p l t =
     → RanOnRanks p l t k (values_at old.variables t.constants) old.variables places old new ranks
     → ComeReady p l t (round k places ranks) old
     → Done p l t (round k places ranks) old (after_ranks old new ranks)
+
+-- a rank's share in a list of all
+abbrev pub share_at : {F : Type 0} → List (Share F) → ℕ → Share F
+share_at news r = get_or news r (record { cells = []; partials = []; fault = None })
+
+-- the faults of all ranks, put together with the one that was kept
+abbrev pub kept_of_all : {F : Type 0} → Option (Stop F) → List (Share F) → Option (Stop F)
+kept_of_all o [] = o
+kept_of_all o (s ∷ ss) = kept_of_all (kept_both o s.fault) ss
+
+-- the state in which all ranks have these shares
+abbrev pub with_shares : {F : Type 0} → List (Share F) → State F → State F
+with_shares news st =
+    record st { memories = map (λ s. s.cells) news; partials = map (λ s. s.partials) news; fault = kept_of_all st.fault news }
+
+-- shares that are put into the state rank after rank are those of all ranks
+abbrev pub SharesAreSet : {F : Type 0} → State F → List (Share F) → Type 0
+SharesAreSet old news =
+    length old.memories ≡ length news → length old.partials ≡ length news → after_ranks old (share_at news) (length news) ≡ with_shares news old
