@@ -8,9 +8,6 @@ use kernel_jobs::KernelJob;
 // As many operations as threads are worth: starting them takes as long as some thousands.
 const WORTH_THREADS: usize = 16384;
 
-// How many begins a full group of the standard order has.
-const FULL: usize = 64;
-
 // About how many operations a part of a kernel's code has, with those of its longer branch, and of a body as often as it is run.
 fn operations(part: &Part) -> usize {
     match part {
@@ -33,17 +30,13 @@ fn operations(part: &Part) -> usize {
     }
 }
 
-/// How many of the `workers` run a group's kernels: all of them where these have many operations together, and for a full group
-/// that begins with its rank's first place, as a loop of one group does; else one.
+/// How many of the `workers` run a group's kernels: all of them where these have many operations together, and for a group that
+/// begins with its rank's first place, as a loop of one group does; else one.
 pub fn workers_for(job: &KernelJob<'_>, place: u32, workers: u32) -> u32
     requires { 0 < workers }
     ensures { 0 < result }
 {
-    let count = job.tasks.len();
-    if place == 0 && count >= FULL {
-        return workers;
-    }
-    if operations(&job.code.part).saturating_mul(count) >= WORTH_THREADS {
+    if place == 0 || operations(&job.code.part).saturating_mul(job.tasks.len()) >= WORTH_THREADS {
         return workers;
     }
     1
