@@ -5,6 +5,7 @@ mod code;
 mod codes;
 mod compiling;
 mod expressions;
+mod laws;
 mod machine;
 mod op;
 mod part;
@@ -19,6 +20,7 @@ mod tests;
 
 pub use code::{Code, compile, run, run_on};
 pub use codes::{compile_all, room_for};
+pub use laws::codes_mean;
 pub use kernel_types::{AssignOp, BinaryOp, Fault, KernelFault, MinMax, Pos, UnaryOp};
-pub use op::Op;
+pub use op::{Element, Op};
 pub use part::Part;
