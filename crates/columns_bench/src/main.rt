@@ -20,6 +20,7 @@ struct Job {
     side: u32,
     turns: u32,
     how: u32,
+    ghost small: { side ≤ 4000 },
 }
 
 fn number(word: &[u8]) -> Option<u32> {
@@ -40,9 +41,7 @@ fn job_of(rt: &(impl Env + Alloc)) -> Option<Job> {
     }
 }
 
-fn ran(alloc: Global, job: &Job) -> Option<(u32, i32)>
-    requires { job.now.side ≤ 4000 }
-{
+fn ran(alloc: Global, job: &Job) -> Option<(u32, i32)> {
     let cells = job.side * job.side;
     let kernel = flux::flux(alloc).ok()?;
     let mut memory = grid::filled(alloc, cells).ok()?;
