@@ -7,8 +7,8 @@ ghost use Rattle.views.specs.Framed.{PlacesIn};
 
 use kernel_code::{Code, run_on};
 use kernel_columns::{Column, Numbers, ROWS, are_apart, gather, merge, run_rows};
-use operators::{add, sub};
 use op_num::div;
+use operators::{add, sub};
 use reductions::Sum;
 use views::{Place, are_places_in};
 
@@ -63,10 +63,10 @@ fn run_batch(
         return false;
     }
     let cells = cells as usize;
-    frame[0] = gather(memory, a, 0, 1, 0);
-    frame[1] = gather(memory, b, 0, 1, 0);
-    frame[2] = gather(memory, a, cells, 1, 0);
-    frame[3] = gather(memory, b, cells, 1, 0);
+    gather(memory, a, 0, 1, 0, &mut frame[0]);
+    gather(memory, b, 0, 1, 0, &mut frame[1]);
+    gather(memory, a, cells, 1, 0, &mut frame[2]);
+    gather(memory, b, cells, 1, 0, &mut frame[3]);
     frame[4] = [0; ROWS];
     frame[5] = [0; ROWS];
     if run_rows(code, frame, places, &[], scratch).is_none() {
@@ -103,7 +103,16 @@ pub fn run_batches(code: &Code<'_>, memory: &mut [i32], cells: u32, ends: &[u32]
         if ends.len() - from >= 2 * ROWS {
             let a = ends_at(ends, from, 0);
             let b = ends_at(ends, from, 1);
-            if run_batch(code, memory, cells, &a, &b, &places, &mut frame, &mut scratch) {
+            if run_batch(
+                code,
+                memory,
+                cells,
+                &a,
+                &b,
+                &places,
+                &mut frame,
+                &mut scratch,
+            ) {
                 done = done.saturating_add(ROWS as u32);
             }
         }
