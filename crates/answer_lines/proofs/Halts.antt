@@ -1,5 +1,5 @@
 -- What ends a judgement.
-use Rattle.answers.specs.Refusal.{Refusal}
+use Rattle.command_words.specs.Refusal.{Refusal}
 use Rattle.answer_lines.specs.declared.refusals.Failure.TheVariants.{Unread, OutOfMemory}
 use Rattle.answer_lines.specs.declared.refusals.Halt.{Halt}
 use Rattle.answer_lines.specs.declared.refusals.Halt.TheVariants.{Refused, Failed}

@@ -3,7 +3,7 @@ use Rattle.std.proofs.Common.{◌≡◌, ℕ, ◌+◌, List, [], ◌++◌, lengt
 use Rattle.std.proofs.Math.Seq.{take-append-add}
 use Rattle.std.proofs.lemmas.List.{take-append-le, append-nil}
 use Rattle.op_outside.specs.Outside.{appended, AppendsFront}
-use Rattle.answers.specs.Lines.{whole_line}
+use Rattle.answer_lines.specs.Lines.{whole_line}
 
 pub appended_twice : (old : Option (List ℕ)) (a b : List ℕ) → appended (appended old a) b ≡ appended old (a ++ b)
 appended_twice None a b = refl

@@ -2,8 +2,8 @@
 use Rattle.std.proofs.Common.{◌≡◌, ℕ, List, ◌++◌, codes, Result, Ok, Err, OnOk, refl, ap, ◌∙◌, append_assoc}
 use Rattle.std.specs.Fmt.{decimal}
 use Rattle.c_lex.specs.declared.tokens.Pos.{Pos}
-use Rattle.answers.specs.Refusal.{BadTarget}
-use Rattle.answers.specs.Lines.{numbered, said_of}
+use Rattle.command_words.specs.Refusal.{BadTarget}
+use Rattle.answer_lines.specs.Lines.{numbered, said_of}
 
 joined : (old n m e p : List ℕ)
     → ((old ++ n) ++ (codes " map " ++ m)) ++ codes " element " ++ e ++ codes " place " ++ p

@@ -1,8 +1,8 @@
 -- The refusals and answers of the code as the definitions have them, and what ends a judgement.
 use Rattle.std.specs.Prelude.{[]}
-use Rattle.answers.specs.Refusal as answer
-use Rattle.answers.specs.Lines as lines
-use Rattle.answers.specs.Endings.{IsOfContents}
+use Rattle.command_words.specs.Refusal as answer
+use Rattle.answer_lines.specs.Lines as lines
+use Rattle.answer_lines.specs.Lines.{IsOfContents}
 use Rattle.answer_lines.specs.declared.refusals.Limit.{Limit}
 use Rattle.answer_lines.specs.declared.refusals.Limit.TheVariants as limit
 use Rattle.answer_lines.specs.declared.refusals.Refusal.{Refusal}

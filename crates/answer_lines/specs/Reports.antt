@@ -1,8 +1,8 @@
 -- What stands on the errors, and the lines that take no memory with their statuses.
 use Rattle.std.specs.Prelude.{◌≡◌, ℕ, ◌⊎◌, List, Option, codes}
 use Rattle.op_outside.specs.Outside.{Rose, appended, AppendsFront}
-use Rattle.answers.specs.Refusal as answer
-use Rattle.answers.specs.Lines.{line_of, whole_line}
+use Rattle.command_words.specs.Refusal as answer
+use Rattle.answer_lines.specs.Lines.{line_of, whole_line}
 use Rattle.answer_lines.specs.declared.reports.Line.{Line}
 use Rattle.answer_lines.specs.declared.reports.Line.TheVariants as report
 

@@ -1,8 +1,8 @@
 // An answer to a call of the program: the bytes for the output, and the line for the errors.
 
 ghost use Rattle.std.specs.Prelude.{◌≡◌, IfOk};
-ghost use Rattle.answers.specs.Refusal.{status_of};
-ghost use Rattle.answers.specs.Lines as lines;
+ghost use Rattle.command_words.specs.Refusal.{status_of};
+ghost use Rattle.answer_lines.specs.Lines as lines;
 ghost use Rattle.answer_lines.specs.Halts.{refusal_of, answer_of};
 
 use crate::lines::put_refusal;

@@ -1,11 +1,10 @@
 // The limits of sizes.
 
 ghost use Rattle.std.specs.Prelude.{◌≡◌};
-ghost use Rattle.answers.specs.Lines.{most, limit_name};
+ghost use Rattle.answer_lines.specs.Lines.{most, limit_name};
 ghost use Rattle.answer_lines.specs.Halts.{limit_of};
 
 use crate::refusals::Limit;
-use answers::{PARTITION_BYTES, SCHEDULE_BYTES, SOURCE_BYTES};
 use bound_program::{
     MAX_ARGUMENTS, MAX_CELLS, MAX_DATS, MAX_DIM, MAX_MAPS, MAX_SETS, MAX_SIZE, MAX_TRACE,
     MAX_WEIGHT,
@@ -13,6 +12,15 @@ use bound_program::{
 use loop_plan::MAX_STEPS;
 use mesh_decl::{MESH_BYTES, MESH_VALUES};
 use schedule_text::SCHEDULE_STEPS;
+
+/// The most bytes of a source file.
+pub const SOURCE_BYTES: u64 = 1_048_576;
+
+/// The most bytes of the file of a partition.
+pub const PARTITION_BYTES: u64 = 67_108_864;
+
+/// The most bytes of the file of a schedule.
+pub const SCHEDULE_BYTES: u64 = 268_435_456;
 
 /// The greatest size that the limit allows.
 pub fn most(limit: Limit) -> u64

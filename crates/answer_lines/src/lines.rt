@@ -2,8 +2,8 @@
 
 ghost use Rattle.std.specs.Prelude.{◌≡◌, ◌++◌, codes, OnOk};
 ghost use Rattle.std.specs.Fmt.{decimal};
-ghost use Rattle.answers.specs.Refusal.{BadTarget, BadStep, EarlyStep, LeftStep};
-ghost use Rattle.answers.specs.Lines.{at_place, numbered, step_name, said_of, line_of};
+ghost use Rattle.command_words.specs.Refusal.{BadTarget, BadStep, EarlyStep, LeftStep};
+ghost use Rattle.answer_lines.specs.Lines.{at_place, numbered, step_name, said_of, line_of};
 ghost use Rattle.answer_lines.specs.Halts.{refusal_of};
 
 use crate::limits::{limit_name, most};

@@ -2,7 +2,7 @@
 
 ghost use Rattle.std.specs.Prelude.{◌≡◌, ◌++◌, codes, OnOk, OnErr};
 ghost use Rattle.op_outside.specs.Outside.{Rose, appended, AppendsFront};
-ghost use Rattle.answers.specs.Lines.{whole_line};
+ghost use Rattle.answer_lines.specs.Lines.{whole_line};
 ghost use Rattle.answer_lines.specs.Reports.{Stands, report_status, report_line};
 
 use op_outside::{Failed, Sink, write_all_of};

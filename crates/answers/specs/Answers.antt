@@ -14,11 +14,11 @@ use Rattle.bound_plan.specs.Memories.{dump_of, run_output}
 use Rattle.op_outside.specs.Outside.{Files}
 use Rattle.mesh_text.specs.declared.entry.Form.{Form}
 use Rattle.mesh_text.specs.Canonical.{canonical}
-use Rattle.answers.specs.declared.usage.TheConstants.{USAGE, VERSION}
-use Rattle.answers.specs.Refusal.{Refusal, CannotRead}
-use Rattle.answers.specs.Lines.{Answer, done, refused, faulted}
-use Rattle.answers.specs.Words.{PlanJob, Check, ShowsPlan, ShowsSchedule, RunsPlan, Options, group_of, Input}
-use Rattle.answers.specs.Words.{Command, OnPlan, Converts, ShowsUsage, ShowsVersion, WordsAre}
+use Rattle.command_words.specs.declared.usage.TheConstants.{USAGE, VERSION}
+use Rattle.command_words.specs.Refusal.{Refusal, CannotRead}
+use Rattle.answer_lines.specs.Lines.{Answer, done, refused, faulted}
+use Rattle.command_words.specs.Words.{PlanJob, Check, ShowsPlan, ShowsSchedule, RunsPlan, Options, group_of, Input}
+use Rattle.command_words.specs.Words.{Command, OnPlan, Converts, ShowsUsage, ShowsVersion, WordsAre}
 use Rattle.answers.specs.Judgements.{SourceIs, TreeIs, TypesAre, FileIs, MeshIs, EntriesAre, BoundIs, AccessesAre}
 use Rattle.answers.specs.Judgements.{NumbersOf, PartsOf, OwnersOf, Planned, PlanIs, OrderOf, outline_of, StepsOf}
 

@@ -4,9 +4,9 @@ use Rattle.std.specs.List.{Contains}
 use Rattle.kernel_types.specs.declared.faults.KernelFault.{KernelFault}
 use Rattle.schedule_model.specs.Sequential.{Stop}
 use Rattle.op_outside.specs.Outside.{Files, Rose, appended, AppendsFront}
-use Rattle.answers.specs.Refusal.{Refusal, Usage, CannotRead, status_of}
-use Rattle.answers.specs.Lines.{Answer, done, refused, faulted, whole_line, line_of}
-use Rattle.answers.specs.Words.{WordsAre, named_by}
+use Rattle.command_words.specs.Refusal.{Refusal, Usage, CannotRead, status_of}
+use Rattle.answer_lines.specs.Lines.{Answer, done, refused, faulted, IsOfContents, whole_line, line_of}
+use Rattle.command_words.specs.Words.{WordsAre, named_by}
 use Rattle.answers.specs.Answers.{Answers, ComesToBeRead}
 use Rattle.answers.specs.Laws.{SourceLacksTree}
 
@@ -53,12 +53,6 @@ pub record Call : Type 0 where
   pub err : Option (List ℕ) × Option (List ℕ)
 
 -- ---- what the answer is
-
--- a refusal of what a file holds
-abbrev pub IsOfContents : Refusal → Type 0
-IsOfContents Usage = ⊥
-IsOfContents (CannotRead name) = ⊥
-IsOfContents r = Unit {0}
 
 -- an answer that there is over some contents of files: all is well, what they hold is refused, or a run has a fault
 abbrev pub IsSomeAnswer : Answer → Type 0

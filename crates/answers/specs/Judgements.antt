@@ -3,9 +3,9 @@ use Rattle.std.specs.Prelude.{◌≡◌, ℕ, suc, ◌<◌, ◌≤◌, ◌⊎◌
 use Rattle.c_lex.specs.declared.tokens.Pos.{Pos}
 use Rattle.c_tree.specs.Tree.{ProgramTree}
 use Rattle.c_tree.specs.Reads.{Reads, Deep}
-use Rattle.c_reader.specs.declared.refusals.SourceRefusal.{SourceRefusal}
-use Rattle.c_reader.specs.declared.refusals.SourceRefusal.TheVariants as source
-use Rattle.c_reader.specs.Answered.{place_at, CanRefuse}
+use Rattle.c_tree.specs.declared.refusals.SourceRefusal.{SourceRefusal}
+use Rattle.c_tree.specs.declared.refusals.SourceRefusal.TheVariants as source
+use Rattle.c_tree.specs.Refused.{place_at, CanRefuse}
 use Rattle.kernel_types.specs.declared.kernels.RKernel.{RKernel}
 use Rattle.kernel_types.specs.declared.kernels.Resolved.{Resolved}
 use Rattle.kernel_types.specs.View.{resolved_of}
@@ -45,10 +45,10 @@ use Rattle.schedule_text.specs.declared.refusals.ScheduleTextRefusal.{ScheduleTe
 use Rattle.schedule_text.specs.Reading.{Reads as SchedulesRead}
 use Rattle.step_judge.specs.declared.refusal.ScheduleRefusal.{ScheduleRefusal}
 use Rattle.step_judge.specs.Verdicts.{judged, ended}
-use Rattle.answers.specs.Words.{Input, InFiles, OfSample, Parting, ByRule, ByFile, Schedule, Standard, Drawn, Written, Options}
-use Rattle.answers.specs.Refusal.{Limit, SourceBytes, MeshBytes, MeshValues, PartitionBytes, Steps, ScheduleBytes, Refusal, CannotRead}
-use Rattle.answers.specs.Refusal.{BadAccess, BeyondLimit}
-use Rattle.answers.specs.Lines.{most}
+use Rattle.command_words.specs.Words.{Input, InFiles, OfSample, Parting, ByRule, ByFile, Schedule, Standard, Drawn, Written, Options}
+use Rattle.command_words.specs.Refusal.{Limit, SourceBytes, MeshBytes, MeshValues, PartitionBytes, Steps, ScheduleBytes, Refusal, CannotRead}
+use Rattle.command_words.specs.Refusal.{BadAccess, BeyondLimit}
+use Rattle.answer_lines.specs.Lines.{most}
 use Rattle.answers.specs.Said.{SaysSource, SaysTypes, SaysMesh, SaysBinding, SaysNumbers, SaysOwners, SaysSchedule, SaysNext}
 
 -- ---- files

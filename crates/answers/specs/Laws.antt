@@ -1,33 +1,14 @@
--- What any two answers to the same words have in common, and that there is one.
-use Rattle.std.specs.Prelude.{◌≡◌, ℕ, ◌<◌, ◌≤◌, ◌⊎◌, List, Option, Some, None, Ok}
+-- The laws of the answers: what any two to the same words have in common, and that there is one.
+use Rattle.std.specs.Prelude.{◌≡◌, ℕ, ◌⊎◌, List, Option, Some, None, Ok}
 use Rattle.c_lex.specs.declared.tokens.Token.{Token}
 use Rattle.c_lex.specs.Lexed.{Lexes}
 use Rattle.c_tree.specs.Tree.{ProgramTree}
 use Rattle.c_tree.specs.Reads.{Prints}
 use Rattle.op_outside.specs.Outside.{Files}
-use Rattle.answers.specs.Lines.{Answer}
-use Rattle.answers.specs.declared.limits.TheConstants.{MAX_RANKS, MAX_BLOCK, MAX_WORKERS}
-use Rattle.answers.specs.Words.{PlanJob, Options, Input, Command, OnPlan, WordsAre}
+use Rattle.answer_lines.specs.Lines.{Answer}
+use Rattle.command_words.specs.Words.{Input, Command, OnPlan, WordsAre}
 use Rattle.answers.specs.Judgements.{SourceIs}
 use Rattle.answers.specs.Answers.{Answers}
-
--- ---- words
-
--- there are 1 to 64 ranks, a block has 1 to 65,536 places, and there are 1 to 64 workers
-pub record AreWithin (o : Options) : Type 0 where
-  pub some : 0 < o.ranks
-  pub few : o.ranks ≤ MAX_RANKS
-  pub some_places : 0 < o.block
-  pub few_places : o.block ≤ MAX_BLOCK
-  pub some_workers : 0 < o.workers
-  pub few_workers : o.workers ≤ MAX_WORKERS
-
--- the options that words ask for are so
-abbrev pub OptionsAreWithin : Type 0
-OptionsAreWithin =
-    (words : List (List ℕ)) (j : PlanJob) (o : Options) (input : Input)
-    → WordsAre words (Ok (OnPlan j o input))
-    → AreWithin o
 
 -- ---- two answers
 

@@ -1,6 +1,3 @@
-pub mod Refusal
-pub mod Lines
-pub mod Words
 pub mod Said
 pub mod Judgements
 pub mod Answers

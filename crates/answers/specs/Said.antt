@@ -4,8 +4,8 @@ use Rattle.c_lex.specs.declared.refusals.LexRefusal.{LexRefusal}
 use Rattle.c_lex.specs.declared.refusals.LexRefusal.TheVariants as lex
 use Rattle.c_tree.specs.Tree as tree
 use Rattle.c_tree.specs.Tree.{HostTrees, NoHost, MoreHost, HostCall, ProgramTree}
-use Rattle.c_reader.specs.declared.refusals.SourceRefusal.{SourceRefusal}
-use Rattle.c_reader.specs.declared.refusals.SourceRefusal.TheVariants as source
+use Rattle.c_tree.specs.declared.refusals.SourceRefusal.{SourceRefusal}
+use Rattle.c_tree.specs.declared.refusals.SourceRefusal.TheVariants as source
 use Rattle.name_resolution.specs.declared.breaches.TypeRule.TheVariants as rule
 use Rattle.name_resolution.specs.declared.refusals.TypeRefusal.{TypeRefusal}
 use Rattle.name_resolution.specs.declared.refusals.TypeRefusal.TheVariants as types
@@ -25,10 +25,10 @@ use Rattle.schedule_text.specs.declared.refusals.ScheduleTextRefusal.TheVariants
 use Rattle.step_judge.specs.declared.refusal.ScheduleRefusal.{ScheduleRefusal}
 use Rattle.step_judge.specs.declared.refusal.ScheduleRefusal.TheVariants as taking
 use Rattle.distribute.specs.Parts.{NumbersRefusal, UnknownMap, OwnersRefusal, NoDat, NoMap, Unspelled}
-use Rattle.answers.specs.Refusal.{Limit, MeshValues, Sets, Maps, Dats, SetSize, Dim, MeshCells, Arguments, Trace, PrintWeight}
-use Rattle.answers.specs.Refusal.{ScheduleSteps, Refusal, NoTokens, NoTree, TooDeep, BadName, BadBinding, BadTarget, BadMesh, BadPart}
-use Rattle.answers.specs.Refusal.{BadPartition, BadSchedule, BadStep, EarlyStep, LeftStep, BeyondLimit}
-use Rattle.answers.specs.Lines.{most}
+use Rattle.command_words.specs.Refusal.{Limit, MeshValues, Sets, Maps, Dats, SetSize, Dim, MeshCells, Arguments, Trace, PrintWeight}
+use Rattle.command_words.specs.Refusal.{ScheduleSteps, Refusal, NoTokens, NoTree, TooDeep, BadName, BadBinding, BadTarget, BadMesh, BadPart}
+use Rattle.command_words.specs.Refusal.{BadPartition, BadSchedule, BadStep, EarlyStep, LeftStep, BeyondLimit}
+use Rattle.answer_lines.specs.Lines.{most}
 
 -- ---- the source
 

@@ -1,17 +1,3 @@
-//! What the program answers to its words, over the files that are told: the status, the bytes for the output, and the line
-//! for the errors. Definitions, in `specs/`, and their laws.
+//! What `op2` answers to its words, over the files that are told, as definitions: the chain of judgements, what each refusal
+//! of a part is as one of the program, and how a call ends. Their laws stand in `answer_laws`.
 #![tactic(auto)]
-
-mod laws;
-mod limits;
-mod usage;
-
-pub use laws::{
-    answers_agree, answers_exist, calls_are_complete, calls_report_their_answers,
-    calls_show_their_answers, one_fault, options_are_within, others_write_nothing,
-    usage_is_of_words,
-};
-pub use limits::{
-    MAX_BLOCK, MAX_GROUP, MAX_RANKS, MAX_WORKERS, PARTITION_BYTES, SCHEDULE_BYTES, SOURCE_BYTES,
-};
-pub use usage::{USAGE, VERSION};

@@ -5,9 +5,9 @@ use Rattle.c_lex.specs.declared.tokens.Token.{Token}
 use Rattle.c_lex.specs.Lexed.{Lexes, Outcome, advance, start}
 use Rattle.c_tree.specs.Tree.{ProgramTree}
 use Rattle.c_tree.specs.Reads.{Prints, Deep}
-use Rattle.c_reader.specs.Kinds.{places}
+use Rattle.c_tree.specs.Refused.{places, place_or, place_at, IsFar, CanRefuse}
 use Rattle.c_reader.specs.declared.faults.Fault.TheVariants.{TooDeep}
-use Rattle.c_reader.specs.Answered.{CanRefuse, IsFar, place_or, place_at, deep_at}
+use Rattle.c_reader.specs.Answered.{deep_at}
 use Rattle.c_reader.proofs.Programs.{read_deep, deep_places, can_refuse}
 
 pub deep_far : (bytes : List ℕ) (p : ProgramTree) (n : ℕ) → ((b : List ℕ) (x y : Outcome) → Lexes b x → Lexes b y → x ≡ y) → Deep bytes p n → IsFar bytes (place_at p.places bytes n)

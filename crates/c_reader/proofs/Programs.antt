@@ -14,12 +14,13 @@ use Rattle.c_lex.specs.Lexed.{Lexes, Outcome, advance, start}
 use Rattle.c_tree.specs.Tree.{ProgramTree}
 use Rattle.c_tree.specs.Print.{Mark, program}
 use Rattle.c_tree.specs.Reads.{first_deep, shown, Prints, Reads, Deep}
-use Rattle.c_reader.specs.Kinds.{kinds, places}
+use Rattle.c_reader.specs.Kinds.{kinds}
+use Rattle.c_tree.specs.Refused.{places, place_or, place_at, CanRefuse}
 use Rattle.c_reader.specs.declared.faults.Fault.{Fault}
 use Rattle.c_reader.specs.declared.faults.Fault.TheVariants.{Syntax, TooDeep}
-use Rattle.c_reader.specs.declared.refusals.SourceRefusal.{SourceRefusal}
-use Rattle.c_reader.specs.declared.refusals.SourceRefusal.TheVariants.{Lex, TooDeep as TooDeepAt}
-use Rattle.c_reader.specs.Answered.{IsTree, IsRefusal, CanRefuse, not_lexed, place_or, place_at, deep_at, refusal_of}
+use Rattle.c_tree.specs.declared.refusals.SourceRefusal.{SourceRefusal}
+use Rattle.c_tree.specs.declared.refusals.SourceRefusal.TheVariants.{Lex, TooDeep as TooDeepAt}
+use Rattle.c_reader.specs.Answered.{IsTree, IsRefusal, not_lexed, deep_at, refusal_of}
 use Rattle.c_reader.specs.Whole.{whole}
 use Rattle.c_reader.proofs.Spans.{spans_whole, whole_spans, after}
 use Rattle.c_reader.proofs.Mains.{whole_complete, whole_sound, whole_far}

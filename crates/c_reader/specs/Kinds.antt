@@ -2,10 +2,6 @@
 use Rattle.std.specs.Prelude.{List, map}
 use Rattle.c_lex.specs.declared.tokens.Token.{Token}
 use Rattle.c_lex.specs.declared.tokens.Kind.{Kind}
-use Rattle.c_lex.specs.declared.tokens.Pos.{Pos}
 
 abbrev pub kinds : List Token → List Kind
 kinds ts = map (λ t. t.kind) ts
-
-abbrev pub places : List Token → List Pos
-places ts = map (λ t. t.at) ts

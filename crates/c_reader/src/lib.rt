@@ -13,11 +13,10 @@ mod hosts;
 mod leads;
 mod loop_args;
 mod reading;
-mod refusals;
 mod statements;
 #[cfg(test)]
 mod tests;
 mod tops;
 
+pub use c_tree::SourceRefusal;
 pub use reading::{deep_is_far, one_depth, one_tree, read_program, shows_its_tokens};
-pub use refusals::SourceRefusal;

@@ -7,20 +7,22 @@ ghost use Rattle.c_lex.specs.Lexed.{Lexes};
 ghost use Rattle.c_tree.specs.Tree.{ProgramTree};
 ghost use Rattle.c_tree.specs.View.{main_of, program_of};
 ghost use Rattle.c_tree.specs.Reads.{Reads, Deep, shown};
-ghost use Rattle.c_reader.specs.Answered.{IsTree, IsRefusal, IsFar, CanRefuse, not_lexed, place_at, refusal_of};
-ghost use Rattle.c_reader.specs.declared.refusals.SourceRefusal.TheVariants.{Lex, TooDeep};
+ghost use Rattle.c_reader.specs.Answered.{IsTree, IsRefusal, not_lexed, refusal_of};
+ghost use Rattle.c_tree.specs.Refused.{places, place_at, IsFar, CanRefuse};
+ghost use Rattle.c_tree.specs.declared.refusals.SourceRefusal.TheVariants.{Lex, TooDeep};
 ghost use Rattle.c_reader.specs.Descent.{Gives};
 ghost use Rattle.c_reader.specs.Rows.{seen_by};
 ghost use Rattle.c_reader.specs.Whole.{argv_at, return_at, main_at, whole};
-ghost use Rattle.c_reader.specs.Kinds.{kinds, places};
+ghost use Rattle.c_reader.specs.Kinds.{kinds};
 
 use crate::cursor::{after_sign, after_word, is_sign, is_word, number};
 use crate::faults::{Fault, ReadError};
 use crate::hosts::{Closing, read_hosts};
-use crate::refusals::SourceRefusal;
 use crate::tops::read_tops;
 use c_lex::one_outcome;
-use c_tree::{LexRefusal, Main, NumberLiteral, Pos, Program, Sign, Token, Word, end_place, lex};
+use c_tree::{
+    LexRefusal, Main, NumberLiteral, Pos, Program, Sign, SourceRefusal, Token, Word, end_place, lex,
+};
 use std::alloc::{AllocError, Global};
 
 /// The one tree of the bytes of a source, where it has at most 64 levels. They are to be fewer than 2 ^ 32 - 2, since a

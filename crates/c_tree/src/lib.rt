@@ -1,4 +1,4 @@
-//! The trees of a source, for every form of the language, and the tokens that a tree prints.
+//! The trees of a source, for every form of the language, and, as definitions, the tokens that a tree prints.
 #![tactic(auto)]
 
 mod declarations;
@@ -7,15 +7,7 @@ mod hosts;
 mod kernels;
 mod places;
 mod programs;
-mod put_calls;
-mod put_expressions;
-mod put_hosts;
-mod put_statements;
-mod put_tokens;
-mod put_tops;
-mod showing;
-#[cfg(test)]
-mod tests;
+mod refusals;
 
 pub use c_lex::{Kind, LexRefusal, Name, Pos, Sign, Text, Token, Word, end_place, lex};
 pub use declarations::{AssignOp, Assignment, Declaration, Declr, Place};
@@ -24,4 +16,4 @@ pub use hosts::{AccessWord, ArgIndex, ArgVia, GlobalName, Host, HostForHeader, L
 pub use kernels::{ForHeader, Kernel, Param, Stmt};
 pub use places::{numbers_have_places, places_grow, pos_of};
 pub use programs::{Main, Program, Top};
-pub use showing::show;
+pub use refusals::SourceRefusal;

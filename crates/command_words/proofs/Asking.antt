@@ -15,10 +15,10 @@ use Rattle.clap.specs.declared.error.kind.ErrorKind.{ErrorKind}
 use Rattle.clap.specs.declared.error.kind.ErrorKind.TheVariants as kind
 use Rattle.clap.specs.declared.parser.matches.ArgMatches.{ArgMatches}
 use Rattle.texts.specs.Automaton.{IsGiven, IsRefused}
-use Rattle.answers.specs.Refusal.{Refusal}
-use Rattle.answers.specs.Refusal as answer
-use Rattle.answers.specs.Words.{Command, command, options_in, asked, judged, WordsAre}
-use Rattle.answers.specs.Laws.{OptionsAreWithin}
+use Rattle.command_words.specs.Refusal.{Refusal}
+use Rattle.command_words.specs.Refusal as answer
+use Rattle.command_words.specs.Words.{Command, command, options_in, asked, judged, WordsAre}
+use Rattle.command_words.specs.Laws.{OptionsAreWithin}
 use Rattle.command_words.specs.declared.asked.Asked.{Asked}
 use Rattle.command_words.specs.declared.asked.Asked.TheVariants as wanted
 use Rattle.command_words.specs.declared.refusals.WordsRefusal.{WordsRefusal}

@@ -1,1 +1,3 @@
+mod OneFault
+mod Within
 pub mod Asking

@@ -1,1 +1,4 @@
+pub mod Refusal
+pub mod Words
+pub mod Laws
 pub mod Values

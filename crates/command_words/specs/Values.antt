@@ -1,12 +1,12 @@
--- What words ask for, as the definitions of the answers have it.
+-- What words ask for in the code, as `Words` defines it.
 use Rattle.std.specs.Prelude.{◌≡◌, Result, Ok, Err, codes, option_map}
 use Rattle.clap.specs.declared.parser.matches.Found.{Found}
 use Rattle.clap.specs.Matches.{first_value}
 use Rattle.distribute.specs.Parts.{parts_of, name_of}
-use Rattle.answers.specs.Refusal as answer
-use Rattle.answers.specs.Words as words
-use Rattle.answers.specs.Words.{is_set, OnPlan, Converts, ShowsUsage, ShowsVersion}
-use Rattle.answers.specs.Laws.{AreWithin}
+use Rattle.command_words.specs.Refusal as answer
+use Rattle.command_words.specs.Words as words
+use Rattle.command_words.specs.Words.{is_set, OnPlan, Converts, ShowsUsage, ShowsVersion}
+use Rattle.command_words.specs.Laws.{AreWithin}
 use Rattle.command_words.specs.declared.refusals.WordsRefusal.{WordsRefusal}
 use Rattle.command_words.specs.declared.refusals.WordsRefusal.TheVariants.{Usage, OutOfMemory}
 use Rattle.command_words.specs.declared.options.OptionWords.{OptionWords}

@@ -1,10 +1,10 @@
 // What words ask for.
 
 ghost use Rattle.std.specs.Prelude.{◌≡◌};
-ghost use Rattle.answers.specs.Words.{group_of};
+ghost use Rattle.command_words.specs.Words.{group_of};
 ghost use Rattle.command_words.specs.Values.{options_in};
 
-use answers::MAX_GROUP;
+use crate::limits::MAX_GROUP;
 use distribute::Parts;
 use mesh_text::Form;
 

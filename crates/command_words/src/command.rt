@@ -6,9 +6,9 @@ ghost use Rattle.clap.specs.Faults.{fault_of};
 ghost use Rattle.clap.specs.Kinds.{HasKind};
 ghost use Rattle.clap.specs.Simple.{app_of, matches_of, with_rule};
 ghost use Rattle.clap.specs.Walk.{rows_of};
-ghost use Rattle.answers.specs.Words.{command, positional, option, flag};
+ghost use Rattle.command_words.specs.Words.{command, positional, option, flag};
 
-use answers::VERSION;
+use crate::usage::VERSION;
 use clap::{Arg, ArgAction, ArgMatches, Command, Error};
 use std::alloc::{AllocError, Global};
 

@@ -1,7 +1,7 @@
 // The jobs: what is asked for by the words JOB, INPUT and MESH, with the options.
 
 ghost use Rattle.std.specs.Prelude.{◌≡◌, option_map};
-ghost use Rattle.answers.specs.Words.{by_job, samples, converts, plans, form_of, InFiles};
+ghost use Rattle.command_words.specs.Words.{by_job, samples, converts, plans, form_of, InFiles};
 ghost use Rattle.command_words.specs.Values.{input_in, command_of, job_in, option_words_of};
 
 use crate::asked::{Asked, Input, PlanJob};

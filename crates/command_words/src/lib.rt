@@ -1,18 +1,24 @@
 //! The words of the command line of `op2`: what they ask for, and when they are refused.
 //!
-//! `clap` judges the words; what its matches mean stands in the definitions of the crate `answers`, and `read_words`
-//! gives exactly that, with the numbers of a plan's options in their ranges.
+//! `clap` judges the words; what its matches mean is defined in `specs/Words.antt`, and `read_words` gives exactly that, with
+//! the numbers of a plan's options in their ranges.
 #![tactic(auto)]
 
 mod asked;
 mod command;
 mod jobs;
+mod laws;
+mod limits;
 mod options;
 mod read;
 mod refusals;
 #[cfg(test)]
 mod tests;
+mod usage;
 
 pub use asked::{Asked, Input, Options, Parting, PlanJob, Schedule};
+pub use laws::{one_fault, options_are_within};
+pub use limits::{MAX_BLOCK, MAX_GROUP, MAX_RANKS, MAX_WORKERS};
 pub use read::read_words;
 pub use refusals::WordsRefusal;
+pub use usage::{USAGE, VERSION};

@@ -2,12 +2,12 @@
 
 ghost use Rattle.std.specs.Prelude.{◌≡◌, ◌&&◌, not, is_some, option_map};
 ghost use Rattle.distribute.specs.Parts.{name_of, parts_of};
-ghost use Rattle.answers.specs.Words.{number_to, number_or, plans_nothing, behind, rule_of, parting_of};
-ghost use Rattle.answers.specs.Words.{seed_of, schedule_of, options_of};
+ghost use Rattle.command_words.specs.Words.{number_to, number_or, plans_nothing, behind, rule_of, parting_of};
+ghost use Rattle.command_words.specs.Words.{seed_of, schedule_of, options_of};
 ghost use Rattle.command_words.specs.Values.{option_words_of, parting_in, schedule_in, options_in};
 
 use crate::asked::{Options, Parting, Schedule};
-use answers::{MAX_BLOCK, MAX_RANKS, MAX_WORKERS};
+use crate::limits::{MAX_BLOCK, MAX_RANKS, MAX_WORKERS};
 use distribute::Parts;
 use op_num::read_u64;
 

@@ -1,5 +1,6 @@
 // The laws of runs in place, each as the contract of a function that does nothing.
 
+ghost use Rattle.in_place.specs.Here.{FinishesHere};
 ghost use Rattle.in_place.specs.InPlace.{RunsInPlace};
 ghost use Rattle.in_place.specs.Leaving.{ObeyingLeave, UnstoringLeave};
 
@@ -22,4 +23,12 @@ pub fn unwritten_stay()
 {
     kernel_model::reads_stay();
     kernel_model::unstored_stay();
+}
+
+/// A law: where a kernel finishes on a memory's own cells, however it was run, that is its run on the windows that spans gather, and
+/// the memory has what that leaves of the written spans. So a machine that runs several elements at once may say what `run_here` says.
+pub fn finishes_here()
+    ensures { FinishesHere }
+{
+    runs_in_place();
 }

@@ -7,5 +7,5 @@ mod running;
 mod saving;
 
 pub use copying::copy;
-pub use laws::{runs_in_place, unwritten_stay};
+pub use laws::{finishes_here, runs_in_place, unwritten_stay};
 pub use running::run_here;

@@ -8,9 +8,9 @@ use Rattle.c_tree.specs.Tree.{ProgramTree}
 use Rattle.kernel_types.specs.declared.kernels.Resolved.{Resolved}
 use Rattle.bound_program.specs.Values.{BoundValue}
 use Rattle.mesh_gen.specs.Sample.{sample_source, sample_mesh}
-use Rattle.answers.specs.Refusal.{Limit, Refusal, SourceBytes, MeshBytes}
-use Rattle.answers.specs.Lines.{most, refused}
-use Rattle.answers.specs.Words.{Input, InFiles, OfSample, names_from}
+use Rattle.command_words.specs.Refusal.{Limit, Refusal, SourceBytes, MeshBytes}
+use Rattle.answer_lines.specs.Lines.{most, refused}
+use Rattle.command_words.specs.Words.{Input, InFiles, OfSample, names_from}
 use Rattle.answers.specs.Judgements.{IsHeld, SourceIs, FileIs, TreeIs, TypesAre}
 use Rattle.answers.specs.Answers.{BoundAnswers}
 use Rattle.answers.specs.Endings.{no_files}

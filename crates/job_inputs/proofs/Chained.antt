@@ -8,14 +8,15 @@ use Rattle.op_outside.specs.Outside.{Files}
 use Rattle.c_tree.specs.Tree.{ProgramTree}
 use Rattle.bound_program.specs.Values.{BoundValue}
 use Rattle.kernel_types.specs.declared.kernels.Resolved.{Resolved}
-use Rattle.answers.specs.Refusal as answer
-use Rattle.answers.specs.Refusal.{Refusal, SourceBytes, MeshBytes, CannotRead}
-use Rattle.answers.specs.Lines as lines
-use Rattle.answers.specs.Lines.{most, refused}
-use Rattle.answers.specs.Words.{InFiles}
+use Rattle.command_words.specs.Refusal as answer
+use Rattle.command_words.specs.Refusal.{Refusal, SourceBytes, MeshBytes, CannotRead}
+use Rattle.answer_lines.specs.Lines as lines
+use Rattle.answer_lines.specs.Lines.{most, refused}
+use Rattle.command_words.specs.Words.{InFiles}
 use Rattle.answers.specs.Judgements.{IsHeld, SourceIs, FileIs, TreeIs, TypesAre}
 use Rattle.answers.specs.Answers.{given, without, BoundAnswers}
-use Rattle.answers.specs.Endings.{IsOfContents, no_files}
+use Rattle.answer_lines.specs.Lines.{IsOfContents}
+use Rattle.answers.specs.Endings.{no_files}
 use Rattle.answer_lines.specs.declared.call_answer.Answer.{Answer}
 use Rattle.answer_lines.specs.declared.refusals.Failure.TheVariants.{Unread, OutOfMemory}
 use Rattle.answer_lines.specs.declared.refusals.Halt.{Halt}

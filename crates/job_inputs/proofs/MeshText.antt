@@ -4,10 +4,10 @@ use Rattle.c_tree.specs.Tree.{ProgramTree}
 use Rattle.kernel_types.specs.declared.kernels.Resolved.{Resolved}
 use Rattle.mesh_text.specs.Spelling.{Named}
 use Rattle.bound_program.specs.Values.{BoundValue}
-use Rattle.answers.specs.Lines.{refused}
-use Rattle.answers.specs.Refusal.{Refusal}
+use Rattle.answer_lines.specs.Lines.{refused}
+use Rattle.command_words.specs.Refusal.{Refusal}
 use Rattle.answers.specs.Judgements.{EntriesAre, BoundIs, AccessesAre}
-use Rattle.answers.specs.Endings.{IsOfContents}
+use Rattle.answer_lines.specs.Lines.{IsOfContents}
 use Rattle.answer_lines.specs.declared.refusals.Halt.{Halt}
 use Rattle.answer_lines.specs.Halts.{SpoiltWhere}
 use Rattle.job_inputs.specs.Chains.{Never, TextOver}

@@ -16,9 +16,9 @@ use Rattle.bound_program.specs.Values.{BoundValue, SiteValue, site_of, no_site}
 use Rattle.bound_program.specs.Fits.{Fits, SiteFits, ArgFits, TakesArgs}
 use Rattle.run_model.specs.Kernels.{kernel_at}
 use Rattle.run_model.specs.Arguments.{mode_of, modes_of, arg_width}
-use Rattle.answers.specs.Refusal as answer
+use Rattle.command_words.specs.Refusal as answer
 use Rattle.answers.specs.Judgements.{AccessesAre, IsFirstSite, SiteObeys, SiteRefuses}
-use Rattle.answers.specs.Endings.{IsOfContents}
+use Rattle.answer_lines.specs.Lines.{IsOfContents}
 use Rattle.answer_lines.specs.declared.refusals.Halt.{Halt}
 use Rattle.answer_lines.specs.Halts.{SpoiltWhere}
 use Rattle.job_inputs.specs.Inputs.{IsAccessRefusal}

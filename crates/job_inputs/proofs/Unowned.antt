@@ -6,10 +6,10 @@ use Rattle.distribute.specs.declared.types.OwnersRefusal.{OwnersRefusal as Unown
 use Rattle.distribute.specs.declared.types.OwnersRefusal.TheVariants as unowned
 use Rattle.distribute.specs.Judgements.{OwnersAre}
 use Rattle.bound_program.specs.Values.{BoundValue}
-use Rattle.answers.specs.Refusal.{PartitionBytes}
-use Rattle.answers.specs.Words.{Parting, ByFile, Options}
+use Rattle.command_words.specs.Refusal.{PartitionBytes}
+use Rattle.command_words.specs.Words.{Parting, ByFile, Options}
 use Rattle.answers.specs.Said.{SaysOwners}
-use Rattle.answers.specs.Endings.{IsOfContents}
+use Rattle.answer_lines.specs.Lines.{IsOfContents}
 use Rattle.answers.specs.Judgements.{IsHeld, OwnersOf}
 use Rattle.answer_lines.specs.declared.refusals.Failure.TheVariants.{OutOfMemory}
 use Rattle.answer_lines.specs.declared.refusals.Halt.{Halt}

@@ -2,12 +2,13 @@
 use Rattle.std.proofs.Common.{ℕ, List, Err}
 use Rattle.c_tree.specs.Tree.{ProgramTree}
 use Rattle.c_tree.specs.Reads.{Reads, Deep}
-use Rattle.c_reader.specs.declared.refusals.SourceRefusal.{SourceRefusal}
-use Rattle.c_reader.specs.declared.refusals.SourceRefusal.TheVariants as source
-use Rattle.c_reader.specs.Answered.{place_at, CanRefuse, IsTree, IsRefusal}
+use Rattle.c_tree.specs.declared.refusals.SourceRefusal.{SourceRefusal}
+use Rattle.c_tree.specs.declared.refusals.SourceRefusal.TheVariants as source
+use Rattle.c_reader.specs.Answered.{IsTree, IsRefusal}
+use Rattle.c_tree.specs.Refused.{place_at, CanRefuse}
 use Rattle.answers.specs.Judgements.{IsUnread, TreeIs}
 use Rattle.answers.specs.Said.{SaysSource}
-use Rattle.answers.specs.Endings.{IsOfContents}
+use Rattle.answer_lines.specs.Lines.{IsOfContents}
 use Rattle.answer_lines.specs.declared.refusals.Halt.{Halt}
 use Rattle.answer_lines.specs.Halts.{SpoiltWhere}
 use Rattle.answer_lines.proofs.Halts.{stops_weaker}

@@ -5,9 +5,9 @@ use Rattle.op_outside.specs.Outside.{Files}
 use Rattle.c_tree.specs.Tree.{ProgramTree}
 use Rattle.kernel_types.specs.declared.kernels.Resolved.{Resolved}
 use Rattle.bound_program.specs.Values.{BoundValue}
-use Rattle.answers.specs.Refusal.{CannotRead}
-use Rattle.answers.specs.Lines as lines
-use Rattle.answers.specs.Lines.{refused}
+use Rattle.command_words.specs.Refusal.{CannotRead}
+use Rattle.answer_lines.specs.Lines as lines
+use Rattle.answer_lines.specs.Lines.{refused}
 use Rattle.answers.specs.Judgements.{FileIs, EntriesAre, BoundIs, AccessesAre}
 use Rattle.answers.specs.Answers.{given, without}
 use Rattle.answers.specs.Endings.{IsSomeAnswer, no_files}

@@ -12,11 +12,11 @@ use Rattle.name_resolution.specs.Programs.{Resolves}
 use Rattle.mesh_text.specs.Spelling.{Named}
 use Rattle.distribute.specs.Parts.{Parts, Text}
 use Rattle.bound_program.specs.Values.{BoundValue}
-use Rattle.answers.specs.Refusal as answer
-use Rattle.answers.specs.Refusal.{PartitionBytes}
-use Rattle.answers.specs.Words.{Parting, ByRule, ByFile, Input, InFiles, OfSample}
+use Rattle.command_words.specs.Refusal as answer
+use Rattle.command_words.specs.Refusal.{PartitionBytes}
+use Rattle.command_words.specs.Words.{Parting, ByRule, ByFile, Input, InFiles, OfSample}
 use Rattle.answers.specs.Judgements.{IsHeld, SourceIs, TreeIs, TypesAre, MeshIs, EntriesAre, BoundIs, AccessesAre}
-use Rattle.answers.specs.Endings.{IsOfContents}
+use Rattle.answer_lines.specs.Lines.{IsOfContents}
 use Rattle.answer_lines.specs.declared.refusals.Failure.TheVariants.{Unread, OutOfMemory}
 use Rattle.answer_lines.specs.declared.refusals.Halt.{Halt}
 use Rattle.answer_lines.specs.declared.refusals.Halt.TheVariants.{Refused, Failed}

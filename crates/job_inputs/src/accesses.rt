@@ -9,7 +9,7 @@ ghost use Rattle.access_check.specs.Refusals.{Refuses};
 ghost use Rattle.bound_program.specs.Values.{bound_of, site_of};
 ghost use Rattle.bound_program.specs.Fits.{Fits, SiteFits, ArgFits};
 ghost use Rattle.run_model.specs.Arguments as run;
-ghost use Rattle.answers.specs.Refusal.{BadAccess};
+ghost use Rattle.command_words.specs.Refusal.{BadAccess};
 ghost use Rattle.answers.specs.Judgements.{AccessesAre, SiteObeys, SiteRefuses};
 ghost use Rattle.answer_lines.specs.Halts.{SpoiltWhere};
 ghost use Rattle.job_inputs.specs.Inputs.{IsAccessRefusal};

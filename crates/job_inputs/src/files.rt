@@ -3,7 +3,7 @@
 ghost use Rattle.std.specs.Prelude.{◌≡◌, ◌≤◌, ◌<◌, ◌^◌, ◌↔◌, List, ℕ, Ok, IfOk, IfErr, IfSome, OnOk, vec_len};
 ghost use Rattle.op_outside.specs.Outside.{Rose};
 ghost use Rattle.answers.specs.Judgements.{IsHeld};
-ghost use Rattle.answers.specs.Lines.{most};
+ghost use Rattle.answer_lines.specs.Lines.{most};
 ghost use Rattle.answer_lines.specs.Halts.{limit_of};
 ghost use Rattle.job_inputs.specs.Inputs.{UnreadWhere};
 

@@ -6,7 +6,7 @@ ghost use Rattle.mesh_text.specs.Spelling.{Spells};
 ghost use Rattle.mesh_text.specs.declared.entry.TheConstants.{MESH_BYTES};
 ghost use Rattle.bound_program.specs.Values as values;
 ghost use Rattle.bound_program.specs.Fits.{Fits};
-ghost use Rattle.answers.specs.Refusal as answer;
+ghost use Rattle.command_words.specs.Refusal as answer;
 ghost use Rattle.answers.specs.Judgements.{EntriesAre, BoundIs};
 ghost use Rattle.answers.specs.Said as said;
 ghost use Rattle.answers.specs.Said.{SaysMesh, SaysBinding, maps_in, map_name};

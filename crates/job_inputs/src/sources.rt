@@ -4,7 +4,7 @@ ghost use Rattle.std.specs.Prelude.{◌≡◌, ◌≤◌, Ok, Err, length, IfOk,
 ghost use Rattle.c_tree.specs.View.{program_of};
 ghost use Rattle.answers.specs.Judgements.{TreeIs, TypesAre};
 ghost use Rattle.answers.specs.Said.{SaysLex, SaysSource, SaysTypes};
-ghost use Rattle.answers.specs.declared.limits.TheConstants.{SOURCE_BYTES};
+ghost use Rattle.answer_lines.specs.declared.limits.TheConstants.{SOURCE_BYTES};
 ghost use Rattle.answer_lines.specs.Halts.{SpoiltWhere};
 
 use answer_lines::{Failure, Halt, Refusal};

@@ -1,6 +1,7 @@
 pub mod Coded
 pub mod Codes
 pub mod Emitted
+pub mod Law
 pub mod Parts
 pub mod Sizes
 pub mod Slots

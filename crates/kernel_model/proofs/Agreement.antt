@@ -1,5 +1,5 @@
 -- What two runs of one kernel agree on while they go on.
-use Rattle.std.proofs.Common.{◌≡◌, ℕ, ℤ, pos, negsuc, ◌+◌, ◌<◌, List, [], length, Option, Some, None, Bool, true, false, cond, refl, sym, ap, ◌∙◌, subst, inl, inr, arith, ◌+ℤ◌, ◌-ℤ◌, FitsSigned}
+use Rattle.std.proofs.Common.{◌≡◌, ◌≢◌, ℕ, ℤ, pos, negsuc, ◌+◌, ◌<◌, List, [], length, Option, Some, None, Bool, true, false, cond, refl, sym, ap, ◌∙◌, subst, inl, inr, arith, ◌+ℤ◌, ◌-ℤ◌, FitsSigned}
 use Rattle.std.specs.Prelude.{slice_index_or, neg_ℤ}
 use Rattle.std.proofs.lemmas.Int.{int_wrap-add_left, int_wrap-add_right, ints}
 use Rattle.std.specs.Int.{int_wrap, w32}
@@ -9,7 +9,7 @@ use Rattle.kernel_model.specs.Numbers.{sum, difference}
 use Rattle.kernel_model.specs.Meaning.{Store, Target, target_at, read_arg, store_arg}
 use Rattle.reductions.specs.Access.{OpRead, OpWrite, OpRw, OpReduce}
 use Rattle.kernel_model.specs.Obeys.{Mode, Assigned, HasAssigned, with_assigned}
-use Rattle.kernel_model.specs.Independence.{same_cell, access, dim, SameAliases, Alone, OnlyReduced, IsReducing}
+use Rattle.kernel_model.specs.Independence.{same_cell, access, dim, SameStoredAliases, Alone, OnlyReduced, IsReducing}
 use Rattle.kernel_model.proofs.Stores.{read_arg-store_arg, length-with_cell, length-array_with_cell, read-same_cell, same_cell_refl}
 
 -- a component that is equal in both runs
@@ -44,7 +44,7 @@ more_taken x d y =
     let e : (x +ℤ d) +ℤ neg_ℤ y ≡ x +ℤ (d -ℤ y) = omega (arith, ints) in
     n ∙ int_wrap-add_left w32 (x +ℤ d) (neg_ℤ y) ∙ ap (int_wrap w32) e ∙ sym (int_wrap-add_right w32 x (d -ℤ y))
 
-module _ (modes : List Mode) (ts us : List Target) (aliases : SameAliases modes ts us) (s0 t0 : Store) where
+module _ (modes : List Mode) (ts us : List Target) (aliases : SameStoredAliases modes ts us) (s0 t0 : Store) where
   -- what one amount changed in both runs
   abbrev pub Amount : Reduction → Store → Store → ℕ → ℕ → Type 0
   Amount r s t a i = (d : ℤ) × (read_arg ts s a i ≡ merged r (read_arg ts s0 a i) d) × (read_arg us t a i ≡ merged r (read_arg us t0 a i) d)
@@ -65,16 +65,16 @@ module _ (modes : List Mode) (ts us : List Target) (aliases : SameAliases modes 
     there_s : (b j : ℕ) → j < dim modes b → same_cell ts a i b j ≡ false → read_arg ts s' b j ≡ read_arg ts s b j
     there_t : (b j : ℕ) → j < dim modes b → same_cell ts a i b j ≡ false → read_arg us t' b j ≡ read_arg us t b j
 
-  module _ (before : Assigned) (a i : ℕ) (lt : i < dim modes a) (s t : Store) (ag : Agrees before s t) (x y : ℤ) where
+  module _ (before : Assigned) (a i : ℕ) (lt : i < dim modes a) (stores : access modes a ≢ OpRead) (s t : Store) (ag : Agrees before s t) (x y : ℤ) where
     both_stored : Stored a i s t (store_arg ts s a i x) (store_arg us t a i y) x y
     both_stored =
         let rs = λ (b j : ℕ). read_arg-store_arg ts s a i b j x (ag.arrays_s a i lt) (ag.cells_s a i lt) in
         let rt = λ (b j : ℕ). read_arg-store_arg us t a i b j y (ag.arrays_t a i lt) (ag.cells_t a i lt) in
         record {
           here_s = λ b j l e. rs b j ∙ ap (λ c. cond c x (read_arg ts s b j)) e;
-          here_t = λ b j l e. rt b j ∙ ap (λ c. cond c y (read_arg us t b j)) (sym (aliases a i b j lt l) ∙ e);
+          here_t = λ b j l e. rt b j ∙ ap (λ c. cond c y (read_arg us t b j)) (sym (aliases a i b j lt l stores) ∙ e);
           there_s = λ b j l e. rs b j ∙ ap (λ c. cond c x (read_arg ts s b j)) e;
-          there_t = λ b j l e. rt b j ∙ ap (λ c. cond c y (read_arg us t b j)) (sym (aliases a i b j lt l) ∙ e);
+          there_t = λ b j l e. rt b j ∙ ap (λ c. cond c y (read_arg us t b j)) (sym (aliases a i b j lt l stores) ∙ e);
         }
 
     -- the shape stays, and the rest is given
@@ -119,11 +119,11 @@ module _ (modes : List Mode) (ts us : List Target) (aliases : SameAliases modes 
   known_beside_inc before a b j ix e (known_write f h) = known_write f (not_assigned_inc before a b j ix e f h)
 
   -- one value is stored in both runs, not through a reducing argument
-  pub same_stored : (before : Assigned) (a i : ℕ) (ix : Option ℤ) (s t : Store) (v : ℤ) → i < dim modes a → (IsReducing modes (access modes a) → ⊥) → ((z : ℤ) → ix ≡ Some z → z ≡ pos i) → Agrees before s t → Agrees (with_assigned a ix before) (store_arg ts s a i v) (store_arg us t a i v)
-  same_stored before a i ix s t v lt nred hz ag = reshaped before a i lt s t ag v v (with_assigned a ix before) eqs sums mixes
+  pub same_stored : (before : Assigned) (a i : ℕ) (ix : Option ℤ) (s t : Store) (v : ℤ) → i < dim modes a → (IsReducing modes (access modes a) → ⊥) → access modes a ≢ OpRead → ((z : ℤ) → ix ≡ Some z → z ≡ pos i) → Agrees before s t → Agrees (with_assigned a ix before) (store_arg ts s a i v) (store_arg us t a i v)
+  same_stored before a i ix s t v lt nred stores hz ag = reshaped before a i lt stores s t ag v v (with_assigned a ix before) eqs sums mixes
     where
       st : Stored a i s t (store_arg ts s a i v) (store_arg us t a i v) v v
-      st = both_stored before a i lt s t ag v v
+      st = both_stored before a i lt stores s t ag v v
 
       eqs : (b j : ℕ) → j < dim modes b → Known modes (with_assigned a ix before) b j → read_arg ts (store_arg ts s a i v) b j ≡ read_arg us (store_arg us t a i v) b j
       eqs b j l k = pick (same_cell ts a i b j) refl
@@ -148,8 +148,11 @@ module _ (modes : List Mode) (ts us : List Target) (aliases : SameAliases modes 
 
   -- one amount is merged in both runs through a reducing argument
   pub sum_stored : (r0 : Reduction) (before : Assigned) (a i : ℕ) (ix : Option ℤ) (s t : Store) (f : ℤ → ℤ) (g : ℤ → ℤ) → ((x d : ℤ) → f (merged r0 x d) ≡ merged r0 x (g d)) → i < dim modes a → access modes a ≡ OpReduce r0 → Agrees before s t → Agrees (with_assigned a ix before) (store_arg ts s a i (f (read_arg ts s a i))) (store_arg us t a i (f (read_arg us t a i)))
-  sum_stored r0 before a i ix s t f g fg lt inc ag = reshaped before a i lt s t ag x y (with_assigned a ix before) eqs sums mixes
+  sum_stored r0 before a i ix s t f g fg lt inc ag = reshaped before a i lt stores s t ag x y (with_assigned a ix before) eqs sums mixes
     where
+      stores : access modes a ≢ OpRead
+      stores r = let h : OpReduce r0 ≡ OpRead = sym inc ∙ r in cc
+
       x : ℤ
       x = f (read_arg ts s a i)
 
@@ -157,12 +160,12 @@ module _ (modes : List Mode) (ts us : List Target) (aliases : SameAliases modes 
       y = f (read_arg us t a i)
 
       st : Stored a i s t (store_arg ts s a i x) (store_arg us t a i y) x y
-      st = both_stored before a i lt s t ag x y
+      st = both_stored before a i lt stores s t ag x y
 
       one_way : (b j : ℕ) → j < dim modes b → same_cell ts a i b j ≡ true → read_arg ts s b j ≡ read_arg us t b j → read_arg ts (store_arg ts s a i x) b j ≡ read_arg us (store_arg us t a i y) b j
       one_way b j l e old =
           let p = read-same_cell ts s a i b j e in
-          let q = read-same_cell us t a i b j (sym (aliases a i b j lt l) ∙ e) in
+          let q = read-same_cell us t a i b j (sym (aliases a i b j lt l stores) ∙ e) in
           st.here_s b j l e ∙ ap f (p ∙ old ∙ sym q) ∙ sym (st.here_t b j l e)
 
       eqs : (b j : ℕ) → j < dim modes b → Known modes (with_assigned a ix before) b j → read_arg ts (store_arg ts s a i x) b j ≡ read_arg us (store_arg us t a i y) b j
@@ -184,7 +187,7 @@ module _ (modes : List Mode) (ts us : List Target) (aliases : SameAliases modes 
           pick : (c : Bool) → same_cell ts a i b j ≡ c → Amount r (store_arg ts s a i x) (store_arg us t a i y) b j
           pick true e =
               let p = read-same_cell ts s a i b j e in
-              let q = read-same_cell us t a i b j (sym (aliases a i b j lt l) ∙ e) in
+              let q = read-same_cell us t a i b j (sym (aliases a i b j lt l stores) ∙ e) in
               let both : OpReduce r0 ≡ OpReduce r = sym inc ∙ alone a i lt e in
               let eq : r0 ≡ r = cc in
               let m0 = subst (λ k. Amount k s t b j) (sym eq) m in

@@ -10,7 +10,7 @@ use Rattle.kernel_model.specs.Numbers.{is_zero}
 use Rattle.kernel_model.specs.Meaning.{Store, Target, target_at, read_arg, index_in, value_of, Outcome, Done, Faulted, stored, turns, meaning, meaning_of_all, without_locals}
 use Rattle.reductions.specs.Access.{OpRead, OpWrite, OpRw}
 use Rattle.kernel_model.specs.Obeys.{Mode, Counters, no_counters, with_counter, Event, ExprPath, expr_events, EachTurn, Path, RowPath, turn_events, events, row_events, Assigned, AllAllowed, assigned_after, AllWritten}
-use Rattle.kernel_model.specs.Independence.{access, dim, SameAliases, Alone, SameRuns, Independence}
+use Rattle.kernel_model.specs.Independence.{access, dim, SameStoredAliases, Alone, SameRuns, Independence, StoredIndependence}
 use Rattle.kernel_model.proofs.Paths.{some_expr_path, some_path, some_row_path, each_turn, allowed_front, allowed_back, assigned_after-append, expr_keeps, after_expr}
 use Rattle.kernel_model.proofs.Locals.{kept}
 use Rattle.kernel_model.proofs.Static.{Free, Held, held_set, held_counter, free_counter, stores_both, stores_free}
@@ -19,7 +19,7 @@ use Rattle.kernel_model.proofs.SameValues.{expr_same}
 use Rattle.kernel_model.proofs.SameStores.{Ends, ends_weaker, ends_then, ends_value, ends_cond}
 use Rattle.kernel_model.proofs.SameAssignments.{set_arg}
 
-module _ (modes : List Mode) (consts : List ℤ) (ts us : List Target) (aliases : SameAliases modes ts us) (s0 t0 : Store) (counts_s : (a : ℕ) → (target_at ts a).count ≡ dim modes a) (counts_t : (a : ℕ) → (target_at us a).count ≡ dim modes a) where
+module _ (modes : List Mode) (consts : List ℤ) (ts us : List Target) (aliases : SameStoredAliases modes ts us) (s0 t0 : Store) (counts_s : (a : ℕ) → (target_at ts a).count ≡ dim modes a) (counts_t : (a : ℕ) → (target_at us a).count ≡ dim modes a) where
   abbrev Agree : Assigned → Store → Store → Type 0
   Agree before s t = Agrees modes ts us aliases s0 t0 before s t
 
@@ -102,8 +102,8 @@ module _ (modes : List Mode) (consts : List ℤ) (ts us : List Target) (aliases 
 
 -- ---- the law
 
-pub independence : Independence
-independence k modes consts ts us s t resolved obeys su tu aliases inputs =
+pub stored_independence : StoredIndependence
+stored_independence k modes consts ts us s t resolved obeys su tu aliases inputs =
     finish (meaning ts consts k.body.statement s (replicate k.scratch (pos 0))) (meaning us consts k.body.statement t (replicate k.scratch (pos 0)))
     (stmt_same modes consts ts us aliases s t su.counts tu.counts k.params k.scratch k.body.statement no_counters [] s t (replicate k.scratch (pos 0)) resolved.within resolved.counters (stores_free k.body.statement) (length-replicate k.scratch (pos 0), λ j v e. absurd (let f : ⊥ = cc in f)) start (λ w. (obeys w).0))
   where
@@ -143,3 +143,7 @@ independence k modes consts ts us s t resolved obeys su tu aliases inputs =
     finish (Faulted s' ls f) (Faulted t' ms g) h = h
     finish (Done s' ls) (Faulted t' ms g) h = absurd h
     finish (Faulted s' ls f) (Done t' ms) h = absurd h
+
+pub independence : Independence
+independence k modes consts ts us s t resolved obeys su tu aliases inputs =
+    stored_independence k modes consts ts us s t resolved obeys su tu (λ a i b j a_lt b_lt stores. aliases a i b j a_lt b_lt) inputs

@@ -16,7 +16,7 @@ use Rattle.kernel_model.specs.Meaning.{Store, Target, target_at, read_arg, store
 use Rattle.reductions.specs.Access.{Access, OpReduce}
 use Rattle.kernel_model.specs.Obeys.{Mode, Counters, static, Event, Reads, Assigns, Owns, Merges, ExprPath, expr_events, store_event, Assigned, MayRead, MayAssign, MayOwn, MayMerge, is_place, Own, Neither, First, Second, own_side, own_events, right_events, target_event, Allowed, with_assigned, AllAllowed, assigned_after}
 use Rattle.kernel_model.specs.SameTokens.{same_form, same_tokens}
-use Rattle.kernel_model.specs.Independence.{access, dim, SameAliases}
+use Rattle.kernel_model.specs.Independence.{access, dim, SameStoredAliases}
 use Rattle.kernel_model.proofs.Paths.{some_expr_path, allowed_front, assigned_after-append, expr_keeps, keeps_two, own_keeps, right_keeps, target_event_after, after_keeping, after_expr, keeping_both}
 use Rattle.kernel_model.proofs.Static.{Static, static_value, index_ok}
 use Rattle.kernel_model.proofs.Agreement.{Agrees, sum_stored, more_merged, merged_before}
@@ -24,7 +24,7 @@ use Rattle.kernel_model.proofs.Tokens.{same_value, and_left, and_right, index_ot
 use Rattle.kernel_model.proofs.SameValues.{expr_same}
 use Rattle.kernel_model.proofs.SameStores.{Ends, ends_value, store_same}
 
-module _ (modes : List Mode) (consts : List ℤ) (ts us : List Target) (aliases : SameAliases modes ts us) (s0 t0 : Store) (counts_s : (a : ℕ) → (target_at ts a).count ≡ dim modes a) (counts_t : (a : ℕ) → (target_at us a).count ≡ dim modes a) where
+module _ (modes : List Mode) (consts : List ℤ) (ts us : List Target) (aliases : SameStoredAliases modes ts us) (s0 t0 : Store) (counts_s : (a : ℕ) → (target_at ts a).count ≡ dim modes a) (counts_t : (a : ℕ) → (target_at us a).count ≡ dim modes a) where
   abbrev Agree : Assigned → Store → Store → Type 0
   Agree before s t = Agrees modes ts us aliases s0 t0 before s t
 

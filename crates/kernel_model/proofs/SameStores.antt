@@ -1,5 +1,5 @@
 -- How two runs end, and what one assignment to a cell makes of two stores that agree.
-use Rattle.std.proofs.Common.{◌≡◌, ℕ, ℤ, pos, ◌<◌, List, Option, Some, Result, Ok, Err, Bool, true, false, cond, refl, sym, ap, ◌∙◌, subst}
+use Rattle.std.proofs.Common.{◌≡◌, ◌≢◌, ℕ, ℤ, pos, ◌<◌, List, Option, Some, Result, Ok, Err, Bool, true, false, cond, refl, sym, ap, ◌∙◌, subst}
 use Rattle.c_lex.specs.declared.tokens.Pos.{Pos}
 use Rattle.c_tree.specs.declared.declarations.AssignOp.{AssignOp}
 use Rattle.c_tree.specs.declared.declarations.AssignOp.TheVariants as assign
@@ -9,12 +9,12 @@ use Rattle.kernel_model.specs.Numbers.{Value, sum, difference}
 use Rattle.kernel_model.specs.Meaning.{Store, Target, target_at, read_arg, store_arg, Outcome, Done, Faulted, then_do, with_value, stored}
 use Rattle.reductions.specs.Access.{Access, OpRead, OpWrite, OpRw, OpReduce}
 use Rattle.kernel_model.specs.Obeys.{Mode, store_event, Assigned, MayAssign, MayAdd, MayChange, Allowed, with_assigned}
-use Rattle.kernel_model.specs.Independence.{access, dim, SameAliases}
+use Rattle.kernel_model.specs.Independence.{access, dim, SameStoredAliases}
 use Rattle.kernel_model.proofs.Locals.{OnDone}
 use Rattle.kernel_model.proofs.Agreement.{Known, known_rw, Agrees, same_stored, sum_stored, more_added, more_taken}
 use Rattle.kernel_model.proofs.SameValues.{known_if_read}
 
-module _ (modes : List Mode) (consts : List ℤ) (ts us : List Target) (aliases : SameAliases modes ts us) (s0 t0 : Store) (counts_s : (a : ℕ) → (target_at ts a).count ≡ dim modes a) (counts_t : (a : ℕ) → (target_at us a).count ≡ dim modes a) where
+module _ (modes : List Mode) (consts : List ℤ) (ts us : List Target) (aliases : SameStoredAliases modes ts us) (s0 t0 : Store) (counts_s : (a : ℕ) → (target_at ts a).count ≡ dim modes a) (counts_t : (a : ℕ) → (target_at us a).count ≡ dim modes a) where
   abbrev Agree : Assigned → Store → Store → Type 0
   Agree before s t = Agrees modes ts us aliases s0 t0 before s t
 
@@ -55,25 +55,25 @@ module _ (modes : List Mode) (consts : List ℤ) (ts us : List Target) (aliases 
     abbrev StoreEnds : Value → Value → Type 0
     StoreEnds x y = Ends Q (with_value s ls x (λ r. Done (store_arg ts s a i r) ls)) (with_value t ls y (λ r. Done (store_arg us t a i r) ls))
 
-    one_value : (acc : Access) (x y : Value) → access modes a ≡ acc → ((r : Reduction) → acc ≡ OpReduce r → ⊥) → x ≡ y → StoreEnds x y
-    one_value acc x y f n e =
+    one_value : (acc : Access) (x y : Value) → access modes a ≡ acc → ((r : Reduction) → acc ≡ OpReduce r → ⊥) → acc ≢ OpRead → x ≡ y → StoreEnds x y
+    one_value acc x y f n m e =
         ends_value Q s t ls x y (λ r. Done (store_arg ts s a i r) ls) (λ r. Done (store_arg us t a i r) ls) e
-        (λ v g. (with_assigned a ix before, q, refl, same_stored modes ts us aliases s0 t0 before a i ix s t v lt (λ red. n red.0 (sym f ∙ red.1)) hz ag))
+        (λ v g. (with_assigned a ix before, q, refl, same_stored modes ts us aliases s0 t0 before a i ix s t v lt (λ red. n red.0 (sym f ∙ red.1)) (λ r. m (sym f ∙ r)) hz ag))
 
     plain_store : (acc : Access) (v : ℤ) → access modes a ≡ acc → MayAssign acc (dim modes a) a ix before → StoreEnds (Ok v) (Ok v)
     plain_store OpRead v e m = absurd m
-    plain_store OpRw v e m = one_value OpRw (Ok v) (Ok v) e (λ r f. cc) refl
-    plain_store OpWrite v e m = one_value OpWrite (Ok v) (Ok v) e (λ r f. cc) refl
+    plain_store OpRw v e m = one_value OpRw (Ok v) (Ok v) e (λ r f. cc) (λ f. cc) refl
+    plain_store OpWrite v e m = one_value OpWrite (Ok v) (Ok v) e (λ r f. cc) (λ f. cc) refl
     plain_store (OpReduce r) v e m = absurd m
 
     -- a store over an old value that is the same in both runs
-    over_known : (acc : Access) (op : AssignOp) (opat : Pos) (v : ℤ) → access modes a ≡ acc → ((r : Reduction) → acc ≡ OpReduce r → ⊥) → Known modes before a i → StoreEnds (stored op opat (read_arg ts s a i) v) (stored op opat (read_arg us t a i) v)
-    over_known acc op opat v e n k = one_value acc _ _ e n (ap (λ o. stored op opat o v) (ag.known a i lt k))
+    over_known : (acc : Access) (op : AssignOp) (opat : Pos) (v : ℤ) → access modes a ≡ acc → ((r : Reduction) → acc ≡ OpReduce r → ⊥) → acc ≢ OpRead → Known modes before a i → StoreEnds (stored op opat (read_arg ts s a i) v) (stored op opat (read_arg us t a i) v)
+    over_known acc op opat v e n m k = one_value acc _ _ e n m (ap (λ o. stored op opat o v) (ag.known a i lt k))
 
     change_store : (acc : Access) (op : AssignOp) (opat : Pos) (v : ℤ) → access modes a ≡ acc → MayChange acc (dim modes a) a ix before → StoreEnds (stored op opat (read_arg ts s a i) v) (stored op opat (read_arg us t a i) v)
     change_store OpRead op opat v e m = absurd m
-    change_store OpRw op opat v e m = over_known OpRw op opat v e (λ r f. cc) (known_rw e)
-    change_store OpWrite op opat v e m = over_known OpWrite op opat v e (λ r f. cc) (known_if_read modes consts ts us aliases s0 t0 counts_s counts_t OpWrite a i ix before e m hz)
+    change_store OpRw op opat v e m = over_known OpRw op opat v e (λ r f. cc) (λ f. cc) (known_rw e)
+    change_store OpWrite op opat v e m = over_known OpWrite op opat v e (λ r f. cc) (λ f. cc) (known_if_read modes consts ts us aliases s0 t0 counts_s counts_t OpWrite a i ix before e m hz)
     change_store (OpReduce r) op opat v e m = absurd m
 
     add_store : (acc : Access) (opat : Pos) (v : ℤ) → access modes a ≡ acc → MayAdd acc (dim modes a) a ix before → StoreEnds (stored assign.Add opat (read_arg ts s a i) v) (stored assign.Add opat (read_arg us t a i) v)

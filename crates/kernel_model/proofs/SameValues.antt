@@ -10,12 +10,12 @@ use Rattle.kernel_model.specs.Numbers.{Value, fault, truth, is_zero, not, is_set
 use Rattle.kernel_model.specs.Meaning.{Store, Target, target_at, read_arg, and_then, index_in, value_of}
 use Rattle.reductions.specs.Access.{Access, OpRead, OpWrite, OpRw, OpReduce}
 use Rattle.kernel_model.specs.Obeys.{Mode, Counters, static, Reads, ExprPath, taken_if, expr_events, Assigned, HasAssigned, MayRead, AllAllowed}
-use Rattle.kernel_model.specs.Independence.{access, dim, SameAliases}
+use Rattle.kernel_model.specs.Independence.{access, dim, SameStoredAliases}
 use Rattle.kernel_model.proofs.Paths.{some_if, taken, taken_if-taken, some_expr_path, allowed_front, after_expr}
 use Rattle.kernel_model.proofs.Static.{Static, static_value}
 use Rattle.kernel_model.proofs.Agreement.{Known, known_read, known_rw, known_write, Agrees}
 
-module _ (modes : List Mode) (consts : List ℤ) (ts us : List Target) (aliases : SameAliases modes ts us) (s0 t0 : Store) (counts_s : (a : ℕ) → (target_at ts a).count ≡ dim modes a) (counts_t : (a : ℕ) → (target_at us a).count ≡ dim modes a) where
+module _ (modes : List Mode) (consts : List ℤ) (ts us : List Target) (aliases : SameStoredAliases modes ts us) (s0 t0 : Store) (counts_s : (a : ℕ) → (target_at ts a).count ≡ dim modes a) (counts_t : (a : ℕ) → (target_at us a).count ≡ dim modes a) where
   abbrev Agree : Assigned → Store → Store → Type 0
   Agree before s t = Agrees modes ts us aliases s0 t0 before s t
 

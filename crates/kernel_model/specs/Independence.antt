@@ -1,5 +1,5 @@
 -- What a kernel that obeys its modes does to two stores, and what any kernel keeps.
-use Rattle.std.specs.Prelude.{◌≡◌, ℕ, ℤ, pos, ◌+◌, ◌<◌, List, [], length, Bool, true, ◌&&◌, ◌⊎◌, nat_eq, slice_index_or, FitsSigned}
+use Rattle.std.specs.Prelude.{◌≡◌, ◌≢◌, ℕ, ℤ, pos, ◌+◌, ◌<◌, List, [], length, Bool, true, ◌&&◌, ◌⊎◌, nat_eq, slice_index_or, FitsSigned}
 use Rattle.std.specs.Int.{w32}
 use Rattle.reductions.specs.Reduction.{Reduction, merged}
 use Rattle.kernel_types.specs.declared.kernels.RKernel.{RKernel}
@@ -45,6 +45,11 @@ module _ (modes : List Mode) where
   abbrev pub SameAliases : List Target → List Target → Type 0
   SameAliases ts us = (a i b j : ℕ) → i < dim a → j < dim b → same_cell ts a i b j ≡ same_cell us a i b j
 
+  -- the same pairs of components are one cell, where the first is of an argument that isn't OP_READ
+  abbrev pub SameStoredAliases : List Target → List Target → Type 0
+  SameStoredAliases ts us =
+      (a i b j : ℕ) → i < dim a → j < dim b → access a ≢ OpRead → same_cell ts a i b j ≡ same_cell us a i b j
+
   -- equal where OP_READ or OP_RW arguments reach
   abbrev pub SameInputs : List Target → List Target → Store → Store → Type 0
   SameInputs ts us s t =
@@ -88,6 +93,14 @@ Independence =
     (k : RKernel) (modes : List Mode) (consts : List ℤ) (ts us : List Target) (s t : Store)
     → IsResolved (length consts) k → KernelObeys k modes
     → Suits modes ts s → Suits modes us t → SameAliases modes ts us → SameInputs modes ts us s t
+    → SameRuns modes ts us s t (kernel_meaning ts consts k s) (kernel_meaning us consts k t)
+
+-- the same, where the aliases of OP_READ arguments among each other may differ
+abbrev pub StoredIndependence : Type 0
+StoredIndependence =
+    (k : RKernel) (modes : List Mode) (consts : List ℤ) (ts us : List Target) (s t : Store)
+    → IsResolved (length consts) k → KernelObeys k modes
+    → Suits modes ts s → Suits modes us t → SameStoredAliases modes ts us → SameInputs modes ts us s t
     → SameRuns modes ts us s t (kernel_meaning ts consts k s) (kernel_meaning us consts k t)
 
 -- ---- cells that stay

@@ -1,6 +1,6 @@
 // The laws of kernels, each as the contract of a function that does nothing.
 
-ghost use Rattle.kernel_model.specs.Independence.{Independence, OthersStay, RangeStays, ReadsStay, ShapeStays, Transport};
+ghost use Rattle.kernel_model.specs.Independence.{Independence, OthersStay, RangeStays, ReadsStay, ShapeStays, StoredIndependence, Transport};
 ghost use Rattle.kernel_model.specs.Operators.{OperatorsStayInRange};
 ghost use Rattle.kernel_model.specs.Refusals.{ObeysUnlessBroken, OneRefusal};
 ghost use Rattle.kernel_model.specs.StoredThrough.{UnstoredStay};
@@ -11,6 +11,11 @@ ghost use Rattle.kernel_model.specs.Walk.{WalkFinds};
 /// arguments reach, a kernel that obeys its modes has the same fault or none, and without one makes the same changes.
 pub fn independence()
     ensures { Independence }
+{}
+
+/// A law: the same where the aliases of OP_READ arguments among each other differ: no kernel that obeys its modes can tell.
+pub fn stored_independence()
+    ensures { StoredIndependence }
 {}
 
 /// A law: over copies of the cells that its arguments reach, any kernel has the same fault or none, and leaves copies,

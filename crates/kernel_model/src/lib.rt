@@ -5,5 +5,5 @@ mod laws;
 
 pub use laws::{
     independence, kernels_are_trees, operators_stay_in_range, others_stay, range_stays, reads_stay,
-    rules_are_broken, shape_stays, transport, unstored_stay, walk_finds,
+    rules_are_broken, shape_stays, stored_independence, transport, unstored_stay, walk_finds,
 };

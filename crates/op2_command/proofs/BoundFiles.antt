@@ -5,10 +5,10 @@ use Rattle.std.specs.Str.{bytes_eq}
 use Rattle.std.proofs.lemmas.Slice.Eq.{bytes_eq-Decides}
 use Rattle.op_outside.specs.Outside.{Files}
 use Rattle.bound_program.specs.Values.{BoundValue}
-use Rattle.answers.specs.Refusal.{Refusal, CannotRead}
-use Rattle.answers.specs.Lines as lines
-use Rattle.answers.specs.Lines.{refused}
-use Rattle.answers.specs.Words.{Input, InFiles, OfSample, names_from}
+use Rattle.command_words.specs.Refusal.{Refusal, CannotRead}
+use Rattle.answer_lines.specs.Lines as lines
+use Rattle.answer_lines.specs.Lines.{refused}
+use Rattle.command_words.specs.Words.{Input, InFiles, OfSample, names_from}
 use Rattle.answers.specs.Judgements.{SourceIs, MeshIs, TreeIs, TypesAre, EntriesAre, BoundIs, AccessesAre}
 use Rattle.answers.specs.Answers.{given, without, BoundAnswers}
 use Rattle.answers.specs.Endings.{no_files}

@@ -1,10 +1,10 @@
 -- From the parts of the chain of judgements to the answer to the words.
 use Rattle.std.proofs.Common.{ℕ, inl, inr, List, [], ◌∷◌, Option, None, Some, Result, Ok, Err, IfOk, refl, ap, sym, subst}
 use Rattle.op_outside.specs.Outside.{Files}
-use Rattle.answers.specs.Refusal.{CannotRead}
-use Rattle.answers.specs.Lines as lines
-use Rattle.answers.specs.Lines.{refused}
-use Rattle.answers.specs.Words.{Command, WordsAre, names_of, named_by, names_in}
+use Rattle.command_words.specs.Refusal.{CannotRead}
+use Rattle.answer_lines.specs.Lines as lines
+use Rattle.answer_lines.specs.Lines.{refused}
+use Rattle.command_words.specs.Words.{Command, WordsAre, names_of, named_by, names_in}
 use Rattle.answers.specs.Answers.{without, CommandAnswers, Answers}
 use Rattle.answers.specs.Endings.{Tells, TellsUntold, no_files}
 use Rattle.answer_lines.specs.declared.call_answer.Answer.{Answer}

@@ -1,7 +1,7 @@
 -- How a call ends.
 use Rattle.std.proofs.Common.{◌≡◌, ℕ, inl, inr, Err}
 use Rattle.op_outside.specs.Outside.{Rose}
-use Rattle.answers.specs.Lines.{Answer}
+use Rattle.answer_lines.specs.Lines.{Answer}
 use Rattle.answers.specs.Endings as ending
 use Rattle.answers.specs.Endings.{Answered, Unwritten, Call, Ends, IsReported, Tells, ending_status, ending_line}
 use Rattle.answers.specs.Endings.{IsComplete, IsUsage, IsShown, AreReported, IsSilent}

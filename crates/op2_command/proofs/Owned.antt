@@ -9,10 +9,10 @@ use Rattle.mesh_decl.specs.declared.owners.Owners.{Owners}
 use Rattle.mesh_decl.specs.declared.owners.Perms.{Perms}
 use Rattle.bound_program.specs.Values.{BoundValue}
 use Rattle.bound_program.specs.Fits.{Fits}
-use Rattle.answers.specs.Refusal.{Limit, Refusal, SourceBytes, MeshBytes, PartitionBytes, CannotRead}
-use Rattle.answers.specs.Lines as lines
-use Rattle.answers.specs.Lines.{most, refused}
-use Rattle.answers.specs.Words.{PlanJob, Parting, ByRule, ByFile, Options, Input, InFiles, OfSample, names_from, names_by, names_at}
+use Rattle.command_words.specs.Refusal.{Limit, Refusal, SourceBytes, MeshBytes, PartitionBytes, CannotRead}
+use Rattle.answer_lines.specs.Lines as lines
+use Rattle.answer_lines.specs.Lines.{most, refused}
+use Rattle.command_words.specs.Words.{PlanJob, Parting, ByRule, ByFile, Options, Input, InFiles, OfSample, names_from, names_by, names_at}
 use Rattle.answers.specs.Judgements.{IsHeld, NumbersOf, PartsOf, OwnersOf}
 use Rattle.answers.specs.Answers.{PlannedAnswers, without}
 use Rattle.answer_lines.specs.declared.call_answer.Answer.{Answer}

@@ -19,11 +19,12 @@ use Rattle.halo_lists.specs.Halos.{AreHalos}
 use Rattle.schedule_steps.specs.declared.step.Step.{Step}
 use Rattle.schedule_steps.specs.Standard.{standard}
 use Rattle.schedule_steps.specs.Drawn.{IsDrawn}
-use Rattle.answers.specs.Refusal.{ScheduleBytes, Steps, CannotRead, BeyondLimit}
-use Rattle.answers.specs.Lines as lines
-use Rattle.answers.specs.Lines.{most, refused}
-use Rattle.answers.specs.Words.{PlanJob, Check, ShowsPlan, ShowsSchedule, RunsPlan, Standard, Drawn, Written, Options, group_of, names_at}
-use Rattle.answers.specs.Endings.{IsOfContents, IsSomeAnswer}
+use Rattle.command_words.specs.Refusal.{ScheduleBytes, Steps, CannotRead, BeyondLimit}
+use Rattle.answer_lines.specs.Lines as lines
+use Rattle.answer_lines.specs.Lines.{most, refused}
+use Rattle.command_words.specs.Words.{PlanJob, Check, ShowsPlan, ShowsSchedule, RunsPlan, Standard, Drawn, Written, Options, group_of, names_at}
+use Rattle.answer_lines.specs.Lines.{IsOfContents}
+use Rattle.answers.specs.Endings.{IsSomeAnswer}
 use Rattle.answers.specs.Judgements.{IsHeld, Planned, IsPlanned, HasManySteps, InStandardOrder, BySeed, ByText, OrderOf, outline_of}
 use Rattle.answers.specs.Judgements.{StepsOf, end_line, IsStepRefused}
 use Rattle.schedule_text.specs.declared.lines.Line.{Line}

@@ -3,7 +3,7 @@ use Rattle.std.proofs.Common.{ℕ, List, Result, Option, None, Some, Err, inl, i
 use Rattle.kernel_types.specs.declared.faults.KernelFault.{KernelFault}
 use Rattle.schedule_model.specs.Sequential.{Stop}
 use Rattle.bound_program.specs.Values.{BoundValue}
-use Rattle.answers.specs.Words.{PlanJob, Options, Input, names_from, names_by, names_at}
+use Rattle.command_words.specs.Words.{PlanJob, Options, Input, names_from, names_by, names_at}
 use Rattle.answers.specs.Answers.{ran, BoundAnswers, PlannedAnswers, PlanAnswers}
 use Rattle.answers.specs.Endings.{IsSomeAnswer}
 use Rattle.op_outside.specs.Outside.{Files}

@@ -17,10 +17,10 @@ use Rattle.loop_plan.specs.StepOutline.{step_outline}
 use Rattle.schedule_check.specs.declared.whole.Unaccepted.{Unaccepted}
 use Rattle.schedule_check.specs.Whole.{IsRefusedNext, IsUnaccepted}
 use Rattle.schedule_text.specs.declared.lines.Line.{Line}
-use Rattle.answers.specs.Refusal.{Refusal}
+use Rattle.command_words.specs.Refusal.{Refusal}
 use Rattle.answers.specs.Said.{SaysNext}
 use Rattle.answers.specs.Judgements.{steps_in, judged_next, IsStepRefused}
-use Rattle.answers.specs.Endings.{IsOfContents}
+use Rattle.answer_lines.specs.Lines.{IsOfContents}
 use Rattle.answer_lines.specs.declared.refusals.Halt.{Halt}
 use Rattle.answer_lines.specs.Halts.{SpoiltWhere}
 use Rattle.op2_command.specs.Chains.{SaysFirst}

@@ -11,10 +11,10 @@ use Rattle.distribute.specs.Distributions.{IsDistribution}
 use Rattle.bound_program.specs.Values.{BoundValue}
 use Rattle.schedule_text.specs.declared.lines.Line.{Line}
 use Rattle.step_judge.specs.declared.refusal.ScheduleRefusal.{ScheduleRefusal}
-use Rattle.answers.specs.Refusal.{Refusal, CannotRead}
-use Rattle.answers.specs.Lines as lines
-use Rattle.answers.specs.Lines.{refused}
-use Rattle.answers.specs.Words.{PlanJob, Parting, ByRule, ByFile, Options, group_of, Input}
+use Rattle.command_words.specs.Refusal.{Refusal, CannotRead}
+use Rattle.answer_lines.specs.Lines as lines
+use Rattle.answer_lines.specs.Lines.{refused}
+use Rattle.command_words.specs.Words.{PlanJob, Parting, ByRule, ByFile, Options, group_of, Input}
 use Rattle.answers.specs.Said.{SaysStep, SaysEnd}
 use Rattle.answers.specs.Judgements.{EntriesAre, Planned, PlanIs, Order, OrderOf, outline_of, StepsOf}
 use Rattle.answers.specs.Answers.{given, planned_answer, without}

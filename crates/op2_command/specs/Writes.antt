@@ -2,8 +2,8 @@
 use Rattle.std.specs.Prelude.{◌≡◌, ℕ, ◌⊎◌, List, Option, Result, Ok, Err}
 use Rattle.std.specs.List.{Contains}
 use Rattle.op_outside.specs.Outside.{Files, Rose, appended, AppendsFront}
-use Rattle.answers.specs.Lines as lines
-use Rattle.answers.specs.Words.{named_by}
+use Rattle.answer_lines.specs.Lines as lines
+use Rattle.command_words.specs.Words.{named_by}
 use Rattle.answers.specs.Endings as ending
 use Rattle.answers.specs.Endings.{Ending, unwritten_status, unwritten_line, Tells, Asks, IsWritten}
 use Rattle.answers.specs.Endings.{Call, Ends, IsComplete, IsUsage, IsShown, AreReported, IsSilent}

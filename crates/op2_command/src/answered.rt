@@ -3,8 +3,8 @@
 ghost use Rattle.std.specs.Prelude.{◌≡◌, ◌≤◌, [], ◌∷◌, ◌++◌, Ok, Err, All, map, length, string_bytes, option_map, IfOk, IfErr};
 ghost use Rattle.op_outside.specs.Outside.{Rose};
 ghost use Rattle.mesh_text.specs.declared.entry.TheConstants.{MESH_BYTES};
-ghost use Rattle.answers.specs.Words.{WordsAre, names_from, names_by, names_at, names_of, named_by};
-ghost use Rattle.answers.specs.Laws.{AreWithin};
+ghost use Rattle.command_words.specs.Words.{WordsAre, names_from, names_by, names_at, names_of, named_by};
+ghost use Rattle.command_words.specs.Laws.{AreWithin};
 ghost use Rattle.answers.specs.Answers.{PlanAnswers, ConvertAnswers, CommandAnswers, Answers};
 ghost use Rattle.command_words.specs.Values.{parting_in, options_in, job_in, input_in, command_of, IsInRange};
 ghost use Rattle.answer_lines.specs.Halts.{StopsWhere};
@@ -14,8 +14,9 @@ ghost use Rattle.op2_command.specs.Writes.{CallAnswers};
 
 use crate::plans::planned;
 use answer_lines::{Answer, Failure, Halt, Limit, Refusal, done, refused};
-use answers::{USAGE, VERSION};
-use command_words::{Asked, Input, Options, Parting, PlanJob, WordsRefusal, read_words};
+use command_words::{
+    Asked, Input, Options, Parting, PlanJob, USAGE, VERSION, WordsRefusal, read_words,
+};
 use job_inputs::{bound_input, entries_of, file_of};
 use mesh_text::{Form, write_mesh};
 use op_outside::Shelf;

@@ -2,7 +2,7 @@
 
 ghost use Rattle.std.specs.Prelude.{◌≡◌, ◌++◌, codes, OnOk};
 ghost use Rattle.std.specs.Fmt.{decimal};
-ghost use Rattle.answers.specs.Lines.{at_place, fault_name, part_name, fault_line};
+ghost use Rattle.answer_lines.specs.Lines.{at_place, fault_name, part_name, fault_line};
 ghost use Rattle.rank_machine.specs.Stops.{stop_of};
 
 use answer_lines::{put_counted, put_named, put_placed};

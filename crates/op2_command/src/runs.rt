@@ -13,7 +13,7 @@ ghost use Rattle.schedule_check.specs.Mail.{plan_cells};
 ghost use Rattle.bound_plan.specs.Memories.{dump_of, run_output};
 ghost use Rattle.planned_run.specs.Orders.{InOrder, CanTake};
 ghost use Rattle.command_words.specs.Values.{options_in};
-ghost use Rattle.answers.specs.Laws.{AreWithin};
+ghost use Rattle.command_words.specs.Laws.{AreWithin};
 ghost use Rattle.answers.specs.Judgements.{AccessesAre};
 ghost use Rattle.answers.specs.Answers.{ran};
 ghost use Rattle.answer_lines.specs.Halts.{answer_of};

@@ -8,7 +8,7 @@ ghost use Rattle.loop_plan.specs.Proper.{Proper};
 ghost use Rattle.loop_plan.specs.StepOutline.{step_outline};
 ghost use Rattle.schedule_check.specs.Whole.{IsWhole};
 ghost use Rattle.schedule_text.specs.Reading.{Reads};
-ghost use Rattle.answers.specs.declared.limits.TheConstants.{SCHEDULE_BYTES};
+ghost use Rattle.answer_lines.specs.declared.limits.TheConstants.{SCHEDULE_BYTES};
 ghost use Rattle.answers.specs.Said.{SaysSchedule};
 ghost use Rattle.answers.specs.Judgements.{steps_in, end_line, IsTextRefused, IsStepRefused};
 ghost use Rattle.answer_lines.specs.Halts.{SpoiltWhere};

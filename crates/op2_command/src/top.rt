@@ -1,18 +1,18 @@
 // The whole of what the program does.
 
 ghost use Rattle.std.specs.Prelude.{◌≡◌, All, map, string_bytes};
-ghost use Rattle.answers.specs.Words.{named_by};
+ghost use Rattle.command_words.specs.Words.{named_by};
 ghost use Rattle.answers.specs.Endings.{ending_status, ending_line};
 ghost use Rattle.answer_lines.specs.Halts.{answer_of};
 ghost use Rattle.answer_lines.specs.Reports.{Stands};
 ghost use Rattle.op2_command.specs.Writes.{EndsAsDefined, Writes, ending_of};
 
 use crate::answered::answered;
-use answer_lines::{Answer, Failure, Line, report};
-use answers::{
+use answer_laws::{
     calls_are_complete, calls_report_their_answers, calls_show_their_answers, others_write_nothing,
     usage_is_of_words,
 };
+use answer_lines::{Answer, Failure, Line, report};
 use op_outside::{Shelf, Sink, write_all_of};
 use par_exec::{Gate, Open};
 use std::alloc::Global;

@@ -9,9 +9,11 @@ ghost use Rattle.std.specs.Prelude.{◌≡◌, ℕ, ℤ, ◌+◌, ◌*◌, ◌/�
 ghost use denote.Param.Send.{IsSync};
 ghost use Rattle.par_exec.specs.Windows.{replaced, EachWindow};
 
+mod parts;
 #[cfg(test)]
 mod tests;
 
+pub use parts::{PartJob, run_parts};
 use std::marker::Sync;
 use std::thread::{Threads, join_mut};
 

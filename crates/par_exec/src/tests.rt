@@ -1,7 +1,7 @@
 // What no clause says: that two threads run at once, and that the gate is told before each job.
-ghost use Rattle.std.specs.Prelude.{◌≡◌, ◌<◌, ◌*◌, ◌^◌, length, slice_set, pos};
+ghost use Rattle.std.specs.Prelude.{◌≡◌, ◌<◌, ◌+◌, ◌*◌, ◌^◌, length, slice_set, pos};
 
-use crate::{Gate, Job, Open, run_group};
+use crate::{Gate, Job, Open, PartJob, run_group, run_parts};
 use std::sync::atomic::{AtomicU64, Ordering};
 
 // Writes the number of a window into its first cell.
@@ -62,6 +62,34 @@ fn two_workers_meet(rt: HostRuntime) {
     for window in 0..64usize {
         assert_eq!(rt; cells[2 * window], window as i32);
         assert_eq!(rt; cells[2 * window + 1], 0);
+    }
+}
+
+// Adds the number of a part to it.
+struct Add;
+
+impl PartJob<u32> for Add {
+    ghost takes = { λ _ i x. i + x < 2 ^ 32 };
+
+    ghost makes = { λ _ i x y. y ≡ x + i };
+
+    fn run(&self, index: usize, part: &mut u32) {
+        *part += index as u32;
+    }
+}
+
+#[test]
+fn two_workers_meet_on_parts(rt: HostRuntime) {
+    let gate = Meeting {
+        first: AtomicU64::new(0),
+        last: AtomicU64::new(0),
+        seen: AtomicU64::new(0),
+    };
+    let mut parts = [7u32; 64];
+    run_parts(&rt, 2, &Add, &gate, &mut parts);
+    assert_eq!(rt; gate.seen.load(Ordering::SeqCst), 2);
+    for part in 0..64usize {
+        assert_eq!(rt; parts[part], 7 + part as u32);
     }
 }
 

@@ -4,3 +4,5 @@ mod Grouping
 pub mod Hosting
 mod Tasking
 pub mod AloneRuns
+pub mod Rounds
+pub mod AllShares

@@ -2,3 +2,4 @@ pub mod Driving
 pub mod Copies
 pub mod RunRooms
 pub mod Tasks
+pub mod Rounds

@@ -18,6 +18,7 @@ use crate::alone::run_alone;
 use crate::group_room::GroupRoom;
 use crate::group_steps::{load_all, open_all};
 use crate::run_room::{MOST_BEGINS, RunRoom};
+use crate::sharing::workers_for;
 use crate::stream::{Steps, next_of};
 use kernel_jobs::{Targets, Task, run_tasks};
 use kernel_types::KernelFault;
@@ -32,11 +33,12 @@ use std::marker::Sync;
 use std::thread::Threads;
 
 // Runs the kernel of the loop that is the item once for each task, on the first cells of the task's window of `staging`.
-// Behind them stands a 0 then, or a 1 where the run had a fault.
+// Behind them stands a 0 then, or a 1 where the run had a fault. The first task is that of `place`.
 fn run_all<R: Threads + Sync, G: Gate, K: Kernels>(
     rt: &R,
     kernels: &K,
     item: u32,
+    place: u32,
     tasks: &[Task],
     targets: &mut Vec<Targets>,
     constants: &[i32],
@@ -63,7 +65,16 @@ fn run_all<R: Threads + Sync, G: Gate, K: Kernels>(
     }
     kernels.put_targets(item, tasks, targets);
     let job = kernels.job(item, tasks, targets, constants);
+    let workers = workers_for(&job, place, workers);
     run_tasks(rt, &job, staging, window, workers, gate);
+}
+
+// The first place, or 0 where there is none.
+fn first_of(places: &[u32]) -> u32 {
+    match places {
+        [] => 0,
+        [first, ..] => *first,
+    }
 }
 
 // The begins of a group on windows of `window` cells of the staging buffer, with room for their tasks.
@@ -115,6 +126,7 @@ fn begin_tasks<R: Threads + Sync, G: Gate, P: Parts>(
         rt,
         parts,
         item,
+        first_of(places),
         tasks,
         targets,
         &room.constants,

@@ -9,7 +9,9 @@ mod group_steps;
 mod hosts;
 pub mod items;
 mod joins;
+pub mod laws;
 pub mod run_room;
+mod sharing;
 pub mod stream;
 
 pub use rank_machine::machine::Machine;

@@ -1,3 +1,6 @@
 pub mod FromIndex
 pub mod Values
 pub mod AloneRuns
+pub mod LeastOfThree
+pub mod FromNone
+pub mod OnRanks

@@ -2,9 +2,11 @@
 //! them, and what it reads of a program and its distribution.
 #![tactic(auto)]
 
+pub mod laws;
 pub mod machine;
 pub mod messages;
 pub mod parts;
+pub mod ranks;
 mod reduce;
 pub mod room;
 pub mod start;

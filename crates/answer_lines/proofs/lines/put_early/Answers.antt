@@ -1,6 +1,6 @@
 use Rattle.std.proofs.Common.{codes}
 use Rattle.std.specs.Fmt.{decimal}
-use Rattle.answers.specs.Lines.{step_name}
+use Rattle.answer_lines.specs.Lines.{step_name}
 use Rattle.answer_lines.proofs.StepLines.{early}
 use Rattle.answer_lines.proofs.lines.put_early.Goals as goal
 

@@ -1,13 +1,14 @@
 use Rattle.std.proofs.Common.{◌≡◌, sym, subst, Ok, Err, List}
 use Rattle.c_lex.specs.declared.tokens.Token.{Token}
 use Rattle.c_tree.specs.View.{program_of}
-use Rattle.c_reader.specs.Answered.{IsTree, IsRefusal, CanRefuse, place_at, refusal_of}
-use Rattle.c_reader.specs.declared.refusals.SourceRefusal.TheVariants.{Lex, TooDeep}
+use Rattle.c_reader.specs.Answered.{IsTree, IsRefusal, refusal_of}
+use Rattle.c_tree.specs.Refused.{places, place_at, CanRefuse}
+use Rattle.c_tree.specs.declared.refusals.SourceRefusal.TheVariants.{Lex, TooDeep}
 use Rattle.c_reader.specs.declared.faults.ReadError.{ReadError}
 use Rattle.c_reader.specs.declared.faults.ReadError.TheVariants.{Fault}
 use Rattle.c_reader.specs.Descent.{Fails}
 use Rattle.c_reader.specs.Whole.{whole}
-use Rattle.c_reader.specs.Kinds.{kinds, places}
+use Rattle.c_reader.specs.Kinds.{kinds}
 use Rattle.c_reader.proofs.Programs.{reads, given_only, given_deep, given_lexed, refused_only, refused_deep, can_refuse, is_refusal, unlexed_only, unlexed_deep, unlexed_same, unlexed_can}
 use Rattle.c_reader.proofs.reading.read_program.Goals as goal
 

@@ -1,6 +1,6 @@
 use Rattle.std.proofs.Common.{◌≡◌, codes, true, false, Result, Ok, Err, IfOk, ap, ◌∙◌}
 use Rattle.clap.specs.Simple.{App, app_of, app_of_fields, new_app, with_rule}
-use Rattle.answers.specs.Words.{positional, option, flag, versioned, command}
+use Rattle.command_words.specs.Words.{positional, option, flag, versioned, command}
 use Rattle.command_words.proofs.command.command.Goals as goal
 
 -- the three words

@@ -3,8 +3,8 @@ use Rattle.std.proofs.lemmas.Result.{err_from_is_err_and}
 use Rattle.op_outside.specs.Outside.{Rose}
 use Rattle.c_tree.specs.View.{program_of}
 use Rattle.bound_program.specs.Values.{bound_of}
-use Rattle.answers.specs.Refusal.{SourceBytes}
-use Rattle.answers.specs.Words.{InFiles}
+use Rattle.command_words.specs.Refusal.{SourceBytes}
+use Rattle.command_words.specs.Words.{InFiles}
 use Rattle.job_inputs.specs.Inputs.{IsBoundWith, kept_by}
 use Rattle.job_inputs.specs.Chains.{Never, Known}
 use Rattle.job_inputs.proofs.Chained.{read_first, tree_refused_over, types_refused_over, mesh_unread_over, text_refused_over}

@@ -1,5 +1,5 @@
 use Rattle.std.proofs.Common.{map, string_bytes}
-use Rattle.answers.specs.Lines.{refused}
+use Rattle.answer_lines.specs.Lines.{refused}
 use Rattle.answer_lines.specs.Halts.{refusal_of, answer_of}
 use Rattle.op2_command.proofs.Chained.{tells}
 use Rattle.op2_command.proofs.answered.answered.Goals as goal

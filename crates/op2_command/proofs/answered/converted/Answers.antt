@@ -1,7 +1,7 @@
 use Rattle.std.proofs.Common.{[]}
 use Rattle.std.proofs.lemmas.Result.{err_from_is_err_and}
 use Rattle.op_outside.specs.Outside.{Rose}
-use Rattle.answers.specs.Refusal.{MeshBytes}
+use Rattle.command_words.specs.Refusal.{MeshBytes}
 use Rattle.op2_command.specs.Chains.{RewriteAnswers}
 use Rattle.job_inputs.proofs.Chained.{read_first, text_answered}
 use Rattle.op2_command.proofs.answered.converted.Goals as goal

@@ -1,6 +1,6 @@
 use Rattle.std.proofs.Common.{All, map, string_bytes, ap, subst}
 use Rattle.op_outside.specs.Outside.{Rose}
-use Rattle.answers.specs.Words.{names_in}
+use Rattle.command_words.specs.Words.{names_in}
 use Rattle.command_words.specs.Values.{command_of}
 use Rattle.op2_command.proofs.Chained.{command_answered}
 use Rattle.op2_command.proofs.answered.to_words.Goals as goal

@@ -4,7 +4,7 @@ use Rattle.op_outside.specs.Outside.{Rose}
 use Rattle.bound_program.specs.Values.{bound_of}
 use Rattle.loop_plan.specs.Values.{plan_of}
 use Rattle.schedule_steps.specs.Standard.{standard}
-use Rattle.answers.specs.Words.{group_of}
+use Rattle.command_words.specs.Words.{group_of}
 use Rattle.answers.specs.Judgements.{Planned, outline_of}
 use Rattle.command_words.specs.Values.{options_in, job_in, schedule_in}
 use Rattle.op2_command.proofs.Planned.{standard_answered, drawn_answered, schedule_unread, text_answered}

@@ -1,0 +1,97 @@
+-- The status of a call is that of any answer over files that tell it.
+use Rattle.std.proofs.Common.{◌≡◌, ◌⊎◌, inl, inr, ℕ, List, [], ◌++◌, Option, Some, None, Result, refl, sym, ap, ◌∙◌, subst}
+use Rattle.op_outside.specs.Outside.{Files, Rose}
+use Rattle.answer_lines.specs.Lines.{Answer}
+use Rattle.distribute.specs.Parts.{Parts}
+use Rattle.bound_program.specs.Values.{BoundValue}
+use Rattle.command_words.specs.Refusal.{Refusal}
+use Rattle.command_words.specs.Words.{PlanJob, Parting, ByRule, ByFile, Schedule, Standard, Drawn, Written, Options, group_of, Command, OnPlan, InFiles, OfSample, Converts, ShowsUsage, ShowsVersion, names_by, names_at, names_in, names_of, named_by}
+use Rattle.answers.specs.Judgements.{SourceIs, TreeIs, TypesAre, MeshIs, EntriesAre, BoundIs, AccessesAre, NumbersOf, PartsOf, OwnersOf, Planned, PlanIs, Order, OrderOf, outline_of, StepsOf}
+use Rattle.answers.specs.Answers.{given, planned_answer, PlannedAnswers, PlanAnswers, CommandAnswers, Answers}
+use Rattle.answers.specs.Endings.{Ending, Answered, OutOfMemory, Unread, Unwritten, ending_status, unwritten_status, Call, Tells, TellsUntold, no_files, IsWritten, EndsBy, Ends, TellTheAnswer, IsComplete}
+use Rattle.answers.specs.Laws.{AnswersAgree}
+use Rattle.answer_laws.proofs.Given.{given_on}
+
+-- owners and a schedule that come from no file
+parts_over : (p : Parting) → names_by p ≡ [] → (f g : Files) (r : Result Parts Refusal) → PartsOf p f r → PartsOf p g r
+parts_over (ByRule rule) none f g r h = h
+parts_over (ByFile name) none f g r h = absurd (let bad : ⊥ = cc in bad)
+
+order_over : (s : Schedule) → names_at s ≡ [] → (f g : Files) (r : Result Order Refusal) → OrderOf s f r → OrderOf s g r
+order_over Standard none f g r h = h
+order_over (Drawn seed) none f g r h = h
+order_over (Written name) none f g r h = absurd (let bad : ⊥ = cc in bad)
+
+no_names : (p : Parting) (s : Schedule) → names_by p ++ names_at s ≡ [] → (names_by p ≡ []) × (names_at s ≡ [])
+no_names (ByRule rule) s none = (refl, none)
+no_names (ByFile name) s none = absurd (let bad : ⊥ = cc in bad)
+
+planned_over : (j : PlanJob) (o : Options) → names_by o.parting ++ names_at o.schedule ≡ [] → (f g : Files) (b : BoundValue) (a : Answer) → PlannedAnswers j o f b a → PlannedAnswers j o g b a
+planned_over j o none f g b a h = (
+  h.0,
+  given_on (NumbersOf o b) (NumbersOf o b) _ _ (λ r k. k) (λ n.
+      given_on (PartsOf o.parting f) (PartsOf o.parting g) _ _ (parts_over o.parting (no_names o.parting o.schedule none).0 f g) (λ parts.
+      given_on (OwnersOf o b parts) (OwnersOf o b parts) _ _ (λ r k. k) (λ u.
+      given_on (PlanIs o b u n) (PlanIs o b u n) _ _ (λ r k. k) (λ p.
+      given_on (OrderOf o.schedule f) (OrderOf o.schedule g) (by_order p) (by_order p) (order_over o.schedule (no_names o.parting o.schedule none).1 f g) (λ order x k. k))))) a h.1,
+)
+  where
+    by_order : Planned → Order → Answer → Type 0
+    by_order p order = given (StepsOf (outline_of b p) (group_of o) order) (λ steps x. x ≡ planned_answer j o.dumps b p steps)
+
+-- the sample is read from no file
+sample_over : (j : PlanJob) (o : Options) (side : ℕ) → names_by o.parting ++ names_at o.schedule ≡ [] → (f g : Files) (a : Answer) → PlanAnswers j o (OfSample side) f a → PlanAnswers j o (OfSample side) g a
+sample_over j o side none f g =
+    given_on (SourceIs (OfSample side) f) (SourceIs (OfSample side) g) _ _ (λ r k. k) (λ bytes.
+    given_on (TreeIs bytes) (TreeIs bytes) _ _ (λ r k. k) (λ p.
+    given_on (TypesAre p) (TypesAre p) _ _ (λ r k. k) (λ types.
+    given_on (MeshIs (OfSample side) f) (MeshIs (OfSample side) g) _ _ (λ r k. k) (λ text.
+    given_on (EntriesAre text) (EntriesAre text) _ _ (λ r k. k) (λ es.
+    given_on (BoundIs p types es) (BoundIs p types es) _ _ (λ r k. k) (λ b.
+    given_on (AccessesAre b) (AccessesAre b) _ _ (λ r k. k) (λ _. planned_over j o none f g b)))))))
+
+-- a command that names no file has its answers over any
+same_command : (c : Command) → names_of c ≡ [] → (f g : Files) (a : Answer) → CommandAnswers c f a → CommandAnswers c g a
+same_command (OnPlan j o (InFiles source mesh)) none f g a h = absurd (let bad : ⊥ = cc in bad)
+same_command (OnPlan j o (OfSample side)) none f g a h = sample_over j o side none f g a h
+same_command (Converts form mesh) none f g a h = absurd (let bad : ⊥ = cc in bad)
+same_command ShowsUsage none f g a h = h
+same_command ShowsVersion none f g a h = h
+
+-- words that name no file have their answers over any
+same_over : (words : List (List ℕ)) → named_by words ≡ [] → (f g : Files) (a : Answer) → Answers words f a → Answers words g a
+same_over words none f g a (inl h) = inl h
+same_over words none f g a (inr h) = inr (h.0, h.1, same_command h.0 (sym (ap names_in h.1) ∙ none) f g a h.2)
+
+-- what a call tells is an answer over files that tell it
+pub tells_answer : (c : Call) (files : Files) (a : Answer) → TellTheAnswer c files → Tells c.words c.told a → Answers c.words files a
+tells_answer c files a (inl told) h = subst (λ t. Tells c.words t a) told h
+tells_answer c files a (inr none) h = by_told c.told h
+  where
+    by_told : (t : Option Files) → Tells c.words t a → Answers c.words files a
+    by_told (Some f) k = same_over c.words none f files a k
+    by_told None k = same_over c.words none no_files files a (subst (λ names. TellsUntold c.words names a) none k)
+
+pub unwritten_is : (a : Answer) → IsWritten a → (unwritten_status a ≡ a.status) ⊎ (unwritten_status a ≡ 4)
+unwritten_is a (inl e) = inr (rw e refl)
+unwritten_is a (inr e) = inl (rw e refl)
+
+pub complete : AnswersAgree → (c : Call) (status : ℕ) → Ends c status → IsComplete c status
+complete agree c status ends files a known answers = by_ending ends.ending ends.is ends.cause
+  where
+    Completes : Type 0
+    Completes =
+        (status ≡ a.status) ⊎ (status ≡ 1) ⊎ ((status ≡ 3) × Rose c.reads.0 c.reads.1) ⊎ ((status ≡ 4) × Rose c.writes.0 c.writes.1)
+
+    same : (b : Answer) → Tells c.words c.told b → b.status ≡ a.status
+    same b h = (agree c.words files b a (tells_answer c files b known h) answers).status
+
+    by_ending : (e : Ending) → status ≡ ending_status e → EndsBy c e → Completes
+    by_ending (Answered b) is h = inl (is ∙ same b h.0)
+    by_ending OutOfMemory is h = inr (inl is)
+    by_ending (Unread name) is h = inr (inr (inl (is, h.0)))
+    by_ending (Unwritten b) is h = by_status (unwritten_is b h.2)
+      where
+        by_status : (unwritten_status b ≡ b.status) ⊎ (unwritten_status b ≡ 4) → Completes
+        by_status (inl e) = inl (is ∙ e ∙ same b h.1)
+        by_status (inr e) = inr (inr (inr (is ∙ e, h.0)))

@@ -1,0 +1,249 @@
+-- What is answered of a plan is one, whatever the addresses of kernels, owners and new numbers.
+use Rattle.std.proofs.Common.{◌≡◌, ◌<◌, ◌↔◌, ℕ, Bool, true, false, List, map, Option, Some, None, Result, Ok, Err, refl, sym, ap, ◌∙◌, subst, arith}
+use Rattle.kernel_types.specs.declared.kernels.RKernel.{RKernel}
+use Rattle.kernel_types.specs.View.{rkernel_of}
+use Rattle.mesh_decl.specs.declared.owners.Owners.{Owners}
+use Rattle.mesh_decl.specs.declared.owners.Perms.{Perms}
+use Rattle.mesh_decl.specs.Mesh.{MeshValue}
+use Rattle.mesh_decl.specs.Owners.{ArePerms}
+use Rattle.local_mesh.specs.declared.types.RankMesh.{RankMesh}
+use Rattle.local_mesh.specs.Values.{rank_mesh_value}
+use Rattle.distribute.specs.Parts.{Parts, Text, NumbersRefusal, OwnersRefusal}
+use Rattle.distribute.specs.Judgements.{NumbersAre, OwnersAre}
+use Rattle.distribute.specs.Distributions.{IsDistribution, DistributionValue, distribution_value}
+use Rattle.distribute.specs.declared.types.Distribution.{Distribution}
+use Rattle.distribute.specs.Laws.{SamePerms, SameOwners, SameOutcome, NumbersAreOne, OwnersAreOne, DistributionsAreOne}
+use Rattle.schedule_steps.specs.Outline.{Outline}
+use Rattle.schedule_steps.specs.declared.step.Step.{Step}
+use Rattle.schedule_steps.specs.Steps.{IsStep, Earlier}
+use Rattle.schedule_steps.specs.Drawn.{IsDrawn}
+use Rattle.schedule_steps.specs.Judged.{is_step, missing, left_over}
+use Rattle.schedule_text.specs.Reading.{Read as ScheduleRead, Reads as ScheduleReads}
+use Rattle.bound_program.specs.Values.{BoundValue}
+use Rattle.bound_program.specs.Fits.{Fits}
+use Rattle.run_model.specs.Programs.{first_fault}
+use Rattle.loop_plan.specs.Values.{PlanValue}
+use Rattle.loop_plan.specs.Needs.{item_at}
+use Rattle.loop_plan.specs.Proper.{Proper, HasLeastColours}
+use Rattle.loop_plan.specs.PlanText.{plan_text}
+use Rattle.loop_plan.specs.StepCounts.{program_steps}
+use Rattle.loop_plan.specs.StepOutline.{step_outline}
+use Rattle.loop_plan.specs.OnePlan.{AreAlike, PlanTextsAreOne, PlansAreOne, StepCountsAreOne}
+use Rattle.bound_plan.specs.Memories.{dump_of, run_output}
+use Rattle.bound_plan.specs.OneRun.{with_kernels, ProgramsAreOne, DumpsAreOne}
+use Rattle.op_outside.specs.Outside.{Files}
+use Rattle.command_words.specs.Refusal.{Refusal, PartitionBytes, BeyondLimit, Steps}
+use Rattle.answer_lines.specs.Lines.{Answer, done, refused}
+use Rattle.answers.specs.Said.{SaysNumbers, SaysOwners}
+use Rattle.command_words.specs.Words.{PlanJob, Check, ShowsPlan, ShowsSchedule, RunsPlan, Parting, ByRule, ByFile, Options, group_of}
+use Rattle.answers.specs.Judgements.{NumbersOf, PartsOf, OwnersOf, Planned, IsPlanned, HasManySteps, PlanIs, Order, OrderOf, outline_of, StepsOf}
+use Rattle.answers.specs.Answers.{given, ran, sizes_text, planned_answer, PlannedAnswers}
+use Rattle.answer_laws.proofs.Given.{given_both, given_alike}
+use Rattle.answer_laws.proofs.IsOne.{IsOne, held_is_one, told_is_one}
+use Rattle.answer_laws.proofs.SaidOnce.{numbers_once, owners_once}
+use Rattle.answer_laws.proofs.SameKernels.{output_same}
+use Rattle.answer_laws.proofs.SameBound.{IsSame}
+use Rattle.answer_laws.proofs.SchedulesAgree.{order_is_one, steps_are_one}
+
+-- ---- plans know nothing of kernels
+
+module _ (b : BoundValue) (ks : List RKernel) (meshes : List RankMesh) where
+  same_steps : program_steps (with_kernels b ks) meshes ≡ program_steps b meshes
+  unfolding item_at
+  same_steps = refl
+
+  same_outline : (p : PlanValue) → step_outline b meshes p ≡ step_outline (with_kernels b ks) meshes p
+  unfolding item_at
+  same_outline p = refl
+
+  is_proper : (p : PlanValue) → Proper (with_kernels b ks) meshes p → Proper b meshes p
+  unfolding item_at
+  is_proper p h = record {
+    ranks = h.ranks;
+    block = h.block;
+    steps = h.steps;
+    items = h.items;
+    exchanges = record { history = h.exchanges.history; in_order = h.exchanges.in_order };
+    pairs = h.pairs;
+    sites = h.sites;
+    loops = λ s l r. let k = h.loops s l r in record { places_count = k.places_count; places = k.places; colours_count = k.colours_count; colours = k.colours };
+  }
+
+  has_least : (p : PlanValue) → HasLeastColours (with_kernels b ks) meshes p → HasLeastColours b meshes p
+  has_least p h = h
+
+-- ---- parts
+
+parts_are_one : (p : Parting) (files : Files) → IsOne (PartsOf p files)
+parts_are_one (ByRule rule) files = record { refusals = (told_is_one rule).refusals; apart = (told_is_one rule).apart; values = (told_is_one rule).values }
+parts_are_one (ByFile name) files =
+    let held = held_is_one PartitionBytes name (files name) in
+    record {
+      refusals = held.refusals;
+      apart = λ r x h k. held.apart r k.0 h k.1;
+      values = λ x y h k. h.2 ∙ ap Text (held.values h.0 k.0 h.1 k.1) ∙ sym k.2;
+    }
+
+are_perms : (g : MeshValue) (name : Option (List ℕ)) (p : Perms) → NumbersAre g name (Ok p) → ArePerms g p
+are_perms g None p h = h.perms
+are_perms g (Some name) p h = h.2.perms
+
+same_ranks : (d e : Distribution) → distribution_value d ≡ distribution_value e → map rank_mesh_value d.ranks.items ≡ map rank_mesh_value e.ranks.items
+unfolding distribution_value
+same_ranks d e h = ap (λ (v : DistributionValue). v.ranks) h
+
+-- what is said of schedules
+pub record ScheduleLaws : Type 0 where
+  pub steps_decide : (o : Outline) (s : Step) → (is_step o s ≡ true) ↔ IsStep o s
+  pub missing_is : (o : Outline) (m : Step → Bool) (s t : Step) → missing o m s ≡ Some t → IsStep o t × Earlier o t s × (m t ≡ false)
+  pub left_is : (o : Outline) (m : Step → Bool) (t : Step) → left_over o m ≡ Some t → IsStep o t × (m t ≡ false)
+  pub one_read : (bytes : List ℕ) (a b : ScheduleRead) → ScheduleReads bytes a → ScheduleReads bytes b → a ≡ b
+  pub drawn_once : (o : Outline) (g seed : ℕ) (l n : List Step) → IsDrawn o g seed l → IsDrawn o g seed n → l ≡ n
+
+same_rank_counts : (d e : Distribution) → distribution_value d ≡ distribution_value e → d.owners.ranks ≡ e.owners.ranks
+unfolding distribution_value
+same_rank_counts d e h = ap (λ (v : DistributionValue). v.rank_count) h
+
+same_owners : (d e : Distribution) → distribution_value d ≡ distribution_value e → d.owners.sets.items ≡ e.owners.sets.items
+unfolding distribution_value
+same_owners d e h = ap (λ (v : DistributionValue). v.owners) h
+
+module _ (programs_are_one : ProgramsAreOne) (dumps_are_one : DumpsAreOne) (one_plan : PlansAreOne) (schedules : ScheduleLaws) (one_numbers : NumbersAreOne) (one_owners : OwnersAreOne) (one_distribution : DistributionsAreOne) (one_plan_text : PlanTextsAreOne) (one_step_count : StepCountsAreOne) where
+  module _ (j : PlanJob) (o : Options) (files : Files) (some : 0 < o.ranks) (b : BoundValue) (ks : List RKernel) (same : map rkernel_of b.kernels ≡ map rkernel_of ks) (fits : Fits b) where
+    abbrev c : BoundValue
+    c = with_kernels b ks
+
+    -- what comes after the order of the steps
+    abbrev FromOrder : BoundValue → Planned → Order → Answer → Type 0
+    FromOrder d p order = given (StepsOf (outline_of d p) (group_of o) order) (λ steps x. x ≡ planned_answer j o.dumps d p steps)
+
+    -- what comes after the plan
+    abbrev FromPlan : BoundValue → Planned → Answer → Type 0
+    FromPlan d p = given (OrderOf o.schedule files) (FromOrder d p)
+
+    -- ---- the plan
+
+    module _ (u v : Owners) (n m : Perms) (owned : SameOwners u v) (numbered : SamePerms n m) (perms : ArePerms b.mesh n) where
+      distributions_same : (d e : Distribution) → IsDistribution b.mesh u n d → IsDistribution b.mesh v m e → distribution_value d ≡ distribution_value e
+      distributions_same d e h k = one_distribution b.mesh u v n m d e fits.mesh perms owned numbered h k
+
+      ranks_alike : (d e : Distribution) → IsDistribution b.mesh u n d → IsDistribution b.mesh v m e → map rank_mesh_value d.ranks.items ≡ map rank_mesh_value e.ranks.items
+      ranks_alike d e h k = same_ranks d e (distributions_same d e h k)
+
+      step_counts : (d e : Distribution) → IsDistribution b.mesh u n d → IsDistribution b.mesh v m e → program_steps b d.ranks.items ≡ program_steps c e.ranks.items
+      step_counts d e h k = one_step_count b d.ranks.items e.ranks.items (ranks_alike d e h k) ∙ sym (same_steps b ks e.ranks.items)
+
+      many : (r s : Refusal) → HasManySteps b u n r → HasManySteps c v m s → refused r ≡ refused s
+      many r s h k = ap refused (h.says ∙ ap (BeyondLimit Steps) (step_counts h.distribution k.distribution h.distributed k.distributed) ∙ sym k.says)
+
+      many_few : (r : Refusal) (q : Planned) → HasManySteps b u n r → IsPlanned o c v m q → ⊥
+      many_few r q h k = let e = step_counts h.distribution q.distribution h.distributed k.distributed in let x = h.many in let y = k.few in omega (arith, e, x, y)
+
+      few_many : (p : Planned) (s : Refusal) → IsPlanned o b u n p → HasManySteps c v m s → ⊥
+      few_many p s h k = let e = step_counts p.distribution k.distribution h.distributed k.distributed in let x = h.few in let y = k.many in omega (arith, e, x, y)
+
+      module _ (p q : Planned) (h : IsPlanned o b u n p) (k : IsPlanned o c v m q) where
+        alike : AreAlike b p.distribution.ranks.items q.distribution.ranks.items p.plan q.plan
+        alike = record {
+          alike = ranks_alike p.distribution q.distribution h.distributed k.distributed;
+          block = h.block ∙ sym k.block;
+          proper = h.proper;
+          colours = h.colours;
+          other_proper = is_proper b ks q.distribution.ranks.items q.plan k.proper;
+          other_colours = has_least b ks q.distribution.ranks.items q.plan k.colours;
+        }
+
+        outlines_same : outline_of b p ≡ outline_of c q
+        outlines_same =
+            (one_plan b p.distribution.ranks.items q.distribution.ranks.items p.plan q.plan alike).outline
+            ∙ same_outline b ks q.distribution.ranks.items q.plan
+
+        -- ---- what the job answers
+
+        dumps_same : (steps : List Step) → dump_of o.dumps b p.distribution.owners p.distribution.ranks.items p.plan steps ≡ dump_of o.dumps c q.distribution.owners q.distribution.ranks.items q.plan steps
+        dumps_same steps =
+            let e = distributions_same p.distribution q.distribution h.distributed k.distributed in
+            dumps_are_one b ks p.distribution.owners q.distribution.owners p.distribution.ranks.items q.distribution.ranks.items p.plan q.plan (record {
+              kernels = same;
+              ranks = same_rank_counts p.distribution q.distribution e;
+              owners = same_owners p.distribution q.distribution e;
+              plans = alike;
+            }) o.dumps steps
+
+        answers : (steps : List Step) → planned_answer j o.dumps b p steps ≡ planned_answer j o.dumps c q steps
+        answers steps = by_job j
+          where
+            one : (plan_text b p.distribution.ranks.items p.plan ≡ plan_text b q.distribution.ranks.items q.plan) × (p.plan.steps ≡ q.plan.steps)
+            one = one_plan_text b p.distribution.ranks.items q.distribution.ranks.items p.plan q.plan alike
+
+            by_job : (i : PlanJob) → planned_answer i o.dumps b p steps ≡ planned_answer i o.dumps c q steps
+            by_job Check = ap (λ n. done (sizes_text b n)) one.1
+            by_job ShowsPlan = ap done one.0
+            by_job ShowsSchedule = refl
+            by_job RunsPlan =
+                ap (λ d. ran (first_fault b) (run_output b d)) (dumps_same steps)
+                ∙ output_same programs_are_one b ks same (dump_of o.dumps c q.distribution.owners q.distribution.ranks.items q.plan steps)
+
+        -- ---- schedules
+
+        steps_agree : (order : Order) → (x y : Answer) → FromOrder b p order x → FromOrder c q order y → x ≡ y
+        steps_agree order x y f g =
+            given_alike (StepsOf (outline_of b p) (group_of o) order) (λ steps x. x ≡ planned_answer j o.dumps b p steps) (λ steps x. x ≡ planned_answer j o.dumps c q steps) (λ x y. x ≡ y)
+            (λ r s h k. ap refused (one.refusals r s h k)) one.apart one.values
+            (λ steps l x y e f. e ∙ answers steps ∙ sym f)
+            x y f (subst (λ z. given (StepsOf z (group_of o) order) (λ steps x. x ≡ planned_answer j o.dumps c q steps) y) (sym outlines_same) g)
+          where
+            one : IsOne (StepsOf (outline_of b p) (group_of o) order)
+            one = steps_are_one schedules.steps_decide schedules.missing_is schedules.left_is schedules.one_read schedules.drawn_once (outline_of b p) (group_of o) order
+
+        orders_agree : (x y : Answer) → FromPlan b p x → FromPlan c q y → x ≡ y
+        orders_agree =
+            let one = order_is_one o.schedule files in
+            given_alike (OrderOf o.schedule files) (FromOrder b p) (FromOrder c q) (λ x y. x ≡ y)
+            (λ r s h k. ap refused (one.refusals r s h k)) one.apart one.values
+            (λ order l. steps_agree order)
+
+      plans_agree : (x y : Answer) → given (PlanIs o b u n) (FromPlan b) x → given (PlanIs o c v m) (FromPlan c) y → x ≡ y
+      plans_agree =
+          given_both (PlanIs o b u n) (PlanIs o c v m) (FromPlan b) (FromPlan c) (λ x y. x ≡ y) many many_few few_many
+          (λ p q h k. orders_agree p q h k)
+
+    -- ---- owners
+
+    abbrev FromOwners : BoundValue → Perms → Parts → Answer → Type 0
+    FromOwners d n parts = given (OwnersOf o d parts) (λ u. given (PlanIs o d u n) (FromPlan d))
+
+    module _ (n m : Perms) (numbered : SamePerms n m) (perms : ArePerms b.mesh n) where
+      owners_agree : (parts : Parts) (x y : Answer) → FromOwners b n parts x → FromOwners c m parts y → x ≡ y
+      owners_agree parts =
+          given_both (OwnersOf o b parts) (OwnersOf o c parts) (λ u. given (PlanIs o b u n) (FromPlan b)) (λ u. given (PlanIs o c u m) (FromPlan c)) (λ x y. x ≡ y)
+          (λ r s h k. ap refused (owners_once h.0 r s h.2 (subst (λ e. SaysOwners e s) (sym (both (Err h.0) (Err k.0) h.1 k.1)) k.2)))
+          (λ r v h k. both (Err h.0) (Ok v) h.1 k)
+          (λ u s h k. both (Ok u) (Err k.0) h k.1)
+          (λ u v h k. plans_agree u v n m (both (Ok u) (Ok v) h k) numbered perms)
+        where
+          both : (x y : Result Owners OwnersRefusal) → OwnersAre b.mesh o.ranks parts x → OwnersAre b.mesh o.ranks parts y → SameOutcome SameOwners x y
+          both x y h k = one_owners b.mesh o.ranks parts x y fits.mesh some h k
+
+      parts_agree : (x y : Answer) → given (PartsOf o.parting files) (FromOwners b n) x → given (PartsOf o.parting files) (FromOwners c m) y → x ≡ y
+      parts_agree =
+          let one = parts_are_one o.parting files in
+          given_alike (PartsOf o.parting files) (FromOwners b n) (FromOwners c m) (λ x y. x ≡ y) (λ r s h k. ap refused (one.refusals r s h k)) one.apart one.values
+          (λ parts h. owners_agree parts)
+
+    -- ---- new numbers
+
+    numbers_agree : (x y : Answer) → given (NumbersOf o b) (λ n. given (PartsOf o.parting files) (FromOwners b n)) x → given (NumbersOf o c) (λ n. given (PartsOf o.parting files) (FromOwners c n)) y → x ≡ y
+    numbers_agree =
+        given_both (NumbersOf o b) (NumbersOf o c) (λ n. given (PartsOf o.parting files) (FromOwners b n)) (λ n. given (PartsOf o.parting files) (FromOwners c n)) (λ x y. x ≡ y)
+        (λ r s h k. ap refused (numbers_once h.0 r s h.2 (subst (λ e. SaysNumbers e s) (sym (both (Err h.0) (Err k.0) h.1 k.1)) k.2)))
+        (λ r m h k. both (Err h.0) (Ok m) h.1 k)
+        (λ n s h k. both (Ok n) (Err k.0) h k.1)
+        (λ n m h k. parts_agree n m (both (Ok n) (Ok m) h k) (are_perms b.mesh o.renumber n h))
+      where
+        both : (x y : Result Perms NumbersRefusal) → NumbersAre b.mesh o.renumber x → NumbersAre b.mesh o.renumber y → SameOutcome SamePerms x y
+        both x y h k = one_numbers b.mesh o.renumber x y fits.mesh h k
+
+  pub plans_alike : (j : PlanJob) (o : Options) (files : Files) → 0 < o.ranks → (b c : BoundValue) → IsSame b c → (x y : Answer) → PlannedAnswers j o files b x → PlannedAnswers j o files c y → x ≡ y
+  plans_alike j o files some b c same x y h k =
+      numbers_agree j o files some b c.kernels same.1 h.0 x y h.1 (subst (λ d. PlannedAnswers j o files d y) same.0 k).1

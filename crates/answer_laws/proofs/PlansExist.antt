@@ -1,0 +1,113 @@
+-- There is an answer to words that ask for a plan, of a bound program that fits and whose maps are narrow.
+use Rattle.std.proofs.Common.{◌<◌, ◌≤◌, ◌⊎◌, inl, inr, ℕ, List, Result, Ok, Err, refl, sym, subst}
+use Rattle.std.specs.Prelude.{All}
+use Rattle.std.proofs.lemmas.Bool.{cases_lt}
+use Rattle.mesh_decl.specs.declared.decl.MapDecl.{MapDecl}
+use Rattle.mesh_decl.specs.declared.owners.Owners.{Owners}
+use Rattle.mesh_decl.specs.declared.owners.Perms.{Perms}
+use Rattle.mesh_decl.specs.Mesh.{MeshValue, IsMesh}
+use Rattle.mesh_decl.specs.Owners.{AreOwners, ArePerms}
+use Rattle.part_text.specs.declared.refusals.PartRefusal.TheVariants as part
+use Rattle.part_text.specs.Reading.{Refuses}
+use Rattle.distribute.specs.Parts.{Parts, Block, Bisect, Grow, Text, NumbersRefusal, OwnersRefusal}
+use Rattle.distribute.specs.Judgements.{NumbersAre, OwnersAre}
+use Rattle.distribute.specs.declared.types.Distribution.{Distribution}
+use Rattle.distribute.specs.Distributions.{IsDistribution}
+use Rattle.schedule_steps.specs.Outline.{Outline}
+use Rattle.schedule_steps.specs.declared.step.Step.{Step}
+use Rattle.bound_program.specs.Values.{BoundValue}
+use Rattle.bound_program.specs.Limits.{max_dim}
+use Rattle.bound_program.specs.Fits.{Fits}
+use Rattle.loop_plan.specs.StepCounts.{program_steps}
+use Rattle.plan_exists.specs.Laws.{NumbersExist, OwnersExist, OutcomesFit, NarrowMeshesFitMemory, DistributionsExist, PlansExist}
+use Rattle.op_outside.specs.Outside.{Files}
+use Rattle.command_words.specs.Refusal.{PartitionBytes, ScheduleBytes, Steps, Refusal, BadPart, BeyondLimit}
+use Rattle.answer_lines.specs.Lines.{Answer, most}
+use Rattle.answers.specs.Said.{SaysOwners}
+use Rattle.command_words.specs.Words.{PlanJob, Parting, ByRule, ByFile, Schedule, Standard, Drawn, Written, Options, group_of}
+use Rattle.answers.specs.Judgements.{IsHeld, NumbersOf, PartsOf, OwnersOf, Planned, PlanIs, Order, InStandardOrder, BySeed, ByText, OrderOf, outline_of, StepsOf}
+use Rattle.answers.specs.Answers.{PlannedAnswers}
+use Rattle.command_words.specs.Laws.{AreWithin}
+use Rattle.answer_laws.proofs.Given.{given_one, given_with}
+use Rattle.answer_laws.proofs.Held.{held_exists}
+use Rattle.answer_laws.proofs.SaidOnce.{numbers_said, partition_said}
+
+-- what a bound program has of which there is a plan
+pub record Suits (b : BoundValue) : Type 0 where
+  pub fits : Fits b
+  pub narrow : All (λ (d : MapDecl). d.dim ≤ max_dim) b.mesh.maps
+
+-- there are the steps that a schedule is asked for by, or a refusal
+abbrev pub SchedulesExist : Type 0
+SchedulesExist = (o : Outline) (g : ℕ) (order : Order) → ¬ ((r : Result (List Step) Refusal) → ¬ StepsOf o g order r)
+
+-- ---- files
+
+parts_exist : (p : Parting) (files : Files) → ¬ ((r : Result Parts Refusal) → ¬ PartsOf p files r)
+parts_exist (ByRule rule) files none = none (Ok rule) refl
+parts_exist (ByFile name) files none = held_exists PartitionBytes name (files name) by_held
+  where
+    by_held : (r : Result (List ℕ) Refusal) → ¬ IsHeld PartitionBytes name (files name) r
+    by_held (Ok bytes) h = none (Ok (Text bytes)) (bytes, h, refl)
+    by_held (Err r) h = none (Err r) h
+
+order_exists : (s : Schedule) (files : Files) → ¬ ((r : Result Order Refusal) → ¬ OrderOf s files r)
+order_exists Standard files none = none (Ok InStandardOrder) refl
+order_exists (Drawn seed) files none = none (Ok (BySeed seed)) refl
+order_exists (Written name) files none = held_exists ScheduleBytes name (files name) by_held
+  where
+    by_held : (r : Result (List ℕ) Refusal) → ¬ IsHeld ScheduleBytes name (files name) r
+    by_held (Ok bytes) h = none (Ok (ByText bytes)) (bytes, h, refl)
+    by_held (Err r) h = none (Err r) h
+
+-- ---- new numbers and owners
+
+module _ (some_numbers : NumbersExist) (some_owners : OwnersExist) (outcomes_fit : OutcomesFit) (narrow_fit : NarrowMeshesFitMemory) (some_distribution : DistributionsExist) (some_plan : PlansExist) (causes : (g : MeshValue) (ranks : ℕ) (bytes : List ℕ) → ¬ Refuses g ranks bytes part.OutOfMemory) (steps_exist : SchedulesExist) where
+  numbers_exist : (o : Options) (b : BoundValue) → IsMesh b.mesh → ¬ ((r : Result Perms Refusal) → ¬ NumbersOf o b r)
+  numbers_exist o b mesh none = let n = some_numbers b.mesh o.renumber mesh in by_outcome n.0 n.1
+    where
+      by_outcome : (r : Result Perms NumbersRefusal) → ¬ NumbersAre b.mesh o.renumber r
+      by_outcome (Ok p) h = none (Ok p) h
+      by_outcome (Err e) h = let said = numbers_said e in none (Err said.0) (e, h, said.1)
+
+  owners_said : (g : MeshValue) (ranks : ℕ) (parts : Parts) (e : OwnersRefusal) → OwnersAre g ranks parts (Err e) → (r : Refusal) × SaysOwners e r
+  owners_said g ranks Block e h = absurd h
+  owners_said g ranks (Bisect name) e h = (BadPart name, subst (λ f. SaysOwners f (BadPart name)) (sym h.1) refl)
+  owners_said g ranks (Grow name) e h = (BadPart name, subst (λ f. SaysOwners f (BadPart name)) (sym h.1) refl)
+  owners_said g ranks (Text bytes) e h =
+      let said = partition_said h.0 (λ m. causes g ranks bytes (subst (λ f. Refuses g ranks bytes f) m h.1)) in
+      (said.0, subst (λ f. SaysOwners f said.0) (sym h.2) said.1)
+
+  owners_exist : (o : Options) (b : BoundValue) (parts : Parts) → IsMesh b.mesh → AreWithin o → ¬ ((r : Result Owners Refusal) → ¬ OwnersOf o b parts r)
+  owners_exist o b parts mesh within none = let u = some_owners b.mesh o.ranks parts mesh within.some within.few in by_outcome u.0 u.1
+    where
+      by_outcome : (r : Result Owners OwnersRefusal) → ¬ OwnersAre b.mesh o.ranks parts r
+      by_outcome (Ok u) h = none (Ok u) h
+      by_outcome (Err e) h = let said = owners_said b.mesh o.ranks parts e h in none (Err said.0) (e, h, said.1)
+
+  -- ---- the plan
+
+  plan_exists : (o : Options) (b : BoundValue) (u : Owners) (n : Perms) → AreWithin o → Suits b → AreOwners b.mesh u → ArePerms b.mesh n
+      → ¬ ((r : Result Planned Refusal) → ¬ PlanIs o b u n r)
+  plan_exists o b u n within suits are_owners are_perms none =
+      let d = some_distribution b.mesh u n suits.fits.mesh (narrow_fit b.mesh suits.fits.mesh suits.narrow) are_owners are_perms in
+      by_steps d.0 d.1 (cases_lt (most Steps) (program_steps b d.0.ranks.items))
+    where
+      by_steps : (d : Distribution) → IsDistribution b.mesh u n d → (most Steps < program_steps b d.ranks.items) ⊎ (program_steps b d.ranks.items ≤ most Steps) → ⊥
+      by_steps d h (inl many) =
+          none (Err (BeyondLimit Steps (program_steps b d.ranks.items))) (record { distribution = d; distributed = h; many = many; says = refl })
+      by_steps d h (inr few) =
+          let p = some_plan b u n d.ranks.items o.block suits.fits (record { are_owners = are_owners; are_perms = are_perms; are_meshes = h.ranks }) within.some_places in
+          none (Ok (record { distribution = d; plan = p.0 })) (record { distributed = h; proper = p.2; colours = p.3; block = p.1; few = few })
+
+  -- ---- all
+
+  pub planned_exist : (j : PlanJob) (o : Options) (files : Files) → AreWithin o → (b : BoundValue) → Suits b → ¬ ((a : Answer) → ¬ PlannedAnswers j o files b a)
+  planned_exist j o files within b suits =
+      given_with suits.fits
+      (given_one _ _ (numbers_exist o b suits.fits.mesh) (λ n numbered.
+      given_one _ _ (parts_exist o.parting files) (λ parts _.
+      given_one _ _ (owners_exist o b parts suits.fits.mesh within) (λ u owned.
+      given_one _ _ (plan_exists o b u n within suits (outcomes_fit.owners b.mesh o.ranks parts u within.some within.few owned).1 (outcomes_fit.numbers b.mesh o.renumber n numbered)) (λ p _.
+      given_one _ _ (order_exists o.schedule files) (λ order _.
+      given_one _ _ (steps_exist (outline_of b p) (group_of o) order) (λ steps _ last. last _ refl)))))))

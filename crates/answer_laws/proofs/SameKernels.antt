@@ -1,0 +1,37 @@
+-- Kernels with the same trees, in bound programs that are the same but for these.
+use Rattle.std.proofs.Common.{◌≡◌, ℕ, List, map, Option, Some, None, refl, ap}
+use Rattle.kernel_types.specs.declared.kernels.RKernel.{RKernel}
+use Rattle.kernel_types.specs.View.{rkernel_of}
+use Rattle.kernel_model.specs.Obeys.{Mode}
+use Rattle.kernel_model.specs.Trees.{WalksAlike}
+use Rattle.kernel_types.specs.declared.faults.KernelFault.{KernelFault}
+use Rattle.schedule_model.specs.Program.{Program}
+use Rattle.schedule_model.specs.Sequential.{sequential}
+use Rattle.bound_program.specs.Values.{BoundValue}
+use Rattle.run_model.specs.Kernels.{kernel_at}
+use Rattle.run_model.specs.Arguments.{modes_of}
+use Rattle.run_model.specs.Programs.{printed_in, first_fault, stop_in}
+use Rattle.bound_plan.specs.Memories.{unless_stopped, run_output}
+use Rattle.bound_plan.specs.OneRun.{SameTree, with_kernels, KernelsAreOne, ProgramsAreOne}
+use Rattle.answer_lines.specs.Lines.{Answer}
+use Rattle.answers.specs.Answers.{ran}
+use Rattle.answer_laws.proofs.Sites.{found_by, site_found, first_found, same_found}
+
+module _ (walks_alike : WalksAlike) (kernels_are_one : KernelsAreOne) where
+  same_by : (o p : Option RKernel) → SameTree o p → (modes : List Mode) → found_by o modes ≡ found_by p modes
+  same_by None None h modes = refl
+  same_by (Some k) (Some l) h modes = walks_alike k l h modes
+  same_by None (Some l) h modes = absurd h
+  same_by (Some k) None h modes = absurd h
+
+  pub sites_found : (b : BoundValue) (ls : List RKernel) → map rkernel_of b.kernels ≡ map rkernel_of ls → first_found (site_found b) b.sites ≡ first_found (site_found (with_kernels b ls)) b.sites
+  sites_found b ls e =
+      same_found (site_found b) (site_found (with_kernels b ls)) (λ site. same_by (kernel_at b.kernels site.kernel) (kernel_at ls site.kernel) (kernels_are_one b.kernels ls e site.kernel) (modes_of b site)) b.sites
+
+-- what a program's run without ranks printed, and these bytes behind it where it has no fault
+abbrev ran_by : List ℕ → Program KernelFault → Answer
+ran_by dump p = ran (stop_in (sequential p)) (unless_stopped (stop_in (sequential p)) (printed_in (sequential p)) dump)
+
+module _ (programs_are_one : ProgramsAreOne) (b : BoundValue) (ls : List RKernel) (same : map rkernel_of b.kernels ≡ map rkernel_of ls) where
+  pub output_same : (dump : List ℕ) → ran (first_fault b) (run_output b dump) ≡ ran (first_fault (with_kernels b ls)) (run_output (with_kernels b ls) dump)
+  output_same dump = ap (ran_by dump) (programs_are_one b ls same)

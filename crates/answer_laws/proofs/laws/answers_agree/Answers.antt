@@ -1,0 +1,21 @@
+use Rattle.answer_laws.proofs.Agreed as law
+use Rattle.answer_laws.proofs.PlansAgree as plans
+use Rattle.answer_laws.proofs.laws.answers_agree.Goals as goal
+
+pub returns : goal.returns
+returns c =
+    law.answers_agree c.kernels_are_trees.ensures.walks c.one_program.ensures.kernels
+    c.one_outcome-2.ensures.one c.one_outcome.ensures c.one_tree.ensures c.one_answer.ensures c.walk_finds.ensures
+    c.rules_are_broken.ensures.obeys c.rules_are_broken.ensures.first
+    (plans.plans_alike c.one_program.ensures.programs c.one_dump.ensures c.one_plan.ensures schedules c.one_numbers.ensures
+    c.one_owners.ensures c.one_distribution.ensures c.one_plan_text.ensures c.one_step_count.ensures)
+    c.options_are_within.ensures
+  where
+    schedules : plans.ScheduleLaws
+    schedules = record {
+      steps_decide = c.tests_decide.ensures.steps;
+      missing_is = c.tests_decide.ensures.missing;
+      left_is = c.tests_decide.ensures.left;
+      one_read = c.one_outcome-3.ensures.one;
+      drawn_once = c.drawn_once.ensures;
+    }

@@ -1,0 +1,95 @@
+// Laws of the definitions, each as the contract of a function that does nothing.
+
+ghost use Rattle.std.specs.Prelude.{ℕ};
+ghost use Rattle.answers.specs.Endings.{Call, Ends, IsComplete, IsUsage, IsShown, IsSilent, AreReported};
+ghost use Rattle.answers.specs.Laws.{AnswersAgree, AnswersExist};
+
+/// A law: any two answers to the same words over the same files have the same status and the same bytes for the output, and
+/// the same line, unless the source has tokens and no tree.
+pub fn answers_agree()
+    ensures { AnswersAgree }
+{
+    command_words::options_are_within();
+    c_lex::one_outcome();
+    c_reader::one_tree();
+    name_resolution::one_answer();
+    mesh_text::one_outcome();
+    kernel_model::walk_finds();
+    kernel_model::rules_are_broken();
+    kernel_model::kernels_are_trees();
+    distribute::one_numbers();
+    distribute::one_owners();
+    distribute::one_distribution();
+    loop_plan::one_plan();
+    loop_plan::one_plan_text();
+    loop_plan::one_step_count();
+    schedule_text::one_outcome();
+    schedule_steps::drawn_once();
+    schedule_steps::tests_decide();
+    bound_plan::one_program();
+    bound_plan::one_dump();
+}
+
+/// A law: no words and files are without an answer.
+pub fn answers_exist()
+    ensures { AnswersExist }
+{
+    command_words::options_are_within();
+    c_lex::some_outcome();
+    c_lex::one_outcome();
+    c_reader::one_depth();
+    c_reader::deep_is_far();
+    name_resolution::some_answer();
+    mesh_text::one_outcome();
+    loop_bind::refusals_have_causes();
+    loop_bind::resolved_sources_are();
+    loop_bind::spelled_entries_fit();
+    loop_bind::bound_programs_fit();
+    loop_bind::bound_maps_are_narrow();
+    kernel_model::walk_finds();
+    kernel_model::rules_are_broken();
+    part_text::one_outcome();
+    plan_exists::some_numbers();
+    plan_exists::some_owners();
+    plan_exists::outcomes_fit();
+    plan_exists::some_distribution();
+    plan_exists::narrow_meshes_fit_memory();
+    plan_exists::some_plan();
+    schedule_steps::drawn_exists();
+    schedule_text::one_outcome();
+    step_judge::taken_lists_are_accepted();
+}
+
+/// A law: where a call ends, its status is that of any answer over files that tell it, unless memory ran out or a count of
+/// faults rose.
+pub fn calls_are_complete()
+    ensures { (c : Call) (status : ℕ) → Ends c status → IsComplete c status }
+{
+    answers_agree();
+}
+
+/// A law: where a call ends, its status is 2 exactly where the words are refused, unless memory ran out.
+pub fn usage_is_of_words()
+    ensures { (c : Call) (status : ℕ) → Ends c status → IsUsage c status }
+{}
+
+/// A law: where a call ends, what stands on the output is what any answer over files that tell it has, whole or, where the
+/// count of the output rose, a front of it.
+pub fn calls_show_their_answers()
+    ensures { (c : Call) (status : ℕ) → Ends c status → IsShown c status }
+{
+    answers_agree();
+}
+
+/// A law: where a call ends with another status than 1, 3 and 4, the line for the errors is that of any answer over files that
+/// tell it, unless the source has tokens and no tree.
+pub fn calls_report_their_answers()
+    ensures { (c : Call) (status : ℕ) → Ends c status → AreReported c status }
+{
+    answers_agree();
+}
+
+/// A law: where a call ends with another status than 0, 4 and 9, nothing is written to the output.
+pub fn others_write_nothing()
+    ensures { (c : Call) (status : ℕ) → Ends c status → IsSilent c status }
+{}

@@ -1,0 +1,10 @@
+//! Laws of the definitions in `answers`: that any two answers to the same words over the same files agree, that there is one
+//! for all words and files, and what the ending of a call tells of them.
+#![tactic(auto)]
+
+mod laws;
+
+pub use laws::{
+    answers_agree, answers_exist, calls_are_complete, calls_report_their_answers,
+    calls_show_their_answers, others_write_nothing, usage_is_of_words,
+};

@@ -1,5 +1,0 @@
-use Rattle.answers.proofs.Shown.{shown}
-use Rattle.answers.proofs.laws.calls_show_their_answers.Goals as goal
-
-pub returns : goal.returns
-returns c = shown c.answers_agree.ensures

@@ -1,0 +1,4 @@
+pub mod Backwards
+pub mod Few
+pub mod Sliced
+pub mod ByPlans

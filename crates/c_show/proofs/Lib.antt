@@ -1,0 +1,4 @@
+mod ShownExprs
+mod ShownStmts
+mod ShownCalls
+mod Shown

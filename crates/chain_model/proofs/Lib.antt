@@ -1,0 +1,10 @@
+pub mod Chains
+pub mod Given
+pub mod Stores
+pub mod Invariants
+pub mod Elements
+pub mod Ranks
+pub mod Recorded
+pub mod Joins
+pub mod Whole
+pub mod Holding

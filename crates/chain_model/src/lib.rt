@@ -1,0 +1,7 @@
+//! Chains of Free loops with one exchange each: ranks execute further elements redundantly, so that nothing need be exchanged within a
+//! chain. The machine that runs them, and the theorem that it runs as the sequential run does.
+#![tactic(auto)]
+
+mod theorem;
+
+pub use theorem::{chains_are_told_by_firsts, chains_run_as_sequential, stores_hold};

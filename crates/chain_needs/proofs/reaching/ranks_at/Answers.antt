@@ -1,0 +1,18 @@
+use Rattle.std.proofs.Common.{◌≡◌, ◌<◌, List, length, ap, ◌∙◌, arith}
+use Rattle.rank_sets.specs.declared.rank_set.RankSet.{RankSet}
+use Rattle.rank_sets.specs.RankSet.{has_at}
+use Rattle.rank_sets.proofs.Rows.{has_at_read}
+use Rattle.halo_lists.specs.Sets.{sets_in}
+use Rattle.halo_lists.proofs.SetsReading.{sets_read}
+use Rattle.chain_needs.proofs.reaching.ranks_at.Goals as goal
+
+pub index-requires : goal.index-requires
+index-requires c =
+    let e : c.index-sets-dat.result.items ≡ sets_in c.args.sets.now c.args.dat = sets_read c.args.sets.now c.args.dat c.index-sets-dat.result c.requires.dat c.index-sets-dat.is in
+    omega (arith, c.requires.element, ap (length {A = RankSet}) e, c.index-sets-dat.result.ok.0)
+
+pub returns : goal.returns
+returns c =
+    let e : c.index-sets-dat.result.items ≡ sets_in c.args.sets.now c.args.dat = sets_read c.args.sets.now c.args.dat c.index-sets-dat.result c.requires.dat c.index-sets-dat.is in
+    let l : c.args.element < length c.index-sets-dat.result.items = omega (arith, c.requires.element, ap (length {A = RankSet}) e) in
+    λ r. has_at_read c.index-sets-dat.result.items c.args.element c.index.result.now l c.index.ensures r ∙ ap (λ (z : List RankSet). has_at z c.args.element r) e

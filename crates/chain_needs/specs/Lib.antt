@@ -1,0 +1,3 @@
+pub mod PairSets
+pub mod Needed
+pub mod FreeSites

@@ -1,0 +1,23 @@
+// The loops of a program.
+
+ghost use Rattle.std.specs.Prelude.{◌≡◌, ◌<◌, length};
+ghost use Rattle.bound_program.specs.Values.{bound_of};
+ghost use Rattle.bound_program.specs.Fits.{site_at};
+
+use bound_program::{Arg, Bound};
+
+/// A loop's arguments.
+pub fn args_of(bound: &Bound, site: u32) -> &[Arg]
+    requires { site < length (bound_of bound.now).sites }
+    ensures { result.now ≡ (site_at (bound_of bound.now) site).args }
+{
+    &bound.sites[site as usize].args
+}
+
+/// The set that a loop goes over.
+pub fn set_of(bound: &Bound, site: u32) -> u32
+    requires { site < length (bound_of bound.now).sites }
+    ensures { result ≡ (site_at (bound_of bound.now) site).set }
+{
+    bound.sites[site as usize].set
+}

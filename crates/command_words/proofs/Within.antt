@@ -1,0 +1,133 @@
+-- The numbers of a plan's options are in range.
+use Rattle.std.proofs.Common.{◌≡◌, ◌<◌, ◌≤◌, ℕ, Bool, true, false, not, ◌&&◌, nat_lt, List, [], ◌∷◌, Option, Some, None, Result, Ok, Err, if◌then◌else◌, refl, subst, codes, arith}
+use Rattle.std.specs.Prelude.{option_and_then, option_map, is_some}
+use Rattle.std.specs.Str.{bytes_eq}
+use Rattle.std.proofs.lemmas.Bool.{ltb-true, ltb-false, and_parts}
+use Rattle.clap.specs.Walk.{Row, first_of}
+use Rattle.clap.specs.Kinds.{Kinds}
+use Rattle.clap.specs.Faults.{fault_of}
+use Rattle.clap.specs.Simple.{matches_of}
+use Rattle.clap.specs.declared.error.kind.ErrorKind.TheVariants as kind
+use Rattle.op_num.specs.Spelling.{number_of}
+use Rattle.mesh_gen.specs.declared.places.TheConstants.{MAX_SIDE}
+use Rattle.command_words.specs.declared.limits.TheConstants.{MAX_RANKS, MAX_BLOCK, MAX_WORKERS}
+use Rattle.command_words.specs.Refusal.{Refusal}
+use Rattle.command_words.specs.Words.{PlanJob, Check, ShowsPlan, ShowsSchedule, RunsPlan, Parting, Schedule, Options, Input, InFiles, OfSample, Command, OnPlan, command, number_to, number_or, form_of, OptionWords, options_in, parting_of, schedule_of, options_with, options_of, plans_nothing, on_files, samples, converts, plans, by_job, or_usage, asked, judged, WordsAre}
+use Rattle.command_words.specs.Laws.{AreWithin}
+
+-- P is so of what there is
+abbrev Holds : {X : Type 0} → (X → Type 0) → Option X → Type 0
+Holds P None = Unit {0}
+Holds P (Some x) = P x
+
+holds_if : {X : Type 0} (P : X → Type 0) (b : Bool) (x y : Option X) → Holds P x → Holds P y → Holds P (if b then x else y)
+holds_if P true x y h k = h
+holds_if P false x y h k = k
+
+holds_then : {X Y : Type 0} (P : X → Type 0) (Q : Y → Type 0) (f : X → Option Y) (o : Option X) → Holds P o → ((x : X) → P x → Holds Q (f x)) → Holds Q (option_and_then f o)
+holds_then P Q f None h k = tt
+holds_then P Q f (Some x) h k = k x h
+
+holds_map : {X Y : Type 0} (P : X → Type 0) (Q : Y → Type 0) (f : X → Y) (o : Option X) → Holds P o → ((x : X) → P x → Q (f x)) → Holds Q (option_map f o)
+holds_map P Q f None h k = tt
+holds_map P Q f (Some x) h k = k x h
+
+-- no more is known
+abbrev Any : {X : Type 0} → X → Type 0
+Any x = Unit {0}
+
+any : {X : Type 0} (o : Option X) → Holds Any o
+any None = tt
+any (Some x) = tt
+
+-- ---- numbers
+
+abbrev IsTo : ℕ → ℕ → Type 0
+IsTo most n = (0 < n) × (n ≤ most)
+
+not_true : (b : Bool) → not b ≡ true → b ≡ false
+not_true true h = let bad : ⊥ = cc in absurd bad
+not_true false h = refl
+
+number_is : (most n : ℕ) (b : Bool) → nat_lt 0 n && not (nat_lt most n) ≡ b → Holds (IsTo most) (if b then Some n else None)
+number_is most n true e = let h = and_parts (nat_lt 0 n) (not (nat_lt most n)) e in (ltb-true 0 n h.0, ltb-false most n (not_true (nat_lt most n) h.1))
+number_is most n false e = tt
+
+number_holds : (most : ℕ) (word : List ℕ) → Holds (IsTo most) (number_to most word)
+number_holds most word = holds_then Any (IsTo most) (λ n. if nat_lt 0 n && not (nat_lt most n) then Some n else None) (number_of word) (any (number_of word)) (λ n h. number_is most n (nat_lt 0 n && not (nat_lt most n)) refl)
+
+or_holds : (usual most : ℕ) (word : Option (List ℕ)) → IsTo most usual → Holds (IsTo most) (number_or usual most word)
+or_holds usual most None h = h
+or_holds usual most (Some word) h = number_holds most word
+
+-- ---- options
+
+with_holds : (ranks : ℕ) (parting : Parting) (schedule : Schedule) (w : OptionWords) → IsTo MAX_RANKS ranks → Holds AreWithin (options_with ranks parting schedule w)
+with_holds ranks parting schedule w h =
+    holds_then (IsTo MAX_BLOCK) AreWithin _ (number_or 256 MAX_BLOCK w.block) (or_holds 256 MAX_BLOCK w.block (omega arith, omega arith))
+    (λ block k. holds_map (IsTo MAX_WORKERS) AreWithin _ (number_or 1 MAX_WORKERS w.workers) (or_holds 1 MAX_WORKERS w.workers (omega arith, omega arith))
+    (λ workers l. record { some = h.0; few = h.1; some_places = k.0; few_places = k.1; some_workers = l.0; few_workers = l.1 }))
+
+options_hold : (w : OptionWords) → Holds AreWithin (options_of w)
+options_hold w =
+    holds_then (IsTo MAX_RANKS) AreWithin _ (number_or 1 MAX_RANKS w.ranks) (or_holds 1 MAX_RANKS w.ranks (omega arith, omega arith))
+    (λ ranks h. holds_then Any AreWithin _ (parting_of w.parts w.partition) (any (parting_of w.parts w.partition))
+    (λ parting _. holds_then Any AreWithin _ (schedule_of w.schedule w.seed) (any (schedule_of w.schedule w.seed))
+    (λ schedule _. with_holds ranks parting schedule w h)))
+
+-- ---- commands
+
+-- the options of a command are in range
+abbrev IsWithin : Command → Type 0
+IsWithin (OnPlan j o input) = AreWithin o
+IsWithin c = Unit {0}
+
+converts_hold : (input : List ℕ) (mesh : Option (List ℕ)) (w : OptionWords) → Holds IsWithin (converts input mesh w)
+converts_hold input None w = holds_if IsWithin (plans_nothing w) _ _ (holds_map Any IsWithin _ (form_of w.form) (any (form_of w.form)) (λ f h. tt)) tt
+converts_hold input (Some mesh) w = tt
+
+plans_hold : (j : PlanJob) (input : Input) (w : OptionWords) → Holds IsWithin (plans j input w)
+plans_hold j input w = holds_if IsWithin (is_some w.form) _ _ tt (holds_map AreWithin IsWithin _ (options_of w) (options_hold w) (λ o h. h))
+
+files_hold : (job : Input → OptionWords → Option Command) → ((input : Input) (w : OptionWords) → Holds IsWithin (job input w))
+    → (input : List ℕ) (mesh : Option (List ℕ)) (w : OptionWords) → Holds IsWithin (on_files job input mesh w)
+files_hold job h input None w = tt
+files_hold job h input (Some mesh) w = h (InFiles input mesh) w
+
+samples_hold : (input : List ℕ) (mesh : Option (List ℕ)) (w : OptionWords) → Holds IsWithin (samples input mesh w)
+samples_hold input None w = holds_then Any IsWithin _ (number_to MAX_SIDE input) (any (number_to MAX_SIDE input)) (λ side _. plans_hold RunsPlan (OfSample side) w)
+samples_hold input (Some mesh) w = tt
+
+jobs_hold : (job input : List ℕ) (mesh : Option (List ℕ)) (w : OptionWords) → Holds IsWithin (by_job job input mesh w)
+jobs_hold job input mesh w =
+    holds_if IsWithin (bytes_eq job (codes "run")) _ _ (files_hold (plans RunsPlan) (plans_hold RunsPlan) input mesh w)
+    (holds_if IsWithin (bytes_eq job (codes "sample")) _ _ (samples_hold input mesh w)
+    (holds_if IsWithin (bytes_eq job (codes "convert")) _ _ (converts_hold input mesh w)
+    (holds_if IsWithin (bytes_eq job (codes "check")) _ _ (files_hold (plans Check) (plans_hold Check) input mesh w)
+    (holds_if IsWithin (bytes_eq job (codes "plan")) _ _ (files_hold (plans ShowsPlan) (plans_hold ShowsPlan) input mesh w)
+    (holds_if IsWithin (bytes_eq job (codes "schedule")) _ _ (files_hold (plans ShowsSchedule) (plans_hold ShowsSchedule) input mesh w) tt)))))
+
+-- ---- words
+
+-- what is asked for is in range
+abbrev Asks : Result Command Refusal → Type 0
+Asks (Ok c) = IsWithin c
+Asks (Err r) = Unit {0}
+
+or_usage_asks : (o : Option Command) → Holds IsWithin o → Asks (or_usage o)
+or_usage_asks None h = tt
+or_usage_asks (Some c) h = h
+
+asked_asks : (job input mesh : Option (List ℕ)) (w : OptionWords) → Asks (asked job input mesh w)
+asked_asks (Some job) (Some input) mesh w = or_usage_asks (by_job job input mesh w) (jobs_hold job input mesh w)
+asked_asks (Some job) None mesh w = tt
+asked_asks None input mesh w = tt
+
+judged_asks : (ks : Kinds) (rows : List Row) → Asks (judged ks rows)
+judged_asks [] rows = asked_asks (first_of (codes "JOB") rows) (first_of (codes "INPUT") rows) (first_of (codes "MESH") rows) (options_in rows)
+judged_asks (kind.DisplayHelp ∷ ks) rows = tt
+judged_asks (kind.DisplayVersion ∷ ks) rows = tt
+judged_asks (k ∷ ks) rows = tt
+
+pub within : (words : List (List ℕ)) (j : PlanJob) (o : Options) (input : Input) → WordsAre words (Ok (OnPlan j o input)) → AreWithin o
+within words j o input h = subst Asks h (judged_asks (fault_of command words) (matches_of command words))

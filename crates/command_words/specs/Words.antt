@@ -1,0 +1,313 @@
+-- The words of the command line, by `clap`'s own model of the command.
+use Rattle.std.specs.Prelude.{◌≡◌, ℕ, ◌^◌, Bool, true, false, not, ◌&&◌, nat_lt, nat_eq, List, [], ◌∷◌, ◌++◌, Option, Some, None}
+use Rattle.std.specs.Prelude.{Result, Ok, Err, codes, if◌then◌else◌, option_and_then, option_map, is_some, length, take, drop}
+use Rattle.std.specs.Str.{bytes_eq}
+use Rattle.clap.specs.Walk.{Rule, Row, first_of}
+use Rattle.clap.specs.Simple.{App, new_rule, new_app, with_rule, on_top, matches_of}
+use Rattle.clap.specs.Kinds.{Kinds}
+use Rattle.clap.specs.Faults.{fault_of}
+use Rattle.clap.specs.declared.builder.action.ArgAction.TheVariants.{SetTrue}
+use Rattle.clap.specs.declared.error.kind.ErrorKind.TheVariants as kind
+use Rattle.op_num.specs.Spelling.{number_of}
+use Rattle.mesh_text.specs.declared.entry.Form.{Form}
+use Rattle.mesh_text.specs.declared.entry.Form.TheVariants as form
+use Rattle.mesh_gen.specs.declared.places.TheConstants.{MAX_SIDE}
+use Rattle.distribute.specs.Parts.{Parts, Block, Bisect, Grow}
+use Rattle.command_words.specs.declared.limits.TheConstants.{MAX_RANKS, MAX_BLOCK, MAX_WORKERS, MAX_GROUP}
+use Rattle.command_words.specs.Refusal.{Refusal, Usage}
+
+-- what is done with the plan of a program: its sizes are told, or its text or a schedule of it is written, or the program runs by it
+pub data PlanJob : Type 0 where
+  Check : PlanJob
+  ShowsPlan : PlanJob
+  ShowsSchedule : PlanJob
+  RunsPlan : PlanJob
+
+-- who owns which element: by a rule, or as the file of this name says
+pub data Parting : Type 0 where
+  ByRule : Parts → Parting
+  ByFile : (name : List ℕ) → Parting
+
+-- in which order the steps of a plan are taken: in the standard order, in the one drawn by a seed, or as the file of this name says
+pub data Schedule : Type 0 where
+  Standard : Schedule
+  Drawn : (seed : ℕ) → Schedule
+  Written : (name : List ℕ) → Schedule
+
+-- how a program runs on ranks: how many; who owns which element; new numbers by the map of this name, or none; how many places a
+-- block has; in which order the steps are taken, and by how many workers; and whether the memories are dumped behind the output
+pub record Options : Type 0 where
+  pub ranks : ℕ
+  pub parting : Parting
+  pub renumber : Option (List ℕ)
+  pub block : ℕ
+  pub schedule : Schedule
+  pub workers : ℕ
+  pub dumps : Bool
+
+-- how many places of one colour are begun together at most: one worker begins them one by one
+abbrev pub group_of : Options → ℕ
+group_of o = if nat_eq o.workers 1 then 1 else MAX_GROUP
+
+-- where a source and a mesh come from: from the files of these names, or they are the sample on a grid of this many cells a side
+pub data Input : Type 0 where
+  InFiles : (source mesh : List ℕ) → Input
+  OfSample : (side : ℕ) → Input
+
+-- What the words ask for: a job on the plan of a program over a mesh, with these options; the mesh text in a file written again, in a
+-- version of the format; or what the program says of itself.
+pub data Command : Type 0 where
+  OnPlan : PlanJob → Options → Input → Command
+  Converts : Form → (mesh : List ℕ) → Command
+  ShowsUsage : Command
+  ShowsVersion : Command
+
+-- ---- the command as `clap` has it
+
+-- a word without a `-`, required or not
+abbrev pub positional : Bool → List ℕ → Rule
+positional required id = record (new_rule id) { required = required }
+
+-- an option with one value, `--ID VALUE` or `--ID=VALUE`
+abbrev pub option : List ℕ → Rule
+option id = record (new_rule id) { long = Some id }
+
+-- an option with no value, `--ID`
+abbrev pub flag : List ℕ → Rule
+flag id = record (option id) { action = Some SetTrue }
+
+-- the command has a version
+abbrev pub versioned : App → App
+versioned a = on_top (λ s. record s { has_version = true }) a
+
+-- `op2 JOB INPUT [MESH]` with nine options of one value, `--dump`, `--help` and `--version`
+abbrev pub command : App
+command =
+    with_rule
+    (with_rule
+    (with_rule
+    (with_rule
+    (with_rule
+    (with_rule
+    (with_rule
+    (with_rule
+    (with_rule
+    (with_rule
+    (with_rule
+    (with_rule
+    (with_rule (versioned (new_app (codes "op2"))) (positional true (codes "JOB")))
+    (positional true (codes "INPUT")))
+    (positional false (codes "MESH")))
+    (option (codes "form")))
+    (option (codes "ranks")))
+    (option (codes "parts")))
+    (option (codes "partition")))
+    (option (codes "renumber")))
+    (option (codes "block")))
+    (option (codes "schedule")))
+    (option (codes "seed")))
+    (option (codes "workers")))
+    (flag (codes "dump"))
+
+-- ---- what its matches mean
+
+-- the values of the options, as the words have them
+pub record OptionWords : Type 0 where
+  pub form : Option (List ℕ)
+  pub ranks : Option (List ℕ)
+  pub parts : Option (List ℕ)
+  pub partition : Option (List ℕ)
+  pub renumber : Option (List ℕ)
+  pub block : Option (List ℕ)
+  pub schedule : Option (List ℕ)
+  pub seed : Option (List ℕ)
+  pub workers : Option (List ℕ)
+  pub dumps : Bool
+
+-- whether a flag's value says so
+abbrev pub is_set : Option (List ℕ) → Bool
+is_set None = false
+is_set (Some word) = bytes_eq word (codes "true")
+
+-- those of the matches
+abbrev pub options_in : List Row → OptionWords
+options_in rows = record {
+  form = first_of (codes "form") rows;
+  ranks = first_of (codes "ranks") rows;
+  parts = first_of (codes "parts") rows;
+  partition = first_of (codes "partition") rows;
+  renumber = first_of (codes "renumber") rows;
+  block = first_of (codes "block") rows;
+  schedule = first_of (codes "schedule") rows;
+  seed = first_of (codes "seed") rows;
+  workers = first_of (codes "workers") rows;
+  dumps = is_set (first_of (codes "dump") rows);
+}
+
+-- none of a plan's options stands
+abbrev pub plans_nothing : OptionWords → Bool
+plans_nothing w =
+    not (is_some w.ranks) && not (is_some w.parts) && not (is_some w.partition) && not (is_some w.renumber) && not (is_some w.block)
+    && not (is_some w.schedule) && not (is_some w.seed) && not (is_some w.workers) && not w.dumps
+
+-- what a match asks for, or the words are refused
+abbrev pub or_usage : Option Command → Result Command Refusal
+or_usage None = Err Usage
+or_usage (Some c) = Ok c
+
+-- a number from 1 to the most, in decimal digits
+abbrev pub number_to : (most : ℕ) → List ℕ → Option ℕ
+number_to most word = option_and_then (λ n. if nat_lt 0 n && not (nat_lt most n) then Some n else None) (number_of word)
+
+-- a version of the mesh format; the second, where no word says which
+abbrev pub form_of : Option (List ℕ) → Option Form
+form_of None = Some form.Two
+form_of (Some word) = option_map (λ n. if nat_eq n 1 then form.One else form.Two) (number_to 2 word)
+
+-- ---- a plan's options
+
+-- a number from 1 to the most, in decimal digits; this one, where no word says which
+abbrev pub number_or : (usual most : ℕ) → Option (List ℕ) → Option ℕ
+number_or usual most None = Some usual
+number_or usual most (Some word) = number_to most word
+
+-- what stands behind a prefix, if the word begins with it
+abbrev pub behind : (prefix word : List ℕ) → Option (List ℕ)
+behind prefix word = if bytes_eq (take (length prefix) word) prefix then Some (drop (length prefix) word) else None
+
+-- `grow:MAP`
+abbrev pub growth_of : List ℕ → Option Parts
+growth_of word = option_map Grow (behind (codes "grow:") word)
+
+-- what is by cuts along a dat's values, or else by growth
+abbrev pub cuts_or_growth : Option (List ℕ) → List ℕ → Option Parts
+cuts_or_growth (Some dat) word = Some (Bisect dat)
+cuts_or_growth None word = growth_of word
+
+-- `block`, `bisect:DAT` or `grow:MAP`
+abbrev pub rule_of : List ℕ → Option Parts
+rule_of word = if bytes_eq word (codes "block") then Some Block else cuts_or_growth (behind (codes "bisect:") word) word
+
+-- by `--parts`, or by `--partition`, or by blocks; not by both
+abbrev pub parting_of : (parts partition : Option (List ℕ)) → Option Parting
+parting_of None None = Some (ByRule Block)
+parting_of (Some word) None = option_map ByRule (rule_of word)
+parting_of None (Some name) = Some (ByFile name)
+parting_of (Some word) (Some name) = None
+
+-- a number below 2 ^ 64, in decimal digits
+abbrev pub seed_of : List ℕ → Option ℕ
+seed_of word = option_and_then (λ n. if nat_lt n (2 ^ 64) then Some n else None) (number_of word)
+
+-- by `--schedule`, or by `--seed`, or the standard order; not by both
+abbrev pub schedule_of : (schedule seed : Option (List ℕ)) → Option Schedule
+schedule_of None None = Some Standard
+schedule_of (Some name) None = Some (Written name)
+schedule_of None (Some word) = option_map Drawn (seed_of word)
+schedule_of (Some name) (Some word) = None
+
+-- with a number of ranks, owners and an order of steps that are known
+abbrev pub options_with : (ranks : ℕ) → Parting → Schedule → OptionWords → Option Options
+options_with ranks parting schedule w =
+    option_and_then (λ block. option_map (λ workers. record {
+      ranks = ranks;
+      parting = parting;
+      renumber = w.renumber;
+      block = block;
+      schedule = schedule;
+      workers = workers;
+      dumps = w.dumps;
+    }) (number_or 1 MAX_WORKERS w.workers))
+    (number_or 256 MAX_BLOCK w.block)
+
+-- all options of a plan
+abbrev pub options_of : OptionWords → Option Options
+options_of w =
+    option_and_then (λ ranks. option_and_then (λ parting. option_and_then (λ schedule. options_with ranks parting schedule w)
+    (schedule_of w.schedule w.seed))
+    (parting_of w.parts w.partition))
+    (number_or 1 MAX_RANKS w.ranks)
+
+-- ---- jobs
+
+-- a job on the plan of a program over a mesh, with a plan's options
+abbrev pub plans : PlanJob → Input → OptionWords → Option Command
+plans j input w = if is_some w.form then None else option_map (λ o. OnPlan j o input) (options_of w)
+
+-- SOURCE and MESH
+abbrev pub on_files : (Input → OptionWords → Option Command) → (input : List ℕ) (mesh : Option (List ℕ)) → OptionWords → Option Command
+on_files job input (Some mesh) w = job (InFiles input mesh) w
+on_files job input None w = None
+
+-- `sample SIDE`
+abbrev pub samples : (input : List ℕ) (mesh : Option (List ℕ)) → OptionWords → Option Command
+samples input None w = option_and_then (λ side. plans RunsPlan (OfSample side) w) (number_to MAX_SIDE input)
+samples input (Some mesh) w = None
+
+-- `convert MESH`, with `--form`
+abbrev pub converts : (input : List ℕ) (mesh : Option (List ℕ)) → OptionWords → Option Command
+converts input None w = if plans_nothing w then option_map (λ f. Converts f input) (form_of w.form) else None
+converts input (Some mesh) w = None
+
+-- by the job's name
+abbrev pub by_job : (job input : List ℕ) (mesh : Option (List ℕ)) → OptionWords → Option Command
+by_job job input mesh w =
+    if bytes_eq job (codes "run") then on_files (plans RunsPlan) input mesh w
+    else if bytes_eq job (codes "sample") then samples input mesh w
+    else if bytes_eq job (codes "convert") then converts input mesh w
+    else if bytes_eq job (codes "check") then on_files (plans Check) input mesh w
+    else if bytes_eq job (codes "plan") then on_files (plans ShowsPlan) input mesh w
+    else if bytes_eq job (codes "schedule") then on_files (plans ShowsSchedule) input mesh w
+    else None
+
+-- the words JOB and INPUT stand
+abbrev pub asked : (job input mesh : Option (List ℕ)) → OptionWords → Result Command Refusal
+asked (Some job) (Some input) mesh w = or_usage (by_job job input mesh w)
+asked _ _ mesh w = Err Usage
+
+-- what the matches ask for, where `clap` has nothing against the words; it answers those that ask for help or the version by kinds
+-- of their own
+abbrev pub judged : Kinds → List Row → Result Command Refusal
+judged [] rows =
+    asked (first_of (codes "JOB") rows) (first_of (codes "INPUT") rows) (first_of (codes "MESH") rows) (options_in rows)
+judged (kind.DisplayHelp ∷ ks) rows = Ok ShowsUsage
+judged (kind.DisplayVersion ∷ ks) rows = Ok ShowsVersion
+judged (k ∷ ks) rows = Err Usage
+
+-- What the words, the program's name first, ask for, or their refusal.
+abbrev pub WordsAre : List (List ℕ) → Result Command Refusal → Type 0
+WordsAre words r = judged (fault_of command words) (matches_of command words) ≡ r
+
+-- ---- the files that they name
+
+-- those that a source and a mesh come from
+abbrev pub names_from : Input → List (List ℕ)
+names_from (InFiles source mesh) = source ∷ mesh ∷ []
+names_from (OfSample side) = []
+
+-- the one that owners come from, where they do
+abbrev pub names_by : Parting → List (List ℕ)
+names_by (ByRule parts) = []
+names_by (ByFile name) = name ∷ []
+
+-- the one that a schedule comes from, where it does
+abbrev pub names_at : Schedule → List (List ℕ)
+names_at Standard = []
+names_at (Drawn seed) = []
+names_at (Written name) = name ∷ []
+
+-- those of a command
+abbrev pub names_of : Command → List (List ℕ)
+names_of (OnPlan j o input) = names_from input ++ names_by o.parting ++ names_at o.schedule
+names_of (Converts form mesh) = mesh ∷ []
+names_of ShowsUsage = []
+names_of ShowsVersion = []
+
+-- those of words
+abbrev pub names_in : Result Command Refusal → List (List ℕ)
+names_in (Ok c) = names_of c
+names_in (Err r) = []
+
+-- the files that the words name
+abbrev pub named_by : List (List ℕ) → List (List ℕ)
+named_by words = names_in (judged (fault_of command words) (matches_of command words))

@@ -1,0 +1,10 @@
+use Rattle.par_exec.proofs.parts.+parts.Given as goal
+
+abbrev pub decreases-join_mut+arg2 : goal.decreases-join_mut+arg2
+decreases-join_mut+arg2 g l = l.low
+
+abbrev pub decreases-join_mut+arg3 : goal.decreases-join_mut+arg3
+decreases-join_mut+arg3 g l = l.high
+
+abbrev pub decreases-run_from : goal.decreases-run_from
+decreases-run_from g l = l.count

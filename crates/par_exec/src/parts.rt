@@ -1,0 +1,94 @@
+// Jobs on the parts of a list, on several threads by fork and join over halves of it.
+
+ghost use Rattle.std.specs.Prelude.{◌≡◌, ℕ, ◌+◌, ◌<◌, ◌^◌, length};
+ghost use denote.Param.Send.{IsSync, IsSend};
+ghost use Rattle.par_exec.specs.Parts.{TakesEach, MadeEach};
+
+use crate::Gate;
+use std::marker::{Send, Sync};
+use std::thread::{Threads, join_mut};
+
+/// Work that is done on each part of a list, by the part's number.
+pub trait PartJob<T>: Sync {
+    /// The numbers of parts, each with the part, that the job takes.
+    ghost takes: { Self → ℕ → T → Type 0 };
+
+    /// What the job may make of a part, by its number.
+    ghost makes: { Self → ℕ → T → T → Type 0 };
+
+    /// Works on the part with number `index`, in place.
+    fn run(&self, index: usize, part: &mut T)
+        requires { takes self.now index part.old }
+        ensures { makes self.now index part.old part.new };
+}
+
+/// Runs job i on part i, for each part of the list, and calls `gate.enter(i)` just before; the parts are numbered from 0.
+///
+/// With more than one of the `workers`, at least 1, and more than one part, the list is split into halves that run by fork and
+/// join, the workers shared out between them. What is said of each part holds for every number of workers and every gate. Takes no
+/// memory.
+pub fn run_parts<R: Threads + Sync, T: Send, J: PartJob<T>, G: Gate>(
+    rt: &R,
+    workers: u32,
+    jobs: &J,
+    gate: &G,
+    parts: &mut [T],
+)
+    requires workers { 0 < workers }
+    requires takes { TakesEach (J.takes jobs.now) 0 parts.old }
+    ensures { MadeEach (J.makes jobs.now) 0 parts.old parts.new }
+{
+    let count = parts.len();
+    run_from(rt, workers, 0, count, jobs, gate, parts);
+}
+
+// Runs job i on part i, where the list has `count` parts from number `first` on.
+#[cycle(parts)]
+fn run_from<R: Threads + Sync, T: Send, J: PartJob<T>, G: Gate>(
+    rt: &R,
+    workers: u32,
+    first: usize,
+    count: usize,
+    jobs: &J,
+    gate: &G,
+    parts: &mut [T],
+)
+    requires workers { 0 < workers }
+    requires room { first + count < 2 ^ 64 }
+    requires whole { length parts.old ≡ count }
+    requires takes { TakesEach (J.takes jobs.now) first parts.old }
+    ensures { MadeEach (J.makes jobs.now) first parts.old parts.new }
+{
+    if count == 0 {
+        return;
+    }
+    if count == 1 {
+        gate.enter(first);
+        jobs.run(first, &mut parts[0]);
+        return;
+    }
+    let low = count / 2;
+    let high = count - low;
+    let next = first + low;
+    let (front, back) = parts.split_at_mut(low);
+    if workers == 1 {
+        run_from(rt, 1, first, low, jobs, gate, front);
+        run_from(rt, 1, next, high, jobs, gate, back);
+        return;
+    }
+    let theirs = workers / 2;
+    let ours = workers - theirs;
+    join_mut(
+        rt,
+        &mut ||
+            requires { IsSync R.row × IsSync J.row × IsSync G.row × IsSend T.row × (0 < theirs) × (first + low < 2 ^ 64)
+                × (length front.now ≡ low) × TakesEach (J.takes jobs.now) first front.now }
+            ensures { MadeEach (J.makes jobs.entry.now) first front.entry.now front.exit.now }
+        { run_from(rt, theirs, first, low, jobs, gate, front) },
+        &mut ||
+            requires { IsSync R.row × IsSync J.row × IsSync G.row × IsSend T.row × (0 < ours) × (next + high < 2 ^ 64)
+                × (length back.now ≡ high) × TakesEach (J.takes jobs.now) next back.now }
+            ensures { MadeEach (J.makes jobs.entry.now) next back.entry.now back.exit.now }
+        { run_from(rt, ours, next, high, jobs, gate, back) },
+    );
+}

@@ -1,0 +1,43 @@
+// Whether a group's kernels are worth threads.
+
+ghost use Rattle.std.specs.Prelude.{◌<◌};
+
+use kernel_code::Part;
+use kernel_jobs::KernelJob;
+
+// As many operations as threads are worth: starting them takes as long as some thousands.
+const WORTH_THREADS: usize = 16384;
+
+// About how many operations a part of a kernel's code has, with those of its longer branch, and of a body as often as it is run.
+fn operations(part: &Part) -> usize {
+    match part {
+        Part::Straight(ops) => ops.len(),
+        Part::Both(first, second) => operations(first).saturating_add(operations(second)),
+        Part::If {
+            condition,
+            then,
+            otherwise,
+            ..
+        } => condition
+            .len()
+            .saturating_add(operations(then).max(operations(otherwise))),
+        Part::For {
+            first,
+            past,
+            body,
+            ..
+        } => (past.saturating_sub(*first) as usize).saturating_mul(operations(body)),
+    }
+}
+
+/// How many of the `workers` run a group's kernels: all of them where these have many operations together, and for a group that
+/// begins with its rank's first place, as a loop of one group does; else one.
+pub fn workers_for(job: &KernelJob<'_>, place: u32, workers: u32) -> u32
+    requires { 0 < workers }
+    ensures { 0 < result }
+{
+    if place == 0 || operations(&job.code.part).saturating_mul(job.tasks.len()) >= WORTH_THREADS {
+        return workers;
+    }
+    1
+}
