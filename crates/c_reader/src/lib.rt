@@ -7,16 +7,12 @@ mod cursor;
 mod declarations;
 mod expressions;
 mod faults;
-#[cfg(test)]
-mod grouping_tests;
 mod hosts;
 mod leads;
 mod loop_args;
 mod reading;
 mod refusals;
 mod statements;
-#[cfg(test)]
-mod tests;
 mod tops;
 
 pub use reading::{deep_is_far, one_depth, one_tree, read_program, shows_its_tokens};

@@ -14,8 +14,6 @@ mod put_statements;
 mod put_tokens;
 mod put_tops;
 mod showing;
-#[cfg(test)]
-mod tests;
 
 pub use c_lex::{Kind, LexRefusal, Name, Pos, Sign, Text, Token, Word, end_place, lex};
 pub use declarations::{AssignOp, Assignment, Declaration, Declr, Place};

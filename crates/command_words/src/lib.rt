@@ -10,8 +10,6 @@ mod jobs;
 mod options;
 mod read;
 mod refusals;
-#[cfg(test)]
-mod tests;
 
 pub use asked::{Asked, Input, Options, Parting, PlanJob, Schedule};
 pub use read::read_words;

@@ -9,9 +9,6 @@ ghost use Rattle.std.specs.Prelude.{◌≡◌, ℕ, ℤ, ◌+◌, ◌*◌, ◌/�
 ghost use denote.Param.Send.{IsSync};
 ghost use Rattle.par_exec.specs.Windows.{replaced, EachWindow};
 
-#[cfg(test)]
-mod tests;
-
 use std::marker::Sync;
 use std::thread::{Threads, join_mut};
 
