@@ -10,8 +10,6 @@ mod indices;
 mod modes;
 mod refusals;
 mod sides;
-#[cfg(test)]
-mod tests;
 mod tokens;
 mod uses;
 mod walking;

@@ -17,8 +17,6 @@ mod counts;
 mod keys;
 mod laws;
 mod neighbours;
-#[cfg(test)]
-mod tests;
 
 pub use by_target::inverse;
 use counts::degrees;

@@ -8,8 +8,6 @@ mod passed;
 mod places;
 mod refusals;
 mod spelling;
-#[cfg(test)]
-mod tests;
 mod texts;
 mod tokens;
 

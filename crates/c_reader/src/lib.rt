@@ -7,15 +7,11 @@ mod cursor;
 mod declarations;
 mod expressions;
 mod faults;
-#[cfg(test)]
-mod grouping_tests;
 mod hosts;
 mod leads;
 mod loop_args;
 mod reading;
 mod statements;
-#[cfg(test)]
-mod tests;
 mod tops;
 
 pub use c_tree::SourceRefusal;

@@ -12,8 +12,6 @@ mod limits;
 mod options;
 mod read;
 mod refusals;
-#[cfg(test)]
-mod tests;
 mod usage;
 
 pub use asked::{Asked, Input, Options, Parting, PlanJob, Schedule};

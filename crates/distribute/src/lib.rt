@@ -9,8 +9,6 @@ mod distribution;
 mod laws;
 mod numbers;
 mod owners;
-#[cfg(test)]
-mod tests;
 mod types;
 
 pub use distribution::distribute;

@@ -11,8 +11,6 @@
 mod grid;
 mod random;
 mod steps;
-#[cfg(test)]
-mod tests;
 
 use anyhow::{Error, bail};
 use grid::grid;

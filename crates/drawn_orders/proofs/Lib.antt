@@ -8,5 +8,4 @@ pub mod Begin
 pub mod Writes
 pub mod Known
 pub mod Taking
-pub mod SmallLists
 pub mod Firsts

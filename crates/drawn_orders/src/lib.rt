@@ -4,8 +4,6 @@
 mod heads;
 mod order;
 mod ranks;
-#[cfg(test)]
-mod tests;
 mod turns;
 
 pub use order::{DrawnOrder, drawn};

@@ -5,8 +5,6 @@ mod effects;
 mod expressions;
 mod laws;
 mod statements;
-#[cfg(test)]
-mod tests;
 
 pub use kernel_types::RKernel;
 pub use laws::unchanged_after_faults;

@@ -4,8 +4,6 @@
 mod dats;
 mod dumps;
 mod lines;
-#[cfg(test)]
-mod tests;
 
 pub use dats::print_dat;
 pub use dumps::dump;

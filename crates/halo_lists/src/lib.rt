@@ -17,8 +17,6 @@ mod laws;
 mod masks;
 mod named;
 mod split;
-#[cfg(test)]
-mod tests;
 mod types;
 
 use exports::exports_by_owner;

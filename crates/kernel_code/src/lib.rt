@@ -15,8 +15,6 @@ mod sides;
 mod slots;
 mod statements;
 mod stores;
-#[cfg(test)]
-mod tests;
 
 pub use code::{Code, compile, run, run_on};
 pub use codes::{compile_all, room_for};

@@ -6,10 +6,6 @@
 
 mod binding;
 mod laws;
-#[cfg(test)]
-mod limit_tests;
-#[cfg(test)]
-mod tests;
 mod told;
 mod weights;
 

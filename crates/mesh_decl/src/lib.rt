@@ -11,8 +11,6 @@ mod mesh;
 mod named;
 mod numbers;
 mod owners;
-#[cfg(test)]
-mod tests;
 
 pub use access::Via;
 pub use decl::{DatDecl, MapDecl, MapRefusal, SetDecl};

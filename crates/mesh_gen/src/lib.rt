@@ -8,8 +8,6 @@ mod entries;
 mod places;
 mod refusal;
 mod source;
-#[cfg(test)]
-mod tests;
 mod write;
 
 pub use places::MAX_SIDE;

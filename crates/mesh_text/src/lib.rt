@@ -7,8 +7,6 @@
 mod entry;
 mod piece;
 mod read;
-#[cfg(test)]
-mod tests;
 mod token;
 mod write;
 

@@ -11,8 +11,6 @@ mod kernels;
 mod refusals;
 mod resolving;
 mod statements;
-#[cfg(test)]
-mod tests;
 mod work;
 
 pub use breaches::{Breach, TypeRule};

@@ -2,8 +2,8 @@
 #![tactic(auto)]
 
 use answer_lines::{Line, report};
-use op2_command::op2;
 use op_outside::{FileShelf, OutSink};
+use op2_command::op2;
 use std::process::ExitCode;
 use std::rt::Env;
 use std::{env, io};

@@ -26,6 +26,3 @@ pub use sink::Sink;
 pub use sure::{SureShelf, SureSink};
 pub use system::{FileShelf, OutSink};
 pub use write::write_all_of;
-
-#[cfg(test)]
-mod tests;

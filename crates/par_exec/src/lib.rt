@@ -10,8 +10,6 @@ ghost use denote.Param.Send.{IsSync};
 ghost use Rattle.par_exec.specs.Windows.{replaced, EachWindow};
 
 mod parts;
-#[cfg(test)]
-mod tests;
 
 pub use parts::{PartJob, run_parts};
 use std::marker::Sync;

@@ -6,8 +6,6 @@
 
 mod read;
 mod refusals;
-#[cfg(test)]
-mod tests;
 mod token;
 
 pub use read::{one_outcome, one_partition, read_partition};

@@ -20,8 +20,6 @@ mod halves;
 mod laws;
 mod next;
 mod one_derivation;
-#[cfg(test)]
-mod tests;
 mod turns;
 
 use blocks::block_set;

@@ -7,8 +7,6 @@
 mod laws;
 mod lists;
 mod rank_set;
-#[cfg(test)]
-mod tests;
 
 pub use laws::numbers_are_listed;
 pub use lists::{empty_lists, places_by_rank, push_each};

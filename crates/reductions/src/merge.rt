@@ -65,30 +65,3 @@ impl Merge for Greatest {
 pub fn reductions_commute()
     ensures { (r : Reduction) → IsCommuting (unit_of r) (merged r) }
 {}
-
-#[cfg(test)]
-mod tests {
-    use super::*;
-
-    fn total<M: Merge>(amounts: &[i32]) -> i32 {
-        let mut merged = M::unit();
-        for &amount in amounts {
-            merged = M::merge(merged, amount);
-        }
-        merged
-    }
-
-    #[test]
-    fn merges_amounts(rt: HostRuntime) {
-        for (amounts, sum, least, greatest) in [
-            ([0, 0, 0], 0, 0, 0),
-            ([5, -3, 2], 4, -3, 5),
-            ([2147483647, 1, 0], -2147483648, 0, 2147483647),
-            ([-2147483648, -1, 7], -2147483642, -2147483648, 7),
-        ] {
-            assert_eq!(rt; total::<Sum>(&amounts), sum, "the sum");
-            assert_eq!(rt; total::<Least>(&amounts), least, "the minimum");
-            assert_eq!(rt; total::<Greatest>(&amounts), greatest, "the maximum");
-        }
-    }
-}

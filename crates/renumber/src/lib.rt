@@ -9,8 +9,6 @@ ghost use Rattle.renumber.specs.CuthillMcKee.{IsCuthillMcKee};
 mod by_targets;
 mod laws;
 mod orders;
-#[cfg(test)]
-mod tests;
 
 use breadth_order::taking_order;
 pub use laws::one_numbering;

@@ -6,8 +6,6 @@
 
 mod compressed;
 mod filling;
-#[cfg(test)]
-mod tests;
 
 pub use compressed::Rows;
 pub use filling::Filling;

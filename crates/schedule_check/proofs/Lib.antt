@@ -11,4 +11,3 @@ pub mod Distinct
 pub mod Rooms
 pub mod OfPlan
 pub mod TakingAll
-pub mod NoMesh

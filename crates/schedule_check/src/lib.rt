@@ -8,8 +8,6 @@ mod marks;
 mod pairs;
 mod places;
 mod rows;
-#[cfg(test)]
-mod tests;
 mod whole;
 
 pub use checker::Checker;

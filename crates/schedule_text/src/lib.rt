@@ -7,8 +7,6 @@
 mod lines;
 mod read;
 mod refusals;
-#[cfg(test)]
-mod tests;
 mod token;
 mod write;
 

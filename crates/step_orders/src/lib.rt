@@ -12,8 +12,6 @@ mod runs;
 mod shape;
 mod standard_order;
 mod stream;
-#[cfg(test)]
-mod tests;
 mod walks;
 
 pub use laws::runs_are_windows;
