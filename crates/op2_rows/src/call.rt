@@ -1,9 +1,8 @@
 // A call of `op2` over files in memory.
 
-use crate::files::File;
-use crate::table::Row;
 use op_outside::{MemoryShelf, MemorySink};
 use op2_command::op2;
+use row_tables::{File, Row};
 use std::alloc::{AllocError, Global};
 use std::marker::Sync;
 use std::thread::Threads;

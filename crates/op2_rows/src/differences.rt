@@ -1,8 +1,7 @@
 // In what the calls of a row end in another way than the row says.
 
 use crate::call::{Ended, called};
-use crate::files::{File, RowFault, files_of, text_of};
-use crate::table::{Row, Table};
+use row_tables::{File, Row, RowFault, Table, files_of, text_of};
 use std::alloc::{AllocError, Global};
 use std::marker::Sync;
 use std::thread::Threads;

@@ -5,11 +5,9 @@
 
 mod call;
 mod differences;
-mod files;
-mod table;
 
 use crate::differences::differences;
-use crate::table::Table;
+use row_tables::Table;
 use std::marker::Sync;
 use std::process::ExitCode;
 use std::rt::Env;
