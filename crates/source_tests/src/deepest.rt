@@ -76,20 +76,16 @@ fn left_by(alloc: Global, source: &str) -> Option<i32> {
 }
 
 // Whether the kernel of a source obeys OP_MIN.
-fn obeys(alloc: Global, source: &str) -> bool {
+fn obeys(alloc: Global, source: &str) -> Option<bool> {
+    let kernel = kernel_of(alloc, source)?;
     let modes = [Mode {
         access: Access::Min,
         dim: 1,
     }];
-    match kernel_of(alloc, source) {
-        Some(kernel) => {
-            is_resolved(&kernel, 0)
-                && kernel.params == 1
-                && are_small(&modes)
-                && check(alloc, &kernel, &modes).is_ok()
-        }
-        None => false,
+    if is_resolved(&kernel, 0) && kernel.params == 1 && are_small(&modes) {
+        return Some(check(alloc, &kernel, &modes).is_ok());
     }
+    None
 }
 
 #[test]
@@ -122,6 +118,6 @@ fn the_deepest_kernel_is_checked_on_a_usual_stack(rt: HostRuntime) -> Result<(),
     let source = deepest_least(alloc)?;
     let usual = Builder::new().stack_size(8 << 20);
     let checker = usual.spawn(&rt, move || obeys(alloc, source.as_str()))?;
-    assert!(rt; checker.join(&rt));
+    assert_eq!(rt; checker.join(&rt), Some(true));
     Ok(())
 }
