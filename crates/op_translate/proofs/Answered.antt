@@ -1,0 +1,70 @@
+-- What is answered, and what is not.
+use Rattle.std.proofs.Common.{◌≡◌, ◌≢◌, ℕ, suc, ◌+◌, ◌-◌, ◌<◌, Bool, true, false, cond, List, [], ◌∷◌, ◌++◌, length, map, get_or, Option, Some, None, find, Result, Ok, Err, Vec, Global, Bor, refl, sym, ap, subst, ◌∙◌, append_assoc, arith, nat_eq}
+use Rattle.std.specs.Prelude.{◌||◌, is_some, OnOk, IsErrAnd}
+use Rattle.std.specs.List.{list_any}
+use Rattle.std.specs.Str.{bytes_eq}
+use Rattle.c_lex.specs.declared.tokens.Token.{Token}
+use Rattle.c_lex.specs.declared.tokens.Word.{Word}
+use Rattle.c_lex.specs.declared.refusals.LexRefusal.{LexRefusal}
+use Rattle.c_lex.specs.declared.refusals.LexRefusal.TheVariants as lex_refusal
+use Rattle.c_lex.specs.Spelling.{word_spelling}
+use Rattle.c_lex.specs.Answered as lexed
+use Rattle.op_translate.specs.declared.refusals.TransRefusal.{TransRefusal}
+use Rattle.op_translate.specs.declared.refusals.TransRefusal.TheVariants as refusal
+use Rattle.op_translate.specs.Answered.{Answers, not_lexed}
+use Rattle.op_translate.specs.Stubs.{Loop, stub_text, stubs_text}
+use Rattle.op_translate.specs.Translation.{Outcome, ends_line}
+
+-- of what has one outcome no other is answered
+pub only_answer : (P : Outcome → Type 0) → ((a b : Outcome) → P a → P b → a ≡ b) → (r : Result (Vec ℕ Global) TransRefusal) (o : Outcome) → P o → Answers P r → Answers (λ x. x ≡ o) r
+only_answer P one (Ok v) o h a = one (Ok v.items) o a h
+only_answer P one (Err (refusal.NameTaken p)) o h a = one (Err (refusal.NameTaken p)) o a h
+only_answer P one (Err (refusal.NoCall p)) o h a = one (Err (refusal.NoCall p)) o a h
+only_answer P one (Err (refusal.LoopLeft p)) o h a = one (Err (refusal.LoopLeft p)) o a h
+only_answer P one (Err (refusal.Lex e)) o h a = one (Err (refusal.Lex e)) o a h
+only_answer P one (Err refusal.OutOfMemory) o h a = tt
+
+-- where there are tokens the lexer can only want memory
+pub wants_memory : (P : Outcome → Type 0) (ts : List Token) (r : LexRefusal) → lexed.Answers (λ x. x ≡ Ok ts) (Err r) → Answers P (Err (not_lexed r))
+wants_memory P ts (lex_refusal.BadByte p) h = let q : ⊥ = cc in absurd q
+wants_memory P ts (lex_refusal.OpenComment p) h = let q : ⊥ = cc in absurd q
+wants_memory P ts (lex_refusal.OpenText p) h = let q : ⊥ = cc in absurd q
+wants_memory P ts (lex_refusal.NumberTooLarge p) h = let q : ⊥ = cc in absurd q
+wants_memory P ts lex_refusal.OutOfMemory h = tt
+
+-- the words are those of a list
+pub listed : (xs : List (Bor (List ℕ))) (ws : List Word) (bs : List ℕ) → map (λ x. x.now) xs ≡ map word_spelling ws → list_any (λ x. bytes_eq bs x.now) xs ≡ is_some (find (λ w. bytes_eq bs (word_spelling w)) ws)
+listed [] [] bs e = refl
+listed [] (w ∷ ws) bs e = let q : ⊥ = cc in absurd q
+listed (x ∷ xs) [] bs e = let q : ⊥ = cc in absurd q
+listed (x ∷ xs) (w ∷ ws) bs e =
+    let first : x.now ≡ word_spelling w = cc in
+    let rest : map (λ x. x.now) xs ≡ map word_spelling ws = cc in
+    ap (λ z. bytes_eq bs z || list_any (λ x. bytes_eq bs x.now) xs) first ∙ (ap (λ z. bytes_eq bs (word_spelling w) || z) (listed xs ws bs rest) ∙ by_test (bytes_eq bs (word_spelling w)))
+  where
+    by_test : (t : Bool) → (t || is_some (find (λ v. bytes_eq bs (word_spelling v)) ws)) ≡ is_some (cond t (Some w) (find (λ v. bytes_eq bs (word_spelling v)) ws))
+    by_test true = refl
+    by_test false = refl
+
+pub last_byte : (bs : List ℕ) → 0 < length bs → nat_eq (get_or bs (length bs - 1) 0) 10 ≡ ends_line bs
+last_byte [] h = absurd (omega (arith, h))
+last_byte (b ∷ []) h = refl
+last_byte (b ∷ c ∷ bs) h =
+    let back : length (b ∷ c ∷ bs) - 1 ≡ suc (length (c ∷ bs) - 1) = omega arith in
+    ap (λ z. nat_eq (get_or (b ∷ c ∷ bs) z 0) 10) back ∙ last_byte (c ∷ bs) (omega arith)
+
+pub stubs_more : (s : ℕ) (xs ys : List Loop) → stubs_text s (xs ++ ys) ≡ stubs_text s xs ++ stubs_text (s + length xs) ys
+stubs_more s [] ys = ap (λ z. stubs_text z ys) (let e : s ≡ s + 0 = omega arith in e)
+stubs_more s (x ∷ xs) ys =
+    let far : suc s + length xs ≡ s + length (x ∷ xs) = omega arith in
+    ap (λ z. stub_text s x ++ z) (stubs_more (suc s) xs ys)
+    ∙ (sym (append_assoc (stub_text s x) (stubs_text (suc s) xs) (stubs_text (suc s + length xs) ys)) ∙ ap (λ z. stub_text s x ++ stubs_text (suc s) xs ++ stubs_text z ys) far)
+
+pub on_ok : {X E : Type 0} (r : Result X E) (P Q : Type 0) → (P → Q) → OnOk r P → OnOk r Q
+on_ok (Ok x) P Q f h = f h
+on_ok (Err e) P Q f h = tt
+
+-- so what it is turned into is want of memory too
+pub refused_here : (P : Outcome → Type 0) (ts : List Token) (r : LexRefusal) (res : Result (Vec ℕ Global) TransRefusal) → lexed.Answers (λ x. x ≡ Ok ts) (Err r) → IsErrAnd res (λ e. e ≡ not_lexed r) → Answers P res
+refused_here P ts r (Ok v) h e = absurd e
+refused_here P ts r (Err x) h e = subst (λ z. Answers P (Err z)) (sym e) (wants_memory P ts r h)

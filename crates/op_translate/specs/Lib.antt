@@ -1,0 +1,4 @@
+pub mod Edits
+pub mod Stubs
+pub mod Translation
+pub mod Answered
