@@ -1,4 +1,4 @@
-use Rattle.std.proofs.Common.{rules, arith, ◌<◌, length}
+use Rattle.std.proofs.Common.{rules, ◌<◌, length}
 use Rattle.op_translate.proofs.Answered.{last_byte}
 use Rattle.op_translate.proofs.translating.ends_line.Goals as goal
 
