@@ -1,6 +1,6 @@
 -- What is answered, and what is not.
-use Rattle.std.proofs.Common.{◌≡◌, ◌≢◌, ℕ, suc, ◌+◌, ◌-◌, ◌<◌, Bool, true, false, cond, List, [], ◌∷◌, ◌++◌, length, map, get_or, Option, Some, None, find, Result, Ok, Err, Vec, Global, Bor, refl, sym, ap, subst, ◌∙◌, append_assoc, arith, nat_eq}
-use Rattle.std.specs.Prelude.{◌||◌, is_some, OnOk, IsErrAnd}
+use Rattle.std.proofs.Common.{◌≡◌, ℕ, suc, ◌-◌, ◌<◌, Bool, true, false, cond, List, [], ◌∷◌, length, map, get_or, Some, find, Result, Ok, Err, Vec, Global, Bor, refl, sym, ap, subst, ◌∙◌, arith, nat_eq}
+use Rattle.std.specs.Prelude.{◌||◌, is_some, IsErrAnd}
 use Rattle.std.specs.List.{list_any}
 use Rattle.std.specs.Str.{bytes_eq}
 use Rattle.c_lex.specs.declared.tokens.Token.{Token}
@@ -12,7 +12,6 @@ use Rattle.c_lex.specs.Answered as lexed
 use Rattle.op_translate.specs.declared.refusals.TransRefusal.{TransRefusal}
 use Rattle.op_translate.specs.declared.refusals.TransRefusal.TheVariants as refusal
 use Rattle.op_translate.specs.Answered.{Answers, not_lexed}
-use Rattle.op_translate.specs.Stubs.{Loop, stub_text, stubs_text}
 use Rattle.op_translate.specs.Translation.{Outcome, ends_line}
 
 -- of what has one outcome no other is answered
@@ -31,6 +30,11 @@ wants_memory P ts (lex_refusal.OpenComment p) h = let q : ⊥ = cc in absurd q
 wants_memory P ts (lex_refusal.OpenText p) h = let q : ⊥ = cc in absurd q
 wants_memory P ts (lex_refusal.NumberTooLarge p) h = let q : ⊥ = cc in absurd q
 wants_memory P ts lex_refusal.OutOfMemory h = tt
+
+-- so what it is turned into is want of memory too
+pub refused_here : (P : Outcome → Type 0) (ts : List Token) (r : LexRefusal) (res : Result (Vec ℕ Global) TransRefusal) → lexed.Answers (λ x. x ≡ Ok ts) (Err r) → IsErrAnd res (λ e. e ≡ not_lexed r) → Answers P res
+refused_here P ts r (Ok v) h e = absurd e
+refused_here P ts r (Err x) h e = subst (λ z. Answers P (Err z)) (sym e) (wants_memory P ts r h)
 
 -- the words are those of a list
 pub listed : (xs : List (Bor (List ℕ))) (ws : List Word) (bs : List ℕ) → map (λ x. x.now) xs ≡ map word_spelling ws → list_any (λ x. bytes_eq bs x.now) xs ≡ is_some (find (λ w. bytes_eq bs (word_spelling w)) ws)
@@ -52,19 +56,3 @@ last_byte (b ∷ []) h = refl
 last_byte (b ∷ c ∷ bs) h =
     let back : length (b ∷ c ∷ bs) - 1 ≡ suc (length (c ∷ bs) - 1) = omega arith in
     ap (λ z. nat_eq (get_or (b ∷ c ∷ bs) z 0) 10) back ∙ last_byte (c ∷ bs) (omega arith)
-
-pub stubs_more : (s : ℕ) (xs ys : List Loop) → stubs_text s (xs ++ ys) ≡ stubs_text s xs ++ stubs_text (s + length xs) ys
-stubs_more s [] ys = ap (λ z. stubs_text z ys) (let e : s ≡ s + 0 = omega arith in e)
-stubs_more s (x ∷ xs) ys =
-    let far : suc s + length xs ≡ s + length (x ∷ xs) = omega arith in
-    ap (λ z. stub_text s x ++ z) (stubs_more (suc s) xs ys)
-    ∙ (sym (append_assoc (stub_text s x) (stubs_text (suc s) xs) (stubs_text (suc s + length xs) ys)) ∙ ap (λ z. stub_text s x ++ stubs_text (suc s) xs ++ stubs_text z ys) far)
-
-pub on_ok : {X E : Type 0} (r : Result X E) (P Q : Type 0) → (P → Q) → OnOk r P → OnOk r Q
-on_ok (Ok x) P Q f h = f h
-on_ok (Err e) P Q f h = tt
-
--- so what it is turned into is want of memory too
-pub refused_here : (P : Outcome → Type 0) (ts : List Token) (r : LexRefusal) (res : Result (Vec ℕ Global) TransRefusal) → lexed.Answers (λ x. x ≡ Ok ts) (Err r) → IsErrAnd res (λ e. e ≡ not_lexed r) → Answers P res
-refused_here P ts r (Ok v) h e = absurd e
-refused_here P ts r (Err x) h e = subst (λ z. Answers P (Err z)) (sym e) (wants_memory P ts r h)

@@ -1,5 +1,5 @@
 -- Calls of loops and calls of stubs, as parts of a source, each in the other's place.
-use Rattle.std.proofs.Common.{◌≡◌, ◌≢◌, ℕ, ◌+◌, ◌≤◌, ◌<◌, Bool, true, false, ◌&&◌, ◌||◌, List, [], ◌∷◌, ◌++◌, length, ◌⊎◌, inl, inr, ⊎_elim, refl, sym, ap, subst, ◌∙◌, append_assoc, arith, codes, nat_eq}
+use Rattle.std.proofs.Common.{◌≡◌, ◌≢◌, ℕ, ◌≤◌, ◌<◌, Bool, true, false, List, [], ◌∷◌, ◌++◌, length, ⊎_elim, refl, sym, ap, subst, ◌∙◌, append_assoc, arith, codes, nat_eq}
 use Rattle.std.specs.Prelude.{not}
 use Rattle.std.specs.List.{list_all, starts_with}
 use Rattle.std.proofs.lemmas.Bool.{cases_lt}
@@ -9,8 +9,8 @@ use Rattle.c_lex.specs.declared.tokens.Sign.{Sign}
 use Rattle.c_lex.specs.declared.tokens.Sign.TheVariants as sign
 use Rattle.c_lex.specs.declared.tokens.Word.{Word}
 use Rattle.c_lex.specs.declared.tokens.Word.TheVariants as word
-use Rattle.c_lex.specs.Spelling.{sign_spelling, word_spelling, letter, digit, part, IsName, HasForm}
-use Rattle.c_lex.specs.Lexed.{IsApart, fresh_after, BeginsNoComment, NoLonger, IsLongest, Stop, Part, Passed, Spelled, bytes_of, all_bytes, is_number, AreParts}
+use Rattle.c_lex.specs.Spelling.{sign_spelling, word_spelling, part, IsName, HasForm}
+use Rattle.c_lex.specs.Lexed.{fresh_after, BeginsNoComment, NoLonger, IsLongest, Part, Passed, Spelled, all_bytes, is_number}
 use Rattle.c_lex.proofs.Forms.{true_false, Begins, BeginsSign, begins, name_begins, sign_begins_as, not_empty}
 use Rattle.c_lex.proofs.Apart.{letter_bounds}
 use Rattle.op_translate.specs.Translation.{prefix}

@@ -1,7 +1,6 @@
 -- Which edits begin with the tokens of sites, and which tokens are refused.
-use Rattle.std.proofs.Common.{◌≡◌, ℕ, ◌+◌, Bool, true, false, ◌&&◌, cond, List, [], ◌∷◌, ◌++◌, length, Option, Some, None, find, refl, sym, ap, subst, ◌∙◌, append_assoc, length-append, arith}
+use Rattle.std.proofs.Common.{◌≡◌, ℕ, ◌+◌, Bool, true, false, cond, List, [], ◌∷◌, ◌++◌, length, Option, Some, None, find, refl, ap, ◌∙◌, length-append, arith}
 use Rattle.std.specs.Prelude.{codes, is_none, option_map}
-use Rattle.std.specs.List.{list_all}
 use Rattle.std.specs.Str.{bytes_eq}
 use Rattle.std.proofs.lemmas.Slice.Eq.{bytes_eq-Decides}
 use Rattle.c_lex.specs.declared.tokens.Kind.{Kind}
@@ -12,7 +11,7 @@ use Rattle.c_lex.specs.declared.tokens.Word.{Word}
 use Rattle.c_lex.specs.declared.tokens.Word.TheVariants as word
 use Rattle.c_lex.specs.declared.tokens.Token.{Token}
 use Rattle.c_lex.specs.declared.spelling.TheConstants.{WORDS}
-use Rattle.c_lex.specs.Spelling.{letter, part, word_spelling, IsName}
+use Rattle.c_lex.specs.Spelling.{word_spelling}
 use Rattle.c_lex.specs.Lexed.{advance, Part, Passed, Spelled, all_bytes, tokens_of}
 use Rattle.c_lex.proofs.Forms.{true_false}
 use Rattle.op_translate.specs.declared.refusals.TransRefusal.{TransRefusal}

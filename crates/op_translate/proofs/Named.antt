@@ -1,5 +1,5 @@
 -- The names in the loops of a tree are among those printed, and hold no LF.
-use Rattle.std.proofs.Common.{◌≡◌, ℕ, zero, suc, ◌≤◌, ◌+◌, ◌/◌, ◌%◌, ◌==◌, Bool, true, false, ◌&&◌, cond, List, [], ◌∷◌, ◌++◌, ℤ, pos, negsuc, neg_ℤ, Option, Some, None, refl, sym, ap, subst, ◌∙◌, arith, nat_eq, nat_lt, if◌then◌else◌}
+use Rattle.std.proofs.Common.{◌≡◌, ℕ, zero, suc, ◌+◌, ◌/◌, ◌%◌, ◌==◌, Bool, true, false, cond, List, [], ◌∷◌, ◌++◌, ℤ, pos, negsuc, Option, Some, None, refl, sym, ap, subst, ◌∙◌, arith, nat_eq, nat_lt}
 use Rattle.std.specs.Prelude.{not, codes}
 use Rattle.std.specs.List.{list_all, flat_map}
 use Rattle.std.specs.Fmt.{digit_glyph, digits_onto, digits, decimal, signed_decimal}
@@ -7,8 +7,6 @@ use Rattle.std.proofs.lemmas.Bool.{eqb-true, and_parts, and_from}
 use Rattle.std.proofs.lemmas.List.Folds.{list_all-append}
 use Rattle.c_lex.specs.declared.tokens.Kind.{Kind}
 use Rattle.c_lex.specs.declared.tokens.Kind.TheVariants as kind
-use Rattle.c_lex.specs.declared.tokens.Word.{Word}
-use Rattle.c_lex.specs.declared.tokens.Word.TheVariants as word
 use Rattle.c_lex.specs.Spelling.{part, word_spelling, IsName}
 use Rattle.c_lex.specs.Front.{in_line}
 use Rattle.c_tree.specs.declared.expressions.NumberLiteral.{NumberLiteral}
@@ -21,7 +19,7 @@ use Rattle.c_tree.specs.declared.hosts.LoopArg.{LoopArg}
 use Rattle.c_tree.specs.declared.hosts.LoopArg.TheVariants as arg
 use Rattle.c_tree.specs.Signs.{access_word_of}
 use Rattle.c_tree.specs.Tree.{OpCallTree, ParLoop, HostTree, HostDeclaration, HostBlock, HostEmpty, HostAssign, HostIf, HostIfElse, HostFor, HostCall, HostTrees, NoHost, MoreHost, MainTree, ProgramTree}
-use Rattle.c_tree.specs.Print.{Mark, ident, condition, tops, glob, host_counter, arg_index, via_mark, argument, arguments, call, host, hosts, argv_marks, main, program}
+use Rattle.c_tree.specs.Print.{Mark, condition, tops, glob, host_counter, arg_index, via_mark, argument, arguments, call, host, hosts, argv_marks, main, program}
 use Rattle.c_tree.specs.Reads.{shown}
 use Rattle.c_lex.proofs.Forms.{true_false}
 use Rattle.op_translate.specs.Stubs.{Loop, loop_of, loops_of, all_loops_of, index_of, via_name, use_text, arg_text}

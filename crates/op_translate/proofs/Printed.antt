@@ -1,23 +1,14 @@
--- In what a tree prints, `(`, a name and a comma stand behind each `op_par_loop`; and the names of its loops are among those printed.
-use Rattle.std.proofs.Common.{◌≡◌, ℕ, suc, ◌+◌, ◌≤◌, Bool, true, false, cond, List, [], ◌∷◌, ◌++◌, length, map, refl, sym, ap, subst, ◌∙◌, length-append, arith}
-use Rattle.std.proofs.lemmas.List.{length-map}
+-- In what a tree prints, `(`, a name and a comma stand behind each `op_par_loop`.
+use Rattle.std.proofs.Common.{◌≡◌, ℕ, suc, Bool, true, false, cond, List, [], ◌∷◌, ◌++◌, map, refl, sym, ap, subst}
 use Rattle.c_lex.specs.declared.tokens.Kind.{Kind}
 use Rattle.c_lex.specs.declared.tokens.Kind.TheVariants as kind
 use Rattle.c_lex.specs.declared.tokens.Sign.TheVariants as sign
 use Rattle.c_lex.specs.declared.tokens.Word.TheVariants as word
-use Rattle.c_lex.specs.Spelling.{IsName}
-use Rattle.c_tree.specs.declared.hosts.GlobalName.{GlobalName}
-use Rattle.c_tree.specs.declared.hosts.ArgIndex.{ArgIndex}
-use Rattle.c_tree.specs.declared.hosts.ArgVia.{ArgVia}
-use Rattle.c_tree.specs.declared.hosts.ArgVia.TheVariants as via
-use Rattle.c_tree.specs.declared.hosts.LoopArg.{LoopArg}
-use Rattle.c_tree.specs.declared.hosts.LoopArg.TheVariants as arg
 use Rattle.c_tree.specs.Tree.{OpCallTree, CallInit, DeclSet, DeclMap, DeclDat, DeclConst, ParLoop, Printf, PrintDat}
 use Rattle.c_tree.specs.Tree.{HostTree, HostDeclaration, HostBlock, HostEmpty, HostAssign, HostIf, HostIfElse, HostFor, HostCall, HostTrees, NoHost, MoreHost, MainTree, ProgramTree}
-use Rattle.c_tree.specs.Print.{Mark, sign_at, word_at, named_word, ident, expr, vars, assignment, condition, tops, glob, host_counter, arg_index, argument, arguments, values, close, call, host, hosts, argv_marks, return_marks, main, program}
+use Rattle.c_tree.specs.Print.{Mark, ident, vars, assignment, condition, tops, host_counter, arguments, close, call, host, hosts, argv_marks, return_marks, main, program}
 use Rattle.c_tree.specs.Reads.{shown}
 use Rattle.c_lex.proofs.Forms.{true_false}
-use Rattle.op_translate.specs.Stubs.{Loop, loop_of, loops_of, all_loops_of}
 use Rattle.op_translate.proofs.Quiet.{is_loop}
 use Rattle.op_translate.proofs.Quietly.{quiet, quiet-append, expr_quiet, vars_quiet, assignment_quiet, condition_quiet, tops_quiet, header_quiet, global_quiet, arguments_quiet, values_quiet, argv_quiet, return_quiet}
 
@@ -123,40 +114,3 @@ main_follows m = (
 pub shown_follow : (p : ProgramTree) → AllFollow (shown p)
 shown_follow p =
     subst AllFollow (ahead_none (program p)) (both_follow (tops p.tops) (main p.main) [] (pass (tops p.tops) _ (tops_quiet p.tops true) (main_follows p.main)))
-
--- ---- how many loops there are
-
-mutual
-  host_few : (k : ℕ) (s : HostTree) → length (loops_of s) ≤ length (host k s)
-  host_few k (HostDeclaration v) = omega arith
-  host_few k (HostBlock at ss) = omega (arith, hosts_few (suc k) ss, length-append (hosts (suc k) ss) (sign_at k sign.RightBrace ∷ []))
-  host_few k (HostEmpty at) = omega arith
-  host_few k (HostAssign a) = omega arith
-  host_few k (HostIf at e s) = omega (arith, host_few (suc k) s, length-append (condition k at e) (host (suc k) s))
-  host_few k (HostIfElse at e s t) =
-      let rest : List Mark = word_at k word.Else ∷ host (suc k) t in
-      omega (arith, host_few (suc k) s, host_few (suc k) t, length-append (loops_of s) (loops_of t), length-append (condition k at e) (host (suc k) s ++ rest), length-append (host (suc k) s) rest)
-  host_few k (HostFor c s) = omega (arith, host_few (suc k) s, length-append (host_counter k c) (host (suc k) s))
-  host_few k (HostCall (ParLoop at f t s xs)) = omega arith
-  host_few k (HostCall c) = omega arith
-
-  hosts_few : (k : ℕ) (ss : HostTrees) → length (all_loops_of ss) ≤ length (hosts k ss)
-  hosts_few k NoHost = omega arith
-  hosts_few k (MoreHost s ss) =
-      omega (arith, host_few k s, hosts_few k ss, length-append (loops_of s) (all_loops_of ss), length-append (host k s) (hosts k ss))
-
--- no more than there are tokens
-pub loops_few : (p : ProgramTree) → length (all_loops_of p.main.body) ≤ length (shown p)
-loops_few p =
-    let m : MainTree = p.main in
-    omega (arith, hosts_few 1 m.body, length-map (program p) (λ x. x.kind), length-append (tops p.tops) (main m), main_long m)
-  where
-    main_long : (m : MainTree) → length (hosts 1 m.body) ≤ length (main m)
-    main_long m =
-        let exit : List Mark =
-        named_word 0 word.OpExit m.exit_at ∷ sign_at 0 sign.LeftParen
-        ∷ sign_at 0 sign.RightParen ∷ sign_at 0 sign.Semicolon
-        ∷ (return_marks m.returned ++ sign_at 0 sign.RightBrace ∷ []) in
-        let body : List Mark =
-        sign_at 0 sign.RightParen ∷ sign_at 0 sign.LeftBrace ∷ (hosts 1 m.body ++ exit) in
-        omega (arith, length-append (argv_marks m.argv_has_brackets) body, length-append (hosts 1 m.body) exit)

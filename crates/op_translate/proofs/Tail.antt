@@ -1,11 +1,10 @@
 -- A source with more lines behind it.
-use Rattle.std.proofs.Common.{◌≡◌, ◌≢◌, ℕ, zero, suc, ◌≤◌, ◌<◌, Bool, true, false, cond, List, [], ◌∷◌, ◌++◌, length, ◌⊎◌, inl, inr, ⊎_elim, refl, sym, ap, subst, ◌∙◌, append_assoc, append-nil, arith, nat_eq}
+use Rattle.std.proofs.Common.{◌≡◌, ℕ, ◌≤◌, ◌<◌, Bool, true, false, cond, List, [], ◌∷◌, ◌++◌, length, inl, inr, ⊎_elim, refl, sym, ap, subst, ◌∙◌, append_assoc, append-nil, arith}
 use Rattle.std.specs.Prelude.{codes}
 use Rattle.std.proofs.lemmas.Bool.{cases_lt, eqb-true}
 use Rattle.std.proofs.lemmas.List.{append_cancel_left}
 use Rattle.c_lex.specs.declared.tokens.Kind.{Kind}
-use Rattle.c_lex.specs.declared.tokens.Kind.TheVariants as kind
-use Rattle.c_lex.specs.Spelling.{all_escaped, text_spelling, HasForm}
+use Rattle.c_lex.specs.Spelling.{all_escaped, HasForm}
 use Rattle.c_lex.specs.Lexed.{IsApart, IsPassed, AtEnd, Part, Passed, Spelled, bytes_of, all_bytes, IsPartBefore, is_fresh_behind, is_number_part, AreParts}
 use Rattle.c_lex.proofs.Forms.{begins}
 use Rattle.c_lex.proofs.Apart.{blank_begins}

@@ -7,9 +7,11 @@ use Rattle.c_lex.specs.declared.refusals.LexRefusal.TheVariants as lex_refusal
 use Rattle.op_translate.specs.declared.edits.Form.{Form}
 use Rattle.op_translate.specs.declared.edits.Form.TheVariants.{Stub, Call}
 use Rattle.op_translate.specs.declared.edits.Stretch.{Stretch}
+use Rattle.op_translate.specs.declared.table.Found.{Found}
 use Rattle.op_translate.specs.declared.refusals.TransRefusal.{TransRefusal}
 use Rattle.op_translate.specs.declared.refusals.TransRefusal.TheVariants.{Lex, OutOfMemory}
 use Rattle.op_translate.specs.Edits.{Edit}
+use Rattle.op_translate.specs.Stubs.{Loop}
 use Rattle.op_translate.specs.Translation.{Outcome, prefix, to_stub, to_call}
 
 -- the answer holds, with the bytes or the refusal, unless memory ran out
@@ -41,3 +43,7 @@ edit_of f s = record { from = s.from; to = s.to; text = call_text f s.kernel.now
 abbrev pub begun : Form → List Token → Option Edit
 begun Stub ts = to_stub ts
 begun Call ts = to_call ts
+
+-- the loop that was found
+abbrev pub loop_of_found : Found → Loop
+loop_of_found f = record { kernel = f.kernel.now.name; set = f.set.now.name; args = f.args.now }

@@ -9,7 +9,10 @@ mod laws;
 mod names;
 mod refusals;
 mod restoring;
+mod table;
+mod translating;
 
 pub use laws::{one_restoration, one_translation, restores_translations};
 pub use refusals::TransRefusal;
 pub use restoring::restore;
+pub use translating::translate;

@@ -1,4 +1,4 @@
-use Rattle.std.proofs.Common.{◌≡◌, ◌≤◌, ◌++◌, drop, length}
+use Rattle.std.proofs.Common.{◌≡◌, ◌++◌, drop, length}
 use Rattle.op_translate.specs.Answered.{begun}
 use Rattle.op_translate.specs.Edits.{edited, edits, LieWithin}
 use Rattle.op_translate.proofs.edits.put_edited.Given as goal

@@ -1,4 +1,4 @@
-use Rattle.std.proofs.Common.{◌≡◌, ◌+◌, drop, Option, None, rules, ap, sym, subst, ◌∙◌}
+use Rattle.std.proofs.Common.{◌≡◌, ◌+◌, drop, None, rules, ap, sym, ◌∙◌}
 use Rattle.op_translate.specs.Translation.{or_else, first_refusal, refuses_call}
 use Rattle.op_translate.proofs.Steps.{refusal_step, rest_is}
 use Rattle.op_translate.proofs.restoring.check_calls.Goals as goal
