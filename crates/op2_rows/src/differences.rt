@@ -81,7 +81,8 @@ fn bytes_of<'a>(alloc: Global, files: &'a [File], name: &str) -> Result<&'a [u8]
     Err(RowFault::NoFile(String::from_str(alloc, name)?))
 }
 
-// Adds a line for each proper prefix of a file, less the one that lacks its last byte alone, which isn't refused with the row's status and a line.
+// Adds a line for each proper prefix of a file, less the one that lacks its last byte alone, which isn't refused
+// with the row's status and a line.
 fn put_accepted<R: Threads + Sync>(
     lines: &mut String,
     rt: &R,
