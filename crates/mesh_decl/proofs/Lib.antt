@@ -3,3 +3,4 @@ pub mod Declared
 pub mod Targets
 pub mod Examples
 pub mod FirstNamed
+pub mod OtherValues

@@ -1,5 +1,5 @@
 -- Meshes as lists of what was declared.
-use Rattle.std.specs.Prelude.{◌≡◌, ℕ, ℤ, pos, negsuc, ◌+◌, ◌*◌, ◌^◌, ◌<◌, Bool, true, false, nat_lt, List, [], ◌∷◌, ◌++◌, length, map, All}
+use Rattle.std.specs.Prelude.{◌≡◌, ℕ, zero, suc, ℤ, pos, negsuc, ◌+◌, ◌*◌, ◌^◌, ◌<◌, Bool, true, false, nat_lt, List, [], ◌∷◌, ◌++◌, length, map, All}
 use Rattle.std.specs.Prelude.{slice_index, slice_index_or, unsigned_abs}
 use Rattle.mesh_decl.specs.declared.decl.SetDecl.{SetDecl}
 use Rattle.mesh_decl.specs.declared.decl.MapDecl.{MapDecl}
@@ -80,6 +80,12 @@ dat_name g d = slice_index_or (map (λ (e : DatDecl). e.name) g.dats) d []
 -- the values of a dat, element by element
 unfoldable pub dat_values : MeshValue → ℕ → List ℤ
 dat_values g d = slice_index_or (map (λ (e : DatDecl). e.values) g.dats) d []
+
+-- the dats, where the one of that number has these values
+abbrev pub with_values : List DatDecl → ℕ → List ℤ → List DatDecl
+with_values [] d zs = []
+with_values (x ∷ xs) zero zs = record x { values = zs } ∷ xs
+with_values (x ∷ xs) (suc d) zs = x ∷ with_values xs d zs
 
 -- the number is that of an element of a set of this size
 abbrev pub is_element : ℕ → ℤ → Bool

@@ -3,7 +3,7 @@ ghost use Rattle.std.specs.Prelude.{◌≡◌, ℕ, ℤ, pos, ◌+◌, ◌*◌, 
 ghost use Rattle.std.specs.Prelude.{OnOk, OnErr, IfOk, IfErr, IfSome, IfNone};
 ghost use Rattle.mesh_decl.specs.declared.decl.MapRefusal.{MapRefusal as Refusal};
 ghost use Rattle.mesh_decl.specs.Mesh.{no_mesh, set_count, map_count, dat_count, set_size, set_name, map_from, map_to, map_dim, map_name};
-ghost use Rattle.mesh_decl.specs.Mesh.{target, dat_set, dat_dim, dat_name, dat_values, is_element as is_element_of, AreElements, IsMapAt};
+ghost use Rattle.mesh_decl.specs.Mesh.{target, dat_set, dat_dim, dat_name, dat_values, with_values, is_element as is_element_of, AreElements, IsMapAt};
 ghost use Rattle.mesh_decl.specs.Mesh.{IsDatAt, IsInRange, IsFirstBad, RefusesTarget};
 
 use crate::decl::{DatDecl, MapDecl, MapRefusal, SetDecl};
@@ -134,6 +134,16 @@ impl Mesh {
             values,
         })?;
         Ok(number as u32)
+    }
+
+    /// Gives the dat numbered `dat` these values in place of its own, as many: those of element 0, then those of element 1,
+    /// and so on. Takes no memory.
+    pub fn set_values(&mut self, dat: u32, values: Values)
+        requires dat { dat < dat_count self.old }
+        requires size { length values ≡ length (dat_values self.old dat) }
+        ensures { self.new ≡ record self.old { dats = with_values self.old.dats dat values } }
+    {
+        self.dats[dat as usize].values = values;
     }
 
     /// A law: what is so of every mesh, by the numbers of its sets, maps and dats.
