@@ -1,5 +1,5 @@
 -- That a run on several ranks is one: where kernels, owners and local meshes lie in memory is nothing to it, nor which of its plans
--- with least colours it has.
+-- with the same colours it has.
 use Rattle.std.specs.Prelude.{◌≡◌, ℕ, Bool, List, map, Option, Some, None}
 use Rattle.kernel_types.specs.declared.kernels.RKernel.{RKernel}
 use Rattle.kernel_types.specs.View.{rkernel_of}

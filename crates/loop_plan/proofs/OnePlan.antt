@@ -26,7 +26,7 @@ use Rattle.loop_plan.specs.Pairs.{passes, sets_of, core_in}
 use Rattle.loop_plan.specs.Places.{reducing, places_of, maps_of, runs_free}
 use Rattle.loop_plan.specs.PlanText.{site_line, site_lines, loop_lines, item_lines, plan_text}
 use Rattle.loop_plan.specs.StepOutline.{is_free, loop_of, step_outline}
-use Rattle.loop_plan.specs.OnePlan.{AreAlike}
+use Rattle.loop_plan.specs.OnePlan.{AreAlike, AreLeast, LeastColoursAreOne}
 use Rattle.loop_plan.proofs.AlikeMeshes.{length_same, sets_same, rows_same, places_same, passes_same, core_same, halo_lines_same}
 
 -- ---- least colours
@@ -88,6 +88,33 @@ module _ (g : MeshValue) (ms ns : List (Vec ℕ Global)) (rows : (k : ℕ) → r
       ext_get_or 0 c.inner.items d.inner.items (h.inner_count ∙ sym k.inner_count)
       (λ p l. one_least (ConflictWithin g ms args size) (ConflictWithin g ns args size) (within_to g ms ns rows args size) (within_to g ns ms back args size)
       c.inner.items d.inner.items places h.inner k.inner p (let e = h.inner_count in omega arith))
+
+module _ (b : BoundValue) (meshes others : List RankMesh) (p q : PlanValue) (h : AreLeast b meshes others p q) (s r : ℕ) (c d : Colours)
+    (ls : s < length b.sites) (runs : runs_free b s ≡ true) (lr : r < length meshes) where
+  abbrev mine_of : Colours
+  mine_of = get_or (site_plan p s).colours r c
+
+  abbrev yours_of : Colours
+  yours_of = get_or (site_plan q s).colours r d
+
+  mine_least : AreColours b.mesh (maps_of meshes r) (reducing (site_at b s).args) (places_of meshes (site_at b s) r) p.block mine_of
+  mine_least = h.colours s r c ls runs lr
+
+  yours_least : AreColours b.mesh (maps_of others r) (reducing (site_at b s).args) (places_of meshes (site_at b s) r) p.block yours_of
+  yours_least =
+      let lo : r < length others = (let e = length_same meshes others h.alike in omega arith) in
+      subst (λ n. AreColours b.mesh (maps_of others r) (reducing (site_at b s).args) n p.block yours_of) (sym (places_same meshes others h.alike (site_at b s) r))
+      (subst (λ n. AreColours b.mesh (maps_of others r) (reducing (site_at b s).args) (places_of others (site_at b s) r) n yours_of) (sym h.block)
+      (h.other_colours s r d ls runs lo))
+
+  least_same : (mine_of.blocks.items ≡ yours_of.blocks.items) × (mine_of.inner.items ≡ yours_of.inner.items)
+  least_same = (
+    blocks_same b.mesh (maps_of meshes r) (maps_of others r) (rows_same meshes others h.alike r) (reducing (site_at b s).args) (places_of meshes (site_at b s) r) p.block mine_of yours_of mine_least yours_least,
+    inner_same b.mesh (maps_of meshes r) (maps_of others r) (rows_same meshes others h.alike r) (reducing (site_at b s).args) (places_of meshes (site_at b s) r) p.block mine_of yours_of mine_least yours_least,
+  )
+
+pub least_colours_are_one : LeastColoursAreOne
+least_colours_are_one b meshes others p q h s r c d ls runs lr = least_same b meshes others p q h s r c d ls runs lr
 
 -- ---- the plan of a loop, as lists alone
 
@@ -243,27 +270,11 @@ module _ (b : BoundValue) (meshes others : List RankMesh) (p q : PlanValue) (h :
     count_yours = (h.other_proper.loops s ls runs).colours_count ∙ sym ranks_same
 
     module _ (r : ℕ) (lr : r < length meshes) (c d : Colours) where
-      abbrev OfMine : Type 0
-      OfMine = AreColours b.mesh (maps_of meshes r) (reducing (site_at b s).args) (places_of meshes (site_at b s) r) p.block (get_or mine.colours r c)
-
-      abbrev OfYours : Type 0
-      OfYours = AreColours b.mesh (maps_of others r) (reducing (site_at b s).args) (places_of meshes (site_at b s) r) p.block (get_or yours.colours r d)
-
-      mine_least : OfMine
-      mine_least = h.colours s r c ls runs lr
-
-      yours_least : OfYours
-      yours_least =
-          let lo : r < length others = (let e = ranks_same in omega arith) in
-          subst (λ n. AreColours b.mesh (maps_of others r) (reducing (site_at b s).args) n p.block (get_or yours.colours r d)) (sym (places_same meshes others h.alike (site_at b s) r))
-          (subst (λ n. AreColours b.mesh (maps_of others r) (reducing (site_at b s).args) (places_of others (site_at b s) r) n (get_or yours.colours r d)) (sym h.block)
-          (h.other_colours s r d ls runs lo))
-
       blocks_at : (get_or mine.colours r c).blocks.items ≡ (get_or yours.colours r d).blocks.items
-      blocks_at = blocks_same b.mesh (maps_of meshes r) (maps_of others r) (rows_same meshes others h.alike r) (reducing (site_at b s).args) (places_of meshes (site_at b s) r) p.block (get_or mine.colours r c) (get_or yours.colours r d) mine_least yours_least
+      blocks_at = (h.colours s r c d ls runs lr).0
 
       inner_at : (get_or mine.colours r c).inner.items ≡ (get_or yours.colours r d).inner.items
-      inner_at = inner_same b.mesh (maps_of meshes r) (maps_of others r) (rows_same meshes others h.alike r) (reducing (site_at b s).args) (places_of meshes (site_at b s) r) p.block (get_or mine.colours r c) (get_or yours.colours r d) mine_least yours_least
+      inner_at = (h.colours s r c d ls runs lr).1
 
     same_colours : (f : Colours → List ℕ) → ((r : ℕ) → r < length meshes → (c d : Colours) → f (get_or mine.colours r c) ≡ f (get_or yours.colours r d)) → map f mine.colours ≡ map f yours.colours
     same_colours f at =

@@ -1,6 +1,7 @@
 -- A plan that is made of the right parts is proper.
 use Rattle.std.proofs.Common.{◌≡◌, ◌<◌, ◌+◌, ◌*◌, ℕ, Bool, true, false, cond, sum, refl, sym, ap, subst, ◌∙◌, arith, ⊎_elim, List, Vec, length, get_or, map}
-use Rattle.std.specs.Prelude.{slice_index, slice_index_or}
+use Rattle.std.specs.Prelude.{nat_eq, slice_index, slice_index_or}
+use Rattle.std.specs.Map.{lookup}
 use Rattle.std.specs.declared.alloc.Global.{Global}
 use Rattle.std.proofs.lemmas.Bool.{cases_lt, false≢true, eq-eqb}
 use Rattle.std.proofs.lemmas.List.{length-map}
@@ -15,7 +16,7 @@ use Rattle.colouring.proofs.Ordering.{blocks_differ}
 use Rattle.bound_program.specs.Values.{Exit, ItemValue, Free, Reduce, Ordered, Host, BoundValue}
 use Rattle.bound_program.specs.Fits.{site_at}
 use Rattle.loop_plan.specs.declared.types.ItemPlan.{ItemPlan}
-use Rattle.loop_plan.specs.Values.{PlanValue, item_plan, item_plan_of, no_item_plan, site_plan}
+use Rattle.loop_plan.specs.Values.{SitePlanValue, PlanValue, item_plan, item_plan_of, no_item_plan, site_plan, or_none}
 use Rattle.loop_plan.specs.Needs.{item_at, run_of, IsLoopOf, IsInRange}
 use Rattle.loop_plan.specs.Pairs.{passes, pairs_below}
 use Rattle.loop_plan.specs.Places.{reducing, places_of, maps_of, runs_loop, runs_free}
@@ -24,8 +25,8 @@ use Rattle.loop_plan.specs.Counts.{Counts}
 use Rattle.loop_plan.specs.StepOutline.{is_free, loop_of, loop_at, step_outline, item_step_count}
 use Rattle.loop_plan.specs.ItemPlans.{plan_in, ArePlanned}
 use Rattle.loop_plan.specs.StepCounts.{message_count, place_count, steps_at, program_steps}
-use Rattle.loop_plan.specs.SitePlans.{IsLeastPlan, ArePlans}
-use Rattle.loop_plan.specs.Proper.{Separate, Proper, HasLeastColours}
+use Rattle.loop_plan.specs.SitePlans.{IsLeastPlan, ArePlans, AreSitePlans}
+use Rattle.loop_plan.specs.Proper.{Separate, IsSitePlan, Proper, HasLeastColours}
 use Rattle.loop_plan.proofs.History.{are_exchanges}
 use Rattle.loop_plan.proofs.StepsCounted.{same_sum}
 use Rattle.loop_plan.proofs.StepTotals.{sum_of_list, steps_counted}
@@ -74,13 +75,13 @@ module _
     (ranks : p.ranks ≡ length meshes)
     (items : p.items ≡ map item_plan_of plans)
     (planned : ArePlanned b meshes plans)
-    (sites : ArePlans b meshes p.block (length b.sites) p.sites)
+    (sites : AreSitePlans b meshes p.block (length b.sites) p.sites)
   where
     item_is : (k : ℕ) → item_plan p k ≡ plan_in plans k
     unfolding item_plan
     item_is k = ap (λ (z : List _). slice_index_or z k no_item_plan) items
 
-    site_is : (s : ℕ) → s < length b.sites → runs_free b s ≡ true → IsLeastPlan b meshes p.block s (site_plan p s)
+    site_is : (s : ℕ) → s < length b.sites → runs_free b s ≡ true → IsSitePlan b meshes p.block s (site_plan p s)
     unfolding site_plan
     site_is s l r = sites.plans s l r
 
@@ -133,17 +134,30 @@ module _
       exchanges = are_exchanges b range p count (λ k l. ap (λ z. z.exchange) (item_is k) ∙ (planned.each k l).exchange);
       pairs = pairs_are;
       sites = sites.keys;
-      loops = λ s l r. (let i = site_is s l r in record {
-        places_count = i.places_count;
-        places = i.places;
-        colours_count = i.colours_count;
-        colours = λ n d m. are_separate b.mesh (maps_of meshes n) (reducing (site_at b s).args) (places_of meshes (site_at b s) n) p.block
-            (slice_index_or (site_plan p s).colours n d) (i.colours n d m);
-      });
+      loops = site_is;
     }
       where
         count : length p.items ≡ length b.trace
         count = ap length items ∙ (length-map plans item_plan_of ∙ planned.count)
 
-    pub has_least : HasLeastColours b meshes p
-    has_least s r d l run m = (site_is s l run).colours r d m
+-- ---- with least colours
+
+module _ (b : BoundValue) (meshes : List RankMesh) where
+  pub least_is_site_plan : (size s : ℕ) (l : SitePlanValue) → IsLeastPlan b meshes size s l → IsSitePlan b meshes size s l
+  least_is_site_plan size s l i = record {
+    places_count = i.places_count;
+    places = i.places;
+    colours_count = i.colours_count;
+    colours = λ n d m. are_separate b.mesh (maps_of meshes n) (reducing (site_at b s).args) (places_of meshes (site_at b s) n) size
+        (slice_index_or l.colours n d) (i.colours n d m);
+  }
+
+  pub least_are_site_plans : (size n : ℕ) (es : List (ℕ × SitePlanValue)) → ArePlans b meshes size n es → AreSitePlans b meshes size n es
+  least_are_site_plans size n es a = record {
+    keys = a.keys;
+    plans = λ s l r. least_is_site_plan size s (or_none (lookup (nat_eq s) es)) (a.plans s l r);
+  }
+
+  pub has_least : (p : PlanValue) → ArePlans b meshes p.block (length b.sites) p.sites → HasLeastColours b meshes p
+  unfolding site_plan
+  has_least p sites s r d l run m = (sites.plans s l run).colours r d m

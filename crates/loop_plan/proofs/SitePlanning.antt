@@ -23,7 +23,7 @@ use Rattle.loop_plan.specs.declared.types.SitePlan.{SitePlan}
 use Rattle.loop_plan.specs.Values.{SitePlanValue, entry_of, or_none}
 use Rattle.loop_plan.specs.Pairs.{sets_of, own_in}
 use Rattle.loop_plan.specs.Places.{reducing, places_of, runs_free}
-use Rattle.loop_plan.specs.SitePlans.{IsLeastPlan, ArePlans}
+use Rattle.loop_plan.specs.SitePlans.{ArePlansOf}
 use Rattle.loop_plan.proofs.Numbers.{not_listed}
 use Rattle.loop_plan.proofs.SetReads.{own_within}
 use Rattle.loop_plan.proofs.Running.{reducing_are}
@@ -105,16 +105,16 @@ lookup_none test (d ∷ es) h = ⊎_elim
     ∙ lookup_none test es (sym (ap (λ z. z || list_any test (map (λ x. x.0) (map entry_of es))) t) ∙ h))
     (cases_Bool (test d.0))
 
-module _ (b : BoundValue) (meshes : List RankMesh) (size n : ℕ) where
-  no_key : (es : List (ℕ × SitePlanValue)) → ArePlans b meshes size n es → list_any (nat_eq n) (map (λ x. x.0) es) ≡ false
+module _ (b : BoundValue) (IsPlan : ℕ → SitePlanValue → Type 0) (n : ℕ) where
+  no_key : (es : List (ℕ × SitePlanValue)) → ArePlansOf b IsPlan n es → list_any (nat_eq n) (map (λ x. x.0) es) ≡ false
   no_key es a = ap (list_any (nat_eq n)) a.keys ∙ not_listed n n (runs_free b) (omega arith)
 
   -- loop n has no plan yet
-  pub no_plan : (es : List (ℕ × SitePlan)) → ArePlans b meshes size n (map entry_of es) → lookup (nat_eq n) es ≡ None
+  pub no_plan : (es : List (ℕ × SitePlan)) → ArePlansOf b IsPlan n (map entry_of es) → lookup (nat_eq n) es ≡ None
   no_plan es a = lookup_none (nat_eq n) es (no_key (map entry_of es) a)
 
   -- loop n doesn't run as a Free one
-  pub plans_kept : (es : List (ℕ × SitePlanValue)) → runs_free b n ≡ false → ArePlans b meshes size n es → ArePlans b meshes size (n + 1) es
+  pub plans_kept : (es : List (ℕ × SitePlanValue)) → runs_free b n ≡ false → ArePlansOf b IsPlan n es → ArePlansOf b IsPlan (n + 1) es
   plans_kept es idle a = record {
     keys = a.keys ∙ (sym (append-nil (listed n (runs_free b))) ∙ (sym (ap (λ z. listed n (runs_free b) ++ cond z (n ∷ []) []) idle) ∙ sym (listed_more n (runs_free b))));
     plans = λ s l r. a.plans s (below s l r) r;
@@ -129,11 +129,11 @@ module _ (b : BoundValue) (meshes : List RankMesh) (size n : ℕ) where
   -- its plan goes last
   pub plans_added : (es now : List (ℕ × SitePlanValue)) (p : SitePlanValue)
       → runs_free b n ≡ true
-      → IsLeastPlan b meshes size n p
+      → IsPlan n p
       → now ≡ es ++ (n, p) ∷ []
-      → ArePlans b meshes size n es
-      → ArePlans b meshes size (n + 1) now
-  plans_added es now p runs is e a = subst (ArePlans b meshes size (n + 1)) (sym e) (record { keys = keys; plans = plans })
+      → ArePlansOf b IsPlan n es
+      → ArePlansOf b IsPlan (n + 1) now
+  plans_added es now p runs is e a = subst (ArePlansOf b IsPlan (n + 1)) (sym e) (record { keys = keys; plans = plans })
     where
       keys : map (λ x. x.0) (es ++ (n, p) ∷ []) ≡ listed (n + 1) (runs_free b)
       keys =
@@ -144,10 +144,10 @@ module _ (b : BoundValue) (meshes : List RankMesh) (size n : ℕ) where
       here : lookup (nat_eq n) (es ++ (n, p) ∷ []) ≡ Some p
       here = lookup_new (nat_eq n) es (n, p) (no_key es a) (eq-eqb n n refl)
 
-      plans : (s : ℕ) → s < n + 1 → runs_free b s ≡ true → IsLeastPlan b meshes size s (or_none (lookup (nat_eq s) (es ++ (n, p) ∷ [])))
+      plans : (s : ℕ) → s < n + 1 → runs_free b s ≡ true → IsPlan s (or_none (lookup (nat_eq s) (es ++ (n, p) ∷ [])))
       plans s l r = ⊎_elim
-          (λ (q : s ≡ n). subst (λ z. IsLeastPlan b meshes size z (or_none (lookup (nat_eq z) (es ++ (n, p) ∷ [])))) (sym q)
-          (subst (λ z. IsLeastPlan b meshes size n (or_none z)) (sym here) is))
-          (λ (ne : s ≡ n → ⊥). subst (λ z. IsLeastPlan b meshes size s (or_none z)) (sym (lookup_other (nat_eq s) es (n, p) (ne_eqb s n ne)))
+          (λ (q : s ≡ n). subst (λ z. IsPlan z (or_none (lookup (nat_eq z) (es ++ (n, p) ∷ [])))) (sym q)
+          (subst (λ z. IsPlan n (or_none z)) (sym here) is))
+          (λ (ne : s ≡ n → ⊥). subst (λ z. IsPlan s (or_none z)) (sym (lookup_other (nat_eq s) es (n, p) (ne_eqb s n ne)))
           (a.plans s (omega arith) r))
           (cases_eq s n)

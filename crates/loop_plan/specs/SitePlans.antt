@@ -1,4 +1,4 @@
--- The plans of loops with least colours.
+-- The plans of loops.
 use Rattle.std.specs.Prelude.{◌≡◌, ℕ, ◌<◌, ◌≤◌, true, List, length, map, nat_eq, slice_index, slice_index_or}
 use Rattle.std.specs.Map.{lookup}
 use Rattle.rank_sets.specs.Below.{listed}
@@ -9,7 +9,7 @@ use Rattle.bound_program.specs.Values.{BoundValue}
 use Rattle.bound_program.specs.Fits.{site_at}
 use Rattle.loop_plan.specs.Values.{SitePlanValue, or_none}
 use Rattle.loop_plan.specs.Places.{places_of, runs_free}
-use Rattle.loop_plan.specs.Proper.{HasColours}
+use Rattle.loop_plan.specs.Proper.{HasColours, IsSitePlan}
 
 -- by rank: colours for each number of places, of at most 64 ranks
 pub record IsByRank (l : SitePlanValue) : Type 0 where
@@ -24,7 +24,16 @@ module _ (b : BoundValue) (meshes : List RankMesh) where
     pub colours_count : length l.colours ≡ length meshes
     pub colours : (r : ℕ) (d : Colours) → r < length meshes → HasColours b meshes AreColours size s r (slice_index_or l.colours r d)
 
-  -- of the loops below n, those that run as Free ones have plans, in order
-  pub record ArePlans (size n : ℕ) (entries : List (ℕ × SitePlanValue)) : Type 0 where
+module _ (b : BoundValue) where
+  -- of the loops below n, those that run as Free ones have such plans, in order
+  pub record ArePlansOf (IsPlan : ℕ → SitePlanValue → Type 0) (n : ℕ) (entries : List (ℕ × SitePlanValue)) : Type 0 where
     pub keys : map (λ e. e.0) entries ≡ listed n (runs_free b)
-    pub plans : (s : ℕ) → s < n → runs_free b s ≡ true → IsLeastPlan size s (or_none (lookup (nat_eq s) entries))
+    pub plans : (s : ℕ) → s < n → runs_free b s ≡ true → IsPlan s (or_none (lookup (nat_eq s) entries))
+
+-- they have plans with least colours
+abbrev pub ArePlans : BoundValue → List RankMesh → ℕ → ℕ → List (ℕ × SitePlanValue) → Type 0
+ArePlans b meshes size n entries = ArePlansOf b (IsLeastPlan b meshes size) n entries
+
+-- they have plans whose colours keep conflicts apart
+abbrev pub AreSitePlans : BoundValue → List RankMesh → ℕ → ℕ → List (ℕ × SitePlanValue) → Type 0
+AreSitePlans b meshes size n entries = ArePlansOf b (IsSitePlan b meshes size) n entries

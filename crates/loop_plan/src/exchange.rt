@@ -82,7 +82,7 @@ fn spoil_modified(dirty: &mut Dirty, args: &[Arg])
     }
 }
 
-// The arguments of a loop.
+/// The arguments of a loop, by its number.
 pub fn args_of(bound: &Bound, site: u32) -> &[Arg]
     requires { site < length (bound_of bound.now).sites }
     ensures { result.now ≡ (site_at (bound_of bound.now) site).args }

@@ -24,7 +24,7 @@ ghost use Rattle.loop_plan.specs.Exports.{exports_in, is_some_exported, HaveExpo
 ghost use Rattle.loop_plan.specs.Counted.{counted_steps};
 ghost use Rattle.loop_plan.specs.Counts.{Counts};
 ghost use Rattle.loop_plan.specs.Spaced.{spaced};
-ghost use Rattle.loop_plan.specs.OnePlan.{PlanTextsAreOne, PlansAreOne, StepCountsAreOne};
+ghost use Rattle.loop_plan.specs.OnePlan.{LeastColoursAreOne, PlanTextsAreOne, PlansAreOne, StepCountsAreOne};
 
 /// The standard order with groups of any size has two steps for each message and for each element that
 /// a rank runs, and one for each join.
@@ -72,6 +72,12 @@ pub fn exports_are_messages()
     ensures messages { (g : MeshValue) (o : Owners) (h : Halos) → AreHalos g o h → (p : Perms) (meshes : List RankMesh)
         → ArePerms g p → AreRankMeshes g o p meshes → (s r t : ℕ) → s < o.ranks → r < o.ranks → t < set_count g
         → is_some_exported (exports_in h t) s r ≡ imports_from (sets_of meshes s) (sets_of meshes r) t }
+{}
+
+/// A law: two plans with least colours have the same colours, where their blocks have one size and their local meshes are the
+/// same as lists.
+pub fn least_colours_are_one()
+    ensures { LeastColoursAreOne }
 {}
 
 /// Two plans of a program with least colours, in blocks of one size and on local meshes that are the same as lists, have

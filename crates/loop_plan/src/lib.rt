@@ -17,18 +17,18 @@ mod writing;
 pub use colouring::Colours;
 pub use counting::{count_steps, totals_by_loop};
 pub use dirty::Dirty;
-pub use exchange::{LoopRun, run_at};
+pub use exchange::{LoopRun, args_of, run_at};
 pub use items::item_plans;
 pub use laws::{
-    bound_is_in_range, exports_are_messages, imports_are_exports, lines_are_spaced,
-    one_bit_gives_exchanges, one_plan, one_plan_text, one_step_count, standard_is_counted,
-    steps_are_counted,
+    bound_is_in_range, exports_are_messages, imports_are_exports, least_colours_are_one,
+    lines_are_spaced, one_bit_gives_exchanges, one_plan, one_plan_text, one_step_count,
+    standard_is_counted, steps_are_counted,
 };
 pub use needs::is_scattering;
 pub use places::{place_count, places_by_rank};
-pub use plans::{MAX_STEPS, plan};
+pub use plans::{MAX_STEPS, number_of_steps, plan, planned_items};
 pub use schedule_steps::Step;
-pub use sites::site_plans;
+pub use sites::{insert_plan, reducing_args, running_loops, site_plans};
 pub use step_orders::{Listed, Steps};
 pub use types::{ItemPlan, Pair, Plan, PlanRefusal, SitePlan, SitePlans};
-pub use writing::write_plan;
+pub use writing::{put_item_at, put_rank_halo, write_plan};

@@ -22,8 +22,8 @@ use std::alloc::{AllocError, Global};
 /// The limit of the number of steps.
 pub const MAX_STEPS: u64 = 8_388_608;
 
-// The plan of each item, by the local meshes.
-fn planned_items(
+/// The plan of each item, by the local meshes: the dats that it exchanges, and its messages. It fails only for want of memory.
+pub fn planned_items(
     alloc: Global,
     bound: &Bound,
     ranks: &[RankMesh],
@@ -39,8 +39,9 @@ fn planned_items(
     Ok(plans)
 }
 
-// How many steps the program has on these ranks.
-fn number_of_steps(
+/// How many steps the program has on these ranks, by the plans of its items. It fails only for want of memory, also where 64
+/// bits can't count the steps.
+pub fn number_of_steps(
     alloc: Global,
     bound: &Bound,
     ranks: &[RankMesh],

@@ -62,8 +62,8 @@ fn push_reducing(args: &mut Vec<IncArg>, arg: Arg) -> Result<(), OutOfMemory>
     Ok(())
 }
 
-// The arguments that merge amounts into dats.
-fn reducing_args(alloc: Global, args: &[Arg]) -> Result<Vec<IncArg>, OutOfMemory>
+/// The arguments that merge amounts into dats, in their order.
+pub fn reducing_args(alloc: Global, args: &[Arg]) -> Result<Vec<IncArg>, OutOfMemory>
     ensures { IfOk result (λ v. v.items ≡ reducing args.now) }
 {
     let mut found = Vec::new(alloc);
@@ -120,8 +120,8 @@ fn site_plan(
     Ok(SitePlan { places, colours })
 }
 
-// A plan more, of a loop that has none yet.
-fn insert_plan(plans: &mut SitePlans, site: u32, plan: SitePlan) -> Result<(), OutOfMemory>
+/// Adds a plan behind the others, of the loop `site`, which has none yet.
+pub fn insert_plan(plans: &mut SitePlans, site: u32, plan: SitePlan) -> Result<(), OutOfMemory>
     requires { get nat_eq plans.old site ≡ None }
     ensures { OnOk result (plans.new.entries ≡ plans.old.entries ++ (site, plan) ∷ []) }
 {

@@ -138,8 +138,9 @@ fn put_halo(
     Ok(())
 }
 
-// The line of one rank's elements of a set.
-fn put_rank_halo(
+/// Appends the line of a plan text for the elements that the rank with this number has of a set: the original numbers of
+/// those that it owns, imports to execute and imports otherwise, by local number. `sets` are the rank's.
+pub fn put_rank_halo(
     out: &mut Vec<u8>,
     mesh: &Mesh,
     sets: &[LocalSet],
@@ -304,8 +305,8 @@ fn put_item(
     }
 }
 
-// The line of an item by its number.
-fn put_item_at(
+/// Appends the line of a plan text for an item, by its number and the plans of the items.
+pub fn put_item_at(
     out: &mut Vec<u8>,
     bound: &Bound,
     plans: &[ItemPlan],

@@ -65,7 +65,7 @@ module _ (b : BoundValue) (meshes : List RankMesh) (size : ℕ) where
     are_plans zero l = record { keys = refl; plans = λ s m. absurd (omega arith) }
     are_plans (suc n) l = subst (λ z. ArePlans b meshes size z (loop_plans (suc n))) (omega arith) (⊎_elim
         (λ (h : runs_free b n ≡ true). subst (λ z. ArePlans b meshes size (n + 1) (cond z (loop_plans n ++ (n, loop_plan n) ∷ []) (loop_plans n))) (sym h)
-        (plans_added b meshes size n (loop_plans n) (loop_plans n ++ (n, loop_plan n) ∷ []) (loop_plan n) h (is_least n (omega arith)) refl (are_plans n (omega arith))))
+        (plans_added b (IsLeastPlan b meshes size) n (loop_plans n) (loop_plans n ++ (n, loop_plan n) ∷ []) (loop_plan n) h (is_least n (omega arith)) refl (are_plans n (omega arith))))
         (λ (h : runs_free b n ≡ false). subst (λ z. ArePlans b meshes size (n + 1) (cond z (loop_plans n ++ (n, loop_plan n) ∷ []) (loop_plans n))) (sym h)
-        (plans_kept b meshes size n (loop_plans n) h (are_plans n (omega arith))))
+        (plans_kept b (IsLeastPlan b meshes size) n (loop_plans n) h (are_plans n (omega arith))))
         (cases_Bool (runs_free b n)))

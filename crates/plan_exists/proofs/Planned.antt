@@ -18,7 +18,7 @@ use Rattle.loop_plan.specs.Pairs.{passes, pair, pairs_below}
 use Rattle.loop_plan.specs.ItemPlans.{plan_in, IsPlanned, ArePlanned}
 use Rattle.loop_plan.specs.StepCounts.{program_steps}
 use Rattle.loop_plan.specs.Proper.{Proper, HasLeastColours}
-use Rattle.loop_plan.proofs.ProperPlan.{is_proper, has_least}
+use Rattle.loop_plan.proofs.ProperPlan.{is_proper, least_are_site_plans, has_least}
 use Rattle.loop_plan.proofs.Ranges.{in_range}
 use Rattle.plan_exists.proofs.Built.{table, length_table, mapped_at, vec_of, items_are}
 use Rattle.plan_exists.proofs.Short.{short_listed, length_few}
@@ -88,6 +88,6 @@ module _ (b : BoundValue) (meshes : List RankMesh) (size : ℕ) where
         let sites = are_plans b meshes size o p fits d some (length b.sites) (omega arith) in (
           plan,
           refl,
-          is_proper b meshes plan items (in_range b fits) refl refl are_planned sites some refl,
-          has_least b meshes plan items (in_range b fits) refl refl are_planned sites,
+          is_proper b meshes plan items (in_range b fits) refl refl are_planned (least_are_site_plans b meshes size (length b.sites) plan.sites sites) some refl,
+          has_least b meshes plan sites,
         )

@@ -3,7 +3,7 @@ use Rattle.bound_program.specs.Values.{bound_of}
 use Rattle.loop_plan.specs.Values.{plan_of}
 use Rattle.loop_plan.proofs.Ranges.{in_range}
 use Rattle.loop_plan.proofs.Planning.{sets_had}
-use Rattle.loop_plan.proofs.ProperPlan.{is_proper, has_least}
+use Rattle.loop_plan.proofs.ProperPlan.{is_proper, least_are_site_plans, has_least}
 use Rattle.loop_plan.proofs.plans.plan.Goals as goal
 
 pub number_of_steps-requires-clause-sets : goal.number_of_steps-requires-clause-sets
@@ -18,13 +18,13 @@ site_plans-requires-clause-sets c = sets_had c.args.bound.now.mesh c.args.halos.
 pub returns-clause-proper : goal.returns-clause-proper
 returns-clause-proper c =
     let b = bound_of c.args.bound.now in
-    is_proper b c.args.ranks.now
-    (plan_of (record { ranks = length c.args.ranks.now; block = c.args.block; sites = c.in_ok-sites.sites; items = c.in_ok-items.items; steps = c.in_ok-steps.steps }))
-    c.in_ok-items.items.items (in_range b c.requires.fits) refl refl c.in_ok-items.ensures c.in_ok-sites.ensures c.requires.block c.in_ok-steps.ensures
+    let p = plan_of (record { ranks = length c.args.ranks.now; block = c.args.block; sites = c.in_ok-sites.sites; items = c.in_ok-items.items; steps = c.in_ok-steps.steps }) in
+    is_proper b c.args.ranks.now p
+    c.in_ok-items.items.items (in_range b c.requires.fits) refl refl c.in_ok-items.ensures
+    (least_are_site_plans b c.args.ranks.now c.args.block (length b.sites) p.sites c.in_ok-sites.ensures) c.requires.block c.in_ok-steps.ensures
 
 pub returns-clause-colours : goal.returns-clause-colours
 returns-clause-colours c =
-    let b = bound_of c.args.bound.now in
-    has_least b c.args.ranks.now
+    has_least (bound_of c.args.bound.now) c.args.ranks.now
     (plan_of (record { ranks = length c.args.ranks.now; block = c.args.block; sites = c.in_ok-sites.sites; items = c.in_ok-items.items; steps = c.in_ok-steps.steps }))
-    c.in_ok-items.items.items (in_range b c.requires.fits) refl refl c.in_ok-items.ensures c.in_ok-sites.ensures
+    c.in_ok-sites.ensures
