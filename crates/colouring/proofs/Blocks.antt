@@ -64,7 +64,7 @@ module _ (table : List ℕ) (w size places m : ℕ) (em : m ≡ min size places)
   block_end : (b : ℕ) → b * size < places → b * (m * w) + m * w ≡ (b * size + m) * w
   block_end b lt = let e = same_start b lt in let u : (b * size + m) * w ≡ b * size * w + m * w = add-mul (b * size) m w in omega arith
 
-  place_in : (b j : ℕ) → b * size < places → In table (m * w) b j → (q : ℕ) × IsInBlock places size b q × In table w q j
+  pub place_in : (b j : ℕ) → b * size < places → In table (m * w) b j → (q : ℕ) × IsInBlock places size b q × In table w q j
   place_in b j lt i =
       let q = j / w in
       let some : 0 < w = positive w (omega arith) in
@@ -83,7 +83,7 @@ module _ (table : List ℕ) (w size places m : ℕ) (em : m ≡ min size places)
       positive zero l = absurd (let e : places * 0 ≡ 0 = omega arith in omega arith)
       positive (suc w) l = omega arith
 
-  row_in : (b q j : ℕ) → b * size < places → IsInBlock places size b q → In table w q j → In table (m * w) b j
+  pub row_in : (b q j : ℕ) → b * size < places → IsInBlock places size b q → In table w q j → In table (m * w) b j
   row_in b q j lt k i =
       let a : b * size ≤ q = k.0 in
       let z : q < (b + 1) * size = k.1 in

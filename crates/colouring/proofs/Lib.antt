@@ -6,3 +6,5 @@ pub mod Blocks
 pub mod Translating
 pub mod Ordering
 pub mod Reaching
+pub mod Marking
+pub mod Alike

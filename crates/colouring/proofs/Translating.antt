@@ -24,7 +24,7 @@ module _ (g : MeshValue) (maps : List (Vec ℕ Global)) (args : List IncArg) (pl
   found : (a : ℕ) → a < length args → Contains args (get_or args a first)
   found a l = (a, l, get_or_default args a (get_or args a first) first l)
 
-  conflict_to : (q p : ℕ) → q < places → p < places → Meet table (length args) q p → Conflict g maps args q p
+  pub conflict_to : (q p : ℕ) → q < places → p < places → Meet table (length args) q p → Conflict g maps args q p
   conflict_to q p lq lp c =
       let u = column q c.0 c.2 in
       let v = column p c.1 c.3 in
@@ -51,7 +51,7 @@ module _ (g : MeshValue) (maps : List (Vec ℕ Global)) (args : List IncArg) (pl
       let l : length table ≡ places * length args = t.count in
       (omega arith, omega arith, omega arith)
 
-  conflict_from : (q p : ℕ) → q < places → p < places → Conflict g maps args q p → Meet table (length args) q p
+  pub conflict_from : (q p : ℕ) → q < places → p < places → Conflict g maps args q p → Meet table (length args) q p
   conflict_from q p lq lp k =
       let x = k.0 in
       let y = k.1 in

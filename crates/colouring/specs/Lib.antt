@@ -4,3 +4,5 @@ pub mod Colours
 pub mod Table
 pub mod Outlined
 pub mod Laws
+pub mod Meeting
+pub mod Clashes

@@ -10,13 +10,16 @@ ghost use Rattle.mesh_decl.specs.declared.owners.Perms.{Perms};
 ghost use Rattle.local_mesh.specs.LocalMesh.{IsRankMesh};
 ghost use Rattle.colouring.specs.Colours.{AreArgs, AreColours};
 
+mod conflicts;
 mod laws;
 mod masks;
+mod meeting;
 mod rounds;
 mod table;
 mod types;
 mod within;
 
+pub use conflicts::{Clash, find_clash};
 pub use laws::{
     common_targets_are_ordered, common_targets_conflict, conflicting_blocks_differ,
     conflicting_places_are_ordered,
