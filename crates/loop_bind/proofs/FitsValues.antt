@@ -1,19 +1,11 @@
 -- The values of expressions of `main` are numbers of 32 bits, and what is left of an expression names cells alone.
-use Rattle.std.proofs.Common.{◌≡◌, ℕ, zero, suc, ℤ, pos, ◌+◌, ◌<◌, ◌≤◌, ◌^◌, List, [], ◌∷◌, ◌++◌, Ok, Err, Bool, true, false, cond, sym, subst, arith, FitsSigned, w32, to_z}
-use Rattle.std.specs.Prelude.{slice_index_or, int_rem, unsigned_abs, Result}
-use Rattle.std.proofs.lemmas.Int.{SFits-int_wrap, quot-rem, ints}
-use borrow.Author.Differences.{fits_in, read_fits}
-use lib.Signed.{mag_rem, mag_shr}
+use Rattle.std.proofs.Common.{ℕ, zero, suc, ℤ, pos, ◌+◌, ◌<◌, ◌≤◌, List, [], ◌∷◌, ◌++◌, Ok, Err, Bool, true, false, cond, arith, FitsSigned, w32}
+use Rattle.std.specs.Prelude.{slice_index_or, Result}
 use Rattle.c_lex.specs.declared.tokens.Pos.{Pos}
-use Rattle.op_num.specs.declared.refusals.Fault.TheVariants.{DivZero, ShiftCount}
-use Rattle.op_num.specs.Wrapping.{remainder}
 use Rattle.c_tree.specs.declared.expressions.BinaryOp.{BinaryOp}
-use Rattle.c_tree.specs.declared.expressions.BinaryOp.TheVariants as binary
 use Rattle.c_tree.specs.declared.expressions.UnaryOp.{UnaryOp}
-use Rattle.c_tree.specs.declared.expressions.UnaryOp.TheVariants as unary
 use Rattle.kernel_types.specs.declared.faults.KernelFault.{KernelFault}
-use Rattle.reductions.proofs.Laws.{commuting}
-use Rattle.kernel_model.specs.Numbers.{Value, fault, truth, is_zero, is_shift, is_settled, apply, apply_unary, magnitude, reduction_of, unless_zero, if_shift, sum, difference, product, quotient, rest, shifted_left, shifted_right, and_bits, or_bits, xor_bits, complement, negated}
+use Rattle.kernel_model.specs.Numbers.{Value, truth, is_zero, is_settled, apply, apply_unary, magnitude}
 use Rattle.kernel_model.specs.Operators.{IsNumber}
 use Rattle.kernel_model.proofs.Ranges.{operators_stay_in_range}
 use Rattle.kernel_model.specs.Meaning.{and_then, index_in}

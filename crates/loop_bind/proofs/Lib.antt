@@ -33,3 +33,11 @@ pub mod FitsValues
 pub mod FitsVars
 pub mod CausedFinds
 mod CausedText
+pub mod LeavesState
+pub mod LeavesMain
+pub mod LeavesLoop
+pub mod LeavesText
+pub mod LeavesTrace
+pub mod LeavesProgram
+pub mod NamedTokens
+pub mod NamedMesh

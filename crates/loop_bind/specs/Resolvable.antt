@@ -10,6 +10,7 @@ use Rattle.bound_program.specs.Values.{BoundValue}
 use Rattle.source_fits.specs.Resolvable.{IsResolvedSource}
 use Rattle.source_fits.specs.Sources.{HaveNumbers}
 use Rattle.loop_bind.specs.Bound.{bound}
+use Rattle.loop_bind.specs.Constants.{LeavesConstants}
 
 -- every bound program of a resolved source and entries with values of 32 bits fits
 abbrev pub BoundProgramsFit : Type 0
@@ -22,3 +23,9 @@ abbrev pub BoundMapsAreNarrow : Type 0
 BoundMapsAreNarrow =
     (p : ProgramTree) (r : Resolved) (es : List Named) (b : BoundValue)
     → IsResolvedSource p r → HaveNumbers es → bound p r es ≡ Ok b → All (λ (d : MapDecl). d.dim ≤ max_dim) b.mesh.maps
+
+-- nothing in such a program sets a variable that is `const`
+abbrev pub BoundProgramsLeaveConstants : Type 0
+BoundProgramsLeaveConstants =
+    (p : ProgramTree) (r : Resolved) (es : List Named) (b : BoundValue)
+    → IsResolvedSource p r → bound p r es ≡ Ok b → LeavesConstants b

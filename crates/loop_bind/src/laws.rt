@@ -6,7 +6,8 @@ ghost use Rattle.c_tree.specs.Tree.{ProgramTree};
 ghost use Rattle.kernel_types.specs.declared.kernels.Resolved.{Resolved as Kernels};
 ghost use Rattle.mesh_text.specs.Spelling.{Named};
 ghost use Rattle.loop_bind.specs.Bound.{bound};
-ghost use Rattle.loop_bind.specs.Resolvable.{BoundProgramsFit, BoundMapsAreNarrow};
+ghost use Rattle.loop_bind.specs.Names.{BoundNamesAreNames};
+ghost use Rattle.loop_bind.specs.Resolvable.{BoundProgramsFit, BoundMapsAreNarrow, BoundProgramsLeaveConstants};
 
 use source_fits::named_names_are_all;
 
@@ -23,6 +24,16 @@ pub fn bound_maps_are_narrow()
 {
     named_names_are_all();
 }
+
+/// A law: nothing in such a program sets a variable that is `const`, whatever the values of its mesh text.
+pub fn bound_programs_leave_constants()
+    ensures { BoundProgramsLeaveConstants }
+{}
+
+/// A law: the sets, maps and dats of a bound program have C names, where its source was read.
+pub fn bound_names_are_names()
+    ensures { BoundNamesAreNames }
+{}
 
 /// A law: no program is refused for want of memory by definition, so where binding answers it, memory ran out.
 pub fn refusals_have_causes()

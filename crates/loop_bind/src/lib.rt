@@ -15,6 +15,9 @@ pub use bound_program::{
     Access, Act, Arg, AssignOp, Bound, Class, ElementForm, Item, Mesh, Name, Pos, RExpr, RKernel,
     Site, Text, Var, Via, class_of,
 };
-pub use laws::{bound_maps_are_narrow, bound_programs_fit, refusals_have_causes};
+pub use laws::{
+    bound_maps_are_narrow, bound_names_are_names, bound_programs_fit,
+    bound_programs_leave_constants, refusals_have_causes,
+};
 pub use main_trace::{host_value, host_values_are_kernel_values};
 pub use source_fits::{resolved_names_hold, resolved_sources_are, spelled_entries_fit};
