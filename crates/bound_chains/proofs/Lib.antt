@@ -2,3 +2,4 @@ pub mod Backwards
 pub mod Few
 pub mod Sliced
 pub mod ByPlans
+mod OneRun

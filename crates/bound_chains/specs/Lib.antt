@@ -4,3 +4,4 @@ pub mod Dump
 pub mod Outcomes
 pub mod Given
 pub mod Laws
+pub mod OneRun

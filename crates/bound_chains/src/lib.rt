@@ -3,8 +3,10 @@
 #![tactic(auto)]
 
 mod given;
+mod one_run;
 mod runs;
 mod slices;
 
+pub use one_run::chains_are_one;
 pub use runs::chains_run_as_sequential;
 pub use slices::{messages_are_few, slices_are_backwards};

@@ -11,7 +11,10 @@ mod reaching;
 mod reading;
 mod sites;
 
-pub use chains::{chain_sites, executed_at, needed_at};
+pub use chains::{chain_sites, executed_at, free_site, needed_at};
 pub use counting::{begins_chain, chain_count};
 pub use executing::executing_all;
 pub use needing::needed_before;
+pub use owning::own_sets;
+pub use reaching::{element_of, ranks_at};
+pub use reading::read_dats;
