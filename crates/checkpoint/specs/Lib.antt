@@ -1,0 +1,4 @@
+pub mod Cut
+pub mod StateText
+pub mod Reading
+pub mod Laws
