@@ -1,7 +1,8 @@
 #!/bin/sh
 # Times `op2 run` on sources of doubling size, and shows each run's peak memory. The sources have kernels with statements of
 # every form, up to the 1 MiB that a source may have; their `main` does nothing.
-# Then times reading a source of 1 MiB with 100,000 names, and resolving them (crates/name_bench).
+# Then times reading a source of 1 MiB with 100,000 names, and resolving them (crates/name_bench); and reading one of 1 MiB with 10,000 loops,
+# and translating it (`op2 translate`).
 # Usage: bench/source.sh [BYTES ..]     (131072 262144 524288 1048576 where none is given)
 here=$(CDPATH= cd -- "$(dirname -- "$0")/.." && pwd) || exit 1
 work=$(mktemp -d) || exit 1
@@ -63,4 +64,27 @@ def spent(times):
 read = min(spent(0) for _ in range(3))
 resolved = min(spent(4) for _ in range(3))
 print(f"{length + len(end)} bytes, {names} names, {2 * uses} uses: read in {read:.3f} s, resolved in {(resolved - read) / 4:.3f} s")
+PY
+python3 - "$program" "$here/crates/op2_cli/out/op2_cli" "$work/loops.c" "$work/stubs.c" <<'PY'
+import subprocess, sys, time
+read, op2, source, stubs = sys.argv[1:]
+loops, most = 10000, 1048576
+head = 'extern int n;\nextern int a0[];\nvoid k(int *a) { a[0] += 1; }\nint main(int argc, char **argv) {\n'
+head += 'op_set s = op_decl_set(n, "s");\nop_dat a = op_decl_dat(s, 1, "int", a0, "a");\n'
+loop, end = 'op_par_loop(k, "", s, op_arg_dat(a, -1, OP_ID, 1, "int", OP_RW)); // %s\n', "op_exit();\n}\n"
+room = (most - len(head) - len(end)) // loops - len(loop % "")
+with open(source, "w") as file:
+    file.write(head + loop % ("." * room) * loops + end if room > 0 else sys.exit("no room"))
+def spent(*words):
+    best = float("inf")
+    for _ in range(5):
+        with open(stubs, "wb") as out:
+            begun = time.time()
+            subprocess.check_call(words, stdout=out)
+            best = min(best, time.time() - begun)
+    return best
+reading = spent(read, source, "0")
+translating = spent(op2, "translate", source)
+bytes_read, bytes_written = (len(open(name, "rb").read()) for name in (source, stubs))
+print(f"{bytes_read} bytes, {loops} loops: read in {reading:.3f} s, translated in {translating:.3f} s to {bytes_written} bytes")
 PY

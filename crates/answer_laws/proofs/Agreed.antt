@@ -17,20 +17,22 @@ use Rattle.bind_refusals.specs.declared.refusals.BindRefusal.{BindRefusal}
 use Rattle.bound_program.specs.Values.{BoundValue}
 use Rattle.loop_bind.specs.Bound.{bound}
 use Rattle.bound_plan.specs.OneRun.{KernelsAreOne}
+use Rattle.op_translate.specs.Translation as trans
 use Rattle.op_outside.specs.Outside.{Files}
 use Rattle.command_words.specs.Refusal.{SourceBytes, MeshBytes, Refusal}
-use Rattle.answer_lines.specs.Lines.{Answer, refused, line_of}
+use Rattle.answer_lines.specs.Lines.{Answer, done, refused, line_of}
 use Rattle.answers.specs.Said.{SaysTypes, SaysMesh, SaysBinding}
 use Rattle.mesh_text.specs.declared.entry.Form.{Form}
 use Rattle.mesh_gen.specs.Sample.{sample_source, sample_mesh}
-use Rattle.command_words.specs.Words.{PlanJob, Options, Input, InFiles, OfSample, Command, OnPlan, Converts, ShowsUsage, ShowsVersion, WordsAre}
-use Rattle.answers.specs.Judgements.{SourceIs, FileIs, MeshIs, TreeIs, TypesAre, EntriesAre, BoundIs, AccessesAre}
-use Rattle.answers.specs.Answers.{given, PlannedAnswers, BoundAnswers, ConvertAnswers, CommandAnswers}
+use Rattle.command_words.specs.Words.{PlanJob, Options, Input, InFiles, OfSample, Command, OnPlan, Converts, Translates, Restores, ShowsUsage, ShowsVersion, WordsAre}
+use Rattle.answers.specs.Judgements.{TextIs, SourceIs, FileIs, MeshIs, TreeIs, TypesAre, TranslationIs, RestorationIs, EntriesAre, BoundIs, AccessesAre}
+use Rattle.answers.specs.Answers.{given, PlannedAnswers, BoundAnswers, ConvertAnswers, TranslateAnswers, RestoreAnswers, CommandAnswers}
 use Rattle.command_words.specs.Laws.{OptionsAreWithin}
 use Rattle.answers.specs.Laws.{LacksTree, SourceLacksTree, Agree, AnswersAgree}
 use Rattle.answer_laws.proofs.Given.{given_both, given_alike}
 use Rattle.answer_laws.proofs.IsOne.{IsOne, held_is_one, told_is_one}
 use Rattle.answer_laws.proofs.SaidOnce.{types_once, mesh_once, binding_once, source_status}
+use Rattle.answer_laws.proofs.Translations.{translation_is_one, restoration_is_one}
 use Rattle.answer_laws.proofs.Trees.{tree_lines}
 use Rattle.answer_laws.proofs.Sites.{site_found, first_found, accesses_none, accesses_some}
 use Rattle.answer_laws.proofs.SameKernels.{sites_found}
@@ -62,7 +64,7 @@ mesh_is_one : (input : Input) (files : Files) → IsOne (MeshIs input files)
 mesh_is_one (InFiles source mesh) files = held_is_one MeshBytes mesh (files mesh)
 mesh_is_one (OfSample side) files = told_is_one (sample_mesh side)
 
-module _ (walks_alike : WalksAlike) (kernels_are_one : KernelsAreOne) (one_read : (bytes : List ℕ) (a b : Read) → Spelled bytes a → Spelled bytes b → a ≡ b) (one_outcome : (bytes : List ℕ) (a b : lexer.Outcome) → Lexes bytes a → Lexes bytes b → a ≡ b) (one_tree : (bytes : List ℕ) (a b : ProgramTree) → Reads bytes a → Reads bytes b → a ≡ b) (one_resolved : (p : ProgramTree) (a b : names.Outcome) → Resolves p a → Resolves p b → a ≡ b) (walk_finds : WalkFinds) (obeys : ObeysUnlessBroken) (one_breach : OneRefusal) (plans_alike : (j : PlanJob) (o : Options) (files : Files) → 0 < o.ranks → Alike (PlannedAnswers j o files)) (within : OptionsAreWithin) where
+module _ (walks_alike : WalksAlike) (kernels_are_one : KernelsAreOne) (one_read : (bytes : List ℕ) (a b : Read) → Spelled bytes a → Spelled bytes b → a ≡ b) (one_outcome : (bytes : List ℕ) (a b : lexer.Outcome) → Lexes bytes a → Lexes bytes b → a ≡ b) (one_tree : (bytes : List ℕ) (a b : ProgramTree) → Reads bytes a → Reads bytes b → a ≡ b) (one_resolved : (p : ProgramTree) (a b : names.Outcome) → Resolves p a → Resolves p b → a ≡ b) (walk_finds : WalkFinds) (obeys : ObeysUnlessBroken) (one_breach : OneRefusal) (plans_alike : (j : PlanJob) (o : Options) (files : Files) → 0 < o.ranks → Alike (PlannedAnswers j o files)) (within : OptionsAreWithin) (one_translation : (bytes : List ℕ) (p : ProgramTree) (a b : trans.Outcome) → trans.Translates bytes p a → trans.Translates bytes p b → a ≡ b) (one_restoration : (bytes : List ℕ) (a b : trans.Outcome) → trans.Restores bytes a → trans.Restores bytes b → a ≡ b) where
   -- ---- accesses
 
   -- what is found in the loops' kernels
@@ -171,15 +173,16 @@ module _ (walks_alike : WalksAlike) (kernels_are_one : KernelsAreOne) (one_read 
   abbrev Lacks : Input → Files → Type 0
   Lacks input files = (bytes : List ℕ) × SourceIs input files (Ok bytes) × LacksTree bytes
 
-  trees_agree : (rest : BoundValue → Answer → Type 0) → Alike rest → (input : Input) (files : Files) (bytes : List ℕ) → SourceIs input files (Ok bytes) → (x y : Answer) → given (TreeIs bytes) (λ p. given (TypesAre p) (FromMesh rest input files p)) x → given (TreeIs bytes) (λ p. given (TypesAre p) (FromMesh rest input files p)) y → AgreeBut (Lacks input files) x y
-  trees_agree rest alike input files bytes is =
-      given_alike (TreeIs bytes) (λ p. given (TypesAre p) (FromMesh rest input files p)) (λ p. given (TypesAre p) (FromMesh rest input files p)) (AgreeBut (Lacks input files)) refusals (λ s p h k. h.1.none p k) (λ a b h k. one_tree bytes a b h k) (λ p h. types_agree (Lacks input files) rest alike input files p)
+  -- where answers of one tree agree, those of the bytes do
+  trees_agree : (N : Type 0) (bytes : List ℕ) → (LacksTree bytes → N) → (rest : ProgramTree → Answer → Type 0) → ((p : ProgramTree) (x y : Answer) → rest p x → rest p y → AgreeBut N x y) → (x y : Answer) → given (TreeIs bytes) rest x → given (TreeIs bytes) rest y → AgreeBut N x y
+  trees_agree N bytes lacks rest agree =
+      given_alike (TreeIs bytes) rest rest (AgreeBut N) refusals (λ s p h k. h.1.none p k) (λ a b h k. one_tree bytes a b h k) (λ p h. agree p)
     where
-      lines : (s t : Refusal) → (line_of s ≡ line_of t) ⊎ LacksTree bytes → (line_of s ≡ line_of t) ⊎ Lacks input files
+      lines : (s t : Refusal) → (line_of s ≡ line_of t) ⊎ LacksTree bytes → (line_of s ≡ line_of t) ⊎ N
       lines s t (inl e) = inl e
-      lines s t (inr l) = inr (bytes, is, l)
+      lines s t (inr l) = inr (lacks l)
 
-      refusals : (s t : Refusal) → TreeIs bytes (Err s) → TreeIs bytes (Err t) → AgreeBut (Lacks input files) (refused s) (refused t)
+      refusals : (s t : Refusal) → TreeIs bytes (Err s) → TreeIs bytes (Err t) → AgreeBut N (refused s) (refused t)
       refusals s t h k = record {
         status = source_status h.0 s h.2 ∙ sym (source_status k.0 t k.2);
         out = refl;
@@ -190,7 +193,7 @@ module _ (walks_alike : WalksAlike) (kernels_are_one : KernelsAreOne) (one_read 
   programs_agree rest alike input files =
       given_alike (SourceIs input files) (λ bytes. given (TreeIs bytes) (λ p. given (TypesAre p) (FromMesh rest input files p))) (λ bytes. given (TreeIs bytes) (λ p. given (TypesAre p) (FromMesh rest input files p))) (AgreeBut (Lacks input files))
       (λ s t h k. same_refusals (Lacks input files) s t ((source_is_one input files).refusals s t h k)) (source_is_one input files).apart (source_is_one input files).values
-      (λ bytes h. trees_agree rest alike input files bytes h)
+      (λ bytes h. trees_agree (Lacks input files) bytes (λ l. (bytes, h, l)) (λ p. given (TypesAre p) (FromMesh rest input files p)) (types_agree (Lacks input files) rest alike input files))
 
   converts_agree : (form : Form) (mesh : List ℕ) (files : Files) → (x y : Answer) → ConvertAnswers form mesh files x → ConvertAnswers form mesh files y → AgreeBut ⊥ x y
   converts_agree form mesh files =
@@ -200,6 +203,31 @@ module _ (walks_alike : WalksAlike) (kernels_are_one : KernelsAreOne) (one_read 
       given_alike (EntriesAre text) _ _ (AgreeBut ⊥) (λ s t h k. same_refusals ⊥ s t ((entries_are_one text).refusals s t h k))
       (entries_are_one text).apart (entries_are_one text).values
       (λ es _ x y h k. same_answers ⊥ x y (h ∙ sym k)))
+
+  -- ---- translations
+
+  -- the source in a file lacks a tree
+  abbrev FileLacks : List ℕ → Files → Type 0
+  FileLacks source files = (bytes : List ℕ) × TextIs source files (Ok bytes) × LacksTree bytes
+
+  translations_agree : (source : List ℕ) (files : Files) → (x y : Answer) → TranslateAnswers source files x → TranslateAnswers source files y → AgreeBut (FileLacks source files) x y
+  translations_agree source files =
+      given_alike (TextIs source files) _ _ (AgreeBut (FileLacks source files)) (λ s t h k. same_refusals (FileLacks source files) s t ((held_is_one SourceBytes source (files source)).refusals s t h k))
+      (held_is_one SourceBytes source (files source)).apart (held_is_one SourceBytes source (files source)).values
+      (λ bytes h.
+      trees_agree (FileLacks source files) bytes (λ l. (bytes, h, l)) (λ p. given (TranslationIs bytes p) (λ out a. a ≡ done out)) (λ p.
+      given_alike (TranslationIs bytes p) _ _ (AgreeBut (FileLacks source files)) (λ s t h k. same_refusals (FileLacks source files) s t ((translation_is_one one_translation bytes p).refusals s t h k))
+      (translation_is_one one_translation bytes p).apart (translation_is_one one_translation bytes p).values
+      (λ out _ x y h k. same_answers (FileLacks source files) x y (h ∙ sym k))))
+
+  restorations_agree : (source : List ℕ) (files : Files) → (x y : Answer) → RestoreAnswers source files x → RestoreAnswers source files y → AgreeBut ⊥ x y
+  restorations_agree source files =
+      given_alike (TextIs source files) _ _ (AgreeBut ⊥) (λ s t h k. same_refusals ⊥ s t ((held_is_one SourceBytes source (files source)).refusals s t h k))
+      (held_is_one SourceBytes source (files source)).apart (held_is_one SourceBytes source (files source)).values
+      (λ bytes _.
+      given_alike (RestorationIs bytes) _ _ (AgreeBut ⊥) (λ s t h k. same_refusals ⊥ s t ((restoration_is_one one_restoration bytes).refusals s t h k))
+      (restoration_is_one one_restoration bytes).apart (restoration_is_one one_restoration bytes).values
+      (λ out _ x y h k. same_answers ⊥ x y (h ∙ sym k)))
 
   -- ---- the words
 
@@ -212,9 +240,12 @@ module _ (walks_alike : WalksAlike) (kernels_are_one : KernelsAreOne) (one_read 
 
   commands_agree : (words : List (List ℕ)) (files : Files) (c : Command) → WordsAre words (Ok c) → (a b : Answer) → CommandAnswers c files a → CommandAnswers c files b → Agree words files a b
   commands_agree words files (OnPlan j o input) asks a b h k =
-      agree_for words files (Lacks input files) (λ l. record { command = OnPlan j o input; input = input; bytes = l.0; asks = asks; from = refl; held = l.1; lacks = l.2 }) a b
+      agree_for words files (Lacks input files) (λ l. record { command = OnPlan j o input; bytes = l.0; asks = asks; held = l.1; lacks = l.2 }) a b
       (programs_agree (PlannedAnswers j o files) (plans_alike j o files (within words j o input asks).some) input files a b h k)
   commands_agree words files (Converts form mesh) asks a b h k = agree_for words files ⊥ (λ x. absurd x) a b (converts_agree form mesh files a b h k)
+  commands_agree words files (Translates source) asks a b h k =
+      agree_for words files (FileLacks source files) (λ l. record { command = Translates source; bytes = l.0; asks = asks; held = l.1; lacks = l.2 }) a b (translations_agree source files a b h k)
+  commands_agree words files (Restores source) asks a b h k = agree_for words files ⊥ (λ x. absurd x) a b (restorations_agree source files a b h k)
   commands_agree words files ShowsUsage asks a b h k = agree_for words files ⊥ (λ x. absurd x) a b (same_answers ⊥ a b (h ∙ sym k))
   commands_agree words files ShowsVersion asks a b h k = agree_for words files ⊥ (λ x. absurd x) a b (same_answers ⊥ a b (h ∙ sym k))
 

@@ -5,10 +5,10 @@ use Rattle.answer_lines.specs.Lines.{Answer}
 use Rattle.distribute.specs.Parts.{Parts}
 use Rattle.bound_program.specs.Values.{BoundValue}
 use Rattle.command_words.specs.Refusal.{Refusal}
-use Rattle.command_words.specs.Words.{PlanJob, Parting, ByRule, ByFile, Schedule, Standard, Drawn, Written, Options, group_of, Command, OnPlan, InFiles, OfSample, Converts, ShowsUsage, ShowsVersion, names_by, names_at, names_in, names_of, named_by}
+use Rattle.command_words.specs.Words.{PlanJob, Parting, ByRule, ByFile, Schedule, Standard, Drawn, Written, Options, group_of, Command, OnPlan, InFiles, OfSample, Converts, Translates, Restores, ShowsUsage, ShowsVersion, names_by, names_at, names_in, names_of, named_by}
 use Rattle.answers.specs.Judgements.{SourceIs, TreeIs, TypesAre, MeshIs, EntriesAre, BoundIs, AccessesAre, NumbersOf, PartsOf, OwnersOf, Planned, PlanIs, Order, OrderOf, outline_of, StepsOf}
 use Rattle.answers.specs.Answers.{given, planned_answer, PlannedAnswers, PlanAnswers, CommandAnswers, Answers}
-use Rattle.answers.specs.Endings.{Ending, Answered, OutOfMemory, Unread, Unwritten, ending_status, unwritten_status, Call, Tells, TellsUntold, no_files, IsWritten, EndsBy, Ends, TellTheAnswer, IsComplete}
+use Rattle.answers.specs.Endings.{Ending, Answered, OutOfMemory, Unread, Unwritten, ending_status, unwritten_status, Call, Tells, IsWritten, EndsBy, Ends, TellTheAnswer, IsComplete}
 use Rattle.answers.specs.Laws.{AnswersAgree}
 use Rattle.answer_laws.proofs.Given.{given_on}
 
@@ -55,6 +55,8 @@ same_command : (c : Command) → names_of c ≡ [] → (f g : Files) (a : Answer
 same_command (OnPlan j o (InFiles source mesh)) none f g a h = absurd (let bad : ⊥ = cc in bad)
 same_command (OnPlan j o (OfSample side)) none f g a h = sample_over j o side none f g a h
 same_command (Converts form mesh) none f g a h = absurd (let bad : ⊥ = cc in bad)
+same_command (Translates source) none f g a h = absurd (let bad : ⊥ = cc in bad)
+same_command (Restores source) none f g a h = absurd (let bad : ⊥ = cc in bad)
 same_command ShowsUsage none f g a h = h
 same_command ShowsVersion none f g a h = h
 
@@ -70,7 +72,12 @@ tells_answer c files a (inr none) h = by_told c.told h
   where
     by_told : (t : Option Files) → Tells c.words t a → Answers c.words files a
     by_told (Some f) k = same_over c.words none f files a k
-    by_told None k = same_over c.words none no_files files a (subst (λ names. TellsUntold c.words names a) none k)
+    by_told None k = same_over c.words none k.0 files a k.2
+
+-- what a call tells is an answer over some files
+pub tells_some : (words : List (List ℕ)) (told : Option Files) (a : Answer) → Tells words told a → (files : Files) × Answers words files a
+tells_some words (Some files) a h = (files, h)
+tells_some words None a h = (h.0, h.2)
 
 pub unwritten_is : (a : Answer) → IsWritten a → (unwritten_status a ≡ a.status) ⊎ (unwritten_status a ≡ 4)
 unwritten_is a (inl e) = inr (rw e refl)

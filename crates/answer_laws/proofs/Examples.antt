@@ -4,11 +4,11 @@ use Rattle.std.specs.Fmt.{digits}
 use Rattle.op_num.specs.declared.refusals.Fault.TheVariants.{DivZero}
 use Rattle.clap.proofs.OnLiterals.{clap_on_literals}
 use Rattle.mesh_text.specs.declared.entry.Form.TheVariants as form
-use Rattle.command_words.specs.Refusal.{CannotRead, TooDeep, NoTokens, BadName, BadTarget, BadAccess, BadMesh, BadPart, BadPartition, BadSchedule, BadStep, EarlyStep, LeftStep, BeyondLimit, PartitionBytes, Steps, ScheduleSteps, SetSize, Usage}
+use Rattle.command_words.specs.Refusal.{CannotRead, TooDeep, NoTokens, BadName, BadTarget, BadAccess, BadMesh, BadPart, BadPartition, BadSchedule, BadStep, EarlyStep, LeftStep, BadStub, BeyondLimit, PartitionBytes, Steps, ScheduleSteps, SetSize, Usage}
 use Rattle.answer_lines.specs.Lines.{line_of, fault_line}
 use Rattle.distribute.specs.Parts.{Block, Bisect, Grow}
 use Rattle.schedule_steps.specs.declared.step.Step.TheVariants.{Send, Recv, Begin, Join}
-use Rattle.command_words.specs.Words.{Options, Check, ShowsPlan, ShowsSchedule, RunsPlan, ByRule, ByFile, Standard, Drawn, Written, InFiles, OfSample, OnPlan, Converts, ShowsUsage, ShowsVersion, WordsAre}
+use Rattle.command_words.specs.Words.{Options, Check, ShowsPlan, ShowsSchedule, RunsPlan, ByRule, ByFile, Standard, Drawn, Written, InFiles, OfSample, OnPlan, Converts, Translates, Restores, ShowsUsage, ShowsVersion, WordsAre}
 
 -- ---- lines
 
@@ -88,6 +88,10 @@ line_of_left_step = refl
 line_of_schedule_steps : line_of (BeyondLimit ScheduleSteps 8388609) ≡ codes "op2: limit schedule-steps 8388608 8388609\n"
 unfolding digits
 line_of_schedule_steps = refl
+
+line_of_stub : line_of (BadStub 1 (record { line = 3; column = 6 })) ≡ codes "op2: translate 1 at 3:6\n"
+unfolding digits
+line_of_stub = refl
 
 -- ---- words
 
@@ -239,6 +243,26 @@ a_mesh_and_a_dump = refl
 a_schedule_of_no_mesh : WordsAre (codes "op2" ∷ codes "schedule" ∷ codes "s.c" ∷ []) (Err Usage)
 unfolding clap_on_literals
 a_schedule_of_no_mesh = refl
+
+a_translation : WordsAre (codes "op2" ∷ codes "translate" ∷ codes "s.c" ∷ []) (Ok (Translates (codes "s.c")))
+unfolding clap_on_literals
+a_translation = refl
+
+a_restoration : WordsAre (codes "op2" ∷ codes "restore" ∷ codes "s.c" ∷ []) (Ok (Restores (codes "s.c")))
+unfolding clap_on_literals
+a_restoration = refl
+
+a_translation_over_a_mesh : WordsAre (codes "op2" ∷ codes "translate" ∷ codes "s.c" ∷ codes "m" ∷ []) (Err Usage)
+unfolding clap_on_literals
+a_translation_over_a_mesh = refl
+
+a_translation_of_a_version : WordsAre (codes "op2" ∷ codes "translate" ∷ codes "s.c" ∷ codes "--form=2" ∷ []) (Err Usage)
+unfolding clap_on_literals
+a_translation_of_a_version = refl
+
+a_restoration_on_ranks : WordsAre (codes "op2" ∷ codes "restore" ∷ codes "s.c" ∷ codes "--ranks=1" ∷ []) (Err Usage)
+unfolding clap_on_literals
+a_restoration_on_ranks = refl
 
 help : WordsAre (codes "op2" ∷ codes "run" ∷ codes "--help" ∷ []) (Ok ShowsUsage)
 unfolding clap_on_literals

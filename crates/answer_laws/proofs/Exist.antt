@@ -26,12 +26,14 @@ use Rattle.op_outside.specs.Outside.{Files}
 use Rattle.command_words.specs.Refusal.{SourceBytes, MeshBytes, Refusal, NoTree, TooDeep}
 use Rattle.answer_lines.specs.Lines.{Answer, most}
 use Rattle.mesh_gen.specs.Sample.{sample_source}
-use Rattle.command_words.specs.Words.{PlanJob, Options, Input, InFiles, OfSample, Command, OnPlan, Converts, ShowsUsage, ShowsVersion, WordsAre}
-use Rattle.answers.specs.Judgements.{IsUnread, SourceIs, MeshIs, TreeIs, TypesAre, EntriesAre, BoundIs}
+use Rattle.command_words.specs.Words.{PlanJob, Options, Input, InFiles, OfSample, Command, OnPlan, Converts, Translates, Restores, ShowsUsage, ShowsVersion, WordsAre}
+use Rattle.op_translate.specs.declared.refusals.TransRefusal.TheVariants as trans
+use Rattle.answers.specs.Judgements.{IsUnread, SourceIs, MeshIs, TreeIs, TranslationIs, RestorationIs, TypesAre, EntriesAre, BoundIs}
 use Rattle.answers.specs.Answers.{BoundAnswers, PlannedAnswers, CommandAnswers}
 use Rattle.command_words.specs.Laws.{AreWithin, OptionsAreWithin}
 use Rattle.answers.specs.Laws.{AnswersExist}
 use Rattle.answer_laws.proofs.Given.{given_one}
+use Rattle.answer_laws.proofs.Translations.{translation_exists, restoration_exists}
 use Rattle.answer_laws.proofs.Held.{held_exists, held_within}
 use Rattle.answer_laws.proofs.PlansExist.{Suits}
 use Rattle.answer_laws.proofs.SaidOnce.{lex_said, types_said, mesh_said, binding_said}
@@ -117,6 +119,15 @@ module _ (some_lexed : (bytes : List ℕ) → (o : Outcome) × Lexes bytes o) (s
       by_outcome (Err l) h = let said = lex_said l (has_cause h.parts h.stop l h.gives) in none (Err said.0) (source.Lex l, unlexed bytes l h, said.1)
       by_outcome (Ok tokens) h = none (Err (NoTree (place_at (places tokens) bytes 0))) (source.Syntax (place_at (places tokens) bytes 0), treeless bytes tokens h (λ p r. none (Ok p) r) no_deep, refl)
 
+  restored_exists : (bytes : List ℕ) → ¬ ((r : Result (List ℕ) Refusal) → ¬ RestorationIs bytes r)
+  restored_exists bytes none = by_outcome (some_lexed bytes).0 (some_lexed bytes).1
+    where
+      by_outcome : (o : Outcome) → ¬ Lexes bytes o
+      by_outcome (Err l) h =
+          let said = lex_said l (has_cause h.parts h.stop l h.gives) in
+          none (Err said.0) (trans.Lex l, record { found = Err l; lexed = h; is = refl }, said.1)
+      by_outcome (Ok tokens) h = let r = restoration_exists bytes tokens h in none r.0 r.1
+
   types_exist : (bytes : List ℕ) (p : ProgramTree) → length bytes ≤ most SourceBytes → Reads bytes p → ¬ ((r : Result Resolved Refusal) → ¬ TypesAre p r)
   types_exist bytes p within reads none = by_outcome (some_types p).0 (some_types p).1
     where
@@ -163,6 +174,13 @@ module _ (some_lexed : (bytes : List ℕ) → (o : Outcome) × Lexes bytes o) (s
   command_answers words files (Converts form mesh) asks =
       given_one _ _ (held_exists MeshBytes mesh (files mesh)) (λ text _.
       given_one _ _ (entries_exist text) (λ es _ n. n _ refl))
+  command_answers words files (Translates source) asks =
+      given_one _ _ (held_exists SourceBytes source (files source)) (λ bytes _.
+      given_one _ _ (tree_exists bytes) (λ p reads.
+      given_one (TranslationIs bytes p) _ (λ none. let t = translation_exists bytes p reads in none t.0 t.1) (λ out _ n. n _ refl)))
+  command_answers words files (Restores source) asks =
+      given_one _ _ (held_exists SourceBytes source (files source)) (λ bytes _.
+      given_one _ _ (restored_exists bytes) (λ out _ n. n _ refl))
   command_answers words files ShowsUsage asks = λ none. none _ refl
   command_answers words files ShowsVersion asks = λ none. none _ refl
 

@@ -5,6 +5,7 @@ mod Sites
 mod SameKernels
 mod SameBound
 mod IsOne
+mod Translations
 mod Held
 mod SchedulesAgree
 mod PlansAgree

@@ -28,7 +28,7 @@ use Rattle.loop_plan.specs.Proper.{Proper, HasLeastColours}
 use Rattle.loop_plan.specs.PlanText.{plan_text}
 use Rattle.loop_plan.specs.StepCounts.{program_steps}
 use Rattle.loop_plan.specs.StepOutline.{step_outline}
-use Rattle.loop_plan.specs.OnePlan.{AreAlike, PlanTextsAreOne, PlansAreOne, StepCountsAreOne}
+use Rattle.loop_plan.specs.OnePlan.{AreAlike, LeastColoursAreOne, PlanTextsAreOne, PlansAreOne, StepCountsAreOne}
 use Rattle.bound_plan.specs.Memories.{dump_of, run_output}
 use Rattle.bound_plan.specs.OneRun.{with_kernels, ProgramsAreOne, DumpsAreOne}
 use Rattle.op_outside.specs.Outside.{Files}
@@ -108,7 +108,7 @@ same_owners : (d e : Distribution) → distribution_value d ≡ distribution_val
 unfolding distribution_value
 same_owners d e h = ap (λ (v : DistributionValue). v.owners) h
 
-module _ (programs_are_one : ProgramsAreOne) (dumps_are_one : DumpsAreOne) (one_plan : PlansAreOne) (schedules : ScheduleLaws) (one_numbers : NumbersAreOne) (one_owners : OwnersAreOne) (one_distribution : DistributionsAreOne) (one_plan_text : PlanTextsAreOne) (one_step_count : StepCountsAreOne) where
+module _ (programs_are_one : ProgramsAreOne) (dumps_are_one : DumpsAreOne) (one_colouring : LeastColoursAreOne) (one_plan : PlansAreOne) (schedules : ScheduleLaws) (one_numbers : NumbersAreOne) (one_owners : OwnersAreOne) (one_distribution : DistributionsAreOne) (one_plan_text : PlanTextsAreOne) (one_step_count : StepCountsAreOne) where
   module _ (j : PlanJob) (o : Options) (files : Files) (some : 0 < o.ranks) (b : BoundValue) (ks : List RKernel) (same : map rkernel_of b.kernels ≡ map rkernel_of ks) (fits : Fits b) where
     abbrev c : BoundValue
     c = with_kernels b ks
@@ -148,9 +148,13 @@ module _ (programs_are_one : ProgramsAreOne) (dumps_are_one : DumpsAreOne) (one_
           alike = ranks_alike p.distribution q.distribution h.distributed k.distributed;
           block = h.block ∙ sym k.block;
           proper = h.proper;
-          colours = h.colours;
           other_proper = is_proper b ks q.distribution.ranks.items q.plan k.proper;
-          other_colours = has_least b ks q.distribution.ranks.items q.plan k.colours;
+          colours = one_colouring b p.distribution.ranks.items q.distribution.ranks.items p.plan q.plan (record {
+            alike = ranks_alike p.distribution q.distribution h.distributed k.distributed;
+            block = h.block ∙ sym k.block;
+            colours = h.colours;
+            other_colours = has_least b ks q.distribution.ranks.items q.plan k.colours;
+          });
         }
 
         outlines_same : outline_of b p ≡ outline_of c q

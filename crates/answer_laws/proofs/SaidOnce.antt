@@ -7,6 +7,8 @@ use Rattle.c_tree.specs.declared.refusals.SourceRefusal.{SourceRefusal}
 use Rattle.c_tree.specs.declared.refusals.SourceRefusal.TheVariants as source
 use Rattle.name_resolution.specs.declared.refusals.TypeRefusal.{TypeRefusal}
 use Rattle.name_resolution.specs.declared.refusals.TypeRefusal.TheVariants as types
+use Rattle.op_translate.specs.declared.refusals.TransRefusal.{TransRefusal}
+use Rattle.op_translate.specs.declared.refusals.TransRefusal.TheVariants as trans
 use Rattle.mesh_text.specs.declared.entry.MeshRefusal.{MeshRefusal}
 use Rattle.mesh_text.specs.declared.entry.MeshRefusal.TheVariants as mesh
 use Rattle.bind_refusals.specs.declared.refusals.BindRefusal.{BindRefusal}
@@ -20,7 +22,7 @@ use Rattle.step_judge.specs.declared.refusal.ScheduleRefusal.{ScheduleRefusal}
 use Rattle.step_judge.specs.declared.refusal.ScheduleRefusal.TheVariants as taking
 use Rattle.distribute.specs.Parts.{NumbersRefusal, UnknownMap, OwnersRefusal, NoDat, NoMap, Unspelled}
 use Rattle.command_words.specs.Refusal.{Refusal, status_of}
-use Rattle.answers.specs.Said.{SaysLex, SaysSource, SaysTypes, SaysMesh, SaysBinding, SaysNumbers, SaysPartition, SaysOwners, SaysSchedule, SaysStep, SaysEnd, SaysNext}
+use Rattle.answers.specs.Said.{SaysLex, SaysSource, SaysTypes, SaysTranslation, SaysMesh, SaysBinding, SaysNumbers, SaysPartition, SaysOwners, SaysSchedule, SaysStep, SaysEnd, SaysNext}
 
 -- ---- no other
 
@@ -46,6 +48,13 @@ types_once (types.AssignsCounter at) r s h k = h ∙ sym k
 types_once (types.AssignsConst at) r s h k = h ∙ sym k
 types_once (types.TooMuchWork at) r s h k = h ∙ sym k
 types_once types.OutOfMemory r s h k = absurd h
+
+pub translation_once : (e : TransRefusal) (r s : Refusal) → SaysTranslation e r → SaysTranslation e s → r ≡ s
+translation_once (trans.NameTaken at) r s h k = h ∙ sym k
+translation_once (trans.NoCall at) r s h k = h ∙ sym k
+translation_once (trans.LoopLeft at) r s h k = h ∙ sym k
+translation_once (trans.Lex l) r s h k = lex_once l r s h k
+translation_once trans.OutOfMemory r s h k = absurd h
 
 pub mesh_once : (e : MeshRefusal) (r s : Refusal) → SaysMesh e r → SaysMesh e s → r ≡ s
 mesh_once (mesh.Header line) r s h k = h ∙ sym k

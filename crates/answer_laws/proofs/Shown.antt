@@ -7,14 +7,14 @@ use Rattle.bound_program.specs.Values.{BoundValue}
 use Rattle.run_model.specs.Programs.{first_fault}
 use Rattle.mesh_text.specs.Canonical.{canonical}
 use Rattle.op_outside.specs.Outside.{Files, appended, AppendsFront}
-use Rattle.command_words.specs.Refusal.{Refusal, Usage, CannotRead, NoTokens, NoTree, TooDeep, BadName, BadBinding, BadTarget, BadAccess, BadMesh, BadPart, BadPartition, BadSchedule, BadStep, EarlyStep, LeftStep, BeyondLimit, status_of}
+use Rattle.command_words.specs.Refusal.{Refusal, Usage, CannotRead, NoTokens, NoTree, TooDeep, BadName, BadBinding, BadTarget, BadAccess, BadMesh, BadPart, BadPartition, BadSchedule, BadStep, EarlyStep, LeftStep, BadStub, BeyondLimit, status_of}
 use Rattle.answer_lines.specs.Lines.{Answer, done, refused, faulted}
-use Rattle.command_words.specs.Words.{PlanJob, Check, ShowsPlan, ShowsSchedule, RunsPlan, Options, group_of, Input, Command, OnPlan, Converts, ShowsUsage, ShowsVersion, WordsAre, named_by}
-use Rattle.answers.specs.Judgements.{SourceIs, TreeIs, TypesAre, FileIs, MeshIs, EntriesAre, BoundIs, AccessesAre, NumbersOf, PartsOf, OwnersOf, Planned, PlanIs, OrderOf, outline_of, StepsOf}
+use Rattle.command_words.specs.Words.{PlanJob, Check, ShowsPlan, ShowsSchedule, RunsPlan, Options, group_of, Input, Command, OnPlan, Converts, Translates, Restores, ShowsUsage, ShowsVersion, WordsAre, named_by}
+use Rattle.answers.specs.Judgements.{TextIs, SourceIs, TreeIs, TranslationIs, RestorationIs, TypesAre, FileIs, MeshIs, EntriesAre, BoundIs, AccessesAre, NumbersOf, PartsOf, OwnersOf, Planned, PlanIs, OrderOf, outline_of, StepsOf}
 use Rattle.answers.specs.Answers.{given, ran, planned_answer, PlannedAnswers, BoundAnswers, CommandAnswers, Answers}
-use Rattle.answers.specs.Endings.{Ending, Answered, OutOfMemory, Unread, Unwritten, ending_status, unwritten_status, Call, IsSomeAnswer, TellsUntold, Tells, no_files, IsWritten, EndsBy, Ends, Shows, IsShown, IsSilent}
+use Rattle.answers.specs.Endings.{Ending, Answered, OutOfMemory, Unread, Unwritten, ending_status, unwritten_status, Call, Tells, IsWritten, EndsBy, Ends, Shows, IsShown, IsSilent}
 use Rattle.answers.specs.Laws.{Agree, AnswersAgree}
-use Rattle.answer_laws.proofs.Complete.{tells_answer}
+use Rattle.answer_laws.proofs.Complete.{tells_answer, tells_some}
 
 -- ---- the three forms of an answer
 
@@ -60,24 +60,19 @@ command_form : (c : Command) (files : Files) (a : Answer) → CommandAnswers c f
 command_form (OnPlan j o input) files a h = bound_form (PlannedAnswers j o files) (planned_form j o files) input files a h
 command_form (Converts form mesh) files a h =
     given_form (FileIs mesh files) _ (λ text. given_form (EntriesAre text) (λ es a. a ≡ done (canonical form es)) (λ es a h. IsDone (canonical form es) h)) a h
+command_form (Translates source) files a h =
+    given_form (TextIs source files) _ (λ bytes.
+    given_form (TreeIs bytes) _ (λ p. given_form (TranslationIs bytes p) (λ out a. a ≡ done out) (λ out a h. IsDone out h))) a h
+command_form (Restores source) files a h =
+    given_form (TextIs source files) _ (λ bytes. given_form (RestorationIs bytes) (λ out a. a ≡ done out) (λ out a h. IsDone out h)) a h
 command_form ShowsUsage files a h = IsDone _ h
 command_form ShowsVersion files a h = IsDone _ h
 
 answer_form : (words : List (List ℕ)) (files : Files) (a : Answer) → Answers words files a → Form a
 answer_form words files = given_form (WordsAre words) _ (λ c a h. command_form c files a h)
 
-some_form : (a : Answer) → IsSomeAnswer a → Form a
-some_form a (inl h) = IsDone h.0 h.1
-some_form a (inr (inl h)) = IsRefused h.0 h.2
-some_form a (inr (inr h)) = IsFaulted h.0 h.1 h.2
-
 told_form : (words : List (List ℕ)) (told : Option Files) (a : Answer) → Tells words told a → Form a
-told_form words (Some files) a h = answer_form words files a h
-told_form words None a h = by_names (named_by words) h
-  where
-    by_names : (names : List (List ℕ)) → TellsUntold words names a → Form a
-    by_names [] k = answer_form words no_files a k
-    by_names (n ∷ ns) k = some_form a k
+told_form words told a h = (let k = tells_some words told a h in answer_form words k.0 a k.1)
 
 -- ---- statuses
 
@@ -98,6 +93,7 @@ not_four (BadSchedule n line) e = cc
 not_four (BadStep n line s) e = cc
 not_four (EarlyStep line s t) e = cc
 not_four (LeftStep line t) e = cc
+not_four (BadStub n at) e = cc
 not_four (BeyondLimit l n) e = cc
 
 -- a number is one of these two and not the other

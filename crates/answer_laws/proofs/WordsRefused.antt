@@ -1,5 +1,6 @@
--- Status 2 comes exactly where the words are refused, unless memory ran out.
-use Rattle.std.proofs.Common.{◌≡◌, ◌⊎◌, inl, inr, ℕ, Bool, List, [], ◌∷◌, Option, Some, None, Result, Ok, Err, sym, ap, ◌∙◌, subst, arith}
+-- Status 2 comes exactly where the words are refused, unless memory ran out; and status 3 only where a file could not be read, or is missing.
+use Rattle.std.proofs.Common.{◌≡◌, ◌⊎◌, inl, inr, ℕ, zero, suc, Bool, List, [], ◌∷◌, ◌++◌, Option, Some, None, IsSome, Result, Ok, Err, refl, sym, ap, ◌∙◌, subst, arith}
+use Rattle.std.specs.Prelude.{codes}
 use Rattle.std.specs.List.{Contains}
 use Rattle.c_tree.specs.Tree.{ProgramTree}
 use Rattle.c_lex.specs.declared.refusals.LexRefusal.{LexRefusal}
@@ -8,6 +9,8 @@ use Rattle.c_tree.specs.declared.refusals.SourceRefusal.{SourceRefusal}
 use Rattle.c_tree.specs.declared.refusals.SourceRefusal.TheVariants as source
 use Rattle.name_resolution.specs.declared.refusals.TypeRefusal.{TypeRefusal}
 use Rattle.name_resolution.specs.declared.refusals.TypeRefusal.TheVariants as types
+use Rattle.op_translate.specs.declared.refusals.TransRefusal.{TransRefusal}
+use Rattle.op_translate.specs.declared.refusals.TransRefusal.TheVariants as trans
 use Rattle.mesh_text.specs.declared.entry.MeshRefusal.{MeshRefusal}
 use Rattle.mesh_text.specs.declared.entry.MeshRefusal.TheVariants as mesh
 use Rattle.bind_refusals.specs.declared.refusals.BindRefusal.{BindRefusal}
@@ -17,8 +20,13 @@ use Rattle.schedule_model.specs.Sequential.{Stop}
 use Rattle.bound_program.specs.Values.{BoundValue}
 use Rattle.run_model.specs.Programs.{first_fault}
 use Rattle.mesh_text.specs.Canonical.{canonical}
-use Rattle.op_outside.specs.Outside.{Files}
-use Rattle.command_words.specs.Refusal.{Limit, SourceBytes, MeshBytes, Refusal, Usage, CannotRead, NoTokens, NoTree, TooDeep, BadName, BadBinding, BadTarget, BadAccess, BadMesh, BadPart, BadPartition, BadSchedule, BadStep, EarlyStep, LeftStep, BeyondLimit, PartitionBytes, ScheduleBytes, status_of}
+use Rattle.op_outside.specs.Outside.{Files, Rose}
+use Rattle.clap.specs.Walk.{Row, first_of}
+use Rattle.clap.specs.Simple.{matches_of}
+use Rattle.clap.specs.Kinds.{Kinds}
+use Rattle.clap.specs.Faults.{fault_of}
+use Rattle.clap.specs.declared.error.kind.ErrorKind.TheVariants as kind
+use Rattle.command_words.specs.Refusal.{Limit, SourceBytes, MeshBytes, Refusal, Usage, CannotRead, NoTokens, NoTree, TooDeep, BadName, BadBinding, BadTarget, BadAccess, BadMesh, BadPart, BadPartition, BadSchedule, BadStep, EarlyStep, LeftStep, BadStub, BeyondLimit, PartitionBytes, ScheduleBytes, status_of}
 use Rattle.answer_lines.specs.Lines.{Answer, done, refused, faulted}
 use Rattle.part_text.specs.declared.refusals.PartRefusal.{PartRefusal}
 use Rattle.part_text.specs.declared.refusals.PartRefusal.TheVariants as part
@@ -30,24 +38,24 @@ use Rattle.step_judge.specs.declared.refusal.ScheduleRefusal.TheVariants as taki
 use Rattle.schedule_steps.specs.declared.step.Step.{Step}
 use Rattle.schedule_steps.specs.Outline.{Outline}
 use Rattle.distribute.specs.Parts.{NumbersRefusal, UnknownMap, OwnersRefusal, NoDat, NoMap, Unspelled}
-use Rattle.answers.specs.Said.{SaysLex, SaysSource, SaysTypes, SaysMesh, SaysBinding, SaysNumbers, SaysPartition, SaysOwners, SaysSchedule, SaysStep, SaysEnd, SaysNext}
-use Rattle.command_words.specs.Words.{PlanJob, Check, ShowsPlan, ShowsSchedule, RunsPlan, Parting, ByRule, ByFile, Schedule, Standard, Drawn, Written, Options, group_of, Input, InFiles, OfSample, Command, OnPlan, Converts, ShowsUsage, ShowsVersion, WordsAre, named_by, names_in}
-use Rattle.answers.specs.Judgements.{IsHeld, SourceIs, TreeIs, TypesAre, FileIs, MeshIs, EntriesAre, BoundIs, AccessesAre, NumbersOf, PartsOf, OwnersOf, Planned, PlanIs, Order, InStandardOrder, BySeed, ByText, OrderOf, outline_of, StepsOf}
+use Rattle.answers.specs.Said.{SaysLex, SaysSource, SaysTypes, SaysTranslation, SaysMesh, SaysBinding, SaysNumbers, SaysPartition, SaysOwners, SaysSchedule, SaysStep, SaysEnd, SaysNext}
+use Rattle.command_words.specs.Words.{PlanJob, Check, ShowsPlan, ShowsSchedule, RunsPlan, Parting, ByRule, ByFile, Schedule, Standard, Drawn, Written, Options, group_of, Input, InFiles, OfSample, Command, OnPlan, Converts, Translates, Restores, ShowsUsage, ShowsVersion, WordsAre, OptionWords, command, options_in, or_usage, by_job, asked, judged, names_from, names_by, names_at, names_of, named_by, names_in}
+use Rattle.answers.specs.Judgements.{IsHeld, TextIs, SourceIs, TreeIs, TranslationIs, RestorationIs, TypesAre, FileIs, MeshIs, EntriesAre, BoundIs, AccessesAre, NumbersOf, PartsOf, OwnersOf, Planned, PlanIs, Order, InStandardOrder, BySeed, ByText, OrderOf, outline_of, StepsOf}
 use Rattle.answers.specs.Answers.{given, ran, planned_answer, PlannedAnswers, BoundAnswers, CommandAnswers, Answers}
-use Rattle.answer_lines.specs.Lines.{IsOfContents}
-use Rattle.answers.specs.Endings.{Ending, Answered, OutOfMemory, Unread, Unwritten, ending_status, unwritten_status, Call, IsSomeAnswer, TellsUntold, Tells, no_files, IsWritten, EndsBy, Ends, IsUsage}
-use Rattle.answer_laws.proofs.Complete.{tells_answer, unwritten_is}
+use Rattle.answers.specs.Endings.{Ending, Answered, OutOfMemory, Unread, Unwritten, ending_status, unwritten_status, Call, HoldAll, Tells, IsWritten, EndsBy, Ends, IsUsage, IsUnread}
+use Rattle.answer_laws.proofs.Complete.{tells_some, unwritten_is}
 
 -- ---- refusals
 
--- a refusal of something else than the words
+-- a refusal of something else than the words and missing files
 abbrev IsOther : Refusal → Type 0
 IsOther Usage = ⊥
+IsOther (CannotRead n) = ⊥
 IsOther r = Unit {0}
 
 other_status : (r : Refusal) → IsOther r → status_of r ≡ 2 → ⊥
 other_status Usage o e = o
-other_status (CannotRead n) o e = cc
+other_status (CannotRead n) o e = o
 other_status (NoTokens n at) o e = cc
 other_status (NoTree at) o e = cc
 other_status (TooDeep at) o e = cc
@@ -62,33 +70,51 @@ other_status (BadSchedule n line) o e = cc
 other_status (BadStep n line s) o e = cc
 other_status (EarlyStep line s t) o e = cc
 other_status (LeftStep line t) o e = cc
+other_status (BadStub n at) o e = cc
 other_status (BeyondLimit l n) o e = cc
 
-of_contents : (r : Refusal) → IsOfContents r → IsOther r
-of_contents Usage h = h
-of_contents (CannotRead n) h = tt
-of_contents (NoTokens n at) h = tt
-of_contents (NoTree at) h = tt
-of_contents (TooDeep at) h = tt
-of_contents (BadName n at) h = tt
-of_contents (BadBinding n at) h = tt
-of_contents (BadTarget at m x p) h = tt
-of_contents (BadAccess n at) h = tt
-of_contents (BadMesh n line) h = tt
-of_contents (BadPart n) h = tt
-of_contents (BadPartition n line) h = tt
-of_contents (BadSchedule n line) h = tt
-of_contents (BadStep n line s) h = tt
-of_contents (EarlyStep line s t) h = tt
-of_contents (LeftStep line t) h = tt
-of_contents (BeyondLimit l n) h = tt
+other_three : (r : Refusal) → IsOther r → status_of r ≡ 3 → ⊥
+other_three Usage o e = o
+other_three (CannotRead n) o e = o
+other_three (NoTokens n at) o e = cc
+other_three (NoTree at) o e = cc
+other_three (TooDeep at) o e = cc
+other_three (BadName n at) o e = cc
+other_three (BadBinding n at) o e = cc
+other_three (BadTarget at m x p) o e = cc
+other_three (BadAccess n at) o e = cc
+other_three (BadMesh n line) o e = cc
+other_three (BadPart n) o e = cc
+other_three (BadPartition n line) o e = cc
+other_three (BadSchedule n line) o e = cc
+other_three (BadStep n line s) o e = cc
+other_three (EarlyStep line s t) o e = cc
+other_three (LeftStep line t) o e = cc
+other_three (BadStub n at) o e = cc
+other_three (BeyondLimit l n) o e = cc
 
 is_other : (r s : Refusal) → r ≡ s → IsOther s → IsOther r
 is_other r s e h = rw e h
 
-held_other : (l : Limit) (name : List ℕ) (o : Option (List ℕ)) (r : Refusal) → IsHeld l name o (Err r) → IsOther r
-held_other l name None r h = is_other r (CannotRead name) h tt
-held_other l name (Some held) r h = is_other r _ h.0 tt
+-- the files lack one of these names
+abbrev pub Lack : List (List ℕ) → Files → Type 0
+Lack names files = (name : List ℕ) × Contains names name × (files name ≡ None)
+
+-- a refusal that is not of the words, and is of a missing file only where the files lack one of these names
+abbrev IsJust : List (List ℕ) → Files → Refusal → Type 0
+IsJust names files r = (status_of r ≡ 2 → ⊥) × (status_of r ≡ 3 → Lack names files)
+
+just : (names : List (List ℕ)) (files : Files) (r : Refusal) → IsOther r → IsJust names files r
+just names files r o = (other_status r o, λ e. absurd (other_three r o e))
+
+held_just : (names : List (List ℕ)) (files : Files) (l : Limit) (name : List ℕ) (r : Refusal) → Contains names name
+    → IsHeld l name (files name) (Err r)
+    → IsJust names files r
+held_just names files l name r c h = by (files name) refl h
+  where
+    by : (o : Option (List ℕ)) → files name ≡ o → IsHeld l name o (Err r) → IsJust names files r
+    by None e h = (λ two. (let w : ◌≡◌ {A = ℕ} 3 2 = sym (ap status_of h) ∙ two in cc), λ three. (name, c, e))
+    by (Some held) e h = just names files r (is_other r _ h.0 tt)
 
 lex_other : (l : LexRefusal) (r : Refusal) → SaysLex l r → IsOther r
 lex_other (lex.BadByte at) r h = is_other r _ h tt
@@ -102,6 +128,13 @@ source_other (source.Lex l) r h = lex_other l r h
 source_other (source.Syntax at) r h = is_other r _ h tt
 source_other (source.TooDeep at) r h = is_other r _ h tt
 source_other source.OutOfMemory r h = absurd h
+
+translation_other : (e : TransRefusal) (r : Refusal) → SaysTranslation e r → IsOther r
+translation_other (trans.NameTaken at) r h = is_other r _ h tt
+translation_other (trans.NoCall at) r h = is_other r _ h tt
+translation_other (trans.LoopLeft at) r h = is_other r _ h tt
+translation_other (trans.Lex l) r h = lex_other l r h
+translation_other trans.OutOfMemory r h = absurd h
 
 types_other : (e : TypeRefusal) (r : Refusal) → SaysTypes e r → IsOther r
 types_other (types.UnknownName at) r h = is_other r _ h tt
@@ -159,14 +192,21 @@ owners_other (NoDat name) r h = is_other r _ h tt
 owners_other (NoMap name) r h = is_other r _ h tt
 owners_other (Unspelled e) r h = partition_other e r h
 
-parts_other : (p : Parting) (files : Files) (r : Refusal) → PartsOf p files (Err r) → IsOther r
-parts_other (ByRule rule) files r h = absurd (let bad : ⊥ = cc in bad)
-parts_other (ByFile name) files r h = held_other PartitionBytes name (files name) r h
+-- those of the names that a partition and a schedule come from
+abbrev Has : (names of : List (List ℕ)) → Type 0
+Has names of = (name : List ℕ) → Contains of name → Contains names name
 
-order_other : (s : Schedule) (files : Files) (r : Refusal) → OrderOf s files (Err r) → IsOther r
-order_other Standard files r h = absurd (let bad : ⊥ = cc in bad)
-order_other (Drawn seed) files r h = absurd (let bad : ⊥ = cc in bad)
-order_other (Written name) files r h = held_other ScheduleBytes name (files name) r h
+one : (name : List ℕ) → Contains (name ∷ []) name
+one name = (0, omega arith, refl)
+
+parts_just : (names : List (List ℕ)) (p : Parting) → Has names (names_by p) → (files : Files) (r : Refusal) → PartsOf p files (Err r) → IsJust names files r
+parts_just names (ByRule rule) has files r h = absurd (let bad : ⊥ = cc in bad)
+parts_just names (ByFile name) has files r h = held_just names files PartitionBytes name r (has name (one name)) h
+
+order_just : (names : List (List ℕ)) (s : Schedule) → Has names (names_at s) → (files : Files) (r : Refusal) → OrderOf s files (Err r) → IsJust names files r
+order_just names Standard has files r h = absurd (let bad : ⊥ = cc in bad)
+order_just names (Drawn seed) has files r h = absurd (let bad : ⊥ = cc in bad)
+order_just names (Written name) has files r h = held_just names files ScheduleBytes name r (has name (one name)) h
 
 schedule_other : (e : ScheduleTextRefusal) (r : Refusal) → SaysSchedule e r → IsOther r
 schedule_other (text.Header line) r h = is_other r _ h tt
@@ -213,102 +253,171 @@ four_two e = cc
 nine_two : ◌≡◌ {A = ℕ} 9 2 → ⊥
 nine_two e = cc
 
--- an answer with another status
-abbrev NotTwo : Answer → Type 0
-NotTwo a = ¬ (a.status ≡ 2)
+zero_three : ◌≡◌ {A = ℕ} 0 3 → ⊥
+zero_three e = cc
 
-refused_not : (r : Refusal) (a : Answer) → a ≡ refused r → IsOther r → NotTwo a
-refused_not r a e o h = other_status r o (sym (ap (λ x. x.status) e) ∙ h)
+four_three : ◌≡◌ {A = ℕ} 4 3 → ⊥
+four_three e = cc
 
-done_not : (bytes : List ℕ) (a : Answer) → a ≡ done bytes → NotTwo a
-done_not bytes a e h = zero_two (sym (ap (λ x. x.status) e) ∙ h)
+nine_three : ◌≡◌ {A = ℕ} 9 3 → ⊥
+nine_three e = cc
 
-faulted_not : (bytes : List ℕ) (x : Stop KernelFault) (a : Answer) → a ≡ faulted bytes x → NotTwo a
-faulted_not bytes x a e h = nine_two (sym (ap (λ y. y.status) e) ∙ h)
+-- an answer with another status than 2, and with 3 only where the files lack one of these names
+abbrev IsSound : List (List ℕ) → Files → Answer → Type 0
+IsSound names files a = (a.status ≡ 2 → ⊥) × (a.status ≡ 3 → Lack names files)
 
-given_not : {A : Type 0} (J : Result A Refusal → Type 0) (f : A → Answer → Type 0) → ((r : Refusal) → J (Err r) → IsOther r) → ((x : A) (a : Answer) → f x a → NotTwo a) → (a : Answer) → given J f a → NotTwo a
-given_not J f others rest a (inl h) = refused_not h.0 a h.2 (others h.0 h.1)
-given_not J f others rest a (inr h) = rest h.0 a h.2
+module _ (names : List (List ℕ)) (files : Files) where
+  refused_sound : (r : Refusal) (a : Answer) → a ≡ refused r → IsJust names files r → IsSound names files a
+  refused_sound r a e j = (λ h. j.0 (sym (ap (λ x. x.status) e) ∙ h), λ h. j.1 (sym (ap (λ x. x.status) e) ∙ h))
 
-ran_not : (o : Option (Stop KernelFault)) (bytes : List ℕ) (a : Answer) → a ≡ ran o bytes → NotTwo a
-ran_not None bytes a e = done_not bytes a e
-ran_not (Some x) bytes a e = faulted_not bytes x a e
+  done_sound : (bytes : List ℕ) (a : Answer) → a ≡ done bytes → IsSound names files a
+  done_sound bytes a e = (λ h. zero_two (sym (ap (λ x. x.status) e) ∙ h), λ h. absurd (zero_three (sym (ap (λ x. x.status) e) ∙ h)))
 
-source_other_words : (input : Input) (files : Files) (r : Refusal) → SourceIs input files (Err r) → IsOther r
-source_other_words (InFiles source mesh) files r h = held_other SourceBytes source (files source) r h
-source_other_words (OfSample side) files r h = absurd (let bad : ⊥ = cc in bad)
+  faulted_sound : (bytes : List ℕ) (x : Stop KernelFault) (a : Answer) → a ≡ faulted bytes x → IsSound names files a
+  faulted_sound bytes x a e = (λ h. nine_two (sym (ap (λ y. y.status) e) ∙ h), λ h. absurd (nine_three (sym (ap (λ y. y.status) e) ∙ h)))
 
-mesh_other_words : (input : Input) (files : Files) (r : Refusal) → MeshIs input files (Err r) → IsOther r
-mesh_other_words (InFiles source mesh) files r h = held_other MeshBytes mesh (files mesh) r h
-mesh_other_words (OfSample side) files r h = absurd (let bad : ⊥ = cc in bad)
+  given_sound : {A : Type 0} (J : Result A Refusal → Type 0) (f : A → Answer → Type 0) → ((r : Refusal) → J (Err r) → IsJust names files r)
+      → ((x : A) (a : Answer) → f x a → IsSound names files a)
+      → (a : Answer)
+      → given J f a
+      → IsSound names files a
+  given_sound J f judged rest a (inl h) = refused_sound h.0 a h.2 (judged h.0 h.1)
+  given_sound J f judged rest a (inr h) = rest h.0 a h.2
 
-plan_job_not : (j : PlanJob) (dumps : Bool) (b : BoundValue) (p : Planned) (steps : List Step) (a : Answer) → a ≡ planned_answer j dumps b p steps → NotTwo a
-plan_job_not Check dumps b p steps a e = done_not _ a e
-plan_job_not ShowsPlan dumps b p steps a e = done_not _ a e
-plan_job_not ShowsSchedule dumps b p steps a e = done_not _ a e
-plan_job_not RunsPlan dumps b p steps a e = ran_not (first_fault b) _ a e
+  -- where all refusals are of something else
+  given_other : {A : Type 0} (J : Result A Refusal → Type 0) (f : A → Answer → Type 0) → ((r : Refusal) → J (Err r) → IsOther r)
+      → ((x : A) (a : Answer) → f x a → IsSound names files a)
+      → (a : Answer)
+      → given J f a
+      → IsSound names files a
+  given_other J f others rest = given_sound J f (λ r j. just names files r (others r j)) rest
 
-planned_not : (j : PlanJob) (o : Options) (files : Files) (b : BoundValue) (a : Answer) → PlannedAnswers j o files b a → NotTwo a
-planned_not j o files b a h =
-    given_not (NumbersOf o b) _ (λ r h. numbers_other h.0 r h.2) (λ n.
-    given_not (PartsOf o.parting files) _ (λ r h. parts_other o.parting files r h) (λ parts.
-    given_not (OwnersOf o b parts) _ (λ r h. owners_other h.0 r h.2) (λ u.
-    given_not (PlanIs o b u n) _ (λ r h. is_other r _ h.says tt) (λ p.
-    given_not (OrderOf o.schedule files) _ (λ r h. order_other o.schedule files r h) (λ order.
-    given_not (StepsOf (outline_of b p) (group_of o) order) (λ steps x. x ≡ planned_answer j o.dumps b p steps)
-    (λ r h. steps_other (outline_of b p) (group_of o) order r h) (plan_job_not j o.dumps b p)))))) a h.1
+  ran_sound : (o : Option (Stop KernelFault)) (bytes : List ℕ) (a : Answer) → a ≡ ran o bytes → IsSound names files a
+  ran_sound None bytes a e = done_sound bytes a e
+  ran_sound (Some x) bytes a e = faulted_sound bytes x a e
 
-bound_not : (rest : BoundValue → Answer → Type 0) → ((b : BoundValue) (a : Answer) → rest b a → NotTwo a) → (input : Input) (files : Files) (a : Answer) → BoundAnswers rest input files a → NotTwo a
-bound_not rest not input files =
-    given_not (SourceIs input files) _ (λ r h. source_other_words input files r h) (λ bytes.
-    given_not (TreeIs bytes) _ (λ r h. source_other h.0 r h.2) (λ p.
-    given_not (TypesAre p) _ (λ r h. types_other h.0 r h.2) (λ types.
-    given_not (MeshIs input files) _ (λ r h. mesh_other_words input files r h) (λ text.
-    given_not (EntriesAre text) _ (λ r h. mesh_other h.0 r h.2) (λ es.
-    given_not (BoundIs p types es) _ (λ r h. binding_other p h.0 r h.2) (λ b.
-    given_not (AccessesAre b) _ (λ r h. is_other r _ h.says tt) (λ u a h. not b a h)))))))
+  source_just : (input : Input) → Has names (names_from input) → (r : Refusal) → SourceIs input files (Err r) → IsJust names files r
+  source_just (InFiles source mesh) has r h = held_just names files SourceBytes source r (has source (0, omega arith, refl)) h
+  source_just (OfSample side) has r h = absurd (let bad : ⊥ = cc in bad)
 
-command_not : (c : Command) (files : Files) (a : Answer) → CommandAnswers c files a → NotTwo a
-command_not (OnPlan j o input) files a h = bound_not (PlannedAnswers j o files) (planned_not j o files) input files a h
-command_not (Converts form mesh) files a h =
-    given_not (FileIs mesh files) _ (λ r h. held_other MeshBytes mesh (files mesh) r h) (λ text.
-    given_not (EntriesAre text) (λ es a. a ≡ done (canonical form es)) (λ r h. mesh_other h.0 r h.2) (λ es a h. done_not (canonical form es) a h)) a h
-command_not ShowsUsage files a h = done_not _ a h
-command_not ShowsVersion files a h = done_not _ a h
+  mesh_just : (input : Input) → Has names (names_from input) → (r : Refusal) → MeshIs input files (Err r) → IsJust names files r
+  mesh_just (InFiles source mesh) has r h = held_just names files MeshBytes mesh r (has mesh (1, omega arith, refl)) h
+  mesh_just (OfSample side) has r h = absurd (let bad : ⊥ = cc in bad)
+
+  plan_job_sound : (j : PlanJob) (dumps : Bool) (b : BoundValue) (p : Planned) (steps : List Step) (a : Answer) → a ≡ planned_answer j dumps b p steps
+      → IsSound names files a
+  plan_job_sound Check dumps b p steps a e = done_sound _ a e
+  plan_job_sound ShowsPlan dumps b p steps a e = done_sound _ a e
+  plan_job_sound ShowsSchedule dumps b p steps a e = done_sound _ a e
+  plan_job_sound RunsPlan dumps b p steps a e = ran_sound (first_fault b) _ a e
+
+  planned_sound : (j : PlanJob) (o : Options) → Has names (names_by o.parting) → Has names (names_at o.schedule) → (b : BoundValue) (a : Answer)
+      → PlannedAnswers j o files b a
+      → IsSound names files a
+  planned_sound j o has_part has_order b a h =
+      given_other (NumbersOf o b) _ (λ r h. numbers_other h.0 r h.2) (λ n.
+      given_sound (PartsOf o.parting files) _ (parts_just names o.parting has_part files) (λ parts.
+      given_other (OwnersOf o b parts) _ (λ r h. owners_other h.0 r h.2) (λ u.
+      given_other (PlanIs o b u n) _ (λ r h. is_other r _ h.says tt) (λ p.
+      given_sound (OrderOf o.schedule files) _ (order_just names o.schedule has_order files) (λ order.
+      given_other (StepsOf (outline_of b p) (group_of o) order) (λ steps x. x ≡ planned_answer j o.dumps b p steps)
+      (λ r h. steps_other (outline_of b p) (group_of o) order r h) (plan_job_sound j o.dumps b p)))))) a h.1
+
+  bound_sound : (rest : BoundValue → Answer → Type 0) → ((b : BoundValue) (a : Answer) → rest b a → IsSound names files a)
+      → (input : Input)
+      → Has names (names_from input)
+      → (a : Answer)
+      → BoundAnswers rest input files a
+      → IsSound names files a
+  bound_sound rest sound input has =
+      given_sound (SourceIs input files) _ (source_just input has) (λ bytes.
+      given_other (TreeIs bytes) _ (λ r h. source_other h.0 r h.2) (λ p.
+      given_other (TypesAre p) _ (λ r h. types_other h.0 r h.2) (λ types.
+      given_sound (MeshIs input files) _ (mesh_just input has) (λ text.
+      given_other (EntriesAre text) _ (λ r h. mesh_other h.0 r h.2) (λ es.
+      given_other (BoundIs p types es) _ (λ r h. binding_other p h.0 r h.2) (λ b.
+      given_other (AccessesAre b) _ (λ r h. is_other r _ h.says tt) (λ u a h. sound b a h)))))))
+
+-- those of the whole
+left : (xs ys : List (List ℕ)) → Has (xs ++ ys) xs
+left [] ys name (k, below, is) = absurd (omega (arith, below))
+left (x ∷ xs) ys name (zero, below, is) = (zero, omega arith, is)
+left (x ∷ xs) ys name (suc k, below, is) = further x (xs ++ ys) name (left xs ys name (k, omega (arith, below), is))
+  where
+    further : (x : List ℕ) (zs : List (List ℕ)) (name : List ℕ) → Contains zs name → Contains (x ∷ zs) name
+    further x zs name (k, below, is) = (suc k, omega (arith, below), is)
+
+right : (xs ys : List (List ℕ)) → Has (xs ++ ys) ys
+right [] ys name c = c
+right (x ∷ xs) ys name c = further (right xs ys name c)
+  where
+    further : Contains (xs ++ ys) name → Contains (x ∷ (xs ++ ys)) name
+    further (k, below, is) = (suc k, omega (arith, below), is)
+
+command_sound : (c : Command) (files : Files) (a : Answer) → CommandAnswers c files a → IsSound (names_of c) files a
+command_sound (OnPlan j o input) files a h =
+    bound_sound (names_of (OnPlan j o input)) files (PlannedAnswers j o files)
+    (planned_sound (names_of (OnPlan j o input)) files j o (λ name c. behind name (right (names_from input) (names_by o.parting) name c))
+    (right (names_from input ++ names_by o.parting) (names_at o.schedule)))
+    input (λ name c. behind name (left (names_from input) (names_by o.parting) name c)) a h
+  where
+    behind : Has (names_of (OnPlan j o input)) (names_from input ++ names_by o.parting)
+    behind = left (names_from input ++ names_by o.parting) (names_at o.schedule)
+command_sound (Converts form mesh) files a h =
+    given_sound (mesh ∷ []) files (FileIs mesh files) _ (λ r h. held_just (mesh ∷ []) files MeshBytes mesh r (one mesh) h) (λ text.
+    given_other (mesh ∷ []) files (EntriesAre text) (λ es a. a ≡ done (canonical form es)) (λ r h. mesh_other h.0 r h.2)
+    (λ es a h. done_sound (mesh ∷ []) files (canonical form es) a h)) a h
+command_sound (Translates source) files a h =
+    given_sound (source ∷ []) files (TextIs source files) _ (λ r h. held_just (source ∷ []) files SourceBytes source r (one source) h) (λ bytes.
+    given_other (source ∷ []) files (TreeIs bytes) _ (λ r h. source_other h.0 r h.2) (λ p.
+    given_other (source ∷ []) files (TranslationIs bytes p) (λ out a. a ≡ done out) (λ r h. translation_other h.0 r h.2)
+    (λ out a h. done_sound (source ∷ []) files out a h))) a h
+command_sound (Restores source) files a h =
+    given_sound (source ∷ []) files (TextIs source files) _ (λ r h. held_just (source ∷ []) files SourceBytes source r (one source) h) (λ bytes.
+    given_other (source ∷ []) files (RestorationIs bytes) (λ out a. a ≡ done out) (λ r h. translation_other h.0 r h.2)
+    (λ out a h. done_sound (source ∷ []) files out a h)) a h
+command_sound ShowsUsage files a h = done_sound [] files _ a h
+command_sound ShowsVersion files a h = done_sound [] files _ a h
+
+-- ---- words
+
+or_usage_alone : (o : Option Command) (r : Refusal) → or_usage o ≡ Err r → r ≡ Usage
+or_usage_alone None r e = cc
+or_usage_alone (Some c) r e = absurd (let bad : ⊥ = cc in bad)
+
+asked_alone : (job input mesh : Option (List ℕ)) (w : OptionWords) (r : Refusal) → asked job input mesh w ≡ Err r → r ≡ Usage
+asked_alone (Some job) (Some input) mesh w r e = or_usage_alone (by_job job input mesh w) r e
+asked_alone (Some job) None mesh w r e = cc
+asked_alone None (Some input) mesh w r e = cc
+asked_alone None None mesh w r e = cc
+
+-- words are refused as words alone
+judged_alone : (ks : Kinds) (rows : List Row) (r : Refusal) → judged ks rows ≡ Err r → r ≡ Usage
+judged_alone [] rows r e =
+    asked_alone (first_of (codes "JOB") rows) (first_of (codes "INPUT") rows) (first_of (codes "MESH") rows) (options_in rows) r e
+judged_alone (kind.DisplayHelp ∷ ks) rows r e = absurd (let bad : ⊥ = cc in bad)
+judged_alone (kind.DisplayVersion ∷ ks) rows r e = absurd (let bad : ⊥ = cc in bad)
+judged_alone (k ∷ ks) rows r e = cc
+
+usage_alone : (words : List (List ℕ)) (r : Refusal) → WordsAre words (Err r) → r ≡ Usage
+usage_alone words r w = judged_alone (fault_of command words) (matches_of command words) r w
 
 -- the words of an answer with status 2 are refused
 words_refused : (words : List (List ℕ)) (files : Files) (a : Answer) → Answers words files a → a.status ≡ 2 → WordsAre words (Err Usage)
-words_refused words files a (inl h) two = by_refusal h.0 h.1 h.2
-  where
-    by_refusal : (r : Refusal) → WordsAre words (Err r) → a ≡ refused r → WordsAre words (Err Usage)
-    by_refusal Usage j e = j
-    by_refusal (CannotRead n) j e = absurd (refused_not (CannotRead n) a e tt two)
-    by_refusal (NoTokens n at) j e = absurd (refused_not (NoTokens n at) a e tt two)
-    by_refusal (NoTree at) j e = absurd (refused_not (NoTree at) a e tt two)
-    by_refusal (TooDeep at) j e = absurd (refused_not (TooDeep at) a e tt two)
-    by_refusal (BadName n at) j e = absurd (refused_not (BadName n at) a e tt two)
-    by_refusal (BadBinding n at) j e = absurd (refused_not (BadBinding n at) a e tt two)
-    by_refusal (BadTarget at m x p) j e = absurd (refused_not (BadTarget at m x p) a e tt two)
-    by_refusal (BadAccess n at) j e = absurd (refused_not (BadAccess n at) a e tt two)
-    by_refusal (BadMesh n line) j e = absurd (refused_not (BadMesh n line) a e tt two)
-    by_refusal (BadPart n) j e = absurd (refused_not (BadPart n) a e tt two)
-    by_refusal (BadPartition n line) j e = absurd (refused_not (BadPartition n line) a e tt two)
-    by_refusal (BadSchedule n line) j e = absurd (refused_not (BadSchedule n line) a e tt two)
-    by_refusal (BadStep n line s) j e = absurd (refused_not (BadStep n line s) a e tt two)
-    by_refusal (EarlyStep line s t) j e = absurd (refused_not (EarlyStep line s t) a e tt two)
-    by_refusal (LeftStep line t) j e = absurd (refused_not (LeftStep line t) a e tt two)
-    by_refusal (BeyondLimit l n) j e = absurd (refused_not (BeyondLimit l n) a e tt two)
-words_refused words files a (inr h) two = absurd (command_not h.0 files a h.2 two)
+words_refused words files a (inl h) two = subst (λ r. WordsAre words (Err r)) (usage_alone words h.0 h.1) h.1
+words_refused words files a (inr h) two = absurd ((command_sound h.0 files a h.2).0 two)
+
+-- an answer with status 3 is of a missing file
+words_lack : (words : List (List ℕ)) (files : Files) (a : Answer) → Answers words files a → a.status ≡ 3 → Lack (named_by words) files
+words_lack words files a (inl h) three =
+    let two : a.status ≡ 2 = ap (λ x. x.status) h.2 ∙ ap status_of (usage_alone words h.0 h.1) in
+    absurd (let w : ◌≡◌ {A = ℕ} 3 2 = sym three ∙ two in cc)
+words_lack words files a (inr h) three = subst (λ names. Lack names files) (sym (ap names_in h.1)) ((command_sound h.0 files a h.2).1 three)
 
 -- refused words have the answer with status 2 alone
 refused_words : (words : List (List ℕ)) (files : Files) (a : Answer) → WordsAre words (Err Usage) → Answers words files a → a.status ≡ 2
 refused_words words files a w (inl h) = let e : Err h.0 ≡ Err Usage = sym h.1 ∙ w in let same : h.0 ≡ Usage = cc in ap (λ x. x.status) h.2 ∙ ap status_of same
 refused_words words files a w (inr h) = let e : Ok h.0 ≡ Err Usage = sym h.1 ∙ w in let bad : ⊥ = cc in absurd bad
-
-some_not : (a : Answer) → IsSomeAnswer a → NotTwo a
-some_not a (inl h) = done_not h.0 a h.1
-some_not a (inr (inl h)) = refused_not h.0 a h.2 (of_contents h.0 h.1)
-some_not a (inr (inr h)) = faulted_not h.0 h.1 a h.2
 
 -- ---- calls
 
@@ -316,12 +425,7 @@ no_member : (name : List ℕ) → Contains [] name → ⊥
 no_member name m = let lt = m.1 in omega (arith, lt)
 
 told_refused : (words : List (List ℕ)) (told : Option Files) (a : Answer) → Tells words told a → a.status ≡ 2 → WordsAre words (Err Usage)
-told_refused words (Some files) a h two = words_refused words files a h two
-told_refused words None a h two = by_names (named_by words) h
-  where
-    by_names : (names : List (List ℕ)) → TellsUntold words names a → WordsAre words (Err Usage)
-    by_names [] k = words_refused words no_files a k two
-    by_names (n ∷ ns) k = absurd (some_not a k two)
+told_refused words told a h two = (let k = tells_some words told a h in words_refused words k.0 a k.1 two)
 
 not_written : (a : Answer) → IsWritten a → a.status ≡ 2 → ⊥
 not_written a (inl e) two = zero_two (sym e ∙ two)
@@ -347,10 +451,47 @@ usage c status ends = record { only = only ends.ending ends.is ends.cause; where
     nameless w = ap names_in w
 
     told_two : (a : Answer) → Tells c.words c.told a → WordsAre c.words (Err Usage) → a.status ≡ 2
-    told_two a h w = refused_words c.words no_files a w (tells_answer c no_files a (inr (nameless w)) h)
+    told_two a h w = (let k = tells_some c.words c.told a h in refused_words c.words k.0 a w k.1)
 
     back : (e : Ending) → status ≡ ending_status e → EndsBy c e → WordsAre c.words (Err Usage) → (status ≡ 2) ⊎ (status ≡ 1)
     back (Answered a) is h w = inl (is ∙ told_two a h.0 w)
     back OutOfMemory is h w = inr is
     back (Unread name) is h w = absurd (no_member name (subst (λ ns. Contains ns name) (nameless w) h.1))
     back (Unwritten a) is h w = absurd (not_written a h.2 (told_two a h.1 w))
+
+-- ---- status 3
+
+-- files that hold these names lack none of them
+lack_none : (names : List (List ℕ)) (files : Files) → HoldAll names files → Lack names files → ⊥
+lack_none names files hold (name, (k, below, is), none) = absent (files name) none (subst (λ n. IsSome (files n)) is (hold k name below))
+  where
+    absent : (o : Option (List ℕ)) → o ≡ None → IsSome o → ⊥
+    absent None e h = (let bad : ⊥ = cc in bad)
+    absent (Some v) e h = (let bad : ⊥ = cc in bad)
+
+told_lack : (words : List (List ℕ)) (told : Option Files) (a : Answer) → Tells words told a → a.status ≡ 3
+    → (files : Files) × (told ≡ Some files) × (name : List ℕ) × Contains (named_by words) name × (files name ≡ None)
+told_lack words (Some files) a h three = (let k = words_lack words files a h three in (files, refl, k.0, k.1, k.2))
+told_lack words None a h three = absurd (lack_none (named_by words) h.0 h.1 (words_lack words h.0 a h.2 three))
+
+pub unread : (c : Call) (status : ℕ) → Ends c status → IsUnread c status
+unread c status ends three = by ends.ending ends.is ends.cause
+  where
+    one_three : ◌≡◌ {A = ℕ} 1 3 → ⊥
+    one_three e = cc
+
+    Causes : Type 0
+    Causes =
+        Rose c.reads.0 c.reads.1
+        ⊎ ((files : Files) × (c.told ≡ Some files) × (name : List ℕ) × Contains (named_by c.words) name × (files name ≡ None))
+
+    by_unwritten : (a : Answer) → IsWritten a → (unwritten_status a ≡ a.status) ⊎ (unwritten_status a ≡ 4) → unwritten_status a ≡ 3 → ⊥
+    by_unwritten a (inl w) (inl e) t = zero_three (sym w ∙ (sym e ∙ t))
+    by_unwritten a (inr w) (inl e) t = nine_three (sym w ∙ (sym e ∙ t))
+    by_unwritten a w (inr e) t = four_three (sym e ∙ t)
+
+    by : (e : Ending) → status ≡ ending_status e → EndsBy c e → Causes
+    by (Answered a) is h = inr (told_lack c.words c.told a h.0 (sym is ∙ three))
+    by OutOfMemory is h = absurd (one_three (sym is ∙ three))
+    by (Unread name) is h = inl h.0
+    by (Unwritten a) is h = absurd (by_unwritten a h.2 (unwritten_is a h.2) (sym is ∙ three))

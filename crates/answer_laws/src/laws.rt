@@ -1,7 +1,7 @@
 // Laws of the definitions, each as the contract of a function that does nothing.
 
 ghost use Rattle.std.specs.Prelude.{ℕ};
-ghost use Rattle.answers.specs.Endings.{Call, Ends, IsComplete, IsUsage, IsShown, IsSilent, AreReported};
+ghost use Rattle.answers.specs.Endings.{Call, Ends, IsComplete, IsUsage, IsUnread, IsShown, IsSilent, AreReported};
 ghost use Rattle.answers.specs.Laws.{AnswersAgree, AnswersExist};
 
 /// A law: any two answers to the same words over the same files have the same status and the same bytes for the output, and
@@ -12,6 +12,8 @@ pub fn answers_agree()
     command_words::options_are_within();
     c_lex::one_outcome();
     c_reader::one_tree();
+    op_translate::one_translation();
+    op_translate::one_restoration();
     name_resolution::one_answer();
     mesh_text::one_outcome();
     kernel_model::walk_finds();
@@ -20,6 +22,7 @@ pub fn answers_agree()
     distribute::one_numbers();
     distribute::one_owners();
     distribute::one_distribution();
+    loop_plan::least_colours_are_one();
     loop_plan::one_plan();
     loop_plan::one_plan_text();
     loop_plan::one_step_count();
@@ -71,6 +74,12 @@ pub fn calls_are_complete()
 /// A law: where a call ends, its status is 2 exactly where the words are refused, unless memory ran out.
 pub fn usage_is_of_words()
     ensures { (c : Call) (status : ℕ) → Ends c status → IsUsage c status }
+{}
+
+/// A law: where a call ends, its status is 3 only where the count of the shelf rose, or where the files that are told lack a name that
+/// the words name.
+pub fn unread_files_are_named()
+    ensures { (c : Call) (status : ℕ) → Ends c status → IsUnread c status }
 {}
 
 /// A law: where a call ends, what stands on the output is what any answer over files that tell it has, whole or, where the

@@ -2,7 +2,6 @@
 use Rattle.std.specs.Prelude.{[]}
 use Rattle.command_words.specs.Refusal as answer
 use Rattle.answer_lines.specs.Lines as lines
-use Rattle.answer_lines.specs.Lines.{IsOfContents}
 use Rattle.answer_lines.specs.declared.refusals.Limit.{Limit}
 use Rattle.answer_lines.specs.declared.refusals.Limit.TheVariants as limit
 use Rattle.answer_lines.specs.declared.refusals.Refusal.{Refusal}
@@ -50,6 +49,7 @@ refusal_of (refusal.BadSchedule n line) = answer.BadSchedule n line
 refusal_of (refusal.BadStep n line s) = answer.BadStep n line s
 refusal_of (refusal.EarlyStep line s t) = answer.EarlyStep line s t
 refusal_of (refusal.LeftStep line t) = answer.LeftStep line t
+refusal_of (refusal.BadStub n at) = answer.BadStub n at
 refusal_of (refusal.BeyondLimit l size) = answer.BeyondLimit (limit_of l) size
 
 -- an answer
@@ -65,7 +65,3 @@ abbrev pub StopsWhere : (answer.Refusal → Type 0) → Halt → Type 0
 StopsWhere P (Refused r) = P (refusal_of r)
 StopsWhere P (Failed (Unread name)) = ⊥
 StopsWhere P (Failed OutOfMemory) = Unit {0}
-
--- It ended with a refusal of what a file holds, of which P is so, or memory ran out.
-abbrev pub SpoiltWhere : (answer.Refusal → Type 0) → Halt → Type 0
-SpoiltWhere P = StopsWhere (λ r. P r × IsOfContents r)

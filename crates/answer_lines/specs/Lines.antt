@@ -17,13 +17,7 @@ use Rattle.answer_lines.specs.declared.limits.TheConstants.{SOURCE_BYTES, PARTIT
 use Rattle.command_words.specs.Refusal.{Limit, SourceBytes, MeshBytes, MeshValues, Sets, Maps, Dats, SetSize, Dim, MeshCells}
 use Rattle.command_words.specs.Refusal.{Arguments, Trace, PrintWeight, PartitionBytes, Steps, ScheduleBytes, ScheduleSteps, Refusal, Usage}
 use Rattle.command_words.specs.Refusal.{CannotRead, NoTokens, NoTree, TooDeep, BadName, BadBinding, BadTarget, BadAccess, BadMesh, BadPart}
-use Rattle.command_words.specs.Refusal.{BadPartition, BadSchedule, BadStep, EarlyStep, LeftStep, BeyondLimit, status_of}
-
--- a refusal of what a file holds
-abbrev pub IsOfContents : Refusal → Type 0
-IsOfContents Usage = ⊥
-IsOfContents (CannotRead name) = ⊥
-IsOfContents r = Unit {0}
+use Rattle.command_words.specs.Refusal.{BadPartition, BadSchedule, BadStep, EarlyStep, LeftStep, BadStub, BeyondLimit, status_of}
 
 -- the name of a limit
 abbrev pub limit_name : Limit → List ℕ
@@ -94,6 +88,7 @@ said_of (BadSchedule n line) = codes "schedule text " ++ decimal n ++ codes " li
 said_of (BadStep n line s) = codes "schedule step " ++ decimal n ++ codes " line " ++ decimal line ++ step_name s
 said_of (EarlyStep line s t) = codes "schedule step 3 line " ++ decimal line ++ step_name s ++ codes " needs" ++ step_name t
 said_of (LeftStep line t) = codes "schedule step 4 line " ++ decimal line ++ codes " needs" ++ step_name t
+said_of (BadStub n at) = numbered (codes "translate") n at
 said_of (BeyondLimit l size) =
     codes "limit " ++ limit_name l ++ codes " " ++ decimal (most l) ++ codes " " ++ decimal size
 

@@ -49,6 +49,7 @@ fn status_of(refusal: &Refusal<'_>) -> u8
         Refusal::BadStep { .. } => 8,
         Refusal::EarlyStep { .. } => 8,
         Refusal::LeftStep { .. } => 8,
+        Refusal::BadStub { .. } => 14,
         Refusal::BeyondLimit { .. } => 10,
     }
 }

@@ -181,6 +181,7 @@ fn put_said(out: &mut Vec<u8>, refusal: &Refusal<'_>) -> Result<(), OutOfMemory>
             missing,
         } => put_early(out, *line, *step, *missing),
         Refusal::LeftStep { line, missing } => put_left(out, *line, *missing),
+        Refusal::BadStub { number, at } => put_numbered(out, b"translate", *number, *at),
         Refusal::BeyondLimit { limit, size } => {
             out.extend_from_slice(b"limit ")?;
             put_counted(out, limit_name(*limit), most(*limit))?;

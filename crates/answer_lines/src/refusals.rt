@@ -102,6 +102,11 @@ pub enum Refusal<'a> {
         line: u32,
         missing: Step,
     },
+    /// A source can't be translated or restored.
+    BadStub {
+        number: u8,
+        at: Pos,
+    },
     /// A size is beyond its limit.
     BeyondLimit {
         limit: Limit,

@@ -18,8 +18,9 @@ use Rattle.command_words.specs.declared.usage.TheConstants.{USAGE, VERSION}
 use Rattle.command_words.specs.Refusal.{Refusal, CannotRead}
 use Rattle.answer_lines.specs.Lines.{Answer, done, refused, faulted}
 use Rattle.command_words.specs.Words.{PlanJob, Check, ShowsPlan, ShowsSchedule, RunsPlan, Options, group_of, Input}
-use Rattle.command_words.specs.Words.{Command, OnPlan, Converts, ShowsUsage, ShowsVersion, WordsAre}
-use Rattle.answers.specs.Judgements.{SourceIs, TreeIs, TypesAre, FileIs, MeshIs, EntriesAre, BoundIs, AccessesAre}
+use Rattle.command_words.specs.Words.{Command, OnPlan, Converts, Translates, Restores, ShowsUsage, ShowsVersion, WordsAre}
+use Rattle.answers.specs.Judgements.{TextIs, SourceIs, TreeIs, TranslationIs, RestorationIs, TypesAre, FileIs, MeshIs, EntriesAre}
+use Rattle.answers.specs.Judgements.{BoundIs, AccessesAre}
 use Rattle.answers.specs.Judgements.{NumbersOf, PartsOf, OwnersOf, Planned, PlanIs, OrderOf, outline_of, StepsOf}
 
 -- A judgement, and what comes after it: its refusal ends it, and what it gives goes on.
@@ -81,10 +82,25 @@ ConvertAnswers form mesh files =
     given (FileIs mesh files) (λ text.
     given (EntriesAre text) (λ es a. a ≡ done (canonical form es)))
 
+-- The answer to a source in a file that is translated: three judgements, and then its translation.
+abbrev pub TranslateAnswers : (source : List ℕ) → Files → Answer → Type 0
+TranslateAnswers source files =
+    given (TextIs source files) (λ bytes.
+    given (TreeIs bytes) (λ p.
+    given (TranslationIs bytes p) (λ out a. a ≡ done out)))
+
+-- The answer to a source in a file that is restored: two judgements, and then its restoration.
+abbrev pub RestoreAnswers : (source : List ℕ) → Files → Answer → Type 0
+RestoreAnswers source files =
+    given (TextIs source files) (λ bytes.
+    given (RestorationIs bytes) (λ out a. a ≡ done out))
+
 -- the answer of a command
 abbrev pub CommandAnswers : Command → Files → Answer → Type 0
 CommandAnswers (OnPlan j o input) files = PlanAnswers j o input files
 CommandAnswers (Converts form mesh) files = ConvertAnswers form mesh files
+CommandAnswers (Translates source) files = TranslateAnswers source files
+CommandAnswers (Restores source) files = RestoreAnswers source files
 CommandAnswers ShowsUsage files = λ a. a ≡ done USAGE.now
 CommandAnswers ShowsVersion files = λ a. a ≡ done VERSION.now
 

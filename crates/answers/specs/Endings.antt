@@ -1,11 +1,9 @@
 -- How a call of the program ends, and what stands on `out` and `err` then.
-use Rattle.std.specs.Prelude.{◌≡◌, ℕ, ◌⊎◌, List, [], ◌∷◌, Option, Some, None, Err, nat_eq, codes, if◌then◌else◌}
+use Rattle.std.specs.Prelude.{◌≡◌, ℕ, ◌⊎◌, List, [], All, Option, Some, None, IsSome, Err, nat_eq, codes, if◌then◌else◌}
 use Rattle.std.specs.List.{Contains}
-use Rattle.kernel_types.specs.declared.faults.KernelFault.{KernelFault}
-use Rattle.schedule_model.specs.Sequential.{Stop}
 use Rattle.op_outside.specs.Outside.{Files, Rose, appended, AppendsFront}
-use Rattle.command_words.specs.Refusal.{Refusal, Usage, CannotRead, status_of}
-use Rattle.answer_lines.specs.Lines.{Answer, done, refused, faulted, IsOfContents, whole_line, line_of}
+use Rattle.command_words.specs.Refusal.{Usage, CannotRead, status_of}
+use Rattle.answer_lines.specs.Lines.{Answer, whole_line, line_of}
 use Rattle.command_words.specs.Words.{WordsAre, named_by}
 use Rattle.answers.specs.Answers.{Answers, ComesToBeRead}
 use Rattle.answers.specs.Laws.{SourceLacksTree}
@@ -54,32 +52,20 @@ pub record Call : Type 0 where
 
 -- ---- what the answer is
 
--- an answer that there is over some contents of files: all is well, what they hold is refused, or a run has a fault
-abbrev pub IsSomeAnswer : Answer → Type 0
-IsSomeAnswer a =
-    ((bytes : List ℕ) × (a ≡ done bytes))
-    ⊎ ((r : Refusal) × IsOfContents r × (a ≡ refused r))
-    ⊎ ((bytes : List ℕ) × (x : Stop KernelFault) × (a ≡ faulted bytes x))
+-- the files hold each of these names
+abbrev pub HoldAll : List (List ℕ) → Files → Type 0
+HoldAll names files = All (λ name. IsSome (files name)) names
 
--- no file is held
-abbrev pub no_files : Files
-no_files name = None
-
--- The answer of words that name these files, where none are told: what the files hold is not known. Words that name none have
--- their answer over no files.
-abbrev pub TellsUntold : List (List ℕ) → List (List ℕ) → Answer → Type 0
-TellsUntold words [] a = Answers words no_files a
-TellsUntold words (name ∷ names) a = IsSomeAnswer a
-
--- the words have this answer over the files that are told, if they are
+-- The words have this answer over the files that are told. Where none are told, what they hold isn't known; but each has one content in
+-- a call, so that there are files which hold every name that the words name, and over which this is the answer.
 abbrev pub Tells : List (List ℕ) → Option Files → Answer → Type 0
 Tells words (Some files) a = Answers words files a
-Tells words None a = TellsUntold words (named_by words) a
+Tells words None a = (files : Files) × HoldAll (named_by words) files × Answers words files a
 
--- This file comes to be read, over the files that are told; where none are told, over some.
+-- This file comes to be read, over the files that are told; where none are told, over some which hold every other name that the words name.
 abbrev pub Asks : List (List ℕ) → Option Files → List ℕ → Type 0
 Asks words (Some files) name = ComesToBeRead words files name
-Asks words None name = (files : Files) × ComesToBeRead words files name
+Asks words None name = (files : Files) × HoldAll (named_by words) files × ComesToBeRead words files name
 
 -- the bytes of an answer are written where it has status 0 or 9
 abbrev pub IsWritten : Answer → Type 0
@@ -133,6 +119,13 @@ IsComplete c status =
 pub record IsUsage (c : Call) (status : ℕ) : Type 0 where
   pub only : status ≡ 2 → WordsAre c.words (Err Usage)
   pub where_refused : WordsAre c.words (Err Usage) → (status ≡ 2) ⊎ (status ≡ 1)
+
+-- Status 3 comes only where the count of the shelf rose, or where the files that are told lack a name that the words name.
+abbrev pub IsUnread : Call → ℕ → Type 0
+IsUnread c status =
+    status ≡ 3
+    → Rose c.reads.0 c.reads.1
+    ⊎ ((files : Files) × (c.told ≡ Some files) × (name : List ℕ) × Contains (named_by c.words) name × (files name ≡ None))
 
 -- What stands on `out`, by any answer over files that tell it: its bytes with status 0; its bytes or, where the count of `out`
 -- rose, a front of them with status 9; and a front of those of an answer with status 0 with status 4.

@@ -45,11 +45,13 @@ use Rattle.schedule_text.specs.declared.refusals.ScheduleTextRefusal.{ScheduleTe
 use Rattle.schedule_text.specs.Reading.{Reads as SchedulesRead}
 use Rattle.step_judge.specs.declared.refusal.ScheduleRefusal.{ScheduleRefusal}
 use Rattle.step_judge.specs.Verdicts.{judged, ended}
+use Rattle.op_translate.specs.declared.refusals.TransRefusal.{TransRefusal}
+use Rattle.op_translate.specs.Translation.{Translates, Restores}
 use Rattle.command_words.specs.Words.{Input, InFiles, OfSample, Parting, ByRule, ByFile, Schedule, Standard, Drawn, Written, Options}
 use Rattle.command_words.specs.Refusal.{Limit, SourceBytes, MeshBytes, MeshValues, PartitionBytes, Steps, ScheduleBytes, Refusal, CannotRead}
 use Rattle.command_words.specs.Refusal.{BadAccess, BeyondLimit}
 use Rattle.answer_lines.specs.Lines.{most}
-use Rattle.answers.specs.Said.{SaysSource, SaysTypes, SaysMesh, SaysBinding, SaysNumbers, SaysOwners, SaysSchedule, SaysNext}
+use Rattle.answers.specs.Said.{SaysSource, SaysTypes, SaysTranslation, SaysMesh, SaysBinding, SaysNumbers, SaysOwners, SaysSchedule, SaysNext}
 
 -- ---- files
 
@@ -60,9 +62,13 @@ IsHeld limit name None (Err r) = r ≡ CannotRead name
 IsHeld limit name (Some held) (Ok bytes) = (bytes ≡ held) × (length held ≤ most limit)
 IsHeld limit name (Some held) (Err r) = (r ≡ BeyondLimit limit (suc (most limit))) × (most limit < length held)
 
+-- the bytes of a source in a file
+abbrev pub TextIs : List ℕ → Files → Result (List ℕ) Refusal → Type 0
+TextIs source files r = IsHeld SourceBytes source (files source) r
+
 -- the bytes of the source
 abbrev pub SourceIs : Input → Files → Result (List ℕ) Refusal → Type 0
-SourceIs (InFiles source mesh) files r = IsHeld SourceBytes source (files source) r
+SourceIs (InFiles source mesh) files r = TextIs source files r
 SourceIs (OfSample side) files r = r ≡ Ok sample_source
 
 -- the bytes of a mesh in a file
@@ -92,6 +98,16 @@ TreeIs bytes (Err r) = (e : SourceRefusal) × IsUnread bytes e × SaysSource e r
 abbrev pub TypesAre : ProgramTree → Result Resolved Refusal → Type 0
 TypesAre p (Ok types) = Resolves p (Ok (resolved_of types))
 TypesAre p (Err r) = (e : TypeRefusal) × Resolves p (Err e) × SaysTypes e r
+
+-- the translation of a source that was read, of which this is the tree
+abbrev pub TranslationIs : List ℕ → ProgramTree → Result (List ℕ) Refusal → Type 0
+TranslationIs bytes p (Ok out) = Translates bytes p (Ok out)
+TranslationIs bytes p (Err r) = (e : TransRefusal) × Translates bytes p (Err e) × SaysTranslation e r
+
+-- the restoration of bytes
+abbrev pub RestorationIs : List ℕ → Result (List ℕ) Refusal → Type 0
+RestorationIs bytes (Ok out) = Restores bytes (Ok out)
+RestorationIs bytes (Err r) = (e : TransRefusal) × Restores bytes (Err e) × SaysTranslation e r
 
 -- ---- the mesh
 

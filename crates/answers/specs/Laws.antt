@@ -1,13 +1,13 @@
 -- The laws of the answers: what any two to the same words have in common, and that there is one.
-use Rattle.std.specs.Prelude.{◌≡◌, ℕ, ◌⊎◌, List, Option, Some, None, Ok}
+use Rattle.std.specs.Prelude.{◌≡◌, ℕ, ◌⊎◌, List, Ok}
 use Rattle.c_lex.specs.declared.tokens.Token.{Token}
 use Rattle.c_lex.specs.Lexed.{Lexes}
 use Rattle.c_tree.specs.Tree.{ProgramTree}
 use Rattle.c_tree.specs.Reads.{Prints}
 use Rattle.op_outside.specs.Outside.{Files}
 use Rattle.answer_lines.specs.Lines.{Answer}
-use Rattle.command_words.specs.Words.{Input, Command, OnPlan, WordsAre}
-use Rattle.answers.specs.Judgements.{SourceIs}
+use Rattle.command_words.specs.Words.{Command, OnPlan, Translates, WordsAre}
+use Rattle.answers.specs.Judgements.{TextIs, SourceIs}
 use Rattle.answers.specs.Answers.{Answers}
 
 -- ---- two answers
@@ -18,19 +18,18 @@ pub record LacksTree (bytes : List ℕ) : Type 0 where
   pub lexed : Lexes bytes (Ok tokens)
   pub none : (p : ProgramTree) → ¬ Prints tokens p
 
--- where the source and the mesh of a command come from, if it has them
-abbrev pub input_of : Command → Option Input
-input_of (OnPlan j o input) = Some input
-input_of c = None
+-- these are the bytes of the source whose tree a command asks for, if it asks for one
+abbrev pub IsSourceOf : Command → Files → List ℕ → Type 0
+IsSourceOf (OnPlan j o input) files bytes = SourceIs input files (Ok bytes)
+IsSourceOf (Translates source) files bytes = TextIs source files (Ok bytes)
+IsSourceOf c files bytes = ⊥
 
 -- the words ask for a job on a source that has tokens and no tree
 pub record SourceLacksTree (words : List (List ℕ)) (files : Files) : Type 0 where
   pub command : Command
-  pub input : Input
   pub bytes : List ℕ
   pub asks : WordsAre words (Ok command)
-  pub from : input_of command ≡ Some input
-  pub held : SourceIs input files (Ok bytes)
+  pub held : IsSourceOf command files bytes
   pub lacks : LacksTree bytes
 
 -- Both have the same status and the same bytes, and the same line unless the source has tokens and no tree.

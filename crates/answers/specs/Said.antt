@@ -24,10 +24,12 @@ use Rattle.schedule_text.specs.declared.refusals.ScheduleTextRefusal.{ScheduleTe
 use Rattle.schedule_text.specs.declared.refusals.ScheduleTextRefusal.TheVariants as text
 use Rattle.step_judge.specs.declared.refusal.ScheduleRefusal.{ScheduleRefusal}
 use Rattle.step_judge.specs.declared.refusal.ScheduleRefusal.TheVariants as taking
+use Rattle.op_translate.specs.declared.refusals.TransRefusal.{TransRefusal}
+use Rattle.op_translate.specs.declared.refusals.TransRefusal.TheVariants as trans
 use Rattle.distribute.specs.Parts.{NumbersRefusal, UnknownMap, OwnersRefusal, NoDat, NoMap, Unspelled}
 use Rattle.command_words.specs.Refusal.{Limit, MeshValues, Sets, Maps, Dats, SetSize, Dim, MeshCells, Arguments, Trace, PrintWeight}
 use Rattle.command_words.specs.Refusal.{ScheduleSteps, Refusal, NoTokens, NoTree, TooDeep, BadName, BadBinding, BadTarget, BadMesh, BadPart}
-use Rattle.command_words.specs.Refusal.{BadPartition, BadSchedule, BadStep, EarlyStep, LeftStep, BeyondLimit}
+use Rattle.command_words.specs.Refusal.{BadPartition, BadSchedule, BadStep, EarlyStep, LeftStep, BadStub, BeyondLimit}
 use Rattle.answer_lines.specs.Lines.{most}
 
 -- ---- the source
@@ -57,6 +59,14 @@ SaysTypes (types.AssignsCounter at) r = r ≡ BadName (type_number rule.AssignsC
 SaysTypes (types.AssignsConst at) r = r ≡ BadName (type_number rule.AssignsConst) at
 SaysTypes (types.TooMuchWork at) r = r ≡ BadName (type_number rule.TooMuchWork) at
 SaysTypes types.OutOfMemory r = ⊥
+
+-- of a translation or a restoration
+abbrev pub SaysTranslation : TransRefusal → Refusal → Type 0
+SaysTranslation (trans.NameTaken at) r = r ≡ BadStub 1 at
+SaysTranslation (trans.NoCall at) r = r ≡ BadStub 2 at
+SaysTranslation (trans.LoopLeft at) r = r ≡ BadStub 3 at
+SaysTranslation (trans.Lex l) r = SaysLex l r
+SaysTranslation trans.OutOfMemory r = ⊥
 
 -- ---- the mesh
 

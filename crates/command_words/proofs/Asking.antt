@@ -39,6 +39,8 @@ pub record IsRead (words : List (List ℕ)) (r : Result Asked WordsRefusal) : Ty
 in_range : OptionsAreWithin → (words : List (List ℕ)) (a : Asked) → WordsAre words (Ok (command_of a)) → IsInRange a
 in_range law words (wanted.Plan j o i) h = law words (job_in j) (options_in_plan o) (input_in i) h
 in_range law words (wanted.Convert form mesh) h = tt
+in_range law words (wanted.Translate source) h = tt
+in_range law words (wanted.Restore source) h = tt
 in_range law words wanted.Usage h = tt
 in_range law words wanted.Version h = tt
 

@@ -12,7 +12,7 @@ use Rattle.op_num.specs.Spelling.{number_of}
 use Rattle.mesh_gen.specs.declared.places.TheConstants.{MAX_SIDE}
 use Rattle.command_words.specs.declared.limits.TheConstants.{MAX_RANKS, MAX_BLOCK, MAX_WORKERS}
 use Rattle.command_words.specs.Refusal.{Refusal}
-use Rattle.command_words.specs.Words.{PlanJob, Check, ShowsPlan, ShowsSchedule, RunsPlan, Parting, Schedule, Options, Input, InFiles, OfSample, Command, OnPlan, command, number_to, number_or, form_of, OptionWords, options_in, parting_of, schedule_of, options_with, options_of, plans_nothing, on_files, samples, converts, plans, by_job, or_usage, asked, judged, WordsAre}
+use Rattle.command_words.specs.Words.{PlanJob, Check, ShowsPlan, ShowsSchedule, RunsPlan, Parting, Schedule, Options, Input, InFiles, OfSample, Command, OnPlan, Translates, Restores, command, number_to, number_or, form_of, OptionWords, options_in, parting_of, schedule_of, options_with, options_of, plans_nothing, on_files, samples, converts, source_alone, plans, by_job, or_usage, asked, judged, WordsAre}
 use Rattle.command_words.specs.Laws.{AreWithin}
 
 -- P is so of what there is
@@ -98,14 +98,21 @@ samples_hold : (input : List ℕ) (mesh : Option (List ℕ)) (w : OptionWords) �
 samples_hold input None w = holds_then Any IsWithin _ (number_to MAX_SIDE input) (any (number_to MAX_SIDE input)) (λ side _. plans_hold RunsPlan (OfSample side) w)
 samples_hold input (Some mesh) w = tt
 
+-- a job on a source alone has no options
+alone_holds : (job : List ℕ → Command) → ((source : List ℕ) → IsWithin (job source)) → (input : List ℕ) (mesh : Option (List ℕ)) (w : OptionWords)
+    → Holds IsWithin (option_map job (source_alone input mesh w))
+alone_holds job h input mesh w = holds_map Any IsWithin job (source_alone input mesh w) (any (source_alone input mesh w)) (λ source _. h source)
+
 jobs_hold : (job input : List ℕ) (mesh : Option (List ℕ)) (w : OptionWords) → Holds IsWithin (by_job job input mesh w)
 jobs_hold job input mesh w =
     holds_if IsWithin (bytes_eq job (codes "run")) _ _ (files_hold (plans RunsPlan) (plans_hold RunsPlan) input mesh w)
     (holds_if IsWithin (bytes_eq job (codes "sample")) _ _ (samples_hold input mesh w)
     (holds_if IsWithin (bytes_eq job (codes "convert")) _ _ (converts_hold input mesh w)
+    (holds_if IsWithin (bytes_eq job (codes "translate")) _ _ (alone_holds Translates (λ source. tt) input mesh w)
+    (holds_if IsWithin (bytes_eq job (codes "restore")) _ _ (alone_holds Restores (λ source. tt) input mesh w)
     (holds_if IsWithin (bytes_eq job (codes "check")) _ _ (files_hold (plans Check) (plans_hold Check) input mesh w)
     (holds_if IsWithin (bytes_eq job (codes "plan")) _ _ (files_hold (plans ShowsPlan) (plans_hold ShowsPlan) input mesh w)
-    (holds_if IsWithin (bytes_eq job (codes "schedule")) _ _ (files_hold (plans ShowsSchedule) (plans_hold ShowsSchedule) input mesh w) tt)))))
+    (holds_if IsWithin (bytes_eq job (codes "schedule")) _ _ (files_hold (plans ShowsSchedule) (plans_hold ShowsSchedule) input mesh w) tt)))))))
 
 -- ---- words
 

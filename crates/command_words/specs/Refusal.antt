@@ -56,6 +56,8 @@ pub data Refusal : Type 0 where
   EarlyStep : (line : ℕ) (step missing : Step) → Refusal
   -- a step of the plan that a schedule hasn't; its text ends on that line
   LeftStep : (line : ℕ) (missing : Step) → Refusal
+  -- a source can't be translated or restored
+  BadStub : (number : ℕ) (at : Pos) → Refusal
   -- a size is beyond its limit
   BeyondLimit : Limit → (size : ℕ) → Refusal
 
@@ -77,4 +79,5 @@ status_of (BadSchedule n line) = 8
 status_of (BadStep n line s) = 8
 status_of (EarlyStep line s t) = 8
 status_of (LeftStep line t) = 8
+status_of (BadStub n at) = 14
 status_of (BeyondLimit l size) = 10

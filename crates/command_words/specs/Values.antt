@@ -5,7 +5,7 @@ use Rattle.clap.specs.Matches.{first_value}
 use Rattle.distribute.specs.Parts.{parts_of, name_of}
 use Rattle.command_words.specs.Refusal as answer
 use Rattle.command_words.specs.Words as words
-use Rattle.command_words.specs.Words.{is_set, OnPlan, Converts, ShowsUsage, ShowsVersion}
+use Rattle.command_words.specs.Words.{is_set, OnPlan, Converts, Translates, Restores, ShowsUsage, ShowsVersion}
 use Rattle.command_words.specs.Laws.{AreWithin}
 use Rattle.command_words.specs.declared.refusals.WordsRefusal.{WordsRefusal}
 use Rattle.command_words.specs.declared.refusals.WordsRefusal.TheVariants.{Usage, OutOfMemory}
@@ -95,6 +95,8 @@ input_in (input.OfSample side) = words.OfSample side
 abbrev pub command_of : Asked → words.Command
 command_of (asked.Plan j o i) = OnPlan (job_in j) (options_in o) (input_in i)
 command_of (asked.Convert form mesh) = Converts form mesh.now
+command_of (asked.Translate source) = Translates source.now
+command_of (asked.Restore source) = Restores source.now
 command_of asked.Usage = ShowsUsage
 command_of asked.Version = ShowsVersion
 

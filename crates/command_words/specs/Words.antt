@@ -55,10 +55,13 @@ pub data Input : Type 0 where
   OfSample : (side : ℕ) → Input
 
 -- What the words ask for: a job on the plan of a program over a mesh, with these options; the mesh text in a file written again, in a
--- version of the format; or what the program says of itself.
+-- version of the format; the source in a file translated, so that each loop call is a call of its own stub, or restored; or what the
+-- program says of itself.
 pub data Command : Type 0 where
   OnPlan : PlanJob → Options → Input → Command
   Converts : Form → (mesh : List ℕ) → Command
+  Translates : (source : List ℕ) → Command
+  Restores : (source : List ℕ) → Command
   ShowsUsage : Command
   ShowsVersion : Command
 
@@ -249,12 +252,18 @@ abbrev pub converts : (input : List ℕ) (mesh : Option (List ℕ)) → OptionWo
 converts input None w = if plans_nothing w then option_map (λ f. Converts f input) (form_of w.form) else None
 converts input (Some mesh) w = None
 
+-- SOURCE, for the jobs that take nothing else: no mesh and no option
+abbrev pub source_alone : (source : List ℕ) (mesh : Option (List ℕ)) → OptionWords → Option (List ℕ)
+source_alone source mesh w = if not (is_some mesh) && not (is_some w.form) && plans_nothing w then Some source else None
+
 -- by the job's name
 abbrev pub by_job : (job input : List ℕ) (mesh : Option (List ℕ)) → OptionWords → Option Command
 by_job job input mesh w =
     if bytes_eq job (codes "run") then on_files (plans RunsPlan) input mesh w
     else if bytes_eq job (codes "sample") then samples input mesh w
     else if bytes_eq job (codes "convert") then converts input mesh w
+    else if bytes_eq job (codes "translate") then option_map Translates (source_alone input mesh w)
+    else if bytes_eq job (codes "restore") then option_map Restores (source_alone input mesh w)
     else if bytes_eq job (codes "check") then on_files (plans Check) input mesh w
     else if bytes_eq job (codes "plan") then on_files (plans ShowsPlan) input mesh w
     else if bytes_eq job (codes "schedule") then on_files (plans ShowsSchedule) input mesh w
@@ -300,6 +309,8 @@ names_at (Written name) = name ∷ []
 abbrev pub names_of : Command → List (List ℕ)
 names_of (OnPlan j o input) = names_from input ++ names_by o.parting ++ names_at o.schedule
 names_of (Converts form mesh) = mesh ∷ []
+names_of (Translates source) = source ∷ []
+names_of (Restores source) = source ∷ []
 names_of ShowsUsage = []
 names_of ShowsVersion = []
 

@@ -88,6 +88,14 @@ pub enum Asked<'a> {
         form: Form,
         mesh: &'a str,
     },
+    /// To write the source in the file `source` with each loop call a call of its own stub, and a table of the stubs.
+    Translate {
+        source: &'a str,
+    },
+    /// To write the source in the file `source` with each call of a stub a loop call again.
+    Restore {
+        source: &'a str,
+    },
     /// What the program says of its use.
     Usage,
     /// The version of the program.

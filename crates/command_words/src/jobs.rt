@@ -1,7 +1,7 @@
 // The jobs: what is asked for by the words JOB, INPUT and MESH, with the options.
 
 ghost use Rattle.std.specs.Prelude.{◌≡◌, option_map};
-ghost use Rattle.command_words.specs.Words.{by_job, samples, converts, plans, form_of, InFiles};
+ghost use Rattle.command_words.specs.Words.{by_job, samples, converts, source_alone, plans, form_of, InFiles};
 ghost use Rattle.command_words.specs.Values.{input_in, command_of, job_in, option_words_of};
 
 use crate::asked::{Asked, Input, PlanJob};
@@ -25,6 +25,12 @@ pub fn by_job<'a>(
         samples(input, mesh, options)
     } else if job == "convert" {
         converts(input, mesh, options)
+    } else if job == "translate" {
+        let source = source_alone(input, mesh, options)?;
+        Some(Asked::Translate { source })
+    } else if job == "restore" {
+        let source = source_alone(input, mesh, options)?;
+        Some(Asked::Restore { source })
     } else if job == "check" {
         plans(PlanJob::Check, in_files(input, mesh)?, options)
     } else if job == "plan" {
@@ -71,6 +77,22 @@ fn converts<'a>(input: &'a str, mesh: Option<&str>, options: &OptionWords<'a>) -
             form: form_of(options.form)?,
             mesh: input,
         })
+    } else {
+        None
+    }
+}
+
+// SOURCE, for the jobs that take nothing else: no mesh and no option.
+fn source_alone<'a>(
+    source: &'a str,
+    mesh: Option<&str>,
+    options: &OptionWords<'_>,
+) -> Option<&'a str>
+    ensures { option_map (λ s. s.now) result
+        ≡ source_alone source.now (option_map (λ s. s.now) mesh.entry) (option_words_of options.now) }
+{
+    if mesh.is_none() && options.form.is_none() && plans_nothing(options) {
+        Some(source)
     } else {
         None
     }

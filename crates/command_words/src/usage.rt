@@ -7,6 +7,9 @@ Jobs
   run            runs the OP2 program in the file INPUT over the mesh in the file MESH, and writes what it prints
   sample         as run, with a program of fluxes on a grid of INPUT times INPUT cells, which it makes itself; no MESH
   convert        writes the mesh in the file INPUT again, in the version that --form names; no MESH
+  translate      writes the source in the file INPUT with each loop call a call of its own stub, and behind it a table of
+                 the stubs; no MESH and no option
+  restore        the way back: writes the source in the file INPUT with each call of a stub a loop call; no MESH and no option
   check          as run, but the program is planned and not run, and the sizes of the plan are written
   plan           as check, and the whole plan is written
   schedule       as check, and the schedule is written: the steps of the plan in their order, one a line
@@ -15,7 +18,7 @@ Words
   INPUT          the name of the source file; for sample a number from 1 to 200; for convert the name of the mesh file
   MESH           the name of the mesh file; for run, check, plan and schedule
 
-Options
+Options, of which translate and restore take none
   --form FORM    for convert: the version of the mesh format, 1 or 2 (runs of equal values); 2 where it isn't given
   --ranks N      not for convert: how many ranks there are, from 1 to 64; 1 where it isn't given
   --parts RULE   not for convert: who owns which element; block where it isn't given
@@ -44,6 +47,8 @@ Statuses
   8              the schedule is refused: its file isn't one, or the plan doesn't accept its steps
   9              the run has a fault
   10             a size is beyond its limit
+  14             the source is not translated, since a name is that of a stub, or not restored, since a stub isn't called
+                 or a loop call is left
 ";
 
 /// What `--version` writes.

@@ -1,218 +1,190 @@
--- From the parts of the chain of judgements to the whole, up to a bound program.
-use Rattle.std.proofs.Common.{◌≡◌, ℕ, All, inl, inr, ◌≤◌, zero, suc, arith, Bool, true, false, List, [], ◌∷◌, length, Option, None, Some, Result, Ok, Err, IfErr, IfSome, refl, ap, sym, subst}
+-- What parts of the code show, put together: from the parts of the chain of judgements to the whole.
+use Rattle.std.proofs.Common.{◌≡◌, ℕ, suc, arith, Bool, true, false, List, [], ◌∷◌, ◌++◌, get_or, Option, None, Some, IfSome, IsSome, Result, Ok, Err, IfOk, IfErr, refl, ap, sym, subst, ◌∙◌}
 use Rattle.std.specs.List.{Contains}
 use Rattle.std.specs.Str.{bytes_eq}
-use Rattle.std.specs.Prelude.{if◌then◌else◌}
 use Rattle.std.proofs.lemmas.Slice.Eq.{bytes_eq-Decides}
 use Rattle.op_outside.specs.Outside.{Files}
-use Rattle.c_tree.specs.Tree.{ProgramTree}
-use Rattle.bound_program.specs.Values.{BoundValue}
-use Rattle.kernel_types.specs.declared.kernels.Resolved.{Resolved}
-use Rattle.command_words.specs.Refusal as answer
-use Rattle.command_words.specs.Refusal.{Refusal, SourceBytes, MeshBytes, CannotRead}
+use Rattle.kept_files.specs.Seen.{Seen, nothing_seen, Agree, IsSight}
+use Rattle.kept_files.specs.Readings.{Readings, names_of, readings_of, AreNext, HaveCome, IsSeen, Finds}
+use Rattle.kept_files.proofs.Seeing.{agree_before, grows_on}
+use Rattle.kept_files.proofs.Finding.{nothing_is_seen, finds_on, finds_weaker, finds_last, finds_always}
+use Rattle.command_words.specs.Refusal.{Refusal, CannotRead}
 use Rattle.answer_lines.specs.Lines as lines
-use Rattle.answer_lines.specs.Lines.{most, refused}
-use Rattle.command_words.specs.Words.{InFiles}
-use Rattle.answers.specs.Judgements.{IsHeld, SourceIs, FileIs, TreeIs, TypesAre}
-use Rattle.answers.specs.Answers.{given, without, BoundAnswers}
-use Rattle.answer_lines.specs.Lines.{IsOfContents}
-use Rattle.answers.specs.Endings.{no_files}
+use Rattle.answer_lines.specs.Lines.{refused}
+use Rattle.answers.specs.Answers.{without}
 use Rattle.answer_lines.specs.declared.call_answer.Answer.{Answer}
 use Rattle.answer_lines.specs.declared.refusals.Failure.TheVariants.{Unread, OutOfMemory}
 use Rattle.answer_lines.specs.declared.refusals.Halt.{Halt}
 use Rattle.answer_lines.specs.declared.refusals.Halt.TheVariants.{Refused, Failed}
-use Rattle.answer_lines.specs.Halts.{refusal_of, StopsWhere, SpoiltWhere, answer_of}
-use Rattle.job_inputs.specs.Inputs.{UnreadWhere}
-use Rattle.job_inputs.specs.Chains.{MeshAnswers, TextOver, IsAnswered, AnswersBy, Over, AsksFor, AnswersOver}
-use Rattle.answer_lines.proofs.Halts.{stops_weaker}
+use Rattle.answer_lines.specs.Halts.{refusal_of, StopsWhere, answer_of}
+use Rattle.job_inputs.specs.Chains.{AnswersBy, Misses, HaltsOver, AnswersFrom, Over, AnswersOver}
 
--- ---- halts
+-- ---- results
 
--- a refusal of what a file holds is an answer
-pub spoilt_answers : (J : Refusal → Type 0) (P : lines.Answer → Type 0) (h : Halt)
-    → ((r : Refusal) → J r → P (refused r))
-    → SpoiltWhere J h
-    → StopsWhere (λ r. IsAnswered P (refused r)) h
-spoilt_answers J P h step s =
-    stops_weaker (λ r. J r × IsOfContents r) (λ r. IsAnswered P (refused r)) h (λ r j. (step r j.0, inr (inl (r, j.1, refl)))) s
-
--- ---- names of files
-
-pub contains_first : (n : List ℕ) (ns : List (List ℕ)) → Contains (n ∷ ns) n
-contains_first n ns = (0, omega arith, refl)
-
-pub contains_later : (m n : List ℕ) (ns : List (List ℕ)) → Contains ns n → Contains (m ∷ ns) n
-contains_later m n ns (k, below, is) = (suc k, omega (arith, below), is)
-
--- of one name
-of_one : (m n : List ℕ) → Contains (m ∷ []) n → m ≡ n
-of_one m n (zero, below, is) = is
-of_one m n (suc k, below, is) = absurd (omega (arith, below))
-
--- ---- over files
-
-module _ (told : Option Files) (name : List ℕ) (names : List (List ℕ)) (P : Files → lines.Answer → Type 0) (rose : Type 0) where
-  -- an answer that is P over files that are told, and one of some contents
-  over : (Q : lines.Answer → Type 0) (a : lines.Answer) → IfSome told (λ files. Q a → P files a) → IsAnswered Q a → Over told (name ∷ names) P a
-  over Q a step h = go told step
-    where
-      go : (o : Option Files) → IfSome o (λ files. Q a → P files a) → Over o (name ∷ names) P a
-      go None s = h.1
-      go (Some files) s = s h.0
-
-  -- the answer of what holds what was read
-  pub lifted : (Q : lines.Answer → Type 0) (r : Result Answer Halt)
-      → ((a : lines.Answer) → IfSome told (λ files. Q a → P files a))
-      → AnswersBy Q r
-      → AnswersOver told (name ∷ names) P rose r
-  lifted Q (Ok a) step h = over Q (answer_of a) (step (answer_of a)) h
-  lifted Q (Err (Refused r)) step h = over Q (refused (refusal_of r)) (step (refused (refusal_of r))) h
-  lifted Q (Err (Failed (Unread n))) step h = absurd h
-  lifted Q (Err (Failed OutOfMemory)) step h = tt
-
--- ---- the reading of a file
-
--- a file that isn't there
-pub missing : (limit : answer.Limit) (name : List ℕ) (files : Files) → IsHeld limit name (without name files name) (Err (CannotRead name))
-missing limit name files = rw ((bytes_eq-Decides name name).1 refl) refl
-
--- the first file that is asked for could not be read, or is refused
-module _ (told : Option Files) (limit : answer.Limit) (name : List ℕ) (names : List (List ℕ)) (rose : Type 0) where
-  pub read_first : (rest : Files → List ℕ → lines.Answer → Type 0) (h : Halt)
-      → UnreadWhere told limit name rose h
-      → AnswersOver told (name ∷ names) (λ files. given (IsHeld limit name (files name)) (rest files)) rose (Err h)
-  read_first rest (Refused r) u = go told u
-    where
-      go : (o : Option Files)
-          → UnreadWhere o limit name rose (Refused r)
-          → Over o (name ∷ names) (λ files. given (IsHeld limit name (files name)) (rest files)) (refused (refusal_of r))
-      go None c = inr (inl (refusal_of r, c, refl))
-      go (Some files) held = inl (refusal_of r, held, refl)
-  read_first rest (Failed (Unread other)) u = (u.1, subst (Contains (name ∷ names)) (sym u.0) (contains_first name names), go told)
-    where
-      asked : (files : Files)
-          → given (IsHeld limit name (without other.now files name)) (rest (without other.now files)) (refused (CannotRead other.now))
-      asked files =
-          subst
-          (λ n. given (IsHeld limit name (without n files name)) (rest (without n files)) (refused (CannotRead n)))
-          (sym u.0) (inl (CannotRead name, missing limit name files, refl))
-
-      go : (o : Option Files) → AsksFor o (λ files. given (IsHeld limit name (files name)) (rest files)) other.now
-      go None = (no_files, asked no_files)
-      go (Some files) = asked files
-  read_first rest (Failed OutOfMemory) u = tt
-
--- ---- the source, and then the mesh
-
-module _ (rest : BoundValue → lines.Answer → Type 0) (p : ProgramTree) (types : Resolved) (source mesh bytes : List ℕ) (fits : length bytes ≤ most SourceBytes) (reads : TreeIs bytes (Ok p)) (typed : TypesAre p (Ok types)) where
-  -- where the source holds these bytes, the answer over the mesh is that of both
-  over_both : (files : Files) (a : lines.Answer)
-      → SourceIs (InFiles source mesh) files (Ok bytes)
-      → MeshAnswers rest p types mesh files a
-      → BoundAnswers rest (InFiles source mesh) files a
-  over_both files a held m = inr (bytes, held, inr (p, reads, inr (types, typed, m)))
-
-  -- the mesh is asked for, where the source is there
-  mesh_asked : (files : Files) → SourceIs (InFiles source mesh) files (Ok bytes) → BoundAnswers rest (InFiles source mesh) (without mesh files) (refused (CannotRead mesh))
-  mesh_asked files held = go (bytes_eq source mesh) refl
-    where
-      no_mesh : MeshAnswers rest p types mesh (without mesh files) (refused (CannotRead mesh))
-      no_mesh = inl (CannotRead mesh, missing MeshBytes mesh files, refl)
-
-      go : (b : Bool) → bytes_eq source mesh ≡ b → BoundAnswers rest (InFiles source mesh) (without mesh files) (refused (CannotRead mesh))
-      go true e =
-          let same : source ≡ mesh = (bytes_eq-Decides source mesh).0 e in
-          inl (CannotRead source, rw e refl, ap (λ n. refused (CannotRead n)) (sym same))
-      go false e = over_both (without mesh files) (refused (CannotRead mesh)) (rw e held) no_mesh
-
-  -- a file that holds these bytes
-  abbrev holding : Files
-  holding name = if bytes_eq name source then Some bytes else None
-
-  pub both_answered : (told : Option Files) (rose : Type 0) (r : Result Answer Halt)
-      → IfSome told (λ files. SourceIs (InFiles source mesh) files (Ok bytes))
-      → AnswersOver told (mesh ∷ []) (MeshAnswers rest p types mesh) rose r
-      → AnswersOver told (source ∷ mesh ∷ []) (BoundAnswers rest (InFiles source mesh)) rose r
-  both_answered (Some files) rose (Ok a) held h = over_both files (answer_of a) held h
-  both_answered None rose (Ok a) held h = h
-  both_answered (Some files) rose (Err (Refused r)) held h = over_both files (refused (refusal_of r)) held h
-  both_answered None rose (Err (Refused r)) held h = h
-  both_answered told rose (Err (Failed (Unread n))) held h = (h.0, contains_later source n.now (mesh ∷ []) h.1, go told held (of_one mesh n.now h.1))
-    where
-      go : (o : Option Files) → IfSome o (λ files. SourceIs (InFiles source mesh) files (Ok bytes)) → mesh ≡ n.now → AsksFor o (BoundAnswers rest (InFiles source mesh)) n.now
-      go None held e =
-          subst
-          (AsksFor None (BoundAnswers rest (InFiles source mesh)))
-          e (holding, mesh_asked holding (rw ((bytes_eq-Decides source source).1 refl) (refl, fits)))
-      go (Some files) held e = subst (AsksFor (Some files) (BoundAnswers rest (InFiles source mesh))) e (mesh_asked files held)
-  both_answered told rose (Err (Failed OutOfMemory)) held h = tt
-
--- ---- parts that the code goes along
-
-module _ (Q : List ℕ → lines.Answer → Type 0) (mesh text : List ℕ) (told : Option Files) (rose : Type 0) where
-  -- the answer over the text is that over the file which holds it
-  pub text_answered : (r : Result Answer Halt)
-      → IfSome told (λ files. FileIs mesh files (Ok text))
-      → AnswersBy (Q text) r
-      → AnswersOver told (mesh ∷ []) (λ files. given (FileIs mesh files) Q) rose r
-  text_answered r held h = lifted told mesh [] (λ files. given (FileIs mesh files) Q) rose (Q text) r (λ a. step a told held) h
-    where
-      step : (a : lines.Answer) (o : Option Files)
-          → IfSome o (λ files. FileIs mesh files (Ok text))
-          → IfSome o (λ files. Q text a → given (FileIs mesh files) Q a)
-      step a None held = tt
-      step a (Some files) held = λ q. inr (text, held, q)
-
--- the answer is that of a refusal of which J is so
-abbrev RefusedBy : (Refusal → Type 0) → lines.Answer → Type 0
-RefusedBy J a = (r : Refusal) × J r × (a ≡ refused r)
-
-module _ (rest : BoundValue → lines.Answer → Type 0) (source mesh bytes : List ℕ) (told : Option Files) (rose : Type 0) (held : IfSome told (λ files. SourceIs (InFiles source mesh) files (Ok bytes))) where
-  -- what a judgement of the source refuses
-  refused_over : (J : Refusal → Type 0) (h : Halt)
-      → ((files : Files) (r : Refusal) → SourceIs (InFiles source mesh) files (Ok bytes) → J r → BoundAnswers rest (InFiles source mesh) files (refused r))
-      → SpoiltWhere J h
-      → AnswersOver told (source ∷ mesh ∷ []) (BoundAnswers rest (InFiles source mesh)) rose (Err h)
-  refused_over J h step s =
-      lifted told source (mesh ∷ []) (BoundAnswers rest (InFiles source mesh)) rose (RefusedBy J) (Err h) (λ a. go a told held) (spoilt_answers J (RefusedBy J) h (λ r j. (r, j, refl)) s)
-    where
-      go : (a : lines.Answer) (o : Option Files)
-          → IfSome o (λ files. SourceIs (InFiles source mesh) files (Ok bytes))
-          → IfSome o (λ files. RefusedBy J a → BoundAnswers rest (InFiles source mesh) files a)
-      go a None held = tt
-      go a (Some files) held = λ q. subst (BoundAnswers rest (InFiles source mesh) files) (sym q.2) (step files q.0 held q.1)
-
-  pub tree_refused_over : (h : Halt)
-      → SpoiltWhere (λ r. TreeIs bytes (Err r)) h
-      → AnswersOver told (source ∷ mesh ∷ []) (BoundAnswers rest (InFiles source mesh)) rose (Err h)
-  tree_refused_over h s = refused_over (λ r. TreeIs bytes (Err r)) h (λ files r held j. inr (bytes, held, inl (r, j, refl))) s
-
-  pub types_refused_over : (p : ProgramTree) (h : Halt)
-      → TreeIs bytes (Ok p)
-      → SpoiltWhere (λ r. TypesAre p (Err r)) h
-      → AnswersOver told (source ∷ mesh ∷ []) (BoundAnswers rest (InFiles source mesh)) rose (Err h)
-  types_refused_over p h reads s =
-      refused_over (λ r. TypesAre p (Err r)) h (λ files r held j. inr (bytes, held, inr (p, reads, inl (r, j, refl)))) s
-
--- ---- the mesh, behind the source
-
-module _ (rest : BoundValue → lines.Answer → Type 0) (p : ProgramTree) (types : Resolved) (source mesh bytes : List ℕ) (fits : length bytes ≤ most SourceBytes) (reads : TreeIs bytes (Ok p)) (typed : TypesAre p (Ok types)) (told : Option Files) (rose : Type 0) (held : IfSome told (λ files. SourceIs (InFiles source mesh) files (Ok bytes))) where
-  pub mesh_unread_over : (h : Halt) → UnreadWhere told MeshBytes mesh rose h → AnswersOver told (source ∷ mesh ∷ []) (BoundAnswers rest (InFiles source mesh)) rose (Err h)
-  mesh_unread_over h u =
-      both_answered rest p types source mesh bytes fits reads typed told rose (Err h) held (read_first told MeshBytes mesh [] rose (λ files. TextOver rest p types) h u)
-
-  pub text_refused_over : (text : List ℕ) (h : Halt)
-      → IfSome told (λ files. FileIs mesh files (Ok text))
-      → SpoiltWhere (λ r. TextOver rest p types text (refused r)) h
-      → AnswersOver told (source ∷ mesh ∷ []) (BoundAnswers rest (InFiles source mesh)) rose (Err h)
-  text_refused_over text h there s =
-      both_answered rest p types source mesh bytes fits reads typed told rose (Err h) held
-      (text_answered (TextOver rest p types) mesh text told rose (Err h) there
-      (spoilt_answers (λ r. TextOver rest p types text (refused r)) (TextOver rest p types text) h (λ r j. j) s))
-
--- ---- what is refused
-
--- what is so of a refusal, where it follows
+-- what is so of a refusal, or of a value, where it follows
 pub if_err_weaker : {X E : Type 0} (r : Result X E) (P Q : E → Type 0) → ((e : E) → P e → Q e) → IfErr r P → IfErr r Q
 if_err_weaker (Ok x) P Q step h = tt
 if_err_weaker (Err e) P Q step h = step e h
+
+pub if_ok_weaker : {X E : Type 0} (r : Result X E) (P Q : X → Type 0) → ((x : X) → P x → Q x) → IfOk r P → IfOk r Q
+if_ok_weaker (Ok x) P Q step h = step x h
+if_ok_weaker (Err e) P Q step h = tt
+
+-- ---- names of files
+
+contains_later : (m n : List ℕ) (ns : List (List ℕ)) → Contains ns n → Contains (m ∷ ns) n
+contains_later m n ns (k, below, is) = (suc k, omega (arith, below), is)
+
+pub contains_behind : (xs ys : List (List ℕ)) (name : List ℕ) → Contains ys name → Contains (xs ++ ys) name
+contains_behind [] ys name c = c
+contains_behind (x ∷ xs) ys name c = contains_later x name (xs ++ ys) (contains_behind xs ys name c)
+
+-- what is still to come behind these readings was to come before
+pub still_named : (names : List (List ℕ)) (old new : Readings) → AreNext names old → HaveCome names old new
+    → (name : List ℕ) → Contains (names_of new) name → Contains (names_of old) name
+still_named names old new next come name c =
+    subst (λ ns. Contains ns name) (sym next.1) (contains_behind names next.0 name (subst (λ ns. Contains ns name) (come next.0 next.1) c))
+
+pub names_are : (names : List (List ℕ)) → names_of (readings_of names) ≡ names
+names_are [] = refl
+names_are (n ∷ ns) = ap (λ z. n ∷ z) (names_are ns)
+
+-- ---- a file that is missing
+
+-- files without one that was not seen are as they were seen
+agree_without : (seen : Seen) (name : List ℕ) (files : Files) → seen name ≡ None → Agree seen files → Agree seen (without name files)
+agree_without seen name files unseen agree other = by (bytes_eq other name) refl
+  where
+    by : (x : Bool) → bytes_eq other name ≡ x → IfSome (seen other) (λ held. without name files other ≡ held)
+    by true e = subst (λ o. IfSome o (λ held. without name files other ≡ held)) (sym (ap seen ((bytes_eq-Decides other name).0 e) ∙ unseen)) tt
+    by false e = subst (λ z. IfSome (seen other) (λ held. z ≡ held)) (sym (is_there e)) (agree other)
+      where
+        is_there : bytes_eq other name ≡ false → without name files other ≡ files other
+        is_there e = rw e refl
+
+-- ---- parts
+
+-- where no files are told, some are as they were seen, and hold every name
+abbrev pub SomeAreSeen : Type 0
+SomeAreSeen = (seen : Seen) → IsSight None seen → (files : Files) × Agree seen files × ((name : List ℕ) → IsSome (files name))
+
+module _ (told : Option Files) (rose : Type 0) where
+  pub halts_weaker : (rs : Readings) (J K : Files → Refusal → Type 0) (h : Halt) → ((files : Files) (r : Refusal) → J files r → K files r)
+      → HaltsOver told rs J rose h
+      → HaltsOver told rs K rose h
+  halts_weaker rs J K (Refused r) step k = finds_weaker told rs [] (λ files. J files (refusal_of r)) (λ files. K files (refusal_of r)) (λ files. step files (refusal_of r)) k
+  halts_weaker rs J K (Failed (Unread n)) step k = (k.0, k.1, misses)
+    where
+      misses : (before : Seen) → IsSeen told rs before → Misses told before n.now (λ files. K files (CannotRead n.now))
+      misses before seen =
+          let m = k.2 before seen in
+          record {
+            after = m.after;
+            grows = m.grows;
+            sight = m.sight;
+            unseen = m.unseen;
+            all = λ files agree. step (without n.now files) (CannotRead n.now) (m.all files agree);
+          }
+  halts_weaker rs J K (Failed OutOfMemory) step k = tt
+
+  module _ (old mid : Readings) (K : Files → Type 0) (found : Finds told old mid K) where
+    -- what ends a part behind one that found K
+    pub halts_on : (J P : Files → Refusal → Type 0) (h : Halt)
+        → ((name : List ℕ) → Contains (names_of mid) name → Contains (names_of old) name)
+        → ((files : Files) (r : Refusal) → K files → J files r → P files r)
+        → HaltsOver told mid J rose h
+        → HaltsOver told old P rose h
+    halts_on J P (Refused r) named step k =
+        finds_weaker told old [] (λ files. K files × J files (refusal_of r)) (λ files. P files (refusal_of r)) (λ files b. step files (refusal_of r) b.0 b.1)
+        (finds_on told old mid [] K (λ files. J files (refusal_of r)) found k)
+    halts_on J P (Failed (Unread n)) named step k = (k.0, named n.now k.1, misses)
+      where
+        misses : (before : Seen) → IsSeen told old before → Misses told before n.now (λ files. P files (CannotRead n.now))
+        misses before seen =
+            let a = found before seen in
+            let m = k.2 a.after a.seen in
+            record {
+              after = m.after;
+              grows = grows_on before a.after m.after a.grows m.grows;
+              sight = m.sight;
+              unseen = m.unseen;
+              all = λ files agree.
+                  step (without n.now files) (CannotRead n.now)
+                  (a.all (without n.now files) (agree_before a.after m.after (without n.now files) m.grows (agree_without m.after n.now files m.unseen agree)))
+                  (m.all files agree);
+            }
+    halts_on J P (Failed OutOfMemory) named step k = tt
+
+    -- what ends a part that reads no file, behind one that found K
+    pub stops_on : (J : Refusal → Type 0) (P : Files → Refusal → Type 0) (h : Halt)
+        → ((files : Files) (r : Refusal) → K files → J r → P files r)
+        → StopsWhere J h
+        → HaltsOver told old P rose h
+    stops_on J P (Refused r) step s =
+        finds_weaker told old [] K (λ files. P files (refusal_of r)) (λ files k. step files (refusal_of r) k s) (finds_last told old mid K found)
+    stops_on J P (Failed (Unread n)) step s = absurd s
+    stops_on J P (Failed OutOfMemory) step s = tt
+
+    pub answers_on : (Q P : Files → lines.Answer → Type 0) (r : Result Answer Halt)
+        → ((name : List ℕ) → Contains (names_of mid) name → Contains (names_of old) name)
+        → ((files : Files) (a : lines.Answer) → K files → Q files a → P files a)
+        → AnswersFrom told mid Q rose r
+        → AnswersFrom told old P rose r
+    answers_on Q P (Ok a) named step k =
+        finds_weaker told old [] (λ files. K files × Q files (answer_of a)) (λ files. P files (answer_of a)) (λ files b. step files (answer_of a) b.0 b.1)
+        (finds_on told old mid [] K (λ files. Q files (answer_of a)) found k)
+    answers_on Q P (Err h) named step k =
+        halts_on (λ files r. Q files (refused r)) (λ files r. P files (refused r)) h named (λ files r. step files (refused r)) k
+
+    pub answers_by : (Q : lines.Answer → Type 0) (P : Files → lines.Answer → Type 0) (r : Result Answer Halt)
+        → ((files : Files) (a : lines.Answer) → K files → Q a → P files a)
+        → AnswersBy Q r
+        → AnswersFrom told old P rose r
+    answers_by Q P (Ok a) step k = finds_weaker told old [] K (λ files. P files (answer_of a)) (λ files x. step files (answer_of a) x k) (finds_last told old mid K found)
+    answers_by Q P (Err h) step k = stops_on (λ r. Q (refused r)) (λ files r. P files (refused r)) h (λ files r. step files (refused r)) k
+
+  -- nothing has to be found before
+  abbrev Always : Files → Type 0
+  Always files = Unit {0}
+
+  always : (rs : Readings) → Finds told rs rs Always
+  always rs = finds_always told rs Always (λ files. tt)
+
+  pub finds_from : (rs : Readings) (K : Files → Type 0) → ((files : Files) → K files) → Finds told rs [] K
+  finds_from rs K all = finds_last told rs rs K (finds_always told rs K all)
+
+  pub stops_always : (rs : Readings) (J : Refusal → Type 0) (P : Files → Refusal → Type 0) (h : Halt)
+      → ((files : Files) (r : Refusal) → J r → P files r)
+      → StopsWhere J h
+      → HaltsOver told rs P rose h
+  stops_always rs J P h step s = stops_on rs rs Always (always rs) J P h (λ files r u. step files r) s
+
+  pub answers_weaker : (rs : Readings) (Q P : Files → lines.Answer → Type 0) (r : Result Answer Halt)
+      → ((files : Files) (a : lines.Answer) → Q files a → P files a)
+      → AnswersFrom told rs Q rose r
+      → AnswersFrom told rs P rose r
+  answers_weaker rs Q P r step k = answers_on rs rs Always (always rs) Q P r (λ name c. c) (λ files a u. step files a) k
+
+  -- ---- the whole
+
+  module _ (some : SomeAreSeen) (names : List (List ℕ)) (P : Files → lines.Answer → Type 0) where
+    over : (t : Option Files) (a : lines.Answer) (after : Seen) → IsSight t after → ((files : Files) → Agree after files → P files a) → Over t names P a
+    over (Some files) a after sight all = all files sight.so
+    over None a after sight all = (let f = some after sight in (f.0, λ k d lt. f.2 (get_or names k d), all f.0 f.1))
+
+    found_over : (a : lines.Answer) → Finds told (readings_of names) [] (λ files. P files a) → Over told names P a
+    found_over a found = (let k = found nothing_seen (nothing_is_seen told names) in over told a k.after k.seen.sight k.all)
+
+    pub to_whole : (r : Result Answer Halt) → AnswersFrom told (readings_of names) P rose r → AnswersOver told names P rose r
+    to_whole (Ok a) k = found_over (answer_of a) k
+    to_whole (Err (Refused r)) k = found_over (refused (refusal_of r)) k
+    to_whole (Err (Failed (Unread n))) k = (k.0, subst (λ ns. Contains ns n.now) (names_are names) k.1, asked)
+      where
+        over_missing : (t : Option Files) (after : Seen) → IsSight t after → ((files : Files) → Agree after files → P (without n.now files) (refused (CannotRead n.now)))
+            → Over t names (λ files a. P (without n.now files) a) (refused (CannotRead n.now))
+        over_missing (Some files) after sight all = all files sight.so
+        over_missing None after sight all = (let f = some after sight in (f.0, λ k d lt. f.2 (get_or names k d), all f.0 f.1))
+
+        asked : Over told names (λ files a. P (without n.now files) a) (refused (CannotRead n.now))
+        asked = (let m = k.2 nothing_seen (nothing_is_seen told names) in over_missing told m.after m.sight m.all)
+    to_whole (Err (Failed OutOfMemory)) k = tt

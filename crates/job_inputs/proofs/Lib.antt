@@ -1,4 +1,5 @@
 pub mod Chained
+pub mod Reading
 pub mod BoundFiles
 pub mod MeshText
 pub mod Unowned

@@ -1,5 +1,5 @@
 -- The name of a map by its number.
-use Rattle.std.proofs.Common.{◌≡◌, ◌<◌, ℕ, suc, List, [], ◌∷◌, length, get_or, drop, Option, None, Some, refl, sym, ap, ◌∙◌}
+use Rattle.std.proofs.Common.{◌≡◌, ◌<◌, ℕ, suc, List, ◌∷◌, length, get_or, drop, Option, None, Some, refl, sym, ap, ◌∙◌}
 use Rattle.std.proofs.Math.Seq.{drop-cons}
 use Rattle.c_tree.specs.declared.hosts.Host.{Host}
 use Rattle.c_tree.specs.Tree as tree

@@ -18,9 +18,8 @@ use Rattle.run_model.specs.Kernels.{kernel_at}
 use Rattle.run_model.specs.Arguments.{mode_of, modes_of, arg_width}
 use Rattle.command_words.specs.Refusal as answer
 use Rattle.answers.specs.Judgements.{AccessesAre, IsFirstSite, SiteObeys, SiteRefuses}
-use Rattle.answer_lines.specs.Lines.{IsOfContents}
 use Rattle.answer_lines.specs.declared.refusals.Halt.{Halt}
-use Rattle.answer_lines.specs.Halts.{SpoiltWhere}
+use Rattle.answer_lines.specs.Halts.{StopsWhere}
 use Rattle.job_inputs.specs.Inputs.{IsAccessRefusal}
 use Rattle.answer_lines.proofs.Halts.{stops_weaker}
 
@@ -68,15 +67,15 @@ module _ (b : BoundValue) (s : SiteValue) (fit : SiteFits b s) (f : RKernel) (is
 
   pub refuses : (ms : List code.Mode) (h : Halt)
       → map model_of ms ≡ modes_of b s
-      → SpoiltWhere (IsAccessRefusal (IsRefusal f (map model_of ms))) h
-      → SpoiltWhere (IsAccessRefusal (SiteRefuses b s)) h
-  refuses ms h same spoilt =
+      → StopsWhere (IsAccessRefusal (IsRefusal f (map model_of ms))) h
+      → StopsWhere (IsAccessRefusal (SiteRefuses b s)) h
+  refuses ms h same stopped =
       stops_weaker
-      (λ r. IsAccessRefusal (IsRefusal f (map model_of ms)) r × IsOfContents r)
-      (λ r. IsAccessRefusal (SiteRefuses b s) r × IsOfContents r)
+      (IsAccessRefusal (IsRefusal f (map model_of ms)))
+      (IsAccessRefusal (SiteRefuses b s))
       h
-      (λ r x. let (rule, at, is_refusal, says) = x.0 in ((rule, at, (f, found, subst (λ l. IsRefusal f l rule at) same is_refusal), says), x.1))
-      spoilt
+      (λ r x. let (rule, at, is_refusal, says) = x in (rule, at, (f, found, subst (λ l. IsRefusal f l rule at) same is_refusal), says))
+      stopped
 
 -- ---- the modes of its arguments
 
@@ -115,13 +114,9 @@ module _ (b : BoundValue) (xs : List Site) (same : b.sites ≡ map site_of xs) (
   -- the first that doesn't obey
   pub first_refused : (h : Halt)
       → All (SiteObeys b) (map site_of (take i xs))
-      → SpoiltWhere (IsAccessRefusal (SiteRefuses b (site_of x))) h
-      → SpoiltWhere (λ r. AccessesAre b (Err r)) h
-  first_refused h before spoilt =
-      stops_weaker
-      (λ r. IsAccessRefusal (SiteRefuses b (site_of x)) r × IsOfContents r)
-      (λ r. AccessesAre b (Err r) × IsOfContents r)
-      h (λ r y. (first r y.0, y.1)) spoilt
+      → StopsWhere (IsAccessRefusal (SiteRefuses b (site_of x))) h
+      → StopsWhere (λ r. AccessesAre b (Err r)) h
+  first_refused h before stopped = stops_weaker (IsAccessRefusal (SiteRefuses b (site_of x))) (λ r. AccessesAre b (Err r)) h first stopped
     where
       rest : drop i xs ≡ x ∷ drop (suc i) xs
       rest = drop-cons xs i x lt ∙ ap (λ z. z ∷ drop (suc i) xs) (sym is)

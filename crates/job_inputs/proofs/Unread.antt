@@ -8,27 +8,23 @@ use Rattle.c_reader.specs.Answered.{IsTree, IsRefusal}
 use Rattle.c_tree.specs.Refused.{place_at, CanRefuse}
 use Rattle.answers.specs.Judgements.{IsUnread, TreeIs}
 use Rattle.answers.specs.Said.{SaysSource}
-use Rattle.answer_lines.specs.Lines.{IsOfContents}
 use Rattle.answer_lines.specs.declared.refusals.Halt.{Halt}
-use Rattle.answer_lines.specs.Halts.{SpoiltWhere}
+use Rattle.answer_lines.specs.Halts.{StopsWhere}
 use Rattle.answer_lines.proofs.Halts.{stops_weaker}
 
 -- what the reader's refusal says is a refusal of the source
-said : (bytes : List ℕ) (e : SourceRefusal) (h : Halt) → IsUnread bytes e → SpoiltWhere (SaysSource e) h → SpoiltWhere (λ r. TreeIs bytes (Err r)) h
+said : (bytes : List ℕ) (e : SourceRefusal) (h : Halt) → IsUnread bytes e → StopsWhere (SaysSource e) h → StopsWhere (λ r. TreeIs bytes (Err r)) h
 said bytes e h is s =
-    stops_weaker (λ r. SaysSource e r × IsOfContents r) (λ r. TreeIs bytes (Err r) × IsOfContents r) h (λ r x. ((e, is, x.0), x.1)) s
+    stops_weaker (SaysSource e) (λ r. TreeIs bytes (Err r)) h (λ r x. (e, is, x)) s
 
 pub tree_refused : (bytes : List ℕ) (e : SourceRefusal) (h : Halt)
     → ((p : ProgramTree) → Reads bytes p → IsTree p (Err e))
     → ((p : ProgramTree) (n : ℕ) → Deep bytes p n → IsRefusal (source.TooDeep (place_at p.places bytes n)) (Err e))
     → CanRefuse bytes e
-    → SpoiltWhere (SaysSource e) h
-    → SpoiltWhere (λ r. TreeIs bytes (Err r)) h
+    → StopsWhere (SaysSource e) h
+    → StopsWhere (λ r. TreeIs bytes (Err r)) h
 tree_refused bytes (source.Lex l) h only deep cause s = said bytes (source.Lex l) h (record { none = only; deep = deep; cause = cause }) s
 tree_refused bytes (source.Syntax at) h only deep cause s = said bytes (source.Syntax at) h (record { none = only; deep = deep; cause = cause }) s
 tree_refused bytes (source.TooDeep at) h only deep cause s = said bytes (source.TooDeep at) h (record { none = only; deep = deep; cause = cause }) s
 tree_refused bytes source.OutOfMemory h only deep cause s =
-    stops_weaker
-    (λ r. SaysSource source.OutOfMemory r × IsOfContents r)
-    (λ r. TreeIs bytes (Err r) × IsOfContents r)
-    h (λ r x. absurd x.0) s
+    stops_weaker (SaysSource source.OutOfMemory) (λ r. TreeIs bytes (Err r)) h (λ r x. absurd x) s

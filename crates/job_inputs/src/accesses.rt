@@ -11,7 +11,7 @@ ghost use Rattle.bound_program.specs.Fits.{Fits, SiteFits, ArgFits};
 ghost use Rattle.run_model.specs.Arguments as run;
 ghost use Rattle.command_words.specs.Refusal.{BadAccess};
 ghost use Rattle.answers.specs.Judgements.{AccessesAre, SiteObeys, SiteRefuses};
-ghost use Rattle.answer_lines.specs.Halts.{SpoiltWhere};
+ghost use Rattle.answer_lines.specs.Halts.{StopsWhere};
 ghost use Rattle.job_inputs.specs.Inputs.{IsAccessRefusal};
 
 use access_check::{AccessRefusal, Mode, check};
@@ -24,7 +24,7 @@ use std::alloc::Global;
 pub fn judge_accesses<'a>(alloc: Global, bound: &Bound) -> Result<(), Halt<'a>>
     requires { Fits (bound_of bound.now) }
     ensures ok { OnOk result (All (SiteObeys (bound_of bound.now)) (bound_of bound.now).sites) }
-    ensures err { IfErr result (SpoiltWhere (λ r. AccessesAre (bound_of bound.now) (Err r))) }
+    ensures err { IfErr result (StopsWhere (λ r. AccessesAre (bound_of bound.now) (Err r))) }
 {
     for site in &bound.sites {
         judge_site(alloc, bound, site)?;
@@ -37,7 +37,7 @@ fn judge_site<'a>(alloc: Global, bound: &Bound, site: &Site) -> Result<(), Halt<
     requires fits { Fits (bound_of bound.now) }
     requires site { SiteFits (bound_of bound.now) (site_of site.now) }
     ensures ok { OnOk result (SiteObeys (bound_of bound.now) (site_of site.now)) }
-    ensures err { IfErr result (SpoiltWhere (IsAccessRefusal (SiteRefuses (bound_of bound.now) (site_of site.now)))) }
+    ensures err { IfErr result (StopsWhere (IsAccessRefusal (SiteRefuses (bound_of bound.now) (site_of site.now)))) }
 {
     let modes = modes_of(alloc, bound, site)?;
     match check(alloc, &bound.kernels[site.kernel as usize], &modes) {
@@ -78,7 +78,7 @@ fn mode_of(bound: &Bound, arg: &Arg) -> Mode
 
 // A kernel that breaks a rule on accesses.
 fn disobeyed<'a>(refusal: AccessRefusal) -> Halt<'a>
-    ensures { (k : RKernel) (modes : List model.Mode) → Refuses k modes refusal → SpoiltWhere (IsAccessRefusal (IsRefusal k modes)) result }
+    ensures { (k : RKernel) (modes : List model.Mode) → Refuses k modes refusal → StopsWhere (IsAccessRefusal (IsRefusal k modes)) result }
 {
     let (number, at) = match refusal {
         AccessRefusal::WritesRead { at } => (1, at),

@@ -10,7 +10,7 @@ ghost use Rattle.command_words.specs.Refusal as answer;
 ghost use Rattle.answers.specs.Judgements.{EntriesAre, BoundIs};
 ghost use Rattle.answers.specs.Said as said;
 ghost use Rattle.answers.specs.Said.{SaysMesh, SaysBinding, maps_in, map_name};
-ghost use Rattle.answer_lines.specs.Halts.{limit_of as limit_in, SpoiltWhere};
+ghost use Rattle.answer_lines.specs.Halts.{limit_of as limit_in, StopsWhere};
 ghost use Rattle.job_inputs.specs.Inputs.{IsJudged};
 ghost use Rattle.job_inputs.specs.Maps.{map_by};
 
@@ -31,7 +31,7 @@ use std::alloc::{AllocError, Global};
 pub fn entries_of<'a>(alloc: Global, text: &[u8]) -> Result<Entries, Halt<'a>>
     requires { length text.now ≤ MESH_BYTES }
     ensures ok { IfOk result (λ es. EntriesAre text.now (Ok es.entries)) }
-    ensures err { IfErr result (SpoiltWhere (λ r. EntriesAre text.now (Err r))) }
+    ensures err { IfErr result (StopsWhere (λ r. EntriesAre text.now (Err r))) }
 {
     match read_mesh(alloc, text) {
         Ok(entries) => Ok(entries),
@@ -41,7 +41,7 @@ pub fn entries_of<'a>(alloc: Global, text: &[u8]) -> Result<Entries, Halt<'a>>
 
 // A text that spells no entries.
 fn misspelled<'a>(refusal: MeshRefusal) -> Halt<'a>
-    ensures { SpoiltWhere (SaysMesh refusal) result }
+    ensures { StopsWhere (SaysMesh refusal) result }
 {
     let (number, line) = match refusal {
         MeshRefusal::Header { line } => (1, line),
@@ -57,7 +57,7 @@ fn misspelled<'a>(refusal: MeshRefusal) -> Halt<'a>
 
 // A size beyond its limit.
 fn beyond<'a>(limit: Limit, size: u64) -> Halt<'a>
-    ensures { SpoiltWhere (λ r. r ≡ answer.BeyondLimit (limit_in limit) size) result }
+    ensures { StopsWhere (λ r. r ≡ answer.BeyondLimit (limit_in limit) size) result }
 {
     Halt::Refused(Refusal::BeyondLimit { limit, size })
 }
@@ -73,7 +73,7 @@ pub fn bound_of<'a>(
     requires entries { (text : List ℕ) × Spells text entries.now.entries }
     ensures ok { IfOk result (λ b. BoundIs (program_of program.now) resolved entries.now.entries (Ok (values.bound_of b))) }
     ensures fits { IfOk result (λ b. Fits (values.bound_of b)) }
-    ensures err { IfErr result (SpoiltWhere (λ r. BoundIs (program_of program.now) resolved entries.now.entries (Err r))) }
+    ensures err { IfErr result (StopsWhere (λ r. BoundIs (program_of program.now) resolved entries.now.entries (Err r))) }
 {
     match bind(alloc, program, resolved, entries) {
         Ok(bound) => Ok(bound),
@@ -83,7 +83,7 @@ pub fn bound_of<'a>(
 
 // A source that can't be bound.
 fn unbound<'a>(alloc: Global, program: &Program, refusal: BindRefusal) -> Halt<'a>
-    ensures { SpoiltWhere (SaysBinding (program_of program.now) refusal) result }
+    ensures { StopsWhere (SaysBinding (program_of program.now) refusal) result }
 {
     let (number, at) = match refusal {
         BindRefusal::UnknownSet { at } => (1, at),
@@ -138,7 +138,7 @@ fn misled<'a>(
     element: u32,
     place: u32,
 ) -> Halt<'a>
-    ensures { SpoiltWhere (λ r. r ≡ answer.BadTarget at (map_name (program_of program.now) map) element place) result }
+    ensures { StopsWhere (λ r. r ≡ answer.BadTarget at (map_name (program_of program.now) map) element place) result }
 {
     match copied_name(alloc, map_name(&program.main.body, map)) {
         Ok(map) => Halt::Refused(Refusal::BadTarget {

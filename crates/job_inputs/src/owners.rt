@@ -1,7 +1,8 @@
 // New numbers and owners, as they are asked for.
 
-ghost use Rattle.std.specs.Prelude.{◌≡◌, ◌≤◌, ◌↔◌, ℕ, List, All, Some, None, length, option_map, Ok, Err, IfOk, IfErr, IfSome, OnOk};
+ghost use Rattle.std.specs.Prelude.{◌≡◌, ◌≤◌, ◌↔◌, ℕ, List, All, length, Ok, Err, IfOk, IfErr, OnOk};
 ghost use Rattle.op_outside.specs.Outside.{Rose};
+ghost use Rattle.kept_files.specs.Readings.{AreNext, HaveCome, Finds};
 ghost use Rattle.mesh_decl.specs.Owners.{AreOwners, ArePerms};
 ghost use Rattle.distribute.specs.Parts.{Text, parts_of, UnownedWhere};
 ghost use Rattle.distribute.specs.declared.types.OwnersRefusal.TheVariants as unowned;
@@ -10,19 +11,20 @@ ghost use Rattle.answers.specs.Said.{SaysPartition, SaysOwners};
 ghost use Rattle.answer_lines.specs.declared.limits.TheConstants.{PARTITION_BYTES};
 ghost use Rattle.command_words.specs.Words.{names_by};
 ghost use Rattle.command_words.specs.Laws.{AreWithin};
-ghost use Rattle.command_words.specs.Refusal.{PartitionBytes};
-ghost use Rattle.answers.specs.Judgements.{IsHeld, NumbersOf, OwnersOf};
+ghost use Rattle.answers.specs.Judgements.{NumbersOf, PartsOf, OwnersOf};
 ghost use Rattle.command_words.specs.Values.{parting_in, options_in};
 ghost use Rattle.answer_lines.specs.declared.refusals.Failure.TheVariants.{OutOfMemory};
 ghost use Rattle.answer_lines.specs.declared.refusals.Halt.TheVariants.{Failed};
-ghost use Rattle.answer_lines.specs.Halts.{SpoiltWhere};
-ghost use Rattle.job_inputs.specs.Inputs.{parts_by, HoldsParts, IsFilePart, IsPartUnread};
+ghost use Rattle.answer_lines.specs.Halts.{StopsWhere};
+ghost use Rattle.job_inputs.specs.Inputs.{parts_by};
+ghost use Rattle.job_inputs.specs.Chains.{HaltsOver};
 
 use crate::files::file_of;
-use answer_lines::{Failure, Halt, Limit, PARTITION_BYTES, Refusal};
+use answer_lines::{Failure, Halt, Limit, Refusal};
 use bound_program::Bound;
 use command_words::{Options, Parting};
 use distribute::{NumbersRefusal, OwnersRefusal, PartRefusal, Parts, numbers_by, owners_by};
+use kept_files::Kept;
 use mesh_decl::{Owners, Perms};
 use op_outside::Shelf;
 use std::alloc::Global;
@@ -37,7 +39,7 @@ pub fn numbers_of<'a>(
 ) -> Result<Perms, Halt<'a>>
     ensures ok { IfOk result (λ p. NumbersOf (options_in options.now) (bound_of bound.now) (Ok p)) }
     ensures fit { IfOk result (ArePerms (bound_of bound.now).mesh) }
-    ensures err { IfErr result (SpoiltWhere (λ r. NumbersOf (options_in options.now) (bound_of bound.now) (Err r))) }
+    ensures err { IfErr result (StopsWhere (λ r. NumbersOf (options_in options.now) (bound_of bound.now) (Err r))) }
 {
     match numbers_by(alloc, &bound.mesh, options.renumber) {
         Ok(perms) => Ok(perms),
@@ -48,7 +50,7 @@ pub fn numbers_of<'a>(
 
 // A text that spells no owners of the mesh.
 fn unspelled<'a>(refusal: PartRefusal) -> Halt<'a>
-    ensures { SpoiltWhere (SaysPartition refusal) result }
+    ensures { StopsWhere (SaysPartition refusal) result }
 {
     let (number, line) = match refusal {
         PartRefusal::Header { line } => (1, line),
@@ -64,7 +66,7 @@ fn unspelled<'a>(refusal: PartRefusal) -> Halt<'a>
 
 // Owners that aren't there.
 fn unowned<'a>(refusal: OwnersRefusal<'a>) -> Halt<'a>
-    ensures says { UnownedWhere (λ r. SpoiltWhere (SaysOwners r) result) refusal.entry }
+    ensures says { UnownedWhere (λ r. StopsWhere (SaysOwners r) result) refusal.entry }
     ensures memory { refusal.entry ≡ unowned.OutOfMemory → result ≡ Failed OutOfMemory }
 {
     match refusal {
@@ -85,7 +87,7 @@ fn owners_by_rule<'a>(
     requires within { AreWithin (options_in options.now) }
     ensures ok { IfOk result (λ u. OwnersOf (options_in options.now) (bound_of bound.now) (parts_of rule.now) (Ok u)) }
     ensures fit { IfOk result (AreOwners (bound_of bound.now).mesh) }
-    ensures err { IfErr result (SpoiltWhere (λ r. OwnersOf (options_in options.now) (bound_of bound.now) (parts_of rule.now) (Err r))) }
+    ensures err { IfErr result (StopsWhere (λ r. OwnersOf (options_in options.now) (bound_of bound.now) (parts_of rule.now) (Err r))) }
 {
     if !rule.has_lines() {
         return Err(Halt::Failed(Failure::OutOfMemory));
@@ -107,12 +109,14 @@ fn owners_by_text<'a>(
     requires few { length bytes.now ≤ PARTITION_BYTES }
     ensures ok { IfOk result (λ u. OwnersOf (options_in options.now) (bound_of bound.now) (Text bytes.now) (Ok u)) }
     ensures fit { IfOk result (AreOwners (bound_of bound.now).mesh) }
-    ensures err { IfErr result (SpoiltWhere (λ r. OwnersOf (options_in options.now) (bound_of bound.now) (Text bytes.now) (Err r))) }
+    ensures err { IfErr result (StopsWhere (λ r. OwnersOf (options_in options.now) (bound_of bound.now) (Text bytes.now) (Err r))) }
 {
     match owners_by(alloc, &bound.mesh, options.ranks, &Parts::Text(bytes)) {
         Ok(owners) => Ok(owners),
         Err(OwnersRefusal::Text(refusal)) => Err(unspelled(refusal)),
-        Err(_) => Err(Halt::Failed(Failure::OutOfMemory)),
+        Err(OwnersRefusal::OutOfMemory) => Err(Halt::Failed(Failure::OutOfMemory)),
+        Err(OwnersRefusal::UnknownDat(_)) => unreachable!(),
+        Err(OwnersRefusal::UnknownMap(_)) => unreachable!(),
     }
 }
 
@@ -132,7 +136,7 @@ pub fn owners_of<'a>(
     ensures ok { IfOk result (λ u. OwnersOf (options_in options.now) (bound_of bound.now)
         (parts_by (options_in options.now).parting text.now) (Ok u)) }
     ensures fit { IfOk result (AreOwners (bound_of bound.now).mesh) }
-    ensures err { IfErr result (SpoiltWhere (λ r. OwnersOf (options_in options.now) (bound_of bound.now)
+    ensures err { IfErr result (StopsWhere (λ r. OwnersOf (options_in options.now) (bound_of bound.now)
         (parts_by (options_in options.now).parting text.now) (Err r))) }
 {
     match options.parting {
@@ -141,48 +145,30 @@ pub fn owners_of<'a>(
     }
 }
 
-// What a file holds, where it isn't longer than a partition may be.
-fn within_limit<'a>(bytes: Vec<u8>) -> Result<Vec<u8>, Halt<'a>>
-    ensures ok { IfOk result (λ v. (v.items ≡ bytes.items) × (length v.items ≤ PARTITION_BYTES)) }
-    ensures err { IfErr result (λ h. (name : List ℕ) → SpoiltWhere (λ r. IsHeld PartitionBytes name (Some bytes.items) (Err r)) h) }
-{
-    let size = bytes.len() as u64;
-    if size > PARTITION_BYTES {
-        return Err(Halt::Refused(Refusal::BeyondLimit {
-            limit: Limit::PartitionBytes,
-            size: PARTITION_BYTES + 1,
-        }));
-    }
-    Ok(bytes)
-}
-
-/// What the file holds that tells the owners, or nothing where none does. `kept` has the bytes of that file where it was read before,
-/// as the source or the mesh, and it isn't read again.
+/// What the file holds that tells the owners, which is the next in `kept` then; nothing where none does.
 ///
 /// Refused are a file that isn't there, and one with more than `PARTITION_BYTES` bytes. A file that could not be read is a failure,
 /// where the shelf's count of faults rose, and so is want of memory.
 pub fn partition_of<'a, F: Shelf>(
     alloc: Global,
     shelf: &mut F,
+    kept: &mut Kept<'a>,
     parting: Parting<'a>,
-    kept: Option<Vec<u8>>,
 ) -> Result<Vec<u8>, Halt<'a>>
     requires lent { All (λ name. F.lends shelf.old name) (names_by (parting_in parting)) }
+    requires next { AreNext (names_by (parting_in parting)) kept.old }
     ensures told { F.told shelf.new ≡ F.told shelf.old }
     ensures lends { (n : List ℕ) → F.lends shelf.old n ↔ F.lends shelf.new n }
     ensures calm { OnOk result (F.faults shelf.new ≡ F.faults shelf.old) }
-    ensures read { IfOk result (λ v. option_map (λ w. w.items) kept ≡ None
-        → IfSome (F.told shelf.old) (HoldsParts (parting_in parting.entry) v.items)) }
-    ensures again { IfOk result (λ v. IfSome (option_map (λ w. w.items) kept) (λ w. IsFilePart (parting_in parting.entry) → v.items ≡ w)) }
+    ensures come { OnOk result (HaveCome (names_by (parting_in parting.entry)) kept.old kept.new) }
+    ensures read { IfOk result (λ v. Finds (F.told shelf.old) kept.old kept.new
+        (λ files. PartsOf (parting_in parting.entry) files (Ok (parts_by (parting_in parting.entry) v.items)))) }
     ensures fits { IfOk result (λ v. length v.items ≤ PARTITION_BYTES) }
-    ensures err { IfErr result (λ h. IsPartUnread (parting_in parting.entry) (option_map (λ w. w.items) kept) (F.told shelf.old)
-        (Rose (F.faults shelf.old) (F.faults shelf.new)) h) }
+    ensures err { IfErr result (HaltsOver (F.told shelf.old) kept.old (λ files r. PartsOf (parting_in parting.entry) files (Err r))
+        (Rose (F.faults shelf.old) (F.faults shelf.new))) }
 {
-    let Parting::ByFile(name) = parting else {
-        return Ok(Vec::new(alloc));
-    };
-    match kept {
-        Some(bytes) => within_limit(bytes),
-        None => file_of(alloc, shelf, name, Limit::PartitionBytes),
+    match parting {
+        Parting::ByRule(_) => Ok(Vec::new(alloc)),
+        Parting::ByFile(name) => file_of(alloc, shelf, kept, name, Limit::PartitionBytes),
     }
 }

@@ -5,7 +5,7 @@ ghost use Rattle.c_tree.specs.View.{program_of};
 ghost use Rattle.answers.specs.Judgements.{TreeIs, TypesAre};
 ghost use Rattle.answers.specs.Said.{SaysLex, SaysSource, SaysTypes};
 ghost use Rattle.answer_lines.specs.declared.limits.TheConstants.{SOURCE_BYTES};
-ghost use Rattle.answer_lines.specs.Halts.{SpoiltWhere};
+ghost use Rattle.answer_lines.specs.Halts.{StopsWhere};
 
 use answer_lines::{Failure, Halt, Refusal};
 use c_reader::{SourceRefusal, read_program};
@@ -14,11 +14,14 @@ use kernel_types::Resolved;
 use name_resolution::{TypeRefusal, resolve};
 use std::alloc::Global;
 
-/// The tree of the source.
+/// The tree of the source; it has at most `SOURCE_BYTES` bytes.
+///
+/// A source without one is refused, with the place where it can't be read, and one whose tree has too many levels. Want of
+/// memory is the one failure.
 pub fn tree_of<'a>(alloc: Global, source: &[u8]) -> Result<Program, Halt<'a>>
     requires { length source.now ≤ SOURCE_BYTES }
     ensures ok { IfOk result (λ p. TreeIs source.now (Ok (program_of p))) }
-    ensures err { IfErr result (SpoiltWhere (λ r. TreeIs source.now (Err r))) }
+    ensures err { IfErr result (StopsWhere (λ r. TreeIs source.now (Err r))) }
 {
     match read_program(alloc, source) {
         Ok(program) => Ok(program),
@@ -28,7 +31,7 @@ pub fn tree_of<'a>(alloc: Global, source: &[u8]) -> Result<Program, Halt<'a>>
 
 // A source without a tree.
 fn unread<'a>(refusal: SourceRefusal) -> Halt<'a>
-    ensures { SpoiltWhere (SaysSource refusal) result }
+    ensures { StopsWhere (SaysSource refusal) result }
 {
     match refusal {
         SourceRefusal::Lex(refusal) => unlexed(refusal),
@@ -39,8 +42,8 @@ fn unread<'a>(refusal: SourceRefusal) -> Halt<'a>
 }
 
 // A source without tokens.
-fn unlexed<'a>(refusal: LexRefusal) -> Halt<'a>
-    ensures { SpoiltWhere (SaysLex refusal) result }
+pub(crate) fn unlexed<'a>(refusal: LexRefusal) -> Halt<'a>
+    ensures { StopsWhere (SaysLex refusal) result }
 {
     let (number, at) = match refusal {
         LexRefusal::BadByte { at } => (1, at),
@@ -55,7 +58,7 @@ fn unlexed<'a>(refusal: LexRefusal) -> Halt<'a>
 /// The kernels and constants of the source, with each name resolved.
 pub fn types_of<'a>(alloc: Global, program: &Program) -> Result<Resolved, Halt<'a>>
     ensures ok { IfOk result (λ types. TypesAre (program_of program.now) (Ok types)) }
-    ensures err { IfErr result (SpoiltWhere (λ r. TypesAre (program_of program.now) (Err r))) }
+    ensures err { IfErr result (StopsWhere (λ r. TypesAre (program_of program.now) (Err r))) }
 {
     match resolve(alloc, program) {
         Ok(resolved) => Ok(resolved),
@@ -65,7 +68,7 @@ pub fn types_of<'a>(alloc: Global, program: &Program) -> Result<Resolved, Halt<'
 
 // A source that breaks a rule on names and types.
 fn unresolved<'a>(refusal: TypeRefusal) -> Halt<'a>
-    ensures { SpoiltWhere (SaysTypes refusal) result }
+    ensures { StopsWhere (SaysTypes refusal) result }
 {
     let (number, at) = match refusal {
         TypeRefusal::UnknownName { at } => (1, at),

@@ -1,37 +1,21 @@
 -- From a bound program to what is answered over its files.
-use Rattle.std.proofs.Common.{◌≡◌, ℕ, inl, inr, zero, suc, arith, Bool, true, false, List, [], ◌∷◌, ◌++◌, Option, None, Some, Result, Ok, Err, refl, ap, sym}
-use Rattle.std.specs.List.{Contains}
-use Rattle.std.specs.Str.{bytes_eq}
-use Rattle.std.proofs.lemmas.Slice.Eq.{bytes_eq-Decides}
+use Rattle.std.proofs.Common.{◌≡◌, ℕ, inl, inr, List, [], ◌∷◌, ◌++◌, Option, Result, Ok, Err, refl, ap, sym, subst, ◌∙◌, append_assoc}
+use Rattle.std.proofs.lemmas.List.{append-nil}
 use Rattle.op_outside.specs.Outside.{Files}
+use Rattle.kept_files.specs.Readings.{Readings, names_of, readings_of, AreNext, HaveCome, Finds}
 use Rattle.bound_program.specs.Values.{BoundValue}
-use Rattle.command_words.specs.Refusal.{Refusal, CannotRead}
+use Rattle.command_words.specs.Refusal.{Limit}
 use Rattle.answer_lines.specs.Lines as lines
 use Rattle.answer_lines.specs.Lines.{refused}
-use Rattle.command_words.specs.Words.{Input, InFiles, OfSample, names_from}
-use Rattle.answers.specs.Judgements.{SourceIs, MeshIs, TreeIs, TypesAre, EntriesAre, BoundIs, AccessesAre}
-use Rattle.answers.specs.Answers.{given, without, BoundAnswers}
-use Rattle.answers.specs.Endings.{no_files}
+use Rattle.command_words.specs.Words.{PlanJob, Options, Input, names_from, names_by, names_at}
+use Rattle.answers.specs.Judgements.{IsHeld, SourceIs, MeshIs, TreeIs, TypesAre, EntriesAre, BoundIs, AccessesAre}
+use Rattle.answers.specs.Answers.{given, BoundAnswers, PlannedAnswers, PlanAnswers}
 use Rattle.answer_lines.specs.declared.call_answer.Answer.{Answer}
-use Rattle.answer_lines.specs.declared.refusals.Failure.TheVariants.{Unread, OutOfMemory}
 use Rattle.answer_lines.specs.declared.refusals.Halt.{Halt}
-use Rattle.answer_lines.specs.declared.refusals.Halt.TheVariants.{Refused, Failed}
-use Rattle.answer_lines.specs.Halts.{refusal_of, answer_of}
-use Rattle.job_inputs.specs.Inputs.{IsBoundIn, IsBoundWith}
-use Rattle.job_inputs.specs.Chains.{Never, Known, Tell, Holds, Over, AsksFor, AnswersOver, AnswersIn}
-use Rattle.op2_command.specs.Chains.{AsksBehind}
-use Rattle.job_inputs.proofs.Chained.{contains_later}
-use Rattle.op2_command.proofs.Chained.{asks_weaker}
-
--- ---- what follows of answers
-
-pub given_weaker : {A : Type 0} (J : Result A Refusal → Type 0) (f g : A → lines.Answer → Type 0)
-    → ((x : A) (a : lines.Answer) → f x a → g x a)
-    → (a : lines.Answer)
-    → given J f a
-    → given J g a
-given_weaker J f g step a (inl h) = inl h
-given_weaker J f g step a (inr h) = inr (h.0, h.1, step h.0 a h.2)
+use Rattle.job_inputs.specs.Inputs.{IsBoundIn}
+use Rattle.job_inputs.specs.Chains.{Never, AnswersBy, HaltsOver, AnswersFrom, AnswersOver}
+use Rattle.job_inputs.proofs.Chained.{SomeAreSeen, halts_weaker, answers_on, answers_by, still_named, names_are, to_whole}
+use Rattle.op2_command.proofs.Chained.{given_weaker}
 
 -- refusals that come before a bound program stay, whatever is answered of it
 never_weaker : (rest : BoundValue → lines.Answer → Type 0) (input : Input) (files : Files) (a : lines.Answer)
@@ -46,131 +30,74 @@ never_weaker rest input files =
     given_weaker (BoundIs p types es) _ _ (λ b.
     given_weaker (AccessesAre b) _ _ (λ u a h. absurd h)))))))
 
--- ---- names of files
+-- what is answered of a bound program is answered over its files
+reached : (rest : BoundValue → lines.Answer → Type 0) (input : Input) (b : BoundValue) (files : Files) (a : lines.Answer) → IsBoundIn input b files
+    → rest b a
+    → BoundAnswers rest input files a
+reached rest input b files a h k =
+    inr (h.bytes, h.held, inr (h.program, h.read, inr (h.types, h.typed, inr (h.text, h.there, inr (h.over.entries, h.over.spelled, inr (b, h.over.is, inr (tt, h.over.obeyed, k)))))))
 
-nil_left : (xs ys : List (List ℕ)) → xs ++ ys ≡ [] → xs ≡ []
-nil_left [] ys e = refl
-nil_left (x ∷ xs) ys e = absurd (let w : x ∷ (xs ++ ys) ≡ [] = e in cc)
+-- ---- a job on a plan
 
-nil_right : (xs ys : List (List ℕ)) → xs ++ ys ≡ [] → ys ≡ []
-nil_right [] ys e = e
-nil_right (x ∷ xs) ys e = absurd (let w : x ∷ (xs ++ ys) ≡ [] = e in cc)
+module _ (told : Option Files) (rose : Type 0) (j : PlanJob) (o : Options) (input : Input) (kept : Readings) where
+  abbrev all_names : List (List ℕ)
+  all_names = names_from input ++ names_by o.parting ++ names_at o.schedule
 
-pub tell_left : (told : Option Files) (xs ys : List (List ℕ)) (files : Files) → Tell told (xs ++ ys) files → Tell told xs files
-tell_left told xs ys files (inl e) = inl e
-tell_left told xs ys files (inr e) = inr (nil_left xs ys e)
-
-pub tell_right : (told : Option Files) (xs ys : List (List ℕ)) (files : Files) → Tell told (xs ++ ys) files → Tell told ys files
-tell_right told xs ys files (inl e) = inl e
-tell_right told xs ys files (inr e) = inr (nil_right xs ys e)
-
-pub contains_left : (xs ys : List (List ℕ)) (name : List ℕ) → Contains xs name → Contains (xs ++ ys) name
-contains_left [] ys name (k, below, is) = absurd (omega (arith, below))
-contains_left (x ∷ xs) ys name (zero, below, is) = (zero, omega arith, is)
-contains_left (x ∷ xs) ys name (suc k, below, is) = contains_later x name (xs ++ ys) (contains_left xs ys name (k, omega (arith, below), is))
-
-pub contains_right : (xs ys : List (List ℕ)) (name : List ℕ) → Contains ys name → Contains (xs ++ ys) name
-contains_right [] ys name c = c
-contains_right (x ∷ xs) ys name c = contains_later x name (xs ++ ys) (contains_right xs ys name c)
-
--- the kernels of a bound program keep to their accesses
-pub bound_obeys : (told : Option Files) (input : Input) (again kept : Option (List ℕ)) (b : BoundValue)
-    → Known told (names_from input) (IsBoundWith input again b kept)
-    → AccessesAre b (Ok tt)
-bound_obeys None input again kept b known = (known.some refl).1.bound.over.obeyed
-bound_obeys (Some files) input again kept b known = (known.all files (inl refl)).bound.over.obeyed
-
--- ---- from a bound program on
-
-module _ (rest : Files → BoundValue → lines.Answer → Type 0) (input : Input) where
-  -- what is answered over these files
-  abbrev Whole : Files → lines.Answer → Type 0
-  Whole files = BoundAnswers (rest files) input files
-
-  reached : (b : BoundValue) (files : Files) (a : lines.Answer) → IsBoundIn input b files → rest files b a → Whole files a
-  reached b files a h k =
-      inr (h.bytes, h.held, inr (h.program, h.read, inr (h.types, h.typed, inr (h.text, h.there, inr (h.over.entries, h.over.spelled, inr (b, h.over.is, inr (tt, h.over.obeyed, k)))))))
-
-  pub halted_in : (told : Option Files) (names : List (List ℕ)) (rose : Type 0) (h : Halt)
-      → AnswersIn told (names_from input) (BoundAnswers Never input) (AsksFor told (BoundAnswers Never input)) rose (Err h)
-      → AnswersIn told (names_from input ++ names) Whole (AsksFor told Whole) rose (Err h)
-  halted_in told names rose (Refused r) k = record {
-    all = λ files t. never_weaker (rest files) input files (refused (refusal_of r)) (k.all files (tell_left told (names_from input) names files t));
-    some = k.some;
-  }
-  halted_in told names rose (Failed (Unread n)) k = (
-    k.0,
-    contains_left (names_from input) names n.now k.1,
-    asks_weaker told (BoundAnswers Never input) Whole n.now (λ files. never_weaker (rest files) input files) k.2,
+  -- these are to be read
+  pub awaited_next : kept ≡ readings_of all_names → AreNext (names_from input) kept
+  awaited_next e = (
+    names_by o.parting ++ names_at o.schedule,
+    ap names_of e ∙ (names_are all_names ∙ append_assoc (names_from input) (names_by o.parting) (names_at o.schedule)),
   )
-  halted_in told names rose (Failed OutOfMemory) k = tt
 
--- a file that is asked for behind the bound program is asked for by the whole
-asked : (rest : Files → BoundValue → lines.Answer → Type 0) (input : Input) (b : BoundValue) (name : List ℕ) (files : Files) → IsBoundIn input b files
-    → rest (without name files) b (refused (CannotRead name))
-    → Whole rest input (without name files) (refused (CannotRead name))
-asked rest (OfSample side) b name files h k =
-    reached rest (OfSample side) b (without name files) (refused (CannotRead name))
-    (record { bytes = h.bytes; program = h.program; types = h.types; text = h.text; held = h.held; read = h.read; typed = h.typed; there = h.there; over = h.over }) k
-asked rest (InFiles source mesh) b name files h k = by_source (bytes_eq source name) refl
-  where
-    by_mesh : (y : Bool) → bytes_eq source name ≡ false → bytes_eq mesh name ≡ y → Whole rest (InFiles source mesh) (without name files) (refused (CannotRead name))
-    by_mesh true e f =
-        let same : mesh ≡ name = (bytes_eq-Decides mesh name).0 f in
-        inr (h.bytes, rw e h.held, inr (h.program, h.read, inr (h.types, h.typed, inl (CannotRead mesh, rw f refl, ap (λ n. refused (CannotRead n)) (sym same)))))
-    by_mesh false e f =
-        reached rest (InFiles source mesh) b (without name files) (refused (CannotRead name))
-        (record { bytes = h.bytes; program = h.program; types = h.types; text = h.text; held = rw e h.held; read = h.read; typed = h.typed; there = rw f h.there; over = h.over }) k
+  -- and behind the source and the mesh these
+  pub planned_next : (mid : Readings) → kept ≡ readings_of all_names → HaveCome (names_from input) kept mid
+      → AreNext (names_by o.parting ++ names_at o.schedule) mid
+  unfolding awaited_next
+  planned_next mid e come =
+      let n = awaited_next e in
+      ([], come n.0 n.1 ∙ sym (append-nil (names_by o.parting ++ names_at o.schedule)))
 
-    by_source : (x : Bool) → bytes_eq source name ≡ x → Whole rest (InFiles source mesh) (without name files) (refused (CannotRead name))
-    by_source true e = (let same : source ≡ name = (bytes_eq-Decides source name).0 e in inl (CannotRead source, rw e refl, ap (λ n. refused (CannotRead n)) (sym same)))
-    by_source false e = by_mesh (bytes_eq mesh name) e refl
+  module _ (some : SomeAreSeen) (is : kept ≡ readings_of all_names) where
+    whole : (r : Result Answer Halt) → AnswersFrom told kept (PlanAnswers j o input) rose r → AnswersOver told all_names (PlanAnswers j o input) rose r
+    whole r h = to_whole told rose some all_names (PlanAnswers j o input) r (subst (λ rs. AnswersFrom told rs (PlanAnswers j o input) rose r) is h)
 
-module _ (rest : Files → BoundValue → lines.Answer → Type 0) (input : Input) (b : BoundValue) (again kept : Option (List ℕ)) where
-  abbrev Rest : Files → lines.Answer → Type 0
-  Rest files = rest files b
+    pub plan_halted : (h : Halt) → HaltsOver told kept (λ files r. BoundAnswers Never input files (refused r)) rose h
+        → AnswersOver told all_names (PlanAnswers j o input) rose (Err h)
+    plan_halted h k =
+        whole (Err h)
+        (halts_weaker told rose kept (λ files r. BoundAnswers Never input files (refused r)) (λ files r. PlanAnswers j o input files (refused r)) h
+        (λ files r. never_weaker (PlannedAnswers j o files) input files (refused r)) k)
 
-  behind_asked : (told : Option Files) (n : List ℕ)
-      → Known told (names_from input) (IsBoundWith input again b kept)
-      → AsksBehind told input again b kept Rest n
-      → AsksFor told (Whole rest input) n
-  behind_asked (Some files) n known k = asked rest input b n files (known.all files (inl refl)).bound k
-  behind_asked None n known k =
-      let f = known.some refl in
-      let w = k f.0 f.1 in
-      (w.0, asked rest input b n w.0 w.1 w.2)
+    pub plan_answered : (mid : Readings) (b : BoundValue) (r : Result Answer Halt) → Finds told kept mid (IsBoundIn input b)
+        → HaveCome (names_from input) kept mid
+        → AnswersFrom told mid (λ files. PlannedAnswers j o files b) rose r
+        → AnswersOver told all_names (PlanAnswers j o input) rose r
+    plan_answered mid b r found come h =
+        whole r
+        (answers_on told rose kept mid (IsBoundIn input b) found (λ files. PlannedAnswers j o files b) (PlanAnswers j o input) r
+        (still_named (names_from input) kept mid (awaited_next is) come)
+        (λ files a bound x. reached (PlannedAnswers j o files) input b files a bound x) h)
 
-  held_whole : (told : Option Files) (names : List (List ℕ)) (a : lines.Answer)
-      → Known told (names_from input) (IsBoundWith input again b kept)
-      → Holds told names Rest a
-      → Holds told (names_from input ++ names) (Whole rest input) a
-  held_whole told names a known h = record {
-    all = λ files t. reached rest input b files a (known.all files (tell_left told (names_from input) names files t)).bound
-        (h.all files (tell_right told (names_from input) names files t));
-    some = h.some;
-  }
+-- ---- the answer to what one file holds
 
-  pub bound_answered : (told : Option Files) (names : List (List ℕ)) (rose : Type 0) (r : Result Answer Halt)
-      → Known told (names_from input) (IsBoundWith input again b kept)
-      → AnswersIn told names Rest (AsksBehind told input again b kept Rest) rose r
-      → AnswersIn told (names_from input ++ names) (Whole rest input) (AsksFor told (Whole rest input)) rose r
-  bound_answered told names rose (Ok a) known h = held_whole told names (answer_of a) known h
-  bound_answered told names rose (Err (Refused r)) known h = held_whole told names (refused (refusal_of r)) known h
-  bound_answered told names rose (Err (Failed (Unread n))) known h =
-      (h.0, contains_right (names_from input) names n.now h.1, behind_asked told n.now known h.2)
-  bound_answered told names rose (Err (Failed OutOfMemory)) known h = tt
+module _ (told : Option Files) (rose : Type 0) (limit : Limit) (name : List ℕ) (Q : List ℕ → lines.Answer → Type 0) (some : SomeAreSeen) where
+  -- what is answered over the files
+  abbrev FileAnswers : Files → lines.Answer → Type 0
+  FileAnswers files = given (IsHeld limit name (files name)) Q
 
--- ---- to the whole
+  pub file_unread : (h : Halt) → HaltsOver told (readings_of (name ∷ [])) (λ files r. IsHeld limit name (files name) (Err r)) rose h
+      → AnswersOver told (name ∷ []) FileAnswers rose (Err h)
+  file_unread h k =
+      to_whole told rose some (name ∷ []) FileAnswers (Err h)
+      (halts_weaker told rose (readings_of (name ∷ [])) (λ files r. IsHeld limit name (files name) (Err r)) (λ files r. FileAnswers files (refused r)) h
+      (λ files r i. inl (r, i, refl)) k)
 
-held_over : (told : Option Files) (names : List (List ℕ)) (P : Files → lines.Answer → Type 0) (a : lines.Answer) → Holds told names P a → Over told names P a
-held_over (Some files) names P a h = h.all files (inl refl)
-held_over None [] P a h = h.all no_files (inr refl)
-held_over None (n ∷ ns) P a h = h.some refl
-
-pub in_over : (told : Option Files) (names : List (List ℕ)) (P : Files → lines.Answer → Type 0) (rose : Type 0) (r : Result Answer Halt)
-    → AnswersIn told names P (AsksFor told P) rose r
-    → AnswersOver told names P rose r
-in_over told names P rose (Ok a) h = held_over told names P (answer_of a) h
-in_over told names P rose (Err (Refused r)) h = held_over told names P (refused (refusal_of r)) h
-in_over told names P rose (Err (Failed (Unread n))) h = h
-in_over told names P rose (Err (Failed OutOfMemory)) h = tt
+  pub file_answered : (bytes : List ℕ) (r : Result Answer Halt)
+      → Finds told (readings_of (name ∷ [])) [] (λ files. IsHeld limit name (files name) (Ok bytes))
+      → AnswersBy (Q bytes) r
+      → AnswersOver told (name ∷ []) FileAnswers rose r
+  file_answered bytes r found h =
+      to_whole told rose some (name ∷ []) FileAnswers r
+      (answers_by told rose (readings_of (name ∷ [])) [] (λ files. IsHeld limit name (files name) (Ok bytes)) found (Q bytes) FileAnswers r
+      (λ files a held x. inr (bytes, held, x)) h)

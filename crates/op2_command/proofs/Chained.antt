@@ -1,24 +1,34 @@
 -- From the parts of the chain of judgements to the answer to the words.
-use Rattle.std.proofs.Common.{ℕ, inl, inr, List, [], ◌∷◌, Option, None, Some, Result, Ok, Err, IfOk, refl, ap, sym, subst}
+use Rattle.std.proofs.Common.{ℕ, inl, inr, List, [], Option, None, Some, Result, Ok, Err, IfOk, refl, ap, sym, subst}
 use Rattle.op_outside.specs.Outside.{Files}
-use Rattle.command_words.specs.Refusal.{CannotRead}
+use Rattle.command_words.specs.Refusal.{Refusal, CannotRead}
 use Rattle.answer_lines.specs.Lines as lines
 use Rattle.answer_lines.specs.Lines.{refused}
 use Rattle.command_words.specs.Words.{Command, WordsAre, names_of, named_by, names_in}
-use Rattle.answers.specs.Answers.{without, CommandAnswers, Answers}
-use Rattle.answers.specs.Endings.{Tells, TellsUntold, no_files}
+use Rattle.answers.specs.Answers.{given, without, CommandAnswers, Answers}
+use Rattle.answers.specs.Endings.{Tells, Asks}
 use Rattle.answer_lines.specs.declared.call_answer.Answer.{Answer}
+use Rattle.answer_lines.specs.declared.refusals.Failure.{Failure}
 use Rattle.answer_lines.specs.declared.refusals.Failure.TheVariants.{Unread, OutOfMemory}
 use Rattle.answer_lines.specs.declared.refusals.Halt.{Halt}
 use Rattle.answer_lines.specs.declared.refusals.Halt.TheVariants.{Refused, Failed}
-use Rattle.answer_lines.specs.Halts.{refusal_of, StopsWhere, answer_of}
-use Rattle.job_inputs.specs.Chains.{IsAnswered, AnswersBy, Over, AsksFor, AnswersOver}
-use Rattle.answer_lines.proofs.Halts.{stops_weaker}
+use Rattle.answer_lines.specs.Halts.{refusal_of, answer_of, StopsWhere}
+use Rattle.job_inputs.specs.Chains.{Over, AsksFor, AnswersOver}
+use Rattle.op2_command.specs.Writes.{CallAnswers}
 
 -- what is so of a value, where it follows
 pub if_ok_weaker : {X E : Type 0} (r : Result X E) (P Q : X → Type 0) → ((x : X) → P x → Q x) → IfOk r P → IfOk r Q
 if_ok_weaker (Ok x) P Q step h = step x h
 if_ok_weaker (Err e) P Q step h = tt
+
+-- what follows of answers
+pub given_weaker : {A : Type 0} (J : Result A Refusal → Type 0) (f g : A → lines.Answer → Type 0)
+    → ((x : A) (a : lines.Answer) → f x a → g x a)
+    → (a : lines.Answer)
+    → given J f a
+    → given J g a
+given_weaker J f g step a (inl h) = inl h
+given_weaker J f g step a (inr h) = inr (h.0, h.1, step h.0 a h.2)
 
 -- ---- the words
 
@@ -28,15 +38,7 @@ over_weaker : (told : Option Files) (names : List (List ℕ)) (P Q : Files → l
     → Over told names P a
     → Over told names Q a
 over_weaker (Some files) names P Q a step h = step files h
-over_weaker None [] P Q a step h = step no_files h
-over_weaker None (n ∷ ns) P Q a step h = h
-
-pub asks_weaker : (told : Option Files) (P Q : Files → lines.Answer → Type 0) (name : List ℕ)
-    → ((files : Files) (a : lines.Answer) → P files a → Q files a)
-    → AsksFor told P name
-    → AsksFor told Q name
-asks_weaker (Some files) P Q name step h = step (without name files) (refused (CannotRead name)) h
-asks_weaker None P Q name step h = (h.0, step (without name h.0) (refused (CannotRead name)) h.1)
+over_weaker None names P Q a step h = (h.0, h.1, step h.0 h.2)
 
 weaker : (told : Option Files) (names : List (List ℕ)) (P Q : Files → lines.Answer → Type 0) (rose : Type 0) (r : Result Answer Halt)
     → ((files : Files) (a : lines.Answer) → P files a → Q files a)
@@ -45,8 +47,28 @@ weaker : (told : Option Files) (names : List (List ℕ)) (P Q : Files → lines.
 weaker told names P Q rose (Ok a) step h = over_weaker told names P Q (answer_of a) (λ files. step files (answer_of a)) h
 weaker told names P Q rose (Err (Refused r)) step h =
     over_weaker told names P Q (refused (refusal_of r)) (λ files. step files (refused (refusal_of r))) h
-weaker told names P Q rose (Err (Failed (Unread n))) step h = (h.0, h.1, asks_weaker told P Q n.now step h.2)
+weaker told names P Q rose (Err (Failed (Unread n))) step h = (
+  h.0,
+  h.1,
+  over_weaker told names (λ files. P (without n.now files)) (λ files. Q (without n.now files)) (refused (CannotRead n.now))
+      (λ files. step (without n.now files) (refused (CannotRead n.now))) h.2,
+)
 weaker told names P Q rose (Err (Failed OutOfMemory)) step h = tt
+
+-- what is an answer over all files is one over those that are told
+pub over_all : (told : Option Files) (names : List (List ℕ)) (P : Files → lines.Answer → Type 0) (a : lines.Answer)
+    → ((files : Files) → P files a)
+    → Over told names P a
+over_all (Some files) names P a all = all files
+over_all None names P a all = (λ name. Some [], λ k d lt. refl, all (λ name. Some []))
+
+-- the words are refused, whatever the files hold
+pub words_refused : (words : List (List ℕ)) (told : Option Files) (rose : Type 0) (h : Halt) → StopsWhere (λ r. WordsAre words (Err r)) h
+    → AnswersOver told (named_by words) (Answers words) rose (Err h)
+words_refused words told rose (Refused r) s =
+    over_all told (named_by words) (Answers words) (refused (refusal_of r)) (λ files. inl (refusal_of r, s, refl))
+words_refused words told rose (Failed (Unread n)) s = absurd s
+words_refused words told rose (Failed OutOfMemory) s = tt
 
 -- the command's answer is that of its words
 pub command_answered : (words : List (List ℕ)) (told : Option Files) (c : Command) (rose : Type 0) (r : Result Answer Halt)
@@ -60,8 +82,15 @@ command_answered words told c rose r w h =
 -- the answer that a call tells
 pub tells : (words : List (List ℕ)) (told : Option Files) (a : lines.Answer) → Over told (named_by words) (Answers words) a → Tells words told a
 tells words (Some files) a h = h
-tells words None a h = go (named_by words) h
-  where
-    go : (names : List (List ℕ)) → Over None names (Answers words) a → TellsUntold words names a
-    go [] x = x
-    go (n ∷ ns) x = x
+tells words None a h = h
+
+-- the file that it asks for
+asks : (words : List (List ℕ)) (told : Option Files) (name : List ℕ) → AsksFor told (named_by words) (Answers words) name → Asks words told name
+asks words (Some files) name h = h
+asks words None name h = h
+
+pub call_failed : (words : List (List ℕ)) (told : Option Files) (rose : Type 0) (f : Failure)
+    → AnswersOver told (named_by words) (Answers words) rose (Err (Failed f))
+    → CallAnswers words told rose (Err f)
+call_failed words told rose (Unread n) h = (h.0, h.1, asks words told n.now h.2)
+call_failed words told rose OutOfMemory h = tt

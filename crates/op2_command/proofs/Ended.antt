@@ -4,7 +4,7 @@ use Rattle.op_outside.specs.Outside.{Rose}
 use Rattle.answer_lines.specs.Lines.{Answer}
 use Rattle.answers.specs.Endings as ending
 use Rattle.answers.specs.Endings.{Answered, Unwritten, Call, Ends, IsReported, Tells, ending_status, ending_line}
-use Rattle.answers.specs.Endings.{IsComplete, IsUsage, IsShown, AreReported, IsSilent}
+use Rattle.answers.specs.Endings.{IsComplete, IsUsage, IsUnread, IsShown, AreReported, IsSilent}
 use Rattle.answer_lines.specs.declared.refusals.Failure.{Failure}
 use Rattle.answer_lines.specs.declared.refusals.Failure.TheVariants.{Unread, OutOfMemory}
 use Rattle.op2_command.specs.Writes.{CallAnswers, EndsAsDefined, Writes, ending_of}
@@ -29,15 +29,17 @@ failed c status OutOfMemory h same is report = record { ending = ending.OutOfMem
 pub defined : (c : Call) (status : ℕ)
     → ((c : Call) (n : ℕ) → Ends c n → IsComplete c n)
     → ((c : Call) (n : ℕ) → Ends c n → IsUsage c n)
+    → ((c : Call) (n : ℕ) → Ends c n → IsUnread c n)
     → ((c : Call) (n : ℕ) → Ends c n → IsShown c n)
     → ((c : Call) (n : ℕ) → Ends c n → AreReported c n)
     → ((c : Call) (n : ℕ) → Ends c n → IsSilent c n)
     → Ends c status
     → EndsAsDefined c status
-defined c status complete usage shown reported silent e = record {
+defined c status complete usage unread shown reported silent e = record {
   ends = e;
   complete = complete c status e;
   usage = usage c status e;
+  unread = unread c status e;
   shown = shown c status e;
   reported = reported c status e;
   silent = silent c status e;

@@ -1,15 +1,17 @@
 -- From what a checker answers of a list of steps to the refusal of its text.
-use Rattle.std.proofs.Common.{◌≡◌, ℕ, Bool, false, List, [], ◌∷◌, ◌++◌, length, Ok, Err, refl, sym, ap, subst, ◌∙◌, append_assoc}
+use Rattle.std.proofs.Common.{◌≡◌, ℕ, Bool, true, false, cond, Option, None, Some, List, [], ◌∷◌, ◌++◌, length, Ok, Err, refl, sym, ap, subst, ◌∙◌, append_assoc}
 use Rattle.std.proofs.lemmas.List.{append-nil}
 use Rattle.std.specs.Prelude.{slice_get}
 use Rattle.local_mesh.specs.declared.types.RankMesh.{RankMesh}
 use Rattle.schedule_steps.specs.Outline.{Outline}
 use Rattle.schedule_steps.specs.declared.step.Step.{Step}
+use Rattle.schedule_steps.specs.Judged.{is_step, missing, left_over}
 use Rattle.schedule_steps.specs.Steps.{has}
 use Rattle.schedule_steps.specs.Members.{has_push}
 use Rattle.schedule_steps.specs.Turns.{nothing_taken}
 use Rattle.step_judge.specs.declared.refusal.ScheduleRefusal.{ScheduleRefusal}
-use Rattle.step_judge.specs.Verdicts.{judged}
+use Rattle.step_judge.specs.declared.refusal.ScheduleRefusal.TheVariants as taking
+use Rattle.step_judge.specs.Verdicts.{judged, too_early, incomplete}
 use Rattle.step_judge.specs.TakenAll.{TakenAll}
 use Rattle.bound_program.specs.Values.{BoundValue}
 use Rattle.loop_plan.specs.Values.{PlanValue}
@@ -20,10 +22,9 @@ use Rattle.schedule_text.specs.declared.lines.Line.{Line}
 use Rattle.command_words.specs.Refusal.{Refusal}
 use Rattle.answers.specs.Said.{SaysNext}
 use Rattle.answers.specs.Judgements.{steps_in, judged_next, IsStepRefused}
-use Rattle.answer_lines.specs.Lines.{IsOfContents}
 use Rattle.answer_lines.specs.declared.refusals.Halt.{Halt}
-use Rattle.answer_lines.specs.Halts.{SpoiltWhere}
-use Rattle.op2_command.specs.Chains.{SaysFirst}
+use Rattle.answer_lines.specs.Halts.{StopsWhere}
+use Rattle.op2_command.specs.Chains.{CanRefuse, SaysFirst}
 use Rattle.answer_lines.proofs.Halts.{stops_weaker}
 
 module _ (o : Outline) where
@@ -100,27 +101,57 @@ says_next : (rest : List Line) (end : ℕ) (e : ScheduleRefusal) (r : Refusal) �
 says_next [] end e r h = h
 says_next (l ∷ ls) end e r h = h
 
+-- ---- what can be refused where
+
+left_at_end : (x : Option Step) (e : ScheduleRefusal) → incomplete x ≡ Err e → CanRefuse None e
+left_at_end None e h = absurd (let bad : ⊥ = cc in bad)
+left_at_end (Some t) e h = (let same : taking.Incomplete t ≡ e = cc in subst (CanRefuse None) same tt)
+
+refused_step : (l : Line) (here taken : Bool) (x : Option Step) (e : ScheduleRefusal)
+    → cond here (cond taken (Err taking.Repeated) (too_early x)) (Err taking.NoSuchStep) ≡ Err e
+    → CanRefuse (Some l) e
+refused_step l false taken x e h = (let same : taking.NoSuchStep ≡ e = cc in subst (CanRefuse (Some l)) same tt)
+refused_step l true true x e h = (let same : taking.Repeated ≡ e = cc in subst (CanRefuse (Some l)) same tt)
+refused_step l true false None e h = absurd (let bad : ⊥ = cc in bad)
+refused_step l true false (Some t) e h = (let same : taking.TooEarly t ≡ e = cc in subst (CanRefuse (Some l)) same tt)
+
+refused_next : (o : Outline) (m : Step → Bool) (ls : List Line) (rest : List Step) (e : ScheduleRefusal) → steps_in ls ≡ rest
+    → IsRefusedNext o m rest e
+    → CanRefuse (slice_get ls 0) e
+refused_next o m [] [] e is h = left_at_end (left_over o m) e h
+refused_next o m [] (s ∷ rest) e is h = absurd (let bad : ⊥ = cc in bad)
+refused_next o m (l ∷ ls) [] e is h = absurd (let bad : ⊥ = cc in bad)
+refused_next o m (l ∷ ls) (s ∷ rest) e is h = refused_step l (is_step o s) (m s) (missing o m s) e h
+
+pub can_refuse : (b : BoundValue) (meshes : List RankMesh) (p : PlanValue) (ls : List Line) (steps come : List Step) (u : Unaccepted)
+    → steps ≡ steps_in ls
+    → IsUnaccepted b meshes p steps come u
+    → CanRefuse (slice_get ls u.step) u.refusal
+can_refuse b meshes p ls steps come u is x =
+    subst (λ z. CanRefuse z u.refusal) (sym (ap (slice_get ls) x.number ∙ parts.next))
+    (refused_next (step_outline b meshes p) x.after parts.others x.rest u.refusal parts.rest_is x.refused)
+  where
+    parts : Split ls x.front x.rest
+    parts = split ls x.front x.rest (sym is ∙ x.split)
+
 pub step_refused : (b : BoundValue) (meshes : List RankMesh) (p : PlanValue) (ls : List Line) (steps come : List Step) (end : ℕ) (u : Unaccepted) (h : Halt)
     → steps ≡ steps_in ls
     → IsUnaccepted b meshes p steps come u
-    → SpoiltWhere (SaysFirst (slice_get ls u.step) end u.refusal) h
-    → SpoiltWhere (IsStepRefused (step_outline b meshes p) ls end) h
+    → StopsWhere (SaysFirst (slice_get ls u.step) end u.refusal) h
+    → StopsWhere (IsStepRefused (step_outline b meshes p) ls end) h
 step_refused b meshes p ls steps come end u h is x says =
-    stops_weaker (λ r. SaysFirst (slice_get ls u.step) end u.refusal r × IsOfContents r) (λ r. IsStepRefused o ls end r × IsOfContents r) h
-    (λ r k. (
-      record {
-        front = parts.lines;
-        rest = parts.others;
-        split = parts.whole;
-        before = λ xs ys s e. taken.each xs ys s (sym parts.front_is ∙ e);
-        refusal = u.refusal;
-        refused = ap (λ z. judged_next o (has z) (steps_in parts.others)) parts.front_is
-            ∙ (ap (λ z. judged_next o (has x.front) z) parts.rest_is
-            ∙ (ap (λ m. judged_next o m x.rest) (sym taken.last) ∙ next_refused o x.after x.rest u.refusal x.refused));
-        says = says_next parts.others end u.refusal r (subst (λ z. SaysFirst z end u.refusal r) (ap (slice_get ls) x.number ∙ parts.next) k.0);
-      },
-      k.1,
-    )) says
+    stops_weaker (SaysFirst (slice_get ls u.step) end u.refusal) (IsStepRefused o ls end) h
+    (λ r k. record {
+      front = parts.lines;
+      rest = parts.others;
+      split = parts.whole;
+      before = λ xs ys s e. taken.each xs ys s (sym parts.front_is ∙ e);
+      refusal = u.refusal;
+      refused = ap (λ z. judged_next o (has z) (steps_in parts.others)) parts.front_is
+          ∙ (ap (λ z. judged_next o (has x.front) z) parts.rest_is
+          ∙ (ap (λ m. judged_next o m x.rest) (sym taken.last) ∙ next_refused o x.after x.rest u.refusal x.refused));
+      says = says_next parts.others end u.refusal r (subst (λ z. SaysFirst z end u.refusal r) (ap (slice_get ls) x.number ∙ parts.next) k);
+    }) says
   where
     o : Outline
     o = step_outline b meshes p

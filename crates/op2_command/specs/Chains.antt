@@ -11,14 +11,13 @@ use Rattle.distribute.specs.Distributions.{IsDistribution}
 use Rattle.bound_program.specs.Values.{BoundValue}
 use Rattle.schedule_text.specs.declared.lines.Line.{Line}
 use Rattle.step_judge.specs.declared.refusal.ScheduleRefusal.{ScheduleRefusal}
-use Rattle.command_words.specs.Refusal.{Refusal, CannotRead}
+use Rattle.step_judge.specs.declared.refusal.ScheduleRefusal.TheVariants as taking
+use Rattle.command_words.specs.Refusal.{Refusal}
 use Rattle.answer_lines.specs.Lines as lines
-use Rattle.answer_lines.specs.Lines.{refused}
-use Rattle.command_words.specs.Words.{PlanJob, Parting, ByRule, ByFile, Options, group_of, Input}
+use Rattle.command_words.specs.Words.{PlanJob, Options, group_of}
 use Rattle.answers.specs.Said.{SaysStep, SaysEnd}
-use Rattle.answers.specs.Judgements.{EntriesAre, Planned, PlanIs, Order, OrderOf, outline_of, StepsOf}
-use Rattle.answers.specs.Answers.{given, planned_answer, without}
-use Rattle.job_inputs.specs.Inputs.{IsBoundIn, IsBoundWith}
+use Rattle.answers.specs.Judgements.{TreeIs, TranslationIs, RestorationIs, EntriesAre, Planned, PlanIs, Order, OrderOf, outline_of, StepsOf}
+use Rattle.answers.specs.Answers.{given, planned_answer}
 
 -- ---- parts of the chain
 
@@ -38,6 +37,14 @@ LastAnswers j o b u n files = given (PlanIs o b u n) (λ p. ScheduleAnswers j o 
 abbrev pub RewriteAnswers : Form → List ℕ → lines.Answer → Type 0
 RewriteAnswers form text = given (EntriesAre text) (λ es a. a ≡ lines.done (canonical form es))
 
+-- what is answered to the bytes of a source that is translated
+abbrev pub TextTranslates : List ℕ → lines.Answer → Type 0
+TextTranslates bytes = given (TreeIs bytes) (λ p. given (TranslationIs bytes p) (λ out a. a ≡ lines.done out))
+
+-- what is answered to the bytes of a source that is restored
+abbrev pub TextRestores : List ℕ → lines.Answer → Type 0
+TextRestores bytes = given (RestorationIs bytes) (λ out a. a ≡ lines.done out)
+
 -- the mesh of a program by some owners and new numbers
 pub record IsSpread (b : BoundValue) (d : Distribution) : Type 0 where
   pub owners : Owners
@@ -46,34 +53,14 @@ pub record IsSpread (b : BoundValue) (d : Distribution) : Type 0 where
   pub are_perms : ArePerms b.mesh numbers
   pub distributed : IsDistribution b.mesh owners numbers d
 
+-- at a step, or at the end of a schedule, such a refusal comes: only at its end a step is left
+abbrev pub CanRefuse : Option Line → ScheduleRefusal → Type 0
+CanRefuse None (taking.Incomplete t) = Unit {0}
+CanRefuse None e = ⊥
+CanRefuse (Some l) (taking.Incomplete t) = ⊥
+CanRefuse (Some l) e = Unit {0}
+
 -- of what comes first, or of the end, in the list of a schedule's steps
 abbrev pub SaysFirst : Option Line → (end : ℕ) → ScheduleRefusal → Refusal → Type 0
 SaysFirst None end e r = SaysEnd end e r
 SaysFirst (Some l) end e r = SaysStep l e r
-
--- ---- files that are asked for
-
--- the file of this name is asked for, over any files
-abbrev pub AsksAlways : (Files → lines.Answer → Type 0) → List ℕ → Type 0
-AsksAlways P name = (files : Files) → P (without name files) (refused (CannotRead name))
-
--- The file of this name is asked for over the files that are told; where none are told, over some over which the program is bound too.
-abbrev pub AsksBehind :
-    Option Files
-    → Input
-    → (again : Option (List ℕ))
-    → BoundValue
-    → (kept : Option (List ℕ))
-    → (Files → lines.Answer → Type 0)
-    → List ℕ
-    → Type 0
-AsksBehind (Some files) input again b kept P name = P (without name files) (refused (CannotRead name))
-AsksBehind None input again b kept P name =
-    (files : Files)
-    → IsBoundWith input again b kept files
-    → (other : Files) × IsBoundIn input b other × P (without name other) (refused (CannotRead name))
-
--- the file whose text tells the owners, if one does
-abbrev pub again_of : Parting → Option (List ℕ)
-again_of (ByRule rule) = None
-again_of (ByFile name) = Some name

@@ -6,7 +6,7 @@ use Rattle.answer_lines.specs.Lines as lines
 use Rattle.command_words.specs.Words.{named_by}
 use Rattle.answers.specs.Endings as ending
 use Rattle.answers.specs.Endings.{Ending, unwritten_status, unwritten_line, Tells, Asks, IsWritten}
-use Rattle.answers.specs.Endings.{Call, Ends, IsComplete, IsUsage, IsShown, AreReported, IsSilent}
+use Rattle.answers.specs.Endings.{Call, Ends, IsComplete, IsUsage, IsUnread, IsShown, AreReported, IsSilent}
 use Rattle.answer_lines.specs.declared.call_answer.Answer.{Answer}
 use Rattle.answer_lines.specs.declared.refusals.Failure.{Failure}
 use Rattle.answer_lines.specs.declared.refusals.Failure.TheVariants.{Unread, OutOfMemory}
@@ -45,6 +45,7 @@ pub record EndsAsDefined (c : Call) (status : ℕ) : Type 0 where
   pub ends : Ends c status
   pub complete : IsComplete c status
   pub usage : IsUsage c status
+  pub unread : IsUnread c status
   pub shown : IsShown c status
   pub reported : AreReported c status
   pub silent : IsSilent c status

@@ -1,38 +1,79 @@
 // The answer to the words: the judgements in order, up to the first refusal, and then what is asked for.
 
-ghost use Rattle.std.specs.Prelude.{◌≡◌, ◌≤◌, [], ◌∷◌, ◌++◌, Ok, Err, All, map, length, string_bytes, option_map, IfOk, IfErr};
+ghost use Rattle.std.specs.Prelude.{◌≡◌, ◌≤◌, [], ◌∷◌, ◌++◌, Ok, Err, All, map, length, string_bytes, IfOk, IfErr, OnOk};
 ghost use Rattle.op_outside.specs.Outside.{Rose};
+ghost use Rattle.kept_files.specs.Readings.{readings_of};
 ghost use Rattle.mesh_text.specs.declared.entry.TheConstants.{MESH_BYTES};
 ghost use Rattle.command_words.specs.Words.{WordsAre, names_from, names_by, names_at, names_of, named_by};
 ghost use Rattle.command_words.specs.Laws.{AreWithin};
 ghost use Rattle.answers.specs.Answers.{PlanAnswers, ConvertAnswers, CommandAnswers, Answers};
-ghost use Rattle.command_words.specs.Values.{parting_in, options_in, job_in, input_in, command_of, IsInRange};
+ghost use Rattle.command_words.specs.Values.{parting_in, schedule_in, options_in, job_in, input_in, command_of, IsInRange};
 ghost use Rattle.answer_lines.specs.Halts.{StopsWhere};
 ghost use Rattle.job_inputs.specs.Chains.{AnswersBy, AnswersOver};
-ghost use Rattle.op2_command.specs.Chains.{again_of, RewriteAnswers};
+ghost use Rattle.op2_command.specs.Chains.{RewriteAnswers};
 ghost use Rattle.op2_command.specs.Writes.{CallAnswers};
 
 use crate::plans::planned;
+use crate::sources::{restored, translated};
 use answer_lines::{Answer, Failure, Halt, Limit, Refusal, done, refused};
 use command_words::{
-    Asked, Input, Options, Parting, PlanJob, USAGE, VERSION, WordsRefusal, read_words,
+    Asked, Input, Options, Parting, PlanJob, Schedule, USAGE, VERSION, WordsRefusal, read_words,
 };
-use job_inputs::{bound_input, entries_of, file_of};
+use job_inputs::{bound_input, entries_of, sole_file};
+use kept_files::{Kept, some_files_are_as_seen};
 use mesh_text::{Form, write_mesh};
+use op_num::OutOfMemory;
 use op_outside::Shelf;
 use par_exec::Gate;
 use std::alloc::Global;
 use std::marker::Sync;
 use std::thread::Threads;
 
-// The file that tells the owners, if one does.
-fn again_of<'a>(parting: Parting<'a>) -> Option<&'a str>
-    ensures { option_map (λ s. s.now) result ≡ again_of (parting_in parting.entry) }
+// The files that a source and a mesh come from are to be read.
+fn expect_input<'a>(kept: &mut Kept<'a>, input: Input<'a>) -> Result<(), OutOfMemory>
+    ensures { OnOk result (kept.new ≡ kept.old ++ readings_of (names_from (input_in input.entry))) }
+{
+    if let Input::InFiles { source, mesh } = input {
+        kept.push(source)?;
+        kept.push(mesh)?;
+    }
+    Ok(())
+}
+
+// The file that tells the owners is to be read, if one does.
+fn expect_parting<'a>(kept: &mut Kept<'a>, parting: Parting<'a>) -> Result<(), OutOfMemory>
+    ensures { OnOk result (kept.new ≡ kept.old ++ readings_of (names_by (parting_in parting.entry))) }
 {
     match parting {
-        Parting::ByRule(_) => None,
-        Parting::ByFile(name) => Some(name),
+        Parting::ByRule(_) => Ok(()),
+        Parting::ByFile(name) => kept.push(name),
     }
+}
+
+// The file that has a schedule is to be read, if one does.
+fn expect_schedule<'a>(kept: &mut Kept<'a>, schedule: Schedule<'a>) -> Result<(), OutOfMemory>
+    ensures { OnOk result (kept.new ≡ kept.old ++ readings_of (names_at (schedule_in schedule.entry))) }
+{
+    match schedule {
+        Schedule::Written(name) => kept.push(name),
+        _ => Ok(()),
+    }
+}
+
+// The files that a job on a plan reads, in the order in which it does.
+fn awaited<'a>(
+    alloc: Global,
+    options: &Options<'a>,
+    input: Input<'a>,
+) -> Result<Kept<'a>, OutOfMemory>
+    ensures { IfOk result (λ kept. kept ≡ readings_of
+        (names_from (input_in input.entry) ++ names_by (options_in options.now).parting ++ names_at (options_in options.now).schedule)) }
+{
+    let mut kept = Kept::new(alloc);
+    expect_input(&mut kept, input)?;
+    expect_parting(&mut kept, options.parting)?;
+    expect_schedule(&mut kept, options.schedule)?;
+    Ok(kept)
 }
 
 // The answer of a job on the plan of a program over a mesh.
@@ -54,8 +95,10 @@ fn to_plan<'a, F: Shelf, R: Threads + Sync, G: Gate>(
         (PlanAnswers (job_in job) (options_in options.now) (input_in input.entry))
         (Rose (F.faults shelf.old) (F.faults shelf.new)) result }
 {
-    let (bound, kept) = bound_input(alloc, shelf, input, again_of(options.parting))?;
-    planned(rt, alloc, shelf, job, options, input, &bound, kept, gate)
+    some_files_are_as_seen();
+    let mut kept = awaited(alloc, options, input)?;
+    let bound = bound_input(alloc, shelf, &mut kept, input)?;
+    planned(rt, alloc, shelf, &mut kept, job, options, &bound, gate)
 }
 
 // The answer that is the text of a mesh, written again.
@@ -78,7 +121,8 @@ fn converted<'a, F: Shelf>(
     ensures { AnswersOver (F.told shelf.old) (mesh.now ∷ []) (ConvertAnswers form mesh.now)
         (Rose (F.faults shelf.old) (F.faults shelf.new)) result }
 {
-    let text = file_of(alloc, shelf, mesh, Limit::MeshBytes)?;
+    some_files_are_as_seen();
+    let text = sole_file(alloc, shelf, mesh, Limit::MeshBytes)?;
     rewritten(alloc, form, &text)
 }
 
@@ -102,6 +146,8 @@ fn to_asked<'a, F: Shelf, R: Threads + Sync, G: Gate>(
             input,
         } => to_plan(rt, alloc, shelf, job, &options, input, gate),
         Asked::Convert { form, mesh } => converted(alloc, shelf, form, mesh),
+        Asked::Translate { source } => translated(alloc, shelf, source),
+        Asked::Restore { source } => restored(alloc, shelf, source),
         Asked::Usage => Ok(done(alloc, USAGE)?),
         Asked::Version => Ok(done(alloc, VERSION)?),
     }

@@ -11,6 +11,7 @@ mod plans;
 mod ranges;
 mod runs;
 mod schedules;
+mod sources;
 mod top;
 
 pub use top::{op2, op2_gated};

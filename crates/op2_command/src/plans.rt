@@ -1,7 +1,8 @@
 // The plan of a bound program: new numbers, owners, the mesh on ranks, the order of its steps, and what is written.
 
-ghost use Rattle.std.specs.Prelude.{◌≡◌, ◌≤◌, ◌++◌, List, All, length, option_map, Ok, IfOk};
+ghost use Rattle.std.specs.Prelude.{◌≡◌, ◌≤◌, ◌++◌, List, All, length, Ok, IfOk};
 ghost use Rattle.op_outside.specs.Outside.{Rose};
+ghost use Rattle.kept_files.specs.Readings.{AreNext};
 ghost use Rattle.mesh_decl.specs.Owners.{AreOwners, ArePerms};
 ghost use Rattle.bound_program.specs.Values.{bound_of};
 ghost use Rattle.bound_program.specs.Fits.{Fits};
@@ -12,23 +13,23 @@ ghost use Rattle.schedule_steps.specs.declared.step.Step.{Step as StepValue};
 ghost use Rattle.schedule_check.specs.Mail.{plan_cells};
 ghost use Rattle.planned_run.specs.Orders.{InOrder, CanTake};
 ghost use Rattle.answer_lines.specs.declared.limits.TheConstants.{SCHEDULE_BYTES};
-ghost use Rattle.command_words.specs.Words.{names_from, names_by, names_at};
+ghost use Rattle.command_words.specs.Words.{names_by, names_at};
 ghost use Rattle.command_words.specs.Laws.{AreWithin};
 ghost use Rattle.answers.specs.Judgements.{AccessesAre, ByText};
 ghost use Rattle.answers.specs.Answers.{sizes_text, planned_answer, PlannedAnswers};
-ghost use Rattle.command_words.specs.Values.{options_in, job_in, input_in};
+ghost use Rattle.command_words.specs.Values.{options_in, job_in};
 ghost use Rattle.answer_lines.specs.Halts.{answer_of};
-ghost use Rattle.job_inputs.specs.Inputs.{IsBoundWith};
-ghost use Rattle.job_inputs.specs.Chains.{AnswersBy, AnswersIn, Known};
-ghost use Rattle.op2_command.specs.Chains.{StepsAnswers, ScheduleAnswers, LastAnswers, IsSpread, AsksAlways, AsksBehind, again_of};
+ghost use Rattle.job_inputs.specs.Chains.{AnswersBy, AnswersFrom};
+ghost use Rattle.op2_command.specs.Chains.{StepsAnswers, ScheduleAnswers, LastAnswers, IsSpread};
 
 use crate::runs::run_on;
 use crate::schedules::{end_line, judged, lines_of};
 use answer_lines::{Answer, Failure, Halt, Limit, Refusal};
 use bound_program::Bound;
-use command_words::{Input, Options, PlanJob, Schedule};
+use command_words::{Options, PlanJob, Schedule};
 use distribute::{Distribution, distribute};
 use job_inputs::{file_of, numbers_of, owners_of, partition_of};
+use kept_files::Kept;
 use loop_plan::{Plan, PlanRefusal, plan, write_plan};
 use mesh_decl::{Owners, Perms};
 use op_num::{OutOfMemory, put_u64};
@@ -126,6 +127,7 @@ fn scheduled<'a, F: Shelf, R: Threads + Sync, G: Gate>(
     rt: &R,
     alloc: Global,
     shelf: &mut F,
+    kept: &mut Kept<'a>,
     job: PlanJob,
     options: &Options<'a>,
     bound: &Bound,
@@ -134,19 +136,18 @@ fn scheduled<'a, F: Shelf, R: Threads + Sync, G: Gate>(
     gate: &G,
 ) -> Result<Answer, Halt<'a>>
     requires lent { All (λ name. F.lends shelf.old name) (names_at (options_in options.now).schedule) }
+    requires next { AreNext (names_at (options_in options.now).schedule) kept.old }
     requires within { AreWithin (options_in options.now) }
     requires fits { Fits (bound_of bound.now) }
     requires obeyed { AccessesAre (bound_of bound.now) (Ok tt) }
     requires found { IsSpread (bound_of bound.now) found.now }
     requires plan { Proper (bound_of bound.now) found.now.ranks.items (plan_of plan.now) }
-    ensures { AnswersIn (F.told shelf.old) (names_at (options_in options.now).schedule)
+    ensures { AnswersFrom (F.told shelf.old) kept.old
         (ScheduleAnswers (job_in job) (options_in options.now) (bound_of bound.now) (record {
           distribution = found.now;
           plan =
               plan_of plan.now;
         }))
-        (AsksAlways (ScheduleAnswers (job_in job) (options_in options.now) (bound_of bound.now)
-        (record { distribution = found.now; plan = plan_of plan.now })))
         (Rose (F.faults shelf.old) (F.faults shelf.new)) result }
 {
     schedule_steps::drawn_exists();
@@ -161,7 +162,7 @@ fn scheduled<'a, F: Shelf, R: Threads + Sync, G: Gate>(
             Ok(planned_answer(rt, alloc, job, options, bound, found, plan, &order, gate)?)
         }
         Schedule::Written(name) => {
-            let bytes = file_of(alloc, shelf, name, Limit::ScheduleBytes)?;
+            let bytes = file_of(alloc, shelf, kept, name, Limit::ScheduleBytes)?;
             by_text(rt, alloc, job, options, bound, found, plan, &bytes, gate)
         }
     }
@@ -172,6 +173,7 @@ fn last_answer<'a, F: Shelf, R: Threads + Sync, G: Gate>(
     rt: &R,
     alloc: Global,
     shelf: &mut F,
+    kept: &mut Kept<'a>,
     job: PlanJob,
     options: &Options<'a>,
     bound: &Bound,
@@ -180,19 +182,21 @@ fn last_answer<'a, F: Shelf, R: Threads + Sync, G: Gate>(
     gate: &G,
 ) -> Result<Answer, Halt<'a>>
     requires lent { All (λ name. F.lends shelf.old name) (names_at (options_in options.now).schedule) }
+    requires next { AreNext (names_at (options_in options.now).schedule) kept.old }
     requires fits { Fits (bound_of bound.now) }
     requires obeyed { AccessesAre (bound_of bound.now) (Ok tt) }
     requires within { AreWithin (options_in options.now) }
     requires owners { AreOwners (bound_of bound.now).mesh owners }
     requires perms { ArePerms (bound_of bound.now).mesh perms }
-    ensures { AnswersIn (F.told shelf.old) (names_at (options_in options.now).schedule)
+    ensures { AnswersFrom (F.told shelf.old) kept.old
         (LastAnswers (job_in job) (options_in options.now) (bound_of bound.now) owners perms)
-        (AsksAlways (LastAnswers (job_in job) (options_in options.now) (bound_of bound.now) owners perms))
         (Rose (F.faults shelf.old) (F.faults shelf.new)) result }
 {
     let found = distribute(alloc, &bound.mesh, owners, perms)?;
     match plan(alloc, bound, &found.ranks, &found.halos, options.block) {
-        Ok(plan) => scheduled(rt, alloc, shelf, job, options, bound, &found, &plan, gate),
+        Ok(plan) => scheduled(
+            rt, alloc, shelf, kept, job, options, bound, &found, &plan, gate,
+        ),
         Err(PlanRefusal::TooManySteps { steps }) => Err(Halt::Refused(Refusal::BeyondLimit {
             limit: Limit::Steps,
             size: steps,
@@ -201,34 +205,31 @@ fn last_answer<'a, F: Shelf, R: Threads + Sync, G: Gate>(
     }
 }
 
-/// The answer of a job on the plan of a bound program with these options. `kept` has the bytes of the file that tells the
-/// owners, where it was read before, as the source or the mesh.
+/// The answer of a job on the plan of a bound program with these options. The files of a partition and a schedule, where the options
+/// name them, are the next in `kept`.
 pub fn planned<'a, F: Shelf, R: Threads + Sync, G: Gate>(
     rt: &R,
     alloc: Global,
     shelf: &mut F,
+    kept: &mut Kept<'a>,
     job: PlanJob,
     options: &Options<'a>,
-    input: Input<'a>,
     bound: &Bound,
-    kept: Option<Vec<u8>>,
     gate: &G,
 ) -> Result<Answer, Halt<'a>>
     requires parting { All (λ name. F.lends shelf.old name) (names_by (options_in options.now).parting) }
     requires schedule { All (λ name. F.lends shelf.old name) (names_at (options_in options.now).schedule) }
+    requires next { AreNext (names_by (options_in options.now).parting ++ names_at (options_in options.now).schedule) kept.old }
     requires within { AreWithin (options_in options.now) }
     requires fits { Fits (bound_of bound.now) }
     requires obeyed { AccessesAre (bound_of bound.now) (Ok tt) }
-    requires known { Known (F.told shelf.old) (names_from (input_in input))
-        (IsBoundWith (input_in input) (again_of (options_in options.now).parting) (bound_of bound.now) (option_map (λ v. v.items) kept)) }
-    ensures { AnswersIn (F.told shelf.old) (names_by (options_in options.now).parting ++ names_at (options_in options.now).schedule)
-        (λ files. PlannedAnswers (job_in job) (options_in options.now) files (bound_of bound.now))
-        (AsksBehind (F.told shelf.old) (input_in input.entry) (again_of (options_in options.now).parting) (bound_of bound.now)
-        (option_map (λ v. v.items) kept) (λ files. PlannedAnswers (job_in job) (options_in options.now) files (bound_of bound.now)))
+    ensures { AnswersFrom (F.told shelf.old) kept.old (λ files. PlannedAnswers (job_in job) (options_in options.now) files (bound_of bound.now))
         (Rose (F.faults shelf.old) (F.faults shelf.new)) result }
 {
     let perms = numbers_of(alloc, options, bound)?;
-    let text = partition_of(alloc, shelf, options.parting, kept)?;
+    let text = partition_of(alloc, shelf, kept, options.parting)?;
     let owners = owners_of(alloc, options, bound, &text)?;
-    last_answer(rt, alloc, shelf, job, options, bound, owners, perms, gate)
+    last_answer(
+        rt, alloc, shelf, kept, job, options, bound, owners, perms, gate,
+    )
 }

@@ -11,8 +11,8 @@ ghost use Rattle.schedule_text.specs.Reading.{Reads};
 ghost use Rattle.answer_lines.specs.declared.limits.TheConstants.{SCHEDULE_BYTES};
 ghost use Rattle.answers.specs.Said.{SaysSchedule};
 ghost use Rattle.answers.specs.Judgements.{steps_in, end_line, IsTextRefused, IsStepRefused};
-ghost use Rattle.answer_lines.specs.Halts.{SpoiltWhere};
-ghost use Rattle.op2_command.specs.Chains.{SaysFirst, IsSpread};
+ghost use Rattle.answer_lines.specs.Halts.{StopsWhere};
+ghost use Rattle.op2_command.specs.Chains.{CanRefuse, SaysFirst, IsSpread};
 
 use answer_lines::{Failure, Halt, Limit, Refusal, most};
 use bound_program::Bound;
@@ -28,7 +28,7 @@ use texts::Tokens;
 
 // A text that spells no steps.
 fn unspelled<'a>(refusal: ScheduleTextRefusal) -> Halt<'a>
-    ensures { SpoiltWhere (SaysSchedule refusal) result }
+    ensures { StopsWhere (SaysSchedule refusal) result }
 {
     match refusal {
         ScheduleTextRefusal::Header { line } => {
@@ -49,7 +49,7 @@ fn unspelled<'a>(refusal: ScheduleTextRefusal) -> Halt<'a>
 pub fn lines_of<'a>(alloc: Global, bytes: &[u8]) -> Result<Vec<Line>, Halt<'a>>
     requires few { length bytes.now ≤ SCHEDULE_BYTES }
     ensures ok { IfOk result (λ v. Reads bytes.now (Ok v.items)) }
-    ensures err { IfErr result (SpoiltWhere (IsTextRefused bytes.now)) }
+    ensures err { IfErr result (StopsWhere (IsTextRefused bytes.now)) }
 {
     match read_schedule(alloc, bytes) {
         Ok(lines) => Ok(lines),
@@ -69,14 +69,15 @@ pub fn end_line(bytes: &[u8]) -> u32
 
 // A step that is refused on its line, or the end.
 fn unaccepted<'a>(line: Option<&Line>, end: u32, refusal: ScheduleRefusal) -> Halt<'a>
-    ensures { SpoiltWhere (SaysFirst (option_map (λ l. l.now) line.entry) end refusal) result }
+    requires { CanRefuse (option_map (λ l. l.now) line) refusal }
+    ensures { StopsWhere (SaysFirst (option_map (λ l. l.now) line.entry) end refusal) result }
 {
     let Some(line) = line else {
         return match refusal {
             ScheduleRefusal::Incomplete { missing } => {
                 Halt::Refused(Refusal::LeftStep { line: end, missing })
             }
-            _ => Halt::Failed(Failure::OutOfMemory),
+            _ => unreachable!(),
         };
     };
     match refusal {
@@ -95,7 +96,7 @@ fn unaccepted<'a>(line: Option<&Line>, end: u32, refusal: ScheduleRefusal) -> Ha
             step: line.step,
             missing,
         }),
-        ScheduleRefusal::Incomplete { .. } => Halt::Failed(Failure::OutOfMemory),
+        ScheduleRefusal::Incomplete { .. } => unreachable!(),
     }
 }
 
@@ -134,7 +135,7 @@ pub fn judged<'a>(
     ensures steps { IfOk result (λ r. r.0.items ≡ steps_in lines.now) }
     ensures whole { IfOk result (λ r. IsWhole (bound_of bound.now) found.now.ranks.items (plan_of plan.now) (steps_in lines.now) r.1) }
     ensures err { IfErr result
-        (SpoiltWhere (IsStepRefused (step_outline (bound_of bound.now) found.now.ranks.items (plan_of plan.now)) lines.now end)) }
+        (StopsWhere (IsStepRefused (step_outline (bound_of bound.now) found.now.ranks.items (plan_of plan.now)) lines.now end)) }
 {
     let steps = steps_in(alloc, lines)?;
     match judge_list(alloc, bound, &found.ranks, plan, &steps)? {

@@ -10,7 +10,7 @@ ghost use Rattle.op2_command.specs.Writes.{EndsAsDefined, Writes, ending_of};
 use crate::answered::answered;
 use answer_laws::{
     calls_are_complete, calls_report_their_answers, calls_show_their_answers, others_write_nothing,
-    usage_is_of_words,
+    unread_files_are_named, usage_is_of_words,
 };
 use answer_lines::{Answer, Failure, Line, report};
 use op_outside::{Shelf, Sink, write_all_of};
@@ -73,6 +73,7 @@ pub fn op2_gated<R: Threads + Sync, F: Shelf, O: Sink, E: Sink, G: Gate>(
 {
     calls_are_complete();
     usage_is_of_words();
+    unread_files_are_named();
     calls_show_their_answers();
     calls_report_their_answers();
     others_write_nothing();

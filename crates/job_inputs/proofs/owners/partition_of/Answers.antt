@@ -1,11 +1,11 @@
-use Rattle.std.proofs.Common.{option_map, ap}
-use Rattle.op_outside.specs.Outside.{Rose}
-use Rattle.command_words.specs.Values.{parting_in}
-use Rattle.job_inputs.proofs.Unowned.{kept_refused}
+use Rattle.std.proofs.Common.{refl}
+use Rattle.kept_files.proofs.Finding.{finds_weaker}
+use Rattle.job_inputs.proofs.Chained.{if_ok_weaker}
 use Rattle.job_inputs.proofs.owners.partition_of.Goals as goal
 
-pub returns-in-Some-clause-err : goal.returns-in-Some-clause-err
-returns-in-Some-clause-err g c =
-    kept_refused c.within_limit.result (parting_in c.args.parting) c.in-ByFile.name.now (option_map (λ v. v.items) c.args.kept) c.in-Some.bytes.items
-    (g.F.Shelf.told c.args.shelf.now) (Rose (g.F.Shelf.faults c.args.shelf.now) (g.F.Shelf.faults c.args.shelf.now))
-    (ap parting_in c.in-ByFile.is) (ap (option_map (λ v. v.items)) c.in-Some.is) c.within_limit.ensures.err
+pub returns-in-ByFile-clause-read : goal.returns-in-ByFile-clause-read
+returns-in-ByFile-clause-read g c =
+    rw c.in-ByFile.is (if_ok_weaker c.file_of.result _ _ (λ v found. finds_weaker _ _ _ _ _ (λ files held. (v.items, held, refl)) found) c.file_of.ensures.read)
+
+pub returns-in-ByFile-clause-err : goal.returns-in-ByFile-clause-err
+returns-in-ByFile-clause-err g c = rw c.in-ByFile.is c.file_of.ensures.err

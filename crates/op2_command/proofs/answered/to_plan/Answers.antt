@@ -1,27 +1,29 @@
-use Rattle.std.proofs.Common.{option_map}
 use Rattle.std.proofs.lemmas.Result.{err_from_is_err_and}
 use Rattle.op_outside.specs.Outside.{Rose}
 use Rattle.bound_program.specs.Values.{bound_of}
 use Rattle.command_words.specs.Values.{options_in, job_in, input_in}
-use Rattle.op2_command.specs.Chains.{again_of}
-use Rattle.op2_command.proofs.BoundFiles.{bound_obeys}
-use Rattle.op2_command.proofs.Ran.{plan_halted, plan_over}
+use Rattle.op2_command.proofs.BoundFiles.{awaited_next, planned_next, plan_halted, plan_answered}
 use Rattle.op2_command.proofs.answered.to_plan.Goals as goal
+
+pub bound_input-requires-clause-next : goal.bound_input-requires-clause-next
+bound_input-requires-clause-next g c =
+    awaited_next (g.F.Shelf.told c.args.shelf.now) (Rose 0 0) (job_in c.args.job) (options_in c.args.options.now) (input_in c.args.input) c.in_ok-kept.kept c.in_ok-kept.ensures
 
 pub returns-in_err-bound : goal.returns-in_err-bound
 returns-in_err-bound g c =
-    let p = err_from_is_err_and c.from_residual.result c.from_residual.ensures.1 in
-    rw (p.1, p.2) (plan_halted (job_in c.args.job) (options_in c.args.options.now) (g.F.Shelf.told c.args.shelf.now) (input_in c.args.input)
-    (Rose (g.F.Shelf.faults c.args.shelf.now) (g.F.Shelf.faults c.bound_input.new.shelf)) c.in_err-bound.field-0.0 c.in_err-bound.ensures.err)
+    let p = err_from_is_err_and c.from_residual-in_err-bound.result c.from_residual-in_err-bound.ensures.1 in
+    rw (p.1, p.2) (plan_halted (g.F.Shelf.told c.args.shelf.now) (Rose (g.F.Shelf.faults c.args.shelf.now) (g.F.Shelf.faults c.bound_input.new.shelf))
+    (job_in c.args.job) (options_in c.args.options.now) (input_in c.args.input) c.in_ok-kept.kept c.some_files_are_as_seen.ensures c.in_ok-kept.ensures
+    c.in_err-bound.field-0.0 c.in_err-bound.ensures.err)
 
-pub planned-requires-clause-obeyed : goal.planned-requires-clause-obeyed
-planned-requires-clause-obeyed g c κs within =
-    bound_obeys (g.F.Shelf.told c.args.shelf.now) (input_in c.args.input) (option_map (λ s. s.now) c.again_of.result) (option_map (λ v. v.items) c.in_ok-bound.kept)
-    (bound_of c.in_ok-bound.bound) c.in_ok-bound.ensures.ok
+pub planned-requires-clause-next : goal.planned-requires-clause-next
+planned-requires-clause-next g c κs within =
+    planned_next (g.F.Shelf.told c.args.shelf.now) (Rose 0 0) (job_in c.args.job) (options_in c.args.options.now) (input_in c.args.input) c.in_ok-kept.kept
+    c.bound_input.new.kept c.in_ok-kept.ensures c.in_ok-bound.ensures.come
 
 pub returns : goal.returns
 returns g c =
     let rest = rw c.in_ok-bound.ensures.calm at (rw c.in_ok-bound.ensures.told at c.planned.ensures) in
-    plan_over (job_in c.args.job) (options_in c.args.options.now) (g.F.Shelf.told c.args.shelf.now) (input_in c.args.input)
-    (Rose (g.F.Shelf.faults c.args.shelf.now) (g.F.Shelf.faults c.planned.new.shelf)) (again_of (options_in c.args.options.now).parting) (option_map (λ v. v.items) c.in_ok-bound.kept)
-    (bound_of c.in_ok-bound.bound) c.planned.result (rw c.again_of.ensures at c.in_ok-bound.ensures.ok) rest
+    plan_answered (g.F.Shelf.told c.args.shelf.now) (Rose (g.F.Shelf.faults c.args.shelf.now) (g.F.Shelf.faults c.planned.new.shelf))
+    (job_in c.args.job) (options_in c.args.options.now) (input_in c.args.input) c.in_ok-kept.kept c.some_files_are_as_seen.ensures c.in_ok-kept.ensures
+    c.bound_input.new.kept (bound_of c.in_ok-bound.bound) c.planned.result c.in_ok-bound.ensures.ok c.in_ok-bound.ensures.come rest

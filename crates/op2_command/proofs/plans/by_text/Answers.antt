@@ -7,8 +7,14 @@ use Rattle.loop_plan.specs.StepOutline.{step_outline}
 use Rattle.answers.specs.Judgements.{ByText, steps_in}
 use Rattle.command_words.specs.Values.{options_in, job_in}
 use Rattle.answer_lines.specs.Halts.{answer_of}
-use Rattle.op2_command.proofs.Planned.{steps_answered, step_refused_by}
+use Rattle.op2_command.proofs.Planned.{steps_answered, text_refused_by, step_refused_by}
 use Rattle.op2_command.proofs.plans.by_text.Goals as goal
+
+pub returns-in_err-lines : goal.returns-in_err-lines
+returns-in_err-lines g c =
+    let p = err_from_is_err_and c.from_residual.result c.from_residual.ensures.1 in
+    rw (p.1, p.2) (text_refused_by (job_in c.args.job) (options_in c.args.options.now) (bound_of c.args.bound.now)
+    (record { distribution = c.args.found.now; plan = plan_of c.args.plan.now }) c.args.bytes.now c.in_err-lines.field-0.0 c.in_err-lines.ensures.err)
 
 pub returns-in_err-steps : goal.returns-in_err-steps
 returns-in_err-steps g c =

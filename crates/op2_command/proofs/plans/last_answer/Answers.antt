@@ -13,11 +13,11 @@ pub returns-in-Ok : goal.returns-in-Ok
 returns-in-Ok g c =
     plan_answered (job_in c.args.job) (options_in c.args.options.now) (bound_of c.args.bound.now) c.args.owners c.args.perms c.in_ok-found.found c.deref.result.now
     c.deref.ensures.value c.in_ok-found.ensures (g.F.Shelf.told c.args.shelf.now) (Rose (g.F.Shelf.faults c.args.shelf.now) (g.F.Shelf.faults c.scheduled.new.shelf))
-    (plan_of c.in-Ok.plan) c.scheduled.result c.in-Ok.ensures.proper c.in-Ok.ensures.colours c.in-Ok.ensures.block c.in-Ok.ensures.steps c.in-Ok.ensures.few
+    c.args.kept.now (plan_of c.in-Ok.plan) c.scheduled.result c.in-Ok.ensures.proper c.in-Ok.ensures.colours c.in-Ok.ensures.block c.in-Ok.ensures.steps c.in-Ok.ensures.few
     c.scheduled.ensures
 
 pub returns-in-Err-TooManySteps : goal.returns-in-Err-TooManySteps
 returns-in-Err-TooManySteps g c =
     let says = rw c.in-Err-TooManySteps.field-0-is at c.in-Err-TooManySteps.ensures.refused in
     rw c.in-Err-TooManySteps.field-0-is (many_steps (job_in c.args.job) (options_in c.args.options.now) (bound_of c.args.bound.now) c.args.owners c.args.perms c.in_ok-found.found c.deref.result.now
-    c.deref.ensures.value c.in_ok-found.ensures (g.F.Shelf.told c.args.shelf.now) (Rose (g.F.Shelf.faults c.args.shelf.now) (g.F.Shelf.faults c.args.shelf.now)) c.in-Err-TooManySteps.steps says.0 says.1)
+    c.deref.ensures.value c.in_ok-found.ensures (g.F.Shelf.told c.args.shelf.now) (Rose (g.F.Shelf.faults c.args.shelf.now) (g.F.Shelf.faults c.args.shelf.now)) c.args.kept.now c.in-Err-TooManySteps.steps says.0 says.1)

@@ -1,0 +1,3 @@
+pub mod Seen
+pub mod Readings
+pub mod Views

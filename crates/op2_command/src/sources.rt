@@ -1,0 +1,63 @@
+// The jobs on a source alone: its translation and its restoration.
+
+ghost use Rattle.std.specs.Prelude.{◌≤◌, [], ◌∷◌, length};
+ghost use Rattle.op_outside.specs.Outside.{Rose};
+ghost use Rattle.answers.specs.Answers.{TranslateAnswers, RestoreAnswers};
+ghost use Rattle.answer_lines.specs.declared.limits.TheConstants.{SOURCE_BYTES};
+ghost use Rattle.job_inputs.specs.Chains.{AnswersBy, AnswersOver};
+ghost use Rattle.op2_command.specs.Chains.{TextTranslates, TextRestores};
+
+use answer_lines::{Answer, Halt, Limit};
+use job_inputs::{restoration_of, sole_file, translation_of, tree_of};
+use kept_files::some_files_are_as_seen;
+use op_outside::Shelf;
+use std::alloc::Global;
+
+// The answer that is the translation of these bytes.
+fn text_translated<'a>(alloc: Global, bytes: &[u8]) -> Result<Answer, Halt<'a>>
+    requires { length bytes.now ≤ SOURCE_BYTES }
+    ensures { AnswersBy (TextTranslates bytes.now) result }
+{
+    let program = tree_of(alloc, bytes)?;
+    let translation = translation_of(alloc, bytes, &program)?;
+    Ok(Answer::Done(translation))
+}
+
+/// The answer that is the source in a file, translated.
+pub fn translated<'a, F: Shelf>(
+    alloc: Global,
+    shelf: &mut F,
+    source: &'a str,
+) -> Result<Answer, Halt<'a>>
+    requires { F.lends shelf.old source.now }
+    ensures { AnswersOver (F.told shelf.old) (source.now ∷ []) (TranslateAnswers source.now)
+        (Rose (F.faults shelf.old) (F.faults shelf.new)) result }
+{
+    some_files_are_as_seen();
+    let bytes = sole_file(alloc, shelf, source, Limit::SourceBytes)?;
+    text_translated(alloc, &bytes)
+}
+
+// The answer that is the restoration of these bytes.
+fn text_restored<'a>(alloc: Global, bytes: &[u8]) -> Result<Answer, Halt<'a>>
+    requires { length bytes.now ≤ SOURCE_BYTES }
+    ensures { AnswersBy (TextRestores bytes.now) result }
+{
+    let restoration = restoration_of(alloc, bytes)?;
+    Ok(Answer::Done(restoration))
+}
+
+/// The answer that is the source in a file, restored.
+pub fn restored<'a, F: Shelf>(
+    alloc: Global,
+    shelf: &mut F,
+    source: &'a str,
+) -> Result<Answer, Halt<'a>>
+    requires { F.lends shelf.old source.now }
+    ensures { AnswersOver (F.told shelf.old) (source.now ∷ []) (RestoreAnswers source.now)
+        (Rose (F.faults shelf.old) (F.faults shelf.new)) result }
+{
+    some_files_are_as_seen();
+    let bytes = sole_file(alloc, shelf, source, Limit::SourceBytes)?;
+    text_restored(alloc, &bytes)
+}
