@@ -1,14 +1,22 @@
 #!/bin/sh
 # Runs each example and compares what it prints with NAME.out, and the example `sample2` with the sample on a grid of 2 times 2 cells;
-# writes the mesh of `sample2` again, and the plan of `heat` on two ranks.
+# writes the mesh of `sample2` again, the plan of `heat` on two ranks, and its translation. Each example is run once more as it is translated and
+# restored.
 # Ends with the number of differences.
 here=$(CDPATH= cd -- "$(dirname -- "$0")" && pwd) || exit 70
 op2=${1:-$here/../op2}
+work=$(mktemp -d) || exit 70
+trap 'rm -rf "$work"' EXIT
 bad=0
 for out in "$here"/*.out; do
     name=${out%.out}
     if ! "$op2" run "$name.c" "$name.mesh" | cmp -s - "$out"; then
         echo "differs: $(basename "$name")" >&2
+        bad=$((bad + 1))
+    fi
+    "$op2" translate "$name.c" >"$work/stubs" && "$op2" restore "$work/stubs" >"$work/back.c"
+    if ! "$op2" run "$work/back.c" "$name.mesh" | cmp -s - "$out"; then
+        echo "differs: $(basename "$name"), translated and restored" >&2
         bad=$((bad + 1))
     fi
 done
@@ -22,6 +30,10 @@ if ! "$op2" convert --form 1 "$here/sample2.mesh" | cmp -s - "$here/sample2.mesh
 fi
 if ! "$op2" plan "$here/heat.c" "$here/heat.mesh" --ranks 2 --block 2 --renumber joined | cmp -s - "$here/heat.plan"; then
     echo 'differs: the plan of heat on two ranks' >&2
+    bad=$((bad + 1))
+fi
+if ! "$op2" translate "$here/heat.c" | cmp -s - "$here/heat.stubs"; then
+    echo 'differs: the translation of heat' >&2
     bad=$((bad + 1))
 fi
 exit "$bad"

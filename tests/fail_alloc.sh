@@ -82,5 +82,7 @@ try run heat.c heat.mesh --ranks 2 --parts grow:joined --renumber joined --seed 
 try plan residual.c residual.mesh --ranks 2 --parts bisect:x
 try schedule heat.c heat.mesh --ranks 2 --workers 3
 try convert heat.mesh
+try translate heat.c
+try restore heat.stubs
 try sample 2 --workers 2
 exit "$bad"

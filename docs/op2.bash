@@ -1,0 +1,27 @@
+# Made by tools/manual of the words of `op2 --help`: a completion for bash. `. docs/op2.bash` takes it.
+# shellcheck shell=bash disable=SC2207
+_op2() {
+    local word=${COMP_WORDS[COMP_CWORD]} before=${COMP_WORDS[COMP_CWORD - 1]}
+    case $before in
+        --form) return ;;
+        --ranks) return ;;
+        --parts) COMPREPLY=($(compgen -W 'block bisect: grow:' -- "$word")); compopt -o nospace; return ;;
+        --partition) COMPREPLY=($(compgen -f -- "$word")); return ;;
+        --renumber) return ;;
+        --block) return ;;
+        --schedule) COMPREPLY=($(compgen -f -- "$word")); return ;;
+        --seed) return ;;
+        --workers) return ;;
+    esac
+    case $word in
+        -*) COMPREPLY=($(compgen -W '--form --ranks --parts --partition --renumber --block --schedule --seed --workers --dump -h --help -V --version' -- "$word")) ;;
+        *)
+            if [ "$COMP_CWORD" -eq 1 ]; then
+                COMPREPLY=($(compgen -W 'run sample convert translate restore check plan schedule' -- "$word"))
+            else
+                COMPREPLY=($(compgen -f -- "$word"))
+            fi
+            ;;
+    esac
+}
+complete -F _op2 op2

@@ -1,0 +1,112 @@
+#!/bin/sh
+# Makes a program of each example, of tests/compilers/*.c and of the sample by the C compilers that are there (gcc, clang), without and with optimization, by
+# include/op2_seq.h, and compares what it prints with what op2 prints, byte for byte. Shows then that a sanitizer names the line at which a value wraps.
+# Ends with the number of differences; with 70 where no compiler is there.
+# Usage: tests/compilers.sh [OP2]     (OP2 a program, `op2` of the repository where none is given)
+here=$(CDPATH= cd -- "$(dirname -- "$0")/.." && pwd) || exit 70
+op2=${1:-$here/op2}
+work=$(mktemp -d) || exit 70
+trap 'rm -rf "$work"' EXIT
+bad=0
+tried=0
+
+# The flags of docs/COMPILERS.md: values wrap, and locals start at 0. Older versions of clang want a second word for the latter.
+wraps=-fwrapv
+zeros_of() {
+    case $1 in
+        gcc) echo '-ftrivial-auto-var-init=zero -fno-tree-loop-im' ;;
+        *)
+            zeros='-ftrivial-auto-var-init=zero -enable-trivial-auto-var-init-zero-knowing-it-will-be-removed-from-clang'
+            echo 'int main(void) { return 0; }' >"$work/none.c"
+            # shellcheck disable=SC2086
+            "$1" $zeros -c "$work/none.c" -o "$work/none.o" 2>"$work/log" || zeros=-ftrivial-auto-var-init=zero
+            echo "$zeros"
+            ;;
+    esac
+}
+
+# The source, its mesh, what is to be printed, and how the source is called here.
+compare() {
+    "$here/tools/mesh_c" "$2" >"$work/mesh.c"
+    for compiler in $compilers; do
+        for level in -O0 -O1 -O2 -O3; do
+            tried=$((tried + 1))
+            # shellcheck disable=SC2046
+            if ! "$compiler" -std=c11 -w $level $wraps $(zeros_of "$compiler") -I "$here/include" -include op2_seq.h \
+                "$1" "$work/mesh.c" -o "$work/program" || ! "$work/program" >"$work/out" || ! cmp -s "$work/out" "$3"; then
+                echo "differs: $4 by $compiler $level" >&2
+                bad=$((bad + 1))
+            fi
+        done
+    done
+}
+
+# The mesh of the sample on a grid, as docs/SAMPLE.md says.
+write_grid() {
+    awk -v n="$1" '
+        function ints(name, count) { printf "ints %s %d\n", name, count }
+        BEGIN {
+            m = n + 1
+            printf "op2mesh 1\nint nnode %d\nint ncell %d\nint nedge %d\nint nbedge %d\n", m * m, n * n, 2 * n * (n - 1), 4 * n
+            ints("cell", 4 * n * n)
+            for (j = 0; j < n; j++) for (i = 0; i < n; i++) print j * m + i, j * m + i + 1, (j + 1) * m + i + 1, (j + 1) * m + i
+            ints("ecell", 4 * n * (n - 1))
+            for (j = 0; j < n; j++) for (i = 0; i < n - 1; i++) print j * n + i, j * n + i + 1
+            for (j = 0; j < n - 1; j++) for (i = 0; i < n; i++) print j * n + i, (j + 1) * n + i
+            ints("bcell", 4 * n)
+            for (i = 0; i < n; i++) print i
+            for (i = 0; i < n; i++) print (n - 1) * n + i
+            for (j = 0; j < n; j++) print j * n
+            for (j = 0; j < n; j++) print j * n + n - 1
+            ints("wall0", 4 * n)
+            for (i = 0; i < 4 * n; i++) print (i < n) - (i >= n && i < 2 * n)
+            ints("x0", 2 * m * m)
+            for (j = 0; j < m; j++) for (i = 0; i < m; i++) print i, j
+            ints("q0", n * n)
+            for (j = 0; j < n; j++) for (i = 0; i < n; i++) print i + j
+            ints("zero", n * n)
+            for (i = 0; i < n * n; i++) print 0
+            print "done"
+        }'
+}
+
+compilers=
+for compiler in gcc clang; do
+    if command -v "$compiler" >/dev/null; then
+        compilers="$compilers $compiler"
+    else
+        echo "not there: $compiler" >&2
+    fi
+done
+[ -n "$compilers" ] || exit 70
+
+for source in "$here"/examples/*.c "$here"/tests/compilers/*.c; do
+    name=${source%.c}
+    if ! "$op2" run "$source" "$name.mesh" >"$work/wanted"; then
+        echo "differs: $name doesn't run" >&2
+        bad=$((bad + 1))
+        continue
+    fi
+    compare "$source" "$name.mesh" "$work/wanted" "$(basename "$name")"
+done
+
+for side in 1 2 10; do
+    "$op2" sample $side >"$work/wanted"
+    write_grid $side >"$work/grid.mesh"
+    compare "$here/examples/sample2.c" "$work/grid.mesh" "$work/wanted" "sample $side"
+done
+
+# Line 3 of examples/bump.c adds 1 to 2147483647.
+"$here/tools/mesh_c" "$here/examples/bump.mesh" >"$work/mesh.c"
+for compiler in $compilers; do
+    tried=$((tried + 1))
+    # shellcheck disable=SC2046
+    "$compiler" -std=c11 -w -g -fsanitize=signed-integer-overflow $(zeros_of "$compiler") -I "$here/include" -include op2_seq.h \
+        "$here/examples/bump.c" "$work/mesh.c" -o "$work/program" && "$work/program" >"$work/out" 2>"$work/err"
+    if ! cmp -s "$work/out" "$here/examples/bump.out" || ! grep -q 'bump.c:3:.*signed integer overflow: 2147483647 + 1 ' "$work/err"; then
+        echo "differs: the sanitizer of $compiler names no wrap in line 3 of bump.c" >&2
+        bad=$((bad + 1))
+    fi
+done
+echo "$tried programs by$compilers, $bad differences"
+exit "$bad"

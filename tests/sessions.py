@@ -1,0 +1,50 @@
+#!/usr/bin/env python3
+"""Runs the commands that stand in the pages, in a copy of what they name: each block of shell, whose output is compared with the block that follows it at
+once, and each session, in which commands begin with `$`. Ends with 1 where one differs, or fails where the page doesn't say so.
+Usage: tests/sessions.py [OP2]     (OP2 a program, `op2` of the repository where none is given)
+"""
+import pathlib, re, shutil, subprocess, sys, tempfile
+
+top = pathlib.Path(__file__).resolve().parent.parent
+op2 = pathlib.Path(sys.argv[1] if len(sys.argv) > 1 else top / "op2").resolve()
+pages = ["README.md", "docs/COMPILERS.md", "docs/OUTPUT.md", "docs/PORTING.md", "docs/STATEMENT.md"]
+bad = tried = 0
+
+
+def run(folder, command):
+    done = subprocess.run(["bash", "-c", command], cwd=folder, stdout=subprocess.PIPE, stderr=subprocess.STDOUT, text=True, timeout=600)
+    return done.returncode, done.stdout
+
+
+def compare(page, command, found, wanted):
+    global bad, tried
+    tried += 1
+    if sorted(map(str.strip, found.splitlines())) != sorted(map(str.strip, wanted.splitlines())):
+        bad += 1
+        print(f"differs: {page}: {command!r} writes {found!r} and not {wanted!r}")
+
+
+with tempfile.TemporaryDirectory() as name:
+    folder = pathlib.Path(name)
+    for part in ("examples", "include", "tools"):
+        shutil.copytree(top / part, folder / part)
+    (folder / "crates").symlink_to(top / "crates")
+    (folder / "op2").write_text(f'#!/bin/sh\nexec {op2} "$@"\n')
+    (folder / "op2").chmod(0o755)
+    for page in pages:
+        parts = re.split(r"^```(\w*)\n(.*?)^```\n", (top / page).read_text(), flags=re.M | re.S)
+        for at in range(1, len(parts), 3):
+            kind, block, behind = parts[at : at + 3]
+            if kind == "sh":
+                status, found = run(folder, block)
+                if not behind.strip() and at + 3 < len(parts) and not parts[at + 3]:
+                    compare(page, block, found, parts[at + 4])
+                elif says := re.search(r"ends with status (\d+) and [^`]*`([^`]*)`", behind[:120]):
+                    compare(page, block, f"{status} {found}", f"{says[1]} {says[2]}")
+                else:
+                    compare(page, block, f"{status}", "0")
+            elif not kind and block.startswith("$ "):
+                for command, wanted in re.findall(r"^\$ (.*)\n((?:(?!\$ ).*\n)*)", block, re.M):
+                    compare(page, command, run(folder, re.sub(r"^op2 ", "./op2 ", command))[1], wanted)
+print(f"{tried} commands, {bad} differences")
+sys.exit(bad > 0)
