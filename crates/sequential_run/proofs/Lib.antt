@@ -1,0 +1,9 @@
+pub mod Cells
+pub mod Lookups
+pub mod Constants
+pub mod Elements
+pub mod Values
+pub mod Stored
+pub mod Statements
+pub mod Start
+pub mod Runs
