@@ -20,10 +20,9 @@ use Rattle.command_words.specs.Refusal as answer
 use Rattle.command_words.specs.Words.{Command, command, options_in, asked, judged, WordsAre}
 use Rattle.command_words.specs.Laws.{OptionsAreWithin}
 use Rattle.command_words.specs.declared.asked.Asked.{Asked}
-use Rattle.command_words.specs.declared.asked.Asked.TheVariants as wanted
 use Rattle.command_words.specs.declared.refusals.WordsRefusal.{WordsRefusal}
 use Rattle.command_words.specs.declared.refusals.WordsRefusal.TheVariants.{Usage, OutOfMemory}
-use Rattle.command_words.specs.Values.{AsksBy, command_of, options_found, job_in, input_in, options_in as options_in_plan, IsInRange}
+use Rattle.command_words.specs.Values.{AsksBy, command_of, options_found, IsInRange}
 
 -- ---- from one answer to all that is promised
 
@@ -35,14 +34,9 @@ pub record IsRead (words : List (List ℕ)) (r : Result Asked WordsRefusal) : Ty
   pub refused : r ≡ Err Usage → WordsAre words (Err answer.Usage)
   pub refuses : WordsAre words (Err answer.Usage) → IsRefused OutOfMemory r Usage
 
--- the options of what is asked for are in range
+-- what is asked for is in range
 in_range : OptionsAreWithin → (words : List (List ℕ)) (a : Asked) → WordsAre words (Ok (command_of a)) → IsInRange a
-in_range law words (wanted.Plan j o i) h = law words (job_in j) (options_in_plan o) (input_in i) h
-in_range law words (wanted.Convert form mesh) h = tt
-in_range law words (wanted.Translate source) h = tt
-in_range law words (wanted.Restore source) h = tt
-in_range law words wanted.Usage h = tt
-in_range law words wanted.Version h = tt
+in_range law words a h = law words (command_of a) h
 
 -- a judgement has one outcome
 same_ok : (j : Result Command Refusal) (c d : Command) → j ≡ Ok c → j ≡ Ok d → c ≡ d
@@ -88,6 +82,7 @@ options_are f =
       first_value-rows f (codes "partition"),
       first_value-rows f (codes "renumber"),
       first_value-rows f (codes "block"),
+      first_value-rows f (codes "plan"),
       first_value-rows f (codes "schedule"),
       first_value-rows f (codes "seed"),
       first_value-rows f (codes "workers"),

@@ -12,8 +12,10 @@ use Rattle.op_num.specs.Spelling.{number_of}
 use Rattle.mesh_gen.specs.declared.places.TheConstants.{MAX_SIDE}
 use Rattle.command_words.specs.declared.limits.TheConstants.{MAX_RANKS, MAX_BLOCK, MAX_WORKERS}
 use Rattle.command_words.specs.Refusal.{Refusal}
-use Rattle.command_words.specs.Words.{PlanJob, Check, ShowsPlan, ShowsSchedule, RunsPlan, Parting, Schedule, Options, Input, InFiles, OfSample, Command, OnPlan, Translates, Restores, command, number_to, number_or, form_of, OptionWords, options_in, parting_of, schedule_of, options_with, options_of, plans_nothing, on_files, samples, converts, source_alone, plans, by_job, or_usage, asked, judged, WordsAre}
-use Rattle.command_words.specs.Laws.{AreWithin}
+use Rattle.command_words.specs.Words.{PlanJob, Check, ShowsPlan, ShowsSchedule, RunsPlan, Parting, Schedule, Input, InFiles, OfSample, Command, Translates, Restores, command}
+use Rattle.command_words.specs.Words.{number_to, number_or, form_of, OptionWords, options_in, parting_of, schedule_of, blocks_of, options_with, options_of}
+use Rattle.command_words.specs.Words.{runs_nothing, on_files, samples, converts, source_alone, plans, shows_plan, by_job, or_usage, asked, judged}
+use Rattle.command_words.specs.Laws.{HaveFewPlaces, AreWithin, IsWithin, OptionsAreWithin}
 
 -- P is so of what there is
 abbrev Holds : {X : Type 0} → (X → Type 0) → Option X → Type 0
@@ -62,11 +64,17 @@ or_holds usual most (Some word) h = number_holds most word
 
 -- ---- options
 
+blocks_hold : (block plan : Option (List ℕ)) → Holds HaveFewPlaces (blocks_of block plan)
+blocks_hold None None = (omega arith, omega arith)
+blocks_hold (Some word) None = holds_map (IsTo MAX_BLOCK) HaveFewPlaces _ (number_to MAX_BLOCK word) (number_holds MAX_BLOCK word) (λ n h. h)
+blocks_hold None (Some name) = tt
+blocks_hold (Some word) (Some name) = tt
+
 with_holds : (ranks : ℕ) (parting : Parting) (schedule : Schedule) (w : OptionWords) → IsTo MAX_RANKS ranks → Holds AreWithin (options_with ranks parting schedule w)
 with_holds ranks parting schedule w h =
-    holds_then (IsTo MAX_BLOCK) AreWithin _ (number_or 256 MAX_BLOCK w.block) (or_holds 256 MAX_BLOCK w.block (omega arith, omega arith))
-    (λ block k. holds_map (IsTo MAX_WORKERS) AreWithin _ (number_or 1 MAX_WORKERS w.workers) (or_holds 1 MAX_WORKERS w.workers (omega arith, omega arith))
-    (λ workers l. record { some = h.0; few = h.1; some_places = k.0; few_places = k.1; some_workers = l.0; few_workers = l.1 }))
+    holds_then HaveFewPlaces AreWithin _ (blocks_of w.block w.plan) (blocks_hold w.block w.plan)
+    (λ blocks k. holds_map (IsTo MAX_WORKERS) AreWithin _ (number_or 1 MAX_WORKERS w.workers) (or_holds 1 MAX_WORKERS w.workers (omega arith, omega arith))
+    (λ workers l. record { some = h.0; few = h.1; places = k; some_workers = l.0; few_workers = l.1 }))
 
 options_hold : (w : OptionWords) → Holds AreWithin (options_of w)
 options_hold w =
@@ -77,25 +85,29 @@ options_hold w =
 
 -- ---- commands
 
--- the options of a command are in range
-abbrev IsWithin : Command → Type 0
-IsWithin (OnPlan j o input) = AreWithin o
-IsWithin c = Unit {0}
-
 converts_hold : (input : List ℕ) (mesh : Option (List ℕ)) (w : OptionWords) → Holds IsWithin (converts input mesh w)
-converts_hold input None w = holds_if IsWithin (plans_nothing w) _ _ (holds_map Any IsWithin _ (form_of w.form) (any (form_of w.form)) (λ f h. tt)) tt
+converts_hold input None w = holds_if IsWithin (runs_nothing w) _ _ (holds_map Any IsWithin _ (form_of w.form) (any (form_of w.form)) (λ f h. tt)) tt
 converts_hold input (Some mesh) w = tt
 
 plans_hold : (j : PlanJob) (input : Input) (w : OptionWords) → Holds IsWithin (plans j input w)
 plans_hold j input w = holds_if IsWithin (is_some w.form) _ _ tt (holds_map AreWithin IsWithin _ (options_of w) (options_hold w) (λ o h. h))
 
-files_hold : (job : Input → OptionWords → Option Command) → ((input : Input) (w : OptionWords) → Holds IsWithin (job input w))
+shows_holds : (input : Input) (w : OptionWords) → Holds IsWithin (shows_plan input w)
+shows_holds input w = holds_if IsWithin (is_some w.plan) _ _ tt (plans_hold ShowsPlan input w)
+
+-- what such a job asks for is in range
+abbrev AllWithin : (Input → OptionWords → Option Command) → Type 0
+AllWithin job = (input : Input) (w : OptionWords) → Holds IsWithin (job input w)
+
+files_hold : (job : Input → OptionWords → Option Command) → AllWithin job
     → (input : List ℕ) (mesh : Option (List ℕ)) (w : OptionWords) → Holds IsWithin (on_files job input mesh w)
 files_hold job h input None w = tt
 files_hold job h input (Some mesh) w = h (InFiles input mesh) w
 
 samples_hold : (input : List ℕ) (mesh : Option (List ℕ)) (w : OptionWords) → Holds IsWithin (samples input mesh w)
-samples_hold input None w = holds_then Any IsWithin _ (number_to MAX_SIDE input) (any (number_to MAX_SIDE input)) (λ side _. plans_hold RunsPlan (OfSample side) w)
+samples_hold input None w =
+    holds_then Any IsWithin _ (number_to MAX_SIDE input) (any (number_to MAX_SIDE input))
+    (λ side _. plans_hold RunsPlan (OfSample side) w)
 samples_hold input (Some mesh) w = tt
 
 -- a job on a source alone has no options
@@ -105,14 +117,18 @@ alone_holds job h input mesh w = holds_map Any IsWithin job (source_alone input 
 
 jobs_hold : (job input : List ℕ) (mesh : Option (List ℕ)) (w : OptionWords) → Holds IsWithin (by_job job input mesh w)
 jobs_hold job input mesh w =
-    holds_if IsWithin (bytes_eq job (codes "run")) _ _ (files_hold (plans RunsPlan) (plans_hold RunsPlan) input mesh w)
+    holds_if IsWithin (bytes_eq job (codes "run")) _ _
+    (files_hold (plans RunsPlan) (plans_hold RunsPlan) input mesh w)
     (holds_if IsWithin (bytes_eq job (codes "sample")) _ _ (samples_hold input mesh w)
     (holds_if IsWithin (bytes_eq job (codes "convert")) _ _ (converts_hold input mesh w)
     (holds_if IsWithin (bytes_eq job (codes "translate")) _ _ (alone_holds Translates (λ source. tt) input mesh w)
     (holds_if IsWithin (bytes_eq job (codes "restore")) _ _ (alone_holds Restores (λ source. tt) input mesh w)
-    (holds_if IsWithin (bytes_eq job (codes "check")) _ _ (files_hold (plans Check) (plans_hold Check) input mesh w)
-    (holds_if IsWithin (bytes_eq job (codes "plan")) _ _ (files_hold (plans ShowsPlan) (plans_hold ShowsPlan) input mesh w)
-    (holds_if IsWithin (bytes_eq job (codes "schedule")) _ _ (files_hold (plans ShowsSchedule) (plans_hold ShowsSchedule) input mesh w) tt)))))))
+    (holds_if IsWithin (bytes_eq job (codes "check")) _ _
+    (files_hold (plans Check) (plans_hold Check) input mesh w)
+    (holds_if IsWithin (bytes_eq job (codes "plan")) _ _
+    (files_hold shows_plan shows_holds input mesh w)
+    (holds_if IsWithin (bytes_eq job (codes "schedule")) _ _
+    (files_hold (plans ShowsSchedule) (plans_hold ShowsSchedule) input mesh w) tt)))))))
 
 -- ---- words
 
@@ -136,5 +152,5 @@ judged_asks (kind.DisplayHelp ∷ ks) rows = tt
 judged_asks (kind.DisplayVersion ∷ ks) rows = tt
 judged_asks (k ∷ ks) rows = tt
 
-pub within : (words : List (List ℕ)) (j : PlanJob) (o : Options) (input : Input) → WordsAre words (Ok (OnPlan j o input)) → AreWithin o
-within words j o input h = subst Asks h (judged_asks (fault_of command words) (matches_of command words))
+pub within : OptionsAreWithin
+within words c h = subst Asks h (judged_asks (fault_of command words) (matches_of command words))

@@ -1,20 +1,26 @@
 -- What the options that words ask for keep.
 use Rattle.std.specs.Prelude.{ℕ, ◌<◌, ◌≤◌, List, Ok}
 use Rattle.command_words.specs.declared.limits.TheConstants.{MAX_RANKS, MAX_BLOCK, MAX_WORKERS}
-use Rattle.command_words.specs.Words.{PlanJob, Options, Input, OnPlan, WordsAre}
+use Rattle.command_words.specs.Words.{Blocks, OfSize, AsPlanned, Options, Command, OnPlan, WordsAre}
+
+-- a block has 1 to 65,536 places
+abbrev pub HaveFewPlaces : Blocks → Type 0
+HaveFewPlaces (OfSize places) = (0 < places) × (places ≤ MAX_BLOCK)
+HaveFewPlaces (AsPlanned name) = Unit {0}
 
 -- there are 1 to 64 ranks, a block has 1 to 65,536 places, and there are 1 to 64 workers
 pub record AreWithin (o : Options) : Type 0 where
   pub some : 0 < o.ranks
   pub few : o.ranks ≤ MAX_RANKS
-  pub some_places : 0 < o.block
-  pub few_places : o.block ≤ MAX_BLOCK
+  pub places : HaveFewPlaces o.blocks
   pub some_workers : 0 < o.workers
   pub few_workers : o.workers ≤ MAX_WORKERS
 
--- the options that words ask for are so
+-- the numbers of a command are in range
+abbrev pub IsWithin : Command → Type 0
+IsWithin (OnPlan j o input) = AreWithin o
+IsWithin c = Unit {0}
+
+-- those of the commands that words ask for are
 abbrev pub OptionsAreWithin : Type 0
-OptionsAreWithin =
-    (words : List (List ℕ)) (j : PlanJob) (o : Options) (input : Input)
-    → WordsAre words (Ok (OnPlan j o input))
-    → AreWithin o
+OptionsAreWithin = (words : List (List ℕ)) (c : Command) → WordsAre words (Ok c) → IsWithin c

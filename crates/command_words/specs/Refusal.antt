@@ -18,6 +18,7 @@ pub data Limit : Type 0 where
   Trace : Limit
   PrintWeight : Limit
   PartitionBytes : Limit
+  PlanBytes : Limit
   Steps : Limit
   ScheduleBytes : Limit
   ScheduleSteps : Limit
@@ -48,6 +49,8 @@ pub data Refusal : Type 0 where
   BadPart : (name : List ℕ) → Refusal
   -- the text of a partition spells no owners of the mesh
   BadPartition : (number line : ℕ) → Refusal
+  -- the text of a plan gives none of the program
+  BadPlan : (number line : ℕ) → Refusal
   -- the text of a schedule spells no steps
   BadSchedule : (number line : ℕ) → Refusal
   -- a step of a schedule that the plan hasn't, or that was taken
@@ -75,6 +78,7 @@ status_of (BadAccess n at) = 5
 status_of (BadMesh n line) = 6
 status_of (BadPart name) = 7
 status_of (BadPartition n line) = 7
+status_of (BadPlan n line) = 12
 status_of (BadSchedule n line) = 8
 status_of (BadStep n line s) = 8
 status_of (EarlyStep line s t) = 8

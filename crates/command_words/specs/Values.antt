@@ -6,7 +6,7 @@ use Rattle.distribute.specs.Parts.{parts_of, name_of}
 use Rattle.command_words.specs.Refusal as answer
 use Rattle.command_words.specs.Words as words
 use Rattle.command_words.specs.Words.{is_set, OnPlan, Converts, Translates, Restores, ShowsUsage, ShowsVersion}
-use Rattle.command_words.specs.Laws.{AreWithin}
+use Rattle.command_words.specs.Laws.{IsWithin}
 use Rattle.command_words.specs.declared.refusals.WordsRefusal.{WordsRefusal}
 use Rattle.command_words.specs.declared.refusals.WordsRefusal.TheVariants.{Usage, OutOfMemory}
 use Rattle.command_words.specs.declared.options.OptionWords.{OptionWords}
@@ -14,6 +14,8 @@ use Rattle.command_words.specs.declared.asked.Parting.{Parting}
 use Rattle.command_words.specs.declared.asked.Parting.TheVariants as parting
 use Rattle.command_words.specs.declared.asked.Schedule.{Schedule}
 use Rattle.command_words.specs.declared.asked.Schedule.TheVariants as schedule
+use Rattle.command_words.specs.declared.asked.Blocks.{Blocks}
+use Rattle.command_words.specs.declared.asked.Blocks.TheVariants as blocks
 use Rattle.command_words.specs.declared.asked.Options.{Options}
 use Rattle.command_words.specs.declared.asked.PlanJob.{PlanJob}
 use Rattle.command_words.specs.declared.asked.PlanJob.TheVariants as job
@@ -33,6 +35,7 @@ option_words_of w = record {
   partition = option_map (λ s. s.now) w.partition;
   renumber = option_map (λ s. s.now) w.renumber;
   block = option_map (λ s. s.now) w.block;
+  plan = option_map (λ s. s.now) w.plan;
   schedule = option_map (λ s. s.now) w.schedule;
   seed = option_map (λ s. s.now) w.seed;
   workers = option_map (λ s. s.now) w.workers;
@@ -48,6 +51,7 @@ options_found f = record {
   partition = first_value f (codes "partition");
   renumber = first_value f (codes "renumber");
   block = first_value f (codes "block");
+  plan = first_value f (codes "plan");
   schedule = first_value f (codes "schedule");
   seed = first_value f (codes "seed");
   workers = first_value f (codes "workers");
@@ -65,13 +69,18 @@ schedule_in schedule.Standard = words.Standard
 schedule_in (schedule.Drawn seed) = words.Drawn seed
 schedule_in (schedule.Written name) = words.Written name.now
 
+-- blocks and colours of a plan
+abbrev pub blocks_in : Blocks → words.Blocks
+blocks_in (blocks.OfSize places) = words.OfSize places
+blocks_in (blocks.AsPlanned name) = words.AsPlanned name.now
+
 -- a plan's options
 abbrev pub options_in : Options → words.Options
 options_in o = record {
   ranks = o.ranks;
   parting = parting_in o.parting;
   renumber = name_of o.renumber;
-  block = o.block;
+  blocks = blocks_in o.blocks;
   schedule = schedule_in o.schedule;
   workers = o.workers;
   dumps = o.dumps;
@@ -100,10 +109,9 @@ command_of (asked.Restore source) = Restores source.now
 command_of asked.Usage = ShowsUsage
 command_of asked.Version = ShowsVersion
 
--- the numbers of a plan's options are in range
+-- the numbers of what is asked for are in range
 abbrev pub IsInRange : Asked → Type 0
-IsInRange (asked.Plan j o i) = AreWithin (options_in o)
-IsInRange a = Unit {0}
+IsInRange a = IsWithin (command_of a)
 
 -- it is what the words ask for, or their refusal, unless memory ran out
 abbrev pub AsksBy : Result Asked WordsRefusal → Result words.Command answer.Refusal → Type 0

@@ -1,5 +1,5 @@
 -- The words of the command line, by `clap`'s own model of the command.
-use Rattle.std.specs.Prelude.{◌≡◌, ℕ, ◌^◌, Bool, true, false, not, ◌&&◌, nat_lt, nat_eq, List, [], ◌∷◌, ◌++◌, Option, Some, None}
+use Rattle.std.specs.Prelude.{◌≡◌, ℕ, ◌^◌, Bool, true, false, not, ◌&&◌, nat_lt, nat_eq, List, [], ◌∷◌, ◌++◌, map, Option, Some, None}
 use Rattle.std.specs.Prelude.{Result, Ok, Err, codes, if◌then◌else◌, option_and_then, option_map, is_some, length, take, drop}
 use Rattle.std.specs.Str.{bytes_eq}
 use Rattle.clap.specs.Walk.{Rule, Row, first_of}
@@ -34,13 +34,18 @@ pub data Schedule : Type 0 where
   Drawn : (seed : ℕ) → Schedule
   Written : (name : List ℕ) → Schedule
 
--- how a program runs on ranks: how many; who owns which element; new numbers by the map of this name, or none; how many places a
--- block has; in which order the steps are taken, and by how many workers; and whether the memories are dumped behind the output
+-- blocks and colours of a plan: least colours in blocks of this many places, or as the file of this name says
+pub data Blocks : Type 0 where
+  OfSize : (places : ℕ) → Blocks
+  AsPlanned : (name : List ℕ) → Blocks
+
+-- how a program runs on ranks: how many; who owns which element; new numbers by the map of this name, or none; blocks and
+-- colours; in which order the steps are taken, and by how many workers; and whether the memories are dumped behind the output
 pub record Options : Type 0 where
   pub ranks : ℕ
   pub parting : Parting
   pub renumber : Option (List ℕ)
-  pub block : ℕ
+  pub blocks : Blocks
   pub schedule : Schedule
   pub workers : ℕ
   pub dumps : Bool
@@ -83,34 +88,30 @@ flag id = record (option id) { action = Some SetTrue }
 abbrev pub versioned : App → App
 versioned a = on_top (λ s. record s { has_version = true }) a
 
--- `op2 JOB INPUT [MESH]` with nine options of one value, `--dump`, `--help` and `--version`
+-- the command with further rules, one behind the other
+abbrev pub with_rules : App → List Rule → App
+with_rules a [] = a
+with_rules a (r ∷ rs) = with_rules (with_rule a r) rs
+
+-- the options with one value
+abbrev pub options : List (List ℕ)
+options =
+    codes "form" ∷ codes "ranks" ∷ codes "parts" ∷ codes "partition" ∷ codes "renumber" ∷ codes "block" ∷ codes "plan"
+    ∷ codes "schedule" ∷ codes "seed" ∷ codes "workers" ∷ []
+
+-- the options with none
+abbrev pub flags : List (List ℕ)
+flags = codes "dump" ∷ []
+
+-- its words, and then its options
+abbrev pub rules : List Rule
+rules =
+    (positional true (codes "JOB") ∷ positional true (codes "INPUT") ∷ positional false (codes "MESH") ∷ []) ++ map option options
+    ++ map flag flags
+
+-- `op2 JOB INPUT [MESH]` with these options, `--help` and `--version`
 abbrev pub command : App
-command =
-    with_rule
-    (with_rule
-    (with_rule
-    (with_rule
-    (with_rule
-    (with_rule
-    (with_rule
-    (with_rule
-    (with_rule
-    (with_rule
-    (with_rule
-    (with_rule
-    (with_rule (versioned (new_app (codes "op2"))) (positional true (codes "JOB")))
-    (positional true (codes "INPUT")))
-    (positional false (codes "MESH")))
-    (option (codes "form")))
-    (option (codes "ranks")))
-    (option (codes "parts")))
-    (option (codes "partition")))
-    (option (codes "renumber")))
-    (option (codes "block")))
-    (option (codes "schedule")))
-    (option (codes "seed")))
-    (option (codes "workers")))
-    (flag (codes "dump"))
+command = with_rules (versioned (new_app (codes "op2"))) rules
 
 -- ---- what its matches mean
 
@@ -122,6 +123,7 @@ pub record OptionWords : Type 0 where
   pub partition : Option (List ℕ)
   pub renumber : Option (List ℕ)
   pub block : Option (List ℕ)
+  pub plan : Option (List ℕ)
   pub schedule : Option (List ℕ)
   pub seed : Option (List ℕ)
   pub workers : Option (List ℕ)
@@ -141,17 +143,22 @@ options_in rows = record {
   partition = first_of (codes "partition") rows;
   renumber = first_of (codes "renumber") rows;
   block = first_of (codes "block") rows;
+  plan = first_of (codes "plan") rows;
   schedule = first_of (codes "schedule") rows;
   seed = first_of (codes "seed") rows;
   workers = first_of (codes "workers") rows;
   dumps = is_set (first_of (codes "dump") rows);
 }
 
--- none of a plan's options stands
-abbrev pub plans_nothing : OptionWords → Bool
-plans_nothing w =
-    not (is_some w.ranks) && not (is_some w.parts) && not (is_some w.partition) && not (is_some w.renumber) && not (is_some w.block)
-    && not (is_some w.schedule) && not (is_some w.seed) && not (is_some w.workers) && not w.dumps
+-- none stands of the options that say by which plan a program runs
+abbrev pub is_unplanned : OptionWords → Bool
+is_unplanned w =
+    not (is_some w.renumber) && not (is_some w.block) && not (is_some w.plan) && not (is_some w.schedule) && not (is_some w.seed)
+    && not (is_some w.workers)
+
+-- none stands of those of a program's run
+abbrev pub runs_nothing : OptionWords → Bool
+runs_nothing w = not (is_some w.ranks) && not (is_some w.parts) && not (is_some w.partition) && not w.dumps && is_unplanned w
 
 -- what a match asks for, or the words are refused
 abbrev pub or_usage : Option Command → Result Command Refusal
@@ -209,19 +216,26 @@ schedule_of (Some name) None = Some (Written name)
 schedule_of None (Some word) = option_map Drawn (seed_of word)
 schedule_of (Some name) (Some word) = None
 
+-- by `--plan`, or by `--block`, or blocks of 256 places; not by both
+abbrev pub blocks_of : (block plan : Option (List ℕ)) → Option Blocks
+blocks_of None None = Some (OfSize 256)
+blocks_of (Some word) None = option_map OfSize (number_to MAX_BLOCK word)
+blocks_of None (Some name) = Some (AsPlanned name)
+blocks_of (Some word) (Some name) = None
+
 -- with a number of ranks, owners and an order of steps that are known
 abbrev pub options_with : (ranks : ℕ) → Parting → Schedule → OptionWords → Option Options
 options_with ranks parting schedule w =
-    option_and_then (λ block. option_map (λ workers. record {
+    option_and_then (λ blocks. option_map (λ workers. record {
       ranks = ranks;
       parting = parting;
       renumber = w.renumber;
-      block = block;
+      blocks = blocks;
       schedule = schedule;
       workers = workers;
       dumps = w.dumps;
     }) (number_or 1 MAX_WORKERS w.workers))
-    (number_or 256 MAX_BLOCK w.block)
+    (blocks_of w.block w.plan)
 
 -- all options of a plan
 abbrev pub options_of : OptionWords → Option Options
@@ -237,6 +251,10 @@ options_of w =
 abbrev pub plans : PlanJob → Input → OptionWords → Option Command
 plans j input w = if is_some w.form then None else option_map (λ o. OnPlan j o input) (options_of w)
 
+-- the whole plan, which no file gives
+abbrev pub shows_plan : Input → OptionWords → Option Command
+shows_plan input w = if is_some w.plan then None else plans ShowsPlan input w
+
 -- SOURCE and MESH
 abbrev pub on_files : (Input → OptionWords → Option Command) → (input : List ℕ) (mesh : Option (List ℕ)) → OptionWords → Option Command
 on_files job input (Some mesh) w = job (InFiles input mesh) w
@@ -249,12 +267,12 @@ samples input (Some mesh) w = None
 
 -- `convert MESH`, with `--form`
 abbrev pub converts : (input : List ℕ) (mesh : Option (List ℕ)) → OptionWords → Option Command
-converts input None w = if plans_nothing w then option_map (λ f. Converts f input) (form_of w.form) else None
+converts input None w = if runs_nothing w then option_map (λ f. Converts f input) (form_of w.form) else None
 converts input (Some mesh) w = None
 
 -- SOURCE, for the jobs that take nothing else: no mesh and no option
 abbrev pub source_alone : (source : List ℕ) (mesh : Option (List ℕ)) → OptionWords → Option (List ℕ)
-source_alone source mesh w = if not (is_some mesh) && not (is_some w.form) && plans_nothing w then Some source else None
+source_alone source mesh w = if not (is_some mesh) && not (is_some w.form) && runs_nothing w then Some source else None
 
 -- by the job's name
 abbrev pub by_job : (job input : List ℕ) (mesh : Option (List ℕ)) → OptionWords → Option Command
@@ -265,7 +283,7 @@ by_job job input mesh w =
     else if bytes_eq job (codes "translate") then option_map Translates (source_alone input mesh w)
     else if bytes_eq job (codes "restore") then option_map Restores (source_alone input mesh w)
     else if bytes_eq job (codes "check") then on_files (plans Check) input mesh w
-    else if bytes_eq job (codes "plan") then on_files (plans ShowsPlan) input mesh w
+    else if bytes_eq job (codes "plan") then on_files shows_plan input mesh w
     else if bytes_eq job (codes "schedule") then on_files (plans ShowsSchedule) input mesh w
     else None
 
@@ -299,6 +317,11 @@ abbrev pub names_by : Parting → List (List ℕ)
 names_by (ByRule parts) = []
 names_by (ByFile name) = name ∷ []
 
+-- the one that blocks and colours come from, where they do
+abbrev pub names_in_blocks : Blocks → List (List ℕ)
+names_in_blocks (OfSize places) = []
+names_in_blocks (AsPlanned name) = name ∷ []
+
 -- the one that a schedule comes from, where it does
 abbrev pub names_at : Schedule → List (List ℕ)
 names_at Standard = []
@@ -307,7 +330,7 @@ names_at (Written name) = name ∷ []
 
 -- those of a command
 abbrev pub names_of : Command → List (List ℕ)
-names_of (OnPlan j o input) = names_from input ++ names_by o.parting ++ names_at o.schedule
+names_of (OnPlan j o input) = names_from input ++ names_by o.parting ++ names_in_blocks o.blocks ++ names_at o.schedule
 names_of (Converts form mesh) = mesh ∷ []
 names_of (Translates source) = source ∷ []
 names_of (Restores source) = source ∷ []

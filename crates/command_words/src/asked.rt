@@ -41,15 +41,24 @@ pub enum Schedule<'a> {
     Written(&'a str),
 }
 
+/// The blocks and colours of a plan.
+#[derive(Clone, Copy, Debug)]
+pub enum Blocks<'a> {
+    /// Least colours, in blocks of this many places, 1 to 65,536.
+    OfSize(u32),
+    /// As the file of this name says.
+    AsPlanned(&'a str),
+}
+
 /// How a program runs on ranks: how many there are, 1 to 64; who owns which element; new numbers by the map of this
-/// name, if any; how many places a block has, 1 to 65,536; in which order the steps are taken, and by how many workers,
-/// 1 to 64; and whether the ranks' memories are dumped behind the output.
+/// name, if any; blocks and colours; in which order the steps are taken, and by how many workers, 1 to 64; and whether
+/// the ranks' memories are dumped behind the output.
 #[derive(Clone, Copy, Debug)]
 pub struct Options<'a> {
     pub ranks: u32,
     pub parting: Parting<'a>,
     pub renumber: Option<&'a [u8]>,
-    pub block: u32,
+    pub blocks: Blocks<'a>,
     pub schedule: Schedule<'a>,
     pub workers: u32,
     pub dumps: bool,

@@ -6,7 +6,7 @@ ghost use Rattle.clap.specs.Faults.{fault_of};
 ghost use Rattle.clap.specs.Kinds.{HasKind};
 ghost use Rattle.clap.specs.Simple.{app_of, matches_of, with_rule};
 ghost use Rattle.clap.specs.Walk.{rows_of};
-ghost use Rattle.command_words.specs.Words.{command, positional, option, flag};
+ghost use Rattle.command_words.specs.Words.{command, with_rules, positional, option, flag};
 
 use crate::usage::VERSION;
 use clap::{Arg, ArgAction, ArgMatches, Command, Error};
@@ -46,7 +46,24 @@ fn with_flag<'a>(
     command.arg(Arg::new(alloc, id).long(id).action(ArgAction::SetTrue))
 }
 
-// The command: `op2 JOB INPUT [MESH]` with nine options of one value, `--dump`, `--help` and `--version`.
+// The command with further options of one value, one behind the other.
+fn with_options<'a>(
+    alloc: Global,
+    command: Command<'a>,
+    ids: &[&'a str],
+) -> Result<Command<'a>, AllocError>
+    ensures { IfOk result (λ c. app_of c ≡ with_rules (app_of command.entry) (map (λ id. option id.now) ids.now)) }
+{
+    let mut command = command;
+    let mut rest = ids;
+    while let [id, more @ ..] = rest {
+        command = with_option(alloc, command, id)?;
+        rest = more;
+    }
+    Ok(command)
+}
+
+// The command: `op2 JOB INPUT [MESH]` with its options, `--help` and `--version`.
 fn command<'a>(alloc: Global) -> Result<Command<'a>, AllocError>
     ensures { IfOk result (λ c. app_of c ≡ command) }
 {
@@ -54,15 +71,22 @@ fn command<'a>(alloc: Global) -> Result<Command<'a>, AllocError>
     let command = with_positional(alloc, command, "JOB", true)?;
     let command = with_positional(alloc, command, "INPUT", true)?;
     let command = with_positional(alloc, command, "MESH", false)?;
-    let command = with_option(alloc, command, "form")?;
-    let command = with_option(alloc, command, "ranks")?;
-    let command = with_option(alloc, command, "parts")?;
-    let command = with_option(alloc, command, "partition")?;
-    let command = with_option(alloc, command, "renumber")?;
-    let command = with_option(alloc, command, "block")?;
-    let command = with_option(alloc, command, "schedule")?;
-    let command = with_option(alloc, command, "seed")?;
-    let command = with_option(alloc, command, "workers")?;
+    let command = with_options(
+        alloc,
+        command,
+        &[
+            "form",
+            "ranks",
+            "parts",
+            "partition",
+            "renumber",
+            "block",
+            "plan",
+            "schedule",
+            "seed",
+            "workers",
+        ],
+    )?;
     with_flag(alloc, command, "dump")
 }
 

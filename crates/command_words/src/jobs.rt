@@ -1,11 +1,11 @@
 // The jobs: what is asked for by the words JOB, INPUT and MESH, with the options.
 
 ghost use Rattle.std.specs.Prelude.{◌≡◌, option_map};
-ghost use Rattle.command_words.specs.Words.{by_job, samples, converts, source_alone, plans, form_of, InFiles};
+ghost use Rattle.command_words.specs.Words.{by_job, samples, converts, source_alone, plans, shows_plan, form_of, InFiles};
 ghost use Rattle.command_words.specs.Values.{input_in, command_of, job_in, option_words_of};
 
 use crate::asked::{Asked, Input, PlanJob};
-use crate::options::{OptionWords, number_to, options_of, plans_nothing};
+use crate::options::{OptionWords, number_to, options_of, runs_nothing};
 use mesh_gen::MAX_SIDE;
 use mesh_text::Form;
 
@@ -34,7 +34,7 @@ pub fn by_job<'a>(
     } else if job == "check" {
         plans(PlanJob::Check, in_files(input, mesh)?, options)
     } else if job == "plan" {
-        plans(PlanJob::ShowsPlan, in_files(input, mesh)?, options)
+        shows_plan(in_files(input, mesh)?, options)
     } else if job == "schedule" {
         plans(PlanJob::ShowsSchedule, in_files(input, mesh)?, options)
     } else {
@@ -72,7 +72,7 @@ fn converts<'a>(input: &'a str, mesh: Option<&str>, options: &OptionWords<'a>) -
     if mesh.is_some() {
         return None;
     }
-    if plans_nothing(options) {
+    if runs_nothing(options) {
         Some(Asked::Convert {
             form: form_of(options.form)?,
             mesh: input,
@@ -91,7 +91,7 @@ fn source_alone<'a>(
     ensures { option_map (λ s. s.now) result
         ≡ source_alone source.now (option_map (λ s. s.now) mesh.entry) (option_words_of options.now) }
 {
-    if mesh.is_none() && options.form.is_none() && plans_nothing(options) {
+    if mesh.is_none() && options.form.is_none() && runs_nothing(options) {
         Some(source)
     } else {
         None
@@ -110,6 +110,17 @@ fn plans<'a>(job: PlanJob, input: Input<'a>, options: &OptionWords<'a>) -> Optio
             options: options_of(options)?,
             input,
         })
+    }
+}
+
+// The whole plan, which no file gives.
+fn shows_plan<'a>(input: Input<'a>, options: &OptionWords<'a>) -> Option<Asked<'a>>
+    ensures { option_map command_of result ≡ shows_plan (input_in input.entry) (option_words_of options.now) }
+{
+    if options.plan.is_some() {
+        None
+    } else {
+        plans(PlanJob::ShowsPlan, input, options)
     }
 }
 

@@ -14,7 +14,7 @@ mod read;
 mod refusals;
 mod usage;
 
-pub use asked::{Asked, Input, Options, Parting, PlanJob, Schedule};
+pub use asked::{Asked, Blocks, Input, Options, Parting, PlanJob, Schedule};
 pub use laws::{one_fault, options_are_within};
 pub use limits::{MAX_BLOCK, MAX_GROUP, MAX_RANKS, MAX_WORKERS};
 pub use read::read_words;

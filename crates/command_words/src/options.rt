@@ -1,12 +1,12 @@
 // The options of a plan, from the values that the words have.
 
-ghost use Rattle.std.specs.Prelude.{◌≡◌, ◌&&◌, not, is_some, option_map};
+ghost use Rattle.std.specs.Prelude.{◌≡◌, option_map};
 ghost use Rattle.distribute.specs.Parts.{name_of, parts_of};
-ghost use Rattle.command_words.specs.Words.{number_to, number_or, plans_nothing, behind, rule_of, parting_of};
-ghost use Rattle.command_words.specs.Words.{seed_of, schedule_of, options_of};
-ghost use Rattle.command_words.specs.Values.{option_words_of, parting_in, schedule_in, options_in};
+ghost use Rattle.command_words.specs.Words.{number_to, number_or, is_unplanned, runs_nothing, behind, rule_of, parting_of};
+ghost use Rattle.command_words.specs.Words.{seed_of, schedule_of, blocks_of, options_of};
+ghost use Rattle.command_words.specs.Values.{option_words_of, parting_in, schedule_in, blocks_in, options_in};
 
-use crate::asked::{Options, Parting, Schedule};
+use crate::asked::{Blocks, Options, Parting, Schedule};
 use crate::limits::{MAX_BLOCK, MAX_RANKS, MAX_WORKERS};
 use distribute::Parts;
 use op_num::read_u64;
@@ -20,6 +20,7 @@ pub struct OptionWords<'a> {
     pub partition: Option<&'a str>,
     pub renumber: Option<&'a str>,
     pub block: Option<&'a str>,
+    pub plan: Option<&'a str>,
     pub schedule: Option<&'a str>,
     pub seed: Option<&'a str>,
     pub workers: Option<&'a str>,
@@ -40,7 +41,7 @@ pub fn number_to(most: u32, word: &str) -> Option<u32>
     }
 }
 
-// The same; this number, where no word says which.
+// The same; the usual number, where no word says which.
 fn number_or(usual: u32, most: u32, word: Option<&str>) -> Option<u32>
     ensures { result ≡ number_or usual most (option_map (λ s. s.now) word.entry) }
 {
@@ -50,25 +51,27 @@ fn number_or(usual: u32, most: u32, word: Option<&str>) -> Option<u32>
     }
 }
 
-/// Whether none of a plan's options stands.
-pub fn plans_nothing(words: &OptionWords<'_>) -> bool
-    ensures { result ≡ plans_nothing (option_words_of words.now) }
+/// Whether none stands of the options that say by which plan a program runs.
+pub fn is_unplanned(words: &OptionWords<'_>) -> bool
+    ensures { result ≡ is_unplanned (option_words_of words.now) }
+{
+    words.renumber.is_none()
+        && words.block.is_none()
+        && words.plan.is_none()
+        && words.schedule.is_none()
+        && words.seed.is_none()
+        && words.workers.is_none()
+}
+
+/// Whether none stands of the options of a program's run.
+pub fn runs_nothing(words: &OptionWords<'_>) -> bool
+    ensures { result ≡ runs_nothing (option_words_of words.now) }
 {
     words.ranks.is_none()
         && words.parts.is_none()
         && words.partition.is_none()
-        && words.renumber.is_none()
-        && words.block.is_none()
-        && orders_nothing(words)
-}
-
-// Whether none of those stands that say in which order the steps are taken, by how many workers, and that the memories
-// are dumped.
-fn orders_nothing(words: &OptionWords<'_>) -> bool
-    ensures { result ≡ (not (is_some words.now.schedule) && not (is_some words.now.seed)
-        && not (is_some words.now.workers) && not words.now.dumps) }
-{
-    words.schedule.is_none() && words.seed.is_none() && words.workers.is_none() && !words.dumps
+        && !words.dumps
+        && is_unplanned(words)
 }
 
 // What stands behind a prefix, if the word begins with it.
@@ -126,6 +129,19 @@ fn schedule_of<'a>(schedule: Option<&'a str>, seed: Option<&str>) -> Option<Sche
     }
 }
 
+// By `--plan`, or by `--block`, or blocks of 256 places; not by both.
+fn blocks_of<'a>(block: Option<&str>, plan: Option<&'a str>) -> Option<Blocks<'a>>
+    ensures { option_map blocks_in result
+        ≡ blocks_of (option_map (λ s. s.now) block.entry) (option_map (λ s. s.now) plan.entry) }
+{
+    match (block, plan) {
+        (None, None) => Some(Blocks::OfSize(256)),
+        (Some(word), None) => Some(Blocks::OfSize(number_to(MAX_BLOCK, word)?)),
+        (None, Some(name)) => Some(Blocks::AsPlanned(name)),
+        (Some(_), Some(_)) => None,
+    }
+}
+
 // A name, as the bytes of its word.
 fn named<'a>(word: Option<&'a str>) -> Option<&'a [u8]>
     ensures { name_of result ≡ option_map (λ s. s.now) word.entry }
@@ -143,13 +159,13 @@ pub fn options_of<'a>(words: &OptionWords<'a>) -> Option<Options<'a>>
     let ranks = number_or(1, MAX_RANKS, words.ranks)?;
     let parting = parting_of(words.parts, words.partition)?;
     let schedule = schedule_of(words.schedule, words.seed)?;
-    let block = number_or(256, MAX_BLOCK, words.block)?;
+    let blocks = blocks_of(words.block, words.plan)?;
     let workers = number_or(1, MAX_WORKERS, words.workers)?;
     Some(Options {
         ranks,
         parting,
         renumber: named(words.renumber),
-        block,
+        blocks,
         schedule,
         workers,
         dumps: words.dumps,

@@ -69,6 +69,7 @@ fn option_words<'a>(matches: &ArgMatches<'a>) -> OptionWords<'a>
         partition: matches.get_str("partition"),
         renumber: matches.get_str("renumber"),
         block: matches.get_str("block"),
+        plan: matches.get_str("plan"),
         schedule: matches.get_str("schedule"),
         seed: matches.get_str("seed"),
         workers: matches.get_str("workers"),

@@ -1,37 +1,42 @@
 // The texts that the program writes about itself.
 
 /// What `--help` writes.
-pub const USAGE: &str = "op2 JOB INPUT [MESH]
+pub const USAGE: &str = "op2 JOB INPUT [MESH] [OPTION ..]
 
 Jobs
   run            runs the OP2 program in the file INPUT over the mesh in the file MESH, and writes what it prints
   sample         as run, with a program of fluxes on a grid of INPUT times INPUT cells, which it makes itself; no MESH
-  convert        writes the mesh in the file INPUT again, in the version that --form names; no MESH
-  translate      writes the source in the file INPUT with each loop call a call of its own stub, and behind it a table of
-                 the stubs; no MESH and no option
-  restore        the way back: writes the source in the file INPUT with each call of a stub a loop call; no MESH and no option
   check          as run, but the program is planned and not run, and the sizes of the plan are written
   plan           as check, and the whole plan is written
   schedule       as check, and the schedule is written: the steps of the plan in their order, one a line
+  convert        writes the mesh in the file INPUT again, in the version that --form names; no MESH
+  translate      writes the source in the file INPUT with each loop call a call of its own stub, and behind it a table of
+                 the stubs; no MESH and no option
+  restore        the way back: each call of a stub in the file INPUT is written as a loop call; no MESH and no option
 
 Words
   INPUT          the name of the source file; for sample a number from 1 to 200; for convert the name of the mesh file
   MESH           the name of the mesh file; for run, check, plan and schedule
 
-Options, of which translate and restore take none
-  --form FORM    for convert: the version of the mesh format, 1 or 2 (runs of equal values); 2 where it isn't given
-  --ranks N      not for convert: how many ranks there are, from 1 to 64; 1 where it isn't given
-  --parts RULE   not for convert: who owns which element; block where it isn't given
+Options of run, sample, check, plan and schedule
+  --ranks N      how many ranks there are, from 1 to 64; 1 where it isn't given
+  --parts RULE   who owns which element; block where it isn't given
                    block       each set in blocks of consecutive elements
                    bisect:DAT  cuts along the values of the dat DAT, and the other sets by their maps
                    grow:MAP    growth over the neighbours by the map MAP, and the other sets by their maps
-  --partition F  not for convert, in place of --parts: who owns which element, as the file F says
-  --renumber MAP not for convert: new numbers by Cuthill and McKee over the map MAP; none where it isn't given
-  --block N      not for convert: how many places a block has, from 1 to 65536; 256 where it isn't given
-  --schedule F   not for convert: the steps in the order of the file F; in the standard order where it isn't given
-  --seed N       not for convert, in place of --schedule: the steps in an order drawn from N, from 0 to 2^64 - 1
-  --workers N    not for convert: how many threads run the elements, from 1 to 64; 1 where it isn't given
+  --partition F  in place of --parts: who owns which element, as the file F says
+  --renumber MAP new numbers by Cuthill and McKee over the map MAP; none where it isn't given
+  --block N      how many places a block has, from 1 to 65536; 256 where it isn't given
+  --plan F       in place of --block: blocks and colours as in the plan of the file F; not for plan
+  --schedule F   the steps in the order of the file F; in the standard order where it isn't given
+  --seed N       in place of --schedule: the steps in an order drawn from N, from 0 to 2^64 - 1
+  --workers N    how many threads run the elements, from 1 to 64; 1 where it isn't given
   --dump         for run and sample: where the run has no fault, what each rank holds at its end is written too
+
+Options of convert
+  --form FORM    the version of the mesh format, 1 or 2 (runs of equal values); 2 where it isn't given
+
+Options that stand alone
   -h, --help     writes this text
   -V, --version  writes the version
 
@@ -47,6 +52,7 @@ Statuses
   8              the schedule is refused: its file isn't one, or the plan doesn't accept its steps
   9              the run has a fault
   10             a size is beyond its limit
+  12             the plan is refused: its file isn't one of the program
   14             the source is not translated, since a name is that of a stub, or not restored, since a stub isn't called
                  or a loop call is left
 ";
