@@ -13,11 +13,12 @@ use Rattle.schedule_steps.specs.declared.step.Step.{Step}
 use Rattle.schedule_text.specs.declared.lines.TheConstants.{SCHEDULE_STEPS}
 use Rattle.schedule_text.specs.Written.{tokens_of}
 use Rattle.loop_plan.specs.StepCounts.{max_steps}
-use Rattle.answer_lines.specs.declared.limits.TheConstants.{SOURCE_BYTES, PARTITION_BYTES, SCHEDULE_BYTES}
+use Rattle.answer_lines.specs.declared.limits.TheConstants.{SOURCE_BYTES, PARTITION_BYTES, PLAN_BYTES, SCHEDULE_BYTES}
 use Rattle.command_words.specs.Refusal.{Limit, SourceBytes, MeshBytes, MeshValues, Sets, Maps, Dats, SetSize, Dim, MeshCells}
-use Rattle.command_words.specs.Refusal.{Arguments, Trace, PrintWeight, PartitionBytes, Steps, ScheduleBytes, ScheduleSteps, Refusal, Usage}
-use Rattle.command_words.specs.Refusal.{CannotRead, NoTokens, NoTree, TooDeep, BadName, BadBinding, BadTarget, BadAccess, BadMesh, BadPart}
-use Rattle.command_words.specs.Refusal.{BadPartition, BadSchedule, BadStep, EarlyStep, LeftStep, BadStub, BeyondLimit, status_of}
+use Rattle.command_words.specs.Refusal.{Arguments, Trace, PrintWeight, PartitionBytes, PlanBytes, Steps, ScheduleBytes, ScheduleSteps}
+use Rattle.command_words.specs.Refusal.{Refusal, Usage, CannotRead, NoTokens, NoTree, TooDeep, BadName, BadBinding, BadTarget, BadAccess}
+use Rattle.command_words.specs.Refusal.{BadMesh, BadPart, BadPartition, BadPlan, BadSchedule, BadStep, EarlyStep, LeftStep, BadStub}
+use Rattle.command_words.specs.Refusal.{BeyondLimit, status_of}
 
 -- the name of a limit
 abbrev pub limit_name : Limit → List ℕ
@@ -34,6 +35,7 @@ limit_name Arguments = codes "arguments"
 limit_name Trace = codes "trace"
 limit_name PrintWeight = codes "print-weight"
 limit_name PartitionBytes = codes "partition-bytes"
+limit_name PlanBytes = codes "plan-bytes"
 limit_name Steps = codes "steps"
 limit_name ScheduleBytes = codes "schedule-bytes"
 limit_name ScheduleSteps = codes "schedule-steps"
@@ -53,6 +55,7 @@ most Arguments = max_arguments
 most Trace = max_trace
 most PrintWeight = max_weight
 most PartitionBytes = PARTITION_BYTES
+most PlanBytes = PLAN_BYTES
 most Steps = max_steps
 most ScheduleBytes = SCHEDULE_BYTES
 most ScheduleSteps = SCHEDULE_STEPS
@@ -84,6 +87,7 @@ said_of (BadAccess n at) = numbered (codes "source access") n at
 said_of (BadMesh n line) = codes "mesh " ++ decimal n ++ codes " line " ++ decimal line
 said_of (BadPart name) = codes "partition name " ++ name
 said_of (BadPartition n line) = codes "partition " ++ decimal n ++ codes " line " ++ decimal line
+said_of (BadPlan n line) = codes "plan " ++ decimal n ++ codes " line " ++ decimal line
 said_of (BadSchedule n line) = codes "schedule text " ++ decimal n ++ codes " line " ++ decimal line
 said_of (BadStep n line s) = codes "schedule step " ++ decimal n ++ codes " line " ++ decimal line ++ step_name s
 said_of (EarlyStep line s t) = codes "schedule step 3 line " ++ decimal line ++ step_name s ++ codes " needs" ++ step_name t

@@ -45,6 +45,7 @@ fn status_of(refusal: &Refusal<'_>) -> u8
         Refusal::BadMesh { .. } => 6,
         Refusal::BadPart(_) => 7,
         Refusal::BadPartition { .. } => 7,
+        Refusal::BadPlan { .. } => 12,
         Refusal::BadSchedule { .. } => 8,
         Refusal::BadStep { .. } => 8,
         Refusal::EarlyStep { .. } => 8,

@@ -19,6 +19,9 @@ pub const SOURCE_BYTES: u64 = 1_048_576;
 /// The most bytes of the file of a partition.
 pub const PARTITION_BYTES: u64 = 67_108_864;
 
+/// The most bytes of the file of a plan.
+pub const PLAN_BYTES: u64 = 268_435_456;
+
 /// The most bytes of the file of a schedule.
 pub const SCHEDULE_BYTES: u64 = 268_435_456;
 
@@ -40,6 +43,7 @@ pub fn most(limit: Limit) -> u64
         Limit::Trace => MAX_TRACE,
         Limit::PrintWeight => MAX_WEIGHT,
         Limit::PartitionBytes => PARTITION_BYTES,
+        Limit::PlanBytes => PLAN_BYTES,
         Limit::Steps => MAX_STEPS,
         Limit::ScheduleBytes => SCHEDULE_BYTES,
         Limit::ScheduleSteps => SCHEDULE_STEPS,
@@ -64,6 +68,7 @@ pub fn limit_name(limit: Limit) -> &'static [u8]
         Limit::Trace => b"trace",
         Limit::PrintWeight => b"print-weight",
         Limit::PartitionBytes => b"partition-bytes",
+        Limit::PlanBytes => b"plan-bytes",
         Limit::Steps => b"steps",
         Limit::ScheduleBytes => b"schedule-bytes",
         Limit::ScheduleSteps => b"schedule-steps",

@@ -173,6 +173,7 @@ fn put_said(out: &mut Vec<u8>, refusal: &Refusal<'_>) -> Result<(), OutOfMemory>
         Refusal::BadMesh { number, line } => put_on_line(out, b"mesh", *number, *line),
         Refusal::BadPart(name) => put_named(out, b"partition name ", *name),
         Refusal::BadPartition { number, line } => put_on_line(out, b"partition", *number, *line),
+        Refusal::BadPlan { number, line } => put_on_line(out, b"plan", *number, *line),
         Refusal::BadSchedule { number, line } => put_on_line(out, b"schedule text", *number, *line),
         Refusal::BadStep { number, line, step } => put_bad_step(out, *number, *line, *step),
         Refusal::EarlyStep {

@@ -21,6 +21,7 @@ pub enum Limit {
     Trace,
     PrintWeight,
     PartitionBytes,
+    PlanBytes,
     Steps,
     ScheduleBytes,
     ScheduleSteps,
@@ -77,6 +78,11 @@ pub enum Refusal<'a> {
     BadPart(&'a [u8]),
     /// The text of a partition spells no owners of the mesh.
     BadPartition {
+        number: u8,
+        line: u32,
+    },
+    /// The text of a plan gives none of the program.
+    BadPlan {
         number: u8,
         line: u32,
     },
