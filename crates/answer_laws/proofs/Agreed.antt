@@ -241,7 +241,7 @@ module _ (walks_alike : WalksAlike) (kernels_are_one : KernelsAreOne) (one_read 
   commands_agree : (words : List (List ℕ)) (files : Files) (c : Command) → WordsAre words (Ok c) → (a b : Answer) → CommandAnswers c files a → CommandAnswers c files b → Agree words files a b
   commands_agree words files (OnPlan j o input) asks a b h k =
       agree_for words files (Lacks input files) (λ l. record { command = OnPlan j o input; bytes = l.0; asks = asks; held = l.1; lacks = l.2 }) a b
-      (programs_agree (PlannedAnswers j o files) (plans_alike j o files (within words j o input asks).some) input files a b h k)
+      (programs_agree (PlannedAnswers j o files) (plans_alike j o files (within words (OnPlan j o input) asks).some) input files a b h k)
   commands_agree words files (Converts form mesh) asks a b h k = agree_for words files ⊥ (λ x. absurd x) a b (converts_agree form mesh files a b h k)
   commands_agree words files (Translates source) asks a b h k =
       agree_for words files (FileLacks source files) (λ l. record { command = Translates source; bytes = l.0; asks = asks; held = l.1; lacks = l.2 }) a b (translations_agree source files a b h k)

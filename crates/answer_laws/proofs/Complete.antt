@@ -5,42 +5,60 @@ use Rattle.answer_lines.specs.Lines.{Answer}
 use Rattle.distribute.specs.Parts.{Parts}
 use Rattle.bound_program.specs.Values.{BoundValue}
 use Rattle.command_words.specs.Refusal.{Refusal}
-use Rattle.command_words.specs.Words.{PlanJob, Parting, ByRule, ByFile, Schedule, Standard, Drawn, Written, Options, group_of, Command, OnPlan, InFiles, OfSample, Converts, Translates, Restores, ShowsUsage, ShowsVersion, names_by, names_at, names_in, names_of, named_by}
-use Rattle.answers.specs.Judgements.{SourceIs, TreeIs, TypesAre, MeshIs, EntriesAre, BoundIs, AccessesAre, NumbersOf, PartsOf, OwnersOf, Planned, PlanIs, Order, OrderOf, outline_of, StepsOf}
+use Rattle.command_words.specs.Words.{PlanJob, Parting, ByRule, ByFile, Blocks, OfSize, AsPlanned, Schedule, Standard, Drawn, Written, Options, group_of, Command, OnPlan, InFiles, OfSample, Converts, Translates, Restores, ShowsUsage, ShowsVersion, names_by, names_in_blocks, names_at, names_in, names_of, named_by}
+use Rattle.answers.specs.Judgements.{SourceIs, TreeIs, TypesAre, MeshIs, EntriesAre, BoundIs, AccessesAre, NumbersOf, PartsOf, OwnersOf, Colouring, ColouringOf, Planned, PlanIs, Order, OrderOf, outline_of, StepsOf}
 use Rattle.answers.specs.Answers.{given, planned_answer, PlannedAnswers, PlanAnswers, CommandAnswers, Answers}
 use Rattle.answers.specs.Endings.{Ending, Answered, OutOfMemory, Unread, Unwritten, ending_status, unwritten_status, Call, Tells, IsWritten, EndsBy, Ends, TellTheAnswer, IsComplete}
 use Rattle.answers.specs.Laws.{AnswersAgree}
 use Rattle.answer_laws.proofs.Given.{given_on}
 
--- owners and a schedule that come from no file
+-- owners, blocks and colours, and a schedule that come from no file
 parts_over : (p : Parting) → names_by p ≡ [] → (f g : Files) (r : Result Parts Refusal) → PartsOf p f r → PartsOf p g r
 parts_over (ByRule rule) none f g r h = h
 parts_over (ByFile name) none f g r h = absurd (let bad : ⊥ = cc in bad)
+
+colouring_over : (x : Blocks) → names_in_blocks x ≡ [] → (f g : Files) (r : Result Colouring Refusal) → ColouringOf x f r → ColouringOf x g r
+colouring_over (OfSize places) none f g r h = h
+colouring_over (AsPlanned name) none f g r h = absurd (let bad : ⊥ = cc in bad)
 
 order_over : (s : Schedule) → names_at s ≡ [] → (f g : Files) (r : Result Order Refusal) → OrderOf s f r → OrderOf s g r
 order_over Standard none f g r h = h
 order_over (Drawn seed) none f g r h = h
 order_over (Written name) none f g r h = absurd (let bad : ⊥ = cc in bad)
 
-no_names : (p : Parting) (s : Schedule) → names_by p ++ names_at s ≡ [] → (names_by p ≡ []) × (names_at s ≡ [])
-no_names (ByRule rule) s none = (refl, none)
-no_names (ByFile name) s none = absurd (let bad : ⊥ = cc in bad)
+-- the options name no file
+pub record NameNone (o : Options) : Type 0 where
+  pub parting : names_by o.parting ≡ []
+  pub blocks : names_in_blocks o.blocks ≡ []
+  pub schedule : names_at o.schedule ≡ []
 
-planned_over : (j : PlanJob) (o : Options) → names_by o.parting ++ names_at o.schedule ≡ [] → (f g : Files) (b : BoundValue) (a : Answer) → PlannedAnswers j o f b a → PlannedAnswers j o g b a
+no_names : (o : Options) → names_by o.parting ++ names_in_blocks o.blocks ++ names_at o.schedule ≡ [] → NameNone o
+no_names o none = by_parts o.parting o.blocks refl refl none
+  where
+    by_blocks : (x : Blocks) → o.blocks ≡ x → names_by o.parting ≡ [] → names_in_blocks x ++ names_at o.schedule ≡ [] → NameNone o
+    by_blocks (OfSize places) is part k = record { parting = part; blocks = ap names_in_blocks is; schedule = k }
+    by_blocks (AsPlanned name) is part k = absurd (let bad : ⊥ = cc in bad)
+
+    by_parts : (p : Parting) (x : Blocks) → o.parting ≡ p → o.blocks ≡ x → names_by p ++ names_in_blocks x ++ names_at o.schedule ≡ [] → NameNone o
+    by_parts (ByRule rule) x is are k = by_blocks x are (ap names_by is) k
+    by_parts (ByFile name) x is are k = absurd (let bad : ⊥ = cc in bad)
+
+planned_over : (j : PlanJob) (o : Options) → NameNone o → (f g : Files) (b : BoundValue) (a : Answer) → PlannedAnswers j o f b a → PlannedAnswers j o g b a
 planned_over j o none f g b a h = (
   h.0,
   given_on (NumbersOf o b) (NumbersOf o b) _ _ (λ r k. k) (λ n.
-      given_on (PartsOf o.parting f) (PartsOf o.parting g) _ _ (parts_over o.parting (no_names o.parting o.schedule none).0 f g) (λ parts.
+      given_on (PartsOf o.parting f) (PartsOf o.parting g) _ _ (parts_over o.parting none.parting f g) (λ parts.
       given_on (OwnersOf o b parts) (OwnersOf o b parts) _ _ (λ r k. k) (λ u.
-      given_on (PlanIs o b u n) (PlanIs o b u n) _ _ (λ r k. k) (λ p.
-      given_on (OrderOf o.schedule f) (OrderOf o.schedule g) (by_order p) (by_order p) (order_over o.schedule (no_names o.parting o.schedule none).1 f g) (λ order x k. k))))) a h.1,
+      given_on (ColouringOf o.blocks f) (ColouringOf o.blocks g) _ _ (colouring_over o.blocks none.blocks f g) (λ colouring.
+      given_on (PlanIs colouring b u n) (PlanIs colouring b u n) _ _ (λ r k. k) (λ p.
+      given_on (OrderOf o.schedule f) (OrderOf o.schedule g) (by_order p) (by_order p) (order_over o.schedule none.schedule f g) (λ order x k. k)))))) a h.1,
 )
   where
     by_order : Planned → Order → Answer → Type 0
     by_order p order = given (StepsOf (outline_of b p) (group_of o) order) (λ steps x. x ≡ planned_answer j o.dumps b p steps)
 
 -- the sample is read from no file
-sample_over : (j : PlanJob) (o : Options) (side : ℕ) → names_by o.parting ++ names_at o.schedule ≡ [] → (f g : Files) (a : Answer) → PlanAnswers j o (OfSample side) f a → PlanAnswers j o (OfSample side) g a
+sample_over : (j : PlanJob) (o : Options) (side : ℕ) → NameNone o → (f g : Files) (a : Answer) → PlanAnswers j o (OfSample side) f a → PlanAnswers j o (OfSample side) g a
 sample_over j o side none f g =
     given_on (SourceIs (OfSample side) f) (SourceIs (OfSample side) g) _ _ (λ r k. k) (λ bytes.
     given_on (TreeIs bytes) (TreeIs bytes) _ _ (λ r k. k) (λ p.
@@ -53,7 +71,7 @@ sample_over j o side none f g =
 -- a command that names no file has its answers over any
 same_command : (c : Command) → names_of c ≡ [] → (f g : Files) (a : Answer) → CommandAnswers c f a → CommandAnswers c g a
 same_command (OnPlan j o (InFiles source mesh)) none f g a h = absurd (let bad : ⊥ = cc in bad)
-same_command (OnPlan j o (OfSample side)) none f g a h = sample_over j o side none f g a h
+same_command (OnPlan j o (OfSample side)) none f g a h = sample_over j o side (no_names o none) f g a h
 same_command (Converts form mesh) none f g a h = absurd (let bad : ⊥ = cc in bad)
 same_command (Translates source) none f g a h = absurd (let bad : ⊥ = cc in bad)
 same_command (Restores source) none f g a h = absurd (let bad : ⊥ = cc in bad)

@@ -4,11 +4,11 @@ use Rattle.std.specs.Fmt.{digits}
 use Rattle.op_num.specs.declared.refusals.Fault.TheVariants.{DivZero}
 use Rattle.clap.proofs.OnLiterals.{clap_on_literals}
 use Rattle.mesh_text.specs.declared.entry.Form.TheVariants as form
-use Rattle.command_words.specs.Refusal.{CannotRead, TooDeep, NoTokens, BadName, BadTarget, BadAccess, BadMesh, BadPart, BadPartition, BadSchedule, BadStep, EarlyStep, LeftStep, BadStub, BeyondLimit, PartitionBytes, Steps, ScheduleSteps, SetSize, Usage}
+use Rattle.command_words.specs.Refusal.{CannotRead, TooDeep, NoTokens, BadName, BadTarget, BadAccess, BadMesh, BadPart, BadPartition, BadPlan, BadSchedule, BadStep, EarlyStep, LeftStep, BadStub, BeyondLimit, PartitionBytes, PlanBytes, Steps, ScheduleSteps, SetSize, Usage}
 use Rattle.answer_lines.specs.Lines.{line_of, fault_line}
 use Rattle.distribute.specs.Parts.{Block, Bisect, Grow}
 use Rattle.schedule_steps.specs.declared.step.Step.TheVariants.{Send, Recv, Begin, Join}
-use Rattle.command_words.specs.Words.{Options, Check, ShowsPlan, ShowsSchedule, RunsPlan, ByRule, ByFile, Standard, Drawn, Written, InFiles, OfSample, OnPlan, Converts, Translates, Restores, ShowsUsage, ShowsVersion, WordsAre}
+use Rattle.command_words.specs.Words.{Options, Check, ShowsPlan, ShowsSchedule, RunsPlan, ByRule, ByFile, OfSize, AsPlanned, Standard, Drawn, Written, InFiles, OfSample, OnPlan, Converts, Translates, Restores, ShowsUsage, ShowsVersion, WordsAre}
 
 -- ---- lines
 
@@ -69,6 +69,14 @@ line_of_partition_bytes : line_of (BeyondLimit PartitionBytes 67108865) ≡ code
 unfolding digits
 line_of_partition_bytes = refl
 
+line_of_plan : line_of (BadPlan 7 5) ≡ codes "op2: plan 7 line 5\n"
+unfolding digits
+line_of_plan = refl
+
+line_of_plan_bytes : line_of (BeyondLimit PlanBytes 268435457) ≡ codes "op2: limit plan-bytes 268435456 268435457\n"
+unfolding digits
+line_of_plan_bytes = refl
+
 line_of_schedule : line_of (BadSchedule 2 4) ≡ codes "op2: schedule text 2 line 4\n"
 unfolding digits
 line_of_schedule = refl
@@ -97,7 +105,7 @@ line_of_stub = refl
 
 -- a plan's options where none is told
 abbrev plainly : Options
-plainly = record { ranks = 1; parting = ByRule Block; renumber = None; block = 256; schedule = Standard; workers = 1; dumps = false }
+plainly = record { ranks = 1; parting = ByRule Block; renumber = None; blocks = OfSize 256; schedule = Standard; workers = 1; dumps = false }
 
 a_run : WordsAre (codes "op2" ∷ codes "run" ∷ codes "s.c" ∷ codes "m" ∷ []) (Ok (OnPlan RunsPlan plainly (InFiles (codes "s.c") (codes "m"))))
 unfolding clap_on_literals
@@ -157,17 +165,17 @@ unfolding clap_on_literals
 a_check = refl
 
 a_plan : WordsAre (codes "op2" ∷ codes "plan" ∷ codes "--ranks=08" ∷ codes "s.c" ∷ codes "m" ∷ codes "--parts" ∷ codes "bisect:x" ∷ codes "--block=2" ∷ [])
-    (Ok (OnPlan ShowsPlan (record { ranks = 8; parting = ByRule (Bisect (codes "x")); renumber = None; block = 2; schedule = Standard; workers = 1; dumps = false }) (InFiles (codes "s.c") (codes "m"))))
+    (Ok (OnPlan ShowsPlan (record { ranks = 8; parting = ByRule (Bisect (codes "x")); renumber = None; blocks = OfSize 2; schedule = Standard; workers = 1; dumps = false }) (InFiles (codes "s.c") (codes "m"))))
 unfolding clap_on_literals
 a_plan = refl
 
 a_plan_by_growth : WordsAre (codes "op2" ∷ codes "plan" ∷ codes "s.c" ∷ codes "m" ∷ codes "--parts=grow:" ∷ codes "--renumber=pe" ∷ [])
-    (Ok (OnPlan ShowsPlan (record { ranks = 1; parting = ByRule (Grow []); renumber = Some (codes "pe"); block = 256; schedule = Standard; workers = 1; dumps = false }) (InFiles (codes "s.c") (codes "m"))))
+    (Ok (OnPlan ShowsPlan (record { ranks = 1; parting = ByRule (Grow []); renumber = Some (codes "pe"); blocks = OfSize 256; schedule = Standard; workers = 1; dumps = false }) (InFiles (codes "s.c") (codes "m"))))
 unfolding clap_on_literals
 a_plan_by_growth = refl
 
 a_plan_by_a_file : WordsAre (codes "op2" ∷ codes "plan" ∷ codes "s.c" ∷ codes "m" ∷ codes "--partition=p" ∷ [])
-    (Ok (OnPlan ShowsPlan (record { ranks = 1; parting = ByFile (codes "p"); renumber = None; block = 256; schedule = Standard; workers = 1; dumps = false }) (InFiles (codes "s.c") (codes "m"))))
+    (Ok (OnPlan ShowsPlan (record { ranks = 1; parting = ByFile (codes "p"); renumber = None; blocks = OfSize 256; schedule = Standard; workers = 1; dumps = false }) (InFiles (codes "s.c") (codes "m"))))
 unfolding clap_on_literals
 a_plan_by_a_file = refl
 
@@ -196,12 +204,12 @@ unfolding clap_on_literals
 one_word_more = refl
 
 a_run_on_ranks : WordsAre (codes "op2" ∷ codes "run" ∷ codes "s.c" ∷ codes "m" ∷ codes "--ranks" ∷ codes "2" ∷ [])
-    (Ok (OnPlan RunsPlan (record { ranks = 2; parting = ByRule Block; renumber = None; block = 256; schedule = Standard; workers = 1; dumps = false }) (InFiles (codes "s.c") (codes "m"))))
+    (Ok (OnPlan RunsPlan (record { ranks = 2; parting = ByRule Block; renumber = None; blocks = OfSize 256; schedule = Standard; workers = 1; dumps = false }) (InFiles (codes "s.c") (codes "m"))))
 unfolding clap_on_literals
 a_run_on_ranks = refl
 
 a_run_in_blocks : WordsAre (codes "op2" ∷ codes "run" ∷ codes "s.c" ∷ codes "m" ∷ codes "--block=1" ∷ [])
-    (Ok (OnPlan RunsPlan (record { ranks = 1; parting = ByRule Block; renumber = None; block = 1; schedule = Standard; workers = 1; dumps = false }) (InFiles (codes "s.c") (codes "m"))))
+    (Ok (OnPlan RunsPlan (record { ranks = 1; parting = ByRule Block; renumber = None; blocks = OfSize 1; schedule = Standard; workers = 1; dumps = false }) (InFiles (codes "s.c") (codes "m"))))
 unfolding clap_on_literals
 a_run_in_blocks = refl
 
@@ -210,19 +218,36 @@ unfolding clap_on_literals
 a_run_on_ranks_of_a_version = refl
 
 a_sample_on_ranks : WordsAre (codes "op2" ∷ codes "sample" ∷ codes "2" ∷ codes "--ranks" ∷ codes "2" ∷ codes "--workers" ∷ codes "4" ∷ [])
-    (Ok (OnPlan RunsPlan (record { ranks = 2; parting = ByRule Block; renumber = None; block = 256; schedule = Standard; workers = 4; dumps = false }) (OfSample 2)))
+    (Ok (OnPlan RunsPlan (record { ranks = 2; parting = ByRule Block; renumber = None; blocks = OfSize 256; schedule = Standard; workers = 4; dumps = false }) (OfSample 2)))
 unfolding clap_on_literals
 a_sample_on_ranks = refl
 
 a_drawn_schedule : WordsAre (codes "op2" ∷ codes "schedule" ∷ codes "s.c" ∷ codes "m" ∷ codes "--seed" ∷ codes "7" ∷ [])
-    (Ok (OnPlan ShowsSchedule (record { ranks = 1; parting = ByRule Block; renumber = None; block = 256; schedule = Drawn 7; workers = 1; dumps = false }) (InFiles (codes "s.c") (codes "m"))))
+    (Ok (OnPlan ShowsSchedule (record { ranks = 1; parting = ByRule Block; renumber = None; blocks = OfSize 256; schedule = Drawn 7; workers = 1; dumps = false }) (InFiles (codes "s.c") (codes "m"))))
 unfolding clap_on_literals
 a_drawn_schedule = refl
 
 a_run_by_a_schedule : WordsAre (codes "op2" ∷ codes "run" ∷ codes "s.c" ∷ codes "m" ∷ codes "--schedule" ∷ codes "f" ∷ codes "--dump" ∷ [])
-    (Ok (OnPlan RunsPlan (record { ranks = 1; parting = ByRule Block; renumber = None; block = 256; schedule = Written (codes "f"); workers = 1; dumps = true }) (InFiles (codes "s.c") (codes "m"))))
+    (Ok (OnPlan RunsPlan (record { ranks = 1; parting = ByRule Block; renumber = None; blocks = OfSize 256; schedule = Written (codes "f"); workers = 1; dumps = true }) (InFiles (codes "s.c") (codes "m"))))
 unfolding clap_on_literals
 a_run_by_a_schedule = refl
+
+a_check_of_a_plan : WordsAre (codes "op2" ∷ codes "check" ∷ codes "s.c" ∷ codes "m" ∷ codes "--plan" ∷ codes "p" ∷ [])
+    (Ok (OnPlan Check (record { ranks = 1; parting = ByRule Block; renumber = None; blocks = AsPlanned (codes "p"); schedule = Standard; workers = 1; dumps = false }) (InFiles (codes "s.c") (codes "m"))))
+unfolding clap_on_literals
+a_check_of_a_plan = refl
+
+a_plan_in_blocks : WordsAre (codes "op2" ∷ codes "sample" ∷ codes "2" ∷ codes "--plan=p" ∷ codes "--block=256" ∷ []) (Err Usage)
+unfolding clap_on_literals
+a_plan_in_blocks = refl
+
+a_plan_by_a_plan : WordsAre (codes "op2" ∷ codes "plan" ∷ codes "s.c" ∷ codes "m" ∷ codes "--plan=p" ∷ []) (Err Usage)
+unfolding clap_on_literals
+a_plan_by_a_plan = refl
+
+a_mesh_by_a_plan : WordsAre (codes "op2" ∷ codes "convert" ∷ codes "m" ∷ codes "--plan=p" ∷ []) (Err Usage)
+unfolding clap_on_literals
+a_mesh_by_a_plan = refl
 
 two_schedules : WordsAre (codes "op2" ∷ codes "run" ∷ codes "s.c" ∷ codes "m" ∷ codes "--seed" ∷ codes "1" ∷ codes "--schedule" ∷ codes "f" ∷ []) (Err Usage)
 unfolding clap_on_literals

@@ -170,7 +170,7 @@ module _ (some_lexed : (bytes : List ℕ) → (o : Outcome) × Lexes bytes o) (s
 
   command_answers : (words : List (List ℕ)) (files : Files) (c : Command) → WordsAre words (Ok c) → ¬ ((a : Answer) → ¬ CommandAnswers c files a)
   command_answers words files (OnPlan j o input) asks =
-      bound_answers (PlannedAnswers j o files) (planned j o files (within words j o input asks)) input files
+      bound_answers (PlannedAnswers j o files) (planned j o files (within words (OnPlan j o input) asks)) input files
   command_answers words files (Converts form mesh) asks =
       given_one _ _ (held_exists MeshBytes mesh (files mesh)) (λ text _.
       given_one _ _ (entries_exist text) (λ es _ n. n _ refl))

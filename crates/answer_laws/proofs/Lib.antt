@@ -8,6 +8,7 @@ mod IsOne
 mod Translations
 mod Held
 mod SchedulesAgree
+mod Colourings
 mod PlansAgree
 mod Agreed
 mod SchedulesExist

@@ -23,54 +23,24 @@ use Rattle.bound_program.specs.Values.{BoundValue}
 use Rattle.bound_program.specs.Fits.{Fits}
 use Rattle.run_model.specs.Programs.{first_fault}
 use Rattle.loop_plan.specs.Values.{PlanValue}
-use Rattle.loop_plan.specs.Needs.{item_at}
-use Rattle.loop_plan.specs.Proper.{Proper, HasLeastColours}
 use Rattle.loop_plan.specs.PlanText.{plan_text}
-use Rattle.loop_plan.specs.StepCounts.{program_steps}
-use Rattle.loop_plan.specs.StepOutline.{step_outline}
-use Rattle.loop_plan.specs.OnePlan.{AreAlike, LeastColoursAreOne, PlanTextsAreOne, PlansAreOne, StepCountsAreOne}
+use Rattle.loop_plan.specs.OnePlan.{AreAlike, PlanTextsAreOne, PlansAreOne}
 use Rattle.bound_plan.specs.Memories.{dump_of, run_output}
 use Rattle.bound_plan.specs.OneRun.{with_kernels, ProgramsAreOne, DumpsAreOne}
 use Rattle.op_outside.specs.Outside.{Files}
-use Rattle.command_words.specs.Refusal.{Refusal, PartitionBytes, BeyondLimit, Steps}
+use Rattle.command_words.specs.Refusal.{Refusal, PartitionBytes, PlanBytes}
 use Rattle.answer_lines.specs.Lines.{Answer, done, refused}
 use Rattle.answers.specs.Said.{SaysNumbers, SaysOwners}
-use Rattle.command_words.specs.Words.{PlanJob, Check, ShowsPlan, ShowsSchedule, RunsPlan, Parting, ByRule, ByFile, Options, group_of}
-use Rattle.answers.specs.Judgements.{NumbersOf, PartsOf, OwnersOf, Planned, IsPlanned, HasManySteps, PlanIs, Order, OrderOf, outline_of, StepsOf}
+use Rattle.command_words.specs.Words.{PlanJob, Check, ShowsPlan, ShowsSchedule, RunsPlan, Parting, ByRule, ByFile, Blocks, OfSize, AsPlanned, Options, group_of}
+use Rattle.answers.specs.Judgements.{NumbersOf, PartsOf, OwnersOf, Colouring, Least, Told, ColouringOf, Planned, PlanIs, Order, OrderOf, outline_of, StepsOf}
 use Rattle.answers.specs.Answers.{given, ran, sizes_text, planned_answer, PlannedAnswers}
 use Rattle.answer_laws.proofs.Given.{given_both, given_alike}
 use Rattle.answer_laws.proofs.IsOne.{IsOne, held_is_one, told_is_one}
 use Rattle.answer_laws.proofs.SaidOnce.{numbers_once, owners_once}
+use Rattle.answer_laws.proofs.Colourings.{same_outline, PlanLaws, alike, refusals, refused_planned, planned_refused}
 use Rattle.answer_laws.proofs.SameKernels.{output_same}
 use Rattle.answer_laws.proofs.SameBound.{IsSame}
 use Rattle.answer_laws.proofs.SchedulesAgree.{order_is_one, steps_are_one}
-
--- ---- plans know nothing of kernels
-
-module _ (b : BoundValue) (ks : List RKernel) (meshes : List RankMesh) where
-  same_steps : program_steps (with_kernels b ks) meshes ≡ program_steps b meshes
-  unfolding item_at
-  same_steps = refl
-
-  same_outline : (p : PlanValue) → step_outline b meshes p ≡ step_outline (with_kernels b ks) meshes p
-  unfolding item_at
-  same_outline p = refl
-
-  is_proper : (p : PlanValue) → Proper (with_kernels b ks) meshes p → Proper b meshes p
-  unfolding item_at
-  is_proper p h = record {
-    ranks = h.ranks;
-    block = h.block;
-    steps = h.steps;
-    items = h.items;
-    exchanges = record { history = h.exchanges.history; in_order = h.exchanges.in_order };
-    pairs = h.pairs;
-    sites = h.sites;
-    loops = λ s l r. let k = h.loops s l r in record { places_count = k.places_count; places = k.places; colours_count = k.colours_count; colours = k.colours };
-  }
-
-  has_least : (p : PlanValue) → HasLeastColours (with_kernels b ks) meshes p → HasLeastColours b meshes p
-  has_least p h = h
 
 -- ---- parts
 
@@ -82,6 +52,16 @@ parts_are_one (ByFile name) files =
       refusals = held.refusals;
       apart = λ r x h k. held.apart r k.0 h k.1;
       values = λ x y h k. h.2 ∙ ap Text (held.values h.0 k.0 h.1 k.1) ∙ sym k.2;
+    }
+
+colouring_is_one : (x : Blocks) (files : Files) → IsOne (ColouringOf x files)
+colouring_is_one (OfSize places) files = told_is_one (Least places)
+colouring_is_one (AsPlanned name) files =
+    let held = held_is_one PlanBytes name (files name) in
+    record {
+      refusals = held.refusals;
+      apart = λ r x h k. held.apart r k.0 h k.1;
+      values = λ x y h k. h.2 ∙ ap Told (held.values h.0 k.0 h.1 k.1) ∙ sym k.2;
     }
 
 are_perms : (g : MeshValue) (name : Option (List ℕ)) (p : Perms) → NumbersAre g name (Ok p) → ArePerms g p
@@ -108,7 +88,7 @@ same_owners : (d e : Distribution) → distribution_value d ≡ distribution_val
 unfolding distribution_value
 same_owners d e h = ap (λ (v : DistributionValue). v.owners) h
 
-module _ (programs_are_one : ProgramsAreOne) (dumps_are_one : DumpsAreOne) (one_colouring : LeastColoursAreOne) (one_plan : PlansAreOne) (schedules : ScheduleLaws) (one_numbers : NumbersAreOne) (one_owners : OwnersAreOne) (one_distribution : DistributionsAreOne) (one_plan_text : PlanTextsAreOne) (one_step_count : StepCountsAreOne) where
+module _ (programs_are_one : ProgramsAreOne) (dumps_are_one : DumpsAreOne) (plans : PlanLaws) (one_plan : PlansAreOne) (schedules : ScheduleLaws) (one_numbers : NumbersAreOne) (one_owners : OwnersAreOne) (one_distribution : DistributionsAreOne) (one_plan_text : PlanTextsAreOne) where
   module _ (j : PlanJob) (o : Options) (files : Files) (some : 0 < o.ranks) (b : BoundValue) (ks : List RKernel) (same : map rkernel_of b.kernels ≡ map rkernel_of ks) (fits : Fits b) where
     abbrev c : BoundValue
     c = with_kernels b ks
@@ -121,6 +101,10 @@ module _ (programs_are_one : ProgramsAreOne) (dumps_are_one : DumpsAreOne) (one_
     abbrev FromPlan : BoundValue → Planned → Answer → Type 0
     FromPlan d p = given (OrderOf o.schedule files) (FromOrder d p)
 
+    -- what comes after that where blocks and colours come from
+    abbrev FromColouring : BoundValue → Owners → Perms → Colouring → Answer → Type 0
+    FromColouring d u n colouring = given (PlanIs colouring d u n) (FromPlan d)
+
     -- ---- the plan
 
     module _ (u v : Owners) (n m : Perms) (owned : SameOwners u v) (numbered : SamePerms n m) (perms : ArePerms b.mesh n) where
@@ -130,55 +114,44 @@ module _ (programs_are_one : ProgramsAreOne) (dumps_are_one : DumpsAreOne) (one_
       ranks_alike : (d e : Distribution) → IsDistribution b.mesh u n d → IsDistribution b.mesh v m e → map rank_mesh_value d.ranks.items ≡ map rank_mesh_value e.ranks.items
       ranks_alike d e h k = same_ranks d e (distributions_same d e h k)
 
-      step_counts : (d e : Distribution) → IsDistribution b.mesh u n d → IsDistribution b.mesh v m e → program_steps b d.ranks.items ≡ program_steps c e.ranks.items
-      step_counts d e h k = one_step_count b d.ranks.items e.ranks.items (ranks_alike d e h k) ∙ sym (same_steps b ks e.ranks.items)
+      refusals_agree : (x : Colouring) (r s : Refusal) → PlanIs x b u n (Err r) → PlanIs x c v m (Err s) → refused r ≡ refused s
+      refusals_agree x r s h k = ap refused (refusals plans b ks h.0.ranks.items k.0.ranks.items (ranks_alike h.0 k.0 h.1 k.1) x r s h.2 k.2)
 
-      many : (r s : Refusal) → HasManySteps b u n r → HasManySteps c v m s → refused r ≡ refused s
-      many r s h k = ap refused (h.says ∙ ap (BeyondLimit Steps) (step_counts h.distribution k.distribution h.distributed k.distributed) ∙ sym k.says)
+      refused_or_planned : (x : Colouring) (r : Refusal) (q : Planned) → PlanIs x b u n (Err r) → PlanIs x c v m (Ok q) → ⊥
+      refused_or_planned x r q h k =
+          refused_planned plans b ks h.0.ranks.items q.distribution.ranks.items (ranks_alike h.0 q.distribution h.1 k.0) x r q.plan h.2 k.1
 
-      many_few : (r : Refusal) (q : Planned) → HasManySteps b u n r → IsPlanned o c v m q → ⊥
-      many_few r q h k = let e = step_counts h.distribution q.distribution h.distributed k.distributed in let x = h.many in let y = k.few in omega (arith, e, x, y)
+      planned_or_refused : (x : Colouring) (p : Planned) (s : Refusal) → PlanIs x b u n (Ok p) → PlanIs x c v m (Err s) → ⊥
+      planned_or_refused x p s h k =
+          planned_refused plans b ks p.distribution.ranks.items k.0.ranks.items (ranks_alike p.distribution k.0 h.0 k.1) x p.plan s h.1 k.2
 
-      few_many : (p : Planned) (s : Refusal) → IsPlanned o b u n p → HasManySteps c v m s → ⊥
-      few_many p s h k = let e = step_counts p.distribution k.distribution h.distributed k.distributed in let x = h.few in let y = k.many in omega (arith, e, x, y)
-
-      module _ (p q : Planned) (h : IsPlanned o b u n p) (k : IsPlanned o c v m q) where
-        alike : AreAlike b p.distribution.ranks.items q.distribution.ranks.items p.plan q.plan
-        alike = record {
-          alike = ranks_alike p.distribution q.distribution h.distributed k.distributed;
-          block = h.block ∙ sym k.block;
-          proper = h.proper;
-          other_proper = is_proper b ks q.distribution.ranks.items q.plan k.proper;
-          colours = one_colouring b p.distribution.ranks.items q.distribution.ranks.items p.plan q.plan (record {
-            alike = ranks_alike p.distribution q.distribution h.distributed k.distributed;
-            block = h.block ∙ sym k.block;
-            colours = h.colours;
-            other_colours = has_least b ks q.distribution.ranks.items q.plan k.colours;
-          });
-        }
+      module _ (x : Colouring) (p q : Planned) (h : PlanIs x b u n (Ok p)) (k : PlanIs x c v m (Ok q)) where
+        plans_are_alike : AreAlike b p.distribution.ranks.items q.distribution.ranks.items p.plan q.plan
+        plans_are_alike =
+            alike plans b ks p.distribution.ranks.items q.distribution.ranks.items (ranks_alike p.distribution q.distribution h.0 k.0) x p.plan q.plan h.1 k.1
 
         outlines_same : outline_of b p ≡ outline_of c q
         outlines_same =
-            (one_plan b p.distribution.ranks.items q.distribution.ranks.items p.plan q.plan alike).outline
+            (one_plan b p.distribution.ranks.items q.distribution.ranks.items p.plan q.plan plans_are_alike).outline
             ∙ same_outline b ks q.distribution.ranks.items q.plan
 
         -- ---- what the job answers
 
         dumps_same : (steps : List Step) → dump_of o.dumps b p.distribution.owners p.distribution.ranks.items p.plan steps ≡ dump_of o.dumps c q.distribution.owners q.distribution.ranks.items q.plan steps
         dumps_same steps =
-            let e = distributions_same p.distribution q.distribution h.distributed k.distributed in
+            let e = distributions_same p.distribution q.distribution h.0 k.0 in
             dumps_are_one b ks p.distribution.owners q.distribution.owners p.distribution.ranks.items q.distribution.ranks.items p.plan q.plan (record {
               kernels = same;
               ranks = same_rank_counts p.distribution q.distribution e;
               owners = same_owners p.distribution q.distribution e;
-              plans = alike;
+              plans = plans_are_alike;
             }) o.dumps steps
 
         answers : (steps : List Step) → planned_answer j o.dumps b p steps ≡ planned_answer j o.dumps c q steps
         answers steps = by_job j
           where
             one : (plan_text b p.distribution.ranks.items p.plan ≡ plan_text b q.distribution.ranks.items q.plan) × (p.plan.steps ≡ q.plan.steps)
-            one = one_plan_text b p.distribution.ranks.items q.distribution.ranks.items p.plan q.plan alike
+            one = one_plan_text b p.distribution.ranks.items q.distribution.ranks.items p.plan q.plan plans_are_alike
 
             by_job : (i : PlanJob) → planned_answer i o.dumps b p steps ≡ planned_answer i o.dumps c q steps
             by_job Check = ap (λ n. done (sizes_text b n)) one.1
@@ -207,24 +180,33 @@ module _ (programs_are_one : ProgramsAreOne) (dumps_are_one : DumpsAreOne) (one_
             (λ r s h k. ap refused (one.refusals r s h k)) one.apart one.values
             (λ order l. steps_agree order)
 
-      plans_agree : (x y : Answer) → given (PlanIs o b u n) (FromPlan b) x → given (PlanIs o c v m) (FromPlan c) y → x ≡ y
-      plans_agree =
-          given_both (PlanIs o b u n) (PlanIs o c v m) (FromPlan b) (FromPlan c) (λ x y. x ≡ y) many many_few few_many
-          (λ p q h k. orders_agree p q h k)
+      plans_agree : (colouring : Colouring) (x y : Answer) → given (PlanIs colouring b u n) (FromPlan b) x → given (PlanIs colouring c v m) (FromPlan c) y → x ≡ y
+      plans_agree colouring =
+          given_both (PlanIs colouring b u n) (PlanIs colouring c v m) (FromPlan b) (FromPlan c) (λ x y. x ≡ y)
+          (refusals_agree colouring) (refused_or_planned colouring) (planned_or_refused colouring)
+          (λ p q h k. orders_agree colouring p q h k)
+
+      -- what comes after the owners
+      colourings_agree : (x y : Answer) → given (ColouringOf o.blocks files) (FromColouring b u n) x → given (ColouringOf o.blocks files) (FromColouring c v m) y → x ≡ y
+      colourings_agree =
+          let one = colouring_is_one o.blocks files in
+          given_alike (ColouringOf o.blocks files) (FromColouring b u n) (FromColouring c v m) (λ x y. x ≡ y)
+          (λ r s h k. ap refused (one.refusals r s h k)) one.apart one.values
+          (λ colouring h. plans_agree colouring)
 
     -- ---- owners
 
     abbrev FromOwners : BoundValue → Perms → Parts → Answer → Type 0
-    FromOwners d n parts = given (OwnersOf o d parts) (λ u. given (PlanIs o d u n) (FromPlan d))
+    FromOwners d n parts = given (OwnersOf o d parts) (λ u. given (ColouringOf o.blocks files) (FromColouring d u n))
 
     module _ (n m : Perms) (numbered : SamePerms n m) (perms : ArePerms b.mesh n) where
       owners_agree : (parts : Parts) (x y : Answer) → FromOwners b n parts x → FromOwners c m parts y → x ≡ y
       owners_agree parts =
-          given_both (OwnersOf o b parts) (OwnersOf o c parts) (λ u. given (PlanIs o b u n) (FromPlan b)) (λ u. given (PlanIs o c u m) (FromPlan c)) (λ x y. x ≡ y)
+          given_both (OwnersOf o b parts) (OwnersOf o c parts) (λ u. given (ColouringOf o.blocks files) (FromColouring b u n)) (λ u. given (ColouringOf o.blocks files) (FromColouring c u m)) (λ x y. x ≡ y)
           (λ r s h k. ap refused (owners_once h.0 r s h.2 (subst (λ e. SaysOwners e s) (sym (both (Err h.0) (Err k.0) h.1 k.1)) k.2)))
           (λ r v h k. both (Err h.0) (Ok v) h.1 k)
           (λ u s h k. both (Ok u) (Err k.0) h k.1)
-          (λ u v h k. plans_agree u v n m (both (Ok u) (Ok v) h k) numbered perms)
+          (λ u v h k. colourings_agree u v n m (both (Ok u) (Ok v) h k) numbered perms)
         where
           both : (x y : Result Owners OwnersRefusal) → OwnersAre b.mesh o.ranks parts x → OwnersAre b.mesh o.ranks parts y → SameOutcome SameOwners x y
           both x y h k = one_owners b.mesh o.ranks parts x y fits.mesh some h k

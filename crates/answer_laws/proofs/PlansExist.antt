@@ -1,5 +1,5 @@
 -- There is an answer to words that ask for a plan, of a bound program that fits and whose maps are narrow.
-use Rattle.std.proofs.Common.{◌<◌, ◌≤◌, ◌⊎◌, inl, inr, ℕ, List, Result, Ok, Err, refl, sym, subst}
+use Rattle.std.proofs.Common.{◌≡◌, ◌<◌, ◌≤◌, ◌⊎◌, inl, inr, ℕ, List, Result, Ok, Err, refl, sym, subst}
 use Rattle.std.specs.Prelude.{All}
 use Rattle.std.proofs.lemmas.Bool.{cases_lt}
 use Rattle.mesh_decl.specs.declared.decl.MapDecl.{MapDecl}
@@ -18,16 +18,20 @@ use Rattle.schedule_steps.specs.declared.step.Step.{Step}
 use Rattle.bound_program.specs.Values.{BoundValue}
 use Rattle.bound_program.specs.Limits.{max_dim}
 use Rattle.bound_program.specs.Fits.{Fits}
+use Rattle.loop_plan.specs.Distributed.{IsDistributed}
 use Rattle.loop_plan.specs.StepCounts.{program_steps}
+use Rattle.loop_plan.specs.Values.{PlanValue}
+use Rattle.plan_cert.specs.Certified.{Certified, IsRefused}
+use Rattle.plan_cert.specs.Laws.{SomeOutcome}
 use Rattle.plan_exists.specs.Laws.{NumbersExist, OwnersExist, OutcomesFit, NarrowMeshesFitMemory, DistributionsExist, PlansExist}
 use Rattle.op_outside.specs.Outside.{Files}
-use Rattle.command_words.specs.Refusal.{PartitionBytes, ScheduleBytes, Steps, Refusal, BadPart, BeyondLimit}
+use Rattle.command_words.specs.Refusal.{PartitionBytes, PlanBytes, ScheduleBytes, Steps, Refusal, BadPart, BadPlan, BeyondLimit}
 use Rattle.answer_lines.specs.Lines.{Answer, most}
 use Rattle.answers.specs.Said.{SaysOwners}
-use Rattle.command_words.specs.Words.{PlanJob, Parting, ByRule, ByFile, Schedule, Standard, Drawn, Written, Options, group_of}
-use Rattle.answers.specs.Judgements.{IsHeld, NumbersOf, PartsOf, OwnersOf, Planned, PlanIs, Order, InStandardOrder, BySeed, ByText, OrderOf, outline_of, StepsOf}
+use Rattle.command_words.specs.Words.{PlanJob, Parting, ByRule, ByFile, Blocks, OfSize, AsPlanned, Schedule, Standard, Drawn, Written, Options, group_of}
+use Rattle.answers.specs.Judgements.{IsHeld, NumbersOf, PartsOf, OwnersOf, Colouring, Least, Told, ColouringOf, Planned, PlanIs, Order, InStandardOrder, BySeed, ByText, OrderOf, outline_of, StepsOf}
 use Rattle.answers.specs.Answers.{PlannedAnswers}
-use Rattle.command_words.specs.Laws.{AreWithin}
+use Rattle.command_words.specs.Laws.{HaveFewPlaces, AreWithin}
 use Rattle.answer_laws.proofs.Given.{given_one, given_with}
 use Rattle.answer_laws.proofs.Held.{held_exists}
 use Rattle.answer_laws.proofs.SaidOnce.{numbers_said, partition_said}
@@ -51,6 +55,14 @@ parts_exist (ByFile name) files none = held_exists PartitionBytes name (files na
     by_held (Ok bytes) h = none (Ok (Text bytes)) (bytes, h, refl)
     by_held (Err r) h = none (Err r) h
 
+colouring_exists : (x : Blocks) (files : Files) → ¬ ((r : Result Colouring Refusal) → ¬ ColouringOf x files r)
+colouring_exists (OfSize places) files none = none (Ok (Least places)) refl
+colouring_exists (AsPlanned name) files none = held_exists PlanBytes name (files name) by_held
+  where
+    by_held : (r : Result (List ℕ) Refusal) → ¬ IsHeld PlanBytes name (files name) r
+    by_held (Ok bytes) h = none (Ok (Told bytes)) (bytes, h, refl)
+    by_held (Err r) h = none (Err r) h
+
 order_exists : (s : Schedule) (files : Files) → ¬ ((r : Result Order Refusal) → ¬ OrderOf s files r)
 order_exists Standard files none = none (Ok InStandardOrder) refl
 order_exists (Drawn seed) files none = none (Ok (BySeed seed)) refl
@@ -62,7 +74,7 @@ order_exists (Written name) files none = held_exists ScheduleBytes name (files n
 
 -- ---- new numbers and owners
 
-module _ (some_numbers : NumbersExist) (some_owners : OwnersExist) (outcomes_fit : OutcomesFit) (narrow_fit : NarrowMeshesFitMemory) (some_distribution : DistributionsExist) (some_plan : PlansExist) (causes : (g : MeshValue) (ranks : ℕ) (bytes : List ℕ) → ¬ Refuses g ranks bytes part.OutOfMemory) (steps_exist : SchedulesExist) where
+module _ (some_numbers : NumbersExist) (some_owners : OwnersExist) (outcomes_fit : OutcomesFit) (narrow_fit : NarrowMeshesFitMemory) (some_distribution : DistributionsExist) (some_plan : PlansExist) (some_outcome : SomeOutcome) (causes : (g : MeshValue) (ranks : ℕ) (bytes : List ℕ) → ¬ Refuses g ranks bytes part.OutOfMemory) (steps_exist : SchedulesExist) where
   numbers_exist : (o : Options) (b : BoundValue) → IsMesh b.mesh → ¬ ((r : Result Perms Refusal) → ¬ NumbersOf o b r)
   numbers_exist o b mesh none = let n = some_numbers b.mesh o.renumber mesh in by_outcome n.0 n.1
     where
@@ -87,18 +99,45 @@ module _ (some_numbers : NumbersExist) (some_owners : OwnersExist) (outcomes_fit
 
   -- ---- the plan
 
-  plan_exists : (o : Options) (b : BoundValue) (u : Owners) (n : Perms) → AreWithin o → Suits b → AreOwners b.mesh u → ArePerms b.mesh n
-      → ¬ ((r : Result Planned Refusal) → ¬ PlanIs o b u n r)
-  plan_exists o b u n within suits are_owners are_perms none =
+  -- a block that is asked for has some places
+  abbrev HasPlaces : Colouring → Type 0
+  HasPlaces (Least places) = 0 < places
+  HasPlaces (Told bytes) = Unit {0}
+
+  has_places : (x : Blocks) (files : Files) (colouring : Colouring) → HaveFewPlaces x → ColouringOf x files (Ok colouring) → HasPlaces colouring
+  has_places (OfSize places) files colouring few h = let e : colouring ≡ Least places = cc in rw e few.0
+  has_places (AsPlanned name) files colouring few h = rw h.2 tt
+
+  module _ (b : BoundValue) (u : Owners) (n : Perms) (d : Distribution) (h : IsDistribution b.mesh u n d) (spread : IsDistributed b.mesh u n d.ranks.items) (fits : Fits b) where
+    least_exists : (places : ℕ) → 0 < places → ¬ ((r : Result Planned Refusal) → ¬ PlanIs (Least places) b u n r)
+    least_exists places some none = by_steps (cases_lt (most Steps) (program_steps b d.ranks.items))
+      where
+        by_steps : (most Steps < program_steps b d.ranks.items) ⊎ (program_steps b d.ranks.items ≤ most Steps) → ⊥
+        by_steps (inl many) = none (Err (BeyondLimit Steps (program_steps b d.ranks.items))) (d, h, inr (record { coloured = tt; many = many; says = refl }))
+        by_steps (inr few) =
+            let p = some_plan b u n d.ranks.items places fits spread some in
+            none (Ok (record { distribution = d; plan = p.0 })) (h, record { proper = p.2; coloured = (p.3, p.1); few = few })
+
+    told_exists : (bytes : List ℕ) → ¬ ((r : Result Planned Refusal) → ¬ PlanIs (Told bytes) b u n r)
+    told_exists bytes none = by_outcome (some_outcome b u n d.ranks.items bytes fits spread)
+      where
+        by_steps : (p : PlanValue) → Certified b d.ranks.items bytes p → (most Steps < program_steps b d.ranks.items) ⊎ (program_steps b d.ranks.items ≤ most Steps) → ⊥
+        by_steps p k (inl many) = none (Err (BeyondLimit Steps (program_steps b d.ranks.items))) (d, h, inr (record { coloured = (p, k); many = many; says = refl }))
+        by_steps p k (inr few) = none (Ok (record { distribution = d; plan = p })) (h, record { proper = k.proper; coloured = k; few = few })
+
+        by_outcome : ((p : PlanValue) × Certified b d.ranks.items bytes p) ⊎ ((number : ℕ) × (line : ℕ) × IsRefused b d.ranks.items bytes number line) → ⊥
+        by_outcome (inl p) = by_steps p.0 p.1 (cases_lt (most Steps) (program_steps b d.ranks.items))
+        by_outcome (inr k) = none (Err (BadPlan k.0 k.1)) (d, h, inl (k.0, k.1, k.2, refl))
+
+  plan_exists : (colouring : Colouring) (b : BoundValue) (u : Owners) (n : Perms) → HasPlaces colouring → Suits b → AreOwners b.mesh u → ArePerms b.mesh n
+      → ¬ ((r : Result Planned Refusal) → ¬ PlanIs colouring b u n r)
+  plan_exists colouring b u n some suits are_owners are_perms =
       let d = some_distribution b.mesh u n suits.fits.mesh (narrow_fit b.mesh suits.fits.mesh suits.narrow) are_owners are_perms in
-      by_steps d.0 d.1 (cases_lt (most Steps) (program_steps b d.0.ranks.items))
+      by_colouring d.0 d.1 (record { are_owners = are_owners; are_perms = are_perms; are_meshes = d.1.ranks }) colouring some
     where
-      by_steps : (d : Distribution) → IsDistribution b.mesh u n d → (most Steps < program_steps b d.ranks.items) ⊎ (program_steps b d.ranks.items ≤ most Steps) → ⊥
-      by_steps d h (inl many) =
-          none (Err (BeyondLimit Steps (program_steps b d.ranks.items))) (record { distribution = d; distributed = h; many = many; says = refl })
-      by_steps d h (inr few) =
-          let p = some_plan b u n d.ranks.items o.block suits.fits (record { are_owners = are_owners; are_perms = are_perms; are_meshes = h.ranks }) within.some_places in
-          none (Ok (record { distribution = d; plan = p.0 })) (record { distributed = h; proper = p.2; colours = p.3; block = p.1; few = few })
+      by_colouring : (d : Distribution) → IsDistribution b.mesh u n d → IsDistributed b.mesh u n d.ranks.items → (x : Colouring) → HasPlaces x → ¬ ((r : Result Planned Refusal) → ¬ PlanIs x b u n r)
+      by_colouring d h spread (Least places) places_some = least_exists b u n d h spread suits.fits places places_some
+      by_colouring d h spread (Told bytes) places_some = told_exists b u n d h spread suits.fits bytes
 
   -- ---- all
 
@@ -108,6 +147,8 @@ module _ (some_numbers : NumbersExist) (some_owners : OwnersExist) (outcomes_fit
       (given_one _ _ (numbers_exist o b suits.fits.mesh) (λ n numbered.
       given_one _ _ (parts_exist o.parting files) (λ parts _.
       given_one _ _ (owners_exist o b parts suits.fits.mesh within) (λ u owned.
-      given_one _ _ (plan_exists o b u n within suits (outcomes_fit.owners b.mesh o.ranks parts u within.some within.few owned).1 (outcomes_fit.numbers b.mesh o.renumber n numbered)) (λ p _.
+      given_one _ _ (colouring_exists o.blocks files) (λ colouring told.
+      given_one _ _ (plan_exists colouring b u n (has_places o.blocks files colouring within.places told) suits
+      (outcomes_fit.owners b.mesh o.ranks parts u within.some within.few owned).1 (outcomes_fit.numbers b.mesh o.renumber n numbered)) (λ p _.
       given_one _ _ (order_exists o.schedule files) (λ order _.
-      given_one _ _ (steps_exist (outline_of b p) (group_of o) order) (λ steps _ last. last _ refl)))))))
+      given_one _ _ (steps_exist (outline_of b p) (group_of o) order) (λ steps _ last. last _ refl))))))))

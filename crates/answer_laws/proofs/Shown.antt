@@ -7,10 +7,10 @@ use Rattle.bound_program.specs.Values.{BoundValue}
 use Rattle.run_model.specs.Programs.{first_fault}
 use Rattle.mesh_text.specs.Canonical.{canonical}
 use Rattle.op_outside.specs.Outside.{Files, appended, AppendsFront}
-use Rattle.command_words.specs.Refusal.{Refusal, Usage, CannotRead, NoTokens, NoTree, TooDeep, BadName, BadBinding, BadTarget, BadAccess, BadMesh, BadPart, BadPartition, BadSchedule, BadStep, EarlyStep, LeftStep, BadStub, BeyondLimit, status_of}
+use Rattle.command_words.specs.Refusal.{Refusal, Usage, CannotRead, NoTokens, NoTree, TooDeep, BadName, BadBinding, BadTarget, BadAccess, BadMesh, BadPart, BadPartition, BadPlan, BadSchedule, BadStep, EarlyStep, LeftStep, BadStub, BeyondLimit, status_of}
 use Rattle.answer_lines.specs.Lines.{Answer, done, refused, faulted}
 use Rattle.command_words.specs.Words.{PlanJob, Check, ShowsPlan, ShowsSchedule, RunsPlan, Options, group_of, Input, Command, OnPlan, Converts, Translates, Restores, ShowsUsage, ShowsVersion, WordsAre, named_by}
-use Rattle.answers.specs.Judgements.{TextIs, SourceIs, TreeIs, TranslationIs, RestorationIs, TypesAre, FileIs, MeshIs, EntriesAre, BoundIs, AccessesAre, NumbersOf, PartsOf, OwnersOf, Planned, PlanIs, OrderOf, outline_of, StepsOf}
+use Rattle.answers.specs.Judgements.{TextIs, SourceIs, TreeIs, TranslationIs, RestorationIs, TypesAre, FileIs, MeshIs, EntriesAre, BoundIs, AccessesAre, NumbersOf, PartsOf, OwnersOf, ColouringOf, Planned, PlanIs, OrderOf, outline_of, StepsOf}
 use Rattle.answers.specs.Answers.{given, ran, planned_answer, PlannedAnswers, BoundAnswers, CommandAnswers, Answers}
 use Rattle.answers.specs.Endings.{Ending, Answered, OutOfMemory, Unread, Unwritten, ending_status, unwritten_status, Call, Tells, IsWritten, EndsBy, Ends, Shows, IsShown, IsSilent}
 use Rattle.answers.specs.Laws.{Agree, AnswersAgree}
@@ -42,9 +42,10 @@ planned_form j o files b a h =
     given_form (NumbersOf o b) _ (λ n.
     given_form (PartsOf o.parting files) _ (λ parts.
     given_form (OwnersOf o b parts) _ (λ u.
-    given_form (PlanIs o b u n) _ (λ p.
+    given_form (ColouringOf o.blocks files) _ (λ colouring.
+    given_form (PlanIs colouring b u n) _ (λ p.
     given_form (OrderOf o.schedule files) _ (λ order.
-    given_form (StepsOf (outline_of b p) (group_of o) order) (λ steps x. x ≡ planned_answer j o.dumps b p steps) (plan_job_form j o.dumps b p)))))) a h.1
+    given_form (StepsOf (outline_of b p) (group_of o) order) (λ steps x. x ≡ planned_answer j o.dumps b p steps) (plan_job_form j o.dumps b p))))))) a h.1
 
 bound_form : (rest : BoundValue → Answer → Type 0) → ((b : BoundValue) (a : Answer) → rest b a → Form a) → (input : Input) (files : Files) (a : Answer) → BoundAnswers rest input files a → Form a
 bound_form rest form input files =
@@ -89,6 +90,7 @@ not_four (BadAccess n at) e = cc
 not_four (BadMesh n line) e = cc
 not_four (BadPart n) e = cc
 not_four (BadPartition n line) e = cc
+not_four (BadPlan n line) e = cc
 not_four (BadSchedule n line) e = cc
 not_four (BadStep n line s) e = cc
 not_four (EarlyStep line s t) e = cc

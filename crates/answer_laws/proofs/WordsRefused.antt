@@ -17,6 +17,8 @@ use Rattle.bind_refusals.specs.declared.refusals.BindRefusal.{BindRefusal}
 use Rattle.bind_refusals.specs.declared.refusals.BindRefusal.TheVariants as bind
 use Rattle.kernel_types.specs.declared.faults.KernelFault.{KernelFault}
 use Rattle.schedule_model.specs.Sequential.{Stop}
+use Rattle.mesh_decl.specs.declared.owners.Owners.{Owners}
+use Rattle.mesh_decl.specs.declared.owners.Perms.{Perms}
 use Rattle.bound_program.specs.Values.{BoundValue}
 use Rattle.run_model.specs.Programs.{first_fault}
 use Rattle.mesh_text.specs.Canonical.{canonical}
@@ -26,7 +28,7 @@ use Rattle.clap.specs.Simple.{matches_of}
 use Rattle.clap.specs.Kinds.{Kinds}
 use Rattle.clap.specs.Faults.{fault_of}
 use Rattle.clap.specs.declared.error.kind.ErrorKind.TheVariants as kind
-use Rattle.command_words.specs.Refusal.{Limit, SourceBytes, MeshBytes, Refusal, Usage, CannotRead, NoTokens, NoTree, TooDeep, BadName, BadBinding, BadTarget, BadAccess, BadMesh, BadPart, BadPartition, BadSchedule, BadStep, EarlyStep, LeftStep, BadStub, BeyondLimit, PartitionBytes, ScheduleBytes, status_of}
+use Rattle.command_words.specs.Refusal.{Limit, SourceBytes, MeshBytes, Refusal, Usage, CannotRead, NoTokens, NoTree, TooDeep, BadName, BadBinding, BadTarget, BadAccess, BadMesh, BadPart, BadPartition, BadPlan, BadSchedule, BadStep, EarlyStep, LeftStep, BadStub, BeyondLimit, PartitionBytes, PlanBytes, ScheduleBytes, status_of}
 use Rattle.answer_lines.specs.Lines.{Answer, done, refused, faulted}
 use Rattle.part_text.specs.declared.refusals.PartRefusal.{PartRefusal}
 use Rattle.part_text.specs.declared.refusals.PartRefusal.TheVariants as part
@@ -39,8 +41,8 @@ use Rattle.schedule_steps.specs.declared.step.Step.{Step}
 use Rattle.schedule_steps.specs.Outline.{Outline}
 use Rattle.distribute.specs.Parts.{NumbersRefusal, UnknownMap, OwnersRefusal, NoDat, NoMap, Unspelled}
 use Rattle.answers.specs.Said.{SaysLex, SaysSource, SaysTypes, SaysTranslation, SaysMesh, SaysBinding, SaysNumbers, SaysPartition, SaysOwners, SaysSchedule, SaysStep, SaysEnd, SaysNext}
-use Rattle.command_words.specs.Words.{PlanJob, Check, ShowsPlan, ShowsSchedule, RunsPlan, Parting, ByRule, ByFile, Schedule, Standard, Drawn, Written, Options, group_of, Input, InFiles, OfSample, Command, OnPlan, Converts, Translates, Restores, ShowsUsage, ShowsVersion, WordsAre, OptionWords, command, options_in, or_usage, by_job, asked, judged, names_from, names_by, names_at, names_of, named_by, names_in}
-use Rattle.answers.specs.Judgements.{IsHeld, TextIs, SourceIs, TreeIs, TranslationIs, RestorationIs, TypesAre, FileIs, MeshIs, EntriesAre, BoundIs, AccessesAre, NumbersOf, PartsOf, OwnersOf, Planned, PlanIs, Order, InStandardOrder, BySeed, ByText, OrderOf, outline_of, StepsOf}
+use Rattle.command_words.specs.Words.{PlanJob, Check, ShowsPlan, ShowsSchedule, RunsPlan, Parting, ByRule, ByFile, Blocks, OfSize, AsPlanned, Schedule, Standard, Drawn, Written, Options, group_of, Input, InFiles, OfSample, Command, OnPlan, Converts, Translates, Restores, ShowsUsage, ShowsVersion, WordsAre, OptionWords, command, options_in, or_usage, by_job, asked, judged, names_from, names_by, names_in_blocks, names_at, names_of, named_by, names_in}
+use Rattle.answers.specs.Judgements.{IsHeld, TextIs, SourceIs, TreeIs, TranslationIs, RestorationIs, TypesAre, FileIs, MeshIs, EntriesAre, BoundIs, AccessesAre, NumbersOf, PartsOf, OwnersOf, Colouring, Least, Told, ColouringOf, IsUnplanned, Planned, PlanIs, Order, InStandardOrder, BySeed, ByText, OrderOf, outline_of, StepsOf}
 use Rattle.answers.specs.Answers.{given, ran, planned_answer, PlannedAnswers, BoundAnswers, CommandAnswers, Answers}
 use Rattle.answers.specs.Endings.{Ending, Answered, OutOfMemory, Unread, Unwritten, ending_status, unwritten_status, Call, HoldAll, Tells, IsWritten, EndsBy, Ends, IsUsage, IsUnread}
 use Rattle.answer_laws.proofs.Complete.{tells_some, unwritten_is}
@@ -66,6 +68,7 @@ other_status (BadAccess n at) o e = cc
 other_status (BadMesh n line) o e = cc
 other_status (BadPart n) o e = cc
 other_status (BadPartition n line) o e = cc
+other_status (BadPlan n line) o e = cc
 other_status (BadSchedule n line) o e = cc
 other_status (BadStep n line s) o e = cc
 other_status (EarlyStep line s t) o e = cc
@@ -86,6 +89,7 @@ other_three (BadAccess n at) o e = cc
 other_three (BadMesh n line) o e = cc
 other_three (BadPart n) o e = cc
 other_three (BadPartition n line) o e = cc
+other_three (BadPlan n line) o e = cc
 other_three (BadSchedule n line) o e = cc
 other_three (BadStep n line s) o e = cc
 other_three (EarlyStep line s t) o e = cc
@@ -208,6 +212,18 @@ order_just names Standard has files r h = absurd (let bad : ⊥ = cc in bad)
 order_just names (Drawn seed) has files r h = absurd (let bad : ⊥ = cc in bad)
 order_just names (Written name) has files r h = held_just names files ScheduleBytes name r (has name (one name)) h
 
+colouring_just : (names : List (List ℕ)) (x : Blocks) → Has names (names_in_blocks x) → (files : Files) (r : Refusal) → ColouringOf x files (Err r) → IsJust names files r
+colouring_just names (OfSize places) has files r h = absurd (let bad : ⊥ = cc in bad)
+colouring_just names (AsPlanned name) has files r h = held_just names files PlanBytes name r (has name (one name)) h
+
+plan_other : (x : Colouring) (b : BoundValue) (u : Owners) (n : Perms) (r : Refusal) → PlanIs x b u n (Err r) → IsOther r
+plan_other x b u n r h = by_cause x h.2
+  where
+    by_cause : (y : Colouring) → IsUnplanned y b h.0.ranks.items r → IsOther r
+    by_cause (Least places) (inl k) = absurd k
+    by_cause (Told bytes) (inl k) = is_other r _ k.3 tt
+    by_cause y (inr k) = is_other r _ k.says tt
+
 schedule_other : (e : ScheduleTextRefusal) (r : Refusal) → SaysSchedule e r → IsOther r
 schedule_other (text.Header line) r h = is_other r _ h tt
 schedule_other (text.Syntax line) r h = is_other r _ h tt
@@ -311,17 +327,18 @@ module _ (names : List (List ℕ)) (files : Files) where
   plan_job_sound ShowsSchedule dumps b p steps a e = done_sound _ a e
   plan_job_sound RunsPlan dumps b p steps a e = ran_sound (first_fault b) _ a e
 
-  planned_sound : (j : PlanJob) (o : Options) → Has names (names_by o.parting) → Has names (names_at o.schedule) → (b : BoundValue) (a : Answer)
+  planned_sound : (j : PlanJob) (o : Options) → Has names (names_by o.parting) → Has names (names_in_blocks o.blocks) → Has names (names_at o.schedule) → (b : BoundValue) (a : Answer)
       → PlannedAnswers j o files b a
       → IsSound names files a
-  planned_sound j o has_part has_order b a h =
+  planned_sound j o has_part has_blocks has_order b a h =
       given_other (NumbersOf o b) _ (λ r h. numbers_other h.0 r h.2) (λ n.
       given_sound (PartsOf o.parting files) _ (parts_just names o.parting has_part files) (λ parts.
       given_other (OwnersOf o b parts) _ (λ r h. owners_other h.0 r h.2) (λ u.
-      given_other (PlanIs o b u n) _ (λ r h. is_other r _ h.says tt) (λ p.
+      given_sound (ColouringOf o.blocks files) _ (colouring_just names o.blocks has_blocks files) (λ x.
+      given_other (PlanIs x b u n) _ (plan_other x b u n) (λ p.
       given_sound (OrderOf o.schedule files) _ (order_just names o.schedule has_order files) (λ order.
       given_other (StepsOf (outline_of b p) (group_of o) order) (λ steps x. x ≡ planned_answer j o.dumps b p steps)
-      (λ r h. steps_other (outline_of b p) (group_of o) order r h) (plan_job_sound j o.dumps b p)))))) a h.1
+      (λ r h. steps_other (outline_of b p) (group_of o) order r h) (plan_job_sound j o.dumps b p))))))) a h.1
 
   bound_sound : (rest : BoundValue → Answer → Type 0) → ((b : BoundValue) (a : Answer) → rest b a → IsSound names files a)
       → (input : Input)
@@ -357,12 +374,16 @@ right (x ∷ xs) ys name c = further (right xs ys name c)
 command_sound : (c : Command) (files : Files) (a : Answer) → CommandAnswers c files a → IsSound (names_of c) files a
 command_sound (OnPlan j o input) files a h =
     bound_sound (names_of (OnPlan j o input)) files (PlannedAnswers j o files)
-    (planned_sound (names_of (OnPlan j o input)) files j o (λ name c. behind name (right (names_from input) (names_by o.parting) name c))
-    (right (names_from input ++ names_by o.parting) (names_at o.schedule)))
-    input (λ name c. behind name (left (names_from input) (names_by o.parting) name c)) a h
+    (planned_sound (names_of (OnPlan j o input)) files j o (λ name c. behind name (first name (right (names_from input) (names_by o.parting) name c)))
+    (λ name c. behind name (right (names_from input ++ names_by o.parting) (names_in_blocks o.blocks) name c))
+    (right (names_from input ++ names_by o.parting ++ names_in_blocks o.blocks) (names_at o.schedule)))
+    input (λ name c. behind name (first name (left (names_from input) (names_by o.parting) name c))) a h
   where
-    behind : Has (names_of (OnPlan j o input)) (names_from input ++ names_by o.parting)
-    behind = left (names_from input ++ names_by o.parting) (names_at o.schedule)
+    first : Has (names_from input ++ names_by o.parting ++ names_in_blocks o.blocks) (names_from input ++ names_by o.parting)
+    first = left (names_from input ++ names_by o.parting) (names_in_blocks o.blocks)
+
+    behind : Has (names_of (OnPlan j o input)) (names_from input ++ names_by o.parting ++ names_in_blocks o.blocks)
+    behind = left (names_from input ++ names_by o.parting ++ names_in_blocks o.blocks) (names_at o.schedule)
 command_sound (Converts form mesh) files a h =
     given_sound (mesh ∷ []) files (FileIs mesh files) _ (λ r h. held_just (mesh ∷ []) files MeshBytes mesh r (one mesh) h) (λ text.
     given_other (mesh ∷ []) files (EntriesAre text) (λ es a. a ≡ done (canonical form es)) (λ r h. mesh_other h.0 r h.2)

@@ -26,6 +26,10 @@ pub fn answers_agree()
     loop_plan::one_plan();
     loop_plan::one_plan_text();
     loop_plan::one_step_count();
+    plan_cert::one_refusal();
+    plan_cert::none_is_refused();
+    plan_cert::plans_are_alike();
+    plan_cert::no_kernel_is_read();
     schedule_text::one_outcome();
     schedule_steps::drawn_once();
     schedule_steps::tests_decide();
@@ -58,6 +62,7 @@ pub fn answers_exist()
     plan_exists::some_distribution();
     plan_exists::narrow_meshes_fit_memory();
     plan_exists::some_plan();
+    plan_cert::some_outcome();
     schedule_steps::drawn_exists();
     schedule_text::one_outcome();
     step_judge::taken_lists_are_accepted();

@@ -21,7 +21,7 @@ use Rattle.command_words.specs.Words.{PlanJob, Check, ShowsPlan, ShowsSchedule, 
 use Rattle.command_words.specs.Words.{Command, OnPlan, Converts, Translates, Restores, ShowsUsage, ShowsVersion, WordsAre}
 use Rattle.answers.specs.Judgements.{TextIs, SourceIs, TreeIs, TranslationIs, RestorationIs, TypesAre, FileIs, MeshIs, EntriesAre}
 use Rattle.answers.specs.Judgements.{BoundIs, AccessesAre}
-use Rattle.answers.specs.Judgements.{NumbersOf, PartsOf, OwnersOf, Planned, PlanIs, OrderOf, outline_of, StepsOf}
+use Rattle.answers.specs.Judgements.{NumbersOf, PartsOf, OwnersOf, ColouringOf, Planned, PlanIs, OrderOf, outline_of, StepsOf}
 
 -- A judgement, and what comes after it: its refusal ends it, and what it gives goes on.
 abbrev pub given : {A : Type 0} → (Result A Refusal → Type 0) → (A → Answer → Type 0) → Answer → Type 0
@@ -60,7 +60,7 @@ planned_answer ShowsSchedule dumps b p steps = done (schedule_text steps)
 planned_answer RunsPlan dumps b p steps =
     ran (first_fault b) (run_output b (dump_of dumps b p.distribution.owners p.distribution.ranks.items p.plan steps))
 
--- The answer of a job on the plan of a bound program: six judgements in this order, and then what the job answers. The program fits,
+-- The answer of a job on the plan of a bound program: seven judgements in this order, and then what the job answers. The program fits,
 -- as all that is bound does; this stands here since distributions and plans are one where it is so.
 abbrev pub PlannedAnswers : PlanJob → Options → Files → BoundValue → Answer → Type 0
 PlannedAnswers j o files b a =
@@ -68,9 +68,10 @@ PlannedAnswers j o files b a =
     × given (NumbersOf o b) (λ n.
     given (PartsOf o.parting files) (λ parts.
     given (OwnersOf o b parts) (λ u.
-    given (PlanIs o b u n) (λ p.
+    given (ColouringOf o.blocks files) (λ colouring.
+    given (PlanIs colouring b u n) (λ p.
     given (OrderOf o.schedule files) (λ order.
-    given (StepsOf (outline_of b p) (group_of o) order) (λ steps x. x ≡ planned_answer j o.dumps b p steps)))))) a
+    given (StepsOf (outline_of b p) (group_of o) order) (λ steps x. x ≡ planned_answer j o.dumps b p steps))))))) a
 
 -- The answer of a job on the plan of a program over a mesh.
 abbrev pub PlanAnswers : PlanJob → Options → Input → Files → Answer → Type 0

@@ -29,10 +29,12 @@ use Rattle.distribute.specs.declared.types.Distribution.{Distribution}
 use Rattle.distribute.specs.Parts.{Parts, Text, NumbersRefusal, OwnersRefusal}
 use Rattle.distribute.specs.Judgements.{NumbersAre, OwnersAre}
 use Rattle.distribute.specs.Distributions.{IsDistribution}
+use Rattle.local_mesh.specs.declared.types.RankMesh.{RankMesh}
 use Rattle.loop_plan.specs.Values.{PlanValue}
 use Rattle.loop_plan.specs.Proper.{Proper, HasLeastColours}
 use Rattle.loop_plan.specs.StepCounts.{program_steps}
 use Rattle.loop_plan.specs.StepOutline.{step_outline}
+use Rattle.plan_cert.specs.Certified.{Certified, IsRefused}
 use Rattle.texts.specs.Cut.{words}
 use Rattle.texts.specs.Automaton.{last_line}
 use Rattle.schedule_steps.specs.Outline.{Outline}
@@ -47,9 +49,10 @@ use Rattle.step_judge.specs.declared.refusal.ScheduleRefusal.{ScheduleRefusal}
 use Rattle.step_judge.specs.Verdicts.{judged, ended}
 use Rattle.op_translate.specs.declared.refusals.TransRefusal.{TransRefusal}
 use Rattle.op_translate.specs.Translation.{Translates, Restores}
-use Rattle.command_words.specs.Words.{Input, InFiles, OfSample, Parting, ByRule, ByFile, Schedule, Standard, Drawn, Written, Options}
-use Rattle.command_words.specs.Refusal.{Limit, SourceBytes, MeshBytes, MeshValues, PartitionBytes, Steps, ScheduleBytes, Refusal, CannotRead}
-use Rattle.command_words.specs.Refusal.{BadAccess, BeyondLimit}
+use Rattle.command_words.specs.Words.{Input, InFiles, OfSample, Parting, ByRule, ByFile, Blocks, OfSize, AsPlanned}
+use Rattle.command_words.specs.Words.{Schedule, Standard, Drawn, Written, Options}
+use Rattle.command_words.specs.Refusal.{Limit, SourceBytes, MeshBytes, MeshValues, PartitionBytes, PlanBytes, Steps, ScheduleBytes}
+use Rattle.command_words.specs.Refusal.{Refusal, CannotRead, BadAccess, BadPlan, BeyondLimit}
 use Rattle.answer_lines.specs.Lines.{most}
 use Rattle.answers.specs.Said.{SaysSource, SaysTypes, SaysTranslation, SaysMesh, SaysBinding, SaysNumbers, SaysOwners, SaysSchedule, SaysNext}
 
@@ -166,31 +169,59 @@ abbrev pub OwnersOf : Options → BoundValue → Parts → Result Owners Refusal
 OwnersOf o b parts (Ok u) = OwnersAre b.mesh o.ranks parts (Ok u)
 OwnersOf o b parts (Err r) = (e : OwnersRefusal) × OwnersAre b.mesh o.ranks parts (Err e) × SaysOwners e r
 
+-- ---- plans
+
+-- what blocks and colours come from: least colours in blocks of so many places, or the text of a plan
+pub data Colouring : Type 0 where
+  Least : (places : ℕ) → Colouring
+  Told : (bytes : List ℕ) → Colouring
+
+-- that, as it is asked for: the text in a file, or what is told outright
+abbrev pub ColouringOf : Blocks → Files → Result Colouring Refusal → Type 0
+ColouringOf (OfSize places) files r = r ≡ Ok (Least places)
+ColouringOf (AsPlanned name) files (Ok c) = (bytes : List ℕ) × IsHeld PlanBytes name (files name) (Ok bytes) × (c ≡ Told bytes)
+ColouringOf (AsPlanned name) files (Err r) = IsHeld PlanBytes name (files name) (Err r)
+
+-- these are the blocks and colours of a plan of the program on these ranks
+abbrev pub IsColoured : Colouring → BoundValue → List RankMesh → PlanValue → Type 0
+IsColoured (Least places) b meshes p = HasLeastColours b meshes p × (p.block ≡ places)
+IsColoured (Told bytes) b meshes p = Certified b meshes bytes p
+
+-- a plan of the program on these ranks, with these blocks and colours; there are no more steps than the limit
+pub record IsPlanned (c : Colouring) (b : BoundValue) (meshes : List RankMesh) (p : PlanValue) : Type 0 where
+  pub proper : Proper b meshes p
+  pub coloured : IsColoured c b meshes p
+  pub few : program_steps b meshes ≤ most Steps
+
+-- there are such blocks and colours, as there always are least ones
+abbrev pub CanBeColoured : Colouring → BoundValue → List RankMesh → Type 0
+CanBeColoured (Least places) b meshes = Unit {0}
+CanBeColoured (Told bytes) b meshes = (p : PlanValue) × Certified b meshes bytes p
+
+-- there are none: the first line of the text that is refused, and by which number
+abbrev pub IsColouringRefused : Colouring → BoundValue → List RankMesh → Refusal → Type 0
+IsColouringRefused (Least places) b meshes r = ⊥
+IsColouringRefused (Told bytes) b meshes r = (number : ℕ) × (line : ℕ) × IsRefused b meshes bytes number line × (r ≡ BadPlan number line)
+
+-- there are such blocks and colours, and the program has more steps than the limit
+pub record HasManySteps (c : Colouring) (b : BoundValue) (meshes : List RankMesh) (r : Refusal) : Type 0 where
+  pub coloured : CanBeColoured c b meshes
+  pub many : most Steps < program_steps b meshes
+  pub says : r ≡ BeyondLimit Steps (program_steps b meshes)
+
+-- the program has no such plan
+abbrev pub IsUnplanned : Colouring → BoundValue → List RankMesh → Refusal → Type 0
+IsUnplanned c b meshes r = IsColouringRefused c b meshes r ⊎ HasManySteps c b meshes r
+
 -- a mesh on ranks, and the plan of a program there
 pub record Planned : Type 0 where
   pub distribution : Distribution
   pub plan : PlanValue
 
--- the mesh by these owners and new numbers, and a plan with least colours in blocks of the size that is asked for; there are no more
--- steps than the limit
-pub record IsPlanned (o : Options) (b : BoundValue) (u : Owners) (n : Perms) (p : Planned) : Type 0 where
-  pub distributed : IsDistribution b.mesh u n p.distribution
-  pub proper : Proper b p.distribution.ranks.items p.plan
-  pub colours : HasLeastColours b p.distribution.ranks.items p.plan
-  pub block : p.plan.block ≡ o.block
-  pub few : program_steps b p.distribution.ranks.items ≤ most Steps
-
--- on these ranks the program has more steps than the limit
-pub record HasManySteps (b : BoundValue) (u : Owners) (n : Perms) (r : Refusal) : Type 0 where
-  pub distribution : Distribution
-  pub distributed : IsDistribution b.mesh u n distribution
-  pub many : most Steps < program_steps b distribution.ranks.items
-  pub says : r ≡ BeyondLimit Steps (program_steps b distribution.ranks.items)
-
--- the plan
-abbrev pub PlanIs : Options → BoundValue → Owners → Perms → Result Planned Refusal → Type 0
-PlanIs o b u n (Ok p) = IsPlanned o b u n p
-PlanIs o b u n (Err r) = HasManySteps b u n r
+-- the mesh by these owners and new numbers, and the plan there
+abbrev pub PlanIs : Colouring → BoundValue → Owners → Perms → Result Planned Refusal → Type 0
+PlanIs c b u n (Ok p) = IsDistribution b.mesh u n p.distribution × IsPlanned c b p.distribution.ranks.items p.plan
+PlanIs c b u n (Err r) = (d : Distribution) × IsDistribution b.mesh u n d × IsUnplanned c b d.ranks.items r
 
 -- ---- schedules
 

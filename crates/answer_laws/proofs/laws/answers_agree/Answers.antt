@@ -1,5 +1,6 @@
 use Rattle.answer_laws.proofs.Agreed as law
 use Rattle.answer_laws.proofs.PlansAgree as plans
+use Rattle.answer_laws.proofs.Colourings.{PlanLaws}
 use Rattle.answer_laws.proofs.laws.answers_agree.Goals as goal
 
 pub returns : goal.returns
@@ -7,10 +8,20 @@ returns c =
     law.answers_agree c.kernels_are_trees.ensures.walks c.one_program.ensures.kernels
     c.one_outcome-2.ensures.one c.one_outcome.ensures c.one_tree.ensures c.one_answer.ensures c.walk_finds.ensures
     c.rules_are_broken.ensures.obeys c.rules_are_broken.ensures.first
-    (plans.plans_alike c.one_program.ensures.programs c.one_dump.ensures c.least_colours_are_one.ensures c.one_plan.ensures schedules c.one_numbers.ensures
-    c.one_owners.ensures c.one_distribution.ensures c.one_plan_text.ensures c.one_step_count.ensures)
+    (plans.plans_alike c.one_program.ensures.programs c.one_dump.ensures plan_laws c.one_plan.ensures schedules c.one_numbers.ensures
+    c.one_owners.ensures c.one_distribution.ensures c.one_plan_text.ensures)
     c.options_are_within.ensures c.one_translation.ensures c.one_restoration.ensures
   where
+    plan_laws : PlanLaws
+    plan_laws = record {
+      least_are_one = c.least_colours_are_one.ensures;
+      one_step_count = c.one_step_count.ensures;
+      refusals_are_one = c.one_refusal.ensures;
+      none_is_refused = c.none_is_refused.ensures;
+      told_are_alike = c.plans_are_alike.ensures;
+      no_kernel_is_read = c.no_kernel_is_read.ensures;
+    }
+
     schedules : plans.ScheduleLaws
     schedules = record {
       steps_decide = c.tests_decide.ensures.steps;

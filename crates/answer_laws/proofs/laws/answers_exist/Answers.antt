@@ -10,7 +10,7 @@ returns c =
     c.one_outcome.ensures c.one_depth.ensures.same c.one_depth.ensures.both c.walk_finds.ensures c.rules_are_broken.ensures.obeys
     c.rules_are_broken.ensures.first suits
     (plans.planned_exist c.some_numbers.ensures c.some_owners.ensures c.outcomes_fit.ensures c.narrow_meshes_fit_memory.ensures
-    c.some_distribution.ensures c.some_plan.ensures c.one_outcome-3.ensures.causes steps)
+    c.some_distribution.ensures c.some_plan.ensures c.some_outcome-2.ensures c.one_outcome-3.ensures.causes steps)
     c.options_are_within.ensures
   where
     suits : law.SourcesSuit
