@@ -12,8 +12,8 @@ use Rattle.mesh_text.specs.Spelling.{Named}
 use Rattle.distribute.specs.Parts.{Parts, Text}
 use Rattle.bound_program.specs.Values.{BoundValue}
 use Rattle.command_words.specs.Refusal as answer
-use Rattle.command_words.specs.Words.{Parting, ByRule, ByFile, Input}
-use Rattle.answers.specs.Judgements.{SourceIs, TreeIs, TypesAre, MeshIs, EntriesAre, BoundIs, AccessesAre}
+use Rattle.command_words.specs.Words.{Parting, ByRule, ByFile, Blocks, OfSize, AsPlanned, Input}
+use Rattle.answers.specs.Judgements.{SourceIs, TreeIs, TypesAre, MeshIs, EntriesAre, BoundIs, AccessesAre, Colouring, Least, Told}
 
 -- ---- judgements
 
@@ -54,3 +54,10 @@ pub record IsBoundIn (input : Input) (b : BoundValue) (files : Files) : Type 0 w
 abbrev pub parts_by : Parting → (text : List ℕ) → Parts
 parts_by (ByRule rule) text = rule
 parts_by (ByFile name) text = Text text
+
+-- ---- plans
+
+-- what blocks and colours come from, where this is the text of that file
+abbrev pub colouring_by : Blocks → (text : List ℕ) → Colouring
+colouring_by (OfSize places) text = Least places
+colouring_by (AsPlanned name) text = Told text

@@ -1,14 +1,16 @@
-//! What a job reads: its source, its mesh and its partition, each read and judged, and how the reading ends where it is refused.
+//! What a job reads: its source, its mesh, its partition and its plan, each read and judged, and how the reading ends where it is
+//! refused.
 //!
 //! `bound_input` gives the program bound to its mesh, whose kernels keep to their accesses; `numbers_of`, `partition_of` and
-//! `owners_of` give the new numbers and the owners that the options ask for. Of a source alone `translation_of` and
-//! `restoration_of` give what it is translated or restored to.
+//! `owners_of` give the new numbers and the owners that the options ask for, and `plan_text_of` the text of a plan. Of a source
+//! alone `translation_of` and `restoration_of` give what it is translated or restored to.
 #![tactic(auto)]
 
 mod accesses;
 mod files;
 mod meshes;
 mod owners;
+mod plan_texts;
 mod programs;
 mod sources;
 mod translations;
@@ -16,6 +18,7 @@ mod translations;
 pub use files::{file_of, sole_file};
 pub use meshes::entries_of;
 pub use owners::{numbers_of, owners_of, partition_of};
+pub use plan_texts::plan_text_of;
 pub use programs::bound_input;
 pub use sources::tree_of;
 pub use translations::{restoration_of, translation_of};
