@@ -7,7 +7,7 @@ use Rattle.bound_program.specs.Values.{BoundValue}
 use Rattle.command_words.specs.Refusal.{Limit}
 use Rattle.answer_lines.specs.Lines as lines
 use Rattle.answer_lines.specs.Lines.{refused}
-use Rattle.command_words.specs.Words.{PlanJob, Options, Input, names_from, names_by, names_at}
+use Rattle.command_words.specs.Words.{PlanJob, Options, Input, names_from, names_by, names_in_blocks, names_at}
 use Rattle.answers.specs.Judgements.{IsHeld, SourceIs, MeshIs, TreeIs, TypesAre, EntriesAre, BoundIs, AccessesAre}
 use Rattle.answers.specs.Answers.{given, BoundAnswers, PlannedAnswers, PlanAnswers}
 use Rattle.answer_lines.specs.declared.call_answer.Answer.{Answer}
@@ -41,22 +41,28 @@ reached rest input b files a h k =
 
 module _ (told : Option Files) (rose : Type 0) (j : PlanJob) (o : Options) (input : Input) (kept : Readings) where
   abbrev all_names : List (List ℕ)
-  all_names = names_from input ++ names_by o.parting ++ names_at o.schedule
+  all_names = names_from input ++ names_by o.parting ++ names_in_blocks o.blocks ++ names_at o.schedule
+
+  -- those of the options
+  abbrev option_names : List (List ℕ)
+  option_names = names_by o.parting ++ names_in_blocks o.blocks ++ names_at o.schedule
+
+  input_first : all_names ≡ names_from input ++ option_names
+  input_first =
+      ap (λ names. names ++ names_at o.schedule) (append_assoc (names_from input) (names_by o.parting) (names_in_blocks o.blocks))
+      ∙ append_assoc (names_from input) (names_by o.parting ++ names_in_blocks o.blocks) (names_at o.schedule)
 
   -- these are to be read
   pub awaited_next : kept ≡ readings_of all_names → AreNext (names_from input) kept
-  awaited_next e = (
-    names_by o.parting ++ names_at o.schedule,
-    ap names_of e ∙ (names_are all_names ∙ append_assoc (names_from input) (names_by o.parting) (names_at o.schedule)),
-  )
+  awaited_next e = (option_names, ap names_of e ∙ (names_are all_names ∙ input_first))
 
   -- and behind the source and the mesh these
   pub planned_next : (mid : Readings) → kept ≡ readings_of all_names → HaveCome (names_from input) kept mid
-      → AreNext (names_by o.parting ++ names_at o.schedule) mid
+      → AreNext option_names mid
   unfolding awaited_next
   planned_next mid e come =
       let n = awaited_next e in
-      ([], come n.0 n.1 ∙ sym (append-nil (names_by o.parting ++ names_at o.schedule)))
+      ([], come n.0 n.1 ∙ sym (append-nil option_names))
 
   module _ (some : SomeAreSeen) (is : kept ≡ readings_of all_names) where
     whole : (r : Result Answer Halt) → AnswersFrom told kept (PlanAnswers j o input) rose r → AnswersOver told all_names (PlanAnswers j o input) rose r

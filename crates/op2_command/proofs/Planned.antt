@@ -1,5 +1,5 @@
 -- From owners and new numbers to plans, and what is answered of them.
-use Rattle.std.proofs.Common.{◌≡◌, ◌<◌, ◌≤◌, ℕ, inl, inr, List, [], Option, Result, Ok, Err, refl, ap, sym, subst, ◌∙◌}
+use Rattle.std.proofs.Common.{◌≡◌, ℕ, inl, inr, List, [], Option, Result, Ok, Err, refl, ap, sym, subst, ◌∙◌}
 use Rattle.op_outside.specs.Outside.{Files}
 use Rattle.kept_files.specs.Readings.{Readings, Finds}
 use Rattle.mesh_decl.specs.declared.owners.Owners.{Owners}
@@ -9,20 +9,17 @@ use Rattle.mesh_decl.specs.Owners.{AreOwners, ArePerms}
 use Rattle.distribute.specs.declared.types.Distribution.{Distribution}
 use Rattle.distribute.specs.Distributions.{IsDistribution}
 use Rattle.bound_program.specs.Values.{BoundValue}
-use Rattle.local_mesh.specs.declared.types.RankMesh.{RankMesh}
 use Rattle.loop_plan.specs.Values.{PlanValue}
-use Rattle.loop_plan.specs.Proper.{Proper, HasLeastColours}
-use Rattle.loop_plan.specs.StepCounts.{program_steps}
 use Rattle.loop_plan.specs.Distributed.{IsDistributed, Distributed}
 use Rattle.halo_lists.specs.Halos.{AreHalos}
 use Rattle.schedule_steps.specs.declared.step.Step.{Step}
 use Rattle.schedule_steps.specs.Standard.{standard}
 use Rattle.schedule_steps.specs.Drawn.{IsDrawn}
-use Rattle.command_words.specs.Refusal.{ScheduleBytes, Steps, BeyondLimit}
+use Rattle.command_words.specs.Refusal.{ScheduleBytes}
 use Rattle.answer_lines.specs.Lines as lines
-use Rattle.answer_lines.specs.Lines.{most, refused}
+use Rattle.answer_lines.specs.Lines.{refused}
 use Rattle.command_words.specs.Words.{PlanJob, Standard, Drawn, Written, Options, group_of}
-use Rattle.answers.specs.Judgements.{IsHeld, Planned, IsPlanned, HasManySteps, InStandardOrder, BySeed, ByText, OrderOf, outline_of}
+use Rattle.answers.specs.Judgements.{IsHeld, Colouring, Planned, IsPlanned, IsUnplanned, InStandardOrder, BySeed, ByText, OrderOf, outline_of}
 use Rattle.answers.specs.Judgements.{StepsOf, end_line, IsTextRefused, IsStepRefused}
 use Rattle.schedule_text.specs.declared.lines.Line.{Line}
 use Rattle.schedule_text.specs.Reading.{Reads as SchedulesRead}
@@ -33,7 +30,7 @@ use Rattle.answer_lines.specs.Halts.{StopsWhere, answer_of}
 use Rattle.job_inputs.specs.Chains.{AnswersBy, HaltsOver, AnswersFrom}
 use Rattle.op2_command.specs.Chains.{StepsAnswers, ScheduleAnswers, LastAnswers, IsSpread}
 use Rattle.answer_lines.proofs.Halts.{stops_weaker}
-use Rattle.job_inputs.proofs.Chained.{halts_weaker, answers_by, answers_weaker, finds_from}
+use Rattle.job_inputs.proofs.Chained.{halts_weaker, answers_by, answers_weaker, finds_from, stops_always}
 
 -- ---- distributions
 
@@ -116,45 +113,20 @@ module _ (j : PlanJob) (o : Options) (b : BoundValue) (p : Planned) where
 
 -- ---- plans
 
-module _ (j : PlanJob) (o : Options) (b : BoundValue) (u : Owners) (n : Perms) (d : Distribution) (ranks : List RankMesh) (same : ranks ≡ d.ranks.items) (distributed : IsDistribution b.mesh u n d)
+module _ (j : PlanJob) (o : Options) (b : BoundValue) (u : Owners) (n : Perms) (x : Colouring) (d : Distribution) (distributed : IsDistribution b.mesh u n d)
     (told : Option Files) (rose : Type 0) (old : Readings) where
   abbrev Last : Files → lines.Answer → Type 0
-  Last = LastAnswers j o b u n
+  Last = LastAnswers j o b u n x
 
   abbrev Then : PlanValue → Files → lines.Answer → Type 0
   Then p = ScheduleAnswers j o b (record { distribution = d; plan = p })
 
-  pub plan_answered : (p : PlanValue) (r : Result Answer Halt)
-      → Proper b ranks p
-      → HasLeastColours b ranks p
-      → p.block ≡ o.block
-      → p.steps ≡ program_steps b ranks
-      → p.steps ≤ most Steps
-      → AnswersFrom told old (ScheduleAnswers j o b (record { distribution = d; plan = p })) rose r
+  pub plan_answered : (p : PlanValue) (r : Result Answer Halt) → IsPlanned x b d.ranks.items p
+      → AnswersFrom told old (Then p) rose r
       → AnswersFrom told old Last rose r
-  plan_answered p r proper colours block steps few h =
-      answers_weaker told rose old (Then p) Last r (λ files a x. inr (record { distribution = d; plan = p }, planned, x)) h
-    where
-      planned : IsPlanned o b u n (record { distribution = d; plan = p })
-      planned = record {
-        distributed = distributed;
-        proper = subst (λ r. Proper b r p) same proper;
-        colours = subst (λ r. HasLeastColours b r p) same colours;
-        block = block;
-        few = subst (λ k. k ≤ most Steps) (steps ∙ ap (program_steps b) same) few;
-      }
+  plan_answered p r planned h =
+      answers_weaker told rose old (Then p) Last r (λ files a k. inr (record { distribution = d; plan = p }, (distributed, planned), k)) h
 
-  pub many_steps : (steps : ℕ)
-      → steps ≡ program_steps b ranks
-      → most Steps < program_steps b ranks
-      → Finds told old [] (λ files. Last files (refused (BeyondLimit Steps steps)))
-  many_steps steps e l =
-      finds_from told rose old (λ files. Last files (refused (BeyondLimit Steps steps))) (λ files. inl (BeyondLimit Steps steps, refuses, refl))
-    where
-      refuses : HasManySteps b u n (BeyondLimit Steps steps)
-      refuses = record {
-        distribution = d;
-        distributed = distributed;
-        many = subst (λ r. most Steps < program_steps b r) same l;
-        says = ap (BeyondLimit Steps) (e ∙ ap (program_steps b) same);
-      }
+  pub plan_refused : (h : Halt) → StopsWhere (IsUnplanned x b d.ranks.items) h → AnswersFrom told old Last rose (Err h)
+  plan_refused h s =
+      stops_always told rose old (IsUnplanned x b d.ranks.items) (λ files r. Last files (refused r)) h (λ files r k. inl (r, (d, distributed, k), refl)) s

@@ -12,11 +12,14 @@ use Rattle.bound_program.specs.Values.{BoundValue}
 use Rattle.schedule_text.specs.declared.lines.Line.{Line}
 use Rattle.step_judge.specs.declared.refusal.ScheduleRefusal.{ScheduleRefusal}
 use Rattle.step_judge.specs.declared.refusal.ScheduleRefusal.TheVariants as taking
-use Rattle.command_words.specs.Refusal.{Refusal}
+use Rattle.plan_cert.specs.declared.types.CertRefusal.{CertRefusal}
+use Rattle.plan_cert.specs.declared.types.CertRefusal.TheVariants as cert
+use Rattle.command_words.specs.Refusal.{Steps, Refusal, BadPlan, BeyondLimit}
 use Rattle.answer_lines.specs.Lines as lines
 use Rattle.command_words.specs.Words.{PlanJob, Options, group_of}
 use Rattle.answers.specs.Said.{SaysStep, SaysEnd}
-use Rattle.answers.specs.Judgements.{TreeIs, TranslationIs, RestorationIs, EntriesAre, Planned, PlanIs, Order, OrderOf, outline_of, StepsOf}
+use Rattle.answers.specs.Judgements.{TreeIs, TranslationIs, RestorationIs, EntriesAre}
+use Rattle.answers.specs.Judgements.{Colouring, Planned, PlanIs, Order, OrderOf, outline_of, StepsOf}
 use Rattle.answers.specs.Answers.{given, planned_answer}
 
 -- ---- parts of the chain
@@ -29,9 +32,9 @@ StepsAnswers j o b p order = given (StepsOf (outline_of b p) (group_of o) order)
 abbrev pub ScheduleAnswers : PlanJob → Options → BoundValue → Planned → Files → lines.Answer → Type 0
 ScheduleAnswers j o b p files = given (OrderOf o.schedule files) (StepsAnswers j o b p)
 
--- what is answered of owners and new numbers: the plan, and what is answered of it
-abbrev pub LastAnswers : PlanJob → Options → BoundValue → Owners → Perms → Files → lines.Answer → Type 0
-LastAnswers j o b u n files = given (PlanIs o b u n) (λ p. ScheduleAnswers j o b p files)
+-- what is answered of owners, new numbers, and where blocks and colours come from: the plan, and what is answered of it
+abbrev pub LastAnswers : PlanJob → Options → BoundValue → Owners → Perms → Colouring → Files → lines.Answer → Type 0
+LastAnswers j o b u n c files = given (PlanIs c b u n) (λ p. ScheduleAnswers j o b p files)
 
 -- what is answered over the text of a mesh that is written again
 abbrev pub RewriteAnswers : Form → List ℕ → lines.Answer → Type 0
@@ -44,6 +47,19 @@ TextTranslates bytes = given (TreeIs bytes) (λ p. given (TranslationIs bytes p)
 -- what is answered to the bytes of a source that is restored
 abbrev pub TextRestores : List ℕ → lines.Answer → Type 0
 TextRestores bytes = given (RestorationIs bytes) (λ out a. a ≡ lines.done out)
+
+-- what the refusal of a plan text is as one of the program; want of memory is none
+abbrev pub SaysPlan : CertRefusal → Refusal → Type 0
+SaysPlan (cert.Header line) r = r ≡ BadPlan 1 line
+SaysPlan (cert.Ranks line) r = r ≡ BadPlan 2 line
+SaysPlan (cert.Halo line) r = r ≡ BadPlan 3 line
+SaysPlan (cert.Site line) r = r ≡ BadPlan 4 line
+SaysPlan (cert.Item line) r = r ≡ BadPlan 5 line
+SaysPlan (cert.BlockConflict line) r = r ≡ BadPlan 6 line
+SaysPlan (cert.InnerConflict line) r = r ≡ BadPlan 7 line
+SaysPlan (cert.End line) r = r ≡ BadPlan 8 line
+SaysPlan (cert.TooManySteps steps) r = r ≡ BeyondLimit Steps steps
+SaysPlan cert.OutOfMemory r = ⊥
 
 -- the mesh of a program by some owners and new numbers
 pub record IsSpread (b : BoundValue) (d : Distribution) : Type 0 where

@@ -4,10 +4,10 @@ ghost use Rattle.std.specs.Prelude.{◌≡◌, ◌≤◌, [], ◌∷◌, ◌++�
 ghost use Rattle.op_outside.specs.Outside.{Rose};
 ghost use Rattle.kept_files.specs.Readings.{readings_of};
 ghost use Rattle.mesh_text.specs.declared.entry.TheConstants.{MESH_BYTES};
-ghost use Rattle.command_words.specs.Words.{WordsAre, names_from, names_by, names_at, names_of, named_by};
+ghost use Rattle.command_words.specs.Words.{WordsAre, names_from, names_by, names_in_blocks, names_at, names_of, named_by};
 ghost use Rattle.command_words.specs.Laws.{AreWithin};
 ghost use Rattle.answers.specs.Answers.{PlanAnswers, ConvertAnswers, CommandAnswers, Answers};
-ghost use Rattle.command_words.specs.Values.{parting_in, schedule_in, options_in, job_in, input_in, command_of, IsInRange};
+ghost use Rattle.command_words.specs.Values.{parting_in, blocks_in, schedule_in, options_in, job_in, input_in, command_of, IsInRange};
 ghost use Rattle.answer_lines.specs.Halts.{StopsWhere};
 ghost use Rattle.job_inputs.specs.Chains.{AnswersBy, AnswersOver};
 ghost use Rattle.op2_command.specs.Chains.{RewriteAnswers};
@@ -17,7 +17,8 @@ use crate::plans::planned;
 use crate::sources::{restored, translated};
 use answer_lines::{Answer, Failure, Halt, Limit, Refusal, done, refused};
 use command_words::{
-    Asked, Input, Options, Parting, PlanJob, Schedule, USAGE, VERSION, WordsRefusal, read_words,
+    Asked, Blocks, Input, Options, Parting, PlanJob, Schedule, USAGE, VERSION, WordsRefusal,
+    read_words,
 };
 use job_inputs::{bound_input, entries_of, sole_file};
 use kept_files::{Kept, some_files_are_as_seen};
@@ -50,6 +51,16 @@ fn expect_parting<'a>(kept: &mut Kept<'a>, parting: Parting<'a>) -> Result<(), O
     }
 }
 
+// The file that tells the blocks and colours of a plan is to be read, if one does.
+fn expect_blocks<'a>(kept: &mut Kept<'a>, blocks: Blocks<'a>) -> Result<(), OutOfMemory>
+    ensures { OnOk result (kept.new ≡ kept.old ++ readings_of (names_in_blocks (blocks_in blocks.entry))) }
+{
+    match blocks {
+        Blocks::OfSize(_) => Ok(()),
+        Blocks::AsPlanned(name) => kept.push(name),
+    }
+}
+
 // The file that has a schedule is to be read, if one does.
 fn expect_schedule<'a>(kept: &mut Kept<'a>, schedule: Schedule<'a>) -> Result<(), OutOfMemory>
     ensures { OnOk result (kept.new ≡ kept.old ++ readings_of (names_at (schedule_in schedule.entry))) }
@@ -67,11 +78,13 @@ fn awaited<'a>(
     input: Input<'a>,
 ) -> Result<Kept<'a>, OutOfMemory>
     ensures { IfOk result (λ kept. kept ≡ readings_of
-        (names_from (input_in input.entry) ++ names_by (options_in options.now).parting ++ names_at (options_in options.now).schedule)) }
+        (names_from (input_in input.entry) ++ names_by (options_in options.now).parting
+        ++ names_in_blocks (options_in options.now).blocks ++ names_at (options_in options.now).schedule)) }
 {
     let mut kept = Kept::new(alloc);
     expect_input(&mut kept, input)?;
     expect_parting(&mut kept, options.parting)?;
+    expect_blocks(&mut kept, options.blocks)?;
     expect_schedule(&mut kept, options.schedule)?;
     Ok(kept)
 }
@@ -88,10 +101,12 @@ fn to_plan<'a, F: Shelf, R: Threads + Sync, G: Gate>(
 ) -> Result<Answer, Halt<'a>>
     requires input { All (λ name. F.lends shelf.old name) (names_from (input_in input)) }
     requires parting { All (λ name. F.lends shelf.old name) (names_by (options_in options.now).parting) }
+    requires plan { All (λ name. F.lends shelf.old name) (names_in_blocks (options_in options.now).blocks) }
     requires schedule { All (λ name. F.lends shelf.old name) (names_at (options_in options.now).schedule) }
     requires within { AreWithin (options_in options.now) }
     ensures { AnswersOver (F.told shelf.old)
-        (names_from (input_in input.entry) ++ names_by (options_in options.now).parting ++ names_at (options_in options.now).schedule)
+        (names_from (input_in input.entry) ++ names_by (options_in options.now).parting
+        ++ names_in_blocks (options_in options.now).blocks ++ names_at (options_in options.now).schedule)
         (PlanAnswers (job_in job) (options_in options.now) (input_in input.entry))
         (Rose (F.faults shelf.old) (F.faults shelf.new)) result }
 {

@@ -12,25 +12,27 @@ ghost use Rattle.loop_plan.specs.StepOutline.{step_outline};
 ghost use Rattle.schedule_steps.specs.declared.step.Step.{Step as StepValue};
 ghost use Rattle.schedule_check.specs.Mail.{plan_cells};
 ghost use Rattle.planned_run.specs.Orders.{InOrder, CanTake};
-ghost use Rattle.answer_lines.specs.declared.limits.TheConstants.{SCHEDULE_BYTES};
-ghost use Rattle.command_words.specs.Words.{names_by, names_at};
+ghost use Rattle.answer_lines.specs.declared.limits.TheConstants.{PLAN_BYTES, SCHEDULE_BYTES};
+ghost use Rattle.command_words.specs.Words.{names_by, names_in_blocks, names_at};
 ghost use Rattle.command_words.specs.Laws.{AreWithin};
 ghost use Rattle.answers.specs.Judgements.{AccessesAre, ByText};
 ghost use Rattle.answers.specs.Answers.{sizes_text, planned_answer, PlannedAnswers};
 ghost use Rattle.command_words.specs.Values.{options_in, job_in};
 ghost use Rattle.answer_lines.specs.Halts.{answer_of};
+ghost use Rattle.job_inputs.specs.Inputs.{colouring_by};
 ghost use Rattle.job_inputs.specs.Chains.{AnswersBy, AnswersFrom};
 ghost use Rattle.op2_command.specs.Chains.{StepsAnswers, ScheduleAnswers, LastAnswers, IsSpread};
 
+use crate::colourings::plan_by;
 use crate::runs::run_on;
 use crate::schedules::{end_line, judged, lines_of};
-use answer_lines::{Answer, Failure, Halt, Limit, Refusal};
+use answer_lines::{Answer, Halt, Limit};
 use bound_program::Bound;
 use command_words::{Options, PlanJob, Schedule};
 use distribute::{Distribution, distribute};
-use job_inputs::{file_of, numbers_of, owners_of, partition_of};
+use job_inputs::{file_of, numbers_of, owners_of, partition_of, plan_text_of};
 use kept_files::Kept;
-use loop_plan::{Plan, PlanRefusal, plan, write_plan};
+use loop_plan::{Plan, write_plan};
 use mesh_decl::{Owners, Perms};
 use op_num::{OutOfMemory, put_u64};
 use op_outside::Shelf;
@@ -168,7 +170,7 @@ fn scheduled<'a, F: Shelf, R: Threads + Sync, G: Gate>(
     }
 }
 
-// The answer of a job on the plan by these owners and new numbers.
+// The answer of a job on the plan by these owners and new numbers. Where a file tells blocks and colours, `text` is what it holds.
 fn last_answer<'a, F: Shelf, R: Threads + Sync, G: Gate>(
     rt: &R,
     alloc: Global,
@@ -179,6 +181,7 @@ fn last_answer<'a, F: Shelf, R: Threads + Sync, G: Gate>(
     bound: &Bound,
     owners: Owners,
     perms: Perms,
+    text: &[u8],
     gate: &G,
 ) -> Result<Answer, Halt<'a>>
     requires lent { All (λ name. F.lends shelf.old name) (names_at (options_in options.now).schedule) }
@@ -188,25 +191,21 @@ fn last_answer<'a, F: Shelf, R: Threads + Sync, G: Gate>(
     requires within { AreWithin (options_in options.now) }
     requires owners { AreOwners (bound_of bound.now).mesh owners }
     requires perms { ArePerms (bound_of bound.now).mesh perms }
+    requires few { length text.now ≤ PLAN_BYTES }
     ensures { AnswersFrom (F.told shelf.old) kept.old
-        (LastAnswers (job_in job) (options_in options.now) (bound_of bound.now) owners perms)
+        (LastAnswers (job_in job) (options_in options.now) (bound_of bound.now) owners perms
+        (colouring_by (options_in options.now).blocks text.now))
         (Rose (F.faults shelf.old) (F.faults shelf.new)) result }
 {
     let found = distribute(alloc, &bound.mesh, owners, perms)?;
-    match plan(alloc, bound, &found.ranks, &found.halos, options.block) {
-        Ok(plan) => scheduled(
-            rt, alloc, shelf, kept, job, options, bound, &found, &plan, gate,
-        ),
-        Err(PlanRefusal::TooManySteps { steps }) => Err(Halt::Refused(Refusal::BeyondLimit {
-            limit: Limit::Steps,
-            size: steps,
-        })),
-        Err(PlanRefusal::OutOfMemory) => Err(Halt::Failed(Failure::OutOfMemory)),
-    }
+    let plan = plan_by(alloc, bound, &found, options.blocks, text)?;
+    scheduled(
+        rt, alloc, shelf, kept, job, options, bound, &found, &plan, gate,
+    )
 }
 
-/// The answer of a job on the plan of a bound program with these options. The files of a partition and a schedule, where the options
-/// name them, are the next in `kept`.
+/// The answer of a job on the plan of a bound program with these options. The files of a partition, a plan and a schedule, where the
+/// options name them, are the next in `kept`.
 pub fn planned<'a, F: Shelf, R: Threads + Sync, G: Gate>(
     rt: &R,
     alloc: Global,
@@ -218,8 +217,10 @@ pub fn planned<'a, F: Shelf, R: Threads + Sync, G: Gate>(
     gate: &G,
 ) -> Result<Answer, Halt<'a>>
     requires parting { All (λ name. F.lends shelf.old name) (names_by (options_in options.now).parting) }
+    requires plan { All (λ name. F.lends shelf.old name) (names_in_blocks (options_in options.now).blocks) }
     requires schedule { All (λ name. F.lends shelf.old name) (names_at (options_in options.now).schedule) }
-    requires next { AreNext (names_by (options_in options.now).parting ++ names_at (options_in options.now).schedule) kept.old }
+    requires next { AreNext (names_by (options_in options.now).parting ++ names_in_blocks (options_in options.now).blocks
+        ++ names_at (options_in options.now).schedule) kept.old }
     requires within { AreWithin (options_in options.now) }
     requires fits { Fits (bound_of bound.now) }
     requires obeyed { AccessesAre (bound_of bound.now) (Ok tt) }
@@ -227,9 +228,10 @@ pub fn planned<'a, F: Shelf, R: Threads + Sync, G: Gate>(
         (Rose (F.faults shelf.old) (F.faults shelf.new)) result }
 {
     let perms = numbers_of(alloc, options, bound)?;
-    let text = partition_of(alloc, shelf, kept, options.parting)?;
-    let owners = owners_of(alloc, options, bound, &text)?;
+    let partition = partition_of(alloc, shelf, kept, options.parting)?;
+    let owners = owners_of(alloc, options, bound, &partition)?;
+    let text = plan_text_of(alloc, shelf, kept, options.blocks)?;
     last_answer(
-        rt, alloc, shelf, kept, job, options, bound, owners, perms, gate,
+        rt, alloc, shelf, kept, job, options, bound, owners, perms, &text, gate,
     )
 }
