@@ -3,21 +3,22 @@
 _op2() {
     local word=${COMP_WORDS[COMP_CWORD]} before=${COMP_WORDS[COMP_CWORD - 1]}
     case $before in
-        --form) return ;;
         --ranks) return ;;
         --parts) COMPREPLY=($(compgen -W 'block bisect: grow:' -- "$word")); compopt -o nospace; return ;;
         --partition) COMPREPLY=($(compgen -f -- "$word")); return ;;
         --renumber) return ;;
         --block) return ;;
+        --plan) COMPREPLY=($(compgen -f -- "$word")); return ;;
         --schedule) COMPREPLY=($(compgen -f -- "$word")); return ;;
         --seed) return ;;
         --workers) return ;;
+        --form) return ;;
     esac
     case $word in
-        -*) COMPREPLY=($(compgen -W '--form --ranks --parts --partition --renumber --block --schedule --seed --workers --dump -h --help -V --version' -- "$word")) ;;
+        -*) COMPREPLY=($(compgen -W '--ranks --parts --partition --renumber --block --plan --schedule --seed --workers --dump --form -h --help -V --version' -- "$word")) ;;
         *)
             if [ "$COMP_CWORD" -eq 1 ]; then
-                COMPREPLY=($(compgen -W 'run sample convert translate restore check plan schedule' -- "$word"))
+                COMPREPLY=($(compgen -W 'run sample check plan schedule convert translate restore' -- "$word"))
             else
                 COMPREPLY=($(compgen -f -- "$word"))
             fi

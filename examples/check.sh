@@ -1,7 +1,7 @@
 #!/bin/sh
 # Runs each example and compares what it prints with NAME.out, and the example `sample2` with the sample on a grid of 2 times 2 cells;
-# writes the mesh of `sample2` again, the plan of `heat` on two ranks, and its translation. Each example is run once more as it is translated and
-# restored.
+# writes the mesh of `sample2` again, the plan of `heat` on two ranks, and its translation; runs `heat` by that plan, and by one with other blocks
+# and colours. Each example is run once more as it is translated and restored.
 # Ends with the number of differences.
 here=$(CDPATH= cd -- "$(dirname -- "$0")" && pwd) || exit 70
 op2=${1:-$here/../op2}
@@ -32,6 +32,12 @@ if ! "$op2" plan "$here/heat.c" "$here/heat.mesh" --ranks 2 --block 2 --renumber
     echo 'differs: the plan of heat on two ranks' >&2
     bad=$((bad + 1))
 fi
+for plan in heat.plan heat.colours; do
+    if ! "$op2" run "$here/heat.c" "$here/heat.mesh" --ranks 2 --renumber joined --plan "$here/$plan" | cmp -s - "$here/heat.out"; then
+        echo "differs: heat by $plan" >&2
+        bad=$((bad + 1))
+    fi
+done
 if ! "$op2" translate "$here/heat.c" | cmp -s - "$here/heat.stubs"; then
     echo 'differs: the translation of heat' >&2
     bad=$((bad + 1))

@@ -81,6 +81,7 @@ try run heat.c heat.mesh
 try run heat.c heat.mesh --ranks 2 --parts grow:joined --renumber joined --seed 3 --dump
 try plan residual.c residual.mesh --ranks 2 --parts bisect:x
 try schedule heat.c heat.mesh --ranks 2 --workers 3
+try check heat.c heat.mesh --ranks 2 --renumber joined --plan heat.colours
 try convert heat.mesh
 try translate heat.c
 try restore heat.stubs

@@ -49,12 +49,18 @@ def try_errors(folder):
     """Each row with an example is a change of one of the files at the top of the page."""
     page = (top / "docs/ERRORS.md").read_text()
     source, mesh, part, steps, two = re.findall(r"```c?\n(.*?)```", page, re.S)[:5]
+    residual = {"s.c": (top / "examples/residual.c").read_text(), "m.mesh": (top / "examples/residual.mesh").read_text()}
+    residual["u"] = re.search(r"```\n(op2plan 1\n.*?)```", (top / "docs/TEXTS.md").read_text(), re.S)[1]
     for section in re.split(r"^## ", page, flags=re.M)[1:]:
         title = section.split("\n")[0]
         changed = {"Mesh": "m.mesh", "Rank": "p", "Sche": "t"}.get(title[:4], "s.c")
         for line in section.splitlines():
             row = cells(line)
             if len(row) != 5 or not row[3].startswith("`op2: "):
+                continue
+            if title.startswith("Plans"):
+                files = {**residual, "u": edited(residual["u"], row[2])}
+                compare(f"{title}, {row[0]}", answer(folder, files, ["check", "s.c", "m.mesh", "--plan", "u"]), (12, row[3].strip("`")))
                 continue
             files = {"s.c": source, "m.mesh": two if changed == "t" else mesh, "p": part, "t": steps}
             inside = re.fullmatch(r"in `([^`]*)`: (.*)", row[2])
@@ -78,6 +84,7 @@ def try_errors(folder):
     compare("the files of ERRORS", answer(folder, unchanged, ["run", "s.c", "m.mesh", "--schedule", "t"]), (0, ""))
     unchanged = {"s.c": source, "m.mesh": mesh, "p": part}
     compare("the files of ERRORS", answer(folder, unchanged, ["run", "s.c", "m.mesh", "--ranks", "2", "--partition", "p"]), (0, ""))
+    compare("the plan of TEXTS", answer(folder, residual, ["run", "s.c", "m.mesh", "--plan", "u"]), (0, ""))
 
 
 def try_accesses(folder):
