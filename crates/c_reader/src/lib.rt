@@ -15,4 +15,4 @@ mod statements;
 mod tops;
 
 pub use c_tree::SourceRefusal;
-pub use reading::{deep_is_far, one_depth, one_tree, read_program, shows_its_tokens};
+pub use reading::{deep_is_far, one_depth, one_tree, read_lexed, read_program, shows_its_tokens};

@@ -44,10 +44,25 @@ pub fn read_program(alloc: Global, bytes: &[u8]) -> Result<Program, SourceRefusa
         Ok(tokens) => tokens,
         Err(refusal) => return Err(unlexed(refusal)),
     };
-    match read_tokens(alloc, &tokens) {
+    read_lexed(alloc, bytes, &tokens)
+}
+
+/// The one tree of the bytes of a source whose tokens these are, where it has at most 64 levels. They are to be fewer than
+/// 2 ^ 32 - 2. `Lex` doesn't come, and `OutOfMemory` only where memory runs out.
+pub fn read_lexed(alloc: Global, bytes: &[u8], tokens: &[Token]) -> Result<Program, SourceRefusal>
+    requires size { length bytes.now + 2 < 2 ^ 32 }
+    requires lexed { Lexes bytes.now (Ok tokens.now) }
+    // The tree and the refusals are those of `read_program`.
+    ensures found { IfOk result (λ x. Reads bytes.now (program_of x)) }
+    ensures only { (p : ProgramTree) → Reads bytes.now p → IsTree p result }
+    ensures deep { (p : ProgramTree) (n : ℕ) → Deep bytes.now p n → IsRefusal (TooDeep (place_at p.places bytes.now n)) result }
+    ensures refused { IfErr result (CanRefuse bytes.now) }
+{
+    one_outcome();
+    match read_tokens(alloc, tokens) {
         Ok(program) => Ok(program),
         Err(ReadError::Memory) => Err(SourceRefusal::OutOfMemory),
-        Err(ReadError::Fault(fault)) => Err(refused(&tokens, bytes, fault)),
+        Err(ReadError::Fault(fault)) => Err(refused(tokens, bytes, fault)),
     }
 }
 

@@ -20,5 +20,5 @@ pub use meshes::entries_of;
 pub use owners::{numbers_of, owners_of, partition_of};
 pub use plan_texts::plan_text_of;
 pub use programs::bound_input;
-pub use sources::tree_of;
+pub use sources::{tokens_of, tree_of_tokens};
 pub use translations::{restoration_of, translation_of};

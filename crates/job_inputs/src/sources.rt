@@ -1,6 +1,7 @@
 // The source: its bytes, its tree, and its kernels and constants.
 
 ghost use Rattle.std.specs.Prelude.{◌≡◌, ◌≤◌, Ok, Err, length, IfOk, IfErr};
+ghost use Rattle.c_lex.specs.Lexed.{Lexes};
 ghost use Rattle.c_tree.specs.View.{program_of};
 ghost use Rattle.answers.specs.Judgements.{TreeIs, TypesAre};
 ghost use Rattle.answers.specs.Said.{SaysLex, SaysSource, SaysTypes};
@@ -8,8 +9,8 @@ ghost use Rattle.answer_lines.specs.declared.limits.TheConstants.{SOURCE_BYTES};
 ghost use Rattle.answer_lines.specs.Halts.{StopsWhere};
 
 use answer_lines::{Failure, Halt, Refusal};
-use c_reader::{SourceRefusal, read_program};
-use c_tree::{LexRefusal, Program};
+use c_reader::{SourceRefusal, read_lexed, read_program};
+use c_tree::{LexRefusal, Program, Token, lex};
 use kernel_types::Resolved;
 use name_resolution::{TypeRefusal, resolve};
 use std::alloc::Global;
@@ -24,6 +25,37 @@ pub fn tree_of<'a>(alloc: Global, source: &[u8]) -> Result<Program, Halt<'a>>
     ensures err { IfErr result (StopsWhere (λ r. TreeIs source.now (Err r))) }
 {
     match read_program(alloc, source) {
+        Ok(program) => Ok(program),
+        Err(refusal) => Err(unread(refusal)),
+    }
+}
+
+/// The tokens of the source; it has at most `SOURCE_BYTES` bytes.
+///
+/// A source without tokens is refused as one without a tree. Want of memory is the one failure.
+pub fn tokens_of<'a>(alloc: Global, source: &[u8]) -> Result<Vec<Token>, Halt<'a>>
+    requires { length source.now ≤ SOURCE_BYTES }
+    ensures ok { IfOk result (λ v. Lexes source.now (Ok v.items)) }
+    ensures err { IfErr result (StopsWhere (λ r. TreeIs source.now (Err r))) }
+{
+    match lex(alloc, source) {
+        Ok(tokens) => Ok(tokens),
+        Err(refusal) => Err(unlexed(refusal)),
+    }
+}
+
+/// The tree of the source whose tokens these are, as `tree_of` gives it; the source has at most `SOURCE_BYTES` bytes.
+pub fn tree_of_tokens<'a>(
+    alloc: Global,
+    source: &[u8],
+    tokens: &[Token],
+) -> Result<Program, Halt<'a>>
+    requires few { length source.now ≤ SOURCE_BYTES }
+    requires lexed { Lexes source.now (Ok tokens.now) }
+    ensures ok { IfOk result (λ p. TreeIs source.now (Ok (program_of p))) }
+    ensures err { IfErr result (StopsWhere (λ r. TreeIs source.now (Err r))) }
+{
+    match read_lexed(alloc, source, tokens) {
         Ok(program) => Ok(program),
         Err(refusal) => Err(unread(refusal)),
     }

@@ -1,6 +1,7 @@
 // Sources alone: what they are translated and restored to.
 
 ghost use Rattle.std.specs.Prelude.{◌≤◌, Ok, Err, length, IfOk, IfErr};
+ghost use Rattle.c_lex.specs.Lexed.{Lexes};
 ghost use Rattle.c_tree.specs.View.{program_of};
 ghost use Rattle.answers.specs.Judgements.{TreeIs, TranslationIs, RestorationIs};
 ghost use Rattle.answers.specs.Said.{SaysTranslation};
@@ -9,25 +10,26 @@ ghost use Rattle.answer_lines.specs.Halts.{StopsWhere};
 
 use crate::sources::unlexed;
 use answer_lines::{Failure, Halt, Refusal};
-use c_tree::Program;
+use c_tree::{Program, Token};
 use op_translate::{TransRefusal, restore, translate};
 use std::alloc::Global;
 
-/// The translation of the source, of which `program` is the tree: each loop call is a call of its own stub, and a table of the
-/// stubs stands behind it. The source has at most `SOURCE_BYTES` bytes.
+/// The translation of the source whose tokens and tree these are: each loop call is a call of its own stub, and a table of the
+/// stubs stands behind it.
 ///
 /// A source with a name of a stub is refused, with the place of the first. Want of memory is the one failure.
 pub fn translation_of<'a>(
     alloc: Global,
     source: &[u8],
+    tokens: &[Token],
     program: &Program,
 ) -> Result<Vec<u8>, Halt<'a>>
-    requires few { length source.now ≤ SOURCE_BYTES }
+    requires lexed { Lexes source.now (Ok tokens.now) }
     requires read { TreeIs source.now (Ok (program_of program.now)) }
     ensures ok { IfOk result (λ v. TranslationIs source.now (program_of program.now) (Ok v.items)) }
     ensures err { IfErr result (StopsWhere (λ r. TranslationIs source.now (program_of program.now) (Err r))) }
 {
-    match translate(alloc, source, program) {
+    match translate(alloc, source, tokens, program) {
         Ok(translation) => Ok(translation),
         Err(refusal) => Err(untranslated(refusal)),
     }

@@ -8,7 +8,7 @@ ghost use Rattle.job_inputs.specs.Chains.{AnswersBy, AnswersOver};
 ghost use Rattle.op2_command.specs.Chains.{TextTranslates, TextRestores};
 
 use answer_lines::{Answer, Halt, Limit};
-use job_inputs::{restoration_of, sole_file, translation_of, tree_of};
+use job_inputs::{restoration_of, sole_file, tokens_of, translation_of, tree_of_tokens};
 use kept_files::some_files_are_as_seen;
 use op_outside::Shelf;
 use std::alloc::Global;
@@ -18,8 +18,9 @@ fn text_translated<'a>(alloc: Global, bytes: &[u8]) -> Result<Answer, Halt<'a>>
     requires { length bytes.now ≤ SOURCE_BYTES }
     ensures { AnswersBy (TextTranslates bytes.now) result }
 {
-    let program = tree_of(alloc, bytes)?;
-    let translation = translation_of(alloc, bytes, &program)?;
+    let tokens = tokens_of(alloc, bytes)?;
+    let program = tree_of_tokens(alloc, bytes, &tokens)?;
+    let translation = translation_of(alloc, bytes, &tokens, &program)?;
     Ok(Answer::Done(translation))
 }
 

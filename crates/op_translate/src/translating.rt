@@ -1,6 +1,7 @@
 // The translation of a source.
 
-ghost use Rattle.std.specs.Prelude.{◌≡◌, ◌+◌, ◌<◌, ◌^◌, ◌++◌, length, OnOk};
+ghost use Rattle.std.specs.Prelude.{◌≡◌, ◌++◌, Ok, OnOk};
+ghost use Rattle.c_lex.specs.Lexed.{Lexes};
 ghost use Rattle.c_tree.specs.View.{program_of};
 ghost use Rattle.c_tree.specs.Reads.{Reads};
 ghost use Rattle.op_translate.specs.Translation.{Outcome, Translates, ends_line, line_end, first_refusal, refuses_stub};
@@ -11,17 +12,22 @@ use crate::laws::one_translation;
 use crate::names::is_stub;
 use crate::refusals::TransRefusal;
 use crate::table::put_table;
-use c_lex::{Kind, Token, lex, tokens_are_few};
+use c_lex::{Kind, Token};
 use c_tree::Program;
 use op_num::OutOfMemory;
 use std::alloc::Global;
 
-/// The source whose tree this is, with each call of a loop a call of its own stub: from `op_par_loop` up to the comma
-/// behind the kernel K stands `op_par_loop_K(`. Behind it come a LF, unless the source ends with one, and the table of the
-/// stubs as comments (docs/LANGUAGE.md). The bytes are to be fewer than 2 ^ 32 - 2, as for `read_program`. `NameTaken` comes
-/// exactly where a name of the source begins with `op_par_loop_`, `OutOfMemory` only where memory runs out.
-pub fn translate(alloc: Global, bytes: &[u8], program: &Program) -> Result<Vec<u8>, TransRefusal>
-    requires size { length bytes.now + 2 < 2 ^ 32 }
+/// The source whose tokens and tree these are, with each call of a loop a call of its own stub: from `op_par_loop` up to the
+/// comma behind the kernel K stands `op_par_loop_K(`. Behind it come a LF, unless the source ends with one, and the table of
+/// the stubs as comments (docs/LANGUAGE.md). `NameTaken` comes exactly where a name of the source begins with
+/// `op_par_loop_`, `OutOfMemory` only where memory runs out.
+pub fn translate(
+    alloc: Global,
+    bytes: &[u8],
+    tokens: &[Token],
+    program: &Program,
+) -> Result<Vec<u8>, TransRefusal>
+    requires lexed { Lexes bytes.now (Ok tokens.now) }
     requires read { Reads bytes.now (program_of program.now) }
     // What is answered is the translation or its refusal,
     ensures found { Answers (Translates bytes.now (program_of program.now)) result }
@@ -29,20 +35,23 @@ pub fn translate(alloc: Global, bytes: &[u8], program: &Program) -> Result<Vec<u
     ensures only { (o : Outcome) → Translates bytes.now (program_of program.now) o → Answers (λ x. x ≡ o) result }
 {
     one_translation();
-    translated(alloc, bytes, program)
+    translated(alloc, bytes, tokens, program)
 }
 
 // The translation, or its refusal.
-fn translated(alloc: Global, bytes: &[u8], program: &Program) -> Result<Vec<u8>, TransRefusal>
-    requires size { length bytes.now + 2 < 2 ^ 32 }
+fn translated(
+    alloc: Global,
+    bytes: &[u8],
+    tokens: &[Token],
+    program: &Program,
+) -> Result<Vec<u8>, TransRefusal>
+    requires lexed { Lexes bytes.now (Ok tokens.now) }
     requires read { Reads bytes.now (program_of program.now) }
     ensures { Answers (Translates bytes.now (program_of program.now)) result }
 {
-    tokens_are_few();
-    let tokens = lex(alloc, bytes)?;
-    check_names(&tokens)?;
+    check_names(tokens)?;
     let mut out = Vec::new(alloc);
-    put_edited(&mut out, bytes, &tokens, Form::Stub)?;
+    put_edited(&mut out, bytes, tokens, Form::Stub)?;
     put_line_end(&mut out, bytes)?;
     put_table(alloc, &mut out, &program.main.body)?;
     Ok(out)

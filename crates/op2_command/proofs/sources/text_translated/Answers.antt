@@ -7,9 +7,15 @@ use Rattle.answers.specs.Judgements.{TreeIs, TranslationIs}
 use Rattle.op2_command.specs.Chains.{TextTranslates}
 use Rattle.op2_command.proofs.sources.text_translated.Goals as goal
 
+pub returns-in_err-tokens : goal.returns-in_err-tokens
+returns-in_err-tokens c =
+    let p = err_from_is_err_and c.from_residual.result c.from_residual.ensures.1 in
+    rw (p.1, p.2) (stops_weaker (λ r. TreeIs c.args.bytes.now (Err r)) (λ r. TextTranslates c.args.bytes.now (refused r)) c.in_err-tokens.field-0.0
+    (λ r j. inl (r, j, refl)) c.in_err-tokens.ensures.err)
+
 pub returns-in_err-program : goal.returns-in_err-program
 returns-in_err-program c =
-    let p = err_from_is_err_and c.from_residual.result c.from_residual.ensures.1 in
+    let p = err_from_is_err_and c.from_residual-in_err-program.result c.from_residual-in_err-program.ensures.1 in
     rw (p.1, p.2) (stops_weaker (λ r. TreeIs c.args.bytes.now (Err r)) (λ r. TextTranslates c.args.bytes.now (refused r)) c.in_err-program.field-0.0
     (λ r j. inl (r, j, refl)) c.in_err-program.ensures.err)
 
