@@ -21,11 +21,10 @@ use Rattle.schedule_steps.specs.Judged.{is_step, missing, left_over}
 use Rattle.schedule_text.specs.Reading.{Read as ScheduleRead, Reads as ScheduleReads}
 use Rattle.bound_program.specs.Values.{BoundValue}
 use Rattle.bound_program.specs.Fits.{Fits}
-use Rattle.run_model.specs.Programs.{first_fault}
 use Rattle.loop_plan.specs.Values.{PlanValue}
 use Rattle.loop_plan.specs.PlanText.{plan_text}
 use Rattle.loop_plan.specs.OnePlan.{AreAlike, PlanTextsAreOne, PlansAreOne}
-use Rattle.bound_plan.specs.Memories.{dump_of, run_output}
+use Rattle.bound_plan.specs.Memories.{dump_of}
 use Rattle.bound_plan.specs.OneRun.{with_kernels, ProgramsAreOne, DumpsAreOne}
 use Rattle.op_outside.specs.Outside.{Files}
 use Rattle.command_words.specs.Refusal.{Refusal, PartitionBytes, PlanBytes}
@@ -33,7 +32,8 @@ use Rattle.answer_lines.specs.Lines.{Answer, done, refused}
 use Rattle.answers.specs.Said.{SaysNumbers, SaysOwners}
 use Rattle.command_words.specs.Words.{PlanJob, Check, ShowsPlan, ShowsSchedule, RunsPlan, Parting, ByRule, ByFile, Blocks, OfSize, AsPlanned, Options, group_of}
 use Rattle.answers.specs.Judgements.{NumbersOf, PartsOf, OwnersOf, Colouring, Least, Told, ColouringOf, Planned, PlanIs, Order, OrderOf, outline_of, StepsOf}
-use Rattle.answers.specs.Answers.{given, ran, sizes_text, planned_answer, PlannedAnswers}
+use Rattle.answers.specs.Answers.{given, sizes_text, run_answer, planned_answer, PlannedAnswers}
+use Rattle.answer_laws.specs.OnCells.{RunsAnswerOnCells}
 use Rattle.answer_laws.proofs.Given.{given_both, given_alike}
 use Rattle.answer_laws.proofs.IsOne.{IsOne, held_is_one, told_is_one}
 use Rattle.answer_laws.proofs.SaidOnce.{numbers_once, owners_once}
@@ -88,8 +88,8 @@ same_owners : (d e : Distribution) → distribution_value d ≡ distribution_val
 unfolding distribution_value
 same_owners d e h = ap (λ (v : DistributionValue). v.owners) h
 
-module _ (programs_are_one : ProgramsAreOne) (dumps_are_one : DumpsAreOne) (plans : PlanLaws) (one_plan : PlansAreOne) (schedules : ScheduleLaws) (one_numbers : NumbersAreOne) (one_owners : OwnersAreOne) (one_distribution : DistributionsAreOne) (one_plan_text : PlanTextsAreOne) where
-  module _ (j : PlanJob) (o : Options) (files : Files) (some : 0 < o.ranks) (b : BoundValue) (ks : List RKernel) (same : map rkernel_of b.kernels ≡ map rkernel_of ks) (fits : Fits b) where
+module _ (on_cells : RunsAnswerOnCells) (programs_are_one : ProgramsAreOne) (dumps_are_one : DumpsAreOne) (plans : PlanLaws) (one_plan : PlansAreOne) (schedules : ScheduleLaws) (one_numbers : NumbersAreOne) (one_owners : OwnersAreOne) (one_distribution : DistributionsAreOne) (one_plan_text : PlanTextsAreOne) where
+  module _ (j : PlanJob) (o : Options) (files : Files) (some : 0 < o.ranks) (b : BoundValue) (ks : List RKernel) (same : map rkernel_of b.kernels ≡ map rkernel_of ks) (fits : Fits b) (others : Fits (with_kernels b ks)) where
     abbrev c : BoundValue
     c = with_kernels b ks
 
@@ -158,8 +158,8 @@ module _ (programs_are_one : ProgramsAreOne) (dumps_are_one : DumpsAreOne) (plan
             by_job ShowsPlan = ap done one.0
             by_job ShowsSchedule = refl
             by_job RunsPlan =
-                ap (λ d. ran (first_fault b) (run_output b d)) (dumps_same steps)
-                ∙ output_same programs_are_one b ks same (dump_of o.dumps c q.distribution.owners q.distribution.ranks.items q.plan steps)
+                ap (run_answer b) (dumps_same steps)
+                ∙ output_same on_cells programs_are_one b ks same fits others (dump_of o.dumps c q.distribution.owners q.distribution.ranks.items q.plan steps)
 
         -- ---- schedules
 
@@ -232,4 +232,5 @@ module _ (programs_are_one : ProgramsAreOne) (dumps_are_one : DumpsAreOne) (plan
 
   pub plans_alike : (j : PlanJob) (o : Options) (files : Files) → 0 < o.ranks → (b c : BoundValue) → IsSame b c → (x y : Answer) → PlannedAnswers j o files b x → PlannedAnswers j o files c y → x ≡ y
   plans_alike j o files some b c same x y h k =
-      numbers_agree j o files some b c.kernels same.1 h.0 x y h.1 (subst (λ d. PlannedAnswers j o files d y) same.0 k).1
+      let other = subst (λ d. PlannedAnswers j o files d y) same.0 k in
+      numbers_agree j o files some b c.kernels same.1 h.0 other.0 x y h.1 other.1

@@ -1,5 +1,5 @@
 -- Kernels with the same trees, in bound programs that are the same but for these.
-use Rattle.std.proofs.Common.{◌≡◌, ℕ, List, map, Option, Some, None, refl, ap}
+use Rattle.std.proofs.Common.{◌≡◌, ℕ, List, map, Option, Some, None, refl, sym, ap, ap₂, ◌∙◌}
 use Rattle.kernel_types.specs.declared.kernels.RKernel.{RKernel}
 use Rattle.kernel_types.specs.View.{rkernel_of}
 use Rattle.kernel_model.specs.Obeys.{Mode}
@@ -8,13 +8,16 @@ use Rattle.kernel_types.specs.declared.faults.KernelFault.{KernelFault}
 use Rattle.schedule_model.specs.Program.{Program}
 use Rattle.schedule_model.specs.Sequential.{sequential}
 use Rattle.bound_program.specs.Values.{BoundValue}
+use Rattle.bound_program.specs.Fits.{Fits}
 use Rattle.run_model.specs.Kernels.{kernel_at}
 use Rattle.run_model.specs.Arguments.{modes_of}
-use Rattle.run_model.specs.Programs.{printed_in, first_fault, stop_in}
-use Rattle.bound_plan.specs.Memories.{unless_stopped, run_output}
+use Rattle.run_model.specs.Programs.{printed_in, stop_in}
+use Rattle.sequential_run.specs.Laws.{RunsAreOne}
+use Rattle.bound_plan.specs.Memories.{unless_stopped}
 use Rattle.bound_plan.specs.OneRun.{SameTree, with_kernels, KernelsAreOne, ProgramsAreOne}
 use Rattle.answer_lines.specs.Lines.{Answer}
-use Rattle.answers.specs.Answers.{ran}
+use Rattle.answers.specs.Answers.{ran, run_answer}
+use Rattle.answer_laws.specs.OnCells.{RunsAnswerOnCells}
 use Rattle.answer_laws.proofs.Sites.{found_by, site_found, first_found, same_found}
 
 module _ (walks_alike : WalksAlike) (kernels_are_one : KernelsAreOne) where
@@ -32,6 +35,11 @@ module _ (walks_alike : WalksAlike) (kernels_are_one : KernelsAreOne) where
 abbrev ran_by : List ℕ → Program KernelFault → Answer
 ran_by dump p = ran (stop_in (sequential p)) (unless_stopped (stop_in (sequential p)) (printed_in (sequential p)) dump)
 
-module _ (programs_are_one : ProgramsAreOne) (b : BoundValue) (ls : List RKernel) (same : map rkernel_of b.kernels ≡ map rkernel_of ls) where
-  pub output_same : (dump : List ℕ) → ran (first_fault b) (run_output b dump) ≡ ran (first_fault (with_kernels b ls)) (run_output (with_kernels b ls) dump)
-  output_same dump = ap (ran_by dump) (programs_are_one b ls same)
+pub runs_answer_on_cells : RunsAreOne → RunsAnswerOnCells
+runs_answer_on_cells runs_are_one b fits dump =
+    ap₂ (λ x bytes. ran x (unless_stopped x bytes dump)) (runs_are_one b fits).first_fault (runs_are_one b fits).printed
+
+module _ (on_cells : RunsAnswerOnCells) (programs_are_one : ProgramsAreOne) (b : BoundValue) (ls : List RKernel)
+    (same : map rkernel_of b.kernels ≡ map rkernel_of ls) (fits : Fits b) (others : Fits (with_kernels b ls)) where
+  pub output_same : (dump : List ℕ) → run_answer b dump ≡ run_answer (with_kernels b ls) dump
+  output_same dump = on_cells b fits dump ∙ ap (ran_by dump) (programs_are_one b ls same) ∙ sym (on_cells (with_kernels b ls) others dump)

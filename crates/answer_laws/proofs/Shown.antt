@@ -1,15 +1,15 @@
 -- What a call leaves on `out`.
-use Rattle.std.proofs.Common.{◌≡◌, ◌⊎◌, inl, inr, ℕ, Bool, List, [], ◌∷◌, Option, Some, None, Result, refl, sym, ap, ◌∙◌, subst, append-nil}
+use Rattle.std.proofs.Common.{◌≡◌, ◌⊎◌, inl, inr, ℕ, Bool, List, [], Option, Some, None, Result, refl, sym, ap, ◌∙◌, subst, append-nil}
 use Rattle.kernel_types.specs.declared.faults.KernelFault.{KernelFault}
 use Rattle.schedule_model.specs.Sequential.{Stop}
 use Rattle.schedule_steps.specs.declared.step.Step.{Step}
 use Rattle.bound_program.specs.Values.{BoundValue}
-use Rattle.run_model.specs.Programs.{first_fault}
+use Rattle.sequential_run.specs.Program.{first_fault}
 use Rattle.mesh_text.specs.Canonical.{canonical}
 use Rattle.op_outside.specs.Outside.{Files, appended, AppendsFront}
 use Rattle.command_words.specs.Refusal.{Refusal, Usage, CannotRead, NoTokens, NoTree, TooDeep, BadName, BadBinding, BadTarget, BadAccess, BadMesh, BadPart, BadPartition, BadPlan, BadSchedule, BadStep, EarlyStep, LeftStep, BadStub, BeyondLimit, status_of}
 use Rattle.answer_lines.specs.Lines.{Answer, done, refused, faulted}
-use Rattle.command_words.specs.Words.{PlanJob, Check, ShowsPlan, ShowsSchedule, RunsPlan, Options, group_of, Input, Command, OnPlan, Converts, Translates, Restores, ShowsUsage, ShowsVersion, WordsAre, named_by}
+use Rattle.command_words.specs.Words.{PlanJob, Check, ShowsPlan, ShowsSchedule, RunsPlan, Options, group_of, Input, Command, OnPlan, Converts, Translates, Restores, ShowsUsage, ShowsVersion, WordsAre}
 use Rattle.answers.specs.Judgements.{TextIs, SourceIs, TreeIs, TranslationIs, RestorationIs, TypesAre, FileIs, MeshIs, EntriesAre, BoundIs, AccessesAre, NumbersOf, PartsOf, OwnersOf, ColouringOf, Planned, PlanIs, OrderOf, outline_of, StepsOf}
 use Rattle.answers.specs.Answers.{given, ran, planned_answer, PlannedAnswers, BoundAnswers, CommandAnswers, Answers}
 use Rattle.answers.specs.Endings.{Ending, Answered, OutOfMemory, Unread, Unwritten, ending_status, unwritten_status, Call, Tells, IsWritten, EndsBy, Ends, Shows, IsShown, IsSilent}

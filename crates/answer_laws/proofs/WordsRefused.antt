@@ -20,7 +20,7 @@ use Rattle.schedule_model.specs.Sequential.{Stop}
 use Rattle.mesh_decl.specs.declared.owners.Owners.{Owners}
 use Rattle.mesh_decl.specs.declared.owners.Perms.{Perms}
 use Rattle.bound_program.specs.Values.{BoundValue}
-use Rattle.run_model.specs.Programs.{first_fault}
+use Rattle.sequential_run.specs.Program.{first_fault}
 use Rattle.mesh_text.specs.Canonical.{canonical}
 use Rattle.op_outside.specs.Outside.{Files, Rose}
 use Rattle.clap.specs.Walk.{Row, first_of}

@@ -3,6 +3,15 @@
 ghost use Rattle.std.specs.Prelude.{ℕ};
 ghost use Rattle.answers.specs.Endings.{Call, Ends, IsComplete, IsUsage, IsUnread, IsShown, IsSilent, AreReported};
 ghost use Rattle.answers.specs.Laws.{AnswersAgree, AnswersExist};
+ghost use Rattle.answer_laws.specs.OnCells.{RunsAnswerOnCells};
+
+/// A law: for a program that fits, what its run on whole arrays answers is what the run that the theorem on schedules is about
+/// prints, with its first fault, or with the dump behind it.
+pub fn runs_answer_on_cells()
+    ensures { RunsAnswerOnCells }
+{
+    sequential_run::runs_are_one();
+}
 
 /// A law: any two answers to the same words over the same files have the same status and the same bytes for the output, and
 /// the same line, unless the source has tokens and no tree.
@@ -33,6 +42,7 @@ pub fn answers_agree()
     schedule_text::one_outcome();
     schedule_steps::drawn_once();
     schedule_steps::tests_decide();
+    runs_answer_on_cells();
     bound_plan::one_program();
     bound_plan::one_dump();
 }

@@ -6,11 +6,11 @@ use Rattle.kernel_types.specs.declared.faults.KernelFault.{KernelFault}
 use Rattle.schedule_model.specs.Sequential.{Stop}
 use Rattle.bound_program.specs.Values.{BoundValue}
 use Rattle.bound_program.specs.Fits.{Fits}
-use Rattle.run_model.specs.Programs.{first_fault}
+use Rattle.sequential_run.specs.Program.{printed, first_fault}
 use Rattle.loop_plan.specs.PlanText.{plan_text}
 use Rattle.schedule_steps.specs.declared.step.Step.{Step}
 use Rattle.schedule_text.specs.Written.{schedule_text}
-use Rattle.bound_plan.specs.Memories.{dump_of, run_output}
+use Rattle.bound_plan.specs.Memories.{dump_of, unless_stopped}
 use Rattle.op_outside.specs.Outside.{Files}
 use Rattle.mesh_text.specs.declared.entry.Form.{Form}
 use Rattle.mesh_text.specs.Canonical.{canonical}
@@ -32,6 +32,11 @@ abbrev pub ran : Option (Stop KernelFault) → List ℕ → Answer
 ran None bytes = done bytes
 ran (Some x) bytes = faulted bytes x
 
+-- what running the program prints, each loop one element after another, up to the first fault if there is one; behind a run without a
+-- fault this dump
+abbrev pub run_answer : BoundValue → (dump : List ℕ) → Answer
+run_answer b dump = ran (first_fault b) (unless_stopped (first_fault b) (printed b) dump)
+
 -- The answer over a source and a mesh: seven judgements in this order, and then what is answered of the bound program.
 abbrev pub BoundAnswers : (BoundValue → Answer → Type 0) → Input → Files → Answer → Type 0
 BoundAnswers rest input files =
@@ -50,15 +55,13 @@ sizes_text b steps =
     ++ codes " steps " ++ decimal steps ++ codes "\n"
 
 -- What a job on a plan answers, where its steps are taken in this order: the sizes of the plan, its text, the text of the schedule, or
--- what running each loop one element after another prints, up to the first fault if there is one; behind a run without a fault the dump, if
--- it is
--- asked for.
+-- what running the program prints, with the dump if it is asked for.
 abbrev pub planned_answer : PlanJob → (dumps : Bool) → BoundValue → Planned → List Step → Answer
 planned_answer Check dumps b p steps = done (sizes_text b p.plan.steps)
 planned_answer ShowsPlan dumps b p steps = done (plan_text b p.distribution.ranks.items p.plan)
 planned_answer ShowsSchedule dumps b p steps = done (schedule_text steps)
 planned_answer RunsPlan dumps b p steps =
-    ran (first_fault b) (run_output b (dump_of dumps b p.distribution.owners p.distribution.ranks.items p.plan steps))
+    run_answer b (dump_of dumps b p.distribution.owners p.distribution.ranks.items p.plan steps)
 
 -- The answer of a job on the plan of a bound program: seven judgements in this order, and then what the job answers. The program fits,
 -- as all that is bound does; this stands here since distributions and plans are one where it is so.

@@ -3,19 +3,18 @@
 ghost use Rattle.std.specs.Prelude.{◌≡◌, List, Ok, IfOk};
 ghost use Rattle.bound_program.specs.Values.{bound_of};
 ghost use Rattle.bound_program.specs.Fits.{Fits};
-ghost use Rattle.run_model.specs.Programs.{first_fault};
 ghost use Rattle.rank_machine.specs.Stops.{stop_in};
 ghost use Rattle.loop_plan.specs.Values.{plan_of};
 ghost use Rattle.loop_plan.specs.Proper.{Proper};
 ghost use Rattle.loop_plan.specs.StepOutline.{step_outline};
 ghost use Rattle.schedule_steps.specs.declared.step.Step.{Step as StepValue};
 ghost use Rattle.schedule_check.specs.Mail.{plan_cells};
-ghost use Rattle.bound_plan.specs.Memories.{dump_of, run_output};
+ghost use Rattle.bound_plan.specs.Memories.{dump_of};
 ghost use Rattle.planned_run.specs.Orders.{InOrder, CanTake};
 ghost use Rattle.command_words.specs.Values.{options_in};
 ghost use Rattle.command_words.specs.Laws.{AreWithin};
 ghost use Rattle.answers.specs.Judgements.{AccessesAre};
-ghost use Rattle.answers.specs.Answers.{ran};
+ghost use Rattle.answers.specs.Answers.{ran, run_answer};
 ghost use Rattle.answer_lines.specs.Halts.{answer_of};
 ghost use Rattle.op2_command.specs.Chains.{IsSpread};
 
@@ -70,10 +69,11 @@ pub fn run_on<R: Threads + Sync, G: Gate>(
         (plan_cells (bound_of bound.now) found.now.ranks.items (plan_of plan.now)) order.now }
     ensures { IfOk result (λ a. (l : List StepValue)
         → InOrder (step_outline (bound_of bound.now) found.now.ranks.items (plan_of plan.now)) order.now l
-        → answer_of a ≡ ran (first_fault (bound_of bound.now)) (run_output (bound_of bound.now)
-        (dump_of options.now.dumps (bound_of bound.now) found.now.owners found.now.ranks.items (plan_of plan.now) l))) }
+        → answer_of a ≡ run_answer (bound_of bound.now)
+        (dump_of options.now.dumps (bound_of bound.now) found.now.owners found.now.ranks.items (plan_of plan.now) l)) }
 {
     starts_in_range(bound);
+    answer_laws::runs_answer_on_cells();
     let outcome = run_on_ranks(
         rt,
         alloc,

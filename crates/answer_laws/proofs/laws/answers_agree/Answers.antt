@@ -8,7 +8,7 @@ returns c =
     law.answers_agree c.kernels_are_trees.ensures.walks c.one_program.ensures.kernels
     c.one_outcome-2.ensures.one c.one_outcome.ensures c.one_tree.ensures c.one_answer.ensures c.walk_finds.ensures
     c.rules_are_broken.ensures.obeys c.rules_are_broken.ensures.first
-    (plans.plans_alike c.one_program.ensures.programs c.one_dump.ensures plan_laws c.one_plan.ensures schedules c.one_numbers.ensures
+    (plans.plans_alike c.runs_answer_on_cells.ensures c.one_program.ensures.programs c.one_dump.ensures plan_laws c.one_plan.ensures schedules c.one_numbers.ensures
     c.one_owners.ensures c.one_distribution.ensures c.one_plan_text.ensures)
     c.options_are_within.ensures c.one_translation.ensures c.one_restoration.ensures
   where

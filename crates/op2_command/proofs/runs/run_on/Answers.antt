@@ -1,4 +1,4 @@
-use Rattle.std.proofs.Common.{ap₂, ◌∙◌}
+use Rattle.std.proofs.Common.{sym, ap₂, ◌∙◌}
 use Rattle.bound_program.specs.Values.{bound_of, no_site}
 use Rattle.answers.specs.Answers.{ran}
 use Rattle.op2_command.proofs.Chained.{if_ok_weaker}
@@ -15,5 +15,5 @@ pub returns : goal.returns
 returns g c =
     let run = rw c.deref.ensures.value at c.in_ok-outcome.ensures in
     if_ok_weaker c.ran.result _ _
-    (λ a e l i. e ∙ ap₂ ran (run l i).stop (run l i).out)
+    (λ a e l i. e ∙ ap₂ ran (run l i).stop (run l i).out ∙ sym (c.runs_answer_on_cells.ensures (bound_of c.args.bound.now) c.requires.fits _))
     c.ran.ensures
