@@ -1,7 +1,8 @@
 -- A run keeps the variables that are `const`.
-use Rattle.std.proofs.Common.{◌≡◌, ℕ, zero, suc, ℤ, pos, true, false, List, [], ◌∷◌, length, Some, None, Result, Ok, Err, refl, sym, ap, ◌∙◌, subst, ⊎_elim, eqb-true}
+use Rattle.std.proofs.Common.{◌≡◌, ◌<◌, ◌≤◌, ℕ, zero, suc, ℤ, pos, true, false, List, [], ◌∷◌, length, Some, None, Result, Ok, Err, refl, sym, ap, ◌∙◌, subst, ⊎_elim, eqb-true}
 use Rattle.std.specs.Prelude.{◌&&◌, nat_eq, nat_lt, if◌then◌else◌}
-use Rattle.std.proofs.lemmas.Bool.{cases_Bool, and_parts, false≢true}
+use Rattle.std.proofs.lemmas.Bool.{cases_Bool, cases_lt, and_parts, false≢true}
+use Rattle.std.proofs.lemmas.List.{get_or_past}
 use Rattle.kernel_types.specs.declared.faults.KernelFault.{KernelFault}
 use Rattle.kernel_types.specs.declared.kernels.RKernel.{RKernel}
 use Rattle.kernel_model.specs.Meaning.{on_value, stored}
@@ -17,15 +18,16 @@ use Rattle.schedule_laws.specs.Arguments.{reaches}
 use Rattle.schedule_laws.specs.Arguments as laws
 use Rattle.bound_program.specs.declared.sites.Arg.{Arg}
 use Rattle.bound_program.specs.declared.sites.Arg.TheVariants.{Dat, Global}
-use Rattle.bound_program.specs.Values.{BoundValue, ActValue, Clear, Assign, Line, Print, Exit, no_site}
+use Rattle.bound_program.specs.Values.{BoundValue, ItemValue, Free, Reduce, Ordered, Host, ActValue, Clear, Assign, Line, Print, Exit, no_site}
 use Rattle.bound_program.specs.Fits.{Fits, TakesArgs, var_at}
+use Rattle.loop_bind.specs.Constants.{ActLeaves, ItemLeaves, ArgLeaves, LeavesConstants}
 use Rattle.run_model.specs.Kernels.{kernel_at}
 use Rattle.run_model.specs.Hosts.{variables_of, with_cell, value_of, values_of, component_of, prints, act_run}
 use Rattle.run_model.specs.Programs.{kind_of, loop_of, item_at, act_in, program_of}
 use Rattle.run_model.specs.Arguments.{no_arg, arg_at, argument_of, entries, dat_width, var_width}
 use Rattle.run_model.specs.Laws.{site_of, LoopsAreThere, LoopsKeepReads}
 use Rattle.run_model.specs.Ranges.{AllObey}
-use Rattle.checkpoint.specs.Laws.{KeepsConstants, set_by, OnlyReads, LeavesConstants, RunsKeepConstants}
+use Rattle.checkpoint.specs.Laws.{KeepsConstants, RunsKeepConstants}
 
 kernel_there : (xs : List RKernel) (n m : ℕ) → TakesArgs xs n m → (f : RKernel) × (kernel_at xs n ≡ Some f)
 kernel_there [] n m h = absurd h
@@ -34,7 +36,7 @@ kernel_there (x ∷ xs) (suc n) m h = kernel_there xs n m h
 
 module _ (there : LoopsAreThere) (reads : LoopsKeepReads) (b : BoundValue) (fits : Fits b) (obey : AllObey b) (leaves : LeavesConstants b) where
   -- an argument that reaches a cell of such a variable reads it
-  only : (x : Arg) (e v i : ℕ) → OnlyReads b x → (var_at b v).is_const ≡ true
+  only : (x : Arg) (e v i : ℕ) → ArgLeaves b x → (var_at b v).is_const ≡ true
       → reaches (entries b) (dat_width b) (var_width b) e (argument_of x) (Variable (record { variable = v; component = i })) ≡ true
       → laws.access_of (argument_of x) ≡ OpRead
   only (Dat d None a) e v i h c r = absurd (false≢true r)
@@ -50,7 +52,7 @@ module _ (there : LoopsAreThere) (reads : LoopsKeepReads) (b : BoundValue) (fits
         let w = kernel_there b.kernels (site_of b k).kernel (length (site_of b k).args) (fits.sites (loop_of (item_at b k)) no_site lt).kernel in
         reads b k e w.0 s t (Variable (record { variable = v; component = i })) fits
         (record { is_loop = is; kernel = w.1; obeys = obey (loop_of (item_at b k)) w.0 lt w.1 }) ran
-        (λ a la r. only (arg_at (site_of b k) a) e v i (leaves.args (loop_of (item_at b k)) lt a no_arg la) c r)
+        (λ a la r. only (arg_at (site_of b k) a) e v i (leaves.args (loop_of (item_at b k)) no_site lt a no_arg la) c r)
         ∙ kept v i c
 
     abbrev LoopKeeps : Loop KernelFault → Type 0
@@ -84,6 +86,19 @@ module _ (there : LoopsAreThere) (reads : LoopsKeepReads) (b : BoundValue) (fits
       (λ (f : nat_eq v n ≡ false). f)
       (cases_Bool (nat_eq v n))
 
+  -- the statement of an item sets none
+  act_leaves : (x : ItemValue) → ItemLeaves b x → ActLeaves b (act_in x)
+  act_leaves (Free n) h = tt
+  act_leaves (Reduce n) h = tt
+  act_leaves (Ordered n) h = tt
+  act_leaves (Host a) h = h
+
+  acts_leave : (k : ℕ) → ActLeaves b (act_in (item_at b k))
+  acts_leave k = ⊎_elim
+      (λ (l : k < length b.trace). act_leaves (item_at b k) (leaves.items k (Host Exit) l))
+      (λ (g : length b.trace ≤ k). subst (λ x. ActLeaves b (act_in x)) (sym (get_or_past b.trace k (Host Exit) g)) tt)
+      (cases_lt k (length b.trace))
+
   abbrev HostKeeps : Store → Hosted KernelFault → Type 0
   HostKeeps s (Halts f) = Unit {0}
   HostKeeps s (Goes u o) = KeepsConstants b (with_variables u s)
@@ -108,10 +123,10 @@ module _ (there : LoopsAreThere) (reads : LoopsKeepReads) (b : BoundValue) (fits
   index_keeps s kept n free (Err e) r f = tt
   index_keeps s kept n free (Ok i) r f = value_keeps s kept n i free r (f i)
 
-  act_keeps : (s : Store) → KeepsConstants b s → (a : ActValue) → ((v : ℕ) → set_by a ≡ Some v → (var_at b v).is_const ≡ false) → HostKeeps s (act_run b s a)
-  act_keeps s kept (Clear n) free = λ v i c. ap (λ t. if t then pos 0 else s (Variable (record { variable = v; component = i }))) (other v n c (free n refl)) ∙ kept v i c
+  act_keeps : (s : Store) → KeepsConstants b s → (a : ActValue) → ActLeaves b a → HostKeeps s (act_run b s a)
+  act_keeps s kept (Clear n) free = λ v i c. ap (λ t. if t then pos 0 else s (Variable (record { variable = v; component = i }))) (other v n c free) ∙ kept v i c
   act_keeps s kept (Assign n index op op_at e at) free =
-      index_keeps s kept n (free n refl) (component_of b s (var_at b n) at index) (value_of b s e) (λ i x. stored op op_at (s (Variable (record { variable = n; component = i }))) x)
+      index_keeps s kept n free (component_of b s (var_at b n) at index) (value_of b s e) (λ i x. stored op op_at (s (Variable (record { variable = n; component = i }))) x)
   act_keeps s kept (Line text es) free = line_keeps s kept text (values_of b s es) (printed_line text)
   act_keeps s kept (Print d file) free = kept
   act_keeps s kept Exit free = kept
@@ -124,7 +139,7 @@ module _ (there : LoopsAreThere) (reads : LoopsKeepReads) (b : BoundValue) (fits
   by_item k s o kept program.Free e = by_loop k (ap is_loop e) o (loop (program_of b) k (elements (program_of b) k) s) (loop_keeps k (ap is_loop e) (elements (program_of b) k) s kept)
   by_item k s o kept program.Reduce e = kept
   by_item k s o kept program.Ordered e = by_loop k (ap is_loop e) o (loop (program_of b) k (elements (program_of b) k) s) (loop_keeps k (ap is_loop e) (elements (program_of b) k) s kept)
-  by_item k s o kept program.Host e = by_host k s o (act_run b s (act_in (item_at b k))) (act_keeps s kept (act_in (item_at b k)) (leaves.acts k))
+  by_item k s o kept program.Host e = by_host k s o (act_run b s (act_in (item_at b k))) (act_keeps s kept (act_in (item_at b k)) (acts_leave k))
 
   by_run : (k : ℕ) (x : Seq KernelFault) → RunKeeps x → RunKeeps (after_item (program_of b) k x)
   by_run k (Stopped x s o) h = tt

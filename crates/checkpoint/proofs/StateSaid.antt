@@ -22,7 +22,7 @@ pub map_fused : {A B C : Type 0} (g : B → C) (f : A → B) (xs : List A) → m
 map_fused g f [] = refl
 map_fused g f (x ∷ xs) = ap (λ l. g (f x) ∷ l) (map_fused g f xs)
 
-map_range : {A : Type 0} (f g : ℕ → A) (a n : ℕ) → ((i : ℕ) → i < n → f (a + i) ≡ g (a + i)) → map f (range_with_len a n) ≡ map g (range_with_len a n)
+pub map_range : {A : Type 0} (f g : ℕ → A) (a n : ℕ) → ((i : ℕ) → i < n → f (a + i) ≡ g (a + i)) → map f (range_with_len a n) ≡ map g (range_with_len a n)
 map_range f g a zero h = refl
 map_range f g a (suc n) h =
     let here : f a ≡ g a = (let e : a + 0 ≡ a = omega arith in subst (λ j. f j ≡ g j) e (h 0 (omega arith))) in

@@ -1,16 +1,14 @@
 -- A run is that of its head and then that of its tail.
-use Rattle.std.specs.Prelude.{◌≡◌, ℕ, ◌+◌, ◌-◌, ◌≤◌, ◌<◌, ◌^◌, List, All, length, ◌++◌, true, false, pos, slice_index_or, Option, Some, None}
+use Rattle.std.specs.Prelude.{◌≡◌, ℕ, ◌+◌, ◌-◌, ◌≤◌, ◌<◌, ◌^◌, List, length, ◌++◌, true, pos, slice_index_or}
 use Rattle.kernel_types.specs.declared.faults.KernelFault.{KernelFault}
 use Rattle.schedule_model.specs.Cells.{Variable, Store}
 use Rattle.schedule_model.specs.Program.{Program}
 use Rattle.schedule_model.specs.Sequential.{Stop, Seq, Stopped, Going, seq, sequential}
-use Rattle.bound_program.specs.Values.{BoundValue, ActValue, Clear, Assign}
-use Rattle.bound_program.specs.Fits.{Fits, var_at, site_at}
-use Rattle.run_model.specs.Programs.{item_at, act_in, program_of, run_of_program}
+use Rattle.bound_program.specs.Values.{BoundValue}
+use Rattle.bound_program.specs.Fits.{Fits, var_at}
+use Rattle.loop_bind.specs.Constants.{LeavesConstants}
+use Rattle.run_model.specs.Programs.{program_of, run_of_program}
 use Rattle.run_model.specs.Ranges.{AllObey}
-use Rattle.reductions.specs.declared.access.Access.TheVariants.{Read}
-use Rattle.bound_program.specs.declared.sites.Arg.{Arg}
-use Rattle.bound_program.specs.declared.sites.Arg.TheVariants.{Dat, Global}
 use Rattle.checkpoint.specs.Cut.{HasShape}
 use Rattle.checkpoint.specs.Cut.{StateValue, CanCut, state_at, head, tail}
 use Rattle.checkpoint.specs.StateText.{state_text}
@@ -78,23 +76,7 @@ KeepsConstants b s =
     (v i : ℕ) → (var_at b v).is_const ≡ true
     → s (Variable (record { variable = v; component = i })) ≡ slice_index_or (var_at b v).start i (pos 0)
 
--- the variable that a statement sets, if it sets one
-abbrev pub set_by : ActValue → Option ℕ
-set_by (Clear v) = Some v
-set_by (Assign v i op op_at e at) = Some v
-set_by a = None
-
--- an argument reads a variable that is `const`, at most
-abbrev pub OnlyReads : BoundValue → Arg → Type 0
-OnlyReads b (Dat d v a) = Unit {0}
-OnlyReads b (Global v a) = (var_at b v).is_const ≡ true → a ≡ Read
-
--- no statement sets such a variable, and no loop does
-pub record LeavesConstants (b : BoundValue) : Type 0 where
-  pub acts : (k v : ℕ) → set_by (act_in (item_at b k)) ≡ Some v → (var_at b v).is_const ≡ false
-  pub args : (n : ℕ) → n < length b.sites → All (OnlyReads b) (site_at b n).args
-
--- so they keep their values through the run
+-- where nothing sets them, they keep those through the run
 abbrev pub RunsKeepConstants : Type 0
 RunsKeepConstants =
     (b : BoundValue) (k : ℕ) (s : Store) (o : List ℕ)

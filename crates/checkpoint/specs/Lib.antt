@@ -1,4 +1,3 @@
 pub mod Cut
 pub mod StateText
-pub mod Reading
 pub mod Laws

@@ -1,8 +1,7 @@
 //! Programs cut before an item: the head runs the items before it and prints what is known there, and the tail goes on from
-//! what such a text says.
+//! such a state.
 //!
-//! The definitions are those of `specs/Cut.antt` (heads, tails, states), `specs/StateText.antt` (the text of a state) and
-//! `specs/Reading.antt` (what a file says, or why it says none).
+//! The definitions are those of `specs/Cut.antt` (heads, tails, states) and `specs/StateText.antt` (the text of a state).
 #![tactic(auto)]
 
 mod heads;
@@ -15,5 +14,5 @@ pub use laws::{
     heads_fit, heads_obey, heads_print_states, heads_stop, runs_go_on, runs_keep_constants,
     tails_fit, tails_go_on, tails_obey,
 };
-pub use states::{HeadRefusal, State, StateRefusal};
+pub use states::{HeadRefusal, State};
 pub use tails::tail;
