@@ -83,6 +83,8 @@ options_are f =
       first_value-rows f (codes "renumber"),
       first_value-rows f (codes "block"),
       first_value-rows f (codes "plan"),
+      first_value-rows f (codes "at"),
+      first_value-rows f (codes "from"),
       first_value-rows f (codes "schedule"),
       first_value-rows f (codes "seed"),
       first_value-rows f (codes "workers"),

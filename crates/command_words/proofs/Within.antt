@@ -12,33 +12,34 @@ use Rattle.op_num.specs.Spelling.{number_of}
 use Rattle.mesh_gen.specs.declared.places.TheConstants.{MAX_SIDE}
 use Rattle.command_words.specs.declared.limits.TheConstants.{MAX_RANKS, MAX_BLOCK, MAX_WORKERS}
 use Rattle.command_words.specs.Refusal.{Refusal}
-use Rattle.command_words.specs.Words.{PlanJob, Check, ShowsPlan, ShowsSchedule, RunsPlan, Parting, Schedule, Input, InFiles, OfSample, Command, Translates, Restores, command}
-use Rattle.command_words.specs.Words.{number_to, number_or, form_of, OptionWords, options_in, parting_of, schedule_of, blocks_of, options_with, options_of}
-use Rattle.command_words.specs.Words.{runs_nothing, on_files, samples, converts, source_alone, plans, shows_plan, by_job, or_usage, asked, judged}
+use Rattle.command_words.specs.Words.{PlanJob, Check, ShowsPlan, ShowsSchedule, RunsPlan, Parting, Schedule, Stretch, Input, InFiles, OfSample, Command, Translates, Restores, command}
+use Rattle.command_words.specs.Words.{number_to, number_or, form_of, OptionWords, options_in, parting_of, schedule_of, blocks_of, stretch_of, options_with, options_of}
+use Rattle.command_words.specs.Words.{goes_to_the_end, is_whole, plans_itself, stops_at_an_item}
+use Rattle.command_words.specs.Words.{runs_nothing, on_files, samples, converts, source_alone, plans, where_so, by_job, or_usage, asked, judged}
 use Rattle.command_words.specs.Laws.{HaveFewPlaces, AreWithin, IsWithin, OptionsAreWithin}
 
 -- P is so of what there is
-abbrev Holds : {X : Type 0} → (X → Type 0) → Option X → Type 0
+abbrev pub Holds : {X : Type 0} → (X → Type 0) → Option X → Type 0
 Holds P None = Unit {0}
 Holds P (Some x) = P x
 
-holds_if : {X : Type 0} (P : X → Type 0) (b : Bool) (x y : Option X) → Holds P x → Holds P y → Holds P (if b then x else y)
+pub holds_if : {X : Type 0} (P : X → Type 0) (b : Bool) (x y : Option X) → Holds P x → Holds P y → Holds P (if b then x else y)
 holds_if P true x y h k = h
 holds_if P false x y h k = k
 
-holds_then : {X Y : Type 0} (P : X → Type 0) (Q : Y → Type 0) (f : X → Option Y) (o : Option X) → Holds P o → ((x : X) → P x → Holds Q (f x)) → Holds Q (option_and_then f o)
+pub holds_then : {X Y : Type 0} (P : X → Type 0) (Q : Y → Type 0) (f : X → Option Y) (o : Option X) → Holds P o → ((x : X) → P x → Holds Q (f x)) → Holds Q (option_and_then f o)
 holds_then P Q f None h k = tt
 holds_then P Q f (Some x) h k = k x h
 
-holds_map : {X Y : Type 0} (P : X → Type 0) (Q : Y → Type 0) (f : X → Y) (o : Option X) → Holds P o → ((x : X) → P x → Q (f x)) → Holds Q (option_map f o)
+pub holds_map : {X Y : Type 0} (P : X → Type 0) (Q : Y → Type 0) (f : X → Y) (o : Option X) → Holds P o → ((x : X) → P x → Q (f x)) → Holds Q (option_map f o)
 holds_map P Q f None h k = tt
 holds_map P Q f (Some x) h k = k x h
 
 -- no more is known
-abbrev Any : {X : Type 0} → X → Type 0
+abbrev pub Any : {X : Type 0} → X → Type 0
 Any x = Unit {0}
 
-any : {X : Type 0} (o : Option X) → Holds Any o
+pub any : {X : Type 0} (o : Option X) → Holds Any o
 any None = tt
 any (Some x) = tt
 
@@ -70,18 +71,19 @@ blocks_hold (Some word) None = holds_map (IsTo MAX_BLOCK) HaveFewPlaces _ (numbe
 blocks_hold None (Some name) = tt
 blocks_hold (Some word) (Some name) = tt
 
-with_holds : (ranks : ℕ) (parting : Parting) (schedule : Schedule) (w : OptionWords) → IsTo MAX_RANKS ranks → Holds AreWithin (options_with ranks parting schedule w)
-with_holds ranks parting schedule w h =
+with_holds : (stretch : Stretch) (ranks : ℕ) (parting : Parting) (schedule : Schedule) (w : OptionWords) → IsTo MAX_RANKS ranks → Holds AreWithin (options_with stretch ranks parting schedule w)
+with_holds stretch ranks parting schedule w h =
     holds_then HaveFewPlaces AreWithin _ (blocks_of w.block w.plan) (blocks_hold w.block w.plan)
     (λ blocks k. holds_map (IsTo MAX_WORKERS) AreWithin _ (number_or 1 MAX_WORKERS w.workers) (or_holds 1 MAX_WORKERS w.workers (omega arith, omega arith))
     (λ workers l. record { some = h.0; few = h.1; places = k; some_workers = l.0; few_workers = l.1 }))
 
 options_hold : (w : OptionWords) → Holds AreWithin (options_of w)
 options_hold w =
-    holds_then (IsTo MAX_RANKS) AreWithin _ (number_or 1 MAX_RANKS w.ranks) (or_holds 1 MAX_RANKS w.ranks (omega arith, omega arith))
+    holds_then Any AreWithin _ (stretch_of w.at w.from) (any (stretch_of w.at w.from))
+    (λ stretch _. holds_then (IsTo MAX_RANKS) AreWithin _ (number_or 1 MAX_RANKS w.ranks) (or_holds 1 MAX_RANKS w.ranks (omega arith, omega arith))
     (λ ranks h. holds_then Any AreWithin _ (parting_of w.parts w.partition) (any (parting_of w.parts w.partition))
     (λ parting _. holds_then Any AreWithin _ (schedule_of w.schedule w.seed) (any (schedule_of w.schedule w.seed))
-    (λ schedule _. with_holds ranks parting schedule w h)))
+    (λ schedule _. with_holds stretch ranks parting schedule w h))))
 
 -- ---- commands
 
@@ -91,9 +93,6 @@ converts_hold input (Some mesh) w = tt
 
 plans_hold : (j : PlanJob) (input : Input) (w : OptionWords) → Holds IsWithin (plans j input w)
 plans_hold j input w = holds_if IsWithin (is_some w.form) _ _ tt (holds_map AreWithin IsWithin _ (options_of w) (options_hold w) (λ o h. h))
-
-shows_holds : (input : Input) (w : OptionWords) → Holds IsWithin (shows_plan input w)
-shows_holds input w = holds_if IsWithin (is_some w.plan) _ _ tt (plans_hold ShowsPlan input w)
 
 -- what such a job asks for is in range
 abbrev AllWithin : (Input → OptionWords → Option Command) → Type 0
@@ -110,6 +109,11 @@ samples_hold input None w =
     (λ side _. plans_hold RunsPlan (OfSample side) w)
 samples_hold input (Some mesh) w = tt
 
+-- a job on files, where its options allow it
+where_holds : (allowed : Bool) (j : PlanJob) (input : List ℕ) (mesh : Option (List ℕ)) (w : OptionWords)
+    → Holds IsWithin (where_so allowed (on_files (plans j) input mesh w))
+where_holds allowed j input mesh w = holds_if IsWithin allowed _ _ (files_hold (plans j) (plans_hold j) input mesh w) tt
+
 -- a job on a source alone has no options
 alone_holds : (job : List ℕ → Command) → ((source : List ℕ) → IsWithin (job source)) → (input : List ℕ) (mesh : Option (List ℕ)) (w : OptionWords)
     → Holds IsWithin (option_map job (source_alone input mesh w))
@@ -118,17 +122,20 @@ alone_holds job h input mesh w = holds_map Any IsWithin job (source_alone input 
 jobs_hold : (job input : List ℕ) (mesh : Option (List ℕ)) (w : OptionWords) → Holds IsWithin (by_job job input mesh w)
 jobs_hold job input mesh w =
     holds_if IsWithin (bytes_eq job (codes "run")) _ _
-    (files_hold (plans RunsPlan) (plans_hold RunsPlan) input mesh w)
-    (holds_if IsWithin (bytes_eq job (codes "sample")) _ _ (samples_hold input mesh w)
+    (where_holds (goes_to_the_end w) RunsPlan input mesh w)
+    (holds_if IsWithin (bytes_eq job (codes "sample")) _ _
+    (holds_if IsWithin (is_whole w) _ _ (samples_hold input mesh w) tt)
+    (holds_if IsWithin (bytes_eq job (codes "state")) _ _
+    (where_holds (stops_at_an_item w) RunsPlan input mesh w)
     (holds_if IsWithin (bytes_eq job (codes "convert")) _ _ (converts_hold input mesh w)
     (holds_if IsWithin (bytes_eq job (codes "translate")) _ _ (alone_holds Translates (λ source. tt) input mesh w)
     (holds_if IsWithin (bytes_eq job (codes "restore")) _ _ (alone_holds Restores (λ source. tt) input mesh w)
     (holds_if IsWithin (bytes_eq job (codes "check")) _ _
-    (files_hold (plans Check) (plans_hold Check) input mesh w)
+    (where_holds (is_whole w) Check input mesh w)
     (holds_if IsWithin (bytes_eq job (codes "plan")) _ _
-    (files_hold shows_plan shows_holds input mesh w)
+    (where_holds (plans_itself w) ShowsPlan input mesh w)
     (holds_if IsWithin (bytes_eq job (codes "schedule")) _ _
-    (files_hold (plans ShowsSchedule) (plans_hold ShowsSchedule) input mesh w) tt)))))))
+    (where_holds (goes_to_the_end w) ShowsSchedule input mesh w) tt))))))))
 
 -- ---- words
 

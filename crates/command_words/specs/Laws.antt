@@ -1,7 +1,7 @@
 -- What the options that words ask for keep.
-use Rattle.std.specs.Prelude.{ℕ, ◌<◌, ◌≤◌, List, Ok}
+use Rattle.std.specs.Prelude.{◌≡◌, ℕ, ◌<◌, ◌≤◌, false, List, Ok}
 use Rattle.command_words.specs.declared.limits.TheConstants.{MAX_RANKS, MAX_BLOCK, MAX_WORKERS}
-use Rattle.command_words.specs.Words.{Blocks, OfSize, AsPlanned, Options, Command, OnPlan, WordsAre}
+use Rattle.command_words.specs.Words.{PlanJob, Blocks, OfSize, AsPlanned, Before, Options, Input, Command, OnPlan, WordsAre}
 
 -- a block has 1 to 65,536 places
 abbrev pub HaveFewPlaces : Blocks → Type 0
@@ -24,3 +24,9 @@ IsWithin c = Unit {0}
 -- those of the commands that words ask for are
 abbrev pub OptionsAreWithin : Type 0
 OptionsAreWithin = (words : List (List ℕ)) (c : Command) → WordsAre words (Ok c) → IsWithin c
+
+-- where the items before one run, no dump is asked for
+abbrev pub HeadsAreNotDumped : Type 0
+HeadsAreNotDumped =
+    (words : List (List ℕ)) (j : PlanJob) (o : Options) (input : Input) (item : ℕ)
+    → WordsAre words (Ok (OnPlan j o input)) → o.stretch ≡ Before item → o.dumps ≡ false

@@ -17,6 +17,7 @@ pub data Limit : Type 0 where
   Arguments : Limit
   Trace : Limit
   PrintWeight : Limit
+  StateBytes : Limit
   PartitionBytes : Limit
   PlanBytes : Limit
   Steps : Limit
@@ -45,6 +46,10 @@ pub data Refusal : Type 0 where
   BadAccess : (number : ℕ) (at : Pos) → Refusal
   -- the mesh text spells no entries
   BadMesh : (number line : ℕ) → Refusal
+  -- the program can't be cut before the item of that number
+  BadCut : (item : ℕ) → Refusal
+  -- the text of a state tells none of the program
+  BadState : (number line : ℕ) → Refusal
   -- no dat or no map has the name that owners or new numbers are asked for by
   BadPart : (name : List ℕ) → Refusal
   -- the text of a partition spells no owners of the mesh
@@ -76,6 +81,8 @@ status_of (BadBinding n at) = 5
 status_of (BadTarget at map e p) = 5
 status_of (BadAccess n at) = 5
 status_of (BadMesh n line) = 6
+status_of (BadCut item) = 13
+status_of (BadState n line) = 13
 status_of (BadPart name) = 7
 status_of (BadPartition n line) = 7
 status_of (BadPlan n line) = 12

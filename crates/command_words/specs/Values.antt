@@ -14,6 +14,8 @@ use Rattle.command_words.specs.declared.asked.Parting.{Parting}
 use Rattle.command_words.specs.declared.asked.Parting.TheVariants as parting
 use Rattle.command_words.specs.declared.asked.Schedule.{Schedule}
 use Rattle.command_words.specs.declared.asked.Schedule.TheVariants as schedule
+use Rattle.command_words.specs.declared.asked.Stretch.{Stretch}
+use Rattle.command_words.specs.declared.asked.Stretch.TheVariants as stretch
 use Rattle.command_words.specs.declared.asked.Blocks.{Blocks}
 use Rattle.command_words.specs.declared.asked.Blocks.TheVariants as blocks
 use Rattle.command_words.specs.declared.asked.Options.{Options}
@@ -36,6 +38,8 @@ option_words_of w = record {
   renumber = option_map (λ s. s.now) w.renumber;
   block = option_map (λ s. s.now) w.block;
   plan = option_map (λ s. s.now) w.plan;
+  at = option_map (λ s. s.now) w.at;
+  from = option_map (λ s. s.now) w.from;
   schedule = option_map (λ s. s.now) w.schedule;
   seed = option_map (λ s. s.now) w.seed;
   workers = option_map (λ s. s.now) w.workers;
@@ -52,6 +56,8 @@ options_found f = record {
   renumber = first_value f (codes "renumber");
   block = first_value f (codes "block");
   plan = first_value f (codes "plan");
+  at = first_value f (codes "at");
+  from = first_value f (codes "from");
   schedule = first_value f (codes "schedule");
   seed = first_value f (codes "seed");
   workers = first_value f (codes "workers");
@@ -69,6 +75,12 @@ schedule_in schedule.Standard = words.Standard
 schedule_in (schedule.Drawn seed) = words.Drawn seed
 schedule_in (schedule.Written name) = words.Written name.now
 
+-- which items run
+abbrev pub stretch_in : Stretch → words.Stretch
+stretch_in stretch.Whole = words.Whole
+stretch_in (stretch.Before item) = words.Before item
+stretch_in (stretch.From name) = words.From name.now
+
 -- blocks and colours of a plan
 abbrev pub blocks_in : Blocks → words.Blocks
 blocks_in (blocks.OfSize places) = words.OfSize places
@@ -77,6 +89,7 @@ blocks_in (blocks.AsPlanned name) = words.AsPlanned name.now
 -- a plan's options
 abbrev pub options_in : Options → words.Options
 options_in o = record {
+  stretch = stretch_in o.stretch;
   ranks = o.ranks;
   parting = parting_in o.parting;
   renumber = name_of o.renumber;

@@ -34,14 +34,23 @@ pub data Schedule : Type 0 where
   Drawn : (seed : ℕ) → Schedule
   Written : (name : List ℕ) → Schedule
 
+-- which items of a program run: all of them; those before this one, behind which the state there is printed; or those from the item of
+-- a state on, which the file of this name tells, begun with its values
+pub data Stretch : Type 0 where
+  Whole : Stretch
+  Before : (item : ℕ) → Stretch
+  From : (name : List ℕ) → Stretch
+
 -- blocks and colours of a plan: least colours in blocks of this many places, or as the file of this name says
 pub data Blocks : Type 0 where
   OfSize : (places : ℕ) → Blocks
   AsPlanned : (name : List ℕ) → Blocks
 
--- how a program runs on ranks: how many; who owns which element; new numbers by the map of this name, or none; blocks and
--- colours; in which order the steps are taken, and by how many workers; and whether the memories are dumped behind the output
+-- how a program runs on ranks: which of its items; how many ranks; who owns which element; new numbers by the map of this name, or
+-- none; blocks and colours; in which order the steps are taken, and by how many workers; and whether the memories are dumped behind the
+-- output
 pub record Options : Type 0 where
+  pub stretch : Stretch
   pub ranks : ℕ
   pub parting : Parting
   pub renumber : Option (List ℕ)
@@ -96,8 +105,8 @@ with_rules a (r ∷ rs) = with_rules (with_rule a r) rs
 -- the options with one value
 abbrev pub options : List (List ℕ)
 options =
-    codes "form" ∷ codes "ranks" ∷ codes "parts" ∷ codes "partition" ∷ codes "renumber" ∷ codes "block" ∷ codes "plan"
-    ∷ codes "schedule" ∷ codes "seed" ∷ codes "workers" ∷ []
+    codes "form" ∷ codes "ranks" ∷ codes "parts" ∷ codes "partition" ∷ codes "renumber" ∷ codes "block" ∷ codes "plan" ∷ codes "at"
+    ∷ codes "from" ∷ codes "schedule" ∷ codes "seed" ∷ codes "workers" ∷ []
 
 -- the options with none
 abbrev pub flags : List (List ℕ)
@@ -124,6 +133,8 @@ pub record OptionWords : Type 0 where
   pub renumber : Option (List ℕ)
   pub block : Option (List ℕ)
   pub plan : Option (List ℕ)
+  pub at : Option (List ℕ)
+  pub from : Option (List ℕ)
   pub schedule : Option (List ℕ)
   pub seed : Option (List ℕ)
   pub workers : Option (List ℕ)
@@ -144,17 +155,19 @@ options_in rows = record {
   renumber = first_of (codes "renumber") rows;
   block = first_of (codes "block") rows;
   plan = first_of (codes "plan") rows;
+  at = first_of (codes "at") rows;
+  from = first_of (codes "from") rows;
   schedule = first_of (codes "schedule") rows;
   seed = first_of (codes "seed") rows;
   workers = first_of (codes "workers") rows;
   dumps = is_set (first_of (codes "dump") rows);
 }
 
--- none stands of the options that say by which plan a program runs
+-- none stands of the options that say by which plan a program runs, and which of its items
 abbrev pub is_unplanned : OptionWords → Bool
 is_unplanned w =
-    not (is_some w.renumber) && not (is_some w.block) && not (is_some w.plan) && not (is_some w.schedule) && not (is_some w.seed)
-    && not (is_some w.workers)
+    not (is_some w.renumber) && not (is_some w.block) && not (is_some w.plan) && not (is_some w.at) && not (is_some w.from)
+    && not (is_some w.schedule) && not (is_some w.seed) && not (is_some w.workers)
 
 -- none stands of those of a program's run
 abbrev pub runs_nothing : OptionWords → Bool
@@ -223,10 +236,22 @@ blocks_of (Some word) None = option_map OfSize (number_to MAX_BLOCK word)
 blocks_of None (Some name) = Some (AsPlanned name)
 blocks_of (Some word) (Some name) = None
 
--- with a number of ranks, owners and an order of steps that are known
-abbrev pub options_with : (ranks : ℕ) → Parting → Schedule → OptionWords → Option Options
-options_with ranks parting schedule w =
+-- a number below 2 ^ 32, in decimal digits
+abbrev pub item_of : List ℕ → Option ℕ
+item_of word = option_and_then (λ n. if nat_lt n (2 ^ 32) then Some n else None) (number_of word)
+
+-- by `--at`, or by `--from`, or all items; not by both
+abbrev pub stretch_of : (at from : Option (List ℕ)) → Option Stretch
+stretch_of None None = Some Whole
+stretch_of (Some word) None = option_map Before (item_of word)
+stretch_of None (Some name) = Some (From name)
+stretch_of (Some word) (Some name) = None
+
+-- with items, a number of ranks, owners and an order of steps that are known
+abbrev pub options_with : Stretch → (ranks : ℕ) → Parting → Schedule → OptionWords → Option Options
+options_with stretch ranks parting schedule w =
     option_and_then (λ blocks. option_map (λ workers. record {
+      stretch = stretch;
       ranks = ranks;
       parting = parting;
       renumber = w.renumber;
@@ -240,10 +265,12 @@ options_with ranks parting schedule w =
 -- all options of a plan
 abbrev pub options_of : OptionWords → Option Options
 options_of w =
-    option_and_then (λ ranks. option_and_then (λ parting. option_and_then (λ schedule. options_with ranks parting schedule w)
+    option_and_then (λ stretch. option_and_then (λ ranks. option_and_then (λ parting. option_and_then (λ schedule.
+    options_with stretch ranks parting schedule w)
     (schedule_of w.schedule w.seed))
     (parting_of w.parts w.partition))
-    (number_or 1 MAX_RANKS w.ranks)
+    (number_or 1 MAX_RANKS w.ranks))
+    (stretch_of w.at w.from)
 
 -- ---- jobs
 
@@ -251,9 +278,25 @@ options_of w =
 abbrev pub plans : PlanJob → Input → OptionWords → Option Command
 plans j input w = if is_some w.form then None else option_map (λ o. OnPlan j o input) (options_of w)
 
--- the whole plan, which no file gives
-abbrev pub shows_plan : Input → OptionWords → Option Command
-shows_plan input w = if is_some w.plan then None else plans ShowsPlan input w
+-- a command, where its options allow it
+abbrev pub where_so : (allowed : Bool) → Option Command → Option Command
+where_so allowed c = if allowed then c else None
+
+-- no item is named at which the run ends
+abbrev pub goes_to_the_end : OptionWords → Bool
+goes_to_the_end w = not (is_some w.at)
+
+-- all items
+abbrev pub is_whole : OptionWords → Bool
+is_whole w = not (is_some w.at) && not (is_some w.from)
+
+-- all items, and no file gives the plan
+abbrev pub plans_itself : OptionWords → Bool
+plans_itself w = is_whole w && not (is_some w.plan)
+
+-- the items before one, no file gives the plan, and nothing is dumped
+abbrev pub stops_at_an_item : OptionWords → Bool
+stops_at_an_item w = is_some w.at && not (is_some w.from) && not (is_some w.plan) && not w.dumps
 
 -- SOURCE and MESH
 abbrev pub on_files : (Input → OptionWords → Option Command) → (input : List ℕ) (mesh : Option (List ℕ)) → OptionWords → Option Command
@@ -277,14 +320,15 @@ source_alone source mesh w = if not (is_some mesh) && not (is_some w.form) && ru
 -- by the job's name
 abbrev pub by_job : (job input : List ℕ) (mesh : Option (List ℕ)) → OptionWords → Option Command
 by_job job input mesh w =
-    if bytes_eq job (codes "run") then on_files (plans RunsPlan) input mesh w
-    else if bytes_eq job (codes "sample") then samples input mesh w
+    if bytes_eq job (codes "run") then where_so (goes_to_the_end w) (on_files (plans RunsPlan) input mesh w)
+    else if bytes_eq job (codes "sample") then where_so (is_whole w) (samples input mesh w)
+    else if bytes_eq job (codes "state") then where_so (stops_at_an_item w) (on_files (plans RunsPlan) input mesh w)
     else if bytes_eq job (codes "convert") then converts input mesh w
     else if bytes_eq job (codes "translate") then option_map Translates (source_alone input mesh w)
     else if bytes_eq job (codes "restore") then option_map Restores (source_alone input mesh w)
-    else if bytes_eq job (codes "check") then on_files (plans Check) input mesh w
-    else if bytes_eq job (codes "plan") then on_files shows_plan input mesh w
-    else if bytes_eq job (codes "schedule") then on_files (plans ShowsSchedule) input mesh w
+    else if bytes_eq job (codes "check") then where_so (is_whole w) (on_files (plans Check) input mesh w)
+    else if bytes_eq job (codes "plan") then where_so (plans_itself w) (on_files (plans ShowsPlan) input mesh w)
+    else if bytes_eq job (codes "schedule") then where_so (goes_to_the_end w) (on_files (plans ShowsSchedule) input mesh w)
     else None
 
 -- the words JOB and INPUT stand
@@ -312,6 +356,12 @@ abbrev pub names_from : Input → List (List ℕ)
 names_from (InFiles source mesh) = source ∷ mesh ∷ []
 names_from (OfSample side) = []
 
+-- the one that a state comes from, where it does
+abbrev pub names_before : Stretch → List (List ℕ)
+names_before Whole = []
+names_before (Before item) = []
+names_before (From name) = name ∷ []
+
 -- the one that owners come from, where they do
 abbrev pub names_by : Parting → List (List ℕ)
 names_by (ByRule parts) = []
@@ -330,7 +380,8 @@ names_at (Written name) = name ∷ []
 
 -- those of a command
 abbrev pub names_of : Command → List (List ℕ)
-names_of (OnPlan j o input) = names_from input ++ names_by o.parting ++ names_in_blocks o.blocks ++ names_at o.schedule
+names_of (OnPlan j o input) =
+    names_from input ++ names_before o.stretch ++ names_by o.parting ++ names_in_blocks o.blocks ++ names_at o.schedule
 names_of (Converts form mesh) = mesh ∷ []
 names_of (Translates source) = source ∷ []
 names_of (Restores source) = source ∷ []

@@ -50,11 +50,23 @@ pub enum Blocks<'a> {
     AsPlanned(&'a str),
 }
 
-/// How a program runs on ranks: how many there are, 1 to 64; who owns which element; new numbers by the map of this
-/// name, if any; blocks and colours; in which order the steps are taken, and by how many workers, 1 to 64; and whether
-/// the ranks' memories are dumped behind the output.
+/// Which items of a program run.
+#[derive(Clone, Copy, Debug)]
+pub enum Stretch<'a> {
+    /// All of them.
+    Whole,
+    /// Those before this one, from 0; behind them the state there is printed.
+    Before { item: u32 },
+    /// Those from the item of a state on, which the file of this name tells, begun with its values.
+    From(&'a str),
+}
+
+/// How a program runs on ranks: which of its items do; how many ranks there are, 1 to 64; who owns which element; new
+/// numbers by the map of this name, if any; blocks and colours; in which order the steps are taken, and by how many
+/// workers, 1 to 64; and whether the ranks' memories are dumped behind the output.
 #[derive(Clone, Copy, Debug)]
 pub struct Options<'a> {
+    pub stretch: Stretch<'a>,
     pub ranks: u32,
     pub parting: Parting<'a>,
     pub renumber: Option<&'a [u8]>,

@@ -82,6 +82,8 @@ fn command<'a>(alloc: Global) -> Result<Command<'a>, AllocError>
             "renumber",
             "block",
             "plan",
+            "at",
+            "from",
             "schedule",
             "seed",
             "workers",

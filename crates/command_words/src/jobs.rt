@@ -1,11 +1,14 @@
 // The jobs: what is asked for by the words JOB, INPUT and MESH, with the options.
 
 ghost use Rattle.std.specs.Prelude.{◌≡◌, option_map};
-ghost use Rattle.command_words.specs.Words.{by_job, samples, converts, source_alone, plans, shows_plan, form_of, InFiles};
+ghost use Rattle.command_words.specs.Words.{by_job, on_files, where_so, samples, converts, source_alone, plans, form_of, InFiles};
 ghost use Rattle.command_words.specs.Values.{input_in, command_of, job_in, option_words_of};
 
 use crate::asked::{Asked, Input, PlanJob};
-use crate::options::{OptionWords, number_to, options_of, runs_nothing};
+use crate::options::{
+    OptionWords, goes_to_the_end, is_whole, number_to, options_of, plans_itself, runs_nothing,
+    stops_at_an_item,
+};
 use mesh_gen::MAX_SIDE;
 use mesh_text::Form;
 
@@ -20,9 +23,23 @@ pub fn by_job<'a>(
         ≡ by_job job.now input.now (option_map (λ s. s.now) mesh.entry) (option_words_of options.now) }
 {
     if job == "run" {
-        plans(PlanJob::RunsPlan, in_files(input, mesh)?, options)
+        plans_where(
+            goes_to_the_end(options),
+            PlanJob::RunsPlan,
+            input,
+            mesh,
+            options,
+        )
     } else if job == "sample" {
-        samples(input, mesh, options)
+        samples_where(is_whole(options), input, mesh, options)
+    } else if job == "state" {
+        plans_where(
+            stops_at_an_item(options),
+            PlanJob::RunsPlan,
+            input,
+            mesh,
+            options,
+        )
     } else if job == "convert" {
         converts(input, mesh, options)
     } else if job == "translate" {
@@ -32,11 +49,58 @@ pub fn by_job<'a>(
         let source = source_alone(input, mesh, options)?;
         Some(Asked::Restore { source })
     } else if job == "check" {
-        plans(PlanJob::Check, in_files(input, mesh)?, options)
+        plans_where(is_whole(options), PlanJob::Check, input, mesh, options)
     } else if job == "plan" {
-        shows_plan(in_files(input, mesh)?, options)
+        plans_where(
+            plans_itself(options),
+            PlanJob::ShowsPlan,
+            input,
+            mesh,
+            options,
+        )
     } else if job == "schedule" {
-        plans(PlanJob::ShowsSchedule, in_files(input, mesh)?, options)
+        plans_where(
+            goes_to_the_end(options),
+            PlanJob::ShowsSchedule,
+            input,
+            mesh,
+            options,
+        )
+    } else {
+        None
+    }
+}
+
+// A job on SOURCE and MESH, where its options allow it.
+fn plans_where<'a>(
+    allowed: bool,
+    job: PlanJob,
+    source: &'a str,
+    mesh: Option<&'a str>,
+    options: &OptionWords<'a>,
+) -> Option<Asked<'a>>
+    ensures { option_map command_of result ≡ where_so allowed
+        (on_files (plans (job_in job)) source.now (option_map (λ s. s.now) mesh.entry) (option_words_of options.now)) }
+{
+    if allowed {
+        plans(job, in_files(source, mesh)?, options)
+    } else {
+        None
+    }
+}
+
+// `sample SIDE`, where its options allow it.
+fn samples_where<'a>(
+    allowed: bool,
+    side: &str,
+    mesh: Option<&str>,
+    options: &OptionWords<'a>,
+) -> Option<Asked<'a>>
+    ensures { option_map command_of result
+        ≡ where_so allowed (samples side.now (option_map (λ s. s.now) mesh.entry) (option_words_of options.now)) }
+{
+    if allowed {
+        samples(side, mesh, options)
     } else {
         None
     }
@@ -110,17 +174,6 @@ fn plans<'a>(job: PlanJob, input: Input<'a>, options: &OptionWords<'a>) -> Optio
             options: options_of(options)?,
             input,
         })
-    }
-}
-
-// The whole plan, which no file gives.
-fn shows_plan<'a>(input: Input<'a>, options: &OptionWords<'a>) -> Option<Asked<'a>>
-    ensures { option_map command_of result ≡ shows_plan (input_in input.entry) (option_words_of options.now) }
-{
-    if options.plan.is_some() {
-        None
-    } else {
-        plans(PlanJob::ShowsPlan, input, options)
     }
 }
 

@@ -14,8 +14,8 @@ mod read;
 mod refusals;
 mod usage;
 
-pub use asked::{Asked, Blocks, Input, Options, Parting, PlanJob, Schedule};
-pub use laws::{one_fault, options_are_within};
+pub use asked::{Asked, Blocks, Input, Options, Parting, PlanJob, Schedule, Stretch};
+pub use laws::{heads_are_not_dumped, one_fault, options_are_within};
 pub use limits::{MAX_BLOCK, MAX_GROUP, MAX_RANKS, MAX_WORKERS};
 pub use read::read_words;
 pub use refusals::WordsRefusal;

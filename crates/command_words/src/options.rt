@@ -3,10 +3,11 @@
 ghost use Rattle.std.specs.Prelude.{◌≡◌, option_map};
 ghost use Rattle.distribute.specs.Parts.{name_of, parts_of};
 ghost use Rattle.command_words.specs.Words.{number_to, number_or, is_unplanned, runs_nothing, behind, rule_of, parting_of};
-ghost use Rattle.command_words.specs.Words.{seed_of, schedule_of, blocks_of, options_of};
-ghost use Rattle.command_words.specs.Values.{option_words_of, parting_in, schedule_in, blocks_in, options_in};
+ghost use Rattle.command_words.specs.Words.{seed_of, schedule_of, blocks_of, item_of, stretch_of};
+ghost use Rattle.command_words.specs.Words.{options_of, goes_to_the_end, is_whole, plans_itself, stops_at_an_item};
+ghost use Rattle.command_words.specs.Values.{option_words_of, parting_in, schedule_in, blocks_in, stretch_in, options_in};
 
-use crate::asked::{Blocks, Options, Parting, Schedule};
+use crate::asked::{Blocks, Options, Parting, Schedule, Stretch};
 use crate::limits::{MAX_BLOCK, MAX_RANKS, MAX_WORKERS};
 use distribute::Parts;
 use op_num::read_u64;
@@ -21,6 +22,8 @@ pub struct OptionWords<'a> {
     pub renumber: Option<&'a str>,
     pub block: Option<&'a str>,
     pub plan: Option<&'a str>,
+    pub at: Option<&'a str>,
+    pub from: Option<&'a str>,
     pub schedule: Option<&'a str>,
     pub seed: Option<&'a str>,
     pub workers: Option<&'a str>,
@@ -51,13 +54,14 @@ fn number_or(usual: u32, most: u32, word: Option<&str>) -> Option<u32>
     }
 }
 
-/// Whether none stands of the options that say by which plan a program runs.
+/// Whether none stands of the options that say by which plan a program runs, and which of its items.
 pub fn is_unplanned(words: &OptionWords<'_>) -> bool
     ensures { result ≡ is_unplanned (option_words_of words.now) }
 {
     words.renumber.is_none()
         && words.block.is_none()
         && words.plan.is_none()
+        && is_whole(words)
         && words.schedule.is_none()
         && words.seed.is_none()
         && words.workers.is_none()
@@ -72,6 +76,34 @@ pub fn runs_nothing(words: &OptionWords<'_>) -> bool
         && words.partition.is_none()
         && !words.dumps
         && is_unplanned(words)
+}
+
+/// Whether no item is named at which the run ends.
+pub fn goes_to_the_end(words: &OptionWords<'_>) -> bool
+    ensures { result ≡ goes_to_the_end (option_words_of words.now) }
+{
+    words.at.is_none()
+}
+
+/// Whether all items run.
+pub fn is_whole(words: &OptionWords<'_>) -> bool
+    ensures { result ≡ is_whole (option_words_of words.now) }
+{
+    words.at.is_none() && words.from.is_none()
+}
+
+/// Whether all items run, and no file gives the plan.
+pub fn plans_itself(words: &OptionWords<'_>) -> bool
+    ensures { result ≡ plans_itself (option_words_of words.now) }
+{
+    is_whole(words) && words.plan.is_none()
+}
+
+/// Whether the items before one run, no file gives the plan, and nothing is dumped.
+pub fn stops_at_an_item(words: &OptionWords<'_>) -> bool
+    ensures { result ≡ stops_at_an_item (option_words_of words.now) }
+{
+    words.at.is_some() && words.from.is_none() && words.plan.is_none() && !words.dumps
 }
 
 // What stands behind a prefix, if the word begins with it.
@@ -142,6 +174,31 @@ fn blocks_of<'a>(block: Option<&str>, plan: Option<&'a str>) -> Option<Blocks<'a
     }
 }
 
+// A number below 2 ^ 32, in decimal digits.
+fn item_of(word: &str) -> Option<u32>
+    ensures { result ≡ item_of word.now }
+{
+    let Ok(number) = read_u64(word.as_bytes()) else {
+        return None;
+    };
+    u32::try_from(number).ok()
+}
+
+// By `--at`, or by `--from`, or all items; not by both.
+fn stretch_of<'a>(at: Option<&str>, from: Option<&'a str>) -> Option<Stretch<'a>>
+    ensures { option_map stretch_in result
+        ≡ stretch_of (option_map (λ s. s.now) at.entry) (option_map (λ s. s.now) from.entry) }
+{
+    match (at, from) {
+        (None, None) => Some(Stretch::Whole),
+        (Some(word), None) => Some(Stretch::Before {
+            item: item_of(word)?,
+        }),
+        (None, Some(name)) => Some(Stretch::From(name)),
+        (Some(_), Some(_)) => None,
+    }
+}
+
 // A name, as the bytes of its word.
 fn named<'a>(word: Option<&'a str>) -> Option<&'a [u8]>
     ensures { name_of result ≡ option_map (λ s. s.now) word.entry }
@@ -156,12 +213,14 @@ fn named<'a>(word: Option<&'a str>) -> Option<&'a [u8]>
 pub fn options_of<'a>(words: &OptionWords<'a>) -> Option<Options<'a>>
     ensures { option_map options_in result ≡ options_of (option_words_of words.now) }
 {
+    let stretch = stretch_of(words.at, words.from)?;
     let ranks = number_or(1, MAX_RANKS, words.ranks)?;
     let parting = parting_of(words.parts, words.partition)?;
     let schedule = schedule_of(words.schedule, words.seed)?;
     let blocks = blocks_of(words.block, words.plan)?;
     let workers = number_or(1, MAX_WORKERS, words.workers)?;
     Some(Options {
+        stretch,
         ranks,
         parting,
         renumber: named(words.renumber),

@@ -70,6 +70,8 @@ fn option_words<'a>(matches: &ArgMatches<'a>) -> OptionWords<'a>
         renumber: matches.get_str("renumber"),
         block: matches.get_str("block"),
         plan: matches.get_str("plan"),
+        at: matches.get_str("at"),
+        from: matches.get_str("from"),
         schedule: matches.get_str("schedule"),
         seed: matches.get_str("seed"),
         workers: matches.get_str("workers"),

@@ -6,6 +6,7 @@ pub const USAGE: &str = "op2 JOB INPUT [MESH] [OPTION ..]
 Jobs
   run            runs the OP2 program in the file INPUT over the mesh in the file MESH, and writes what it prints
   sample         as run, with a program of fluxes on a grid of INPUT times INPUT cells, which it makes itself; no MESH
+  state          as run, but only the items before that of --at run, and then the state before it is written
   check          as run, but the program is planned and not run, and the sizes of the plan are written
   plan           as check, and the whole plan is written
   schedule       as check, and the schedule is written: the steps of the plan in their order, one a line
@@ -16,9 +17,9 @@ Jobs
 
 Words
   INPUT          the name of the source file; for sample a number from 1 to 200; for convert the name of the mesh file
-  MESH           the name of the mesh file; for run, check, plan and schedule
+  MESH           the name of the mesh file; for run, state, check, plan and schedule
 
-Options of run, sample, check, plan and schedule
+Options of run, sample, state, check, plan and schedule
   --ranks N      how many ranks there are, from 1 to 64; 1 where it isn't given
   --parts RULE   who owns which element; block where it isn't given
                    block       each set in blocks of consecutive elements
@@ -27,10 +28,12 @@ Options of run, sample, check, plan and schedule
   --partition F  in place of --parts: who owns which element, as the file F says
   --renumber MAP new numbers by Cuthill and McKee over the map MAP; none where it isn't given
   --block N      how many places a block has, from 1 to 65536; 256 where it isn't given
-  --plan F       in place of --block: blocks and colours as in the plan of the file F; not for plan
+  --plan F       in place of --block: blocks and colours as in the plan of the file F; not for state and plan
   --schedule F   the steps in the order of the file F; in the standard order where it isn't given
   --seed N       in place of --schedule: the steps in an order drawn from N, from 0 to 2^64 - 1
   --workers N    how many threads run the elements, from 1 to 64; 1 where it isn't given
+  --at K         for state, where it must be given: the item before which the run stops, from 0 to 4294967295
+  --from F       for run and schedule: the items from that on which the state in the file F tells, with its values
   --dump         for run and sample: where the run has no fault, what each rank holds at its end is written too
 
 Options of convert
@@ -53,6 +56,7 @@ Statuses
   9              the run has a fault
   10             a size is beyond its limit
   12             the plan is refused: its file isn't one of the program
+  13             the state is refused: the program has none at that item, or the file isn't one of the program
   14             the source is not translated, since a name is that of a stub, or not restored, since a stub isn't called
                  or a loop call is left
 ";

@@ -1,4 +1,4 @@
-use Rattle.std.proofs.Common.{◌≡◌, codes, true, false, Result, Ok, Err, IfOk, List, [], ◌∷◌, map, ap, ◌∙◌}
+use Rattle.std.proofs.Common.{◌≡◌, codes, true, false, Result, Ok, Err, IfOk, map, ap, ◌∙◌}
 use Rattle.clap.specs.Simple.{App, app_of, app_of_fields, new_app, with_rule}
 use Rattle.command_words.specs.Words.{positional, option, flag, versioned, with_rules, options, command}
 use Rattle.command_words.proofs.command.command.Goals as goal
