@@ -13,12 +13,12 @@ use Rattle.schedule_steps.specs.declared.step.Step.{Step}
 use Rattle.schedule_text.specs.declared.lines.TheConstants.{SCHEDULE_STEPS}
 use Rattle.schedule_text.specs.Written.{tokens_of}
 use Rattle.loop_plan.specs.StepCounts.{max_steps}
-use Rattle.answer_lines.specs.declared.limits.TheConstants.{SOURCE_BYTES, PARTITION_BYTES, PLAN_BYTES, SCHEDULE_BYTES}
+use Rattle.answer_lines.specs.declared.limits.TheConstants.{SOURCE_BYTES, STATE_BYTES, PARTITION_BYTES, PLAN_BYTES, SCHEDULE_BYTES}
 use Rattle.command_words.specs.Refusal.{Limit, SourceBytes, MeshBytes, MeshValues, Sets, Maps, Dats, SetSize, Dim, MeshCells}
-use Rattle.command_words.specs.Refusal.{Arguments, Trace, PrintWeight, PartitionBytes, PlanBytes, Steps, ScheduleBytes, ScheduleSteps}
-use Rattle.command_words.specs.Refusal.{Refusal, Usage, CannotRead, NoTokens, NoTree, TooDeep, BadName, BadBinding, BadTarget, BadAccess}
-use Rattle.command_words.specs.Refusal.{BadMesh, BadPart, BadPartition, BadPlan, BadSchedule, BadStep, EarlyStep, LeftStep, BadStub}
-use Rattle.command_words.specs.Refusal.{BeyondLimit, status_of}
+use Rattle.command_words.specs.Refusal.{Arguments, Trace, PrintWeight, StateBytes, PartitionBytes, PlanBytes, Steps, ScheduleBytes}
+use Rattle.command_words.specs.Refusal.{ScheduleSteps, Refusal, Usage, CannotRead, NoTokens, NoTree, TooDeep, BadName, BadBinding}
+use Rattle.command_words.specs.Refusal.{BadTarget, BadAccess, BadMesh, BadCut, BadState, BadPart, BadPartition, BadPlan, BadSchedule}
+use Rattle.command_words.specs.Refusal.{BadStep, EarlyStep, LeftStep, BadStub, BeyondLimit, status_of}
 
 -- the name of a limit
 abbrev pub limit_name : Limit → List ℕ
@@ -34,6 +34,7 @@ limit_name MeshCells = codes "mesh-cells"
 limit_name Arguments = codes "arguments"
 limit_name Trace = codes "trace"
 limit_name PrintWeight = codes "print-weight"
+limit_name StateBytes = codes "state-bytes"
 limit_name PartitionBytes = codes "partition-bytes"
 limit_name PlanBytes = codes "plan-bytes"
 limit_name Steps = codes "steps"
@@ -54,6 +55,7 @@ most MeshCells = max_cells
 most Arguments = max_arguments
 most Trace = max_trace
 most PrintWeight = max_weight
+most StateBytes = STATE_BYTES
 most PartitionBytes = PARTITION_BYTES
 most PlanBytes = PLAN_BYTES
 most Steps = max_steps
@@ -85,6 +87,8 @@ said_of (BadTarget at map e p) =
     numbered (codes "source bind") 10 at ++ codes " map " ++ map ++ codes " element " ++ decimal e ++ codes " place " ++ decimal p
 said_of (BadAccess n at) = numbered (codes "source access") n at
 said_of (BadMesh n line) = codes "mesh " ++ decimal n ++ codes " line " ++ decimal line
+said_of (BadCut item) = codes "state item " ++ decimal item
+said_of (BadState n line) = codes "state " ++ decimal n ++ codes " line " ++ decimal line
 said_of (BadPart name) = codes "partition name " ++ name
 said_of (BadPartition n line) = codes "partition " ++ decimal n ++ codes " line " ++ decimal line
 said_of (BadPlan n line) = codes "plan " ++ decimal n ++ codes " line " ++ decimal line

@@ -43,6 +43,8 @@ fn status_of(refusal: &Refusal<'_>) -> u8
         Refusal::BadTarget { .. } => 5,
         Refusal::BadAccess { .. } => 5,
         Refusal::BadMesh { .. } => 6,
+        Refusal::BadCut { .. } => 13,
+        Refusal::BadState { .. } => 13,
         Refusal::BadPart(_) => 7,
         Refusal::BadPartition { .. } => 7,
         Refusal::BadPlan { .. } => 12,

@@ -11,7 +11,7 @@ mod refusals;
 mod reports;
 
 pub use call_answer::{Answer, done, refused};
-pub use limits::{PARTITION_BYTES, PLAN_BYTES, SCHEDULE_BYTES, SOURCE_BYTES, most};
+pub use limits::{PARTITION_BYTES, PLAN_BYTES, SCHEDULE_BYTES, SOURCE_BYTES, STATE_BYTES, most};
 pub use lines::{put_counted, put_named, put_placed};
 pub use refusals::{Failure, Halt, Limit, Refusal};
 pub use reports::{Line, report};

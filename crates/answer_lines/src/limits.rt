@@ -16,6 +16,9 @@ use schedule_text::SCHEDULE_STEPS;
 /// The most bytes of a source file.
 pub const SOURCE_BYTES: u64 = 1_048_576;
 
+/// The most bytes of the file of a state.
+pub const STATE_BYTES: u64 = 268_435_456;
+
 /// The most bytes of the file of a partition.
 pub const PARTITION_BYTES: u64 = 67_108_864;
 
@@ -42,6 +45,7 @@ pub fn most(limit: Limit) -> u64
         Limit::Arguments => MAX_ARGUMENTS,
         Limit::Trace => MAX_TRACE,
         Limit::PrintWeight => MAX_WEIGHT,
+        Limit::StateBytes => STATE_BYTES,
         Limit::PartitionBytes => PARTITION_BYTES,
         Limit::PlanBytes => PLAN_BYTES,
         Limit::Steps => MAX_STEPS,
@@ -67,6 +71,7 @@ pub fn limit_name(limit: Limit) -> &'static [u8]
         Limit::Arguments => b"arguments",
         Limit::Trace => b"trace",
         Limit::PrintWeight => b"print-weight",
+        Limit::StateBytes => b"state-bytes",
         Limit::PartitionBytes => b"partition-bytes",
         Limit::PlanBytes => b"plan-bytes",
         Limit::Steps => b"steps",

@@ -2,7 +2,7 @@
 
 ghost use Rattle.std.specs.Prelude.{◌≡◌, ◌++◌, codes, OnOk};
 ghost use Rattle.std.specs.Fmt.{decimal};
-ghost use Rattle.command_words.specs.Refusal.{BadTarget, BadStep, EarlyStep, LeftStep};
+ghost use Rattle.command_words.specs.Refusal.{BadTarget, BadState, BadStep, EarlyStep, LeftStep};
 ghost use Rattle.answer_lines.specs.Lines.{at_place, numbered, step_name, said_of, line_of};
 ghost use Rattle.answer_lines.specs.Halts.{refusal_of};
 
@@ -118,6 +118,14 @@ fn put_on_line(out: &mut Vec<u8>, what: &[u8], number: u8, line: u32) -> Result<
     put_counted(out, b" line", line as u64)
 }
 
+// The text of a state that tells none.
+fn put_bad_state(out: &mut Vec<u8>, number: u8, line: u64) -> Result<(), OutOfMemory>
+    ensures { OnOk result (out.new.items ≡ out.old.items ++ said_of (BadState number line)) }
+{
+    put_counted(out, b"state", number as u64)?;
+    put_counted(out, b" line", line)
+}
+
 // A step of a schedule, and why it is refused.
 fn put_bad_step(out: &mut Vec<u8>, number: u8, line: u32, step: Step) -> Result<(), OutOfMemory>
     ensures { OnOk result (out.new.items ≡ out.old.items ++ said_of (BadStep number line step)) }
@@ -171,6 +179,8 @@ fn put_said(out: &mut Vec<u8>, refusal: &Refusal<'_>) -> Result<(), OutOfMemory>
         } => put_target(out, *at, map.bytes(), *element, *place),
         Refusal::BadAccess { number, at } => put_numbered(out, b"source access", *number, *at),
         Refusal::BadMesh { number, line } => put_on_line(out, b"mesh", *number, *line),
+        Refusal::BadCut { item } => put_counted(out, b"state item", *item as u64),
+        Refusal::BadState { number, line } => put_bad_state(out, *number, *line),
         Refusal::BadPart(name) => put_named(out, b"partition name ", *name),
         Refusal::BadPartition { number, line } => put_on_line(out, b"partition", *number, *line),
         Refusal::BadPlan { number, line } => put_on_line(out, b"plan", *number, *line),

@@ -20,6 +20,7 @@ pub enum Limit {
     Arguments,
     Trace,
     PrintWeight,
+    StateBytes,
     PartitionBytes,
     PlanBytes,
     Steps,
@@ -73,6 +74,15 @@ pub enum Refusal<'a> {
     BadMesh {
         number: u8,
         line: u32,
+    },
+    /// The program can't be cut before the item of that number.
+    BadCut {
+        item: u32,
+    },
+    /// The text of a state tells none of the program.
+    BadState {
+        number: u8,
+        line: u64,
     },
     /// No dat or no map has the name that owners or new numbers are asked for by.
     BadPart(&'a [u8]),
