@@ -1,5 +1,5 @@
 -- Whether a program has a plan on its ranks is one, and so is what is read of it, where its blocks and colours come from one place.
-use Rattle.std.proofs.Common.{◌≡◌, ◌<◌, ◌≤◌, ℕ, inl, inr, List, map, length, refl, sym, ap, ap₂, ◌∙◌, arith}
+use Rattle.std.proofs.Common.{◌≡◌, ℕ, inl, inr, List, map, refl, sym, ap, ap₂, ◌∙◌, arith}
 use Rattle.kernel_types.specs.declared.kernels.RKernel.{RKernel}
 use Rattle.local_mesh.specs.declared.types.RankMesh.{RankMesh}
 use Rattle.local_mesh.specs.Values.{rank_mesh_value}
@@ -14,7 +14,7 @@ use Rattle.plan_cert.specs.Certified.{Certified, IsRefused}
 use Rattle.plan_cert.specs.Laws.{RefusalsAreOne, NoneIsRefused, PlansAreAlike, NoKernelIsRead}
 use Rattle.bound_plan.specs.OneRun.{with_kernels}
 use Rattle.command_words.specs.Refusal.{Refusal, BadPlan, BeyondLimit, Steps}
-use Rattle.answers.specs.Judgements.{Colouring, Least, Told, IsColoured, IsPlanned, IsUnplanned}
+use Rattle.answers.specs.Judgements.{Colouring, Least, Told, IsPlanned, IsUnplanned}
 
 -- ---- plans know nothing of kernels
 

@@ -1,18 +1,23 @@
 -- The status of a call is that of any answer over files that tell it.
-use Rattle.std.proofs.Common.{◌≡◌, ◌⊎◌, inl, inr, ℕ, List, [], ◌++◌, Option, Some, None, Result, refl, sym, ap, ◌∙◌, subst}
+use Rattle.std.proofs.Common.{◌≡◌, ◌⊎◌, inl, inr, ℕ, List, [], ◌∷◌, ◌++◌, Option, Some, None, Result, refl, sym, ap, ◌∙◌, subst}
 use Rattle.op_outside.specs.Outside.{Files, Rose}
 use Rattle.answer_lines.specs.Lines.{Answer}
 use Rattle.distribute.specs.Parts.{Parts}
 use Rattle.bound_program.specs.Values.{BoundValue}
 use Rattle.command_words.specs.Refusal.{Refusal}
-use Rattle.command_words.specs.Words.{PlanJob, Parting, ByRule, ByFile, Blocks, OfSize, AsPlanned, Schedule, Standard, Drawn, Written, Options, group_of, Command, OnPlan, InFiles, OfSample, Converts, Translates, Restores, ShowsUsage, ShowsVersion, names_by, names_in_blocks, names_at, names_in, names_of, named_by}
-use Rattle.answers.specs.Judgements.{SourceIs, TreeIs, TypesAre, MeshIs, EntriesAre, BoundIs, AccessesAre, NumbersOf, PartsOf, OwnersOf, Colouring, ColouringOf, Planned, PlanIs, Order, OrderOf, outline_of, StepsOf}
-use Rattle.answers.specs.Answers.{given, planned_answer, PlannedAnswers, PlanAnswers, CommandAnswers, Answers}
+use Rattle.command_words.specs.Words.{PlanJob, Stretch, Whole, Before, From, Parting, ByRule, ByFile, Blocks, OfSize, AsPlanned, Schedule, Standard, Drawn, Written, Options, group_of, Command, OnPlan, InFiles, OfSample, Converts, Translates, Restores, ShowsUsage, ShowsVersion, names_before, names_by, names_in_blocks, names_at, names_in, names_of, named_by}
+use Rattle.answers.specs.Judgements.{SourceIs, TreeIs, TypesAre, MeshIs, EntriesAre, BoundIs, AccessesAre, Cut, CutOf, Chosen, ChosenIs, NumbersOf, PartsOf, OwnersOf, Colouring, ColouringOf, Planned, PlanIs, Order, OrderOf, outline_of, StepsOf}
+use Rattle.answers.specs.Answers.{given, planned_answer, ChosenAnswers, PlannedAnswers, PlanAnswers, CommandAnswers, Answers}
 use Rattle.answers.specs.Endings.{Ending, Answered, OutOfMemory, Unread, Unwritten, ending_status, unwritten_status, Call, Tells, IsWritten, EndsBy, Ends, TellTheAnswer, IsComplete}
 use Rattle.answers.specs.Laws.{AnswersAgree}
 use Rattle.answer_laws.proofs.Given.{given_on}
 
--- owners, blocks and colours, and a schedule that come from no file
+-- items, owners, blocks and colours, and a schedule that come from no file
+cut_over : (x : Stretch) → names_before x ≡ [] → (f g : Files) (r : Result Cut Refusal) → CutOf x f r → CutOf x g r
+cut_over Whole none f g r h = h
+cut_over (Before item) none f g r h = h
+cut_over (From name) none f g r h = absurd (let bad : ⊥ = cc in bad)
+
 parts_over : (p : Parting) → names_by p ≡ [] → (f g : Files) (r : Result Parts Refusal) → PartsOf p f r → PartsOf p g r
 parts_over (ByRule rule) none f g r h = h
 parts_over (ByFile name) none f g r h = absurd (let bad : ⊥ = cc in bad)
@@ -28,34 +33,43 @@ order_over (Written name) none f g r h = absurd (let bad : ⊥ = cc in bad)
 
 -- the options name no file
 pub record NameNone (o : Options) : Type 0 where
+  pub stretch : names_before o.stretch ≡ []
   pub parting : names_by o.parting ≡ []
   pub blocks : names_in_blocks o.blocks ≡ []
   pub schedule : names_at o.schedule ≡ []
 
-no_names : (o : Options) → names_by o.parting ++ names_in_blocks o.blocks ++ names_at o.schedule ≡ [] → NameNone o
-no_names o none = by_parts o.parting o.blocks refl refl none
-  where
-    by_blocks : (x : Blocks) → o.blocks ≡ x → names_by o.parting ≡ [] → names_in_blocks x ++ names_at o.schedule ≡ [] → NameNone o
-    by_blocks (OfSize places) is part k = record { parting = part; blocks = ap names_in_blocks is; schedule = k }
-    by_blocks (AsPlanned name) is part k = absurd (let bad : ⊥ = cc in bad)
+-- lists of which the whole is empty are
+parts_empty : (xs ys : List (List ℕ)) → xs ++ ys ≡ [] → (xs ≡ []) × (ys ≡ [])
+parts_empty [] ys e = (refl, e)
+parts_empty (x ∷ xs) ys e = absurd (let bad : ⊥ = cc in bad)
 
-    by_parts : (p : Parting) (x : Blocks) → o.parting ≡ p → o.blocks ≡ x → names_by p ++ names_in_blocks x ++ names_at o.schedule ≡ [] → NameNone o
-    by_parts (ByRule rule) x is are k = by_blocks x are (ap names_by is) k
-    by_parts (ByFile name) x is are k = absurd (let bad : ⊥ = cc in bad)
+no_names : (o : Options) → names_before o.stretch ++ names_by o.parting ++ names_in_blocks o.blocks ++ names_at o.schedule ≡ [] → NameNone o
+no_names o none =
+    let a = parts_empty (names_before o.stretch ++ names_by o.parting ++ names_in_blocks o.blocks) (names_at o.schedule) none in
+    let b = parts_empty (names_before o.stretch ++ names_by o.parting) (names_in_blocks o.blocks) a.0 in
+    let c = parts_empty (names_before o.stretch) (names_by o.parting) b.0 in
+    record { stretch = c.0; parting = c.1; blocks = b.1; schedule = a.1 }
 
-planned_over : (j : PlanJob) (o : Options) → NameNone o → (f g : Files) (b : BoundValue) (a : Answer) → PlannedAnswers j o f b a → PlannedAnswers j o g b a
-planned_over j o none f g b a h = (
+chosen_over : (j : PlanJob) (o : Options) → NameNone o → (f g : Files) (c : Chosen) (a : Answer) → ChosenAnswers j o f c a → ChosenAnswers j o g c a
+chosen_over j o none f g c a h = (
   h.0,
-  given_on (NumbersOf o b) (NumbersOf o b) _ _ (λ r k. k) (λ n.
+  given_on (NumbersOf o c.program) (NumbersOf o c.program) _ _ (λ r k. k) (λ n.
       given_on (PartsOf o.parting f) (PartsOf o.parting g) _ _ (parts_over o.parting none.parting f g) (λ parts.
-      given_on (OwnersOf o b parts) (OwnersOf o b parts) _ _ (λ r k. k) (λ u.
+      given_on (OwnersOf o c.program parts) (OwnersOf o c.program parts) _ _ (λ r k. k) (λ u.
       given_on (ColouringOf o.blocks f) (ColouringOf o.blocks g) _ _ (colouring_over o.blocks none.blocks f g) (λ colouring.
-      given_on (PlanIs colouring b u n) (PlanIs colouring b u n) _ _ (λ r k. k) (λ p.
+      given_on (PlanIs colouring c.program u n) (PlanIs colouring c.program u n) _ _ (λ r k. k) (λ p.
       given_on (OrderOf o.schedule f) (OrderOf o.schedule g) (by_order p) (by_order p) (order_over o.schedule none.schedule f g) (λ order x k. k)))))) a h.1,
 )
   where
     by_order : Planned → Order → Answer → Type 0
-    by_order p order = given (StepsOf (outline_of b p) (group_of o) order) (λ steps x. x ≡ planned_answer j o.dumps b p steps)
+    by_order p order = given (StepsOf (outline_of c.program p) (group_of o) order) (λ steps x. x ≡ planned_answer j o.dumps c p steps)
+
+planned_over : (j : PlanJob) (o : Options) → NameNone o → (f g : Files) (b : BoundValue) (a : Answer) → PlannedAnswers j o f b a → PlannedAnswers j o g b a
+planned_over j o none f g b a h = (
+  h.0,
+  given_on (CutOf o.stretch f) (CutOf o.stretch g) _ _ (cut_over o.stretch none.stretch f g) (λ cut.
+      given_on (ChosenIs cut b) (ChosenIs cut b) _ _ (λ r k. k) (λ c. chosen_over j o none f g c)) a h.1,
+)
 
 -- the sample is read from no file
 sample_over : (j : PlanJob) (o : Options) (side : ℕ) → NameNone o → (f g : Files) (a : Answer) → PlanAnswers j o (OfSample side) f a → PlanAnswers j o (OfSample side) g a

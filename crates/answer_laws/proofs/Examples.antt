@@ -4,11 +4,11 @@ use Rattle.std.specs.Fmt.{digits}
 use Rattle.op_num.specs.declared.refusals.Fault.TheVariants.{DivZero}
 use Rattle.clap.proofs.OnLiterals.{clap_on_literals}
 use Rattle.mesh_text.specs.declared.entry.Form.TheVariants as form
-use Rattle.command_words.specs.Refusal.{CannotRead, TooDeep, NoTokens, BadName, BadTarget, BadAccess, BadMesh, BadPart, BadPartition, BadPlan, BadSchedule, BadStep, EarlyStep, LeftStep, BadStub, BeyondLimit, PartitionBytes, PlanBytes, Steps, ScheduleSteps, SetSize, Usage}
+use Rattle.command_words.specs.Refusal.{CannotRead, TooDeep, NoTokens, BadName, BadTarget, BadAccess, BadMesh, BadCut, BadState, BadPart, BadPartition, BadPlan, BadSchedule, BadStep, EarlyStep, LeftStep, BadStub, BeyondLimit, StateBytes, PartitionBytes, PlanBytes, Steps, ScheduleSteps, SetSize, Usage}
 use Rattle.answer_lines.specs.Lines.{line_of, fault_line}
 use Rattle.distribute.specs.Parts.{Block, Bisect, Grow}
 use Rattle.schedule_steps.specs.declared.step.Step.TheVariants.{Send, Recv, Begin, Join}
-use Rattle.command_words.specs.Words.{Options, Check, ShowsPlan, ShowsSchedule, RunsPlan, ByRule, ByFile, OfSize, AsPlanned, Standard, Drawn, Written, InFiles, OfSample, OnPlan, Converts, Translates, Restores, ShowsUsage, ShowsVersion, WordsAre}
+use Rattle.command_words.specs.Words.{Options, Whole, Before, From, Check, ShowsPlan, ShowsSchedule, RunsPlan, ByRule, ByFile, OfSize, AsPlanned, Standard, Drawn, Written, InFiles, OfSample, OnPlan, Converts, Translates, Restores, ShowsUsage, ShowsVersion, WordsAre}
 
 -- ---- lines
 
@@ -69,6 +69,18 @@ line_of_partition_bytes : line_of (BeyondLimit PartitionBytes 67108865) ≡ code
 unfolding digits
 line_of_partition_bytes = refl
 
+line_of_cut : line_of (BadCut 6) ≡ codes "op2: state item 6\n"
+unfolding digits
+line_of_cut = refl
+
+line_of_state : line_of (BadState 5 7) ≡ codes "op2: state 5 line 7\n"
+unfolding digits
+line_of_state = refl
+
+line_of_state_bytes : line_of (BeyondLimit StateBytes 268435457) ≡ codes "op2: limit state-bytes 268435456 268435457\n"
+unfolding digits
+line_of_state_bytes = refl
+
 line_of_plan : line_of (BadPlan 7 5) ≡ codes "op2: plan 7 line 5\n"
 unfolding digits
 line_of_plan = refl
@@ -105,7 +117,7 @@ line_of_stub = refl
 
 -- a plan's options where none is told
 abbrev plainly : Options
-plainly = record { ranks = 1; parting = ByRule Block; renumber = None; blocks = OfSize 256; schedule = Standard; workers = 1; dumps = false }
+plainly = record { stretch = Whole; ranks = 1; parting = ByRule Block; renumber = None; blocks = OfSize 256; schedule = Standard; workers = 1; dumps = false }
 
 a_run : WordsAre (codes "op2" ∷ codes "run" ∷ codes "s.c" ∷ codes "m" ∷ []) (Ok (OnPlan RunsPlan plainly (InFiles (codes "s.c") (codes "m"))))
 unfolding clap_on_literals
@@ -165,17 +177,17 @@ unfolding clap_on_literals
 a_check = refl
 
 a_plan : WordsAre (codes "op2" ∷ codes "plan" ∷ codes "--ranks=08" ∷ codes "s.c" ∷ codes "m" ∷ codes "--parts" ∷ codes "bisect:x" ∷ codes "--block=2" ∷ [])
-    (Ok (OnPlan ShowsPlan (record { ranks = 8; parting = ByRule (Bisect (codes "x")); renumber = None; blocks = OfSize 2; schedule = Standard; workers = 1; dumps = false }) (InFiles (codes "s.c") (codes "m"))))
+    (Ok (OnPlan ShowsPlan (record { stretch = Whole; ranks = 8; parting = ByRule (Bisect (codes "x")); renumber = None; blocks = OfSize 2; schedule = Standard; workers = 1; dumps = false }) (InFiles (codes "s.c") (codes "m"))))
 unfolding clap_on_literals
 a_plan = refl
 
 a_plan_by_growth : WordsAre (codes "op2" ∷ codes "plan" ∷ codes "s.c" ∷ codes "m" ∷ codes "--parts=grow:" ∷ codes "--renumber=pe" ∷ [])
-    (Ok (OnPlan ShowsPlan (record { ranks = 1; parting = ByRule (Grow []); renumber = Some (codes "pe"); blocks = OfSize 256; schedule = Standard; workers = 1; dumps = false }) (InFiles (codes "s.c") (codes "m"))))
+    (Ok (OnPlan ShowsPlan (record { stretch = Whole; ranks = 1; parting = ByRule (Grow []); renumber = Some (codes "pe"); blocks = OfSize 256; schedule = Standard; workers = 1; dumps = false }) (InFiles (codes "s.c") (codes "m"))))
 unfolding clap_on_literals
 a_plan_by_growth = refl
 
 a_plan_by_a_file : WordsAre (codes "op2" ∷ codes "plan" ∷ codes "s.c" ∷ codes "m" ∷ codes "--partition=p" ∷ [])
-    (Ok (OnPlan ShowsPlan (record { ranks = 1; parting = ByFile (codes "p"); renumber = None; blocks = OfSize 256; schedule = Standard; workers = 1; dumps = false }) (InFiles (codes "s.c") (codes "m"))))
+    (Ok (OnPlan ShowsPlan (record { stretch = Whole; ranks = 1; parting = ByFile (codes "p"); renumber = None; blocks = OfSize 256; schedule = Standard; workers = 1; dumps = false }) (InFiles (codes "s.c") (codes "m"))))
 unfolding clap_on_literals
 a_plan_by_a_file = refl
 
@@ -204,12 +216,12 @@ unfolding clap_on_literals
 one_word_more = refl
 
 a_run_on_ranks : WordsAre (codes "op2" ∷ codes "run" ∷ codes "s.c" ∷ codes "m" ∷ codes "--ranks" ∷ codes "2" ∷ [])
-    (Ok (OnPlan RunsPlan (record { ranks = 2; parting = ByRule Block; renumber = None; blocks = OfSize 256; schedule = Standard; workers = 1; dumps = false }) (InFiles (codes "s.c") (codes "m"))))
+    (Ok (OnPlan RunsPlan (record { stretch = Whole; ranks = 2; parting = ByRule Block; renumber = None; blocks = OfSize 256; schedule = Standard; workers = 1; dumps = false }) (InFiles (codes "s.c") (codes "m"))))
 unfolding clap_on_literals
 a_run_on_ranks = refl
 
 a_run_in_blocks : WordsAre (codes "op2" ∷ codes "run" ∷ codes "s.c" ∷ codes "m" ∷ codes "--block=1" ∷ [])
-    (Ok (OnPlan RunsPlan (record { ranks = 1; parting = ByRule Block; renumber = None; blocks = OfSize 1; schedule = Standard; workers = 1; dumps = false }) (InFiles (codes "s.c") (codes "m"))))
+    (Ok (OnPlan RunsPlan (record { stretch = Whole; ranks = 1; parting = ByRule Block; renumber = None; blocks = OfSize 1; schedule = Standard; workers = 1; dumps = false }) (InFiles (codes "s.c") (codes "m"))))
 unfolding clap_on_literals
 a_run_in_blocks = refl
 
@@ -218,22 +230,22 @@ unfolding clap_on_literals
 a_run_on_ranks_of_a_version = refl
 
 a_sample_on_ranks : WordsAre (codes "op2" ∷ codes "sample" ∷ codes "2" ∷ codes "--ranks" ∷ codes "2" ∷ codes "--workers" ∷ codes "4" ∷ [])
-    (Ok (OnPlan RunsPlan (record { ranks = 2; parting = ByRule Block; renumber = None; blocks = OfSize 256; schedule = Standard; workers = 4; dumps = false }) (OfSample 2)))
+    (Ok (OnPlan RunsPlan (record { stretch = Whole; ranks = 2; parting = ByRule Block; renumber = None; blocks = OfSize 256; schedule = Standard; workers = 4; dumps = false }) (OfSample 2)))
 unfolding clap_on_literals
 a_sample_on_ranks = refl
 
 a_drawn_schedule : WordsAre (codes "op2" ∷ codes "schedule" ∷ codes "s.c" ∷ codes "m" ∷ codes "--seed" ∷ codes "7" ∷ [])
-    (Ok (OnPlan ShowsSchedule (record { ranks = 1; parting = ByRule Block; renumber = None; blocks = OfSize 256; schedule = Drawn 7; workers = 1; dumps = false }) (InFiles (codes "s.c") (codes "m"))))
+    (Ok (OnPlan ShowsSchedule (record { stretch = Whole; ranks = 1; parting = ByRule Block; renumber = None; blocks = OfSize 256; schedule = Drawn 7; workers = 1; dumps = false }) (InFiles (codes "s.c") (codes "m"))))
 unfolding clap_on_literals
 a_drawn_schedule = refl
 
 a_run_by_a_schedule : WordsAre (codes "op2" ∷ codes "run" ∷ codes "s.c" ∷ codes "m" ∷ codes "--schedule" ∷ codes "f" ∷ codes "--dump" ∷ [])
-    (Ok (OnPlan RunsPlan (record { ranks = 1; parting = ByRule Block; renumber = None; blocks = OfSize 256; schedule = Written (codes "f"); workers = 1; dumps = true }) (InFiles (codes "s.c") (codes "m"))))
+    (Ok (OnPlan RunsPlan (record { stretch = Whole; ranks = 1; parting = ByRule Block; renumber = None; blocks = OfSize 256; schedule = Written (codes "f"); workers = 1; dumps = true }) (InFiles (codes "s.c") (codes "m"))))
 unfolding clap_on_literals
 a_run_by_a_schedule = refl
 
 a_check_of_a_plan : WordsAre (codes "op2" ∷ codes "check" ∷ codes "s.c" ∷ codes "m" ∷ codes "--plan" ∷ codes "p" ∷ [])
-    (Ok (OnPlan Check (record { ranks = 1; parting = ByRule Block; renumber = None; blocks = AsPlanned (codes "p"); schedule = Standard; workers = 1; dumps = false }) (InFiles (codes "s.c") (codes "m"))))
+    (Ok (OnPlan Check (record { stretch = Whole; ranks = 1; parting = ByRule Block; renumber = None; blocks = AsPlanned (codes "p"); schedule = Standard; workers = 1; dumps = false }) (InFiles (codes "s.c") (codes "m"))))
 unfolding clap_on_literals
 a_check_of_a_plan = refl
 
@@ -244,6 +256,41 @@ a_plan_in_blocks = refl
 a_plan_by_a_plan : WordsAre (codes "op2" ∷ codes "plan" ∷ codes "s.c" ∷ codes "m" ∷ codes "--plan=p" ∷ []) (Err Usage)
 unfolding clap_on_literals
 a_plan_by_a_plan = refl
+
+a_state : WordsAre (codes "op2" ∷ codes "state" ∷ codes "s.c" ∷ codes "m" ∷ codes "--at=02" ∷ [])
+    (Ok (OnPlan RunsPlan (record plainly { stretch = Before 2 }) (InFiles (codes "s.c") (codes "m"))))
+unfolding clap_on_literals
+a_state = refl
+
+a_state_nowhere : WordsAre (codes "op2" ∷ codes "state" ∷ codes "s.c" ∷ codes "m" ∷ []) (Err Usage)
+unfolding clap_on_literals
+a_state_nowhere = refl
+
+a_state_beyond : WordsAre (codes "op2" ∷ codes "state" ∷ codes "s.c" ∷ codes "m" ∷ codes "--at=4294967296" ∷ []) (Err Usage)
+unfolding clap_on_literals
+a_state_beyond = refl
+
+a_state_with_a_dump : WordsAre (codes "op2" ∷ codes "state" ∷ codes "s.c" ∷ codes "m" ∷ codes "--at=2" ∷ codes "--dump" ∷ []) (Err Usage)
+unfolding clap_on_literals
+a_state_with_a_dump = refl
+
+a_run_that_stops : WordsAre (codes "op2" ∷ codes "run" ∷ codes "s.c" ∷ codes "m" ∷ codes "--at=2" ∷ []) (Err Usage)
+unfolding clap_on_literals
+a_run_that_stops = refl
+
+a_run_that_goes_on : WordsAre (codes "op2" ∷ codes "run" ∷ codes "s.c" ∷ codes "m" ∷ codes "--from" ∷ codes "f" ∷ [])
+    (Ok (OnPlan RunsPlan (record plainly { stretch = From (codes "f") }) (InFiles (codes "s.c") (codes "m"))))
+unfolding clap_on_literals
+a_run_that_goes_on = refl
+
+a_schedule_of_a_rest : WordsAre (codes "op2" ∷ codes "schedule" ∷ codes "s.c" ∷ codes "m" ∷ codes "--from=f" ∷ [])
+    (Ok (OnPlan ShowsSchedule (record plainly { stretch = From (codes "f") }) (InFiles (codes "s.c") (codes "m"))))
+unfolding clap_on_literals
+a_schedule_of_a_rest = refl
+
+a_check_of_a_rest : WordsAre (codes "op2" ∷ codes "check" ∷ codes "s.c" ∷ codes "m" ∷ codes "--from=f" ∷ []) (Err Usage)
+unfolding clap_on_literals
+a_check_of_a_rest = refl
 
 a_mesh_by_a_plan : WordsAre (codes "op2" ∷ codes "convert" ∷ codes "m" ∷ codes "--plan=p" ∷ []) (Err Usage)
 unfolding clap_on_literals

@@ -35,7 +35,7 @@ use Rattle.answers.specs.Laws.{AnswersExist}
 use Rattle.answer_laws.proofs.Given.{given_one}
 use Rattle.answer_laws.proofs.Translations.{translation_exists, restoration_exists}
 use Rattle.answer_laws.proofs.Held.{held_exists, held_within}
-use Rattle.answer_laws.proofs.PlansExist.{Suits}
+use Rattle.answer_laws.proofs.Stretches.{SuitsInParts}
 use Rattle.answer_laws.proofs.SaidOnce.{lex_said, types_said, mesh_said, binding_said}
 use Rattle.answer_laws.proofs.Trees.{shallow_or_deep}
 use Rattle.answer_laws.proofs.Sites.{accesses_exist}
@@ -65,11 +65,11 @@ has_cause parts AtNumberTooLarge l e is = let bad : ⊥ = cc in bad
 abbrev pub SourcesSuit : Type 0
 SourcesSuit =
     (bytes text : List ℕ) (p : ProgramTree) (types : Resolved) (es : List Named) (b : BoundValue)
-    → Reads bytes p → Resolves p (Ok (resolved_of types)) → Spells text es → bound p types es ≡ Ok b → Suits b
+    → length bytes ≤ most SourceBytes → Reads bytes p → Resolves p (Ok (resolved_of types)) → Spells text es → bound p types es ≡ Ok b → SuitsInParts b
 
 -- there is an answer of each plan that is asked for
 abbrev pub PlansAnswered : Type 0
-PlansAnswered = (j : PlanJob) (o : Options) (files : Files) → AreWithin o → (b : BoundValue) → Suits b → ¬ ((a : Answer) → ¬ PlannedAnswers j o files b a)
+PlansAnswered = (j : PlanJob) (o : Options) (files : Files) → AreWithin o → (b : BoundValue) → SuitsInParts b → ¬ ((a : Answer) → ¬ PlannedAnswers j o files b a)
 
 module _ (some_lexed : (bytes : List ℕ) → (o : Outcome) × Lexes bytes o) (some_types : (p : ProgramTree) → (o : names.Outcome) × Resolves p o) (types_causes : (p : ProgramTree) → ¬ Resolves p (Err types.OutOfMemory)) (some_kernels : (bytes : List ℕ) (p : ProgramTree) → Reads bytes p → length bytes < 2 ^ 63 → (r : Resolved) × (resolved_of r ≡ resolved p)) (deep : (bytes : List ℕ) (p : ProgramTree) (n : ℕ) → Deep bytes p n → IsFar bytes (place_at p.places bytes n)) (causes : (p : ProgramTree) (types : Resolved) (es : List Named) → bound p types es ≢ Err bind.OutOfMemory) (some_read : (bytes : List ℕ) → (o : Read) × Spelled bytes o) (mesh_causes : (bytes : List ℕ) → ¬ Refuses bytes mesh.OutOfMemory) (one_outcome : (bytes : List ℕ) (a b : Outcome) → Lexes bytes a → Lexes bytes b → a ≡ b) (one_depth : (bytes : List ℕ) (a b : ProgramTree) (n m : ℕ) → Deep bytes a n → Deep bytes b m → n ≡ m) (one_shape : (bytes : List ℕ) (a b : ProgramTree) (n : ℕ) → Reads bytes a → Deep bytes b n → ⊥) (walk_finds : WalkFinds) (obeys : ObeysUnlessBroken) (one_breach : OneRefusal) (suits : SourcesSuit) (planned : PlansAnswered) (within : OptionsAreWithin) where
   -- bytes that the lexer refuses have no tree
@@ -155,7 +155,7 @@ module _ (some_lexed : (bytes : List ℕ) → (o : Outcome) × Lexes bytes o) (s
   -- ---- the program
 
   -- there is an answer where there is one of each bound program that suits
-  bound_answers : (rest : BoundValue → Answer → Type 0) → ((b : BoundValue) → Suits b → ¬ ((a : Answer) → ¬ rest b a))
+  bound_answers : (rest : BoundValue → Answer → Type 0) → ((b : BoundValue) → SuitsInParts b → ¬ ((a : Answer) → ¬ rest b a))
       → (input : Input) (files : Files) → ¬ ((a : Answer) → ¬ BoundAnswers rest input files a)
   bound_answers rest after input files =
       given_one _ _ (source_exists input files) (λ bytes held.
@@ -164,7 +164,7 @@ module _ (some_lexed : (bytes : List ℕ) → (o : Outcome) × Lexes bytes o) (s
       given_one _ _ (mesh_exists input files) (λ text _.
       given_one _ _ (entries_exist text) (λ es spells.
       given_one _ _ (bound_exists p types es) (λ b is.
-      given_one _ _ (accesses_exist walk_finds obeys one_breach b) (λ u _. after b (suits bytes text p types es b reads resolves spells.0 is))))))))
+      given_one _ _ (accesses_exist walk_finds obeys one_breach b) (λ u _. after b (suits bytes text p types es b (source_within input files bytes held) reads resolves spells.0 is))))))))
 
   -- ---- commands
 

@@ -1,12 +1,11 @@
 -- What is answered of a plan is one, whatever the addresses of kernels, owners and new numbers.
-use Rattle.std.proofs.Common.{◌≡◌, ◌<◌, ◌↔◌, ℕ, Bool, true, false, List, map, Option, Some, None, Result, Ok, Err, refl, sym, ap, ◌∙◌, subst, arith}
+use Rattle.std.proofs.Common.{◌≡◌, ◌<◌, ◌↔◌, ℕ, Bool, true, false, List, map, Option, Some, None, Result, Ok, Err, refl, sym, ap, ◌∙◌, subst}
 use Rattle.kernel_types.specs.declared.kernels.RKernel.{RKernel}
 use Rattle.kernel_types.specs.View.{rkernel_of}
 use Rattle.mesh_decl.specs.declared.owners.Owners.{Owners}
 use Rattle.mesh_decl.specs.declared.owners.Perms.{Perms}
 use Rattle.mesh_decl.specs.Mesh.{MeshValue}
 use Rattle.mesh_decl.specs.Owners.{ArePerms}
-use Rattle.local_mesh.specs.declared.types.RankMesh.{RankMesh}
 use Rattle.local_mesh.specs.Values.{rank_mesh_value}
 use Rattle.distribute.specs.Parts.{Parts, Text, NumbersRefusal, OwnersRefusal}
 use Rattle.distribute.specs.Judgements.{NumbersAre, OwnersAre}
@@ -21,7 +20,6 @@ use Rattle.schedule_steps.specs.Judged.{is_step, missing, left_over}
 use Rattle.schedule_text.specs.Reading.{Read as ScheduleRead, Reads as ScheduleReads}
 use Rattle.bound_program.specs.Values.{BoundValue}
 use Rattle.bound_program.specs.Fits.{Fits}
-use Rattle.loop_plan.specs.Values.{PlanValue}
 use Rattle.loop_plan.specs.PlanText.{plan_text}
 use Rattle.loop_plan.specs.OnePlan.{AreAlike, PlanTextsAreOne, PlansAreOne}
 use Rattle.bound_plan.specs.Memories.{dump_of}
@@ -31,8 +29,8 @@ use Rattle.command_words.specs.Refusal.{Refusal, PartitionBytes, PlanBytes}
 use Rattle.answer_lines.specs.Lines.{Answer, done, refused}
 use Rattle.answers.specs.Said.{SaysNumbers, SaysOwners}
 use Rattle.command_words.specs.Words.{PlanJob, Check, ShowsPlan, ShowsSchedule, RunsPlan, Parting, ByRule, ByFile, Blocks, OfSize, AsPlanned, Options, group_of}
-use Rattle.answers.specs.Judgements.{NumbersOf, PartsOf, OwnersOf, Colouring, Least, Told, ColouringOf, Planned, PlanIs, Order, OrderOf, outline_of, StepsOf}
-use Rattle.answers.specs.Answers.{given, sizes_text, run_answer, planned_answer, PlannedAnswers}
+use Rattle.answers.specs.Judgements.{CutOf, Chosen, ChosenIs, NumbersOf, PartsOf, OwnersOf, Colouring, Least, Told, ColouringOf, Planned, PlanIs, Order, OrderOf, outline_of, StepsOf}
+use Rattle.answers.specs.Answers.{given, sizes_text, run_answer, planned_answer, ChosenAnswers, PlannedAnswers}
 use Rattle.answer_laws.specs.OnCells.{RunsAnswerOnCells}
 use Rattle.answer_laws.proofs.Given.{given_both, given_alike}
 use Rattle.answer_laws.proofs.IsOne.{IsOne, held_is_one, told_is_one}
@@ -40,6 +38,7 @@ use Rattle.answer_laws.proofs.SaidOnce.{numbers_once, owners_once}
 use Rattle.answer_laws.proofs.Colourings.{same_outline, PlanLaws, alike, refusals, refused_planned, planned_refused}
 use Rattle.answer_laws.proofs.SameKernels.{output_same}
 use Rattle.answer_laws.proofs.SameBound.{IsSame}
+use Rattle.answer_laws.proofs.Stretches.{StateLaws, cut_is_one, SameItems, chosen_refusals, chosen_refused, refused_chosen, chosen_same}
 use Rattle.answer_laws.proofs.SchedulesAgree.{order_is_one, steps_are_one}
 
 -- ---- parts
@@ -88,14 +87,18 @@ same_owners : (d e : Distribution) → distribution_value d ≡ distribution_val
 unfolding distribution_value
 same_owners d e h = ap (λ (v : DistributionValue). v.owners) h
 
-module _ (on_cells : RunsAnswerOnCells) (programs_are_one : ProgramsAreOne) (dumps_are_one : DumpsAreOne) (plans : PlanLaws) (one_plan : PlansAreOne) (schedules : ScheduleLaws) (one_numbers : NumbersAreOne) (one_owners : OwnersAreOne) (one_distribution : DistributionsAreOne) (one_plan_text : PlanTextsAreOne) where
-  module _ (j : PlanJob) (o : Options) (files : Files) (some : 0 < o.ranks) (b : BoundValue) (ks : List RKernel) (same : map rkernel_of b.kernels ≡ map rkernel_of ks) (fits : Fits b) (others : Fits (with_kernels b ks)) where
+module _ (on_cells : RunsAnswerOnCells) (programs_are_one : ProgramsAreOne) (dumps_are_one : DumpsAreOne) (plans : PlanLaws) (one_plan : PlansAreOne) (schedules : ScheduleLaws) (one_numbers : NumbersAreOne) (one_owners : OwnersAreOne) (one_distribution : DistributionsAreOne) (one_plan_text : PlanTextsAreOne) (states : StateLaws) where
+  module _ (j : PlanJob) (o : Options) (files : Files) (some : 0 < o.ranks) (b : BoundValue) (ks : List RKernel) (same : map rkernel_of b.kernels ≡ map rkernel_of ks) (fits : Fits b) (others : Fits (with_kernels b ks)) (first : ℕ) where
     abbrev c : BoundValue
     c = with_kernels b ks
 
+    -- the items of a program, the first of which has that number
+    abbrev from : BoundValue → Chosen
+    from d = record { program = d; first = first }
+
     -- what comes after the order of the steps
     abbrev FromOrder : BoundValue → Planned → Order → Answer → Type 0
-    FromOrder d p order = given (StepsOf (outline_of d p) (group_of o) order) (λ steps x. x ≡ planned_answer j o.dumps d p steps)
+    FromOrder d p order = given (StepsOf (outline_of d p) (group_of o) order) (λ steps x. x ≡ planned_answer j o.dumps (from d) p steps)
 
     -- what comes after the plan
     abbrev FromPlan : BoundValue → Planned → Answer → Type 0
@@ -147,28 +150,28 @@ module _ (on_cells : RunsAnswerOnCells) (programs_are_one : ProgramsAreOne) (dum
               plans = plans_are_alike;
             }) o.dumps steps
 
-        answers : (steps : List Step) → planned_answer j o.dumps b p steps ≡ planned_answer j o.dumps c q steps
+        answers : (steps : List Step) → planned_answer j o.dumps (from b) p steps ≡ planned_answer j o.dumps (from c) q steps
         answers steps = by_job j
           where
             one : (plan_text b p.distribution.ranks.items p.plan ≡ plan_text b q.distribution.ranks.items q.plan) × (p.plan.steps ≡ q.plan.steps)
             one = one_plan_text b p.distribution.ranks.items q.distribution.ranks.items p.plan q.plan plans_are_alike
 
-            by_job : (i : PlanJob) → planned_answer i o.dumps b p steps ≡ planned_answer i o.dumps c q steps
+            by_job : (i : PlanJob) → planned_answer i o.dumps (from b) p steps ≡ planned_answer i o.dumps (from c) q steps
             by_job Check = ap (λ n. done (sizes_text b n)) one.1
             by_job ShowsPlan = ap done one.0
             by_job ShowsSchedule = refl
             by_job RunsPlan =
-                ap (run_answer b) (dumps_same steps)
-                ∙ output_same on_cells programs_are_one b ks same fits others (dump_of o.dumps c q.distribution.owners q.distribution.ranks.items q.plan steps)
+                ap (run_answer first b) (dumps_same steps)
+                ∙ output_same on_cells programs_are_one b ks same fits others first (dump_of o.dumps c q.distribution.owners q.distribution.ranks.items q.plan steps)
 
         -- ---- schedules
 
         steps_agree : (order : Order) → (x y : Answer) → FromOrder b p order x → FromOrder c q order y → x ≡ y
         steps_agree order x y f g =
-            given_alike (StepsOf (outline_of b p) (group_of o) order) (λ steps x. x ≡ planned_answer j o.dumps b p steps) (λ steps x. x ≡ planned_answer j o.dumps c q steps) (λ x y. x ≡ y)
+            given_alike (StepsOf (outline_of b p) (group_of o) order) (λ steps x. x ≡ planned_answer j o.dumps (from b) p steps) (λ steps x. x ≡ planned_answer j o.dumps (from c) q steps) (λ x y. x ≡ y)
             (λ r s h k. ap refused (one.refusals r s h k)) one.apart one.values
             (λ steps l x y e f. e ∙ answers steps ∙ sym f)
-            x y f (subst (λ z. given (StepsOf z (group_of o) order) (λ steps x. x ≡ planned_answer j o.dumps c q steps) y) (sym outlines_same) g)
+            x y f (subst (λ z. given (StepsOf z (group_of o) order) (λ steps x. x ≡ planned_answer j o.dumps (from c) q steps) y) (sym outlines_same) g)
           where
             one : IsOne (StepsOf (outline_of b p) (group_of o) order)
             one = steps_are_one schedules.steps_decide schedules.missing_is schedules.left_is schedules.one_read schedules.drawn_once (outline_of b p) (group_of o) order
@@ -230,7 +233,25 @@ module _ (on_cells : RunsAnswerOnCells) (programs_are_one : ProgramsAreOne) (dum
         both : (x y : Result Perms NumbersRefusal) → NumbersAre b.mesh o.renumber x → NumbersAre b.mesh o.renumber y → SameOutcome SamePerms x y
         both x y h k = one_numbers b.mesh o.renumber x y fits.mesh h k
 
+  -- ---- the items that run
+
+  chosen_agree : (j : PlanJob) (o : Options) (files : Files) → 0 < o.ranks → (b : BoundValue) (ks : List RKernel) → map rkernel_of b.kernels ≡ map rkernel_of ks
+      → (c d : Chosen) → SameItems b ks c d → (x y : Answer) → ChosenAnswers j o files c x → ChosenAnswers j o files d y → x ≡ y
+  chosen_agree j o files some b ks same c d items x y h k =
+      let other = subst (λ e. ChosenAnswers j o files e y) items.1 k in
+      numbers_agree j o files some c.program ks (ap (map rkernel_of) items.0 ∙ same) h.0 other.0 c.first x y h.1 other.1
+
+  cuts_agree : (j : PlanJob) (o : Options) (files : Files) → 0 < o.ranks → (b : BoundValue) (ks : List RKernel) → map rkernel_of b.kernels ≡ map rkernel_of ks → Fits b
+      → (x y : Answer) → given (CutOf o.stretch files) (λ cut. given (ChosenIs cut b) (ChosenAnswers j o files)) x
+      → given (CutOf o.stretch files) (λ cut. given (ChosenIs cut (with_kernels b ks)) (ChosenAnswers j o files)) y → x ≡ y
+  cuts_agree j o files some b ks same fits =
+      let one = cut_is_one o.stretch files in
+      given_alike (CutOf o.stretch files) _ _ (λ x y. x ≡ y) (λ r s h k. ap refused (one.refusals r s h k)) one.apart one.values
+      (λ cut _.
+      given_both (ChosenIs cut b) (ChosenIs cut (with_kernels b ks)) (ChosenAnswers j o files) (ChosenAnswers j o files) (λ x y. x ≡ y)
+      (λ r s h k. ap refused (chosen_refusals b ks states cut r s h k)) (chosen_refused b ks states cut) (refused_chosen b ks states cut)
+      (λ c d h k. chosen_agree j o files some b ks same c d (chosen_same b ks states fits cut c d h k)))
+
   pub plans_alike : (j : PlanJob) (o : Options) (files : Files) → 0 < o.ranks → (b c : BoundValue) → IsSame b c → (x y : Answer) → PlannedAnswers j o files b x → PlannedAnswers j o files c y → x ≡ y
   plans_alike j o files some b c same x y h k =
-      let other = subst (λ d. PlannedAnswers j o files d y) same.0 k in
-      numbers_agree j o files some b c.kernels same.1 h.0 other.0 x y h.1 other.1
+      cuts_agree j o files some b c.kernels same.1 h.0 x y h.1 (subst (λ d. PlannedAnswers j o files d y) same.0 k).1

@@ -1,8 +1,6 @@
 -- There is an answer to words that ask for a plan, of a bound program that fits and whose maps are narrow.
 use Rattle.std.proofs.Common.{◌≡◌, ◌<◌, ◌≤◌, ◌⊎◌, inl, inr, ℕ, List, Result, Ok, Err, refl, sym, subst}
-use Rattle.std.specs.Prelude.{All}
 use Rattle.std.proofs.lemmas.Bool.{cases_lt}
-use Rattle.mesh_decl.specs.declared.decl.MapDecl.{MapDecl}
 use Rattle.mesh_decl.specs.declared.owners.Owners.{Owners}
 use Rattle.mesh_decl.specs.declared.owners.Perms.{Perms}
 use Rattle.mesh_decl.specs.Mesh.{MeshValue, IsMesh}
@@ -16,8 +14,9 @@ use Rattle.distribute.specs.Distributions.{IsDistribution}
 use Rattle.schedule_steps.specs.Outline.{Outline}
 use Rattle.schedule_steps.specs.declared.step.Step.{Step}
 use Rattle.bound_program.specs.Values.{BoundValue}
-use Rattle.bound_program.specs.Limits.{max_dim}
 use Rattle.bound_program.specs.Fits.{Fits}
+use Rattle.checkpoint.specs.Laws.{HeadsFit, TailsFit}
+use Rattle.state_texts.specs.Laws.{SaysSomething}
 use Rattle.loop_plan.specs.Distributed.{IsDistributed}
 use Rattle.loop_plan.specs.StepCounts.{program_steps}
 use Rattle.loop_plan.specs.Values.{PlanValue}
@@ -29,17 +28,13 @@ use Rattle.command_words.specs.Refusal.{PartitionBytes, PlanBytes, ScheduleBytes
 use Rattle.answer_lines.specs.Lines.{Answer, most}
 use Rattle.answers.specs.Said.{SaysOwners}
 use Rattle.command_words.specs.Words.{PlanJob, Parting, ByRule, ByFile, Blocks, OfSize, AsPlanned, Schedule, Standard, Drawn, Written, Options, group_of}
-use Rattle.answers.specs.Judgements.{IsHeld, NumbersOf, PartsOf, OwnersOf, Colouring, Least, Told, ColouringOf, Planned, PlanIs, Order, InStandardOrder, BySeed, ByText, OrderOf, outline_of, StepsOf}
-use Rattle.answers.specs.Answers.{PlannedAnswers}
+use Rattle.answers.specs.Judgements.{IsHeld, Chosen, NumbersOf, PartsOf, OwnersOf, Colouring, Least, Told, ColouringOf, Planned, PlanIs, Order, InStandardOrder, BySeed, ByText, OrderOf, outline_of, StepsOf}
+use Rattle.answers.specs.Answers.{ChosenAnswers, PlannedAnswers}
 use Rattle.command_words.specs.Laws.{HaveFewPlaces, AreWithin}
 use Rattle.answer_laws.proofs.Given.{given_one, given_with}
 use Rattle.answer_laws.proofs.Held.{held_exists}
 use Rattle.answer_laws.proofs.SaidOnce.{numbers_said, partition_said}
-
--- what a bound program has of which there is a plan
-pub record Suits (b : BoundValue) : Type 0 where
-  pub fits : Fits b
-  pub narrow : All (λ (d : MapDecl). d.dim ≤ max_dim) b.mesh.maps
+use Rattle.answer_laws.proofs.Stretches.{Suits, SuitsInParts, cut_exists, chosen_exists, chosen_suits}
 
 -- there are the steps that a schedule is asked for by, or a refusal
 abbrev pub SchedulesExist : Type 0
@@ -141,14 +136,21 @@ module _ (some_numbers : NumbersExist) (some_owners : OwnersExist) (outcomes_fit
 
   -- ---- all
 
-  pub planned_exist : (j : PlanJob) (o : Options) (files : Files) → AreWithin o → (b : BoundValue) → Suits b → ¬ ((a : Answer) → ¬ PlannedAnswers j o files b a)
-  planned_exist j o files within b suits =
+  chosen_answered : (j : PlanJob) (o : Options) (files : Files) → AreWithin o → (c : Chosen) → Suits c.program → ¬ ((a : Answer) → ¬ ChosenAnswers j o files c a)
+  chosen_answered j o files within c suits =
       given_with suits.fits
-      (given_one _ _ (numbers_exist o b suits.fits.mesh) (λ n numbered.
+      (given_one _ _ (numbers_exist o c.program suits.fits.mesh) (λ n numbered.
       given_one _ _ (parts_exist o.parting files) (λ parts _.
-      given_one _ _ (owners_exist o b parts suits.fits.mesh within) (λ u owned.
+      given_one _ _ (owners_exist o c.program parts suits.fits.mesh within) (λ u owned.
       given_one _ _ (colouring_exists o.blocks files) (λ colouring told.
-      given_one _ _ (plan_exists colouring b u n (has_places o.blocks files colouring within.places told) suits
-      (outcomes_fit.owners b.mesh o.ranks parts u within.some within.few owned).1 (outcomes_fit.numbers b.mesh o.renumber n numbered)) (λ p _.
+      given_one _ _ (plan_exists colouring c.program u n (has_places o.blocks files colouring within.places told) suits
+      (outcomes_fit.owners c.program.mesh o.ranks parts u within.some within.few owned).1 (outcomes_fit.numbers c.program.mesh o.renumber n numbered)) (λ p _.
       given_one _ _ (order_exists o.schedule files) (λ order _.
-      given_one _ _ (steps_exist (outline_of b p) (group_of o) order) (λ steps _ last. last _ refl))))))))
+      given_one _ _ (steps_exist (outline_of c.program p) (group_of o) order) (λ steps _ last. last _ refl))))))))
+
+  pub planned_exist : HeadsFit → TailsFit → SaysSomething → (j : PlanJob) (o : Options) (files : Files) → AreWithin o → (b : BoundValue) → SuitsInParts b → ¬ ((a : Answer) → ¬ PlannedAnswers j o files b a)
+  planned_exist heads_fit tails_fit some_state j o files within b suits =
+      given_with suits.suits.fits
+      (given_one _ _ (cut_exists o.stretch files) (λ cut _.
+      given_one _ _ (chosen_exists some_state cut b suits.suits.fits.mesh) (λ c chosen.
+      chosen_answered j o files within c (chosen_suits heads_fit tails_fit cut b suits c chosen))))

@@ -32,14 +32,15 @@ module _ (walks_alike : WalksAlike) (kernels_are_one : KernelsAreOne) where
       same_found (site_found b) (site_found (with_kernels b ls)) (λ site. same_by (kernel_at b.kernels site.kernel) (kernel_at ls site.kernel) (kernels_are_one b.kernels ls e site.kernel) (modes_of b site)) b.sites
 
 -- what a program's run without ranks printed, and these bytes behind it where it has no fault
-abbrev ran_by : List ℕ → Program KernelFault → Answer
-ran_by dump p = ran (stop_in (sequential p)) (unless_stopped (stop_in (sequential p)) (printed_in (sequential p)) dump)
+abbrev ran_by : ℕ → List ℕ → Program KernelFault → Answer
+ran_by first dump p = ran first (stop_in (sequential p)) (unless_stopped (stop_in (sequential p)) (printed_in (sequential p)) dump)
 
 pub runs_answer_on_cells : RunsAreOne → RunsAnswerOnCells
-runs_answer_on_cells runs_are_one b fits dump =
-    ap₂ (λ x bytes. ran x (unless_stopped x bytes dump)) (runs_are_one b fits).first_fault (runs_are_one b fits).printed
+runs_answer_on_cells runs_are_one first b fits dump =
+    ap₂ (λ x bytes. ran first x (unless_stopped x bytes dump)) (runs_are_one b fits).first_fault (runs_are_one b fits).printed
 
 module _ (on_cells : RunsAnswerOnCells) (programs_are_one : ProgramsAreOne) (b : BoundValue) (ls : List RKernel)
     (same : map rkernel_of b.kernels ≡ map rkernel_of ls) (fits : Fits b) (others : Fits (with_kernels b ls)) where
-  pub output_same : (dump : List ℕ) → run_answer b dump ≡ run_answer (with_kernels b ls) dump
-  output_same dump = on_cells b fits dump ∙ ap (ran_by dump) (programs_are_one b ls same) ∙ sym (on_cells (with_kernels b ls) others dump)
+  pub output_same : (first : ℕ) (dump : List ℕ) → run_answer first b dump ≡ run_answer first (with_kernels b ls) dump
+  output_same first dump =
+      on_cells first b fits dump ∙ ap (ran_by first dump) (programs_are_one b ls same) ∙ sym (on_cells first (with_kernels b ls) others dump)

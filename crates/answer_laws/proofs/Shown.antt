@@ -5,13 +5,14 @@ use Rattle.schedule_model.specs.Sequential.{Stop}
 use Rattle.schedule_steps.specs.declared.step.Step.{Step}
 use Rattle.bound_program.specs.Values.{BoundValue}
 use Rattle.sequential_run.specs.Program.{first_fault}
+use Rattle.checkpoint.specs.Laws.{later}
 use Rattle.mesh_text.specs.Canonical.{canonical}
 use Rattle.op_outside.specs.Outside.{Files, appended, AppendsFront}
-use Rattle.command_words.specs.Refusal.{Refusal, Usage, CannotRead, NoTokens, NoTree, TooDeep, BadName, BadBinding, BadTarget, BadAccess, BadMesh, BadPart, BadPartition, BadPlan, BadSchedule, BadStep, EarlyStep, LeftStep, BadStub, BeyondLimit, status_of}
+use Rattle.command_words.specs.Refusal.{Refusal, Usage, CannotRead, NoTokens, NoTree, TooDeep, BadName, BadBinding, BadTarget, BadAccess, BadMesh, BadCut, BadState, BadPart, BadPartition, BadPlan, BadSchedule, BadStep, EarlyStep, LeftStep, BadStub, BeyondLimit, status_of}
 use Rattle.answer_lines.specs.Lines.{Answer, done, refused, faulted}
 use Rattle.command_words.specs.Words.{PlanJob, Check, ShowsPlan, ShowsSchedule, RunsPlan, Options, group_of, Input, Command, OnPlan, Converts, Translates, Restores, ShowsUsage, ShowsVersion, WordsAre}
-use Rattle.answers.specs.Judgements.{TextIs, SourceIs, TreeIs, TranslationIs, RestorationIs, TypesAre, FileIs, MeshIs, EntriesAre, BoundIs, AccessesAre, NumbersOf, PartsOf, OwnersOf, ColouringOf, Planned, PlanIs, OrderOf, outline_of, StepsOf}
-use Rattle.answers.specs.Answers.{given, ran, planned_answer, PlannedAnswers, BoundAnswers, CommandAnswers, Answers}
+use Rattle.answers.specs.Judgements.{TextIs, SourceIs, TreeIs, TranslationIs, RestorationIs, TypesAre, FileIs, MeshIs, EntriesAre, BoundIs, AccessesAre, CutOf, Chosen, ChosenIs, NumbersOf, PartsOf, OwnersOf, ColouringOf, Planned, PlanIs, OrderOf, outline_of, StepsOf}
+use Rattle.answers.specs.Answers.{given, ran, planned_answer, ChosenAnswers, PlannedAnswers, BoundAnswers, CommandAnswers, Answers}
 use Rattle.answers.specs.Endings.{Ending, Answered, OutOfMemory, Unread, Unwritten, ending_status, unwritten_status, Call, Tells, IsWritten, EndsBy, Ends, Shows, IsShown, IsSilent}
 use Rattle.answers.specs.Laws.{Agree, AnswersAgree}
 use Rattle.answer_laws.proofs.Complete.{tells_answer, tells_some}
@@ -27,25 +28,29 @@ given_form : {A : Type 0} (J : Result A Refusal → Type 0) (f : A → Answer �
 given_form J f rest a (inl h) = IsRefused h.0 h.2
 given_form J f rest a (inr h) = rest h.0 a h.2
 
-ran_form : (o : Option (Stop KernelFault)) (bytes : List ℕ) (a : Answer) → a ≡ ran o bytes → Form a
-ran_form None bytes a e = IsDone bytes e
-ran_form (Some x) bytes a e = IsFaulted bytes x e
+ran_form : (first : ℕ) (o : Option (Stop KernelFault)) (bytes : List ℕ) (a : Answer) → a ≡ ran first o bytes → Form a
+ran_form first None bytes a e = IsDone bytes e
+ran_form first (Some x) bytes a e = IsFaulted bytes (later first x) e
 
-plan_job_form : (j : PlanJob) (dumps : Bool) (b : BoundValue) (p : Planned) (steps : List Step) (a : Answer) → a ≡ planned_answer j dumps b p steps → Form a
-plan_job_form Check dumps b p steps a e = IsDone _ e
-plan_job_form ShowsPlan dumps b p steps a e = IsDone _ e
-plan_job_form ShowsSchedule dumps b p steps a e = IsDone _ e
-plan_job_form RunsPlan dumps b p steps a e = ran_form (first_fault b) _ a e
+plan_job_form : (j : PlanJob) (dumps : Bool) (c : Chosen) (p : Planned) (steps : List Step) (a : Answer) → a ≡ planned_answer j dumps c p steps → Form a
+plan_job_form Check dumps c p steps a e = IsDone _ e
+plan_job_form ShowsPlan dumps c p steps a e = IsDone _ e
+plan_job_form ShowsSchedule dumps c p steps a e = IsDone _ e
+plan_job_form RunsPlan dumps c p steps a e = ran_form c.first (first_fault c.program) _ a e
+
+chosen_form : (j : PlanJob) (o : Options) (files : Files) (c : Chosen) (a : Answer) → ChosenAnswers j o files c a → Form a
+chosen_form j o files c a h =
+    given_form (NumbersOf o c.program) _ (λ n.
+    given_form (PartsOf o.parting files) _ (λ parts.
+    given_form (OwnersOf o c.program parts) _ (λ u.
+    given_form (ColouringOf o.blocks files) _ (λ colouring.
+    given_form (PlanIs colouring c.program u n) _ (λ p.
+    given_form (OrderOf o.schedule files) _ (λ order.
+    given_form (StepsOf (outline_of c.program p) (group_of o) order) (λ steps x. x ≡ planned_answer j o.dumps c p steps) (plan_job_form j o.dumps c p))))))) a h.1
 
 planned_form : (j : PlanJob) (o : Options) (files : Files) (b : BoundValue) (a : Answer) → PlannedAnswers j o files b a → Form a
 planned_form j o files b a h =
-    given_form (NumbersOf o b) _ (λ n.
-    given_form (PartsOf o.parting files) _ (λ parts.
-    given_form (OwnersOf o b parts) _ (λ u.
-    given_form (ColouringOf o.blocks files) _ (λ colouring.
-    given_form (PlanIs colouring b u n) _ (λ p.
-    given_form (OrderOf o.schedule files) _ (λ order.
-    given_form (StepsOf (outline_of b p) (group_of o) order) (λ steps x. x ≡ planned_answer j o.dumps b p steps) (plan_job_form j o.dumps b p))))))) a h.1
+    given_form (CutOf o.stretch files) _ (λ cut. given_form (ChosenIs cut b) (ChosenAnswers j o files) (chosen_form j o files)) a h.1
 
 bound_form : (rest : BoundValue → Answer → Type 0) → ((b : BoundValue) (a : Answer) → rest b a → Form a) → (input : Input) (files : Files) (a : Answer) → BoundAnswers rest input files a → Form a
 bound_form rest form input files =
@@ -88,6 +93,8 @@ not_four (BadBinding n at) e = cc
 not_four (BadTarget at m x p) e = cc
 not_four (BadAccess n at) e = cc
 not_four (BadMesh n line) e = cc
+not_four (BadCut item) e = cc
+not_four (BadState n line) e = cc
 not_four (BadPart n) e = cc
 not_four (BadPartition n line) e = cc
 not_four (BadPlan n line) e = cc

@@ -21,6 +21,7 @@ use Rattle.mesh_decl.specs.declared.owners.Owners.{Owners}
 use Rattle.mesh_decl.specs.declared.owners.Perms.{Perms}
 use Rattle.bound_program.specs.Values.{BoundValue}
 use Rattle.sequential_run.specs.Program.{first_fault}
+use Rattle.checkpoint.specs.Laws.{later}
 use Rattle.mesh_text.specs.Canonical.{canonical}
 use Rattle.op_outside.specs.Outside.{Files, Rose}
 use Rattle.clap.specs.Walk.{Row, first_of}
@@ -28,7 +29,7 @@ use Rattle.clap.specs.Simple.{matches_of}
 use Rattle.clap.specs.Kinds.{Kinds}
 use Rattle.clap.specs.Faults.{fault_of}
 use Rattle.clap.specs.declared.error.kind.ErrorKind.TheVariants as kind
-use Rattle.command_words.specs.Refusal.{Limit, SourceBytes, MeshBytes, Refusal, Usage, CannotRead, NoTokens, NoTree, TooDeep, BadName, BadBinding, BadTarget, BadAccess, BadMesh, BadPart, BadPartition, BadPlan, BadSchedule, BadStep, EarlyStep, LeftStep, BadStub, BeyondLimit, PartitionBytes, PlanBytes, ScheduleBytes, status_of}
+use Rattle.command_words.specs.Refusal.{Limit, SourceBytes, MeshBytes, Refusal, Usage, CannotRead, NoTokens, NoTree, TooDeep, BadName, BadBinding, BadTarget, BadAccess, BadMesh, BadCut, BadState, BadPart, BadPartition, BadPlan, BadSchedule, BadStep, EarlyStep, LeftStep, BadStub, BeyondLimit, StateBytes, PartitionBytes, PlanBytes, ScheduleBytes, status_of}
 use Rattle.answer_lines.specs.Lines.{Answer, done, refused, faulted}
 use Rattle.part_text.specs.declared.refusals.PartRefusal.{PartRefusal}
 use Rattle.part_text.specs.declared.refusals.PartRefusal.TheVariants as part
@@ -41,9 +42,9 @@ use Rattle.schedule_steps.specs.declared.step.Step.{Step}
 use Rattle.schedule_steps.specs.Outline.{Outline}
 use Rattle.distribute.specs.Parts.{NumbersRefusal, UnknownMap, OwnersRefusal, NoDat, NoMap, Unspelled}
 use Rattle.answers.specs.Said.{SaysLex, SaysSource, SaysTypes, SaysTranslation, SaysMesh, SaysBinding, SaysNumbers, SaysPartition, SaysOwners, SaysSchedule, SaysStep, SaysEnd, SaysNext}
-use Rattle.command_words.specs.Words.{PlanJob, Check, ShowsPlan, ShowsSchedule, RunsPlan, Parting, ByRule, ByFile, Blocks, OfSize, AsPlanned, Schedule, Standard, Drawn, Written, Options, group_of, Input, InFiles, OfSample, Command, OnPlan, Converts, Translates, Restores, ShowsUsage, ShowsVersion, WordsAre, OptionWords, command, options_in, or_usage, by_job, asked, judged, names_from, names_by, names_in_blocks, names_at, names_of, named_by, names_in}
-use Rattle.answers.specs.Judgements.{IsHeld, TextIs, SourceIs, TreeIs, TranslationIs, RestorationIs, TypesAre, FileIs, MeshIs, EntriesAre, BoundIs, AccessesAre, NumbersOf, PartsOf, OwnersOf, Colouring, Least, Told, ColouringOf, IsUnplanned, Planned, PlanIs, Order, InStandardOrder, BySeed, ByText, OrderOf, outline_of, StepsOf}
-use Rattle.answers.specs.Answers.{given, ran, planned_answer, PlannedAnswers, BoundAnswers, CommandAnswers, Answers}
+use Rattle.command_words.specs.Words.{PlanJob, Check, ShowsPlan, ShowsSchedule, RunsPlan, Stretch, Whole, Before, From, Parting, ByRule, ByFile, Blocks, OfSize, AsPlanned, Schedule, Standard, Drawn, Written, Options, group_of, Input, InFiles, OfSample, Command, OnPlan, Converts, Translates, Restores, ShowsUsage, ShowsVersion, WordsAre, OptionWords, command, options_in, or_usage, by_job, asked, judged, names_from, names_before, names_by, names_in_blocks, names_at, names_of, named_by, names_in}
+use Rattle.answers.specs.Judgements.{IsHeld, TextIs, SourceIs, TreeIs, TranslationIs, RestorationIs, TypesAre, FileIs, MeshIs, EntriesAre, BoundIs, AccessesAre, Cut, Uncut, BeforeItem, FromText, CutOf, Chosen, ChosenIs, NumbersOf, PartsOf, OwnersOf, Colouring, Least, Told, ColouringOf, IsUnplanned, Planned, PlanIs, Order, InStandardOrder, BySeed, ByText, OrderOf, outline_of, StepsOf}
+use Rattle.answers.specs.Answers.{given, ran, planned_answer, ChosenAnswers, PlannedAnswers, BoundAnswers, CommandAnswers, Answers}
 use Rattle.answers.specs.Endings.{Ending, Answered, OutOfMemory, Unread, Unwritten, ending_status, unwritten_status, Call, HoldAll, Tells, IsWritten, EndsBy, Ends, IsUsage, IsUnread}
 use Rattle.answer_laws.proofs.Complete.{tells_some, unwritten_is}
 
@@ -66,6 +67,8 @@ other_status (BadBinding n at) o e = cc
 other_status (BadTarget at m x p) o e = cc
 other_status (BadAccess n at) o e = cc
 other_status (BadMesh n line) o e = cc
+other_status (BadCut item) o e = cc
+other_status (BadState n line) o e = cc
 other_status (BadPart n) o e = cc
 other_status (BadPartition n line) o e = cc
 other_status (BadPlan n line) o e = cc
@@ -87,6 +90,8 @@ other_three (BadBinding n at) o e = cc
 other_three (BadTarget at m x p) o e = cc
 other_three (BadAccess n at) o e = cc
 other_three (BadMesh n line) o e = cc
+other_three (BadCut item) o e = cc
+other_three (BadState n line) o e = cc
 other_three (BadPart n) o e = cc
 other_three (BadPartition n line) o e = cc
 other_three (BadPlan n line) o e = cc
@@ -196,12 +201,22 @@ owners_other (NoDat name) r h = is_other r _ h tt
 owners_other (NoMap name) r h = is_other r _ h tt
 owners_other (Unspelled e) r h = partition_other e r h
 
--- those of the names that a partition and a schedule come from
+-- those of the names that a state, a partition, a plan and a schedule come from
 abbrev Has : (names of : List (List ℕ)) → Type 0
 Has names of = (name : List ℕ) → Contains of name → Contains names name
 
 one : (name : List ℕ) → Contains (name ∷ []) name
 one name = (0, omega arith, refl)
+
+cut_just : (names : List (List ℕ)) (x : Stretch) → Has names (names_before x) → (files : Files) (r : Refusal) → CutOf x files (Err r) → IsJust names files r
+cut_just names Whole has files r h = absurd (let bad : ⊥ = cc in bad)
+cut_just names (Before item) has files r h = absurd (let bad : ⊥ = cc in bad)
+cut_just names (From name) has files r h = held_just names files StateBytes name r (has name (one name)) h
+
+chosen_other : (cut : Cut) (b : BoundValue) (r : Refusal) → ChosenIs cut b (Err r) → IsOther r
+chosen_other Uncut b r h = absurd (let bad : ⊥ = cc in bad)
+chosen_other (BeforeItem item) b r h = is_other r _ h.1 tt
+chosen_other (FromText bytes) b r h = is_other r _ h.3 tt
 
 parts_just : (names : List (List ℕ)) (p : Parting) → Has names (names_by p) → (files : Files) (r : Refusal) → PartsOf p files (Err r) → IsJust names files r
 parts_just names (ByRule rule) has files r h = absurd (let bad : ⊥ = cc in bad)
@@ -308,9 +323,9 @@ module _ (names : List (List ℕ)) (files : Files) where
       → IsSound names files a
   given_other J f others rest = given_sound J f (λ r j. just names files r (others r j)) rest
 
-  ran_sound : (o : Option (Stop KernelFault)) (bytes : List ℕ) (a : Answer) → a ≡ ran o bytes → IsSound names files a
-  ran_sound None bytes a e = done_sound bytes a e
-  ran_sound (Some x) bytes a e = faulted_sound bytes x a e
+  ran_sound : (first : ℕ) (o : Option (Stop KernelFault)) (bytes : List ℕ) (a : Answer) → a ≡ ran first o bytes → IsSound names files a
+  ran_sound first None bytes a e = done_sound bytes a e
+  ran_sound first (Some x) bytes a e = faulted_sound bytes (later first x) a e
 
   source_just : (input : Input) → Has names (names_from input) → (r : Refusal) → SourceIs input files (Err r) → IsJust names files r
   source_just (InFiles source mesh) has r h = held_just names files SourceBytes source r (has source (0, omega arith, refl)) h
@@ -320,25 +335,32 @@ module _ (names : List (List ℕ)) (files : Files) where
   mesh_just (InFiles source mesh) has r h = held_just names files MeshBytes mesh r (has mesh (1, omega arith, refl)) h
   mesh_just (OfSample side) has r h = absurd (let bad : ⊥ = cc in bad)
 
-  plan_job_sound : (j : PlanJob) (dumps : Bool) (b : BoundValue) (p : Planned) (steps : List Step) (a : Answer) → a ≡ planned_answer j dumps b p steps
+  plan_job_sound : (j : PlanJob) (dumps : Bool) (c : Chosen) (p : Planned) (steps : List Step) (a : Answer) → a ≡ planned_answer j dumps c p steps
       → IsSound names files a
-  plan_job_sound Check dumps b p steps a e = done_sound _ a e
-  plan_job_sound ShowsPlan dumps b p steps a e = done_sound _ a e
-  plan_job_sound ShowsSchedule dumps b p steps a e = done_sound _ a e
-  plan_job_sound RunsPlan dumps b p steps a e = ran_sound (first_fault b) _ a e
+  plan_job_sound Check dumps c p steps a e = done_sound _ a e
+  plan_job_sound ShowsPlan dumps c p steps a e = done_sound _ a e
+  plan_job_sound ShowsSchedule dumps c p steps a e = done_sound _ a e
+  plan_job_sound RunsPlan dumps c p steps a e = ran_sound c.first (first_fault c.program) _ a e
 
-  planned_sound : (j : PlanJob) (o : Options) → Has names (names_by o.parting) → Has names (names_in_blocks o.blocks) → Has names (names_at o.schedule) → (b : BoundValue) (a : Answer)
+  chosen_sound : (j : PlanJob) (o : Options) → Has names (names_by o.parting) → Has names (names_in_blocks o.blocks) → Has names (names_at o.schedule) → (c : Chosen) (a : Answer)
+      → ChosenAnswers j o files c a
+      → IsSound names files a
+  chosen_sound j o has_part has_blocks has_order c a h =
+      given_other (NumbersOf o c.program) _ (λ r h. numbers_other h.0 r h.2) (λ n.
+      given_sound (PartsOf o.parting files) _ (parts_just names o.parting has_part files) (λ parts.
+      given_other (OwnersOf o c.program parts) _ (λ r h. owners_other h.0 r h.2) (λ u.
+      given_sound (ColouringOf o.blocks files) _ (colouring_just names o.blocks has_blocks files) (λ x.
+      given_other (PlanIs x c.program u n) _ (plan_other x c.program u n) (λ p.
+      given_sound (OrderOf o.schedule files) _ (order_just names o.schedule has_order files) (λ order.
+      given_other (StepsOf (outline_of c.program p) (group_of o) order) (λ steps x. x ≡ planned_answer j o.dumps c p steps)
+      (λ r h. steps_other (outline_of c.program p) (group_of o) order r h) (plan_job_sound j o.dumps c p))))))) a h.1
+
+  planned_sound : (j : PlanJob) (o : Options) → Has names (names_before o.stretch) → Has names (names_by o.parting) → Has names (names_in_blocks o.blocks) → Has names (names_at o.schedule) → (b : BoundValue) (a : Answer)
       → PlannedAnswers j o files b a
       → IsSound names files a
-  planned_sound j o has_part has_blocks has_order b a h =
-      given_other (NumbersOf o b) _ (λ r h. numbers_other h.0 r h.2) (λ n.
-      given_sound (PartsOf o.parting files) _ (parts_just names o.parting has_part files) (λ parts.
-      given_other (OwnersOf o b parts) _ (λ r h. owners_other h.0 r h.2) (λ u.
-      given_sound (ColouringOf o.blocks files) _ (colouring_just names o.blocks has_blocks files) (λ x.
-      given_other (PlanIs x b u n) _ (plan_other x b u n) (λ p.
-      given_sound (OrderOf o.schedule files) _ (order_just names o.schedule has_order files) (λ order.
-      given_other (StepsOf (outline_of b p) (group_of o) order) (λ steps x. x ≡ planned_answer j o.dumps b p steps)
-      (λ r h. steps_other (outline_of b p) (group_of o) order r h) (plan_job_sound j o.dumps b p))))))) a h.1
+  planned_sound j o has_state has_part has_blocks has_order b a h =
+      given_sound (CutOf o.stretch files) _ (cut_just names o.stretch has_state files) (λ cut.
+      given_other (ChosenIs cut b) (ChosenAnswers j o files) (chosen_other cut b) (chosen_sound j o has_part has_blocks has_order)) a h.1
 
   bound_sound : (rest : BoundValue → Answer → Type 0) → ((b : BoundValue) (a : Answer) → rest b a → IsSound names files a)
       → (input : Input)
@@ -373,17 +395,25 @@ right (x ∷ xs) ys name c = further (right xs ys name c)
 
 command_sound : (c : Command) (files : Files) (a : Answer) → CommandAnswers c files a → IsSound (names_of c) files a
 command_sound (OnPlan j o input) files a h =
-    bound_sound (names_of (OnPlan j o input)) files (PlannedAnswers j o files)
-    (planned_sound (names_of (OnPlan j o input)) files j o (λ name c. behind name (first name (right (names_from input) (names_by o.parting) name c)))
-    (λ name c. behind name (right (names_from input ++ names_by o.parting) (names_in_blocks o.blocks) name c))
-    (right (names_from input ++ names_by o.parting ++ names_in_blocks o.blocks) (names_at o.schedule)))
-    input (λ name c. behind name (first name (left (names_from input) (names_by o.parting) name c))) a h
+    bound_sound names files (PlannedAnswers j o files)
+    (planned_sound names files j o
+    (λ name c. with_input name (right (names_from input) (names_before o.stretch) name c))
+    (λ name c. with_owners name (right (names_from input ++ names_before o.stretch) (names_by o.parting) name c))
+    (λ name c. with_blocks name (right (names_from input ++ names_before o.stretch ++ names_by o.parting) (names_in_blocks o.blocks) name c))
+    (right (names_from input ++ names_before o.stretch ++ names_by o.parting ++ names_in_blocks o.blocks) (names_at o.schedule)))
+    input (λ name c. with_input name (left (names_from input) (names_before o.stretch) name c)) a h
   where
-    first : Has (names_from input ++ names_by o.parting ++ names_in_blocks o.blocks) (names_from input ++ names_by o.parting)
-    first = left (names_from input ++ names_by o.parting) (names_in_blocks o.blocks)
+    names : List (List ℕ)
+    names = names_of (OnPlan j o input)
 
-    behind : Has (names_of (OnPlan j o input)) (names_from input ++ names_by o.parting ++ names_in_blocks o.blocks)
-    behind = left (names_from input ++ names_by o.parting ++ names_in_blocks o.blocks) (names_at o.schedule)
+    with_blocks : Has names (names_from input ++ names_before o.stretch ++ names_by o.parting ++ names_in_blocks o.blocks)
+    with_blocks = left (names_from input ++ names_before o.stretch ++ names_by o.parting ++ names_in_blocks o.blocks) (names_at o.schedule)
+
+    with_owners : Has names (names_from input ++ names_before o.stretch ++ names_by o.parting)
+    with_owners name c = with_blocks name (left (names_from input ++ names_before o.stretch ++ names_by o.parting) (names_in_blocks o.blocks) name c)
+
+    with_input : Has names (names_from input ++ names_before o.stretch)
+    with_input name c = with_owners name (left (names_from input ++ names_before o.stretch) (names_by o.parting) name c)
 command_sound (Converts form mesh) files a h =
     given_sound (mesh ∷ []) files (FileIs mesh files) _ (λ r h. held_just (mesh ∷ []) files MeshBytes mesh r (one mesh) h) (λ text.
     given_other (mesh ∷ []) files (EntriesAre text) (λ es a. a ≡ done (canonical form es)) (λ r h. mesh_other h.0 r h.2)

@@ -8,4 +8,5 @@ use Rattle.answers.specs.Answers.{ran, run_answer}
 
 -- for a program that fits, both answer the same
 abbrev pub RunsAnswerOnCells : Type 0
-RunsAnswerOnCells = (b : BoundValue) → Fits b → (dump : List ℕ) → run_answer b dump ≡ ran (first_fault b) (run_output b dump)
+RunsAnswerOnCells =
+    (first : ℕ) (b : BoundValue) → Fits b → (dump : List ℕ) → run_answer first b dump ≡ ran first (first_fault b) (run_output b dump)

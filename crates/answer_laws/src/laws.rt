@@ -3,6 +3,7 @@
 ghost use Rattle.std.specs.Prelude.{ℕ};
 ghost use Rattle.answers.specs.Endings.{Call, Ends, IsComplete, IsUsage, IsUnread, IsShown, IsSilent, AreReported};
 ghost use Rattle.answers.specs.Laws.{AnswersAgree, AnswersExist};
+ghost use Rattle.answers.specs.Restarts.{RestartsAreWhole};
 ghost use Rattle.answer_laws.specs.OnCells.{RunsAnswerOnCells};
 
 /// A law: for a program that fits, what its run on whole arrays answers is what the run that the theorem on schedules is about
@@ -35,6 +36,7 @@ pub fn answers_agree()
     loop_plan::one_plan();
     loop_plan::one_plan_text();
     loop_plan::one_step_count();
+    state_texts::one_state();
     plan_cert::one_refusal();
     plan_cert::none_is_refused();
     plan_cert::plans_are_alike();
@@ -53,6 +55,7 @@ pub fn answers_exist()
 {
     command_words::options_are_within();
     c_lex::some_outcome();
+    c_lex::tokens_are_few();
     c_lex::one_outcome();
     c_reader::one_depth();
     c_reader::deep_is_far();
@@ -73,6 +76,9 @@ pub fn answers_exist()
     plan_exists::narrow_meshes_fit_memory();
     plan_exists::some_plan();
     plan_cert::some_outcome();
+    checkpoint::heads_fit();
+    checkpoint::tails_fit();
+    state_texts::some_state();
     schedule_steps::drawn_exists();
     schedule_text::one_outcome();
     step_judge::taken_lists_are_accepted();
@@ -117,3 +123,27 @@ pub fn calls_report_their_answers()
 pub fn others_write_nothing()
     ensures { (c : Call) (status : ℕ) → Ends c status → IsSilent c status }
 {}
+
+/// A law: what a run prints that stops before an item, and then one that goes on from the state that it wrote, is what the whole run
+/// prints, with the same fault or none, whatever the options of the three; or both the first and the whole stop before the item,
+/// alike.
+pub fn restarts_are_whole()
+    ensures { RestartsAreWhole }
+{
+    runs_answer_on_cells();
+    command_words::heads_are_not_dumped();
+    c_reader::one_tree();
+    name_resolution::one_answer();
+    mesh_text::one_outcome();
+    loop_bind::resolved_sources_are();
+    loop_bind::bound_programs_leave_constants();
+    loop_bind::bound_names_are_names();
+    run_model::runs_keep_range();
+    checkpoint::heads_stop();
+    checkpoint::heads_print_states();
+    checkpoint::tails_go_on();
+    state_texts::one_state();
+    state_texts::names_are_plain();
+    state_texts::cuts_are_read();
+    bound_plan::one_program();
+}

@@ -7,6 +7,7 @@ use Rattle.schedule_model.specs.Sequential.{Stop}
 use Rattle.bound_program.specs.Values.{BoundValue}
 use Rattle.bound_program.specs.Fits.{Fits}
 use Rattle.sequential_run.specs.Program.{printed, first_fault}
+use Rattle.checkpoint.specs.Laws.{later}
 use Rattle.loop_plan.specs.PlanText.{plan_text}
 use Rattle.schedule_steps.specs.declared.step.Step.{Step}
 use Rattle.schedule_text.specs.Written.{schedule_text}
@@ -20,22 +21,22 @@ use Rattle.answer_lines.specs.Lines.{Answer, done, refused, faulted}
 use Rattle.command_words.specs.Words.{PlanJob, Check, ShowsPlan, ShowsSchedule, RunsPlan, Options, group_of, Input}
 use Rattle.command_words.specs.Words.{Command, OnPlan, Converts, Translates, Restores, ShowsUsage, ShowsVersion, WordsAre}
 use Rattle.answers.specs.Judgements.{TextIs, SourceIs, TreeIs, TranslationIs, RestorationIs, TypesAre, FileIs, MeshIs, EntriesAre}
-use Rattle.answers.specs.Judgements.{BoundIs, AccessesAre}
+use Rattle.answers.specs.Judgements.{BoundIs, AccessesAre, CutOf, Chosen, ChosenIs}
 use Rattle.answers.specs.Judgements.{NumbersOf, PartsOf, OwnersOf, ColouringOf, Planned, PlanIs, OrderOf, outline_of, StepsOf}
 
 -- A judgement, and what comes after it: its refusal ends it, and what it gives goes on.
 abbrev pub given : {A : Type 0} → (Result A Refusal → Type 0) → (A → Answer → Type 0) → Answer → Type 0
 given {A} judged rest a = ((r : Refusal) × judged (Err r) × (a ≡ refused r)) ⊎ ((x : A) × judged (Ok x) × rest x a)
 
--- what a run printed, up to its first fault if it has one
-abbrev pub ran : Option (Stop KernelFault) → List ℕ → Answer
-ran None bytes = done bytes
-ran (Some x) bytes = faulted bytes x
+-- what a run printed, up to its first fault if it has one; its first item has that number in the whole program
+abbrev pub ran : (first : ℕ) → Option (Stop KernelFault) → List ℕ → Answer
+ran first None bytes = done bytes
+ran first (Some x) bytes = faulted bytes (later first x)
 
--- what running the program prints, each loop one element after another, up to the first fault if there is one; behind a run without a
--- fault this dump
-abbrev pub run_answer : BoundValue → (dump : List ℕ) → Answer
-run_answer b dump = ran (first_fault b) (unless_stopped (first_fault b) (printed b) dump)
+-- what running a program prints, whose first item has that number in the whole one: each loop one element after another, up to the first
+-- fault if there is one; behind a run without a fault this dump
+abbrev pub run_answer : (first : ℕ) → BoundValue → (dump : List ℕ) → Answer
+run_answer first b dump = ran first (first_fault b) (unless_stopped (first_fault b) (printed b) dump)
 
 -- The answer over a source and a mesh: seven judgements in this order, and then what is answered of the bound program.
 abbrev pub BoundAnswers : (BoundValue → Answer → Type 0) → Input → Files → Answer → Type 0
@@ -56,25 +57,30 @@ sizes_text b steps =
 
 -- What a job on a plan answers, where its steps are taken in this order: the sizes of the plan, its text, the text of the schedule, or
 -- what running the program prints, with the dump if it is asked for.
-abbrev pub planned_answer : PlanJob → (dumps : Bool) → BoundValue → Planned → List Step → Answer
-planned_answer Check dumps b p steps = done (sizes_text b p.plan.steps)
-planned_answer ShowsPlan dumps b p steps = done (plan_text b p.distribution.ranks.items p.plan)
-planned_answer ShowsSchedule dumps b p steps = done (schedule_text steps)
-planned_answer RunsPlan dumps b p steps =
-    run_answer b (dump_of dumps b p.distribution.owners p.distribution.ranks.items p.plan steps)
+abbrev pub planned_answer : PlanJob → (dumps : Bool) → Chosen → Planned → List Step → Answer
+planned_answer Check dumps c p steps = done (sizes_text c.program p.plan.steps)
+planned_answer ShowsPlan dumps c p steps = done (plan_text c.program p.distribution.ranks.items p.plan)
+planned_answer ShowsSchedule dumps c p steps = done (schedule_text steps)
+planned_answer RunsPlan dumps c p steps =
+    run_answer c.first c.program (dump_of dumps c.program p.distribution.owners p.distribution.ranks.items p.plan steps)
 
--- The answer of a job on the plan of a bound program: seven judgements in this order, and then what the job answers. The program fits,
--- as all that is bound does; this stands here since distributions and plans are one where it is so.
-abbrev pub PlannedAnswers : PlanJob → Options → Files → BoundValue → Answer → Type 0
-PlannedAnswers j o files b a =
-    Fits b
-    × given (NumbersOf o b) (λ n.
+-- The answer of a job on the plan of the items that run: seven judgements in this order, and then what the job answers. Their program
+-- fits, as all that is bound does, and its heads and tails do; this stands here since distributions and plans are one where it is so.
+abbrev pub ChosenAnswers : PlanJob → Options → Files → Chosen → Answer → Type 0
+ChosenAnswers j o files c a =
+    Fits c.program
+    × given (NumbersOf o c.program) (λ n.
     given (PartsOf o.parting files) (λ parts.
-    given (OwnersOf o b parts) (λ u.
+    given (OwnersOf o c.program parts) (λ u.
     given (ColouringOf o.blocks files) (λ colouring.
-    given (PlanIs colouring b u n) (λ p.
+    given (PlanIs colouring c.program u n) (λ p.
     given (OrderOf o.schedule files) (λ order.
-    given (StepsOf (outline_of b p) (group_of o) order) (λ steps x. x ≡ planned_answer j o.dumps b p steps))))))) a
+    given (StepsOf (outline_of c.program p) (group_of o) order) (λ steps x. x ≡ planned_answer j o.dumps c p steps))))))) a
+
+-- The answer of a job on the plan of a bound program, which fits: which of its items run, two judgements, and then what is answered of
+-- them.
+abbrev pub PlannedAnswers : PlanJob → Options → Files → BoundValue → Answer → Type 0
+PlannedAnswers j o files b a = Fits b × given (CutOf o.stretch files) (λ cut. given (ChosenIs cut b) (ChosenAnswers j o files)) a
 
 -- The answer of a job on the plan of a program over a mesh.
 abbrev pub PlanAnswers : PlanJob → Options → Input → Files → Answer → Type 0

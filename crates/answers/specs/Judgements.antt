@@ -30,6 +30,8 @@ use Rattle.distribute.specs.Parts.{Parts, Text, NumbersRefusal, OwnersRefusal}
 use Rattle.distribute.specs.Judgements.{NumbersAre, OwnersAre}
 use Rattle.distribute.specs.Distributions.{IsDistribution}
 use Rattle.local_mesh.specs.declared.types.RankMesh.{RankMesh}
+use Rattle.checkpoint.specs.Cut.{StateValue, CanCut, head, tail}
+use Rattle.state_texts.specs.Reading.{Says, SaysNone}
 use Rattle.loop_plan.specs.Values.{PlanValue}
 use Rattle.loop_plan.specs.Proper.{Proper, HasLeastColours}
 use Rattle.loop_plan.specs.StepCounts.{program_steps}
@@ -49,10 +51,10 @@ use Rattle.step_judge.specs.declared.refusal.ScheduleRefusal.{ScheduleRefusal}
 use Rattle.step_judge.specs.Verdicts.{judged, ended}
 use Rattle.op_translate.specs.declared.refusals.TransRefusal.{TransRefusal}
 use Rattle.op_translate.specs.Translation.{Translates, Restores}
-use Rattle.command_words.specs.Words.{Input, InFiles, OfSample, Parting, ByRule, ByFile, Blocks, OfSize, AsPlanned}
-use Rattle.command_words.specs.Words.{Schedule, Standard, Drawn, Written, Options}
-use Rattle.command_words.specs.Refusal.{Limit, SourceBytes, MeshBytes, MeshValues, PartitionBytes, PlanBytes, Steps, ScheduleBytes}
-use Rattle.command_words.specs.Refusal.{Refusal, CannotRead, BadAccess, BadPlan, BeyondLimit}
+use Rattle.command_words.specs.Words.{Input, InFiles, OfSample, Stretch, Whole, Before, From, Parting, ByRule, ByFile}
+use Rattle.command_words.specs.Words.{Blocks, OfSize, AsPlanned, Schedule, Standard, Drawn, Written, Options}
+use Rattle.command_words.specs.Refusal.{Limit, SourceBytes, MeshBytes, MeshValues, StateBytes, PartitionBytes, PlanBytes, Steps}
+use Rattle.command_words.specs.Refusal.{ScheduleBytes, Refusal, CannotRead, BadAccess, BadCut, BadState, BadPlan, BeyondLimit}
 use Rattle.answer_lines.specs.Lines.{most}
 use Rattle.answers.specs.Said.{SaysSource, SaysTypes, SaysTranslation, SaysMesh, SaysBinding, SaysNumbers, SaysOwners, SaysSchedule, SaysNext}
 
@@ -150,6 +152,34 @@ pub record IsFirstSite (b : BoundValue) (r : Refusal) : Type 0 where
 abbrev pub AccessesAre : BoundValue → Result (Unit {0}) Refusal → Type 0
 AccessesAre b (Ok _) = All (SiteObeys b) b.sites
 AccessesAre b (Err r) = IsFirstSite b r
+
+-- ---- the items that run
+
+-- what says which items run: all do; those before an item; or those from a state on, which a text tells
+pub data Cut : Type 0 where
+  Uncut : Cut
+  BeforeItem : (item : ℕ) → Cut
+  FromText : (bytes : List ℕ) → Cut
+
+-- that, as it is asked for: the text in a file, or what is told outright
+abbrev pub CutOf : Stretch → Files → Result Cut Refusal → Type 0
+CutOf Whole files r = r ≡ Ok Uncut
+CutOf (Before item) files r = r ≡ Ok (BeforeItem item)
+CutOf (From name) files (Ok cut) = (bytes : List ℕ) × IsHeld StateBytes name (files name) (Ok bytes) × (cut ≡ FromText bytes)
+CutOf (From name) files (Err r) = IsHeld StateBytes name (files name) (Err r)
+
+-- the program whose items run, and the number that the first of them has in the whole program
+pub record Chosen : Type 0 where
+  pub program : BoundValue
+  pub first : ℕ
+
+-- of a program the whole, or its head before an item, or its tail from a state on
+abbrev pub ChosenIs : Cut → BoundValue → Result Chosen Refusal → Type 0
+ChosenIs Uncut b r = r ≡ Ok (record { program = b; first = 0 })
+ChosenIs (BeforeItem k) b (Ok c) = CanCut b k × (c ≡ record { program = head b k; first = 0 })
+ChosenIs (BeforeItem k) b (Err r) = ¬ CanCut b k × (r ≡ BadCut k)
+ChosenIs (FromText bytes) b (Ok c) = (s : StateValue) × Says b bytes s × (c ≡ record { program = tail b s; first = s.item })
+ChosenIs (FromText bytes) b (Err r) = (number : ℕ) × (line : ℕ) × SaysNone b bytes number line × (r ≡ BadState number line)
 
 -- ---- ranks
 

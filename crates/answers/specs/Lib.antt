@@ -3,3 +3,4 @@ pub mod Judgements
 pub mod Answers
 pub mod Laws
 pub mod Endings
+pub mod Restarts

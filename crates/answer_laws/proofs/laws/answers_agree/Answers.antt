@@ -1,6 +1,7 @@
 use Rattle.answer_laws.proofs.Agreed as law
 use Rattle.answer_laws.proofs.PlansAgree as plans
 use Rattle.answer_laws.proofs.Colourings.{PlanLaws}
+use Rattle.answer_laws.proofs.Stretches.{StateLaws}
 use Rattle.answer_laws.proofs.laws.answers_agree.Goals as goal
 
 pub returns : goal.returns
@@ -9,7 +10,7 @@ returns c =
     c.one_outcome-2.ensures.one c.one_outcome.ensures c.one_tree.ensures c.one_answer.ensures c.walk_finds.ensures
     c.rules_are_broken.ensures.obeys c.rules_are_broken.ensures.first
     (plans.plans_alike c.runs_answer_on_cells.ensures c.one_program.ensures.programs c.one_dump.ensures plan_laws c.one_plan.ensures schedules c.one_numbers.ensures
-    c.one_owners.ensures c.one_distribution.ensures c.one_plan_text.ensures)
+    c.one_owners.ensures c.one_distribution.ensures c.one_plan_text.ensures states)
     c.options_are_within.ensures c.one_translation.ensures c.one_restoration.ensures
   where
     plan_laws : PlanLaws
@@ -20,6 +21,13 @@ returns c =
       none_is_refused = c.none_is_refused.ensures;
       told_are_alike = c.plans_are_alike.ensures;
       no_kernel_is_read = c.no_kernel_is_read.ensures;
+    }
+
+    states : StateLaws
+    states = record {
+      one_state = c.one_state.ensures.state;
+      one_refusal = c.one_state.ensures.refusal;
+      not_both = c.one_state.ensures.not_both;
     }
 
     schedules : plans.ScheduleLaws

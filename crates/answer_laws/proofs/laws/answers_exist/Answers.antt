@@ -1,4 +1,6 @@
+use Rattle.std.proofs.Common.{◌<◌, ◌^◌, length, arith}
 use Rattle.answer_laws.proofs.Exist as law
+use Rattle.answer_laws.proofs.FewItems.{heads_are_short}
 use Rattle.answer_laws.proofs.PlansExist as plans
 use Rattle.answer_laws.proofs.SchedulesExist as schedules
 use Rattle.answer_laws.proofs.laws.answers_exist.Goals as goal
@@ -10,16 +12,19 @@ returns c =
     c.one_outcome.ensures c.one_depth.ensures.same c.one_depth.ensures.both c.walk_finds.ensures c.rules_are_broken.ensures.obeys
     c.rules_are_broken.ensures.first suits
     (plans.planned_exist c.some_numbers.ensures c.some_owners.ensures c.outcomes_fit.ensures c.narrow_meshes_fit_memory.ensures
-    c.some_distribution.ensures c.some_plan.ensures c.some_outcome-2.ensures c.one_outcome-3.ensures.causes steps)
+    c.some_distribution.ensures c.some_plan.ensures c.some_outcome-2.ensures c.one_outcome-3.ensures.causes steps c.heads_fit.ensures c.tails_fit.ensures c.some_state.ensures)
     c.options_are_within.ensures
   where
     suits : law.SourcesSuit
-    suits bytes text p types es b reads resolves spells is =
+    suits bytes text p types es b within reads resolves spells is =
         let source = c.resolved_sources_are.ensures bytes p types reads resolves in
         let numbers = c.spelled_entries_fit.ensures text es spells in
         record {
-          fits = c.bound_programs_fit.ensures p types es b source numbers is;
-          narrow = c.bound_maps_are_narrow.ensures p types es b source numbers is;
+          suits = record {
+            fits = c.bound_programs_fit.ensures p types es b source numbers is;
+            narrow = c.bound_maps_are_narrow.ensures p types es b source numbers is;
+          };
+          short = heads_are_short c.tokens_are_few.ensures bytes p types es b reads (let small : length bytes < 2 ^ 31 = omega (arith, within) in small) is;
         }
 
     steps : plans.SchedulesExist
