@@ -6,3 +6,4 @@ pub mod Unowned
 pub mod Unread
 pub mod Sites
 pub mod Maps
+mod Stretches

@@ -10,10 +10,15 @@ use Rattle.kernel_model.specs.Refusals.{Rule, number_of}
 use Rattle.name_resolution.specs.Programs.{Resolves}
 use Rattle.mesh_text.specs.Spelling.{Named}
 use Rattle.distribute.specs.Parts.{Parts, Text}
-use Rattle.bound_program.specs.Values.{BoundValue}
+use Rattle.bound_program.specs.Values.{BoundValue, bound_of}
+use Rattle.state_texts.specs.declared.refusals.StateRefusal.{StateRefusal}
+use Rattle.state_texts.specs.declared.refusals.StateRefusal.TheVariants as state
 use Rattle.command_words.specs.Refusal as answer
-use Rattle.command_words.specs.Words.{Parting, ByRule, ByFile, Blocks, OfSize, AsPlanned, Input}
-use Rattle.answers.specs.Judgements.{SourceIs, TreeIs, TypesAre, MeshIs, EntriesAre, BoundIs, AccessesAre, Colouring, Least, Told}
+use Rattle.command_words.specs.Words.{Stretch, Whole, Before, From, Parting, ByRule, ByFile, Blocks, OfSize, AsPlanned, Input}
+use Rattle.answers.specs.Judgements as judged
+use Rattle.answers.specs.Judgements.{SourceIs, TreeIs, TypesAre, MeshIs, EntriesAre, BoundIs, AccessesAre, Cut, Uncut, BeforeItem, FromText}
+use Rattle.answers.specs.Judgements.{Colouring, Least, Told}
+use Rattle.job_inputs.specs.declared.chosen.Chosen.{Chosen}
 
 -- ---- judgements
 
@@ -47,6 +52,27 @@ pub record IsBoundIn (input : Input) (b : BoundValue) (files : Files) : Type 0 w
   pub typed : TypesAre program (Ok types)
   pub there : MeshIs input files (Ok text)
   pub over : IsBoundOver program types text b
+
+-- ---- the items that run
+
+-- what says which items run, where this is the text of that file
+abbrev pub cut_by : Stretch → (text : List ℕ) → Cut
+cut_by Whole text = Uncut
+cut_by (Before item) text = BeforeItem item
+cut_by (From name) text = FromText text
+
+-- what the refusal of a state text is as one of the program; want of memory is none
+abbrev pub SaysState : StateRefusal → answer.Refusal → Type 0
+SaysState (state.Header line) r = r ≡ answer.BadState 1 line
+SaysState (state.Item line) r = r ≡ answer.BadState 2 line
+SaysState (state.Shape line) r = r ≡ answer.BadState 3 line
+SaysState (state.Value line) r = r ≡ answer.BadState 4 line
+SaysState (state.End line) r = r ≡ answer.BadState 5 line
+SaysState state.OutOfMemory r = ⊥
+
+-- the program whose items run
+abbrev pub chosen_of : Chosen → judged.Chosen
+chosen_of c = record { program = bound_of c.bound; first = c.first }
 
 -- ---- owners
 

@@ -1,12 +1,14 @@
-//! What a job reads: its source, its mesh, its partition and its plan, each read and judged, and how the reading ends where it is
-//! refused.
+//! What a job reads: its source, its mesh, its state, its partition and its plan, each read and judged, and how the reading ends where
+//! it is refused.
 //!
-//! `bound_input` gives the program bound to its mesh, whose kernels keep to their accesses; `numbers_of`, `partition_of` and
-//! `owners_of` give the new numbers and the owners that the options ask for, and `plan_text_of` the text of a plan. Of a source
-//! alone `translation_of` and `restoration_of` give what it is translated or restored to.
+//! `bound_input` gives the program bound to its mesh, whose kernels keep to their accesses; `state_text_of` and `chosen_by` give the
+//! program whose items run, the whole or a part of it; `numbers_of`, `partition_of` and `owners_of` give the new numbers and the owners
+//! that the options ask for, and `plan_text_of` the text of a plan. Of a source alone `translation_of` and `restoration_of` give what
+//! it is translated or restored to.
 #![tactic(auto)]
 
 mod accesses;
+mod chosen;
 mod files;
 mod meshes;
 mod owners;
@@ -15,6 +17,7 @@ mod programs;
 mod sources;
 mod translations;
 
+pub use chosen::{Chosen, chosen_by, state_text_of};
 pub use files::{file_of, sole_file};
 pub use meshes::entries_of;
 pub use owners::{numbers_of, owners_of, partition_of};
