@@ -7,7 +7,7 @@ use Rattle.bound_program.specs.Values.{BoundValue}
 use Rattle.command_words.specs.Refusal.{Limit}
 use Rattle.answer_lines.specs.Lines as lines
 use Rattle.answer_lines.specs.Lines.{refused}
-use Rattle.command_words.specs.Words.{PlanJob, Options, Input, names_from, names_by, names_in_blocks, names_at}
+use Rattle.command_words.specs.Words.{PlanJob, Options, Input, names_from, names_before, names_by, names_in_blocks, names_at}
 use Rattle.answers.specs.Judgements.{IsHeld, SourceIs, MeshIs, TreeIs, TypesAre, EntriesAre, BoundIs, AccessesAre}
 use Rattle.answers.specs.Answers.{given, BoundAnswers, PlannedAnswers, PlanAnswers}
 use Rattle.answer_lines.specs.declared.call_answer.Answer.{Answer}
@@ -41,16 +41,17 @@ reached rest input b files a h k =
 
 module _ (told : Option Files) (rose : Type 0) (j : PlanJob) (o : Options) (input : Input) (kept : Readings) where
   abbrev all_names : List (List ℕ)
-  all_names = names_from input ++ names_by o.parting ++ names_in_blocks o.blocks ++ names_at o.schedule
+  all_names = names_from input ++ names_before o.stretch ++ names_by o.parting ++ names_in_blocks o.blocks ++ names_at o.schedule
 
   -- those of the options
   abbrev option_names : List (List ℕ)
-  option_names = names_by o.parting ++ names_in_blocks o.blocks ++ names_at o.schedule
+  option_names = names_before o.stretch ++ names_by o.parting ++ names_in_blocks o.blocks ++ names_at o.schedule
 
   input_first : all_names ≡ names_from input ++ option_names
   input_first =
-      ap (λ names. names ++ names_at o.schedule) (append_assoc (names_from input) (names_by o.parting) (names_in_blocks o.blocks))
-      ∙ append_assoc (names_from input) (names_by o.parting ++ names_in_blocks o.blocks) (names_at o.schedule)
+      ap (λ names. names ++ names_in_blocks o.blocks ++ names_at o.schedule) (append_assoc (names_from input) (names_before o.stretch) (names_by o.parting))
+      ∙ ap (λ names. names ++ names_at o.schedule) (append_assoc (names_from input) (names_before o.stretch ++ names_by o.parting) (names_in_blocks o.blocks))
+      ∙ append_assoc (names_from input) (names_before o.stretch ++ names_by o.parting ++ names_in_blocks o.blocks) (names_at o.schedule)
 
   -- these are to be read
   pub awaited_next : kept ≡ readings_of all_names → AreNext (names_from input) kept

@@ -19,7 +19,7 @@ use Rattle.command_words.specs.Refusal.{ScheduleBytes}
 use Rattle.answer_lines.specs.Lines as lines
 use Rattle.answer_lines.specs.Lines.{refused}
 use Rattle.command_words.specs.Words.{PlanJob, Standard, Drawn, Written, Options, group_of}
-use Rattle.answers.specs.Judgements.{IsHeld, Colouring, Planned, IsPlanned, IsUnplanned, InStandardOrder, BySeed, ByText, OrderOf, outline_of}
+use Rattle.answers.specs.Judgements.{IsHeld, Chosen, Colouring, Planned, IsPlanned, IsUnplanned, InStandardOrder, BySeed, ByText, OrderOf, outline_of}
 use Rattle.answers.specs.Judgements.{StepsOf, end_line, IsTextRefused, IsStepRefused}
 use Rattle.schedule_text.specs.declared.lines.Line.{Line}
 use Rattle.schedule_text.specs.Reading.{Reads as SchedulesRead}
@@ -51,46 +51,46 @@ spread_on b d h =
 
 -- ---- schedules
 
-module _ (j : PlanJob) (o : Options) (b : BoundValue) (p : Planned) where
+module _ (j : PlanJob) (o : Options) (c : Chosen) (p : Planned) where
   pub steps_answered : (order : _) (steps : List Step) (a : lines.Answer)
-      → StepsOf (outline_of b p) (group_of o) order (Ok steps)
-      → a ≡ planned_answer j o.dumps b p steps
-      → StepsAnswers j o b p order a
+      → StepsOf (outline_of c.program p) (group_of o) order (Ok steps)
+      → a ≡ planned_answer j o.dumps c p steps
+      → StepsAnswers j o c p order a
   steps_answered order steps a is e = inr (steps, is, e)
 
   -- a text that spells no steps
-  pub text_refused_by : (bytes : List ℕ) (h : Halt) → StopsWhere (IsTextRefused bytes) h → AnswersBy (StepsAnswers j o b p (ByText bytes)) (Err h)
+  pub text_refused_by : (bytes : List ℕ) (h : Halt) → StopsWhere (IsTextRefused bytes) h → AnswersBy (StepsAnswers j o c p (ByText bytes)) (Err h)
   text_refused_by bytes h s =
-      stops_weaker (IsTextRefused bytes) (λ r. StepsAnswers j o b p (ByText bytes) (refused r)) h (λ r k. inl (r, inl k, refl)) s
+      stops_weaker (IsTextRefused bytes) (λ r. StepsAnswers j o c p (ByText bytes) (refused r)) h (λ r k. inl (r, inl k, refl)) s
 
   -- a step of a text that is refused
   pub step_refused_by : (bytes : List ℕ) (ls : List Line) (end : ℕ) (h : Halt)
       → SchedulesRead bytes (Ok ls)
       → end ≡ end_line bytes
-      → StopsWhere (IsStepRefused (outline_of b p) ls end) h
-      → AnswersBy (StepsAnswers j o b p (ByText bytes)) (Err h)
+      → StopsWhere (IsStepRefused (outline_of c.program p) ls end) h
+      → AnswersBy (StepsAnswers j o c p (ByText bytes)) (Err h)
   step_refused_by bytes ls end h reads e s =
-      stops_weaker (IsStepRefused (outline_of b p) ls end) (λ r. StepsAnswers j o b p (ByText bytes) (refused r)) h
-      (λ r k. inl (r, inr (ls, reads, subst (λ z. IsStepRefused (outline_of b p) ls z r) e k), refl)) s
+      stops_weaker (IsStepRefused (outline_of c.program p) ls end) (λ r. StepsAnswers j o c p (ByText bytes) (refused r)) h
+      (λ r k. inl (r, inr (ls, reads, subst (λ z. IsStepRefused (outline_of c.program p) ls z r) e k), refl)) s
 
   module _ (told : Option Files) (rose : Type 0) (old : Readings) where
     abbrev P : Files → lines.Answer → Type 0
-    P = ScheduleAnswers j o b p
+    P = ScheduleAnswers j o c p
 
     pub standard_answered : (a : Answer) → o.schedule ≡ Standard
-        → answer_of a ≡ planned_answer j o.dumps b p (standard (outline_of b p) (group_of o))
+        → answer_of a ≡ planned_answer j o.dumps c p (standard (outline_of c.program p) (group_of o))
         → AnswersFrom told old P rose (Ok a)
     standard_answered a e is =
         finds_from told rose old (λ files. P files (answer_of a))
         (λ files. inr (
           InStandardOrder,
           subst (λ s. OrderOf s files (Ok InStandardOrder)) (sym e) refl,
-          inr (standard (outline_of b p) (group_of o), refl, is),
+          inr (standard (outline_of c.program p) (group_of o), refl, is),
         ))
 
     pub drawn_answered : (a : Answer) (seed : ℕ) (steps : List Step) → o.schedule ≡ Drawn seed
-        → IsDrawn (outline_of b p) (group_of o) seed steps
-        → answer_of a ≡ planned_answer j o.dumps b p steps
+        → IsDrawn (outline_of c.program p) (group_of o) seed steps
+        → answer_of a ≡ planned_answer j o.dumps c p steps
         → AnswersFrom told old P rose (Ok a)
     drawn_answered a seed steps e d is =
         finds_from told rose old (λ files. P files (answer_of a))
@@ -105,28 +105,28 @@ module _ (j : PlanJob) (o : Options) (b : BoundValue) (p : Planned) where
 
     pub text_answered : (name bytes : List ℕ) (new : Readings) (r : Result Answer Halt) → o.schedule ≡ Written name
         → Finds told old new (λ files. IsHeld ScheduleBytes name (files name) (Ok bytes))
-        → AnswersBy (StepsAnswers j o b p (ByText bytes)) r
+        → AnswersBy (StepsAnswers j o c p (ByText bytes)) r
         → AnswersFrom told old P rose r
     text_answered name bytes new r e found h =
-        answers_by told rose old new (λ files. IsHeld ScheduleBytes name (files name) (Ok bytes)) found (StepsAnswers j o b p (ByText bytes)) P r
+        answers_by told rose old new (λ files. IsHeld ScheduleBytes name (files name) (Ok bytes)) found (StepsAnswers j o c p (ByText bytes)) P r
         (λ files a held x. inr (ByText bytes, subst (λ s. OrderOf s files (Ok (ByText bytes))) (sym e) (bytes, held, refl), x)) h
 
 -- ---- plans
 
-module _ (j : PlanJob) (o : Options) (b : BoundValue) (u : Owners) (n : Perms) (x : Colouring) (d : Distribution) (distributed : IsDistribution b.mesh u n d)
+module _ (j : PlanJob) (o : Options) (c : Chosen) (u : Owners) (n : Perms) (x : Colouring) (d : Distribution) (distributed : IsDistribution c.program.mesh u n d)
     (told : Option Files) (rose : Type 0) (old : Readings) where
   abbrev Last : Files → lines.Answer → Type 0
-  Last = LastAnswers j o b u n x
+  Last = LastAnswers j o c u n x
 
   abbrev Then : PlanValue → Files → lines.Answer → Type 0
-  Then p = ScheduleAnswers j o b (record { distribution = d; plan = p })
+  Then p = ScheduleAnswers j o c (record { distribution = d; plan = p })
 
-  pub plan_answered : (p : PlanValue) (r : Result Answer Halt) → IsPlanned x b d.ranks.items p
+  pub plan_answered : (p : PlanValue) (r : Result Answer Halt) → IsPlanned x c.program d.ranks.items p
       → AnswersFrom told old (Then p) rose r
       → AnswersFrom told old Last rose r
   plan_answered p r planned h =
       answers_weaker told rose old (Then p) Last r (λ files a k. inr (record { distribution = d; plan = p }, (distributed, planned), k)) h
 
-  pub plan_refused : (h : Halt) → StopsWhere (IsUnplanned x b d.ranks.items) h → AnswersFrom told old Last rose (Err h)
+  pub plan_refused : (h : Halt) → StopsWhere (IsUnplanned x c.program d.ranks.items) h → AnswersFrom told old Last rose (Err h)
   plan_refused h s =
-      stops_always told rose old (IsUnplanned x b d.ranks.items) (λ files r. Last files (refused r)) h (λ files r k. inl (r, (d, distributed, k), refl)) s
+      stops_always told rose old (IsUnplanned x c.program d.ranks.items) (λ files r. Last files (refused r)) h (λ files r k. inl (r, (d, distributed, k), refl)) s

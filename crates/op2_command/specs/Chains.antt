@@ -19,22 +19,22 @@ use Rattle.answer_lines.specs.Lines as lines
 use Rattle.command_words.specs.Words.{PlanJob, Options, group_of}
 use Rattle.answers.specs.Said.{SaysStep, SaysEnd}
 use Rattle.answers.specs.Judgements.{TreeIs, TranslationIs, RestorationIs, EntriesAre}
-use Rattle.answers.specs.Judgements.{Colouring, Planned, PlanIs, Order, OrderOf, outline_of, StepsOf}
+use Rattle.answers.specs.Judgements.{Chosen, Colouring, Planned, PlanIs, Order, OrderOf, outline_of, StepsOf}
 use Rattle.answers.specs.Answers.{given, planned_answer}
 
 -- ---- parts of the chain
 
 -- what is answered of a plan, where its steps come from this
-abbrev pub StepsAnswers : PlanJob → Options → BoundValue → Planned → Order → lines.Answer → Type 0
-StepsAnswers j o b p order = given (StepsOf (outline_of b p) (group_of o) order) (λ steps a. a ≡ planned_answer j o.dumps b p steps)
+abbrev pub StepsAnswers : PlanJob → Options → Chosen → Planned → Order → lines.Answer → Type 0
+StepsAnswers j o c p order = given (StepsOf (outline_of c.program p) (group_of o) order) (λ steps a. a ≡ planned_answer j o.dumps c p steps)
 
 -- what is answered of a plan
-abbrev pub ScheduleAnswers : PlanJob → Options → BoundValue → Planned → Files → lines.Answer → Type 0
-ScheduleAnswers j o b p files = given (OrderOf o.schedule files) (StepsAnswers j o b p)
+abbrev pub ScheduleAnswers : PlanJob → Options → Chosen → Planned → Files → lines.Answer → Type 0
+ScheduleAnswers j o c p files = given (OrderOf o.schedule files) (StepsAnswers j o c p)
 
 -- what is answered of owners, new numbers, and where blocks and colours come from: the plan, and what is answered of it
-abbrev pub LastAnswers : PlanJob → Options → BoundValue → Owners → Perms → Colouring → Files → lines.Answer → Type 0
-LastAnswers j o b u n c files = given (PlanIs c b u n) (λ p. ScheduleAnswers j o b p files)
+abbrev pub LastAnswers : PlanJob → Options → Chosen → Owners → Perms → Colouring → Files → lines.Answer → Type 0
+LastAnswers j o c u n colouring files = given (PlanIs colouring c.program u n) (λ p. ScheduleAnswers j o c p files)
 
 -- what is answered over the text of a mesh that is written again
 abbrev pub RewriteAnswers : Form → List ℕ → lines.Answer → Type 0

@@ -4,10 +4,11 @@ ghost use Rattle.std.specs.Prelude.{◌≡◌, ◌≤◌, [], ◌∷◌, ◌++�
 ghost use Rattle.op_outside.specs.Outside.{Rose};
 ghost use Rattle.kept_files.specs.Readings.{readings_of};
 ghost use Rattle.mesh_text.specs.declared.entry.TheConstants.{MESH_BYTES};
-ghost use Rattle.command_words.specs.Words.{WordsAre, names_from, names_by, names_in_blocks, names_at, names_of, named_by};
+ghost use Rattle.command_words.specs.Words.{WordsAre, names_from, names_before, names_by, names_in_blocks, names_at, names_of, named_by};
 ghost use Rattle.command_words.specs.Laws.{AreWithin};
 ghost use Rattle.answers.specs.Answers.{PlanAnswers, ConvertAnswers, CommandAnswers, Answers};
-ghost use Rattle.command_words.specs.Values.{parting_in, blocks_in, schedule_in, options_in, job_in, input_in, command_of, IsInRange};
+ghost use Rattle.command_words.specs.Values.{stretch_in, parting_in, blocks_in, schedule_in, options_in, job_in, input_in, command_of};
+ghost use Rattle.command_words.specs.Values.{IsInRange};
 ghost use Rattle.answer_lines.specs.Halts.{StopsWhere};
 ghost use Rattle.job_inputs.specs.Chains.{AnswersBy, AnswersOver};
 ghost use Rattle.op2_command.specs.Chains.{RewriteAnswers};
@@ -17,8 +18,8 @@ use crate::plans::planned;
 use crate::sources::{restored, translated};
 use answer_lines::{Answer, Failure, Halt, Limit, Refusal, done, refused};
 use command_words::{
-    Asked, Blocks, Input, Options, Parting, PlanJob, Schedule, USAGE, VERSION, WordsRefusal,
-    read_words,
+    Asked, Blocks, Input, Options, Parting, PlanJob, Schedule, Stretch, USAGE, VERSION,
+    WordsRefusal, read_words,
 };
 use job_inputs::{bound_input, entries_of, sole_file};
 use kept_files::{Kept, some_files_are_as_seen};
@@ -39,6 +40,16 @@ fn expect_input<'a>(kept: &mut Kept<'a>, input: Input<'a>) -> Result<(), OutOfMe
         kept.push(mesh)?;
     }
     Ok(())
+}
+
+// The file that tells a state is to be read, if one does.
+fn expect_stretch<'a>(kept: &mut Kept<'a>, stretch: Stretch<'a>) -> Result<(), OutOfMemory>
+    ensures { OnOk result (kept.new ≡ kept.old ++ readings_of (names_before (stretch_in stretch.entry))) }
+{
+    match stretch {
+        Stretch::From(name) => kept.push(name),
+        _ => Ok(()),
+    }
 }
 
 // The file that tells the owners is to be read, if one does.
@@ -78,11 +89,12 @@ fn awaited<'a>(
     input: Input<'a>,
 ) -> Result<Kept<'a>, OutOfMemory>
     ensures { IfOk result (λ kept. kept ≡ readings_of
-        (names_from (input_in input.entry) ++ names_by (options_in options.now).parting
+        (names_from (input_in input.entry) ++ names_before (options_in options.now).stretch ++ names_by (options_in options.now).parting
         ++ names_in_blocks (options_in options.now).blocks ++ names_at (options_in options.now).schedule)) }
 {
     let mut kept = Kept::new(alloc);
     expect_input(&mut kept, input)?;
+    expect_stretch(&mut kept, options.stretch)?;
     expect_parting(&mut kept, options.parting)?;
     expect_blocks(&mut kept, options.blocks)?;
     expect_schedule(&mut kept, options.schedule)?;
@@ -100,12 +112,13 @@ fn to_plan<'a, F: Shelf, R: Threads + Sync, G: Gate>(
     gate: &G,
 ) -> Result<Answer, Halt<'a>>
     requires input { All (λ name. F.lends shelf.old name) (names_from (input_in input)) }
+    requires state { All (λ name. F.lends shelf.old name) (names_before (options_in options.now).stretch) }
     requires parting { All (λ name. F.lends shelf.old name) (names_by (options_in options.now).parting) }
     requires plan { All (λ name. F.lends shelf.old name) (names_in_blocks (options_in options.now).blocks) }
     requires schedule { All (λ name. F.lends shelf.old name) (names_at (options_in options.now).schedule) }
     requires within { AreWithin (options_in options.now) }
     ensures { AnswersOver (F.told shelf.old)
-        (names_from (input_in input.entry) ++ names_by (options_in options.now).parting
+        (names_from (input_in input.entry) ++ names_before (options_in options.now).stretch ++ names_by (options_in options.now).parting
         ++ names_in_blocks (options_in options.now).blocks ++ names_at (options_in options.now).schedule)
         (PlanAnswers (job_in job) (options_in options.now) (input_in input.entry))
         (Rose (F.faults shelf.old) (F.faults shelf.new)) result }
@@ -113,7 +126,7 @@ fn to_plan<'a, F: Shelf, R: Threads + Sync, G: Gate>(
     some_files_are_as_seen();
     let mut kept = awaited(alloc, options, input)?;
     let bound = bound_input(alloc, shelf, &mut kept, input)?;
-    planned(rt, alloc, shelf, &mut kept, job, options, &bound, gate)
+    planned(rt, alloc, shelf, &mut kept, job, options, bound, gate)
 }
 
 // The answer that is the text of a mesh, written again.

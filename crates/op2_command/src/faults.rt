@@ -2,6 +2,7 @@
 
 ghost use Rattle.std.specs.Prelude.{◌≡◌, ◌++◌, codes, OnOk};
 ghost use Rattle.std.specs.Fmt.{decimal};
+ghost use Rattle.checkpoint.specs.Laws.{later};
 ghost use Rattle.answer_lines.specs.Lines.{at_place, fault_name, part_name, fault_line};
 ghost use Rattle.rank_machine.specs.Stops.{stop_of};
 
@@ -31,21 +32,21 @@ fn put_part(out: &mut Vec<u8>, element: Option<u32>) -> Result<(), OutOfMemory>
     }
 }
 
-/// Appends the line of a fault.
-pub fn put_fault(out: &mut Vec<u8>, stop: &Stop) -> Result<(), OutOfMemory>
-    ensures { OnOk result (out.new.items ≡ out.old.items ++ fault_line (stop_of stop.now)) }
+/// Appends the line of a fault, of a run whose first item has the number `first` in the whole program.
+pub fn put_fault(out: &mut Vec<u8>, stop: &Stop, first: u32) -> Result<(), OutOfMemory>
+    ensures { OnOk result (out.new.items ≡ out.old.items ++ fault_line (later first (stop_of stop.now))) }
 {
     put_named(out, b"op2: ", b"fault item ")?;
-    put_stop(out, stop.item, stop.element)?;
+    put_stop(out, first as u64 + stop.item as u64, stop.element)?;
     put_kind(out, stop.fault)?;
     out.extend_from_slice(b"\n")
 }
 
 // The item, and where in it the run stopped.
-fn put_stop(out: &mut Vec<u8>, item: u32, element: Option<u32>) -> Result<(), OutOfMemory>
+fn put_stop(out: &mut Vec<u8>, item: u64, element: Option<u32>) -> Result<(), OutOfMemory>
     ensures { OnOk result (out.new.items ≡ out.old.items ++ decimal item ++ codes " " ++ part_name element) }
 {
-    put_u64(out, item as u64)?;
+    put_u64(out, item)?;
     out.extend_from_slice(b" ")?;
     put_part(out, element)
 }

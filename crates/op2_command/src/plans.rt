@@ -1,4 +1,4 @@
-// The plan of a bound program: new numbers, owners, the mesh on ranks, the order of its steps, and what is written.
+// The plan of a bound program: which of its items run, new numbers, owners, the mesh on ranks, the order of its steps, and what is written.
 
 ghost use Rattle.std.specs.Prelude.{◌≡◌, ◌≤◌, ◌++◌, List, All, length, Ok, IfOk};
 ghost use Rattle.op_outside.specs.Outside.{Rose};
@@ -13,13 +13,13 @@ ghost use Rattle.schedule_steps.specs.declared.step.Step.{Step as StepValue};
 ghost use Rattle.schedule_check.specs.Mail.{plan_cells};
 ghost use Rattle.planned_run.specs.Orders.{InOrder, CanTake};
 ghost use Rattle.answer_lines.specs.declared.limits.TheConstants.{PLAN_BYTES, SCHEDULE_BYTES};
-ghost use Rattle.command_words.specs.Words.{names_by, names_in_blocks, names_at};
+ghost use Rattle.command_words.specs.Words.{names_before, names_by, names_in_blocks, names_at};
 ghost use Rattle.command_words.specs.Laws.{AreWithin};
 ghost use Rattle.answers.specs.Judgements.{AccessesAre, ByText};
-ghost use Rattle.answers.specs.Answers.{sizes_text, planned_answer, PlannedAnswers};
+ghost use Rattle.answers.specs.Answers.{sizes_text, planned_answer, ChosenAnswers, PlannedAnswers};
 ghost use Rattle.command_words.specs.Values.{options_in, job_in};
 ghost use Rattle.answer_lines.specs.Halts.{answer_of};
-ghost use Rattle.job_inputs.specs.Inputs.{colouring_by};
+ghost use Rattle.job_inputs.specs.Inputs.{chosen_of, colouring_by};
 ghost use Rattle.job_inputs.specs.Chains.{AnswersBy, AnswersFrom};
 ghost use Rattle.op2_command.specs.Chains.{StepsAnswers, ScheduleAnswers, LastAnswers, IsSpread};
 
@@ -30,7 +30,9 @@ use answer_lines::{Answer, Halt, Limit};
 use bound_program::Bound;
 use command_words::{Options, PlanJob, Schedule};
 use distribute::{Distribution, distribute};
-use job_inputs::{file_of, numbers_of, owners_of, partition_of, plan_text_of};
+use job_inputs::{
+    Chosen, chosen_by, file_of, numbers_of, owners_of, partition_of, plan_text_of, state_text_of,
+};
 use kept_files::Kept;
 use loop_plan::{Plan, write_plan};
 use mesh_decl::{Owners, Perms};
@@ -64,33 +66,38 @@ fn planned_answer<R: Threads + Sync, G: Gate>(
     alloc: Global,
     job: PlanJob,
     options: &Options<'_>,
-    bound: &Bound,
+    chosen: &Chosen,
     found: &Distribution,
     plan: &Plan,
     order: &Order<'_>,
     gate: &G,
 ) -> Result<Answer, OutOfMemory>
     requires within { AreWithin (options_in options.now) }
-    requires fits { Fits (bound_of bound.now) }
-    requires obeyed { AccessesAre (bound_of bound.now) (Ok tt) }
-    requires found { IsSpread (bound_of bound.now) found.now }
-    requires plan { Proper (bound_of bound.now) found.now.ranks.items (plan_of plan.now) }
-    requires order { CanTake (step_outline (bound_of bound.now) found.now.ranks.items (plan_of plan.now))
-        (plan_cells (bound_of bound.now) found.now.ranks.items (plan_of plan.now)) order.now }
+    requires fits { Fits (bound_of chosen.now.bound) }
+    requires obeyed { AccessesAre (bound_of chosen.now.bound) (Ok tt) }
+    requires found { IsSpread (bound_of chosen.now.bound) found.now }
+    requires plan { Proper (bound_of chosen.now.bound) found.now.ranks.items (plan_of plan.now) }
+    requires order { CanTake (step_outline (bound_of chosen.now.bound) found.now.ranks.items (plan_of plan.now))
+        (plan_cells (bound_of chosen.now.bound) found.now.ranks.items (plan_of plan.now)) order.now }
     ensures { IfOk result (λ a. (l : List StepValue)
-        → InOrder (step_outline (bound_of bound.now) found.now.ranks.items (plan_of plan.now)) order.now l
-        → answer_of a ≡ planned_answer (job_in job) options.now.dumps (bound_of bound.now)
+        → InOrder (step_outline (bound_of chosen.now.bound) found.now.ranks.items (plan_of plan.now)) order.now l
+        → answer_of a ≡ planned_answer (job_in job) options.now.dumps (chosen_of chosen.now)
         (record { distribution = found.now; plan = plan_of plan.now }) l) }
 {
     schedule_steps::drawn_once();
     match job {
-        PlanJob::Check => Ok(Answer::Done(sizes_text(alloc, bound, plan)?)),
-        PlanJob::ShowsPlan => Ok(Answer::Done(write_plan(alloc, bound, &found.ranks, plan)?)),
+        PlanJob::Check => Ok(Answer::Done(sizes_text(alloc, &chosen.bound, plan)?)),
+        PlanJob::ShowsPlan => Ok(Answer::Done(write_plan(
+            alloc,
+            &chosen.bound,
+            &found.ranks,
+            plan,
+        )?)),
         PlanJob::ShowsSchedule => {
-            let steps = steps_of(alloc, bound, &found.ranks, plan, order)?;
+            let steps = steps_of(alloc, &chosen.bound, &found.ranks, plan, order)?;
             Ok(Answer::Done(write_schedule(alloc, &steps)?))
         }
-        PlanJob::RunsPlan => run_on(rt, alloc, options, bound, found, plan, order, gate),
+        PlanJob::RunsPlan => run_on(rt, alloc, options, chosen, found, plan, order, gate),
     }
 }
 
@@ -100,28 +107,28 @@ fn by_text<'a, R: Threads + Sync, G: Gate>(
     alloc: Global,
     job: PlanJob,
     options: &Options<'_>,
-    bound: &Bound,
+    chosen: &Chosen,
     found: &Distribution,
     plan: &Plan,
     bytes: &[u8],
     gate: &G,
 ) -> Result<Answer, Halt<'a>>
     requires within { AreWithin (options_in options.now) }
-    requires fits { Fits (bound_of bound.now) }
-    requires obeyed { AccessesAre (bound_of bound.now) (Ok tt) }
-    requires found { IsSpread (bound_of bound.now) found.now }
-    requires plan { Proper (bound_of bound.now) found.now.ranks.items (plan_of plan.now) }
+    requires fits { Fits (bound_of chosen.now.bound) }
+    requires obeyed { AccessesAre (bound_of chosen.now.bound) (Ok tt) }
+    requires found { IsSpread (bound_of chosen.now.bound) found.now }
+    requires plan { Proper (bound_of chosen.now.bound) found.now.ranks.items (plan_of plan.now) }
     requires few { length bytes.now ≤ SCHEDULE_BYTES }
-    ensures { AnswersBy (StepsAnswers (job_in job) (options_in options.now) (bound_of bound.now)
+    ensures { AnswersBy (StepsAnswers (job_in job) (options_in options.now) (chosen_of chosen.now)
         (record { distribution = found.now; plan = plan_of plan.now }) (ByText bytes.now)) result }
 {
     let lines = lines_of(alloc, bytes)?;
-    let (steps, peak) = judged(alloc, bound, found, plan, &lines, end_line(bytes))?;
+    let (steps, peak) = judged(alloc, &chosen.bound, found, plan, &lines, end_line(bytes))?;
     let order = Order::Listed {
         steps: &steps,
         peak,
     };
-    Ok(planned_answer(rt, alloc, job, options, bound, found, plan, &order, gate)?)
+    Ok(planned_answer(rt, alloc, job, options, chosen, found, plan, &order, gate)?)
 }
 
 // The answer of a job on a plan whose steps are taken in the order that is asked for.
@@ -132,7 +139,7 @@ fn scheduled<'a, F: Shelf, R: Threads + Sync, G: Gate>(
     kept: &mut Kept<'a>,
     job: PlanJob,
     options: &Options<'a>,
-    bound: &Bound,
+    chosen: &Chosen,
     found: &Distribution,
     plan: &Plan,
     gate: &G,
@@ -140,12 +147,12 @@ fn scheduled<'a, F: Shelf, R: Threads + Sync, G: Gate>(
     requires lent { All (λ name. F.lends shelf.old name) (names_at (options_in options.now).schedule) }
     requires next { AreNext (names_at (options_in options.now).schedule) kept.old }
     requires within { AreWithin (options_in options.now) }
-    requires fits { Fits (bound_of bound.now) }
-    requires obeyed { AccessesAre (bound_of bound.now) (Ok tt) }
-    requires found { IsSpread (bound_of bound.now) found.now }
-    requires plan { Proper (bound_of bound.now) found.now.ranks.items (plan_of plan.now) }
+    requires fits { Fits (bound_of chosen.now.bound) }
+    requires obeyed { AccessesAre (bound_of chosen.now.bound) (Ok tt) }
+    requires found { IsSpread (bound_of chosen.now.bound) found.now }
+    requires plan { Proper (bound_of chosen.now.bound) found.now.ranks.items (plan_of plan.now) }
     ensures { AnswersFrom (F.told shelf.old) kept.old
-        (ScheduleAnswers (job_in job) (options_in options.now) (bound_of bound.now) (record {
+        (ScheduleAnswers (job_in job) (options_in options.now) (chosen_of chosen.now) (record {
           distribution = found.now;
           plan =
               plan_of plan.now;
@@ -157,15 +164,15 @@ fn scheduled<'a, F: Shelf, R: Threads + Sync, G: Gate>(
     match options.schedule {
         Schedule::Standard => {
             let order = Order::Standard { group };
-            Ok(planned_answer(rt, alloc, job, options, bound, found, plan, &order, gate)?)
+            Ok(planned_answer(rt, alloc, job, options, chosen, found, plan, &order, gate)?)
         }
         Schedule::Drawn { seed } => {
             let order = Order::Drawn { group, seed };
-            Ok(planned_answer(rt, alloc, job, options, bound, found, plan, &order, gate)?)
+            Ok(planned_answer(rt, alloc, job, options, chosen, found, plan, &order, gate)?)
         }
         Schedule::Written(name) => {
             let bytes = file_of(alloc, shelf, kept, name, Limit::ScheduleBytes)?;
-            by_text(rt, alloc, job, options, bound, found, plan, &bytes, gate)
+            by_text(rt, alloc, job, options, chosen, found, plan, &bytes, gate)
         }
     }
 }
@@ -178,7 +185,7 @@ fn last_answer<'a, F: Shelf, R: Threads + Sync, G: Gate>(
     kept: &mut Kept<'a>,
     job: PlanJob,
     options: &Options<'a>,
-    bound: &Bound,
+    chosen: &Chosen,
     owners: Owners,
     perms: Perms,
     text: &[u8],
@@ -186,34 +193,34 @@ fn last_answer<'a, F: Shelf, R: Threads + Sync, G: Gate>(
 ) -> Result<Answer, Halt<'a>>
     requires lent { All (λ name. F.lends shelf.old name) (names_at (options_in options.now).schedule) }
     requires next { AreNext (names_at (options_in options.now).schedule) kept.old }
-    requires fits { Fits (bound_of bound.now) }
-    requires obeyed { AccessesAre (bound_of bound.now) (Ok tt) }
+    requires fits { Fits (bound_of chosen.now.bound) }
+    requires obeyed { AccessesAre (bound_of chosen.now.bound) (Ok tt) }
     requires within { AreWithin (options_in options.now) }
-    requires owners { AreOwners (bound_of bound.now).mesh owners }
-    requires perms { ArePerms (bound_of bound.now).mesh perms }
+    requires owners { AreOwners (bound_of chosen.now.bound).mesh owners }
+    requires perms { ArePerms (bound_of chosen.now.bound).mesh perms }
     requires few { length text.now ≤ PLAN_BYTES }
     ensures { AnswersFrom (F.told shelf.old) kept.old
-        (LastAnswers (job_in job) (options_in options.now) (bound_of bound.now) owners perms
+        (LastAnswers (job_in job) (options_in options.now) (chosen_of chosen.now) owners perms
         (colouring_by (options_in options.now).blocks text.now))
         (Rose (F.faults shelf.old) (F.faults shelf.new)) result }
 {
-    let found = distribute(alloc, &bound.mesh, owners, perms)?;
-    let plan = plan_by(alloc, bound, &found, options.blocks, text)?;
+    let found = distribute(alloc, &chosen.bound.mesh, owners, perms)?;
+    let plan = plan_by(alloc, &chosen.bound, &found, options.blocks, text)?;
     scheduled(
-        rt, alloc, shelf, kept, job, options, bound, &found, &plan, gate,
+        rt, alloc, shelf, kept, job, options, chosen, &found, &plan, gate,
     )
 }
 
-/// The answer of a job on the plan of a bound program with these options. The files of a partition, a plan and a schedule, where the
-/// options name them, are the next in `kept`.
-pub fn planned<'a, F: Shelf, R: Threads + Sync, G: Gate>(
+// The answer of a job on the plan of the items that run. The files of a partition, a plan and a schedule, where the options name them,
+// are the next in `kept`.
+fn chosen_answer<'a, F: Shelf, R: Threads + Sync, G: Gate>(
     rt: &R,
     alloc: Global,
     shelf: &mut F,
     kept: &mut Kept<'a>,
     job: PlanJob,
     options: &Options<'a>,
-    bound: &Bound,
+    chosen: &Chosen,
     gate: &G,
 ) -> Result<Answer, Halt<'a>>
     requires parting { All (λ name. F.lends shelf.old name) (names_by (options_in options.now).parting) }
@@ -222,16 +229,45 @@ pub fn planned<'a, F: Shelf, R: Threads + Sync, G: Gate>(
     requires next { AreNext (names_by (options_in options.now).parting ++ names_in_blocks (options_in options.now).blocks
         ++ names_at (options_in options.now).schedule) kept.old }
     requires within { AreWithin (options_in options.now) }
-    requires fits { Fits (bound_of bound.now) }
-    requires obeyed { AccessesAre (bound_of bound.now) (Ok tt) }
-    ensures { AnswersFrom (F.told shelf.old) kept.old (λ files. PlannedAnswers (job_in job) (options_in options.now) files (bound_of bound.now))
+    requires fits { Fits (bound_of chosen.now.bound) }
+    requires obeyed { AccessesAre (bound_of chosen.now.bound) (Ok tt) }
+    ensures { AnswersFrom (F.told shelf.old) kept.old (λ files. ChosenAnswers (job_in job) (options_in options.now) files (chosen_of chosen.now))
         (Rose (F.faults shelf.old) (F.faults shelf.new)) result }
 {
-    let perms = numbers_of(alloc, options, bound)?;
+    let perms = numbers_of(alloc, options, &chosen.bound)?;
     let partition = partition_of(alloc, shelf, kept, options.parting)?;
-    let owners = owners_of(alloc, options, bound, &partition)?;
+    let owners = owners_of(alloc, options, &chosen.bound, &partition)?;
     let text = plan_text_of(alloc, shelf, kept, options.blocks)?;
     last_answer(
-        rt, alloc, shelf, kept, job, options, bound, owners, perms, &text, gate,
+        rt, alloc, shelf, kept, job, options, chosen, owners, perms, &text, gate,
     )
+}
+
+/// The answer of a job on the plan of a bound program with these options. The files of a state, a partition, a plan and a schedule, where
+/// the options name them, are the next in `kept`.
+pub fn planned<'a, F: Shelf, R: Threads + Sync, G: Gate>(
+    rt: &R,
+    alloc: Global,
+    shelf: &mut F,
+    kept: &mut Kept<'a>,
+    job: PlanJob,
+    options: &Options<'a>,
+    bound: Bound,
+    gate: &G,
+) -> Result<Answer, Halt<'a>>
+    requires state { All (λ name. F.lends shelf.old name) (names_before (options_in options.now).stretch) }
+    requires parting { All (λ name. F.lends shelf.old name) (names_by (options_in options.now).parting) }
+    requires plan { All (λ name. F.lends shelf.old name) (names_in_blocks (options_in options.now).blocks) }
+    requires schedule { All (λ name. F.lends shelf.old name) (names_at (options_in options.now).schedule) }
+    requires next { AreNext (names_before (options_in options.now).stretch ++ names_by (options_in options.now).parting
+        ++ names_in_blocks (options_in options.now).blocks ++ names_at (options_in options.now).schedule) kept.old }
+    requires within { AreWithin (options_in options.now) }
+    requires fits { Fits (bound_of bound) }
+    requires obeyed { AccessesAre (bound_of bound) (Ok tt) }
+    ensures { AnswersFrom (F.told shelf.old) kept.old (λ files. PlannedAnswers (job_in job) (options_in options.now) files (bound_of bound))
+        (Rose (F.faults shelf.old) (F.faults shelf.new)) result }
+{
+    let text = state_text_of(alloc, shelf, kept, options.stretch)?;
+    let chosen = chosen_by(alloc, bound, options.stretch, &text)?;
+    chosen_answer(rt, alloc, shelf, kept, job, options, &chosen, gate)
 }

@@ -21,9 +21,9 @@ ghost use Rattle.op2_command.specs.Chains.{IsSpread};
 use crate::faults::put_fault;
 use crate::ranges::starts_in_range;
 use answer_lines::Answer;
-use bound_program::Bound;
 use command_words::Options;
 use distribute::Distribution;
+use job_inputs::Chosen;
 use loop_plan::Plan;
 use op_num::OutOfMemory;
 use par_exec::Gate;
@@ -32,52 +32,52 @@ use std::alloc::Global;
 use std::marker::Sync;
 use std::thread::Threads;
 
-// The answer of a run.
-fn ran(alloc: Global, outcome: Outcome) -> Result<Answer, OutOfMemory>
-    ensures { IfOk result (λ a. answer_of a ≡ ran (stop_in outcome.stop) outcome.out.items) }
+// The answer of a run, whose first item has that number in the whole program.
+fn ran(alloc: Global, outcome: Outcome, first: u32) -> Result<Answer, OutOfMemory>
+    ensures { IfOk result (λ a. answer_of a ≡ ran first (stop_in outcome.stop) outcome.out.items) }
 {
     let Some(stop) = outcome.stop else {
         return Ok(Answer::Done(outcome.out));
     };
     let mut line = Vec::new(alloc);
-    put_fault(&mut line, &stop)?;
+    put_fault(&mut line, &stop, first)?;
     Ok(Answer::Faulted {
         out: outcome.out,
         line,
     })
 }
 
-/// The answer of the run of a bound program on the ranks of a distribution, by a plan for them whose steps are taken in this
+/// The answer of the run of a program's items on the ranks of a distribution, by a plan for them whose steps are taken in this
 /// order: what running each loop one element after another prints, and its first fault, with a dump of the memories behind it where
 /// the options ask for one. An error is want of memory.
 pub fn run_on<R: Threads + Sync, G: Gate>(
     rt: &R,
     alloc: Global,
     options: &Options<'_>,
-    bound: &Bound,
+    chosen: &Chosen,
     found: &Distribution,
     plan: &Plan,
     order: &Order<'_>,
     gate: &G,
 ) -> Result<Answer, OutOfMemory>
     requires within { AreWithin (options_in options.now) }
-    requires fits { Fits (bound_of bound.now) }
-    requires obeyed { AccessesAre (bound_of bound.now) (Ok tt) }
-    requires found { IsSpread (bound_of bound.now) found.now }
-    requires plan { Proper (bound_of bound.now) found.now.ranks.items (plan_of plan.now) }
-    requires order { CanTake (step_outline (bound_of bound.now) found.now.ranks.items (plan_of plan.now))
-        (plan_cells (bound_of bound.now) found.now.ranks.items (plan_of plan.now)) order.now }
+    requires fits { Fits (bound_of chosen.now.bound) }
+    requires obeyed { AccessesAre (bound_of chosen.now.bound) (Ok tt) }
+    requires found { IsSpread (bound_of chosen.now.bound) found.now }
+    requires plan { Proper (bound_of chosen.now.bound) found.now.ranks.items (plan_of plan.now) }
+    requires order { CanTake (step_outline (bound_of chosen.now.bound) found.now.ranks.items (plan_of plan.now))
+        (plan_cells (bound_of chosen.now.bound) found.now.ranks.items (plan_of plan.now)) order.now }
     ensures { IfOk result (λ a. (l : List StepValue)
-        → InOrder (step_outline (bound_of bound.now) found.now.ranks.items (plan_of plan.now)) order.now l
-        → answer_of a ≡ run_answer (bound_of bound.now)
-        (dump_of options.now.dumps (bound_of bound.now) found.now.owners found.now.ranks.items (plan_of plan.now) l)) }
+        → InOrder (step_outline (bound_of chosen.now.bound) found.now.ranks.items (plan_of plan.now)) order.now l
+        → answer_of a ≡ run_answer chosen.now.first (bound_of chosen.now.bound)
+        (dump_of options.now.dumps (bound_of chosen.now.bound) found.now.owners found.now.ranks.items (plan_of plan.now) l)) }
 {
-    starts_in_range(bound);
+    starts_in_range(&chosen.bound);
     answer_laws::runs_answer_on_cells();
     let outcome = run_on_ranks(
         rt,
         alloc,
-        bound,
+        &chosen.bound,
         &found.owners,
         &found.halos,
         &found.ranks,
@@ -87,5 +87,5 @@ pub fn run_on<R: Threads + Sync, G: Gate>(
         gate,
         options.dumps,
     )?;
-    ran(alloc, outcome)
+    ran(alloc, outcome, chosen.first)
 }

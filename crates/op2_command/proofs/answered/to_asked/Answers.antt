@@ -1,8 +1,34 @@
-use Rattle.command_words.specs.Words.{ShowsUsage, ShowsVersion, names_of}
+use Rattle.command_words.specs.Words.{ShowsUsage, ShowsVersion, names_from, names_before, names_by, names_in_blocks, names_at, names_of}
+use Rattle.command_words.specs.Values.{options_in, input_in}
 use Rattle.answers.specs.Answers.{CommandAnswers}
 use Rattle.answer_lines.specs.Halts.{answer_of}
 use Rattle.op2_command.proofs.Chained.{over_all}
+use Rattle.op2_command.proofs.Lent.{state_lent, parting_lent, plan_lent, schedule_lent}
 use Rattle.op2_command.proofs.answered.to_asked.Goals as goal
+
+pub to_plan-requires-clause-state : goal.to_plan-requires-clause-state
+to_plan-requires-clause-state g c κs within =
+    let o = options_in c.in-Plan.options in
+    state_lent (g.F.Shelf.lends c.args.shelf.now) (names_from (input_in c.in-Plan.input)) (names_before o.stretch) (names_by o.parting) (names_in_blocks o.blocks) (names_at o.schedule)
+    (rw c.in-Plan.is at c.requires.lent)
+
+pub to_plan-requires-clause-parting : goal.to_plan-requires-clause-parting
+to_plan-requires-clause-parting g c κs within =
+    let o = options_in c.in-Plan.options in
+    parting_lent (g.F.Shelf.lends c.args.shelf.now) (names_from (input_in c.in-Plan.input)) (names_before o.stretch) (names_by o.parting) (names_in_blocks o.blocks) (names_at o.schedule)
+    (rw c.in-Plan.is at c.requires.lent)
+
+pub to_plan-requires-clause-plan : goal.to_plan-requires-clause-plan
+to_plan-requires-clause-plan g c κs within =
+    let o = options_in c.in-Plan.options in
+    plan_lent (g.F.Shelf.lends c.args.shelf.now) (names_from (input_in c.in-Plan.input)) (names_before o.stretch) (names_by o.parting) (names_in_blocks o.blocks) (names_at o.schedule)
+    (rw c.in-Plan.is at c.requires.lent)
+
+pub to_plan-requires-clause-schedule : goal.to_plan-requires-clause-schedule
+to_plan-requires-clause-schedule g c κs within =
+    let o = options_in c.in-Plan.options in
+    schedule_lent (g.F.Shelf.lends c.args.shelf.now) (names_from (input_in c.in-Plan.input)) (names_before o.stretch) (names_by o.parting) (names_in_blocks o.blocks) (names_at o.schedule)
+    (rw c.in-Plan.is at c.requires.lent)
 
 pub returns-in-Plan : goal.returns-in-Plan
 returns-in-Plan g c = rw c.in-Plan.is c.to_plan.ensures
