@@ -12,13 +12,15 @@ _op2() {
         --schedule) COMPREPLY=($(compgen -f -- "$word")); return ;;
         --seed) return ;;
         --workers) return ;;
+        --at) return ;;
+        --from) COMPREPLY=($(compgen -f -- "$word")); return ;;
         --form) return ;;
     esac
     case $word in
-        -*) COMPREPLY=($(compgen -W '--ranks --parts --partition --renumber --block --plan --schedule --seed --workers --dump --form -h --help -V --version' -- "$word")) ;;
+        -*) COMPREPLY=($(compgen -W '--ranks --parts --partition --renumber --block --plan --schedule --seed --workers --at --from --dump --form -h --help -V --version' -- "$word")) ;;
         *)
             if [ "$COMP_CWORD" -eq 1 ]; then
-                COMPREPLY=($(compgen -W 'run sample check plan schedule convert translate restore' -- "$word"))
+                COMPREPLY=($(compgen -W 'run sample state check plan schedule convert translate restore' -- "$word"))
             else
                 COMPREPLY=($(compgen -f -- "$word"))
             fi

@@ -1,7 +1,7 @@
 #!/bin/sh
 # Runs each example and compares what it prints with NAME.out, and the example `sample2` with the sample on a grid of 2 times 2 cells;
-# writes the mesh of `sample2` again, the plan of `heat` on two ranks, and its translation; runs `heat` by that plan, and by one with other blocks
-# and colours. Each example is run once more as it is translated and restored.
+# writes the mesh of `sample2` again, the plan of `heat` on two ranks, its translation, and its state before item 12; runs `heat` by that plan, and by one
+# with other blocks and colours, and in two halves, the second from that state on four ranks. Each example is run once more as it is translated and restored.
 # Ends with the number of differences.
 here=$(CDPATH= cd -- "$(dirname -- "$0")" && pwd) || exit 70
 op2=${1:-$here/../op2}
@@ -38,6 +38,17 @@ for plan in heat.plan heat.colours; do
         bad=$((bad + 1))
     fi
 done
+if ! "$op2" state "$here/heat.c" "$here/heat.mesh" --at 12 --ranks 2 --seed 3 | cmp -s - "$here/heat.state"; then
+    echo 'differs: the state of heat before item 12' >&2
+    bad=$((bad + 1))
+fi
+# The first half's output ends before the empty line in front of the state.
+sed '/^$/,$d' "$here/heat.state" >"$work/halves"
+"$op2" run "$here/heat.c" "$here/heat.mesh" --from "$here/heat.state" --ranks 4 --workers 2 --seed 7 >>"$work/halves"
+if ! cmp -s "$work/halves" "$here/heat.out"; then
+    echo 'differs: heat in two halves' >&2
+    bad=$((bad + 1))
+fi
 if ! "$op2" translate "$here/heat.c" | cmp -s - "$here/heat.stubs"; then
     echo 'differs: the translation of heat' >&2
     bad=$((bad + 1))

@@ -1,6 +1,6 @@
 #!/bin/sh
-# Runs the program over damaged copies of an example's source, its translation, its mesh, a partition text, a plan text and a schedule text: cut at a
-# place, with a byte changed, or with a word left out or twice. Each run must end with a status from 0 to 10, 12 or 14 and at most one line on
+# Runs the program over damaged copies of an example's source, its translation, its mesh, a state text, a partition text, a plan text and a schedule text: cut
+# at a place, with a byte changed, or with a word left out or twice. Each run must end with a status from 0 to 10 or 12 to 14 and at most one line on
 # standard error, and with nothing on standard output where its status is none of 0, 4 and 9. Ends with 1 where a run doesn't.
 # Usage: tests/damaged.sh [N] [SEED]     (N copies of each file, 100 where none is given)
 here=$(CDPATH= cd -- "$(dirname -- "$0")/.." && pwd) || exit 70
@@ -32,6 +32,7 @@ with tempfile.TemporaryDirectory() as name:
     steps = run(folder, "schedule", "s.c", "m.mesh", "--ranks", "2", "--seed", "5", "--workers", "3")
     assert steps.returncode == 0, steps
     texts["t"] = steps.stdout
+    texts["f"] = (here / "examples/heat.state").read_bytes()
     texts["c"] = (here / "examples/heat.colours").read_bytes()
     translation = run(folder, "translate", "s.c")
     assert translation.returncode == 0, translation
@@ -47,10 +48,11 @@ with tempfile.TemporaryDirectory() as name:
     for file, text in texts.items():
         (folder / file).write_bytes(text)
     ways = {
-        "s.c": [["run", "s.c", "m.mesh"], ["run", "s.c", "m.mesh", "--ranks=3", "--seed=2", "--workers=2", "--dump"], ["translate", "s.c"]],
+        "s.c": [["run", "s.c", "m.mesh"], ["run", "s.c", "m.mesh", "--ranks=3", "--seed=2", "--workers=2", "--dump"], ["translate", "s.c"], ["state", "s.c", "m.mesh", "--at=12"]],
         "u.c": [["restore", "u.c"]],
         "m.mesh": [["run", "s.c", "m.mesh"], ["plan", "s.c", "m.mesh", "--ranks=2"], ["convert", "m.mesh"]],
         "p": [["run", "s.c", "m.mesh", "--ranks=2", "--partition=p"]],
+        "f": [[job, "s.c", "m.mesh", "--from=f", "--ranks=2"] for job in ("run", "schedule")],
         "c": [[job, "s.c", "m.mesh", "--ranks=2", "--renumber=joined", "--plan=c"] for job in ("run", "schedule")],
         "t": [["run", "s.c", "m.mesh", "--ranks=2", "--schedule=t"], ["check", "s.c", "m.mesh", "--ranks=2", "--schedule=t"]],
     }
@@ -64,7 +66,7 @@ with tempfile.TemporaryDirectory() as name:
                 status = done.returncode
                 statuses[status] = statuses.get(status, 0) + 1
                 lines = done.stderr.count(b"\n")
-                right = status in (*range(11), 12, 14) and lines == (status != 0) and (status in (0, 4, 9) or not done.stdout)
+                right = status in (*range(11), 12, 13, 14) and lines == (status != 0) and (status in (0, 4, 9) or not done.stdout)
                 if not right:
                     bad += 1
                     print("wrong:", words, file, status, done.stderr[:200], copy[:200])

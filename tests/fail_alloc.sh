@@ -82,6 +82,8 @@ try run heat.c heat.mesh --ranks 2 --parts grow:joined --renumber joined --seed 
 try plan residual.c residual.mesh --ranks 2 --parts bisect:x
 try schedule heat.c heat.mesh --ranks 2 --workers 3
 try check heat.c heat.mesh --ranks 2 --renumber joined --plan heat.colours
+try state heat.c heat.mesh --at 12 --ranks 2
+try run heat.c heat.mesh --from heat.state --ranks 2 --parts bisect:heat
 try convert heat.mesh
 try translate heat.c
 try restore heat.stubs

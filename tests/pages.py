@@ -49,6 +49,7 @@ def try_errors(folder):
     """Each row with an example is a change of one of the files at the top of the page."""
     page = (top / "docs/ERRORS.md").read_text()
     source, mesh, part, steps, two = re.findall(r"```c?\n(.*?)```", page, re.S)[:5]
+    state = re.search(r"```\n(\nop2state 1\n.*?)```", page, re.S)[1]
     residual = {"s.c": (top / "examples/residual.c").read_text(), "m.mesh": (top / "examples/residual.mesh").read_text()}
     residual["u"] = re.search(r"```\n(op2plan 1\n.*?)```", (top / "docs/TEXTS.md").read_text(), re.S)[1]
     for section in re.split(r"^## ", page, flags=re.M)[1:]:
@@ -57,6 +58,13 @@ def try_errors(folder):
         for line in section.splitlines():
             row = cells(line)
             if len(row) != 5 or not row[3].startswith("`op2: "):
+                continue
+            if title.startswith("States"):
+                files = {"s.c": source, "m.mesh": mesh, "f": state}
+                words = ["state", *row[2].strip("`").split()] if row[0] == "item" else ["run", "--from", "f"]
+                if row[0] != "item":
+                    files["f"] = edited(state, row[2])
+                compare(f"{title}, {row[0]}", answer(folder, files, [*words, "s.c", "m.mesh"]), (13, row[3].strip("`")))
                 continue
             if title.startswith("Plans"):
                 files = {**residual, "u": edited(residual["u"], row[2])}
@@ -84,6 +92,11 @@ def try_errors(folder):
     compare("the files of ERRORS", answer(folder, unchanged, ["run", "s.c", "m.mesh", "--schedule", "t"]), (0, ""))
     unchanged = {"s.c": source, "m.mesh": mesh, "p": part}
     compare("the files of ERRORS", answer(folder, unchanged, ["run", "s.c", "m.mesh", "--ranks", "2", "--partition", "p"]), (0, ""))
+    (folder / "s.c").write_text(source)
+    (folder / "m.mesh").write_text(mesh)
+    written = subprocess.run([op2, "state", "s.c", "m.mesh", "--at", "1"], cwd=folder, capture_output=True, text=True).stdout
+    compare("the state of ERRORS", written, state)
+    compare("the state of ERRORS, read", answer(folder, {"f": state}, ["run", "s.c", "m.mesh", "--from", "f"]), (0, ""))
     compare("the plan of TEXTS", answer(folder, residual, ["run", "s.c", "m.mesh", "--plan", "u"]), (0, ""))
 
 
