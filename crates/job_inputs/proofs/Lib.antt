@@ -5,5 +5,6 @@ pub mod MeshText
 pub mod Unowned
 pub mod Unread
 pub mod Sites
+pub mod Known
 pub mod Maps
 mod Stretches

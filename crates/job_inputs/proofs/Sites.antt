@@ -1,5 +1,5 @@
 -- The kernels of a bound program's loops, and the modes of their arguments.
-use Rattle.std.proofs.Common.{◌≡◌, ◌<◌, ◌≤◌, ◌+◌, ℕ, zero, suc, List, [], ◌∷◌, ◌++◌, map, length, get_or, take, drop, All, Some, Err, refl, sym, ap, ◌∙◌, subst, arith}
+use Rattle.std.proofs.Common.{◌≡◌, ◌<◌, ◌≤◌, ◌+◌, ℕ, zero, suc, List, [], ◌∷◌, ◌++◌, map, length, get_or, take, drop, All, Contains, Some, Err, ◌⊎◌, refl, sym, ap, ◌∙◌, subst, arith}
 use Rattle.std.proofs.Math.Seq.{drop-cons}
 use Rattle.std.proofs.lemmas.List.{length-map, get_or-map, take-append-drop, take_all, map-append}
 use Rattle.std.proofs.lemmas.List.Elements.{All-nil, All-cons}
@@ -20,7 +20,10 @@ use Rattle.command_words.specs.Refusal as answer
 use Rattle.answers.specs.Judgements.{AccessesAre, IsFirstSite, SiteObeys, SiteRefuses}
 use Rattle.answer_lines.specs.declared.refusals.Halt.{Halt}
 use Rattle.answer_lines.specs.Halts.{StopsWhere}
+use Rattle.job_inputs.specs.declared.known_uses.ArgUse.{ArgUse}
 use Rattle.job_inputs.specs.Inputs.{IsAccessRefusal}
+use Rattle.job_inputs.specs.Known.{use_of, AreObeyed}
+use Rattle.job_inputs.proofs.Known.{known_obeyed, noted_obeyed}
 use Rattle.answer_lines.proofs.Halts.{stops_weaker}
 
 -- ---- the kernel of a loop
@@ -76,6 +79,28 @@ module _ (b : BoundValue) (s : SiteValue) (fit : SiteFits b s) (f : RKernel) (is
       h
       (λ r x. let (rule, at, is_refusal, says) = x in (rule, at, (f, found, subst (λ l. IsRefusal f l rule at) same is_refusal), says))
       stopped
+
+  -- its uses are obeyed where the kernel obeys
+  pub noted : (ms : List code.Mode) (old new : List ArgUse)
+      → map model_of ms ≡ modes_of b s
+      → AreObeyed b.kernels old
+      → ((u : ArgUse) → Contains new u → Contains old u ⊎ ((a : ℕ) × (u ≡ use_of s.kernel ms a)))
+      → KernelObeys f (map model_of ms)
+      → AreObeyed b.kernels new
+  noted ms old new same all from h = noted_obeyed b.kernels s.kernel f found ms (takes ms same) old new all from h
+
+-- a loop's kernel obeys where all its uses are known
+pub known : (b : BoundValue) (s : SiteValue) (uses : List ArgUse) (ms : List code.Mode)
+    → SiteFits b s
+    → map model_of ms ≡ modes_of b s
+    → AreObeyed b.kernels uses
+    → ((a : ℕ) → a ≤ length ms → Contains uses (use_of s.kernel ms a))
+    → SiteObeys b s
+known b s uses ms fit same all each k at =
+    let one : Some k ≡ Some (get_or b.kernels s.kernel k) =
+    sym at ∙ kernel_is b.kernels s.kernel k (kernel_there b.kernels s.kernel (length s.args) fit.kernel) in
+    let is : k ≡ get_or b.kernels s.kernel k = cc in
+    subst (KernelObeys k) same (known_obeyed b.kernels s.kernel k at ms (takes b s fit k is ms same) uses all each)
 
 -- ---- the modes of its arguments
 

@@ -1,3 +1,4 @@
 pub mod Inputs
 pub mod Chains
 pub mod Maps
+pub mod Known

@@ -13,10 +13,13 @@ ghost use Rattle.command_words.specs.Refusal.{BadAccess};
 ghost use Rattle.answers.specs.Judgements.{AccessesAre, SiteObeys, SiteRefuses};
 ghost use Rattle.answer_lines.specs.Halts.{StopsWhere};
 ghost use Rattle.job_inputs.specs.Inputs.{IsAccessRefusal};
+ghost use Rattle.job_inputs.specs.Known.{AreObeyed};
 
+use crate::known_uses::{KnownUses, are_known, note_uses};
 use access_check::{AccessRefusal, Mode, check};
 use answer_lines::{Failure, Halt, Refusal};
 use bound_program::{Arg, Bound, Site};
+use indexmap::IndexSet;
 use op_num::OutOfMemory;
 use std::alloc::Global;
 
@@ -26,22 +29,33 @@ pub fn judge_accesses<'a>(alloc: Global, bound: &Bound) -> Result<(), Halt<'a>>
     ensures ok { OnOk result (All (SiteObeys (bound_of bound.now)) (bound_of bound.now).sites) }
     ensures err { IfErr result (StopsWhere (λ r. AccessesAre (bound_of bound.now) (Err r))) }
 {
+    let mut known = IndexSet::new(alloc);
     for site in &bound.sites {
-        judge_site(alloc, bound, site)?;
+        judge_site(alloc, bound, &mut known, site)?;
     }
     Ok(())
 }
 
-// Judges the kernel of a loop by the modes of its arguments.
-fn judge_site<'a>(alloc: Global, bound: &Bound, site: &Site) -> Result<(), Halt<'a>>
+// Judges the kernel of a loop by the modes of its arguments, where they aren't all known to be obeyed.
+fn judge_site<'a>(
+    alloc: Global,
+    bound: &Bound,
+    known: &mut KnownUses,
+    site: &Site,
+) -> Result<(), Halt<'a>>
     requires fits { Fits (bound_of bound.now) }
     requires site { SiteFits (bound_of bound.now) (site_of site.now) }
+    requires known { AreObeyed (bound_of bound.now).kernels known.old.keys }
+    ensures known { OnOk result (AreObeyed (bound_of bound.now).kernels known.new.keys) }
     ensures ok { OnOk result (SiteObeys (bound_of bound.now) (site_of site.now)) }
     ensures err { IfErr result (StopsWhere (IsAccessRefusal (SiteRefuses (bound_of bound.now) (site_of site.now)))) }
 {
     let modes = modes_of(alloc, bound, site)?;
+    if are_known(known, site.kernel, &modes) {
+        return Ok(());
+    }
     match check(alloc, &bound.kernels[site.kernel as usize], &modes) {
-        Ok(()) => Ok(()),
+        Ok(()) => Ok(note_uses(known, site.kernel, &modes)?),
         Err(refusal) => Err(disobeyed(refusal)),
     }
 }

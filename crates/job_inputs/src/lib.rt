@@ -10,6 +10,7 @@
 mod accesses;
 mod chosen;
 mod files;
+mod known_uses;
 mod meshes;
 mod owners;
 mod plan_texts;
