@@ -45,8 +45,7 @@ use Rattle.main_text.specs.Arguments.{with_extern, extern_var, after_global, aft
 use Rattle.main_text.specs.Text.{nested, turning, outermost, line_found, declares, judged_call, opened, followed_by, ended, with_counter, judged_bounds, judged_host, judged_hosts}
 use Rattle.loop_bind.specs.Weights.{started, with_told, within_weight, weight_of_all, trace}
 use Rattle.loop_bind.specs.Bound.{text, happens, finished, unrolled_text, bound}
-use Rattle.loop_bind.proofs.FitsJudged.{Gives, gives_then, gives_weaker, gives_unless}
-use Rattle.loop_bind.proofs.FitsFileConsts.{gives_any}
+use Rattle.main_declarations.proofs.Judged.{Gives, gives_then, gives_weaker, gives_unless, gives_any}
 use Rattle.run_model.specs.Windows.{numbers}
 use Rattle.checkpoint.specs.Cut.{CanCut, starts, says, says_var, says_vars, says_dat, says_state, head}
 

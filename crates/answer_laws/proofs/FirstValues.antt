@@ -62,8 +62,7 @@ use Rattle.main_text.specs.Text.{nested, turning, outermost, line_found, declare
 use Rattle.source_fits.specs.Sources.{HasNumbers, IsRead, TopIsRead, HostIsRead, HostsAreRead}
 use Rattle.loop_bind.specs.Weights.{started, with_told, within_weight, weight_of_all, trace}
 use Rattle.loop_bind.specs.Bound.{text, happens, finished, unrolled_text, bound}
-use Rattle.loop_bind.proofs.FitsJudged.{Gives, gives_then, gives_unless}
-use Rattle.loop_bind.proofs.FitsFileConsts.{gives_any}
+use Rattle.main_declarations.proofs.Judged.{Gives, gives_then, gives_unless, gives_any}
 use Rattle.loop_bind.proofs.FitsState.{known-fits}
 use Rattle.run_model.specs.Ranges.{StartsInRange}
 

@@ -24,10 +24,10 @@ use Rattle.main_names.specs.SoFar.{Declared}
 use Rattle.main_names.specs.Meanings.{or_zero, count_of, values_named}
 use Rattle.main_text.specs.Arguments.{slot_constant, is_reserved, is_wrong_set, is_wrong_index}
 use Rattle.bound_program.specs.Fits.{ViaFits, GlobalAccess}
-use Rattle.loop_bind.proofs.FitsJudged.{or_false, not_false, not_equal_false}
+use Rattle.main_declarations.proofs.Judged.{or_false, not_false, not_equal_false}
 use Rattle.loop_bind.proofs.FitsState.{at, MeaningFits, HasDim, HasValues, ExternFits, IsOwn, Lawful}
 use Rattle.loop_bind.proofs.FitsVars.{program}
-use Rattle.loop_bind.proofs.FitsMesh.{Below, never}
+use Rattle.main_declarations.proofs.Shapes.{Below, never}
 use Rattle.loop_bind.proofs.FitsExterns.{found_entry, Is}
 
 -- ---- dats

@@ -22,13 +22,12 @@ use Rattle.loop_bind.specs.Bound.{text, happens, finished, unrolled_text, bound}
 use Rattle.bound_program.specs.Fits.{SiteFits, ItemsFit, EndsWithHost}
 use Rattle.source_fits.specs.Sources.{TopIsRead, HostsAreRead, HaveNumbers, TopsTake}
 use Rattle.loop_bind.proofs.FitsTargets.{AllAssignVariables, MainAssignsVariables}
-use Rattle.loop_bind.proofs.FitsJudged.{Gives, gives_then}
+use Rattle.main_declarations.proofs.Judged.{Gives, gives_then, gives_any}
 use Rattle.loop_bind.proofs.FitsState.{NameFits, NameIsOwn, ExternFits, HasDim, HasMapDim, so_far, Lawful}
 use Rattle.loop_bind.proofs.FitsVars.{site_more}
 use Rattle.loop_bind.proofs.FitsFile.{TopLawful, tops_are}
 use Rattle.loop_bind.proofs.FitsMain.{Walks, WalksOn}
 use Rattle.loop_bind.proofs.FitsText.{hosts_are}
-use Rattle.loop_bind.proofs.FitsFileConsts.{gives_any}
 use Rattle.loop_bind.proofs.FitsTrace.{main_fits, Unrolls, unrolls, Last, lasts, ends_with_host}
 use Rattle.loop_bind.proofs.FitsTold.{told_same, all_one, items_moved}
 

@@ -30,9 +30,9 @@ use Rattle.main_declarations.specs.Variables.{with_fixed, with_fixed_later, with
 use Rattle.main_text.specs.Arguments.{after_globals, loop_found, site, judged_loop}
 use Rattle.main_text.specs.Text.{nested, turning, line_found, declares, judged_call, opened, followed_by, ended, with_counter, judged_bounds, judged_host, judged_hosts}
 use Rattle.source_fits.specs.Constants.{FileVariable, NamesApart, call_names, constant_names, all_constant_names}
-use Rattle.loop_bind.proofs.FitsJudged.{Gives, gives_then, gives_unless}
+use Rattle.main_declarations.proofs.Judged.{Gives, gives_then, gives_unless, gives_any}
 use Rattle.loop_bind.proofs.FitsState.{known-fits}
-use Rattle.loop_bind.proofs.FitsFileConsts.{gives_any, EntryNamed}
+use Rattle.loop_bind.proofs.FitsFileConsts.{EntryNamed}
 use Rattle.loop_bind.proofs.FitsTags.{Tagged}
 use Rattle.loop_bind.proofs.FitsMainConsts.{OfMain, EntryOfMain, MainConsts, name_goes, both_go, globals_go, constant_goes}
 

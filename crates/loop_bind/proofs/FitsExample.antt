@@ -19,7 +19,7 @@ use Rattle.bound_program.specs.Fits.{UsesConstants}
 use Rattle.source_fits.specs.Sources.{HasNumbers, IsRead, TopIsRead, HostsAreRead}
 use Rattle.source_fits.specs.Constants.{FileVariable, file_variables, NamesApart, AreConstants, AreFound, AreOfOne}
 use Rattle.source_fits.specs.Resolvable.{IsResolvedSource}
-use Rattle.loop_bind.proofs.FitsMesh.{never}
+use Rattle.main_declarations.proofs.Shapes.{never}
 
 -- int x; const int c = 5; int a[2]; .. x = 1; op_decl_const(1, "int", &x); op_printf("%d", c);
 

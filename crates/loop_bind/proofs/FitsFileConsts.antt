@@ -1,5 +1,5 @@
 -- The variables of the file, in order, behind the file.
-use Rattle.std.proofs.Common.{◌≡◌, ℕ, suc, ℤ, pos, ◌+◌, List, [], ◌∷◌, ◌++◌, length, replicate, Ok, Err, Bool, true, false, refl, sym, ap, subst, arith, ◌∙◌, append_assoc, append-nil}
+use Rattle.std.proofs.Common.{◌≡◌, ℕ, suc, ℤ, pos, ◌+◌, List, [], ◌∷◌, ◌++◌, length, replicate, Ok, Bool, true, false, refl, sym, ap, subst, arith, ◌∙◌, append_assoc, append-nil}
 use Rattle.std.specs.Prelude.{All, Option, Some, None, bytes_eq, slice_index_or}
 use Rattle.std.specs.Map.{lookup}
 use Rattle.std.proofs.lemmas.List.{length-replicate, length_push}
@@ -22,15 +22,11 @@ use Rattle.main_names.specs.Expressions.{judged_value}
 use Rattle.main_declarations.specs.Variables.{with_file_value, judged_file_declr, judged_file_declrs}
 use Rattle.main_declarations.specs.File.{judged_extern, judged_array, judged_top, judged_tops}
 use Rattle.source_fits.specs.Constants.{FileVariable, declr_variable, declrs_variables, top_variables, file_variables}
-use Rattle.loop_bind.proofs.FitsJudged.{Gives, gives_then}
+use Rattle.main_declarations.proofs.Judged.{Gives, gives_then, gives_any}
 use Rattle.loop_bind.proofs.FitsState.{known-fits}
 use Rattle.loop_bind.proofs.FitsTags.{no_variable, Tag, Tagged, tagged_next, HasName, name_more}
 
 -- what a judgement gives, whatever it is
-pub gives_any : {A : Type 0} (r : Judged A) → Gives (λ x. Unit {0}) r
-gives_any (Ok x) = tt
-gives_any (Err e) = tt
-
 -- the cells that a name of the file stands for are those of its variable
 abbrev pub CellsNamed : List ConstDecl → List FileVariable → List ℕ → Meaning → Type 0
 CellsNamed cs fs x (m.Variable c) = HasName cs fs c.var x

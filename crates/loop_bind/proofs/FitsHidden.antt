@@ -27,9 +27,8 @@ use Rattle.main_text.specs.Text.{nested, turning, judged_call, opened, followed_
 use Rattle.source_fits.specs.Assigned.{Known, found, knows, after_host}
 use Rattle.source_fits.specs.Constants.{FileVariable, NamesApart, constant_names, is_constant, Begins, AreConstants}
 use Rattle.source_fits.specs.Hidden.{CallNamesNoOwn, NamesNoOwn, AllNameNoOwn}
-use Rattle.loop_bind.proofs.FitsJudged.{Gives, gives_then, gives_unless, left_nil, right_nil, not_if}
-use Rattle.loop_bind.proofs.FitsMesh.{never}
-use Rattle.loop_bind.proofs.FitsFileConsts.{gives_any}
+use Rattle.main_declarations.proofs.Judged.{Gives, gives_then, gives_unless, left_nil, right_nil, not_if, gives_any}
+use Rattle.main_declarations.proofs.Shapes.{never}
 use Rattle.loop_bind.proofs.FitsScopes.{Both, same_found}
 use Rattle.loop_bind.proofs.FitsScopeWalk.{Scoped, At, counter_scoped, host_scoped}
 use Rattle.loop_bind.proofs.FitsMainConsts.{OfMain, MainConsts}

@@ -23,7 +23,7 @@ use Rattle.main_names.specs.SoFar.{Declared, Walked, does, behind, with_var, wit
 use Rattle.main_names.specs.Meanings.{count_of}
 use Rattle.main_declarations.specs.Variables.{with_fixed, with_fixed_later, with_turning, const_at, with_changing, initializer, judged_declr, judged_declrs}
 use Rattle.source_fits.specs.Sources.{HasNumbers, IsRead}
-use Rattle.loop_bind.proofs.FitsJudged.{Gives, gives_then}
+use Rattle.main_declarations.proofs.Judged.{Gives, gives_then}
 use Rattle.loop_bind.proofs.FitsValues.{Num, Within, within_more}
 use Rattle.loop_bind.proofs.FitsState.{at, MeaningFits, IsOwn, Grows, grows-self, grows-trans, Lawful}
 use Rattle.loop_bind.proofs.FitsVars.{lawful-own, lawful-var, grows-var, next-fits}

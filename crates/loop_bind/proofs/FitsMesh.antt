@@ -1,18 +1,17 @@
 -- One set, map or dat more.
-use Rattle.std.proofs.Common.{◌≡◌, ℕ, suc, ℤ, pos, negsuc, ◌+◌, ◌*◌, ◌<◌, ◌≤◌, List, [], ◌∷◌, length, Ok, Err, Bool, true, false, not, ◌||◌, refl, sym, ap, subst, arith, lt-ltb, le-ltb}
+use Rattle.std.proofs.Common.{◌≡◌, ℕ, suc, ℤ, pos, negsuc, ◌+◌, ◌*◌, ◌<◌, ◌≤◌, List, [], ◌∷◌, length, Ok, Err, Bool, true, false, not, ◌||◌, refl, sym, subst, arith}
 use Rattle.std.specs.Prelude.{Option, Some, None, IfSome, is_none, nat_eq, nat_lt, if◌then◌else◌}
 use Rattle.std.proofs.lemmas.Bool.{ltb-false}
 use Rattle.std.proofs.lemmas.List.Elements.{All-nil, All-cons}
 use Rattle.c_lex.specs.declared.tokens.Pos.{Pos}
 use Rattle.c_tree.specs.declared.expressions.Ident.{Ident}
-use Rattle.c_tree.specs.declared.expressions.NumberLiteral.{NumberLiteral}
 use Rattle.c_tree.specs.Tree.{ExprTree}
 use Rattle.kernel_types.specs.declared.kernels.RKernel.{RKernel}
 use Rattle.kernel_model.specs.Numbers.{Value}
 use Rattle.mesh_decl.specs.Mesh.{MeshValue, set_count, map_count, dat_count, set_size, is_element, AreElements, IsMap, IsDat}
 use Rattle.bind_refusals.specs.declared.refusals.BindRefusal.TheVariants as refusal
 use Rattle.bind_refusals.specs.declared.refusals.Counted.TheVariants as counted
-use Rattle.bind_refusals.specs.declared.founds.Turn.TheVariants.{InOrder, SizeValue}
+use Rattle.bind_refusals.specs.declared.founds.Turn.TheVariants.{SizeValue}
 use Rattle.main_names.specs.declared.scopes.Meaning.{Meaning}
 use Rattle.main_names.specs.declared.scopes.Meaning.TheVariants.{Extern, ExternArray, Kernel, Set, Map, Dat, Variable, Fixed, FixedLater, Turning}
 use Rattle.bound_program.specs.HostExpr.{value, is_static}
@@ -21,15 +20,13 @@ use Rattle.main_names.specs.Expressions.{first_token, resolved}
 use Rattle.bind_refusals.specs.Refusals.{place, found_if, found_over}
 use Rattle.bound_program.specs.Limits.{max_size, max_dim}
 use Rattle.main_names.specs.SoFar.{Declared}
-use Rattle.main_names.specs.Meanings.{set_of, map_of, dat_of, or_zero, or_none, count_of}
-use Rattle.main_declarations.specs.Declarations.{is_dim, awaited, first_stray, place_found, dim_found, data_found, stray_found, target_found, cells_found, value_found, size_found, size_of}
-use Rattle.loop_bind.proofs.FitsJudged.{left_nil, right_nil, or_false, not_false, not_equal_false, not_in, not_over, not_if, positive, IsNil}
+use Rattle.main_names.specs.Meanings.{set_of, map_of, dat_of, or_zero, or_none}
+use Rattle.main_declarations.specs.Declarations.{awaited, first_stray, place_found, data_found, stray_found, target_found, cells_found, value_found, size_found, size_of}
+use Rattle.main_declarations.proofs.Judged.{left_nil, or_false, not_false, not_in, not_over, not_if, IsNil}
+use Rattle.main_declarations.proofs.Shapes.{Below, never, is_dim-true, awaited-is, data_is}
 use Rattle.loop_bind.proofs.FitsState.{MeaningFits}
 
 -- ---- numbers of what names stand for
-
-abbrev pub Below : ℕ → Option ℕ → Type 0
-Below n o = IfSome o (λ k. k < n)
 
 module _ (ks : List RKernel) (g : MeshValue) (vs : List VarValue) (n : ℕ) where
   pub set_below : (m : Option Meaning) → IfSome m (MeaningFits ks g vs n) → Below (set_count g) (set_of m)
@@ -71,17 +68,6 @@ module _ (ks : List RKernel) (g : MeshValue) (vs : List VarValue) (n : ℕ) wher
   dat_below (Some (FixedLater k c)) h = tt
   dat_below (Some (Turning k)) h = tt
 
-abbrev IsTrue' : Bool → Type 0
-IsTrue' true = Unit {0}
-IsTrue' false = ⊥
-
-pub never : {X : Type 0} → true ≡ false → X
-never e = absurd (subst IsTrue' e tt)
-
-pub known_below : (n : ℕ) (o : Option ℕ) → Below n o → is_none o ≡ false → or_zero o < n
-known_below n None h e = never e
-known_below n (Some k) h e = h
-
 -- ---- what was not found
 
 pub no_site_yet : (places : List Pos) (k : Declared) (nested : Bool) (t : ℕ) → place_found places k nested t ≡ [] → k.sites ≡ []
@@ -90,18 +76,6 @@ no_site_yet places k nested t e = none k.sites (ltb-false 0 (length k.sites) (or
     none : (ss : List SiteValue) → length ss ≤ 0 → ss ≡ []
     none [] l = refl
     none (s ∷ ss) l = absurd (omega arith)
-
-pub dim_fits : (places : List Pos) (n : NumberLiteral) → dim_found places n ≡ [] → (0 < count_of n) × (count_of n ≤ max_dim)
-dim_fits places n e = (
-  positive (count_of n) (not_if places (nat_eq (count_of n) 0) n.at refusal.DimMismatch (left_nil (found_if places (nat_eq (count_of n) 0) n.at refusal.DimMismatch) (found_over InOrder max_dim (count_of n) n.at counted.Dim) e)),
-  not_over InOrder max_dim (count_of n) n.at counted.Dim (right_nil (found_if places (nat_eq (count_of n) 0) n.at refusal.DimMismatch) (found_over InOrder max_dim (count_of n) n.at counted.Dim) e),
-)
-
-is_dim-true : (n : ℕ) → 0 < n → n ≤ max_dim → is_dim n ≡ true
-is_dim-true n l m = let a : nat_lt 0 n ≡ true = lt-ltb 0 n l in let b : nat_lt max_dim n ≡ false = le-ltb max_dim n m in rw (a, b) refl
-
-awaited-is : (g : MeshValue) (s n : ℕ) → is_dim n ≡ true → awaited g (Some s) n ≡ Some (set_size g s * n)
-awaited-is g s n e = ap (λ (b : Bool). if b then Some (set_size g s * n) else None) e
 
 -- ---- sizes
 
@@ -136,10 +110,6 @@ no_stray size i (z ∷ zs) e = pick (λ h. no_stray size (suc i) zs h) (is_eleme
     pick rest false f h = absurd (subst IsNone (sym h) tt)
 
 module _ (places : List Pos) (g : MeshValue) (x : Ident) where
-  data_is : (n : ℕ) (zs : Option (List ℤ)) → data_found places zs (Some n) x ≡ [] → length (or_none zs) ≡ n
-  data_is n None e = never (not_if places true x.at refusal.UnknownEntry e)
-  data_is n (Some zs) e = not_equal_false (length zs) n (not_if places (not (nat_eq (length zs) n)) x.at refusal.DimMismatch e)
-
   elements_are : (n dim to : ℕ) (zs : Option (List ℤ)) → data_found places zs (Some n) x ≡ [] → target_found places g dim x zs (Some n) (Some to) ≡ [] → AreElements (set_size g to) (or_none zs)
   elements_are n dim to None d e = All-nil (λ t. is_element (set_size g to) t ≡ true)
   elements_are n dim to (Some zs) d e = stray (first_stray (set_size g to) 0 zs) refl (subst (λ b. (if b then stray_found places (map_count g) dim x (first_stray (set_size g to) 0 zs) else []) ≡ []) (not_false (nat_eq (length zs) n) (not_if places (not (nat_eq (length zs) n)) x.at refusal.DimMismatch d)) e)
@@ -163,7 +133,7 @@ module _ (places : List Pos) (g : MeshValue) (x : Ident) where
         to = b;
         some = l;
         dim = omega (arith, m);
-        length = data_is (set_size g s * dim) zs d';
+        length = data_is places x (set_size g s * dim) zs d';
         elements = elements_are (set_size g s * dim) dim t zs d' e';
       }
 
@@ -177,5 +147,5 @@ module _ (places : List Pos) (g : MeshValue) (x : Ident) where
         set = a;
         some = l;
         dim = omega (arith, m);
-        length = data_is (set_size g s * dim) zs (subst (λ o. data_found places zs o x ≡ []) w d);
+        length = data_is places x (set_size g s * dim) zs (subst (λ o. data_found places zs o x ≡ []) w d);
       }

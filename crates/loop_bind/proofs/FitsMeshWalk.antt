@@ -28,9 +28,10 @@ use Rattle.main_names.specs.SoFar.{Declared}
 use Rattle.main_names.specs.Meanings.{set_of, or_zero, or_none, count_of, array_of}
 use Rattle.main_declarations.specs.Declarations.{awaited, with_set, with_map, with_dat, place_found, set_found, dim_found, type_found, data_found, target_found, cells_found, size_found, size_of, set_decl_found, judged_set, map_decl_found, judged_map, dat_decl_found, judged_dat}
 use Rattle.bound_program.specs.Fits.{SiteFits}
-use Rattle.loop_bind.proofs.FitsJudged.{Gives, gives_unless, left_nil, right_nil, not_over, not_if}
+use Rattle.main_declarations.proofs.Judged.{Gives, gives_unless, left_nil, right_nil, not_over, not_if}
 use Rattle.loop_bind.proofs.FitsState.{vars-self, NameFits, Grows, names_more, known-fits, NameIsOwn, HasDim, HasMapDim, so_far, Lawful, means_fits}
-use Rattle.loop_bind.proofs.FitsMesh.{Below, set_below, no_site_yet, dim_fits, set_size_below, map_is, dat_is}
+use Rattle.main_declarations.proofs.Shapes.{Below, dim_fits}
+use Rattle.loop_bind.proofs.FitsMesh.{set_below, no_site_yet, set_size_below, map_is, dat_is}
 
 -- lawful still, and nothing is lost
 pub record Goes (ks : List RKernel) (es : List Named) (k l : Declared) : Type 0 where

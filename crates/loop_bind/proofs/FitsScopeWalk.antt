@@ -32,8 +32,7 @@ use Rattle.main_text.specs.Arguments.{with_extern, extern_var, after_global, aft
 use Rattle.main_text.specs.Text.{nested, turning, target_name, line_found, declares, judged_call, opened, followed_by, ended, with_counter, judged_bounds, judged_host, judged_hosts}
 use Rattle.main_declarations.specs.File.{judged_extern, judged_array, judged_top, judged_tops}
 use Rattle.source_fits.specs.Assigned.{Known, knows, after_declr, after_declrs, after_top, after_tops, after_call, after_host, after_hosts, place_name, CanBeAssigned, Assigns, AllAssign}
-use Rattle.loop_bind.proofs.FitsJudged.{Gives, gives_then, gives_unless}
-use Rattle.loop_bind.proofs.FitsFileConsts.{gives_any}
+use Rattle.main_declarations.proofs.Judged.{Gives, gives_then, gives_unless, gives_any}
 use Rattle.loop_bind.proofs.FitsTargets.{IsVariable, Behind, AssignsVariables, AllAssignVariables}
 use Rattle.loop_bind.proofs.FitsScopes.{Kind, Same, same_found, same_known, same_length, same_take, assigned_is}
 

@@ -19,7 +19,7 @@ use Rattle.main_trace.specs.Trace.{Event, Turn, Does, Tells, Stops, Later, nothi
 use Rattle.main_trace.specs.Limited.{ToldValue, UnrolledValue, before, item, told, unrolled}
 use Rattle.bound_program.specs.Classes.{reduces}
 use Rattle.bound_program.specs.Fits.{site_at, all_cells, HostWithin, IndexWithin, ActFits, due, ItemsFit, EndsWithHost}
-use Rattle.loop_bind.proofs.FitsJudged.{Gives}
+use Rattle.main_declarations.proofs.Judged.{Gives}
 use Rattle.kernel_model.specs.Operators.{IsNumber}
 use Rattle.loop_bind.proofs.FitsValues.{Num, Nums, no_nums, more_nums, Within, value_num, closed_within}
 use Rattle.loop_bind.proofs.FitsMain.{AllWithin, SomeWithin, IsOne, TellsOne, StepActFits, StepFits, StepsFit}

@@ -17,7 +17,7 @@ use Rattle.main_trace.specs.Trace.{Event, Turn, Does, Tells, Stops, Later, nothi
 use Rattle.main_trace.specs.Limited.{ToldValue, UnrolledValue, before, item, told, unrolled}
 use Rattle.loop_bind.specs.Weights.{started, with_told}
 use Rattle.loop_bind.specs.Constants.{ActLeaves, ItemLeaves, ArgLeaves, LeavesConstants}
-use Rattle.loop_bind.proofs.FitsJudged.{Gives}
+use Rattle.main_declarations.proofs.Judged.{Gives}
 use Rattle.loop_bind.proofs.FitsState.{at}
 use Rattle.loop_bind.proofs.LeavesState.{ActIsFree, StepIsFree, StepsAreFree, ArgIsFree, SiteIsFree}
 

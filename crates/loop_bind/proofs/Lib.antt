@@ -13,7 +13,6 @@ pub mod FitsExterns
 pub mod FitsFile
 pub mod FitsFileConsts
 pub mod FitsHidden
-pub mod FitsJudged
 pub mod FitsLoop
 pub mod FitsMain
 pub mod FitsMainConsts

@@ -1,6 +1,6 @@
 -- The targets of a map are judged apart from all else that may be wrong with it.
 use Rattle.std.proofs.Common.{◌≡◌, ◌∙◌, ◌⊎◌, inl, inr, ℕ, suc, ℤ, ◌+◌, ◌*◌, ◌/◌, ◌%◌, ◌<◌, Bool, true, false, not, List, [], ◌∷◌, ◌++◌, length, Option, Some, None, Ok, Err, refl, sym, ap, subst, arith, lt-ltb}
-use Rattle.std.specs.Prelude.{IfNone, is_none, nat_eq, nat_lt, if◌then◌else◌}
+use Rattle.std.specs.Prelude.{is_none, nat_eq, nat_lt, if◌then◌else◌}
 use Rattle.std.specs.Option.{option_or}
 use Rattle.std.proofs.lemmas.Bool.{eqb-false}
 use Rattle.std.proofs.lemmas.List.Elements.{All-head, All-tail}
@@ -20,13 +20,14 @@ use Rattle.bind_refusals.specs.declared.refusals.BindRefusal.{BindRefusal}
 use Rattle.bind_refusals.specs.declared.refusals.BindRefusal.TheVariants as refusal
 use Rattle.bind_refusals.specs.declared.refusals.Counted.TheVariants as counted
 use Rattle.bind_refusals.specs.Refusals.{place, is_before, earlier, least_from, first_of, unless_found, found_in, found_if, found_over}
-use Rattle.bind_refusals.proofs.First.{answers}
 use Rattle.bind_refusals.proofs.Firsts.{least_append}
 use Rattle.main_names.specs.Names.{means}
 use Rattle.main_names.specs.Meanings.{array_of, count_of, or_none, or_zero, set_of}
 use Rattle.main_names.specs.SoFar.{Declared}
 use Rattle.main_declarations.specs.Declarations.{is_dim, awaited, first_stray, place_found, set_found, dim_found, data_found, target_found, stray_found, cells_found, map_decl_found}
 use Rattle.main_declarations.specs.Targets.{target_refusal, shape_decl_found, targets_found, strays_found}
+use Rattle.main_declarations.proofs.Judged.{nothing_found, left_nil, right_nil, not_false, not_in}
+use Rattle.main_declarations.proofs.Shapes.{never}
 
 -- ---- what is found in the order of the tokens, and the cells of the mesh
 
@@ -67,31 +68,8 @@ some_or f (x ∷ gs) o = pick (some_or x gs o) (some_or f gs o) (is_before x f)
     pick h k true = h
     pick h k false = k
 
-nothing_found : (all : List Found) → first_of all ≡ None → all ≡ []
-nothing_found all e = subst (λ o. IfNone o (all ≡ [])) e (answers all).1
-
-abbrev IsNil : {X : Type 0} → List X → Type 0
-IsNil [] = Unit {0}
-IsNil (x ∷ xs) = ⊥
-
-left_nil : {X : Type 0} (xs ys : List X) → xs ++ ys ≡ [] → xs ≡ []
-left_nil [] ys e = refl
-left_nil (x ∷ xs) ys e = absurd (subst IsNil (sym e) tt)
-
-right_nil : {X : Type 0} (xs ys : List X) → xs ++ ys ≡ [] → ys ≡ []
-right_nil [] ys e = e
-right_nil (x ∷ xs) ys e = absurd (subst IsNil (sym e) tt)
-
-not_in : (turn : Turn) (b : Bool) (t : ℕ) (r : BindRefusal) → found_in turn b t r ≡ [] → b ≡ false
-not_in turn false t r e = refl
-not_in turn true t r e = absurd (subst IsNil (sym e) tt)
-
-abbrev IsTrue' : Bool → Type 0
-IsTrue' true = Unit {0}
-IsTrue' false = ⊥
-
-never : {X : Type 0} → true ≡ false → X
-never e = absurd (subst IsTrue' e tt)
+pub never_none : (f : Found) (gs : List Found) → least_from (Some f) gs ≡ None → ⊥
+never_none f gs e = let bad : None ≡ Some f = sym e ∙ some_or f gs (Some f) ∙ ap (λ o. option_or o (Some f)) e in cc
 
 -- ---- a map of which all but the targets is right
 
@@ -101,10 +79,6 @@ dim_is n e f =
     let a : nat_lt 0 n ≡ true = lt-ltb 0 n p in
     rw (a, f) refl
 
-counted_as : (b : Bool) → not b ≡ false → b ≡ true
-counted_as true e = refl
-counted_as false e = never e
-
 module _ (places : List Pos) (g : MeshValue) (dim : ℕ) (x : Ident) where
   aimed : (from to : Option ℕ) (zs : Option (List ℤ)) → is_none from ≡ false → is_none to ≡ false → is_dim dim ≡ true → data_found places zs (awaited g from dim) x ≡ []
       → target_found places g dim x zs (awaited g from dim) to ≡ stray_found places (map_count g) dim x (first_stray (set_size g (or_zero to)) 0 (or_none zs))
@@ -113,7 +87,7 @@ module _ (places : List Pos) (g : MeshValue) (dim : ℕ) (x : Ident) where
   aimed (Some s) (Some t) None p q d e = never (not_in InOrder true x.at (refusal.UnknownEntry (place places x.at)) e)
   aimed (Some s) (Some t) (Some zs) p q d e =
       let w : awaited g (Some s) dim ≡ Some (set_size g s * dim) = ap (λ (b : Bool). if b then Some (set_size g s * dim) else None) d in
-      let f : nat_eq (length zs) (set_size g s * dim) ≡ true = counted_as (nat_eq (length zs) (set_size g s * dim)) (not_in InOrder (not (nat_eq (length zs) (set_size g s * dim))) x.at (refusal.DimMismatch (place places x.at)) (subst (λ o. data_found places (Some zs) o x ≡ []) w e)) in
+      let f : nat_eq (length zs) (set_size g s * dim) ≡ true = not_false (nat_eq (length zs) (set_size g s * dim)) (not_in InOrder (not (nat_eq (length zs) (set_size g s * dim))) x.at (refusal.DimMismatch (place places x.at)) (subst (λ o. data_found places (Some zs) o x ≡ []) w e)) in
       ap (λ o. target_found places g dim x (Some zs) o (Some t)) w
       ∙ ap (λ (b : Bool). if b then stray_found places (map_count g) dim x (first_stray (set_size g t) 0 zs) else []) f
 

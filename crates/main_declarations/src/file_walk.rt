@@ -7,6 +7,7 @@ ghost use Rattle.main_names.specs.declared.scopes.Meaning.TheVariants.{Variable}
 ghost use Rattle.main_names.specs.SoFar.{next_cells, with_var, with_file_name, changing};
 ghost use Rattle.main_declarations.specs.Variables.{with_file_value, judged_file_declr, judged_file_declrs};
 ghost use Rattle.main_declarations.specs.File.{judged_top, judged_tops};
+ghost use Rattle.main_declarations.specs.KnownSets.{SetsKnown};
 ghost use Rattle.main_names.specs.Walks.{declared_of};
 ghost use Rattle.bind_refusals.specs.Refusals.{Judges};
 
@@ -174,9 +175,10 @@ pub fn judged_top(source: &Source<'_>, k: &mut Declared, top: &Top) -> Result<()
     }
 }
 
-/// The file before `main`, in order.
+/// The file before `main`, in order. Where names of sets stand for those of the mesh, they still do.
 pub fn judged_tops(source: &Source<'_>, k: &mut Declared, tops: &[Top]) -> Result<(), BindRefusal>
-    ensures { Judges result (declared_of k.new)
+    ensures sets { SetsKnown (declared_of k.old) → OnOk result (SetsKnown (declared_of k.new)) }
+    ensures judged { Judges result (declared_of k.new)
         (judged_tops source.now.places.now source.now.consts.now source.now.entries.now.entries
         (declared_of k.old) (map top_of tops.now)) }
 {

@@ -1,12 +1,13 @@
 // Declarations of maps. The targets are gone through once: as the map is added, or, where something else is wrong with it, to
 // find whether one of them counts before.
 
-ghost use Rattle.std.specs.Prelude.{◌≡◌, ◌+◌, length, Some, IfOk, OnOk};
+ghost use Rattle.std.specs.Prelude.{◌≡◌, ◌<◌, ◌+◌, ◌*◌, length, Some, None, IfOk, OnOk};
 ghost use Rattle.std.specs.Option.{option_or};
-ghost use Rattle.mesh_decl.specs.Mesh.{map_count, set_size};
+ghost use Rattle.mesh_decl.specs.Mesh.{set_count, map_count, set_size};
 ghost use Rattle.main_names.specs.Names.{declare};
 ghost use Rattle.bind_refusals.specs.Refusals.{least_from, first_of, unless_found, Judges};
 ghost use Rattle.main_declarations.specs.Declarations.{with_map, first_stray, stray_found, map_decl_found, judged_map};
+ghost use Rattle.main_declarations.specs.KnownSets.{SetsKnown};
 ghost use Rattle.main_declarations.specs.Targets.{target_refusal, shape_found, shape_decl_found, targets_found, strays_found};
 ghost use Rattle.main_names.specs.Walks.{declared_of};
 
@@ -93,9 +94,9 @@ fn first_with_targets(
     to: &Ident,
     n: NumberLiteral,
     array: &Ident,
-) -> Result<Option<Found>, OutOfMemory>
-    ensures { IfOk result (λ f. f ≡ least_from (Some found)
-        (targets_found source.now.places.now source.now.entries.now.entries (declared_of k.now) from.now to.now n array.now)) }
+) -> Option<Found>
+    ensures { result ≡ least_from (Some found)
+        (targets_found source.now.places.now source.now.entries.now.entries (declared_of k.now) from.now to.now n array.now) }
 {
     let dim = n.value.unsigned_abs();
     let is_array = is_extern_array(k.names.means(&array.name));
@@ -105,8 +106,8 @@ fn first_with_targets(
     let mut first = Some(found);
     note_targets(
         source, &mut first, &k.mesh, dim, array, is_array, values, awaits, to,
-    )?;
-    Ok(first)
+    );
+    first
 }
 
 // The first of what is wrong with the declaration of a map; none where it can only be a target.
@@ -120,15 +121,18 @@ fn first_in_map(
     n: NumberLiteral,
     array: &Ident,
 ) -> Result<Option<Found>, OutOfMemory>
-    ensures { IfOk result (λ f. first_of
+    ensures first { IfOk result (λ f. first_of
         (map_decl_found source.now.places.now source.now.entries.now.entries (declared_of k.now)
         is_nested t from.now to.now n array.now)
         ≡ option_or f (first_of
         (strays_found source.now.places.now source.now.entries.now.entries (declared_of k.now) to.now n array.now))) }
+    ensures shape { IfOk result (λ f. f ≡ None → first_of
+        (shape_decl_found source.now.places.now source.now.entries.now.entries (declared_of k.now)
+        is_nested t from.now to.now n array.now) ≡ None) }
 {
     match first_in_shape(source, k, is_nested, t, from, to, n, array)? {
         None => Ok(None),
-        Some(found) => first_with_targets(source, found, k, from, to, n, array),
+        Some(found) => Ok(first_with_targets(source, found, k, from, to, n, array)),
     }
 }
 
@@ -179,6 +183,10 @@ fn add_map(
     array: &Ident,
     values: &[i32],
 ) -> Result<(), BindRefusal>
+    requires from { from < set_count k.old.mesh }
+    requires to { to < set_count k.old.mesh }
+    requires dim { 0 < dim }
+    requires size { length values.now ≡ set_size k.old.mesh from * dim }
     ensures { Judges result (declared_of k.new) (unless_found
         (stray_found source.now.places.now (map_count k.old.mesh) dim array.now (first_stray (set_size k.old.mesh to) 0 values.now))
         (record (declared_of k.old) {
@@ -190,13 +198,6 @@ fn add_map(
     let Some(filled) = k.filled.checked_add(values.len() as u64) else {
         return Err(BindRefusal::OutOfMemory);
     };
-    let count = k.mesh.set_count();
-    if dim == 0 || from >= count || to >= count {
-        return Err(BindRefusal::OutOfMemory);
-    }
-    if values.len() as u64 != k.mesh.set_size(from) as u64 * dim as u64 {
-        return Err(BindRefusal::OutOfMemory);
-    }
     let map = k.mesh.map_count();
     let name = own_name(x)?;
     let targets = values.to_vec(source.alloc)?;
@@ -209,7 +210,7 @@ fn add_map(
     }
 }
 
-/// `op_map x = op_decl_map(from, to, n, array, "..");`, its word at the token t.
+/// `op_map x = op_decl_map(from, to, n, array, "..");`, its word at the token t. The names of sets stand for those of the mesh.
 pub fn judged_map(
     source: &Source<'_>,
     k: &mut Declared,
@@ -221,6 +222,7 @@ pub fn judged_map(
     n: NumberLiteral,
     array: &Ident,
 ) -> Result<(), BindRefusal>
+    requires { SetsKnown (declared_of k.old) }
     ensures { Judges result (declared_of k.new)
         (judged_map source.now.places.now source.now.entries.now.entries (declared_of k.old)
         is_nested t x.now from.now to.now n array.now) }

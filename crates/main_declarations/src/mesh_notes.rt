@@ -1,6 +1,6 @@
 // What is wrong with the declaration of a set, a map or a dat.
 
-ghost use Rattle.std.specs.Prelude.{◌≡◌, ◌+◌, codes, length, pos, IfOk, OnOk};
+ghost use Rattle.std.specs.Prelude.{◌≡◌, ◌<◌, ◌≤◌, ◌+◌, ◌*◌, ◌^◌, codes, length, pos, IfSome, IfOk, OnOk};
 ghost use Rattle.std.specs.Str.{bytes_eq};
 ghost use Rattle.c_tree.specs.View.{expr_of};
 ghost use Rattle.mesh_decl.specs.Mesh.{set_size, is_element as is_element_of};
@@ -30,7 +30,8 @@ fn is_dim(n: u32) -> bool
 
 /// How many values are awaited; none where the set or the dim is refused.
 pub fn awaited(mesh: &Mesh, set: Option<u32>, dim: u32) -> Option<u64>
-    ensures { result ≡ awaited mesh.now set dim }
+    ensures count { result ≡ awaited mesh.now set dim }
+    ensures few { IfSome result (λ n. (0 < dim) × (n ≤ 2 ^ 32 * dim)) }
 {
     match set {
         None => None,
@@ -145,7 +146,8 @@ fn is_element(size: u32, target: &i32) -> bool
 // The index of the first value that is no element of a set of this size.
 #[tactic(auto, using(crate::proofs::Strays::stray_go, crate::proofs::Strays::stray_stops))]
 fn first_stray(size: u32, values: &[i32]) -> Option<usize>
-    ensures { result ≡ first_stray size 0 values.now }
+    ensures stray { result ≡ first_stray size 0 values.now }
+    ensures within { IfSome result (λ i. i < length values.now) }
 {
     let mut index = 0;
     for value in values {
@@ -165,16 +167,15 @@ fn note_index(
     dim: u32,
     x: &Ident,
     stray: Option<usize>,
-) -> Result<(), OutOfMemory>
-    ensures { OnOk result (first.new ≡ least_from first.old (stray_found source.now.places.now map dim x.now stray)) }
+)
+    requires dim { 0 < dim }
+    requires element { IfSome stray (λ i. i < 2 ^ 32 * dim) }
+    ensures { first.new ≡ least_from first.old (stray_found source.now.places.now map dim x.now stray) }
 {
     let Some(index) = stray else {
-        return Ok(());
+        return;
     };
     let dim = dim as usize;
-    if dim == 0 || index / dim > 4294967295 {
-        return Err(AllocError);
-    }
     let at = place(source.places, x.at);
     let element = (index / dim) as u32;
     let place = (index % dim) as u32;
@@ -189,10 +190,9 @@ fn note_index(
             place,
         },
     );
-    Ok(())
 }
 
-/// The same, where the values are those that are awaited and the target set is known.
+/// The same, where the values are those that are awaited, of a set with fewer than 2^32 elements, and the target set is known.
 pub fn note_targets(
     source: &Source<'_>,
     first: &mut Option<Found>,
@@ -203,21 +203,22 @@ pub fn note_targets(
     values: &[i32],
     awaits: Option<u64>,
     to: Option<u32>,
-) -> Result<(), OutOfMemory>
-    ensures { OnOk result (first.new ≡ least_from first.old
-        (target_found source.now.places.now mesh.now dim x.now (array_if is_array values.now) awaits to)) }
+)
+    requires { IfSome awaits (λ n. (0 < dim) × (n ≤ 2 ^ 32 * dim)) }
+    ensures { first.new ≡ least_from first.old
+        (target_found source.now.places.now mesh.now dim x.now (array_if is_array values.now) awaits to) }
 {
     if !is_array {
-        return Ok(());
+        return;
     }
     let Some(n) = awaits else {
-        return Ok(());
+        return;
     };
     let Some(to) = to else {
-        return Ok(());
+        return;
     };
     if values.len() as u64 != n {
-        return Ok(());
+        return;
     }
     let stray = first_stray(set_size(mesh, to), values);
     note_index(source, first, mesh.map_count(), dim, x, stray)

@@ -1,14 +1,15 @@
 // Declarations of sets and dats.
 
-ghost use Rattle.std.specs.Prelude.{◌≡◌, ◌+◌, length, IfOk, OnOk};
+ghost use Rattle.std.specs.Prelude.{◌≡◌, ◌<◌, ◌+◌, ◌*◌, length, IfOk, OnOk};
 ghost use Rattle.c_tree.specs.View.{expr_of};
-ghost use Rattle.mesh_decl.specs.Mesh.{set_count, dat_count};
+ghost use Rattle.mesh_decl.specs.Mesh.{set_count, dat_count, set_size};
 ghost use Rattle.kernel_types.specs.View.{rexpr_of};
 ghost use Rattle.main_names.specs.Names.{declare};
 ghost use Rattle.bind_refusals.specs.Refusals.{least_from, first_of, Judges};
 ghost use Rattle.main_names.specs.Expressions.{resolved};
 ghost use Rattle.main_declarations.specs.Declarations.{with_set, with_dat, size_found, size_of, set_decl_found};
 ghost use Rattle.main_declarations.specs.Declarations.{dat_found, dat_decl_found, judged_set, judged_dat};
+ghost use Rattle.main_declarations.specs.KnownSets.{SetsKnown};
 ghost use Rattle.main_names.specs.Walks.{declared_of};
 
 use crate::mesh_notes::{
@@ -165,6 +166,9 @@ fn add_dat(
     dim: u32,
     values: &[i32],
 ) -> Result<(), OutOfMemory>
+    requires set { set < set_count k.old.mesh }
+    requires dim { 0 < dim }
+    requires size { length values.now ≡ set_size k.old.mesh set * dim }
     ensures { OnOk result (declared_of k.new ≡ record (declared_of k.old) {
       filled = k.old.filled + length values.now;
       mesh = with_dat x.now.name set dim values.now k.old.mesh;
@@ -174,12 +178,6 @@ fn add_dat(
     let Some(filled) = k.filled.checked_add(values.len() as u64) else {
         return Err(AllocError);
     };
-    if dim == 0 || set >= k.mesh.set_count() {
-        return Err(AllocError);
-    }
-    if values.len() as u64 != k.mesh.set_size(set) as u64 * dim as u64 {
-        return Err(AllocError);
-    }
     let name = x.name.clone()?;
     let items = values.to_vec(source.alloc)?;
     let number = k.mesh.add_dat(name, set, dim, items)?;
@@ -217,7 +215,7 @@ fn first_in_dat(
     Ok(first)
 }
 
-/// `op_dat x = op_decl_dat(set, n, l, array, "..");`, its word at the token t.
+/// `op_dat x = op_decl_dat(set, n, l, array, "..");`, its word at the token t. The names of sets stand for those of the mesh.
 pub fn judged_dat(
     source: &Source<'_>,
     k: &mut Declared,
@@ -229,6 +227,7 @@ pub fn judged_dat(
     l: &TextLiteral,
     array: &Ident,
 ) -> Result<(), BindRefusal>
+    requires { SetsKnown (declared_of k.old) }
     ensures { Judges result (declared_of k.new)
         (judged_dat source.now.places.now source.now.entries.now.entries (declared_of k.old)
         is_nested t x.now set.now n l.now array.now) }

@@ -1,6 +1,6 @@
 // The statements of `main`, judged in the order of the text.
 
-ghost use Rattle.std.specs.Prelude.{◌≡◌, length, map, option_map, is_none, IfOk};
+ghost use Rattle.std.specs.Prelude.{◌≡◌, length, map, option_map, is_none, IfOk, OnOk};
 ghost use Rattle.c_tree.specs.View.{expr_of, place_of, assignment_of, call_of, host_of, hosts_of};
 ghost use Rattle.kernel_types.specs.View.{rexpr_of};
 ghost use Rattle.mesh_decl.specs.Printed.{conversions};
@@ -12,6 +12,8 @@ ghost use Rattle.main_names.specs.Expressions.{resolved};
 ghost use Rattle.main_trace.specs.Steps.{Block, Choose, Repeat};
 ghost use Rattle.main_text.specs.Text.{target_name, target_index, assignment, line_found, nested, judged_call, judged_host, judged_hosts};
 ghost use Rattle.main_trace.specs.Unrolling.{asked_of, step_of, steps_of};
+ghost use Rattle.main_declarations.specs.Variables.{with_turning};
+ghost use Rattle.main_declarations.specs.KnownSets.{SetsKnown};
 ghost use Rattle.main_names.specs.Walks.{declared_of, walked};
 
 use crate::loops::judged_loop;
@@ -202,6 +204,7 @@ fn judged_call(
     spot: Spot,
     call: &OpCall,
 ) -> Result<(), BindRefusal>
+    requires { SetsKnown (declared_of k.old) }
     ensures { Judges result (walked k.new steps.new.items)
         (judged_call source.now.places.now source.now.consts.now source.now.entries.now.entries
         (walked k.old steps.old.items) spot (call_of call.now)) }
@@ -280,6 +283,33 @@ fn nested(spot: Spot) -> Spot
     }
 }
 
+// The body of a `for` knows its counter; the names of sets still stand for those of the mesh.
+fn with_counter(source: &Source<'_>, k: &mut Declared, counter: &Ident) -> Result<(), OutOfMemory>
+    requires { SetsKnown (declared_of k.old) }
+    ensures counter { OnOk result (declared_of k.new ≡ with_turning source.now.places.now (declared_of k.old) counter.now.name) }
+    ensures sets { OnOk result (SetsKnown (declared_of k.new)) }
+{
+    with_turning(source, k, &counter.name)
+}
+
+// A statement that is a part of another; behind it the names of sets still stand for those of the mesh.
+#[cycle(judged_hosts)]
+fn judged_part(
+    source: &Source<'_>,
+    host: &Host,
+    k: &mut Declared,
+    steps: &mut Vec<Step>,
+    spot: Spot,
+) -> Result<(), BindRefusal>
+    requires { SetsKnown (declared_of k.old) }
+    ensures judged { Judges result (walked k.new steps.new.items)
+        (judged_host source.now.places.now source.now.consts.now source.now.entries.now.entries
+        (walked k.old steps.old.items) spot (host_of host.now)) }
+    ensures sets { OnOk result (SetsKnown (declared_of k.new)) }
+{
+    judged_host(source, host, k, steps, spot)
+}
+
 /// A statement of `main`.
 #[cycle(judged_hosts)]
 #[tactic(auto, using(crate::proofs::WalkTurns::host_block))]
@@ -290,6 +320,7 @@ fn judged_host(
     steps: &mut Vec<Step>,
     spot: Spot,
 ) -> Result<(), BindRefusal>
+    requires { SetsKnown (declared_of k.old) }
     ensures { Judges result (walked k.new steps.new.items)
         (judged_host source.now.places.now source.now.consts.now source.now.entries.now.entries
         (walked k.old steps.old.items) spot (host_of host.now)) }
@@ -333,7 +364,7 @@ fn judged_host(
         } => {
             let test = judged_static(source.alloc, source.places, &k.names, condition)?;
             let mut inner = Vec::new(source.alloc);
-            judged_host(source, then, k, &mut inner, nested(spot))?;
+            judged_part(source, then, k, &mut inner, nested(spot))?;
             let mut other = Vec::new(source.alloc);
             judged_host(source, otherwise, k, &mut other, nested(spot))?;
             add_step(steps, choose(source.alloc, test, inner, other)?)?;
@@ -343,7 +374,7 @@ fn judged_host(
             let known = k.names.own.len();
             let told = k.names.told;
             let from = judged_static(source.alloc, source.places, &k.names, &header.from)?;
-            with_turning(source, k, &header.name.name)?;
+            with_counter(source, k, &header.name)?;
             let to = judged_static(source.alloc, source.places, &k.names, &header.to)?;
             let mut inner = Vec::new(source.alloc);
             let turning = Spot {
@@ -359,7 +390,7 @@ fn judged_host(
     }
 }
 
-/// Statements of `main`, in order.
+/// Statements of `main`, in order. The names of sets stand for those of the mesh.
 #[cycle(judged_hosts)]
 pub fn judged_hosts(
     source: &Source<'_>,
@@ -368,6 +399,7 @@ pub fn judged_hosts(
     steps: &mut Vec<Step>,
     spot: Spot,
 ) -> Result<(), BindRefusal>
+    requires { SetsKnown (declared_of k.old) }
     ensures { Judges result (walked k.new steps.new.items)
         (judged_hosts source.now.places.now source.now.consts.now source.now.entries.now.entries
         (walked k.old steps.old.items) spot (hosts_of all.now)) }

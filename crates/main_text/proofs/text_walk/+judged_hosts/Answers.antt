@@ -1,4 +1,5 @@
-use Rattle.std.proofs.Common.{◌≡◌, ◌∙◌, sym, ap, length, ℕ, List}
+use Rattle.std.proofs.Common.{◌≡◌, ◌∙◌, sym, ap, length, ℕ, List, rules, arith}
+use Rattle.std.proofs.lemmas.Grind.{common_steps}
 use Rattle.std.proofs.lemmas.Result.{err_from_is_err_and}
 use Rattle.c_tree.specs.declared.hosts.Host.{Host}
 use Rattle.c_tree.specs.Tree.{HostBlock}
@@ -10,6 +11,7 @@ use Rattle.main_trace.specs.Steps.{Step, Block, followed, one_step}
 use Rattle.main_text.specs.Text.{opened}
 use Rattle.main_trace.specs.Unrolling.{steps_of}
 use Rattle.main_names.specs.Walks.{walked}
+use Rattle.main_text.proofs.KeptSets.{host_known, judged_known}
 use Rattle.main_text.proofs.HostTurns.{block_stops, block_done}
 use Rattle.main_text.proofs.text_walk.+judged_hosts.Goals as goal
 
@@ -42,3 +44,14 @@ judged_host-returns-in_ok-add_step-in-Block t c =
     let steps : followed a.steps (one_step (Block d.steps)) ≡ steps_of c.add_step.new.steps.items =
     ap (λ (x : Step). followed a.steps (one_step x)) (sym c.block.ensures) ∙ sym c.in_ok-add_step-in-Block.ensures in
     rw e (block_done s.places.now s.consts.now s.entries.now.entries a b c.args.spot c.nested.result c.in-Block.at hs o c.nested.ensures d (scope_of c.cut.new.self) (steps_of c.add_step.new.steps.items) c.in_ok-judged_hosts-in-Block.ensures names steps)
+
+pub judged_part-returns-clause-sets : goal.judged_part-returns-clause-sets
+judged_part-returns-clause-sets t c =
+    let s = c.args.source.now in
+    judged_known s.places.now s.consts.now s.entries.now.entries (walked c.args.k.now c.args.steps.now.items) c.args.spot (host_of c.args.host.now) c.judged_host.new.k c.judged_host.new.steps.items c.judged_host.result c.judged_host.ensures c.requires
+
+pub judged_hosts-loop-host-preserved : goal.judged_hosts-loop-host-preserved
+judged_hosts-loop-host-preserved t c = record {
+  judged = first_of (search rules, grind (arith, common_steps));
+  sets = host_known c.args.source.now.places.now c.args.source.now.consts.now c.args.source.now.entries.now.entries (walked c.loop-host.k c.loop-host.steps.items) c.args.spot (host_of c.host-item.result) c.judged_host.new.k c.judged_host.new.steps.items c.in_ok-judged_host.ensures c.loop-host.invariant.sets;
+}

@@ -1,10 +1,13 @@
 use Rattle.std.proofs.Common.{◌≡◌, drop}
 use Rattle.c_tree.specs.View.{hosts_of}
+use Rattle.main_declarations.specs.KnownSets.{SetsKnown}
 use Rattle.main_text.specs.Text.{judged_hosts}
-use Rattle.main_names.specs.Walks.{walked}
+use Rattle.main_names.specs.Walks.{declared_of, walked}
 use Rattle.main_text.proofs.text_walk.+judged_hosts.Given as goal
 
--- What the statements so far came to, and the rest, come to what all do.
+-- What the statements so far came to, and the rest, come to what all do; and names of sets stand for those of the mesh.
 abbrev pub invariant-judged_hosts-loop-host : goal.invariant-judged_hosts-loop-host
-invariant-judged_hosts-loop-host l =
-    judged_hosts l.source.places.now l.source.consts.now l.source.entries.now.entries (walked l.k l.steps.items) l.spot (hosts_of (drop l.host-index l.all)) ≡ judged_hosts l.source.places.now l.source.consts.now l.source.entries.now.entries (walked l.initial.k l.initial.steps.items) l.spot (hosts_of l.all)
+invariant-judged_hosts-loop-host l = record {
+  judged : judged_hosts l.source.places.now l.source.consts.now l.source.entries.now.entries (walked l.k l.steps.items) l.spot (hosts_of (drop l.host-index l.all)) ≡ judged_hosts l.source.places.now l.source.consts.now l.source.entries.now.entries (walked l.initial.k l.initial.steps.items) l.spot (hosts_of l.all);
+  sets : SetsKnown (declared_of l.k);
+}

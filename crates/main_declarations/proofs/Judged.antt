@@ -23,6 +23,10 @@ pub gives_weaker : {A : Type 0} (P Q : A → Type 0) (r : Judged A) → Gives P 
 gives_weaker P Q (Ok x) h k = k x h
 gives_weaker P Q (Err e) h k = tt
 
+pub gives_any : {A : Type 0} (r : Judged A) → Gives (λ x. Unit {0}) r
+gives_any (Ok x) = tt
+gives_any (Err e) = tt
+
 pub nothing_found : (all : List Found) → first_of all ≡ None → all ≡ []
 nothing_found all e = subst (λ o. IfNone o (all ≡ [])) e (answers all).1
 
