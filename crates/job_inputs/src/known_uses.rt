@@ -1,7 +1,8 @@
 // The parameters of kernels that were judged, each with its access and dim.
 //
 // What a kernel may do to an argument depends on the mode of that argument alone. So a loop needs no walk over its kernel where
-// each of its arguments was judged before, in loops of that kernel.
+// each of its arguments was judged before, in loops of that kernel. A parameter past the last one is noted too, so that a kernel
+// without parameters is also walked once.
 
 ghost use Rattle.std.specs.Prelude.{◌≡◌, ◌≤◌, ◌⊎◌, ℕ, length, Contains, IsTrue, OnOk};
 ghost use Rattle.job_inputs.specs.declared.known_uses.ArgUse.{ArgUse as Use};
@@ -60,7 +61,7 @@ fn use_at(kernel: u32, modes: &[Mode], param: u32) -> ArgUse
     }
 }
 
-/// Whether all uses of the kernel's parameters are among the known ones.
+/// Whether all uses of the kernel's parameters, and of one past the last, are among the known ones.
 pub fn are_known(known: &KnownUses, kernel: u32, modes: &[Mode]) -> bool
     requires { length modes.now ≤ 16 }
     ensures { IsTrue result → (a : ℕ) → a ≤ length modes.now → Contains known.now.keys (use_of kernel modes.now a) }
@@ -73,7 +74,7 @@ pub fn are_known(known: &KnownUses, kernel: u32, modes: &[Mode]) -> bool
     true
 }
 
-/// Takes in the uses of the kernel's parameters.
+/// Takes in the uses of the kernel's parameters, and of one past the last.
 pub fn note_uses(known: &mut KnownUses, kernel: u32, modes: &[Mode]) -> Result<(), OutOfMemory>
     requires { length modes.now ≤ 16 }
     ensures { OnOk result ((u : Use) → Contains known.new.keys u
