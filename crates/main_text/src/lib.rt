@@ -7,6 +7,7 @@ mod globals;
 mod loops;
 mod prints;
 mod text_walk;
+mod turns;
 
 pub use prints::conversions;
 pub use text_walk::judged_hosts;

@@ -1,6 +1,6 @@
 // The loops of a program: their kernels, sets and arguments.
 
-ghost use Rattle.std.specs.Prelude.{◌≡◌, ◌++◌, ◌∷◌, [], map, IfOk, OnOk};
+ghost use Rattle.std.specs.Prelude.{◌≡◌, ◌++◌, ◌∷◌, [], length, map, IfOk, OnOk};
 ghost use Rattle.bound_program.specs.Values.{site_of};
 ghost use Rattle.bind_refusals.specs.Refusals.{least_from, first_of, Judges};
 ghost use Rattle.main_text.specs.Arguments.{kernel_found, kernel_number, loop_found, arg_of, site, judged_args, judged_loop};
@@ -14,6 +14,7 @@ use c_tree::{Ident, LoopArg};
 use main_declarations::note_set;
 use main_names::{Declared, Meaning, Source, or_zero, set_of};
 use op_num::OutOfMemory;
+use std::alloc::AllocError;
 
 // No kernel is meant, or it doesn't take so many arguments.
 fn note_kernel(
@@ -142,6 +143,17 @@ fn judged_args(
     let site = site_at(source, k, t, f, on, args)?;
     add_site(k, site)?;
     Ok(())
+}
+
+/// The number of the next loop.
+pub fn next_site(k: &Declared) -> Result<u32, OutOfMemory>
+    ensures { IfOk result (λ n. n ≡ length (declared_of k.now).sites) }
+{
+    let number = k.sites.len();
+    if number >= 4294967295 {
+        return Err(AllocError);
+    }
+    Ok(number as u32)
 }
 
 /// `op_par_loop(f, "..", on, args ..);`, its word at the token t.

@@ -12,23 +12,23 @@ ghost use Rattle.main_names.specs.Expressions.{resolved};
 ghost use Rattle.main_trace.specs.Steps.{Block, Choose, Repeat};
 ghost use Rattle.main_text.specs.Text.{target_name, target_index, assignment, line_found, nested, judged_call, judged_host, judged_hosts};
 ghost use Rattle.main_trace.specs.Unrolling.{asked_of, step_of, steps_of};
-ghost use Rattle.main_declarations.specs.Variables.{with_turning};
 ghost use Rattle.main_declarations.specs.KnownSets.{SetsKnown};
 ghost use Rattle.main_names.specs.Walks.{declared_of, walked};
 
-use crate::loops::judged_loop;
+use crate::loops::{judged_loop, next_site};
 use crate::prints::conversions;
+use crate::turns::with_counter;
 use bind_refusals::{BindRefusal, place};
 use bound_program::Act;
 use c_tree::{Assignment, Expr, Host, Ident, OpCall, Place, TextLiteral};
 use kernel_types::RExpr;
 use main_declarations::{
-    add_step, judged_constant, judged_dat, judged_declrs, judged_map, judged_set, with_turning,
+    add_step, judged_constant, judged_dat, judged_declrs, judged_map, judged_set,
 };
 use main_names::{Declared, Source, Spot, cells_of, dat_of, judged_static, or_zero, resolved};
 use main_trace::{Asked, Step};
 use op_num::OutOfMemory;
-use std::alloc::{AllocError, Global};
+use std::alloc::Global;
 
 // The name of a target.
 fn target_name<'a>(source: &Source<'_>, target: &'a Place) -> &'a Ident
@@ -185,17 +185,6 @@ fn judged_print(
     })
 }
 
-// The number of the next loop.
-fn next_site(k: &Declared) -> Result<u32, OutOfMemory>
-    ensures { IfOk result (λ n. n ≡ length (declared_of k.now).sites) }
-{
-    let number = k.sites.len();
-    if number >= 4294967295 {
-        return Err(AllocError);
-    }
-    Ok(number as u32)
-}
-
 // A call of the library.
 fn judged_call(
     source: &Source<'_>,
@@ -281,15 +270,6 @@ fn nested(spot: Spot) -> Spot
         is_nested: true,
         in_for: spot.in_for,
     }
-}
-
-// The body of a `for` knows its counter; the names of sets still stand for those of the mesh.
-fn with_counter(source: &Source<'_>, k: &mut Declared, counter: &Ident) -> Result<(), OutOfMemory>
-    requires { SetsKnown (declared_of k.old) }
-    ensures counter { OnOk result (declared_of k.new ≡ with_turning source.now.places.now (declared_of k.old) counter.now.name) }
-    ensures sets { OnOk result (SetsKnown (declared_of k.new)) }
-{
-    with_turning(source, k, &counter.name)
 }
 
 // A statement that is a part of another; behind it the names of sets still stand for those of the mesh.

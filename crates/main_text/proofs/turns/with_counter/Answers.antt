@@ -1,5 +1,5 @@
 use Rattle.main_text.proofs.KeptSets.{counter_known, on_ok}
-use Rattle.main_text.proofs.text_walk.with_counter.Goals as goal
+use Rattle.main_text.proofs.turns.with_counter.Goals as goal
 
 pub returns-clause-sets : goal.returns-clause-sets
 returns-clause-sets c =
