@@ -143,6 +143,10 @@ module _ {F : Type 0} (p : Setup F) (l : Layout F) (t : Tables) where
   pub reached_at : (all left : List Step) (old st : State F) (o : Option Step) (s : Step) → o ≡ Some s → Reached p l t all (to_come o left) old st → Reached p l t all (s ∷ left) old st
   reached_at all left old st o s e r = subst (λ z. Reached p l t all (to_come z left) old st) e r
 
+  -- the step that is to be taken ends the front of those that aren't to come
+  pub front_taken : (all left : List Step) (s : Step) (old st : State F) → Reached p l t all (s ∷ left) old st → (front : List Step) × (all ≡ front ++ left)
+  front_taken all left s old st r = (r.front ++ (s ∷ []), r.split ∙ sym (append_assoc r.front (s ∷ []) left))
+
   -- several steps more
   pub reached_more : (all come rest done : List Step) (old st new : State F) → Reached p l t all come old st → come ≡ done ++ rest → Done p l t done st new → Reached p l t all rest old new
   reached_more all come rest done old st new r e d = record {

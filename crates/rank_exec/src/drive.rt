@@ -1,7 +1,8 @@
 // The steps of a list, one after another, up to the first that stops.
 
-ghost use Rattle.std.specs.Prelude.{◌≡◌, ◌<◌, ◌≤◌, ◌+◌, ℕ, List, length, Option, None, IfOk};
+ghost use Rattle.std.specs.Prelude.{◌≡◌, ◌<◌, ◌≤◌, ◌+◌, ◌++◌, ℕ, List, length, Option, None, IfOk};
 ghost use Rattle.kernel_types.specs.declared.faults.KernelFault.{KernelFault};
+ghost use Rattle.schedule_steps.specs.declared.step.Step.{Step};
 ghost use Rattle.schedule_steps.specs.declared.step.Step.TheVariants.{Send, Recv, Begin, End, Join};
 ghost use Rattle.schedule_steps.specs.Steps.{IsStep, Accepted};
 ghost use Rattle.schedule_model.specs.Laws.{Lawful, Coloured};
@@ -92,11 +93,12 @@ fn run<R: Threads + Sync, G: Gate, P: Items, S: Steps>(
     requires starts { (f : Flat KernelFault) × StartsFlat (P.setup parts.now) (P.layout parts.now) f
         × Shows (P.setup parts.now) (P.layout parts.now) (P.tables parts.now) machine.old f }
     requires peak { FitsPeak (P.layout parts.now) machine.old.frames.left machine.old.mail.left (S.left steps.old) }
-    ensures { IfOk result
+    ensures after { IfOk result
         (λ stop. (f : Flat KernelFault) → StartsFlat (P.setup parts.now) (P.layout parts.now) f
         → Shows (P.setup parts.now) (P.layout parts.now) (P.tables parts.now) machine.old f
         → After (P.setup parts.now) (P.layout parts.now) (P.tables parts.now) (stop_in stop) machine.new
         (flat_from (P.setup parts.now) (P.layout parts.now) (S.left steps.old) f)) }
+    ensures suffix { (front : List Step) × (S.left steps.old ≡ front ++ S.left steps.new) }
 {
     schedule_steps::peak_is_room();
     rank_state::steps_are_ready::<KernelFault>();
@@ -122,6 +124,9 @@ fn run<R: Threads + Sync, G: Gate, P: Items, S: Steps>(
 /// A run of begins is done in groups by the `workers`, at least 1, and `gate` is told of each begin of a group; a begin that
 /// its own end follows is done in place, and the gate isn't told. The answer is the same for every number of workers and
 /// every gate. `room` is what [`RunRoom::new`] gives; memory is wanted for what joins print.
+///
+/// However it ends, by the last step, by a stop or for want of memory, what `steps` still holds is a suffix of what it held:
+/// steps are taken from the front, and none is put back.
 ///
 /// # Errors
 /// Want of memory alone.
@@ -151,6 +156,7 @@ pub fn drive<R: Threads + Sync, G: Gate, P: Items, S: Steps>(
         → Shows (P.setup parts.now) (P.layout parts.now) (P.tables parts.now) machine.old f
         → Shows (P.setup parts.now) (P.layout parts.now) (P.tables parts.now) machine.new
         (flat_from (P.setup parts.now) (P.layout parts.now) (S.left steps.old) f)) }
+    ensures suffix { (front : List Step) × (S.left steps.old ≡ front ++ S.left steps.new) }
 {
     flat_machine::flat_runs_as_sequential::<KernelFault>();
     let stop = run(rt, alloc, machine, parts, room, steps, workers, gate)?;

@@ -8,7 +8,7 @@ use Rattle.flat_machine.specs.Flat.{Flat, flat_step, flat_from}
 use Rattle.rank_state.specs.Groups.{begins}
 use Rattle.rank_machine.specs.Stops.{stop_of, stop_in}
 use Rattle.rank_exec.specs.Driving.{Ready, After, Reached, to_come, takes, shuts}
-use Rattle.rank_exec.proofs.Driving.{reached_none, reached_at, reached_more, reached_step, count_append, count_below, at_stop}
+use Rattle.rank_exec.proofs.Driving.{reached_none, reached_at, reached_more, reached_step, front_taken, count_append, count_below, at_stop}
 use Rattle.rank_exec.proofs.Grouping.{opened_by}
 use Rattle.rank_exec.proofs.drive.run.Goals as goal
 
@@ -80,13 +80,25 @@ take-requires-clause-ready g c = by_step c.in-Some.step r.split
     by_step (End k b x) e = c.steps_are_ready.ensures.end (g.P.Parts.setup c.args.parts.now) (g.P.Parts.layout c.args.parts.now) (g.P.Parts.tables c.args.parts.now) (g.S.Steps.left c.args.steps.now) c.requires.accepted c.requires.starts.0 c.requires.starts.1 r.front (g.S.Steps.left c.loop-next.steps) k b x e c.loop-next.machine (r.shows c.requires.starts.0 c.requires.starts.1 c.requires.starts.2)
     by_step (Join k) e = tt
 
-pub returns-in-Some-2 : goal.returns-in-Some-2
-returns-in-Some-2 g c f hs h =
+pub returns-in-Some-2-clause-after : goal.returns-in-Some-2-clause-after
+returns-in-Some-2-clause-after g c f hs h =
     let at = r.shows f hs h in
     let after : After (g.P.Parts.setup c.args.parts.now) (g.P.Parts.layout c.args.parts.now) (g.P.Parts.tables c.args.parts.now) (Some (stop_of c.in-Some-2.stop)) c.take.new.machine (flat_step (g.P.Parts.setup c.args.parts.now) (g.P.Parts.layout c.args.parts.now) c.in-Some.step (flat_from (g.P.Parts.setup c.args.parts.now) (g.P.Parts.layout c.args.parts.now) r.front f)) =
     subst (λ o. After (g.P.Parts.setup c.args.parts.now) (g.P.Parts.layout c.args.parts.now) (g.P.Parts.tables c.args.parts.now) (stop_in o) c.take.new.machine (flat_step (g.P.Parts.setup c.args.parts.now) (g.P.Parts.layout c.args.parts.now) c.in-Some.step (flat_from (g.P.Parts.setup c.args.parts.now) (g.P.Parts.layout c.args.parts.now) r.front f))) c.in-Some-2.is (c.in_ok-stop.ensures.after (flat_from (g.P.Parts.setup c.args.parts.now) (g.P.Parts.layout c.args.parts.now) r.front f) at) in
     let whole = at_stop (g.P.Parts.setup c.args.parts.now) (g.P.Parts.layout c.args.parts.now) (g.S.Steps.left c.args.steps.now) r.front (g.S.Steps.left c.loop-next.steps) c.in-Some.step f r.split at.stop (stop_of c.in-Some-2.stop) after.0 in
     (ap (λ (z : Flat KernelFault). z.stop) whole ∙ after.0, ap (λ (z : Flat KernelFault). z.output) whole ∙ after.1)
+  where
+    r : Reached (g.P.Parts.setup c.args.parts.now) (g.P.Parts.layout c.args.parts.now) (g.P.Parts.tables c.args.parts.now) (g.S.Steps.left c.args.steps.now) (c.in-Some.step ∷ g.S.Steps.left c.loop-next.steps) c.args.machine.now c.loop-next.machine
+    r = reached_at (g.P.Parts.setup c.args.parts.now) (g.P.Parts.layout c.args.parts.now) (g.P.Parts.tables c.args.parts.now) (g.S.Steps.left c.args.steps.now) (g.S.Steps.left c.loop-next.steps) c.args.machine.now c.loop-next.machine c.loop-next.next (c.in-Some.step) (c.in-Some.is) c.loop-next.invariant.reached
+
+pub returns-in-Some-2-clause-suffix : goal.returns-in-Some-2-clause-suffix
+returns-in-Some-2-clause-suffix g c = front_taken (g.P.Parts.setup c.args.parts.now) (g.P.Parts.layout c.args.parts.now) (g.P.Parts.tables c.args.parts.now) (g.S.Steps.left c.args.steps.now) (g.S.Steps.left c.loop-next.steps) c.in-Some.step c.args.machine.now c.loop-next.machine r
+  where
+    r : Reached (g.P.Parts.setup c.args.parts.now) (g.P.Parts.layout c.args.parts.now) (g.P.Parts.tables c.args.parts.now) (g.S.Steps.left c.args.steps.now) (c.in-Some.step ∷ g.S.Steps.left c.loop-next.steps) c.args.machine.now c.loop-next.machine
+    r = reached_at (g.P.Parts.setup c.args.parts.now) (g.P.Parts.layout c.args.parts.now) (g.P.Parts.tables c.args.parts.now) (g.S.Steps.left c.args.steps.now) (g.S.Steps.left c.loop-next.steps) c.args.machine.now c.loop-next.machine c.loop-next.next (c.in-Some.step) (c.in-Some.is) c.loop-next.invariant.reached
+
+pub returns-in_err-stop-clause-suffix : goal.returns-in_err-stop-clause-suffix
+returns-in_err-stop-clause-suffix g c = front_taken (g.P.Parts.setup c.args.parts.now) (g.P.Parts.layout c.args.parts.now) (g.P.Parts.tables c.args.parts.now) (g.S.Steps.left c.args.steps.now) (g.S.Steps.left c.loop-next.steps) c.in-Some.step c.args.machine.now c.loop-next.machine r
   where
     r : Reached (g.P.Parts.setup c.args.parts.now) (g.P.Parts.layout c.args.parts.now) (g.P.Parts.tables c.args.parts.now) (g.S.Steps.left c.args.steps.now) (c.in-Some.step ∷ g.S.Steps.left c.loop-next.steps) c.args.machine.now c.loop-next.machine
     r = reached_at (g.P.Parts.setup c.args.parts.now) (g.P.Parts.layout c.args.parts.now) (g.P.Parts.tables c.args.parts.now) (g.S.Steps.left c.args.steps.now) (g.S.Steps.left c.loop-next.steps) c.args.machine.now c.loop-next.machine c.loop-next.next (c.in-Some.step) (c.in-Some.is) c.loop-next.invariant.reached
