@@ -140,8 +140,8 @@ fn begin_tasks<R: Threads + Sync, G: Gate, P: Parts>(
     );
 }
 
-/// The begins of a group of at most 1,024, in their order. Their kernels run first, by the `workers`, at least 1, and the
-/// gate is told of each run just before, by the begin's number in the group, from 0 on.
+/// The begins of a group, in their order. Their kernels run first, by the `workers`, at least 1, and the gate is told of each
+/// run just before, by the begin's number in the group, from 0 on. `group` is room for as many begins or more.
 pub fn begin_group<R: Threads + Sync, G: Gate, P: Parts>(
     rt: &R,
     machine: &mut Machine,
@@ -162,15 +162,15 @@ pub fn begin_group<R: Threads + Sync, G: Gate, P: Parts>(
     requires shut { AllShut machine.old.frames.panes rank places.now }
     requires distinct { Distinct places.now }
     requires room { length places.now ≤ machine.old.frames.left }
-    requires few { length places.now ≤ most_begins }
-    requires group { HasGroupRoom most_begins (P.tables parts.now).stride (P.locals parts.now) group.old }
+    requires group { HasGroupRoom (length places.now) (P.tables parts.now).stride (P.locals parts.now) group.old }
     ensures shows { (f : Flat KernelFault) → Shows (P.setup parts.now) (P.layout parts.now) (P.tables parts.now) machine.old f
         → Shows (P.setup parts.now) (P.layout parts.now) (P.tables parts.now) machine.new
         (flat_from (P.setup parts.now) (P.layout parts.now) (begins item rank places.now) f) }
     ensures space { HasRoom (P.span_count parts.now) (P.locals parts.now) (length (P.tables parts.now).constants) room.new }
     ensures mail { machine.new.mail.left ≡ machine.old.mail.left }
     ensures frames { machine.new.frames.left + length places.now ≡ machine.old.frames.left }
-    ensures group { HasGroupRoom most_begins (P.tables parts.now).stride (P.locals parts.now) group.new }
+    ensures group { (most : ℕ) → HasGroupRoom most (P.tables parts.now).stride (P.locals parts.now) group.old
+        → HasGroupRoom most (P.tables parts.now).stride (P.locals parts.now) group.new }
 {
     let window = group.window;
     group.tasks.clear();
