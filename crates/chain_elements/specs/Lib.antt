@@ -1,0 +1,4 @@
+pub mod Globals
+pub mod Dropping
+pub mod Constants
+pub mod Merging

@@ -1,0 +1,11 @@
+use Rattle.std.proofs.Common.{take}
+use Rattle.host_acts.specs.Variables.{of_vars}
+use Rattle.chain_memory.specs.Sound.{program_in, ranks_in}
+use Rattle.chain_stores.specs.Cells.{Values, BlocksHold}
+use Rattle.chain_elements.specs.Merging.{changed_all}
+use Rattle.chain_ranks.specs.Partials.{units}
+use Rattle.chain_ranks.proofs.units.put_rank.Given as goal
+
+abbrev pub invariant-loop-arg : goal.invariant-loop-arg
+invariant-loop-arg l = (p : Values) → BlocksHold (of_vars (program_in l.blocks).vars) (ranks_in l.blocks) l.initial.partials p
+    → BlocksHold (of_vars (program_in l.blocks).vars) (ranks_in l.blocks) l.partials (changed_all units l.rank l.all.args.now (take l.arg-index l.all.args.now) p)
