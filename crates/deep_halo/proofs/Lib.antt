@@ -1,0 +1,14 @@
+pub mod ConstantCounts
+pub mod Counts
+pub mod Exchanges
+pub mod FirstStates
+pub mod FreeLoops
+pub mod HostVariables
+pub mod Joining
+pub mod Machine
+pub mod Ordering
+pub mod Outcomes
+pub mod Reduces
+pub mod Texts
+pub mod Units
+pub mod Values
