@@ -88,6 +88,7 @@ options_are f =
       first_value-rows f (codes "schedule"),
       first_value-rows f (codes "seed"),
       first_value-rows f (codes "workers"),
+      first_value-rows f (codes "chain"),
       first_value-rows f (codes "dump"),
     ) refl
 

@@ -1,5 +1,5 @@
 -- Words that ask for the items before one ask for no dump.
-use Rattle.std.proofs.Common.{◌≡◌, ℕ, Bool, true, false, not, ◌&&◌, List, [], ◌∷◌, Option, Some, None, Result, Ok, Err, refl, subst, codes}
+use Rattle.std.proofs.Common.{◌≡◌, ℕ, Bool, true, false, not, ◌&&◌, ◌||◌, List, [], ◌∷◌, Option, Some, None, Result, Ok, Err, refl, subst, codes}
 use Rattle.std.specs.Prelude.{option_map, is_some}
 use Rattle.std.specs.Str.{bytes_eq}
 use Rattle.std.proofs.lemmas.Bool.{and_parts}
@@ -12,9 +12,9 @@ use Rattle.mesh_gen.specs.declared.places.TheConstants.{MAX_SIDE}
 use Rattle.command_words.specs.declared.limits.TheConstants.{MAX_RANKS, MAX_WORKERS}
 use Rattle.command_words.specs.Refusal.{Refusal}
 use Rattle.command_words.specs.Words.{PlanJob, Check, ShowsPlan, ShowsSchedule, RunsPlan, Stretch, Before, Parting, Schedule, Options, Input, InFiles, OfSample}
-use Rattle.command_words.specs.Words.{Command, OnPlan, Translates, Restores, command, number_to, number_or, form_of, OptionWords, options_in, parting_of}
+use Rattle.command_words.specs.Words.{ChainJob, CountsChains, RunsChains, Command, OnPlan, Translates, Restores, command, number_to, number_or, form_of, OptionWords, options_in, parting_of}
 use Rattle.command_words.specs.Words.{schedule_of, blocks_of, stretch_of, options_with, options_of, goes_to_the_end, is_whole, plans_itself}
-use Rattle.command_words.specs.Words.{stops_at_an_item, runs_nothing, on_files, samples, converts, source_alone, plans, where_so, by_job, or_usage, asked, judged}
+use Rattle.command_words.specs.Words.{stops_at_an_item, runs_nothing, is_unplanned, on_files, samples, converts, source_alone, plans, chain_options_of, chains, plans_or_chains, where_so, by_job, or_usage, asked, judged}
 use Rattle.command_words.specs.Laws.{HeadsAreNotDumped}
 use Rattle.command_words.proofs.Within.{Holds, holds_if, holds_then, holds_map, Any, any}
 
@@ -56,19 +56,29 @@ options_undumped w h =
 
 plans_undumped : (j : PlanJob) (input : Input) (w : OptionWords) → ((stretch : Stretch) (item : ℕ) → stretch_of w.at w.from ≡ Some stretch → stretch ≡ Before item → w.dumps ≡ false)
     → Holds Undumped (plans j input w)
-plans_undumped j input w h = holds_if Undumped (is_some w.form) _ _ tt (holds_map IsUndumped Undumped _ (options_of w) (options_undumped w h) (λ o k. k))
+plans_undumped j input w h = holds_if Undumped (is_some w.form || w.chains) _ _ tt (holds_map IsUndumped Undumped _ (options_of w) (options_undumped w h) (λ o k. k))
 
-files_undumped : (j : PlanJob) (input : List ℕ) (mesh : Option (List ℕ)) (w : OptionWords)
+chains_undumped : (j : ChainJob) (input : Input) (w : OptionWords) → Holds Undumped (chains j input w)
+chains_undumped j input w =
+    holds_if Undumped (not (is_some w.form) && is_unplanned w) _ _
+    (holds_map Any Undumped _ (chain_options_of w) (any (chain_options_of w)) (λ o _. tt)) tt
+
+either_undumped : (plan : PlanJob) (chain : ChainJob) (input : Input) (w : OptionWords)
     → ((stretch : Stretch) (item : ℕ) → stretch_of w.at w.from ≡ Some stretch → stretch ≡ Before item → w.dumps ≡ false)
-    → Holds Undumped (on_files (plans j) input mesh w)
-files_undumped j input None w h = tt
-files_undumped j input (Some mesh) w h = plans_undumped j (InFiles input mesh) w h
+    → Holds Undumped (plans_or_chains plan chain input w)
+either_undumped plan chain input w h = holds_if Undumped w.chains _ _ (chains_undumped chain input w) (plans_undumped plan input w h)
+
+files_undumped : (job : Input → OptionWords → Option Command) (input : List ℕ) (mesh : Option (List ℕ)) (w : OptionWords)
+    → ((i : Input) → Holds Undumped (job i w))
+    → Holds Undumped (on_files job input mesh w)
+files_undumped job input None w h = tt
+files_undumped job input (Some mesh) w h = h (InFiles input mesh)
 
 samples_undumped : (input : List ℕ) (mesh : Option (List ℕ)) (w : OptionWords)
     → ((stretch : Stretch) (item : ℕ) → stretch_of w.at w.from ≡ Some stretch → stretch ≡ Before item → w.dumps ≡ false)
     → Holds Undumped (samples input mesh w)
 samples_undumped input None w h =
-    holds_then Any Undumped _ (number_to MAX_SIDE input) (any (number_to MAX_SIDE input)) (λ side _. plans_undumped RunsPlan (OfSample side) w h)
+    holds_then Any Undumped _ (number_to MAX_SIDE input) (any (number_to MAX_SIDE input)) (λ side _. either_undumped RunsPlan RunsChains (OfSample side) w h)
 samples_undumped input (Some mesh) w h = tt
 
 -- ---- where they are allowed
@@ -111,20 +121,20 @@ alone_undumped job h input mesh w = holds_map Any Undumped job (source_alone inp
 jobs_undumped : (job input : List ℕ) (mesh : Option (List ℕ)) (w : OptionWords) → Holds Undumped (by_job job input mesh w)
 jobs_undumped job input mesh w =
     holds_if Undumped (bytes_eq job (codes "run")) _ _
-    (allowed_so (goes_to_the_end w) _ (λ a. files_undumped RunsPlan input mesh w (to_the_end w a)))
+    (allowed_so (goes_to_the_end w) _ (λ a. files_undumped (plans_or_chains RunsPlan RunsChains) input mesh w (λ i. either_undumped RunsPlan RunsChains i w (to_the_end w a))))
     (holds_if Undumped (bytes_eq job (codes "sample")) _ _
     (allowed_so (is_whole w) _ (λ a. samples_undumped input mesh w (to_the_end w (whole_ends w a))))
     (holds_if Undumped (bytes_eq job (codes "state")) _ _
-    (allowed_so (stops_at_an_item w) _ (λ a. files_undumped RunsPlan input mesh w (λ stretch item e f. dumps_nothing w a)))
+    (allowed_so (stops_at_an_item w) _ (λ a. files_undumped (plans RunsPlan) input mesh w (λ i. plans_undumped RunsPlan i w (λ stretch item e f. dumps_nothing w a))))
     (holds_if Undumped (bytes_eq job (codes "convert")) _ _ (converts_undumped input mesh w)
     (holds_if Undumped (bytes_eq job (codes "translate")) _ _ (alone_undumped Translates (λ source. tt) input mesh w)
     (holds_if Undumped (bytes_eq job (codes "restore")) _ _ (alone_undumped Restores (λ source. tt) input mesh w)
     (holds_if Undumped (bytes_eq job (codes "check")) _ _
-    (allowed_so (is_whole w) _ (λ a. files_undumped Check input mesh w (to_the_end w (whole_ends w a))))
+    (allowed_so (is_whole w) _ (λ a. files_undumped (plans_or_chains Check CountsChains) input mesh w (λ i. either_undumped Check CountsChains i w (to_the_end w (whole_ends w a)))))
     (holds_if Undumped (bytes_eq job (codes "plan")) _ _
-    (allowed_so (plans_itself w) _ (λ a. files_undumped ShowsPlan input mesh w (to_the_end w (itself_ends w a))))
+    (allowed_so (plans_itself w) _ (λ a. files_undumped (plans ShowsPlan) input mesh w (λ i. plans_undumped ShowsPlan i w (to_the_end w (itself_ends w a)))))
     (holds_if Undumped (bytes_eq job (codes "schedule")) _ _
-    (allowed_so (goes_to_the_end w) _ (λ a. files_undumped ShowsSchedule input mesh w (to_the_end w a))) tt))))))))
+    (allowed_so (goes_to_the_end w) _ (λ a. files_undumped (plans ShowsSchedule) input mesh w (λ i. plans_undumped ShowsSchedule i w (to_the_end w a)))) tt))))))))
 
 -- ---- words
 

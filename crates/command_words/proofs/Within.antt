@@ -1,5 +1,5 @@
 -- The numbers of a plan's options are in range.
-use Rattle.std.proofs.Common.{◌≡◌, ◌<◌, ◌≤◌, ℕ, Bool, true, false, not, ◌&&◌, nat_lt, List, [], ◌∷◌, Option, Some, None, Result, Ok, Err, if◌then◌else◌, refl, subst, codes, arith}
+use Rattle.std.proofs.Common.{◌≡◌, ◌<◌, ◌≤◌, ◌||◌, ℕ, Bool, true, false, not, ◌&&◌, nat_lt, List, [], ◌∷◌, Option, Some, None, Result, Ok, Err, if◌then◌else◌, refl, subst, codes, arith}
 use Rattle.std.specs.Prelude.{option_and_then, option_map, is_some}
 use Rattle.std.specs.Str.{bytes_eq}
 use Rattle.std.proofs.lemmas.Bool.{ltb-true, ltb-false, and_parts}
@@ -12,11 +12,11 @@ use Rattle.op_num.specs.Spelling.{number_of}
 use Rattle.mesh_gen.specs.declared.places.TheConstants.{MAX_SIDE}
 use Rattle.command_words.specs.declared.limits.TheConstants.{MAX_RANKS, MAX_BLOCK, MAX_WORKERS}
 use Rattle.command_words.specs.Refusal.{Refusal}
-use Rattle.command_words.specs.Words.{PlanJob, Check, ShowsPlan, ShowsSchedule, RunsPlan, Parting, Schedule, Stretch, Input, InFiles, OfSample, Command, Translates, Restores, command}
-use Rattle.command_words.specs.Words.{number_to, number_or, form_of, OptionWords, options_in, parting_of, schedule_of, blocks_of, stretch_of, options_with, options_of}
+use Rattle.command_words.specs.Words.{PlanJob, Check, ShowsPlan, ShowsSchedule, RunsPlan, Parting, Schedule, Stretch, Input, InFiles, OfSample, ChainJob, CountsChains, RunsChains, ChainOptions, Command, Translates, Restores, command}
+use Rattle.command_words.specs.Words.{number_to, number_or, form_of, OptionWords, options_in, parting_of, schedule_of, blocks_of, stretch_of, options_with, options_of, chain_options_of}
 use Rattle.command_words.specs.Words.{goes_to_the_end, is_whole, plans_itself, stops_at_an_item}
-use Rattle.command_words.specs.Words.{runs_nothing, on_files, samples, converts, source_alone, plans, where_so, by_job, or_usage, asked, judged}
-use Rattle.command_words.specs.Laws.{HaveFewPlaces, AreWithin, IsWithin, OptionsAreWithin}
+use Rattle.command_words.specs.Words.{is_unplanned, runs_nothing, on_files, samples, converts, source_alone, plans, chains, plans_or_chains, where_so, by_job, or_usage, asked, judged}
+use Rattle.command_words.specs.Laws.{AreFew, HaveFewPlaces, AreWithin, IsWithin, OptionsAreWithin}
 
 -- P is so of what there is
 abbrev pub Holds : {X : Type 0} → (X → Type 0) → Option X → Type 0
@@ -75,7 +75,7 @@ with_holds : (stretch : Stretch) (ranks : ℕ) (parting : Parting) (schedule : S
 with_holds stretch ranks parting schedule w h =
     holds_then HaveFewPlaces AreWithin _ (blocks_of w.block w.plan) (blocks_hold w.block w.plan)
     (λ blocks k. holds_map (IsTo MAX_WORKERS) AreWithin _ (number_or 1 MAX_WORKERS w.workers) (or_holds 1 MAX_WORKERS w.workers (omega arith, omega arith))
-    (λ workers l. record { some = h.0; few = h.1; places = k; some_workers = l.0; few_workers = l.1 }))
+    (λ workers l. record { ranks = record { some = h.0; few = h.1 }; places = k; some_workers = l.0; few_workers = l.1 }))
 
 options_hold : (w : OptionWords) → Holds AreWithin (options_of w)
 options_hold w =
@@ -85,6 +85,12 @@ options_hold w =
     (λ parting _. holds_then Any AreWithin _ (schedule_of w.schedule w.seed) (any (schedule_of w.schedule w.seed))
     (λ schedule _. with_holds stretch ranks parting schedule w h))))
 
+chain_options_hold : (w : OptionWords) → Holds (λ o. AreFew o.ranks) (chain_options_of w)
+chain_options_hold w =
+    holds_then (IsTo MAX_RANKS) (λ (o : ChainOptions). AreFew o.ranks) _ (number_or 1 MAX_RANKS w.ranks) (or_holds 1 MAX_RANKS w.ranks (omega arith, omega arith))
+    (λ ranks h. holds_map Any (λ (o : ChainOptions). AreFew o.ranks) _ (parting_of w.parts w.partition) (any (parting_of w.parts w.partition))
+    (λ parting _. record { some = h.0; few = h.1 }))
+
 -- ---- commands
 
 converts_hold : (input : List ℕ) (mesh : Option (List ℕ)) (w : OptionWords) → Holds IsWithin (converts input mesh w)
@@ -92,7 +98,15 @@ converts_hold input None w = holds_if IsWithin (runs_nothing w) _ _ (holds_map A
 converts_hold input (Some mesh) w = tt
 
 plans_hold : (j : PlanJob) (input : Input) (w : OptionWords) → Holds IsWithin (plans j input w)
-plans_hold j input w = holds_if IsWithin (is_some w.form) _ _ tt (holds_map AreWithin IsWithin _ (options_of w) (options_hold w) (λ o h. h))
+plans_hold j input w = holds_if IsWithin (is_some w.form || w.chains) _ _ tt (holds_map AreWithin IsWithin _ (options_of w) (options_hold w) (λ o h. h))
+
+chains_hold : (j : ChainJob) (input : Input) (w : OptionWords) → Holds IsWithin (chains j input w)
+chains_hold j input w =
+    holds_if IsWithin (not (is_some w.form) && is_unplanned w) _ _
+    (holds_map (λ (o : ChainOptions). AreFew o.ranks) IsWithin _ (chain_options_of w) (chain_options_hold w) (λ o h. h)) tt
+
+either_holds : (plan : PlanJob) (chain : ChainJob) (input : Input) (w : OptionWords) → Holds IsWithin (plans_or_chains plan chain input w)
+either_holds plan chain input w = holds_if IsWithin w.chains _ _ (chains_hold chain input w) (plans_hold plan input w)
 
 -- what such a job asks for is in range
 abbrev AllWithin : (Input → OptionWords → Option Command) → Type 0
@@ -106,13 +120,13 @@ files_hold job h input (Some mesh) w = h (InFiles input mesh) w
 samples_hold : (input : List ℕ) (mesh : Option (List ℕ)) (w : OptionWords) → Holds IsWithin (samples input mesh w)
 samples_hold input None w =
     holds_then Any IsWithin _ (number_to MAX_SIDE input) (any (number_to MAX_SIDE input))
-    (λ side _. plans_hold RunsPlan (OfSample side) w)
+    (λ side _. either_holds RunsPlan RunsChains (OfSample side) w)
 samples_hold input (Some mesh) w = tt
 
 -- a job on files, where its options allow it
-where_holds : (allowed : Bool) (j : PlanJob) (input : List ℕ) (mesh : Option (List ℕ)) (w : OptionWords)
-    → Holds IsWithin (where_so allowed (on_files (plans j) input mesh w))
-where_holds allowed j input mesh w = holds_if IsWithin allowed _ _ (files_hold (plans j) (plans_hold j) input mesh w) tt
+where_holds : (allowed : Bool) (job : Input → OptionWords → Option Command) → AllWithin job
+    → (input : List ℕ) (mesh : Option (List ℕ)) (w : OptionWords) → Holds IsWithin (where_so allowed (on_files job input mesh w))
+where_holds allowed job h input mesh w = holds_if IsWithin allowed _ _ (files_hold job h input mesh w) tt
 
 -- a job on a source alone has no options
 alone_holds : (job : List ℕ → Command) → ((source : List ℕ) → IsWithin (job source)) → (input : List ℕ) (mesh : Option (List ℕ)) (w : OptionWords)
@@ -122,20 +136,20 @@ alone_holds job h input mesh w = holds_map Any IsWithin job (source_alone input 
 jobs_hold : (job input : List ℕ) (mesh : Option (List ℕ)) (w : OptionWords) → Holds IsWithin (by_job job input mesh w)
 jobs_hold job input mesh w =
     holds_if IsWithin (bytes_eq job (codes "run")) _ _
-    (where_holds (goes_to_the_end w) RunsPlan input mesh w)
+    (where_holds (goes_to_the_end w) (plans_or_chains RunsPlan RunsChains) (either_holds RunsPlan RunsChains) input mesh w)
     (holds_if IsWithin (bytes_eq job (codes "sample")) _ _
     (holds_if IsWithin (is_whole w) _ _ (samples_hold input mesh w) tt)
     (holds_if IsWithin (bytes_eq job (codes "state")) _ _
-    (where_holds (stops_at_an_item w) RunsPlan input mesh w)
+    (where_holds (stops_at_an_item w) (plans RunsPlan) (plans_hold RunsPlan) input mesh w)
     (holds_if IsWithin (bytes_eq job (codes "convert")) _ _ (converts_hold input mesh w)
     (holds_if IsWithin (bytes_eq job (codes "translate")) _ _ (alone_holds Translates (λ source. tt) input mesh w)
     (holds_if IsWithin (bytes_eq job (codes "restore")) _ _ (alone_holds Restores (λ source. tt) input mesh w)
     (holds_if IsWithin (bytes_eq job (codes "check")) _ _
-    (where_holds (is_whole w) Check input mesh w)
+    (where_holds (is_whole w) (plans_or_chains Check CountsChains) (either_holds Check CountsChains) input mesh w)
     (holds_if IsWithin (bytes_eq job (codes "plan")) _ _
-    (where_holds (plans_itself w) ShowsPlan input mesh w)
+    (where_holds (plans_itself w) (plans ShowsPlan) (plans_hold ShowsPlan) input mesh w)
     (holds_if IsWithin (bytes_eq job (codes "schedule")) _ _
-    (where_holds (goes_to_the_end w) ShowsSchedule input mesh w) tt))))))))
+    (where_holds (goes_to_the_end w) (plans ShowsSchedule) (plans_hold ShowsSchedule) input mesh w) tt))))))))
 
 -- ---- words
 

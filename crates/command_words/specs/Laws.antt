@@ -1,7 +1,12 @@
 -- What the options that words ask for keep.
 use Rattle.std.specs.Prelude.{◌≡◌, ℕ, ◌<◌, ◌≤◌, false, List, Ok}
 use Rattle.command_words.specs.declared.limits.TheConstants.{MAX_RANKS, MAX_BLOCK, MAX_WORKERS}
-use Rattle.command_words.specs.Words.{PlanJob, Blocks, OfSize, AsPlanned, Before, Options, Input, Command, OnPlan, WordsAre}
+use Rattle.command_words.specs.Words.{PlanJob, Blocks, OfSize, AsPlanned, Before, Options, Input, Command, OnPlan, OnChains, WordsAre}
+
+-- there are 1 to 64 ranks
+pub record AreFew (ranks : ℕ) : Type 0 where
+  pub some : 0 < ranks
+  pub few : ranks ≤ MAX_RANKS
 
 -- a block has 1 to 65,536 places
 abbrev pub HaveFewPlaces : Blocks → Type 0
@@ -10,8 +15,7 @@ HaveFewPlaces (AsPlanned name) = Unit {0}
 
 -- there are 1 to 64 ranks, a block has 1 to 65,536 places, and there are 1 to 64 workers
 pub record AreWithin (o : Options) : Type 0 where
-  pub some : 0 < o.ranks
-  pub few : o.ranks ≤ MAX_RANKS
+  pub ranks : AreFew o.ranks
   pub places : HaveFewPlaces o.blocks
   pub some_workers : 0 < o.workers
   pub few_workers : o.workers ≤ MAX_WORKERS
@@ -19,6 +23,7 @@ pub record AreWithin (o : Options) : Type 0 where
 -- the numbers of a command are in range
 abbrev pub IsWithin : Command → Type 0
 IsWithin (OnPlan j o input) = AreWithin o
+IsWithin (OnChains j o input) = AreFew o.ranks
 IsWithin c = Unit {0}
 
 -- those of the commands that words ask for are

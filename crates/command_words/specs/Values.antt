@@ -5,7 +5,7 @@ use Rattle.clap.specs.Matches.{first_value}
 use Rattle.distribute.specs.Parts.{parts_of, name_of}
 use Rattle.command_words.specs.Refusal as answer
 use Rattle.command_words.specs.Words as words
-use Rattle.command_words.specs.Words.{is_set, OnPlan, Converts, Translates, Restores, ShowsUsage, ShowsVersion}
+use Rattle.command_words.specs.Words.{is_set, OnPlan, OnChains, Converts, Translates, Restores, ShowsUsage, ShowsVersion}
 use Rattle.command_words.specs.Laws.{IsWithin}
 use Rattle.command_words.specs.declared.refusals.WordsRefusal.{WordsRefusal}
 use Rattle.command_words.specs.declared.refusals.WordsRefusal.TheVariants.{Usage, OutOfMemory}
@@ -19,6 +19,9 @@ use Rattle.command_words.specs.declared.asked.Stretch.TheVariants as stretch
 use Rattle.command_words.specs.declared.asked.Blocks.{Blocks}
 use Rattle.command_words.specs.declared.asked.Blocks.TheVariants as blocks
 use Rattle.command_words.specs.declared.asked.Options.{Options}
+use Rattle.command_words.specs.declared.asked.ChainOptions.{ChainOptions}
+use Rattle.command_words.specs.declared.asked.ChainJob.{ChainJob}
+use Rattle.command_words.specs.declared.asked.ChainJob.TheVariants as chain_job
 use Rattle.command_words.specs.declared.asked.PlanJob.{PlanJob}
 use Rattle.command_words.specs.declared.asked.PlanJob.TheVariants as job
 use Rattle.command_words.specs.declared.asked.Input.{Input}
@@ -43,6 +46,7 @@ option_words_of w = record {
   schedule = option_map (λ s. s.now) w.schedule;
   seed = option_map (λ s. s.now) w.seed;
   workers = option_map (λ s. s.now) w.workers;
+  chains = w.chains;
   dumps = w.dumps;
 }
 
@@ -61,6 +65,7 @@ options_found f = record {
   schedule = first_value f (codes "schedule");
   seed = first_value f (codes "seed");
   workers = first_value f (codes "workers");
+  chains = is_set (first_value f (codes "chain"));
   dumps = is_set (first_value f (codes "dump"));
 }
 
@@ -99,6 +104,10 @@ options_in o = record {
   dumps = o.dumps;
 }
 
+-- those of a run by chains
+abbrev pub chain_options_in : ChainOptions → words.ChainOptions
+chain_options_in o = record { ranks = o.ranks; parting = parting_in o.parting; dumps = o.dumps }
+
 -- ---- commands
 
 -- what is done with a plan
@@ -108,6 +117,11 @@ job_in job.ShowsPlan = words.ShowsPlan
 job_in job.ShowsSchedule = words.ShowsSchedule
 job_in job.RunsPlan = words.RunsPlan
 
+-- what is done with a program by chains
+abbrev pub chain_job_in : ChainJob → words.ChainJob
+chain_job_in chain_job.CountsChains = words.CountsChains
+chain_job_in chain_job.RunsChains = words.RunsChains
+
 -- where a source and a mesh come from
 abbrev pub input_in : Input → words.Input
 input_in (input.InFiles source mesh) = words.InFiles source.now mesh.now
@@ -116,6 +130,7 @@ input_in (input.OfSample side) = words.OfSample side
 -- what the words ask for
 abbrev pub command_of : Asked → words.Command
 command_of (asked.Plan j o i) = OnPlan (job_in j) (options_in o) (input_in i)
+command_of (asked.Chains j o i) = OnChains (chain_job_in j) (chain_options_in o) (input_in i)
 command_of (asked.Convert form mesh) = Converts form mesh.now
 command_of (asked.Translate source) = Translates source.now
 command_of (asked.Restore source) = Restores source.now

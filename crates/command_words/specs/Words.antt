@@ -1,5 +1,5 @@
 -- The words of the command line, by `clap`'s own model of the command.
-use Rattle.std.specs.Prelude.{◌≡◌, ℕ, ◌^◌, Bool, true, false, not, ◌&&◌, nat_lt, nat_eq, List, [], ◌∷◌, ◌++◌, map, Option, Some, None}
+use Rattle.std.specs.Prelude.{◌≡◌, ℕ, ◌^◌, Bool, true, false, not, ◌&&◌, ◌||◌, nat_lt, nat_eq, List, [], ◌∷◌, ◌++◌, map, Option, Some, None}
 use Rattle.std.specs.Prelude.{Result, Ok, Err, codes, if◌then◌else◌, option_and_then, option_map, is_some, length, take, drop}
 use Rattle.std.specs.Str.{bytes_eq}
 use Rattle.clap.specs.Walk.{Rule, Row, first_of}
@@ -59,6 +59,17 @@ pub record Options : Type 0 where
   pub workers : ℕ
   pub dumps : Bool
 
+-- what is done with a program by chains: its chains and messages are counted, or it runs by them
+pub data ChainJob : Type 0 where
+  CountsChains : ChainJob
+  RunsChains : ChainJob
+
+-- how a program runs by chains: on how many ranks; who owns which element; and whether the stores are dumped behind the output
+pub record ChainOptions : Type 0 where
+  pub ranks : ℕ
+  pub parting : Parting
+  pub dumps : Bool
+
 -- how many places of one colour are begun together at most: one worker begins them one by one
 abbrev pub group_of : Options → ℕ
 group_of o = if nat_eq o.workers 1 then 1 else MAX_GROUP
@@ -68,11 +79,12 @@ pub data Input : Type 0 where
   InFiles : (source mesh : List ℕ) → Input
   OfSample : (side : ℕ) → Input
 
--- What the words ask for: a job on the plan of a program over a mesh, with these options; the mesh text in a file written again, in a
--- version of the format; the source in a file translated, so that each loop call is a call of its own stub, or restored; or what the
--- program says of itself.
+-- What the words ask for: a job on the plan of a program over a mesh, or on its chains, with these options; the mesh text in a file
+-- written again, in a version of the format; the source in a file translated, so that each loop call is a call of its own stub, or
+-- restored; or what the program says of itself.
 pub data Command : Type 0 where
   OnPlan : PlanJob → Options → Input → Command
+  OnChains : ChainJob → ChainOptions → Input → Command
   Converts : Form → (mesh : List ℕ) → Command
   Translates : (source : List ℕ) → Command
   Restores : (source : List ℕ) → Command
@@ -110,7 +122,7 @@ options =
 
 -- the options with none
 abbrev pub flags : List (List ℕ)
-flags = codes "dump" ∷ []
+flags = codes "chain" ∷ codes "dump" ∷ []
 
 -- its words, and then its options
 abbrev pub rules : List Rule
@@ -138,6 +150,7 @@ pub record OptionWords : Type 0 where
   pub schedule : Option (List ℕ)
   pub seed : Option (List ℕ)
   pub workers : Option (List ℕ)
+  pub chains : Bool
   pub dumps : Bool
 
 -- whether a flag's value says so
@@ -160,6 +173,7 @@ options_in rows = record {
   schedule = first_of (codes "schedule") rows;
   seed = first_of (codes "seed") rows;
   workers = first_of (codes "workers") rows;
+  chains = is_set (first_of (codes "chain") rows);
   dumps = is_set (first_of (codes "dump") rows);
 }
 
@@ -171,7 +185,8 @@ is_unplanned w =
 
 -- none stands of those of a program's run
 abbrev pub runs_nothing : OptionWords → Bool
-runs_nothing w = not (is_some w.ranks) && not (is_some w.parts) && not (is_some w.partition) && not w.dumps && is_unplanned w
+runs_nothing w =
+    not (is_some w.ranks) && not (is_some w.parts) && not (is_some w.partition) && not w.chains && not w.dumps && is_unplanned w
 
 -- what a match asks for, or the words are refused
 abbrev pub or_usage : Option Command → Result Command Refusal
@@ -272,11 +287,30 @@ options_of w =
     (number_or 1 MAX_RANKS w.ranks))
     (stretch_of w.at w.from)
 
+-- those of a run by chains
+abbrev pub chain_options_of : OptionWords → Option ChainOptions
+chain_options_of w =
+    option_and_then (λ ranks. option_map (λ parting. record {
+      ranks = ranks;
+      parting = parting;
+      dumps = w.dumps;
+    }) (parting_of w.parts w.partition))
+    (number_or 1 MAX_RANKS w.ranks)
+
 -- ---- jobs
 
 -- a job on the plan of a program over a mesh, with a plan's options
 abbrev pub plans : PlanJob → Input → OptionWords → Option Command
-plans j input w = if is_some w.form then None else option_map (λ o. OnPlan j o input) (options_of w)
+plans j input w = if is_some w.form || w.chains then None else option_map (λ o. OnPlan j o input) (options_of w)
+
+-- a job on its chains, with none of the options that say by which plan a program runs, and which of its items
+abbrev pub chains : ChainJob → Input → OptionWords → Option Command
+chains j input w =
+    if not (is_some w.form) && is_unplanned w then option_map (λ o. OnChains j o input) (chain_options_of w) else None
+
+-- by chains where `--chain` stands, and else by a plan
+abbrev pub plans_or_chains : PlanJob → ChainJob → Input → OptionWords → Option Command
+plans_or_chains plan chain input w = if w.chains then chains chain input w else plans plan input w
 
 -- a command, where its options allow it
 abbrev pub where_so : (allowed : Bool) → Option Command → Option Command
@@ -305,7 +339,8 @@ on_files job input None w = None
 
 -- `sample SIDE`
 abbrev pub samples : (input : List ℕ) (mesh : Option (List ℕ)) → OptionWords → Option Command
-samples input None w = option_and_then (λ side. plans RunsPlan (OfSample side) w) (number_to MAX_SIDE input)
+samples input None w =
+    option_and_then (λ side. plans_or_chains RunsPlan RunsChains (OfSample side) w) (number_to MAX_SIDE input)
 samples input (Some mesh) w = None
 
 -- `convert MESH`, with `--form`
@@ -320,13 +355,13 @@ source_alone source mesh w = if not (is_some mesh) && not (is_some w.form) && ru
 -- by the job's name
 abbrev pub by_job : (job input : List ℕ) (mesh : Option (List ℕ)) → OptionWords → Option Command
 by_job job input mesh w =
-    if bytes_eq job (codes "run") then where_so (goes_to_the_end w) (on_files (plans RunsPlan) input mesh w)
+    if bytes_eq job (codes "run") then where_so (goes_to_the_end w) (on_files (plans_or_chains RunsPlan RunsChains) input mesh w)
     else if bytes_eq job (codes "sample") then where_so (is_whole w) (samples input mesh w)
     else if bytes_eq job (codes "state") then where_so (stops_at_an_item w) (on_files (plans RunsPlan) input mesh w)
     else if bytes_eq job (codes "convert") then converts input mesh w
     else if bytes_eq job (codes "translate") then option_map Translates (source_alone input mesh w)
     else if bytes_eq job (codes "restore") then option_map Restores (source_alone input mesh w)
-    else if bytes_eq job (codes "check") then where_so (is_whole w) (on_files (plans Check) input mesh w)
+    else if bytes_eq job (codes "check") then where_so (is_whole w) (on_files (plans_or_chains Check CountsChains) input mesh w)
     else if bytes_eq job (codes "plan") then where_so (plans_itself w) (on_files (plans ShowsPlan) input mesh w)
     else if bytes_eq job (codes "schedule") then where_so (goes_to_the_end w) (on_files (plans ShowsSchedule) input mesh w)
     else None
@@ -382,6 +417,7 @@ names_at (Written name) = name ∷ []
 abbrev pub names_of : Command → List (List ℕ)
 names_of (OnPlan j o input) =
     names_from input ++ names_before o.stretch ++ names_by o.parting ++ names_in_blocks o.blocks ++ names_at o.schedule
+names_of (OnChains j o input) = names_from input ++ names_by o.parting
 names_of (Converts form mesh) = mesh ∷ []
 names_of (Translates source) = source ∷ []
 names_of (Restores source) = source ∷ []

@@ -86,6 +86,24 @@ impl<'a> Options<'a> {
     }
 }
 
+/// What is done with a program by chains of its loops.
+#[derive(Clone, Copy, PartialEq, Eq, Debug)]
+pub enum ChainJob {
+    /// Its chains and their messages are counted.
+    CountsChains,
+    /// The program runs by them.
+    RunsChains,
+}
+
+/// How a program runs by chains: how many ranks there are, 1 to 64; who owns which element; and whether the ranks'
+/// stores are dumped behind the output.
+#[derive(Clone, Copy, Debug)]
+pub struct ChainOptions<'a> {
+    pub ranks: u32,
+    pub parting: Parting<'a>,
+    pub dumps: bool,
+}
+
 /// Where a source and a mesh come from.
 #[derive(Clone, Copy, Debug)]
 pub enum Input<'a> {
@@ -102,6 +120,12 @@ pub enum Asked<'a> {
     Plan {
         job: PlanJob,
         options: Options<'a>,
+        input: Input<'a>,
+    },
+    /// To do the job on the chains of the program over the mesh, with these options.
+    Chains {
+        job: ChainJob,
+        options: ChainOptions<'a>,
         input: Input<'a>,
     },
     /// To write the mesh text in the file `mesh` again, in this version of the format.

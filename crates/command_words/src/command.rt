@@ -89,6 +89,7 @@ fn command<'a>(alloc: Global) -> Result<Command<'a>, AllocError>
             "workers",
         ],
     )?;
+    let command = with_flag(alloc, command, "chain")?;
     with_flag(alloc, command, "dump")
 }
 

@@ -1,13 +1,14 @@
 // The jobs: what is asked for by the words JOB, INPUT and MESH, with the options.
 
 ghost use Rattle.std.specs.Prelude.{◌≡◌, option_map};
-ghost use Rattle.command_words.specs.Words.{by_job, on_files, where_so, samples, converts, source_alone, plans, form_of, InFiles};
-ghost use Rattle.command_words.specs.Values.{input_in, command_of, job_in, option_words_of};
+ghost use Rattle.command_words.specs.Words.{by_job, on_files, where_so, samples, converts, source_alone};
+ghost use Rattle.command_words.specs.Words.{plans, chains, plans_or_chains, form_of, InFiles};
+ghost use Rattle.command_words.specs.Values.{input_in, command_of, job_in, chain_job_in, option_words_of};
 
-use crate::asked::{Asked, Input, PlanJob};
+use crate::asked::{Asked, ChainJob, Input, PlanJob};
 use crate::options::{
-    OptionWords, goes_to_the_end, is_whole, number_to, options_of, plans_itself, runs_nothing,
-    stops_at_an_item,
+    OptionWords, chain_options_of, goes_to_the_end, is_unplanned, is_whole, number_to, options_of,
+    plans_itself, runs_nothing, stops_at_an_item,
 };
 use mesh_gen::MAX_SIDE;
 use mesh_text::Form;
@@ -23,9 +24,10 @@ pub fn by_job<'a>(
         ≡ by_job job.now input.now (option_map (λ s. s.now) mesh.entry) (option_words_of options.now) }
 {
     if job == "run" {
-        plans_where(
+        either_where(
             goes_to_the_end(options),
             PlanJob::RunsPlan,
+            ChainJob::RunsChains,
             input,
             mesh,
             options,
@@ -49,7 +51,14 @@ pub fn by_job<'a>(
         let source = source_alone(input, mesh, options)?;
         Some(Asked::Restore { source })
     } else if job == "check" {
-        plans_where(is_whole(options), PlanJob::Check, input, mesh, options)
+        either_where(
+            is_whole(options),
+            PlanJob::Check,
+            ChainJob::CountsChains,
+            input,
+            mesh,
+            options,
+        )
     } else if job == "plan" {
         plans_where(
             plans_itself(options),
@@ -71,7 +80,7 @@ pub fn by_job<'a>(
     }
 }
 
-// A job on SOURCE and MESH, where its options allow it.
+// A job on the plan of SOURCE and MESH, where its options allow it.
 fn plans_where<'a>(
     allowed: bool,
     job: PlanJob,
@@ -84,6 +93,26 @@ fn plans_where<'a>(
 {
     if allowed {
         plans(job, in_files(source, mesh)?, options)
+    } else {
+        None
+    }
+}
+
+// A job on the chains of SOURCE and MESH where `--chain` stands, and else on their plan, where its options allow it.
+fn either_where<'a>(
+    allowed: bool,
+    plan: PlanJob,
+    chain: ChainJob,
+    source: &'a str,
+    mesh: Option<&'a str>,
+    options: &OptionWords<'a>,
+) -> Option<Asked<'a>>
+    ensures { option_map command_of result ≡ where_so allowed
+        (on_files (plans_or_chains (job_in plan) (chain_job_in chain)) source.now (option_map (λ s. s.now) mesh.entry)
+        (option_words_of options.now)) }
+{
+    if allowed {
+        plans_or_chains(plan, chain, in_files(source, mesh)?, options)
     } else {
         None
     }
@@ -125,7 +154,12 @@ fn samples<'a>(input: &str, mesh: Option<&str>, options: &OptionWords<'a>) -> Op
         return None;
     }
     let side = number_to(MAX_SIDE, input)?;
-    plans(PlanJob::RunsPlan, Input::OfSample { side }, options)
+    plans_or_chains(
+        PlanJob::RunsPlan,
+        ChainJob::RunsChains,
+        Input::OfSample { side },
+        options,
+    )
 }
 
 // `convert MESH`, with `--form`.
@@ -166,7 +200,7 @@ fn source_alone<'a>(
 fn plans<'a>(job: PlanJob, input: Input<'a>, options: &OptionWords<'a>) -> Option<Asked<'a>>
     ensures { option_map command_of result ≡ plans (job_in job) (input_in input.entry) (option_words_of options.now) }
 {
-    if options.form.is_some() {
+    if options.form.is_some() || options.chains {
         None
     } else {
         Some(Asked::Plan {
@@ -174,6 +208,38 @@ fn plans<'a>(job: PlanJob, input: Input<'a>, options: &OptionWords<'a>) -> Optio
             options: options_of(options)?,
             input,
         })
+    }
+}
+
+// A job on its chains, with none of the options that say by which plan a program runs, and which of its items.
+fn chains<'a>(job: ChainJob, input: Input<'a>, options: &OptionWords<'a>) -> Option<Asked<'a>>
+    ensures { option_map command_of result ≡ chains (chain_job_in job) (input_in input.entry) (option_words_of options.now) }
+{
+    if options.form.is_none() && is_unplanned(options) {
+        Some(Asked::Chains {
+            job,
+            options: chain_options_of(options)?,
+            input,
+        })
+    } else {
+        None
+    }
+}
+
+// By chains where `--chain` stands, and else by a plan.
+fn plans_or_chains<'a>(
+    plan: PlanJob,
+    chain: ChainJob,
+    input: Input<'a>,
+    options: &OptionWords<'a>,
+) -> Option<Asked<'a>>
+    ensures { option_map command_of result
+        ≡ plans_or_chains (job_in plan) (chain_job_in chain) (input_in input.entry) (option_words_of options.now) }
+{
+    if options.chains {
+        chains(chain, input, options)
+    } else {
+        plans(plan, input, options)
     }
 }
 

@@ -1,7 +1,7 @@
 //! The words of the command line of `op2`: what they ask for, and when they are refused.
 //!
 //! `clap` judges the words; what its matches mean is defined in `specs/Words.antt`, and `read_words` gives exactly that, with
-//! the numbers of a plan's options in their ranges.
+//! the numbers of its options in their ranges.
 #![tactic(auto)]
 
 mod asked;
@@ -14,7 +14,9 @@ mod read;
 mod refusals;
 mod usage;
 
-pub use asked::{Asked, Blocks, Input, Options, Parting, PlanJob, Schedule, Stretch};
+pub use asked::{
+    Asked, Blocks, ChainJob, ChainOptions, Input, Options, Parting, PlanJob, Schedule, Stretch,
+};
 pub use laws::{heads_are_not_dumped, one_fault, options_are_within};
 pub use limits::{MAX_BLOCK, MAX_GROUP, MAX_RANKS, MAX_WORKERS};
 pub use read::read_words;

@@ -1,18 +1,18 @@
-// The options of a plan, from the values that the words have.
+// The options of a plan, and of a run by chains, from the values that the words have.
 
 ghost use Rattle.std.specs.Prelude.{◌≡◌, option_map};
 ghost use Rattle.distribute.specs.Parts.{name_of, parts_of};
 ghost use Rattle.command_words.specs.Words.{number_to, number_or, is_unplanned, runs_nothing, behind, rule_of, parting_of};
 ghost use Rattle.command_words.specs.Words.{seed_of, schedule_of, blocks_of, item_of, stretch_of};
-ghost use Rattle.command_words.specs.Words.{options_of, goes_to_the_end, is_whole, plans_itself, stops_at_an_item};
-ghost use Rattle.command_words.specs.Values.{option_words_of, parting_in, schedule_in, blocks_in, stretch_in, options_in};
+ghost use Rattle.command_words.specs.Words.{options_of, chain_options_of, goes_to_the_end, is_whole, plans_itself, stops_at_an_item};
+ghost use Rattle.command_words.specs.Values.{option_words_of, parting_in, schedule_in, blocks_in, stretch_in, options_in, chain_options_in};
 
-use crate::asked::{Blocks, Options, Parting, Schedule, Stretch};
+use crate::asked::{Blocks, ChainOptions, Options, Parting, Schedule, Stretch};
 use crate::limits::{MAX_BLOCK, MAX_RANKS, MAX_WORKERS};
 use distribute::Parts;
 use op_num::read_u64;
 
-/// The values of the options, as the words have them, and whether the flag stands.
+/// The values of the options, as the words have them, and whether the flags stand.
 #[derive(Clone, Copy, Debug)]
 pub struct OptionWords<'a> {
     pub form: Option<&'a str>,
@@ -27,6 +27,7 @@ pub struct OptionWords<'a> {
     pub schedule: Option<&'a str>,
     pub seed: Option<&'a str>,
     pub workers: Option<&'a str>,
+    pub chains: bool,
     pub dumps: bool,
 }
 
@@ -74,6 +75,7 @@ pub fn runs_nothing(words: &OptionWords<'_>) -> bool
     words.ranks.is_none()
         && words.parts.is_none()
         && words.partition.is_none()
+        && !words.chains
         && !words.dumps
         && is_unplanned(words)
 }
@@ -227,6 +229,17 @@ pub fn options_of<'a>(words: &OptionWords<'a>) -> Option<Options<'a>>
         blocks,
         schedule,
         workers,
+        dumps: words.dumps,
+    })
+}
+
+/// Those of a run by chains.
+pub fn chain_options_of<'a>(words: &OptionWords<'a>) -> Option<ChainOptions<'a>>
+    ensures { option_map chain_options_in result ≡ chain_options_of (option_words_of words.now) }
+{
+    Some(ChainOptions {
+        ranks: number_or(1, MAX_RANKS, words.ranks)?,
+        parting: parting_of(words.parts, words.partition)?,
         dumps: words.dumps,
     })
 }

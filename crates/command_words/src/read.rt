@@ -75,6 +75,7 @@ fn option_words<'a>(matches: &ArgMatches<'a>) -> OptionWords<'a>
         schedule: matches.get_str("schedule"),
         seed: matches.get_str("seed"),
         workers: matches.get_str("workers"),
+        chains: is_set(matches.get_str("chain")),
         dumps: is_set(matches.get_str("dump")),
     }
 }

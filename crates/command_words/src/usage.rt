@@ -34,6 +34,8 @@ Options of run, sample, state, check, plan and schedule
   --workers N    how many threads run the elements, from 1 to 64; 1 where it isn't given
   --at K         for state, where it must be given: the item before which the run stops, from 0 to 4294967295
   --from F       for run and schedule: the items from that on which the state in the file F tells, with its values
+  --chain        for run, sample and check: without a plan, with one exchange for each chain of loops; check writes how
+                 many chains and messages there are; stands with --ranks, --parts, --partition and --dump alone
   --dump         for run and sample: where the run has no fault, what each rank holds at its end is written too
 
 Options of convert

@@ -9,24 +9,26 @@ if_ok_weaker (Ok x) P Q step h = step x h
 if_ok_weaker (Err e) P Q step h = tt
 
 -- step by step behind the program's name, the whole command
-whole : (own job input mesh all last : App)
+whole : (own job input mesh all chains last : App)
     → own ≡ versioned (new_app (codes "op2"))
     → job ≡ with_rule own (positional true (codes "JOB"))
     → input ≡ with_rule job (positional true (codes "INPUT"))
     → mesh ≡ with_rule input (positional false (codes "MESH"))
     → all ≡ with_rules mesh (map option options)
-    → last ≡ with_rule all (flag (codes "dump"))
+    → chains ≡ with_rule all (flag (codes "chain"))
+    → last ≡ with_rule chains (flag (codes "dump"))
     → last ≡ command
-whole own job input mesh all last e0 e1 e2 e3 e4 e5 =
-    e5
-    ∙ ap (λ a. with_rule a (flag (codes "dump"))) (e4
+whole own job input mesh all chains last e0 e1 e2 e3 e4 e5 e6 =
+    e6
+    ∙ ap (λ a. with_rule a (flag (codes "dump"))) (e5
+    ∙ ap (λ a. with_rule a (flag (codes "chain"))) (e4
     ∙ ap (λ a. with_rules a (map option options)) (e3
     ∙ ap (λ a. with_rule a (positional false (codes "MESH"))) (e2
     ∙ ap (λ a. with_rule a (positional true (codes "INPUT"))) (e1
-    ∙ ap (λ a. with_rule a (positional true (codes "JOB"))) e0))))
+    ∙ ap (λ a. with_rule a (positional true (codes "JOB"))) e0)))))
 
 pub returns : goal.returns
 returns c =
     let own : app_of c.version-command.result ≡ versioned (new_app (codes "op2")) = ap app_of_fields c.version-command.ensures ∙ ap versioned c.new.ensures.app in
-    if_ok_weaker c.with_flag.result _ _
-    (λ x e. whole _ _ _ _ _ _ own c.in_ok-command.ensures c.in_ok-command-2.ensures c.in_ok-command-3.ensures c.in_ok-command-4.ensures e) c.with_flag.ensures
+    if_ok_weaker c.with_flag-2.result _ _
+    (λ x e. whole _ _ _ _ _ _ _ own c.in_ok-command.ensures c.in_ok-command-2.ensures c.in_ok-command-3.ensures c.in_ok-command-4.ensures c.in_ok-command-5.ensures e) c.with_flag-2.ensures
