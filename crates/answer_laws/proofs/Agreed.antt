@@ -24,9 +24,9 @@ use Rattle.answer_lines.specs.Lines.{Answer, done, refused, line_of}
 use Rattle.answers.specs.Said.{SaysTypes, SaysMesh, SaysBinding}
 use Rattle.mesh_text.specs.declared.entry.Form.{Form}
 use Rattle.mesh_gen.specs.Sample.{sample_source, sample_mesh}
-use Rattle.command_words.specs.Words.{PlanJob, Options, Input, InFiles, OfSample, Command, OnPlan, Converts, Translates, Restores, ShowsUsage, ShowsVersion, WordsAre}
+use Rattle.command_words.specs.Words.{ChainJob, ChainOptions, PlanJob, Options, Input, InFiles, OfSample, Command, OnPlan, OnChains, Converts, Translates, Restores, ShowsUsage, ShowsVersion, WordsAre}
 use Rattle.answers.specs.Judgements.{TextIs, SourceIs, FileIs, MeshIs, TreeIs, TypesAre, TranslationIs, RestorationIs, EntriesAre, BoundIs, AccessesAre}
-use Rattle.answers.specs.Answers.{given, PlannedAnswers, BoundAnswers, ConvertAnswers, TranslateAnswers, RestoreAnswers, CommandAnswers}
+use Rattle.answers.specs.Answers.{given, PlannedAnswers, ChainAnswers, BoundAnswers, ConvertAnswers, TranslateAnswers, RestoreAnswers, CommandAnswers}
 use Rattle.command_words.specs.Laws.{OptionsAreWithin}
 use Rattle.answers.specs.Laws.{LacksTree, SourceLacksTree, Agree, AnswersAgree}
 use Rattle.answer_laws.proofs.Given.{given_both, given_alike}
@@ -64,7 +64,7 @@ mesh_is_one : (input : Input) (files : Files) → IsOne (MeshIs input files)
 mesh_is_one (InFiles source mesh) files = held_is_one MeshBytes mesh (files mesh)
 mesh_is_one (OfSample side) files = told_is_one (sample_mesh side)
 
-module _ (walks_alike : WalksAlike) (kernels_are_one : KernelsAreOne) (one_read : (bytes : List ℕ) (a b : Read) → Spelled bytes a → Spelled bytes b → a ≡ b) (one_outcome : (bytes : List ℕ) (a b : lexer.Outcome) → Lexes bytes a → Lexes bytes b → a ≡ b) (one_tree : (bytes : List ℕ) (a b : ProgramTree) → Reads bytes a → Reads bytes b → a ≡ b) (one_resolved : (p : ProgramTree) (a b : names.Outcome) → Resolves p a → Resolves p b → a ≡ b) (walk_finds : WalkFinds) (obeys : ObeysUnlessBroken) (one_breach : OneRefusal) (plans_alike : (j : PlanJob) (o : Options) (files : Files) → 0 < o.ranks → Alike (PlannedAnswers j o files)) (within : OptionsAreWithin) (one_translation : (bytes : List ℕ) (p : ProgramTree) (a b : trans.Outcome) → trans.Translates bytes p a → trans.Translates bytes p b → a ≡ b) (one_restoration : (bytes : List ℕ) (a b : trans.Outcome) → trans.Restores bytes a → trans.Restores bytes b → a ≡ b) where
+module _ (walks_alike : WalksAlike) (kernels_are_one : KernelsAreOne) (one_read : (bytes : List ℕ) (a b : Read) → Spelled bytes a → Spelled bytes b → a ≡ b) (one_outcome : (bytes : List ℕ) (a b : lexer.Outcome) → Lexes bytes a → Lexes bytes b → a ≡ b) (one_tree : (bytes : List ℕ) (a b : ProgramTree) → Reads bytes a → Reads bytes b → a ≡ b) (one_resolved : (p : ProgramTree) (a b : names.Outcome) → Resolves p a → Resolves p b → a ≡ b) (walk_finds : WalkFinds) (obeys : ObeysUnlessBroken) (one_breach : OneRefusal) (plans_alike : (j : PlanJob) (o : Options) (files : Files) → 0 < o.ranks → Alike (PlannedAnswers j o files)) (chains_alike : (j : ChainJob) (o : ChainOptions) (files : Files) → 0 < o.ranks → Alike (ChainAnswers j o files)) (within : OptionsAreWithin) (one_translation : (bytes : List ℕ) (p : ProgramTree) (a b : trans.Outcome) → trans.Translates bytes p a → trans.Translates bytes p b → a ≡ b) (one_restoration : (bytes : List ℕ) (a b : trans.Outcome) → trans.Restores bytes a → trans.Restores bytes b → a ≡ b) where
   -- ---- accesses
 
   -- what is found in the loops' kernels
@@ -241,7 +241,10 @@ module _ (walks_alike : WalksAlike) (kernels_are_one : KernelsAreOne) (one_read 
   commands_agree : (words : List (List ℕ)) (files : Files) (c : Command) → WordsAre words (Ok c) → (a b : Answer) → CommandAnswers c files a → CommandAnswers c files b → Agree words files a b
   commands_agree words files (OnPlan j o input) asks a b h k =
       agree_for words files (Lacks input files) (λ l. record { command = OnPlan j o input; bytes = l.0; asks = asks; held = l.1; lacks = l.2 }) a b
-      (programs_agree (PlannedAnswers j o files) (plans_alike j o files (within words (OnPlan j o input) asks).some) input files a b h k)
+      (programs_agree (PlannedAnswers j o files) (plans_alike j o files (within words (OnPlan j o input) asks).ranks.some) input files a b h k)
+  commands_agree words files (OnChains j o input) asks a b h k =
+      agree_for words files (Lacks input files) (λ l. record { command = OnChains j o input; bytes = l.0; asks = asks; held = l.1; lacks = l.2 }) a b
+      (programs_agree (ChainAnswers j o files) (chains_alike j o files (within words (OnChains j o input) asks).some) input files a b h k)
   commands_agree words files (Converts form mesh) asks a b h k = agree_for words files ⊥ (λ x. absurd x) a b (converts_agree form mesh files a b h k)
   commands_agree words files (Translates source) asks a b h k =
       agree_for words files (FileLacks source files) (λ l. record { command = Translates source; bytes = l.0; asks = asks; held = l.1; lacks = l.2 }) a b (translations_agree source files a b h k)

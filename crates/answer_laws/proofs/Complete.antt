@@ -5,9 +5,9 @@ use Rattle.answer_lines.specs.Lines.{Answer}
 use Rattle.distribute.specs.Parts.{Parts}
 use Rattle.bound_program.specs.Values.{BoundValue}
 use Rattle.command_words.specs.Refusal.{Refusal}
-use Rattle.command_words.specs.Words.{PlanJob, Stretch, Whole, Before, From, Parting, ByRule, ByFile, Blocks, OfSize, AsPlanned, Schedule, Standard, Drawn, Written, Options, group_of, Command, OnPlan, InFiles, OfSample, Converts, Translates, Restores, ShowsUsage, ShowsVersion, names_before, names_by, names_in_blocks, names_at, names_in, names_of, named_by}
+use Rattle.command_words.specs.Words.{ChainJob, ChainOptions, PlanJob, Stretch, Whole, Before, From, Parting, ByRule, ByFile, Blocks, OfSize, AsPlanned, Schedule, Standard, Drawn, Written, Options, group_of, Command, OnPlan, OnChains, InFiles, OfSample, Converts, Translates, Restores, ShowsUsage, ShowsVersion, names_before, names_by, names_in_blocks, names_at, names_in, names_of, named_by}
 use Rattle.answers.specs.Judgements.{SourceIs, TreeIs, TypesAre, MeshIs, EntriesAre, BoundIs, AccessesAre, Cut, CutOf, Chosen, ChosenIs, NumbersOf, PartsOf, OwnersOf, Colouring, ColouringOf, Planned, PlanIs, Order, OrderOf, outline_of, StepsOf}
-use Rattle.answers.specs.Answers.{given, planned_answer, ChosenAnswers, PlannedAnswers, PlanAnswers, CommandAnswers, Answers}
+use Rattle.answers.specs.Answers.{given, planned_answer, chain_answer, ChosenAnswers, PlannedAnswers, ChainAnswers, BoundAnswers, CommandAnswers, Answers}
 use Rattle.answers.specs.Endings.{Ending, Answered, OutOfMemory, Unread, Unwritten, ending_status, unwritten_status, Call, Tells, IsWritten, EndsBy, Ends, TellTheAnswer, IsComplete}
 use Rattle.answers.specs.Laws.{AnswersAgree}
 use Rattle.answer_laws.proofs.Given.{given_on}
@@ -55,7 +55,7 @@ chosen_over j o none f g c a h = (
   h.0,
   given_on (NumbersOf o c.program) (NumbersOf o c.program) _ _ (λ r k. k) (λ n.
       given_on (PartsOf o.parting f) (PartsOf o.parting g) _ _ (parts_over o.parting none.parting f g) (λ parts.
-      given_on (OwnersOf o c.program parts) (OwnersOf o c.program parts) _ _ (λ r k. k) (λ u.
+      given_on (OwnersOf o.ranks c.program parts) (OwnersOf o.ranks c.program parts) _ _ (λ r k. k) (λ u.
       given_on (ColouringOf o.blocks f) (ColouringOf o.blocks g) _ _ (colouring_over o.blocks none.blocks f g) (λ colouring.
       given_on (PlanIs colouring c.program u n) (PlanIs colouring c.program u n) _ _ (λ r k. k) (λ p.
       given_on (OrderOf o.schedule f) (OrderOf o.schedule g) (by_order p) (by_order p) (order_over o.schedule none.schedule f g) (λ order x k. k)))))) a h.1,
@@ -71,21 +71,32 @@ planned_over j o none f g b a h = (
       given_on (ChosenIs cut b) (ChosenIs cut b) _ _ (λ r k. k) (λ c. chosen_over j o none f g c)) a h.1,
 )
 
+chained_over : (j : ChainJob) (o : ChainOptions) → names_by o.parting ≡ [] → (f g : Files) (b : BoundValue) (a : Answer) → ChainAnswers j o f b a → ChainAnswers j o g b a
+chained_over j o none f g b a h =
+    (h.0, given_on (PartsOf o.parting f) (PartsOf o.parting g) by_parts by_parts (parts_over o.parting none f g) (λ parts x k. k) a h.1)
+  where
+    by_parts : Parts → Answer → Type 0
+    by_parts parts = given (OwnersOf o.ranks b parts) (λ u x. x ≡ chain_answer j o.dumps b u)
+
 -- the sample is read from no file
-sample_over : (j : PlanJob) (o : Options) (side : ℕ) → NameNone o → (f g : Files) (a : Answer) → PlanAnswers j o (OfSample side) f a → PlanAnswers j o (OfSample side) g a
-sample_over j o side none f g =
+sample_over : (rest more : BoundValue → Answer → Type 0) (side : ℕ) → ((b : BoundValue) (a : Answer) → rest b a → more b a) → (f g : Files) (a : Answer) → BoundAnswers rest (OfSample side) f a → BoundAnswers more (OfSample side) g a
+sample_over rest more side over f g =
     given_on (SourceIs (OfSample side) f) (SourceIs (OfSample side) g) _ _ (λ r k. k) (λ bytes.
     given_on (TreeIs bytes) (TreeIs bytes) _ _ (λ r k. k) (λ p.
     given_on (TypesAre p) (TypesAre p) _ _ (λ r k. k) (λ types.
     given_on (MeshIs (OfSample side) f) (MeshIs (OfSample side) g) _ _ (λ r k. k) (λ text.
     given_on (EntriesAre text) (EntriesAre text) _ _ (λ r k. k) (λ es.
     given_on (BoundIs p types es) (BoundIs p types es) _ _ (λ r k. k) (λ b.
-    given_on (AccessesAre b) (AccessesAre b) _ _ (λ r k. k) (λ _. planned_over j o none f g b)))))))
+    given_on (AccessesAre b) (AccessesAre b) _ _ (λ r k. k) (λ _. over b)))))))
 
 -- a command that names no file has its answers over any
 same_command : (c : Command) → names_of c ≡ [] → (f g : Files) (a : Answer) → CommandAnswers c f a → CommandAnswers c g a
 same_command (OnPlan j o (InFiles source mesh)) none f g a h = absurd (let bad : ⊥ = cc in bad)
-same_command (OnPlan j o (OfSample side)) none f g a h = sample_over j o side (no_names o none) f g a h
+same_command (OnPlan j o (OfSample side)) none f g a h =
+    sample_over (PlannedAnswers j o f) (PlannedAnswers j o g) side (planned_over j o (no_names o none) f g) f g a h
+same_command (OnChains j o (InFiles source mesh)) none f g a h = absurd (let bad : ⊥ = cc in bad)
+same_command (OnChains j o (OfSample side)) none f g a h =
+    sample_over (ChainAnswers j o f) (ChainAnswers j o g) side (chained_over j o none f g) f g a h
 same_command (Converts form mesh) none f g a h = absurd (let bad : ⊥ = cc in bad)
 same_command (Translates source) none f g a h = absurd (let bad : ⊥ = cc in bad)
 same_command (Restores source) none f g a h = absurd (let bad : ⊥ = cc in bad)

@@ -8,7 +8,7 @@ use Rattle.command_words.specs.Refusal.{CannotRead, TooDeep, NoTokens, BadName, 
 use Rattle.answer_lines.specs.Lines.{line_of, fault_line}
 use Rattle.distribute.specs.Parts.{Block, Bisect, Grow}
 use Rattle.schedule_steps.specs.declared.step.Step.TheVariants.{Send, Recv, Begin, Join}
-use Rattle.command_words.specs.Words.{Options, Whole, Before, From, Check, ShowsPlan, ShowsSchedule, RunsPlan, ByRule, ByFile, OfSize, AsPlanned, Standard, Drawn, Written, InFiles, OfSample, OnPlan, Converts, Translates, Restores, ShowsUsage, ShowsVersion, WordsAre}
+use Rattle.command_words.specs.Words.{CountsChains, RunsChains, Options, Whole, Before, From, Check, ShowsPlan, ShowsSchedule, RunsPlan, ByRule, ByFile, OfSize, AsPlanned, Standard, Drawn, Written, InFiles, OfSample, OnPlan, OnChains, Converts, Translates, Restores, ShowsUsage, ShowsVersion, WordsAre}
 
 -- ---- lines
 
@@ -315,6 +315,37 @@ a_mesh_and_a_dump = refl
 a_schedule_of_no_mesh : WordsAre (codes "op2" ∷ codes "schedule" ∷ codes "s.c" ∷ []) (Err Usage)
 unfolding clap_on_literals
 a_schedule_of_no_mesh = refl
+
+a_run_by_chains : WordsAre (codes "op2" ∷ codes "run" ∷ codes "s.c" ∷ codes "m" ∷ codes "--chain" ∷ codes "--ranks" ∷ codes "2" ∷ codes "--dump" ∷ [])
+    (Ok (OnChains RunsChains (record { ranks = 2; parting = ByRule Block; dumps = true }) (InFiles (codes "s.c") (codes "m"))))
+unfolding clap_on_literals
+a_run_by_chains = refl
+
+a_sample_by_chains : WordsAre (codes "op2" ∷ codes "sample" ∷ codes "2" ∷ codes "--chain" ∷ [])
+    (Ok (OnChains RunsChains (record { ranks = 1; parting = ByRule Block; dumps = false }) (OfSample 2)))
+unfolding clap_on_literals
+a_sample_by_chains = refl
+
+a_count_of_chains : WordsAre (codes "op2" ∷ codes "check" ∷ codes "s.c" ∷ codes "m" ∷ codes "--partition=p" ∷ codes "--chain" ∷ [])
+    (Ok (OnChains CountsChains (record { ranks = 1; parting = ByFile (codes "p"); dumps = false }) (InFiles (codes "s.c") (codes "m"))))
+unfolding clap_on_literals
+a_count_of_chains = refl
+
+a_plan_of_chains : WordsAre (codes "op2" ∷ codes "plan" ∷ codes "s.c" ∷ codes "m" ∷ codes "--chain" ∷ []) (Err Usage)
+unfolding clap_on_literals
+a_plan_of_chains = refl
+
+chains_in_blocks : WordsAre (codes "op2" ∷ codes "run" ∷ codes "s.c" ∷ codes "m" ∷ codes "--chain" ∷ codes "--block" ∷ codes "256" ∷ []) (Err Usage)
+unfolding clap_on_literals
+chains_in_blocks = refl
+
+chains_of_a_rest : WordsAre (codes "op2" ∷ codes "run" ∷ codes "s.c" ∷ codes "m" ∷ codes "--chain" ∷ codes "--from" ∷ codes "f" ∷ []) (Err Usage)
+unfolding clap_on_literals
+chains_of_a_rest = refl
+
+a_mesh_of_chains : WordsAre (codes "op2" ∷ codes "convert" ∷ codes "m" ∷ codes "--chain" ∷ []) (Err Usage)
+unfolding clap_on_literals
+a_mesh_of_chains = refl
 
 a_translation : WordsAre (codes "op2" ∷ codes "translate" ∷ codes "s.c" ∷ []) (Ok (Translates (codes "s.c")))
 unfolding clap_on_literals

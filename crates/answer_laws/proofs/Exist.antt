@@ -26,16 +26,16 @@ use Rattle.op_outside.specs.Outside.{Files}
 use Rattle.command_words.specs.Refusal.{SourceBytes, MeshBytes, Refusal, NoTree, TooDeep}
 use Rattle.answer_lines.specs.Lines.{Answer, most}
 use Rattle.mesh_gen.specs.Sample.{sample_source}
-use Rattle.command_words.specs.Words.{PlanJob, Options, Input, InFiles, OfSample, Command, OnPlan, Converts, Translates, Restores, ShowsUsage, ShowsVersion, WordsAre}
+use Rattle.command_words.specs.Words.{ChainJob, ChainOptions, PlanJob, Options, Input, InFiles, OfSample, Command, OnPlan, OnChains, Converts, Translates, Restores, ShowsUsage, ShowsVersion, WordsAre}
 use Rattle.op_translate.specs.declared.refusals.TransRefusal.TheVariants as trans
 use Rattle.answers.specs.Judgements.{IsUnread, SourceIs, MeshIs, TreeIs, TranslationIs, RestorationIs, TypesAre, EntriesAre, BoundIs}
-use Rattle.answers.specs.Answers.{BoundAnswers, PlannedAnswers, CommandAnswers}
-use Rattle.command_words.specs.Laws.{AreWithin, OptionsAreWithin}
+use Rattle.answers.specs.Answers.{BoundAnswers, PlannedAnswers, ChainAnswers, CommandAnswers}
+use Rattle.command_words.specs.Laws.{AreFew, AreWithin, OptionsAreWithin}
 use Rattle.answers.specs.Laws.{AnswersExist}
 use Rattle.answer_laws.proofs.Given.{given_one}
 use Rattle.answer_laws.proofs.Translations.{translation_exists, restoration_exists}
 use Rattle.answer_laws.proofs.Held.{held_exists, held_within}
-use Rattle.answer_laws.proofs.Stretches.{SuitsInParts}
+use Rattle.answer_laws.proofs.Stretches.{Suits, SuitsInParts}
 use Rattle.answer_laws.proofs.SaidOnce.{lex_said, types_said, mesh_said, binding_said}
 use Rattle.answer_laws.proofs.Trees.{shallow_or_deep}
 use Rattle.answer_laws.proofs.Sites.{accesses_exist}
@@ -71,7 +71,12 @@ SourcesSuit =
 abbrev pub PlansAnswered : Type 0
 PlansAnswered = (j : PlanJob) (o : Options) (files : Files) → AreWithin o → (b : BoundValue) → SuitsInParts b → ¬ ((a : Answer) → ¬ PlannedAnswers j o files b a)
 
-module _ (some_lexed : (bytes : List ℕ) → (o : Outcome) × Lexes bytes o) (some_types : (p : ProgramTree) → (o : names.Outcome) × Resolves p o) (types_causes : (p : ProgramTree) → ¬ Resolves p (Err types.OutOfMemory)) (some_kernels : (bytes : List ℕ) (p : ProgramTree) → Reads bytes p → length bytes < 2 ^ 63 → (r : Resolved) × (resolved_of r ≡ resolved p)) (deep : (bytes : List ℕ) (p : ProgramTree) (n : ℕ) → Deep bytes p n → IsFar bytes (place_at p.places bytes n)) (causes : (p : ProgramTree) (types : Resolved) (es : List Named) → bound p types es ≢ Err bind.OutOfMemory) (some_read : (bytes : List ℕ) → (o : Read) × Spelled bytes o) (mesh_causes : (bytes : List ℕ) → ¬ Refuses bytes mesh.OutOfMemory) (one_outcome : (bytes : List ℕ) (a b : Outcome) → Lexes bytes a → Lexes bytes b → a ≡ b) (one_depth : (bytes : List ℕ) (a b : ProgramTree) (n m : ℕ) → Deep bytes a n → Deep bytes b m → n ≡ m) (one_shape : (bytes : List ℕ) (a b : ProgramTree) (n : ℕ) → Reads bytes a → Deep bytes b n → ⊥) (walk_finds : WalkFinds) (obeys : ObeysUnlessBroken) (one_breach : OneRefusal) (suits : SourcesSuit) (planned : PlansAnswered) (within : OptionsAreWithin) where
+-- there is an answer of each bound program that suits, on few ranks
+abbrev pub ChainsAnswered : Type 0
+ChainsAnswered =
+    (j : ChainJob) (o : ChainOptions) (files : Files) → AreFew o.ranks → (b : BoundValue) → Suits b → ¬ ((a : Answer) → ¬ ChainAnswers j o files b a)
+
+module _ (some_lexed : (bytes : List ℕ) → (o : Outcome) × Lexes bytes o) (some_types : (p : ProgramTree) → (o : names.Outcome) × Resolves p o) (types_causes : (p : ProgramTree) → ¬ Resolves p (Err types.OutOfMemory)) (some_kernels : (bytes : List ℕ) (p : ProgramTree) → Reads bytes p → length bytes < 2 ^ 63 → (r : Resolved) × (resolved_of r ≡ resolved p)) (deep : (bytes : List ℕ) (p : ProgramTree) (n : ℕ) → Deep bytes p n → IsFar bytes (place_at p.places bytes n)) (causes : (p : ProgramTree) (types : Resolved) (es : List Named) → bound p types es ≢ Err bind.OutOfMemory) (some_read : (bytes : List ℕ) → (o : Read) × Spelled bytes o) (mesh_causes : (bytes : List ℕ) → ¬ Refuses bytes mesh.OutOfMemory) (one_outcome : (bytes : List ℕ) (a b : Outcome) → Lexes bytes a → Lexes bytes b → a ≡ b) (one_depth : (bytes : List ℕ) (a b : ProgramTree) (n m : ℕ) → Deep bytes a n → Deep bytes b m → n ≡ m) (one_shape : (bytes : List ℕ) (a b : ProgramTree) (n : ℕ) → Reads bytes a → Deep bytes b n → ⊥) (walk_finds : WalkFinds) (obeys : ObeysUnlessBroken) (one_breach : OneRefusal) (suits : SourcesSuit) (planned : PlansAnswered) (chained : ChainsAnswered) (within : OptionsAreWithin) where
   -- bytes that the lexer refuses have no tree
   unlexed : (bytes : List ℕ) (l : LexRefusal) → Lexes bytes (Err l) → IsUnread bytes (source.Lex l)
   unlexed bytes l h = record {
@@ -171,6 +176,8 @@ module _ (some_lexed : (bytes : List ℕ) → (o : Outcome) × Lexes bytes o) (s
   command_answers : (words : List (List ℕ)) (files : Files) (c : Command) → WordsAre words (Ok c) → ¬ ((a : Answer) → ¬ CommandAnswers c files a)
   command_answers words files (OnPlan j o input) asks =
       bound_answers (PlannedAnswers j o files) (planned j o files (within words (OnPlan j o input) asks)) input files
+  command_answers words files (OnChains j o input) asks =
+      bound_answers (ChainAnswers j o files) (λ b suits. chained j o files (within words (OnChains j o input) asks) b suits.suits) input files
   command_answers words files (Converts form mesh) asks =
       given_one _ _ (held_exists MeshBytes mesh (files mesh)) (λ text _.
       given_one _ _ (entries_exist text) (λ es _ n. n _ refl))

@@ -11,6 +11,7 @@ mod SchedulesAgree
 mod Colourings
 mod Stretches
 mod PlansAgree
+mod ChainsAgree
 mod Agreed
 mod SchedulesExist
 mod PlansExist

@@ -43,7 +43,7 @@ use Rattle.answer_laws.proofs.SchedulesAgree.{order_is_one, steps_are_one}
 
 -- ---- parts
 
-parts_are_one : (p : Parting) (files : Files) → IsOne (PartsOf p files)
+pub parts_are_one : (p : Parting) (files : Files) → IsOne (PartsOf p files)
 parts_are_one (ByRule rule) files = record { refusals = (told_is_one rule).refusals; apart = (told_is_one rule).apart; values = (told_is_one rule).values }
 parts_are_one (ByFile name) files =
     let held = held_is_one PartitionBytes name (files name) in
@@ -200,12 +200,12 @@ module _ (on_cells : RunsAnswerOnCells) (programs_are_one : ProgramsAreOne) (dum
     -- ---- owners
 
     abbrev FromOwners : BoundValue → Perms → Parts → Answer → Type 0
-    FromOwners d n parts = given (OwnersOf o d parts) (λ u. given (ColouringOf o.blocks files) (FromColouring d u n))
+    FromOwners d n parts = given (OwnersOf o.ranks d parts) (λ u. given (ColouringOf o.blocks files) (FromColouring d u n))
 
     module _ (n m : Perms) (numbered : SamePerms n m) (perms : ArePerms b.mesh n) where
       owners_agree : (parts : Parts) (x y : Answer) → FromOwners b n parts x → FromOwners c m parts y → x ≡ y
       owners_agree parts =
-          given_both (OwnersOf o b parts) (OwnersOf o c parts) (λ u. given (ColouringOf o.blocks files) (FromColouring b u n)) (λ u. given (ColouringOf o.blocks files) (FromColouring c u m)) (λ x y. x ≡ y)
+          given_both (OwnersOf o.ranks b parts) (OwnersOf o.ranks c parts) (λ u. given (ColouringOf o.blocks files) (FromColouring b u n)) (λ u. given (ColouringOf o.blocks files) (FromColouring c u m)) (λ x y. x ≡ y)
           (λ r s h k. ap refused (owners_once h.0 r s h.2 (subst (λ e. SaysOwners e s) (sym (both (Err h.0) (Err k.0) h.1 k.1)) k.2)))
           (λ r v h k. both (Err h.0) (Ok v) h.1 k)
           (λ u s h k. both (Ok u) (Err k.0) h k.1)

@@ -27,10 +27,10 @@ use Rattle.op_outside.specs.Outside.{Files}
 use Rattle.command_words.specs.Refusal.{PartitionBytes, PlanBytes, ScheduleBytes, Steps, Refusal, BadPart, BadPlan, BeyondLimit}
 use Rattle.answer_lines.specs.Lines.{Answer, most}
 use Rattle.answers.specs.Said.{SaysOwners}
-use Rattle.command_words.specs.Words.{PlanJob, Parting, ByRule, ByFile, Blocks, OfSize, AsPlanned, Schedule, Standard, Drawn, Written, Options, group_of}
+use Rattle.command_words.specs.Words.{ChainJob, ChainOptions, PlanJob, Parting, ByRule, ByFile, Blocks, OfSize, AsPlanned, Schedule, Standard, Drawn, Written, Options, group_of}
 use Rattle.answers.specs.Judgements.{IsHeld, Chosen, NumbersOf, PartsOf, OwnersOf, Colouring, Least, Told, ColouringOf, Planned, PlanIs, Order, InStandardOrder, BySeed, ByText, OrderOf, outline_of, StepsOf}
-use Rattle.answers.specs.Answers.{ChosenAnswers, PlannedAnswers}
-use Rattle.command_words.specs.Laws.{HaveFewPlaces, AreWithin}
+use Rattle.answers.specs.Answers.{ChosenAnswers, PlannedAnswers, ChainAnswers}
+use Rattle.command_words.specs.Laws.{AreFew, HaveFewPlaces, AreWithin}
 use Rattle.answer_laws.proofs.Given.{given_one, given_with}
 use Rattle.answer_laws.proofs.Held.{held_exists}
 use Rattle.answer_laws.proofs.SaidOnce.{numbers_said, partition_said}
@@ -85,12 +85,12 @@ module _ (some_numbers : NumbersExist) (some_owners : OwnersExist) (outcomes_fit
       let said = partition_said h.0 (λ m. causes g ranks bytes (subst (λ f. Refuses g ranks bytes f) m h.1)) in
       (said.0, subst (λ f. SaysOwners f said.0) (sym h.2) said.1)
 
-  owners_exist : (o : Options) (b : BoundValue) (parts : Parts) → IsMesh b.mesh → AreWithin o → ¬ ((r : Result Owners Refusal) → ¬ OwnersOf o b parts r)
-  owners_exist o b parts mesh within none = let u = some_owners b.mesh o.ranks parts mesh within.some within.few in by_outcome u.0 u.1
+  owners_exist : (ranks : ℕ) (b : BoundValue) (parts : Parts) → IsMesh b.mesh → AreFew ranks → ¬ ((r : Result Owners Refusal) → ¬ OwnersOf ranks b parts r)
+  owners_exist ranks b parts mesh few none = let u = some_owners b.mesh ranks parts mesh few.some few.few in by_outcome u.0 u.1
     where
-      by_outcome : (r : Result Owners OwnersRefusal) → ¬ OwnersAre b.mesh o.ranks parts r
+      by_outcome : (r : Result Owners OwnersRefusal) → ¬ OwnersAre b.mesh ranks parts r
       by_outcome (Ok u) h = none (Ok u) h
-      by_outcome (Err e) h = let said = owners_said b.mesh o.ranks parts e h in none (Err said.0) (e, h, said.1)
+      by_outcome (Err e) h = let said = owners_said b.mesh ranks parts e h in none (Err said.0) (e, h, said.1)
 
   -- ---- the plan
 
@@ -141,10 +141,10 @@ module _ (some_numbers : NumbersExist) (some_owners : OwnersExist) (outcomes_fit
       given_with suits.fits
       (given_one _ _ (numbers_exist o c.program suits.fits.mesh) (λ n numbered.
       given_one _ _ (parts_exist o.parting files) (λ parts _.
-      given_one _ _ (owners_exist o c.program parts suits.fits.mesh within) (λ u owned.
+      given_one _ _ (owners_exist o.ranks c.program parts suits.fits.mesh within.ranks) (λ u owned.
       given_one _ _ (colouring_exists o.blocks files) (λ colouring told.
       given_one _ _ (plan_exists colouring c.program u n (has_places o.blocks files colouring within.places told) suits
-      (outcomes_fit.owners c.program.mesh o.ranks parts u within.some within.few owned).1 (outcomes_fit.numbers c.program.mesh o.renumber n numbered)) (λ p _.
+      (outcomes_fit.owners c.program.mesh o.ranks parts u within.ranks.some within.ranks.few owned).1 (outcomes_fit.numbers c.program.mesh o.renumber n numbered)) (λ p _.
       given_one _ _ (order_exists o.schedule files) (λ order _.
       given_one _ _ (steps_exist (outline_of c.program p) (group_of o) order) (λ steps _ last. last _ refl))))))))
 
@@ -154,3 +154,11 @@ module _ (some_numbers : NumbersExist) (some_owners : OwnersExist) (outcomes_fit
       (given_one _ _ (cut_exists o.stretch files) (λ cut _.
       given_one _ _ (chosen_exists some_state cut b suits.suits.fits.mesh) (λ c chosen.
       chosen_answered j o files within c (chosen_suits heads_fit tails_fit cut b suits c chosen))))
+
+  -- ---- chains
+
+  pub chains_exist : (j : ChainJob) (o : ChainOptions) (files : Files) → AreFew o.ranks → (b : BoundValue) → Suits b → ¬ ((a : Answer) → ¬ ChainAnswers j o files b a)
+  chains_exist j o files few b suits =
+      given_with suits.fits
+      (given_one _ _ (parts_exist o.parting files) (λ parts _.
+      given_one _ _ (owners_exist o.ranks b parts suits.fits.mesh few) (λ u _ last. last _ refl)))

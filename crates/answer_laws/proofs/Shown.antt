@@ -3,6 +3,7 @@ use Rattle.std.proofs.Common.{◌≡◌, ◌⊎◌, inl, inr, ℕ, Bool, List, [
 use Rattle.kernel_types.specs.declared.faults.KernelFault.{KernelFault}
 use Rattle.schedule_model.specs.Sequential.{Stop}
 use Rattle.schedule_steps.specs.declared.step.Step.{Step}
+use Rattle.mesh_decl.specs.declared.owners.Owners.{Owners}
 use Rattle.bound_program.specs.Values.{BoundValue}
 use Rattle.sequential_run.specs.Program.{first_fault}
 use Rattle.checkpoint.specs.Laws.{later}
@@ -10,9 +11,9 @@ use Rattle.mesh_text.specs.Canonical.{canonical}
 use Rattle.op_outside.specs.Outside.{Files, appended, AppendsFront}
 use Rattle.command_words.specs.Refusal.{Refusal, Usage, CannotRead, NoTokens, NoTree, TooDeep, BadName, BadBinding, BadTarget, BadAccess, BadMesh, BadCut, BadState, BadPart, BadPartition, BadPlan, BadSchedule, BadStep, EarlyStep, LeftStep, BadStub, BeyondLimit, status_of}
 use Rattle.answer_lines.specs.Lines.{Answer, done, refused, faulted}
-use Rattle.command_words.specs.Words.{PlanJob, Check, ShowsPlan, ShowsSchedule, RunsPlan, Options, group_of, Input, Command, OnPlan, Converts, Translates, Restores, ShowsUsage, ShowsVersion, WordsAre}
+use Rattle.command_words.specs.Words.{ChainJob, CountsChains, RunsChains, ChainOptions, PlanJob, Check, ShowsPlan, ShowsSchedule, RunsPlan, Options, group_of, Input, Command, OnPlan, OnChains, Converts, Translates, Restores, ShowsUsage, ShowsVersion, WordsAre}
 use Rattle.answers.specs.Judgements.{TextIs, SourceIs, TreeIs, TranslationIs, RestorationIs, TypesAre, FileIs, MeshIs, EntriesAre, BoundIs, AccessesAre, CutOf, Chosen, ChosenIs, NumbersOf, PartsOf, OwnersOf, ColouringOf, Planned, PlanIs, OrderOf, outline_of, StepsOf}
-use Rattle.answers.specs.Answers.{given, ran, planned_answer, ChosenAnswers, PlannedAnswers, BoundAnswers, CommandAnswers, Answers}
+use Rattle.answers.specs.Answers.{given, ran, planned_answer, ChosenAnswers, PlannedAnswers, chain_answer, ChainAnswers, BoundAnswers, CommandAnswers, Answers}
 use Rattle.answers.specs.Endings.{Ending, Answered, OutOfMemory, Unread, Unwritten, ending_status, unwritten_status, Call, Tells, IsWritten, EndsBy, Ends, Shows, IsShown, IsSilent}
 use Rattle.answers.specs.Laws.{Agree, AnswersAgree}
 use Rattle.answer_laws.proofs.Complete.{tells_answer, tells_some}
@@ -42,7 +43,7 @@ chosen_form : (j : PlanJob) (o : Options) (files : Files) (c : Chosen) (a : Answ
 chosen_form j o files c a h =
     given_form (NumbersOf o c.program) _ (λ n.
     given_form (PartsOf o.parting files) _ (λ parts.
-    given_form (OwnersOf o c.program parts) _ (λ u.
+    given_form (OwnersOf o.ranks c.program parts) _ (λ u.
     given_form (ColouringOf o.blocks files) _ (λ colouring.
     given_form (PlanIs colouring c.program u n) _ (λ p.
     given_form (OrderOf o.schedule files) _ (λ order.
@@ -51,6 +52,15 @@ chosen_form j o files c a h =
 planned_form : (j : PlanJob) (o : Options) (files : Files) (b : BoundValue) (a : Answer) → PlannedAnswers j o files b a → Form a
 planned_form j o files b a h =
     given_form (CutOf o.stretch files) _ (λ cut. given_form (ChosenIs cut b) (ChosenAnswers j o files) (chosen_form j o files)) a h.1
+
+chain_job_form : (j : ChainJob) (dumps : Bool) (b : BoundValue) (u : Owners) (a : Answer) → a ≡ chain_answer j dumps b u → Form a
+chain_job_form CountsChains dumps b u a e = IsDone _ e
+chain_job_form RunsChains dumps b u a e = ran_form 0 (first_fault b) _ a e
+
+chained_form : (j : ChainJob) (o : ChainOptions) (files : Files) (b : BoundValue) (a : Answer) → ChainAnswers j o files b a → Form a
+chained_form j o files b a h =
+    given_form (PartsOf o.parting files) _ (λ parts.
+    given_form (OwnersOf o.ranks b parts) (λ u x. x ≡ chain_answer j o.dumps b u) (chain_job_form j o.dumps b)) a h.1
 
 bound_form : (rest : BoundValue → Answer → Type 0) → ((b : BoundValue) (a : Answer) → rest b a → Form a) → (input : Input) (files : Files) (a : Answer) → BoundAnswers rest input files a → Form a
 bound_form rest form input files =
@@ -64,6 +74,7 @@ bound_form rest form input files =
 
 command_form : (c : Command) (files : Files) (a : Answer) → CommandAnswers c files a → Form a
 command_form (OnPlan j o input) files a h = bound_form (PlannedAnswers j o files) (planned_form j o files) input files a h
+command_form (OnChains j o input) files a h = bound_form (ChainAnswers j o files) (chained_form j o files) input files a h
 command_form (Converts form mesh) files a h =
     given_form (FileIs mesh files) _ (λ text. given_form (EntriesAre text) (λ es a. a ≡ done (canonical form es)) (λ es a h. IsDone (canonical form es) h)) a h
 command_form (Translates source) files a h =

@@ -139,7 +139,7 @@ chosen_told : RunsAnswerOnCells → (files : Files) (o : Options) (c : Chosen) (
 chosen_told on_cells files o c a w h =
     through (Told o c) (NumbersOf o c.program) _ (λ n _.
     through (Told o c) (PartsOf o.parting files) _ (λ parts _.
-    through (Told o c) (OwnersOf o c.program parts) _ (λ u _.
+    through (Told o c) (OwnersOf o.ranks c.program parts) _ (λ u _.
     through (Told o c) (ColouringOf o.blocks files) _ (λ x _.
     through (Told o c) (PlanIs x c.program u n) _ (λ p _.
     through (Told o c) (OrderOf o.schedule files) _ (λ order _.

@@ -42,9 +42,9 @@ use Rattle.schedule_steps.specs.declared.step.Step.{Step}
 use Rattle.schedule_steps.specs.Outline.{Outline}
 use Rattle.distribute.specs.Parts.{NumbersRefusal, UnknownMap, OwnersRefusal, NoDat, NoMap, Unspelled}
 use Rattle.answers.specs.Said.{SaysLex, SaysSource, SaysTypes, SaysTranslation, SaysMesh, SaysBinding, SaysNumbers, SaysPartition, SaysOwners, SaysSchedule, SaysStep, SaysEnd, SaysNext}
-use Rattle.command_words.specs.Words.{PlanJob, Check, ShowsPlan, ShowsSchedule, RunsPlan, Stretch, Whole, Before, From, Parting, ByRule, ByFile, Blocks, OfSize, AsPlanned, Schedule, Standard, Drawn, Written, Options, group_of, Input, InFiles, OfSample, Command, OnPlan, Converts, Translates, Restores, ShowsUsage, ShowsVersion, WordsAre, OptionWords, command, options_in, or_usage, by_job, asked, judged, names_from, names_before, names_by, names_in_blocks, names_at, names_of, named_by, names_in}
+use Rattle.command_words.specs.Words.{ChainJob, CountsChains, RunsChains, ChainOptions, PlanJob, Check, ShowsPlan, ShowsSchedule, RunsPlan, Stretch, Whole, Before, From, Parting, ByRule, ByFile, Blocks, OfSize, AsPlanned, Schedule, Standard, Drawn, Written, Options, group_of, Input, InFiles, OfSample, Command, OnPlan, OnChains, Converts, Translates, Restores, ShowsUsage, ShowsVersion, WordsAre, OptionWords, command, options_in, or_usage, by_job, asked, judged, names_from, names_before, names_by, names_in_blocks, names_at, names_of, named_by, names_in}
 use Rattle.answers.specs.Judgements.{IsHeld, TextIs, SourceIs, TreeIs, TranslationIs, RestorationIs, TypesAre, FileIs, MeshIs, EntriesAre, BoundIs, AccessesAre, Cut, Uncut, BeforeItem, FromText, CutOf, Chosen, ChosenIs, NumbersOf, PartsOf, OwnersOf, Colouring, Least, Told, ColouringOf, IsUnplanned, Planned, PlanIs, Order, InStandardOrder, BySeed, ByText, OrderOf, outline_of, StepsOf}
-use Rattle.answers.specs.Answers.{given, ran, planned_answer, ChosenAnswers, PlannedAnswers, BoundAnswers, CommandAnswers, Answers}
+use Rattle.answers.specs.Answers.{given, ran, planned_answer, ChosenAnswers, PlannedAnswers, chain_answer, ChainAnswers, BoundAnswers, CommandAnswers, Answers}
 use Rattle.answers.specs.Endings.{Ending, Answered, OutOfMemory, Unread, Unwritten, ending_status, unwritten_status, Call, HoldAll, Tells, IsWritten, EndsBy, Ends, IsUsage, IsUnread}
 use Rattle.answer_laws.proofs.Complete.{tells_some, unwritten_is}
 
@@ -348,7 +348,7 @@ module _ (names : List (List ℕ)) (files : Files) where
   chosen_sound j o has_part has_blocks has_order c a h =
       given_other (NumbersOf o c.program) _ (λ r h. numbers_other h.0 r h.2) (λ n.
       given_sound (PartsOf o.parting files) _ (parts_just names o.parting has_part files) (λ parts.
-      given_other (OwnersOf o c.program parts) _ (λ r h. owners_other h.0 r h.2) (λ u.
+      given_other (OwnersOf o.ranks c.program parts) _ (λ r h. owners_other h.0 r h.2) (λ u.
       given_sound (ColouringOf o.blocks files) _ (colouring_just names o.blocks has_blocks files) (λ x.
       given_other (PlanIs x c.program u n) _ (plan_other x c.program u n) (λ p.
       given_sound (OrderOf o.schedule files) _ (order_just names o.schedule has_order files) (λ order.
@@ -361,6 +361,16 @@ module _ (names : List (List ℕ)) (files : Files) where
   planned_sound j o has_state has_part has_blocks has_order b a h =
       given_sound (CutOf o.stretch files) _ (cut_just names o.stretch has_state files) (λ cut.
       given_other (ChosenIs cut b) (ChosenAnswers j o files) (chosen_other cut b) (chosen_sound j o has_part has_blocks has_order)) a h.1
+
+  chain_job_sound : (j : ChainJob) (dumps : Bool) (b : BoundValue) (u : Owners) (a : Answer) → a ≡ chain_answer j dumps b u → IsSound names files a
+  chain_job_sound CountsChains dumps b u a e = done_sound _ a e
+  chain_job_sound RunsChains dumps b u a e = ran_sound 0 (first_fault b) _ a e
+
+  chained_sound : (j : ChainJob) (o : ChainOptions) → Has names (names_by o.parting) → (b : BoundValue) (a : Answer) → ChainAnswers j o files b a
+      → IsSound names files a
+  chained_sound j o has_part b a h =
+      given_sound (PartsOf o.parting files) _ (parts_just names o.parting has_part files) (λ parts.
+      given_other (OwnersOf o.ranks b parts) (λ u x. x ≡ chain_answer j o.dumps b u) (λ r h. owners_other h.0 r h.2) (chain_job_sound j o.dumps b)) a h.1
 
   bound_sound : (rest : BoundValue → Answer → Type 0) → ((b : BoundValue) (a : Answer) → rest b a → IsSound names files a)
       → (input : Input)
@@ -414,6 +424,13 @@ command_sound (OnPlan j o input) files a h =
 
     with_input : Has names (names_from input ++ names_before o.stretch)
     with_input name c = with_owners name (left (names_from input ++ names_before o.stretch) (names_by o.parting) name c)
+command_sound (OnChains j o input) files a h =
+    bound_sound names files (ChainAnswers j o files)
+    (chained_sound names files j o (right (names_from input) (names_by o.parting)))
+    input (left (names_from input) (names_by o.parting)) a h
+  where
+    names : List (List ℕ)
+    names = names_of (OnChains j o input)
 command_sound (Converts form mesh) files a h =
     given_sound (mesh ∷ []) files (FileIs mesh files) _ (λ r h. held_just (mesh ∷ []) files MeshBytes mesh r (one mesh) h) (λ text.
     given_other (mesh ∷ []) files (EntriesAre text) (λ es a. a ≡ done (canonical form es)) (λ r h. mesh_other h.0 r h.2)

@@ -47,6 +47,7 @@ pub fn answers_agree()
     runs_answer_on_cells();
     bound_plan::one_program();
     bound_plan::one_dump();
+    bound_chains::chains_are_one();
 }
 
 /// A law: no words and files are without an answer.

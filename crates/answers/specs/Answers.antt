@@ -6,7 +6,9 @@ use Rattle.kernel_types.specs.declared.faults.KernelFault.{KernelFault}
 use Rattle.schedule_model.specs.Sequential.{Stop}
 use Rattle.bound_program.specs.Values.{BoundValue}
 use Rattle.bound_program.specs.Fits.{Fits}
+use Rattle.mesh_decl.specs.declared.owners.Owners.{Owners}
 use Rattle.sequential_run.specs.Program.{printed, first_fault}
+use Rattle.bound_chains.specs.Outcomes.{chains_run, chains_text, dump_after}
 use Rattle.checkpoint.specs.Laws.{later}
 use Rattle.loop_plan.specs.PlanText.{plan_text}
 use Rattle.schedule_steps.specs.declared.step.Step.{Step}
@@ -19,7 +21,8 @@ use Rattle.command_words.specs.declared.usage.TheConstants.{USAGE, VERSION}
 use Rattle.command_words.specs.Refusal.{Refusal, CannotRead}
 use Rattle.answer_lines.specs.Lines.{Answer, done, refused, faulted}
 use Rattle.command_words.specs.Words.{PlanJob, Check, ShowsPlan, ShowsSchedule, RunsPlan, Options, group_of, Input}
-use Rattle.command_words.specs.Words.{Command, OnPlan, Converts, Translates, Restores, ShowsUsage, ShowsVersion, WordsAre}
+use Rattle.command_words.specs.Words.{ChainJob, CountsChains, RunsChains, ChainOptions}
+use Rattle.command_words.specs.Words.{Command, OnPlan, OnChains, Converts, Translates, Restores, ShowsUsage, ShowsVersion, WordsAre}
 use Rattle.answers.specs.Judgements.{TextIs, SourceIs, TreeIs, TranslationIs, RestorationIs, TypesAre, FileIs, MeshIs, EntriesAre}
 use Rattle.answers.specs.Judgements.{BoundIs, AccessesAre, CutOf, Chosen, ChosenIs}
 use Rattle.answers.specs.Judgements.{NumbersOf, PartsOf, OwnersOf, ColouringOf, Planned, PlanIs, OrderOf, outline_of, StepsOf}
@@ -71,7 +74,7 @@ ChosenAnswers j o files c a =
     Fits c.program
     × given (NumbersOf o c.program) (λ n.
     given (PartsOf o.parting files) (λ parts.
-    given (OwnersOf o c.program parts) (λ u.
+    given (OwnersOf o.ranks c.program parts) (λ u.
     given (ColouringOf o.blocks files) (λ colouring.
     given (PlanIs colouring c.program u n) (λ p.
     given (OrderOf o.schedule files) (λ order.
@@ -85,6 +88,19 @@ PlannedAnswers j o files b a = Fits b × given (CutOf o.stretch files) (λ cut. 
 -- The answer of a job on the plan of a program over a mesh.
 abbrev pub PlanAnswers : PlanJob → Options → Input → Files → Answer → Type 0
 PlanAnswers j o input files = BoundAnswers (PlannedAnswers j o files) input files
+
+-- What a job on chains answers with these owners: how many there are, and how many messages they send; or what running the program prints,
+-- with the dump of the stores if it is asked for.
+abbrev pub chain_answer : ChainJob → (dumps : Bool) → BoundValue → Owners → Answer
+chain_answer CountsChains dumps b u = done (chains_text b u)
+chain_answer RunsChains dumps b u = run_answer 0 b (dump_after b u dumps (chains_run b u) None)
+
+-- The answer of a job on the chains of a bound program: two judgements, and then what the job answers. The program fits, as all that is
+-- bound does; this stands here since owners are one where it is so.
+abbrev pub ChainAnswers : ChainJob → ChainOptions → Files → BoundValue → Answer → Type 0
+ChainAnswers j o files b a =
+    Fits b
+    × given (PartsOf o.parting files) (λ parts. given (OwnersOf o.ranks b parts) (λ u x. x ≡ chain_answer j o.dumps b u)) a
 
 -- The answer to a mesh in a file that is written again: two judgements, and then the canonical text of its entries in this version.
 abbrev pub ConvertAnswers : Form → (mesh : List ℕ) → Files → Answer → Type 0
@@ -108,6 +124,7 @@ RestoreAnswers source files =
 -- the answer of a command
 abbrev pub CommandAnswers : Command → Files → Answer → Type 0
 CommandAnswers (OnPlan j o input) files = PlanAnswers j o input files
+CommandAnswers (OnChains j o input) files = BoundAnswers (ChainAnswers j o files) input files
 CommandAnswers (Converts form mesh) files = ConvertAnswers form mesh files
 CommandAnswers (Translates source) files = TranslateAnswers source files
 CommandAnswers (Restores source) files = RestoreAnswers source files

@@ -194,10 +194,10 @@ PartsOf (ByRule rule) files r = r ≡ Ok rule
 PartsOf (ByFile name) files (Ok parts) = (bytes : List ℕ) × IsHeld PartitionBytes name (files name) (Ok bytes) × (parts ≡ Text bytes)
 PartsOf (ByFile name) files (Err r) = IsHeld PartitionBytes name (files name) (Err r)
 
--- the owners that come of it
-abbrev pub OwnersOf : Options → BoundValue → Parts → Result Owners Refusal → Type 0
-OwnersOf o b parts (Ok u) = OwnersAre b.mesh o.ranks parts (Ok u)
-OwnersOf o b parts (Err r) = (e : OwnersRefusal) × OwnersAre b.mesh o.ranks parts (Err e) × SaysOwners e r
+-- the owners that come of it, on so many ranks
+abbrev pub OwnersOf : (ranks : ℕ) → BoundValue → Parts → Result Owners Refusal → Type 0
+OwnersOf ranks b parts (Ok u) = OwnersAre b.mesh ranks parts (Ok u)
+OwnersOf ranks b parts (Err r) = (e : OwnersRefusal) × OwnersAre b.mesh ranks parts (Err e) × SaysOwners e r
 
 -- ---- plans
 

@@ -6,7 +6,7 @@ use Rattle.c_tree.specs.Tree.{ProgramTree}
 use Rattle.c_tree.specs.Reads.{Prints}
 use Rattle.op_outside.specs.Outside.{Files}
 use Rattle.answer_lines.specs.Lines.{Answer}
-use Rattle.command_words.specs.Words.{Command, OnPlan, Translates, WordsAre}
+use Rattle.command_words.specs.Words.{Command, OnPlan, OnChains, Translates, WordsAre}
 use Rattle.answers.specs.Judgements.{TextIs, SourceIs}
 use Rattle.answers.specs.Answers.{Answers}
 
@@ -21,6 +21,7 @@ pub record LacksTree (bytes : List ℕ) : Type 0 where
 -- these are the bytes of the source whose tree a command asks for, if it asks for one
 abbrev pub IsSourceOf : Command → Files → List ℕ → Type 0
 IsSourceOf (OnPlan j o input) files bytes = SourceIs input files (Ok bytes)
+IsSourceOf (OnChains j o input) files bytes = SourceIs input files (Ok bytes)
 IsSourceOf (Translates source) files bytes = TextIs source files (Ok bytes)
 IsSourceOf c files bytes = ⊥
 

@@ -1,5 +1,6 @@
 use Rattle.answer_laws.proofs.Agreed as law
 use Rattle.answer_laws.proofs.PlansAgree as plans
+use Rattle.answer_laws.proofs.ChainsAgree as chains
 use Rattle.answer_laws.proofs.Colourings.{PlanLaws}
 use Rattle.answer_laws.proofs.Stretches.{StateLaws}
 use Rattle.answer_laws.proofs.laws.answers_agree.Goals as goal
@@ -11,6 +12,7 @@ returns c =
     c.rules_are_broken.ensures.obeys c.rules_are_broken.ensures.first
     (plans.plans_alike c.runs_answer_on_cells.ensures c.one_program.ensures.programs c.one_dump.ensures plan_laws c.one_plan.ensures schedules c.one_numbers.ensures
     c.one_owners.ensures c.one_distribution.ensures c.one_plan_text.ensures states)
+    (chains.chains_alike c.runs_answer_on_cells.ensures c.one_program.ensures.programs c.chains_are_one.ensures c.one_owners.ensures)
     c.options_are_within.ensures c.one_translation.ensures c.one_restoration.ensures
   where
     plan_laws : PlanLaws

@@ -13,6 +13,8 @@ returns c =
     c.rules_are_broken.ensures.first suits
     (plans.planned_exist c.some_numbers.ensures c.some_owners.ensures c.outcomes_fit.ensures c.narrow_meshes_fit_memory.ensures
     c.some_distribution.ensures c.some_plan.ensures c.some_outcome-2.ensures c.one_outcome-3.ensures.causes steps c.heads_fit.ensures c.tails_fit.ensures c.some_state.ensures)
+    (plans.chains_exist c.some_numbers.ensures c.some_owners.ensures c.outcomes_fit.ensures c.narrow_meshes_fit_memory.ensures
+    c.some_distribution.ensures c.some_plan.ensures c.some_outcome-2.ensures c.one_outcome-3.ensures.causes steps)
     c.options_are_within.ensures
   where
     suits : law.SourcesSuit
