@@ -1,5 +1,5 @@
 -- What is read for a job, judged and bound, and what ends the reading of it.
-use Rattle.std.specs.Prelude.{◌≡◌, ℕ, List, Ok}
+use Rattle.std.specs.Prelude.{◌≡◌, ◌≤◌, ℕ, All, List, Ok}
 use Rattle.op_outside.specs.Outside.{Files}
 use Rattle.c_lex.specs.declared.tokens.Pos.{Pos}
 use Rattle.c_tree.specs.Tree.{ProgramTree}
@@ -10,6 +10,8 @@ use Rattle.kernel_model.specs.Refusals.{Rule, number_of}
 use Rattle.name_resolution.specs.Programs.{Resolves}
 use Rattle.mesh_text.specs.Spelling.{Named}
 use Rattle.distribute.specs.Parts.{Parts, Text}
+use Rattle.mesh_decl.specs.declared.decl.MapDecl.{MapDecl}
+use Rattle.bound_program.specs.Limits.{max_dim}
 use Rattle.bound_program.specs.Values.{BoundValue, bound_of}
 use Rattle.state_texts.specs.declared.refusals.StateRefusal.{StateRefusal}
 use Rattle.state_texts.specs.declared.refusals.StateRefusal.TheVariants as state
@@ -52,6 +54,10 @@ pub record IsBoundIn (input : Input) (b : BoundValue) (files : Files) : Type 0 w
   pub typed : TypesAre program (Ok types)
   pub there : MeshIs input files (Ok text)
   pub over : IsBoundOver program types text b
+
+-- each of its maps leads to at most 64 elements from one
+abbrev pub HasNarrowMaps : BoundValue → Type 0
+HasNarrowMaps b = All (λ (d : MapDecl). d.dim ≤ max_dim) b.mesh.maps
 
 -- ---- the items that run
 

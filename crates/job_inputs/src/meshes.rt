@@ -11,7 +11,7 @@ ghost use Rattle.answers.specs.Judgements.{EntriesAre, BoundIs};
 ghost use Rattle.answers.specs.Said as said;
 ghost use Rattle.answers.specs.Said.{SaysMesh, SaysBinding, maps_in, map_name};
 ghost use Rattle.answer_lines.specs.Halts.{limit_of as limit_in, StopsWhere};
-ghost use Rattle.job_inputs.specs.Inputs.{IsJudged};
+ghost use Rattle.job_inputs.specs.Inputs.{IsJudged, HasNarrowMaps};
 ghost use Rattle.job_inputs.specs.Maps.{map_by};
 
 use answer_lines::{Failure, Halt, Limit, Refusal, most};
@@ -19,7 +19,7 @@ use bind_refusals::{BindRefusal, Counted};
 use bound_program::Bound;
 use c_tree::{Host, OpCall, Pos, Program};
 use kernel_types::Resolved;
-use loop_bind::bind;
+use loop_bind::{bind, bound_maps_are_narrow, resolved_sources_are, spelled_entries_fit};
 use mesh_decl::{Entries, MeshRefusal, read_mesh};
 use op_num::Name;
 use std::alloc::{AllocError, Global};
@@ -73,8 +73,12 @@ pub fn bound_of<'a>(
     requires entries { (text : List ℕ) × Spells text entries.now.entries }
     ensures ok { IfOk result (λ b. BoundIs (program_of program.now) resolved entries.now.entries (Ok (values.bound_of b))) }
     ensures fits { IfOk result (λ b. Fits (values.bound_of b)) }
+    ensures narrow { IfOk result (λ b. HasNarrowMaps (values.bound_of b)) }
     ensures err { IfErr result (StopsWhere (λ r. BoundIs (program_of program.now) resolved entries.now.entries (Err r))) }
 {
+    resolved_sources_are();
+    spelled_entries_fit();
+    bound_maps_are_narrow();
     match bind(alloc, program, resolved, entries) {
         Ok(bound) => Ok(bound),
         Err(refusal) => Err(unbound(alloc, program, refusal)),

@@ -10,7 +10,7 @@ ghost use Rattle.bound_program.specs.Values.{bound_of};
 ghost use Rattle.answers.specs.Said.{SaysPartition, SaysOwners};
 ghost use Rattle.answer_lines.specs.declared.limits.TheConstants.{PARTITION_BYTES};
 ghost use Rattle.command_words.specs.Words.{names_by};
-ghost use Rattle.command_words.specs.Laws.{AreWithin};
+ghost use Rattle.command_words.specs.Laws.{AreFew};
 ghost use Rattle.answers.specs.Judgements.{NumbersOf, PartsOf, OwnersOf};
 ghost use Rattle.command_words.specs.Values.{parting_in, options_in};
 ghost use Rattle.answer_lines.specs.declared.refusals.Failure.TheVariants.{OutOfMemory};
@@ -80,19 +80,19 @@ fn unowned<'a>(refusal: OwnersRefusal<'a>) -> Halt<'a>
 // Owners by a rule.
 fn owners_by_rule<'a>(
     alloc: Global,
-    options: &Options<'a>,
+    ranks: u32,
     bound: &Bound,
     rule: &Parts<'a>,
 ) -> Result<Owners, Halt<'a>>
-    requires within { AreWithin (options_in options.now) }
-    ensures ok { IfOk result (λ u. OwnersOf (options_in options.now) (bound_of bound.now) (parts_of rule.now) (Ok u)) }
+    requires few { AreFew ranks }
+    ensures ok { IfOk result (λ u. OwnersOf ranks (bound_of bound.now) (parts_of rule.now) (Ok u)) }
     ensures fit { IfOk result (AreOwners (bound_of bound.now).mesh) }
-    ensures err { IfErr result (StopsWhere (λ r. OwnersOf (options_in options.now) (bound_of bound.now) (parts_of rule.now) (Err r))) }
+    ensures err { IfErr result (StopsWhere (λ r. OwnersOf ranks (bound_of bound.now) (parts_of rule.now) (Err r))) }
 {
     if !rule.has_lines() {
         return Err(Halt::Failed(Failure::OutOfMemory));
     }
-    match owners_by(alloc, &bound.mesh, options.ranks, rule) {
+    match owners_by(alloc, &bound.mesh, ranks, rule) {
         Ok(owners) => Ok(owners),
         Err(refusal) => Err(unowned(refusal)),
     }
@@ -101,17 +101,17 @@ fn owners_by_rule<'a>(
 // Owners as the text of a partition has them.
 fn owners_by_text<'a>(
     alloc: Global,
-    options: &Options<'_>,
+    ranks: u32,
     bound: &Bound,
     bytes: &[u8],
 ) -> Result<Owners, Halt<'a>>
-    requires within { AreWithin (options_in options.now) }
-    requires few { length bytes.now ≤ PARTITION_BYTES }
-    ensures ok { IfOk result (λ u. OwnersOf (options_in options.now) (bound_of bound.now) (Text bytes.now) (Ok u)) }
+    requires few { AreFew ranks }
+    requires short { length bytes.now ≤ PARTITION_BYTES }
+    ensures ok { IfOk result (λ u. OwnersOf ranks (bound_of bound.now) (Text bytes.now) (Ok u)) }
     ensures fit { IfOk result (AreOwners (bound_of bound.now).mesh) }
-    ensures err { IfErr result (StopsWhere (λ r. OwnersOf (options_in options.now) (bound_of bound.now) (Text bytes.now) (Err r))) }
+    ensures err { IfErr result (StopsWhere (λ r. OwnersOf ranks (bound_of bound.now) (Text bytes.now) (Err r))) }
 {
-    match owners_by(alloc, &bound.mesh, options.ranks, &Parts::Text(bytes)) {
+    match owners_by(alloc, &bound.mesh, ranks, &Parts::Text(bytes)) {
         Ok(owners) => Ok(owners),
         Err(OwnersRefusal::Text(refusal)) => Err(unspelled(refusal)),
         Err(OwnersRefusal::OutOfMemory) => Err(Halt::Failed(Failure::OutOfMemory)),
@@ -120,28 +120,28 @@ fn owners_by_text<'a>(
     }
 }
 
-/// Owners of the elements of each set among the ranks of the options, as they ask for them. Where a file tells them, `text` is what
-/// it holds, and else it isn't looked at; it has at most `PARTITION_BYTES` bytes.
+/// Owners of the elements of each set among so many ranks, 1 to 64, as they are asked for. Where a file tells them, `text` is what it
+/// holds, and else it isn't looked at; it has at most `PARTITION_BYTES` bytes.
 ///
 /// Refused are the name of a dat or a map that the mesh hasn't, and a text that spells no owners of the mesh, at its first fault with
 /// its line. Want of memory is the one failure.
 pub fn owners_of<'a>(
     alloc: Global,
-    options: &Options<'a>,
+    ranks: u32,
+    parting: Parting<'a>,
     bound: &Bound,
     text: &[u8],
 ) -> Result<Owners, Halt<'a>>
-    requires within { AreWithin (options_in options.now) }
-    requires few { length text.now ≤ PARTITION_BYTES }
-    ensures ok { IfOk result (λ u. OwnersOf (options_in options.now) (bound_of bound.now)
-        (parts_by (options_in options.now).parting text.now) (Ok u)) }
+    requires few { AreFew ranks }
+    requires short { length text.now ≤ PARTITION_BYTES }
+    ensures ok { IfOk result (λ u. OwnersOf ranks (bound_of bound.now) (parts_by (parting_in parting.entry) text.now) (Ok u)) }
     ensures fit { IfOk result (AreOwners (bound_of bound.now).mesh) }
-    ensures err { IfErr result (StopsWhere (λ r. OwnersOf (options_in options.now) (bound_of bound.now)
-        (parts_by (options_in options.now).parting text.now) (Err r))) }
+    ensures err { IfErr result (StopsWhere (λ r. OwnersOf ranks (bound_of bound.now)
+        (parts_by (parting_in parting.entry) text.now) (Err r))) }
 {
-    match options.parting {
-        Parting::ByRule(rule) => owners_by_rule(alloc, options, bound, &rule),
-        Parting::ByFile(_) => owners_by_text(alloc, options, bound, text),
+    match parting {
+        Parting::ByRule(rule) => owners_by_rule(alloc, ranks, bound, &rule),
+        Parting::ByFile(_) => owners_by_text(alloc, ranks, bound, text),
     }
 }
 

@@ -13,7 +13,7 @@ ghost use Rattle.answers.specs.Judgements.{AccessesAre};
 ghost use Rattle.answers.specs.Answers.{BoundAnswers};
 ghost use Rattle.command_words.specs.Values.{input_in};
 ghost use Rattle.answer_lines.specs.Halts.{StopsWhere};
-ghost use Rattle.job_inputs.specs.Inputs.{IsJudged, IsBoundOver, IsBoundIn};
+ghost use Rattle.job_inputs.specs.Inputs.{IsJudged, IsBoundOver, IsBoundIn, HasNarrowMaps};
 ghost use Rattle.job_inputs.specs.Chains.{Never, TextOver, HaltsOver};
 
 use crate::accesses::judge_accesses;
@@ -42,6 +42,7 @@ pub fn bound_over<'a>(
     ensures ok { IfOk result (λ b. IsBoundOver (program_of program.now) types text.now (values.bound_of b)) }
     ensures obeyed { IfOk result (λ b. AccessesAre (values.bound_of b) (Ok tt)) }
     ensures fits { IfOk result (λ b. Fits (values.bound_of b)) }
+    ensures narrow { IfOk result (λ b. HasNarrowMaps (values.bound_of b)) }
     ensures err { IfErr result (StopsWhere (λ r. TextOver Never (program_of program.now) types text.now (refused r))) }
 {
     let entries = entries_of(alloc, text)?;
@@ -69,6 +70,7 @@ fn bound_files<'a, F: Shelf>(
         (IsBoundIn (InFiles source.now mesh.now) (values.bound_of b))) }
     ensures obeyed { IfOk result (λ b. AccessesAre (values.bound_of b) (Ok tt)) }
     ensures fits { IfOk result (λ b. Fits (values.bound_of b)) }
+    ensures narrow { IfOk result (λ b. HasNarrowMaps (values.bound_of b)) }
     ensures err { IfErr result (HaltsOver (F.told shelf.old) kept.old
         (λ files r. BoundAnswers Never (InFiles source.now mesh.now) files (refused r)) (Rose (F.faults shelf.old) (F.faults shelf.new))) }
 {
@@ -84,6 +86,7 @@ fn bound_sample<'a>(alloc: Global, side: u32) -> Result<Bound, Halt<'a>>
     ensures ok { IfOk result (λ b. (files : Files) → IsBoundIn (OfSample side) (values.bound_of b) files) }
     ensures obeyed { IfOk result (λ b. AccessesAre (values.bound_of b) (Ok tt)) }
     ensures fits { IfOk result (λ b. Fits (values.bound_of b)) }
+    ensures narrow { IfOk result (λ b. HasNarrowMaps (values.bound_of b)) }
     ensures err { IfErr result (StopsWhere (λ r. (files : Files) → BoundAnswers Never (OfSample side) files (refused r))) }
 {
     let Ok(texts) = sample(alloc, side) else {
@@ -114,6 +117,7 @@ pub fn bound_input<'a, F: Shelf>(
     ensures ok { IfOk result (λ b. Finds (F.told shelf.old) kept.old kept.new (IsBoundIn (input_in input.entry) (values.bound_of b))) }
     ensures obeyed { IfOk result (λ b. AccessesAre (values.bound_of b) (Ok tt)) }
     ensures fits { IfOk result (λ b. Fits (values.bound_of b)) }
+    ensures narrow { IfOk result (λ b. HasNarrowMaps (values.bound_of b)) }
     ensures err { IfErr result (HaltsOver (F.told shelf.old) kept.old
         (λ files r. BoundAnswers Never (input_in input.entry) files (refused r)) (Rose (F.faults shelf.old) (F.faults shelf.new))) }
 {

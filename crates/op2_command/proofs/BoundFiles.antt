@@ -18,7 +18,7 @@ use Rattle.job_inputs.proofs.Chained.{SomeAreSeen, halts_weaker, answers_on, ans
 use Rattle.op2_command.proofs.Chained.{given_weaker}
 
 -- refusals that come before a bound program stay, whatever is answered of it
-never_weaker : (rest : BoundValue → lines.Answer → Type 0) (input : Input) (files : Files) (a : lines.Answer)
+pub never_weaker : (rest : BoundValue → lines.Answer → Type 0) (input : Input) (files : Files) (a : lines.Answer)
     → BoundAnswers Never input files a
     → BoundAnswers rest input files a
 never_weaker rest input files =
@@ -31,7 +31,7 @@ never_weaker rest input files =
     given_weaker (AccessesAre b) _ _ (λ u a h. absurd h)))))))
 
 -- what is answered of a bound program is answered over its files
-reached : (rest : BoundValue → lines.Answer → Type 0) (input : Input) (b : BoundValue) (files : Files) (a : lines.Answer) → IsBoundIn input b files
+pub reached : (rest : BoundValue → lines.Answer → Type 0) (input : Input) (b : BoundValue) (files : Files) (a : lines.Answer) → IsBoundIn input b files
     → rest b a
     → BoundAnswers rest input files a
 reached rest input b files a h k =

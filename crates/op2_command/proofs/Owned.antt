@@ -91,14 +91,14 @@ module _ (j : PlanJob) (o : Options) (c : Chosen) (fits : Fits c.program) (told 
         (λ files r i. (fits, inr (n, numbered, inl (r, i, refl)))) k
 
     module _ (mid : Readings) (text : List ℕ) (found : Finds told old mid (λ files. PartsOf o.parting files (Ok (parts_by o.parting text)))) where
-      pub owners_refused : (h : Halt) → StopsWhere (λ r. OwnersOf o c.program (parts_by o.parting text) (Err r)) h
+      pub owners_refused : (h : Halt) → StopsWhere (λ r. OwnersOf o.ranks c.program (parts_by o.parting text) (Err r)) h
           → HaltsOver told old (λ files r. Whole files (refused r)) rose h
       owners_refused h s =
           stops_on told rose old mid (λ files. PartsOf o.parting files (Ok (parts_by o.parting text))) found
-          (λ r. OwnersOf o c.program (parts_by o.parting text) (Err r)) (λ files r. Whole files (refused r)) h
+          (λ r. OwnersOf o.ranks c.program (parts_by o.parting text) (Err r)) (λ files r. Whole files (refused r)) h
           (λ files r k i. (fits, inr (n, numbered, inr (parts_by o.parting text, k, inl (r, i, refl))))) s
 
-      module _ (u : Owners) (owned : OwnersOf o c.program (parts_by o.parting text) (Ok u)) (next : AreAllNext o old) (come : HaveCome (names_by o.parting) old mid) where
+      module _ (u : Owners) (owned : OwnersOf o.ranks c.program (parts_by o.parting text) (Ok u)) (next : AreAllNext o old) (come : HaveCome (names_by o.parting) old mid) where
         -- what is answered from there on
         abbrev FromOwners : Files → lines.Answer → Type 0
         FromOwners files = given (ColouringOf o.blocks files) (λ x. LastAnswers j o c u n x files)

@@ -1,5 +1,5 @@
 -- From owners and new numbers to plans, and what is answered of them.
-use Rattle.std.proofs.Common.{◌≡◌, ℕ, inl, inr, List, [], Option, Result, Ok, Err, refl, ap, sym, subst, ◌∙◌}
+use Rattle.std.proofs.Common.{◌≡◌, ℕ, inl, inr, List, Option, Result, Ok, Err, refl, sym, subst}
 use Rattle.op_outside.specs.Outside.{Files}
 use Rattle.kept_files.specs.Readings.{Readings, Finds}
 use Rattle.mesh_decl.specs.declared.owners.Owners.{Owners}

@@ -5,21 +5,22 @@ ghost use Rattle.op_outside.specs.Outside.{Rose};
 ghost use Rattle.kept_files.specs.Readings.{readings_of};
 ghost use Rattle.mesh_text.specs.declared.entry.TheConstants.{MESH_BYTES};
 ghost use Rattle.command_words.specs.Words.{WordsAre, names_from, names_before, names_by, names_in_blocks, names_at, names_of, named_by};
-ghost use Rattle.command_words.specs.Laws.{AreWithin};
-ghost use Rattle.answers.specs.Answers.{PlanAnswers, ConvertAnswers, CommandAnswers, Answers};
+ghost use Rattle.command_words.specs.Laws.{AreFew, AreWithin};
+ghost use Rattle.answers.specs.Answers.{BoundAnswers, PlanAnswers, ChainAnswers, ConvertAnswers, CommandAnswers, Answers};
 ghost use Rattle.command_words.specs.Values.{stretch_in, parting_in, blocks_in, schedule_in, options_in, job_in, input_in, command_of};
-ghost use Rattle.command_words.specs.Values.{IsInRange};
+ghost use Rattle.command_words.specs.Values.{chain_options_in, chain_job_in, IsInRange};
 ghost use Rattle.answer_lines.specs.Halts.{StopsWhere};
 ghost use Rattle.job_inputs.specs.Chains.{AnswersBy, AnswersOver};
 ghost use Rattle.op2_command.specs.Chains.{RewriteAnswers};
 ghost use Rattle.op2_command.specs.Writes.{CallAnswers};
 
+use crate::chains::chained;
 use crate::plans::planned;
 use crate::sources::{restored, translated};
 use answer_lines::{Answer, Failure, Halt, Limit, Refusal, done, refused};
 use command_words::{
-    Asked, Blocks, Input, Options, Parting, PlanJob, Schedule, Stretch, USAGE, VERSION,
-    WordsRefusal, read_words,
+    Asked, Blocks, ChainJob, ChainOptions, Input, Options, Parting, PlanJob, Schedule, Stretch,
+    USAGE, VERSION, WordsRefusal, read_words,
 };
 use job_inputs::{bound_input, entries_of, sole_file};
 use kept_files::{Kept, some_files_are_as_seen};
@@ -129,6 +130,42 @@ fn to_plan<'a, F: Shelf, R: Threads + Sync, G: Gate>(
     planned(rt, alloc, shelf, &mut kept, job, options, bound, gate)
 }
 
+// The files that a job on chains reads, in the order in which it does.
+fn awaited_by_chains<'a>(
+    alloc: Global,
+    options: &ChainOptions<'a>,
+    input: Input<'a>,
+) -> Result<Kept<'a>, OutOfMemory>
+    ensures { IfOk result (λ kept. kept ≡ readings_of
+        (names_from (input_in input.entry) ++ names_by (chain_options_in options.now).parting)) }
+{
+    let mut kept = Kept::new(alloc);
+    expect_input(&mut kept, input)?;
+    expect_parting(&mut kept, options.parting)?;
+    Ok(kept)
+}
+
+// The answer of a job on the chains of a program over a mesh.
+fn to_chains<'a, F: Shelf>(
+    alloc: Global,
+    shelf: &mut F,
+    job: ChainJob,
+    options: &ChainOptions<'a>,
+    input: Input<'a>,
+) -> Result<Answer, Halt<'a>>
+    requires input { All (λ name. F.lends shelf.old name) (names_from (input_in input)) }
+    requires parting { All (λ name. F.lends shelf.old name) (names_by (chain_options_in options.now).parting) }
+    requires few { AreFew options.now.ranks }
+    ensures { AnswersOver (F.told shelf.old) (names_from (input_in input.entry) ++ names_by (chain_options_in options.now).parting)
+        (λ files. BoundAnswers (ChainAnswers (chain_job_in job) (chain_options_in options.now) files) (input_in input.entry) files)
+        (Rose (F.faults shelf.old) (F.faults shelf.new)) result }
+{
+    some_files_are_as_seen();
+    let mut kept = awaited_by_chains(alloc, options, input)?;
+    let bound = bound_input(alloc, shelf, &mut kept, input)?;
+    chained(alloc, shelf, &mut kept, job, options, &bound)
+}
+
 // The answer that is the text of a mesh, written again.
 fn rewritten<'a>(alloc: Global, form: Form, text: &[u8]) -> Result<Answer, Halt<'a>>
     requires { length text.now ≤ MESH_BYTES }
@@ -173,6 +210,11 @@ fn to_asked<'a, F: Shelf, R: Threads + Sync, G: Gate>(
             options,
             input,
         } => to_plan(rt, alloc, shelf, job, &options, input, gate),
+        Asked::Chains {
+            job,
+            options,
+            input,
+        } => to_chains(alloc, shelf, job, &options, input),
         Asked::Convert { form, mesh } => converted(alloc, shelf, form, mesh),
         Asked::Translate { source } => translated(alloc, shelf, source),
         Asked::Restore { source } => restored(alloc, shelf, source),

@@ -2,14 +2,11 @@
 
 ghost use Rattle.std.specs.Prelude.{◌≡◌, ◌++◌, codes, OnOk};
 ghost use Rattle.std.specs.Fmt.{decimal};
-ghost use Rattle.checkpoint.specs.Laws.{later};
 ghost use Rattle.answer_lines.specs.Lines.{at_place, fault_name, part_name, fault_line};
-ghost use Rattle.rank_machine.specs.Stops.{stop_of};
 
 use answer_lines::{put_counted, put_named, put_placed};
 use kernel_types::KernelFault;
 use op_num::{Fault, OutOfMemory, put_u64};
-use rank_exec::Stop;
 
 // The name of a kind of fault.
 fn fault_name(kind: Fault) -> &'static [u8]
@@ -32,13 +29,20 @@ fn put_part(out: &mut Vec<u8>, element: Option<u32>) -> Result<(), OutOfMemory>
     }
 }
 
-/// Appends the line of a fault, of a run whose first item has the number `first` in the whole program.
-pub fn put_fault(out: &mut Vec<u8>, stop: &Stop, first: u32) -> Result<(), OutOfMemory>
-    ensures { OnOk result (out.new.items ≡ out.old.items ++ fault_line (later first (stop_of stop.now))) }
+/// Appends the line of a fault: of an item, by its number in the whole program, at an element of its loop or at a statement of `main`.
+/// An error is want of memory.
+pub fn put_fault(
+    out: &mut Vec<u8>,
+    item: u64,
+    element: Option<u32>,
+    fault: KernelFault,
+) -> Result<(), OutOfMemory>
+    ensures { OnOk result (out.new.items ≡ out.old.items
+        ++ fault_line (record { item = item; element = element; fault = fault })) }
 {
     put_named(out, b"op2: ", b"fault item ")?;
-    put_stop(out, first as u64 + stop.item as u64, stop.element)?;
-    put_kind(out, stop.fault)?;
+    put_stop(out, item, element)?;
+    put_kind(out, fault)?;
     out.extend_from_slice(b"\n")
 }
 

@@ -6,6 +6,7 @@
 #![tactic(auto)]
 
 mod answered;
+mod chains;
 mod colourings;
 mod faults;
 mod plans;

@@ -236,7 +236,13 @@ fn chosen_answer<'a, F: Shelf, R: Threads + Sync, G: Gate>(
 {
     let perms = numbers_of(alloc, options, &chosen.bound)?;
     let partition = partition_of(alloc, shelf, kept, options.parting)?;
-    let owners = owners_of(alloc, options, &chosen.bound, &partition)?;
+    let owners = owners_of(
+        alloc,
+        options.ranks,
+        options.parting,
+        &chosen.bound,
+        &partition,
+    )?;
     let text = plan_text_of(alloc, shelf, kept, options.blocks)?;
     last_answer(
         rt, alloc, shelf, kept, job, options, chosen, owners, perms, &text, gate,

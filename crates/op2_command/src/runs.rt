@@ -20,6 +20,7 @@ ghost use Rattle.op2_command.specs.Chains.{IsSpread};
 
 use crate::faults::put_fault;
 use crate::ranges::starts_in_range;
+use answer_laws::runs_answer_on_cells;
 use answer_lines::Answer;
 use command_words::Options;
 use distribute::Distribution;
@@ -40,7 +41,12 @@ fn ran(alloc: Global, outcome: Outcome, first: u32) -> Result<Answer, OutOfMemor
         return Ok(Answer::Done(outcome.out));
     };
     let mut line = Vec::new(alloc);
-    put_fault(&mut line, &stop, first)?;
+    put_fault(
+        &mut line,
+        u64::from(first) + u64::from(stop.item),
+        stop.element,
+        stop.fault,
+    )?;
     Ok(Answer::Faulted {
         out: outcome.out,
         line,
@@ -73,7 +79,7 @@ pub fn run_on<R: Threads + Sync, G: Gate>(
         (dump_of options.now.dumps (bound_of chosen.now.bound) found.now.owners found.now.ranks.items (plan_of plan.now) l)) }
 {
     starts_in_range(&chosen.bound);
-    answer_laws::runs_answer_on_cells();
+    runs_answer_on_cells();
     let outcome = run_on_ranks(
         rt,
         alloc,

@@ -1,9 +1,8 @@
 use Rattle.bound_program.specs.Values.{bound_of}
 use Rattle.distribute.specs.Parts.{parts_of}
-use Rattle.command_words.specs.Values.{options_in}
 use Rattle.job_inputs.proofs.Unowned.{unowned_refuses}
 use Rattle.job_inputs.proofs.owners.owners_by_rule.Goals as goal
 
 pub returns-in-Err-clause-err : goal.returns-in-Err-clause-err
 returns-in-Err-clause-err c =
-    unowned_refuses (options_in c.args.options.now) (bound_of c.args.bound.now) (parts_of c.args.rule.now) c.in-Err.refusal c.unowned.result c.in-Err.ensures.refused c.unowned.ensures.says c.unowned.ensures.memory
+    unowned_refuses c.args.ranks (bound_of c.args.bound.now) (parts_of c.args.rule.now) c.in-Err.refusal c.unowned.result c.in-Err.ensures.refused c.unowned.ensures.says c.unowned.ensures.memory

@@ -1,9 +1,9 @@
 use Rattle.command_words.specs.Words.{ShowsUsage, ShowsVersion, names_from, names_before, names_by, names_in_blocks, names_at, names_of}
-use Rattle.command_words.specs.Values.{options_in, input_in}
+use Rattle.command_words.specs.Values.{options_in, chain_options_in, input_in}
 use Rattle.answers.specs.Answers.{CommandAnswers}
 use Rattle.answer_lines.specs.Halts.{answer_of}
 use Rattle.op2_command.proofs.Chained.{over_all}
-use Rattle.op2_command.proofs.Lent.{state_lent, parting_lent, plan_lent, schedule_lent}
+use Rattle.op2_command.proofs.Lent.{all_right, state_lent, parting_lent, plan_lent, schedule_lent}
 use Rattle.op2_command.proofs.answered.to_asked.Goals as goal
 
 pub to_plan-requires-clause-state : goal.to_plan-requires-clause-state
@@ -32,6 +32,14 @@ to_plan-requires-clause-schedule g c κs within =
 
 pub returns-in-Plan : goal.returns-in-Plan
 returns-in-Plan g c = rw c.in-Plan.is c.to_plan.ensures
+
+pub to_chains-requires-clause-parting : goal.to_chains-requires-clause-parting
+to_chains-requires-clause-parting g c =
+    all_right (g.F.Shelf.lends c.args.shelf.now) (names_from (input_in c.in-Chains.input)) (names_by (chain_options_in c.in-Chains.options).parting)
+    (rw c.in-Chains.is at c.requires.lent)
+
+pub returns-in-Chains : goal.returns-in-Chains
+returns-in-Chains g c = rw c.in-Chains.is c.to_chains.ensures
 
 pub returns-in-Convert : goal.returns-in-Convert
 returns-in-Convert g c = rw c.in-Convert.is c.converted.ensures
