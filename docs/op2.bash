@@ -17,7 +17,7 @@ _op2() {
         --form) return ;;
     esac
     case $word in
-        -*) COMPREPLY=($(compgen -W '--ranks --parts --partition --renumber --block --plan --schedule --seed --workers --at --from --dump --form -h --help -V --version' -- "$word")) ;;
+        -*) COMPREPLY=($(compgen -W '--ranks --parts --partition --renumber --block --plan --schedule --seed --workers --at --from --chain --dump --form -h --help -V --version' -- "$word")) ;;
         *)
             if [ "$COMP_CWORD" -eq 1 ]; then
                 COMPREPLY=($(compgen -W 'run sample state check plan schedule convert translate restore' -- "$word"))

@@ -1,7 +1,7 @@
 #!/bin/sh
 # Runs each example and compares what it prints with NAME.out, and the example `sample2` with the sample on a grid of 2 times 2 cells;
 # writes the mesh of `sample2` again, the plan of `heat` on two ranks, its translation, and its state before item 12; runs `heat` by that plan, and by one
-# with other blocks and colours, and in two halves, the second from that state on four ranks. Each example is run once more as it is translated and restored.
+# with other blocks and colours, and in two halves, the second from that state on four ranks, and by chains. Each example is run once more as it is translated and restored.
 # Ends with the number of differences.
 here=$(CDPATH= cd -- "$(dirname -- "$0")" && pwd) || exit 70
 op2=${1:-$here/../op2}
@@ -35,6 +35,12 @@ fi
 for plan in heat.plan heat.colours; do
     if ! "$op2" run "$here/heat.c" "$here/heat.mesh" --ranks 2 --renumber joined --plan "$here/$plan" | cmp -s - "$here/heat.out"; then
         echo "differs: heat by $plan" >&2
+        bad=$((bad + 1))
+    fi
+done
+for ranks in 1 3; do
+    if ! "$op2" run "$here/heat.c" "$here/heat.mesh" --ranks "$ranks" --chain | cmp -s - "$here/heat.out"; then
+        echo "differs: heat by chains on $ranks ranks" >&2
         bad=$((bad + 1))
     fi
 done

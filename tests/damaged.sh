@@ -48,10 +48,11 @@ with tempfile.TemporaryDirectory() as name:
     for file, text in texts.items():
         (folder / file).write_bytes(text)
     ways = {
-        "s.c": [["run", "s.c", "m.mesh"], ["run", "s.c", "m.mesh", "--ranks=3", "--seed=2", "--workers=2", "--dump"], ["translate", "s.c"], ["state", "s.c", "m.mesh", "--at=12"]],
+        "s.c": [["run", "s.c", "m.mesh"], ["run", "s.c", "m.mesh", "--ranks=3", "--seed=2", "--workers=2", "--dump"],
+                ["run", "s.c", "m.mesh", "--ranks=3", "--chain", "--dump"], ["translate", "s.c"], ["state", "s.c", "m.mesh", "--at=12"]],
         "u.c": [["restore", "u.c"]],
-        "m.mesh": [["run", "s.c", "m.mesh"], ["plan", "s.c", "m.mesh", "--ranks=2"], ["convert", "m.mesh"]],
-        "p": [["run", "s.c", "m.mesh", "--ranks=2", "--partition=p"]],
+        "m.mesh": [["run", "s.c", "m.mesh"], ["plan", "s.c", "m.mesh", "--ranks=2"], ["check", "s.c", "m.mesh", "--ranks=2", "--chain"], ["convert", "m.mesh"]],
+        "p": [["run", "s.c", "m.mesh", "--ranks=2", "--partition=p"], ["run", "s.c", "m.mesh", "--ranks=2", "--partition=p", "--chain"]],
         "f": [[job, "s.c", "m.mesh", "--from=f", "--ranks=2"] for job in ("run", "schedule")],
         "c": [[job, "s.c", "m.mesh", "--ranks=2", "--renumber=joined", "--plan=c"] for job in ("run", "schedule")],
         "t": [["run", "s.c", "m.mesh", "--ranks=2", "--schedule=t"], ["check", "s.c", "m.mesh", "--ranks=2", "--schedule=t"]],

@@ -84,8 +84,11 @@ try schedule heat.c heat.mesh --ranks 2 --workers 3
 try check heat.c heat.mesh --ranks 2 --renumber joined --plan heat.colours
 try state heat.c heat.mesh --at 12 --ranks 2
 try run heat.c heat.mesh --from heat.state --ranks 2 --parts bisect:heat
+try run heat.c heat.mesh --ranks 2 --parts grow:joined --chain --dump
+try check residual.c residual.mesh --ranks 2 --chain
 try convert heat.mesh
 try translate heat.c
 try restore heat.stubs
 try sample 2 --workers 2
+try sample 2 --ranks 2 --chain
 exit "$bad"

@@ -7,7 +7,7 @@ import pathlib, re, shutil, subprocess, sys, tempfile
 
 top = pathlib.Path(__file__).resolve().parent.parent
 op2 = pathlib.Path(sys.argv[1] if len(sys.argv) > 1 else top / "op2").resolve()
-pages = ["README.md", "docs/COMPILERS.md", "docs/OUTPUT.md", "docs/PORTING.md", "docs/STATEMENT.md", "examples/README.md"]
+pages = ["README.md", "docs/CHAINS.md", "docs/COMPILERS.md", "docs/OUTPUT.md", "docs/PORTING.md", "docs/STATEMENT.md", "examples/README.md"]
 bad = tried = 0
 
 
