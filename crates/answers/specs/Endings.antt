@@ -92,7 +92,8 @@ EndsBy c (Unwritten a) =
 abbrev pub IsReported : Call → List ℕ → Type 0
 IsReported c line = (c.err.1 ≡ appended c.err.0 line) ⊎ (Rose c.reports.0 c.reports.1 × AppendsFront c.err.0 line c.err.1)
 
--- The call ends with this status: it has one of the endings, with its cause, its status and its line.
+-- The call ends with this status: it has one of the endings, with its cause, its status and its line. No cause names the count of
+-- `err`: a line that can't be written changes no status.
 pub record Ends (c : Call) (status : ℕ) : Type 0 where
   pub ending : Ending
   pub is : status ≡ ending_status ending
