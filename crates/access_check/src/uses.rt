@@ -28,9 +28,9 @@ pub enum Use {
     Add,
     /// It is the target of another compound assignment.
     Change,
-    /// It is the P on the right of `P = MIN(P, e)` or `P = MAX(P, e)`.
+    /// It is the P on the right of `P = MIN(P, e)` or `P = MIN(e, P)`, or of the same with `MAX`.
     Own(MinMax),
-    /// It is the target P of `P = MIN(P, e)` or `P = MAX(P, e)`.
+    /// It is the target P of `P = MIN(P, e)` or `P = MIN(e, P)`, or of the same with `MAX`.
     Merge(MinMax),
 }
 

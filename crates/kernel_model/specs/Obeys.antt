@@ -91,9 +91,9 @@ pub data Event : Type 0 where
   Adds : (arg : ℕ) (index : Option ℤ) (at : Pos) → Event
   -- it is the target of another compound assignment
   Changes : (arg : ℕ) (index : Option ℤ) (at : Pos) → Event
-  -- it is the P on the right of P = MIN(P, e) or P = MAX(P, e)
+  -- it is the P on the right of P = MIN(P, e) or P = MIN(e, P), or of the same with MAX
   Owns : (which : MinMax) (arg : ℕ) (index : Option ℤ) (at : Pos) → Event
-  -- it is the target P of P = MIN(P, e) or P = MAX(P, e)
+  -- it is the target P of P = MIN(P, e) or P = MIN(e, P), or of the same with MAX
   Merges : (which : MinMax) (arg : ℕ) (index : Option ℤ) (at : Pos) → Event
 
 -- a path of a part that may be skipped, or that may not
@@ -287,13 +287,13 @@ abbrev pub MayAdd : Access → ℕ → ℕ → Option ℤ → Assigned → Type 
 MayAdd (OpReduce Add) dim a ix before = InDim dim ix
 MayAdd acc dim a ix before = MayChange acc dim a ix before
 
--- the P on the right of P = MIN(P, e) isn't read through an OP_MIN argument; likewise MAX and OP_MAX
+-- the P on the right of P = MIN(P, e) or P = MIN(e, P) isn't read through an OP_MIN argument; likewise MAX and OP_MAX
 abbrev pub MayOwn : MinMax → Access → ℕ → ℕ → Option ℤ → Assigned → Type 0
 MayOwn min_max.Min (OpReduce Min) dim a ix before = InDim dim ix
 MayOwn min_max.Max (OpReduce Max) dim a ix before = InDim dim ix
 MayOwn which acc dim a ix before = MayRead acc dim a ix before
 
--- P = MIN(P, e) is how OP_MIN arguments are stored to; likewise MAX and OP_MAX
+-- P = MIN(P, e) and P = MIN(e, P) are how OP_MIN arguments are stored to; likewise MAX and OP_MAX
 abbrev pub MayMerge : MinMax → Access → ℕ → ℕ → Option ℤ → Assigned → Type 0
 MayMerge min_max.Min (OpReduce Min) dim a ix before = InDim dim ix
 MayMerge min_max.Max (OpReduce Max) dim a ix before = InDim dim ix

@@ -28,7 +28,7 @@ pub data Rule : Type 0 where
   WriteIndexNotStatic : Rule
   -- a static index on any argument isn't below its dim
   LiteralIndexOut : Rule
-  -- an OP_MIN (OP_MAX) argument is the target of another assignment than P = MIN(P, e) (P = MAX(P, e))
+  -- an OP_MIN argument is the target of another assignment than P = MIN(P, e) and P = MIN(e, P); likewise OP_MAX and MAX
   MinMaxForm : Rule
 
 -- the number of a rule
@@ -91,7 +91,7 @@ belongs min_max.Min (OpReduce Min) = true
 belongs min_max.Max (OpReduce Max) = true
 belongs which acc = false
 
--- it is the target P of P = MIN(P, e) under OP_MIN, or of P = MAX(P, e) under OP_MAX
+-- it is the target P of P = MIN(P, e) or P = MIN(e, P) under OP_MIN, or of the same with MAX under OP_MAX
 abbrev pub is_extremum : Access → Event → Bool
 is_extremum acc (Merges which a ix at) = belongs which acc
 is_extremum acc e = false
