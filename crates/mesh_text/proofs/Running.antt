@@ -1,5 +1,5 @@
 -- One token of a mesh text after another.
-use Rattle.std.proofs.Common.{◌≡◌, ℕ, ℤ, ◌+◌, ◌-◌, ◌<◌, ◌≤◌, ◌++◌, length, take, true, false, arith, ◌⊎◌, List, [], ◌∷◌, Some, None, Ok, Err, refl, sym, ap, ◌∙◌, inr, nat_eq, take_all, Option, is_some, length-append}
+use Rattle.std.proofs.Common.{◌≡◌, ℕ, ℤ, ◌+◌, ◌-◌, ◌<◌, ◌≤◌, ◌++◌, length, true, false, arith, ◌⊎◌, List, [], ◌∷◌, Some, None, Ok, Err, refl, sym, ap, ◌∙◌, inr, nat_eq, Option, is_some, length-append}
 use Rattle.std.proofs.lemmas.List.{length-replicate}
 use Rattle.std.proofs.lemmas.List.Sums.{sum_by_push}
 use Rattle.std.proofs.lemmas.Bool.Decides.{nat_tests}
@@ -61,13 +61,6 @@ step-end es w = refl
 pub filled-more : (f : Form) (es : List Named) (name : List ℕ) (left : ℕ) (zs : List ℤ) → 0 < left → filled f es name left zs ≡ Pieces f es name left zs
 filled-more f es name left zs h = let e : nat_eq left 0 ≡ false = grind (arith, nat_tests) in rw e refl
 
--- the values of one more token
-pub values_more : (zs ys : List ℤ) (len n : ℕ) (z : ℤ) → len ≡ length zs → ys ≡ take (len + n) zs ++ replicate (len + n - len) z → ys ≡ zs ++ replicate n z
-values_more zs ys len n z l e =
-    let m : len + n - len ≡ n = omega arith in
-    let le : length zs ≤ len + n = omega arith in
-    e ∙ ap (λ k. take (len + n) zs ++ replicate k z) m ∙ ap (λ xs. xs ++ replicate n z) (take_all (len + n) zs le)
-
 pub is_none : {X : Type 0} (o : Option X) → is_some o ≡ false → o ≡ None
 is_none None h = refl
 is_none (Some x) h = cc
@@ -96,11 +89,11 @@ counted f es name so_far u v w k t n h = run_onto step finish (Count f es name) 
 pub count_refused : (f : Form) (es : List Named) (name : List ℕ) (so_far : ℕ) (u v : Uncut) (w : Word) (e : MeshRefusal) → so_far ≡ total es → IsNext u v w → Err e ≡ count_of so_far w.line (number_of w.text) → (e ≡ OutOfMemory) ⊎ (run_from (Count f es name) u ≡ Err e)
 count_refused f es name so_far u v w e t n h = or_refused step finish OutOfMemory (Count f es name) u v w e (count_of (total es) w.line (number_of w.text)) (λ y. filled f es name y []) n (step-count f es name w) (inr (ap (λ x. count_of x w.line (number_of w.text)) (sym t) ∙ sym h))
 
-pub piece_given : (f : Form) (es : List Named) (name : List ℕ) (left : ℕ) (zs ys : List ℤ) (u v : Uncut) (w : Word) (len k : ℕ) (z : ℤ) → 0 < left → IsNext u v w → Ok (k, z) ≡ given left w.line (piece_of f w.text) → len ≡ length zs → ys ≡ take (len + k) zs ++ replicate (len + k - len) z → run_from (filled f es name left zs) u ≡ run_from (filled f es name (left - k) ys) v
-piece_given f es name left zs ys u v w len k z more n h l e =
+pub piece_given : (f : Form) (es : List Named) (name : List ℕ) (left : ℕ) (zs ys : List ℤ) (u v : Uncut) (w : Word) (k : ℕ) (z : ℤ) → 0 < left → IsNext u v w → Ok (k, z) ≡ given left w.line (piece_of f w.text) → ys ≡ zs ++ replicate k z → run_from (filled f es name left zs) u ≡ run_from (filled f es name (left - k) ys) v
+piece_given f es name left zs ys u v w k z more n h e =
     ap (λ p. run_from p u) (filled-more f es name left zs more)
     ∙ run_onto step finish (Pieces f es name left zs) u v w (k, z) (given left w.line (piece_of f w.text)) (λ g. filled f es name (left - g.0) (zs ++ replicate g.0 g.1)) n (step-pieces f es name left zs w) (sym h)
-    ∙ ap (λ xs. run_from (filled f es name (left - k) xs) v) (sym (values_more zs ys len k z l e))
+    ∙ ap (λ xs. run_from (filled f es name (left - k) xs) v) (sym e)
 
 pub piece_refused : (f : Form) (es : List Named) (name : List ℕ) (left : ℕ) (zs : List ℤ) (u v : Uncut) (w : Word) (e : MeshRefusal) → 0 < left → IsNext u v w → Err e ≡ given left w.line (piece_of f w.text) → run_from (filled f es name left zs) u ≡ Err e
 piece_refused f es name left zs u v w e more n h =
@@ -112,9 +105,9 @@ piece_missing f es name left zs u e more n h =
     ap (λ p. run_from p u) (filled-more f es name left zs more) ∙ run_end step finish (Pieces f es name left zs) u (Err e) n (ap Err (sym h))
 
 -- and how many there are
-pub length-more : (zs ys : List ℤ) (len n left count : ℕ) (z : ℤ) → len ≡ length zs → ys ≡ take (len + n) zs ++ replicate (len + n - len) z → length zs + left ≡ count → n ≤ left → length ys + (left - n) ≡ count
-length-more zs ys len n left count z l e c m =
-    let size : length ys ≡ length zs + n = ap length (values_more zs ys len n z l e) ∙ length-append zs (replicate n z) ∙ ap (λ k. length zs + k) (length-replicate n z) in
+pub length-more : (zs ys : List ℤ) (n left count : ℕ) (z : ℤ) → ys ≡ zs ++ replicate n z → length zs + left ≡ count → n ≤ left → length ys + (left - n) ≡ count
+length-more zs ys n left count z e c m =
+    let size : length ys ≡ length zs + n = ap length e ∙ length-append zs (replicate n z) ∙ ap (λ k. length zs + k) (length-replicate n z) in
     omega arith
 
 pub run_done : (es : List Named) (u : Uncut) → first_of u ≡ None → run_from (End es) u ≡ Ok es

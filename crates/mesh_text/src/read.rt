@@ -2,6 +2,7 @@
 ghost use Rattle.std.specs.Prelude.{◌≡◌, ◌+◌, ◌<◌, ◌≤◌, ◌^◌, ◌⊎◌, false, length, List, ℕ, [], ◌∷◌, ◌++◌, OnOk, IfOk, IfErr, Ok, Err, Some};
 ghost use Rattle.std.specs.Prelude.{None};
 ghost use Rattle.op_num.specs.Spelling.{number_of, integer_of, i32_judged};
+ghost use lib.ListN.{replicate};
 ghost use Rattle.texts.specs.Cut.{uncut, first_of, rest_of};
 ghost use Rattle.mesh_text.specs.declared.entry.Form.{Form as Version};
 ghost use Rattle.mesh_text.specs.declared.entry.MeshRefusal.{MeshRefusal as Refusal};
@@ -60,7 +61,8 @@ fn read(alloc: Global, bytes: &[u8]) -> Result<Entries, MeshRefusal>
     let form = read_header(&mut tokens)?;
     let mut entries = Entries::new(alloc);
     let mut total = 0;
-    while let Some((name, entry)) = read_entry(alloc, &mut tokens, form, &entries, total)? {
+    let most = bytes.len();
+    while let Some((name, entry)) = read_entry(alloc, &mut tokens, form, &entries, total, most)? {
         total += entry_size(&entry);
         add_entry(&mut entries, name, entry)?;
     }
@@ -105,13 +107,14 @@ fn read_header(tokens: &mut Tokens<'_>) -> Result<Form, MeshRefusal>
     }
 }
 
-// The next entry, or none behind `done`.
+// The next entry of a text of `most` bytes, or none behind `done`.
 fn read_entry(
     alloc: Global,
     tokens: &mut Tokens<'_>,
     form: Form,
     entries: &Entries,
     total: u64,
+    most: usize,
 ) -> Result<Option<(Name, Entry)>, MeshRefusal>
     requires total { total ≡ total_of entries.now.entries }
     requires room { total ≤ MESH_VALUES }
@@ -126,7 +129,7 @@ fn read_entry(
             Ok(Some((name, Entry::One(value))))
         }
         Some(Keyword::Ints) => {
-            let (name, values) = read_many(alloc, tokens, form, entries, total)?;
+            let (name, values) = read_many(alloc, tokens, form, entries, total, most)?;
             Ok(Some((name, Entry::Many(values))))
         }
         Some(Keyword::Done) => Ok(None),
@@ -166,13 +169,14 @@ fn read_one(
     Ok((name, value))
 }
 
-// What stands behind `ints`.
+// What stands behind `ints`, of a text of `most` bytes.
 fn read_many(
     alloc: Global,
     tokens: &mut Tokens<'_>,
     form: Form,
     entries: &Entries,
     total: u64,
+    most: usize,
 ) -> Result<(Name, Values), MeshRefusal>
     requires total { total ≡ total_of entries.now.entries }
     requires room { total ≤ MESH_VALUES }
@@ -184,16 +188,17 @@ fn read_many(
 {
     let name = new_name(alloc, &next_in_entry(tokens)?, entries)?;
     let count = count_value(&next_in_entry(tokens)?, total)?;
-    let values = read_values(alloc, tokens, form, count)?;
+    let values = read_values(alloc, tokens, form, count, most)?;
     Ok((name, values))
 }
 
-// That many values.
+// That many values. At first there is room for `most` of them at most.
 fn read_values(
     alloc: Global,
     tokens: &mut Tokens<'_>,
     form: Form,
     count: u64,
+    most: usize,
 ) -> Result<Values, MeshRefusal>
     requires { count < 2 ^ 31 }
     ensures leads { (es : List Named) (name : List ℕ)
@@ -201,14 +206,28 @@ fn read_values(
     ensures size { IfOk result (λ zs. length zs ≡ count) }
     ensures fewer { OnOk result (length tokens.new.words ≤ length tokens.old.words) }
 {
-    let mut values = Vec::new(alloc);
+    let mut values = Vec::with_capacity(alloc, most.min(count as usize))?;
     let mut left = count;
     while left > 0 {
         let (times, value) = given_values(&next_value(tokens)?, form, left)?;
-        values.resize(values.len() + times as usize, value)?;
+        add_values(&mut values, times, value)?;
         left -= times;
     }
     Ok(Values::new(values))
+}
+
+// Appends a value that stands a number of times.
+fn add_values(values: &mut Vec<i32>, times: u64, value: i32) -> Result<(), MeshRefusal>
+    requires { times < 2 ^ 32 }
+    ensures ok { OnOk result (values.new.items ≡ values.old.items ++ replicate times value) }
+    ensures err { IfErr result (λ e. e ≡ Refusal.OutOfMemory) }
+{
+    if times == 1 {
+        values.push(value)?;
+    } else {
+        values.resize(values.len() + times as usize, value)?;
+    }
+    Ok(())
 }
 
 // A name that no entry has.
