@@ -1,5 +1,5 @@
 -- Blocks and places of one colour with a common target, by rows, and as conflicts.
-use Rattle.std.proofs.Common.{◌≡◌, ◌≢◌, ℕ, Bool, true, false, ◌+◌, ◌*◌, ◌^◌, ◌/◌, ◌<◌, ◌≤◌, ◌⊎◌, min, sym, ap, subst, ◌∙◌, arith, ⊎_elim, inl, inr, List, Vec, length, get_or, add-mul, mul-le-mul_left, mul-le-mul_right, div-mul-le_self, lt_of_mul-lt-mul_right}
+use Rattle.std.proofs.Common.{◌≡◌, ◌≢◌, ℕ, Bool, true, false, ◌+◌, ◌*◌, ◌^◌, ◌/◌, ◌<◌, ◌≤◌, ◌⊎◌, min, sym, subst, ◌∙◌, arith, ⊎_elim, inl, inr, List, Vec, length, get_or, add-mul, mul-le-mul_left, mul-le-mul_right, div-mul-le_self, lt_of_mul-lt-mul_right}
 use Rattle.std.specs.Prelude.{◌↔◌}
 use Rattle.std.specs.declared.alloc.Global.{Global}
 use Rattle.std.specs.List.{Contains}
@@ -7,10 +7,9 @@ use Rattle.std.proofs.lemmas.Bool.{cases_lt, cases_Bool, false≢true}
 use Rattle.std.proofs.lemmas.List.{get_or_default}
 use Rattle.std.proofs.Math.Nat.{lt-div-mul-add}
 use Rattle.mesh_decl.specs.Mesh.{MeshValue}
-use Rattle.block_plan.specs.Blocks.{IsInBlock}
 use Rattle.colouring.specs.declared.types.IncArg.{IncArg}
 use Rattle.colouring.specs.Rows.{Conflict, MeetWithin}
-use Rattle.colouring.specs.Rounds.{none}
+use Rattle.colouring.specs.Rows.{none}
 use Rattle.colouring.specs.Colours.{target_of}
 use Rattle.colouring.specs.Table.{AreStarts, IsTable}
 use Rattle.colouring.specs.Meeting.{Has, SomeMeet, Marked, BlocksAlike, PlacesAlike}

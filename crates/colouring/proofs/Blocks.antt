@@ -39,6 +39,14 @@ steps_fit (suc n) size places w m e h few =
     let u : suc n * (m * w) ≡ n * (m * w) + m * w = suc-mul n (m * w) in
     omega arith
 
+-- there are no more blocks than places
+pub blocks_few : (n size places : ℕ) → 0 < size → ((b : ℕ) → b < n → b * size < places) → n ≤ places
+blocks_few zero size places some h = omega arith
+blocks_few (suc n) size places some h =
+    let s : n * size < places = h n (omega arith) in
+    let k : n * 1 ≤ n * size = mul-le-mul_left n (omega arith) in
+    omega arith
+
 -- rows of blocks
 module _ (table : List ℕ) (w size places m : ℕ) (em : m ≡ min size places) (long : length table ≡ places * w) where
   same_start : (b : ℕ) → b * size < places → b * (m * w) ≡ b * size * w

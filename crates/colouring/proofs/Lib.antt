@@ -1,5 +1,7 @@
+pub mod Telling
+pub mod Filling
+pub mod Words
 pub mod Bits
-pub mod Round
 pub mod Numbering
 pub mod Parts
 pub mod Blocks

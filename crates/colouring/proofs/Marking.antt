@@ -1,12 +1,12 @@
 -- Marks of rows of targets: they find the first two rows of one colour that have a common target.
-use Rattle.std.proofs.Common.{◌≡◌, ◌≢◌, ℕ, ◌+◌, ◌-◌, ◌*◌, ◌<◌, ◌≤◌, ◌⊎◌, min, refl, sym, ap, subst, ◌∙◌, arith, ⊎_elim, inl, inr, List, length, get_or, set}
+use Rattle.std.proofs.Common.{◌≡◌, ℕ, ◌+◌, ◌-◌, ◌*◌, ◌<◌, ◌≤◌, ◌⊎◌, min, refl, sym, ap, subst, ◌∙◌, arith, ⊎_elim, inl, inr, List, length, get_or, set}
 use Rattle.std.specs.List.{Contains}
 use Rattle.std.specs.List.Sorted.{IsPermutation}
 use Rattle.std.proofs.lemmas.Bool.{cases_eq}
 use Rattle.std.proofs.lemmas.List.Sorted.{All-permutation, Contains-permutation}
 use Rattle.std.proofs.lemmas.List.{get_or-set_same, get_or-set_other, get_or_default}
-use Rattle.colouring.specs.Rows.{In, Conflict}
-use Rattle.colouring.specs.Rounds.{none}
+use Rattle.colouring.specs.Rows.{Conflict}
+use Rattle.colouring.specs.Rows.{none}
 use Rattle.colouring.specs.Meeting.{Has, IsMet, Meet, SomeMeet, Marked}
 
 -- ---- rows in order

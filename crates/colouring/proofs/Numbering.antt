@@ -15,7 +15,7 @@ use Rattle.mesh_decl.proofs.FieldReads.{some_in}
 use Rattle.mesh_decl.specs.declared.owners.Owners.{Owners}
 use Rattle.mesh_decl.specs.declared.owners.Perms.{Perms}
 use Rattle.colouring.specs.declared.types.IncArg.{IncArg}
-use Rattle.colouring.specs.Rounds.{none}
+use Rattle.colouring.specs.Rows.{none}
 use Rattle.local_mesh.proofs.Inverse.{table_more}
 use Rattle.colouring.specs.Colours.{target_of, target_by, Leads, IsArg}
 use Rattle.colouring.specs.Table.{copies_of, IsRankOf, AreBases, HaveBases, AreStarts, IsTable}

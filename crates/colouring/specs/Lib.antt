@@ -1,5 +1,5 @@
 pub mod Rows
-pub mod Rounds
+pub mod Masks
 pub mod Colours
 pub mod Table
 pub mod Outlined

@@ -2,6 +2,10 @@
 use Rattle.std.specs.Prelude.{◌≡◌, ◌<◌, ◌≤◌, ◌+◌, ◌*◌, ◌/◌, ℕ, List, get_or, length}
 use Rattle.block_plan.specs.Blocks.{IsInBlock}
 
+-- no number: of a dat without a base, and of a target without a mark
+abbrev pub none : ℕ
+none = 4294967295
+
 -- the place k of the table of targets belongs to the row p, of w targets
 abbrev pub In : List ℕ → ℕ → ℕ → ℕ → Type 0
 In ts w p k = (p * w ≤ k) × (k < p * w + w) × (k < length ts)
@@ -9,6 +13,10 @@ In ts w p k = (p * w ≤ k) × (k < p * w + w) × (k < length ts)
 -- two rows with a common target
 abbrev pub Conflict : List ℕ → ℕ → ℕ → ℕ → Type 0
 Conflict ts w q p = (j : ℕ) × (k : ℕ) × In ts w q j × In ts w p k × (get_or ts j 0 ≡ get_or ts k 0)
+
+-- an earlier row with a common target has the colour
+abbrev pub Taken : List ℕ → ℕ → List ℕ → ℕ → ℕ → Type 0
+Taken ts w cs p c = (q : ℕ) × (q < p) × Conflict ts w q p × (get_or cs q 0 ≡ c)
 
 abbrev pub Least : List ℕ → ℕ → List ℕ → ℕ → Type 0
 Least ts w cs p =

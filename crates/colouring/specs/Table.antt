@@ -8,7 +8,7 @@ use Rattle.local_mesh.specs.declared.types.RankMesh.{RankMesh}
 use Rattle.local_mesh.specs.LocalMesh.{originals_in, executed_in, AreLocalTargets}
 use Rattle.colouring.specs.declared.types.IncArg.{IncArg}
 use Rattle.colouring.specs.Colours.{target_of}
-use Rattle.colouring.specs.Rounds.{none}
+use Rattle.colouring.specs.Rows.{none}
 
 -- how many local elements the rank has of a dat's set
 abbrev pub copies_of : MeshValue → List LocalSet → ℕ → ℕ

@@ -6,7 +6,7 @@ ghost use Rattle.local_mesh.specs.LocalMesh.{IsRankMesh};
 ghost use Rattle.colouring.specs.Colours.{AreArgs};
 ghost use Rattle.colouring.specs.Clashes.{ClashIs};
 ghost use Rattle.colouring.specs.Meeting.{BlocksAlike, PlacesAlike};
-ghost use Rattle.colouring.specs.Rounds.{none};
+ghost use Rattle.colouring.specs.Rows.{none};
 
 use crate::meeting::{order_rows, rows_meet};
 use crate::table::{first_numbers, target_table};

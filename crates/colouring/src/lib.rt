@@ -11,10 +11,11 @@ ghost use Rattle.local_mesh.specs.LocalMesh.{IsRankMesh};
 ghost use Rattle.colouring.specs.Colours.{AreArgs, AreColours};
 
 mod conflicts;
+mod greedy;
 mod laws;
 mod masks;
 mod meeting;
-mod rounds;
+mod passing;
 mod table;
 mod types;
 mod within;
@@ -25,6 +26,7 @@ pub use laws::{
     conflicting_places_are_ordered,
 };
 use local_mesh::RankMesh;
+use masks::Masks;
 use mesh_decl::Mesh;
 use op_num::OutOfMemory;
 use std::alloc::Global;
@@ -34,8 +36,11 @@ use within::{block_colours, inner_colours};
 
 /// The colours for the first `places` of what the rank executes, in blocks of `size`, where these arguments reduce.
 ///
-/// Colouring works in rounds of 32 colours, with a mask for each target. It fails only for want of memory, also where
-/// there are 2 ^ 32 - 1 targets, or 2 ^ 32 - 64 colours, or more.
+/// It goes through the places once, and through the blocks once. A place or block looks, for each of its targets, at
+/// masks of 32 colours in turn, and passes in one step over those that one of its targets, or two of them together, are
+/// known to fill; so time is linear in the targets where they have few colours, on a star, and where the colours of two
+/// hubs interleave. At worst it is that of one look at each target for each 32 colours below the one that is found.
+/// Memory is linear in the targets. It fails only for want of memory, also where there are 2 ^ 32 - 1 targets or more.
 pub fn colour(
     alloc: Global,
     mesh: &Mesh,
@@ -52,7 +57,7 @@ pub fn colour(
     mesh.is_in_range();
     let (starts, total) = first_numbers(alloc, mesh, rank, args)?;
     let table = target_table(alloc, mesh, rank, args, &starts, total, places)?;
-    let mut masks = vec![in alloc; 0; total as usize]?;
+    let mut masks = Masks::new(alloc, total)?;
     let inner = inner_colours(alloc, &table, args.len(), places, size, &mut masks)?;
     let blocks = block_colours(alloc, &table, args.len(), places, size, &mut masks)?;
     Ok(Colours { blocks, inner })

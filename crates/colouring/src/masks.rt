@@ -1,48 +1,170 @@
-// Masks of 32 colours, one for each target.
-ghost use Rattle.std.specs.Prelude.{◌≡◌, ◌<◌, ◌≤◌, ◌↔◌, ◌⊎◌, ℕ, MatchOption, length, slice_index, EachIndex};
+// The colours that targets have, in words of 32: a word is a mask, and word v has the colours from 32 v on.
+ghost use Rattle.std.specs.Prelude.{◌≡◌, ◌<◌, ◌≤◌, ◌+◌, ◌*◌, ◌↔◌, ◌⊎◌, ℕ, IfOk, OnOk, MatchOption, length, slice_index, EachIndex};
 ghost use Rattle.std.specs.Int.{bit_at};
+ghost use Rattle.colouring.specs.Masks.{mask_of, Has, IsClear};
 
-// The colours that some of these targets have.
-pub fn joined(masks: &[u32], targets: &[u32], start: usize, end: usize) -> u32
-    requires start { start ≤ end }
-    requires end { end ≤ length targets.now }
-    requires targets { EachIndex targets.now (λ k. slice_index targets.now k < length masks.now) }
-    ensures { (b : ℕ) → (bit_at result b ≡ 1)
-        ↔ ((k : ℕ) × (start ≤ k) × (k < end) × (bit_at (slice_index masks.now (slice_index targets.now k)) b ≡ 1)) }
-{
-    let mut all = 0;
-    for k in start..end {
-        all |= masks[targets[k] as usize];
-    }
-    all
+use op_num::OutOfMemory;
+use std::alloc::Global;
+use std::collections::HashMap;
+
+// The words of all targets.
+#[derive(Drop)]
+pub struct Masks {
+    // Each target's word 0.
+    pub first: Vec<u32>,
+    // By target and number, the later words that have a colour.
+    pub later: HashMap<(u32, u32), u32>,
+    // How many later words each target has.
+    pub counts: Vec<u32>,
+    // By two targets and a word: the end of words from that one on of which each colour is one of either target's.
+    pub passed: HashMap<(u32, u32, u32), u32>,
 }
 
-// Gives these targets one colour more.
-pub fn add(masks: &mut [u32], targets: &[u32], start: usize, end: usize, bit: u32)
-    requires start { start ≤ end }
-    requires end { end ≤ length targets.now }
-    requires bit { bit < 32 }
-    requires targets { EachIndex targets.now (λ k. slice_index targets.now k < length masks.old) }
-    ensures added { (t b : ℕ) → t < length masks.old
-        → (bit_at (slice_index masks.new t) b ≡ 1)
-        ↔ ((bit_at (slice_index masks.old t) b ≡ 1) ⊎ ((b ≡ bit) × ((k : ℕ) × (start ≤ k) × (k < end) × (slice_index targets.now k ≡ t)))) }
-    ensures others { (t : ℕ) → ((k : ℕ) → start ≤ k → k < end → slice_index targets.now k ≡ t → ⊥)
-        → slice_index masks.new t ≡ slice_index masks.old t }
-{
-    for k in start..end {
-        masks[targets[k] as usize] |= 1 << bit;
+impl Masks {
+    // No colours for `total` targets.
+    pub fn new(alloc: Global, total: u32) -> Result<Masks, OutOfMemory>
+        ensures length { IfOk result (λ m. length m.first.items ≡ total) }
+        ensures clear { IfOk result IsClear }
+    {
+        Ok(Masks {
+            first: vec![in alloc; 0; total as usize]?,
+            later: HashMap::new(alloc),
+            counts: vec![in alloc; 0; total as usize]?,
+            passed: HashMap::new(alloc),
+        })
+    }
+
+    // A target's word.
+    pub fn word(&self, target: u32, number: u32) -> u32
+        requires { target < length self.now.first.items }
+        ensures { result ≡ mask_of self.now target number }
+    {
+        if number == 0 {
+            self.first[target as usize]
+        } else {
+            self.later.get(&(target, number)).copied().unwrap_or(0)
+        }
+    }
+
+    // The colours of a word that some of these targets have.
+    pub fn joined(&self, targets: &[u32], start: usize, end: usize, number: u32) -> u32
+        requires start { start ≤ end }
+        requires end { end ≤ length targets.now }
+        requires targets { EachIndex targets.now (λ k. slice_index targets.now k < length self.now.first.items) }
+        ensures { (b : ℕ) → (bit_at result b ≡ 1)
+            ↔ ((k : ℕ) × (start ≤ k) × (k < end) × Has self.now (slice_index targets.now k) number b) }
+    {
+        let mut all = 0;
+        for k in start..end {
+            all |= self.word(targets[k], number);
+        }
+        all
+    }
+
+    // Gives a target a colour of a later word.
+    fn give_later(&mut self, target: u32, number: u32, bit: u32) -> Result<(), OutOfMemory>
+        requires later { 0 < number }
+        requires bit { bit < 32 }
+        ensures given { OnOk result ((t v b : ℕ) → Has self.new t v b
+            ↔ (Has self.old t v b ⊎ ((t ≡ target) × (v ≡ number) × (b ≡ bit)))) }
+        ensures passed { self.new.passed ≡ self.old.passed }
+        ensures first { self.new.first ≡ self.old.first }
+    {
+        let old = self.later.get(&(target, number)).copied();
+        self.later
+            .insert((target, number), old.unwrap_or(0) | 1 << bit)?;
+        if old.is_none() {
+            count_one(&mut self.counts, target);
+        }
+        Ok(())
+    }
+
+    // Gives a target a colour.
+    fn give(&mut self, target: u32, number: u32, bit: u32) -> Result<(), OutOfMemory>
+        requires target { target < length self.old.first.items }
+        requires bit { bit < 32 }
+        ensures given { OnOk result ((t v b : ℕ) → Has self.new t v b
+            ↔ (Has self.old t v b ⊎ ((t ≡ target) × (v ≡ number) × (b ≡ bit)))) }
+        ensures passed { OnOk result (self.new.passed ≡ self.old.passed) }
+        ensures length { OnOk result (length self.new.first.items ≡ length self.old.first.items) }
+        ensures others { OnOk result ((t : ℕ) → (t ≡ target → ⊥)
+            → slice_index self.new.first.items t ≡ slice_index self.old.first.items t) }
+    {
+        if number > 0 {
+            return self.give_later(target, number, bit);
+        }
+        self.first[target as usize] |= 1 << bit;
+        Ok(())
+    }
+
+    // Gives these targets one colour more.
+    pub fn add(
+        &mut self,
+        targets: &[u32],
+        start: usize,
+        end: usize,
+        colour: u32,
+    ) -> Result<(), OutOfMemory>
+        requires start { start ≤ end }
+        requires end { end ≤ length targets.now }
+        requires targets { EachIndex targets.now (λ k. slice_index targets.now k < length self.old.first.items) }
+        ensures added { OnOk result ((t v b : ℕ) → b < 32 → Has self.new t v b
+            ↔ (Has self.old t v b
+            ⊎ ((32 * v + b ≡ colour) × ((k : ℕ) × (start ≤ k) × (k < end) × (slice_index targets.now k ≡ t))))) }
+        ensures passed { OnOk result (self.new.passed ≡ self.old.passed) }
+        ensures length { OnOk result (length self.new.first.items ≡ length self.old.first.items) }
+        ensures others { OnOk result ((t : ℕ) → ((k : ℕ) → start ≤ k → k < end → slice_index targets.now k ≡ t → ⊥)
+            → slice_index self.new.first.items t ≡ slice_index self.old.first.items t) }
+    {
+        for k in start..end {
+            self.give(targets[k], colour / 32, colour % 32)?;
+        }
+        Ok(())
+    }
+
+    // Takes the colours of word 0 from these targets, which alone have any.
+    fn clear_first(&mut self, targets: &[u32])
+        requires targets { EachIndex targets.now (λ k. slice_index targets.now k < length self.old.first.items) }
+        requires others { (t : ℕ) → ((k : ℕ) → k < length targets.now → slice_index targets.now k ≡ t → ⊥)
+            → slice_index self.old.first.items t ≡ 0 }
+        ensures clear { (t : ℕ) → slice_index self.new.first.items t ≡ 0 }
+        ensures length { length self.new.first.items ≡ length self.old.first.items }
+    {
+        for target in targets {
+            self.first[*target as usize] = 0;
+        }
+    }
+
+    // Takes all colours from these targets, which alone have any.
+    pub fn clear(&mut self, targets: &[u32])
+        requires targets { EachIndex targets.now (λ k. slice_index targets.now k < length self.old.first.items) }
+        requires others { (t : ℕ) → ((k : ℕ) → k < length targets.now → slice_index targets.now k ≡ t → ⊥)
+            → slice_index self.old.first.items t ≡ 0 }
+        ensures clear { IsClear self.new }
+        ensures length { length self.new.first.items ≡ length self.old.first.items }
+    {
+        self.clear_first(targets);
+        if !self.later.is_empty() {
+            clear_counts(&mut self.counts, targets);
+        }
+        self.later.clear();
+        self.passed.clear();
     }
 }
 
-// Takes all colours from these targets.
-pub fn clear(masks: &mut [u32], targets: &[u32], start: usize)
-    requires targets { EachIndex targets.now (λ k. slice_index targets.now k < length masks.old) }
-    requires others { (t : ℕ) → ((k : ℕ) → start ≤ k → k < length targets.now → slice_index targets.now k ≡ t → ⊥)
-        → slice_index masks.old t ≡ 0 }
-    ensures { (t : ℕ) → slice_index masks.new t ≡ 0 }
-{
-    for k in start..targets.len() {
-        masks[targets[k] as usize] = 0;
+// Counts one word more of a target.
+fn count_one(counts: &mut [u32], target: u32) {
+    if let Some(count) = counts.get_mut(target as usize) {
+        *count = count.saturating_add(1);
+    }
+}
+
+// Counts no words of these targets.
+fn clear_counts(counts: &mut [u32], targets: &[u32]) {
+    for target in targets {
+        if let Some(count) = counts.get_mut(*target as usize) {
+            *count = 0;
+        }
     }
 }
 

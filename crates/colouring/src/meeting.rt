@@ -2,7 +2,7 @@
 // that had it, so that no pair of rows is looked at.
 ghost use Rattle.std.specs.Prelude.{◌≡◌, ◌<◌, ◌≤◌, ◌+◌, ◌*◌, ◌^◌, ◌⊎◌, ◌↔◌, ℕ, true, false, OnOk, Contains, length, slice_index, EachIndex};
 ghost use Rattle.std.specs.Prelude.{get_or};
-ghost use Rattle.colouring.specs.Rounds.{none};
+ghost use Rattle.colouring.specs.Rows.{none};
 ghost use Rattle.colouring.specs.Meeting.{Has, IsMet, Marked, SomeMeet};
 
 use op_num::OutOfMemory;

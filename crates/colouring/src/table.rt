@@ -5,7 +5,7 @@ ghost use Rattle.local_mesh.specs.LocalMesh.{executed_in};
 ghost use Rattle.colouring.specs.declared.types.IncArg.{IncArg as Arg};
 ghost use Rattle.colouring.specs.Colours.{target_of, IsArg, AreArgs};
 ghost use Rattle.colouring.specs.Table.{copies_of, IsRankOf, AreBases, AreStarts, IsTable};
-ghost use Rattle.colouring.specs.Rounds.{none};
+ghost use Rattle.colouring.specs.Rows.{none};
 
 use crate::types::IncArg;
 use local_mesh::RankMesh;

@@ -2,19 +2,20 @@
 ghost use Rattle.std.specs.Prelude.{◌≡◌, ℕ, ◌+◌, ◌*◌, ◌<◌, ◌≤◌, ◌^◌, ◌↔◌, OnOk, IfOk, length, slice_index, EachIndex};
 ghost use Rattle.colouring.specs.Colours.{IsLeast};
 ghost use Rattle.colouring.specs.Rows.{MeetFrom, MeetWithin, BlocksMeet};
-ghost use Rattle.colouring.specs.Rounds.{none};
+ghost use Rattle.colouring.specs.Masks.{IsClear};
 
-use crate::rounds::colour_rows;
+use crate::greedy::colour_rows;
+use crate::masks::Masks;
 use block_plan::{bounds, count};
 use op_num::OutOfMemory;
 use std::alloc::Global;
 
-// Colours the places from `first` up to `last`, which have no colour yet, among each other.
+// Colours the places from `first` up to `last` among each other.
 fn colour_places(
     table: &[u32],
     width: usize,
     inner: &mut [u32],
-    masks: &mut [u32],
+    masks: &mut Masks,
     first: u32,
     last: u32,
 ) -> Result<(), OutOfMemory>
@@ -22,12 +23,12 @@ fn colour_places(
     requires last { last ≤ length inner.old }
     requires table { length table.now ≡ length inner.old * width }
     requires few { length table.now < 2 ^ 61 }
-    requires targets { EachIndex table.now (λ k. slice_index table.now k < length masks.old) }
-    requires fresh { (q : ℕ) → first ≤ q → q < last → slice_index inner.old q ≡ none }
-    requires clear { (t : ℕ) → slice_index masks.old t ≡ 0 }
+    requires targets { EachIndex table.now (λ k. slice_index table.now k < length masks.old.first.items) }
+    requires clear { IsClear masks.old }
     ensures least { OnOk result ((p : ℕ) → first ≤ p → p < last → IsLeast (MeetFrom table.now width first) inner.new p) }
     ensures others { OnOk result ((q : ℕ) → (first ≤ q → q < last → ⊥) → slice_index inner.new q ≡ slice_index inner.old q) }
-    ensures clear { OnOk result ((t : ℕ) → slice_index masks.new t ≡ 0) }
+    ensures clear { OnOk result (IsClear masks.new) }
+    ensures room { OnOk result (length masks.new.first.items ≡ length masks.old.first.items) }
 {
     let here = &table[first as usize * width..last as usize * width];
     colour_rows(
@@ -46,28 +47,29 @@ pub fn inner_colours(
     width: usize,
     places: u32,
     size: u32,
-    masks: &mut [u32],
+    masks: &mut Masks,
 ) -> Result<Vec<u32>, OutOfMemory>
     requires size { 0 < size }
     requires table { length table.now ≡ places * width }
     requires few { length table.now < 2 ^ 61 }
-    requires targets { EachIndex table.now (λ k. slice_index table.now k < length masks.old) }
-    requires clear { (t : ℕ) → slice_index masks.old t ≡ 0 }
+    requires targets { EachIndex table.now (λ k. slice_index table.now k < length masks.old.first.items) }
+    requires clear { IsClear masks.old }
     ensures length { IfOk result (λ v. length v.items ≡ places) }
     ensures least { IfOk result (λ v. (p : ℕ) → p < places → IsLeast (MeetWithin table.now width size) v.items p) }
-    ensures clear { OnOk result ((t : ℕ) → slice_index masks.new t ≡ 0) }
+    ensures clear { OnOk result (IsClear masks.new) }
+    ensures room { OnOk result (length masks.new.first.items ≡ length masks.old.first.items) }
 {
-    let mut inner = vec![in alloc; u32::MAX; places as usize]?;
+    let mut inner = vec![in alloc; 0; places as usize]?;
     colour_blocks(table, width, &mut inner, masks, places, size)?;
     Ok(inner)
 }
 
-// Colours the places, which have no colour yet, within each block.
+// Colours the places within each block.
 fn colour_blocks(
     table: &[u32],
     width: usize,
     inner: &mut [u32],
-    masks: &mut [u32],
+    masks: &mut Masks,
     places: u32,
     size: u32,
 ) -> Result<(), OutOfMemory>
@@ -75,11 +77,11 @@ fn colour_blocks(
     requires places { length inner.old ≡ places }
     requires table { length table.now ≡ places * width }
     requires few { length table.now < 2 ^ 61 }
-    requires targets { EachIndex table.now (λ k. slice_index table.now k < length masks.old) }
-    requires fresh { (q : ℕ) → q < places → slice_index inner.old q ≡ none }
-    requires clear { (t : ℕ) → slice_index masks.old t ≡ 0 }
+    requires targets { EachIndex table.now (λ k. slice_index table.now k < length masks.old.first.items) }
+    requires clear { IsClear masks.old }
     ensures least { OnOk result ((p : ℕ) → p < places → IsLeast (MeetWithin table.now width size) inner.new p) }
-    ensures clear { OnOk result ((t : ℕ) → slice_index masks.new t ≡ 0) }
+    ensures clear { OnOk result (IsClear masks.new) }
+    ensures room { OnOk result (length masks.new.first.items ≡ length masks.old.first.items) }
 {
     for block in 0..count(places, size) {
         let (first, last) = bounds(block, places, size);
@@ -88,12 +90,12 @@ fn colour_blocks(
     Ok(())
 }
 
-// Colours the blocks, which have no colour yet, as rows of as many targets as the places of a block have.
+// Colours the blocks as rows of as many targets as the places of a block have.
 fn colour_block_rows(
     table: &[u32],
     width: usize,
     colours: &mut [u32],
-    masks: &mut [u32],
+    masks: &mut Masks,
     places: u32,
     size: u32,
 ) -> Result<(), OutOfMemory>
@@ -101,9 +103,8 @@ fn colour_block_rows(
     requires count { (b : ℕ) → (b < length colours.old) ↔ (b * size < places) }
     requires table { length table.now ≡ places * width }
     requires few { length table.now < 2 ^ 61 }
-    requires targets { EachIndex table.now (λ k. slice_index table.now k < length masks.old) }
-    requires fresh { (q : ℕ) → q < length colours.old → slice_index colours.old q ≡ none }
-    requires clear { (t : ℕ) → slice_index masks.old t ≡ 0 }
+    requires targets { EachIndex table.now (λ k. slice_index table.now k < length masks.old.first.items) }
+    requires clear { IsClear masks.old }
     ensures least { OnOk result ((b : ℕ) → b < length colours.old → IsLeast (BlocksMeet table.now width places size) colours.new b) }
 {
     let step = size.min(places) as usize * width;
@@ -118,17 +119,17 @@ pub fn block_colours(
     width: usize,
     places: u32,
     size: u32,
-    masks: &mut [u32],
+    masks: &mut Masks,
 ) -> Result<Vec<u32>, OutOfMemory>
     requires size { 0 < size }
     requires table { length table.now ≡ places * width }
     requires few { length table.now < 2 ^ 61 }
-    requires targets { EachIndex table.now (λ k. slice_index table.now k < length masks.old) }
-    requires clear { (t : ℕ) → slice_index masks.old t ≡ 0 }
+    requires targets { EachIndex table.now (λ k. slice_index table.now k < length masks.old.first.items) }
+    requires clear { IsClear masks.old }
     ensures length { IfOk result (λ v. (b : ℕ) → (b < length v.items) ↔ (b * size < places)) }
     ensures least { IfOk result (λ v. (b : ℕ) → b < length v.items → IsLeast (BlocksMeet table.now width places size) v.items b) }
 {
-    let mut colours = vec![in alloc; u32::MAX; count(places, size) as usize]?;
+    let mut colours = vec![in alloc; 0; count(places, size) as usize]?;
     colour_block_rows(table, width, &mut colours, masks, places, size)?;
     Ok(colours)
 }

@@ -1,6 +1,4 @@
-use Rattle.std.proofs.Common.{◌≡◌, ◌<◌, ◌≤◌, ℕ, List, length, get_or, arith}
-use Rattle.std.specs.List.{Contains}
-use Rattle.colouring.specs.Meeting.{SomeMeet, BlocksAlike}
+use Rattle.std.proofs.Common.{◌<◌, length, get_or, arith}
 use Rattle.colouring.proofs.Blocks.{steps_fit}
 use Rattle.colouring.proofs.Alike.{blocks_alike, blocks_some, few_blocks, decided, order_read, order_sorted, order_all}
 use Rattle.colouring.proofs.conflicts.blocks_meet.Goals as goal

@@ -1,6 +1,6 @@
-use Rattle.std.proofs.Common.{◌≡◌, ◌<◌, ◌≤◌, ◌+◌, ◌*◌, ◌⊎◌, ◌∙◌, ℕ, min, true, false, length, get_or, arith, ap, sym, subst, refl, inl, ⊎_elim}
+use Rattle.std.proofs.Common.{◌≡◌, ◌<◌, ◌≤◌, ◌+◌, ◌*◌, ◌⊎◌, ◌∙◌, min, length, get_or, arith, ap, sym, subst, refl, inl, ⊎_elim}
 use Rattle.std.proofs.lemmas.Bool.{cases_lt, false≢true}
-use Rattle.colouring.specs.Rounds.{none}
+use Rattle.colouring.specs.Rows.{none}
 use Rattle.colouring.proofs.Alike.{places_alike, none_alike_more, none_alike_all, marks_before, order_read, order_sorted, order_all, small_rows}
 use Rattle.colouring.proofs.conflicts.marked_places_meet.Goals as goal
 

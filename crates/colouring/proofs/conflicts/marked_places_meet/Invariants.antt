@@ -1,5 +1,5 @@
 use Rattle.std.proofs.Common.{◌≡◌, ◌<◌, ◌*◌, ◌⊎◌, ℕ, get_or, length}
-use Rattle.colouring.specs.Rounds.{none}
+use Rattle.colouring.specs.Rows.{none}
 use Rattle.colouring.proofs.Alike.{NoneAlike}
 use Rattle.colouring.proofs.conflicts.marked_places_meet.Given as goal
 

@@ -1,4 +1,4 @@
-use Rattle.std.proofs.Common.{◌<◌, ℕ, rules, length, get_or, arith}
+use Rattle.std.proofs.Common.{ℕ, rules, get_or}
 use Rattle.std.proofs.lemmas.List.Sorted.{IsNonDecreasingBy-from_sort_by_key}
 use Rattle.colouring.proofs.Marking.{row_there, rows_are}
 use Rattle.colouring.proofs.meeting.order_rows.Goals as goal

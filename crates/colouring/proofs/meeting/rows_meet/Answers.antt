@@ -1,5 +1,5 @@
-use Rattle.std.proofs.Common.{◌≡◌, ◌<◌, ◌≤◌, ℕ, length, get_or, arith, ap}
-use Rattle.colouring.proofs.Marking.{found, none_more, marked_more, none_marked, mark_within}
+use Rattle.std.proofs.Common.{arith}
+use Rattle.colouring.proofs.Marking.{found, none_more, marked_more}
 use Rattle.colouring.proofs.meeting.rows_meet.Goals as goal
 
 pub returns-then-row_meets-clause-found : goal.returns-then-row_meets-clause-found

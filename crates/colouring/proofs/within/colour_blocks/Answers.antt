@@ -14,8 +14,8 @@ loop-block-preserved c =
     let next : (b + 1) * size ≡ b * size + 1 * size = add-mul b 1 size in
     record {
       least = within_more c.args.table.now c.args.width size c.args.places b c.bounds-first.result.0 c.bounds-first.result.1 c.loop-block.inner c.colour_places.new.inner c.requires.size first last n.least n.others i.least;
-      fresh = λ q l p. n.others q (λ x y. omega arith) ∙ i.fresh q (omega arith) p;
       clear = n.clear;
+      room = n.room ∙ i.room;
     }
 
 pub returns-clause-least : goal.returns-clause-least
