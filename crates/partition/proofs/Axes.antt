@@ -1,45 +1,45 @@
 -- Steps of searches for the greatest and the least value, and for the largest spread.
-use Rattle.std.proofs.Common.{◌≡◌, ℕ, ℤ, ◌+◌, ◌<◌, ◌≤◌, List, length, get_or, arith, ⊎_elim, subst}
+use Rattle.std.proofs.Common.{◌≡◌, ℕ, ℤ, ◌+◌, ◌-◌, ◌<◌, ◌≤◌, List, length, get_or, arith, ⊎_elim, subst}
 use Rattle.std.proofs.lemmas.Bool.{cases_eq}
 use Rattle.partition.specs.Bisect.{height, IsSpread}
 
 -- a new least value
-pub lower_step : (f : ℕ → ℕ) (best place here least : ℕ) → here ≡ f place → least ≡ f best → ((k : ℕ) → k < place → f best ≤ f k) → here < least → (k : ℕ) → k < place + 1 → f place ≤ f k
-lower_step f best place here least p q h l k lk = ⊎_elim
-    (λ (e : k ≡ place). rw e (omega arith))
-    (λ (n : k ≡ place → ⊥). let a : f best ≤ f k = h k (omega arith) in omega (arith, a, p, q, l))
+pub lower_step : (f : ℕ → ℕ) (least place here : ℕ) → here ≡ f place → ((k : ℕ) → k < place → least ≤ f k) → here < least → (k : ℕ) → k < place + 1 → here ≤ f k
+lower_step f least place here p h l k lk = ⊎_elim
+    (λ (e : k ≡ place). rw e (omega (arith, p)))
+    (λ (n : k ≡ place → ⊥). let a : least ≤ f k = h k (omega arith) in omega (arith, a, l))
     (cases_eq k place)
 
 -- the least value stays
-pub lower_kept : (f : ℕ → ℕ) (best place here least : ℕ) → here ≡ f place → least ≡ f best → ((k : ℕ) → k < place → f best ≤ f k) → least ≤ here → (k : ℕ) → k < place + 1 → f best ≤ f k
-lower_kept f best place here least p q h l k lk = ⊎_elim
-    (λ (e : k ≡ place). rw e (omega (arith, p, q, l)))
+pub lower_kept : (f : ℕ → ℕ) (least place here : ℕ) → here ≡ f place → ((k : ℕ) → k < place → least ≤ f k) → least ≤ here → (k : ℕ) → k < place + 1 → least ≤ f k
+lower_kept f least place here p h l k lk = ⊎_elim
+    (λ (e : k ≡ place). rw e (omega (arith, p, l)))
     (λ (n : k ≡ place → ⊥). h k (omega arith))
     (cases_eq k place)
 
 -- a new greatest value
-pub higher_step : (f : ℕ → ℕ) (best place here most : ℕ) → here ≡ f place → most ≡ f best → ((k : ℕ) → k < place → f k ≤ f best) → most < here → (k : ℕ) → k < place + 1 → f k ≤ f place
-higher_step f best place here most p q h l k lk = ⊎_elim
-    (λ (e : k ≡ place). rw e (omega arith))
-    (λ (n : k ≡ place → ⊥). let a : f k ≤ f best = h k (omega arith) in omega (arith, a, p, q, l))
+pub higher_step : (f : ℕ → ℕ) (most place here : ℕ) → here ≡ f place → ((k : ℕ) → k < place → f k ≤ most) → most < here → (k : ℕ) → k < place + 1 → f k ≤ here
+higher_step f most place here p h l k lk = ⊎_elim
+    (λ (e : k ≡ place). rw e (omega (arith, p)))
+    (λ (n : k ≡ place → ⊥). let a : f k ≤ most = h k (omega arith) in omega (arith, a, l))
     (cases_eq k place)
 
 -- the greatest value stays
-pub higher_kept : (f : ℕ → ℕ) (best place here most : ℕ) → here ≡ f place → most ≡ f best → ((k : ℕ) → k < place → f k ≤ f best) → here ≤ most → (k : ℕ) → k < place + 1 → f k ≤ f best
-higher_kept f best place here most p q h l k lk = ⊎_elim
-    (λ (e : k ≡ place). rw e (omega (arith, p, q, l)))
+pub higher_kept : (f : ℕ → ℕ) (most place here : ℕ) → here ≡ f place → ((k : ℕ) → k < place → f k ≤ most) → here ≤ most → (k : ℕ) → k < place + 1 → f k ≤ most
+higher_kept f most place here p h l k lk = ⊎_elim
+    (λ (e : k ≡ place). rw e (omega (arith, p, l)))
     (λ (n : k ≡ place → ⊥). h k (omega arith))
     (cases_eq k place)
 
 -- the spread from the greatest and the least value
-pub spread_from : (values : List ℤ) (dim a : ℕ) (xs : List ℕ) (high low most least : ℕ) → high < length xs → low < length xs → ((k : ℕ) → k < length xs → height values dim a (get_or xs k 0) ≤ height values dim a (get_or xs high 0)) → ((k : ℕ) → k < length xs → height values dim a (get_or xs low 0) ≤ height values dim a (get_or xs k 0)) → most ≡ height values dim a (get_or xs high 0) → least ≡ height values dim a (get_or xs low 0) → (d : ℕ) → d + least ≡ most → IsSpread values dim a xs d
-spread_from values dim a xs high low most least lh ll up down p q d e = record {
-  most = λ i j li lj. (let u = up i li in let v = down j lj in omega (arith, u, v, p, q, e));
+pub spread_from : (values : List ℤ) (dim a : ℕ) (xs : List ℕ) (high low most least : ℕ) → high < length xs → low < length xs → ((k : ℕ) → k < length xs → height values dim a (get_or xs k 0) ≤ most) → ((k : ℕ) → k < length xs → least ≤ height values dim a (get_or xs k 0)) → height values dim a (get_or xs high 0) ≡ most → height values dim a (get_or xs low 0) ≡ least → IsSpread values dim a xs (most - least)
+spread_from values dim a xs high low most least lh ll up down p q = record {
+  most = λ i j li lj. (let u = up i li in let v = down j lj in omega (arith, u, v));
   high = high;
   low = low;
   high_in = lh;
   low_in = ll;
-  reached = omega (arith, p, q, e);
+  reached = (let u = up low ll in omega (arith, u, p, q));
 }
 
 -- there is one spread

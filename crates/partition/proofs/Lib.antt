@@ -8,6 +8,8 @@ pub mod OneSet
 pub mod Axes
 pub mod Along
 pub mod Parts
+pub mod Sorting
+pub mod Parting
 pub mod Halving
 pub mod OneGrowth
 pub mod OneBisection

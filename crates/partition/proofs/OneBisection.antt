@@ -1,5 +1,5 @@
 -- By cuts a set has one list of owners.
-use Rattle.std.proofs.Common.{◌≡◌, ℕ, ℤ, zero, suc, ◌+◌, ◌-◌, ◌/◌, ◌<◌, ◌≤◌, ◌⊎◌, Bool, true, false, cond, List, [], ◌∷◌, ◌++◌, length, get_or, eqb, refl, sym, ap, ◌∙◌, arith, ⊎_elim, subst, inl, inr}
+use Rattle.std.proofs.Common.{◌≡◌, ℕ, ℤ, zero, suc, ◌+◌, ◌-◌, ◌/◌, ◌<◌, ◌≤◌, Bool, true, false, cond, List, [], ◌∷◌, ◌++◌, length, get_or, eqb, refl, sym, ap, ◌∙◌, arith, ⊎_elim, subst, inl, inr}
 use Rattle.std.specs.List.{Contains, sum_by}
 use Rattle.std.specs.List.Sorted.{IsPermutation}
 use Rattle.std.proofs.lemmas.Bool.{cases_Bool, cases_lt, eqb-true, eq-eqb}
@@ -8,6 +8,7 @@ use Rattle.std.proofs.lemmas.List.Sorted.{sum_by-IsPermutation, Contains-permuta
 use Rattle.std.proofs.lemmas.List.Sums.{sum_by-cons}
 use Rattle.partition.specs.Block.{block_start}
 use Rattle.partition.specs.Bisect.{height, IsAxis, IsAlong, IsCut, IsHalved, IsBisected}
+use Rattle.partition.proofs.Sorting.{Before, InOrder}
 
 -- ---- one list in order
 
@@ -32,13 +33,6 @@ stands y (x ∷ xs) h = ⊎_elim
     let w : (j : ℕ) × (j < length xs) × (get_or xs j 0 ≡ y) = stands y xs (omega arith) in
     (suc w.0, (let q : w.0 < length xs = w.1 in omega arith), w.2))
     (cases_Bool (eqb y x))
-
--- by (key, number)
-abbrev Before : (ℕ → ℕ) → ℕ → ℕ → Type 0
-Before key x y = (key x < key y) ⊎ ((key x ≡ key y) × (x ≤ y))
-
-abbrev InOrder : (ℕ → ℕ) → List ℕ → Type 0
-InOrder key xs = (i j : ℕ) → i < j → j < length xs → Before key (get_or xs i 0) (get_or xs j 0)
 
 -- the first is before or at each
 first_before : (key : ℕ → ℕ) (x y : ℕ) (xs : List ℕ) → InOrder key (x ∷ xs) → 0 < times y (x ∷ xs) → Before key x y

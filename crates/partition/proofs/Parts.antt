@@ -1,15 +1,15 @@
 -- The two parts of a cut, and what is so of owners after both have theirs.
-use Rattle.std.proofs.Common.{Result, Ok, Err, OnOk, ◌≡◌, ◌≢◌, ◌∙◌, ℕ, ℤ, zero, suc, ◌+◌, ◌-◌, ◌*◌, ◌/◌, ◌<◌, ◌≤◌, true, nat_eq, cond, List, ◌++◌, length, get_or, take, drop, arith, ap, sym, subst, refl, inl, inr, ⊎_elim}
+use Rattle.std.proofs.Common.{Result, Ok, Err, OnOk, ◌≡◌, ◌≢◌, ◌∙◌, ℕ, ℤ, zero, suc, ◌+◌, ◌-◌, ◌*◌, ◌/◌, ◌<◌, ◌≤◌, true, nat_eq, cond, List, ◌++◌, length, get_or, arith, sym, subst, refl, inl, inr, ⊎_elim}
 use Rattle.std.specs.List.{All, count_by, sum_by}
 use Rattle.std.specs.List.Sorted.{IsPermutation}
 use Rattle.std.proofs.lemmas.Bool.{eq-eqb}
-use Rattle.std.proofs.lemmas.List.{get_or_default, get_or_append_left, get_or-append-add, length-append, take-append-drop, length-take-le}
+use Rattle.std.proofs.lemmas.List.{get_or_default, get_or_append_left, get_or-append-add, length-append}
 use Rattle.std.proofs.lemmas.List.Sums.{sum_by-append, get_or-le-sum_by}
 use Rattle.std.proofs.lemmas.List.Sorted.{All-permutation, length_permutation, sum_by-IsPermutation}
 use Rattle.std.proofs.lemmas.Nat.{le-div}
 use Rattle.std.proofs.Math.Nat.{div-mul-le_self, mul-le-mul_right}
 use Rattle.partition.specs.Block.{block_start}
-use Rattle.partition.specs.Bisect.{IsAxis, IsAlong, IsCut, IsHalved}
+use Rattle.partition.specs.Bisect.{IsCut, IsHalved}
 
 -- a later rank's share begins no earlier
 pub start_le : (n r i j : ℕ) → 0 < r → i ≤ j → block_start n r i ≤ block_start n r j
@@ -17,17 +17,6 @@ start_le n r i j l h =
     let a : i * n / r * r ≤ i * n = div-mul-le_self (i * n) r in
     let b : i * n ≤ j * n = mul-le-mul_right {m = i} {n = j} n h in
     le-div (i * n / r) (j * n) r l (omega (arith, a, b))
-
--- the parts of an order along the axis
-pub cut_from : (values : List ℤ) (dim first axis : ℕ) (xs order lower upper : List ℕ) → IsAxis values dim xs axis → IsAlong values dim axis xs order → first ≤ length xs → lower ≡ take first order → upper ≡ drop first order → IsCut values dim first xs lower upper
-cut_from values dim first axis xs order lower upper longest along l p q =
-    let e : length order ≡ length xs = length_permutation xs order along.same in
-    record {
-      axis = axis;
-      longest = longest;
-      along = rw (p, q, take-append-drop first order) along;
-      count = ap (length {A = ℕ}) p ∙ length-take-le first order (omega (arith, l, e));
-    }
 
 all_of : (P : ℕ → Type 0) (xs lower upper : List ℕ) → IsPermutation xs (lower ++ upper) → ((k : ℕ) → k < length xs → P (get_or xs k 0)) → All P (lower ++ upper)
 all_of P xs lower upper perm h = All-permutation P xs (lower ++ upper) perm (λ k d l. subst P (get_or_default xs k 0 d l) (h k l))

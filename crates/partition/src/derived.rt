@@ -1,9 +1,10 @@
 // Owners by those of targets, or by those of the entries that name an element.
-ghost use Rattle.std.specs.Prelude.{◌≡◌, ℕ, true, ◌<◌, ◌≤◌, ◌/◌, ◌^◌, [], OnOk, IfOk, length, slice_index, slice_index_or};
+ghost use Rattle.std.specs.Prelude.{◌≡◌, ℕ, true, ◌+◌, ◌*◌, ◌<◌, ◌≤◌, ◌/◌, ◌^◌, [], OnOk, IfOk, length, slice_index, slice_index_or};
 ghost use Rattle.mesh_decl.specs.Mesh.{IsMapAt, map_count, set_size, map_from, map_to, map_dim, target};
 ghost use Rattle.rank_sets.specs.Below.{count_below};
 ghost use Rattle.partition.specs.Elected.{names, entries, gathered};
 ghost use Rattle.partition.specs.Derive.{AreByTargets, AreByNames};
+ghost use Rattle.partition.specs.Named.{AreNamed};
 
 use crate::elect::{most_frequent, most_frequent_or_block};
 use mesh_decl::Mesh;
@@ -63,6 +64,24 @@ pub fn elect_by_targets(
     Ok(elected)
 }
 
+// Counts one more entry for each target of an element, behind those of the elements before it.
+fn count_targets(counts: &mut [usize], mesh: &Mesh, map: u32, element: u32)
+    requires map { map < map_count mesh.now }
+    requires at { IsMapAt mesh.now map }
+    requires element { element < set_size mesh.now (map_from mesh.now map) }
+    requires length { length counts.old ≡ set_size mesh.now (map_to mesh.now map) }
+    requires counts { (y : ℕ) → y < set_size mesh.now (map_to mesh.now map)
+        → slice_index counts.old y ≡ count_below (element * map_dim mesh.now map) (names mesh.now map y) }
+    ensures { (y : ℕ) → y < set_size mesh.now (map_to mesh.now map)
+        → slice_index counts.new y ≡ count_below ((element + 1) * map_dim mesh.now map) (names mesh.now map y) }
+{
+    let (_, _, dim) = mesh.map_ends(map);
+    for place in 0..dim {
+        let target = mesh.target(map, element, place);
+        counts[target as usize] += 1;
+    }
+}
+
 // For each element of the set to which a map leads, how many entries name it.
 fn naming_counts(alloc: Global, mesh: &Mesh, map: u32) -> Result<Vec<usize>, OutOfMemory>
     requires map { map < map_count mesh.now }
@@ -71,15 +90,28 @@ fn naming_counts(alloc: Global, mesh: &Mesh, map: u32) -> Result<Vec<usize>, Out
     ensures counts { IfOk result (λ v. (y : ℕ) → y < set_size mesh.now (map_to mesh.now map)
         → slice_index v.items y ≡ count_below (entries mesh.now map) (names mesh.now map y)) }
 {
-    let (from, to, dim) = mesh.map_ends(map);
+    let (from, to, _) = mesh.map_ends(map);
     let mut counts = vec![in alloc; 0usize; mesh.set_size(to) as usize]?;
-    let entries = mesh.set_size(from) as u64 * dim as u64;
-    for entry in 0..entries {
-        let (element, place) = (entry / dim as u64, entry % dim as u64);
-        let target = mesh.target(map, element as u32, place as u32);
-        counts[target as usize] += 1;
+    for element in 0..mesh.set_size(from) {
+        count_targets(&mut counts, mesh, map, element);
     }
     Ok(counts)
+}
+
+// Puts the owner of an element into the row of each of its targets, behind those of the elements before it.
+fn push_owner(filling: &mut Filling, mesh: &Mesh, owners: &[u32], map: u32, element: u32)
+    requires map { map < map_count mesh.now }
+    requires at { IsMapAt mesh.now map }
+    requires owners { length owners.now ≡ set_size mesh.now (map_from mesh.now map) }
+    requires element { element < set_size mesh.now (map_from mesh.now map) }
+    requires rows { AreNamed mesh.now map owners.now (element * map_dim mesh.now map) filling.old }
+    ensures { AreNamed mesh.now map owners.now ((element + 1) * map_dim mesh.now map) filling.new }
+{
+    let (_, _, dim) = mesh.map_ends(map);
+    for place in 0..dim {
+        let target = mesh.target(map, element, place);
+        filling.push(target as usize, owners[element as usize]);
+    }
 }
 
 // For each element of the set to which a map leads, the owners of the entries that name it.
@@ -94,13 +126,10 @@ fn owners_naming(alloc: Global, mesh: &Mesh, owners: &[u32], map: u32) -> Result
         ≡ gathered (entries mesh.now map) (names mesh.now map y) (λ e. slice_index owners.now (e / map_dim mesh.now map))) }
 {
     let counts = naming_counts(alloc, mesh, map)?;
-    let (from, _, dim) = mesh.map_ends(map);
+    let (from, _, _) = mesh.map_ends(map);
     let mut filling = Filling::new(alloc, &counts)?;
-    let entries = mesh.set_size(from) as u64 * dim as u64;
-    for entry in 0..entries {
-        let (element, place) = (entry / dim as u64, entry % dim as u64);
-        let target = mesh.target(map, element as u32, place as u32);
-        filling.push(target as usize, owners[element as usize]);
+    for element in 0..mesh.set_size(from) {
+        push_owner(&mut filling, mesh, owners, map, element);
     }
     Ok(filling.finish())
 }

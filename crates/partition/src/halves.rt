@@ -1,10 +1,11 @@
 // Owners of one set by repeated halving.
-ghost use Rattle.std.specs.Prelude.{◌≡◌, ◌≢◌, ◌⊎◌, ℕ, ◌<◌, ◌≤◌, ◌+◌, ◌*◌, ◌-◌, ◌^◌, nat_eq, count_by, IfOk, OnOk, length, take, drop};
+ghost use Rattle.std.specs.Prelude.{◌≡◌, ◌≢◌, ◌⊎◌, ℕ, ◌<◌, ◌≤◌, ◌+◌, ◌*◌, ◌-◌, ◌^◌, nat_eq, count_by, IfOk, OnOk, length};
 ghost use Rattle.std.specs.Prelude.{slice_index};
 ghost use Rattle.partition.specs.Block.{block_start};
-ghost use Rattle.partition.specs.Bisect.{IsCut, IsHalved, IsBisected};
+ghost use Rattle.partition.specs.Bisect.{IsHalved, IsBisected};
+ghost use Rattle.partition.specs.Parted.{IsParted};
 
-use crate::axis::{longest_axis, order_along};
+use crate::axis::{longest_axis, part_along};
 use op_num::OutOfMemory;
 use std::alloc::Global;
 
@@ -29,46 +30,36 @@ fn give_all(owners: &mut [u32], elements: &[u32], rank: u32)
     }
 }
 
-// The first elements of a list, and the others.
-fn split(alloc: Global, elements: &[u32], first: usize) -> Result<(Vec<u32>, Vec<u32>), OutOfMemory>
-    requires { first ≤ length elements.now }
-    ensures lower { IfOk result (λ p. p.0.items ≡ take first elements.now) }
-    ensures upper { IfOk result (λ p. p.1.items ≡ drop first elements.now) }
-{
-    let lower = Vec::from_slice(alloc, &elements[..first])?;
-    let upper = Vec::from_slice(alloc, &elements[first..])?;
-    Ok((lower, upper))
-}
-
-// Along the axis with the largest spread the first elements, and the others.
+// Along the axis with the largest spread, moves the first elements to the first places. What is in `keys` is lost.
 fn cut(
-    alloc: Global,
+    keys: &mut Vec<u64>,
     values: &[i32],
     dim: u32,
-    elements: &[u32],
+    elements: &mut [u32],
     first: usize,
-) -> Result<(Vec<u32>, Vec<u32>), OutOfMemory>
+) -> Result<(), OutOfMemory>
     requires dim { 0 < dim }
-    requires some { 0 < length elements.now }
-    requires first { first ≤ length elements.now }
-    requires within { (k : ℕ) → k < length elements.now → slice_index elements.now k * dim + dim ≤ length values.now }
-    ensures { IfOk result (λ p. IsCut values.now dim first elements.now p.0.items p.1.items) }
+    requires some { 0 < length elements.old }
+    requires first { first ≤ length elements.old }
+    requires within { (k : ℕ) → k < length elements.old → slice_index elements.old k * dim + dim ≤ length values.now }
+    ensures { OnOk result (IsParted values.now dim first elements.old elements.new) }
 {
     let axis = longest_axis(values, dim, elements);
-    let ordered = order_along(alloc, values, dim, axis, elements)?;
-    let (lower, upper) = split(alloc, &ordered, first)?;
-    Ok((lower, upper))
+    if first < elements.len() {
+        part_along(keys, values, dim, axis, elements, first)?;
+    }
+    Ok(())
 }
 
-// Gives different elements to `many` ranks from `low` on, by halves.
+// Gives different elements to `many` ranks from `low` on, by halves. The elements are moved, and what is in `keys` is lost.
 fn halve(
-    alloc: Global,
+    keys: &mut Vec<u64>,
     owners: &mut [u32],
     values: &[i32],
     dim: u32,
     size: u32,
     ranks: u32,
-    elements: Vec<u32>,
+    elements: &mut [u32],
     low: u32,
     many: u32,
 ) -> Result<(), OutOfMemory>
@@ -77,38 +68,30 @@ fn halve(
     requires many { 0 < many }
     requires high { low + many ≤ ranks }
     requires size { length owners.old ≡ size }
-    requires below { (k : ℕ) → k < length elements.items → slice_index elements.items k < size }
-    requires within { (k : ℕ) → k < length elements.items → slice_index elements.items k * dim + dim ≤ length values.now }
-    requires once { (x : ℕ) → count_by (λ y. nat_eq y x) elements.items ≤ 1 }
-    requires share { length elements.items ≡ block_start size ranks (low + many) - block_start size ranks low }
+    requires below { (k : ℕ) → k < length elements.old → slice_index elements.old k < size }
+    requires within { (k : ℕ) → k < length elements.old → slice_index elements.old k * dim + dim ≤ length values.now }
+    requires once { (x : ℕ) → count_by (λ y. nat_eq y x) elements.old ≤ 1 }
+    requires share { length elements.old ≡ block_start size ranks (low + many) - block_start size ranks low }
     ensures halved { OnOk result ((depth : ℕ) → many ≤ depth
-        → IsHalved depth size ranks values.now dim (slice_index owners.new) low many elements.items) }
-    ensures kept { OnOk result ((x : ℕ) → ((k : ℕ) → k < length elements.items → slice_index elements.items k ≢ x)
+        → IsHalved depth size ranks values.now dim (slice_index owners.new) low many elements.old) }
+    ensures kept { OnOk result ((x : ℕ) → ((k : ℕ) → k < length elements.old → slice_index elements.old k ≢ x)
         → slice_index owners.new x ≡ slice_index owners.old x) }
     ensures ranks { OnOk result ((x : ℕ) → slice_index owners.old x < ranks → slice_index owners.new x < ranks) }
 {
     if many == 1 {
-        give_all(owners, &elements, low);
+        give_all(owners, elements, low);
         return Ok(());
     }
     if elements.is_empty() {
         return Ok(());
     }
     let half = many / 2;
-    let first = start_of(size, ranks, low + half) - start_of(size, ranks, low);
-    let (lower, upper) = cut(alloc, values, dim, &elements, first as usize)?;
-    halve(alloc, owners, values, dim, size, ranks, lower, low, half)?;
-    halve(
-        alloc,
-        owners,
-        values,
-        dim,
-        size,
-        ranks,
-        upper,
-        low + half,
-        many - half,
-    )
+    let first = (start_of(size, ranks, low + half) - start_of(size, ranks, low)) as usize;
+    cut(keys, values, dim, elements, first)?;
+    let (lower, upper) = elements.split_at_mut(first);
+    halve(keys, owners, values, dim, size, ranks, lower, low, half)?;
+    let (above, rest) = (low + half, many - half);
+    halve(keys, owners, values, dim, size, ranks, upper, above, rest)
 }
 
 // The numbers of so many elements.
@@ -140,15 +123,16 @@ pub fn bisect_set(
     ensures halved { IfOk result (λ v. IsBisected size ranks values.now dim v.items) }
 {
     let mut owners = vec![in alloc; 0u32; size as usize]?;
-    let elements = all_elements(alloc, size)?;
+    let mut elements = all_elements(alloc, size)?;
+    let mut keys = Vec::new(alloc);
     halve(
-        alloc,
+        &mut keys,
         &mut owners,
         values,
         dim,
         size,
         ranks,
-        elements,
+        &mut elements,
         0,
         ranks,
     )?;

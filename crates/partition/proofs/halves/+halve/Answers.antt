@@ -1,23 +1,20 @@
-use Rattle.std.proofs.Common.{◌++◌, ◌≡◌, ◌≢◌, ◌∙◌, ◌<◌, ◌≤◌, ◌+◌, ◌-◌, ◌*◌, ◌/◌, ℕ, List, length, get_or, arith, subst, sym}
-use Rattle.std.proofs.lemmas.Bool.{eqb-true}
+use Rattle.std.proofs.Common.{◌++◌, ◌≡◌, ◌≢◌, ◌∙◌, ◌<◌, ◌≤◌, ◌+◌, ◌-◌, ◌*◌, ◌/◌, ℕ, List, length, get_or, take, drop, arith, ap, subst}
 use Rattle.std.specs.List.Sorted.{IsPermutation}
 use Rattle.partition.specs.Block.{block_start}
-use Rattle.partition.specs.Bisect.{IsCut}
-use Rattle.partition.proofs.Parts.{lower_each, upper_each, upper_length, lower_once, upper_once, upper_share, halved_one, halved_none, halved_both, on_ok, both_ok}
+use Rattle.partition.specs.Parted.{IsParted}
+use Rattle.partition.proofs.Parts.{lower_each, upper_each, upper_length, lower_once, upper_once, lower_share, upper_share, on_ok, both_ok}
+use Rattle.partition.proofs.Parting.{parted_parts, halved_parted}
 use Rattle.partition.proofs.halves.+halve.Goals as goal
-
-pub returns-then-many-eq1-clause-halved : goal.returns-then-many-eq1-clause-halved
-returns-then-many-eq1-clause-halved t c = λ depth l. halved_one depth c.args.size c.args.ranks c.args.values.now c.args.dim (λ x. get_or c.give_all.new.owners x 0) c.args.low c.args.many c.args.elements.items (omega (arith, c.if-many-eq1.true)) l (subst (λ (z : List ℕ). (k : ℕ) → k < length z → get_or c.give_all.new.owners (get_or z k 0) 0 ≡ c.args.low) c.deref.ensures.value c.give_all.ensures.given)
-
-pub returns-then-is_empty-clause-halved : goal.returns-then-is_empty-clause-halved
-returns-then-is_empty-clause-halved t c = λ depth l. halved_none depth c.args.size c.args.ranks c.args.values.now c.args.dim (λ x. get_or c.args.owners.now x 0) c.args.low c.args.many c.args.elements.items c.requires.many l (let e : c.args.elements.len ≡ 0 = eqb-true c.args.elements.len 0 (sym c.is_empty.ensures ∙ c.if-is_empty.true) in omega (arith, e, c.args.elements.ok.0))
 
 pub halve-requires : goal.halve-requires
 halve-requires t c =
-    let xs : List ℕ = c.args.elements.items in
-    let lower : List ℕ = c.in_ok-lower.lower.items in
-    let upper : List ℕ = c.in_ok-lower.upper.items in
-    let perm : IsPermutation xs (lower ++ upper) = rw (sym c.deref-2.ensures.value) c.in_ok-lower.ensures.along.same in (
+    let xs : List ℕ = c.args.elements.now in
+    let ys : List ℕ = c.cut.new.elements in
+    let first : ℕ = c.start_of.result - c.start_of-2.result in
+    let lower : List ℕ = c.split_at_mut-lower.result.0.now in
+    let upper : List ℕ = c.split_at_mut-lower.result.1.now in
+    let parted : IsParted c.args.values.now c.args.dim first xs ys = c.in_ok-cut.ensures in
+    let perm : IsPermutation xs (lower ++ upper) = parted_parts c.args.values.now c.args.dim first xs ys lower upper parted c.split_at_mut-lower.ensures.front c.split_at_mut-lower.ensures.back in (
       omega (arith, c.decreases, c.requires.many, c.if-many-eq1.false),
       (
         c.requires.dim,
@@ -35,7 +32,7 @@ halve-requires t c =
                     lower_each (λ x. x * c.args.dim + c.args.dim ≤ length c.args.values.now) xs lower upper perm c.requires.within,
                     (
                       lower_once xs lower upper perm c.requires.once,
-                      c.in_ok-lower.ensures.count ∙ omega (arith, c.start_of.ensures, c.start_of-2.ensures),
+                      c.split_at_mut-lower.ensures.front_len ∙ omega (arith, c.start_of.ensures, c.start_of-2.ensures),
                     ),
                   ),
                 ),
@@ -48,10 +45,13 @@ halve-requires t c =
 
 pub halve-requires-2 : goal.halve-requires-2
 halve-requires-2 t c =
-    let xs : List ℕ = c.args.elements.items in
-    let lower : List ℕ = c.in_ok-lower.lower.items in
-    let upper : List ℕ = c.in_ok-lower.upper.items in
-    let perm : IsPermutation xs (lower ++ upper) = rw (sym c.deref-2.ensures.value) c.in_ok-lower.ensures.along.same in (
+    let xs : List ℕ = c.args.elements.now in
+    let ys : List ℕ = c.cut.new.elements in
+    let first : ℕ = c.start_of.result - c.start_of-2.result in
+    let lower : List ℕ = c.split_at_mut-lower.result.0.now in
+    let upper : List ℕ = c.split_at_mut-lower.result.1.now in
+    let parted : IsParted c.args.values.now c.args.dim first xs ys = c.in_ok-cut.ensures in
+    let perm : IsPermutation xs (lower ++ upper) = parted_parts c.args.values.now c.args.dim first xs ys lower upper parted c.split_at_mut-lower.ensures.front c.split_at_mut-lower.ensures.back in (
       omega (arith, c.decreases, c.requires.many, c.if-many-eq1.false),
       (
         c.requires.dim,
@@ -69,7 +69,7 @@ halve-requires-2 t c =
                     upper_each (λ x. x * c.args.dim + c.args.dim ≤ length c.args.values.now) xs lower upper perm c.requires.within,
                     (
                       upper_once xs lower upper perm c.requires.once,
-                      upper_share c.args.size c.args.ranks c.args.low c.args.many (length lower) (length upper) (length xs) (omega (arith, c.requires.many, c.requires.high)) (upper_length xs lower upper perm) (c.in_ok-lower.ensures.count ∙ omega (arith, c.start_of.ensures, c.start_of-2.ensures)) c.requires.share,
+                      upper_share c.args.size c.args.ranks c.args.low c.args.many (length lower) (length upper) (length xs) (omega (arith, c.requires.many, c.requires.high)) (upper_length xs lower upper perm) (c.split_at_mut-lower.ensures.front_len ∙ omega (arith, c.start_of.ensures, c.start_of-2.ensures)) c.requires.share,
                     ),
                   ),
                 ),
@@ -82,24 +82,29 @@ halve-requires-2 t c =
 
 pub returns-clause-halved : goal.returns-clause-halved
 returns-clause-halved t c =
-    let xs : List ℕ = c.args.elements.items in
-    let lower : List ℕ = c.in_ok-lower.lower.items in
-    let upper : List ℕ = c.in_ok-lower.upper.items in
-    let first : c.start_of.result - c.start_of-2.result ≡ block_start c.args.size c.args.ranks (c.args.low + c.args.many / 2) - block_start c.args.size c.args.ranks c.args.low = omega (arith, c.start_of.ensures, c.start_of-2.ensures) in
-    let cut : IsCut c.args.values.now c.args.dim (block_start c.args.size c.args.ranks (c.args.low + c.args.many / 2) - block_start c.args.size c.args.ranks c.args.low) xs lower upper = subst (λ z. IsCut c.args.values.now c.args.dim z xs lower upper) first (subst (λ z. IsCut c.args.values.now c.args.dim (c.start_of.result - c.start_of-2.result) z lower upper) c.deref-2.ensures.value c.in_ok-lower.ensures) in
+    let xs : List ℕ = c.args.elements.now in
+    let ys : List ℕ = c.cut.new.elements in
+    let begin : ℕ = block_start c.args.size c.args.ranks (c.args.low + c.args.many / 2) - block_start c.args.size c.args.ranks c.args.low in
+    let lower : List ℕ = c.split_at_mut-lower.result.0.now in
+    let upper : List ℕ = c.split_at_mut-lower.result.1.now in
+    let first : c.start_of.result - c.start_of-2.result ≡ begin = omega (arith, c.start_of.ensures, c.start_of-2.ensures) in
+    let parted : IsParted c.args.values.now c.args.dim begin xs ys = subst (λ z. IsParted c.args.values.now c.args.dim z xs ys) first c.in_ok-cut.ensures in
+    let fits : begin ≤ length xs = lower_share c.args.size c.args.ranks c.args.low c.args.many (length xs) (omega (arith, c.requires.many, c.requires.high)) c.requires.share in
     on_ok c.halve-2.result
-    (λ h. λ depth l. halved_both depth c.args.size c.args.ranks c.args.values.now c.args.dim (λ x. get_or c.halve.new.owners x 0) (λ x. get_or c.halve-2.new.owners x 0) c.args.low c.args.many xs lower upper (omega (arith, c.requires.many, c.if-many-eq1.false)) cut c.requires.once c.in_ok-halve.ensures.halved h.0 h.1 l)
+    (λ h. λ depth l. halved_parted depth c.args.size c.args.ranks c.args.values.now c.args.dim (λ x. get_or c.halve.new.owners x 0) (λ x. get_or c.halve-2.new.owners x 0) c.args.low c.args.many xs ys lower upper (omega (arith, c.requires.many, c.if-many-eq1.false)) fits parted
+    (c.split_at_mut-lower.ensures.front ∙ ap (λ z. take z ys) first) (c.split_at_mut-lower.ensures.back ∙ ap (λ z. drop z ys) first)
+    c.requires.once c.in_ok-halve.ensures.halved h.0 h.1 l)
     (both_ok _ _ c.halve-2.result c.halve-2.ensures.kept c.halve-2.ensures.halved)
 
 pub returns-clause-kept : goal.returns-clause-kept
 returns-clause-kept t c =
-    let xs : List ℕ = c.args.elements.items in
-    let lower : List ℕ = c.in_ok-lower.lower.items in
-    let upper : List ℕ = c.in_ok-lower.upper.items in
-    let perm : IsPermutation xs (lower ++ upper) = rw (sym c.deref-2.ensures.value) c.in_ok-lower.ensures.along.same in
+    let xs : List ℕ = c.args.elements.now in
+    let ys : List ℕ = c.cut.new.elements in
+    let first : ℕ = c.start_of.result - c.start_of-2.result in
+    let lower : List ℕ = c.split_at_mut-lower.result.0.now in
+    let upper : List ℕ = c.split_at_mut-lower.result.1.now in
+    let parted : IsParted c.args.values.now c.args.dim first xs ys = c.in_ok-cut.ensures in
+    let perm : IsPermutation xs (lower ++ upper) = parted_parts c.args.values.now c.args.dim first xs ys lower upper parted c.split_at_mut-lower.ensures.front c.split_at_mut-lower.ensures.back in
     on_ok c.halve-2.result
     (λ h. λ x out. h x (upper_each (λ y. y ≢ x) xs lower upper perm out) ∙ c.in_ok-halve.ensures.kept x (lower_each (λ y. y ≢ x) xs lower upper perm out))
     c.halve-2.ensures.kept
-
-pub returns-clause-ranks : goal.returns-clause-ranks
-returns-clause-ranks t c = on_ok c.halve-2.result (λ h. λ x l. h x (c.in_ok-halve.ensures.ranks x l)) c.halve-2.ensures.ranks
