@@ -1,32 +1,61 @@
 -- From the ranks that execute each element to those that import it.
-use Rattle.std.proofs.Common.{◌≡◌, ◌↔◌, ℕ, ◌<◌, Bool, true, false, not, ◌&&◌, ◌||◌, nat_eq, List, length, get_or, Vec, refl, sym, ap, ◌∙◌, arith, ⊎_elim, subst}
+use Rattle.std.proofs.Common.{◌≡◌, ◌↔◌, ℕ, ◌<◌, Bool, true, false, not, ◌&&◌, ◌||◌, nat_eq, List, [], ◌∷◌, ◌++◌, ◌+◌, length, get_or, Vec, refl, sym, ap, ◌∙◌, arith, ⊎_elim, subst}
 use Rattle.std.specs.declared.alloc.Global.{Global}
 use Rattle.std.proofs.lemmas.Bool.{eq-eqb, ne_eqb, eqb-true, and_parts, or_cases, false_from_ne_true, and_from, not_from_false}
 use Rattle.mesh_decl.specs.declared.owners.Owners.{Owners}
 use Rattle.rank_sets.specs.declared.rank_set.RankSet.{RankSet}
-use Rattle.rank_sets.specs.Below.{any_below, listed}
-use Rattle.rank_sets.specs.RankSet.{has_at}
+use Rattle.rank_sets.specs.Below.{any_below}
+use Rattle.rank_sets.specs.RankSet.{has, has_at}
 use Rattle.mesh_decl.specs.Mesh.{MeshValue, set_count, map_count, set_size, map_from, map_to, map_dim, target, IsInRange}
 use Rattle.mesh_decl.specs.Owners.{AreOwners, owner_of, owners_in}
 use Rattle.rank_sets.proofs.Bools.{same_Bool}
-use Rattle.rank_sets.proofs.Below.{any_witness, any_from, any_agree, listed_agree}
+use Rattle.rank_sets.proofs.Below.{any_witness, any_from, any_agree}
 use Rattle.halo_lists.specs.Halo.{reaches_by, reaches, owns, imports_execute, executes, named_by, named_from, named, imports_nonexecute, imports, is_core}
-use Rattle.halo_lists.specs.Halos.{Marks}
 use Rattle.halo_lists.specs.Sets.{AreExecuting, has_in, sets_in}
 use Rattle.halo_lists.proofs.SetsReading.{sets_read}
+use Rattle.halo_lists.proofs.Steps.{eqb_comm}
+use Rattle.std.proofs.lemmas.Bool.{cases_eq}
+use Rattle.std.proofs.lemmas.List.{get_or_push, get_or_append_left}
 
 without_own : (w h : Bool) → ((w || (not w && h)) && not w) ≡ (not w && h)
 without_own true h = refl
 without_own false true = refl
 without_own false false = refl
 
+-- the owner and those that own a target
+pub executed_or_reached : (g : MeshValue) (o : Owners) (s x r n : ℕ) → n ≡ map_count g → (owns o s x r || any_below n (λ m. nat_eq (map_from g m) s && reaches_by g o m x r)) ≡ executes g o s x r
+unfolding executes imports_execute reaches
+executed_or_reached g o s x r n e = ap (λ z. owns o s x r || any_below z (λ m. nat_eq (map_from g m) s && reaches_by g o m x r)) e ∙ or_reached (owns o s x r) (any_below (map_count g) (λ m. nat_eq (map_from g m) s && reaches_by g o m x r))
+  where
+    or_reached : (w h : Bool) → (w || h) ≡ (w || (not w && h))
+    or_reached true h = refl
+    or_reached false h = refl
+
+pub owned_at : (o : Owners) (s : ℕ) (owners : List ℕ) → owners ≡ owners_in o s → (x r : ℕ) → nat_eq (get_or owners x 0) r ≡ owns o s x r
+unfolding owns owner_of
+owned_at o s owners e x r = ap (λ (z : List ℕ). nat_eq (get_or z x 0) r) e
+
 -- the ranks that execute it, less its owner
-pub execute_marks : (g : MeshValue) (o : Owners) (s : ℕ) (here sets : List RankSet) (owners : List ℕ) → s < set_count g → length here ≡ set_size g s → owners ≡ owners_in o s → ((x r : ℕ) → x < set_size g s → has_at here x r ≡ executes g o s x r) → length sets ≡ length here → ((x r : ℕ) → x < length here → r < 64 → has_at sets x r ≡ (has_at here x r && not (nat_eq (get_or owners x 0) r))) → Marks (set_size g s) (imports_execute g o s) sets
-unfolding executes imports_execute owns owner_of
-execute_marks g o s here sets owners ls n e h m k = record {
-  count = m ∙ n;
-  has = λ x r l lr. k x r (rw n l) lr ∙ (ap (λ z. z && not (nat_eq (get_or owners x 0) r)) (h x r l) ∙ (ap (λ (z : List ℕ). (nat_eq (get_or (owners_in o s) x 0) r || (not (nat_eq (get_or (owners_in o s) x 0) r) && reaches g o s x r)) && not (nat_eq (get_or z x 0) r)) e ∙ without_own (nat_eq (get_or (owners_in o s) x 0) r) (reaches g o s x r)));
-}
+pub execute_has : (g : MeshValue) (o : Owners) (s x owner : ℕ) (executing none single exec : RankSet) → owner ≡ owner_of o s x → ((r : ℕ) → has executing r ≡ executes g o s x r) → ((r : ℕ) → has none r ≡ false) → ((r : ℕ) → has single r ≡ (has none r || nat_eq r owner)) → ((r : ℕ) → r < 64 → has exec r ≡ (has executing r && not (has single r))) → (r : ℕ) → r < 64 → has exec r ≡ imports_execute g o s x r
+unfolding executes imports_execute owns
+execute_has g o s x owner executing none single exec e h without one less r l =
+    let single_is : has single r ≡ nat_eq (owner_of o s x) r = one r ∙ (ap (λ z. z || nat_eq r owner) (without r) ∙ (eqb_comm r owner ∙ ap (λ z. nat_eq z r) e)) in
+    less r l ∙ (ap (λ z. has executing r && not z) single_is ∙ (ap (λ z. z && not (nat_eq (owner_of o s x) r)) (h r) ∙ without_own (nat_eq (owner_of o s x) r) (reaches g o s x r)))
+
+-- those that name it and don't execute it
+pub nonexecute_has : (g : MeshValue) (o : Owners) (s x : ℕ) (executing naming nonexec : RankSet) → ((r : ℕ) → has executing r ≡ executes g o s x r) → ((r : ℕ) → has naming r ≡ named g o s x r) → ((r : ℕ) → r < 64 → has nonexec r ≡ (has naming r && not (has executing r))) → (r : ℕ) → r < 64 → has nonexec r ≡ imports_nonexecute g o s x r
+unfolding imports_nonexecute
+nonexecute_has g o s x executing naming nonexec h k less r l = less r l ∙ (ap (λ z. z && not (has executing r)) (k r) ∙ ap (λ z. named g o s x r && not z) (h r))
+
+-- and either
+pub imports_has : (g : MeshValue) (o : Owners) (s x : ℕ) (exec nonexec either : RankSet) → ((r : ℕ) → r < 64 → has exec r ≡ imports_execute g o s x r) → ((r : ℕ) → r < 64 → has nonexec r ≡ imports_nonexecute g o s x r) → ((r : ℕ) → has either r ≡ (has exec r || has nonexec r)) → (r : ℕ) → r < 64 → has either r ≡ imports g o s x r
+unfolding imports
+imports_has g o s x exec nonexec either h k both r l = both r ∙ (ap (λ z. z || has nonexec r) (h r l) ∙ ap (λ z. imports_execute g o s x r || z) (k r l))
+
+-- of an element that is imported and has this owner
+pub owned_pair : (g : MeshValue) (o : Owners) (s x owner : ℕ) (either : Bool) (a r : ℕ) → owner ≡ owner_of o s x → either ≡ imports g o s x r → (either && nat_eq owner a) ≡ (imports g o s x r && owns o s x a)
+unfolding owns
+owned_pair g o s x owner either a r e h = ap (λ z. z && nat_eq owner a) h ∙ ap (λ z. imports g o s x r && nat_eq z a) e
 
 -- what is named by those that execute
 pub named_agree : (g : MeshValue) (o : Owners) (ranks : List (Vec RankSet Global)) (s y r : ℕ) → IsInRange g → AreExecuting g o ranks → named_from g (has_in ranks) s y r ≡ named g o s y r
@@ -34,20 +63,6 @@ unfolding named_from
 named_agree g o ranks s y r ok h = any_agree (map_count g) (λ m. nat_eq (map_to g m) s && named_by g (has_in ranks (map_from g m)) m y r) (λ m. nat_eq (map_to g m) s && named_by g (executes g o (map_from g m)) m y r)
     (λ m l. ap (λ z. nat_eq (map_to g m) s && z) (any_agree (set_size g (map_from g m)) (λ x. has_in ranks (map_from g m) x r && any_below (map_dim g m) (λ i. nat_eq (target g m x i) y)) (λ x. executes g o (map_from g m) x r && any_below (map_dim g m) (λ i. nat_eq (target g m x i) y))
     (λ x lx. ap (λ z. z && any_below (map_dim g m) (λ i. nat_eq (target g m x i) y)) (h.has (map_from g m) x r (ok.maps m l).from lx))))
-
-pub nonexecute_marks : (g : MeshValue) (o : Owners) (ranks : List (Vec RankSet Global)) (s : ℕ) (naming here sets : List RankSet) → IsInRange g → AreExecuting g o ranks → length naming ≡ set_size g s → ((y r : ℕ) → has_at naming y r ≡ named_from g (has_in ranks) s y r) → ((x r : ℕ) → x < set_size g s → has_at here x r ≡ executes g o s x r) → length sets ≡ length naming → ((x r : ℕ) → x < length naming → r < 64 → has_at sets x r ≡ (has_at naming x r && not (has_at here x r))) → Marks (set_size g s) (imports_nonexecute g o s) sets
-unfolding imports_nonexecute
-nonexecute_marks g o ranks s naming here sets ok ex n h k m q = record {
-  count = m ∙ n;
-  has = λ x r l lr. q x r (rw n l) lr ∙ (ap (λ z. z && not (has_at here x r)) (h x r ∙ named_agree g o ranks s x r ok ex) ∙ ap (λ z. named g o s x r && not z) (k x r l));
-}
-
-pub either_marks : (g : MeshValue) (o : Owners) (s : ℕ) (some others sets : List RankSet) → Marks (set_size g s) (imports_execute g o s) some → Marks (set_size g s) (imports_nonexecute g o s) others → length sets ≡ length some → ((x r : ℕ) → x < length some → has_at sets x r ≡ (has_at some x r || has_at others x r)) → Marks (set_size g s) (imports g o s) sets
-unfolding imports
-either_marks g o s some others sets a b m h = record {
-  count = m ∙ a.count;
-  has = λ x r l lr. h x r (rw a.count l) ∙ (ap (λ z. z || has_at others x r) (a.has x r l lr) ∙ ap (λ z. imports_execute g o s x r || z) (b.has x r l lr));
-}
 
 -- an owner is a rank
 owns_below : (g : MeshValue) (o : Owners) (s x r : ℕ) → AreOwners g o → s < set_count g → x < set_size g s → nat_eq (owner_of o s x) r ≡ true → r < o.ranks
@@ -141,18 +156,9 @@ pub owners_below : (g : MeshValue) (o : Owners) (s : ℕ) (now : List ℕ) → A
 unfolding owner_of
 owners_below g o s now ok l e x lx = let n : length now ≡ set_size g s = owners_count g o s now ok l e in rw e (ok.below s x l (omega arith))
 
-pub same_marks : (n : ℕ) (p : ℕ → ℕ → Bool) (now sets : List RankSet) → now ≡ sets → Marks n p sets → Marks n p now
-same_marks n p now sets e m = record { count = ap (length {A = RankSet}) e ∙ m.count; has = λ x r l lr. ap (λ (z : List RankSet). has_at z x r) e ∙ m.has x r l lr }
-
--- a bound on the ranks that stand in marks
-pub marks_below : (n ranks : ℕ) (p : ℕ → ℕ → Bool) (sets : List RankSet) → Marks n p sets → ((x r : ℕ) → x < n → p x r ≡ true → r < ranks) → (x r : ℕ) → x < length sets → r < 64 → has_at sets x r ≡ true → r < ranks
-marks_below n ranks p sets m h x r l lr t = let lx : x < n = rw (← m.count) l in h x r lx (sym (m.has x r lx lr) ∙ t)
-
-pub listed_marks : (n : ℕ) (p : ℕ → ℕ → Bool) (sets : List RankSet) → Marks n p sets → (r : ℕ) → r < 64 → listed (length sets) (λ x. has_at sets x r) ≡ listed n (λ x. p x r)
-listed_marks n p sets m r lr = ap (λ z. listed z (λ x. has_at sets x r)) m.count ∙ listed_agree n (λ x. has_at sets x r) (λ x. p x r) (λ x l. m.has x r l lr)
-
-pub listed_exports : (o : Owners) (s n : ℕ) (p : ℕ → ℕ → Bool) (sets : List RankSet) (owners : List ℕ) → owners ≡ owners_in o s → Marks n p sets → (a r : ℕ) → r < 64 → listed (length sets) (λ x. has_at sets x r && nat_eq (get_or owners x 0) a) ≡ listed n (λ x. p x r && owns o s x a)
-unfolding owns owner_of
-listed_exports o s n p sets owners e m a r lr =
-    ap (λ z. listed z (λ x. has_at sets x r && nat_eq (get_or owners x 0) a)) m.count
-    ∙ listed_agree n (λ x. has_at sets x r && nat_eq (get_or owners x 0) a) (λ x. p x r && nat_eq (get_or (owners_in o s) x 0) a) (λ x l. ap (λ z. z && nat_eq (get_or owners x 0) a) (m.has x r l lr) ∙ ap (λ (z : List ℕ). p x r && nat_eq (get_or z x 0) a) e)
+-- one more mark
+pub core_more : (g : MeshValue) (o : Owners) (s n : ℕ) (core : List Bool) (b : Bool) → IsInRange g → AreOwners g o → s < set_count g → n < set_size g s → length core ≡ n → ((x : ℕ) → x < n → get_or core x false ≡ is_core g o s x) → (b ≡ true) ↔ ((r : ℕ) → r < 64 → imports_execute g o s n r ≡ false) → (x : ℕ) → x < n + 1 → get_or (core ++ b ∷ []) x false ≡ is_core g o s x
+core_more g o s n core b ok own ls ln e h k x l = ⊎_elim
+    (λ (q : x ≡ n). rw q (get_or_push core b false n e ∙ core_iff g o s n ok own ls ln b k))
+    (λ (m : x ≡ n → ⊥). let lx : x < n = omega arith in get_or_append_left core (b ∷ []) false x (rw e lx) ∙ h x lx)
+    (cases_eq x n)

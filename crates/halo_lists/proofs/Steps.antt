@@ -1,7 +1,6 @@
 -- Steps of the loops that collect marks.
-use Rattle.std.proofs.Common.{◌≡◌, ℕ, ◌+◌, ◌<◌, Bool, true, false, ◌&&◌, ◌||◌, nat_eq, List, [], ◌∷◌, ◌++◌, length, get_or, set, refl, sym, ap, ◌∙◌, arith, ⊎_elim, subst, ◌↔◌}
+use Rattle.std.proofs.Common.{◌≡◌, ℕ, ◌+◌, ◌<◌, ◌≤◌, Bool, true, false, ◌&&◌, ◌||◌, nat_eq, List, [], ◌∷◌, ◌++◌, length, set, refl, sym, ap, ◌∙◌, arith, ⊎_elim}
 use Rattle.std.proofs.lemmas.Bool.{cases_eq, eq-eqb, ne_eqb}
-use Rattle.std.proofs.lemmas.List.{get_or_push, get_or_append_left}
 use Rattle.rank_sets.specs.Below.{any_below}
 use Rattle.rank_sets.specs.RankSet.{has, has_at}
 use Rattle.rank_sets.specs.declared.rank_set.RankSet.{RankSet}
@@ -48,25 +47,31 @@ map_step_yes old now n e p h t k = k ∙ (ap (λ z. z || p n) h ∙ (ap (λ z. a
 pub map_step_no : (old : Bool) (n : ℕ) (e p : ℕ → Bool) → old ≡ any_below n (λ m. e m && p m) → e n ≡ false → old ≡ any_below (n + 1) (λ m. e m && p m)
 map_step_no old n e p h t = h ∙ (sym (or_false (any_below n (λ m. e m && p m))) ∙ (ap (λ z. any_below n (λ m. e m && p m) || (z && p n)) (sym t) ∙ sym (any_more n (λ m. e m && p m))))
 
+-- the same beside what is so already
+pub own_step_yes : (b old now : Bool) (n : ℕ) (e p : ℕ → Bool) → old ≡ (b || any_below n (λ m. e m && p m)) → e n ≡ true → now ≡ (old || p n) → now ≡ (b || any_below (n + 1) (λ m. e m && p m))
+own_step_yes b old now n e p h t k = any_step b old now n (λ m. e m && p m) h (k ∙ ap (λ z. old || (z && p n)) (sym t))
+
+pub own_step_no : (b old : Bool) (n : ℕ) (e p : ℕ → Bool) → old ≡ (b || any_below n (λ m. e m && p m)) → e n ≡ false → old ≡ (b || any_below (n + 1) (λ m. e m && p m))
+own_step_no b old n e p h t = any_step b old old n (λ m. e m && p m) h (sym (or_false old) ∙ ap (λ z. old || (z && p n)) (sym t))
+
+pub none_yet : (b : Bool) → b ≡ (b || false)
+none_yet b = sym (or_false b)
+
+-- one more set written, of sets that were there
+pub set_more : (now initial : List RankSet) (n : ℕ) (s : RankSet) (p : ℕ → ℕ → Bool) → n < length now → ((r : ℕ) → has s r ≡ (has_at now n r || p n r)) → ((x r : ℕ) → x < n → has_at now x r ≡ (has_at initial x r || p x r)) → ((x r : ℕ) → n ≤ x → has_at now x r ≡ has_at initial x r) → (x r : ℕ) → x < n + 1 → has_at (set now n s) x r ≡ (has_at initial x r || p x r)
+set_more now initial n s p l h before behind x r lx = ⊎_elim
+    (λ (q : x ≡ n). rw q (has_at_set_same now n s l r ∙ (h r ∙ ap (λ z. z || p n r) (behind n r (omega arith)))))
+    (λ (m : x ≡ n → ⊥). has_at_set_other now n x s m r ∙ before x r (omega arith))
+    (cases_eq x n)
+
+pub set_kept : (now initial : List RankSet) (n : ℕ) (s : RankSet) → ((x r : ℕ) → n ≤ x → has_at now x r ≡ has_at initial x r) → (x r : ℕ) → n + 1 ≤ x → has_at (set now n s) x r ≡ has_at initial x r
+set_kept now initial n s behind x r l = has_at_set_other now n x s (λ e. omega (arith, e, l)) r ∙ behind x r (omega arith)
+
 -- one more set pushed
 pub has_more : (xs : List RankSet) (s : RankSet) (n : ℕ) (p : ℕ → ℕ → Bool) → length xs ≡ n → ((x r : ℕ) → x < n → has_at xs x r ≡ p x r) → ((r : ℕ) → has s r ≡ p n r) → (x r : ℕ) → x < n + 1 → has_at (xs ++ s ∷ []) x r ≡ p x r
 has_more xs s n p e h k x r l = ⊎_elim
     (λ (q : x ≡ n). rw q (has_at_push xs s n e r ∙ k r))
     (λ (m : x ≡ n → ⊥). let lx : x < n = omega arith in has_at_push_left xs s x (rw e lx) r ∙ h x r lx)
-    (cases_eq x n)
-
--- one more set pushed, for ranks below 64
-pub has_more_below : (xs : List RankSet) (s : RankSet) (n : ℕ) (p : ℕ → ℕ → Bool) → length xs ≡ n → ((x r : ℕ) → x < n → r < 64 → has_at xs x r ≡ p x r) → ((r : ℕ) → r < 64 → has s r ≡ p n r) → (x r : ℕ) → x < n + 1 → r < 64 → has_at (xs ++ s ∷ []) x r ≡ p x r
-has_more_below xs s n p e h k x r l lr = ⊎_elim
-    (λ (q : x ≡ n). rw q (has_at_push xs s n e r ∙ k r lr))
-    (λ (m : x ≡ n → ⊥). let lx : x < n = omega arith in has_at_push_left xs s x (rw e lx) r ∙ h x r lx lr)
-    (cases_eq x n)
-
--- one more answer pushed
-pub answer_more : (xs : List Bool) (b : Bool) (n : ℕ) (P : ℕ → Type 0) → length xs ≡ n → ((x : ℕ) → x < n → (get_or xs x false ≡ true) ↔ P x) → (b ≡ true) ↔ P n → (x : ℕ) → x < n + 1 → (get_or (xs ++ b ∷ []) x false ≡ true) ↔ P x
-answer_more xs b n P e h k x l = ⊎_elim
-    (λ (q : x ≡ n). subst (λ z. (get_or (xs ++ b ∷ []) z false ≡ true) ↔ P z) (sym q) (rw (get_or_push xs b false n e) k))
-    (λ (m : x ≡ n → ⊥). let lx : x < n = omega arith in rw (get_or_append_left xs (b ∷ []) false x (rw e lx)) (h x lx))
     (cases_eq x n)
 
 pub eqb_comm : (a b : ℕ) → nat_eq a b ≡ nat_eq b a

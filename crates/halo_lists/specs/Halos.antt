@@ -1,13 +1,10 @@
 -- What the halos of a mesh hold.
-use Rattle.std.specs.Prelude.{◌≡◌, ℕ, Bool, false, ◌<◌, ◌&&◌, List, length, slice_index_or}
+use Rattle.std.specs.Prelude.{◌≡◌, ℕ, false, ◌<◌, ◌&&◌, length, slice_index_or}
 use Rattle.mesh_decl.specs.declared.owners.Owners.{Owners}
 use Rattle.rank_sets.specs.Below.{listed, row, rows}
 use Rattle.mesh_decl.specs.Mesh.{MeshValue, set_count, set_size}
 use Rattle.halo_lists.specs.declared.types.SetHalo.{SetHalo}
 use Rattle.halo_lists.specs.declared.types.Halos.{Halos}
-use Rattle.halo_lists.specs.declared.types.ImportSets.{ImportSets}
-use Rattle.rank_sets.specs.declared.rank_set.RankSet.{RankSet}
-use Rattle.rank_sets.specs.RankSet.{has_at}
 use Rattle.halo_lists.specs.Halo.{imports_execute, imports_nonexecute, imports, is_core, owns}
 
 -- by rank the import execute and import non-execute lists, by owner and rank the exports, and the core elements
@@ -29,13 +26,15 @@ pub record AreHalos (g : MeshValue) (o : Owners) (h : Halos) : Type 0 where
   pub count : length h.sets.items ≡ set_count g
   pub sets : (s : ℕ) (d : SetHalo) → s < set_count g → IsSetHalo g o s (slice_index_or h.sets.items s d)
 
--- one set of ranks for each number below n, in which rank r is exactly where p says
-pub record Marks (n : ℕ) (p : ℕ → ℕ → Bool) (sets : List RankSet) : Type 0 where
-  pub count : length sets ≡ n
-  pub has : (x r : ℕ) → x < n → r < 64 → has_at sets x r ≡ p x r
-
--- the ranks that import each element
-pub record AreImports (g : MeshValue) (o : Owners) (s : ℕ) (i : ImportSets) : Type 0 where
-  pub exec : Marks (set_size g s) (imports_execute g o s) i.exec.items
-  pub nonexec : Marks (set_size g s) (imports_nonexecute g o s) i.nonexec.items
-  pub either : Marks (set_size g s) (imports g o s) i.either.items
+-- the same of the elements below n alone
+pub record IsHaloBelow (g : MeshValue) (o : Owners) (s n : ℕ) (h : SetHalo) : Type 0 where
+  pub exec_count : length h.exec.items ≡ o.ranks
+  pub exec : (r : ℕ) → r < o.ranks → row h.exec.items r ≡ listed n (λ x. imports_execute g o s x r)
+  pub nonexec_count : length h.nonexec.items ≡ o.ranks
+  pub nonexec : (r : ℕ) → r < o.ranks → row h.nonexec.items r ≡ listed n (λ x. imports_nonexecute g o s x r)
+  pub export_count : length h.exports.items ≡ o.ranks
+  pub export_counts : (a : ℕ) → a < o.ranks → length (rows h.exports.items a) ≡ o.ranks
+  pub exports : (a r : ℕ) → a < o.ranks → r < o.ranks
+      → row (rows h.exports.items a) r ≡ listed n (λ x. imports g o s x r && owns o s x a)
+  pub core_count : length h.core.items ≡ n
+  pub core : (x : ℕ) → x < n → slice_index_or h.core.items x false ≡ is_core g o s x

@@ -1,14 +1,14 @@
 // Exports by owner and rank.
-ghost use Rattle.std.specs.Prelude.{◌≡◌, ℕ, Bool, true, ◌<◌, ◌≤◌, ◌^◌, ◌&&◌, nat_eq, IfOk, OnOk, length, slice_index, cond, [], ◌∷◌, ◌++◌};
-ghost use Rattle.rank_sets.specs.Below.{listed, row, rows};
-ghost use Rattle.rank_sets.specs.RankSet.{has, has_at};
+ghost use Rattle.std.specs.Prelude.{◌≡◌, ℕ, Bool, true, ◌<◌, ◌≤◌, ◌^◌, ◌&&◌, nat_eq, IfOk, OnOk, length, cond, [], ◌∷◌, ◌++◌};
+ghost use Rattle.rank_sets.specs.Below.{row, rows};
+ghost use Rattle.rank_sets.specs.RankSet.{has};
 
 use op_num::OutOfMemory;
 use rank_sets::{RankSet, empty_lists, push_each};
 use std::alloc::Global;
 
 /// Appends an element to its owner's list for each rank of a set.
-fn push_export(
+pub fn push_export(
     exports: &mut [Vec<Vec<u32>>],
     owner: u32,
     element: u32,
@@ -27,7 +27,7 @@ fn push_export(
 }
 
 /// As many times empty lists as told, as many as told.
-fn empty_exports(alloc: Global, count: u32) -> Result<Vec<Vec<Vec<u32>>>, OutOfMemory>
+pub fn empty_exports(alloc: Global, count: u32) -> Result<Vec<Vec<Vec<u32>>>, OutOfMemory>
     ensures length { IfOk result (λ v. length v.items ≡ count) }
     ensures lengths { IfOk result (λ v. (a : ℕ) → a < count → length (rows v.items a) ≡ count) }
     ensures empty { IfOk result (λ v. (a r : ℕ) → a < count → r < count → row (rows v.items a) r ≡ []) }
@@ -35,35 +35,6 @@ fn empty_exports(alloc: Global, count: u32) -> Result<Vec<Vec<Vec<u32>>>, OutOfM
     let mut exports = Vec::new(alloc);
     for _owner in 0..count {
         exports.push(empty_lists(alloc, count)?)?;
-    }
-    Ok(exports)
-}
-
-/// For each owner and each rank the owner's elements that the rank imports, in increasing order.
-pub fn exports_by_owner(
-    alloc: Global,
-    imports: &[RankSet],
-    owners: &[u32],
-    ranks: u32,
-) -> Result<Vec<Vec<Vec<u32>>>, OutOfMemory>
-    requires few { ranks ≤ 64 }
-    requires lengths { length imports.now ≡ length owners.now }
-    requires length { length imports.now < 2 ^ 32 }
-    requires owners { (x : ℕ) → x < length owners.now → slice_index owners.now x < ranks }
-    requires below { (x r : ℕ) → x < length imports.now → r < 64 → has_at imports.now x r ≡ true → r < ranks }
-    ensures length { IfOk result (λ v. length v.items ≡ ranks) }
-    ensures lengths { IfOk result (λ v. (a : ℕ) → a < ranks → length (rows v.items a) ≡ ranks) }
-    ensures lists { IfOk result (λ v. (a r : ℕ) → a < ranks → r < ranks
-        → row (rows v.items a) r ≡ listed (length imports.now) (λ x. has_at imports.now x r && nat_eq (slice_index owners.now x) a)) }
-{
-    let mut exports = empty_exports(alloc, ranks)?;
-    for element in 0..imports.len() {
-        push_export(
-            &mut exports,
-            owners[element],
-            element as u32,
-            imports[element],
-        )?;
     }
     Ok(exports)
 }

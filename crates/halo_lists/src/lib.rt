@@ -5,11 +5,11 @@
 //! each as a condition on owners and targets; the lists hold exactly the elements that meet it.
 #![tactic(auto)]
 
-ghost use Rattle.std.specs.Prelude.{◌≡◌, ℕ, ◌<◌, IfOk};
-ghost use Rattle.mesh_decl.specs.Mesh.{set_count, set_size, IsInRange};
+ghost use Rattle.std.specs.Prelude.{◌<◌, IfOk};
+ghost use Rattle.mesh_decl.specs.Mesh.{set_count, IsInRange};
 ghost use Rattle.mesh_decl.specs.Owners.{AreOwners};
 ghost use Rattle.halo_lists.specs.Sets.{AreExecuting};
-ghost use Rattle.halo_lists.specs.Halos.{IsSetHalo, AreHalos, AreImports};
+ghost use Rattle.halo_lists.specs.Halos.{IsSetHalo, AreHalos};
 
 mod exports;
 mod fit;
@@ -19,7 +19,6 @@ mod named;
 mod split;
 mod types;
 
-use exports::exports_by_owner;
 pub use fit::owners_fit;
 pub use laws::{
     core_targets_are_owned, execute_halo_owns_a_target, executed_targets_are_copies,
@@ -29,10 +28,9 @@ use masks::executing_all;
 use mesh_decl::{Mesh, Owners};
 use named::naming_all;
 use op_num::OutOfMemory;
-use rank_sets::{RankSet, places_by_rank};
-use split::{core_places, import_either, import_execute, import_nonexecute};
+use rank_sets::RankSet;
+use split::set_halo;
 use std::alloc::Global;
-use types::ImportSets;
 pub use types::{Halos, SetHalo};
 
 // For each element of each set, the ranks that execute it.
@@ -52,52 +50,24 @@ fn executing_sets(
     Ok(executing)
 }
 
-// For each element of a set, the ranks that import it.
-fn import_sets(
+// The halos of one set, from the ranks that execute each element of each set.
+fn halo_of(
     alloc: Global,
     mesh: &Mesh,
     owners: &Owners,
     executing: &[Vec<RankSet>],
     set: u32,
-) -> Result<ImportSets, OutOfMemory>
+) -> Result<SetHalo, OutOfMemory>
     requires mesh { IsInRange mesh.now }
     requires owners { AreOwners mesh.now owners.now }
     requires executing { AreExecuting mesh.now owners.now executing.now }
     requires set { set < set_count mesh.now }
-    ensures { IfOk result (λ i. AreImports mesh.now owners.now set i) }
+    ensures { IfOk result (IsSetHalo mesh.now owners.now set) }
 {
-    let here = &executing[set as usize];
     let naming = naming_all(alloc, mesh, executing, set)?;
-    let exec = import_execute(alloc, here, owners.of_set(set))?;
-    let nonexec = import_nonexecute(alloc, &naming, here)?;
-    let either = import_either(alloc, &exec, &nonexec)?;
-    Ok(ImportSets {
-        exec,
-        nonexec,
-        either,
-    })
-}
-
-// The halos of one set, from the ranks that import each of its elements.
-fn set_halo(
-    alloc: Global,
-    mesh: &Mesh,
-    owners: &Owners,
-    imports: &ImportSets,
-    set: u32,
-) -> Result<SetHalo, OutOfMemory>
-    requires mesh { IsInRange mesh.now }
-    requires owners { AreOwners mesh.now owners.now }
-    requires imports { AreImports mesh.now owners.now set imports.now }
-    requires set { set < set_count mesh.now }
-    ensures { IfOk result (λ h. IsSetHalo mesh.now owners.now set h) }
-{
-    Ok(SetHalo {
-        exec: places_by_rank(alloc, &imports.exec, owners.ranks)?,
-        nonexec: places_by_rank(alloc, &imports.nonexec, owners.ranks)?,
-        exports: exports_by_owner(alloc, &imports.either, owners.of_set(set), owners.ranks)?,
-        core: core_places(alloc, &imports.exec)?,
-    })
+    let here = &executing[set as usize];
+    let halo = set_halo(alloc, mesh, owners, set, here, &naming)?;
+    Ok(halo)
 }
 
 /// The halos of each set of a mesh, under `owners` that fit it. It takes time linear in the elements, the maps' targets
@@ -110,8 +80,7 @@ pub fn halos(alloc: Global, mesh: &Mesh, owners: &Owners) -> Result<Halos, OutOf
     let executing = executing_sets(alloc, mesh, owners)?;
     let mut sets = Vec::new(alloc);
     for set in 0..mesh.set_count() {
-        let imports = import_sets(alloc, mesh, owners, &executing, set)?;
-        sets.push(set_halo(alloc, mesh, owners, &imports, set)?)?;
+        sets.push(halo_of(alloc, mesh, owners, &executing, set)?)?;
     }
     Ok(Halos {
         ranks: owners.ranks,

@@ -1,11 +1,11 @@
 // The ranks that execute an element.
 ghost use Rattle.std.specs.Prelude.{◌≡◌, ℕ, Bool, false, true, ◌<◌, ◌≤◌, ◌↔◌, ◌&&◌, ◌||◌, not, nat_eq, IsTrue, IsSome, IfSome, IfNone};
-ghost use Rattle.std.specs.Prelude.{IfOk, length, slice_index_or};
+ghost use Rattle.std.specs.Prelude.{IfOk, length, slice_index};
 ghost use Rattle.rank_sets.specs.Below.{any_below};
 ghost use Rattle.mesh_decl.specs.Mesh.{map_count, set_count, set_size, map_from, map_to, map_dim, target, IsInRange};
-ghost use Rattle.mesh_decl.specs.Owners.{AreOwners, owner_of};
+ghost use Rattle.mesh_decl.specs.Owners.{AreOwners};
 ghost use Rattle.rank_sets.specs.RankSet.{has, has_at};
-ghost use Rattle.halo_lists.specs.Halo.{reaches_by, reaches, executes, owns};
+ghost use Rattle.halo_lists.specs.Halo.{reaches_by, executes};
 
 use mesh_decl::{Mesh, Owners};
 use op_num::OutOfMemory;
@@ -29,37 +29,37 @@ fn owners_by(mesh: &Mesh, owners: &Owners, map: u32, element: u32) -> RankSet
     ranks
 }
 
-#[tactic(auto, unfolding(crate::specs::Halo::reaches))]
-/// The owners of an element's targets by all maps.
-fn owners_reached(mesh: &Mesh, owners: &Owners, set: u32, element: u32) -> RankSet
+/// Adds the owners of the targets by one map to the sets of a map's from set.
+fn reach_by(sets: &mut [RankSet], mesh: &Mesh, owners: &Owners, map: u32)
     requires mesh { IsInRange mesh.now }
     requires owners { AreOwners mesh.now owners.now }
-    requires element { element < set_size mesh.now set }
-    ensures { (r : ℕ) → has result r ≡ reaches mesh.now owners.now set element r }
+    requires map { map < map_count mesh.now }
+    requires length { length sets.old ≡ set_size mesh.now (map_from mesh.now map) }
+    ensures { (x r : ℕ) → x < set_size mesh.now (map_from mesh.now map)
+        → has_at sets.new x r ≡ (has_at sets.old x r || reaches_by mesh.now owners.now map x r) }
 {
-    let mut ranks = RankSet::empty();
-    for map in 0..mesh.map_count() {
-        let (from, _, _) = mesh.map_ends(map);
-        if from == set {
-            ranks = ranks.union(owners_by(mesh, owners, map, element));
-        }
+    let (from, _, _) = mesh.map_ends(map);
+    for element in 0..mesh.set_size(from) {
+        let reached = owners_by(mesh, owners, map, element);
+        let at = element as usize;
+        sets[at] = sets[at].union(reached);
     }
-    ranks
 }
 
-/// The ranks that execute an element: its owner, and the owners of its targets.
-#[tactic(auto, unfolding(crate::specs::Halo::executes, crate::specs::Halo::imports_execute, crate::specs::Halo::owns))]
-pub fn executing(mesh: &Mesh, owners: &Owners, set: u32, element: u32) -> RankSet
-    requires mesh { IsInRange mesh.now }
-    requires owners { AreOwners mesh.now owners.now }
-    requires set { set < set_count mesh.now }
-    requires element { element < set_size mesh.now set }
-    ensures { (r : ℕ) → has result r ≡ executes mesh.now owners.now set element r }
+// For each element the set of its owner alone.
+fn owner_sets(alloc: Global, owners: &[u32]) -> Result<Vec<RankSet>, OutOfMemory>
+    requires { (x : ℕ) → x < length owners.now → slice_index owners.now x < 64 }
+    ensures length { IfOk result (λ v. length v.items ≡ length owners.now) }
+    ensures has { IfOk result (λ v. (x r : ℕ) → x < length owners.now → has_at v.items x r ≡ nat_eq (slice_index owners.now x) r) }
 {
-    owners_reached(mesh, owners, set, element).with(owners.rank_of(set, element))
+    let mut sets = Vec::with_capacity(alloc, owners.len())?;
+    for owner in owners {
+        sets.push(RankSet::empty().with(*owner))?;
+    }
+    Ok(sets)
 }
 
-/// The ranks that execute each element of a set.
+/// The ranks that execute each element of a set: its owner, and the owners of its targets.
 pub fn executing_all(
     alloc: Global,
     mesh: &Mesh,
@@ -72,9 +72,12 @@ pub fn executing_all(
     ensures length { IfOk result (λ v. length v.items ≡ set_size mesh.now set) }
     ensures has { IfOk result (λ v. (x r : ℕ) → x < set_size mesh.now set → has_at v.items x r ≡ executes mesh.now owners.now set x r) }
 {
-    let mut sets = Vec::new(alloc);
-    for element in 0..mesh.set_size(set) {
-        sets.push(executing(mesh, owners, set, element))?;
+    let mut sets = owner_sets(alloc, owners.of_set(set))?;
+    for map in 0..mesh.map_count() {
+        let (from, _, _) = mesh.map_ends(map);
+        if from == set {
+            reach_by(&mut sets, mesh, owners, map);
+        }
     }
     Ok(sets)
 }

@@ -1,76 +1,91 @@
-// Which ranks import an element, from those that execute it and those that name it.
-ghost use Rattle.std.specs.Prelude.{◌≡◌, ℕ, Bool, false, true, ◌<◌, ◌≤◌, ◌^◌, ◌&&◌, ◌||◌, not, nat_eq, IfOk, OnOk, IsTrue, ◌↔◌, length};
-ghost use Rattle.std.specs.Prelude.{slice_index, slice_index_or};
-ghost use Rattle.rank_sets.specs.Below.{listed, row};
+// Which halos an element is part of, by the ranks that execute it and those that name it.
+ghost use Rattle.std.specs.Prelude.{◌≡◌, ℕ, ◌<◌, ◌+◌, OnOk, IfOk, [], length};
+ghost use Rattle.mesh_decl.specs.Mesh.{set_count, set_size};
+ghost use Rattle.mesh_decl.specs.Owners.{AreOwners};
+ghost use Rattle.rank_sets.specs.Below.{row, rows};
 ghost use Rattle.rank_sets.specs.RankSet.{has, has_at};
+ghost use Rattle.halo_lists.specs.Halo.{executes, named};
+ghost use Rattle.halo_lists.specs.Halos.{IsSetHalo, IsHaloBelow};
 
+use crate::exports::{empty_exports, push_export};
+use crate::types::SetHalo;
+use mesh_decl::{Mesh, Owners};
 use op_num::OutOfMemory;
-use rank_sets::RankSet;
+use rank_sets::{RankSet, empty_lists, push_each};
 use std::alloc::Global;
 
-/// Of each set, the ranks but the owner.
-pub fn import_execute(
-    alloc: Global,
-    executing: &[RankSet],
-    owners: &[u32],
-) -> Result<Vec<RankSet>, OutOfMemory>
-    requires lengths { length executing.now ≡ length owners.now }
-    requires below { (x : ℕ) → x < length owners.now → slice_index owners.now x < 64 }
-    ensures length { IfOk result (λ v. length v.items ≡ length executing.now) }
-    ensures has { IfOk result (λ v. (x r : ℕ) → x < length executing.now → r < 64
-        → has_at v.items x r ≡ (has_at executing.now x r && not (nat_eq (slice_index owners.now x) r))) }
+// Adds an element to the halos of the elements before it: it is imported to execute by those that execute it but its
+// owner, and to read by those that name it and don't execute it.
+fn add_element(
+    halo: &mut SetHalo,
+    mesh: &Mesh,
+    owners: &Owners,
+    set: u32,
+    element: u32,
+    executing: RankSet,
+    naming: RankSet,
+) -> Result<(), OutOfMemory>
+    requires owners { AreOwners mesh.now owners.now }
+    requires set { set < set_count mesh.now }
+    requires element { element < set_size mesh.now set }
+    requires executing { (r : ℕ) → has executing r ≡ executes mesh.now owners.now set element r }
+    requires naming { (r : ℕ) → has naming r ≡ named mesh.now owners.now set element r }
+    requires before { IsHaloBelow mesh.now owners.now set element halo.old }
+    ensures { OnOk result (IsHaloBelow mesh.now owners.now set (element + 1) halo.new) }
 {
-    let mut sets = Vec::new(alloc);
-    for place in 0..executing.len() {
-        sets.push(executing[place].minus(RankSet::empty().with(owners[place])))?;
-    }
-    Ok(sets)
+    mesh.is_in_range();
+    let owner = owners.rank_of(set, element);
+    let exec = executing.minus(RankSet::empty().with(owner));
+    let nonexec = naming.minus(executing);
+    halo.core.push(exec.is_empty())?;
+    push_each(&mut halo.exec, element, exec)?;
+    push_each(&mut halo.nonexec, element, nonexec)?;
+    push_export(&mut halo.exports, owner, element, exec.union(nonexec))?;
+    Ok(())
 }
 
-/// Of each set, the ranks that the other doesn't have.
-pub fn import_nonexecute(
+// No element.
+fn empty_halo(alloc: Global, ranks: u32, size: u32) -> Result<SetHalo, OutOfMemory>
+    ensures exec_count { IfOk result (λ h. length h.exec.items ≡ ranks) }
+    ensures exec { IfOk result (λ h. (r : ℕ) → r < ranks → row h.exec.items r ≡ []) }
+    ensures nonexec_count { IfOk result (λ h. length h.nonexec.items ≡ ranks) }
+    ensures nonexec { IfOk result (λ h. (r : ℕ) → r < ranks → row h.nonexec.items r ≡ []) }
+    ensures export_count { IfOk result (λ h. length h.exports.items ≡ ranks) }
+    ensures export_counts { IfOk result (λ h. (a : ℕ) → a < ranks → length (rows h.exports.items a) ≡ ranks) }
+    ensures exports { IfOk result (λ h. (a r : ℕ) → a < ranks → r < ranks → row (rows h.exports.items a) r ≡ []) }
+    ensures core { IfOk result (λ h. h.core.items ≡ []) }
+{
+    Ok(SetHalo {
+        exec: empty_lists(alloc, ranks)?,
+        nonexec: empty_lists(alloc, ranks)?,
+        exports: empty_exports(alloc, ranks)?,
+        core: Vec::with_capacity(alloc, size as usize)?,
+    })
+}
+
+/// The halos of one set, by the ranks that execute each of its elements and those that have it as a target of what they
+/// execute.
+pub fn set_halo(
     alloc: Global,
+    mesh: &Mesh,
+    owners: &Owners,
+    set: u32,
+    executing: &[RankSet],
     naming: &[RankSet],
-    executing: &[RankSet],
-) -> Result<Vec<RankSet>, OutOfMemory>
-    requires lengths { length naming.now ≡ length executing.now }
-    ensures length { IfOk result (λ v. length v.items ≡ length naming.now) }
-    ensures has { IfOk result (λ v. (x r : ℕ) → x < length naming.now → r < 64
-        → has_at v.items x r ≡ (has_at naming.now x r && not (has_at executing.now x r))) }
+) -> Result<SetHalo, OutOfMemory>
+    requires owners { AreOwners mesh.now owners.now }
+    requires set { set < set_count mesh.now }
+    requires executing_count { length executing.now ≡ set_size mesh.now set }
+    requires executing { (x r : ℕ) → x < set_size mesh.now set → has_at executing.now x r ≡ executes mesh.now owners.now set x r }
+    requires naming_count { length naming.now ≡ set_size mesh.now set }
+    requires naming { (x r : ℕ) → has_at naming.now x r ≡ named mesh.now owners.now set x r }
+    ensures { IfOk result (IsSetHalo mesh.now owners.now set) }
 {
-    let mut sets = Vec::new(alloc);
-    for place in 0..naming.len() {
-        sets.push(naming[place].minus(executing[place]))?;
+    let size = mesh.set_size(set);
+    let mut halo = empty_halo(alloc, owners.ranks, size)?;
+    for element in 0..size {
+        let (executes, names) = (executing[element as usize], naming[element as usize]);
+        add_element(&mut halo, mesh, owners, set, element, executes, names)?;
     }
-    Ok(sets)
-}
-
-/// Whether each set is without ranks.
-pub fn core_places(alloc: Global, sets: &[RankSet]) -> Result<Vec<bool>, OutOfMemory>
-    ensures length { IfOk result (λ v. length v.items ≡ length sets.now) }
-    ensures core { IfOk result (λ v. (x : ℕ) → x < length sets.now
-        → (slice_index_or v.items x false ≡ true) ↔ ((r : ℕ) → r < 64 → has_at sets.now x r ≡ false)) }
-{
-    let mut core = Vec::new(alloc);
-    for set in sets {
-        core.push(set.is_empty())?;
-    }
-    Ok(core)
-}
-
-/// The ranks of either set at each place.
-pub fn import_either(
-    alloc: Global,
-    some: &[RankSet],
-    others: &[RankSet],
-) -> Result<Vec<RankSet>, OutOfMemory>
-    requires lengths { length some.now ≡ length others.now }
-    ensures length { IfOk result (λ v. length v.items ≡ length some.now) }
-    ensures has { IfOk result (λ v. (x r : ℕ) → x < length some.now → has_at v.items x r ≡ (has_at some.now x r || has_at others.now x r)) }
-{
-    let mut sets = Vec::new(alloc);
-    for place in 0..some.len() {
-        sets.push(some[place].union(others[place]))?;
-    }
-    Ok(sets)
+    Ok(halo)
 }

@@ -1,6 +1,4 @@
 // What `halos` answers.
-use rank_sets::RankSet;
-
 /// The halos of one set: lists of its elements' original numbers in increasing order, by rank.
 #[derive(Debug, Drop)]
 pub struct SetHalo {
@@ -19,12 +17,4 @@ pub struct SetHalo {
 pub struct Halos {
     pub ranks: u32,
     pub sets: Vec<SetHalo>,
-}
-
-// For each element of a set, the ranks that import it to execute, to read, and either.
-#[derive(Debug, Drop)]
-pub struct ImportSets {
-    pub exec: Vec<RankSet>,
-    pub nonexec: Vec<RankSet>,
-    pub either: Vec<RankSet>,
 }

@@ -10,6 +10,10 @@ use Rattle.local_mesh.specs.Local.{ordered, earlier, local_number, AreApart, Are
 pub ordered_more : (n : ℕ) (order : ℕ → ℕ) (p : ℕ → Bool) → ordered (n + 1) order p ≡ ordered n order p ++ cond (p (order n)) (order n ∷ []) []
 ordered_more n order p = rw add-one refl
 
+-- one more element in its place
+pub ordered_step : (now old : List ℕ) (n : ℕ) (order : ℕ → ℕ) (p : ℕ → Bool) → old ≡ ordered n order p → now ≡ old ++ cond (p (order n)) (order n ∷ []) [] → now ≡ ordered (n + 1) order p
+ordered_step now old n order p h k = k ∙ (ap (λ z. z ++ cond (p (order n)) (order n ∷ []) []) h ∙ sym (ordered_more n order p))
+
 -- the listed new numbers, by the order
 ordered_is : (n : ℕ) (order : ℕ → ℕ) (p : ℕ → Bool) → ordered n order p ≡ map order (listed n (λ j. p (order j)))
 ordered_is zero order p = refl

@@ -1,5 +1,5 @@
 // The elements of one set that each rank has, by new number and by original number.
-ghost use Rattle.std.specs.Prelude.{◌≡◌, ℕ, Bool, true, ◌<◌, ◌≤◌, ◌+◌, ◌^◌, ◌||◌, ◌&&◌, nat_eq, IfOk, length, slice_index};
+ghost use Rattle.std.specs.Prelude.{◌≡◌, ℕ, Bool, true, ◌<◌, ◌≤◌, ◌+◌, ◌^◌, ◌||◌, ◌&&◌, nat_eq, [], IfOk, OnOk, length, slice_index};
 ghost use Rattle.rank_sets.specs.Below.{listed, row};
 ghost use Rattle.rank_sets.specs.RankSet.{has, has_at};
 ghost use Rattle.local_mesh.specs.Local.{ordered};
@@ -7,41 +7,42 @@ ghost use Rattle.local_mesh.specs.Standing.{stands};
 
 use crate::types::Groups;
 use op_num::OutOfMemory;
-use rank_sets::{RankSet, empty_lists, places_by_rank, push_each};
+use rank_sets::{RankSet, push_each};
 use std::alloc::Global;
 
-// For each rank the elements that have it, in the given order.
-fn elements_by_rank(
-    alloc: Global,
-    sets: &[RankSet],
-    order: &[u32],
-    ranks: u32,
-) -> Result<Vec<Vec<u32>>, OutOfMemory>
-    requires few { ranks ≤ 64 }
-    requires order { (j : ℕ) → j < length order.now → slice_index order.now j < length sets.now }
-    requires below { (x r : ℕ) → x < length sets.now → r < 64 → has_at sets.now x r ≡ true → r < ranks }
-    ensures length { IfOk result (λ v. length v.items ≡ ranks) }
-    ensures lists { IfOk result (λ v. (r : ℕ) → r < ranks
-        → row v.items r ≡ ordered (length order.now) (slice_index order.now) (λ x. has_at sets.now x r)) }
+// How many elements each rank owns.
+fn owned_counts(alloc: Global, owners: &[u32], ranks: u32) -> Result<Vec<usize>, OutOfMemory>
+    requires { (x : ℕ) → x < length owners.now → slice_index owners.now x < ranks }
+    ensures { IfOk result (λ v. length v.items ≡ ranks) }
 {
-    let mut lists = empty_lists(alloc, ranks)?;
-    for element in order {
-        push_each(&mut lists, *element, sets[*element as usize])?;
+    let mut counts = vec![in alloc; 0usize; ranks as usize]?;
+    for owner in owners {
+        counts[*owner as usize] += 1;
     }
-    Ok(lists)
+    Ok(counts)
 }
 
-// For each element the set of its owner alone.
-fn owner_sets(alloc: Global, owners: &[u32]) -> Result<Vec<RankSet>, OutOfMemory>
-    requires { (x : ℕ) → x < length owners.now → slice_index owners.now x < 64 }
-    ensures length { IfOk result (λ v. length v.items ≡ length owners.now) }
-    ensures has { IfOk result (λ v. (x r : ℕ) → x < length owners.now → has_at v.items x r ≡ nat_eq (slice_index owners.now x) r) }
+// How many numbers each list has.
+fn lengths_of(alloc: Global, lists: &[Vec<u32>]) -> Result<Vec<usize>, OutOfMemory>
+    ensures { IfOk result (λ v. length v.items ≡ length lists.now) }
 {
-    let mut sets = Vec::with_capacity(alloc, owners.len())?;
-    for owner in owners {
-        sets.push(RankSet::empty().with(*owner))?;
+    let mut lengths = Vec::with_capacity(alloc, lists.len())?;
+    for list in lists {
+        lengths.push(list.len())?;
     }
-    Ok(sets)
+    Ok(lengths)
+}
+
+// Empty lists, with room for so many numbers each.
+fn lists_with_room(alloc: Global, rooms: &[usize]) -> Result<Vec<Vec<u32>>, OutOfMemory>
+    ensures length { IfOk result (λ v. length v.items ≡ length rooms.now) }
+    ensures empty { IfOk result (λ v. (r : ℕ) → r < length rooms.now → row v.items r ≡ []) }
+{
+    let mut lists = Vec::with_capacity(alloc, rooms.len())?;
+    for room in rooms {
+        lists.push(Vec::with_capacity(alloc, *room)?)?;
+    }
+    Ok(lists)
 }
 
 // Adds ranks to the sets of these elements.
@@ -67,70 +68,73 @@ fn add_ranks(sets: &mut [RankSet], lists: &[Vec<u32>])
     }
 }
 
-// For each rank the elements of its list, in the given order.
-fn in_order(
-    alloc: Global,
-    lists: &[Vec<u32>],
-    order: &[u32],
-    size: u32,
-) -> Result<Vec<Vec<u32>>, OutOfMemory>
+// For each element the ranks whose lists have it.
+fn ranks_listing(alloc: Global, lists: &[Vec<u32>], size: u32) -> Result<Vec<RankSet>, OutOfMemory>
     requires few { length lists.now ≤ 64 }
     requires within { (r k : ℕ) → r < length lists.now → k < length (row lists.now r) → slice_index (row lists.now r) k < size }
-    requires order { (j : ℕ) → j < length order.now → slice_index order.now j < size }
-    ensures length { IfOk result (λ v. length v.items ≡ length lists.now) }
-    ensures lists { IfOk result (λ v. (r : ℕ) → r < length lists.now
-        → row v.items r ≡ ordered (length order.now) (slice_index order.now) (λ x. stands (row lists.now r) x)) }
+    ensures length { IfOk result (λ v. length v.items ≡ size) }
+    ensures has { IfOk result (λ v. (x r : ℕ) → has_at v.items x r ≡ stands (row lists.now r) x) }
 {
     let mut sets = vec![in alloc; RankSet::empty(); size as usize]?;
     add_ranks(&mut sets, lists);
-    let found = elements_by_rank(alloc, &sets, order, lists.len() as u32)?;
-    Ok(found)
+    Ok(sets)
 }
 
-// For each rank the elements that it owns, in the given order.
-fn owned_in_order(
-    alloc: Global,
-    owners: &[u32],
-    order: &[u32],
-    ranks: u32,
-) -> Result<Vec<Vec<u32>>, OutOfMemory>
-    requires few { ranks ≤ 64 }
-    requires owners { (x : ℕ) → x < length owners.now → slice_index owners.now x < ranks }
+// Puts each element, in the given order, into the list of its owner.
+fn push_owned(lists: &mut [Vec<u32>], owners: &[u32], order: &[u32]) -> Result<(), OutOfMemory>
+    requires few { length lists.old ≤ 64 }
+    requires owners { (x : ℕ) → x < length owners.now → slice_index owners.now x < length lists.old }
     requires order { (j : ℕ) → j < length order.now → slice_index order.now j < length owners.now }
-    ensures length { IfOk result (λ v. length v.items ≡ ranks) }
-    ensures lists { IfOk result (λ v. (r : ℕ) → r < ranks
-        → row v.items r ≡ ordered (length order.now) (slice_index order.now) (λ x. nat_eq (slice_index owners.now x) r)) }
+    requires none { (r : ℕ) → r < length lists.old → row lists.old r ≡ [] }
+    ensures { OnOk result ((r : ℕ) → r < length lists.old
+        → row lists.new r ≡ ordered (length order.now) (slice_index order.now) (λ x. nat_eq (slice_index owners.now x) r)) }
 {
-    let sets = owner_sets(alloc, owners)?;
-    let found = elements_by_rank(alloc, &sets, order, ranks)?;
-    Ok(found)
+    for element in order {
+        let owner = owners[*element as usize];
+        push_each(lists, *element, RankSet::empty().with(owner))?;
+    }
+    Ok(())
 }
 
-// For each rank the elements that it owns or imports, by original number.
-fn all_copies(
-    alloc: Global,
-    owners: &[u32],
-    exec: &[Vec<u32>],
-    nonexec: &[Vec<u32>],
-    ranks: u32,
-) -> Result<Vec<Vec<u32>>, OutOfMemory>
-    requires few { ranks ≤ 64 }
-    requires size { length owners.now < 2 ^ 32 }
-    requires owners { (x : ℕ) → x < length owners.now → slice_index owners.now x < ranks }
-    requires exec_count { length exec.now ≡ ranks }
-    requires exec { (r k : ℕ) → r < ranks → k < length (row exec.now r) → slice_index (row exec.now r) k < length owners.now }
-    requires nonexec_count { length nonexec.now ≡ ranks }
-    requires nonexec { (r k : ℕ) → r < ranks → k < length (row nonexec.now r) → slice_index (row nonexec.now r) k < length owners.now }
-    ensures length { IfOk result (λ v. length v.items ≡ ranks) }
-    ensures lists { IfOk result (λ v. (r : ℕ) → r < ranks
-        → row v.items r ≡ listed (length owners.now) (λ x. nat_eq (slice_index owners.now x) r
-        || (stands (row exec.now r) x || stands (row nonexec.now r) x))) }
+// Puts each element, in the given order, into the lists of the ranks of its set.
+fn push_listed(lists: &mut [Vec<u32>], sets: &[RankSet], order: &[u32]) -> Result<(), OutOfMemory>
+    requires few { length lists.old ≤ 64 }
+    requires below { (x r : ℕ) → r < 64 → has_at sets.now x r ≡ true → r < length lists.old }
+    requires order { (j : ℕ) → j < length order.now → slice_index order.now j < length sets.now }
+    requires none { (r : ℕ) → r < length lists.old → row lists.old r ≡ [] }
+    ensures { OnOk result ((r : ℕ) → r < length lists.old
+        → row lists.new r ≡ ordered (length order.now) (slice_index order.now) (λ x. has_at sets.now x r)) }
 {
-    let mut sets = owner_sets(alloc, owners)?;
-    add_ranks(&mut sets, exec);
-    add_ranks(&mut sets, nonexec);
-    let found = places_by_rank(alloc, &sets, ranks)?;
-    Ok(found)
+    for element in order {
+        push_each(lists, *element, sets[*element as usize])?;
+    }
+    Ok(())
+}
+
+// Puts each element, by number, into the lists of its owner and of the ranks of its two sets.
+fn push_copies(
+    lists: &mut [Vec<u32>],
+    owners: &[u32],
+    exec_sets: &[RankSet],
+    nonexec_sets: &[RankSet],
+) -> Result<(), OutOfMemory>
+    requires few { length lists.old ≤ 64 }
+    requires size { length owners.now < 2 ^ 32 }
+    requires owners { (x : ℕ) → x < length owners.now → slice_index owners.now x < length lists.old }
+    requires exec_count { length exec_sets.now ≡ length owners.now }
+    requires exec_below { (x r : ℕ) → r < 64 → has_at exec_sets.now x r ≡ true → r < length lists.old }
+    requires nonexec_count { length nonexec_sets.now ≡ length owners.now }
+    requires nonexec_below { (x r : ℕ) → r < 64 → has_at nonexec_sets.now x r ≡ true → r < length lists.old }
+    requires none { (r : ℕ) → r < length lists.old → row lists.old r ≡ [] }
+    ensures { OnOk result ((r : ℕ) → r < length lists.old
+        → row lists.new r ≡ listed (length owners.now) (λ x. nat_eq (slice_index owners.now x) r
+        || (has_at exec_sets.now x r || has_at nonexec_sets.now x r))) }
+{
+    for (element, owner) in owners.iter().enumerate() {
+        let imported = exec_sets[element].union(nonexec_sets[element]);
+        push_each(lists, element as u32, imported.with(*owner))?;
+    }
+    Ok(())
 }
 
 // By rank what it owns, imports to execute and imports to read of a set, and all of these; `order` has the original
@@ -167,10 +171,20 @@ pub fn groups_by_rank(
         || (stands (row exec.now r) x || stands (row nonexec.now r) x))) }
 {
     let size = owners.len() as u32;
-    Ok(Groups {
-        own: owned_in_order(alloc, owners, order, ranks)?,
-        exec: in_order(alloc, exec, order, size)?,
-        nonexec: in_order(alloc, nonexec, order, size)?,
-        copies: all_copies(alloc, owners, exec, nonexec, ranks)?,
-    })
+    let exec_sets = ranks_listing(alloc, exec, size)?;
+    let nonexec_sets = ranks_listing(alloc, nonexec, size)?;
+    let counts = owned_counts(alloc, owners, ranks)?;
+    let exec_counts = lengths_of(alloc, exec)?;
+    let nonexec_counts = lengths_of(alloc, nonexec)?;
+    let mut found = Groups {
+        own: lists_with_room(alloc, &counts)?,
+        exec: lists_with_room(alloc, &exec_counts)?,
+        nonexec: lists_with_room(alloc, &nonexec_counts)?,
+        copies: lists_with_room(alloc, &counts)?,
+    };
+    push_owned(&mut found.own, owners, order)?;
+    push_listed(&mut found.exec, &exec_sets, order)?;
+    push_listed(&mut found.nonexec, &nonexec_sets, order)?;
+    push_copies(&mut found.copies, owners, &exec_sets, &nonexec_sets)?;
+    Ok(found)
 }

@@ -110,7 +110,7 @@ pub fn local_sets(
     ensures joined { IfOk result (λ v. (s : ℕ) (t : Groups) (h : SetHalo) (d : LocalSet) → s < length groups.now
         → IsJoinedFrom rank (slice_index_or groups.now s t) (slice_index_or halos.now.sets.items s h) (slice_index_or v.items s d)) }
 {
-    let mut sets = Vec::new(alloc);
+    let mut sets = Vec::with_capacity(alloc, groups.len())?;
     for set in 0..groups.len() {
         let parts = &groups[set];
         let halo = &halos.sets[set];

@@ -49,7 +49,8 @@ fn local_targets(
         → slice_index v.items (k * map_dim mesh.now map + i)
         ≡ slice_index numbers.now (target mesh.now map (slice_index elements.now k) i)) }
 {
-    let mut table = Vec::new(alloc);
+    let (_, _, dim) = mesh.map_ends(map);
+    let mut table = Vec::with_capacity(alloc, elements.len().saturating_mul(dim as usize))?;
     for element in elements {
         push_targets(&mut table, mesh, map, *element, numbers)?;
     }

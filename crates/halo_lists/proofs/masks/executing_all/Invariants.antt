@@ -1,7 +1,10 @@
-use Rattle.std.proofs.Common.{◌≡◌, ◌<◌, ℕ, length}
+use Rattle.std.proofs.Common.{◌≡◌, ◌<◌, ◌||◌, ◌&&◌, nat_eq, ℕ, length}
+use Rattle.rank_sets.specs.Below.{any_below}
 use Rattle.rank_sets.specs.RankSet.{has_at}
-use Rattle.halo_lists.specs.Halo.{executes}
+use Rattle.mesh_decl.specs.Mesh.{set_size, map_from}
+use Rattle.halo_lists.specs.Halo.{owns, reaches_by}
 use Rattle.halo_lists.proofs.masks.executing_all.Given as goal
 
-abbrev pub invariant-loop-element : goal.invariant-loop-element
-invariant-loop-element l = (length l.sets.items ≡ l.element) × ((x r : ℕ) → x < l.element → has_at l.sets.items x r ≡ executes l.mesh l.owners l.set x r)
+abbrev pub invariant-loop-map : goal.invariant-loop-map
+invariant-loop-map l = (length l.sets.items ≡ set_size l.mesh l.set)
+    × ((x r : ℕ) → x < set_size l.mesh l.set → has_at l.sets.items x r ≡ (owns l.owners l.set x r || any_below l.map (λ m. nat_eq (map_from l.mesh m) l.set && reaches_by l.mesh l.owners m x r)))

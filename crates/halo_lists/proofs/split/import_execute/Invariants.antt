@@ -1,6 +1,0 @@
-use Rattle.std.proofs.Common.{◌≡◌, ◌<◌, ◌&&◌, not, nat_eq, ℕ, length, get_or}
-use Rattle.rank_sets.specs.RankSet.{has_at}
-use Rattle.halo_lists.proofs.split.import_execute.Given as goal
-
-abbrev pub invariant-loop-place : goal.invariant-loop-place
-invariant-loop-place l = (length l.sets.items ≡ l.place) × ((x r : ℕ) → x < l.place → r < 64 → has_at l.sets.items x r ≡ (has_at l.executing x r && not (nat_eq (get_or l.owners x 0) r)))

@@ -1,8 +1,0 @@
-use Rattle.std.proofs.Common.{◌≡◌, ◌<◌, ℕ, length, get_or}
-use Rattle.rank_sets.specs.Below.{row}
-use Rattle.rank_sets.specs.RankSet.{has_at}
-use Rattle.local_mesh.specs.Local.{ordered}
-use Rattle.local_mesh.proofs.groups.elements_by_rank.Given as goal
-
-abbrev pub invariant-loop-element : goal.invariant-loop-element
-invariant-loop-element l = (length l.lists.items ≡ l.ranks) × ((r : ℕ) → r < l.ranks → row l.lists.items r ≡ ordered l.element-index (λ j. get_or l.order j 0) (λ x. has_at l.sets x r))
