@@ -4,3 +4,4 @@ pub mod Placings
 pub mod Counting
 pub mod Listing
 pub mod Reading
+pub mod Pushed

@@ -1,8 +1,9 @@
 -- A list cut along its longest axis.
-use Rattle.std.proofs.Common.{◌≡◌, ◌<◌, ◌≤◌, ◌-◌, ℕ, ℤ, true, false, List, length, get_or, take, drop, refl, arith, ⊎_elim, inl, inr}
+use Rattle.std.proofs.Common.{◌≡◌, ◌∙◌, ◌<◌, ◌≤◌, ◌-◌, ℕ, ℤ, true, false, List, length, get_or, take, drop, refl, ap, arith, ⊎_elim, inl, inr}
+use Rattle.std.proofs.lemmas.List.{take-append-drop, length-take-le}
+use Rattle.std.proofs.lemmas.List.Sorted.{length_permutation}
 use Rattle.partition.specs.Bisect.{height, IsSpread, IsAxis, IsAlong, IsCut}
 use Rattle.partition.proofs.Axes.{spread_from, spread_le}
-use Rattle.partition.proofs.Parts.{cut_from}
 use Rattle.plan_exists.proofs.Firsts.{greatest}
 use Rattle.plan_exists.proofs.Picked.{By, IsPicked, picked}
 use Rattle.plan_exists.proofs.Sorted.{sorted, sorted_same, sorted_by}
@@ -18,6 +19,18 @@ least n f some = ⊎_elim
     at_most z y (inl l) = omega arith
     at_most z y (inr e) = let q = e.0 in omega arith
 
+-- the parts of an order along the longest axis
+cut_from : (values : List ℤ) (dim first axis : ℕ) (xs order : List ℕ) → IsAxis values dim xs axis → IsAlong values dim axis xs order → first ≤ length xs
+    → IsCut values dim first xs (take first order) (drop first order)
+cut_from values dim first axis xs order longest along l =
+    let e : length order ≡ length xs = length_permutation xs order along.same in
+    record {
+      axis = axis;
+      longest = longest;
+      along = rw (take-append-drop first order) along;
+      count = length-take-le first order (omega (arith, l, e));
+    }
+
 module _ (values : List ℤ) (dim : ℕ) (xs : List ℕ) (some : 0 < length xs) where
   -- the spread on an axis
   some_spread : (a : ℕ) → (d : ℕ) × IsSpread values dim a xs d
@@ -27,7 +40,7 @@ module _ (values : List ℤ) (dim : ℕ) (xs : List ℕ) (some : 0 < length xs) 
       let low = least (length xs) f some in
       let m : f low.0 ≤ f high.0 = high.1.most low.0 low.1 in (
         f high.0 - f low.0,
-        spread_from values dim a xs high.0 low.0 (f high.0) (f low.0) high.1.within low.1 high.1.most low.2 refl refl (f high.0 - f low.0) (omega arith),
+        spread_from values dim a xs high.0 low.0 (f high.0) (f low.0) high.1.within low.1 high.1.most low.2 refl refl,
       )
 
   spread : ℕ → ℕ
@@ -72,5 +85,5 @@ module _ (values : List ℤ) (dim : ℕ) (xs : List ℕ) (some : 0 < length xs) 
       record {
         lower = take many ys;
         upper = drop many ys;
-        is = cut_from values dim many a.0 xs ys (take many ys) (drop many ys) a.1 (along a.0) l refl refl;
+        is = cut_from values dim many a.0 xs ys a.1 (along a.0) l;
       }

@@ -5,7 +5,7 @@ use Rattle.mesh_decl.specs.Mesh.{set_size, dat_set}
 use Rattle.mesh_decl.specs.Owners.{owner_of}
 use Rattle.bound_program.specs.Values.{bound_of}
 use Rattle.bound_chains.specs.Slices.{owns_pair}
-use Rattle.halo_lists.proofs.Steps.{has_more_below}
+use Rattle.chain_slices.proofs.Pushed.{has_more_below}
 use Rattle.chain_needs.specs.PairSets.{pairs_of}
 use Rattle.chain_needs.proofs.OwnPairs.{owner_is}
 use Rattle.chain_slices.proofs.lists.others_of.Goals as goal
