@@ -7,8 +7,10 @@ use Rattle.mesh_decl.specs.Mesh.{MeshValue}
 use Rattle.kernel_types.specs.View.{RExprTree, rexpr_of}
 use Rattle.bound_program.specs.declared.acts.Act.{Act}
 use Rattle.bound_program.specs.declared.acts.Act.TheVariants as a
+use Rattle.bound_program.specs.declared.acts.ToldAct.{ToldAct}
 use Rattle.bound_program.specs.declared.acts.Item.{Item}
 use Rattle.bound_program.specs.declared.acts.Item.TheVariants as i
+use Rattle.bound_program.specs.HostExpr.{closed}
 use Rattle.bound_program.specs.declared.programs.Var.{Var}
 use Rattle.bound_program.specs.declared.programs.Bound.{Bound}
 use Rattle.bound_program.specs.declared.sites.Arg.{Arg}
@@ -60,11 +62,22 @@ act_of (a.Line text es) = Line text (map rexpr_of es.items)
 act_of (a.Print d file) = Print d file
 act_of a.Exit = Exit
 
+-- the statement with these values in place of the names that are told later
+abbrev pub closed_act : List ℤ → ActValue → ActValue
+closed_act told (Clear v) = Clear v
+closed_act told (Assign v i op op_at e at) = Assign v (option_map (closed told) i) op op_at (closed told e) at
+closed_act told (Line l es) = Line l (map (closed told) es)
+closed_act told (Print d file) = Print d file
+closed_act told Exit = Exit
+
+abbrev pub told_act_of : ToldAct → ActValue
+told_act_of x = closed_act x.told.items (act_of x.act.value)
+
 abbrev pub item_of : Item → ItemValue
 item_of (i.Free s) = Free s
 item_of (i.Reduce s) = Reduce s
 item_of (i.Ordered s) = Ordered s
-item_of (i.Host x) = Host (act_of x)
+item_of (i.Host x) = Host (told_act_of x)
 
 abbrev pub site_of : Site → SiteValue
 site_of s = record { kernel = s.kernel; set = s.set; args = s.args.items; class = s.class; at = s.at }

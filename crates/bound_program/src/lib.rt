@@ -10,7 +10,7 @@ mod limits;
 mod programs;
 mod sites;
 
-pub use acts::{Act, Item};
+pub use acts::{Act, Item, ToldAct};
 pub use classes::{class_of, is_access};
 pub use kernel_types::{AssignOp, ElementForm, Name, Pos, RExpr, RKernel};
 pub use limits::{

@@ -51,7 +51,7 @@ module _ (there : LoopsAreThere) (reads : LoopsKeepReads) (b : BoundValue) (fits
         let lt = there b k fits is in
         let w = kernel_there b.kernels (site_of b k).kernel (length (site_of b k).args) (fits.sites (loop_of (item_at b k)) no_site lt).kernel in
         reads b k e w.0 s t (Variable (record { variable = v; component = i })) fits
-        (record { is_loop = is; kernel = w.1; obeys = obey (loop_of (item_at b k)) w.0 lt w.1 }) ran
+        (record { is_loop = is; kernel = w.1 }) (obey (loop_of (item_at b k)) w.0 lt w.1) ran
         (λ a la r. only (arg_at (site_of b k) a) e v i (leaves.args (loop_of (item_at b k)) no_site lt a no_arg la) c r)
         ∙ kept v i c
 

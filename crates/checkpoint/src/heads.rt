@@ -4,7 +4,7 @@ ghost use Rattle.std.specs.Prelude.{◌≡◌, ◌<◌, ◌+◌, ◌^◌, ◌++�
 ghost use Rattle.std.specs.Fmt.{decimal};
 ghost use Rattle.kernel_types.specs.View.{rexpr_of, Scalar};
 ghost use Rattle.mesh_decl.specs.Mesh.{dat_count};
-ghost use Rattle.bound_program.specs.Values.{BoundValue, item_of, var_of, bound_of};
+ghost use Rattle.bound_program.specs.Values.{BoundValue, Host, act_of, closed_act, item_of, var_of, bound_of};
 ghost use Rattle.bound_program.specs.Fits.{Fits};
 ghost use Rattle.run_model.specs.Windows.{numbers};
 ghost use Rattle.checkpoint.specs.declared.states.HeadRefusal.TheVariants.{Item as NoCut};
@@ -12,7 +12,7 @@ ghost use Rattle.checkpoint.specs.Cut.{CanCut, places, says, says_var, says_vars
 
 use crate::laws::heads_fit;
 use crate::states::HeadRefusal;
-use bound_program::{Act, Bound, Item, Text, Var};
+use bound_program::{Act, Bound, Item, Text, ToldAct, Var};
 use kernel_types::RExpr;
 use mesh_decl::Mesh;
 use op_num::{OutOfMemory, put_u64};
@@ -30,15 +30,21 @@ pub fn can_cut(bound: &Bound, item: u32) -> bool
     }
 }
 
+// The item of a statement without names that are told.
+fn host(alloc: Global, act: Act) -> Result<Item, OutOfMemory>
+    ensures { IfOk result (λ i. item_of i ≡ Host (closed_act [] (act_of act))) }
+{
+    let act = ToldAct::new(alloc, act)?;
+    Ok(Item::Host { act })
+}
+
 // `op_printf` of this text.
-fn says(alloc: Global, text: Vec<u8>) -> Item
-    ensures { item_of result ≡ says text.items }
+fn says(alloc: Global, text: Vec<u8>) -> Result<Item, OutOfMemory>
+    ensures { IfOk result (λ i. item_of i ≡ says text.items) }
 {
     let text = Text::new(text);
     let values = Vec::new(alloc);
-    Item::Host {
-        act: Act::Line { text, values },
-    }
+    host(alloc, Act::Line { text, values })
 }
 
 // The first lines.
@@ -49,7 +55,7 @@ fn says_item(alloc: Global, item: u32) -> Result<Item, OutOfMemory>
     text.extend_from_slice(b"\nop2state 1\nitem ")?;
     put_u64(&mut text, u64::from(item))?;
     text.push(b'\n')?;
-    Ok(says(alloc, text))
+    says(alloc, text)
 }
 
 // Puts `%d` so many times, between single spaces, and LF.
@@ -103,9 +109,7 @@ fn says_var(alloc: Global, number: u64, from: usize, count: usize) -> Result<Ite
 {
     let text = Text::new(var_text(alloc, number, count)?);
     let values = scalars(alloc, from, count)?;
-    Ok(Item::Host {
-        act: Act::Line { text, values },
-    })
+    host(alloc, Act::Line { text, values })
 }
 
 // Appends the variables that aren't `const`.
@@ -135,9 +139,7 @@ fn says_dat(alloc: Global, dat: u32) -> Result<Item, OutOfMemory>
     let mut file = Vec::new(alloc);
     file.extend_from_slice(b"dat")?;
     let file = Text::new(file);
-    Ok(Item::Host {
-        act: Act::Print { dat, file },
-    })
+    host(alloc, Act::Print { dat, file })
 }
 
 // Appends the dats.
@@ -157,7 +159,7 @@ fn say_done(alloc: Global, trace: &mut Vec<Item>) -> Result<(), OutOfMemory>
 {
     let mut text = Vec::new(alloc);
     text.extend_from_slice(b"done\n")?;
-    trace.push(says(alloc, text))?;
+    trace.push(says(alloc, text)?)?;
     Ok(())
 }
 

@@ -75,13 +75,12 @@ fn weight(mesh: &Mesh, item: &Item) -> Option<u64>
     ensures some { IfSome result (λ n. n ≡ weight mesh.now (item_of item.now)) }
     ensures none { IfNone result (2 ^ 64 ≤ weight mesh.now (item_of item.now)) }
 {
-    match item {
-        Item::Host {
-            act: Act::Line { text, .. },
-        } => line_weight(text.bytes()),
-        Item::Host {
-            act: Act::Print { dat, file },
-        } => print_weight(mesh, *dat, file.bytes()),
+    let Item::Host { act } = item else {
+        return Some(0);
+    };
+    match &*act.act {
+        Act::Line { text, .. } => line_weight(text.bytes()),
+        Act::Print { dat, file } => print_weight(mesh, *dat, file.bytes()),
         _ => Some(0),
     }
 }

@@ -2,7 +2,7 @@
 
 ghost use Rattle.std.specs.Prelude.{◌≡◌, false, length, map, OnOk};
 ghost use Rattle.c_tree.specs.View.{expr_of, declr_of};
-ghost use Rattle.bound_program.specs.Values.{Clear};
+ghost use Rattle.bound_program.specs.Values.{act_of, Clear};
 ghost use Rattle.main_trace.specs.Steps.{Do, followed, one_step};
 ghost use Rattle.main_names.specs.SoFar.{does, behind};
 ghost use Rattle.main_declarations.specs.Variables.{with_fixed, with_fixed_later, with_turning, const_at, with_changing, initializer};
@@ -20,6 +20,7 @@ use main_names::{
 };
 use main_trace::Step;
 use op_num::{Name, OutOfMemory};
+use std::alloc::Global;
 
 /// One step more.
 #[tactic(auto, using(crate::proofs::WalkTurns::steps_push))]
@@ -28,6 +29,14 @@ pub fn add_step(steps: &mut Vec<Step>, step: Step) -> Result<(), OutOfMemory>
 {
     steps.push(step)?;
     Ok(())
+}
+
+/// One statement more that is no loop.
+pub fn add_act(alloc: Global, steps: &mut Vec<Step>, act: Act) -> Result<(), OutOfMemory>
+    ensures { OnOk result (steps_of steps.new.items ≡ followed (steps_of steps.old.items) (one_step (Do (act_of act)))) }
+{
+    let step = Step::act(alloc, act)?;
+    add_step(steps, step)
 }
 
 // A `const` name of `main` that stands in no block, `if` or `for`.
@@ -129,7 +138,7 @@ fn cleared(
 {
     let var = k.next_var()?;
     with_changing(source, k, name, is_array, count)?;
-    add_step(steps, Step::Do(Act::Clear { var }))
+    add_act(source.alloc, steps, Act::Clear { var })
 }
 
 // The declaration of a variable with an initializer.
@@ -148,16 +157,17 @@ fn initialized(
     let value = resolved(source.alloc, source.places, &k.names, e)?;
     with_changing(source, k, &x.name, false, 1)?;
     let at = place(source.places, x.at);
-    add_step(
+    add_act(
+        source.alloc,
         steps,
-        Step::Do(Act::Assign {
+        Act::Assign {
             var,
             index: None,
             op: AssignOp::Set,
             op_at: at,
             value,
             at,
-        }),
+        },
     )
 }
 

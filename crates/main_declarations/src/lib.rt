@@ -10,7 +10,7 @@ mod mesh_notes;
 mod mesh_walk;
 
 pub use constants::{glob_token, judged_constant, note_ampersand};
-pub use declarations::{add_step, judged_declrs, with_turning};
+pub use declarations::{add_act, add_step, judged_declrs, with_turning};
 pub use file_walk::judged_tops;
 pub use map_walk::judged_map;
 pub use mesh_notes::{note_set, note_type};

@@ -23,7 +23,7 @@ use bound_program::Act;
 use c_tree::{Assignment, Expr, Host, Ident, OpCall, Place, TextLiteral};
 use kernel_types::RExpr;
 use main_declarations::{
-    add_step, judged_constant, judged_dat, judged_declrs, judged_map, judged_set,
+    add_act, add_step, judged_constant, judged_dat, judged_declrs, judged_map, judged_set,
 };
 use main_names::{Declared, Source, Spot, cells_of, dat_of, judged_static, or_zero, resolved};
 use main_trace::{Asked, Step};
@@ -251,12 +251,12 @@ fn judged_call(
         }
         OpCall::Printf { at, text, values } => {
             let act = judged_line(source, k, *at, text, values)?;
-            add_step(steps, Step::Do(act))?;
+            add_act(source.alloc, steps, act)?;
             Ok(())
         }
         OpCall::PrintDat { dat, file, .. } => {
             let act = judged_print(source, k, dat, file)?;
-            add_step(steps, Step::Do(act))?;
+            add_act(source.alloc, steps, act)?;
             Ok(())
         }
     }
@@ -319,7 +319,7 @@ fn judged_host(
         Host::Empty(_) => Ok(()),
         Host::Assign(a) => {
             let act = assignment(source, k, a)?;
-            add_step(steps, Step::Do(act))?;
+            add_act(source.alloc, steps, act)?;
             Ok(())
         }
         Host::If {

@@ -2,6 +2,7 @@ pub mod Blocks
 pub mod HostValues
 pub mod Leaves
 pub mod Lists
+pub mod Renamed
 pub mod Rounds
 pub mod ToldValues
 pub mod Turns

@@ -1,13 +1,13 @@
 -- What `main` unrolls to, by recursion on its steps with the values that are told.
-use Rattle.std.specs.Prelude.{ℕ, zero, suc, ℤ, pos, ◌+ℤ◌, ◌-ℤ◌, int_lt, nat_abs, Bool, true, false, List, [], ◌∷◌, ◌++◌, map, option_map}
+use Rattle.std.specs.Prelude.{ℕ, zero, suc, ℤ, pos, ◌+ℤ◌, ◌-ℤ◌, int_lt, nat_abs, Bool, true, false, List, [], ◌∷◌, ◌++◌, map}
 use Rattle.std.specs.Prelude.{Option, Some, None, Ok, Err, slice_index_or, if◌then◌else◌}
 use Rattle.c_lex.specs.declared.tokens.Pos.{Pos}
 use Rattle.kernel_model.specs.Numbers.{Value, is_zero}
 use Rattle.bound_program.specs.declared.sites.Class.{Class}
 use Rattle.bound_program.specs.declared.sites.Class.TheVariants as class
-use Rattle.bound_program.specs.HostExpr.{value, closed}
-use Rattle.bound_program.specs.Values.{ActValue, Clear, Assign, Line, Print, Exit, ItemValue, Free, Reduce, Ordered, Host, SiteValue}
-use Rattle.bound_program.specs.Values.{no_site}
+use Rattle.bound_program.specs.HostExpr.{value}
+use Rattle.bound_program.specs.Values.{Exit, ItemValue, Free, Reduce, Ordered, Host, SiteValue}
+use Rattle.bound_program.specs.Values.{closed_act, no_site}
 use Rattle.main_trace.specs.Steps.{Asked, Step, Do, Loop, Fix, Block, Choose, Repeat, Steps, NoStep, MoreStep}
 use Rattle.bound_program.specs.Classes.{reduces}
 
@@ -47,13 +47,6 @@ answer None at go = Stops at ∷ []
 answer (Some z) at go = go z
 
 -- ---- one statement
-
-abbrev pub closed_act : List ℤ → ActValue → ActValue
-closed_act told (Clear v) = Clear v
-closed_act told (Assign v i op op_at e at) = Assign v (option_map (closed told) i) op op_at (closed told e) at
-closed_act told (Line l es) = Line l (map (closed told) es)
-closed_act told (Print d file) = Print d file
-closed_act told Exit = Exit
 
 -- a Free loop is followed by the merging of what it reduces
 abbrev pub items_of : ℕ → SiteValue → List Event

@@ -14,9 +14,10 @@ use Rattle.main_trace.specs.declared.unroll.LoopForm.TheVariants as form
 use Rattle.bound_program.specs.declared.sites.Class.{Class}
 use Rattle.bound_program.specs.declared.sites.Class.TheVariants as class
 use Rattle.kernel_types.specs.View.{rexpr_of}
-use Rattle.bound_program.specs.Values.{act_of, item_of, SiteValue, Free, Reduce, Ordered}
+use Rattle.bound_program.specs.Values.{item_of, SiteValue, Free, Reduce, Ordered}
 use Rattle.main_trace.specs.Steps.{Asked, Step, Do, Loop, Fix, Block, Choose, Repeat, Steps, NoStep, MoreStep}
 use Rattle.bind_refusals.specs.Refusals.{Judged}
+use Rattle.main_trace.specs.Naming.{named_act_of}
 use Rattle.main_trace.specs.Trace.{Event, Does}
 use Rattle.bound_program.specs.Classes.{reduces}
 use Rattle.main_trace.specs.Limited.{ToldValue, UnrolledValue, before, unrolled}
@@ -26,7 +27,7 @@ asked_of a = record { value = rexpr_of a.value; at = a.at }
 
 abbrev mutual
   pub step_of : StepCode → Step
-  step_of (r.Do a) = Do (act_of a)
+  step_of (r.Do a) = Do (named_act_of a)
   step_of (r.Loop n) = Loop n
   step_of (r.Fix e v) = Fix (asked_of e) v
   step_of (r.Block' shape row) = Block (steps_of_row row)

@@ -2,17 +2,16 @@
 //! trace.
 #![tactic(auto)]
 
-mod closing;
 mod host_values;
 mod laws;
+mod naming;
 mod steps;
 mod unroll;
 
 pub use bind_refusals::BindRefusal;
-pub use bound_program::{Act, Item, Site};
-pub use closing::{closed_copy, closed_expr};
+pub use bound_program::{Act, Item, Site, ToldAct};
 pub use host_values::host_value;
 pub use kernel_types::RExpr;
-pub use laws::host_values_are_kernel_values;
-pub use steps::{Asked, Step, Told, Unrolled};
+pub use laws::{host_values_are_kernel_values, told_values_are_closed};
+pub use steps::{Asked, NamedAct, Step, Told, Unrolled};
 pub use unroll::{Goes, Known, LoopForm, unroll_main};

@@ -1,10 +1,14 @@
 // `main` when its names are numbers, and what it unrolls to.
 
-ghost use Rattle.std.specs.Prelude.{◌≡◌};
+ghost use Rattle.std.specs.Prelude.{◌≡◌, IfOk};
 
+use crate::naming::named_act;
 use bound_program::{Act, Item};
 use c_tree::Pos;
 use kernel_types::RExpr;
+use op_num::OutOfMemory;
+use std::alloc::Global;
+use std::sync::Arc;
 
 /// An expression that must be known before the run, and the place of its first token. A name whose value is told when
 /// `main` is unrolled is the constant of that number in it.
@@ -14,11 +18,19 @@ pub struct Asked {
     pub at: Pos,
 }
 
+/// A statement whose names that are told when `main` is unrolled are numbered anew: in the expressions of `act` `Constant(k)` is the
+/// name with the number `names[k]`. One that stands in a `for` is shared by the items of all turns.
+#[derive(Drop)]
+pub struct NamedAct {
+    pub act: Arc<Act, Global>,
+    pub names: Vec<u32>,
+}
+
 /// A statement of `main`.
 #[derive(Drop)]
 pub enum Step {
     /// a statement that is no loop
-    Do(Act),
+    Do(NamedAct),
     /// the loop of that number
     Loop(u32),
     /// a `const` name whose value is told here, with the number of its variable where it is one
@@ -43,7 +55,8 @@ pub enum Step {
 }
 
 impl Step {
-    ghost use Rattle.main_trace.specs.Steps.{Block};
+    ghost use Rattle.bound_program.specs.Values.{act_of};
+    ghost use Rattle.main_trace.specs.Steps.{Do, Block};
     ghost use Rattle.main_trace.specs.Unrolling.{step_of, steps_of};
 
     /// A block of these steps.
@@ -52,6 +65,14 @@ impl Step {
         ensures { step_of result ≡ Block (steps_of inner.items) }
     {
         Step::Block(inner)
+    }
+
+    /// A statement that is no loop; in its expressions `Constant(k)` is the name with the number k.
+    pub fn act(alloc: Global, act: Act) -> Result<Step, OutOfMemory>
+        ensures { IfOk result (λ s. step_of s ≡ Do (act_of act)) }
+    {
+        let named = named_act(alloc, act)?;
+        Ok(Step::Do(named))
     }
 }
 

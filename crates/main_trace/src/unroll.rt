@@ -1,18 +1,18 @@
 // What `main` unrolls to.
 
 ghost use Rattle.std.specs.Prelude.{◌≡◌, ◌≤◌, ◌+◌, ℤ, pos, ◌++◌, [], ◌∷◌, map, suc, ◌≤ℤ◌, ◌<ℤ◌, ◌+ℤ◌, slice_index_or, OnOk, IfErr};
-ghost use Rattle.bound_program.specs.Values.{item_of, site_of, ItemValue, ActValue, no_site};
+ghost use Rattle.bound_program.specs.Values.{item_of, site_of, ItemValue, ActValue, Host, Exit, no_site};
 ghost use Rattle.bound_program.specs.Classes.{is_reducing, is_reduced, reduces};
 ghost use Rattle.bound_program.specs.Limits.{max_trace};
-ghost use Rattle.main_trace.specs.Trace.{Event, known, number, turns, turns_left, items_of, after, events, main_events, tells};
+ghost use Rattle.main_trace.specs.Trace.{Event, Does, known, number, turns, turns_left, items_of, after, events, main_events, tells};
 ghost use Rattle.main_trace.specs.Limited.{unrolled};
 ghost use Rattle.main_trace.specs.Unrolling.{asked_of, step_of, goes_by, loop_form, form_events, seen, Leaves, Gives};
 
-use crate::closing::closed_copy;
 use crate::host_values::host_value;
+use crate::naming::told_act;
 use crate::steps::{Asked, Step, Told, Unrolled};
 use bind_refusals::BindRefusal;
-use bound_program::{Act, Arg, Class, Item, MAX_TRACE, Site};
+use bound_program::{Act, Arg, Class, Item, MAX_TRACE, Site, ToldAct};
 use mesh_decl::Access;
 use op_num::OutOfMemory;
 use std::alloc::Global;
@@ -207,8 +207,8 @@ pub fn unroll(
     ensures fewer { OnOk result (out.new.left ≤ out.old.left) }
 {
     match step {
-        Step::Do(act) => {
-            let act = closed_copy(alloc, act, told)?;
+        Step::Do(named) => {
+            let act = told_act(alloc, named, told)?;
             push(out, Item::Host { act })
         }
         Step::Loop(n) => push_loop(out, *n, form_at(sites, *n as usize)),
@@ -308,6 +308,14 @@ fn unroll_turns(
     }
 }
 
+// The end of `main`.
+fn push_exit(alloc: Global, out: &mut Unrolled) -> Result<(), BindRefusal>
+    ensures leaves { Leaves out.old (Does (Host Exit) ∷ []) result out.new }
+{
+    let act = ToldAct::new(alloc, Act::Exit)?;
+    push(out, Item::Host { act })
+}
+
 /// What `main` unrolls to, where its body is this block, or the first refusal on the way.
 pub fn unroll_main(alloc: Global, body: &Step, sites: &[Site]) -> Result<Unrolled, BindRefusal>
     ensures { Gives result (unrolled max_trace (main_events (map site_of sites.now) (step_of body.now))) }
@@ -319,6 +327,6 @@ pub fn unroll_main(alloc: Global, body: &Step, sites: &[Site]) -> Result<Unrolle
     };
     let mut told = Vec::new(alloc);
     unroll(alloc, body, sites, &mut told, &mut out)?;
-    push(&mut out, Item::Host { act: Act::Exit })?;
+    push_exit(alloc, &mut out)?;
     Ok(out)
 }

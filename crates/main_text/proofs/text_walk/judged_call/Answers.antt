@@ -33,12 +33,12 @@ returns-in_ok-add_step-in-ParLoop c =
     ∙ ap (λ (n : ℕ). Ok (does (Loop n) (behind a k))) (sym c.in_ok-number-in-ParLoop.ensures)
     ∙ ap (λ (ss : Steps). Ok (record { declared = k; steps = ss })) (sym c.in_ok-add_step-in-ParLoop.ensures))
 
-pub returns-in_ok-add_step-in-Printf : goal.returns-in_ok-add_step-in-Printf
-returns-in_ok-add_step-in-Printf c =
+pub returns-in_ok-add_act-in-Printf : goal.returns-in_ok-add_act-in-Printf
+returns-in_ok-add_act-in-Printf c =
     let s = c.args.source.now in
     let es = c.deref-in-Printf.result.now in
     let a = walked c.args.k.now c.args.steps.now.items in
     let e : call_of c.args.call.now ≡ tree.Printf c.in-Printf.at c.in-Printf.text (map expr_of es) =
     ap call_of c.in-Printf.is ∙ ap (λ (xs : List Expr). tree.Printf c.in-Printf.at c.in-Printf.text (map expr_of xs)) (sym c.deref-in-Printf.ensures.value) in
     rw e (line_done s.places.now s.consts.now s.entries.now.entries a c.args.spot c.in-Printf.at c.in-Printf.text es (act_of c.in_ok-act-in-Printf.act) c.in_ok-act-in-Printf.ensures
-    ∙ ap (λ (ss : Steps). Ok (record { declared = a.declared; steps = ss })) (sym c.in_ok-add_step-in-Printf.ensures))
+    ∙ ap (λ (ss : Steps). Ok (record { declared = a.declared; steps = ss })) (sym c.in_ok-add_act-in-Printf.ensures))
