@@ -2,7 +2,7 @@
 use Rattle.std.specs.Prelude.{◌≡◌, Result, Ok, Err, codes, option_map}
 use Rattle.clap.specs.declared.parser.matches.Found.{Found}
 use Rattle.clap.specs.Matches.{first_value}
-use Rattle.distribute.specs.Parts.{parts_of, name_of}
+use Rattle.distribute.specs.Parts.{Parts, Block, Bisect, Grow, name_of}
 use Rattle.command_words.specs.Refusal as answer
 use Rattle.command_words.specs.Words as words
 use Rattle.command_words.specs.Words.{is_set, OnPlan, OnChains, Converts, Translates, Restores, ShowsUsage, ShowsVersion}
@@ -10,6 +10,8 @@ use Rattle.command_words.specs.Laws.{IsWithin}
 use Rattle.command_words.specs.declared.refusals.WordsRefusal.{WordsRefusal}
 use Rattle.command_words.specs.declared.refusals.WordsRefusal.TheVariants.{Usage, OutOfMemory}
 use Rattle.command_words.specs.declared.options.OptionWords.{OptionWords}
+use Rattle.command_words.specs.declared.asked.Rule.{Rule}
+use Rattle.command_words.specs.declared.asked.Rule.TheVariants as rule
 use Rattle.command_words.specs.declared.asked.Parting.{Parting}
 use Rattle.command_words.specs.declared.asked.Parting.TheVariants as parting
 use Rattle.command_words.specs.declared.asked.Schedule.{Schedule}
@@ -69,9 +71,15 @@ options_found f = record {
   dumps = is_set (first_value f (codes "dump"));
 }
 
+-- by which rule elements are given to ranks
+abbrev pub rule_in : Rule → Parts
+rule_in rule.Block = Block
+rule_in (rule.Bisect dat) = Bisect dat.now
+rule_in (rule.Grow map) = Grow map.now
+
 -- who owns which element
 abbrev pub parting_in : Parting → words.Parting
-parting_in (parting.ByRule rule) = words.ByRule (parts_of rule)
+parting_in (parting.ByRule rule) = words.ByRule (rule_in rule)
 parting_in (parting.ByFile name) = words.ByFile name.now
 
 -- in which order the steps of a plan are taken
@@ -125,7 +133,7 @@ chain_job_in chain_job.RunsChains = words.RunsChains
 -- where a source and a mesh come from
 abbrev pub input_in : Input → words.Input
 input_in (input.InFiles source mesh) = words.InFiles source.now mesh.now
-input_in (input.OfSample side) = words.OfSample side
+input_in (input.OfSample side) = words.OfSample side.cells
 
 -- what the words ask for
 abbrev pub command_of : Asked → words.Command

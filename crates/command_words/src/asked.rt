@@ -5,6 +5,7 @@ ghost use Rattle.command_words.specs.Words.{group_of};
 ghost use Rattle.command_words.specs.Values.{options_in};
 
 use crate::limits::MAX_GROUP;
+use crate::sides::Side;
 use distribute::Parts;
 use mesh_text::Form;
 
@@ -21,11 +22,39 @@ pub enum PlanJob {
     RunsPlan,
 }
 
+/// By which rule the elements of a mesh are given to ranks.
+#[derive(Clone, Copy, Debug)]
+pub enum Rule<'a> {
+    /// Each set by blocks.
+    Block,
+    /// The set of the first dat of this name by cuts along its values, and the other sets from it.
+    Bisect(&'a [u8]),
+    /// The set to which the first map of this name leads by growth over its neighbours, and the other sets from it.
+    Grow(&'a [u8]),
+}
+
+impl<'a> Rule<'a> {
+    ghost use Rattle.distribute.specs.Parts.{parts_of, HasLines};
+    ghost use Rattle.command_words.specs.Values.{rule_in};
+
+    /// How the rule gives them.
+    pub fn parts(&self) -> Parts<'a>
+        ensures parts { parts_of result ≡ rule_in self.now }
+        ensures lines { HasLines (parts_of result) }
+    {
+        match *self {
+            Rule::Block => Parts::Block,
+            Rule::Bisect(dat) => Parts::Bisect(dat),
+            Rule::Grow(map) => Parts::Grow(map),
+        }
+    }
+}
+
 /// Who owns which element.
 #[derive(Clone, Copy, Debug)]
 pub enum Parting<'a> {
     /// By a rule.
-    ByRule(Parts<'a>),
+    ByRule(Rule<'a>),
     /// As the file of this name says.
     ByFile(&'a str),
 }
@@ -109,8 +138,8 @@ pub struct ChainOptions<'a> {
 pub enum Input<'a> {
     /// The source from the file `source`, and the mesh from the file `mesh`.
     InFiles { source: &'a str, mesh: &'a str },
-    /// They are the sample on a grid of `side` times `side` cells, 1 to 200.
-    OfSample { side: u32 },
+    /// They are the sample on a square grid with so many cells a side.
+    OfSample { side: Side },
 }
 
 /// What the words ask for.

@@ -1,8 +1,9 @@
 // The jobs: what is asked for by the words JOB, INPUT and MESH, with the options.
 
 ghost use Rattle.std.specs.Prelude.{◌≡◌, option_map};
+ghost use Rattle.mesh_gen.specs.declared.places.TheConstants.{MAX_SIDE};
 ghost use Rattle.command_words.specs.Words.{by_job, on_files, where_so, samples, converts, source_alone};
-ghost use Rattle.command_words.specs.Words.{plans, chains, plans_or_chains, form_of, InFiles};
+ghost use Rattle.command_words.specs.Words.{plans, chains, plans_or_chains, form_of, number_to, InFiles};
 ghost use Rattle.command_words.specs.Values.{input_in, command_of, job_in, chain_job_in, option_words_of};
 
 use crate::asked::{Asked, ChainJob, Input, PlanJob};
@@ -10,6 +11,7 @@ use crate::options::{
     OptionWords, chain_options_of, goes_to_the_end, is_unplanned, is_whole, number_to, options_of,
     plans_itself, runs_nothing, stops_at_an_item,
 };
+use crate::sides::Side;
 use mesh_gen::MAX_SIDE;
 use mesh_text::Form;
 
@@ -145,6 +147,14 @@ fn in_files<'a>(source: &'a str, mesh: Option<&'a str>) -> Option<Input<'a>>
     }
 }
 
+// How many cells a side of the sample's grid has.
+fn side_of(word: &str) -> Option<Side>
+    ensures { option_map (λ s. s.cells) result ≡ number_to MAX_SIDE word.now }
+{
+    let cells = number_to(MAX_SIDE, word)?;
+    Some(Side { cells })
+}
+
 // `sample SIDE`.
 fn samples<'a>(input: &str, mesh: Option<&str>, options: &OptionWords<'a>) -> Option<Asked<'a>>
     ensures { option_map command_of result
@@ -153,7 +163,7 @@ fn samples<'a>(input: &str, mesh: Option<&str>, options: &OptionWords<'a>) -> Op
     if mesh.is_some() {
         return None;
     }
-    let side = number_to(MAX_SIDE, input)?;
+    let side = side_of(input)?;
     plans_or_chains(
         PlanJob::RunsPlan,
         ChainJob::RunsChains,

@@ -1,15 +1,15 @@
 // The options of a plan, and of a run by chains, from the values that the words have.
 
-ghost use Rattle.std.specs.Prelude.{◌≡◌, option_map};
-ghost use Rattle.distribute.specs.Parts.{name_of, parts_of};
+ghost use Rattle.std.specs.Prelude.{◌≡◌, ◌<◌, ◌≤◌, option_map, IfSome};
+ghost use Rattle.distribute.specs.Parts.{name_of};
 ghost use Rattle.command_words.specs.Words.{number_to, number_or, is_unplanned, runs_nothing, behind, rule_of, parting_of};
 ghost use Rattle.command_words.specs.Words.{seed_of, schedule_of, blocks_of, item_of, stretch_of};
 ghost use Rattle.command_words.specs.Words.{options_of, chain_options_of, goes_to_the_end, is_whole, plans_itself, stops_at_an_item};
-ghost use Rattle.command_words.specs.Values.{option_words_of, parting_in, schedule_in, blocks_in, stretch_in, options_in, chain_options_in};
+ghost use Rattle.command_words.specs.Values.{option_words_of, rule_in, parting_in, schedule_in, blocks_in, stretch_in};
+ghost use Rattle.command_words.specs.Values.{options_in, chain_options_in};
 
-use crate::asked::{Blocks, ChainOptions, Options, Parting, Schedule, Stretch};
+use crate::asked::{Blocks, ChainOptions, Options, Parting, Rule, Schedule, Stretch};
 use crate::limits::{MAX_BLOCK, MAX_RANKS, MAX_WORKERS};
-use distribute::Parts;
 use op_num::read_u64;
 
 /// The values of the options, as the words have them, and whether the flags stand.
@@ -33,7 +33,8 @@ pub struct OptionWords<'a> {
 
 /// A number from 1 to the most, in decimal digits.
 pub fn number_to(most: u32, word: &str) -> Option<u32>
-    ensures { result ≡ number_to most word.now }
+    ensures number { result ≡ number_to most word.now }
+    ensures within { IfSome result (λ n. (0 < n) × (n ≤ most)) }
 {
     let Ok(number) = read_u64(word.as_bytes()) else {
         return None;
@@ -116,16 +117,16 @@ fn behind<'a>(prefix: &[u8], word: &'a str) -> Option<&'a [u8]>
 }
 
 // `block`, `bisect:DAT` or `grow:MAP`.
-fn rule_of<'a>(word: &'a str) -> Option<Parts<'a>>
-    ensures { option_map parts_of result ≡ rule_of word.now }
+fn rule_of<'a>(word: &'a str) -> Option<Rule<'a>>
+    ensures { option_map rule_in result ≡ rule_of word.now }
 {
     if word == "block" {
-        return Some(Parts::Block);
+        return Some(Rule::Block);
     }
     if let Some(dat) = behind(b"bisect:", word) {
-        return Some(Parts::Bisect(dat));
+        return Some(Rule::Bisect(dat));
     }
-    Some(Parts::Grow(behind(b"grow:", word)?))
+    Some(Rule::Grow(behind(b"grow:", word)?))
 }
 
 // By `--parts`, or by `--partition`, or by blocks; not by both.
@@ -134,7 +135,7 @@ fn parting_of<'a>(parts: Option<&'a str>, partition: Option<&'a str>) -> Option<
         ≡ parting_of (option_map (λ s. s.now) parts.entry) (option_map (λ s. s.now) partition.entry) }
 {
     match (parts, partition) {
-        (None, None) => Some(Parting::ByRule(Parts::Block)),
+        (None, None) => Some(Parting::ByRule(Rule::Block)),
         (Some(word), None) => Some(Parting::ByRule(rule_of(word)?)),
         (None, Some(name)) => Some(Parting::ByFile(name)),
         (Some(_), Some(_)) => None,

@@ -4,7 +4,7 @@ ghost use Rattle.std.specs.Prelude.{◌≡◌, ◌≤◌, ◌↔◌, ℕ, List, 
 ghost use Rattle.op_outside.specs.Outside.{Rose};
 ghost use Rattle.kept_files.specs.Readings.{AreNext, HaveCome, Finds};
 ghost use Rattle.mesh_decl.specs.Owners.{AreOwners, ArePerms};
-ghost use Rattle.distribute.specs.Parts.{Text, parts_of, UnownedWhere};
+ghost use Rattle.distribute.specs.Parts.{Text, parts_of, HasLines, UnownedWhere};
 ghost use Rattle.distribute.specs.declared.types.OwnersRefusal.TheVariants as unowned;
 ghost use Rattle.bound_program.specs.Values.{bound_of};
 ghost use Rattle.answers.specs.Said.{SaysPartition, SaysOwners};
@@ -85,13 +85,11 @@ fn owners_by_rule<'a>(
     rule: &Parts<'a>,
 ) -> Result<Owners, Halt<'a>>
     requires few { AreFew ranks }
+    requires lines { HasLines (parts_of rule.now) }
     ensures ok { IfOk result (λ u. OwnersOf ranks (bound_of bound.now) (parts_of rule.now) (Ok u)) }
     ensures fit { IfOk result (AreOwners (bound_of bound.now).mesh) }
     ensures err { IfErr result (StopsWhere (λ r. OwnersOf ranks (bound_of bound.now) (parts_of rule.now) (Err r))) }
 {
-    if !rule.has_lines() {
-        return Err(Halt::Failed(Failure::OutOfMemory));
-    }
     match owners_by(alloc, &bound.mesh, ranks, rule) {
         Ok(owners) => Ok(owners),
         Err(refusal) => Err(unowned(refusal)),
@@ -140,7 +138,7 @@ pub fn owners_of<'a>(
         (parts_by (parting_in parting.entry) text.now) (Err r))) }
 {
     match parting {
-        Parting::ByRule(rule) => owners_by_rule(alloc, ranks, bound, &rule),
+        Parting::ByRule(rule) => owners_by_rule(alloc, ranks, bound, &rule.parts()),
         Parting::ByFile(_) => owners_by_text(alloc, ranks, bound, text),
     }
 }

@@ -23,10 +23,10 @@ use crate::sources::{tree_of, types_of};
 use answer_lines::{Failure, Halt, Limit};
 use bound_program::Bound;
 use c_tree::Program;
-use command_words::Input;
+use command_words::{Input, Side};
 use kept_files::Kept;
 use kernel_types::Resolved;
-use mesh_gen::sample;
+use mesh_gen::{SampleRefusal, sample};
 use op_outside::Shelf;
 use std::alloc::Global;
 
@@ -81,16 +81,18 @@ fn bound_files<'a, F: Shelf>(
     bound_over(alloc, &program, types, &text)
 }
 
-// The sample on a grid of this many cells a side, bound to its mesh.
-fn bound_sample<'a>(alloc: Global, side: u32) -> Result<Bound, Halt<'a>>
-    ensures ok { IfOk result (λ b. (files : Files) → IsBoundIn (OfSample side) (values.bound_of b) files) }
+// The sample on a square grid with so many cells a side, bound to its mesh.
+fn bound_sample<'a>(alloc: Global, side: Side) -> Result<Bound, Halt<'a>>
+    ensures ok { IfOk result (λ b. (files : Files) → IsBoundIn (OfSample side.cells) (values.bound_of b) files) }
     ensures obeyed { IfOk result (λ b. AccessesAre (values.bound_of b) (Ok tt)) }
     ensures fits { IfOk result (λ b. Fits (values.bound_of b)) }
     ensures narrow { IfOk result (λ b. HasNarrowMaps (values.bound_of b)) }
-    ensures err { IfErr result (StopsWhere (λ r. (files : Files) → BoundAnswers Never (OfSample side) files (refused r))) }
+    ensures err { IfErr result (StopsWhere (λ r. (files : Files) → BoundAnswers Never (OfSample side.cells) files (refused r))) }
 {
-    let Ok(texts) = sample(alloc, side) else {
-        return Err(Halt::Failed(Failure::OutOfMemory));
+    let texts = match sample(alloc, side.cells) {
+        Ok(texts) => texts,
+        Err(SampleRefusal::OutOfMemory) => return Err(Halt::Failed(Failure::OutOfMemory)),
+        Err(SampleRefusal::SizeRange) => unreachable!(),
     };
     let program = tree_of(alloc, &texts.source)?;
     let types = types_of(alloc, &program)?;

@@ -14,5 +14,5 @@ pub returns-in-OfSample-clause-err : goal.returns-in-OfSample-clause-err
 returns-in-OfSample-clause-err g c =
     rw c.in-OfSample.is (if_err_weaker c.bound_sample.result _ _
     (λ h s. stops_always (g.F.Shelf.told c.args.shelf.now) (Rose (g.F.Shelf.faults c.args.shelf.now) (g.F.Shelf.faults c.args.shelf.now)) c.args.kept.now
-    (λ r. (files : Files) → BoundAnswers Never (OfSample c.in-OfSample.side) files (refused r))
-    (λ files r. BoundAnswers Never (OfSample c.in-OfSample.side) files (refused r)) h (λ files r k. k files) s) c.bound_sample.ensures.err)
+    (λ r. (files : Files) → BoundAnswers Never (OfSample c.in-OfSample.side.cells) files (refused r))
+    (λ files r. BoundAnswers Never (OfSample c.in-OfSample.side.cells) files (refused r)) h (λ files r k. k files) s) c.bound_sample.ensures.err)
