@@ -15,7 +15,6 @@ use Rattle.run_model.specs.Programs.{kind_of, item_at, program_of}
 use Rattle.run_model.specs.Kernels.{constants, constant_values}
 use Rattle.run_model.specs.Arguments.{argument_at, entries, dat_width, var_width, modes_of, cell_of, is_constant}
 use Rattle.run_model.specs.Laws.{site_of, RunsKernel, WindowsAreReached}
-use Rattle.run_model.specs.Ranges.{AllObey}
 use Rattle.bound_plan.specs.Windows.{frame_cells, frame_windows, core_with, site_core}
 use Rattle.bound_plan.specs.Given.{ItemLaws, KernelLaws}
 use Rattle.bound_plan.proofs.KernelsHold.{kernel as kernel_of, is_loop_of}
@@ -26,9 +25,9 @@ left : (r : kernel.Ran) (us : List ℤ) → core_of r ≡ Leaves us → slice_in
 left (kernel.Finished l) us h = cc
 left (kernel.Stopped l f) us h = let q : ⊥ = cc in absurd q
 
-module _ (kernels : KernelLaws) (items : ItemLaws) (windows : WindowsAreReached) (law : ElementRunsOnWindows) (shape : ShapeStays) (b : BoundValue) (fits : Fits b) (obey : AllObey b) (k : ℕ) (loops : is_loop (kind_of (item_at b k)) ≡ true) (e : ℕ) where
+module _ (kernels : KernelLaws) (items : ItemLaws) (windows : WindowsAreReached) (law : ElementRunsOnWindows) (shape : ShapeStays) (b : BoundValue) (fits : Fits b) (k : ℕ) (loops : is_loop (kind_of (item_at b k)) ≡ true) (e : ℕ) where
   abbrev f : RKernel
-  f = (kernel_of kernels items b fits obey k loops).0
+  f = (kernel_of kernels items b fits k loops).0
 
   abbrev cells : List Cell
   cells = frame_cells b (site_of b k).args e
@@ -40,10 +39,10 @@ module _ (kernels : KernelLaws) (items : ItemLaws) (windows : WindowsAreReached)
   on = on_frames b windows (site_of b k) e
 
   runs : RunsKernel b (site_of b k) e f ((program_of b).run k e)
-  runs = kernels.runs b k e f fits (is_loop_of kernels items b fits obey k loops)
+  runs = kernels.runs b k e f fits (is_loop_of kernels items b fits k loops)
 
   core_is : (cs ws : List ℤ) → site_core b (site_of b k) e cs ws ≡ core_of (kernel_meaning targets cs f (ws ∷ []))
-  core_is cs ws = ap (λ z. core_with b z (site_of b k) e cs ws) (kernel_of kernels items b fits obey k loops).1
+  core_is cs ws = ap (λ z. core_with b z (site_of b k) e cs ws) (kernel_of kernels items b fits k loops).1
 
   pub run_is : (s : Store) → (program_of b).run k e s ≡ of_core cells s (site_core b (site_of b k) e (map (λ v. s (Variable v)) (constants b)) (map s cells))
   run_is s =

@@ -5,6 +5,7 @@ use Rattle.std.proofs.lemmas.Bool.{cases_Bool, false≢true, and_parts}
 use Rattle.reductions.specs.Access as laws
 use Rattle.reductions.specs.Access.{OpRead, OpWrite, OpRw, OpReduce}
 use Rattle.kernel_types.specs.declared.kernels.RKernel.{RKernel}
+use Rattle.kernel_model.specs.Obeys.{KernelObeys}
 use Rattle.mesh_decl.specs.declared.owners.Owners.{Owners}
 use Rattle.mesh_decl.specs.declared.owners.Perms.{Perms}
 use Rattle.local_mesh.specs.declared.types.RankMesh.{RankMesh}
@@ -20,7 +21,6 @@ use Rattle.run_model.specs.Programs.{kind_of, loop_of, item_at, program_of}
 use Rattle.run_model.specs.Kernels.{kernel_at}
 use Rattle.run_model.specs.Arguments.{no_arg, argument_at, entries, dat_width, var_width, modes_of, cell_of, is_constant}
 use Rattle.run_model.specs.Laws.{site_of, IsLoopOf}
-use Rattle.run_model.specs.Ranges.{AllObey}
 use Rattle.loop_plan.specs.Values.{PlanValue}
 use Rattle.bound_plan.specs.Setups.{setup_of}
 use Rattle.bound_plan.specs.Laws.{Runnable}
@@ -45,7 +45,7 @@ only_reads OpWrite h = absurd (false≢true (sym h))
 only_reads OpRw h = absurd (false≢true (sym h))
 only_reads (OpReduce r) h = absurd (false≢true (sym h))
 
-module _ (kernels : KernelLaws) (items : ItemLaws) (b : BoundValue) (fits : Fits b) (obey : AllObey b) (k : ℕ) (loops : is_loop (kind_of (item_at b k)) ≡ true) where
+module _ (kernels : KernelLaws) (items : ItemLaws) (b : BoundValue) (fits : Fits b) (k : ℕ) (loops : is_loop (kind_of (item_at b k)) ≡ true) where
   pub loop_there : loop_of (item_at b k) < length b.sites
   loop_there = items.loops b k fits loops
 
@@ -56,7 +56,7 @@ module _ (kernels : KernelLaws) (items : ItemLaws) (b : BoundValue) (fits : Fits
   kernel = kernel_there b.kernels (site_of b k).kernel (length (site_of b k).args) loop_fits.kernel
 
   pub is_loop_of : IsLoopOf b k kernel.0
-  is_loop_of = record { is_loop = loops; kernel = kernel.1; obeys = obey (loop_of (item_at b k)) kernel.0 loop_there kernel.1 }
+  is_loop_of = record { is_loop = loops; kernel = kernel.1 }
 
   -- a dat that the loop doesn't modify is only read
   unmodified : (e : ℕ) (c : DatCell) → modifies (site_of b k).args c.dat ≡ false
@@ -70,18 +70,24 @@ module _ (kernels : KernelLaws) (items : ItemLaws) (b : BoundValue) (fits : Fits
       (cases_Bool (modifying (access_of (argument_at (site_of b k) a))))
 
 module _ (kernels : KernelLaws) (items : ItemLaws) (b : BoundValue) (o : Owners) (n : Perms) (meshes : List RankMesh) (p : PlanValue) (r : Runnable b o n meshes p) where
+  obeys : (k : ℕ) (loops : is_loop (kind_of (item_at b k)) ≡ true) → KernelObeys (kernel kernels items b r.planned.fits k loops).0 (modes_of b (site_of b k))
+  obeys k loops =
+      let f = kernel kernels items b r.planned.fits k loops in
+      r.obey (loop_of (item_at b k)) f.0 (loop_there kernels items b r.planned.fits k loops) f.1
+
   pub kernel_laws : Kernels (setup_of b o meshes p)
   kernel_laws = record {
     start_in_range = kernels.first b r.start;
     run_in_range = λ k e s t lp le i ran.
-        kernels.range b k e (kernel kernels items b r.planned.fits r.obey k lp).0 s t r.planned.fits (is_loop_of kernels items b r.planned.fits r.obey k lp) i ran;
+        kernels.range b k e (kernel kernels items b r.planned.fits k lp).0 s t r.planned.fits (is_loop_of kernels items b r.planned.fits k lp) i ran;
     host_in_range = λ k s v w i h. kernels.hosts b k s v w r.planned.fits i h;
     independent = λ k e f le.
         kernels.independent (entries b) (dat_width b) (var_width b) (argument_at (site_of b k)) (length (site_of b k).args) e (modes_of b (site_of b k)) (cell_of b (site_of b k) e)
-        (kernel kernels items b r.planned.fits r.obey k (ap is_loop f)).0 (is_constant b) ((program_of b).run k e)
-        (kernels.runs b k e (kernel kernels items b r.planned.fits r.obey k (ap is_loop f)).0 r.planned.fits (is_loop_of kernels items b r.planned.fits r.obey k (ap is_loop f))).is_run
-        (kernels.read b (site_of b k) e (loop_fits kernels items b r.planned.fits r.obey k (ap is_loop f)));
+        (kernel kernels items b r.planned.fits k (ap is_loop f)).0 (is_constant b) ((program_of b).run k e)
+        (kernels.runs b k e (kernel kernels items b r.planned.fits k (ap is_loop f)).0 r.planned.fits (is_loop_of kernels items b r.planned.fits k (ap is_loop f))).is_run
+        (obeys k (ap is_loop f))
+        (kernels.read b (site_of b k) e (loop_fits kernels items b r.planned.fits k (ap is_loop f)));
     stays = λ k e s t c q le ran h.
-        kernels.reads b k e (kernel kernels items b r.planned.fits r.obey k (ap is_loop q)).0 s t (Data c) r.planned.fits (is_loop_of kernels items b r.planned.fits r.obey k (ap is_loop q)) ran
-        (unmodified kernels items b r.planned.fits r.obey k (ap is_loop q) e c (ap (λ z. modifies z c.dat) (sym (args_are b k (ap is_loop q))) ∙ h));
+        kernels.reads b k e (kernel kernels items b r.planned.fits k (ap is_loop q)).0 s t (Data c) r.planned.fits (is_loop_of kernels items b r.planned.fits k (ap is_loop q)) (obeys k (ap is_loop q)) ran
+        (unmodified kernels items b r.planned.fits k (ap is_loop q) e c (ap (λ z. modifies z c.dat) (sym (args_are b k (ap is_loop q))) ∙ h));
   }

@@ -25,7 +25,7 @@ use Rattle.loop_plan.specs.Needs.{item_modifies}
 use Rattle.bound_plan.specs.Windows.{frame_cells}
 use Rattle.bound_plan.specs.Variables.{reduces_at}
 use Rattle.bound_plan.specs.Setups.{setup_of}
-use Rattle.bound_plan.specs.Laws.{Runnable}
+use Rattle.bound_plan.specs.Laws.{Planned}
 use Rattle.bound_plan.specs.Given.{NumberLaws, ItemLaws, HaloLaws, KernelLaws, ExactlyModified}
 use Rattle.bound_plan.proofs.KernelsHold.{kernel, is_loop_of}
 use Rattle.bound_plan.proofs.Placed.{site_fits}
@@ -40,13 +40,13 @@ one_test false false f g = refl
 one_test true false f g = sym (f refl)
 one_test false true f g = g refl
 
-module _ (numbers : NumberLaws) (items : ItemLaws) (halos : HaloLaws) (kernels : KernelLaws) (windows : WindowsAreReached) (law : ExactlyModified) (b : BoundValue) (o : Owners) (n : Perms) (meshes : List RankMesh) (p : PlanValue) (r : Runnable b o n meshes p) (k : ℕ) (free : kind_of (item_at b k) ≡ Free) (e : ℕ) where
+module _ (numbers : NumberLaws) (items : ItemLaws) (halos : HaloLaws) (kernels : KernelLaws) (windows : WindowsAreReached) (law : ExactlyModified) (b : BoundValue) (o : Owners) (n : Perms) (meshes : List RankMesh) (p : PlanValue) (pl : Planned b o n meshes p) (k : ℕ) (free : kind_of (item_at b k) ≡ Free) (e : ℕ) where
   abbrev f : RKernel
-  f = (kernel kernels items b r.planned.fits r.obey k (ap is_loop free)).0
+  f = (kernel kernels items b pl.fits k (ap is_loop free)).0
 
   is_run : IsElementRun (entries b) (dat_width b) (var_width b) (argument_at (site_of b k)) (length (site_of b k).args) e
       (modes_of b (site_of b k)) (cell_of b (site_of b k) e) f (is_constant b) ((program_of b).run k e)
-  is_run = (kernels.runs b k e f r.planned.fits (is_loop_of kernels items b r.planned.fits r.obey k (ap is_loop free))).is_run
+  is_run = (kernels.runs b k e f pl.fits (is_loop_of kernels items b pl.fits k (ap is_loop free))).is_run
 
   -- a cell that an argument reaches is one of the frame's
   reached_among : (c : DatCell) (a : ℕ) → a < length (site_of b k).args → reaches (entries b) (dat_width b) (var_width b) e (argument_at (site_of b k) a) (Data c) ≡ true
@@ -68,7 +68,7 @@ module _ (numbers : NumberLaws) (items : ItemLaws) (halos : HaloLaws) (kernels :
       → is_modified ((setup_of b o meshes p).touch k e (Data c)) ≡ (item_modifies b k c.dat && among (frame_cells b (site_of b k).args e) (Data c))
   unfolding parts
   modified_is c le =
-      let both = law (setup_of b o meshes p) (parts numbers items halos b o n meshes p r.planned) k e c free le in
+      let both = law (setup_of b o meshes p) (parts numbers items halos b o n meshes p pl) k e c free le in
       one_test (is_modified ((setup_of b o meshes p).touch k e (Data c))) (item_modifies b k c.dat && among (frame_cells b (site_of b k).args e) (Data c))
       (λ h. let w = both.0 h in and_from (item_modifies b k c.dat) (among (frame_cells b (site_of b k).args e) (Data c)) w.0 (reached_among c w.1 w.2 w.3))
       (λ h.
@@ -78,7 +78,7 @@ module _ (numbers : NumberLaws) (items : ItemLaws) (halos : HaloLaws) (kernels :
 
   pub reduced_held : (v : VarCell) (q : Reduction) → reduces_at b (loop_of (item_at b k)) v ≡ Some q → among (frame_cells b (site_of b k).args e) (Variable v) ≡ true
   reduced_held v q h =
-      let m : Merges b (loop_of (item_at b k)) (site_fits numbers items b o n meshes p r.planned k free) v q = merges b (loop_of (item_at b k)) (site_fits numbers items b o n meshes p r.planned k free) v q h in
+      let m : Merges b (loop_of (item_at b k)) (site_fits numbers items b o n meshes p pl k free) v q = merges b (loop_of (item_at b k)) (site_fits numbers items b o n meshes p pl k free) v q h in
       let a : ℕ = m.argument.number in
       let dim : (mode_at (modes_of b (site_of b k)) a).dim ≡ var_width b v.variable =
       ap (λ (x : Mode). x.dim) (mode_is b (site_of b k) a m.argument.there) ∙ ap (arg_width b) m.argument.is in

@@ -82,7 +82,7 @@ SetupsHaveParts =
 abbrev pub LayoutsFit : Type 0
 LayoutsFit =
     (b : BoundValue) (o : Owners) (n : Perms) (meshes : List RankMesh) (p : PlanValue)
-    → Runnable b o n meshes p
+    → Planned b o n meshes p
     → IsLayout (setup_of b o meshes p) (layout_of b o meshes p)
 
 -- each index of a rank's buffer is its cell's place, and each index of the variables its cell's

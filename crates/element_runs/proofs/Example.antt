@@ -13,7 +13,7 @@ use Rattle.kernel_types.specs.declared.kernels.RKernel.{RKernel}
 use Rattle.kernel_model.specs.Meaning.{Target, target_at}
 use Rattle.kernel_model.specs.Meaning as kernel
 use Rattle.reductions.specs.Access.{OpRw, OpWrite}
-use Rattle.kernel_model.specs.Obeys.{Mode, mode_at}
+use Rattle.kernel_model.specs.Obeys.{Mode, mode_at, KernelObeys}
 use Rattle.kernel_model.specs.Independence.{same_cell}
 use Rattle.kernel_model.specs.Independence as law
 use Rattle.schedule_model.specs.Cells.{DatCell, Cell, Data, Variable, Store, InRange, with_cell}
@@ -134,7 +134,6 @@ module _ (entry : Entries) (width : ℕ → ℕ) where
   module _ (name : Name) (places : Vec Pos Global) (one_place : length places.items ≡ 1) where
     pub is_element_run : IsElementRun entry (λ d. 1) width argument 1 0 modes cell_of (sevens name places) (λ c. false) run
     is_element_run = record {
-      obeys = λ w. ((omega arith, tt), λ a i e lt. absurd (no_write a e));
       count = refl;
       accesses = accesses;
       reach = only_first (λ a i. reaches entry (λ d. 1) width 0 (argument a) (cell_of a i) ≡ true) refl;
@@ -153,6 +152,10 @@ module _ (entry : Entries) (width : ℕ → ℕ) where
 counts : (a : ℕ) → (target_at target a).count ≡ (mode_at modes a).dim
 counts zero = refl
 counts (suc a) = refl
+
+-- the kernel obeys its modes
+pub obeys : (name : Name) (places : Vec Pos Global) → KernelObeys (sevens name places) modes
+obeys name places w = ((omega arith, tt), λ a i e lt. absurd (no_write a e))
 
 -- its argument names the one cell of its window
 pub on_windows : OnWindows modes cell_of (cell_of 0 0 ∷ []) target

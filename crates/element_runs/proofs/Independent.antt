@@ -6,7 +6,7 @@ use Rattle.kernel_types.specs.declared.faults.KernelFault.{KernelFault}
 use Rattle.kernel_types.specs.declared.kernels.RKernel.{RKernel}
 use Rattle.kernel_model.specs.Meaning.{Target, target_at, cell, read_arg, kernel_meaning}
 use Rattle.kernel_model.specs.Meaning as kernel
-use Rattle.kernel_model.specs.Obeys.{Mode, mode_at}
+use Rattle.kernel_model.specs.Obeys.{Mode, mode_at, KernelObeys}
 use Rattle.kernel_model.specs.Independence.{Suits, Fits, same_cell, store_after, SameAliases, SameInputs, Alone, OnlyReduced, OnlyRead, Independence, ReadsStay}
 use Rattle.kernel_model.specs.Independence as law
 use Rattle.schedule_model.specs.Cells.{Cell, Store, InRange}
@@ -40,7 +40,7 @@ is_reducing OpRw h = absurd (let f : ⊥ = cc in f)
 is_reducing OpWrite h = absurd (let f : ⊥ = cc in f)
 is_reducing (OpReduce r) h = (r, refl)
 
-module _ (indep : Independence) (reads : ReadsStay) (ops : (r : Reduction) → IsCommuting (unit_of r) (merged r)) (entry : Entries) (dim width : ℕ → ℕ) (arg : ℕ → Argument) (n e : ℕ) (modes : List Mode) (cell_of : ℕ → ℕ → Cell) (k : RKernel) (is_constant : Cell → Bool) (run : Store → Ran KernelFault) (h : IsElementRun entry dim width arg n e modes cell_of k is_constant run) where
+module _ (indep : Independence) (reads : ReadsStay) (ops : (r : Reduction) → IsCommuting (unit_of r) (merged r)) (entry : Entries) (dim width : ℕ → ℕ) (arg : ℕ → Argument) (n e : ℕ) (modes : List Mode) (cell_of : ℕ → ℕ → Cell) (k : RKernel) (is_constant : Cell → Bool) (run : Store → Ran KernelFault) (h : IsElementRun entry dim width arg n e modes cell_of k is_constant run) (obeys : KernelObeys k modes) where
   abbrev is_reached : Cell → ℕ → Bool
   is_reached c a = reaches entry dim width e (arg a) c
 
@@ -83,7 +83,7 @@ module _ (indep : Independence) (reads : ReadsStay) (ops : (r : Reduction) → I
         by a at r =
             ap t r.2 ∙ ends.0 a r.0 r.1
             ∙ ap (λ (o : kernel.Ran). cell (store_after o) (target_at ts a).array ((target_at ts a).from + r.0)) ran
-            ∙ reads k modes ts consts l (target_at ts a).array ((target_at ts a).from + r.0) h.obeys held.fits (only_read a r.0 c r.1 r.2 all)
+            ∙ reads k modes ts consts l (target_at ts a).array ((target_at ts a).from + r.0) obeys held.fits (only_read a r.0 c r.1 r.2 all)
             ∙ held.values a r.0 r.1 ∙ ap s (sym r.2)
 
   -- ---- two runs
@@ -151,7 +151,7 @@ module _ (indep : Independence) (reads : ReadsStay) (ops : (r : Reduction) → I
     ended consts (kernel.Stopped l' f) (kernel.Stopped m' g) (Faulted p) (Finished u) a b same ends_s ends_w = absurd ends_w
 
 pub independent : Independence → ReadsStay → ((r : Reduction) → IsCommuting (unit_of r) (merged r)) → ElementRunsAreIndependent
-independent indep reads ops entry dim width arg n e modes cell_of k is_constant run h s w in_s in_w agree constant =
+independent indep reads ops entry dim width arg n e modes cell_of k is_constant run h obeys s w in_s in_w agree constant =
     let ts = h.targets s in
     let us = h.targets w in
     let l = h.lists s in
@@ -160,8 +160,8 @@ independent indep reads ops entry dim width arg n e modes cell_of k is_constant 
     let held_w = h.held w in
     let same : h.consts w ≡ h.consts s = sym (h.constants s w constant) in
     let ends_w = subst (λ cs. EndsAs entry dim width arg n e modes cell_of us w (kernel_meaning us cs k m) (run w)) same (h.ends w) in
-    let both = indep k modes (h.consts s) ts us l m (h.resolved s) h.obeys (suits indep reads ops entry dim width arg n e modes cell_of k is_constant run h s ts l held_s in_s) (suits indep reads ops entry dim width arg n e modes cell_of k is_constant run h w us m held_w in_w)
-    (aliases indep reads ops entry dim width arg n e modes cell_of k is_constant run h s w in_s in_w ts us l m held_s held_w)
-    (inputs indep reads ops entry dim width arg n e modes cell_of k is_constant run h s w in_s in_w ts us l m held_s held_w agree) in
-    ended indep reads ops entry dim width arg n e modes cell_of k is_constant run h s w in_s in_w ts us l m held_s held_w (h.consts s)
+    let both = indep k modes (h.consts s) ts us l m (h.resolved s) obeys (suits indep reads ops entry dim width arg n e modes cell_of k is_constant run h obeys s ts l held_s in_s) (suits indep reads ops entry dim width arg n e modes cell_of k is_constant run h obeys w us m held_w in_w)
+    (aliases indep reads ops entry dim width arg n e modes cell_of k is_constant run h obeys s w in_s in_w ts us l m held_s held_w)
+    (inputs indep reads ops entry dim width arg n e modes cell_of k is_constant run h obeys s w in_s in_w ts us l m held_s held_w agree) in
+    ended indep reads ops entry dim width arg n e modes cell_of k is_constant run h obeys s w in_s in_w ts us l m held_s held_w (h.consts s)
     (kernel_meaning ts (h.consts s) k l) (kernel_meaning us (h.consts s) k m) (run s) (run w) refl refl both (h.ends s) ends_w

@@ -136,12 +136,12 @@ pub keep_range : RangeStays → ElementRunsKeepRange
 keep_range range entry dim width arg n e modes cell_of k is_constant run h s t in_s ran = in_range entry dim width arg n e modes cell_of k is_constant run h range s t in_s ran
 
 pub keep_reads : Independence → ReadsStay → ((r : Reduction) → IsCommuting (unit_of r) (merged r)) → ElementRunsKeepReads
-keep_reads indep reads ops entry dim width arg n e modes cell_of k is_constant run h s t ran c all =
+keep_reads indep reads ops entry dim width arg n e modes cell_of k is_constant run h obeys s t ran c all =
     by_meaning (kernel_meaning (h.targets s) (h.consts s) k (h.lists s)) refl
     (subst (EndsAs entry dim width arg n e modes cell_of (h.targets s) s (kernel_meaning (h.targets s) (h.consts s) k (h.lists s))) ran (h.ends s))
   where
     by_meaning : (x : kernel.Ran) → x ≡ kernel_meaning (h.targets s) (h.consts s) k (h.lists s) → EndsAs entry dim width arg n e modes cell_of (h.targets s) s x (Finished t) → t c ≡ s c
-    by_meaning (kernel.Finished l) i ends = stays indep reads ops entry dim width arg n e modes cell_of k is_constant run h s (h.targets s) (h.lists s) (h.held s) (h.consts s) l t c i ends all
+    by_meaning (kernel.Finished l) i ends = stays indep reads ops entry dim width arg n e modes cell_of k is_constant run h obeys s (h.targets s) (h.lists s) (h.held s) (h.consts s) l t c i ends all
     by_meaning (kernel.Stopped l f) i ends = absurd ends
 
 pub any_lists : Transport → AnyListsServe

@@ -1,22 +1,22 @@
 -- A setup whose loop runs a kernel: a[0] = 7; for the one element of a set, on a direct OP_RW argument, on one rank.
-use Rattle.std.proofs.Common.{◌≡◌, ◌<◌, ℕ, ℤ, zero, suc, pos, Bool, true, false, List, [], ◌∷◌, length, Option, Some, None, inr, refl, subst, arith, Vec, Global}
-use Rattle.std.specs.Prelude.{◌==◌, FitsSigned}
+use Rattle.std.proofs.Common.{◌≡◌, ◌<◌, ℕ, ℤ, zero, suc, pos, true, false, List, length, Option, Some, None, inr, refl, arith, Vec, Global}
+use Rattle.std.specs.Prelude.{◌==◌}
 use Rattle.op_num.specs.declared.bytes.Name.{Name}
 use Rattle.op_num.specs.declared.refusals.Fault.TheVariants.{DivZero}
 use Rattle.c_lex.specs.declared.tokens.Pos.{Pos}
 use Rattle.kernel_types.specs.declared.faults.KernelFault.{KernelFault}
-use Rattle.reductions.specs.Access.{Access, OpRw, OpRead, OpReduce}
+use Rattle.reductions.specs.Access.{Access, OpRead, OpReduce}
 use Rattle.reductions.specs.Reduction.{Reduction}
-use Rattle.schedule_model.specs.Cells.{Cell, Data, Variable, DatCell, VarCell, Store}
-use Rattle.schedule_model.specs.Effects.{Ran, Touch}
-use Rattle.schedule_model.specs.Program.{Program, Kind, Free, Ordered, Hosted, Halts, Goes}
+use Rattle.schedule_model.specs.Cells.{Cell, VarCell}
+use Rattle.schedule_model.specs.Effects.{Touch}
+use Rattle.schedule_model.specs.Program.{Program, Free, Ordered, Halts, Goes}
 use Rattle.schedule_model.specs.Setup.{Setup}
-use Rattle.schedule_laws.specs.Arguments.{Argument, Direct, Indirect, Global as GlobalArgument, Entries}
+use Rattle.schedule_laws.specs.Arguments.{Indirect, Global as GlobalArgument, Entries}
 use Rattle.schedule_laws.specs.ByArguments.{touch_with}
 use Rattle.schedule_laws.specs.LoopParts.{LoopParts}
 use Rattle.element_runs.specs.ElementRun.{IsElementRun}
 use Rattle.element_runs.specs.RunsKernels.{RunsKernels}
-use Rattle.element_runs.proofs.Example.{here, modes, argument, cell_of, sevens, run, is_element_run}
+use Rattle.element_runs.proofs.Example.{here, modes, argument, cell_of, sevens, run, is_element_run, obeys}
 
 -- no map leads anywhere
 abbrev pub entries : Entries
@@ -132,6 +132,7 @@ module _ (name : Name) (places : Vec Pos Global) (one_place : length places.item
     cell_of = λ k e. cell_of;
     is_constant = λ c. false;
     runs = λ k e h l. first e l;
+    obeys = λ k h. obeys name places;
     read_constants = λ k e f l c h. absurd (not_true h);
     touches = λ k e c f l. refl;
     ordered_modifies = λ k a d h. absurd (not_ordered h);

@@ -39,9 +39,8 @@ module _ (entry : Entries) (dim width : ℕ → ℕ) (arg : ℕ → Argument) (n
   EndsAs ts s (kernel.Finished l) (Faulted g) = ⊥
   EndsAs ts s (kernel.Stopped l f) (Finished t) = ⊥
 
-  -- a run on cells is that of a kernel which obeys its modes, over any lists that hold the cells which its arguments reach
+  -- a run on cells is that of a kernel over any lists that hold the cells which its arguments reach
   pub record IsElementRun (k : RKernel) (is_constant : Cell → Bool) (run : Store → Ran KernelFault) : Type 0 where
-    pub obeys : KernelObeys k modes
     pub count : length modes ≡ n
     pub accesses : (a : ℕ) → a < n → (mode_at modes a).access ≡ access_of (arg a)
     -- the cells of an argument's components are those that it reaches
@@ -83,19 +82,23 @@ module _ (entry : Entries) (dim width : ℕ → ℕ) (arg : ℕ → Argument) (n
   EndsHolding is_there array index (kernel.Finished l) (Faulted g) = ⊥
   EndsHolding is_there array index (kernel.Stopped l f) (Finished t) = ⊥
 
--- such a run is independent by its arguments
+-- such a run, where the kernel obeys its modes, is independent by its arguments
 abbrev pub ElementRunsAreIndependent : Type 0
 ElementRunsAreIndependent =
     (entry : Entries) (dim width : ℕ → ℕ) (arg : ℕ → Argument) (n e : ℕ) (modes : List Mode) (cell_of : ℕ → ℕ → Cell)
     (k : RKernel) (is_constant : Cell → Bool) (run : Store → Ran KernelFault)
-    → IsElementRun entry dim width arg n e modes cell_of k is_constant run → IndependentBy entry dim width arg n e is_constant run
+    → IsElementRun entry dim width arg n e modes cell_of k is_constant run
+    → KernelObeys k modes
+    → IndependentBy entry dim width arg n e is_constant run
 
 -- so it is independent by the touches of cells, where constants are read
 abbrev pub ElementRunsAreIndependentByTouches : Type 0
 ElementRunsAreIndependentByTouches =
     (entry : Entries) (dim width : ℕ → ℕ) (arg : ℕ → Argument) (n e : ℕ) (modes : List Mode) (cell_of : ℕ → ℕ → Cell)
     (k : RKernel) (is_constant : Cell → Bool) (run : Store → Ran KernelFault)
-    → IsElementRun entry dim width arg n e modes cell_of k is_constant run → ReadConstants entry dim width arg n e is_constant
+    → IsElementRun entry dim width arg n e modes cell_of k is_constant run
+    → KernelObeys k modes
+    → ReadConstants entry dim width arg n e is_constant
     → Independent run (touch_with entry dim width arg n e is_constant)
 
 -- so it is given by whether it faults and by what it makes of each cell's old value
@@ -103,7 +106,9 @@ abbrev pub ElementRunsGiveEffects : Type 0
 ElementRunsGiveEffects =
     (entry : Entries) (dim width : ℕ → ℕ) (arg : ℕ → Argument) (n e : ℕ) (modes : List Mode) (cell_of : ℕ → ℕ → Cell)
     (k : RKernel) (is_constant : Cell → Bool) (run : Store → Ran KernelFault)
-    → IsElementRun entry dim width arg n e modes cell_of k is_constant run → ReadConstants entry dim width arg n e is_constant
+    → IsElementRun entry dim width arg n e modes cell_of k is_constant run
+    → KernelObeys k modes
+    → ReadConstants entry dim width arg n e is_constant
     → GivesEffects run (touch_with entry dim width arg n e is_constant)
 
 -- it keeps all values in range
@@ -114,12 +119,12 @@ ElementRunsKeepRange =
     → IsElementRun entry dim width arg n e modes cell_of k is_constant run
     → (s t : Store) → InRange s → run s ≡ Finished t → InRange t
 
--- it keeps each cell that OP_READ arguments alone reach, or none, in an Ordered loop too
+-- where the kernel obeys its modes, it keeps each cell that OP_READ arguments alone reach, or none, in an Ordered loop too
 abbrev pub ElementRunsKeepReads : Type 0
 ElementRunsKeepReads =
     (entry : Entries) (dim width : ℕ → ℕ) (arg : ℕ → Argument) (n e : ℕ) (modes : List Mode) (cell_of : ℕ → ℕ → Cell)
     (k : RKernel) (is_constant : Cell → Bool) (run : Store → Ran KernelFault)
-    → IsElementRun entry dim width arg n e modes cell_of k is_constant run
+    → IsElementRun entry dim width arg n e modes cell_of k is_constant run → KernelObeys k modes
     → (s t : Store) → run s ≡ Finished t → (c : Cell) → All entry dim width arg n e c (λ x. x ≡ OpRead) → t c ≡ s c
 
 -- it ends as the kernel's meaning does over any lists that hold the cells

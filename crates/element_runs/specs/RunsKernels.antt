@@ -3,7 +3,7 @@ use Rattle.std.specs.Prelude.{◌≡◌, ◌<◌, ℕ, ℤ, Bool, true, List, Fi
 use Rattle.std.specs.Int.{w32}
 use Rattle.kernel_types.specs.declared.faults.KernelFault.{KernelFault}
 use Rattle.kernel_types.specs.declared.kernels.RKernel.{RKernel}
-use Rattle.kernel_model.specs.Obeys.{Mode}
+use Rattle.kernel_model.specs.Obeys.{Mode, KernelObeys}
 use Rattle.schedule_model.specs.Cells.{Cell, VarCell, Store, InRange}
 use Rattle.schedule_model.specs.Program.{Free, Ordered, Goes, is_loop, elements}
 use Rattle.schedule_model.specs.Setup.{Setup}
@@ -22,6 +22,8 @@ pub record RunsKernels (p : Setup KernelFault) (f : LoopParts p) : Type 0 where
   pub runs : (k e : ℕ) → is_loop (p.program.kind k) ≡ true → e < elements p.program k
       → IsElementRun f.entry f.dim f.width (f.arg (p.program.site k)) (f.args (p.program.site k)) e
       (modes (p.program.site k)) (cell_of k e) (kernel (p.program.site k)) is_constant (p.program.run k e)
+  -- which obeys the modes of the loop's arguments
+  pub obeys : (k : ℕ) → is_loop (p.program.kind k) ≡ true → KernelObeys (kernel (p.program.site k)) (modes (p.program.site k))
   -- a Free loop touches cells by its arguments, and reads constants at most
   pub read_constants : (k e : ℕ) → p.program.kind k ≡ Free → e < elements p.program k
       → ReadConstants f.entry f.dim f.width (f.arg (p.program.site k)) (f.args (p.program.site k)) e is_constant

@@ -10,8 +10,8 @@ ghost use Rattle.element_runs.specs.RunsKernels.{SetupsHaveKernels};
 
 use kernel_types::KernelFault;
 
-/// A law: where a run for one element, on the cells of dats and variables, is that of a kernel which obeys its modes, over
-/// any lists that hold the cells which its arguments reach, it is independent by its arguments.
+/// A law: where a run for one element, on the cells of dats and variables, is that of a kernel over any lists that hold the
+/// cells which its arguments reach, and the kernel obeys its modes, the run is independent by its arguments.
 pub fn element_runs_are_independent()
     ensures { ElementRunsAreIndependent }
 {
@@ -31,7 +31,8 @@ pub fn element_runs_give_effects()
     schedule_model::independence_gives_effects::<KernelFault>();
 }
 
-/// A law: such a run keeps all values in range, and each cell that OP_READ arguments alone reach, or none.
+/// A law: such a run keeps all values in range, of any kernel; and of one that obeys its modes, each cell that OP_READ
+/// arguments alone reach, or none.
 pub fn element_runs_keep()
     ensures range { ElementRunsKeepRange }
     ensures reads { ElementRunsKeepReads }
@@ -42,7 +43,7 @@ pub fn element_runs_keep()
     reductions::reductions_commute();
 }
 
-/// A law: such a run ends as the kernel's meaning does over any lists that hold the cells which its arguments reach. So two
+/// A law: such a run, of any kernel, ends as the kernel's meaning does over any lists that hold the cells which its arguments reach. So two
 /// runs of one kernel for one element with the same constants, as on whole arrays and on a frame, are equal.
 pub fn element_runs_agree()
     ensures lists { AnyListsServe }
@@ -51,7 +52,7 @@ pub fn element_runs_agree()
     kernel_model::transport();
 }
 
-/// A law: over whole arrays that hold a store, the kernel's meaning leaves arrays that hold the store after the run, or both
+/// A law: over whole arrays that hold a store, any kernel's meaning leaves arrays that hold the store after the run, or both
 /// have the same fault.
 pub fn element_runs_on_arrays()
     ensures { ElementRunsOnArrays }

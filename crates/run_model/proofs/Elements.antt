@@ -4,7 +4,7 @@ use Rattle.std.proofs.lemmas.List.{length-map}
 use Rattle.kernel_types.specs.declared.kernels.RKernel.{RKernel}
 use Rattle.kernel_types.specs.Resolved.{IsResolved}
 use Rattle.kernel_model.specs.Meaning.{kernel_meaning}
-use Rattle.kernel_model.specs.Obeys.{Mode, mode_at, KernelObeys}
+use Rattle.kernel_model.specs.Obeys.{Mode, mode_at}
 use Rattle.kernel_model.specs.Independence.{ShapeStays}
 use Rattle.schedule_model.specs.Cells.{Cell, Store}
 use Rattle.schedule_laws.specs.Arguments.{reaches}
@@ -33,7 +33,7 @@ kernel_fits b [] n k fits at = absurd (let f : ⊥ = cc in f)
 kernel_fits b (x ∷ xs) zero k fits at = subst (KernelFits b) (some_is x k at) (fits 0 x (omega arith))
 kernel_fits b (x ∷ xs) (suc n) k fits at = kernel_fits b xs n k (λ i d lt. fits (suc i) d (omega arith)) at
 
-module _ (shape : ShapeStays) (b : BoundValue) (site : SiteValue) (e : ℕ) (k : RKernel) (fits : Fits b) (kernel : KernelFits b k) (obeys : KernelObeys k (modes_of b site)) where
+module _ (shape : ShapeStays) (b : BoundValue) (site : SiteValue) (e : ℕ) (k : RKernel) (fits : Fits b) (kernel : KernelFits b k) where
   reach : (a i : ℕ) → i < (mode_at (modes_of b site) a).dim → reaches (entries b) (dat_width b) (var_width b) e (argument_at site a) (cell_of b site e a i) ≡ true
   reach a i lt = reaches_own b e (arg_at site a) i (below b site a i lt)
 
@@ -55,7 +55,6 @@ module _ (shape : ShapeStays) (b : BoundValue) (site : SiteValue) (e : ℕ) (k :
   runs_kernel : RunsKernel b site e k (run_of b (Some k) site e)
   runs_kernel = record {
     is_run = record {
-      obeys = obeys;
       count = length-map site.args (mode_of b);
       accesses = λ a lt. ap (λ (m : Mode). m.access) (mode_is b site a lt) ∙ access_is (arg_at site a);
       reach = reach;
@@ -76,7 +75,7 @@ module _ (shape : ShapeStays) (b : BoundValue) (site : SiteValue) (e : ℕ) (k :
 pub elements_run_kernels : ShapeStays → ElementsRunKernels
 elements_run_kernels shape b k e f fits loop =
     subst (λ o. RunsKernel b (site_of b k) e f (run_of b o (site_of b k) e)) (sym loop.kernel)
-    (runs_kernel shape b (site_of b k) e f fits (kernel_fits b b.kernels (site_of b k).kernel f fits.kernels loop.kernel) loop.obeys)
+    (runs_kernel shape b (site_of b k) e f fits (kernel_fits b b.kernels (site_of b k).kernel f fits.kernels loop.kernel))
 
 pub loops_keep_range : ElementsRunKernels → ElementRunsKeepRange → LoopsKeepRange
 loops_keep_range runs keep b k e f s t fits loop =
@@ -84,6 +83,6 @@ loops_keep_range runs keep b k e f s t fits loop =
     ((program_of b).run k e) (runs b k e f fits loop).is_run s t
 
 pub loops_keep_reads : ElementsRunKernels → ElementRunsKeepReads → LoopsKeepReads
-loops_keep_reads runs keep b k e f s t c fits loop ran =
+loops_keep_reads runs keep b k e f s t c fits loop obeys ran =
     keep (entries b) (dat_width b) (var_width b) (argument_at (site_of b k)) (length (site_of b k).args) e (modes_of b (site_of b k)) (cell_of b (site_of b k) e) f (is_constant b)
-    ((program_of b).run k e) (runs b k e f fits loop).is_run s t ran c
+    ((program_of b).run k e) (runs b k e f fits loop).is_run obeys s t ran c

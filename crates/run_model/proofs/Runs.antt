@@ -13,7 +13,7 @@ use Rattle.run_model.specs.Kernels.{kernel_at}
 use Rattle.run_model.specs.Programs.{kind_of, loop_of, item_at, program_of}
 use Rattle.run_model.specs.Laws.{site_of, IsLoopOf, LoopsKeepRange}
 use Rattle.run_model.proofs.Items.{loop_there}
-use Rattle.run_model.specs.Ranges.{FirstValuesInRange, HostsKeepRange, AllObey, RunInRange, RunsKeepRange}
+use Rattle.run_model.specs.Ranges.{FirstValuesInRange, HostsKeepRange, RunInRange, RunsKeepRange}
 
 -- a loop's number and its kernel are there
 kernel_there : (xs : List RKernel) (n m : ℕ) → TakesArgs xs n m → (f : RKernel) × (kernel_at xs n ≡ Some f)
@@ -22,13 +22,13 @@ kernel_there (x ∷ xs) zero m h = (x, refl)
 kernel_there (x ∷ xs) (suc n) m h = kernel_there xs n m h
 
 module _ (b : BoundValue) where
-  loop_is : Fits b → AllObey b → (k : ℕ) → is_loop (kind_of (item_at b k)) ≡ true → (f : RKernel) × IsLoopOf b k f
-  loop_is fits obey k h =
+  loop_is : Fits b → (k : ℕ) → is_loop (kind_of (item_at b k)) ≡ true → (f : RKernel) × IsLoopOf b k f
+  loop_is fits k h =
       let lt = loop_there b None b.trace k fits.items h in
       let w = kernel_there b.kernels (site_of b k).kernel (length (site_of b k).args) (fits.sites (loop_of (item_at b k)) no_site lt).kernel in
-      (w.0, record { is_loop = h; kernel = w.1; obeys = obey (loop_of (item_at b k)) w.0 lt w.1 })
+      (w.0, record { is_loop = h; kernel = w.1 })
 
-module _ (loops : LoopsKeepRange) (hosts : HostsKeepRange) (b : BoundValue) (fits : Fits b) (obey : AllObey b) where
+module _ (loops : LoopsKeepRange) (hosts : HostsKeepRange) (b : BoundValue) (fits : Fits b) where
   abbrev LoopInRange : Loop KernelFault → Type 0
   LoopInRange (Broke e f s) = InRange s
   LoopInRange (Ran_through s) = InRange s
@@ -36,7 +36,7 @@ module _ (loops : LoopsKeepRange) (hosts : HostsKeepRange) (b : BoundValue) (fit
   module _ (k : ℕ) (h : is_loop (kind_of (item_at b k)) ≡ true) where
     after_one : (e : ℕ) (s : Store) → InRange s → (r : Ran KernelFault) → (program_of b).run k e s ≡ r → LoopInRange (after_run e s r)
     after_one e s small (Faulted f) ran = small
-    after_one e s small (Finished t) ran = let w = loop_is b fits obey k h in loops b k e w.0 s t fits w.1 small ran
+    after_one e s small (Finished t) ran = let w = loop_is b fits k h in loops b k e w.0 s t fits w.1 small ran
 
     with_one : (e : ℕ) (x : Loop KernelFault) → LoopInRange x → LoopInRange (one_more (program_of b) k e x)
     with_one e (Broke a f s) small = small
@@ -75,4 +75,4 @@ module _ (loops : LoopsKeepRange) (hosts : HostsKeepRange) (b : BoundValue) (fit
   run_kept small (suc k) = by_run k (seq (program_of b) k) (run_kept small k)
 
 pub runs_keep_range : LoopsKeepRange → HostsKeepRange → FirstValuesInRange → RunsKeepRange
-runs_keep_range loops hosts first b fits obey starts k = run_kept loops hosts b fits obey (first b starts) k
+runs_keep_range loops hosts first b fits obey starts k = run_kept loops hosts b fits (first b starts) k

@@ -29,17 +29,16 @@ LoopsAreThere = (b : BoundValue) (k : ℕ) → Fits b → is_loop (kind_of (item
 abbrev pub ActsAreThere : Type 0
 ActsAreThere = (b : BoundValue) (k : ℕ) → Fits b → ActFits b (act_in (item_at b k))
 
--- the run of a loop for an element is that of this kernel, which obeys the modes of the loop's arguments
+-- the run of a loop for an element is that of this kernel
 pub record RunsKernel (b : BoundValue) (site : SiteValue) (e : ℕ) (f : RKernel) (run : Store → Ran KernelFault) : Type 0 where
   pub is_run : IsElementRun (entries b) (dat_width b) (var_width b) (argument_at site) (length site.args) e
       (modes_of b site) (cell_of b site e) f (is_constant b) run
   pub consts : (s : Store) → is_run.consts s ≡ constant_values b s
 
--- item k is a loop of this kernel, which obeys the modes of the loop's arguments
+-- item k is a loop of this kernel
 pub record IsLoopOf (b : BoundValue) (k : ℕ) (f : RKernel) : Type 0 where
   pub is_loop : is_loop (kind_of (item_at b k)) ≡ true
   pub kernel : kernel_at b.kernels (site_of b k).kernel ≡ Some f
-  pub obeys : KernelObeys f (modes_of b (site_of b k))
 
 -- such an item runs its kernel for each element
 abbrev pub ElementsRunKernels : Type 0
@@ -53,11 +52,11 @@ LoopsKeepRange =
     (b : BoundValue) (k e : ℕ) (f : RKernel) (s t : Store)
     → Fits b → IsLoopOf b k f → InRange s → (program_of b).run k e s ≡ Finished t → InRange t
 
--- it keeps each cell that OP_READ arguments alone reach, or none
+-- where the kernel obeys the modes of the loop's arguments, it keeps each cell that OP_READ arguments alone reach, or none
 abbrev pub LoopsKeepReads : Type 0
 LoopsKeepReads =
     (b : BoundValue) (k e : ℕ) (f : RKernel) (s t : Store) (c : Cell)
-    → Fits b → IsLoopOf b k f → (program_of b).run k e s ≡ Finished t
+    → Fits b → IsLoopOf b k f → KernelObeys f (modes_of b (site_of b k)) → (program_of b).run k e s ≡ Finished t
     → All (entries b) (dat_width b) (var_width b) (argument_at (site_of b k)) (length (site_of b k).args) e c (λ x. x ≡ OpRead)
     → t c ≡ s c
 

@@ -24,15 +24,16 @@ pub fn items_are_there()
     ensures acts { ActsAreThere }
 {}
 
-/// A law: an item that is a loop, whose kernel obeys its modes, runs that kernel for each element, with the values of the
-/// program's constants, over any lists that hold the cells which its arguments reach.
+/// A law: an item that is a loop runs its kernel for each element, with the values of the program's constants, over any lists
+/// that hold the cells which its arguments reach.
 pub fn elements_run_kernels()
     ensures { ElementsRunKernels }
 {
     kernel_model::shape_stays();
 }
 
-/// A law: so it keeps all values in range, and each cell that OP_READ arguments alone reach, or none.
+/// A law: so it keeps all values in range; and where its kernel obeys its modes, each cell that OP_READ arguments alone reach,
+/// or none.
 pub fn loops_keep()
     ensures range { LoopsKeepRange }
     ensures reads { LoopsKeepReads }

@@ -2,10 +2,10 @@ use Rattle.schedule_laws.specs.ByArguments.{touch_with}
 use Rattle.element_runs.proofs.element_runs_give_effects.Goals as goal
 
 pub returns-clause-independent : goal.returns-clause-independent
-returns-clause-independent c entry dim width arg n e modes cell_of k is_constant run h r =
-    c.arguments_give_touches.ensures entry dim width arg n e is_constant run r (c.element_runs_are_independent.ensures entry dim width arg n e modes cell_of k is_constant run h)
+returns-clause-independent c entry dim width arg n e modes cell_of k is_constant run h obeys r =
+    c.arguments_give_touches.ensures entry dim width arg n e is_constant run r (c.element_runs_are_independent.ensures entry dim width arg n e modes cell_of k is_constant run h obeys)
 
 pub returns-clause-effects : goal.returns-clause-effects
-returns-clause-effects c entry dim width arg n e modes cell_of k is_constant run h r =
+returns-clause-effects c entry dim width arg n e modes cell_of k is_constant run h obeys r =
     c.independence_gives_effects.ensures run (touch_with entry dim width arg n e is_constant)
-    (c.arguments_give_touches.ensures entry dim width arg n e is_constant run r (c.element_runs_are_independent.ensures entry dim width arg n e modes cell_of k is_constant run h))
+    (c.arguments_give_touches.ensures entry dim width arg n e is_constant run r (c.element_runs_are_independent.ensures entry dim width arg n e modes cell_of k is_constant run h obeys))
