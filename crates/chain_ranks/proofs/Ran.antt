@@ -19,8 +19,8 @@ use Rattle.run_model.specs.Programs.{item_at, loop_of}
 use Rattle.run_model.specs.Laws.{WindowsAreReached}
 use Rattle.host_acts.specs.Variables.{of_vars}
 use Rattle.rank_state.specs.Machine.{noted}
-use Rattle.rank_machine.specs.declared.stop.Stop.{Stop as Told}
-use Rattle.rank_machine.specs.Stops.{stop_in}
+use Rattle.rank_memory.specs.declared.stop.Stop.{Stop as Told}
+use Rattle.rank_memory.specs.Stops.{stop_in}
 use Rattle.bound_plan.specs.Variables.{reduces_at}
 use Rattle.chain_model.specs.Machine.{ChainState, replaced, left_in, pair_values, view, ran}
 use Rattle.bound_chains.specs.Slices.{needs, slicing_of}

@@ -6,7 +6,7 @@ ghost use Rattle.mesh_decl.specs.Mesh.{set_size};
 ghost use Rattle.mesh_decl.specs.Owners.{owner_of};
 ghost use Rattle.host_acts.specs.Variables.{of_vars};
 ghost use Rattle.rank_state.specs.Machine.{noted};
-ghost use Rattle.rank_machine.specs.Stops.{stop_in};
+ghost use Rattle.rank_memory.specs.Stops.{stop_in};
 ghost use Rattle.chain_model.specs.Machine.{ChainState};
 ghost use Rattle.chain_memory.specs.Places.{all_cells};
 ghost use Rattle.chain_memory.specs.Sound.{ranks_in};
@@ -20,7 +20,7 @@ use crate::loops::ChainLoop;
 use chain_elements::{drop_unheld, merge_globals, put_globals};
 use chain_memory::run_element;
 use kernel_types::KernelFault;
-use rank_machine::stop::{Stop, least};
+use rank_memory::stop::{Stop, least};
 
 // Keeps the fault of an element, where its rank owns it.
 fn keep_fault(

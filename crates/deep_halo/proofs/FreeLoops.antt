@@ -21,8 +21,8 @@ use Rattle.run_model.specs.Programs.{item_at, kind_of, loop_of, program_of}
 use Rattle.run_model.proofs.Memory.{has_var}
 use Rattle.host_acts.specs.Variables.{of_vars}
 use Rattle.bound_plan.specs.Variables.{reduces_at}
-use Rattle.rank_machine.specs.declared.stop.Stop.{Stop as Recorded}
-use Rattle.rank_machine.specs.Stops.{stop_in}
+use Rattle.rank_memory.specs.declared.stop.Stop.{Stop as Recorded}
+use Rattle.rank_memory.specs.Stops.{stop_in}
 use Rattle.chain_model.specs.Chains.{begins}
 use Rattle.chain_model.specs.Machine.{ChainState, supplied, exchanged, view, ran, one_run, rank_run, ranks_run}
 use Rattle.bound_chains.specs.Slices.{slicing_of}

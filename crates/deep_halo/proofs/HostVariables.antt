@@ -10,8 +10,9 @@ use Rattle.schedule_model.specs.Program.{Hosted, Halts, Goes}
 use Rattle.schedule_model.specs.Sequential.{with_variables}
 use Rattle.op_num.specs.declared.bytes.Text.{Text}
 use Rattle.bound_program.specs.declared.acts.Act.{Act}
+use Rattle.bound_program.specs.declared.acts.ToldAct.{ToldAct}
 use Rattle.bound_program.specs.declared.acts.Act.TheVariants as act
-use Rattle.bound_program.specs.Values.{act_of, BoundValue, ActValue, Clear, Assign, Line, Print, Exit}
+use Rattle.bound_program.specs.Values.{act_of, told_act_of, closed_act, BoundValue, ActValue, Clear, Assign, Line, Print, Exit}
 use Rattle.bound_program.specs.Fits.{ActFits}
 use Rattle.run_model.specs.Hosts.{act_run}
 use Rattle.run_model.specs.Memory.{Holds, memory_length, var_start, place_of, has_cell}
@@ -33,13 +34,17 @@ same_act b s (Line text es) plain = refl
 same_act b s (Print d file) plain = absurd (plain d file refl)
 same_act b s Exit plain = refl
 
--- a statement that is no print is none as a value
-pub not_print : (x : Act) → ((d : ℕ) (file : Text) → x ≡ act.Print d file → ⊥) → (d : ℕ) (file : List ℕ) → act_of x ≡ Print d file → ⊥
-not_print (act.Clear v) plain d file h = let q : ⊥ = cc in q
-not_print (act.Assign v i op op_at e at) plain d file h = let q : ⊥ = cc in q
-not_print (act.Line text es) plain d file h = let q : ⊥ = cc in q
-not_print (act.Print n text) plain d file h = plain n text refl
-not_print act.Exit plain d file h = let q : ⊥ = cc in q
+-- a statement that is no print is none with the values of its names
+closed_no_print : (ts : List ℤ) (x : Act) → ((d : ℕ) (file : Text) → x ≡ act.Print d file → ⊥) → (d : ℕ) (file : List ℕ) → closed_act ts (act_of x) ≡ Print d file → ⊥
+closed_no_print ts (act.Clear v) plain d file h = let q : ⊥ = cc in q
+closed_no_print ts (act.Assign v i op op_at e at) plain d file h = let q : ⊥ = cc in q
+closed_no_print ts (act.Line text es) plain d file h = let q : ⊥ = cc in q
+closed_no_print ts (act.Print n text) plain d file h = plain n text refl
+closed_no_print ts act.Exit plain d file h = let q : ⊥ = cc in q
+
+-- nor as a value
+pub not_print : (x : ToldAct) (a : Act) → a ≡ x.act.value → ((d : ℕ) (file : Text) → a ≡ act.Print d file → ⊥) → (d : ℕ) (file : List ℕ) → told_act_of x ≡ Print d file → ⊥
+not_print x a same plain = closed_no_print x.told.items x.act.value (λ d file h. plain d file (same ∙ h))
 
 -- what it names is there, without the mesh too
 pub plain_fits : (b : BoundValue) (a : ActValue) → ((d : ℕ) (file : List ℕ) → a ≡ Print d file → ⊥) → ActFits b a → ActFits (of_vars b.vars) a

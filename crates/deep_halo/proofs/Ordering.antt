@@ -17,8 +17,8 @@ use Rattle.run_model.specs.Kernels.{constants, constant_values, element_run}
 use Rattle.run_model.specs.Constants.{ConstantsAreNumbered, no_constant}
 use Rattle.run_model.specs.Laws.{WindowsAreReached}
 use Rattle.run_model.proofs.Memory.{has_var}
-use Rattle.rank_machine.specs.declared.stop.Stop.{Stop}
-use Rattle.rank_machine.specs.Stops.{stop_in}
+use Rattle.rank_memory.specs.declared.stop.Stop.{Stop}
+use Rattle.rank_memory.specs.Stops.{stop_in}
 use Rattle.placed_runs.specs.Placed.{HoldsWindows, LeavesPlaced, EndsPlaced}
 use Rattle.chain_memory.specs.Places.{in_block, all_cells, block_at, stands_at}
 use Rattle.chain_memory.proofs.Standing.{reached_there, stand_apart}

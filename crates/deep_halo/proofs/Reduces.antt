@@ -18,7 +18,7 @@ use Rattle.run_model.proofs.Memory.{var_there}
 use Rattle.host_acts.specs.Variables.{of_vars}
 use Rattle.bound_plan.specs.Variables.{reduced_by, reduces_at}
 use Rattle.bound_plan.proofs.Trace.{reduce_after, first_item}
-use Rattle.rank_machine.specs.declared.stop.Stop.{Stop}
+use Rattle.rank_memory.specs.declared.stop.Stop.{Stop}
 use Rattle.chain_model.specs.Machine.{ChainState, merged_over, reduced}
 use Rattle.bound_chains.specs.Slices.{slicing_of}
 use Rattle.chain_stores.specs.Cells.{BlocksHold}

@@ -4,7 +4,7 @@ ghost use Rattle.std.specs.Prelude.{◌≡◌, ◌<◌, ◌*◌, ◌++◌, IfOk,
 ghost use Rattle.mesh_decl.specs.Mesh.{dat_count, dat_set, dat_dim, set_size};
 ghost use Rattle.mesh_decl.specs.Printed.{printed_dat};
 ghost use Rattle.schedule_model.specs.Cells.{Store};
-ghost use Rattle.bound_program.specs.Values.{act_of};
+ghost use Rattle.bound_program.specs.Values.{told_act_of};
 ghost use Rattle.bound_program.specs.Fits.{ActFits};
 ghost use Rattle.run_model.specs.Hosts.{dat_cells, act_run};
 ghost use Rattle.chain_memory.specs.Places.{all_cells};
@@ -14,7 +14,7 @@ ghost use Rattle.deep_halo.specs.Orders.{OwnersStand};
 ghost use Rattle.deep_halo.specs.Hosts.{HostEnds};
 
 use crate::programs::Program;
-use bound_program::Act;
+use bound_program::{Act, ToldAct};
 use chain_memory::{owner_of, pair_at};
 use gather::print_dat;
 use host_acts::{Variables, run_act};
@@ -76,17 +76,17 @@ pub fn run_host(
     alloc: Global,
     memory: &mut [i32],
     program: &Program<'_>,
-    act: &Act,
+    act: &ToldAct,
     out: &mut Vec<u8>,
 ) -> Result<Result<(), KernelFault>, OutOfMemory>
     requires is { IsProgram program.now }
     requires memory { length memory.old ≡ all_cells (program_of_run program.now) (ranks_in program.now.blocks.now) }
-    requires fits { ActFits (program_of_run program.now) (act_of act.now) }
+    requires fits { ActFits (program_of_run program.now) (told_act_of act.now) }
     ensures { IfOk result (λ r. (s : Store) → OwnersStand (program_of_run program.now) (owners_of_run program.now) memory.old s
         → HostEnds (program_of_run program.now) (owners_of_run program.now) memory.old memory.new out.old.items out.new.items r
-        (act_run (program_of_run program.now) s (act_of act.now))) }
+        (act_run (program_of_run program.now) s (told_act_of act.now))) }
 {
-    if let Act::Print { dat, file } = act {
+    if let Act::Print { dat, file } = &*act.act {
         run_print(alloc, memory, program, *dat, file, out)?;
         return Ok(Ok(()));
     }

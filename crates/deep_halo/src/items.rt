@@ -21,7 +21,7 @@ use chain_memory::loop_of;
 use chain_ranks::{ChainLoop, put_units, reduce_all, run_ranks};
 use kernel_types::KernelFault;
 use op_num::OutOfMemory;
-use rank_machine::stop::Stop;
+use rank_memory::stop::Stop;
 use std::alloc::Global;
 
 // A Free loop, behind the exchange where a chain begins there.

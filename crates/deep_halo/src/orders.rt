@@ -15,7 +15,7 @@ ghost use Rattle.deep_halo.specs.Orders.{OwnersStand, OthersStay, LoopEnds};
 use crate::programs::Program;
 use chain_elements::read_constants;
 use chain_memory::{Loop, run_element};
-use rank_machine::stop::Stop;
+use rank_memory::stop::Stop;
 
 // Runs an element on the owners' pairs and the variables.
 fn run_owned(

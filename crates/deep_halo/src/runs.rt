@@ -11,7 +11,7 @@ ghost use Rattle.bound_chains.specs.Slices.{slicing_of};
 ghost use Rattle.chain_slices.specs.Slices.{AreSlices};
 ghost use Rattle.chain_memory.specs.Sound.{ranks_in};
 ghost use Rattle.chain_stores.specs.Cells.{BlocksHold, first_in_last};
-ghost use Rattle.rank_machine.specs.Stops as kept;
+ghost use Rattle.rank_memory.specs.Stops as kept;
 ghost use Rattle.deep_halo.specs.Programs.{IsProgram, IsRoom, program_of_run, owners_of_run};
 ghost use Rattle.deep_halo.specs.Stands.{Stands};
 ghost use Rattle.deep_halo.specs.Runs.{IsRun, PrintsTheProgram, stop_in};
@@ -28,7 +28,7 @@ use kernel_code::{Code, compile_all, room_for};
 use kernel_types::KernelFault;
 use mesh_decl::Owners;
 use op_num::OutOfMemory;
-use rank_machine::stop::Stop;
+use rank_memory::stop::Stop;
 use std::alloc::{AllocError, Global};
 
 /// Where a run by chains stopped, and by which fault. A host statement has no element; `element` is an original number.

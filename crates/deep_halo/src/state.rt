@@ -1,6 +1,6 @@
 // A run under way.
 
-use rank_machine::stop::Stop;
+use rank_memory::stop::Stop;
 
 /// A run under way.
 #[derive(Drop)]

@@ -9,7 +9,7 @@ use Rattle.schedule_model.specs.Cells.{Store}
 use Rattle.schedule_model.specs.Program.{Hosted, Halts, Goes}
 use Rattle.schedule_model.specs.Sequential.{with_variables}
 use Rattle.kernel_types.specs.View.{RExprTree, rexpr_of}
-use Rattle.bound_program.specs.HostExpr.{value}
+use Rattle.bound_program.specs.HostExpr.{value, closed}
 use Rattle.bound_program.specs.Values.{BoundValue, ActValue, Assign, var_of}
 use Rattle.run_model.specs.Memory.{Holds}
 use Rattle.host_acts.specs.declared.acts.Assignment.{Assignment}
@@ -42,7 +42,9 @@ Begins x = VarsBegin (map var_of x.vars.now) x.starts.now
 
 -- an assignment of the program as a statement
 abbrev pub assignment_of : ℕ → Assignment → ActValue
-assignment_of var x = Assign var (option_map rexpr_of x.index.now) x.op x.op_at (rexpr_of x.value.now) x.at
+assignment_of var x =
+    Assign var (option_map (closed x.told.now) (option_map rexpr_of x.index.now)) x.op x.op_at
+    (closed x.told.now (rexpr_of x.value.now)) x.at
 
 -- A statement has been done on the store s, with that memory and output after it: the memory holds the store after it and what
 -- it prints stands behind the old output, or it has a fault and prints nothing.

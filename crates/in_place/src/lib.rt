@@ -1,11 +1,9 @@
 //! Kernels on the cells of a rank's own memory, in place of windows that are gathered from it.
 #![tactic(auto)]
 
-mod copying;
 mod laws;
 mod running;
 mod saving;
 
-pub use copying::copy;
 pub use laws::{finishes_here, runs_in_place, unwritten_stay};
 pub use running::run_here;

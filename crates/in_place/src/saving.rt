@@ -4,7 +4,7 @@ ghost use Rattle.std.specs.Prelude.{◌≡◌, ◌≤◌, List, ℤ, length};
 ghost use Rattle.views.specs.Framed.{PlacesIn};
 ghost use Rattle.in_place.specs.Saving.{place_cells, place_spans, AreKept, AreSaved};
 
-use crate::copying::copy;
+use rank_memory::copying::copy;
 use views::Place;
 
 /// Copies the marked places' cells, each to where it stands among the cells of all places.

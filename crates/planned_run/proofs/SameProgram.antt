@@ -8,10 +8,10 @@ use Rattle.loop_plan.specs.Values.{PlanValue}
 use Rattle.loop_plan.specs.StepOutline.{step_outline}
 use Rattle.bound_plan.specs.Memories.{dump_of}
 use Rattle.rank_program.specs.declared.program.DistributedProgram.{DistributedProgram}
-use Rattle.rank_program.specs.declared.running.Outcome.{Outcome}
+use Rattle.rank_exec.specs.declared.running.Outcome.{Outcome}
 use Rattle.rank_program.specs.Sound.{program_in, plan_in}
 use Rattle.rank_program.specs.Runnables.{IsProgramOf}
-use Rattle.rank_program.specs.Runs.{IsRunBy}
+use Rattle.rank_exec.specs.Runs.{IsRunBy}
 use Rattle.schedule_check.specs.Mail.{plan_cells}
 use Rattle.planned_run.specs.declared.orders.Order.{Order}
 use Rattle.planned_run.specs.Orders.{InOrder, CanTake}

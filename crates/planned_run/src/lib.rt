@@ -8,5 +8,5 @@ mod running;
 
 pub use orders::{Order, judge_list, steps_of};
 pub use peaks::{peaks_are_room, standard_has_room};
-pub use rank_program::Outcome;
+pub use rank_exec::Outcome;
 pub use running::run_on_ranks;

@@ -18,7 +18,7 @@ ghost use Rattle.loop_plan.specs.Proper.{Proper};
 ghost use Rattle.loop_plan.specs.StepOutline.{step_outline};
 ghost use Rattle.bound_plan.specs.Memories.{dump_of};
 ghost use Rattle.rank_program.specs.Sound.{Sound, program_in, plan_in, outline_in};
-ghost use Rattle.rank_program.specs.Runs.{IsRunBy};
+ghost use Rattle.rank_exec.specs.Runs.{IsRunBy};
 ghost use Rattle.schedule_check.specs.Mail.{plan_cells};
 ghost use Rattle.planned_run.specs.Orders.{InOrder, CanTake};
 
@@ -35,7 +35,8 @@ use mesh_decl::Owners;
 use op_num::OutOfMemory;
 use par_exec::Gate;
 use plan_orders::{PlanShape, standard_order};
-use rank_program::{DistributedProgram, Outcome, run_planned};
+use rank_exec::{Outcome, run_planned};
+use rank_program::DistributedProgram;
 use schedule_check::{Checker, take_all};
 use schedule_steps::Peak;
 use std::alloc::Global;
@@ -77,6 +78,8 @@ fn run_peaked<R: Threads + Sync, G: Gate, S: Steps>(
 ) -> Result<Outcome, OutOfMemory>
     requires workers { 0 < workers }
     requires sound { Sound program.now }
+    requires obey { AllObey (program_in program.now) }
+    requires start { StartsInRange (program_in program.now) }
     requires accepted { Accepted (outline_in program.now) (S.left steps.old) }
     requires peak { IsPeak (plan_cells (program_in program.now) program.now.meshes.now (plan_in program.now)) (S.left steps.old) peak }
     ensures { IfOk result (IsRunBy (program_in program.now)
@@ -100,6 +103,8 @@ fn run_steps<R: Threads + Sync, G: Gate, S: Steps>(
 ) -> Result<Outcome, OutOfMemory>
     requires workers { 0 < workers }
     requires sound { Sound program.now }
+    requires obey { AllObey (program_in program.now) }
+    requires start { StartsInRange (program_in program.now) }
     requires accepted { Accepted (outline_in program.now) (S.left steps.old) }
     requires same { S.left again.old ≡ S.left steps.old }
     ensures { IfOk result (IsRunBy (program_in program.now)
@@ -121,6 +126,8 @@ fn run_standard<R: Threads + Sync, G: Gate>(
 ) -> Result<Outcome, OutOfMemory>
     requires workers { 0 < workers }
     requires sound { Sound program.now }
+    requires obey { AllObey (program_in program.now) }
+    requires start { StartsInRange (program_in program.now) }
     requires group { 1 ≤ group }
     ensures { IfOk result (λ x. (l : List Step) → l ≡ the.standard (outline_in program.now) group → IsRunBy (program_in program.now)
         (dump_of dumps (program_in program.now) program.now.owners.now program.now.meshes.now (plan_in program.now) l) x) }
@@ -145,6 +152,8 @@ fn run_drawn<R: Threads + Sync, G: Gate>(
 ) -> Result<Outcome, OutOfMemory>
     requires workers { 0 < workers }
     requires sound { Sound program.now }
+    requires obey { AllObey (program_in program.now) }
+    requires start { StartsInRange (program_in program.now) }
     requires group { 1 ≤ group }
     ensures { IfOk result (λ x. (l : List Step) → IsDrawn (outline_in program.now) group seed l → IsRunBy (program_in program.now)
         (dump_of dumps (program_in program.now) program.now.owners.now program.now.meshes.now (plan_in program.now) l) x) }
@@ -171,6 +180,8 @@ fn run_in_order<R: Threads + Sync, G: Gate>(
 ) -> Result<Outcome, OutOfMemory>
     requires workers { 0 < workers }
     requires sound { Sound program.now }
+    requires obey { AllObey (program_in program.now) }
+    requires start { StartsInRange (program_in program.now) }
     requires order { CanTake (outline_in program.now)
         (plan_cells (program_in program.now) program.now.meshes.now (plan_in program.now)) order.now }
     ensures { IfOk result (λ x. (l : List Step) → InOrder (outline_in program.now) order.now l → IsRunBy (program_in program.now)

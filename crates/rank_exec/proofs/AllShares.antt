@@ -4,9 +4,9 @@ use Rattle.std.proofs.lemmas.List.{ext_get_or, get_or-map, length-map, take_all}
 use Rattle.std.proofs.lemmas.Bool.{cases_lt}
 use Rattle.schedule_model.specs.Sequential.{Stop}
 use Rattle.rank_state.specs.Machine.{State, row}
-use Rattle.rank_machine.specs.AloneRuns.{Share}
-use Rattle.rank_machine.specs.FromNone.{kept_both}
-use Rattle.rank_exec.specs.Rounds.{after_ranks, share_at, kept_of_all, with_shares, SharesAreSet}
+use Rattle.rank_program.specs.AloneRuns.{Share}
+use Rattle.rank_program.specs.FromNone.{kept_both}
+use Rattle.rank_exec.specs.Rounds.{after_ranks, share_at, kept_of_all, SharesAreSet}
 use Rattle.rank_exec.proofs.Rounds.{same_memories, same_partials, same_rest}
 
 module _ {F : Type 0} (old : State F) (new : ℕ → Share F) where

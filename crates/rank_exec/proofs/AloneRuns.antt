@@ -13,8 +13,8 @@ use Rattle.rank_state.specs.Indices.{values_at}
 use Rattle.rank_state.specs.Groups.{Planned, AllShut, Distinct}
 use Rattle.rank_state.specs.Machine.{State, passed, windows_of}
 use Rattle.rank_state.specs.Shows.{Tables, AreWindows, Shows}
-use Rattle.rank_machine.specs.AloneRuns.{AllBegin, Share, Reaches, share_of, with_share}
-use Rattle.rank_machine.proofs.AloneRuns.{PairsShow, unchanged, run_passes}
+use Rattle.rank_program.specs.AloneRuns.{AllBegin, Share, Reaches, share_of, with_share}
+use Rattle.rank_program.proofs.AloneRuns.{PairsShow, unchanged, run_passes}
 use Rattle.rank_exec.specs.Driving.{Done, ComeReady}
 use Rattle.rank_exec.proofs.Driving.{done_none, done_more, done_pair}
 use Rattle.rank_exec.proofs.Grouping.{alone_at, alone_next, alone_none}

@@ -31,7 +31,7 @@ use Rattle.rank_state.specs.declared.owned.Owned.{Owned}
 use Rattle.rank_state.specs.Windows.{cells_from}
 use Rattle.rank_state.specs.Machine.{State}
 use Rattle.rank_state.specs.Shows.{Tables, Indexed, Shows, variables_from}
-use Rattle.rank_exec.specs.Copies.{IsOwnersCopy}
+use Rattle.rank_program.specs.Copies.{IsOwnersCopy}
 
 -- ---- the values of a dat
 

@@ -6,3 +6,5 @@ mod Tasking
 pub mod AloneRuns
 pub mod Rounds
 pub mod AllShares
+pub mod SameStart
+pub mod Held

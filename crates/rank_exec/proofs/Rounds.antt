@@ -1,5 +1,5 @@
 -- Ranks whose elements ran from no fault on, each by itself: all of them were begun and ended, rank after rank.
-use Rattle.std.proofs.Common.{◌≡◌, ℕ, zero, suc, ◌+◌, ◌<◌, ◌≤◌, ℤ, refl, sym, ap, ap₂, subst, ◌∙◌, arith, List, [], ◌∷◌, ◌++◌, length, take, set, get_or, get_or-set_other, append_assoc, append-nil, ◌-◌, Option}
+use Rattle.std.proofs.Common.{◌≡◌, ℕ, zero, suc, ◌+◌, ◌<◌, ◌≤◌, ℤ, refl, sym, ap, ap₂, subst, ◌∙◌, arith, List, [], ◌∷◌, ◌++◌, length, set, get_or, get_or-set_other, append_assoc, append-nil, ◌-◌, Option}
 use Rattle.std.proofs.lemmas.List.{take_all, length-set}
 use Rattle.schedule_steps.specs.declared.step.Step.{Step}
 use Rattle.schedule_model.specs.Sequential.{Stop}
@@ -9,10 +9,10 @@ use Rattle.flat_machine.specs.Layout.{Layout}
 use Rattle.rank_state.specs.Indices.{values_at}
 use Rattle.rank_state.specs.Machine.{State, row}
 use Rattle.rank_state.specs.Shows.{Tables}
-use Rattle.rank_machine.specs.AloneRuns.{Share, Reaches, share_of, with_share}
-use Rattle.rank_machine.specs.FromNone.{kept_both, OfElement, with_fault}
-use Rattle.rank_machine.proofs.AloneRuns.{PairsShow}
-use Rattle.rank_machine.proofs.FromNone.{of_reach, from_none, of_both}
+use Rattle.rank_program.specs.AloneRuns.{Share, Reaches, share_of, with_share}
+use Rattle.rank_program.specs.FromNone.{kept_both, OfElement, with_fault}
+use Rattle.rank_program.proofs.AloneRuns.{PairsShow}
+use Rattle.rank_program.proofs.FromNone.{of_reach, from_none, of_both}
 use Rattle.rank_exec.specs.Driving.{Done, ComeReady}
 use Rattle.rank_exec.specs.Rounds.{round, after_ranks, RanOnRanks}
 use Rattle.rank_exec.proofs.Driving.{done_none, done_more, ready_after, ready_front}

@@ -19,8 +19,8 @@ use Rattle.rank_state.specs.Indices.{values_at}
 use Rattle.rank_state.specs.Groups.{begins, Planned}
 use Rattle.rank_state.specs.Machine.{State, row}
 use Rattle.rank_state.specs.Shows.{Tables, Shows}
-use Rattle.kernel_jobs.specs.declared.tasks.Task.{Task}
-use Rattle.kernel_jobs.specs.Jobs.{RanIn, no_task, task_at, part}
+use Rattle.rank_program.specs.declared.tasks.Task.{Task}
+use Rattle.rank_program.specs.Jobs.{RanIn, no_task, task_at, part}
 use Rattle.rank_exec.specs.Tasks.{IsRun}
 
 pub planned_at : (o : Outline) (k r : ℕ) (xs : List ℕ) → Planned o k r xs → (i : ℕ) → i < length xs → IsStep o (Begin k r (get_or xs i 0))

@@ -1,5 +1,5 @@
 pub mod Driving
-pub mod Copies
 pub mod RunRooms
 pub mod Tasks
 pub mod Rounds
+pub mod Runs

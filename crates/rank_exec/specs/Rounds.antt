@@ -8,8 +8,8 @@ use Rattle.flat_machine.specs.Layout.{Layout, IsLayout}
 use Rattle.rank_state.specs.Indices.{values_at}
 use Rattle.rank_state.specs.Machine.{State}
 use Rattle.rank_state.specs.Shows.{Tables, Indexed}
-use Rattle.rank_machine.specs.AloneRuns.{Share, Reaches, share_of, with_share}
-use Rattle.rank_machine.specs.FromNone.{kept_both, OfElement, with_fault}
+use Rattle.rank_program.specs.AloneRuns.{Share, Reaches, share_of, with_share}
+use Rattle.rank_program.specs.FromNone.{kept_both, OfElement, with_fault}
 use Rattle.rank_exec.specs.Driving.{Done, ComeReady}
 
 -- item, places by rank: the elements of the first n ranks
@@ -58,4 +58,6 @@ with_shares news st =
 -- shares that are put into the state rank after rank are those of all ranks
 abbrev pub SharesAreSet : {F : Type 0} → State F → List (Share F) → Type 0
 SharesAreSet old news =
-    length old.memories ≡ length news → length old.partials ≡ length news → after_ranks old (share_at news) (length news) ≡ with_shares news old
+    length old.memories ≡ length news
+    → length old.partials ≡ length news
+    → after_ranks old (share_at news) (length news) ≡ with_shares news old

@@ -1,6 +1,8 @@
 -- Enough room for what the steps of a list need on their way.
-use Rattle.std.specs.Prelude.{◌≤◌, ℕ, vec_capacity}
-use Rattle.rank_machine.specs.Rooms.{HasRoom}
+use Rattle.std.specs.Prelude.{◌≤◌, ℕ, length, vec_capacity}
+use Rattle.rank_program.specs.declared.program.DistributedProgram.{DistributedProgram}
+use Rattle.rank_program.specs.Sound.{tables_in}
+use Rattle.rank_program.specs.Rooms.{HasRoom}
 use Rattle.rank_exec.specs.declared.run_room.RunRoom.{RunRoom}
 use Rattle.rank_exec.specs.Tasks.{HasGroupRoom}
 
@@ -13,3 +15,7 @@ pub record HasRunRoom (spans locals constants stride : ℕ) (room : RunRoom) : T
   pub step_fits : HasRoom spans locals constants room.step
   pub places_fit : most_begins ≤ vec_capacity room.places
   pub group_fits : HasGroupRoom most_begins stride locals room.group
+
+-- for each list of steps of the program
+abbrev pub HasRunRoomOf : DistributedProgram → RunRoom → Type 0
+HasRunRoomOf c = HasRunRoom c.tables.spans c.locals (length (tables_in c).constants) (tables_in c).stride

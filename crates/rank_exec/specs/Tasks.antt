@@ -8,7 +8,7 @@ use Rattle.rank_state.specs.Spans.{total}
 use Rattle.rank_state.specs.Indices.{values_at}
 use Rattle.rank_state.specs.Machine.{State, windows_of}
 use Rattle.rank_state.specs.Shows.{Tables, AreWindows}
-use Rattle.kernel_jobs.specs.declared.tasks.Task.{Task}
+use Rattle.rank_program.specs.declared.tasks.Task.{Task}
 use Rattle.rank_exec.specs.declared.group_room.GroupRoom.{GroupRoom}
 
 module _ {F : Type 0} (p : Setup F) (l : Layout F) (t : Tables) where

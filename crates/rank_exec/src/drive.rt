@@ -1,6 +1,6 @@
 // The steps of a list, one after another, up to the first that stops.
 
-ghost use Rattle.std.specs.Prelude.{◌≡◌, ◌<◌, ◌≤◌, ◌+◌, ◌++◌, ℕ, List, length, Option, None, IfOk};
+ghost use Rattle.std.specs.Prelude.{◌≡◌, ◌<◌, ◌≤◌, ◌+◌, ◌++◌, ℕ, List, Option, None, IfOk};
 ghost use Rattle.kernel_types.specs.declared.faults.KernelFault.{KernelFault};
 ghost use Rattle.schedule_steps.specs.declared.step.Step.{Step};
 ghost use Rattle.schedule_steps.specs.declared.step.Step.TheVariants.{Send, Recv, Begin, End, Join};
@@ -9,14 +9,15 @@ ghost use Rattle.schedule_model.specs.Laws.{Lawful, Coloured};
 ghost use Rattle.schedule_model.specs.Sequential.{sequential};
 ghost use Rattle.flat_machine.specs.Layout.{by_place};
 ghost use Rattle.flat_machine.specs.Flat.{Flat, StartsFlat, flat_step, flat_from};
-ghost use Rattle.rank_machine.specs.Rooms.{HasRoom};
-ghost use Rattle.rank_exec.specs.RunRooms.{HasRunRoom};
+ghost use Rattle.rank_program.specs.Rooms.{HasRoomOf};
+ghost use Rattle.rank_exec.specs.RunRooms.{HasRunRoomOf};
 ghost use Rattle.rank_state.specs.Shows.{Shows};
-ghost use Rattle.rank_machine.specs.Stops.{stop_in};
+ghost use Rattle.rank_memory.specs.Stops.{stop_in};
 ghost use Rattle.rank_exec.specs.Driving.{Ready, After, posts, takes, opens, shuts, FitsPeak, AsSequential};
+ghost use Rattle.rank_program.specs.Sound.{Sound, setup_in, layout_in, tables_in};
+ghost use Rattle.rank_program.specs.Keeping.{KeepsIn};
 
 use crate::group::run_begins;
-use crate::items::Items;
 use crate::joins::join;
 use crate::run_room::RunRoom;
 use crate::stream::{Steps, next_of};
@@ -24,80 +25,80 @@ use kernel_types::KernelFault;
 use op_num::OutOfMemory;
 use par_exec::Gate;
 use rank_machine::machine::Machine;
-use rank_machine::room::Room;
-use rank_machine::stop::Stop;
 use rank_machine::{messages, steps};
+use rank_memory::stop::Stop;
+use rank_program::{DistributedProgram, Room};
 use schedule_steps::Step;
 use std::alloc::Global;
 use std::marker::Sync;
 use std::thread::Threads;
 
 // One step.
-fn take<P: Items>(
+fn take(
     alloc: Global,
     machine: &mut Machine,
-    parts: &P,
+    program: &DistributedProgram<'_>,
     room: &mut Room,
     step: Step,
 ) -> Result<Option<Stop>, OutOfMemory>
-    requires sound { P.sound parts.now }
-    requires space { HasRoom (P.span_count parts.now) (P.locals parts.now) (length (P.tables parts.now).constants) room.old }
-    requires planned { IsStep (by_place (P.setup parts.now) (P.layout parts.now)) step }
-    requires shows { (f : Flat KernelFault) × Shows (P.setup parts.now) (P.layout parts.now) (P.tables parts.now) machine.old f }
-    requires ready { Ready (P.setup parts.now) (P.layout parts.now) (P.tables parts.now) step machine.old }
+    requires sound { Sound program.now }
+    requires space { HasRoomOf program.now room.old }
+    requires planned { IsStep (by_place (setup_in program.now) (layout_in program.now)) step }
+    requires shows { (f : Flat KernelFault) × Shows (setup_in program.now) (layout_in program.now) (tables_in program.now) machine.old f }
+    requires ready { Ready (setup_in program.now) (layout_in program.now) (tables_in program.now) step machine.old }
     ensures after { IfOk result
-        (λ stop. (f : Flat KernelFault) → Shows (P.setup parts.now) (P.layout parts.now) (P.tables parts.now) machine.old f
-        → After (P.setup parts.now) (P.layout parts.now) (P.tables parts.now) (stop_in stop) machine.new
-        (flat_step (P.setup parts.now) (P.layout parts.now) step f)) }
-    ensures mail { machine.new.mail.left + posts (P.layout parts.now) step ≡ machine.old.mail.left + takes (P.layout parts.now) step }
+        (λ stop. (f : Flat KernelFault) → Shows (setup_in program.now) (layout_in program.now) (tables_in program.now) machine.old f
+        → After (setup_in program.now) (layout_in program.now) (tables_in program.now) (stop_in stop) machine.new
+        (flat_step (setup_in program.now) (layout_in program.now) step f)) }
+    ensures mail { machine.new.mail.left + posts (layout_in program.now) step ≡ machine.old.mail.left + takes (layout_in program.now) step }
     ensures frames { machine.new.frames.left + opens step ≡ machine.old.frames.left + shuts step }
-    ensures space { HasRoom (P.span_count parts.now) (P.locals parts.now) (length (P.tables parts.now).constants) room.new }
+    ensures space { HasRoomOf program.now room.new }
 {
     match step {
         Step::Send { item, from, to } => {
-            messages::send(machine, parts, room, item, from, to);
+            messages::send(machine, program, room, item, from, to);
             Ok(None)
         }
         Step::Recv { item, rank, from } => {
-            messages::recv(machine, parts, room, item, rank, from);
+            messages::recv(machine, program, room, item, rank, from);
             Ok(None)
         }
         Step::Begin { item, rank, place } => {
-            steps::begin(machine, parts, room, item, rank, place);
+            steps::begin(machine, program, room, item, rank, place);
             Ok(None)
         }
         Step::End { item, rank, place } => {
-            steps::end(machine, parts, room, item, rank, place);
+            steps::end(machine, program, room, item, rank, place);
             Ok(None)
         }
-        Step::Join { item } => join(alloc, machine, parts, room, item),
+        Step::Join { item } => join(alloc, machine, program, room, item),
     }
 }
 
 // The steps of an accepted list, up to the first that stops.
-fn run<R: Threads + Sync, G: Gate, P: Items, S: Steps>(
+fn run<R: Threads + Sync, G: Gate, S: Steps>(
     rt: &R,
     alloc: Global,
     machine: &mut Machine,
-    parts: &P,
+    program: &DistributedProgram<'_>,
     room: &mut RunRoom,
     steps: &mut S,
     workers: u32,
     gate: &G,
 ) -> Result<Option<Stop>, OutOfMemory>
     requires workers { 0 < workers }
-    requires sound { P.sound parts.now }
-    requires space { HasRunRoom (P.span_count parts.now) (P.locals parts.now) (length (P.tables parts.now).constants)
-        (P.tables parts.now).stride room.old }
-    requires accepted { Accepted (by_place (P.setup parts.now) (P.layout parts.now)) (S.left steps.old) }
-    requires starts { (f : Flat KernelFault) × StartsFlat (P.setup parts.now) (P.layout parts.now) f
-        × Shows (P.setup parts.now) (P.layout parts.now) (P.tables parts.now) machine.old f }
-    requires peak { FitsPeak (P.layout parts.now) machine.old.frames.left machine.old.mail.left (S.left steps.old) }
+    requires sound { Sound program.now }
+    requires keeps { (k : ℕ) → KeepsIn program.now k }
+    requires space { HasRunRoomOf program.now room.old }
+    requires accepted { Accepted (by_place (setup_in program.now) (layout_in program.now)) (S.left steps.old) }
+    requires starts { (f : Flat KernelFault) × StartsFlat (setup_in program.now) (layout_in program.now) f
+        × Shows (setup_in program.now) (layout_in program.now) (tables_in program.now) machine.old f }
+    requires peak { FitsPeak (layout_in program.now) machine.old.frames.left machine.old.mail.left (S.left steps.old) }
     ensures after { IfOk result
-        (λ stop. (f : Flat KernelFault) → StartsFlat (P.setup parts.now) (P.layout parts.now) f
-        → Shows (P.setup parts.now) (P.layout parts.now) (P.tables parts.now) machine.old f
-        → After (P.setup parts.now) (P.layout parts.now) (P.tables parts.now) (stop_in stop) machine.new
-        (flat_from (P.setup parts.now) (P.layout parts.now) (S.left steps.old) f)) }
+        (λ stop. (f : Flat KernelFault) → StartsFlat (setup_in program.now) (layout_in program.now) f
+        → Shows (setup_in program.now) (layout_in program.now) (tables_in program.now) machine.old f
+        → After (setup_in program.now) (layout_in program.now) (tables_in program.now) (stop_in stop) machine.new
+        (flat_from (setup_in program.now) (layout_in program.now) (S.left steps.old) f)) }
     ensures suffix { (front : List Step) × (S.left steps.old ≡ front ++ S.left steps.new) }
 {
     schedule_steps::peak_is_room();
@@ -106,10 +107,10 @@ fn run<R: Threads + Sync, G: Gate, P: Items, S: Steps>(
     while let Some(step) = next {
         if let Step::Begin { item, rank, place } = step {
             next = run_begins(
-                rt, machine, parts, room, steps, item, rank, place, workers, gate,
+                rt, machine, program, room, steps, item, rank, place, workers, gate,
             );
         } else {
-            if let Some(stop) = take(alloc, machine, parts, &mut room.step, step)? {
+            if let Some(stop) = take(alloc, machine, program, &mut room.step, step)? {
                 return Ok(Some(stop));
             }
             next = next_of(steps);
@@ -130,35 +131,35 @@ fn run<R: Threads + Sync, G: Gate, P: Items, S: Steps>(
 ///
 /// # Errors
 /// Want of memory alone.
-pub fn drive<R: Threads + Sync, G: Gate, P: Items, S: Steps>(
+pub fn drive<R: Threads + Sync, G: Gate, S: Steps>(
     rt: &R,
     alloc: Global,
     machine: &mut Machine,
-    parts: &P,
+    program: &DistributedProgram<'_>,
     room: &mut RunRoom,
     steps: &mut S,
     workers: u32,
     gate: &G,
 ) -> Result<Option<Stop>, OutOfMemory>
     requires workers { 0 < workers }
-    requires sound { P.sound parts.now }
-    requires space { HasRunRoom (P.span_count parts.now) (P.locals parts.now) (length (P.tables parts.now).constants)
-        (P.tables parts.now).stride room.old }
-    requires lawful { Lawful (P.setup parts.now) }
-    requires coloured { Coloured (P.setup parts.now) }
-    requires accepted { Accepted (by_place (P.setup parts.now) (P.layout parts.now)) (S.left steps.old) }
-    requires starts { (f : Flat KernelFault) × StartsFlat (P.setup parts.now) (P.layout parts.now) f
-        × Shows (P.setup parts.now) (P.layout parts.now) (P.tables parts.now) machine.old f }
-    requires peak { FitsPeak (P.layout parts.now) machine.old.frames.left machine.old.mail.left (S.left steps.old) }
-    ensures same { IfOk result (λ stop. AsSequential (sequential (P.setup parts.now).program) (stop_in stop) machine.new.output) }
+    requires sound { Sound program.now }
+    requires keeps { (k : ℕ) → KeepsIn program.now k }
+    requires space { HasRunRoomOf program.now room.old }
+    requires lawful { Lawful (setup_in program.now) }
+    requires coloured { Coloured (setup_in program.now) }
+    requires accepted { Accepted (by_place (setup_in program.now) (layout_in program.now)) (S.left steps.old) }
+    requires starts { (f : Flat KernelFault) × StartsFlat (setup_in program.now) (layout_in program.now) f
+        × Shows (setup_in program.now) (layout_in program.now) (tables_in program.now) machine.old f }
+    requires peak { FitsPeak (layout_in program.now) machine.old.frames.left machine.old.mail.left (S.left steps.old) }
+    ensures same { IfOk result (λ stop. AsSequential (sequential (setup_in program.now).program) (stop_in stop) machine.new.output) }
     ensures shows { IfOk result
-        (λ stop. stop ≡ None → (f : Flat KernelFault) → StartsFlat (P.setup parts.now) (P.layout parts.now) f
-        → Shows (P.setup parts.now) (P.layout parts.now) (P.tables parts.now) machine.old f
-        → Shows (P.setup parts.now) (P.layout parts.now) (P.tables parts.now) machine.new
-        (flat_from (P.setup parts.now) (P.layout parts.now) (S.left steps.old) f)) }
+        (λ stop. stop ≡ None → (f : Flat KernelFault) → StartsFlat (setup_in program.now) (layout_in program.now) f
+        → Shows (setup_in program.now) (layout_in program.now) (tables_in program.now) machine.old f
+        → Shows (setup_in program.now) (layout_in program.now) (tables_in program.now) machine.new
+        (flat_from (setup_in program.now) (layout_in program.now) (S.left steps.old) f)) }
     ensures suffix { (front : List Step) × (S.left steps.old ≡ front ++ S.left steps.new) }
 {
     flat_machine::flat_runs_as_sequential::<KernelFault>();
-    let stop = run(rt, alloc, machine, parts, room, steps, workers, gate)?;
+    let stop = run(rt, alloc, machine, program, room, steps, workers, gate)?;
     Ok(stop)
 }

@@ -6,13 +6,15 @@ ghost use Rattle.schedule_steps.specs.declared.step.Step.{Step};
 ghost use Rattle.schedule_steps.specs.declared.step.Step.TheVariants.{Begin, End};
 ghost use Rattle.flat_machine.specs.Layout.{by_place};
 ghost use Rattle.flat_machine.specs.Flat.{Flat, flat_from};
-ghost use Rattle.rank_machine.specs.Rooms.{HasRoom};
-ghost use Rattle.rank_exec.specs.RunRooms.{HasRunRoom, most_begins};
+ghost use Rattle.rank_program.specs.Rooms.{HasRoomOf};
+ghost use Rattle.rank_exec.specs.RunRooms.{most_begins, HasRunRoomOf};
 ghost use Rattle.rank_state.specs.Shows.{Shows};
 ghost use Rattle.rank_state.specs.Groups.{begins, Distinct, Planned, AllShut};
-ghost use Rattle.kernel_jobs.specs.Jobs.{RanIn, part, task_at};
+ghost use Rattle.rank_program.specs.Jobs.{RanIn, part, task_at};
 ghost use Rattle.rank_exec.specs.Tasks.{HasGroupRoom};
 ghost use Rattle.rank_exec.specs.Driving.{Done, ComeReady, to_come};
+ghost use Rattle.rank_program.specs.Sound.{Sound, Takes, setup_in, layout_in, tables_in};
+ghost use Rattle.rank_program.specs.Keeping.{KeepsIn};
 
 use crate::alone::run_alone;
 use crate::group_room::GroupRoom;
@@ -20,23 +22,20 @@ use crate::group_steps::{load_all, open_all};
 use crate::run_room::{MOST_BEGINS, RunRoom};
 use crate::sharing::workers_for;
 use crate::stream::{Steps, next_of};
-use kernel_jobs::{Targets, Task, run_tasks};
 use kernel_types::KernelFault;
 use par_exec::Gate;
 use rank_machine::machine::Machine;
-use rank_machine::parts::Parts;
-use rank_machine::room::Room;
 use rank_machine::steps::{in_place, read_constants};
-use rank_memory::core_run::Kernels;
+use rank_program::{DistributedProgram, Room, Targets, Task, job, put_targets, run_tasks};
 use schedule_steps::Step;
 use std::marker::Sync;
 use std::thread::Threads;
 
 // Runs the kernel of the loop that is the item once for each task, on the first cells of the task's window of `staging`.
 // Behind them stands a 0 then, or a 1 where the run had a fault. The first task is that of `place`.
-fn run_all<R: Threads + Sync, G: Gate, K: Kernels>(
+fn run_all<R: Threads + Sync, G: Gate>(
     rt: &R,
-    kernels: &K,
+    program: &DistributedProgram<'_>,
     item: u32,
     place: u32,
     tasks: &[Task],
@@ -49,22 +48,22 @@ fn run_all<R: Threads + Sync, G: Gate, K: Kernels>(
 )
     requires workers { 0 < workers }
     requires takes { (i : ℕ) → i < length tasks.now
-        → K.takes kernels.now item (task_at tasks.now i).element (length constants.now) (task_at tasks.now i).cells }
+        → Takes program.now item (task_at tasks.now i).element (length constants.now) (task_at tasks.now i).cells }
     requires wide { 0 < window }
-    requires room { (i : ℕ) → i < length tasks.now → (task_at tasks.now i).cells + K.locals kernels.now < window }
+    requires room { (i : ℕ) → i < length tasks.now → (task_at tasks.now i).cells + program.now.locals < window }
     requires whole { length staging.old ≡ length tasks.now * window }
     requires empty { targets.old.items ≡ [] }
     requires targets { length tasks.now ≤ vec_capacity targets.old }
     ensures ran { (i : ℕ) → i < length tasks.now
-        → RanIn (K.core kernels.now item (task_at tasks.now i).element constants.now
+        → RanIn ((layout_in program.now).core item (task_at tasks.now i).element constants.now
         (take (task_at tasks.now i).cells (part window i staging.old))) (task_at tasks.now i).cells (part window i staging.new) }
     ensures targets { vec_capacity targets.new ≡ vec_capacity targets.old }
 {
     if tasks.is_empty() {
         return;
     }
-    kernels.put_targets(item, tasks, targets);
-    let job = kernels.job(item, tasks, targets, constants);
+    put_targets(program, item, tasks, targets);
+    let job = job(program, item, tasks, targets, constants);
     let workers = workers_for(&job, place, workers);
     run_tasks(rt, &job, staging, window, workers, gate);
 }
@@ -78,10 +77,10 @@ fn first_of(places: &[u32]) -> u32 {
 }
 
 // The begins of a group on windows of `window` cells of the staging buffer, with room for their tasks.
-fn begin_tasks<R: Threads + Sync, G: Gate, P: Parts>(
+fn begin_tasks<R: Threads + Sync, G: Gate>(
     rt: &R,
     machine: &mut Machine,
-    parts: &P,
+    program: &DistributedProgram<'_>,
     room: &mut Room,
     item: u32,
     rank: u32,
@@ -94,23 +93,23 @@ fn begin_tasks<R: Threads + Sync, G: Gate, P: Parts>(
     gate: &G,
 )
     requires workers { 0 < workers }
-    requires sound { P.sound parts.now }
-    requires planned { Planned (by_place (P.setup parts.now) (P.layout parts.now)) item rank places.now }
-    requires space { HasRoom (P.span_count parts.now) (P.locals parts.now) (length (P.tables parts.now).constants) room.old }
-    requires shows { (f : Flat KernelFault) × Shows (P.setup parts.now) (P.layout parts.now) (P.tables parts.now) machine.old f }
+    requires sound { Sound program.now }
+    requires planned { Planned (by_place (setup_in program.now) (layout_in program.now)) item rank places.now }
+    requires space { HasRoomOf program.now room.old }
+    requires shows { (f : Flat KernelFault) × Shows (setup_in program.now) (layout_in program.now) (tables_in program.now) machine.old f }
     requires shut { AllShut machine.old.frames.panes rank places.now }
     requires distinct { Distinct places.now }
     requires room { length places.now ≤ machine.old.frames.left }
-    requires wide { (P.tables parts.now).stride + P.locals parts.now < window }
+    requires wide { (tables_in program.now).stride + program.now.locals < window }
     requires enough { length places.now * window ≤ length staging.old }
     requires none { tasks.old.items ≡ [] }
     requires tasks { length places.now ≤ vec_capacity tasks.old }
     requires empty { targets.old.items ≡ [] }
     requires targets { length places.now ≤ vec_capacity targets.old }
-    ensures shows { (f : Flat KernelFault) → Shows (P.setup parts.now) (P.layout parts.now) (P.tables parts.now) machine.old f
-        → Shows (P.setup parts.now) (P.layout parts.now) (P.tables parts.now) machine.new
-        (flat_from (P.setup parts.now) (P.layout parts.now) (begins item rank places.now) f) }
-    ensures space { HasRoom (P.span_count parts.now) (P.locals parts.now) (length (P.tables parts.now).constants) room.new }
+    ensures shows { (f : Flat KernelFault) → Shows (setup_in program.now) (layout_in program.now) (tables_in program.now) machine.old f
+        → Shows (setup_in program.now) (layout_in program.now) (tables_in program.now) machine.new
+        (flat_from (setup_in program.now) (layout_in program.now) (begins item rank places.now) f) }
+    ensures space { HasRoomOf program.now room.new }
     ensures mail { machine.new.mail.left ≡ machine.old.mail.left }
     ensures frames { machine.new.frames.left + length places.now ≡ machine.old.frames.left }
     ensures tasks { vec_capacity tasks.new ≡ vec_capacity tasks.old }
@@ -119,12 +118,12 @@ fn begin_tasks<R: Threads + Sync, G: Gate, P: Parts>(
     rank_state::windows_are_counted::<KernelFault>();
     let staging = &mut staging[..places.len() * window];
     load_all(
-        machine, parts, room, item, rank, places, tasks, staging, window,
+        machine, program, room, item, rank, places, tasks, staging, window,
     );
-    read_constants(machine, parts, &mut room.constants);
+    read_constants(machine, program, &mut room.constants);
     run_all(
         rt,
-        parts,
+        program,
         item,
         first_of(places),
         tasks,
@@ -136,16 +135,16 @@ fn begin_tasks<R: Threads + Sync, G: Gate, P: Parts>(
         gate,
     );
     open_all(
-        machine, parts, room, item, rank, places, tasks, staging, window,
+        machine, program, room, item, rank, places, tasks, staging, window,
     );
 }
 
 /// The begins of a group, in their order. Their kernels run first, by the `workers`, at least 1, and the gate is told of each
 /// run just before, by the begin's number in the group, from 0 on. `group` is room for as many begins or more.
-pub fn begin_group<R: Threads + Sync, G: Gate, P: Parts>(
+pub fn begin_group<R: Threads + Sync, G: Gate>(
     rt: &R,
     machine: &mut Machine,
-    parts: &P,
+    program: &DistributedProgram<'_>,
     room: &mut Room,
     group: &mut GroupRoom,
     item: u32,
@@ -155,22 +154,22 @@ pub fn begin_group<R: Threads + Sync, G: Gate, P: Parts>(
     gate: &G,
 )
     requires workers { 0 < workers }
-    requires sound { P.sound parts.now }
-    requires planned { Planned (by_place (P.setup parts.now) (P.layout parts.now)) item rank places.now }
-    requires space { HasRoom (P.span_count parts.now) (P.locals parts.now) (length (P.tables parts.now).constants) room.old }
-    requires shows { (f : Flat KernelFault) × Shows (P.setup parts.now) (P.layout parts.now) (P.tables parts.now) machine.old f }
+    requires sound { Sound program.now }
+    requires planned { Planned (by_place (setup_in program.now) (layout_in program.now)) item rank places.now }
+    requires space { HasRoomOf program.now room.old }
+    requires shows { (f : Flat KernelFault) × Shows (setup_in program.now) (layout_in program.now) (tables_in program.now) machine.old f }
     requires shut { AllShut machine.old.frames.panes rank places.now }
     requires distinct { Distinct places.now }
     requires room { length places.now ≤ machine.old.frames.left }
-    requires group { HasGroupRoom (length places.now) (P.tables parts.now).stride (P.locals parts.now) group.old }
-    ensures shows { (f : Flat KernelFault) → Shows (P.setup parts.now) (P.layout parts.now) (P.tables parts.now) machine.old f
-        → Shows (P.setup parts.now) (P.layout parts.now) (P.tables parts.now) machine.new
-        (flat_from (P.setup parts.now) (P.layout parts.now) (begins item rank places.now) f) }
-    ensures space { HasRoom (P.span_count parts.now) (P.locals parts.now) (length (P.tables parts.now).constants) room.new }
+    requires group { HasGroupRoom (length places.now) (tables_in program.now).stride (program.now.locals) group.old }
+    ensures shows { (f : Flat KernelFault) → Shows (setup_in program.now) (layout_in program.now) (tables_in program.now) machine.old f
+        → Shows (setup_in program.now) (layout_in program.now) (tables_in program.now) machine.new
+        (flat_from (setup_in program.now) (layout_in program.now) (begins item rank places.now) f) }
+    ensures space { HasRoomOf program.now room.new }
     ensures mail { machine.new.mail.left ≡ machine.old.mail.left }
     ensures frames { machine.new.frames.left + length places.now ≡ machine.old.frames.left }
-    ensures group { (most : ℕ) → HasGroupRoom most (P.tables parts.now).stride (P.locals parts.now) group.old
-        → HasGroupRoom most (P.tables parts.now).stride (P.locals parts.now) group.new }
+    ensures group { (most : ℕ) → HasGroupRoom most (tables_in program.now).stride (program.now.locals) group.old
+        → HasGroupRoom most (tables_in program.now).stride (program.now.locals) group.new }
 {
     let window = group.window;
     group.tasks.clear();
@@ -178,7 +177,7 @@ pub fn begin_group<R: Threads + Sync, G: Gate, P: Parts>(
     begin_tasks(
         rt,
         machine,
-        parts,
+        program,
         room,
         item,
         rank,
@@ -256,10 +255,10 @@ fn is_end(step: Option<Step>, item: u32, rank: u32, place: u32) -> bool
 
 /// A begin and those of its item and rank that come next, as one group; a begin that its own end
 /// follows, in place, and with it those of which the stream tells that they follow in the same way. Answers the step after them.
-pub fn run_begins<R: Threads + Sync, G: Gate, P: Parts, S: Steps>(
+pub fn run_begins<R: Threads + Sync, G: Gate, S: Steps>(
     rt: &R,
     machine: &mut Machine,
-    parts: &P,
+    program: &DistributedProgram<'_>,
     room: &mut RunRoom,
     steps: &mut S,
     item: u32,
@@ -269,31 +268,30 @@ pub fn run_begins<R: Threads + Sync, G: Gate, P: Parts, S: Steps>(
     gate: &G,
 ) -> Option<Step>
     requires workers { 0 < workers }
-    requires sound { P.sound parts.now }
-    requires space { HasRunRoom (P.span_count parts.now) (P.locals parts.now) (length (P.tables parts.now).constants)
-        (P.tables parts.now).stride room.old }
-    requires shows { (f : Flat KernelFault) × Shows (P.setup parts.now) (P.layout parts.now) (P.tables parts.now) machine.old f }
-    requires ready { ComeReady (P.setup parts.now) (P.layout parts.now) (P.tables parts.now)
+    requires sound { Sound program.now }
+    requires keeps { (k : ℕ) → KeepsIn program.now k }
+    requires space { HasRunRoomOf program.now room.old }
+    requires shows { (f : Flat KernelFault) × Shows (setup_in program.now) (layout_in program.now) (tables_in program.now) machine.old f }
+    requires ready { ComeReady (setup_in program.now) (layout_in program.now) (tables_in program.now)
         (Begin item rank place ∷ S.left steps.old) machine.old }
     ensures done { (done : List Step) × (Begin item rank place ∷ S.left steps.old ≡ done ++ to_come result (S.left steps.new))
         × (0 < length done)
-        × Done (P.setup parts.now) (P.layout parts.now) (P.tables parts.now) done machine.old machine.new }
+        × Done (setup_in program.now) (layout_in program.now) (tables_in program.now) done machine.old machine.new }
     ensures over { result ≡ None → S.left steps.new ≡ [] }
-    ensures space { HasRunRoom (P.span_count parts.now) (P.locals parts.now) (length (P.tables parts.now).constants)
-        (P.tables parts.now).stride room.new }
+    ensures space { HasRunRoomOf program.now room.new }
 {
     room.places.clear();
     room.places.push_reserved(place);
     let next = collect(steps, item, rank, &mut room.places);
     if room.places.len() == 1 && is_end(next, item, rank, place) {
-        in_place(machine, parts, &mut room.step, item, rank, place);
-        run_alone(machine, parts, room, steps);
+        in_place(machine, program, &mut room.step, item, rank, place);
+        run_alone(machine, program, room, steps);
         return next_of(steps);
     }
     begin_group(
         rt,
         machine,
-        parts,
+        program,
         &mut room.step,
         &mut room.group,
         item,

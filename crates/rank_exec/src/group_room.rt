@@ -3,7 +3,7 @@
 ghost use Rattle.std.specs.Prelude.{◌≡◌, ◌^◌, ◌<◌, ℕ, IfOk};
 ghost use Rattle.rank_exec.specs.Tasks.{HasGroupRoom};
 
-use kernel_jobs::{Targets, Task};
+use rank_program::{Targets, Task};
 use std::alloc::{AllocError, Global};
 
 /// Room for a group: for its tasks and their targets, and a buffer of windows of `window` cells. What stands there means

@@ -11,47 +11,47 @@ ghost use Rattle.rank_state.specs.Spans.{cells_at};
 ghost use Rattle.rank_state.specs.Frames.{Shut, pane_at};
 ghost use Rattle.rank_state.specs.Groups.{begins, Distinct, Planned, AllShut};
 ghost use Rattle.rank_state.specs.Shows.{Shows};
-ghost use Rattle.rank_machine.specs.Rooms.{HasRoom};
-ghost use Rattle.kernel_jobs.specs.Jobs.{part, task_at};
+ghost use Rattle.rank_program.specs.Rooms.{HasRoomOf};
+ghost use Rattle.rank_program.specs.Jobs.{part, task_at};
 ghost use Rattle.rank_exec.specs.Tasks.{IsLoaded, IsRun};
+ghost use Rattle.rank_program.specs.Sound.{Sound, setup_in, layout_in, tables_in};
 
-use kernel_jobs::Task;
 use kernel_types::KernelFault;
 use rank_machine::machine::Machine;
-use rank_machine::parts::Parts;
-use rank_machine::room::Room;
 use rank_machine::steps::begin;
+use rank_program::{DistributedProgram, Room, Task, original_at, push_element};
 
 // The task of a begin, with its element's windows in the window.
-fn load_one<P: Parts>(
+fn load_one(
     machine: &Machine,
-    parts: &P,
+    program: &DistributedProgram<'_>,
     room: &mut Room,
     item: u32,
     rank: u32,
     place: u32,
     window: &mut [i32],
 ) -> Task
-    requires sound { P.sound parts.now }
-    requires planned { IsStep (by_place (P.setup parts.now) (P.layout parts.now)) (Begin item rank place) }
-    requires space { HasRoom (P.span_count parts.now) (P.locals parts.now) (length (P.tables parts.now).constants) room.old }
-    requires shows { (f : Flat KernelFault) × Shows (P.setup parts.now) (P.layout parts.now) (P.tables parts.now) machine.now f }
-    requires wide { (P.tables parts.now).stride ≤ length window.old }
-    ensures loaded { IsLoaded (P.setup parts.now) (P.layout parts.now) (P.tables parts.now) item rank place machine.now result window.new }
-    ensures space { HasRoom (P.span_count parts.now) (P.locals parts.now) (length (P.tables parts.now).constants) room.new }
+    requires sound { Sound program.now }
+    requires planned { IsStep (by_place (setup_in program.now) (layout_in program.now)) (Begin item rank place) }
+    requires space { HasRoomOf program.now room.old }
+    requires shows { (f : Flat KernelFault) × Shows (setup_in program.now) (layout_in program.now) (tables_in program.now) machine.now f }
+    requires wide { (tables_in program.now).stride ≤ length window.old }
+    ensures loaded { IsLoaded (setup_in program.now) (layout_in program.now) (tables_in program.now)
+        item rank place machine.now result window.new }
+    ensures space { HasRoomOf program.now room.new }
 {
     rank_state::steps_can::<KernelFault>();
-    let element = parts.original(item, rank, place);
+    let element = original_at(program, item, rank, place);
     room.spans.clear();
-    let scalars = parts.windows(item, rank, place, &mut room.spans);
+    let scalars = push_element(program, item, rank, place, &mut room.spans);
     let cells = machine.load(rank, &room.spans, scalars, window);
     Task { element, cells }
 }
 
 // The same in a part of the staging buffer.
-fn load_at<P: Parts>(
+fn load_at(
     machine: &Machine,
-    parts: &P,
+    program: &DistributedProgram<'_>,
     room: &mut Room,
     item: u32,
     rank: u32,
@@ -60,20 +60,21 @@ fn load_at<P: Parts>(
     at: usize,
     window: usize,
 ) -> Task
-    requires sound { P.sound parts.now }
-    requires planned { IsStep (by_place (P.setup parts.now) (P.layout parts.now)) (Begin item rank place) }
-    requires space { HasRoom (P.span_count parts.now) (P.locals parts.now) (length (P.tables parts.now).constants) room.old }
-    requires shows { (f : Flat KernelFault) × Shows (P.setup parts.now) (P.layout parts.now) (P.tables parts.now) machine.now f }
-    requires wide { (P.tables parts.now).stride ≤ window }
+    requires sound { Sound program.now }
+    requires planned { IsStep (by_place (setup_in program.now) (layout_in program.now)) (Begin item rank place) }
+    requires space { HasRoomOf program.now room.old }
+    requires shows { (f : Flat KernelFault) × Shows (setup_in program.now) (layout_in program.now) (tables_in program.now) machine.now f }
+    requires wide { (tables_in program.now).stride ≤ window }
     requires part { at + window ≤ length staging.old }
-    ensures loaded { IsLoaded (P.setup parts.now) (P.layout parts.now) (P.tables parts.now) item rank place machine.now result
+    ensures loaded { IsLoaded (setup_in program.now) (layout_in program.now) (tables_in program.now)
+        item rank place machine.now result
         (cells_at at window staging.new) }
     ensures others { (b n : ℕ) → (b + n ≤ at) ⊎ (at + window ≤ b) → cells_at b n staging.new ≡ cells_at b n staging.old }
-    ensures space { HasRoom (P.span_count parts.now) (P.locals parts.now) (length (P.tables parts.now).constants) room.new }
+    ensures space { HasRoomOf program.now room.new }
 {
     load_one(
         machine,
-        parts,
+        program,
         room,
         item,
         rank,
@@ -83,9 +84,9 @@ fn load_at<P: Parts>(
 }
 
 /// The tasks of a group's begins, with their elements' windows in the windows of the staging buffer.
-pub fn load_all<P: Parts>(
+pub fn load_all(
     machine: &Machine,
-    parts: &P,
+    program: &DistributedProgram<'_>,
     room: &mut Room,
     item: u32,
     rank: u32,
@@ -94,25 +95,25 @@ pub fn load_all<P: Parts>(
     staging: &mut [i32],
     window: usize,
 )
-    requires sound { P.sound parts.now }
-    requires planned { Planned (by_place (P.setup parts.now) (P.layout parts.now)) item rank places.now }
-    requires space { HasRoom (P.span_count parts.now) (P.locals parts.now) (length (P.tables parts.now).constants) room.old }
-    requires shows { (f : Flat KernelFault) × Shows (P.setup parts.now) (P.layout parts.now) (P.tables parts.now) machine.now f }
-    requires wide { (P.tables parts.now).stride ≤ window }
+    requires sound { Sound program.now }
+    requires planned { Planned (by_place (setup_in program.now) (layout_in program.now)) item rank places.now }
+    requires space { HasRoomOf program.now room.old }
+    requires shows { (f : Flat KernelFault) × Shows (setup_in program.now) (layout_in program.now) (tables_in program.now) machine.now f }
+    requires wide { (tables_in program.now).stride ≤ window }
     requires whole { length staging.old ≡ length places.now * window }
     requires empty { tasks.old.items ≡ [] }
     requires tasks { length places.now ≤ vec_capacity tasks.old }
     ensures loaded { (i : ℕ) → i < length places.now
-        → IsLoaded (P.setup parts.now) (P.layout parts.now) (P.tables parts.now) item rank (get_or places.now i 0) machine.now
+        → IsLoaded (setup_in program.now) (layout_in program.now) (tables_in program.now) item rank (get_or places.now i 0) machine.now
         (task_at tasks.new.items i) (part window i staging.new) }
     ensures count { length tasks.new.items ≡ length places.now }
     ensures tasks { vec_capacity tasks.new ≡ vec_capacity tasks.old }
-    ensures space { HasRoom (P.span_count parts.now) (P.locals parts.now) (length (P.tables parts.now).constants) room.new }
+    ensures space { HasRoomOf program.now room.new }
 {
     for i in 0..places.len() {
         let task = load_at(
             machine,
-            parts,
+            program,
             room,
             item,
             rank,
@@ -135,9 +136,9 @@ fn is_zero(window: &[i32], cell: usize) -> bool
 }
 
 // A begin whose kernel has run on the window, on the first `cells` of its cells.
-fn open_one<P: Parts>(
+fn open_one(
     machine: &mut Machine,
-    parts: &P,
+    program: &DistributedProgram<'_>,
     room: &mut Room,
     item: u32,
     rank: u32,
@@ -145,19 +146,20 @@ fn open_one<P: Parts>(
     cells: usize,
     window: &[i32],
 )
-    requires sound { P.sound parts.now }
-    requires planned { IsStep (by_place (P.setup parts.now) (P.layout parts.now)) (Begin item rank place) }
-    requires space { HasRoom (P.span_count parts.now) (P.locals parts.now) (length (P.tables parts.now).constants) room.old }
-    requires shows { (f : Flat KernelFault) × Shows (P.setup parts.now) (P.layout parts.now) (P.tables parts.now) machine.old f }
+    requires sound { Sound program.now }
+    requires planned { IsStep (by_place (setup_in program.now) (layout_in program.now)) (Begin item rank place) }
+    requires space { HasRoomOf program.now room.old }
+    requires shows { (f : Flat KernelFault) × Shows (setup_in program.now) (layout_in program.now) (tables_in program.now) machine.old f }
     requires shut { pane_at machine.old.frames.panes rank place ≡ Shut }
     requires room { 0 < machine.old.frames.left }
     requires cells { cells < length window.now }
-    requires narrow { cells ≤ (P.tables parts.now).stride }
-    requires ran { IsRun (P.setup parts.now) (P.layout parts.now) (P.tables parts.now) item rank place machine.old cells window.now }
-    ensures shows { (f : Flat KernelFault) → Shows (P.setup parts.now) (P.layout parts.now) (P.tables parts.now) machine.old f
-        → Shows (P.setup parts.now) (P.layout parts.now) (P.tables parts.now) machine.new
-        (flat_step (P.setup parts.now) (P.layout parts.now) (Begin item rank place) f) }
-    ensures space { HasRoom (P.span_count parts.now) (P.locals parts.now) (length (P.tables parts.now).constants) room.new }
+    requires narrow { cells ≤ (tables_in program.now).stride }
+    requires ran { IsRun (setup_in program.now) (layout_in program.now) (tables_in program.now)
+        item rank place machine.old cells window.now }
+    ensures shows { (f : Flat KernelFault) → Shows (setup_in program.now) (layout_in program.now) (tables_in program.now) machine.old f
+        → Shows (setup_in program.now) (layout_in program.now) (tables_in program.now) machine.new
+        (flat_step (setup_in program.now) (layout_in program.now) (Begin item rank place) f) }
+    ensures space { HasRoomOf program.now room.new }
     ensures mail { machine.new.mail.left ≡ machine.old.mail.left }
     ensures frames { machine.new.frames.left + 1 ≡ machine.old.frames.left }
 {
@@ -166,14 +168,14 @@ fn open_one<P: Parts>(
     if is_zero(window, cells) {
         machine.open(item, rank, place, &window[..cells]);
     } else {
-        begin(machine, parts, room, item, rank, place);
+        begin(machine, program, room, item, rank, place);
     }
 }
 
 /// The begins of a group whose kernels have run on the windows of the staging buffer, in their order.
-pub fn open_all<P: Parts>(
+pub fn open_all(
     machine: &mut Machine,
-    parts: &P,
+    program: &DistributedProgram<'_>,
     room: &mut Room,
     item: u32,
     rank: u32,
@@ -182,24 +184,24 @@ pub fn open_all<P: Parts>(
     staging: &[i32],
     window: usize,
 )
-    requires sound { P.sound parts.now }
-    requires planned { Planned (by_place (P.setup parts.now) (P.layout parts.now)) item rank places.now }
-    requires space { HasRoom (P.span_count parts.now) (P.locals parts.now) (length (P.tables parts.now).constants) room.old }
-    requires shows { (f : Flat KernelFault) × Shows (P.setup parts.now) (P.layout parts.now) (P.tables parts.now) machine.old f }
+    requires sound { Sound program.now }
+    requires planned { Planned (by_place (setup_in program.now) (layout_in program.now)) item rank places.now }
+    requires space { HasRoomOf program.now room.old }
+    requires shows { (f : Flat KernelFault) × Shows (setup_in program.now) (layout_in program.now) (tables_in program.now) machine.old f }
     requires shut { AllShut machine.old.frames.panes rank places.now }
     requires distinct { Distinct places.now }
     requires room { length places.now ≤ machine.old.frames.left }
     requires count { length tasks.now ≡ length places.now }
     requires whole { length staging.now ≡ length places.now * window }
-    requires wide { (P.tables parts.now).stride < window }
-    requires narrow { (i : ℕ) → i < length tasks.now → (task_at tasks.now i).cells ≤ (P.tables parts.now).stride }
+    requires wide { (tables_in program.now).stride < window }
+    requires narrow { (i : ℕ) → i < length tasks.now → (task_at tasks.now i).cells ≤ (tables_in program.now).stride }
     requires ran { (i : ℕ) → i < length places.now
-        → IsRun (P.setup parts.now) (P.layout parts.now) (P.tables parts.now) item rank (get_or places.now i 0) machine.old
+        → IsRun (setup_in program.now) (layout_in program.now) (tables_in program.now) item rank (get_or places.now i 0) machine.old
         (task_at tasks.now i).cells (part window i staging.now) }
-    ensures shows { (f : Flat KernelFault) → Shows (P.setup parts.now) (P.layout parts.now) (P.tables parts.now) machine.old f
-        → Shows (P.setup parts.now) (P.layout parts.now) (P.tables parts.now) machine.new
-        (flat_from (P.setup parts.now) (P.layout parts.now) (begins item rank places.now) f) }
-    ensures space { HasRoom (P.span_count parts.now) (P.locals parts.now) (length (P.tables parts.now).constants) room.new }
+    ensures shows { (f : Flat KernelFault) → Shows (setup_in program.now) (layout_in program.now) (tables_in program.now) machine.old f
+        → Shows (setup_in program.now) (layout_in program.now) (tables_in program.now) machine.new
+        (flat_from (setup_in program.now) (layout_in program.now) (begins item rank places.now) f) }
+    ensures space { HasRoomOf program.now room.new }
     ensures mail { machine.new.mail.left ≡ machine.old.mail.left }
     ensures frames { machine.new.frames.left + length places.now ≡ machine.old.frames.left }
 {
@@ -208,7 +210,7 @@ pub fn open_all<P: Parts>(
         let at = i * window;
         open_one(
             machine,
-            parts,
+            program,
             room,
             item,
             rank,

@@ -14,43 +14,43 @@ ghost use Rattle.rank_state.specs.Core.{fault_of};
 ghost use Rattle.rank_state.specs.Indices.{values_at};
 ghost use Rattle.rank_state.specs.Ordered.{AreOwned, run_of, left_in};
 ghost use Rattle.rank_state.specs.Shows.{Shows};
-ghost use Rattle.rank_machine.specs.Stops.{stop_in};
+ghost use Rattle.rank_memory.specs.Stops.{stop_in};
 ghost use Rattle.rank_exec.specs.Driving.{After, RanElement};
-ghost use Rattle.rank_machine.specs.Rooms.{HasRoom};
+ghost use Rattle.rank_program.specs.Rooms.{HasRoomOf};
+ghost use Rattle.rank_program.specs.Sound.{Sound, program_in, setup_in, layout_in, tables_in};
 
 use crate::hosts::run_host;
-use crate::items::Items;
 use bound_program::Item;
 use kernel_types::KernelFault;
 use op_num::OutOfMemory;
 use rank_machine::machine::Machine;
-use rank_machine::room::Room;
 use rank_machine::steps::read_constants;
-use rank_machine::stop::Stop;
+use rank_memory::stop::Stop;
+use rank_program::{DistributedProgram, Room, push_owned_windows, reduced_scalars};
 use rank_state::Owned;
 use std::alloc::Global;
 
 // A Reduce, where no fault of an earlier item is kept.
-fn reduce<P: Items>(machine: &mut Machine, parts: &P, item: u32)
-    requires sound { P.sound parts.now }
-    requires kind { (P.setup parts.now).program.kind item ≡ Reduce }
-    requires shows { (f : Flat KernelFault) × Shows (P.setup parts.now) (P.layout parts.now) (P.tables parts.now) machine.old f }
+fn reduce(machine: &mut Machine, program: &DistributedProgram<'_>, item: u32)
+    requires sound { Sound program.now }
+    requires kind { (setup_in program.now).program.kind item ≡ Reduce }
+    requires shows { (f : Flat KernelFault) × Shows (setup_in program.now) (layout_in program.now) (tables_in program.now) machine.old f }
     requires going { if_before item machine.old.fault ≡ None }
-    ensures shows { (f : Flat KernelFault) → Shows (P.setup parts.now) (P.layout parts.now) (P.tables parts.now) machine.old f
-        → Shows (P.setup parts.now) (P.layout parts.now) (P.tables parts.now) machine.new
-        (flat_step (P.setup parts.now) (P.layout parts.now) (Join item) f) }
+    ensures shows { (f : Flat KernelFault) → Shows (setup_in program.now) (layout_in program.now) (tables_in program.now) machine.old f
+        → Shows (setup_in program.now) (layout_in program.now) (tables_in program.now) machine.new
+        (flat_step (setup_in program.now) (layout_in program.now) (Join item) f) }
     ensures mail { machine.new.mail.left ≡ machine.old.mail.left }
     ensures frames { machine.new.frames.left ≡ machine.old.frames.left }
 {
     rank_state::join_shows::<KernelFault>();
     rank_state::steps_can::<KernelFault>();
-    machine.reduce(parts.reductions(item));
+    machine.reduce(reduced_scalars(program, item));
 }
 
 // One element of an Ordered loop, on the cells of these spans and variables; its fault, where it has one.
-fn run_one_on<P: Items>(
+fn run_one_on(
     machine: &mut Machine,
-    parts: &P,
+    program: &DistributedProgram<'_>,
     item: u32,
     element: u32,
     spans: &[Owned],
@@ -58,46 +58,47 @@ fn run_one_on<P: Items>(
     constants: &[i32],
     locals: &mut [i32],
 ) -> Option<KernelFault>
-    requires sound { P.sound parts.now }
-    requires kind { (P.setup parts.now).program.kind item ≡ Ordered }
-    requires element { element < elements (P.setup parts.now).program item }
-    requires are { AreOwned (P.setup parts.now) (P.layout parts.now) (P.tables parts.now) item element spans.now indices.now }
-    requires values { constants.now ≡ values_at machine.old.variables (P.tables parts.now).constants }
-    requires locals { P.locals parts.now ≤ length locals.old }
-    requires shows { (f : Flat KernelFault) × Shows (P.setup parts.now) (P.layout parts.now) (P.tables parts.now) machine.old f }
+    requires sound { Sound program.now }
+    requires kind { (setup_in program.now).program.kind item ≡ Ordered }
+    requires element { element < elements (setup_in program.now).program item }
+    requires are { AreOwned (setup_in program.now) (layout_in program.now) (tables_in program.now) item element spans.now indices.now }
+    requires values { constants.now ≡ values_at machine.old.variables (tables_in program.now).constants }
+    requires locals { program.now.locals ≤ length locals.old }
+    requires shows { (f : Flat KernelFault) × Shows (setup_in program.now) (layout_in program.now) (tables_in program.now) machine.old f }
     ensures fault { result
-        ≡ fault_of (run_of (P.layout parts.now) (P.tables parts.now) item element spans.now indices.now machine.old) }
+        ≡ fault_of (run_of (layout_in program.now) (tables_in program.now) item element spans.now indices.now machine.old) }
     ensures state { machine.new
         ≡ left_in spans.now indices.now
-        (run_of (P.layout parts.now) (P.tables parts.now) item element spans.now indices.now machine.old) machine.old }
+        (run_of (layout_in program.now) (tables_in program.now) item element spans.now indices.now machine.old) machine.old }
 {
     rank_state::steps_can::<KernelFault>();
     rank_state::windows_are_counted::<KernelFault>();
-    machine.element(parts, constants, item, element, spans, indices, locals)
+    machine.element(program, constants, item, element, spans, indices, locals)
 }
 
 // One element of an Ordered loop; its fault, where it has one.
-fn run_one<P: Items>(
+fn run_one(
     machine: &mut Machine,
-    parts: &P,
+    program: &DistributedProgram<'_>,
     room: &mut Room,
     item: u32,
     element: u32,
 ) -> Option<KernelFault>
-    requires sound { P.sound parts.now }
-    requires kind { (P.setup parts.now).program.kind item ≡ Ordered }
-    requires element { element < elements (P.setup parts.now).program item }
-    requires space { HasRoom (P.span_count parts.now) (P.locals parts.now) (length (P.tables parts.now).constants) room.old }
-    requires shows { (f : Flat KernelFault) × Shows (P.setup parts.now) (P.layout parts.now) (P.tables parts.now) machine.old f }
-    ensures ran { RanElement (P.setup parts.now) (P.layout parts.now) (P.tables parts.now) item element machine.old machine.new result }
-    ensures space { HasRoom (P.span_count parts.now) (P.locals parts.now) (length (P.tables parts.now).constants) room.new }
+    requires sound { Sound program.now }
+    requires kind { (setup_in program.now).program.kind item ≡ Ordered }
+    requires element { element < elements (setup_in program.now).program item }
+    requires space { HasRoomOf program.now room.old }
+    requires shows { (f : Flat KernelFault) × Shows (setup_in program.now) (layout_in program.now) (tables_in program.now) machine.old f }
+    ensures ran { RanElement (setup_in program.now) (layout_in program.now) (tables_in program.now)
+        item element machine.old machine.new result }
+    ensures space { HasRoomOf program.now room.new }
 {
-    read_constants(machine, parts, &mut room.constants);
+    read_constants(machine, program, &mut room.constants);
     room.owned.clear();
-    let indices = parts.owned_windows(item, element, &mut room.owned);
+    let indices = push_owned_windows(program, item, element, &mut room.owned);
     run_one_on(
         machine,
-        parts,
+        program,
         item,
         element,
         &room.owned,
@@ -108,41 +109,41 @@ fn run_one<P: Items>(
 }
 
 // How many elements an Ordered loop has.
-fn elements_of<P: Items>(parts: &P, item: u32, site: u32) -> u32
-    requires sound { P.sound parts.now }
-    requires site { item_at (P.program parts.now) item ≡ OrderedItem site }
-    ensures { result ≡ elements (P.setup parts.now).program item }
+fn elements_of(program: &DistributedProgram<'_>, item: u32, site: u32) -> u32
+    requires sound { Sound program.now }
+    requires site { item_at (program_in program.now) item ≡ OrderedItem site }
+    ensures { result ≡ elements (setup_in program.now).program item }
 {
     run_model::items_are_there();
-    let bound = parts.bound();
+    let bound = program.bound;
     bound.mesh.set_size(bound.sites[site as usize].set)
 }
 
 // An Ordered loop, where no fault of an earlier item is kept: its elements one after another, up to
 // the first that faults.
-fn run_ordered<P: Items>(
+fn run_ordered(
     machine: &mut Machine,
-    parts: &P,
+    program: &DistributedProgram<'_>,
     room: &mut Room,
     item: u32,
     site: u32,
 ) -> Option<Stop>
-    requires sound { P.sound parts.now }
-    requires site { item_at (P.program parts.now) item ≡ OrderedItem site }
-    requires space { HasRoom (P.span_count parts.now) (P.locals parts.now) (length (P.tables parts.now).constants) room.old }
-    requires kind { (P.setup parts.now).program.kind item ≡ Ordered }
-    requires shows { (f : Flat KernelFault) × Shows (P.setup parts.now) (P.layout parts.now) (P.tables parts.now) machine.old f }
+    requires sound { Sound program.now }
+    requires site { item_at (program_in program.now) item ≡ OrderedItem site }
+    requires space { HasRoomOf program.now room.old }
+    requires kind { (setup_in program.now).program.kind item ≡ Ordered }
+    requires shows { (f : Flat KernelFault) × Shows (setup_in program.now) (layout_in program.now) (tables_in program.now) machine.old f }
     requires going { if_before item machine.old.fault ≡ None }
-    ensures space { HasRoom (P.span_count parts.now) (P.locals parts.now) (length (P.tables parts.now).constants) room.new }
-    ensures after { (f : Flat KernelFault) → Shows (P.setup parts.now) (P.layout parts.now) (P.tables parts.now) machine.old f
-        → After (P.setup parts.now) (P.layout parts.now) (P.tables parts.now) (stop_in result) machine.new
-        (flat_step (P.setup parts.now) (P.layout parts.now) (Join item) f) }
+    ensures space { HasRoomOf program.now room.new }
+    ensures after { (f : Flat KernelFault) → Shows (setup_in program.now) (layout_in program.now) (tables_in program.now) machine.old f
+        → After (setup_in program.now) (layout_in program.now) (tables_in program.now) (stop_in result) machine.new
+        (flat_step (setup_in program.now) (layout_in program.now) (Join item) f) }
     ensures mail { machine.new.mail.left ≡ machine.old.mail.left }
     ensures frames { machine.new.frames.left ≡ machine.old.frames.left }
 {
     rank_state::loop_shows::<KernelFault>();
-    for element in 0..elements_of(parts, item, site) {
-        if let Some(fault) = run_one(machine, parts, room, item, element) {
+    for element in 0..elements_of(program, item, site) {
+        if let Some(fault) = run_one(machine, program, room, item, element) {
             return Some(Stop {
                 item,
                 element: Some(element),
@@ -154,22 +155,22 @@ fn run_ordered<P: Items>(
 }
 
 /// A join: it stops by the kept fault of an earlier item, and else does its item.
-pub fn join<P: Items>(
+pub fn join(
     alloc: Global,
     machine: &mut Machine,
-    parts: &P,
+    program: &DistributedProgram<'_>,
     room: &mut Room,
     item: u32,
 ) -> Result<Option<Stop>, OutOfMemory>
-    requires sound { P.sound parts.now }
-    requires space { HasRoom (P.span_count parts.now) (P.locals parts.now) (length (P.tables parts.now).constants) room.old }
-    requires planned { IsStep (by_place (P.setup parts.now) (P.layout parts.now)) (Join item) }
-    requires shows { (f : Flat KernelFault) × Shows (P.setup parts.now) (P.layout parts.now) (P.tables parts.now) machine.old f }
+    requires sound { Sound program.now }
+    requires space { HasRoomOf program.now room.old }
+    requires planned { IsStep (by_place (setup_in program.now) (layout_in program.now)) (Join item) }
+    requires shows { (f : Flat KernelFault) × Shows (setup_in program.now) (layout_in program.now) (tables_in program.now) machine.old f }
     ensures after { IfOk result
-        (λ stop. (f : Flat KernelFault) → Shows (P.setup parts.now) (P.layout parts.now) (P.tables parts.now) machine.old f
-        → After (P.setup parts.now) (P.layout parts.now) (P.tables parts.now) (stop_in stop) machine.new
-        (flat_step (P.setup parts.now) (P.layout parts.now) (Join item) f)) }
-    ensures space { HasRoom (P.span_count parts.now) (P.locals parts.now) (length (P.tables parts.now).constants) room.new }
+        (λ stop. (f : Flat KernelFault) → Shows (setup_in program.now) (layout_in program.now) (tables_in program.now) machine.old f
+        → After (setup_in program.now) (layout_in program.now) (tables_in program.now) (stop_in stop) machine.new
+        (flat_step (setup_in program.now) (layout_in program.now) (Join item) f)) }
+    ensures space { HasRoomOf program.now room.new }
     ensures mail { machine.new.mail.left ≡ machine.old.mail.left }
     ensures frames { machine.new.frames.left ≡ machine.old.frames.left }
 {
@@ -177,13 +178,13 @@ pub fn join<P: Items>(
     if let Some(stop) = machine.fault_before(item) {
         return Ok(Some(stop));
     }
-    match &parts.bound().trace[item as usize] {
+    match &program.bound.trace[item as usize] {
         Item::Reduce { .. } => {
-            reduce(machine, parts, item);
+            reduce(machine, program, item);
             Ok(None)
         }
-        Item::Ordered { site } => Ok(run_ordered(machine, parts, room, item, *site)),
-        Item::Host { act } => run_host(alloc, machine, parts, item, act),
+        Item::Ordered { site } => Ok(run_ordered(machine, program, room, item, *site)),
+        Item::Host { act } => run_host(alloc, machine, program, item, act),
         Item::Free { .. } => unreachable!(),
     }
 }

@@ -4,7 +4,7 @@ ghost use Rattle.schedule_model.specs.Setup.{Setup};
 ghost use Rattle.flat_machine.specs.Layout.{Layout};
 ghost use Rattle.rank_state.specs.Shows.{Tables};
 ghost use Rattle.std.specs.Prelude.{List};
-ghost use Rattle.rank_machine.specs.AloneRuns.{Share};
+ghost use Rattle.rank_program.specs.AloneRuns.{Share};
 ghost use Rattle.rank_state.specs.Machine.{State};
 ghost use Rattle.rank_exec.specs.Rounds.{RanksComeInTurn, SharesAreSet};
 

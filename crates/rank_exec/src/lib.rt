@@ -7,12 +7,13 @@ mod group;
 mod group_room;
 mod group_steps;
 mod hosts;
-pub mod items;
 mod joins;
 pub mod laws;
 pub mod run_room;
+mod running;
 mod sharing;
 pub mod stream;
 
 pub use rank_machine::machine::Machine;
-pub use rank_machine::stop::Stop;
+pub use rank_memory::stop::Stop;
+pub use running::{Outcome, run_planned};

@@ -1,11 +1,11 @@
 // What the steps of a list need on their way, taken once.
 
-ghost use Rattle.std.specs.Prelude.{IfOk, length};
-ghost use Rattle.rank_exec.specs.RunRooms.{HasRunRoom};
+ghost use Rattle.std.specs.Prelude.{IfOk};
+ghost use Rattle.rank_exec.specs.RunRooms.{HasRunRoomOf};
+ghost use Rattle.rank_program.specs.Sound.{Sound};
 
 use crate::group_room::GroupRoom;
-use rank_machine::parts::Parts;
-use rank_machine::room::Room;
+use rank_program::{DistributedProgram, Room};
 use std::alloc::{AllocError, Global};
 
 /// How many begins are done as one group at most.
@@ -21,16 +21,14 @@ pub struct RunRoom {
 
 impl RunRoom {
     /// As much room as any list of steps needs, whatever its length.
-    pub fn new<P: Parts>(alloc: Global, parts: &P) -> Result<RunRoom, AllocError>
-        requires { P.sound parts.now }
-        ensures { IfOk result
-            (HasRunRoom (P.span_count parts.now) (P.locals parts.now) (length (P.tables parts.now).constants)
-            (P.tables parts.now).stride) }
+    pub fn new(alloc: Global, program: &DistributedProgram<'_>) -> Result<RunRoom, AllocError>
+        requires { Sound program.now }
+        ensures { IfOk result (HasRunRoomOf program.now) }
     {
         Ok(RunRoom {
-            step: Room::new(alloc, parts)?,
+            step: Room::new(alloc, program)?,
             places: Vec::with_capacity(alloc, MOST_BEGINS)?,
-            group: GroupRoom::new(alloc, MOST_BEGINS, parts.stride(), parts.most_locals())?,
+            group: GroupRoom::new(alloc, MOST_BEGINS, program.stride(), program.locals)?,
         })
     }
 }

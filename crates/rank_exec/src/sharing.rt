@@ -3,7 +3,7 @@
 ghost use Rattle.std.specs.Prelude.{◌<◌};
 
 use kernel_code::Part;
-use kernel_jobs::KernelJob;
+use rank_program::KernelJob;
 
 // As many operations as threads are worth: starting them takes as long as some thousands.
 const WORTH_THREADS: usize = 16384;

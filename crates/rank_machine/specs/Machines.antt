@@ -1,5 +1,6 @@
--- What a machine has room for.
-use Rattle.std.specs.Prelude.{◌≡◌, ℕ, ℤ, List, Vec, All, vec_len}
+-- What a machine has room for, and what a run leaves there.
+use Rattle.std.specs.Prelude.{◌≡◌, ℕ, ℤ, List, Vec, All, take, vec_len, Result, Ok, Err}
+use Rattle.flat_machine.specs.Layout.{Core, Faults, Leaves}
 use Rattle.std.specs.declared.alloc.Global.{Global}
 use Rattle.rank_memory.specs.Spare.{HasSpare}
 
@@ -7,3 +8,8 @@ use Rattle.rank_memory.specs.Spare.{HasSpare}
 pub record IsMachine (stride : ℕ) (memories : List (Vec ℤ Global)) (window : Vec ℤ Global) : Type 0 where
   pub spare : All (HasSpare stride) memories
   pub window_fits : vec_len window ≡ stride
+
+-- what a kernel's run leaves of its windows, the first cells of a frame
+abbrev pub ran_in : {F : Type 0} → List ℤ → Result ℕ F → Core F
+ran_in frame (Ok n) = Leaves (take n frame)
+ran_in frame (Err f) = Faults f

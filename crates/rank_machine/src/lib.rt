@@ -1,14 +1,10 @@
-//! The machine: the memories of all ranks with the variables, the least recorded fault and the output, what each step makes of
-//! them, and what it reads of a program and its distribution.
+//! The machine: the memories of all ranks with the variables, the least recorded fault and the output, and what each step of a
+//! distributed program makes of them.
 #![tactic(auto)]
 
-pub mod laws;
 pub mod machine;
 pub mod messages;
-pub mod parts;
-pub mod ranks;
 mod reduce;
-pub mod room;
+mod running;
 pub mod start;
 pub mod steps;
-pub mod stop;

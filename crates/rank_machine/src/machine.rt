@@ -9,11 +9,11 @@ mod elements;
 mod joins;
 mod messages;
 
-use crate::stop::Stop;
 use rank_memory::frames::Frames;
 use rank_memory::mail::Mail;
 use rank_memory::owned::gather_values;
 use rank_memory::scalars::unit;
+use rank_memory::stop::Stop;
 use rank_state::Operation;
 use std::alloc::{AllocError, Global};
 use std::marker::Model;
@@ -40,7 +40,7 @@ impl Model for Machine {
 
     ghost Value = { State KernelFault };
 
-    ghost use Rattle.rank_machine.specs.Stops.{stop_in};
+    ghost use Rattle.rank_memory.specs.Stops.{stop_in};
     ghost use Rattle.rank_machine.specs.Machines.{IsMachine};
 
     ghost view = { λ m. record {

@@ -10,33 +10,33 @@ ghost use Rattle.rank_state.specs.declared.spans.Span.{Span};
 ghost use Rattle.rank_state.specs.Spans.{total};
 ghost use Rattle.rank_state.specs.Mail.{Carries};
 ghost use Rattle.rank_state.specs.Shows.{AreExports, AreImports, Shows};
-ghost use Rattle.rank_machine.specs.Rooms.{HasRoom};
+ghost use Rattle.rank_program.specs.Rooms.{HasRoomOf};
+ghost use Rattle.rank_program.specs.Sound.{Sound, setup_in, layout_in, tables_in};
 
 use crate::machine::Machine;
-use crate::parts::Parts;
-use crate::room::Room;
 use kernel_types::KernelFault;
+use rank_program::{DistributedProgram, Room, push_received, push_sent};
 use rank_state::Span;
 
 // A send of the cells of these spans.
-fn send_on<P: Parts>(
+fn send_on(
     machine: &mut Machine,
-    parts: &P,
+    program: &DistributedProgram<'_>,
     item: u32,
     from: u32,
     to: u32,
     spans: &[Span],
 )
-    requires sound { P.sound parts.now }
-    requires planned { IsStep (by_place (P.setup parts.now) (P.layout parts.now)) (Send item from to) }
-    requires are { AreExports (P.setup parts.now) (P.layout parts.now) (P.tables parts.now) item from to from spans.now }
+    requires sound { Sound program.now }
+    requires planned { IsStep (by_place (setup_in program.now) (layout_in program.now)) (Send item from to) }
+    requires are { AreExports (setup_in program.now) (layout_in program.now) (tables_in program.now) item from to from spans.now }
     requires some { 0 < total spans.now }
-    requires shows { (f : Flat KernelFault) × Shows (P.setup parts.now) (P.layout parts.now) (P.tables parts.now) machine.old f }
-    requires room { length ((P.layout parts.now).exports item from to) ≤ machine.old.mail.left }
-    ensures shows { (f : Flat KernelFault) → Shows (P.setup parts.now) (P.layout parts.now) (P.tables parts.now) machine.old f
-        → Shows (P.setup parts.now) (P.layout parts.now) (P.tables parts.now) machine.new
-        (flat_step (P.setup parts.now) (P.layout parts.now) (Send item from to) f) }
-    ensures mail { machine.new.mail.left + length ((P.layout parts.now).exports item from to) ≡ machine.old.mail.left }
+    requires shows { (f : Flat KernelFault) × Shows (setup_in program.now) (layout_in program.now) (tables_in program.now) machine.old f }
+    requires room { length ((layout_in program.now).exports item from to) ≤ machine.old.mail.left }
+    ensures shows { (f : Flat KernelFault) → Shows (setup_in program.now) (layout_in program.now) (tables_in program.now) machine.old f
+        → Shows (setup_in program.now) (layout_in program.now) (tables_in program.now) machine.new
+        (flat_step (setup_in program.now) (layout_in program.now) (Send item from to) f) }
+    ensures mail { machine.new.mail.left + length ((layout_in program.now).exports item from to) ≡ machine.old.mail.left }
     ensures frames { machine.new.frames.left ≡ machine.old.frames.left }
 {
     rank_state::send_shows::<KernelFault>();
@@ -45,49 +45,49 @@ fn send_on<P: Parts>(
 }
 
 /// A send.
-pub fn send<P: Parts>(
+pub fn send(
     machine: &mut Machine,
-    parts: &P,
+    program: &DistributedProgram<'_>,
     room: &mut Room,
     item: u32,
     from: u32,
     to: u32,
 )
-    requires sound { P.sound parts.now }
-    requires planned { IsStep (by_place (P.setup parts.now) (P.layout parts.now)) (Send item from to) }
-    requires space { HasRoom (P.span_count parts.now) (P.locals parts.now) (length (P.tables parts.now).constants) room.old }
-    requires shows { (f : Flat KernelFault) × Shows (P.setup parts.now) (P.layout parts.now) (P.tables parts.now) machine.old f }
-    requires room { length ((P.layout parts.now).exports item from to) ≤ machine.old.mail.left }
-    ensures shows { (f : Flat KernelFault) → Shows (P.setup parts.now) (P.layout parts.now) (P.tables parts.now) machine.old f
-        → Shows (P.setup parts.now) (P.layout parts.now) (P.tables parts.now) machine.new
-        (flat_step (P.setup parts.now) (P.layout parts.now) (Send item from to) f) }
-    ensures space { HasRoom (P.span_count parts.now) (P.locals parts.now) (length (P.tables parts.now).constants) room.new }
-    ensures mail { machine.new.mail.left + length ((P.layout parts.now).exports item from to) ≡ machine.old.mail.left }
+    requires sound { Sound program.now }
+    requires planned { IsStep (by_place (setup_in program.now) (layout_in program.now)) (Send item from to) }
+    requires space { HasRoomOf program.now room.old }
+    requires shows { (f : Flat KernelFault) × Shows (setup_in program.now) (layout_in program.now) (tables_in program.now) machine.old f }
+    requires room { length ((layout_in program.now).exports item from to) ≤ machine.old.mail.left }
+    ensures shows { (f : Flat KernelFault) → Shows (setup_in program.now) (layout_in program.now) (tables_in program.now) machine.old f
+        → Shows (setup_in program.now) (layout_in program.now) (tables_in program.now) machine.new
+        (flat_step (setup_in program.now) (layout_in program.now) (Send item from to) f) }
+    ensures space { HasRoomOf program.now room.new }
+    ensures mail { machine.new.mail.left + length ((layout_in program.now).exports item from to) ≡ machine.old.mail.left }
     ensures frames { machine.new.frames.left ≡ machine.old.frames.left }
 {
     room.spans.clear();
-    parts.exports(item, from, to, &mut room.spans);
-    send_on(machine, parts, item, from, to, &room.spans);
+    push_sent(program, item, from, to, &mut room.spans);
+    send_on(machine, program, item, from, to, &room.spans);
 }
 
 // A receive into the cells of these spans.
-fn recv_on<P: Parts>(
+fn recv_on(
     machine: &mut Machine,
-    parts: &P,
+    program: &DistributedProgram<'_>,
     item: u32,
     rank: u32,
     from: u32,
     spans: &[Span],
 )
-    requires sound { P.sound parts.now }
-    requires planned { IsStep (by_place (P.setup parts.now) (P.layout parts.now)) (Recv item rank from) }
-    requires are { AreImports (P.setup parts.now) (P.layout parts.now) (P.tables parts.now) item from rank spans.now }
-    requires shows { (f : Flat KernelFault) × Shows (P.setup parts.now) (P.layout parts.now) (P.tables parts.now) machine.old f }
+    requires sound { Sound program.now }
+    requires planned { IsStep (by_place (setup_in program.now) (layout_in program.now)) (Recv item rank from) }
+    requires are { AreImports (setup_in program.now) (layout_in program.now) (tables_in program.now) item from rank spans.now }
+    requires shows { (f : Flat KernelFault) × Shows (setup_in program.now) (layout_in program.now) (tables_in program.now) machine.old f }
     requires oldest { Carries item from rank (total spans.now) machine.old.mail }
-    ensures shows { (f : Flat KernelFault) → Shows (P.setup parts.now) (P.layout parts.now) (P.tables parts.now) machine.old f
-        → Shows (P.setup parts.now) (P.layout parts.now) (P.tables parts.now) machine.new
-        (flat_step (P.setup parts.now) (P.layout parts.now) (Recv item rank from) f) }
-    ensures mail { machine.new.mail.left ≡ machine.old.mail.left + length ((P.layout parts.now).exports item from rank) }
+    ensures shows { (f : Flat KernelFault) → Shows (setup_in program.now) (layout_in program.now) (tables_in program.now) machine.old f
+        → Shows (setup_in program.now) (layout_in program.now) (tables_in program.now) machine.new
+        (flat_step (setup_in program.now) (layout_in program.now) (Recv item rank from) f) }
+    ensures mail { machine.new.mail.left ≡ machine.old.mail.left + length ((layout_in program.now).exports item from rank) }
     ensures frames { machine.new.frames.left ≡ machine.old.frames.left }
 {
     rank_state::recv_shows::<KernelFault>();
@@ -96,29 +96,29 @@ fn recv_on<P: Parts>(
 }
 
 /// A receive.
-pub fn recv<P: Parts>(
+pub fn recv(
     machine: &mut Machine,
-    parts: &P,
+    program: &DistributedProgram<'_>,
     room: &mut Room,
     item: u32,
     rank: u32,
     from: u32,
 )
-    requires sound { P.sound parts.now }
-    requires planned { IsStep (by_place (P.setup parts.now) (P.layout parts.now)) (Recv item rank from) }
-    requires space { HasRoom (P.span_count parts.now) (P.locals parts.now) (length (P.tables parts.now).constants) room.old }
-    requires shows { (f : Flat KernelFault) × Shows (P.setup parts.now) (P.layout parts.now) (P.tables parts.now) machine.old f }
+    requires sound { Sound program.now }
+    requires planned { IsStep (by_place (setup_in program.now) (layout_in program.now)) (Recv item rank from) }
+    requires space { HasRoomOf program.now room.old }
+    requires shows { (f : Flat KernelFault) × Shows (setup_in program.now) (layout_in program.now) (tables_in program.now) machine.old f }
     requires oldest { (spans : List Span)
-        → AreImports (P.setup parts.now) (P.layout parts.now) (P.tables parts.now) item from rank spans
+        → AreImports (setup_in program.now) (layout_in program.now) (tables_in program.now) item from rank spans
         → Carries item from rank (total spans) machine.old.mail }
-    ensures shows { (f : Flat KernelFault) → Shows (P.setup parts.now) (P.layout parts.now) (P.tables parts.now) machine.old f
-        → Shows (P.setup parts.now) (P.layout parts.now) (P.tables parts.now) machine.new
-        (flat_step (P.setup parts.now) (P.layout parts.now) (Recv item rank from) f) }
-    ensures space { HasRoom (P.span_count parts.now) (P.locals parts.now) (length (P.tables parts.now).constants) room.new }
-    ensures mail { machine.new.mail.left ≡ machine.old.mail.left + length ((P.layout parts.now).exports item from rank) }
+    ensures shows { (f : Flat KernelFault) → Shows (setup_in program.now) (layout_in program.now) (tables_in program.now) machine.old f
+        → Shows (setup_in program.now) (layout_in program.now) (tables_in program.now) machine.new
+        (flat_step (setup_in program.now) (layout_in program.now) (Recv item rank from) f) }
+    ensures space { HasRoomOf program.now room.new }
+    ensures mail { machine.new.mail.left ≡ machine.old.mail.left + length ((layout_in program.now).exports item from rank) }
     ensures frames { machine.new.frames.left ≡ machine.old.frames.left }
 {
     room.spans.clear();
-    parts.imports(item, rank, from, &mut room.spans);
-    recv_on(machine, parts, item, rank, from, &room.spans);
+    push_received(program, item, rank, from, &mut room.spans);
+    recv_on(machine, program, item, rank, from, &room.spans);
 }

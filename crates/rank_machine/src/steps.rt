@@ -1,6 +1,6 @@
 // Each begin and end of a list, on a machine whose lists show a state of the machine on flat buffers.
 
-ghost use Rattle.std.specs.Prelude.{◌≡◌, ◌≢◌, ◌<◌, ◌≤◌, ◌+◌, List, [], length};
+ghost use Rattle.std.specs.Prelude.{◌≡◌, ◌≢◌, ◌<◌, ◌≤◌, ◌+◌, [], length};
 ghost use Rattle.kernel_types.specs.declared.faults.KernelFault.{KernelFault};
 ghost use Rattle.schedule_steps.specs.declared.step.Step.TheVariants.{Begin, End};
 ghost use Rattle.schedule_steps.specs.Steps.{IsStep};
@@ -10,29 +10,30 @@ ghost use Rattle.rank_state.specs.declared.spans.Span.{Span};
 ghost use Rattle.rank_state.specs.Frames.{Shut, pane_at};
 ghost use Rattle.rank_state.specs.Indices.{values_at};
 ghost use Rattle.rank_state.specs.Shows.{AreWindows, Shows, pane_in};
-ghost use Rattle.rank_machine.specs.Rooms.{HasRoom};
+ghost use Rattle.rank_program.specs.Rooms.{HasRoomOf};
+ghost use Rattle.rank_program.specs.Sound.{Sound, setup_in, layout_in, tables_in};
+ghost use Rattle.rank_program.specs.Keeping.{KeepsIn};
 
 use crate::machine::Machine;
-use crate::parts::Parts;
-use crate::room::Room;
 use kernel_types::KernelFault;
+use rank_program::{DistributedProgram, Room, original_at, owns_at, push_element};
 use rank_state::{Scalar, Span};
 
 /// Copies the values of all constants.
-pub fn read_constants<P: Parts>(machine: &Machine, parts: &P, values: &mut Vec<i32>)
-    requires sound { P.sound parts.now }
-    requires count { length values.old.items ≡ length (P.tables parts.now).constants }
-    requires shows { (f : Flat KernelFault) × Shows (P.setup parts.now) (P.layout parts.now) (P.tables parts.now) machine.now f }
-    ensures values { values.new.items ≡ values_at machine.now.variables (P.tables parts.now).constants }
-    ensures count { length values.new.items ≡ length (P.tables parts.now).constants }
+pub fn read_constants(machine: &Machine, program: &DistributedProgram<'_>, values: &mut Vec<i32>)
+    requires sound { Sound program.now }
+    requires count { length values.old.items ≡ length (tables_in program.now).constants }
+    requires shows { (f : Flat KernelFault) × Shows (setup_in program.now) (layout_in program.now) (tables_in program.now) machine.now f }
+    ensures values { values.new.items ≡ values_at machine.now.variables (tables_in program.now).constants }
+    ensures count { length values.new.items ≡ length (tables_in program.now).constants }
 {
-    machine.read(parts.constants(), values);
+    machine.read(program.constants(), values);
 }
 
 // A begin on the windows of these spans and scalars.
-fn begin_on<P: Parts>(
+fn begin_on(
     machine: &mut Machine,
-    parts: &P,
+    program: &DistributedProgram<'_>,
     item: u32,
     rank: u32,
     place: u32,
@@ -41,57 +42,57 @@ fn begin_on<P: Parts>(
     constants: &[i32],
     locals: &mut [i32],
 )
-    requires sound { P.sound parts.now }
-    requires planned { IsStep (by_place (P.setup parts.now) (P.layout parts.now)) (Begin item rank place) }
-    requires are { AreWindows (P.setup parts.now) (P.layout parts.now) (P.tables parts.now) item rank place spans.now scalars.now }
-    requires values { constants.now ≡ values_at machine.old.variables (P.tables parts.now).constants }
-    requires locals { P.locals parts.now ≤ length locals.old }
-    requires shows { (f : Flat KernelFault) × Shows (P.setup parts.now) (P.layout parts.now) (P.tables parts.now) machine.old f }
+    requires sound { Sound program.now }
+    requires planned { IsStep (by_place (setup_in program.now) (layout_in program.now)) (Begin item rank place) }
+    requires are { AreWindows (setup_in program.now) (layout_in program.now) (tables_in program.now) item rank place spans.now scalars.now }
+    requires values { constants.now ≡ values_at machine.old.variables (tables_in program.now).constants }
+    requires locals { program.now.locals ≤ length locals.old }
+    requires shows { (f : Flat KernelFault) × Shows (setup_in program.now) (layout_in program.now) (tables_in program.now) machine.old f }
     requires shut { pane_at machine.old.frames.panes rank place ≡ Shut }
     requires room { 0 < machine.old.frames.left }
-    ensures shows { (f : Flat KernelFault) → Shows (P.setup parts.now) (P.layout parts.now) (P.tables parts.now) machine.old f
-        → Shows (P.setup parts.now) (P.layout parts.now) (P.tables parts.now) machine.new
-        (flat_step (P.setup parts.now) (P.layout parts.now) (Begin item rank place) f) }
+    ensures shows { (f : Flat KernelFault) → Shows (setup_in program.now) (layout_in program.now) (tables_in program.now) machine.old f
+        → Shows (setup_in program.now) (layout_in program.now) (tables_in program.now) machine.new
+        (flat_step (setup_in program.now) (layout_in program.now) (Begin item rank place) f) }
     ensures mail { machine.new.mail.left ≡ machine.old.mail.left }
     ensures frames { machine.new.frames.left + 1 ≡ machine.old.frames.left }
 {
     rank_state::begin_shows::<KernelFault>();
     rank_state::steps_can::<KernelFault>();
     rank_state::windows_are_counted::<KernelFault>();
-    let original = parts.original(item, rank, place);
+    let original = original_at(program, item, rank, place);
     machine.begin(
-        parts, constants, item, rank, place, original, spans, scalars, locals,
+        program, constants, item, rank, place, original, spans, scalars, locals,
     );
 }
 
 /// A begin.
-pub fn begin<P: Parts>(
+pub fn begin(
     machine: &mut Machine,
-    parts: &P,
+    program: &DistributedProgram<'_>,
     room: &mut Room,
     item: u32,
     rank: u32,
     place: u32,
 )
-    requires sound { P.sound parts.now }
-    requires planned { IsStep (by_place (P.setup parts.now) (P.layout parts.now)) (Begin item rank place) }
-    requires space { HasRoom (P.span_count parts.now) (P.locals parts.now) (length (P.tables parts.now).constants) room.old }
-    requires shows { (f : Flat KernelFault) × Shows (P.setup parts.now) (P.layout parts.now) (P.tables parts.now) machine.old f }
+    requires sound { Sound program.now }
+    requires planned { IsStep (by_place (setup_in program.now) (layout_in program.now)) (Begin item rank place) }
+    requires space { HasRoomOf program.now room.old }
+    requires shows { (f : Flat KernelFault) × Shows (setup_in program.now) (layout_in program.now) (tables_in program.now) machine.old f }
     requires shut { pane_at machine.old.frames.panes rank place ≡ Shut }
     requires room { 0 < machine.old.frames.left }
-    ensures shows { (f : Flat KernelFault) → Shows (P.setup parts.now) (P.layout parts.now) (P.tables parts.now) machine.old f
-        → Shows (P.setup parts.now) (P.layout parts.now) (P.tables parts.now) machine.new
-        (flat_step (P.setup parts.now) (P.layout parts.now) (Begin item rank place) f) }
-    ensures space { HasRoom (P.span_count parts.now) (P.locals parts.now) (length (P.tables parts.now).constants) room.new }
+    ensures shows { (f : Flat KernelFault) → Shows (setup_in program.now) (layout_in program.now) (tables_in program.now) machine.old f
+        → Shows (setup_in program.now) (layout_in program.now) (tables_in program.now) machine.new
+        (flat_step (setup_in program.now) (layout_in program.now) (Begin item rank place) f) }
+    ensures space { HasRoomOf program.now room.new }
     ensures mail { machine.new.mail.left ≡ machine.old.mail.left }
     ensures frames { machine.new.frames.left + 1 ≡ machine.old.frames.left }
 {
-    read_constants(machine, parts, &mut room.constants);
+    read_constants(machine, program, &mut room.constants);
     room.spans.clear();
-    let scalars = parts.windows(item, rank, place, &mut room.spans);
+    let scalars = push_element(program, item, rank, place, &mut room.spans);
     begin_on(
         machine,
-        parts,
+        program,
         item,
         rank,
         place,
@@ -103,83 +104,84 @@ pub fn begin<P: Parts>(
 }
 
 // An end on the windows of these spans and scalars.
-fn end_on<P: Parts>(
+fn end_on(
     machine: &mut Machine,
-    parts: &P,
+    program: &DistributedProgram<'_>,
     item: u32,
     rank: u32,
     place: u32,
     spans: &[Span],
     scalars: &[Scalar],
 )
-    requires sound { P.sound parts.now }
-    requires planned { IsStep (by_place (P.setup parts.now) (P.layout parts.now)) (End item rank place) }
-    requires are { AreWindows (P.setup parts.now) (P.layout parts.now) (P.tables parts.now) item rank place spans.now scalars.now }
-    requires shows { (f : Flat KernelFault) × Shows (P.setup parts.now) (P.layout parts.now) (P.tables parts.now) machine.old f }
+    requires sound { Sound program.now }
+    requires planned { IsStep (by_place (setup_in program.now) (layout_in program.now)) (End item rank place) }
+    requires are { AreWindows (setup_in program.now) (layout_in program.now) (tables_in program.now) item rank place spans.now scalars.now }
+    requires shows { (f : Flat KernelFault) × Shows (setup_in program.now) (layout_in program.now) (tables_in program.now) machine.old f }
     requires open { pane_in item (pane_at machine.old.frames.panes rank place) ≢ Shut_pane }
-    ensures shows { (f : Flat KernelFault) → Shows (P.setup parts.now) (P.layout parts.now) (P.tables parts.now) machine.old f
-        → Shows (P.setup parts.now) (P.layout parts.now) (P.tables parts.now) machine.new
-        (flat_step (P.setup parts.now) (P.layout parts.now) (End item rank place) f) }
+    ensures shows { (f : Flat KernelFault) → Shows (setup_in program.now) (layout_in program.now) (tables_in program.now) machine.old f
+        → Shows (setup_in program.now) (layout_in program.now) (tables_in program.now) machine.new
+        (flat_step (setup_in program.now) (layout_in program.now) (End item rank place) f) }
     ensures mail { machine.new.mail.left ≡ machine.old.mail.left }
     ensures frames { machine.new.frames.left ≡ machine.old.frames.left + 1 }
 {
     rank_state::end_shows::<KernelFault>();
     rank_state::steps_can::<KernelFault>();
-    let own = parts.owns(item, rank, place);
+    let own = owns_at(program, item, rank, place);
     machine.end(own, rank, place, spans, scalars);
 }
 
 /// An end.
-pub fn end<P: Parts>(
+pub fn end(
     machine: &mut Machine,
-    parts: &P,
+    program: &DistributedProgram<'_>,
     room: &mut Room,
     item: u32,
     rank: u32,
     place: u32,
 )
-    requires sound { P.sound parts.now }
-    requires planned { IsStep (by_place (P.setup parts.now) (P.layout parts.now)) (End item rank place) }
-    requires space { HasRoom (P.span_count parts.now) (P.locals parts.now) (length (P.tables parts.now).constants) room.old }
-    requires shows { (f : Flat KernelFault) × Shows (P.setup parts.now) (P.layout parts.now) (P.tables parts.now) machine.old f }
+    requires sound { Sound program.now }
+    requires planned { IsStep (by_place (setup_in program.now) (layout_in program.now)) (End item rank place) }
+    requires space { HasRoomOf program.now room.old }
+    requires shows { (f : Flat KernelFault) × Shows (setup_in program.now) (layout_in program.now) (tables_in program.now) machine.old f }
     requires open { pane_in item (pane_at machine.old.frames.panes rank place) ≢ Shut_pane }
-    ensures shows { (f : Flat KernelFault) → Shows (P.setup parts.now) (P.layout parts.now) (P.tables parts.now) machine.old f
-        → Shows (P.setup parts.now) (P.layout parts.now) (P.tables parts.now) machine.new
-        (flat_step (P.setup parts.now) (P.layout parts.now) (End item rank place) f) }
-    ensures space { HasRoom (P.span_count parts.now) (P.locals parts.now) (length (P.tables parts.now).constants) room.new }
+    ensures shows { (f : Flat KernelFault) → Shows (setup_in program.now) (layout_in program.now) (tables_in program.now) machine.old f
+        → Shows (setup_in program.now) (layout_in program.now) (tables_in program.now) machine.new
+        (flat_step (setup_in program.now) (layout_in program.now) (End item rank place) f) }
+    ensures space { HasRoomOf program.now room.new }
     ensures mail { machine.new.mail.left ≡ machine.old.mail.left }
     ensures frames { machine.new.frames.left ≡ machine.old.frames.left + 1 }
 {
     room.spans.clear();
-    let scalars = parts.windows(item, rank, place, &mut room.spans);
-    end_on(machine, parts, item, rank, place, &room.spans, scalars);
+    let scalars = push_element(program, item, rank, place, &mut room.spans);
+    end_on(machine, program, item, rank, place, &room.spans, scalars);
 }
 
 /// A begin that is followed at once by its own end.
-pub fn in_place<P: Parts>(
+pub fn in_place(
     machine: &mut Machine,
-    parts: &P,
+    program: &DistributedProgram<'_>,
     room: &mut Room,
     item: u32,
     rank: u32,
     place: u32,
 )
-    requires sound { P.sound parts.now }
-    requires planned { IsStep (by_place (P.setup parts.now) (P.layout parts.now)) (Begin item rank place) }
-    requires space { HasRoom (P.span_count parts.now) (P.locals parts.now) (length (P.tables parts.now).constants) room.old }
-    requires shows { (f : Flat KernelFault) × Shows (P.setup parts.now) (P.layout parts.now) (P.tables parts.now) machine.old f }
+    requires sound { Sound program.now }
+    requires keeps { KeepsIn program.now item }
+    requires planned { IsStep (by_place (setup_in program.now) (layout_in program.now)) (Begin item rank place) }
+    requires space { HasRoomOf program.now room.old }
+    requires shows { (f : Flat KernelFault) × Shows (setup_in program.now) (layout_in program.now) (tables_in program.now) machine.old f }
     requires shut { pane_at machine.old.frames.panes rank place ≡ Shut }
     requires room { 0 < machine.old.frames.left }
-    ensures shows { (f : Flat KernelFault) → Shows (P.setup parts.now) (P.layout parts.now) (P.tables parts.now) machine.old f
-        → Shows (P.setup parts.now) (P.layout parts.now) (P.tables parts.now) machine.new
-        (flat_step (P.setup parts.now) (P.layout parts.now) (End item rank place)
-        (flat_step (P.setup parts.now) (P.layout parts.now) (Begin item rank place) f)) }
+    ensures shows { (f : Flat KernelFault) → Shows (setup_in program.now) (layout_in program.now) (tables_in program.now) machine.old f
+        → Shows (setup_in program.now) (layout_in program.now) (tables_in program.now) machine.new
+        (flat_step (setup_in program.now) (layout_in program.now) (End item rank place)
+        (flat_step (setup_in program.now) (layout_in program.now) (Begin item rank place) f)) }
     ensures mail { machine.new.mail.left ≡ machine.old.mail.left }
     ensures frames { machine.new.frames.left ≡ machine.old.frames.left }
-    ensures space { HasRoom (P.span_count parts.now) (P.locals parts.now) (length (P.tables parts.now).constants) room.new }
+    ensures space { HasRoomOf program.now room.new }
 {
     rank_state::in_place_shows::<KernelFault>();
-    read_constants(machine, parts, &mut room.constants);
+    read_constants(machine, program, &mut room.constants);
     let places = [place];
-    machine.in_place(parts, item, rank, &places, room);
+    machine.in_place(program, item, rank, &places, room);
 }

@@ -1,3 +1,4 @@
 pub mod Slots
 pub mod Letters
 pub mod Spare
+pub mod Stops

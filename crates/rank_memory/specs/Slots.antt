@@ -1,7 +1,6 @@
 -- How the program keeps the open frames: slots of one staging buffer.
 use Rattle.std.specs.Prelude.{◌≡◌, ◌≢◌, ◌<◌, ◌≤◌, ◌+◌, ◌*◌, ℕ, zero, suc, ℤ, List, [], take, length, get_or, set, map, sum_by}
 use Rattle.std.specs.Prelude.{Option, Some, None}
-use Rattle.kernel_types.specs.declared.faults.KernelFault.{KernelFault}
 use Rattle.rank_state.specs.Spans.{cells_at}
 use Rattle.rank_state.specs.Frames.{Pane, Shut, Broken, Holds}
 use Rattle.rank_memory.specs.declared.slot.Held.{Held}
@@ -15,11 +14,6 @@ abbrev pub held_pane : Held → ℕ → List ℤ → Pane
 held_pane Nothing k row = Shut
 held_pane (Fault f) k row = Broken k
 held_pane (Cells n) k row = Holds k (take n row)
-
-abbrev pub fault_held : Held → Option KernelFault
-fault_held Nothing = None
-fault_held (Fault f) = Some f
-fault_held (Cells n) = None
 
 -- the frame in a slot of the staging buffer
 abbrev pub pane_of : ℕ → List Slot → List ℤ → ℕ → Pane

@@ -1,19 +1,17 @@
 // The open frames, in the slots of one staging buffer.
 
-ghost use Rattle.std.specs.Prelude.{◌≡◌, ◌≢◌, [], ◌+◌, ◌-◌, ◌<◌, ◌≤◌, ◌*◌, length, map, ◌++◌, slice_index_or};
+ghost use Rattle.std.specs.Prelude.{◌≡◌, ◌≢◌, [], ◌+◌, ◌-◌, ◌<◌, ◌≤◌, ◌*◌, length, map, slice_index_or};
 ghost use Rattle.std.specs.Prelude.{vec_len, vec_capacity, IfOk, ◌^◌};
 ghost use Rattle.kernel_types.specs.declared.faults.KernelFault.{KernelFault};
-ghost use Rattle.rank_state.specs.Spans.{Within, total, gathered};
-ghost use Rattle.rank_state.specs.Core.{fault_of};
-ghost use Rattle.rank_state.specs.Windows.{firsts, Reads, Merges};
+ghost use Rattle.rank_state.specs.Spans.{Within, total};
+ghost use Rattle.rank_state.specs.Windows.{Merges};
 ghost use Rattle.rank_state.specs.Machine.{merged_pane};
-ghost use Rattle.flat_machine.specs.Layout.{Leaves};
+ghost use Rattle.flat_machine.specs.Layout.{Faults, Leaves};
 ghost use Rattle.rank_state.specs.Frames.{Panes, Shut, pane_at, opened, shut, closed, Enough, Exactly, fresh};
 ghost use Rattle.rank_memory.specs.Slots.{entries, panes_in, Tied};
 
-use crate::core_run::Kernels;
-use crate::slot::{EMPTY, Held, Slot, fault_in};
-use crate::staging::{hold_at, merge_back, put_back, run_at};
+use crate::slot::{EMPTY, Held, Slot};
+use crate::staging::{hold_at, merge_back, put_back};
 use crate::table::{all_slots, nothing_open, put_slot, slot_at, take_slot};
 use kernel_types::KernelFault;
 use rank_state::{Scalar, Span};
@@ -76,65 +74,6 @@ impl Frames {
         })
     }
 
-    /// Opens an element's frame, with the windows of its spans as its kernel leaves them.
-    pub fn begin<C: Kernels>(
-        &mut self,
-        core: &C,
-        item: u32,
-        rank: u32,
-        element: u32,
-        original: u32,
-        constants: &[i32],
-        memory: &[i32],
-        spans: &[Span],
-        variables: &[i32],
-        scalars: &[Scalar],
-        scratch: &mut [i32],
-    ) -> Option<KernelFault>
-        requires takes { C.takes core.now item original (length constants.now) (total spans.now + length scalars.now) }
-        requires locals { C.locals core.now ≤ length scratch.old }
-        requires rank { rank < length self.old.panes }
-        requires element { element < length (slice_index_or self.old.panes rank []) }
-        requires shut { pane_at self.old.panes rank element ≡ Shut }
-        requires room { 0 < self.old.left }
-        requires inside { Within (length memory.now) spans.now }
-        requires reads { Reads (length variables.now) scalars.now }
-        requires fits { total spans.now + length scalars.now ≤ self.old.stride }
-        ensures opened { self.new
-            ≡ opened item rank element
-            (C.core core.now item original constants.now (gathered memory.now spans.now ++ firsts variables.now scalars.now))
-            (self.old.left - 1) self.old }
-        ensures fault { result
-            ≡ fault_of (C.core core.now item original constants.now (gathered memory.now spans.now ++ firsts variables.now scalars.now)) }
-    {
-        let Some(slot) = self.free.pop() else {
-            unreachable!()
-        };
-        let at = slot as usize;
-        let held = run_at(
-            core,
-            item,
-            original,
-            constants,
-            memory,
-            spans,
-            variables,
-            scalars,
-            &mut self.staging,
-            at * self.stride,
-            self.stride,
-            scratch,
-        );
-        self.slots[at] = Slot {
-            item,
-            rank,
-            element,
-            held,
-        };
-        put_slot(&mut self.table, rank, element, slot);
-        fault_in(held)
-    }
-
     /// Opens an element's frame, with the cells that its kernel left of its windows.
     pub fn open(&mut self, item: u32, rank: u32, element: u32, cells: &[i32])
         requires rank { rank < length self.old.panes }
@@ -154,6 +93,26 @@ impl Frames {
             rank,
             element,
             held,
+        };
+        put_slot(&mut self.table, rank, element, slot);
+    }
+
+    /// Opens the frame of an element whose kernel had a fault.
+    pub fn open_broken(&mut self, item: u32, rank: u32, element: u32, fault: KernelFault)
+        requires rank { rank < length self.old.panes }
+        requires element { element < length (slice_index_or self.old.panes rank []) }
+        requires shut { pane_at self.old.panes rank element ≡ Shut }
+        requires room { 0 < self.old.left }
+        ensures { self.new ≡ opened item rank element (Faults fault) (self.old.left - 1) self.old }
+    {
+        let Some(slot) = self.free.pop() else {
+            unreachable!()
+        };
+        self.slots[slot as usize] = Slot {
+            item,
+            rank,
+            element,
+            held: Held::Fault(fault),
         };
         put_slot(&mut self.table, rank, element, slot);
     }

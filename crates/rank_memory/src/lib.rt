@@ -1,14 +1,15 @@
-//! The memory of the ranks: cells that are gathered and put back, frames in one staging buffer, messages, and windows on the cells
-//! of their owners.
+//! The memory of the ranks: cells that are gathered and put back, frames in one staging buffer, messages, windows on the cells of
+//! their owners, and the fault that is kept.
 #![tactic(auto)]
 
-pub mod core_run;
+pub mod copying;
 pub mod frames;
+pub mod loading;
 pub mod mail;
 pub mod owned;
-pub mod running;
 pub mod scalars;
 mod slot;
 mod spans;
 mod staging;
+pub mod stop;
 mod table;

@@ -1,9 +1,9 @@
 // The unread messages, in one buffer, in the order of their sending.
 
-ghost use Rattle.std.specs.Prelude.{◌≡◌, ◌≢◌, [], ◌∷◌, ◌++◌, ℕ, ℤ, ◌+◌, ◌-◌, ◌<◌, ◌≤◌, List, length, sum_by, vec_len, vec_capacity, None};
+ghost use Rattle.std.specs.Prelude.{◌≡◌, ◌≢◌, [], ◌∷◌, ◌++◌, ℕ, ℤ, ◌+◌, ◌-◌, ◌<◌, ◌≤◌, length, vec_len, vec_capacity};
 ghost use Rattle.std.specs.Prelude.{take, drop, ◌^◌, IfOk};
 ghost use Rattle.rank_state.specs.Spans.{Within, total, gathered, scattered};
-ghost use Rattle.rank_state.specs.Mail.{Post, Box, first_post, without_first, sent, received, arrived, Carries};
+ghost use Rattle.rank_state.specs.Mail.{Box, first_post, sent, received, arrived, Carries};
 ghost use Rattle.rank_memory.specs.Letters.{posts_in, cells_of, index_of, offset_of, found, Positive};
 
 use crate::spans::{gather, scatter};

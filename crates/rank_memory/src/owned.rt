@@ -1,26 +1,13 @@
 // The windows of an element of an Ordered loop, in the buffers of the ranks that own their cells.
 
-ghost use Rattle.std.specs.Prelude.{◌≡◌, ◌+◌, ◌<◌, ◌≤◌, ◌++◌, ℕ, ℤ, [], List, length, map, take, slice_set, slice_index_or};
-ghost use Rattle.kernel_types.specs.declared.faults.KernelFault.{KernelFault};
+ghost use Rattle.std.specs.Prelude.{◌≡◌, ◌+◌, ◌<◌, ◌≤◌, ◌++◌, ℕ, ℤ, [], length, map, take, slice_set, slice_index_or};
 ghost use Rattle.rank_state.specs.Spans.{with_window, cells_at};
 ghost use Rattle.rank_state.specs.Ordered.{Within_all, total_all, gathered_all, scattered_all, put_values};
 ghost use Rattle.rank_state.specs.Indices.{InLength, values_at};
-ghost use Rattle.rank_state.specs.Ordered.{memories_after, variables_after};
-ghost use Rattle.rank_state.specs.Core.{fault_of};
 ghost use Rattle.rank_memory.specs.Spare.{KeepsSpare};
 
-use crate::core_run::Kernels;
-use kernel_types::KernelFault;
+use crate::copying::copy;
 use rank_state::Owned;
-
-// Copies cells of a buffer into the frame, from a place on.
-fn copy_in(frame: &mut [i32], from: usize, memory: &[i32], at: usize, dim: usize)
-    requires frame { from + dim ≤ length frame.old }
-    requires memory { at + dim ≤ length memory.now }
-    ensures { frame.new ≡ with_window from (cells_at at dim memory.now) frame.old }
-{
-    frame[from..from + dim].copy_from_slice(&memory[at..at + dim]);
-}
 
 // Copies cells of the frame into a rank's buffer.
 fn put_row(
@@ -39,11 +26,11 @@ fn put_row(
         (with_window at (cells_at from dim frame.now) (slice_index_or (map (λ v. v.items) memories.old) rank [])) }
     ensures spare { KeepsSpare memories.old memories.new }
 {
-    copy_in(&mut memories[rank], at, frame, from, dim);
+    copy(frame, from, &mut memories[rank], at, dim);
 }
 
-// Copies the spans' cells back.
-fn scatter_all(memories: &mut [Vec<i32>], spans: &[Owned], frame: &[i32])
+/// Copies the spans' cells back.
+pub fn scatter_all(memories: &mut [Vec<i32>], spans: &[Owned], frame: &[i32])
     requires inside { Within_all (map (λ v. v.items) memories.old) spans.now }
     requires room { total_all spans.now ≤ length frame.now }
     ensures cells { map (λ v. v.items) memories.new ≡ scattered_all 0 frame.now spans.now (map (λ v. v.items) memories.old) }
@@ -65,11 +52,11 @@ fn gather_all(memories: &[Vec<i32>], spans: &[Owned], frame: &mut [i32]) -> usiz
 {
     let mut from = 0;
     for span in spans {
-        copy_in(
-            frame,
-            from,
+        copy(
             &memories[span.rank as usize],
             span.at,
+            frame,
+            from,
             span.dim,
         );
         from += span.dim;
@@ -88,8 +75,8 @@ pub fn gather_values(variables: &[i32], indices: &[usize], from: usize, frame: &
     }
 }
 
-// Copies values to the variables' cells at the indices.
-fn put_back_values(variables: &mut [i32], indices: &[usize], values: &[i32])
+/// Copies values to the variables' cells at the indices.
+pub fn put_back_values(variables: &mut [i32], indices: &[usize], values: &[i32])
     requires inside { InLength (length variables.old) indices.now }
     requires room { length indices.now ≤ length values.now }
     ensures { variables.new ≡ put_values indices.now values.now variables.old }
@@ -99,8 +86,8 @@ fn put_back_values(variables: &mut [i32], indices: &[usize], values: &[i32])
     }
 }
 
-// An element's windows, and how many cells they have.
-fn load_all(
+/// Copies an element's windows into the frame, and answers how many cells those in the ranks' buffers have.
+pub fn load_all(
     memories: &[Vec<i32>],
     spans: &[Owned],
     variables: &[i32],
@@ -117,49 +104,4 @@ fn load_all(
     let count = gather_all(memories, spans, frame);
     gather_values(variables, indices, count, frame);
     count
-}
-
-/// Runs an element of an Ordered loop on the owners' cells and the variables; its fault, where it has one.
-pub fn run_element<C: Kernels>(
-    core: &C,
-    constants: &[i32],
-    item: u32,
-    element: u32,
-    memories: &mut [Vec<i32>],
-    variables: &mut [i32],
-    spans: &[Owned],
-    indices: &[usize],
-    frame: &mut [i32],
-    scratch: &mut [i32],
-) -> Option<KernelFault>
-    requires takes { C.takes core.now item element (length constants.now) (total_all spans.now + length indices.now) }
-    requires locals { C.locals core.now ≤ length scratch.old }
-    requires inside { Within_all (map (λ v. v.items) memories.old) spans.now }
-    requires reads { InLength (length variables.old) indices.now }
-    requires room { total_all spans.now + length indices.now ≤ length frame.old }
-    ensures fault { result
-        ≡ fault_of (C.core core.now item element constants.now
-        (gathered_all (map (λ v. v.items) memories.old) spans.now ++ values_at variables.old indices.now)) }
-    ensures memories { map (λ v. v.items) memories.new
-        ≡ memories_after spans.now
-        (C.core core.now item element constants.now
-        (gathered_all (map (λ v. v.items) memories.old) spans.now ++ values_at variables.old indices.now))
-        (map (λ v. v.items) memories.old) }
-    ensures spare { KeepsSpare memories.old memories.new }
-    ensures variables { variables.new
-        ≡ variables_after (total_all spans.now) indices.now
-        (C.core core.now item element constants.now
-        (gathered_all (map (λ v. v.items) memories.old) spans.now ++ values_at variables.old indices.now)) variables.old }
-{
-    let count = load_all(memories, spans, variables, indices, frame);
-    let whole = count + indices.len();
-    let ran = core.run(item, element, constants, &mut frame[..whole], scratch);
-    match ran {
-        Ok(()) => {
-            scatter_all(memories, spans, &frame[..whole]);
-            put_back_values(variables, indices, &frame[count..whole]);
-            None
-        }
-        Err(fault) => Some(fault),
-    }
 }

@@ -1,6 +1,6 @@
 // The cells of variables in an element's windows: their first values, and the amounts that they leave.
 
-ghost use Rattle.std.specs.Prelude.{◌≡◌, ℕ, ◌+◌, ◌^◌, ◌<◌, ◌≤◌, ◌++◌, List, length, take};
+ghost use Rattle.std.specs.Prelude.{◌≡◌, ℕ, ◌+◌, ◌^◌, ◌<◌, ◌≤◌, ◌++◌, length, take};
 ghost use Rattle.reductions.specs.Reduction.{unit_of, merged};
 ghost use Rattle.rank_state.specs.Windows.{operation, index, first, firsts, amount as put_one, amounts, Reads, InSlots, Merges};
 

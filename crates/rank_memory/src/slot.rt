@@ -1,8 +1,5 @@
 // The slots of the staging buffer.
 
-ghost use Rattle.std.specs.Prelude.{◌≡◌};
-ghost use Rattle.rank_memory.specs.Slots.{fault_held};
-
 use kernel_types::KernelFault;
 
 /// What a slot holds.
@@ -29,13 +26,3 @@ pub const EMPTY: Slot = Slot {
     element: 0,
     held: Held::Nothing,
 };
-
-/// The fault of an element's kernel, where it had one.
-pub fn fault_in(held: Held) -> Option<KernelFault>
-    ensures { result ≡ fault_held held }
-{
-    match held {
-        Held::Fault(fault) => Some(fault),
-        _ => None,
-    }
-}

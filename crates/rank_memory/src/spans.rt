@@ -1,9 +1,9 @@
 // Cells copied between a memory and a frame, one span after another.
 
-ghost use Rattle.std.specs.Prelude.{◌≡◌, ℕ, ◌+◌, ◌^◌, ◌<◌, ◌≤◌, List, length, take};
-ghost use Rattle.rank_state.specs.Spans.{Within, total, cells_at, with_window, gathered, scattered};
+ghost use Rattle.std.specs.Prelude.{◌≡◌, ℕ, ◌+◌, ◌^◌, ◌<◌, ◌≤◌, length, take};
+ghost use Rattle.rank_state.specs.Spans.{Within, total, gathered, scattered};
 
-use in_place::copy;
+use crate::copying::copy;
 use rank_state::Span;
 
 /// Copies the spans' cells into the frame, one span after another, and answers their number.

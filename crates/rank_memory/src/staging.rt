@@ -1,63 +1,16 @@
 // Frames in parts of the staging buffer.
 
-ghost use Rattle.std.specs.Prelude.{◌≡◌, ◌≢◌, ◌⊎◌, ℕ, ◌+◌, ◌≤◌, length, ◌++◌};
-ghost use Rattle.rank_state.specs.Spans.{Within, total, cells_at, gathered};
-ghost use Rattle.rank_state.specs.Core.{fault_of};
-ghost use Rattle.rank_state.specs.Windows.{firsts, Reads, Merges};
+ghost use Rattle.std.specs.Prelude.{◌≡◌, ◌≢◌, ◌⊎◌, ℕ, ◌+◌, ◌≤◌, length};
+ghost use Rattle.rank_state.specs.Spans.{Within, total, cells_at};
+ghost use Rattle.rank_state.specs.Windows.{Merges};
 ghost use Rattle.rank_state.specs.Machine.{merged_pane};
-ghost use Rattle.rank_state.specs.Frames.{pane_after, Holds, closed, Enough, Exactly};
-ghost use Rattle.rank_memory.specs.Slots.{held_pane, fits_held, fault_held};
+ghost use Rattle.rank_state.specs.Frames.{Holds, closed, Enough, Exactly};
+ghost use Rattle.rank_memory.specs.Slots.{held_pane, fits_held};
 
-use crate::core_run::Kernels;
-use crate::running::run_in;
 use crate::scalars::merge_amounts;
 use crate::slot::Held;
 use crate::spans::scatter;
 use rank_state::{Scalar, Span};
-
-/// Copies an element's windows into a part of the staging buffer and runs its kernel there.
-pub fn run_at<C: Kernels>(
-    core: &C,
-    item: u32,
-    element: u32,
-    constants: &[i32],
-    memory: &[i32],
-    spans: &[Span],
-    variables: &[i32],
-    scalars: &[Scalar],
-    staging: &mut [i32],
-    at: usize,
-    stride: usize,
-    scratch: &mut [i32],
-) -> Held
-    requires takes { C.takes core.now item element (length constants.now) (total spans.now + length scalars.now) }
-    requires locals { C.locals core.now ≤ length scratch.old }
-    requires part { at + stride ≤ length staging.old }
-    requires inside { Within (length memory.now) spans.now }
-    requires reads { Reads (length variables.now) scalars.now }
-    requires room { total spans.now + length scalars.now ≤ stride }
-    ensures fits { fits_held stride result }
-    ensures open { result ≢ Held.Nothing }
-    ensures fault { fault_held result
-        ≡ fault_of (C.core core.now item element constants.now (gathered memory.now spans.now ++ firsts variables.now scalars.now)) }
-    ensures pane { held_pane result item (cells_at at stride staging.new)
-        ≡ pane_after item (C.core core.now item element constants.now
-        (gathered memory.now spans.now ++ firsts variables.now scalars.now)) }
-    ensures others { (b n : ℕ) → (b + n ≤ at) ⊎ (at + stride ≤ b) → cells_at b n staging.new ≡ cells_at b n staging.old }
-{
-    run_in(
-        core,
-        item,
-        element,
-        constants,
-        memory,
-        spans,
-        variables,
-        scalars,
-        &mut staging[at..at + stride],
-        scratch,
-    )
-}
 
 /// Copies cells into a part of the staging buffer.
 pub fn hold_at(cells: &[i32], staging: &mut [i32], at: usize, stride: usize) -> Held

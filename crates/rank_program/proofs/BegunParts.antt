@@ -1,6 +1,13 @@
 -- The element at a place, as it is read in a distributed program.
 use Rattle.std.proofs.Common.{◌≡◌, ◌<◌, ℕ, Bool, List, [], All, map, length, get_or, refl, sym, ap, ◌∙◌, subst, arith}
-use Rattle.mesh_decl.specs.Owners.{owners_in}
+use Rattle.std.specs.Prelude.{◌↔◌, ◌==◌, true, nat_lt, slice_index}
+use Rattle.std.proofs.lemmas.Bool.Decides.{same_from_decides, Decides-ltb}
+use Rattle.std.proofs.lemmas.List.{get_or_default}
+use Rattle.mesh_decl.specs.Owners.{owner_of}
+use Rattle.halo_lists.specs.Halo.{owns}
+use Rattle.local_mesh.specs.LocalMesh.{originals_in}
+use Rattle.local_mesh.specs.Numbers.{OwnedComeFirst, own_in}
+use Rattle.rank_layout.proofs.RankMeshes.{rank_mesh, sets_at, some_at}
 use Rattle.local_mesh.specs.declared.types.RankMesh.{RankMesh}
 use Rattle.local_mesh.specs.Lists.{sets_of, originals_of}
 use Rattle.schedule_steps.specs.declared.step.Step.TheVariants.{Begin}
@@ -19,15 +26,15 @@ use Rattle.rank_state.specs.declared.spans.Span.{Span}
 use Rattle.rank_state.specs.declared.scalars.Scalar.{Scalar}
 use Rattle.rank_state.specs.Shows.{AreWindows}
 use Rattle.rank_program.specs.declared.program.DistributedProgram.{DistributedProgram}
-use Rattle.rank_windows.specs.DatWindows.{spans_after, ArgHere}
-use Rattle.machine_tables.specs.Made.{row_of, writes_by, AreSiteScalars}
-use Rattle.rank_windows.specs.StepLaws.{IsBegin, StepsStand}
+use Rattle.rank_layout.specs.DatWindows.{spans_after, ArgHere}
+use Rattle.rank_layout.specs.Made.{row_of, writes_by, AreSiteScalars}
+use Rattle.rank_layout.specs.StepLaws.{IsBegin, StepsStand}
 use Rattle.rank_program.specs.Sound.{Sound, program_in, plan_in, setup_in, layout_in, tables_in}
-use Rattle.rank_windows.specs.WindowLaws.{arg_span, ArgsAreHere, ElementWindowsStand}
+use Rattle.rank_layout.specs.WindowLaws.{arg_span, ArgsAreHere, ElementWindowsStand}
 
 module _ (c : DistributedProgram) (sound : Sound c) (stand : StepsStand) (k r x : ℕ) (step : IsStep (by_place (setup_in c) (layout_in c)) (Begin k r x)) where
   pub begins : IsBegin (program_in c) c.owners.now c.meshes.now (plan_in c) k r x
-  begins = (stand (program_in c) c.owners.now sound.numbers c.meshes.now (plan_in c) sound.runnable.planned).begins k r x step
+  begins = (stand (program_in c) c.owners.now sound.numbers c.meshes.now (plan_in c) sound.planned).begins k r x step
 
   -- a table with a row for each loop has one for the item's
   pub row_there : (n rows : ℕ) → n ≡ loop_of (item_at (program_in c) k) → rows ≡ length (program_in c).sites → n < rows
@@ -44,16 +51,23 @@ module _ (c : DistributedProgram) (sound : Sound c) (stand : StepsStand) (k r x 
     pub place_there : x < length (originals_of c.meshes.now r site.set)
     place_there = subst (λ s. x < length (originals_of c.meshes.now r s)) (sym set_is) begins.held
 
-    pub set_owned : site.set < length c.owners.now.sets.items
-    set_owned = let lt = begins.set in omega (arith, set_is, lt, sound.runnable.planned.distributed.are_owners.sets)
-
-    pub element_owned : (e : ℕ) → e ≡ original_at c.meshes.now r site.set x → e < length (owners_in c.owners.now site.set)
-    element_owned e at =
-        let lt = begins.element in
-        let same : e ≡ original_at c.meshes.now r (the.site_of (program_in c) k).set x = at ∙ ap (λ s. original_at c.meshes.now r s x) set_is in
-        let long = sound.runnable.planned.distributed.are_owners.lengths (the.site_of (program_in c) k).set begins.set in
-        let whole : e < length (owners_in c.owners.now (the.site_of (program_in c) k).set) = omega (arith, lt, same, long) in
-        subst (λ s. e < length (owners_in c.owners.now s)) (sym set_is) whole
+    -- the rank owns it exactly where its local number is below the count of what the rank owns
+    pub place_owned : OwnedComeFirst → nat_lt x (own_in (sets_of c.meshes.now r) site.set)
+        ≡ (owner_of c.owners.now (the.site_of (program_in c) k).set (original_at c.meshes.now r (the.site_of (program_in c) k).set x) == r)
+    unfolding owns
+    place_owned first =
+        let set = (the.site_of (program_in c) k).set in
+        let m = get_or c.meshes.now r (some_at c.meshes.now r begins.here) in
+        let part : m ≡ get_or c.meshes.now r m = get_or_default c.meshes.now r (some_at c.meshes.now r begins.here) m begins.here in
+        let same : m.sets.items ≡ sets_of c.meshes.now r = sets_at c.meshes.now r m begins.here part in
+        let mesh = rank_mesh (program_in c) c.owners.now sound.numbers c.meshes.now (plan_in c) sound.planned r begins.rank m part in
+        let held : x < length (originals_in m.sets.items set) = subst (λ z. x < length (originals_in z set)) (sym same) begins.held in
+        let own : (x < own_in (sets_of c.meshes.now r) set) ↔ (owns c.owners.now set (original_at c.meshes.now r set x) r ≡ true) =
+        subst (λ z. (x < own_in z set) ↔ (owns c.owners.now set (slice_index (originals_in z set) x) r ≡ true)) same
+        (first (program_in c).mesh c.owners.now sound.numbers r m mesh set x begins.set held) in
+        ap (λ s. nat_lt x (own_in (sets_of c.meshes.now r) s)) set_is
+        ∙ same_from_decides (nat_lt x (own_in (sets_of c.meshes.now r) set)) (owner_of c.owners.now set (original_at c.meshes.now r set x) == r)
+        (Decides-ltb x (own_in (sets_of c.meshes.now r) set)) (own.1, own.0)
 
     -- its arguments, its number, and the rank's local mesh
     module _ (args : List Arg) (all : args ≡ site.args.items) (n : ℕ) (loop : n ≡ loop_of (item_at (program_in c) k))
@@ -64,7 +78,7 @@ module _ (c : DistributedProgram) (sound : Sound c) (stand : StepsStand) (k r x 
       pub args_stand : ArgsAreHere → All (ArgHere (program_in c).mesh m x) args
       args_stand here =
           subst (All (ArgHere (program_in c).mesh m x)) (sym args_are)
-          (here (program_in c) c.owners.now sound.numbers c.meshes.now (plan_in c) sound.runnable.planned (loop_of (item_at (program_in c) k)) r x m
+          (here (program_in c) c.owners.now sound.numbers c.meshes.now (plan_in c) sound.planned (loop_of (item_at (program_in c) k)) r x m
           (record { loop = begins.loop; rank = begins.rank; place = begins.executed; part = part }))
 
       pub writes_are : (row : List Bool) → row ≡ row_of c.tables.writes.items n → row ≡ map (writes_by args) args
@@ -82,4 +96,4 @@ module _ (c : DistributedProgram) (sound : Sound c) (stand : StepsStand) (k r x 
           (ap (row_of c.tables.scalars.items) (sym loop) ∙ sym read) (sound.made.scalars (loop_of (item_at (program_in c) k)) begins.loop) in
           subst (λ l. AreWindows (setup_in c) (layout_in c) (tables_in c) k r x l scalars)
           (sym (pushed ∙ ap (λ l. spans_after (arg_span (program_in c).mesh m x (modifies l)) l []) args_are))
-          (windows (program_in c) c.owners.now sound.numbers c.meshes.now (plan_in c) sound.runnable.planned k r x m scalars begins part are)
+          (windows (program_in c) c.owners.now sound.numbers c.meshes.now (plan_in c) sound.planned k r x m scalars begins part are)

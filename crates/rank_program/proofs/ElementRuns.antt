@@ -22,12 +22,12 @@ use Rattle.rank_state.specs.Machine.{merged_pane, noted}
 use Rattle.rank_state.specs.Shows.{AreWindows}
 use Rattle.rank_state.proofs.Counted.{windows_counted}
 use Rattle.rank_state.proofs.Scatters.{scattered_length}
-use Rattle.rank_machine.specs.AloneRuns.{RunsAt}
+use Rattle.rank_program.specs.AloneRuns.{RunsAt}
 use Rattle.in_place.specs.Here.{core_on_gathered}
 use Rattle.rank_program.specs.declared.program.DistributedProgram.{DistributedProgram}
 use Rattle.rank_program.specs.Here.{scalars_in, merged_after}
 use Rattle.rank_program.specs.Sound.{Sound, program_in, setup_in, layout_in, tables_in, core_in}
-use Rattle.rank_windows.specs.StepLaws.{StepsStand}
+use Rattle.rank_layout.specs.StepLaws.{StepsStand}
 use Rattle.rank_program.proofs.BegunParts.{begins}
 use Rattle.rank_program.proofs.Tails.{scalar_spans, HasCells, tail_after, cells_length, gathered_all, closed_all}
 use Rattle.rank_program.proofs.HereParts.{core_is}

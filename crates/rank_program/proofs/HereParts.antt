@@ -36,20 +36,20 @@ use Rattle.rank_state.specs.Spans.{Within, gathered}
 use Rattle.rank_state.specs.Windows.{scalar_cells, Marked}
 use Rattle.rank_state.specs.Shows.{AreWindows}
 use Rattle.rank_state.proofs.Counted.{windows_counted}
-use Rattle.in_place.specs.Leaving.{ObeyingLeave}
 use Rattle.in_place.specs.Saving.{place_cells}
 use Rattle.in_place.specs.InPlace.{NameTheSame}
 use Rattle.in_place.specs.Here.{IsHere, core_on_gathered}
+use Rattle.rank_program.specs.Keeping.{KeepsIn}
 use Rattle.rank_program.specs.declared.program.DistributedProgram.{DistributedProgram}
-use Rattle.rank_windows.specs.DatWindows.{spans_after, ArgHere}
+use Rattle.rank_layout.specs.DatWindows.{spans_after, ArgHere}
 use Rattle.rank_program.specs.Here.{arg_stands, arg_place, behind, scalars_in}
 use Rattle.rank_program.specs.declared.local_args.LocalArg.{LocalArg}
 use Rattle.rank_program.specs.LocalArgs.{AreArgs, InBuffer, places_in}
-use Rattle.machine_tables.specs.Numbered.{ArgThere}
-use Rattle.machine_tables.specs.Made.{writes_by}
+use Rattle.rank_layout.specs.Numbered.{ArgThere}
+use Rattle.rank_layout.specs.Made.{writes_by}
 use Rattle.rank_program.specs.Sound.{Sound, program_in, plan_in, setup_in, layout_in, tables_in, core_in}
-use Rattle.rank_windows.specs.StepLaws.{IsBegin, StepsStand}
-use Rattle.rank_windows.specs.WindowLaws.{arg_span, IsPlaceOf, ArgsAreHere, ArgsHaveCells, ElementWindowsStand}
+use Rattle.rank_layout.specs.StepLaws.{IsBegin, StepsStand}
+use Rattle.rank_layout.specs.WindowLaws.{arg_span, IsPlaceOf, ArgsAreHere, ArgsHaveCells, ElementWindowsStand}
 use Rattle.rank_program.proofs.BegunParts.{begins}
 use Rattle.rank_program.proofs.KernelRun.{args_there}
 use Rattle.rank_program.proofs.Tails.{scalar_spans}
@@ -57,9 +57,9 @@ use Rattle.rank_program.proofs.Buffer.{buffer_cell, buffer_cells, in_front, in_t
 use Rattle.rank_program.specs.LocalLoops.{StandsBehind}
 use Rattle.rank_program.proofs.Behind.{scalars_count, scalars_apart, scalars_changed, one_scalar, all_behind}
 use Rattle.rank_program.proofs.HereStands.{is_changed, name_the_same, spans_apart, unwritten_read, written_marked}
-use Rattle.rank_windows.proofs.ItemLoops.{args_are}
+use Rattle.rank_layout.proofs.ItemLoops.{args_are}
 use Rattle.rank_program.proofs.LocalArgs.{same_places, in_buffer}
-use Rattle.rank_windows.proofs.RankMeshes.{cells_at, some_at}
+use Rattle.rank_layout.proofs.RankMeshes.{cells_at, some_at}
 
 -- ---- places
 
@@ -119,7 +119,7 @@ module _ (c : DistributedProgram) (sound : Sound c) (stand : StepsStand) (k r x 
   begun = begins c sound stand k r x step
 
   pub site_fits : SiteFits b site
-  site_fits = sound.runnable.planned.fits.sites (loop_of (item_at b k)) no_site begun.loop
+  site_fits = sound.planned.fits.sites (loop_of (item_at b k)) no_site begun.loop
 
   -- the loop's arguments as they are read
   module _ (read : Site) (is : value.site_of read ≡ site) (args : List Arg) (all : args ≡ read.args.items) where
@@ -149,7 +149,7 @@ module _ (c : DistributedProgram) (sound : Sound c) (stand : StepsStand) (k r x 
 
   pub windows_here : ElementWindowsStand → (m : RankMesh) → m ≡ get_or c.meshes.now r m → Windows (dat_spans m)
   windows_here windows m part =
-      windows b c.owners.now sound.numbers c.meshes.now (plan_in c) sound.runnable.planned k r x m scalars begun part (sound.made.scalars (loop_of (item_at b k)) begun.loop)
+      windows b c.owners.now sound.numbers c.meshes.now (plan_in c) sound.planned k r x m scalars begun part (sound.made.scalars (loop_of (item_at b k)) begun.loop)
 
   vs_long : length vs ≡ length scalars
   vs_long = scalars_count (cell_at c.meshes.now b.mesh r) [] (variable_at b) scalars
@@ -185,7 +185,7 @@ module _ (c : DistributedProgram) (sound : Sound c) (stand : StepsStand) (k r x 
 
     module _ (args_here : ArgsAreHere) where
       here : All (ArgHere b.mesh m x) site.args
-      here = args_here b c.owners.now sound.numbers c.meshes.now (plan_in c) sound.runnable.planned (loop_of (item_at b k)) r x m at_place
+      here = args_here b c.owners.now sound.numbers c.meshes.now (plan_in c) sound.planned (loop_of (item_at b k)) r x m at_place
 
       -- the same of arguments by local numbers
       pub locals_fit : (locals : List (Option LocalArg)) → AreArgs b.mesh m site.args locals → All (InBuffer x m.cells) locals
@@ -259,7 +259,7 @@ module _ (c : DistributedProgram) (sound : Sound c) (stand : StepsStand) (k r x 
               law (map (arg_width b) site.args) f (map target_of places) consts judged
               (subst (λ z. HaveCounts (map (arg_width b) site.args) (map target_of z)) (sym are) (have_counts b place site.args dims))
 
-          module _ (frames : FramesAreReached) (have : ArgsHaveCells) (leave : ObeyingLeave) (spans : List Span) (are : Windows spans) where
+          module _ (frames : FramesAreReached) (have : ArgsHaveCells) (leave : KeepsIn c k) (spans : List Span) (are : Windows spans) where
             on : OnWindows (modes_of b site) (cell_of b site e) (frame_cells b site.args e) (frame_windows b site.args e)
             on = frames b site e
 
@@ -290,7 +290,7 @@ module _ (c : DistributedProgram) (sound : Sound c) (stand : StepsStand) (k r x 
             has : All (λ y. (j : ℕ) → j < (span y).dim → cell ((span y).at + j) ≡ cell_in (reached b e y) j) site.args
             has i d lt =
                 has_of (get_or site.args i d) (at (get_or site.args i d)) (here i d lt) (behind_all i d lt)
-                (have b c.owners.now sound.numbers c.meshes.now (plan_in c) sound.runnable.planned (loop_of (item_at b k)) r x m (λ z. false) at_place i d lt)
+                (have b c.owners.now sound.numbers c.meshes.now (plan_in c) sound.planned (loop_of (item_at b k)) r x m (λ z. false) at_place i d lt)
 
             same : NameTheSame (all_spans spans) (frame_windows b site.args e) (map target_of (map place site.args))
             same = name_the_same b site e (width + length vs) cell one on (all_spans spans) gathered_cells all_within all_marked span dims inside has
@@ -307,8 +307,7 @@ module _ (c : DistributedProgram) (sound : Sound c) (stand : StepsStand) (k r x 
                   within = all_within;
                   apart = spans_apart b site e (width + length vs) cell one on (all_spans spans) gathered_cells all_within all_marked span dims inside has;
                   same = same;
-                  leaves = leave f (modes_of b site) consts (all_spans spans) (frame_windows b site.args e) (λ a i lt. (same.in_windows a, same.inside a i lt))
-                      (sound.runnable.obey (loop_of (item_at b k)) f begun.loop kernel)
+                  leaves = leave f begun.loop kernel consts (all_spans spans) (frame_windows b site.args e) (λ a i lt. (same.in_windows a, same.inside a i lt))
                       (unwritten_read b site e (width + length vs) cell one on (all_spans spans) gathered_cells all_within all_marked span dims inside has);
                   marked = written_marked b site e (width + length vs) cell one on (all_spans spans) gathered_cells all_within all_marked span dims inside has;
                 })))

@@ -2,7 +2,7 @@
 use Rattle.std.proofs.Common.{◌≡◌, ◌<◌, ◌≤◌, ◌+◌, ℕ, zero, suc, Bool, true, false, not, List, [], ◌∷◌, ◌++◌, All, map, length, get_or, refl, sym, ap, ◌∙◌, subst, ⊎_elim, arith}
 use Rattle.std.specs.Prelude.{nat_eq}
 use Rattle.std.specs.List.{list_all}
-use Rattle.std.proofs.lemmas.Bool.{cases_lt, cases_Bool, false≢true, lt-ltb, le-ltb, eq-eqb, or_cases, not-false, not_from_true}
+use Rattle.std.proofs.lemmas.Bool.{cases_lt, false≢true, lt-ltb, le-ltb, eq-eqb, or_cases, not-false, not_from_true}
 use Rattle.std.proofs.lemmas.List.{get_or-map, get_or_past, get_or_append_left, get_or-append-add, length-map, length-append}
 use Rattle.reductions.specs.Access.{OpRead, access_of}
 use Rattle.reductions.specs.declared.access.Access.{Access as Code}
@@ -27,7 +27,7 @@ use Rattle.rank_state.specs.Windows.{Marked}
 use Rattle.in_place.specs.Standing.{stands_at, is_written, Apart}
 use Rattle.in_place.specs.InPlace.{NameTheSame}
 use Rattle.in_place.proofs.Standings.{in_first, in_rest, first_written, rest_written, by_span, stands_within}
-use Rattle.machine_tables.specs.Made.{writes_by}
+use Rattle.rank_layout.specs.Made.{writes_by}
 use Rattle.rank_program.specs.Here.{span_place}
 use Rattle.rank_program.proofs.Buffer.{run_cells, buffer_cells}
 

@@ -4,9 +4,9 @@ use Rattle.std.proofs.lemmas.Bool.Decides.{nat_tests}
 use Rattle.std.proofs.lemmas.List.{get_or_append_left, get_or_push}
 use Rattle.bound_program.specs.declared.sites.Arg.{Arg}
 use Rattle.bound_program.specs.Values.{BoundValue}
-use Rattle.kernel_jobs.specs.declared.tasks.Task.{Task}
-use Rattle.kernel_jobs.specs.declared.tasks.Targets.{Targets}
-use Rattle.kernel_jobs.specs.Jobs.{task_at, no_targets, places_in}
+use Rattle.rank_program.specs.declared.tasks.Task.{Task}
+use Rattle.rank_program.specs.declared.tasks.Targets.{Targets}
+use Rattle.rank_program.specs.Jobs.{task_at, no_targets, places_in}
 use Rattle.rank_program.specs.Targets.{AreTargets}
 
 -- one task more has its targets

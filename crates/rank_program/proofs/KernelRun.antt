@@ -9,7 +9,7 @@ use Rattle.bound_program.specs.declared.sites.Arg.TheVariants.{Dat, Global}
 use Rattle.bound_program.specs.Values.{BoundValue, SiteValue}
 use Rattle.bound_program.specs.Fits.{ArgFits, SiteFits}
 use Rattle.rank_state.specs.Core.{ran_of}
-use Rattle.machine_tables.specs.Numbered.{ArgThere}
+use Rattle.rank_layout.specs.Numbered.{ArgThere}
 
 arg_there : (b : BoundValue) (set e : ℕ) (x : Arg) → ArgFits b set x → e < set_size b.mesh set → ArgThere b e x
 arg_there b set e (Dat d None a) fit le = ((fit.0, fit.1), tt)

@@ -1,8 +1,6 @@
 pub mod ItemParts
 pub mod KernelRun
 pub mod ProgramRun
-pub mod SameStart
-pub mod Held
 pub mod BegunParts
 mod CopiesStand
 pub mod Runnables
@@ -18,3 +16,7 @@ pub mod Windowed
 mod JobTargets
 mod LocalLoops
 mod LocalElements
+mod LeastOfThree
+pub mod AloneRuns
+pub mod FromNone
+mod JobWindows

@@ -8,7 +8,7 @@ use Rattle.local_mesh.specs.declared.types.RankMesh.{RankMesh}
 use Rattle.bound_program.specs.declared.sites.Arg.{Arg}
 use Rattle.run_model.specs.Arguments.{no_arg}
 use Rattle.rank_program.specs.declared.local_args.LocalArg.{LocalArg}
-use Rattle.rank_windows.specs.DatWindows.{ArgHere}
+use Rattle.rank_layout.specs.DatWindows.{ArgHere}
 use Rattle.rank_program.specs.Here.{arg_place}
 use Rattle.rank_program.specs.LocalArgs.{IsArg, AreArgs, InBuffer, place_in, places_in}
 

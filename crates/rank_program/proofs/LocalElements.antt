@@ -23,8 +23,7 @@ use Rattle.rank_state.specs.Core.{fault_of}
 use Rattle.rank_state.specs.Frames.{pane_after, closed}
 use Rattle.rank_state.specs.Machine.{noted}
 use Rattle.rank_state.specs.Shows.{AreWindows}
-use Rattle.rank_machine.specs.AloneRuns.{RunsAt}
-use Rattle.in_place.specs.Leaving.{ObeyingLeave}
+use Rattle.rank_program.specs.AloneRuns.{RunsAt}
 use Rattle.in_place.specs.Saving.{place_cells}
 use Rattle.in_place.specs.Here.{IsHere, core_on_gathered}
 use Rattle.rank_program.specs.declared.program.DistributedProgram.{DistributedProgram}
@@ -32,9 +31,10 @@ use Rattle.rank_program.specs.declared.local_loops.LocalLoop.{LocalLoop}
 use Rattle.rank_program.specs.Here.{arg_place, scalars_in, merged_after}
 use Rattle.rank_program.specs.LocalArgs.{InBuffer, places_in}
 use Rattle.rank_program.specs.LocalLoops.{IsLocalLoop, VariablesStand}
+use Rattle.rank_program.specs.Keeping.{KeepsIn}
 use Rattle.rank_program.specs.Sound.{Sound, program_in, setup_in, layout_in, tables_in}
-use Rattle.rank_windows.specs.StepLaws.{StepsStand}
-use Rattle.rank_windows.specs.WindowLaws.{ArgsAreHere, ArgsHaveCells, ElementWindowsStand}
+use Rattle.rank_layout.specs.StepLaws.{StepsStand}
+use Rattle.rank_layout.specs.WindowLaws.{ArgsAreHere, ArgsHaveCells, ElementWindowsStand}
 use Rattle.rank_program.proofs.LocalArgs.{all_again}
 use Rattle.rank_program.proofs.Tails.{scalar_spans}
 use Rattle.rank_program.proofs.HereParts.{dat_spans, windows_here, places_are, locals_fit, places_fit, places_few, stops_unchanged, is_here}
@@ -100,7 +100,7 @@ module _ (l : LocalLoop) (sound : Sound l.program.now) (is : IsLocalLoop l) (sta
       inside = places_fit c sound stand l.item l.rank x step m is.part here at.at at.behind n memory_long places placed
 
     -- its run on these cells and the first values of the variables
-    module _ (windows : ElementWindowsStand) (frames : FramesAreReached) (have : ArgsHaveCells) (leave : ObeyingLeave)
+    module _ (windows : ElementWindowsStand) (frames : FramesAreReached) (have : ArgsHaveCells) (leave : KeepsIn c l.item)
         (old filled new : List ℤ) (long : length old ≡ w + length l.scalars.now) (same : length filled ≡ length old)
         (fill : take (w + length l.scalars.now) filled ≡ take w old ++ firsts l.variables.now l.scalars.now)
         (fault : Option KernelFault)

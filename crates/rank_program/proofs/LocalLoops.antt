@@ -19,15 +19,15 @@ use Rattle.run_model.specs.Programs.{item_at, loop_of}
 use Rattle.run_model.specs.Laws as the
 use Rattle.rank_state.specs.declared.scalars.Scalar.{Scalar}
 use Rattle.rank_state.specs.Windows.{Reads, Merges}
-use Rattle.machine_tables.specs.Made.{row_of, writes_by}
+use Rattle.rank_layout.specs.Made.{row_of, writes_by}
 use Rattle.rank_program.specs.declared.program.DistributedProgram.{DistributedProgram}
 use Rattle.rank_program.specs.declared.local_loops.LocalLoop.{LocalLoop}
 use Rattle.rank_program.specs.Here.{scalars_in}
 use Rattle.rank_program.specs.LocalLoops.{IsLoopOf}
 use Rattle.rank_program.specs.Sound.{Sound, program_in, plan_in, setup_in, layout_in, tables_in}
-use Rattle.rank_windows.specs.StepLaws.{IsBegin, StepsStand}
-use Rattle.rank_windows.specs.WindowLaws.{ElementWindowsStand}
-use Rattle.rank_windows.proofs.RankMeshes.{cells_at}
+use Rattle.rank_layout.specs.StepLaws.{IsBegin, StepsStand}
+use Rattle.rank_layout.specs.WindowLaws.{ElementWindowsStand}
+use Rattle.rank_layout.proofs.RankMeshes.{cells_at}
 use Rattle.rank_program.proofs.BegunParts.{begins}
 use Rattle.rank_program.proofs.ElementScalars.{are_read, have_slots}
 use Rattle.rank_program.proofs.HereParts.{site_fits, windows_here, few_scalars}
@@ -92,13 +92,13 @@ module _ (c : DistributedProgram) (sound : Sound c) (stand : StepsStand) (k r x 
       kernel_same = sound.codes.of_kernel read.kernel d kernel_read code_there ∙ ap (λ (s : SiteValue). get_or b.kernels s.kernel kernel_read) is
 
       pub kernel_is : kernel_at b.kernels site.kernel ≡ Some kernel_read
-      kernel_is = kernel_of b sound.runnable.planned.fits site fits kernel_read kernel_same
+      kernel_is = kernel_of b sound.planned.fits site fits kernel_read kernel_same
 
       pub params_are : length site.args ≡ kernel_read.params
-      params_are = takes b sound.runnable.planned.fits site fits kernel_read kernel_same
+      params_are = takes b sound.planned.fits site fits kernel_read kernel_same
 
       pub resolved_in : AreNumbered b → (n : ℕ) → n ≡ length (constants b) → IsResolved n kernel_read
-      resolved_in numbered n long = resolved b sound.runnable.planned.fits site fits kernel_read kernel_same numbered n long
+      resolved_in numbered n long = resolved b sound.planned.fits site fits kernel_read kernel_same numbered n long
 
 -- what holds of a loop holds of the program, item, rank and values that it is of
 module _ (c : DistributedProgram) (k r : ℕ) (cs vs : List ℤ) (l : LocalLoop) (of : IsLoopOf c k r cs vs l) (P : DistributedProgram → (k r : ℕ) → (cs vs : List ℤ) → Type 0) where

@@ -19,13 +19,13 @@ use Rattle.bound_plan.specs.Layouts.{layout_of}
 use Rattle.rank_state.specs.declared.spans.Span.{Span}
 use Rattle.rank_state.specs.declared.scalars.Scalar.{Scalar}
 use Rattle.rank_state.specs.Shows.{AreWindows}
-use Rattle.machine_tables.specs.declared.tables.MachineTables.{MachineTables}
-use Rattle.rank_windows.specs.DatWindows.{spans_after}
-use Rattle.machine_tables.specs.Made.{AreMade, row_of}
-use Rattle.rank_windows.specs.StepLaws.{StepsStand}
-use Rattle.machine_tables.specs.Tables.{tables_of}
-use Rattle.rank_windows.specs.WindowLaws.{arg_span, ElementWindowsStand}
-use Rattle.rank_windows.proofs.RankMeshes.{some_at}
+use Rattle.rank_layout.specs.declared.tables.MachineTables.{MachineTables}
+use Rattle.rank_layout.specs.DatWindows.{spans_after}
+use Rattle.rank_layout.specs.Made.{AreMade, row_of}
+use Rattle.rank_layout.specs.StepLaws.{StepsStand}
+use Rattle.rank_layout.specs.Tables.{tables_of}
+use Rattle.rank_layout.specs.WindowLaws.{arg_span, ElementWindowsStand}
+use Rattle.rank_layout.proofs.RankMeshes.{some_at}
 
 module _ (b : BoundValue) (o : Owners) (n : Perms) (meshes : List RankMesh) (p : PlanValue) (planned : Planned b o n meshes p)
     (lists : List LocalLists) (t : MachineTables) (made : AreMade b o p lists t) (stand : StepsStand) (windows : ElementWindowsStand) where

@@ -10,9 +10,9 @@ use Rattle.bound_program.specs.Values.{BoundValue}
 use Rattle.loop_plan.specs.Values.{PlanValue}
 use Rattle.bound_plan.specs.Setups.{setup_of}
 use Rattle.bound_plan.specs.Layouts.{layout_of}
-use Rattle.rank_exec.specs.Copies.{IsOwnersCopy}
-use Rattle.rank_windows.specs.MessageLaws.{HasLists}
-use Rattle.rank_windows.specs.OwnedWindows.{owners_span, HasPlace}
+use Rattle.rank_program.specs.Copies.{IsOwnersCopy}
+use Rattle.rank_layout.specs.MessageLaws.{HasLists}
+use Rattle.rank_layout.specs.OwnedWindows.{owners_span, HasPlace}
 
 -- the values of an element of a dat stand at its owner's copy
 abbrev pub CopiesStand : Type 0

@@ -13,10 +13,10 @@ use Rattle.bound_plan.specs.Windows.{dats_first, frame_cells}
 use Rattle.rank_state.specs.declared.spans.Span.{Span}
 use Rattle.rank_state.specs.declared.scalars.Scalar.{Scalar}
 use Rattle.rank_state.specs.Windows.{amounts}
-use Rattle.machine_tables.specs.Made.{row_of}
+use Rattle.rank_layout.specs.Made.{row_of}
 use Rattle.rank_program.specs.declared.program.DistributedProgram.{DistributedProgram}
 use Rattle.rank_program.specs.Sound.{program_in}
-use Rattle.rank_windows.specs.WindowLaws.{arg_span}
+use Rattle.rank_layout.specs.WindowLaws.{arg_span}
 
 abbrev pub span_place : Span → Place
 span_place s = record { from = s.at; count = s.dim }

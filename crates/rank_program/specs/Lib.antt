@@ -1,9 +1,14 @@
 pub mod Sound
 pub mod ProgramLaws
 pub mod Runnables
-pub mod Runs
 pub mod Targets
 pub mod CopyLaws
 pub mod Here
 pub mod LocalArgs
 pub mod LocalLoops
+pub mod Keeping
+pub mod Copies
+pub mod Rooms
+pub mod AloneRuns
+pub mod FromNone
+pub mod Jobs

@@ -5,7 +5,7 @@ use Rattle.mesh_decl.specs.declared.access.Via.{Via}
 use Rattle.mesh_decl.specs.Mesh.{MeshValue}
 use Rattle.local_mesh.specs.declared.types.RankMesh.{RankMesh}
 use Rattle.bound_program.specs.declared.sites.Arg.{Arg}
-use Rattle.rank_windows.specs.DatWindows.{local_by, ViaHere, ArgHere}
+use Rattle.rank_layout.specs.DatWindows.{local_by, ViaHere, ArgHere}
 use Rattle.rank_program.specs.Here.{arg_place}
 use Rattle.rank_program.specs.declared.local_args.LocalVia.{LocalVia}
 use Rattle.rank_program.specs.declared.local_args.LocalArg.{LocalArg}

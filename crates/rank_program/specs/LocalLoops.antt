@@ -14,7 +14,7 @@ use Rattle.run_model.specs.Kernels.{kernel_at}
 use Rattle.run_model.specs.Laws.{site_of}
 use Rattle.bound_plan.specs.Variables.{variable_at}
 use Rattle.rank_state.specs.Windows.{scalar_cells, Reads, Merges}
-use Rattle.machine_tables.specs.Made.{writes_by}
+use Rattle.rank_layout.specs.Made.{writes_by}
 use Rattle.rank_program.specs.declared.program.DistributedProgram.{DistributedProgram}
 use Rattle.rank_program.specs.declared.local_loops.LocalLoop.{LocalLoop}
 use Rattle.rank_program.specs.Here.{scalars_in}

@@ -9,7 +9,7 @@ use Rattle.local_mesh.specs.declared.lists.LocalLists.{LocalLists}
 use Rattle.local_mesh.specs.Lists.{AreLocalLists}
 use Rattle.bound_program.specs.Values.{BoundValue}
 use Rattle.loop_plan.specs.Values.{PlanValue}
-use Rattle.bound_plan.specs.Laws.{Runnable}
+use Rattle.bound_plan.specs.Laws.{Planned}
 use Rattle.rank_program.specs.declared.program.DistributedProgram.{DistributedProgram}
 use Rattle.rank_program.specs.Sound.{program_in, plan_in}
 
@@ -17,7 +17,7 @@ use Rattle.rank_program.specs.Sound.{program_in, plan_in}
 pub record CanRun (b : BoundValue) (o : Owners) (meshes : List RankMesh) (p : PlanValue) (table : List LocalLists) : Type 0 where
   pub numbers : Perms
   pub halos : Halos
-  pub runnable : Runnable b o numbers meshes p
+  pub planned : Planned b o numbers meshes p
   pub are_halos : AreHalos b.mesh o halos
   pub lists : AreLocalLists b.mesh o halos meshes table
 

@@ -18,7 +18,7 @@ use Rattle.run_model.specs.Laws.{site_of}
 use Rattle.run_model.specs.Programs.{item_at, kind_of}
 use Rattle.loop_plan.specs.Values.{PlanValue, plan_of}
 use Rattle.loop_plan.specs.StepOutline.{step_outline}
-use Rattle.bound_plan.specs.Laws.{Runnable}
+use Rattle.bound_plan.specs.Laws.{Planned}
 use Rattle.bound_plan.specs.Windows.{frame_cells}
 use Rattle.bound_plan.specs.Variables.{variable_at}
 use Rattle.bound_plan.specs.Setups.{setup_of}
@@ -26,11 +26,11 @@ use Rattle.bound_plan.specs.Layouts.{layout_of}
 use Rattle.rank_state.specs.declared.spans.Span.{Span}
 use Rattle.rank_state.specs.declared.scalars.Scalar.{Scalar}
 use Rattle.rank_state.specs.Shows.{variables_from, Tables, Indexed, AreWindows}
-use Rattle.machine_tables.specs.Tables.{tables_of}
-use Rattle.rank_windows.specs.MessageLaws.{HasLists}
-use Rattle.kernel_jobs.specs.declared.tasks.Task.{Task}
-use Rattle.kernel_jobs.specs.declared.tasks.Targets.{Targets}
-use Rattle.machine_tables.specs.Made.{AreMade}
+use Rattle.rank_layout.specs.Tables.{tables_of}
+use Rattle.rank_layout.specs.MessageLaws.{HasLists}
+use Rattle.rank_program.specs.declared.tasks.Task.{Task}
+use Rattle.rank_program.specs.declared.tasks.Targets.{Targets}
+use Rattle.rank_layout.specs.Made.{AreMade}
 use Rattle.rank_program.specs.Targets.{AllTargets}
 use Rattle.rank_program.specs.declared.program.DistributedProgram.{DistributedProgram}
 
@@ -64,7 +64,7 @@ module _ (c : DistributedProgram) where
   pub record Sound : Type 0 where
     pub numbers : Perms
     pub halos : Halos
-    pub runnable : Runnable program_in c.owners.now numbers c.meshes.now plan_in
+    pub planned : Planned program_in c.owners.now numbers c.meshes.now plan_in
     pub lists : HasLists program_in c.owners.now numbers c.meshes.now plan_in halos c.lists.now
     pub made : AreMade program_in c.owners.now plan_in c.lists.now c.tables
     pub codes : AreCodesOf program_in.kernels c.codes.now

@@ -5,9 +5,9 @@ use Rattle.views.specs.Framed.{target_of, PlacesIn}
 use Rattle.bound_program.specs.declared.sites.Arg.{Arg}
 use Rattle.bound_program.specs.Values.{BoundValue}
 use Rattle.bound_plan.specs.Windows.{frame_cells, frame_windows}
-use Rattle.kernel_jobs.specs.declared.tasks.Task.{Task}
-use Rattle.kernel_jobs.specs.declared.tasks.Targets.{Targets}
-use Rattle.kernel_jobs.specs.Jobs.{task_at, places_in}
+use Rattle.rank_program.specs.declared.tasks.Task.{Task}
+use Rattle.rank_program.specs.declared.tasks.Targets.{Targets}
+use Rattle.rank_program.specs.Jobs.{task_at, places_in}
 
 module _ (b : BoundValue) (args : List Arg) where
   -- the places are those of the windows of the loop's arguments for the task's element

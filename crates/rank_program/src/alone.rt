@@ -2,17 +2,18 @@
 
 ghost use Rattle.std.specs.Prelude.{◌≡◌, ◌<◌, ◌+◌, length, take, vec_capacity};
 ghost use Rattle.rank_memory.specs.Spare.{HasSpare};
-ghost use Rattle.rank_machine.specs.Stops.{stop_in};
-ghost use Rattle.rank_machine.specs.Rooms.{HasRoom};
-ghost use Rattle.rank_machine.specs.AloneRuns.{AllBegin, Reaches};
+ghost use Rattle.rank_memory.specs.Stops.{stop_in};
+ghost use Rattle.rank_program.specs.Rooms.{HasRoomOf};
+ghost use Rattle.rank_program.specs.AloneRuns.{AllBegin, Reaches};
+ghost use Rattle.rank_program.specs.Keeping.{KeepsIn};
 ghost use Rattle.rank_program.specs.Sound.{Sound, setup_in, layout_in, tables_in};
 
 use crate::here::run_here;
 use crate::local_loops::local_loop;
 use crate::program::DistributedProgram;
-use machine_tables::MAX_ARGS;
-use rank_machine::room::Room;
-use rank_machine::stop::Stop;
+use crate::room::Room;
+use rank_layout::MAX_ARGS;
+use rank_memory::stop::Stop;
 
 // Puts so many cells behind those of a buffer, which has the capacity.
 fn lengthen(memory: &mut Vec<i32>, count: usize)
@@ -41,19 +42,20 @@ pub fn run_places(
     room: &mut Room,
 ) -> Option<Stop>
     requires sound { Sound program.now }
+    requires keeps { KeepsIn program.now item }
     requires some { 0 < length places.now }
     requires steps { AllBegin (setup_in program.now) (layout_in program.now) (tables_in program.now) item rank places.now }
     requires variables { length variables.now ≡ (layout_in program.now).variables }
     requires memory { length memory.old.items ≡ (layout_in program.now).width rank }
     requires partials { length partials.old ≡ (tables_in program.now).slots }
     requires spare { HasSpare (tables_in program.now).stride memory.old }
-    requires space { HasRoom program.now.tables.spans program.now.locals (length (tables_in program.now).constants) room.old }
+    requires space { HasRoomOf program.now room.old }
     ensures runs { Reaches (setup_in program.now) (layout_in program.now) (tables_in program.now) item rank
         room.old.constants.items variables.now places.now
         (record { cells = memory.old.items; partials = partials.old; fault = stop_in fault }) (length places.now)
         (record { cells = memory.new.items; partials = partials.new; fault = stop_in result }) }
     ensures spare { HasSpare (tables_in program.now).stride memory.new }
-    ensures space { HasRoom program.now.tables.spans program.now.locals (length (tables_in program.now).constants) room.new }
+    ensures space { HasRoomOf program.now room.new }
 {
     let mut args = [None; MAX_ARGS];
     let local = local_loop(program, item, rank, &room.constants, variables, &mut args);

@@ -7,12 +7,11 @@ ghost use Rattle.flat_machine.specs.Layout.{by_place};
 ghost use Rattle.rank_state.specs.Shows.{AreWindows};
 ghost use Rattle.rank_program.specs.Sound.{Sound, setup_in, layout_in, tables_in};
 
-use crate::elements::{is_owner, original_of};
+use crate::elements::{is_own, original_of};
 use crate::items::{loop_of, site_of};
 use crate::program::DistributedProgram;
-use machine_tables::row_of;
+use rank_layout::{element_windows_stand, push_local_windows, row_of, steps_stand, windows_stand};
 use rank_state::{Scalar, Span};
-use rank_windows::{element_windows_stand, push_local_windows, steps_stand, windows_stand};
 
 /// The element at a place of a rank, in the set of the item's loop, by its original number.
 pub fn original_at(program: &DistributedProgram<'_>, item: u32, rank: u32, place: u32) -> u32
@@ -34,9 +33,9 @@ pub fn owns_at(program: &DistributedProgram<'_>, item: u32, rank: u32, place: u3
         == rank) }
 {
     steps_stand();
+    local_mesh::owned_come_first();
     let site = site_of(program.bound, item);
-    let element = original_of(program.meshes, rank, site.set, place);
-    is_owner(program.owners, rank, site.set, element)
+    is_own(program.meshes, rank, site.set, place)
 }
 
 /// Puts down where the windows of a place's element stand in its rank's buffer, and gives the scalars behind them. `spans`

@@ -1,12 +1,11 @@
 // The elements at the places of ranks.
 
-ghost use Rattle.std.specs.Prelude.{◌≡◌, ◌<◌, ◌==◌, length};
-ghost use Rattle.mesh_decl.specs.Owners.{owners_in, owner_of};
+ghost use Rattle.std.specs.Prelude.{◌≡◌, ◌<◌, length, nat_lt};
 ghost use Rattle.local_mesh.specs.Lists as the;
+ghost use Rattle.local_mesh.specs.Numbers.{own_in};
 ghost use Rattle.bound_plan.specs.Places.{original_at};
 
 use local_mesh::{LocalSet, RankMesh};
-use mesh_decl::Owners;
 
 // The sets of a rank.
 fn sets_of(meshes: &[RankMesh], rank: u32) -> &[LocalSet]
@@ -35,11 +34,11 @@ pub fn original_of(meshes: &[RankMesh], rank: u32, set: u32, place: u32) -> u32
     originals_of(meshes, rank, set)[place as usize]
 }
 
-/// Whether a rank owns an element of a set, by its original number.
-pub fn is_owner(owners: &Owners, rank: u32, set: u32, element: u32) -> bool
-    requires set { set < length owners.now.sets.items }
-    requires element { element < length (owners_in owners.now set) }
-    ensures { result ≡ (owner_of owners.now set element == rank) }
+/// Whether a rank owns the element of a set that has a local number on it: what it owns has the first ones.
+pub fn is_own(meshes: &[RankMesh], rank: u32, set: u32, place: u32) -> bool
+    requires rank { rank < length meshes.now }
+    requires set { set < length (the.sets_of meshes.now rank) }
+    ensures { result ≡ nat_lt place (own_in (the.sets_of meshes.now rank) set) }
 {
-    owners.rank_of(set, element) == rank
+    place < sets_of(meshes, rank)[set as usize].own
 }

@@ -7,13 +7,13 @@ ghost use Rattle.flat_machine.specs.Layout.{by_place};
 ghost use Rattle.rank_state.specs.Spans.{total};
 ghost use Rattle.rank_state.specs.Shows.{AreExports, AreImports};
 ghost use Rattle.loop_plan.specs.Values.{plan_of, item_plan};
-ghost use Rattle.machine_tables.specs.Tables.{tables_of};
+ghost use Rattle.rank_layout.specs.Tables.{tables_of};
 ghost use Rattle.rank_program.specs.Sound.{Sound, program_in, plan_in, setup_in, layout_in};
 
 use crate::program::DistributedProgram;
 use loop_plan::Plan;
+use rank_layout::{push_exports, push_imports, receives_stand, sends_stand};
 use rank_state::Span;
-use rank_windows::{push_exports, push_imports, receives_stand, sends_stand};
 
 // The dats that an item exchanges.
 fn exchange_of(plan: &Plan, item: u32) -> &[u32]

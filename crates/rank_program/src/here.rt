@@ -6,10 +6,11 @@ ghost use Rattle.schedule_steps.specs.Steps.{IsStep};
 ghost use Rattle.flat_machine.specs.Layout.{by_place};
 ghost use Rattle.rank_state.specs.Windows.{Merges};
 ghost use Rattle.rank_state.specs.Machine.{noted};
-ghost use Rattle.rank_machine.specs.Stops.{stop_in};
-ghost use Rattle.rank_machine.specs.Rooms.{most_saved};
-ghost use Rattle.rank_machine.specs.AloneRuns.{AllBegin, Reaches, RunsAt};
+ghost use Rattle.rank_memory.specs.Stops.{stop_in};
+ghost use Rattle.rank_program.specs.Rooms.{most_saved};
+ghost use Rattle.rank_program.specs.AloneRuns.{AllBegin, Reaches, RunsAt};
 ghost use Rattle.rank_program.specs.Here.{moved, merged_after};
+ghost use Rattle.rank_program.specs.Keeping.{KeepsIn};
 ghost use Rattle.rank_program.specs.LocalLoops.{IsLocalLoop, VariablesStand};
 ghost use Rattle.rank_program.specs.Sound.{Sound, setup_in, layout_in, tables_in};
 
@@ -18,10 +19,9 @@ use crate::items::site_of;
 use crate::local_args::put_places;
 use crate::local_loops::LocalLoop;
 use kernel_types::KernelFault;
-use machine_tables::{MAX_ARGS, put_windows};
-use rank_machine::stop::{Stop, least};
+use rank_layout::{MAX_ARGS, element_windows_stand, put_windows, steps_stand, windows_stand};
 use rank_memory::scalars::{fill, merge_amounts};
-use rank_windows::{element_windows_stand, steps_stand, windows_stand};
+use rank_memory::stop::{Stop, least};
 use views::Place;
 
 // Puts down where windows stand behind so many cells, which stood behind so many others.
@@ -118,6 +118,7 @@ fn run_element(
 )
     requires sound { Sound local.now.program.now }
     requires is { IsLocalLoop local.now }
+    requires keeps { KeepsIn local.now.program.now local.now.item }
     requires step { IsStep (by_place (setup_in local.now.program.now) (layout_in local.now.program.now))
         (Begin local.now.item local.now.rank place) }
     requires stand { VariablesStand local.now cells.old }
@@ -135,7 +136,6 @@ fn run_element(
     windows_stand();
     element_windows_stand();
     bound_plan::frames_are_reached();
-    in_place::unwritten_stay();
     fault_order::unchanged_after_faults();
     let width = local.part.cells;
     put_places(local.args, place, cells);
@@ -169,6 +169,7 @@ pub fn run_here(
 ) -> Option<Stop>
     requires sound { Sound local.now.program.now }
     requires is { IsLocalLoop local.now }
+    requires keeps { KeepsIn local.now.program.now local.now.item }
     requires some { 0 < length places.now }
     requires steps { AllBegin (setup_in local.now.program.now) (layout_in local.now.program.now) (tables_in local.now.program.now)
         local.now.item local.now.rank places.now }

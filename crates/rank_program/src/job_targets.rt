@@ -1,18 +1,21 @@
 // Where the windows of tasks' arguments stand.
 
-ghost use Rattle.std.specs.Prelude.{◌≡◌, ◌<◌, ◌≤◌, ℕ, [], All, map, take, length, vec_capacity};
+ghost use Rattle.std.specs.Prelude.{◌≡◌, ◌<◌, ◌≤◌, ◌+◌, ℕ, ℤ, List, [], All, map, take, length, vec_capacity};
 ghost use Rattle.mesh_decl.specs.Mesh.{set_size};
 ghost use Rattle.views.specs.Framed.{target_of, PlacesIn};
 ghost use Rattle.bound_program.specs.Values.{bound_of, site_of};
 ghost use Rattle.bound_program.specs.Fits.{SiteFits};
 ghost use Rattle.bound_plan.specs.Windows.{frame_cells, frame_windows};
-ghost use Rattle.kernel_jobs.specs.Jobs.{task_at};
-ghost use Rattle.machine_tables.specs.Numbered.{ArgThere};
+ghost use Rattle.rank_program.specs.Jobs.{Accepts, job_core, task_at};
+ghost use Rattle.rank_layout.specs.Numbered.{ArgThere};
 ghost use Rattle.rank_program.specs.Targets.{AllTargets};
+ghost use Rattle.rank_program.specs.Sound.{Takes, layout_in, targeted_in};
 
+use crate::items::loop_of;
+use crate::program::DistributedProgram;
+use crate::{KernelJob, MOST_ARGS, Targets, Task};
 use bound_program::{Arg, Bound, Site};
-use kernel_jobs::{MOST_ARGS, Targets, Task};
-use machine_tables::put_windows;
+use rank_layout::{args_of, put_windows};
 use views::Place;
 
 // Where the windows of a loop's arguments stand in an element's frame.
@@ -41,9 +44,9 @@ fn push_targets(bound: &Bound, args: &[Arg], tasks: &[Task], targets: &mut Vec<T
     }
 }
 
-/// Puts down where the windows of a loop's arguments stand in the frames of the tasks' elements. `targets` is lent empty,
-/// with room for as many as there are tasks. Takes no memory.
-pub fn push_all(bound: &Bound, site: &Site, tasks: &[Task], targets: &mut Vec<Targets>)
+// Puts down where the windows of a loop's arguments stand in the frames of the tasks' elements. `targets` is lent empty,
+// with room for as many as there are tasks.
+fn push_all(bound: &Bound, site: &Site, tasks: &[Task], targets: &mut Vec<Targets>)
     requires site { SiteFits (bound_of bound.now) (site_of site.now) }
     requires elements { (i : ℕ) → i < length tasks.now → (task_at tasks.now i).element < set_size bound.now.mesh site.now.set }
     requires empty { targets.old.items ≡ [] }
@@ -52,4 +55,56 @@ pub fn push_all(bound: &Bound, site: &Site, tasks: &[Task], targets: &mut Vec<Ta
     ensures room { vec_capacity targets.new ≡ vec_capacity targets.old }
 {
     push_targets(bound, &site.args, tasks, targets);
+}
+
+/// Puts down where the windows of the loop's arguments stand among the cells of each task's element. `targets` is lent
+/// empty, with room for as many as there are tasks. Takes no memory.
+pub fn put_targets(
+    program: &DistributedProgram<'_>,
+    item: u32,
+    tasks: &[Task],
+    targets: &mut Vec<Targets>,
+)
+    requires some { 0 < length tasks.now }
+    requires takes { (constants : ℕ) × ((i : ℕ) → i < length tasks.now
+        → Takes program.now item (task_at tasks.now i).element constants (task_at tasks.now i).cells) }
+    requires empty { targets.old.items ≡ [] }
+    requires room { length tasks.now ≤ vec_capacity targets.old }
+    ensures targeted { targeted_in program.now item tasks.now targets.new.items }
+    ensures room { vec_capacity targets.new ≡ vec_capacity targets.old }
+{
+    run_model::items_are_there();
+    let site = &program.bound.sites[loop_of(program.bound, item) as usize];
+    push_all(program.bound, site, tasks, targets);
+}
+
+/// The runs of the kernel of the loop that is the item for these tasks with their targets, with the values of all
+/// constants. Takes no memory.
+pub fn job<'t>(
+    program: &'t DistributedProgram<'t>,
+    item: u32,
+    tasks: &'t [Task],
+    targets: &'t [Targets],
+    constants: &'t [i32],
+) -> KernelJob<'t>
+    requires some { 0 < length tasks.now }
+    requires takes { (i : ℕ) → i < length tasks.now
+        → Takes program.now item (task_at tasks.now i).element (length constants.now) (task_at tasks.now i).cells }
+    requires targeted { targeted_in program.now item tasks.now targets.now }
+    ensures tasks { result.tasks.now ≡ tasks.now }
+    ensures accepts { (i n : ℕ) → i < length tasks.now → (task_at tasks.now i).cells + program.now.locals < n → Accepts result i n }
+    ensures core { (i : ℕ) (ws : List ℤ) → i < length tasks.now → length ws ≡ (task_at tasks.now i).cells
+        → job_core result i ws ≡ (layout_in program.now).core item (task_at tasks.now i).element constants.now ws }
+{
+    run_model::items_are_there();
+    run_model::constants_are_read();
+    let number = loop_of(program.bound, item) as usize;
+    let site = &program.bound.sites[number];
+    KernelJob {
+        code: &program.codes[site.kernel as usize],
+        tasks,
+        targets,
+        args: args_of(program.bound, number).len(),
+        constants,
+    }
 }

@@ -7,17 +7,18 @@ ghost use Rattle.bound_program.specs.Values.{bound_of};
 ghost use Rattle.run_model.specs.Programs.{item_at, kind_of, loop_of};
 ghost use Rattle.rank_state.specs.Joins.{AreReduced};
 ghost use Rattle.rank_state.specs.Ordered.{AreOwned};
-ghost use Rattle.rank_exec.specs.Copies.{IsOwnersCopy};
-ghost use Rattle.machine_tables.specs.Tables.{tables_of};
+ghost use Rattle.rank_program.specs.Copies.{IsOwnersCopy};
+ghost use Rattle.rank_layout.specs.Tables.{tables_of};
 ghost use Rattle.rank_program.specs.Sound.{Sound, program_in, plan_in, setup_in, layout_in};
 
 use crate::items::loop_of;
 use crate::laws_copies::copies_stand;
 use crate::program::DistributedProgram;
 use bound_program::{Bound, Item};
-use machine_tables::{args_of, row_of, scalars_stand};
+use rank_layout::{
+    args_of, owned_stand, owners_span, push_windows, reduces_are_there, row_of, scalars_stand,
+};
 use rank_state::{Owned, Scalar};
-use rank_windows::{owned_stand, owners_span, push_windows, reduces_are_there};
 
 /// Puts down where the windows of an element of an Ordered loop stand in the buffers of their owners, and gives the
 /// numbers of the variables' cells behind them. Takes no memory.

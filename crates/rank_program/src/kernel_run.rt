@@ -10,12 +10,15 @@ ghost use Rattle.bound_program.specs.Values.{bound_of, site_of};
 ghost use Rattle.bound_program.specs.Fits.{SiteFits};
 ghost use Rattle.rank_state.specs.Core.{ran_of};
 ghost use Rattle.bound_plan.specs.Windows.{frame_cells, frame_windows};
-ghost use Rattle.machine_tables.specs.Frames.{AreFrameWindows};
+ghost use Rattle.rank_layout.specs.Frames.{AreFrameWindows};
+ghost use Rattle.rank_program.specs.Sound.{Takes, layout_in};
 
+use crate::items::loop_of;
+use crate::program::DistributedProgram;
 use bound_program::{Bound, Site};
 use kernel_code::{Code, run_on};
 use kernel_types::KernelFault;
-use machine_tables::{FrameWindows, MAX_ARGS, put_windows};
+use rank_layout::{FrameWindows, MAX_ARGS, put_windows};
 use views::Place;
 
 // Runs a loop's kernel on the windows of an element's frame, wherever they stand.
@@ -45,12 +48,9 @@ fn run_anywhere(
     run_on(code, windows, places, constants, scratch)
 }
 
-/// Runs a loop's kernel for an element on the windows of its frame, with the values of all constants. `frames` says where the
-/// windows stand in the loop's frames that are alike. Takes no memory.
-///
-/// # Errors
-/// The first fault of the run.
-pub fn run_kernel(
+// Runs a loop's kernel for an element on the windows of its frame, with the values of all constants. `frames` says where the
+// windows stand in the loop's frames that are alike. An error is the first fault of the run.
+fn run_framed(
     bound: &Bound,
     site: &Site,
     frames: &Option<FrameWindows>,
@@ -78,4 +78,39 @@ pub fn run_kernel(
         }
     }
     run_anywhere(bound, site, code, element, constants, windows, scratch)
+}
+
+/// Runs the kernel of the loop that is the item for an element, with the values of all constants, on the cells of its windows, one
+/// window behind another. What the run leaves in `scratch`, the room for locals, means nothing. Takes no memory.
+///
+/// # Errors
+/// The first fault of the run; the windows then mean nothing.
+pub fn run_kernel(
+    program: &DistributedProgram<'_>,
+    item: u32,
+    element: u32,
+    constants: &[i32],
+    windows: &mut [i32],
+    scratch: &mut [i32],
+) -> Result<(), KernelFault>
+    requires takes { Takes program.now item element (length constants.now) (length windows.old) }
+    requires room { program.now.locals ≤ length scratch.old }
+    ensures { ran_of windows.new result ≡ (layout_in program.now).core item element constants.now windows.old }
+{
+    run_model::items_are_there();
+    run_model::constants_are_read();
+    let number = loop_of(program.bound, item) as usize;
+    let site = &program.bound.sites[number];
+    let frames = &program.tables.frames[number];
+    let code = &program.codes[site.kernel as usize];
+    run_framed(
+        program.bound,
+        site,
+        frames,
+        code,
+        element,
+        constants,
+        windows,
+        scratch,
+    )
 }

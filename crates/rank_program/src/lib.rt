@@ -1,4 +1,5 @@
-//! A bound program, distributed and planned, as the machine reads it, and its run by the steps of a schedule.
+//! A bound program, distributed and planned: what the machine reads of it, and the runs of its elements, in place on a rank's cells or
+//! by several workers, each on a window of one buffer.
 #![tactic(auto)]
 
 mod alone;
@@ -9,15 +10,28 @@ mod here;
 mod items;
 mod job_targets;
 mod joins;
+mod keeping;
+mod kernel_job;
 mod kernel_run;
+mod laws;
 mod laws_copies;
 mod local_args;
 mod local_loops;
 mod program;
-mod program_items;
-mod program_parts;
-mod running;
+mod room;
+mod task_runs;
+mod tasks;
 
-pub use exchanges::push_sent;
+pub use alone::run_places;
+pub use begun::{original_at, owns_at, push_element};
+pub use exchanges::{push_received, push_sent};
+pub use job_targets::{job, put_targets};
+pub use joins::{owners_copy, push_owned_windows, reduced_scalars};
+pub use keeping::kernels_keep_reads;
+pub use kernel_job::KernelJob;
+pub use kernel_run::run_kernel;
+pub use laws::faults_come_together;
 pub use program::DistributedProgram;
-pub use running::{Outcome, run_planned};
+pub use room::{MOST_SAVED, Room};
+pub use task_runs::run_tasks;
+pub use tasks::{MOST_ARGS, Targets, Task};

@@ -1,13 +1,13 @@
 // The arguments of a loop on dats by a rank's local numbers, looked up once for all its places.
 
 ghost use Rattle.std.specs.Prelude.{◌≡◌, ◌<◌, ℕ, All, length};
-ghost use Rattle.rank_windows.specs.DatWindows.{ArgHere, ViaHere};
+ghost use Rattle.rank_layout.specs.DatWindows.{ArgHere, ViaHere};
 ghost use Rattle.rank_program.specs.LocalArgs.{HasTarget, CountsCells, IsVia, IsArg, AreArgs, local_in, place_in, places_in};
 
 use bound_program::Arg;
 use local_mesh::RankMesh;
 use mesh_decl::{Mesh, Via};
-use rank_windows::targets_of;
+use rank_layout::targets_of;
 use views::Place;
 
 /// The local targets of a map: `step` for each place, of which the one at `index` is meant.

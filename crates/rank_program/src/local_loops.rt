@@ -12,9 +12,8 @@ use crate::local_args::{LocalArg, put_local_args};
 use crate::program::DistributedProgram;
 use kernel_code::Code;
 use local_mesh::RankMesh;
-use machine_tables::{MachineTables, row_of};
+use rank_layout::{MachineTables, element_windows_stand, row_of, steps_stand, windows_stand};
 use rank_state::Scalar;
-use rank_windows::{element_windows_stand, steps_stand, windows_stand};
 
 /// The loop of an item on a rank, with the values that its kernel reads.
 #[derive(Drop)]

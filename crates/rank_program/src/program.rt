@@ -1,29 +1,26 @@
 // A bound program, distributed and planned.
 
-ghost use Rattle.std.specs.Prelude.{◌≡◌, length, IfOk};
+ghost use Rattle.std.specs.Prelude.{◌≡◌, IfOk};
 ghost use Rattle.kernel_code.specs.Codes.{AreCodesOf};
 ghost use Rattle.bound_program.specs.Values.{bound_of};
 ghost use Rattle.loop_plan.specs.Values.{plan_of};
-ghost use Rattle.rank_program.specs.Sound.{Sound};
+ghost use Rattle.host_acts.specs.Variables.{VarsBegin};
+ghost use Rattle.rank_state.specs.Starting.{AreSlots, ArePlaces};
+ghost use Rattle.rank_program.specs.Sound.{Sound, program_in, setup_in, layout_in, tables_in};
 ghost use Rattle.rank_program.specs.Runnables.{CanRun, IsProgramOf};
 
-use crate::items::loop_of;
-use crate::job_targets::push_all;
-use crate::kernel_run::run_kernel;
 use bound_program::Bound;
 use kernel_code::{Code, room_for};
-use kernel_jobs::{KernelJob, Targets, Task};
-use kernel_types::KernelFault;
 use local_mesh::{LocalLists, RankMesh};
 use loop_plan::Plan;
-use machine_tables::{MachineTables, args_of, tables_are_indexed};
 use mesh_decl::Owners;
 use op_num::OutOfMemory;
-use rank_memory::core_run::Kernels;
-use rank_windows::{
-    element_windows_stand, exports_are_few, first_cells_stand, first_variables, most_spans,
-    rooms_stand, steps_stand, variables_stand,
+use rank_layout::{
+    MachineTables, element_windows_stand, exports_are_few, first_cells_stand, first_variables,
+    most_spans, places_stand, rooms_stand, slots_stand, steps_stand, tables_are_indexed,
+    variables_stand,
 };
+use rank_state::Operation;
 use std::alloc::Global;
 
 /// A bound program with its distribution over several ranks and its plan.
@@ -89,67 +86,46 @@ impl<'a> DistributedProgram<'a> {
             tables,
         })
     }
-}
 
-impl<'a> Kernels for DistributedProgram<'a> {
-    ghost use Rattle.rank_program.specs.Sound.{Sound, Takes, core_in, targeted_in};
-
-    ghost sound = { Sound };
-
-    ghost core = { core_in };
-
-    ghost takes = { Takes };
-
-    ghost locals = { λ c. c.locals };
-
-    ghost targeted = { targeted_in };
-
-    fn most_locals(&self) -> usize {
-        self.locals
+    /// Which of the variables' cells are the constants, by the numbers that kernels give these.
+    pub fn constants(&self) -> &[usize]
+        requires { Sound self.now }
+        ensures { result.now ≡ (tables_in self.now).constants }
+    {
+        &self.tables.constants
     }
 
-    fn run(
-        &self,
-        item: u32,
-        element: u32,
-        constants: &[i32],
-        windows: &mut [i32],
-        scratch: &mut [i32],
-    ) -> Result<(), KernelFault> {
-        run_model::items_are_there();
-        run_model::constants_are_read();
-        let number = loop_of(self.bound, item) as usize;
-        let site = &self.bound.sites[number];
-        let frames = &self.tables.frames[number];
-        let code = &self.codes[site.kernel as usize];
-        run_kernel(
-            self.bound, site, frames, code, element, constants, windows, scratch,
-        )
+    /// How the loops reduce into the partials, by slot.
+    pub fn slots(&self) -> &[Operation]
+        requires { Sound self.now }
+        ensures { AreSlots (setup_in self.now) (layout_in self.now) (tables_in self.now) result.now }
+    {
+        slots_stand();
+        &self.tables.slots
     }
 
-    fn put_targets(&self, item: u32, tasks: &[Task], targets: &mut Vec<Targets>) {
-        run_model::items_are_there();
-        let site = &self.bound.sites[loop_of(self.bound, item) as usize];
-        push_all(self.bound, site, tasks, targets);
+    /// How many places there may be on each rank.
+    pub fn places(&self) -> &[usize]
+        requires { Sound self.now }
+        ensures { ArePlaces (setup_in self.now) (layout_in self.now) (tables_in self.now) result.now }
+    {
+        places_stand();
+        &self.tables.places
     }
 
-    fn job<'t>(
-        &'t self,
-        item: u32,
-        tasks: &'t [Task],
-        targets: &'t [Targets],
-        constants: &'t [i32],
-    ) -> KernelJob<'t> {
-        run_model::items_are_there();
-        run_model::constants_are_read();
-        let number = loop_of(self.bound, item) as usize;
-        let site = &self.bound.sites[number];
-        KernelJob {
-            code: &self.codes[site.kernel as usize],
-            tasks,
-            targets,
-            args: args_of(self.bound, number).len(),
-            constants,
-        }
+    /// The most cells of an element's windows.
+    pub fn stride(&self) -> usize
+        requires { Sound self.now }
+        ensures { result ≡ (tables_in self.now).stride }
+    {
+        self.tables.stride
+    }
+
+    /// Where each variable begins among the cells of all variables.
+    pub fn starts(&self) -> &[usize]
+        requires { Sound self.now }
+        ensures { VarsBegin (program_in self.now).vars result.now }
+    {
+        &self.tables.starts
     }
 }

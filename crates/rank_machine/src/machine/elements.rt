@@ -8,15 +8,16 @@ ghost use Rattle.rank_state.specs.Windows.{Reads, Merges};
 ghost use Rattle.rank_state.specs.Frames.{Shut, pane_at, Enough, Exactly};
 ghost use Rattle.rank_state.specs.Machine.{row, begun_as, ended, windows_of};
 ghost use Rattle.rank_state.specs.Shows.{Sized};
-ghost use Rattle.rank_machine.specs.Rooms.{HasRoom};
-ghost use Rattle.rank_machine.specs.AloneRuns.{AllBegin, Share, Reaches, share_of, with_share};
+ghost use Rattle.rank_program.specs.Rooms.{HasRoomOf};
+ghost use Rattle.rank_program.specs.AloneRuns.{AllBegin, Share, Reaches, share_of, with_share};
+ghost use Rattle.rank_program.specs.Sound.{Sound, Takes, setup_in, layout_in, tables_in};
+ghost use Rattle.rank_program.specs.Keeping.{KeepsIn};
 
 use crate::machine::Machine;
-use crate::parts::Parts;
-use crate::room::Room;
-use crate::stop::least;
-use rank_memory::core_run::Kernels;
-use rank_memory::running::load;
+use crate::running::run_in;
+use rank_memory::loading::load;
+use rank_memory::stop::least;
+use rank_program::{DistributedProgram, Room, run_places};
 use rank_state::{Scalar, Span};
 
 // How many cells the spans have.
@@ -33,9 +34,9 @@ fn cells(spans: &[Span]) -> usize
 
 impl Machine {
     /// Runs an element's kernel in a frame of its own.
-    pub fn begin<C: Kernels>(
+    pub fn begin(
         &mut self,
-        core: &C,
+        program: &DistributedProgram<'_>,
         constants: &[i32],
         item: u32,
         rank: u32,
@@ -45,8 +46,8 @@ impl Machine {
         scalars: &[Scalar],
         scratch: &mut [i32],
     )
-        requires takes { C.takes core.now item original (length constants.now) (total spans.now + length scalars.now) }
-        requires locals { C.locals core.now ≤ length scratch.old }
+        requires takes { Takes program.now item original (length constants.now) (total spans.now + length scalars.now) }
+        requires locals { program.now.locals ≤ length scratch.old }
         requires rank { rank < length self.old.memories }
         requires frames { rank < length self.old.frames.panes }
         requires place { place < length (slice_index_or self.old.frames.panes rank []) }
@@ -57,22 +58,27 @@ impl Machine {
         requires fits { total spans.now + length scalars.now ≤ self.old.frames.stride }
         ensures { self.new
             ≡ begun_as item rank place original
-            (C.core core.now item original constants.now (windows_of self.old rank spans.now scalars.now)) self.old }
+            ((layout_in program.now).core item original constants.now (windows_of self.old rank spans.now scalars.now)) self.old }
     {
-        let fault = self.frames.begin(
-            core,
+        let ran = run_in(
+            program,
             item,
-            rank,
-            place,
             original,
             constants,
             &self.memories[rank as usize],
             spans,
             &self.variables,
             scalars,
+            &mut self.window,
             scratch,
         );
-        self.fault = least(self.fault, item, original, fault);
+        match ran {
+            Ok(count) => self.frames.open(item, rank, place, &self.window[..count]),
+            Err(fault) => {
+                self.frames.open_broken(item, rank, place, fault);
+                self.fault = least(self.fault, item, original, Some(fault));
+            }
+        }
     }
 
     /// Copies an element's windows into as many cells from the front of `window` on, and answers how many they are.
@@ -107,26 +113,28 @@ impl Machine {
 
     /// Runs the kernel for the elements at the places, one after another, and puts back at once what each leaves. No frame is opened
     /// for them. `room` has the values of all constants.
-    pub fn in_place<P: Parts>(
+    pub fn in_place(
         &mut self,
-        parts: &P,
+        program: &DistributedProgram<'_>,
         item: u32,
         rank: u32,
         places: &[u32],
         room: &mut Room,
     )
-        requires sound { P.sound parts.now }
+        requires sound { Sound program.now }
+        requires keeps { KeepsIn program.now item }
         requires some { 0 < length places.now }
-        requires steps { AllBegin (P.setup parts.now) (P.layout parts.now) (P.tables parts.now) item rank places.now }
-        requires sized { Sized (P.setup parts.now) (P.layout parts.now) (P.tables parts.now) self.old }
-        requires space { HasRoom (P.span_count parts.now) (P.locals parts.now) (length (P.tables parts.now).constants) room.old }
+        requires steps { AllBegin (setup_in program.now) (layout_in program.now) (tables_in program.now) item rank places.now }
+        requires sized { Sized (setup_in program.now) (layout_in program.now) (tables_in program.now) self.old }
+        requires space { HasRoomOf program.now room.old }
         ensures runs { (new : Share KernelFault)
-            × Reaches (P.setup parts.now) (P.layout parts.now) (P.tables parts.now) item rank
+            × Reaches (setup_in program.now) (layout_in program.now) (tables_in program.now) item rank
             room.old.constants.items self.old.variables places.now (share_of rank self.old) (length places.now) new
             × (self.new ≡ with_share rank new self.old) }
-        ensures space { HasRoom (P.span_count parts.now) (P.locals parts.now) (length (P.tables parts.now).constants) room.new }
+        ensures space { HasRoomOf program.now room.new }
     {
-        let fault = parts.run_places(
+        let fault = run_places(
+            program,
             item,
             rank,
             places,

@@ -3,7 +3,7 @@
 ghost use Rattle.std.specs.Prelude.{◌≡◌, ℕ, ◌+◌, ◌<◌, ◌≤◌, ◌*◌, ◌++◌, length, IfOk, OnOk};
 ghost use Rattle.mesh_decl.specs.Mesh.{dat_count, dat_set, dat_dim, set_size};
 ghost use Rattle.mesh_decl.specs.Printed.{printed_dat};
-ghost use Rattle.bound_program.specs.Values.{act_of};
+ghost use Rattle.bound_program.specs.Values.{told_act_of};
 ghost use Rattle.bound_program.specs.Fits.{ActFits};
 ghost use Rattle.run_model.specs.Hosts.{act_run};
 ghost use Rattle.run_model.specs.Memory.{Holds, memory_length};
@@ -17,18 +17,19 @@ ghost use Rattle.rank_state.specs.Joins.{reduced};
 ghost use Rattle.rank_state.specs.Core.{fault_of};
 ghost use Rattle.rank_state.specs.Ordered.{Within_all, total_all, all_windows, left_in};
 ghost use Rattle.rank_state.specs.Indices.{InLength};
-ghost use Rattle.rank_machine.specs.Stops.{stop_in};
+ghost use Rattle.rank_memory.specs.Stops.{stop_in};
+ghost use Rattle.rank_program.specs.Sound.{Takes, layout_in};
 
 use crate::machine::Machine;
 use crate::reduce::{reduce_variables, unite_all};
-use crate::stop::{Stop, before};
-use bound_program::{Act, Mesh};
+use crate::running::run_owned;
+use bound_program::{Mesh, ToldAct};
 use gather::print_dat;
 use host_acts::{Variables, run_act};
 use kernel_types::KernelFault;
 use op_num::{OutOfMemory, Text};
-use rank_memory::core_run::Kernels;
-use rank_memory::owned::run_element;
+use rank_memory::stop::{Stop, before};
+use rank_program::DistributedProgram;
 use rank_state::{Owned, Scalar};
 use std::alloc::Global;
 
@@ -52,9 +53,9 @@ impl Machine {
 
     /// Runs an element of an Ordered loop on the owners' cells and the variables; its fault, where it
     /// has one.
-    pub fn element<C: Kernels>(
+    pub fn element(
         &mut self,
-        core: &C,
+        program: &DistributedProgram<'_>,
         constants: &[i32],
         item: u32,
         element: u32,
@@ -62,19 +63,19 @@ impl Machine {
         indices: &[usize],
         scratch: &mut [i32],
     ) -> Option<KernelFault>
-        requires takes { C.takes core.now item element (length constants.now) (total_all spans.now + length indices.now) }
-        requires locals { C.locals core.now ≤ length scratch.old }
+        requires takes { Takes program.now item element (length constants.now) (total_all spans.now + length indices.now) }
+        requires locals { program.now.locals ≤ length scratch.old }
         requires inside { Within_all self.old.memories spans.now }
         requires reads { InLength (length self.old.variables) indices.now }
         requires room { total_all spans.now + length indices.now ≤ self.old.frames.stride }
         ensures fault { result
-            ≡ fault_of (C.core core.now item element constants.now (all_windows spans.now indices.now self.old)) }
+            ≡ fault_of ((layout_in program.now).core item element constants.now (all_windows spans.now indices.now self.old)) }
         ensures state { self.new
             ≡ left_in spans.now indices.now
-            (C.core core.now item element constants.now (all_windows spans.now indices.now self.old)) self.old }
+            ((layout_in program.now).core item element constants.now (all_windows spans.now indices.now self.old)) self.old }
     {
-        run_element(
-            core,
+        run_owned(
+            program,
             constants,
             item,
             element,
@@ -120,15 +121,15 @@ impl Machine {
         &mut self,
         alloc: Global,
         known: &Variables<'_>,
-        act: &Act,
+        act: &ToldAct,
     ) -> Result<Result<(), KernelFault>, OutOfMemory>
         requires begins { Begins known.now }
-        requires fits { ActFits (program_of known.now) (act_of act.now) }
+        requires fits { ActFits (program_of known.now) (told_act_of act.now) }
         requires cells { length self.old.variables ≡ memory_length (program_of known.now) }
         ensures others { self.new ≡ record self.old { variables = self.new.variables; output = self.new.output } }
         ensures ends { IfOk result (λ r. (s : Store) → Holds (program_of known.now) self.old.variables s
             → ActEnds (program_of known.now) self.new.variables s self.old.output self.new.output r
-            (act_run (program_of known.now) s (act_of act.now))) }
+            (act_run (program_of known.now) s (told_act_of act.now))) }
     {
         run_act(alloc, known, act, &mut self.variables, &mut self.output)
     }

@@ -9,7 +9,7 @@ use Rattle.run_model.specs.Kernels.{constants, constant_values, element_run}
 use Rattle.run_model.specs.Programs.{item_at, loop_of}
 use Rattle.host_acts.specs.Variables.{of_vars}
 use Rattle.rank_state.specs.Machine.{noted}
-use Rattle.rank_machine.specs.Stops.{stop_in}
+use Rattle.rank_memory.specs.Stops.{stop_in}
 use Rattle.bound_plan.specs.Variables.{reduces_at}
 use Rattle.chain_model.specs.Machine.{view, ran}
 use Rattle.bound_chains.specs.Slices.{slicing_of}

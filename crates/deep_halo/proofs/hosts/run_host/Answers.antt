@@ -1,5 +1,5 @@
 use Rattle.std.proofs.Common.{◌≡◌, ◌+◌, ◌-◌, ◌*◌, ℕ, List, map, length, drop, take, sym, ap, subst, ◌∙◌, arith}
-use Rattle.bound_program.specs.Values.{act_of, var_of, VarValue}
+use Rattle.bound_program.specs.Values.{told_act_of, var_of, VarValue}
 use Rattle.bound_program.specs.Fits.{ActFits}
 use Rattle.run_model.specs.Memory.{memory_length, Holds}
 use Rattle.host_acts.specs.Variables.{of_vars, VarsBegin}
@@ -45,11 +45,11 @@ pub run_act-requires : goal.run_act-requires
 run_act-requires c =
     let b = program_of_run c.args.program.now in
     let o = owners_of_run c.args.program.now in
-    let vars : b.vars ≡ map var_of c.deref.result.now = ap (map var_of) (sym c.deref.ensures.value) in
+    let vars : b.vars ≡ map var_of c.deref-2.result.now = ap (map var_of) (sym c.deref-2.ensures.value) in
     record {
-      begins = subst (λ (l : List VarValue). VarsBegin l c.deref-2.result.now) vars (subst (VarsBegin b.vars) (sym c.deref-2.ensures.value) c.requires.is.sound.layout.vars);
-      fits = subst (λ (l : List VarValue). ActFits (of_vars l) (act_of c.args.act.now)) vars
-          (plain_fits b (act_of c.args.act.now) (not_print c.args.act.now c.in_default.not-Print) c.requires.fits);
+      begins = subst (λ (l : List VarValue). VarsBegin l c.deref-3.result.now) vars (subst (VarsBegin b.vars) (sym c.deref-3.ensures.value) c.requires.is.sound.layout.vars);
+      fits = subst (λ (l : List VarValue). ActFits (of_vars l) (told_act_of c.args.act.now)) vars
+          (plain_fits b (told_act_of c.args.act.now) (not_print c.args.act.now c.deref.result.now c.deref.ensures c.in_default.not-Print) c.requires.fits);
       cells = tail_is b o _ (first_at b o c.args.program.now.blocks.now.layout.now c.requires.is.sound.layout) c.args.memory.now c.requires.memory ∙ ap (λ (l : List VarValue). memory_length (of_vars l)) vars;
     }
 
@@ -57,7 +57,7 @@ pub returns : goal.returns
 returns c =
     let b = program_of_run c.args.program.now in
     let o = owners_of_run c.args.program.now in
-    let a = act_of c.args.act.now in
+    let a = told_act_of c.args.act.now in
     let old = c.args.memory.now in
     let cells = c.run_act.new.cells in
     let said = c.args.out.now.items in
@@ -66,10 +66,10 @@ returns c =
     let first : ℕ = l.cells * o.ranks + l.dats_end in
     let at = first_at b o l c.requires.is.sound.layout in
     let tail = take (length old - first) (drop first old) in
-    let vars : map var_of c.deref.result.now ≡ b.vars = ap (map var_of) c.deref.ensures.value in
-    let plain = not_print c.args.act.now c.in_default.not-Print in
+    let vars : map var_of c.deref-2.result.now ≡ b.vars = ap (map var_of) c.deref-2.ensures.value in
+    let plain = not_print c.args.act.now c.deref.result.now c.deref.ensures c.in_default.not-Print in
     IfOk-weaker c.run_act.result
-    (λ r. (s : Store) → Holds (of_vars (map var_of c.deref.result.now)) tail s → ActEnds (of_vars (map var_of c.deref.result.now)) cells s said says r (act_run (of_vars (map var_of c.deref.result.now)) s a))
+    (λ r. (s : Store) → Holds (of_vars (map var_of c.deref-2.result.now)) tail s → ActEnds (of_vars (map var_of c.deref-2.result.now)) cells s said says r (act_run (of_vars (map var_of c.deref-2.result.now)) s a))
     (λ r. (s : Store) → OwnersStand b o old s → HostEnds b o old (put_mid first (length old - first) old cells) said says r (act_run b s a))
     (λ r ends s stand.
     host_ends b o first at old c.requires.memory cells s said says r (act_run b s a)

@@ -5,7 +5,7 @@ use Rattle.kernel_types.specs.declared.faults.KernelFault.{KernelFault}
 use Rattle.schedule_model.specs.Program as program
 use Rattle.schedule_model.specs.Sequential.{loop}
 use Rattle.bound_program.specs.Fits.{ActFits}
-use Rattle.bound_program.specs.Values.{ItemValue, Reduce, Ordered, Host, act_of}
+use Rattle.bound_program.specs.Values.{ItemValue, Reduce, Ordered, Host, told_act_of}
 use Rattle.run_model.specs.Hosts.{act_run}
 use Rattle.run_model.specs.Programs.{item_at, kind_of, loop_of, act_in, program_of}
 use Rattle.chain_model.specs.Machine.{ChainState, gathered}
@@ -42,7 +42,7 @@ run_host-requires-clause-fits c =
     let b = program_of_run c.args.program.now in
     let k = c.args.item in
     let items = c.args.program.now.blocks.now.bound.now.trace.items in
-    let is : item_at b k ≡ Host (act_of c.in-Host.act) =
+    let is : item_at b k ≡ Host (told_act_of c.in-Host.act) =
     item_is items k c.index.result.now _ c.requires.item c.index.ensures c.in-Host.is in
     subst (λ a. ActFits b a) (ap act_in is) (c.items_are_there.ensures.acts b k c.requires.is.sound.fits)
 
@@ -90,7 +90,7 @@ returns-in-Ok c =
     let x = c.args.state.now in
     let sound = c.requires.is.sound in
     let items = c.args.program.now.blocks.now.bound.now.trace.items in
-    let is : item_at b k ≡ Host (act_of c.in-Host.act) =
+    let is : item_at b k ≡ Host (told_act_of c.in-Host.act) =
     item_is items k c.index.result.now _ c.requires.item c.index.ensures c.in-Host.is in
     let old = c.deref_mut-in-Host.result.now in
     let new = c.run_host.new.memory in
@@ -107,7 +107,7 @@ returns-in-Ok c =
           (subst (λ a. HostEnds b o old new x.out.items c.run_host.new.out.items r (act_run b (gathered (slicing_of b o) st) a)) (sym (ap act_in is))
           (c.in_ok-run_host-in-Host.ensures (gathered (slicing_of b o) st) (gathered_stands b o c.is_in_range.ensures sound.owners st old stand))) in
           subst (λ (y : ChainState KernelFault). Stands b o (k + 1) (record x { memory = memory; out = c.run_host.new.out }) y) (sym (does_host b o k st none (ap kind_of is)))
-          (host_goes b o c.is_in_range.ensures sound.owners sound.fits c.items_are_there.ensures.loops k c.requires.kind (host_other (item_at b k) (act_of c.in-Host.act) is) x st stands
+          (host_goes b o c.is_in_range.ensures sound.owners sound.fits c.items_are_there.ensures.loops k c.requires.kind (host_other (item_at b k) (told_act_of c.in-Host.act) is) x st stands
           c.in-Ok.field-0 memory c.run_host.new.out new r h held count c.in-Ok.is ends);
     }
 
@@ -119,7 +119,7 @@ returns-in-Err c =
     let x = c.args.state.now in
     let sound = c.requires.is.sound in
     let items = c.args.program.now.blocks.now.bound.now.trace.items in
-    let is : item_at b k ≡ Host (act_of c.in-Host.act) =
+    let is : item_at b k ≡ Host (told_act_of c.in-Host.act) =
     item_is items k c.index.result.now _ c.requires.item c.index.ensures c.in-Host.is in
     let old = c.deref_mut-in-Host.result.now in
     let new = c.run_host.new.memory in
@@ -134,6 +134,6 @@ returns-in-Err c =
           (subst (λ a. HostEnds b o old new x.out.items out r (act_run b (gathered (slicing_of b o) st) a)) (sym (ap act_in is))
           (c.in_ok-run_host-in-Host.ensures (gathered (slicing_of b o) st) (gathered_stands b o c.is_in_range.ensures sound.owners st old stand))) in
           subst (λ (y : ChainState KernelFault). (y.stop ≡ Some (record { item = k; element = None; fault = c.in-Err.fault })) × (y.output ≡ out)) (sym (does_host b o k st none (ap kind_of is)))
-          (host_halts b o c.is_in_range.ensures sound.owners sound.fits c.items_are_there.ensures.loops k c.requires.kind (host_other (item_at b k) (act_of c.in-Host.act) is) x st stands
+          (host_halts b o c.is_in_range.ensures sound.owners sound.fits c.items_are_there.ensures.loops k c.requires.kind (host_other (item_at b k) (told_act_of c.in-Host.act) is) x st stands
           c.in-Err.fault out new r h c.in-Err.is ends);
     }

@@ -1,6 +1,7 @@
 use Rattle.std.proofs.Common.{map}
 use Rattle.std.proofs.lemmas.Result.{IfOk-weaker}
 use Rattle.kernel_types.specs.View.{rexpr_of}
+use Rattle.bound_program.specs.HostExpr.{closed}
 use Rattle.host_acts.specs.Acts.{program_of}
 use Rattle.host_acts.proofs.ActSteps.{line_printed}
 use Rattle.host_acts.proofs.acts.put_text.Goals as goal
@@ -11,6 +12,6 @@ returns c =
     let m = c.args.cells.now in
     IfOk-weaker c.put_line.result _ _
     (λ r h s holds.
-    line_printed b s m holds c.args.text.now c.args.out.now.items c.put_line.new.out.items r m (map rexpr_of c.args.all.now)
+    line_printed b s m holds c.args.text.now c.args.out.now.items c.put_line.new.out.items r m (map (closed c.args.told.now) (map rexpr_of c.args.all.now))
     (c.memory_holds.ensures.variables b m s holds) h)
     c.put_line.ensures

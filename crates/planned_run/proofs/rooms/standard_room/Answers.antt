@@ -25,7 +25,7 @@ pub returns : goal.returns
 returns c =
     let x = c.args.program.now in
     let s = c.requires.sound in
-    let ranks : (plan_in x).ranks ≡ x.owners.now.ranks = s.runnable.planned.proper.ranks ∙ s.runnable.planned.distributed.are_meshes.count in
+    let ranks : (plan_in x).ranks ≡ x.owners.now.ranks = s.planned.proper.ranks ∙ s.planned.distributed.are_meshes.count in
     record {
       opened = c.standard_has_room.ensures.frames (outline_in x) c.args.group c.most_open-frames.result (omega arith) (λ k r lk free lr.
           let lo : r < x.owners.now.ranks = omega arith in

@@ -4,7 +4,7 @@ use Rattle.schedule_steps.specs.declared.step.Step.{Step}
 use Rattle.schedule_steps.specs.Drawn.{IsDrawn}
 use Rattle.bound_plan.specs.Memories.{dump_of}
 use Rattle.rank_program.specs.Sound.{program_in, plan_in, outline_in}
-use Rattle.rank_program.specs.Runs.{IsRunBy}
+use Rattle.rank_exec.specs.Runs.{IsRunBy}
 use Rattle.planned_run.proofs.running.run_drawn.Goals as goal
 
 -- drawn over one shape and over another that is the same

@@ -3,7 +3,7 @@ use Rattle.std.specs.Prelude.{IfOk}
 use Rattle.schedule_steps.specs.declared.step.Step.{Step}
 use Rattle.bound_plan.specs.Memories.{dump_of}
 use Rattle.rank_program.specs.Sound.{program_in, plan_in, outline_in}
-use Rattle.rank_program.specs.Runs.{IsRunBy}
+use Rattle.rank_exec.specs.Runs.{IsRunBy}
 use Rattle.planned_run.specs.declared.orders.Order.{Order}
 use Rattle.planned_run.specs.Orders.{InOrder}
 use Rattle.planned_run.proofs.SameProgram.{Told}

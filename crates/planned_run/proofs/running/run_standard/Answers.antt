@@ -4,7 +4,7 @@ use Rattle.schedule_steps.specs.declared.step.Step.{Step}
 use Rattle.schedule_steps.specs.Standard.{standard}
 use Rattle.bound_plan.specs.Memories.{dump_of}
 use Rattle.rank_program.specs.Sound.{program_in, plan_in}
-use Rattle.rank_program.specs.Runs.{IsRunBy}
+use Rattle.rank_exec.specs.Runs.{IsRunBy}
 use Rattle.planned_run.proofs.running.run_standard.Goals as goal
 
 one_order : {o n : Outline} {g h : ℕ} → o ≡ n → g ≡ h → standard o g ≡ standard n h

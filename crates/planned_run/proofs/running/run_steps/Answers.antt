@@ -4,7 +4,7 @@ use Rattle.schedule_steps.specs.declared.step.Step.{Step}
 use Rattle.schedule_steps.specs.Steps.{Accepted}
 use Rattle.schedule_steps.specs.Peaks.{IsPeak}
 use Rattle.bound_plan.specs.Memories.{dump_of}
-use Rattle.rank_program.specs.Runs.{IsRunBy}
+use Rattle.rank_exec.specs.Runs.{IsRunBy}
 use Rattle.rank_program.specs.Sound.{program_in, plan_in, outline_in}
 use Rattle.schedule_check.specs.Mail.{plan_cells}
 use Rattle.planned_run.proofs.running.run_steps.Goals as goal
@@ -17,7 +17,7 @@ peak_of-requires-clause-ranks g c =
         owners = c.args.program.now.owners.now;
         numbers = s.numbers;
         are_halos = s.lists.halos;
-        distributed = s.runnable.planned.distributed;
+        distributed = s.planned.distributed;
       },
     )
 

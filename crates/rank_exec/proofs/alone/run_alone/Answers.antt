@@ -5,22 +5,23 @@ use Rattle.rank_exec.specs.RunRooms.{most_begins}
 use Rattle.rank_exec.specs.Driving.{Done, ComeReady}
 use Rattle.rank_exec.proofs.Driving.{done_none, done_more, ready_after, ready_front}
 use Rattle.rank_exec.proofs.Grouping.{alone_fewer}
+use Rattle.rank_program.specs.Sound.{setup_in, layout_in, tables_in}
 use Rattle.rank_exec.proofs.alone.run_alone.Goals as goal
 
 pub loop-of-init : goal.loop-of-init
 loop-of-init g c = record {
-  done = ([], refl, done_none (g.P.Parts.setup c.args.parts.now) (g.P.Parts.layout c.args.parts.now) (g.P.Parts.tables c.args.parts.now) c.args.machine.now);
+  done = ([], refl, done_none (setup_in c.args.program.now) (layout_in c.args.program.now) (tables_in c.args.program.now) c.args.machine.now);
   space = c.requires.space;
 }
 
 pub run_places-requires-clause-shows : goal.run_places-requires-clause-shows
-run_places-requires-clause-shows g c = (flat_from (g.P.Parts.setup c.args.parts.now) (g.P.Parts.layout c.args.parts.now) c.loop-of.invariant.done.0 c.requires.shows.0, c.loop-of.invariant.done.2.shows c.requires.shows.0 c.requires.shows.1)
+run_places-requires-clause-shows g c = (flat_from (setup_in c.args.program.now) (layout_in c.args.program.now) c.loop-of.invariant.done.0 c.requires.shows.0, c.loop-of.invariant.done.2.shows c.requires.shows.0 c.requires.shows.1)
 
 pub run_places-requires-clause-ready : goal.run_places-requires-clause-ready
 run_places-requires-clause-ready g c =
-    subst (λ xs. ComeReady (g.P.Parts.setup c.args.parts.now) (g.P.Parts.layout c.args.parts.now) (g.P.Parts.tables c.args.parts.now) (alone c.in-Some.of.item c.in-Some.of.rank xs) c.loop-of.machine) (sym c.deref.ensures.value)
-    (ready_front (g.P.Parts.setup c.args.parts.now) (g.P.Parts.layout c.args.parts.now) (g.P.Parts.tables c.args.parts.now) (g.S.Steps.left c.loop-of.steps) (alone c.in-Some.of.item c.in-Some.of.rank c.next_alone.new.places.items) (g.S.Steps.left c.next_alone.new.self) c.loop-of.machine
-    (ready_after (g.P.Parts.setup c.args.parts.now) (g.P.Parts.layout c.args.parts.now) (g.P.Parts.tables c.args.parts.now) (g.S.Steps.left c.args.steps.now) c.loop-of.invariant.done.0 (g.S.Steps.left c.loop-of.steps) c.args.machine.now c.loop-of.machine c.requires.ready c.loop-of.invariant.done.1 c.loop-of.invariant.done.2)
+    subst (λ xs. ComeReady (setup_in c.args.program.now) (layout_in c.args.program.now) (tables_in c.args.program.now) (alone c.in-Some.of.item c.in-Some.of.rank xs) c.loop-of.machine) (sym c.deref.ensures.value)
+    (ready_front (setup_in c.args.program.now) (layout_in c.args.program.now) (tables_in c.args.program.now) (g.S.Steps.left c.loop-of.steps) (alone c.in-Some.of.item c.in-Some.of.rank c.next_alone.new.places.items) (g.S.Steps.left c.next_alone.new.self) c.loop-of.machine
+    (ready_after (setup_in c.args.program.now) (layout_in c.args.program.now) (tables_in c.args.program.now) (g.S.Steps.left c.args.steps.now) c.loop-of.invariant.done.0 (g.S.Steps.left c.loop-of.steps) c.args.machine.now c.loop-of.machine c.requires.ready c.loop-of.invariant.done.1 c.loop-of.invariant.done.2)
     c.in-Some.ensures.some)
 
 pub loop-of-preserved : goal.loop-of-preserved
@@ -28,8 +29,8 @@ loop-of-preserved g c = record {
   done = (
     c.loop-of.invariant.done.0 ++ (alone c.in-Some.of.item c.in-Some.of.rank c.next_alone.new.places.items),
     c.loop-of.invariant.done.1 ∙ (ap (λ z. c.loop-of.invariant.done.0 ++ z) c.in-Some.ensures.some ∙ sym (append_assoc c.loop-of.invariant.done.0 (alone c.in-Some.of.item c.in-Some.of.rank c.next_alone.new.places.items) (g.S.Steps.left c.next_alone.new.self))),
-    done_more (g.P.Parts.setup c.args.parts.now) (g.P.Parts.layout c.args.parts.now) (g.P.Parts.tables c.args.parts.now) c.loop-of.invariant.done.0 (alone c.in-Some.of.item c.in-Some.of.rank c.next_alone.new.places.items) c.args.machine.now c.loop-of.machine c.run_places.new.machine c.loop-of.invariant.done.2
-        (subst (λ xs. Done (g.P.Parts.setup c.args.parts.now) (g.P.Parts.layout c.args.parts.now) (g.P.Parts.tables c.args.parts.now) (alone c.in-Some.of.item c.in-Some.of.rank xs) c.loop-of.machine c.run_places.new.machine) c.deref.ensures.value c.run_places.ensures.done),
+    done_more (setup_in c.args.program.now) (layout_in c.args.program.now) (tables_in c.args.program.now) c.loop-of.invariant.done.0 (alone c.in-Some.of.item c.in-Some.of.rank c.next_alone.new.places.items) c.args.machine.now c.loop-of.machine c.run_places.new.machine c.loop-of.invariant.done.2
+        (subst (λ xs. Done (setup_in c.args.program.now) (layout_in c.args.program.now) (tables_in c.args.program.now) (alone c.in-Some.of.item c.in-Some.of.rank xs) c.loop-of.machine c.run_places.new.machine) c.deref.ensures.value c.run_places.ensures.done),
   );
   space = record {
     step_fits = c.run_places.ensures.space;

@@ -5,25 +5,26 @@ use Rattle.kernel_types.specs.declared.faults.KernelFault.{KernelFault}
 use Rattle.step_orders.specs.Alone.{alone}
 use Rattle.rank_state.specs.Machine.{State}
 use Rattle.rank_exec.specs.Driving.{Done}
-use Rattle.rank_machine.specs.AloneRuns.{Reaches, share_of}
+use Rattle.rank_program.specs.AloneRuns.{Reaches, share_of}
 use Rattle.rank_exec.proofs.AloneRuns.{all_begin, runs_done}
+use Rattle.rank_program.specs.Sound.{setup_in, layout_in, tables_in}
 use Rattle.rank_exec.proofs.alone.run_places.Goals as goal
 
 pub in_place-requires-clause-steps : goal.in_place-requires-clause-steps
-in_place-requires-clause-steps g c =
-    all_begin (g.P.Parts.setup c.args.parts.now) (g.P.Parts.layout c.args.parts.now) (g.P.Parts.tables c.args.parts.now) c.args.item c.args.rank
-    (c.in_place_shows.ensures (g.P.Parts.setup c.args.parts.now) (g.P.Parts.layout c.args.parts.now) (g.P.Parts.tables c.args.parts.now) (g.met.P.Parts.indexed c.args.parts.now c.requires.sound) (g.met.P.Parts.fits c.args.parts.now c.requires.sound) c.args.item c.args.rank)
-    (g.met.P.Parts.windowed c.args.parts.now c.requires.sound c.args.item c.args.rank) c.args.places.now c.args.machine.now c.requires.ready
+in_place-requires-clause-steps c =
+    all_begin (setup_in c.args.program.now) (layout_in c.args.program.now) (tables_in c.args.program.now) c.args.item c.args.rank
+    (c.in_place_shows.ensures (setup_in c.args.program.now) (layout_in c.args.program.now) (tables_in c.args.program.now) c.requires.sound.indexed c.requires.sound.layout c.args.item c.args.rank)
+    (c.requires.sound.windowed c.args.item c.args.rank) c.args.places.now c.args.machine.now c.requires.ready
 
 pub returns-clause-done : goal.returns-clause-done
-returns-clause-done g c =
-    let p = g.P.Parts.setup c.args.parts.now in
-    let l = g.P.Parts.layout c.args.parts.now in
-    let t = g.P.Parts.tables c.args.parts.now in
+returns-clause-done c =
+    let p = setup_in c.args.program.now in
+    let l = layout_in c.args.program.now in
+    let t = tables_in c.args.program.now in
     let ran = c.in_place.ensures.runs in
-    let law = c.in_place_shows.ensures p l t (g.met.P.Parts.indexed c.args.parts.now c.requires.sound) (g.met.P.Parts.fits c.args.parts.now c.requires.sound) c.args.item c.args.rank in
+    let law = c.in_place_shows.ensures p l t c.requires.sound.indexed c.requires.sound.layout c.args.item c.args.rank in
     let some : 0 < length c.args.places.now = (let not_zero = eqb-false (length c.args.places.now) 0 (sym c.if-is_empty.ensures) in omega (arith, not_zero)) in
-    let rank = (all_begin p l t c.args.item c.args.rank law (g.met.P.Parts.windowed c.args.parts.now c.requires.sound c.args.item c.args.rank) c.args.places.now c.args.machine.now c.requires.ready 0 some).2 in
+    let rank = (all_begin p l t c.args.item c.args.rank law (c.requires.sound.windowed c.args.item c.args.rank) c.args.places.now c.args.machine.now c.requires.ready 0 some).2 in
     let sized = c.requires.shows.1.sized in
     let here : c.args.rank < length c.args.machine.now.memories = subst (λ n. c.args.rank < n) (sym sized.ranks) rank in
     let there : c.args.rank < length c.args.machine.now.partials = subst (λ n. c.args.rank < n) (sym sized.partials) rank in

@@ -6,24 +6,25 @@ use Rattle.schedule_steps.specs.Peaks.{open_step, mail_step, count_after, greate
 use Rattle.flat_machine.specs.Layout.{by_place, message_cells}
 use Rattle.flat_machine.specs.Flat.{Flat, flat_step, flat_from}
 use Rattle.rank_state.specs.Groups.{begins}
-use Rattle.rank_machine.specs.Stops.{stop_of, stop_in}
+use Rattle.rank_memory.specs.Stops.{stop_of, stop_in}
 use Rattle.rank_exec.specs.Driving.{Ready, After, Reached, to_come, takes, shuts}
 use Rattle.rank_exec.proofs.Driving.{reached_none, reached_at, reached_more, reached_step, front_taken, count_append, count_below, at_stop}
 use Rattle.rank_exec.proofs.Grouping.{opened_by}
+use Rattle.rank_program.specs.Sound.{setup_in, layout_in, tables_in}
 use Rattle.rank_exec.proofs.drive.run.Goals as goal
 
 pub loop-next-init : goal.loop-next-init
 loop-next-init g c = record {
-  reached = reached_none (g.P.Parts.setup c.args.parts.now) (g.P.Parts.layout c.args.parts.now) (g.P.Parts.tables c.args.parts.now) (g.S.Steps.left c.args.steps.now) (to_come c.next_of-next.result (g.S.Steps.left c.next_of-next.new.steps)) c.args.machine.now c.next_of-next.ensures.next;
+  reached = reached_none (setup_in c.args.program.now) (layout_in c.args.program.now) (tables_in c.args.program.now) (g.S.Steps.left c.args.steps.now) (to_come c.next_of-next.result (g.S.Steps.left c.next_of-next.new.steps)) c.args.machine.now c.next_of-next.ensures.next;
   space = c.requires.space;
   over = c.next_of-next.ensures.over;
 }
 
 pub run_begins-next-requires-clause-ready : goal.run_begins-next-requires-clause-ready
 run_begins-next-requires-clause-ready g c κs within done k b places rest e at d =
-    let q = reached_more (g.P.Parts.setup c.args.parts.now) (g.P.Parts.layout c.args.parts.now) (g.P.Parts.tables c.args.parts.now) (g.S.Steps.left c.args.steps.now) (Begin c.in-Begin.item c.in-Begin.rank c.in-Begin.place ∷ g.S.Steps.left c.loop-next.steps) (begins k b places ++ rest) done c.args.machine.now c.loop-next.machine at r e d in
+    let q = reached_more (setup_in c.args.program.now) (layout_in c.args.program.now) (tables_in c.args.program.now) (g.S.Steps.left c.args.steps.now) (Begin c.in-Begin.item c.in-Begin.rank c.in-Begin.place ∷ g.S.Steps.left c.loop-next.steps) (begins k b places ++ rest) done c.args.machine.now c.loop-next.machine at r e d in
     let split : g.S.Steps.left c.args.steps.now ≡ q.front ++ (begins k b places ++ rest) = q.split in
-    let ready = c.steps_are_ready.ensures.begin (g.P.Parts.setup c.args.parts.now) (g.P.Parts.layout c.args.parts.now) (g.P.Parts.tables c.args.parts.now) (g.S.Steps.left c.args.steps.now) c.requires.accepted c.requires.starts.0 c.requires.starts.1 q.front rest k b places split at (q.shows c.requires.starts.0 c.requires.starts.1 c.requires.starts.2) in
+    let ready = c.steps_are_ready.ensures.begin (setup_in c.args.program.now) (layout_in c.args.program.now) (tables_in c.args.program.now) (g.S.Steps.left c.args.steps.now) c.requires.accepted c.requires.starts.0 c.requires.starts.1 q.front rest k b places split at (q.shows c.requires.starts.0 c.requires.starts.1 c.requires.starts.2) in
     let below : count_after open_step 0 (q.front ++ begins k b places) ≤ greatest open_step 0 (g.S.Steps.left c.args.steps.now) =
     subst (λ z. count_after open_step 0 (q.front ++ begins k b places) ≤ greatest open_step 0 z) (append_assoc q.front (begins k b places) rest ∙ sym split)
     (count_below open_step 0 (q.front ++ begins k b places) rest) in
@@ -33,99 +34,99 @@ run_begins-next-requires-clause-ready g c κs within done k b places rest e at d
     let room : length places ≤ at.frames.left = omega (arith, below, count, opened, frames, c.requires.peak.opened) in
     (ready.0, ready.1, ready.2, room)
   where
-    r : Reached (g.P.Parts.setup c.args.parts.now) (g.P.Parts.layout c.args.parts.now) (g.P.Parts.tables c.args.parts.now) (g.S.Steps.left c.args.steps.now) (Begin c.in-Begin.item c.in-Begin.rank c.in-Begin.place ∷ g.S.Steps.left c.loop-next.steps) c.args.machine.now c.loop-next.machine
-    r = reached_at (g.P.Parts.setup c.args.parts.now) (g.P.Parts.layout c.args.parts.now) (g.P.Parts.tables c.args.parts.now) (g.S.Steps.left c.args.steps.now) (g.S.Steps.left c.loop-next.steps) c.args.machine.now c.loop-next.machine c.loop-next.next (Begin c.in-Begin.item c.in-Begin.rank c.in-Begin.place) (c.in-Some.is ∙ ap Some c.in-Begin.is) c.loop-next.invariant.reached
+    r : Reached (setup_in c.args.program.now) (layout_in c.args.program.now) (tables_in c.args.program.now) (g.S.Steps.left c.args.steps.now) (Begin c.in-Begin.item c.in-Begin.rank c.in-Begin.place ∷ g.S.Steps.left c.loop-next.steps) c.args.machine.now c.loop-next.machine
+    r = reached_at (setup_in c.args.program.now) (layout_in c.args.program.now) (tables_in c.args.program.now) (g.S.Steps.left c.args.steps.now) (g.S.Steps.left c.loop-next.steps) c.args.machine.now c.loop-next.machine c.loop-next.next (Begin c.in-Begin.item c.in-Begin.rank c.in-Begin.place) (c.in-Some.is ∙ ap Some c.in-Begin.is) c.loop-next.invariant.reached
 
 pub loop-next-preserved-in-Begin : goal.loop-next-preserved-in-Begin
 loop-next-preserved-in-Begin g c =
     let done = c.run_begins-next.ensures.done in
     record {
-      reached = reached_more (g.P.Parts.setup c.args.parts.now) (g.P.Parts.layout c.args.parts.now) (g.P.Parts.tables c.args.parts.now) (g.S.Steps.left c.args.steps.now) (Begin c.in-Begin.item c.in-Begin.rank c.in-Begin.place ∷ g.S.Steps.left c.loop-next.steps) (to_come c.run_begins-next.result (g.S.Steps.left c.run_begins-next.new.steps)) done.0 c.args.machine.now c.loop-next.machine c.run_begins-next.new.machine r done.1 done.3;
+      reached = reached_more (setup_in c.args.program.now) (layout_in c.args.program.now) (tables_in c.args.program.now) (g.S.Steps.left c.args.steps.now) (Begin c.in-Begin.item c.in-Begin.rank c.in-Begin.place ∷ g.S.Steps.left c.loop-next.steps) (to_come c.run_begins-next.result (g.S.Steps.left c.run_begins-next.new.steps)) done.0 c.args.machine.now c.loop-next.machine c.run_begins-next.new.machine r done.1 done.3;
       space = c.run_begins-next.ensures.space;
       over = c.run_begins-next.ensures.over;
     }
   where
-    r : Reached (g.P.Parts.setup c.args.parts.now) (g.P.Parts.layout c.args.parts.now) (g.P.Parts.tables c.args.parts.now) (g.S.Steps.left c.args.steps.now) (Begin c.in-Begin.item c.in-Begin.rank c.in-Begin.place ∷ g.S.Steps.left c.loop-next.steps) c.args.machine.now c.loop-next.machine
-    r = reached_at (g.P.Parts.setup c.args.parts.now) (g.P.Parts.layout c.args.parts.now) (g.P.Parts.tables c.args.parts.now) (g.S.Steps.left c.args.steps.now) (g.S.Steps.left c.loop-next.steps) c.args.machine.now c.loop-next.machine c.loop-next.next (Begin c.in-Begin.item c.in-Begin.rank c.in-Begin.place) (c.in-Some.is ∙ ap Some c.in-Begin.is) c.loop-next.invariant.reached
+    r : Reached (setup_in c.args.program.now) (layout_in c.args.program.now) (tables_in c.args.program.now) (g.S.Steps.left c.args.steps.now) (Begin c.in-Begin.item c.in-Begin.rank c.in-Begin.place ∷ g.S.Steps.left c.loop-next.steps) c.args.machine.now c.loop-next.machine
+    r = reached_at (setup_in c.args.program.now) (layout_in c.args.program.now) (tables_in c.args.program.now) (g.S.Steps.left c.args.steps.now) (g.S.Steps.left c.loop-next.steps) c.args.machine.now c.loop-next.machine c.loop-next.next (Begin c.in-Begin.item c.in-Begin.rank c.in-Begin.place) (c.in-Some.is ∙ ap Some c.in-Begin.is) c.loop-next.invariant.reached
 
 pub take-requires-clause-planned : goal.take-requires-clause-planned
 take-requires-clause-planned g c = c.requires.accepted.steps r.front c.in-Some.step (g.S.Steps.left c.loop-next.steps) r.split
   where
-    r : Reached (g.P.Parts.setup c.args.parts.now) (g.P.Parts.layout c.args.parts.now) (g.P.Parts.tables c.args.parts.now) (g.S.Steps.left c.args.steps.now) (c.in-Some.step ∷ g.S.Steps.left c.loop-next.steps) c.args.machine.now c.loop-next.machine
-    r = reached_at (g.P.Parts.setup c.args.parts.now) (g.P.Parts.layout c.args.parts.now) (g.P.Parts.tables c.args.parts.now) (g.S.Steps.left c.args.steps.now) (g.S.Steps.left c.loop-next.steps) c.args.machine.now c.loop-next.machine c.loop-next.next (c.in-Some.step) (c.in-Some.is) c.loop-next.invariant.reached
+    r : Reached (setup_in c.args.program.now) (layout_in c.args.program.now) (tables_in c.args.program.now) (g.S.Steps.left c.args.steps.now) (c.in-Some.step ∷ g.S.Steps.left c.loop-next.steps) c.args.machine.now c.loop-next.machine
+    r = reached_at (setup_in c.args.program.now) (layout_in c.args.program.now) (tables_in c.args.program.now) (g.S.Steps.left c.args.steps.now) (g.S.Steps.left c.loop-next.steps) c.args.machine.now c.loop-next.machine c.loop-next.next (c.in-Some.step) (c.in-Some.is) c.loop-next.invariant.reached
 
 pub take-requires-clause-shows : goal.take-requires-clause-shows
-take-requires-clause-shows g c = (flat_from (g.P.Parts.setup c.args.parts.now) (g.P.Parts.layout c.args.parts.now) r.front c.requires.starts.0, r.shows c.requires.starts.0 c.requires.starts.1 c.requires.starts.2)
+take-requires-clause-shows g c = (flat_from (setup_in c.args.program.now) (layout_in c.args.program.now) r.front c.requires.starts.0, r.shows c.requires.starts.0 c.requires.starts.1 c.requires.starts.2)
   where
-    r : Reached (g.P.Parts.setup c.args.parts.now) (g.P.Parts.layout c.args.parts.now) (g.P.Parts.tables c.args.parts.now) (g.S.Steps.left c.args.steps.now) (c.in-Some.step ∷ g.S.Steps.left c.loop-next.steps) c.args.machine.now c.loop-next.machine
-    r = reached_at (g.P.Parts.setup c.args.parts.now) (g.P.Parts.layout c.args.parts.now) (g.P.Parts.tables c.args.parts.now) (g.S.Steps.left c.args.steps.now) (g.S.Steps.left c.loop-next.steps) c.args.machine.now c.loop-next.machine c.loop-next.next (c.in-Some.step) (c.in-Some.is) c.loop-next.invariant.reached
+    r : Reached (setup_in c.args.program.now) (layout_in c.args.program.now) (tables_in c.args.program.now) (g.S.Steps.left c.args.steps.now) (c.in-Some.step ∷ g.S.Steps.left c.loop-next.steps) c.args.machine.now c.loop-next.machine
+    r = reached_at (setup_in c.args.program.now) (layout_in c.args.program.now) (tables_in c.args.program.now) (g.S.Steps.left c.args.steps.now) (g.S.Steps.left c.loop-next.steps) c.args.machine.now c.loop-next.machine c.loop-next.next (c.in-Some.step) (c.in-Some.is) c.loop-next.invariant.reached
 
 pub take-requires-clause-ready : goal.take-requires-clause-ready
 take-requires-clause-ready g c = by_step c.in-Some.step r.split
   where
-    r : Reached (g.P.Parts.setup c.args.parts.now) (g.P.Parts.layout c.args.parts.now) (g.P.Parts.tables c.args.parts.now) (g.S.Steps.left c.args.steps.now) (c.in-Some.step ∷ g.S.Steps.left c.loop-next.steps) c.args.machine.now c.loop-next.machine
-    r = reached_at (g.P.Parts.setup c.args.parts.now) (g.P.Parts.layout c.args.parts.now) (g.P.Parts.tables c.args.parts.now) (g.S.Steps.left c.args.steps.now) (g.S.Steps.left c.loop-next.steps) c.args.machine.now c.loop-next.machine c.loop-next.next (c.in-Some.step) (c.in-Some.is) c.loop-next.invariant.reached
+    r : Reached (setup_in c.args.program.now) (layout_in c.args.program.now) (tables_in c.args.program.now) (g.S.Steps.left c.args.steps.now) (c.in-Some.step ∷ g.S.Steps.left c.loop-next.steps) c.args.machine.now c.loop-next.machine
+    r = reached_at (setup_in c.args.program.now) (layout_in c.args.program.now) (tables_in c.args.program.now) (g.S.Steps.left c.args.steps.now) (g.S.Steps.left c.loop-next.steps) c.args.machine.now c.loop-next.machine c.loop-next.next (c.in-Some.step) (c.in-Some.is) c.loop-next.invariant.reached
 
-    by_step : (s : Step) → g.S.Steps.left c.args.steps.now ≡ r.front ++ (s ∷ g.S.Steps.left c.loop-next.steps) → Ready (g.P.Parts.setup c.args.parts.now) (g.P.Parts.layout c.args.parts.now) (g.P.Parts.tables c.args.parts.now) s c.loop-next.machine
+    by_step : (s : Step) → g.S.Steps.left c.args.steps.now ≡ r.front ++ (s ∷ g.S.Steps.left c.loop-next.steps) → Ready (setup_in c.args.program.now) (layout_in c.args.program.now) (tables_in c.args.program.now) s c.loop-next.machine
     by_step (Send k a b) e =
-        let room = c.peak_is_room.ensures.sends (message_cells (g.P.Parts.layout c.args.parts.now)) (g.S.Steps.left c.args.steps.now) r.front (g.S.Steps.left c.loop-next.steps) k a b e in
+        let room = c.peak_is_room.ensures.sends (message_cells (layout_in c.args.program.now)) (g.S.Steps.left c.args.steps.now) r.front (g.S.Steps.left c.loop-next.steps) k a b e in
         let mail = r.mail in
         omega (arith, room, mail, c.requires.peak.mails)
-    by_step (Recv k b a) e = c.steps_are_ready.ensures.recv (g.P.Parts.setup c.args.parts.now) (g.P.Parts.layout c.args.parts.now) (g.P.Parts.tables c.args.parts.now) (g.S.Steps.left c.args.steps.now) c.requires.accepted c.requires.starts.0 c.requires.starts.1 r.front (g.S.Steps.left c.loop-next.steps) k b a e c.loop-next.machine (r.shows c.requires.starts.0 c.requires.starts.1 c.requires.starts.2)
+    by_step (Recv k b a) e = c.steps_are_ready.ensures.recv (setup_in c.args.program.now) (layout_in c.args.program.now) (tables_in c.args.program.now) (g.S.Steps.left c.args.steps.now) c.requires.accepted c.requires.starts.0 c.requires.starts.1 r.front (g.S.Steps.left c.loop-next.steps) k b a e c.loop-next.machine (r.shows c.requires.starts.0 c.requires.starts.1 c.requires.starts.2)
     by_step (Begin k b x) e =
-        let ready = c.steps_are_ready.ensures.begin (g.P.Parts.setup c.args.parts.now) (g.P.Parts.layout c.args.parts.now) (g.P.Parts.tables c.args.parts.now) (g.S.Steps.left c.args.steps.now) c.requires.accepted c.requires.starts.0 c.requires.starts.1 r.front (g.S.Steps.left c.loop-next.steps) k b (x ∷ []) e c.loop-next.machine (r.shows c.requires.starts.0 c.requires.starts.1 c.requires.starts.2) in
+        let ready = c.steps_are_ready.ensures.begin (setup_in c.args.program.now) (layout_in c.args.program.now) (tables_in c.args.program.now) (g.S.Steps.left c.args.steps.now) c.requires.accepted c.requires.starts.0 c.requires.starts.1 r.front (g.S.Steps.left c.loop-next.steps) k b (x ∷ []) e c.loop-next.machine (r.shows c.requires.starts.0 c.requires.starts.1 c.requires.starts.2) in
         let room = c.peak_is_room.ensures.begins (g.S.Steps.left c.args.steps.now) r.front (g.S.Steps.left c.loop-next.steps) k b x e in
         let frames = r.frames in
         (ready.1.0, omega (arith, room, frames, c.requires.peak.opened))
-    by_step (End k b x) e = c.steps_are_ready.ensures.end (g.P.Parts.setup c.args.parts.now) (g.P.Parts.layout c.args.parts.now) (g.P.Parts.tables c.args.parts.now) (g.S.Steps.left c.args.steps.now) c.requires.accepted c.requires.starts.0 c.requires.starts.1 r.front (g.S.Steps.left c.loop-next.steps) k b x e c.loop-next.machine (r.shows c.requires.starts.0 c.requires.starts.1 c.requires.starts.2)
+    by_step (End k b x) e = c.steps_are_ready.ensures.end (setup_in c.args.program.now) (layout_in c.args.program.now) (tables_in c.args.program.now) (g.S.Steps.left c.args.steps.now) c.requires.accepted c.requires.starts.0 c.requires.starts.1 r.front (g.S.Steps.left c.loop-next.steps) k b x e c.loop-next.machine (r.shows c.requires.starts.0 c.requires.starts.1 c.requires.starts.2)
     by_step (Join k) e = tt
 
 pub returns-in-Some-2-clause-after : goal.returns-in-Some-2-clause-after
 returns-in-Some-2-clause-after g c f hs h =
     let at = r.shows f hs h in
-    let after : After (g.P.Parts.setup c.args.parts.now) (g.P.Parts.layout c.args.parts.now) (g.P.Parts.tables c.args.parts.now) (Some (stop_of c.in-Some-2.stop)) c.take.new.machine (flat_step (g.P.Parts.setup c.args.parts.now) (g.P.Parts.layout c.args.parts.now) c.in-Some.step (flat_from (g.P.Parts.setup c.args.parts.now) (g.P.Parts.layout c.args.parts.now) r.front f)) =
-    subst (λ o. After (g.P.Parts.setup c.args.parts.now) (g.P.Parts.layout c.args.parts.now) (g.P.Parts.tables c.args.parts.now) (stop_in o) c.take.new.machine (flat_step (g.P.Parts.setup c.args.parts.now) (g.P.Parts.layout c.args.parts.now) c.in-Some.step (flat_from (g.P.Parts.setup c.args.parts.now) (g.P.Parts.layout c.args.parts.now) r.front f))) c.in-Some-2.is (c.in_ok-stop.ensures.after (flat_from (g.P.Parts.setup c.args.parts.now) (g.P.Parts.layout c.args.parts.now) r.front f) at) in
-    let whole = at_stop (g.P.Parts.setup c.args.parts.now) (g.P.Parts.layout c.args.parts.now) (g.S.Steps.left c.args.steps.now) r.front (g.S.Steps.left c.loop-next.steps) c.in-Some.step f r.split at.stop (stop_of c.in-Some-2.stop) after.0 in
+    let after : After (setup_in c.args.program.now) (layout_in c.args.program.now) (tables_in c.args.program.now) (Some (stop_of c.in-Some-2.stop)) c.take.new.machine (flat_step (setup_in c.args.program.now) (layout_in c.args.program.now) c.in-Some.step (flat_from (setup_in c.args.program.now) (layout_in c.args.program.now) r.front f)) =
+    subst (λ o. After (setup_in c.args.program.now) (layout_in c.args.program.now) (tables_in c.args.program.now) (stop_in o) c.take.new.machine (flat_step (setup_in c.args.program.now) (layout_in c.args.program.now) c.in-Some.step (flat_from (setup_in c.args.program.now) (layout_in c.args.program.now) r.front f))) c.in-Some-2.is (c.in_ok-stop.ensures.after (flat_from (setup_in c.args.program.now) (layout_in c.args.program.now) r.front f) at) in
+    let whole = at_stop (setup_in c.args.program.now) (layout_in c.args.program.now) (g.S.Steps.left c.args.steps.now) r.front (g.S.Steps.left c.loop-next.steps) c.in-Some.step f r.split at.stop (stop_of c.in-Some-2.stop) after.0 in
     (ap (λ (z : Flat KernelFault). z.stop) whole ∙ after.0, ap (λ (z : Flat KernelFault). z.output) whole ∙ after.1)
   where
-    r : Reached (g.P.Parts.setup c.args.parts.now) (g.P.Parts.layout c.args.parts.now) (g.P.Parts.tables c.args.parts.now) (g.S.Steps.left c.args.steps.now) (c.in-Some.step ∷ g.S.Steps.left c.loop-next.steps) c.args.machine.now c.loop-next.machine
-    r = reached_at (g.P.Parts.setup c.args.parts.now) (g.P.Parts.layout c.args.parts.now) (g.P.Parts.tables c.args.parts.now) (g.S.Steps.left c.args.steps.now) (g.S.Steps.left c.loop-next.steps) c.args.machine.now c.loop-next.machine c.loop-next.next (c.in-Some.step) (c.in-Some.is) c.loop-next.invariant.reached
+    r : Reached (setup_in c.args.program.now) (layout_in c.args.program.now) (tables_in c.args.program.now) (g.S.Steps.left c.args.steps.now) (c.in-Some.step ∷ g.S.Steps.left c.loop-next.steps) c.args.machine.now c.loop-next.machine
+    r = reached_at (setup_in c.args.program.now) (layout_in c.args.program.now) (tables_in c.args.program.now) (g.S.Steps.left c.args.steps.now) (g.S.Steps.left c.loop-next.steps) c.args.machine.now c.loop-next.machine c.loop-next.next (c.in-Some.step) (c.in-Some.is) c.loop-next.invariant.reached
 
 pub returns-in-Some-2-clause-suffix : goal.returns-in-Some-2-clause-suffix
-returns-in-Some-2-clause-suffix g c = front_taken (g.P.Parts.setup c.args.parts.now) (g.P.Parts.layout c.args.parts.now) (g.P.Parts.tables c.args.parts.now) (g.S.Steps.left c.args.steps.now) (g.S.Steps.left c.loop-next.steps) c.in-Some.step c.args.machine.now c.loop-next.machine r
+returns-in-Some-2-clause-suffix g c = front_taken (setup_in c.args.program.now) (layout_in c.args.program.now) (tables_in c.args.program.now) (g.S.Steps.left c.args.steps.now) (g.S.Steps.left c.loop-next.steps) c.in-Some.step c.args.machine.now c.loop-next.machine r
   where
-    r : Reached (g.P.Parts.setup c.args.parts.now) (g.P.Parts.layout c.args.parts.now) (g.P.Parts.tables c.args.parts.now) (g.S.Steps.left c.args.steps.now) (c.in-Some.step ∷ g.S.Steps.left c.loop-next.steps) c.args.machine.now c.loop-next.machine
-    r = reached_at (g.P.Parts.setup c.args.parts.now) (g.P.Parts.layout c.args.parts.now) (g.P.Parts.tables c.args.parts.now) (g.S.Steps.left c.args.steps.now) (g.S.Steps.left c.loop-next.steps) c.args.machine.now c.loop-next.machine c.loop-next.next (c.in-Some.step) (c.in-Some.is) c.loop-next.invariant.reached
+    r : Reached (setup_in c.args.program.now) (layout_in c.args.program.now) (tables_in c.args.program.now) (g.S.Steps.left c.args.steps.now) (c.in-Some.step ∷ g.S.Steps.left c.loop-next.steps) c.args.machine.now c.loop-next.machine
+    r = reached_at (setup_in c.args.program.now) (layout_in c.args.program.now) (tables_in c.args.program.now) (g.S.Steps.left c.args.steps.now) (g.S.Steps.left c.loop-next.steps) c.args.machine.now c.loop-next.machine c.loop-next.next (c.in-Some.step) (c.in-Some.is) c.loop-next.invariant.reached
 
 pub returns-in_err-stop-clause-suffix : goal.returns-in_err-stop-clause-suffix
-returns-in_err-stop-clause-suffix g c = front_taken (g.P.Parts.setup c.args.parts.now) (g.P.Parts.layout c.args.parts.now) (g.P.Parts.tables c.args.parts.now) (g.S.Steps.left c.args.steps.now) (g.S.Steps.left c.loop-next.steps) c.in-Some.step c.args.machine.now c.loop-next.machine r
+returns-in_err-stop-clause-suffix g c = front_taken (setup_in c.args.program.now) (layout_in c.args.program.now) (tables_in c.args.program.now) (g.S.Steps.left c.args.steps.now) (g.S.Steps.left c.loop-next.steps) c.in-Some.step c.args.machine.now c.loop-next.machine r
   where
-    r : Reached (g.P.Parts.setup c.args.parts.now) (g.P.Parts.layout c.args.parts.now) (g.P.Parts.tables c.args.parts.now) (g.S.Steps.left c.args.steps.now) (c.in-Some.step ∷ g.S.Steps.left c.loop-next.steps) c.args.machine.now c.loop-next.machine
-    r = reached_at (g.P.Parts.setup c.args.parts.now) (g.P.Parts.layout c.args.parts.now) (g.P.Parts.tables c.args.parts.now) (g.S.Steps.left c.args.steps.now) (g.S.Steps.left c.loop-next.steps) c.args.machine.now c.loop-next.machine c.loop-next.next (c.in-Some.step) (c.in-Some.is) c.loop-next.invariant.reached
+    r : Reached (setup_in c.args.program.now) (layout_in c.args.program.now) (tables_in c.args.program.now) (g.S.Steps.left c.args.steps.now) (c.in-Some.step ∷ g.S.Steps.left c.loop-next.steps) c.args.machine.now c.loop-next.machine
+    r = reached_at (setup_in c.args.program.now) (layout_in c.args.program.now) (tables_in c.args.program.now) (g.S.Steps.left c.args.steps.now) (g.S.Steps.left c.loop-next.steps) c.args.machine.now c.loop-next.machine c.loop-next.next (c.in-Some.step) (c.in-Some.is) c.loop-next.invariant.reached
 
 pub loop-next-preserved : goal.loop-next-preserved
 loop-next-preserved g c = record {
-  reached = reached_step (g.P.Parts.setup c.args.parts.now) (g.P.Parts.layout c.args.parts.now) (g.P.Parts.tables c.args.parts.now) (g.S.Steps.left c.args.steps.now) (g.S.Steps.left c.loop-next.steps) (to_come c.next_of-next-in_default-step.result (g.S.Steps.left c.next_of-next-in_default-step.new.steps)) c.in-Some.step c.args.machine.now c.loop-next.machine c.take.new.machine r
+  reached = reached_step (setup_in c.args.program.now) (layout_in c.args.program.now) (tables_in c.args.program.now) (g.S.Steps.left c.args.steps.now) (g.S.Steps.left c.loop-next.steps) (to_come c.next_of-next-in_default-step.result (g.S.Steps.left c.next_of-next-in_default-step.new.steps)) c.in-Some.step c.args.machine.now c.loop-next.machine c.take.new.machine r
       c.next_of-next-in_default-step.ensures.next
-      (λ f h. subst (λ o. After (g.P.Parts.setup c.args.parts.now) (g.P.Parts.layout c.args.parts.now) (g.P.Parts.tables c.args.parts.now) (stop_in o) c.take.new.machine (flat_step (g.P.Parts.setup c.args.parts.now) (g.P.Parts.layout c.args.parts.now) c.in-Some.step f)) c.in_default-2.is (c.in_ok-stop.ensures.after f h))
+      (λ f h. subst (λ o. After (setup_in c.args.program.now) (layout_in c.args.program.now) (tables_in c.args.program.now) (stop_in o) c.take.new.machine (flat_step (setup_in c.args.program.now) (layout_in c.args.program.now) c.in-Some.step f)) c.in_default-2.is (c.in_ok-stop.ensures.after f h))
       c.take.ensures.mail c.take.ensures.frames (by_recv c.in-Some.step r.split) (by_end c.in-Some.step r.split);
   space = record { step_fits = c.take.ensures.space; places_fit = c.loop-next.invariant.space.places_fit; group_fits = c.loop-next.invariant.space.group_fits };
   over = c.next_of-next-in_default-step.ensures.over;
 }
   where
-    r : Reached (g.P.Parts.setup c.args.parts.now) (g.P.Parts.layout c.args.parts.now) (g.P.Parts.tables c.args.parts.now) (g.S.Steps.left c.args.steps.now) (c.in-Some.step ∷ g.S.Steps.left c.loop-next.steps) c.args.machine.now c.loop-next.machine
-    r = reached_at (g.P.Parts.setup c.args.parts.now) (g.P.Parts.layout c.args.parts.now) (g.P.Parts.tables c.args.parts.now) (g.S.Steps.left c.args.steps.now) (g.S.Steps.left c.loop-next.steps) c.args.machine.now c.loop-next.machine c.loop-next.next (c.in-Some.step) (c.in-Some.is) c.loop-next.invariant.reached
+    r : Reached (setup_in c.args.program.now) (layout_in c.args.program.now) (tables_in c.args.program.now) (g.S.Steps.left c.args.steps.now) (c.in-Some.step ∷ g.S.Steps.left c.loop-next.steps) c.args.machine.now c.loop-next.machine
+    r = reached_at (setup_in c.args.program.now) (layout_in c.args.program.now) (tables_in c.args.program.now) (g.S.Steps.left c.args.steps.now) (g.S.Steps.left c.loop-next.steps) c.args.machine.now c.loop-next.machine c.loop-next.next (c.in-Some.step) (c.in-Some.is) c.loop-next.invariant.reached
 
     by_end : (s : Step) → g.S.Steps.left c.args.steps.now ≡ r.front ++ (s ∷ g.S.Steps.left c.loop-next.steps) → shuts s ≤ count_after open_step 0 r.front
     by_end (Send k a b) e = omega arith
     by_end (Recv k a b) e = omega arith
     by_end (Begin k a b) e = omega arith
-    by_end (End k a b) e = c.peak_is_room.ensures.ends (by_place (g.P.Parts.setup c.args.parts.now) (g.P.Parts.layout c.args.parts.now)) (g.S.Steps.left c.args.steps.now) c.requires.accepted r.front (g.S.Steps.left c.loop-next.steps) k a b e
+    by_end (End k a b) e = c.peak_is_room.ensures.ends (by_place (setup_in c.args.program.now) (layout_in c.args.program.now)) (g.S.Steps.left c.args.steps.now) c.requires.accepted r.front (g.S.Steps.left c.loop-next.steps) k a b e
     by_end (Join k) e = omega arith
 
-    by_recv : (s : Step) → g.S.Steps.left c.args.steps.now ≡ r.front ++ (s ∷ g.S.Steps.left c.loop-next.steps) → takes (g.P.Parts.layout c.args.parts.now) s ≤ count_after (mail_step (message_cells (g.P.Parts.layout c.args.parts.now))) 0 r.front
+    by_recv : (s : Step) → g.S.Steps.left c.args.steps.now ≡ r.front ++ (s ∷ g.S.Steps.left c.loop-next.steps) → takes (layout_in c.args.program.now) s ≤ count_after (mail_step (message_cells (layout_in c.args.program.now))) 0 r.front
     by_recv (Send k a b) e = omega arith
-    by_recv (Recv k a b) e = c.peak_is_room.ensures.receives (by_place (g.P.Parts.setup c.args.parts.now) (g.P.Parts.layout c.args.parts.now)) (g.S.Steps.left c.args.steps.now) c.requires.accepted (message_cells (g.P.Parts.layout c.args.parts.now)) r.front (g.S.Steps.left c.loop-next.steps) k a b e
+    by_recv (Recv k a b) e = c.peak_is_room.ensures.receives (by_place (setup_in c.args.program.now) (layout_in c.args.program.now)) (g.S.Steps.left c.args.steps.now) c.requires.accepted (message_cells (layout_in c.args.program.now)) r.front (g.S.Steps.left c.loop-next.steps) k a b e
     by_recv (Begin k a b) e = omega arith
     by_recv (End k a b) e = omega arith
     by_recv (Join k) e = omega arith

@@ -1,6 +1,6 @@
 use Rattle.std.proofs.Common.{◌≡◌, ◌<◌, ◌≤◌, ◌+◌, ◌*◌, length, take, sym, subst, arith}
 use Rattle.std.proofs.lemmas.Grind.{common_steps}
-use Rattle.kernel_jobs.specs.Jobs.{RanIn, job_core, part, task_at}
+use Rattle.rank_program.specs.Jobs.{RanIn, job_core, part, task_at}
 use Rattle.rank_exec.proofs.Tasking.{part_ends}
 use Rattle.rank_exec.proofs.group.run_all.Goals as goal
 

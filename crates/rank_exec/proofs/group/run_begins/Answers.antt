@@ -5,23 +5,25 @@ use Rattle.flat_machine.specs.Flat.{flat_step, flat_from}
 use Rattle.rank_state.specs.Shows.{Shows}
 use Rattle.rank_state.specs.Groups.{begins, Planned, AllShut, Distinct}
 use Rattle.rank_exec.specs.Driving.{to_come}
+use Rattle.rank_exec.specs.RunRooms.{most_begins}
 use Rattle.rank_exec.proofs.Driving.{done_none, done_more, done_pair, ready_after}
 use Rattle.rank_exec.proofs.Grouping.{after_one, begins_length, opened_by, no_mail_by}
+use Rattle.rank_program.specs.Sound.{setup_in, layout_in, tables_in}
 use Rattle.rank_exec.proofs.group.run_begins.Goals as goal
 
 pub in_place-requires-clause-planned : goal.in_place-requires-clause-planned
-in_place-requires-clause-planned g c = (c.requires.ready [] c.args.item c.args.rank (c.args.place ∷ []) (g.S.Steps.left c.args.steps.now) refl c.args.machine.now (done_none (g.P.Parts.setup c.args.parts.now) (g.P.Parts.layout c.args.parts.now) (g.P.Parts.tables c.args.parts.now) c.args.machine.now)).0.0
+in_place-requires-clause-planned g c = (c.requires.ready [] c.args.item c.args.rank (c.args.place ∷ []) (g.S.Steps.left c.args.steps.now) refl c.args.machine.now (done_none (setup_in c.args.program.now) (layout_in c.args.program.now) (tables_in c.args.program.now) c.args.machine.now)).0.0
 
 pub in_place-requires-clause-shut : goal.in_place-requires-clause-shut
-in_place-requires-clause-shut g c = (c.requires.ready [] c.args.item c.args.rank (c.args.place ∷ []) (g.S.Steps.left c.args.steps.now) refl c.args.machine.now (done_none (g.P.Parts.setup c.args.parts.now) (g.P.Parts.layout c.args.parts.now) (g.P.Parts.tables c.args.parts.now) c.args.machine.now)).1.0
+in_place-requires-clause-shut g c = (c.requires.ready [] c.args.item c.args.rank (c.args.place ∷ []) (g.S.Steps.left c.args.steps.now) refl c.args.machine.now (done_none (setup_in c.args.program.now) (layout_in c.args.program.now) (tables_in c.args.program.now) c.args.machine.now)).1.0
 
 pub in_place-requires-clause-room : goal.in_place-requires-clause-room
 in_place-requires-clause-room g c =
-    let left : 1 ≤ c.args.machine.now.frames.left = (c.requires.ready [] c.args.item c.args.rank (c.args.place ∷ []) (g.S.Steps.left c.args.steps.now) refl c.args.machine.now (done_none (g.P.Parts.setup c.args.parts.now) (g.P.Parts.layout c.args.parts.now) (g.P.Parts.tables c.args.parts.now) c.args.machine.now)).3 in
+    let left : 1 ≤ c.args.machine.now.frames.left = (c.requires.ready [] c.args.item c.args.rank (c.args.place ∷ []) (g.S.Steps.left c.args.steps.now) refl c.args.machine.now (done_none (setup_in c.args.program.now) (layout_in c.args.program.now) (tables_in c.args.program.now) c.args.machine.now)).3 in
     omega (arith, left)
 
 pub run_alone-requires-clause-shows : goal.run_alone-requires-clause-shows
-run_alone-requires-clause-shows g c = (flat_step (g.P.Parts.setup c.args.parts.now) (g.P.Parts.layout c.args.parts.now) (End c.args.item c.args.rank c.args.place) (flat_step (g.P.Parts.setup c.args.parts.now) (g.P.Parts.layout c.args.parts.now) (Begin c.args.item c.args.rank c.args.place) c.requires.shows.0), c.in_place.ensures.shows c.requires.shows.0 c.requires.shows.1)
+run_alone-requires-clause-shows g c = (flat_step (setup_in c.args.program.now) (layout_in c.args.program.now) (End c.args.item c.args.rank c.args.place) (flat_step (setup_in c.args.program.now) (layout_in c.args.program.now) (Begin c.args.item c.args.rank c.args.place) c.requires.shows.0), c.in_place.ensures.shows c.requires.shows.0 c.requires.shows.1)
 
 pub run_alone-requires-clause-ready : goal.run_alone-requires-clause-ready
 run_alone-requires-clause-ready g c =
@@ -31,8 +33,8 @@ run_alone-requires-clause-ready g c =
     let n : length c.collect-next.new.places.items ≡ 1 = omega (arith, c.if-len-eq1.true, c.len.ensures) in
     let rest : to_come c.collect-next.result (g.S.Steps.left c.collect-next.new.steps) ≡ g.S.Steps.left c.args.steps.now = after_one c.args.item c.args.rank c.args.place c.collect-next.new.places.items (to_come c.collect-next.result (g.S.Steps.left c.collect-next.new.steps)) (g.S.Steps.left c.args.steps.now) n all in
     let here : g.S.Steps.left c.args.steps.now ≡ End c.args.item c.args.rank c.args.place ∷ g.S.Steps.left c.collect-next.new.steps = sym rest ∙ ap (λ s. to_come s (g.S.Steps.left c.collect-next.new.steps)) (c.is_end.ensures c.if-is_end.true) in
-    let pair = done_pair (g.P.Parts.setup c.args.parts.now) (g.P.Parts.layout c.args.parts.now) (g.P.Parts.tables c.args.parts.now) c.args.item c.args.rank c.args.place c.args.machine.now c.in_place.new.machine c.in_place.ensures.shows c.in_place.ensures.mail c.in_place.ensures.frames in
-    ready_after (g.P.Parts.setup c.args.parts.now) (g.P.Parts.layout c.args.parts.now) (g.P.Parts.tables c.args.parts.now) (Begin c.args.item c.args.rank c.args.place ∷ g.S.Steps.left c.args.steps.now) (Begin c.args.item c.args.rank c.args.place ∷ End c.args.item c.args.rank c.args.place ∷ []) (g.S.Steps.left c.collect-next.new.steps) c.args.machine.now c.in_place.new.machine c.requires.ready (ap (λ z. Begin c.args.item c.args.rank c.args.place ∷ z) here) pair
+    let pair = done_pair (setup_in c.args.program.now) (layout_in c.args.program.now) (tables_in c.args.program.now) c.args.item c.args.rank c.args.place c.args.machine.now c.in_place.new.machine c.in_place.ensures.shows c.in_place.ensures.mail c.in_place.ensures.frames in
+    ready_after (setup_in c.args.program.now) (layout_in c.args.program.now) (tables_in c.args.program.now) (Begin c.args.item c.args.rank c.args.place ∷ g.S.Steps.left c.args.steps.now) (Begin c.args.item c.args.rank c.args.place ∷ End c.args.item c.args.rank c.args.place ∷ []) (g.S.Steps.left c.collect-next.new.steps) c.args.machine.now c.in_place.new.machine c.requires.ready (ap (λ z. Begin c.args.item c.args.rank c.args.place ∷ z) here) pair
 
 pub returns-then-is_end-clause-done : goal.returns-then-is_end-clause-done
 returns-then-is_end-clause-done g c =
@@ -42,14 +44,14 @@ returns-then-is_end-clause-done g c =
     let n : length c.collect-next.new.places.items ≡ 1 = omega (arith, c.if-len-eq1.true, c.len.ensures) in
     let rest : to_come c.collect-next.result (g.S.Steps.left c.collect-next.new.steps) ≡ g.S.Steps.left c.args.steps.now = after_one c.args.item c.args.rank c.args.place c.collect-next.new.places.items (to_come c.collect-next.result (g.S.Steps.left c.collect-next.new.steps)) (g.S.Steps.left c.args.steps.now) n all in
     let here : g.S.Steps.left c.args.steps.now ≡ End c.args.item c.args.rank c.args.place ∷ g.S.Steps.left c.collect-next.new.steps = sym rest ∙ ap (λ s. to_come s (g.S.Steps.left c.collect-next.new.steps)) (c.is_end.ensures c.if-is_end.true) in
-    let pair = done_pair (g.P.Parts.setup c.args.parts.now) (g.P.Parts.layout c.args.parts.now) (g.P.Parts.tables c.args.parts.now) c.args.item c.args.rank c.args.place c.args.machine.now c.in_place.new.machine c.in_place.ensures.shows c.in_place.ensures.mail c.in_place.ensures.frames in
+    let pair = done_pair (setup_in c.args.program.now) (layout_in c.args.program.now) (tables_in c.args.program.now) c.args.item c.args.rank c.args.place c.args.machine.now c.in_place.new.machine c.in_place.ensures.shows c.in_place.ensures.mail c.in_place.ensures.frames in
     let more = c.run_alone.ensures.done in
     let next : g.S.Steps.left c.collect-next.new.steps ≡ more.0 ++ to_come c.next_of.result (g.S.Steps.left c.next_of.new.steps) = more.1 ∙ ap (λ z. more.0 ++ z) c.next_of.ensures.next in
     let some : 0 < suc (suc (length more.0)) = omega arith in (
       Begin c.args.item c.args.rank c.args.place ∷ End c.args.item c.args.rank c.args.place ∷ more.0,
       ap (λ z. Begin c.args.item c.args.rank c.args.place ∷ z) (here ∙ ap (λ z. End c.args.item c.args.rank c.args.place ∷ z) next),
       some,
-      done_more (g.P.Parts.setup c.args.parts.now) (g.P.Parts.layout c.args.parts.now) (g.P.Parts.tables c.args.parts.now) (Begin c.args.item c.args.rank c.args.place ∷ End c.args.item c.args.rank c.args.place ∷ []) more.0 c.args.machine.now c.in_place.new.machine c.run_alone.new.machine pair more.2,
+      done_more (setup_in c.args.program.now) (layout_in c.args.program.now) (tables_in c.args.program.now) (Begin c.args.item c.args.rank c.args.place ∷ End c.args.item c.args.rank c.args.place ∷ []) more.0 c.args.machine.now c.in_place.new.machine c.run_alone.new.machine pair more.2,
     )
 
 pub begin_group-requires-clause-planned : goal.begin_group-requires-clause-planned
@@ -57,8 +59,8 @@ begin_group-requires-clause-planned g c κs within =
     let one : c.push_reserved.new.self.items ≡ c.args.place ∷ [] = c.push_reserved.ensures.items ∙ ap (λ xs. xs ++ (c.args.place ∷ [])) c.clear.ensures.items in
     let all : begins c.args.item c.args.rank c.collect-next.new.places.items ++ to_come c.collect-next.result (g.S.Steps.left c.collect-next.new.steps) ≡ Begin c.args.item c.args.rank c.args.place ∷ g.S.Steps.left c.args.steps.now =
     c.collect-next.ensures.all ∙ ap (λ xs. begins c.args.item c.args.rank xs ++ g.S.Steps.left c.args.steps.now) one in
-    subst (λ xs. Planned (by_place (g.P.Parts.setup c.args.parts.now) (g.P.Parts.layout c.args.parts.now)) c.args.item c.args.rank xs) (sym c.deref.ensures.value)
-    (c.requires.ready [] c.args.item c.args.rank c.collect-next.new.places.items (to_come c.collect-next.result (g.S.Steps.left c.collect-next.new.steps)) (sym all) c.args.machine.now (done_none (g.P.Parts.setup c.args.parts.now) (g.P.Parts.layout c.args.parts.now) (g.P.Parts.tables c.args.parts.now) c.args.machine.now)).0
+    subst (λ xs. Planned (by_place (setup_in c.args.program.now) (layout_in c.args.program.now)) c.args.item c.args.rank xs) (sym c.deref.ensures.value)
+    (c.requires.ready [] c.args.item c.args.rank c.collect-next.new.places.items (to_come c.collect-next.result (g.S.Steps.left c.collect-next.new.steps)) (sym all) c.args.machine.now (done_none (setup_in c.args.program.now) (layout_in c.args.program.now) (tables_in c.args.program.now) c.args.machine.now)).0
 
 pub begin_group-requires-clause-shut : goal.begin_group-requires-clause-shut
 begin_group-requires-clause-shut g c κs within =
@@ -66,7 +68,7 @@ begin_group-requires-clause-shut g c κs within =
     let all : begins c.args.item c.args.rank c.collect-next.new.places.items ++ to_come c.collect-next.result (g.S.Steps.left c.collect-next.new.steps) ≡ Begin c.args.item c.args.rank c.args.place ∷ g.S.Steps.left c.args.steps.now =
     c.collect-next.ensures.all ∙ ap (λ xs. begins c.args.item c.args.rank xs ++ g.S.Steps.left c.args.steps.now) one in
     subst (λ xs. AllShut c.args.machine.now.frames.panes c.args.rank xs) (sym c.deref.ensures.value)
-    (c.requires.ready [] c.args.item c.args.rank c.collect-next.new.places.items (to_come c.collect-next.result (g.S.Steps.left c.collect-next.new.steps)) (sym all) c.args.machine.now (done_none (g.P.Parts.setup c.args.parts.now) (g.P.Parts.layout c.args.parts.now) (g.P.Parts.tables c.args.parts.now) c.args.machine.now)).1
+    (c.requires.ready [] c.args.item c.args.rank c.collect-next.new.places.items (to_come c.collect-next.result (g.S.Steps.left c.collect-next.new.steps)) (sym all) c.args.machine.now (done_none (setup_in c.args.program.now) (layout_in c.args.program.now) (tables_in c.args.program.now) c.args.machine.now)).1
 
 pub begin_group-requires-clause-distinct : goal.begin_group-requires-clause-distinct
 begin_group-requires-clause-distinct g c κs within =
@@ -74,7 +76,7 @@ begin_group-requires-clause-distinct g c κs within =
     let all : begins c.args.item c.args.rank c.collect-next.new.places.items ++ to_come c.collect-next.result (g.S.Steps.left c.collect-next.new.steps) ≡ Begin c.args.item c.args.rank c.args.place ∷ g.S.Steps.left c.args.steps.now =
     c.collect-next.ensures.all ∙ ap (λ xs. begins c.args.item c.args.rank xs ++ g.S.Steps.left c.args.steps.now) one in
     subst (λ xs. Distinct xs) (sym c.deref.ensures.value)
-    (c.requires.ready [] c.args.item c.args.rank c.collect-next.new.places.items (to_come c.collect-next.result (g.S.Steps.left c.collect-next.new.steps)) (sym all) c.args.machine.now (done_none (g.P.Parts.setup c.args.parts.now) (g.P.Parts.layout c.args.parts.now) (g.P.Parts.tables c.args.parts.now) c.args.machine.now)).2
+    (c.requires.ready [] c.args.item c.args.rank c.collect-next.new.places.items (to_come c.collect-next.result (g.S.Steps.left c.collect-next.new.steps)) (sym all) c.args.machine.now (done_none (setup_in c.args.program.now) (layout_in c.args.program.now) (tables_in c.args.program.now) c.args.machine.now)).2
 
 pub begin_group-requires-clause-room : goal.begin_group-requires-clause-room
 begin_group-requires-clause-room g c κs within =
@@ -82,7 +84,7 @@ begin_group-requires-clause-room g c κs within =
     let all : begins c.args.item c.args.rank c.collect-next.new.places.items ++ to_come c.collect-next.result (g.S.Steps.left c.collect-next.new.steps) ≡ Begin c.args.item c.args.rank c.args.place ∷ g.S.Steps.left c.args.steps.now =
     c.collect-next.ensures.all ∙ ap (λ xs. begins c.args.item c.args.rank xs ++ g.S.Steps.left c.args.steps.now) one in
     subst (λ xs. length xs ≤ c.args.machine.now.frames.left) (sym c.deref.ensures.value)
-    (c.requires.ready [] c.args.item c.args.rank c.collect-next.new.places.items (to_come c.collect-next.result (g.S.Steps.left c.collect-next.new.steps)) (sym all) c.args.machine.now (done_none (g.P.Parts.setup c.args.parts.now) (g.P.Parts.layout c.args.parts.now) (g.P.Parts.tables c.args.parts.now) c.args.machine.now)).3
+    (c.requires.ready [] c.args.item c.args.rank c.collect-next.new.places.items (to_come c.collect-next.result (g.S.Steps.left c.collect-next.new.steps)) (sym all) c.args.machine.now (done_none (setup_in c.args.program.now) (layout_in c.args.program.now) (tables_in c.args.program.now) c.args.machine.now)).3
 
 pub returns-clause-done : goal.returns-clause-done
 returns-clause-done g c =
@@ -94,8 +96,15 @@ returns-clause-done g c =
       sym all,
       some,
       record {
-        shows = λ f h. subst (λ xs. Shows (g.P.Parts.setup c.args.parts.now) (g.P.Parts.layout c.args.parts.now) (g.P.Parts.tables c.args.parts.now) c.begin_group.new.machine (flat_from (g.P.Parts.setup c.args.parts.now) (g.P.Parts.layout c.args.parts.now) (begins c.args.item c.args.rank xs) f)) c.deref.ensures.value (c.begin_group.ensures.shows f h);
-        mail = λ n. ap (λ m. c.begin_group.new.machine.mail.left + m) (no_mail_by (message_cells (g.P.Parts.layout c.args.parts.now)) c.args.item c.args.rank n c.collect-next.new.places.items) ∙ ap (λ m. m + n) c.begin_group.ensures.mail;
+        shows = λ f h. subst (λ xs. Shows (setup_in c.args.program.now) (layout_in c.args.program.now) (tables_in c.args.program.now) c.begin_group.new.machine (flat_from (setup_in c.args.program.now) (layout_in c.args.program.now) (begins c.args.item c.args.rank xs) f)) c.deref.ensures.value (c.begin_group.ensures.shows f h);
+        mail = λ n. ap (λ m. c.begin_group.new.machine.mail.left + m) (no_mail_by (message_cells (layout_in c.args.program.now)) c.args.item c.args.rank n c.collect-next.new.places.items) ∙ ap (λ m. m + n) c.begin_group.ensures.mail;
         frames = λ n. (let e = opened_by c.args.item c.args.rank n c.collect-next.new.places.items in let d = ap length c.deref.ensures.value in omega (arith, c.begin_group.ensures.frames));
       },
     )
+
+pub returns-clause-space : goal.returns-clause-space
+returns-clause-space g c = record {
+  step_fits = c.begin_group.ensures.space;
+  places_fit = omega (arith, c.collect-next.ensures.space, c.push_reserved.ensures.capacity, c.clear.ensures.capacity, c.requires.space.places_fit);
+  group_fits = c.begin_group.ensures.group most_begins c.requires.space.group_fits;
+}

@@ -1,4 +1,5 @@
 use Rattle.std.proofs.Common.{◌≡◌, ◌<◌, ◌-◌, ◌*◌, length, ◌+◌, [], ◌∷◌, ◌++◌, take, drop, get_or, sym, ap, subst, ◌∙◌, arith, add-one, drop-cons}
+use Rattle.std.proofs.lemmas.List.{take_all}
 use Rattle.schedule_steps.specs.declared.step.Step.TheVariants.{Begin}
 use Rattle.flat_machine.specs.Layout.{by_place}
 use Rattle.flat_machine.specs.Flat.{flat_from}
@@ -6,16 +7,17 @@ use Rattle.rank_state.specs.Shows.{Shows}
 use Rattle.rank_state.specs.Groups.{begins, Distinct, Planned, AllShut}
 use Rattle.rank_exec.proofs.Driving.{from_push}
 use Rattle.rank_exec.proofs.Grouping.{take_next, begins_push, still_shut}
-use Rattle.kernel_jobs.specs.Jobs.{part, task_at}
+use Rattle.rank_program.specs.Jobs.{part, task_at}
 use Rattle.rank_exec.specs.Tasks.{IsRun}
 use Rattle.rank_exec.proofs.Tasking.{run_later}
+use Rattle.rank_program.specs.Sound.{setup_in, layout_in, tables_in}
 use Rattle.rank_exec.proofs.group_steps.open_all.Goals as goal
 
 pub loop-i-preserved : goal.loop-i-preserved
-loop-i-preserved g c =
+loop-i-preserved c =
     let e : drop c.loop-i.i c.args.places.now ≡ get_or c.args.places.now c.loop-i.i 0 ∷ drop (c.loop-i.i + 1) c.args.places.now =
     drop-cons c.args.places.now c.loop-i.i 0 c.loop-i-test.true ∙ ap (λ n. get_or c.args.places.now c.loop-i.i 0 ∷ drop n c.args.places.now) (sym (add-one c.loop-i.i)) in
-    let planned = subst (Planned (by_place (g.P.Parts.setup c.args.parts.now) (g.P.Parts.layout c.args.parts.now)) c.args.item c.args.rank) e c.loop-i.invariant.planned in
+    let planned = subst (Planned (by_place (setup_in c.args.program.now) (layout_in c.args.program.now)) c.args.item c.args.rank) e c.loop-i.invariant.planned in
     let shut = subst (AllShut c.loop-i.machine.frames.panes c.args.rank) e c.loop-i.invariant.shut in
     let distinct = subst Distinct e c.loop-i.invariant.distinct in
     let next : begins c.args.item c.args.rank (take (c.loop-i.i + 1) c.args.places.now) ≡ begins c.args.item c.args.rank (take c.loop-i.i c.args.places.now) ++ (Begin c.args.item c.args.rank (get_or c.args.places.now c.loop-i.i 0) ∷ []) =
@@ -24,22 +26,28 @@ loop-i-preserved g c =
     record {
       planned = planned.1;
       shut = still_shut c.loop-i.machine.frames.panes c.open_one.new.machine.frames.panes c.args.rank (get_or c.args.places.now c.loop-i.i 0) (drop (c.loop-i.i + 1) c.args.places.now) distinct.0
-          (λ y ne closed. c.begin_opens.ensures.others (g.P.Parts.setup c.args.parts.now) (g.P.Parts.layout c.args.parts.now) (g.P.Parts.tables c.args.parts.now) c.loop-i.machine c.open_one.new.machine (flat_from (g.P.Parts.setup c.args.parts.now) (g.P.Parts.layout c.args.parts.now) (begins c.args.item c.args.rank (take c.loop-i.i c.args.places.now)) c.requires.shows.0) c.args.item c.args.rank (get_or c.args.places.now c.loop-i.i 0) y before (c.open_one.ensures.shows (flat_from (g.P.Parts.setup c.args.parts.now) (g.P.Parts.layout c.args.parts.now) (begins c.args.item c.args.rank (take c.loop-i.i c.args.places.now)) c.requires.shows.0) before) ne closed)
+          (λ y ne closed. c.begin_opens.ensures.others (setup_in c.args.program.now) (layout_in c.args.program.now) (tables_in c.args.program.now) c.loop-i.machine c.open_one.new.machine (flat_from (setup_in c.args.program.now) (layout_in c.args.program.now) (begins c.args.item c.args.rank (take c.loop-i.i c.args.places.now)) c.requires.shows.0) c.args.item c.args.rank (get_or c.args.places.now c.loop-i.i 0) y before (c.open_one.ensures.shows (flat_from (setup_in c.args.program.now) (layout_in c.args.program.now) (begins c.args.item c.args.rank (take c.loop-i.i c.args.places.now)) c.requires.shows.0) before) ne closed)
           shut.1;
       distinct = distinct.1;
       shows = λ f h.
           let at = c.loop-i.invariant.shows f h in
-          subst (Shows (g.P.Parts.setup c.args.parts.now) (g.P.Parts.layout c.args.parts.now) (g.P.Parts.tables c.args.parts.now) c.open_one.new.machine) (sym (ap (λ z. flat_from (g.P.Parts.setup c.args.parts.now) (g.P.Parts.layout c.args.parts.now) z f) next ∙ from_push (g.P.Parts.setup c.args.parts.now) (g.P.Parts.layout c.args.parts.now) (begins c.args.item c.args.rank (take c.loop-i.i c.args.places.now)) (Begin c.args.item c.args.rank (get_or c.args.places.now c.loop-i.i 0)) f at.stop))
-          (c.open_one.ensures.shows (flat_from (g.P.Parts.setup c.args.parts.now) (g.P.Parts.layout c.args.parts.now) (begins c.args.item c.args.rank (take c.loop-i.i c.args.places.now)) f) at);
+          subst (Shows (setup_in c.args.program.now) (layout_in c.args.program.now) (tables_in c.args.program.now) c.open_one.new.machine) (sym (ap (λ z. flat_from (setup_in c.args.program.now) (layout_in c.args.program.now) z f) next ∙ from_push (setup_in c.args.program.now) (layout_in c.args.program.now) (begins c.args.item c.args.rank (take c.loop-i.i c.args.places.now)) (Begin c.args.item c.args.rank (get_or c.args.places.now c.loop-i.i 0)) f at.stop))
+          (c.open_one.ensures.shows (flat_from (setup_in c.args.program.now) (layout_in c.args.program.now) (begins c.args.item c.args.rank (take c.loop-i.i c.args.places.now)) f) at);
       space = c.open_one.ensures.space;
       mail = c.open_one.ensures.mail ∙ c.loop-i.invariant.mail;
       frames = (let m = c.open_one.ensures.frames in omega (arith, c.loop-i.invariant.frames));
     }
 
 pub open_one-requires-clause-ran : goal.open_one-requires-clause-ran
-open_one-requires-clause-ran g c =
+open_one-requires-clause-ran c =
     let wide : c.loop-i.i * c.args.window + c.args.window - c.loop-i.i * c.args.window ≡ c.args.window = omega arith in
     let i_lt : c.loop-i.i < length c.args.places.now = c.loop-i-test.true in
-    subst (λ n. IsRun (g.P.Parts.setup c.args.parts.now) (g.P.Parts.layout c.args.parts.now) (g.P.Parts.tables c.args.parts.now) c.args.item c.args.rank (get_or c.args.places.now c.loop-i.i 0) c.loop-i.machine (task_at c.args.tasks.now c.loop-i.i).cells (take n (drop (c.loop-i.i * c.args.window) c.args.staging.now))) (sym wide)
-    (run_later (g.P.Parts.setup c.args.parts.now) (g.P.Parts.layout c.args.parts.now) (g.P.Parts.tables c.args.parts.now) c.args.item c.args.rank (get_or c.args.places.now c.loop-i.i 0) (task_at c.args.tasks.now c.loop-i.i).cells (part c.args.window c.loop-i.i c.args.staging.now) (take c.loop-i.i c.args.places.now) c.args.machine.now c.loop-i.machine
+    subst (λ n. IsRun (setup_in c.args.program.now) (layout_in c.args.program.now) (tables_in c.args.program.now) c.args.item c.args.rank (get_or c.args.places.now c.loop-i.i 0) c.loop-i.machine (task_at c.args.tasks.now c.loop-i.i).cells (take n (drop (c.loop-i.i * c.args.window) c.args.staging.now))) (sym wide)
+    (run_later (setup_in c.args.program.now) (layout_in c.args.program.now) (tables_in c.args.program.now) c.args.item c.args.rank (get_or c.args.places.now c.loop-i.i 0) (task_at c.args.tasks.now c.loop-i.i).cells (part c.args.window c.loop-i.i c.args.staging.now) (take c.loop-i.i c.args.places.now) c.args.machine.now c.loop-i.machine
     c.requires.shows.0 c.requires.shows.1 (c.loop-i.invariant.shows c.requires.shows.0 c.requires.shows.1) (c.requires.ran c.loop-i.i i_lt))
+
+pub returns-clause-shows : goal.returns-clause-shows
+returns-clause-shows c f h =
+    let p = c.args.program.now in
+    subst (λ ps. Shows (setup_in p) (layout_in p) (tables_in p) c.loop-i.machine (flat_from (setup_in p) (layout_in p) (begins c.args.item c.args.rank ps) f))
+    (take_all c.loop-i.i c.args.places.now (omega (arith, c.loop-i-test.false))) (c.loop-i.invariant.shows f h)

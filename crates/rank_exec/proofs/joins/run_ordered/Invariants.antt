@@ -1,15 +1,16 @@
-use Rattle.std.proofs.Common.{length, ◌≡◌}
+use Rattle.std.proofs.Common.{◌≡◌}
 use Rattle.kernel_types.specs.declared.faults.KernelFault.{KernelFault}
 use Rattle.flat_machine.specs.Flat.{Flat, loop_flat}
 use Rattle.rank_state.specs.Shows.{Shows}
-use Rattle.rank_machine.specs.Rooms.{HasRoom}
+use Rattle.rank_program.specs.Rooms.{HasRoomOf}
+use Rattle.rank_program.specs.Sound.{setup_in, layout_in, tables_in}
 use Rattle.rank_exec.proofs.joins.run_ordered.Given as goal
 
 abbrev pub invariant-loop-element : goal.invariant-loop-element
-invariant-loop-element g l = record {
-  reached : (f : Flat KernelFault) → Shows (g.P.Parts.setup l.parts) (g.P.Parts.layout l.parts) (g.P.Parts.tables l.parts) l.initial.machine f
-      → Shows (g.P.Parts.setup l.parts) (g.P.Parts.layout l.parts) (g.P.Parts.tables l.parts) l.machine (loop_flat (g.P.Parts.setup l.parts) (g.P.Parts.layout l.parts) l.item l.element f);
-  space : HasRoom (g.P.Parts.span_count l.parts) (g.P.Kernels.locals l.parts) (length (g.P.Parts.tables l.parts).constants) l.room;
+invariant-loop-element l = record {
+  reached : (f : Flat KernelFault) → Shows (setup_in l.program) (layout_in l.program) (tables_in l.program) l.initial.machine f
+      → Shows (setup_in l.program) (layout_in l.program) (tables_in l.program) l.machine (loop_flat (setup_in l.program) (layout_in l.program) l.item l.element f);
+  space : HasRoomOf l.program l.room;
   mail : l.machine.mail.left ≡ l.initial.machine.mail.left;
   frames : l.machine.frames.left ≡ l.initial.machine.frames.left;
 }

@@ -5,20 +5,25 @@ use Rattle.schedule_steps.specs.declared.step.Step.TheVariants.{End}
 use Rattle.flat_machine.specs.Flat.{flat_step}
 use Rattle.rank_state.specs.Machine.{State, ended}
 use Rattle.rank_state.specs.Shows.{Shows}
+use Rattle.rank_program.specs.Sound.{setup_in, layout_in, tables_in}
 use Rattle.rank_machine.proofs.steps.end_on.Goals as goal
 
+pub end-requires-clause-slots : goal.end-requires-clause-slots
+end-requires-clause-slots c =
+    (c.steps_can.ensures.end (setup_in c.args.program.now) (layout_in c.args.program.now) (tables_in c.args.program.now) c.args.machine.now c.requires.shows.0 c.requires.shows.1 c.requires.sound.indexed c.args.item c.args.rank c.args.place c.requires.planned c.args.spans.now c.args.scalars.now c.requires.are c.requires.«open»).slots
+
 pub end-requires-clause-enough : goal.end-requires-clause-enough
-end-requires-clause-enough g c =
-    (c.steps_can.ensures.end (g.P.Parts.setup c.args.parts.now) (g.P.Parts.layout c.args.parts.now) (g.P.Parts.tables c.args.parts.now) c.args.machine.now c.requires.shows.0 c.requires.shows.1 (g.met.P.Parts.indexed c.args.parts.now c.requires.sound) c.args.item c.args.rank c.args.place c.requires.planned c.args.spans.now c.args.scalars.now c.requires.are c.requires.«open»).enough
+end-requires-clause-enough c =
+    (c.steps_can.ensures.end (setup_in c.args.program.now) (layout_in c.args.program.now) (tables_in c.args.program.now) c.args.machine.now c.requires.shows.0 c.requires.shows.1 c.requires.sound.indexed c.args.item c.args.rank c.args.place c.requires.planned c.args.spans.now c.args.scalars.now c.requires.are c.requires.«open»).enough
 
 pub end-requires-clause-exact : goal.end-requires-clause-exact
-end-requires-clause-exact g c =
-    (c.steps_can.ensures.end (g.P.Parts.setup c.args.parts.now) (g.P.Parts.layout c.args.parts.now) (g.P.Parts.tables c.args.parts.now) c.args.machine.now c.requires.shows.0 c.requires.shows.1 (g.met.P.Parts.indexed c.args.parts.now c.requires.sound) c.args.item c.args.rank c.args.place c.requires.planned c.args.spans.now c.args.scalars.now c.requires.are c.requires.«open»).exact
+end-requires-clause-exact c =
+    (c.steps_can.ensures.end (setup_in c.args.program.now) (layout_in c.args.program.now) (tables_in c.args.program.now) c.args.machine.now c.requires.shows.0 c.requires.shows.1 c.requires.sound.indexed c.args.item c.args.rank c.args.place c.requires.planned c.args.spans.now c.args.scalars.now c.requires.are c.requires.«open»).exact
 
 pub returns-clause-shows : goal.returns-clause-shows
-returns-clause-shows g c f h =
-    let own : c.owns-own.result ≡ ((g.P.Parts.setup c.args.parts.now).owner ((g.P.Parts.setup c.args.parts.now).program.set c.args.item) ((g.P.Parts.layout c.args.parts.now).original c.args.item c.args.rank c.args.place) == c.args.rank) =
-    c.owns-own.ensures in
-    subst (λ (s : State KernelFault). Shows (g.P.Parts.setup c.args.parts.now) (g.P.Parts.layout c.args.parts.now) (g.P.Parts.tables c.args.parts.now) s (flat_step (g.P.Parts.setup c.args.parts.now) (g.P.Parts.layout c.args.parts.now) (End c.args.item c.args.rank c.args.place) f))
+returns-clause-shows c f h =
+    let own : c.owns_at-own.result ≡ ((setup_in c.args.program.now).owner ((setup_in c.args.program.now).program.set c.args.item) ((layout_in c.args.program.now).original c.args.item c.args.rank c.args.place) == c.args.rank) =
+    c.owns_at-own.ensures in
+    subst (λ (s : State KernelFault). Shows (setup_in c.args.program.now) (layout_in c.args.program.now) (tables_in c.args.program.now) s (flat_step (setup_in c.args.program.now) (layout_in c.args.program.now) (End c.args.item c.args.rank c.args.place) f))
     (sym (c.end.ensures ∙ ap (λ o. ended o c.args.rank c.args.place c.args.spans.now c.args.scalars.now c.args.machine.now) own))
-    (c.end_shows.ensures (g.P.Parts.setup c.args.parts.now) (g.P.Parts.layout c.args.parts.now) (g.P.Parts.tables c.args.parts.now) (g.met.P.Parts.indexed c.args.parts.now c.requires.sound) c.args.item c.args.rank c.args.place c.requires.planned c.args.spans.now c.args.scalars.now c.requires.are c.args.machine.now f h c.requires.«open»)
+    (c.end_shows.ensures (setup_in c.args.program.now) (layout_in c.args.program.now) (tables_in c.args.program.now) c.requires.sound.indexed c.args.item c.args.rank c.args.place c.requires.planned c.args.spans.now c.args.scalars.now c.requires.are c.args.machine.now f h c.requires.«open»)

@@ -21,8 +21,8 @@ loop-span-preserved c =
     record {
       inside = inside.2;
       count = omega arith;
-      room = omega (arith, c.copy_in.auto.frame);
-      done = next_gathered c.loop-span.from c.loop-span.frame c.copy_in.new.frame (get_or c.args.spans.now c.loop-span.span-index no_span) (drop (c.loop-span.span-index + 1) c.args.spans.now) c.args.spans.now (lists c.args.memories.now) inside room
+      room = omega (arith, c.copy.auto.target);
+      done = next_gathered c.loop-span.from c.loop-span.frame c.copy.new.target (get_or c.args.spans.now c.loop-span.span-index no_span) (drop (c.loop-span.span-index + 1) c.args.spans.now) c.args.spans.now (lists c.args.memories.now) inside room
           (subst (λ l. take c.loop-span.from c.loop-span.frame ++ gathered_all (lists c.args.memories.now) l ≡ gathered_all (lists c.args.memories.now) c.args.spans.now) e inv.done)
-          (c.copy_in.ensures ∙ ap (λ m. with_window c.loop-span.from (cells_at (get_or c.args.spans.now c.loop-span.span-index no_span).at (get_or c.args.spans.now c.loop-span.span-index no_span).dim m) c.loop-span.frame) row);
+          (c.copy.ensures ∙ ap (λ m. with_window c.loop-span.from (cells_at (get_or c.args.spans.now c.loop-span.span-index no_span).at (get_or c.args.spans.now c.loop-span.span-index no_span).dim m) c.loop-span.frame) row);
     }

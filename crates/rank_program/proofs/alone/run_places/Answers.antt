@@ -1,7 +1,8 @@
 use Rattle.std.proofs.Common.{◌≡◌, ◌≤◌, ◌++◌, List, ℕ, ℤ, take, drop, length, vec_len, get_or, sym, ap, subst, ◌∙◌, arith}
 use Rattle.std.proofs.Math.Seq.{take-append_seam}
-use Rattle.rank_machine.specs.Stops.{stop_in}
-use Rattle.rank_machine.specs.AloneRuns.{AllBegin, Reaches}
+use Rattle.rank_memory.specs.Stops.{stop_in}
+use Rattle.rank_program.specs.AloneRuns.{AllBegin, Reaches}
+use Rattle.rank_program.specs.Keeping.{KeepsIn}
 use Rattle.rank_program.specs.Sound.{setup_in, layout_in, tables_in}
 use Rattle.rank_program.proofs.LocalLoops.{of_loop, to_loop}
 use Rattle.rank_program.proofs.alone.run_places.Goals as goal
@@ -23,6 +24,11 @@ lengthen-requires c =
     let few = of_loop c.args.program.now c.args.item c.args.rank c.deref.result.now c.args.variables.now l c.local_loop-local.ensures.of
     (λ d j q cs vs. length l.scalars.now ≤ (tables_in d).stride) c.local_loop-local.ensures.is.stride in
     record { spare = omega (arith, few, c.requires.spare) }
+
+pub run_here-kept-requires-clause-keeps : goal.run_here-kept-requires-clause-keeps
+run_here-kept-requires-clause-keeps c =
+    to_loop c.args.program.now c.args.item c.args.rank c.deref.result.now c.args.variables.now c.local_loop-local.result c.local_loop-local.ensures.of
+    (λ d j q cs vs. KeepsIn d j) c.requires.keeps
 
 pub run_here-kept-requires-clause-steps : goal.run_here-kept-requires-clause-steps
 run_here-kept-requires-clause-steps c =

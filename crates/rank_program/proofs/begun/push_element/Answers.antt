@@ -1,5 +1,5 @@
 use Rattle.std.proofs.Common.{length, get_or, ap, ◌∙◌}
-use Rattle.machine_tables.specs.Made.{row_of}
+use Rattle.rank_layout.specs.Made.{row_of}
 use Rattle.rank_program.proofs.BegunParts.{row_there, args_stand, writes_are, windows_stand}
 use Rattle.rank_program.proofs.begun.push_element.Goals as goal
 

@@ -2,8 +2,8 @@ use Rattle.std.proofs.Common.{◌++◌, ℕ, List, length, get_or, sym, ap, ap�
 use Rattle.local_mesh.specs.declared.types.RankMesh.{RankMesh}
 use Rattle.rank_state.specs.declared.spans.Span.{Span}
 use Rattle.rank_state.specs.Shows.{AreImports}
-use Rattle.rank_windows.specs.Messages.{imported_locals, spans_of, AreThere}
-use Rattle.machine_tables.specs.Tables.{tables_of}
+use Rattle.rank_layout.specs.Messages.{imported_locals, spans_of, AreThere}
+use Rattle.rank_layout.specs.Tables.{tables_of}
 use Rattle.rank_program.specs.Sound.{program_in, plan_in, setup_in, layout_in}
 use Rattle.rank_program.proofs.exchanges.push_received.Goals as goal
 

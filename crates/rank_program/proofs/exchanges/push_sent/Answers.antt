@@ -3,9 +3,9 @@ use Rattle.local_mesh.specs.declared.types.RankMesh.{RankMesh}
 use Rattle.rank_state.specs.declared.spans.Span.{Span}
 use Rattle.rank_state.specs.Spans.{total}
 use Rattle.rank_state.specs.Shows.{AreExports}
-use Rattle.machine_tables.specs.Exports.{exported_locals}
-use Rattle.rank_windows.specs.Messages.{spans_of, AreThere}
-use Rattle.machine_tables.specs.Tables.{tables_of}
+use Rattle.rank_layout.specs.Exports.{exported_locals}
+use Rattle.rank_layout.specs.Messages.{spans_of, AreThere}
+use Rattle.rank_layout.specs.Tables.{tables_of}
 use Rattle.rank_program.specs.Sound.{program_in, plan_in, setup_in, layout_in}
 use Rattle.rank_program.proofs.exchanges.push_sent.Goals as goal
 

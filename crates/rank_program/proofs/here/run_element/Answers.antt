@@ -1,5 +1,5 @@
 use Rattle.std.proofs.Common.{length, ◌∙◌, arith}
-use Rattle.rank_machine.specs.Stops.{stop_in}
+use Rattle.rank_memory.specs.Stops.{stop_in}
 use Rattle.rank_program.proofs.LocalElements.{locals_here, still_stand, inside, few_cells, unchanged, element_runs}
 use Rattle.rank_program.proofs.here.run_element.Goals as goal
 
@@ -28,7 +28,7 @@ pub returns-clause-runs : goal.returns-clause-runs
 returns-clause-runs c =
     element_runs c.args.local.now c.requires.sound c.requires.is c.steps_stand.ensures c.args.place c.requires.step c.windows_stand.ensures.here
     c.args.cells.now c.put_places.new.places c.requires.stand c.put_places.ensures
-    c.element_windows_stand.ensures c.frames_are_reached.ensures c.windows_stand.ensures.cells c.unwritten_stay.ensures.obeying
+    c.element_windows_stand.ensures c.frames_are_reached.ensures c.windows_stand.ensures.cells c.requires.keeps
     c.args.memory.now c.fill.new.frame c.run_here-fault.new.memory c.requires.memory c.fill.auto.frame c.fill.ensures
     c.run_here-fault.result c.run_here-fault.ensures.fault c.run_here-fault.ensures.memory
     c.args.partials.now c.merge_owned.new.partials c.merge_owned.ensures (stop_in c.args.kept.now) (stop_in c.note.new.kept) c.note.ensures

@@ -1,6 +1,6 @@
 use Rattle.std.proofs.Common.{◌≡◌, ◌<◌, ◌+◌, suc, take, length, subst, ◌∙◌, arith}
-use Rattle.rank_machine.specs.Stops.{stop_in}
-use Rattle.rank_machine.specs.AloneRuns.{Reaches}
+use Rattle.rank_memory.specs.Stops.{stop_in}
+use Rattle.rank_program.specs.AloneRuns.{Reaches}
 use Rattle.rank_program.specs.Sound.{setup_in, layout_in, tables_in}
 use Rattle.rank_program.proofs.here.run_here.Goals as goal
 

@@ -1,7 +1,7 @@
 use Rattle.std.proofs.Common.{◌≡◌, ◌≤◌, ◌+◌, length, take}
-use Rattle.rank_machine.specs.Stops.{stop_in}
-use Rattle.rank_machine.specs.Rooms.{most_saved}
-use Rattle.rank_machine.specs.AloneRuns.{Reaches}
+use Rattle.rank_memory.specs.Stops.{stop_in}
+use Rattle.rank_program.specs.Rooms.{most_saved}
+use Rattle.rank_program.specs.AloneRuns.{Reaches}
 use Rattle.rank_program.specs.LocalLoops.{VariablesStand}
 use Rattle.rank_program.specs.Sound.{setup_in, layout_in, tables_in}
 use Rattle.rank_program.proofs.here.run_here.Given as goal

@@ -1,6 +1,6 @@
 use Rattle.std.proofs.Common.{◌∙◌, sym, subst, arith, length}
 use Rattle.bound_program.specs.Values.{bound_of}
-use Rattle.kernel_jobs.specs.Jobs.{task_at, places_in}
+use Rattle.rank_program.specs.Jobs.{task_at, places_in}
 use Rattle.rank_program.specs.Targets.{AreTargets}
 use Rattle.rank_program.proofs.JobTargets.{one_more}
 use Rattle.rank_program.proofs.job_targets.push_targets.Goals as goal

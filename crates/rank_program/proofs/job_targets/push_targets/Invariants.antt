@@ -1,7 +1,7 @@
 use Rattle.std.proofs.Common.{◌≡◌, ◌<◌, ℕ, length}
 use Rattle.std.specs.Prelude.{vec_capacity}
 use Rattle.bound_program.specs.Values.{bound_of}
-use Rattle.kernel_jobs.specs.Jobs.{task_at, places_in}
+use Rattle.rank_program.specs.Jobs.{task_at, places_in}
 use Rattle.rank_program.specs.Targets.{AreTargets}
 use Rattle.rank_program.proofs.job_targets.push_targets.Given as goal
 

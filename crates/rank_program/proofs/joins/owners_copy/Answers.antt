@@ -1,6 +1,6 @@
 use Rattle.std.proofs.Common.{sym, subst}
 use Rattle.rank_state.specs.declared.owned.Owned.{Owned}
-use Rattle.rank_exec.specs.Copies.{IsOwnersCopy}
+use Rattle.rank_program.specs.Copies.{IsOwnersCopy}
 use Rattle.rank_program.specs.Sound.{program_in, plan_in, setup_in, layout_in}
 use Rattle.rank_program.proofs.joins.owners_copy.Goals as goal
 

@@ -4,10 +4,10 @@ use Rattle.bound_program.specs.Values.{no_site}
 use Rattle.run_model.specs.Programs.{item_at, loop_of}
 use Rattle.rank_state.specs.declared.owned.Owned.{Owned}
 use Rattle.rank_state.specs.Ordered.{AreOwned}
-use Rattle.machine_tables.specs.Made.{row_of}
-use Rattle.machine_tables.specs.Tables.{tables_of}
+use Rattle.rank_layout.specs.Made.{row_of}
+use Rattle.rank_layout.specs.Tables.{tables_of}
 use Rattle.rank_program.specs.Sound.{program_in, plan_in, setup_in, layout_in}
-use Rattle.rank_windows.specs.OwnedWindows.{owned_after, owned_by, ArgPlaced}
+use Rattle.rank_layout.specs.OwnedWindows.{owned_after, owned_by, ArgPlaced}
 use Rattle.rank_program.proofs.joins.push_owned_windows.Goals as goal
 
 pub args_of-requires : goal.args_of-requires

@@ -2,21 +2,21 @@ use Rattle.std.proofs.Common.{ℕ, List, length, sym, ap, ap₂, ◌∙◌, subs
 use Rattle.run_model.specs.Programs.{item_at, loop_of}
 use Rattle.rank_state.specs.declared.scalars.Scalar.{Scalar}
 use Rattle.rank_state.specs.Joins.{AreReduced}
-use Rattle.machine_tables.specs.Made.{row_of}
-use Rattle.machine_tables.specs.Tables.{tables_of}
+use Rattle.rank_layout.specs.Made.{row_of}
+use Rattle.rank_layout.specs.Tables.{tables_of}
 use Rattle.rank_program.specs.Sound.{program_in, plan_in, setup_in, layout_in}
 use Rattle.rank_program.proofs.joins.reduced_scalars.Goals as goal
 
 pub reduced_loop-requires-clause-there : goal.reduced_loop-requires-clause-there
 reduced_loop-requires-clause-there c =
     let x = c.args.program.now in
-    (c.reduces_are_there.ensures (program_in x) x.owners.now c.requires.sound.numbers x.meshes.now (plan_in x) c.requires.sound.runnable.planned
+    (c.reduces_are_there.ensures (program_in x) x.owners.now c.requires.sound.numbers x.meshes.now (plan_in x) c.requires.sound.planned
     c.args.item c.requires.kind).0
 
 pub row_of-requires : goal.row_of-requires
 row_of-requires c =
     let x = c.args.program.now in
-    let there = c.reduces_are_there.ensures (program_in x) x.owners.now c.requires.sound.numbers x.meshes.now (plan_in x) c.requires.sound.runnable.planned
+    let there = c.reduces_are_there.ensures (program_in x) x.owners.now c.requires.sound.numbers x.meshes.now (plan_in x) c.requires.sound.planned
     c.args.item c.requires.kind in
     omega (arith, there.1, c.reduced_loop.ensures, c.requires.sound.made.scalar_count, ap length c.deref.ensures.value)
 
@@ -25,7 +25,7 @@ returns c =
     let x = c.args.program.now in
     let b = program_in x in
     let s = loop_of (item_at b c.args.item) in
-    let there = c.reduces_are_there.ensures b x.owners.now c.requires.sound.numbers x.meshes.now (plan_in x) c.requires.sound.runnable.planned
+    let there = c.reduces_are_there.ensures b x.owners.now c.requires.sound.numbers x.meshes.now (plan_in x) c.requires.sound.planned
     c.args.item c.requires.kind in
     let rows = c.row_of.ensures ∙ ap₂ (λ (l : List _) (n : ℕ). row_of l n) c.deref.ensures.value c.reduced_loop.ensures in
     subst (λ (l : List Scalar). AreReduced (setup_in x) (layout_in x) (tables_of b (plan_in x)) c.args.item l) (sym rows)

@@ -3,7 +3,7 @@ use Rattle.element_runs.specs.OnWindows.{core_of}
 use Rattle.kernel_model.specs.Meaning.{kernel_meaning}
 use Rattle.bound_program.specs.Values.{bound_of, site_of}
 use Rattle.bound_plan.specs.Windows.{frame_windows}
-use Rattle.machine_tables.specs.Numbered.{ArgThere}
+use Rattle.rank_layout.specs.Numbered.{ArgThere}
 use Rattle.rank_program.proofs.KernelRun.{args_there, as_core}
 use Rattle.rank_program.proofs.kernel_run.run_anywhere.Goals as goal
 

@@ -1,22 +1,24 @@
-use Rattle.std.proofs.Common.{◌≡◌, ℤ, ◌<◌, ◌∙◌, refl, ap, ap₂, sym, subst, length, set, List, Option, Vec, Global}
+use Rattle.std.proofs.Common.{◌≡◌, ℤ, ◌<◌, ◌∙◌, refl, ap, ap₂, sym, subst, length, set, arith, List, Option, Vec, Global}
 use Rattle.std.specs.Vec.{with_items}
 use Rattle.std.proofs.lemmas.List.{map-set}
 use Rattle.kernel_types.specs.declared.faults.KernelFault.{KernelFault}
 use Rattle.schedule_model.specs.Sequential.{Stop}
 use Rattle.rank_state.specs.Machine.{State, row}
-use Rattle.rank_machine.specs.Stops.{stop_in}
-use Rattle.rank_machine.specs.AloneRuns.{Share, Reaches, share_of, with_share}
+use Rattle.rank_memory.specs.Spare.{HasSpare}
+use Rattle.rank_memory.specs.Stops.{stop_in}
+use Rattle.rank_program.specs.AloneRuns.{Share, Reaches, share_of, with_share}
 use Rattle.rank_memory.proofs.Views.{lists, rank_in, row_is, row_put}
+use Rattle.rank_program.specs.Sound.{setup_in, layout_in, tables_in}
 use Rattle.rank_machine.proofs.machine.Machine.in_place.Goals as goal
 
 abbrev of_parts : State KernelFault → List (List ℤ) → List (List ℤ) → Option (Stop KernelFault) → State KernelFault
 of_parts s ms ps x = record s { memories = ms; partials = ps; fault = x }
 
 pub returns-clause-runs : goal.returns-clause-runs
-returns-clause-runs g c =
-    let p = g.P.Parts.setup c.args.parts.now in
-    let l = g.P.Parts.layout c.args.parts.now in
-    let t = g.P.Parts.tables c.args.parts.now in
+returns-clause-runs c =
+    let p = setup_in c.args.program.now in
+    let l = layout_in c.args.program.now in
+    let t = tables_in c.args.program.now in
     let inside = c.self.inside in
     let step = c.requires.steps 0 c.requires.some in
     let rank : c.args.rank < length inside.memories.items = rank_in inside.memories.items c.args.rank (subst (λ (s : State KernelFault). c.args.rank < length s.memories) (sym c.self.view_is) (subst (λ n. c.args.rank < n) (sym c.requires.sized.ranks) step.2)) in
@@ -39,7 +41,7 @@ returns-clause-runs g c =
     )
 
 pub run_places-fault-requires-clause-memory : goal.run_places-fault-requires-clause-memory
-run_places-fault-requires-clause-memory g c =
+run_places-fault-requires-clause-memory c =
     let inside = c.self.inside in
     let step = c.requires.steps 0 c.requires.some in
     let rank : c.args.rank < length inside.memories.items = rank_in inside.memories.items c.args.rank (subst (λ (s : State KernelFault). c.args.rank < length s.memories) (sym c.self.view_is) (subst (λ n. c.args.rank < n) (sym c.requires.sized.ranks) step.2)) in
@@ -47,9 +49,33 @@ run_places-fault-requires-clause-memory g c =
     ∙ ap (λ (s : State KernelFault). length (row s.memories c.args.rank)) c.self.view_is ∙ c.requires.sized.widths c.args.rank step.2
 
 pub run_places-fault-requires-clause-partials : goal.run_places-fault-requires-clause-partials
-run_places-fault-requires-clause-partials g c =
+run_places-fault-requires-clause-partials c =
     let inside = c.self.inside in
     let step = c.requires.steps 0 c.requires.some in
     let slot : c.args.rank < length inside.partials.items = rank_in inside.partials.items c.args.rank (subst (λ (s : State KernelFault). c.args.rank < length s.partials) (sym c.self.view_is) (subst (λ n. c.args.rank < n) (sym c.requires.sized.partials) step.2)) in
     ap length (c.deref_mut.ensures.value ∙ row_is inside.partials.items c.args.rank c.index_mut-2.result.now slot c.index_mut-2.ensures.value)
     ∙ ap (λ (s : State KernelFault). length (row s.partials c.args.rank)) c.self.view_is ∙ c.requires.sized.slots c.args.rank step.2
+
+pub index_mut-requires : goal.index_mut-requires
+index_mut-requires c =
+    let step = c.requires.steps 0 c.requires.some in
+    let lt : c.args.rank < length c.self.inside.memories.items = rank_in c.self.inside.memories.items c.args.rank
+    (subst (λ (s : State KernelFault). c.args.rank < length s.memories) (sym c.self.view_is) (subst (λ n. c.args.rank < n) (sym c.requires.sized.ranks) step.2)) in
+    omega (arith, lt, c.self.inside.memories.ok.0)
+
+pub index_mut-requires-2 : goal.index_mut-requires-2
+index_mut-requires-2 c =
+    let step = c.requires.steps 0 c.requires.some in
+    let lt : c.args.rank < length c.self.inside.partials.items = rank_in c.self.inside.partials.items c.args.rank
+    (subst (λ (s : State KernelFault). c.args.rank < length s.partials) (sym c.self.view_is) (subst (λ n. c.args.rank < n) (sym c.requires.sized.partials) step.2)) in
+    omega (arith, lt, c.self.inside.partials.ok.0)
+
+pub run_places-fault-requires-clause-spare : goal.run_places-fault-requires-clause-spare
+run_places-fault-requires-clause-spare c =
+    let inside = c.self.inside in
+    let step = c.requires.steps 0 c.requires.some in
+    let rank : c.args.rank < length inside.memories.items = rank_in inside.memories.items c.args.rank
+    (subst (λ (s : State KernelFault). c.args.rank < length s.memories) (sym c.self.view_is) (subst (λ n. c.args.rank < n) (sym c.requires.sized.ranks) step.2)) in
+    let stride : inside.frames.stride ≡ (tables_in c.args.program.now).stride = ap (λ (s : State KernelFault). s.frames.stride) c.self.view_is ∙ c.requires.sized.stride in
+    subst (λ n. HasSpare n c.index_mut.result.now) stride
+    (subst (HasSpare inside.frames.stride) (sym c.index_mut.ensures.value) (c.self.invariant.spare c.args.rank c.index_mut.result.now rank))

@@ -1,6 +1,0 @@
-use Rattle.std.proofs.Common.{◌≡◌, map, take}
-use Rattle.rank_state.specs.Windows.{index}
-use Rattle.machine_tables.proofs.scalar_tables.indices_of.Given as goal
-
-abbrev pub invariant-loop-scalar : goal.invariant-loop-scalar
-invariant-loop-scalar l = l.indices.items ≡ map index (take l.scalar-index l.scalars)

@@ -1,6 +1,0 @@
-use Rattle.bound_program.specs.Values.{bound_of}
-use Rattle.machine_tables.proofs.SiteScalars.{SoFar}
-use Rattle.machine_tables.proofs.scalar_tables.site_scalars.Given as goal
-
-abbrev pub invariant-loop-i : goal.invariant-loop-i
-invariant-loop-i l = SoFar (bound_of l.bound) l.site l.i l.slots.items l.scalars.items

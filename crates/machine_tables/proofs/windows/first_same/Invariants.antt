@@ -1,6 +1,0 @@
-use Rattle.std.proofs.Common.{◌≡◌, ◌<◌, ℕ, false}
-use Rattle.machine_tables.specs.Numbered.{is_one_at}
-use Rattle.machine_tables.proofs.windows.first_same.Given as goal
-
-abbrev pub invariant-loop-j : goal.invariant-loop-j
-invariant-loop-j l = (k : ℕ) → k < l.j → is_one_at l.args l.numbers k l.i ≡ false

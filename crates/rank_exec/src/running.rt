@@ -1,0 +1,130 @@
+// The run of a distributed program.
+
+ghost use Rattle.std.specs.Prelude.{◌≡◌, ◌<◌, ◌++◌, ℕ, List, true, None, IfOk};
+ghost use Rattle.gather.specs.Dump.{AreHeld};
+ghost use Rattle.schedule_steps.specs.Steps.{Accepted};
+ghost use Rattle.run_model.specs.Programs.{run_of_program};
+ghost use Rattle.run_model.specs.Ranges.{AllObey, StartsInRange};
+ghost use Rattle.bound_plan.specs.Memories.{dump_of};
+ghost use Rattle.rank_memory.specs.Stops.{stop_in};
+ghost use Rattle.rank_exec.specs.Driving.{AsSequential, FitsPeak};
+ghost use Rattle.rank_program.specs.Sound.{Sound, program_in, plan_in, layout_in, outline_in};
+ghost use Rattle.rank_exec.specs.Runs.{IsRunBy, dump_in};
+
+use crate::drive::drive;
+use crate::run_room::RunRoom;
+use crate::stream::Steps;
+use gather::dump;
+use op_num::OutOfMemory;
+use par_exec::Gate;
+use rank_layout::{first_cells_stand, first_memories, first_variables};
+use rank_machine::machine::Machine;
+use rank_machine::start::start;
+use rank_memory::stop::Stop;
+use rank_program::{DistributedProgram, kernels_keep_reads};
+use schedule_steps::Peak;
+use std::alloc::Global;
+use std::marker::Sync;
+use std::thread::Threads;
+
+/// What a run put out, and its first fault, where it has one.
+#[derive(Debug, Drop)]
+pub struct Outcome {
+    pub out: Vec<u8>,
+    pub stop: Option<Stop>,
+}
+
+// What the machine has printed, and the dump of its memories behind it if it is asked for. An error is want of memory.
+fn with_dump(
+    program: &DistributedProgram<'_>,
+    machine: Machine,
+    dumps: bool,
+) -> Result<Vec<u8>, OutOfMemory>
+    requires held { dumps ≡ true → AreHeld (program_in program.now).mesh program.now.meshes.now machine.memories }
+    ensures { IfOk result (λ v. v.items ≡ machine.output ++ dump_in dumps program.now machine.memories) }
+{
+    let (mut out, memories) = machine.into_parts();
+    if dumps {
+        dump(&mut out, &program.bound.mesh, program.meshes, &memories)?;
+    }
+    Ok(out)
+}
+
+// What a run puts out that left the machine so: where nothing stopped it, with the dump if it is asked for. An error is want
+// of memory.
+fn outcome_of(
+    program: &DistributedProgram<'_>,
+    machine: Machine,
+    stop: Option<Stop>,
+    dumps: bool,
+) -> Result<Outcome, OutOfMemory>
+    requires ended { AsSequential (run_of_program (program_in program.now)) (stop_in stop) machine.output }
+    requires held { stop ≡ None → AreHeld (program_in program.now).mesh program.now.meshes.now machine.memories }
+    ensures { IfOk result (λ x. (dump : List ℕ) → (stop ≡ None → dump ≡ dump_in dumps program.now machine.memories)
+        → IsRunBy (program_in program.now) dump x) }
+{
+    let ran = stop.is_none();
+    let out = with_dump(program, machine, dumps && ran)?;
+    Ok(Outcome { out, stop })
+}
+
+/// Runs a distributed program by steps that its plan accepts, with room for the peak of these steps, where the loops' kernels obey
+/// their modes and the program begins with numbers of 32 bits: the printed bytes and the first fault are those of running each
+/// loop one element after another in its set's original order. Where `dumps` and no fault stops the run, a dump of what the
+/// ranks hold after these steps stands behind the printed bytes.
+///
+/// Begins that come one after another are done in groups by the `workers`, at least 1, on threads of `rt`; `gate` is told of
+/// each begin of a group just before it. The answer is the same for every number of workers and every gate.
+///
+/// # Errors
+/// Want of memory alone.
+pub fn run_planned<R: Threads + Sync, G: Gate, S: Steps>(
+    rt: &R,
+    alloc: Global,
+    program: &DistributedProgram<'_>,
+    peak: Peak,
+    steps: &mut S,
+    workers: u32,
+    gate: &G,
+    dumps: bool,
+) -> Result<Outcome, OutOfMemory>
+    requires workers { 0 < workers }
+    requires sound { Sound program.now }
+    requires obey { AllObey (program_in program.now) }
+    requires start { StartsInRange (program_in program.now) }
+    requires accepted { Accepted (outline_in program.now) (S.left steps.old) }
+    requires peak { FitsPeak (layout_in program.now) peak.frames peak.mail (S.left steps.old) }
+    ensures { IfOk result (IsRunBy (program_in program.now)
+        (dump_of dumps (program_in program.now) program.now.owners.now program.now.meshes.now (plan_in program.now) (S.left steps.old))) }
+{
+    first_cells_stand();
+    kernels_keep_reads();
+    bound_plan::setups_are_lawful();
+    bound_plan::setups_are_coloured();
+    bound_plan::plans_are_by_place();
+    bound_plan::first_states_start();
+    let spare = program.stride();
+    let memories = first_memories(alloc, &program.bound.mesh, program.meshes, spare)?;
+    let variables = first_variables(alloc, &program.bound.vars)?;
+    let mut machine = start(
+        alloc,
+        program,
+        memories,
+        variables,
+        peak.frames as usize,
+        peak.mail as usize,
+    )?;
+    let mut room = RunRoom::new(alloc, program)?;
+    let stop = drive(
+        rt,
+        alloc,
+        &mut machine,
+        program,
+        &mut room,
+        steps,
+        workers,
+        gate,
+    )?;
+    let outcome = outcome_of(program, machine, stop, dumps)?;
+    Ok(outcome)
+}

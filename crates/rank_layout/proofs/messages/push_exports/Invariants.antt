@@ -1,0 +1,8 @@
+use Rattle.std.proofs.Common.{◌≡◌, ◌++◌, take, vec_capacity}
+use Rattle.rank_layout.specs.Exports.{exported_locals}
+use Rattle.rank_layout.specs.Messages.{spans_of}
+use Rattle.rank_layout.proofs.messages.push_exports.Given as goal
+
+abbrev pub invariant-loop-dat : goal.invariant-loop-dat
+invariant-loop-dat l =
+    (l.spans.items ≡ l.fn.spans.items ++ spans_of l.mesh l.part (λ t. exported_locals l.lists t l.from l.to) (take l.dat-index l.dats)) × (vec_capacity l.spans ≡ vec_capacity l.fn.spans)

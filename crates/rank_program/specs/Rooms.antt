@@ -1,0 +1,21 @@
+-- Enough room for what steps need on their way.
+use Rattle.std.specs.Prelude.{◌≡◌, ◌≤◌, ℕ, length, vec_capacity}
+use Rattle.rank_program.specs.declared.program.DistributedProgram.{DistributedProgram}
+use Rattle.rank_program.specs.declared.room.Room.{Room}
+use Rattle.rank_program.specs.Sound.{tables_in}
+
+-- as many cells as the arguments of a kernel that runs on a rank's own cells have at most
+abbrev pub most_saved : ℕ
+most_saved = 1024
+
+-- for so many spans, for locals of so many cells, and for so many constants
+pub record HasRoom (spans locals constants : ℕ) (room : Room) : Type 0 where
+  pub spans_fit : spans ≤ vec_capacity room.spans
+  pub owned_fit : spans ≤ vec_capacity room.owned
+  pub locals_fit : locals ≤ length room.locals.items
+  pub saved_fits : most_saved ≤ length room.saved.items
+  pub constants_fit : length room.constants.items ≡ constants
+
+-- for each step of the program
+abbrev pub HasRoomOf : DistributedProgram → Room → Type 0
+HasRoomOf c = HasRoom c.tables.spans c.locals (length (tables_in c).constants)

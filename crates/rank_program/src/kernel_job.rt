@@ -1,0 +1,61 @@
+// A kernel's run on a window.
+
+ghost use Rattle.std.specs.Prelude.{◌≡◌, ◌<◌, ◌+◌, length};
+ghost use Rattle.kernel_types.specs.Resolved.{IsResolved};
+ghost use Rattle.kernel_code.specs.Coded.{IsCode};
+ghost use Rattle.views.specs.Framed.{PlacesIn};
+ghost use Rattle.rank_program.specs.Jobs.{window_after};
+
+use crate::tasks::{Targets, Task};
+use kernel_code::{Code, run_on};
+use par_exec::Job;
+use views::Place;
+
+/// The runs of a kernel for tasks: on the first cells of each task's window, with the values of all constants. `targets`
+/// has by task the places of the kernel's `args` arguments.
+#[derive(Drop)]
+pub struct KernelJob<'t> {
+    pub code: &'t Code<'t>,
+    pub tasks: &'t [Task],
+    pub targets: &'t [Targets],
+    pub args: usize,
+    pub constants: &'t [i32],
+}
+
+// Runs a kernel on the first `cells` cells of a window, with the rest as room for its locals. Behind the cells stands a 0
+// then, or a 1 after a fault, and further zeros.
+fn run_in(code: &Code<'_>, places: &[Place], constants: &[i32], cells: usize, window: &mut [i32])
+    requires code { IsCode code.now }
+    requires fits { PlacesIn cells places.now }
+    requires params { length places.now ≡ code.now.kernel.now.params }
+    requires resolved { IsResolved (length constants.now) code.now.kernel.now }
+    requires room { cells + code.now.slots < length window.old }
+    ensures { window.new ≡ window_after places.now constants.now code.now.kernel.now cells window.old }
+{
+    let (cells, rest) = window.split_at_mut(cells);
+    let flag = match run_on(code, cells, places, constants, rest) {
+        Ok(()) => 0,
+        Err(_) => 1,
+    };
+    rest.fill(0);
+    rest[0] = flag;
+}
+
+impl<'t> Job for KernelJob<'t> {
+    ghost use Rattle.rank_program.specs.Jobs.{job_window, Accepts};
+
+    ghost accepts = { Accepts };
+
+    ghost new_window = { job_window };
+
+    fn run(&self, index: usize, window: &mut [i32]) {
+        let places = &self.targets[index].places[..self.args];
+        run_in(
+            self.code,
+            places,
+            self.constants,
+            self.tasks[index].cells,
+            window,
+        );
+    }
+}

@@ -1,0 +1,40 @@
+// What steps need on their way, taken once.
+
+ghost use Rattle.std.specs.Prelude.{IfOk};
+ghost use Rattle.rank_program.specs.Rooms.{HasRoomOf};
+ghost use Rattle.rank_program.specs.Sound.{Sound};
+
+use crate::program::DistributedProgram;
+use rank_state::{Owned, Span};
+use std::alloc::{AllocError, Global};
+
+/// Room for the spans of an element or a message, for the locals of a kernel, for the cells that it may spoil, and for the values
+/// of all constants. What stands there means nothing between two steps.
+#[derive(Drop)]
+pub struct Room {
+    pub spans: Vec<Span>,
+    pub owned: Vec<Owned>,
+    pub locals: Vec<i32>,
+    pub saved: Vec<i32>,
+    pub constants: Vec<i32>,
+}
+
+/// How many cells the arguments of a kernel that runs on a rank's own cells have at most.
+pub const MOST_SAVED: usize = 1024;
+
+impl Room {
+    /// As much room as any step needs.
+    pub fn new(alloc: Global, program: &DistributedProgram<'_>) -> Result<Room, AllocError>
+        requires { Sound program.now }
+        ensures { IfOk result (HasRoomOf program.now) }
+    {
+        let most = program.tables.spans;
+        Ok(Room {
+            spans: Vec::with_capacity(alloc, most)?,
+            owned: Vec::with_capacity(alloc, most)?,
+            locals: vec![in alloc; 0; program.locals]?,
+            saved: vec![in alloc; 0; MOST_SAVED]?,
+            constants: vec![in alloc; 0; program.constants().len()]?,
+        })
+    }
+}

@@ -1,6 +1,0 @@
-use Rattle.std.proofs.Common.{◌≡◌, drop}
-use Rattle.rank_windows.specs.DatWindows.{begins_at}
-use Rattle.rank_windows.proofs.dat_windows.begins_at.Given as goal
-
-abbrev pub invariant-loop-span : goal.invariant-loop-span
-invariant-loop-span l = begins_at l.at l.spans ≡ begins_at l.at (drop l.span-index l.spans)

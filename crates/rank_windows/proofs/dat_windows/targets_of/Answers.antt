@@ -1,6 +1,0 @@
-use Rattle.std.proofs.Common.{◌∙◌}
-use Rattle.rank_sets.proofs.Rows.{row_read}
-use Rattle.rank_windows.proofs.dat_windows.targets_of.Goals as goal
-
-pub returns : goal.returns
-returns c = c.deref.ensures.value ∙ row_read c.args.part.now.maps.items c.args.map c.index.result.now c.requires c.index.ensures

@@ -1,5 +1,0 @@
-use Rattle.rank_windows.proofs.FrameWidths.{frames_fit}
-use Rattle.rank_windows.proofs.laws_owned.frames_fit.Goals as goal
-
-pub returns : goal.returns
-returns c = frames_fit

@@ -1,6 +1,0 @@
-use Rattle.rank_windows.proofs.Sending.{exports_are_few}
-use Rattle.rank_windows.proofs.laws_sent.exports_are_few.Goals as goal
-
-pub returns : goal.returns
-returns c =
-    exports_are_few c.numbers_are_listed.ensures c.declarations_hold.ensures.dats c.elements_stand.ensures c.messages_have_cells.ensures

@@ -1,5 +1,0 @@
-use Rattle.rank_windows.proofs.Sending.{rooms_stand}
-use Rattle.rank_windows.proofs.laws_sent.rooms_stand.Goals as goal
-
-pub returns : goal.returns
-returns c = rooms_stand c.messages_have_room.ensures

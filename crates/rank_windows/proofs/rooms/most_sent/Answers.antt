@@ -1,7 +1,0 @@
-use Rattle.rank_windows.proofs.MostPairs.{sent_more}
-use Rattle.rank_windows.proofs.rooms.most_sent.Goals as goal
-
-pub loop-from-preserved : goal.loop-from-preserved
-loop-from-preserved c =
-    sent_more c.args.mesh.now c.args.lists.now c.args.ranks c.loop-from.from c.loop-from.most c.most_from.result c.max-most.result c.loop-from.invariant
-    c.most_from.ensures c.max-most.ensures

@@ -1,9 +1,0 @@
-pub mod Messages
-pub mod MessageLaws
-pub mod DatWindows
-pub mod StepLaws
-pub mod WindowLaws
-pub mod First
-pub mod OwnedWindows
-pub mod OwnedLaws
-pub mod SendLaws
