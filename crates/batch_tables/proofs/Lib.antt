@@ -1,0 +1,5 @@
+pub mod Accesses
+pub mod ColumnsPut
+pub mod Firsts
+pub mod PairsPut
+pub mod WaysPut

@@ -1,0 +1,7 @@
+pub mod Accesses
+pub mod Given
+pub mod Merged
+pub mod Moves
+pub mod Picks
+pub mod Ran
+pub mod Standing

@@ -1,0 +1,6 @@
+pub mod Filled
+pub mod Meeting
+pub mod Put
+pub mod RowLoops
+pub mod RowsRun
+pub mod Ways

@@ -1,0 +1,43 @@
+-- Columns that are put back.
+use Rattle.std.specs.Prelude.{ℕ, zero, suc, ℤ, pos, List, [], ◌∷◌, get_or, slice_set}
+use Rattle.reductions.specs.Access.{Access, OpRead, OpWrite, OpRw, OpReduce, access_of}
+use Rattle.rank_state.specs.declared.scalars.Operation.{Operation}
+use Rattle.rank_state.specs.declared.scalars.Scalar.{Scalar}
+use Rattle.rank_state.specs.declared.scalars.Scalar.TheVariants.{Value, Amount}
+use Rattle.rank_state.specs.Windows.{operation}
+use Rattle.kernel_columns.specs.declared.columns.TheConstants.{ROWS}
+use Rattle.kernel_columns.specs.Moving.{stored, merged_in, total}
+use Rattle.row_batches.specs.declared.rows.RowColumn.{RowColumn}
+use Rattle.row_batches.specs.RowLoops.{column_in}
+use Rattle.row_batches.specs.Filled.{cells_of}
+
+module _ (numbers : List (List ℕ)) where
+  -- a column is put back, by what arguments do with it
+  abbrev pub put_back_for : Access → RowColumn → (column memory : List ℤ) → List ℤ
+  put_back_for OpRead y column memory = memory
+  put_back_for OpWrite y column memory = stored (cells_of numbers y) column ROWS memory
+  put_back_for OpRw y column memory = stored (cells_of numbers y) column ROWS memory
+  put_back_for (OpReduce r) y column memory = merged_in (cells_of numbers y) column r ROWS memory
+
+  abbrev pub column_put_back : RowColumn → (column memory : List ℤ) → List ℤ
+  column_put_back y = put_back_for (access_of y.access) y
+
+  -- the first n columns are
+  abbrev pub put_back : List RowColumn → (frame : List (List ℤ)) → ℕ → (memory : List ℤ) → List ℤ
+  put_back columns frame zero memory = memory
+  put_back columns frame (suc n) memory = column_put_back (column_in columns n) (get_or frame n []) (put_back columns frame n memory)
+
+-- the amounts of all rows, merged into a number
+abbrev pub total_of : Operation → List ℤ → ℤ → ℤ
+total_of how column number = total (operation how) column ROWS number
+
+-- those of a scalar's column, merged into its partial
+abbrev pub total_put : Scalar → (column partials : List ℤ) → List ℤ
+total_put (Value at) column partials = partials
+total_put (Amount at slot how) column partials = slice_set partials slot (total_of how column (get_or partials slot (pos 0)))
+
+-- those of each scalar's column
+abbrev pub totals : List Scalar → (columns : List (List ℤ)) → (partials : List ℤ) → List ℤ
+totals [] columns partials = partials
+totals (x ∷ xs) [] partials = partials
+totals (x ∷ xs) (c ∷ cs) partials = totals xs cs (total_put x c partials)

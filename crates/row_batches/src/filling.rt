@@ -1,0 +1,88 @@
+// Columns that are filled for a batch: with the components that the loop reads, and with units where it reduces.
+
+ghost use Rattle.std.specs.Prelude.{◌≡◌, ◌<◌, ◌≤◌, ◌+◌, ℕ, ℤ, [], length, get_or};
+ghost use Rattle.kernel_columns.specs.declared.columns.TheConstants.{ROWS};
+ghost use Rattle.kernel_columns.specs.Rows.{at_row};
+ghost use Rattle.rank_state.specs.Windows.{index, first, Reads};
+ghost use Rattle.row_batches.specs.RowLoops.{column_in, scalar_in};
+ghost use Rattle.row_batches.specs.Filled.{ColumnStands, ColumnsStand, IsFilled};
+
+use crate::rows::RowColumn;
+use kernel_columns::{Column, Numbers, ROWS, gather};
+use rank_state::{Operation, Scalar};
+use reductions::{Access, Greatest, Least, Merge, Sum};
+
+/// The same number in each row.
+pub fn fill_with(column: &mut Column, number: i32)
+    ensures { (l : ℕ) → l < ROWS → at_row l column.new ≡ number }
+{
+    for l in 0..ROWS {
+        column[l] = number;
+    }
+}
+
+// Fills a column of a dat's component.
+fn fill_column(column: &RowColumn, numbers: &[Numbers], memory: &[i32], cells: &mut Column)
+    requires { ColumnStands numbers.now (length memory.now) column.now }
+    ensures { IsFilled numbers.now memory.now column.now cells.new }
+{
+    match column.access {
+        Access::Read | Access::Rw => gather(
+            memory,
+            &numbers[column.way],
+            column.cell,
+            column.dim,
+            0,
+            cells,
+        ),
+        Access::Write => {}
+        Access::Inc => fill_with(cells, Sum::unit()),
+        Access::Min => fill_with(cells, Least::unit()),
+        Access::Max => fill_with(cells, Greatest::unit()),
+    }
+}
+
+/// Fills the columns of the dats' components, the first ones of the frame.
+pub fn fill_columns(
+    columns: &[RowColumn],
+    numbers: &[Numbers],
+    memory: &[i32],
+    frame: &mut [Column],
+)
+    requires stand { ColumnsStand numbers.now (length memory.now) columns.now }
+    requires room { length columns.now ≤ length frame.old }
+    ensures { (c : ℕ) → c < length columns.now → IsFilled numbers.now memory.now (column_in columns.now c) (get_or frame.new c []) }
+{
+    for (c, column) in columns.iter().enumerate() {
+        fill_column(column, numbers, memory, &mut frame[c]);
+    }
+}
+
+// The first value of a scalar.
+fn first_value(variables: &[i32], scalar: Scalar) -> i32
+    requires { index scalar < length variables.now }
+    ensures { result ≡ first variables.now scalar }
+{
+    match scalar {
+        Scalar::Value { at } => variables[at],
+        Scalar::Amount { how, .. } => match how {
+            Operation::Sum => Sum::unit(),
+            Operation::Least => Least::unit(),
+            Operation::Greatest => Greatest::unit(),
+        },
+    }
+}
+
+/// Fills the columns of the scalars, behind so many others.
+pub fn fill_scalars(scalars: &[Scalar], variables: &[i32], from: usize, frame: &mut [Column])
+    requires inside { Reads (length variables.now) scalars.now }
+    requires room { from + length scalars.now ≤ length frame.old }
+    ensures filled { (j l : ℕ) → j < length scalars.now → l < ROWS
+        → at_row l (get_or frame.new (from + j) []) ≡ first variables.now (scalar_in scalars.now j) }
+    ensures kept { (c : ℕ) → c < from → get_or frame.new c [] ≡ get_or frame.old c [] }
+{
+    for (j, scalar) in scalars.iter().enumerate() {
+        let number = first_value(variables, *scalar);
+        fill_with(&mut frame[from + j], number);
+    }
+}

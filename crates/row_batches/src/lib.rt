@@ -1,0 +1,14 @@
+//! Batches of a loop's elements on a rank: 64 of them at once, each with a row of its own in columns.
+#![tactic(auto)]
+
+mod batch;
+mod filling;
+mod meeting;
+mod putting;
+mod ranges;
+mod rows;
+mod ways;
+
+pub use batch::run_batch;
+pub use rows::{RowColumn, RowLoop, RowRoom};
+pub use ways::{LocalVia, local_number};
