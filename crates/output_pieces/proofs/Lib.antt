@@ -1,0 +1,6 @@
+pub mod Counted
+pub mod Cutting
+pub mod Searching
+pub mod Unique
+pub mod Printed
+pub mod Running

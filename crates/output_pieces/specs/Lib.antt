@@ -1,0 +1,6 @@
+pub mod Lines
+pub mod Pieces
+pub mod Answered
+pub mod Found
+pub mod Cuts
+pub mod Laws

@@ -1,0 +1,25 @@
+-- How a call ends.
+use Rattle.std.proofs.Common.{◌≡◌, ℕ, inl, inr, Err}
+use Rattle.op_outside.specs.Outside.{Rose}
+use Rattle.answer_lines.specs.Lines.{Answer}
+use Rattle.answer_lines.specs.declared.refusals.Failure.{Failure}
+use Rattle.answer_lines.specs.declared.refusals.Failure.TheVariants.{Unread, OutOfMemory}
+use Rattle.answers.specs.Endings as ending
+use Rattle.answers.specs.Endings.{Answered, Unwritten, Call, IsReported, ending_status, ending_line}
+use Rattle.tool_command.specs.Endings.{Tells, CallAnswers, Ends, Writes, ending_of}
+
+-- with an answer
+pub ended : (c : Call) (status : ℕ) (a : Answer) → Tells c.words c.told a → Writes a status c.writes c.out (IsReported c) → Ends c status
+ended c status a t (inl x) = record { ending = Answered a; is = x.0; cause = (t, x.1); report = x.2 }
+ended c status a t (inr x) = record { ending = Unwritten a; is = x.0; cause = (x.1, t, x.2, x.3); report = x.4 }
+
+-- without one
+pub failed : (c : Call) (status : ℕ) (f : Failure)
+    → CallAnswers c.words c.told (Rose c.reads.0 c.reads.1) (Err f)
+    → c.out.1 ≡ c.out.0
+    → status ≡ ending_status (ending_of f)
+    → IsReported c (ending_line (ending_of f))
+    → Ends c status
+failed c status (Unread name) h same is report =
+    record { ending = ending.Unread name.now; is = is; cause = (h.0, h.1, h.2, same); report = report }
+failed c status OutOfMemory h same is report = record { ending = ending.OutOfMemory; is = is; cause = same; report = report }

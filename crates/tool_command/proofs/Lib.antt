@@ -1,0 +1,4 @@
+pub mod Jobs
+pub mod Wording
+pub mod Ended
+pub mod Lent

@@ -1,0 +1,32 @@
+use Rattle.std.proofs.Common.{[], ◌∷◌}
+use Rattle.tool_words.specs.Words.{ShowsUsage, ShowsVersion}
+use Rattle.tool_words.specs.Values.{job_of}
+use Rattle.answer_lines.specs.Halts.{answer_of}
+use Rattle.tool_command.specs.ToolAnswers.{CommandAnswers}
+use Rattle.tool_command.specs.Endings.{names_for, names_of}
+use Rattle.tool_command.proofs.Lent.{all_left, all_right}
+use Rattle.tool_command.proofs.Wording.{over_all}
+use Rattle.tool_command.proofs.answered.to_asked.Goals as goal
+
+pub on_program-requires-clause-input : goal.on_program-requires-clause-input
+on_program-requires-clause-input g c =
+    all_left (g.F.Shelf.lends c.args.shelf.now) (c.in-OnProgram.source.now ∷ c.in-OnProgram.mesh.now ∷ []) (names_for (job_of c.in-OnProgram.job))
+    (rw c.in-OnProgram.is at c.requires)
+
+pub on_program-requires-clause-own : goal.on_program-requires-clause-own
+on_program-requires-clause-own g c =
+    all_right (g.F.Shelf.lends c.args.shelf.now) (c.in-OnProgram.source.now ∷ c.in-OnProgram.mesh.now ∷ []) (names_for (job_of c.in-OnProgram.job))
+    (rw c.in-OnProgram.is at c.requires)
+
+pub returns-in-OnProgram : goal.returns-in-OnProgram
+returns-in-OnProgram g c = rw c.in-OnProgram.is c.on_program.ensures
+
+pub returns-in_ok-done-in-Usage : goal.returns-in_ok-done-in-Usage
+returns-in_ok-done-in-Usage g c =
+    rw c.in-Usage.is (over_all (g.F.Shelf.told c.args.shelf.now) (names_of ShowsUsage) (CommandAnswers ShowsUsage) (answer_of c.in_ok-done-in-Usage.field-0)
+    (λ files. c.in_ok-done-in-Usage.ensures))
+
+pub returns-in_ok-done-in-Version : goal.returns-in_ok-done-in-Version
+returns-in_ok-done-in-Version g c =
+    rw c.in-Version.is (over_all (g.F.Shelf.told c.args.shelf.now) (names_of ShowsVersion) (CommandAnswers ShowsVersion) (answer_of c.in_ok-done-in-Version.field-0)
+    (λ files. c.in_ok-done-in-Version.ensures))

@@ -1,0 +1,2 @@
+pub mod ToolAnswers
+pub mod Endings

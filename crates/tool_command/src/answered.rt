@@ -1,0 +1,67 @@
+// The answer to the words.
+
+ghost use Rattle.std.specs.Prelude.{map, string_bytes, All};
+ghost use Rattle.op_outside.specs.Outside.{Rose};
+ghost use Rattle.job_inputs.specs.Chains.{AnswersOver};
+ghost use Rattle.tool_words.specs.Values.{command_of};
+ghost use Rattle.tool_command.specs.ToolAnswers.{CommandAnswers};
+ghost use Rattle.tool_command.specs.Endings.{AreLent, AnswersWords, CallAnswers, names_of};
+
+use crate::lines::refused_words;
+use crate::programs::on_program;
+use answer_lines::{Answer, Failure, Halt, done, refused};
+use op_outside::Shelf;
+use std::alloc::Global;
+use tool_words::{Asked, USAGE, VERSION, WordsRefusal, read_words};
+
+// The answer to what is asked for.
+fn to_asked<'a, F: Shelf>(
+    alloc: Global,
+    shelf: &mut F,
+    asked: Asked<'a>,
+) -> Result<Answer, Halt<'a>>
+    requires { All (λ name. F.lends shelf.old name) (names_of (command_of asked)) }
+    ensures { AnswersOver (F.told shelf.old) (names_of (command_of asked.entry)) (CommandAnswers (command_of asked.entry))
+        (Rose (F.faults shelf.old) (F.faults shelf.new)) result }
+{
+    match asked {
+        Asked::OnProgram { job, source, mesh } => on_program(alloc, shelf, job, source, mesh),
+        Asked::Usage => Ok(done(alloc, USAGE)?),
+        Asked::Version => Ok(done(alloc, VERSION)?),
+    }
+}
+
+// What the words ask for and its answer, where nothing is refused.
+fn to_words<'a, F: Shelf>(
+    alloc: Global,
+    words: &'a Vec<String>,
+    shelf: &mut F,
+) -> Result<Answer, Halt<'a>>
+    requires { AreLent (λ name. F.lends shelf.old name) (map string_bytes words.now.items) }
+    ensures { AnswersWords (map string_bytes words.now.items) (F.told shelf.old) (Rose (F.faults shelf.old) (F.faults shelf.new)) result }
+{
+    match read_words(alloc, words) {
+        Ok(asked) => to_asked(alloc, shelf, asked),
+        Err(WordsRefusal::Usage) => Ok(refused_words(alloc)?),
+        Err(WordsRefusal::OutOfMemory) => Err(Halt::Failed(Failure::OutOfMemory)),
+    }
+}
+
+/// The answer to the words, or what failed before there is one.
+pub fn answered<'a, F: Shelf>(
+    alloc: Global,
+    words: &'a Vec<String>,
+    shelf: &mut F,
+) -> Result<Answer, Failure<'a>>
+    requires { AreLent (λ name. F.lends shelf.old name) (map string_bytes words.now.items) }
+    ensures { CallAnswers (map string_bytes words.now.items) (F.told shelf.old) (Rose (F.faults shelf.old) (F.faults shelf.new)) result }
+{
+    match to_words(alloc, words, shelf) {
+        Ok(answer) => Ok(answer),
+        Err(Halt::Failed(failure)) => Err(failure),
+        Err(Halt::Refused(refusal)) => match refused(alloc, &refusal) {
+            Ok(answer) => Ok(answer),
+            Err(_) => Err(Failure::OutOfMemory),
+        },
+    }
+}

@@ -1,0 +1,61 @@
+// The lines of the tool's own refusals.
+
+ghost use Rattle.std.specs.Prelude.{◌≡◌, ◌++◌, codes, OnOk, IfOk};
+ghost use Rattle.answer_lines.specs.Halts.{answer_of};
+ghost use Rattle.answer_lines.specs.Reports.{Stands};
+ghost use Rattle.tool_command.specs.ToolAnswers.{tool_line, refused_by_tool, words_refused, said_of_piece};
+
+use answer_lines::{Answer, put_counted, put_named};
+use op_num::OutOfMemory;
+use op_outside::{Sink, write_all_of};
+use output_pieces::PieceRefusal;
+use std::alloc::Global;
+
+// The line of words that are refused.
+const USAGE_LINE: &[u8] = b"op2-tools: usage\n";
+
+/// The answer to words that are refused. An error is want of memory.
+pub fn refused_words(alloc: Global) -> Result<Answer, OutOfMemory>
+    ensures { IfOk result (λ a. answer_of a ≡ words_refused) }
+{
+    Ok(Answer::Refused {
+        status: 2,
+        line: USAGE_LINE.to_vec(alloc)?,
+    })
+}
+
+/// Writes the line of words that are refused to `err`, whole or a front of it where a write fails, and gives their status.
+pub fn report_usage<E: Sink>(err: &mut E) -> u8
+    ensures status { result ≡ 2 }
+    ensures said { Stands (E.faults err.old, E.faults err.new) (E.written err.old, E.written err.new) (tool_line (codes "usage")) }
+{
+    let _ = write_all_of(err, USAGE_LINE);
+    2
+}
+
+// What is said where there is no piece.
+fn put_said(out: &mut Vec<u8>, file: &str, refusal: PieceRefusal) -> Result<(), OutOfMemory>
+    ensures { OnOk result (out.new.items ≡ out.old.items ++ said_of_piece file.now refusal) }
+{
+    match refusal {
+        PieceRefusal::NoPrint => put_named(out, b"pick 1 name ", file.as_bytes()),
+        PieceRefusal::NoHeader { line } => put_counted(out, b"pick 2 line", line),
+        PieceRefusal::FewRows { line } => put_counted(out, b"pick 3 line", line),
+        PieceRefusal::OutOfMemory => Ok(()),
+    }
+}
+
+/// The answer where there is no piece. An error is want of memory.
+pub fn refused_piece(
+    alloc: Global,
+    file: &str,
+    refusal: PieceRefusal,
+) -> Result<Answer, OutOfMemory>
+    ensures { IfOk result (λ a. answer_of a ≡ refused_by_tool (said_of_piece file.now refusal)) }
+{
+    let mut line = Vec::new(alloc);
+    line.extend_from_slice(b"op2-tools: ")?;
+    put_said(&mut line, file, refusal)?;
+    line.extend_from_slice(b"\n")?;
+    Ok(Answer::Refused { status: 20, line })
+}

@@ -1,0 +1,76 @@
+// The whole of what the program does.
+
+ghost use Rattle.std.specs.Prelude.{◌≡◌, map, string_bytes};
+ghost use Rattle.answers.specs.Endings.{ending_status, ending_line};
+ghost use Rattle.answer_lines.specs.Halts.{answer_of};
+ghost use Rattle.answer_lines.specs.Reports.{Stands};
+ghost use Rattle.tool_command.specs.Endings.{AreLent, Ends, Writes, ending_of};
+
+use crate::answered::answered;
+use answer_lines::{Answer, Failure, Line, report};
+use op_outside::{Shelf, Sink, write_all_of};
+use std::alloc::Global;
+
+/// Does what the words say, and answers the status that the program ends with.
+///
+/// `words` has the program's name first; `op2-tools --help` tells what may stand behind it. What is written to `out` is written at the
+/// end. Where the call ends with another status than 0, one line is written to `err`, and where it is neither 0 nor 4, nothing to `out`.
+pub fn tools<F: Shelf, O: Sink, E: Sink>(
+    alloc: Global,
+    words: &Vec<String>,
+    shelf: &mut F,
+    out: &mut O,
+    err: &mut E,
+) -> u8
+    requires { AreLent (λ name. F.lends shelf.old name) (map string_bytes words.now.items) }
+
+    // The call has one of the endings, with its cause, its status and its line: by the answer that the words and the files have.
+    ensures { Ends (record {
+      words = map string_bytes words.now.items;
+      told = F.told shelf.old;
+      reads = (F.faults shelf.old, F.faults shelf.new);
+      writes = (O.faults out.old, O.faults out.new);
+      reports = (E.faults err.old, E.faults err.new);
+      out = (O.written out.old, O.written out.new);
+      err = (E.written err.old, E.written err.new);
+    }) result }
+{
+    match answered(alloc, words, shelf) {
+        Ok(answer) => write_answer(&answer, out, err),
+        Err(failure) => write_failure(failure, err),
+    }
+}
+
+// Writes an answer, and gives the status.
+fn write_answer<O: Sink, E: Sink>(answer: &Answer, out: &mut O, err: &mut E) -> u8
+    ensures { Writes (answer_of answer.now) result (O.faults out.old, O.faults out.new) (O.written out.old, O.written out.new)
+        (Stands (E.faults err.old, E.faults err.new) (E.written err.old, E.written err.new)) }
+{
+    match answer {
+        Answer::Done(bytes) => match write_all_of(out, bytes) {
+            Ok(()) => 0,
+            Err(_) => report(err, Line::CannotWrite),
+        },
+        Answer::Faulted { out: bytes, line } => {
+            let _ = write_all_of(out, bytes);
+            let _ = write_all_of(err, line);
+            9
+        }
+        Answer::Refused { status, line } => {
+            let _ = write_all_of(err, line);
+            *status
+        }
+    }
+}
+
+// Writes the line of a call that has no answer, and gives the status.
+fn write_failure<E: Sink>(failure: Failure<'_>, err: &mut E) -> u8
+    ensures status { result ≡ ending_status (ending_of failure.entry) }
+    ensures said { Stands (E.faults err.old, E.faults err.new) (E.written err.old, E.written err.new)
+        (ending_line (ending_of failure.entry)) }
+{
+    match failure {
+        Failure::Unread(name) => report(err, Line::CannotRead(name)),
+        Failure::OutOfMemory => report(err, Line::OutOfMemory),
+    }
+}

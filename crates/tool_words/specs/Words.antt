@@ -1,0 +1,107 @@
+-- The words of the command line of `op2-tools`, by `clap`'s own model of the command.
+use Rattle.std.specs.Prelude.{◌≡◌, ℕ, ◌-◌, Bool, true, false, ◌&&◌, ◌⊎◌, nat_lt, List, [], ◌∷◌, map, Option, Some, None, codes}
+use Rattle.std.specs.Prelude.{if◌then◌else◌, option_and_then, option_map}
+use Rattle.std.specs.Str.{bytes_eq}
+use Rattle.clap.specs.Walk.{Rule, Row, first_of}
+use Rattle.clap.specs.Simple.{App, new_rule, new_app, with_rule, on_top, matches_of}
+use Rattle.clap.specs.Kinds.{IsAmong}
+use Rattle.clap.specs.Faults.{fault_of}
+use Rattle.clap.specs.declared.error.kind.ErrorKind.{ErrorKind}
+use Rattle.clap.specs.declared.error.kind.ErrorKind.TheVariants as kind
+use Rattle.op_num.specs.Spelling.{number_of}
+
+-- What is done with a program over a mesh: the dat that it prints with this text as its file, behind so many such dats, is picked out of
+-- the output in a file.
+pub data Job : Type 0 where
+  Picks : (output file : List ℕ) (earlier : ℕ) → Job
+
+-- what the words ask for: a job on the program in a file over the mesh in a file, or what the program says of itself
+pub data Command : Type 0 where
+  OnProgram : Job → (source mesh : List ℕ) → Command
+  ShowsUsage : Command
+  ShowsVersion : Command
+
+-- ---- the command as `clap` has it
+
+-- a word without a `-`, required or not
+abbrev pub positional : Bool → List ℕ → Rule
+positional required id = record (new_rule id) { required = required }
+
+-- the command has a version
+abbrev pub versioned : App → App
+versioned a = on_top (λ s. record s { has_version = true }) a
+
+-- the command with further rules, one behind the other
+abbrev pub with_rules : App → List Rule → App
+with_rules a [] = a
+with_rules a (r ∷ rs) = with_rules (with_rule a r) rs
+
+-- the words that a job takes, which needn't all stand
+abbrev pub places : List (List ℕ)
+places = codes "FIRST" ∷ codes "SECOND" ∷ codes "THIRD" ∷ codes "FOURTH" ∷ codes "FIFTH" ∷ []
+
+-- its words
+abbrev pub rules : List Rule
+rules = positional true (codes "JOB") ∷ map (positional false) places
+
+-- `op2-tools JOB WORD ..`, `--help` and `--version`
+abbrev pub command : App
+command = with_rules (versioned (new_app (codes "op2-tools"))) rules
+
+-- ---- what its matches mean
+
+-- the words behind the job's name
+pub record Given : Type 0 where
+  pub first : Option (List ℕ)
+  pub second : Option (List ℕ)
+  pub third : Option (List ℕ)
+  pub fourth : Option (List ℕ)
+  pub fifth : Option (List ℕ)
+
+-- all words
+abbrev pub given_in : List Row → Given
+given_in rows = record {
+  first = first_of (codes "FIRST") rows;
+  second = first_of (codes "SECOND") rows;
+  third = first_of (codes "THIRD") rows;
+  fourth = first_of (codes "FOURTH") rows;
+  fifth = first_of (codes "FIFTH") rows;
+}
+
+-- how many come before the one of a number from 1 on, below 2 ^ 32, in decimal digits; none where no word says which
+abbrev pub earlier_than : Option (List ℕ) → Option ℕ
+earlier_than None = Some 0
+earlier_than (Some word) = option_and_then (λ n. if nat_lt 0 n && nat_lt n 4294967296 then Some (n - 1) else None) (number_of word)
+
+-- SOURCE MESH OUTPUT FILE [N]
+abbrev pub picked : (source mesh output file number : Option (List ℕ)) → Option Command
+picked (Some source) (Some mesh) (Some output) (Some file) number =
+    option_map (λ n. OnProgram (Picks output file n) source mesh) (earlier_than number)
+picked _ _ _ _ number = None
+
+-- by the job's name
+abbrev pub by_name : (job : List ℕ) → Given → Option Command
+by_name job g =
+    if bytes_eq job (codes "pick") then picked g.first g.second g.third g.fourth g.fifth else None
+
+-- the word JOB stands
+abbrev pub asked : (job : Option (List ℕ)) → Given → Option Command
+asked None g = None
+asked (Some job) g = by_name job g
+
+-- what the matches ask for, if they do
+abbrev pub judged : List Row → Option Command
+judged rows = asked (first_of (codes "JOB") rows) (given_in rows)
+
+-- `clap` answers those that ask for help or the version by kinds of their own
+abbrev pub by_kind : ErrorKind → Option Command
+by_kind kind.DisplayHelp = Some ShowsUsage
+by_kind kind.DisplayVersion = Some ShowsVersion
+by_kind k = None
+
+-- What the words, the program's name first, ask for, or none where they are refused: by their matches where `clap` has nothing against
+-- them, and else by what it has against them.
+abbrev pub WordsAre : List (List ℕ) → Option Command → Type 0
+WordsAre words r =
+    ((fault_of command words ≡ []) × (judged (matches_of command words) ≡ r))
+    ⊎ ((k : ErrorKind) × IsAmong k (fault_of command words) × (by_kind k ≡ r))

@@ -1,0 +1,16 @@
+//! The words of the command line of `op2-tools`: what they ask for, and when they are refused.
+//!
+//! `clap` judges the words; what its matches mean is defined in `specs/Words.antt`, and `read_words` gives exactly that.
+#![tactic(auto)]
+
+mod asked;
+mod command;
+mod jobs;
+mod read;
+mod refusals;
+mod usage;
+
+pub use asked::{Asked, Job};
+pub use read::read_words;
+pub use refusals::WordsRefusal;
+pub use usage::{USAGE, VERSION};

@@ -1,0 +1,67 @@
+// What the words ask for, by `clap`'s matches of them.
+
+ghost use Rattle.std.specs.Prelude.{◌≡◌, map, codes, string_bytes, option_map, Err};
+ghost use Rattle.clap.specs.Matches.{found_of, first_value};
+ghost use Rattle.clap.specs.Values.{kind_of};
+ghost use Rattle.clap.specs.declared.error.kind.ErrorKind.TheVariants as kind;
+ghost use Rattle.tool_words.specs.Words.{asked, by_kind};
+ghost use Rattle.tool_words.specs.declared.refusals.WordsRefusal.TheVariants.{OutOfMemory};
+ghost use Rattle.tool_words.specs.Values.{given_of, given_found, AsksBy, IsRead};
+
+use crate::asked::Asked;
+use crate::command::matched;
+use crate::jobs::{Given, by_name};
+use crate::refusals::WordsRefusal;
+use clap::error::ErrorKind;
+use clap::{ArgMatches, Error};
+use std::alloc::Global;
+
+/// What the words, the program's name first, ask for. `Usage`: the words are not those of a command. `OutOfMemory`: for want of memory
+/// alone.
+pub fn read_words<'a>(alloc: Global, words: &'a Vec<String>) -> Result<Asked<'a>, WordsRefusal>
+    ensures { IsRead (map string_bytes words.now.items) result }
+{
+    match matched(alloc, words) {
+        Ok(matches) => job_of(&matches),
+        Err(error) => refused(&error),
+    }
+}
+
+// What words are asked for that `clap` has matched.
+fn job_of<'a>(matches: &ArgMatches<'a>) -> Result<Asked<'a>, WordsRefusal>
+    ensures { AsksBy result (asked (first_value (found_of matches.now) (codes "JOB")) (given_found (found_of matches.now))) }
+{
+    let Some(job) = matches.get_str("JOB") else {
+        return Err(WordsRefusal::Usage);
+    };
+    match by_name(job, &given(matches)) {
+        Some(asked) => Ok(asked),
+        None => Err(WordsRefusal::Usage),
+    }
+}
+
+// The words behind the job's name, as `clap` has matched them.
+fn given<'a>(matches: &ArgMatches<'a>) -> Given<'a>
+    ensures { given_of result ≡ given_found (found_of matches.now) }
+{
+    Given {
+        first: matches.get_str("FIRST"),
+        second: matches.get_str("SECOND"),
+        third: matches.get_str("THIRD"),
+        fourth: matches.get_str("FOURTH"),
+        fifth: matches.get_str("FIFTH"),
+    }
+}
+
+// What words are asked for that `clap` has not: `--help` and `--version` have errors of their own.
+fn refused<'a>(error: &Error) -> Result<Asked<'a>, WordsRefusal>
+    ensures asks { AsksBy result (by_kind (kind_of error.now)) }
+    ensures memory { kind_of error.now ≡ kind.OutOfMemory → result ≡ Err OutOfMemory }
+{
+    match error.kind() {
+        ErrorKind::DisplayHelp => Ok(Asked::Usage),
+        ErrorKind::DisplayVersion => Ok(Asked::Version),
+        ErrorKind::OutOfMemory => Err(WordsRefusal::OutOfMemory),
+        _ => Err(WordsRefusal::Usage),
+    }
+}

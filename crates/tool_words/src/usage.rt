@@ -1,0 +1,23 @@
+// The texts that the program writes about itself.
+
+/// What `--help` writes.
+pub const USAGE: &str = "op2-tools JOB WORD ..
+
+Jobs
+  pick SOURCE MESH OUTPUT FILE [N]
+                 writes what the N-th dat that the program prints with FILE as its file says, out of the output of a run
+                 in the file OUTPUT; N is 1 where it isn't given. SOURCE and MESH are those of the run: they tell where it is
+
+Options that stand alone
+  -h, --help     writes this text
+  -V, --version  writes the version
+
+Statuses
+  0              all is well
+  2              the words are none of these
+  20             what the job reads is refused
+  others         as of op2, with its line
+";
+
+/// What `--version` writes.
+pub const VERSION: &str = "op2-tools 0.1.0\n";
