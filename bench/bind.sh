@@ -1,6 +1,6 @@
 #!/bin/sh
 # Times `op2 run` where binding is most of it, and shows each run's peak memory. First sources of 1 MiB over a mesh of empty sets, with as many
-# constants, variables, loops or arguments as there is room for; then maps and dats of 1,048,576 values each, as many as a mesh may have cells, beside
+# constants, variables, loops or arguments as there is room for; statements that are repeated as often as may be; then maps and dats of 1,048,576 values each, as many as a mesh may have cells, beside
 # the same mesh with none of them. Nothing is computed but what `main` itself does.
 # Usage: [OP2=PROGRAM] bench/bind.sh [BYTES]     (1048576 where none is given; ./op2 where no other program is named)
 here=$(CDPATH= cd -- "$(dirname -- "$0")/.." && pwd) || exit 1
@@ -52,6 +52,15 @@ timed("globals", tops=externs + "void add(const int *a, int *g) { *g += a[0]; }\
       line=lambda k: f'op_par_loop(add, "add", s, op_arg_dat(x, -1, OP_ID, 1, "int", OP_READ), op_arg_gbl(&g{k}, 1, "int", OP_INC));\n')
 timed("loops", tops=externs + "void bump(int *a) { a[0] = a[0] + 1; }\n", declared=SET + 'op_dat x = op_decl_dat(s, 1, "int", none, "x");\n',
       line=lambda k: 'op_par_loop(bump, "bump", s, op_arg_dat(x, -1, OP_ID, 1, "int", OP_RW));\n')
+
+# as many turns as there may be of one statement
+def total(count, term):
+    return term if count == 1 else f"({total(count // 2, term)} + {total(count - count // 2, term)})"
+
+turns = 32767
+for what, term in ("", "1"), (" of its counter", "i"):
+    line = f"for (int i = 0; i < {turns}; i++) x = {total(1000, term)};\n"
+    spent(f"{turns} turns of a sum of 1000 terms{what}", source(declared="int x = 0;\n", most=1, line=lambda k: line)[0], "empty.mesh")
 
 # all sets, maps and dats that there may be, and loops with all arguments that they may have
 numbers = range(ARGUMENTS)

@@ -18,21 +18,6 @@ pub enum Parts<'a> {
     Text(&'a [u8]),
 }
 
-impl<'a> Parts<'a> {
-    ghost use Rattle.std.specs.Prelude.{◌↔◌, IsTrue};
-    ghost use Rattle.distribute.specs.Parts.{parts_of, HasLines};
-
-    /// Whether a text, where there is one, has lines that 32 bits can count: it has fewer than 2^32 - 1 bytes.
-    pub fn has_lines(&self) -> bool
-        ensures { IsTrue result ↔ HasLines (parts_of self.now) }
-    {
-        match *self {
-            Parts::Text(bytes) => bytes.len() < 4_294_967_295,
-            _ => true,
-        }
-    }
-}
-
 /// Why there are no new numbers.
 #[derive(Clone, Copy, PartialEq, Eq, Debug)]
 pub enum NumbersRefusal<'a> {
