@@ -5,10 +5,11 @@
 //! each as a condition on owners and targets; the lists hold exactly the elements that meet it.
 #![tactic(auto)]
 
-ghost use Rattle.std.specs.Prelude.{◌<◌, IfOk};
+ghost use Rattle.std.specs.Prelude.{◌≡◌, ℕ, ◌<◌, IfOk, length, slice_index_or};
 ghost use Rattle.mesh_decl.specs.Mesh.{set_count, IsInRange};
 ghost use Rattle.mesh_decl.specs.Owners.{AreOwners};
 ghost use Rattle.halo_lists.specs.Sets.{AreExecuting};
+ghost use Rattle.halo_lists.specs.declared.types.SetHalo.{SetHalo as TheHalo};
 ghost use Rattle.halo_lists.specs.Halos.{IsSetHalo, AreHalos};
 
 mod exports;
@@ -18,6 +19,7 @@ mod masks;
 mod named;
 mod split;
 mod types;
+mod whole;
 
 pub use fit::owners_fit;
 pub use laws::{
@@ -32,6 +34,7 @@ use rank_sets::RankSet;
 use split::set_halo;
 use std::alloc::Global;
 pub use types::{Halos, SetHalo};
+use whole::whole_halos;
 
 // For each element of each set, the ranks that execute it.
 fn executing_sets(
@@ -70,18 +73,34 @@ fn halo_of(
     Ok(halo)
 }
 
-/// The halos of each set of a mesh, under `owners` that fit it. It takes time linear in the elements, the maps' targets
-/// and what is imported, and fails only for want of memory.
-pub fn halos(alloc: Global, mesh: &Mesh, owners: &Owners) -> Result<Halos, OutOfMemory>
+// The halos of each set, over ranks that may import elements of each other.
+fn split_halos(alloc: Global, mesh: &Mesh, owners: &Owners) -> Result<Vec<SetHalo>, OutOfMemory>
+    requires mesh { IsInRange mesh.now }
     requires owners { AreOwners mesh.now owners.now }
-    ensures { IfOk result (λ h. AreHalos mesh.now owners.now h) }
+    ensures count { IfOk result (λ v. length v.items ≡ set_count mesh.now) }
+    ensures sets { IfOk result (λ v. (s : ℕ) (d : TheHalo) → s < set_count mesh.now
+        → IsSetHalo mesh.now owners.now s (slice_index_or v.items s d)) }
 {
-    mesh.is_in_range();
     let executing = executing_sets(alloc, mesh, owners)?;
     let mut sets = Vec::new(alloc);
     for set in 0..mesh.set_count() {
         sets.push(halo_of(alloc, mesh, owners, &executing, set)?)?;
     }
+    Ok(sets)
+}
+
+/// The halos of each set of a mesh, under `owners` that fit it. It takes time linear in the elements, the maps' targets
+/// and what is imported, on one rank in the elements alone, and fails only for want of memory.
+pub fn halos(alloc: Global, mesh: &Mesh, owners: &Owners) -> Result<Halos, OutOfMemory>
+    requires owners { AreOwners mesh.now owners.now }
+    ensures { IfOk result (λ h. AreHalos mesh.now owners.now h) }
+{
+    mesh.is_in_range();
+    let sets = if owners.ranks == 1 {
+        whole_halos(alloc, mesh, owners)?
+    } else {
+        split_halos(alloc, mesh, owners)?
+    };
     Ok(Halos {
         ranks: owners.ranks,
         sets,

@@ -51,3 +51,10 @@ all_added lists i cur r n x l h = ⊎_elim
     (λ (m : r < n). h ∙ ap (λ z. i || (z && stands (row lists r) x)) (lt-ltb r n m))
     (λ (m : n ≤ r). h ∙ (ap (λ z. i || (z && stands (row lists r) x)) (le-ltb r n m) ∙ sym (ap (λ z. i || z) (stands_past lists r x (omega arith)))))
     (cases_lt r n)
+
+-- the empty lists as they are read
+pub empty_long : (now items : List (Vec ℕ Global)) (rooms counts : List ℕ) (n : ℕ) → now ≡ items → length items ≡ length rooms → rooms ≡ counts → length counts ≡ n → length now ≡ n
+empty_long now items rooms counts n e l q h = ap (length {A = Vec ℕ Global}) e ∙ (l ∙ (ap (length {A = ℕ}) q ∙ h))
+
+pub empty_rows : (now items : List (Vec ℕ Global)) (rooms counts : List ℕ) (n : ℕ) → now ≡ items → rooms ≡ counts → length counts ≡ n → ((r : ℕ) → r < length rooms → row items r ≡ []) → (r : ℕ) → r < n → row now r ≡ []
+empty_rows now items rooms counts n e q h none r l = ap (λ (z : List (Vec ℕ Global)). row z r) e ∙ none r (rw (q, h) l)

@@ -1,5 +1,6 @@
 -- The groups of a set, from owners, halos and new numbers.
 use Rattle.std.proofs.Common.{◌≡◌, ◌<◌, ◌||◌, ◌∙◌, ℕ, Bool, List, Vec, length, get_or, nat_eq, sym, ap, subst}
+use Rattle.std.specs.Prelude.{Option, Some, None, IfSome, IfNone}
 use Rattle.std.specs.declared.alloc.Global.{Global}
 use Rattle.mesh_decl.specs.declared.owners.Owners.{Owners}
 use Rattle.mesh_decl.specs.declared.owners.Perms.{Perms}
@@ -13,8 +14,9 @@ use Rattle.halo_lists.specs.Halos.{IsSetHalo}
 use Rattle.local_mesh.specs.declared.types.Groups.{Groups}
 use Rattle.local_mesh.specs.Local.{ordered}
 use Rattle.local_mesh.specs.Standing.{stands}
-use Rattle.local_mesh.specs.Parts.{by_new, AreGroups}
+use Rattle.local_mesh.specs.Parts.{by_new, IsKept, AreCopies, AreGroups}
 use Rattle.local_mesh.proofs.Inverse.{ordered_agree}
+use Rattle.local_mesh.proofs.KeptOrder.{ordered_kept}
 use Rattle.local_mesh.proofs.Stands.{stands_listed}
 
 -- what is listed is below the bound
@@ -52,14 +54,34 @@ module _ (g : MeshValue) (o : Owners) (p : Perms) (s : ℕ) (owners order : List
       ∙ listed_agree (set_size g s) (λ x. nat_eq (get_or owners x 0) r || (stands (row exec r) x || stands (row nonexec r) x)) (λ x. has_copy g o s x r)
       (λ x l. ap (λ z. z || (stands (row exec r) x || stands (row nonexec r) x)) (owns_is x r) ∙ (ap (λ z. owns o s x r || (z || stands (row nonexec r) x)) (exec_is x r l lr) ∙ ap (λ z. owns o s x r || (imports_execute g o s x r || z)) (nonexec_is x r l lr))))
 
-  pub groups_are : (t : Groups) → length t.own.items ≡ o.ranks → ((r : ℕ) → r < o.ranks → row t.own.items r ≡ ordered (length order) (λ j. get_or order j 0) (λ x. nat_eq (get_or owners x 0) r)) → length t.exec.items ≡ o.ranks → ((r : ℕ) → r < o.ranks → row t.exec.items r ≡ ordered (length order) (λ j. get_or order j 0) (λ x. stands (row exec r) x)) → length t.nonexec.items ≡ o.ranks → ((r : ℕ) → r < o.ranks → row t.nonexec.items r ≡ ordered (length order) (λ j. get_or order j 0) (λ x. stands (row nonexec r) x)) → length t.copies.items ≡ o.ranks → ((r : ℕ) → r < o.ranks → row t.copies.items r ≡ listed (length owners) (λ x. nat_eq (get_or owners x 0) r || (stands (row exec r) x || stands (row nonexec r) x))) → AreGroups g o p s t
-  groups_are t a b d e f i j k = record {
-    own_count = a;
-    own = λ r l. own_row r (row t.own.items r) (b r l);
-    exec_count = d;
-    exec = λ r l. exec_row r (row t.exec.items r) l (e r l);
-    nonexec_count = f;
-    nonexec = λ r l. nonexec_row r (row t.nonexec.items r) l (i r l);
-    copies_count = j;
-    copies = λ r l. copies_row r (row t.copies.items r) l (k r l);
-  }
+  -- groups by new number, and all copies by original number
+  pub groups_are : (t : Groups) (c : Vec (Vec ℕ Global) Global) → length t.own.items ≡ o.ranks → ((r : ℕ) → r < o.ranks → row t.own.items r ≡ ordered (length order) (λ j. get_or order j 0) (λ x. nat_eq (get_or owners x 0) r)) → length t.exec.items ≡ o.ranks → ((r : ℕ) → r < o.ranks → row t.exec.items r ≡ ordered (length order) (λ j. get_or order j 0) (λ x. stands (row exec r) x)) → length t.nonexec.items ≡ o.ranks → ((r : ℕ) → r < o.ranks → row t.nonexec.items r ≡ ordered (length order) (λ j. get_or order j 0) (λ x. stands (row nonexec r) x)) → t.copies ≡ Some c → length c.items ≡ o.ranks → ((r : ℕ) → r < o.ranks → row c.items r ≡ listed (length owners) (λ x. nat_eq (get_or owners x 0) r || (stands (row exec r) x || stands (row nonexec r) x))) → AreGroups g o p s t
+  groups_are t c a b d e f i q j k =
+      let copies : AreCopies g o s c.items = record { count = j; each = λ r l. copies_row r (row c.items r) l (k r l) } in
+      record {
+        own_count = a;
+        own = λ r l. own_row r (row t.own.items r) (b r l);
+        exec_count = d;
+        exec = λ r l. exec_row r (row t.exec.items r) l (e r l);
+        nonexec_count = f;
+        nonexec = λ r l. nonexec_row r (row t.nonexec.items r) l (i r l);
+        copies = subst (λ (z : Option (Vec (Vec ℕ Global) Global)). IfSome z (λ v. AreCopies g o s v.items)) (sym q) copies;
+        kept = subst (λ (z : Option (Vec (Vec ℕ Global) Global)). IfNone z (IsKept (set_size g s) (by_new p s))) (sym q) tt;
+      }
+
+  -- groups of elements that keep their numbers
+  pub kept_are : (t : Groups) → IsKept (length order) (λ j. get_or order j 0) → length t.own.items ≡ o.ranks → ((r : ℕ) → r < o.ranks → row t.own.items r ≡ ordered (length order) (λ j. get_or order j 0) (λ x. nat_eq (get_or owners x 0) r)) → length t.exec.items ≡ length exec → ((r : ℕ) → r < length exec → row t.exec.items r ≡ row exec r) → length t.nonexec.items ≡ length nonexec → ((r : ℕ) → r < length nonexec → row t.nonexec.items r ≡ row nonexec r) → t.copies ≡ None → AreGroups g o p s t
+  kept_are t kept a b d e f i q =
+      let n = ap (length {A = Vec ℕ Global}) ee ∙ halo.exec_count in
+      let m = ap (length {A = Vec ℕ Global}) en ∙ halo.nonexec_count in
+      let k : IsKept (set_size g s) (by_new p s) = subst (λ (z : List ℕ). (j : ℕ) → j < set_size g s → get_or z j 0 ≡ j) ep (λ j l. kept j (rw (ap (length {A = ℕ}) ep ∙ perms.length) l)) in
+      record {
+        own_count = a;
+        own = λ r l. own_row r (row t.own.items r) (b r l);
+        exec_count = d ∙ n;
+        exec = λ r l. e r (rw n l) ∙ (ap (λ (z : List (Vec ℕ Global)). row z r) ee ∙ (halo.exec r l ∙ sym (ordered_kept (set_size g s) (by_new p s) (λ x. imports_execute g o s x r) k)));
+        nonexec_count = f ∙ m;
+        nonexec = λ r l. i r (rw m l) ∙ (ap (λ (z : List (Vec ℕ Global)). row z r) en ∙ (halo.nonexec r l ∙ sym (ordered_kept (set_size g s) (by_new p s) (λ x. imports_nonexecute g o s x r) k)));
+        copies = subst (λ (z : Option (Vec (Vec ℕ Global) Global)). IfSome z (λ v. AreCopies g o s v.items)) (sym q) tt;
+        kept = subst (λ (z : Option (Vec (Vec ℕ Global) Global)). IfNone z (IsKept (set_size g s) (by_new p s))) (sym q) k;
+      }

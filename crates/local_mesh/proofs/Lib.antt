@@ -2,6 +2,7 @@ pub mod Inverse
 pub mod Stands
 pub mod Adding
 pub mod Numbered
+pub mod KeptOrder
 pub mod Joining
 pub mod Closing
 pub mod Growing
@@ -13,3 +14,6 @@ pub mod LocalTargets
 pub mod OneMesh
 pub mod AtOwners
 pub mod Held
+pub mod OneRank
+pub mod MadeMesh
+pub mod Stretches

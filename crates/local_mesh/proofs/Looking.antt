@@ -5,27 +5,27 @@ use Rattle.std.proofs.lemmas.List.{get_or-take, length-take-le}
 use Rattle.mesh_decl.specs.Mesh.{MeshValue, IsMapAt, map_count, map_from, map_to, map_dim, target}
 use Rattle.local_mesh.specs.declared.types.LocalSet.{LocalSet}
 use Rattle.local_mesh.specs.Lookup.{IsLookup}
-use Rattle.local_mesh.specs.Parts.{AreParts}
+use Rattle.local_mesh.specs.Parts.{AreParts, AreSorted}
 use Rattle.local_mesh.specs.LocalMesh.{originals_in, executed_in, AreClosed, AreLocalTargets}
 use Rattle.local_mesh.proofs.Stands.{contains_get}
 
-pub lookup_is : (room : ℕ) (original copies kept locals now scratch : List ℕ) → AreParts room original copies → kept ≡ copies → now ≡ original → length locals ≡ length copies → ((k : ℕ) → k < length copies → get_or locals k 0 ≡ get_or scratch (get_or copies k 0) 0) → ((k : ℕ) → k < length now → get_or scratch (get_or now k 0) 0 ≡ k) → IsLookup original kept locals
-lookup_is room original copies kept locals now scratch parts ek en ll at num = subst (λ (z : List ℕ). IsLookup original z locals) (sym ek) (record {
-  same = ll;
-  within = λ k l. (let c = parts.found k l in rw (local_is k l) c.1);
-  stands = λ k l. rw (local_is k l) (contains_get original (get_or copies k 0) (parts.found k l));
-  all = parts.all;
-  rising = parts.rising;
+pub lookup_is : (room : ℕ) (original copies read locals scratch : List ℕ) → AreParts room original → AreSorted original copies → read ≡ copies → length locals ≡ length read → ((k : ℕ) → k < length read → get_or locals k 0 ≡ get_or scratch (get_or read k 0) 0) → ((k : ℕ) → k < length original → get_or scratch (get_or original k 0) 0 ≡ k) → IsLookup original copies locals
+lookup_is room original copies read locals scratch parts sorted e ll at num = record {
+  same = ll ∙ ap (length {A = ℕ}) e;
+  within = λ k l. (let c = sorted.found k l in rw (local_is k l) c.1);
+  stands = λ k l. rw (local_is k l) (contains_get original (get_or copies k 0) (sorted.found k l));
+  all = sorted.all;
+  rising = sorted.rising;
   apart = parts.apart;
-})
+}
   where
-    numbers : (k : ℕ) → k < length original → get_or scratch (get_or original k 0) 0 ≡ k
-    numbers = subst (λ (z : List ℕ). (k : ℕ) → k < length z → get_or scratch (get_or z k 0) 0 ≡ k) en num
+    read_at : (k : ℕ) → k < length copies → get_or locals k 0 ≡ get_or scratch (get_or copies k 0) 0
+    read_at = subst (λ (z : List ℕ). (k : ℕ) → k < length z → get_or locals k 0 ≡ get_or scratch (get_or z k 0) 0) e at
 
-    local_is : (k : ℕ) (l : k < length copies) → get_or locals k 0 ≡ (parts.found k l).0
+    local_is : (k : ℕ) (l : k < length copies) → get_or locals k 0 ≡ (sorted.found k l).0
     local_is k l =
-        let c = parts.found k l in
-        at k l ∙ (ap (λ z. get_or scratch z 0) (sym (contains_get original (get_or copies k 0) c)) ∙ numbers c.0 c.1)
+        let c = sorted.found k l in
+        read_at k l ∙ (ap (λ z. get_or scratch z 0) (sym (contains_get original (get_or copies k 0) c)) ∙ num c.0 c.1)
 
 pub targets_are : (g : MeshValue) (m : ℕ) (sets : List LocalSet) (here there elements scratch table : List ℕ) (n : ℕ) → AreClosed g sets → m < map_count g → IsMapAt g m → there ≡ originals_in sets (map_to g m) → here ≡ originals_in sets (map_from g m) → n ≡ executed_in sets (map_from g m) → elements ≡ take n here → ((k : ℕ) → k < length there → get_or scratch (get_or there k 0) 0 ≡ k) → length table ≡ length elements * map_dim g m → ((k i : ℕ) → k < length elements → i < map_dim g m → get_or table (k * map_dim g m + i) 0 ≡ get_or scratch (target g m (get_or elements k 0) i) 0) → AreLocalTargets g m sets table
 targets_are g m sets here there elements scratch table n closed lm at et eh en ee num lt values = record {

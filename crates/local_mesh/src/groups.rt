@@ -1,5 +1,7 @@
 // The elements of one set that each rank has, by new number and by original number.
-ghost use Rattle.std.specs.Prelude.{◌≡◌, ℕ, Bool, true, ◌<◌, ◌≤◌, ◌+◌, ◌^◌, ◌||◌, ◌&&◌, nat_eq, [], IfOk, OnOk, length, slice_index};
+ghost use Rattle.std.specs.Prelude.{◌≡◌, ℕ, Bool, true, ◌<◌, ◌≤◌, ◌+◌, ◌^◌, ◌||◌, ◌&&◌, nat_eq, [], IfOk, OnOk, Some, Vec, length};
+ghost use Rattle.std.specs.Prelude.{slice_index};
+ghost use Rattle.std.specs.declared.alloc.Global.{Global as TheGlobal};
 ghost use Rattle.rank_sets.specs.Below.{listed, row};
 ghost use Rattle.rank_sets.specs.RankSet.{has, has_at};
 ghost use Rattle.local_mesh.specs.Local.{ordered};
@@ -11,7 +13,7 @@ use rank_sets::{RankSet, push_each};
 use std::alloc::Global;
 
 // How many elements each rank owns.
-fn owned_counts(alloc: Global, owners: &[u32], ranks: u32) -> Result<Vec<usize>, OutOfMemory>
+pub fn owned_counts(alloc: Global, owners: &[u32], ranks: u32) -> Result<Vec<usize>, OutOfMemory>
     requires { (x : ℕ) → x < length owners.now → slice_index owners.now x < ranks }
     ensures { IfOk result (λ v. length v.items ≡ ranks) }
 {
@@ -34,7 +36,7 @@ fn lengths_of(alloc: Global, lists: &[Vec<u32>]) -> Result<Vec<usize>, OutOfMemo
 }
 
 // Empty lists, with room for so many numbers each.
-fn lists_with_room(alloc: Global, rooms: &[usize]) -> Result<Vec<Vec<u32>>, OutOfMemory>
+pub fn lists_with_room(alloc: Global, rooms: &[usize]) -> Result<Vec<Vec<u32>>, OutOfMemory>
     ensures length { IfOk result (λ v. length v.items ≡ length rooms.now) }
     ensures empty { IfOk result (λ v. (r : ℕ) → r < length rooms.now → row v.items r ≡ []) }
 {
@@ -81,7 +83,7 @@ fn ranks_listing(alloc: Global, lists: &[Vec<u32>], size: u32) -> Result<Vec<Ran
 }
 
 // Puts each element, in the given order, into the list of its owner.
-fn push_owned(lists: &mut [Vec<u32>], owners: &[u32], order: &[u32]) -> Result<(), OutOfMemory>
+pub fn push_owned(lists: &mut [Vec<u32>], owners: &[u32], order: &[u32]) -> Result<(), OutOfMemory>
     requires few { length lists.old ≤ 64 }
     requires owners { (x : ℕ) → x < length owners.now → slice_index owners.now x < length lists.old }
     requires order { (j : ℕ) → j < length order.now → slice_index order.now j < length owners.now }
@@ -164,11 +166,9 @@ pub fn groups_by_rank(
     ensures nonexec_count { IfOk result (λ t. length t.nonexec.items ≡ ranks) }
     ensures nonexec { IfOk result (λ t. (r : ℕ) → r < ranks
         → row t.nonexec.items r ≡ ordered (length order.now) (slice_index order.now) (λ x. stands (row nonexec.now r) x)) }
-    ensures copies_count { IfOk result (λ t. length t.copies.items ≡ ranks) }
-    ensures copies { IfOk result (λ t. (r : ℕ) → r < ranks
-        → row t.copies.items r
-        ≡ listed (length owners.now) (λ x. nat_eq (slice_index owners.now x) r
-        || (stands (row exec.now r) x || stands (row nonexec.now r) x))) }
+    ensures copies { IfOk result (λ t. (c : Vec (Vec ℕ TheGlobal) TheGlobal) × (t.copies ≡ Some c) × (length c.items ≡ ranks)
+        × ((r : ℕ) → r < ranks → row c.items r ≡ listed (length owners.now) (λ x. nat_eq (slice_index owners.now x) r
+        || (stands (row exec.now r) x || stands (row nonexec.now r) x)))) }
 {
     let size = owners.len() as u32;
     let exec_sets = ranks_listing(alloc, exec, size)?;
@@ -176,15 +176,18 @@ pub fn groups_by_rank(
     let counts = owned_counts(alloc, owners, ranks)?;
     let exec_counts = lengths_of(alloc, exec)?;
     let nonexec_counts = lengths_of(alloc, nonexec)?;
-    let mut found = Groups {
-        own: lists_with_room(alloc, &counts)?,
-        exec: lists_with_room(alloc, &exec_counts)?,
-        nonexec: lists_with_room(alloc, &nonexec_counts)?,
-        copies: lists_with_room(alloc, &counts)?,
-    };
-    push_owned(&mut found.own, owners, order)?;
-    push_listed(&mut found.exec, &exec_sets, order)?;
-    push_listed(&mut found.nonexec, &nonexec_sets, order)?;
-    push_copies(&mut found.copies, owners, &exec_sets, &nonexec_sets)?;
-    Ok(found)
+    let mut own = lists_with_room(alloc, &counts)?;
+    let mut executed = lists_with_room(alloc, &exec_counts)?;
+    let mut read = lists_with_room(alloc, &nonexec_counts)?;
+    let mut copies = lists_with_room(alloc, &counts)?;
+    push_owned(&mut own, owners, order)?;
+    push_listed(&mut executed, &exec_sets, order)?;
+    push_listed(&mut read, &nonexec_sets, order)?;
+    push_copies(&mut copies, owners, &exec_sets, &nonexec_sets)?;
+    Ok(Groups {
+        own,
+        exec: executed,
+        nonexec: read,
+        copies: Some(copies),
+    })
 }

@@ -1,12 +1,15 @@
 // The sets of a rank.
 ghost use Rattle.std.specs.Prelude.{◌≡◌, ℕ, Bool, false, ◌<◌, ◌≤◌, ◌+◌, ◌^◌, ◌&&◌, ◌++◌, nat_lt, IfOk, length, slice_index};
-ghost use Rattle.std.specs.Prelude.{slice_index_or};
+ghost use Rattle.std.specs.Prelude.{slice_index_or, IfSome, IfNone, Some, None, Vec};
+ghost use Rattle.std.specs.declared.alloc.Global.{Global as TheGlobal};
 ghost use Rattle.rank_sets.specs.Below.{row};
 ghost use Rattle.halo_lists.specs.declared.types.SetHalo.{SetHalo};
 ghost use Rattle.local_mesh.specs.declared.types.Groups.{Groups};
 ghost use Rattle.local_mesh.specs.declared.types.LocalSet.{LocalSet};
-ghost use Rattle.local_mesh.specs.Parts.{AreParts, IsJoined, IsReady, IsJoinedFrom};
+ghost use Rattle.local_mesh.specs.Lookup.{Rises};
+ghost use Rattle.local_mesh.specs.Parts.{AreParts, AreSorted, IsJoined, IsReady, IsJoinedFrom};
 
+use crate::lookup::Lookup;
 use crate::originals::Originals;
 use crate::types::{Groups, LocalSet};
 use halo_lists::{Halos, SetHalo};
@@ -49,31 +52,50 @@ fn own_flags(
     Ok(found)
 }
 
-// One set of a rank, from its three groups by new number, all their elements by original number, and which elements
-// are core. What is in `scratch` is lost.
-fn local_set(
+// One set of a rank, from its three groups by new number, and from which elements are core: `copies` has all their
+// elements by original number, unless each group rises. What is in `scratch` is lost.
+pub fn local_set(
     alloc: Global,
     own: &[u32],
     exec: &[u32],
     nonexec: &[u32],
-    copies: &[u32],
+    copies: Option<Vec<u32>>,
     core: &[bool],
     scratch: &mut [u32],
 ) -> Result<LocalSet, OutOfMemory>
-    requires parts { AreParts (length core.now) (own.now ++ exec.now ++ nonexec.now) copies.now }
+    requires parts { AreParts (length core.now) (own.now ++ exec.now ++ nonexec.now) }
+    requires sorted { IfSome copies (λ c. AreSorted (own.now ++ exec.now ++ nonexec.now) c.items) }
+    requires rising { IfNone copies (Rises own.now × Rises exec.now × Rises nonexec.now) }
     requires room { length core.now ≤ length scratch.old }
     ensures { IfOk result (IsJoined own.now exec.now nonexec.now core.now) }
 {
     let numbers = joined(alloc, own, exec, nonexec)?;
     let core = own_flags(alloc, &numbers, own.len(), core)?;
-    let original = Originals::new(alloc, numbers, copies, scratch)?;
+    let executed = own.len() + exec.len();
+    let lookup = Lookup::new(alloc, &numbers, own.len(), executed, copies, scratch)?;
     Ok(LocalSet {
         own: own.len() as u32,
         exec: exec.len() as u32,
         nonexec: nonexec.len() as u32,
-        original,
+        original: Originals::new(numbers, lookup),
         core,
     })
+}
+
+// What a rank has of a set by original number, where the groups tell it.
+fn copies_of(alloc: Global, groups: &Groups, rank: u32) -> Result<Option<Vec<u32>>, OutOfMemory>
+    requires { IfSome groups.now.copies (λ c. rank < length c.items) }
+    ensures some { IfOk result (λ v. IfSome v (λ c. (d : Vec (Vec ℕ TheGlobal) TheGlobal) × (groups.now.copies ≡ Some d)
+        × (c.items ≡ row d.items rank))) }
+    ensures none { IfOk result (λ v. IfNone v (groups.now.copies ≡ None)) }
+{
+    match &groups.copies {
+        Some(lists) => {
+            let copies = Vec::from_slice(alloc, &lists[rank as usize])?;
+            Ok(Some(copies))
+        }
+        None => Ok(None),
+    }
 }
 
 // One set of a rank, from the groups of all ranks. What is in `scratch` is lost.
@@ -90,7 +112,7 @@ fn set_of_rank(
     let own = groups.own[rank as usize].as_slice();
     let exec = groups.exec[rank as usize].as_slice();
     let nonexec = groups.nonexec[rank as usize].as_slice();
-    let copies = groups.copies[rank as usize].as_slice();
+    let copies = copies_of(alloc, groups, rank)?;
     let set = local_set(alloc, own, exec, nonexec, copies, &halo.core, scratch)?;
     Ok(set)
 }

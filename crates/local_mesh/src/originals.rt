@@ -1,50 +1,38 @@
 // Original numbers by local number, and local numbers by original number.
 ghost use Rattle.std.specs.Prelude.{◌≡◌, ◌≢◌, ℕ, ◌<◌, ◌≤◌, ◌^◌, IfOk, IfSome, IfNone, Some, length, slice_index, Contains};
-ghost use Rattle.local_mesh.specs.Parts.{AreParts};
+ghost use Rattle.local_mesh.specs.Lookup.{Finds};
 
+use crate::lookup::Lookup;
 use op_num::OutOfMemory;
 use std::alloc::Global;
 use std::marker::Model;
 
-/// The original numbers of the elements of one set that a rank has, by local number. Contracts see them as a list.
+/// The original numbers of the elements of one set that a rank has, by local number: 4 bytes each, where the set was
+/// renumbered 12. Contracts see them as a list.
 #[derive(Debug, Drop)]
 pub struct Originals {
     numbers: Vec<u32>,
-    // The same in increasing order, and the local number of each.
-    copies: Vec<u32>,
-    locals: Vec<u32>,
+    lookup: Lookup,
 }
 
 impl Model for Originals {
     ghost use Rattle.std.specs.Prelude.{List, ℕ};
-    ghost use Rattle.local_mesh.specs.Lookup.{IsLookup};
+    ghost use Rattle.local_mesh.specs.Lookup.{Finds};
 
     ghost Value = { List ℕ };
 
     ghost view = { λ o. o.numbers.items };
 
-    ghost invariant = { λ o. IsLookup o.numbers.items o.copies.items o.locals.items };
+    ghost invariant = { λ o. Finds o.numbers.items o.lookup };
 }
 
 impl Originals {
-    // These numbers, of which `copies` has all in increasing order. What is in `scratch` is lost.
-    pub(crate) fn new(
-        alloc: Global,
-        numbers: Vec<u32>,
-        copies: &[u32],
-        scratch: &mut [u32],
-    ) -> Result<Originals, OutOfMemory>
-        requires { AreParts (length scratch.old) numbers.items copies.now }
-        ensures { IfOk result (λ o. o ≡ numbers.items) }
+    // These numbers, by this look-up.
+    pub(crate) fn new(numbers: Vec<u32>, lookup: Lookup) -> Originals
+        requires { Finds numbers.items lookup }
+        ensures { result ≡ numbers.items }
     {
-        number_locals(scratch, &numbers);
-        let locals = locals_of(alloc, copies, scratch)?;
-        let copies = Vec::from_slice(alloc, copies)?;
-        Ok(Originals {
-            numbers,
-            copies,
-            locals,
-        })
+        Originals { numbers, lookup }
     }
 
     /// The numbers, by local number.
@@ -54,16 +42,13 @@ impl Originals {
         &self.numbers
     }
 
-    /// The local number of an element, or none where it isn't among these.
+    /// The local number of an element, or none where it isn't among these. It takes time logarithmic in them.
     pub fn local_of(&self, original: u32) -> Option<u32>
         ensures some { IfSome result (λ l. (l < length self.now) × (slice_index self.now l ≡ original)) }
         ensures none { IfNone result ((k : ℕ) → k < length self.now → slice_index self.now k ≢ original) }
         ensures at { (k : ℕ) → k < length self.now → slice_index self.now k ≡ original → result ≡ Some k }
     {
-        match self.copies.binary_search(&original) {
-            Ok(at) => Some(self.locals[at]),
-            Err(_) => None,
-        }
+        self.lookup.local_of(&self.numbers, original)
     }
 }
 

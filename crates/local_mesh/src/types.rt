@@ -58,12 +58,12 @@ impl RankMesh {
     }
 }
 
-// By rank what the rank owns, imports to execute and imports to read of one set, each by new number, and all of these
-// by original number.
+// By rank what the rank owns, imports to execute and imports to read of one set, each by new number; and all of these
+// by original number, unless new numbers are the original ones.
 #[derive(Drop)]
 pub struct Groups {
     pub own: Vec<Vec<u32>>,
     pub exec: Vec<Vec<u32>>,
     pub nonexec: Vec<Vec<u32>>,
-    pub copies: Vec<Vec<u32>>,
+    pub copies: Option<Vec<Vec<u32>>>,
 }

@@ -1,29 +1,38 @@
-use Rattle.std.proofs.Common.{◌≡◌, ◌<◌, ◌≤◌, ℕ, List, length, get_or, Err, arith, ap, sym, ◌∙◌, ⊎_elim, subst}
-use Rattle.std.specs.Prelude.{Contains}
-use Rattle.std.specs.Ordering.{nat_cmp}
-use Rattle.std.specs.List.Sorted.{IsBinarySearchResult}
-use Rattle.std.proofs.lemmas.Bool.{cases_lt}
-use Rattle.std.proofs.lemmas.List.{get_or_default}
-use Rattle.std.proofs.lemmas.List.Sorted.{searched}
+use Rattle.std.proofs.Common.{◌≡◌, ◌≢◌, ◌<◌, ◌⊎◌, ℕ, List, length, get_or, Some, None, ap, sym, ◌∙◌, ⊎_elim, subst}
+use Rattle.std.specs.Prelude.{Option, IfSome, IfNone}
+use Rattle.std.proofs.lemmas.Bool.{cases_order}
+use Rattle.local_mesh.specs.declared.lookup.Lookup.{Lookup}
+use Rattle.local_mesh.specs.declared.lookup.Lookup.TheVariants.{Rising, Sorted}
+use Rattle.local_mesh.specs.Lookup.{Finds}
 use Rattle.local_mesh.proofs.originals.Originals.local_of.Goals as goal
 
--- what a search doesn't find isn't there
-absent : (xs : List ℕ) (x i : ℕ) → IsBinarySearchResult (λ y. nat_cmp y x) xs (Err i) → ((i j : ℕ) → i ≤ j → j < length xs → get_or xs i 0 ≤ get_or xs j 0) → Contains xs x → ⊥
-absent xs x i pos rising c =
-    let s = searched xs x (Err i) pos rising in
-    let e : get_or xs c.0 0 ≡ x = get_or_default xs c.0 0 x c.1 ∙ c.2 in
-    ⊎_elim
-    (λ (l : c.0 < i). let h = s.1 c.0 l in absurd (omega arith))
-    (λ (l : i ≤ c.0). let h = s.2 c.0 l c.1 in absurd (omega arith))
-    (cases_lt c.0 i)
+-- what is found among different numbers is where it stands
+found_at : (xs : List ℕ) (x : ℕ) (r : Option ℕ) → ((j k : ℕ) → j < k → k < length xs → get_or xs j 0 ≢ get_or xs k 0) → IfSome r (λ l. (l < length xs) × (get_or xs l 0 ≡ x)) → IfNone r ((k : ℕ) → k < length xs → get_or xs k 0 ≢ x) → (k : ℕ) → k < length xs → get_or xs k 0 ≡ x → r ≡ Some k
+found_at xs x (Some l) apart h n k lk e = ap Some (⊎_elim
+    (λ (q : l ≡ k). q)
+    (λ (o : (l < k) ⊎ (k < l)). ⊎_elim
+    (λ (m : l < k). absurd (apart l k m lk (h.1 ∙ sym e)))
+    (λ (m : k < l). absurd (apart k l m h.0 (e ∙ sym h.1)))
+    o)
+    (cases_order l k))
+found_at xs x None apart h n k lk e = absurd (n k lk e)
 
-pub returns-in-Err-clause-none : goal.returns-in-Err-clause-none
-returns-in-Err-clause-none c = λ k l e.
-    let v = c.self.inside in
-    absent c.deref.result.now c.args.original c.in-Err.field-0 c.in-Err.ensures.position
-    (rw c.deref.ensures.value c.self.invariant.rising)
-    (subst (λ (q : List ℕ). Contains q c.args.original) (sym c.deref.ensures.value)
-    (subst (λ z. Contains v.copies.items z) (ap (λ (q : List ℕ). get_or q k 0) c.self.view_is ∙ e) (c.self.invariant.all k (subst (λ (q : List ℕ). k < length q) (sym c.self.view_is) l))))
+-- the numbers of a look-up are different
+apart_in : (xs : List ℕ) (l : Lookup) → Finds xs l → (j k : ℕ) → j < k → k < length xs → get_or xs j 0 ≢ get_or xs k 0
+apart_in xs (Rising a b) h = h.apart
+apart_in xs (Sorted c l) h = h.apart
 
-pub returns-in-Err-clause-at : goal.returns-in-Err-clause-at
-returns-in-Err-clause-at c = λ k l e. absurd (returns-in-Err-clause-none c k l e)
+pub returns : goal.returns
+returns c =
+    let xs = c.args.self.now in
+    let x = c.args.original in
+    let r = c.local_of.result in
+    let e : c.deref.result.now ≡ c.args.self.now = c.deref.ensures.value ∙ c.self.view_is in
+    let some = subst (λ (z : List ℕ). IfSome r (λ l. (l < length z) × (get_or z l 0 ≡ x))) e c.local_of.ensures.some in
+    let none = subst (λ (z : List ℕ). IfNone r ((k : ℕ) → k < length z → get_or z k 0 ≢ x)) e c.local_of.ensures.none in
+    let apart = subst (λ (z : List ℕ). (j k : ℕ) → j < k → k < length z → get_or z j 0 ≢ get_or z k 0) c.self.view_is (apart_in c.self.inside.numbers.items c.self.inside.lookup c.self.invariant) in
+    record {
+      some = some;
+      none = none;
+      at = found_at xs x r apart some none;
+    }
