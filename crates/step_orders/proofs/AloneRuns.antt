@@ -1,6 +1,6 @@
 -- Runs of one element each.
 use Rattle.std.proofs.Common.{◌≡◌, ℕ, zero, suc, ◌<◌, ◌≤◌, ◌+◌, ◌-◌, refl, sym, ap, ◌∙◌, arith, add-one, Bool, true, false, not, cond, List, [], ◌∷◌, ◌++◌, append_assoc}
-use Rattle.std.proofs.Common.{length, drop, get_or}
+use Rattle.std.proofs.Common.{length, take, drop, get_or}
 use Rattle.std.proofs.lemmas.Bool.{false≢true}
 use Rattle.schedule_steps.specs.Outline.{Outline}
 use Rattle.schedule_steps.specs.declared.step.Step.{Step}
@@ -8,7 +8,8 @@ use Rattle.schedule_steps.specs.declared.step.Step.TheVariants.{Begin, End, Join
 use Rattle.step_orders.specs.declared.walks.RunPlace.{RunPlace}
 use Rattle.step_orders.specs.declared.walks.ItemPlace.{ItemPlace}
 use Rattle.step_orders.specs.Alone.{alone}
-use Rattle.step_orders.specs.Left.{upward, onward, onward_by, in_runs, run_left, runs_left, sends_left, receives_left, elements_left, free_left, item_left}
+use Rattle.step_orders.specs.Runs.{each_alone}
+use Rattle.step_orders.specs.Left.{upward, onward, onward_by, in_runs, run_left, runs_left, receives_left, elements_left, free_left, item_left}
 use Rattle.step_orders.proofs.Places.{in_runs_from, on_over, run_over}
 
 pub alone_push : (k r : ℕ) (xs : List ℕ) (x : ℕ) (rest : List Step) → alone k r (xs ++ (x ∷ [])) ++ rest ≡ alone k r xs ++ (Begin k r x ∷ End k r x ∷ rest)
@@ -69,3 +70,34 @@ pub item_more : (o : Outline) (g k : ℕ) (p q : ItemPlace) (some : List Step) �
 item_more o g k p q some e h =
     ap (λ b. cond b (free_left o g k p) (Join k ∷ [])) e
     ∙ (h ∙ ap (λ z. some ++ z) (sym (ap (λ b. cond b (free_left o g k q) (Join k ∷ [])) e)))
+
+-- ---- each element a run of its own
+
+pub length_alone : (xs : List ℕ) → length (each_alone xs) ≡ length xs
+length_alone [] = refl
+length_alone (x ∷ xs) = ap suc (length_alone xs)
+
+pub alone_at : (xs : List ℕ) (i : ℕ) → i < length xs → get_or (each_alone xs) i [] ≡ get_or xs i 0 ∷ []
+alone_at [] i lt = absurd (omega (arith, lt))
+alone_at (x ∷ xs) zero lt = refl
+alone_at (x ∷ xs) (suc i) lt = alone_at xs i (omega (arith, lt))
+
+pub one_at : (xs : List ℕ) (i : ℕ) → i < length xs → take (i + 1 - i) (drop i xs) ≡ get_or (each_alone xs) i []
+one_at xs i lt =
+    let one : i + 1 - i ≡ 1 = omega arith in
+    ap (λ n. take n (drop i xs)) one ∙ (first xs i lt ∙ sym (alone_at xs i lt))
+  where
+    first : (ys : List ℕ) (j : ℕ) → j < length ys → take 1 (drop j ys) ≡ get_or ys j 0 ∷ []
+    first [] j l = absurd (omega (arith, l))
+    first (y ∷ ys) zero l = refl
+    first (y ∷ ys) (suc j) l = first ys j (omega (arith, l))
+
+-- an element more is taken
+pub alone_more : (k r : ℕ) (xs places : List ℕ) (i : ℕ) → i < length xs
+    → alone k r places ++ in_runs k r (drop i (each_alone xs)) ≡ alone k r (places ++ get_or xs i 0 ∷ []) ++ in_runs k r (drop (i + 1) (each_alone xs))
+alone_more k r xs places i lt =
+    let x = get_or xs i 0 in
+    let is : get_or (get_or (each_alone xs) i []) 0 0 ≡ x = ap (λ ys. get_or ys 0 0) (alone_at xs i lt) in
+    ap (λ z. alone k r places ++ z) (one_more k r (each_alone xs) i (ap length (alone_at xs i lt))
+    ∙ ap (λ y. Begin k r y ∷ End k r y ∷ in_runs k r (drop (i + 1) (each_alone xs))) is)
+    ∙ sym (alone_push k r places x (in_runs k r (drop (i + 1) (each_alone xs))))

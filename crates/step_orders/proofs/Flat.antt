@@ -2,8 +2,6 @@
 use Rattle.std.proofs.Common.{◌≡◌, ℕ, zero, suc, ◌<◌, refl, sym, ap, subst, ◌∙◌, arith, ⊎_elim, Bool, true, false, cond, List, [], ◌∷◌, ◌++◌, get_or}
 use Rattle.std.specs.Prelude.{◌==◌, ◌&&◌}
 use Rattle.std.specs.List.{filter, All}
-use Rattle.std.specs.List.Sorted.{IsPermutation}
-use Rattle.std.proofs.lemmas.List.Sorted.{All-permutation}
 use Rattle.std.proofs.lemmas.Bool.{eqb-true, cases_eq}
 use Rattle.std.proofs.lemmas.List.Elements.{filter-append}
 use Rattle.schedule_steps.specs.Outline.{Outline, runs}
@@ -124,12 +122,12 @@ module _ (o : Outline) (k r m : ℕ) (fc fb fh : ℕ → ℕ) (h : AreKeys o k r
       ∙ ap (λ n. cond (o.block_colour k r b == v) (gathered (λ c. numbers (is_member o k r b c) n) (above (o.colour k r) (o.count k r))) []) (sym h.count)))
 
   -- whatever sorts stably by the three keys gives them in order
-  pub ordered : (p0 p1 p2 p3 : List ℕ) → p0 ≡ numbers (λ x. true) m → All (λ x. x < m) p0 → IsPermutation p0 p1 → IsPermutation p1 p2
+  pub ordered : (p0 p1 p2 p3 : List ℕ) → p0 ≡ numbers (λ x. true) m → All (λ x. x < m) p0 → All (λ x. x < m) p1 → All (λ x. x < m) p2
       → ((n : ℕ) → All (λ x. fc x < n) p0 → p1 ≡ by_key fc n p0)
       → ((n : ℕ) → All (λ x. fb x < n) p1 → p2 ≡ by_key fb n p1)
       → ((n : ℕ) → All (λ x. fh x < n) p2 → p3 ≡ by_key fh n p2)
       → p3 ≡ elements_of o k r
-  ordered p0 p1 p2 p3 e all0 q0 q1 s1 s2 s3 =
+  ordered p0 p1 p2 p3 e all0 all1 all2 s1 s2 s3 =
       s3 (above (o.block_colour k r) (blocks o k r)) (λ i d lt. third (get_or p2 i d) (all2 i d lt))
       ∙ (ap (λ z. by_key fh (above (o.block_colour k r) (blocks o k r)) z)
       (s2 (blocks o k r) (λ i d lt. second (get_or p1 i d) (all1 i d lt))
@@ -138,12 +136,6 @@ module _ (o : Outline) (k r m : ℕ) (fc fb fh : ℕ → ℕ) (h : AreKeys o k r
       ∙ ap (λ z. by_key fc (above (o.colour k r) (o.count k r)) z) e))
       ∙ sorted_thrice)
     where
-      all1 : All (λ x. x < m) p1
-      all1 = All-permutation (λ x. x < m) p0 p1 q0 all0
-
-      all2 : All (λ x. x < m) p2
-      all2 = All-permutation (λ x. x < m) p1 p2 q1 all1
-
       within : (x : ℕ) → x < m → x < o.count k r
       within x lt = let n : o.count k r ≡ m = h.count in omega arith
 

@@ -7,6 +7,7 @@ use Rattle.std.proofs.Math.Nat.{suc-mul}
 use Rattle.step_orders.specs.ElementRuns.{joined, unless_empty}
 use Rattle.step_orders.specs.Order.{gathered}
 use Rattle.step_orders.specs.Pieces.{goes_on, pieces_from}
+use Rattle.step_orders.specs.Runs.{each_alone}
 
 -- each element is such
 abbrev pub Each : (ℕ → Type 0) → List ℕ → Type 0
@@ -145,3 +146,12 @@ module _ (t : ℕ → ℕ → Bool) (g : ℕ) where
 
         at_first : (xs : List ℕ) → drop (0 * g) xs ≡ xs
         at_first xs = let z : 0 * g ≡ 0 = omega arith in ap (λ n. drop n xs) z
+
+-- pieces of one element each
+pub pieces_alone : (t : ℕ → ℕ → Bool) (xs : List ℕ) → pieces_from t 1 [] xs ≡ each_alone xs
+pieces_alone t [] = refl
+pieces_alone t (x ∷ xs) = begun x xs
+  where
+    begun : (y : ℕ) (ys : List ℕ) → pieces_from t 1 (y ∷ []) ys ≡ each_alone (y ∷ ys)
+    begun y [] = refl
+    begun y (z ∷ ys) = ap (λ q. (y ∷ []) ∷ q) (begun z ys)

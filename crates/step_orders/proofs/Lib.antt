@@ -2,6 +2,7 @@ pub mod Cuts
 pub mod Places
 pub mod Whole
 pub mod Buckets
+pub mod Counted
 pub mod Flat
 pub mod Windows
 pub mod Cutting

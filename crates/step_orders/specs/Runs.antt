@@ -15,3 +15,8 @@ start_of from es (suc i) = get_or es i 0
 abbrev pub AreEnds : ℕ → List ℕ → List ℕ → Type 0
 AreEnds from xs [] = Unit {0}
 AreEnds from xs (e ∷ es) = (from ≤ e) × (e ≤ length xs) × AreEnds e xs es
+
+-- each element is a run of its own
+abbrev pub each_alone : List ℕ → List (List ℕ)
+each_alone [] = []
+each_alone (x ∷ xs) = (x ∷ []) ∷ each_alone xs

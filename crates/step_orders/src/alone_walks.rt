@@ -1,14 +1,15 @@
 // Elements that begin and end one after another, from a place in an order on.
 ghost use Rattle.std.specs.Prelude.{◌≡◌, ◌<◌, ◌++◌, ℕ, true, false, [], length, drop, IfSome, IfNone, vec_capacity};
 ghost use Rattle.step_orders.specs.Alone.{alone};
+ghost use Rattle.step_orders.specs.Runs.{each_alone};
 ghost use Rattle.step_orders.specs.Left.{in_runs, runs_left, elements_left, free_left};
 
 use crate::runs::Runs;
 use crate::shape::Shape;
 use crate::walks::{ElementPlace, ItemPlace, RunPlace};
 
-// The run that begins next, where no element of another is still to begin or to end.
-fn run_to_begin(runs: &Runs, here: RunPlace) -> Option<usize>
+/// The run that begins next, where no element of another is still to begin or to end.
+pub fn run_to_begin(runs: &Runs, here: RunPlace) -> Option<usize>
     ensures { IfSome result
         (λ n. (k r : ℕ) → runs_left k r runs.now here ≡ in_runs k r (drop n runs.now)) }
 {
@@ -24,6 +25,21 @@ fn run_to_begin(runs: &Runs, here: RunPlace) -> Option<usize>
     None
 }
 
+// Puts down elements from one on, while there is room; gives the one behind them.
+fn put_elements(elements: &[u32], from: usize, places: &mut Vec<u32>) -> usize
+    requires { places.old.items ≡ [] }
+    ensures alone { (k r : ℕ) → in_runs k r (drop from (each_alone elements.now))
+        ≡ alone k r places.new.items ++ in_runs k r (drop result (each_alone elements.now)) }
+    ensures room { vec_capacity places.new ≡ vec_capacity places.old }
+{
+    let mut at = from;
+    while at < elements.len() && places.len() < places.capacity() {
+        places.push_reserved(elements[at]);
+        at += 1;
+    }
+    at
+}
+
 // Puts down the elements of runs of one element each, from a run on, while there is room; gives the run behind them.
 fn put_alone(runs: &Runs, from: usize, places: &mut Vec<u32>) -> usize
     requires { places.old.items ≡ [] }
@@ -31,6 +47,9 @@ fn put_alone(runs: &Runs, from: usize, places: &mut Vec<u32>) -> usize
         ≡ alone k r places.new.items ++ in_runs k r (drop result runs.now) }
     ensures room { vec_capacity places.new ≡ vec_capacity places.old }
 {
+    if let Some(elements) = runs.elements_alone() {
+        return put_elements(elements, from, places);
+    }
     let mut run = from;
     while run < runs.len() && places.len() < places.capacity() {
         let elements = runs.run(run);

@@ -2,6 +2,8 @@
 #![tactic(auto)]
 
 mod alone_walks;
+mod closed_walks;
+mod counting;
 mod laws;
 mod list;
 mod order;

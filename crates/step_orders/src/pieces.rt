@@ -3,7 +3,7 @@ ghost use Rattle.std.specs.Prelude.{◌≡◌, ◌<◌, ◌≤◌, ◌-◌, [], 
 ghost use Rattle.step_orders.specs.Runs.{cut, AreEnds};
 ghost use Rattle.step_orders.specs.Pieces.{is_alike, goes_on, pieces_from};
 
-use crate::order::key_of;
+use crate::counting::key_of;
 use op_num::OutOfMemory;
 use std::alloc::Global;
 

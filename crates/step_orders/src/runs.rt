@@ -1,7 +1,7 @@
 // Runs of elements.
-ghost use Rattle.std.specs.Prelude.{◌≡◌, ◌<◌, ◌≤◌, ◌-◌, ◌^◌, ℕ, [], length, get_or, take, drop, IfOk};
+ghost use Rattle.std.specs.Prelude.{◌≡◌, ◌<◌, ◌≤◌, ◌-◌, ◌^◌, ℕ, [], length, get_or, take, drop, IfOk, IfSome};
 ghost use Rattle.schedule_steps.specs.Outline.{Outline};
-ghost use Rattle.step_orders.specs.Runs.{cut, start_of, AreEnds};
+ghost use Rattle.step_orders.specs.Runs.{cut, each_alone, start_of, AreEnds};
 ghost use Rattle.step_orders.specs.Order.{IsColoured};
 ghost use Rattle.step_orders.specs.ElementRuns.{runs_of};
 
@@ -11,20 +11,22 @@ use op_num::OutOfMemory;
 use std::alloc::Global;
 use std::marker::Model;
 
-/// Elements in runs, one run after another. `ends` has by run the number of elements in it and before it.
+/// Elements in runs, one run after another. `ends` has by run the number of elements in it and before it; it is empty where each element
+/// is a run of its own (`alone`).
 #[derive(Debug, Drop)]
 pub struct Runs {
     elements: Vec<u32>,
     ends: Vec<usize>,
+    alone: bool,
 }
 
 impl Model for Runs {
-    ghost use Rattle.std.specs.Prelude.{List, ℕ};
-    ghost use Rattle.step_orders.specs.Runs.{cut, AreEnds};
+    ghost use Rattle.std.specs.Prelude.{List, ℕ, cond};
+    ghost use Rattle.step_orders.specs.Runs.{cut, each_alone, AreEnds};
 
     ghost Value = { List (List ℕ) };
 
-    ghost view = { λ s. cut 0 s.elements.items s.ends.items };
+    ghost view = { λ s. cond s.alone (each_alone s.elements.items) (cut 0 s.elements.items s.ends.items) };
 
     ghost invariant = { λ s. AreEnds 0 s.elements.items s.ends.items };
 }
@@ -67,12 +69,17 @@ impl Runs {
         requires { AreEnds 0 elements.items ends.items }
         ensures { result ≡ cut 0 elements.items ends.items }
     {
-        Runs { elements, ends }
+        Runs {
+            elements,
+            ends,
+            alone: false,
+        }
     }
 
     /// The places of a rank by block colour, block, colour and number, in runs of at most `group` places of one block and colour.
     /// There is a place for each of the colours, `size` of them to a block, and a colour for each block; a block without one has
-    /// the colour 0. It takes time n log n. An error is want of memory.
+    /// the colour 0. It takes linear time where colours are below the number of
+    /// places, else time n log n. An error is want of memory.
     pub fn of_places(
         alloc: Global,
         size: u32,
@@ -87,10 +94,18 @@ impl Runs {
             → v ≡ runs_of o group k r) }
     {
         let places = places_in_order(alloc, size, block_colours, colours)?;
+        if group == 1 {
+            return Ok(Runs {
+                elements: places,
+                ends: Vec::new(alloc),
+                alone: true,
+            });
+        }
         let ends = run_ends(alloc, size, colours, group, &places)?;
         Ok(Runs {
             elements: places,
             ends,
+            alone: false,
         })
     }
 
@@ -98,7 +113,20 @@ impl Runs {
     pub fn len(&self) -> usize
         ensures { result ≡ length self.now }
     {
+        if self.alone {
+            return self.elements.len();
+        }
         self.ends.len()
+    }
+
+    /// The elements, where each of them is a run of its own.
+    pub fn elements_alone(&self) -> Option<&[u32]>
+        ensures { IfSome result (λ xs. self.now ≡ each_alone xs.now) }
+    {
+        if self.alone {
+            return Some(&self.elements);
+        }
+        None
     }
 
     /// The elements of a run, in order.
@@ -106,6 +134,9 @@ impl Runs {
         requires { run < length self.now }
         ensures { result.now ≡ get_or self.now run [] }
     {
+        if self.alone {
+            return between(&self.elements, run, run + 1);
+        }
         part(&self.elements, &self.ends, run)
     }
 }

@@ -3,6 +3,7 @@ ghost use Rattle.std.specs.Prelude.{◌≡◌};
 ghost use Rattle.schedule_steps.specs.Standard.{standard};
 
 use crate::alone_walks::alone_in_item;
+use crate::closed_walks::closed_in_item;
 use crate::shape::Shape;
 use crate::stream::{ItemOnRank, Steps};
 use crate::walks::{ItemPlace, first_place, next_in_item};
@@ -57,6 +58,17 @@ impl<'a, S: Shape> Steps for Standard<'a, S> {
             return None;
         }
         let Some(rank) = alone_in_item(self.shape, item, &mut self.here, places) else {
+            return None;
+        };
+        Some(ItemOnRank { item, rank })
+    }
+
+    fn next_closed(&mut self, places: &mut Vec<u32>) -> Option<ItemOnRank> {
+        let item = self.item;
+        if item >= self.shape.items() || !self.shape.is_free(item) {
+            return None;
+        }
+        let Some(rank) = closed_in_item(self.shape, item, &mut self.here, places) else {
             return None;
         };
         Some(ItemOnRank { item, rank })

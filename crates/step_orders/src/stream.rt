@@ -2,6 +2,7 @@
 ghost use Rattle.std.specs.Prelude.{◌≡◌, ◌<◌, [], ◌∷◌, ◌++◌, List, length, IfSome, IfNone, vec_capacity};
 ghost use Rattle.schedule_steps.specs.declared.step.Step.{Step as StepValue};
 ghost use Rattle.step_orders.specs.Alone.{alone};
+ghost use Rattle.step_orders.specs.Left.{begins, ends};
 
 use schedule_steps::Step;
 use std::marker::Model;
@@ -29,6 +30,21 @@ pub trait Steps {
     fn next_alone(&mut self, places: &mut Vec<u32>) -> Option<ItemOnRank>
         requires empty { places.old.items ≡ [] }
         ensures some { IfSome result (λ of. left self.old ≡ alone of.item of.rank places.new.items ++ left self.new) }
+        ensures more { IfSome result (λ of. 0 < length places.new.items) }
+        ensures none { IfNone result (left self.new ≡ left self.old) }
+        ensures room { vec_capacity places.new ≡ vec_capacity places.old }
+    {
+        let _none_taken = places;
+        None
+    }
+
+    /// Takes the steps of a closed group: elements of one item and rank that begin one after another, and then end in the same
+    /// order. Their places are put into `places`, which is lent empty; gives their item and rank. `None`, and no step is taken,
+    /// where no such group comes next, where there is no room for its places, or where the order can't tell. Takes no memory.
+    fn next_closed(&mut self, places: &mut Vec<u32>) -> Option<ItemOnRank>
+        requires empty { places.old.items ≡ [] }
+        ensures some { IfSome result (λ of. left self.old
+            ≡ (begins of.item of.rank places.new.items ++ ends of.item of.rank places.new.items) ++ left self.new) }
         ensures more { IfSome result (λ of. 0 < length places.new.items) }
         ensures none { IfNone result (left self.new ≡ left self.old) }
         ensures room { vec_capacity places.new ≡ vec_capacity places.old }

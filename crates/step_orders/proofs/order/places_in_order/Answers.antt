@@ -21,7 +21,8 @@ returns c = λ o k r h.
           ∙ (sym (h.block_colour (x / c.args.size)) ∙ ap (o.block_colour k r) (sym (h.block x lt))))));
     } in
     ordered o k r (length c.args.colours.now) fc fb fh keys
-    c.in_ok-places.places.items c.sort_by_keys.new.elements.items c.sort_by_keys-2.new.elements.items c.sort_by_keys-3.new.elements.items
+    c.in_ok-places.places.items c.in_ok-by_colour.by_colour.items c.in_ok-by_block.by_block.items c.in_ok-places-2.places.items
     c.in_ok-places.ensures.numbers c.in_ok-places.ensures.below
-    c.sort_by_keys.ensures.permutation c.sort_by_keys-2.ensures.permutation
-    c.in_ok-sort_by_keys.ensures.sorted c.in_ok-sort_by_keys-2.ensures.sorted c.in_ok-sort_by_keys-3.ensures.sorted
+    (c.in_ok-by_colour.ensures.below (length c.args.colours.now) c.in_ok-places.ensures.below)
+    (c.in_ok-by_block.ensures.below (length c.args.colours.now) (c.in_ok-by_colour.ensures.below (length c.args.colours.now) c.in_ok-places.ensures.below))
+    c.in_ok-by_colour.ensures.sorted c.in_ok-by_block.ensures.sorted c.in_ok-places-2.ensures.sorted
