@@ -32,3 +32,4 @@ pub mod PushedWindows
 pub mod ElementWindows
 pub mod ReduceItems
 pub mod MostPairs
+pub mod Stretches

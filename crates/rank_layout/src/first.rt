@@ -1,6 +1,7 @@
 // The cells of each rank and of the variables before the first step.
 
-ghost use Rattle.std.specs.Prelude.{◌≡◌, ◌<◌, ◌≤◌, ◌+◌, ◌*◌, ◌++◌, All, map, length, take, drop, vec_len, vec_capacity, IfOk, OnOk};
+ghost use Rattle.std.specs.Prelude.{◌≡◌, ◌<◌, ◌≤◌, ◌+◌, ◌*◌, ◌++◌, ℕ, All, map, length, slice_index, take, drop};
+ghost use Rattle.std.specs.Prelude.{vec_len, vec_capacity, IfOk, OnOk};
 ghost use Rattle.std.specs.List.{flat_map};
 ghost use Rattle.mesh_decl.specs.Mesh.{dat_count};
 ghost use Rattle.local_mesh.specs.LocalMesh.{originals_in, AreClosed};
@@ -21,7 +22,35 @@ fn originals_of(sets: &[LocalSet], set: u32) -> &[u32]
     sets[set as usize].original.as_slice()
 }
 
-// Puts down the values of the elements, each of which has `dim` of them. An error is want of memory.
+// How many elements from this place on follow one another, each with the next number.
+fn stretch_at(elements: &[u32], place: usize) -> usize
+    requires { place < length elements.now }
+    ensures some { 0 < result }
+    ensures within { place + result ≤ length elements.now }
+    ensures next { (k : ℕ) → k < result → slice_index elements.now (place + k) ≡ slice_index elements.now place + k }
+{
+    let rest = &elements[place..];
+    let first = rest[0] as usize;
+    for (count, element) in rest.iter().enumerate() {
+        if *element as usize != first + count {
+            return count;
+        }
+    }
+    rest.len()
+}
+
+// The values of so many elements from one on, each of which has `dim` of them.
+fn values_from(values: &[i32], dim: usize, first: usize, count: usize) -> &[i32]
+    requires { first * dim + count * dim ≤ length values.now }
+    ensures { result.now ≡ take (count * dim) (drop (first * dim) values.now) }
+{
+    let begin = first * dim;
+    let end = begin + count * dim;
+    &values[begin..end]
+}
+
+// Puts down the values of the elements, each of which has `dim` of them; those of elements that follow one another stand together.
+// An error is want of memory.
 fn push_elements(
     values: &[i32],
     dim: usize,
@@ -32,9 +61,12 @@ fn push_elements(
     ensures { OnOk result (cells.new.items
         ≡ cells.old.items ++ flat_map (λ x. take dim (drop (x * dim) values.now)) elements.now) }
 {
-    for element in elements {
-        let at = *element as usize * dim;
-        cells.extend_from_slice(&values[at..at + dim])?;
+    let mut done = 0;
+    while done < elements.len() {
+        let count = stretch_at(elements, done);
+        let first = elements[done] as usize;
+        cells.extend_from_slice(values_from(values, dim, first, count))?;
+        done += count;
     }
     Ok(())
 }
