@@ -240,7 +240,9 @@ pub fn run_on_ranks<R: Threads + Sync, G: Gate>(
 {
     let lists = local_lists(alloc, &bound.mesh, owners, halos, meshes)?;
     let codes = compile_all(alloc, &bound.kernels)?;
-    let program = DistributedProgram::new(alloc, bound, owners, meshes, &lists, plan, &codes)?;
+    let program = DistributedProgram::new(
+        alloc, bound, owners, meshes, &lists, plan, &codes, true,
+    )?;
     let outcome = run_in_order(rt, alloc, &program, order, workers, gate, dumps)?;
     Ok(outcome)
 }

@@ -32,7 +32,7 @@ use Rattle.rank_program.proofs.BegunParts.{begins}
 use Rattle.rank_program.proofs.Tails.{scalar_spans, HasCells, tail_after, cells_length, gathered_all, closed_all}
 use Rattle.rank_program.proofs.HereParts.{core_is}
 
-firsts_length : (vs : List ℤ) (xs : List Scalar) → length (firsts vs xs) ≡ length xs
+pub firsts_length : (vs : List ℤ) (xs : List Scalar) → length (firsts vs xs) ≡ length xs
 firsts_length vs [] = refl
 firsts_length vs (x ∷ xs) = ap suc (firsts_length vs xs)
 

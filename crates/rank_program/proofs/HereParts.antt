@@ -43,7 +43,7 @@ use Rattle.rank_program.specs.Keeping.{KeepsIn}
 use Rattle.rank_program.specs.declared.program.DistributedProgram.{DistributedProgram}
 use Rattle.rank_layout.specs.DatWindows.{spans_after, ArgHere}
 use Rattle.rank_program.specs.Here.{arg_stands, arg_place, behind, scalars_in}
-use Rattle.rank_program.specs.declared.local_args.LocalArg.{LocalArg}
+use Rattle.batch_tables.specs.declared.args.LocalArg.{LocalArg}
 use Rattle.rank_program.specs.LocalArgs.{AreArgs, InBuffer, places_in}
 use Rattle.rank_layout.specs.Numbered.{ArgThere}
 use Rattle.rank_layout.specs.Made.{writes_by}

@@ -20,3 +20,8 @@ mod LeastOfThree
 pub mod AloneRuns
 pub mod FromNone
 mod JobWindows
+mod RowArgs
+mod InRows
+mod RowScalars
+mod RowLoopsMade
+mod BatchRuns

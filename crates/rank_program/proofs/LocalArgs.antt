@@ -1,15 +1,18 @@
 -- Arguments by local numbers have their cells where the arguments have them.
-use Rattle.std.proofs.Common.{◌≡◌, ◌<◌, ◌+◌, ℕ, zero, suc, refl, sym, ap, ap₂, ◌∙◌, subst, Option, Some, None, ⊎_elim, arith, List, [], ◌∷◌, All, map, take, length, get_or, set, get_or-set_other, get_or-set_same}
+use Rattle.std.proofs.Common.{◌≡◌, ◌<◌, ◌≤◌, ◌+◌, ◌*◌, ℕ, zero, suc, refl, sym, ap, ap₂, ◌∙◌, subst, Option, Some, None, ⊎_elim, arith, List, [], ◌∷◌, All, map, take, length, get_or, set, get_or-set_other, get_or-set_same}
+use Rattle.std.specs.Prelude.{slice_index}
 use Rattle.std.proofs.lemmas.Bool.{cases_eq}
 use Rattle.std.proofs.lemmas.List.{get_or_default}
 use Rattle.views.specs.declared.frame.Place.{Place}
-use Rattle.mesh_decl.specs.Mesh.{MeshValue}
+use Rattle.mesh_decl.specs.Mesh.{MeshValue, dat_dim}
 use Rattle.local_mesh.specs.declared.types.RankMesh.{RankMesh}
 use Rattle.bound_program.specs.declared.sites.Arg.{Arg}
+use Rattle.bound_program.specs.declared.sites.Arg.TheVariants.{Dat, Global}
 use Rattle.run_model.specs.Arguments.{no_arg}
-use Rattle.rank_program.specs.declared.local_args.LocalArg.{LocalArg}
-use Rattle.rank_layout.specs.DatWindows.{ArgHere}
+use Rattle.batch_tables.specs.declared.args.LocalArg.{LocalArg}
+use Rattle.rank_layout.specs.DatWindows.{local_by, ArgHere}
 use Rattle.rank_program.specs.Here.{arg_place}
+use Rattle.row_batches.specs.Ways.{local_in}
 use Rattle.rank_program.specs.LocalArgs.{IsArg, AreArgs, InBuffer, place_in, places_in}
 
 module _ (x : ℕ) where
@@ -55,6 +58,19 @@ module _ (g : MeshValue) (m : RankMesh) where
       (cases_eq i k)
 
   module _ (x : ℕ) where
+    -- where the rank has the argument for a place, its cells stand there
+    stands : (a : Arg) (l : Option LocalArg) → IsArg g m a l → ArgHere g m x a → InBuffer x m.cells l × ((p : Place) → place_in x l p ≡ arg_place g m x p a)
+    stands (Dat d v acc) None is here = absurd is
+    stands (Dat d v acc) (Some y) is here =
+        let via = is.2.1 x here.2 in
+        let reached : y.base + local_in y.via x * y.dim ≡ slice_index m.bases.items d + local_by g m x v * dat_dim g d =
+        ap₂ (λ n k. n + k) is.0 (ap₂ (λ n k. n * k) via.1 is.1) in
+        let end : y.base + (local_in y.via x + 1) * y.dim ≡ slice_index m.bases.items d + (local_by g m x v + 1) * dat_dim g d =
+        ap₂ (λ n k. n + k) is.0 (ap₂ (λ n k. (n + 1) * k) via.1 is.1) in
+        ((via.0, subst (λ n. n ≤ m.cells) (sym end) here.3), λ p. ap₂ (λ n k. record { from = n; count = k }) reached is.1)
+    stands (Global v acc) None is here = (tt, λ p. refl)
+    stands (Global v acc) (Some y) is here = absurd is
+
     -- where the arguments stand, if those on variables stand at these places
     pub same_places : (at : Arg → Place) (args : List Arg) (locals : List (Option LocalArg)) → AreArgs g m args locals → All (ArgHere g m x) args
         → places_in x locals (map at args) ≡ map (λ y. arg_place g m x (at y) y) args
@@ -62,11 +78,11 @@ module _ (g : MeshValue) (m : RankMesh) where
     same_places at [] (l ∷ ls) are here = let n = are.0 in absurd (omega (arith, n))
     same_places at (a ∷ rest) [] are here = let n = are.0 in absurd (omega (arith, n))
     same_places at (a ∷ rest) (l ∷ ls) are here =
-        ap₂ (λ z zs. z ∷ zs) ((are.1 0 a l (omega arith) x (here 0 a (omega arith))).1 (at a))
+        ap₂ (λ z zs. z ∷ zs) ((stands a l (are.1 0 a l (omega arith)) (here 0 a (omega arith))).1 (at a))
         (same_places at rest ls (others a rest l ls are) (λ i d lt. here (suc i) d (omega (arith, lt))))
 
     pub in_buffer : (args : List Arg) (locals : List (Option LocalArg)) → AreArgs g m args locals → All (ArgHere g m x) args → All (InBuffer x m.cells) locals
     in_buffer args locals are here i d lt =
         let n = are.0 in
         let there : i < length args = omega (arith, lt, n) in
-        (are.1 i no_arg d there x (here i no_arg there)).0
+        (stands (get_or args i no_arg) (get_or locals i d) (are.1 i no_arg d there) (here i no_arg there)).0

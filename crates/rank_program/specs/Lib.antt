@@ -12,3 +12,4 @@ pub mod Rooms
 pub mod AloneRuns
 pub mod FromNone
 pub mod Jobs
+pub mod Batches

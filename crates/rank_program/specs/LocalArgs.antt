@@ -2,22 +2,14 @@
 use Rattle.std.specs.Prelude.{ℕ, ◌≡◌, ◌+◌, ◌*◌, ◌<◌, ◌≤◌, ◌^◌, List, [], ◌∷◌, Option, Some, None, length, get_or, slice_index}
 use Rattle.views.specs.declared.frame.Place.{Place}
 use Rattle.mesh_decl.specs.declared.access.Via.{Via}
-use Rattle.mesh_decl.specs.Mesh.{MeshValue}
+use Rattle.mesh_decl.specs.Mesh.{MeshValue, dat_dim}
 use Rattle.local_mesh.specs.declared.types.RankMesh.{RankMesh}
 use Rattle.bound_program.specs.declared.sites.Arg.{Arg}
-use Rattle.rank_layout.specs.DatWindows.{local_by, ViaHere, ArgHere}
-use Rattle.rank_program.specs.Here.{arg_place}
-use Rattle.rank_program.specs.declared.local_args.LocalVia.{LocalVia}
-use Rattle.rank_program.specs.declared.local_args.LocalArg.{LocalArg}
-
--- the local number of the element that a place reaches
-abbrev pub local_in : Option LocalVia → ℕ → ℕ
-local_in None x = x
-local_in (Some v) x = slice_index v.targets.now (x * v.step + v.index)
-
-abbrev pub HasTarget : Option LocalVia → ℕ → Type 0
-HasTarget None x = Unit {0}
-HasTarget (Some v) x = x * v.step + v.index < length v.targets.now
+use Rattle.bound_program.specs.declared.sites.Arg.TheVariants.{Dat, Global}
+use Rattle.rank_layout.specs.DatWindows.{local_by, ViaHere}
+use Rattle.row_batches.specs.declared.ways.LocalVia.{LocalVia}
+use Rattle.row_batches.specs.Ways.{HasTarget, local_in}
+use Rattle.batch_tables.specs.declared.args.LocalArg.{LocalArg}
 
 module _ (x : ℕ) where
   -- where the argument's cells stand for a place; those of one on a variable stand where they stood
@@ -41,14 +33,18 @@ module _ (x : ℕ) where
   CountsCells y = (cells : ℕ) × (cells < 2 ^ 64) × InBuffer cells y
 
 module _ (g : MeshValue) (m : RankMesh) where
-  -- where the rank has the map's targets for a place, the local map leads where the map does
+  -- where the rank has the map's targets for a place, the local map leads where the map does; there is none for no map
   abbrev pub IsVia : Option Via → Option LocalVia → Type 0
-  IsVia via local = (x : ℕ) → ViaHere g m x via → HasTarget local x × (local_in local x ≡ local_by g m x via)
+  IsVia via local =
+      (via ≡ None → local ≡ None) × ((x : ℕ) → ViaHere g m x via → HasTarget local x × (local_in local x ≡ local_by g m x via))
 
-  -- where the rank has the argument for a place, its cells stand where the local one finds them
+  -- it finds the argument's cells: where the dat begins in the rank's buffer, how many each element has, and how they are reached; there
+  -- is none for an argument on a variable
   abbrev pub IsArg : Arg → Option LocalArg → Type 0
-  IsArg arg local =
-      (x : ℕ) → ArgHere g m x arg → InBuffer x m.cells local × ((p : Place) → place_in x local p ≡ arg_place g m x p arg)
+  IsArg (Dat d v a) None = ⊥
+  IsArg (Dat d v a) (Some y) = (y.base ≡ slice_index m.bases.items d) × (y.dim ≡ dat_dim g d) × IsVia v y.via
+  IsArg (Global v a) None = Unit {0}
+  IsArg (Global v a) (Some y) = ⊥
 
   -- the same of each argument
   abbrev pub AreArgs : List Arg → List (Option LocalArg) → Type 0

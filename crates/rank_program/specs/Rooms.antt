@@ -1,5 +1,6 @@
 -- Enough room for what steps need on their way.
 use Rattle.std.specs.Prelude.{◌≡◌, ◌≤◌, ℕ, length, vec_capacity}
+use Rattle.row_batches.specs.RowLoops.{HasRowRoom}
 use Rattle.rank_program.specs.declared.program.DistributedProgram.{DistributedProgram}
 use Rattle.rank_program.specs.declared.room.Room.{Room}
 use Rattle.rank_program.specs.Sound.{tables_in}
@@ -8,12 +9,21 @@ use Rattle.rank_program.specs.Sound.{tables_in}
 abbrev pub most_saved : ℕ
 most_saved = 1024
 
+-- as many ways as lead from an element of a loop to what its arguments reach at most
+abbrev pub most_ways : ℕ
+most_ways = 16
+
+-- as many columns as a kernel has at most that runs for a batch of elements at once
+abbrev pub most_columns : ℕ
+most_columns = 128
+
 -- for so many spans, for locals of so many cells, and for so many constants
 pub record HasRoom (spans locals constants : ℕ) (room : Room) : Type 0 where
   pub spans_fit : spans ≤ vec_capacity room.spans
   pub owned_fit : spans ≤ vec_capacity room.owned
   pub locals_fit : locals ≤ length room.locals.items
   pub saved_fits : most_saved ≤ length room.saved.items
+  pub rows_fit : HasRowRoom most_ways most_columns most_columns room.rows
   pub constants_fit : length room.constants.items ≡ constants
 
 -- for each step of the program

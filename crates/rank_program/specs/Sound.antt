@@ -16,6 +16,7 @@ use Rattle.run_model.specs.Kernels.{constants}
 use Rattle.run_model.specs.Hosts.{variable_cells}
 use Rattle.run_model.specs.Laws.{site_of}
 use Rattle.run_model.specs.Programs.{item_at, kind_of}
+use Rattle.run_model.specs.Ranges.{AllObey}
 use Rattle.loop_plan.specs.Values.{PlanValue, plan_of}
 use Rattle.loop_plan.specs.StepOutline.{step_outline}
 use Rattle.bound_plan.specs.Laws.{Planned}
@@ -68,6 +69,7 @@ module _ (c : DistributedProgram) where
     pub lists : HasLists program_in c.owners.now numbers c.meshes.now plan_in halos c.lists.now
     pub made : AreMade program_in c.owners.now plan_in c.lists.now c.tables
     pub codes : AreCodesOf program_in.kernels c.codes.now
+    pub obeying : c.obeying ≡ true → AllObey program_in
     pub room : HaveRoom c.codes.now c.locals
     pub layout : IsLayout setup_in layout_in
     pub indexed : Indexed setup_in layout_in tables_in

@@ -69,6 +69,7 @@ pub fn run_places(
         fault,
         &mut room.saved,
         &mut room.locals,
+        &mut room.rows,
     );
     memory.truncate(width);
     kept

@@ -7,13 +7,16 @@ ghost use Rattle.flat_machine.specs.Layout.{by_place};
 ghost use Rattle.rank_state.specs.Windows.{Merges};
 ghost use Rattle.rank_state.specs.Machine.{noted};
 ghost use Rattle.rank_memory.specs.Stops.{stop_in};
-ghost use Rattle.rank_program.specs.Rooms.{most_saved};
+ghost use Rattle.rank_program.specs.Rooms.{most_saved, most_ways, most_columns};
 ghost use Rattle.rank_program.specs.AloneRuns.{AllBegin, Reaches, RunsAt};
+ghost use Rattle.row_batches.specs.RowLoops.{HasRowRoom};
+ghost use Rattle.rank_program.specs.Batches.{GoesOn};
 ghost use Rattle.rank_program.specs.Here.{moved, merged_after};
 ghost use Rattle.rank_program.specs.Keeping.{KeepsIn};
 ghost use Rattle.rank_program.specs.LocalLoops.{IsLocalLoop, VariablesStand};
 ghost use Rattle.rank_program.specs.Sound.{Sound, setup_in, layout_in, tables_in};
 
+use crate::batches::run_batches;
 use crate::begun::{original_at, owns_at};
 use crate::items::site_of;
 use crate::local_args::put_places;
@@ -22,6 +25,7 @@ use kernel_types::KernelFault;
 use rank_layout::{MAX_ARGS, element_windows_stand, put_windows, steps_stand, windows_stand};
 use rank_memory::scalars::{fill, merge_amounts};
 use rank_memory::stop::{Stop, least};
+use row_batches::RowRoom;
 use views::Place;
 
 // Puts down where windows stand behind so many cells, which stood behind so many others.
@@ -155,9 +159,50 @@ fn run_element(
     merge_owned(local, place, fault, windows, partials);
 }
 
-/// Runs the kernel of a loop on a rank for the elements at places, one after another, on `memory`: the cells of the rank's buffer,
-/// and behind them one for each of the loop's scalars, whatever it holds. Answers the fault to keep of `fault` and of theirs; an
+/// Runs the kernel of a loop on a rank for the elements at the places from one on and before another, one after another, on `memory`:
+/// the cells of the rank's buffer, and behind them one for each of the loop's scalars, whatever it holds. `cells` are places of the
+/// arguments, as `put_behind` or an earlier element left them. It keeps in `kept` the fault to keep of that and of theirs; an
 /// element that faults leaves the buffer and the partials as they were. Takes no memory.
+pub fn run_alone(
+    local: &LocalLoop<'_>,
+    places: &[u32],
+    from: usize,
+    to: usize,
+    cells: &mut [Place],
+    memory: &mut [i32],
+    partials: &mut [i32],
+    kept: &mut Option<Stop>,
+    saved: &mut [i32],
+    scratch: &mut [i32],
+)
+    requires sound { Sound local.now.program.now }
+    requires is { IsLocalLoop local.now }
+    requires keeps { KeepsIn local.now.program.now local.now.item }
+    requires order { from ≤ to }
+    requires fits { to ≤ length places.now }
+    requires steps { AllBegin (setup_in local.now.program.now) (layout_in local.now.program.now) (tables_in local.now.program.now)
+        local.now.item local.now.rank places.now }
+    requires stand { VariablesStand local.now cells.old }
+    requires memory { length memory.old ≡ local.now.part.now.cells + length local.now.scalars.now }
+    requires partials { length partials.old ≡ (tables_in local.now.program.now).slots }
+    requires saved { most_saved ≤ length saved.old }
+    requires scratch { local.now.program.now.locals ≤ length scratch.old }
+    ensures runs { GoesOn local.now places.now from to
+        (record { cells = take local.now.part.now.cells memory.old; partials = partials.old; fault = stop_in kept.old })
+        (record { cells = take local.now.part.now.cells memory.new; partials = partials.new; fault = stop_in kept.new }) }
+    ensures stand { VariablesStand local.now cells.new }
+{
+    for i in from..to {
+        run_element(
+            local, places[i], cells, memory, partials, kept, saved, scratch,
+        );
+    }
+}
+
+/// Runs the kernel of a loop on a rank for the elements at places, as one after another, on `memory`: the cells of the rank's buffer,
+/// and behind them one for each of the loop's scalars, whatever it holds. Where they run in rows, 64 of them run at once; what `rows`
+/// holds means nothing before and after. Answers the fault to keep of `fault` and of theirs; an element that faults leaves the buffer
+/// and the partials as they were. Takes no memory.
 pub fn run_here(
     local: &LocalLoop<'_>,
     places: &[u32],
@@ -166,6 +211,7 @@ pub fn run_here(
     fault: Option<Stop>,
     saved: &mut [i32],
     scratch: &mut [i32],
+    rows: &mut RowRoom,
 ) -> Option<Stop>
     requires sound { Sound local.now.program.now }
     requires is { IsLocalLoop local.now }
@@ -177,20 +223,32 @@ pub fn run_here(
     requires partials { length partials.old ≡ (tables_in local.now.program.now).slots }
     requires saved { most_saved ≤ length saved.old }
     requires scratch { local.now.program.now.locals ≤ length scratch.old }
-    ensures { Reaches (setup_in local.now.program.now) (layout_in local.now.program.now) (tables_in local.now.program.now)
+    requires rows { HasRowRoom most_ways most_columns most_columns rows.old }
+    ensures reaches { Reaches (setup_in local.now.program.now) (layout_in local.now.program.now) (tables_in local.now.program.now)
         local.now.item local.now.rank local.now.constants.now local.now.variables.now places.now
         (record { cells = take local.now.part.now.cells memory.old; partials = partials.old; fault = stop_in fault })
         (length places.now)
         (record { cells = take local.now.part.now.cells memory.new; partials = partials.new; fault = stop_in result }) }
+    ensures rows { HasRowRoom most_ways most_columns most_columns rows.new }
 {
     let mut room = [Place { from: 0, count: 0 }; MAX_ARGS];
     let cells = &mut room[..local.args.len()];
     put_behind(local, places[0], cells);
     let mut kept = fault;
-    for i in 0..places.len() {
-        run_element(
-            local, places[i], cells, memory, partials, &mut kept, saved, scratch,
-        );
-    }
+    let done = run_batches(
+        local, places, cells, memory, partials, &mut kept, saved, scratch, rows,
+    );
+    run_alone(
+        local,
+        places,
+        done,
+        places.len(),
+        cells,
+        memory,
+        partials,
+        &mut kept,
+        saved,
+        scratch,
+    );
     kept
 }

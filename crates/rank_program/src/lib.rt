@@ -3,6 +3,7 @@
 #![tactic(auto)]
 
 mod alone;
+mod batches;
 mod begun;
 mod elements;
 mod exchanges;
@@ -19,6 +20,7 @@ mod local_args;
 mod local_loops;
 mod program;
 mod room;
+mod row_loops;
 mod task_runs;
 mod tasks;
 

@@ -2,30 +2,15 @@
 
 ghost use Rattle.std.specs.Prelude.{◌≡◌, ◌<◌, ℕ, All, length};
 ghost use Rattle.rank_layout.specs.DatWindows.{ArgHere, ViaHere};
-ghost use Rattle.rank_program.specs.LocalArgs.{HasTarget, CountsCells, IsVia, IsArg, AreArgs, local_in, place_in, places_in};
+ghost use Rattle.rank_program.specs.LocalArgs.{CountsCells, IsVia, IsArg, AreArgs, place_in, places_in};
 
+use batch_tables::LocalArg;
 use bound_program::Arg;
 use local_mesh::RankMesh;
 use mesh_decl::{Mesh, Via};
 use rank_layout::targets_of;
+use row_batches::{LocalVia, local_number};
 use views::Place;
-
-/// The local targets of a map: `step` for each place, of which the one at `index` is meant.
-#[derive(Clone, Copy)]
-pub struct LocalVia<'a> {
-    pub targets: &'a [u32],
-    pub step: usize,
-    pub index: usize,
-}
-
-/// An argument on a dat: by which map it leads from a place, the cell of the rank's buffer at which the dat begins, and how many
-/// cells each element has.
-#[derive(Clone, Copy)]
-pub struct LocalArg<'a> {
-    pub via: Option<LocalVia<'a>>,
-    pub base: usize,
-    pub dim: usize,
-}
 
 // The same map by local numbers.
 fn local_via<'a>(mesh: &Mesh, part: &'a RankMesh, via: Option<Via>) -> Option<LocalVia<'a>>
@@ -72,17 +57,6 @@ pub fn put_local_args<'a>(
 {
     for (i, arg) in args.iter().enumerate() {
         locals[i] = local_arg(mesh, part, *arg);
-    }
-}
-
-// The local number of the element to which a map leads from a place.
-fn local_number(via: &Option<LocalVia<'_>>, place: u32) -> u32
-    requires { HasTarget via.now place }
-    ensures { result ≡ local_in via.now place }
-{
-    match via {
-        None => place,
-        Some(via) => via.targets[place as usize * via.step + via.index],
     }
 }
 

@@ -1,8 +1,9 @@
 // A bound program, distributed and planned.
 
-ghost use Rattle.std.specs.Prelude.{◌≡◌, IfOk};
+ghost use Rattle.std.specs.Prelude.{◌≡◌, true, IfOk};
 ghost use Rattle.kernel_code.specs.Codes.{AreCodesOf};
 ghost use Rattle.bound_program.specs.Values.{bound_of};
+ghost use Rattle.run_model.specs.Ranges.{AllObey};
 ghost use Rattle.loop_plan.specs.Values.{plan_of};
 ghost use Rattle.host_acts.specs.Variables.{VarsBegin};
 ghost use Rattle.rank_state.specs.Starting.{AreSlots, ArePlaces};
@@ -35,6 +36,8 @@ pub struct DistributedProgram<'a> {
     pub plan: &'a Plan,
     /// The codes of the program's kernels.
     pub codes: &'a [Code<'a>],
+    /// Whether all kernels are known to obey their arguments' accesses, so that several elements may run at once.
+    pub obeying: bool,
     /// The most cells that the locals of a kernel have.
     pub locals: usize,
     pub tables: MachineTables,
@@ -42,7 +45,8 @@ pub struct DistributedProgram<'a> {
 
 impl<'a> DistributedProgram<'a> {
     /// A bound program on the ranks of `owners`, with the local meshes of these, the plan for them, the local numbers of
-    /// what ranks own and exchange by set, and the codes of the program's kernels.
+    /// what ranks own and exchange by set, the codes of the program's kernels, and whether these are known to obey their arguments'
+    /// accesses: then elements that come one after another may run several at once.
     ///
     /// It takes time linear in the program's arguments and their cells, in its Free loops times the ranks, and in the lists
     /// of what ranks export, for each dat.
@@ -57,9 +61,11 @@ impl<'a> DistributedProgram<'a> {
         lists: &'a [LocalLists],
         plan: &'a Plan,
         codes: &'a [Code<'a>],
+        obeying: bool,
     ) -> Result<DistributedProgram<'a>, OutOfMemory>
         requires runs { CanRun (bound_of bound.now) owners.now meshes.now (plan_of plan.now) lists.now }
         requires codes { AreCodesOf (bound_of bound.now).kernels codes.now }
+        requires obeying { obeying ≡ true → AllObey (bound_of bound.now) }
         ensures sound { IfOk result Sound }
         ensures of { IfOk result (IsProgramOf (bound_of bound.now) owners.now meshes.now (plan_of plan.now)) }
     {
@@ -82,6 +88,7 @@ impl<'a> DistributedProgram<'a> {
             lists,
             plan,
             codes,
+            obeying,
             locals: room_for(codes),
             tables,
         })

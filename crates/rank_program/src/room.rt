@@ -6,21 +6,29 @@ ghost use Rattle.rank_program.specs.Sound.{Sound};
 
 use crate::program::DistributedProgram;
 use rank_state::{Owned, Span};
+use row_batches::RowRoom;
 use std::alloc::{AllocError, Global};
 
-/// Room for the spans of an element or a message, for the locals of a kernel, for the cells that it may spoil, and for the values
-/// of all constants. What stands there means nothing between two steps.
+/// Room for the spans of an element or a message, for the locals of a kernel, for the cells that it may spoil, for a batch of
+/// elements, and for the values of all constants. What stands there means nothing between two steps.
 #[derive(Drop)]
 pub struct Room {
     pub spans: Vec<Span>,
     pub owned: Vec<Owned>,
     pub locals: Vec<i32>,
     pub saved: Vec<i32>,
+    pub rows: RowRoom,
     pub constants: Vec<i32>,
 }
 
 /// How many cells the arguments of a kernel that runs on a rank's own cells have at most.
 pub const MOST_SAVED: usize = 1024;
+
+/// How many ways lead from an element of a loop to what its arguments reach at most: one for each argument.
+pub const MOST_WAYS: usize = 16;
+
+/// How many columns a kernel has at most that runs for a batch of elements at once: as many as a cache of 32 KiB holds.
+pub const MOST_COLUMNS: usize = 128;
 
 impl Room {
     /// As much room as any step needs.
@@ -34,6 +42,7 @@ impl Room {
             owned: Vec::with_capacity(alloc, most)?,
             locals: vec![in alloc; 0; program.locals]?,
             saved: vec![in alloc; 0; MOST_SAVED]?,
+            rows: RowRoom::new(alloc, MOST_WAYS, MOST_COLUMNS, MOST_COLUMNS)?,
             constants: vec![in alloc; 0; program.constants().len()]?,
         })
     }

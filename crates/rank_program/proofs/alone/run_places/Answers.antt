@@ -62,4 +62,4 @@ returns-clause-runs c =
     (of_loop p c.args.item c.args.rank c.deref.result.now c.args.variables.now l of
     (λ d j q cs vs. Reaches (setup_in d) (layout_in d) (tables_in d) j q cs vs c.args.places.now
     (record { cells = take w c.deref_mut.result.now; partials = c.args.partials.now; fault = stop_in c.args.fault }) (length c.args.places.now)
-    (record { cells = take w new; partials = c.run_here-kept.new.partials; fault = stop_in c.run_here-kept.result })) c.run_here-kept.ensures)
+    (record { cells = take w new; partials = c.run_here-kept.new.partials; fault = stop_in c.run_here-kept.result })) c.run_here-kept.ensures.reaches)

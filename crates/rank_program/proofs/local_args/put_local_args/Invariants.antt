@@ -1,6 +1,6 @@
 use Rattle.std.proofs.Common.{◌≡◌, ◌<◌, ℕ, Option, length, get_or}
 use Rattle.bound_program.specs.declared.sites.Arg.{Arg}
-use Rattle.rank_program.specs.declared.local_args.LocalArg.{LocalArg}
+use Rattle.batch_tables.specs.declared.args.LocalArg.{LocalArg}
 use Rattle.rank_program.specs.LocalArgs.{IsArg}
 use Rattle.rank_program.proofs.local_args.put_local_args.Given as goal
 

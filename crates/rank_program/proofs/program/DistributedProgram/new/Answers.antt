@@ -28,6 +28,7 @@ returns-clause-sound c =
       lists = lists;
       made = made;
       codes = c.requires.codes;
+      obeying = c.requires.obeying;
       room = c.room_for.ensures;
       layout = c.layouts_fit.ensures b c.args.owners.now r.numbers c.args.meshes.now p r.planned;
       indexed = c.tables_are_indexed.ensures b c.args.owners.now r.numbers c.args.meshes.now p r.planned;

@@ -1,18 +1,17 @@
 use Rattle.std.proofs.Common.{◌≡◌, ◌≤◌, ◌+◌, length, take}
 use Rattle.rank_memory.specs.Stops.{stop_in}
 use Rattle.rank_program.specs.Rooms.{most_saved}
-use Rattle.rank_program.specs.AloneRuns.{Reaches}
+use Rattle.rank_program.specs.Batches.{GoesOn}
 use Rattle.rank_program.specs.LocalLoops.{VariablesStand}
-use Rattle.rank_program.specs.Sound.{setup_in, layout_in, tables_in}
-use Rattle.rank_program.proofs.here.run_here.Given as goal
+use Rattle.rank_program.specs.Sound.{tables_in}
+use Rattle.rank_program.proofs.here.run_alone.Given as goal
 
 abbrev pub invariant-loop-i : goal.invariant-loop-i
 invariant-loop-i l = record {
-  count : l.i ≤ length l.places;
-  reaches : Reaches (setup_in l.local.program.now) (layout_in l.local.program.now) (tables_in l.local.program.now) l.local.item l.local.rank
-      l.local.constants.now l.local.variables.now l.places
-      (record { cells = take l.local.part.now.cells l.fn.memory; partials = l.fn.partials; fault = stop_in l.fn.fault }) l.i
+  runs : GoesOn l.local l.places l.from l.i
+      (record { cells = take l.local.part.now.cells l.fn.memory; partials = l.fn.partials; fault = stop_in l.fn.kept })
       (record { cells = take l.local.part.now.cells l.memory; partials = l.partials; fault = stop_in l.kept });
+  below : l.i ≤ l.to;
   stand : VariablesStand l.local l.cells;
   memory : length l.memory ≡ l.local.part.now.cells + length l.local.scalars.now;
   partials : length l.partials ≡ (tables_in l.local.program.now).slots;

@@ -1,0 +1,76 @@
+-- Batches of a loop's elements on a rank: those that run in rows.
+use Rattle.std.specs.Prelude.{◌≡◌, ◌<◌, ◌≤◌, ◌+◌, ◌⊎◌, ◌||◌, ℕ, ℤ, Bool, true, false, List, [], ◌∷◌, length, slice_index, Option}
+use Rattle.kernel_types.specs.declared.faults.KernelFault.{KernelFault}
+use Rattle.views.specs.declared.frame.Place.{Place}
+use Rattle.views.specs.Framed.{PlacesIn}
+use Rattle.schedule_steps.specs.declared.step.Step.TheVariants.{Begin}
+use Rattle.schedule_steps.specs.Steps.{IsStep}
+use Rattle.schedule_model.specs.Sequential.{Stop}
+use Rattle.flat_machine.specs.Layout.{by_place}
+use Rattle.run_model.specs.Arguments.{modes_of}
+use Rattle.run_model.specs.Laws.{site_of}
+use Rattle.rank_state.specs.declared.scalars.Scalar.{Scalar}
+use Rattle.rank_state.specs.declared.scalars.Scalar.TheVariants.{Value, Amount}
+use Rattle.kernel_columns.specs.declared.columns.TheConstants.{ROWS}
+use Rattle.row_batches.specs.declared.rows.RowLoop.{RowLoop}
+use Rattle.row_batches.specs.RowLoops.{width, IsWhole, LeadsFrom, RunsInRows}
+use Rattle.rank_program.specs.AloneRuns.{Share, Reaches}
+use Rattle.rank_program.specs.Rooms.{most_ways, most_columns}
+use Rattle.rank_program.specs.declared.local_loops.LocalLoop.{LocalLoop}
+use Rattle.rank_program.specs.LocalArgs.{places_in}
+use Rattle.rank_program.specs.LocalLoops.{VariablesStand}
+use Rattle.rank_program.specs.Sound.{program_in, setup_in, layout_in, tables_in}
+
+-- the loop reduces into the scalar
+abbrev pub is_amount : Scalar → Bool
+is_amount (Value at) = false
+is_amount (Amount at slot how) = true
+
+-- the loop reduces into one of them
+abbrev pub reduces : List Scalar → Bool
+reduces [] = false
+reduces (x ∷ xs) = is_amount x || reduces xs
+
+-- what an element leaves of the scalars counts: its rank owns it, or the loop reduces into none of them
+abbrev pub Counts : Bool → List Scalar → Type 0
+Counts own scalars = (own ≡ true) ⊎ (reduces scalars ≡ false)
+
+module _ (l : LocalLoop) where
+  -- the element at the place begins on the rank
+  abbrev pub BeginsAt : ℕ → Type 0
+  BeginsAt x = IsStep (by_place (setup_in l.program.now) (layout_in l.program.now)) (Begin l.item l.rank x)
+
+  -- the elements at the places from one on and before another run one after another
+  abbrev pub GoesOn : (places : List ℕ) → (from to : ℕ) → (old new : Share KernelFault) → Type 0
+  GoesOn places from to old new =
+      (start : Share KernelFault)
+      → Reaches (setup_in l.program.now) (layout_in l.program.now) (tables_in l.program.now) l.item l.rank
+      l.constants.now l.variables.now places start from old
+      → Reaches (setup_in l.program.now) (layout_in l.program.now) (tables_in l.program.now) l.item l.rank
+      l.constants.now l.variables.now places start to new
+
+  -- the same, with no fault
+  abbrev pub GoesCleanly : (places : List ℕ) → (from to : ℕ) → (old new partials merged : List ℤ) → Type 0
+  GoesCleanly places from to old new partials merged =
+      (kept : Option (Stop KernelFault))
+      → GoesOn places from to (record { cells = old; partials = partials; fault = kept })
+      (record { cells = new; partials = merged; fault = kept })
+
+  -- it is this loop, whose elements run in rows where they begin
+  pub record IsRowLoop (y : RowLoop) : Type 0 where
+    pub code : y.code.now ≡ l.code.now
+    pub constants : y.constants.now ≡ l.constants.now
+    pub variables : y.variables.now ≡ l.variables.now
+    pub scalars : y.scalars.now ≡ l.scalars.now
+    pub params : length y.places.now ≡ l.code.now.kernel.now.params
+    pub fits : PlacesIn (width y) y.places.now
+    pub whole : IsWhole y
+    pub few_ways : length y.ways.now ≤ most_ways
+    pub few_columns : width y + l.code.now.slots ≤ most_columns
+    pub leads : (x : ℕ) → BeginsAt x → LeadsFrom y l.part.now.cells x
+    pub stand : List Place
+    pub are : VariablesStand l stand
+    pub in_rows : (batch : List ℕ)
+        → ((r : ℕ) → r < ROWS → BeginsAt (slice_index batch r))
+        → RunsInRows y l.part.now.cells (modes_of (program_in l.program.now) (site_of (program_in l.program.now) l.item))
+        (λ x. places_in x l.args.now stand) batch

@@ -1,0 +1,290 @@
+// Batches of a loop's elements on a rank: 64 of them at once where they can run in rows, else one after another.
+
+ghost use Rattle.std.specs.Prelude.{◌≡◌, ◌<◌, ◌≤◌, ◌+◌, ◌==◌, ℕ, true, false, length, take, get_or, slice_index};
+ghost use Rattle.rank_memory.specs.Stops.{stop_in};
+ghost use Rattle.rank_program.specs.Rooms.{most_saved, most_ways, most_columns};
+ghost use Rattle.rank_program.specs.AloneRuns.{AllBegin};
+ghost use Rattle.row_batches.specs.RowLoops.{HasRowRoom};
+ghost use Rattle.rank_program.specs.Batches.{IsRowLoop, Counts, reduces, GoesOn, GoesCleanly};
+ghost use Rattle.rank_program.specs.Keeping.{KeepsIn};
+ghost use Rattle.rank_program.specs.LocalLoops.{IsLocalLoop, VariablesStand};
+ghost use Rattle.rank_program.specs.Sound.{Sound, setup_in, layout_in, tables_in};
+
+use crate::begun::owns_at;
+use crate::here::run_alone;
+use crate::local_loops::LocalLoop;
+use crate::room::MOST_COLUMNS;
+use crate::row_loops::{MOST_PAIRS, no_column, row_loop};
+use kernel_columns::{Numbers, ROWS};
+use rank_layout::{MAX_ARGS, element_windows_stand, steps_stand, windows_stand};
+use rank_memory::stop::Stop;
+use rank_state::Scalar;
+use row_batches::{RowLoop, RowRoom, run_batch};
+use views::Place;
+
+// Whether a loop reduces into a variable.
+fn reduces(scalars: &[Scalar]) -> bool
+    ensures { result ≡ reduces scalars.now }
+{
+    for scalar in scalars {
+        if let Scalar::Amount { .. } = scalar {
+            return true;
+        }
+    }
+    false
+}
+
+// Whether what the elements at the places of a batch leave of the loop's scalars counts: it reduces into none, or its rank owns the
+// elements.
+fn all_count(local: &LocalLoop<'_>, places: &[u32], at: usize) -> bool
+    requires sound { Sound local.now.program.now }
+    requires steps { AllBegin (setup_in local.now.program.now) (layout_in local.now.program.now) (tables_in local.now.program.now)
+        local.now.item local.now.rank places.now }
+    requires fits { at + ROWS ≤ length places.now }
+    ensures { result ≡ true → (j : ℕ) → j < ROWS → Counts
+        ((setup_in local.now.program.now).owner ((setup_in local.now.program.now).program.set local.now.item)
+        ((layout_in local.now.program.now).original local.now.item local.now.rank (get_or places.now (at + j) 0)) == local.now.rank)
+        local.now.scalars.now }
+{
+    if !reduces(local.scalars) {
+        return true;
+    }
+    for j in 0..ROWS {
+        if !owns_at(local.program, local.item, local.rank, places[at + j]) {
+            return false;
+        }
+    }
+    true
+}
+
+// The 64 places from `at` on.
+fn batch_at(places: &[u32], at: usize) -> Numbers
+    requires { at + ROWS ≤ length places.now }
+    ensures { (j : ℕ) → j < ROWS → slice_index result j ≡ get_or places.now (at + j) 0 }
+{
+    let mut batch = [0; ROWS];
+    for j in 0..ROWS {
+        batch[j] = places[at + j];
+    }
+    batch
+}
+
+// Runs the kernel of a loop for the 64 elements at the places from `at` on at once, on `memory`: the cells of the rank's buffer, and
+// behind them one for each of the loop's scalars, whatever it holds. Answers `false` where they do not run in rows; then memory and
+// partials are as they were.
+fn run_rows(
+    local: &LocalLoop<'_>,
+    rows: &RowLoop<'_>,
+    places: &[u32],
+    at: usize,
+    memory: &mut [i32],
+    partials: &mut [i32],
+    room: &mut RowRoom,
+) -> bool
+    requires sound { Sound local.now.program.now }
+    requires is { IsLocalLoop local.now }
+    requires keeps { KeepsIn local.now.program.now local.now.item }
+    requires rows { IsRowLoop local.now rows.now }
+    requires steps { AllBegin (setup_in local.now.program.now) (layout_in local.now.program.now) (tables_in local.now.program.now)
+        local.now.item local.now.rank places.now }
+    requires fits { at + ROWS ≤ length places.now }
+    requires memory { length memory.old ≡ local.now.part.now.cells + length local.now.scalars.now }
+    requires partials { length partials.old ≡ (tables_in local.now.program.now).slots }
+    requires room { HasRowRoom most_ways most_columns most_columns room.old }
+    ensures runs { result ≡ true → GoesCleanly local.now places.now at (at + ROWS)
+        (take local.now.part.now.cells memory.old) (take local.now.part.now.cells memory.new) partials.old partials.new }
+    ensures memory { result ≡ false → memory.new ≡ memory.old }
+    ensures partials { result ≡ false → partials.new ≡ partials.old }
+    ensures room { HasRowRoom most_ways most_columns most_columns room.new }
+{
+    steps_stand();
+    windows_stand();
+    element_windows_stand();
+    bound_plan::frames_are_reached();
+    in_place::finishes_here();
+    if !all_count(local, places, at) {
+        return false;
+    }
+    let batch = batch_at(places, at);
+    run_batch(
+        rows,
+        &batch,
+        &mut memory[..local.part.cells],
+        partials,
+        room,
+    )
+}
+
+// How many batches run one element after another before the next that is tried in rows, and how many after it if it fails.
+#[derive(Drop)]
+struct Pause {
+    left: usize,
+    next: usize,
+}
+
+// Runs the kernel of a loop for the 64 elements at the places from `at` on: at once where they run in rows, else one after another.
+fn run_one(
+    local: &LocalLoop<'_>,
+    rows: &RowLoop<'_>,
+    places: &[u32],
+    at: usize,
+    pause: &mut Pause,
+    cells: &mut [Place],
+    memory: &mut [i32],
+    partials: &mut [i32],
+    kept: &mut Option<Stop>,
+    saved: &mut [i32],
+    scratch: &mut [i32],
+    room: &mut RowRoom,
+)
+    requires sound { Sound local.now.program.now }
+    requires is { IsLocalLoop local.now }
+    requires keeps { KeepsIn local.now.program.now local.now.item }
+    requires rows { IsRowLoop local.now rows.now }
+    requires steps { AllBegin (setup_in local.now.program.now) (layout_in local.now.program.now) (tables_in local.now.program.now)
+        local.now.item local.now.rank places.now }
+    requires fits { at + ROWS ≤ length places.now }
+    requires stand { VariablesStand local.now cells.old }
+    requires memory { length memory.old ≡ local.now.part.now.cells + length local.now.scalars.now }
+    requires partials { length partials.old ≡ (tables_in local.now.program.now).slots }
+    requires saved { most_saved ≤ length saved.old }
+    requires scratch { local.now.program.now.locals ≤ length scratch.old }
+    requires room { HasRowRoom most_ways most_columns most_columns room.old }
+    ensures runs { GoesOn local.now places.now at (at + ROWS)
+        (record { cells = take local.now.part.now.cells memory.old; partials = partials.old; fault = stop_in kept.old })
+        (record { cells = take local.now.part.now.cells memory.new; partials = partials.new; fault = stop_in kept.new }) }
+    ensures stand { VariablesStand local.now cells.new }
+    ensures room { HasRowRoom most_ways most_columns most_columns room.new }
+{
+    if pause.left > 0 {
+        pause.left -= 1;
+    } else if run_rows(local, rows, places, at, memory, partials, room) {
+        pause.next = 1;
+        return;
+    } else {
+        pause.left = pause.next;
+        pause.next = pause.next.saturating_mul(2);
+    }
+    run_alone(
+        local,
+        places,
+        at,
+        at + ROWS,
+        cells,
+        memory,
+        partials,
+        kept,
+        saved,
+        scratch,
+    );
+}
+
+// Runs the kernel of a loop whose elements run in rows for the elements at places, by batches. A batch that does not run in rows runs
+// one element after another, and so do as many after it as the pause says, twice as many each time. Answers how many elements ran;
+// fewer than 64 are left.
+fn run_all(
+    local: &LocalLoop<'_>,
+    rows: &RowLoop<'_>,
+    places: &[u32],
+    cells: &mut [Place],
+    memory: &mut [i32],
+    partials: &mut [i32],
+    kept: &mut Option<Stop>,
+    saved: &mut [i32],
+    scratch: &mut [i32],
+    room: &mut RowRoom,
+) -> usize
+    requires sound { Sound local.now.program.now }
+    requires is { IsLocalLoop local.now }
+    requires keeps { KeepsIn local.now.program.now local.now.item }
+    requires rows { IsRowLoop local.now rows.now }
+    requires steps { AllBegin (setup_in local.now.program.now) (layout_in local.now.program.now) (tables_in local.now.program.now)
+        local.now.item local.now.rank places.now }
+    requires stand { VariablesStand local.now cells.old }
+    requires memory { length memory.old ≡ local.now.part.now.cells + length local.now.scalars.now }
+    requires partials { length partials.old ≡ (tables_in local.now.program.now).slots }
+    requires saved { most_saved ≤ length saved.old }
+    requires scratch { local.now.program.now.locals ≤ length scratch.old }
+    requires room { HasRowRoom most_ways most_columns most_columns room.old }
+    ensures count { result ≤ length places.now }
+    ensures runs { GoesOn local.now places.now 0 result
+        (record { cells = take local.now.part.now.cells memory.old; partials = partials.old; fault = stop_in kept.old })
+        (record { cells = take local.now.part.now.cells memory.new; partials = partials.new; fault = stop_in kept.new }) }
+    ensures stand { VariablesStand local.now cells.new }
+    ensures room { HasRowRoom most_ways most_columns most_columns room.new }
+{
+    let count = places.len() / ROWS;
+    let mut pause = Pause { left: 0, next: 1 };
+    for i in 0..count {
+        run_one(
+            local,
+            rows,
+            places,
+            i * ROWS,
+            &mut pause,
+            cells,
+            memory,
+            partials,
+            kept,
+            saved,
+            scratch,
+            room,
+        );
+    }
+    count * ROWS
+}
+
+/// Runs the kernel of a loop on a rank for elements at places by batches of 64, where its elements run in rows, on `memory` as
+/// `run_here` does. Answers how many elements ran, from the first on.
+pub fn run_batches(
+    local: &LocalLoop<'_>,
+    places: &[u32],
+    cells: &mut [Place],
+    memory: &mut [i32],
+    partials: &mut [i32],
+    kept: &mut Option<Stop>,
+    saved: &mut [i32],
+    scratch: &mut [i32],
+    room: &mut RowRoom,
+) -> usize
+    requires sound { Sound local.now.program.now }
+    requires is { IsLocalLoop local.now }
+    requires keeps { KeepsIn local.now.program.now local.now.item }
+    requires steps { AllBegin (setup_in local.now.program.now) (layout_in local.now.program.now) (tables_in local.now.program.now)
+        local.now.item local.now.rank places.now }
+    requires stand { VariablesStand local.now cells.old }
+    requires memory { length memory.old ≡ local.now.part.now.cells + length local.now.scalars.now }
+    requires partials { length partials.old ≡ (tables_in local.now.program.now).slots }
+    requires saved { most_saved ≤ length saved.old }
+    requires scratch { local.now.program.now.locals ≤ length scratch.old }
+    requires room { HasRowRoom most_ways most_columns most_columns room.old }
+    ensures count { result ≤ length places.now }
+    ensures runs { GoesOn local.now places.now 0 result
+        (record { cells = take local.now.part.now.cells memory.old; partials = partials.old; fault = stop_in kept.old })
+        (record { cells = take local.now.part.now.cells memory.new; partials = partials.new; fault = stop_in kept.new }) }
+    ensures stand { VariablesStand local.now cells.new }
+    ensures room { HasRowRoom most_ways most_columns most_columns room.new }
+{
+    if places.len() < ROWS {
+        return 0;
+    }
+    let mut numbers = [0; MAX_ARGS];
+    let mut ways = [None; MAX_ARGS];
+    let mut columns = [no_column(); MOST_COLUMNS];
+    let mut frame = [Place { from: 0, count: 0 }; MAX_ARGS];
+    let mut pairs = [(0, 0); MOST_PAIRS];
+    match row_loop(
+        local,
+        cells,
+        &mut numbers,
+        &mut ways,
+        &mut columns,
+        &mut frame,
+        &mut pairs,
+    ) {
+        None => 0,
+        Some(rows) => run_all(
+            local, &rows, places, cells, memory, partials, kept, saved, scratch, room,
+        ),
+    }
+}

@@ -1,0 +1,88 @@
+// Loops on a rank whose elements run in rows: what batches look up, made once for a call.
+
+ghost use Rattle.std.specs.Prelude.{◌<◌, ◌≤◌, ◌^◌, ℕ, IfSome, length};
+ghost use Rattle.rank_program.specs.Batches.{IsRowLoop, BeginsAt};
+ghost use Rattle.rank_program.specs.LocalLoops.{IsLocalLoop, VariablesStand};
+ghost use Rattle.rank_program.specs.Sound.{Sound};
+
+use crate::items::site_of;
+use crate::local_loops::LocalLoop;
+use crate::room::MOST_COLUMNS;
+use batch_tables::{put_columns, put_pairs, put_scalars, put_ways, stores};
+use kernel_columns::is_straight;
+use rank_layout::{MAX_ARGS, element_windows_stand, steps_stand, windows_stand};
+use reductions::Access;
+use row_batches::{LocalVia, RowColumn, RowLoop};
+use views::Place;
+
+/// As many pairs as a loop has of different arguments at most.
+pub const MOST_PAIRS: usize = MAX_ARGS * (MAX_ARGS - 1) / 2;
+
+/// A column that stands for none.
+pub fn no_column() -> RowColumn {
+    RowColumn {
+        way: 0,
+        cell: 0,
+        dim: 0,
+        access: Access::Read,
+    }
+}
+
+/// The loop as its elements run in rows, where its kernel is known to obey its modes, has no `if` with a `for` inside, and has few columns.
+/// `cells` are places of its arguments on variables. The other slices are lent for its tables, whatever they hold: the numbers of ways,
+/// the ways, the columns, the places of arguments in a row's frame, and pairs of ways.
+pub fn row_loop<'p: 'a, 'a>(
+    local: &'a LocalLoop<'p>,
+    cells: &[Place],
+    numbers: &mut [usize],
+    ways: &'a mut [Option<LocalVia<'p>>],
+    columns: &'a mut [RowColumn],
+    places: &'a mut [Place],
+    pairs: &'a mut [(usize, usize)],
+) -> Option<RowLoop<'a>>
+    requires sound { Sound local.now.program.now }
+    requires is { IsLocalLoop local.now }
+    requires step { (place : ℕ) × BeginsAt local.now place }
+    requires stand { VariablesStand local.now cells.now }
+    requires numbers { 16 ≤ length numbers.old }
+    requires ways { 16 ≤ length ways.old }
+    requires columns { length columns.old < 2 ^ 32 }
+    requires places { 16 ≤ length places.old }
+    ensures { IfSome result (IsRowLoop local.now) }
+{
+    steps_stand();
+    windows_stand();
+    element_windows_stand();
+    bound_plan::frames_are_reached();
+    let program = local.program;
+    if !program.obeying {
+        return None;
+    }
+    if !is_straight(&local.code.part) {
+        return None;
+    }
+    let site = site_of(program.bound, local.item);
+    let width = local.part.cells;
+    let numbers = &mut numbers[..site.args.len()];
+    let ways = &mut ways[..site.args.len()];
+    let places = &mut places[..site.args.len()];
+    put_ways(&site.args, local.args, numbers, ways);
+    let count = put_columns(&site.args, local.args, numbers, columns, places)?;
+    if count + local.scalars.len() + local.code.slots as usize > MOST_COLUMNS {
+        return None;
+    }
+    put_scalars(local.args, cells, count, width, places);
+    let found = put_pairs(&site.args, numbers, pairs)?;
+    let columns = &columns[..count];
+    Some(RowLoop {
+        code: local.code,
+        ways,
+        columns,
+        scalars: local.scalars,
+        places,
+        pairs: &pairs[..found],
+        differ: stores(columns),
+        constants: local.constants,
+        variables: local.variables,
+    })
+}
