@@ -26,6 +26,8 @@ const TWO: &str = "op2mesh 1 int n 2 ints a0 2 5 7 done";
 
 const SIXTY_FOUR: &str = "op2mesh 2 int n 64 ints a0 64 64*0 done";
 
+const HUNDRED: &str = "op2mesh 2 int n 100 ints a0 100 100*0 done";
+
 const PRINTED: &str = "a: a s 2 1\n6\n8\n";
 
 // Both elements are open at once.
@@ -164,18 +166,51 @@ fn two_workers_meet_in_a_loop(rt: HostRuntime) -> Result<(), Fail> {
     Ok(())
 }
 
+// What is printed of the dat with so many values, each of which is 1.
+fn ones(alloc: Global, count: u32) -> Result<String, AllocError> {
+    let mut printed = format!(in alloc; "a: a s {count} 1\n")?;
+    for _ in 0..count {
+        printed.push_str("1\n")?;
+    }
+    Ok(printed)
+}
+
 #[test]
 fn two_workers_share_a_group_of_the_standard_order(rt: HostRuntime) -> Result<(), Fail> {
     let alloc = rt.alloc();
-    let mut printed = String::from_str(alloc, "a: a s 64 1\n")?;
-    for _ in 0..64u32 {
-        printed.push_str("1\n")?;
-    }
+    let printed = ones(alloc, 64)?;
     let gate = Meeting::new(63);
     let options: &[&str] = &["--workers", "2"];
     let ended = gated(&rt, alloc, options, SIXTY_FOUR, &gate)?;
     assert_eq!(rt; ended.status, 0);
     assert_eq!(rt; ended.out.bytes(), printed.as_bytes());
     assert_eq!(rt; gate.met.load(Ordering::SeqCst), 2);
+    Ok(())
+}
+
+// Counts how often it is told of a begin.
+#[derive(Drop)]
+struct Count {
+    told: AtomicU64,
+}
+
+impl Gate for Count {
+    fn enter(&self, _index: usize) {
+        self.told.fetch_add(1, Ordering::SeqCst);
+    }
+}
+
+#[test]
+fn groups_behind_the_first_run_in_place(rt: HostRuntime) -> Result<(), Fail> {
+    let alloc = rt.alloc();
+    let printed = ones(alloc, 100)?;
+    let gate = Count {
+        told: AtomicU64::new(0),
+    };
+    let options: &[&str] = &["--workers", "2"];
+    let ended = gated(&rt, alloc, options, HUNDRED, &gate)?;
+    assert_eq!(rt; ended.status, 0);
+    assert_eq!(rt; ended.out.bytes(), printed.as_bytes());
+    assert_eq!(rt; gate.told.load(Ordering::SeqCst), 64);
     Ok(())
 }

@@ -4,6 +4,8 @@ mod Grouping
 pub mod Hosting
 mod Tasking
 pub mod AloneRuns
+mod Closing
+mod Coming
 pub mod Rounds
 pub mod AllShares
 pub mod SameStart

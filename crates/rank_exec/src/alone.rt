@@ -19,8 +19,8 @@ use rank_machine::machine::Machine;
 use rank_machine::steps::read_constants;
 use rank_program::{DistributedProgram, Room};
 
-// Begins of one item and rank, each followed at once by its own end. The constants are read once: no element changes a variable.
-fn run_places(
+/// Begins of one item and rank, each followed at once by its own end. The constants are read once: no element changes a variable.
+pub fn run_places(
     machine: &mut Machine,
     program: &DistributedProgram<'_>,
     room: &mut Room,

@@ -17,6 +17,7 @@ ghost use Rattle.rank_exec.specs.Driving.{Ready, After, posts, takes, opens, shu
 ghost use Rattle.rank_program.specs.Sound.{Sound, setup_in, layout_in, tables_in};
 ghost use Rattle.rank_program.specs.Keeping.{KeepsIn};
 
+use crate::closed::run_closed;
 use crate::group::run_begins;
 use crate::joins::join;
 use crate::run_room::RunRoom;
@@ -90,6 +91,7 @@ fn run<R: Threads + Sync, G: Gate, S: Steps>(
     requires sound { Sound program.now }
     requires keeps { (k : ℕ) → KeepsIn program.now k }
     requires space { HasRunRoomOf program.now room.old }
+    requires coloured { Coloured (setup_in program.now) }
     requires accepted { Accepted (by_place (setup_in program.now) (layout_in program.now)) (S.left steps.old) }
     requires starts { (f : Flat KernelFault) × StartsFlat (setup_in program.now) (layout_in program.now) f
         × Shows (setup_in program.now) (layout_in program.now) (tables_in program.now) machine.old f }
@@ -103,6 +105,7 @@ fn run<R: Threads + Sync, G: Gate, S: Steps>(
 {
     schedule_steps::peak_is_room();
     rank_state::steps_are_ready::<KernelFault>();
+    closed_groups::closed_groups_are_alone::<KernelFault>();
     let mut next = next_of(steps);
     while let Some(step) = next {
         if let Step::Begin { item, rank, place } = step {
@@ -113,6 +116,7 @@ fn run<R: Threads + Sync, G: Gate, S: Steps>(
             if let Some(stop) = take(alloc, machine, program, &mut room.step, step)? {
                 return Ok(Some(stop));
             }
+            run_closed(machine, program, room, steps, step, workers);
             next = next_of(steps);
         }
     }
@@ -123,8 +127,9 @@ fn run<R: Threads + Sync, G: Gate, S: Steps>(
 /// machine's lists, its memories among them, show where the machine on flat buffers ends.
 ///
 /// A run of begins is done in groups by the `workers`, at least 1, and `gate` is told of each begin of a group; a begin that
-/// its own end follows is done in place, and the gate isn't told. The answer is the same for every number of workers and
-/// every gate. `room` is what [`RunRoom::new`] gives; memory is wanted for what joins print.
+/// its own end follows is done in place, and so are closed groups that the stream tells behind an end, where their kernel is
+/// short; of those the gate isn't told. The answer is the same for every number of workers and every gate. `room` is what
+/// [`RunRoom::new`] gives; memory is wanted for what joins print.
 ///
 /// However it ends, by the last step, by a stop or for want of memory, what `steps` still holds is a suffix of what it held:
 /// steps are taken from the front, and none is put back.

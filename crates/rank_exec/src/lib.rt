@@ -2,6 +2,7 @@
 #![tactic(auto)]
 
 mod alone;
+mod closed;
 pub mod drive;
 mod group;
 mod group_room;

@@ -2,11 +2,15 @@
 
 ghost use Rattle.std.specs.Prelude.{◌<◌};
 
+use bound_program::Item;
 use kernel_code::Part;
-use rank_program::KernelJob;
+use rank_program::{DistributedProgram, KernelJob};
 
 // As many operations as threads are worth: starting them takes as long as some thousands.
 const WORTH_THREADS: usize = 16384;
+
+// As many elements as a group has that threads are tried for.
+const FULL_GROUP: usize = 64;
 
 // About how many operations a part of a kernel's code has, with those of its longer branch, and of a body as often as it is run.
 fn operations(part: &Part) -> usize {
@@ -40,4 +44,23 @@ pub fn workers_for(job: &KernelJob<'_>, place: u32, workers: u32) -> u32
         return workers;
     }
     1
+}
+
+// About how many operations the kernel of a Free item has; 0 where the item is none.
+fn operations_in(program: &DistributedProgram<'_>, item: u32) -> usize {
+    let Some(Item::Free { site }) = program.bound.trace.get(item as usize) else {
+        return 0;
+    };
+    let Some(site) = program.bound.sites.get(*site as usize) else {
+        return 0;
+    };
+    let Some(code) = program.codes.get(site.kernel as usize) else {
+        return 0;
+    };
+    operations(&code.part)
+}
+
+/// Whether the kernel of a Free item is so short that not even a full group of its elements is worth threads.
+pub fn is_short(program: &DistributedProgram<'_>, item: u32) -> bool {
+    operations_in(program, item).saturating_mul(FULL_GROUP) < WORTH_THREADS
 }

@@ -1,9 +1,11 @@
 // Steps that come one after another.
 
-ghost use Rattle.std.specs.Prelude.{◌≡◌, [], None};
+ghost use Rattle.std.specs.Prelude.{◌≡◌, ◌<◌, ◌++◌, [], None, length, vec_capacity, IfSome, IfNone};
+ghost use Rattle.closed_groups.specs.Closed.{closed};
 ghost use Rattle.rank_exec.specs.Driving.{to_come};
 
 use schedule_steps::Step;
+use step_orders::ItemOnRank;
 pub use step_orders::Steps;
 
 // The first of the steps still to come; `None` where there is none.
@@ -12,4 +14,16 @@ pub(crate) fn next_of<S: Steps>(steps: &mut S) -> Option<Step>
     ensures over { result ≡ None → S.left steps.new ≡ [] }
 {
     steps.next_step()
+}
+
+// The item and rank of the closed group that comes next, whose steps are taken and whose places are put down; `None` where none
+// is told.
+pub(crate) fn next_closed_of<S: Steps>(steps: &mut S, places: &mut Vec<u32>) -> Option<ItemOnRank>
+    requires empty { places.old.items ≡ [] }
+    ensures some { IfSome result (λ of. S.left steps.old ≡ closed of.item of.rank places.new.items ++ S.left steps.new) }
+    ensures more { IfSome result (λ of. 0 < length places.new.items) }
+    ensures none { IfNone result (S.left steps.new ≡ S.left steps.old) }
+    ensures room { vec_capacity places.new ≡ vec_capacity places.old }
+{
+    steps.next_closed(places)
 }

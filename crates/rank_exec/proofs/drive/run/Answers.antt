@@ -1,15 +1,14 @@
-use Rattle.std.proofs.Common.{◌≡◌, ◌≤◌, [], ◌∷◌, ◌++◌, Some, length, sym, ap, subst, ◌∙◌, arith, append_assoc}
+use Rattle.std.proofs.Common.{◌≡◌, [], ◌∷◌, ◌++◌, Some, ap, subst, ◌∙◌, arith}
 use Rattle.kernel_types.specs.declared.faults.KernelFault.{KernelFault}
 use Rattle.schedule_steps.specs.declared.step.Step.{Step}
 use Rattle.schedule_steps.specs.declared.step.Step.TheVariants.{Send, Recv, Begin, End, Join}
-use Rattle.schedule_steps.specs.Peaks.{open_step, mail_step, count_after, greatest}
-use Rattle.flat_machine.specs.Layout.{by_place, message_cells}
+use Rattle.flat_machine.specs.Layout.{message_cells}
 use Rattle.flat_machine.specs.Flat.{Flat, flat_step, flat_from}
-use Rattle.rank_state.specs.Groups.{begins}
 use Rattle.rank_memory.specs.Stops.{stop_of, stop_in}
-use Rattle.rank_exec.specs.Driving.{Ready, After, Reached, to_come, takes, shuts}
-use Rattle.rank_exec.proofs.Driving.{reached_none, reached_at, reached_more, reached_step, front_taken, count_append, count_below, at_stop}
-use Rattle.rank_exec.proofs.Grouping.{opened_by}
+use Rattle.rank_exec.specs.Driving.{Ready, After, Reached, to_come}
+use Rattle.rank_exec.proofs.Driving.{reached_none, reached_at, reached_more, front_taken, at_stop}
+use Rattle.rank_exec.proofs.Closing.{groups_after}
+use Rattle.rank_exec.proofs.Coming.{come_ready, reached_taken}
 use Rattle.rank_program.specs.Sound.{setup_in, layout_in, tables_in}
 use Rattle.rank_exec.proofs.drive.run.Goals as goal
 
@@ -21,18 +20,8 @@ loop-next-init g c = record {
 }
 
 pub run_begins-next-requires-clause-ready : goal.run_begins-next-requires-clause-ready
-run_begins-next-requires-clause-ready g c κs within done k b places rest e at d =
-    let q = reached_more (setup_in c.args.program.now) (layout_in c.args.program.now) (tables_in c.args.program.now) (g.S.Steps.left c.args.steps.now) (Begin c.in-Begin.item c.in-Begin.rank c.in-Begin.place ∷ g.S.Steps.left c.loop-next.steps) (begins k b places ++ rest) done c.args.machine.now c.loop-next.machine at r e d in
-    let split : g.S.Steps.left c.args.steps.now ≡ q.front ++ (begins k b places ++ rest) = q.split in
-    let ready = c.steps_are_ready.ensures.begin (setup_in c.args.program.now) (layout_in c.args.program.now) (tables_in c.args.program.now) (g.S.Steps.left c.args.steps.now) c.requires.accepted c.requires.starts.0 c.requires.starts.1 q.front rest k b places split at (q.shows c.requires.starts.0 c.requires.starts.1 c.requires.starts.2) in
-    let below : count_after open_step 0 (q.front ++ begins k b places) ≤ greatest open_step 0 (g.S.Steps.left c.args.steps.now) =
-    subst (λ z. count_after open_step 0 (q.front ++ begins k b places) ≤ greatest open_step 0 z) (append_assoc q.front (begins k b places) rest ∙ sym split)
-    (count_below open_step 0 (q.front ++ begins k b places) rest) in
-    let count = count_append open_step 0 q.front (begins k b places) in
-    let opened = opened_by k b (count_after open_step 0 q.front) places in
-    let frames = q.frames in
-    let room : length places ≤ at.frames.left = omega (arith, below, count, opened, frames, c.requires.peak.opened) in
-    (ready.0, ready.1, ready.2, room)
+run_begins-next-requires-clause-ready g c κs within =
+    come_ready (setup_in c.args.program.now) (layout_in c.args.program.now) (tables_in c.args.program.now) (c.steps_are_ready.ensures.begin (setup_in c.args.program.now) (layout_in c.args.program.now) (tables_in c.args.program.now)) (g.S.Steps.left c.args.steps.now) (Begin c.in-Begin.item c.in-Begin.rank c.in-Begin.place ∷ g.S.Steps.left c.loop-next.steps) c.requires.accepted c.requires.starts.0 c.requires.starts.1 c.args.machine.now c.loop-next.machine c.requires.starts.2 c.requires.peak.opened r
   where
     r : Reached (setup_in c.args.program.now) (layout_in c.args.program.now) (tables_in c.args.program.now) (g.S.Steps.left c.args.steps.now) (Begin c.in-Begin.item c.in-Begin.rank c.in-Begin.place ∷ g.S.Steps.left c.loop-next.steps) c.args.machine.now c.loop-next.machine
     r = reached_at (setup_in c.args.program.now) (layout_in c.args.program.now) (tables_in c.args.program.now) (g.S.Steps.left c.args.steps.now) (g.S.Steps.left c.loop-next.steps) c.args.machine.now c.loop-next.machine c.loop-next.next (Begin c.in-Begin.item c.in-Begin.rank c.in-Begin.place) (c.in-Some.is ∙ ap Some c.in-Begin.is) c.loop-next.invariant.reached
@@ -104,29 +93,56 @@ returns-in_err-stop-clause-suffix g c = front_taken (setup_in c.args.program.now
     r : Reached (setup_in c.args.program.now) (layout_in c.args.program.now) (tables_in c.args.program.now) (g.S.Steps.left c.args.steps.now) (c.in-Some.step ∷ g.S.Steps.left c.loop-next.steps) c.args.machine.now c.loop-next.machine
     r = reached_at (setup_in c.args.program.now) (layout_in c.args.program.now) (tables_in c.args.program.now) (g.S.Steps.left c.args.steps.now) (g.S.Steps.left c.loop-next.steps) c.args.machine.now c.loop-next.machine c.loop-next.next (c.in-Some.step) (c.in-Some.is) c.loop-next.invariant.reached
 
-pub loop-next-preserved : goal.loop-next-preserved
-loop-next-preserved g c = record {
-  reached = reached_step (setup_in c.args.program.now) (layout_in c.args.program.now) (tables_in c.args.program.now) (g.S.Steps.left c.args.steps.now) (g.S.Steps.left c.loop-next.steps) (to_come c.next_of-next-in_default-step.result (g.S.Steps.left c.next_of-next-in_default-step.new.steps)) c.in-Some.step c.args.machine.now c.loop-next.machine c.take.new.machine r
-      c.next_of-next-in_default-step.ensures.next
-      (λ f h. subst (λ o. After (setup_in c.args.program.now) (layout_in c.args.program.now) (tables_in c.args.program.now) (stop_in o) c.take.new.machine (flat_step (setup_in c.args.program.now) (layout_in c.args.program.now) c.in-Some.step f)) c.in_default-2.is (c.in_ok-stop.ensures.after f h))
-      c.take.ensures.mail c.take.ensures.frames (by_recv c.in-Some.step r.split) (by_end c.in-Some.step r.split);
-  space = record { step_fits = c.take.ensures.space; places_fit = c.loop-next.invariant.space.places_fit; group_fits = c.loop-next.invariant.space.group_fits };
-  over = c.next_of-next-in_default-step.ensures.over;
-}
+pub run_closed-requires-clause-shows : goal.run_closed-requires-clause-shows
+run_closed-requires-clause-shows g c = (flat_from (setup_in c.args.program.now) (layout_in c.args.program.now) taken.front c.requires.starts.0, taken.shows c.requires.starts.0 c.requires.starts.1 c.requires.starts.2)
   where
     r : Reached (setup_in c.args.program.now) (layout_in c.args.program.now) (tables_in c.args.program.now) (g.S.Steps.left c.args.steps.now) (c.in-Some.step ∷ g.S.Steps.left c.loop-next.steps) c.args.machine.now c.loop-next.machine
     r = reached_at (setup_in c.args.program.now) (layout_in c.args.program.now) (tables_in c.args.program.now) (g.S.Steps.left c.args.steps.now) (g.S.Steps.left c.loop-next.steps) c.args.machine.now c.loop-next.machine c.loop-next.next (c.in-Some.step) (c.in-Some.is) c.loop-next.invariant.reached
 
-    by_end : (s : Step) → g.S.Steps.left c.args.steps.now ≡ r.front ++ (s ∷ g.S.Steps.left c.loop-next.steps) → shuts s ≤ count_after open_step 0 r.front
-    by_end (Send k a b) e = omega arith
-    by_end (Recv k a b) e = omega arith
-    by_end (Begin k a b) e = omega arith
-    by_end (End k a b) e = c.peak_is_room.ensures.ends (by_place (setup_in c.args.program.now) (layout_in c.args.program.now)) (g.S.Steps.left c.args.steps.now) c.requires.accepted r.front (g.S.Steps.left c.loop-next.steps) k a b e
-    by_end (Join k) e = omega arith
+    taken : Reached (setup_in c.args.program.now) (layout_in c.args.program.now) (tables_in c.args.program.now) (g.S.Steps.left c.args.steps.now) (g.S.Steps.left c.loop-next.steps) c.args.machine.now c.take.new.machine
+    taken = reached_taken (setup_in c.args.program.now) (layout_in c.args.program.now) (tables_in c.args.program.now) c.peak_is_room.ensures.ends c.peak_is_room.ensures.receives (g.S.Steps.left c.args.steps.now) (g.S.Steps.left c.loop-next.steps) c.in-Some.step c.requires.accepted c.args.machine.now c.loop-next.machine c.take.new.machine r
+        (λ f h. subst (λ o. After (setup_in c.args.program.now) (layout_in c.args.program.now) (tables_in c.args.program.now) (stop_in o) c.take.new.machine (flat_step (setup_in c.args.program.now) (layout_in c.args.program.now) c.in-Some.step f)) c.in_default-2.is (c.in_ok-stop.ensures.after f h))
+        c.take.ensures.mail c.take.ensures.frames
 
-    by_recv : (s : Step) → g.S.Steps.left c.args.steps.now ≡ r.front ++ (s ∷ g.S.Steps.left c.loop-next.steps) → takes (layout_in c.args.program.now) s ≤ count_after (mail_step (message_cells (layout_in c.args.program.now))) 0 r.front
-    by_recv (Send k a b) e = omega arith
-    by_recv (Recv k a b) e = c.peak_is_room.ensures.receives (by_place (setup_in c.args.program.now) (layout_in c.args.program.now)) (g.S.Steps.left c.args.steps.now) c.requires.accepted (message_cells (layout_in c.args.program.now)) r.front (g.S.Steps.left c.loop-next.steps) k a b e
-    by_recv (Begin k a b) e = omega arith
-    by_recv (End k a b) e = omega arith
-    by_recv (Join k) e = omega arith
+pub run_closed-requires-clause-ready : goal.run_closed-requires-clause-ready
+run_closed-requires-clause-ready g c =
+    come_ready (setup_in c.args.program.now) (layout_in c.args.program.now) (tables_in c.args.program.now) (c.steps_are_ready.ensures.begin (setup_in c.args.program.now) (layout_in c.args.program.now) (tables_in c.args.program.now)) (g.S.Steps.left c.args.steps.now) (g.S.Steps.left c.loop-next.steps) c.requires.accepted c.requires.starts.0 c.requires.starts.1 c.args.machine.now c.take.new.machine c.requires.starts.2 c.requires.peak.opened taken
+  where
+    r : Reached (setup_in c.args.program.now) (layout_in c.args.program.now) (tables_in c.args.program.now) (g.S.Steps.left c.args.steps.now) (c.in-Some.step ∷ g.S.Steps.left c.loop-next.steps) c.args.machine.now c.loop-next.machine
+    r = reached_at (setup_in c.args.program.now) (layout_in c.args.program.now) (tables_in c.args.program.now) (g.S.Steps.left c.args.steps.now) (g.S.Steps.left c.loop-next.steps) c.args.machine.now c.loop-next.machine c.loop-next.next (c.in-Some.step) (c.in-Some.is) c.loop-next.invariant.reached
+
+    taken : Reached (setup_in c.args.program.now) (layout_in c.args.program.now) (tables_in c.args.program.now) (g.S.Steps.left c.args.steps.now) (g.S.Steps.left c.loop-next.steps) c.args.machine.now c.take.new.machine
+    taken = reached_taken (setup_in c.args.program.now) (layout_in c.args.program.now) (tables_in c.args.program.now) c.peak_is_room.ensures.ends c.peak_is_room.ensures.receives (g.S.Steps.left c.args.steps.now) (g.S.Steps.left c.loop-next.steps) c.in-Some.step c.requires.accepted c.args.machine.now c.loop-next.machine c.take.new.machine r
+        (λ f h. subst (λ o. After (setup_in c.args.program.now) (layout_in c.args.program.now) (tables_in c.args.program.now) (stop_in o) c.take.new.machine (flat_step (setup_in c.args.program.now) (layout_in c.args.program.now) c.in-Some.step f)) c.in_default-2.is (c.in_ok-stop.ensures.after f h))
+        c.take.ensures.mail c.take.ensures.frames
+
+pub run_closed-requires-clause-alone : goal.run_closed-requires-clause-alone
+run_closed-requires-clause-alone g c =
+    groups_after (setup_in c.args.program.now) (layout_in c.args.program.now) (g.S.Steps.left c.args.steps.now) taken.front (g.S.Steps.left c.loop-next.steps)
+    (c.closed_groups_are_alone.ensures (setup_in c.args.program.now) c.requires.coloured (layout_in c.args.program.now) c.requires.sound.layout (g.S.Steps.left c.args.steps.now) c.requires.accepted) taken.split
+  where
+    r : Reached (setup_in c.args.program.now) (layout_in c.args.program.now) (tables_in c.args.program.now) (g.S.Steps.left c.args.steps.now) (c.in-Some.step ∷ g.S.Steps.left c.loop-next.steps) c.args.machine.now c.loop-next.machine
+    r = reached_at (setup_in c.args.program.now) (layout_in c.args.program.now) (tables_in c.args.program.now) (g.S.Steps.left c.args.steps.now) (g.S.Steps.left c.loop-next.steps) c.args.machine.now c.loop-next.machine c.loop-next.next (c.in-Some.step) (c.in-Some.is) c.loop-next.invariant.reached
+
+    taken : Reached (setup_in c.args.program.now) (layout_in c.args.program.now) (tables_in c.args.program.now) (g.S.Steps.left c.args.steps.now) (g.S.Steps.left c.loop-next.steps) c.args.machine.now c.take.new.machine
+    taken = reached_taken (setup_in c.args.program.now) (layout_in c.args.program.now) (tables_in c.args.program.now) c.peak_is_room.ensures.ends c.peak_is_room.ensures.receives (g.S.Steps.left c.args.steps.now) (g.S.Steps.left c.loop-next.steps) c.in-Some.step c.requires.accepted c.args.machine.now c.loop-next.machine c.take.new.machine r
+        (λ f h. subst (λ o. After (setup_in c.args.program.now) (layout_in c.args.program.now) (tables_in c.args.program.now) (stop_in o) c.take.new.machine (flat_step (setup_in c.args.program.now) (layout_in c.args.program.now) c.in-Some.step f)) c.in_default-2.is (c.in_ok-stop.ensures.after f h))
+        c.take.ensures.mail c.take.ensures.frames
+
+pub loop-next-preserved : goal.loop-next-preserved
+loop-next-preserved g c =
+    let done = c.run_closed.ensures.done in
+    record {
+      reached = reached_more (setup_in c.args.program.now) (layout_in c.args.program.now) (tables_in c.args.program.now) (g.S.Steps.left c.args.steps.now) (g.S.Steps.left c.loop-next.steps) (to_come c.next_of-next-in_default-step.result (g.S.Steps.left c.next_of-next-in_default-step.new.steps)) done.0 c.args.machine.now c.take.new.machine c.run_closed.new.machine taken
+          (done.1 ∙ ap (λ z. done.0 ++ z) c.next_of-next-in_default-step.ensures.next) done.2;
+      space = c.run_closed.ensures.space;
+      over = c.next_of-next-in_default-step.ensures.over;
+    }
+  where
+    r : Reached (setup_in c.args.program.now) (layout_in c.args.program.now) (tables_in c.args.program.now) (g.S.Steps.left c.args.steps.now) (c.in-Some.step ∷ g.S.Steps.left c.loop-next.steps) c.args.machine.now c.loop-next.machine
+    r = reached_at (setup_in c.args.program.now) (layout_in c.args.program.now) (tables_in c.args.program.now) (g.S.Steps.left c.args.steps.now) (g.S.Steps.left c.loop-next.steps) c.args.machine.now c.loop-next.machine c.loop-next.next (c.in-Some.step) (c.in-Some.is) c.loop-next.invariant.reached
+
+    taken : Reached (setup_in c.args.program.now) (layout_in c.args.program.now) (tables_in c.args.program.now) (g.S.Steps.left c.args.steps.now) (g.S.Steps.left c.loop-next.steps) c.args.machine.now c.take.new.machine
+    taken = reached_taken (setup_in c.args.program.now) (layout_in c.args.program.now) (tables_in c.args.program.now) c.peak_is_room.ensures.ends c.peak_is_room.ensures.receives (g.S.Steps.left c.args.steps.now) (g.S.Steps.left c.loop-next.steps) c.in-Some.step c.requires.accepted c.args.machine.now c.loop-next.machine c.take.new.machine r
+        (λ f h. subst (λ o. After (setup_in c.args.program.now) (layout_in c.args.program.now) (tables_in c.args.program.now) (stop_in o) c.take.new.machine (flat_step (setup_in c.args.program.now) (layout_in c.args.program.now) c.in-Some.step f)) c.in_default-2.is (c.in_ok-stop.ensures.after f h))
+        c.take.ensures.mail c.take.ensures.frames
