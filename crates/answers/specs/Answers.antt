@@ -67,18 +67,24 @@ planned_answer ShowsSchedule dumps c p steps = done (schedule_text steps)
 planned_answer RunsPlan dumps c p steps =
     run_answer c.first c.program (dump_of dumps c.program p.distribution.owners p.distribution.ranks.items p.plan steps)
 
--- The answer of a job on the plan of the items that run: seven judgements in this order, and then what the job answers. Their program
--- fits, as all that is bound does, and its heads and tails do; this stands here since distributions and plans are one where it is so.
+-- The answer on the plan of a program with these options: five judgements in this order, and then what is answered of the mesh on its ranks
+-- and of the plan there.
+abbrev pub PlanningAnswers : (Planned → Answer → Type 0) → Options → Files → BoundValue → Answer → Type 0
+PlanningAnswers rest o files b =
+    given (NumbersOf o b) (λ n.
+    given (PartsOf o.parting files) (λ parts.
+    given (OwnersOf o.ranks b parts) (λ u.
+    given (ColouringOf o.blocks files) (λ colouring.
+    given (PlanIs colouring b u n) rest))))
+
+-- The answer of a job on the plan of the items that run: its plan, two judgements, and then what the job answers. Their program fits, as
+-- all that is bound does, and its heads and tails do; this stands here since distributions and plans are one where it is so.
 abbrev pub ChosenAnswers : PlanJob → Options → Files → Chosen → Answer → Type 0
 ChosenAnswers j o files c a =
     Fits c.program
-    × given (NumbersOf o c.program) (λ n.
-    given (PartsOf o.parting files) (λ parts.
-    given (OwnersOf o.ranks c.program parts) (λ u.
-    given (ColouringOf o.blocks files) (λ colouring.
-    given (PlanIs colouring c.program u n) (λ p.
+    × PlanningAnswers (λ p.
     given (OrderOf o.schedule files) (λ order.
-    given (StepsOf (outline_of c.program p) (group_of o) order) (λ steps x. x ≡ planned_answer j o.dumps c p steps))))))) a
+    given (StepsOf (outline_of c.program p) (group_of o) order) (λ steps x. x ≡ planned_answer j o.dumps c p steps))) o files c.program a
 
 -- The answer of a job on the plan of a bound program, which fits: which of its items run, two judgements, and then what is answered of
 -- them.

@@ -4,6 +4,8 @@ use Rattle.std.specs.List.{Contains}
 use Rattle.op_outside.specs.Outside.{Files, Rose, appended, AppendsFront}
 use Rattle.command_words.specs.Refusal.{Usage, CannotRead, status_of}
 use Rattle.answer_lines.specs.Lines.{Answer, whole_line, line_of}
+use Rattle.answer_lines.specs.declared.refusals.Failure.{Failure}
+use Rattle.answer_lines.specs.declared.refusals.Failure.TheVariants as failure
 use Rattle.command_words.specs.Words.{WordsAre, named_by}
 use Rattle.answers.specs.Answers.{Answers, ComesToBeRead}
 use Rattle.answers.specs.Laws.{SourceLacksTree}
@@ -37,6 +39,27 @@ ending_line OutOfMemory = whole_line (codes "out of memory")
 ending_line (Unread name) = line_of (CannotRead name)
 ending_line (Unwritten a) = unwritten_line a
 
+-- a call that has no answer ends so
+abbrev pub ending_of : Failure → Ending
+ending_of (failure.Unread name) = Unread name.now
+ending_of failure.OutOfMemory = OutOfMemory
+
+-- ---- what is written
+
+-- the bytes of an answer are written where it has status 0 or 9
+abbrev pub IsWritten : Answer → Type 0
+IsWritten a = (a.status ≡ 0) ⊎ (a.status ≡ 9)
+
+-- The bytes of an answer are written, or their writing failed; and what is said of its line is so.
+abbrev pub Writes : Answer → ℕ → (faults : ℕ × ℕ) → (told : Option (List ℕ) × Option (List ℕ)) → (List ℕ → Type 0) → Type 0
+Writes a status faults told Said =
+    ((status ≡ a.status) × (told.1 ≡ appended told.0 a.out) × Said a.line)
+    ⊎ ((status ≡ unwritten_status a)
+    × Rose faults.0 faults.1
+    × IsWritten a
+    × AppendsFront told.0 a.out told.1
+    × Said (unwritten_line a))
+
 -- ---- a call
 
 -- The words, and the files that the shelf tells, if it does. The counts of faults of the shelf, of `out` and of `err`, and the
@@ -66,10 +89,6 @@ Tells words None a = (files : Files) × HoldAll (named_by words) files × Answer
 abbrev pub Asks : List (List ℕ) → Option Files → List ℕ → Type 0
 Asks words (Some files) name = ComesToBeRead words files name
 Asks words None name = (files : Files) × HoldAll (named_by words) files × ComesToBeRead words files name
-
--- the bytes of an answer are written where it has status 0 or 9
-abbrev pub IsWritten : Answer → Type 0
-IsWritten a = (a.status ≡ 0) ⊎ (a.status ≡ 9)
 
 -- ---- the endings
 

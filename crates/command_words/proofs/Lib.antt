@@ -1,4 +1,4 @@
 mod OneFault
-mod Within
+pub mod Within
 pub mod Asking
 mod Undumped

@@ -1,5 +1,5 @@
 -- The numbers of a plan's options are in range.
-use Rattle.std.proofs.Common.{◌≡◌, ◌<◌, ◌≤◌, ◌||◌, ℕ, Bool, true, false, not, ◌&&◌, nat_lt, List, [], ◌∷◌, Option, Some, None, Result, Ok, Err, if◌then◌else◌, refl, subst, codes, arith}
+use Rattle.std.proofs.Common.{◌≡◌, ◌<◌, ◌≤◌, ◌||◌, ℕ, Bool, true, false, not, ◌&&◌, nat_lt, List, [], ◌∷◌, Option, Some, None, IfSome, Result, Ok, Err, if◌then◌else◌, refl, subst, codes, arith}
 use Rattle.std.specs.Prelude.{option_and_then, option_map, is_some}
 use Rattle.std.specs.Str.{bytes_eq}
 use Rattle.std.proofs.lemmas.Bool.{ltb-true, ltb-false, and_parts}
@@ -16,7 +16,7 @@ use Rattle.command_words.specs.Words.{PlanJob, Check, ShowsPlan, ShowsSchedule, 
 use Rattle.command_words.specs.Words.{number_to, number_or, form_of, OptionWords, options_in, parting_of, schedule_of, blocks_of, stretch_of, options_with, options_of, chain_options_of}
 use Rattle.command_words.specs.Words.{goes_to_the_end, is_whole, plans_itself, stops_at_an_item}
 use Rattle.command_words.specs.Words.{is_unplanned, runs_nothing, on_files, samples, converts, source_alone, plans, chains, plans_or_chains, where_so, by_job, or_usage, asked, judged}
-use Rattle.command_words.specs.Laws.{AreFew, HaveFewPlaces, AreWithin, IsWithin, OptionsAreWithin}
+use Rattle.command_words.specs.Laws.{AreFew, HaveFewPlaces, AreWithin, IsWithin, OptionsAreWithin, OptionWordsAreWithin}
 
 -- P is so of what there is
 abbrev pub Holds : {X : Type 0} → (X → Type 0) → Option X → Type 0
@@ -90,6 +90,17 @@ chain_options_hold w =
     holds_then (IsTo MAX_RANKS) (λ (o : ChainOptions). AreFew o.ranks) _ (number_or 1 MAX_RANKS w.ranks) (or_holds 1 MAX_RANKS w.ranks (omega arith, omega arith))
     (λ ranks h. holds_map Any (λ (o : ChainOptions). AreFew o.ranks) _ (parting_of w.parts w.partition) (any (parting_of w.parts w.partition))
     (λ parting _. record { some = h.0; few = h.1 }))
+
+-- the same, as it is said of what there is
+if_some : {X : Type 0} (P : X → Type 0) (o : Option X) → Holds P o → IfSome o P
+if_some P None h = tt
+if_some P (Some x) h = h
+
+pub words_are_within : OptionWordsAreWithin
+words_are_within = record {
+  plans = λ w. if_some AreWithin (options_of w) (options_hold w);
+  chains = λ w. if_some (λ (o : ChainOptions). AreFew o.ranks) (chain_options_of w) (chain_options_hold w);
+}
 
 -- ---- commands
 

@@ -1,7 +1,8 @@
 -- What the options that words ask for keep.
-use Rattle.std.specs.Prelude.{◌≡◌, ℕ, ◌<◌, ◌≤◌, false, List, Ok}
+use Rattle.std.specs.Prelude.{◌≡◌, ℕ, ◌<◌, ◌≤◌, false, List, Ok, IfSome}
 use Rattle.command_words.specs.declared.limits.TheConstants.{MAX_RANKS, MAX_BLOCK, MAX_WORKERS}
-use Rattle.command_words.specs.Words.{PlanJob, Blocks, OfSize, AsPlanned, Before, Options, Input, Command, OnPlan, OnChains, WordsAre}
+use Rattle.command_words.specs.Words.{PlanJob, Blocks, OfSize, AsPlanned, Before, Options, ChainOptions, Input, Command, OnPlan, OnChains}
+use Rattle.command_words.specs.Words.{OptionWords, options_of, chain_options_of, WordsAre}
 
 -- there are 1 to 64 ranks
 pub record AreFew (ranks : ℕ) : Type 0 where
@@ -29,6 +30,11 @@ IsWithin c = Unit {0}
 -- those of the commands that words ask for are
 abbrev pub OptionsAreWithin : Type 0
 OptionsAreWithin = (words : List (List ℕ)) (c : Command) → WordsAre words (Ok c) → IsWithin c
+
+-- those of the options that their values give are
+pub record OptionWordsAreWithin : Type 0 where
+  pub plans : (w : OptionWords) → IfSome (options_of w) AreWithin
+  pub chains : (w : OptionWords) → IfSome (chain_options_of w) (λ (o : ChainOptions). AreFew o.ranks)
 
 -- where the items before one run, no dump is asked for
 abbrev pub HeadsAreNotDumped : Type 0

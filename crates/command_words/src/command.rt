@@ -12,8 +12,8 @@ use crate::usage::VERSION;
 use clap::{Arg, ArgAction, ArgMatches, Command, Error};
 use std::alloc::{AllocError, Global};
 
-// The command with a further word that has no `-`, required or not.
-fn with_positional<'a>(
+/// The command with a further word that has no `-`, with `id` as its name, required or not. An error is want of memory.
+pub fn with_positional<'a>(
     alloc: Global,
     command: Command<'a>,
     id: &'a str,
@@ -35,8 +35,8 @@ fn with_option<'a>(
     command.arg(Arg::new(alloc, id).long(id))
 }
 
-// The command with a further option that takes no value.
-fn with_flag<'a>(
+/// The command with a further option that takes no value, `--ID`. An error is want of memory.
+pub fn with_flag<'a>(
     alloc: Global,
     command: Command<'a>,
     id: &'a str,
@@ -46,8 +46,8 @@ fn with_flag<'a>(
     command.arg(Arg::new(alloc, id).long(id).action(ArgAction::SetTrue))
 }
 
-// The command with further options of one value, one behind the other.
-fn with_options<'a>(
+/// The command with further options of one value, `--ID VALUE`, one behind the other. An error is want of memory.
+pub fn with_options<'a>(
     alloc: Global,
     command: Command<'a>,
     ids: &[&'a str],

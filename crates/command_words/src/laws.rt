@@ -5,7 +5,7 @@ ghost use Rattle.clap.specs.Kinds.{IsAmong};
 ghost use Rattle.clap.specs.Faults.{fault_of};
 ghost use Rattle.clap.specs.declared.error.kind.ErrorKind.{ErrorKind as Kind};
 ghost use Rattle.command_words.specs.Words.{command};
-ghost use Rattle.command_words.specs.Laws.{OptionsAreWithin, HeadsAreNotDumped};
+ghost use Rattle.command_words.specs.Laws.{OptionsAreWithin, OptionWordsAreWithin, HeadsAreNotDumped};
 
 /// A law: `clap` has at most one kind of fault to answer the words with.
 pub fn one_fault()
@@ -15,6 +15,11 @@ pub fn one_fault()
 /// A law: the numbers of the options that words ask for are in range.
 pub fn options_are_within()
     ensures { OptionsAreWithin }
+{}
+
+/// A law: the numbers of the options that their values give are in range.
+pub fn option_words_are_within()
+    ensures { OptionWordsAreWithin }
 {}
 
 /// A law: words that ask for the items before one ask for no dump.

@@ -80,8 +80,8 @@ fn option_words<'a>(matches: &ArgMatches<'a>) -> OptionWords<'a>
     }
 }
 
-// Whether a flag's value says so.
-fn is_set(word: Option<&str>) -> bool
+/// Whether a flag's value says that it stands.
+pub fn is_set(word: Option<&str>) -> bool
     ensures { result ≡ is_set (option_map (λ s. s.now) word.entry) }
 {
     word == Some("true")

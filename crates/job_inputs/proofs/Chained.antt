@@ -159,6 +159,12 @@ module _ (told : Option Files) (rose : Type 0) where
       → HaltsOver told rs P rose h
   stops_always rs J P h step s = stops_on rs rs Always (always rs) J P h (λ files r u. step files r) s
 
+  pub answers_always : (rs : Readings) (Q : lines.Answer → Type 0) (P : Files → lines.Answer → Type 0) (r : Result Answer Halt)
+      → ((files : Files) (a : lines.Answer) → Q a → P files a)
+      → AnswersBy Q r
+      → AnswersFrom told rs P rose r
+  answers_always rs Q P r step k = answers_by rs rs Always (always rs) Q P r (λ files a u. step files a) k
+
   pub answers_weaker : (rs : Readings) (Q P : Files → lines.Answer → Type 0) (r : Result Answer Halt)
       → ((files : Files) (a : lines.Answer) → Q files a → P files a)
       → AnswersFrom told rs Q rose r

@@ -7,4 +7,6 @@ pub mod Unread
 pub mod Sites
 pub mod Known
 pub mod Maps
+pub mod Jobs
+pub mod Lent
 mod Stretches

@@ -1,41 +1,18 @@
 -- From a bound program to what is answered over its files.
-use Rattle.std.proofs.Common.{◌≡◌, ℕ, inl, inr, List, [], ◌∷◌, ◌++◌, Option, Result, Ok, Err, refl, ap, sym, subst, ◌∙◌, append_assoc}
+use Rattle.std.proofs.Common.{◌≡◌, ℕ, List, [], ◌++◌, Option, Result, Err, ap, sym, subst, ◌∙◌, append_assoc}
 use Rattle.std.proofs.lemmas.List.{append-nil}
 use Rattle.op_outside.specs.Outside.{Files}
 use Rattle.kept_files.specs.Readings.{Readings, names_of, readings_of, AreNext, HaveCome, Finds}
 use Rattle.bound_program.specs.Values.{BoundValue}
-use Rattle.command_words.specs.Refusal.{Limit}
-use Rattle.answer_lines.specs.Lines as lines
 use Rattle.answer_lines.specs.Lines.{refused}
 use Rattle.command_words.specs.Words.{PlanJob, Options, Input, names_from, names_before, names_by, names_in_blocks, names_at}
-use Rattle.answers.specs.Judgements.{IsHeld, SourceIs, MeshIs, TreeIs, TypesAre, EntriesAre, BoundIs, AccessesAre}
-use Rattle.answers.specs.Answers.{given, BoundAnswers, PlannedAnswers, PlanAnswers}
+use Rattle.answers.specs.Answers.{BoundAnswers, PlannedAnswers, PlanAnswers}
 use Rattle.answer_lines.specs.declared.call_answer.Answer.{Answer}
 use Rattle.answer_lines.specs.declared.refusals.Halt.{Halt}
 use Rattle.job_inputs.specs.Inputs.{IsBoundIn}
-use Rattle.job_inputs.specs.Chains.{Never, AnswersBy, HaltsOver, AnswersFrom, AnswersOver}
-use Rattle.job_inputs.proofs.Chained.{SomeAreSeen, halts_weaker, answers_on, answers_by, still_named, names_are, to_whole}
-use Rattle.op2_command.proofs.Chained.{given_weaker}
-
--- refusals that come before a bound program stay, whatever is answered of it
-pub never_weaker : (rest : BoundValue → lines.Answer → Type 0) (input : Input) (files : Files) (a : lines.Answer)
-    → BoundAnswers Never input files a
-    → BoundAnswers rest input files a
-never_weaker rest input files =
-    given_weaker (SourceIs input files) _ _ (λ bytes.
-    given_weaker (TreeIs bytes) _ _ (λ p.
-    given_weaker (TypesAre p) _ _ (λ types.
-    given_weaker (MeshIs input files) _ _ (λ text.
-    given_weaker (EntriesAre text) _ _ (λ es.
-    given_weaker (BoundIs p types es) _ _ (λ b.
-    given_weaker (AccessesAre b) _ _ (λ u a h. absurd h)))))))
-
--- what is answered of a bound program is answered over its files
-pub reached : (rest : BoundValue → lines.Answer → Type 0) (input : Input) (b : BoundValue) (files : Files) (a : lines.Answer) → IsBoundIn input b files
-    → rest b a
-    → BoundAnswers rest input files a
-reached rest input b files a h k =
-    inr (h.bytes, h.held, inr (h.program, h.read, inr (h.types, h.typed, inr (h.text, h.there, inr (h.over.entries, h.over.spelled, inr (b, h.over.is, inr (tt, h.over.obeyed, k)))))))
+use Rattle.job_inputs.specs.Chains.{Never, HaltsOver, AnswersFrom, AnswersOver}
+use Rattle.job_inputs.proofs.Chained.{SomeAreSeen, halts_weaker, answers_on, still_named, names_are, to_whole}
+use Rattle.job_inputs.proofs.Jobs.{never_weaker, reached}
 
 -- ---- a job on a plan
 
@@ -85,26 +62,3 @@ module _ (told : Option Files) (rose : Type 0) (j : PlanJob) (o : Options) (inpu
         (answers_on told rose kept mid (IsBoundIn input b) found (λ files. PlannedAnswers j o files b) (PlanAnswers j o input) r
         (still_named (names_from input) kept mid (awaited_next is) come)
         (λ files a bound x. reached (PlannedAnswers j o files) input b files a bound x) h)
-
--- ---- the answer to what one file holds
-
-module _ (told : Option Files) (rose : Type 0) (limit : Limit) (name : List ℕ) (Q : List ℕ → lines.Answer → Type 0) (some : SomeAreSeen) where
-  -- what is answered over the files
-  abbrev FileAnswers : Files → lines.Answer → Type 0
-  FileAnswers files = given (IsHeld limit name (files name)) Q
-
-  pub file_unread : (h : Halt) → HaltsOver told (readings_of (name ∷ [])) (λ files r. IsHeld limit name (files name) (Err r)) rose h
-      → AnswersOver told (name ∷ []) FileAnswers rose (Err h)
-  file_unread h k =
-      to_whole told rose some (name ∷ []) FileAnswers (Err h)
-      (halts_weaker told rose (readings_of (name ∷ [])) (λ files r. IsHeld limit name (files name) (Err r)) (λ files r. FileAnswers files (refused r)) h
-      (λ files r i. inl (r, i, refl)) k)
-
-  pub file_answered : (bytes : List ℕ) (r : Result Answer Halt)
-      → Finds told (readings_of (name ∷ [])) [] (λ files. IsHeld limit name (files name) (Ok bytes))
-      → AnswersBy (Q bytes) r
-      → AnswersOver told (name ∷ []) FileAnswers rose r
-  file_answered bytes r found h =
-      to_whole told rose some (name ∷ []) FileAnswers r
-      (answers_by told rose (readings_of (name ∷ [])) [] (λ files. IsHeld limit name (files name) (Ok bytes)) found (Q bytes) FileAnswers r
-      (λ files a held x. inr (bytes, held, x)) h)

@@ -16,20 +16,6 @@ use Rattle.answer_lines.specs.Halts.{refusal_of, answer_of, StopsWhere}
 use Rattle.job_inputs.specs.Chains.{Over, AsksFor, AnswersOver}
 use Rattle.op2_command.specs.Writes.{CallAnswers}
 
--- what is so of a value, where it follows
-pub if_ok_weaker : {X E : Type 0} (r : Result X E) (P Q : X → Type 0) → ((x : X) → P x → Q x) → IfOk r P → IfOk r Q
-if_ok_weaker (Ok x) P Q step h = step x h
-if_ok_weaker (Err e) P Q step h = tt
-
--- what follows of answers
-pub given_weaker : {A : Type 0} (J : Result A Refusal → Type 0) (f g : A → lines.Answer → Type 0)
-    → ((x : A) (a : lines.Answer) → f x a → g x a)
-    → (a : lines.Answer)
-    → given J f a
-    → given J g a
-given_weaker J f g step a (inl h) = inl h
-given_weaker J f g step a (inr h) = inr (h.0, h.1, step h.0 a h.2)
-
 -- ---- the words
 
 -- what is said of answers over files, where it follows

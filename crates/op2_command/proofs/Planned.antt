@@ -1,15 +1,10 @@
--- From owners and new numbers to plans, and what is answered of them.
+-- From plans to what is answered of them.
 use Rattle.std.proofs.Common.{◌≡◌, ℕ, inl, inr, List, Option, Result, Ok, Err, refl, sym, subst}
 use Rattle.op_outside.specs.Outside.{Files}
 use Rattle.kept_files.specs.Readings.{Readings, Finds}
-use Rattle.mesh_decl.specs.declared.owners.Owners.{Owners}
 use Rattle.mesh_decl.specs.declared.owners.Perms.{Perms}
-use Rattle.mesh_decl.specs.Mesh.{MeshValue}
-use Rattle.mesh_decl.specs.Owners.{AreOwners, ArePerms}
 use Rattle.distribute.specs.declared.types.Distribution.{Distribution}
-use Rattle.distribute.specs.Distributions.{IsDistribution}
 use Rattle.bound_program.specs.Values.{BoundValue}
-use Rattle.loop_plan.specs.Values.{PlanValue}
 use Rattle.loop_plan.specs.Distributed.{IsDistributed, Distributed}
 use Rattle.halo_lists.specs.Halos.{AreHalos}
 use Rattle.schedule_steps.specs.declared.step.Step.{Step}
@@ -19,7 +14,7 @@ use Rattle.command_words.specs.Refusal.{ScheduleBytes}
 use Rattle.answer_lines.specs.Lines as lines
 use Rattle.answer_lines.specs.Lines.{refused}
 use Rattle.command_words.specs.Words.{PlanJob, Standard, Drawn, Written, Options, group_of}
-use Rattle.answers.specs.Judgements.{IsHeld, Chosen, Colouring, Planned, IsPlanned, IsUnplanned, InStandardOrder, BySeed, ByText, OrderOf, outline_of}
+use Rattle.answers.specs.Judgements.{IsHeld, Chosen, Planned, InStandardOrder, BySeed, ByText, OrderOf, outline_of}
 use Rattle.answers.specs.Judgements.{StepsOf, end_line, IsTextRefused, IsStepRefused}
 use Rattle.schedule_text.specs.declared.lines.Line.{Line}
 use Rattle.schedule_text.specs.Reading.{Reads as SchedulesRead}
@@ -28,15 +23,13 @@ use Rattle.answer_lines.specs.declared.call_answer.Answer.{Answer}
 use Rattle.answer_lines.specs.declared.refusals.Halt.{Halt}
 use Rattle.answer_lines.specs.Halts.{StopsWhere, answer_of}
 use Rattle.job_inputs.specs.Chains.{AnswersBy, HaltsOver, AnswersFrom}
-use Rattle.op2_command.specs.Chains.{StepsAnswers, ScheduleAnswers, LastAnswers, IsSpread}
+use Rattle.job_plans.specs.Plans.{IsSpread}
+use Rattle.job_plans.proofs.Planning.{spread}
+use Rattle.op2_command.specs.Chains.{StepsAnswers, ScheduleAnswers}
 use Rattle.answer_lines.proofs.Halts.{stops_weaker}
-use Rattle.job_inputs.proofs.Chained.{halts_weaker, answers_by, answers_weaker, finds_from, stops_always}
+use Rattle.job_inputs.proofs.Chained.{halts_weaker, answers_by, finds_from}
 
 -- ---- distributions
-
-pub spread : (g : MeshValue) (u : Owners) (n : Perms) (d : Distribution) → AreOwners g u → ArePerms g n → IsDistribution g u n d → Distributed g d.halos d.ranks.items
-spread g u n d are_owners are_perms h =
-    record { owners = u; numbers = n; are_halos = h.halos; distributed = record { are_owners = are_owners; are_perms = are_perms; are_meshes = h.ranks } }
 
 pub spread_by : (b : BoundValue) (d : Distribution) → IsSpread b d → Distributed b.mesh d.halos d.ranks.items
 spread_by b d h = spread b.mesh h.owners h.numbers d h.are_owners h.are_perms h.distributed
@@ -110,23 +103,3 @@ module _ (j : PlanJob) (o : Options) (c : Chosen) (p : Planned) where
     text_answered name bytes new r e found h =
         answers_by told rose old new (λ files. IsHeld ScheduleBytes name (files name) (Ok bytes)) found (StepsAnswers j o c p (ByText bytes)) P r
         (λ files a held x. inr (ByText bytes, subst (λ s. OrderOf s files (Ok (ByText bytes))) (sym e) (bytes, held, refl), x)) h
-
--- ---- plans
-
-module _ (j : PlanJob) (o : Options) (c : Chosen) (u : Owners) (n : Perms) (x : Colouring) (d : Distribution) (distributed : IsDistribution c.program.mesh u n d)
-    (told : Option Files) (rose : Type 0) (old : Readings) where
-  abbrev Last : Files → lines.Answer → Type 0
-  Last = LastAnswers j o c u n x
-
-  abbrev Then : PlanValue → Files → lines.Answer → Type 0
-  Then p = ScheduleAnswers j o c (record { distribution = d; plan = p })
-
-  pub plan_answered : (p : PlanValue) (r : Result Answer Halt) → IsPlanned x c.program d.ranks.items p
-      → AnswersFrom told old (Then p) rose r
-      → AnswersFrom told old Last rose r
-  plan_answered p r planned h =
-      answers_weaker told rose old (Then p) Last r (λ files a k. inr (record { distribution = d; plan = p }, (distributed, planned), k)) h
-
-  pub plan_refused : (h : Halt) → StopsWhere (IsUnplanned x c.program d.ranks.items) h → AnswersFrom told old Last rose (Err h)
-  plan_refused h s =
-      stops_always told rose old (IsUnplanned x c.program d.ranks.items) (λ files r. Last files (refused r)) h (λ files r k. inl (r, (d, distributed, k), refl)) s

@@ -1,13 +1,13 @@
 // The answer to the words: the judgements in order, up to the first refusal, and then what is asked for.
 
-ghost use Rattle.std.specs.Prelude.{◌≡◌, ◌≤◌, [], ◌∷◌, ◌++◌, Ok, Err, All, map, length, string_bytes, IfOk, IfErr, OnOk};
+ghost use Rattle.std.specs.Prelude.{◌≡◌, ◌≤◌, [], ◌∷◌, ◌++◌, Ok, Err, All, map, length, string_bytes, IfOk, IfErr};
 ghost use Rattle.op_outside.specs.Outside.{Rose};
 ghost use Rattle.kept_files.specs.Readings.{readings_of};
 ghost use Rattle.mesh_text.specs.declared.entry.TheConstants.{MESH_BYTES};
 ghost use Rattle.command_words.specs.Words.{WordsAre, names_from, names_before, names_by, names_in_blocks, names_at, names_of, named_by};
 ghost use Rattle.command_words.specs.Laws.{AreFew, AreWithin};
 ghost use Rattle.answers.specs.Answers.{BoundAnswers, PlanAnswers, ChainAnswers, ConvertAnswers, CommandAnswers, Answers};
-ghost use Rattle.command_words.specs.Values.{stretch_in, parting_in, blocks_in, schedule_in, options_in, job_in, input_in, command_of};
+ghost use Rattle.command_words.specs.Values.{options_in, job_in, input_in, command_of};
 ghost use Rattle.command_words.specs.Values.{chain_options_in, chain_job_in, IsInRange};
 ghost use Rattle.answer_lines.specs.Halts.{StopsWhere};
 ghost use Rattle.job_inputs.specs.Chains.{AnswersBy, AnswersOver};
@@ -19,10 +19,13 @@ use crate::plans::planned;
 use crate::sources::{restored, translated};
 use answer_lines::{Answer, Failure, Halt, Limit, Refusal, done, refused};
 use command_words::{
-    Asked, Blocks, ChainJob, ChainOptions, Input, Options, Parting, PlanJob, Schedule, Stretch,
-    USAGE, VERSION, WordsRefusal, read_words,
+    Asked, ChainJob, ChainOptions, Input, Options, PlanJob, USAGE, VERSION, WordsRefusal,
+    read_words,
 };
-use job_inputs::{bound_input, entries_of, sole_file};
+use job_inputs::{
+    bound_input, entries_of, expect_blocks, expect_input, expect_parting, expect_schedule,
+    expect_stretch, sole_file,
+};
 use kept_files::{Kept, some_files_are_as_seen};
 use mesh_text::{Form, write_mesh};
 use op_num::OutOfMemory;
@@ -31,57 +34,6 @@ use par_exec::Gate;
 use std::alloc::Global;
 use std::marker::Sync;
 use std::thread::Threads;
-
-// The files that a source and a mesh come from are to be read.
-fn expect_input<'a>(kept: &mut Kept<'a>, input: Input<'a>) -> Result<(), OutOfMemory>
-    ensures { OnOk result (kept.new ≡ kept.old ++ readings_of (names_from (input_in input.entry))) }
-{
-    if let Input::InFiles { source, mesh } = input {
-        kept.push(source)?;
-        kept.push(mesh)?;
-    }
-    Ok(())
-}
-
-// The file that tells a state is to be read, if one does.
-fn expect_stretch<'a>(kept: &mut Kept<'a>, stretch: Stretch<'a>) -> Result<(), OutOfMemory>
-    ensures { OnOk result (kept.new ≡ kept.old ++ readings_of (names_before (stretch_in stretch.entry))) }
-{
-    match stretch {
-        Stretch::From(name) => kept.push(name),
-        _ => Ok(()),
-    }
-}
-
-// The file that tells the owners is to be read, if one does.
-fn expect_parting<'a>(kept: &mut Kept<'a>, parting: Parting<'a>) -> Result<(), OutOfMemory>
-    ensures { OnOk result (kept.new ≡ kept.old ++ readings_of (names_by (parting_in parting.entry))) }
-{
-    match parting {
-        Parting::ByRule(_) => Ok(()),
-        Parting::ByFile(name) => kept.push(name),
-    }
-}
-
-// The file that tells the blocks and colours of a plan is to be read, if one does.
-fn expect_blocks<'a>(kept: &mut Kept<'a>, blocks: Blocks<'a>) -> Result<(), OutOfMemory>
-    ensures { OnOk result (kept.new ≡ kept.old ++ readings_of (names_in_blocks (blocks_in blocks.entry))) }
-{
-    match blocks {
-        Blocks::OfSize(_) => Ok(()),
-        Blocks::AsPlanned(name) => kept.push(name),
-    }
-}
-
-// The file that has a schedule is to be read, if one does.
-fn expect_schedule<'a>(kept: &mut Kept<'a>, schedule: Schedule<'a>) -> Result<(), OutOfMemory>
-    ensures { OnOk result (kept.new ≡ kept.old ++ readings_of (names_at (schedule_in schedule.entry))) }
-{
-    match schedule {
-        Schedule::Written(name) => kept.push(name),
-        _ => Ok(()),
-    }
-}
 
 // The files that a job on a plan reads, in the order in which it does.
 fn awaited<'a>(

@@ -7,7 +7,6 @@
 
 mod answered;
 mod chains;
-mod colourings;
 mod faults;
 mod plans;
 mod ranges;

@@ -1,9 +1,8 @@
-// The plan of a bound program: which of its items run, new numbers, owners, the mesh on ranks, the order of its steps, and what is written.
+// The plan of a bound program: which of its items run, their plan, the order of its steps, and what is written.
 
 ghost use Rattle.std.specs.Prelude.{◌≡◌, ◌≤◌, ◌++◌, List, All, length, Ok, IfOk};
 ghost use Rattle.op_outside.specs.Outside.{Rose};
 ghost use Rattle.kept_files.specs.Readings.{AreNext};
-ghost use Rattle.mesh_decl.specs.Owners.{AreOwners, ArePerms};
 ghost use Rattle.bound_program.specs.Values.{bound_of};
 ghost use Rattle.bound_program.specs.Fits.{Fits};
 ghost use Rattle.loop_plan.specs.Values.{plan_of};
@@ -12,30 +11,28 @@ ghost use Rattle.loop_plan.specs.StepOutline.{step_outline};
 ghost use Rattle.schedule_steps.specs.declared.step.Step.{Step as StepValue};
 ghost use Rattle.schedule_check.specs.Mail.{plan_cells};
 ghost use Rattle.planned_run.specs.Orders.{InOrder, CanTake};
-ghost use Rattle.answer_lines.specs.declared.limits.TheConstants.{PLAN_BYTES, SCHEDULE_BYTES};
+ghost use Rattle.answer_lines.specs.declared.limits.TheConstants.{SCHEDULE_BYTES};
 ghost use Rattle.command_words.specs.Words.{names_before, names_by, names_in_blocks, names_at};
 ghost use Rattle.command_words.specs.Laws.{AreWithin};
 ghost use Rattle.answers.specs.Judgements.{AccessesAre, ByText};
 ghost use Rattle.answers.specs.Answers.{sizes_text, planned_answer, ChosenAnswers, PlannedAnswers};
 ghost use Rattle.command_words.specs.Values.{options_in, job_in};
 ghost use Rattle.answer_lines.specs.Halts.{answer_of};
-ghost use Rattle.job_inputs.specs.Inputs.{chosen_of, colouring_by};
+ghost use Rattle.job_inputs.specs.Inputs.{chosen_of};
 ghost use Rattle.job_inputs.specs.Chains.{AnswersBy, AnswersFrom};
-ghost use Rattle.op2_command.specs.Chains.{StepsAnswers, ScheduleAnswers, LastAnswers, IsSpread};
+ghost use Rattle.job_plans.specs.Plans.{IsSpread};
+ghost use Rattle.op2_command.specs.Chains.{StepsAnswers, ScheduleAnswers};
 
-use crate::colourings::plan_by;
 use crate::runs::run_on;
 use crate::schedules::{end_line, judged, lines_of};
 use answer_lines::{Answer, Halt, Limit};
 use bound_program::Bound;
 use command_words::{Options, PlanJob, Schedule};
-use distribute::{Distribution, distribute};
-use job_inputs::{
-    Chosen, chosen_by, file_of, numbers_of, owners_of, partition_of, plan_text_of, state_text_of,
-};
+use distribute::Distribution;
+use job_inputs::{Chosen, chosen_by, file_of, state_text_of};
+use job_plans::planned_on;
 use kept_files::Kept;
 use loop_plan::{Plan, write_plan};
-use mesh_decl::{Owners, Perms};
 use op_num::{OutOfMemory, put_u64};
 use op_outside::Shelf;
 use par_exec::Gate;
@@ -177,40 +174,6 @@ fn scheduled<'a, F: Shelf, R: Threads + Sync, G: Gate>(
     }
 }
 
-// The answer of a job on the plan by these owners and new numbers. Where a file tells blocks and colours, `text` is what it holds.
-fn last_answer<'a, F: Shelf, R: Threads + Sync, G: Gate>(
-    rt: &R,
-    alloc: Global,
-    shelf: &mut F,
-    kept: &mut Kept<'a>,
-    job: PlanJob,
-    options: &Options<'a>,
-    chosen: &Chosen,
-    owners: Owners,
-    perms: Perms,
-    text: &[u8],
-    gate: &G,
-) -> Result<Answer, Halt<'a>>
-    requires lent { All (λ name. F.lends shelf.old name) (names_at (options_in options.now).schedule) }
-    requires next { AreNext (names_at (options_in options.now).schedule) kept.old }
-    requires fits { Fits (bound_of chosen.now.bound) }
-    requires obeyed { AccessesAre (bound_of chosen.now.bound) (Ok tt) }
-    requires within { AreWithin (options_in options.now) }
-    requires owners { AreOwners (bound_of chosen.now.bound).mesh owners }
-    requires perms { ArePerms (bound_of chosen.now.bound).mesh perms }
-    requires few { length text.now ≤ PLAN_BYTES }
-    ensures { AnswersFrom (F.told shelf.old) kept.old
-        (LastAnswers (job_in job) (options_in options.now) (chosen_of chosen.now) owners perms
-        (colouring_by (options_in options.now).blocks text.now))
-        (Rose (F.faults shelf.old) (F.faults shelf.new)) result }
-{
-    let found = distribute(alloc, &chosen.bound.mesh, owners, perms)?;
-    let plan = plan_by(alloc, &chosen.bound, &found, options.blocks, text)?;
-    scheduled(
-        rt, alloc, shelf, kept, job, options, chosen, &found, &plan, gate,
-    )
-}
-
 // The answer of a job on the plan of the items that run. The files of a partition, a plan and a schedule, where the options name them,
 // are the next in `kept`.
 fn chosen_answer<'a, F: Shelf, R: Threads + Sync, G: Gate>(
@@ -231,21 +194,22 @@ fn chosen_answer<'a, F: Shelf, R: Threads + Sync, G: Gate>(
     requires within { AreWithin (options_in options.now) }
     requires fits { Fits (bound_of chosen.now.bound) }
     requires obeyed { AccessesAre (bound_of chosen.now.bound) (Ok tt) }
-    ensures { AnswersFrom (F.told shelf.old) kept.old (λ files. ChosenAnswers (job_in job) (options_in options.now) files (chosen_of chosen.now))
+    ensures { AnswersFrom (F.told shelf.old) kept.old
+        (λ files. ChosenAnswers (job_in job) (options_in options.now) files (chosen_of chosen.now))
         (Rose (F.faults shelf.old) (F.faults shelf.new)) result }
 {
-    let perms = numbers_of(alloc, options, &chosen.bound)?;
-    let partition = partition_of(alloc, shelf, kept, options.parting)?;
-    let owners = owners_of(
+    let planned = planned_on(alloc, shelf, kept, options, &chosen.bound)?;
+    scheduled(
+        rt,
         alloc,
-        options.ranks,
-        options.parting,
-        &chosen.bound,
-        &partition,
-    )?;
-    let text = plan_text_of(alloc, shelf, kept, options.blocks)?;
-    last_answer(
-        rt, alloc, shelf, kept, job, options, chosen, owners, perms, &text, gate,
+        shelf,
+        kept,
+        job,
+        options,
+        chosen,
+        &planned.distribution,
+        &planned.plan,
+        gate,
     )
 }
 

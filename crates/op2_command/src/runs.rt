@@ -16,7 +16,7 @@ ghost use Rattle.command_words.specs.Laws.{AreWithin};
 ghost use Rattle.answers.specs.Judgements.{AccessesAre};
 ghost use Rattle.answers.specs.Answers.{ran, run_answer};
 ghost use Rattle.answer_lines.specs.Halts.{answer_of};
-ghost use Rattle.op2_command.specs.Chains.{IsSpread};
+ghost use Rattle.job_plans.specs.Plans.{IsSpread};
 
 use crate::faults::put_fault;
 use crate::ranges::starts_in_range;

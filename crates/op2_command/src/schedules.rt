@@ -12,7 +12,8 @@ ghost use Rattle.answer_lines.specs.declared.limits.TheConstants.{SCHEDULE_BYTES
 ghost use Rattle.answers.specs.Said.{SaysSchedule};
 ghost use Rattle.answers.specs.Judgements.{steps_in, end_line, IsTextRefused, IsStepRefused};
 ghost use Rattle.answer_lines.specs.Halts.{StopsWhere};
-ghost use Rattle.op2_command.specs.Chains.{CanRefuse, SaysFirst, IsSpread};
+ghost use Rattle.job_plans.specs.Plans.{IsSpread};
+ghost use Rattle.op2_command.specs.Chains.{CanRefuse, SaysFirst};
 
 use answer_lines::{Failure, Halt, Limit, Refusal, most};
 use bound_program::Bound;

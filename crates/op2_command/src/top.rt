@@ -2,10 +2,10 @@
 
 ghost use Rattle.std.specs.Prelude.{◌≡◌, All, map, string_bytes};
 ghost use Rattle.command_words.specs.Words.{named_by};
-ghost use Rattle.answers.specs.Endings.{ending_status, ending_line};
+ghost use Rattle.answers.specs.Endings.{ending_status, ending_line, ending_of, Writes};
 ghost use Rattle.answer_lines.specs.Halts.{answer_of};
 ghost use Rattle.answer_lines.specs.Reports.{Stands};
-ghost use Rattle.op2_command.specs.Writes.{EndsAsDefined, Writes, ending_of};
+ghost use Rattle.op2_command.specs.Writes.{EndsAsDefined};
 
 use crate::answered::answered;
 use answer_laws::{

@@ -3,7 +3,7 @@ use Rattle.op_outside.specs.Outside.{Rose}
 use Rattle.bound_program.specs.Values.{bound_of}
 use Rattle.command_words.specs.Values.{options_in, job_in}
 use Rattle.job_inputs.specs.Inputs.{chosen_of}
-use Rattle.op2_command.proofs.Owned.{state_next, behind_state, state_unread, unchosen, chosen_answered}
+use Rattle.op2_command.proofs.Chosen.{state_next, behind_state, state_unread, unchosen, chosen_answered}
 use Rattle.op2_command.proofs.plans.planned.Goals as goal
 
 pub state_text_of-requires-clause-next : goal.state_text_of-requires-clause-next

@@ -1,7 +1,7 @@
 use Rattle.std.proofs.Common.{sym, ap₂, ◌∙◌}
 use Rattle.bound_program.specs.Values.{bound_of, no_site}
 use Rattle.answers.specs.Answers.{ran}
-use Rattle.op2_command.proofs.Chained.{if_ok_weaker}
+use Rattle.job_inputs.proofs.Chained.{if_ok_weaker}
 use Rattle.op2_command.proofs.Planned.{spread_on}
 use Rattle.op2_command.proofs.runs.run_on.Goals as goal
 

@@ -12,7 +12,7 @@ ghost use Rattle.command_words.specs.Values.{blocks_in};
 ghost use Rattle.answers.specs.Judgements.{Least, Told, IsPlanned, IsUnplanned};
 ghost use Rattle.answer_lines.specs.Halts.{StopsWhere};
 ghost use Rattle.job_inputs.specs.Inputs.{colouring_by};
-ghost use Rattle.op2_command.specs.Chains.{SaysPlan};
+ghost use Rattle.job_plans.specs.Plans.{SaysPlan};
 
 use answer_lines::{Failure, Halt, Limit, Refusal};
 use bound_program::Bound;

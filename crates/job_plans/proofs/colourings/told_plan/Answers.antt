@@ -1,7 +1,7 @@
 use Rattle.bound_program.specs.Values.{bound_of}
 use Rattle.loop_plan.specs.Values.{plan_of}
-use Rattle.op2_command.proofs.ToldPlans.{told_planned, told_refused}
-use Rattle.op2_command.proofs.colourings.told_plan.Goals as goal
+use Rattle.job_plans.proofs.ToldPlans.{told_planned, told_refused}
+use Rattle.job_plans.proofs.colourings.told_plan.Goals as goal
 
 pub returns-in-Ok-clause-ok : goal.returns-in-Ok-clause-ok
 returns-in-Ok-clause-ok c =

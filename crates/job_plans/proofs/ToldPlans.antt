@@ -14,7 +14,7 @@ use Rattle.answer_lines.specs.declared.refusals.Halt.{Halt}
 use Rattle.answer_lines.specs.Halts.{StopsWhere}
 use Rattle.answer_lines.proofs.Halts.{stops_weaker}
 use Rattle.answers.specs.Judgements.{Told, IsPlanned, IsUnplanned}
-use Rattle.op2_command.specs.Chains.{SaysPlan}
+use Rattle.job_plans.specs.Plans.{SaysPlan}
 
 module _ (b : BoundValue) (meshes : List RankMesh) (bytes : List ℕ) where
   pub told_planned : (p : PlanValue) → Certified b meshes bytes p → p.steps ≡ program_steps b meshes → p.steps ≤ max_steps → IsPlanned (Told bytes) b meshes p

@@ -1,0 +1,2 @@
+pub mod ToldPlans
+pub mod Planning
