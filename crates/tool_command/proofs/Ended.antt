@@ -5,8 +5,8 @@ use Rattle.answer_lines.specs.Lines.{Answer}
 use Rattle.answer_lines.specs.declared.refusals.Failure.{Failure}
 use Rattle.answer_lines.specs.declared.refusals.Failure.TheVariants.{Unread, OutOfMemory}
 use Rattle.answers.specs.Endings as ending
-use Rattle.answers.specs.Endings.{Answered, Unwritten, Call, IsReported, ending_status, ending_line}
-use Rattle.tool_command.specs.Endings.{Tells, CallAnswers, Ends, Writes, ending_of}
+use Rattle.answers.specs.Endings.{Answered, Unwritten, Call, IsReported, Writes, ending_status, ending_line, ending_of}
+use Rattle.tool_command.specs.Endings.{Tells, CallAnswers, Ends}
 
 -- with an answer
 pub ended : (c : Call) (status : ℕ) (a : Answer) → Tells c.words c.told a → Writes a status c.writes c.out (IsReported c) → Ends c status

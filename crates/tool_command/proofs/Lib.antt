@@ -1,4 +1,2 @@
-pub mod Jobs
 pub mod Wording
 pub mod Ended
-pub mod Lent

@@ -10,19 +10,31 @@ use Rattle.answer_lines.specs.declared.call_answer.Answer.{Answer as Given}
 use Rattle.answer_lines.specs.declared.refusals.Failure.{Failure}
 use Rattle.answer_lines.specs.declared.refusals.Failure.TheVariants as failure
 use Rattle.answers.specs.Endings.{Ending, Answered, OutOfMemory, Unread, Unwritten, Call, ending_status, ending_line}
-use Rattle.answers.specs.Endings.{HoldAll, IsReported, IsWritten, unwritten_status, unwritten_line}
-use Rattle.tool_words.specs.Words.{Job, Picks, Command, OnProgram, ShowsUsage, ShowsVersion, WordsAre}
+use Rattle.answers.specs.Endings.{HoldAll, IsReported, IsWritten}
+use Rattle.command_words.specs.Words.{Options, names_by, names_in_blocks}
+use Rattle.tool_words.specs.Words.{ProgramJob, Picks, Graphs, PlanJob, TellsOwners}
+use Rattle.tool_words.specs.Words.{Command, OnProgram, OnPlan, ShowsUsage, ShowsVersion, WordsAre}
 use Rattle.tool_command.specs.ToolAnswers.{ToolAnswers, ComesToBeRead}
 
 -- ---- the files that words name
 
 -- those that a job reads behind the source and the mesh
-abbrev pub names_for : Job → List (List ℕ)
+abbrev pub names_for : ProgramJob → List (List ℕ)
 names_for (Picks output file earlier) = output ∷ []
+names_for (Graphs map) = []
+
+-- those that a job on a plan reads behind the files of its options
+abbrev pub names_for_plan : PlanJob → List (List ℕ)
+names_for_plan TellsOwners = []
+
+-- those that come behind the source and the mesh: the options', and the job's own
+abbrev pub names_behind : PlanJob → Options → List (List ℕ)
+names_behind job o = (names_by o.parting ++ names_in_blocks o.blocks) ++ names_for_plan job
 
 -- those of a command, in the order in which they are read
 abbrev pub names_of : Command → List (List ℕ)
 names_of (OnProgram job source mesh) = (source ∷ mesh ∷ []) ++ names_for job
+names_of (OnPlan job o source mesh) = (source ∷ mesh ∷ []) ++ names_behind job o
 names_of ShowsUsage = []
 names_of ShowsVersion = []
 
@@ -69,21 +81,6 @@ pub record Ends (c : Call) (status : ℕ) : Type 0 where
   pub report : IsReported c (ending_line ending)
 
 -- ---- on the way there
-
--- a call that has no answer ends so
-abbrev pub ending_of : Failure → Ending
-ending_of (failure.Unread name) = Unread name.now
-ending_of failure.OutOfMemory = OutOfMemory
-
--- The bytes of an answer are written, or their writing failed; and what is said of its line is so.
-abbrev pub Writes : Answer → ℕ → (faults : ℕ × ℕ) → (told : Option (List ℕ) × Option (List ℕ)) → (List ℕ → Type 0) → Type 0
-Writes a status faults told Said =
-    ((status ≡ a.status) × (told.1 ≡ appended told.0 a.out) × Said a.line)
-    ⊎ ((status ≡ unwritten_status a)
-    × Rose faults.0 faults.1
-    × IsWritten a
-    × AppendsFront told.0 a.out told.1
-    × Said (unwritten_line a))
 
 -- the words have this answer, or this refusal as one, over the files that are told; or a file that they ask for could not be read, or
 -- memory ran out

@@ -1,19 +1,27 @@
 -- What `op2-tools` answers to its words, over files that are told.
-use Rattle.std.specs.Prelude.{◌≡◌, ℕ, ◌⊎◌, List, [], ◌++◌, Some, None, Result, codes}
+use Rattle.std.specs.Prelude.{◌≡◌, ℕ, ◌<◌, ◌⊎◌, List, [], ◌++◌, Some, None, Result, codes}
 use Rattle.std.specs.Fmt.{decimal}
 use Rattle.op_outside.specs.Outside.{Files}
+use Rattle.mesh_decl.specs.declared.owners.Owners.{Owners}
+use Rattle.mesh_decl.specs.Mesh.{set_count, set_name}
+use Rattle.mesh_decl.specs.Named.{NamesMap}
+use Rattle.part_text.specs.Spelling.{Spells}
+use Rattle.owner_text.specs.Written.{partition_text, HasName}
 use Rattle.bound_program.specs.Values.{BoundValue}
+use Rattle.bound_program.specs.Fits.{Fits}
 use Rattle.output_pieces.specs.Pieces.{IsPiece}
 use Rattle.output_pieces.specs.Answered.{IsRefused}
 use Rattle.output_pieces.specs.declared.refusals.PieceRefusal.{PieceRefusal}
 use Rattle.output_pieces.specs.declared.refusals.PieceRefusal.TheVariants.{NoPrint, NoHeader, FewRows, OutOfMemory}
+use Rattle.neighbour_graph.specs.Graph.{IsGraph}
 use Rattle.command_words.specs.Refusal.{PrintWeight, Refusal, CannotRead}
-use Rattle.command_words.specs.Words.{InFiles}
+use Rattle.command_words.specs.Words.{InFiles, Options}
 use Rattle.answer_lines.specs.Lines.{Answer, done, refused}
-use Rattle.answers.specs.Judgements.{IsHeld}
-use Rattle.answers.specs.Answers.{given, BoundAnswers, without}
+use Rattle.answers.specs.Judgements.{IsHeld, Planned}
+use Rattle.answers.specs.Answers.{given, BoundAnswers, PlanningAnswers, without}
 use Rattle.tool_words.specs.declared.usage.TheConstants.{USAGE, VERSION}
-use Rattle.tool_words.specs.Words.{Job, Picks, Command, OnProgram, ShowsUsage, ShowsVersion, WordsAre}
+use Rattle.tool_words.specs.Words.{ProgramJob, Picks, Graphs, PlanJob, TellsOwners}
+use Rattle.tool_words.specs.Words.{Command, OnProgram, OnPlan, ShowsUsage, ShowsVersion, WordsAre}
 
 -- ---- lines
 
@@ -63,19 +71,42 @@ OutputIs output files r = IsHeld PrintWeight output (files output) r
 abbrev pub PickAnswers : (output file : List ℕ) (earlier : ℕ) → Files → BoundValue → Answer → Type 0
 PickAnswers output file earlier files b a = given (OutputIs output files) (PieceAnswers b file earlier) a
 
+-- ---- graph
+
+-- what is answered of a map's name: the graph of neighbours by it, or that the program declares none of that name
+abbrev pub GraphAnswers : (map : List ℕ) → BoundValue → Answer → Type 0
+GraphAnswers map b a =
+    ((m : ℕ) × NamesMap b.mesh map (Some m) × (text : List ℕ) × IsGraph b.mesh m text × (a ≡ done text))
+    ⊎ (NamesMap b.mesh map None × (a ≡ refused_by_tool (codes "graph 1 name " ++ map)))
+
+-- ---- owners
+
+-- what is answered of owners: a text that gives them back where it is read, or that no text can name one of the sets
+abbrev pub OwnersTold : BoundValue → Owners → Answer → Type 0
+OwnersTold b u a =
+    ((a ≡ done (partition_text b.mesh u.sets.items)) × Spells b.mesh u.ranks (partition_text b.mesh u.sets.items) u.sets.items)
+    ⊎ ((s : ℕ) × (s < set_count b.mesh) × ¬ HasName b.mesh s × (a ≡ refused_by_tool (codes "owners 1 name " ++ set_name b.mesh s)))
+
 -- ---- the whole
 
 -- what a job answers of a bound program
-abbrev pub OnBound : Job → Files → BoundValue → Answer → Type 0
+abbrev pub OnBound : ProgramJob → Files → BoundValue → Answer → Type 0
 OnBound (Picks output file earlier) files b a = PickAnswers output file earlier files b a
+OnBound (Graphs map) files b a = GraphAnswers map b a
 
--- the answer of a job on a program over a mesh: `op2`'s judgements up to the bound program, and then the job's
-abbrev pub JobAnswers : Job → (source mesh : List ℕ) → Files → Answer → Type 0
-JobAnswers job source mesh files = BoundAnswers (OnBound job files) (InFiles source mesh) files
+-- what a job answers of the plan of a bound program
+abbrev pub OnPlanned : PlanJob → BoundValue → Files → Planned → Answer → Type 0
+OnPlanned TellsOwners b files p a = OwnersTold b p.distribution.owners a
 
--- the answer of a command
+-- What a job on the plan of a bound program answers: `op2`'s judgements up to the plan, and then the job's. The program fits, as all that
+-- is bound does; this stands here since distributions and plans are one where it is so.
+abbrev pub PlanJobAnswers : PlanJob → Options → Files → BoundValue → Answer → Type 0
+PlanJobAnswers job o files b a = Fits b × PlanningAnswers (OnPlanned job b files) o files b a
+
+-- the answer of a command: `op2`'s judgements up to the bound program, and then the job's
 abbrev pub CommandAnswers : Command → Files → Answer → Type 0
-CommandAnswers (OnProgram job source mesh) files = JobAnswers job source mesh files
+CommandAnswers (OnProgram job source mesh) files = BoundAnswers (OnBound job files) (InFiles source mesh) files
+CommandAnswers (OnPlan job o source mesh) files = BoundAnswers (PlanJobAnswers job o files) (InFiles source mesh) files
 CommandAnswers ShowsUsage files = λ a. a ≡ done USAGE.now
 CommandAnswers ShowsVersion files = λ a. a ≡ done VERSION.now
 

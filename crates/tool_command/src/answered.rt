@@ -3,11 +3,12 @@
 ghost use Rattle.std.specs.Prelude.{map, string_bytes, All};
 ghost use Rattle.op_outside.specs.Outside.{Rose};
 ghost use Rattle.job_inputs.specs.Chains.{AnswersOver};
-ghost use Rattle.tool_words.specs.Values.{command_of};
+ghost use Rattle.tool_words.specs.Values.{command_of, IsInRange};
 ghost use Rattle.tool_command.specs.ToolAnswers.{CommandAnswers};
 ghost use Rattle.tool_command.specs.Endings.{AreLent, AnswersWords, CallAnswers, names_of};
 
 use crate::lines::refused_words;
+use crate::planned::on_plan;
 use crate::programs::on_program;
 use answer_lines::{Answer, Failure, Halt, done, refused};
 use op_outside::Shelf;
@@ -20,12 +21,19 @@ fn to_asked<'a, F: Shelf>(
     shelf: &mut F,
     asked: Asked<'a>,
 ) -> Result<Answer, Halt<'a>>
-    requires { All (λ name. F.lends shelf.old name) (names_of (command_of asked)) }
+    requires lent { All (λ name. F.lends shelf.old name) (names_of (command_of asked)) }
+    requires in_range { IsInRange asked }
     ensures { AnswersOver (F.told shelf.old) (names_of (command_of asked.entry)) (CommandAnswers (command_of asked.entry))
         (Rose (F.faults shelf.old) (F.faults shelf.new)) result }
 {
     match asked {
         Asked::OnProgram { job, source, mesh } => on_program(alloc, shelf, job, source, mesh),
+        Asked::OnPlan {
+            job,
+            options,
+            source,
+            mesh,
+        } => on_plan(alloc, shelf, job, &options, source, mesh),
         Asked::Usage => Ok(done(alloc, USAGE)?),
         Asked::Version => Ok(done(alloc, VERSION)?),
     }

@@ -6,8 +6,11 @@
 #![tactic(auto)]
 
 mod answered;
+mod graphs;
 mod lines;
+mod owners;
 mod picks;
+mod planned;
 mod programs;
 mod top;
 

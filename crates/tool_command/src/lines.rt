@@ -1,6 +1,6 @@
 // The lines of the tool's own refusals.
 
-ghost use Rattle.std.specs.Prelude.{◌≡◌, ◌++◌, codes, OnOk, IfOk};
+ghost use Rattle.std.specs.Prelude.{◌≡◌, ◌++◌, [], codes, OnOk, IfOk};
 ghost use Rattle.answer_lines.specs.Halts.{answer_of};
 ghost use Rattle.answer_lines.specs.Reports.{Stands};
 ghost use Rattle.tool_command.specs.ToolAnswers.{tool_line, refused_by_tool, words_refused, said_of_piece};
@@ -33,6 +33,13 @@ pub fn report_usage<E: Sink>(err: &mut E) -> u8
     2
 }
 
+// The answer with this line, where what a job reads is refused.
+fn refused_by(line: Vec<u8>) -> Answer
+    ensures { answer_of result ≡ record { status = 20; out = []; line = line.items } }
+{
+    Answer::Refused { status: 20, line }
+}
+
 // What is said where there is no piece.
 fn put_said(out: &mut Vec<u8>, file: &str, refusal: PieceRefusal) -> Result<(), OutOfMemory>
     ensures { OnOk result (out.new.items ≡ out.old.items ++ said_of_piece file.now refusal) }
@@ -57,5 +64,17 @@ pub fn refused_piece(
     line.extend_from_slice(b"op2-tools: ")?;
     put_said(&mut line, file, refusal)?;
     line.extend_from_slice(b"\n")?;
-    Ok(Answer::Refused { status: 20, line })
+    Ok(refused_by(line))
+}
+
+/// The answer where a name stands for nothing: `what` tells the job, the number and what was looked for, with a space behind it. An error
+/// is want of memory.
+pub fn refused_name(alloc: Global, what: &[u8], name: &[u8]) -> Result<Answer, OutOfMemory>
+    ensures { IfOk result (λ a. answer_of a ≡ refused_by_tool (what.now ++ name.now)) }
+{
+    let mut line = Vec::new(alloc);
+    line.extend_from_slice(b"op2-tools: ")?;
+    put_named(&mut line, what, name)?;
+    line.extend_from_slice(b"\n")?;
+    Ok(refused_by(line))
 }

@@ -7,9 +7,12 @@ ghost use Rattle.bound_program.specs.Values.{bound_of};
 ghost use Rattle.bound_program.specs.Fits.{Fits};
 ghost use Rattle.job_inputs.specs.Chains.{AnswersFrom, AnswersOver};
 ghost use Rattle.tool_words.specs.Values.{job_of};
-ghost use Rattle.tool_command.specs.ToolAnswers.{OnBound, JobAnswers};
+ghost use Rattle.command_words.specs.Words.{InFiles};
+ghost use Rattle.answers.specs.Answers.{BoundAnswers};
+ghost use Rattle.tool_command.specs.ToolAnswers.{OnBound};
 ghost use Rattle.tool_command.specs.Endings.{names_for};
 
+use crate::graphs::graphed;
 use crate::picks::picked;
 use answer_lines::{Answer, Halt};
 use bound_program::Bound;
@@ -19,12 +22,12 @@ use kept_files::{Kept, some_files_are_as_seen};
 use op_num::OutOfMemory;
 use op_outside::Shelf;
 use std::alloc::Global;
-use tool_words::Job;
+use tool_words::ProgramJob;
 
 // The files that a job reads, in the order in which it does.
 fn awaited<'a>(
     alloc: Global,
-    job: Job<'a>,
+    job: ProgramJob<'a>,
     source: &'a str,
     mesh: &'a str,
 ) -> Result<Kept<'a>, OutOfMemory>
@@ -34,7 +37,8 @@ fn awaited<'a>(
     kept.push(source)?;
     kept.push(mesh)?;
     match job {
-        Job::Picks { output, .. } => kept.push(output)?,
+        ProgramJob::Picks { output, .. } => kept.push(output)?,
+        ProgramJob::Graphs { .. } => {}
     }
     Ok(kept)
 }
@@ -44,7 +48,7 @@ fn on_bound<'a, F: Shelf>(
     alloc: Global,
     shelf: &mut F,
     kept: &mut Kept<'a>,
-    job: Job<'a>,
+    job: ProgramJob<'a>,
     bound: &Bound,
 ) -> Result<Answer, Halt<'a>>
     requires lent { All (λ name. F.lends shelf.old name) (names_for (job_of job)) }
@@ -54,11 +58,12 @@ fn on_bound<'a, F: Shelf>(
         (Rose (F.faults shelf.old) (F.faults shelf.new)) result }
 {
     match job {
-        Job::Picks {
+        ProgramJob::Picks {
             output,
             file,
             earlier,
         } => picked(alloc, shelf, kept, bound, output, file, earlier),
+        ProgramJob::Graphs { map } => graphed(alloc, bound, map),
     }
 }
 
@@ -66,14 +71,15 @@ fn on_bound<'a, F: Shelf>(
 pub fn on_program<'a, F: Shelf>(
     alloc: Global,
     shelf: &mut F,
-    job: Job<'a>,
+    job: ProgramJob<'a>,
     source: &'a str,
     mesh: &'a str,
 ) -> Result<Answer, Halt<'a>>
     requires input { All (λ name. F.lends shelf.old name) (source.now ∷ mesh.now ∷ []) }
     requires own { All (λ name. F.lends shelf.old name) (names_for (job_of job)) }
     ensures { AnswersOver (F.told shelf.old) ((source.now ∷ mesh.now ∷ []) ++ names_for (job_of job.entry))
-        (JobAnswers (job_of job.entry) source.now mesh.now) (Rose (F.faults shelf.old) (F.faults shelf.new)) result }
+        (λ files. BoundAnswers (OnBound (job_of job.entry) files) (InFiles source.now mesh.now) files)
+        (Rose (F.faults shelf.old) (F.faults shelf.new)) result }
 {
     some_files_are_as_seen();
     let mut kept = awaited(alloc, job, source, mesh)?;

@@ -1,10 +1,10 @@
 // The whole of what the program does.
 
 ghost use Rattle.std.specs.Prelude.{◌≡◌, map, string_bytes};
-ghost use Rattle.answers.specs.Endings.{ending_status, ending_line};
+ghost use Rattle.answers.specs.Endings.{ending_status, ending_line, ending_of, Writes};
 ghost use Rattle.answer_lines.specs.Halts.{answer_of};
 ghost use Rattle.answer_lines.specs.Reports.{Stands};
-ghost use Rattle.tool_command.specs.Endings.{AreLent, Ends, Writes, ending_of};
+ghost use Rattle.tool_command.specs.Endings.{AreLent, Ends};
 
 use crate::answered::answered;
 use answer_lines::{Answer, Failure, Line, report};

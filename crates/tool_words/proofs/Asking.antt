@@ -32,6 +32,12 @@ given_are f =
       first_value-rows f (codes "THIRD"),
       first_value-rows f (codes "FOURTH"),
       first_value-rows f (codes "FIFTH"),
+      first_value-rows f (codes "ranks"),
+      first_value-rows f (codes "parts"),
+      first_value-rows f (codes "partition"),
+      first_value-rows f (codes "renumber"),
+      first_value-rows f (codes "block"),
+      first_value-rows f (codes "plan"),
     ) refl
 
 -- by the matches

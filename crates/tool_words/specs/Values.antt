@@ -1,18 +1,23 @@
 -- What words ask for in the code, as `Words` defines it.
-use Rattle.std.specs.Prelude.{◌≡◌, ℕ, List, Option, Some, None, Result, Ok, Err, codes, option_map}
+use Rattle.std.specs.Prelude.{◌≡◌, ℕ, List, false, Option, Some, None, Result, Ok, Err, codes, option_map}
 use Rattle.clap.specs.declared.parser.matches.Found.{Found}
 use Rattle.clap.specs.Matches.{first_value}
+use Rattle.command_words.specs.Words.{OptionWords}
+use Rattle.command_words.specs.Values.{option_words_of, options_in}
 use Rattle.tool_words.specs.Words as words
-use Rattle.tool_words.specs.Words.{Picks, OnProgram, ShowsUsage, ShowsVersion, WordsAre}
-use Rattle.tool_words.specs.declared.asked.Job.{Job}
-use Rattle.tool_words.specs.declared.asked.Job.TheVariants as job
+use Rattle.tool_words.specs.Words.{Picks, Graphs, TellsOwners, OnProgram, OnPlan, ShowsUsage, ShowsVersion, WordsAre}
+use Rattle.tool_words.specs.Ranges.{IsWithin}
+use Rattle.tool_words.specs.declared.asked.ProgramJob.{ProgramJob}
+use Rattle.tool_words.specs.declared.asked.ProgramJob.TheVariants as job
+use Rattle.tool_words.specs.declared.asked.PlanJob.{PlanJob}
+use Rattle.tool_words.specs.declared.asked.PlanJob.TheVariants as plan_job
 use Rattle.tool_words.specs.declared.asked.Asked.{Asked}
 use Rattle.tool_words.specs.declared.asked.Asked.TheVariants as asked
-use Rattle.tool_words.specs.declared.jobs.Given.{Given}
+use Rattle.tool_words.specs.declared.given.Given.{Given}
 use Rattle.tool_words.specs.declared.refusals.WordsRefusal.{WordsRefusal}
 use Rattle.tool_words.specs.declared.refusals.WordsRefusal.TheVariants.{Usage, OutOfMemory}
 
--- the words behind the job's name
+-- the words behind the job's name, and the options
 abbrev pub given_of : Given → words.Given
 given_of g = record {
   first = option_map (λ s. s.now) g.first;
@@ -20,9 +25,29 @@ given_of g = record {
   third = option_map (λ s. s.now) g.third;
   fourth = option_map (λ s. s.now) g.fourth;
   fifth = option_map (λ s. s.now) g.fifth;
+  planning = option_words_of g.planning;
 }
 
--- all words, as `clap` has found them
+-- the options of a plan, as `clap` has found them
+abbrev pub planning_found : Found → OptionWords
+planning_found f = record {
+  form = None;
+  ranks = first_value f (codes "ranks");
+  parts = first_value f (codes "parts");
+  partition = first_value f (codes "partition");
+  renumber = first_value f (codes "renumber");
+  block = first_value f (codes "block");
+  plan = first_value f (codes "plan");
+  at = None;
+  from = None;
+  schedule = None;
+  seed = None;
+  workers = None;
+  chains = false;
+  dumps = false;
+}
+
+-- all words
 abbrev pub given_found : Found → words.Given
 given_found f = record {
   first = first_value f (codes "FIRST");
@@ -30,17 +55,28 @@ given_found f = record {
   third = first_value f (codes "THIRD");
   fourth = first_value f (codes "FOURTH");
   fifth = first_value f (codes "FIFTH");
+  planning = planning_found f;
 }
 
 -- what is done with a program
-abbrev pub job_of : Job → words.Job
+abbrev pub job_of : ProgramJob → words.ProgramJob
 job_of (job.Picks output file earlier) = Picks output.now file.now earlier
+job_of (job.Graphs map) = Graphs map.now
+
+-- what is done with its plan
+abbrev pub plan_job_of : PlanJob → words.PlanJob
+plan_job_of plan_job.TellsOwners = TellsOwners
 
 -- what the words ask for
 abbrev pub command_of : Asked → words.Command
 command_of (asked.OnProgram j source mesh) = OnProgram (job_of j) source.now mesh.now
+command_of (asked.OnPlan j o source mesh) = OnPlan (plan_job_of j) (options_in o) source.now mesh.now
 command_of asked.Usage = ShowsUsage
 command_of asked.Version = ShowsVersion
+
+-- the numbers of what is asked for are in range
+abbrev pub IsInRange : Asked → Type 0
+IsInRange a = IsWithin (command_of a)
 
 -- it is what is asked for, or nothing is, unless memory ran out
 abbrev pub AsksBy : Result Asked WordsRefusal → Option words.Command → Type 0

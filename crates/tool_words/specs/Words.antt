@@ -1,62 +1,83 @@
 -- The words of the command line of `op2-tools`, by `clap`'s own model of the command.
-use Rattle.std.specs.Prelude.{◌≡◌, ℕ, ◌-◌, Bool, true, false, ◌&&◌, ◌⊎◌, nat_lt, List, [], ◌∷◌, map, Option, Some, None, codes}
+use Rattle.std.specs.Prelude.{◌≡◌, ℕ, ◌-◌, Bool, true, false, ◌&&◌, ◌⊎◌, nat_lt, List, [], ◌∷◌, ◌++◌, map, Option, Some, None, codes}
 use Rattle.std.specs.Prelude.{if◌then◌else◌, option_and_then, option_map}
 use Rattle.std.specs.Str.{bytes_eq}
 use Rattle.clap.specs.Walk.{Rule, Row, first_of}
-use Rattle.clap.specs.Simple.{App, new_rule, new_app, with_rule, on_top, matches_of}
+use Rattle.clap.specs.Simple.{App, new_app, matches_of}
 use Rattle.clap.specs.Kinds.{IsAmong}
 use Rattle.clap.specs.Faults.{fault_of}
 use Rattle.clap.specs.declared.error.kind.ErrorKind.{ErrorKind}
 use Rattle.clap.specs.declared.error.kind.ErrorKind.TheVariants as kind
 use Rattle.op_num.specs.Spelling.{number_of}
+use Rattle.command_words.specs.Words.{Options, OptionWords, options_of, runs_nothing}
+use Rattle.command_words.specs.Words.{positional, option, versioned, with_rules}
 
 -- What is done with a program over a mesh: the dat that it prints with this text as its file, behind so many such dats, is picked out of
--- the output in a file.
-pub data Job : Type 0 where
-  Picks : (output file : List ℕ) (earlier : ℕ) → Job
+-- the output in a file; or the graph of neighbours by the map of this name is written.
+pub data ProgramJob : Type 0 where
+  Picks : (output file : List ℕ) (earlier : ℕ) → ProgramJob
+  Graphs : (map : List ℕ) → ProgramJob
 
--- what the words ask for: a job on the program in a file over the mesh in a file, or what the program says of itself
+-- what is done with the plan of a program over a mesh: who owns which element there is written
+pub data PlanJob : Type 0 where
+  TellsOwners : PlanJob
+
+-- what the words ask for: a job on the program in a file over the mesh in a file, or on its plan with these options; or what the program
+-- says of itself
 pub data Command : Type 0 where
-  OnProgram : Job → (source mesh : List ℕ) → Command
+  OnProgram : ProgramJob → (source mesh : List ℕ) → Command
+  OnPlan : PlanJob → Options → (source mesh : List ℕ) → Command
   ShowsUsage : Command
   ShowsVersion : Command
 
 -- ---- the command as `clap` has it
 
--- a word without a `-`, required or not
-abbrev pub positional : Bool → List ℕ → Rule
-positional required id = record (new_rule id) { required = required }
-
--- the command has a version
-abbrev pub versioned : App → App
-versioned a = on_top (λ s. record s { has_version = true }) a
-
--- the command with further rules, one behind the other
-abbrev pub with_rules : App → List Rule → App
-with_rules a [] = a
-with_rules a (r ∷ rs) = with_rules (with_rule a r) rs
-
 -- the words that a job takes, which needn't all stand
 abbrev pub places : List (List ℕ)
 places = codes "FIRST" ∷ codes "SECOND" ∷ codes "THIRD" ∷ codes "FOURTH" ∷ codes "FIFTH" ∷ []
 
--- its words
-abbrev pub rules : List Rule
-rules = positional true (codes "JOB") ∷ map (positional false) places
+-- the options with one value, those of `op2` for a plan
+abbrev pub options : List (List ℕ)
+options =
+    codes "ranks" ∷ codes "parts" ∷ codes "partition" ∷ codes "renumber" ∷ codes "block" ∷ codes "plan" ∷ []
 
--- `op2-tools JOB WORD ..`, `--help` and `--version`
+-- its words, and then its options
+abbrev pub rules : List Rule
+rules = (positional true (codes "JOB") ∷ map (positional false) places) ++ map option options
+
+-- `op2-tools JOB WORD ..` with these options, `--help` and `--version`
 abbrev pub command : App
 command = with_rules (versioned (new_app (codes "op2-tools"))) rules
 
 -- ---- what its matches mean
 
--- the words behind the job's name
+-- the words behind the job's name, and those of the options of a plan
 pub record Given : Type 0 where
   pub first : Option (List ℕ)
   pub second : Option (List ℕ)
   pub third : Option (List ℕ)
   pub fourth : Option (List ℕ)
   pub fifth : Option (List ℕ)
+  pub planning : OptionWords
+
+-- the options of a plan; those of `op2` that the command hasn't don't stand
+abbrev pub planning_in : List Row → OptionWords
+planning_in rows = record {
+  form = None;
+  ranks = first_of (codes "ranks") rows;
+  parts = first_of (codes "parts") rows;
+  partition = first_of (codes "partition") rows;
+  renumber = first_of (codes "renumber") rows;
+  block = first_of (codes "block") rows;
+  plan = first_of (codes "plan") rows;
+  at = None;
+  from = None;
+  schedule = None;
+  seed = None;
+  workers = None;
+  chains = false;
+  dumps = false;
+}
 
 -- all words
 abbrev pub given_in : List Row → Given
@@ -66,12 +87,19 @@ given_in rows = record {
   third = first_of (codes "THIRD") rows;
   fourth = first_of (codes "FOURTH") rows;
   fifth = first_of (codes "FIFTH") rows;
+  planning = planning_in rows;
 }
+
+-- a command, where its options allow it
+abbrev pub where_so : (allowed : Bool) → Option Command → Option Command
+where_so allowed c = if allowed then c else None
 
 -- how many come before the one of a number from 1 on, below 2 ^ 32, in decimal digits; none where no word says which
 abbrev pub earlier_than : Option (List ℕ) → Option ℕ
 earlier_than None = Some 0
 earlier_than (Some word) = option_and_then (λ n. if nat_lt 0 n && nat_lt n 4294967296 then Some (n - 1) else None) (number_of word)
+
+-- ---- jobs
 
 -- SOURCE MESH OUTPUT FILE [N]
 abbrev pub picked : (source mesh output file number : Option (List ℕ)) → Option Command
@@ -79,10 +107,23 @@ picked (Some source) (Some mesh) (Some output) (Some file) number =
     option_map (λ n. OnProgram (Picks output file n) source mesh) (earlier_than number)
 picked _ _ _ _ number = None
 
+-- SOURCE MESH MAP
+abbrev pub graphed : (source mesh map fourth : Option (List ℕ)) → Option Command
+graphed (Some source) (Some mesh) (Some map) None = Some (OnProgram (Graphs map) source mesh)
+graphed _ _ _ _ = None
+
+-- SOURCE MESH, with the options of a plan
+abbrev pub planned : PlanJob → (source mesh third : Option (List ℕ)) → OptionWords → Option Command
+planned job (Some source) (Some mesh) None w = option_map (λ o. OnPlan job o source mesh) (options_of w)
+planned job _ _ _ w = None
+
 -- by the job's name
 abbrev pub by_name : (job : List ℕ) → Given → Option Command
 by_name job g =
-    if bytes_eq job (codes "pick") then picked g.first g.second g.third g.fourth g.fifth else None
+    if bytes_eq job (codes "pick") then where_so (runs_nothing g.planning) (picked g.first g.second g.third g.fourth g.fifth)
+    else if bytes_eq job (codes "graph") then where_so (runs_nothing g.planning) (graphed g.first g.second g.third g.fourth)
+    else if bytes_eq job (codes "owners") then planned TellsOwners g.first g.second g.third g.planning
+    else None
 
 -- the word JOB stands
 abbrev pub asked : (job : Option (List ℕ)) → Given → Option Command

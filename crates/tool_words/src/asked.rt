@@ -1,8 +1,10 @@
 // What words ask for.
 
+use command_words::Options;
+
 /// What is done with a program over a mesh.
 #[derive(Clone, Copy, Debug)]
-pub enum Job<'a> {
+pub enum ProgramJob<'a> {
     /// What the dat that it prints with `file` as its file, behind `earlier` such dats, says in the output that the file `output` holds;
     /// `earlier` is below 2 ^ 32.
     Picks {
@@ -10,6 +12,17 @@ pub enum Job<'a> {
         file: &'a str,
         earlier: u64,
     },
+    /// The graph of neighbours by the map of this name is written.
+    Graphs {
+        map: &'a str,
+    },
+}
+
+/// What is done with the plan of a program over a mesh.
+#[derive(Clone, Copy, Debug)]
+pub enum PlanJob {
+    /// Who owns which element there is written, as the text of a partition.
+    TellsOwners,
 }
 
 /// What the words ask for.
@@ -17,7 +30,14 @@ pub enum Job<'a> {
 pub enum Asked<'a> {
     /// The job on the program in the file `source` over the mesh in the file `mesh`.
     OnProgram {
-        job: Job<'a>,
+        job: ProgramJob<'a>,
+        source: &'a str,
+        mesh: &'a str,
+    },
+    /// The job on the plan of that program, with these options.
+    OnPlan {
+        job: PlanJob,
+        options: Options<'a>,
         source: &'a str,
         mesh: &'a str,
     },

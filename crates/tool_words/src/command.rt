@@ -4,25 +4,15 @@ ghost use Rattle.std.specs.Prelude.{◌≡◌, [], List, map, false, string_byte
 ghost use Rattle.clap.specs.Matches.{found_of};
 ghost use Rattle.clap.specs.Faults.{fault_of};
 ghost use Rattle.clap.specs.Kinds.{HasKind};
-ghost use Rattle.clap.specs.Simple.{app_of, matches_of, with_rule};
+ghost use Rattle.clap.specs.Simple.{app_of, matches_of};
 ghost use Rattle.clap.specs.Walk.{rows_of};
-ghost use Rattle.tool_words.specs.Words.{command, with_rules, positional};
+ghost use Rattle.command_words.specs.Words.{with_rules, positional};
+ghost use Rattle.tool_words.specs.Words.{command};
 
 use crate::usage::VERSION;
-use clap::{Arg, ArgMatches, Command, Error};
+use clap::{ArgMatches, Command, Error};
+use command_words::{with_options, with_positional};
 use std::alloc::{AllocError, Global};
-
-// The command with a further word that has no `-`, required or not.
-fn with_positional<'a>(
-    alloc: Global,
-    command: Command<'a>,
-    id: &'a str,
-    required: bool,
-) -> Result<Command<'a>, AllocError>
-    ensures { IfOk result (λ c. app_of c ≡ with_rule (app_of command.entry) (positional required id.entry.now)) }
-{
-    command.arg(Arg::new(alloc, id).required(required))
-}
 
 // The command with further words, which needn't stand, one behind the other.
 fn with_places<'a>(
@@ -41,16 +31,21 @@ fn with_places<'a>(
     Ok(command)
 }
 
-// The command: `op2-tools JOB WORD ..`, `--help` and `--version`.
+// The command: `op2-tools JOB WORD ..` with its options, `--help` and `--version`.
 fn command<'a>(alloc: Global) -> Result<Command<'a>, AllocError>
     ensures { IfOk result (λ c. app_of c ≡ command) }
 {
     let command = Command::new(alloc, "op2-tools").version(VERSION);
     let command = with_positional(alloc, command, "JOB", true)?;
-    with_places(
+    let command = with_places(
         alloc,
         command,
         &["FIRST", "SECOND", "THIRD", "FOURTH", "FIFTH"],
+    )?;
+    with_options(
+        alloc,
+        command,
+        &["ranks", "parts", "partition", "renumber", "block", "plan"],
     )
 }
 

@@ -1,27 +1,28 @@
 // The jobs: what is asked for by the job's name and the words behind it.
 
 ghost use Rattle.std.specs.Prelude.{◌≡◌, option_map};
-ghost use Rattle.tool_words.specs.Words.{by_name, picked, earlier_than};
-ghost use Rattle.tool_words.specs.Values.{command_of, given_of};
+ghost use Rattle.command_words.specs.Words.{runs_nothing};
+ghost use Rattle.tool_words.specs.Words.{by_name, where_so, picked, graphed, planned, earlier_than};
+ghost use Rattle.tool_words.specs.Values.{command_of, given_of, plan_job_of};
 
-use crate::asked::{Asked, Job};
+use crate::asked::{Asked, PlanJob, ProgramJob};
+use crate::given::Given;
+use command_words::{options_of, runs_nothing};
 use op_num::read_u64;
-
-/// The words behind the job's name.
-#[derive(Clone, Copy, Debug)]
-pub struct Given<'a> {
-    pub first: Option<&'a str>,
-    pub second: Option<&'a str>,
-    pub third: Option<&'a str>,
-    pub fourth: Option<&'a str>,
-    pub fifth: Option<&'a str>,
-}
 
 /// What is asked for by the job's name.
 pub fn by_name<'a>(job: &str, given: &Given<'a>) -> Option<Asked<'a>>
     ensures { option_map command_of result ≡ by_name job.now (given_of given.now) }
 {
-    if job == "pick" { picked(given) } else { None }
+    if job == "pick" {
+        picked(given)
+    } else if job == "graph" {
+        graphed(given)
+    } else if job == "owners" {
+        planned(PlanJob::TellsOwners, given)
+    } else {
+        None
+    }
 }
 
 // How many come before the one of a number from 1 on, below 2^32, in decimal digits; none where no word says which.
@@ -43,9 +44,13 @@ fn earlier_than(word: Option<&str>) -> Option<u64>
 
 // SOURCE MESH OUTPUT FILE [N].
 fn picked<'a>(given: &Given<'a>) -> Option<Asked<'a>>
-    ensures { option_map command_of result ≡ picked (given_of given.now).first (given_of given.now).second (given_of given.now).third
-        (given_of given.now).fourth (given_of given.now).fifth }
+    ensures { option_map command_of result ≡ where_so (runs_nothing (given_of given.now).planning)
+        (picked (given_of given.now).first (given_of given.now).second (given_of given.now).third (given_of given.now).fourth
+        (given_of given.now).fifth) }
 {
+    if !runs_nothing(&given.planning) {
+        return None;
+    }
     let (Some(source), Some(mesh), Some(output), Some(file)) = (
         given.first,
         given.second,
@@ -55,10 +60,47 @@ fn picked<'a>(given: &Given<'a>) -> Option<Asked<'a>>
         return None;
     };
     let earlier = earlier_than(given.fifth)?;
-    let job = Job::Picks {
+    let job = ProgramJob::Picks {
         output,
         file,
         earlier,
     };
     Some(Asked::OnProgram { job, source, mesh })
+}
+
+// SOURCE MESH MAP.
+fn graphed<'a>(given: &Given<'a>) -> Option<Asked<'a>>
+    ensures { option_map command_of result ≡ where_so (runs_nothing (given_of given.now).planning)
+        (graphed (given_of given.now).first (given_of given.now).second (given_of given.now).third (given_of given.now).fourth) }
+{
+    if !runs_nothing(&given.planning) {
+        return None;
+    }
+    let (Some(source), Some(mesh), Some(map), None) = (
+        given.first,
+        given.second,
+        given.third,
+        given.fourth,
+    ) else {
+        return None;
+    };
+    let job = ProgramJob::Graphs { map };
+    Some(Asked::OnProgram { job, source, mesh })
+}
+
+// SOURCE MESH, with the options of a plan.
+fn planned<'a>(job: PlanJob, given: &Given<'a>) -> Option<Asked<'a>>
+    ensures { option_map command_of result ≡ planned (plan_job_of job) (given_of given.now).first (given_of given.now).second
+        (given_of given.now).third (given_of given.now).planning }
+{
+    let (Some(source), Some(mesh), None) = (given.first, given.second, given.third) else {
+        return None;
+    };
+    let options = options_of(&given.planning)?;
+    Some(Asked::OnPlan {
+        job,
+        options,
+        source,
+        mesh,
+    })
 }

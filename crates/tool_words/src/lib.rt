@@ -1,16 +1,18 @@
 //! The words of the command line of `op2-tools`: what they ask for, and when they are refused.
 //!
-//! `clap` judges the words; what its matches mean is defined in `specs/Words.antt`, and `read_words` gives exactly that.
+//! `clap` judges the words; what its matches mean is defined in `specs/Words.antt`, and `read_words` gives exactly that, with the numbers
+//! of its options in their ranges. The options of a plan are those of `op2`, read as it reads them.
 #![tactic(auto)]
 
 mod asked;
 mod command;
+mod given;
 mod jobs;
 mod read;
 mod refusals;
 mod usage;
 
-pub use asked::{Asked, Job};
+pub use asked::{Asked, PlanJob, ProgramJob};
 pub use read::read_words;
 pub use refusals::WordsRefusal;
 pub use usage::{USAGE, VERSION};

@@ -1,26 +1,31 @@
 // What the words ask for, by `clap`'s matches of them.
 
-ghost use Rattle.std.specs.Prelude.{◌≡◌, map, codes, string_bytes, option_map, Err};
+ghost use Rattle.std.specs.Prelude.{◌≡◌, map, codes, string_bytes, Err, IfOk};
 ghost use Rattle.clap.specs.Matches.{found_of, first_value};
 ghost use Rattle.clap.specs.Values.{kind_of};
 ghost use Rattle.clap.specs.declared.error.kind.ErrorKind.TheVariants as kind;
 ghost use Rattle.tool_words.specs.Words.{asked, by_kind};
 ghost use Rattle.tool_words.specs.declared.refusals.WordsRefusal.TheVariants.{OutOfMemory};
-ghost use Rattle.tool_words.specs.Values.{given_of, given_found, AsksBy, IsRead};
+ghost use Rattle.command_words.specs.Values.{option_words_of};
+ghost use Rattle.tool_words.specs.Values.{given_of, planning_found, given_found, AsksBy, IsRead, IsInRange};
 
 use crate::asked::Asked;
 use crate::command::matched;
-use crate::jobs::{Given, by_name};
+use crate::given::Given;
+use crate::jobs::by_name;
 use crate::refusals::WordsRefusal;
 use clap::error::ErrorKind;
 use clap::{ArgMatches, Error};
+use command_words::{OptionWords, option_words_are_within};
 use std::alloc::Global;
 
 /// What the words, the program's name first, ask for. `Usage`: the words are not those of a command. `OutOfMemory`: for want of memory
 /// alone.
 pub fn read_words<'a>(alloc: Global, words: &'a Vec<String>) -> Result<Asked<'a>, WordsRefusal>
-    ensures { IsRead (map string_bytes words.now.items) result }
+    ensures is { IsRead (map string_bytes words.now.items) result }
+    ensures in_range { IfOk result IsInRange }
 {
+    option_words_are_within();
     match matched(alloc, words) {
         Ok(matches) => job_of(&matches),
         Err(error) => refused(&error),
@@ -40,7 +45,29 @@ fn job_of<'a>(matches: &ArgMatches<'a>) -> Result<Asked<'a>, WordsRefusal>
     }
 }
 
-// The words behind the job's name, as `clap` has matched them.
+// The values of the options of a plan, as `clap` has matched them.
+fn planning<'a>(matches: &ArgMatches<'a>) -> OptionWords<'a>
+    ensures { option_words_of result ≡ planning_found (found_of matches.now) }
+{
+    OptionWords {
+        form: None,
+        ranks: matches.get_str("ranks"),
+        parts: matches.get_str("parts"),
+        partition: matches.get_str("partition"),
+        renumber: matches.get_str("renumber"),
+        block: matches.get_str("block"),
+        plan: matches.get_str("plan"),
+        at: None,
+        from: None,
+        schedule: None,
+        seed: None,
+        workers: None,
+        chains: false,
+        dumps: false,
+    }
+}
+
+// The words behind the job's name and the options, as `clap` has matched them.
 fn given<'a>(matches: &ArgMatches<'a>) -> Given<'a>
     ensures { given_of result ≡ given_found (found_of matches.now) }
 {
@@ -50,6 +77,7 @@ fn given<'a>(matches: &ArgMatches<'a>) -> Given<'a>
         third: matches.get_str("THIRD"),
         fourth: matches.get_str("FOURTH"),
         fifth: matches.get_str("FIFTH"),
+        planning: planning(matches),
     }
 }
 

@@ -1,12 +1,25 @@
 // The texts that the program writes about itself.
 
 /// What `--help` writes.
-pub const USAGE: &str = "op2-tools JOB WORD ..
+pub const USAGE: &str = "op2-tools JOB WORD .. [OPTION ..]
 
 Jobs
   pick SOURCE MESH OUTPUT FILE [N]
                  writes what the N-th dat that the program prints with FILE as its file says, out of the output of a run
                  in the file OUTPUT; N is 1 where it isn't given. SOURCE and MESH are those of the run: they tell where it is
+  graph SOURCE MESH MAP
+                 writes the graph of neighbours by the map MAP in METIS's format: a line for each element of the set to which
+                 it leads
+  owners SOURCE MESH
+                 writes who owns which element on the ranks of a plan, as the text of a partition
+
+Options of owners
+  --ranks N      these six as for op2, see op2 --help: how many ranks there are, who owns which element, new numbers, and
+  --parts RULE   the blocks and colours of the plan; what the last three name is judged, and changes no owner
+  --partition F
+  --renumber MAP
+  --block N
+  --plan F
 
 Options that stand alone
   -h, --help     writes this text

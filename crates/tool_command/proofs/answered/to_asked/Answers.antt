@@ -1,25 +1,58 @@
-use Rattle.std.proofs.Common.{[], ◌∷◌}
+use Rattle.std.proofs.Common.{[], ◌∷◌, ◌++◌}
 use Rattle.tool_words.specs.Words.{ShowsUsage, ShowsVersion}
-use Rattle.tool_words.specs.Values.{job_of}
+use Rattle.tool_words.specs.Values.{job_of, plan_job_of}
+use Rattle.command_words.specs.Words.{names_by, names_in_blocks}
+use Rattle.command_words.specs.Values.{options_in}
 use Rattle.answer_lines.specs.Halts.{answer_of}
 use Rattle.tool_command.specs.ToolAnswers.{CommandAnswers}
-use Rattle.tool_command.specs.Endings.{names_for, names_of}
-use Rattle.tool_command.proofs.Lent.{all_left, all_right}
+use Rattle.tool_command.specs.Endings.{names_for, names_for_plan, names_behind, names_of}
+use Rattle.job_inputs.proofs.Lent.{all_left, all_right}
 use Rattle.tool_command.proofs.Wording.{over_all}
 use Rattle.tool_command.proofs.answered.to_asked.Goals as goal
 
 pub on_program-requires-clause-input : goal.on_program-requires-clause-input
 on_program-requires-clause-input g c =
     all_left (g.F.Shelf.lends c.args.shelf.now) (c.in-OnProgram.source.now ∷ c.in-OnProgram.mesh.now ∷ []) (names_for (job_of c.in-OnProgram.job))
-    (rw c.in-OnProgram.is at c.requires)
+    (rw c.in-OnProgram.is at c.requires.lent)
 
 pub on_program-requires-clause-own : goal.on_program-requires-clause-own
 on_program-requires-clause-own g c =
     all_right (g.F.Shelf.lends c.args.shelf.now) (c.in-OnProgram.source.now ∷ c.in-OnProgram.mesh.now ∷ []) (names_for (job_of c.in-OnProgram.job))
-    (rw c.in-OnProgram.is at c.requires)
+    (rw c.in-OnProgram.is at c.requires.lent)
 
 pub returns-in-OnProgram : goal.returns-in-OnProgram
 returns-in-OnProgram g c = rw c.in-OnProgram.is c.on_program.ensures
+
+pub on_plan-requires-clause-input : goal.on_plan-requires-clause-input
+on_plan-requires-clause-input g c =
+    all_left (g.F.Shelf.lends c.args.shelf.now) (c.in-OnPlan.source.now ∷ c.in-OnPlan.mesh.now ∷ [])
+    (names_behind (plan_job_of c.in-OnPlan.job) (options_in c.in-OnPlan.options)) (rw c.in-OnPlan.is at c.requires.lent)
+
+pub on_plan-requires-clause-parting : goal.on_plan-requires-clause-parting
+on_plan-requires-clause-parting g c =
+    let o = options_in c.in-OnPlan.options in
+    all_left (g.F.Shelf.lends c.args.shelf.now) (names_by o.parting) (names_in_blocks o.blocks)
+    (all_left (g.F.Shelf.lends c.args.shelf.now) (names_by o.parting ++ names_in_blocks o.blocks) (names_for_plan (plan_job_of c.in-OnPlan.job))
+    (all_right (g.F.Shelf.lends c.args.shelf.now) (c.in-OnPlan.source.now ∷ c.in-OnPlan.mesh.now ∷ [])
+    (names_behind (plan_job_of c.in-OnPlan.job) o) (rw c.in-OnPlan.is at c.requires.lent)))
+
+pub on_plan-requires-clause-blocks : goal.on_plan-requires-clause-blocks
+on_plan-requires-clause-blocks g c =
+    let o = options_in c.in-OnPlan.options in
+    all_right (g.F.Shelf.lends c.args.shelf.now) (names_by o.parting) (names_in_blocks o.blocks)
+    (all_left (g.F.Shelf.lends c.args.shelf.now) (names_by o.parting ++ names_in_blocks o.blocks) (names_for_plan (plan_job_of c.in-OnPlan.job))
+    (all_right (g.F.Shelf.lends c.args.shelf.now) (c.in-OnPlan.source.now ∷ c.in-OnPlan.mesh.now ∷ [])
+    (names_behind (plan_job_of c.in-OnPlan.job) o) (rw c.in-OnPlan.is at c.requires.lent)))
+
+pub on_plan-requires-clause-own : goal.on_plan-requires-clause-own
+on_plan-requires-clause-own g c =
+    let o = options_in c.in-OnPlan.options in
+    all_right (g.F.Shelf.lends c.args.shelf.now) (names_by o.parting ++ names_in_blocks o.blocks) (names_for_plan (plan_job_of c.in-OnPlan.job))
+    (all_right (g.F.Shelf.lends c.args.shelf.now) (c.in-OnPlan.source.now ∷ c.in-OnPlan.mesh.now ∷ [])
+    (names_behind (plan_job_of c.in-OnPlan.job) o) (rw c.in-OnPlan.is at c.requires.lent))
+
+pub returns-in-OnPlan : goal.returns-in-OnPlan
+returns-in-OnPlan g c = rw c.in-OnPlan.is c.on_plan.ensures
 
 pub returns-in_ok-done-in-Usage : goal.returns-in_ok-done-in-Usage
 returns-in_ok-done-in-Usage g c =

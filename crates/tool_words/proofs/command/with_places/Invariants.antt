@@ -1,6 +1,6 @@
 use Rattle.std.proofs.Common.{◌≡◌, false, map, length}
 use Rattle.clap.specs.Simple.{app_of}
-use Rattle.tool_words.specs.Words.{with_rules, positional}
+use Rattle.command_words.specs.Words.{with_rules, positional}
 use Rattle.tool_words.proofs.command.with_places.Given as goal
 
 -- with the words that are left it is the whole

@@ -1,0 +1,9 @@
+use Rattle.std.proofs.Common.{sym, subst}
+use Rattle.mesh_decl.specs.Owners.{AreOwners}
+use Rattle.bound_program.specs.Values.{bound_of}
+use Rattle.tool_command.proofs.owners.told.Goals as goal
+
+pub write_partition-requires : goal.write_partition-requires
+write_partition-requires c =
+    let spread = c.requires in
+    subst (AreOwners (bound_of c.args.bound.now).mesh) (sym spread.distributed.owners) spread.are_owners

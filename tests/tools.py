@@ -1,0 +1,68 @@
+#!/usr/bin/env python3
+"""Runs op2-tools on rows of words and files, and compares its status, its output and its line with what they must be.
+Ends with 1 where one differs.
+Usage: tests/tools.py [TOOLS]     (TOOLS a program, `op2-tools` of the repository where none is given)
+"""
+import pathlib, re, subprocess, sys, tempfile
+
+top = pathlib.Path(__file__).resolve().parent.parent
+tools = pathlib.Path(sys.argv[1] if len(sys.argv) > 1 else top / "op2-tools").resolve()
+examples = top / "examples"
+bad = tried = 0
+with tempfile.TemporaryDirectory() as name:
+    folder = pathlib.Path(name)
+    for file in ("residual.c", "residual.mesh", "residual.out"):
+        (folder / file).write_bytes((examples / file).read_bytes())
+
+    def row(words, status=0, out="", line="", **files):
+        """A call with these words, over further files, ends so."""
+        global bad, tried
+        tried += 1
+        for file, text in files.items():
+            (folder / file.replace("_", ".")).write_text(text)
+        done = subprocess.run([tools, *words.split()], cwd=folder, capture_output=True, timeout=120)
+        found = done.returncode, done.stdout.decode(), done.stderr.decode()
+        wanted = status, out, line and f"{line}\n" if line.startswith("op2: ") else line and f"op2-tools: {line}\n"
+        if found != wanted:
+            bad += 1
+            print(f"differs: {words}: {found} and not {wanted}")
+
+    both = "residual.c residual.mesh"
+
+    # words
+    row("", 2, line="usage")
+    row("none", 2, line="usage")
+    row("pick", 2, line="usage")
+    row(f"pick {both} residual.out r.txt --ranks 2", 2, line="usage")
+    row(f"pick {both} residual.out r.txt 0", 2, line="usage")
+    row(f"graph {both}", 2, line="usage")
+    row(f"graph {both} pe pe", 2, line="usage")
+    row(f"graph {both} pe --ranks 2", 2, line="usage")
+    row(f"owners {both} one", 2, line="usage")
+    row(f"owners {both} --schedule t", 2, line="usage")
+    row(f"owners {both} --ranks 65", 2, line="usage")
+    row(f"owners {both} --ranks 2 --ranks 2", 2, line="usage")
+    row(f"owners {both} --parts block --partition p", 2, line="usage")
+    row(f"owners {both} --block 2 --plan p", 2, line="usage")
+
+    # pick
+    row(f"pick {both} residual.out r.txt", out="r.txt: r nodes 3 1\n1\n1\n-2\n")
+    row(f"pick {both} residual.out r.txt 2", 20, line="pick 1 name r.txt")
+
+    # graph: nodes 0 and 1 share an edge, and so do 1 and 2
+    row(f"graph {both} pe", out="3 2\n2\n1 3\n2\n")
+    row(f"graph {both} x", 20, line="graph 1 name x")
+
+    # owners: the first half of three nodes is one, as that of two edges; by cuts along x the first node is below the others
+    halves = "op2part 1\nset nodes 3\n0 1 1\nset edges 2\n0 1\ndone\n"
+    row(f"owners {both}", out="op2part 1\nset nodes 3\n0 0 0\nset edges 2\n0 0\ndone\n")
+    row(f"owners {both} --ranks 2", out=halves)
+    row(f"owners {both} --ranks 2 --renumber pe --block 1", out=halves)
+    row(f"owners {both} --ranks 2 --partition p", out=halves, p="op2part 1 set edges 2 0 1 set nodes 3 0 1 1 done")
+    # an edge has the rank most frequent among its nodes, of equally frequent ones the lowest
+    row(f"owners {both} --ranks 2 --parts bisect:x", out="op2part 1\nset nodes 3\n0 1 1\nset edges 2\n0 1\ndone\n")
+    # what op2 refuses keeps its line
+    row(f"owners {both} --ranks 2 --parts grow:x", 7, line="op2: partition name x")
+    row(f"owners {both} --ranks 2 --partition none", 3, line="op2: cannot read none")
+print(f"{tried} rows, {bad} of them differ")
+sys.exit(1 if bad else 0)
