@@ -1,0 +1,5 @@
+pub mod Points
+pub mod Extents
+pub mod Labels
+pub mod ColourLemmas
+pub mod Whole
