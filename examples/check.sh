@@ -1,5 +1,5 @@
 #!/bin/sh
-# Runs each example and compares what it prints with NAME.out, and the example `sample2` with the sample on a grid of 2 times 2 cells;
+# Runs each example on one rank and on four, and compares what it prints with NAME.out, and the example `sample2` with the sample on a grid of 2 times 2 cells;
 # writes the mesh of `sample2` again, the plan of `heat` on two ranks, its translation, and its state before item 12; runs `heat` by that plan, and by one
 # with other blocks and colours, and in two halves, the second from that state on four ranks, and by chains. Each example is run once more as it is translated and restored.
 # Ends with the number of differences.
@@ -10,15 +10,26 @@ trap 'rm -rf "$work"' EXIT
 bad=0
 for out in "$here"/*.out; do
     name=${out%.out}
-    if ! "$op2" run "$name.c" "$name.mesh" | cmp -s - "$out"; then
-        echo "differs: $(basename "$name")" >&2
-        bad=$((bad + 1))
-    fi
+    for ranks in 1 4; do
+        if ! "$op2" run "$name.c" "$name.mesh" --ranks "$ranks" | cmp -s - "$out"; then
+            echo "differs: $(basename "$name") on $ranks ranks" >&2
+            bad=$((bad + 1))
+        fi
+    done
     "$op2" translate "$name.c" >"$work/stubs" && "$op2" restore "$work/stubs" >"$work/back.c"
     if ! "$op2" run "$work/back.c" "$name.mesh" | cmp -s - "$out"; then
         echo "differs: $(basename "$name"), translated and restored" >&2
         bad=$((bad + 1))
     fi
+done
+# The steps of docs/TUTORIAL.md, on one rank and on four.
+for out in "$here"/airfoil/*.out; do
+    for ranks in 1 4; do
+        if ! "$op2" run "${out%.out}.c" "$here/airfoil/airfoil.mesh" --ranks "$ranks" | cmp -s - "$out"; then
+            echo "differs: airfoil/$(basename "${out%.out}") on $ranks ranks" >&2
+            bad=$((bad + 1))
+        fi
+    done
 done
 if ! "$op2" sample 2 | cmp -s - "$here/sample2.out"; then
     echo 'differs: sample 2' >&2

@@ -90,6 +90,10 @@ for source in "$here"/examples/*.c "$here"/tests/compilers/*.c; do
     compare "$source" "$name.mesh" "$work/wanted" "$(basename "$name")"
 done
 
+for source in "$here"/examples/airfoil/*.c; do
+    compare "$source" "$here/examples/airfoil/airfoil.mesh" "${source%.c}.out" "airfoil/$(basename "${source%.c}")"
+done
+
 for side in 1 2 10; do
     "$op2" sample $side >"$work/wanted"
     write_grid $side >"$work/grid.mesh"

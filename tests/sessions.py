@@ -1,13 +1,15 @@
 #!/usr/bin/env python3
 """Runs the commands that stand in the pages, in a copy of what they name: each block of shell, whose output is compared with the block that follows it at
 once, and each session, in which commands begin with `$`. Ends with 1 where one differs, or fails where the page doesn't say so.
-Usage: tests/sessions.py [OP2]     (OP2 a program, `op2` of the repository where none is given)
+Usage: tests/sessions.py [OP2 [TOOLS]]     (programs; `op2` and `op2-tools` of the repository where none is given)
 """
 import pathlib, re, shutil, subprocess, sys, tempfile
 
 top = pathlib.Path(__file__).resolve().parent.parent
 op2 = pathlib.Path(sys.argv[1] if len(sys.argv) > 1 else top / "op2").resolve()
-pages = ["README.md", "docs/CHAINS.md", "docs/COMPILERS.md", "docs/OUTPUT.md", "docs/PORTING.md", "docs/STATEMENT.md", "examples/README.md"]
+tools = pathlib.Path(sys.argv[2] if len(sys.argv) > 2 else top / "op2-tools").resolve()
+pages = ["README.md", "examples/README.md"]
+pages += [f"docs/{page}.md" for page in ("CHAINS", "COMPILERS", "OUTPUT", "PORTING", "STATEMENT", "TOOLS", "TUTORIAL")]
 bad = tried = 0
 
 
@@ -29,8 +31,9 @@ with tempfile.TemporaryDirectory() as name:
     for part in ("examples", "include", "tools"):
         shutil.copytree(top / part, folder / part)
     (folder / "crates").symlink_to(top / "crates")
-    (folder / "op2").write_text(f'#!/bin/sh\nexec {op2} "$@"\n')
-    (folder / "op2").chmod(0o755)
+    for name, program in (("op2", op2), ("op2-tools", tools)):
+        (folder / name).write_text(f'#!/bin/sh\nexec {program} "$@"\n')
+        (folder / name).chmod(0o755)
     for page in pages:
         parts = re.split(r"^```(\w*)\n(.*?)^```\n", (top / page).read_text(), flags=re.M | re.S)
         for at in range(1, len(parts), 3):
@@ -45,6 +48,6 @@ with tempfile.TemporaryDirectory() as name:
                     compare(page, block, f"{status}", "0")
             elif not kind and block.startswith("$ "):
                 for command, wanted in re.findall(r"^\$ (.*)\n((?:(?!\$ ).*\n)*)", block, re.M):
-                    compare(page, command, run(folder, re.sub(r"^op2 ", "./op2 ", command))[1], wanted)
+                    compare(page, command, run(folder, re.sub(r"^(op2|op2-tools) ", r"./\1 ", command))[1], wanted)
 print(f"{tried} commands, {bad} differences")
 sys.exit(bad > 0)
