@@ -1,8 +1,15 @@
 #!/bin/sh
-# Times compiled kernels: the flux kernel of crates/flux_bench, for each of so many edges in place on whole arrays. Prints machine
-# instructions an edge, the loop over the edges included, where valgrind is there, and time.
-# Usage: bench/flux.sh [EDGES ..]     (1000000 2000000 4000000 where none is given)
+# Times the flux kernel in runs of one loop and of two, on the edges of a grid of N times N nodes and on as many of a triangulation whose
+# blocks take six colours and more: nanoseconds of the processor an edge, of a run less its check and of the second loop, and machine
+# instructions where there are at most 200,000 edges and valgrind is there, beside plain C by gcc -O2 where gcc is there. Then times
+# compiled kernels alone: the flux kernel of crates/flux_bench, for each of so many edges one after another in place on whole arrays.
+# Usage: bench/flux.sh [N ..]     (300 1000 where none is given)
 here=$(CDPATH= cd -- "$(dirname -- "$0")/.." && pwd) || exit 1
+work=$(mktemp -d) || exit 1
+trap 'rm -rf "$work"' EXIT
+"$here/op2" run "$here/examples/bump.c" "$here/examples/bump.mesh" >/dev/null || exit 1
+[ $# -gt 0 ] || set -- 300 1000
+python3 "$here/bench/flux.py" "$here/crates/op2_cli/out/op2_cli" "$work" 7 "$@" || exit 1
 program=$here/crates/flux_bench/out/flux_bench
 if [ ! -x "$program" ]; then
     echo 'building: each crate is proved first' >&2
@@ -16,8 +23,7 @@ if command -v valgrind >/dev/null; then
     some=$(count 100000)
     echo "$(((some - none) / 100000)) instructions an edge"
 fi
-[ $# -gt 0 ] || set -- 1000000 2000000 4000000
-for edges in "$@"; do
+for edges in 1000000 4000000; do
     python3 - "$program" "$edges" <<'PY'
 import subprocess, sys, time
 program, edges = sys.argv[1:]
