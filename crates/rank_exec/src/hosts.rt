@@ -58,7 +58,8 @@ fn dat_values(
         (λ v. (f : Flat KernelFault) → Shows (setup_in program.now) (layout_in program.now) (tables_in program.now) machine.now f
         → v.items ≡ map (owned (setup_in program.now) (layout_in program.now) f) (dat_cells (program_in program.now) dat)) }
     ensures count { IfOk result (λ v. length v.items
-        ≡ set_size (program_in program.now).mesh (dat_set (program_in program.now).mesh dat) * dat_dim (program_in program.now).mesh dat) }
+        ≡ set_size (program_in program.now).mesh (dat_set (program_in program.now).mesh dat)
+        * dat_dim (program_in program.now).mesh dat) }
 {
     let mesh = &program.bound.mesh;
     mesh.dat_count();

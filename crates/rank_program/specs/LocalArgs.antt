@@ -1,5 +1,6 @@
 -- The arguments of a loop on dats by a rank's local numbers.
-use Rattle.std.specs.Prelude.{ℕ, ◌≡◌, ◌+◌, ◌*◌, ◌<◌, ◌≤◌, ◌^◌, List, [], ◌∷◌, Option, Some, None, length, get_or, slice_index}
+use Rattle.std.specs.Prelude.{ℕ, ◌≡◌, ◌+◌, ◌*◌, ◌<◌, ◌≤◌, ◌^◌, List, [], ◌∷◌, Option, Some, None}
+use Rattle.std.specs.Prelude.{length, get_or, slice_index}
 use Rattle.views.specs.declared.frame.Place.{Place}
 use Rattle.mesh_decl.specs.declared.access.Via.{Via}
 use Rattle.mesh_decl.specs.Mesh.{MeshValue, dat_dim}
@@ -36,7 +37,8 @@ module _ (g : MeshValue) (m : RankMesh) where
   -- where the rank has the map's targets for a place, the local map leads where the map does; there is none for no map
   abbrev pub IsVia : Option Via → Option LocalVia → Type 0
   IsVia via local =
-      (via ≡ None → local ≡ None) × ((x : ℕ) → ViaHere g m x via → HasTarget local x × (local_in local x ≡ local_by g m x via))
+      (via ≡ None → local ≡ None)
+      × ((x : ℕ) → ViaHere g m x via → HasTarget local x × (local_in local x ≡ local_by g m x via))
 
   -- it finds the argument's cells: where the dat begins in the rank's buffer, how many each element has, and how they are reached; there
   -- is none for an argument on a variable

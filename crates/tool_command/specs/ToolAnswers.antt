@@ -85,7 +85,8 @@ GraphAnswers map b a =
 abbrev pub OwnersTold : BoundValue → Owners → Answer → Type 0
 OwnersTold b u a =
     ((a ≡ done (partition_text b.mesh u.sets.items)) × Spells b.mesh u.ranks (partition_text b.mesh u.sets.items) u.sets.items)
-    ⊎ ((s : ℕ) × (s < set_count b.mesh) × ¬ HasName b.mesh s × (a ≡ refused_by_tool (codes "owners 1 name " ++ set_name b.mesh s)))
+    ⊎ ((s : ℕ) × (s < set_count b.mesh) × ¬ HasName b.mesh s
+    × (a ≡ refused_by_tool (codes "owners 1 name " ++ set_name b.mesh s)))
 
 -- ---- the whole
 
