@@ -2,7 +2,7 @@ pub mod SeenSoFar
 pub mod Putting
 pub mod SiteArgs
 pub mod Widest
-pub mod FrameRows
+pub mod TableRows
 pub mod FlatMaps
 pub mod SlotNumbers
 pub mod ScalarLists

@@ -1,6 +1,6 @@
 -- The tables of a machine are those of its program.
 use Rattle.std.specs.Prelude.{◌≡◌, ◌<◌, ◌≤◌, ℕ, Bool, true, false, List, [], ◌∷◌, Vec, map, length, sum_by, get_or, slice_index_or, Some}
-use Rattle.std.specs.Prelude.{None, IfSome}
+use Rattle.std.specs.Prelude.{None}
 use Rattle.std.specs.declared.alloc.Global.{Global}
 use Rattle.kernel_types.specs.declared.kernels.RKernel.{RKernel}
 use Rattle.fault_order.specs.Effects.{faults_first}
@@ -29,7 +29,6 @@ use Rattle.bound_plan.specs.Variables.{variable_at, reduces_at}
 use Rattle.bound_plan.specs.Windows.{on_variables}
 use Rattle.rank_layout.specs.Tables.{tables_of, slots, no_slot}
 use Rattle.rank_layout.specs.Exports.{exported_locals}
-use Rattle.rank_layout.specs.Frames.{AreFrameWindows}
 use Rattle.rank_layout.specs.declared.tables.MachineTables.{MachineTables}
 
 -- the list at place s of a list of lists
@@ -89,8 +88,6 @@ pub record AreMade (b : BoundValue) (o : Owners) (p : PlanValue) (lists : List L
   pub writes : (s : ℕ) → s < length b.sites → row_of t.writes.items s ≡ map (writes_by (site_at b s).args) (site_at b s).args
   pub fault_count : length t.faults_first.items ≡ length b.sites
   pub faults_first : (s : ℕ) → s < length b.sites → FaultsFirst b (site_at b s) (get_or t.faults_first.items s false)
-  pub frame_count : length t.frames.items ≡ length b.sites
-  pub frames : (s : ℕ) → s < length b.sites → IfSome (get_or t.frames.items s None) (AreFrameWindows b (site_at b s))
   pub place_count : length t.places.items ≡ o.ranks
   pub places : (r : ℕ) → r < o.ranks → get_or t.places.items r 0 ≡ (tables_of b p).places r
   pub stride : t.stride ≡ (tables_of b p).stride

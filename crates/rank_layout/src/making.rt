@@ -10,7 +10,6 @@ ghost use Rattle.rank_layout.specs.Made.{HaveRoom, AreMade};
 
 use crate::constant_table::constant_table;
 use crate::fault_table::loop_faults_first;
-use crate::frame_table::frame_table;
 use crate::place_table::place_table;
 use crate::scalar_tables::{loop_indices, loop_scalars};
 use crate::tables::MachineTables;
@@ -27,8 +26,7 @@ impl MachineTables {
     /// The tables of a bound program on several ranks with its plan; `spans` is enough for the spans of an element's
     /// frame and of each message. All variables together have fewer than 2^64 cells.
     ///
-    /// It takes time linear in the program's arguments and their cells, in the elements of its loops, and in its Free loops times
-    /// the ranks.
+    /// It takes time linear in the program's arguments and their cells, and in its Free loops times the ranks.
     ///
     /// # Errors
     /// Want of memory alone.
@@ -53,7 +51,6 @@ impl MachineTables {
         let constants = constant_table(alloc, bound, &starts)?;
         let writes = loop_writes(alloc, bound)?;
         let faults_first = loop_faults_first(alloc, bound)?;
-        let frames = frame_table(alloc, bound)?;
         let places = place_table(alloc, plan, owners.ranks)?;
         Ok(MachineTables {
             constants,
@@ -63,7 +60,6 @@ impl MachineTables {
             indices,
             writes,
             faults_first,
-            frames,
             places,
             stride: stride(bound),
             spans,

@@ -4,14 +4,6 @@ ghost use Rattle.std.specs.Prelude.{◌≡◌, ◌<◌, length};
 ghost use Rattle.rank_layout.specs.Made as the;
 
 use rank_state::{Operation, Scalar};
-use views::Place;
-
-/// Where the windows of a loop's arguments stand, by argument, in the frames of its elements that have so many cells.
-#[derive(Drop)]
-pub struct FrameWindows {
-    pub cells: usize,
-    pub places: Vec<Place>,
-}
 
 /// Tables of a bound program on several ranks with its plan. A variable's cell goes by its number among the cells of all
 /// variables.
@@ -31,8 +23,6 @@ pub struct MachineTables {
     pub writes: Vec<Vec<bool>>,
     /// By loop, whether no part of its kernel that may fault can run after a store through an argument.
     pub faults_first: Vec<bool>,
-    /// By loop, where its arguments' windows stand in frames that are alike.
-    pub frames: Vec<Option<FrameWindows>>,
     /// The most places of a loop, by rank.
     pub places: Vec<usize>,
     /// The most cells of an element's frame.

@@ -1,6 +1,6 @@
 // A kernel's run on an element's frame.
 
-ghost use Rattle.std.specs.Prelude.{◌≡◌, ◌<◌, ◌≤◌, [], ◌∷◌, IfSome, length};
+ghost use Rattle.std.specs.Prelude.{◌≡◌, ◌<◌, ◌≤◌, [], ◌∷◌, length};
 ghost use Rattle.kernel_types.specs.Resolved.{IsResolved};
 ghost use Rattle.kernel_model.specs.Meaning.{kernel_meaning};
 ghost use Rattle.kernel_code.specs.Coded.{IsCode};
@@ -10,7 +10,6 @@ ghost use Rattle.bound_program.specs.Values.{bound_of, site_of};
 ghost use Rattle.bound_program.specs.Fits.{SiteFits};
 ghost use Rattle.rank_state.specs.Core.{ran_of};
 ghost use Rattle.bound_plan.specs.Windows.{frame_cells, frame_windows};
-ghost use Rattle.rank_layout.specs.Frames.{AreFrameWindows};
 ghost use Rattle.rank_program.specs.Sound.{Takes, layout_in};
 
 use crate::items::loop_of;
@@ -18,11 +17,12 @@ use crate::program::DistributedProgram;
 use bound_program::{Bound, Site};
 use kernel_code::{Code, run_on};
 use kernel_types::KernelFault;
-use rank_layout::{FrameWindows, MAX_ARGS, put_windows};
+use rank_layout::{MAX_ARGS, put_windows};
 use views::Place;
 
-// Runs a loop's kernel on the windows of an element's frame, wherever they stand.
-fn run_anywhere(
+// Runs a loop's kernel for an element on the windows of its frame, with the values of all constants. An error is the first fault
+// of the run.
+fn run_framed(
     bound: &Bound,
     site: &Site,
     code: &Code<'_>,
@@ -48,38 +48,6 @@ fn run_anywhere(
     run_on(code, windows, places, constants, scratch)
 }
 
-// Runs a loop's kernel for an element on the windows of its frame, with the values of all constants. `frames` says where the
-// windows stand in the loop's frames that are alike. An error is the first fault of the run.
-fn run_framed(
-    bound: &Bound,
-    site: &Site,
-    frames: &Option<FrameWindows>,
-    code: &Code<'_>,
-    element: u32,
-    constants: &[i32],
-    windows: &mut [i32],
-    scratch: &mut [i32],
-) -> Result<(), KernelFault>
-    requires site { SiteFits (bound_of bound.now) (site_of site.now) }
-    requires frames { IfSome frames.now (AreFrameWindows (bound_of bound.now) (site_of site.now)) }
-    requires element { element < set_size bound.now.mesh site.now.set }
-    requires code { IsCode code.now }
-    requires params { length site.now.args.items ≡ code.now.kernel.now.params }
-    requires resolved { IsResolved (length constants.now) code.now.kernel.now }
-    requires windows { length windows.old ≡ length (frame_cells (bound_of bound.now) site.now.args.items element) }
-    requires scratch { code.now.slots ≤ length scratch.old }
-    ensures { ran_of windows.new result
-        ≡ core_of (kernel_meaning (frame_windows (bound_of bound.now) site.now.args.items element) constants.now code.now.kernel.now
-        (windows.old ∷ [])) }
-{
-    if let Some(found) = frames {
-        if found.cells == windows.len() {
-            return run_on(code, windows, &found.places, constants, scratch);
-        }
-    }
-    run_anywhere(bound, site, code, element, constants, windows, scratch)
-}
-
 /// Runs the kernel of the loop that is the item for an element, with the values of all constants, on the cells of its windows, one
 /// window behind another. What the run leaves in `scratch`, the room for locals, means nothing. Takes no memory.
 ///
@@ -101,12 +69,10 @@ pub fn run_kernel(
     run_model::constants_are_read();
     let number = loop_of(program.bound, item) as usize;
     let site = &program.bound.sites[number];
-    let frames = &program.tables.frames[number];
     let code = &program.codes[site.kernel as usize];
     run_framed(
         program.bound,
         site,
-        frames,
         code,
         element,
         constants,

@@ -4,7 +4,7 @@ use Rattle.bound_program.specs.declared.sites.Site.{Site}
 use Rattle.bound_program.specs.Values.{SiteValue, bound_of}
 use Rattle.bound_program.specs.Fits.{site_at}
 use Rattle.rank_layout.specs.Made.{FaultsFirst}
-use Rattle.rank_layout.proofs.FrameRows.{one_entry}
+use Rattle.rank_layout.proofs.TableRows.{one_entry}
 use Rattle.rank_layout.proofs.Widest.{site_fits_at, site_at as site_read}
 use Rattle.rank_layout.proofs.fault_table.loop_faults_first.Goals as goal
 

@@ -1,12 +1,7 @@
-use Rattle.std.proofs.Common.{◌≡◌, ◌<◌, length, get_or, refl, sym, ap, subst, ◌∙◌, arith}
-use Rattle.std.specs.Prelude.{Option, None, IfSome}
-use Rattle.std.proofs.lemmas.List.{get_or_default, length-map}
+use Rattle.std.proofs.Common.{◌<◌, length, get_or, refl, sym, ap, subst, ◌∙◌, arith}
 use Rattle.mesh_decl.specs.Mesh.{set_size}
 use Rattle.bound_program.specs.Values.{SiteValue, bound_of, site_of}
-use Rattle.bound_program.specs.Fits.{site_at}
 use Rattle.bound_plan.specs.Windows.{frame_cells, core_with, site_core}
-use Rattle.rank_layout.specs.declared.tables.FrameWindows.{FrameWindows}
-use Rattle.rank_layout.specs.Frames.{AreFrameWindows}
 use Rattle.rank_program.proofs.ItemParts.{takes, kernel_of, resolved}
 use Rattle.rank_program.proofs.ProgramRun.{site_there, site_same, site_fit, code_there}
 use Rattle.rank_program.proofs.kernel_run.run_kernel.Goals as goal
@@ -18,14 +13,6 @@ index-site-requires c =
     let lt = site_there b t.sound.planned.fits c.items_are_there.ensures.loops c.args.item c.loop_of-number.result t.is_loop c.loop_of-number.ensures
     c.args.program.now.bound.now.sites.items refl in
     omega (arith, lt)
-
-pub index-frames-requires : goal.index-frames-requires
-index-frames-requires c =
-    let b = bound_of c.args.program.now.bound.now in
-    let t = c.requires.takes in
-    let lt = site_there b t.sound.planned.fits c.items_are_there.ensures.loops c.args.item c.loop_of-number.result t.is_loop c.loop_of-number.ensures
-    c.args.program.now.bound.now.sites.items refl in
-    omega (arith, lt, t.sound.made.frame_count, length-map c.args.program.now.bound.now.sites.items site_of)
 
 pub bounds-program-site : goal.bounds-program-site
 bounds-program-site c =
@@ -40,24 +27,6 @@ run_framed-requires-clause-site c =
     let t = c.requires.takes in
     site_fit b t.sound.planned.fits c.items_are_there.ensures.loops c.args.item c.loop_of-number.result t.is_loop c.loop_of-number.ensures
     c.args.program.now.bound.now.sites.items refl c.index-site.result.now c.index-site.ensures
-
-pub run_framed-requires-clause-frames : goal.run_framed-requires-clause-frames
-run_framed-requires-clause-frames c =
-    let b = bound_of c.args.program.now.bound.now in
-    let t = c.requires.takes in
-    let x = c.index-site.result.now in
-    let f = c.args.program.now.tables.frames.items in
-    let n = c.loop_of-number.result in
-    let there = site_there b t.sound.planned.fits c.items_are_there.ensures.loops c.args.item n t.is_loop c.loop_of-number.ensures
-    c.args.program.now.bound.now.sites.items refl in
-    let ls : n < length b.sites = omega (arith, there, length-map c.args.program.now.bound.now.sites.items site_of) in
-    let lf : n < length f = omega (arith, ls, t.sound.made.frame_count) in
-    let same = site_same b t.sound.planned.fits c.items_are_there.ensures.loops c.args.item n t.is_loop c.loop_of-number.ensures
-    c.args.program.now.bound.now.sites.items refl x c.index-site.ensures in
-    let at : site_at b n ≡ site_of x = ap (λ m. site_at b m) c.loop_of-number.ensures ∙ same in
-    let read : get_or f n None ≡ c.index-frames.result.now = get_or_default f n None c.index-frames.result.now lf ∙ sym c.index-frames.ensures in
-    subst (λ (s : SiteValue). IfSome c.index-frames.result.now (AreFrameWindows b s)) at
-    (subst (λ (o : Option FrameWindows). IfSome o (AreFrameWindows b (site_at b n))) read (t.sound.made.frames n ls))
 
 pub run_framed-requires-clause-element : goal.run_framed-requires-clause-element
 run_framed-requires-clause-element c =

@@ -5,7 +5,7 @@ use Rattle.bound_program.specs.Values.{bound_of, site_of}
 use Rattle.bound_plan.specs.Windows.{frame_windows}
 use Rattle.rank_layout.specs.Numbered.{ArgThere}
 use Rattle.rank_program.proofs.KernelRun.{args_there, as_core}
-use Rattle.rank_program.proofs.kernel_run.run_anywhere.Goals as goal
+use Rattle.rank_program.proofs.kernel_run.run_framed.Goals as goal
 
 pub put_windows-cells-requires-clause-there : goal.put_windows-cells-requires-clause-there
 put_windows-cells-requires-clause-there c =
