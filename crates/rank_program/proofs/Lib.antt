@@ -21,7 +21,13 @@ pub mod AloneRuns
 pub mod FromNone
 mod JobWindows
 mod RowArgs
+mod RowWays
 mod InRows
+mod ArgColumns
 mod RowScalars
+mod ArgPlaces
+mod LoopArgs
+mod LoopVariables
+mod TableFronts
 mod RowLoopsMade
 mod BatchRuns

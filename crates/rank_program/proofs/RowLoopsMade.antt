@@ -1,10 +1,8 @@
 -- A loop on a rank whose tables are made runs in rows.
-use Rattle.std.proofs.Common.{◌≡◌, ◌≢◌, ◌<◌, ◌≤◌, ◌+◌, ◌-◌, ◌*◌, ◌⊎◌, inl, inr, ℕ, zero, suc, true, false, List, [], ◌∷◌, map, length, get_or, Option, Some, None, refl, sym, ap, ap₂, ◌∙◌, subst, ⊎_elim, arith}
-use Rattle.std.specs.Prelude.{slice_index, ◌^◌, IfSome}
-use Rattle.std.proofs.Math.Nat.{suc-mul}
+use Rattle.std.proofs.Common.{◌≡◌, ◌≢◌, ◌<◌, ◌≤◌, ◌+◌, ◌-◌, ◌*◌, ◌⊎◌, inl, inr, ℕ, true, List, map, length, get_or, Option, Some, None, refl, sym, ap, ap₂, ◌∙◌, subst, ⊎_elim, arith}
+use Rattle.std.specs.Prelude.{slice_index}
 use Rattle.std.proofs.lemmas.Bool.{cases_lt, cases_eq}
 use Rattle.std.proofs.lemmas.List.{get_or-map, get_or_past, length-map}
-use Rattle.reductions.specs.declared.access.Access.{Access}
 use Rattle.reductions.specs.Access.{OpRead, OpReduce, access_of}
 use Rattle.mesh_decl.specs.declared.access.Via.{Via}
 use Rattle.mesh_decl.specs.Mesh.{dat_dim}
@@ -13,100 +11,49 @@ use Rattle.views.specs.Framed.{target_of, no_place, PlacesIn}
 use Rattle.kernel_model.specs.Meaning.{Target, target_at}
 use Rattle.kernel_model.specs.Obeys.{Mode, mode_at, no_mode, KernelObeys}
 use Rattle.kernel_model.specs.Independence.{access, dim}
-use Rattle.schedule_model.specs.Cells.{Cell, Data, Variable, DatCell}
+use Rattle.schedule_model.specs.Cells.{Cell, Variable}
 use Rattle.element_runs.specs.OnWindows.{no_cell}
 use Rattle.local_mesh.specs.declared.types.RankMesh.{RankMesh}
 use Rattle.bound_program.specs.declared.sites.Arg.{Arg}
-use Rattle.bound_program.specs.declared.sites.Arg.TheVariants.{Dat, Global}
+use Rattle.bound_program.specs.declared.sites.Arg.TheVariants.{Global}
 use Rattle.bound_program.specs.Fits.{SiteFits, ArgFits, var_at}
 use Rattle.bound_program.specs.Values.{BoundValue, SiteValue}
 use Rattle.run_model.specs.Arguments.{no_arg, arg_width, access_by, mode_of, modes_of, var_width}
 use Rattle.run_model.specs.Programs.{item_at, loop_of}
-use Rattle.run_model.specs.Windows.{reached, cell_in}
 use Rattle.run_model.specs.Laws as the
 use Rattle.run_model.proofs.Windows.{is_argument}
 use Rattle.bound_plan.specs.Laws.{FramesAreReached}
 use Rattle.bound_plan.specs.Places.{original_at, cell_at}
 use Rattle.bound_plan.specs.Variables.{variable_at}
-use Rattle.bound_plan.proofs.Trace.{class_is}
-use Rattle.rank_state.specs.Windows.{scalar_cells}
 use Rattle.kernel_columns.specs.declared.columns.TheConstants.{ROWS}
 use Rattle.rank_layout.specs.Made.{EachIsScalar}
-use Rattle.row_batches.specs.declared.rows.RowColumn.{RowColumn}
 use Rattle.row_batches.specs.declared.rows.RowLoop.{RowLoop}
 use Rattle.row_batches.specs.Ways.{local_in}
-use Rattle.row_batches.specs.RowLoops.{AllowsScalar, scalar_in, width, column_access, OnDat, OnVariable, NeverMeet, ReduceApart, RunsInRows, IsModified, MergeAlike, no_column}
+use Rattle.row_batches.specs.RowLoops.{AllowsScalar, scalar_in, width, column_access, OnDat, OnVariable, NeverMeet, ReduceApart, RunsInRows, IsModified, MergeAlike}
 use Rattle.batch_tables.specs.declared.args.LocalArg.{LocalArg}
-use Rattle.batch_tables.specs.Alike.{arg_in, same_column}
-use Rattle.batch_tables.specs.Tables.{place_at, local_at, scalar_place, no_pair, ArePairs, AreColumns}
-use Rattle.rank_layout.specs.DatWindows.{local_by, ArgHere}
+use Rattle.batch_tables.specs.Alike.{arg_in}
+use Rattle.batch_tables.specs.Tables.{place_at, local_at, scalar_place}
+use Rattle.rank_layout.specs.DatWindows.{local_by}
 use Rattle.rank_layout.specs.StepLaws.{IsBegin, StepsStand}
-use Rattle.rank_layout.specs.WindowLaws.{arg_span, IsPlaceOf, ArgsAreHere, ArgsHaveCells, ElementWindowsStand}
+use Rattle.rank_layout.specs.WindowLaws.{ArgsAreHere, ArgsHaveCells, ElementWindowsStand}
 use Rattle.rank_program.specs.declared.program.DistributedProgram.{DistributedProgram}
 use Rattle.rank_program.specs.declared.local_loops.LocalLoop.{LocalLoop}
 use Rattle.rank_program.specs.Rooms.{most_ways, most_columns}
 use Rattle.rank_program.specs.Batches.{BeginsAt, IsRowLoop}
 use Rattle.rank_program.specs.Here.{scalars_in}
-use Rattle.rank_program.specs.LocalArgs.{IsVia, IsArg, place_in, places_in}
-use Rattle.rank_program.specs.LocalLoops.{IsLocalLoop, VariablesStand, StandsBehind}
-use Rattle.rank_program.specs.Sound.{Sound, program_in, plan_in, layout_in}
-use Rattle.rank_program.proofs.BegunParts.{begins}
-use Rattle.rank_program.proofs.HereParts.{site_fits, windows_here, dat_spans}
-use Rattle.rank_program.proofs.Behind.{scalars_count, one_scalar}
-use Rattle.rank_program.proofs.RowArgs.{are_same_column}
+use Rattle.rank_program.specs.LocalArgs.{IsArg, place_in, places_in}
+use Rattle.rank_program.specs.LocalLoops.{IsLocalLoop, VariablesStand}
+use Rattle.rank_program.specs.Sound.{Sound, program_in, plan_in}
+use Rattle.rank_program.proofs.HereParts.{windows_here, dat_spans}
+use Rattle.rank_program.proofs.Behind.{one_scalar}
 use Rattle.rank_program.proofs.RowScalars.{allows, alike, reducer}
-use Rattle.rank_program.proofs.InRows.{IsOn, AreOn, AreTables, Owner, owner, meets, apart, modifier, stored_direct, has_dim, stands, room, is_whole, leads_from}
-
--- ---- places
-
-pub target_is : (ps : List Place) (a : ℕ) → target_at (map target_of ps) a ≡ target_of (place_at ps a)
-target_is [] a = refl
-target_is (p ∷ ps) zero = refl
-target_is (p ∷ ps) (suc a) = target_is ps a
-
-pub put_at : (x : ℕ) (ls : List (Option LocalArg)) (ps : List Place) (a : ℕ) → length ps ≡ length ls
-    → place_at (places_in x ls ps) a ≡ place_in x (get_or ls a None) (place_at ps a)
-put_at x [] [] a e = refl
-put_at x [] (p ∷ ps) a e = absurd (omega (arith, e))
-put_at x (l ∷ ls) [] a e = absurd (omega (arith, e))
-put_at x (l ∷ ls) (p ∷ ps) zero e = refl
-put_at x (l ∷ ls) (p ∷ ps) (suc a) e = put_at x ls ps a (omega (arith, e))
-
--- an argument on a dat, and what its local one is
-record IsLocal (g : _) (m : RankMesh) (x : Arg) (y : LocalArg) : Type 0 where
-  dat : ℕ
-  via : Option Via
-  access : Access
-  is : x ≡ Dat dat via access
-  base : y.base ≡ slice_index m.bases.items dat
-  dim : y.dim ≡ dat_dim g dat
-  leads : IsVia g m via y.via
-
-local_is : (g : _) (m : RankMesh) (x : Arg) (l : Option LocalArg) → IsArg g m x l → (y : LocalArg) → l ≡ Some y → IsLocal g m x y
-local_is g m (Dat d v a) None h y e = absurd h
-local_is g m (Dat d v a) (Some z) h y e =
-    let same : z ≡ y = cc in
-    subst (IsLocal g m (Dat d v a)) same (record { dat = d; via = v; access = a; is = refl; base = h.0; dim = h.1; leads = h.2 })
-local_is g m (Global v a) None h y e = let gone : ⊥ = cc in absurd gone
-local_is g m (Global v a) (Some z) h y e = absurd h
-
-dat_local : (g : _) (m : RankMesh) (x : Arg) (l : Option LocalArg) → IsArg g m x l → (d : ℕ) (v : Option Via) (a : Access) → x ≡ Dat d v a → (y : LocalArg) × (l ≡ Some y)
-dat_local g m (Dat d v a) None h e w b is = absurd h
-dat_local g m (Dat d v a) (Some z) h e w b is = (z, refl)
-dat_local g m (Global v a) l h e w b is = let gone : ⊥ = cc in absurd gone
-
-global_is : (g : _) (m : RankMesh) (x : Arg) (l : Option LocalArg) → IsArg g m x l → l ≡ None → (v : ℕ) × (a : Access) × (x ≡ Global v a)
-global_is g m (Dat d v a) None h e = absurd h
-global_is g m (Dat d v a) (Some z) h e = let gone : ⊥ = cc in absurd gone
-global_is g m (Global v a) l h e = (v, a, refl)
-
-global_local : (g : _) (m : RankMesh) (x : Arg) (l : Option LocalArg) → IsArg g m x l → (v : ℕ) (a : Access) → x ≡ Global v a → l ≡ None
-global_local g m (Dat d w b) l h v a e = let gone : ⊥ = cc in absurd gone
-global_local g m (Global w b) None h v a e = refl
-global_local g m (Global w b) (Some z) h v a e = absurd h
-
-one_cell : (c d : DatCell) → Data c ≡ Data d → c.dat ≡ d.dat
-one_cell c d h = let same : c ≡ d = cc in ap (λ (z : DatCell). z.dat) same
+use Rattle.rank_program.proofs.ArgPlaces.{target_is, put_at, global_local}
+use Rattle.rank_program.proofs.RowWays.{IsOn, AreOn, AreTables}
+use Rattle.rank_program.proofs.InRows.{Owner, owner, meets, apart, modifier, stored_direct, has_dim, is_whole, leads_from}
+use Rattle.rank_program.proofs.ArgColumns.{stands, room}
+use Rattle.rank_program.proofs.LoopArgs as its
+use Rattle.rank_program.proofs.LoopVariables.{BehindAt}
+use Rattle.rank_program.proofs.LoopVariables as stood
 
 module _ (l : LocalLoop) (sound : Sound l.program.now) (is : IsLocalLoop l) (stand : StepsStand) (here : ArgsAreHere) (have : ArgsHaveCells)
     (windows : ElementWindowsStand) (frames : FramesAreReached) (first : ℕ) (step : BeginsAt l first) where
@@ -138,99 +85,19 @@ module _ (l : LocalLoop) (sound : Sound l.program.now) (is : IsLocalLoop l) (sta
   reach x v = local_by b.mesh m x v
 
   begun : (x : ℕ) → BeginsAt l x → IsBegin b c.owners.now c.meshes.now (plan_in c) l.item l.rank x
-  begun x at = begins c sound stand l.item l.rank x at
-
-  at_place : (x : ℕ) → BeginsAt l x → IsPlaceOf b c.owners.now c.meshes.now (loop_of (item_at b l.item)) l.rank x m
-  at_place x at = let begin = begun x at in record { loop = begin.loop; rank = begin.rank; place = begin.executed; part = is.part }
+  begun = its.begun l sound is stand here have windows frames first step
 
   fits : SiteFits b site
-  fits = site_fits c sound stand l.item l.rank first step
-
-  there_of : (a : ℕ) → a < length args → a < length locals
-  there_of a lt = let n = is.args.0 in omega (arith, n, lt)
+  fits = its.fits l sound is stand here have windows frames first step
 
   arg_is : (a : ℕ) → a < length args → IsArg b.mesh m (arg_in args a) (local_at args locals a)
-  arg_is a lt = is.args.1 a no_arg None lt
-
-  arg_here : (x : ℕ) → BeginsAt l x → (a : ℕ) → a < length args → ArgHere b.mesh m x (arg_in args a)
-  arg_here x at a lt = here b c.owners.now sound.numbers c.meshes.now (plan_in c) sound.planned (loop_of (item_at b l.item)) l.rank x m (at_place x at) a no_arg lt
+  arg_is = its.arg_is l sound is stand here have windows frames first step
 
   on_arg : (a : ℕ) (y : LocalArg) → a < length args → local_at args locals a ≡ Some y → IsOn args locals (BeginsAt l) m.cells base_of dim_of reach a y
-  on_arg a y lt own =
-      let k = local_is b.mesh m (arg_in args a) (local_at args locals a) (arg_is a lt) y own in
-      record {
-        dat = k.dat;
-        via = k.via;
-        access = k.access;
-        there = lt;
-        local = own;
-        is = k.is;
-        base = k.base;
-        dim = k.dim;
-        direct = k.leads.0;
-        target = λ x at. (k.leads.1 x (dat_here x at k.dat k.via k.access k.is).2).0;
-        leads = λ x at. (k.leads.1 x (dat_here x at k.dat k.via k.access k.is).2).1;
-        inside = λ x at.
-            let h = dat_here x at k.dat k.via k.access k.is in
-            let lead = (k.leads.1 x h.2).1 in
-            subst (λ n. n ≤ m.cells) (sym (ap₂ (λ n d. n + d) k.base (ap₂ (λ n d. (n + 1) * d) lead k.dim))) h.3;
-      }
-    where
-      dat_here : (x : ℕ) → BeginsAt l x → (d : ℕ) (v : Option Via) (acc : Access) → arg_in args a ≡ Dat d v acc → ArgHere b.mesh m x (Dat d v acc)
-      dat_here x at d v acc e = subst (ArgHere b.mesh m x) e (arg_here x at a lt)
-
-  -- a cell of an argument on a dat is of the dat
-  cell_dat : (a : ℕ) (y : LocalArg) (p : IsOn args locals (BeginsAt l) m.cells base_of dim_of reach a y) (x i : ℕ) → BeginsAt l x → i < y.dim
-      → (cell_at c.meshes.now b.mesh l.rank (y.base + local_in y.via x * y.dim + i)).dat ≡ p.dat
-  cell_dat a y p x i at lt =
-      let all = have b c.owners.now sound.numbers c.meshes.now (plan_in c) sound.planned (loop_of (item_at b l.item)) l.rank x m (λ z. false) (at_place x at) a no_arg p.there in
-      let e = original_at c.meshes.now l.rank site.set x in
-      let own : (j : ℕ) → j < (arg_span b.mesh m x (λ z. false) (Dat p.dat p.via p.access)).dim
-      → Data (cell_at c.meshes.now b.mesh l.rank ((arg_span b.mesh m x (λ z. false) (Dat p.dat p.via p.access)).at + j)) ≡ cell_in (reached b e (Dat p.dat p.via p.access)) j
-      = subst (λ z. (j : ℕ) → j < (arg_span b.mesh m x (λ w. false) z).dim
-      → Data (cell_at c.meshes.now b.mesh l.rank ((arg_span b.mesh m x (λ w. false) z).at + j)) ≡ cell_in (reached b e z) j) p.is all in
-      let at_cell : y.base + local_in y.via x * y.dim ≡ base_of p.dat + reach x p.via * dim_of p.dat =
-      ap₂ (λ n d. n + d) p.base (ap₂ (λ n d. n * d) (p.leads x at) p.dim) in
-      ap (λ n. (cell_at c.meshes.now b.mesh l.rank (n + i)).dat) at_cell
-      ∙ one_cell (cell_at c.meshes.now b.mesh l.rank (base_of p.dat + reach x p.via * dim_of p.dat + i)) _ (own i (let d = p.dim in omega (arith, lt, d)))
+  on_arg = its.on_arg l sound is stand here have windows frames first step
 
   are_on : AreOn args locals (BeginsAt l) m.cells base_of dim_of reach
-  are_on = record {
-    on = on_arg;
-    local = λ a d v acc lt e. dat_local b.mesh m (arg_in args a) (local_at args locals a) (arg_is a lt) d v acc e;
-    one_dat = λ p q y z o r x u i j atx atu li lj same.
-        sym (cell_dat p y o x i atx li) ∙ ap (λ n. (cell_at c.meshes.now b.mesh l.rank n).dat) same ∙ cell_dat q z r u j atu lj;
-    free = sym fits.class ∙ class_is b None b.trace l.item sound.planned.fits.items (begun first step).free;
-  }
-
-  -- what the makers of columns ask of the arguments, as they are read
-  module _ (xs : List Arg) (read : xs ≡ args) where
-    pub cells_count : m.cells < 2 ^ 64 → (a : ℕ) → a < length xs → IfSome (get_or locals a None) (λ y. y.base + y.dim < 2 ^ 64)
-    cells_count small a lt = by (get_or locals a None) refl
-      where
-        la : a < length args
-        la = let same = ap length read in omega (arith, lt, same)
-
-        by : (o : Option LocalArg) → get_or locals a None ≡ o → IfSome o (λ y. y.base + y.dim < 2 ^ 64)
-        by None e = tt
-        by (Some y) e =
-            let inside = (on_arg a y la e).inside first step in
-            let next : local_in y.via first + 1 ≡ suc (local_in y.via first) = omega arith in
-            let product : (local_in y.via first + 1) * y.dim ≡ local_in y.via first * y.dim + y.dim = ap (λ n. n * y.dim) next ∙ suc-mul (local_in y.via first) y.dim in
-            omega (arith, inside, product, small)
-
-    pub dats_are : (a : ℕ) → a < length xs → IfSome (get_or locals a None) (λ y. same_column (arg_in xs a) (arg_in xs a) ≡ true)
-    dats_are a lt = by (get_or locals a None) refl
-      where
-        la : a < length args
-        la = let same = ap length read in omega (arith, lt, same)
-
-        by : (o : Option LocalArg) → get_or locals a None ≡ o → IfSome o (λ y. same_column (arg_in xs a) (arg_in xs a) ≡ true)
-        by None e = tt
-        by (Some y) e =
-            let p = on_arg a y la e in
-            let is_arg = ap (λ zs. arg_in zs a) read ∙ p.is in
-            are_same_column (arg_in xs a) (arg_in xs a) p.dat p.dat p.via p.via p.access p.access is_arg is_arg refl refl
+  are_on = its.are_on l sound is stand here have windows frames first step
 
   -- the modes of its arguments
   abbrev modes : List Mode
@@ -252,58 +119,13 @@ module _ (l : LocalLoop) (sound : Sound l.program.now) (is : IsLocalLoop l) (sta
 
   module _ (cells : List Place) (at : VariablesStand l cells) where
     abbrev vs : List Cell
-    vs = scalar_cells (variable_at b) (scalars_in c l.item)
+    vs = stood.vs l sound is stand here have windows frames first step cells at
 
-    -- where an argument on a variable stands
-    record Behind (a : ℕ) : Type 0 where
-      variable : ℕ
-      access : Access
-      named : arg_in args a ≡ Global variable access
-      number : ℕ
-      from : (place_at cells a).from ≡ m.cells + number
-      count : (place_at cells a).count ≡ var_width b variable
-      few : number + var_width b variable ≤ length vs
-      has : (j : ℕ) → j < var_width b variable → get_or vs (number + j) no_cell ≡ Variable (record { variable = variable; component = j })
-
-    stands_there : (a : ℕ) → a < length args → local_at args locals a ≡ None → place_at cells a ≡ at.at (arg_in args a)
-    stands_there a lt none =
-        let long = at.count in
-        sym (put_at 0 locals cells a long ∙ ap (λ z. place_in 0 z (place_at cells a)) none)
-        ∙ ap (λ ps. place_at ps a) (at.are 0)
-        ∙ put_at 0 locals (map at.at args) a (length-map args at.at ∙ sym is.args.0) ∙ ap (λ z. place_in 0 z (place_at (map at.at args) a)) none
-        ∙ get_or-map at.at args a no_arg no_place lt
-
-    behind_all : (a : ℕ) (x : Arg) → a < length args → arg_in args a ≡ x → StandsBehind b ((layout_in c).width l.rank) vs (at.at x) x
-    behind_all a x lt e = subst (λ z. StandsBehind b ((layout_in c).width l.rank) vs (at.at z) z) e (at.behind a no_arg lt)
-
-    behind : (a : ℕ) → a < length args → local_at args locals a ≡ None → Behind a
-    behind a lt none =
-        let g = global_is b.mesh m (arg_in args a) (local_at args locals a) (arg_is a lt) none in
-        let s = behind_all a (Global g.0 g.1) lt g.2 in
-        let there : place_at cells a ≡ at.at (Global g.0 g.1) = stands_there a lt none ∙ ap at.at g.2 in
-        record {
-          variable = g.0;
-          access = g.1;
-          named = g.2;
-          number = s.0;
-          from = ap (λ (p : Place). p.from) there ∙ s.1 ∙ ap (λ n. n + s.0) (sym is.width);
-          count = ap (λ (p : Place). p.count) there ∙ s.2;
-          few = (let fit = s.3 in let count = s.2 in omega (arith, fit, count));
-          has = λ j lj. s.4 j (let count = s.2 in omega (arith, lj, count));
-        }
+    behind : (a : ℕ) → a < length args → local_at args locals a ≡ None → BehindAt l sound is stand here have windows frames first step cells at a
+    behind = stood.behind l sound is stand here have windows frames first step cells at
 
     vs_long : length vs ≡ length l.scalars.now
-    vs_long = scalars_count (cell_at c.meshes.now b.mesh l.rank) [] (variable_at b) (scalars_in c l.item) ∙ ap length (sym is.scalars)
-
-    -- as many cells as columns and scalars
-    pub scalars_count_fits : (count : ℕ) → count + length l.scalars.now ≤ 128 → (a : ℕ) → a < length locals → get_or locals a None ≡ None
-        → count + ((place_at cells a).from - m.cells) < 2 ^ 64
-    scalars_count_fits count few a lt none =
-        let s = behind a (let n = is.args.0 in omega (arith, n, lt)) none in
-        let from = s.from in
-        let room = s.few in
-        let v = vs_long in
-        omega (arith, few, from, room, v)
+    vs_long = stood.vs_long l sound is stand here have windows frames first step cells at
 
     -- ---- rows
 
@@ -553,36 +375,3 @@ module _ (l : LocalLoop) (sound : Sound l.program.now) (is : IsLocalLoop l) (sta
         are = at;
         in_rows = λ batch begin. in_rows batch begin obeying;
       }
-
--- ---- tables as they are made
-
--- the columns of a table that are put down
-pub columns_front : (args : List Arg) (locals : List (Option LocalArg)) (numbers : List ℕ) (table front : List RowColumn) (places : List Place) (n count : ℕ)
-    → AreColumns args locals numbers table places n count → length front ≡ count → ((c : ℕ) → c < count → get_or front c no_column ≡ get_or table c no_column)
-    → AreColumns args locals numbers front places n (length front)
-columns_front args locals numbers table front places n count are long same =
-    subst (AreColumns args locals numbers front places n) (sym long) (record {
-      few = omega (arith, long);
-      opened = λ a y lt o.
-          let has = are.opened a y lt o in
-          record {
-            inside = has.inside;
-            shared = has.shared;
-            is_shared = has.is_shared;
-            are = λ j lj. same ((place_at places a).from + j) (let inside = has.inside in omega (arith, inside, lj)) ∙ has.are j lj;
-          };
-      stands = are.stands;
-      counts = are.counts;
-      each = are.each;
-    })
-
--- and the pairs
-pub pairs_front : (args : List Arg) (numbers : List ℕ) (table front : List (ℕ × ℕ)) (n count : ℕ)
-    → ArePairs args numbers table n 0 count → length front ≡ count → ((i : ℕ) → i < count → get_or front i no_pair ≡ get_or table i no_pair)
-    → ArePairs args numbers front n 0 (length front)
-pairs_front args numbers table front n count are long same =
-    subst (ArePairs args numbers front n 0) (sym long) (record {
-      few = omega (arith, long);
-      whole = λ i lt. let p = are.whole i lt in (p.0, p.1, p.2, p.3, same i lt ∙ p.4);
-      all = λ a b at lt meet. let f = are.all a b at lt meet in (f.0, f.1, same f.0 f.1 ∙ f.2);
-    })

@@ -7,7 +7,10 @@ use Rattle.run_model.specs.Laws as the
 use Rattle.row_batches.specs.RowLoops.{no_column}
 use Rattle.batch_tables.specs.Tables.{no_pair, place_at, scalar_place, AreWays, AreColumns, ArePairs}
 use Rattle.rank_program.specs.Sound.{program_in}
-use Rattle.rank_program.proofs.RowLoopsMade.{cells_count, dats_are, scalars_count_fits, made, columns_front, pairs_front}
+use Rattle.rank_program.proofs.TableFronts.{columns_front, pairs_front}
+use Rattle.rank_program.proofs.LoopArgs.{cells_count, dats_are}
+use Rattle.rank_program.proofs.LoopVariables.{scalars_count_fits}
+use Rattle.rank_program.proofs.RowLoopsMade.{made}
 use Rattle.rank_program.proofs.row_loops.row_loop.Goals as goal
 
 pub put_columns-requires-clause-cells : goal.put_columns-requires-clause-cells
