@@ -10,7 +10,7 @@ ghost use Rattle.rank_program.specs.Keeping.{KeepsIn};
 ghost use Rattle.rank_program.specs.LocalLoops.{IsLocalLoop, VariablesStand};
 ghost use Rattle.rank_program.specs.Sound.{Sound, setup_in, layout_in, tables_in};
 
-use crate::begun::owns_at;
+use crate::begun::own_places;
 use crate::here::run_alone;
 use crate::local_loops::LocalLoop;
 use crate::room::MOST_COLUMNS;
@@ -34,6 +34,18 @@ fn reduces(scalars: &[Scalar]) -> bool
     false
 }
 
+// Whether the 64 places from `at` on are below one.
+fn all_below(places: &[u32], at: usize, end: u32) -> bool
+    requires { at + ROWS ≤ length places.now }
+    ensures { result ≡ true → (j : ℕ) → j < ROWS → get_or places.now (at + j) 0 < end }
+{
+    let mut most = 0;
+    for j in 0..ROWS {
+        most = places[at + j].max(most);
+    }
+    most < end
+}
+
 // Whether what the elements at the places of a batch leave of the loop's scalars counts: it reduces into none, or its rank owns the
 // elements.
 fn all_count(local: &LocalLoop<'_>, places: &[u32], at: usize) -> bool
@@ -49,12 +61,8 @@ fn all_count(local: &LocalLoop<'_>, places: &[u32], at: usize) -> bool
     if !reduces(local.scalars) {
         return true;
     }
-    for j in 0..ROWS {
-        if !owns_at(local.program, local.item, local.rank, places[at + j]) {
-            return false;
-        }
-    }
-    true
+    let end = own_places(local.program, local.item, local.rank);
+    all_below(places, at, end)
 }
 
 // The 64 places from `at` on.

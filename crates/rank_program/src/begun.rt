@@ -1,13 +1,13 @@
 // What the machine reads of the element at a place.
 
-ghost use Rattle.std.specs.Prelude.{◌≡◌, ◌≤◌, ◌==◌, [], vec_capacity};
+ghost use Rattle.std.specs.Prelude.{◌≡◌, ℕ, ◌≤◌, ◌==◌, [], nat_lt, vec_capacity};
 ghost use Rattle.schedule_steps.specs.declared.step.Step.TheVariants.{Begin};
 ghost use Rattle.schedule_steps.specs.Steps.{IsStep};
 ghost use Rattle.flat_machine.specs.Layout.{by_place};
 ghost use Rattle.rank_state.specs.Shows.{AreWindows};
 ghost use Rattle.rank_program.specs.Sound.{Sound, setup_in, layout_in, tables_in};
 
-use crate::elements::{is_own, original_of};
+use crate::elements::{is_own, original_of, own_count};
 use crate::items::{loop_of, site_of};
 use crate::program::DistributedProgram;
 use rank_layout::{element_windows_stand, push_local_windows, row_of, steps_stand, windows_stand};
@@ -36,6 +36,21 @@ pub fn owns_at(program: &DistributedProgram<'_>, item: u32, rank: u32, place: u3
     local_mesh::owned_come_first();
     let site = site_of(program.bound, item);
     is_own(program.meshes, rank, site.set, place)
+}
+
+/// How many elements of the set of the item's loop a rank owns: an element is its own where its place is below that. The rank has an
+/// element of the loop.
+pub fn own_places(program: &DistributedProgram<'_>, item: u32, rank: u32) -> u32
+    requires sound { Sound program.now }
+    requires step { (place : ℕ) × IsStep (by_place (setup_in program.now) (layout_in program.now)) (Begin item rank place) }
+    ensures { (x : ℕ) → IsStep (by_place (setup_in program.now) (layout_in program.now)) (Begin item rank x)
+        → ((setup_in program.now).owner ((setup_in program.now).program.set item) ((layout_in program.now).original item rank x)
+        == rank) ≡ nat_lt x result }
+{
+    steps_stand();
+    local_mesh::owned_come_first();
+    let site = site_of(program.bound, item);
+    own_count(program.meshes, rank, site.set)
 }
 
 /// Puts down where the windows of a place's element stand in its rank's buffer, and gives the scalars behind them. `spans`

@@ -34,11 +34,20 @@ pub fn original_of(meshes: &[RankMesh], rank: u32, set: u32, place: u32) -> u32
     originals_of(meshes, rank, set)[place as usize]
 }
 
-/// Whether a rank owns the element of a set that has a local number on it: what it owns has the first ones.
+/// How many elements of a set a rank owns: they have the first local numbers.
+pub fn own_count(meshes: &[RankMesh], rank: u32, set: u32) -> u32
+    requires rank { rank < length meshes.now }
+    requires set { set < length (the.sets_of meshes.now rank) }
+    ensures { result ≡ own_in (the.sets_of meshes.now rank) set }
+{
+    sets_of(meshes, rank)[set as usize].own
+}
+
+/// Whether a rank owns the element of a set that has a local number on it.
 pub fn is_own(meshes: &[RankMesh], rank: u32, set: u32, place: u32) -> bool
     requires rank { rank < length meshes.now }
     requires set { set < length (the.sets_of meshes.now rank) }
     ensures { result ≡ nat_lt place (own_in (the.sets_of meshes.now rank) set) }
 {
-    place < sets_of(meshes, rank)[set as usize].own
+    place < own_count(meshes, rank, set)
 }
