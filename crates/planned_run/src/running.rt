@@ -17,7 +17,8 @@ ghost use Rattle.loop_plan.specs.Distributed.{IsDistributed, Distributed};
 ghost use Rattle.loop_plan.specs.Proper.{Proper};
 ghost use Rattle.loop_plan.specs.StepOutline.{step_outline};
 ghost use Rattle.bound_plan.specs.Memories.{dump_of};
-ghost use Rattle.rank_program.specs.Sound.{Sound, program_in, plan_in, outline_in};
+ghost use Rattle.rank_program.specs.Sound.{Sound, program_in, plan_in, layout_in, outline_in};
+ghost use Rattle.rank_exec.specs.Driving.{FitsPeak};
 ghost use Rattle.rank_exec.specs.Runs.{IsRunBy};
 ghost use Rattle.schedule_check.specs.Mail.{plan_cells};
 ghost use Rattle.planned_run.specs.Orders.{InOrder, CanTake};
@@ -43,6 +44,10 @@ use std::alloc::Global;
 use std::marker::Sync;
 use std::thread::Threads;
 use step_orders::Listed;
+use steps_ahead::Ahead;
+
+// How many steps are held at most of a stream that is looked ahead: a group of 1,024 begins with their ends, and one more.
+const MOST_HELD: usize = 2049;
 
 // The peak of an accepted list of a plan's steps. An error is want of memory.
 fn peak_of<S: Steps>(
@@ -114,6 +119,34 @@ fn run_steps<R: Threads + Sync, G: Gate, S: Steps>(
     run_peaked(rt, alloc, program, peak, again, workers, gate, dumps)
 }
 
+// Runs a program by an accepted list of its plan's steps, with room for their peak. Where several workers run it on several ranks,
+// the list is looked ahead for closed groups, so that each rank's first group of an item is told too. An error is want of memory.
+fn run_ahead<R: Threads + Sync, G: Gate, S: Steps + Drop>(
+    rt: &R,
+    alloc: Global,
+    program: &DistributedProgram<'_>,
+    room: Peak,
+    mut steps: S,
+    workers: u32,
+    gate: &G,
+    dumps: bool,
+) -> Result<Outcome, OutOfMemory>
+    requires workers { 0 < workers }
+    requires sound { Sound program.now }
+    requires obey { AllObey (program_in program.now) }
+    requires start { StartsInRange (program_in program.now) }
+    requires accepted { Accepted (outline_in program.now) (S.left steps) }
+    requires peak { FitsPeak (layout_in program.now) room.frames room.mail (S.left steps) }
+    ensures { IfOk result (IsRunBy (program_in program.now)
+        (dump_of dumps (program_in program.now) program.now.owners.now program.now.meshes.now (plan_in program.now) (S.left steps))) }
+{
+    if workers == 1 || program.owners.ranks == 1 {
+        return run_planned(rt, alloc, program, room, &mut steps, workers, gate, dumps);
+    }
+    let mut ahead = Ahead::new(alloc, steps, MOST_HELD)?;
+    run_planned(rt, alloc, program, room, &mut ahead, workers, gate, dumps)
+}
+
 // Runs a program by the standard order of its plan. An error is want of memory.
 fn run_standard<R: Threads + Sync, G: Gate>(
     rt: &R,
@@ -134,8 +167,8 @@ fn run_standard<R: Threads + Sync, G: Gate>(
 {
     let shape = PlanShape::new(alloc, program.bound, program.meshes, program.plan, group)?;
     let room = standard_room(alloc, program, &shape, group)?;
-    let mut steps = standard_order(&shape);
-    let outcome = run_planned(rt, alloc, program, room, &mut steps, workers, gate, dumps)?;
+    let steps = standard_order(&shape);
+    let outcome = run_ahead(rt, alloc, program, room, steps, workers, gate, dumps)?;
     Ok(outcome)
 }
 

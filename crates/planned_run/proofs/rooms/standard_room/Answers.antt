@@ -1,4 +1,4 @@
-use Rattle.std.proofs.Common.{◌≡◌, ◌<◌, ◌≤◌, ℕ, true, List, length, get_or, refl, sym, ap, ◌∙◌, subst, arith}
+use Rattle.std.proofs.Common.{◌≡◌, ◌<◌, ◌≤◌, ℕ, true, List, length, get_or, refl, ap, ◌∙◌, arith}
 use Rattle.std.specs.Prelude.{min}
 use Rattle.std.proofs.lemmas.Bool.{false≢true}
 use Rattle.schedule_model.specs.Program as model
@@ -8,7 +8,7 @@ use Rattle.run_model.specs.Programs.{kind_of}
 use Rattle.run_model.specs.Programs as program
 use Rattle.loop_plan.specs.Needs.{item_at}
 use Rattle.loop_plan.specs.StepOutline.{is_free}
-use Rattle.rank_program.specs.Sound.{program_in, plan_in, setup_in, layout_in, outline_in, tables_in}
+use Rattle.rank_program.specs.Sound.{program_in, plan_in, layout_in, outline_in, tables_in}
 use Rattle.planned_run.proofs.rooms.standard_room.Goals as goal
 
 free_kind : (i : ItemValue) → is_free i ≡ true → kind_of i ≡ model.Free
