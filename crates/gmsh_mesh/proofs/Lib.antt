@@ -1,0 +1,16 @@
+mod Placing
+mod Staging
+mod Tagging
+mod Taking
+mod Marking
+mod Facing
+mod Whole
+mod Assembling
+mod Converting
+mod Fresh
+mod Spelled
+mod One
+mod OneNumbers
+mod OneFaces
+mod OneTags
+mod OneMesh

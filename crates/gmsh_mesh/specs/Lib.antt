@@ -1,0 +1,12 @@
+pub mod Stages
+pub mod Choice
+pub mod Coordinates
+pub mod Numbers
+pub mod Boundary
+pub mod Classes
+pub mod Faces
+pub mod Mesh
+pub mod Entries
+pub mod Source
+pub mod Small
+pub mod Outcome
