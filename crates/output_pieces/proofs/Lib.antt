@@ -4,3 +4,4 @@ pub mod Searching
 pub mod Unique
 pub mod Printed
 pub mod Running
+pub mod LastPrints

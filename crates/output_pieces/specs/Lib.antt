@@ -4,3 +4,5 @@ pub mod Answered
 pub mod Found
 pub mod Cuts
 pub mod Laws
+pub mod Last
+pub mod LastFound

@@ -13,8 +13,8 @@ use crate::refusals::PieceRefusal;
 use bound_program::Bound;
 use std::alloc::Global;
 
-// Where `header` ends, which stands in the output behind so many LFs.
-fn end_of(output: &[u8], header: &[u8], before: u64) -> Result<usize, PieceRefusal>
+/// Where `header` ends, which stands in the output behind so many LFs.
+pub fn end_of(output: &[u8], header: &[u8], before: u64) -> Result<usize, PieceRefusal>
     requires { IsClosed header.now }
     ensures ok { IfOk result (IsBehind before header.now output.now) }
     ensures err { IfErr result (IsUncut before header.now output.now) }

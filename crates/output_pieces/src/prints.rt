@@ -19,8 +19,8 @@ pub struct Print {
     pub before: u64,
 }
 
-// The sum of two counts of lines.
-fn sum(a: u64, b: u64) -> Result<u64, PieceRefusal>
+/// The sum of two counts of lines.
+pub fn sum(a: u64, b: u64) -> Result<u64, PieceRefusal>
     ensures ok { IfOk result (λ s. s ≡ a + b) }
     ensures err { IfErr result (λ e. e ≡ PieceRefusal.OutOfMemory) }
 {
@@ -52,8 +52,8 @@ fn statement_lines(
     }
 }
 
-// How many LFs an item prints. `header` is used for the first line of a dat.
-fn lines_of(header: &mut Vec<u8>, mesh: &Mesh, item: &Item) -> Result<u64, PieceRefusal>
+/// How many LFs an item prints. `header` is used for the first line of a dat.
+pub fn lines_of(header: &mut Vec<u8>, mesh: &Mesh, item: &Item) -> Result<u64, PieceRefusal>
     requires { FitsHere mesh.now (item_of item.now) }
     ensures ok { IfOk result (λ n. n ≡ item_lines mesh.now (item_of item.now)) }
     ensures err { IfErr result (λ e. e ≡ PieceRefusal.OutOfMemory) }

@@ -1,0 +1,2 @@
+pub mod NumberLines
+pub mod FieldLists
