@@ -1,6 +1,7 @@
 // Why there is no picture.
 use cell_numbers::ShownRefusal;
 use cell_shapes::ShapeRefusal;
+use output_fields::FieldRefusal;
 use std::alloc::{AllocError, AllocFailed};
 use thiserror::Error;
 
@@ -19,6 +20,9 @@ pub enum DrawRefusal {
     /// A block of the loop has a colour of number 64 or more.
     #[error("the loop has more than 64 block colours")]
     ManyColours,
+    /// The output of a run doesn't tell the dats on the cells and the nodes; it is never `OutOfMemory`.
+    #[error("{0}")]
+    Fields(FieldRefusal),
 }
 
 impl From<AllocError> for DrawRefusal {
@@ -64,5 +68,19 @@ impl From<ShownRefusal> for DrawRefusal {
 
     fn from(refusal: ShownRefusal) -> DrawRefusal {
         DrawRefusal::Shown(refusal)
+    }
+}
+
+impl From<FieldRefusal> for DrawRefusal {
+    ghost use Rattle.std.specs.Prelude.{◌≡◌};
+    ghost use Rattle.mesh_draw.specs.Drawn.{by_fields};
+
+    ghost from_gives = { λ r e. e ≡ by_fields r };
+
+    fn from(refusal: FieldRefusal) -> DrawRefusal {
+        match refusal {
+            FieldRefusal::OutOfMemory => DrawRefusal::Shown(ShownRefusal::OutOfMemory),
+            _ => DrawRefusal::Fields(refusal),
+        }
     }
 }
