@@ -1,2 +1,3 @@
 pub mod Wording
 pub mod Ended
+pub mod OnRanks

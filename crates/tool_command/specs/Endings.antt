@@ -12,7 +12,7 @@ use Rattle.answer_lines.specs.declared.refusals.Failure.TheVariants as failure
 use Rattle.answers.specs.Endings.{Ending, Answered, OutOfMemory, Unread, Unwritten, Call, ending_status, ending_line}
 use Rattle.answers.specs.Endings.{HoldAll, IsReported, IsWritten}
 use Rattle.command_words.specs.Words.{Options, names_by, names_in_blocks}
-use Rattle.tool_words.specs.Words.{ProgramJob, Picks, Graphs, PlanJob, TellsOwners}
+use Rattle.tool_words.specs.Words.{ProgramJob, Picks, Graphs, PlanJob, TellsOwners, Draws, Grids}
 use Rattle.tool_words.specs.Words.{Command, OnProgram, OnPlan, ShowsUsage, ShowsVersion, WordsAre}
 use Rattle.tool_command.specs.ToolAnswers.{ToolAnswers, ComesToBeRead}
 
@@ -23,9 +23,16 @@ abbrev pub names_for : ProgramJob → List (List ℕ)
 names_for (Picks output file earlier) = output ∷ []
 names_for (Graphs map) = []
 
+-- the file of an output, where one is named
+abbrev pub output_names : Option (List ℕ) → List (List ℕ)
+output_names None = []
+output_names (Some output) = output ∷ []
+
 -- those that a job on a plan reads behind the files of its options
 abbrev pub names_for_plan : PlanJob → List (List ℕ)
 names_for_plan TellsOwners = []
+names_for_plan (Draws picture) = []
+names_for_plan (Grids picture output) = output_names output
 
 -- those that come behind the source and the mesh: the options', and the job's own
 abbrev pub names_behind : PlanJob → Options → List (List ℕ)

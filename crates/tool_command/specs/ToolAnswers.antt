@@ -1,5 +1,5 @@
 -- What `op2-tools` answers to its words, over files that are told.
-use Rattle.std.specs.Prelude.{◌≡◌, ℕ, ◌<◌, ◌⊎◌, List, [], ◌++◌, Some, None, Result, codes}
+use Rattle.std.specs.Prelude.{◌≡◌, ℕ, ◌<◌, ◌⊎◌, List, [], ◌++◌, Option, Some, None, Result, codes}
 use Rattle.std.specs.Fmt.{decimal}
 use Rattle.op_outside.specs.Outside.{Files}
 use Rattle.mesh_decl.specs.declared.owners.Owners.{Owners}
@@ -14,13 +14,22 @@ use Rattle.output_pieces.specs.Answered.{IsRefused}
 use Rattle.output_pieces.specs.declared.refusals.PieceRefusal.{PieceRefusal}
 use Rattle.output_pieces.specs.declared.refusals.PieceRefusal.TheVariants.{NoPrint, NoHeader, FewRows, OutOfMemory}
 use Rattle.neighbour_graph.specs.Graph.{IsGraph}
+use Rattle.cell_numbers.specs.declared.types.Shown.{Shown}
+use Rattle.cell_numbers.specs.declared.types.Shown.TheVariants as shown
+use Rattle.cell_numbers.specs.declared.types.ShownRefusal.TheVariants as unshown
+use Rattle.cell_shapes.specs.declared.shape.ShapeRefusal.TheVariants as shape
+use Rattle.output_fields.specs.declared.refusals.FieldRefusal.{FieldRefusal}
+use Rattle.output_fields.specs.declared.refusals.FieldRefusal.TheVariants as untold
+use Rattle.mesh_draw.specs.declared.types.DrawRefusal.{DrawRefusal}
+use Rattle.mesh_draw.specs.declared.types.DrawRefusal.TheVariants as undrawn
+use Rattle.mesh_draw.specs.Drawn.{IsDrawn, IsUndrawn, IsGrid, IsNoGrid}
 use Rattle.command_words.specs.Refusal.{PrintWeight, Refusal, CannotRead}
 use Rattle.command_words.specs.Words.{InFiles, Options}
 use Rattle.answer_lines.specs.Lines.{Answer, done, refused}
 use Rattle.answers.specs.Judgements.{IsHeld, Planned}
 use Rattle.answers.specs.Answers.{given, BoundAnswers, PlanningAnswers, without}
 use Rattle.tool_words.specs.declared.usage.TheConstants.{USAGE, VERSION}
-use Rattle.tool_words.specs.Words.{ProgramJob, Picks, Graphs, PlanJob, TellsOwners}
+use Rattle.tool_words.specs.Words.{ProgramJob, Picks, Graphs, Picture, PlanJob, TellsOwners, Draws, Grids}
 use Rattle.tool_words.specs.Words.{Command, OnProgram, OnPlan, ShowsUsage, ShowsVersion, WordsAre}
 
 -- ---- lines
@@ -88,6 +97,63 @@ OwnersTold b u a =
     ⊎ ((s : ℕ) × (s < set_count b.mesh) × ¬ HasName b.mesh s
     × (a ≡ refused_by_tool (codes "owners 1 name " ++ set_name b.mesh s)))
 
+-- ---- draw and vtk
+
+-- the number of the rank or the loop that is shown
+abbrev pub number_in : Shown → ℕ
+number_in shown.Owners = 0
+number_in (shown.Halos rank) = rank
+number_in (shown.Colours site) = site
+
+-- what is said of a line of an output that doesn't tell the dats
+abbrev pub said_of_field : FieldRefusal → List ℕ
+said_of_field (untold.NoHeader line) = codes " 10 line " ++ decimal line
+said_of_field (untold.FewRows line) = codes " 11 line " ++ decimal line
+said_of_field (untold.NotNumbers line) = codes " 12 line " ++ decimal line
+said_of_field untold.OutOfMemory = []
+
+-- what is said where there is no picture: the number of the cause, and the name, the rank, the loop or the line that is refused
+abbrev pub said_of_picture : Picture → DrawRefusal → List ℕ
+said_of_picture p (undrawn.Shape shape.NoDat) = codes " 1 name " ++ p.coords
+said_of_picture p (undrawn.Shape shape.NoMap) = codes " 2 name " ++ p.cells
+said_of_picture p (undrawn.Shape shape.OtherSets) = codes " 3 name " ++ p.cells
+said_of_picture p (undrawn.Shape shape.Dims) = codes " 4 name " ++ p.cells
+said_of_picture p undrawn.NotPlane = codes " 5 name " ++ p.coords
+said_of_picture p (undrawn.Shown unshown.NoRank) = codes " 6 rank " ++ decimal (number_in p.shown)
+said_of_picture p (undrawn.Shown unshown.NoLoop) = codes " 7 loop " ++ decimal (number_in p.shown)
+said_of_picture p (undrawn.Shown unshown.OtherSet) = codes " 8 loop " ++ decimal (number_in p.shown)
+said_of_picture p undrawn.ManyColours = codes " 9 loop " ++ decimal (number_in p.shown)
+said_of_picture p (undrawn.Fields e) = said_of_field e
+said_of_picture p (undrawn.Shown unshown.OutOfMemory) = []
+
+-- want of memory is no refusal
+abbrev pub IsPictureCause : DrawRefusal → Type 0
+IsPictureCause (undrawn.Shown unshown.OutOfMemory) = ⊥
+IsPictureCause e = Unit {0}
+
+-- a job's text of a picture, or the cause why it has none
+abbrev pub PictureAnswers : (job : List ℕ) → Picture → (IsText : List ℕ → Type 0) (HasNone : DrawRefusal → Type 0) → Answer → Type 0
+PictureAnswers job p IsText HasNone a =
+    ((text : List ℕ) × IsText text × (a ≡ done text))
+    ⊎ ((e : DrawRefusal) × HasNone e × IsPictureCause e × (a ≡ refused_by_tool (job ++ said_of_picture p e)))
+
+-- what is answered of a picture of a mesh on ranks
+abbrev pub DrawAnswers : Picture → BoundValue → Planned → Answer → Type 0
+DrawAnswers p b d a =
+    PictureAnswers (codes "draw") p (IsDrawn b d.distribution d.plan p.coords p.cells p.shown)
+    (IsUndrawn b d.distribution d.plan p.coords p.cells p.shown) a
+
+-- what is answered of its text for VTK, with what the output of a run says where there is one
+abbrev pub GridOver : Picture → BoundValue → Planned → Option (List ℕ) → Answer → Type 0
+GridOver p b d output a =
+    PictureAnswers (codes "vtk") p (IsGrid b d.distribution d.plan p.coords p.cells p.shown output)
+    (IsNoGrid b d.distribution d.plan p.coords p.cells p.shown output) a
+
+-- the same, out of the file that has the output, where one is named: one judgement, and then the text
+abbrev pub GridAnswers : Picture → Option (List ℕ) → Files → BoundValue → Planned → Answer → Type 0
+GridAnswers p None files b d a = GridOver p b d None a
+GridAnswers p (Some output) files b d a = given (OutputIs output files) (λ bytes. GridOver p b d (Some bytes)) a
+
 -- ---- the whole
 
 -- what a job answers of a bound program
@@ -98,6 +164,8 @@ OnBound (Graphs map) files b a = GraphAnswers map b a
 -- what a job answers of the plan of a bound program
 abbrev pub OnPlanned : PlanJob → BoundValue → Files → Planned → Answer → Type 0
 OnPlanned TellsOwners b files p a = OwnersTold b p.distribution.owners a
+OnPlanned (Draws picture) b files p a = DrawAnswers picture b p a
+OnPlanned (Grids picture output) b files p a = GridAnswers picture output files b p a
 
 -- What a job on the plan of a bound program answers: `op2`'s judgements up to the plan, and then the job's. The program fits, as all that
 -- is bound does; this stands here since distributions and plans are one where it is so.

@@ -10,6 +10,7 @@ mod graphs;
 mod lines;
 mod owners;
 mod picks;
+mod pictures;
 mod planned;
 mod programs;
 mod top;

@@ -1,12 +1,13 @@
 // The lines of the tool's own refusals.
 
 ghost use Rattle.std.specs.Prelude.{◌≡◌, ◌++◌, [], codes, OnOk, IfOk};
+ghost use Rattle.std.specs.Fmt.{decimal};
 ghost use Rattle.answer_lines.specs.Halts.{answer_of};
 ghost use Rattle.answer_lines.specs.Reports.{Stands};
 ghost use Rattle.tool_command.specs.ToolAnswers.{tool_line, refused_by_tool, words_refused, said_of_piece};
 
-use answer_lines::{Answer, put_counted, put_named};
-use op_num::OutOfMemory;
+use answer_lines::{Answer, put_named};
+use op_num::{OutOfMemory, put_u64};
 use op_outside::{Sink, write_all_of};
 use output_pieces::PieceRefusal;
 use std::alloc::Global;
@@ -33,11 +34,19 @@ pub fn report_usage<E: Sink>(err: &mut E) -> u8
     2
 }
 
-// The answer with this line, where what a job reads is refused.
-fn refused_by(line: Vec<u8>) -> Answer
+/// The answer with this line, where what a job reads is refused.
+pub fn refused_by(line: Vec<u8>) -> Answer
     ensures { answer_of result ≡ record { status = 20; out = []; line = line.items } }
 {
     Answer::Refused { status: 20, line }
+}
+
+/// Appends words, and a number behind them. An error is want of memory.
+pub fn put_at(out: &mut Vec<u8>, words: &[u8], number: u64) -> Result<(), OutOfMemory>
+    ensures { OnOk result (out.new.items ≡ out.old.items ++ (words.now ++ decimal number)) }
+{
+    out.extend_from_slice(words)?;
+    put_u64(out, number)
 }
 
 // What is said where there is no piece.
@@ -46,8 +55,8 @@ fn put_said(out: &mut Vec<u8>, file: &str, refusal: PieceRefusal) -> Result<(), 
 {
     match refusal {
         PieceRefusal::NoPrint => put_named(out, b"pick 1 name ", file.as_bytes()),
-        PieceRefusal::NoHeader { line } => put_counted(out, b"pick 2 line", line),
-        PieceRefusal::FewRows { line } => put_counted(out, b"pick 3 line", line),
+        PieceRefusal::NoHeader { line } => put_at(out, b"pick 2 line ", line),
+        PieceRefusal::FewRows { line } => put_at(out, b"pick 3 line ", line),
         PieceRefusal::OutOfMemory => Ok(()),
     }
 }

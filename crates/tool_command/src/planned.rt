@@ -18,6 +18,7 @@ ghost use Rattle.tool_command.specs.ToolAnswers.{OnPlanned, PlanJobAnswers};
 ghost use Rattle.tool_command.specs.Endings.{names_for_plan, names_behind};
 
 use crate::owners::told;
+use crate::pictures::{drawn, gridded};
 use answer_lines::{Answer, Halt};
 use bound_program::Bound;
 use command_words::{Input, Options};
@@ -32,20 +33,24 @@ use tool_words::PlanJob;
 // The files that a job reads, in the order in which it does.
 fn awaited<'a>(
     alloc: Global,
-    job: PlanJob,
+    job: PlanJob<'a>,
     options: &Options<'a>,
     source: &'a str,
     mesh: &'a str,
 ) -> Result<Kept<'a>, OutOfMemory>
     ensures { IfOk result (λ kept. kept
-        ≡ readings_of ((source.now ∷ mesh.now ∷ []) ++ names_behind (plan_job_of job) (options_in options.now))) }
+        ≡ readings_of ((source.now ∷ mesh.now ∷ []) ++ names_behind (plan_job_of job.entry) (options_in options.now))) }
 {
     let mut kept = Kept::new(alloc);
     expect_input(&mut kept, Input::InFiles { source, mesh })?;
     expect_parting(&mut kept, options.parting)?;
     expect_blocks(&mut kept, options.blocks)?;
     match job {
-        PlanJob::TellsOwners => {}
+        PlanJob::Grids {
+            output: Some(output),
+            ..
+        } => kept.push(output)?,
+        PlanJob::TellsOwners | PlanJob::Draws { .. } | PlanJob::Grids { output: None, .. } => {}
     }
     Ok(kept)
 }
@@ -55,7 +60,7 @@ fn on_planned<'a, F: Shelf>(
     alloc: Global,
     shelf: &mut F,
     kept: &mut Kept<'a>,
-    job: PlanJob,
+    job: PlanJob<'a>,
     bound: &Bound,
     planned: &Planned,
 ) -> Result<Answer, Halt<'a>>
@@ -65,11 +70,15 @@ fn on_planned<'a, F: Shelf>(
     requires spread { IsSpread (bound_of bound.now) planned.now.distribution }
     requires proper { Proper (bound_of bound.now) planned.now.distribution.ranks.items (plan_of planned.now.plan) }
     ensures { AnswersFrom (F.told shelf.old) kept.old
-        (λ files. OnPlanned (plan_job_of job) (bound_of bound.now) files (planned_of planned.now))
+        (λ files. OnPlanned (plan_job_of job.entry) (bound_of bound.now) files (planned_of planned.now))
         (Rose (F.faults shelf.old) (F.faults shelf.new)) result }
 {
     match job {
         PlanJob::TellsOwners => told(alloc, bound, planned),
+        PlanJob::Draws { picture } => drawn(alloc, bound, planned, picture),
+        PlanJob::Grids { picture, output } => {
+            gridded(alloc, shelf, kept, bound, planned, picture, output)
+        }
     }
 }
 
@@ -79,7 +88,7 @@ fn on_bound_plan<'a, F: Shelf>(
     alloc: Global,
     shelf: &mut F,
     kept: &mut Kept<'a>,
-    job: PlanJob,
+    job: PlanJob<'a>,
     options: &Options<'a>,
     bound: &Bound,
 ) -> Result<Answer, Halt<'a>>
@@ -90,7 +99,7 @@ fn on_bound_plan<'a, F: Shelf>(
     requires within { AreWithin (options_in options.now) }
     requires fits { Fits (bound_of bound.now) }
     ensures { AnswersFrom (F.told shelf.old) kept.old
-        (λ files. PlanJobAnswers (plan_job_of job) (options_in options.now) files (bound_of bound.now))
+        (λ files. PlanJobAnswers (plan_job_of job.entry) (options_in options.now) files (bound_of bound.now))
         (Rose (F.faults shelf.old) (F.faults shelf.new)) result }
 {
     let planned = planned_on(alloc, shelf, kept, options, bound)?;
@@ -102,7 +111,7 @@ fn on_bound_plan<'a, F: Shelf>(
 pub fn on_plan<'a, F: Shelf>(
     alloc: Global,
     shelf: &mut F,
-    job: PlanJob,
+    job: PlanJob<'a>,
     options: &Options<'a>,
     source: &'a str,
     mesh: &'a str,
@@ -112,8 +121,9 @@ pub fn on_plan<'a, F: Shelf>(
     requires blocks { All (λ name. F.lends shelf.old name) (names_in_blocks (options_in options.now).blocks) }
     requires own { All (λ name. F.lends shelf.old name) (names_for_plan (plan_job_of job)) }
     requires within { AreWithin (options_in options.now) }
-    ensures { AnswersOver (F.told shelf.old) ((source.now ∷ mesh.now ∷ []) ++ names_behind (plan_job_of job) (options_in options.now))
-        (λ files. BoundAnswers (PlanJobAnswers (plan_job_of job) (options_in options.now) files) (InFiles source.now mesh.now) files)
+    ensures { AnswersOver (F.told shelf.old)
+        ((source.now ∷ mesh.now ∷ []) ++ names_behind (plan_job_of job.entry) (options_in options.now))
+        (λ files. BoundAnswers (PlanJobAnswers (plan_job_of job.entry) (options_in options.now) files) (InFiles source.now mesh.now) files)
         (Rose (F.faults shelf.old) (F.faults shelf.new)) result }
 {
     some_files_are_as_seen();

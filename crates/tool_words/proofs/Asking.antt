@@ -38,6 +38,11 @@ given_are f =
       first_value-rows f (codes "renumber"),
       first_value-rows f (codes "block"),
       first_value-rows f (codes "plan"),
+      first_value-rows f (codes "coords"),
+      first_value-rows f (codes "cells"),
+      first_value-rows f (codes "halos"),
+      first_value-rows f (codes "colours"),
+      first_value-rows f (codes "output"),
     ) refl
 
 -- by the matches

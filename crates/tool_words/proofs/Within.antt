@@ -1,6 +1,6 @@
 -- The numbers of what words ask for are in range.
 use Rattle.std.proofs.Common.{◌≡◌, ℕ, Bool, true, false, List, [], Option, Some, None, IfSome, Result, Ok, Err, IfOk, codes, inl, inr, sym, subst}
-use Rattle.std.specs.Prelude.{option_map}
+use Rattle.std.specs.Prelude.{option_map, option_and_then}
 use Rattle.std.specs.Str.{bytes_eq}
 use Rattle.clap.specs.Walk.{first_of}
 use Rattle.clap.specs.Simple.{matches_of}
@@ -9,7 +9,7 @@ use Rattle.clap.specs.declared.error.kind.ErrorKind.TheVariants as kind
 use Rattle.command_words.specs.Words.{Options, OptionWords, options_of, runs_nothing}
 use Rattle.command_words.specs.Laws.{AreWithin, OptionWordsAreWithin}
 use Rattle.command_words.proofs.Within.{Holds, Any, any, holds_if, holds_map}
-use Rattle.tool_words.specs.Words.{PlanJob, TellsOwners, Command, OnPlan, Given, command, where_so, earlier_than}
+use Rattle.tool_words.specs.Words.{Picture, PlanJob, TellsOwners, Draws, Grids, Command, OnPlan, Given, command, where_so, earlier_than, are_bare, has_no_option, has_picture_alone, has_grid_alone, picture_in, pictured}
 use Rattle.tool_words.specs.Words.{picked, graphed, planned, by_name, given_in, asked, judged, by_kind, WordsAre}
 use Rattle.tool_words.specs.Ranges.{IsWithin}
 use Rattle.tool_words.specs.declared.asked.Asked.{Asked}
@@ -39,13 +39,28 @@ module _ (law : OptionWordsAreWithin) where
       by (Some x) h = h
   planned_holds job _ _ _ w = tt
 
+  -- with a picture
+  picture_holds : (job : Picture → PlanJob) (g : Given) (p : Option Picture)
+      → Holds IsWithin (option_and_then (λ x. planned (job x) g.first g.second g.third g.planning) p)
+  picture_holds job g None = tt
+  picture_holds job g (Some p) = planned_holds (job p) g.first g.second g.third g.planning
+
+  pictured_holds : (job : Picture → PlanJob) (g : Given) → Holds IsWithin (pictured job g)
+  pictured_holds job g = picture_holds job g (picture_in g.own)
+
   jobs_hold : (job : List ℕ) (g : Given) → Holds IsWithin (by_name job g)
   jobs_hold job g =
       holds_if IsWithin (bytes_eq job (codes "pick")) _ _
-      (where_holds (runs_nothing g.planning) (picked g.first g.second g.third g.fourth g.fifth) (picked_holds g.first g.second g.third g.fourth g.fifth))
+      (where_holds (has_no_option g) (picked g.first g.second g.third g.fourth g.fifth) (picked_holds g.first g.second g.third g.fourth g.fifth))
       (holds_if IsWithin (bytes_eq job (codes "graph")) _ _
-      (where_holds (runs_nothing g.planning) (graphed g.first g.second g.third g.fourth) (graphed_holds g.first g.second g.third g.fourth))
-      (holds_if IsWithin (bytes_eq job (codes "owners")) _ _ (planned_holds TellsOwners g.first g.second g.third g.planning) tt))
+      (where_holds (has_no_option g) (graphed g.first g.second g.third g.fourth) (graphed_holds g.first g.second g.third g.fourth))
+      (holds_if IsWithin (bytes_eq job (codes "owners")) _ _
+      (where_holds (are_bare g.own) (planned TellsOwners g.first g.second g.third g.planning)
+      (planned_holds TellsOwners g.first g.second g.third g.planning))
+      (holds_if IsWithin (bytes_eq job (codes "draw")) _ _
+      (where_holds (has_picture_alone g.own) (pictured Draws g) (pictured_holds Draws g))
+      (holds_if IsWithin (bytes_eq job (codes "vtk")) _ _
+      (where_holds (has_grid_alone g.own) (pictured (λ p. Grids p g.own.output) g) (pictured_holds (λ p. Grids p g.own.output) g)) tt))))
 
   -- ---- words
 

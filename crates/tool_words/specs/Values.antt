@@ -5,17 +5,29 @@ use Rattle.clap.specs.Matches.{first_value}
 use Rattle.command_words.specs.Words.{OptionWords}
 use Rattle.command_words.specs.Values.{option_words_of, options_in}
 use Rattle.tool_words.specs.Words as words
-use Rattle.tool_words.specs.Words.{Picks, Graphs, TellsOwners, OnProgram, OnPlan, ShowsUsage, ShowsVersion, WordsAre}
+use Rattle.tool_words.specs.Words.{Picks, Graphs, TellsOwners, Draws, Grids, OnProgram, OnPlan, ShowsUsage, ShowsVersion, WordsAre}
 use Rattle.tool_words.specs.Ranges.{IsWithin}
 use Rattle.tool_words.specs.declared.asked.ProgramJob.{ProgramJob}
 use Rattle.tool_words.specs.declared.asked.ProgramJob.TheVariants as job
+use Rattle.tool_words.specs.declared.asked.Picture.{Picture}
 use Rattle.tool_words.specs.declared.asked.PlanJob.{PlanJob}
 use Rattle.tool_words.specs.declared.asked.PlanJob.TheVariants as plan_job
 use Rattle.tool_words.specs.declared.asked.Asked.{Asked}
 use Rattle.tool_words.specs.declared.asked.Asked.TheVariants as asked
+use Rattle.tool_words.specs.declared.given.OwnWords.{OwnWords}
 use Rattle.tool_words.specs.declared.given.Given.{Given}
 use Rattle.tool_words.specs.declared.refusals.WordsRefusal.{WordsRefusal}
 use Rattle.tool_words.specs.declared.refusals.WordsRefusal.TheVariants.{Usage, OutOfMemory}
+
+-- the options of single jobs
+abbrev pub own_of : OwnWords → words.OwnWords
+own_of w = record {
+  coords = option_map (λ s. s.now) w.coords;
+  cells = option_map (λ s. s.now) w.cells;
+  halos = option_map (λ s. s.now) w.halos;
+  colours = option_map (λ s. s.now) w.colours;
+  output = option_map (λ s. s.now) w.output;
+}
 
 -- the words behind the job's name, and the options
 abbrev pub given_of : Given → words.Given
@@ -26,6 +38,7 @@ given_of g = record {
   fourth = option_map (λ s. s.now) g.fourth;
   fifth = option_map (λ s. s.now) g.fifth;
   planning = option_words_of g.planning;
+  own = own_of g.own;
 }
 
 -- the options of a plan, as `clap` has found them
@@ -47,6 +60,16 @@ planning_found f = record {
   dumps = false;
 }
 
+-- those of single jobs
+abbrev pub own_found : Found → words.OwnWords
+own_found f = record {
+  coords = first_value f (codes "coords");
+  cells = first_value f (codes "cells");
+  halos = first_value f (codes "halos");
+  colours = first_value f (codes "colours");
+  output = first_value f (codes "output");
+}
+
 -- all words
 abbrev pub given_found : Found → words.Given
 given_found f = record {
@@ -56,6 +79,7 @@ given_found f = record {
   fourth = first_value f (codes "FOURTH");
   fifth = first_value f (codes "FIFTH");
   planning = planning_found f;
+  own = own_found f;
 }
 
 -- what is done with a program
@@ -63,9 +87,15 @@ abbrev pub job_of : ProgramJob → words.ProgramJob
 job_of (job.Picks output file earlier) = Picks output.now file.now earlier
 job_of (job.Graphs map) = Graphs map.now
 
+-- what is shown of a mesh
+abbrev pub picture_of : Picture → words.Picture
+picture_of p = record { coords = p.coords.now; cells = p.cells.now; shown = p.shown }
+
 -- what is done with its plan
 abbrev pub plan_job_of : PlanJob → words.PlanJob
 plan_job_of plan_job.TellsOwners = TellsOwners
+plan_job_of (plan_job.Draws p) = Draws (picture_of p)
+plan_job_of (plan_job.Grids p output) = Grids (picture_of p) (option_map (λ s. s.now) output)
 
 -- what the words ask for
 abbrev pub command_of : Asked → words.Command

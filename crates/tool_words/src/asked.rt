@@ -1,5 +1,6 @@
 // What words ask for.
 
+use cell_numbers::Shown;
 use command_words::Options;
 
 /// What is done with a program over a mesh.
@@ -18,11 +19,31 @@ pub enum ProgramJob<'a> {
     },
 }
 
+/// What is shown of a mesh.
+#[derive(Clone, Copy, Debug)]
+pub struct Picture<'a> {
+    /// The name of the dat that has the coordinates of the nodes.
+    pub coords: &'a str,
+    /// The name of the map that leads from each cell to its nodes.
+    pub cells: &'a str,
+    /// What the numbers of the cells say.
+    pub shown: Shown,
+}
+
 /// What is done with the plan of a program over a mesh.
 #[derive(Clone, Copy, Debug)]
-pub enum PlanJob {
+pub enum PlanJob<'a> {
     /// Who owns which element there is written, as the text of a partition.
     TellsOwners,
+    /// A picture of the mesh is drawn.
+    Draws {
+        picture: Picture<'a>,
+    },
+    /// The grid of the mesh is written for VTK, with what a run printed where the file of its output is named.
+    Grids {
+        picture: Picture<'a>,
+        output: Option<&'a str>,
+    },
 }
 
 /// What the words ask for.
@@ -36,7 +57,7 @@ pub enum Asked<'a> {
     },
     /// The job on the plan of that program, with these options.
     OnPlan {
-        job: PlanJob,
+        job: PlanJob<'a>,
         options: Options<'a>,
         source: &'a str,
         mesh: &'a str,

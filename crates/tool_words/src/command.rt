@@ -45,7 +45,19 @@ fn command<'a>(alloc: Global) -> Result<Command<'a>, AllocError>
     with_options(
         alloc,
         command,
-        &["ranks", "parts", "partition", "renumber", "block", "plan"],
+        &[
+            "ranks",
+            "parts",
+            "partition",
+            "renumber",
+            "block",
+            "plan",
+            "coords",
+            "cells",
+            "halos",
+            "colours",
+            "output",
+        ],
     )
 }
 

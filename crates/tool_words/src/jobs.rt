@@ -1,13 +1,15 @@
 // The jobs: what is asked for by the job's name and the words behind it.
 
 ghost use Rattle.std.specs.Prelude.{◌≡◌, option_map};
-ghost use Rattle.command_words.specs.Words.{runs_nothing};
 ghost use Rattle.tool_words.specs.Words.{by_name, where_so, picked, graphed, planned, earlier_than};
+ghost use Rattle.tool_words.specs.Words.{are_bare, has_no_option, has_picture_alone, has_grid_alone};
+ghost use Rattle.tool_words.specs.Words.{TellsOwners, Draws, Grids, pictured};
 ghost use Rattle.tool_words.specs.Values.{command_of, given_of, plan_job_of};
 
 use crate::asked::{Asked, PlanJob, ProgramJob};
-use crate::given::Given;
-use command_words::{options_of, runs_nothing};
+use crate::given::{Given, are_bare, has_grid_alone, has_no_option, has_picture_alone};
+use crate::pictures::picture_in;
+use command_words::options_of;
 use op_num::read_u64;
 
 /// What is asked for by the job's name.
@@ -19,7 +21,11 @@ pub fn by_name<'a>(job: &str, given: &Given<'a>) -> Option<Asked<'a>>
     } else if job == "graph" {
         graphed(given)
     } else if job == "owners" {
-        planned(PlanJob::TellsOwners, given)
+        told(given)
+    } else if job == "draw" {
+        drawn(given)
+    } else if job == "vtk" {
+        gridded(given)
     } else {
         None
     }
@@ -44,11 +50,11 @@ fn earlier_than(word: Option<&str>) -> Option<u64>
 
 // SOURCE MESH OUTPUT FILE [N].
 fn picked<'a>(given: &Given<'a>) -> Option<Asked<'a>>
-    ensures { option_map command_of result ≡ where_so (runs_nothing (given_of given.now).planning)
+    ensures { option_map command_of result ≡ where_so (has_no_option (given_of given.now))
         (picked (given_of given.now).first (given_of given.now).second (given_of given.now).third (given_of given.now).fourth
         (given_of given.now).fifth) }
 {
-    if !runs_nothing(&given.planning) {
+    if !has_no_option(given) {
         return None;
     }
     let (Some(source), Some(mesh), Some(output), Some(file)) = (
@@ -70,10 +76,10 @@ fn picked<'a>(given: &Given<'a>) -> Option<Asked<'a>>
 
 // SOURCE MESH MAP.
 fn graphed<'a>(given: &Given<'a>) -> Option<Asked<'a>>
-    ensures { option_map command_of result ≡ where_so (runs_nothing (given_of given.now).planning)
+    ensures { option_map command_of result ≡ where_so (has_no_option (given_of given.now))
         (graphed (given_of given.now).first (given_of given.now).second (given_of given.now).third (given_of given.now).fourth) }
 {
-    if !runs_nothing(&given.planning) {
+    if !has_no_option(given) {
         return None;
     }
     let (Some(source), Some(mesh), Some(map), None) = (
@@ -89,8 +95,8 @@ fn graphed<'a>(given: &Given<'a>) -> Option<Asked<'a>>
 }
 
 // SOURCE MESH, with the options of a plan.
-fn planned<'a>(job: PlanJob, given: &Given<'a>) -> Option<Asked<'a>>
-    ensures { option_map command_of result ≡ planned (plan_job_of job) (given_of given.now).first (given_of given.now).second
+fn planned<'a>(job: PlanJob<'a>, given: &Given<'a>) -> Option<Asked<'a>>
+    ensures { option_map command_of result ≡ planned (plan_job_of job.entry) (given_of given.now).first (given_of given.now).second
         (given_of given.now).third (given_of given.now).planning }
 {
     let (Some(source), Some(mesh), None) = (given.first, given.second, given.third) else {
@@ -103,4 +109,42 @@ fn planned<'a>(job: PlanJob, given: &Given<'a>) -> Option<Asked<'a>>
         source,
         mesh,
     })
+}
+
+// The same for owners, where no option of a picture stands.
+fn told<'a>(given: &Given<'a>) -> Option<Asked<'a>>
+    ensures { option_map command_of result ≡ where_so (are_bare (given_of given.now).own)
+        (planned TellsOwners (given_of given.now).first (given_of given.now).second (given_of given.now).third
+        (given_of given.now).planning) }
+{
+    if !are_bare(&given.own) {
+        return None;
+    }
+    planned(PlanJob::TellsOwners, given)
+}
+
+// A picture drawn.
+fn drawn<'a>(given: &Given<'a>) -> Option<Asked<'a>>
+    ensures { option_map command_of result
+        ≡ where_so (has_picture_alone (given_of given.now).own) (pictured Draws (given_of given.now)) }
+{
+    if !has_picture_alone(&given.own) {
+        return None;
+    }
+    let picture = picture_in(&given.own)?;
+    planned(PlanJob::Draws { picture }, given)
+}
+
+// The grid for VTK.
+fn gridded<'a>(given: &Given<'a>) -> Option<Asked<'a>>
+    ensures { option_map command_of result
+        ≡ where_so (has_grid_alone (given_of given.now).own)
+        (pictured (λ p. Grids p (given_of given.now).own.output) (given_of given.now)) }
+{
+    if !has_grid_alone(&given.own) {
+        return None;
+    }
+    let picture = picture_in(&given.own)?;
+    let output = given.own.output;
+    planned(PlanJob::Grids { picture, output }, given)
 }

@@ -8,11 +8,12 @@ mod asked;
 mod command;
 mod given;
 mod jobs;
+mod pictures;
 mod read;
 mod refusals;
 mod usage;
 
-pub use asked::{Asked, PlanJob, ProgramJob};
+pub use asked::{Asked, Picture, PlanJob, ProgramJob};
 pub use read::read_words;
 pub use refusals::WordsRefusal;
 pub use usage::{USAGE, VERSION};

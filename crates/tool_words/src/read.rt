@@ -7,11 +7,11 @@ ghost use Rattle.clap.specs.declared.error.kind.ErrorKind.TheVariants as kind;
 ghost use Rattle.tool_words.specs.Words.{asked, by_kind};
 ghost use Rattle.tool_words.specs.declared.refusals.WordsRefusal.TheVariants.{OutOfMemory};
 ghost use Rattle.command_words.specs.Values.{option_words_of};
-ghost use Rattle.tool_words.specs.Values.{given_of, planning_found, given_found, AsksBy, IsRead, IsInRange};
+ghost use Rattle.tool_words.specs.Values.{given_of, own_of, planning_found, own_found, given_found, AsksBy, IsRead, IsInRange};
 
 use crate::asked::Asked;
 use crate::command::matched;
-use crate::given::Given;
+use crate::given::{Given, OwnWords};
 use crate::jobs::by_name;
 use crate::refusals::WordsRefusal;
 use clap::error::ErrorKind;
@@ -67,6 +67,19 @@ fn planning<'a>(matches: &ArgMatches<'a>) -> OptionWords<'a>
     }
 }
 
+// The values of the options of single jobs, as `clap` has matched them.
+fn own_words<'a>(matches: &ArgMatches<'a>) -> OwnWords<'a>
+    ensures { own_of result ≡ own_found (found_of matches.now) }
+{
+    OwnWords {
+        coords: matches.get_str("coords"),
+        cells: matches.get_str("cells"),
+        halos: matches.get_str("halos"),
+        colours: matches.get_str("colours"),
+        output: matches.get_str("output"),
+    }
+}
+
 // The words behind the job's name and the options, as `clap` has matched them.
 fn given<'a>(matches: &ArgMatches<'a>) -> Given<'a>
     ensures { given_of result ≡ given_found (found_of matches.now) }
@@ -78,6 +91,7 @@ fn given<'a>(matches: &ArgMatches<'a>) -> Given<'a>
         fourth: matches.get_str("FOURTH"),
         fifth: matches.get_str("FIFTH"),
         planning: planning(matches),
+        own: own_words(matches),
     }
 }
 

@@ -12,8 +12,19 @@ Jobs
                  it leads
   owners SOURCE MESH
                  writes who owns which element on the ranks of a plan, as the text of a partition
+  draw SOURCE MESH --coords DAT --cells MAP
+                 writes a picture of a plane mesh as an SVG: each cell with the colour of its owner
+  vtk SOURCE MESH --coords DAT --cells MAP
+                 writes the mesh for VTK, as ParaView reads it, with a number on each cell
 
-Options of owners
+Options of draw and vtk
+  --coords DAT   the dat that has the coordinates of the nodes, two or three for each
+  --cells MAP    the map that leads from each cell to its nodes
+  --halos R      shows what rank R has of the cells in place of their owners
+  --colours S    shows the block colours of the loop with number S in place of the owners
+  --output FILE  of vtk: with what a run, whose output FILE holds, printed last of each dat on the cells and the nodes
+
+Options of owners, draw and vtk
   --ranks N      these six as for op2, see op2 --help: how many ranks there are, who owns which element, new numbers, and
   --parts RULE   the blocks and colours of the plan; what the last three name is judged, and changes no owner
   --partition F
