@@ -1,0 +1,4 @@
+pub mod Counts
+pub mod Table
+pub mod Parts
+pub mod Imports
