@@ -205,7 +205,7 @@ fn to_words<'a, F: Shelf, R: Threads + Sync, G: Gate>(
 }
 
 /// The answer to the words, or what failed before there is one. `gate` is told of each element that a group begins.
-pub fn answered<'a, F: Shelf, R: Threads + Sync, G: Gate>(
+pub fn answer_to<'a, F: Shelf, R: Threads + Sync, G: Gate>(
     rt: &R,
     alloc: Global,
     words: &'a Vec<String>,

@@ -15,4 +15,5 @@ mod schedules;
 mod sources;
 mod top;
 
+pub use answered::answer_to;
 pub use top::{op2, op2_gated};

@@ -7,7 +7,7 @@ ghost use Rattle.answer_lines.specs.Halts.{answer_of};
 ghost use Rattle.answer_lines.specs.Reports.{Stands};
 ghost use Rattle.op2_command.specs.Writes.{EndsAsDefined};
 
-use crate::answered::answered;
+use crate::answered::answer_to;
 use answer_laws::{
     calls_are_complete, calls_report_their_answers, calls_show_their_answers, others_write_nothing,
     unread_files_are_named, usage_is_of_words,
@@ -77,7 +77,7 @@ pub fn op2_gated<R: Threads + Sync, F: Shelf, O: Sink, E: Sink, G: Gate>(
     calls_show_their_answers();
     calls_report_their_answers();
     others_write_nothing();
-    match answered(rt, alloc, words, shelf, gate) {
+    match answer_to(rt, alloc, words, shelf, gate) {
         Ok(answer) => write_answer(&answer, out, err),
         Err(failure) => write_failure(failure, err),
     }

@@ -3,7 +3,7 @@ use Rattle.op_outside.specs.Outside.{Rose}
 use Rattle.answer_lines.specs.Lines.{refused}
 use Rattle.answer_lines.specs.Halts.{refusal_of, answer_of}
 use Rattle.op2_command.proofs.Chained.{tells, call_failed}
-use Rattle.op2_command.proofs.answered.answered.Goals as goal
+use Rattle.op2_command.proofs.answered.answer_to.Goals as goal
 
 pub returns-in-Ok : goal.returns-in-Ok
 returns-in-Ok g c = tells (map string_bytes c.args.words.now.items) (g.F.Shelf.told c.args.shelf.now) (answer_of c.in-Ok.answer) c.in-Ok.ensures
