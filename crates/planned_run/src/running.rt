@@ -36,14 +36,14 @@ use mesh_decl::Owners;
 use op_num::OutOfMemory;
 use par_exec::Gate;
 use plan_orders::{PlanShape, standard_order};
-use rank_exec::{Outcome, run_planned};
+use rank_exec::{Outcome, is_short, run_planned};
 use rank_program::DistributedProgram;
 use schedule_check::{Checker, take_all};
 use schedule_steps::Peak;
 use std::alloc::Global;
 use std::marker::Sync;
 use std::thread::Threads;
-use step_orders::Listed;
+use step_orders::{Listed, Shape};
 use steps_ahead::Ahead;
 
 // How many steps are held at most of a stream that is looked ahead: a group of 1,024 begins with their ends, and one more.
@@ -119,12 +119,27 @@ fn run_steps<R: Threads + Sync, G: Gate, S: Steps>(
     run_peaked(rt, alloc, program, peak, again, workers, gate, dumps)
 }
 
+// Which of the items have kernels that are too short for threads. An error is want of memory.
+fn short_items(
+    alloc: Global,
+    program: &DistributedProgram<'_>,
+    items: u32,
+) -> Result<Vec<bool>, OutOfMemory> {
+    let mut short = Vec::with_capacity(alloc, items as usize)?;
+    for item in 0..items {
+        short.push(is_short(program, item))?;
+    }
+    Ok(short)
+}
+
 // Runs a program by an accepted list of its plan's steps, with room for their peak. Where several workers run it on several ranks,
-// the list is looked ahead for closed groups, so that each rank's first group of an item is told too. An error is want of memory.
+// the list of `items` items is looked ahead for closed groups of short kernels, so that each rank's first group is told too. An error
+// is want of memory.
 fn run_ahead<R: Threads + Sync, G: Gate, S: Steps + Drop>(
     rt: &R,
     alloc: Global,
     program: &DistributedProgram<'_>,
+    items: u32,
     room: Peak,
     mut steps: S,
     workers: u32,
@@ -143,7 +158,8 @@ fn run_ahead<R: Threads + Sync, G: Gate, S: Steps + Drop>(
     if workers == 1 || program.owners.ranks == 1 {
         return run_planned(rt, alloc, program, room, &mut steps, workers, gate, dumps);
     }
-    let mut ahead = Ahead::new(alloc, steps, MOST_HELD)?;
+    let short = short_items(alloc, program, items)?;
+    let mut ahead = Ahead::new(alloc, steps, short, MOST_HELD)?;
     run_planned(rt, alloc, program, room, &mut ahead, workers, gate, dumps)
 }
 
@@ -167,8 +183,9 @@ fn run_standard<R: Threads + Sync, G: Gate>(
 {
     let shape = PlanShape::new(alloc, program.bound, program.meshes, program.plan, group)?;
     let room = standard_room(alloc, program, &shape, group)?;
+    let items = shape.items();
     let steps = standard_order(&shape);
-    let outcome = run_ahead(rt, alloc, program, room, steps, workers, gate, dumps)?;
+    let outcome = run_ahead(rt, alloc, program, items, room, steps, workers, gate, dumps)?;
     Ok(outcome)
 }
 

@@ -54,7 +54,7 @@ fn ends_short(program: &DistributedProgram<'_>, step: Step, workers: u32) -> boo
 }
 
 /// The closed groups that come behind a step, as long as the stream tells them, where the step is the end of an element that isn't
-/// worth the `workers`. One whose kernel is worth them is the last. Behind any other step nothing is done.
+/// worth the `workers`. Behind any other step nothing is done.
 pub fn run_closed<S: Steps>(
     machine: &mut Machine,
     program: &DistributedProgram<'_>,
@@ -89,8 +89,5 @@ pub fn run_closed<S: Steps>(
             of.rank,
             &room.places,
         );
-        if workers > 1 && !is_short(program, of.item) {
-            return;
-        }
     }
 }

@@ -18,3 +18,4 @@ pub mod stream;
 pub use rank_machine::machine::Machine;
 pub use rank_memory::stop::Stop;
 pub use running::{Outcome, run_planned};
+pub use sharing::is_short;

@@ -8,26 +8,46 @@ use schedule_steps::Step;
 use std::alloc::{AllocError, Global};
 use step_orders::{ItemOnRank, Steps};
 
-/// The steps of a stream. Where the stream itself tells of no closed group, the next steps are looked at: so a closed group is told
-/// wherever it comes next, if it has at most half as many steps as may be held and there is room for its places.
+/// The steps of a stream. Where the stream itself tells of no closed group, the next steps are looked at: so a closed group of some
+/// items is told wherever it comes next, if it has at most half as many steps as may be held and there is room for its places.
 #[derive(Drop)]
 pub struct Ahead<S> {
     steps: S,
+    // by item whether its groups are told
+    items: Vec<bool>,
     // steps that were read; those before `at` are taken
     held: Vec<Step>,
     at: usize,
 }
 
+// Whether the steps begin with a begin of an item whose groups are told.
+fn are_told(steps: &[Step], items: &[bool]) -> bool {
+    match steps.first().copied() {
+        Some(Step::Begin { item, .. }) => items.get(item as usize).copied().unwrap_or(false),
+        _ => false,
+    }
+}
+
 impl<S: Steps + Drop> Ahead<S> {
-    /// The steps of the stream, of which up to `most` are held at a time.
+    /// The steps of the stream, of which up to `most` are held at a time. `items` says by item whether its groups are told.
     ///
     /// # Errors
     /// Want of memory.
-    pub fn new(alloc: Global, steps: S, most: usize) -> Result<Ahead<S>, AllocError>
+    pub fn new(
+        alloc: Global,
+        steps: S,
+        items: Vec<bool>,
+        most: usize,
+    ) -> Result<Ahead<S>, AllocError>
         ensures { IfOk result (λ a. ⟦<Ahead<S> as Steps>⟧.left a ≡ S.left steps) }
     {
         let held = Vec::with_capacity(alloc, most)?;
-        Ok(Ahead { steps, held, at: 0 })
+        Ok(Ahead {
+            steps,
+            items,
+            held,
+            at: 0,
+        })
     }
 }
 
@@ -63,6 +83,9 @@ impl<S: Steps> Steps for Ahead<S> {
         self.held.clear();
         self.at = 0;
         read_group(&mut self.steps, &mut self.held);
+        if !are_told(&self.held, &self.items) {
+            return None;
+        }
         let told = closed_in(&self.held, places);
         if told.is_some() {
             self.at = self.held.len();
