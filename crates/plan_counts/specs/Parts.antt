@@ -1,6 +1,8 @@
 -- Parts of the counting.
-use Rattle.std.specs.Prelude.{ℕ, ◌+◌, cond, nat_eq, List, length, slice_index_or}
+use Rattle.std.specs.Prelude.{ℕ, ◌+◌, Bool, false, cond, nat_eq, List, length, slice_index_or}
 use Rattle.local_mesh.specs.declared.types.RankMesh.{RankMesh}
+use Rattle.bound_program.specs.declared.sites.Arg.{Arg}
+use Rattle.bound_program.specs.declared.sites.Arg.TheVariants.{Dat, Global}
 use Rattle.bound_program.specs.Values.{ItemValue, BoundValue}
 use Rattle.loop_plan.specs.declared.exchange.LoopRun.{LoopRun}
 use Rattle.loop_plan.specs.declared.exchange.LoopRun.TheVariants as run
@@ -65,3 +67,8 @@ with_loop t c = record {
   repeated = t.repeated + c.repeated;
   blocks = t.blocks + c.blocks;
 }
+
+-- the argument is on this dat
+abbrev pub is_on : ℕ → Arg → Bool
+is_on d (Dat e v a) = nat_eq e d
+is_on d (Global v a) = false

@@ -1,5 +1,5 @@
 -- How the counts of a plan are written: a line for each loop, and one of totals.
-use Rattle.std.specs.Prelude.{ℕ, suc, ◌-◌, ◌/◌, ◌%◌, Bool, true, false, List, [], ◌∷◌, ◌++◌, map, length, filter, nat_eq}
+use Rattle.std.specs.Prelude.{ℕ, suc, ◌-◌, ◌/◌, ◌%◌, Bool, true, false, List, [], ◌∷◌, ◌++◌, map, length, not}
 use Rattle.std.specs.Prelude.{slice_index_or, codes, if◌then◌else◌}
 use Rattle.std.specs.List.{flat_map}
 use Rattle.std.specs.Fmt.{decimal}
@@ -14,7 +14,7 @@ use Rattle.bound_program.specs.declared.sites.Arg.TheVariants.{Dat, Global}
 use Rattle.bound_program.specs.declared.sites.Class.{Class}
 use Rattle.bound_program.specs.declared.sites.Class.TheVariants as class
 use Rattle.bound_program.specs.Values.{SiteValue, BoundValue}
-use Rattle.bound_program.specs.Classes.{class_of}
+use Rattle.bound_program.specs.Classes.{is_orderly_arg}
 use Rattle.loop_plan.specs.Counted.{sum_below}
 use Rattle.loop_plan.specs.Values.{PlanValue}
 use Rattle.plan_counts.specs.declared.types.LoopCounts.{LoopCounts}
@@ -46,20 +46,10 @@ abbrev pub arg_text : MeshValue → ℕ → Arg → List ℕ
 arg_text g n (Dat d v a) = decimal n ++ codes ":" ++ dat_name g d
 arg_text g n (Global v a) = dash
 
--- the argument is on this dat
-abbrev pub is_on : ℕ → Arg → Bool
-is_on d (Dat e v a) = nat_eq e d
-is_on d (Global v a) = false
-
--- a loop with this class is Ordered
-abbrev pub is_ordered : Class → Bool
-is_ordered class.Free = false
-is_ordered class.Ordered = true
-
--- the arguments on this argument's dat, of all of a loop, would make a loop Ordered that had no others
+-- Of all these arguments this one makes a loop Ordered: its dat is neither only read nor orderly. So a loop is Ordered exactly where one of
+-- its arguments makes it so (`class_of`).
 abbrev pub makes_ordered : (all : List Arg) → Arg → Bool
-makes_ordered all (Dat d v a) = is_ordered (class_of (filter (is_on d) all))
-makes_ordered all (Global v a) = false
+makes_ordered all x = not (is_orderly_arg all x)
 
 -- of the arguments from number n on, the first that makes the loop with all these Ordered: by its number and its dat
 abbrev pub blamed : MeshValue → (all : List Arg) → ℕ → List Arg → List ℕ

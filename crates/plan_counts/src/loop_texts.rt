@@ -3,7 +3,8 @@
 ghost use Rattle.std.specs.Prelude.{◌≡◌, ◌<◌, ◌∷◌, [], IfOk, filter, length};
 ghost use Rattle.loop_plan.specs.Needs.{AreOfDats};
 ghost use Rattle.mesh_decl.specs.Mesh.{dat_count};
-ghost use Rattle.plan_counts.specs.Table.{place_text, class_text, arg_text, is_on, makes_ordered, blamed, hundredths, kernel_name};
+ghost use Rattle.plan_counts.specs.Table.{place_text, class_text, arg_text, makes_ordered, blamed, hundredths, kernel_name};
+ghost use Rattle.plan_counts.specs.Parts.{is_on};
 
 use bound_program::{Arg, Class, Mesh, Pos, RKernel, class_of};
 use op_num::{OutOfMemory, put_u64};
@@ -65,14 +66,17 @@ fn args_on(alloc: Global, args: &[Arg], dat: u32) -> Result<Vec<Arg>, OutOfMemor
     Ok(found)
 }
 
-// Whether the arguments on an argument's dat would make a loop Ordered that had no others.
+// Whether an argument makes a loop with all these Ordered: the arguments on its dat would do so alone.
 fn makes_ordered(alloc: Global, all: &[Arg], arg: Arg) -> Result<bool, OutOfMemory>
     ensures { IfOk result (λ r. r ≡ makes_ordered all.now arg) }
 {
     match arg {
         Arg::Dat { dat, .. } => {
             let own = args_on(alloc, all, dat)?;
-            Ok(class_of(&own) == Class::Ordered)
+            match class_of(&own) {
+                Class::Free => Ok(false),
+                Class::Ordered => Ok(true),
+            }
         }
         Arg::Global { .. } => Ok(false),
     }

@@ -1,6 +1,6 @@
 use Rattle.std.proofs.Common.{◌≡◌, take}
 use Rattle.std.specs.Prelude.{filter}
-use Rattle.plan_counts.specs.Table.{is_on}
+use Rattle.plan_counts.specs.Parts.{is_on}
 use Rattle.plan_counts.proofs.loop_texts.args_on.Given as goal
 
 -- those of the arguments so far
