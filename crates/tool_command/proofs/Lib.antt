@@ -1,3 +1,4 @@
 pub mod Wording
 pub mod Ended
 pub mod OnRanks
+pub mod Weaker

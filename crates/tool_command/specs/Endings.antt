@@ -12,8 +12,8 @@ use Rattle.answer_lines.specs.declared.refusals.Failure.TheVariants as failure
 use Rattle.answers.specs.Endings.{Ending, Answered, OutOfMemory, Unread, Unwritten, Call, ending_status, ending_line}
 use Rattle.answers.specs.Endings.{HoldAll, IsReported, IsWritten}
 use Rattle.command_words.specs.Words.{Options, names_by, names_in_blocks}
-use Rattle.tool_words.specs.Words.{ProgramJob, Picks, Graphs, PlanJob, TellsOwners, Draws, Grids}
-use Rattle.tool_words.specs.Words.{Command, OnProgram, OnPlan, ShowsUsage, ShowsVersion, WordsAre}
+use Rattle.tool_words.specs.Words.{ProgramJob, Picks, Graphs, TakesOwners, PlanJob, TellsOwners, Counts, Draws, Grids}
+use Rattle.tool_words.specs.Words.{Command, OnProgram, OnPlan, Converts, ShowsUsage, ShowsVersion, WordsAre}
 use Rattle.tool_command.specs.ToolAnswers.{ToolAnswers, ComesToBeRead}
 
 -- ---- the files that words name
@@ -22,6 +22,7 @@ use Rattle.tool_command.specs.ToolAnswers.{ToolAnswers, ComesToBeRead}
 abbrev pub names_for : ProgramJob → List (List ℕ)
 names_for (Picks output file earlier) = output ∷ []
 names_for (Graphs map) = []
+names_for (TakesOwners ranks file set) = file ∷ []
 
 -- the file of an output, where one is named
 abbrev pub output_names : Option (List ℕ) → List (List ℕ)
@@ -31,6 +32,7 @@ output_names (Some output) = output ∷ []
 -- those that a job on a plan reads behind the files of its options
 abbrev pub names_for_plan : PlanJob → List (List ℕ)
 names_for_plan TellsOwners = []
+names_for_plan (Counts plain) = []
 names_for_plan (Draws picture) = []
 names_for_plan (Grids picture output) = output_names output
 
@@ -42,6 +44,7 @@ names_behind job o = (names_by o.parting ++ names_in_blocks o.blocks) ++ names_f
 abbrev pub names_of : Command → List (List ℕ)
 names_of (OnProgram job source mesh) = (source ∷ mesh ∷ []) ++ names_for job
 names_of (OnPlan job o source mesh) = (source ∷ mesh ∷ []) ++ names_behind job o
+names_of (Converts file dim scale writes_source) = file ∷ []
 names_of ShowsUsage = []
 names_of ShowsVersion = []
 

@@ -1,2 +1,3 @@
+pub mod GmshLines
 pub mod ToolAnswers
 pub mod Endings

@@ -1,10 +1,14 @@
 -- What `op2-tools` answers to its words, over files that are told.
-use Rattle.std.specs.Prelude.{◌≡◌, ℕ, ◌<◌, ◌⊎◌, List, [], ◌++◌, Option, Some, None, Result, codes}
+use Rattle.std.specs.Prelude.{◌≡◌, ℕ, ◌<◌, ◌⊎◌, Bool, true, false, List, [], ◌++◌, Option, Some, None, Result, Ok, Err, codes}
 use Rattle.std.specs.Fmt.{decimal}
 use Rattle.op_outside.specs.Outside.{Files}
 use Rattle.mesh_decl.specs.declared.owners.Owners.{Owners}
-use Rattle.mesh_decl.specs.Mesh.{set_count, set_name}
-use Rattle.mesh_decl.specs.Named.{NamesMap}
+use Rattle.mesh_decl.specs.Mesh.{set_count, set_size, set_name}
+use Rattle.mesh_decl.specs.Named.{NamesMap, NamesSet}
+use Rattle.metis_owners.specs.Numbers.{ranks_in}
+use Rattle.metis_owners.specs.Owned.{AreByMetis}
+use Rattle.metis_owners.specs.declared.refusals.MetisRefusal.{MetisRefusal}
+use Rattle.metis_owners.specs.declared.refusals.MetisRefusal.TheVariants as metis
 use Rattle.part_text.specs.Spelling.{Spells}
 use Rattle.owner_text.specs.Written.{partition_text, HasName}
 use Rattle.bound_program.specs.Values.{BoundValue}
@@ -14,6 +18,12 @@ use Rattle.output_pieces.specs.Answered.{IsRefused}
 use Rattle.output_pieces.specs.declared.refusals.PieceRefusal.{PieceRefusal}
 use Rattle.output_pieces.specs.declared.refusals.PieceRefusal.TheVariants.{NoPrint, NoHeader, FewRows, OutOfMemory}
 use Rattle.neighbour_graph.specs.Graph.{IsGraph}
+use Rattle.plan_counts.specs.Table.{counts_text}
+use Rattle.gmsh_mesh.specs.declared.choice.Dimension.{Dimension}
+use Rattle.gmsh_mesh.specs.declared.refusal.GmshRefusal.{GmshRefusal}
+use Rattle.gmsh_mesh.specs.declared.refusal.GmshRefusal.TheVariants as mesh
+use Rattle.gmsh_mesh.specs.declared.convert.Conversion as conversions
+use Rattle.gmsh_mesh.specs.Outcome.{Conversion, Comes}
 use Rattle.cell_numbers.specs.declared.types.Shown.{Shown}
 use Rattle.cell_numbers.specs.declared.types.Shown.TheVariants as shown
 use Rattle.cell_numbers.specs.declared.types.ShownRefusal.TheVariants as unshown
@@ -23,14 +33,15 @@ use Rattle.output_fields.specs.declared.refusals.FieldRefusal.TheVariants as unt
 use Rattle.mesh_draw.specs.declared.types.DrawRefusal.{DrawRefusal}
 use Rattle.mesh_draw.specs.declared.types.DrawRefusal.TheVariants as undrawn
 use Rattle.mesh_draw.specs.Drawn.{IsDrawn, IsUndrawn, IsGrid, IsNoGrid}
-use Rattle.command_words.specs.Refusal.{PrintWeight, Refusal, CannotRead}
+use Rattle.command_words.specs.Refusal.{PrintWeight, PartitionBytes, MeshValues, MeshBytes, Refusal, CannotRead, BeyondLimit}
 use Rattle.command_words.specs.Words.{InFiles, Options}
 use Rattle.answer_lines.specs.Lines.{Answer, done, refused}
 use Rattle.answers.specs.Judgements.{IsHeld, Planned}
 use Rattle.answers.specs.Answers.{given, BoundAnswers, PlanningAnswers, without}
+use Rattle.tool_command.specs.GmshLines.{said_of_mesh}
 use Rattle.tool_words.specs.declared.usage.TheConstants.{USAGE, VERSION}
-use Rattle.tool_words.specs.Words.{ProgramJob, Picks, Graphs, Picture, PlanJob, TellsOwners, Draws, Grids}
-use Rattle.tool_words.specs.Words.{Command, OnProgram, OnPlan, ShowsUsage, ShowsVersion, WordsAre}
+use Rattle.tool_words.specs.Words.{ProgramJob, Picks, Graphs, TakesOwners, Picture, PlanJob, TellsOwners, Counts, Draws, Grids}
+use Rattle.tool_words.specs.Words.{Command, OnProgram, OnPlan, Converts, ShowsUsage, ShowsVersion, WordsAre}
 
 -- ---- lines
 
@@ -97,6 +108,40 @@ OwnersTold b u a =
     ⊎ ((s : ℕ) × (s < set_count b.mesh) × ¬ HasName b.mesh s
     × (a ≡ refused_by_tool (codes "owners 1 name " ++ set_name b.mesh s)))
 
+-- what is said of the text of a partitioner that is refused
+abbrev pub said_of_metis : MetisRefusal → List ℕ
+said_of_metis (metis.NoRank line) = codes "owners 3 line " ++ decimal line
+said_of_metis (metis.Many line) = codes "owners 4 line " ++ decimal line
+said_of_metis (metis.Few line) = codes "owners 5 line " ++ decimal line
+said_of_metis metis.OutOfMemory = []
+
+-- the text of a partitioner is refused, and the answer says so; want of memory is no refusal
+pub record LacksRanks (b : BoundValue) (ranks set : ℕ) (bytes : List ℕ) (a : Answer) : Type 0 where
+  pub refusal : MetisRefusal
+  pub refused : ranks_in ranks (set_size b.mesh set) bytes ≡ Err refusal
+  pub says : a ≡ refused_by_tool (said_of_metis refusal)
+
+-- what is answered to the text of a partitioner for a set: the owners, or that it is refused
+abbrev pub NumbersTaken : (ranks : ℕ) → BoundValue → (set : ℕ) → (bytes : List ℕ) → Answer → Type 0
+NumbersTaken ranks b set bytes a =
+    ((u : Owners) × AreByMetis b.mesh ranks set bytes u × OwnersTold b u a) ⊎ LacksRanks b ranks set bytes a
+
+-- the same for the first set of this name, if there is one
+abbrev pub PartitionTaken : (ranks : ℕ) (set : List ℕ) → BoundValue → (bytes : List ℕ) → Answer → Type 0
+PartitionTaken ranks set b bytes a =
+    ((s : ℕ) × NamesSet b.mesh set (Some s) × NumbersTaken ranks b s bytes a)
+    ⊎ (NamesSet b.mesh set None × (a ≡ refused_by_tool (codes "owners 2 name " ++ set)))
+
+-- what is answered of a bound program: one judgement, and then the answer to the partitioner's text
+abbrev pub TakenAnswers : (ranks : ℕ) (file set : List ℕ) → Files → BoundValue → Answer → Type 0
+TakenAnswers ranks file set files b a = given (IsHeld PartitionBytes file (files file)) (PartitionTaken ranks set b) a
+
+-- ---- stat
+
+-- what is answered of a plan
+abbrev pub CountAnswers : (plain : Bool) → BoundValue → Planned → Answer → Type 0
+CountAnswers plain b p a = a ≡ done (counts_text plain b p.distribution.ranks.items p.plan)
+
 -- ---- draw and vtk
 
 -- the number of the rank or the loop that is shown
@@ -154,16 +199,46 @@ abbrev pub GridAnswers : Picture → Option (List ℕ) → Files → BoundValue 
 GridAnswers p None files b d a = GridOver p b d None a
 GridAnswers p (Some output) files b d a = given (OutputIs output files) (λ bytes. GridOver p b d (Some bytes)) a
 
+-- ---- from-gmsh
+
+-- the answer where there is no mesh; the limits are those of a mesh text
+abbrev pub mesh_refused : GmshRefusal → Answer
+mesh_refused (mesh.Limit size) = refused (BeyondLimit MeshValues size)
+mesh_refused (mesh.Bytes size) = refused (BeyondLimit MeshBytes size)
+mesh_refused e = refused_by_tool (said_of_mesh e)
+
+-- a mesh text and a program, as definitions see them
+abbrev pub conversion_of : conversions.Conversion → Conversion
+conversion_of c = record { mesh = c.mesh.items; source = c.source.now }
+
+-- the answer that is a mesh, or a program for it
+abbrev pub TextAnswers : (writes_source : Bool) → Conversion → Answer → Type 0
+TextAnswers false c a = a ≡ done c.mesh
+TextAnswers true c a = a ≡ done c.source
+
+-- what is answered of the bytes of a file
+abbrev pub ConversionAnswers : Option Dimension → (scale : ℕ) → (writes_source : Bool) → (bytes : List ℕ) → Answer → Type 0
+ConversionAnswers dim scale writes_source bytes a =
+    ((e : GmshRefusal) × Comes bytes dim scale (Err e) × (a ≡ mesh_refused e))
+    ⊎ ((c : Conversion) × Comes bytes dim scale (Ok c) × TextAnswers writes_source c a)
+
+-- The answer to a file. It has no more bytes than a mesh file.
+abbrev pub GmshAnswers : (file : List ℕ) → Option Dimension → (scale : ℕ) → (writes_source : Bool) → Files → Answer → Type 0
+GmshAnswers file dim scale writes_source files =
+    given (IsHeld MeshBytes file (files file)) (ConversionAnswers dim scale writes_source)
+
 -- ---- the whole
 
 -- what a job answers of a bound program
 abbrev pub OnBound : ProgramJob → Files → BoundValue → Answer → Type 0
 OnBound (Picks output file earlier) files b a = PickAnswers output file earlier files b a
 OnBound (Graphs map) files b a = GraphAnswers map b a
+OnBound (TakesOwners ranks file set) files b a = TakenAnswers ranks file set files b a
 
 -- what a job answers of the plan of a bound program
 abbrev pub OnPlanned : PlanJob → BoundValue → Files → Planned → Answer → Type 0
 OnPlanned TellsOwners b files p a = OwnersTold b p.distribution.owners a
+OnPlanned (Counts plain) b files p a = CountAnswers plain b p a
 OnPlanned (Draws picture) b files p a = DrawAnswers picture b p a
 OnPlanned (Grids picture output) b files p a = GridAnswers picture output files b p a
 
@@ -176,6 +251,7 @@ PlanJobAnswers job o files b a = Fits b × PlanningAnswers (OnPlanned job b file
 abbrev pub CommandAnswers : Command → Files → Answer → Type 0
 CommandAnswers (OnProgram job source mesh) files = BoundAnswers (OnBound job files) (InFiles source mesh) files
 CommandAnswers (OnPlan job o source mesh) files = BoundAnswers (PlanJobAnswers job o files) (InFiles source mesh) files
+CommandAnswers (Converts file dim scale writes_source) files = GmshAnswers file dim scale writes_source files
 CommandAnswers ShowsUsage files = λ a. a ≡ done USAGE.now
 CommandAnswers ShowsVersion files = λ a. a ≡ done VERSION.now
 

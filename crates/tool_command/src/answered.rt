@@ -7,6 +7,7 @@ ghost use Rattle.tool_words.specs.Values.{command_of, IsInRange};
 ghost use Rattle.tool_command.specs.ToolAnswers.{CommandAnswers};
 ghost use Rattle.tool_command.specs.Endings.{AreLent, AnswersWords, CallAnswers, names_of};
 
+use crate::gmsh::from_gmsh_file;
 use crate::lines::refused_words;
 use crate::planned::on_plan;
 use crate::programs::on_program;
@@ -34,6 +35,12 @@ fn to_asked<'a, F: Shelf>(
             source,
             mesh,
         } => on_plan(alloc, shelf, job, &options, source, mesh),
+        Asked::Convert {
+            file,
+            dim,
+            scale,
+            writes_source,
+        } => from_gmsh_file(alloc, shelf, file, dim, scale, writes_source),
         Asked::Usage => Ok(done(alloc, USAGE)?),
         Asked::Version => Ok(done(alloc, VERSION)?),
     }

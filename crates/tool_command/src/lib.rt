@@ -6,9 +6,13 @@
 #![tactic(auto)]
 
 mod answered;
+mod counts;
+mod gmsh;
+mod gmsh_lines;
 mod graphs;
 mod lines;
 mod owners;
+mod partitions;
 mod picks;
 mod pictures;
 mod planned;

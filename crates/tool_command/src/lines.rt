@@ -4,9 +4,10 @@ ghost use Rattle.std.specs.Prelude.{◌≡◌, ◌++◌, [], codes, OnOk, IfOk};
 ghost use Rattle.std.specs.Fmt.{decimal};
 ghost use Rattle.answer_lines.specs.Halts.{answer_of};
 ghost use Rattle.answer_lines.specs.Reports.{Stands};
-ghost use Rattle.tool_command.specs.ToolAnswers.{tool_line, refused_by_tool, words_refused, said_of_piece};
+ghost use Rattle.tool_command.specs.ToolAnswers.{tool_line, refused_by_tool, words_refused, said_of_piece, said_of_metis};
 
 use answer_lines::{Answer, put_named};
+use metis_owners::MetisRefusal;
 use op_num::{OutOfMemory, put_u64};
 use op_outside::{Sink, write_all_of};
 use output_pieces::PieceRefusal;
@@ -72,6 +73,29 @@ pub fn refused_piece(
     let mut line = Vec::new(alloc);
     line.extend_from_slice(b"op2-tools: ")?;
     put_said(&mut line, file, refusal)?;
+    line.extend_from_slice(b"\n")?;
+    Ok(refused_by(line))
+}
+
+// What is said of the text of a partitioner that is refused.
+fn put_metis(out: &mut Vec<u8>, refusal: MetisRefusal) -> Result<(), OutOfMemory>
+    ensures { OnOk result (out.new.items ≡ out.old.items ++ said_of_metis refusal) }
+{
+    match refusal {
+        MetisRefusal::NoRank { line } => put_at(out, b"owners 3 line ", line as u64),
+        MetisRefusal::Many { line } => put_at(out, b"owners 4 line ", line as u64),
+        MetisRefusal::Few { line } => put_at(out, b"owners 5 line ", line as u64),
+        MetisRefusal::OutOfMemory => Ok(()),
+    }
+}
+
+/// The answer where the text of a partitioner is refused. An error is want of memory.
+pub fn refused_metis(alloc: Global, refusal: MetisRefusal) -> Result<Answer, OutOfMemory>
+    ensures { IfOk result (λ a. answer_of a ≡ refused_by_tool (said_of_metis refusal)) }
+{
+    let mut line = Vec::new(alloc);
+    line.extend_from_slice(b"op2-tools: ")?;
+    put_metis(&mut line, refusal)?;
     line.extend_from_slice(b"\n")?;
     Ok(refused_by(line))
 }

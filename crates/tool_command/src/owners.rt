@@ -1,5 +1,6 @@
 // Owners, written.
 
+ghost use Rattle.mesh_decl.specs.Owners.{AreOwners};
 ghost use Rattle.bound_program.specs.Values.{bound_of};
 ghost use Rattle.job_inputs.specs.Chains.{AnswersBy};
 ghost use Rattle.job_plans.specs.Plans.{IsSpread};
@@ -9,15 +10,16 @@ use crate::lines::refused_name;
 use answer_lines::{Answer, Failure, Halt};
 use bound_program::Bound;
 use job_plans::Planned;
+use mesh_decl::Owners;
 use owner_text::{WriteRefusal, write_partition};
 use std::alloc::Global;
 
-/// The answer of telling the owners on the ranks of a plan.
-pub fn told<'a>(alloc: Global, bound: &Bound, planned: &Planned) -> Result<Answer, Halt<'a>>
-    requires { IsSpread (bound_of bound.now) planned.now.distribution }
-    ensures { AnswersBy (OwnersTold (bound_of bound.now) planned.now.distribution.owners) result }
+/// The answer that these owners are.
+pub fn written<'a>(alloc: Global, bound: &Bound, owners: &Owners) -> Result<Answer, Halt<'a>>
+    requires { AreOwners (bound_of bound.now).mesh owners.now }
+    ensures { AnswersBy (OwnersTold (bound_of bound.now) owners.now) result }
 {
-    match write_partition(alloc, &bound.mesh, &planned.distribution.owners) {
+    match write_partition(alloc, &bound.mesh, owners) {
         Ok(text) => Ok(Answer::Done(text)),
         Err(WriteRefusal::Unnamed { set }) => {
             let name = bound.mesh.set_name(set).bytes();
@@ -25,4 +27,12 @@ pub fn told<'a>(alloc: Global, bound: &Bound, planned: &Planned) -> Result<Answe
         }
         Err(WriteRefusal::OutOfMemory) => Err(Halt::Failed(Failure::OutOfMemory)),
     }
+}
+
+/// The answer of telling the owners on the ranks of a plan.
+pub fn told<'a>(alloc: Global, bound: &Bound, planned: &Planned) -> Result<Answer, Halt<'a>>
+    requires { IsSpread (bound_of bound.now) planned.now.distribution }
+    ensures { AnswersBy (OwnersTold (bound_of bound.now) planned.now.distribution.owners) result }
+{
+    written(alloc, bound, &planned.distribution.owners)
 }

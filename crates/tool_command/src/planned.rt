@@ -17,6 +17,7 @@ ghost use Rattle.tool_words.specs.Values.{plan_job_of};
 ghost use Rattle.tool_command.specs.ToolAnswers.{OnPlanned, PlanJobAnswers};
 ghost use Rattle.tool_command.specs.Endings.{names_for_plan, names_behind};
 
+use crate::counts::counted;
 use crate::owners::told;
 use crate::pictures::{drawn, gridded};
 use answer_lines::{Answer, Halt};
@@ -50,7 +51,10 @@ fn awaited<'a>(
             output: Some(output),
             ..
         } => kept.push(output)?,
-        PlanJob::TellsOwners | PlanJob::Draws { .. } | PlanJob::Grids { output: None, .. } => {}
+        PlanJob::TellsOwners
+        | PlanJob::Counts { .. }
+        | PlanJob::Draws { .. }
+        | PlanJob::Grids { output: None, .. } => {}
     }
     Ok(kept)
 }
@@ -75,6 +79,7 @@ fn on_planned<'a, F: Shelf>(
 {
     match job {
         PlanJob::TellsOwners => told(alloc, bound, planned),
+        PlanJob::Counts { plain } => counted(alloc, bound, planned, plain),
         PlanJob::Draws { picture } => drawn(alloc, bound, planned, picture),
         PlanJob::Grids { picture, output } => {
             gridded(alloc, shelf, kept, bound, planned, picture, output)

@@ -7,12 +7,14 @@ ghost use Rattle.bound_program.specs.Values.{bound_of};
 ghost use Rattle.bound_program.specs.Fits.{Fits};
 ghost use Rattle.job_inputs.specs.Chains.{AnswersFrom, AnswersOver};
 ghost use Rattle.tool_words.specs.Values.{job_of};
+ghost use Rattle.tool_words.specs.Ranges.{HasFewRanks};
 ghost use Rattle.command_words.specs.Words.{InFiles};
 ghost use Rattle.answers.specs.Answers.{BoundAnswers};
 ghost use Rattle.tool_command.specs.ToolAnswers.{OnBound};
 ghost use Rattle.tool_command.specs.Endings.{names_for};
 
 use crate::graphs::graphed;
+use crate::partitions::taken;
 use crate::picks::picked;
 use answer_lines::{Answer, Halt};
 use bound_program::Bound;
@@ -39,6 +41,7 @@ fn awaited<'a>(
     match job {
         ProgramJob::Picks { output, .. } => kept.push(output)?,
         ProgramJob::Graphs { .. } => {}
+        ProgramJob::TakesOwners { file, .. } => kept.push(file)?,
     }
     Ok(kept)
 }
@@ -54,6 +57,7 @@ fn on_bound<'a, F: Shelf>(
     requires lent { All (λ name. F.lends shelf.old name) (names_for (job_of job)) }
     requires next { AreNext (names_for (job_of job)) kept.old }
     requires fits { Fits (bound_of bound.now) }
+    requires few { HasFewRanks (job_of job) }
     ensures { AnswersFrom (F.told shelf.old) kept.old (λ files. OnBound (job_of job.entry) files (bound_of bound.now))
         (Rose (F.faults shelf.old) (F.faults shelf.new)) result }
 {
@@ -64,10 +68,14 @@ fn on_bound<'a, F: Shelf>(
             earlier,
         } => picked(alloc, shelf, kept, bound, output, file, earlier),
         ProgramJob::Graphs { map } => graphed(alloc, bound, map),
+        ProgramJob::TakesOwners { ranks, file, set } => {
+            taken(alloc, shelf, kept, bound, ranks, file, set)
+        }
     }
 }
 
 /// The answer of a job on the program in a file over the mesh in a file: `op2`'s judgements up to the first refusal, and then the job's.
+/// Its number of ranks, where it has one, is 1 to 64.
 pub fn on_program<'a, F: Shelf>(
     alloc: Global,
     shelf: &mut F,
@@ -77,6 +85,7 @@ pub fn on_program<'a, F: Shelf>(
 ) -> Result<Answer, Halt<'a>>
     requires input { All (λ name. F.lends shelf.old name) (source.now ∷ mesh.now ∷ []) }
     requires own { All (λ name. F.lends shelf.old name) (names_for (job_of job)) }
+    requires few { HasFewRanks (job_of job) }
     ensures { AnswersOver (F.told shelf.old) ((source.now ∷ mesh.now ∷ []) ++ names_for (job_of job.entry))
         (λ files. BoundAnswers (OnBound (job_of job.entry) files) (InFiles source.now mesh.now) files)
         (Rose (F.faults shelf.old) (F.faults shelf.new)) result }

@@ -43,6 +43,12 @@ given_are f =
       first_value-rows f (codes "halos"),
       first_value-rows f (codes "colours"),
       first_value-rows f (codes "output"),
+      first_value-rows f (codes "plain"),
+      first_value-rows f (codes "metis"),
+      first_value-rows f (codes "set"),
+      first_value-rows f (codes "scale"),
+      first_value-rows f (codes "dim"),
+      first_value-rows f (codes "source"),
     ) refl
 
 -- by the matches

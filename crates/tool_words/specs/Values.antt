@@ -2,10 +2,11 @@
 use Rattle.std.specs.Prelude.{◌≡◌, ℕ, List, false, Option, Some, None, Result, Ok, Err, codes, option_map}
 use Rattle.clap.specs.declared.parser.matches.Found.{Found}
 use Rattle.clap.specs.Matches.{first_value}
-use Rattle.command_words.specs.Words.{OptionWords}
+use Rattle.command_words.specs.Words.{OptionWords, is_set}
 use Rattle.command_words.specs.Values.{option_words_of, options_in}
 use Rattle.tool_words.specs.Words as words
-use Rattle.tool_words.specs.Words.{Picks, Graphs, TellsOwners, Draws, Grids, OnProgram, OnPlan, ShowsUsage, ShowsVersion, WordsAre}
+use Rattle.tool_words.specs.Words.{Picks, Graphs, TakesOwners, TellsOwners, Counts, Draws, Grids}
+use Rattle.tool_words.specs.Words.{OnProgram, OnPlan, Converts, ShowsUsage, ShowsVersion, WordsAre}
 use Rattle.tool_words.specs.Ranges.{IsWithin}
 use Rattle.tool_words.specs.declared.asked.ProgramJob.{ProgramJob}
 use Rattle.tool_words.specs.declared.asked.ProgramJob.TheVariants as job
@@ -27,6 +28,12 @@ own_of w = record {
   halos = option_map (λ s. s.now) w.halos;
   colours = option_map (λ s. s.now) w.colours;
   output = option_map (λ s. s.now) w.output;
+  plain = w.plain;
+  metis = option_map (λ s. s.now) w.metis;
+  set = option_map (λ s. s.now) w.set;
+  scale = option_map (λ s. s.now) w.scale;
+  dim = option_map (λ s. s.now) w.dim;
+  source = w.source;
 }
 
 -- the words behind the job's name, and the options
@@ -68,6 +75,12 @@ own_found f = record {
   halos = first_value f (codes "halos");
   colours = first_value f (codes "colours");
   output = first_value f (codes "output");
+  plain = is_set (first_value f (codes "plain"));
+  metis = first_value f (codes "metis");
+  set = first_value f (codes "set");
+  scale = first_value f (codes "scale");
+  dim = first_value f (codes "dim");
+  source = is_set (first_value f (codes "source"));
 }
 
 -- all words
@@ -86,6 +99,7 @@ given_found f = record {
 abbrev pub job_of : ProgramJob → words.ProgramJob
 job_of (job.Picks output file earlier) = Picks output.now file.now earlier
 job_of (job.Graphs map) = Graphs map.now
+job_of (job.TakesOwners ranks file set) = TakesOwners ranks file.now set.now
 
 -- what is shown of a mesh
 abbrev pub picture_of : Picture → words.Picture
@@ -94,6 +108,7 @@ picture_of p = record { coords = p.coords.now; cells = p.cells.now; shown = p.sh
 -- what is done with its plan
 abbrev pub plan_job_of : PlanJob → words.PlanJob
 plan_job_of plan_job.TellsOwners = TellsOwners
+plan_job_of (plan_job.Counts plain) = Counts plain
 plan_job_of (plan_job.Draws p) = Draws (picture_of p)
 plan_job_of (plan_job.Grids p output) = Grids (picture_of p) (option_map (λ s. s.now) output)
 
@@ -101,6 +116,7 @@ plan_job_of (plan_job.Grids p output) = Grids (picture_of p) (option_map (λ s. 
 abbrev pub command_of : Asked → words.Command
 command_of (asked.OnProgram j source mesh) = OnProgram (job_of j) source.now mesh.now
 command_of (asked.OnPlan j o source mesh) = OnPlan (plan_job_of j) (options_in o) source.now mesh.now
+command_of (asked.Convert file dim scale writes_source) = Converts file.now dim scale writes_source
 command_of asked.Usage = ShowsUsage
 command_of asked.Version = ShowsVersion
 

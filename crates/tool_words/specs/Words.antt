@@ -11,14 +11,18 @@ use Rattle.clap.specs.declared.error.kind.ErrorKind.TheVariants as kind
 use Rattle.op_num.specs.Spelling.{number_of}
 use Rattle.cell_numbers.specs.declared.types.Shown.{Shown}
 use Rattle.cell_numbers.specs.declared.types.Shown.TheVariants as shown
-use Rattle.command_words.specs.Words.{Options, OptionWords, options_of, runs_nothing}
-use Rattle.command_words.specs.Words.{positional, option, versioned, with_rules}
+use Rattle.gmsh_mesh.specs.declared.choice.Dimension.{Dimension}
+use Rattle.gmsh_mesh.specs.declared.choice.Dimension.TheVariants as dimension
+use Rattle.command_words.specs.Words.{Options, OptionWords, options_of, chain_options_of, runs_nothing}
+use Rattle.command_words.specs.Words.{positional, option, flag, versioned, with_rules, is_set}
 
 -- What is done with a program over a mesh: the dat that it prints with this text as its file, behind so many such dats, is picked out of
--- the output in a file; or the graph of neighbours by the map of this name is written.
+-- the output in a file; the graph of neighbours by the map of this name is written; or owners on so many ranks are, of which a graph
+-- partitioner wrote those of this set in a file.
 pub data ProgramJob : Type 0 where
   Picks : (output file : List ℕ) (earlier : ℕ) → ProgramJob
   Graphs : (map : List ℕ) → ProgramJob
+  TakesOwners : (ranks : ℕ) (file set : List ℕ) → ProgramJob
 
 -- What is shown of a mesh: where its nodes lie by a dat, which nodes its cells have by a map, and what the numbers of the cells say.
 pub record Picture : Type 0 where
@@ -26,18 +30,22 @@ pub record Picture : Type 0 where
   pub cells : List ℕ
   pub shown : Shown
 
--- What is done with the plan of a program over a mesh: who owns which element there is written; a picture of the mesh is drawn; or its grid
--- is written for VTK, with what a run printed where the file of its output is named.
+-- What is done with the plan of a program over a mesh: who owns which element there is written; what it costs is told loop by loop, for a
+-- reader or for a script; a picture of the mesh is drawn; or its grid is written for VTK, with what a run printed where the file of its
+-- output is named.
 pub data PlanJob : Type 0 where
   TellsOwners : PlanJob
+  Counts : (plain : Bool) → PlanJob
   Draws : Picture → PlanJob
   Grids : Picture → (output : Option (List ℕ)) → PlanJob
 
--- what the words ask for: a job on the program in a file over the mesh in a file, or on its plan with these options; or what the program
--- says of itself
+-- What the words ask for: a job on the program in a file over the mesh in a file, or on its plan with these options; the mesh text of the
+-- mesh of Gmsh in a file, of this dimension or that of its elements, at this scale, or a program for it; or what the program says of
+-- itself.
 pub data Command : Type 0 where
   OnProgram : ProgramJob → (source mesh : List ℕ) → Command
   OnPlan : PlanJob → Options → (source mesh : List ℕ) → Command
+  Converts : (file : List ℕ) → Option Dimension → (scale : ℕ) → (writes_source : Bool) → Command
   ShowsUsage : Command
   ShowsVersion : Command
 
@@ -51,11 +59,16 @@ places = codes "FIRST" ∷ codes "SECOND" ∷ codes "THIRD" ∷ codes "FOURTH" �
 abbrev pub options : List (List ℕ)
 options =
     codes "ranks" ∷ codes "parts" ∷ codes "partition" ∷ codes "renumber" ∷ codes "block" ∷ codes "plan" ∷ codes "coords" ∷ codes "cells"
-    ∷ codes "halos" ∷ codes "colours" ∷ codes "output" ∷ []
+    ∷ codes "halos" ∷ codes "colours" ∷ codes "output" ∷ codes "metis" ∷ codes "set"
+    ∷ codes "scale" ∷ codes "dim" ∷ []
+
+-- the options with none
+abbrev pub flags : List (List ℕ)
+flags = codes "plain" ∷ codes "source" ∷ []
 
 -- its words, and then its options
 abbrev pub rules : List Rule
-rules = (positional true (codes "JOB") ∷ map (positional false) places) ++ map option options
+rules = (positional true (codes "JOB") ∷ map (positional false) places) ++ map option options ++ map flag flags
 
 -- `op2-tools JOB WORD ..` with these options, `--help` and `--version`
 abbrev pub command : App
@@ -70,6 +83,12 @@ pub record OwnWords : Type 0 where
   pub halos : Option (List ℕ)
   pub colours : Option (List ℕ)
   pub output : Option (List ℕ)
+  pub plain : Bool
+  pub metis : Option (List ℕ)
+  pub set : Option (List ℕ)
+  pub scale : Option (List ℕ)
+  pub dim : Option (List ℕ)
+  pub source : Bool
 
 -- the words behind the job's name, and the values of the options of a plan and of those of single jobs
 pub record Given : Type 0 where
@@ -108,6 +127,12 @@ own_in rows = record {
   halos = first_of (codes "halos") rows;
   colours = first_of (codes "colours") rows;
   output = first_of (codes "output") rows;
+  plain = is_set (first_of (codes "plain") rows);
+  metis = first_of (codes "metis") rows;
+  set = first_of (codes "set") rows;
+  scale = first_of (codes "scale") rows;
+  dim = first_of (codes "dim") rows;
+  source = is_set (first_of (codes "source") rows);
 }
 
 -- all words
@@ -122,10 +147,18 @@ given_in rows = record {
   own = own_in rows;
 }
 
+-- none of the options of a picture stands
+abbrev pub names_no_picture : OwnWords → Bool
+names_no_picture w = not (is_some w.coords) && not (is_some w.cells) && not (is_some w.halos) && not (is_some w.colours)
+
+-- none of those of a mesh of Gmsh stands
+abbrev pub names_no_mesh : OwnWords → Bool
+names_no_mesh w = not (is_some w.scale) && not (is_some w.dim) && not w.source
+
 -- none of the options of single jobs stands
 abbrev pub are_bare : OwnWords → Bool
 are_bare w =
-    not (is_some w.coords) && not (is_some w.cells) && not (is_some w.halos) && not (is_some w.colours) && not (is_some w.output)
+    names_no_picture w && not (is_some w.output) && not w.plain && not (is_some w.metis) && not (is_some w.set) && names_no_mesh w
 
 -- no option stands
 abbrev pub has_no_option : Given → Bool
@@ -138,6 +171,22 @@ has_picture_alone w = are_bare (record w { coords = None; cells = None; halos = 
 -- the same, beside the file of an output
 abbrev pub has_grid_alone : OwnWords → Bool
 has_grid_alone w = has_picture_alone (record w { output = None })
+
+-- no option stands of a job other than what it costs
+abbrev pub has_plain_alone : OwnWords → Bool
+has_plain_alone w = are_bare (record w { plain = false })
+
+-- no option stands of a job other than owners
+abbrev pub has_metis_alone : OwnWords → Bool
+has_metis_alone w = are_bare (record w { metis = None; set = None })
+
+-- no option stands of a job other than a mesh of Gmsh
+abbrev pub has_mesh_alone : OwnWords → Bool
+has_mesh_alone w = are_bare (record w { scale = None; dim = None; source = false })
+
+-- of the options of a plan none but the number of ranks stands
+abbrev pub has_ranks_alone : OptionWords → Bool
+has_ranks_alone w = runs_nothing (record w { ranks = None })
 
 -- a command, where its options allow it
 abbrev pub where_so : (allowed : Bool) → Option Command → Option Command
@@ -166,6 +215,22 @@ abbrev pub planned : PlanJob → (source mesh third : Option (List ℕ)) → Opt
 planned job (Some source) (Some mesh) None w = option_map (λ o. OnPlan job o source mesh) (options_of w)
 planned job _ _ _ w = None
 
+-- SOURCE MESH, with a partitioner's text for a set, and the number of ranks
+abbrev pub taken : (file set : List ℕ) → (source mesh third : Option (List ℕ)) → OptionWords → Option Command
+taken file set (Some source) (Some mesh) None w =
+    where_so (has_ranks_alone w) (option_map (λ o. OnProgram (TakesOwners o.ranks file set) source mesh) (chain_options_of w))
+taken file set _ _ _ w = None
+
+-- owners: of a plan, or out of a partitioner's text, where `--metis` and `--set` stand together
+abbrev pub owned : (metis set : Option (List ℕ)) → Given → Option Command
+owned None None g = planned TellsOwners g.first g.second g.third g.planning
+owned (Some file) (Some set) g = taken file set g.first g.second g.third g.planning
+owned _ _ g = None
+
+-- the same, with `--plain`
+abbrev pub counted : Given → Option Command
+counted g = planned (Counts g.own.plain) g.first g.second g.third g.planning
+
 -- a number below 2 ^ 32 in decimal digits
 abbrev pub small_number : List ℕ → Option ℕ
 small_number word = option_and_then (λ n. if nat_lt n 4294967296 then Some n else None) (number_of word)
@@ -189,14 +254,36 @@ picture_in w = picture_by w.coords w.cells (shown_by w.halos w.colours)
 abbrev pub pictured : (Picture → PlanJob) → Given → Option Command
 pictured job g = option_and_then (λ p. planned (job p) g.first g.second g.third g.planning) (picture_in g.own)
 
+-- the dimension that a word says, 2 or 3, or none where no word stands
+abbrev pub dimension_by : Option (List ℕ) → Option (Option Dimension)
+dimension_by None = Some None
+dimension_by (Some word) =
+    if bytes_eq word (codes "2") then Some (Some dimension.Two)
+    else if bytes_eq word (codes "3") then Some (Some dimension.Three)
+    else None
+
+-- the scale that a word says, from 1 on, below 2 ^ 32, in decimal digits
+abbrev pub scale_by : Option (List ℕ) → Option ℕ
+scale_by None = None
+scale_by (Some word) = option_and_then (λ n. if nat_lt 0 n then Some n else None) (small_number word)
+
+-- FILE, with `--scale`, `--dim` and `--source`
+abbrev pub converted : (file second : Option (List ℕ)) → OwnWords → Option Command
+converted (Some file) None w =
+    option_and_then (λ scale. option_map (λ dim. Converts file dim scale w.source) (dimension_by w.dim)) (scale_by w.scale)
+converted _ _ w = None
+
 -- by the job's name
 abbrev pub by_name : (job : List ℕ) → Given → Option Command
 by_name job g =
     if bytes_eq job (codes "pick") then where_so (has_no_option g) (picked g.first g.second g.third g.fourth g.fifth)
     else if bytes_eq job (codes "graph") then where_so (has_no_option g) (graphed g.first g.second g.third g.fourth)
-    else if bytes_eq job (codes "owners") then where_so (are_bare g.own) (planned TellsOwners g.first g.second g.third g.planning)
+    else if bytes_eq job (codes "owners") then where_so (has_metis_alone g.own) (owned g.own.metis g.own.set g)
+    else if bytes_eq job (codes "stat") then where_so (has_plain_alone g.own) (counted g)
     else if bytes_eq job (codes "draw") then where_so (has_picture_alone g.own) (pictured Draws g)
     else if bytes_eq job (codes "vtk") then where_so (has_grid_alone g.own) (pictured (λ p. Grids p g.own.output) g)
+    else if bytes_eq job (codes "from-gmsh") then
+    where_so (runs_nothing g.planning && has_mesh_alone g.own) (converted g.first g.second g.own)
     else None
 
 -- the word JOB stands

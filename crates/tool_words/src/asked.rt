@@ -2,6 +2,7 @@
 
 use cell_numbers::Shown;
 use command_words::Options;
+use gmsh_mesh::Dimension;
 
 /// What is done with a program over a mesh.
 #[derive(Clone, Copy, Debug)]
@@ -16,6 +17,13 @@ pub enum ProgramJob<'a> {
     /// The graph of neighbours by the map of this name is written.
     Graphs {
         map: &'a str,
+    },
+    /// Owners on so many ranks, 1 to 64, are written: those of the set `set` are what a graph partitioner wrote in the file `file`, and
+    /// those of the other sets are derived from them.
+    TakesOwners {
+        ranks: u32,
+        file: &'a str,
+        set: &'a str,
     },
 }
 
@@ -35,6 +43,10 @@ pub struct Picture<'a> {
 pub enum PlanJob<'a> {
     /// Who owns which element there is written, as the text of a partition.
     TellsOwners,
+    /// What it costs is told loop by loop; where `plain` is set, for a script.
+    Counts {
+        plain: bool,
+    },
     /// A picture of the mesh is drawn.
     Draws {
         picture: Picture<'a>,
@@ -61,6 +73,14 @@ pub enum Asked<'a> {
         options: Options<'a>,
         source: &'a str,
         mesh: &'a str,
+    },
+    /// The mesh text of the mesh of Gmsh in `file`, of this dimension or that of its elements, coordinates times `scale`, which is not 0;
+    /// where `writes_source` is set, a program for it.
+    Convert {
+        file: &'a str,
+        dim: Option<Dimension>,
+        scale: u32,
+        writes_source: bool,
     },
     /// What the program says of its use.
     Usage,

@@ -6,12 +6,12 @@ ghost use Rattle.clap.specs.Faults.{fault_of};
 ghost use Rattle.clap.specs.Kinds.{HasKind};
 ghost use Rattle.clap.specs.Simple.{app_of, matches_of};
 ghost use Rattle.clap.specs.Walk.{rows_of};
-ghost use Rattle.command_words.specs.Words.{with_rules, positional};
+ghost use Rattle.command_words.specs.Words.{with_rules, positional, flag};
 ghost use Rattle.tool_words.specs.Words.{command};
 
 use crate::usage::VERSION;
 use clap::{ArgMatches, Command, Error};
-use command_words::{with_options, with_positional};
+use command_words::{with_flag, with_options, with_positional};
 use std::alloc::{AllocError, Global};
 
 // The command with further words, which needn't stand, one behind the other.
@@ -31,6 +31,23 @@ fn with_places<'a>(
     Ok(command)
 }
 
+// The command with further options of no value, one behind the other.
+fn with_flags<'a>(
+    alloc: Global,
+    command: Command<'a>,
+    ids: &[&'a str],
+) -> Result<Command<'a>, AllocError>
+    ensures { IfOk result (λ c. app_of c ≡ with_rules (app_of command.entry) (map (λ id. flag id.now) ids.now)) }
+{
+    let mut command = command;
+    let mut rest = ids;
+    while let [id, more @ ..] = rest {
+        command = with_flag(alloc, command, id)?;
+        rest = more;
+    }
+    Ok(command)
+}
+
 // The command: `op2-tools JOB WORD ..` with its options, `--help` and `--version`.
 fn command<'a>(alloc: Global) -> Result<Command<'a>, AllocError>
     ensures { IfOk result (λ c. app_of c ≡ command) }
@@ -42,7 +59,7 @@ fn command<'a>(alloc: Global) -> Result<Command<'a>, AllocError>
         command,
         &["FIRST", "SECOND", "THIRD", "FOURTH", "FIFTH"],
     )?;
-    with_options(
+    let command = with_options(
         alloc,
         command,
         &[
@@ -57,8 +74,13 @@ fn command<'a>(alloc: Global) -> Result<Command<'a>, AllocError>
             "halos",
             "colours",
             "output",
+            "metis",
+            "set",
+            "scale",
+            "dim",
         ],
-    )
+    )?;
+    with_flags(alloc, command, &["plain", "source"])
 }
 
 /// What `clap` matches of the words, the program's name first, or its refusal.

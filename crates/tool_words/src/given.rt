@@ -1,12 +1,15 @@
 // The words that jobs are asked for by.
 
 ghost use Rattle.std.specs.Prelude.{◌≡◌};
-ghost use Rattle.tool_words.specs.Words.{are_bare, has_no_option, has_picture_alone, has_grid_alone};
+ghost use Rattle.tool_words.specs.Words.{names_no_picture, names_no_mesh, are_bare, has_no_option};
+ghost use Rattle.tool_words.specs.Words.{has_picture_alone, has_grid_alone, has_plain_alone};
+ghost use Rattle.tool_words.specs.Words.{has_metis_alone, has_ranks_alone, has_mesh_alone};
+ghost use Rattle.command_words.specs.Values.{option_words_of};
 ghost use Rattle.tool_words.specs.Values.{own_of, given_of};
 
 use command_words::{OptionWords, runs_nothing};
 
-/// The values of the options of single jobs.
+/// The values of the options of single jobs, and whether their flags stand.
 #[derive(Clone, Copy, Debug)]
 pub struct OwnWords<'a> {
     pub coords: Option<&'a str>,
@@ -14,6 +17,12 @@ pub struct OwnWords<'a> {
     pub halos: Option<&'a str>,
     pub colours: Option<&'a str>,
     pub output: Option<&'a str>,
+    pub plain: bool,
+    pub metis: Option<&'a str>,
+    pub set: Option<&'a str>,
+    pub scale: Option<&'a str>,
+    pub dim: Option<&'a str>,
+    pub source: bool,
 }
 
 /// The words behind the job's name, and the values of the options of a plan and of those of single jobs.
@@ -28,15 +37,33 @@ pub struct Given<'a> {
     pub own: OwnWords<'a>,
 }
 
-/// Whether none of the options of single jobs stands.
-pub fn are_bare(words: &OwnWords<'_>) -> bool
-    ensures { result ≡ are_bare (own_of words.now) }
+// Whether none of the options of a picture stands.
+fn names_no_picture(words: &OwnWords<'_>) -> bool
+    ensures { result ≡ names_no_picture (own_of words.now) }
 {
     words.coords.is_none()
         && words.cells.is_none()
         && words.halos.is_none()
         && words.colours.is_none()
+}
+
+// Whether none of those of a mesh of Gmsh stands.
+fn names_no_mesh(words: &OwnWords<'_>) -> bool
+    ensures { result ≡ names_no_mesh (own_of words.now) }
+{
+    words.scale.is_none() && words.dim.is_none() && !words.source
+}
+
+/// Whether none of the options of single jobs stands.
+pub fn are_bare(words: &OwnWords<'_>) -> bool
+    ensures { result ≡ are_bare (own_of words.now) }
+{
+    names_no_picture(words)
         && words.output.is_none()
+        && !words.plain
+        && words.metis.is_none()
+        && words.set.is_none()
+        && names_no_mesh(words)
 }
 
 /// Whether no option stands.
@@ -69,4 +96,51 @@ pub fn has_grid_alone(words: &OwnWords<'_>) -> bool
         ..*words
     };
     has_picture_alone(&others)
+}
+
+/// Whether no option stands of a job other than what a plan costs.
+pub fn has_plain_alone(words: &OwnWords<'_>) -> bool
+    ensures { result ≡ has_plain_alone (own_of words.now) }
+{
+    let others = OwnWords {
+        plain: false,
+        ..*words
+    };
+    are_bare(&others)
+}
+
+/// Whether no option stands of a job other than owners.
+pub fn has_metis_alone(words: &OwnWords<'_>) -> bool
+    ensures { result ≡ has_metis_alone (own_of words.now) }
+{
+    let others = OwnWords {
+        metis: None,
+        set: None,
+        ..*words
+    };
+    are_bare(&others)
+}
+
+/// Whether no option stands of a job other than a mesh of Gmsh.
+pub fn has_mesh_alone(words: &OwnWords<'_>) -> bool
+    ensures { result ≡ has_mesh_alone (own_of words.now) }
+{
+    let others = OwnWords {
+        scale: None,
+        dim: None,
+        source: false,
+        ..*words
+    };
+    are_bare(&others)
+}
+
+/// Whether of the options of a plan none but the number of ranks stands.
+pub fn has_ranks_alone(words: &OptionWords<'_>) -> bool
+    ensures { result ≡ has_ranks_alone (option_words_of words.now) }
+{
+    let others = OptionWords {
+        ranks: None,
+        ..*words
+    };
+    runs_nothing(&others)
 }

@@ -2,14 +2,18 @@
 
 ghost use Rattle.std.specs.Prelude.{◌≡◌, option_map};
 ghost use Rattle.tool_words.specs.Words.{by_name, where_so, picked, graphed, planned, earlier_than};
-ghost use Rattle.tool_words.specs.Words.{are_bare, has_no_option, has_picture_alone, has_grid_alone};
-ghost use Rattle.tool_words.specs.Words.{TellsOwners, Draws, Grids, pictured};
+ghost use Rattle.tool_words.specs.Words.{has_metis_alone, has_no_option, has_picture_alone, has_grid_alone, has_plain_alone};
+ghost use Rattle.tool_words.specs.Words.{taken, owned, counted, Draws, Grids, pictured};
 ghost use Rattle.tool_words.specs.Values.{command_of, given_of, plan_job_of};
 
 use crate::asked::{Asked, PlanJob, ProgramJob};
-use crate::given::{Given, are_bare, has_grid_alone, has_no_option, has_picture_alone};
+use crate::conversions::converted;
+use crate::given::{
+    Given, has_grid_alone, has_metis_alone, has_no_option, has_picture_alone, has_plain_alone,
+    has_ranks_alone,
+};
 use crate::pictures::picture_in;
-use command_words::options_of;
+use command_words::{chain_options_of, options_of};
 use op_num::read_u64;
 
 /// What is asked for by the job's name.
@@ -21,11 +25,15 @@ pub fn by_name<'a>(job: &str, given: &Given<'a>) -> Option<Asked<'a>>
     } else if job == "graph" {
         graphed(given)
     } else if job == "owners" {
-        told(given)
+        owned(given)
+    } else if job == "stat" {
+        counted(given)
     } else if job == "draw" {
         drawn(given)
     } else if job == "vtk" {
         gridded(given)
+    } else if job == "from-gmsh" {
+        converted(given)
     } else {
         None
     }
@@ -111,16 +119,46 @@ fn planned<'a>(job: PlanJob<'a>, given: &Given<'a>) -> Option<Asked<'a>>
     })
 }
 
-// The same for owners, where no option of a picture stands.
-fn told<'a>(given: &Given<'a>) -> Option<Asked<'a>>
-    ensures { option_map command_of result ≡ where_so (are_bare (given_of given.now).own)
-        (planned TellsOwners (given_of given.now).first (given_of given.now).second (given_of given.now).third
-        (given_of given.now).planning) }
+// SOURCE MESH, with a partitioner's text for a set, and the number of ranks.
+fn taken<'a>(file: &'a str, set: &'a str, given: &Given<'a>) -> Option<Asked<'a>>
+    ensures { option_map command_of result ≡ taken file.now set.now (given_of given.now).first (given_of given.now).second
+        (given_of given.now).third (given_of given.now).planning }
 {
-    if !are_bare(&given.own) {
+    let (Some(source), Some(mesh), None) = (given.first, given.second, given.third) else {
+        return None;
+    };
+    if !has_ranks_alone(&given.planning) {
         return None;
     }
-    planned(PlanJob::TellsOwners, given)
+    let ranks = chain_options_of(&given.planning)?.ranks;
+    let job = ProgramJob::TakesOwners { ranks, file, set };
+    Some(Asked::OnProgram { job, source, mesh })
+}
+
+// Owners of a plan, or out of a partitioner's text.
+fn owned<'a>(given: &Given<'a>) -> Option<Asked<'a>>
+    ensures { option_map command_of result ≡ where_so (has_metis_alone (given_of given.now).own)
+        (owned (given_of given.now).own.metis (given_of given.now).own.set (given_of given.now)) }
+{
+    if !has_metis_alone(&given.own) {
+        return None;
+    }
+    match (given.own.metis, given.own.set) {
+        (None, None) => planned(PlanJob::TellsOwners, given),
+        (Some(file), Some(set)) => taken(file, set, given),
+        _ => None,
+    }
+}
+
+// The same for what a plan costs.
+fn counted<'a>(given: &Given<'a>) -> Option<Asked<'a>>
+    ensures { option_map command_of result ≡ where_so (has_plain_alone (given_of given.now).own) (counted (given_of given.now)) }
+{
+    if !has_plain_alone(&given.own) {
+        return None;
+    }
+    let plain = given.own.plain;
+    planned(PlanJob::Counts { plain }, given)
 }
 
 // A picture drawn.

@@ -6,6 +6,7 @@
 
 mod asked;
 mod command;
+mod conversions;
 mod given;
 mod jobs;
 mod pictures;

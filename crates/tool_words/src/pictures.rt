@@ -9,8 +9,8 @@ use crate::given::OwnWords;
 use cell_numbers::Shown;
 use op_num::read_u64;
 
-// A number below 2^32 in decimal digits.
-fn small_number(word: &str) -> Option<u32>
+/// A number below 2^32 in decimal digits.
+pub fn small_number(word: &str) -> Option<u32>
     ensures { result ≡ small_number word.now }
 {
     match read_u64(word.as_bytes()) {

@@ -16,7 +16,7 @@ use crate::jobs::by_name;
 use crate::refusals::WordsRefusal;
 use clap::error::ErrorKind;
 use clap::{ArgMatches, Error};
-use command_words::{OptionWords, option_words_are_within};
+use command_words::{OptionWords, is_set, option_words_are_within};
 use std::alloc::Global;
 
 /// What the words, the program's name first, ask for. `Usage`: the words are not those of a command. `OutOfMemory`: for want of memory
@@ -77,6 +77,12 @@ fn own_words<'a>(matches: &ArgMatches<'a>) -> OwnWords<'a>
         halos: matches.get_str("halos"),
         colours: matches.get_str("colours"),
         output: matches.get_str("output"),
+        plain: is_set(matches.get_str("plain")),
+        metis: matches.get_str("metis"),
+        set: matches.get_str("set"),
+        scale: matches.get_str("scale"),
+        dim: matches.get_str("dim"),
+        source: is_set(matches.get_str("source")),
     }
 }
 

@@ -12,10 +12,18 @@ Jobs
                  it leads
   owners SOURCE MESH
                  writes who owns which element on the ranks of a plan, as the text of a partition
+  owners SOURCE MESH --metis F --set SET [--ranks N]
+                 writes the owners that a graph partitioner gave the elements of SET, and those of the other sets by them
+  stat SOURCE MESH
+                 writes what a plan costs: of each loop the site and the class, its runs, exchanges, messages and cells, the
+                 elements and how they are spread, and its blocks and colours
   draw SOURCE MESH --coords DAT --cells MAP
                  writes a picture of a plane mesh as an SVG: each cell with the colour of its owner
   vtk SOURCE MESH --coords DAT --cells MAP
                  writes the mesh for VTK, as ParaView reads it, with a number on each cell
+  from-gmsh FILE --scale S
+                 writes the mesh text of the mesh of Gmsh in FILE, version 2.2 or 4.1, ASCII; each coordinate is the integer
+                 nearest to the file's times S
 
 Options of draw and vtk
   --coords DAT   the dat that has the coordinates of the nodes, two or three for each
@@ -24,13 +32,25 @@ Options of draw and vtk
   --colours S    shows the block colours of the loop with number S in place of the owners
   --output FILE  of vtk: with what a run, whose output FILE holds, printed last of each dat on the cells and the nodes
 
-Options of owners, draw and vtk
+Options of owners
+  --metis F      the file F has the rank of each element of SET, a line for each, as METIS writes
+  --set SET
+
+Option of stat
+  --plain        for scripts: a line for each loop, with no heads and no legend
+
+Options of owners, stat, draw and vtk
   --ranks N      these six as for op2, see op2 --help: how many ranks there are, who owns which element, new numbers, and
-  --parts RULE   the blocks and colours of the plan; what the last three name is judged, and changes no owner
+  --parts RULE   the blocks and colours of the plan; the last three change no owner
   --partition F
   --renumber MAP
   --block N
   --plan F
+
+Options of from-gmsh
+  --scale S      from 1 to 4294967295
+  --dim D        2 for a plane mesh, 3 for one of space; without it what the file's elements have
+  --source       writes a program that declares all of the mesh and prints sums, in place of the mesh text
 
 Options that stand alone
   -h, --help     writes this text

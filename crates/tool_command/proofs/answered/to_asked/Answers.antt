@@ -1,4 +1,4 @@
-use Rattle.std.proofs.Common.{[], ◌∷◌, ◌++◌}
+use Rattle.std.proofs.Common.{zero, arith, [], ◌∷◌, ◌++◌}
 use Rattle.tool_words.specs.Words.{ShowsUsage, ShowsVersion}
 use Rattle.tool_words.specs.Values.{job_of, plan_job_of}
 use Rattle.command_words.specs.Words.{names_by, names_in_blocks}
@@ -19,6 +19,9 @@ pub on_program-requires-clause-own : goal.on_program-requires-clause-own
 on_program-requires-clause-own g c =
     all_right (g.F.Shelf.lends c.args.shelf.now) (c.in-OnProgram.source.now ∷ c.in-OnProgram.mesh.now ∷ []) (names_for (job_of c.in-OnProgram.job))
     (rw c.in-OnProgram.is at c.requires.lent)
+
+pub on_program-requires-clause-few : goal.on_program-requires-clause-few
+on_program-requires-clause-few g c = rw c.in-OnProgram.is at c.requires.in_range
 
 pub returns-in-OnProgram : goal.returns-in-OnProgram
 returns-in-OnProgram g c = rw c.in-OnProgram.is c.on_program.ensures
@@ -53,6 +56,15 @@ on_plan-requires-clause-own g c =
 
 pub returns-in-OnPlan : goal.returns-in-OnPlan
 returns-in-OnPlan g c = rw c.in-OnPlan.is c.on_plan.ensures
+
+pub from_gmsh_file-requires-clause-lent : goal.from_gmsh_file-requires-clause-lent
+from_gmsh_file-requires-clause-lent g c = let h = rw c.in-Convert.is at c.requires.lent in h zero c.in-Convert.file.now (omega arith)
+
+pub from_gmsh_file-requires-clause-scale : goal.from_gmsh_file-requires-clause-scale
+from_gmsh_file-requires-clause-scale g c = rw c.in-Convert.is at c.requires.in_range
+
+pub returns-in-Convert : goal.returns-in-Convert
+returns-in-Convert g c = rw c.in-Convert.is c.from_gmsh_file.ensures
 
 pub returns-in_ok-done-in-Usage : goal.returns-in_ok-done-in-Usage
 returns-in_ok-done-in-Usage g c =

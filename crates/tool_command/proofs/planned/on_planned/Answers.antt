@@ -10,10 +10,10 @@ use Rattle.job_inputs.specs.Chains.{AnswersBy, AnswersFrom}
 use Rattle.job_inputs.proofs.Chained.{answers_always}
 use Rattle.job_plans.specs.Plans.{planned_of}
 use Rattle.tool_words.specs.Words as words
-use Rattle.tool_words.specs.Words.{TellsOwners, Draws}
+use Rattle.tool_words.specs.Words.{TellsOwners, Counts, Draws}
 use Rattle.tool_words.specs.Values.{picture_of, plan_job_of}
 use Rattle.tool_words.specs.declared.asked.PlanJob.{PlanJob}
-use Rattle.tool_command.specs.ToolAnswers.{OnPlanned, OwnersTold, DrawAnswers}
+use Rattle.tool_command.specs.ToolAnswers.{OnPlanned, OwnersTold, CountAnswers, DrawAnswers}
 use Rattle.tool_command.proofs.planned.on_planned.Goals as goal
 
 -- what a job answers of a plan is what is asked for
@@ -33,6 +33,13 @@ returns-in-TellsOwners g c =
     (Rose (g.F.Shelf.faults c.args.shelf.now) (g.F.Shelf.faults c.args.shelf.now)) c.told.result c.args.job TellsOwners
     (OwnersTold (bound_of c.args.bound.now) (planned_of c.args.planned.now).distribution.owners) (ap plan_job_of c.in-TellsOwners.is) (λ files a k. k)
     c.told.ensures
+
+pub returns-in-Counts : goal.returns-in-Counts
+returns-in-Counts g c =
+    answered (g.F.Shelf.told c.args.shelf.now) c.args.kept.now (bound_of c.args.bound.now) (planned_of c.args.planned.now)
+    (Rose (g.F.Shelf.faults c.args.shelf.now) (g.F.Shelf.faults c.args.shelf.now)) c.counted.result c.args.job (Counts c.in-Counts.plain)
+    (CountAnswers c.in-Counts.plain (bound_of c.args.bound.now) (planned_of c.args.planned.now)) (ap plan_job_of c.in-Counts.is) (λ files a k. k)
+    c.counted.ensures
 
 pub returns-in-Draws : goal.returns-in-Draws
 returns-in-Draws g c =
