@@ -44,6 +44,14 @@ with tempfile.TemporaryDirectory() as name:
     row(f"owners {both} --ranks 2 --ranks 2", 2, line="usage")
     row(f"owners {both} --parts block --partition p", 2, line="usage")
     row(f"owners {both} --block 2 --plan p", 2, line="usage")
+    row(f"owners {both} --metis q", 2, line="usage")
+    row(f"owners {both} --set nodes", 2, line="usage")
+    row(f"owners {both} --metis q --set nodes --block 2", 2, line="usage")
+    row(f"owners {both} --metis q --set nodes --parts block", 2, line="usage")
+    row(f"owners {both} --metis q --set nodes --plain", 2, line="usage")
+    row(f"stat {both} more", 2, line="usage")
+    row(f"stat {both} --coords x", 2, line="usage")
+    row(f"graph {both} pe --plain", 2, line="usage")
 
     # pick
     row(f"pick {both} residual.out r.txt", out="r.txt: r nodes 3 1\n1\n1\n-2\n")
@@ -64,5 +72,35 @@ with tempfile.TemporaryDirectory() as name:
     # what op2 refuses keeps its line
     row(f"owners {both} --ranks 2 --parts grow:x", 7, line="op2: partition name x")
     row(f"owners {both} --ranks 2 --partition none", 3, line="op2: cannot read none")
+
+    # of what a partitioner wrote: an edge has the rank most frequent among its nodes, of equally frequent ones the lowest
+    row(f"owners {both} --ranks 2 --metis q --set nodes", out="op2part 1\nset nodes 3\n1 0 1\nset edges 2\n0 0\ndone\n", q="1\n0\n1\n")
+    # a node has that of the edges which name it; blanks around a number and empty lines at the end change nothing
+    row(f"owners {both} --ranks 2 --metis q --set edges", out="op2part 1\nset nodes 3\n1 0 0\nset edges 2\n1 0\ndone\n", q=" 1\r\n0 \n\n")
+    row(f"owners {both} --ranks 2 --metis q --set x", 20, line="owners 2 name x", q="1\n0\n1\n")
+    row(f"owners {both} --ranks 2 --metis q --set nodes", 20, line="owners 3 line 2", q="1\n2\n1\n")
+    row(f"owners {both} --ranks 2 --metis q --set nodes", 20, line="owners 3 line 1", q="x\n2\n1\n")
+    row(f"owners {both} --ranks 2 --metis q --set nodes", 20, line="owners 3 line 2", q="1\n\n0\n1\n")
+    row(f"owners {both} --ranks 2 --metis q --set nodes", 20, line="owners 4 line 1", q="1 0 1\n")
+    row(f"owners {both} --ranks 2 --metis q --set nodes", 20, line="owners 4 line 4", q="1\n0\n1\n0\n")
+    row(f"owners {both} --ranks 2 --metis q --set nodes", 20, line="owners 5 line 3", q="1\n0\n\n")
+    row(f"owners {both} --ranks 2 --metis q --set nodes", 20, line="owners 5 line 1", q="")
+    row(f"owners {both} --ranks 2 --metis none --set nodes", 3, line="op2: cannot read none")
+
+    # stat: rank 0 has edge 0, rank 1 has edge 1 and runs edge 0 again, which shares node 1 with it; both are one block, in two colours
+    row(f"stat {both} --plain", out="0 res 18:3 free - 1 0 0 0 2 0 1.00 1 1 2\ntotal - - - - 1 0 0 0 2 0 - 1 - -\n")
+    row(f"stat {both} --ranks 2 --plain", out="0 res 18:3 free - 1 0 0 0 2 1 1.33 2 1 2\ntotal - - - - 1 0 0 0 2 1 - 2 - -\n")
+
+    # from-gmsh: tests/gmsh.py holds all else
+    row("from-gmsh", 2, line="usage")
+    row("from-gmsh m.msh", 2, line="usage")
+    row("from-gmsh m.msh --scale 0", 2, line="usage")
+    row("from-gmsh m.msh --scale 4294967296", 2, line="usage")
+    row("from-gmsh m.msh --scale 1 --dim 4", 2, line="usage")
+    row("from-gmsh m.msh --scale 1 --ranks 2", 2, line="usage")
+    row("from-gmsh m.msh --scale 1", 20, line="from-gmsh 1 line 1", m_msh="$Mesh\n")
+    row("from-gmsh m.msh --scale 1", 20, line="from-gmsh 2 line 2", m_msh="$MeshFormat\n2.1 0 8\n$EndMeshFormat\n")
+    empty = "$MeshFormat\n2.2 0 8\n$EndMeshFormat\n$Nodes\n0\n$EndNodes\n$Elements\n0\n$EndElements\n"
+    row("from-gmsh m.msh --scale 1", 20, line="from-gmsh 8", m_msh=empty)
 print(f"{tried} rows, {bad} of them differ")
 sys.exit(1 if bad else 0)
