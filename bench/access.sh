@@ -1,12 +1,13 @@
 #!/bin/sh
 # Times the access check on kernels at the limit of work, each of some 524,000 turns, and on sources of 1 MiB full of loops over one kernel of 350,000:
 # on a set of no elements `op2 run` reads the source, judges its kernel and runs nothing. Shows each call's status, its seconds and its peak memory.
-# Usage: bench/access.sh
+# Usage: bench/access.sh     (OP2 may name another program)
 here=$(CDPATH= cd -- "$(dirname -- "$0")/.." && pwd) || exit 1
+op2=${OP2:-$here/op2}
 work=$(mktemp -d) || exit 1
 trap 'rm -rf "$work"' EXIT
-"$here/op2" run "$here/examples/bump.c" "$here/examples/bump.mesh" >/dev/null || exit 1
-python3 - "$here/op2" "$work" <<'PY'
+"$op2" run "$here/examples/bump.c" "$here/examples/bump.mesh" >/dev/null || exit 1
+python3 - "$op2" "$work" <<'PY'
 import itertools, resource, subprocess, sys, time
 op2, work = sys.argv[1:]
 mesh = f"{work}/none.mesh"

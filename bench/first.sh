@@ -1,10 +1,11 @@
 #!/bin/sh
 # Times `op2 run examples/bump.c` on meshes of doubling size, and shows each run's peak memory.
-# Usage: bench/first.sh [SIZE ..]     (elements; 500000 1000000 2000000 4000000 where none is given)
+# Usage: bench/first.sh [SIZE ..]     (elements; 500000 1000000 2000000 4000000 where none is given; OP2 may name another program)
 here=$(CDPATH= cd -- "$(dirname -- "$0")/.." && pwd) || exit 1
+op2=${OP2:-$here/op2}
 work=$(mktemp -d) || exit 1
 trap 'rm -rf "$work"' EXIT
-"$here/op2" run "$here/examples/bump.c" "$here/examples/bump.mesh" >/dev/null || exit 1
+"$op2" run "$here/examples/bump.c" "$here/examples/bump.mesh" >/dev/null || exit 1
 [ $# -gt 0 ] || set -- 500000 1000000 2000000 4000000
 for size in "$@"; do
     awk -v n="$size" 'BEGIN {
@@ -12,7 +13,7 @@ for size in "$@"; do
         for (i = 0; i < n; i++) print i % 1000003 - 500000
         print "done"
     }' >"$work/bump.mesh"
-    python3 - "$here/op2" "$here/examples/bump.c" "$work/bump.mesh" "$size" <<'PY'
+    python3 - "$op2" "$here/examples/bump.c" "$work/bump.mesh" "$size" <<'PY'
 import resource, subprocess, sys, time
 op2, source, mesh, size = sys.argv[1:]
 begun = time.time()

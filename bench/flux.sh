@@ -3,13 +3,14 @@
 # blocks take six colours and more: nanoseconds of the processor an edge, of a run less its check and of the second loop, and machine
 # instructions where there are at most 200,000 edges and valgrind is there, beside plain C by gcc -O2 where gcc is there. Then times
 # compiled kernels alone: the flux kernel of crates/flux_bench, for each of so many edges one after another in place on whole arrays.
-# Usage: bench/flux.sh [N ..]     (300 1000 where none is given)
+# Usage: bench/flux.sh [N ..]     (300 1000 where none is given; OP2 may name another program)
 here=$(CDPATH= cd -- "$(dirname -- "$0")/.." && pwd) || exit 1
+op2=${OP2:-$here/op2}
 work=$(mktemp -d) || exit 1
 trap 'rm -rf "$work"' EXIT
-"$here/op2" run "$here/examples/bump.c" "$here/examples/bump.mesh" >/dev/null || exit 1
+"$op2" run "$here/examples/bump.c" "$here/examples/bump.mesh" >/dev/null || exit 1
 [ $# -gt 0 ] || set -- 300 1000
-python3 "$here/bench/flux.py" "$here/crates/op2_cli/out/op2_cli" "$work" 7 "$@" || exit 1
+python3 "$here/bench/flux.py" "${OP2:-$here/crates/op2_cli/out/op2_cli}" "$work" 7 "$@" || exit 1
 program=$here/crates/flux_bench/out/flux_bench
 if [ ! -x "$program" ]; then
     echo 'building: each crate is proved first' >&2

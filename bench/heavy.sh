@@ -2,9 +2,10 @@
 # Times loops on a chain of N edges: a kernel of 20,000 turns with an `if`, and a flux kernel, where edges lead from a node to itself, or have
 # faults, so that their batches can't run at once. Prints nanoseconds of the processor an edge, of a run less its check and of a second
 # loop in one run, beside plain C by gcc -O2 where gcc is there. After a fault the run stops, so there is no second loop.
-# Usage: bench/heavy.sh [N]     (1000000 where none is given)
+# Usage: bench/heavy.sh [N]     (1000000 where none is given; OP2 may name another program)
 here=$(CDPATH= cd -- "$(dirname -- "$0")/.." && pwd) || exit 1
+op2=${OP2:-$here/op2}
 work=$(mktemp -d) || exit 1
 trap 'rm -rf "$work"' EXIT
-"$here/op2" run "$here/examples/bump.c" "$here/examples/bump.mesh" >/dev/null || exit 1
-python3 "$here/bench/heavy.py" "$here/crates/op2_cli/out/op2_cli" "$work" 5 "${1:-1000000}"
+"$op2" run "$here/examples/bump.c" "$here/examples/bump.mesh" >/dev/null || exit 1
+python3 "$here/bench/heavy.py" "${OP2:-$here/crates/op2_cli/out/op2_cli}" "$work" 5 "${1:-1000000}"

@@ -4,11 +4,12 @@
 # the steps are put in order and written; the written steps are read and judged. Then come runs, by the standard order, a drawn one and the written one,
 # with groups on four workers, and renumbered by cuts with a dump. Last, a loop over 4,000,000 elements with four targets each is planned, and planned by
 # its own plan's text, beside a C program that reads that text's numbers. Prints seconds of the processor, elapsed seconds and peak memory.
-# Usage: bench/plan.sh [N ..]     (250 500 1000 where none is given; from 1025 on there are too many steps)
+# Usage: bench/plan.sh [N ..]     (250 500 1000 where none is given; from 1025 on there are too many steps; OP2 may name another program)
 here=$(CDPATH= cd -- "$(dirname -- "$0")/.." && pwd) || exit 1
+op2=${OP2:-$here/op2}
 work=$(mktemp -d) || exit 1
 trap 'rm -rf "$work"' EXIT
-"$here/op2" run "$here/examples/bump.c" "$here/examples/bump.mesh" >/dev/null || exit 1
+"$op2" run "$here/examples/bump.c" "$here/examples/bump.mesh" >/dev/null || exit 1
 [ $# -gt 0 ] || set -- 250 500 1000
 cat >"$work/grid.py" <<'P'
 import sys
@@ -31,7 +32,7 @@ with open(out, "wb") as f:
 used = resource.getrusage(resource.RUSAGE_CHILDREN)
 print(f"  {name:<52} {used.ru_utime + used.ru_stime:6.2f} s, {spent:6.2f} s elapsed, {used.ru_maxrss // 1024:5} MiB, status {status}")
 P
-timed() { name=$1 && shift && python3 "$work/timed.py" "$name" "$work/out" "$here/op2" "$@"; }
+timed() { name=$1 && shift && python3 "$work/timed.py" "$name" "$work/out" "$op2" "$@"; }
 
 c=$here/examples/residual.c
 m=$work/m.mesh

@@ -1,11 +1,12 @@
 #!/bin/sh
 # Times `op2 run` on grids of doubling size: the residual on edges (examples/residual.c), and a program in the manner of OP2's airfoil, with nodes,
 # cells, edges, boundary edges and ten turns of five loops. Prints time and peak memory, beside those of plain C loops where gcc is there.
-# Usage: bench/run.sh [N ..]     (cells a side; 70 140 280 where none is given; a plan of 400 has too many steps)
+# Usage: bench/run.sh [N ..]     (cells a side; 70 140 280 where none is given; a plan of 400 has too many steps; OP2 may name another program)
 here=$(CDPATH= cd -- "$(dirname -- "$0")/.." && pwd) || exit 1
+op2=${OP2:-$here/op2}
 work=$(mktemp -d) || exit 1
 trap 'rm -rf "$work"' EXIT
-"$here/op2" run "$here/examples/bump.c" "$here/examples/bump.mesh" >/dev/null || exit 1
+"$op2" run "$here/examples/bump.c" "$here/examples/bump.mesh" >/dev/null || exit 1
 [ $# -gt 0 ] || set -- 70 140 280
 cat >"$work/airfoil.c" <<'C'
 extern int nnode; extern int ncell; extern int nedge; extern int nbedge;
@@ -77,7 +78,7 @@ print(f"{sys.argv[1]}: status {status}, {time.time() - begun:.2f} s, {peak / 102
 PY
 for n in "$@"; do
     python3 "$here/bench/grid.py" "$work" "$n"
-    python3 "$work/timed.py" "residual, $((2 * n * (n - 1))) edges" "$here/op2" run "$here/examples/residual.c" "$work/residual.mesh"
-    python3 "$work/timed.py" "airfoil, $((n * n)) cells" "$here/op2" run "$work/airfoil.c" "$work/airfoil.mesh"
+    python3 "$work/timed.py" "residual, $((2 * n * (n - 1))) edges" "$op2" run "$here/examples/residual.c" "$work/residual.mesh"
+    python3 "$work/timed.py" "airfoil, $((n * n)) cells" "$op2" run "$work/airfoil.c" "$work/airfoil.mesh"
     [ ! -x "$work/plain" ] || python3 "$work/timed.py" "plain C, $((n * n)) cells" "$work/plain" "$work/airfoil.mesh"
 done

@@ -3,14 +3,15 @@
 # every form, up to the 1 MiB that a source may have; their `main` does nothing.
 # Then times reading a source of 1 MiB with 100,000 names, and resolving them (crates/name_bench); and reading one of 1 MiB with 10,000 loops,
 # and translating it (`op2 translate`).
-# Usage: bench/source.sh [BYTES ..]     (131072 262144 524288 1048576 where none is given)
+# Usage: bench/source.sh [BYTES ..]     (131072 262144 524288 1048576 where none is given; OP2 may name another program)
 here=$(CDPATH= cd -- "$(dirname -- "$0")/.." && pwd) || exit 1
+op2=${OP2:-$here/op2}
 work=$(mktemp -d) || exit 1
 trap 'rm -rf "$work"' EXIT
-"$here/op2" run "$here/examples/bump.c" "$here/examples/bump.mesh" >/dev/null || exit 1
+"$op2" run "$here/examples/bump.c" "$here/examples/bump.mesh" >/dev/null || exit 1
 [ $# -gt 0 ] || set -- 131072 262144 524288 1048576
 for size in "$@"; do
-    python3 - "$here/op2" "$work/source.c" "$here/examples/bump.mesh" "$size" <<'PY'
+    python3 - "$op2" "$work/source.c" "$here/examples/bump.mesh" "$size" <<'PY'
 import resource, subprocess, sys, time
 op2, source, mesh, size = sys.argv[1:]
 end = "int main(int argc, char **argv) {\n  op_exit();\n}\n"

@@ -1,11 +1,12 @@
 #!/bin/sh
 # Times states of N values of at most seven digits (`op2 state`, `op2 schedule --from`), beside what reads or writes as many: the program is bound and planned
 # without a state; the mesh text is read and written again. The program has no loop. Prints seconds of the processor, elapsed seconds and peak memory.
-# Usage: bench/state.sh [N]     (30000000 where none is given; N is a multiple of 1000)
+# Usage: bench/state.sh [N]     (30000000 where none is given; N is a multiple of 1000; OP2 may name another program)
 here=$(CDPATH= cd -- "$(dirname -- "$0")/.." && pwd) || exit 1
+op2=${OP2:-$here/op2}
 work=$(mktemp -d) || exit 1
 trap 'rm -rf "$work"' EXIT
-"$here/op2" run "$here/examples/bump.c" "$here/examples/bump.mesh" >/dev/null || exit 1
+"$op2" run "$here/examples/bump.c" "$here/examples/bump.mesh" >/dev/null || exit 1
 cat >"$work/s.c" <<'P'
 extern int n;
 extern int a0[];
@@ -35,7 +36,7 @@ with open(out, "wb") as f:
 used = resource.getrusage(resource.RUSAGE_CHILDREN)
 print(f"  {name:<52} {used.ru_utime + used.ru_stime:6.2f} s, {spent:6.2f} s elapsed, {used.ru_maxrss // 1024:5} MiB, status {status}")
 P
-timed() { name=$1 && shift && python3 "$work/timed.py" "$name" "$work/out" "$here/op2" "$@"; }
+timed() { name=$1 && shift && python3 "$work/timed.py" "$name" "$work/out" "$op2" "$@"; }
 c=$work/s.c
 m=$work/m
 echo "${1:-30000000} values"

@@ -2,11 +2,11 @@
 # Times runs with one worker and with more of them: the sample of 200, on one rank and on four; kernels of 200 turns on 90,000 nodes and the 179,400 edges
 # between them, on one rank and on four; and a kernel of 20,000 turns on 1,000 elements. Prints seconds of the processor and elapsed seconds of the fastest
 # of three runs, for the last three less what `check` takes, and how long a run takes beside that with one worker.
-# Usage: bench/workers.sh [WORKERS ..]     (2 4 where none is given)
+# Usage: bench/workers.sh [WORKERS ..]     (2 4 where none is given; OP2 may name another program)
 here=$(CDPATH= cd -- "$(dirname -- "$0")/.." && pwd) || exit 1
 work=$(mktemp -d) || exit 1
 trap 'rm -rf "$work"' EXIT
-op2=$here/op2
+op2=${OP2:-$here/op2}
 "$op2" run "$here/examples/bump.c" "$here/examples/bump.mesh" >/dev/null || exit 1
 [ $# -gt 0 ] || set -- 2 4
 python3 "$here/bench/grid.py" "$work" 300 || exit 1
