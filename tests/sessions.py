@@ -9,7 +9,7 @@ top = pathlib.Path(__file__).resolve().parent.parent
 op2 = pathlib.Path(sys.argv[1] if len(sys.argv) > 1 else top / "op2").resolve()
 tools = pathlib.Path(sys.argv[2] if len(sys.argv) > 2 else top / "op2-tools").resolve()
 pages = ["README.md", "examples/README.md"]
-pages += [f"docs/{page}.md" for page in ("CHAINS", "COMPILERS", "OUTPUT", "PORTING", "STATEMENT", "TOOLS", "TUTORIAL")]
+pages += [f"docs/{page}.md" for page in ("CHAINS", "COMPILERS", "GMSH", "OUTPUT", "PORTING", "STATEMENT", "TOOLS", "TUTORIAL")]
 bad = tried = 0
 
 
