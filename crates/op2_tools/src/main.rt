@@ -18,7 +18,7 @@ fn main(rt: HostRuntime) -> ExitCode {
     };
     let mut out = OutSink::new(rt.stdout());
     let mut shelf = FileShelf::new(rt);
-    ExitCode::from(tools(alloc, &words, &mut shelf, &mut out, &mut err))
+    ExitCode::from(tools(&rt, alloc, &words, &mut shelf, &mut out, &mut err))
 }
 
 // Why there are no words.

@@ -11,9 +11,9 @@ use Rattle.answer_lines.specs.declared.refusals.Failure.{Failure}
 use Rattle.answer_lines.specs.declared.refusals.Failure.TheVariants as failure
 use Rattle.answers.specs.Endings.{Ending, Answered, OutOfMemory, Unread, Unwritten, Call, ending_status, ending_line}
 use Rattle.answers.specs.Endings.{HoldAll, IsReported, IsWritten}
-use Rattle.command_words.specs.Words.{Options, names_by, names_in_blocks}
+use Rattle.command_words.specs.Words.{Options, names_by, names_in_blocks, named_by}
 use Rattle.tool_words.specs.Words.{ProgramJob, Picks, Graphs, TakesOwners, PlanJob, TellsOwners, Counts, Draws, Grids}
-use Rattle.tool_words.specs.Words.{Command, OnProgram, OnPlan, Converts, ShowsUsage, ShowsVersion, WordsAre}
+use Rattle.tool_words.specs.Words.{Command, OnProgram, OnPlan, Converts, Explains, ShowsUsage, ShowsVersion, WordsAre}
 use Rattle.tool_command.specs.ToolAnswers.{ToolAnswers, ComesToBeRead}
 
 -- ---- the files that words name
@@ -45,6 +45,7 @@ abbrev pub names_of : Command → List (List ℕ)
 names_of (OnProgram job source mesh) = (source ∷ mesh ∷ []) ++ names_for job
 names_of (OnPlan job o source mesh) = (source ∷ mesh ∷ []) ++ names_behind job o
 names_of (Converts file dim scale writes_source) = file ∷ []
+names_of (Explains call) = named_by call
 names_of ShowsUsage = []
 names_of ShowsVersion = []
 

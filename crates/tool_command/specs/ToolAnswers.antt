@@ -38,10 +38,11 @@ use Rattle.command_words.specs.Words.{InFiles, Options}
 use Rattle.answer_lines.specs.Lines.{Answer, done, refused}
 use Rattle.answers.specs.Judgements.{IsHeld, Planned}
 use Rattle.answers.specs.Answers.{given, BoundAnswers, PlanningAnswers, without}
+use Rattle.explain_job.specs.ExplainAnswers.{ExplainAnswers}
 use Rattle.tool_command.specs.GmshLines.{said_of_mesh}
 use Rattle.tool_words.specs.declared.usage.TheConstants.{USAGE, VERSION}
 use Rattle.tool_words.specs.Words.{ProgramJob, Picks, Graphs, TakesOwners, Picture, PlanJob, TellsOwners, Counts, Draws, Grids}
-use Rattle.tool_words.specs.Words.{Command, OnProgram, OnPlan, Converts, ShowsUsage, ShowsVersion, WordsAre}
+use Rattle.tool_words.specs.Words.{Command, OnProgram, OnPlan, Converts, Explains, ShowsUsage, ShowsVersion, WordsAre}
 
 -- ---- lines
 
@@ -252,6 +253,7 @@ abbrev pub CommandAnswers : Command → Files → Answer → Type 0
 CommandAnswers (OnProgram job source mesh) files = BoundAnswers (OnBound job files) (InFiles source mesh) files
 CommandAnswers (OnPlan job o source mesh) files = BoundAnswers (PlanJobAnswers job o files) (InFiles source mesh) files
 CommandAnswers (Converts file dim scale writes_source) files = GmshAnswers file dim scale writes_source files
+CommandAnswers (Explains call) files = ExplainAnswers call files
 CommandAnswers ShowsUsage files = λ a. a ≡ done USAGE.now
 CommandAnswers ShowsVersion files = λ a. a ≡ done VERSION.now
 

@@ -10,12 +10,17 @@ use crate::answered::answered;
 use answer_lines::{Answer, Failure, Line, report};
 use op_outside::{Shelf, Sink, write_all_of};
 use std::alloc::Global;
+use std::marker::Sync;
+use std::thread::Threads;
+use tool_words::call_in;
 
 /// Does what the words say, and answers the status that the program ends with.
 ///
 /// `words` has the program's name first; `op2-tools --help` tells what may stand behind it. What is written to `out` is written at the
 /// end. Where the call ends with another status than 0, one line is written to `err`, and where it is neither 0 nor 4, nothing to `out`.
-pub fn tools<F: Shelf, O: Sink, E: Sink>(
+/// `rt` starts the threads of the `--workers` of a call that is explained.
+pub fn tools<R: Threads + Sync, F: Shelf, O: Sink, E: Sink>(
+    rt: &R,
     alloc: Global,
     words: &Vec<String>,
     shelf: &mut F,
@@ -35,7 +40,11 @@ pub fn tools<F: Shelf, O: Sink, E: Sink>(
       err = (E.written err.old, E.written err.new);
     }) result }
 {
-    match answered(alloc, words, shelf) {
+    let call = match call_in(alloc, words) {
+        Ok(call) => call,
+        Err(_) => return write_failure(Failure::OutOfMemory, err),
+    };
+    match answered(rt, alloc, words, &call, shelf) {
         Ok(answer) => write_answer(&answer, out, err),
         Err(failure) => write_failure(failure, err),
     }

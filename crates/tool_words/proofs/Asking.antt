@@ -1,5 +1,6 @@
 -- What `clap` answers is what the words ask for.
-use Rattle.std.proofs.Common.{◌≡◌, ℕ, List, [], Option, Result, Ok, Err, IfOk, IfErr, codes, true, inl, inr, ⊎_elim, refl, sym, subst}
+use Rattle.std.specs.declared.alloc.Global.{Global}
+use Rattle.std.proofs.Common.{◌≡◌, ℕ, List, [], map, Option, Some, None, Vec, String, string_bytes, Result, Ok, Err, IfOk, IfErr, codes, true, inl, inr, ⊎_elim, refl, sym, subst}
 use Rattle.clap.specs.Faults.{fault_of, is_simple_and_free}
 use Rattle.clap.specs.Kinds.{HasKind, FailsBy}
 use Rattle.clap.specs.Matches.{found_of, first_value}
@@ -12,17 +13,30 @@ use Rattle.clap.proofs.WalkLemmas.{first_value-rows}
 use Rattle.clap.specs.declared.error.Error.{Error}
 use Rattle.clap.specs.declared.error.kind.ErrorKind.TheVariants as kind
 use Rattle.clap.specs.declared.parser.matches.ArgMatches.{ArgMatches}
-use Rattle.tool_words.specs.Words.{Command, command, given_in, asked, judged, by_kind, WordsAre}
+use Rattle.tool_words.specs.Words.{Command, command, given_in, asked, judged, by_kind, MatchesAre, Explains, call_in}
 use Rattle.tool_words.specs.declared.asked.Asked.{Asked}
 use Rattle.tool_words.specs.declared.refusals.WordsRefusal.{WordsRefusal}
 use Rattle.tool_words.specs.declared.refusals.WordsRefusal.TheVariants.{Usage, OutOfMemory}
-use Rattle.tool_words.specs.Values.{AsksBy, IsRead, given_found}
+use Rattle.tool_words.specs.Values.{AsksBy, IsRead, IsReadWith, call_of, given_found}
 
 -- what is asked for is so of the words
-is_read : (words : List (List ℕ)) (r : Result Asked WordsRefusal) (o : Option Command) → WordsAre words o → AsksBy r o → IsRead words r
-is_read words (Ok a) o are h = subst (WordsAre words) h are
-is_read words (Err Usage) o are h = subst (WordsAre words) h are
+is_read : (words : List (List ℕ)) (r : Result Asked WordsRefusal) (o : Option Command) → MatchesAre words o → AsksBy r o → IsReadWith None words r
+is_read words (Ok a) o are h = subst (MatchesAre words) h are
+is_read words (Err Usage) o are h = subst (MatchesAre words) h are
 is_read words (Err OutOfMemory) o are h = tt
+
+-- with the call that the words have, or without one
+pub with_call : (words : List (List ℕ)) (call : Option (Vec (String Global) Global)) (r : Result Asked WordsRefusal)
+    → call_of call ≡ call_in words
+    → IsReadWith (call_of call) words r
+    → IsRead words r
+with_call words call r e h = subst (λ c. IsReadWith c words r) e h
+
+-- by a call in them
+pub call_reads : (words call : List (List ℕ)) (r : Result Asked WordsRefusal) → AsksBy r (Some (Explains call)) → IsReadWith (Some call) words r
+call_reads words call (Ok a) h = h
+call_reads words call (Err Usage) h = h
+call_reads words call (Err OutOfMemory) h = tt
 
 given_are : (f : Found) → given_found f ≡ given_in (rows_of f)
 given_are f =
@@ -56,7 +70,7 @@ pub matched_reads : (words : List (List ℕ)) (m : ArgMatches) (r : Result Asked
     → fault_of command words ≡ []
     → rows_of (found_of m) ≡ matches_of command words
     → AsksBy r (asked (first_value (found_of m) (codes "JOB")) (given_found (found_of m)))
-    → IsRead words r
+    → IsReadWith None words r
 matched_reads words m r none rows h = is_read words r (judged (matches_of command words)) (inl (none, refl)) (subst (AsksBy r) same h)
   where
     same : asked (first_value (found_of m) (codes "JOB")) (given_found (found_of m)) ≡ judged (matches_of command words)
@@ -67,10 +81,10 @@ pub refused_reads : (words : List (List ℕ)) (e : Error) (r : Result Asked Word
     → HasKind (fault_of command words) e
     → AsksBy r (by_kind (kind_of e))
     → (kind_of e ≡ kind.OutOfMemory → r ≡ Err OutOfMemory)
-    → IsRead words r
+    → IsReadWith None words r
 refused_reads words e r has asks memory =
     ⊎_elim
-    (λ out. subst (IsRead words) (sym (memory out)) tt)
+    (λ out. subst (IsReadWith None words) (sym (memory out)) tt)
     (λ among. is_read words r (by_kind (kind_of e)) (inr (kind_of e, among, refl)) asks)
     has
 

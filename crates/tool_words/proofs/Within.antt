@@ -11,7 +11,7 @@ use Rattle.command_words.specs.Words.{Options, ChainOptions, OptionWords, option
 use Rattle.command_words.specs.Laws.{AreFew, AreWithin, OptionWordsAreWithin}
 use Rattle.command_words.proofs.Within.{Holds, Any, any, holds_if, holds_then, holds_map}
 use Rattle.tool_words.specs.Words.{TakesOwners, Picture, PlanJob, TellsOwners, Counts, Draws, Grids, Command, OnProgram, OnPlan, Converts, OwnWords, Given, command, where_so, earlier_than, has_no_option, has_metis_alone, has_ranks_alone, has_picture_alone, has_grid_alone, has_plain_alone, has_mesh_alone, counted, small_number, scale_by, dimension_by, converted, picture_in, pictured}
-use Rattle.tool_words.specs.Words.{picked, graphed, planned, taken, owned, by_name, given_in, asked, judged, by_kind, WordsAre}
+use Rattle.tool_words.specs.Words.{picked, graphed, planned, taken, owned, by_name, given_in, asked, judged, by_kind, MatchesAre, WordsAreWith, call_in}
 use Rattle.tool_words.specs.Ranges.{IsWithin}
 use Rattle.tool_words.specs.declared.asked.Asked.{Asked}
 use Rattle.tool_words.specs.declared.refusals.WordsRefusal.{WordsRefusal}
@@ -109,12 +109,16 @@ module _ (law : OptionWordsAreWithin) where
   kinds_hold kind.DisplayVersion = tt
   kinds_hold k = tt
 
-  words_hold : (words : List (List ℕ)) (o : Option Command) → WordsAre words o → Holds IsWithin o
-  words_hold words o (inl h) =
+  matches_hold : (words : List (List ℕ)) (o : Option Command) → MatchesAre words o → Holds IsWithin o
+  matches_hold words o (inl h) =
       subst (Holds IsWithin) h.1 (asked_holds (first_of (codes "JOB") (matches_of command words)) (given_in (matches_of command words)))
-  words_hold words o (inr h) = subst (Holds IsWithin) h.2 (kinds_hold h.0)
+  matches_hold words o (inr h) = subst (Holds IsWithin) h.2 (kinds_hold h.0)
+
+  words_hold : (call : Option (List (List ℕ))) (words : List (List ℕ)) (o : Option Command) → WordsAreWith call words o → Holds IsWithin o
+  words_hold (Some call) words o h = subst (Holds IsWithin) h tt
+  words_hold None words o h = matches_hold words o h
 
   pub in_range : (words : List (List ℕ)) (r : Result Asked WordsRefusal) → IsRead words r → IfOk r IsInRange
-  in_range words (Ok a) h = words_hold words _ h
+  in_range words (Ok a) h = words_hold (call_in words) words _ h
   in_range words (Err Usage) h = tt
   in_range words (Err OutOfMemory) h = tt

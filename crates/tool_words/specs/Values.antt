@@ -1,12 +1,13 @@
 -- What words ask for in the code, as `Words` defines it.
-use Rattle.std.specs.Prelude.{◌≡◌, ℕ, List, false, Option, Some, None, Result, Ok, Err, codes, option_map}
+use Rattle.std.specs.Prelude.{◌≡◌, ℕ, List, map, false, Option, Some, None, Result, Ok, Err, Vec, String, codes, string_bytes, option_map}
+use Rattle.std.specs.declared.alloc.Global.{Global}
 use Rattle.clap.specs.declared.parser.matches.Found.{Found}
 use Rattle.clap.specs.Matches.{first_value}
 use Rattle.command_words.specs.Words.{OptionWords, is_set}
 use Rattle.command_words.specs.Values.{option_words_of, options_in}
 use Rattle.tool_words.specs.Words as words
 use Rattle.tool_words.specs.Words.{Picks, Graphs, TakesOwners, TellsOwners, Counts, Draws, Grids}
-use Rattle.tool_words.specs.Words.{OnProgram, OnPlan, Converts, ShowsUsage, ShowsVersion, WordsAre}
+use Rattle.tool_words.specs.Words.{OnProgram, OnPlan, Converts, Explains, ShowsUsage, ShowsVersion, WordsAreWith, call_in}
 use Rattle.tool_words.specs.Ranges.{IsWithin}
 use Rattle.tool_words.specs.declared.asked.ProgramJob.{ProgramJob}
 use Rattle.tool_words.specs.declared.asked.ProgramJob.TheVariants as job
@@ -117,6 +118,7 @@ abbrev pub command_of : Asked → words.Command
 command_of (asked.OnProgram j source mesh) = OnProgram (job_of j) source.now mesh.now
 command_of (asked.OnPlan j o source mesh) = OnPlan (plan_job_of j) (options_in o) source.now mesh.now
 command_of (asked.Convert file dim scale writes_source) = Converts file.now dim scale writes_source
+command_of (asked.Explain call) = Explains (map string_bytes call.now.items)
 command_of asked.Usage = ShowsUsage
 command_of asked.Version = ShowsVersion
 
@@ -130,8 +132,16 @@ AsksBy (Ok a) r = r ≡ Some (command_of a)
 AsksBy (Err Usage) r = r ≡ None
 AsksBy (Err OutOfMemory) r = Unit {0}
 
+-- the words of a call
+abbrev pub call_of : Option (Vec (String Global) Global) → Option (List (List ℕ))
+call_of call = option_map (λ v. map string_bytes v.items) call
+
+-- it is what the words ask for with such a call to explain, or they are refused, unless memory ran out
+abbrev pub IsReadWith : (call : Option (List (List ℕ))) → List (List ℕ) → Result Asked WordsRefusal → Type 0
+IsReadWith call words (Ok a) = WordsAreWith call words (Some (command_of a))
+IsReadWith call words (Err Usage) = WordsAreWith call words None
+IsReadWith call words (Err OutOfMemory) = Unit {0}
+
 -- it is what the words ask for, or they are refused, unless memory ran out
 abbrev pub IsRead : List (List ℕ) → Result Asked WordsRefusal → Type 0
-IsRead words (Ok a) = WordsAre words (Some (command_of a))
-IsRead words (Err Usage) = WordsAre words None
-IsRead words (Err OutOfMemory) = Unit {0}
+IsRead words r = IsReadWith (call_in words) words r

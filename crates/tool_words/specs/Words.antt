@@ -40,12 +40,13 @@ pub data PlanJob : Type 0 where
   Grids : Picture → (output : Option (List ℕ)) → PlanJob
 
 -- What the words ask for: a job on the program in a file over the mesh in a file, or on its plan with these options; the mesh text of the
--- mesh of Gmsh in a file, of this dimension or that of its elements, at this scale, or a program for it; or what the program says of
--- itself.
+-- mesh of Gmsh in a file, of this dimension or that of its elements, at this scale, or a program for it; what a call of `op2` with these
+-- words, the program's name first, answers, explained; or what the program says of itself.
 pub data Command : Type 0 where
   OnProgram : ProgramJob → (source mesh : List ℕ) → Command
   OnPlan : PlanJob → Options → (source mesh : List ℕ) → Command
   Converts : (file : List ℕ) → Option Dimension → (scale : ℕ) → (writes_source : Bool) → Command
+  Explains : (call : List (List ℕ)) → Command
   ShowsUsage : Command
   ShowsVersion : Command
 
@@ -301,9 +302,23 @@ by_kind kind.DisplayHelp = Some ShowsUsage
 by_kind kind.DisplayVersion = Some ShowsVersion
 by_kind k = None
 
--- What the words, the program's name first, ask for, or none where they are refused: by their matches where `clap` has nothing against
--- them, and else by what it has against them.
-abbrev pub WordsAre : List (List ℕ) → Option Command → Type 0
-WordsAre words r =
+-- What words other than those of a call to explain ask for, or none where they are refused: by their matches where `clap` has nothing
+-- against them, and else by what it has against them.
+abbrev pub MatchesAre : List (List ℕ) → Option Command → Type 0
+MatchesAre words r =
     ((fault_of command words ≡ []) × (judged (matches_of command words) ≡ r))
     ⊎ ((k : ErrorKind) × IsAmong k (fault_of command words) × (by_kind k ≡ r))
+
+-- the words of a call of `op2` that is to be explained, its name first: those behind `explain`, whatever they are
+abbrev pub call_in : List (List ℕ) → Option (List (List ℕ))
+call_in (name ∷ job ∷ words) = if bytes_eq job (codes "explain") then Some (codes "op2" ∷ words) else None
+call_in _ = None
+
+-- What words ask for with such a call, or without one.
+abbrev pub WordsAreWith : (call : Option (List (List ℕ))) → List (List ℕ) → Option Command → Type 0
+WordsAreWith (Some call) words r = Some (Explains call) ≡ r
+WordsAreWith None words r = MatchesAre words r
+
+-- What the words, the program's name first, ask for, or none where they are refused.
+abbrev pub WordsAre : List (List ℕ) → Option Command → Type 0
+WordsAre words r = WordsAreWith (call_in words) words r

@@ -82,6 +82,10 @@ pub enum Asked<'a> {
         scale: u32,
         writes_source: bool,
     },
+    /// What a call of `op2` with these words, the program's name first, answers is explained.
+    Explain {
+        call: &'a Vec<String>,
+    },
     /// What the program says of its use.
     Usage,
     /// The version of the program.

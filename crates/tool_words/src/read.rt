@@ -1,13 +1,13 @@
 // What the words ask for, by `clap`'s matches of them.
 
-ghost use Rattle.std.specs.Prelude.{◌≡◌, map, codes, string_bytes, Err, IfOk};
+ghost use Rattle.std.specs.Prelude.{◌≡◌, map, codes, string_bytes, Some, Err, IfOk};
 ghost use Rattle.clap.specs.Matches.{found_of, first_value};
 ghost use Rattle.clap.specs.Values.{kind_of};
 ghost use Rattle.clap.specs.declared.error.kind.ErrorKind.TheVariants as kind;
-ghost use Rattle.tool_words.specs.Words.{asked, by_kind};
+ghost use Rattle.tool_words.specs.Words.{Explains, asked, by_kind, call_in};
 ghost use Rattle.tool_words.specs.declared.refusals.WordsRefusal.TheVariants.{OutOfMemory};
 ghost use Rattle.command_words.specs.Values.{option_words_of};
-ghost use Rattle.tool_words.specs.Values.{given_of, own_of, planning_found, own_found, given_found, AsksBy, IsRead, IsInRange};
+ghost use Rattle.tool_words.specs.Values.{call_of, given_of, own_of, planning_found, own_found, given_found, AsksBy, IsRead, IsInRange};
 
 use crate::asked::Asked;
 use crate::command::matched;
@@ -19,17 +19,32 @@ use clap::{ArgMatches, Error};
 use command_words::{OptionWords, is_set, option_words_are_within};
 use std::alloc::Global;
 
-/// What the words, the program's name first, ask for. `Usage`: the words are not those of a command. `OutOfMemory`: for want of memory
-/// alone.
-pub fn read_words<'a>(alloc: Global, words: &'a Vec<String>) -> Result<Asked<'a>, WordsRefusal>
+/// What the words, the program's name first, ask for, where `call` is the call in them that is to be explained, if they have one, as
+/// `call_in` gives it. `Usage`: the words are not those of a command. `OutOfMemory`: for want of memory alone.
+pub fn read_words<'a>(
+    alloc: Global,
+    words: &'a Vec<String>,
+    call: &'a Option<Vec<String>>,
+) -> Result<Asked<'a>, WordsRefusal>
+    requires { call_of call.now ≡ call_in (map string_bytes words.now.items) }
     ensures is { IsRead (map string_bytes words.now.items) result }
     ensures in_range { IfOk result IsInRange }
 {
     option_words_are_within();
+    if let Some(call) = call {
+        return explained(call);
+    }
     match matched(alloc, words) {
         Ok(matches) => job_of(&matches),
         Err(error) => refused(&error),
     }
+}
+
+// What words with this call ask for.
+fn explained<'a>(call: &'a Vec<String>) -> Result<Asked<'a>, WordsRefusal>
+    ensures { AsksBy result (Some (Explains (map string_bytes call.now.items))) }
+{
+    Ok(Asked::Explain { call })
 }
 
 // What words are asked for that `clap` has matched.

@@ -24,6 +24,9 @@ Jobs
   from-gmsh FILE --scale S
                  writes the mesh text of the mesh of Gmsh in FILE, version 2.2 or 4.1, ASCII; each coordinate is the integer
                  nearest to the file's times S
+  explain WORD ..
+                 writes what a call of op2 with these words answers, and what it means; or what the error of a name means, as
+                 of explain access 4. The words are op2's, its options with them
 
 Options of draw and vtk
   --coords DAT   the dat that has the coordinates of the nodes, two or three for each

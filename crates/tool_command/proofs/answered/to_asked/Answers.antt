@@ -1,4 +1,4 @@
-use Rattle.std.proofs.Common.{zero, arith, [], ◌∷◌, ◌++◌}
+use Rattle.std.proofs.Common.{zero, arith, rules, [], ◌∷◌, ◌++◌}
 use Rattle.tool_words.specs.Words.{ShowsUsage, ShowsVersion}
 use Rattle.tool_words.specs.Values.{job_of, plan_job_of}
 use Rattle.command_words.specs.Words.{names_by, names_in_blocks}
@@ -65,6 +65,12 @@ from_gmsh_file-requires-clause-scale g c = rw c.in-Convert.is at c.requires.in_r
 
 pub returns-in-Convert : goal.returns-in-Convert
 returns-in-Convert g c = rw c.in-Convert.is c.from_gmsh_file.ensures
+
+pub explained-requires : goal.explained-requires
+explained-requires g c = (search rules, rw c.in-Explain.is at c.requires.lent)
+
+pub returns-in-Explain : goal.returns-in-Explain
+returns-in-Explain g c = rw c.in-Explain.is c.explained.ensures
 
 pub returns-in_ok-done-in-Usage : goal.returns-in_ok-done-in-Usage
 returns-in_ok-done-in-Usage g c =

@@ -7,7 +7,7 @@ use Rattle.tool_command.proofs.Wording.{command_answered, refused_words}
 use Rattle.tool_command.proofs.answered.to_words.Goals as goal
 
 pub to_asked-requires-clause-lent : goal.to_asked-requires-clause-lent
-to_asked-requires-clause-lent g c = c.requires (names_of (command_of c.in-Ok.asked)) (inr (command_of c.in-Ok.asked, c.in-Ok.ensures.is, refl))
+to_asked-requires-clause-lent g c κs within = c.requires.lent (names_of (command_of c.in-Ok.asked)) (inr (command_of c.in-Ok.asked, c.in-Ok.ensures.is, refl))
 
 pub returns-in-Ok : goal.returns-in-Ok
 returns-in-Ok g c =
