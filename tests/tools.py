@@ -14,18 +14,19 @@ with tempfile.TemporaryDirectory() as name:
     for file in ("residual.c", "residual.mesh", "residual.out"):
         (folder / file).write_bytes((examples / file).read_bytes())
 
-    def row(words, status=0, out="", line="", **files):
-        """A call with these words, over further files, ends so."""
+    def row(words, status=0, out="", line="", found="", **files):
+        """A call with these words, over further files, ends so; with no `out`, its output has `found` in it."""
         global bad, tried
         tried += 1
         for file, text in files.items():
             (folder / file.replace("_", ".")).write_text(text)
         done = subprocess.run([tools, *words.split()], cwd=folder, capture_output=True, timeout=120)
-        found = done.returncode, done.stdout.decode(), done.stderr.decode()
-        wanted = status, out, line and f"{line}\n" if line.startswith("op2: ") else line and f"op2-tools: {line}\n"
-        if found != wanted:
+        text = done.stdout.decode()
+        answer = done.returncode, text if out is not None else found in text, done.stderr.decode()
+        wanted = status, True if out is None else out, line and f"{line}\n" if line.startswith("op2: ") else line and f"op2-tools: {line}\n"
+        if answer != wanted:
             bad += 1
-            print(f"differs: {words}: {found} and not {wanted}")
+            print(f"differs: {words}: {answer} and not {wanted}")
 
     both = "residual.c residual.mesh"
 
@@ -102,5 +103,22 @@ with tempfile.TemporaryDirectory() as name:
     row("from-gmsh m.msh --scale 1", 20, line="from-gmsh 2 line 2", m_msh="$MeshFormat\n2.1 0 8\n$EndMeshFormat\n")
     empty = "$MeshFormat\n2.2 0 8\n$EndMeshFormat\n$Nodes\n0\n$EndNodes\n$Elements\n0\n$EndElements\n"
     row("from-gmsh m.msh --scale 1", 20, line="from-gmsh 8", m_msh=empty)
+
+    # explain: the line and the status of op2, the source's line with a caret, and the text
+    third = "access 3\n  an OP_INC argument is assigned other than by `+=` and `-=`\n  -> write `a[0] += ..;`\n"
+    wrong = (examples / "residual.c").read_text().replace("ra[0] += f", "ra[0] = f")
+    row("explain run w.c residual.mesh", out=f"op2: source access 3 at 8:3\nstatus 5\n  ra[0] = f;\n  ^\n{third}", w_c=wrong)
+    row("explain access 3", out=third)
+    row("explain check residual.c residual.mesh", out="op2 would end with status 0\n")
+    # a tab stays, and a character of two bytes has one column
+    lex = "lex 1\n  a byte that begins no token;"
+    row("explain translate t.c", out=None, t_c="\t/* \u00e9 */ @", found=f"op2: source lex 1 at 1:11\nstatus 5\n\t/* \u00e9 */ @\n\t        ^\n{lex}")
+    # wrong words, the last ones
+    row(f"explain run {both} --ranks 0", out=None, found="\nwrong: --ranks 0\n")
+    row(f"explain run {both} more", out=None, found="\nwrong: more\n")
+    row("explain run residual.c", out=None, found="\nno words can be left out: one is missing, or the first is no job\n")
+    # a limit, and a file that isn't there
+    row(f"explain check residual.c m.mesh", out=None, m_mesh="op2mesh 1\nint nnode 4194305\nint nedge 0\nints edge 0\nints x0 0\nints r0 0\ndone\n", found="\nhere 4194305, at most 4194304\n")
+    row("explain check residual.c none", 3, line="op2: cannot read none")
 print(f"{tried} rows, {bad} of them differ")
 sys.exit(1 if bad else 0)
