@@ -23,15 +23,17 @@ use Rattle.c_reader.specs.Leads.{binary_of, lead_of, word_lead_of}
 use denote.Enum.Bare.{sameb}
 
 infixl 10 ◌>>=◌
+-- goes on with what was read, unless there was a fault
 abbrev pub ◌>>=◌ : {A B : Type 0} → Result A Fault → (A → Result B Fault) → Result B Fault
 (Ok x) >>= f = f x
 (Err e) >>= f = Err e
 
--- What a function returned, seen by view, is what reading gives, unless memory ran out.
+-- the error is the fault of reading, unless memory ran out
 abbrev pub Fails : {Y : Type 0} → ReadError → Result Y Fault → Type 0
 Fails errors.Memory read = Unit {0}
 Fails (errors.Fault f) read = read ≡ Err f
 
+-- What a function returned, seen by view, is what reading gives, unless memory ran out.
 abbrev pub Gives : {X Y : Type 0} → (X → Y) → Result X ReadError → Result Y Fault → Type 0
 Gives view (Ok x) read = read ≡ Ok (view x)
 Gives view (Err e) read = Fails e read
@@ -48,6 +50,7 @@ Step = Result (ExprTree × ℕ) Fault
 abbrev pub Rec : Type 0
 Rec = ℕ → ℕ → Step
 
+-- whether a token is this sign
 abbrev pub sign_is : Sign → Option Kind → Bool
 sign_is s (Some (kind.Sign t)) = sameb the_sign.the_type t s
 sign_is s _ = false
@@ -56,10 +59,12 @@ sign_is s _ = false
 unfoldable pub sign_at : List Kind → Sign → ℕ → Result ℕ Fault
 sign_at ks s n = if sign_is s (slice_get ks n) then Ok (suc n) else Err (Syntax n)
 
+-- the operator, if it is of at least level m
 abbrev pub at_least : ℕ → Option BinaryOp → Option BinaryOp
 at_least m None = None
 at_least m (Some op) = if nat_le m (level_of op) then Some op else None
 
+-- the binary operator that a token is, if it is of at least level m
 abbrev pub operator_in : ℕ → Option Kind → Option BinaryOp
 operator_in m (Some (kind.Sign s)) = at_least m (binary_of s)
 operator_in m _ = None
@@ -75,16 +80,18 @@ name_at ks rec x n =
     (rec 0 (suc (suc n)) >>= λ i. sign_at ks sign.RightBracket i.1 >>= λ e. Ok (
       Index (record {
         name = x;
-        at =
-            n;
+        at = n;
       }) i.0,
       e,
-    )) else Ok (Name (record { name = x; at = n }), suc n)
+    ))
+    else Ok (Name (record { name = x; at = n }), suc n)
 
+-- the name that the token of number n is
 abbrev pub name_in : Option Kind → ℕ → Result (List ℕ) Fault
 name_in (Some (kind.Name x)) n = Ok x
 name_in _ n = Err (Syntax n)
 
+-- an expression that begins with a sign, by what the sign begins
 abbrev pub led_by : List Kind → Rec → Lead → ℕ → Step
 led_by ks rec lead.Paren n = rec 0 (suc n) >>= λ x. sign_at ks sign.RightParen x.1 >>= λ e. Ok (Paren n x.0, e)
 led_by ks rec lead.Deref n =
@@ -92,15 +99,23 @@ led_by ks rec lead.Deref n =
 led_by ks rec (lead.Unary op) n = rec 11 (suc n) >>= λ x. Ok (Unary op n x.0, x.1)
 led_by ks rec lead.Nothing n = Err (Syntax n)
 
+-- `MIN(a, b)`, `MAX(a, b)` or `ABS(a)`
 abbrev pub worded_by : List Kind → Rec → WordLead → ℕ → Step
 worded_by ks rec (word_lead.Extremum w) n =
-    sign_at ks sign.LeftParen
-    (suc n) >>= λ o. rec 0 o >>= λ a. sign_at ks sign.Comma a.1 >>= λ c. rec 0 c >>= λ b. sign_at ks sign.RightParen b.1 >>= λ e. Ok
-    (Extremum w n a.0 b.0, e)
+    sign_at ks sign.LeftParen (suc n)
+    >>= λ o. rec 0 o
+    >>= λ a. sign_at ks sign.Comma a.1
+    >>= λ c. rec 0 c
+    >>= λ b. sign_at ks sign.RightParen b.1
+    >>= λ e. Ok (Extremum w n a.0 b.0, e)
 worded_by ks rec word_lead.Absolute n =
-    sign_at ks sign.LeftParen (suc n) >>= λ o. rec 0 o >>= λ a. sign_at ks sign.RightParen a.1 >>= λ e. Ok (Absolute n a.0, e)
+    sign_at ks sign.LeftParen (suc n)
+    >>= λ o. rec 0 o
+    >>= λ a. sign_at ks sign.RightParen a.1
+    >>= λ e. Ok (Absolute n a.0, e)
 worded_by ks rec word_lead.Nothing n = Err (Syntax n)
 
+-- an expression up to its first binary operator or `?`, by the token that begins it
 abbrev pub front_in : List Kind → Rec → Option Kind → ℕ → Step
 front_in ks rec (Some (kind.Number v)) n = Ok (Number (record { value = v; at = n }), suc n)
 front_in ks rec (Some (kind.Name x)) n = name_at ks rec x n
@@ -108,15 +123,16 @@ front_in ks rec (Some (kind.Sign s)) n = led_by ks rec (lead_of s) n
 front_in ks rec (Some (kind.Word w)) n = worded_by ks rec (word_lead_of w) n
 front_in ks rec _ n = Err (Syntax n)
 
--- an expression that begins with none of its operands
+-- an expression up to its first binary operator or `?`
 unfoldable pub front : List Kind → Rec → ℕ → Step
 front ks rec n = front_in ks rec (slice_get ks n) n
 
+-- goes on by f where there is an operator, and else stays with a
 abbrev pub on_operator : {A : Type 0} → Option BinaryOp → A → (BinaryOp → A) → A
 on_operator None a f = a
 on_operator (Some op) a f = f op
 
--- the operators of at least level m behind a tree, at most c of them
+-- the operators of at least level m behind a tree, with their right operands, at most c of them
 unfoldable pub chain : List Kind → Rec → ℕ → ℕ → ExprTree → ℕ → Step
 chain ks rec zero m l n = on_operator (operator_at ks m n) (Ok (l, n)) (λ op. Err (TooDeep n))
 chain ks rec (suc c) m l n =

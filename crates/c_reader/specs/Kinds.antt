@@ -3,5 +3,6 @@ use Rattle.std.specs.Prelude.{List, map}
 use Rattle.c_lex.specs.declared.tokens.Token.{Token}
 use Rattle.c_lex.specs.declared.tokens.Kind.{Kind}
 
+-- tokens without where they stand, which is all that the grammar goes by
 abbrev pub kinds : List Token → List Kind
 kinds ts = map (λ t. t.kind) ts

@@ -1,4 +1,4 @@
--- What a sign begins or joins.
+-- What a sign or a word begins or joins, and which statement or part of the file a token begins.
 use Rattle.std.specs.Prelude.{Option, Some, None}
 use Rattle.c_lex.specs.declared.tokens.Sign.{Sign}
 use Rattle.c_lex.specs.declared.tokens.Sign.TheVariants as sign
@@ -26,6 +26,7 @@ use Rattle.c_reader.specs.declared.leads.HostLead.TheVariants as host_lead
 use Rattle.c_reader.specs.declared.leads.TopLead.{TopLead}
 use Rattle.c_reader.specs.declared.leads.TopLead.TheVariants as top_lead
 
+-- the binary operator that a sign is
 abbrev pub binary_of : Sign → Option BinaryOp
 binary_of sign.OrOr = Some binary.LogicalOr
 binary_of sign.AndAnd = Some binary.LogicalAnd
@@ -47,6 +48,7 @@ binary_of sign.Slash = Some binary.Div
 binary_of sign.Percent = Some binary.Rem
 binary_of _ = None
 
+-- which expression a sign begins
 abbrev pub lead_of : Sign → Lead
 lead_of sign.LeftParen = lead.Paren
 lead_of sign.Star = lead.Deref
@@ -56,12 +58,14 @@ lead_of sign.Not = lead.Unary unary.Not
 lead_of sign.Tilde = lead.Unary unary.Complement
 lead_of _ = lead.Nothing
 
+-- which expression a word begins
 abbrev pub word_lead_of : Word → WordLead
 word_lead_of word.Min = word_lead.Extremum min_max.Min
 word_lead_of word.Max = word_lead.Extremum min_max.Max
 word_lead_of word.Abs = word_lead.Absolute
 word_lead_of _ = word_lead.Nothing
 
+-- the assignment that a sign makes
 abbrev pub assign_of : Sign → Option AssignOp
 assign_of sign.Assign = Some assign.Set
 assign_of sign.AddAssign = Some assign.Add
@@ -76,6 +80,7 @@ assign_of sign.OrAssign = Some assign.BitOr
 assign_of sign.XorAssign = Some assign.BitXor
 assign_of _ = None
 
+-- the access that a word names
 abbrev pub access_of : Word → Option AccessWord
 access_of word.OpRead = Some access.Read
 access_of word.OpWrite = Some access.Write
@@ -85,6 +90,7 @@ access_of word.OpMin = Some access.Min
 access_of word.OpMax = Some access.Max
 access_of _ = None
 
+-- which statement of a kernel a token begins
 abbrev pub stmt_lead_of : Kind → StmtLead
 stmt_lead_of (kind.Word word.Int) = stmt_lead.Declaration
 stmt_lead_of (kind.Word word.If) = stmt_lead.If
@@ -95,6 +101,7 @@ stmt_lead_of (kind.Sign sign.Star) = stmt_lead.Assignment
 stmt_lead_of (kind.Name x) = stmt_lead.Assignment
 stmt_lead_of _ = stmt_lead.Nothing
 
+-- which statement of `main` a word begins
 abbrev pub host_word_lead_of : Word → HostLead
 host_word_lead_of word.Int = host_lead.Declaration
 host_word_lead_of word.Const = host_lead.Declaration
@@ -110,6 +117,7 @@ host_word_lead_of word.OpPrintf = host_lead.Call call_lead.Printf
 host_word_lead_of word.OpPrintDatToTxtfile = host_lead.Call call_lead.PrintDat
 host_word_lead_of _ = host_lead.Nothing
 
+-- which statement of `main` a token begins
 abbrev pub host_lead_of : Kind → HostLead
 host_lead_of (kind.Word w) = host_word_lead_of w
 host_lead_of (kind.Sign sign.LeftBrace) = host_lead.Block
@@ -118,6 +126,7 @@ host_lead_of (kind.Sign sign.Star) = host_lead.Assignment
 host_lead_of (kind.Name x) = host_lead.Assignment
 host_lead_of _ = host_lead.Nothing
 
+-- which part of the file a token begins
 abbrev pub top_lead_of : Kind → TopLead
 top_lead_of (kind.Word word.Extern) = top_lead.Extern
 top_lead_of (kind.Word word.Int) = top_lead.Declaration

@@ -28,6 +28,7 @@ both p q n = p n >>= λ a. q a.1 >>= λ b. Ok ((a.0, b.0), b.1)
 abbrev pub made : {A B : Type 0} → (A → B) → Reader A → Reader B
 made f p n = p n >>= λ a. Ok (f a.0, a.1)
 
+-- whether a token is this word
 abbrev pub word_is : Word → Option Kind → Bool
 word_is w (Some (kind.Word v)) = sameb the_word.the_type v w
 word_is w _ = false
@@ -36,10 +37,11 @@ word_is w _ = false
 unfoldable pub word_at : List Kind → Word → ℕ → Result ℕ Fault
 word_at ks w n = if word_is w (slice_get ks n) then Ok (suc n) else Err (Syntax n)
 
--- a sign or a word, of which nothing is kept
+-- a sign, of which nothing is kept
 abbrev pub sign : List Kind → Sign → Reader (Unit {0})
 sign ks s n = sign_at ks s n >>= λ e. Ok (tt, e)
 
+-- a word, of which nothing is kept
 abbrev pub word : List Kind → Word → Reader (Unit {0})
 word ks w n = word_at ks w n >>= λ e. Ok (tt, e)
 
@@ -47,6 +49,7 @@ word ks w n = word_at ks w n >>= λ e. Ok (tt, e)
 abbrev pub marked : List Kind → Word → Reader ℕ
 marked ks w n = word_at ks w n >>= λ e. Ok (n, e)
 
+-- the name that the token of number n is
 abbrev pub ident_in : Option Kind → Reader Ident
 ident_in (Some (kind.Name x)) n = Ok (record { name = x; at = n }, suc n)
 ident_in _ n = Err (Syntax n)
@@ -55,6 +58,7 @@ ident_in _ n = Err (Syntax n)
 unfoldable pub ident : List Kind → Reader Ident
 ident ks n = ident_in (slice_get ks n) n
 
+-- the number that the token of number n is
 abbrev pub number_in : Option Kind → Reader NumberLiteral
 number_in (Some (kind.Number v)) n = Ok (record { value = v; at = n }, suc n)
 number_in _ n = Err (Syntax n)
@@ -63,6 +67,7 @@ number_in _ n = Err (Syntax n)
 unfoldable pub number : List Kind → Reader NumberLiteral
 number ks n = number_in (slice_get ks n) n
 
+-- the text that the token of number n is
 abbrev pub text_in : Option Kind → Reader TextLiteral
 text_in (Some (kind.Text t)) n = Ok (record { text = t; at = n }, suc n)
 text_in _ n = Err (Syntax n)
@@ -75,21 +80,17 @@ text ks n = text_in (slice_get ks n) n
 unfoldable pub separated : {A : Type 0} → List Kind → Reader A → Sign → ℕ → Reader (List A)
 separated ks p s zero n = Err (Syntax n)
 separated ks p s (suc c) n =
-    p n >>= λ a. if sign_is the_sign.Comma (slice_get ks a.1) then (separated ks p s c (suc a.1) >>= λ r. Ok (
-      a.0
-          ∷ r.0,
-      r.1,
-    )) else (sign_at ks s a.1 >>= λ e. Ok (a.0 ∷ [], e))
+    p n >>= λ a. if sign_is the_sign.Comma (slice_get ks a.1)
+    then (separated ks p s c (suc a.1) >>= λ r. Ok (a.0 ∷ r.0, r.1))
+    else (sign_at ks s a.1 >>= λ e. Ok (a.0 ∷ [], e))
 
 -- items that each stand behind a comma
 unfoldable pub behind_commas : {A : Type 0} → List Kind → Reader A → ℕ → Reader (List A)
 behind_commas ks p zero n = Err (Syntax n)
 behind_commas ks p (suc c) n =
-    if sign_is the_sign.Comma (slice_get ks n) then (p (suc n) >>= λ a. behind_commas ks p c a.1 >>= λ r. Ok (
-      a.0
-          ∷ r.0,
-      r.1,
-    )) else Ok ([], n)
+    if sign_is the_sign.Comma (slice_get ks n)
+    then (p (suc n) >>= λ a. behind_commas ks p c a.1 >>= λ r. Ok (a.0 ∷ r.0, r.1))
+    else Ok ([], n)
 
 -- items up to what closes them, and its place
 unfoldable pub until : {A : Type 0} → (ℕ → Bool) → Reader A → ℕ → Reader (List A)

@@ -49,7 +49,7 @@ fn read_below(
     read_choice(alloc, tokens, depth, min, left, next)
 }
 
-// An expression that begins with none of its operands.
+// An expression up to its first binary operator or `?`.
 #[cycle(expressions)]
 #[tactic(auto, unfolding(crate::specs::Descent::front))]
 fn read_front(

@@ -1,4 +1,4 @@
-// What a sign begins or joins.
+// What a sign or a word begins or joins, and which statement or part of the file a token begins.
 
 ghost use Rattle.std.specs.Prelude.{◌≡◌};
 ghost use Rattle.c_reader.specs.Leads.{binary_of, lead_of, word_lead_of, assign_of, access_of, stmt_lead_of, host_word_lead_of};

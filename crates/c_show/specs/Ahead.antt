@@ -1,5 +1,6 @@
 -- What each form prints, put before the kinds that follow it: `stmt_first s rest` is the kinds of what the statement s prints,
--- and then `rest`. A list that is made from its end grows in this way. The printer itself stands in Print.antt.
+-- and then `rest`. A list that is made from its end grows in this way. `program` of c_tree (specs/Print.antt)
+-- is the same from the front, with numbers and levels of nesting.
 use Rattle.std.specs.Prelude.{ℕ, Bool, true, false, List, [], ◌∷◌, Option, Some, None}
 use Rattle.c_lex.specs.declared.tokens.Kind.{Kind}
 use Rattle.c_lex.specs.declared.tokens.Kind.TheVariants as kind
@@ -28,19 +29,23 @@ use Rattle.c_tree.specs.Tree.{HostTree, HostDeclaration, HostBlock, HostEmpty, H
 use Rattle.c_tree.specs.Tree.{HostTrees, NoHost, MoreHost}
 use Rattle.c_tree.specs.Tree.{MainTree, ProgramTree}
 
--- a sign, word, name, number or text before the rest
+-- a sign
 abbrev pub sign_first : Sign → List Kind → List Kind
 sign_first s rest = kind.Sign s ∷ rest
 
+-- a word
 abbrev pub word_first : Word → List Kind → List Kind
 word_first w rest = kind.Word w ∷ rest
 
+-- a name
 abbrev pub name_first : Ident → List Kind → List Kind
 name_first x rest = kind.Name x.name ∷ rest
 
+-- an integer
 abbrev pub number_first : NumberLiteral → List Kind → List Kind
 number_first n rest = kind.Number n.value ∷ rest
 
+-- a text
 abbrev pub text_first : TextLiteral → List Kind → List Kind
 text_first t rest = kind.Text t.text ∷ rest
 
@@ -49,6 +54,7 @@ abbrev pub word_first_if : Bool → Word → List Kind → List Kind
 word_first_if true w rest = word_first w rest
 word_first_if false w rest = rest
 
+-- an expression
 abbrev pub expr_first : ExprTree → List Kind → List Kind
 expr_first (Number n) rest = number_first n rest
 expr_first (Name x) rest = name_first x rest
@@ -74,6 +80,7 @@ indexed_first x e rest =
 abbrev pub enclosed_first : ExprTree → List Kind → List Kind
 enclosed_first e rest = sign_first sign.LeftParen (expr_first e (sign_first sign.RightParen rest))
 
+-- a declared variable, with its initializer or its size
 abbrev pub declr_first : DeclrTree → List Kind → List Kind
 declr_first (Plain x) rest = name_first x rest
 declr_first (Init x e) rest = name_first x (sign_first sign.Assign (expr_first e rest))
@@ -85,23 +92,28 @@ abbrev pub more_declrs_first : List DeclrTree → List Kind → List Kind
 more_declrs_first [] rest = rest
 more_declrs_first (d ∷ ds) rest = sign_first sign.Comma (declr_first d (more_declrs_first ds rest))
 
+-- the declared variables of one declaration, with a comma between each two
 abbrev pub declrs_first : List DeclrTree → List Kind → List Kind
 declrs_first [] rest = rest
 declrs_first (d ∷ ds) rest = declr_first d (more_declrs_first ds rest)
 
+-- a declaration
 abbrev pub declaration_first : DeclarationTree → List Kind → List Kind
 declaration_first v rest =
     word_first_if v.is_const word.Const (word_first word.Int (declrs_first v.declrs (sign_first sign.Semicolon rest)))
 
+-- the target of an assignment
 abbrev pub place_first : PlaceTree → List Kind → List Kind
 place_first (Scalar x) rest = name_first x rest
 place_first (Element x e) rest = indexed_first x e rest
 place_first (Target at x) rest = sign_first sign.Star (name_first x rest)
 
+-- an assignment and its `;`
 abbrev pub assignment_first : AssignmentTree → List Kind → List Kind
 assignment_first a rest =
     place_first a.place (sign_first (assign_sign_of a.op) (expr_first a.value (sign_first sign.Semicolon rest)))
 
+-- the head of a kernel's `for`
 abbrev pub header_first : ForHeader → List Kind → List Kind
 header_first c rest =
     word_first word.For (sign_first sign.LeftParen
@@ -112,10 +124,12 @@ header_first c rest =
     (number_first c.to (sign_first sign.Semicolon
     (name_first c.stepped (sign_first sign.PlusPlus (sign_first sign.RightParen rest)))))))))))))
 
+-- the head of an `if`
 abbrev pub condition_first : ExprTree → List Kind → List Kind
 condition_first e rest = word_first word.If (enclosed_first e rest)
 
 abbrev mutual
+  -- a statement of a kernel
   pub stmt_first : StmtTree → List Kind → List Kind
   stmt_first (LocalDeclaration v) rest = declaration_first v rest
   stmt_first (Block at ss) rest =
@@ -127,22 +141,27 @@ abbrev mutual
       condition_first e (stmt_first s (word_first word.Else (stmt_first t rest)))
   stmt_first (For c s) rest = header_first c (stmt_first s rest)
 
+  -- the statements of a block or a kernel
   pub stmts_first : StmtTrees → List Kind → List Kind
   stmts_first NoStmt rest = rest
   stmts_first (MoreStmt s ss) rest = stmt_first s (stmts_first ss rest)
 
+-- a parameter of a kernel
 abbrev pub param_first : Param → List Kind → List Kind
 param_first p rest =
     word_first_if p.is_const word.Const (word_first word.Int (sign_first sign.Star (name_first p.name rest)))
 
+-- the parameters behind the first, each behind a comma
 abbrev pub more_params_first : List Param → List Kind → List Kind
 more_params_first [] rest = rest
 more_params_first (p ∷ ps) rest = sign_first sign.Comma (param_first p (more_params_first ps rest))
 
+-- the parameters of a kernel, with a comma between each two
 abbrev pub params_first : List Param → List Kind → List Kind
 params_first [] rest = rest
 params_first (p ∷ ps) rest = param_first p (more_params_first ps rest)
 
+-- a kernel
 abbrev pub kernel_first : KernelTree → List Kind → List Kind
 kernel_first f rest =
     word_first_if f.is_static word.Static
@@ -152,6 +171,7 @@ kernel_first f rest =
     (params_first f.params
     (sign_first sign.RightParen (sign_first sign.LeftBrace (stmts_first f.body (sign_first sign.RightBrace rest)))))))))
 
+-- a part of the file before `main`
 abbrev pub top_first : TopTree → List Kind → List Kind
 top_first (Extern x) rest =
     word_first word.Extern (word_first word.Int (name_first x (sign_first sign.Semicolon rest)))
@@ -161,17 +181,21 @@ top_first (ExternArray x) rest =
 top_first (FileDeclaration v) rest = declaration_first v rest
 top_first (Kernel f) rest = kernel_first f rest
 
+-- the parts of the file before `main`
 abbrev pub tops_first : List TopTree → List Kind → List Kind
 tops_first [] rest = rest
 tops_first (t ∷ ts) rest = top_first t (tops_first ts rest)
 
+-- the `&` of a global, where it has one
 abbrev pub ampersand_first : Option ℕ → List Kind → List Kind
 ampersand_first None rest = rest
 ampersand_first (Some at) rest = sign_first sign.And rest
 
+-- a global: its name, behind `&` or not
 abbrev pub global_first : GlobalName → List Kind → List Kind
 global_first g rest = ampersand_first g.ampersand (name_first g.name rest)
 
+-- the head of a `for` of `main`
 abbrev pub host_header_first : HostForHeaderTree → List Kind → List Kind
 host_header_first c rest =
     word_first word.For (sign_first sign.LeftParen
@@ -182,13 +206,16 @@ host_header_first c rest =
     (expr_first c.to (sign_first sign.Semicolon
     (name_first c.stepped (sign_first sign.PlusPlus (sign_first sign.RightParen rest)))))))))))))
 
+-- `-` where the test holds
 abbrev pub minus_first_if : Bool → List Kind → List Kind
 minus_first_if true rest = sign_first sign.Minus rest
 minus_first_if false rest = rest
 
+-- the index of an argument
 abbrev pub index_first : ArgIndex → List Kind → List Kind
 index_first i rest = minus_first_if i.is_negative (kind.Number i.value ∷ rest)
 
+-- what an argument's index goes through: a map's name or `OP_ID`
 abbrev pub via_first : ArgVia → List Kind → List Kind
 via_first (via.Map x) rest = name_first x rest
 via_first (via.Identity at) rest = word_first word.OpId rest
@@ -200,6 +227,7 @@ arg_end_first dim text access rest =
     (number_first dim (sign_first sign.Comma
     (text_first text (sign_first sign.Comma (word_first access (sign_first sign.RightParen rest))))))
 
+-- an argument of a loop
 abbrev pub arg_first : LoopArg → List Kind → List Kind
 arg_first (arg.Dat at dat index through dim text access access_at) rest =
     word_first word.OpArgDat
@@ -232,6 +260,7 @@ abbrev pub decl_front : Word → Ident → Word → List Kind → List Kind
 decl_front type x call rest =
     word_first type (name_first x (sign_first sign.Assign (word_first call (sign_first sign.LeftParen rest))))
 
+-- a call of the OP2 library and its `;`
 abbrev pub call_first : OpCallTree → List Kind → List Kind
 call_first (CallInit at n) rest =
     word_first word.OpInit
@@ -260,6 +289,7 @@ call_first (PrintDat at x t) rest =
     word_first word.OpPrintDatToTxtfile (sign_first sign.LeftParen (name_first x (label_first t rest)))
 
 abbrev mutual
+  -- a statement of `main`
   pub host_first : HostTree → List Kind → List Kind
   host_first (HostDeclaration v) rest = declaration_first v rest
   host_first (HostBlock at ss) rest =
@@ -272,15 +302,18 @@ abbrev mutual
   host_first (HostFor c s) rest = host_header_first c (host_first s rest)
   host_first (HostCall c) rest = call_first c rest
 
+  -- the statements of a block of `main`, or of all of it
   pub hosts_first : HostTrees → List Kind → List Kind
   hosts_first NoHost rest = rest
   hosts_first (MoreHost s ss) rest = host_first s (hosts_first ss rest)
 
+-- `*argv[]` where it has brackets, else `**argv`
 abbrev pub argv_first : Bool → List Kind → List Kind
 argv_first true rest =
     sign_first sign.Star (word_first word.Argv (sign_first sign.LeftBracket (sign_first sign.RightBracket rest)))
 argv_first false rest = sign_first sign.Star (sign_first sign.Star (word_first word.Argv rest))
 
+-- `return` and its number, where `main` has one
 abbrev pub return_first : Option NumberLiteral → List Kind → List Kind
 return_first None rest = rest
 return_first (Some n) rest = word_first word.Return (number_first n (sign_first sign.Semicolon rest))
@@ -301,8 +334,10 @@ main_front brackets rest =
     (sign_first sign.Comma
     (word_first word.Char (argv_first brackets (sign_first sign.RightParen (sign_first sign.LeftBrace rest)))))))))
 
+-- `main`
 abbrev pub main_first : MainTree → List Kind → List Kind
 main_first m rest = main_front m.argv_has_brackets (hosts_first m.body (exit_first m.returned rest))
 
+-- a whole source
 abbrev pub program_first : ProgramTree → List Kind → List Kind
 program_first p rest = tops_first p.tops (main_first p.main rest)

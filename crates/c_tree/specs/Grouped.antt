@@ -1,4 +1,4 @@
--- Operator levels and the side conditions of the grammar.
+-- The side conditions of the grammar: how operators group, to which `if` an `else` belongs, and where a declaration may stand.
 use Rattle.std.specs.Prelude.{◌≡◌, ◌≢◌, ℕ, ◌≤◌, ◌<◌, Bool, true, false, List, [], ◌∷◌}
 use Rattle.c_tree.specs.declared.kernels.ForHeader.{ForHeader}
 use Rattle.c_tree.specs.Signs.{level_of}
@@ -39,17 +39,19 @@ ends_open (IfElse at e s t) = ends_open t
 ends_open (For c s) = ends_open s
 ends_open _ = false
 
+-- whether a statement of `main` ends in such an `if`
 abbrev pub host_ends_open : HostTree → Bool
 host_ends_open (HostIf at e s) = true
 host_ends_open (HostIfElse at e s t) = host_ends_open t
 host_ends_open (HostFor c s) = host_ends_open s
 host_ends_open _ = false
 
--- the whole body of an `if` or a `for` is no declaration
+-- the whole body of a kernel's `if` or `for` is no declaration
 abbrev pub IsBody : StmtTree → Type 0
 IsBody (LocalDeclaration v) = ⊥
 IsBody _ = Unit {0}
 
+-- the whole body of an `if` or a `for` of `main` is no declaration
 abbrev pub IsHostBody : HostTree → Type 0
 IsHostBody (HostDeclaration v) = ⊥
 IsHostBody _ = Unit {0}
@@ -60,18 +62,22 @@ IsDeclr c (Init x e) = IsGrouped e
 IsDeclr true _ = ⊥
 IsDeclr false _ = Unit {0}
 
+-- the declarators of one declaration, of a `const` or not
 abbrev pub AreDeclrs : Bool → List DeclrTree → Type 0
 AreDeclrs c [] = Unit {0}
 AreDeclrs c (d ∷ ds) = IsDeclr c d × AreDeclrs c ds
 
+-- a declaration has a declarator, and each that it makes `const` has its initializer
 abbrev pub IsDeclaration : DeclarationTree → Type 0
 IsDeclaration v = (v.declrs ≢ []) × AreDeclrs v.is_const v.declrs
 
+-- the target of an assignment, whose index is grouped
 abbrev pub IsPlace : PlaceTree → Type 0
 IsPlace (Scalar x) = Unit {0}
 IsPlace (Element x e) = IsGrouped e
 IsPlace (Target at x) = Unit {0}
 
+-- an assignment, whose target and value are grouped
 abbrev pub IsAssignment : AssignmentTree → Type 0
 IsAssignment a = IsPlace a.place × IsGrouped a.value
 
@@ -80,6 +86,7 @@ abbrev pub IsForHeader : ForHeader → Type 0
 IsForHeader c = (c.tested.name ≡ c.name.name) × (c.stepped.name ≡ c.name.name)
 
 abbrev mutual
+  -- a statement of a kernel declares no `const`, and an `else` belongs to the last `if` before it
   pub IsStmt : StmtTree → Type 0
   IsStmt (LocalDeclaration v) = (v.is_const ≡ false) × IsDeclaration v
   IsStmt (Block at ss) = AreStmts ss
@@ -89,37 +96,45 @@ abbrev mutual
   IsStmt (IfElse at e s t) = IsGrouped e × IsBody s × IsStmt s × (ends_open s ≡ false) × IsBody t × IsStmt t
   IsStmt (For c s) = IsForHeader c × IsBody s × IsStmt s
 
+  -- the statements of a block or a kernel
   pub AreStmts : StmtTrees → Type 0
   AreStmts NoStmt = Unit {0}
   AreStmts (MoreStmt s ss) = IsStmt s × AreStmts ss
 
+-- a kernel has a parameter
 abbrev pub IsKernel : KernelTree → Type 0
 IsKernel f = (f.params ≢ []) × AreStmts f.body
 
+-- a part of the file before `main`
 abbrev pub IsTop : TopTree → Type 0
 IsTop (Extern x) = Unit {0}
 IsTop (ExternArray x) = Unit {0}
 IsTop (FileDeclaration v) = IsDeclaration v
 IsTop (Kernel f) = IsKernel f
 
+-- the parts of the file before `main`
 abbrev pub AreTops : List TopTree → Type 0
 AreTops [] = Unit {0}
 AreTops (t ∷ ts) = IsTop t × AreTops ts
 
+-- the values that `op_printf` prints
 abbrev pub AllGrouped : List ExprTree → Type 0
 AllGrouped [] = Unit {0}
 AllGrouped (e ∷ es) = IsGrouped e × AllGrouped es
 
+-- a call of the OP2 library, whose expressions are grouped
 abbrev pub IsCall : OpCallTree → Type 0
 IsCall (DeclSet at x e t) = IsGrouped e
 IsCall (Printf at t es) = AllGrouped es
 IsCall _ = Unit {0}
 
+-- the three names of a head in `main` are equal, and its bounds are grouped
 abbrev pub IsHostForHeader : HostForHeaderTree → Type 0
 IsHostForHeader c =
     (c.tested.name ≡ c.name.name) × (c.stepped.name ≡ c.name.name) × IsGrouped c.from × IsGrouped c.to
 
 abbrev mutual
+  -- a statement of `main` may declare a `const`, and an `else` belongs to the last `if` before it
   pub IsHost : HostTree → Type 0
   IsHost (HostDeclaration v) = IsDeclaration v
   IsHost (HostBlock at ss) = AreHosts ss
@@ -130,9 +145,11 @@ abbrev mutual
   IsHost (HostFor c s) = IsHostForHeader c × IsHostBody s × IsHost s
   IsHost (HostCall c) = IsCall c
 
+  -- the statements of a block of `main`, or of all of it
   pub AreHosts : HostTrees → Type 0
   AreHosts NoHost = Unit {0}
   AreHosts (MoreHost s ss) = IsHost s × AreHosts ss
 
+-- what makes a tree one that a source can have, beside the tokens that it prints
 abbrev pub IsProgram : ProgramTree → Type 0
 IsProgram p = AreTops p.tops × AreHosts p.main.body

@@ -33,26 +33,31 @@ pub record Mark : Type 0 where
   pub number : Option ℕ
   pub level : ℕ
 
--- a sign or word whose number no node keeps
+-- a sign whose number no node keeps
 abbrev pub sign_at : ℕ → Sign → Mark
 sign_at k s = record { kind = kind.Sign s; number = None; level = k }
 
+-- a word whose number no node keeps
 abbrev pub word_at : ℕ → Word → Mark
 word_at k w = record { kind = kind.Word w; number = None; level = k }
 
--- a sign or word whose number its node keeps
+-- a sign whose number its node keeps
 abbrev pub named_sign : ℕ → Sign → ℕ → Mark
 named_sign k s at = record { kind = kind.Sign s; number = Some at; level = k }
 
+-- a word whose number its node keeps
 abbrev pub named_word : ℕ → Word → ℕ → Mark
 named_word k w at = record { kind = kind.Word w; number = Some at; level = k }
 
+-- a name
 abbrev pub ident : ℕ → Ident → Mark
 ident k x = record { kind = kind.Name x.name; number = Some x.at; level = k }
 
+-- an integer
 abbrev pub figure : ℕ → NumberLiteral → Mark
 figure k n = record { kind = kind.Number n.value; number = Some n.at; level = k }
 
+-- a text
 abbrev pub label : ℕ → TextLiteral → Mark
 label k t = record { kind = kind.Text t.text; number = Some t.at; level = k }
 
@@ -65,6 +70,7 @@ chain_of _ = 0
 abbrev pub operator_level : ℕ → ℕ → ℕ
 operator_level k chain = if nat_lt 128 chain then 65 else k
 
+-- an expression: all within it stands a level deeper, but a left operand and what stands before `?`
 abbrev pub expr : ℕ → ExprTree → List Mark
 expr k (Number n) = figure k n ∷ []
 expr k (Name x) = ident k x ∷ []
@@ -88,12 +94,13 @@ commas k [] = []
 commas k (x ∷ []) = x
 commas k (x ∷ y ∷ ys) = x ++ (sign_at k sign.Comma ∷ commas k (y ∷ ys))
 
--- an expression of a statement at level k
+-- a declared variable, with its initializer or its size
 abbrev pub declr : ℕ → DeclrTree → List Mark
 declr k (Plain x) = ident k x ∷ []
 declr k (Init x e) = ident k x ∷ sign_at k sign.Assign ∷ expr (suc k) e
 declr k (Array x n) = ident k x ∷ sign_at k sign.LeftBracket ∷ figure k n ∷ sign_at k sign.RightBracket ∷ []
 
+-- the tokens of each declared variable
 abbrev pub declrs : ℕ → List DeclrTree → List (List Mark)
 declrs k [] = []
 declrs k (d ∷ ds) = declr k d ∷ declrs k ds
@@ -103,20 +110,23 @@ abbrev pub word_if : Bool → ℕ → Word → List Mark
 word_if true k w = word_at k w ∷ []
 word_if false k w = []
 
--- the node keeps the number of its "int"
+-- a declaration, whose node keeps the number of its `int`
 abbrev pub vars : ℕ → DeclarationTree → List Mark
 vars k v =
     word_if v.is_const k word.Const ++ (named_word k word.Int v.at ∷ (commas k (declrs k v.declrs) ++ sign_at k sign.Semicolon ∷ []))
 
+-- the target of an assignment
 abbrev pub place : ℕ → PlaceTree → List Mark
 place k (Scalar x) = ident k x ∷ []
 place k (Element x e) = ident k x ∷ sign_at k sign.LeftBracket ∷ (expr (suc k) e ++ sign_at k sign.RightBracket ∷ [])
 place k (Target at x) = named_sign k sign.Star at ∷ ident k x ∷ []
 
+-- an assignment and its `;`
 abbrev pub assignment : ℕ → AssignmentTree → List Mark
 assignment k a =
     place k a.place ++ (named_sign k (assign_sign_of a.op) a.at ∷ (expr (suc k) a.value ++ sign_at k sign.Semicolon ∷ []))
 
+-- the head of a kernel's `for`
 abbrev pub counter : ℕ → ForHeader → List Mark
 counter k c =
     named_word k word.For c.at ∷ sign_at k sign.LeftParen ∷ word_at k word.Int ∷ ident k c.name ∷ sign_at k sign.Assign ∷ figure k c.from
@@ -129,6 +139,7 @@ condition k at e =
     named_word k word.If at ∷ sign_at k sign.LeftParen ∷ (expr (suc k) e ++ sign_at k sign.RightParen ∷ [])
 
 abbrev mutual
+  -- a statement of a kernel: the statements within it stand a level deeper
   pub stmt : ℕ → StmtTree → List Mark
   stmt k (LocalDeclaration v) = vars k v
   stmt k (Block at ss) = named_sign k sign.LeftBrace at ∷ (stmts (suc k) ss ++ sign_at k sign.RightBrace ∷ [])
@@ -138,17 +149,21 @@ abbrev mutual
   stmt k (IfElse at e s t) = condition k at e ++ (stmt (suc k) s ++ (word_at k word.Else ∷ stmt (suc k) t))
   stmt k (For c s) = counter k c ++ stmt (suc k) s
 
+  -- the statements of a block or a kernel, in order
   pub stmts : ℕ → StmtTrees → List Mark
   stmts k NoStmt = []
   stmts k (MoreStmt s ss) = stmt k s ++ stmts k ss
 
+-- a parameter of a kernel
 abbrev pub param : Param → List Mark
 param p = word_if p.is_const 0 word.Const ++ (word_at 0 word.Int ∷ sign_at 0 sign.Star ∷ ident 0 p.name ∷ [])
 
+-- the tokens of each parameter
 abbrev pub params : List Param → List (List Mark)
 params [] = []
 params (p ∷ ps) = param p ∷ params ps
 
+-- a kernel, whose statements stand at level 1
 abbrev pub kernel : KernelTree → List Mark
 kernel f =
     word_if f.is_static 0 word.Static
@@ -157,6 +172,7 @@ kernel f =
     ∷ (commas 0 (params f.params)
     ++ (sign_at 0 sign.RightParen ∷ sign_at 0 sign.LeftBrace ∷ (stmts 1 f.body ++ sign_at 0 sign.RightBrace ∷ [])))))
 
+-- a part of the file before `main`
 abbrev pub top : TopTree → List Mark
 top (Extern x) = word_at 0 word.Extern ∷ word_at 0 word.Int ∷ ident 0 x ∷ sign_at 0 sign.Semicolon ∷ []
 top (ExternArray x) =
@@ -165,11 +181,12 @@ top (ExternArray x) =
 top (FileDeclaration v) = vars 1 v
 top (Kernel f) = kernel f
 
+-- the parts of the file before `main`, in order
 abbrev pub tops : List TopTree → List Mark
 tops [] = []
 tops (t ∷ ts) = top t ++ tops ts
 
--- the node keeps the number of its `&`, where it has one
+-- a global, whose node keeps the number of its `&`, where it has one
 abbrev pub glob : ℕ → GlobalName → List Mark
 glob k g = and_marks g.ampersand k ++ ident k g.name ∷ []
   where
@@ -177,6 +194,7 @@ glob k g = and_marks g.ampersand k ++ ident k g.name ∷ []
     and_marks None k = []
     and_marks (Some at) k = named_sign k sign.And at ∷ []
 
+-- the head of a `for` of `main`
 abbrev pub host_counter : ℕ → HostForHeaderTree → List Mark
 host_counter k c =
     named_word k word.For c.at ∷ sign_at k sign.LeftParen ∷ word_at k word.Int ∷ ident k c.name ∷ sign_at k sign.Assign
@@ -184,6 +202,7 @@ host_counter k c =
     ++ (sign_at k sign.Semicolon ∷ ident k c.tested ∷ sign_at k sign.Less
     ∷ (expr (suc k) c.to ++ (sign_at k sign.Semicolon ∷ ident k c.stepped ∷ sign_at k sign.PlusPlus ∷ sign_at k sign.RightParen ∷ []))))
 
+-- the index of an argument, whose node keeps the number of its `-`, or else of its number
 abbrev pub arg_index : ℕ → ArgIndex → List Mark
 arg_index k i = index_by i.is_negative k i
   where
@@ -191,10 +210,12 @@ arg_index k i = index_by i.is_negative k i
     index_by true k i = named_sign k sign.Minus i.at ∷ (record { kind = kind.Number i.value; number = None; level = k }) ∷ []
     index_by false k i = (record { kind = kind.Number i.value; number = Some i.at; level = k }) ∷ []
 
+-- what an argument's index goes through: a map's name or `OP_ID`
 abbrev pub via_mark : ℕ → ArgVia → Mark
 via_mark k (via.Map x) = ident k x
 via_mark k (via.Identity at) = named_word k word.OpId at
 
+-- an argument of a loop
 abbrev pub argument : ℕ → LoopArg → List Mark
 argument k (arg.Dat at dat index through dim text access access_at) =
     named_word k word.OpArgDat at ∷ sign_at k sign.LeftParen ∷ ident k dat ∷ sign_at k sign.Comma
@@ -210,6 +231,7 @@ abbrev pub arguments : ℕ → List LoopArg → List Mark
 arguments k [] = []
 arguments k (a ∷ as_) = sign_at k sign.Comma ∷ (argument k a ++ arguments k as_)
 
+-- the values behind the text of `op_printf`, each behind a comma
 abbrev pub values : ℕ → List ExprTree → List Mark
 values k [] = []
 values k (e ∷ es) = sign_at k sign.Comma ∷ (expr (suc k) e ++ values k es)
@@ -218,6 +240,7 @@ values k (e ∷ es) = sign_at k sign.Comma ∷ (expr (suc k) e ++ values k es)
 abbrev pub close : ℕ → List Mark
 close k = sign_at k sign.RightParen ∷ sign_at k sign.Semicolon ∷ []
 
+-- a call of the OP2 library and its `;`
 abbrev pub call : ℕ → OpCallTree → List Mark
 call k (CallInit at n) =
     named_word k word.OpInit at ∷ sign_at k sign.LeftParen ∷ word_at k word.Argc ∷ sign_at k sign.Comma ∷ word_at k word.Argv
@@ -244,6 +267,7 @@ call k (PrintDat at x t) =
     named_word k word.OpPrintDatToTxtfile at ∷ sign_at k sign.LeftParen ∷ ident k x ∷ sign_at k sign.Comma ∷ label k t ∷ close k
 
 abbrev mutual
+  -- a statement of `main`: the statements within it stand a level deeper
   pub host : ℕ → HostTree → List Mark
   host k (HostDeclaration v) = vars k v
   host k (HostBlock at ss) = named_sign k sign.LeftBrace at ∷ (hosts (suc k) ss ++ sign_at k sign.RightBrace ∷ [])
@@ -254,18 +278,22 @@ abbrev mutual
   host k (HostFor c s) = host_counter k c ++ host (suc k) s
   host k (HostCall c) = call k c
 
+  -- the statements of a block of `main`, or of all of it, in order
   pub hosts : ℕ → HostTrees → List Mark
   hosts k NoHost = []
   hosts k (MoreHost s ss) = host k s ++ hosts k ss
 
+-- `*argv[]` where it has brackets, else `**argv`
 abbrev pub argv_marks : Bool → List Mark
 argv_marks true = sign_at 0 sign.Star ∷ word_at 0 word.Argv ∷ sign_at 0 sign.LeftBracket ∷ sign_at 0 sign.RightBracket ∷ []
 argv_marks false = sign_at 0 sign.Star ∷ sign_at 0 sign.Star ∷ word_at 0 word.Argv ∷ []
 
+-- `return` and its number, where `main` has one
 abbrev pub return_marks : Option NumberLiteral → List Mark
 return_marks None = []
 return_marks (Some n) = word_at 0 word.Return ∷ figure 0 n ∷ sign_at 0 sign.Semicolon ∷ []
 
+-- `main`, whose statements stand at level 1
 abbrev pub main : MainTree → List Mark
 main m =
     word_at 0 word.Int ∷ named_word 0 word.Main m.at ∷ sign_at 0 sign.LeftParen ∷ word_at 0 word.Int ∷ word_at 0 word.Argc
@@ -275,5 +303,6 @@ main m =
     ∷ (hosts 1 m.body ++ (named_word 0 word.OpExit m.exit_at ∷ sign_at 0 sign.LeftParen ∷ sign_at 0 sign.RightParen
     ∷ sign_at 0 sign.Semicolon ∷ (return_marks m.returned ++ sign_at 0 sign.RightBrace ∷ [])))))
 
+-- all tokens of a source, in order
 abbrev pub program : ProgramTree → List Mark
 program p = tops p.tops ++ main p.main

@@ -15,6 +15,7 @@ use Rattle.c_tree.specs.declared.expressions.MinMax.TheVariants as min_max
 use Rattle.c_tree.specs.declared.hosts.AccessWord.{AccessWord}
 use Rattle.c_tree.specs.declared.hosts.AccessWord.TheVariants as access
 
+-- the sign that a binary operator is written with
 abbrev pub sign_of : BinaryOp → Sign
 sign_of binary.LogicalOr = sign.OrOr
 sign_of binary.LogicalAnd = sign.AndAnd
@@ -56,12 +57,14 @@ level_of binary.Mul = 10
 level_of binary.Div = 10
 level_of binary.Rem = 10
 
+-- the sign that a unary operator is written with
 abbrev pub unary_sign_of : UnaryOp → Sign
 unary_sign_of unary.Minus = sign.Minus
 unary_sign_of unary.Plus = sign.Plus
 unary_sign_of unary.Not = sign.Not
 unary_sign_of unary.Complement = sign.Tilde
 
+-- the sign that an assignment is written with
 abbrev pub assign_sign_of : AssignOp → Sign
 assign_sign_of assign.Set = sign.Assign
 assign_sign_of assign.Add = sign.AddAssign
@@ -75,10 +78,12 @@ assign_sign_of assign.BitAnd = sign.AndAssign
 assign_sign_of assign.BitOr = sign.OrAssign
 assign_sign_of assign.BitXor = sign.XorAssign
 
+-- the word `MIN` or `MAX`
 abbrev pub min_max_word_of : MinMax → Word
 min_max_word_of min_max.Min = word.Min
 min_max_word_of min_max.Max = word.Max
 
+-- the word that an access is written with
 abbrev pub access_word_of : AccessWord → Word
 access_word_of access.Read = word.OpRead
 access_word_of access.Write = word.OpWrite
