@@ -17,19 +17,23 @@ is_access access.Min access.Min = true
 is_access access.Max access.Max = true
 is_access w a = false
 
+-- an access is OP_READ
 abbrev pub is_read : Access → Bool
 is_read a = is_access access.Read a
 
+-- an access is OP_INC
 abbrev pub is_inc : Access → Bool
 is_inc a = is_access access.Inc a
 
+-- an access is OP_MIN
 abbrev pub is_min : Access → Bool
 is_min a = is_access access.Min a
 
+-- an access is OP_MAX
 abbrev pub is_max : Access → Bool
 is_max a = is_access access.Max a
 
--- it merges amounts into what it reaches
+-- an access merges amounts into what it reaches
 abbrev pub is_reducing : Access → Bool
 is_reducing a = is_inc a || is_min a || is_max a
 
@@ -57,6 +61,7 @@ abbrev pub is_orderly_arg : List Arg → Arg → Bool
 is_orderly_arg args (Dat d v a) = all_on d (λ w b. is_read b) args || is_orderly args d
 is_orderly_arg args (Global v a) = true
 
+-- Free where each dat that the loop modifies is orderly, so that the order of elements can't matter
 abbrev pub class_of : List Arg → Class
 class_of args = if list_all (is_orderly_arg args) args then Free else Ordered
 

@@ -3,13 +3,15 @@ use Rattle.std.specs.Prelude.{ℕ}
 use Rattle.bound_program.specs.declared.limits.TheConstants.{MAX_SETS, MAX_MAPS, MAX_DATS, MAX_SIZE, MAX_DIM, MAX_CELLS}
 use Rattle.bound_program.specs.declared.limits.TheConstants.{MAX_ARGUMENTS, MAX_TRACE, MAX_WEIGHT}
 
--- of declarations
+-- of the sets that are declared
 abbrev pub max_sets : ℕ
 max_sets = MAX_SETS
 
+-- of the maps that are declared
 abbrev pub max_maps : ℕ
 max_maps = MAX_MAPS
 
+-- of the dats that are declared
 abbrev pub max_dats : ℕ
 max_dats = MAX_DATS
 
@@ -33,6 +35,6 @@ max_arguments = MAX_ARGUMENTS
 abbrev pub max_trace : ℕ
 max_trace = MAX_TRACE
 
--- of what is printed
+-- of the bytes that are printed, as they are weighed before the run
 abbrev pub max_weight : ℕ
 max_weight = MAX_WEIGHT

@@ -20,19 +20,29 @@ use Rattle.bound_program.specs.declared.sites.Site.{Site}
 
 -- a statement of `main` that is no loop
 pub data ActValue : Type 0 where
+  -- the declaration of a variable, whose cells become 0
   Clear : (var : ℕ) → ActValue
+  -- an assignment to a variable, or its initializer
   Assign : (var : ℕ) (index : Option RExprTree) (op : AssignOp) (op_at : Pos) (value : RExprTree) (at : Pos) → ActValue
+  -- `op_printf`
   Line : (text : List ℕ) (values : List RExprTree) → ActValue
+  -- `op_print_dat_to_txtfile`
   Print : (dat : ℕ) (file : List ℕ) → ActValue
+  -- `op_exit`
   Exit : ActValue
 
--- one step of `main`
+-- an item of the trace, by the number of its loop
 pub data ItemValue : Type 0 where
+  -- a Free loop
   Free : (site : ℕ) → ItemValue
+  -- the merging of the globals that the Free loop before it reduces
   Reduce : (site : ℕ) → ItemValue
+  -- an Ordered loop
   Ordered : (site : ℕ) → ItemValue
+  -- a statement of `main` that is no loop
   Host : ActValue → ItemValue
 
+-- an `op_par_loop` of the text, with the numbers of its kernel and its set
 pub record SiteValue : Type 0 where
   pub kernel : ℕ
   pub set : ℕ
@@ -40,12 +50,14 @@ pub record SiteValue : Type 0 where
   pub class : Class
   pub at : Pos
 
+-- a variable: its cells before the run, and the number of the first among the constants that kernels read
 pub record VarValue : Type 0 where
   pub name : List ℕ
   pub start : List ℤ
   pub constant : Option ℕ
   pub is_const : Bool
 
+-- a program with its mesh: its kernels, loops and variables by number, and what `main` does
 pub record BoundValue : Type 0 where
   pub mesh : MeshValue
   pub kernels : List RKernel
@@ -55,6 +67,7 @@ pub record BoundValue : Type 0 where
 
 -- ---- the values of the program's types
 
+-- the value of a statement
 abbrev pub act_of : Act → ActValue
 act_of (a.Clear v) = Clear v
 act_of (a.Assign v index op op_at e at) = Assign v (option_map rexpr_of index) op op_at (rexpr_of e) at
@@ -70,21 +83,26 @@ closed_act told (Line l es) = Line l (map (closed told) es)
 closed_act told (Print d file) = Print d file
 closed_act told Exit = Exit
 
+-- the value of a statement in which told names have their values
 abbrev pub told_act_of : ToldAct → ActValue
 told_act_of x = closed_act x.told.items (act_of x.act.value)
 
+-- the value of an item
 abbrev pub item_of : Item → ItemValue
 item_of (i.Free s) = Free s
 item_of (i.Reduce s) = Reduce s
 item_of (i.Ordered s) = Ordered s
 item_of (i.Host x) = Host (told_act_of x)
 
+-- the value of a loop
 abbrev pub site_of : Site → SiteValue
 site_of s = record { kernel = s.kernel; set = s.set; args = s.args.items; class = s.class; at = s.at }
 
+-- the value of a variable
 abbrev pub var_of : Var → VarValue
 var_of v = record { name = v.name; start = v.start; constant = v.constant; is_const = v.is_const }
 
+-- the value of a program
 abbrev pub bound_of : Bound → BoundValue
 bound_of b = record {
   mesh = b.mesh;
@@ -96,8 +114,10 @@ bound_of b = record {
 
 -- ---- what numbers that nothing has stand for
 
+-- a loop that isn't there
 abbrev pub no_site : SiteValue
 no_site = record { kernel = 0; set = 0; args = []; class = c.Free; at = record { line = 1; column = 1 } }
 
+-- a variable that isn't there
 abbrev pub no_var : VarValue
 no_var = record { name = []; start = []; constant = None; is_const = false }

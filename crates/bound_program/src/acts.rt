@@ -60,7 +60,7 @@ impl ToldAct {
     }
 }
 
-/// One step of `main`, by the number of its loop.
+/// An item of the trace, by the number of its loop.
 #[derive(Drop)]
 pub enum Item {
     /// a Free loop

@@ -37,6 +37,7 @@ abbrev pub close_len : List ℕ → Option ℕ
 close_len [] = None
 close_len (b ∷ bs) = if closes (b ∷ bs) then Some 2 else further 1 (close_len bs)
 
+-- the reserved word, or else the name that the bytes are
 abbrev pub word_or : Option Word → List ℕ → Front
 word_or (Some w) bs = Token (kind.Word w) (length bs)
 word_or None bs = Token (kind.Name bs) (length bs)
@@ -45,6 +46,7 @@ word_or None bs = Token (kind.Name bs) (length bs)
 unfoldable pub front_word : List ℕ → Front
 front_word bs = word_or (find (λ w. bytes_eq bs (word_spelling w)) WORDS) bs
 
+-- the sign, or else a bad byte
 abbrev pub sign_or : Option Sign → Front
 sign_or (Some s) = Token (kind.Sign s) (length (sign_spelling s))
 sign_or None = BadByte 0
@@ -58,6 +60,7 @@ abbrev pub figure_size : List ℕ → ℕ
 figure_size [] = 0
 figure_size (b ∷ bs) = if nat_eq b 48 then 1 else prefix_len digit (b ∷ bs)
 
+-- the number that the first n bytes spell, where it is at most 2147483647
 abbrev pub figure_of : List ℕ → ℕ → Front
 figure_of bs n =
     if nat_lt (value_of (take n bs)) 2147483648 then Token (kind.Number (pos (value_of (take n bs)))) n else TooLarge
@@ -74,8 +77,11 @@ plain b = nat_le 32 b && not (nat_eq b 127) && not (nat_eq b 34) && not (nat_eq 
 abbrev pub escape_of : List ℕ → Option (ℕ × ℕ)
 escape_of [] = None
 escape_of (b ∷ bs) =
-    if nat_eq b 110 then Some (10, 2) else if nat_eq b 116 then Some (9, 2) else if nat_eq b 92 then Some
-    (92, 2) else if nat_eq b 34 then Some (34, 2) else None
+    if nat_eq b 110 then Some (10, 2)
+    else if nat_eq b 116 then Some (9, 2)
+    else if nat_eq b 92 then Some (92, 2)
+    else if nat_eq b 34 then Some (34, 2)
+    else None
 
 -- the byte that the front of a text's bytes stands for, and how many bytes spell it
 abbrev pub unit_of : List ℕ → Option (ℕ × ℕ)

@@ -92,17 +92,20 @@ abbrev pub IsApart : List ℕ → Type 0
 IsApart [] = Unit {0}
 IsApart (b ∷ bs) = part b ≡ false
 
+-- whether a token is a number
 abbrev pub is_number : Kind → Bool
 is_number (kind.Number z) = true
 is_number _ = false
 
 -- whether a text that goes on with these bytes is closed on its line; a quote behind a `\` closes nothing
 abbrev mutual
+  -- behind an unescaped byte
   pub is_closed : List ℕ → Bool
   is_closed [] = false
   is_closed (b ∷ bs) =
       if nat_eq b 34 then true else if nat_eq b 10 then false else if nat_eq b 92 then is_closed_behind bs else is_closed bs
 
+  -- behind a `\`
   pub is_closed_behind : List ℕ → Bool
   is_closed_behind [] = false
   is_closed_behind (b ∷ bs) = if nat_eq b 10 then false else is_closed bs
@@ -150,6 +153,7 @@ pub record IsTooLarge (bs : List ℕ) : Type 0 where
 -- where the tokens of a source end
 pub data Stop : Type 0 where
   AtEnd : Stop
+  -- with the bytes that stand before the bad one
   AtBadByte : List ℕ → Stop
   AtOpenComment : Stop
   AtOpenText : Stop
@@ -171,6 +175,7 @@ pub data Part : Type 0 where
   Passed : List ℕ → Part
   Spelled : Kind → List ℕ → Part
 
+-- the bytes of a part
 abbrev pub bytes_of : Part → List ℕ
 bytes_of (Passed s) = s
 bytes_of (Spelled k s) = s
@@ -180,6 +185,7 @@ abbrev pub IsPartBefore : Bool → Part → List ℕ → Type 0
 IsPartBefore fresh (Passed s) rest = IsPassed fresh s rest
 IsPartBefore fresh (Spelled k s) rest = IsLongest k s rest × FitsIn k s
 
+-- whether a part is a number
 abbrev pub is_number_part : Part → Bool
 is_number_part (Passed s) = false
 is_number_part (Spelled k s) = is_number k
@@ -205,6 +211,7 @@ tokens_of n p (Passed s ∷ xs) = tokens_of (n + length s) (advance p s) xs
 tokens_of n p (Spelled k s ∷ xs) =
     record { kind = k; from = n; to = n + length s; at = p } ∷ tokens_of (n + length s) (advance p s) xs
 
+-- the bytes of parts, one after another
 abbrev pub all_bytes : List Part → List ℕ
 all_bytes [] = []
 all_bytes (x ∷ xs) = bytes_of x ++ all_bytes xs
@@ -213,6 +220,7 @@ all_bytes (x ∷ xs) = bytes_of x ++ all_bytes xs
 abbrev pub Outcome : Type 0
 Outcome = Result (List Token) LexRefusal
 
+-- the tokens of the parts where these go to the end, or else the refusal that the stop is
 abbrev pub outcome_of : List Part → Stop → Outcome
 outcome_of xs AtEnd = Ok (tokens_of 0 start xs)
 outcome_of xs (AtBadByte good) = Err (refusal.BadByte (advance start (all_bytes xs ++ good)))

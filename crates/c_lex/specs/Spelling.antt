@@ -139,8 +139,13 @@ textual b = nat_eq b 10 || nat_eq b 9 || (nat_le 32 b && not (nat_eq b 127))
 -- how a text spells a byte: LF, tab, `\` and `"` by their escapes
 abbrev pub escaped : ℕ → List ℕ
 escaped b =
-    if nat_eq b 10 then codes "\\n" else if nat_eq b 9 then codes "\\t" else if nat_eq b 92 then codes "\\\\" else if nat_eq b 34 then codes "\\\"" else b ∷ []
+    if nat_eq b 10 then codes "\\n"
+    else if nat_eq b 9 then codes "\\t"
+    else if nat_eq b 92 then codes "\\\\"
+    else if nat_eq b 34 then codes "\\\""
+    else b ∷ []
 
+-- how a text spells bytes
 abbrev pub all_escaped : List ℕ → List ℕ
 all_escaped [] = []
 all_escaped (b ∷ bs) = escaped b ++ all_escaped bs

@@ -59,11 +59,11 @@ module _ (b : BoundValue) where
   free_args (Free s) = (site_at b s).args
   free_args i = []
 
-  -- item, dat
+  -- whether an item modifies a dat
   abbrev pub item_modifies : ℕ → ℕ → Bool
   item_modifies k d = modifies (loop_args (item_at k)) d
 
-  -- item, dat
+  -- whether an item needs fresh copies of a dat
   abbrev pub item_needs : ℕ → ℕ → Bool
   item_needs k d = needs (free_args (item_at k)) d
 
@@ -102,9 +102,10 @@ pub record IsInRange (b : BoundValue) : Type 0 where
   pub loops : (k : ℕ) → k < length b.trace → IsLoopOf (length b.sites) (run_of (item_at b k))
   pub dats : (s : ℕ) → s < length b.sites → AreOfDats (dat_count b.mesh) (site_at b s).args
 
--- item, dat: whether the dat's copies are stale before it, and whether it exchanges the dat, by one bit a dat
+-- whether a dat's copies are stale before an item, as the code tells it by one bit a dat
 abbrev pub stale_before : BoundValue → ℕ → ℕ → Bool
 stale_before b k d = stale_bit (λ i. item_modifies b i d) (λ i. item_needs b i d) k
 
+-- whether an item exchanges a dat, by such bits
 abbrev pub exchanged_at : BoundValue → ℕ → ℕ → Bool
 exchanged_at b k d = stale_before b k d && item_needs b k d

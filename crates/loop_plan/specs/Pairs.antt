@@ -26,6 +26,7 @@ imports_from sender receiver s = list_any (λ x. list_any (nat_eq x) (owned send
 abbrev pub passes : MeshValue → List RankMesh → List ℕ → ℕ → ℕ → Bool
 passes g meshes dats s r = list_any (λ d. imports_from (sets_of meshes s) (sets_of meshes r) (dat_set g d)) dats
 
+-- a message's sender and receiver
 abbrev pub pair : ℕ → ℕ → Pair
 pair s r = record { from = s; to = r }
 

@@ -23,12 +23,12 @@ halo_line g sets s r =
     ++ (codes "exec" ∷ map decimal (drop (own_in sets s) (take (executed_in sets s) (originals_in sets s))))
     ++ (codes "nonexec" ∷ map decimal (drop (executed_in sets s) (originals_in sets s)))
 
--- those of a set, from rank r on
+-- the halo lines of a set, from rank r on
 abbrev pub halo_lines : MeshValue → ℕ → ℕ → List RankMesh → List Line
 halo_lines g s r [] = []
 halo_lines g s r (m ∷ ms) = halo_line g m.sets.items s r ∷ halo_lines g s (suc r) ms
 
--- those of the first sets
+-- the halo lines of the first sets
 abbrev pub all_halo_lines : MeshValue → List RankMesh → ℕ → List Line
 all_halo_lines g meshes zero = []
 all_halo_lines g meshes (suc s) = all_halo_lines g meshes s ++ halo_lines g s 0 meshes
@@ -39,12 +39,13 @@ site_line s r places c =
     (codes "site" ∷ decimal s ∷ codes "rank" ∷ decimal r ∷ codes "places" ∷ decimal places ∷ codes "blocks" ∷ map decimal c.blocks.items)
     ++ (codes "inner" ∷ map decimal c.inner.items)
 
--- those of a loop, from rank r on
+-- the lines of a loop, from rank r on
 abbrev pub site_lines : ℕ → ℕ → List ℕ → List Colours → List Line
 site_lines s r [] cs = []
 site_lines s r (n ∷ ns) [] = []
 site_lines s r (n ∷ ns) (c ∷ cs) = site_line s r n c ∷ site_lines s (suc r) ns cs
 
+-- the lines of a loop, one for each rank
 abbrev pub loop_lines : ℕ × SitePlanValue → List Line
 loop_lines e = site_lines e.0 0 e.1.places e.1.colours
 
@@ -55,12 +56,13 @@ item_line g k (Reduce s) dats = codes "item" ∷ decimal k ∷ codes "reduce" �
 item_line g k (Ordered s) dats = codes "item" ∷ decimal k ∷ codes "ordered" ∷ decimal s ∷ []
 item_line g k (Host a) dats = codes "item" ∷ decimal k ∷ codes "host" ∷ []
 
--- those of all items, from item k on
+-- the lines of all items, from item k on
 abbrev pub item_lines : MeshValue → ℕ → List ItemValue → List ItemPlanValue → List Line
 item_lines g k [] ps = []
 item_lines g k (i ∷ is) [] = []
 item_lines g k (i ∷ is) (p ∷ ps) = item_line g k i p.exchange ∷ item_lines g (suc k) is ps
 
+-- all lines of the text: ranks and blocks, halos, loops and items
 abbrev pub plan_lines : BoundValue → List RankMesh → PlanValue → List Line
 plan_lines b meshes p =
     (codes "op2plan" ∷ codes "1" ∷ [])

@@ -17,6 +17,7 @@ pub record ItemPlanValue : Type 0 where
   pub exchange : List ℕ
   pub pairs : List Pair
 
+-- how a program runs on a number of ranks, with blocks of so many places, and how many steps it has
 pub record PlanValue : Type 0 where
   pub ranks : ℕ
   pub block : ℕ
@@ -26,15 +27,19 @@ pub record PlanValue : Type 0 where
 
 -- ---- the values of the program's types
 
+-- the value of a loop's plan
 abbrev pub site_plan_of : SitePlan → SitePlanValue
 site_plan_of s = record { places = s.places.items; colours = s.colours.items }
 
+-- the value of an item's plan
 abbrev pub item_plan_of : ItemPlan → ItemPlanValue
 item_plan_of i = record { exchange = i.exchange.items; pairs = i.pairs.items }
 
+-- the value of a loop's number with its plan
 abbrev pub entry_of : ℕ × SitePlan → ℕ × SitePlanValue
 entry_of e = (e.0, site_plan_of e.1)
 
+-- the value of a plan
 abbrev pub plan_of : Plan → PlanValue
 plan_of p = record {
   ranks = p.ranks;
@@ -46,12 +51,15 @@ plan_of p = record {
 
 -- ---- parts of a plan by their numbers
 
+-- the plan of a loop that has none
 abbrev pub no_site_plan : SitePlanValue
 no_site_plan = record { places = []; colours = [] }
 
+-- the plan of an item that isn't there
 abbrev pub no_item_plan : ItemPlanValue
 no_item_plan = record { exchange = []; pairs = [] }
 
+-- the plan of a loop, where it has one
 abbrev pub or_none : Option SitePlanValue → SitePlanValue
 or_none None = no_site_plan
 or_none (Some s) = s

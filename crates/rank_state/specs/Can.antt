@@ -21,6 +21,7 @@ module _ {F : Type 0} (st : State F) where
     pub rank : r < length st.frames.panes
     pub place : x < length (get_or st.frames.panes r [])
 
+  -- what a begin needs: its windows, its constants, a place for its frame, and room in it
   pub record CanBegin (cs : List ℕ) (r x : ℕ) (spans : List Span) (scalars : List Scalar) : Type 0 where
     pub memory : CanCopy r spans
     pub frame : HasPlace r x
@@ -28,6 +29,7 @@ module _ {F : Type 0} (st : State F) where
     pub constants : InLength (length st.variables) cs
     pub fits : total spans + length scalars ≤ st.frames.stride
 
+  -- what an end needs: its windows and partials, and that its frame has as many cells as they have
   pub record CanEnd (r x : ℕ) (spans : List Span) (scalars : List Scalar) : Type 0 where
     pub memory : CanCopy r spans
     pub frame : HasPlace r x
@@ -36,10 +38,12 @@ module _ {F : Type 0} (st : State F) where
     pub enough : Enough (total spans) (pane_at st.frames.panes r x)
     pub exact : Exactly (total spans + length scalars) (pane_at st.frames.panes r x)
 
+  -- what a Reduce needs: its variables, and its partials on each rank
   pub record CanReduce (scalars : List Scalar) : Type 0 where
     pub reads : Reads (length st.variables) scalars
     pub rows : (i : ℕ) → i < length st.partials → Merges (length (row st.partials i)) scalars
 
+  -- what an element of an Ordered loop needs: its owners' buffers, its variables and constants, and room
   pub record CanRun (cs : List ℕ) (spans : List Owned) (indices : List ℕ) : Type 0 where
     pub inside : Within_all st.memories spans
     pub reads : InLength (length st.variables) indices

@@ -6,11 +6,12 @@ use Rattle.schedule_steps.specs.Outline.{Outline}
 use Rattle.schedule_steps.specs.Steps.{IsStep}
 use Rattle.rank_state.specs.Frames.{Pane, Shut, pane_at}
 
--- item, rank, places
+-- the begins of places of a rank in an item, one after another
 abbrev pub begins : ℕ → ℕ → List ℕ → List Step
 begins k r [] = []
 begins k r (x ∷ xs) = Begin k r x ∷ begins k r xs
 
+-- whether a place is one of these
 abbrev pub is_in : ℕ → List ℕ → Bool
 is_in y [] = false
 is_in y (x ∷ xs) = (y == x) || is_in y xs

@@ -20,15 +20,17 @@ abbrev pub reduce_one : List (List ℤ) → ℕ → Scalar → List ℤ → List
 reduce_one rows n (Value at) variables = variables
 reduce_one rows n (Amount at slot how) variables = set variables at (merge_rows (operation how) slot rows n (get_or variables at (pos 0)))
 
+-- all cells into which the loop reduces
 abbrev pub reduce_all : List (List ℤ) → ℕ → List Scalar → List ℤ → List ℤ
 reduce_all rows n [] variables = variables
 reduce_all rows n (x ∷ xs) variables = reduce_all rows n xs (reduce_one rows n x variables)
 
--- the loop's partials at their units again
+-- a partial at its unit again
 abbrev pub unite_one : Scalar → List ℤ → List ℤ
 unite_one (Value at) partials = partials
 unite_one (Amount at slot how) partials = set partials slot (unit_of (operation how))
 
+-- the loop's partials at their units again
 abbrev pub unite : List Scalar → List ℤ → List ℤ
 unite [] partials = partials
 unite (x ∷ xs) partials = unite xs (unite_one x partials)

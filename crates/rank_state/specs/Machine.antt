@@ -12,7 +12,7 @@ use Rattle.rank_state.specs.Windows.{firsts, amounts}
 use Rattle.rank_state.specs.Mail.{Box, sent, received, arrived, first_post}
 use Rattle.rank_state.specs.Frames.{Pane, Shut, Broken, Holds, Panes, pane_at, pane_after, opened, shut, closed}
 
--- F is the type of faults
+-- the memories of all ranks with what is open and under way; F is the type of faults
 pub record State (F : Type 0) : Type 0 where
   pub memories : List (List ℤ)  -- by rank
   pub variables : List ℤ
@@ -22,6 +22,7 @@ pub record State (F : Type 0) : Type 0 where
   pub fault : Option (Stop F)  -- of the recorded faults the one that a join would report
   pub output : List ℕ
 
+-- a rank's memory, or its partials
 abbrev pub row : List (List ℤ) → ℕ → List ℤ
 row ms r = get_or ms r []
 
@@ -38,7 +39,7 @@ noted k e (Some f) before = kept before (record { item = k; element = Some e; fa
 abbrev pub begun_as : {F : Type 0} → ℕ → ℕ → ℕ → ℕ → Core F → State F → State F
 begun_as k r x e ran st = record st { frames = opened k r x ran (st.frames.left - 1) st.frames; fault = noted k e (fault_of ran) st.fault }
 
--- the constants are the variables at these indices
+-- begin: the element's kernel runs on its windows, the constants being the variables at these indices
 abbrev pub begun : {F : Type 0} → (ℕ → ℕ → List ℤ → List ℤ → Core F) → List ℕ → ℕ → ℕ → ℕ → ℕ → List Span → List Scalar → State F → State F
 begun core cs k r x e spans scalars st =
     begun_as k r x e (core k e (values_at st.variables cs) (windows_of st r spans scalars)) st

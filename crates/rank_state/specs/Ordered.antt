@@ -16,6 +16,7 @@ abbrev pub Within_all : List (List ℤ) → List Owned → Type 0
 Within_all ms [] = Unit {0}
 Within_all ms (s ∷ ss) = (s.rank < length ms) × (s.at + s.dim ≤ length (get_or ms s.rank [])) × Within_all ms ss
 
+-- how many cells the spans have
 abbrev pub total_all : List Owned → ℕ
 total_all [] = 0
 total_all (s ∷ ss) = s.dim + total_all ss
@@ -42,6 +43,7 @@ put_values [] ws variables = variables
 put_values (i ∷ is) [] variables = variables
 put_values (i ∷ is) (w ∷ ws) variables = put_values is ws (set variables i w)
 
+-- the cells of the program that the spans have
 abbrev pub owned_cells : (ℕ → ℕ → DatCell) → List Owned → List Cell
 owned_cells cell_at [] = []
 owned_cells cell_at (s ∷ ss) = cells_from (cell_at s.rank) s.at s.dim ++ owned_cells cell_at ss
@@ -53,6 +55,7 @@ module _ {F : Type 0} (p : Setup F) (l : Layout F) (t : Tables) where
   OwnedBy (s ∷ ss) = (s.rank < p.ranks) × (s.at + s.dim ≤ l.width s.rank)
       × ((j : ℕ) → j < s.dim → owner_of p (l.cell_at s.rank (s.at + j)) ≡ s.rank) × OwnedBy ss
 
+  -- the indices are those of variables' cells
   abbrev pub InVariables : List ℕ → Type 0
   InVariables [] = Unit {0}
   InVariables (i ∷ is) = (i < l.variables) × InVariables is
@@ -74,11 +77,12 @@ put_back spans indices ws st =
 abbrev pub all_windows : {F : Type 0} → List Owned → List ℕ → State F → List ℤ
 all_windows spans indices st = gathered_all st.memories spans ++ values_at st.variables indices
 
--- the buffers and the variables after an element's run
+-- the buffers after an element's run
 abbrev pub memories_after : {F : Type 0} → List Owned → Core F → List (List ℤ) → List (List ℤ)
 memories_after spans (Faults f) ms = ms
 memories_after spans (Leaves ws) ms = scattered_all 0 ws spans ms
 
+-- the variables after an element's run, n cells of whose windows are those of spans
 abbrev pub variables_after : {F : Type 0} → ℕ → List ℕ → Core F → List ℤ → List ℤ
 variables_after n indices (Faults f) vs = vs
 variables_after n indices (Leaves ws) vs = put_values indices (drop n ws) vs

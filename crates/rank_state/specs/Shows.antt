@@ -26,6 +26,7 @@ pane_in k Shut = flat.Shut_pane
 pane_in k (Broken j) = cond (k == j) flat.Broken_pane flat.Shut_pane
 pane_in k (Holds j ws) = cond (k == j) (flat.Windows ws) flat.Shut_pane
 
+-- a message as one of the flat machine
 abbrev pub post_of : Post → flat.Post
 post_of x = record { about = x.item; values = x.values }
 
@@ -65,6 +66,7 @@ module _ {F : Type 0} (p : Setup F) (l : Layout F) (t : Tables) where
   IsScalar k (Amount at slot how) = (at < l.variables) × (p.reduces (p.program.site k) (l.variable_at at) ≡ Some (operation how))
       × (slot < t.slots) × (t.site_at slot ≡ p.program.site k) × (t.reduced_at slot ≡ l.variable_at at)
 
+  -- each scalar is a cell that the item's loop reads, or one into which it reduces
   abbrev pub AreScalars : ℕ → List Scalar → Type 0
   AreScalars k [] = Unit {0}
   AreScalars k (x ∷ xs) = IsScalar k x × AreScalars k xs

@@ -7,6 +7,7 @@ abbrev pub Within : ℕ → List Span → Type 0
 Within n [] = Unit {0}
 Within n (s ∷ ss) = (s.at + s.dim ≤ n) × Within n ss
 
+-- how many cells the spans have
 abbrev pub total : List Span → ℕ
 total [] = 0
 total (s ∷ ss) = s.dim + total ss
@@ -15,6 +16,7 @@ total (s ∷ ss) = s.dim + total ss
 abbrev pub with_window : ℕ → List ℤ → List ℤ → List ℤ
 with_window at w m = take at m ++ (w ++ drop (at + length w) m)
 
+-- so many cells of a memory, from a place on
 abbrev pub cells_at : ℕ → ℕ → List ℤ → List ℤ
 cells_at at dim m = take dim (drop at m)
 

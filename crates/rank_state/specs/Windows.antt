@@ -13,6 +13,7 @@ abbrev pub cells_from : (ℕ → DatCell) → ℕ → ℕ → List Cell
 cells_from cell_at at zero = []
 cells_from cell_at at (suc n) = Data (cell_at at) ∷ cells_from cell_at (suc at) n
 
+-- the cells of the program that the spans of a buffer have
 abbrev pub span_cells : (ℕ → DatCell) → List Span → List Cell
 span_cells cell_at [] = []
 span_cells cell_at (s ∷ ss) = cells_from cell_at s.at s.dim ++ span_cells cell_at ss
@@ -24,25 +25,28 @@ Marked taken (s ∷ ss) = ((j : ℕ) → j < s.dim → taken (s.at + j) ≡ s.wr
 
 -- ---- scalars
 
+-- how amounts merge, in the words of the model
 abbrev pub operation : Operation → Reduction
 operation Sum = Reduction.Add
 operation Least = Reduction.Min
 operation Greatest = Reduction.Max
 
--- the index of its variable's cell
+-- the index of a scalar's cell among those of all variables
 abbrev pub index : Scalar → ℕ
 index (Value at) = at
 index (Amount at slot how) = at
 
--- what its window begins with
+-- what a scalar's window begins with
 abbrev pub first : List ℤ → Scalar → ℤ
 first variables (Value at) = get_or variables at (pos 0)
 first variables (Amount at slot how) = unit_of (operation how)
 
+-- what the scalars' windows begin with
 abbrev pub firsts : List ℤ → List Scalar → List ℤ
 firsts variables [] = []
 firsts variables (x ∷ xs) = first variables x ∷ firsts variables xs
 
+-- the variables' cells that the scalars are
 abbrev pub scalar_cells : (ℕ → VarCell) → List Scalar → List Cell
 scalar_cells variable_at [] = []
 scalar_cells variable_at (x ∷ xs) = Variable (variable_at (index x)) ∷ scalar_cells variable_at xs
@@ -58,11 +62,12 @@ amounts [] ws partials = partials
 amounts (x ∷ xs) [] partials = partials
 amounts (x ∷ xs) (w ∷ ws) partials = amounts xs ws (amount x w partials)
 
--- a scalar has the slot
+-- a scalar merges into the partial of this slot
 abbrev pub is_slot : ℕ → Scalar → Bool
 is_slot i (Value at) = false
 is_slot i (Amount at slot how) = i == slot
 
+-- one of the scalars merges into the partial of this slot
 abbrev pub has_slot : ℕ → List Scalar → Bool
 has_slot i [] = false
 has_slot i (x ∷ xs) = is_slot i x || has_slot i xs
@@ -77,6 +82,7 @@ abbrev pub InSlots : ℕ → Scalar → Type 0
 InSlots n (Value at) = Unit {0}
 InSlots n (Amount at slot how) = slot < n
 
+-- the slots of the amounts are below n
 abbrev pub Merges : ℕ → List Scalar → Type 0
 Merges n [] = Unit {0}
 Merges n (x ∷ xs) = InSlots n x × Merges n xs

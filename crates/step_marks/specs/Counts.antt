@@ -1,11 +1,13 @@
 -- The counters: for each stage how many of its tasks aren't done.
 use Rattle.std.specs.Prelude.{◌≡◌, ◌<◌, ◌≤◌, ◌+◌, ◌==◌, ◌&&◌, ◌^◌, ℕ, Bool, not, cond, List, [], ◌∷◌, get_or, length}
 
+-- how many tasks of the stage aren't done
 abbrev pub open_in : List ℕ → List Bool → ℕ → ℕ
 open_in [] ds c = 0
 open_in (k ∷ ks) [] c = 0
 open_in (k ∷ ks) (d ∷ ds) c = cond ((k == c) && not d) 1 0 + open_in ks ds c
 
+-- the counters say how many tasks of each stage aren't done, and the stages before `at` have none left
 pub record Kept (of : List ℕ) (done : List Bool) (left : List ℕ) (at : ℕ) : Type 0 where
   pub size : length done ≡ length of
   pub fits : length of < 2 ^ 32

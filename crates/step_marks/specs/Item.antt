@@ -3,6 +3,7 @@ use Rattle.std.specs.Prelude.{◌≡◌, ◌<◌, ◌==◌, ◌&&◌, ◌^◌, n
 use Rattle.step_marks.specs.Marks.{Marks, no_marks}
 use Rattle.step_marks.specs.Run.{Run, MayBegin, AllEnded, core_at}
 
+-- which steps of one item are taken: its messages and places where it is Free, else its join
 pub record Item : Type 0 where
   pub free : Bool
   pub joined : Bool
@@ -14,6 +15,7 @@ pub record Item : Type 0 where
 abbrev pub no_run : Run
 no_run = record { size = 1; begun = []; blocks = []; colours = no_marks; core = [] }
 
+-- the places of a rank
 abbrev pub run_at : Item → ℕ → Run
 run_at w r = get_or w.ranks r no_run
 
@@ -23,21 +25,27 @@ pair_at [] ts s r = 0
 pair_at (f ∷ fs) [] s r = 0
 pair_at (f ∷ fs) (t ∷ ts) s r = cond ((f == s) && (t == r)) 0 (suc (pair_at fs ts s r))
 
+-- the number of the message from s to r among those of the item
 abbrev pub place_of : Item → ℕ → ℕ → ℕ
 place_of w s r = pair_at w.sends.of w.receipts.of s r
 
+-- whether the item has a message from s to r
 abbrev pub linked : Item → ℕ → ℕ → Bool
 linked w s r = nat_lt (place_of w s r) (length w.sends.of)
 
+-- whether the send of the message is taken
 abbrev pub sent : Item → ℕ → ℕ → Bool
 sent w s r = get_or w.sends.done (place_of w s r) false
 
+-- whether the receive of the message is taken
 abbrev pub received : Item → ℕ → ℕ → Bool
 received w s r = get_or w.receipts.done (place_of w s r) false
 
+-- all sends of the rank are taken
 abbrev pub AllSent : Item → ℕ → Type 0
 AllSent w x = (r : ℕ) → linked w x r ≡ true → sent w x r ≡ true
 
+-- all receives of the rank are taken
 abbrev pub AllReceived : Item → ℕ → Type 0
 AllReceived w x = (s : ℕ) → linked w s x ≡ true → received w s x ≡ true
 
@@ -49,6 +57,7 @@ Complete w x = MatchBool w.free (AllSent w x × AllReceived w x × AllEnded (run
 abbrev pub MayGo : Item → ℕ → ℕ → Type 0
 MayGo w x p = AllSent w x × (core_at (run_at w x) p ≡ false → AllReceived w x) × MayBegin (run_at w x) p
 
+-- the pairs are few, have marks on both sides, and none stands twice
 pub record Paired (w : Item) : Type 0 where
   pub both : length w.receipts.of ≡ length w.sends.of
   pub sent_each : length w.sends.done ≡ length w.sends.of

@@ -10,6 +10,7 @@ use Rattle.step_marks.specs.Marks.{no_marks}
 use Rattle.step_marks.specs.Run.{inner, begun_at, ended_at, core_at}
 use Rattle.step_marks.specs.Item.{Item, run_at, place_of, linked, sent, received, Complete}
 
+-- a plan's items on so many ranks, with the steps that are taken
 pub record Marked : Type 0 where
   pub ranks : ℕ
   pub items : List Item
@@ -18,6 +19,7 @@ pub record Marked : Type 0 where
 abbrev pub no_item : Item
 no_item = record { free = false; joined = true; sends = no_marks; receipts = no_marks; ranks = [] }
 
+-- an item by its number
 abbrev pub item_at : Marked → ℕ → Item
 item_at v k = get_or v.items k no_item
 

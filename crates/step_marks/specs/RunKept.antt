@@ -1,8 +1,9 @@
--- What holds of every value.
+-- What holds of a rank's places in one item, whichever have begun and ended.
 use Rattle.std.specs.Prelude.{◌≡◌, ◌<◌, ◌≤◌, ◌+◌, ◌*◌, ◌/◌, ◌%◌, ◌^◌, ◌↔◌, ℕ, true, false, get_or, length}
 use Rattle.step_marks.specs.Marks.{AllDone}
 use Rattle.step_marks.specs.Run.{Run, block_at, begun_at, ended_at}
 
+-- blocks hold the places one after another, few enough to count, and what has ended has begun
 pub record Whole (v : Run) : Type 0 where
   pub sized : 1 ≤ v.size
   pub fits : length v.begun < 2 ^ 32
