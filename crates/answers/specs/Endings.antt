@@ -147,23 +147,25 @@ IsUnread c status =
     → Rose c.reads.0 c.reads.1
     ⊎ ((files : Files) × (c.told ≡ Some files) × (name : List ℕ) × Contains (named_by c.words) name × (files name ≡ None))
 
--- What stands on `out`, by any answer over files that tell it: its bytes with status 0; its bytes or, where the count of `out`
+-- What stands on `out`, by an answer over files that tell it: its bytes with status 0; its bytes or, where the count of `out`
 -- rose, a front of them with status 9; and a front of those of an answer with status 0 with status 4.
 pub record Shows (c : Call) (status : ℕ) (a : Answer) : Type 0 where
   pub whole : status ≡ 0 → c.out.1 ≡ appended c.out.0 a.out
   pub faulty : status ≡ 9 → (c.out.1 ≡ appended c.out.0 a.out) ⊎ (Rose c.writes.0 c.writes.1 × AppendsFront c.out.0 a.out c.out.1)
   pub front : status ≡ 4 → (a.status ≡ 0) × Rose c.writes.0 c.writes.1 × AppendsFront c.out.0 a.out c.out.1
 
+-- so it is by any answer over files that tell it
 abbrev pub IsShown : Call → ℕ → Type 0
 IsShown c status = (files : Files) (a : Answer) → TellTheAnswer c files → Answers c.words files a → Shows c status a
 
--- What `err` gets: with every status but 1, 3 and 4 the line of any answer over files that tell it, unless the source has tokens
+-- What `err` gets, by an answer over files that tell it: with every status but 1, 3 and 4 its line, unless the source has tokens
 -- and no tree.
 pub record Reports (c : Call) (status : ℕ) (files : Files) (a : Answer) : Type 0 where
   pub line : List ℕ
   pub reported : IsReported c line
   pub of_answer : ¬ (status ≡ 1) → ¬ (status ≡ 3) → ¬ (status ≡ 4) → (line ≡ a.line) ⊎ SourceLacksTree c.words files
 
+-- so it is by any answer over files that tell it
 abbrev pub AreReported : Call → ℕ → Type 0
 AreReported c status = (files : Files) (a : Answer) → TellTheAnswer c files → Answers c.words files a → Reports c status files a
 

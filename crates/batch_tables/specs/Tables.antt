@@ -18,6 +18,7 @@ abbrev pub via_of : Option LocalArg → Option LocalVia
 via_of None = None
 via_of (Some y) = y.via
 
+-- where an argument stands, or no place where there is no such argument
 abbrev pub place_at : List Place → ℕ → Place
 place_at places a = get_or places a no_place
 
@@ -42,6 +43,7 @@ module _ (args : List Arg) where
     pub modified : access_of shared ≢ OpRead
         → (b : ℕ) × (b < length args) × (same_column (arg_in args b) (arg_in args a) ≡ true) × (access_by (arg_in args b) ≢ OpRead)
 
+  -- the same of all arguments
   abbrev pub IsShared : (a : ℕ) (shared : Access) → Type 0
   IsShared a shared = IsSharedBy a shared (length args)
 
@@ -57,6 +59,7 @@ module _ (args : List Arg) where
         → (i : ℕ) × (i < count) × (get_or pairs i no_pair ≡ (slice_index numbers a, slice_index numbers b))
 
 module _ (args : List Arg) (locals : List (Option LocalArg)) where
+  -- an argument as a rank reaches it; none on a variable
   abbrev pub local_at : ℕ → Option LocalArg
   local_at a = get_or locals a None
 

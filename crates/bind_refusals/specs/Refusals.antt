@@ -12,6 +12,7 @@ use Rattle.bind_refusals.specs.declared.founds.Turn.{Turn}
 use Rattle.bind_refusals.specs.declared.founds.Turn.TheVariants.{InOrder, SizeValue, MeshCells}
 use Rattle.bind_refusals.specs.declared.founds.Found.{Found}
 
+-- when in its statement something is judged: in the order of its tokens, then a set's size, then the cells of the mesh
 abbrev pub turn_number : Turn → ℕ
 turn_number InOrder = 0
 turn_number SizeValue = 1
@@ -81,8 +82,8 @@ OneFirst = (all : List Found) (f g : Found) → IsFirst all f → IsFirst all g 
 abbrev pub Judged : Type 0 → Type 0
 Judged A = Result A BindRefusal
 
--- goes on with what was judged
 infixl 10 ◌>>=◌
+-- goes on with what was judged, unless it was refused
 abbrev pub ◌>>=◌ : {A B : Type 0} → Judged A → (A → Judged B) → Judged B
 (Ok x) >>= f = f x
 (Err r) >>= f = Err r
@@ -92,6 +93,7 @@ abbrev pub unless : {A : Type 0} → Option Found → A → Judged A
 unless None x = Ok x
 unless (Some f) x = Err f.refusal
 
+-- x, where nothing is found, and else the first of what is
 abbrev pub unless_found : {A : Type 0} → List Found → A → Judged A
 unless_found all x = unless (first_of all) x
 

@@ -18,6 +18,7 @@ module _ (b : BoundValue) where
   abbrev pub begins_at : ℕ → Bool
   begins_at k = begins (program_of b).kind k
 
+  -- how many chains a program has
   abbrev pub chain_count : ℕ
   chain_count = count_below (length b.trace) begins_at
 

@@ -26,12 +26,14 @@ pub record AreBackwards (b : BoundValue) (o : Owners) : Type 0 where
   pub needed : (k r d y : ℕ)
       → is_free ((program_of b).kind k) ≡ true
       → needs b o k r d y
-      ≡ (needs b o (suc k) r d y || any_below (set_size b.mesh (site_of b k).set) (λ e. executes b o k r e && list_any (reads_pair b d y e) (site_of b k).args))
+      ≡ (needs b o (suc k) r d y
+      || any_below (set_size b.mesh (site_of b k).set) (λ e. executes b o k r e && list_any (reads_pair b d y e) (site_of b k).args))
   -- its own elements, and those that modify what it needs behind the item
   pub executed : (k r e : ℕ)
       → executes b o k r e
       ≡ (nat_eq (owner_of o (site_of b k).set e) r || list_any (modifies_some b (needs b o (suc k) r) e) (site_of b k).args)
 
+-- what is needed and executed is so in every program on every number of ranks
 abbrev pub SlicesAreBackwards : Type 0
 SlicesAreBackwards = (b : BoundValue) (o : Owners) → AreBackwards b o
 
@@ -44,10 +46,11 @@ pub record Chainable (b : BoundValue) (o : Owners) : Type 0 where
   pub obey : AllObey b
   pub start : StartsInRange b
 
--- chains run as the sequential run does, and each rank holds what it needs before each loop
+-- chains run as the sequential run does
 abbrev pub ChainsRunAsSequential : Type 0
 ChainsRunAsSequential = (b : BoundValue) (o : Owners) → Chainable b o → ChainAgrees (slicing_of b o) (run_of_program b) (chains_run b o)
 
+-- each rank holds what it needs before each loop
 abbrev pub ChainsKeepNeeds : Type 0
 ChainsKeepNeeds = (b : BoundValue) (o : Owners) → Chainable b o → KeepsNeeds (slicing_of b o)
 
@@ -56,6 +59,7 @@ pub record RunsAsProgram (b : BoundValue) (o : Owners) : Type 0 where
   pub output : chains_output b o false ≡ printed b
   pub stop : (chains_run b o).stop ≡ first_fault b
 
+-- every run by chains does so
 abbrev pub ChainsPrintTheProgram : Type 0
 ChainsPrintTheProgram = (b : BoundValue) (o : Owners) → Chainable b o → RunsAsProgram b o
 

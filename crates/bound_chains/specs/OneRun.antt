@@ -21,5 +21,6 @@ pub record HaveOneText (b : BoundValue) (ks : List RKernel) (o u : Owners) : Typ
   pub dump : (dumps : Bool) (x : Option (Stop KernelFault))
       → dump_after b o dumps (chains_run b o) x ≡ dump_after (with_kernels b ks) u dumps (chains_run (with_kernels b ks) u) x
 
+-- so it is with every program, kernels and owners that are the same
 abbrev pub ChainsAreOne : Type 0
 ChainsAreOne = (b : BoundValue) (ks : List RKernel) (o u : Owners) → SameChains b ks o u → HaveOneText b ks o u

@@ -90,6 +90,7 @@ pub record HasOneIndex (b : BoundValue) (o : Owners) (meshes : List RankMesh) : 
   pub places : (r i : ℕ) → r < o.ranks → i < cells_of meshes r → place_of meshes b.mesh r (cell_at meshes b.mesh r i) ≡ i
   pub variables : (i : ℕ) → i < length (variable_cells b) → variable_index b (variable_at b i) ≡ i
 
+-- so it is with every planned program
 abbrev pub CellsHaveOneIndex : Type 0
 CellsHaveOneIndex =
     (b : BoundValue) (o : Owners) (n : Perms) (meshes : List RankMesh) (p : PlanValue)

@@ -28,6 +28,7 @@ exported g o t s r = listed (set_size g t) (λ x. imports g o t x r && owns o t 
 abbrev pub exported_cells : BoundValue → Owners → List ℕ → ℕ → ℕ → List Cell
 exported_cells b o dats s r = flat_map (λ d. flat_map (λ x. cells_in b (Element d x)) (exported b.mesh o (dat_set b.mesh d) s r)) dats
 
+-- where the machine finds the cells of windows, messages and elements, by local meshes and plan
 abbrev pub layout_of : BoundValue → Owners → List RankMesh → PlanValue → Layout KernelFault
 layout_of b o meshes p = record {
   cells = λ k e. frame_cells b (site_of b k).args e;

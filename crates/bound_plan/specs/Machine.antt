@@ -42,6 +42,7 @@ pub record AreMessages (b : BoundValue) (o : Owners) (meshes : List RankMesh) (p
       → passes b.mesh meshes (item_plan p k).exchange s r ≡ true
       → 0 < length (exported_cells b o (item_plan p k).exchange s r)
 
+-- the messages of every planned program are so
 abbrev pub MessagesHaveCells : Type 0
 MessagesHaveCells =
     (b : BoundValue) (o : Owners) (n : Perms) (meshes : List RankMesh) (p : PlanValue)
@@ -70,6 +71,7 @@ pub record Stand (b : BoundValue) (o : Owners) (meshes : List RankMesh) (r : ℕ
       → cell_at meshes b.mesh r (slice_index (bases_of meshes r) d + k * dat_dim b.mesh d + i)
       ≡ record { dat = d; element = original_at meshes r (dat_set b.mesh d) k; component = i }
 
+-- in every planned program elements and values stand so on each rank
 abbrev pub ElementsStand : Type 0
 ElementsStand =
     (b : BoundValue) (o : Owners) (n : Perms) (meshes : List RankMesh) (p : PlanValue)

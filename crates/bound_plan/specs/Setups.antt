@@ -18,6 +18,7 @@ use Rattle.loop_plan.specs.StepOutline.{loop_at}
 use Rattle.bound_plan.specs.Places.{local_at}
 use Rattle.bound_plan.specs.Variables.{reduces_at}
 
+-- the program on ranks as the theorem on schedules takes it
 abbrev pub setup_of : BoundValue → Owners → List RankMesh → PlanValue → Setup KernelFault
 setup_of b o meshes p = record {
   program = program_of b;

@@ -103,7 +103,10 @@ abbrev mutual
   pub is_closed : List ℕ → Bool
   is_closed [] = false
   is_closed (b ∷ bs) =
-      if nat_eq b 34 then true else if nat_eq b 10 then false else if nat_eq b 92 then is_closed_behind bs else is_closed bs
+      if nat_eq b 34 then true
+      else if nat_eq b 10 then false
+      else if nat_eq b 92 then is_closed_behind bs
+      else is_closed bs
 
   -- behind a `\`
   pub is_closed_behind : List ℕ → Bool

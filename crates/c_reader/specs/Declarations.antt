@@ -16,14 +16,16 @@ use Rattle.c_reader.specs.Rows.{Reader, both, made, sign, word_is, word_at, iden
 abbrev pub unset : List Kind → Bool → Ident → Reader DeclrTree
 unset ks true x n = Err (Syntax n)
 unset ks false x n =
-    if sign_is s.LeftBracket (slice_get ks n) then
-    (number ks (suc n) >>= λ v. sign_at ks s.RightBracket v.1 >>= λ e. Ok (Array x v.0, e)) else Ok (Plain x, n)
+    if sign_is s.LeftBracket (slice_get ks n)
+    then (number ks (suc n) >>= λ v. sign_at ks s.RightBracket v.1 >>= λ e. Ok (Array x v.0, e))
+    else Ok (Plain x, n)
 
 -- a declared variable, of a `const` where c is true
 unfoldable pub declr_at : List Kind → ℕ → Bool → Reader DeclrTree
 declr_at ks d c n =
-    ident ks n >>= λ x. if sign_is s.Assign (slice_get ks x.1) then
-    (read ks d 0 (suc x.1) >>= λ v. Ok (Init x.0 v.0, v.1)) else unset ks c x.0 x.1
+    ident ks n >>= λ x. if sign_is s.Assign (slice_get ks x.1)
+    then (read ks d 0 (suc x.1) >>= λ v. Ok (Init x.0 v.0, v.1))
+    else unset ks c x.0 x.1
 
 -- a declaration from its `int` on
 unfoldable pub declaration_behind : List Kind → ℕ → Bool → Reader DeclarationTree
@@ -47,14 +49,16 @@ declaration_at ks d n =
 -- a target that begins with a name
 abbrev pub named_place : List Kind → ℕ → Ident → Reader PlaceTree
 named_place ks d x n =
-    if sign_is s.LeftBracket (slice_get ks n) then
-    (read ks d 0 (suc n) >>= λ i. sign_at ks s.RightBracket i.1 >>= λ e. Ok (Element x i.0, e)) else Ok (Scalar x, n)
+    if sign_is s.LeftBracket (slice_get ks n)
+    then (read ks d 0 (suc n) >>= λ i. sign_at ks s.RightBracket i.1 >>= λ e. Ok (Element x i.0, e))
+    else Ok (Scalar x, n)
 
 -- the target of an assignment
 unfoldable pub place_at : List Kind → ℕ → Reader PlaceTree
 place_at ks d n =
-    if sign_is s.Star (slice_get ks n) then (ident ks (suc n) >>= λ x. Ok (Target n x.0, x.1)) else
-    (ident ks n >>= λ x. named_place ks d x.0 x.1)
+    if sign_is s.Star (slice_get ks n)
+    then (ident ks (suc n) >>= λ x. Ok (Target n x.0, x.1))
+    else (ident ks n >>= λ x. named_place ks d x.0 x.1)
 
 -- the assignment, where there is one
 abbrev pub assign_or : Option AssignOp → Reader AssignOp

@@ -76,8 +76,8 @@ operator_at ks m n = operator_in m (slice_get ks n)
 -- a name, or a name with an index
 unfoldable pub name_at : List Kind → Rec → List ℕ → ℕ → Step
 name_at ks rec x n =
-    if sign_is sign.LeftBracket (slice_get ks (suc n)) then
-    (rec 0 (suc (suc n)) >>= λ i. sign_at ks sign.RightBracket i.1 >>= λ e. Ok (
+    if sign_is sign.LeftBracket (slice_get ks (suc n))
+    then (rec 0 (suc (suc n)) >>= λ i. sign_at ks sign.RightBracket i.1 >>= λ e. Ok (
       Index (record {
         name = x;
         at = n;
@@ -141,8 +141,9 @@ chain ks rec (suc c) m l n =
 -- the rest of a choice, where one may stand
 unfoldable pub choice : List Kind → Rec → ℕ → ExprTree → ℕ → Step
 choice ks rec zero l n =
-    if sign_is sign.Question (slice_get ks n) then
-    (rec 0 (suc n) >>= λ y. sign_at ks sign.Colon y.1 >>= λ e. rec 0 e >>= λ z. Ok (Choice n l y.0 z.0, z.1)) else Ok (l, n)
+    if sign_is sign.Question (slice_get ks n)
+    then (rec 0 (suc n) >>= λ y. sign_at ks sign.Colon y.1 >>= λ e. rec 0 e >>= λ z. Ok (Choice n l y.0 z.0, z.1))
+    else Ok (l, n)
 choice ks rec (suc m) l n = Ok (l, n)
 
 -- an expression of at least level m at a place, with d levels of nesting left

@@ -38,9 +38,10 @@ with_margins f e = 50 * span e + 2 * margin f
 abbrev pub pixels : Frame → Extent → ℕ
 pixels f e = max 1 (800 * with_margins f e / max (with_margins f f.across) (with_margins f f.up))
 
--- how far a node lies from the left, and from the top
+-- how far a node lies from the left
 abbrev pub from_left : Frame → List ℤ → ℕ → ℕ
 from_left f values node = 50 * unsigned_abs (coordinate values node 0 -ℤ f.across.low)
 
+-- how far a node lies from the top
 abbrev pub from_top : Frame → List ℤ → ℕ → ℕ
 from_top f values node = 50 * unsigned_abs (f.up.high -ℤ coordinate values node 1)

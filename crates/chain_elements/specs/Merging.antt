@@ -34,9 +34,11 @@ module _ (h : Change) (r : ℕ) where
 abbrev pub amounts_of : Values → Change
 amounts_of f how x m c = merge_at how x (f m c)
 
--- Partials stand in blocks, too, which have the variables alone. With the amounts in the block r of f merged into those of rank r
+-- Partials stand in blocks, too, which have the variables alone. The amounts in block r of f are merged into those of rank r, where
+-- the argument is on a variable
 abbrev pub merged_by : ℕ → Values → Arg → Values → Values
 merged_by r f x p = changed_by (amounts_of f) r x p
 
+-- and of these arguments, of all of a loop
 abbrev pub merged_all : ℕ → (all these : List Arg) → Values → Values → Values
 merged_all r all these f p = changed_all (amounts_of f) r all these p

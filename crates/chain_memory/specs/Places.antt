@@ -16,13 +16,14 @@ module _ (b : BoundValue) where
   abbrev pub all_cells : ℕ → ℕ
   all_cells ranks = suc ranks * memory_length b
 
-  -- where kernels find a cell: those that run in a rank's block, and those that run on the owners' pairs, with the variables behind the
-  -- ranks' blocks
+  -- the block in which kernels find a cell: those that run in a rank's block, and those that run on the owners' pairs, with the
+  -- variables behind the ranks' blocks
   abbrev pub block_at : Owners → Option ℕ → Cell → ℕ
   block_at o (Some r) c = r
   block_at o None (Data c) = owner_of o (dat_set b.mesh c.dat) c.element
   block_at o None (Variable v) = o.ranks
 
+  -- where kernels find a cell
   abbrev pub stands_at : Owners → Option ℕ → Cell → ℕ
   stands_at o at c = in_block (block_at o at c) c
 

@@ -13,10 +13,11 @@ use Rattle.chain_memory.specs.declared.blocks.Blocks.{Blocks}
 use Rattle.chain_memory.specs.declared.loops.Loop.{Loop}
 
 module _ (x : Blocks) where
-  -- the program, and the number of ranks
+  -- the program
   abbrev pub program_in : BoundValue
   program_in = bound_of x.bound.now
 
+  -- the number of ranks
   abbrev pub ranks_in : ℕ
   ranks_in = x.owners.now.ranks
 

@@ -39,6 +39,7 @@ left_in t h d y = replaced (pair_values t d y) (h d y)
 
 -- ---- the machine's state
 
+-- the state of the machine; F is the type of faults
 pub record ChainState (F : Type 0) : Type 0 where
   pub stores : ℕ → Holding  -- rank
   pub variables : VarCell → ℤ

@@ -74,7 +74,8 @@ pub fn executing_all(
     requires fits { SiteFits (bound_of bound.now) (site_at (bound_of bound.now) site) }
     ensures length { IfOk result (λ v. length v.items ≡ set_size (bound_of bound.now).mesh (site_at (bound_of bound.now) site).set) }
     ensures has { IfOk result (λ v. (x r : ℕ) → x < set_size (bound_of bound.now).mesh (site_at (bound_of bound.now) site).set
-        → has_at v.items x r ≡ executes_for (bound_of bound.now) owners.now r (pairs_of needs.now r) (site_at (bound_of bound.now) site) x) }
+        → has_at v.items x r
+        ≡ executes_for (bound_of bound.now) owners.now r (pairs_of needs.now r) (site_at (bound_of bound.now) site) x) }
 {
     let set = set_of(bound, site);
     let args = args_of(bound, site);

@@ -13,9 +13,11 @@ use Rattle.chain_elements.specs.Constants.{constants_in}
 use Rattle.chain_ranks.specs.declared.loops.ChainLoop.{ChainLoop}
 
 module _ (x : ChainLoop) where
+  -- the program
   abbrev pub program_of_loop : BoundValue
   program_of_loop = program_in x.blocks.now
 
+  -- the owners of its elements
   abbrev pub owners_of_loop : Owners
   owners_of_loop = x.blocks.now.owners.now
 

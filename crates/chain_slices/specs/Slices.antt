@@ -20,7 +20,8 @@ pub record StandsAt (b : BoundValue) (shapes : List Shape) (k : ℕ) (at : Level
   pub shape : at.shape < length shapes
   pub level : (s : Shape) → at.level < length (slice_index_or shapes at.shape s).sites.items
   pub loops : (s : Shape)
-      → drop (length (slice_index_or shapes at.shape s).sites.items - suc at.level) (loops_of b (slice_index_or shapes at.shape s)) ≡ loops_from b k
+      → drop (length (slice_index_or shapes at.shape s).sites.items - suc at.level) (loops_of b (slice_index_or shapes at.shape s))
+      ≡ loops_from b k
   -- where a chain begins at the item, the level is that of the chain's first loop
   pub first : (s : Shape) → begins_at b k ≡ true → suc at.level ≡ length (slice_index_or shapes at.shape s).sites.items
 

@@ -85,7 +85,8 @@ pub fn levels_of(
     ensures are { IfOk result (λ v. AreLevels (bound_of bound.now) owners.now (map (site_at (bound_of bound.now)) sites.now) v.items) }
     ensures front { IfOk result (λ v. (own : List (Vec Set Memory)) → 0 < length v.items
         → AreNeeded (bound_of bound.now) owners.now (map (site_at (bound_of bound.now)) sites.now) (front_of own v.items)) }
-    ensures below { IfOk result (λ v. (own : List (Vec Set Memory)) → 0 < length v.items → AreBelow owners.now.ranks (front_of own v.items)) }
+    ensures below { IfOk result (λ v. (own : List (Vec Set Memory))
+        → 0 < length v.items → AreBelow owners.now.ranks (front_of own v.items)) }
 {
     bound.mesh.is_in_range();
     let own = own_sets(alloc, bound, owners)?;

@@ -66,7 +66,8 @@ fn add_dat(to: &mut [RankSet], bound: &Bound, owners: &Owners, dat: u32, others:
     requires to { length to.old ≡ owners.now.ranks }
     requires others { length others.now ≡ set_size (bound_of bound.now).mesh (dat_set (bound_of bound.now).mesh dat) }
     ensures { (s r : ℕ) → has_at to.new s r
-        ≡ (has_at to.old s r || any_below (length others.now) (λ y. has_at others.now y r && owns_pair (bound_of bound.now) owners.now s dat y)) }
+        ≡ (has_at to.old s r
+        || any_below (length others.now) (λ y. has_at others.now y r && owns_pair (bound_of bound.now) owners.now s dat y)) }
 {
     bound.mesh.is_in_range();
     let (set, _) = bound.mesh.dat_shape(dat);

@@ -99,7 +99,8 @@ impl Slices {
             × (dat < dat_count b.mesh) × (rank < o.ranks) }
         ensures { (b : BoundValue) (o : Owners) → AreSlices b o self.now → IsFreeItem b item → begins_at b item ≡ true
             → dat < dat_count b.mesh → rank < o.ranks
-            → result.now ≡ listed (set_size b.mesh (dat_set b.mesh dat)) (λ y. needs b o item rank dat y && not (owns_pair b o rank dat y)) }
+            → result.now
+            ≡ listed (set_size b.mesh (dat_set b.mesh dat)) (λ y. needs b o item rank dat y && not (owns_pair b o rank dat y)) }
     {
         &self.item_chain(item).copies[dat as usize][rank as usize]
     }

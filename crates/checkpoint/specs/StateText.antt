@@ -27,6 +27,7 @@ abbrev pub dats_text : MeshValue → ℕ → List (List ℤ) → List ℕ
 dats_text g d [] = []
 dats_text g d (z ∷ zs) = printed_dat (codes "dat") g d z ++ dats_text g (suc d) zs
 
+-- the text that is written for a state, from the LF before its first line
 abbrev pub state_text : BoundValue → StateValue → List ℕ
 state_text b s =
     (codes "\nop2state 1\nitem " ++ decimal s.item ++ codes "\n")

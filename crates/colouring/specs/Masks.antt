@@ -5,9 +5,11 @@ use Rattle.std.specs.HashMap.{get}
 use Rattle.colouring.specs.Rows.{In}
 use Rattle.colouring.specs.declared.masks.Masks.{Masks}
 
+-- whether two keys are of one target and word
 abbrev pub same_word : ℕ × ℕ → ℕ × ℕ → Bool
 same_word x y = nat_eq x.0 y.0 && nat_eq x.1 y.1
 
+-- whether two keys are of the same two targets and word
 abbrev pub same_words : ℕ × ℕ × ℕ → ℕ × ℕ × ℕ → Bool
 same_words x y = (nat_eq x.0 y.0 && nat_eq x.1 y.1) && nat_eq x.2 y.2
 

@@ -18,6 +18,7 @@ Conflict ts w q p = (j : ℕ) × (k : ℕ) × In ts w q j × In ts w p k × (get
 abbrev pub Taken : List ℕ → ℕ → List ℕ → ℕ → ℕ → Type 0
 Taken ts w cs p c = (q : ℕ) × (q < p) × Conflict ts w q p × (get_or cs q 0 ≡ c)
 
+-- the row has the least colour that no earlier row with a common target has
 abbrev pub Least : List ℕ → ℕ → List ℕ → ℕ → Type 0
 Least ts w cs p =
     ((q : ℕ) → q < p → Conflict ts w q p → get_or cs q 0 ≡ get_or cs p 0 → ⊥)

@@ -13,10 +13,11 @@ use Rattle.chain_memory.specs.Sound.{Sound, program_in}
 use Rattle.deep_halo.specs.declared.programs.Program.{Program}
 
 module _ (x : Program) where
-  -- the program, and the owners of its elements
+  -- the program
   abbrev pub program_of_run : BoundValue
   program_of_run = program_in x.blocks.now
 
+  -- the owners of its elements
   abbrev pub owners_of_run : Owners
   owners_of_run = x.blocks.now.owners.now
 

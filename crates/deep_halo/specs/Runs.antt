@@ -13,6 +13,7 @@ use Rattle.deep_halo.specs.declared.runs.ChainOutcome.{ChainOutcome}
 abbrev pub stop_of : ChainStop → Stop KernelFault
 stop_of s = record { item = s.item; element = s.element; fault = s.fault }
 
+-- a stop as the machine has it, where there is one
 abbrev pub stop_in : Option ChainStop → Option (Stop KernelFault)
 stop_in None = None
 stop_in (Some s) = Some (stop_of s)

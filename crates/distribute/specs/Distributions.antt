@@ -24,6 +24,7 @@ pub record DistributionValue : Type 0 where
   pub halos : HalosValue
   pub ranks : List RankMeshValue
 
+-- the lists that a distribution holds
 unfoldable pub distribution_value : Distribution → DistributionValue
 distribution_value d = record {
   rank_count = d.owners.ranks;

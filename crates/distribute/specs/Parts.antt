@@ -28,6 +28,7 @@ pub data OwnersRefusal : Type 0 where
 
 -- ---- the values of the program's types
 
+-- how the program was told to give elements to ranks
 abbrev pub parts_of : Given → Parts
 parts_of given.Block = Block
 parts_of (given.Bisect dat) = Bisect dat.now

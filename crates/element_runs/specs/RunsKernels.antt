@@ -13,6 +13,7 @@ use Rattle.schedule_laws.specs.ByArguments.{ReadConstants, touch_with}
 use Rattle.schedule_laws.specs.LoopParts.{LoopParts}
 use Rattle.element_runs.specs.ElementRun.{IsElementRun}
 
+-- each loop has a kernel, which obeys the modes of its arguments and is run for each element; numbers stay within 32 bits
 pub record RunsKernels (p : Setup KernelFault) (f : LoopParts p) : Type 0 where
   pub kernel : ℕ → RKernel  -- site
   pub modes : ℕ → List Mode  -- site

@@ -17,10 +17,11 @@ abbrev pub copies_text : ℕ → List ℕ → List ℤ → List ℕ
 copies_text dim [] zs = []
 copies_text dim (e ∷ es) zs = copy_text e (take dim zs) ++ copies_text dim es (drop dim zs)
 
--- how many elements of a set a rank imports to execute, and to read
+-- how many elements of a set a rank imports to execute
 abbrev pub exec_in : List LocalSet → ℕ → ℕ
 exec_in sets s = slice_index (map (λ (l : LocalSet). l.exec) sets) s
 
+-- how many elements of a set a rank imports to read
 abbrev pub nonexec_in : List LocalSet → ℕ → ℕ
 nonexec_in sets s = slice_index (map (λ (l : LocalSet). l.nonexec) sets) s
 

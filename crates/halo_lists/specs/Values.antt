@@ -15,6 +15,7 @@ pub record SetHaloValue : Type 0 where
   pub exports : List (List (List ℕ))
   pub core : List Bool
 
+-- the lists that the halo of a set holds
 unfoldable pub set_halo_value : SetHalo → SetHaloValue
 set_halo_value h = record {
   exec = lists_of h.exec.items;
@@ -28,5 +29,6 @@ pub record HalosValue : Type 0 where
   pub ranks : ℕ
   pub sets : List SetHaloValue
 
+-- the lists that halos hold
 unfoldable pub halos_value : Halos → HalosValue
 halos_value h = record { ranks = h.ranks; sets = map set_halo_value h.sets.items }

@@ -49,6 +49,7 @@ assignment_of var x =
 -- A statement has been done on the store s, with that memory and output after it: the memory holds the store after it and what
 -- it prints stands behind the old output, or it has a fault and prints nothing.
 module _ (b : BoundValue) (m : List ℤ) (s : Store) (old new : List ℕ) where
+  -- what the code left is what the statement does
   abbrev pub ActEnds : {A : Type 0} → Result A KernelFault → Hosted KernelFault → Type 0
   ActEnds (Ok x) (Goes v bytes) = Holds b m (with_variables v s) × (new ≡ old ++ bytes)
   ActEnds (Err f) (Halts g) = (f ≡ g) × (new ≡ old)

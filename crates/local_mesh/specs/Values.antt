@@ -17,6 +17,7 @@ pub record LocalSetValue : Type 0 where
   pub original : List ℕ
   pub core : List Bool
 
+-- the lists that a rank's set holds
 unfoldable pub local_set_value : LocalSet → LocalSetValue
 local_set_value l = record { own = l.own; exec = l.exec; nonexec = l.nonexec; original = l.original; core = l.core.items }
 
@@ -27,6 +28,7 @@ pub record RankMeshValue : Type 0 where
   pub bases : List ℕ
   pub cells : ℕ
 
+-- the lists that a rank's local mesh holds
 unfoldable pub rank_mesh_value : RankMesh → RankMeshValue
 rank_mesh_value m = record {
   sets = map local_set_value m.sets.items;

@@ -23,6 +23,7 @@ text p r es =
 abbrev pub happens : Walked → List Event
 happens w = main_events w.declared.sites (Block w.steps)
 
+-- the program, of what the names resolved to, what was declared, and what `main` unrolled to
 abbrev pub finished : Resolved → Declared → UnrolledValue → BoundValue
 finished r k u = record {
   mesh = k.mesh;
@@ -32,6 +33,7 @@ finished r k u = record {
   trace = u.items;
 }
 
+-- the program whose text was judged, or why `main` can't be unrolled
 abbrev pub unrolled_text : Resolved → Walked → Judged BoundValue
 unrolled_text r w = trace w.declared.mesh (happens w) >>= λ u. Ok (finished r w.declared u)
 

@@ -55,12 +55,15 @@ first_stray size i (z ∷ zs) = if is_element size z then first_stray size (suc 
 
 -- ---- the mesh with one declaration more
 
+-- the mesh with one set more
 abbrev pub with_set : List ℕ → ℕ → MeshValue → MeshValue
 with_set x size g = record g { sets = g.sets ++ (record { name = x; size = size }) ∷ [] }
 
+-- the mesh with one map more
 abbrev pub with_map : List ℕ → (from to dim : ℕ) → List ℤ → MeshValue → MeshValue
 with_map x from to dim zs g = record g { maps = g.maps ++ (record { name = x; from = from; to = to; dim = dim; targets = zs }) ∷ [] }
 
+-- the mesh with one dat more
 abbrev pub with_dat : List ℕ → (set dim : ℕ) → List ℤ → MeshValue → MeshValue
 with_dat x set dim zs g = record g { dats = g.dats ++ (record { name = x; set = set; dim = dim; values = zs }) ∷ [] }
 

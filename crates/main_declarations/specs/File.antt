@@ -26,12 +26,14 @@ module _ (places : List Pos) (consts : List ConstDecl) (entries : List Named) wh
   judged_array k x (Some (Many zs)) = Ok (with_file_name x.name ExternArray k)
   judged_array k x _ = Err (refusal.UnknownEntry (place places x.at))
 
+  -- a part of the file
   abbrev pub judged_top : Declared → TopTree → Judged Declared
   judged_top k (tree.Extern x) = judged_extern k x (lookup (bytes_eq x.name) entries)
   judged_top k (tree.ExternArray x) = judged_array k x (lookup (bytes_eq x.name) entries)
   judged_top k (tree.FileDeclaration v) = judged_file_declrs places consts k v.is_const v.declrs
   judged_top k (tree.Kernel f) = Ok (record (with_file_name f.name.name (Kernel k.kernels (length f.params)) k) { kernels = suc k.kernels })
 
+  -- the parts of the file in order, up to one that is refused
   abbrev pub judged_tops : Declared → List TopTree → Judged Declared
   judged_tops k [] = Ok k
   judged_tops k (t ∷ ts) = judged_top k t >>= λ l. judged_tops l ts

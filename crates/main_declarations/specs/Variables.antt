@@ -44,6 +44,7 @@ module _ (places : List Pos) where
         Ok (with_file_name x.name (Variable (next_cells k true true (count_of n)))
         (with_var (changing x.name (replicate (count_of n) (pos 0))) k))
 
+    -- the declarators of one declaration of the file in order, up to one that is refused
     abbrev pub judged_file_declrs : Declared → Bool → List DeclrTree → Judged Declared
     judged_file_declrs k c [] = Ok k
     judged_file_declrs k c (d ∷ ds) = judged_file_declr k c d >>= λ l. judged_file_declrs l c ds
@@ -90,6 +91,7 @@ module _ (places : List Pos) where
   judged_declr a w c (Array x n) =
       Ok (does (Do (Clear (length a.declared.vars))) (behind a (with_changing a.declared x.name true (count_of n))))
 
+  -- the declarators of one declaration of `main` in order, up to one that is refused
   abbrev pub judged_declrs : Walked → Spot → Bool → List DeclrTree → Judged Walked
   judged_declrs a w c [] = Ok a
   judged_declrs a w c (d ∷ ds) = judged_declr a w c d >>= λ b. judged_declrs b w c ds
@@ -109,6 +111,7 @@ module _ (places : List Pos) where
   is_wrong_ampersand true g = is_some g
   is_wrong_ampersand false g = not (is_some g)
 
+  -- a global of a constant has a wrong `&`, or lacks one
   abbrev pub ampersand_found : Bool → GlobalName → List Found
   ampersand_found is_array g = found_if places (is_wrong_ampersand is_array g.ampersand) (glob_token g) refusal.TypeMismatch
 
@@ -131,6 +134,7 @@ module _ (places : List Pos) where
   with_constant zero from (x ∷ xs) = (record x { constant = from }) ∷ xs
   with_constant (suc v) from (x ∷ xs) = x ∷ with_constant v from xs
 
+  -- the variable becomes a constant of kernels, where there is one
   abbrev pub after_constant : List ConstDecl → Declared → List ℕ → Option Cells → Declared
   after_constant consts k x None = k
   after_constant consts k x (Some c) = record k { vars = with_constant c.var (first_cell consts x) k.vars }

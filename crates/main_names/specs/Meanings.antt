@@ -38,6 +38,7 @@ abbrev pub is_extern_array : Option Meaning → Bool
 is_extern_array (Some ExternArray) = true
 is_extern_array _ = false
 
+-- the values where the test holds
 abbrev pub array_if : Bool → List ℤ → Option (List ℤ)
 array_if true zs = Some zs
 array_if false zs = None

@@ -20,12 +20,15 @@ pub record Scope : Type 0 where
   pub own : Names
   pub told : ℕ
 
+-- no name is known
 abbrev pub no_names : Scope
 no_names = record { file = []; own = []; told = 0 }
 
+-- what a name stands for among these
 abbrev pub named_in : Names → List ℕ → Option Meaning
 named_in names x = lookup (bytes_eq x) names
 
+-- the meaning, or else the other
 abbrev pub or_else : Option Meaning → Option Meaning → Option Meaning
 or_else None other = other
 or_else (Some m) other = Some m
@@ -64,5 +67,6 @@ closed before after = cut (length before.own) before.told after
 abbrev pub told_later : Scope → ℕ
 told_later s = s.told
 
+-- the scope that the program holds
 abbrev pub scope_of : ScopeCode → Scope
 scope_of s = record { file = s.file.entries; own = s.own.entries; told = s.told }

@@ -36,12 +36,15 @@ next_cells k of_file is_array n = record {
   of_file = of_file;
 }
 
+-- one variable more
 abbrev pub with_var : VarValue → Declared → Declared
 with_var v k = record k { vars = k.vars ++ v ∷ []; cells = k.cells + length v.start }
 
+-- a name of `main` is known from here on
 abbrev pub with_name : List ℕ → Meaning → Declared → Declared
 with_name x m k = record k { names = declare x m k.names }
 
+-- a name of the file is known from here on
 abbrev pub with_file_name : List ℕ → Meaning → Declared → Declared
 with_file_name x m k = record k { names = declare_in_file x m k.names }
 

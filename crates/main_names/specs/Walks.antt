@@ -7,6 +7,7 @@ use Rattle.main_names.specs.Names.{scope_of}
 use Rattle.main_names.specs.SoFar.{Declared, Walked}
 use Rattle.main_trace.specs.Unrolling.{steps_of}
 
+-- what is declared so far, as lists
 abbrev pub declared_of : DeclaredCode → Declared
 declared_of k = record {
   mesh = k.mesh;
@@ -19,5 +20,6 @@ declared_of k = record {
   names = scope_of k.names;
 }
 
+-- what is declared and the steps so far, as lists
 abbrev pub walked : DeclaredCode → List StepCode → Walked
 walked k ss = record { declared = declared_of k; steps = steps_of ss }

@@ -43,6 +43,7 @@ use Rattle.bound_program.specs.Classes.{class_of, is_read}
 
 -- ---- accesses
 
+-- the access that a word names
 abbrev pub access_of : AccessWord → Access
 access_of word.Read = access.Read
 access_of word.Write = access.Write
@@ -85,6 +86,7 @@ with_extern x zs k =
     if is_some (lookup (bytes_eq x) k.externs) then k
     else (record (with_var (extern_var x zs) k) { externs = k.externs ++ (x, length k.vars) ∷ [] })
 
+-- what is declared behind an argument: an extern that is a global is a variable
 abbrev pub after_global : List Named → LoopArg → Declared → Declared
 after_global es (tree.Dat at x i v n l a a_at) k = k
 after_global es (tree.Global at g n l a a_at) k = by_meaning (means k.names g.name.name)
@@ -142,6 +144,7 @@ abbrev pub is_wrong_dim : Option ℕ → ℕ → Bool
 is_wrong_dim None n = nat_eq n 0
 is_wrong_dim (Some dim) n = nat_eq n 0 || not (nat_eq n dim)
 
+-- the dim of the dat, where one is meant
 abbrev pub dim_of : MeshValue → Option ℕ → Option ℕ
 dim_of g None = None
 dim_of g (Some d) = Some (dat_dim g d)
@@ -154,6 +157,7 @@ module _ (places : List Pos) (entries : List Named) where
   map_found s (via.Map x) = found_if places (is_none (map_of (means s x.name))) x.at refusal.UnknownMap
   map_found s (via.Identity at) = []
 
+  -- what is wrong with a global behind those of earlier arguments: its name, its `&`, its dim, its access, or that it stands twice
   abbrev pub global_found : List Earlier → GlobalName → NumberLiteral → Access → ℕ → Option GlobalVar → List Found
   global_found before g n a a_at None =
       found_if places true g.name.at refusal.UnknownEntry
@@ -194,6 +198,7 @@ module _ (places : List Pos) (entries : List Named) where
       ++ found_over InOrder max_dim (count_of n) n.at counted.Dim
       ++ type_found places l
 
+  -- the globals of earlier arguments, and that of this one
   abbrev pub with_earlier : Declared → LoopArg → List Earlier → List Earlier
   with_earlier k (tree.Dat at x i v n l a a_at) before = before
   with_earlier k (tree.Global at g n l a a_at) before = by_global (global_of entries k g.name.name)
@@ -202,6 +207,7 @@ module _ (places : List Pos) (entries : List Named) where
       by_global None = before
       by_global (Some v) = before ++ (record { var = v.var; access = access_of a }) ∷ []
 
+  -- what is wrong with the arguments, each behind those before it
   abbrev pub args_found : Declared → Option ℕ → List Earlier → List LoopArg → List Found
   args_found k set before [] = []
   args_found k set before (x ∷ xs) = arg_found k set before x ++ args_found k set (with_earlier k x before) xs
@@ -213,6 +219,7 @@ module _ (places : List Pos) (entries : List Named) where
   kernel_found t x n (Some (Kernel number params)) = found_if places (not (nat_eq params n)) t refusal.ArgCount
   kernel_found t x n _ = found_if places true x.at refusal.UnknownKernel
 
+  -- the number of the kernel that is meant
   abbrev pub kernel_number : Option Meaning → ℕ
   kernel_number (Some (Kernel number params)) = number
   kernel_number _ = 0
@@ -223,14 +230,17 @@ module _ (places : List Pos) (entries : List Named) where
   via_of s i (via.Map x) =
       Some (record { map = or_zero (map_of (means s x.name)); index = count_of (record { value = i.value; at = i.at }) })
 
+  -- the number of the variable that is meant
   abbrev pub var_number : Option GlobalVar → ℕ
   var_number None = 0
   var_number (Some v) = v.var
 
+  -- an argument by the numbers of what it names
   abbrev pub arg_of : Declared → LoopArg → Arg
   arg_of k (tree.Dat at x i v n l a a_at) = Dat (or_zero (dat_of (means k.names x.name))) (via_of k.names i v) (access_of a)
   arg_of k (tree.Global at g n l a a_at) = Global (var_number (global_of entries k g.name.name)) (access_of a)
 
+  -- the loop by the numbers of what it names
   abbrev pub site : Declared → ℕ → Ident → Ident → List LoopArg → SiteValue
   site k t f on args = record {
     kernel = kernel_number (means k.names f.name);
@@ -255,5 +265,6 @@ module _ (places : List Pos) (entries : List Named) where
       (loop_found k t f on args)
       (record k { sites = k.sites ++ site k t f on args ∷ [] })
 
+  -- `op_par_loop(f, "..", on, args ..);`
   abbrev pub judged_loop : Declared → ℕ → Ident → Ident → List LoopArg → Judged Declared
   judged_loop k t f on args = judged_args (after_globals entries args k) t f on args

@@ -59,6 +59,7 @@ module _ (places : List Pos) (consts : List ConstDecl) (entries : List Named) wh
   abbrev pub target_at : PlaceTree → Pos
   target_at p = place places (target_name p).at
 
+  -- an assignment by the number of its variable
   abbrev pub assignment : Scope → AssignmentTree → ActValue
   assignment s a =
       Assign (target_var s a.place) (target_index s a.place) a.op (place places a.at) (resolved places s a.value) (target_at a.place)
@@ -74,9 +75,11 @@ module _ (places : List Pos) (consts : List ConstDecl) (entries : List Named) wh
   abbrev pub judged_print : Walked → Ident → List ℕ → Option ℕ → Judged Walked
   judged_print a x file d = unless_found (found_if places (is_none d) x.at refusal.UnknownDat) (does (Do (Print (or_zero d) file)) a)
 
+  -- what follows a declaration, unless it was refused
   abbrev pub declares : Walked → Judged Declared → Judged Walked
   declares a r = r >>= λ k. Ok (behind a k)
 
+  -- a call of the OP2 library
   abbrev pub judged_call : Walked → Spot → OpCallTree → Judged Walked
   judged_call a w (tree.CallInit at n) = Ok a
   judged_call a w (tree.DeclSet at x e l) = declares a (judged_set places a.declared w.is_nested at x e)
@@ -116,6 +119,7 @@ module _ (places : List Pos) (consts : List ConstDecl) (entries : List Named) wh
       >>= λ to. Ok (from, to)
 
   abbrev mutual
+    -- a statement of `main`
     pub judged_host : Walked → Spot → HostTree → Judged Walked
     judged_host a w (tree.HostDeclaration v) = judged_declrs places a w v.is_const v.declrs
     judged_host a w (tree.HostBlock at hs) = judged_hosts (opened a) (nested w) hs >>= λ b. Ok (ended a (Block b.steps) b)
@@ -134,6 +138,7 @@ module _ (places : List Pos) (consts : List ConstDecl) (entries : List Named) wh
         judged_bounds a f >>= λ r. judged_host (with_counter a f.name) turning h >>= λ b. Ok (ended a (Repeat r.0 r.1 (Block b.steps)) b)
     judged_host a w (tree.HostCall c) = judged_call a w c
 
+    -- the statements in order, up to one that is refused
     pub judged_hosts : Walked → Spot → HostTrees → Judged Walked
     judged_hosts a w tree.NoHost = Ok a
     judged_hosts a w (tree.MoreHost h hs) = judged_host a w h >>= λ b. judged_hosts b w hs

@@ -26,6 +26,7 @@ renamed ns (Paren e) = Paren (renamed ns e)
 renamed ns (Extremum which x y) = Extremum which (renamed ns x) (renamed ns y)
 renamed ns (Absolute e) = Absolute (renamed ns e)
 
+-- the statement whose k-th name is the k-th of these
 abbrev pub renamed_act : List ℕ → ActValue → ActValue
 renamed_act ns (Clear v) = Clear v
 renamed_act ns (Assign v i op op_at e at) = Assign v (option_map (renamed ns) i) op op_at (renamed ns e) at
@@ -33,6 +34,7 @@ renamed_act ns (Line l es) = Line l (map (renamed ns) es)
 renamed_act ns (Print d file) = Print d file
 renamed_act ns Exit = Exit
 
+-- the statement whose names were numbered anew, with its own names again
 abbrev pub named_act_of : NamedAct → ActValue
 named_act_of a = renamed_act a.names.items (act_of a.act.value)
 

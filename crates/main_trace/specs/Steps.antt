@@ -9,17 +9,23 @@ pub record Asked : Type 0 where
   pub value : RExprTree
   pub at : Pos
 
--- What a statement does; a loop; a `const` name whose value is told here, with the number of its variable where it is one; a block,
--- whose told values end with it; a choice of `if`; the turns of a `for`, each of which tells the value of its counter.
 mutual
+  -- one statement of `main`
   pub data Step : Type 0 where
+    -- an item that is no loop
     Do : ActValue → Step
+    -- a loop
     Loop : (site : ℕ) → Step
+    -- a `const` name whose value is told here, with the number of its variable where it is one
     Fix : Asked → (var : Option ℕ) → Step
+    -- a block, whose told values end with it
     Block : Steps → Step
+    -- a choice of `if`
     Choose : Asked → (then otherwise : Step) → Step
+    -- the turns of a `for`, each of which tells the value of its counter
     Repeat : (from to : Asked) → (body : Step) → Step
 
+  -- statements in order
   pub data Steps : Type 0 where
     NoStep : Steps
     MoreStep : Step → Steps → Steps

@@ -23,6 +23,7 @@ pub data Event : Type 0 where
 abbrev pub Later : Type 0
 Later = Unit {0} → List Event
 
+-- nothing happens
 abbrev pub nothing : Later
 nothing u = []
 
@@ -37,6 +38,7 @@ known (Err f) = None
 abbrev pub number : List ℤ → Asked → Option ℤ
 number told e = known (value told [] e.value)
 
+-- the first where the test holds, else the second
 abbrev pub choose : Bool → Later → Later → List Event
 choose true f g = f tt
 choose false f g = g tt
@@ -56,6 +58,7 @@ items_of n s = by_class s.class
     by_class class.Ordered = Does (Ordered n) ∷ []
     by_class class.Free = Does (Free n) ∷ (if reduces s.args then (Does (Reduce n) ∷ []) else [])
 
+-- the value of a `const` variable is told, where the name is one
 abbrev pub tells : Option ℕ → ℤ → List Event
 tells None z = []
 tells (Some v) z = Tells v z ∷ []
@@ -97,9 +100,10 @@ module _ (sites : List SiteValue) where
     events told (Choose e s t) =
         answer (number told e) e.at (λ z. choose (is_zero z) (λ u. events told t) (λ u. events told s))
     events told (Repeat from to s) =
-        answer (number told from) from.at (λ i. turns (λ j. number (told ++ j ∷ []) to) (λ j. events (told
-        ++ j ∷ []) s) to.at (turns_left i) i)
+        answer (number told from) from.at
+        (λ i. turns (λ j. number (told ++ j ∷ []) to) (λ j. events (told ++ j ∷ []) s) to.at (turns_left i) i)
 
+    -- what steps do one after another, each with the values that those before it told
     pub all_events : List ℤ → Steps → List Event
     all_events told NoStep = []
     all_events told (MoreStep s ss) = events told s ++ all_events (after told s) ss

@@ -22,10 +22,12 @@ use Rattle.main_trace.specs.Trace.{Event, Does}
 use Rattle.bound_program.specs.Classes.{reduces}
 use Rattle.main_trace.specs.Limited.{ToldValue, UnrolledValue, before, unrolled}
 
+-- an expression that must be known, as a tree
 abbrev pub asked_of : AskedCode → Asked
 asked_of a = record { value = rexpr_of a.value; at = a.at }
 
 abbrev mutual
+  -- a step as the definitions have it
   pub step_of : StepCode → Step
   step_of (r.Do a) = Do (named_act_of a)
   step_of (r.Loop n) = Loop n
@@ -34,6 +36,7 @@ abbrev mutual
   step_of (r.Choose' e p s q t) = Choose (asked_of e) (step_of s) (step_of t)
   step_of (r.Repeat' from to p s) = Repeat (asked_of from) (asked_of to) (step_of s)
 
+  -- the steps of a block
   pub steps_of_row : {m : _} → Row_of-Step m → Steps
   steps_of_row end_of-Step = NoStep
   steps_of_row (more_of-Step s rest) = MoreStep (step_of s) (steps_of_row rest)
@@ -43,9 +46,11 @@ abbrev pub steps_of : List StepCode → Steps
 steps_of [] = NoStep
 steps_of (s ∷ ss) = MoreStep (step_of s) (steps_of ss)
 
+-- a told value with the number of its variable
 abbrev pub told_of : Told → ToldValue
 told_of t = record { var = t.var; value = t.value }
 
+-- the items so far and the values told, as lists
 abbrev pub seen : Unrolled → UnrolledValue
 seen u = record { items = map item_of u.items.items; values = map told_of u.values.items }
 

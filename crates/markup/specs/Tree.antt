@@ -11,13 +11,16 @@ Pair = List ℕ × List ℕ
 abbrev pub attribute_of : Attribute → Pair
 attribute_of a = (a.name.now, a.value.now)
 
--- An element that holds elements and text, one that holds nothing, and text.
 mutual
+  -- an element, or text
   pub data Node : Type 0 where
+    -- an element that holds elements and text
     Element : (name : List ℕ) (attributes : List Pair) (children : Nodes) → Node
+    -- an element that holds nothing
     Empty : (name : List ℕ) (attributes : List Pair) → Node
     Text : List ℕ → Node
 
+  -- what an element holds, in order
   pub data Nodes : Type 0 where
     NoNode : Nodes
     MoreNodes : Node → Nodes → Nodes

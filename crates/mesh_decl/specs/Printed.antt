@@ -35,8 +35,9 @@ abbrev pub conversions : List ℕ → Option ℕ
 conversions [] = Some 0
 conversions (c ∷ []) = if nat_eq c 37 then None else Some 0
 conversions (c ∷ d ∷ ds) =
-    if nat_eq c 37 then (if nat_eq d 100 then one_more (conversions ds) else
-    (if nat_eq d 37 then conversions ds else None)) else conversions (d ∷ ds)
+    if nat_eq c 37
+    then (if nat_eq d 100 then one_more (conversions ds) else (if nat_eq d 37 then conversions ds else None))
+    else conversions (d ∷ ds)
 
 -- the next value, where there is one
 abbrev pub shown : List ℤ → List ℕ

@@ -74,9 +74,11 @@ stubbed a b = None
 
 -- such a call becomes `op_par_loop(K,`
 abbrev pub to_call : List Token → Option Edit
-to_call (a ∷ b ∷ ts) = option_map (λ x. record { from = a.from; to = b.to; text = codes "op_par_loop(" ++ x ++ codes "," }) (stubbed a.kind b.kind)
+to_call (a ∷ b ∷ ts) =
+    option_map (λ x. record { from = a.from; to = b.to; text = codes "op_par_loop(" ++ x ++ codes "," }) (stubbed a.kind b.kind)
 to_call ts = None
 
+-- the calls of stubs become loop calls again
 abbrev pub restoration : List ℕ → List Token → List ℕ
 restoration bytes tokens = edited 0 bytes (edits to_call tokens)
 
@@ -97,6 +99,7 @@ abbrev pub taken : Kind → Pos → Option TransRefusal
 taken (kind.Name x) at = if begins x then Some (NameTaken at) else None
 taken k at = None
 
+-- why the first of these tokens lets nothing be translated, if it does
 abbrev pub refuses_stub : List Token → Option TransRefusal
 refuses_stub [] = None
 refuses_stub (t ∷ ts) = taken t.kind t.at
@@ -107,6 +110,7 @@ uncalled (kind.Word word.OpParLoop) at e = Some (LoopLeft at)
 uncalled (kind.Name x) at None = if begins x then Some (NoCall at) else None
 uncalled k at e = None
 
+-- why the first of these tokens lets nothing be restored, if it does
 abbrev pub refuses_call : List Token → Option TransRefusal
 refuses_call [] = None
 refuses_call (a ∷ ts) = uncalled a.kind a.at (to_call (a ∷ ts))
@@ -131,6 +135,7 @@ abbrev pub restored : List ℕ → Result (List Token) LexRefusal → Outcome
 restored bytes (Err e) = Err (Lex e)
 restored bytes (Ok tokens) = unless (first_refusal refuses_call tokens) (restoration bytes tokens)
 
+-- the restoration of bytes that were lexed, or its refusal
 pub record Restores (bytes : List ℕ) (r : Outcome) : Type 0 where
   pub found : Result (List Token) LexRefusal
   pub lexed : Lexes bytes found

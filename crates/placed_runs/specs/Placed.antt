@@ -22,6 +22,7 @@ module _ (b : BoundValue) (args : List Arg) (e : ℕ) (place : Cell → ℕ) whe
   abbrev pub place_span : Reached → Span
   place_span t = record { at = place (cell_in t 0); dim = width b t; writes = true }
 
+  -- the same of each target's window
   abbrev pub place_spans : List Span
   place_spans = map place_span (targets b args e)
 
@@ -29,6 +30,7 @@ module _ (b : BoundValue) (args : List Arg) (e : ℕ) (place : Cell → ℕ) whe
   abbrev pub arg_place : Arg → Place
   arg_place a = record { from = place (cell_in (reached b e a) 0); count = width b (reached b e a) }
 
+  -- the same of each argument
   abbrev pub arg_places : List Place
   arg_places = map arg_place args
 
@@ -63,8 +65,8 @@ module _ (b : BoundValue) (args : List Arg) (e : ℕ) (place : Cell → ℕ) whe
   EndsPlaced old new s fault (Finished t) = (fault ≡ None) × LeavesPlaced old new s t
 
 -- what a run in place gives at such places, where the loop has this kernel
-pub record RunsPlaced (b : BoundValue) (site : SiteValue) (e : ℕ) (k : RKernel) (consts : List ℤ) (place : Cell → ℕ) (n : ℕ) (marks : List Bool)
-    : Type 0 where
+pub record RunsPlaced (b : BoundValue) (site : SiteValue) (e : ℕ) (k : RKernel) (consts : List ℤ) (place : Cell → ℕ) (n : ℕ)
+    (marks : List Bool) : Type 0 where
   pub fits : PlacesIn n (arg_places b site.args e place)
   pub here : IsHere k consts n (arg_places b site.args e place) marks (place_spans b site.args e place) (windows b site.args e)
   pub ends : (old new : List ℤ) (s : Store) (fault : Option KernelFault) (item : ℕ)

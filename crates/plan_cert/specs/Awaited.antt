@@ -26,13 +26,15 @@ abbrev pub each_below : (ℕ → List Awaited) → ℕ → List Awaited
 each_below f zero = []
 each_below f (suc n) = each_below f n ++ f n
 
--- the first line, what stands before the block size, and the last line
+-- the first line
 abbrev pub header_line : List ℕ
 header_line = codes "op2plan 1\n"
 
+-- what stands before the block size on the line of sizes
 abbrev pub sizes_front : ℕ → List ℕ
 sizes_front ranks = codes "ranks " ++ (decimal ranks ++ codes " block ")
 
+-- the last line
 abbrev pub done_line : List ℕ
 done_line = codes "done\n"
 
@@ -49,25 +51,31 @@ AreColours [] (c ∷ cs) = ⊥
 AreColours (w ∷ ws) [] = ⊥
 
 module _ (b : BoundValue) (meshes : List RankMesh) where
-  -- the lines of the halos by set and rank, of the loops below n that run as Free ones, by rank, and of the items
+  -- the line of a set's halo on a rank
   abbrev pub awaited_halo : ℕ → ℕ → Awaited
   awaited_halo s r = Exactly 3 (line_of (halo_line b.mesh (sets_of meshes r) s r))
 
+  -- the lines of a set's halos, by rank
   abbrev pub awaited_set : ℕ → List Awaited
   awaited_set s = each_below (λ r. awaited_halo s r ∷ []) (length meshes)
 
+  -- the lines of all halos, by set and rank
   abbrev pub awaited_halos : List Awaited
   awaited_halos = each_below awaited_set (set_count b.mesh)
 
+  -- the lines of a loop's colours, by rank
   abbrev pub awaited_ranks : ℕ → List Awaited
   awaited_ranks s = each_below (λ r. ColoursOf s r ∷ []) (length meshes)
 
+  -- the lines of the loops below n that run as Free ones
   abbrev pub awaited_sites : ℕ → List Awaited
   awaited_sites n = each_below (λ s. cond (runs_free b s) (awaited_ranks s) []) n
 
+  -- the line of an item
   abbrev pub awaited_item : ℕ → Awaited
   awaited_item k = Exactly 5 (line_of (item_line b.mesh k (item_at b k) (exchange_of b meshes k)))
 
+  -- the lines of all items
   abbrev pub awaited_items : List Awaited
   awaited_items = each_below (λ k. awaited_item k ∷ []) (length b.trace)
 
@@ -97,10 +105,11 @@ module _ (b : BoundValue) (meshes : List RankMesh) where
         ≡ line_of ((codes "site" ∷ decimal s ∷ codes "rank" ∷ decimal r ∷ codes "places" ∷ decimal (places_in s r)
         ∷ codes "blocks" ∷ blocks) ++ (codes "inner" ∷ inner))
 
-  -- two blocks of rank r in conflict have one colour; two places of one block in conflict have
+  -- two blocks of rank r in conflict have one colour
   abbrev pub BlocksClashIn : (size s r : ℕ) → ColourLists → Type 0
   BlocksClashIn size s r c = BlocksClash b.mesh (maps_of meshes r) (reducing (site_at b s).args) (places_in s r) size c.blocks
 
+  -- two places of one block in conflict have one colour
   abbrev pub PlacesClashIn : (size s r : ℕ) → ColourLists → Type 0
   PlacesClashIn size s r c = PlacesClash b.mesh (maps_of meshes r) (reducing (site_at b s).args) (places_in s r) size c.inner
 

@@ -13,6 +13,7 @@ use Rattle.plan_cert.specs.Awaited.{BlocksClashIn, PlacesClashIn, FitLines}
 abbrev pub all : List (List ℕ) → List ℕ
 all lines = flat_map (λ l. l) lines
 
+-- the colours as lists alone
 abbrev pub lists_of : Colours → ColourLists
 lists_of c = record { blocks = c.blocks.items; inner = c.inner.items }
 

@@ -18,9 +18,10 @@ pub record HasMessages (pairs : List Pair) (ranks : ℕ) (receivers senders : Li
   pub sent : (s : ℕ) → s < ranks → row receivers s ≡ receivers_in pairs s
   pub received : (r : ℕ) → r < ranks → row senders r ≡ senders_in pairs r
 
--- the lists of receivers and of senders of item k
+-- the lists of receivers of item k, by sender
 abbrev pub receiver_lists : List Messages → ℕ → List (Vec ℕ Global)
 receiver_lists items k = slice_index_or (map (λ (m : Messages). m.receivers.items) items) k []
 
+-- the lists of senders of item k, by receiver
 abbrev pub sender_lists : List Messages → ℕ → List (Vec ℕ Global)
 sender_lists items k = slice_index_or (map (λ (m : Messages). m.senders.items) items) k []

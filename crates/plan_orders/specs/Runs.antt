@@ -9,10 +9,11 @@ use Rattle.loop_plan.specs.Values.{PlanValue}
 use Rattle.loop_plan.specs.Needs.{item_at}
 use Rattle.loop_plan.specs.StepOutline.{step_outline}
 
--- the colours of a rank's blocks, and of its places
+-- the colours of a rank's blocks
 abbrev pub blocks_in : List Colours → ℕ → List ℕ
 blocks_in cs r = slice_index_or (map (λ (c : Colours). c.blocks.items) cs) r []
 
+-- the colours of a rank's places
 abbrev pub inner_in : List Colours → ℕ → List ℕ
 inner_in cs r = slice_index_or (map (λ (c : Colours). c.inner.items) cs) r []
 

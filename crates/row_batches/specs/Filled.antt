@@ -18,6 +18,7 @@ module _ (numbers : List (List ℕ)) where
     pub way : y.way < length numbers
     pub within : StandWithin cells y.cell y.dim 0 (get_or numbers y.way [])
 
+  -- the cells of each column stand there
   abbrev pub ColumnsStand : (cells : ℕ) → List RowColumn → Type 0
   ColumnsStand cells columns = (c : ℕ) → c < length columns → ColumnStands cells (column_in columns c)
 
@@ -28,5 +29,6 @@ module _ (numbers : List (List ℕ)) where
   FilledFor OpWrite memory y column = Unit {0}
   FilledFor (OpReduce r) memory y column = (l : ℕ) → l < ROWS → at_row l column ≡ unit_of r
 
+  -- the column begins as the access of its arguments asks
   abbrev pub IsFilled : (memory : List ℤ) → RowColumn → (column : List ℤ) → Type 0
   IsFilled memory y column = FilledFor (access_of y.access) memory y column

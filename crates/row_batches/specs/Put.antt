@@ -12,17 +12,18 @@ use Rattle.row_batches.specs.RowLoops.{column_in}
 use Rattle.row_batches.specs.Filled.{cells_of}
 
 module _ (numbers : List (List ℕ)) where
-  -- a column is put back, by what arguments do with it
+  -- a column is put back, by what arguments of this access do with it
   abbrev pub put_back_for : Access → RowColumn → (column memory : List ℤ) → List ℤ
   put_back_for OpRead y column memory = memory
   put_back_for OpWrite y column memory = stored (cells_of numbers y) column ROWS memory
   put_back_for OpRw y column memory = stored (cells_of numbers y) column ROWS memory
   put_back_for (OpReduce r) y column memory = merged_in (cells_of numbers y) column r ROWS memory
 
+  -- a column is put back
   abbrev pub column_put_back : RowColumn → (column memory : List ℤ) → List ℤ
   column_put_back y = put_back_for (access_of y.access) y
 
-  -- the first n columns are
+  -- the first n columns are put back
   abbrev pub put_back : List RowColumn → (frame : List (List ℤ)) → ℕ → (memory : List ℤ) → List ℤ
   put_back columns frame zero memory = memory
   put_back columns frame (suc n) memory = column_put_back (column_in columns n) (get_or frame n []) (put_back columns frame n memory)

@@ -43,9 +43,11 @@ no_column = record { way = 0; cell = 0; dim = 0; access = code.Read }
 abbrev pub no_scalar : Scalar
 no_scalar = Value 0
 
+-- a column by its number
 abbrev pub column_in : List RowColumn → ℕ → RowColumn
 column_in columns c = get_or columns c no_column
 
+-- a scalar by its number
 abbrev pub scalar_in : List Scalar → ℕ → Scalar
 scalar_in scalars j = get_or scalars j no_scalar
 
@@ -56,9 +58,11 @@ MergeAlike (Amount at slot how) (Value at') = Unit {0}
 MergeAlike (Amount at slot how) (Amount at' slot' how') = slot ≡ slot' → how ≡ how'
 
 module _ (y : RowLoop) where
+  -- a column of the loop
   abbrev pub column_at : ℕ → RowColumn
   column_at c = column_in y.columns.now c
 
+  -- a scalar of the loop
   abbrev pub scalar_at : ℕ → Scalar
   scalar_at j = scalar_in y.scalars.now j
 
@@ -117,10 +121,11 @@ module _ (y : RowLoop) where
     pub tested : AreTested (column_at c).way (column_at d).way
 
   module _ (cells : ℕ) (modes : List Mode) (stand : ℕ → List Place) (batch : List ℕ) where
-    -- where a component stands in the frame, and in the memory for a place
+    -- the column in which a component of an argument stands
     abbrev pub in_frame : (a i : ℕ) → ℕ
     in_frame a i = (target_at (map target_of y.places.now) a).from + i
 
+    -- the cell of the memory in which a component of an argument stands for a place
     abbrev pub in_memory : (x a i : ℕ) → ℕ
     in_memory x a i = (target_at (map target_of (stand x)) a).from + i
 

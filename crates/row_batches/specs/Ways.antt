@@ -8,6 +8,7 @@ abbrev pub local_in : Option LocalVia → ℕ → ℕ
 local_in None x = x
 local_in (Some v) x = slice_index v.targets.now (x * v.step + v.index)
 
+-- the way leads somewhere from the place
 abbrev pub HasTarget : Option LocalVia → ℕ → Type 0
 HasTarget None x = Unit {0}
 HasTarget (Some v) x = x * v.step + v.index < length v.targets.now

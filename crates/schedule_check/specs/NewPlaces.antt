@@ -13,10 +13,11 @@ pub record AreNewPlaces (size : ℕ) (blocks inner : List ℕ) (core : List Bool
   pub order : (x y : ℕ) → x < length inner → y < length inner → lower v x y ≡ ends_before size blocks inner x y
   pub cores : (x : ℕ) → x < length inner → core_at v x ≡ slice_index_or core x false
 
--- the colours of a rank's blocks, and of its places
+-- the colours of a rank's blocks
 abbrev pub blocks_of : List Colours → ℕ → List ℕ
 blocks_of cs r = slice_index_or (map (λ (c : Colours). c.blocks.items) cs) r []
 
+-- the colours of a rank's places
 abbrev pub inner_of : List Colours → ℕ → List ℕ
 inner_of cs r = slice_index_or (map (λ (c : Colours). c.inner.items) cs) r []
 

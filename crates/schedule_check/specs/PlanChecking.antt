@@ -16,12 +16,14 @@ use Rattle.loop_plan.specs.Values.{PlanValue}
 use Rattle.loop_plan.specs.StepOutline.{step_outline}
 use Rattle.schedule_check.specs.Mail.{plan_cells}
 
+-- a plan with the steps that are taken
 pub record PlanChecking : Type 0 where
   pub bound : BoundValue
   pub meshes : List RankMesh
   pub plan : PlanValue
   pub steps : Checking
 
+-- a checker of a plan, by its parts
 abbrev pub checking : BoundValue → List RankMesh → PlanValue → Checking → PlanChecking
 checking b meshes p steps = record { bound = b; meshes = meshes; plan = p; steps = steps }
 

@@ -60,6 +60,7 @@ count zero t = 1
 count (suc zero) t = 2
 count (suc (suc n)) t = 0
 
+-- where the ring's cells and elements stand, in a run without faults or a faulty one
 abbrev pub ring_layout : Bool → Layout ℕ
 ring_layout faulty = record {
   cells = cells;

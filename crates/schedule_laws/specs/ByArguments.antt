@@ -21,6 +21,7 @@ module _ (entry : Entries) (dim width : ℕ → ℕ) (arg : ℕ → Argument) (n
     -- one into which reductions alone merge becomes equal where it was equal
     pub mixes : (c : Cell) → All entry dim width arg n e c (λ x. settling x ≡ false) → s c ≡ w c → t c ≡ u c
 
+  -- both runs have the same fault, or make the same changes
   abbrev pub SameRuns : {F : Type 0} → Store → Store → Ran F → Ran F → Type 0
   SameRuns s w (Faulted f) (Faulted g) = f ≡ g
   SameRuns s w (Finished t) (Finished u) = SameChanges s w t u

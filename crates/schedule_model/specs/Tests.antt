@@ -5,6 +5,7 @@ use Rattle.std.proofs.lemmas.Bool.{false≢true, and_parts, and_from, eqb-true, 
 use Rattle.schedule_model.specs.Cells.{Cell, Data, Variable, same_cell}
 use Rattle.schedule_model.specs.Program.{Kind, Free, Reduce, Ordered, Host, is_free}
 
+-- the test calls a cell itself
 pub same_cell_refl : (c : Cell) → same_cell c c ≡ true
 same_cell_refl (Data c) =
     and_from
@@ -39,11 +40,13 @@ same_cell_true (Variable c) (Variable d) h =
 same_cell_true (Data c) (Variable d) h = absurd (false≢true h)
 same_cell_true (Variable c) (Data d) h = absurd (false≢true h)
 
+-- the kind that passes the test is Free
 pub free_kind : (x : Kind) → is_free x ≡ true → x ≡ Free
 free_kind Free h = refl
 free_kind Reduce h = absurd (false≢true h)
 free_kind Ordered h = absurd (false≢true h)
 free_kind Host h = absurd (false≢true h)
 
+-- a kind that doesn't pass the test isn't Free
 pub not_free : (x : Kind) → is_free x ≡ false → x ≡ Free → ⊥
 not_free x h e = false≢true (sym h ∙ ap is_free e)

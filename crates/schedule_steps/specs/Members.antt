@@ -6,12 +6,14 @@ use Rattle.schedule_steps.specs.declared.step.Step.{Step}
 use Rattle.schedule_steps.specs.declared.step.Step.TheVariants.{Send, Recv, Begin, End, Join}
 use Rattle.schedule_steps.specs.Steps.{same3, same, has}
 
+-- numbers that the test calls equal are equal
 pub same3_true : (a b c x y z : ℕ) → same3 a b c x y z ≡ true → (a ≡ x) × (b ≡ y) × (c ≡ z)
 same3_true a b c x y z h =
     let h1 : ((a == x) ≡ true) × (((b == y) && (c == z)) ≡ true) = and_parts (a == x) ((b == y) && (c == z)) h in
     let h2 : ((b == y) ≡ true) × ((c == z) ≡ true) = and_parts (b == y) (c == z) h1.1 in
     (eqb-true a x h1.0, eqb-true b y h2.0, eqb-true c z h2.1)
 
+-- the test calls numbers equal to themselves
 pub same3_refl : (a b c : ℕ) → same3 a b c a b c ≡ true
 same3_refl a b c =
     and_from (a == a) ((b == b) && (c == c)) (eq-eqb a a refl) (and_from (b == b) (c == c) (eq-eqb b b refl) (eq-eqb c c refl))
@@ -30,6 +32,7 @@ same_true (End a b c) (End x y z) h = same3_step End a b c x y z h
 same_true (Join a) (Join x) h = ap Join (eqb-true a x h)
 same_true _ _ h = absurd (false≢true h)
 
+-- the test calls a step itself
 pub same_refl : (s : Step) → same s s ≡ true
 same_refl (Send a b c) = same3_refl a b c
 same_refl (Recv a b c) = same3_refl a b c
@@ -37,6 +40,7 @@ same_refl (Begin a b c) = same3_refl a b c
 same_refl (End a b c) = same3_refl a b c
 same_refl (Join a) = eq-eqb a a refl
 
+-- a step of the first list stands in both together
 pub has_left : (x y : List Step) (t : Step) → has x t ≡ true → has (x ++ y) t ≡ true
 has_left [] y t h = absurd (false≢true h)
 has_left (s ∷ x) y t h = ⊎_elim
@@ -44,16 +48,19 @@ has_left (s ∷ x) y t h = ⊎_elim
     (λ e. or_right (same t s) (has (x ++ y) t) (has_left x y t e))
     (or_cases (same t s) (has x t) h)
 
+-- a step of the second list stands in both together
 pub has_right : (x y : List Step) (t : Step) → has y t ≡ true → has (x ++ y) t ≡ true
 has_right [] y t h = h
 has_right (s ∷ x) y t h = or_right (same t s) (has (x ++ y) t) (has_right x y t h)
 
+-- a step of both together stands in one of them
 pub has_parts : (x y : List Step) (t : Step) → has (x ++ y) t ≡ true → (has x t ≡ true) ⊎ (has y t ≡ true)
 has_parts [] y t h = inr h
 has_parts (s ∷ x) y t h = ⊎_elim (λ e. inl (or_left (same t s) (has x t) e))
     (λ e. ⊎_elim (λ i. inl (or_right (same t s) (has x t) i)) (λ i. inr i) (has_parts x y t e))
     (or_cases (same t s) (has (x ++ y) t) h)
 
+-- a step stands in a list where it was put
 pub has_at : (x : List Step) (t : Step) (y : List Step) → has (x ++ (t ∷ y)) t ≡ true
 has_at [] t y = or_left (same t t) (has y t) (same_refl t)
 has_at (s ∷ x) t y = or_right (same t s) (has (x ++ (t ∷ y)) t) (has_at x t y)

@@ -27,5 +27,6 @@ pub record RunIsOne (b : BoundValue) : Type 0 where
   pub printed : printed b ≡ program.printed b
   pub first_fault : first_fault b ≡ program.first_fault b
 
+-- so it is with every program that fits
 abbrev pub RunsAreOne : Type 0
 RunsAreOne = (b : BoundValue) → Fits b → RunIsOne b

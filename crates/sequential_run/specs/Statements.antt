@@ -43,6 +43,7 @@ module _ (b : BoundValue) where
       on_value (stops k None o) (value_of arrays e) (λ x.
       on_value (stops k None o) (stored op op_at (cell arrays (array_of b v) i) x) (λ z.
       Going (with_cell arrays (array_of b v) i z) o)))
-  after_statement k (Line text es) arrays o = on_value (stops k None o) (values_of arrays es) (λ zs. Going arrays (o ++ printed_line text zs))
+  after_statement k (Line text es) arrays o =
+      on_value (stops k None o) (values_of arrays es) (λ zs. Going arrays (o ++ printed_line text zs))
   after_statement k (Print d file) arrays o = Going arrays (o ++ printed_dat file b.mesh d (slice_index_or arrays d []))
   after_statement k Exit arrays o = Going arrays o

@@ -20,10 +20,11 @@ module _ (b : BoundValue) (k : ℕ) where
   abbrev pub RefusedAt : List Awaited → Unread → (number line : ℕ) → Type 0
   RefusedAt xs old number line = (before : ℕ) × (line ≡ old.taken + suc before) × RefusedAmong b k xs old.rest number before
 
+  -- a refusal is that of the first of them that is refused
   abbrev pub RefusesAmong : List Awaited → Unread → StateRefusal → Type 0
   RefusesAmong xs old e = Refused (RefusedAt xs old) e
 
-  -- the one or the other
+  -- the lines are taken, or one of them is refused
   abbrev pub JudgesAmong : {X : Type 0} → List Awaited → Unread → Unread → (X → List ℤ) → Result X StateRefusal → Type 0
   JudgesAmong xs old new values (Ok x) = FitsAmong xs old new (values x)
   JudgesAmong xs old new values (Err e) = RefusesAmong xs old e
@@ -34,6 +35,7 @@ module _ (b : BoundValue) (k : ℕ) where
     pub pushed : ws ≡ zs ++ more
     pub fits : FitsAmong xs old new more
 
+  -- the lines are taken and their values pushed, or one of them is refused
   abbrev pub PushJudges : {X : Type 0} → List Awaited → Unread → Unread → (zs ws : List ℤ) → Result X StateRefusal → Type 0
   PushJudges xs old new zs ws (Ok x) = PushesAmong xs old new zs ws
   PushJudges xs old new zs ws (Err e) = RefusesAmong xs old e

@@ -10,6 +10,7 @@ use Rattle.step_marks.specs.Item.{place_of}
 use Rattle.step_marks.specs.Load.{loaded}
 use Rattle.step_marks.specs.Marked.{Marked, item_at, outline_of, taken, TakesOne}
 
+-- which steps are taken, how many cells each message has, and what is open and under way
 pub record Checking : Type 0 where
   pub marks : Marked
   pub cells : List (List ℕ)  -- item, message: how many cells it has
@@ -19,6 +20,7 @@ pub record Checking : Type 0 where
 abbrev pub cells_in : List (List ℕ) → Marked → ℕ → ℕ → ℕ → ℕ
 cells_in cells v k s r = slice_index (slice_index_or cells k []) (place_of (item_at v k) s r)
 
+-- item, sender, receiver: how many cells the message has
 abbrev pub cells_of : Checking → ℕ → ℕ → ℕ → ℕ
 cells_of c = cells_in c.cells c.marks
 
