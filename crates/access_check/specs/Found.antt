@@ -21,7 +21,7 @@ rule_of rule.MinMaxForm = model.MinMaxForm
 abbrev pub breach_of : Breach → walk.Breach
 breach_of b = record { rule = rule_of b.rule; at = b.at }
 
--- one, or none
+-- a breach, or none
 abbrev pub found_of : Option Breach → Option walk.Breach
 found_of None = None
 found_of (Some b) = Some (breach_of b)

@@ -161,7 +161,7 @@ pub data Cut : Type 0 where
   BeforeItem : (item : ℕ) → Cut
   FromText : (bytes : List ℕ) → Cut
 
--- that, as it is asked for: the text in a file, or what is told outright
+-- the cut that is asked for: by the text in a file, or as it is told outright
 abbrev pub CutOf : Stretch → Files → Result Cut Refusal → Type 0
 CutOf Whole files r = r ≡ Ok Uncut
 CutOf (Before item) files r = r ≡ Ok (BeforeItem item)
@@ -206,7 +206,7 @@ pub data Colouring : Type 0 where
   Least : (places : ℕ) → Colouring
   Told : (bytes : List ℕ) → Colouring
 
--- that, as it is asked for: the text in a file, or what is told outright
+-- the blocks and colours that are asked for: by the text in a file, or as they are told outright
 abbrev pub ColouringOf : Blocks → Files → Result Colouring Refusal → Type 0
 ColouringOf (OfSize places) files r = r ≡ Ok (Least places)
 ColouringOf (AsPlanned name) files (Ok c) = (bytes : List ℕ) × IsHeld PlanBytes name (files name) (Ok bytes) × (c ≡ Told bytes)
@@ -261,7 +261,7 @@ pub data Order : Type 0 where
   BySeed : (seed : ℕ) → Order
   ByText : (bytes : List ℕ) → Order
 
--- what they come from, as it is asked for: the text in a file, or what is told outright
+-- the order that is asked for: by the text in a file, or as it is told outright
 abbrev pub OrderOf : Schedule → Files → Result Order Refusal → Type 0
 OrderOf Standard files r = r ≡ Ok InStandardOrder
 OrderOf (Drawn seed) files r = r ≡ Ok (BySeed seed)

@@ -76,11 +76,11 @@ module _ (b : BoundValue) where
   loops_from k = free_sites (drop k b.trace)
 
   module _ (o : Owners) where
-    -- item, rank, dat, element
+    -- item, rank, dat, element: the rank needs the pair before the item
     unfoldable pub needs : ℕ → ℕ → ℕ → ℕ → Bool
     needs k r d y = needs_before o r (loops_from k) d y
 
-    -- item, rank, element
+    -- item, rank, element: the rank executes the element in the item
     unfoldable pub executes : ℕ → ℕ → ℕ → Bool
     executes k r e = executes_for o r (needs (suc k) r) (site_of b k) e
 

@@ -117,7 +117,7 @@ abbrev pub AreTops : List TopTree → Type 0
 AreTops [] = Unit {0}
 AreTops (t ∷ ts) = IsTop t × AreTops ts
 
--- the values that `op_printf` prints
+-- the values that `op_printf` prints, each grouped
 abbrev pub AllGrouped : List ExprTree → Type 0
 AllGrouped [] = Unit {0}
 AllGrouped (e ∷ es) = IsGrouped e × AllGrouped es

@@ -27,7 +27,7 @@ abbrev pub with_global : (ranks r : ℕ) → Arg → Values → Values
 with_global ranks r (Dat d v a) f = f
 with_global ranks r (Global v a) f = with_target r (Whole v) (λ i. window_of (reduction_of a) (f ranks (cell_in (Whole v) i))) f
 
--- with those of these arguments, of all of a loop
+-- with those of these arguments, in a loop with all of them
 abbrev pub with_globals : (ranks r : ℕ) → (all these : List Arg) → Values → Values
 with_globals ranks r all these f m (Data c) = f m (Data c)
 with_globals ranks r all these f m (Variable v) =

@@ -21,7 +21,7 @@ module _ (h : Change) (r : ℕ) where
   changed_by (Dat d v a) p = p
   changed_by (Global v a) p = with_target r (Whole v) (λ i. h (reduction_of a) (p r (cell_in (Whole v) i)) r (cell_in (Whole v) i)) p
 
-  -- and of these arguments, of all of a loop
+  -- and where one of these arguments is, in a loop with all of them
   abbrev pub changed_all : (all these : List Arg) → Values → Values
   changed_all all these p m (Data c) = p m (Data c)
   changed_all all these p m (Variable v) =
@@ -39,6 +39,6 @@ amounts_of f how x m c = merge_at how x (f m c)
 abbrev pub merged_by : ℕ → Values → Arg → Values → Values
 merged_by r f x p = changed_by (amounts_of f) r x p
 
--- and of these arguments, of all of a loop
+-- and where one of these arguments is, in a loop with all of them
 abbrev pub merged_all : ℕ → (all these : List Arg) → Values → Values → Values
 merged_all r all these f p = changed_all (amounts_of f) r all these p

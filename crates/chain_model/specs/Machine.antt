@@ -70,7 +70,7 @@ gathered c st (Variable v) = st.variables v
 abbrev pub exchanged : {F : Type 0} → Slicing F → ℕ → ChainState F → ChainState F
 exchanged c k st = record st { stores = λ r d y. cond (c.needs k r d y) (Some (pair_values (gathered c st) d y)) None }
 
--- it stands at the start of a chain
+-- with the exchange, where a chain begins at item k
 abbrev pub supplied : {F : Type 0} → Slicing F → ℕ → ChainState F → ChainState F
 supplied c k st = cond (begins c.program.kind k) (exchanged c k st) st
 

@@ -25,11 +25,11 @@ Has m t v b = bit_at (mask_of m t v) b ≡ 1
 abbrev pub Fill : Masks → ℕ → ℕ → ℕ → Type 0
 Fill m s t v = (b : ℕ) → b < 32 → Has m s v b ⊎ Has m t v b
 
--- that, of the words from v up to n
+-- so it is in the words from v up to n
 abbrev pub AreFilled : Masks → ℕ → ℕ → ℕ → ℕ → Type 0
 AreFilled m s t v n = (u : ℕ) → v ≤ u → u < n → Fill m s t u
 
--- what is kept of words that are passed over is so
+-- what is kept of words that are passed over is true: each colour is one of either target's
 abbrev pub IsSound : Masks → Type 0
 IsSound m = (s t v n : ℕ) → get same_words m.passed (s, t, v) ≡ Some n → AreFilled m s t v n
 

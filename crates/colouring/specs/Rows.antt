@@ -24,11 +24,11 @@ Least ts w cs p =
     ((q : ℕ) → q < p → Conflict ts w q p → get_or cs q 0 ≡ get_or cs p 0 → ⊥)
     × ((c : ℕ) → c < get_or cs p 0 → (q : ℕ) × (q < p) × Conflict ts w q p × (get_or cs q 0 ≡ c))
 
--- that, of rows from here on
+-- two rows with a common target, the first of which isn't before `first`
 abbrev pub MeetFrom : List ℕ → ℕ → ℕ → ℕ → ℕ → Type 0
 MeetFrom ts w first q p = (first ≤ q) × Conflict ts w q p
 
--- that, of places of one block
+-- two places of one block with a common target
 abbrev pub MeetWithin : List ℕ → ℕ → ℕ → ℕ → ℕ → Type 0
 MeetWithin ts w size q p = (q / size ≡ p / size) × Conflict ts w q p
 

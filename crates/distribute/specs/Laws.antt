@@ -24,7 +24,7 @@ SameOutcome Same (Ok x) (Err f) = ⊥
 SameOutcome Same (Err e) (Ok y) = ⊥
 SameOutcome Same (Err e) (Err f) = e ≡ f
 
--- new numbers
+-- what is asked for new numbers has one outcome
 abbrev pub NumbersAreOne : Type 0
 NumbersAreOne =
     (g : MeshValue) (name : Option (List ℕ)) (a b : Result Perms NumbersRefusal)
@@ -33,7 +33,7 @@ NumbersAreOne =
     → NumbersAre g name b
     → SameOutcome SamePerms a b
 
--- owners
+-- what is asked for owners has one outcome
 abbrev pub OwnersAreOne : Type 0
 OwnersAreOne =
     (g : MeshValue) (ranks : ℕ) (parts : Parts) (a b : Result Owners OwnersRefusal)
@@ -43,7 +43,7 @@ OwnersAreOne =
     → OwnersAre g ranks parts b
     → SameOutcome SameOwners a b
 
--- distributions by the same owners and new numbers
+-- a mesh has one distribution by the same owners and new numbers
 abbrev pub DistributionsAreOne : Type 0
 DistributionsAreOne =
     (g : MeshValue) (o u : Owners) (p q : Perms) (a b : Distribution)

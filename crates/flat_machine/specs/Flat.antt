@@ -89,7 +89,7 @@ module _ {F : Type 0} (p : Setup F) (l : Layout F) where
       }
   open_pane k r x (Leaves ws) f = record f { panes = put3 k r x (Windows ws) f.panes }
 
-  -- e is the place's element
+  -- an end: the windows go back into memory, an owned element's reductions into the partials; e is the place's element
   abbrev pub close_pane : ℕ → ℕ → ℕ → ℕ → Pane → Flat F → Flat F
   close_pane k r x e Shut_pane f = record f { panes = put3 k r x Shut_pane f.panes }
   close_pane k r x e Broken_pane f = record f { panes = put3 k r x Shut_pane f.panes }

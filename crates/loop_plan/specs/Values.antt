@@ -77,10 +77,10 @@ module _ (p : PlanValue) where
   abbrev pub places_in : ℕ → ℕ → ℕ
   places_in s r = slice_index (site_plan s).places r
 
-  -- loop, rank, block
+  -- loop, rank, block: the colour of the block
   abbrev pub block_colour_in : ℕ → ℕ → ℕ → ℕ
   block_colour_in s r b = slice_index (slice_index_or (map (λ (c : Colours). c.blocks.items) (site_plan s).colours) r []) b
 
-  -- loop, rank, place
+  -- loop, rank, place: the colour of the place within its block
   abbrev pub inner_colour_in : ℕ → ℕ → ℕ → ℕ
   inner_colour_in s r x = slice_index (slice_index_or (map (λ (c : Colours). c.inner.items) (site_plan s).colours) r []) x

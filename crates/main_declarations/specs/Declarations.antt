@@ -108,13 +108,13 @@ module _ (places : List Pos) where
 
   -- ---- sets
 
-  -- the value of a size, or its fault
+  -- the value of a size is negative or above its limit, or has a fault
   abbrev pub value_found : Declared → (t first : ℕ) → Value → List Found
   value_found k t first (Err f) = found_if places true first refusal.ControlNotStatic
   value_found k t first (Ok (negsuc n)) = found_in SizeValue true first (refusal.DimMismatch (place places first))
   value_found k t first (Ok (pos n)) = found_over SizeValue max_size n t counted.SetSize ++ cells_found t (k.filled + n)
 
-  -- the size
+  -- the size isn't known before the run, or its value is wrong
   abbrev pub size_found : Declared → ℕ → ExprTree → List Found
   size_found k t e =
       if is_static (resolved places k.names e) then value_found k t (first_token e) (value [] [] (resolved places k.names e))

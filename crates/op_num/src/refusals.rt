@@ -1,3 +1,5 @@
+// Why an operation has no value, and why a text spells no number.
+
 use std::alloc::AllocError;
 use thiserror::Error;
 

@@ -1,3 +1,5 @@
+// What can fail outside of the program: a read, a write, and getting memory.
+
 ghost use Rattle.std.specs.Prelude.{◌≡◌};
 ghost use Rattle.op_outside.specs.declared.faults.ReadRefusal.TheVariants.{OutOfMemory as WantOfMemory};
 

@@ -35,11 +35,11 @@ abbrev pub noted : {F : Type 0} → ℕ → ℕ → Option F → Option (Stop F)
 noted k e None before = before
 noted k e (Some f) before = kept before (record { item = k; element = Some e; fault = f })
 
--- begin: the element's windows are copied into a frame and its kernel runs there
+-- begin: the frame is opened with what the kernel's run left, or its fault is recorded
 abbrev pub begun_as : {F : Type 0} → ℕ → ℕ → ℕ → ℕ → Core F → State F → State F
 begun_as k r x e ran st = record st { frames = opened k r x ran (st.frames.left - 1) st.frames; fault = noted k e (fault_of ran) st.fault }
 
--- begin: the element's kernel runs on its windows, the constants being the variables at these indices
+-- begin: the element's windows are copied into a frame and its kernel runs there; the constants are the variables at these indices
 abbrev pub begun : {F : Type 0} → (ℕ → ℕ → List ℤ → List ℤ → Core F) → List ℕ → ℕ → ℕ → ℕ → ℕ → List Span → List Scalar → State F → State F
 begun core cs k r x e spans scalars st =
     begun_as k r x e (core k e (values_at st.variables cs) (windows_of st r spans scalars)) st

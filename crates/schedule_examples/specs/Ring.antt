@@ -14,7 +14,7 @@ abbrev pub other : ℕ → ℕ
 other zero = 1
 other (suc n) = 0
 
--- x and r of a node, and the sum
+-- x of a node
 abbrev pub x_cell : ℕ → DatCell
 x_cell n = record { dat = 0; element = n; component = 0 }
 
@@ -34,27 +34,27 @@ one_cell = record { variable = 1; component = 0 }
 abbrev pub base_cell : VarCell
 base_cell = record { variable = 2; component = 0 }
 
--- as cells
+-- x of a node, as a cell
 abbrev pub x : ℕ → Cell
 x n = Data (x_cell n)
 
--- r of a node
+-- r of a node, as a cell
 abbrev pub r : ℕ → Cell
 r n = Data (r_cell n)
 
--- the sum
+-- the sum, as a cell
 abbrev pub sum : Cell
 sum = Variable sum_cell
 
--- the constant one
+-- the constant one, as a cell
 abbrev pub one : Cell
 one = Variable one_cell
 
--- the base
+-- the base, as a cell
 abbrev pub base : Cell
 base = Variable base_cell
 
--- the cell is x, or r, of one of the nodes
+-- the cell is x of one of the nodes
 abbrev pub is_x : DatCell → Bool
 is_x c = (c.dat == 0) && (nat_lt c.element 2 && (c.component == 0))
 
@@ -66,11 +66,11 @@ is_r c = (c.dat == 1) && (nat_lt c.element 2 && (c.component == 0))
 abbrev pub is_sum : VarCell → Bool
 is_sum v = (v.variable == 0) && (v.component == 0)
 
--- the constant's
+-- the cell is the constant's
 abbrev pub is_one : VarCell → Bool
 is_one v = (v.variable == 1) && (v.component == 0)
 
--- the base's
+-- the cell is the base's
 abbrev pub is_base : VarCell → Bool
 is_base v = (v.variable == 2) && (v.component == 0)
 
@@ -111,17 +111,17 @@ reduces zero v = None
 reduces (suc zero) v = cond (is_sum v) (Some Add) None
 reduces (suc (suc n)) v = None
 
--- what the kernels leave in a cell
+-- what item 0 leaves in a cell
 abbrev pub written : ℕ → Store → Store
 written e s (Data c) = cond (is_x c && (c.element == e)) (int_wrap w32 (pos (suc e) +ℤ (s base +ℤ s base))) (s (Data c))
 written e s (Variable v) = s (Variable v)
 
--- item 1
+-- what item 1 leaves in a cell
 abbrev pub added : Store → Store
 added s (Data c) = cond (is_r c) (int_wrap w32 (s (Data c) +ℤ s (x (other c.element)))) (s (Data c))
 added s (Variable v) = cond (is_sum v) (int_wrap w32 (s (Variable v) +ℤ s one)) (s (Variable v))
 
--- item 3
+-- what item 3 leaves in a cell
 abbrev pub moved : ℕ → Store → Store
 moved e s (Data c) = cond (is_x c && (c.element == e)) (int_wrap w32 (s (Data c) +ℤ s (r e))) (s (Data c))
 moved e s (Variable v) = s (Variable v)
@@ -170,12 +170,12 @@ sends zero s t = false
 sends (suc zero) s t = ((s == 0) && (t == 1)) || ((s == 1) && (t == 0))
 sends (suc (suc n)) s t = false
 
--- each rank imports the other's edge to execute it, and the other's node
+-- each rank imports the other's edge to execute it
 abbrev pub import_execute : ℕ → ℕ → ℕ → Bool
 import_execute t zero e = false
 import_execute t (suc n) e = e == other t
 
--- the other's node
+-- each rank imports the other's node to read it
 abbrev pub import_nonexecute : ℕ → ℕ → ℕ → Bool
 import_nonexecute t zero e = e == other t
 import_nonexecute t (suc n) e = false

@@ -119,7 +119,7 @@ written_back p k r e t st =
       frames = put3 k r e Shut st.frames;
     }
 
--- in every case the frame is shut
+-- an end: what the frame has is written back, and in every case the frame is shut
 abbrev pub closed : {F : Type 0} → Setup F → ℕ → ℕ → ℕ → Frame → State F → State F
 closed p k r e Shut st = record st { frames = put3 k r e Shut st.frames }
 closed p k r e Broken st = record st { frames = put3 k r e Shut st.frames }
