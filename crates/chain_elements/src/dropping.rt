@@ -14,7 +14,8 @@ use chain_memory::{Blocks, Loop, target_of};
 use chain_slices::Slices;
 use chain_stores::clear_pair;
 
-// The same of an argument, where it is on a dat.
+// Sets the pair that an element reaches by an argument on a dat to 0 in the rank's block, where the rank doesn't need it before the
+// item at which the chain began.
 fn drop_arg(
     memory: &mut [i32],
     blocks: &Blocks<'_>,

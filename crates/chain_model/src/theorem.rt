@@ -1,4 +1,4 @@
-// The theorem on chains. Each function has an empty body, and its contract is the theorem.
+// The theorems on chains. Each function does nothing, and its contract is the theorem.
 ghost use Rattle.std.specs.Prelude.{ℕ, Bool};
 ghost use Rattle.schedule_model.specs.Setup.{Setup};
 ghost use Rattle.schedule_model.specs.Laws.{Lawful};

@@ -43,7 +43,7 @@ pub fn read_words<'a>(alloc: Global, words: &'a Vec<String>) -> Result<Asked<'a>
     }
 }
 
-// What words are asked for that `clap` has matched.
+// What words ask for that `clap` has matched.
 fn job_of<'a>(matches: &ArgMatches<'a>) -> Result<Asked<'a>, WordsRefusal>
     ensures { AsksBy result (asked (first_value (found_of matches.now) (codes "JOB"))
         (first_value (found_of matches.now) (codes "INPUT")) (first_value (found_of matches.now) (codes "MESH"))
@@ -87,7 +87,7 @@ pub fn is_set(word: Option<&str>) -> bool
     word == Some("true")
 }
 
-// What words are asked for that `clap` has not: `--help` and `--version` have errors of their own.
+// What words ask for that `clap` hasn't matched: `--help` and `--version` have errors of their own.
 fn refused<'a>(error: &Error) -> Result<Asked<'a>, WordsRefusal>
     ensures kind { (rows : List Row) → AsksBy result (judged (kind_of error.now ∷ []) rows) }
     ensures memory { kind_of error.now ≡ kind.OutOfMemory → result ≡ Err OutOfMemory }

@@ -3,9 +3,8 @@
 //!
 //! `bound_input` gives the program bound to its mesh, whose kernels keep to their accesses; `state_text_of` and `chosen_by` give the
 //! program whose items run, the whole or a part of it; `numbers_of`, `partition_of` and `owners_of` give the new numbers and the owners
-//! that the options ask for, and `plan_text_of` the text of a plan. `expect_input` and those beside it say which files a job reads, and in
-//! which order. Of a source alone `translation_of` and `restoration_of` give what
-//! it is translated or restored to.
+//! that the options ask for, and `plan_text_of` the text of a plan. `expect_input` and those beside it say which files a job reads, and
+//! in which order. Of a source alone `translation_of` and `restoration_of` give what it is translated or restored to.
 #![tactic(auto)]
 
 mod accesses;

@@ -1,6 +1,6 @@
 //! There is a distribution and a plan for whatever words ask for.
 //!
-//! Each function has an empty body, and its contract is the law. The values are made in the proofs: lists by number, in
+//! Each function does nothing, and its contract is the law. The values are made in the proofs: lists by number, in
 //! vectors that lie nowhere.
 #![tactic(auto)]
 

@@ -78,9 +78,9 @@ fn run_looked_up(
 /// of the batch's elements, or where the loop reduces into no variable.
 ///
 /// Where it answers `true`, the kernel ran for the places of the batch one after another, with the first values of the loop's scalars
-/// behind the memory for each of them. Where it answers `false`, memory and partials are as they were: then a row has a fault or an
-/// index of its own, two arguments meet in an element, a place stands twice in a batch whose places must differ, or the code may leave
-/// out operations. It takes no memory.
+/// behind the memory for each of them. Where it answers `false`, memory and partials are as they were: then a row has a fault, an index
+/// in a slot differs from row to row, rows choose different parts of the code, two arguments meet in an element, or a place stands twice
+/// in a batch whose places must differ. It takes no memory.
 pub fn run_batch(
     rows: &RowLoop<'_>,
     batch: &Numbers,

@@ -1,4 +1,4 @@
-// What taking lists of steps shows. Each function has an empty body, and its contract is the law.
+// What taking lists of steps shows. Each function does nothing, and its contract is the law.
 ghost use Rattle.std.specs.Prelude.{◌≡◌, ◌↔◌, Bool, false, List, ◌∷◌, ◌++◌, Err, None};
 ghost use Rattle.schedule_steps.specs.Outline.{Outline};
 ghost use Rattle.schedule_steps.specs.declared.step.Step.{Step};
