@@ -6,6 +6,7 @@ ghost use Rattle.kernel_model.specs.SameTokens.{same_form, same_which, same_unar
 use c_tree::{BinaryOp, MinMax, UnaryOp};
 use kernel_types::{ElementForm, RExpr};
 
+/// Whether two elements are written in the same form, with an index or with `*`.
 pub fn is_same_form(a: ElementForm, b: ElementForm) -> bool
     ensures { result ≡ same_form a b }
 {

@@ -120,6 +120,7 @@ fn only_reads(access: Access) -> bool
     }
 }
 
+/// Whether the access is OP_WRITE.
 pub fn only_writes(access: Access) -> bool
     ensures { result ≡ is_op_write (access_of access) }
 {

@@ -35,8 +35,8 @@ fn colour_row(
     Ok(())
 }
 
-// Colours the rows of `width` targets each: with the least number that no earlier row with a common target has. The
-// masks are clear before and after it.
+/// Colours the rows of `width` targets each: with the least number that no earlier row with a common target has. The
+/// masks are clear before and after it.
 pub fn colour_rows(
     targets: &[u32],
     width: usize,

@@ -7,21 +7,21 @@ use op_num::OutOfMemory;
 use std::alloc::Global;
 use std::collections::HashMap;
 
-// The words of all targets.
+/// The words of all targets.
 #[derive(Drop)]
 pub struct Masks {
-    // Each target's word 0.
+    /// Each target's word 0.
     pub first: Vec<u32>,
-    // By target and number, the later words that have a colour.
+    /// By target and number, the later words that have a colour.
     pub later: HashMap<(u32, u32), u32>,
-    // How many later words each target has.
+    /// How many later words each target has.
     pub counts: Vec<u32>,
-    // By two targets and a word: the end of words from that one on of which each colour is one of either target's.
+    /// By two targets and a word: the end of words from that one on of which each colour is one of either target's.
     pub passed: HashMap<(u32, u32, u32), u32>,
 }
 
 impl Masks {
-    // No colours for `total` targets.
+    /// No colours for `total` targets.
     pub fn new(alloc: Global, total: u32) -> Result<Masks, OutOfMemory>
         ensures length { IfOk result (λ m. length m.first.items ≡ total) }
         ensures clear { IfOk result IsClear }
@@ -34,7 +34,7 @@ impl Masks {
         })
     }
 
-    // A target's word.
+    /// The colours of a target in the word of that number.
     pub fn word(&self, target: u32, number: u32) -> u32
         requires { target < length self.now.first.items }
         ensures { result ≡ mask_of self.now target number }
@@ -46,7 +46,7 @@ impl Masks {
         }
     }
 
-    // The colours of a word that some of these targets have.
+    /// The colours of a word that some of these targets have.
     pub fn joined(&self, targets: &[u32], start: usize, end: usize, number: u32) -> u32
         requires start { start ≤ end }
         requires end { end ≤ length targets.now }
@@ -97,7 +97,7 @@ impl Masks {
         Ok(())
     }
 
-    // Gives these targets one colour more.
+    /// Gives these targets one colour more.
     pub fn add(
         &mut self,
         targets: &[u32],
@@ -135,7 +135,7 @@ impl Masks {
         }
     }
 
-    // Takes all colours from these targets, which alone have any.
+    /// Takes all colours from these targets, which alone have any.
     pub fn clear(&mut self, targets: &[u32])
         requires targets { EachIndex targets.now (λ k. slice_index targets.now k < length self.old.first.items) }
         requires others { (t : ℕ) → ((k : ℕ) → k < length targets.now → slice_index targets.now k ≡ t → ⊥)
@@ -168,7 +168,7 @@ fn clear_counts(counts: &mut [u32], targets: &[u32]) {
     }
 }
 
-// The least colour that isn't there.
+/// The least colour that isn't there.
 pub fn free_bit(mask: u32) -> Option<u32>
     ensures { MatchOption result ((b : ℕ) → b < 32 → bit_at mask b ≡ 1) (λ c. (c < 32) × (bit_at mask c ≡ 0)
         × ((b : ℕ) → b < c → bit_at mask b ≡ 1)) }

@@ -51,8 +51,8 @@ fn row_meets(
     false
 }
 
-// Whether two of these rows, which stand by colour, have one colour and a common target. Before it no target is marked but
-// with a row before `first`.
+/// Whether two of these rows, which stand by colour, have one colour and a common target. Before it no target is marked but
+/// with a row before `first`.
 pub fn rows_meet(
     targets: &[u32],
     width: usize,
@@ -88,7 +88,7 @@ fn colour_of(colours: &[u32], row: u32) -> u32
     colours.get(row as usize).copied().unwrap_or(0)
 }
 
-// Puts the rows from `first` up to `last` by colour, in place of what `order` has.
+/// Puts the rows from `first` up to `last` by colour, in place of what `order` has.
 pub fn order_rows(
     order: &mut Vec<u32>,
     colours: &[u32],

@@ -160,7 +160,7 @@ impl Masks {
         Ok(next.max(number + 1))
     }
 
-    // The least colour that none of these targets has, of which they have no more than the `most` least.
+    /// The least colour that none of these targets has, of which they have no more than the `most` least.
     pub fn free_colour(
         &mut self,
         targets: &[u32],

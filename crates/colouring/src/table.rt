@@ -59,7 +59,7 @@ fn give_numbers(
     Ok((starts, total))
 }
 
-// The number of each argument's local element 0, and how many numbers there are.
+/// The number of each argument's local element 0, and how many numbers there are.
 pub fn first_numbers(
     alloc: Global,
     mesh: &Mesh,
@@ -119,7 +119,7 @@ fn push_numbers(
     Ok(())
 }
 
-// The numbers of all targets of these places.
+/// The numbers of all targets of these places.
 pub fn target_table(
     alloc: Global,
     mesh: &Mesh,

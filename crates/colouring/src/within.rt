@@ -40,7 +40,7 @@ fn colour_places(
     Ok(())
 }
 
-// The colours of the places within each block.
+/// The colours of the places within each block.
 pub fn inner_colours(
     alloc: Global,
     table: &[u32],
@@ -112,7 +112,7 @@ fn colour_block_rows(
     Ok(())
 }
 
-// The colours of the blocks.
+/// The colours of the blocks.
 pub fn block_colours(
     alloc: Global,
     table: &[u32],

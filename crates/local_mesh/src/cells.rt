@@ -8,7 +8,7 @@ use mesh_decl::Mesh;
 use op_num::OutOfMemory;
 use std::alloc::{AllocError, Global};
 
-// The first cell of each dat, and how many cells there are.
+/// The first cell of each dat, and how many cells there are.
 pub fn first_cells(
     alloc: Global,
     mesh: &Mesh,

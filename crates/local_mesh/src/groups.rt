@@ -12,7 +12,7 @@ use op_num::OutOfMemory;
 use rank_sets::{RankSet, push_each};
 use std::alloc::Global;
 
-// How many elements each rank owns.
+/// How many elements each rank owns.
 pub fn owned_counts(alloc: Global, owners: &[u32], ranks: u32) -> Result<Vec<usize>, OutOfMemory>
     requires { (x : ℕ) → x < length owners.now → slice_index owners.now x < ranks }
     ensures { IfOk result (λ v. length v.items ≡ ranks) }
@@ -35,7 +35,7 @@ fn lengths_of(alloc: Global, lists: &[Vec<u32>]) -> Result<Vec<usize>, OutOfMemo
     Ok(lengths)
 }
 
-// Empty lists, with room for so many numbers each.
+/// Empty lists, with room for so many numbers each.
 pub fn lists_with_room(alloc: Global, rooms: &[usize]) -> Result<Vec<Vec<u32>>, OutOfMemory>
     ensures length { IfOk result (λ v. length v.items ≡ length rooms.now) }
     ensures empty { IfOk result (λ v. (r : ℕ) → r < length rooms.now → row v.items r ≡ []) }
@@ -82,7 +82,7 @@ fn ranks_listing(alloc: Global, lists: &[Vec<u32>], size: u32) -> Result<Vec<Ran
     Ok(sets)
 }
 
-// Puts each element, in the given order, into the list of its owner.
+/// Puts each element, in the given order, into the list of its owner.
 pub fn push_owned(lists: &mut [Vec<u32>], owners: &[u32], order: &[u32]) -> Result<(), OutOfMemory>
     requires few { length lists.old ≤ 64 }
     requires owners { (x : ℕ) → x < length owners.now → slice_index owners.now x < length lists.old }
@@ -139,8 +139,8 @@ fn push_copies(
     Ok(())
 }
 
-// By rank what it owns, imports to execute and imports to read of a set, and all of these; `order` has the original
-// numbers by new number.
+/// By rank what it owns, imports to execute and imports to read of a set, and all of these; `order` has the original
+/// numbers by new number.
 pub fn groups_by_rank(
     alloc: Global,
     owners: &[u32],

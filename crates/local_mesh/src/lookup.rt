@@ -7,7 +7,7 @@ use crate::originals::{locals_of, number_locals};
 use op_num::OutOfMemory;
 use std::alloc::Global;
 
-// How the local number of an element is found among original numbers.
+/// How the local number of an element is found among original numbers.
 #[derive(Debug, Drop)]
 pub enum Lookup {
     // These are three stretches, each in increasing order: the first ends at `owned`, the second at `executed`.
@@ -48,8 +48,8 @@ fn place_in_stretches(numbers: &[u32], owned: usize, executed: usize, number: u3
 }
 
 impl Lookup {
-    // Of these numbers, of which `copies` has all in increasing order; without it they are three stretches, each in
-    // increasing order: the first ends at `owned`, the second at `executed`. What is in `scratch` is lost.
+    /// Of these numbers, of which `copies` has all in increasing order; without it they are three stretches, each in
+    /// increasing order: the first ends at `owned`, the second at `executed`. What is in `scratch` is lost.
     pub fn new(
         alloc: Global,
         numbers: &[u32],
@@ -71,7 +71,7 @@ impl Lookup {
         Ok(Lookup::Sorted { copies, locals })
     }
 
-    // The local number of an element, or none where it isn't among these numbers. It takes time logarithmic in them.
+    /// The local number of an element, or none where it isn't among these numbers. It takes time logarithmic in them.
     pub fn local_of(&self, numbers: &[u32], original: u32) -> Option<u32>
         requires { Finds numbers.now self.now }
         ensures some { IfSome result (λ l. (l < length numbers.now) × (slice_index numbers.now l ≡ original)) }

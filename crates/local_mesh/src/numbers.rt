@@ -52,8 +52,8 @@ fn own_flags(
     Ok(found)
 }
 
-// One set of a rank, from its three groups by new number, and from which elements are core: `copies` has all their
-// elements by original number, unless each group rises. What is in `scratch` is lost.
+/// One set of a rank, from its three groups by new number, and from which elements are core: `copies` has all their
+/// elements by original number, unless each group rises. What is in `scratch` is lost.
 pub fn local_set(
     alloc: Global,
     own: &[u32],
@@ -117,7 +117,7 @@ fn set_of_rank(
     Ok(set)
 }
 
-// The sets of a rank. What is in `scratch` is lost.
+/// The sets of a rank. What is in `scratch` is lost.
 pub fn local_sets(
     alloc: Global,
     groups: &[Groups],

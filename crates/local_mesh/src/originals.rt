@@ -65,7 +65,7 @@ pub fn number_locals(numbers: &mut [u32], original: &[u32])
     }
 }
 
-// What stands at each of these places.
+/// What stands at each of these places.
 pub fn locals_of(alloc: Global, places: &[u32], numbers: &[u32]) -> Result<Vec<u32>, OutOfMemory>
     requires { (k : ℕ) → k < length places.now → slice_index places.now k < length numbers.now }
     ensures length { IfOk result (λ v. length v.items ≡ length places.now) }

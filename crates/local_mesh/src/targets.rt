@@ -80,7 +80,7 @@ fn local_map(
     Ok(table)
 }
 
-// The local targets by each map of what a rank executes. What is in `scratch` is lost.
+/// The local targets by each map of what a rank executes. What is in `scratch` is lost.
 pub fn local_maps(
     alloc: Global,
     mesh: &Mesh,

@@ -58,8 +58,8 @@ impl RankMesh {
     }
 }
 
-// By rank what the rank owns, imports to execute and imports to read of one set, each by new number; and all of these
-// by original number, unless new numbers are the original ones.
+/// By rank what the rank owns, imports to execute and imports to read of one set, each by new number; and all of these
+/// by original number, unless new numbers are the original ones.
 #[derive(Drop)]
 pub struct Groups {
     pub own: Vec<Vec<u32>>,

@@ -137,7 +137,7 @@ pub fn run_at(bound: &Bound, item: usize) -> LoopRun
     run_of_item(&bound.trace[item])
 }
 
-// The dats that an item exchanges; behind it the bits are those behind the item.
+/// The dats that an item exchanges; behind it the bits are those behind the item.
 pub fn exchange_at(
     alloc: Global,
     bound: &Bound,

@@ -6,6 +6,7 @@ ghost use Rattle.loop_plan.specs.Needs.{reads_copies, arg_needs, needs};
 
 use bound_program::{Access, Arg, Via};
 
+/// Whether amounts are merged by the access: OP_INC, OP_MIN or OP_MAX.
 pub fn is_merged(access: Access) -> bool
     ensures { result ≡ is_reducing access }
 {

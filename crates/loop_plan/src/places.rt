@@ -15,7 +15,7 @@ use local_mesh::{LocalSet, RankMesh};
 use op_num::OutOfMemory;
 use std::alloc::Global;
 
-// The sets of a rank.
+/// The sets of a rank.
 pub fn sets_on(ranks: &[RankMesh], rank: usize) -> &[LocalSet]
     requires { rank < length ranks.now }
     ensures { result.now ≡ sets_of ranks.now rank }

@@ -20,7 +20,7 @@ pub fn access_of(word: AccessWord) -> Access
     }
 }
 
-// An access that no global has, or that a kept one has not.
+/// Whether an access is one that no global has, or that a kept one has not.
 pub fn is_reserved(is_kept: bool, access: Access) -> bool
     ensures { result ≡ is_reserved is_kept access }
 {

@@ -9,6 +9,7 @@ pub enum Keyword {
     Done,
 }
 
+/// Whether the token is the first one of every partition file.
 pub fn is_magic(text: &[u8]) -> bool
     ensures { result ≡ magic text.now }
 {
@@ -21,6 +22,7 @@ fn magic_word() -> &'static [u8]
     b"op2part"
 }
 
+/// Whether the token names the version that is read.
 pub fn is_version(text: &[u8]) -> bool
     ensures { result ≡ version text.now }
 {
@@ -33,6 +35,7 @@ fn version_word() -> &'static [u8]
     b"1"
 }
 
+/// The word of the format that the token is, if any.
 pub fn read_keyword(text: &[u8]) -> Option<Keyword>
     ensures { result ≡ keyword_of text.now }
 {

@@ -5,7 +5,7 @@ ghost use Rattle.partition.specs.Block.{InBlock};
 use op_num::OutOfMemory;
 use std::alloc::Global;
 
-// The rank in whose block an element lies.
+/// The rank in whose block an element lies.
 pub fn block_owner(size: u32, ranks: u32, element: u32) -> u32
     requires ranks { 0 < ranks }
     requires element { element < size }
@@ -16,7 +16,7 @@ pub fn block_owner(size: u32, ranks: u32, element: u32) -> u32
     (((element as u64 + 1) * ranks as u64 - 1) / size as u64) as u32
 }
 
-// The owners of one set's elements by blocks.
+/// The owners of one set's elements by blocks.
 pub fn block_set(alloc: Global, size: u32, ranks: u32) -> Result<Vec<u32>, OutOfMemory>
     requires ranks { 0 < ranks }
     ensures length { IfOk result (λ v. length v.items ≡ size) }

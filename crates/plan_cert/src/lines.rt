@@ -22,7 +22,7 @@ use loop_plan::{ItemPlan, put_item_at, put_rank_halo};
 use op_num::{OutOfMemory, put_u64, read_u64};
 use std::alloc::Global;
 
-// The first line.
+/// Takes the first line, which says that the text is a plan; `Header` where another stands there.
 pub fn take_header(lines: &mut Lines) -> Result<(), CertRefusal>
     ensures { (b : BoundValue) (meshes : List RankMeshValue) (size : ℕ)
         → JudgesAmong b meshes size (Exactly 1 header_line ∷ []) lines.old lines.new (λ _. []) result }
@@ -58,7 +58,7 @@ fn put_sizes_front(text: &mut Vec<u8>, ranks: u32) -> Result<(), OutOfMemory>
     Ok(())
 }
 
-// The second line, which tells the block size.
+/// Takes the second line, which tells how many ranks there are, and gives its block size; `Ranks` where another stands there.
 pub fn take_sizes(alloc: Global, lines: &mut Lines, ranks: u32) -> Result<u32, CertRefusal>
     ensures some { IfOk result (λ size. (0 < size) × (size ≤ 65536)) }
     ensures judged { (b : BoundValue) (meshes : List RankMeshValue) → length meshes ≡ ranks → MatchResult result
@@ -133,7 +133,7 @@ fn take_set(
     Ok(())
 }
 
-// The lines of all sets.
+/// Takes the lines of the halos of all sets on all ranks; `Halo` at the first that isn't the program's.
 pub fn take_halos(
     alloc: Global,
     lines: &mut Lines,
@@ -176,7 +176,7 @@ fn take_item(
     Ok(())
 }
 
-// The lines of all items.
+/// Takes the lines of all items; `Item` at the first that isn't the program's.
 pub fn take_items(
     alloc: Global,
     lines: &mut Lines,
@@ -196,7 +196,7 @@ pub fn take_items(
     Ok(())
 }
 
-// The last line, behind which nothing stands.
+/// Takes the last line; `End` where another stands there or anything behind it.
 pub fn take_end(lines: &mut Lines) -> Result<(), CertRefusal>
     ensures judged { (b : BoundValue) (meshes : List RankMeshValue) (size : ℕ)
         → JudgesAmong b meshes size (Done ∷ []) lines.old lines.new (λ _. []) result }

@@ -135,7 +135,7 @@ fn take_loop(
     Ok(SitePlan { places, colours })
 }
 
-// The plans of the loops that run, from their lines.
+/// Takes the lines of the loops that run, and gives their plans.
 pub fn take_sites(
     alloc: Global,
     lines: &mut Lines,

@@ -46,6 +46,7 @@ impl RankSet {
         }
     }
 
+    /// Whether no rank is in the set.
     pub fn is_empty(self) -> bool
         ensures { IsTrue result ↔ ((k : ℕ) → k < 64 → has self k ≡ false) }
     {

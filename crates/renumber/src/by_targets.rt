@@ -72,8 +72,8 @@ fn least_targets(
     Ok(least)
 }
 
-// The elements of the set from which the map leads, by (least new number among the targets, number); `order` has the
-// original numbers of the set to which it leads, by new number.
+/// The elements of the set from which the map leads, by (least new number among the targets, number); `order` has the
+/// original numbers of the set to which it leads, by new number.
 pub fn by_targets(
     alloc: Global,
     mesh: &Mesh,

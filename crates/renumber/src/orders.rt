@@ -9,7 +9,7 @@ use mesh_decl::Mesh;
 use op_num::OutOfMemory;
 use std::alloc::Global;
 
-// The numbers below a bound, in increasing order.
+/// The numbers below a bound, in increasing order.
 pub fn counting(alloc: Global, size: u32) -> Result<Vec<u32>, OutOfMemory>
     ensures length { IfOk result (λ v. length v.items ≡ size) }
     ensures kept { IfOk result (λ v. (x : ℕ) → x < size → slice_index v.items x ≡ x) }
@@ -21,14 +21,14 @@ pub fn counting(alloc: Global, size: u32) -> Result<Vec<u32>, OutOfMemory>
     Ok(numbers)
 }
 
-// The numbers from the last to the first.
+/// The numbers from the last to the first.
 pub fn reversed(alloc: Global, numbers: &[u32]) -> Result<Vec<u32>, OutOfMemory>
     ensures { IfOk result (λ v. v.items ≡ reverse numbers.now) }
 {
     numbers.iter().rev().copied().collect(alloc)
 }
 
-// The original numbers of a set by new number, where `order` has those of the set to which the map leads.
+/// The original numbers of a set by new number, where `order` has those of the set to which the map leads.
 pub fn set_order(
     alloc: Global,
     mesh: &Mesh,

@@ -25,6 +25,7 @@ pub enum Keyword {
     Done,
 }
 
+/// Whether the token is the first one of every schedule file.
 pub fn is_magic(text: &[u8]) -> bool
     ensures { result ≡ magic text.now }
 {
@@ -37,6 +38,7 @@ fn magic_word() -> &'static [u8]
     b"op2sched"
 }
 
+/// Whether the token names the version that is read.
 pub fn is_version(text: &[u8]) -> bool
     ensures { result ≡ version text.now }
 {
@@ -49,6 +51,7 @@ fn version_word() -> &'static [u8]
     b"1"
 }
 
+/// The word of the format that the token is, if any.
 pub fn read_keyword(text: &[u8]) -> Option<Keyword>
     ensures { result ≡ keyword_of text.now }
 {

@@ -71,7 +71,7 @@ fn take_dat(
     Ok(Values::new(values))
 }
 
-// Takes the lines of all dats, and gives their values in order.
+/// Takes the lines of all dats, and gives their values in order.
 pub fn take_dats(alloc: Global, lines: &mut Lines, mesh: &Mesh) -> Result<Vec<Values>, StateRefusal>
     ensures judged { (b : BoundValue) (k : ℕ) → JudgesAmong b k (awaited_dats mesh.now) lines.old lines.new
         (λ v. flat_map (λ z. z) v.items) result }

@@ -12,7 +12,7 @@ use itoa::Buffer;
 use line_texts::{Lines, Words};
 use op_num::{OutOfMemory, read_i32, read_u64};
 
-// Takes the next line where it is this one, which is given without its LF.
+/// Takes the next line where it is this one, which is given without its LF.
 pub fn take_exactly(lines: &mut Lines, line: &[u8]) -> Result<(), StateRefusal>
     ensures { (b : BoundValue) (k : ℕ)
         → JudgesAmong b k (Exactly (line.now ++ codes "\n") ∷ []) lines.old lines.new (λ _. []) result }
@@ -47,7 +47,7 @@ fn told_values(line: &[u8], count: usize, values: &mut Vec<i32>) -> Result<bool,
     Ok(words.next().is_none())
 }
 
-// Takes a line of so many values, and appends them.
+/// Takes a line of so many values, and appends them.
 pub fn take_values(
     lines: &mut Lines,
     count: usize,
@@ -85,7 +85,7 @@ fn told_item(line: &[u8]) -> Option<u32>
     Some(item)
 }
 
-// Takes the line of the item before which the program was cut, and gives its number.
+/// Takes the line of the item before which the program was cut, and gives its number.
 pub fn take_item(lines: &mut Lines, bound: &Bound) -> Result<u32, StateRefusal>
     requires { length bound.now.trace.items < 2 ^ 32 }
     ensures { MatchResult result
@@ -106,7 +106,7 @@ pub fn take_item(lines: &mut Lines, bound: &Bound) -> Result<u32, StateRefusal>
     Ok(item)
 }
 
-// Takes the last line, behind which nothing stands.
+/// Takes the last line, behind which nothing stands.
 pub fn take_end(lines: &mut Lines) -> Result<(), StateRefusal>
     ensures judged { (b : BoundValue) (k : ℕ) → JudgesAmong b k (Done ∷ []) lines.old lines.new (λ _. []) result }
     ensures rest { OnOk result (lines.new.rest ≡ []) }

@@ -44,7 +44,7 @@ fn take_var(
     Ok(Values::new(values))
 }
 
-// Takes the lines of the variables that aren't `const`, and gives their values in order.
+/// Takes the lines of the variables that aren't `const`, and gives their values in order.
 pub fn take_vars(
     alloc: Global,
     lines: &mut Lines,

@@ -13,7 +13,7 @@ ghost use Rattle.step_judge.specs.Wanted.{wanted, IsPlanned, IsPlace, AreMarksOf
 use schedule_steps::Step;
 use step_marks::StepMarks;
 
-// Whether the step is not taken and, where a later step is given, has to come before it.
+/// Whether the step is not taken and, where a later step is given, has to come before it.
 pub fn is_wanted(marks: &StepMarks, step: Step, later: Option<Step>) -> bool
     requires step { IsStep (outline_of marks.now) step }
     requires later { IsPlanned (outline_of marks.now) later }
