@@ -154,7 +154,7 @@ pub record Shows (c : Call) (status : ℕ) (a : Answer) : Type 0 where
   pub faulty : status ≡ 9 → (c.out.1 ≡ appended c.out.0 a.out) ⊎ (Rose c.writes.0 c.writes.1 × AppendsFront c.out.0 a.out c.out.1)
   pub front : status ≡ 4 → (a.status ≡ 0) × Rose c.writes.0 c.writes.1 × AppendsFront c.out.0 a.out c.out.1
 
--- so it is by any answer over files that tell it
+-- the output shows every answer that files which tell the run give to these words
 abbrev pub IsShown : Call → ℕ → Type 0
 IsShown c status = (files : Files) (a : Answer) → TellTheAnswer c files → Answers c.words files a → Shows c status a
 
@@ -165,7 +165,7 @@ pub record Reports (c : Call) (status : ℕ) (files : Files) (a : Answer) : Type
   pub reported : IsReported c line
   pub of_answer : ¬ (status ≡ 1) → ¬ (status ≡ 3) → ¬ (status ≡ 4) → (line ≡ a.line) ⊎ SourceLacksTree c.words files
 
--- so it is by any answer over files that tell it
+-- what `err` has is in line with every answer that files which tell the run give to these words
 abbrev pub AreReported : Call → ℕ → Type 0
 AreReported c status = (files : Files) (a : Answer) → TellTheAnswer c files → Answers c.words files a → Reports c status files a
 

@@ -15,12 +15,12 @@ pub record SameChains (b : BoundValue) (ks : List RKernel) (o u : Owners) : Type
   pub ranks : o.ranks ≡ u.ranks
   pub owners : o.sets.items ≡ u.sets.items
 
--- such runs have one text of their counts, and one dump
+-- the runs of such programs over these owners have one text of their counts, and one dump
 pub record HaveOneText (b : BoundValue) (ks : List RKernel) (o u : Owners) : Type 0 where
   pub text : chains_text b o ≡ chains_text (with_kernels b ks) u
   pub dump : (dumps : Bool) (x : Option (Stop KernelFault))
       → dump_after b o dumps (chains_run b o) x ≡ dump_after (with_kernels b ks) u dumps (chains_run (with_kernels b ks) u) x
 
--- so it is with every program, kernels and owners that are the same
+-- wherever kernels and owners lie in memory, chains have one text and one dump
 abbrev pub ChainsAreOne : Type 0
 ChainsAreOne = (b : BoundValue) (ks : List RKernel) (o u : Owners) → SameChains b ks o u → HaveOneText b ks o u

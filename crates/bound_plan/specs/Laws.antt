@@ -51,7 +51,7 @@ PlansAcceptByPlace =
     → (steps : List Step)
     → Accepted (step_outline b meshes p) steps ↔ Accepted (by_place (setup_of b o meshes p) (layout_of b o meshes p)) steps
 
--- such a program whose kernels obey their modes, and that begins with numbers of 32 bits
+-- a planned program whose kernels obey their modes, and that begins with numbers of 32 bits
 pub record Runnable (b : BoundValue) (o : Owners) (n : Perms) (meshes : List RankMesh) (p : PlanValue) : Type 0 where
   pub planned : Planned b o n meshes p
   pub obey : AllObey b
@@ -64,14 +64,14 @@ SetupsAreLawful =
     → Runnable b o n meshes p
     → Lawful (setup_of b o meshes p)
 
--- its colours order the elements that modify a common cell
+-- the colours of a planned program's setup order the elements that modify a common cell
 abbrev pub SetupsAreColoured : Type 0
 SetupsAreColoured =
     (b : BoundValue) (o : Owners) (n : Perms) (meshes : List RankMesh) (p : PlanValue)
     → Planned b o n meshes p
     → Coloured (setup_of b o meshes p)
 
--- its parts are lawful, each as its own definition says it
+-- the parts of a planned program's setup are lawful, each as its own definition says it
 abbrev pub SetupsHaveParts : Type 0
 SetupsHaveParts =
     (b : BoundValue) (o : Owners) (n : Perms) (meshes : List RankMesh) (p : PlanValue)
@@ -90,7 +90,7 @@ pub record HasOneIndex (b : BoundValue) (o : Owners) (meshes : List RankMesh) : 
   pub places : (r i : ℕ) → r < o.ranks → i < cells_of meshes r → place_of meshes b.mesh r (cell_at meshes b.mesh r i) ≡ i
   pub variables : (i : ℕ) → i < length (variable_cells b) → variable_index b (variable_at b i) ≡ i
 
--- so it is with every planned program
+-- in each planned program, cells and their indices in buffers are one to one
 abbrev pub CellsHaveOneIndex : Type 0
 CellsHaveOneIndex =
     (b : BoundValue) (o : Owners) (n : Perms) (meshes : List RankMesh) (p : PlanValue)

@@ -48,7 +48,7 @@ IsHost (Paren e) = IsHost e
 IsHost (Extremum which x y) = IsHost x × IsHost y
 IsHost (Absolute e) = IsHost e
 
--- its value is that of an expression of a kernel whose local cells are those of all variables
+-- an expression of `main` has the value of that expression in a kernel whose local cells are those of all variables
 abbrev pub MeansAsInKernels : Type 0
 MeansAsInKernels =
     (ts : List Target) (s : Store) (told cells : List ℤ) (e : RExpr)

@@ -25,7 +25,7 @@ pub record AreInOrder (count width : ℕ) (old new : List ℕ) : Type 0 where
   pub size : length new ≡ length old
   pub rows : (r : ℕ) → r < count → IsInOrder (row old width r) (row new width r)
 
--- the same of the first rows; the others are as they were
+-- each of the first rows with its nodes in rising order; the others are as they were
 pub record AreInOrderUpTo (upto count width : ℕ) (old new : List ℕ) : Type 0 where
   pub size : length new ≡ length old
   pub rows : (r : ℕ) → r < upto → IsInOrder (row old width r) (row new width r)

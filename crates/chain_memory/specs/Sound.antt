@@ -33,7 +33,7 @@ module _ (x : Blocks) where
     pub layout : IsLayout program_in x.layout.now
     pub room : all_cells program_in ranks_in < 2 ^ 64
 
--- it is the loop of its number, with its kernel's code
+-- what is at hand of a loop is the loop of its number, with its kernel's code
 pub record IsLoop (b : BoundValue) (l : Loop) : Type 0 where
   pub there : l.site < length b.sites
   pub set : l.set ≡ (site_at b l.site).set

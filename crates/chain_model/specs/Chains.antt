@@ -25,6 +25,6 @@ pub record AreToldByFirsts (n : ℕ) (kind : ℕ → Kind) : Type 0 where
   pub first : (i j : ℕ) → IsChain n kind i j → begins kind i ≡ true
   pub one : (i j l : ℕ) → IsChain n kind i j → IsChain n kind i l → j ≡ l
 
--- so it is with every list of items
+-- in every list of items, a chain is told by its first item and has one last item
 abbrev pub ChainsAreToldByFirsts : Type 0
 ChainsAreToldByFirsts = (n : ℕ) (kind : ℕ → Kind) → AreToldByFirsts n kind

@@ -20,7 +20,7 @@ pub record StateValue : Type 0 where
   pub vars : List (List ℤ)
   pub dats : List (List ℤ)
 
--- the same of the program's type
+-- a state as it lies in memory, as a value
 abbrev pub state_of : State → StateValue
 state_of s = record { item = s.item; vars = s.vars.items; dats = s.dats.items }
 
@@ -52,7 +52,7 @@ abbrev pub is_merging : ItemValue → Bool
 is_merging (Reduce s) = true
 is_merging i = false
 
--- it has so many items, and no loop is parted from its merging
+-- the program can be cut before its item k: it has so many items, and no loop is parted from its merging
 pub record CanCut (b : BoundValue) (k : ℕ) : Type 0 where
   pub within : k ≤ length b.trace
   pub whole : is_merging (item_at b k) ≡ false

@@ -53,7 +53,7 @@ HeadsPrintStates =
     → CanCut b k → seq (program_of b) k ≡ Going s o
     → run_of_program (head b k) ≡ Going s (o ++ state_text b (state_at b k s))
 
--- or it has stopped before
+-- where the program has stopped before the item, so has the head
 abbrev pub HeadsStop : Type 0
 HeadsStop =
     (b : BoundValue) (k : ℕ) (x : Stop KernelFault) (s : Store) (o : List ℕ)
@@ -102,6 +102,6 @@ TailsGoOn =
 abbrev pub HeadsObey : Type 0
 HeadsObey = (b : BoundValue) (k : ℕ) → AllObey b → AllObey (head b k)
 
--- and those of a tail, where the state has the program's shape
+-- the kernels of a tail obey what those of the program obey, where the state has the program's shape
 abbrev pub TailsObey : Type 0
 TailsObey = (b : BoundValue) (s : StateValue) → HasShape b s → AllObey b → AllObey (tail b s)

@@ -25,7 +25,7 @@ Has m t v b = bit_at (mask_of m t v) b ≡ 1
 abbrev pub Fill : Masks → ℕ → ℕ → ℕ → Type 0
 Fill m s t v = (b : ℕ) → b < 32 → Has m s v b ⊎ Has m t v b
 
--- so it is in the words from v up to n
+-- each colour of the words from v up to n is one of either target's
 abbrev pub AreFilled : Masks → ℕ → ℕ → ℕ → ℕ → Type 0
 AreFilled m s t v n = (u : ℕ) → v ≤ u → u < n → Fill m s t u
 
@@ -33,7 +33,7 @@ AreFilled m s t v n = (u : ℕ) → v ≤ u → u < n → Fill m s t u
 abbrev pub IsSound : Masks → Type 0
 IsSound m = (s t v n : ℕ) → get same_words m.passed (s, t, v) ≡ Some n → AreFilled m s t v n
 
--- the same colours
+-- the targets have the same colours before and after
 abbrev pub IsKept : Masks → Masks → Type 0
 IsKept m n = (n.first ≡ m.first) × (n.later ≡ m.later)
 

@@ -149,7 +149,7 @@ command_of asked.Version = ShowsVersion
 abbrev pub IsInRange : Asked → Type 0
 IsInRange a = IsWithin (command_of a)
 
--- it is what the words ask for, or their refusal, unless memory ran out
+-- the answer is what the words ask for, or their refusal, unless memory ran out
 abbrev pub AsksBy : Result Asked WordsRefusal → Result words.Command answer.Refusal → Type 0
 AsksBy (Ok a) r = r ≡ Ok (command_of a)
 AsksBy (Err Usage) r = r ≡ Err answer.Usage

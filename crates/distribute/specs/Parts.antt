@@ -40,7 +40,7 @@ abbrev pub name_of : Option (Bor (List ℕ)) → Option (List ℕ)
 name_of None = None
 name_of (Some name) = Some name.now
 
--- It ended with a refusal of which P is so, or memory ran out.
+-- new numbers are refused, and P is so of the refusal; or memory ran out
 abbrev pub UnnumberedWhere : (NumbersRefusal → Type 0) → Unnumbered → Type 0
 UnnumberedWhere P (unnumbered.UnknownMap name) = P (UnknownMap name.now)
 UnnumberedWhere P unnumbered.OutOfMemory = Unit {0}

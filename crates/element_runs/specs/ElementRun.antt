@@ -82,7 +82,7 @@ module _ (entry : Entries) (dim width : ℕ → ℕ) (arg : ℕ → Argument) (n
   EndsHolding is_there array index (kernel.Finished l) (Faulted g) = ⊥
   EndsHolding is_there array index (kernel.Stopped l f) (Finished t) = ⊥
 
--- such a run, where the kernel obeys its modes, is independent by its arguments
+-- the run of an element by a kernel that obeys its modes is independent by its arguments
 abbrev pub ElementRunsAreIndependent : Type 0
 ElementRunsAreIndependent =
     (entry : Entries) (dim width : ℕ → ℕ) (arg : ℕ → Argument) (n e : ℕ) (modes : List Mode) (cell_of : ℕ → ℕ → Cell)
@@ -91,7 +91,7 @@ ElementRunsAreIndependent =
     → KernelObeys k modes
     → IndependentBy entry dim width arg n e is_constant run
 
--- so it is independent by the touches of cells, where constants are read
+-- the run of an element by a kernel that obeys its modes is independent by the touches of cells, where constants are read
 abbrev pub ElementRunsAreIndependentByTouches : Type 0
 ElementRunsAreIndependentByTouches =
     (entry : Entries) (dim width : ℕ → ℕ) (arg : ℕ → Argument) (n e : ℕ) (modes : List Mode) (cell_of : ℕ → ℕ → Cell)
@@ -101,7 +101,7 @@ ElementRunsAreIndependentByTouches =
     → ReadConstants entry dim width arg n e is_constant
     → Independent run (touch_with entry dim width arg n e is_constant)
 
--- so it is given by whether it faults and by what it makes of each cell's old value
+-- the run of an element by a kernel that obeys its modes is given by whether it faults and by what it makes of each old value
 abbrev pub ElementRunsGiveEffects : Type 0
 ElementRunsGiveEffects =
     (entry : Entries) (dim width : ℕ → ℕ) (arg : ℕ → Argument) (n e : ℕ) (modes : List Mode) (cell_of : ℕ → ℕ → Cell)
@@ -111,7 +111,7 @@ ElementRunsGiveEffects =
     → ReadConstants entry dim width arg n e is_constant
     → GivesEffects run (touch_with entry dim width arg n e is_constant)
 
--- it keeps all values in range
+-- the run of an element keeps all values in range
 abbrev pub ElementRunsKeepRange : Type 0
 ElementRunsKeepRange =
     (entry : Entries) (dim width : ℕ → ℕ) (arg : ℕ → Argument) (n e : ℕ) (modes : List Mode) (cell_of : ℕ → ℕ → Cell)
@@ -127,7 +127,7 @@ ElementRunsKeepReads =
     → IsElementRun entry dim width arg n e modes cell_of k is_constant run → KernelObeys k modes
     → (s t : Store) → run s ≡ Finished t → (c : Cell) → All entry dim width arg n e c (λ x. x ≡ OpRead) → t c ≡ s c
 
--- it ends as the kernel's meaning does over any lists that hold the cells
+-- the run of an element ends as the kernel's meaning does over any lists that hold the cells
 abbrev pub AnyListsServe : Type 0
 AnyListsServe =
     (entry : Entries) (dim width : ℕ → ℕ) (arg : ℕ → Argument) (n e : ℕ) (modes : List Mode) (cell_of : ℕ → ℕ → Cell)

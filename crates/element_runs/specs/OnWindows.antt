@@ -29,7 +29,7 @@ abbrev pub core_of : kernel.Ran → Core KernelFault
 core_of (kernel.Finished l) = Leaves (slice_index_or l 0 [])
 core_of (kernel.Stopped l f) = Faults f
 
--- such a run is that of the kernel's meaning on the windows' values, as a layout of the flat machine asks for it
+-- the run of an element is the kernel's meaning on the windows' values, as a layout of the flat machine asks for it
 abbrev pub ElementRunsOnWindows : Type 0
 ElementRunsOnWindows =
     (entry : Entries) (dim width : ℕ → ℕ) (arg : ℕ → Argument) (n e : ℕ) (modes : List Mode) (cell_of : ℕ → ℕ → Cell)

@@ -41,6 +41,6 @@ pub record RunsKernels (p : Setup KernelFault) (f : LoopParts p) : Type 0 where
   pub host_in_range : (k : ℕ) (s : Store) (v : VarCell → ℤ) (o : List ℕ) → InRange s → p.program.host k s ≡ Goes v o
       → (x : VarCell) → FitsSigned w32 (v x)
 
--- such a setup has what the theorem on schedules asks of kernels
+-- a setup whose loops run kernels has what the theorem on schedules asks of kernels
 abbrev pub SetupsHaveKernels : Type 0
 SetupsHaveKernels = (p : Setup KernelFault) (f : LoopParts p) → RunsKernels p f → Kernels p

@@ -16,7 +16,7 @@ LeavesUnwritten spans ts consts k =
 
 -- the arguments' targets in the windows, and in the memory
 module _ (spans : List Span) (windows memory : List Target) where
-  -- they name the same cells
+  -- both name the same cells, the windows one by one and the memory where the spans stand
   pub record NameTheSame : Type 0 where
     pub counts : (a : ℕ) → (target_at windows a).count ≡ (target_at memory a).count
     pub in_windows : (a : ℕ) → (target_at windows a).array ≡ 0

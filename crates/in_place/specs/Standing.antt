@@ -8,7 +8,7 @@ abbrev pub stands_at : List Span → ℕ → ℕ
 stands_at [] j = j
 stands_at (s ∷ ss) j = cond (nat_lt j s.dim) (s.at + j) (stands_at ss (j - s.dim))
 
--- its span is written
+-- whether the span of the cell of that number is written
 abbrev pub is_written : List Span → ℕ → Bool
 is_written [] j = false
 is_written (s ∷ ss) j = cond (nat_lt j s.dim) s.writes (is_written ss (j - s.dim))

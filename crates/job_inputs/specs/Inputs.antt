@@ -36,14 +36,14 @@ pub record IsJudged (p : ProgramTree) (types : Resolved) : Type 0 where
 
 -- ---- what is known of a bound program
 
--- it is bound to what the text of a mesh spells, and its kernels keep to their accesses
+-- the program is bound to what the text of a mesh spells, and its kernels keep to their accesses
 pub record IsBoundOver (p : ProgramTree) (types : Resolved) (text : List ℕ) (b : BoundValue) : Type 0 where
   pub entries : List Named
   pub spelled : EntriesAre text (Ok entries)
   pub is : BoundIs p types entries (Ok b)
   pub obeyed : AccessesAre b (Ok tt)
 
--- the same, over the files of a source and a mesh
+-- the program is bound, and its kernels keep to their accesses, over the files of a source and a mesh
 pub record IsBoundIn (input : Input) (b : BoundValue) (files : Files) : Type 0 where
   pub bytes : List ℕ
   pub program : ProgramTree

@@ -11,7 +11,7 @@ Seen = List ℕ → Option (Option (List ℕ))
 abbrev pub nothing_seen : Seen
 nothing_seen name = None
 
--- and under this name that is held, or nothing
+-- what was seen before, and under this name what is held, or nothing
 abbrev pub seen_with : Seen → List ℕ → Option (List ℕ) → Seen
 seen_with seen name held other = if bytes_eq other name then Some held else seen other
 

@@ -2,6 +2,6 @@
 use Rattle.std.specs.Prelude.{ℕ, List, Option, option_map}
 use Rattle.kept_files.specs.declared.kept.Reading.{Reading}
 
--- its name, and its bytes, if they are kept
+-- the name of a file that was read, and its bytes, if they are kept
 abbrev pub reading_of : Reading → List ℕ × Option (List ℕ)
 reading_of r = (r.name.now, option_map (λ v. v.items) r.bytes)

@@ -14,7 +14,7 @@ abbrev pub IsNumber : Value → Type 0
 IsNumber (Ok v) = FitsSigned w32 v
 IsNumber (Err f) = Unit {0}
 
--- so it is with all operators, tests, extrema and assignments
+-- operators, tests, extrema and assignments make numbers of 32 bits of such numbers, or faults
 pub record OperatorsStayInRange : Type 0 where
   pub tests : (t : Bool) → FitsSigned w32 (truth t)
   pub unary : (op : UnaryOp) (x : ℤ) → FitsSigned w32 x → FitsSigned w32 (apply_unary op x)

@@ -54,7 +54,7 @@ module _ (b : BoundValue) where
   loop_args (Ordered s) = (site_at b s).args
   loop_args i = []
 
-  -- the same of a Free loop
+  -- the arguments of a Free loop; none of another item
   abbrev pub free_args : ItemValue → List Arg
   free_args (Free s) = (site_at b s).args
   free_args i = []

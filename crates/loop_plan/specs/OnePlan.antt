@@ -28,21 +28,21 @@ pub record AreAlike (b : BoundValue) (meshes others : List RankMesh) (p q : Plan
   pub other_proper : Proper b others q
   pub colours : SameColours b (length meshes) p q
 
--- two plans with least colours, likewise
+-- two plans with least colours, on local meshes that are the same as lists, and in blocks of one size
 pub record AreLeast (b : BoundValue) (meshes others : List RankMesh) (p q : PlanValue) : Type 0 where
   pub alike : map rank_mesh_value meshes ≡ map rank_mesh_value others
   pub block : p.block ≡ q.block
   pub colours : HasLeastColours b meshes p
   pub other_colours : HasLeastColours b others q
 
--- they have the same colours
+-- two plans with least colours, on the same local meshes and in blocks of one size, have the same colours
 abbrev pub LeastColoursAreOne : Type 0
 LeastColoursAreOne =
     (b : BoundValue) (meshes others : List RankMesh) (p q : PlanValue)
     → AreLeast b meshes others p q
     → SameColours b (length meshes) p q
 
--- they have one text, and one number of steps
+-- two plans that are alike have one text, and one number of steps
 abbrev pub PlanTextsAreOne : Type 0
 PlanTextsAreOne =
     (b : BoundValue) (meshes others : List RankMesh) (p q : PlanValue)
@@ -59,7 +59,7 @@ pub record ReadAlike (b : BoundValue) (meshes others : List RankMesh) (p q : Pla
   pub colours : (s r x : ℕ) → inner_colour_in p s r x ≡ inner_colour_in q s r x
   pub originals : (r s : ℕ) → originals_in (sets_of meshes r) s ≡ originals_in (sets_of others r) s
 
--- they are read alike
+-- two plans that are alike are read alike
 abbrev pub PlansAreOne : Type 0
 PlansAreOne =
     (b : BoundValue) (meshes others : List RankMesh) (p q : PlanValue)

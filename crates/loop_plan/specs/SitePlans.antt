@@ -30,10 +30,10 @@ module _ (b : BoundValue) where
     pub keys : map (λ e. e.0) entries ≡ listed n (runs_free b)
     pub plans : (s : ℕ) → s < n → runs_free b s ≡ true → IsPlan s (or_none (lookup (nat_eq s) entries))
 
--- they have plans with least colours
+-- the loops below n that run as Free ones have plans with least colours
 abbrev pub ArePlans : BoundValue → List RankMesh → ℕ → ℕ → List (ℕ × SitePlanValue) → Type 0
 ArePlans b meshes size n entries = ArePlansOf b (IsLeastPlan b meshes size) n entries
 
--- they have plans whose colours keep conflicts apart
+-- the loops below n that run as Free ones have plans whose colours keep conflicts apart
 abbrev pub AreSitePlans : BoundValue → List RankMesh → ℕ → ℕ → List (ℕ × SitePlanValue) → Type 0
 AreSitePlans b meshes size n entries = ArePlansOf b (IsSitePlan b meshes size) n entries

@@ -33,7 +33,7 @@ entry_values _ = []
 abbrev pub values_named : List Named → List ℕ → List ℤ
 values_named es x = entry_values (lookup (bytes_eq x) es)
 
--- it is an extern array
+-- whether the meaning is an extern array
 abbrev pub is_extern_array : Option Meaning → Bool
 is_extern_array (Some ExternArray) = true
 is_extern_array _ = false

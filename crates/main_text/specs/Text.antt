@@ -45,7 +45,7 @@ module _ (places : List Pos) (consts : List ConstDecl) (entries : List Named) wh
   target_name (tree.Element x i) = x
   target_name (tree.Target at x) = x
 
-  -- its index; `*x` is `x[0]`
+  -- the index of an assignment's target; `*x` is `x[0]`
   abbrev pub target_index : Scope → PlaceTree → Option RExprTree
   target_index s (tree.Scalar x) = None
   target_index s (tree.Element x i) = Some (resolved places s i)

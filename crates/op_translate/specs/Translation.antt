@@ -45,7 +45,7 @@ abbrev pub called : Kind → Kind → Kind → Kind → Option (List ℕ)
 called (kind.Word word.OpParLoop) (kind.Sign sign.LeftParen) (kind.Name x) (kind.Sign sign.Comma) = Some x
 called a b c d = None
 
--- such a call becomes `op_par_loop_K(`
+-- how a loop call becomes `op_par_loop_K(`
 abbrev pub to_stub : List Token → Option Edit
 to_stub (a ∷ b ∷ c ∷ d ∷ ts) =
     option_map (λ x. record { from = a.from; to = d.to; text = prefix ++ x ++ codes "(" }) (called a.kind b.kind c.kind d.kind)
@@ -72,7 +72,7 @@ abbrev pub stubbed : Kind → Kind → Option (List ℕ)
 stubbed (kind.Name x) (kind.Sign sign.LeftParen) = kernel_in x
 stubbed a b = None
 
--- such a call becomes `op_par_loop(K,`
+-- how a stub's call becomes `op_par_loop(K,`
 abbrev pub to_call : List Token → Option Edit
 to_call (a ∷ b ∷ ts) =
     option_map (λ x. record { from = a.from; to = b.to; text = codes "op_par_loop(" ++ x ++ codes "," }) (stubbed a.kind b.kind)

@@ -4,7 +4,7 @@ use Rattle.output_pieces.specs.Lines.{lines_in}
 use Rattle.output_pieces.specs.declared.refusals.PieceRefusal.{PieceRefusal}
 use Rattle.output_pieces.specs.declared.refusals.PieceRefusal.TheVariants.{NoPrint, NoHeader, FewRows, OutOfMemory}
 
--- its last byte is an LF
+-- the last byte of these lines is an LF
 abbrev pub IsClosed : List ℕ → Type 0
 IsClosed header = (text : List ℕ) × (header ≡ text ++ 10 ∷ [])
 
@@ -15,12 +15,12 @@ pub record IsBehind (before : ℕ) (header output : List ℕ) (end : ℕ) : Type
   pub lines : lines_in front ≡ before
   pub place : end ≡ length front + length header
 
--- it has them nowhere behind so many LFs, and their end is awaited on that line
+-- the output has these lines nowhere behind so many LFs, and their end is awaited on that line
 pub record IsNowhere (before : ℕ) (header output : List ℕ) (line : ℕ) : Type 0 where
   pub none : (front rest : List ℕ) → output ≡ front ++ header ++ rest → lines_in front ≡ before → ⊥
   pub awaited : line ≡ before + lines_in header
 
--- it has them nowhere there; or memory ran out
+-- why the output isn't cut: it has these lines nowhere behind so many LFs; or memory ran out
 abbrev pub IsUncut : (before : ℕ) (header output : List ℕ) → PieceRefusal → Type 0
 IsUncut before header output (NoHeader line) = IsNowhere before header output line
 IsUncut before header output NoPrint = ⊥

@@ -22,7 +22,7 @@ module _ (b : BoundValue) (args : List Arg) (e : ℕ) (place : Cell → ℕ) whe
   abbrev pub place_span : Reached → Span
   place_span t = record { at = place (cell_in t 0); dim = width b t; writes = true }
 
-  -- the same of each target's window
+  -- where the windows of all targets stand
   abbrev pub place_spans : List Span
   place_spans = map place_span (targets b args e)
 
@@ -78,7 +78,7 @@ pub record RunsPlaced (b : BoundValue) (site : SiteValue) (e : ℕ) (k : RKernel
       (pane_after item (core_on_gathered k consts old (place_spans b site.args e place) (windows b site.args e))) old
       → EndsPlaced b site.args e place old new s fault (element_run b site e s)
 
--- so it does where all arguments are marked
+-- where all arguments are marked, the run of an element in place ends as the program's run of it does
 abbrev pub PlacedElementsRun : Type 0
 PlacedElementsRun =
     (b : BoundValue) (site : SiteValue) (e : ℕ) (k : RKernel) (consts : List ℤ) (place : Cell → ℕ) (n : ℕ) (marks : List Bool)

@@ -25,7 +25,7 @@ pub record TellsColours (front line : List ℕ) (blocks places : ℕ) (block_col
   pub inner_count : length inner ≡ places
   pub is : line ≡ front ++ spaced (block_words ++ codes "inner" ∷ inner_words)
 
--- it has those, or none
+-- the colours are those that the line tells; none where it tells none
 abbrev pub LineIs : (front line : List ℕ) (blocks places : ℕ) → Option Colours → Type 0
 LineIs front line blocks places None = (bs cs : List ℕ) → TellsColours front line blocks places bs cs → ⊥
 LineIs front line blocks places (Some c) = TellsColours front line blocks places c.blocks.items c.inner.items

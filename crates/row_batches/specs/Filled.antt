@@ -13,7 +13,7 @@ module _ (numbers : List (List ℕ)) where
   abbrev pub cells_of : RowColumn → ℕ → ℕ
   cells_of y = stands_in_row y.cell y.dim 0 (get_or numbers y.way [])
 
-  -- they stand within a memory of so many cells
+  -- the cells of a column stand within a memory of so many cells, in each row
   pub record ColumnStands (cells : ℕ) (y : RowColumn) : Type 0 where
     pub way : y.way < length numbers
     pub within : StandWithin cells y.cell y.dim 0 (get_or numbers y.way [])

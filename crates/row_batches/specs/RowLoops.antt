@@ -70,7 +70,7 @@ module _ (y : RowLoop) where
   abbrev pub column_access : ℕ → Access
   column_access c = access_of (column_at c).access
 
-  -- the way in which they reach elements
+  -- the way in which the arguments on a column reach elements
   abbrev pub way_of : ℕ → Option LocalVia
   way_of c = get_or y.ways.now (column_at c).way None
 
@@ -92,7 +92,7 @@ module _ (y : RowLoop) where
     pub targets : (w : ℕ) → w < length y.ways.now → HasTarget (get_or y.ways.now w None) x
     pub inside : (c : ℕ) → c < length y.columns.now → column_cell x c < cells
 
-  -- its numbers name what is there
+  -- columns and pairs name ways that are there
   pub record IsWhole : Type 0 where
     pub ways : (c : ℕ) → c < length y.columns.now → (column_at c).way < length y.ways.now
     pub firsts : (i : ℕ) → i < length y.pairs.now → (pair_at y.pairs.now i).0 < length y.ways.now

@@ -40,13 +40,13 @@ pub record IsLoopOf (b : BoundValue) (k : ℕ) (f : RKernel) : Type 0 where
   pub is_loop : is_loop (kind_of (item_at b k)) ≡ true
   pub kernel : kernel_at b.kernels (site_of b k).kernel ≡ Some f
 
--- such an item runs its kernel for each element
+-- a loop runs its kernel for each element
 abbrev pub ElementsRunKernels : Type 0
 ElementsRunKernels =
     (b : BoundValue) (k e : ℕ) (f : RKernel)
     → Fits b → IsLoopOf b k f → RunsKernel b (site_of b k) e f ((program_of b).run k e)
 
--- such a run keeps all values in range
+-- a loop's run of an element keeps all values in range
 abbrev pub LoopsKeepRange : Type 0
 LoopsKeepRange =
     (b : BoundValue) (k e : ℕ) (f : RKernel) (s t : Store)

@@ -105,7 +105,7 @@ MemoryHasDats =
 abbrev pub first_memory : BoundValue → List ℤ
 first_memory b = flat_map (dat_values b.mesh) (numbers (dat_count b.mesh)) ++ flat_map (λ (v : VarValue). v.start) b.vars
 
--- it holds the values that the program begins with
+-- the memory before the run holds the values that the program begins with
 abbrev pub FirstMemoryHolds : Type 0
 FirstMemoryHolds = (b : BoundValue) → ((d : ℕ) → d < dat_count b.mesh → IsDatAt b.mesh d) → Holds b (first_memory b) (program_of b).start
 

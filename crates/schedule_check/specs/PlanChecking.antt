@@ -45,7 +45,7 @@ module _ (c : PlanChecking) where
     pub marks : AreMarksOf outline_in c.steps.marks
     pub cells : (k s r : ℕ) → is_step (outline_of c.steps.marks) (Send k s r) ≡ true → cells_of c.steps k s r ≡ cells_in k s r
 
--- the same plan, and one step more is taken and counted
+-- behind the step the plan is the same, and the step is taken and counted
 pub record TakesPlanStep (c d : PlanChecking) (s : Step) : Type 0 where
   pub bound : d.bound ≡ c.bound
   pub meshes : d.meshes ≡ c.meshes

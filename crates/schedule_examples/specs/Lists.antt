@@ -22,7 +22,7 @@ messages = Send 1 0 1 ∷ Send 1 1 0 ∷ Recv 1 0 1 ∷ Recv 1 1 0 ∷ []
 abbrev pub edges_on_0 : List Step
 edges_on_0 = Begin 1 0 1 ∷ End 1 0 1 ∷ Begin 1 0 0 ∷ End 1 0 0 ∷ []
 
--- likewise on rank 1
+-- both edges on rank 1, edge 1 first, since it has the lower colour
 abbrev pub edges_on_1 : List Step
 edges_on_1 = Begin 1 1 1 ∷ End 1 1 1 ∷ Begin 1 1 0 ∷ End 1 1 0 ∷ []
 

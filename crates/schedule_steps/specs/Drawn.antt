@@ -35,7 +35,7 @@ abbrev pub is_early : ℕ → List Step → Bool
 is_early k [] = false
 is_early k (s ∷ l) = nat_lt (item s) k
 
--- its next step is a receive whose message was not sent
+-- a rank's next step is a receive whose message was not sent
 abbrev pub waits : (Step → Bool) → List Step → Bool
 waits m (Recv k r s ∷ l) = not (m (Send k s r))
 waits m _ = false

@@ -23,7 +23,7 @@ abbrev pub count_after : (Step → ℕ → ℕ) → ℕ → List Step → ℕ
 count_after f n [] = n
 count_after f n (s ∷ l) = count_after f (f s n) l
 
--- its greatest value, before the list and after each step
+-- the greatest value of a count, before the list and after each step
 abbrev pub greatest : (Step → ℕ → ℕ) → ℕ → List Step → ℕ
 greatest f n [] = n
 greatest f n (s ∷ l) = max n (greatest f (f s n) l)

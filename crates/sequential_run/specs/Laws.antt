@@ -18,15 +18,15 @@ Agree b (Going arrays o) (cells.Going s p) = Holds b arrays s × (o ≡ p)
 Agree b (Stopped x o) (cells.Going s p) = ⊥
 Agree b (Going arrays o) (cells.Stopped y s p) = ⊥
 
--- before each item of a program that fits
+-- both runs agree before each item of a program that fits
 abbrev pub ItemsAgree : Type 0
 ItemsAgree = (b : BoundValue) → Fits b → (k : ℕ) → Agree b (before b k) (seq (program_of b) k)
 
--- so a program that fits prints the same, and has the same first fault or none
+-- the program prints the same in both runs, and has the same first fault or none
 pub record RunIsOne (b : BoundValue) : Type 0 where
   pub printed : printed b ≡ program.printed b
   pub first_fault : first_fault b ≡ program.first_fault b
 
--- so it is with every program that fits
+-- of each program that fits, the run on whole arrays is the one of the theorem
 abbrev pub RunsAreOne : Type 0
 RunsAreOne = (b : BoundValue) → Fits b → RunIsOne b

@@ -76,7 +76,7 @@ place_name (tree.Scalar x) = x.name
 place_name (tree.Element x i) = x.name
 place_name (tree.Target at x) = x.name
 
--- it stands for a variable; a name of `main` hides one of the file
+-- whether a name stands for a variable; a name of `main` hides one of the file
 abbrev pub CanBeAssigned : Option Bool → Option Bool → Type 0
 CanBeAssigned (Some true) f = Unit {0}
 CanBeAssigned (Some false) f = ⊥

@@ -58,17 +58,17 @@ abbrev mutual
   HostIsRead (tree.HostFor f x) = HasNumbers f.from × HasNumbers f.to × HostIsRead x
   HostIsRead (tree.HostCall c) = CallIsRead c
 
-  -- and in each statement
+  -- the numbers in each of these statements of `main` are read
   pub HostsAreRead : HostTrees → Type 0
   HostsAreRead tree.NoHost = Unit {0}
   HostsAreRead (tree.MoreHost h hs) = HostIsRead h × HostsAreRead hs
 
--- the value of an entry of one is of 32 bits
+-- the value of an entry with one value is of 32 bits
 abbrev pub HasNumber : Entry → Type 0
 HasNumber (One z) = FitsSigned w32 z
 HasNumber (Many zs) = Unit {0}
 
--- and so of each entry of one
+-- the values of entries with one value are of 32 bits
 abbrev pub HaveNumbers : List Named → Type 0
 HaveNumbers es = All (λ e. HasNumber e.1) es
 

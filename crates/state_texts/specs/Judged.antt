@@ -29,7 +29,7 @@ module _ (b : BoundValue) (k : ℕ) where
   JudgesAmong xs old new values (Ok x) = FitsAmong xs old new (values x)
   JudgesAmong xs old new values (Err e) = RefusesAmong xs old e
 
-  -- the same, where the values are pushed behind others
+  -- the lines are taken, and their values pushed behind others
   pub record PushesAmong (xs : List Awaited) (old new : Unread) (zs ws : List ℤ) : Type 0 where
     pub more : List ℤ
     pub pushed : ws ≡ zs ++ more
@@ -53,7 +53,7 @@ module _ (b : BoundValue) where
     pub fit : AllFit b s.item (awaited b) lines (flat_map (λ z. z) s.vars ++ flat_map (λ z. z) s.dats)
     pub shape : HasShape b s
 
-  -- it says none: its first line that is refused, from 1
+  -- the text says no state: its first line that is refused, from 1
   abbrev pub TextSaysNone : List ℕ → (number line : ℕ) → Type 0
   TextSaysNone text number line = (k : ℕ) × (before : ℕ) × (line ≡ suc before) × RefusedAmong b k (awaited b) text number before
 

@@ -23,11 +23,11 @@ SaysOneRefusal =
     (b : BoundValue) (bytes : List ℕ) (number other line at : ℕ)
     → SaysNone b bytes number line → SaysNone b bytes other at → (number ≡ other) × (line ≡ at)
 
--- not both
+-- bytes don't both say a state and say none
 abbrev pub SaysNotBoth : Type 0
 SaysNotBoth = (b : BoundValue) (bytes : List ℕ) (s : StateValue) (number line : ℕ) → Says b bytes s → SaysNone b bytes number line → ⊥
 
--- and always one of both, where the dats have as many values as their sets and dims say
+-- bytes always say a state or none, where the dats have as many values as their sets and dims say
 abbrev pub SaysSomething : Type 0
 SaysSomething =
     (b : BoundValue) (bytes : List ℕ) → IsMesh b.mesh
@@ -56,7 +56,7 @@ pub record SaysBehind (b : BoundValue) (bytes front : List ℕ) (s : StateValue)
   pub says : Says b bytes s
   pub there : says.before ≡ front
 
--- so is the state before an item, whatever the values of 32 bits that the cells have there; and its text stands where it was written
+-- the text of the state before an item says that state, whatever its values of 32 bits, and stands where it was written
 abbrev pub CutsAreRead : Type 0
 CutsAreRead =
     (b : BoundValue) (o : List ℕ) (k : ℕ) (s : Store)

@@ -72,7 +72,7 @@ awaited b = Item ∷ (awaited_vars 0 (starts b.vars) ++ (awaited_dats b.mesh ++ 
 
 -- ---- what a line says
 
--- it ends at its LF, and has no other
+-- the bytes end at their LF, and have no other
 abbrev pub IsLine : List ℕ → Type 0
 IsLine line = (front : List ℕ) × HasNoLf front × (line ≡ front ++ 10 ∷ [])
 

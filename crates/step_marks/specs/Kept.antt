@@ -10,7 +10,7 @@ pub record LaidOut (v : Marked) : Type 0 where
   pub ranked : (k s r : ℕ) → linked (item_at v k) s r ≡ true → (s < v.ranks) × (r < v.ranks)
   pub runs : (k : ℕ) → k < length v.items → (item_at v k).free ≡ true → length (item_at v k).ranks ≡ v.ranks
 
--- and each rank's pointer has passed only items that are done for the rank
+-- marks are laid out, and each rank's pointer has passed only items that are done for the rank
 pub record Whole (v : Marked) (at : List ℕ) : Type 0 where
   pub laid : LaidOut v
   pub each_rank : length at ≡ v.ranks

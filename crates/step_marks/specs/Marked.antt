@@ -46,7 +46,7 @@ taken v (Begin k r p) = begun_at (run_at (item_at v k) r) p
 taken v (End k r p) = ended_at (run_at (item_at v k) r) p
 taken v (Join k) = (item_at v k).joined
 
--- the same plan, with its messages in the same places, and one step more is taken
+-- behind the step the plan is the same, with its messages in the same places, and one step more is taken
 pub record TakesOne (v w : Marked) (s : Step) : Type 0 where
   pub ranks : w.ranks ≡ v.ranks
   pub alike : AlikeOutlines (outline_of w) (outline_of v)

@@ -33,7 +33,7 @@ onward first f i n = onward_by first f i (n - i)
 abbrev pub begins : ℕ → ℕ → List ℕ → List Step
 begins k r xs = map (Begin k r) xs
 
--- their ends
+-- the ends of a run's elements
 abbrev pub ends : ℕ → ℕ → List ℕ → List Step
 ends k r xs = map (End k r) xs
 
@@ -55,7 +55,7 @@ module _ (o : Outline) (g k : ℕ) where
   abbrev pub send_steps : ℕ → List Step
   send_steps s = map (Send k s) (numbers (o.sends k s) o.ranks)
 
-  -- its receives
+  -- the receives of a rank
   abbrev pub receive_steps : ℕ → List Step
   receive_steps r = map (Recv k r) (numbers (λ s. o.sends k s r) o.ranks)
 
