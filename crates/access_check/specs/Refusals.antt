@@ -7,7 +7,7 @@ use Rattle.kernel_model.specs.Refusals.{IsRefusal}
 use Rattle.access_check.specs.declared.refusals.AccessRefusal.{AccessRefusal}
 use Rattle.access_check.specs.declared.refusals.AccessRefusal.TheVariants as refusal
 
--- it names the rule that counts, and its place; want of memory says nothing
+-- a refusal names the rule that counts, and its place; want of memory says nothing
 abbrev pub Refuses : RKernel → List Mode → AccessRefusal → Type 0
 Refuses k modes (refusal.WritesRead at) = IsRefusal k modes model.WritesRead at
 Refuses k modes (refusal.ReadsInc at) = IsRefusal k modes model.ReadsInc at

@@ -99,7 +99,7 @@ abbrev pub TreeIs : List ℕ → Result ProgramTree Refusal → Type 0
 TreeIs bytes (Ok p) = Reads bytes p
 TreeIs bytes (Err r) = (e : SourceRefusal) × IsUnread bytes e × SaysSource e r
 
--- its kernels and constants, wherever they lie in memory
+-- the program's kernels and constants, wherever they lie in memory, or the refusal of its names and types
 abbrev pub TypesAre : ProgramTree → Result Resolved Refusal → Type 0
 TypesAre p (Ok types) = Resolves p (Ok (resolved_of types))
 TypesAre p (Err r) = (e : TypeRefusal) × Resolves p (Err e) × SaysTypes e r

@@ -43,7 +43,7 @@ module _ (args : List Arg) where
     pub modified : access_of shared ≢ OpRead
         → (b : ℕ) × (b < length args) × (same_column (arg_in args b) (arg_in args a) ≡ true) × (access_by (arg_in args b) ≢ OpRead)
 
-  -- the same of all arguments
+  -- the access of the column of argument a is one for all arguments that share it
   abbrev pub IsShared : (a : ℕ) (shared : Access) → Type 0
   IsShared a shared = IsSharedBy a shared (length args)
 

@@ -108,7 +108,7 @@ abbrev pub JudgesBy : {X A : Type 0} → (X → A) → Result X BindRefusal → 
 JudgesBy view (Ok x) j = j ≡ Ok (view x)
 JudgesBy view (Err e) j = (e ≡ OutOfMemory) ⊎ (j ≡ Err e)
 
--- the same, where what was judged is left behind
+-- what a function answered is the judgement, unless memory ran out; what was judged is left behind
 abbrev pub Judges : {X A : Type 0} → Result X BindRefusal → A → Judged A → Type 0
 Judges (Ok x) a j = j ≡ Ok a
 Judges (Err e) a j = (e ≡ OutOfMemory) ⊎ (j ≡ Err e)

@@ -103,14 +103,14 @@ pub fn note_in(
     }
 }
 
-/// The same, in the order of the tokens.
+/// Keeps the first of what was found so far and of this, where the test holds, in the order of the tokens.
 pub fn note_if(first: &mut Option<Found>, test: bool, token: usize, refusal: BindRefusal)
     ensures { first.new ≡ least_from first.old (found_in Turn.InOrder test token refusal) }
 {
     note_in(first, Turn::InOrder, test, token, refusal);
 }
 
-/// The same, for a size above its limit.
+/// Keeps the first of what was found so far and of this, where a size is above its limit.
 pub fn note_over(
     first: &mut Option<Found>,
     turn: Turn,

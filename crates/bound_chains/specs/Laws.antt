@@ -63,6 +63,6 @@ pub record RunsAsProgram (b : BoundValue) (o : Owners) : Type 0 where
 abbrev pub ChainsPrintTheProgram : Type 0
 ChainsPrintTheProgram = (b : BoundValue) (o : Owners) → Chainable b o → RunsAsProgram b o
 
--- which pairs ranks hold, item by item
+-- which pairs ranks hold before each item of a run by chains
 abbrev pub ChainStoresHold : Type 0
 ChainStoresHold = (b : BoundValue) (o : Owners) (k : ℕ) → StoresHold (slicing_of b o) k

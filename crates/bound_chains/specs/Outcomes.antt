@@ -21,7 +21,7 @@ module _ (b : BoundValue) (o : Owners) where
   abbrev pub chains_run : ChainState KernelFault
   chains_run = chain_machine (slicing_of b o)
 
-  -- its output
+  -- what a run by chains prints, with the dump where it is asked for
   abbrev pub chains_output : Bool → List ℕ
   chains_output dump = chains_run.output ++ dump_after b o dump chains_run chains_run.stop
 

@@ -91,7 +91,7 @@ points_text g s =
 abbrev pub cells_text : MeshValue → Shape → List ℕ
 cells_text g s = counted_lines (codes "CELLS ") (codes " " ++ decimal (cell_numbers g s) ++ codes "\n") (cell_lines g s)
 
--- their types: how many there are, and each
+-- the types of the cells: how many there are, and each
 abbrev pub types_text : MeshValue → Shape → List ℕ
 types_text g s = counted_lines (codes "CELL_TYPES ") (codes "\n") (type_lines g s)
 

@@ -2,7 +2,7 @@
 use Rattle.cell_vtk.specs.declared.text.GridData.{GridData}
 use Rattle.cell_vtk.specs.Text.{Data}
 
--- the same as lists alone
+-- the data of a grid as lists alone
 abbrev pub data_of : GridData → Data
 data_of d = record {
   title = d.title.now;

@@ -47,7 +47,7 @@ fn put_variable(memory: &mut [i32], blocks: &Blocks<'_>, rank: u32, var: u32, ac
     }
 }
 
-// The same of an argument, where it is on a variable.
+// What a kernel's window of an argument begins with, where it is on a variable.
 fn put_global(memory: &mut [i32], blocks: &Blocks<'_>, rank: u32, set: u32, arg: Arg)
     requires sound { Sound blocks.now }
     requires memory { length memory.old ≡ all_cells (program_in blocks.now) (ranks_in blocks.now) }

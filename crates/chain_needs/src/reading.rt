@@ -99,7 +99,7 @@ fn read_all(sets: &mut [RankSet], bound: &Bound, dat: u32, site: u32, executing:
     }
 }
 
-// The same, of one dat among all.
+// Adds to each pair of one dat among all the ranks that execute an element which reads it.
 fn read_dat(needs: &mut [Vec<RankSet>], bound: &Bound, dat: u32, site: u32, executing: &[RankSet])
     requires needs { ArePairSets (bound_of bound.now).mesh needs.old }
     requires dat { dat < dat_count (bound_of bound.now).mesh }

@@ -20,7 +20,7 @@ pub record BlocksHold (b : BoundValue) (ranks : ℕ) (memory : List ℤ) (f : Va
   pub count : length memory ≡ all_cells b ranks
   pub cells : (n : ℕ) (c : Cell) → n ≤ ranks → has_cell b c ≡ true → get_or memory (in_block b n c) (pos 0) ≡ f n c
 
--- the same of a program in blocks
+-- the memory of a program in blocks holds these values
 abbrev pub Hold : Blocks → List ℤ → Values → Type 0
 Hold x memory f = BlocksHold (program_in x) (ranks_in x) memory f
 

@@ -124,7 +124,7 @@ options =
 abbrev pub flags : List (List ℕ)
 flags = codes "chain" ∷ codes "dump" ∷ []
 
--- its words, and then its options
+-- the words of a command, and then its options
 abbrev pub rules : List Rule
 rules =
     (positional true (codes "JOB") ∷ positional true (codes "INPUT") ∷ positional false (codes "MESH") ∷ []) ++ map option options

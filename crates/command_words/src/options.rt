@@ -46,7 +46,7 @@ pub fn number_to(most: u32, word: &str) -> Option<u32>
     }
 }
 
-// The same; the usual number, where no word says which.
+// A number from 1 to the most, in decimal digits; the usual number, where no word says which.
 fn number_or(usual: u32, most: u32, word: Option<&str>) -> Option<u32>
     ensures { result ≡ number_or usual most (option_map (λ s. s.now) word.entry) }
 {

@@ -16,7 +16,7 @@ pub record IsDistribution (g : MeshValue) (o : Owners) (p : Perms) (d : Distribu
   pub halos : AreHalos g o d.halos
   pub ranks : AreRankMeshes g o p d.ranks.items
 
--- the same as lists alone
+-- a distribution as lists alone
 pub record DistributionValue : Type 0 where
   pub rank_count : ℕ
   pub owners : List (List ℕ)

@@ -45,19 +45,19 @@ abbrev pub UnnumberedWhere : (NumbersRefusal → Type 0) → Unnumbered → Type
 UnnumberedWhere P (unnumbered.UnknownMap name) = P (UnknownMap name.now)
 UnnumberedWhere P unnumbered.OutOfMemory = Unit {0}
 
--- the same of owners
+-- owners are refused, and P is so of the refusal; or memory ran out
 abbrev pub UnownedWhere : (OwnersRefusal → Type 0) → Unowned → Type 0
 UnownedWhere P (unowned.UnknownDat name) = P (NoDat name.now)
 UnownedWhere P (unowned.UnknownMap name) = P (NoMap name.now)
 UnownedWhere P (unowned.Text r) = P (Unspelled r)
 UnownedWhere P unowned.OutOfMemory = Unit {0}
 
--- The result is this refusal, unless memory ran out.
+-- new numbers are refused with this refusal, unless memory ran out
 abbrev pub IsUnnumbered : {X : Type 0} → Result X Unnumbered → NumbersRefusal → Type 0
 IsUnnumbered (Ok x) r = ⊥
 IsUnnumbered (Err e) r = UnnumberedWhere (λ s. s ≡ r) e
 
--- the same of owners
+-- owners are refused with this refusal, unless memory ran out
 abbrev pub IsUnowned : {X : Type 0} → Result X Unowned → OwnersRefusal → Type 0
 IsUnowned (Ok x) r = ⊥
 IsUnowned (Err e) r = UnownedWhere (λ s. s ≡ r) e

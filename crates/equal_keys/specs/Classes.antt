@@ -24,7 +24,7 @@ pub record AreRowClassesUpTo (rows : List ℕ) (count width upto : ℕ) (of : Li
   pub small : (i : ℕ) → i < count → slice_index of i < count
   pub same : (i j : ℕ) → i < count → j < count → (slice_index of i ≡ slice_index of j) ↔ IsSameRow rows width upto i j
 
--- the same of whole rows
+-- rows that are the same have one class, and others have others
 abbrev pub AreRowClasses : List ℕ → ℕ → ℕ → List ℕ → Type 0
 AreRowClasses rows count width of = AreRowClassesUpTo rows count width width of
 

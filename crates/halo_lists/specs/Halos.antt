@@ -26,7 +26,7 @@ pub record AreHalos (g : MeshValue) (o : Owners) (h : Halos) : Type 0 where
   pub count : length h.sets.items ≡ set_count g
   pub sets : (s : ℕ) (d : SetHalo) → s < set_count g → IsSetHalo g o s (slice_index_or h.sets.items s d)
 
--- the same of the elements below n alone
+-- the halo of a set, of its elements below n alone
 pub record IsHaloBelow (g : MeshValue) (o : Owners) (s n : ℕ) (h : SetHalo) : Type 0 where
   pub exec_count : length h.exec.items ≡ o.ranks
   pub exec : (r : ℕ) → r < o.ranks → row h.exec.items r ≡ listed n (λ x. imports_execute g o s x r)

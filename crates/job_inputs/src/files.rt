@@ -53,7 +53,7 @@ pub fn file_of<'a, F: Shelf>(
     }
 }
 
-/// The same, where no other file is read in the call.
+/// The bytes of the file `name`, as [`file_of`] gives them, where no other file is read in the call.
 pub fn sole_file<'a, F: Shelf>(
     alloc: Global,
     shelf: &mut F,

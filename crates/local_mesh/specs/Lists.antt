@@ -92,7 +92,7 @@ pub record AreRead (table places read : List ℕ) : Type 0 where
   pub count : length read ≡ length places
   pub each : (k : ℕ) → k < length places → slice_index read k ≡ slice_index table (slice_index places k)
 
--- the same of each list
+-- what stands in the table at the places of each list
 pub record AreAllRead (table : List ℕ) (lists read : List (Vec ℕ Global)) : Type 0 where
   pub count : length read ≡ length lists
   pub each : (r : ℕ) → r < length lists → AreRead table (row lists r) (row read r)

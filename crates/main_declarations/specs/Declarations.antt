@@ -70,7 +70,7 @@ with_dat x set dim zs g = record g { dats = g.dats ++ (record { name = x; set = 
 -- ---- what is wrong with a declaration
 
 module _ (places : List Pos) where
-  -- it stands in a block, `if` or `for`, or behind a loop; its word is at the token t
+  -- a declaration stands in a block, `if` or `for`, or behind a loop; its word is at the token t
   abbrev pub place_found : Declared → Bool → ℕ → List Found
   place_found k nested t = found_if places (nested || nat_lt 0 (length k.sites)) t refusal.DeclarationPlace
 
@@ -96,7 +96,7 @@ module _ (places : List Pos) where
   stray_found m dim x None = []
   stray_found m dim x (Some i) = found_if places true x.at (λ at. refusal.MapTarget at m (i / dim) (i % dim))
 
-  -- the same, where the values are those that are awaited and the target set is known
+  -- the first value that is no element, where the values are those that are awaited and the target set is known
   abbrev pub target_found : MeshValue → ℕ → Ident → Option (List ℤ) → Option ℕ → Option ℕ → List Found
   target_found g dim x (Some zs) (Some n) (Some to) =
       if nat_eq (length zs) n then stray_found (map_count g) dim x (first_stray (set_size g to) 0 zs) else []

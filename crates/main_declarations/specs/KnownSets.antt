@@ -5,7 +5,7 @@ use Rattle.main_names.specs.declared.scopes.Meaning.{Meaning}
 use Rattle.main_names.specs.Meanings.{set_of}
 use Rattle.main_names.specs.SoFar.{Declared}
 
--- it is none of a set, or of one of the first n
+-- the meaning is none of a set, or of one of the first n
 abbrev pub IsKnown : ℕ → Meaning → Type 0
 IsKnown n m = IfSome (set_of (Some m)) (λ s. s < n)
 

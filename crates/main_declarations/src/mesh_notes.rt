@@ -45,7 +45,7 @@ pub fn awaited(mesh: &Mesh, set: Option<u32>, dim: u32) -> Option<u64>
     }
 }
 
-/// It stands in a block, `if` or `for`, or behind a loop.
+/// Notes a declaration that stands in a block, `if` or `for`, or behind a loop.
 pub fn note_place(
     source: &Source<'_>,
     first: &mut Option<Found>,
@@ -159,7 +159,7 @@ fn first_stray(size: u32, values: &[i32]) -> Option<usize>
     None
 }
 
-// The first value that is no element of the map's target set.
+// Notes this value as the first that is no element of the map's target set.
 fn note_index(
     source: &Source<'_>,
     first: &mut Option<Found>,
@@ -192,7 +192,8 @@ fn note_index(
     );
 }
 
-/// The same, where the values are those that are awaited, of a set with fewer than 2^32 elements, and the target set is known.
+/// Notes the first value that is no element of the map's target set, where that is known, and the values are those that are awaited, of
+/// a set with fewer than 2^32 elements.
 pub fn note_targets(
     source: &Source<'_>,
     first: &mut Option<Found>,

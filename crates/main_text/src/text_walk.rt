@@ -42,7 +42,7 @@ fn target_name<'a>(source: &Source<'_>, target: &'a Place) -> &'a Ident
     }
 }
 
-// Its index; `*x` is `x[0]`.
+// The index of a target; `*x` is `x[0]`.
 fn target_index(
     source: &Source<'_>,
     k: &Declared,

@@ -46,6 +46,6 @@ Grows old new = (more : List ℕ) × (new ≡ old ++ more)
 abbrev pub Spells : List ℕ → (x e : RExprTree) → Type 0
 Spells ns x e = (more : List ℕ) → renamed (ns ++ more) x ≡ e
 
--- the same of expressions in order
+-- the expressions xs have the names of es, whatever further names there are
 abbrev pub SpellAll : List ℕ → (xs es : List RExprTree) → Type 0
 SpellAll ns xs es = (more : List ℕ) → map (renamed (ns ++ more)) xs ≡ es

@@ -19,6 +19,6 @@ cells_of sides places = map (cell_of sides) places
 abbrev pub pair_of : List ℕ → ℕ → ℕ → List ℕ
 pair_of mates sides p = cell_of sides p ∷ cell_of sides (slice_index mates p) ∷ []
 
--- the same of the sides at these places
+-- the cells of the sides at these places, each with that of its mate
 abbrev pub pairs_of : List ℕ → ℕ → List ℕ → List ℕ
 pairs_of mates sides places = flat_map (pair_of mates sides) places

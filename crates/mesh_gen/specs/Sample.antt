@@ -41,6 +41,6 @@ data_of n =
 unfoldable pub mesh_entries : ℕ → List Named
 mesh_entries n = sizes n ++ maps n ++ data_of n
 
--- their canonical text, in the first version
+-- the canonical text of the mesh of n times n cells, in the first version
 abbrev pub sample_mesh : ℕ → List ℕ
 sample_mesh n = canonical form.One (mesh_entries n)

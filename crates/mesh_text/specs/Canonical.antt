@@ -80,7 +80,7 @@ abbrev pub CanBeSpelled : List Named → Type 0
 CanBeSpelled [] = Unit {0}
 CanBeSpelled (e ∷ es) = (is_c_name e.0 ≡ true) × IsCounted e.1 × CanBeSpelled es
 
--- the same of entries of integers behind others, none of which has the name of one before
+-- entries of integers that can be spelled behind others, none of which has the name of one before
 abbrev pub HaveSpelling : List Named → List Named → Type 0
 HaveSpelling before [] = Unit {0}
 HaveSpelling before (e ∷ es) = IsNew e.0 before × IsCounted e.1 × HasI32 e.1 × HaveSpelling (before ++ e ∷ []) es

@@ -27,7 +27,7 @@ fn counts(alloc: Global, source: &[u8], times: u64) -> Option<(usize, usize)> {
     Some(counts)
 }
 
-// The same for the words of the command.
+// The counts for the source and the times that the command's words name.
 fn answer(rt: HostRuntime) -> Option<(usize, usize)> {
     let mut words = env::args(&rt).ok()?;
     let _program = words.next();

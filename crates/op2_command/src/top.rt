@@ -49,8 +49,8 @@ pub fn op2<R: Threads + Sync, F: Shelf, O: Sink, E: Sink>(
     op2_gated(rt, alloc, words, shelf, out, err, &Open)
 }
 
-/// The same for every gate: it is told of each element that a group begins, on the thread that runs its kernel, by its number in
-/// the group.
+/// Does what [`op2`] does, with a gate that is told of each element that a group begins, on the thread that runs its kernel, by its
+/// number in the group.
 pub fn op2_gated<R: Threads + Sync, F: Shelf, O: Sink, E: Sink, G: Gate>(
     rt: &R,
     alloc: Global,

@@ -23,7 +23,7 @@ pub record LacksHeader (b : BoundValue) (file : List ℕ) (earlier : ℕ) (outpu
   pub none : IsAt b item output (header file b.mesh dat) → ⊥
   pub awaited : line ≡ lines_before b item + lines_in (header file b.mesh dat)
 
--- its first line is there, and fewer rows are behind it than its set has elements; the output has no line of this number
+-- the dat's first line is there, and fewer rows are behind it than its set has elements; the output has no line of this number
 pub record LacksRows (b : BoundValue) (file : List ℕ) (earlier : ℕ) (output : List ℕ) (line : ℕ) : Type 0 where
   pub item : ℕ
   pub dat : ℕ

@@ -14,7 +14,7 @@ module _ (g : MeshValue) (ranks : ℕ) where
   abbrev pub Leads : State → Uncut → {X : Type 0} → Result X PartRefusal → (X → State) → Uncut → Type 0
   Leads p old r q new = Automaton.Leads (step g ranks) finish OutOfMemory p old r q new
 
-  -- the same behind `set` and a name, or behind `done`
+  -- Reading on from here, with `set` and a name or `done` awaited, is reading on from there; or it is refused.
   abbrev pub LeadsToSet : Table → Uncut → Result (Option ℕ) PartRefusal → Uncut → Type 0
   LeadsToSet t old (Ok (Some k)) new = run_from g ranks (Between t) old ≡ run_from g ranks (Count t k) new
   LeadsToSet t old (Ok None) new = run_from g ranks (Between t) old ≡ after (onto (gathered new.last t) End) (λ q. run_from g ranks q new)

@@ -30,7 +30,7 @@ module _ (b : BoundValue) (args : List Arg) (e : ℕ) (place : Cell → ℕ) whe
   abbrev pub arg_place : Arg → Place
   arg_place a = record { from = place (cell_in (reached b e a) 0); count = width b (reached b e a) }
 
-  -- the same of each argument
+  -- where the cells of all arguments stand
   abbrev pub arg_places : List Place
   arg_places = map arg_place args
 

@@ -25,7 +25,7 @@ abbrev pub gathered : List ℤ → List Span → List ℤ
 gathered m [] = []
 gathered m (s ∷ ss) = cells_at s.at s.dim m ++ gathered m ss
 
--- the same, put into a frame from a place on
+-- the cells of spans, put into a frame from a place on
 abbrev pub filled : ℕ → List ℤ → List Span → List ℤ → List ℤ
 filled from m [] f = f
 filled from m (s ∷ ss) f = filled (from + s.dim) m ss (with_window from (cells_at s.at s.dim m) f)

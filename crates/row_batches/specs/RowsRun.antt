@@ -15,7 +15,7 @@ module _ (k : RKernel) (consts behind : List ℤ) (scalars : List Scalar) where
     pub cells : new ≡ take (length old) after
     pub partials : merged ≡ amounts scalars (drop (length old) after) before
 
-  -- the same of the first n elements, one after another; `targets l` are those of the element l
+  -- the kernel finishes for the first n elements, one after another; `targets l` are those of the element l
   unfoldable pub RowsRun : (targets : ℕ → List Target) → ℕ → (old new before merged : List ℤ) → Type 0
   RowsRun targets zero old new before merged = (new ≡ old) × (merged ≡ before)
   RowsRun targets (suc n) old new before merged =

@@ -47,7 +47,7 @@ fn put_numbers(way: &Option<LocalVia<'_>>, batch: &Numbers, numbers: &mut Number
     }
 }
 
-/// The same of each way.
+/// The local numbers of the elements to which each way leads from the places of a batch.
 pub fn put_all_numbers(ways: &[Option<LocalVia<'_>>], batch: &Numbers, numbers: &mut [Numbers])
     requires targets { (w l : ℕ) → w < length ways.now → l < ROWS → HasTarget (get_or ways.now w None) (slice_index batch.now l) }
     requires room { length ways.now ≤ length numbers.old }

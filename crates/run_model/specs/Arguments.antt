@@ -37,7 +37,7 @@ abbrev pub argument_of : Arg → Argument
 argument_of (Dat d v a) = on_dat d v (access_of a)
 argument_of (Global v a) = laws.Global v (access_of a)
 
--- the same by the loop and the argument's number
+-- the argument of a loop, by its number, as the theorem names it
 abbrev pub argument_at : SiteValue → ℕ → Argument
 argument_at site a = argument_of (arg_at site a)
 

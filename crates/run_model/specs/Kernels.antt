@@ -37,7 +37,7 @@ module _ (b : BoundValue) where
   abbrev pub constants : List VarCell
   constants = map (constant_in b.vars 0) (numbers (sum_by constant_cells b.vars))
 
-  -- their values
+  -- the values of the constants that kernels read
   abbrev pub constant_values : Store → List ℤ
   constant_values s = map (λ v. s (Variable v)) constants
 

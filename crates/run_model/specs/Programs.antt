@@ -72,6 +72,6 @@ module _ (b : BoundValue) where
   abbrev pub printed : List ℕ
   printed = printed_in run_of_program
 
-  -- its first fault, if it has one
+  -- the program's first fault, if it has one
   abbrev pub first_fault : Option (Stop KernelFault)
   first_fault = stop_in run_of_program

@@ -56,7 +56,7 @@ module _ (b : BoundValue) where
   width (Element d x) = dat_dim b.mesh d
   width (Whole v) = length (var_at b v).start
 
-  -- its cells in order
+  -- the cells of a target in order
   abbrev pub cells_in : Reached → List Cell
   cells_in r = map (cell_in r) (numbers (width r))
 

@@ -30,7 +30,7 @@ scaled d scale = signed d.negative (nearest (scale * d.digits * 10 ^ d.up) (10 ^
 abbrev pub fitted : ℤ → Result ℤ DecimalRefusal
 fitted z = if fits_i32 z then Ok z else Err TooLarge
 
--- the same of a decimal in parts: its sign, its digits before and behind the point, and how the point moves
+-- the nearest integer of a decimal in parts: its sign, its digits before and behind the point, and how the point moves
 abbrev pub rounded_from : ℕ → Bool → List ℕ → List ℕ → Shift → Result ℤ DecimalRefusal
 rounded_from scale minus whole part shift =
     fitted (signed minus (nearest (scale * number_from 0 (whole ++ part) * 10 ^ right shift) (10 ^ (left shift + length part))))

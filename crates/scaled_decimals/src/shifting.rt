@@ -21,7 +21,7 @@ pub(crate) fn product(scale: u64, whole: &[u8], fraction: &[u8], shift: Shift) -
     }
 }
 
-// The same for a point that is moved to the left.
+// The product for a point that is moved to the left.
 fn moved_left(scale: u64, whole: &[u8], fraction: &[u8], by: u64) -> Option<u64>
     requires scale { (0 < scale) × (scale < 2 ^ 33) }
     requires whole { All (λ c. is_ascii_digit c ≡ true) whole.now }
@@ -38,7 +38,7 @@ fn moved_left(scale: u64, whole: &[u8], fraction: &[u8], by: u64) -> Option<u64>
     joined(scale, grown(Some(0), high), lowered(scale, carry, low))
 }
 
-// The same for a point that is moved to the right.
+// The product for a point that is moved to the right.
 fn moved_right(scale: u64, whole: &[u8], fraction: &[u8], by: u64) -> Option<u64>
     requires scale { (0 < scale) × (scale < 2 ^ 33) }
     requires whole { All (λ c. is_ascii_digit c ≡ true) whole.now }

@@ -95,7 +95,7 @@ first_word (First w) = w
 first_word (Second r a) = Rank r
 first_word (Third r a b) = Rank r
 
--- its numbers so far
+-- the numbers of a step so far
 abbrev pub so_far : Begun → List ℕ
 so_far (First w) = []
 so_far (Second r a) = a ∷ []

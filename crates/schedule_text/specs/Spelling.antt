@@ -14,7 +14,7 @@ word_of (Begin k r p) = codes "begin"
 word_of (End k r p) = codes "end"
 word_of (Join k) = codes "join"
 
--- its numbers, in the order of the text
+-- the numbers of a step, in the order of the text
 abbrev pub numbers_of : Step → List ℕ
 numbers_of (Send k s r) = k ∷ s ∷ r ∷ []
 numbers_of (Recv k r s) = k ∷ r ∷ s ∷ []

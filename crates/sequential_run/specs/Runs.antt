@@ -4,7 +4,7 @@ use Rattle.kernel_types.specs.declared.faults.KernelFault.{KernelFault}
 use Rattle.schedule_model.specs.Sequential.{Stop}
 use Rattle.sequential_run.specs.Arrays.{Arrays}
 
--- where it stopped and by which fault, or the arrays as they are; with the bytes that were printed
+-- where a run stopped and by which fault, or the arrays as they are; with the bytes that were printed
 pub data Run : Type 0 where
   Stopped : (at : Stop KernelFault) (printed : List ℕ) → Run
   Going : (arrays : Arrays) (printed : List ℕ) → Run

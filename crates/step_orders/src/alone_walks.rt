@@ -87,7 +87,8 @@ pub fn alone_in_runs(runs: &Runs, here: &mut RunPlace, places: &mut Vec<u32>) ->
     true
 }
 
-/// The same among an item's elements. Gives their rank.
+/// Takes the steps of an item's elements that come next, where these are of one rank and begin and end one after another, puts down
+/// their places and gives their rank.
 pub fn alone_elements<S: Shape>(
     shape: &S,
     item: u32,
@@ -113,7 +114,7 @@ pub fn alone_elements<S: Shape>(
     Some(rank)
 }
 
-/// The same in a Free item, once its messages have come.
+/// Takes such steps as [`alone_elements`] of a Free item, once its messages have come.
 pub fn alone_in_item<S: Shape>(
     shape: &S,
     item: u32,

@@ -51,7 +51,7 @@ pub fn closed_in_runs(runs: &Runs, here: &mut RunPlace, places: &mut Vec<u32>) -
     true
 }
 
-/// The same among an item's elements. Gives their rank.
+/// Takes the begins and ends of the run of an item's elements that comes next, puts down their places and gives their rank.
 pub fn closed_elements<S: Shape>(
     shape: &S,
     item: u32,
@@ -78,7 +78,7 @@ pub fn closed_elements<S: Shape>(
     Some(rank)
 }
 
-/// The same in a Free item, once its messages have come.
+/// Takes such steps as [`closed_elements`] of a Free item, once its messages have come.
 pub fn closed_in_item<S: Shape>(
     shape: &S,
     item: u32,

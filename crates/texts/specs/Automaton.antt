@@ -23,7 +23,7 @@ module _ {S R V : Type 0} (step : S → Word → Result S R) (finish : S → ℕ
   run s last [] = finish s last
   run s last (w ∷ ws) = after (step s w) (λ q. run q w.line ws)
 
-  -- the same, of the tokens to come
+  -- what reading the tokens to come gives from a state on
   abbrev pub run_from : S → Uncut → Result V R
   run_from s u = run s u.last u.words
 
