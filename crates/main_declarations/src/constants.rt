@@ -37,7 +37,7 @@ fn is_wrong_ampersand(source: &Source<'_>, is_array: bool, ampersand: Option<usi
     }
 }
 
-/// A `&` too many or too few.
+/// Notes a `&` too many or too few.
 pub fn note_ampersand(
     source: &Source<'_>,
     first: &mut Option<Found>,
@@ -64,7 +64,7 @@ fn file_cells(source: &Source<'_>, meaning: Option<Meaning>) -> Option<Cells>
     }
 }
 
-// What is wrong with the variable and the dim of a constant.
+// Notes what is wrong with the variable and the dim of a constant.
 #[tactic(auto, using(bind_refusals::proofs::Firsts::least_append))]
 fn note_constant(
     source: &Source<'_>,

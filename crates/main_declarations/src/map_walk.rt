@@ -23,7 +23,7 @@ use main_names::{
 use mesh_decl::MapRefusal;
 use op_num::{Name, OutOfMemory};
 
-// What is wrong with a map between these sets, with these values, its targets aside.
+// Notes what is wrong with a map between these sets, with these values, its targets aside.
 #[tactic(auto, using(bind_refusals::proofs::Firsts::least_append))]
 fn note_shape(
     source: &Source<'_>,

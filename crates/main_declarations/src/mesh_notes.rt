@@ -60,7 +60,7 @@ pub fn note_place(
     note_if(first, is_wrong, t, BindRefusal::DeclarationPlace { at });
 }
 
-/// No set is meant.
+/// Notes where no set is meant.
 pub fn note_set(source: &Source<'_>, first: &mut Option<Found>, k: &Declared, x: &Ident)
     ensures { first.new ≡ least_from first.old (set_found source.now.places.now (declared_of k.now) x.now) }
 {
@@ -69,7 +69,7 @@ pub fn note_set(source: &Source<'_>, first: &mut Option<Found>, k: &Declared, x:
     note_if(first, is_wrong, x.at, BindRefusal::UnknownSet { at });
 }
 
-/// The dim is 0 or above its limit.
+/// Notes a dim that is 0 or above its limit.
 #[tactic(auto, using(bind_refusals::proofs::Firsts::least_append))]
 pub fn note_dim(source: &Source<'_>, first: &mut Option<Found>, n: NumberLiteral)
     ensures { first.new ≡ least_from first.old (dim_found source.now.places.now n) }
@@ -93,7 +93,7 @@ fn is_int(text: &Text) -> bool
     text.bytes() == b"int".as_slice()
 }
 
-/// The type isn't `int`.
+/// Notes a type that isn't `int`.
 pub fn note_type(source: &Source<'_>, first: &mut Option<Found>, l: &TextLiteral)
     ensures { first.new ≡ least_from first.old (type_found source.now.places.now l.now) }
 {
@@ -116,7 +116,7 @@ fn are_awaited(awaits: Option<u64>, values: &[i32]) -> bool
     }
 }
 
-/// No extern array is meant, or it hasn't as many values as are awaited.
+/// Notes where no extern array is meant, or one that hasn't as many values as are awaited.
 pub fn note_data(
     source: &Source<'_>,
     first: &mut Option<Found>,
@@ -225,7 +225,7 @@ pub fn note_targets(
     note_index(source, first, mesh.map_count(), dim, x, stray)
 }
 
-/// The mesh with this declaration has too many cells.
+/// Notes a mesh that has too many cells with this declaration.
 pub fn note_cells(
     source: &Source<'_>,
     first: &mut Option<Found>,
@@ -250,7 +250,7 @@ pub fn note_cells(
     Ok(())
 }
 
-/// What is wrong with the value of a size.
+/// Notes what is wrong with the value of a size.
 #[tactic(auto, using(bind_refusals::proofs::Firsts::least_append))]
 pub fn note_value(
     source: &Source<'_>,

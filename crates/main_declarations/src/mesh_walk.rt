@@ -27,7 +27,7 @@ use main_trace::host_value;
 use op_num::OutOfMemory;
 use std::alloc::AllocError;
 
-// What is wrong with the size of a set, which is this expression.
+// Notes what is wrong with the size of a set, which is this expression.
 fn note_size(
     source: &Source<'_>,
     first: &mut Option<Found>,
@@ -125,7 +125,7 @@ pub fn judged_set(
     Ok(())
 }
 
-// What is wrong with a dat on this set, with these values.
+// Notes what is wrong with a dat on this set, with these values.
 #[tactic(auto, using(bind_refusals::proofs::Firsts::least_append))]
 fn note_dat(
     source: &Source<'_>,

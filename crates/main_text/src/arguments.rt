@@ -121,7 +121,7 @@ fn is_twice(before: &[Earlier], var: u32, access: Access) -> bool
     false
 }
 
-// No map is meant.
+// Notes where no map is meant.
 fn note_map(source: &Source<'_>, first: &mut Option<Found>, k: &Declared, via: &ArgVia)
     ensures { first.new ≡ least_from first.old
         (map_found source.now.places.now source.now.entries.now.entries (declared_of k.now).names via.now) }
@@ -136,7 +136,7 @@ fn note_map(source: &Source<'_>, first: &mut Option<Found>, k: &Declared, via: &
     }
 }
 
-// What is wrong with a global.
+// Notes what is wrong with a global.
 #[tactic(auto, using(bind_refusals::proofs::Firsts::least_append))]
 fn note_global(
     source: &Source<'_>,
@@ -181,7 +181,7 @@ fn note_global(
     }
 }
 
-// What is wrong with how an argument leads to a dat.
+// Notes what is wrong with how an argument leads to a dat.
 #[tactic(auto, using(bind_refusals::proofs::Firsts::least_three))]
 fn note_reach(
     source: &Source<'_>,
@@ -206,7 +206,7 @@ fn note_reach(
     note_if(first, is_wrong, i.at, BindRefusal::IndexRange { at });
 }
 
-// What is wrong with an argument on a dat.
+// Notes what is wrong with an argument on a dat.
 #[tactic(auto, using(bind_refusals::proofs::Firsts::least_four))]
 fn note_dat(
     source: &Source<'_>,
@@ -231,7 +231,7 @@ fn note_dat(
     note_type(source, first, l);
 }
 
-// What is wrong with an argument of a loop over that set, behind those globals.
+// Notes what is wrong with an argument of a loop over that set, behind those globals.
 #[tactic(auto, using(bind_refusals::proofs::Firsts::least_append))]
 fn note_arg(
     source: &Source<'_>,
@@ -298,7 +298,7 @@ fn add_earlier(
     }
 }
 
-/// What is wrong with the arguments of a loop over that set.
+/// Notes what is wrong with the arguments of a loop over that set.
 pub fn note_args(
     source: &Source<'_>,
     first: &mut Option<Found>,

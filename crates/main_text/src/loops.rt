@@ -16,7 +16,7 @@ use main_names::{Declared, Meaning, Source, or_zero, set_of};
 use op_num::OutOfMemory;
 use std::alloc::AllocError;
 
-// No kernel is meant, or it doesn't take so many arguments.
+// Notes where no kernel is meant, or one that doesn't take so many arguments.
 fn note_kernel(
     source: &Source<'_>,
     first: &mut Option<Found>,
