@@ -56,6 +56,14 @@ with tempfile.TemporaryDirectory() as name:
 
     # pick
     row(f"pick {both} residual.out r.txt", out="r.txt: r nodes 3 1\n1\n1\n-2\n")
+    twice = """extern int n; extern int a0[]; extern int b0[];
+int main(int argc, char **argv) {
+  op_set s = op_decl_set(n, "s"); op_dat a = op_decl_dat(s, 1, "int", a0, "a"); op_dat b = op_decl_dat(s, 1, "int", b0, "b");
+  op_printf("begun\\n"); op_print_dat_to_txtfile(a, "a.txt"); op_print_dat_to_txtfile(b, "b.txt"); op_exit();
+}
+"""
+    row("pick twice.c twice.mesh twice.out b.txt", out="b.txt: b s 2 1\n7\n8\n", twice_c=twice,
+        twice_mesh="op2mesh 1 int n 2 ints a0 2 5 6 ints b0 2 7 8 done", twice_out="begun\na.txt: a s 2 1\n5\n6\nb.txt: b s 2 1\n7\n8\n")
     row(f"pick {both} residual.out r.txt 2", 20, line="pick 1 name r.txt")
 
     # graph: nodes 0 and 1 share an edge, and so do 1 and 2
@@ -109,6 +117,13 @@ with tempfile.TemporaryDirectory() as name:
     wrong = (examples / "residual.c").read_text().replace("ra[0] += f", "ra[0] = f")
     row("explain run w.c residual.mesh", out=f"op2: source access 3 at 8:3\nstatus 5\n  ra[0] = f;\n  ^\n{third}", w_c=wrong)
     row("explain access 3", out=third)
+    by_zero = """extern int n; extern int a0[];
+void k(int *a) { a[0] = 1 / a[0]; }
+int main(int argc, char **argv) { op_set s = op_decl_set(n, "s"); op_dat a = op_decl_dat(s, 1, "int", a0, "a");
+  op_par_loop(k, "k", s, op_arg_dat(a, -1, OP_ID, 1, "int", OP_RW)); op_exit(); }
+"""
+    row("explain run zero.c zero.mesh", out=None, zero_c=by_zero, zero_mesh="op2mesh 1 int n 1 ints a0 1 0 done",
+        found="op2: fault item 0 element 0 div-zero at 2:27\nstatus 9\nvoid k(int *a) { a[0] = 1 / a[0]; }\n                          ^\n")
     row("explain check residual.c residual.mesh", out="op2 would end with status 0\n")
     # a tab stays, and a character of two bytes has one column
     lex = "lex 1\n  a byte that begins no token;"
