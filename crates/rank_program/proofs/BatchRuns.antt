@@ -22,7 +22,7 @@ use Rattle.in_place.specs.Here.{FinishesHere}
 use Rattle.row_batches.specs.RowsRun.{RunsOne, RowsRun}
 use Rattle.rank_program.specs.declared.program.DistributedProgram.{DistributedProgram}
 use Rattle.rank_program.specs.declared.local_loops.LocalLoop.{LocalLoop}
-use Rattle.rank_program.specs.Batches.{Counts, reduces}
+use Rattle.rank_program.specs.Batches.{Counts, reduces, GoesOn}
 use Rattle.rank_program.specs.Keeping.{KeepsIn}
 use Rattle.rank_program.specs.LocalArgs.{places_in}
 use Rattle.rank_program.specs.LocalLoops.{IsLocalLoop, VariablesStand}
@@ -151,3 +151,16 @@ module _ (l : LocalLoop) (sound : Sound l.program.now) (is : IsLocalLoop l) (sta
         → (new qs : List ℤ) → RowsRun f l.constants.now behind l.scalars.now (λ j. targets (batch j)) n old new ps qs
         → Reached i old ps → Reached (i + n) new qs
     rows_reach n fits are counts new qs rows reached = (rows_run n fits are counts new qs rows reached).0
+
+-- ---- stretches of places
+
+module _ (l : LocalLoop) (places : List ℕ) where
+  -- no place
+  pub goes_nowhere : (at : ℕ) (s : Share KernelFault) → GoesOn l places at (at + 0) s s
+  goes_nowhere at s start h =
+      let none : at ≡ at + 0 = omega arith in
+      subst (λ n. Reaches (setup_in l.program.now) (layout_in l.program.now) (tables_in l.program.now) l.item l.rank l.constants.now l.variables.now places start n s) none h
+
+  -- one stretch and the next
+  pub goes_further : (from to end : ℕ) (old between new : Share KernelFault) → GoesOn l places from to old between → GoesOn l places to end between new → GoesOn l places from end old new
+  goes_further from to end old between new first second start h = second start (first start h)

@@ -25,7 +25,6 @@ use Rattle.run_model.proofs.Windows.{is_argument}
 use Rattle.bound_plan.specs.Laws.{FramesAreReached}
 use Rattle.bound_plan.specs.Places.{original_at, cell_at}
 use Rattle.bound_plan.specs.Variables.{variable_at}
-use Rattle.kernel_columns.specs.declared.columns.TheConstants.{ROWS}
 use Rattle.rank_layout.specs.Made.{EachIsScalar}
 use Rattle.row_batches.specs.declared.rows.RowLoop.{RowLoop}
 use Rattle.row_batches.specs.Ways.{local_in}
@@ -211,7 +210,7 @@ module _ (l : LocalLoop) (sound : Sound l.program.now) (is : IsLocalLoop l) (sta
           (cell_at c.meshes.now b.mesh l.rank) (dat_spans c sound stand l.item l.rank first step m) (variable_at b) (scalars_in c l.item)
           (windows_here c sound stand l.item l.rank first step windows m is.part).cells fits.args
 
-      module _ (batch : List ℕ) (begin : (r : ℕ) → r < ROWS → BeginsAt l (slice_index batch r)) where
+      module _ (batch : List ℕ) (rows : ℕ) (begin : (r : ℕ) → r < rows → BeginsAt l (slice_index batch r)) where
         abbrev standing : ℕ → List Place
         standing x = places_in x locals cells
 
@@ -321,7 +320,7 @@ module _ (l : LocalLoop) (sound : Sound l.program.now) (is : IsLocalLoop l) (sta
 
         -- two columns share no cell, or reduce into one component alike
         columns_apart : (k d : ℕ) → k < length row.columns.now → d < length row.columns.now → k ≢ d → column_access row k ≢ OpRead
-            → NeverMeet row m.cells modes standing batch k d ⊎ ReduceApart row k d
+            → NeverMeet row m.cells modes standing batch rows k d ⊎ ReduceApart row k d
         columns_apart k d lk ld ne modifies =
             let o = own k lk in
             let q = own d ld in
@@ -336,7 +335,7 @@ module _ (l : LocalLoop) (sound : Sound l.program.now) (is : IsLocalLoop l) (sta
             other (meets args locals (BeginsAt l) m.cells base_of dim_of reach row numbers places are_on tables k d o q (slice_index batch i) (slice_index batch r) (begin i li) (begin r lr) cell).dat))
             (cases_eq o.on.dat q.on.dat)
 
-        pub in_rows : c.obeying ≡ true → RunsInRows row m.cells modes standing batch
+        pub in_rows : c.obeying ≡ true → RunsInRows row m.cells modes standing batch rows
         in_rows obeying = record {
           obeys = subst (λ z. KernelObeys z.kernel.now modes) (sym codes)
               (sound.obeying obeying (loop_of (item_at b l.item)) l.code.now.kernel.now (begun first step).loop is.kernel);
@@ -373,5 +372,5 @@ module _ (l : LocalLoop) (sound : Sound l.program.now) (is : IsLocalLoop l) (sta
         leads = leads_from args locals (BeginsAt l) m.cells base_of dim_of reach row numbers places are_on tables;
         stand = cells;
         are = at;
-        in_rows = λ batch begin. in_rows batch begin obeying;
+        in_rows = λ batch rows begin. in_rows batch rows begin obeying;
       }

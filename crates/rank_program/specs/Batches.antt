@@ -11,7 +11,6 @@ use Rattle.run_model.specs.Arguments.{modes_of}
 use Rattle.run_model.specs.Laws.{site_of}
 use Rattle.rank_state.specs.declared.scalars.Scalar.{Scalar}
 use Rattle.rank_state.specs.declared.scalars.Scalar.TheVariants.{Value, Amount}
-use Rattle.kernel_columns.specs.declared.columns.TheConstants.{ROWS}
 use Rattle.row_batches.specs.declared.rows.RowLoop.{RowLoop}
 use Rattle.row_batches.specs.RowLoops.{width, IsWhole, LeadsFrom, RunsInRows}
 use Rattle.rank_program.specs.AloneRuns.{Share, Reaches}
@@ -70,7 +69,7 @@ module _ (l : LocalLoop) where
     pub leads : (x : ℕ) → BeginsAt x → LeadsFrom y l.part.now.cells x
     pub stand : List Place
     pub are : VariablesStand l stand
-    pub in_rows : (batch : List ℕ)
-        → ((r : ℕ) → r < ROWS → BeginsAt (slice_index batch r))
+    pub in_rows : (batch : List ℕ) (rows : ℕ)
+        → ((r : ℕ) → r < rows → BeginsAt (slice_index batch r))
         → RunsInRows y l.part.now.cells (modes_of (program_in l.program.now) (site_of (program_in l.program.now) l.item))
-        (λ x. places_in x l.args.now stand) batch
+        (λ x. places_in x l.args.now stand) batch rows

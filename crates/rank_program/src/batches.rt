@@ -1,4 +1,4 @@
-// Batches of a loop's elements on a rank: 64 of them at once where they can run in rows, else one after another.
+// Batches of a loop's elements on a rank: up to 64 of them at once where they can run in rows, else one after another.
 
 ghost use Rattle.std.specs.Prelude.{◌≡◌, ◌<◌, ◌≤◌, ◌+◌, ◌==◌, ℕ, true, false, length, take, get_or, slice_index};
 ghost use Rattle.rank_memory.specs.Stops.{stop_in};
@@ -19,7 +19,7 @@ use kernel_columns::{Numbers, ROWS};
 use rank_layout::{MAX_ARGS, element_windows_stand, steps_stand, windows_stand};
 use rank_memory::stop::Stop;
 use rank_state::Scalar;
-use row_batches::{RowLoop, RowRoom, run_batch};
+use row_batches::{FEWEST, RowLoop, RowRoom, run_batch};
 use views::Place;
 
 // Whether a loop reduces into a variable.
@@ -34,13 +34,14 @@ fn reduces(scalars: &[Scalar]) -> bool
     false
 }
 
-// Whether the 64 places from `at` on are below one.
-fn all_below(places: &[u32], at: usize, end: u32) -> bool
-    requires { at + ROWS ≤ length places.now }
-    ensures { result ≡ true → (j : ℕ) → j < ROWS → get_or places.now (at + j) 0 < end }
+// Whether so many places from `at` on are below one.
+fn all_below(places: &[u32], at: usize, count: usize, end: u32) -> bool
+    requires some { 0 < count }
+    requires fits { at + count ≤ length places.now }
+    ensures { result ≡ true → (j : ℕ) → j < count → get_or places.now (at + j) 0 < end }
 {
     let mut most = 0;
-    for j in 0..ROWS {
+    for j in 0..count {
         most = places[at + j].max(most);
     }
     most < end
@@ -48,12 +49,13 @@ fn all_below(places: &[u32], at: usize, end: u32) -> bool
 
 // Whether what the elements at the places of a batch leave of the loop's scalars counts: it reduces into none, or its rank owns the
 // elements.
-fn all_count(local: &LocalLoop<'_>, places: &[u32], at: usize) -> bool
+fn all_count(local: &LocalLoop<'_>, places: &[u32], at: usize, count: usize) -> bool
     requires sound { Sound local.now.program.now }
     requires steps { AllBegin (setup_in local.now.program.now) (layout_in local.now.program.now) (tables_in local.now.program.now)
         local.now.item local.now.rank places.now }
-    requires fits { at + ROWS ≤ length places.now }
-    ensures { result ≡ true → (j : ℕ) → j < ROWS → Counts
+    requires some { 0 < count }
+    requires fits { at + count ≤ length places.now }
+    ensures { result ≡ true → (j : ℕ) → j < count → Counts
         ((setup_in local.now.program.now).owner ((setup_in local.now.program.now).program.set local.now.item)
         ((layout_in local.now.program.now).original local.now.item local.now.rank (get_or places.now (at + j) 0)) == local.now.rank)
         local.now.scalars.now }
@@ -62,47 +64,50 @@ fn all_count(local: &LocalLoop<'_>, places: &[u32], at: usize) -> bool
         return true;
     }
     let end = own_places(local.program, local.item, local.rank);
-    all_below(places, at, end)
+    all_below(places, at, count, end)
 }
 
-// The 64 places from `at` on.
-fn batch_at(places: &[u32], at: usize) -> Numbers
-    requires { at + ROWS ≤ length places.now }
-    ensures { (j : ℕ) → j < ROWS → slice_index result j ≡ get_or places.now (at + j) 0 }
+// So many places from `at` on, at most 64.
+fn batch_at(places: &[u32], at: usize, count: usize) -> Numbers
+    requires few { count ≤ ROWS }
+    requires fits { at + count ≤ length places.now }
+    ensures { (j : ℕ) → j < count → slice_index result j ≡ get_or places.now (at + j) 0 }
 {
     let mut batch = [0; ROWS];
-    for j in 0..ROWS {
+    for j in 0..count {
         batch[j] = places[at + j];
     }
     batch
 }
 
-// Runs the kernel of a loop for the 64 elements at the places from `at` on at once, on `memory`: the cells of the rank's buffer, and
-// behind them one for each of the loop's scalars, whatever it holds. Answers `false` where they do not run in rows; then memory and
-// partials are as they were.
+// Runs the kernel of a loop for elements at the places from `at` on at once: for as many of so many, at most 64, as run in rows, on
+// `memory`: the cells of the rank's buffer, and behind them one for each of the loop's scalars, whatever it holds. Answers how many
+// ran, from the first on.
 fn run_rows(
     local: &LocalLoop<'_>,
     rows: &RowLoop<'_>,
     places: &[u32],
     at: usize,
+    count: usize,
     memory: &mut [i32],
     partials: &mut [i32],
     room: &mut RowRoom,
-) -> bool
+) -> usize
     requires sound { Sound local.now.program.now }
     requires is { IsLocalLoop local.now }
     requires keeps { KeepsIn local.now.program.now local.now.item }
     requires rows { IsRowLoop local.now rows.now }
     requires steps { AllBegin (setup_in local.now.program.now) (layout_in local.now.program.now) (tables_in local.now.program.now)
         local.now.item local.now.rank places.now }
-    requires fits { at + ROWS ≤ length places.now }
+    requires some { 0 < count }
+    requires few { count ≤ ROWS }
+    requires fits { at + count ≤ length places.now }
     requires memory { length memory.old ≡ local.now.part.now.cells + length local.now.scalars.now }
     requires partials { length partials.old ≡ (tables_in local.now.program.now).slots }
     requires room { HasRowRoom most_ways most_columns most_columns room.old }
-    ensures runs { result ≡ true → GoesCleanly local.now places.now at (at + ROWS)
+    ensures few { result ≤ count }
+    ensures runs { GoesCleanly local.now places.now at (at + result)
         (take local.now.part.now.cells memory.old) (take local.now.part.now.cells memory.new) partials.old partials.new }
-    ensures memory { result ≡ false → memory.new ≡ memory.old }
-    ensures partials { result ≡ false → partials.new ≡ partials.old }
     ensures room { HasRowRoom most_ways most_columns most_columns room.new }
 {
     steps_stand();
@@ -110,32 +115,96 @@ fn run_rows(
     element_windows_stand();
     bound_plan::frames_are_reached();
     in_place::finishes_here();
-    if !all_count(local, places, at) {
-        return false;
+    if !all_count(local, places, at, count) {
+        return 0;
     }
-    let batch = batch_at(places, at);
+    let batch = batch_at(places, at, count);
     run_batch(
         rows,
         &batch,
+        count,
         &mut memory[..local.part.cells],
         partials,
         room,
     )
 }
 
-// How many batches run one element after another before the next that is tried in rows, and how many after it if it fails.
+// How many elements run one after another before the next batch that is tried in rows, and how many after it if none of its elements
+// runs so.
 #[derive(Drop)]
 struct Pause {
     left: usize,
     next: usize,
 }
 
-// Runs the kernel of a loop for the 64 elements at the places from `at` on: at once where they run in rows, else one after another.
-fn run_one(
+impl Pause {
+    // Notes whether elements of a batch that was tried ran in rows.
+    fn note(&mut self, ran: bool) {
+        if ran {
+            self.next = FEWEST;
+        } else {
+            self.left = self.next;
+            self.next = self.next.saturating_mul(2);
+        }
+    }
+
+    // How many elements run one after another now, at least one of so many.
+    fn pass(&mut self, most: usize) -> usize
+        requires { 0 < most }
+        ensures some { 0 < result }
+        ensures few { result ≤ most }
+    {
+        let now = self.left.max(1).min(most);
+        self.left = self.left.saturating_sub(now);
+        now
+    }
+}
+
+// The same as `run_rows`, but while the pause lasts none runs.
+fn try_rows(
     local: &LocalLoop<'_>,
     rows: &RowLoop<'_>,
     places: &[u32],
     at: usize,
+    count: usize,
+    pause: &mut Pause,
+    memory: &mut [i32],
+    partials: &mut [i32],
+    room: &mut RowRoom,
+) -> usize
+    requires sound { Sound local.now.program.now }
+    requires is { IsLocalLoop local.now }
+    requires keeps { KeepsIn local.now.program.now local.now.item }
+    requires rows { IsRowLoop local.now rows.now }
+    requires steps { AllBegin (setup_in local.now.program.now) (layout_in local.now.program.now) (tables_in local.now.program.now)
+        local.now.item local.now.rank places.now }
+    requires some { 0 < count }
+    requires few { count ≤ ROWS }
+    requires fits { at + count ≤ length places.now }
+    requires memory { length memory.old ≡ local.now.part.now.cells + length local.now.scalars.now }
+    requires partials { length partials.old ≡ (tables_in local.now.program.now).slots }
+    requires room { HasRowRoom most_ways most_columns most_columns room.old }
+    ensures few { result ≤ count }
+    ensures runs { GoesCleanly local.now places.now at (at + result)
+        (take local.now.part.now.cells memory.old) (take local.now.part.now.cells memory.new) partials.old partials.new }
+    ensures room { HasRowRoom most_ways most_columns most_columns room.new }
+{
+    if pause.left > 0 {
+        return 0;
+    }
+    let ran = run_rows(local, rows, places, at, count, memory, partials, room);
+    pause.note(ran > 0);
+    ran
+}
+
+// Runs the kernel of a loop for elements at the places from `at` on, at most 64: for as many as run in rows, and one behind them alone,
+// which does not run with them. Where none runs in rows, as many as the pause says run one after another. Answers how many ran.
+fn run_some(
+    local: &LocalLoop<'_>,
+    rows: &RowLoop<'_>,
+    places: &[u32],
+    at: usize,
+    count: usize,
     pause: &mut Pause,
     cells: &mut [Place],
     memory: &mut [i32],
@@ -144,40 +213,43 @@ fn run_one(
     saved: &mut [i32],
     scratch: &mut [i32],
     room: &mut RowRoom,
-)
+) -> usize
     requires sound { Sound local.now.program.now }
     requires is { IsLocalLoop local.now }
     requires keeps { KeepsIn local.now.program.now local.now.item }
     requires rows { IsRowLoop local.now rows.now }
     requires steps { AllBegin (setup_in local.now.program.now) (layout_in local.now.program.now) (tables_in local.now.program.now)
         local.now.item local.now.rank places.now }
-    requires fits { at + ROWS ≤ length places.now }
+    requires some { 0 < count }
+    requires few { count ≤ ROWS }
+    requires fits { at + count ≤ length places.now }
     requires stand { VariablesStand local.now cells.old }
     requires memory { length memory.old ≡ local.now.part.now.cells + length local.now.scalars.now }
     requires partials { length partials.old ≡ (tables_in local.now.program.now).slots }
     requires saved { most_saved ≤ length saved.old }
     requires scratch { local.now.program.now.locals ≤ length scratch.old }
     requires room { HasRowRoom most_ways most_columns most_columns room.old }
-    ensures runs { GoesOn local.now places.now at (at + ROWS)
+    ensures some { 0 < result }
+    ensures few { result ≤ count }
+    ensures runs { GoesOn local.now places.now at (at + result)
         (record { cells = take local.now.part.now.cells memory.old; partials = partials.old; fault = stop_in kept.old })
         (record { cells = take local.now.part.now.cells memory.new; partials = partials.new; fault = stop_in kept.new }) }
     ensures stand { VariablesStand local.now cells.new }
     ensures room { HasRowRoom most_ways most_columns most_columns room.new }
 {
-    if pause.left > 0 {
-        pause.left -= 1;
-    } else if run_rows(local, rows, places, at, memory, partials, room) {
-        pause.next = 1;
-        return;
+    let ran = try_rows(
+        local, rows, places, at, count, pause, memory, partials, room,
+    );
+    let upto = if ran > 0 {
+        count.min(ran + 1)
     } else {
-        pause.left = pause.next;
-        pause.next = pause.next.saturating_mul(2);
-    }
+        pause.pass(count)
+    };
     run_alone(
         local,
         places,
-        at,
-        at + ROWS,
+        at + ran,
+        at + upto,
         cells,
         memory,
         partials,
@@ -185,11 +257,12 @@ fn run_one(
         saved,
         scratch,
     );
+    upto
 }
 
-// Runs the kernel of a loop whose elements run in rows for the elements at places, by batches. A batch that does not run in rows runs
-// one element after another, and so do as many after it as the pause says, twice as many each time. Answers how many elements ran;
-// fewer than 64 are left.
+// Runs the kernel of a loop whose elements run in rows for the elements at places, by batches. Where no element of a batch runs in rows,
+// its first 8 run one after another, and twice as many each time that the next batch fails too. Answers how many elements ran; fewer
+// than make a batch are left.
 fn run_all(
     local: &LocalLoop<'_>,
     rows: &RowLoop<'_>,
@@ -221,28 +294,22 @@ fn run_all(
     ensures stand { VariablesStand local.now cells.new }
     ensures room { HasRowRoom most_ways most_columns most_columns room.new }
 {
-    let count = places.len() / ROWS;
-    let mut pause = Pause { left: 0, next: 1 };
-    for i in 0..count {
-        run_one(
-            local,
-            rows,
-            places,
-            i * ROWS,
-            &mut pause,
-            cells,
-            memory,
-            partials,
-            kept,
-            saved,
-            scratch,
-            room,
+    let mut pause = Pause {
+        left: 0,
+        next: FEWEST,
+    };
+    let mut at = 0;
+    while places.len() - at >= FEWEST {
+        let count = ROWS.min(places.len() - at);
+        at += run_some(
+            local, rows, places, at, count, &mut pause, cells, memory, partials, kept, saved,
+            scratch, room,
         );
     }
-    count * ROWS
+    at
 }
 
-/// Runs the kernel of a loop on a rank for elements at places by batches of 64, where its elements run in rows, on `memory` as
+/// Runs the kernel of a loop on a rank for elements at places by batches of up to 64, where its elements run in rows, on `memory` as
 /// `run_here` does. Answers how many elements ran, from the first on.
 pub fn run_batches(
     local: &LocalLoop<'_>,
@@ -273,7 +340,7 @@ pub fn run_batches(
     ensures stand { VariablesStand local.now cells.new }
     ensures room { HasRowRoom most_ways most_columns most_columns room.new }
 {
-    if places.len() < ROWS {
+    if places.len() < FEWEST {
         return 0;
     }
     let mut numbers = [0; MAX_ARGS];

@@ -1,4 +1,5 @@
 pub mod Accesses
+pub mod Fewer
 pub mod Given
 pub mod Merged
 pub mod Moves

@@ -7,7 +7,6 @@ use Rattle.reductions.specs.Access.{OpRead, OpReduce}
 use Rattle.rank_state.specs.declared.scalars.Scalar.{Scalar}
 use Rattle.rank_state.specs.declared.scalars.Scalar.TheVariants.{Value, Amount}
 use Rattle.rank_state.specs.Windows.{operation, amount, amounts, InSlots, Merges}
-use Rattle.kernel_columns.specs.declared.columns.TheConstants.{ROWS}
 use Rattle.kernel_columns.specs.Rows.{at_row, row}
 use Rattle.kernel_columns.specs.Moving.{total}
 use Rattle.row_batches.specs.RowLoops.{AllowsScalar, MergeAlike, scalar_in}
@@ -36,14 +35,14 @@ all_in n [] cs p = p
 all_in n (x ∷ xs) [] p = p
 all_in n (x ∷ xs) (c ∷ cs) p = all_in n xs cs (total_in n x c p)
 
-put_total : (x : Scalar) (c p : List ℤ) → total_put x c p ≡ total_in ROWS x c p
-put_total (Value at) c p = refl
-put_total (Amount at slot how) c p = refl
+put_total : (n : ℕ) (x : Scalar) (c p : List ℤ) → total_put n x c p ≡ total_in n x c p
+put_total n (Value at) c p = refl
+put_total n (Amount at slot how) c p = refl
 
-all_totals : (xs : List Scalar) (cs : List (List ℤ)) (p : List ℤ) → totals xs cs p ≡ all_in ROWS xs cs p
-all_totals [] cs p = refl
-all_totals (x ∷ xs) [] p = refl
-all_totals (x ∷ xs) (c ∷ cs) p = all_totals xs cs (total_put x c p) ∙ ap (all_in ROWS xs cs) (put_total x c p)
+all_totals : (n : ℕ) (xs : List Scalar) (cs : List (List ℤ)) (p : List ℤ) → totals n xs cs p ≡ all_in n xs cs p
+all_totals n [] cs p = refl
+all_totals n (x ∷ xs) [] p = refl
+all_totals n (x ∷ xs) (c ∷ cs) p = all_totals n xs cs (total_put n x c p) ∙ ap (all_in n xs cs) (put_total n x c p)
 
 long_one : (x : Scalar) (v : ℤ) (p : List ℤ) → length (amount x v p) ≡ length p
 long_one (Value at) v p = refl
@@ -154,8 +153,8 @@ module _ (laws : (r : Reduction) → IsCommuting (unit_of r) (merged r)) where
       by_columns n xs cs (total_in n x c p) (λ i j i_lt j_lt. alike (suc i) (suc j) (omega arith) (omega arith)) (all_in_as_many (length p) (length (total_in n x c p)) xs (sym (long_total n x c p)) inside.1)
       ∙ column_first x xs c cs p (λ j lt. alike 0 (suc j) (omega arith) (omega arith)) inside.0 n
 
-  pub totals_by_rows : (xs : List Scalar) (cs : List (List ℤ)) (p : List ℤ) → ((i j : ℕ) → i < length xs → j < length xs → MergeAlike (scalar_in xs i) (scalar_in xs j)) → Merges (length p) xs → totals xs cs p ≡ rows_merged xs cs ROWS p
-  totals_by_rows xs cs p alike inside = all_totals xs cs p ∙ by_columns ROWS xs cs p alike inside
+  pub totals_by_rows : (n : ℕ) (xs : List Scalar) (cs : List (List ℤ)) (p : List ℤ) → ((i j : ℕ) → i < length xs → j < length xs → MergeAlike (scalar_in xs i) (scalar_in xs j)) → Merges (length p) xs → totals n xs cs p ≡ rows_merged xs cs n p
+  totals_by_rows n xs cs p alike inside = all_totals n xs cs p ∙ by_columns n xs cs p alike inside
 
 -- amounts from two lists that agree where scalars are amounts
 pub amounts_agree : (xs : List Scalar) (ws us p : List ℤ) → length xs ≤ length ws → length xs ≤ length us → ((j : ℕ) → j < length xs → (AllowsScalar (scalar_in xs j) OpRead → ⊥) → get_or ws j (pos 0) ≡ get_or us j (pos 0)) → amounts xs ws p ≡ amounts xs us p

@@ -10,7 +10,6 @@ use Rattle.kernel_model.specs.Independence.{access, dim}
 use Rattle.rank_state.specs.declared.scalars.Scalar.{Scalar}
 use Rattle.rank_state.specs.declared.scalars.Scalar.TheVariants.{Value, Amount}
 use Rattle.rank_state.specs.Windows.{operation}
-use Rattle.kernel_columns.specs.declared.columns.TheConstants.{ROWS}
 use Rattle.kernel_columns.specs.Rows.{at_row, row}
 use Rattle.kernel_columns.specs.PutOrder.{Change, Store, Merge, MaySwap}
 use Rattle.kernel_columns.specs.RowMoves.{cell_of, IsMove, AreMoves}
@@ -155,11 +154,11 @@ module _ (y : RowLoop) (m : List ℤ) (modes : List Mode) (stand : ℕ → List 
       (h.runs.amounts (c - n_of) (omega (arith, lt, le)) (scalar_changes (scalar_at y (c - n_of)) (subst (λ z. z ≢ OpRead) (acc_scalar c le) changes))))
       (cases_lt c n_of)
 
-  inside : (l c : ℕ) → l < ROWS → c < n_of → mem l c < length m
+  inside : (l c : ℕ) → l < h.rows → c < n_of → mem l c < length m
   inside l c l_lt c_lt = omega (arith, (h.leads l l_lt).inside c c_lt, mem_column l c c_lt)
 
   -- two of them, of which the first may be modified, have different cells in a row
-  total_apart : (c d l : ℕ) → l < ROWS → c ≢ d → acc c ≢ OpRead → mem l c ≢ mem l d
+  total_apart : (c d l : ℕ) → l < h.rows → c ≢ d → acc c ≢ OpRead → mem l c ≢ mem l d
   total_apart c d l l_lt ne changes same = both (cases_lt c n_of) (cases_lt d n_of)
     where
       both : (c < n_of) ⊎ (n_of ≤ c) → (d < n_of) ⊎ (n_of ≤ d) → ⊥
@@ -171,9 +170,9 @@ module _ (y : RowLoop) (m : List ℤ) (modes : List Mode) (stand : ℕ → List 
       both (inr c_le) (inr d_le) = ne (omega (arith, mem_scalar l c c_le, mem_scalar l d d_le, same, c_le, d_le))
 
   -- changes of two columns in two rows may come in either order
-  column_swap : (c d k l : ℕ) → c < n_of → d < n_of → c ≢ d → acc c ≢ OpRead → k < ROWS → l < ROWS → MaySwap (move c k) (move d l)
+  column_swap : (c d k l : ℕ) → c < n_of → d < n_of → c ≢ d → acc c ≢ OpRead → k < h.rows → l < h.rows → MaySwap (move c k) (move d l)
   column_swap c d k l c_lt d_lt ne changes k_lt l_lt = ⊎_elim
-      (λ (never : NeverMeet y (length m) modes stand batch c d).
+      (λ (never : NeverMeet y (length m) modes stand batch h.rows c d).
       swap_apart (acc c) (acc d) (mem k c) (mem l d) (at_row k (get_or after c [])) (at_row l (get_or after d []))
       (λ same. never k l k_lt l_lt (sym (mem_column k c c_lt) ∙ same ∙ mem_column l d d_lt)))
       (λ (r : ReduceApart y c d).
@@ -202,7 +201,7 @@ module _ (y : RowLoop) (m : List ℤ) (modes : List Mode) (stand : ℕ → List 
   nth_of : (k : ℕ) → k < most → (nth k < width y) × (acc (nth k) ≢ OpRead)
   nth_of k lt = let f = picked is_put (width y) k lt in (f.0, not_read (acc (nth k)) f.1)
 
-  each_move : (l k : ℕ) → l < ROWS → k < most → (a : ℕ) × (i : ℕ) × (i < dim modes a) × IsMove (access modes a) (all_moves k l) ((target_at (mt y m modes stand batch numbers frame h l) a).from + i) (read_arg (ft y m modes stand batch numbers frame h) (row l after ∷ []) a i)
+  each_move : (l k : ℕ) → l < h.rows → k < most → (a : ℕ) × (i : ℕ) × (i < dim modes a) × IsMove (access modes a) (all_moves k l) ((target_at (mt y m modes stand batch numbers frame h l) a).from + i) (read_arg (ft y m modes stand batch numbers frame h) (row l after ∷ []) a i)
   each_move l k l_lt lt =
       let c = nth k in
       let is = nth_of k lt in
@@ -220,7 +219,7 @@ module _ (y : RowLoop) (m : List ℤ) (modes : List Mode) (stand : ℕ → List 
             (is_move (acc c) (access modes f.0) (mem l c) (at_row l (get_or after c [])) may f.3)),
       )
 
-  find_move : (l a i : ℕ) → l < ROWS → i < dim modes a → access modes a ≢ OpRead → (k : ℕ) × (k < most) × (cell_of (all_moves k l) ≡ (target_at (mt y m modes stand batch numbers frame h l) a).from + i)
+  find_move : (l a i : ℕ) → l < h.rows → i < dim modes a → access modes a ≢ OpRead → (k : ℕ) × (k < most) × (cell_of (all_moves k l) ≡ (target_at (mt y m modes stand batch numbers frame h l) a).from + i)
   find_move l a i l_lt i_lt changes =
       let p = stands y m modes stand batch numbers frame h l a i l_lt i_lt in
       let c = fcol y m modes stand batch numbers frame h a i in
@@ -233,12 +232,12 @@ module _ (y : RowLoop) (m : List ℤ) (modes : List Mode) (stand : ℕ → List 
             ∙ total_cell l a i p,
       )
 
-  moves_apart : (l k j : ℕ) → l < ROWS → k < most → j < most → k ≢ j → cell_of (all_moves k l) ≢ cell_of (all_moves j l)
+  moves_apart : (l k j : ℕ) → l < h.rows → k < most → j < most → k ≢ j → cell_of (all_moves k l) ≢ cell_of (all_moves j l)
   moves_apart l k j l_lt k_lt j_lt ne same =
       total_apart (nth k) (nth j) l l_lt (differ is_put (width y) k j k_lt j_lt ne) (nth_of k k_lt).1
       (sym (its_cell (acc (nth k)) (mem l (nth k)) (at_row l (get_or after (nth k) []))) ∙ same ∙ its_cell (acc (nth j)) (mem l (nth j)) (at_row l (get_or after (nth j) [])))
 
-  pub are_moves : (l : ℕ) → l < ROWS → AreMoves modes (ft y m modes stand batch numbers frame h) (mt y m modes stand batch numbers frame h l) (row l after) (λ k. all_moves k l) most
+  pub are_moves : (l : ℕ) → l < h.rows → AreMoves modes (ft y m modes stand batch numbers frame h) (mt y m modes stand batch numbers frame h l) (row l after) (λ k. all_moves k l) most
   are_moves l l_lt = record {
     counts = λ a. h.runs.counts l a l_lt;
     in_array = λ a. no_array (stand (slice_index batch l)) a;
@@ -253,7 +252,7 @@ module _ (y : RowLoop) (m : List ℤ) (modes : List Mode) (stand : ℕ → List 
   inner_column : (k : ℕ) → k < inner → nth k < n_of
   inner_column k lt = first_ones is_put (width y) k n_of (omega arith) lt
 
-  pub are_columns : AreColumns all_moves inner most ROWS (length m)
+  pub are_columns : AreColumns all_moves inner most h.rows (length m)
   are_columns = record {
     few = few_inner;
     inside = λ k l k_lt l_lt. omega (arith, its_cell (acc (nth k)) (mem l (nth k)) (at_row l (get_or after (nth k) [])), inside l (nth k) l_lt (inner_column k k_lt));

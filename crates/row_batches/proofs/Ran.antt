@@ -12,7 +12,6 @@ use Rattle.kernel_model.specs.Independence.{access, dim}
 use Rattle.rank_state.specs.declared.scalars.Scalar.{Scalar}
 use Rattle.rank_state.specs.declared.scalars.Scalar.TheVariants.{Value, Amount}
 use Rattle.rank_state.specs.Windows.{first, operation, amounts, Merges}
-use Rattle.kernel_columns.specs.declared.columns.TheConstants.{ROWS}
 use Rattle.kernel_columns.specs.Rows.{at_row, row}
 use Rattle.kernel_columns.specs.PutOrder.{Change, column_put, put_by_columns, ColumnsArePut}
 use Rattle.kernel_columns.specs.Batch.{RunsRow, OneByOne, RowsApart}
@@ -51,7 +50,7 @@ module _ (y : RowLoop) (m : List ℤ) (modes : List Mode) (stand : ℕ → List 
   -- ---- the memory
 
   -- the change of a column, by its access
-  is_change : (c l : ℕ) (a : Access) → c < length y.columns.now → l < ROWS → column_access y c ≡ a → put c ≡ true → moves (count put c) l ≡ change_by a (cells_of numbers (column_at y c) l) (at_row l (get_or after c []))
+  is_change : (c l : ℕ) (a : Access) → c < length y.columns.now → l < h.rows → column_access y c ≡ a → put c ≡ true → moves (count put c) l ≡ change_by a (cells_of numbers (column_at y c) l) (at_row l (get_or after c []))
   is_change c l a c_lt l_lt by is =
       ap (λ d. move y m modes stand batch numbers frame h after d l) (pick_of put (width y) c (omega arith) is)
       ∙ ap (λ z. change_by z (mem y m modes stand batch numbers frame h after l c) (at_row l (get_or after c []))) (acc_column y m modes stand batch numbers frame h after c c_lt ∙ by)
@@ -61,29 +60,29 @@ module _ (y : RowLoop) (m : List ℤ) (modes : List Mode) (stand : ℕ → List 
   puts c a lt by is = ap modifies (acc_column y m modes stand batch numbers frame h after c lt ∙ by) ∙ is
 
   module _ (law : ColumnsArePut) where
-    one_column : (c : ℕ) (a : Access) (z : List ℤ) → c < length y.columns.now → column_access y c ≡ a → put_by_columns moves (count put c) ROWS m ≡ z → put_back_for numbers a (column_at y c) (get_or after c []) z ≡ put_by_columns moves (count put (suc c)) ROWS m
+    one_column : (c : ℕ) (a : Access) (z : List ℤ) → c < length y.columns.now → column_access y c ≡ a → put_by_columns moves (count put c) h.rows m ≡ z → put_back_for numbers h.rows a (column_at y c) (get_or after c []) z ≡ put_by_columns moves (count put (suc c)) h.rows m
     one_column c OpRead z lt by e =
-        sym e ∙ ap (λ n. put_by_columns moves n ROWS m) (sym (skipped put c (ap modifies (acc_column y m modes stand batch numbers frame h after c lt ∙ by))))
+        sym e ∙ ap (λ n. put_by_columns moves n h.rows m) (sym (skipped put c (ap modifies (acc_column y m modes stand batch numbers frame h after c lt ∙ by))))
     one_column c OpWrite z lt by e =
         let is = puts c OpWrite lt by refl in
-        law.stores moves (count put c) ROWS (cells_of numbers (column_at y c)) (get_or after c []) z (λ l l_lt. is_change c l OpWrite lt l_lt by is)
-        ∙ ap (column_put moves (count put c) ROWS) (sym e) ∙ sym (more_columns_put moves (count put c) ROWS m)
-        ∙ ap (λ n. put_by_columns moves n ROWS m) (sym (counted put c is))
+        law.stores moves (count put c) h.rows (cells_of numbers (column_at y c)) (get_or after c []) z (λ l l_lt. is_change c l OpWrite lt l_lt by is)
+        ∙ ap (column_put moves (count put c) h.rows) (sym e) ∙ sym (more_columns_put moves (count put c) h.rows m)
+        ∙ ap (λ n. put_by_columns moves n h.rows m) (sym (counted put c is))
     one_column c OpRw z lt by e =
         let is = puts c OpRw lt by refl in
-        law.stores moves (count put c) ROWS (cells_of numbers (column_at y c)) (get_or after c []) z (λ l l_lt. is_change c l OpRw lt l_lt by is)
-        ∙ ap (column_put moves (count put c) ROWS) (sym e) ∙ sym (more_columns_put moves (count put c) ROWS m)
-        ∙ ap (λ n. put_by_columns moves n ROWS m) (sym (counted put c is))
+        law.stores moves (count put c) h.rows (cells_of numbers (column_at y c)) (get_or after c []) z (λ l l_lt. is_change c l OpRw lt l_lt by is)
+        ∙ ap (column_put moves (count put c) h.rows) (sym e) ∙ sym (more_columns_put moves (count put c) h.rows m)
+        ∙ ap (λ n. put_by_columns moves n h.rows m) (sym (counted put c is))
     one_column c (OpReduce r) z lt by e =
         let is = puts c (OpReduce r) lt by refl in
-        law.merges moves (count put c) ROWS (cells_of numbers (column_at y c)) (get_or after c []) z r (λ l l_lt. is_change c l (OpReduce r) lt l_lt by is)
-        ∙ ap (column_put moves (count put c) ROWS) (sym e) ∙ sym (more_columns_put moves (count put c) ROWS m)
-        ∙ ap (λ n. put_by_columns moves n ROWS m) (sym (counted put c is))
+        law.merges moves (count put c) h.rows (cells_of numbers (column_at y c)) (get_or after c []) z r (λ l l_lt. is_change c l (OpReduce r) lt l_lt by is)
+        ∙ ap (column_put moves (count put c) h.rows) (sym e) ∙ sym (more_columns_put moves (count put c) h.rows m)
+        ∙ ap (λ n. put_by_columns moves n h.rows m) (sym (counted put c is))
 
-    put_as_moves : (n : ℕ) → n ≤ length y.columns.now → put_back numbers y.columns.now after n m ≡ put_by_columns moves (count put n) ROWS m
-    put_as_moves zero le = sym (no_columns_put moves ROWS m)
+    put_as_moves : (n : ℕ) → n ≤ length y.columns.now → put_back numbers h.rows y.columns.now after n m ≡ put_by_columns moves (count put n) h.rows m
+    put_as_moves zero le = sym (no_columns_put moves h.rows m)
     put_as_moves (suc n) le =
-        one_column n (column_access y n) (put_back numbers y.columns.now after n m) (omega arith) refl (sym (put_as_moves n (omega arith)))
+        one_column n (column_access y n) (put_back numbers h.rows y.columns.now after n m) (omega arith) refl (sym (put_as_moves n (omega arith)))
 
   -- ---- the partials
 
@@ -95,7 +94,7 @@ module _ (y : RowLoop) (m : List ℤ) (modes : List Mode) (stand : ℕ → List 
     Row l between new =
         RunsRow y.code.now.kernel.now modes y.constants.now (ft y m modes stand batch numbers frame h) (behind y m modes stand batch numbers frame h) (mt y m modes stand batch numbers frame h l) (row l after) between new
 
-    one_amount : (l : ℕ) (between new : List ℤ) → l < ROWS → length between ≡ length m → (one : Row l between new) → (j : ℕ) → j < length y.scalars.now → (AllowsScalar (scalar_at y j) OpRead → ⊥) → get_or (row l columns_behind) j (pos 0) ≡ get_or (drop (length between) one.after) j (pos 0)
+    one_amount : (l : ℕ) (between new : List ℤ) → l < h.rows → length between ≡ length m → (one : Row l between new) → (j : ℕ) → j < length y.scalars.now → (AllowsScalar (scalar_at y j) OpRead → ⊥) → get_or (row l columns_behind) j (pos 0) ≡ get_or (drop (length between) one.after) j (pos 0)
     one_amount l between new l_lt size one j j_lt changes =
         let f = h.runs.amounts j j_lt changes in
         by f.0 f.1 f.2 f.3 f.4 (stands y m modes stand batch numbers frame h l f.0 f.1 l_lt f.2)
@@ -125,7 +124,7 @@ module _ (y : RowLoop) (m : List ℤ) (modes : List Mode) (stand : ℕ → List 
     Rows n new =
         OneByOne y.code.now.kernel.now modes y.constants.now (ft y m modes stand batch numbers frame h) (behind y m modes stand batch numbers frame h) (mt y m modes stand batch numbers frame h) (λ l. row l after) n m new
 
-    same_amounts : (l : ℕ) (between new p : List ℤ) → l < ROWS → length between ≡ length m → (one : Row l between new) → amounts y.scalars.now (row l columns_behind) p ≡ amounts y.scalars.now (drop (length between) one.after) p
+    same_amounts : (l : ℕ) (between new p : List ℤ) → l < h.rows → length between ≡ length m → (one : Row l between new) → amounts y.scalars.now (row l columns_behind) p ≡ amounts y.scalars.now (drop (length between) one.after) p
     same_amounts l between new p l_lt size one =
         let count : length (row l columns_behind) ≡ length after - length y.columns.now = length-map columns_behind (at_row l) ∙ length-drop (length y.columns.now) after in
         let left : length (drop (length between) one.after) ≡ length one.after - length between = length-drop (length between) one.after in
@@ -137,7 +136,7 @@ module _ (y : RowLoop) (m : List ℤ) (modes : List Mode) (stand : ℕ → List 
         (λ j lt changes. one_amount l between new l_lt size one j lt changes)
 
     -- what runs one row after another runs so with the partials
-    with_partials : (p : List ℤ) (n : ℕ) (new : List ℤ) → n ≤ ROWS → Rows n new → RowsRun y.code.now.kernel.now y.constants.now (behind y m modes stand batch numbers frame h) y.scalars.now (mt y m modes stand batch numbers frame h) n m new p (rows_merged y.scalars.now columns_behind n p) × (length new ≡ length m)
+    with_partials : (p : List ℤ) (n : ℕ) (new : List ℤ) → n ≤ h.rows → Rows n new → RowsRun y.code.now.kernel.now y.constants.now (behind y m modes stand batch numbers frame h) y.scalars.now (mt y m modes stand batch numbers frame h) n m new p (rows_merged y.scalars.now columns_behind n p) × (length new ≡ length m)
     unfolding RowsRun
     with_partials p zero new le same = ((same, refl), ap length same)
     with_partials p (suc n) new le rows =
@@ -161,12 +160,12 @@ module _ (y : RowLoop) (m : List ℤ) (modes : List Mode) (stand : ℕ → List 
           ap length one.cells ∙ size ∙ before.1,
         )
 
-    module _ (batches : BatchesRun) (columns : ColumnsArePut) (resolved : IsResolved (length y.constants.now) y.code.now.kernel.now) (consts_fit : (j : ℕ) → FitsSigned w32 (get_or y.constants.now j (pos 0))) (ran : (l : ℕ) → l < ROWS → kernel_meaning (ft y m modes stand batch numbers frame h) y.constants.now y.code.now.kernel.now (row l frame ∷ []) ≡ Finished (row l after ∷ [])) where
+    module _ (batches : BatchesRun) (columns : ColumnsArePut) (resolved : IsResolved (length y.constants.now) y.code.now.kernel.now) (consts_fit : (j : ℕ) → FitsSigned w32 (get_or y.constants.now j (pos 0))) (ran : (l : ℕ) → l < h.rows → kernel_meaning (ft y m modes stand batch numbers frame h) y.constants.now y.code.now.kernel.now (row l frame ∷ []) ≡ Finished (row l after ∷ [])) where
       abbrev put_as : ℕ → List ℤ
       put_as n = put_by_columns moves (inner y m modes stand batch numbers frame h after) n m
 
-      -- n rows, of which there are as many as a batch has
-      rows_ran : (n : ℕ) → n ≡ ROWS → Rows n (put_as n)
+      -- n rows, of which there are as many as are meant
+      rows_ran : (n : ℕ) → n ≡ h.rows → Rows n (put_as n)
       rows_ran n e =
           batches y.code.now.kernel.now modes y.constants.now (ft y m modes stand batch numbers frame h) (behind y m modes stand batch numbers frame h) (mt y m modes stand batch numbers frame h) (λ l. row l frame) (λ l. row l after) n m moves (inner y m modes stand batch numbers frame h after) (most y m modes stand batch numbers frame h after) resolved h.runs.obeys consts_fit (in_range y m modes stand batch numbers frame h)
           (subst (λ k. RowsApart modes (mt y m modes stand batch numbers frame h) k (length m)) (sym e) (rows_apart y m modes stand batch numbers frame h))
@@ -179,11 +178,11 @@ module _ (y : RowLoop) (m : List ℤ) (modes : List Mode) (stand : ℕ → List 
       Ran n new p q =
           RowsRun y.code.now.kernel.now y.constants.now (behind y m modes stand batch numbers frame h) y.scalars.now (mt y m modes stand batch numbers frame h) n m new p q
 
-      some_ran : (p : List ℤ) (n : ℕ) → n ≡ ROWS → Ran n (put_as n) p (rows_merged y.scalars.now columns_behind n p)
+      some_ran : (p : List ℤ) (n : ℕ) → n ≡ h.rows → Ran n (put_as n) p (rows_merged y.scalars.now columns_behind n p)
       some_ran p n e = (with_partials p n (put_as n) (omega (arith, e)) (rows_ran n e)).0
 
-      pub batch_ran : (new p q : List ℤ) → new ≡ put_back numbers y.columns.now after (length y.columns.now) m → q ≡ totals y.scalars.now columns_behind p → Merges (length p) y.scalars.now → Ran ROWS new p q
+      pub batch_ran : (new p q : List ℤ) → new ≡ put_back numbers h.rows y.columns.now after (length y.columns.now) m → q ≡ totals h.rows y.scalars.now columns_behind p → Merges (length p) y.scalars.now → Ran h.rows new p q
       batch_ran new p q is_new is_q slots =
-          let same_new : put_as ROWS ≡ new = sym (is_new ∙ put_as_moves columns (length y.columns.now) (omega arith)) in
-          let same_q : rows_merged y.scalars.now columns_behind ROWS p ≡ q = sym (is_q ∙ totals_by_rows laws y.scalars.now columns_behind p h.runs.alike slots) in
-          subst (λ z. Ran ROWS z p q) same_new (subst (λ z. Ran ROWS (put_as ROWS) p z) same_q (some_ran p ROWS refl))
+          let same_new : put_as h.rows ≡ new = sym (is_new ∙ put_as_moves columns (length y.columns.now) (omega arith)) in
+          let same_q : rows_merged y.scalars.now columns_behind h.rows p ≡ q = sym (is_q ∙ totals_by_rows laws h.rows y.scalars.now columns_behind p h.runs.alike slots) in
+          subst (λ z. Ran h.rows z p q) same_new (subst (λ z. Ran h.rows (put_as h.rows) p z) same_q (some_ran p h.rows refl))

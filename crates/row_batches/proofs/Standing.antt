@@ -14,7 +14,6 @@ use Rattle.kernel_model.specs.Independence.{access, dim, SameStoredAliases, Alon
 use Rattle.rank_state.specs.declared.scalars.Scalar.{Scalar}
 use Rattle.rank_state.specs.declared.scalars.Scalar.TheVariants.{Value, Amount}
 use Rattle.rank_state.specs.Windows.{first, firsts, operation}
-use Rattle.kernel_columns.specs.declared.columns.TheConstants.{ROWS}
 use Rattle.kernel_columns.specs.Rows.{at_row, row}
 use Rattle.kernel_columns.specs.PutBack.{StandsFor}
 use Rattle.kernel_columns.specs.Batch.{RowsApart}
@@ -78,20 +77,20 @@ module _ (y : RowLoop) (m : List ℤ) (modes : List Mode) (stand : ℕ → List 
   abbrev pub Stands : (l a i : ℕ) → Type 0
   Stands l a i = OnDat y (x_of l) (access modes a) (fcol a i) (mcell l a i) ⊎ OnVariable y (length m) (access modes a) (fcol a i) (mcell l a i)
 
-  pub stands : (l a i : ℕ) → l < ROWS → i < dim modes a → Stands l a i
+  pub stands : (l a i : ℕ) → l < h.rows → i < dim modes a → Stands l a i
   stands l a i l_lt i_lt = h.runs.stands l a i l_lt i_lt
 
   pub all_long : length (m ++ behind) ≡ length m + length y.scalars.now
   all_long = length-append m behind ∙ ap (λ n. length m + n) (firsts_length y.variables.now y.scalars.now)
 
-  inside : (l c : ℕ) → l < ROWS → c < length y.columns.now → column_cell y (x_of l) c < length m
+  inside : (l c : ℕ) → l < h.rows → c < length y.columns.now → column_cell y (x_of l) c < length m
   inside l c l_lt c_lt = (h.leads l l_lt).inside c c_lt
 
   frame_lt : (l a i : ℕ) → Stands l a i → fcol a i < length frame
   frame_lt l a i (inl d) = omega (arith, d.few, h.long)
   frame_lt l a i (inr v) = omega (arith, v.few, v.column, h.long)
 
-  memory_lt : (l a i : ℕ) → l < ROWS → Stands l a i → mcell l a i < length (m ++ behind)
+  memory_lt : (l a i : ℕ) → l < h.rows → Stands l a i → mcell l a i < length (m ++ behind)
   memory_lt l a i l_lt (inl d) = omega (arith, inside l (fcol a i) l_lt d.few, d.cell, all_long)
   memory_lt l a i l_lt (inr v) = omega (arith, v.few, v.cell, all_long)
 
@@ -105,7 +104,7 @@ module _ (y : RowLoop) (m : List ℤ) (modes : List Mode) (stand : ℕ → List 
 
   first_fits : (j : ℕ) → FitsSigned w32 (get_or behind j (pos 0))
   first_fits j = ⊎_elim
-      (λ (lt : j < length y.scalars.now). subst (FitsSigned w32) (sym (first_at y.variables.now y.scalars.now j lt)) (subst (FitsSigned w32) (h.firsts j 0 lt (omega arith)) (h.fits (length y.columns.now + j) 0)))
+      (λ (lt : j < length y.scalars.now). subst (FitsSigned w32) (sym (first_at y.variables.now y.scalars.now j lt)) (subst (FitsSigned w32) (h.firsts j 0 lt h.some) (h.fits (length y.columns.now + j) 0)))
       (λ (le : length y.scalars.now ≤ j). past behind j (omega (arith, le, firsts_length y.variables.now y.scalars.now)))
       (cases_lt j (length y.scalars.now))
     where
@@ -135,7 +134,7 @@ module _ (y : RowLoop) (m : List ℤ) (modes : List Mode) (stand : ℕ → List 
   same_stand l a i b j (inr v) (inl d) same = absurd (omega (arith, d.few, v.column, same))
   same_stand l a i b j (inr v) (inr w) same = omega (arith, v.column, v.cell, w.column, w.cell, same)
 
-  other_stand : (l a i b j : ℕ) → l < ROWS → access modes a ≢ OpRead → Stands l a i → Stands l b j → mcell l a i ≡ mcell l b j → fcol a i ≡ fcol b j
+  other_stand : (l a i b j : ℕ) → l < h.rows → access modes a ≢ OpRead → Stands l a i → Stands l b j → mcell l a i ≡ mcell l b j → fcol a i ≡ fcol b j
   other_stand l a i b j l_lt changes (inl d) (inl e) same = ⊎_elim
       (λ (q : fcol a i ≡ fcol b j). q)
       (λ (ne : fcol a i ≡ fcol b j → ⊥). absurd (in_row y m modes stand batch numbers frame h (fcol a i) (fcol b j) l d.few e.few ne (changing (column_access y (fcol a i)) (access modes a) d.allows changes) l_lt (sym d.cell ∙ same ∙ e.cell)))
@@ -144,7 +143,7 @@ module _ (y : RowLoop) (m : List ℤ) (modes : List Mode) (stand : ℕ → List 
   other_stand l a i b j l_lt changes (inr v) (inl d) same = absurd (omega (arith, inside l (fcol b j) l_lt d.few, d.cell, v.cell, same))
   other_stand l a i b j l_lt changes (inr v) (inr w) same = omega (arith, v.column, v.cell, w.column, w.cell, same)
 
-  aliases : (l : ℕ) → l < ROWS → SameStoredAliases modes ft (mt l)
+  aliases : (l : ℕ) → l < h.rows → SameStoredAliases modes ft (mt l)
   aliases l l_lt a i b j i_lt j_lt changes =
       let p = stands l a i l_lt i_lt in
       let q = stands l b j l_lt j_lt in
@@ -154,15 +153,15 @@ module _ (y : RowLoop) (m : List ℤ) (modes : List Mode) (stand : ℕ → List 
 
   -- ---- what the frames begin with
 
-  column_input : (c l : ℕ) → c < length y.columns.now → l < ROWS → (column_access y c ≡ OpRead) ⊎ (column_access y c ≡ OpRw) → at_row l (get_or frame c []) ≡ get_or m (column_cell y (x_of l) c) (pos 0)
+  column_input : (c l : ℕ) → c < length y.columns.now → l < h.rows → (column_access y c ≡ OpRead) ⊎ (column_access y c ≡ OpRw) → at_row l (get_or frame c []) ≡ get_or m (column_cell y (x_of l) c) (pos 0)
   column_input c l c_lt l_lt how =
       kinds how ∙ ap (λ k. get_or m k (pos 0)) (looked_up y m modes stand batch numbers frame h c l c_lt l_lt)
     where
       kinds : (column_access y c ≡ OpRead) ⊎ (column_access y c ≡ OpRw) → at_row l (get_or frame c []) ≡ get_or m (cells_of numbers (column_at y c) l) (pos 0)
-      kinds (inl e) = subst (λ acc. FilledFor numbers acc m (column_at y c) (get_or frame c [])) e (h.filled c c_lt) l l_lt
-      kinds (inr e) = subst (λ acc. FilledFor numbers acc m (column_at y c) (get_or frame c [])) e (h.filled c c_lt) l l_lt
+      kinds (inl e) = subst (λ acc. FilledFor numbers h.rows acc m (column_at y c) (get_or frame c [])) e (h.filled c c_lt) l l_lt
+      kinds (inr e) = subst (λ acc. FilledFor numbers h.rows acc m (column_at y c) (get_or frame c [])) e (h.filled c c_lt) l l_lt
 
-  input : (l a i : ℕ) → l < ROWS → (access modes a ≡ OpRead) ⊎ (access modes a ≡ OpRw) → Stands l a i → at_row l (get_or frame (fcol a i) []) ≡ get_or (m ++ behind) (mcell l a i) (pos 0)
+  input : (l a i : ℕ) → l < h.rows → (access modes a ≡ OpRead) ⊎ (access modes a ≡ OpRw) → Stands l a i → at_row l (get_or frame (fcol a i) []) ≡ get_or (m ++ behind) (mcell l a i) (pos 0)
   input l a i l_lt how (inl d) =
       let lt : mcell l a i < length m = omega (arith, inside l (fcol a i) l_lt d.few, d.cell) in
       column_input (fcol a i) l d.few l_lt (reading (column_access y (fcol a i)) (access modes a) d.allows how)
@@ -175,9 +174,9 @@ module _ (y : RowLoop) (m : List ℤ) (modes : List Mode) (stand : ℕ → List 
       ∙ sym (get_or-append-add m behind v.number (pos 0))
       ∙ ap (λ k. get_or (m ++ behind) k (pos 0)) (sym v.cell)
 
-  unit : (r : Reduction) (l a i : ℕ) → l < ROWS → access modes a ≡ OpReduce r → Stands l a i → at_row l (get_or frame (fcol a i) []) ≡ unit_of r
+  unit : (r : Reduction) (l a i : ℕ) → l < h.rows → access modes a ≡ OpReduce r → Stands l a i → at_row l (get_or frame (fcol a i) []) ≡ unit_of r
   unit r l a i l_lt by (inl d) =
-      subst (λ acc. FilledFor numbers acc m (column_at y (fcol a i)) (get_or frame (fcol a i) [])) (reducing (column_access y (fcol a i)) (access modes a) r d.allows by) (h.filled (fcol a i) d.few) l l_lt
+      subst (λ acc. FilledFor numbers h.rows acc m (column_at y (fcol a i)) (get_or frame (fcol a i) [])) (reducing (column_access y (fcol a i)) (access modes a) r d.allows by) (h.filled (fcol a i) d.few) l l_lt
   unit r l a i l_lt by (inr v) =
       ap (λ c. at_row l (get_or frame c [])) v.column
       ∙ h.firsts v.number l v.few l_lt
@@ -192,12 +191,12 @@ module _ (y : RowLoop) (m : List ℤ) (modes : List Mode) (stand : ℕ → List 
       let e : w.number ≡ v.number = omega (arith, v.column, w.column, same) in
       reads_value (scalar_at y v.number) (access modes a) (access modes b) r v.allows by (subst (λ n. AllowsScalar (scalar_at y n) (access modes b)) e w.allows)
 
-  alone : (r : Reduction) (l a i : ℕ) → l < ROWS → i < dim modes a → access modes a ≡ OpReduce r → Alone modes r ft a i
+  alone : (r : Reduction) (l a i : ℕ) → l < h.rows → i < dim modes a → access modes a ≡ OpReduce r → Alone modes r ft a i
   alone r l a i l_lt i_lt by b j j_lt same =
       alone_at r l a i b j by (stands l a i l_lt i_lt) (stands l b j l_lt j_lt)
       (eqb-true (fcol b j) (fcol a i) (sym (one_array ft (no_array y.places.now) b j a i) ∙ same))
 
-  pub stands_for : (l : ℕ) → l < ROWS → StandsFor modes ft (mt l) (row l frame) (m ++ behind)
+  pub stands_for : (l : ℕ) → l < h.rows → StandsFor modes ft (mt l) (row l frame) (m ++ behind)
   stands_for l l_lt = record {
     suits_frame = record {
       counts = h.runs.frame_counts;
@@ -223,7 +222,7 @@ module _ (y : RowLoop) (m : List ℤ) (modes : List Mode) (stand : ℕ → List 
 
   -- ---- no row reads what another one modifies
 
-  apart_at : (i l a b x z : ℕ) → i < ROWS → l < ROWS → i ≢ l → access modes a ≢ OpRead → (access modes b ≡ OpRead) ⊎ (access modes b ≡ OpRw) → mcell l b z < length m → Stands i a x → Stands l b z → mcell i a x ≢ mcell l b z
+  apart_at : (i l a b x z : ℕ) → i < h.rows → l < h.rows → i ≢ l → access modes a ≢ OpRead → (access modes b ≡ OpRead) ⊎ (access modes b ≡ OpRw) → mcell l b z < length m → Stands i a x → Stands l b z → mcell i a x ≢ mcell l b z
   apart_at i l a b x z i_lt l_lt ne changes how lt (inr v) q same = omega (arith, v.cell, lt, same)
   apart_at i l a b x z i_lt l_lt ne changes how lt (inl d) (inr v) same = omega (arith, v.cell, lt)
   apart_at i l a b x z i_lt l_lt ne changes how lt (inl d) (inl e) same =
@@ -239,11 +238,11 @@ module _ (y : RowLoop) (m : List ℤ) (modes : List Mode) (stand : ℕ → List 
           let rw = both_ways (column_access y c) (access modes a) (access modes b) c_allows changes (subst (λ n. Allows (column_access y n) (access modes b)) (sym q) k_allows) how in
           in_rows y m modes stand batch numbers frame h c i l c_lt (inr rw) i_lt l_lt ne (meet ∙ ap (column_cell y (x_of l)) (sym q)))
           (λ (other : c ≡ k → ⊥). ⊎_elim
-          (λ (never : NeverMeet y (length m) modes stand batch c k). never i l i_lt l_lt meet)
+          (λ (never : NeverMeet y (length m) modes stand batch h.rows c k). never i l i_lt l_lt meet)
           (λ (r : ReduceApart y c k). only_reduces (column_access y c) (column_access y k) r.access r.reduces (reading (column_access y k) (access modes b) k_allows how))
           (h.runs.apart c k c_lt k_lt other (changing (column_access y c) (access modes a) c_allows changes)))
           (cases_eq c k)
 
-  pub rows_apart : RowsApart modes mt ROWS (length m)
+  pub rows_apart : RowsApart modes mt h.rows (length m)
   rows_apart i l a b x z i_lt l_lt ne x_lt changes z_lt how lt =
       apart_at i l a b x z i_lt l_lt ne changes how lt (stands i a x i_lt x_lt) (stands l b z l_lt z_lt)

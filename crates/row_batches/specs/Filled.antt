@@ -1,8 +1,7 @@
--- Columns that are filled for a batch.
+-- Columns that are filled for a batch, in the first rows.
 use Rattle.std.specs.Prelude.{◌≡◌, ℕ, ℤ, pos, ◌<◌, List, [], length, get_or}
 use Rattle.reductions.specs.Reduction.{unit_of}
 use Rattle.reductions.specs.Access.{Access, OpRead, OpWrite, OpRw, OpReduce, access_of}
-use Rattle.kernel_columns.specs.declared.columns.TheConstants.{ROWS}
 use Rattle.kernel_columns.specs.Rows.{at_row}
 use Rattle.kernel_columns.specs.Moving.{stands_in_row, StandWithin}
 use Rattle.row_batches.specs.declared.rows.RowColumn.{RowColumn}
@@ -13,10 +12,11 @@ module _ (numbers : List (List ℕ)) where
   abbrev pub cells_of : RowColumn → ℕ → ℕ
   cells_of y = stands_in_row y.cell y.dim 0 (get_or numbers y.way [])
 
+module _ (numbers : List (List ℕ)) (rows : ℕ) where
   -- the cells of a column stand within a memory of so many cells, in each row
   pub record ColumnStands (cells : ℕ) (y : RowColumn) : Type 0 where
     pub way : y.way < length numbers
-    pub within : StandWithin cells y.cell y.dim 0 (get_or numbers y.way [])
+    pub within : StandWithin rows cells y.cell y.dim 0 (get_or numbers y.way [])
 
   -- the cells of each column stand there
   abbrev pub ColumnsStand : (cells : ℕ) → List RowColumn → Type 0
@@ -24,10 +24,10 @@ module _ (numbers : List (List ℕ)) where
 
   -- what a column begins with, by what arguments do with it
   abbrev pub FilledFor : Access → (memory : List ℤ) → RowColumn → (column : List ℤ) → Type 0
-  FilledFor OpRead memory y column = (l : ℕ) → l < ROWS → at_row l column ≡ get_or memory (cells_of y l) (pos 0)
-  FilledFor OpRw memory y column = (l : ℕ) → l < ROWS → at_row l column ≡ get_or memory (cells_of y l) (pos 0)
+  FilledFor OpRead memory y column = (l : ℕ) → l < rows → at_row l column ≡ get_or memory (cells_of numbers y l) (pos 0)
+  FilledFor OpRw memory y column = (l : ℕ) → l < rows → at_row l column ≡ get_or memory (cells_of numbers y l) (pos 0)
   FilledFor OpWrite memory y column = Unit {0}
-  FilledFor (OpReduce r) memory y column = (l : ℕ) → l < ROWS → at_row l column ≡ unit_of r
+  FilledFor (OpReduce r) memory y column = (l : ℕ) → l < rows → at_row l column ≡ unit_of r
 
   -- the column begins as the access of its arguments asks
   abbrev pub IsFilled : (memory : List ℤ) → RowColumn → (column : List ℤ) → Type 0

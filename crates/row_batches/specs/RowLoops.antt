@@ -10,7 +10,6 @@ use Rattle.kernel_model.specs.Independence.{access, dim}
 use Rattle.rank_state.specs.declared.scalars.Scalar.{Scalar}
 use Rattle.rank_state.specs.declared.scalars.Scalar.TheVariants.{Value, Amount}
 use Rattle.rank_state.specs.Windows.{operation}
-use Rattle.kernel_columns.specs.declared.columns.TheConstants.{ROWS}
 use Rattle.row_batches.specs.declared.ways.LocalVia.{LocalVia}
 use Rattle.row_batches.specs.declared.rows.RowColumn.{RowColumn}
 use Rattle.row_batches.specs.declared.rows.RowLoop.{RowLoop}
@@ -133,34 +132,35 @@ module _ (y : RowLoop) where
     abbrev pub IsModified : ℕ → Type 0
     IsModified c = (a : ℕ) × (i : ℕ) × (i < dim modes a) × (access modes a ≢ OpRead) × (in_frame a i ≡ c)
 
-    -- two columns never have one cell of the memory, whatever the rows
-    abbrev pub NeverMeet : ℕ → ℕ → Type 0
-    NeverMeet c d =
-        (i l : ℕ) → i < ROWS → l < ROWS → column_cell (slice_index batch i) c ≢ column_cell (slice_index batch l) d
+    module _ (rows : ℕ) where
+      -- two columns never have one cell of the memory, whatever the rows
+      abbrev pub NeverMeet : ℕ → ℕ → Type 0
+      NeverMeet c d =
+          (i l : ℕ) → i < rows → l < rows → column_cell (slice_index batch i) c ≢ column_cell (slice_index batch l) d
 
-    -- `stand x` has the places of the kernel's arguments in the memory for the place x of the rank, and the loop's kernel may run
-    -- for the places of a batch in rows
-    pub record RunsInRows : Type 0 where
-      pub obeys : KernelObeys y.code.now.kernel.now modes
-      pub frame_counts : (a : ℕ) → (target_at (map target_of y.places.now) a).count ≡ dim modes a
-      pub counts : (l a : ℕ) → l < ROWS → (target_at (map target_of (stand (slice_index batch l))) a).count ≡ dim modes a
-      -- a component stands in a column or in a scalar, which lets its argument do what it may
-      pub stands : (l a i : ℕ)
-          → l < ROWS → i < dim modes a
-          → OnDat (slice_index batch l) (access modes a) (in_frame a i) (in_memory (slice_index batch l) a i)
-          ⊎ OnVariable cells (access modes a) (in_frame a i) (in_memory (slice_index batch l) a i)
-      -- columns and scalars that may be modified are those of an argument that may modify them
-      pub columns : (c : ℕ) → c < length y.columns.now → column_access c ≢ OpRead → IsModified c
-      pub amounts : (j : ℕ)
-          → j < length y.scalars.now → (AllowsScalar (scalar_at j) OpRead → ⊥) → IsModified (length y.columns.now + j)
-      pub dims : (c : ℕ) → c < length y.columns.now → 0 < (column_at c).dim
-      -- a column that is stored to is reached by no map, and the places of the batch are tested
-      pub stored : (c : ℕ)
-          → c < length y.columns.now
-          → (column_access c ≡ OpWrite) ⊎ (column_access c ≡ OpRw)
-          → (way_of c ≡ None) × (y.differ ≡ true)
-      -- a column that may be modified shares cells with none, or with those that reduce into it in another way
-      pub apart : (c d : ℕ)
-          → c < length y.columns.now → d < length y.columns.now → c ≢ d → column_access c ≢ OpRead
-          → NeverMeet c d ⊎ ReduceApart c d
-      pub alike : (i j : ℕ) → i < length y.scalars.now → j < length y.scalars.now → MergeAlike (scalar_at i) (scalar_at j)
+      -- `stand x` has the places of the kernel's arguments in the memory for the place x of the rank, and the loop's kernel may run
+      -- for the first places of a batch in rows
+      pub record RunsInRows : Type 0 where
+        pub obeys : KernelObeys y.code.now.kernel.now modes
+        pub frame_counts : (a : ℕ) → (target_at (map target_of y.places.now) a).count ≡ dim modes a
+        pub counts : (l a : ℕ) → l < rows → (target_at (map target_of (stand (slice_index batch l))) a).count ≡ dim modes a
+        -- a component stands in a column or in a scalar, which lets its argument do what it may
+        pub stands : (l a i : ℕ)
+            → l < rows → i < dim modes a
+            → OnDat (slice_index batch l) (access modes a) (in_frame a i) (in_memory (slice_index batch l) a i)
+            ⊎ OnVariable cells (access modes a) (in_frame a i) (in_memory (slice_index batch l) a i)
+        -- columns and scalars that may be modified are those of an argument that may modify them
+        pub columns : (c : ℕ) → c < length y.columns.now → column_access c ≢ OpRead → IsModified c
+        pub amounts : (j : ℕ)
+            → j < length y.scalars.now → (AllowsScalar (scalar_at j) OpRead → ⊥) → IsModified (length y.columns.now + j)
+        pub dims : (c : ℕ) → c < length y.columns.now → 0 < (column_at c).dim
+        -- a column that is stored to is reached by no map, and the places of the batch are tested
+        pub stored : (c : ℕ)
+            → c < length y.columns.now
+            → (column_access c ≡ OpWrite) ⊎ (column_access c ≡ OpRw)
+            → (way_of c ≡ None) × (y.differ ≡ true)
+        -- a column that may be modified shares cells with none, or with those that reduce into it in another way
+        pub apart : (c d : ℕ)
+            → c < length y.columns.now → d < length y.columns.now → c ≢ d → column_access c ≢ OpRead
+            → NeverMeet c d ⊎ ReduceApart c d
+        pub alike : (i j : ℕ) → i < length y.scalars.now → j < length y.scalars.now → MergeAlike (scalar_at i) (scalar_at j)

@@ -1,4 +1,4 @@
-// A batch: the kernel of a loop runs for 64 places of a rank at once.
+// A batch: the kernel of a loop runs for up to 64 places of a rank at once.
 
 ghost use Rattle.std.specs.Prelude.{◌≡◌, ◌<◌, ◌≤◌, ◌+◌, ℕ, List, false, true, length, map, slice_index};
 ghost use Rattle.kernel_types.specs.Resolved.{IsResolved};
@@ -13,17 +13,21 @@ ghost use Rattle.row_batches.specs.RowLoops.{HasRowRoom, IsWhole, LeadsFrom, Run
 ghost use Rattle.row_batches.specs.RowsRun.{RowsRun};
 
 use crate::filling::{fill_columns, fill_scalars};
-use crate::meeting::{differ, never_meet};
+use crate::meeting::{rows_before_meeting, rows_that_differ};
 use crate::putting::{merge_scalars, put_columns};
 use crate::ranges::{cells_fit, columns_fit};
 use crate::rows::{RowLoop, RowRoom};
 use crate::ways::put_all_numbers;
 use kernel_columns::{Column, Numbers, ROWS, run_rows};
 
-// Runs the kernel in rows once the numbers of all rows are looked up, and found not to meet.
+/// As many rows as a batch has at least: fewer elements take no longer one after another.
+pub const FEWEST: usize = 8;
+
+// Runs the kernel in the first rows once their numbers are looked up, and found not to meet.
 fn run_looked_up(
     rows: &RowLoop<'_>,
     batch: &Numbers,
+    count: usize,
     numbers: &[Numbers],
     memory: &mut [i32],
     partials: &mut [i32],
@@ -35,21 +39,23 @@ fn run_looked_up(
     requires params { length rows.now.places.now ≡ rows.now.code.now.kernel.now.params }
     requires fits { PlacesIn (width rows.now) rows.now.places.now }
     requires whole { IsWhole rows.now }
-    requires leads { (l : ℕ) → l < ROWS → LeadsFrom rows.now (length memory.old) (slice_index batch.now l) }
-    requires differ { rows.now.differ ≡ true → AreDifferent batch.now }
-    requires count { length rows.now.ways.now ≤ length numbers.now }
-    requires numbers { AreNumbers rows.now.ways.now batch.now numbers.now }
-    requires apart { NeverInPairs rows.now.pairs.now numbers.now }
+    requires leads { (l : ℕ) → l < count → LeadsFrom rows.now (length memory.old) (slice_index batch.now l) }
+    requires some { 0 < count }
+    requires few { count ≤ ROWS }
+    requires differ { rows.now.differ ≡ true → AreDifferent count batch.now }
+    requires ways { length rows.now.ways.now ≤ length numbers.now }
+    requires numbers { AreNumbers count rows.now.ways.now batch.now numbers.now }
+    requires apart { NeverInPairs count rows.now.pairs.now numbers.now }
     requires variables { Reads (length rows.now.variables.now) rows.now.scalars.now }
     requires partials { Merges (length partials.old) rows.now.scalars.now }
     requires frame { width rows.now ≤ length frame.old }
     requires scratch { rows.now.code.now.slots ≤ length scratch.old }
     ensures ran { (modes : List Mode) (stand : ℕ → List Place)
-        → RunsInRows rows.now (length memory.old) modes stand batch.now
+        → RunsInRows rows.now (length memory.old) modes stand batch.now count
         → result ≡ true
         → RowsRun rows.now.code.now.kernel.now rows.now.constants.now (firsts rows.now.variables.now rows.now.scalars.now)
         rows.now.scalars.now
-        (λ l. map target_of (stand (slice_index batch.now l))) ROWS memory.old memory.new partials.old partials.new }
+        (λ l. map target_of (stand (slice_index batch.now l))) count memory.old memory.new partials.old partials.new }
     ensures memory { result ≡ false → memory.new ≡ memory.old }
     ensures partials { result ≡ false → partials.new ≡ partials.old }
 {
@@ -58,69 +64,98 @@ fn run_looked_up(
     reductions::reductions_commute();
     let inner = rows.columns.len();
     let cells = &mut frame[..inner + rows.scalars.len()];
-    fill_columns(rows.columns, numbers, memory, cells);
-    fill_scalars(rows.scalars, rows.variables, inner, cells);
+    fill_columns(rows.columns, numbers, memory, cells, count);
+    fill_scalars(rows.scalars, rows.variables, inner, cells, count);
     cells_fit(memory);
     cells_fit(rows.variables);
     cells_fit(rows.constants);
     columns_fit(cells);
-    if run_rows(rows.code, cells, rows.places, rows.constants, scratch).is_none() {
+    let ran = run_rows(
+        rows.code,
+        cells,
+        rows.places,
+        rows.constants,
+        scratch,
+        count,
+    );
+    if ran.is_none() {
         return false;
     }
     columns_fit(cells);
-    put_columns(rows.columns, numbers, cells, memory);
-    merge_scalars(rows.scalars, cells, inner, partials);
+    put_columns(rows.columns, numbers, cells, count, memory);
+    merge_scalars(rows.scalars, cells, inner, count, partials);
     true
 }
 
-/// Runs the kernel of a loop on a rank for the places of a batch, where it can do so in rows. `memory` has the cells of the rank's
-/// buffer, and `partials` the rank's partials, into which the amounts of all rows are merged: so it is called where the rank owns all
+// How many places of a batch there are before one that must differ from an earlier one and doesn't.
+fn rows_of_places(rows: &RowLoop<'_>, batch: &Numbers, count: usize) -> usize
+    requires { count ≤ ROWS }
+    ensures few { result ≤ count }
+    ensures differ { rows.now.differ ≡ true → AreDifferent result batch.now }
+{
+    if rows.differ {
+        rows_that_differ(batch, count)
+    } else {
+        count
+    }
+}
+
+/// Runs the kernel of a loop on a rank for the places of a batch, the first `count` numbers of `batch`, at most 64: for as many of
+/// them, from the first on, as can run in rows. What the other numbers are means nothing. `memory` has the cells of the rank's
+/// buffer, and `partials` the rank's partials, into which the amounts of the rows are merged: so it is called where the rank owns all
 /// of the batch's elements, or where the loop reduces into no variable.
 ///
-/// Where it answers `true`, the kernel ran for the places of the batch one after another, with the first values of the loop's scalars
-/// behind the memory for each of them. Where it answers `false`, memory and partials are as they were: then a row has a fault, an index
-/// in a slot differs from row to row, rows choose different parts of the code, two arguments meet in an element, or a place stands twice
-/// in a batch whose places must differ. It takes no memory.
+/// It answers for how many places from the first on the kernel ran, one after another on the memory, with the first values of the
+/// loop's scalars behind the memory for each of them. These are the places before the first by which two arguments meet in an
+/// element, or which must differ from an earlier one and doesn't. Where there are fewer of them than [`FEWEST`], where a row has a
+/// fault or an index in a slot differs from row to row, or where rows choose different parts of the code, it answers 0: memory and
+/// partials are as they were. It takes no memory.
 pub fn run_batch(
     rows: &RowLoop<'_>,
     batch: &Numbers,
+    count: usize,
     memory: &mut [i32],
     partials: &mut [i32],
     room: &mut RowRoom,
-) -> bool
+) -> usize
     requires code { IsCode rows.now.code.now }
     requires resolved { IsResolved (length rows.now.constants.now) rows.now.code.now.kernel.now }
     requires params { length rows.now.places.now ≡ rows.now.code.now.kernel.now.params }
     requires fits { PlacesIn (width rows.now) rows.now.places.now }
     requires whole { IsWhole rows.now }
-    requires leads { (l : ℕ) → l < ROWS → LeadsFrom rows.now (length memory.old) (slice_index batch.now l) }
+    requires leads { (l : ℕ) → l < count → LeadsFrom rows.now (length memory.old) (slice_index batch.now l) }
+    requires few { count ≤ ROWS }
     requires variables { Reads (length rows.now.variables.now) rows.now.scalars.now }
     requires partials { Merges (length partials.old) rows.now.scalars.now }
     requires room { HasRowRoom (length rows.now.ways.now) (width rows.now) rows.now.code.now.slots room.old }
+    ensures few { result ≤ count }
     ensures ran { (modes : List Mode) (stand : ℕ → List Place)
-        → RunsInRows rows.now (length memory.old) modes stand batch.now
-        → result ≡ true
+        → RunsInRows rows.now (length memory.old) modes stand batch.now count
         → RowsRun rows.now.code.now.kernel.now rows.now.constants.now (firsts rows.now.variables.now rows.now.scalars.now)
         rows.now.scalars.now
-        (λ l. map target_of (stand (slice_index batch.now l))) ROWS memory.old memory.new partials.old partials.new }
-    ensures memory { result ≡ false → memory.new ≡ memory.old }
-    ensures partials { result ≡ false → partials.new ≡ partials.old }
+        (λ l. map target_of (stand (slice_index batch.now l))) result memory.old memory.new partials.old partials.new }
+    ensures memory { result ≡ 0 → memory.new ≡ memory.old }
+    ensures partials { result ≡ 0 → partials.new ≡ partials.old }
     ensures room { (ways columns slots : ℕ) → HasRowRoom ways columns slots room.old → HasRowRoom ways columns slots room.new }
 {
-    if rows.differ && !differ(batch) {
-        return false;
+    let differ = rows_of_places(rows, batch, count);
+    put_all_numbers(rows.ways, batch, &mut room.numbers, differ);
+    let apart = rows_before_meeting(rows.pairs, &room.numbers, differ);
+    if apart < FEWEST {
+        return 0;
     }
-    put_all_numbers(rows.ways, batch, &mut room.numbers);
-    if !never_meet(rows.pairs, &room.numbers) {
-        return false;
-    }
-    run_looked_up(
+    let ran = run_looked_up(
         rows,
         batch,
+        apart,
         &room.numbers,
         memory,
         partials,
         &mut room.frame,
         &mut room.scratch,
-    )
+    );
+    if !ran {
+        return 0;
+    }
+    apart
 }

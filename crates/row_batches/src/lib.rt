@@ -1,4 +1,4 @@
-//! Batches of a loop's elements on a rank: 64 of them at once, each with a row of its own in columns.
+//! Batches of a loop's elements on a rank: up to 64 of them at once, each with a row of its own in columns.
 #![tactic(auto)]
 
 mod batch;
@@ -9,6 +9,6 @@ mod ranges;
 mod rows;
 mod ways;
 
-pub use batch::run_batch;
+pub use batch::{FEWEST, run_batch};
 pub use rows::{RowColumn, RowLoop, RowRoom};
 pub use ways::{LocalVia, local_number};

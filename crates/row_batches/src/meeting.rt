@@ -1,17 +1,18 @@
-// Whether rows meet in an element.
+// How many rows of a batch, from the first on, meet in no element.
 
-ghost use Rattle.std.specs.Prelude.{◌≡◌, ◌≢◌, ◌<◌, ℕ, true, length, slice_index};
+ghost use Rattle.std.specs.Prelude.{◌≡◌, ◌≢◌, ◌<◌, ◌≤◌, ℕ, true, length, slice_index};
 ghost use Rattle.kernel_columns.specs.declared.columns.TheConstants.{ROWS};
 ghost use Rattle.row_batches.specs.Meeting.{AreDifferent, NeverInPairs, pair_at};
 
-use kernel_columns::{Numbers, ROWS, are_apart};
+use kernel_columns::{Numbers, rows_apart};
 
-// Whether the numbers increase.
-fn increase(batch: &Numbers) -> bool
-    ensures { (i l : ℕ) → result ≡ true → i < l → l < ROWS → slice_index batch.now i < slice_index batch.now l }
+// Whether the numbers of the first rows increase.
+fn increase(batch: &Numbers, rows: usize) -> bool
+    requires { rows ≤ ROWS }
+    ensures { (i l : ℕ) → result ≡ true → i < l → l < rows → slice_index batch.now i < slice_index batch.now l }
 {
     let mut falls = false;
-    for l in 1..ROWS {
+    for l in 1..rows {
         if batch[l] <= batch[l - 1] {
             falls = true;
         }
@@ -19,14 +20,14 @@ fn increase(batch: &Numbers) -> bool
     !falls
 }
 
-// Whether the number at a row stands in a later one too.
-fn comes_again(batch: &Numbers, i: usize) -> bool
-    requires { i < ROWS }
-    ensures { (l : ℕ) → result ≢ true → i < l → l < ROWS → slice_index batch.now i ≢ slice_index batch.now l }
+// Whether the number at a row stands in an earlier one too.
+fn stands_before(batch: &Numbers, row: usize) -> bool
+    requires { row < ROWS }
+    ensures { (l : ℕ) → result ≢ true → l < row → slice_index batch.now l ≢ slice_index batch.now row }
 {
-    let number = batch[i];
+    let number = batch[row];
     let mut again = false;
-    for l in i + 1..ROWS {
+    for l in 0..row {
         if batch[l] == number {
             again = true;
         }
@@ -34,35 +35,43 @@ fn comes_again(batch: &Numbers, i: usize) -> bool
     again
 }
 
-// Whether the numbers differ, each compared with each.
-fn all_differ(batch: &Numbers) -> bool
-    ensures { (i l : ℕ) → result ≡ true → i < l → l < ROWS → slice_index batch.now i ≢ slice_index batch.now l }
+// How many rows there are before the first whose number stands in an earlier one too, each compared with each.
+fn rows_before_double(batch: &Numbers, rows: usize) -> usize
+    requires { rows ≤ ROWS }
+    ensures few { result ≤ rows }
+    ensures differ { (i l : ℕ) → i < l → l < result → slice_index batch.now i ≢ slice_index batch.now l }
 {
-    for i in 0..ROWS {
-        if comes_again(batch, i) {
-            return false;
+    for row in 0..rows {
+        if stands_before(batch, row) {
+            return row;
         }
     }
-    true
+    rows
 }
 
-/// Whether the numbers of all rows differ.
-pub fn differ(batch: &Numbers) -> bool
-    ensures { result ≡ true → AreDifferent batch.now }
+/// How many rows there are, of the first `rows`, before the first whose number stands in an earlier one too.
+pub fn rows_that_differ(batch: &Numbers, rows: usize) -> usize
+    requires { rows ≤ ROWS }
+    ensures few { result ≤ rows }
+    ensures differ { AreDifferent result batch.now }
 {
-    increase(batch) || all_differ(batch)
+    if increase(batch, rows) {
+        return rows;
+    }
+    rows_before_double(batch, rows)
 }
 
-/// Whether no row has one element by both ways of a pair.
-pub fn never_meet(pairs: &[(usize, usize)], numbers: &[Numbers]) -> bool
-    requires { (i : ℕ) → i < length pairs.now
+/// How many rows there are, of the first `rows`, before the first that has one element by both ways of a pair.
+pub fn rows_before_meeting(pairs: &[(usize, usize)], numbers: &[Numbers], rows: usize) -> usize
+    requires ways { (i : ℕ) → i < length pairs.now
         → ((pair_at pairs.now i).0 < length numbers.now) × ((pair_at pairs.now i).1 < length numbers.now) }
-    ensures { result ≡ true → NeverInPairs pairs.now numbers.now }
+    requires few { rows ≤ ROWS }
+    ensures few { result ≤ rows }
+    ensures apart { NeverInPairs result pairs.now numbers.now }
 {
+    let mut apart = rows;
     for pair in pairs {
-        if !are_apart(&numbers[pair.0], &numbers[pair.1]) {
-            return false;
-        }
+        apart = rows_apart(&numbers[pair.0], &numbers[pair.1], apart);
     }
-    true
+    apart
 }

@@ -4,7 +4,9 @@ use Rattle.rank_program.proofs.batches.all_count.Goals as goal
 
 pub own_places-end-requires-clause-step : goal.own_places-end-requires-clause-step
 own_places-end-requires-clause-step c =
-    let fits = c.requires.fits in (get_or c.args.places.now (c.args.at + 0) 0, c.requires.steps (c.args.at + 0) (omega (arith, fits)))
+    let fits = c.requires.fits in
+    let some = c.requires.some in
+    (get_or c.args.places.now (c.args.at + 0) 0, c.requires.steps (c.args.at + 0) (omega (arith, fits, some)))
 
 pub returns : goal.returns
 returns c = λ all j lt.

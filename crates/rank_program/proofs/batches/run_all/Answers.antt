@@ -1,31 +1,26 @@
-use Rattle.std.proofs.Common.{◌≡◌, ◌+◌, ◌*◌, take, length, subst, ◌∙◌, arith}
-use Rattle.std.proofs.Math.Nat.{div-mul-le_self}
+use Rattle.std.proofs.Common.{◌+◌, ◌≤◌, take, length, ◌∙◌, arith}
 use Rattle.rank_memory.specs.Stops.{stop_in}
-use Rattle.rank_program.specs.Batches.{GoesOn}
+use Rattle.rank_program.proofs.BatchRuns.{goes_further}
 use Rattle.rank_program.proofs.batches.run_all.Goals as goal
 
-pub run_one-requires-clause-fits : goal.run_one-requires-clause-fits
-run_one-requires-clause-fits c =
-    let below = c.loop-i-test.true in
-    let all = div-mul-le_self (length c.args.places.now) 64 in
-    omega (arith, below, all)
-
-pub loop-i-preserved : goal.loop-i-preserved
-loop-i-preserved c =
+pub loop-at-preserved : goal.loop-at-preserved
+loop-at-preserved c =
     let l = c.args.local.now in
     let w = l.part.now.cells in
-    let i = c.loop-i.i in
-    let inv = c.loop-i.invariant in
-    let next : i * 64 + 64 ≡ (i + 1) * 64 = omega arith in
+    let inv = c.loop-at.invariant in
+    let few = c.run_some-at.ensures.few in
+    let fits : c.loop-at.at + c.min-count.result ≤ length c.args.places.now = search arith in
     record {
-      runs = subst (λ n. GoesOn l c.args.places.now 0 n
+      runs = goes_further l c.args.places.now 0 c.loop-at.at (c.loop-at.at + c.run_some-at.result)
           (record { cells = take w c.args.memory.now; partials = c.args.partials.now; fault = stop_in c.args.kept.now })
-          (record { cells = take w c.run_one.new.memory; partials = c.run_one.new.partials; fault = stop_in c.run_one.new.kept })) next
-          (λ start h. c.run_one.ensures.runs start (inv.runs start h));
-      stand = c.run_one.ensures.stand;
-      memory = c.run_one.auto.memory ∙ inv.memory;
-      partials = c.run_one.auto.partials ∙ inv.partials;
-      saved = (let same = c.run_one.auto.saved in omega (arith, same, inv.saved));
-      scratch = (let same = c.run_one.auto.scratch in omega (arith, same, inv.scratch));
-      room = c.run_one.ensures.room;
+          (record { cells = take w c.loop-at.memory; partials = c.loop-at.partials; fault = stop_in c.loop-at.kept })
+          (record { cells = take w c.run_some-at.new.memory; partials = c.run_some-at.new.partials; fault = stop_in c.run_some-at.new.kept })
+          inv.runs c.run_some-at.ensures.runs;
+      count = omega (arith, few, fits);
+      stand = c.run_some-at.ensures.stand;
+      memory = c.run_some-at.auto.memory ∙ inv.memory;
+      partials = c.run_some-at.auto.partials ∙ inv.partials;
+      saved = (let same = c.run_some-at.auto.saved in omega (arith, same, inv.saved));
+      scratch = (let same = c.run_some-at.auto.scratch in omega (arith, same, inv.scratch));
+      room = c.run_some-at.ensures.room;
     }

@@ -17,28 +17,30 @@ returns-clause-ran c modes stand runs is =
     let y = c.args.rows.now in
     let m = c.args.memory.now in
     let set_out : IsSetOut y m modes stand c.args.batch.now c.args.numbers.now c.fill_scalars.new.frame = record {
+      rows = c.args.count;
+      some = c.requires.some;
       runs = runs;
       whole = c.requires.whole;
       leads = c.requires.leads;
       differ = c.requires.differ;
       looked = c.requires.numbers;
       apart = c.requires.apart;
-      filled = λ k lt. subst (IsFilled c.args.numbers.now m (column_in y.columns.now k)) (sym (c.fill_scalars.ensures.kept k lt)) (c.fill_columns.ensures k lt);
+      filled = λ k lt. subst (IsFilled c.args.numbers.now c.args.count m (column_in y.columns.now k)) (sym (c.fill_scalars.ensures.kept k lt)) (c.fill_columns.ensures k lt);
       firsts = c.fill_scalars.ensures.filled;
       long = let a = c.fill_scalars.auto.frame in let b = c.fill_columns.auto.frame in let t = length-take-le (width y) c.args.frame.now c.requires.frame in omega (arith, a, b, t);
       fits = c.columns_fit.ensures;
       memory_fits = c.cells_fit.ensures;
       variables_fit = c.cells_fit-2.ensures;
     } in
-    batch_ran y m modes stand c.args.batch.now c.args.numbers.now c.fill_scalars.new.frame set_out c.run_rows.new.frame
+    batch_ran y m modes stand c.args.batch.now c.args.numbers.now c.fill_scalars.new.frame set_out c.run_rows-ran.new.frame
     c.reductions_commute.ensures
-    (let a = c.fill_scalars.auto.frame in let b = c.fill_columns.auto.frame in let d = c.run_rows.auto.frame in let t = length-take-le (width y) c.args.frame.now c.requires.frame in omega (arith, a, b, d, t))
+    (let a = c.fill_scalars.auto.frame in let b = c.fill_columns.auto.frame in let d = c.run_rows-ran.auto.frame in let t = length-take-le (width y) c.args.frame.now c.requires.frame in omega (arith, a, b, d, t))
     c.columns_fit-2.ensures
     c.batches_run.ensures
     c.columns_are_put.ensures
     c.requires.resolved
     c.cells_fit-3.ensures
-    (held c.run_rows.result c.run_rows.ensures c.if-is_none.ensures)
+    (held c.run_rows-ran.result c.run_rows-ran.ensures c.if-is_none.ensures)
     c.put_columns.new.memory c.args.partials.now c.merge_scalars.new.partials
     c.put_columns.ensures
     c.merge_scalars.ensures

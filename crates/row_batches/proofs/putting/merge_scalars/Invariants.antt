@@ -6,5 +6,5 @@ use Rattle.row_batches.proofs.putting.merge_scalars.Given as goal
 abbrev pub invariant-loop-j : goal.invariant-loop-j
 invariant-loop-j l = record {
   inside : Merges (length l.partials) (drop l.j l.scalars);
-  left : totals (drop l.j l.scalars) (drop (l.from + l.j) l.frame) l.partials ≡ totals l.scalars (drop l.from l.frame) l.initial.partials;
+  left : totals l.rows (drop l.j l.scalars) (drop (l.from + l.j) l.frame) l.partials ≡ totals l.rows l.scalars (drop l.from l.frame) l.initial.partials;
 }
