@@ -1,3 +1,4 @@
 pub mod Cut
+pub mod Short
 pub mod Lines
 pub mod Automaton

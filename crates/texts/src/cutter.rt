@@ -1,8 +1,10 @@
 // Tokens: runs of bytes other than space, tab, CR and LF.
-ghost use Rattle.std.specs.Prelude.{◌≡◌, ◌+◌, ◌<◌, ◌≤◌, ◌^◌, length};
+ghost use Rattle.std.specs.Prelude.{◌≡◌, ◌+◌, ◌<◌, ◌≤◌, ◌^◌, length, None, is_some, IsTrue};
 ghost use Rattle.std.specs.List.{prefix_len};
 ghost use Rattle.texts.specs.Cut.{blank, dark, words, first_of, rest_of, uncut, IsDark};
+ghost use Rattle.texts.specs.Short.{short_of};
 
+use crate::short::short_integer;
 use std::marker::Model;
 
 /// A token, and the line that it stands on, from 1.
@@ -86,6 +88,21 @@ impl<'a> Tokens<'a> {
         Some(Token { text, line })
     }
 
+    /// The integer that the next token spells, where that has at most nine bytes; the token has come then. Else none, and
+    /// the token is still to come.
+    pub fn next_short(&mut self) -> Option<i32>
+        ensures value { result ≡ short_of (first_of self.old) }
+        ensures some { IsTrue (is_some result) → self.new ≡ rest_of self.old }
+        ensures none { result ≡ None → self.new ≡ self.old }
+    {
+        let (rest, line) = skip_blanks(self.rest, self.line);
+        let (value, len) = short_integer(rest)?;
+        self.rest = rest.split_at(len).1;
+        self.line = line;
+        self.last = line;
+        Some(value)
+    }
+
     /// The line of the last token that came, or 1 where none came.
     pub fn last(&self) -> u32
         ensures { result ≡ self.now.last }
@@ -95,7 +112,7 @@ impl<'a> Tokens<'a> {
 }
 
 // Whether a byte stands between tokens.
-fn is_blank(byte: u8) -> bool
+pub fn is_blank(byte: u8) -> bool
     ensures { result ≡ blank byte }
 {
     byte == b' ' || byte == b'\t' || byte == b'\r' || byte == b'\n'
