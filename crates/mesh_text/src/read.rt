@@ -1,6 +1,6 @@
 // Reading a mesh text.
-ghost use Rattle.std.specs.Prelude.{◌≡◌, ◌+◌, ◌<◌, ◌≤◌, ◌^◌, ◌⊎◌, false, length, List, ℕ, [], ◌∷◌, ◌++◌, OnOk, IfOk, IfErr, Ok, Err, Some};
-ghost use Rattle.std.specs.Prelude.{None};
+ghost use Rattle.std.specs.Prelude.{◌≡◌, ◌+◌, ◌-◌, ◌<◌, ◌≤◌, ◌^◌, ◌⊎◌, false, length, List, ℕ, [], ◌∷◌, ◌++◌, OnOk, IfOk, IfErr, Ok, Err};
+ghost use Rattle.std.specs.Prelude.{Some, None, ℤ};
 ghost use Rattle.op_num.specs.Spelling.{number_of, integer_of, i32_judged};
 ghost use lib.ListN.{replicate};
 ghost use Rattle.texts.specs.Cut.{uncut, first_of, rest_of};
@@ -209,11 +209,28 @@ fn read_values(
     let mut values = Vec::with_capacity(alloc, most.min(count as usize))?;
     let mut left = count;
     while left > 0 {
-        let (times, value) = given_values(&next_value(tokens)?, form, left)?;
+        let (times, value) = next_values(tokens, form, left)?;
         add_values(&mut values, times, value)?;
         left -= times;
     }
     Ok(Values::new(values))
+}
+
+// The values that the next token gives, where some are awaited.
+fn next_values(tokens: &mut Tokens<'_>, form: Form, left: u64) -> Result<(u64, i32), MeshRefusal>
+    requires { 0 < left }
+    ensures leads { (es : List Named) (name : List ℕ) (zs : List ℤ)
+        → Leads (filled form es name left zs) tokens.old result
+        (λ g. filled form es name (left - g.0) (zs ++ replicate g.0 g.1)) tokens.new }
+    ensures some { IfOk result (λ g. (0 < g.0) × (g.0 ≤ left)) }
+    ensures fewer { OnOk result (length tokens.new.words < length tokens.old.words) }
+{
+    if let Some(value) = tokens.next_short() {
+        return Ok((1, value));
+    }
+    let token = next_value(tokens)?;
+    let given = given_values(&token, form, left)?;
+    Ok(given)
 }
 
 // Appends a value that stands a number of times.
