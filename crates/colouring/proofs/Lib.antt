@@ -8,5 +8,6 @@ pub mod Blocks
 pub mod Translating
 pub mod Ordering
 pub mod Reaching
+pub mod Columns
 pub mod Marking
 pub mod Alike

@@ -2,6 +2,7 @@ pub mod Rows
 pub mod Masks
 pub mod Colours
 pub mod Table
+pub mod Mapped
 pub mod Outlined
 pub mod Laws
 pub mod Meeting

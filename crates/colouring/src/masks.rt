@@ -14,7 +14,7 @@ pub struct Masks {
     pub first: Vec<u32>,
     /// By target and number, the later words that have a colour.
     pub later: HashMap<(u32, u32), u32>,
-    /// How many later words each target has.
+    /// How many later words each target has; empty where none has any.
     pub counts: Vec<u32>,
     /// By two targets and a word: the end of words from that one on of which each colour is one of either target's.
     pub passed: HashMap<(u32, u32, u32), u32>,
@@ -29,7 +29,7 @@ impl Masks {
         Ok(Masks {
             first: vec![in alloc; 0; total as usize]?,
             later: HashMap::new(alloc),
-            counts: vec![in alloc; 0; total as usize]?,
+            counts: Vec::new(alloc),
             passed: HashMap::new(alloc),
         })
     }
@@ -74,7 +74,7 @@ impl Masks {
         self.later
             .insert((target, number), old.unwrap_or(0) | 1 << bit)?;
         if old.is_none() {
-            count_one(&mut self.counts, target);
+            count_one(&mut self.counts, self.first.len(), target)?;
         }
         Ok(())
     }
@@ -152,11 +152,15 @@ impl Masks {
     }
 }
 
-// Counts one word more of a target.
-fn count_one(counts: &mut [u32], target: u32) {
+// Counts one word more of a target, one of `total`.
+fn count_one(counts: &mut Vec<u32>, total: usize, target: u32) -> Result<(), OutOfMemory> {
+    if counts.is_empty() {
+        counts.resize(total, 0)?;
+    }
     if let Some(count) = counts.get_mut(target as usize) {
         *count = count.saturating_add(1);
     }
+    Ok(())
 }
 
 // Counts no words of these targets.

@@ -135,7 +135,7 @@ pub fn target_table(
     ensures table { IfOk result (λ v. IsTable mesh.now rank.now.maps.items args.now starts.now places v.items) }
     ensures within { IfOk result (λ v. (k : ℕ) → k < length v.items → slice_index v.items k < total) }
 {
-    let mut table = Vec::new(alloc);
+    let mut table = Vec::with_capacity(alloc, (places as usize).saturating_mul(args.len()))?;
     for place in 0..places {
         push_numbers(&mut table, mesh, rank, args, starts, total, place)?;
     }

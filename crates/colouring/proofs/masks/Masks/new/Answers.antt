@@ -7,5 +7,5 @@ use Rattle.colouring.proofs.masks.Masks.new.Goals as goal
 pub returns-clause-clear : goal.returns-clause-clear
 returns-clause-clear c = record {
   words = λ t v. none_written c.in_ok-vec.field-0.items c.args.total _ (c.in_ok-vec.ensures.items_if_clones_equal (λ y e. e)) (ap (λ es. lookup (same_word (t, v)) es) c.new.ensures.empty) t v;
-  sound = λ s t v n e. absurd (none_kept (lookup (same_words (s, t, v)) c.new-2.result.entries) n (ap (λ es. lookup (same_words (s, t, v)) es) c.new-2.ensures.empty) e);
+  sound = λ s t v n e. absurd (none_kept (lookup (same_words (s, t, v)) c.new-3.result.entries) n (ap (λ es. lookup (same_words (s, t, v)) es) c.new-3.ensures.empty) e);
 }
