@@ -88,8 +88,8 @@ impl<'a> Tokens<'a> {
         Some(Token { text, line })
     }
 
-    /// The integer that the next token spells, where that has at most nine bytes; the token has come then. Else none, and
-    /// the token is still to come.
+    /// The integer that the next token spells, where that has at most nine bytes; the token has come then. Else none,
+    /// and the token is still to come.
     pub fn next_short(&mut self) -> Option<i32>
         ensures value { result ≡ short_of (first_of self.old) }
         ensures some { IsTrue (is_some result) → self.new ≡ rest_of self.old }
