@@ -1,13 +1,46 @@
 #!/bin/sh
 # Runs each example on one rank and on four, and compares what it prints with NAME.out, and the example `sample2` with the sample on a grid of 2 times 2 cells;
 # writes the mesh of `sample2` again, the plan of `heat` on two ranks, its translation, and its state before item 12; runs `heat` by that plan, and by one
-# with other blocks and colours, and in two halves, the second from that state on four ranks, and by chains. Each example is run once more as it is translated and restored.
+# with other blocks and colours, and in two halves, the second from that state on four ranks, and by chains. Each example is run once more as it is translated and restored,
+# and as the C compilers that are there (gcc, clang) make it a program. Pictures and what plans cost are written again, as NAME.svg or NAME.vtk and NAME.stat.
 # Ends with the number of differences.
+# Usage: examples/check.sh [OP2 [TOOLS]]     (programs; `op2` and `op2-tools` of the repository where none is given)
 here=$(CDPATH= cd -- "$(dirname -- "$0")" && pwd) || exit 70
 op2=${1:-$here/../op2}
+tools=${2:-$here/../op2-tools}
 work=$(mktemp -d) || exit 70
 trap 'rm -rf "$work"' EXIT
 bad=0
+
+# The source, its mesh and what is to be printed, by C compilers (docs/COMPILERS.md).
+compiled() {
+    "$here/../tools/mesh_c" "$2" >"$work/mesh.c"
+    for compiler in gcc clang; do
+        command -v "$compiler" >"$work/found" || continue
+        if ! "$compiler" -std=c11 -w -O2 -fwrapv -include "$here/../include/op2_seq.h" "$1" "$work/mesh.c" -o "$work/program" ||
+            ! "$work/program" | cmp -s - "$3"; then
+            echo "differs: $(basename "$1") by $compiler" >&2
+            bad=$((bad + 1))
+        fi
+    done
+}
+
+# The file that these words of op2-tools write.
+written() {
+    file=$1
+    shift
+    if ! "$tools" "$@" | cmp -s - "$here/$file"; then
+        echo "differs: $file" >&2
+        bad=$((bad + 1))
+    fi
+}
+
+# The picture of an example in the plane on four ranks, and what its plan costs: its name, mesh, map of cells, and rule of owners.
+pictured() {
+    written "$1.svg" draw "$here/$1.c" "$here/$2" --coords x --cells "$3" --ranks 4 --parts "$4"
+    written "$1.stat" stat "$here/$1.c" "$here/$2" --ranks 4 --parts "$4"
+}
+
 for out in "$here"/*.out; do
     name=${out%.out}
     for ranks in 1 4; do
@@ -16,6 +49,7 @@ for out in "$here"/*.out; do
             bad=$((bad + 1))
         fi
     done
+    compiled "$name.c" "$name.mesh" "$out"
     "$op2" translate "$name.c" >"$work/stubs" && "$op2" restore "$work/stubs" >"$work/back.c"
     if ! "$op2" run "$work/back.c" "$name.mesh" | cmp -s - "$out"; then
         echo "differs: $(basename "$name"), translated and restored" >&2
@@ -24,6 +58,7 @@ for out in "$here"/*.out; do
 done
 # The steps of docs/TUTORIAL.md, on one rank and on four.
 for out in "$here"/airfoil/*.out; do
+    compiled "${out%.out}.c" "$here/airfoil/airfoil.mesh" "$out"
     for ranks in 1 4; do
         if ! "$op2" run "${out%.out}.c" "$here/airfoil/airfoil.mesh" --ranks "$ranks" | cmp -s - "$out"; then
             echo "differs: airfoil/$(basename "${out%.out}") on $ranks ranks" >&2
@@ -70,4 +105,10 @@ if ! "$op2" translate "$here/heat.c" | cmp -s - "$here/heat.stubs"; then
     echo 'differs: the translation of heat' >&2
     bad=$((bad + 1))
 fi
+# The pictures of examples/README.md, and what the plans cost.
+pictured airfoil/step5 airfoil/airfoil.mesh pcell bisect:x
+pictured jacobi jacobi.mesh pcell bisect:x
+pictured paths paths.mesh pblock grow:pe
+written bar.vtk vtk "$here/bar.c" "$here/bar.mesh" --coords coords --cells pcell --ranks 4 --parts bisect:coords --output "$here/bar.out"
+written bar.stat stat "$here/bar.c" "$here/bar.mesh" --ranks 4 --parts bisect:coords
 exit "$bad"

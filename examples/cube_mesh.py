@@ -1,10 +1,10 @@
-"""Writes the mesh of `cube.c` as Gmsh has it: a cube of side 1.5, cut into 8 cubes of 6 tetrahedra, with the physical groups 1 for the floor, 2 for the lid and
-10 for the inside. Elements in no group are left out, as Gmsh leaves them out. Nodes have the tags 101, 102 ..
+"""Writes the mesh of `cube.c` as Gmsh has it: a cube of side 1.5, cut into N times N times N cubes of 6 tetrahedra, with the physical groups 1 for the floor, 2 for
+the lid and 10 for the inside. Elements in no group are left out, as Gmsh leaves them out. Nodes have the tags 101, 102 ..
 
-Usage: cube_mesh.py 4.1 >cube.msh; cube_mesh.py 2.2 >cube22.msh"""
+Usage: cube_mesh.py 4.1 [N] >cube.msh; cube_mesh.py 2.2 [N] >cube22.msh     (2 where N is missing)"""
 import sys
 
-N, SIDE = 2, 1.5
+N, SIDE = int(sys.argv[2]) if len(sys.argv) > 2 else 2, 1.5
 spots = [(i, j, k) for k in range(N + 1) for j in range(N + 1) for i in range(N + 1)]
 tag = {spot: 101 + at for at, spot in enumerate(spots)}
 points = [" ".join(f"{SIDE * v / N:.16g}" for v in spot) for spot in spots]

@@ -4,6 +4,9 @@ extern int nedge;
 extern int ends[];
 extern int length0[];
 extern int dist0[];
+extern int ncorner;
+extern int block[];
+extern int x0[];
 void relax(const int *length, const int *da, const int *db, int *na, int *nb) {
   *na = MIN(*na, *db + *length);
   *nb = MIN(*nb, *da + *length);
@@ -20,6 +23,10 @@ int main(int argc, char **argv) {
   op_dat length = op_decl_dat(edges, 1, "int", length0, "length");
   op_dat dist = op_decl_dat(nodes, 1, "int", dist0, "dist");
   op_dat next = op_decl_dat(nodes, 1, "int", dist0, "next");
+  // For pictures alone: each crossing is the middle of a square.
+  op_set corners = op_decl_set(ncorner, "corners");
+  op_map pblock = op_decl_map(nodes, corners, 4, block, "pblock");
+  op_dat x = op_decl_dat(corners, 2, "int", x0, "x");
   for (int turn = 0; turn < 12; turn++) {
     op_par_loop(relax, "relax", edges, op_arg_dat(length, -1, OP_ID, 1, "int", OP_READ), op_arg_dat(dist, 0, pe, 1, "int", OP_READ),
       op_arg_dat(dist, 1, pe, 1, "int", OP_READ), op_arg_dat(next, 0, pe, 1, "int", OP_MIN), op_arg_dat(next, 1, pe, 1, "int", OP_MIN));

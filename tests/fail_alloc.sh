@@ -2,6 +2,7 @@
 # Makes each allocation of some calls fail in turn, by a shim in front of the C library's malloc (needs cc). Each such run must end with status 1, the line
 # `op2: out of memory` and nothing on standard output, or as if nothing had failed, where what failed can be done without. Prints for each call how many
 # allocations were tried. Ends with 1 where a run ends otherwise.
+# Usage: tests/fail_alloc.sh [OP2 [TOOLS]]     (programs; `op2` and `op2-tools` of the repository where none is given)
 here=$(CDPATH= cd -- "$(dirname -- "$0")/.." && pwd) || exit 70
 work=$(mktemp -d) || exit 70
 trap 'rm -rf "$work"' EXIT
@@ -48,12 +49,22 @@ int posix_memalign(void **p, size_t a, size_t n) {
 }
 C
 cc -shared -fPIC -O1 -o "$work/shim.so" "$work/shim.c" -ldl || exit 70
-"$here/op2" --version >/dev/null || exit 70
-program=$here/crates/op2_cli/out/op2_cli
+op2=$1 tools=$2
+if [ -z "$op2" ]; then
+    "$here/op2" --version >/dev/null || exit 70
+    op2=$here/crates/op2_cli/out/op2_cli
+fi
+if [ -z "$tools" ]; then
+    "$here/op2-tools" --version >/dev/null || exit 70
+    tools=$here/crates/op2_tools/out/op2_tools
+fi
+op2=$(realpath "$op2") tools=$(realpath "$tools")
 bad=0
 
-# The words of a call.
-try() {
+# The words of a call of a program.
+try_of() {
+    program=$1
+    shift
     rm -f "$work/count"
     COUNT_TO=$work/count LD_PRELOAD=$work/shim.so "$program" "$@" >"$work/whole" 2>"$work/line"
     status=$?
@@ -73,8 +84,10 @@ try() {
         fi
         at=$((at + 1))
     done
-    echo "$all allocations, $spared of them not missed: $*"
+    echo "$all allocations, $spared of them not missed: $(basename "$program") $*"
 }
+try() { try_of "$op2" "$@"; }
+try_tools() { try_of "$tools" "$@"; }
 
 cd "$here/examples" || exit 70
 try run heat.c heat.mesh
@@ -91,4 +104,15 @@ try translate heat.c
 try restore heat.stubs
 try sample 2 --workers 2
 try sample 2 --ranks 2 --chain
+printf '0\n1\n0\n' >"$work/ranks"
+try_tools pick residual.c residual.mesh residual.out r.txt
+try_tools graph residual.c residual.mesh pe
+try_tools owners residual.c residual.mesh --ranks 2 --parts grow:pe
+try_tools owners residual.c residual.mesh --ranks 2 --metis "$work/ranks" --set nodes
+try_tools stat residual.c residual.mesh --ranks 2
+try_tools draw sample2.c sample2.mesh --coords x --cells pcell --ranks 2
+try_tools vtk paths.c paths.mesh --coords x --cells pblock --ranks 2 --output paths.out
+try_tools from-gmsh cube.msh --scale 100
+try_tools from-gmsh cube.msh --scale 100 --source
+try_tools explain run residual.c cube.mesh --ranks 2
 exit "$bad"

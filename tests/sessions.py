@@ -1,9 +1,10 @@
 #!/usr/bin/env python3
 """Runs the commands that stand in the pages, in a copy of what they name: each block of shell, whose output is compared with the block that follows it at
-once, and each session, in which commands begin with `$`. Ends with 1 where one differs, or fails where the page doesn't say so.
+once, and each session, in which commands begin with `$`. Ends with 1 where one differs, or fails where the page doesn't say so. A session of
+`tools/graph_parts` is left out where Python has no networkx.
 Usage: tests/sessions.py [OP2 [TOOLS]]     (programs; `op2` and `op2-tools` of the repository where none is given)
 """
-import pathlib, re, shutil, subprocess, sys, tempfile
+import importlib.util, os, pathlib, re, shutil, subprocess, sys, tempfile
 
 top = pathlib.Path(__file__).resolve().parent.parent
 op2 = pathlib.Path(sys.argv[1] if len(sys.argv) > 1 else top / "op2").resolve()
@@ -14,7 +15,8 @@ bad = tried = 0
 
 
 def run(folder, command):
-    done = subprocess.run(["bash", "-c", command], cwd=folder, stdout=subprocess.PIPE, stderr=subprocess.STDOUT, text=True, timeout=600)
+    found = {**os.environ, "PATH": f"{folder}:{os.environ['PATH']}"}
+    done = subprocess.run(["bash", "-c", command], cwd=folder, env=found, stdout=subprocess.PIPE, stderr=subprocess.STDOUT, text=True, timeout=600)
     return done.returncode, done.stdout
 
 
@@ -46,8 +48,10 @@ with tempfile.TemporaryDirectory() as name:
                     compare(page, block, f"{status} {found}", f"{says[1]} {says[2]}")
                 else:
                     compare(page, block, f"{status}", "0")
+            elif "tools/graph_parts" in block and not importlib.util.find_spec("networkx"):
+                print(f"left out: {page}: a session that needs networkx")
             elif not kind and block.startswith("$ "):
                 for command, wanted in re.findall(r"^\$ (.*)\n((?:(?!\$ ).*\n)*)", block, re.M):
-                    compare(page, command, run(folder, re.sub(r"^(op2|op2-tools) ", r"./\1 ", command))[1], wanted)
+                    compare(page, command, run(folder, command)[1], wanted)
 print(f"{tried} commands, {bad} differences")
 sys.exit(bad > 0)

@@ -52,7 +52,7 @@ def counts(source, plan, loops):
 with tempfile.TemporaryDirectory() as name:
     ordered = pathlib.Path(name) / "ordered.c"
     ordered.write_text((top / "examples/residual.c").read_text().replace("OP_INC", "OP_RW"))
-    rows = [(top / f"examples/{example}.c", top / f"examples/{example}.mesh") for example in ("residual", "heat", "jac", "paths", "bump", "sample2")]
+    rows = [(top / f"examples/{example}.c", top / f"examples/{example}.mesh") for example in ("residual", "heat", "jac", "jacobi", "paths", "bump", "sample2")]
     for source, mesh in [*rows, (ordered, top / "examples/residual.mesh")]:
         for ranks in range(1, 6):
             for options in (["--block", "256"], ["--block", "2"]):
