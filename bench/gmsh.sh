@@ -1,5 +1,6 @@
 #!/bin/sh
-# Times `op2-tools from-gmsh` on cubes of tetrahedra, in versions 2.2 and 4.1 of Gmsh's format. Prints seconds of the processor, peak memory, and memory for each cell.
+# Times `op2-tools from-gmsh` on cubes of tetrahedra, in versions 2.2 and 4.1 of Gmsh's format, for the mesh text and for a program that is judged over it. Prints seconds of the
+# processor, peak memory, and memory for each cell.
 # Usage: bench/gmsh.sh [CELLS ..]     (250000 1000000 where none is given; TOOLS may name another program)
 here=$(CDPATH= cd -- "$(dirname -- "$0")/.." && pwd) || exit 1
 tools=${TOOLS:-$here/op2-tools}
@@ -33,8 +34,11 @@ P
 for version in 2.2 4.1; do
     for asked in "$@"; do
         cells=$(python3 "$work/cube.py" "$work/cube.msh" "$version" "$asked") || exit 1
-        /usr/bin/time -f '%U %S %M' -o "$work/spent" "$tools" from-gmsh "$work/cube.msh" --scale 1000 >/dev/null || exit 1
-        awk -v what="version $version, $cells tetrahedra" -v cells="$cells" \
-            '{ printf "%-34s %6.2f seconds, %5.0f MiB, %4.0f bytes a cell\n", what, $1 + $2, $3 / 1024, $3 * 1024 / cells }' "$work/spent"
+        for source in '' --source; do
+            # shellcheck disable=SC2086
+            /usr/bin/time -f '%U %S %M' -o "$work/spent" "$tools" from-gmsh "$work/cube.msh" --scale 1000 $source >/dev/null || exit 1
+            awk -v what="version $version, $cells tetrahedra $source" -v cells="$cells" \
+                '{ printf "%-43s %6.2f seconds, %5.0f MiB, %4.0f bytes a cell\n", what, $1 + $2, $3 / 1024, $3 * 1024 / cells }' "$work/spent"
+        done
     done
 done

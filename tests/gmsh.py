@@ -1,7 +1,8 @@
 #!/usr/bin/env python3
 """Holds `op2-tools from-gmsh` against a second reading of its rules (docs/TOOLS.md): meshes of triangles, quadrangles, tetrahedra and hexahedra in versions
 2.2 and 4.1 of Gmsh's format, texts that are refused, every prefix of a small file, and damaged copies. Each call must give the bytes that this script finds,
-or its status and line. With OP2, the source that `--source` writes is run over the mesh, and must print the sums that this script finds.
+or its status and line. With OP2, the source that `--source` writes is run over the mesh, and must print the sums that this script finds. With --million
+a million tetrahedra are timed, and a mesh is tried that `op2` doesn't take.
 Usage: tests/gmsh.py TOOLS [OP2] [--copies N] [--seed N] [--million]
 """
 import argparse, pathlib, random, re, subprocess, sys, tempfile, time
@@ -495,6 +496,18 @@ def million(tools, folder):
     return got.returncode == 0
 
 
+def beyond(tools, folder):
+    """One node more than `op2` takes in a set: a mesh text is written, and no program."""
+    count = 2**22 + 1
+    data = HEAD + f"{count}\n".encode() + b"".join(b"%d 0 0 0\n" % at for at in range(1, count + 1))
+    data += b"$EndNodes\n$Elements\n1\n1 2 0 1 2 3\n$EndElements\n"
+    mesh, source = run(tools, folder, data, 1, 2), run(tools, folder, data, 1, 2, "--source")
+    line = f"op2-tools: from-gmsh 16 limit set-size {count - 1} {count}\n".encode()
+    right = (mesh.returncode, mesh.stderr, source.returncode, source.stdout, source.stderr) == (0, b"", 20, b"", line)
+    print(f"{count} nodes: {'right' if right else (mesh.returncode, mesh.stderr, source)}")
+    return right
+
+
 def main():
     words = argparse.ArgumentParser()
     words.add_argument("tools", type=lambda name: pathlib.Path(name).resolve())
@@ -554,6 +567,7 @@ def main():
             check(damaged(draw, data), draw.choice([1, 3, 1000]), draw.choice([0, 2, 3]), f"damaged {name}")
         if asked.million:
             wrong += not million(asked.tools, folder)
+            wrong += not beyond(asked.tools, folder)
     print(f"{done} texts, {wrong} wrong")
     return wrong > 0
 

@@ -1,5 +1,5 @@
 -- What `op2-tools` answers to its words, over files that are told.
-use Rattle.std.specs.Prelude.{◌≡◌, ℕ, ◌<◌, ◌⊎◌, Bool, true, false, List, [], ◌++◌, Option, Some, None, Result, Ok, Err, codes}
+use Rattle.std.specs.Prelude.{◌≡◌, ℕ, ◌<◌, ◌⊎◌, Bool, true, false, List, [], ◌++◌, drop, Option, Some, None, Result, Ok, Err, codes}
 use Rattle.std.specs.Fmt.{decimal}
 use Rattle.op_outside.specs.Outside.{Files}
 use Rattle.mesh_decl.specs.declared.owners.Owners.{Owners}
@@ -38,6 +38,7 @@ use Rattle.command_words.specs.Words.{InFiles, Options}
 use Rattle.answer_lines.specs.Lines.{Answer, done, refused}
 use Rattle.answers.specs.Judgements.{IsHeld, Planned}
 use Rattle.answers.specs.Answers.{given, BoundAnswers, PlanningAnswers, without}
+use Rattle.judged_texts.specs.Judged.{IsJudged}
 use Rattle.explain_job.specs.ExplainAnswers.{ExplainAnswers}
 use Rattle.tool_command.specs.GmshLines.{said_of_mesh}
 use Rattle.tool_words.specs.declared.usage.TheConstants.{USAGE, VERSION}
@@ -212,10 +213,24 @@ mesh_refused e = refused_by_tool (said_of_mesh e)
 abbrev pub conversion_of : conversions.Conversion → Conversion
 conversion_of c = record { mesh = c.mesh.items; source = c.source.now }
 
+-- the answer where `op2` refuses a program, with what its line says
+abbrev pub source_refused : (line : List ℕ) → Answer
+source_refused line = record { status = 20; out = []; line = codes "op2-tools: from-gmsh 16 " ++ drop 5 line }
+
+-- the answer that is a program, where no line of `op2` refuses it
+abbrev pub source_answer : (source : List ℕ) → (line : Option (List ℕ)) → Answer
+source_answer source None = done source
+source_answer source (Some line) = source_refused line
+
+-- The answer that is a program for a mesh, judged by `op2` first: what it answers to `check` over files that are these two texts has status 0,
+-- or the line by which the program is refused.
+abbrev pub SourceAnswers : (source mesh : List ℕ) → Answer → Type 0
+SourceAnswers source mesh a = (line : Option (List ℕ)) × IsJudged source mesh line × (a ≡ source_answer source line)
+
 -- the answer that is a mesh, or a program for it
 abbrev pub TextAnswers : (writes_source : Bool) → Conversion → Answer → Type 0
 TextAnswers false c a = a ≡ done c.mesh
-TextAnswers true c a = a ≡ done c.source
+TextAnswers true c a = SourceAnswers c.source c.mesh a
 
 -- what is answered of the bytes of a file
 abbrev pub ConversionAnswers : Option Dimension → (scale : ℕ) → (writes_source : Bool) → (bytes : List ℕ) → Answer → Type 0

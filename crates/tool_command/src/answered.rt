@@ -45,7 +45,7 @@ fn to_asked<'a, R: Threads + Sync, F: Shelf>(
             dim,
             scale,
             writes_source,
-        } => from_gmsh_file(alloc, shelf, file, dim, scale, writes_source),
+        } => from_gmsh_file(rt, alloc, shelf, file, dim, scale, writes_source),
         Asked::Explain { call } => explained(rt, alloc, shelf, call),
         Asked::Usage => Ok(done(alloc, USAGE)?),
         Asked::Version => Ok(done(alloc, VERSION)?),

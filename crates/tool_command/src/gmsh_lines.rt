@@ -1,10 +1,10 @@
 // The lines of `from-gmsh`'s refusals.
 
-ghost use Rattle.std.specs.Prelude.{◌≡◌, ◌++◌, codes, OnOk, IfOk};
+ghost use Rattle.std.specs.Prelude.{◌≡◌, ◌++◌, codes, drop, OnOk, IfOk};
 ghost use Rattle.job_inputs.specs.Chains.{AnswersBy};
 ghost use Rattle.answer_lines.specs.Halts.{answer_of};
 ghost use Rattle.tool_command.specs.GmshLines.{said, said_of_text, said_of_mesh};
-ghost use Rattle.tool_command.specs.ToolAnswers.{refused_by_tool, mesh_refused};
+ghost use Rattle.tool_command.specs.ToolAnswers.{refused_by_tool, mesh_refused, source_refused};
 
 use crate::lines::{put_at, refused_by};
 use answer_lines::{Answer, Halt, Limit, Refusal};
@@ -84,4 +84,22 @@ pub fn refused_mesh<'a>(alloc: Global, refusal: GmshRefusal) -> Result<Answer, H
         })),
         _ => Ok(refused_line(alloc, refusal)?),
     }
+}
+
+// The bytes behind the first five, `op2: `.
+fn behind_name(line: &[u8]) -> &[u8]
+    ensures { result.now ≡ drop 5 line.now }
+{
+    let end = line.len().min(5);
+    &line[end..]
+}
+
+/// The answer where `op2` refuses a program for a mesh, with this line. An error is want of memory.
+pub fn refused_source(alloc: Global, line: &[u8]) -> Result<Answer, OutOfMemory>
+    ensures { IfOk result (λ a. answer_of a ≡ source_refused line.now) }
+{
+    let mut said = Vec::new(alloc);
+    said.extend_from_slice(b"op2-tools: from-gmsh 16 ")?;
+    said.extend_from_slice(behind_name(line))?;
+    Ok(refused_by(said))
 }

@@ -58,10 +58,10 @@ pub returns-in-OnPlan : goal.returns-in-OnPlan
 returns-in-OnPlan g c = rw c.in-OnPlan.is c.on_plan.ensures
 
 pub from_gmsh_file-requires-clause-lent : goal.from_gmsh_file-requires-clause-lent
-from_gmsh_file-requires-clause-lent g c = let h = rw c.in-Convert.is at c.requires.lent in h zero c.in-Convert.file.now (omega arith)
+from_gmsh_file-requires-clause-lent g c = λ _ _. (let h = rw c.in-Convert.is at c.requires.lent in h zero c.in-Convert.file.now (omega arith))
 
 pub from_gmsh_file-requires-clause-scale : goal.from_gmsh_file-requires-clause-scale
-from_gmsh_file-requires-clause-scale g c = rw c.in-Convert.is at c.requires.in_range
+from_gmsh_file-requires-clause-scale g c = λ _ _. rw c.in-Convert.is at c.requires.in_range
 
 pub returns-in-Convert : goal.returns-in-Convert
 returns-in-Convert g c = rw c.in-Convert.is c.from_gmsh_file.ensures
