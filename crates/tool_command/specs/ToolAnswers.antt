@@ -222,7 +222,7 @@ abbrev pub source_answer : (source : List ℕ) → (line : Option (List ℕ)) �
 source_answer source None = done source
 source_answer source (Some line) = source_refused line
 
--- The answer that is a program for a mesh, judged by `op2` first: what it answers to `check` over files that are these two texts has status 0,
+-- The answer that is a program for a mesh, judged by `op2` first: the answer to `check` over files that are these two texts has status 0,
 -- or the line by which the program is refused.
 abbrev pub SourceAnswers : (source mesh : List ℕ) → Answer → Type 0
 SourceAnswers source mesh a = (line : Option (List ℕ)) × IsJudged source mesh line × (a ≡ source_answer source line)
