@@ -11,9 +11,6 @@ pub record Has (xs : List Arg) (y : Arg) : Type 0 where
   pub there : number < length xs
   pub is : get_or xs number no_arg ≡ y
 
-pub first : (x : Arg) (xs : List Arg) → Has (x ∷ xs) x
-first x xs = record { number = 0; there = omega arith; is = refl }
-
 pub further : (x : Arg) (xs : List Arg) (y : Arg) → Has xs y → Has (x ∷ xs) y
 further x xs y h = record { number = suc h.number; there = (let l : h.number < length xs = h.there in omega arith); is = h.is }
 

@@ -77,9 +77,6 @@ module _ (g : MeshValue) (sets : List LocalSet) where
 -- ---- the buffer of a rank
 
 module _ (laws : NumberLaws) (halos : HaloLaws) (b : BoundValue) (o : Owners) (n : Perms) (meshes : List RankMesh) (p : PlanValue) (pl : Planned b o n meshes p) (r : ℕ) (lr : r < o.ranks) where
-  there : r < length meshes
-  there = rank_there laws b.mesh o n meshes pl.distributed r lr
-
   bases_are : (d : ℕ) → d < dat_count b.mesh → get_or (bases_of meshes r) d 0 ≡ cells_before b.mesh (sets_of meshes r) d
   unfolding bases_of
   bases_are d l =

@@ -1,5 +1,5 @@
 -- Stores and their values.
-use Rattle.std.proofs.Common.{◌≡◌, ℕ, ℤ, zero, suc, Bool, true, false, cond, refl, sym, subst, Option, Some, None}
+use Rattle.std.proofs.Common.{◌≡◌, ℕ, ℤ, zero, suc, Bool, true, cond, refl, sym, subst, Option, Some, None}
 use Rattle.std.specs.Prelude.{◌==◌}
 use Rattle.std.proofs.lemmas.Bool.{cond_both, cond-true, cond-false, eq-eqb, ne_eqb}
 use Rattle.schedule_model.specs.Cells.{Data, Variable, DatCell, VarCell, Store, InRange}
@@ -55,9 +55,6 @@ left_has t h x v w a e = replaced_is (h x.dat x.element) (pair_values t x.dat x.
 -- where the test says so, the pair has new values
 pub some_is : (b : Bool) (u : ℕ → ℤ) (o : Option (ℕ → ℤ)) (i : ℕ) (w : ℤ) → b ≡ true → u i ≡ w → IsValue (cond b (Some u) o) i w
 some_is b u o i w h e = subst (λ z. IsValue z i w) (sym (cond-true b (Some u) o h)) e
-
-pub other_is : (b : Bool) (u : ℕ → ℤ) (o : Option (ℕ → ℤ)) (i : ℕ) (w : ℤ) → b ≡ false → IsValue o i w → IsValue (cond b (Some u) o) i w
-other_is b u o i w h e = subst (λ z. IsValue z i w) (sym (cond-false b (Some u) o h)) e
 
 -- ---- values in range
 

@@ -106,10 +106,6 @@ module _ {F : Type 0} (p : Setup F) (l : Layout F) where
   mail_step (End k b x) f s r = ap (λ m. map (λ (y : Post). y.about) (m s r)) (mail_closed k b x (l.original k b x) (f.panes k b x) f)
   mail_step (Join k) f s r = ap (λ m. map (λ (y : Post). y.about) (m s r)) (keeps_joined k (least k f.faults) f).0
 
-  no_stop : (x : Option (Stop F)) → is_some x ≡ false → x ≡ None
-  no_stop None h = refl
-  no_stop (Some x) h = cc
-
   mail_steps : (steps : List Step) (f : Flat F) → (flat_from p l steps f).stop ≡ None → (s r : ℕ) → queue_of (flat_from p l steps f) s r ≡ queue_after s r (queue_of f s r) steps
   mail_steps [] f none s r = refl
   mail_steps (t ∷ steps) f none s r = by_test (λ n. mail_steps steps (flat_step p l t f) n s r) (is_some f.stop) refl none
