@@ -15,10 +15,17 @@ mod ChainsAgree
 mod Agreed
 mod SchedulesExist
 mod PlansExist
+mod FewDeclared
 mod FewItems
+mod SpelledValues
+mod ExpressionValues
+mod DeclaredValues
+mod UnrolledValues
 mod FirstValues
 mod Exist
 mod Complete
+mod OtherRefusals
+mod SoundAnswers
 mod WordsRefused
 mod Shown
 mod Reported
