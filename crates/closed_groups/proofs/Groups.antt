@@ -19,18 +19,18 @@ use Rattle.closed_groups.proofs.Swaps.{end_first}
 
 module _ {F : Type 0} (p : Setup F) (l : Layout F) where
   -- steps none of which stops
-  abbrev go : List Step → Flat F → Flat F
+  abbrev pub go : List Step → Flat F → Flat F
   go [] f = f
   go (s ∷ ss) f = go ss (flat_step p l s f)
 
-  abbrev Goes : Step → Type 0
+  abbrev pub Goes : Step → Type 0
   Goes s = (f : Flat F) → (flat_step p l s f).stop ≡ f.stop
 
-  abbrev AllGo : List Step → Type 0
+  abbrev pub AllGo : List Step → Type 0
   AllGo [] = Unit {0}
   AllGo (s ∷ ss) = Goes s × AllGo ss
 
-  from_go : (ss : List Step) → AllGo ss → (f : Flat F) → f.stop ≡ None → flat_from p l ss f ≡ go ss f
+  pub from_go : (ss : List Step) → AllGo ss → (f : Flat F) → f.stop ≡ None → flat_from p l ss f ≡ go ss f
   from_go [] h f e = refl
   from_go (s ∷ ss) h f e =
       cond-false (is_some f.stop) f (flat_from p l ss (flat_step p l s f)) (ap is_some e)
@@ -51,23 +51,23 @@ module _ {F : Type 0} (p : Setup F) (l : Layout F) where
   end_goes : (k r x : ℕ) → Goes (End k r x)
   end_goes k r x f = closed_goes k r x (l.original k r x) (f.panes k r x) f
 
-  all_go : (ss ts : List Step) → AllGo ss → AllGo ts → AllGo (ss ++ ts)
+  pub all_go : (ss ts : List Step) → AllGo ss → AllGo ts → AllGo (ss ++ ts)
   all_go [] ts g h = h
   all_go (s ∷ ss) ts g h = (g.0, all_go ss ts g.1 h)
 
-  begins_go : (k r : ℕ) (xs : List ℕ) → AllGo (begins k r xs)
+  pub begins_go : (k r : ℕ) (xs : List ℕ) → AllGo (begins k r xs)
   begins_go k r [] = tt
   begins_go k r (x ∷ xs) = (begin_goes k r x, begins_go k r xs)
 
-  ends_go : (k r : ℕ) (xs : List ℕ) → AllGo (ends k r xs)
+  pub ends_go : (k r : ℕ) (xs : List ℕ) → AllGo (ends k r xs)
   ends_go k r [] = tt
   ends_go k r (x ∷ xs) = (end_goes k r x, ends_go k r xs)
 
-  alone_go : (k r : ℕ) (xs : List ℕ) → AllGo (alone k r xs)
+  pub alone_go : (k r : ℕ) (xs : List ℕ) → AllGo (alone k r xs)
   alone_go k r [] = tt
   alone_go k r (x ∷ xs) = (begin_goes k r x, (end_goes k r x, alone_go k r xs))
 
-  go_append : (ss ts : List Step) (f : Flat F) → go (ss ++ ts) f ≡ go ts (go ss f)
+  pub go_append : (ss ts : List Step) (f : Flat F) → go (ss ++ ts) f ≡ go ts (go ss f)
   go_append [] ts f = refl
   go_append (s ∷ ss) ts f = go_append ss ts (flat_step p l s f)
 

@@ -22,11 +22,28 @@ int main(int argc, char **argv) {
 }
 ";
 
+// The same, with a sum over all elements that is printed before the loop and behind it.
+const SUMMED: &str = "extern int n;
+extern int a0[];
+void bump(int *a, int *sum) { a[0] = a[0] + 1; *sum += a[0]; }
+int main(int argc, char **argv) {
+  op_set s = op_decl_set(n, \"s\");
+  op_dat a = op_decl_dat(s, 1, \"int\", a0, \"a\");
+  int sum = 0;
+  op_printf(\"%d\\n\", sum);
+  op_par_loop(bump, \"bump\", s, op_arg_dat(a, -1, OP_ID, 1, \"int\", OP_RW), op_arg_gbl(&sum, 1, \"int\", OP_INC));
+  op_printf(\"%d\\n\", sum);
+  op_exit();
+}
+";
+
 const TWO: &str = "op2mesh 1 int n 2 ints a0 2 5 7 done";
 
 const SIXTY_FOUR: &str = "op2mesh 2 int n 64 ints a0 64 64*0 done";
 
 const HUNDRED: &str = "op2mesh 2 int n 100 ints a0 100 100*0 done";
+
+const THOUSANDS: &str = "op2mesh 2 int n 20000 ints a0 20000 20000*0 done";
 
 const PRINTED: &str = "a: a s 2 1\n6\n8\n";
 
@@ -56,8 +73,20 @@ fn gated<R: Threads + Sync, G: Gate>(
     mesh: &str,
     gate: &G,
 ) -> Result<Ended, AllocError> {
+    gated_source(rt, alloc, BUMP, options, mesh, gate)
+}
+
+// A run of a source over a mesh with these options.
+fn gated_source<R: Threads + Sync, G: Gate>(
+    rt: &R,
+    alloc: Global,
+    source: &str,
+    options: &[&str],
+    mesh: &str,
+    gate: &G,
+) -> Result<Ended, AllocError> {
     let mut shelf = MemoryShelf::new(alloc, Vec::new(alloc));
-    for (name, text) in [("s.c", BUMP), ("m.mesh", mesh), ("t", TOGETHER)] {
+    for (name, text) in [("s.c", source), ("m.mesh", mesh), ("t", TOGETHER)] {
         let bytes = text.as_bytes().to_vec(alloc)?;
         shelf.hold(String::from_str(alloc, name)?, bytes)?;
     }
@@ -184,6 +213,17 @@ fn two_workers_share_a_group_of_the_standard_order(rt: HostRuntime) -> Result<()
     let ended = gated(&rt, alloc, options, SIXTY_FOUR, &gate)?;
     assert_eq!(rt; ended.status, 0);
     assert_eq!(rt; ended.out.bytes(), printed.as_bytes());
+    assert_eq!(rt; gate.met.load(Ordering::SeqCst), 2);
+    Ok(())
+}
+
+#[test]
+fn two_workers_meet_on_two_ranks(rt: HostRuntime) -> Result<(), Fail> {
+    let gate = Meeting::new(1);
+    let options: &[&str] = &["--ranks=2", "--workers=2"];
+    let ended = gated_source(&rt, rt.alloc(), SUMMED, options, THOUSANDS, &gate)?;
+    assert_eq!(rt; ended.status, 0);
+    assert_eq!(rt; ended.out.bytes(), "0\n20000\n".as_bytes());
     assert_eq!(rt; gate.met.load(Ordering::SeqCst), 2);
     Ok(())
 }

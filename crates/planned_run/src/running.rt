@@ -36,7 +36,7 @@ use mesh_decl::Owners;
 use op_num::OutOfMemory;
 use par_exec::Gate;
 use plan_orders::{PlanShape, standard_order};
-use rank_exec::{Outcome, is_short, run_planned};
+use rank_exec::{Outcome, come_in_rounds, run_planned};
 use rank_program::DistributedProgram;
 use schedule_check::{Checker, take_all};
 use schedule_steps::Peak;
@@ -119,22 +119,23 @@ fn run_steps<R: Threads + Sync, G: Gate, S: Steps>(
     run_peaked(rt, alloc, program, peak, again, workers, gate, dumps)
 }
 
-// Which of the items have kernels that are too short for threads. An error is want of memory.
-fn short_items(
+// Which of the items have elements that come in rounds. An error is want of memory.
+fn round_items(
     alloc: Global,
     program: &DistributedProgram<'_>,
     items: u32,
+    workers: u32,
 ) -> Result<Vec<bool>, OutOfMemory> {
-    let mut short = Vec::with_capacity(alloc, items as usize)?;
+    let mut round = Vec::with_capacity(alloc, items as usize)?;
     for item in 0..items {
-        short.push(is_short(program, item))?;
+        round.push(come_in_rounds(program, item, workers))?;
     }
-    Ok(short)
+    Ok(round)
 }
 
 // Runs a program by an accepted list of its plan's steps, with room for their peak. Where several workers run it on several ranks,
-// the list of `items` items is looked ahead for closed groups of short kernels, so that each rank's first group is told too. An error
-// is want of memory.
+// the list of `items` items is looked ahead for closed groups of elements that come in rounds, so that each rank's first group is
+// told too. An error is want of memory.
 fn run_ahead<R: Threads + Sync, G: Gate, S: Steps + Drop>(
     rt: &R,
     alloc: Global,
@@ -158,8 +159,8 @@ fn run_ahead<R: Threads + Sync, G: Gate, S: Steps + Drop>(
     if workers == 1 || program.owners.ranks == 1 {
         return run_planned(rt, alloc, program, room, &mut steps, workers, gate, dumps);
     }
-    let short = short_items(alloc, program, items)?;
-    let mut ahead = Ahead::new(alloc, steps, short, MOST_HELD)?;
+    let round = round_items(alloc, program, items, workers)?;
+    let mut ahead = Ahead::new(alloc, steps, round, MOST_HELD)?;
     run_planned(rt, alloc, program, room, &mut ahead, workers, gate, dumps)
 }
 

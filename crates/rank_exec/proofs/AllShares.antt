@@ -6,8 +6,9 @@ use Rattle.schedule_model.specs.Sequential.{Stop}
 use Rattle.rank_state.specs.Machine.{State, row}
 use Rattle.rank_program.specs.AloneRuns.{Share}
 use Rattle.rank_program.specs.FromNone.{kept_both}
-use Rattle.rank_exec.specs.Rounds.{after_ranks, share_at, kept_of_all, SharesAreSet}
-use Rattle.rank_exec.proofs.Rounds.{same_memories, same_partials, same_rest}
+use Rattle.rank_machine.specs.OnRanks.{share_at, kept_of_all}
+use Rattle.rank_exec.specs.Rounds.{after_ranks, SharesAreSet}
+use Rattle.rank_exec.proofs.RanksInTurn.{same_memories, same_partials, same_rest}
 
 module _ {F : Type 0} (old : State F) (new : ℕ → Share F) where
   -- each rank below has its share

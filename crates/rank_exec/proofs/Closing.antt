@@ -34,12 +34,12 @@ open_ends k r n [] = omega arith
 open_ends k r n (x ∷ xs) =
     (let e : (n + suc (length xs)) - 1 ≡ n + length xs = omega arith in ap (λ m. count_after open_step m (ends k r xs)) e) ∙ open_ends k r n xs
 
-open_closed : (k r n : ℕ) (xs : List ℕ) → count_after open_step n (closed k r xs) ≡ n
+pub open_closed : (k r n : ℕ) (xs : List ℕ) → count_after open_step n (closed k r xs) ≡ n
 open_closed k r n xs =
     count_append open_step n (left.begins k r xs) (ends k r xs)
     ∙ (ap (λ m. count_after open_step m (ends k r xs)) (open_begins k r n xs) ∙ open_ends k r n xs)
 
-open_alone : (k r n : ℕ) (xs : List ℕ) → count_after open_step n (alone k r xs) ≡ n
+pub open_alone : (k r n : ℕ) (xs : List ℕ) → count_after open_step n (alone k r xs) ≡ n
 open_alone k r n [] = refl
 open_alone k r n (x ∷ xs) =
     (let e : suc n - 1 ≡ n = omega arith in ap (λ m. count_after open_step m (alone k r xs)) e) ∙ open_alone k r n xs
@@ -52,12 +52,12 @@ mail_ends : (cells : ℕ → ℕ → ℕ → ℕ) (k r n : ℕ) (xs : List ℕ) 
 mail_ends cells k r n [] = refl
 mail_ends cells k r n (x ∷ xs) = mail_ends cells k r n xs
 
-mail_closed : (cells : ℕ → ℕ → ℕ → ℕ) (k r n : ℕ) (xs : List ℕ) → count_after (mail_step cells) n (closed k r xs) ≡ n
+pub mail_closed : (cells : ℕ → ℕ → ℕ → ℕ) (k r n : ℕ) (xs : List ℕ) → count_after (mail_step cells) n (closed k r xs) ≡ n
 mail_closed cells k r n xs =
     count_append (mail_step cells) n (left.begins k r xs) (ends k r xs)
     ∙ (ap (λ m. count_after (mail_step cells) m (ends k r xs)) (mail_begins cells k r n xs) ∙ mail_ends cells k r n xs)
 
-mail_alone : (cells : ℕ → ℕ → ℕ → ℕ) (k r n : ℕ) (xs : List ℕ) → count_after (mail_step cells) n (alone k r xs) ≡ n
+pub mail_alone : (cells : ℕ → ℕ → ℕ → ℕ) (k r n : ℕ) (xs : List ℕ) → count_after (mail_step cells) n (alone k r xs) ≡ n
 mail_alone cells k r n [] = refl
 mail_alone cells k r n (x ∷ xs) = mail_alone cells k r n xs
 
@@ -85,7 +85,7 @@ module _ {F : Type 0} (p : Setup F) (l : Layout F) where
 
 -- ---- what is done
 
-begins_same : (k r : ℕ) (xs : List ℕ) → begins k r xs ≡ left.begins k r xs
+pub begins_same : (k r : ℕ) (xs : List ℕ) → begins k r xs ≡ left.begins k r xs
 begins_same k r [] = refl
 begins_same k r (x ∷ xs) = ap (λ z. Begin k r x ∷ z) (begins_same k r xs)
 
@@ -140,7 +140,7 @@ no_pane (Holds j ws) h = absurd (differ (sym (cond-true (j == j) (flat.Windows w
     differ e = cc
 
 module _ {F : Type 0} (p : Setup F) (l : Layout F) (t : Tables) where
-  shows_alike : (st : State F) (f g : Flat F) → Shows p l t st f → AreAlike g f → Shows p l t st g
+  pub shows_alike : (st : State F) (f g : Flat F) → Shows p l t st f → AreAlike g f → Shows p l t st g
   shows_alike st f g h a = record {
     sized = h.sized;
     memories = h.memories ∙ sym a.memories;

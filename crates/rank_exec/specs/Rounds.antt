@@ -1,16 +1,21 @@
 -- The elements of one item on all ranks, each rank's one after another, rank after rank.
-use Rattle.std.specs.Prelude.{◌≡◌, ◌<◌, ◌≤◌, ℕ, ℤ, zero, suc, List, [], ◌∷◌, ◌++◌, map, length, get_or, Option, None}
-use Rattle.schedule_model.specs.Sequential.{Stop}
+use Rattle.std.specs.Prelude.{◌≡◌, ◌<◌, ◌≤◌, ℕ, zero, suc, List, [], ◌∷◌, ◌++◌, length, Option, Some, None}
 use Rattle.schedule_steps.specs.declared.step.Step.{Step}
+use Rattle.schedule_steps.specs.declared.step.Step.TheVariants.{Send, Recv, Begin, End, Join}
+use Rattle.schedule_steps.specs.Steps.{IsStep}
+use Rattle.step_orders.specs.declared.stream.ItemOnRank.{ItemOnRank}
 use Rattle.step_orders.specs.Alone.{alone}
+use Rattle.closed_groups.specs.Closed.{closed}
 use Rattle.schedule_model.specs.Setup.{Setup}
-use Rattle.flat_machine.specs.Layout.{Layout, IsLayout}
+use Rattle.flat_machine.specs.Layout.{Layout, IsLayout, by_place}
 use Rattle.rank_state.specs.Indices.{values_at}
+use Rattle.rank_state.specs.Frames.{Panes, Shut, pane_at}
 use Rattle.rank_state.specs.Machine.{State}
 use Rattle.rank_state.specs.Shows.{Tables, Indexed}
-use Rattle.rank_program.specs.AloneRuns.{Share, Reaches, share_of, with_share}
+use Rattle.rank_program.specs.AloneRuns.{Share, with_share}
 use Rattle.rank_program.specs.FromNone.{kept_both, OfElement, with_fault}
-use Rattle.rank_exec.specs.Driving.{Done, ComeReady}
+use Rattle.rank_machine.specs.OnRanks.{RanOnRanks, share_at, with_shares}
+use Rattle.rank_exec.specs.Driving.{Done}
 
 -- item, places by rank: the elements of the first n ranks
 abbrev pub round : ℕ → (ℕ → List ℕ) → ℕ → List Step
@@ -23,11 +28,20 @@ after_ranks old new zero = old
 after_ranks old new (suc n) =
     with_share n (with_fault (kept_both (after_ranks old new n).fault (new n).fault) (new n)) (after_ranks old new n)
 
--- on each of the first n ranks the elements at its places ran, from no fault
-abbrev pub RanOnRanks : {F : Type 0} → (p : Setup F) → (l : Layout F) → (t : Tables) → (k : ℕ) → (cs vs : List ℤ) → (places : ℕ → List ℕ)
-    → State F → (ℕ → Share F) → ℕ → Type 0
-RanOnRanks p l t k cs vs places old new n =
-    (r : ℕ) → r < n → Reaches p l t k r cs vs (places r) (with_fault None (share_of r old)) (length (places r)) (new r)
+-- each element that begins among the steps is of the plan and has no frame, and a frame is free
+abbrev pub CanBegin : {F : Type 0} → Setup F → Layout F → Panes → List Step → Type 0
+CanBegin p l fs [] = Unit {0}
+CanBegin p l fs (Begin k r x ∷ ss) =
+    IsStep (by_place p l) (Begin k r x) × (pane_at fs.panes r x ≡ Shut) × (0 < fs.left) × CanBegin p l fs ss
+CanBegin p l fs (Send k a b ∷ ss) = CanBegin p l fs ss
+CanBegin p l fs (Recv k a b ∷ ss) = CanBegin p l fs ss
+CanBegin p l fs (End k r x ∷ ss) = CanBegin p l fs ss
+CanBegin p l fs (Join k ∷ ss) = CanBegin p l fs ss
+
+-- the steps of the closed group that was told, at these places
+abbrev pub told : Option ItemOnRank → List ℕ → List Step
+told None xs = []
+told (Some of) xs = closed of.item of.rank xs
 
 -- Elements that ran on each rank by itself, from no fault, were begun and ended rank after rank.
 abbrev pub RanksComeInTurn : {F : Type 0} → Setup F → Layout F → Tables → Type 0
@@ -38,22 +52,8 @@ RanksComeInTurn {F = F} p l t =
     → ranks ≤ length old.memories
     → ranks ≤ length old.partials
     → RanOnRanks p l t k (values_at old.variables t.constants) old.variables places old new ranks
-    → ComeReady p l t (round k places ranks) old
+    → CanBegin p l old.frames (round k places ranks)
     → Done p l t (round k places ranks) old (after_ranks old new ranks)
-
--- a rank's share in a list of all
-abbrev pub share_at : {F : Type 0} → List (Share F) → ℕ → Share F
-share_at news r = get_or news r (record { cells = []; partials = []; fault = None })
-
--- the faults of all ranks, put together with the one that was kept
-abbrev pub kept_of_all : {F : Type 0} → Option (Stop F) → List (Share F) → Option (Stop F)
-kept_of_all o [] = o
-kept_of_all o (s ∷ ss) = kept_of_all (kept_both o s.fault) ss
-
--- the state in which all ranks have these shares
-abbrev pub with_shares : {F : Type 0} → List (Share F) → State F → State F
-with_shares news st =
-    record st { memories = map (λ s. s.cells) news; partials = map (λ s. s.partials) news; fault = kept_of_all st.fault news }
 
 -- shares that are put into the state rank after rank are those of all ranks
 abbrev pub SharesAreSet : {F : Type 0} → State F → List (Share F) → Type 0

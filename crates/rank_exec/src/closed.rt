@@ -21,8 +21,8 @@ use rank_machine::machine::Machine;
 use rank_program::{DistributedProgram, Room};
 use schedule_steps::Step;
 
-// A closed group, by its elements one after another, each begun and ended in place.
-fn run_group(
+/// A closed group, by its elements one after another, each begun and ended in place.
+pub fn run_group(
     machine: &mut Machine,
     program: &DistributedProgram<'_>,
     room: &mut Room,
@@ -54,7 +54,7 @@ fn ends_short(program: &DistributedProgram<'_>, step: Step, workers: u32) -> boo
 }
 
 /// The closed groups that come behind a step, as long as the stream tells them, where the step is the end of an element that isn't
-/// worth the `workers`. Behind any other step nothing is done.
+/// worth the `workers`. One whose kernel is worth them is the last. Behind any other step nothing is done.
 pub fn run_closed<S: Steps>(
     machine: &mut Machine,
     program: &DistributedProgram<'_>,
@@ -89,5 +89,8 @@ pub fn run_closed<S: Steps>(
             of.rank,
             &room.places,
         );
+        if workers > 1 && !is_short(program, of.item) {
+            return;
+        }
     }
 }

@@ -17,9 +17,9 @@ ghost use Rattle.rank_exec.specs.Driving.{Ready, After, posts, takes, opens, shu
 ghost use Rattle.rank_program.specs.Sound.{Sound, setup_in, layout_in, tables_in};
 ghost use Rattle.rank_program.specs.Keeping.{KeepsIn};
 
-use crate::closed::run_closed;
 use crate::group::run_begins;
 use crate::joins::join;
+use crate::rounds::run_behind;
 use crate::run_room::RunRoom;
 use crate::stream::{Steps, next_of};
 use kernel_types::KernelFault;
@@ -116,7 +116,7 @@ fn run<R: Threads + Sync, G: Gate, S: Steps>(
             if let Some(stop) = take(alloc, machine, program, &mut room.step, step)? {
                 return Ok(Some(stop));
             }
-            run_closed(machine, program, room, steps, step, workers);
+            run_behind(rt, machine, program, room, steps, step, workers, gate)?;
             next = next_of(steps);
         }
     }
@@ -127,9 +127,10 @@ fn run<R: Threads + Sync, G: Gate, S: Steps>(
 /// machine's lists, its memories among them, show where the machine on flat buffers ends.
 ///
 /// A run of begins is done in groups by the `workers`, at least 1, and `gate` is told of each begin of a group; a begin that
-/// its own end follows is done in place, and so are closed groups that the stream tells behind an end, where their kernel is
-/// short; of those the gate isn't told. The answer is the same for every number of workers and every gate. `room` is what
-/// [`RunRoom::new`] gives; memory is wanted for what joins print.
+/// its own end follows is done in place. So are closed groups that the stream tells behind a step: with several workers and
+/// ranks in rounds, of which the gate is told of each rank, else where their kernel is short. The answer is the same for every
+/// number of workers and every gate. `room` is what [`RunRoom::new`] gives; memory is wanted for what joins print, and for the
+/// places of rounds.
 ///
 /// However it ends, by the last step, by a stop or for want of memory, what `steps` still holds is a suffix of what it held:
 /// steps are taken from the front, and none is put back.

@@ -73,8 +73,9 @@ fn outcome_of(
 /// loop one element after another in its set's original order. Where `dumps` and no fault stops the run, a dump of what the
 /// ranks hold after these steps stands behind the printed bytes.
 ///
-/// Begins that come one after another are done in groups by the `workers`, at least 1, on threads of `rt`; `gate` is told of
-/// each begin of a group just before it. The answer is the same for every number of workers and every gate.
+/// Begins that come one after another are done in groups by the `workers`, at least 1, on threads of `rt`, or on all ranks at once;
+/// `gate` is told of each begin of a group, or of each rank, just before it. The answer is the same for every number of workers and
+/// every gate.
 ///
 /// # Errors
 /// Want of memory alone.
@@ -114,7 +115,7 @@ pub fn run_planned<R: Threads + Sync, G: Gate, S: Steps>(
         peak.frames as usize,
         peak.mail as usize,
     )?;
-    let mut room = RunRoom::new(alloc, program)?;
+    let mut room = RunRoom::new(alloc, program, workers)?;
     let stop = drive(
         rt,
         alloc,

@@ -5,6 +5,7 @@ ghost use Rattle.std.specs.Prelude.{◌<◌};
 use bound_program::Item;
 use kernel_code::Part;
 use rank_program::{DistributedProgram, KernelJob};
+use schedule_steps::Step;
 
 // As many operations as threads are worth: starting them takes as long as some thousands.
 const WORTH_THREADS: usize = 16384;
@@ -63,4 +64,42 @@ fn operations_in(program: &DistributedProgram<'_>, item: u32) -> usize {
 /// Whether the kernel of a Free item is so short that not even a full group of its elements is worth threads.
 pub fn is_short(program: &DistributedProgram<'_>, item: u32) -> bool {
     operations_in(program, item).saturating_mul(FULL_GROUP) < WORTH_THREADS
+}
+
+/// Whether the elements of a Free item come in rounds, where each rank's run on one thread: their kernel is short, or there are as
+/// many ranks as `workers` at least.
+pub fn come_in_rounds(program: &DistributedProgram<'_>, item: u32, workers: u32) -> bool {
+    workers <= program.owners.ranks || is_short(program, item)
+}
+
+/// Whether elements that come next may come in rounds, behind this step: those of the same item would.
+pub fn may_come_in_rounds(program: &DistributedProgram<'_>, before: Step, workers: u32) -> bool {
+    match before {
+        Step::Send { item, .. } | Step::Recv { item, .. } | Step::End { item, .. } => {
+            come_in_rounds(program, item, workers)
+        }
+        Step::Begin { .. } => false,
+        Step::Join { .. } => true,
+    }
+}
+
+/// How many of the `workers` run a round with these places by rank: all of them where its kernels have many operations together, else
+/// one.
+pub fn workers_for_round(
+    program: &DistributedProgram<'_>,
+    item: u32,
+    lists: &[Vec<u32>],
+    workers: u32,
+) -> u32
+    requires { 0 < workers }
+    ensures { 0 < result }
+{
+    let mut count: usize = 0;
+    for list in lists {
+        count = count.saturating_add(list.len());
+    }
+    if operations_in(program, item).saturating_mul(count) >= WORTH_THREADS {
+        return workers;
+    }
+    1
 }

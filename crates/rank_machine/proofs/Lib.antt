@@ -1,2 +1,4 @@
 pub mod FromIndex
 pub mod Values
+pub mod OnRanks
+mod Sharing

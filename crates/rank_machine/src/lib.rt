@@ -4,6 +4,7 @@
 
 pub mod machine;
 pub mod messages;
+pub mod ranks;
 mod reduce;
 mod running;
 pub mod start;

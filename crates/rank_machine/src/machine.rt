@@ -8,6 +8,7 @@ ghost use Rattle.rank_memory.specs.Spare.{HasSpare};
 mod elements;
 mod joins;
 mod messages;
+mod rounds;
 
 use rank_memory::frames::Frames;
 use rank_memory::mail::Mail;

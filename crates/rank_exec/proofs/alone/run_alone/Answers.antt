@@ -36,6 +36,7 @@ loop-of-preserved g c = record {
     step_fits = c.run_places.ensures.space;
     places_fit = subst (λ n. most_begins ≤ n) (sym (c.in-Some.ensures.room ∙ c.clear.ensures.capacity)) c.loop-of.invariant.space.places_fit;
     group_fits = c.loop-of.invariant.space.group_fits;
+    parts_fit = c.loop-of.invariant.space.parts_fit;
   };
 }
 

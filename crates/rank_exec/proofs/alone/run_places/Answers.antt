@@ -6,7 +6,7 @@ use Rattle.step_orders.specs.Alone.{alone}
 use Rattle.rank_state.specs.Machine.{State}
 use Rattle.rank_exec.specs.Driving.{Done}
 use Rattle.rank_program.specs.AloneRuns.{Reaches, share_of}
-use Rattle.rank_exec.proofs.AloneRuns.{all_begin, runs_done}
+use Rattle.rank_exec.proofs.AloneRuns.{all_begin, alone_can, runs_done}
 use Rattle.rank_program.specs.Sound.{setup_in, layout_in, tables_in}
 use Rattle.rank_exec.proofs.alone.run_places.Goals as goal
 
@@ -29,6 +29,6 @@ returns-clause-done c =
     let here : c.args.rank < length c.args.machine.now.memories = subst (λ n. c.args.rank < n) (sym sized.ranks) rank in
     let there : c.args.rank < length c.args.machine.now.partials = subst (λ n. c.args.rank < n) (sym sized.partials) rank in
     let reach = subst (λ vs. Reaches p l t c.args.item c.args.rank vs c.args.machine.now.variables c.args.places.now (share_of c.args.rank c.args.machine.now) (length c.args.places.now) ran.0) c.read_constants.ensures.values ran.1 in
-    let done = runs_done p l t c.args.item c.args.rank c.args.machine.now here there law c.args.places.now c.requires.ready (length c.args.places.now) (omega arith) ran.0 reach in
+    let done = runs_done p l t c.args.item c.args.rank c.args.machine.now here there law c.args.places.now (alone_can p l t c.args.item c.args.rank law (c.requires.sound.windowed c.args.item c.args.rank) c.args.places.now c.args.machine.now c.requires.ready) (length c.args.places.now) (omega arith) ran.0 reach in
     subst (λ z. Done p l t (alone c.args.item c.args.rank z) c.args.machine.now c.in_place.new.self) (take_all (length c.args.places.now) c.args.places.now (omega arith))
     (subst (λ (s : State KernelFault). Done p l t (alone c.args.item c.args.rank (take (length c.args.places.now) c.args.places.now)) c.args.machine.now s) (sym ran.2) done)

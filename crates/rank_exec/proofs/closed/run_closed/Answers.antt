@@ -45,6 +45,7 @@ loop-of-preserved g c = record {
     step_fits = c.run_group.ensures.space;
     places_fit = subst (λ n. most_begins ≤ n) (sym (c.in-Some.ensures.room ∙ c.clear.ensures.capacity)) c.loop-of.invariant.space.places_fit;
     group_fits = c.loop-of.invariant.space.group_fits;
+    parts_fit = c.loop-of.invariant.space.parts_fit;
   };
 }
 
@@ -53,3 +54,11 @@ loop-of-smaller g c = closed_fewer c.in-Some.of.item c.in-Some.of.rank c.next_cl
 
 pub returns-in_default-clause-done : goal.returns-in_default-clause-done
 returns-in_default-clause-done g c = (c.loop-of.invariant.done.0, c.loop-of.invariant.done.1 ∙ ap (λ z. c.loop-of.invariant.done.0 ++ z) (sym c.in_default.ensures.none), c.loop-of.invariant.done.2)
+
+pub returns-then-not-is_short-clause-done : goal.returns-then-not-is_short-clause-done
+returns-then-not-is_short-clause-done g c = (
+  c.loop-of.invariant.done.0 ++ (closed c.in-Some.of.item c.in-Some.of.rank c.next_closed_of.new.places.items),
+  c.loop-of.invariant.done.1 ∙ (ap (λ z. c.loop-of.invariant.done.0 ++ z) c.in-Some.ensures.some ∙ sym (append_assoc c.loop-of.invariant.done.0 (closed c.in-Some.of.item c.in-Some.of.rank c.next_closed_of.new.places.items) (g.S.Steps.left c.next_closed_of.new.steps))),
+  done_more (setup_in c.args.program.now) (layout_in c.args.program.now) (tables_in c.args.program.now) c.loop-of.invariant.done.0 (closed c.in-Some.of.item c.in-Some.of.rank c.next_closed_of.new.places.items) c.args.machine.now c.loop-of.machine c.run_group.new.machine c.loop-of.invariant.done.2
+      (subst (λ xs. Done (setup_in c.args.program.now) (layout_in c.args.program.now) (tables_in c.args.program.now) (closed c.in-Some.of.item c.in-Some.of.rank xs) c.loop-of.machine c.run_group.new.machine) c.deref.ensures.value c.run_group.ensures.done),
+)

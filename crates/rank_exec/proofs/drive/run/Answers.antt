@@ -1,4 +1,4 @@
-use Rattle.std.proofs.Common.{◌≡◌, [], ◌∷◌, ◌++◌, Some, ap, subst, ◌∙◌, arith}
+use Rattle.std.proofs.Common.{◌≡◌, [], ◌∷◌, ◌++◌, Some, ap, sym, subst, ◌∙◌, arith, append_assoc}
 use Rattle.kernel_types.specs.declared.faults.KernelFault.{KernelFault}
 use Rattle.schedule_steps.specs.declared.step.Step.{Step}
 use Rattle.schedule_steps.specs.declared.step.Step.TheVariants.{Send, Recv, Begin, End, Join}
@@ -93,8 +93,8 @@ returns-in_err-stop-clause-suffix g c = front_taken (setup_in c.args.program.now
     r : Reached (setup_in c.args.program.now) (layout_in c.args.program.now) (tables_in c.args.program.now) (g.S.Steps.left c.args.steps.now) (c.in-Some.step ∷ g.S.Steps.left c.loop-next.steps) c.args.machine.now c.loop-next.machine
     r = reached_at (setup_in c.args.program.now) (layout_in c.args.program.now) (tables_in c.args.program.now) (g.S.Steps.left c.args.steps.now) (g.S.Steps.left c.loop-next.steps) c.args.machine.now c.loop-next.machine c.loop-next.next (c.in-Some.step) (c.in-Some.is) c.loop-next.invariant.reached
 
-pub run_closed-requires-clause-shows : goal.run_closed-requires-clause-shows
-run_closed-requires-clause-shows g c = (flat_from (setup_in c.args.program.now) (layout_in c.args.program.now) taken.front c.requires.starts.0, taken.shows c.requires.starts.0 c.requires.starts.1 c.requires.starts.2)
+pub run_behind-requires-clause-shows : goal.run_behind-requires-clause-shows
+run_behind-requires-clause-shows g c κs within = (flat_from (setup_in c.args.program.now) (layout_in c.args.program.now) taken.front c.requires.starts.0, taken.shows c.requires.starts.0 c.requires.starts.1 c.requires.starts.2)
   where
     r : Reached (setup_in c.args.program.now) (layout_in c.args.program.now) (tables_in c.args.program.now) (g.S.Steps.left c.args.steps.now) (c.in-Some.step ∷ g.S.Steps.left c.loop-next.steps) c.args.machine.now c.loop-next.machine
     r = reached_at (setup_in c.args.program.now) (layout_in c.args.program.now) (tables_in c.args.program.now) (g.S.Steps.left c.args.steps.now) (g.S.Steps.left c.loop-next.steps) c.args.machine.now c.loop-next.machine c.loop-next.next (c.in-Some.step) (c.in-Some.is) c.loop-next.invariant.reached
@@ -104,8 +104,8 @@ run_closed-requires-clause-shows g c = (flat_from (setup_in c.args.program.now) 
         (λ f h. subst (λ o. After (setup_in c.args.program.now) (layout_in c.args.program.now) (tables_in c.args.program.now) (stop_in o) c.take.new.machine (flat_step (setup_in c.args.program.now) (layout_in c.args.program.now) c.in-Some.step f)) c.in_default-2.is (c.in_ok-stop.ensures.after f h))
         c.take.ensures.mail c.take.ensures.frames
 
-pub run_closed-requires-clause-ready : goal.run_closed-requires-clause-ready
-run_closed-requires-clause-ready g c =
+pub run_behind-requires-clause-ready : goal.run_behind-requires-clause-ready
+run_behind-requires-clause-ready g c κs within =
     come_ready (setup_in c.args.program.now) (layout_in c.args.program.now) (tables_in c.args.program.now) (c.steps_are_ready.ensures.begin (setup_in c.args.program.now) (layout_in c.args.program.now) (tables_in c.args.program.now)) (g.S.Steps.left c.args.steps.now) (g.S.Steps.left c.loop-next.steps) c.requires.accepted c.requires.starts.0 c.requires.starts.1 c.args.machine.now c.take.new.machine c.requires.starts.2 c.requires.peak.opened taken
   where
     r : Reached (setup_in c.args.program.now) (layout_in c.args.program.now) (tables_in c.args.program.now) (g.S.Steps.left c.args.steps.now) (c.in-Some.step ∷ g.S.Steps.left c.loop-next.steps) c.args.machine.now c.loop-next.machine
@@ -116,8 +116,8 @@ run_closed-requires-clause-ready g c =
         (λ f h. subst (λ o. After (setup_in c.args.program.now) (layout_in c.args.program.now) (tables_in c.args.program.now) (stop_in o) c.take.new.machine (flat_step (setup_in c.args.program.now) (layout_in c.args.program.now) c.in-Some.step f)) c.in_default-2.is (c.in_ok-stop.ensures.after f h))
         c.take.ensures.mail c.take.ensures.frames
 
-pub run_closed-requires-clause-alone : goal.run_closed-requires-clause-alone
-run_closed-requires-clause-alone g c =
+pub run_behind-requires-clause-alone : goal.run_behind-requires-clause-alone
+run_behind-requires-clause-alone g c κs within =
     groups_after (setup_in c.args.program.now) (layout_in c.args.program.now) (g.S.Steps.left c.args.steps.now) taken.front (g.S.Steps.left c.loop-next.steps)
     (c.closed_groups_are_alone.ensures (setup_in c.args.program.now) c.requires.coloured (layout_in c.args.program.now) c.requires.sound.layout (g.S.Steps.left c.args.steps.now) c.requires.accepted) taken.split
   where
@@ -131,13 +131,26 @@ run_closed-requires-clause-alone g c =
 
 pub loop-next-preserved : goal.loop-next-preserved
 loop-next-preserved g c =
-    let done = c.run_closed.ensures.done in
+    let done = c.in_ok-run_behind.ensures.done in
     record {
-      reached = reached_more (setup_in c.args.program.now) (layout_in c.args.program.now) (tables_in c.args.program.now) (g.S.Steps.left c.args.steps.now) (g.S.Steps.left c.loop-next.steps) (to_come c.next_of-next-in_default-step.result (g.S.Steps.left c.next_of-next-in_default-step.new.steps)) done.0 c.args.machine.now c.take.new.machine c.run_closed.new.machine taken
+      reached = reached_more (setup_in c.args.program.now) (layout_in c.args.program.now) (tables_in c.args.program.now) (g.S.Steps.left c.args.steps.now) (g.S.Steps.left c.loop-next.steps) (to_come c.next_of-next-in_default-step.result (g.S.Steps.left c.next_of-next-in_default-step.new.steps)) done.0 c.args.machine.now c.take.new.machine c.run_behind.new.machine taken
           (done.1 ∙ ap (λ z. done.0 ++ z) c.next_of-next-in_default-step.ensures.next) done.2;
-      space = c.run_closed.ensures.space;
+      space = c.in_ok-run_behind.ensures.space;
       over = c.next_of-next-in_default-step.ensures.over;
     }
+  where
+    r : Reached (setup_in c.args.program.now) (layout_in c.args.program.now) (tables_in c.args.program.now) (g.S.Steps.left c.args.steps.now) (c.in-Some.step ∷ g.S.Steps.left c.loop-next.steps) c.args.machine.now c.loop-next.machine
+    r = reached_at (setup_in c.args.program.now) (layout_in c.args.program.now) (tables_in c.args.program.now) (g.S.Steps.left c.args.steps.now) (g.S.Steps.left c.loop-next.steps) c.args.machine.now c.loop-next.machine c.loop-next.next (c.in-Some.step) (c.in-Some.is) c.loop-next.invariant.reached
+
+    taken : Reached (setup_in c.args.program.now) (layout_in c.args.program.now) (tables_in c.args.program.now) (g.S.Steps.left c.args.steps.now) (g.S.Steps.left c.loop-next.steps) c.args.machine.now c.take.new.machine
+    taken = reached_taken (setup_in c.args.program.now) (layout_in c.args.program.now) (tables_in c.args.program.now) c.peak_is_room.ensures.ends c.peak_is_room.ensures.receives (g.S.Steps.left c.args.steps.now) (g.S.Steps.left c.loop-next.steps) c.in-Some.step c.requires.accepted c.args.machine.now c.loop-next.machine c.take.new.machine r
+        (λ f h. subst (λ o. After (setup_in c.args.program.now) (layout_in c.args.program.now) (tables_in c.args.program.now) (stop_in o) c.take.new.machine (flat_step (setup_in c.args.program.now) (layout_in c.args.program.now) c.in-Some.step f)) c.in_default-2.is (c.in_ok-stop.ensures.after f h))
+        c.take.ensures.mail c.take.ensures.frames
+
+pub returns-in_err-run_behind-clause-suffix : goal.returns-in_err-run_behind-clause-suffix
+returns-in_err-run_behind-clause-suffix g c =
+    let more = c.run_behind.ensures.suffix in
+    (taken.front ++ more.0, taken.split ∙ (ap (λ z. taken.front ++ z) more.1 ∙ sym (append_assoc taken.front more.0 (g.S.Steps.left c.run_behind.new.steps))))
   where
     r : Reached (setup_in c.args.program.now) (layout_in c.args.program.now) (tables_in c.args.program.now) (g.S.Steps.left c.args.steps.now) (c.in-Some.step ∷ g.S.Steps.left c.loop-next.steps) c.args.machine.now c.loop-next.machine
     r = reached_at (setup_in c.args.program.now) (layout_in c.args.program.now) (tables_in c.args.program.now) (g.S.Steps.left c.args.steps.now) (g.S.Steps.left c.loop-next.steps) c.args.machine.now c.loop-next.machine c.loop-next.next (c.in-Some.step) (c.in-Some.is) c.loop-next.invariant.reached

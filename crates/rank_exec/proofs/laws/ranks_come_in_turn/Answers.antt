@@ -1,5 +1,5 @@
 use Rattle.std.proofs.Common.{arith}
-use Rattle.rank_exec.proofs.Rounds.{round_done}
+use Rattle.rank_exec.proofs.RanksInTurn.{round_done}
 use Rattle.rank_exec.proofs.laws.ranks_come_in_turn.Goals as goal
 
 pub returns : goal.returns

@@ -13,9 +13,12 @@ use Rattle.rank_program.specs.AloneRuns.{Share, Reaches, share_of, with_share}
 use Rattle.rank_program.specs.FromNone.{kept_both, OfElement, with_fault}
 use Rattle.rank_program.proofs.AloneRuns.{PairsShow}
 use Rattle.rank_program.proofs.FromNone.{of_reach, from_none, of_both}
-use Rattle.rank_exec.specs.Driving.{Done, ComeReady}
-use Rattle.rank_exec.specs.Rounds.{round, after_ranks, RanOnRanks}
-use Rattle.rank_exec.proofs.Driving.{done_none, done_more, ready_after, ready_front}
+use Rattle.rank_state.specs.Frames.{Panes}
+use Rattle.rank_machine.specs.OnRanks.{RanOnRanks}
+use Rattle.rank_exec.specs.Driving.{Done}
+use Rattle.rank_exec.specs.Rounds.{round, after_ranks, CanBegin}
+use Rattle.rank_exec.proofs.Driving.{done_none, done_more}
+use Rattle.rank_exec.proofs.Beginning.{can_front, can_back}
 use Rattle.rank_exec.proofs.AloneRuns.{runs_done}
 
 module _ {F : Type 0} (old : State F) (new : ℕ → Share F) where
@@ -23,6 +26,10 @@ module _ {F : Type 0} (old : State F) (new : ℕ → Share F) where
   same_variables : (n : ℕ) → (after_ranks old new n).variables ≡ old.variables
   same_variables zero = refl
   same_variables (suc n) = same_variables n
+
+  same_frames : (n : ℕ) → (after_ranks old new n).frames ≡ old.frames
+  same_frames zero = refl
+  same_frames (suc n) = same_frames n
 
   pub same_memories : (n : ℕ) → length (after_ranks old new n).memories ≡ length old.memories
   same_memories zero = refl
@@ -82,23 +89,24 @@ module _ {F : Type 0} (p : Setup F) (l : Layout F) (t : Tables) (k : ℕ) (place
         ap (round k places) e ∙ (ap (λ z. z ++ alone k (d + n) (places (d + n))) before.1 ∙ append_assoc (round k places n) before.0 (alone k (d + n) (places (d + n)))),
       )
 
-  at_rank : (n : ℕ) → n < ranks → (rest : List Step) × (round k places ranks ≡ round k places n ++ (alone k n (places n) ++ rest))
+  pub at_rank : (n : ℕ) → n < ranks → (rest : List Step) × (round k places ranks ≡ round k places n ++ (alone k n (places n) ++ rest))
   at_rank n lt =
       let e : ranks - suc n + suc n ≡ ranks = omega (arith, lt) in
       let rest = rest_of (suc n) (ranks - suc n) in
       (rest.0, ap (round k places) (sym e) ∙ (rest.1 ∙ append_assoc (round k places n) (alone k n (places n)) rest.0))
 
   -- one rank more
-  rank_done : ComeReady p l t (round k places ranks) old → (n : ℕ) → n < ranks → Done p l t (round k places n) old (after_ranks old new n)
+  rank_done : CanBegin p l old.frames (round k places ranks) → (n : ℕ) → n < ranks → Done p l t (round k places n) old (after_ranks old new n)
       → Done p l t (alone k n (places n)) (after_ranks old new n) (after_ranks old new (suc n))
   rank_done ready n lt done =
       let st = after_ranks old new n in
       let at = at_rank n lt in
       let count = length (places n) in
       let share : Share F = with_fault (kept_both st.fault (new n).fault) (new n) in
-      let come : ComeReady p l t (alone k n (places n)) st =
-      ready_front p l t (alone k n (places n) ++ at.0) (alone k n (places n)) at.0 st
-      (ready_after p l t (round k places ranks) (round k places n) (alone k n (places n) ++ at.0) old st ready at.1 done) refl in
+      let can : CanBegin p l st.frames (alone k n (places n)) =
+      subst (λ (fs : Panes). CanBegin p l fs (alone k n (places n))) (sym (same_frames old new n))
+      (can_front p l old.frames (alone k n (places n)) at.0
+      (can_back p l old.frames (round k places n) (alone k n (places n) ++ at.0) (subst (CanBegin p l old.frames) at.1 ready))) in
       let reach : Reaches p l t k n (values_at old.variables t.constants) old.variables (places n) (with_fault st.fault (share_of n old)) count share =
       from_none p l t k n (values_at old.variables t.constants) old.variables (places n) (share_of n old) st.fault (kept_of_element n (omega (arith, lt))) count (new n) (ran n lt) in
       let there_now : Reaches p l t k n (values_at st.variables t.constants) st.variables (places n) (share_of n st) count share =
@@ -107,9 +115,9 @@ module _ {F : Type 0} (p : Setup F) (l : Layout F) (t : Tables) (k : ℕ) (place
       let m : length st.memories ≡ length old.memories = same_memories old new n in
       let q : length st.partials ≡ length old.partials = same_partials old new n in
       subst (λ z. Done p l t (alone k n z) st (after_ranks old new (suc n))) (take_all count (places n) (omega arith))
-      (runs_done p l t k n st (omega (arith, m, here, lt)) (omega (arith, q, there, lt)) (law n) (places n) come count (omega arith) share there_now)
+      (runs_done p l t k n st (omega (arith, m, here, lt)) (omega (arith, q, there, lt)) (law n) (places n) can count (omega arith) share there_now)
 
-  pub round_done : ComeReady p l t (round k places ranks) old → (n : ℕ) → n ≤ ranks → Done p l t (round k places n) old (after_ranks old new n)
+  pub round_done : CanBegin p l old.frames (round k places ranks) → (n : ℕ) → n ≤ ranks → Done p l t (round k places n) old (after_ranks old new n)
   round_done ready zero le = done_none p l t old
   round_done ready (suc n) le =
       let before : Done p l t (round k places n) old (after_ranks old new n) = round_done ready n (omega (arith, le)) in

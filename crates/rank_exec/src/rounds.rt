@@ -1,0 +1,226 @@
+// Rounds: the elements of an item on all ranks, of which each rank's run one after another, and the ranks are shared out among workers.
+
+ghost use Rattle.std.specs.Prelude.{◌≡◌, ◌<◌, ◌++◌, ◌^◌, ℕ, List, All, IfOk, IfSome, OnOk, length};
+ghost use Rattle.kernel_types.specs.declared.faults.KernelFault.{KernelFault};
+ghost use Rattle.schedule_steps.specs.declared.step.Step.{Step};
+ghost use Rattle.closed_groups.specs.Closed.{closed, GroupsAreAlone};
+ghost use Rattle.flat_machine.specs.Flat.{Flat};
+ghost use Rattle.rank_state.specs.Indices.{values_at};
+ghost use Rattle.rank_state.specs.Shows.{Shows};
+ghost use Rattle.rank_program.specs.Rooms.{HasRoomOf};
+ghost use Rattle.rank_machine.specs.OnRanks.{places_on};
+ghost use Rattle.rank_exec.specs.RunRooms.{HasRunRoomOf};
+ghost use Rattle.rank_exec.specs.Driving.{Done, ComeReady};
+ghost use Rattle.rank_exec.specs.Rounds.{round, told, CanBegin};
+ghost use Rattle.rank_program.specs.Sound.{Sound, setup_in, layout_in, tables_in};
+ghost use Rattle.rank_program.specs.Keeping.{KeepsIn};
+
+use crate::closed::{run_closed, run_group};
+use crate::gathering::gather;
+use crate::laws::{ranks_come_in_turn, shares_are_set};
+use crate::round_room::clear_all;
+use crate::run_room::RunRoom;
+use crate::sharing::{come_in_rounds, may_come_in_rounds, workers_for_round};
+use crate::stream::{Steps, next_closed_of};
+use kernel_types::KernelFault;
+use op_num::OutOfMemory;
+use par_exec::Gate;
+use rank_machine::machine::Machine;
+use rank_machine::ranks::RankPart;
+use rank_machine::steps::read_constants;
+use rank_program::DistributedProgram;
+use schedule_steps::Step;
+use std::marker::Sync;
+use std::thread::Threads;
+use step_orders::ItemOnRank;
+
+// Copies the values of all constants for each rank.
+fn read_all(machine: &Machine, program: &DistributedProgram<'_>, parts: &mut [RankPart])
+    requires sound { Sound program.now }
+    requires shows { (f : Flat KernelFault) × Shows (setup_in program.now) (layout_in program.now) (tables_in program.now) machine.now f }
+    requires space { All (λ x. HasRoomOf program.now x.room) parts.old }
+    ensures constants { All (λ x. x.room.constants.items ≡ values_at machine.now.variables (tables_in program.now).constants) parts.new }
+    ensures space { All (λ x. HasRoomOf program.now x.room) parts.new }
+    ensures count { length parts.new ≡ length parts.old }
+{
+    let mut rank = 0;
+    while rank < parts.len() {
+        read_constants(machine, program, &mut parts[rank].room.constants);
+        rank += 1;
+    }
+}
+
+// A round: on each rank the elements at its places, begun and ended one after another.
+fn run_round<R: Threads + Sync, G: Gate>(
+    rt: &R,
+    machine: &mut Machine,
+    program: &DistributedProgram<'_>,
+    item: u32,
+    lists: &[Vec<u32>],
+    parts: &mut [RankPart],
+    workers: u32,
+    gate: &G,
+)
+    requires workers { 0 < workers }
+    requires sound { Sound program.now }
+    requires keeps { KeepsIn program.now item }
+    requires listed { length lists.now ≡ length parts.old }
+    requires ranks { length parts.old ≡ length machine.old.memories }
+    requires few { length parts.old < 2 ^ 32 }
+    requires shows { (f : Flat KernelFault) × Shows (setup_in program.now) (layout_in program.now) (tables_in program.now) machine.old f }
+    requires can { CanBegin (setup_in program.now) (layout_in program.now) machine.old.frames
+        (round item (places_on lists.now) (length lists.now)) }
+    requires space { All (λ x. HasRoomOf program.now x.room) parts.old }
+    ensures done { Done (setup_in program.now) (layout_in program.now) (tables_in program.now)
+        (round item (places_on lists.now) (length lists.now)) machine.old machine.new }
+    ensures space { All (λ x. HasRoomOf program.now x.room) parts.new }
+    ensures count { length parts.new ≡ length parts.old }
+{
+    ranks_come_in_turn::<KernelFault>();
+    shares_are_set::<KernelFault>();
+    read_all(machine, program, parts);
+    let workers = workers_for_round(program, item, lists, workers);
+    machine.on_ranks(rt, program, item, lists, parts, workers, gate);
+}
+
+// A closed group that was told, with those of its item that come next on its rank and the ranks behind it, as a round. Answers the
+// group that was told behind them, whose places stand in the room. An error is want of memory.
+fn run_told_round<R: Threads + Sync, G: Gate, S: Steps>(
+    rt: &R,
+    machine: &mut Machine,
+    program: &DistributedProgram<'_>,
+    room: &mut RunRoom,
+    steps: &mut S,
+    of: ItemOnRank,
+    workers: u32,
+    gate: &G,
+) -> Result<Option<ItemOnRank>, OutOfMemory>
+    requires workers { 0 < workers }
+    requires sound { Sound program.now }
+    requires keeps { (k : ℕ) → KeepsIn program.now k }
+    requires space { HasRunRoomOf program.now room.old }
+    requires shows { (f : Flat KernelFault) × Shows (setup_in program.now) (layout_in program.now) (tables_in program.now) machine.old f }
+    requires ready { ComeReady (setup_in program.now) (layout_in program.now) (tables_in program.now)
+        (closed of.item of.rank room.old.places.items ++ S.left steps.old) machine.old }
+    requires alone { GroupsAreAlone (setup_in program.now) (layout_in program.now)
+        (closed of.item of.rank room.old.places.items ++ S.left steps.old) }
+    requires some { 0 < length room.old.places.items }
+    requires rank { of.rank < length room.old.round.lists.items }
+    requires listed { length room.old.round.lists.items ≡ length room.old.round.parts.items }
+    requires ranks { length room.old.round.parts.items ≡ length machine.old.memories }
+    requires few { length room.old.round.parts.items < 2 ^ 32 }
+    ensures done { IfOk result (λ next. (done : List Step)
+        × (closed of.item of.rank room.old.places.items ++ S.left steps.old
+        ≡ done ++ (told next room.new.places.items ++ S.left steps.new)) × (0 < length done)
+        × Done (setup_in program.now) (layout_in program.now) (tables_in program.now) done machine.old machine.new) }
+    ensures suffix { (front : List Step)
+        × (closed of.item of.rank room.old.places.items ++ S.left steps.old ≡ front ++ S.left steps.new) }
+    ensures more { IfOk result (λ next. IfSome next (λ x. 0 < length room.new.places.items)) }
+    ensures space { OnOk result (HasRunRoomOf program.now room.new) }
+    ensures lists { OnOk result (length room.new.round.lists.items ≡ length room.old.round.lists.items) }
+    ensures parts { OnOk result (length room.new.round.parts.items ≡ length room.old.round.parts.items) }
+{
+    closed_groups::several_are_alone::<KernelFault>();
+    closed_groups::places_stay_shut::<KernelFault>();
+    rank_state::in_place_shows::<KernelFault>();
+    clear_all(&mut room.round.lists);
+    let next = gather(steps, of, &mut room.places, &mut room.round.lists)?;
+    run_round(
+        rt,
+        machine,
+        program,
+        of.item,
+        &room.round.lists,
+        &mut room.round.parts,
+        workers,
+        gate,
+    );
+    Ok(next)
+}
+
+// The closed groups that come next, as long as the stream tells them, as rounds. A group whose item comes in none is run by itself,
+// and is the last. An error is want of memory.
+fn run_rounds<R: Threads + Sync, G: Gate, S: Steps>(
+    rt: &R,
+    machine: &mut Machine,
+    program: &DistributedProgram<'_>,
+    room: &mut RunRoom,
+    steps: &mut S,
+    workers: u32,
+    gate: &G,
+) -> Result<(), OutOfMemory>
+    requires workers { 0 < workers }
+    requires sound { Sound program.now }
+    requires keeps { (k : ℕ) → KeepsIn program.now k }
+    requires space { HasRunRoomOf program.now room.old }
+    requires shows { (f : Flat KernelFault) × Shows (setup_in program.now) (layout_in program.now) (tables_in program.now) machine.old f }
+    requires ready { ComeReady (setup_in program.now) (layout_in program.now) (tables_in program.now) (S.left steps.old) machine.old }
+    requires alone { GroupsAreAlone (setup_in program.now) (layout_in program.now) (S.left steps.old) }
+    requires listed { length room.old.round.lists.items ≡ length room.old.round.parts.items }
+    requires ranks { length room.old.round.parts.items ≡ length machine.old.memories }
+    requires few { length room.old.round.parts.items < 2 ^ 32 }
+    ensures done { OnOk result ((done : List Step) × (S.left steps.old ≡ done ++ S.left steps.new)
+        × Done (setup_in program.now) (layout_in program.now) (tables_in program.now) done machine.old machine.new) }
+    ensures suffix { (front : List Step) × (S.left steps.old ≡ front ++ S.left steps.new) }
+    ensures space { OnOk result (HasRunRoomOf program.now room.new) }
+{
+    room.places.clear();
+    let mut next = next_closed_of(steps, &mut room.places);
+    while let Some(of) = next {
+        if of.rank as usize >= room.round.lists.len()
+            || !come_in_rounds(program, of.item, workers)
+        {
+            run_group(
+                machine,
+                program,
+                &mut room.step,
+                of.item,
+                of.rank,
+                &room.places,
+            );
+            return Ok(());
+        }
+        next = run_told_round(rt, machine, program, room, steps, of, workers, gate)?;
+    }
+    Ok(())
+}
+
+/// The closed groups that come behind a step, as long as the stream tells them: as rounds where several workers run a program on
+/// several ranks, else one after another. Nothing is done behind the step of an item whose elements are better run in groups.
+///
+/// # Errors
+/// Want of memory alone.
+pub fn run_behind<R: Threads + Sync, G: Gate, S: Steps>(
+    rt: &R,
+    machine: &mut Machine,
+    program: &DistributedProgram<'_>,
+    room: &mut RunRoom,
+    steps: &mut S,
+    before: Step,
+    workers: u32,
+    gate: &G,
+) -> Result<(), OutOfMemory>
+    requires workers { 0 < workers }
+    requires sound { Sound program.now }
+    requires keeps { (k : ℕ) → KeepsIn program.now k }
+    requires space { HasRunRoomOf program.now room.old }
+    requires shows { (f : Flat KernelFault) × Shows (setup_in program.now) (layout_in program.now) (tables_in program.now) machine.old f }
+    requires ready { ComeReady (setup_in program.now) (layout_in program.now) (tables_in program.now) (S.left steps.old) machine.old }
+    requires alone { GroupsAreAlone (setup_in program.now) (layout_in program.now) (S.left steps.old) }
+    ensures done { OnOk result ((done : List Step) × (S.left steps.old ≡ done ++ S.left steps.new)
+        × Done (setup_in program.now) (layout_in program.now) (tables_in program.now) done machine.old machine.new) }
+    ensures suffix { (front : List Step) × (S.left steps.old ≡ front ++ S.left steps.new) }
+    ensures space { OnOk result (HasRunRoomOf program.now room.new) }
+{
+    let ranks = program.owners.ranks as usize;
+    let parts = room.round.parts.len();
+    let lists = room.round.lists.len();
+    if parts != ranks || lists != ranks || machine.ranks() != ranks {
+        run_closed(machine, program, room, steps, before, workers);
+        return Ok(());
+    }
+    if may_come_in_rounds(program, before, workers) {
+        run_rounds(rt, machine, program, room, steps, workers, gate)?;
+    }
+    Ok(())
+}

@@ -1,0 +1,38 @@
+use Rattle.std.proofs.Common.{◌≡◌, ℕ, ℤ, List, length, sym, ap, subst, ◌∙◌, None}
+use Rattle.rank_memory.proofs.Vecs.{refilled}
+use Rattle.rank_memory.specs.Stops.{stop_in}
+use Rattle.rank_program.specs.AloneRuns.{AllBegin, Reaches}
+use Rattle.rank_program.specs.Sound.{setup_in, layout_in, tables_in}
+use Rattle.rank_machine.specs.OnRanks.{places_on, share_in}
+use Rattle.rank_machine.proofs.OnRanks.{place_is}
+use Rattle.rank_machine.proofs.ranks.RoundPartJobRankPart.run.Goals as goal
+
+pub run_places-part-requires-clause-steps : goal.run_places-part-requires-clause-steps
+run_places-part-requires-clause-steps c =
+    let x = c.args.self.now.program.now in
+    let places : c.as_slice-places.result.now ≡ places_on c.args.self.now.lists.now c.args.index =
+    c.as_slice-places.ensures.value ∙ place_is c.args.self.now.lists.now c.args.index c.index-self-index.result c.requires.listed in
+    subst (AllBegin (setup_in x) (layout_in x) (tables_in x) c.args.self.now.item c.args.index) (sym places) c.requires.steps
+
+pub returns : goal.returns
+returns c =
+    let x = c.args.self.now.program.now in
+    let p = setup_in x in
+    let l = layout_in x in
+    let t = tables_in x in
+    let k = c.args.self.now.item in
+    let r = c.args.index in
+    let cs = c.args.part.now.room.constants.items in
+    let vs = c.args.self.now.variables.now in
+    let new = c.run_places-part.new in
+    let kept = stop_in c.run_places-part.result in
+    let places : c.as_slice-places.result.now ≡ places_on c.args.self.now.lists.now r =
+    c.as_slice-places.ensures.value ∙ place_is c.args.self.now.lists.now r c.index-self-index.result c.requires.listed in
+    let ran = λ (xs : List ℕ) (from to : List ℤ). Reaches p l t k r cs vs xs (record { cells = c.args.part.now.memory.items; partials = from; fault = None }) (length xs) (record { cells = new.memory.items; partials = to; fault = kept }) in
+    record {
+      reaches = subst (λ (z : List ℤ). ran (places_on c.args.self.now.lists.now r) c.args.part.now.partials.items z) (sym (refilled c.args.part.now.partials new.partials (c.run_places-part.auto.partials ∙ ap length c.deref_mut.ensures.value)))
+          (subst (λ (z : List ℤ). ran (places_on c.args.self.now.lists.now r) z new.partials) c.deref_mut.ensures.value
+          (subst (λ (z : List ℕ). ran z c.deref_mut.result.now new.partials) places c.run_places-part.ensures.runs));
+      spare = c.run_places-part.ensures.spare;
+      space = c.run_places-part.ensures.space;
+    }

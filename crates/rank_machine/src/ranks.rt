@@ -1,0 +1,174 @@
+// The elements of an item on all ranks at once.
+
+ghost use Rattle.std.specs.Prelude.{◌≡◌, ◌<◌, ◌||◌, map, length};
+ghost use Rattle.schedule_model.specs.Machine.{is_less, is_less_element};
+ghost use Rattle.par_exec.specs.Parts.{TakesEach, MadeEach};
+ghost use Rattle.rank_memory.specs.Stops.{stop_of, stop_in};
+ghost use Rattle.rank_program.specs.FromNone.{kept_both};
+ghost use Rattle.rank_machine.specs.OnRanks.{CanRunOn, RanOn, share_in, lent, kept_of_all, RanLent};
+
+use par_exec::{Gate, PartJob, run_parts};
+use rank_memory::stop::Stop;
+use rank_program::{DistributedProgram, Room, run_places};
+use std::marker::Sync;
+use std::mem::swap;
+use std::thread::Threads;
+
+/// What elements are lent of their rank: its cells and partials, where they note their fault, and room for a step with the values
+/// of all constants.
+#[derive(Drop)]
+pub struct RankPart {
+    pub memory: Vec<i32>,
+    pub partials: Vec<i32>,
+    pub fault: Option<Stop>,
+    pub room: Room,
+}
+
+// The elements of an item, by places for each rank, with the values of all variables.
+#[derive(Drop)]
+struct Round<'a, 'b> {
+    program: &'a DistributedProgram<'b>,
+    lists: &'a [Vec<u32>],
+    item: u32,
+    variables: &'a [i32],
+}
+
+impl<'a, 'b> PartJob<RankPart> for Round<'a, 'b> {
+    ghost use Rattle.rank_machine.specs.OnRanks.{CanRunOn, RanOn};
+
+    ghost takes = { λ s r x. CanRunOn s.program.now s.item s.variables.now s.lists.now r x };
+
+    ghost makes = { λ s r x y. RanOn s.program.now s.item s.variables.now s.lists.now r x y };
+
+    fn run(&self, index: usize, part: &mut RankPart) {
+        let places = self.lists[index].as_slice();
+        if places.is_empty() {
+            part.fault = None;
+            return;
+        }
+        part.fault = run_places(
+            self.program,
+            self.item,
+            index as u32,
+            places,
+            self.variables,
+            &mut part.memory,
+            &mut part.partials,
+            None,
+            &mut part.room,
+        );
+    }
+}
+
+// Runs the kernel of an item's loop for the elements at each rank's places, one after another, in place on what is lent of the rank,
+// from no fault on.
+fn run_ranks<R: Threads + Sync, G: Gate>(
+    rt: &R,
+    program: &DistributedProgram<'_>,
+    item: u32,
+    lists: &[Vec<u32>],
+    variables: &[i32],
+    parts: &mut [RankPart],
+    workers: u32,
+    gate: &G,
+)
+    requires workers { 0 < workers }
+    requires can { TakesEach (CanRunOn program.now item variables.now lists.now) 0 parts.old }
+    ensures { MadeEach (RanOn program.now item variables.now lists.now) 0 parts.old parts.new }
+{
+    let round = Round {
+        program,
+        lists,
+        item,
+        variables,
+    };
+    run_parts(rt, workers, &round, gate, parts);
+}
+
+// Gives each part the memory and the partials of its rank, and the rank what the part had.
+fn swap_all(memories: &mut [Vec<i32>], partials: &mut [Vec<i32>], parts: &mut [RankPart])
+    requires memories { length memories.old ≡ length parts.old }
+    requires partials { length partials.old ≡ length parts.old }
+    ensures memories { memories.new ≡ map (λ x. x.memory) parts.old }
+    ensures partials { partials.new ≡ map (λ x. x.partials) parts.old }
+    ensures parts { parts.new ≡ lent memories.old partials.old parts.old }
+{
+    let mut rank = 0;
+    while rank < parts.len() {
+        let part = &mut parts[rank];
+        swap(&mut memories[rank], &mut part.memory);
+        swap(&mut partials[rank], &mut part.partials);
+        rank += 1;
+    }
+}
+
+// The first element is before the second.
+fn is_before(element: Option<u32>, other: Option<u32>) -> bool
+    ensures { result ≡ is_less_element element other }
+{
+    match (element, other) {
+        (Some(a), Some(b)) => a < b,
+        _ => false,
+    }
+}
+
+// The fault that is kept of one and of a later one: the lesser, and the first of equals.
+fn kept(before: Option<Stop>, later: Option<Stop>) -> Option<Stop>
+    ensures { stop_in result ≡ kept_both (stop_in before) (stop_in later) }
+{
+    let Some(new) = later else {
+        return before;
+    };
+    let Some(old) = before else {
+        return later;
+    };
+    if new.item < old.item || (new.item == old.item && is_before(new.element, old.element)) {
+        later
+    } else {
+        before
+    }
+}
+
+// The fault that is kept of one and of those of all parts, by increasing rank.
+fn kept_of_parts(fault: Option<Stop>, parts: &[RankPart]) -> Option<Stop>
+    ensures { stop_in result ≡ kept_of_all (stop_in fault) (map share_in parts.now) }
+{
+    let mut least = fault;
+    let mut rank = 0;
+    while rank < parts.len() {
+        least = kept(least, parts[rank].fault);
+        rank += 1;
+    }
+    least
+}
+
+/// Runs the kernel of an item's loop for the elements at each rank's places, one after another, in place on the rank's memory and
+/// partials, from no fault on; answers the fault to keep of `fault` and of theirs, put together by increasing rank. The ranks are shared
+/// out among the `workers`, at least 1; `gate` is told of each rank just before. What is said of each rank holds for every number of
+/// workers and every gate. There is a part for each rank. Takes no memory.
+pub fn run_lent<R: Threads + Sync, G: Gate>(
+    rt: &R,
+    program: &DistributedProgram<'_>,
+    item: u32,
+    lists: &[Vec<u32>],
+    variables: &[i32],
+    memories: &mut [Vec<i32>],
+    partials: &mut [Vec<i32>],
+    fault: Option<Stop>,
+    parts: &mut [RankPart],
+    workers: u32,
+    gate: &G,
+) -> Option<Stop>
+    requires workers { 0 < workers }
+    requires memories { length memories.old ≡ length parts.old }
+    requires partials { length partials.old ≡ length parts.old }
+    requires can { TakesEach (CanRunOn program.now item variables.now lists.now) 0 (lent memories.old partials.old parts.old) }
+    ensures { RanLent program.now item variables.now lists.now memories.old partials.old parts.old (stop_in fault)
+        memories.new partials.new parts.new (stop_in result) }
+{
+    swap_all(memories, partials, parts);
+    run_ranks(rt, program, item, lists, variables, parts, workers, gate);
+    let kept = kept_of_parts(fault, parts);
+    swap_all(memories, partials, parts);
+    kept
+}
