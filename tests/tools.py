@@ -115,7 +115,10 @@ int main(int argc, char **argv) {
     # explain: the line and the status of op2, the source's line with a caret, and the text
     third = "access 3\n  an OP_INC argument is assigned other than by `+=` and `-=`\n  -> write `a[0] += ..;`\n"
     wrong = (examples / "residual.c").read_text().replace("ra[0] += f", "ra[0] = f")
-    row("explain run w.c residual.mesh", out=f"op2: source access 3 at 8:3\nstatus 5\n  ra[0] = f;\n  ^\n{third}", w_c=wrong)
+    loop = '  op_par_loop(res, "res", edges, op_arg_dat(x, 0, pe, 1, "int", OP_READ),\n  ^\n'
+    inc = '    op_arg_dat(x, 1, pe, 1, "int", OP_READ), op_arg_dat(r, 0, pe, 1, "int", OP_INC),\n' + 45 * " " + "^\n"
+    judged = f"loop res at 18:3\n{loop}argument 3 at 19:46\n{inc}"
+    row("explain run w.c residual.mesh", out=f"op2: source access 3 at 8:3\nstatus 5\n  ra[0] = f;\n  ^\n{third}{judged}", w_c=wrong)
     row("explain access 3", out=third)
     by_zero = """extern int n; extern int a0[];
 void k(int *a) { a[0] = 1 / a[0]; }
@@ -128,6 +131,44 @@ int main(int argc, char **argv) { op_set s = op_decl_set(n, "s"); op_dat a = op_
     # a tab stays, and a character of two bytes has one column
     lex = "lex 1\n  a byte that begins no token;"
     row("explain translate t.c", out=None, t_c="\t/* \u00e9 */ @", found=f"op2: source lex 1 at 1:11\nstatus 5\n\t/* \u00e9 */ @\n\t        ^\n{lex}")
+    # of two loops with one kernel the one that asks for what the kernel doesn't keep to; a parameter that is never assigned has its own place
+    twice = """extern int n;
+extern int a0[];
+void set(int *to, const int *from) { to[0] = 6 / *from; }
+int main(int argc, char **argv) {
+  op_init(argc, argv, 1);
+  int least = 7;
+  op_set s = op_decl_set(n, "s");
+  op_dat a = op_decl_dat(s, 1, "int", a0, "a");
+  op_dat b = op_decl_dat(s, 1, "int", a0, "b");
+  for (int t = 0; t < 3; t++) {
+    op_par_loop(set, "set", s, op_arg_dat(a, -1, OP_ID, 1, "int", OP_WRITE), op_arg_dat(b, -1, OP_ID, 1, "int", OP_READ));
+    op_par_loop(set, "set", s,
+\t\top_arg_dat(b, -1, OP_ID, 1, "int", OP_RW), op_arg_gbl(&least, 1, "int", OP_READ));
+    least -= 6;
+    {}
+  }
+  op_exit();
+}
+"""
+    one = "op2mesh 1\nint n 3\nints a0 3 2 6 1\ndone\n"
+    row("explain run t.c t.mesh", out=None, t_mesh=one, t_c=twice.replace('"int", OP_RW', '"int", OP_MIN').replace("{}", ""),
+        found='\nloop set at 12:5\n    op_par_loop(set, "set", s,\n    ^\nargument 1 at 13:3\n\t\top_arg_dat(b, -1, OP_ID, 1, "int", OP_MIN), op_arg_gbl(&least, 1, "int", OP_READ));\n\t\t^\n')
+    row("explain run t.c t.mesh", out=None, t_c=twice.replace("to[0] =", "if (*from) to[0] =").replace("{}", ""),
+        found='\nloop set at 11:5\n    op_par_loop(set, "set", s, op_arg_dat(a, -1, OP_ID, 1, "int", OP_WRITE), op_arg_dat(b, -1, OP_ID, 1, "int", OP_READ));\n    ^\nargument 1 at 11:32\n')
+    # a fault: the second turn of a loop, and what it handed to its kernel; b is 6 / 7 everywhere behind the first turn
+    faulted = "op2: fault item 4 element 0 div-zero at 3:48\nstatus 9\n"
+    turn = '\nitem 4 is turn 2 of loop set at 11:5\n    op_par_loop(set, "set", s, op_arg_dat(a, -1, OP_ID, 1, "int", OP_WRITE), op_arg_dat(b, -1, OP_ID, 1, "int", OP_READ));\n    ^\n'
+    row("explain run t.c t.mesh", out=None, t_c=twice.replace("{}", ""), found=f"{turn}argument 1, a at 0: 3\nargument 2, b at 0: 0\n")
+    row("explain run t.c t.mesh", out=None, found=faulted)
+    row("explain run t.c t.mesh --chain --ranks 2", out=None, found=f"{turn}argument 1, a at 0: 3\nargument 2, b at 0: 0\n")
+    # a variable of `main`, which is 0 in the second turn
+    row("explain run t.c t.mesh", out=None, t_c=twice.replace("least -= 6", "least -= 7").replace("*from;", "*from + 1;").replace("{}", ""),
+        found="\nargument 1, b at 0: 1\nargument 2, least: 0\n")
+    # a statement of `main` is in no loop
+    host = "op2: fault item 4 host div-zero at 15:"
+    row("explain run t.c t.mesh", out=None, t_c=twice.replace("{}", "least = 1 / (least - 1);"), found=host)
+
     # wrong words, the last ones
     row(f"explain run {both} --ranks 0", out=None, found="\nwrong: --ranks 0\n")
     row(f"explain run {both} more", out=None, found="\nwrong: more\n")

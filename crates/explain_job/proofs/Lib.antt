@@ -1,3 +1,5 @@
 pub mod Holding
 pub mod Wording
+pub mod Binding
+pub mod Telling
 pub mod Explaining

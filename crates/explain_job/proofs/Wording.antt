@@ -2,7 +2,7 @@
 use Rattle.std.proofs.Common.{◌≡◌, ℕ, List, [], None, Ok, Err, ap}
 use Rattle.command_words.specs.Refusal.{Refusal}
 use Rattle.command_words.specs.Words.{Command, WordsAre, names_of, names_in, named_by}
-use Rattle.explain_job.specs.Named.{source_of, source_in, source_by}
+use Rattle.explain_job.specs.Named.{source_of, source_in, source_by, program_of, program_in, program_by}
 
 pub files_of : (words : List (List ℕ)) (c : Command) → WordsAre words (Ok c) → named_by words ≡ names_of c
 files_of words c w = ap names_in w
@@ -15,3 +15,9 @@ source_is words c w = ap source_in w
 
 pub no_source : (words : List (List ℕ)) (r : Refusal) → WordsAre words (Err r) → source_by words ≡ None
 no_source words r w = ap source_in w
+
+pub program_is : (words : List (List ℕ)) (c : Command) → WordsAre words (Ok c) → program_by words ≡ program_of c
+program_is words c w = ap program_in w
+
+pub no_program : (words : List (List ℕ)) (r : Refusal) → WordsAre words (Err r) → program_by words ≡ None
+no_program words r w = ap program_in w

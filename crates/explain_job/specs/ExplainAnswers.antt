@@ -11,7 +11,8 @@ use Rattle.command_words.specs.Words.{named_by}
 use Rattle.answer_lines.specs.declared.limits.TheConstants.{SOURCE_BYTES}
 use Rattle.answer_lines.specs.Lines.{Answer, done, refused}
 use Rattle.answers.specs.Answers.{Answers}
-use Rattle.explain_job.specs.Named.{source_by}
+use Rattle.explain_job.specs.Named.{source_by, program_by}
+use Rattle.explain_job.specs.Loops.{LoopOf}
 use Rattle.explain_job.specs.Held.{AreHeld}
 
 -- the words behind the first, with single spaces between them
@@ -30,9 +31,15 @@ source_over words files = option_and_then (λ name. option_and_then as_source (f
 abbrev pub said_of : (words : List (List ℕ)) → Answer → (source : Option (List ℕ)) → List ℕ
 said_of words x source = said x.status x.line source ++ (if nat_eq x.status 2 then said_wrong words else [])
 
+-- an answer is explained: what is said of it, and then the loop that it is about
+abbrev pub IsExplained : (words : List (List ℕ)) → Files → Answer → (text : List ℕ) → Type 0
+IsExplained words files x text =
+    (loop : List ℕ) × LoopOf (program_by words) files x.line (source_over words files) loop
+    × (text ≡ said_of words x (source_over words files) ++ loop)
+
 -- `op2` answers this to the words over these files, and it is explained
 abbrev pub ExplainsAnswer : (words : List (List ℕ)) → Files → Answer → Type 0
-ExplainsAnswer words files a = (x : Answer) × Answers words files x × (a ≡ done (said_of words x (source_over words files)))
+ExplainsAnswer words files a = (x : Answer) × Answers words files x × (text : List ℕ) × IsExplained words files x text × (a ≡ done text)
 
 -- What is answered to words of `op2`: that a file which they name is missing; or, where each is there, what `op2` answers over the files as
 -- they are found, explained.

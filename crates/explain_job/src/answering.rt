@@ -1,8 +1,8 @@
 // The answer of `explain`.
-ghost use Rattle.std.specs.Prelude.{◌≡◌, [], None, All, map, option_map, option_and_then, string_bytes, IfOk, IfErr};
+ghost use Rattle.std.specs.Prelude.{◌≡◌, [], None, All, map, option_map, option_and_then, string_bytes, length, ◌≤◌, IfOk, IfErr, IfSome};
 ghost use Rattle.std.specs.List.{find};
 ghost use Rattle.op_outside.specs.Outside.{Rose};
-ghost use Rattle.op_outside.specs.Memory.{sure_held};
+ghost use Rattle.held_files.specs.Held.{held as held_by};
 ghost use Rattle.command_words.specs.Words.{named_by};
 ghost use Rattle.answers.specs.Answers.{Answers};
 ghost use Rattle.answer_lines.specs.Halts.{answer_of, StopsWhere};
@@ -10,39 +10,35 @@ ghost use Rattle.error_texts.specs.Texts.{has_name, all_texts};
 ghost use Rattle.job_inputs.specs.Chains.{AnswersBy, AnswersOver};
 ghost use Rattle.explain_job.specs.ExplainAnswers.{title, as_source, said_of, source_over, ExplainsAnswer, ExplainsCall, ExplainAnswers};
 ghost use Rattle.explain_job.specs.Held.{AreHeld};
-ghost use Rattle.explain_job.specs.Named.{source_by};
+ghost use Rattle.explain_job.specs.Named.{source_by, program_by, named_program};
 
 use crate::held::hold_all;
-use crate::named::named_by;
+use crate::loops::text_of_loop;
+use crate::named::{Program, named_by};
 use crate::words::text_by;
 use answer_lines::{Answer, Halt, SOURCE_BYTES};
 use explanations::{explain_status, explain_text};
+use held_files::HeldFiles;
 use op_num::OutOfMemory;
-use op_outside::{ReadRefusal, Shelf, SureShelf, read_whole};
+use op_outside::Shelf;
 use op2_command::answer_to;
 use par_exec::Open;
-use std::alloc::{AllocError, Global};
+use std::alloc::Global;
 use std::marker::Sync;
 use std::thread::Threads;
 use wrong_words::put_wrong;
 
 // The bytes of the source that is held under a name, if they are no more than a source may have.
-fn source_held(
-    alloc: Global,
-    held: &mut SureShelf,
-    name: Option<&str>,
-) -> Result<Option<Vec<u8>>, OutOfMemory>
-    ensures held { sure_held held.new ≡ sure_held held.old }
-    ensures source { IfOk result (λ s. option_map (λ v. v.items) s
-        ≡ option_and_then (λ n. option_and_then as_source (sure_held held.old n)) (option_map (λ n. n.now) name.entry)) }
+fn source_held<'a>(held: &'a HeldFiles, name: Option<&str>) -> Option<&'a [u8]>
+    ensures small { IfSome result (λ s. length s.now ≤ SOURCE_BYTES) }
+    ensures source { option_map (λ s. s.now) result
+        ≡ option_and_then (λ n. option_and_then as_source (held_by held.now n)) (option_map (λ n. n.now) name.entry) }
 {
-    let Some(name) = name else {
-        return Ok(None);
-    };
-    match read_whole(alloc, held, name, SOURCE_BYTES) {
-        Ok(bytes) => Ok(Some(bytes)),
-        Err(ReadRefusal::OutOfMemory) => Err(AllocError),
-        Err(_) => Ok(None),
+    let bytes = held.bytes(name?)?;
+    if bytes.len() as u64 > SOURCE_BYTES {
+        None
+    } else {
+        Some(bytes)
     }
 }
 
@@ -85,25 +81,27 @@ fn said_of(
 fn answer_over<'a, R: Threads + Sync>(
     rt: &R,
     alloc: Global,
-    held: &mut SureShelf,
+    held: &HeldFiles,
     words: &'a Vec<String>,
 ) -> Result<Answer, Halt<'a>>
-    ensures ok { IfOk result (λ x. Answers (map string_bytes words.now.items) (sure_held held.old) (answer_of x)) }
+    ensures ok { IfOk result (λ x. Answers (map string_bytes words.now.items) (held_by held.now) (answer_of x)) }
     ensures err { IfErr result (StopsWhere (λ _. ⊥)) }
 {
-    match answer_to(rt, alloc, words, held, &Open) {
+    let mut shelf = held.lent();
+    match answer_to(rt, alloc, words, &mut shelf, &Open) {
         Ok(answer) => Ok(answer),
         Err(failure) => Err(Halt::Failed(failure)),
     }
 }
 
-// The bytes, if there are some.
-fn slice_of(bytes: &Option<Vec<u8>>) -> Option<&[u8]>
-    ensures { option_map (λ s. s.now) result ≡ option_map (λ v. v.items) bytes.now }
+// The line of an answer; none where all is well.
+fn line_of(answer: &Answer) -> &[u8]
+    ensures { result.now ≡ (answer_of answer.now).line }
 {
-    match bytes {
-        Some(bytes) => Some(bytes.as_slice()),
-        None => None,
+    match answer {
+        Answer::Done(_) => b"",
+        Answer::Faulted { line, .. } => line.as_slice(),
+        Answer::Refused { line, .. } => line.as_slice(),
     }
 }
 
@@ -111,16 +109,20 @@ fn slice_of(bytes: &Option<Vec<u8>>) -> Option<&[u8]>
 fn explained_over<'a, R: Threads + Sync>(
     rt: &R,
     alloc: Global,
-    held: &mut SureShelf,
+    held: &HeldFiles,
     words: &'a Vec<String>,
     source: Option<&str>,
+    program: Option<Program<'a>>,
 ) -> Result<Answer, Halt<'a>>
-    requires { option_map (λ n. n.now) source ≡ source_by (map string_bytes words.now.items) }
-    ensures { AnswersBy (ExplainsAnswer (map string_bytes words.now.items) (sure_held held.old)) result }
+    requires source { option_map (λ n. n.now) source ≡ source_by (map string_bytes words.now.items) }
+    requires program { option_map named_program program ≡ program_by (map string_bytes words.now.items) }
+    ensures { AnswersBy (ExplainsAnswer (map string_bytes words.now.items) (held_by held.now)) result }
 {
-    let source = source_held(alloc, held, source)?;
+    let source = source_held(held, source);
     let answer = answer_over(rt, alloc, held, words)?;
-    let text = said_of(alloc, words, &answer, slice_of(&source))?;
+    let mut text = said_of(alloc, words, &answer, source)?;
+    let loop_text = text_of_loop(rt, alloc, held, program, line_of(&answer), source)?;
+    text.extend_from_slice(&loop_text)?;
     Ok(Answer::Done(text))
 }
 
@@ -136,8 +138,8 @@ fn explained_call<'a, R: Threads + Sync, F: Shelf>(
         (ExplainsCall (map string_bytes words.now.items)) (Rose (F.faults shelf.old) (F.faults shelf.new)) result }
 {
     let named = named_by(alloc, words)?;
-    let mut held = hold_all(alloc, shelf, &named.files)?;
-    explained_over(rt, alloc, &mut held, words, named.source)
+    let held = hold_all(alloc, shelf, &named.files)?;
+    explained_over(rt, alloc, &held, words, named.source, named.program)
 }
 
 /// The answer of `explain`: the text of the error that the words behind the first name, as `access 4`; or, for the words of a call of

@@ -3,12 +3,13 @@ ghost use Rattle.std.specs.Prelude.{◌≡◌, ◌≤◌, ◌<◌, ◌↔◌, Li
 ghost use Rattle.std.specs.List.{position};
 ghost use Rattle.std.specs.Str.{bytes_eq};
 ghost use Rattle.op_outside.specs.Outside.{Rose, Holds};
-ghost use Rattle.op_outside.specs.Memory.{sure_held};
+ghost use Rattle.held_files.specs.Held.{held as held_by};
 ghost use Rattle.explain_job.specs.Held.{IsAsFound, AreHeld, CannotHold};
 
 use answer_lines::{Failure, Halt, Refusal};
+use held_files::HeldFiles;
 use op_num::OutOfMemory;
-use op_outside::{ReadRefusal, Shelf, SureShelf, read_whole};
+use op_outside::{ReadRefusal, Shelf, read_whole};
 use std::alloc::Global;
 
 /// The most bytes of a file that are held as they are: as many as the greatest limit of `op2` on a file allows.
@@ -50,16 +51,16 @@ fn place_of(names: &[&str], name: &str) -> Option<usize>
 fn hold_new<'a, F: Shelf>(
     alloc: Global,
     shelf: &mut F,
-    held: &mut SureShelf,
+    held: &mut HeldFiles,
     earlier: &[&'a str],
     name: &'a str,
 ) -> Result<(), Halt<'a>>
     requires lent { F.lends shelf.old name.now }
-    requires held { AreHeld (F.told shelf.old) (sure_held held.old) (map (λ n. n.now) earlier.now) }
+    requires held { AreHeld (F.told shelf.old) (held_by held.old) (map (λ n. n.now) earlier.now) }
     ensures told { F.told shelf.new ≡ F.told shelf.old }
     ensures lends { (n : List ℕ) → F.lends shelf.old n ↔ F.lends shelf.new n }
     ensures never_falls { F.faults shelf.old ≤ F.faults shelf.new }
-    ensures ok { OnOk result (AreHeld (F.told shelf.old) (sure_held held.new) (map (λ n. n.now) earlier.now ++ name.now ∷ [])) }
+    ensures ok { OnOk result (AreHeld (F.told shelf.old) (held_by held.new) (map (λ n. n.now) earlier.now ++ name.now ∷ [])) }
     ensures err { IfErr result (CannotHold (F.told shelf.old) (name.now ∷ []) (Rose (F.faults shelf.old) (F.faults shelf.new))) }
 {
     let bytes = bytes_of(alloc, shelf, name)?;
@@ -71,16 +72,16 @@ fn hold_new<'a, F: Shelf>(
 fn hold<'a, F: Shelf>(
     alloc: Global,
     shelf: &mut F,
-    held: &mut SureShelf,
+    held: &mut HeldFiles,
     earlier: &[&'a str],
     name: &'a str,
 ) -> Result<(), Halt<'a>>
     requires lent { F.lends shelf.old name.now }
-    requires held { AreHeld (F.told shelf.old) (sure_held held.old) (map (λ n. n.now) earlier.now) }
+    requires held { AreHeld (F.told shelf.old) (held_by held.old) (map (λ n. n.now) earlier.now) }
     ensures told { F.told shelf.new ≡ F.told shelf.old }
     ensures lends { (n : List ℕ) → F.lends shelf.old n ↔ F.lends shelf.new n }
     ensures never_falls { F.faults shelf.old ≤ F.faults shelf.new }
-    ensures ok { OnOk result (AreHeld (F.told shelf.old) (sure_held held.new) (map (λ n. n.now) earlier.now ++ name.now ∷ [])) }
+    ensures ok { OnOk result (AreHeld (F.told shelf.old) (held_by held.new) (map (λ n. n.now) earlier.now ++ name.now ∷ [])) }
     ensures err { IfErr result (CannotHold (F.told shelf.old) (name.now ∷ []) (Rose (F.faults shelf.old) (F.faults shelf.new))) }
 {
     if place_of(earlier, name).is_some() {
@@ -97,14 +98,14 @@ pub fn hold_all<'a, F: Shelf>(
     alloc: Global,
     shelf: &mut F,
     names: &[&'a str],
-) -> Result<SureShelf, Halt<'a>>
+) -> Result<HeldFiles, Halt<'a>>
     requires { All (λ name. F.lends shelf.old name) (map (λ n. n.now) names.now) }
     ensures never_falls { F.faults shelf.old ≤ F.faults shelf.new }
-    ensures ok { IfOk result (λ held. AreHeld (F.told shelf.old) (sure_held held) (map (λ n. n.now) names.now)) }
+    ensures ok { IfOk result (λ held. AreHeld (F.told shelf.old) (held_by held) (map (λ n. n.now) names.now)) }
     ensures err { IfErr result (CannotHold (F.told shelf.old) (map (λ n. n.now) names.now)
         (Rose (F.faults shelf.old) (F.faults shelf.new))) }
 {
-    let mut held = SureShelf::new(alloc);
+    let mut held = HeldFiles::new(alloc);
     for place in 0..names.len() {
         let name = names[place];
         hold(alloc, shelf, &mut held, &names[..place], name)?;

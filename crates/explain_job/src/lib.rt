@@ -7,7 +7,9 @@
 
 mod answering;
 mod held;
+mod loops;
 mod named;
+mod states;
 mod words;
 
 pub use answering::explained;

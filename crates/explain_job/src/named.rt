@@ -1,9 +1,10 @@
 // The files that words of `op2` name.
-ghost use Rattle.std.specs.Prelude.{◌≡◌, [], ◌∷◌, ◌++◌, Some, None, map, option_map, string_bytes, IfOk, OnOk};
+ghost use Rattle.std.specs.Prelude.{◌≡◌, true, [], ◌∷◌, ◌++◌, Some, None, map, option_map, string_bytes, IfOk, OnOk};
 ghost use Rattle.command_words.specs.Words.{names_from, names_before, names_by, names_in_blocks, names_at, names_of, named_by};
 ghost use Rattle.command_words.specs.Values.{stretch_in, parting_in, blocks_in, schedule_in, input_in, options_in, chain_options_in};
 ghost use Rattle.command_words.specs.Values.{command_of};
 ghost use Rattle.explain_job.specs.Named.{source_from, source_of, source_by, names_in, source_name};
+ghost use Rattle.explain_job.specs.Named.{ProgramNamed, is_from_start, program_of, program_by, named_program, program_named};
 
 use command_words::{
     Asked, Blocks, ChainOptions, Input, Options, Parting, Schedule, Stretch, WordsRefusal,
@@ -12,11 +13,20 @@ use command_words::{
 use op_num::OutOfMemory;
 use std::alloc::{AllocError, Global};
 
-/// The files that the words name, in the order in which `op2` reads them, and that of the source, if there is one.
+/// A program over a mesh that words ask for: where the two come from, and whether its run begins where the program does.
+#[derive(Clone, Copy, Debug)]
+pub struct Program<'a> {
+    pub input: Input<'a>,
+    pub from_start: bool,
+}
+
+/// The files that the words name, in the order in which `op2` reads them, that of the source, if there is one, and the program, if the
+/// words ask for one.
 #[derive(Debug, Drop)]
 pub struct Named<'a> {
     pub files: Vec<&'a str>,
     pub source: Option<&'a str>,
+    pub program: Option<Program<'a>>,
 }
 
 // Those that a source and a mesh come from.
@@ -96,6 +106,16 @@ fn source_from<'a>(input: Input<'a>) -> Option<&'a str>
     }
 }
 
+// Whether a run begins where the program does.
+fn is_from_start(stretch: Stretch<'_>) -> bool
+    ensures { result ≡ is_from_start (stretch_in stretch.entry) }
+{
+    match stretch {
+        Stretch::Whole | Stretch::Before { .. } => true,
+        Stretch::From(_) => false,
+    }
+}
+
 // The files of a job on a plan.
 fn named_by_plan<'a>(
     mut files: Vec<&'a str>,
@@ -107,12 +127,18 @@ fn named_by_plan<'a>(
         ++ names_before (options_in options.now).stretch ++ names_by (options_in options.now).parting
         ++ names_in_blocks (options_in options.now).blocks ++ names_at (options_in options.now).schedule) }
     ensures source { IfOk result (λ n. source_name n ≡ source_from (input_in input.entry)) }
+    ensures program { IfOk result (λ n. program_named n
+        ≡ Some (record { input = input_in input.entry; from_start = is_from_start (options_in options.now).stretch })) }
 {
     push_input(&mut files, input)?;
     push_options(&mut files, options)?;
     Ok(Named {
         files,
         source: source_from(input),
+        program: Some(Program {
+            input,
+            from_start: is_from_start(options.stretch),
+        }),
     })
 }
 
@@ -126,12 +152,17 @@ fn named_by_chains<'a>(
     ensures names { IfOk result (λ n. names_in n ≡ names_from (input_in input.entry)
         ++ names_by (chain_options_in options.now).parting) }
     ensures source { IfOk result (λ n. source_name n ≡ source_from (input_in input.entry)) }
+    ensures program { IfOk result (λ n. program_named n ≡ Some (record { input = input_in input.entry; from_start = true })) }
 {
     push_input(&mut files, input)?;
     push_parting(&mut files, options.parting)?;
     Ok(Named {
         files,
         source: source_from(input),
+        program: Some(Program {
+            input,
+            from_start: true,
+        }),
     })
 }
 
@@ -140,11 +171,13 @@ fn named_source<'a>(mut files: Vec<&'a str>, source: &'a str) -> Result<Named<'a
     requires { files.items ≡ [] }
     ensures names { IfOk result (λ n. names_in n ≡ source.now ∷ []) }
     ensures source { IfOk result (λ n. source_name n ≡ Some source.now) }
+    ensures program { IfOk result (λ n. program_named n ≡ None) }
 {
     files.push(source)?;
     Ok(Named {
         files,
         source: Some(source),
+        program: None,
     })
 }
 
@@ -153,11 +186,13 @@ fn named_mesh<'a>(mut files: Vec<&'a str>, mesh: &'a str) -> Result<Named<'a>, O
     requires { files.items ≡ [] }
     ensures names { IfOk result (λ n. names_in n ≡ mesh.now ∷ []) }
     ensures source { IfOk result (λ n. source_name n ≡ None) }
+    ensures program { IfOk result (λ n. program_named n ≡ None) }
 {
     files.push(mesh)?;
     Ok(Named {
         files,
         source: None,
+        program: None,
     })
 }
 
@@ -165,6 +200,7 @@ fn named_mesh<'a>(mut files: Vec<&'a str>, mesh: &'a str) -> Result<Named<'a>, O
 fn named_in<'a>(alloc: Global, asked: Asked<'a>) -> Result<Named<'a>, OutOfMemory>
     ensures names { IfOk result (λ n. names_in n ≡ names_of (command_of asked.entry)) }
     ensures source { IfOk result (λ n. source_name n ≡ source_of (command_of asked.entry)) }
+    ensures program { IfOk result (λ n. program_named n ≡ program_of (command_of asked.entry)) }
 {
     let files = Vec::new(alloc);
     match asked {
@@ -176,6 +212,7 @@ fn named_in<'a>(alloc: Global, asked: Asked<'a>) -> Result<Named<'a>, OutOfMemor
         Asked::Usage | Asked::Version => Ok(Named {
             files,
             source: None,
+            program: None,
         }),
     }
 }
@@ -184,12 +221,14 @@ fn named_in<'a>(alloc: Global, asked: Asked<'a>) -> Result<Named<'a>, OutOfMemor
 pub fn named_by<'a>(alloc: Global, words: &'a Vec<String>) -> Result<Named<'a>, OutOfMemory>
     ensures names { IfOk result (λ n. names_in n ≡ named_by (map string_bytes words.now.items)) }
     ensures source { IfOk result (λ n. source_name n ≡ source_by (map string_bytes words.now.items)) }
+    ensures program { IfOk result (λ n. program_named n ≡ program_by (map string_bytes words.now.items)) }
 {
     match read_words(alloc, words) {
         Ok(asked) => named_in(alloc, asked),
         Err(WordsRefusal::Usage) => Ok(Named {
             files: Vec::new(alloc),
             source: None,
+            program: None,
         }),
         Err(WordsRefusal::OutOfMemory) => Err(AllocError),
     }

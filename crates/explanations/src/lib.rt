@@ -8,4 +8,4 @@ mod limits;
 mod places;
 
 pub use explanation::{explain_status, explain_text, put_place};
-pub use places::{Place, word_number};
+pub use places::{Place, place_in, word_number};

@@ -1,7 +1,7 @@
 use Rattle.std.proofs.Common.{◌∙◌, map, string_bytes, ap, subst}
 use Rattle.std.proofs.lemmas.Result.{err_from_is_err_and}
 use Rattle.op_outside.specs.Outside.{Rose}
-use Rattle.op_outside.specs.Memory.{sure_held}
+use Rattle.held_files.specs.Held.{held as held_by}
 use Rattle.explain_job.specs.Held.{AreHeld, CannotHold}
 use Rattle.explain_job.proofs.Explaining.{call_answered, call_missing}
 use Rattle.explain_job.proofs.answering.explained_call.Goals as goal
@@ -17,7 +17,7 @@ returns-in_err-held g c =
 
 pub returns : goal.returns
 returns g c =
-    call_answered (g.F.Shelf.told c.args.shelf.now) (map string_bytes c.args.words.now.items) (sure_held c.in_ok-held.held)
+    call_answered (g.F.Shelf.told c.args.shelf.now) (map string_bytes c.args.words.now.items) (held_by c.in_ok-held.held)
     (Rose (g.F.Shelf.faults c.args.shelf.now) (g.F.Shelf.faults c.hold_all.new.shelf)) c.explained_over.result
-    (subst (AreHeld (g.F.Shelf.told c.args.shelf.now) (sure_held c.in_ok-held.held))
+    (subst (AreHeld (g.F.Shelf.told c.args.shelf.now) (held_by c.in_ok-held.held))
     (ap (map (λ n. n.now)) c.deref.ensures.value ∙ c.in_ok-named.ensures.names) c.in_ok-held.ensures.ok) c.explained_over.ensures

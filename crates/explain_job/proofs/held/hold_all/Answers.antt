@@ -1,6 +1,6 @@
 use Rattle.std.proofs.Common.{◌∙◌, ◌∷◌, ◌++◌, [], ℕ, List, Bor, get_or, take, subst, sym, arith}
 use Rattle.std.proofs.lemmas.List.{take_all}
-use Rattle.op_outside.specs.Memory.{sure_held}
+use Rattle.held_files.specs.Held.{held as held_by}
 use Rattle.explain_job.specs.Held.{AreHeld}
 use Rattle.explain_job.proofs.Holding.{names_in, at_name, one_more}
 use Rattle.explain_job.proofs.held.hold_all.Goals as goal
@@ -11,7 +11,7 @@ hold-requires-clause-lent g c =
 
 pub hold-requires-clause-held : goal.hold-requires-clause-held
 hold-requires-clause-held g c =
-    subst (λ t. AreHeld t (sure_held c.loop-place.held) (names_in (take c.loop-place.place c.args.names.now))) (sym c.loop-place.invariant.told) c.loop-place.invariant.held
+    subst (λ t. AreHeld t (held_by c.loop-place.held) (names_in (take c.loop-place.place c.args.names.now))) (sym c.loop-place.invariant.told) c.loop-place.invariant.held
 
 pub loop-place-preserved : goal.loop-place-preserved
 loop-place-preserved g c =
@@ -23,11 +23,11 @@ loop-place-preserved g c =
       told = c.hold.ensures.told ∙ i.told;
       lends = λ n. (λ x. (c.hold.ensures.lends n).0 ((i.lends n).0 x), λ x. (i.lends n).1 ((c.hold.ensures.lends n).1 x));
       risen = omega (arith, i.risen, c.hold.ensures.never_falls);
-      held = subst (AreHeld (g.F.Shelf.told c.args.shelf.now) (sure_held c.hold.new.held)) (one_more names place no_name (omega (arith, c.loop-place-test.true)))
-          (subst (λ t. AreHeld t (sure_held c.hold.new.held) (names_in (take place names) ++ (get_or names place no_name).now ∷ [])) i.told c.in_ok-hold.ensures.ok);
+      held = subst (AreHeld (g.F.Shelf.told c.args.shelf.now) (held_by c.hold.new.held)) (one_more names place no_name (omega (arith, c.loop-place-test.true)))
+          (subst (λ t. AreHeld t (held_by c.hold.new.held) (names_in (take place names) ++ (get_or names place no_name).now ∷ [])) i.told c.in_ok-hold.ensures.ok);
     }
 
 pub returns-clause-ok : goal.returns-clause-ok
 returns-clause-ok g c =
-    subst (λ ns. AreHeld (g.F.Shelf.told c.args.shelf.now) (sure_held c.loop-place.held) (names_in ns))
+    subst (λ ns. AreHeld (g.F.Shelf.told c.args.shelf.now) (held_by c.loop-place.held) (names_in ns))
     (take_all c.loop-place.place c.args.names.now (omega (arith, c.loop-place-test.false))) c.loop-place.invariant.held

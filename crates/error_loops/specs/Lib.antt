@@ -1,0 +1,9 @@
+pub mod Placed
+pub mod Calls
+pub mod Modes
+pub mod Judgements
+pub mod First
+pub mod Arguments
+pub mod Accesses
+pub mod Faults
+pub mod Values
