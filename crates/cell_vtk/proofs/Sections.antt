@@ -1,8 +1,8 @@
 -- Lines one behind another, and sections made of them.
-use Rattle.std.proofs.Common.{◌≡◌, ℕ, zero, suc, ◌+◌, ◌*◌, ◌<◌, ◌≤◌, List, [], ◌∷◌, ◌++◌, map, length, take, get_or, sum_by, codes, sym, ap, ◌∙◌, append_assoc, append-nil, arith}
+use Rattle.std.proofs.Common.{◌≡◌, ℕ, zero, suc, ◌+◌, ◌*◌, ◌<◌, ◌≤◌, List, [], ◌∷◌, ◌++◌, map, length, sum_by, codes, sym, ap, ◌∙◌, append_assoc, append-nil, arith}
 use Rattle.std.specs.List.{range_with_len, concat}
 use Rattle.std.specs.Fmt.{decimal}
-use Rattle.std.proofs.lemmas.List.{flat_map_more, take_more, map-append}
+use Rattle.std.proofs.lemmas.List.{flat_map_more}
 use Rattle.std.proofs.lemmas.List.Folds.{concat-append}
 use Rattle.std.proofs.lemmas.List.Sums.{sum_by-cons}
 use Rattle.std.proofs.Math.Nat.{suc-mul}
@@ -88,28 +88,6 @@ sum_of_same f k a (suc m) h =
     sum_by-cons f a (range_with_len (a + 1) m) in
     let product : suc m * k ≡ k + m * k = omega (arith, suc-mul m k) in
     step ∙ ap (λ (n : ℕ). n + sum_by f (range_with_len (a + 1) m)) (h a) ∙ ap (λ (n : ℕ). k + n) rest ∙ sym product
-
--- one line more of a list
-pub taken_more : (f : ℕ → List ℕ) (xs : List ℕ) (i : ℕ) (old between now : List ℕ)
-    → i < length xs
-    → between ≡ old ++ concat (map f (take i xs))
-    → now ≡ between ++ f (get_or xs i 0)
-    → now ≡ old ++ concat (map f (take (i + 1) xs))
-taken_more f xs i old between now l b e =
-    let lines : List (List ℕ) = map f (take i xs) in
-    let last : List ℕ = f (get_or xs i 0) in
-    let more : map f (take (i + 1) xs) ≡ lines ++ last ∷ [] =
-    ap (map f) (take_more xs i 0 l) ∙ map-append f (take i xs) (get_or xs i 0 ∷ []) in
-    let whole : concat (lines ++ last ∷ []) ≡ concat lines ++ last =
-    concat-append lines (last ∷ []) ∙ ap (λ (t : List ℕ). concat lines ++ t) (append-nil last) in
-    e ∙ ap (λ (t : List ℕ). t ++ last) b ∙ append_assoc old (concat lines) last
-    ∙ sym (ap (λ (t : List ℕ). old ++ t) (ap concat more ∙ whole))
-
--- data of one array, put together
-pub data_put : (head array old a b : List ℕ) → a ≡ old ++ head → b ≡ a ++ array → b ≡ old ++ (head ++ (array ++ []))
-data_put head array old a b ea eb =
-    eb ∙ ap (λ (t : List ℕ). t ++ array) ea ∙ append_assoc old head array
-    ∙ sym (ap (λ (t : List ℕ). old ++ (head ++ t)) (append-nil array))
 
 -- three parts behind others
 pub three_put : (old x y z a b c : List ℕ) → a ≡ old ++ x → b ≡ a ++ y → c ≡ b ++ z → c ≡ old ++ ((x ++ y) ++ z)

@@ -65,16 +65,21 @@ pub fn vtk_text(
     alloc: Global,
     mesh: &Mesh,
     shape: Shape,
-    data: GridData<'_>,
+    grid_data: GridData<'_>,
 ) -> Result<Vec<u8>, OutOfMemory>
     requires shape { IsSolid mesh.now shape }
-    requires numbers { length data.numbers.now ≡ cell_count mesh.now shape }
-    ensures { IfOk result (λ v. v.items ≡ whole_text mesh.now shape (data_of data.entry)) }
+    requires numbers { length grid_data.numbers.now ≡ cell_count mesh.now shape }
+    ensures { IfOk result (λ v. v.items ≡ whole_text mesh.now shape (data_of grid_data.entry)) }
 {
     let mut out = Vec::new(alloc);
-    put_header(&mut out, data.title)?;
+    put_header(&mut out, grid_data.title)?;
     put_grid(&mut out, mesh, shape)?;
-    put_cell_data(&mut out, data.name, data.numbers, data.on_cells)?;
-    put_node_data(&mut out, node_count(mesh, shape), data.on_nodes)?;
+    put_cell_data(
+        &mut out,
+        grid_data.name,
+        grid_data.numbers,
+        grid_data.on_cells,
+    )?;
+    put_node_data(&mut out, node_count(mesh, shape), grid_data.on_nodes)?;
     Ok(out)
 }

@@ -7,7 +7,7 @@ use Rattle.mesh_decl.specs.declared.access.Via.{Via}
 use Rattle.mesh_decl.specs.declared.owners.Owners.{Owners}
 use Rattle.schedule_model.specs.Cells.{Cell, Data, Variable, DatCell}
 use Rattle.bound_program.specs.declared.sites.Arg.{Arg}
-use Rattle.bound_program.specs.declared.sites.Arg.TheVariants.{Dat, Global}
+use Rattle.bound_program.specs.declared.sites.Arg.TheVariants.{Dat}
 use Rattle.bound_program.specs.Values.{BoundValue}
 use Rattle.run_model.specs.Windows.{Element, element_by}
 use Rattle.run_model.specs.Arguments.{no_arg}
@@ -51,19 +51,6 @@ module _ (b : BoundValue) (o : Owners) (k r e : ℕ) where
       ∙ gated (nat_eq m r) (not (needs b o k r c.dat c.element)) (nat_eq c.dat d && nat_eq c.element (element_by b v e)) (pos 0) (f m (Data c))
       (λ h. ap not (same_needs d v c h ∙ ap (needs b o k r d) (sym is) ∙ none))
   drops d v a y f is none m (Variable x) = no_test (nat_eq m r) (pos 0) (f m (Variable x))
-
-  -- where it is held
-  pub keeps : (d : ℕ) (v : Option Via) (a : Access) (y : ℕ) (f : Values) → y ≡ element_by b v e → needs b o k r d y ≡ true → (m : ℕ) (c : Cell)
-      → f m c ≡ dropped_by b o k r e (Dat d v a) f m c
-  keeps d v a y f is held m (Data c) =
-      ungated (nat_eq m r) (not (needs b o k r c.dat c.element)) (nat_eq c.dat d && nat_eq c.element (element_by b v e)) (pos 0) (f m (Data c))
-      (λ h. ap not (same_needs d v c h ∙ ap (needs b o k r d) (sym is) ∙ held))
-  keeps d v a y f is held m (Variable x) = refl
-
-  -- where there is none
-  pub keeps_global : (v : ℕ) (a : Access) (f : Values) (m : ℕ) (c : Cell) → f m c ≡ dropped_by b o k r e (Global v a) f m c
-  keeps_global v a f m (Data c) = gone (nat_eq m r) (not (needs b o k r c.dat c.element)) (pos 0) (f m (Data c))
-  keeps_global v a f m (Variable x) = refl
 
   pub dropped_none : (f : Values) (m : ℕ) (c : Cell) → f m c ≡ dropped b o k r e [] f m c
   dropped_none f m (Data c) = gone (nat_eq m r) (not (needs b o k r c.dat c.element)) (pos 0) (f m (Data c))

@@ -1,18 +1,12 @@
 -- Amounts are merged argument by argument.
-use Rattle.std.proofs.Common.{◌≡◌, ◌<◌, ◌+◌, ℕ, List, [], take, length, get_or, None, refl}
-use Rattle.reductions.specs.declared.access.Access.{Access}
+use Rattle.std.proofs.Common.{◌≡◌, ◌<◌, ◌+◌, ℕ, List, [], take, length, get_or, refl}
 use Rattle.schedule_model.specs.Cells.{Cell}
 use Rattle.bound_program.specs.declared.sites.Arg.{Arg}
-use Rattle.bound_program.specs.declared.sites.Arg.TheVariants.{Global}
 use Rattle.bound_program.specs.Fits.{AllApart}
 use Rattle.run_model.specs.Arguments.{no_arg}
-use Rattle.bound_plan.specs.Variables.{reduction_of}
 use Rattle.chain_stores.specs.Cells.{Values}
 use Rattle.chain_elements.specs.Merging.{amounts_of, merged_by, merged_all}
-use Rattle.chain_elements.proofs.Changes.{unchanged, changed_none, changed_more}
-
-pub unmerged : (r v : ℕ) (a : Access) (f p : Values) → reduction_of a ≡ None → (m : ℕ) (c : Cell) → p m c ≡ merged_by r f (Global v a) p m c
-unmerged r v a f p none m c = unchanged (amounts_of f) (λ z m c. refl) r v a p none m c
+use Rattle.chain_elements.proofs.Changes.{changed_none, changed_more}
 
 pub merged_none : (r : ℕ) (all : List Arg) (f p : Values) (m : ℕ) (c : Cell) → p m c ≡ merged_all r all [] f p m c
 merged_none r all f p m c = changed_none (amounts_of f) (λ z m c. refl) r all p m c

@@ -22,9 +22,6 @@ var_read b xs v x same lt e =
     ap (λ ys. get_or ys v no_var) same ∙ get_or-map var_of xs v x no_var (let n : length b.vars ≡ length xs = ap length same ∙ length-map xs var_of in omega (arith, n, lt)) ∙ ap var_of (sym e)
 
 module _ (b : BoundValue) (fits : ConstantsFit b) (values : VarCell → ℤ) where
-  pub read_none : (list : List ℤ) → AreRead b values 0 list
-  read_none list v first i lt is li = absurd (omega arith)
-
   -- a variable with no constants
   pub read_skipped : (n : ℕ) (list : List ℤ) → (var_at b n).constant ≡ None → AreRead b values n list → AreRead b values (n + 1) list
   read_skipped n list none are v first i lt is li = ⊎_elim

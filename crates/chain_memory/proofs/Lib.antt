@@ -1,5 +1,4 @@
 pub mod Kernels
-pub mod Putting
 pub mod Running
 pub mod Standing
 pub mod Starting

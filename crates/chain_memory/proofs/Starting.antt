@@ -1,5 +1,5 @@
 -- Where dats begin, one after another, and the first values of all cells.
-use Rattle.std.proofs.Common.{◌≡◌, ◌<◌, ◌≤◌, ◌+◌, ◌-◌, ◌*◌, ℕ, suc, ℤ, List, [], ◌∷◌, ◌++◌, append_assoc, flat_map, map, length, take, get_or, refl, sym, ap, ◌∙◌, arith, below_more}
+use Rattle.std.proofs.Common.{◌≡◌, ◌<◌, ◌≤◌, ◌+◌, ◌-◌, ◌*◌, ℕ, suc, ℤ, List, [], ◌∷◌, ◌++◌, append_assoc, flat_map, map, length, take, get_or, sym, ap, ◌∙◌, arith, below_more}
 use Rattle.std.proofs.lemmas.List.{length-append, length-map, get_or-map, get_or_append_left, get_or-append_right, append-nil, map-id, take_more}
 use Rattle.std.proofs.lemmas.List.Concat.{flat_map-append}
 use Rattle.std.proofs.lemmas.List.FromFn.{map-range_with_len_more}
@@ -19,9 +19,6 @@ pushed f n now new is more =
     ∙ sym (ap (flat_map f) next ∙ flat_map-append f (numbers n) (n ∷ []) ∙ ap (λ z. flat_map f (numbers n) ++ z) (append-nil (f n)))
 
 module _ (b : BoundValue) where
-  pub starts_none : AreDatStarts b 0 [] 0
-  starts_none = record { count = refl; each = λ d lt. absurd (omega arith); ends = refl }
-
   -- the next dat ends where the one behind it begins
   pub next_end : (d next : ℕ) → IsDatAt b.mesh d → next ≡ dat_start b d → next + length (dat_values b.mesh d) ≡ dat_start b (d + 1)
   next_end d next is at =

@@ -1,14 +1,14 @@
 -- The loops of a chain, item by item.
-use Rattle.std.proofs.Common.{◌≡◌, ◌<◌, ◌≤◌, ◌+◌, ℕ, suc, false, List, [], ◌∷◌, ◌++◌, length, map, get_or, append_assoc, append-nil, Some, None, refl, sym, ap, subst, ◌∙◌, arith, ⊎_elim}
+use Rattle.std.proofs.Common.{◌≡◌, ◌<◌, ◌+◌, ℕ, suc, false, List, [], ◌∷◌, ◌++◌, length, map, get_or, append_assoc, append-nil, Some, None, refl, sym, ap, subst, ◌∙◌, arith, ⊎_elim}
 use Rattle.std.proofs.lemmas.Bool.{cases_eq}
-use Rattle.std.proofs.lemmas.List.{drop_all, map-append, length_push, get_or_push, get_or_append_left}
+use Rattle.std.proofs.lemmas.List.{map-append, length_push, get_or_push, get_or_append_left}
 use Rattle.schedule_model.specs.Program as program
 use Rattle.schedule_model.specs.Program.{is_free}
 use Rattle.bound_program.specs.Values.{BoundValue, ItemValue, Free, Reduce, Ordered, Host}
 use Rattle.bound_program.specs.Fits.{Fits, site_at}
 use Rattle.run_model.specs.Programs.{kind_of, loop_of, item_at}
 use Rattle.run_model.specs.Laws.{LoopsAreThere, site_of}
-use Rattle.bound_chains.specs.Slices.{free_sites, loops_from}
+use Rattle.bound_chains.specs.Slices.{loops_from}
 use Rattle.bound_chains.proofs.Backwards.{no_loops, next_loop}
 use Rattle.chain_needs.specs.FreeSites.{free_site_of}
 
@@ -41,10 +41,6 @@ module _ (b : BoundValue) where
   pub without_next : (k item : ℕ) (sites : List ℕ) → free_site_of (item_at b k) ≡ None → map (site_at b) sites ++ loops_from b k ≡ loops_from b item → map (site_at b) sites ≡ loops_from b item
   without_next k item sites h same =
       sym (append-nil (map (site_at b) sites)) ∙ (ap (λ z. map (site_at b) sites ++ z) (sym (no_loops b k (free_none (item_at b k) h))) ∙ same)
-
-  pub at_end : (k item : ℕ) (sites : List ℕ) → length b.trace ≤ k → map (site_at b) sites ++ loops_from b k ≡ loops_from b item → map (site_at b) sites ≡ loops_from b item
-  at_end k item sites le same =
-      sym (append-nil (map (site_at b) sites)) ∙ (ap (λ z. map (site_at b) sites ++ z) (sym (ap (free_sites b) (drop_all k b.trace le))) ∙ same)
 
   -- the loop is there
   pub one_there : Fits b → LoopsAreThere → (k s : ℕ) (sites : List ℕ) → free_site_of (item_at b k) ≡ Some s

@@ -106,9 +106,6 @@ module _ (b : BoundValue) (o : Owners) (fits : Fits b) (owners : AreOwners b.mes
       -- ---- what it leaves
 
       module _ (left : List ℤ) (t : Store) (leaves : LeavesPlaced b site.args e (stands_at b o (Some r)) given left seen t) where
-        pub left_count : length left ≡ all_cells b o.ranks
-        left_count = leaves.count ∙ put.count
-
         -- elsewhere all is as it was
         left_else : (m : ℕ) (c : Cell) → m ≤ o.ranks → has_cell b c ≡ true → (m ≡ r → is_reached b site.args e c ≡ true → ⊥) → read b left m c ≡ read b given m c
         left_else m c lm h other = leaves.others (in_block b m c) (λ d rd q.

@@ -1,9 +1,9 @@
 -- What is left of ranks after a step, and which sends are taken.
-use Rattle.std.proofs.Common.{◌≡◌, ℕ, zero, suc, ◌+◌, ◌<◌, ◌≤◌, Bool, true, false, cond, refl, sym, ap, subst, ◌∙◌, arith, ⊎_elim, List, [], ◌∷◌, ◌++◌, length, length-set, get_or, set, map, replicate, Vec, Option, Some, None}
+use Rattle.std.proofs.Common.{◌≡◌, ℕ, ◌<◌, Bool, true, false, cond, refl, sym, ap, ◌∙◌, arith, ⊎_elim, List, [], ◌∷◌, length, length-set, get_or, set, map, Vec, Option, Some, None}
 use Rattle.std.specs.Prelude.{◌==◌, ◌&&◌, IfSome, IfNone}
 use Rattle.std.specs.declared.alloc.Global.{Global}
-use Rattle.std.proofs.lemmas.Bool.{cases_eq, cases_lt, eq-eqb, ne_eqb, cond-true, cond-false, and_from}
-use Rattle.std.proofs.lemmas.List.{get_or-map, map-set, map-append, get_or-set_same, get_or-set_other, get_or_push, get_or_append_left, get_or_past, get_or-replicate, length-map, length-replicate}
+use Rattle.std.proofs.lemmas.Bool.{cases_eq, eq-eqb, ne_eqb, cond-true, cond-false, and_from}
+use Rattle.std.proofs.lemmas.List.{get_or-map, map-set, get_or-set_same, get_or-set_other, length-map}
 use Rattle.schedule_steps.specs.declared.step.Step.{Step}
 use Rattle.drawn_orders.specs.Rests.{rest_of, rests, sent_below}
 use Rattle.drawn_orders.specs.UnderWay.{IsTable}
@@ -106,63 +106,3 @@ table_kept n rows a b x d v la is t = record {
         ∙ (length-set (get_or rows a d).items b x
         ∙ (ap (λ (z : List ℕ). length z) (sym (get_or-map items_of rows a d [] la))
         ∙ (ap (λ z. length (get_or (map items_of rows) z [])) (sym e) ∙ t.wide s lt))))
-
--- one rank more has taken its first step
-pub one_more : (rank : ℕ) (f h tails old first : ℕ → List Step)
-    → ((r : ℕ) → h r ≡ cond (r == rank) (old r) (f r))
-    → ((r : ℕ) → r < rank → f r ≡ first r)
-    → old rank ≡ first rank
-    → (r : ℕ) → r < rank + 1 → h r ≡ first r
-one_more rank f h tails old first is before here r lt = is r ∙ ⊎_elim
-    (λ (e : r ≡ rank). cond-true (r == rank) (old r) (f r) (eq-eqb r rank e) ∙ subst (λ z. old z ≡ first z) (sym e) here)
-    (λ (ne : r ≡ rank → ⊥). cond-false (r == rank) (old r) (f r) (ne_eqb r rank ne) ∙ before r (omega arith))
-    (cases_eq r rank)
-
-abbrev pub zero_row : ℕ → List ℕ
-zero_row n = replicate n 0
-
--- one row more of zeros
-pub table_more : (n k : ℕ) (rows : List (Vec ℕ Global)) (v : Vec ℕ Global) → length rows ≡ k → v.items ≡ zero_row n
-    → ((s : ℕ) → s < k → get_or (map items_of rows) s [] ≡ zero_row n)
-    → (s : ℕ) → s < k + 1 → get_or (map items_of (rows ++ (v ∷ []))) s [] ≡ zero_row n
-table_more n k rows v count is h s lt = ap (λ z. get_or z s []) (map-append items_of rows (v ∷ [])) ∙ ⊎_elim
-    (λ (e : s ≡ k). ap (λ z. get_or (map items_of rows ++ (v.items ∷ [])) z []) e ∙ (get_or_push (map items_of rows) v.items [] k (length-map rows items_of ∙ count) ∙ is))
-    (λ (ne : s ≡ k → ⊥). get_or_append_left (map items_of rows) (v.items ∷ []) [] s (omega (arith, length-map rows items_of)) ∙ h s (omega arith))
-    (cases_eq s k)
-
-pub zeros : (n : ℕ) (rows : List (Vec ℕ Global)) → length rows ≡ n → ((s : ℕ) → s < n → get_or (map items_of rows) s [] ≡ zero_row n)
-    → (s r : ℕ) → sent_below rows s r ≡ 0
-zeros n rows count h s r = ⊎_elim
-    (λ (lt : s < n). ap (λ z. get_or z r 0) (h s lt) ∙ all_zero n r)
-    (λ (le : n ≤ s). ap (λ z. get_or z r 0) (get_or_past (map items_of rows) s [] (omega (arith, length-map rows items_of))) ∙ no_number r)
-    (cases_lt s n)
-  where
-    no_number : (i : ℕ) → get_or {A = ℕ} [] i 0 ≡ 0
-    no_number zero = refl
-    no_number (suc i) = refl
-
-    all_zero : (n r : ℕ) → get_or (zero_row n) r 0 ≡ 0
-    all_zero n r = ⊎_elim
-        (λ (lt : r < n). get_or-replicate {A = ℕ} n r 0 0 lt)
-        (λ (le : n ≤ r). let e : length (zero_row n) ≡ n = length-replicate n 0 in get_or_past (zero_row n) r 0 (omega arith))
-        (cases_lt r n)
-
--- a rank that has a step left is there
-pub rank_there : (heads : List (Option Step)) (tails : List (List Step)) (r : ℕ) (s : Step) (l : List Step) → rests heads tails r ≡ s ∷ l → r < length heads
-rank_there [] tails r s l e = absurd (none r e)
-  where
-    none : (r : ℕ) → rests [] tails r ≡ s ∷ l → ⊥
-    none zero e = cc
-    none (suc r) e = cc
-rank_there (h ∷ heads) tails zero s l e = omega arith
-rank_there (h ∷ heads) tails (suc r) s l e =
-    let lt : r < length heads = rank_there heads (drop_one tails) r s l (ap (λ z. rest_of (get_or heads r None) z) (after tails r) ∙ e) in omega arith
-  where
-    drop_one : List (List Step) → List (List Step)
-    drop_one [] = []
-    drop_one (x ∷ xs) = xs
-
-    after : (tails : List (List Step)) (r : ℕ) → get_or (drop_one tails) r [] ≡ get_or tails (suc r) []
-    after [] zero = refl
-    after [] (suc r) = refl
-    after (x ∷ xs) r = refl

@@ -29,7 +29,7 @@ map_long f [] = refl
 map_long f (x ∷ xs) = ap suc (map_long f xs)
 
 -- the value of a cell that stands once in the list
-found : (xs : List Cell) (ws : List ℤ) (c : Cell) (d : ℤ) (j : ℕ) → length ws ≡ length xs → ((i k : ℕ) → i < length xs → k < length xs → get_or xs i no_cell ≡ get_or xs k no_cell → i ≡ k)
+pub found : (xs : List Cell) (ws : List ℤ) (c : Cell) (d : ℤ) (j : ℕ) → length ws ≡ length xs → ((i k : ℕ) → i < length xs → k < length xs → get_or xs i no_cell ≡ get_or xs k no_cell → i ≡ k)
     → j < length xs → get_or xs j no_cell ≡ c → lookup xs ws c d ≡ get_or ws j (pos 0)
 found [] ws c d j len once lt at = absurd (omega arith)
 found (x ∷ xs) [] c d j len once lt at = absurd (omega arith)
@@ -42,7 +42,7 @@ found (x ∷ xs) (w ∷ ws) c d (suc j) len once lt at = ⊎_elim
     (cases_Bool (one_cell x c))
 
 -- a cell that isn't in the list
-missed : (xs : List Cell) (ws : List ℤ) (c : Cell) (d : ℤ) → ((j : ℕ) → j < length xs → get_or xs j no_cell ≡ c → ⊥) → lookup xs ws c d ≡ d
+pub missed : (xs : List Cell) (ws : List ℤ) (c : Cell) (d : ℤ) → ((j : ℕ) → j < length xs → get_or xs j no_cell ≡ c → ⊥) → lookup xs ws c d ≡ d
 missed [] ws c d absent = refl
 missed (x ∷ xs) [] c d absent = refl
 missed (x ∷ xs) (w ∷ ws) c d absent = ⊎_elim

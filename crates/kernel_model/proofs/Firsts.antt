@@ -38,10 +38,6 @@ pub d_fails : (r : Bool) → Decides (opposite r) (r ≡ false)
 d_fails true = (λ e. absurd (let f : ⊥ = cc in f), λ e. absurd (let f : ⊥ = cc in f))
 d_fails false = (λ e. refl, λ e. refl)
 
-pub d_not : {P : Type 0} → (r : Bool) → Decides r P → Decides (opposite r) (P → ⊥)
-d_not true d = (λ e. absurd (let f : ⊥ = cc in f), λ h. absurd (h (d.0 refl)))
-d_not false d = (λ e p. let k = d.1 p in let f : ⊥ = cc in f, λ h. refl)
-
 pub d_some : {I P : Type 0} → (r : Bool) → I → Decides r P → Decides r ((i : I) × P)
 d_some r i d = d_iff r (λ p. (i, p)) (λ q. q.1) d
 

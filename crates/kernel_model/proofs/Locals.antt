@@ -1,7 +1,6 @@
 -- What a statement keeps of the locals.
-use Rattle.std.proofs.Common.{◌≡◌, ◌≢◌, ℕ, zero, suc, ℤ, pos, negsuc, ◌+◌, ◌-◌, ◌<◌, ◌≤◌, List, length, get_or, set, Result, Ok, Err, Bool, true, false, cond, refl, sym, ◌∙◌, arith, get_or-set_other}
+use Rattle.std.proofs.Common.{◌≡◌, ℕ, zero, suc, ℤ, pos, negsuc, ◌+◌, ◌-◌, ◌<◌, ◌≤◌, List, set, Result, Ok, Err, Bool, true, false, cond, refl, arith}
 use Rattle.std.specs.Prelude.{nat_lt, slice_index_or}
-use Rattle.std.proofs.lemmas.List.{length-set}
 use Rattle.std.proofs.lemmas.Bool.{ltb-true}
 use Rattle.op_num.specs.declared.refusals.Fault.TheVariants.{Index}
 use Rattle.c_lex.specs.declared.tokens.Pos.{Pos}
@@ -67,25 +66,3 @@ module _ (ts : List Target) (consts : List ℤ) where
       kept_row end_of-RStmt h s ls p = p
       kept_row (more_of-RStmt first rest) h s ls p =
           on_done_then P P (meaning ts consts first s ls) (meaning_of_all ts consts rest) (kept first h.0 s ls p) (λ s' ls' q. kept_row rest h.1 s' ls' q)
-
-mutual
-  pub stores_any : (st : RStmt) → StoresOnly (λ k. Unit {0}) st
-  stores_any (Block' shape all) = stores_any_row all
-  stores_any (Declare from count) = λ k a b. tt
-  stores_any (SetScalar k op opat e) = tt
-  stores_any (SetLocal from count form ix at op opat e) = λ k a b. tt
-  stores_any (SetArg a form ix at op opat e) = tt
-  stores_any (If' e p a q b) = (stores_any a, stores_any b)
-  stores_any (For' k first past p body) = (tt, stores_any body)
-
-  stores_any_row : {m : _} → (all : Row_of-RStmt m) → RowStoresOnly (λ k. Unit {0}) all
-  stores_any_row end_of-RStmt = tt
-  stores_any_row (more_of-RStmt first rest) = (stores_any first, stores_any_row rest)
-
-pub length_kept : (ts : List Target) (consts : List ℤ) (n : ℕ) (st : RStmt) (s : Store) (ls : List ℤ) → length ls ≡ n → OnDone (λ l. length l ≡ n) (meaning ts consts st s ls)
-length_kept ts consts n st s ls e =
-    kept ts consts (λ l. length l ≡ n) (λ k. Unit {0}) (λ j v l m p. length-set l j v ∙ p) st (stores_any st) s ls e
-
-pub local_kept : (ts : List Target) (consts : List ℤ) (k : ℕ) (x : ℤ) (st : RStmt) → StoresOnly (λ j. j ≢ k) st → (s : Store) (ls : List ℤ) → get_or ls k (pos 0) ≡ x → OnDone (λ l. get_or l k (pos 0) ≡ x) (meaning ts consts st s ls)
-local_kept ts consts k x st h s ls e =
-    kept ts consts (λ l. get_or l k (pos 0) ≡ x) (λ j. j ≢ k) (λ j v l m p. get_or-set_other l j k v (pos 0) (λ q. m (sym q)) ∙ p) st h s ls e

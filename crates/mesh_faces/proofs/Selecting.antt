@@ -58,9 +58,3 @@ module _ (mates : List ℕ) (n : ℕ) (inner outer : List ℕ) (s : AreFaces mat
 
   pub takes-none : get_or mates n 0 ≤ n → (n ≡ get_or mates n 0 → ⊥) → AreFaces mates (n + 1) inner outer
   takes-none a b = record { inner = skip (IsInner mates) n inner s.inner (λ q. omega (arith, a, q)); outer = skip (IsOuter mates) n outer s.outer b }
-
-pub no-faces : (mates : List ℕ) → AreFaces mates 0 [] []
-no-faces mates = record {
-  inner = record { rises = λ a b h l. absurd (omega (arith, l)); each = λ k l. absurd (omega (arith, l)); all = λ i l p. absurd (omega (arith, l)) };
-  outer = record { rises = λ a b h l. absurd (omega (arith, l)); each = λ k l. absurd (omega (arith, l)); all = λ i l p. absurd (omega (arith, l)) };
-}

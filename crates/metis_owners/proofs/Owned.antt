@@ -1,15 +1,12 @@
 -- From the ranks of one set to owners of all.
-use Rattle.std.proofs.Common.{◌≡◌, ◌<◌, ℕ, zero, suc, true, false, nat_eq, List, [], ◌∷◌, ◌++◌, length, get_or, set, Option, Some, None, Vec, Ok, Err, inl, inr, ◌⊎◌, refl, sym, ap, subst, ◌∙◌, arith}
+use Rattle.std.proofs.Common.{◌≡◌, ◌<◌, ℕ, zero, suc, true, false, nat_eq, List, [], ◌∷◌, ◌++◌, length, get_or, set, Option, Some, None, Vec, Ok, refl, sym, ap, subst, ◌∙◌, arith}
 use Rattle.std.proofs.lemmas.List.{length-set}
 use Rattle.std.specs.declared.alloc.Global.{Global}
 use Rattle.std.proofs.lemmas.Grind.{common_steps}
-use Rattle.mesh_decl.specs.declared.owners.Owners.{Owners}
 use Rattle.mesh_decl.specs.Mesh.{MeshValue, set_count, set_size}
-use Rattle.partition.specs.Derive.{AreGiven, AreDerived, is_given, given_in}
-use Rattle.metis_owners.specs.declared.refusals.MetisRefusal.{MetisRefusal}
-use Rattle.metis_owners.specs.declared.refusals.MetisRefusal.TheVariants.{NoRank, Many, Few, OutOfMemory}
+use Rattle.partition.specs.Derive.{AreGiven, is_given, given_in}
 use Rattle.metis_owners.specs.Numbers.{ranks_in}
-use Rattle.metis_owners.specs.Owned.{AreByMetis, IsRefused, AreOneGiven}
+use Rattle.metis_owners.specs.Owned.{AreOneGiven}
 use Rattle.metis_owners.proofs.Reading.{AreRanks, are_ranks}
 
 -- ---- one set alone is given
@@ -63,17 +60,6 @@ one_given sets xs n v count lt h = record {
 equal : (a b : ℕ) → nat_eq a b ≡ true → a ≡ b
 equal a b e = grind (arith, common_steps, e)
 
-pub refused : (g : MeshValue) (ranks set : ℕ) (bytes : List ℕ) (e : MetisRefusal)
-    → (e ≡ OutOfMemory) ⊎ (ranks_in ranks (set_size g set) bytes ≡ Err e)
-    → IsRefused g ranks set bytes e
-refused g ranks set bytes OutOfMemory h = tt
-refused g ranks set bytes (NoRank l) (inl h) = absurd (let bad : ⊥ = cc in bad)
-refused g ranks set bytes (NoRank l) (inr h) = h
-refused g ranks set bytes (Many l) (inl h) = absurd (let bad : ⊥ = cc in bad)
-refused g ranks set bytes (Many l) (inr h) = h
-refused g ranks set bytes (Few l) (inl h) = absurd (let bad : ⊥ = cc in bad)
-refused g ranks set bytes (Few l) (inr h) = h
-
 module _ (g : MeshValue) (ranks set : ℕ) (bytes owners : List ℕ) (given : List (Option (Vec ℕ Global)))
     (read : ranks_in ranks (set_size g set) bytes ≡ Ok owners) (one : AreOneGiven (set_count g) set owners given) where
   is_set : (s : ℕ) → s < set_count g → is_given given s ≡ true → s ≡ set
@@ -90,19 +76,4 @@ module _ (g : MeshValue) (ranks set : ℕ) (bytes owners : List ℕ) (given : Li
         subst (λ k. get_or (given_in given k) x 0 < ranks) (sym (is_set s lt e))
         (subst (λ l. get_or l x 0 < ranks) (sym one.owners_of)
         (known.below x (let n = known.count in let low : x < set_size g set = subst (λ k. x < set_size g k) (is_set s lt e) lx in omega (arith, n, low))));
-  }
-
-  pub derived_so : (o : Owners) → o.ranks ≡ ranks → AreDerived g o (λ s. is_given given s) (λ s. given_in given s) → AreByMetis g ranks set bytes o
-  derived_so o count d = record {
-    numbers = owners;
-    read = read;
-    count = count;
-    derived = record {
-      owners = d.owners;
-      turn = d.turn;
-      given_first = λ s lt. sym (one.is s lt) ∙ d.given_first s lt;
-      kept = λ s lt e. (let same : is_given given s ≡ true = one.is s lt ∙ e in
-          d.kept s lt same ∙ subst (λ k. given_in given k ≡ owners) (sym (is_set s lt same)) one.owners_of);
-      next = λ s lt e. d.next s lt (one.is s lt ∙ e);
-    };
   }

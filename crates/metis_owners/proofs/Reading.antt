@@ -1,12 +1,12 @@
 -- The ranks of a text, token by token.
-use Rattle.std.proofs.Common.{◌≡◌, ◌<◌, ◌+◌, ◌-◌, ℕ, zero, suc, Bool, true, false, nat_lt, List, [], ◌∷◌, ◌++◌, length, get_or, Option, Some, None, Result, Ok, Err, IsErrAnd, if◌then◌else◌, refl, sym, ap, subst, ◌∙◌, inr, arith, append_assoc, append-nil}
+use Rattle.std.proofs.Common.{◌≡◌, ◌<◌, ◌+◌, ◌-◌, ℕ, zero, suc, Bool, true, false, nat_lt, List, [], ◌∷◌, ◌++◌, length, get_or, Option, Some, None, Result, Ok, Err, IsErrAnd, if◌then◌else◌, refl, sym, ap, subst, ◌∙◌, inr, arith, append_assoc}
 use Rattle.std.proofs.lemmas.Bool.{ltb-true}
 use Rattle.std.proofs.lemmas.Result.{err_from_is_err_and}
 use Rattle.op_num.specs.Spelling.{number_of}
 use Rattle.texts.specs.Cut.{Word, Uncut, first_of, rest_of}
 use Rattle.texts.specs.Automaton.{after, onto, Answers}
 use Rattle.metis_owners.specs.declared.refusals.MetisRefusal.{MetisRefusal}
-use Rattle.metis_owners.specs.declared.refusals.MetisRefusal.TheVariants.{Many, Few, NoRank}
+use Rattle.metis_owners.specs.declared.refusals.MetisRefusal.TheVariants.{Many, NoRank}
 use Rattle.metis_owners.specs.Numbers.{ranked, rank_on, judged}
 
 -- one more in front of those to come, and these behind what was found
@@ -19,13 +19,6 @@ module _ (ranks : ℕ) (all : Result (List ℕ) MetisRefusal) where
   -- with those of so many elements that are left, the first of which stands on this line, what was found is all
   abbrev pub Is : (left line : ℕ) → Uncut → List ℕ → Type 0
   Is left line u found = onto (judged ranks left line u.words) (λ rs. found ++ rs) ≡ all
-
-  few_at : (n line : ℕ) (u : Uncut) (found : List ℕ) → first_of u ≡ None → Is (suc n) line u found → all ≡ Err (Few line)
-  few_at n line u found e h = by u.words e h
-    where
-      by : (ws : List Word) → first_of (record { last = u.last; words = ws }) ≡ None → onto (judged ranks (suc n) line ws) (λ rs. found ++ rs) ≡ all → all ≡ Err (Few line)
-      by [] e h = sym h
-      by (w ∷ ws) e h = absurd (let bad : ⊥ = cc in bad)
 
   unranked_at : (n line : ℕ) (u : Uncut) (found : List ℕ) (w : Word) (e : MetisRefusal) → first_of u ≡ Some w → rank_on ranks line w ≡ Err e
       → Is (suc n) line u found
@@ -68,10 +61,6 @@ module _ (ranks : ℕ) (all : Result (List ℕ) MetisRefusal) where
       → Is (suc (elements - (element + 1))) (element + 1) u found
   more_left elements element u found lt h = subst (λ k. Is k (element + 1) u found) (one_left elements element lt) h
 
-  pub few : (elements element : ℕ) (u : Uncut) (found : List ℕ) → element < elements → first_of u ≡ None → Before elements element u found
-      → all ≡ Err (Few (element + 1))
-  few elements element u found lt e h = few_at (elements - (element + 1)) (element + 1) u found e (more_left elements element u found lt h)
-
   pub unranked : (elements element : ℕ) (u : Uncut) (found : List ℕ) (w : Word) (e : MetisRefusal) → element < elements → first_of u ≡ Some w
       → rank_on ranks (element + 1) w ≡ Err e
       → Before elements element u found
@@ -87,36 +76,12 @@ module _ (ranks : ℕ) (all : Result (List ℕ) MetisRefusal) where
       subst (λ k. Is (elements - (element + 1)) k (rest_of u) (found ++ r ∷ [])) (one_more (element + 1))
       (taken_at (elements - (element + 1)) (element + 1) u found w r first e (more_left elements element u found lt h))
 
-  none_left : (elements element : ℕ) (u : Uncut) (found : List ℕ) → elements - element ≡ 0 → Before elements element u found → Is 0 (element + 1) u found
-  none_left elements element u found e h = subst (λ k. Is k (element + 1) u found) e h
-
-  pub many : (elements element : ℕ) (u : Uncut) (found : List ℕ) (w : Word) → elements - element ≡ 0 → first_of u ≡ Some w → Before elements element u found
-      → all ≡ Err (Many w.line)
-  many elements element u found w left first h = by u.words first (none_left elements element u found left h)
-    where
-      by : (ws : List Word) → first_of (record { last = u.last; words = ws }) ≡ Some w → onto (judged ranks 0 (element + 1) ws) (λ rs. found ++ rs) ≡ all → all ≡ Err (Many w.line)
-      by [] first h = absurd (let bad : ⊥ = cc in bad)
-      by (x ∷ ws) first h = (let same : x ≡ w = cc in subst (λ (z : Word). all ≡ Err (Many z.line)) same (sym h))
-
-  pub complete : (elements element : ℕ) (u : Uncut) (found : List ℕ) → elements - element ≡ 0 → first_of u ≡ None → Before elements element u found
-      → all ≡ Ok found
-  complete elements element u found left first h = by u.words first (none_left elements element u found left h)
-    where
-      by : (ws : List Word) → first_of (record { last = u.last; words = ws }) ≡ None → onto (judged ranks 0 (element + 1) ws) (λ rs. found ++ rs) ≡ all → all ≡ Ok found
-      by [] first h = sym h ∙ ap Ok (append-nil found)
-      by (x ∷ ws) first h = absurd (let bad : ⊥ = cc in bad)
-
 -- a refusal that `?` passes on
 pub refused_on : {M : Type 0} (lost e : MetisRefusal) (r : Result M MetisRefusal) (view : M → List ℕ) (all : Result (List ℕ) MetisRefusal)
     → IsErrAnd r (λ y. y ≡ e)
     → all ≡ Err e
     → Answers lost r view all
 refused_on lost e r view all h k = let g = err_from_is_err_and r h in rw (g.1, g.2) (inr k)
-
--- at the start nothing was found
-pub started : (r : Result (List ℕ) MetisRefusal) → onto r (λ rs. [] ++ rs) ≡ r
-started (Ok xs) = refl
-started (Err e) = refl
 
 -- ---- what the ranks are
 

@@ -1,13 +1,13 @@
 -- Lines of numbers, word by word and line by line.
 use Rattle.std.proofs.Common.{◌≡◌, ℕ, zero, suc, ◌+◌, ◌-◌, ◌<◌, Bool, true, false, ◌&&◌, ◌↔◌, Option, Some, None, Bor, Result, Ok, Err, List, [], ◌∷◌, ◌++◌, length, refl, sym, ap, ◌∙◌, arith}
-use Rattle.std.proofs.Common.{append_assoc, append-nil, length-append, get_or, nat_eq, subst}
+use Rattle.std.proofs.Common.{append_assoc, length-append}
 use Rattle.std.proofs.lemmas.Bool.{and_parts}
 use Rattle.std.proofs.lemmas.List.{flat_map_more}
 use Rattle.std.proofs.lemmas.List.Elements.{All-append, All-cons, All-nil}
 use Rattle.std.specs.Prelude.{All, ℤ, is_ok, is_err, is_some, not, MatchOption}
 use Rattle.op_num.specs.Spelling.{integer_of, i32_judged}
-use Rattle.line_texts.specs.Lines.{Unread, Takes, HasNoLf, words}
-use Rattle.output_fields.specs.Numbers.{IsNumber, HasNumbers, lines_text, AreNumberLines, IsOther}
+use Rattle.line_texts.specs.Lines.{Unread, Takes, words}
+use Rattle.output_fields.specs.Numbers.{IsNumber, HasNumbers, lines_text}
 
 -- ---- words
 
@@ -109,9 +109,6 @@ pub record ArePassed (n : ℕ) (text : List ℕ) (u : Unread) : Type 0 where
   pub each : All (HasNumbers n) lines
   pub count : length lines ≡ u.taken
 
-pub none_passed : (n : ℕ) (text : List ℕ) (u : Unread) → u ≡ record { taken = 0; rest = text } → ArePassed n text u
-none_passed n text u e = subst (ArePassed n text) (sym e) (record { lines = []; whole = refl; each = All-nil (HasNumbers n); count = refl })
-
 more_passed : (line rest : List ℕ) (lines : List (List ℕ))
     → lines_text lines ++ (line ++ 10 ∷ rest) ≡ lines_text (lines ++ line ∷ []) ++ rest
 more_passed line rest lines =
@@ -127,47 +124,3 @@ passed_more n text old new line p t h = record {
   each = All-append (HasNumbers n) p.lines (line ∷ []) p.each (All-cons (HasNumbers n) line [] h (All-nil (HasNumbers n)));
   count = length-append p.lines (line ∷ []) ∙ ap (λ k. k + 1) p.count ∙ sym t.taken;
 }
-
-pub all_passed : (n : ℕ) (text : List ℕ) (u : Unread) → ArePassed n text u → u.rest ≡ [] → AreNumberLines n text
-all_passed n text u p e = record { lines = p.lines; whole = p.whole ∙ ap (λ x. lines_text p.lines ++ x) e ∙ append-nil (lines_text p.lines); each = p.each }
-
--- two texts whose first lines are the same
-abbrev OneLine : Type 0
-OneLine = (line other rest more : List ℕ) → HasNoLf line → HasNoLf other → line ++ 10 ∷ rest ≡ other ++ 10 ∷ more
-    → (line ≡ other) × (rest ≡ more)
-
-stops : (n : ℕ) (text : List ℕ) (u : Unread) → ArePassed n text u → (u.rest ≡ [] → ⊥)
-    → ((line more : List ℕ) → HasNoLf line → u.rest ≡ line ++ 10 ∷ more → HasNumbers n line → ⊥) → IsOther n text u.taken
-stops n text u p some none = record {
-  lines = p.lines;
-  rest = u.rest;
-  whole = p.whole;
-  each = p.each;
-  count = p.count;
-  goes_on = some;
-  none = none;
-}
-
--- it goes on with a line that hasn't them
-pub other_here : OneLine → (n : ℕ) (text : List ℕ) (old new : Unread) (line : List ℕ)
-    → ArePassed n text old → (old.rest ≡ [] → ⊥) → Takes old new line → (HasNumbers n line → ⊥) → IsOther n text old.taken
-other_here law n text old new line p some t isnt =
-    stops n text old p some
-    (λ l more free e h. isnt (subst (HasNumbers n) (sym (law line l new.rest more t.no_lf free (sym t.whole ∙ e)).0) h))
-
-lf_there : (line more : List ℕ) → get_or (line ++ 10 ∷ more) (length line) 0 ≡ 10
-lf_there [] more = refl
-lf_there (b ∷ bs) more = lf_there bs more
-
-has_lf : (line more rest : List ℕ) → HasNoLf rest → rest ≡ line ++ 10 ∷ more → ⊥
-has_lf line more rest free e =
-    let at : nat_eq (get_or rest (length line) 0) 10 ≡ false =
-    free (length line) 0 (omega (arith, ap length e, length-append line (10 ∷ more))) in
-    let is : get_or rest (length line) 0 ≡ 10 = ap (λ x. get_or x (length line) 0) e ∙ lf_there line more in
-    let t : nat_eq (get_or rest (length line) 0) 10 ≡ true = ap (λ k. nat_eq k 10) is in
-    cc
-
--- it goes on with bytes that are no line
-pub no_line_here : (n : ℕ) (text : List ℕ) (u : Unread)
-    → ArePassed n text u → (u.rest ≡ [] → ⊥) → HasNoLf u.rest → IsOther n text u.taken
-no_line_here n text u p some free = stops n text u p some (λ l more f e h. has_lf l more u.rest free e)

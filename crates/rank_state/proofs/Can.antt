@@ -13,7 +13,7 @@ use Rattle.rank_state.specs.declared.spans.Span.{Span}
 use Rattle.rank_state.specs.declared.scalars.Scalar.{Scalar}
 use Rattle.rank_state.specs.declared.scalars.Scalar.TheVariants.{Value, Amount}
 use Rattle.rank_state.specs.Spans.{Within, total}
-use Rattle.rank_state.specs.Windows.{span_cells, scalar_cells, Reads, InSlots, Merges}
+use Rattle.rank_state.specs.Windows.{Reads, InSlots, Merges}
 use Rattle.rank_state.specs.Frames.{Pane, Shut, Broken, Holds, pane_at, Enough, Exactly}
 use Rattle.rank_state.specs.declared.owned.Owned.{Owned}
 use Rattle.rank_state.specs.Machine.{State}

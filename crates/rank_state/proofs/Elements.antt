@@ -1,7 +1,7 @@
 -- An element of an Ordered loop: its windows, and what it leaves.
 use Rattle.std.proofs.Common.{◌≡◌, ℕ, zero, suc, ℤ, pos, ◌+◌, ◌<◌, ◌≤◌, false, cond, refl, sym, ap, ap₂, subst, ◌∙◌, arith, ⊎_elim, List, [], ◌∷◌, ◌++◌, map, length, take, drop, get_or, set, get_or-set_same, get_or-set_other, length-set, length-drop, append_assoc}
 use Rattle.std.specs.Prelude.{◌==◌}
-use Rattle.std.proofs.lemmas.Bool.{cases_Bool, cases_eq, false≢true, false_from_ne_true, cond-true, cond-false}
+use Rattle.std.proofs.lemmas.Bool.{cases_eq, false_from_ne_true, cond-true, cond-false}
 use Rattle.std.proofs.lemmas.List.{append-nil, map-append, ext_get_or, drop-drop}
 use Rattle.std.proofs.Math.Seq.{drop-cons}
 use Rattle.schedule_model.specs.Cells.{Cell, Data, Variable, DatCell, VarCell, same_cell}
@@ -18,7 +18,7 @@ use Rattle.rank_state.specs.Shows.{Tables, Indexed, Shows}
 use Rattle.rank_state.specs.Ordered.{total_all, gathered_all, scattered_all, index_cells, put_values, owned_cells, OwnedBy, InVariables, AreOwned, put_back, all_windows}
 use Rattle.rank_state.specs.Indices.{values_at}
 use Rattle.rank_state.proofs.Scatters.{LookUp}
-use Rattle.rank_state.proofs.Rows.{updated_at, updated_length, rows_length, rows_at}
+use Rattle.flat_machine.proofs.Rows.{updated_at, updated_length, rows_length, rows_at}
 use Rattle.rank_state.proofs.Ordered.{row_looked_up, scatter_wide}
 
 -- the values of a part of a buffer

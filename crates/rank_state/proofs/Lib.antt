@@ -4,7 +4,6 @@ pub mod Scatters
 pub mod Panes
 pub mod Faults
 pub mod Amounts
-pub mod Rows
 pub mod Reduces
 pub mod Can
 pub mod Joins

@@ -6,7 +6,7 @@ use Rattle.std.proofs.lemmas.List.{length-map}
 use Rattle.schedule_model.specs.Program.{Ordered, is_loop, elements}
 use Rattle.schedule_model.specs.Setup.{Setup}
 use Rattle.schedule_model.specs.Sequential.{Stop}
-use Rattle.flat_machine.specs.Layout.{Layout, Core, Faults, Leaves, IsLayout}
+use Rattle.flat_machine.specs.Layout.{Layout, Faults, Leaves, IsLayout}
 use Rattle.flat_machine.specs.Flat.{Flat, variable, owned, element_flat, loop_flat}
 use Rattle.rank_state.specs.declared.owned.Owned.{Owned}
 use Rattle.rank_state.specs.Machine.{State}
@@ -17,10 +17,6 @@ use Rattle.rank_state.proofs.Elements.{windows_owned, element_leaves}
 use Rattle.rank_state.proofs.Steps.{constants_are}
 
 module _ {F : Type 0} (p : Setup F) (l : Layout F) (t : Tables) (q : Indexed p l t) (z : IsLayout p l) (law : LookUp) (k : ℕ) (f : Flat F) where
-  -- what the flat machine runs
-  flat_run : ℕ → Flat F → Core F
-  flat_run e g = l.core k e (map (variable p l g) l.constants) (map (owned p l g) (l.cells k e))
-
   run_same : (st : State F) (g : Flat F) → Shows p l t st g → (e : ℕ) (spans : List Owned) (indices : List ℕ) → AreOwned p l t k e spans indices
       → run_of l t k e spans indices st ≡ l.core k e (map (variable p l g) l.constants) (map (owned p l g) (l.cells k e))
   run_same st g h e spans indices o = ap₂ (l.core k e) (constants_are p l t q st g h) (windows_owned p l t q st g h k e spans indices o)

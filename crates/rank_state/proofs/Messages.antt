@@ -7,7 +7,7 @@ use Rattle.schedule_model.specs.Setup.{Setup}
 use Rattle.schedule_model.specs.Machine.{put2, arrives}
 use Rattle.flat_machine.specs.Layout.{Layout}
 use Rattle.flat_machine.specs.Flat as flat
-use Rattle.flat_machine.specs.Flat.{Flat, read, variable, window, packed, change, take_post, open_pane, close_pane, flat_step}
+use Rattle.flat_machine.specs.Flat.{Flat, read, packed, take_post, flat_step}
 use Rattle.flat_machine.specs.Scatter.{looked_up}
 use Rattle.rank_state.specs.declared.spans.Span.{Span}
 use Rattle.rank_state.specs.Spans.{Within, total, gathered, scattered}

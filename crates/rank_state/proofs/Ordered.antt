@@ -2,7 +2,7 @@
 use Rattle.std.proofs.Common.{◌≡◌, ℕ, zero, suc, ℤ, ◌+◌, ◌<◌, ◌≤◌, Bool, true, false, cond, ◌⊎◌, inl, inr, refl, sym, ap, subst, ◌∙◌, arith, ⊎_elim, List, [], ◌∷◌, ◌++◌, length, drop, get_or, set, get_or-set_same, get_or-set_other, length-set, length-drop, append_assoc, add-zero}
 use Rattle.std.specs.Prelude.{◌==◌}
 use Rattle.std.proofs.lemmas.Bool.{cases_eq, false≢true, or_cases, eq-eqb, ne_eqb, eqb-true}
-use Rattle.std.proofs.lemmas.List.{map-append, ext_get_or, drop-drop}
+use Rattle.std.proofs.lemmas.List.{drop-drop}
 use Rattle.schedule_model.specs.Cells.{Cell, Data, DatCell, VarCell, same_cell}
 use Rattle.schedule_model.specs.Tests.{same_cell_true}
 use Rattle.schedule_model.specs.Setup.{Setup, owner_of}

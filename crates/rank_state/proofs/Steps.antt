@@ -14,14 +14,14 @@ use Rattle.schedule_model.specs.Machine.{put2, merge_at, window_of}
 use Rattle.schedule_model.specs.Kept.{kept}
 use Rattle.flat_machine.specs.Layout.{Layout, Core, Faults, Leaves, IsLayout, lookup, by_place}
 use Rattle.flat_machine.specs.Flat as flat
-use Rattle.flat_machine.specs.Flat.{Flat, read, variable, window, packed, change, take_post, open_pane, close_pane, flat_step}
+use Rattle.flat_machine.specs.Flat.{Flat, read, variable, window, open_pane, close_pane, flat_step}
 use Rattle.flat_machine.specs.Scatter.{looked_up}
 use Rattle.rank_state.specs.declared.spans.Span.{Span}
 use Rattle.rank_state.specs.declared.scalars.Scalar.{Scalar}
 use Rattle.rank_state.specs.declared.scalars.Scalar.TheVariants.{Value, Amount}
 use Rattle.rank_state.specs.Spans.{Within, total}
 use Rattle.rank_state.specs.Windows.{index, first, span_cells, scalar_cells, amounts, has_slot}
-use Rattle.rank_state.specs.Frames.{Pane, Shut, Broken, Holds, pane_at, with_pane, pane_after, closed}
+use Rattle.rank_state.specs.Frames.{Pane, Shut, Broken, Holds, pane_at, with_pane, closed}
 use Rattle.rank_state.specs.Machine.{State, row, windows_of, begun_as, begun, merged_pane, ended}
 use Rattle.rank_state.specs.Shows.{Tables, variables_from, Indexed, IsScalar, AreScalars, AreWindows, Sized, Shows, pane_in}
 use Rattle.rank_state.proofs.Gathers.{AtFirst, gather_cells, gather_scalars}

@@ -9,22 +9,6 @@ use Rattle.rows.proofs.Reading.{length_parts, parts_at, length_rooms, rooms_at, 
 abbrev pub AreSums : List ℕ → List ℕ → ℕ → Type 0
 AreSums sums lengths n = (k : ℕ) → k < n → get_or sums k 0 + get_or lengths k 0 ≡ get_or sums (k + 1) 0
 
-pub sums_more : (starts lengths : List ℕ) (end next n : ℕ) → length starts ≡ n → AreSums (starts ++ end ∷ []) lengths n → next ≡ end + get_or lengths n 0 → AreSums ((starts ++ end ∷ []) ++ next ∷ []) lengths (n + 1)
-sums_more starts lengths end next n e h q k l =
-    let p = length_push starts end in
-    let here : get_or ((starts ++ end ∷ []) ++ next ∷ []) k 0 ≡ get_or (starts ++ end ∷ []) k 0 = get_or_append_left (starts ++ end ∷ []) (next ∷ []) 0 k (omega (arith, p, e, l)) in
-    ⊎_elim
-    (λ (s : k ≡ n).
-    let a : get_or (starts ++ end ∷ []) k 0 ≡ end = get_or_push starts end 0 k (e ∙ sym s) in
-    let b : get_or ((starts ++ end ∷ []) ++ next ∷ []) (k + 1) 0 ≡ next = get_or_push (starts ++ end ∷ []) next 0 (k + 1) (omega (arith, p, e, s)) in
-    let v : get_or lengths k 0 ≡ get_or lengths n 0 = ap (λ z. get_or lengths z 0) s in
-    omega (arith, here, a, b, v, q))
-    (λ (s : k ≡ n → ⊥).
-    let b : get_or ((starts ++ end ∷ []) ++ next ∷ []) (k + 1) 0 ≡ get_or (starts ++ end ∷ []) (k + 1) 0 = get_or_append_left (starts ++ end ∷ []) (next ∷ []) 0 (k + 1) (omega (arith, p, e, l, s)) in
-    let o = h k (omega (arith, l, s)) in
-    omega (arith, here, b, o))
-    (cases_eq k n)
-
 pub sums_rise : (sums lengths : List ℕ) (n : ℕ) → AreSums sums lengths n → (i j : ℕ) → i ≤ j → j ≤ n → get_or sums i 0 ≤ get_or sums j 0
 sums_rise sums lengths n h i zero le l = let e : i ≡ 0 = omega arith in rw e (omega arith)
 sums_rise sums lengths n h i (suc j) le l = ⊎_elim

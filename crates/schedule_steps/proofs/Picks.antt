@@ -48,15 +48,6 @@ module _ (t : ℕ → Bool) where
       (cases_Bool (t n)))
       (cases_lt (first_below t n) n)
 
-  pub first_le : (n : ℕ) → first_below t n ≤ n
-  first_le zero = omega arith
-  first_le (suc n) = at (first n)
-    where
-      at : First n → first_below t (suc n) ≤ suc n
-      at (found l e) = omega arith
-      at (here l h e) = omega arith
-      at (none l h e) = omega arith
-
   -- no lesser number meets the test
   pub first_low : (n i : ℕ) → i < first_below t n → t i ≡ false
   first_low zero i lt = absurd (omega arith)

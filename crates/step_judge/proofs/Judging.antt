@@ -1,7 +1,7 @@
 -- What a checker answers, by what the marks say.
 use Rattle.std.proofs.Common.{◌≡◌, Bool, true, false, cond, refl, sym, ap, ◌∙◌, List, [], ◌∷◌, ◌++◌, Option, Some, None, Err}
 use Rattle.std.specs.Prelude.{◌&&◌, ◌↔◌, not, is_none}
-use Rattle.std.proofs.lemmas.Bool.{false≢true, and_parts, or_left, or_right}
+use Rattle.std.proofs.lemmas.Bool.{or_left, or_right}
 use Rattle.schedule_steps.specs.Outline.{Outline}
 use Rattle.schedule_steps.specs.declared.step.Step.{Step}
 use Rattle.schedule_steps.specs.Steps.{IsStep, Earlier, same, has, Accepted}
@@ -20,20 +20,8 @@ first_same f g (s ∷ l) e =
     ap (λ b. cond b (Some s) (first_of f l)) (e s (or_left (same s s) (has l s) (same_refl s)))
     ∙ ap (λ z. cond (g s) (Some s) z) (first_same f g l (λ t h. e t (or_right (same t s) (has l t) h)))
 
-none_is : (x : Option Step) → is_none x ≡ true → x ≡ None
-none_is None h = refl
-none_is (Some t) h = absurd (false≢true h)
-
--- a step that the plan hasn't
-pub unplanned : (o : Outline) (m : Step → Bool) (s : Step) → is_step o s ≡ false → Err NoSuchStep ≡ judged o m s
-unplanned o m s h = sym (ap (λ b. cond b (cond (m s) (Err Repeated) (too_early (missing o m s))) (Err NoSuchStep)) h)
-
 pub planned : (o : Outline) (m : Step → Bool) (s : Step) → is_step o s ≡ true → judged o m s ≡ cond (m s) (Err Repeated) (too_early (missing o m s))
 planned o m s h = ap (λ b. cond b (cond (m s) (Err Repeated) (too_early (missing o m s))) (Err NoSuchStep)) h
-
--- a step that was taken
-pub repeated : (o : Outline) (m : Step → Bool) (s : Step) → is_step o s ≡ true → m s ≡ true → Err Repeated ≡ judged o m s
-repeated o m s h t = sym (planned o m s h ∙ ap (λ b. cond b (Err Repeated) (too_early (missing o m s))) t)
 
 -- a step that wasn't
 pub untaken : (o : Outline) (m : Step → Bool) (s : Step) (x : Option Step) → is_step o s ≡ true → m s ≡ false → missing o m s ≡ x → too_early x ≡ judged o m s
@@ -51,18 +39,6 @@ module _ (v : Marked) (o : Outline)
 
     there : (t : Step) → IsStep (outline_of v) t → IsStep o t
     there t h = (step_tests o t).0 (sym (steps t) ∙ (step_tests (outline_of v) t).1 h)
-
-    -- nothing is missing of a step that is ready
-    pub ready_none : (s : Step) → IsStep (outline_of v) s → taken v s ≡ false → IsReady v s → missing o (taken v) s ≡ None
-    ready_none s st open_step ready =
-        let takes : Takes o (taken v) s = record {
-          planned = there s st;
-          untaken = open_step;
-          after = λ t ts e. ready t (here t ts) ((earlier_tests (outline_of v) t s).0 (earlier t s (here t ts) st ∙ (earlier_tests o t s).1 e));
-        } in
-        let may : may_take o (taken v) s ≡ true = (takes_tests o (taken v) s).1 takes in
-        let a : (is_step o s ≡ true) × ((not (taken v s) && is_none (missing o (taken v) s)) ≡ true) = and_parts (is_step o s) (not (taken v s) && is_none (missing o (taken v) s)) may in
-        none_is (missing o (taken v) s) (and_parts (not (taken v s)) (is_none (missing o (taken v) s)) a.1).1
 
     -- something is missing of a step that isn't
     pub none_ready : (s : Step) → IsStep (outline_of v) s → taken v s ≡ false → missing o (taken v) s ≡ None → IsReady v s
