@@ -77,12 +77,12 @@ fn gated<R: Threads + Sync, G: Gate>(
 }
 
 // A run of a source over a mesh with these options.
-fn gated_source<R: Threads + Sync, G: Gate>(
+fn gated_source<'a, R: Threads + Sync, G: Gate>(
     rt: &R,
     alloc: Global,
-    source: &str,
+    source: &'a str,
     options: &[&str],
-    mesh: &str,
+    mesh: &'a str,
     gate: &G,
 ) -> Result<Ended, AllocError> {
     let mut shelf = MemoryShelf::new(alloc, Vec::new(alloc));
