@@ -60,8 +60,9 @@ kept_of_all o [] = o
 kept_of_all o (s ∷ ss) = kept_of_all (kept_both o s.fault) ss
 
 -- the elements ran on parts that were lent what the ranks have; the ranks have what these left, and the faults are put together
-pub record RanLent (c : DistributedProgram) (k : ℕ) (vs : List ℤ) (lists : List (Vec ℕ Global)) (ms ps : List (Vec ℤ Global)) (xs : List RankPart)
-    (fault : Option (Stop KernelFault)) (ns qs : List (Vec ℤ Global)) (ys : List RankPart) (kept : Option (Stop KernelFault)) : Type 0 where
+pub record RanLent (c : DistributedProgram) (k : ℕ) (vs : List ℤ) (lists : List (Vec ℕ Global))
+    (ms ps : List (Vec ℤ Global)) (xs : List RankPart) (fault : Option (Stop KernelFault))
+    (ns qs : List (Vec ℤ Global)) (ys : List RankPart) (kept : Option (Stop KernelFault)) : Type 0 where
   pub left : List RankPart
   pub made : MadeEach (RanOn c k vs lists) 0 (lent ms ps xs) left
   pub memories : ns ≡ map (λ x. x.memory) left
@@ -70,8 +71,8 @@ pub record RanLent (c : DistributedProgram) (k : ℕ) (vs : List ℤ) (lists : L
   pub fault_is : kept ≡ kept_of_all fault (map share_in left)
 
 -- on each of the first n ranks the elements at its places ran, from no fault
-abbrev pub RanOnRanks : {F : Type 0} → (p : Setup F) → (l : Layout F) → (t : Tables) → (k : ℕ) → (cs vs : List ℤ) → (places : ℕ → List ℕ)
-    → State F → (ℕ → Share F) → ℕ → Type 0
+abbrev pub RanOnRanks : {F : Type 0} → (p : Setup F) → (l : Layout F) → (t : Tables) → (k : ℕ) → (cs vs : List ℤ)
+    → (places : ℕ → List ℕ) → State F → (ℕ → Share F) → ℕ → Type 0
 RanOnRanks p l t k cs vs places old new n =
     (r : ℕ) → r < n → Reaches p l t k r cs vs (places r) (with_fault None (share_of r old)) (length (places r)) (new r)
 

@@ -47,7 +47,8 @@ impl Machine {
         requires sized { Sized (setup_in program.now) (layout_in program.now) (tables_in program.now) self.old }
         requires steps { (r : ℕ) → r < length parts.old
             → AllBegin (setup_in program.now) (layout_in program.now) (tables_in program.now) item r (places_on lists.now r) }
-        requires constants { All (λ x. x.room.constants.items ≡ values_at self.old.variables (tables_in program.now).constants) parts.old }
+        requires constants { All
+            (λ x. x.room.constants.items ≡ values_at self.old.variables (tables_in program.now).constants) parts.old }
         requires space { All (λ x. HasRoomOf program.now x.room) parts.old }
         ensures ran { (news : List (Share KernelFault)) × (length news ≡ length parts.old)
             × RanOnRanks (setup_in program.now) (layout_in program.now) (tables_in program.now) item
