@@ -1,5 +1,5 @@
 -- The end of the walk: components that some path leaves unwritten.
-use Rattle.std.proofs.Common.{◌≡◌, ℕ, zero, suc, ◌+◌, ◌-◌, ◌<◌, ◌≤◌, List, length, get_or, Option, None, Bool, true, false, ◌&&◌, ◌||◌, refl, sym, ap, ◌∙◌, subst, ◌⊎◌, inl, inr, ⊎_elim, arith, add-one}
+use Rattle.std.proofs.Common.{◌≡◌, ℕ, zero, suc, ◌+◌, ◌-◌, ◌<◌, ◌≤◌, List, Option, None, Bool, true, false, ◌&&◌, ◌||◌, refl, sym, ap, ◌∙◌, ◌⊎◌, ⊎_elim, arith, add-one}
 use Rattle.std.proofs.lemmas.Bool.{cases_lt}
 use Rattle.std.proofs.Math.Path.{fun_ext}
 use Rattle.c_lex.specs.declared.tokens.Pos.{Pos}
@@ -42,9 +42,6 @@ end_step place modes c d h a n b at found next lt e f g =
     ap (λ j. ends_found place modes c j (n - (a + 1)) next) (add-one a)
     ∙ ap (ends_found place modes c (suc a) (n - (a + 1))) (g ∙ ap (λ x. noted_if x NotAllWritten at found) same ∙ ap (λ x. noted_if (leaves_unwritten modes c a) NotAllWritten x found) f)
     ∙ sym (ap (λ j. ends_found place modes c a j found) m)
-
-pub end_over : (place : ℕ → Pos) (modes : List Mode) (c : Covered) (a n : ℕ) (found : Option Breach) → n ≤ a → ends_found place modes c a (n - a) found ≡ found
-end_over place modes c a n found le = let e : n - a ≡ 0 = omega arith in ap (λ j. ends_found place modes c a j found) e
 
 -- ---- the start
 

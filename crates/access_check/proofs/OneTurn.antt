@@ -1,5 +1,5 @@
 -- One turn of a for is enough, where no static index in its body names its counter: it finds all that all turns find, and covers all that they cover.
-use Rattle.std.proofs.Common.{◌≡◌, ℕ, zero, suc, ℤ, pos, ◌⊎◌, inl, inr, ◌+◌, ◌-◌, ◌<◌, ◌≤◌, Bool, true, false, List, refl, sym, ap, ◌∙◌, subst, arith}
+use Rattle.std.proofs.Common.{◌≡◌, ℕ, zero, suc, pos, ◌⊎◌, inl, inr, ◌+◌, ◌-◌, ◌<◌, ◌≤◌, Bool, false, List, refl, sym, ap, ◌∙◌, arith}
 use Rattle.std.proofs.Math.Path.{fun_ext}
 use Rattle.kernel_types.specs.declared.statements.RStmt.{RStmt}
 use Rattle.kernel_model.specs.Obeys.{Mode, Counters, with_counter}
@@ -7,7 +7,7 @@ use Rattle.kernel_model.specs.Walk.{Covered, covered_after, turns_covered, stmt_
 use Rattle.access_check.specs.Indices.{stmt_names, Enough}
 use Rattle.access_check.proofs.Least.{Found}
 use Rattle.access_check.proofs.Assigning.{still_within, covered_twice}
-use Rattle.access_check.proofs.Settled.{Below, settled_stmt}
+use Rattle.access_check.proofs.Settled.{settled_stmt}
 use Rattle.access_check.proofs.Unnamed.{but_itself, covered_free, found_free}
 
 module _ (modes : List Mode) (body : RStmt) (cs : Counters) (k : ℕ) (e : stmt_names body k ≡ false) where

@@ -1,5 +1,5 @@
 -- What one turn of a for finds, a second turn doesn't add to, where it starts with more components covered.
-use Rattle.std.proofs.Common.{◌≡◌, ℕ, zero, suc, ℤ, pos, negsuc, ◌-◌, List, Option, Some, None, Bool, true, false, ◌&&◌, ◌||◌, refl, sym, ap, ◌∙◌, subst}
+use Rattle.std.proofs.Common.{◌≡◌, ℕ, zero, suc, ℤ, pos, negsuc, ◌-◌, List, Option, Some, None, Bool, true, false, ◌&&◌, ◌||◌, refl, sym, ap, ◌∙◌}
 use Rattle.std.specs.Prelude.{nat_lt}
 use Rattle.c_lex.specs.declared.tokens.Pos.{Pos}
 use Rattle.reductions.specs.Access.{Access}
@@ -7,9 +7,9 @@ use Rattle.c_tree.specs.declared.expressions.MinMax.{MinMax}
 use Rattle.kernel_types.specs.declared.expressions.RExpr.{RExpr}
 use Rattle.kernel_types.specs.declared.expressions.RExpr.TheVariants.{Number, Scalar, Constant, Arg', Local', Const', Unary', Binary', Choice', Paren', Extremum', Absolute'}
 use Rattle.kernel_types.specs.declared.statements.RStmt.{RStmt, Block', Declare, SetScalar, SetLocal, SetArg, If', For', Row_of-RStmt, end_of-RStmt, more_of-RStmt}
-use Rattle.kernel_model.specs.Obeys.{Mode, mode_at, Counters, with_counter, static, Event, Reads, Owns, Own, Neither, First, Second, own_side, target_event}
-use Rattle.kernel_model.specs.Refusals.{Rule, WritesRead, ReadsInc, IncNotSum, ReadsUnwritten, NotAllWritten, WriteIndexNotStatic, LiteralIndexOut, MinMaxForm, argument_of, index_of, place_of, is_read, opposite}
-use Rattle.kernel_model.specs.Walk.{Covered, covered_after, row_covered_after, turns_covered, is_op_write, is_unwritten, noted_if, breaks, event_found, expr_found, own_found, right_found, turns_found, stmt_found, row_found}
+use Rattle.kernel_model.specs.Obeys.{Mode, mode_at, Counters, with_counter, static, Event, Reads, Owns, Own, First, Second, own_side, target_event}
+use Rattle.kernel_model.specs.Refusals.{Rule, WritesRead, ReadsInc, IncNotSum, ReadsUnwritten, WriteIndexNotStatic, LiteralIndexOut, MinMaxForm, argument_of, index_of, place_of, is_read, opposite}
+use Rattle.kernel_model.specs.Walk.{Covered, covered_after, is_op_write, is_unwritten, noted_if, breaks, event_found, expr_found, own_found, right_found, turns_found, stmt_found, row_found}
 use Rattle.access_check.proofs.Least.{Found, Has, has_still, has_now, note_again}
 use Rattle.access_check.proofs.Assigning.{Within, within_after}
 
@@ -75,9 +75,6 @@ module _ (modes : List Mode) where
         (settled_note (breaks d acc dim e MinMaxForm) (breaks c acc dim e MinMaxForm) MinMaxForm p (λ q. q))
 
     module _ (cs : Counters) where
-      abbrev At : RExpr → Type 0
-      At e = Settled (expr_found modes e cs d) (expr_found modes e cs c)
-
       pub settled_expr : (e : RExpr) → Settled (expr_found modes e cs d) (expr_found modes e cs c)
       settled_expr (Number n) = settled_none
       settled_expr (Scalar k) = settled_none

@@ -1,13 +1,12 @@
 -- Where no static index names a counter, its value counts for nothing.
-use Rattle.std.proofs.Common.{◌≡◌, ℕ, ℤ, pos, ◌-◌, Option, Some, Bool, true, false, cond, ◌||◌, List, refl, sym, ap, ◌∙◌, subst}
+use Rattle.std.proofs.Common.{◌≡◌, ℕ, ℤ, pos, ◌-◌, Some, Bool, true, false, cond, ◌||◌, List, refl, sym, ap, ◌∙◌}
 use Rattle.std.specs.Prelude.{nat_eq}
 use Rattle.std.proofs.Math.Path.{fun_ext}
-use Rattle.c_lex.specs.declared.tokens.Pos.{Pos}
 use Rattle.c_tree.specs.declared.expressions.MinMax.{MinMax}
 use Rattle.kernel_types.specs.declared.expressions.RExpr.{RExpr}
 use Rattle.kernel_types.specs.declared.expressions.RExpr.TheVariants.{Number, Scalar, Constant, Arg', Local', Const', Unary', Binary', Choice', Paren', Extremum', Absolute'}
 use Rattle.kernel_types.specs.declared.statements.RStmt.{RStmt, Block', Declare, SetScalar, SetLocal, SetArg, If', For', Row_of-RStmt, end_of-RStmt, more_of-RStmt}
-use Rattle.kernel_model.specs.Obeys.{Mode, Counters, with_counter, static, static_op, static_unary, Event, Reads, Owns, Own, Neither, First, Second, own_side, target_event}
+use Rattle.kernel_model.specs.Obeys.{Mode, Counters, with_counter, static, static_op, static_unary, Reads, Owns, Own, First, Second, own_side, target_event}
 use Rattle.kernel_model.specs.Walk.{Covered, with_covered, both_covered, turns_covered, covered_after, row_covered_after, event_found, expr_found, own_found, right_found, turns_found, stmt_found, row_found}
 use Rattle.access_check.specs.Indices.{expr_names, stmt_names, row_names}
 use Rattle.access_check.proofs.Least.{Found}

@@ -106,9 +106,6 @@ module _ (modes : List Mode) (t : ℕ → Covered → Option Breach → Option B
       (subst (λ j. Agree modes (turns_covered u (suc i) (past - (i + 1)) (u i c)) (turns_covered u j (past - (i + 1)) d)) (sym (add-one i))
       (turns_agree modes u ih (suc i) (past - (i + 1)) (u i c) d h))
 
-  pub found_end : (i past : ℕ) (c : Covered) (found : Option Breach) → past ≤ i → turns_found modes t u i (past - i) c found ≡ found
-  found_end i past c found le = let e : past - i ≡ 0 = omega arith in ap (λ m. turns_found modes t u i m c found) e
-
   pub covered_end : (i past : ℕ) (c : Covered) → past ≤ i → turns_covered u i (past - i) c ≡ c
   covered_end i past c le = let e : past - i ≡ 0 = omega arith in ap (λ m. turns_covered u i m c) e
 

@@ -10,7 +10,7 @@ use Rattle.reductions.specs.Access.{OpRead, OpReduce, access_of}
 use Rattle.reductions.specs.declared.access.Access.{Access}
 use Rattle.reductions.specs.declared.access.Access.TheVariants as code
 use Rattle.mesh_decl.specs.declared.access.Via.{Via}
-use Rattle.schedule_laws.specs.Arguments.{Argument, Direct, Indirect, modifying, reading, is_direct, is_on}
+use Rattle.schedule_laws.specs.Arguments.{Direct, Indirect, modifying, reading, is_direct, is_on}
 use Rattle.schedule_laws.specs.Arguments as theorem
 use Rattle.bound_program.specs.declared.sites.Arg.{Arg}
 use Rattle.bound_program.specs.declared.sites.Arg.TheVariants.{Dat, Global}

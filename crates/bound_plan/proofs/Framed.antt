@@ -1,36 +1,19 @@
 -- The windows of a frame are the cells that the arguments reach, each once.
-use Rattle.std.proofs.Common.{◌≡◌, ◌<◌, ◌≤◌, ◌+◌, ℕ, zero, suc, List, [], ◌∷◌, map, length, get_or, refl, sym, ap, subst, ◌∙◌, ⊎_elim, arith}
-use Rattle.std.proofs.lemmas.Bool.{cases_lt}
-use Rattle.std.proofs.lemmas.List.{get_or-map, length-map, get_or_past}
+use Rattle.std.proofs.Common.{◌≡◌, ◌<◌, ◌≤◌, ◌+◌, ℕ, zero, suc, List, [], ◌∷◌, map, length, get_or, refl, sym, ap, subst, ◌∙◌}
+use Rattle.std.proofs.lemmas.List.{get_or-map}
 use Rattle.kernel_model.specs.Meaning.{Target, no_target, target_at}
-use Rattle.kernel_model.specs.Obeys.{Mode, mode_at, no_mode}
+use Rattle.kernel_model.specs.Obeys.{Mode, mode_at}
 use Rattle.element_runs.specs.OnWindows.{no_cell, OnWindows}
 use Rattle.bound_program.specs.declared.sites.Arg.{Arg}
-use Rattle.bound_program.specs.declared.sites.Arg.TheVariants.{Dat, Global}
 use Rattle.bound_program.specs.Values.{BoundValue, SiteValue}
-use Rattle.run_model.specs.Windows.{reached, width, targets, window_of, cell_in}
-use Rattle.run_model.specs.Arguments.{no_arg, arg_at, arg_width, mode_of, modes_of, cell_of}
+use Rattle.run_model.specs.Windows.{reached, targets, window_of, cell_in}
+use Rattle.run_model.specs.Arguments.{no_arg, mode_of, modes_of, cell_of}
 use Rattle.run_model.specs.Laws.{WindowsAreReached}
+use Rattle.run_model.proofs.Windows.{wide, mode_is, is_argument}
 use Rattle.bound_plan.specs.Windows.{dats_first, frame_cells, frame_windows}
 use Rattle.bound_plan.proofs.Arranged.{Has, arranged, of_arranged}
 
 module _ (b : BoundValue) where
-  wide : (e : ℕ) (x : Arg) → width b (reached b e x) ≡ arg_width b x
-  wide e (Dat d v a) = refl
-  wide e (Global v a) = refl
-
-  pub mode_is : (site : SiteValue) (a : ℕ) → a < length site.args → mode_at (modes_of b site) a ≡ mode_of b (arg_at site a)
-  mode_is site a lt = get_or-map (mode_of b) site.args a no_arg no_mode lt
-
-  pub is_argument : (site : SiteValue) (a i : ℕ) → i < (mode_at (modes_of b site) a).dim → a < length site.args
-  is_argument site a i lt = ⊎_elim (λ l. l) (λ l. absurd (past l)) (cases_lt a (length site.args))
-    where
-      past : length site.args ≤ a → ⊥
-      past l =
-          let none : mode_at (modes_of b site) a ≡ no_mode = get_or_past (modes_of b site) a no_mode (omega (arith, length-map site.args (mode_of b))) in
-          let dim : (mode_at (modes_of b site) a).dim ≡ 0 = ap (λ (m : Mode). m.dim) none in
-          omega arith
-
   module _ (law : WindowsAreReached) (site : SiteValue) (e : ℕ) where
     abbrev other : SiteValue
     other = record site { args = dats_first site.args }
@@ -40,7 +23,7 @@ module _ (b : BoundValue) where
 
     counted : (xs : List Arg) (a : ℕ) → (target_at (map (λ x. window_of b (targets b (dats_first site.args) e) (reached b e x)) xs) a).count ≡ (mode_at (map (mode_of b) xs) a).dim
     counted [] a = refl
-    counted (x ∷ xs) zero = wide e x
+    counted (x ∷ xs) zero = wide b e x
     counted (x ∷ xs) (suc a) = counted xs a
 
     array : (xs : List Arg) (a : ℕ) → (target_at (map (λ x. window_of b (targets b (dats_first site.args) e) (reached b e x)) xs) a).array ≡ 0
@@ -57,21 +40,21 @@ module _ (b : BoundValue) where
       targets_agree = target_is (dats_first site.args) c lc ∙ ap (λ y. window_of b (targets b (dats_first site.args) e) (reached b e y)) same ∙ sym (target_is site.args a la)
 
       modes_agree : mode_at (modes_of b other) c ≡ mode_at (modes_of b site) a
-      modes_agree = mode_is other c lc ∙ ap (mode_of b) same ∙ sym (mode_is site a la)
+      modes_agree = mode_is b other c lc ∙ ap (mode_of b) same ∙ sym (mode_is b site a la)
 
       cells_agree : (i : ℕ) → cell_of b other e c i ≡ cell_of b site e a i
       cells_agree i = ap (λ y. cell_in (reached b e y) i) same
 
     inside : (a i : ℕ) → i < (mode_at (modes_of b site) a).dim → (target_at (frame_windows b site.args e) a).from + i < length (frame_cells b site.args e)
     inside a i l =
-        let la = is_argument site a i l in
+        let la = is_argument b site a i l in
         let w : Has (dats_first site.args) (get_or site.args a no_arg) = arranged site.args a la in
         subst (λ (t : Target). t.from + i < length (frame_cells b site.args e)) (targets_agree a w.number la w.there w.is)
         (on_other.inside w.number i (subst (λ (m : Mode). i < m.dim) (sym (modes_agree a w.number la w.there w.is)) l))
 
     are : (a i : ℕ) → i < (mode_at (modes_of b site) a).dim → get_or (frame_cells b site.args e) ((target_at (frame_windows b site.args e) a).from + i) no_cell ≡ cell_of b site e a i
     are a i l =
-        let la = is_argument site a i l in
+        let la = is_argument b site a i l in
         let w : Has (dats_first site.args) (get_or site.args a no_arg) = arranged site.args a la in
         ap (λ (t : Target). get_or (frame_cells b site.args e) (t.from + i) no_cell) (sym (targets_agree a w.number la w.there w.is))
         ∙ on_other.are w.number i (subst (λ (m : Mode). i < m.dim) (sym (modes_agree a w.number la w.there w.is)) l)
@@ -80,7 +63,7 @@ module _ (b : BoundValue) where
     covered : (j : ℕ) → j < length (frame_cells b site.args e) → (a : ℕ) × (i : ℕ) × (i < (mode_at (modes_of b site) a).dim) × ((target_at (frame_windows b site.args e) a).from + i ≡ j)
     covered j l =
         let u = on_other.covered j l in
-        let lc = is_argument other u.0 u.1 u.2 in
+        let lc = is_argument b other u.0 u.1 u.2 in
         let w : Has site.args (get_or (dats_first site.args) u.0 no_arg) = of_arranged site.args u.0 lc in (
           w.number,
           u.1,

@@ -1,10 +1,10 @@
 -- What can not stand at one place together.
-use Rattle.std.proofs.Common.{◌≡◌, ◌≢◌, ℕ, zero, suc, ◌+◌, ◌≤◌, ◌<◌, Bool, true, false, List, [], ◌∷◌, ◌++◌, length, refl, sym, ap, subst, ◌∙◌, arith, nat_eq, append_assoc, length-append, ◌⊎◌, inl, inr, codes, pos}
+use Rattle.std.proofs.Common.{◌≡◌, ◌≢◌, ℕ, ◌+◌, ◌≤◌, ◌<◌, Bool, true, false, List, [], ◌∷◌, ◌++◌, length, refl, sym, ap, subst, ◌∙◌, arith, nat_eq, append_assoc, ◌⊎◌, inl, inr, codes, pos}
 use Rattle.std.specs.List.{list_all}
 use Rattle.std.proofs.lemmas.Bool.Decides.{nat_tests}
 use Rattle.c_lex.specs.declared.tokens.Kind.{Kind}
 use Rattle.c_lex.specs.declared.tokens.Kind.TheVariants as kind
-use Rattle.c_lex.specs.Spelling.{blank, letter, digit, part, value_of, IsFigure, textual, all_escaped, text_spelling, HasForm}
+use Rattle.c_lex.specs.Spelling.{blank, letter, digit, value_of, IsFigure, textual, all_escaped, HasForm}
 use Rattle.c_lex.specs.Lexed.{EndsLine, HasNoClose, IsPassed, IsLongest, FitsIn, is_closed, CannotGoOn, HasBadByte, BeginsNothing, IsTooLarge}
 use Rattle.c_lex.proofs.Forms.{true_false, Begins, begins, not_empty, one_kind, text_begins, figure_head}
 use Rattle.c_lex.proofs.Units.{units_one, unit_none, closed_through, nil_right}

@@ -110,9 +110,6 @@ pub record Closed (bs : List ℕ) (n : ℕ) : Type 0 where
   pub size : n ≡ length body + 2
   pub next : HasNoClose (body ++ 42 ∷ [])
 
-closes_like : (b c : ℕ) (x y : List ℕ) → closes (b ∷ c ∷ x) ≡ closes (b ∷ c ∷ y)
-closes_like b c x y = refl
-
 -- a byte before a body
 before_body : (b : ℕ) (body rest : List ℕ) → closes (b ∷ (body ++ 42 ∷ 47 ∷ rest)) ≡ false → closes (b ∷ (body ++ 42 ∷ [])) ≡ false
 before_body b [] rest h = h

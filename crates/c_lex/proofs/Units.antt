@@ -1,11 +1,11 @@
 -- The bytes of texts.
-use Rattle.std.proofs.Common.{◌≡◌, ◌≢◌, ℕ, suc, ◌≤◌, ◌<◌, Bool, true, false, ◌&&◌, ◌||◌, cond, List, [], ◌∷◌, ◌++◌, length, take, drop, get_or, Option, Some, None, refl, sym, ap, subst, ◌∙◌, arith, nat_eq, nat_le, not, append_assoc, take-append-drop, drop-cons}
+use Rattle.std.proofs.Common.{◌≡◌, ◌≢◌, ℕ, ◌≤◌, Bool, true, false, ◌&&◌, ◌||◌, cond, List, [], ◌∷◌, ◌++◌, length, take, drop, Option, Some, None, refl, sym, ap, subst, ◌∙◌, arith, nat_eq, nat_le, not, append_assoc, take-append-drop}
 use Rattle.std.specs.List.{list_all}
 use Rattle.std.proofs.lemmas.Bool.{eqb-true}
 use Rattle.std.proofs.lemmas.Bool.Decides.{nat_tests}
 use Rattle.c_lex.specs.Spelling.{textual, escaped, all_escaped}
-use Rattle.c_lex.specs.Lexed.{is_closed, is_closed_behind}
-use Rattle.c_lex.specs.Front.{plain, escape_of, unit_of, is_closed_in}
+use Rattle.c_lex.specs.Lexed.{is_closed}
+use Rattle.c_lex.specs.Front.{plain, escape_of, unit_of}
 use Rattle.c_lex.proofs.Runs.{and_true}
 
 -- a byte is spelled by one of the four escapes, or by itself
@@ -156,32 +156,3 @@ pub closed_through : (t more : List ℕ) → is_closed (all_escaped t ++ more) �
 closed_through [] more = refl
 closed_through (c ∷ t) more =
     ap is_closed (append_assoc (escaped c) (all_escaped t) more) ∙ closed_unit c (all_escaped t ++ more) ∙ closed_through t more
-
--- one byte of a loop over them
-pub closed_step : (e : Bool) (bs : List ℕ) (i : ℕ) → i < length bs → nat_eq (get_or bs i 0) 10 ≡ false → (nat_eq (get_or bs i 0) 34 && not e) ≡ false → is_closed_in e (drop i bs) ≡ is_closed_in (nat_eq (get_or bs i 0) 92 && not e) (drop (suc i) bs)
-closed_step e bs i h n q =
-    ap (is_closed_in e) (drop-cons bs i 0 h) ∙ by_escape e (get_or bs i 0) (drop (suc i) bs) n q
-  where
-    by_escape : (e : Bool) (b : ℕ) (more : List ℕ) → nat_eq b 10 ≡ false → (nat_eq b 34 && not e) ≡ false → is_closed_in e (b ∷ more) ≡ is_closed_in (nat_eq b 92 && not e) more
-    by_escape true b more n q = rw n (by_test (nat_eq b 92))
-      where
-        by_test : (t : Bool) → is_closed more ≡ is_closed_in (t && false) more
-        by_test true = refl
-        by_test false = refl
-    by_escape false b more n q = by_test (nat_eq b 34) q (nat_eq b 92)
-      where
-        by_test : (t : Bool) → (t && true) ≡ false → (u : Bool) → cond t true (cond (nat_eq b 10) false (cond u (is_closed_behind more) (is_closed more))) ≡ is_closed_in (u && true) more
-        by_test true q u = cc
-        by_test false q true = rw n refl
-        by_test false q false = rw n refl
-
-pub closed_line : (e : Bool) (bs : List ℕ) (i : ℕ) → i < length bs → nat_eq (get_or bs i 0) 10 ≡ true → is_closed_in e (drop i bs) ≡ false
-closed_line e bs i h n = ap (is_closed_in e) (drop-cons bs i 0 h) ∙ by_escape e (eqb-true (get_or bs i 0) 10 n)
-  where
-    by_escape : (e : Bool) → get_or bs i 0 ≡ 10 → is_closed_in e (get_or bs i 0 ∷ drop (suc i) bs) ≡ false
-    by_escape true n = rw n refl
-    by_escape false n = rw n refl
-
-pub closed_here : (e : Bool) (bs : List ℕ) (i : ℕ) → i < length bs → nat_eq (get_or bs i 0) 34 ≡ true → e ≡ false → is_closed_in e (drop i bs) ≡ true
-closed_here e bs i h q f =
-    rw f (ap is_closed (drop-cons bs i 0 h) ∙ rw q refl)

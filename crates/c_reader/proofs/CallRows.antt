@@ -97,16 +97,6 @@ call_begins ks k (ParLoop at x t a xs) n e more s = rw s.0 refl
 call_begins ks k (Printf at t es) n e more s = rw s.0 refl
 call_begins ks k (PrintDat at x t) n e more s = rw s.0 refl
 
-pub call_deep : (n : ℕ) (c : OpCallTree) (more : List Mark) → first_deep n (call 65 c ++ more) ≡ Some n
-call_deep n (CallInit at x) more = refl
-call_deep n (DeclSet at x v t) more = refl
-call_deep n (DeclMap at x a b m v t) more = refl
-call_deep n (DeclDat at x a m u v t) more = refl
-call_deep n (DeclConst at m t g) more = refl
-call_deep n (ParLoop at x t a xs) more = refl
-call_deep n (Printf at t es) more = refl
-call_deep n (PrintDat at x t) more = refl
-
 -- A call that stands at level k, with d levels left below it and at least f tokens before it.
 module _ (ks : List Kind) (f k d : ℕ) (room : suc k + d ≡ 65) (before : k ≤ f + 1) where
   fits : nat_lt 64 k ≡ false

@@ -50,9 +50,6 @@ main_within ks n h = by_first (word_is wd.Int (slice_get ks n)) refl h
     by_first true i h = Rattle.std.proofs.lemmas.Option.slice_get_within ks n (kind.Word wd.Int) (word_found wd.Int (slice_get ks n) i)
     by_first false i h = cc
 
-top_long : (t : TopTree) (ks : List Kind) (n e : ℕ) (more : List Mark) → IsTop t → Spans ks n (top t ++ more) e → begins_main ks n ≡ false
-top_long t ks n e more o s = no_main ks t n e more o s
-
 tops_complete : (ks : List Kind) (ts : List TopTree) (n e : ℕ) → AreTops ts → length ts < length ks → Spans ks n (tops ts) e → begins_main ks e ≡ true → tops_at ks n ≡ after (first_deep n (tops ts)) (Ok (ts, e))
 tops_complete ks ts n e o l s h =
     until_complete ks 0 IsTop top Free Free (top_at ks) (top_exact ks) (begins_main ks) (λ j. Unit {0}) (λ a n e more o s. (no_main ks a n e more o s, tt)) (λ n h. tt) (λ a n g. tt) ts (length ks) n e l (all_tops ts o) (subst (λ z. Spans ks n z e) (tops_joined ts) s) h ∙ ap (λ z. after z (Ok (ts, e))) (sym (ap (first_deep n) (tops_joined ts)))

@@ -1,5 +1,5 @@
 -- Signs, words, maps, indices and variables of arguments and assignments are read exactly as they are printed.
-use Rattle.std.proofs.Common.{◌≡◌, ℕ, suc, ◌+◌, ◌≤◌, Bool, true, false, cond, List, [], ◌∷◌, length, Option, Some, None, Result, Ok, Err, refl, sym, ap, subst, ◌∙◌, arith, slice_get, nat_lt}
+use Rattle.std.proofs.Common.{◌≡◌, ℕ, suc, ◌≤◌, Bool, true, false, cond, List, [], ◌∷◌, length, Option, Some, None, Result, Ok, Err, refl, sym, ap, subst, ◌∙◌, arith, slice_get, nat_lt}
 use Rattle.c_lex.specs.declared.tokens.Kind.{Kind}
 use Rattle.c_lex.specs.declared.tokens.Kind.TheVariants as kind
 use Rattle.c_lex.specs.declared.tokens.Sign.{Sign}
@@ -177,12 +177,6 @@ made_sound ks {ok = ok} {marks = marks} {gives = gives} {p = p} f x n y h =
     let r = bind_ok (p n) _ y h in
     let same = ok_one (f r.0.0, r.0.1) y r.2 in
     (r.0.0, ap (λ z. z.0) same, subst (λ e. Found ks ok marks gives n r.0.0 e) (ap (λ z. z.1) same) (x.sound n r.0 r.1))
-
-pub made_moves : (ks : List Kind) {A B : Type 0} {from size : ℕ} {ok : A → Type 0} {marks : A → List Mark} {needs gives : A → ℕ → Type 0} {p : Reader A} (f : A → B) → Exact ks from size ok marks needs gives p → (n : ℕ) (y : B × ℕ) → made f p n ≡ Ok y → n + size ≤ y.1
-made_moves ks {p = p} f x n y h =
-    let r = bind_ok (p n) _ y h in
-    let same = ok_one (f r.0.0, r.0.1) y r.2 in
-    omega (arith, x.moves n r.0 r.1, ap (λ z. z.1) same)
 
 pub made_far : (ks : List Kind) {A B : Type 0} {from size : ℕ} {ok : A → Type 0} {marks : A → List Mark} {needs gives : A → ℕ → Type 0} {p : Reader A} (f : A → B) → Exact ks from size ok marks needs gives p → (n q : ℕ) → from ≤ n → made f p n ≡ Err (TooDeep q) → 64 ≤ q
 made_far ks {p = p} f x n q l h = far_bind (p n) _ q h (x.far n q l) (λ a r g. cc)

@@ -7,7 +7,6 @@ use Rattle.c_tree.specs.Print.{Mark}
 use Rattle.c_tree.specs.Reads.{Keeps, AreNumbered, first_deep}
 use Rattle.c_reader.specs.declared.faults.Fault.{Fault}
 use Rattle.c_reader.specs.declared.faults.Fault.TheVariants.{TooDeep}
-use Rattle.c_reader.specs.Descent.{◌>>=◌}
 
 -- the marks stand at n and end before the place e
 abbrev pub Spans : List Kind → ℕ → List Mark → ℕ → Type 0
@@ -71,10 +70,6 @@ after (Some p) r = Err (TooDeep p)
 pub after_or_else : {A : Type 0} (a b : Option ℕ) (r : Result A Fault) → after (or_else a b) r ≡ after a (after b r)
 after_or_else None b r = refl
 after_or_else (Some p) b r = refl
-
-pub after_bind : {A B : Type 0} (a : Option ℕ) (r : Result A Fault) (f : A → Result B Fault) → (after a r >>= f) ≡ after a (r >>= f)
-after_bind None r f = refl
-after_bind (Some p) r f = refl
 
 -- one more of a list from a place on
 drop_here : (ks : List Kind) (n : ℕ) (x : Kind) → slice_get ks n ≡ Some x → drop n ks ≡ x ∷ drop (suc n) ks

@@ -94,10 +94,6 @@ pub operator_none : (ks : List Kind) (m n : ℕ) (s : Sign) → binary_of s ≡ 
 unfolding operator_at
 operator_none ks m n s b h = rw (h, b) refl
 
-pub operator_past : (ks : List Kind) (m n : ℕ) → slice_get ks n ≡ None → operator_at ks m n ≡ None
-unfolding operator_at
-operator_past ks m n h = rw h refl
-
 at_least_some : (m : ℕ) (o : Option BinaryOp) (op : BinaryOp) → at_least m o ≡ Some op → (o ≡ Some op) × (m ≤ level_of op)
 at_least_some m None op h = cc
 at_least_some m (Some p) op h = by_test (nat_le m (level_of p)) refl h

@@ -1,6 +1,5 @@
 pub mod Listed
 pub mod Parts
-pub mod PlanReads
 pub mod Places
 pub mod Halos
 pub mod FreeRuns

@@ -100,21 +100,6 @@ module _ (b : BoundValue) (d : Distribution) (p : PlanValue) (on : IsOnRanks b d
   pub site_planned : (site : ℕ) → IsFreeRun b site → IsSitePlan b d.ranks.items p.block site (site_plan p site)
   site_planned site runs = on.planned.loops site runs.0 runs.1
 
-  pub has_places : (site : ℕ) → IsFreeRun b site → 0 < length (site_plan p site).places
-  has_places site runs =
-      let count : length (site_plan p site).places ≡ length d.ranks.items = (site_planned site runs).places_count in
-      let ranks : length d.ranks.items ≡ d.owners.ranks = on.distributed.ranks.count in
-      let some : 0 < d.owners.ranks = on.owners.some_rank in
-      omega (arith, count, ranks, some)
-
-  pub has_colours : (site r : ℕ) (plan : SitePlan) → IsFreeRun b site → r < d.owners.ranks → site_plan_of plan ≡ site_plan p site
-      → r < length plan.colours.items
-  has_colours site r plan runs here e =
-      let count : length (site_plan p site).colours ≡ length d.ranks.items = (site_planned site runs).colours_count in
-      let same : length plan.colours.items ≡ length (site_plan p site).colours = ap (λ (z : SitePlanValue). length z.colours) e in
-      let ranks : length d.ranks.items ≡ d.owners.ranks = on.distributed.ranks.count in
-      omega (arith, count, same, ranks, here)
-
   -- and for the block of each place
   pub has_block : (site r place block : ℕ) (plan : SitePlan) (c : Colours) → IsFreeRun b site → r < d.owners.ranks
       → site_plan_of plan ≡ site_plan p site → place < places_of d.ranks.items (site_at b site) r → block * p.block ≤ place

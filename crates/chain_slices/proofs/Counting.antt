@@ -6,7 +6,7 @@ use Rattle.std.proofs.lemmas.Bool.{false≢true, cases_Bool, cases_eq, eq-eqb, n
 use Rattle.rank_sets.specs.Below.{any_below, count_below}
 use Rattle.rank_sets.specs.RankSet.{has, has_at}
 use Rattle.rank_sets.specs.declared.rank_set.RankSet.{RankSet}
-use Rattle.rank_sets.proofs.Below.{any_agree, count_agree, count_more}
+use Rattle.rank_sets.proofs.Below.{any_agree, count_agree}
 use Rattle.rank_sets.proofs.Bools.{same_Bool}
 use Rattle.mesh_decl.specs.declared.owners.Owners.{Owners}
 use Rattle.mesh_decl.specs.Mesh.{dat_count, dat_set, set_size}
@@ -37,12 +37,6 @@ contains_is s e w m rank r lt empty with_it minus is = same_Bool r (has s rank)
     and_no : (a : Bool) → (a && false) ≡ false
     and_no true = refl
     and_no false = refl
-
-pub count_one : (n : ℕ) (p : ℕ → Bool) (old new : ℕ) → p n ≡ true → old ≡ count_below n p → new ≡ old + 1 → new ≡ count_below (n + 1) p
-count_one n p old new h is e = let q : count_below (n + 1) p ≡ count_below n p + 1 = count_more n p ∙ ap (λ b. count_below n p + cond b 1 0) h in omega arith
-
-pub count_none : (n : ℕ) (p : ℕ → Bool) (old new : ℕ) → p n ≡ false → old ≡ count_below n p → new ≡ old → new ≡ count_below (n + 1) p
-count_none n p old new h is e = let q : count_below (n + 1) p ≡ count_below n p + 0 = count_more n p ∙ ap (λ b. count_below n p + cond b 1 0) h in omega arith
 
 -- ---- sums
 

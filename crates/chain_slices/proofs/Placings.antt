@@ -16,22 +16,8 @@ use Rattle.bound_chains.specs.Counts.{begins_at}
 use Rattle.bound_chains.proofs.Backwards.{next_loop}
 use Rattle.chain_slices.specs.declared.shapes.Shape.{Shape}
 use Rattle.chain_slices.specs.declared.sliced.LevelAt.{LevelAt}
-use Rattle.chain_slices.specs.Shapes.{IsShape, loops_of}
+use Rattle.chain_slices.specs.Shapes.{loops_of}
 use Rattle.chain_slices.specs.Slices.{AreShapes, ArePlaces, IsPlace, StandsAt, Keeps, next_of}
-
--- ---- chains that are kept
-
-pub keeps_all : (xs : List Shape) → Keeps xs xs
-keeps_all xs = record { longer = omega arith; same = λ i x l. refl }
-
-pub keeps_push : (xs : List Shape) (s : Shape) → Keeps xs (xs ++ s ∷ [])
-keeps_push xs s = record { longer = omega (arith, length_push xs s); same = λ i x l. get_or_append_left xs (s ∷ []) x i l }
-
-pub shapes_push : (b : BoundValue) (o : Owners) (xs : List Shape) (s : Shape) → AreShapes b o xs → IsShape b o s → AreShapes b o (xs ++ s ∷ [])
-shapes_push b o xs s h is i x l = ⊎_elim
-    (λ (q : i ≡ length xs). subst (IsShape b o) (sym (get_or_push xs s x i (sym q))) is)
-    (λ (q : i ≡ length xs → ⊥). let k : i < length xs = omega (arith, length_push xs s) in subst (IsShape b o) (sym (get_or_append_left xs (s ∷ []) x i k)) (h i x k))
-    (cases_eq i (length xs))
 
 -- ---- places
 

@@ -215,21 +215,3 @@ module _ (ts : List ℕ) (w : ℕ) (cs order : List ℕ) where
             (m.from t (omega arith)))
             (h t (omega arith));
       }
-
-  -- before any row
-  pub none_marked : (first : ℕ) (marks : List ℕ) → ((t : ℕ) → t < length marks → (get_or marks t 0 ≡ none) ⊎ (get_or marks t 0 < first)) → Marked ts w order first 0 marks
-  none_marked first marks h = record {
-    last = λ t a l la k. absurd (let x : a < 0 = la in omega arith);
-    from = λ t l. ⊎_elim (λ (e : get_or marks t 0 ≡ none). inl e) (λ (f : get_or marks t 0 < first). inr (inl f)) (h t l);
-  }
-
-  -- a mark can be looked up
-  pub mark_within : (first n : ℕ) (marks : List ℕ) → first ≤ length cs → n ≤ length order → ((a : ℕ) → a < length order → (first ≤ at a) × (at a < length cs)) → Marked ts w order first n marks → (t : ℕ) → t < length marks → (get_or marks t 0 ≡ none) ⊎ (get_or marks t 0 < length cs)
-  mark_within first n marks lf ln rows m t l = ⊎_elim
-      (λ (e : get_or marks t 0 ≡ none). inl e)
-      (λ s. ⊎_elim
-      (λ (f : get_or marks t 0 < first). inr (let g : get_or marks t 0 < first = f in omega arith))
-      (λ (y : (e : ℕ) × (e < n) × (get_or marks t 0 ≡ at e) × Has ts w (at e) t).
-      inr (subst (λ z. z < length cs) (sym y.2) (rows y.0 (let z : y.0 < n = y.1 in omega arith)).1))
-      s)
-      (m.from t l)

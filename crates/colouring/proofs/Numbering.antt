@@ -18,15 +18,7 @@ use Rattle.colouring.specs.declared.types.IncArg.{IncArg}
 use Rattle.colouring.specs.Rows.{none}
 use Rattle.local_mesh.proofs.Inverse.{table_more}
 use Rattle.colouring.specs.Colours.{target_of, target_by, Leads, IsArg}
-use Rattle.colouring.specs.Table.{copies_of, IsRankOf, AreBases, HaveBases, AreStarts, IsTable}
-
--- no dat has a base yet
-pub no_bases : (size : ℕ → ℕ) (bases : List ℕ) → ((d : ℕ) → d < length bases → get_or bases d 0 ≡ none) → AreBases size bases 0
-no_bases size bases fresh = record {
-  few = omega arith;
-  within = λ d l h. absurd (h (fresh d l));
-  apart = λ d e l m h i n. absurd (h (fresh d l));
-}
+use Rattle.colouring.specs.Table.{copies_of, IsRankOf, HaveBases, IsTable}
 
 -- one argument more has the base of its dat
 pub have_more : (args : List IncArg) (starts old now : List ℕ) (n v dat : ℕ) → length starts ≡ n → ((x : IncArg) → (get_or args n x).dat ≡ dat) → v ≡ get_or now dat 0 → ((d : ℕ) → (get_or old d 0 ≡ none → ⊥) → get_or now d 0 ≡ get_or old d 0) → (get_or now dat 0 ≡ none → ⊥) → HaveBases args starts old n → HaveBases args (starts ++ v ∷ []) now (n + 1)
@@ -40,20 +32,6 @@ have_more args starts old now n v dat e is_dat read kept given h a x l = ⊎_eli
     let k : get_or now (get_or args a x).dat 0 ≡ get_or old (get_or args a x).dat 0 = kept (get_or args a x).dat b.1 in
     (get_or_append_left starts (v ∷ []) 0 a (omega arith) ∙ (b.0 ∙ sym k), λ z. b.1 (sym k ∙ z)))
     (cases_eq a n)
-
--- all arguments have the bases of their dats
-pub starts_are : (size : ℕ → ℕ) (args : List IncArg) (starts bases : List ℕ) (total : ℕ) → length starts ≡ length args → ((a : ℕ) (x : IncArg) → a < length args → (get_or args a x).dat < length bases) → AreBases size bases total → HaveBases args starts bases (length args) → AreStarts size args starts total
-starts_are size args starts bases total e dats b h = record {
-  count = e;
-  few = b.few;
-  within = λ a x l. let q = (h a x l).0 in let w = b.within (get_or args a x).dat (dats a x l) (h a x l).1 in omega arith;
-  same = λ a c x la lc s. (h a x la).0 ∙ (ap (λ z. get_or bases z 0) s ∙ sym (h c x lc).0);
-  apart = λ a c x la lc ne.
-      let p : get_or starts a 0 ≡ get_or bases (get_or args a x).dat 0 = (h a x la).0 in
-      let q : get_or starts c 0 ≡ get_or bases (get_or args c x).dat 0 = (h c x lc).0 in
-      let u : (get_or bases (get_or args a x).dat 0 + size (get_or args a x).dat ≤ get_or bases (get_or args c x).dat 0) ⊎ (get_or bases (get_or args c x).dat 0 + size (get_or args c x).dat ≤ get_or bases (get_or args a x).dat 0) = b.apart (get_or args a x).dat (get_or args c x).dat (dats a x la) (dats c x lc) (h a x la).1 (h c x lc).1 ne in
-      rw (p, q) u;
-}
 
 -- an entry of an executed element stands in the table
 pub entry_in : (g : MeshValue) (sets : List LocalSet) (m p i s : ℕ) (table : List ℕ) → AreLocalTargets g m sets table → map_from g m ≡ s → p < executed_in sets s → i < map_dim g m → p * map_dim g m + i < length table

@@ -30,10 +30,6 @@ is_there : (t : Bool) (u : ℕ → ℤ) → is_some (cond t (Some u) None) ≡ t
 is_there true u = refl
 is_there false u = refl
 
-value_there : (t : Bool) (u : ℕ → ℤ) (i : ℕ) → value_in (cond t (Some u) None) i ≡ cond t (u i) (pos 0)
-value_there true u i = refl
-value_there false u i = refl
-
 module _ (b : BoundValue) (o : Owners) where
   -- a rank's partials are as many as the variables' cells
   width_is : (l : Layout) → IsLayout b l → l.cells - l.dats_end ≡ memory_length (of_vars b.vars)

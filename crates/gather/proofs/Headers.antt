@@ -3,7 +3,7 @@ use Rattle.std.proofs.Common.{◌≡◌, ℕ, ℤ, List, [], ◌∷◌, ◌++◌
 use Rattle.std.specs.List.{flat_map}
 use Rattle.std.specs.Fmt.{decimal}
 use Rattle.mesh_decl.specs.Mesh.{MeshValue, dat_name, dat_set, dat_dim, set_name, set_size}
-use Rattle.mesh_decl.specs.Printed.{rows, row_text, dat_header, printed_dat}
+use Rattle.mesh_decl.specs.Printed.{rows, row_text, printed_dat}
 
 -- the names, the numbers and the rows are the whole text
 joined : (old f d s n m lines : List ℕ)

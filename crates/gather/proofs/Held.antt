@@ -1,5 +1,5 @@
 -- Where the values of a dat stand in a rank's memory.
-use Rattle.std.proofs.Common.{◌≡◌, ◌<◌, ◌≤◌, ◌+◌, ◌*◌, ℕ, ℤ, zero, suc, ⊎_elim, List, [], ◌++◌, length, map, drop, get_or, codes, Result, Ok, Err, OnOk, sym, ap, ◌∙◌, subst, append_assoc, arith}
+use Rattle.std.proofs.Common.{◌≡◌, ◌<◌, ◌≤◌, ◌+◌, ◌*◌, ℕ, ℤ, zero, suc, ⊎_elim, List, [], ◌++◌, length, drop, get_or, codes, Result, Ok, Err, OnOk, sym, ap, ◌∙◌, subst, append_assoc, arith}
 use Rattle.std.specs.Prelude.{slice_index}
 use Rattle.std.proofs.lemmas.Bool.{cases_eq}
 use Rattle.std.proofs.lemmas.List.{get_or-map}
@@ -8,7 +8,7 @@ use Rattle.std.specs.Fmt.{decimal}
 use Rattle.mesh_decl.specs.Mesh.{MeshValue, dat_count, dat_name, dat_set, dat_dim}
 use Rattle.local_mesh.specs.declared.types.LocalSet.{LocalSet}
 use Rattle.local_mesh.specs.declared.types.RankMesh.{RankMesh}
-use Rattle.local_mesh.specs.LocalMesh.{originals_in, cells_before, AreBases}
+use Rattle.local_mesh.specs.LocalMesh.{originals_in, cells_before}
 use Rattle.local_mesh.specs.Numbers.{own_in}
 use Rattle.gather.specs.Dump.{IsHeld, exec_in, nonexec_in, sizes_text, counts_text, dat_counts, copies_text, dat_text}
 

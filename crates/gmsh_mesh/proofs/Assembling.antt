@@ -1,5 +1,5 @@
 -- A mesh, put together step by step.
-use Rattle.std.proofs.Common.{◌≡◌, ◌⊎◌, inl, inr, ℕ, ◌*◌, ◌^◌, ◌<◌, ◌≤◌, ◌∙◌, refl, sym, ap, subst, ⊎_elim, arith, ℤ, true, List, length, Result, Ok, Err, mul-le-mul_left}
+use Rattle.std.proofs.Common.{◌≡◌, ◌⊎◌, inl, inr, ℕ, ◌*◌, ◌^◌, ◌<◌, ◌≤◌, ◌∙◌, refl, sym, ap, subst, ⊎_elim, arith, ℤ, true, List, length, Result, Ok, Err}
 use Rattle.std.specs.Prelude.{nat_lt, if◌then◌else◌}
 use Rattle.std.proofs.lemmas.List.{length-map}
 use Rattle.std.proofs.lemmas.List.Elements.{All-from_get_or}
@@ -9,7 +9,6 @@ use Rattle.mesh_text.specs.declared.entry.TheConstants.{MESH_VALUES}
 use Rattle.cell_sides.specs.declared.shape.Shape.{Shape}
 use Rattle.cell_sides.specs.Sides.{nodes, sides, side_nodes, AreSides}
 use Rattle.tag_places.specs.Places.{ArePlaces}
-use Rattle.gmsh_text.specs.declared.entities.Group.{Group}
 use Rattle.gmsh_text.specs.declared.nodes.Tag.{Tag}
 use Rattle.gmsh_text.specs.declared.read.GmshText.{GmshText}
 use Rattle.gmsh_text.specs.Rows.{Rows}
@@ -23,8 +22,7 @@ use Rattle.gmsh_mesh.specs.Stages.{Judgement, Both, Gives}
 use Rattle.gmsh_mesh.specs.Choice.{dim_count, choice, one_type, cell_table, side_table}
 use Rattle.gmsh_mesh.specs.Numbers.{number_of_tag, numbers}
 use Rattle.gmsh_mesh.specs.Faces.{MatesAre, FaceArrays, AreFacesOf}
-use Rattle.gmsh_mesh.specs.Boundary.{SideElements, TagsAre}
-use Rattle.gmsh_mesh.specs.Mesh.{Arrays, within, size_before, NodesAre, RowsAre, ElementsAre, elements_of, TaggedAre, FacedAre, MeshIs}
+use Rattle.gmsh_mesh.specs.Mesh.{Arrays, within, size_before, NodesAre, RowsAre, ElementsAre, TaggedAre, FacedAre, MeshIs}
 use Rattle.gmsh_mesh.specs.Small.{AreSmall, ArePlacesOf}
 use Rattle.gmsh_mesh.proofs.Staging.{goes}
 use Rattle.gmsh_mesh.proofs.Whole.{few, cells-whole, sides-whole, both-ok, AfterNodes, AfterSizes, AfterShape}
@@ -55,64 +53,8 @@ some-nodes shape = let h = (few shape).some_nodes in omega (arith, h)
 pub some-corners : (shape : Shape) → 0 < side_nodes shape
 some-corners shape = let h = (few shape).some_corners in omega (arith, h)
 
--- rows of two or more are at most half of what they have
-pub half : (n w k : ℕ) → 2 ≤ w → n * w ≤ k → n * 2 ≤ k
-half n w k some l = let m : n * 2 ≤ n * w = mul-le-mul_left n some in omega (arith, m, l)
-
--- cells whose nodes are values of a mesh text are few
-pub few-cells : (shape : Shape) (n : ℕ) (cell : List ℕ) → length cell ≡ n * nodes shape → length cell ≤ MESH_VALUES → n < 2 ^ 28
-few-cells shape n cell whole low =
-    let some = (few shape).some_nodes in
-    let l : n * 2 ≤ MESH_VALUES = half n (nodes shape) MESH_VALUES (omega (arith, some)) (omega (arith, whole, low)) in
-    omega (arith, l)
-
-pub few-elements : (shape : Shape) (n : ℕ) (elements : List ℕ) → length elements ≡ n * side_nodes shape → length elements ≤ MESH_VALUES → n < 2 ^ 28
-few-elements shape n elements whole low =
-    let l : n * 2 ≤ MESH_VALUES = half n (side_nodes shape) MESH_VALUES (few shape).some_corners (omega (arith, whole, low)) in
-    omega (arith, l)
-
-pub few-sides : (shape : Shape) (n : ℕ) → n < 2 ^ 28 → n * sides shape < 2 ^ 31
-few-sides shape n l = let m : n * sides shape ≤ n * 6 = mul-le-mul_left n (few shape).few_sides in omega (arith, m, l)
-
--- elements of these parts
-abbrev pub made : List ℕ → List Group → List ℕ → SideElements
-made nodes groups lines = record { nodes = nodes; groups = groups; lines = lines }
-
-pub elements-are : (t : GmshText) (shape : Shape) (es : SideElements) (ns : List ℕ) (rows : Rows) (a : List ℕ) (g : List Group) (l : List ℕ)
-    → made a g l ≡ es
-    → rows ≡ side_table shape t.elements
-    → a ≡ ns
-    → g ≡ rows.groups
-    → l ≡ rows.lines
-    → es ≡ elements_of t shape ns
-elements-are t shape es ns rows a g l is table p q r =
-    sym is ∙ ap (λ z. made z g l) p ∙ ap (λ z. made ns z l) q ∙ ap (λ z. made ns rows.groups z) r ∙ ap (λ (z : Rows). made ns z.groups z.lines) table
-
--- the same faces and elements have the same tags
-pub tags-same : (w v n m : ℕ) (a b : List ℕ) (es fs : SideElements) (r : Result (List ℤ) GmshRefusal) → w ≡ v → n ≡ m → a ≡ b → es ≡ fs
-    → TagsAre w n a es r
-    → TagsAre v m b fs r
-tags-same w v n m a b es fs r p q s u h =
-    subst (λ z. TagsAre v m b z r) u (subst (λ z. TagsAre v m z es r) s (subst (λ z. TagsAre v z a es r) q (subst (λ z. TagsAre z n a es r) p h)))
-
 module _ (t : GmshText) (dim : Dimension) (shape : Shape) (x : List ℤ) (cell elements : List ℕ) where
-  module _ (f : FaceArrays) where
-    pub tagged : (tags : List ℤ) → TagsAre (side_nodes shape) (length f.bcell) f.bface (elements_of t shape elements) (Ok tags)
-        → TaggedAre t dim shape x cell elements f (Ok (record { dim = dim_count dim; shape = shape; x = x; cell = cell; faces = f; btag = tags }))
-    tagged tags h = inr (tags, h, refl)
-
-    pub not-tagged : (e : GmshRefusal)
-        → ((e ≡ OutOfMemory) ⊎ TagsAre (side_nodes shape) (length f.bcell) f.bface (elements_of t shape elements) (Err e))
-        → (e ≡ OutOfMemory) ⊎ TaggedAre t dim shape x cell elements f (Err e)
-    not-tagged e (inl h) = inl h
-    not-tagged e (inr h) = inr (inl (e, h, refl))
-
   module _ (all : List ℕ) (s : AreSides shape (length (cell_table shape t.elements).lines) cell all) where
-    pub not-faced : (e : GmshRefusal) → ((e ≡ OutOfMemory) ⊎ MatesAre shape (cell_table shape t.elements).lines all (Err e))
-        → (e ≡ OutOfMemory) ⊎ FacedAre t dim shape x cell elements (Err e)
-    not-faced e (inl h) = inl h
-    not-faced e (inr h) = inr (all, s, inl (e, h, refl))
-
     pub faced : {M : Type 0} (mates : List ℕ) → MatesAre shape (cell_table shape t.elements).lines all (Ok mates)
         → (f : FaceArrays)
         → AreFacesOf shape (length (cell_table shape t.elements).lines) all mates f
@@ -124,13 +66,7 @@ module _ (t : GmshText) (dim : Dimension) (shape : Shape) (x : List ℤ) (cell e
     faced mates h f a (Err e) view (inr k) = inr (all, s, inr (mates, h, (f, a, k)))
 
 module _ (t : GmshText) (dim : Dimension) (scale : ℕ) where
-  pub no-shape : (e : GmshRefusal) → ◌≡◌ {A = Result Choice GmshRefusal} (Err e) (choice dim t.elements) → MeshIs t dim scale (Err e)
-  no-shape e h = inl (e, h, refl)
-
   module _ (c : Choice) (chosen : ◌≡◌ {A = Result Choice GmshRefusal} (Ok c) (choice dim t.elements)) where
-    pub too-many : (e : GmshRefusal) → ◌≡◌ {A = Result (Unit {0}) GmshRefusal} (Err e) (within (size_before t dim c.shape)) → MeshIs t dim scale (Err e)
-    too-many e h = inr (c, chosen, inl (e, h, refl))
-
     module _ (fits : ◌≡◌ {A = Result (Unit {0}) GmshRefusal} (Ok tt) (within (size_before t dim c.shape))) where
       pub no-nodes : (e : GmshRefusal) → ((e ≡ OutOfMemory) ⊎ NodesAre t dim scale (Err e)) → (e ≡ OutOfMemory) ⊎ MeshIs t dim scale (Err e)
       no-nodes e (inl h) = inl h

@@ -1,26 +1,23 @@
 -- From the bytes of a file to the text of their mesh.
-use Rattle.std.proofs.Common.{◌≡◌, ◌⊎◌, inl, inr, ℕ, ◌<◌, ◌≤◌, ◌∙◌, refl, sym, ap, subst, arith, Bool, true, false, List, length, Option, Result, Ok, Err}
+use Rattle.std.proofs.Common.{◌≡◌, inr, ℕ, ◌<◌, ◌≤◌, ◌∙◌, refl, sym, ap, subst, arith, Bool, true, false, List, length, Option, Result, Ok, Err}
 use Rattle.std.specs.Prelude.{nat_lt, if◌then◌else◌}
 use Rattle.std.proofs.lemmas.Bool.Decides.{nat_tests}
-use Rattle.texts.specs.Automaton.{Told}
 use Rattle.mesh_text.specs.declared.entry.TheConstants.{MESH_VALUES, MESH_BYTES}
 use Rattle.mesh_text.specs.declared.entry.Form.TheVariants.{Two}
 use Rattle.mesh_text.specs.Spelling.{total}
 use Rattle.mesh_text.specs.Canonical.{canonical}
-use Rattle.gmsh_text.specs.declared.refusal.TextRefusal.{TextRefusal}
-use Rattle.gmsh_text.specs.declared.refusal.TextRefusal.TheVariants as text
 use Rattle.gmsh_text.specs.declared.read.GmshText.{GmshText}
 use Rattle.gmsh_text.specs.Reading.{outcome}
 use Rattle.gmsh_mesh.specs.declared.choice.Dimension.{Dimension}
 use Rattle.gmsh_mesh.specs.declared.refusal.GmshRefusal.{GmshRefusal}
-use Rattle.gmsh_mesh.specs.declared.refusal.GmshRefusal.TheVariants.{Limit, Bytes, OutOfMemory}
+use Rattle.gmsh_mesh.specs.declared.refusal.GmshRefusal.TheVariants.{Limit, Bytes}
 use Rattle.gmsh_mesh.specs.Stages.{Gives}
 use Rattle.gmsh_mesh.specs.Choice.{dimension}
 use Rattle.gmsh_mesh.specs.Mesh.{Arrays, MeshIs}
 use Rattle.gmsh_mesh.specs.Entries.{entries}
 use Rattle.gmsh_mesh.specs.Source.{source_text}
-use Rattle.gmsh_mesh.specs.Outcome.{of_text, told, ArraysAre, Conversion, written, Comes}
-use Rattle.gmsh_mesh.proofs.Staging.{goes, stops-or}
+use Rattle.gmsh_mesh.specs.Outcome.{told, ArraysAre, Conversion, written, Comes}
+use Rattle.gmsh_mesh.proofs.Staging.{goes}
 
 abbrev pub texts : List ℕ → List ℕ → Conversion
 texts mesh source = record { mesh = mesh; source = source }
@@ -41,12 +38,6 @@ not-beyond : (n k : ℕ) → k ≤ n → nat_lt n k ≡ false
 not-beyond n k l = grind (arith, nat_tests)
 
 module _ (bytes : List ℕ) (dim : Option Dimension) (scale : ℕ) where
-  -- the text is refused
-  pub no-text : (e : TextRefusal) (f : GmshRefusal) → f ≡ of_text e → Told {X = GmshText} text.OutOfMemory (Err e) (outcome bytes)
-      → (f ≡ OutOfMemory) ⊎ ArraysAre bytes dim scale (Err f)
-  no-text e f is (inl h) = inl (is ∙ ap of_text h)
-  no-text e f is (inr h) = inr (inl (f, ap Err is ∙ ap told (sym h), refl))
-
   -- the text is read, and its mesh is made
   pub text-read : {M : Type 0} (t : GmshText) → outcome bytes ≡ Ok t → (d : Dimension) → d ≡ dimension dim t.elements
       → (r : Result M GmshRefusal) (view : M → Arrays)
@@ -55,10 +46,6 @@ module _ (bytes : List ℕ) (dim : Option Dimension) (scale : ℕ) where
   text-read t h d is r view k =
       goes (λ q. q ≡ told (outcome bytes)) (λ u. MeshIs u (dimension dim u.elements) scale) t (sym (ap told h)) r view
       (subst (λ z. Gives r view (MeshIs t z scale)) is k)
-
-  -- there is no mesh
-  pub no-arrays : (e : GmshRefusal) → ((e ≡ OutOfMemory) ⊎ ArraysAre bytes dim scale (Err e)) → (e ≡ OutOfMemory) ⊎ Comes bytes dim scale (Err e)
-  no-arrays e h = stops-or (ArraysAre bytes dim scale) (λ m r. r ≡ written m) e h
 
   module _ (m : Arrays) (h : ArraysAre bytes dim scale (Ok m)) where
     comes : (r : Result Conversion GmshRefusal) → r ≡ written m → Comes bytes dim scale r

@@ -80,12 +80,6 @@ module _ (all mates : List ℕ) (w n s : ℕ) (table : length all ≡ n * w) (m 
     below : All (λ p. p < n) places
     below = All-from_get_or (λ p. p < n) places 0 (λ i l. (f.each i l).0)
 
-    pub rows-within : (k : ℕ) → k < length places → get_or places k 0 * w + w ≤ length all
-    rows-within k l = room (get_or places k 0) (f.each k l).0
-
-    pub places-within : (k : ℕ) → k < length places → get_or places k 0 < length mates
-    places-within k l = omega (arith, (f.each k l).0, m.size)
-
     pub rows-length : length (rows_of all w places) ≡ length places * w
     rows-length =
         flat-length (λ p. p < n) w (row all w) (λ p l. length-take-le w (drop (p * w) all) (omega (arith, length-drop (p * w) all, room p l))) places below

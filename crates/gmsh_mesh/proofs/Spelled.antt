@@ -1,14 +1,11 @@
 -- The text of a mesh is read again.
 use Rattle.std.proofs.Common.{◌≡◌, ℕ, ◌+◌, ◌^◌, ◌<◌, ◌≤◌, refl, sym, subst, arith, pos, List, length, map, Result, Ok, Err, IfOk}
 use Rattle.std.proofs.lemmas.List.{length-map}
-use Rattle.cell_sides.specs.declared.shape.Shape.{Shape}
-use Rattle.cell_sides.specs.declared.shape.Shape.TheVariants.{Triangle, Quadrangle, Tetrahedron, Hexahedron}
 use Rattle.mesh_text.specs.declared.entry.TheConstants.{MESH_VALUES}
 use Rattle.mesh_text.specs.Spelling.{Named, Spells, total}
 use Rattle.mesh_text.specs.Canonical.{CanBeSpelled}
 use Rattle.gmsh_mesh.specs.Mesh.{Arrays}
 use Rattle.gmsh_mesh.specs.Entries.{entries}
-use Rattle.gmsh_mesh.specs.Source.{source_text}
 
 -- how many values a mesh has
 pub total-is : (m : Arrays)
@@ -37,13 +34,6 @@ can-be-spelled m l =
     let e : length (map pos m.faces.bcell) < 2 ^ 31 = few (length (map pos m.faces.bcell)) (total (entries m)) (omega (arith, t, length-map m.faces.bcell pos)) l in
     let y : length m.btag < 2 ^ 31 = few (length m.btag) (total (entries m)) (omega (arith, t)) l in
     (refl, tt, (refl, tt, (refl, tt, (refl, tt, (refl, x, (refl, a, (refl, b, (refl, c, (refl, d, (refl, e, (refl, y, tt)))))))))))
-
--- a program is short
-pub short : (shape : Shape) → length (source_text shape) < 2 ^ 16
-short Triangle = omega arith
-short Quadrangle = omega arith
-short Tetrahedron = omega arith
-short Hexahedron = omega arith
 
 -- what is written spells the entries of the mesh, where these are the ones that were put
 pub if-spelled : {V E : Type 0} (items : V → List ℕ) (r : Result V E) (es fs : List Named) → es ≡ fs → CanBeSpelled fs

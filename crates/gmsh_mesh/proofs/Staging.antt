@@ -8,16 +8,6 @@ use Rattle.gmsh_mesh.specs.declared.refusal.GmshRefusal.TheVariants as refusal
 use Rattle.texts.specs.Automaton.{Answers}
 use Rattle.gmsh_mesh.specs.Stages.{Judgement, given, line_of, lower, Both, is_lost, earlier, joined, Gives}
 
--- a refusal ends what comes after it
-pub stops : {A B : Type 0} (judged : Judgement A) (rest : A → Judgement B) (e : GmshRefusal) → judged (Err e) → given judged rest (Err e)
-stops judged rest e h = inl (e, h, refl)
-
--- the same where memory may have run out
-pub stops-or : {A B : Type 0} (judged : Judgement A) (rest : A → Judgement B) (e : GmshRefusal) → ((e ≡ refusal.OutOfMemory) ⊎ judged (Err e))
-    → (e ≡ refusal.OutOfMemory) ⊎ given judged rest (Err e)
-stops-or judged rest e (inl h) = inl h
-stops-or judged rest e (inr h) = inr (stops judged rest e h)
-
 -- what is given goes on
 pub goes : {M A B : Type 0} (judged : Judgement A) (rest : A → Judgement B) (x : A) → judged (Ok x) → (r : Result M GmshRefusal) (view : M → B)
     → Gives r view (rest x) → Gives r view (given judged rest)
@@ -30,13 +20,6 @@ pub passed : {M A : Type 0} (r : Result M GmshRefusal) (e : GmshRefusal) (view :
     → ((e ≡ refusal.OutOfMemory) ⊎ judged (Err e))
     → Gives r view judged
 passed r e view judged h f = let k = err_from_is_err_and r h in rw (k.1, k.2) f
-
--- a judgement that says more
-pub weaker : {M A : Type 0} (r : Result M GmshRefusal) (view : M → A) (one other : Judgement A) → ((q : Result A GmshRefusal) → one q → other q)
-    → Gives r view one → Gives r view other
-weaker (Ok m) view one other f h = f (Ok (view m)) h
-weaker (Err e) view one other f (inl h) = inl h
-weaker (Err e) view one other f (inr h) = inr (f (Err e) h)
 
 lost-is : (e : GmshRefusal) → is_lost e ≡ true → e ≡ refusal.OutOfMemory
 lost-is refusal.OutOfMemory h = refl

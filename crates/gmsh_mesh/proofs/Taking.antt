@@ -1,5 +1,5 @@
 -- The tag of a class with one element more.
-use Rattle.std.proofs.Common.{◌≡◌, ◌≢◌, ◌⊎◌, inl, inr, ℕ, ◌+◌, ◌<◌, ◌≤◌, ℤ, Bool, true, false, ◌∙◌, refl, sym, ap, subst, ⊎_elim, arith, List, get_or, Option, Some, None, Result, Ok, Err}
+use Rattle.std.proofs.Common.{◌≡◌, ◌⊎◌, inl, inr, ℕ, ◌+◌, ◌<◌, ◌≤◌, ℤ, Bool, true, false, ◌∙◌, refl, sym, ap, subst, ⊎_elim, arith, List, get_or, Option, Some, None, Result, Ok, Err}
 use Rattle.std.proofs.lemmas.Bool.{cases_lt}
 use Rattle.std.proofs.lemmas.Bool.Decides.{Decides-int_eq}
 use Rattle.std.specs.Prelude.{if◌then◌else◌}
@@ -52,23 +52,3 @@ module _ (classes : List ℕ) (count : ℕ) (groups : List Group) (e class : ℕ
           subst (IsClassTag classes count groups (e + 1) class) (ok-same (Some s) p (sym k ∙ j))
           ((h.0.0, omega (arith, h.0.1), h.0.2, h.0.3), each-more (λ k. IsFree groups k ⊎ IsIn groups k s) h.1 (λ _. inr (is ∙ ap One (sym same))))
       by false l = let k : joined_one (Some s) t line ≡ Err (TwoGroups line) = ap (λ b. if b then Ok (Some s) else Err (TwoGroups line)) l in absurd (let f : ⊥ = cc in f)
-
-  -- why the element's group is refused
-  abbrev pub Other : Type 0
-  Other = (get_or groups e Ungrouped ≡ Several)
-      ⊎ ((t : ℤ) × (before : ℕ) × (s : ℤ) × IsIn groups e t × (before < e) × IsOfClass classes count class before × IsIn groups before s × (s ≢ t))
-
-  pub other : (o : Option ℤ) (x : GmshRefusal) (g : Group) (line : ℕ) → get_or groups e Ungrouped ≡ g → IsClassTag classes count groups e class o
-      → joined_tag o g line ≡ Err x
-      → (x ≡ TwoGroups line) × Other
-  other o x Ungrouped line is h j = absurd (let f : ⊥ = cc in f)
-  other o x Several line is h j = (cc, inl is)
-  other None x (One t) line is h j = absurd (let f : ⊥ = cc in f)
-  other (Some s) x (One t) line is h j = by (int_eq s t) refl
-    where
-      by : (b : Bool) → int_eq s t ≡ b → (x ≡ TwoGroups line) × Other
-      by true l = let k : joined_one (Some s) t line ≡ Ok (Some s) = ap (λ b. if b then Ok (Some s) else Err (TwoGroups line)) l in absurd (let f : ⊥ = cc in f)
-      by false l =
-          let k : joined_one (Some s) t line ≡ Err (TwoGroups line) = ap (λ b. if b then Ok (Some s) else Err (TwoGroups line)) l in
-          let apart : s ≢ t = λ same. let e : int_eq s t ≡ true = (Decides-int_eq s t).1 same in let f : ⊥ = cc in f in
-          (cc, inr (t, h.0.0, s, is, h.0.1, h.0.2, h.0.3, apart))

@@ -36,12 +36,6 @@ sides-whole Quadrangle es w = w.lines.nodes
 sides-whole Tetrahedron es w = w.triangles.nodes
 sides-whole Hexahedron es w = w.quadrangles.nodes
 
-pub groups-whole : (shape : Shape) (es : Elements) → AreWhole es → length (side_table shape es).groups ≡ length (side_table shape es).lines
-groups-whole Triangle es w = w.lines.groups
-groups-whole Quadrangle es w = w.lines.groups
-groups-whole Tetrahedron es w = w.triangles.groups
-groups-whole Hexahedron es w = w.quadrangles.groups
-
 -- a shape has some nodes and sides, and few of them
 pub record IsFew (shape : Shape) : Type 0 where
   pub some_nodes : 3 ≤ nodes shape

@@ -26,8 +26,8 @@ decimal_word w None = Err (Syntax w.line)
 decimal_word w (Some d) = Ok w
 
 -- the token, where it has these bytes
-abbrev pub same_word : TextRefusal → List ℕ → Word → Result Word TextRefusal
-same_word e text w = if bytes_eq w.text text then Ok w else Err e
+abbrev pub expected_word : TextRefusal → List ℕ → Word → Result Word TextRefusal
+expected_word e text w = if bytes_eq w.text text then Ok w else Err e
 
 -- a number below the end is awaited
 unfoldable pub number : ℕ → Uncut → Parsed ℕ
@@ -47,7 +47,7 @@ tag u = taken (λ w. onto (number_below (2 ^ 32) w.line (number_of w.text)) (λ 
 
 -- this word is awaited
 unfoldable pub word : List ℕ → Uncut → Parsed Word
-word text u = taken (λ w. same_word (Syntax w.line) text w) u
+word text u = taken (λ w. expected_word (Syntax w.line) text w) u
 
 -- a decimal is passed over
 abbrev pub skip_decimal : Unit {0} → Uncut → Parsed (Unit {0})

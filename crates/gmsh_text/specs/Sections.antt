@@ -15,7 +15,7 @@ use Rattle.gmsh_text.specs.declared.format.Section.{Section}
 use Rattle.gmsh_text.specs.declared.format.Section.TheVariants.{Entities, Nodes, Elements}
 use Rattle.gmsh_text.specs.Groups.{Grouped, EntityGroups}
 use Rattle.gmsh_text.specs.Parsing.{Parsed, and_then, repeat, taken}
-use Rattle.gmsh_text.specs.Numbers.{number, integer, word, same_word, skip_decimals, skip_integers}
+use Rattle.gmsh_text.specs.Numbers.{number, integer, word, expected_word, skip_decimals, skip_integers}
 use Rattle.gmsh_text.specs.Values.{joined}
 
 -- the version that a token names
@@ -24,11 +24,11 @@ version_of w = if bytes_eq w.text (codes "2.2") then Ok Two else if bytes_eq w.t
 
 -- 0 says that the file is a text, and 1 that it is binary
 abbrev pub text_mark : Word → Result Word TextRefusal
-text_mark w = if bytes_eq w.text (codes "1") then Err (Binary w.line) else same_word (Syntax w.line) (codes "0") w
+text_mark w = if bytes_eq w.text (codes "1") then Err (Binary w.line) else expected_word (Syntax w.line) (codes "0") w
 
 -- the section with the version, which comes first
 unfoldable pub format : Uncut → Parsed Form
-format u = and_then (taken (λ w. same_word (Header w.line) (codes "$MeshFormat") w) u) (λ _ a.
+format u = and_then (taken (λ w. expected_word (Header w.line) (codes "$MeshFormat") w) u) (λ _ a.
     and_then (taken version_of a) (λ v b. and_then (taken text_mark b) (λ _ c. and_then (number (2 ^ 32) c) (λ _ d.
     and_then (word (codes "$EndMeshFormat") d) (λ _ e. Ok (v, e))))))
 

@@ -165,12 +165,6 @@ module _ (told : Option Files) (rose : Type 0) where
       → AnswersFrom told rs P rose r
   answers_always rs Q P r step k = answers_by rs rs Always (always rs) Q P r (λ files a u. step files a) k
 
-  pub answers_weaker : (rs : Readings) (Q P : Files → lines.Answer → Type 0) (r : Result Answer Halt)
-      → ((files : Files) (a : lines.Answer) → Q files a → P files a)
-      → AnswersFrom told rs Q rose r
-      → AnswersFrom told rs P rose r
-  answers_weaker rs Q P r step k = answers_on rs rs Always (always rs) Q P r (λ name c. c) (λ files a u. step files a) k
-
   -- ---- the whole
 
   module _ (some : SomeAreSeen) (names : List (List ℕ)) (P : Files → lines.Answer → Type 0) where

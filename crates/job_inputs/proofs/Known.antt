@@ -8,7 +8,7 @@ use Rattle.indexmap.proofs.CallerLemmas.{Contains-list_any}
 use Rattle.kernel_types.specs.declared.kernels.RKernel.{RKernel}
 use Rattle.kernel_types.specs.declared.statements.RStmt.{RStmt}
 use Rattle.kernel_model.specs.Obeys as model
-use Rattle.kernel_model.specs.Obeys.{Obeys, KernelObeys, mode_at, Assigned, Event, Allowed, AllAllowed, AllWritten, Reads, Assigns, Adds, Changes, Owns, Merges, after_event, events, Path, no_counters, assigned_after, MayRead, MayAssign, MayAdd, MayChange, MayOwn, MayMerge, HasAssigned}
+use Rattle.kernel_model.specs.Obeys.{Obeys, KernelObeys, mode_at, Assigned, Event, Allowed, AllAllowed, Reads, Assigns, Adds, Changes, Owns, Merges, after_event, events, no_counters, MayRead, MayAssign, MayAdd, MayChange, MayOwn, MayMerge}
 use Rattle.kernel_model.specs.Refusals.{argument_of}
 use Rattle.access_check.specs.Modes.{model_of}
 use Rattle.access_check.specs.declared.modes.Mode.{Mode}

@@ -6,7 +6,6 @@ pub mod Unowned
 pub mod Unread
 pub mod Sites
 pub mod Known
-pub mod Maps
 pub mod Jobs
 pub mod Lent
 mod Stretches

@@ -10,7 +10,7 @@ use Rattle.c_tree.specs.declared.hosts.AccessWord.TheVariants as word
 use Rattle.c_tree.specs.declared.hosts.ArgVia.TheVariants as via
 use Rattle.c_tree.specs.declared.hosts.LoopArg.TheVariants as arg
 use Rattle.c_tree.specs.Tree as tree
-use Rattle.c_tree.specs.Tree.{ExprTree, DeclrTree, TopTree, HostTree, HostTrees, ProgramTree}
+use Rattle.c_tree.specs.Tree.{ExprTree, DeclrTree, TopTree, HostTree, HostTrees}
 use Rattle.kernel_types.specs.declared.kernels.ConstDecl.{ConstDecl}
 use Rattle.mesh_text.specs.declared.entry.Entry.TheVariants.{Many}
 use Rattle.mesh_text.specs.Spelling.{Named}

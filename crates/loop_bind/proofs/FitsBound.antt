@@ -93,10 +93,6 @@ module _ (p : ProgramTree) (r : Resolved) (es : List Named) where
 
   -- ---- the trace
 
-  record Unrolled (k : Declared) (u : UnrolledValue) : Type 0 where
-    unrolls : Unrolls (so_far ks k) None max_trace u
-    last : Last u
-
   both : {A : Type 0} (P Q : A → Type 0) (j : Judged A) → Gives P j → Gives Q j → Gives (λ x. P x × Q x) j
   both P Q (Ok x) h i = (h, i)
   both P Q (Err e) h i = tt
@@ -126,12 +122,6 @@ module _ (p : ProgramTree) (r : Resolved) (es : List Named) where
         last = ends_with_host u.items l.last;
         few = omega (arith, i.few);
       }
-
-  pub parts_fit : TopsTake ks 0 p.tops → All TopIsRead p.tops → HostsAreRead p.main.body → HaveNumbers es → MainAssignsVariables p r es → Gives Parts (bound p r es)
-  parts_fit takes tops body numbers assigns =
-      gives_then (Walks ks es) Parts (text p r es) (unrolled_text r) (text_walks takes tops body numbers assigns)
-      (λ w h. gives_then (λ u. Unrolls (so_far ks w.declared) None max_trace u × Last u) Parts (trace w.declared.mesh (happens w)) (λ u. Ok (finished r w.declared u)) (walk_unrolls w h)
-      (λ u i. finished_fits w.declared u h.lawful i.0 i.1))
 
   -- the maps are those of the text
   pub maps_narrow : TopsTake ks 0 p.tops → All TopIsRead p.tops → HostsAreRead p.main.body → HaveNumbers es → MainAssignsVariables p r es → Gives (λ b. All HasMapDim b.mesh.maps) (bound p r es)

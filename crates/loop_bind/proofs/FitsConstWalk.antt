@@ -8,7 +8,7 @@ use Rattle.c_tree.specs.declared.expressions.NumberLiteral.{NumberLiteral}
 use Rattle.c_tree.specs.declared.expressions.TextLiteral.{TextLiteral}
 use Rattle.c_tree.specs.declared.hosts.LoopArg.{LoopArg}
 use Rattle.c_tree.specs.Tree as tree
-use Rattle.c_tree.specs.Tree.{ExprTree, DeclrTree, OpCallTree, HostTree, HostTrees, HostForHeaderTree}
+use Rattle.c_tree.specs.Tree.{ExprTree, DeclrTree, OpCallTree, HostTree, HostTrees}
 use Rattle.kernel_types.specs.declared.kernels.ConstDecl.{ConstDecl}
 use Rattle.mesh_decl.specs.Printed.{conversions}
 use Rattle.mesh_text.specs.Spelling.{Named}

@@ -112,11 +112,6 @@ module _ (ks : List RKernel) (es : List Named) where
     array-is k x (Some (Many zs)) h = top-name k x.name ExternArray h tt
     array-is k x None h = tt
 
-    -- the kernels that follow take what they are resolved with
-    pub record TopsLeft (ts : List TopTree) (k : Declared) : Type 0 where
-      pub top : TopLawful ks es k
-      pub takes : TopsTake ks k.kernels ts
-
     top_is : (k : Declared) (t : TopTree) (ts : List TopTree) → HaveNumbers es → TopLawful ks es k → TopsTake ks k.kernels (t ∷ ts) → TopIsRead t → Gives (TopLawful ks es) (judged_top places consts es k t)
     top_is k (tree.Extern x) ts n h i r = extern-is k x (lookup (bytes_eq x.name) es) h (All-lookup HasNumber (bytes_eq x.name) es n)
     top_is k (tree.ExternArray x) ts n h i r = array-is k x (lookup (bytes_eq x.name) es) h

@@ -138,9 +138,6 @@ pub record WalksOn (ks : List RKernel) (es : List Named) (k : Declared) (b : Wal
   pub file : b.declared.names.file ≡ k.names.file
 
 module _ (ks : List RKernel) (es : List Named) where
-  goes-self : (k : Declared) → Lawful ks es k → Goes ks es k k
-  goes-self k h = record { lawful = h; grows = grows-self k; file = refl }
-
   -- behind something declared
   pub walks_behind : (a : Walked) (l : Declared) → Walks ks es a → Goes ks es a.declared l → WalksOn ks es a.declared (behind a l)
   walks_behind a l w g = record {

@@ -7,7 +7,7 @@ use Rattle.c_tree.specs.declared.expressions.Ident.{Ident}
 use Rattle.c_tree.specs.declared.hosts.LoopArg.{LoopArg}
 use Rattle.c_tree.specs.declared.hosts.LoopArg.TheVariants as arg
 use Rattle.c_tree.specs.Tree as tree
-use Rattle.c_tree.specs.Tree.{ExprTree, DeclrTree, PlaceTree, TopTree, OpCallTree, HostTree, HostTrees, HostForHeaderTree}
+use Rattle.c_tree.specs.Tree.{ExprTree, DeclrTree, PlaceTree, TopTree, OpCallTree, HostTree, HostTrees}
 use Rattle.kernel_types.specs.declared.kernels.ConstDecl.{ConstDecl}
 use Rattle.mesh_decl.specs.Mesh.{set_count, map_count, dat_count}
 use Rattle.mesh_decl.specs.Printed.{conversions}

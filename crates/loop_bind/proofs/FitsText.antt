@@ -7,7 +7,7 @@ use Rattle.c_lex.specs.declared.tokens.Pos.{Pos}
 use Rattle.c_tree.specs.declared.expressions.Ident.{Ident}
 use Rattle.c_tree.specs.declared.expressions.TextLiteral.{TextLiteral}
 use Rattle.c_tree.specs.Tree as tree
-use Rattle.c_tree.specs.Tree.{ExprTree, PlaceTree, AssignmentTree, OpCallTree, HostTree, HostTrees, HostForHeaderTree}
+use Rattle.c_tree.specs.Tree.{ExprTree, PlaceTree, OpCallTree, HostTree, HostTrees, HostForHeaderTree}
 use Rattle.kernel_types.specs.declared.kernels.ConstDecl.{ConstDecl}
 use Rattle.kernel_types.specs.declared.kernels.RKernel.{RKernel}
 use Rattle.mesh_decl.specs.Mesh.{dat_count}
@@ -159,10 +159,6 @@ module _ (ks : List RKernel) (es : List Named) where
         gives_then (λ (c : Asked). Within a.declared.cells c.value) (Bounds a.declared.cells) (judged_static places a.declared.names f.from) (λ from. judged_static places (with_counter places consts es a f.name).declared.names f.to >>= λ to. Ok (from, to)) (static_within ks es places a.declared h.lawful f.from p)
         (λ from i. gives_then (λ (c : Asked). Within a.declared.cells c.value) (Bounds a.declared.cells) (judged_static places (with_counter places consts es a f.name).declared.names f.to) (λ to. Ok (from, to)) (static_within ks es places (with_counter places consts es a f.name).declared (counter_walks a f.name h).lawful f.to q)
         (λ to j. record { from = i; to = j }))
-
-    behind_is : (P : Walked → Type 0) (Q R : Walked → Type 0) (r : Judged Walked) → Gives P r → Behind r R → ((b : Walked) → P b → R b → Q b) → Gives Q r
-    behind_is P Q R (Ok b) g i f = f b g i
-    behind_is P Q R (Err e) g i f = tt
 
     -- the two parts of a sequence
     record Both (P R : Walked → Type 0) (b : Walked) : Type 0 where

@@ -1,5 +1,5 @@
 -- What `main` unrolls to leaves the variables that are `const`.
-use Rattle.std.proofs.Common.{◌≡◌, ℕ, zero, suc, ℤ, pos, ◌+ℤ◌, List, [], ◌∷◌, ◌++◌, length, Ok, Err, Bool, true, false, int_lt, refl, sym, ap, inl, inr, ◌∙◌}
+use Rattle.std.proofs.Common.{◌≡◌, ℕ, zero, suc, ℤ, pos, ◌+ℤ◌, List, [], ◌∷◌, ◌++◌, Ok, Err, Bool, true, false, int_lt, refl, sym, inl, inr, ◌∙◌}
 use Rattle.std.specs.Prelude.{All, Option, Some, None, slice_index_or, if◌then◌else◌}
 use Rattle.std.proofs.lemmas.Bool.{false≢true}
 use Rattle.std.proofs.lemmas.List.Elements.{All-nil, All-cons, All-weaker}
@@ -122,11 +122,6 @@ module _ (vs : List VarValue) where
   unrolls-free (suc left) (Does x ∷ es) h = item-then x (unrolled left es) h.0 (unrolls-free left es h.1)
 
 -- ---- the values that are told
-
-started-length : (v : ℕ) (z : ℤ) (vs : List VarValue) → length (started v z vs) ≡ length vs
-started-length v z [] = refl
-started-length zero z (x ∷ xs) = refl
-started-length (suc v) z (x ∷ xs) = ap suc (started-length v z xs)
 
 started-same : (v : ℕ) (z : ℤ) (vs : List VarValue) (w : ℕ) → (at (started v z vs) w).is_const ≡ (at vs w).is_const
 started-same v z [] w = refl

@@ -1,21 +1,14 @@
 -- What a part refuses, the whole refuses.
 use Rattle.std.proofs.Common.{◌≡◌, ◌∙◌, ap, List, Ok, Err, inl, inr}
-use Rattle.c_tree.specs.Tree.{ProgramTree}
-use Rattle.kernel_types.specs.declared.kernels.Resolved.{Resolved}
-use Rattle.mesh_text.specs.Spelling.{Named}
 use Rattle.mesh_decl.specs.Mesh.{MeshValue}
 use Rattle.bind_refusals.specs.declared.refusals.BindRefusal.{BindRefusal}
 use Rattle.bind_refusals.specs.Refusals.{◌>>=◌, JudgesBy}
 use Rattle.bound_program.specs.Limits.{max_trace}
-use Rattle.bound_program.specs.declared.programs.Bound.{Bound}
-use Rattle.bound_program.specs.Values.{bound_of}
-use Rattle.main_names.specs.SoFar.{Walked}
 use Rattle.main_trace.specs.declared.steps.Unrolled.{Unrolled}
 use Rattle.main_trace.specs.Trace.{Event}
 use Rattle.main_trace.specs.Limited.{UnrolledValue, unrolled}
 use Rattle.main_trace.specs.Unrolling.{seen, Gives}
 use Rattle.loop_bind.specs.Weights.{weighed, within_weight, weight_of_all, trace}
-use Rattle.loop_bind.specs.Bound.{text, happens, finished, unrolled_text, bound}
 
 -- `main` is too long, or something in it faults
 pub unrolled_stops : (g : MeshValue) (es : List Event) (e : BindRefusal) → Gives (Err e) (unrolled max_trace es) → JudgesBy {X = Unrolled} seen (Err e) (trace g es)
@@ -30,8 +23,3 @@ weight_stops g es u e h (inr m) = inr (ap (λ t. t >>= weighed g) h ∙ ap (λ t
 -- it is neither
 pub trace_goes : (g : MeshValue) (es : List Event) (u : UnrolledValue) → unrolled max_trace es ≡ Ok u → within_weight (weight_of_all g u.items) ≡ Ok tt → trace g es ≡ Ok u
 trace_goes g es u h m = ap (λ t. t >>= weighed g) h ∙ ap (λ t. t >>= λ _. Ok u) m
-
--- the trace is refused
-pub trace_stops : (p : ProgramTree) (r : Resolved) (es : List Named) (w : Walked) (e : BindRefusal) → text p r es ≡ Ok w → JudgesBy {X = Unrolled} seen (Err e) (trace w.declared.mesh (happens w)) → JudgesBy {X = Bound} bound_of (Err e) (bound p r es)
-trace_stops p r es w e h (inl m) = inl m
-trace_stops p r es w e h (inr m) = inr (ap (λ t. t >>= unrolled_text r) h ∙ ap (λ t. t >>= λ u. Ok (finished r w.declared u)) m)

@@ -1,5 +1,5 @@
 -- The bound program of a source and the entries of a mesh text, or the first refusal.
-use Rattle.std.specs.Prelude.{◌≡◌, List, Ok}
+use Rattle.std.specs.Prelude.{List, Ok}
 use Rattle.kernel_types.specs.declared.kernels.Resolved.{Resolved}
 use Rattle.c_tree.specs.Tree.{ProgramTree}
 use Rattle.mesh_text.specs.Spelling.{Named}
@@ -40,7 +40,3 @@ unrolled_text r w = trace w.declared.mesh (happens w) >>= λ u. Ok (finished r w
 -- The text is judged in its order; then `main` is unrolled in the order of execution; then what it prints is weighed.
 abbrev pub bound : ProgramTree → Resolved → List Named → Judged BoundValue
 bound p r es = text p r es >>= unrolled_text r
-
--- The source, whose names were resolved, is bound to these entries with this outcome.
-abbrev pub Binds : ProgramTree → Resolved → List Named → Judged BoundValue → Type 0
-Binds p r es outcome = bound p r es ≡ outcome

@@ -1,6 +1,6 @@
 -- Sets of ranks that are collected one by one, and what they list.
 use Rattle.std.proofs.Common.{◌≡◌, ℕ, zero, suc, ◌+◌, ◌<◌, ◌≤◌, Bool, true, false, not, ◌&&◌, cond, nat_eq, List, [], ◌∷◌, ◌++◌, append_assoc, length, map, Vec, refl, sym, ap, subst, ◌∙◌, arith, ⊎_elim, add-one}
-use Rattle.std.specs.Prelude.{◌||◌, nat_lt}
+use Rattle.std.specs.Prelude.{nat_lt}
 use Rattle.std.specs.declared.alloc.Global.{Global}
 use Rattle.std.proofs.lemmas.Bool.{cases_eq, cases_lt, eq-eqb, ne_eqb}
 use Rattle.std.proofs.lemmas.List.{get_or_past, length-map, append-nil}
@@ -9,7 +9,7 @@ use Rattle.rank_sets.specs.RankSet.{has, has_at}
 use Rattle.rank_sets.specs.declared.rank_set.RankSet.{RankSet}
 use Rattle.rank_sets.proofs.Below.{listed_agree}
 use Rattle.rank_sets.proofs.Rows.{has_at_push, has_at_push_left}
-use Rattle.rank_sets.proofs.Bools.{and_false, and_true, or_false}
+use Rattle.rank_sets.proofs.Bools.{and_false, and_true}
 use Rattle.loop_plan.specs.Pairs.{pair, pairs_below}
 use Rattle.loop_plan.specs.declared.types.Pair.{Pair}
 
@@ -17,38 +17,6 @@ use Rattle.loop_plan.specs.declared.types.Pair.{Pair}
 pub record Collected (s : RankSet) (f : ℕ → Bool) (n : ℕ) : Type 0 where
   pub below : (r : ℕ) → r < n → has s r ≡ f r
   pub above : (r : ℕ) → n ≤ r → has s r ≡ false
-
-pub none_collected : (s : RankSet) (f : ℕ → Bool) → ((r : ℕ) → has s r ≡ false) → Collected s f 0
-none_collected s f h = record { below = λ r l. absurd (omega arith); above = λ r l. h r }
-
--- with number n where it passes
-pub collected_more : (old new : RankSet) (f : ℕ → Bool) (n : ℕ) (sent : Bool)
-    → sent ≡ f n
-    → ((k : ℕ) → has new k ≡ (has old k || (sent && nat_eq k n)))
-    → Collected old f n
-    → Collected new f (n + 1)
-collected_more old new f n sent e h c = record { below = below; above = above }
-  where
-    other : (r : ℕ) → (r ≡ n → ⊥) → has new r ≡ has old r
-    other r ne =
-        h r
-        ∙ (ap (λ z. has old r || (sent && z)) (ne_eqb r n ne)
-        ∙ (ap (λ z. has old r || z) (and_false sent) ∙ or_false (has old r)))
-
-    same : has new n ≡ f n
-    same =
-        h n
-        ∙ (ap (λ z. z || (sent && nat_eq n n)) (c.above n (omega arith))
-        ∙ (ap (λ z. sent && z) (eq-eqb n n refl) ∙ (and_true sent ∙ e)))
-
-    below : (r : ℕ) → r < n + 1 → has new r ≡ f r
-    below r l = ⊎_elim
-        (λ (q : r ≡ n). subst (λ z. has new z ≡ f z) (sym q) same)
-        (λ (ne : r ≡ n → ⊥). other r ne ∙ c.below r (omega arith))
-        (cases_eq r n)
-
-    above : (r : ℕ) → n + 1 ≤ r → has new r ≡ false
-    above r l = other r (λ q. omega arith) ∙ c.above r (omega arith)
 
 -- past the end of a list of lists is nothing
 pub row_past : (xs : List (Vec ℕ Global)) (i : ℕ) → length xs ≤ i → row xs i ≡ []
@@ -136,14 +104,6 @@ pub message_next : (owner rank : ℕ) (rest rest' : RankSet) (pairs all : List P
 message_next owner rank rest rest' pairs all l t f g e =
     append_assoc pairs (pair owner rank ∷ []) (map (pair owner) (listed 64 (has rest')))
     ∙ (sym (ap (λ (z : List ℕ). pairs ++ map (pair owner) z) (first_listed 64 rank (has rest) (has rest') l t f g)) ∙ e)
-
--- no receiver is left
-pub messages_done : (owner : ℕ) (rest : RankSet) (pairs all : List Pair)
-    → ((k : ℕ) → k < 64 → has rest k ≡ false)
-    → pairs ++ map (pair owner) (listed 64 (has rest)) ≡ all
-    → pairs ≡ all
-messages_done owner rest pairs all h e =
-    sym (append-nil pairs) ∙ (sym (ap (λ (z : List ℕ). pairs ++ map (pair owner) z) (none_listed 64 (has rest) h)) ∙ e)
 
 -- one more sender
 pub senders_more : (t : ℕ → ℕ → Bool) (n m : ℕ) (pairs now : List Pair) (s : RankSet)

@@ -17,9 +17,12 @@ pub mod Running
 pub mod SitePlanning
 pub mod Planning
 pub mod ProperPlan
+pub mod PlanReads
 pub mod PlanLines
 pub mod PlanWriting
 pub mod AlikeMeshes
+pub mod OneColouring
+pub mod AlikeLists
 pub mod OnePlan
 pub mod OneReading
 mod OneStepCount

@@ -1,212 +1,29 @@
 -- Two plans that are alike have one text and one number of steps.
-use Rattle.std.proofs.Common.{◌≡◌, ◌≢◌, ◌↔◌, ◌+◌, ◌*◌, ◌/◌, ◌<◌, ◌≤◌, ℕ, zero, suc, Bool, true, false, nat_eq, List, [], ◌∷◌, Vec, Option, Some, None, length, get_or, map, drop, refl, sym, ap, subst, ◌∙◌, arith, ⊎_elim}
-use Rattle.std.specs.declared.alloc.Global.{Global}
+use Rattle.std.proofs.Common.{◌≡◌, ◌≢◌, ◌/◌, ◌<◌, ◌≤◌, ℕ, Bool, true, false, nat_eq, List, [], length, get_or, map, refl, sym, ap, ◌∙◌, arith, ⊎_elim}
 use Rattle.std.specs.Map.{lookup}
-use Rattle.std.specs.List.{flat_map}
-use Rattle.std.proofs.lemmas.Bool.{cases_Bool, cases_lt, cases_eq, eq-eqb, ne_eqb}
+use Rattle.std.proofs.lemmas.Bool.{cases_lt}
 use Rattle.std.proofs.lemmas.List.{ext_get_or, get_or-map, get_or_past, length-map}
 use Rattle.std.proofs.Math.Path.{fun_ext}
-use Rattle.rank_sets.specs.Below.{row, listed, count_below}
+use Rattle.rank_sets.specs.Below.{listed, count_below}
 use Rattle.rank_sets.proofs.Below.{listed_agree, length_listed, at_listed}
-use Rattle.mesh_decl.specs.declared.access.Via.{Via}
-use Rattle.mesh_decl.specs.Mesh.{MeshValue, set_count, dat_count, map_dim}
+use Rattle.mesh_decl.specs.Mesh.{set_count, dat_count}
 use Rattle.mesh_decl.proofs.FieldReads.{some_in}
 use Rattle.local_mesh.specs.declared.types.RankMesh.{RankMesh}
-use Rattle.colouring.specs.declared.types.IncArg.{IncArg}
 use Rattle.colouring.specs.declared.types.Colours.{Colours}
-use Rattle.colouring.specs.Colours.{target_by, Conflict, ConflictWithin, BlocksConflict, IsLeast, AreColours}
 use Rattle.schedule_model.proofs.History.{by_bit}
 use Rattle.schedule_steps.specs.Outline.{Outline}
 use Rattle.schedule_steps.specs.Peaks.{step_count}
-use Rattle.bound_program.specs.Values.{ItemValue, BoundValue}
+use Rattle.bound_program.specs.Values.{BoundValue}
 use Rattle.bound_program.specs.Fits.{site_at}
 use Rattle.loop_plan.specs.Values.{SitePlanValue, ItemPlanValue, PlanValue, site_plan, item_plan, no_item_plan, no_site_plan, or_none}
 use Rattle.loop_plan.specs.Needs.{item_modifies, item_needs, exchanges, item_at}
 use Rattle.loop_plan.specs.Pairs.{passes, sets_of, core_in}
-use Rattle.loop_plan.specs.Places.{reducing, places_of, maps_of, runs_free}
-use Rattle.loop_plan.specs.PlanText.{site_line, site_lines, loop_lines, item_lines, plan_text}
+use Rattle.loop_plan.specs.Places.{runs_free}
+use Rattle.loop_plan.specs.PlanText.{plan_text}
 use Rattle.loop_plan.specs.StepOutline.{is_free, loop_of, step_outline}
-use Rattle.loop_plan.specs.OnePlan.{AreAlike, AreLeast, LeastColoursAreOne}
-use Rattle.loop_plan.proofs.AlikeMeshes.{length_same, sets_same, rows_same, places_same, passes_same, core_same, halo_lines_same}
-
--- ---- least colours
-
-module _ (C D : ℕ → ℕ → Type 0) (to : (q p : ℕ) → C q p → D q p) (from : (q p : ℕ) → D q p → C q p) (xs ys : List ℕ) (n : ℕ) (h : (p : ℕ) → p < n → IsLeast C xs p) (k : (p : ℕ) → p < n → IsLeast D ys p) where
-  least_here : (p : ℕ) → p < n → ((q : ℕ) → q < p → get_or xs q 0 ≡ get_or ys q 0) → get_or xs p 0 ≡ get_or ys p 0
-  least_here p l ih = ⊎_elim
-      (λ (e : get_or xs p 0 ≡ get_or ys p 0). e)
-      (λ (ne : get_or xs p 0 ≡ get_or ys p 0 → ⊥). ⊎_elim
-      (λ (m : get_or xs p 0 < get_or ys p 0). let w = (k p l).taken (get_or xs p 0) m in absurd ((h p l).free w.0 w.1 (from w.0 p w.2) (ih w.0 w.1 ∙ w.3)))
-      (λ (m : get_or ys p 0 ≤ get_or xs p 0). let w = (h p l).taken (get_or ys p 0) (omega arith) in absurd ((k p l).free w.0 w.1 (to w.0 p w.2) (sym (ih w.0 w.1) ∙ w.3)))
-      (cases_lt (get_or xs p 0) (get_or ys p 0)))
-      (cases_eq (get_or xs p 0) (get_or ys p 0))
-
-  least_below : (m p : ℕ) → p < m → p < n → get_or xs p 0 ≡ get_or ys p 0
-  least_below zero p m l = absurd (omega arith)
-  least_below (suc m) p lm l = least_here p l (λ q lq. least_below m q (omega arith) (omega arith))
-
-  one_least : (p : ℕ) → p < n → get_or xs p 0 ≡ get_or ys p 0
-  one_least p l = least_below (suc p) p (omega arith) l
-
-same_count : (m n : ℕ) (P : ℕ → Type 0) → ((b : ℕ) → (b < m) ↔ P b) → ((b : ℕ) → (b < n) ↔ P b) → m ≡ n
-same_count m n P h k = ⊎_elim
-    (λ (e : m ≡ n). e)
-    (λ (ne : m ≡ n → ⊥). ⊎_elim
-    (λ (l : m < n). let z : m < m = (h m).1 ((k m).0 l) in absurd (omega arith))
-    (λ (l : n ≤ m). let z : n < n = (k n).1 ((h n).0 (omega arith)) in absurd (omega arith))
-    (cases_lt m n))
-    (cases_eq m n)
-
--- the same targets, so the same conflicts
-module _ (g : MeshValue) (ms ns : List (Vec ℕ Global)) (rows : (k : ℕ) → row ms k ≡ row ns k) (args : List IncArg) where
-  target_by_same : (place : ℕ) (v : Option Via) → target_by g ms place v ≡ target_by g ns place v
-  target_by_same place None = refl
-  target_by_same place (Some v) = ap (λ (xs : List ℕ). get_or xs (place * map_dim g v.map + v.index) 0) (rows v.map)
-
-  conflict_to : (p q : ℕ) → Conflict g ms args p q → Conflict g ns args p q
-  conflict_to p q c = (c.0, c.1, c.2, c.3, c.4, sym (target_by_same p c.0.via) ∙ (c.5 ∙ target_by_same q c.1.via))
-
-  within_to : (size p q : ℕ) → ConflictWithin g ms args size p q → ConflictWithin g ns args size p q
-  within_to size p q c = (c.0, conflict_to p q c.1)
-
-  blocks_to : (places size p q : ℕ) → BlocksConflict g ms args places size p q → BlocksConflict g ns args places size p q
-  blocks_to places size p q c = (c.0, c.1, c.2, c.3, conflict_to c.0 c.1 c.4)
-
-module _ (g : MeshValue) (ms ns : List (Vec ℕ Global)) (rows : (k : ℕ) → row ms k ≡ row ns k) (args : List IncArg) (places size : ℕ) (c d : Colours) (h : AreColours g ms args places size c) (k : AreColours g ns args places size d) where
-  back : (k : ℕ) → row ns k ≡ row ms k
-  back k = sym (rows k)
-
-  blocks_same : c.blocks.items ≡ d.blocks.items
-  blocks_same =
-      let count : length c.blocks.items ≡ length d.blocks.items = same_count (length c.blocks.items) (length d.blocks.items) (λ b. b * size < places) h.blocks_count k.blocks_count in
-      ext_get_or 0 c.blocks.items d.blocks.items count
-      (one_least (BlocksConflict g ms args places size) (BlocksConflict g ns args places size) (blocks_to g ms ns rows args places size) (blocks_to g ns ms back args places size)
-      c.blocks.items d.blocks.items (length c.blocks.items) h.blocks (λ b l. k.blocks b (omega arith)))
-
-  inner_same : c.inner.items ≡ d.inner.items
-  inner_same =
-      ext_get_or 0 c.inner.items d.inner.items (h.inner_count ∙ sym k.inner_count)
-      (λ p l. one_least (ConflictWithin g ms args size) (ConflictWithin g ns args size) (within_to g ms ns rows args size) (within_to g ns ms back args size)
-      c.inner.items d.inner.items places h.inner k.inner p (let e = h.inner_count in omega arith))
-
-module _ (b : BoundValue) (meshes others : List RankMesh) (p q : PlanValue) (h : AreLeast b meshes others p q) (s r : ℕ) (c d : Colours)
-    (ls : s < length b.sites) (runs : runs_free b s ≡ true) (lr : r < length meshes) where
-  abbrev mine_of : Colours
-  mine_of = get_or (site_plan p s).colours r c
-
-  abbrev yours_of : Colours
-  yours_of = get_or (site_plan q s).colours r d
-
-  mine_least : AreColours b.mesh (maps_of meshes r) (reducing (site_at b s).args) (places_of meshes (site_at b s) r) p.block mine_of
-  mine_least = h.colours s r c ls runs lr
-
-  yours_least : AreColours b.mesh (maps_of others r) (reducing (site_at b s).args) (places_of meshes (site_at b s) r) p.block yours_of
-  yours_least =
-      let lo : r < length others = (let e = length_same meshes others h.alike in omega arith) in
-      subst (λ n. AreColours b.mesh (maps_of others r) (reducing (site_at b s).args) n p.block yours_of) (sym (places_same meshes others h.alike (site_at b s) r))
-      (subst (λ n. AreColours b.mesh (maps_of others r) (reducing (site_at b s).args) (places_of others (site_at b s) r) n yours_of) (sym h.block)
-      (h.other_colours s r d ls runs lo))
-
-  least_same : (mine_of.blocks.items ≡ yours_of.blocks.items) × (mine_of.inner.items ≡ yours_of.inner.items)
-  least_same = (
-    blocks_same b.mesh (maps_of meshes r) (maps_of others r) (rows_same meshes others h.alike r) (reducing (site_at b s).args) (places_of meshes (site_at b s) r) p.block mine_of yours_of mine_least yours_least,
-    inner_same b.mesh (maps_of meshes r) (maps_of others r) (rows_same meshes others h.alike r) (reducing (site_at b s).args) (places_of meshes (site_at b s) r) p.block mine_of yours_of mine_least yours_least,
-  )
-
-pub least_colours_are_one : LeastColoursAreOne
-least_colours_are_one b meshes others p q h s r c d ls runs lr = least_same b meshes others p q h s r c d ls runs lr
-
--- ---- the plan of a loop, as lists alone
-
-pub record Lists : Type 0 where
-  pub places : List ℕ
-  pub blocks : List (List ℕ)
-  pub inner : List (List ℕ)
-
-abbrev pub lists : SitePlanValue → Lists
-lists l = record { places = l.places; blocks = map (λ (c : Colours). c.blocks.items) l.colours; inner = map (λ (c : Colours). c.inner.items) l.colours }
-
-abbrev none : Lists
-none = record { places = []; blocks = []; inner = [] }
-
-abbrev or_empty : Option Lists → Lists
-or_empty None = none
-or_empty (Some l) = l
-
-abbrev entry : ℕ × SitePlanValue → ℕ × Lists
-entry e = (e.0, lists e.1)
-
-found_lists : (s : ℕ) (es : List (ℕ × SitePlanValue)) → lists (or_none (lookup (nat_eq s) es)) ≡ or_empty (lookup (nat_eq s) (map entry es))
-found_lists s [] = refl
-found_lists s (e ∷ es) = ⊎_elim
-    (λ (t : nat_eq s e.0 ≡ true). rw t refl)
-    (λ (f : nat_eq s e.0 ≡ false). rw f (found_lists s es))
-    (cases_Bool (nat_eq s e.0))
-
--- an entry is found by its key, where no earlier one has it
-found_at : (es : List (ℕ × SitePlanValue)) (i : ℕ) (d : ℕ × SitePlanValue) → i < length es → ((j : ℕ) → j < i → (get_or es j d).0 ≢ (get_or es i d).0) → lookup (nat_eq (get_or es i d).0) es ≡ Some (get_or es i d).1
-found_at [] i d l h = absurd (omega arith)
-found_at (e ∷ es) zero d l h = rw (eq-eqb e.0 e.0 refl) refl
-found_at (e ∷ es) (suc i) d l h =
-    let other : nat_eq (get_or es i d).0 e.0 ≡ false = ne_eqb (get_or es i d).0 e.0 (λ q. h 0 (omega arith) (sym q)) in
-    rw other (found_at es i d (omega arith) (λ j lj. h (suc j) (omega arith)))
-
--- ---- lines
-
--- lists with the same heads and tails
-same_head : {X : Type 0} (d : X) (x y : X) (xs ys : List X) → x ∷ xs ≡ y ∷ ys → x ≡ y
-same_head d x y xs ys e = ap (λ zs. get_or zs 0 d) e
-
-same_tail : {X : Type 0} (x y : X) (xs ys : List X) → x ∷ xs ≡ y ∷ ys → xs ≡ ys
-same_tail x y xs ys e = ap (λ zs. drop 1 zs) e
-
-longer : {X : Type 0} {Y : Type 0} (x : X) (xs : List X) → [] ≡ x ∷ xs → Y
-longer x xs e = let z : 0 ≡ suc (length xs) = ap (λ zs. length zs) e in absurd (omega arith)
-
-site_lines_same : (s r : ℕ) (ns : List ℕ) (cs ds : List Colours)
-    → map (λ (c : Colours). c.blocks.items) cs ≡ map (λ (c : Colours). c.blocks.items) ds
-    → map (λ (c : Colours). c.inner.items) cs ≡ map (λ (c : Colours). c.inner.items) ds
-    → site_lines s r ns cs ≡ site_lines s r ns ds
-site_lines_same s r [] cs ds e f = refl
-site_lines_same s r (n ∷ ns) [] [] e f = refl
-site_lines_same s r (n ∷ ns) [] (d ∷ ds) e f = longer d.blocks.items (map (λ (c : Colours). c.blocks.items) ds) e
-site_lines_same s r (n ∷ ns) (c ∷ cs) [] e f = longer c.blocks.items (map (λ (c : Colours). c.blocks.items) cs) (sym e)
-site_lines_same s r (n ∷ ns) (c ∷ cs) (d ∷ ds) e f =
-    let blocks : c.blocks.items ≡ d.blocks.items = same_head [] c.blocks.items d.blocks.items (map (λ (c : Colours). c.blocks.items) cs) (map (λ (c : Colours). c.blocks.items) ds) e in
-    let inner : c.inner.items ≡ d.inner.items = same_head [] c.inner.items d.inner.items (map (λ (c : Colours). c.inner.items) cs) (map (λ (c : Colours). c.inner.items) ds) f in
-    let here : site_line s r n c ≡ site_line s r n d = rw (blocks, inner) refl in
-    rw (
-      here,
-      site_lines_same s (suc r) ns cs ds
-          (same_tail c.blocks.items d.blocks.items (map (λ (c : Colours). c.blocks.items) cs) (map (λ (c : Colours). c.blocks.items) ds) e)
-          (same_tail c.inner.items d.inner.items (map (λ (c : Colours). c.inner.items) cs) (map (λ (c : Colours). c.inner.items) ds) f),
-    ) refl
-
-loop_same : (e f : ℕ × SitePlanValue) → entry e ≡ entry f → loop_lines e ≡ loop_lines f
-loop_same e f h =
-    let key : e.0 ≡ f.0 = ap (λ (z : ℕ × Lists). z.0) h in
-    let places : e.1.places ≡ f.1.places = ap (λ (z : ℕ × Lists). z.1.places) h in
-    site_lines_same e.0 0 e.1.places e.1.colours f.1.colours (ap (λ (z : ℕ × Lists). z.1.blocks) h) (ap (λ (z : ℕ × Lists). z.1.inner) h)
-    ∙ (ap (λ z. site_lines z 0 e.1.places f.1.colours) key ∙ ap (λ z. site_lines f.0 0 z f.1.colours) places)
-
-loops_same : (es fs : List (ℕ × SitePlanValue)) → map entry es ≡ map entry fs → flat_map loop_lines es ≡ flat_map loop_lines fs
-loops_same [] [] h = refl
-loops_same [] (f ∷ fs) h = longer (entry f) (map entry fs) h
-loops_same (e ∷ es) [] h = longer (entry e) (map entry es) (sym h)
-loops_same (e ∷ es) (f ∷ fs) h = rw (loop_same e f (same_head (entry e) (entry e) (entry f) (map entry es) (map entry fs) h), loops_same es fs (same_tail (entry e) (entry f) (map entry es) (map entry fs) h)) refl
-
-items_same : (g : MeshValue) (k : ℕ) (is : List ItemValue) (ps qs : List ItemPlanValue) → map (λ (p : ItemPlanValue). p.exchange) ps ≡ map (λ (p : ItemPlanValue). p.exchange) qs → item_lines g k is ps ≡ item_lines g k is qs
-items_same g k [] ps qs h = refl
-items_same g k (i ∷ is) [] [] h = refl
-items_same g k (i ∷ is) [] (q ∷ qs) h = longer q.exchange (map (λ (p : ItemPlanValue). p.exchange) qs) h
-items_same g k (i ∷ is) (p ∷ ps) [] h = longer p.exchange (map (λ (p : ItemPlanValue). p.exchange) ps) (sym h)
-items_same g k (i ∷ is) (p ∷ ps) (q ∷ qs) h =
-    rw (
-      same_head [] p.exchange q.exchange (map (λ (p : ItemPlanValue). p.exchange) ps) (map (λ (p : ItemPlanValue). p.exchange) qs) h,
-      items_same g (suc k) is ps qs (same_tail p.exchange q.exchange (map (λ (p : ItemPlanValue). p.exchange) ps) (map (λ (p : ItemPlanValue). p.exchange) qs) h),
-    ) refl
-
--- ---- both plans
+use Rattle.loop_plan.specs.OnePlan.{AreAlike}
+use Rattle.loop_plan.proofs.AlikeMeshes.{length_same, sets_same, places_same, passes_same, core_same, halo_lines_same}
+use Rattle.loop_plan.proofs.AlikeLists.{Lists, lists, none, or_empty, entry, found_lists, found_at, loops_same, items_same}
 
 module _ (b : BoundValue) (meshes others : List RankMesh) (p q : PlanValue) (h : AreAlike b meshes others p q) where
   ranks_same : length meshes ≡ length others

@@ -6,7 +6,8 @@ use Rattle.loop_plan.specs.Values.{PlanValue}
 use Rattle.loop_plan.specs.Pairs.{sets_of}
 use Rattle.loop_plan.specs.OnePlan.{AreAlike, ReadAlike}
 use Rattle.loop_plan.proofs.AlikeMeshes.{sets_same, originals_same}
-use Rattle.loop_plan.proofs.OnePlan.{Lists, exchange_same, lists_same, outlines_same}
+use Rattle.loop_plan.proofs.AlikeLists.{Lists}
+use Rattle.loop_plan.proofs.OnePlan.{exchange_same, lists_same, outlines_same}
 
 pub one_plan : (b : BoundValue) (meshes others : List RankMesh) (p q : PlanValue) → AreAlike b meshes others p q → ReadAlike b meshes others p q
 one_plan b meshes others p q h = record {

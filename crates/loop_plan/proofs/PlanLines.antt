@@ -13,7 +13,7 @@ use Rattle.loop_plan.specs.Pairs.{own_in}
 use Rattle.colouring.specs.declared.types.Colours.{Colours}
 use Rattle.bound_program.specs.Values.{ItemValue, Exit, Host}
 use Rattle.loop_plan.specs.Values.{ItemPlanValue, no_item_plan}
-use Rattle.loop_plan.specs.PlanText.{Line, halo_line, halo_lines, all_halo_lines, site_line, site_lines, item_line, item_lines}
+use Rattle.loop_plan.specs.PlanText.{Line, halo_line, halo_lines, site_line, site_lines, item_line, item_lines}
 
 -- one line more
 pub text_more : (old between now : List ℕ) (ls : List Line) (l : Line)
@@ -78,14 +78,6 @@ halos_more g s k meshes m sets old between now l e b n =
     (ap (λ z. halo_lines g s 0 (take k meshes) ++ halo_line g z s k ∷ []) (sym e)
     ∙ (ap (λ z. halo_lines g s 0 (take k meshes) ++ halo_line g (get_or meshes k m).sets.items s z ∷ []) (sym c)
     ∙ (sym (halos_push g s 0 (take k meshes) (get_or meshes k m)) ∙ sym (ap (halo_lines g s 0) (take_more meshes k m l)))))
-
-pub all_halos_more : (g : MeshValue) (meshes : List RankMesh) (s : ℕ) (old between now : List ℕ)
-    → between ≡ old ++ text_of_lines (all_halo_lines g meshes s)
-    → now ≡ between ++ text_of_lines (halo_lines g s 0 meshes)
-    → now ≡ old ++ text_of_lines (all_halo_lines g meshes (s + 1))
-all_halos_more g meshes s old between now b n =
-    let e : suc s ≡ s + 1 = omega arith in
-    texts_more old between now (all_halo_lines g meshes s) (halo_lines g s 0 meshes) b n ∙ ap (λ z. old ++ text_of_lines (all_halo_lines g meshes z)) e
 
 -- ---- loops
 

@@ -28,9 +28,6 @@ sum_plus : (f g : ℕ → ℕ) (n : ℕ) → sum_below (λ i. f i + g i) n ≡ s
 sum_plus f g zero = refl
 sum_plus f g (suc n) = let a : sum_below (λ i. f i + g i) n ≡ sum_below f n + sum_below g n = sum_plus f g n in omega arith
 
-sum_twice : (f : ℕ → ℕ) (n : ℕ) → sum_below (λ i. f i + f i) n ≡ 2 * sum_below f n
-sum_twice f n = let a : sum_below (λ i. f i + f i) n ≡ sum_below f n + sum_below f n = sum_plus f f n in omega arith
-
 sum_swap : (f : ℕ → ℕ → ℕ) (n m : ℕ) → sum_below (λ i. sum_below (f i) m) n ≡ sum_below (λ j. sum_below (λ i. f i j) n) m
 sum_swap f zero m = sym (no_sum (λ j. 0) m (λ j l. refl))
 sum_swap f (suc n) m =

@@ -1,5 +1,5 @@
 -- Declarations of sets, maps and dats (`op_decl_set`, `op_decl_map` and `op_decl_dat` of the OP2 C API).
-use Rattle.std.specs.Prelude.{ℕ, suc, ℤ, pos, negsuc, ◌+◌, ◌*◌, ◌/◌, ◌%◌, Bool, true, not, ◌&&◌, ◌||◌, List, [], ◌∷◌, ◌++◌, length, sum_by}
+use Rattle.std.specs.Prelude.{ℕ, suc, ℤ, pos, negsuc, ◌+◌, ◌*◌, ◌/◌, ◌%◌, Bool, true, not, ◌&&◌, ◌||◌, List, [], ◌∷◌, ◌++◌, length}
 use Rattle.std.specs.Prelude.{codes, Option, Some, None, Ok, Err, is_none, nat_eq, nat_lt, bytes_eq, unsigned_abs, if◌then◌else◌}
 use Rattle.c_lex.specs.declared.tokens.Pos.{Pos}
 use Rattle.c_tree.specs.declared.expressions.Ident.{Ident}
@@ -8,9 +8,6 @@ use Rattle.c_tree.specs.declared.expressions.TextLiteral.{TextLiteral}
 use Rattle.c_tree.specs.Tree.{ExprTree}
 use Rattle.kernel_model.specs.Numbers.{Value}
 use Rattle.mesh_decl.specs.Mesh.{MeshValue, set_count, map_count, dat_count, set_size, is_element}
-use Rattle.mesh_decl.specs.declared.decl.SetDecl.{SetDecl}
-use Rattle.mesh_decl.specs.declared.decl.MapDecl.{MapDecl}
-use Rattle.mesh_decl.specs.declared.decl.DatDecl.{DatDecl}
 use Rattle.bind_refusals.specs.declared.refusals.BindRefusal.TheVariants as refusal
 use Rattle.bind_refusals.specs.declared.refusals.Counted.TheVariants as counted
 use Rattle.main_names.specs.declared.scopes.Meaning.TheVariants.{Set, Map, Dat}
@@ -26,13 +23,6 @@ use Rattle.main_names.specs.Meanings.{array_of, count_of, or_none, or_zero, set_
 use Rattle.main_names.specs.SoFar.{Declared}
 
 -- ---- sizes
-
--- the cells of a mesh: the elements of its sets, and the values of its maps and dats
-abbrev pub mesh_cells : MeshValue → ℕ
-mesh_cells g =
-    sum_by (λ (s : SetDecl). s.size) g.sets
-    + sum_by (λ (m : MapDecl). length m.targets) g.maps
-    + sum_by (λ (d : DatDecl). length d.values) g.dats
 
 -- a dim that a map or a dat can have
 abbrev pub is_dim : ℕ → Bool

@@ -16,20 +16,11 @@ use Rattle.bind_refusals.specs.declared.refusals.BindRefusal.{BindRefusal}
 use Rattle.main_names.specs.declared.walks.Spot.{Spot}
 use Rattle.bound_program.specs.Values.{ActValue, act_of, Line}
 use Rattle.main_names.specs.Expressions.{resolved}
-use Rattle.bind_refusals.specs.Refusals.{Judged, ◌>>=◌, unless, unless_found, first_of, Judges, JudgesBy}
+use Rattle.bind_refusals.specs.Refusals.{◌>>=◌, unless, unless_found, first_of, Judges, JudgesBy}
 use Rattle.main_names.specs.Names.{Scope, closed}
 use Rattle.main_trace.specs.Steps.{Do, Block, Steps, followed, one_step}
 use Rattle.main_names.specs.SoFar.{Walked, does}
 use Rattle.main_text.specs.Text.{nested, opened, ended, line_found, judged_call, judged_host, judged_hosts}
-
--- what was refused stays refused, whatever was to follow
-pub stops : {A B : Type 0} (e : BindRefusal) (a : A) (b : B) (j : Judged A) (f : A → Judged B) → Judges {X = Unit {0}} (Err e) a j → Judges {X = Unit {0}} (Err e) b (j >>= f)
-stops e a b j f (inl h) = inl h
-stops e a b j f (inr h) = inr (ap (λ r. r >>= f) h)
-
--- what was judged goes on
-pub goes : {A B : Type 0} (a : A) (j : Judged A) (f : A → Judged B) → j ≡ Ok a → (j >>= f) ≡ f a
-goes a j f h = ap (λ r. r >>= f) h
 
 -- ---- calls
 

@@ -1,8 +1,7 @@
 -- The first target that is no element.
-use Rattle.std.proofs.Common.{◌≡◌, ℕ, zero, suc, ℤ, pos, ◌*◌, ◌/◌, ◌<◌, true, false, List, [], ◌∷◌, length, take, get_or, refl, ap, arith}
+use Rattle.std.proofs.Common.{◌≡◌, ℕ, zero, suc, ℤ, pos, ◌<◌, true, false, List, [], ◌∷◌, length, take, get_or, refl, ap, arith}
 use Rattle.std.proofs.lemmas.List.Elements.{All-cons, All-head, All-tail}
 use Rattle.mesh_decl.specs.Mesh.{is_element, AreElements, IsFirstBad}
-use native.Mathlib.Nat.{mul-le-mul_right}
 
 pub bad_here : (size i : ℕ) (ts : List ℤ) → AreElements size (take i ts) → i < length ts → is_element size (get_or ts i (pos 0)) ≡ false → IsFirstBad size ts i
 bad_here size i [] a h e = absurd (omega arith)
@@ -18,7 +17,3 @@ bad_here size (suc i) (t ∷ ts) a h e =
       before = All-cons (λ t. is_element size t ≡ true) t r.good (All-head (λ t. is_element size t ≡ true) t (take i ts) a) r.before;
       no_element = r.no_element;
     }
-
--- a number below size * dim has its quotient below size
-pub quotient_below : (index size dim : ℕ) → 0 < dim → index < size * dim → index / dim < size
-quotient_below index size dim d h = grind (arith, mul-le-mul_right)

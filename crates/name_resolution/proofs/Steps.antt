@@ -124,9 +124,6 @@ stmts_keep own next (tree.MoreStmt x xs) =
 pub behind_behind : (n a b : ℕ) → behind (behind n a) b ≡ behind n (a + b)
 behind_behind n a b = omega arith
 
-pub behind_none : (n : ℕ) → n ≤ 1024 → behind n 0 ≡ n
-behind_none n h = omega arith
-
 pub behind_low : (n a : ℕ) → behind n a ≤ 1024
 behind_low n a = omega arith
 

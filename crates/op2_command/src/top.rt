@@ -1,10 +1,7 @@
 // The whole of what the program does.
 
-ghost use Rattle.std.specs.Prelude.{◌≡◌, All, map, string_bytes};
+ghost use Rattle.std.specs.Prelude.{All, map, string_bytes};
 ghost use Rattle.command_words.specs.Words.{named_by};
-ghost use Rattle.answers.specs.Endings.{ending_status, ending_line, ending_of, Writes};
-ghost use Rattle.answer_lines.specs.Halts.{answer_of};
-ghost use Rattle.answer_lines.specs.Reports.{Stands};
 ghost use Rattle.op2_command.specs.Writes.{EndsAsDefined};
 
 use crate::answered::answer_to;
@@ -12,8 +9,8 @@ use answer_laws::{
     calls_are_complete, calls_report_their_answers, calls_show_their_answers, others_write_nothing,
     unread_files_are_named, usage_is_of_words,
 };
-use answer_lines::{Answer, Failure, Line, report};
-use op_outside::{Shelf, Sink, write_all_of};
+use answer_writing::{write_answer, write_failure};
+use op_outside::{Shelf, Sink};
 use par_exec::{Gate, Open};
 use std::alloc::Global;
 use std::marker::Sync;
@@ -80,39 +77,5 @@ pub fn op2_gated<R: Threads + Sync, F: Shelf, O: Sink, E: Sink, G: Gate>(
     match answer_to(rt, alloc, words, shelf, gate) {
         Ok(answer) => write_answer(&answer, out, err),
         Err(failure) => write_failure(failure, err),
-    }
-}
-
-// Writes an answer, and gives the status. A run with a fault keeps its own where its output can't be written.
-fn write_answer<O: Sink, E: Sink>(answer: &Answer, out: &mut O, err: &mut E) -> u8
-    ensures { Writes (answer_of answer.now) result (O.faults out.old, O.faults out.new) (O.written out.old, O.written out.new)
-        (Stands (E.faults err.old, E.faults err.new) (E.written err.old, E.written err.new)) }
-{
-    match answer {
-        Answer::Done(bytes) => match write_all_of(out, bytes) {
-            Ok(()) => 0,
-            Err(_) => report(err, Line::CannotWrite),
-        },
-        Answer::Faulted { out: bytes, line } => {
-            let _ = write_all_of(out, bytes);
-            let _ = write_all_of(err, line);
-            9
-        }
-        Answer::Refused { status, line } => {
-            let _ = write_all_of(err, line);
-            *status
-        }
-    }
-}
-
-// Writes the line of a call that has no answer, and gives the status.
-fn write_failure<E: Sink>(failure: Failure<'_>, err: &mut E) -> u8
-    ensures status { result ≡ ending_status (ending_of failure.entry) }
-    ensures said { Stands (E.faults err.old, E.faults err.new) (E.written err.old, E.written err.new)
-        (ending_line (ending_of failure.entry)) }
-{
-    match failure {
-        Failure::Unread(name) => report(err, Line::CannotRead(name)),
-        Failure::OutOfMemory => report(err, Line::OutOfMemory),
     }
 }

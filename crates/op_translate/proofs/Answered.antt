@@ -1,17 +1,13 @@
 -- What is answered, and what is not.
-use Rattle.std.proofs.Common.{◌≡◌, ℕ, suc, ◌-◌, ◌<◌, Bool, true, false, cond, List, [], ◌∷◌, length, map, get_or, Some, find, Result, Ok, Err, Vec, Global, Bor, refl, sym, ap, subst, ◌∙◌, arith, nat_eq}
-use Rattle.std.specs.Prelude.{◌||◌, is_some, IsErrAnd}
+use Rattle.std.proofs.Common.{◌≡◌, ℕ, suc, ◌-◌, ◌<◌, Bool, true, false, cond, List, [], ◌∷◌, length, map, get_or, Some, find, Result, Ok, Err, Vec, Global, Bor, refl, ap, ◌∙◌, arith, nat_eq}
+use Rattle.std.specs.Prelude.{◌||◌, is_some}
 use Rattle.std.specs.List.{list_any}
 use Rattle.std.specs.Str.{bytes_eq}
-use Rattle.c_lex.specs.declared.tokens.Token.{Token}
 use Rattle.c_lex.specs.declared.tokens.Word.{Word}
-use Rattle.c_lex.specs.declared.refusals.LexRefusal.{LexRefusal}
-use Rattle.c_lex.specs.declared.refusals.LexRefusal.TheVariants as lex_refusal
 use Rattle.c_lex.specs.Spelling.{word_spelling}
-use Rattle.c_lex.specs.Answered as lexed
 use Rattle.op_translate.specs.declared.refusals.TransRefusal.{TransRefusal}
 use Rattle.op_translate.specs.declared.refusals.TransRefusal.TheVariants as refusal
-use Rattle.op_translate.specs.Answered.{Answers, not_lexed}
+use Rattle.op_translate.specs.Answered.{Answers}
 use Rattle.op_translate.specs.Translation.{Outcome, ends_line}
 
 -- of what has one outcome no other is answered
@@ -22,19 +18,6 @@ only_answer P one (Err (refusal.NoCall p)) o h a = one (Err (refusal.NoCall p)) 
 only_answer P one (Err (refusal.LoopLeft p)) o h a = one (Err (refusal.LoopLeft p)) o a h
 only_answer P one (Err (refusal.Lex e)) o h a = one (Err (refusal.Lex e)) o a h
 only_answer P one (Err refusal.OutOfMemory) o h a = tt
-
--- where there are tokens the lexer can only want memory
-pub wants_memory : (P : Outcome → Type 0) (ts : List Token) (r : LexRefusal) → lexed.Answers (λ x. x ≡ Ok ts) (Err r) → Answers P (Err (not_lexed r))
-wants_memory P ts (lex_refusal.BadByte p) h = let q : ⊥ = cc in absurd q
-wants_memory P ts (lex_refusal.OpenComment p) h = let q : ⊥ = cc in absurd q
-wants_memory P ts (lex_refusal.OpenText p) h = let q : ⊥ = cc in absurd q
-wants_memory P ts (lex_refusal.NumberTooLarge p) h = let q : ⊥ = cc in absurd q
-wants_memory P ts lex_refusal.OutOfMemory h = tt
-
--- so what it is turned into is want of memory too
-pub refused_here : (P : Outcome → Type 0) (ts : List Token) (r : LexRefusal) (res : Result (Vec ℕ Global) TransRefusal) → lexed.Answers (λ x. x ≡ Ok ts) (Err r) → IsErrAnd res (λ e. e ≡ not_lexed r) → Answers P res
-refused_here P ts r (Ok v) h e = absurd e
-refused_here P ts r (Err x) h e = subst (λ z. Answers P (Err z)) (sym e) (wants_memory P ts r h)
 
 -- the words are those of a list
 pub listed : (xs : List (Bor (List ℕ))) (ws : List Word) (bs : List ℕ) → map (λ x. x.now) xs ≡ map word_spelling ws → list_any (λ x. bytes_eq bs x.now) xs ≡ is_some (find (λ w. bytes_eq bs (word_spelling w)) ws)

@@ -7,7 +7,7 @@ use Rattle.op_translate.specs.declared.refusals.TransRefusal.{TransRefusal}
 use Rattle.op_translate.specs.Edits.{edited, edits}
 use Rattle.op_translate.specs.Stubs.{Loop, all_loops_of, table_text}
 use Rattle.op_translate.specs.Translation as spec
-use Rattle.op_translate.specs.Translation.{line_end, to_stub, to_call, first_refusal, refuses_stub, refuses_call, translation, restoration, unless, restored, Translates, Restores, SameKinds, RestoresTranslations}
+use Rattle.op_translate.specs.Translation.{line_end, to_stub, to_call, first_refusal, refuses_stub, translation, restoration, unless, restored, Restores, SameKinds, RestoresTranslations}
 use Rattle.op_translate.proofs.Spans.{cut}
 use Rattle.op_translate.proofs.Patches.{all_bytes-append, olds, news, spliced}
 use Rattle.op_translate.proofs.Made.{made}

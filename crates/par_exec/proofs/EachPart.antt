@@ -18,9 +18,3 @@ module _ {X : Type 0} where
   made_both Q i (x ∷ a) b (y ∷ c) d h m =
       let e : i + suc (length a) ≡ suc i + length a = omega arith in
       (h.0, made_both Q (suc i) a b c d h.1 (subst (λ n. MadeEach Q n b d) e m))
-
-  pub made_count : (Q : ℕ → X → X → Type 0) (i : ℕ) (a c : List X) → MadeEach Q i a c → length c ≡ length a
-  made_count Q i [] [] h = omega arith
-  made_count Q i [] (y ∷ c) h = absurd h
-  made_count Q i (x ∷ a) [] h = absurd h
-  made_count Q i (x ∷ a) (y ∷ c) h = let e : length c ≡ length a = made_count Q (suc i) a c h.1 in omega (arith, e)

@@ -1,6 +1,6 @@
 -- The windows of two parts of a buffer.
 use Rattle.std.proofs.Common.{◌≡◌, ℕ, zero, suc, ℤ, ◌+◌, ◌-◌, ◌*◌, ◌<◌, ◌≤◌, nat_lt, Bool, true, false, List, [], ◌∷◌, ◌++◌, length, take, drop, refl, sym, ap, ap₂, ◌∙◌, arith, length-drop}
-use Rattle.std.proofs.lemmas.List.{take-append-le, take-append-drop, drop-append-le, drop-drop, take_all}
+use Rattle.std.proofs.lemmas.List.{take-append-le, take-append-drop, drop-append-le, drop-drop}
 use Rattle.std.proofs.Math.Seq.{drop-append-add}
 use Rattle.std.proofs.Math.Nat.{mul-le-mul_right}
 use Rattle.std.proofs.lemmas.Bool.Decides.{nat_tests}
@@ -13,22 +13,6 @@ empty (x ∷ xs) h = cc
 -- what is past the first windows
 pub rest_cells : (count low stride len : ℕ) → low ≤ count → len ≡ count * stride → len - low * stride ≡ (count - low) * stride
 rest_cells count low stride len h e = grind arith
-
--- a buffer of one window is that window
-pub window-whole : (stride : ℕ) (s : List ℤ) → length s ≡ 1 * stride → window stride 0 s ≡ s
-window-whole stride s h =
-    let start : 0 * stride ≡ 0 = omega arith in
-    ap (λ n. take stride (drop n s)) start ∙ take_all stride s (omega (arith, h))
-
--- one window, which is the whole buffer
-pub each-one : (f : ℕ → List ℤ → List ℤ) (stride first : ℕ) (s new : List ℤ) → length s ≡ 1 * stride → length new ≡ 1 * stride → new ≡ f first s → EachWindow f stride first 1 s new
-each-one f stride first s new ls ln e = record {
-  became = λ i lt.
-      let only : i ≡ 0 = omega arith in
-      let number : first ≡ first + i = omega arith in
-      ap (λ k. window stride k new) only ∙ window-whole stride new ln ∙ e
-      ∙ ap₂ f number (sym (window-whole stride s ls) ∙ ap (λ k. window stride k s) (sym only));
-}
 
 -- a window of the front part
 pub window-front : (stride i low : ℕ) (a b : List ℤ) → length a ≡ low * stride → i < low → window stride i (a ++ b) ≡ window stride i a

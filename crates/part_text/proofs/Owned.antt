@@ -1,8 +1,7 @@
 -- Each element of each set has a rank.
-use Rattle.std.proofs.Common.{◌≡◌, ℕ, zero, suc, ◌<◌, ◌≤◌, Bool, true, false, nat_eq, get_or, List, [], ◌∷◌, length, map, slice_get, slice_set, Option, Some, None, Result, Ok, Err, IfOk, refl, sym, ap, subst, ◌∙◌, arith}
+use Rattle.std.proofs.Common.{◌≡◌, ℕ, zero, suc, ◌<◌, ◌≤◌, Bool, true, false, nat_eq, get_or, List, [], ◌∷◌, length, map, slice_set, Option, Some, None, Result, Ok, Err, IfOk, refl, sym, ap, subst, ◌∙◌, arith}
 use Rattle.std.proofs.lemmas.Bool.Decides.{nat_tests}
 use Rattle.std.proofs.lemmas.List.{length-set, length-map, length-replicate, get_or-set_same, get_or-set_other, get_or-replicate}
-use Rattle.std.proofs.lemmas.Option.{slice_get_past}
 use Rattle.mesh_decl.specs.declared.owners.Owners.{Owners}
 use Rattle.mesh_decl.specs.Mesh.{MeshValue, set_count, set_size}
 use Rattle.mesh_decl.specs.Owners.{AreOwners, owners_in, owner_of}
@@ -41,9 +40,6 @@ module _ (g : MeshValue) (ranks : ℕ) where
 
   set_owned : (ts : List (List ℕ)) (k : ℕ) (rs : List ℕ) → IsSet g ranks ts k rs → IsOwned (set_size g k) ranks rs
   set_owned ts k rs i = record { count = i.6; below = ranks_below ranks i.2 rs i.7 }
-
-  free_within : (t : Table) (k : ℕ) → slice_get t k ≡ Some None → (length t ≤ k) → ⊥
-  free_within t k f l = cc (slice_get_past t k l, f)
 
   more_table : (t : Table) (k : ℕ) (rs : List ℕ) → IsTable t → IsOwned (set_size g k) ranks rs → IsTable (slice_set t k (Some rs))
   more_table t k rs h o = record {

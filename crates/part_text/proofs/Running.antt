@@ -143,7 +143,3 @@ module _ (g : MeshValue) (ranks : ℕ) where
   -- where every set has its ranks
   pub all_given : (t : Table) (owners : List (List ℕ)) (u v : Uncut) (line : ℕ) → run_from g ranks (Between t) u ≡ after (onto (gathered v.last t) End) (λ q. run_from g ranks q v) → line ≡ v.last → gathered line t ≡ Ok owners → run_from g ranks (Between t) u ≡ run_from g ranks (End owners) v
   all_given t owners u v line h l e = h ∙ ap (λ r. after (onto r End) (λ q. run_from g ranks q v)) (ap (λ x. gathered x t) (sym l) ∙ e)
-
-  -- where one has none
-  pub none_given : (t : Table) (u v : Uncut) (line : ℕ) (e : PartRefusal) → run_from g ranks (Between t) u ≡ after (onto (gathered v.last t) End) (λ q. run_from g ranks q v) → line ≡ v.last → gathered line t ≡ Err e → run_from g ranks (Between t) u ≡ Err e
-  none_given t u v line x h l e = h ∙ ap (λ r. after (onto r End) (λ q. run_from g ranks q v)) (ap (λ x. gathered x t) (sym l) ∙ e)

@@ -60,9 +60,6 @@ next_push n ranks near i order z r h here next k q lk b = ⊎_elim
 le_push : (order : List ℕ) (z a : ℕ) → a ≤ length order → a ≤ length (order ++ z ∷ [])
 le_push order z a l = let p = length_push order z in omega (arith, p, l)
 
-lt_unpushed : (order : List ℕ) (z a : ℕ) → length (order ++ z ∷ []) < a → length order < a
-lt_unpushed order z a l = let p = length_push order z in omega (arith, p, l)
-
 -- one more element taken
 pub growing_push : (n ranks : ℕ) (near : ℕ → ℕ → Bool) (i h : ℕ) (order : List ℕ) (seen : List Bool) (z : ℕ) → z < length seen → h ≤ length order → IsGrowing n ranks near i h order seen → length order < block_start n ranks (i + 1) → IsNextFree n near order (drop (block_start n ranks i) order) z → IsGrowing n ranks near i h (order ++ z ∷ []) (set seen z true)
 growing_push n ranks near i h order seen z lz lh g short next = record {
@@ -134,15 +131,6 @@ growing_closed n ranks near i h order seen g done = record {
       (λ (e : j ≡ h → ⊥). g.closed s j y lo (omega (arith, lj, e)) l ly t)
       (cases_eq j h);
   next = g.next;
-}
-
--- a rank that begins has no element yet
-pub growing_begun : (n ranks : ℕ) (near : ℕ → ℕ → Bool) (i : ℕ) (order : List ℕ) (seen : List Bool) → 0 < ranks → length order ≡ block_start n ranks i → AreNextFree n ranks near order → IsGrowing n ranks near i (length order) order seen
-growing_begun n ranks near i order seen r e next = record {
-  some = r;
-  begun = subst (λ q. q ≤ length order) e (omega arith);
-  closed = λ s j y lo lj l ly t. absurd (between j (length order) (block_start n ranks i) lj (subst (λ q. length order ≤ q) e (omega arith)) lo);
-  next = next;
 }
 
 -- what is so while one rank takes elements up to `end`, from those of `first` on

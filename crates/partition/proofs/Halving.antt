@@ -4,7 +4,7 @@ use Rattle.std.specs.List.{count_by}
 use Rattle.std.proofs.lemmas.Bool.{cases_lt, eq-eqb, eqb-true, false_from_ne_true}
 use Rattle.std.proofs.lemmas.List.{take_all}
 use Rattle.std.proofs.lemmas.List.Sums.{sum_by_more, count_by_more_yes, count_by_more_no, count_by-le-length}
-use Rattle.std.proofs.Math.Nat.{mul-le-mul_right, mul-div_cancel_left, div-le_of_le-mul}
+use Rattle.std.proofs.Math.Nat.{mul-div_cancel_left, div-le_of_le-mul}
 use Rattle.rank_sets.specs.Below.{count_below}
 use Rattle.partition.specs.Block.{block_start, share}
 use Rattle.partition.specs.Bisect.{IsHalved, IsBisected}
@@ -30,12 +30,6 @@ pub all_once : (xs : List ℕ) (n : ℕ) → length xs ≡ n → ((k : ℕ) → 
 all_once xs n e h x =
     let a : count_below n (λ y. nat_eq y x) ≡ min n (x + 1) - min n x = interval n x (x + 1) (λ y. nat_eq y x) (λ y l u v. eq-eqb y x (omega arith)) (λ y l t. (let q : y ≡ x = eqb-true y x t in (omega (arith, q), omega (arith, q)))) in
     rw (count_all (λ y. nat_eq y x) xs n e h) (omega (arith, a))
-
--- an element's values lie in the list of values
-pub element_within : (n dim x m : ℕ) → m ≡ n * dim → x < n → x * dim + dim ≤ m
-element_within n dim x m e l =
-    let a : (x + 1) * dim ≤ n * dim = mul-le-mul_right {m = x + 1} {n = n} dim (omega arith) in
-    rw e (grind (arith, a))
 
 -- where all pass, or none
 count_yes : (p : ℕ → Bool) (xs : List ℕ) (n : ℕ) → n ≤ length xs → ((k : ℕ) → k < length xs → p (get_or xs k 0) ≡ true) → count_by p (take n xs) ≡ n

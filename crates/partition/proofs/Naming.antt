@@ -1,5 +1,5 @@
 -- One more entry of a map, in the counts and the rows of the owners that name each element.
-use Rattle.std.proofs.Common.{◌≡◌, ℕ, zero, suc, ◌+◌, ◌*◌, ◌<◌, ◌≤◌, ◌/◌, ◌%◌, Bool, true, false, cond, List, [], ◌∷◌, ◌++◌, length, get_or, set, refl, sym, subst, ap, ◌∙◌, arith, add-one, get_or-set_same, get_or-set_other, append-nil, ⊎_elim}
+use Rattle.std.proofs.Common.{◌≡◌, ℕ, zero, suc, ◌+◌, ◌*◌, ◌<◌, ◌≤◌, ◌/◌, ◌%◌, Bool, true, false, cond, List, [], ◌∷◌, ◌++◌, length, get_or, set, sym, subst, ap, ◌∙◌, arith, add-one, get_or-set_same, get_or-set_other, append-nil, ⊎_elim}
 use Rattle.std.proofs.lemmas.Bool.{cases_Bool, cases_eq, eq-eqb, ne_eqb}
 use Rattle.std.proofs.lemmas.Nat.{div-mul-add, mod-mul-add}
 use Rattle.std.proofs.Math.Nat.{mul-le-mul_right}
@@ -28,12 +28,6 @@ pub entry_fits : (x d i n : ℕ) → x < 4294967296 → d < 4294967296 → i < d
 entry_fits x d i n lx ld li l =
     let a : (x + 1) * d ≤ 4294967296 * d = mul-le-mul_right {m = x + 1} {n = 4294967296} d (omega arith) in
     omega (arith, a)
-
--- what stands in a list turns on no default
-pub any_default : (xs : List ℕ) (k d : ℕ) → k < length xs → get_or xs k d ≡ get_or xs k 0
-any_default [] k d l = absurd (omega (arith, l))
-any_default (x ∷ xs) zero d l = refl
-any_default (x ∷ xs) (suc k) d l = any_default xs k d (omega (arith, l))
 
 -- the entry of an element at a place
 pub entry_target : (g : MeshValue) (m x i t : ℕ) → i < map_dim g m → t ≡ target g m x i → t ≡ target g m ((x * map_dim g m + i) / map_dim g m) ((x * map_dim g m + i) % map_dim g m)

@@ -6,7 +6,7 @@ use Rattle.bound_program.specs.Values.{ItemValue, Free, Reduce, Ordered, Host, E
 use Rattle.loop_plan.specs.declared.exchange.LoopRun.{LoopRun}
 use Rattle.loop_plan.specs.Values.{ItemPlanValue, no_item_plan}
 use Rattle.loop_plan.specs.Needs as needs
-use Rattle.plan_counts.specs.Counts.{cells_sent, runs_of, exchanges_of, messages_of, cells_of}
+use Rattle.plan_counts.specs.Counts.{exchanged_cells, runs_of, exchanges_of, messages_of, cells_of}
 use Rattle.plan_counts.specs.Parts.{no_tally, plus, free_tally, ordered_tally, run_tally, items_tally}
 use Rattle.plan_counts.specs.declared.tallies.Tally.{Tally}
 
@@ -43,7 +43,7 @@ module _ (b : BoundValue) (meshes : List RankMesh) (s : ℕ) where
     cells = cells_of b meshes s i p;
   }
 
-  by_run : (i : ItemValue) (p : ItemPlanValue) → item_tally i p ≡ run_tally s (needs.run_of i) p (cells_sent b.mesh meshes p)
+  by_run : (i : ItemValue) (p : ItemPlanValue) → item_tally i p ≡ run_tally s (needs.run_of i) p (exchanged_cells b.mesh meshes p)
   by_run (Free n) p = by (nat_eq n s)
     where
       by : (t : Bool)
@@ -51,9 +51,9 @@ module _ (b : BoundValue) (meshes : List RankMesh) (s : ℕ) where
             runs = cond t 1 0;
             exchanges = cond t (free_tally p 0).exchanges 0;
             messages = cond t (length p.pairs) 0;
-            cells = cond t (cells_sent b.mesh meshes p) 0;
+            cells = cond t (exchanged_cells b.mesh meshes p) 0;
           }
-          ≡ cond t (free_tally p (cells_sent b.mesh meshes p)) no_tally
+          ≡ cond t (free_tally p (exchanged_cells b.mesh meshes p)) no_tally
       by true = refl
       by false = refl
   by_run (Ordered n) p = by (nat_eq n s)
@@ -66,7 +66,7 @@ module _ (b : BoundValue) (meshes : List RankMesh) (s : ℕ) where
 
   items_step : (is : List ItemValue) (ps : List ItemPlanValue) (k : ℕ) → k < length is → k < length ps
       → items_tally b meshes s (drop k is) (drop k ps)
-      ≡ plus (run_tally s (needs.run_of (get_or is k (Host Exit))) (get_or ps k no_item_plan) (cells_sent b.mesh meshes (get_or ps k no_item_plan)))
+      ≡ plus (run_tally s (needs.run_of (get_or is k (Host Exit))) (get_or ps k no_item_plan) (exchanged_cells b.mesh meshes (get_or ps k no_item_plan)))
       (items_tally b meshes s (drop (k + 1) is) (drop (k + 1) ps))
   items_step is ps k li lp =
       rw (drop_more is k (Host Exit) li, drop_more ps k no_item_plan lp)
@@ -78,7 +78,7 @@ module _ (b : BoundValue) (meshes : List RankMesh) (s : ℕ) where
       → k < length ps
       → run ≡ needs.run_of (get_or is k (Host Exit))
       → p ≡ get_or ps k no_item_plan
-      → cells ≡ cells_sent b.mesh meshes p
+      → cells ≡ exchanged_cells b.mesh meshes p
       → new ≡ plus old (run_tally s run p cells)
       → plus old (items_tally b meshes s (drop k is) (drop k ps)) ≡ all
       → plus new (items_tally b meshes s (drop (k + 1) is) (drop (k + 1) ps)) ≡ all
@@ -86,9 +86,9 @@ module _ (b : BoundValue) (meshes : List RankMesh) (s : ℕ) where
       let after = items_tally b meshes s (drop (k + 1) is) (drop (k + 1) ps) in
       let e' = e
       ∙ ap (λ c. plus old (run_tally s run p c)) ec
-      ∙ ap (λ r. plus old (run_tally s r p (cells_sent b.mesh meshes p))) er
-      ∙ ap (λ q. plus old (run_tally s (needs.run_of (get_or is k (Host Exit))) q (cells_sent b.mesh meshes q))) ep in
+      ∙ ap (λ r. plus old (run_tally s r p (exchanged_cells b.mesh meshes p))) er
+      ∙ ap (λ q. plus old (run_tally s (needs.run_of (get_or is k (Host Exit))) q (exchanged_cells b.mesh meshes q))) ep in
       ap (λ t. plus t after) e'
-      ∙ plus_assoc old (run_tally s (needs.run_of (get_or is k (Host Exit))) (get_or ps k no_item_plan) (cells_sent b.mesh meshes (get_or ps k no_item_plan))) after
+      ∙ plus_assoc old (run_tally s (needs.run_of (get_or is k (Host Exit))) (get_or ps k no_item_plan) (exchanged_cells b.mesh meshes (get_or ps k no_item_plan))) after
       ∙ ap (plus old) (sym (items_step is ps k li lp))
       ∙ rest

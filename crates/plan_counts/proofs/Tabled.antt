@@ -6,7 +6,7 @@ use Rattle.local_mesh.specs.declared.types.RankMesh.{RankMesh}
 use Rattle.loop_plan.specs.declared.types.Pair.{Pair}
 use Rattle.loop_plan.specs.Values.{ItemPlanValue}
 use Rattle.schedule_check.specs.Mail.{cells_between, imported_from, IsInside}
-use Rattle.plan_counts.specs.Counts.{cells_sent}
+use Rattle.plan_counts.specs.Counts.{exchanged_cells}
 use Rattle.plan_counts.specs.Imports.{Numbers, AreImports, cells_by, sent_by}
 
 module _ (g : MeshValue) (meshes : List RankMesh) (table : List Numbers) (in_sets : (d : ℕ) → d < dat_count g → dat_set g d < set_count g)
@@ -20,7 +20,7 @@ module _ (g : MeshValue) (meshes : List RankMesh) (table : List Numbers) (in_set
       ∙ ap (λ n. dat_dim g d * imported_from meshes s r (dat_set g d) + n) (message_same ds s r ls lr (λ k lt. there (suc k) (omega (arith, lt))))
 
   -- of all messages of an item
-  pub sent_same : (p : ItemPlanValue) → IsInside g meshes p → sent_by g table p ≡ cells_sent g meshes p
+  pub sent_same : (p : ItemPlanValue) → IsInside g meshes p → sent_by g table p ≡ exchanged_cells g meshes p
   sent_same p inside = by 0 p.pairs inside.pairs
     where
       by : (sum : ℕ) (qs : List Pair) → All (λ (q : Pair). (q.from < length meshes) × (q.to < length meshes)) qs

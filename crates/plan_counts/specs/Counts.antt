@@ -34,8 +34,8 @@ one_if_some [] = 0
 one_if_some (d ∷ ds) = 1
 
 -- the cells of all messages of an item
-abbrev pub cells_sent : MeshValue → List RankMesh → ItemPlanValue → ℕ
-cells_sent g meshes p = sum_by (λ (q : Pair). cells_between g meshes p.exchange q.from q.to) p.pairs
+abbrev pub exchanged_cells : MeshValue → List RankMesh → ItemPlanValue → ℕ
+exchanged_cells g meshes p = sum_by (λ (q : Pair). cells_between g meshes p.exchange q.from q.to) p.pairs
 
 -- of an item: a run of the loop; one with an exchange; its messages; and their cells
 abbrev pub runs_of : ℕ → ItemValue → ItemPlanValue → ℕ
@@ -48,7 +48,7 @@ abbrev pub messages_of : ℕ → ItemValue → ItemPlanValue → ℕ
 messages_of s i p = cond (runs_loop s i) (length p.pairs) 0
 
 abbrev pub cells_of : BoundValue → List RankMesh → ℕ → ItemValue → ItemPlanValue → ℕ
-cells_of b meshes s i p = cond (runs_loop s i) (cells_sent b.mesh meshes p) 0
+cells_of b meshes s i p = cond (runs_loop s i) (exchanged_cells b.mesh meshes p) 0
 
 -- ---- what one run of a loop does
 
@@ -58,8 +58,8 @@ largest [] = 0
 largest (x ∷ xs) = max x (largest xs)
 
 -- how many colours stand in a list, which are numbered from 0 on
-abbrev pub colours_in : List ℕ → ℕ
-colours_in cs = largest (map suc cs)
+abbrev pub number_of_colours : List ℕ → ℕ
+number_of_colours cs = largest (map suc cs)
 
 -- how many elements the ranks own of a set
 abbrev pub owned_of : List RankMesh → (set : ℕ) → ℕ
@@ -75,10 +75,10 @@ abbrev pub blocks_of : List Colours → ℕ
 blocks_of cs = sum_by (λ (c : Colours). length c.blocks.items) cs
 
 abbrev pub block_colours_of : List Colours → ℕ
-block_colours_of cs = largest (map (λ (c : Colours). colours_in c.blocks.items) cs)
+block_colours_of cs = largest (map (λ (c : Colours). number_of_colours c.blocks.items) cs)
 
 abbrev pub inner_colours_of : List Colours → ℕ
-inner_colours_of cs = largest (map (λ (c : Colours). colours_in c.inner.items) cs)
+inner_colours_of cs = largest (map (λ (c : Colours). number_of_colours c.inner.items) cs)
 
 -- ---- the counts of a loop
 

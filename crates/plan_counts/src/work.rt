@@ -2,13 +2,14 @@
 
 ghost use Rattle.std.specs.Prelude.{◌≡◌, ◌<◌, ◌-◌, ℕ, IfOk, length, sum};
 ghost use Rattle.loop_plan.specs.Pairs.{sets_of};
-ghost use Rattle.plan_counts.specs.Counts.{largest, colours_in, owned_of, imbalance_of, blocks_of, block_colours_of, inner_colours_of};
+ghost use Rattle.plan_counts.specs.Counts.{largest, owned_of, imbalance_of};
+ghost use Rattle.plan_counts.specs.Counts.{number_of_colours, blocks_of, block_colours_of, inner_colours_of};
 
-use crate::imports::local_set;
 use crate::sums::{product_of, sum_of, total_of};
 use colouring::Colours;
 use local_mesh::RankMesh;
 use op_num::OutOfMemory;
+use schedule_check::local_set;
 
 /// How many elements the ranks own of a set. An error is want of memory, where 64 bits can't count them.
 pub fn owned_of(ranks: &[RankMesh], set: u32) -> Result<u64, OutOfMemory>
@@ -37,8 +38,8 @@ fn largest(numbers: &[u32]) -> u32
 }
 
 // How many colours stand in a list, which are numbered from 0 on.
-fn colours_in(colours: &[u32]) -> u64
-    ensures { result ≡ colours_in colours.now }
+fn number_of_colours(colours: &[u32]) -> u64
+    ensures { result ≡ number_of_colours colours.now }
 {
     let mut most = 0u64;
     let mut rest = colours;
@@ -87,7 +88,7 @@ pub fn block_colours_of(colours: &[Colours]) -> u64
     let mut most = 0u64;
     let mut rest = colours;
     while let [first, more @ ..] = rest {
-        most = most.max(colours_in(&first.blocks));
+        most = most.max(number_of_colours(&first.blocks));
         rest = more;
     }
     most
@@ -100,7 +101,7 @@ pub fn inner_colours_of(colours: &[Colours]) -> u64
     let mut most = 0u64;
     let mut rest = colours;
     while let [first, more @ ..] = rest {
-        most = most.max(colours_in(&first.inner));
+        most = most.max(number_of_colours(&first.inner));
         rest = more;
     }
     most

@@ -1,5 +1,5 @@
 -- The runs of a loop that an item runs.
-use Rattle.std.proofs.Common.{◌≡◌, ℕ, zero, suc, ◌<◌, Bool, true, false, cond, refl, sym, ap, subst, ◌∙◌, arith, ⊎_elim, List, [], ◌∷◌, length, get_or, map, Option, Some, None, nat_eq}
+use Rattle.std.proofs.Common.{◌≡◌, ℕ, zero, suc, ◌<◌, Bool, true, false, cond, refl, sym, ap, subst, ◌∙◌, arith, ⊎_elim, List, [], ◌∷◌, length, get_or, map, Some, nat_eq}
 use Rattle.std.specs.Prelude.{◌||◌, ◌&&◌, nat_lt, slice_index}
 use Rattle.std.specs.Map.{lookup}
 use Rattle.std.specs.List.{list_any}
@@ -13,36 +13,14 @@ use Rattle.bound_program.specs.Values.{BoundValue, Exit, Free, Host}
 use Rattle.step_orders.specs.Order.{IsColoured}
 use Rattle.loop_plan.specs.declared.types.SitePlan.{SitePlan}
 use Rattle.loop_plan.specs.declared.types.Plan.{Plan}
-use Rattle.loop_plan.specs.Values.{SitePlanValue, PlanValue, site_plan_of, entry_of, plan_of, no_site_plan, or_none, site_plan}
+use Rattle.loop_plan.specs.Values.{SitePlanValue, PlanValue, site_plan_of, entry_of, plan_of, no_site_plan, site_plan}
 use Rattle.loop_plan.specs.Needs.{item_at}
 use Rattle.loop_plan.specs.Places.{runs_free, runs_loop}
 use Rattle.loop_plan.specs.Proper.{IsSitePlan, Proper}
 use Rattle.loop_plan.specs.StepOutline.{step_outline, loop_of}
 use Rattle.plan_orders.specs.Runs.{blocks_in, inner_in, AreLoopRuns}
+use Rattle.loop_plan.proofs.PlanReads.{site_read}
 use Rattle.plan_orders.proofs.TableReads.{at_read}
-
--- ---- plans by loop
-
--- a plan by its key, or none
-value_of : Option SitePlan → SitePlanValue
-value_of None = no_site_plan
-value_of (Some s) = site_plan_of s
-
-entries_of : (test : ℕ → Bool) (es : List (ℕ × SitePlan)) → or_none (lookup test (map entry_of es)) ≡ value_of (lookup test es)
-unfolding value_of
-entries_of test [] = refl
-entries_of test (e ∷ es) = ⊎_elim
-    (λ (t : test e.0 ≡ true). ap (λ z. or_none (cond z (Some (site_plan_of e.1)) (lookup test (map entry_of es)))) t ∙ sym (ap (λ z. value_of (cond z (Some e.1) (lookup test es))) t))
-    (λ (t : test e.0 ≡ false). ap (λ z. or_none (cond z (Some (site_plan_of e.1)) (lookup test (map entry_of es)))) t ∙ (entries_of test es ∙ sym (ap (λ z. value_of (cond z (Some e.1) (lookup test es))) t)))
-    (cases_Bool (test e.0))
-
-pub site_read : (p : Plan) (s : ℕ) (found : SitePlan) → Some found ≡ lookup (nat_eq s) p.sites.entries → site_plan_of found ≡ site_plan (plan_of p) s
-unfolding value_of site_plan
-site_read p s found h = ap value_of h ∙ sym (entries_of (nat_eq s) p.sites.entries)
-
-pub site_none : (p : Plan) (s : ℕ) → None ≡ lookup (nat_eq s) p.sites.entries → no_site_plan ≡ site_plan (plan_of p) s
-unfolding value_of site_plan
-site_none p s h = ap value_of h ∙ sym (entries_of (nat_eq s) p.sites.entries)
 
 -- ---- loops with a plan run as Free ones
 

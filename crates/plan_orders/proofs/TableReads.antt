@@ -27,14 +27,6 @@ module _ {A B : Type 0} (f : A → B) (d : B) where
       ap (λ z. get_or z k d) (map-append f xs (x ∷ []))
       ∙ get_or_push (map f xs) (f x) d k (length-map xs f ∙ e)
 
-  -- what holds of each row and the last holds of all
-  pub one_more : (P : ℕ → B → Type 0) (xs : List A) (x : A) (n : ℕ) → length xs ≡ n → P n (f x) → ((k : ℕ) → k < n → P k (at xs k))
-      → (k : ℕ) → k < n + 1 → P k (at (xs ++ (x ∷ [])) k)
-  one_more P xs x n e last before k lt = ⊎_elim
-      (λ (i : k ≡ n). subst (λ z. P z (at (xs ++ (x ∷ [])) z)) (sym i) (subst (P n) (sym (at_last xs x n e)) last))
-      (λ (ne : k ≡ n → ⊥). (let l : k < n = omega arith in subst (P k) (sym (at_before xs x k (omega arith))) (before k l)))
-      (cases_eq k n)
-
 -- the same of two tables
 pub both_more : {A B C : Type 0} (f : A → B) (d : B) (h : A → C) (e : C) (P : ℕ → B → C → Type 0) (xs : List A) (x : A) (n : ℕ)
     → length xs ≡ n

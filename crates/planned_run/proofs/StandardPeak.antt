@@ -10,7 +10,8 @@ use Rattle.schedule_steps.specs.declared.step.Step.TheVariants.{Send, Recv, Begi
 use Rattle.schedule_steps.specs.Drawn.{numbers}
 use Rattle.schedule_steps.specs.Standard.{below, where_true, above, one_if, tally, sends_of, receives_of, is_member, group_of, in_group, blocks, group_steps, block_steps, element_steps, item_steps, standard}
 use Rattle.schedule_steps.specs.Peaks.{open_step, mail_step, count_after, greatest}
-use Rattle.planned_run.specs.Room.{sum_below, cells_sent, item_cells}
+use Rattle.loop_plan.specs.Counted.{sum_below}
+use Rattle.planned_run.specs.Room.{cells_sent, item_cells}
 
 -- ---- counts along lists
 

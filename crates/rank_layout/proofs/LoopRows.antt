@@ -1,5 +1,5 @@
 -- Tables of a list for each loop, one loop after another.
-use Rattle.std.proofs.Common.{◌≡◌, ◌<◌, ◌≤◌, ◌+◌, ℕ, List, [], ◌∷◌, ◌++◌, Vec, map, length, get_or, refl, sym, ap, ◌∙◌, subst, ⊎_elim, arith}
+use Rattle.std.proofs.Common.{◌≡◌, ◌<◌, ◌≤◌, ◌+◌, ℕ, List, [], ◌∷◌, ◌++◌, Vec, map, length, get_or, sym, ap, ◌∙◌, subst, ⊎_elim, arith}
 use Rattle.std.specs.declared.alloc.Global.{Global}
 use Rattle.std.proofs.lemmas.List.{length-map, map_push, get_or_append_left, get_or_push, get_or-map, length_push}
 use Rattle.std.proofs.lemmas.Bool.{cases_lt}
@@ -30,9 +30,6 @@ module _ {A : Type 0} where
     pub each : (s : ℕ) → s < n → Is s (row_of rows s)
 
   module _ (Is : ℕ → List A → Type 0) where
-    pub no_rows : Rows Is [] 0
-    no_rows = record { count = refl; each = λ s lt. absurd (omega arith) }
-
     pub one_row : (rows more : List (Vec A Global)) (n k : ℕ) (v : Vec A Global) → Rows Is rows n → Is n v.items → k ≡ n + 1 → more ≡ rows ++ v ∷ [] → Rows Is more k
     one_row rows more n k v had here next is = record {
       count = ap length is ∙ length_push rows v ∙ (let c = had.count in omega (arith, c, next));

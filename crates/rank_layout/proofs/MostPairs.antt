@@ -1,12 +1,9 @@
 -- The most spans of a message, with one rank more.
-use Rattle.std.proofs.Common.{◌≡◌, ◌<◌, ◌≤◌, ◌+◌, max, ℕ, List, refl, sym, subst, ◌⊎◌, inl, inr, ⊎_elim, arith}
+use Rattle.std.proofs.Common.{◌≡◌, ◌<◌, ◌≤◌, ◌+◌, max, ℕ, List, sym, subst, ◌⊎◌, inl, inr, ⊎_elim, arith}
 use Rattle.std.proofs.lemmas.Bool.{cases_lt}
 use Rattle.mesh_decl.specs.Mesh.{MeshValue}
 use Rattle.local_mesh.specs.declared.lists.LocalLists.{LocalLists}
 use Rattle.rank_layout.specs.SendLaws.{pair_spans, IsMost, IsMostSent}
-
-pub most_none : (f : ℕ → ℕ) → IsMost f 0 0
-most_none f = record { each = λ i lt. absurd (omega arith); some = inl refl }
 
 -- one number more
 pub most_more : (f : ℕ → ℕ) (n m new : ℕ) → IsMost f n m → new ≡ max (f n) m → IsMost f (n + 1) new
@@ -24,9 +21,6 @@ most_more f n m new is e = record {
 }
 
 module _ (g : MeshValue) (lists : List LocalLists) (ranks : ℕ) where
-  pub sent_none : IsMostSent g lists 0 ranks 0
-  sent_none = record { each = λ s r ls lr. absurd (omega arith); some = inl refl }
-
   -- one sender more
   pub sent_more : (n m one new : ℕ) → IsMostSent g lists n ranks m → IsMost (pair_spans g lists n) ranks one → new ≡ max one m
       → IsMostSent g lists (n + 1) ranks new
@@ -45,13 +39,3 @@ module _ (g : MeshValue) (lists : List LocalLists) (ranks : ℕ) where
         (⊎_elim (λ z. inl z) (λ w. inr (n, w.0, (let l : n < n + 1 = omega arith in l), w.1, w.2)) most.some))
         (cases_lt one m);
   }
-
-  -- at least so many
-  pub sent_least : (m floor new : ℕ) → IsMostSent g lists ranks ranks m → new ≡ max m floor
-      → (new ≡ floor) ⊎ ((s : ℕ) × (r : ℕ) × (s < ranks) × (r < ranks) × (pair_spans g lists s r ≡ new))
-  sent_least m floor new is e = ⊎_elim
-      (λ (l : floor < m). let top : new ≡ m = omega (arith, e, l) in
-      subst (λ z. (z ≡ floor) ⊎ ((s : ℕ) × (r : ℕ) × (s < ranks) × (r < ranks) × (pair_spans g lists s r ≡ z))) (sym top)
-      (⊎_elim (λ (z : m ≡ 0). absurd (omega (arith, z, l))) (λ w. inr w) is.some))
-      (λ (l : m ≤ floor). inl (let low : new ≡ floor = omega (arith, e, l) in low))
-      (cases_lt floor m)

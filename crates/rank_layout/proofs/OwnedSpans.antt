@@ -19,7 +19,8 @@ use Rattle.rank_layout.specs.Seen.{has}
 use Rattle.rank_layout.specs.Placed.{is_dat}
 use Rattle.rank_layout.specs.OwnedWindows.{begins_with, begins_among, with_owned, owned_after}
 use Rattle.rank_layout.proofs.ElementWindows.{run_count}
-use Rattle.rank_layout.proofs.SeenSoFar.{same_true, same_refl, different_old, different_new, has_different, has_of, has_append}
+use Rattle.run_model.proofs.Reached.{same_true, same_refl}
+use Rattle.rank_layout.proofs.SeenSoFar.{different_old, different_new, has_different, has_of, has_append}
 
 begins_self : (s : Owned) → begins_with s s ≡ true
 begins_self s = and_from _ _ (eq-eqb s.rank s.rank refl) (eq-eqb s.at s.at refl)

@@ -15,7 +15,8 @@ use Rattle.bound_plan.specs.Windows.{on_dats, on_variables, dats_first, frame_ce
 use Rattle.rank_layout.specs.Seen.{has}
 use Rattle.rank_layout.specs.Numbered.{number_of, is_one, is_one_at, AreNumbers}
 use Rattle.rank_layout.specs.Placed.{is_dat, IsPut, ArePut, DatsPut, AllPut, reached_at}
-use Rattle.rank_layout.proofs.SeenSoFar.{same_true, same_refl, different_old, different_new, has_different, new_in_different, has_old, has_last, old_or_last, start_old, start_new, start_within, cells, cells_more}
+use Rattle.run_model.proofs.Reached.{same_true, same_refl}
+use Rattle.rank_layout.proofs.SeenSoFar.{different_old, different_new, has_different, new_in_different, has_old, has_last, old_or_last, start_old, start_new, start_within, cells, cells_more}
 
 -- ---- arguments on dats and on variables
 
@@ -261,22 +262,6 @@ module _ (b : BoundValue) (e : ℕ) where
           (λ k lk d. ⊎_elim (λ (lt : k < i). inl (let more : k < i + 1 = omega arith in more)) (λ t. inr t) d)
 
     -- ---- the start, between, and the end
-
-    pub none_put : (places : List Place) → DatsPut b e args 0 places 0
-    none_put places = record {
-      next_is = refl;
-      each = λ k lk d. let lt = d.0 in absurd (omega arith);
-      only = λ q t. absurd (false≢true t);
-    }
-
-    pub dats_put : (places : List Place) (next : ℕ) → DatsPut b e args (length args) places next → AllPut b e args 0 places next
-    dats_put places next h =
-        redone (map (reached b e) (on_dats args ++ on_variables (take 0 args))) (λ k. (k < length args) × (is_dat (get_or args k no_arg) ≡ true))
-        (λ k. (k < 0) ⊎ (is_dat (get_or args k no_arg) ≡ true)) places next
-        (subst (λ seen. ArePut b e args seen (λ k. (k < length args) × (is_dat (get_or args k no_arg) ≡ true)) places next)
-        (ap (λ xs. map (reached b e) (on_dats xs)) (take_all (length args) args (omega arith)) ∙ sym (ap (map (reached b e)) (append-nil (on_dats args)))) h)
-        (λ k lk d. ⊎_elim (λ (lt : k < 0). absurd (omega arith)) (λ t. (lk, t)) d)
-        (λ k lk d. inr d.1)
 
     all_seen : (places : List Place) (next : ℕ) → AllPut b e args (length args) places next
         → ArePut b e args (map (reached b e) (dats_first args)) (λ k. k < length args) places next

@@ -1,25 +1,13 @@
 -- What was reached so far, each once, with one thing more.
-use Rattle.std.proofs.Common.{◌≡◌, ◌≤◌, ◌+◌, ℕ, Bool, true, false, ◌||◌, List, [], ◌∷◌, ◌++◌, length, flat_map, refl, sym, ap, ap₂, ◌∙◌, ◌⊎◌, inl, inr, ⊎_elim, arith, length-append}
-use Rattle.std.specs.Prelude.{nat_eq, if◌then◌else◌}
-use Rattle.std.proofs.lemmas.Bool.{cases_Bool, false≢true, and_parts, and_from, eq-eqb, eqb-true, or_cases, or_parts, or_left, or_right}
+use Rattle.std.proofs.Common.{◌≡◌, ◌≤◌, ◌+◌, ℕ, Bool, true, false, ◌||◌, List, [], ◌∷◌, ◌++◌, length, flat_map, refl, sym, ap, ◌∙◌, ◌⊎◌, inl, inr, ⊎_elim, arith, length-append}
+use Rattle.std.specs.Prelude.{if◌then◌else◌}
+use Rattle.std.proofs.lemmas.Bool.{cases_Bool, false≢true, or_cases, or_parts, or_left, or_right}
 use Rattle.std.proofs.lemmas.List.{append-nil}
 use Rattle.std.proofs.lemmas.List.FromFn.{length-map-range_with_len}
 use Rattle.bound_program.specs.Values.{BoundValue}
-use Rattle.run_model.specs.Windows.{Reached, Element, Whole, is_same, without, different, width, cell_in, cells_in, window_start}
+use Rattle.run_model.specs.Windows.{Reached, is_same, without, different, width, cell_in, cells_in, window_start}
+use Rattle.run_model.proofs.Reached.{same_true, same_refl, not_same}
 use Rattle.rank_layout.specs.Seen.{has}
-
-pub same_true : (r q : Reached) → is_same r q ≡ true → r ≡ q
-same_true (Element d x) (Element e y) h = let p = and_parts (nat_eq d e) (nat_eq x y) h in ap₂ Element (eqb-true d e p.0) (eqb-true x y p.1)
-same_true (Whole v) (Whole w) h = ap Whole (eqb-true v w h)
-same_true (Element d x) (Whole w) h = absurd (false≢true h)
-same_true (Whole v) (Element e y) h = absurd (false≢true h)
-
-pub same_refl : (r : Reached) → is_same r r ≡ true
-same_refl (Element d x) = and_from (nat_eq d d) (nat_eq x x) (eq-eqb d d refl) (eq-eqb x x refl)
-same_refl (Whole v) = eq-eqb v v refl
-
-pub not_same : (r q : Reached) → is_same r q ≡ false → r ≡ q → ⊥
-not_same r q h e = false≢true (sym h ∙ ap (is_same r) (sym e) ∙ same_refl r)
 
 apart_by : (r q : Reached) (c : Bool) → is_same r q ≡ c → (r ≡ q → ⊥) → is_same r q ≡ false
 apart_by r q true t never = absurd (never (same_true r q t))

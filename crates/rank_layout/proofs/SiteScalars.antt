@@ -60,15 +60,6 @@ module _ (b : BoundValue) (s : ℕ) where
     pub covers : (j : ℕ) → length (slots_before b s) ≤ j → j < length how → has_slot j scalars ≡ true
     pub held : (v c : ℕ) → names v (take i (site_at b s).args) ≡ true → c < var_width b v → has_index (cells_before b v + c) scalars ≡ true
 
-  pub none_so_far : (how : List Operation) → AreOperations (slots_before b s) how → SoFar 0 how []
-  none_so_far how are = record {
-    operations = are ∙ ap (map (λ (x : Slot). x.how)) (sym (append-nil (slots_before b s)));
-    cells = refl;
-    each = tt;
-    covers = λ j l r. let n = operations_length (slots_before b s) how are in absurd (omega (arith, n, l, r));
-    held = λ v c h l. absurd (false≢true h);
-  }
-
 module _ (b : BoundValue) (s : ℕ) (ls : s < length b.sites) (apart : AllApart (site_at b s).args) (there : All (ArgNamed b) (site_at b s).args) where
   abbrev args : List Arg
   args = (site_at b s).args

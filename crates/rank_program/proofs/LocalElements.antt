@@ -80,12 +80,6 @@ module _ (l : LocalLoop) (sound : Sound l.program.now) (is : IsLocalLoop l) (sta
       count = counted ∙ sym is.args.0;
     }
 
-    pub params : length places ≡ f.params
-    params = counted ∙ is.params
-
-    pub marks_count : length l.marks.now ≡ length places
-    marks_count = ap length is.marks ∙ length-map site.args _ ∙ sym counted
-
     pub few_cells : place_cells places ≤ 1024
     few_cells = places_few c sound stand l.item l.rank x step m is.part here at.at at.behind places placed
 

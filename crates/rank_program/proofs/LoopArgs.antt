@@ -78,9 +78,6 @@ module _ (l : LocalLoop) (sound : Sound l.program.now) (is : IsLocalLoop l) (sta
   pub fits : SiteFits b site
   fits = site_fits c sound stand l.item l.rank first step
 
-  there_of : (a : ℕ) → a < length args → a < length locals
-  there_of a lt = let n = is.args.0 in omega (arith, n, lt)
-
   pub arg_is : (a : ℕ) → a < length args → IsArg b.mesh m (arg_in args a) (local_at args locals a)
   arg_is a lt = is.args.1 a no_arg None lt
 

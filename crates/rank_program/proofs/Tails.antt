@@ -13,14 +13,6 @@ abbrev pub scalar_spans : ℕ → List Scalar → List Span
 scalar_spans at [] = []
 scalar_spans at (x ∷ xs) = record { at = at; dim = 1; writes = true } ∷ scalar_spans (suc at) xs
 
-total_append : (ss ts : List Span) → total (ss ++ ts) ≡ total ss + total ts
-total_append [] ts = omega arith
-total_append (s ∷ ss) ts = let e = total_append ss ts in omega (arith, e)
-
-scalar_total : (at : ℕ) (xs : List Scalar) → total (scalar_spans at xs) ≡ length xs
-scalar_total at [] = refl
-scalar_total at (x ∷ xs) = let e = scalar_total (suc at) xs in omega (arith, e)
-
 gathered_append : (m : List ℤ) (ss ts : List Span) → gathered m (ss ++ ts) ≡ gathered m ss ++ gathered m ts
 gathered_append m [] ts = refl
 gathered_append m (s ∷ ss) ts = ap (λ z. cells_at s.at s.dim m ++ z) (gathered_append m ss ts) ∙ sym (append_assoc (cells_at s.at s.dim m) (gathered m ss) (gathered m ts))

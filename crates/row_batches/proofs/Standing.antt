@@ -47,10 +47,6 @@ amount_first variables (Amount at slot how) own r a e = same_unit (operation how
         by_unit OpRw = pos 0
         by_unit (OpReduce s) = unit_of s
 
-not_rw : (x : Scalar) (own : Access) → AllowsScalar x own → own ≡ OpRw → ⊥
-not_rw (Value at) own a e = let h : OpRead ≡ OpRw = sym a ∙ e in cc
-not_rw (Amount at slot how) own a e = let h : OpReduce (operation how) ≡ OpRw = sym a ∙ e in cc
-
 reads_value : (x : Scalar) (own other : Access) (r : Reduction) → AllowsScalar x own → own ≡ OpReduce r → AllowsScalar x other → other ≡ OpReduce r
 reads_value (Value at) own other r a e b = let h : OpRead ≡ OpReduce r = sym a ∙ e in absurd cc
 reads_value (Amount at slot how) own other r a e b = b ∙ sym a ∙ e

@@ -1,7 +1,7 @@
 -- A run of a kernel on the values of its windows is one over any lists that hold the cells.
-use Rattle.std.proofs.Common.{◌≡◌, ◌<◌, ◌+◌, ℕ, zero, suc, ℤ, pos, true, false, List, [], ◌∷◌, map, length, get_or, refl, sym, ap, ◌∙◌, subst, ⊎_elim, FitsSigned, w32, arith}
+use Rattle.std.proofs.Common.{◌≡◌, ◌<◌, ◌+◌, ℕ, zero, suc, pos, true, List, [], ◌∷◌, map, length, get_or, refl, sym, ap, ◌∙◌, subst, FitsSigned, w32, arith}
 use Rattle.std.specs.Prelude.{nat_eq, slice_index_or}
-use Rattle.std.proofs.lemmas.Bool.{cases_Bool, false≢true, eq-eqb, eqb-true, and_parts, and_from, cond-true, cond-false}
+use Rattle.std.proofs.lemmas.Bool.{false≢true, eq-eqb, eqb-true, and_parts, and_from}
 use Rattle.std.proofs.lemmas.List.{get_or-map, length-map}
 use Rattle.kernel_model.specs.Meaning.{Target, target_at, cell, read_arg}
 use Rattle.kernel_model.specs.Meaning as kernel
@@ -9,35 +9,11 @@ use Rattle.kernel_model.specs.Obeys.{Mode, mode_at}
 use Rattle.kernel_model.specs.Independence.{Fits, store_after}
 use Rattle.kernel_model.specs.Independence as law
 use Rattle.schedule_model.specs.Cells.{Cell, Store, InRange}
-use Rattle.schedule_model.specs.Cells.{same_cell as one_cell}
-use Rattle.schedule_model.specs.Tests.{same_cell_refl, same_cell_true}
 use Rattle.schedule_laws.specs.Arguments.{Argument, Entries, reaches}
-use Rattle.flat_machine.specs.Layout.{lookup, of_core}
+use Rattle.flat_machine.specs.Layout.{of_core}
 use Rattle.element_runs.specs.ElementRun.{Held, IsUnreached, EndsAs}
 use Rattle.element_runs.specs.OnWindows.{no_cell, OnWindows, core_of}
-
--- the value of a cell that stands once in the list
-found : (xs : List Cell) (ws : List ℤ) (c : Cell) (d : ℤ) (j : ℕ) → length ws ≡ length xs
-    → ((i k : ℕ) → i < length xs → k < length xs → get_or xs i no_cell ≡ get_or xs k no_cell → i ≡ k)
-    → j < length xs → get_or xs j no_cell ≡ c → lookup xs ws c d ≡ get_or ws j (pos 0)
-found [] ws c d j len once lt at = absurd (omega arith)
-found (x ∷ xs) [] c d j len once lt at = absurd (omega arith)
-found (x ∷ xs) (w ∷ ws) c d zero len once lt at = cond-true (one_cell x c) w (lookup xs ws c d) (subst (λ z. one_cell x z ≡ true) at (same_cell_refl x))
-found (x ∷ xs) (w ∷ ws) c d (suc j) len once lt at = ⊎_elim
-    (λ (t : one_cell x c ≡ true). absurd (let e : 0 ≡ suc j = once 0 (suc j) (omega arith) lt (same_cell_true x c t ∙ sym at) in omega arith))
-    (λ (t : one_cell x c ≡ false).
-    cond-false (one_cell x c) w (lookup xs ws c d) t
-    ∙ found xs ws c d j (omega arith) (λ i k li lk e. let s : suc i ≡ suc k = once (suc i) (suc k) (omega arith) (omega arith) e in omega arith) (omega arith) at)
-    (cases_Bool (one_cell x c))
-
--- a cell that isn't in the list
-missed : (xs : List Cell) (ws : List ℤ) (c : Cell) (d : ℤ) → ((j : ℕ) → j < length xs → get_or xs j no_cell ≡ c → ⊥) → lookup xs ws c d ≡ d
-missed [] ws c d absent = refl
-missed (x ∷ xs) [] c d absent = refl
-missed (x ∷ xs) (w ∷ ws) c d absent = ⊎_elim
-    (λ (t : one_cell x c ≡ true). absurd (absent 0 (omega arith) (same_cell_true x c t)))
-    (λ (t : one_cell x c ≡ false). cond-false (one_cell x c) w (lookup xs ws c d) t ∙ missed xs ws c d (λ j lt e. absent (suc j) (omega arith) e))
-    (cases_Bool (one_cell x c))
+use Rattle.element_runs.proofs.OnWindows.{found, missed}
 
 -- the values of a list are in range where the store's are
 pub values_in_range : (xs : List Cell) (s : Store) → InRange s → (j : ℕ) → FitsSigned w32 (get_or (map s xs) j (pos 0))

@@ -1,7 +1,7 @@
 -- The marks of an item are those of the plan's.
 use Rattle.std.proofs.Common.{◌≡◌, ℕ, ◌*◌, ◌^◌, ◌<◌, ◌≤◌, Bool, true, false, refl, sym, ap, subst, ◌∙◌, arith, ⊎_elim, List, length, get_or}
 use Rattle.std.specs.Prelude.{slice_index}
-use Rattle.std.proofs.lemmas.Bool.{cases_lt, false≢true}
+use Rattle.std.proofs.lemmas.Bool.{cases_lt}
 use Rattle.std.proofs.lemmas.List.{length-map, get_or-map, get_or_past}
 use Rattle.local_mesh.specs.declared.types.RankMesh.{RankMesh}
 use Rattle.colouring.specs.declared.types.Colours.{Colours}
@@ -12,7 +12,7 @@ use Rattle.step_marks.specs.Run.{Run, begun_at, ended_at}
 use Rattle.step_marks.specs.Item.{Item, no_run, pair_at, linked}
 use Rattle.step_marks.specs.NewRun.{ends_before}
 use Rattle.std.proofs.lemmas.Nat.{mul-le}
-use Rattle.step_marks.specs.NewItem.{free_item, join_item}
+use Rattle.step_marks.specs.NewItem.{free_item}
 use Rattle.step_judge.specs.Fresh.{IsFreshRun, IsFreshItem}
 use Rattle.loop_plan.specs.declared.types.Pair.{Pair}
 use Rattle.loop_plan.specs.Values.{PlanValue, SitePlanValue, item_plan, site_plan, places_in}
@@ -20,7 +20,6 @@ use Rattle.loop_plan.specs.Needs.{item_at}
 use Rattle.loop_plan.specs.Pairs.{sets_of, core_in, passes, pairs_below}
 use Rattle.loop_plan.specs.StepOutline.{is_free, loop_of, loop_at, step_outline}
 use Rattle.schedule_check.specs.Froms.{froms, tos}
-use Rattle.schedule_check.specs.ItemMarks.{AreItemMarks}
 use Rattle.schedule_check.specs.NewPlaces.{AreNewPlaces, AreColoured, blocks_of, inner_of}
 use Rattle.schedule_check.proofs.PlaceReads.{all_false}
 use Rattle.schedule_check.proofs.Holds.{holds, found, below_holds, in_range, nth_holds, no_pair, Apart, below_apart, pairs_few}
@@ -28,21 +27,6 @@ use Rattle.schedule_check.proofs.Holds.{holds, found, below_holds, in_range, nth
 module _ (b : BoundValue) (meshes : List RankMesh) (p : PlanValue) (k : ℕ) where
   abbrev o : Outline
   o = step_outline b meshes p
-
-  -- one join
-  pub join_fresh : is_free (item_at b k) ≡ false → IsFreshItem o k join_item
-  join_fresh f = record {
-    frees = sym f;
-    open_join = refl;
-    links = λ s r h. absurd (false≢true h);
-    ranked = λ s r h. absurd (false≢true h);
-    unsent = λ s r. refl;
-    unreceived = λ s r. refl;
-    unbegun = λ r x. refl;
-    unended = λ r x. refl;
-    count = λ h. absurd (false≢true h);
-    runs = λ r h. absurd (false≢true h);
-  }
 
   module _ (pairs : List Pair) (runs : List Run) (cs : List Colours)
       (free : is_free (item_at b k) ≡ true)
@@ -91,10 +75,6 @@ module _ (b : BoundValue) (meshes : List RankMesh) (p : PlanValue) (k : ℕ) whe
         count = λ h. count ∙ sym ranks;
         runs = λ r h lr. run_fresh r (omega arith);
       }
-
--- a join's marks are those of its item
-pub join_marks : (b : BoundValue) (meshes : List RankMesh) (p : PlanValue) (k : ℕ) → is_free (item_at b k) ≡ false → AreItemMarks b meshes p k join_item
-join_marks b meshes p k f = record { fresh = join_fresh b meshes p k f; pairs = λ s r h. absurd (false≢true h) }
 
 -- the same, where the item runs loop s
 pub loop_fresh : (b : BoundValue) (meshes : List RankMesh) (p : PlanValue) (k s : ℕ) (pairs : List Pair) (runs : List Run) (l : SitePlanValue)

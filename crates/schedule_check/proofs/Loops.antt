@@ -1,5 +1,5 @@
 -- How items run loops, and the colours of those loops.
-use Rattle.std.proofs.Common.{◌≡◌, ℕ, zero, suc, ◌*◌, ◌<◌, true, false, refl, sym, ap, subst, ◌∙◌, arith, List, [], ◌∷◌, length, get_or}
+use Rattle.std.proofs.Common.{◌≡◌, ℕ, zero, suc, ◌*◌, ◌<◌, true, refl, sym, ap, subst, ◌∙◌, arith, List, [], ◌∷◌, length, get_or}
 use Rattle.std.specs.Prelude.{◌↔◌, slice_index}
 use Rattle.local_mesh.specs.declared.types.RankMesh.{RankMesh}
 use Rattle.colouring.specs.declared.types.Colours.{Colours}
@@ -8,7 +8,6 @@ use Rattle.loop_plan.specs.declared.exchange.LoopRun.TheVariants as run
 use Rattle.loop_plan.specs.Values.{PlanValue, site_plan}
 use Rattle.loop_plan.specs.Needs.{run_of}
 use Rattle.loop_plan.specs.Places.{runs_free}
-use Rattle.loop_plan.specs.StepOutline.{is_free}
 use Rattle.loop_plan.specs.Proper.{IsSitePlan, Proper}
 use Rattle.schedule_check.specs.NewPlaces.{AreColoured, blocks_of, inner_of}
 use Rattle.schedule_check.proofs.PlaceReads.{blocks_read, inner_read}
@@ -18,18 +17,6 @@ runs_as_free (Free n) s h = cc
 runs_as_free (Reduce n) s h = cc
 runs_as_free (Ordered n) s h = cc
 runs_as_free (Host a) s h = cc
-
-pub runs_in_order : (i : ItemValue) (s : ℕ) → run.Ordered s ≡ run_of i → is_free i ≡ false
-runs_in_order (Free n) s h = cc
-runs_in_order (Reduce n) s h = refl
-runs_in_order (Ordered n) s h = refl
-runs_in_order (Host a) s h = refl
-
-pub runs_not : (i : ItemValue) → run.No ≡ run_of i → is_free i ≡ false
-runs_not (Free n) h = cc
-runs_not (Reduce n) h = refl
-runs_not (Ordered n) h = refl
-runs_not (Host a) h = refl
 
 some_at : (xs : List Colours) (r : ℕ) → r < length xs → (x : Colours) × (x ≡ get_or xs r x)
 some_at [] r l = absurd (omega arith)

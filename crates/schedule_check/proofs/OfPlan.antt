@@ -10,7 +10,7 @@ use Rattle.schedule_steps.specs.declared.step.Step.TheVariants.{Send, Recv, Begi
 use Rattle.schedule_steps.specs.Steps.{IsStep}
 use Rattle.schedule_steps.specs.Judged.{is_step}
 use Rattle.step_marks.specs.declared.load.Load.{Load}
-use Rattle.step_marks.specs.Item.{pair_at, place_of}
+use Rattle.step_marks.specs.Item.{pair_at}
 use Rattle.step_marks.specs.Marked.{Marked, item_at, outline_of, taken}
 use Rattle.step_marks.proofs.Pairs.{pair_found}
 use Rattle.step_judge.specs.declared.refusal.ScheduleRefusal.{ScheduleRefusal}
@@ -32,24 +32,13 @@ use Rattle.schedule_check.specs.ItemMarks.{AreItemMarks}
 use Rattle.schedule_check.specs.Mail.{cells_between, row_of}
 use Rattle.schedule_check.specs.PlanChecking.{PlanChecking, checking, IsOfPlan, TakesPlanStep}
 use Rattle.schedule_check.proofs.Holds.{holds, found, below_holds, no_pair}
-use Rattle.schedule_check.proofs.Rooms.{alike_on, same_load}
+use Rattle.schedule_check.proofs.Rooms.{same_load}
 
 -- ---- behind a step
 
 module _ (c : PlanChecking) (d : Checking) (s : Step) (of : IsOfPlan c) where
   abbrev next : PlanChecking
   next = checking c.bound c.meshes c.plan d
-
-  same_cells : TakesStep c.steps d s → (k a r : ℕ) → cells_of d k a r ≡ cells_of c.steps k a r
-  same_cells t k a r =
-      ap (λ (z : List (List ℕ)). slice_index (slice_index_or z k []) (place_of (item_at d.marks k) a r)) t.cells
-      ∙ ap (λ z. slice_index (slice_index_or c.steps.cells k []) z) (t.marks.pairs k a r)
-
-  pub of_plan_after : TakesStep c.steps d s → IsOfPlan next
-  of_plan_after t = record {
-    marks = record { alike = alike_on (outline_of d.marks) (outline_of c.steps.marks) (step_outline c.bound c.meshes c.plan) t.marks.alike of.marks.alike; in_order = of.marks.in_order };
-    cells = λ k a r h. same_cells t k a r ∙ of.cells k a r (sym (t.marks.steps (Send k a r)) ∙ h);
-  }
 
   -- the cells of the step's message
   step_of : (u : Step) → is_step (outline_of c.steps.marks) u ≡ true → step_cells (cells_of c.steps) u ≡ step_cells (λ k a r. cells_between c.bound.mesh c.meshes (item_plan c.plan k).exchange a r) u
@@ -78,10 +67,6 @@ module _ (c : PlanChecking) (d : Checking) (s : Step) (of : IsOfPlan c) where
   pub kept_plan : (r : Result (Unit {0}) ScheduleRefusal) → OnErr r (d ≡ c.steps) → OnErr r (next ≡ c)
   kept_plan (Ok u) t = tt
   kept_plan (Err e) t = ap (checking c.bound c.meshes c.plan) t
-
-  pub still_plan : (r : Result (Unit {0}) ScheduleRefusal) → OnOk r (TakesStep c.steps d s) → OnErr r (d ≡ c.steps) → IsOfPlan next
-  still_plan (Ok u) t e = of_plan_after t
-  still_plan (Err x) t e = subst (λ z. IsOfPlan (checking c.bound c.meshes c.plan z)) (sym e) of
 
 -- ---- at the start
 

@@ -1,5 +1,5 @@
 -- There is room for the counts of a plan, and cells are told by marks.
-use Rattle.std.proofs.Common.{◌≡◌, ℕ, ◌*◌, ◌^◌, ◌<◌, ◌≤◌, Bool, true, false, refl, sym, ap, ◌∙◌, arith, List, [], ◌∷◌, length}
+use Rattle.std.proofs.Common.{◌≡◌, ℕ, ◌*◌, ◌^◌, ◌<◌, ◌≤◌, Bool, true, false, refl, ap, arith, List, [], ◌∷◌, length}
 use Rattle.std.specs.Prelude.{◌↔◌, not, slice_index, slice_index_or}
 use Rattle.std.proofs.lemmas.Nat.{mul-le}
 use Rattle.schedule_steps.specs.Outline.{Outline}
@@ -49,21 +49,6 @@ room v o cells most steps marks tests accepted alike counted below count few fit
       messages = λ k s r. below k (place_of (item_at v k) s r);
       frames = omega arith;
       mail = omega arith;
-    }
-
--- outlines that are alike, one after the other
-pub alike_on : (a b d : Outline) → AlikeOutlines a b → AlikeOutlines b d → AlikeOutlines a d
-alike_on a b d x y =
-    let ni : a.items ≡ b.items = x.items in
-    let nr : a.ranks ≡ b.ranks = x.ranks in
-    record {
-      items = x.items ∙ y.items;
-      ranks = x.ranks ∙ y.ranks;
-      is_free = λ k h. x.is_free k h ∙ y.is_free k (omega arith);
-      sends = λ k s r h f ls lr. x.sends k s r h f ls lr ∙ y.sends k s r (omega arith) (sym (x.is_free k h) ∙ f) (omega arith) (omega arith);
-      executed = λ k r e h f l. x.executed k r e h f l ∙ y.executed k r e (omega arith) (sym (x.is_free k h) ∙ f) (omega arith);
-      core = λ k r e h f l w. x.core k r e h f l w ∙ y.core k r e (omega arith) (sym (x.is_free k h) ∙ f) (omega arith) (sym (x.executed k r e h f l) ∙ w);
-      colours = λ k r e g h f l w z. x.colours k r e g h f l w z ∙ y.colours k r e g (omega arith) (sym (x.is_free k h) ∙ f) (omega arith) (sym (x.executed k r e h f l) ∙ w) (sym (x.executed k r g h f l) ∙ z);
     }
 
 -- a count by functions that agree on the step's message

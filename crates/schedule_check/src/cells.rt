@@ -36,19 +36,20 @@ fn owned_count(set: &LocalSet, elements: &[u32]) -> u64
     count
 }
 
-// A rank's elements of a set.
-fn local_set(ranks: &[RankMesh], rank: u32, set: u32) -> &LocalSet
+/// The elements of a set that a rank has: `rank` is one of those of `ranks`, from 0, and `set` a set of its mesh.
+pub fn local_set(ranks: &[RankMesh], rank: usize, set: u32) -> &LocalSet
     requires rank { rank < length ranks.now }
     requires set { set < length (sets_of ranks.now rank) }
     ensures own { result.now.own ≡ own_in (sets_of ranks.now rank) set }
     ensures originals { result.now.original ≡ originals_in (sets_of ranks.now rank) set }
 {
-    let sets = sets_on(ranks, rank as usize);
+    let sets = sets_on(ranks, rank);
     &sets[set as usize]
 }
 
-// How many elements of a set the receiver imports that the sender owns.
-fn imported_count(mesh: &Mesh, ranks: &[RankMesh], from: u32, to: u32, set: u32) -> u64
+/// How many elements of a set the receiver `to` imports that the sender `from` owns, both ranks from 0. It takes time linear in what the
+/// receiver imports.
+pub fn imported_count(mesh: &Mesh, ranks: &[RankMesh], from: usize, to: usize, set: u32) -> u64
     requires ranks { AreDistinct mesh.now ranks.now }
     requires from { from < length ranks.now }
     requires to { to < length ranks.now }
@@ -92,7 +93,7 @@ pub fn message_cells(
     let mut total = 0;
     for dat in exchange {
         let (set, dim) = mesh.dat_shape(*dat);
-        let elements = imported_count(mesh, ranks, from, to, set);
+        let elements = imported_count(mesh, ranks, from as usize, to as usize, set);
         match with_cells(total, dim, elements) {
             Some(more) => total = more,
             None => return Err(AllocError),

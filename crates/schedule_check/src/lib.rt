@@ -10,6 +10,7 @@ mod places;
 mod rows;
 mod whole;
 
+pub use cells::{imported_count, local_set};
 pub use checker::Checker;
 pub use marks::plan_marks;
 pub use step_judge::ScheduleRefusal;

@@ -50,9 +50,6 @@ dats_no_done g (d ∷ ds) =
 abbrev pub DoneIsLast : List Awaited → Type 0
 DoneIsLast xs = (earlier later : List Awaited) → xs ≡ earlier ++ Done ∷ later → later ≡ []
 
-no_done_here : (x : Awaited) (xs : List Awaited) → NoDone (x ∷ xs) → x ≡ Done → ⊥
-no_done_here x xs h e = subst (λ z. NoDone (z ∷ xs)) e h
-
 no_done_rest : (x : Awaited) (xs : List Awaited) → NoDone (x ∷ xs) → NoDone xs
 no_done_rest Done xs h = absurd h
 no_done_rest Item xs h = h

@@ -116,12 +116,6 @@ module _ (b : BoundValue) where
         later_fit = p.later_fit;
       }
 
-  pub fit_count : (k : ℕ) (xs : List Awaited) (ls : List (List ℕ)) (zs : List ℤ) → AllFit b k xs ls zs → length ls ≡ length xs
-  fit_count k [] [] zs f = refl
-  fit_count k [] (l ∷ ls) zs f = absurd f
-  fit_count k (x ∷ xs) [] zs f = absurd f
-  fit_count k (x ∷ xs) (l ∷ ls) zs f = ap suc (fit_count k xs ls f.1 f.4)
-
   -- a line that fits isn't refused
   pub line_refused : (k : ℕ) (x : Awaited) (l more : List ℕ) (zs : List ℤ) (number : ℕ) → LineFits b k x l zs → Refuses b x (l ++ more) number → (x ≡ Done → more ≡ []) → ⊥
   line_refused k Item l more zs number f r last = r.1 k l more f.0 refl

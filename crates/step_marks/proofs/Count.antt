@@ -49,9 +49,6 @@ open_mark (k ∷ ks) (false ∷ ds) zero c n lt h = ⊎_elim
     (cases_Bool (k == c))
 open_mark (k ∷ ks) (d ∷ ds) (suc t) c n lt h = let ih : open_in ks (set ds t true) c + one (get_or ks t 0 == c) ≡ open_in ks ds c = open_mark ks ds t c (omega arith) (omega arith) h in omega arith
 
-pub open_mark_other : (ks : List ℕ) (ds : List Bool) (t c : ℕ) → length ds ≡ length ks → t < length ks → get_or ds t false ≡ false → (get_or ks t 0 ≡ c → ⊥) → open_in ks (set ds t true) c ≡ open_in ks ds c
-open_mark_other ks ds t c n lt h ne = let e : one (get_or ks t 0 == c) ≡ 0 = one_other (get_or ks t 0) c ne in omega (arith, open_mark ks ds t c n lt h, e)
-
 pub open_mark_same : (ks : List ℕ) (ds : List Bool) (t c : ℕ) → length ds ≡ length ks → t < length ks → get_or ds t false ≡ false → get_or ks t 0 ≡ c → open_in ks (set ds t true) c + 1 ≡ open_in ks ds c
 open_mark_same ks ds t c n lt h same = let e : one (get_or ks t 0 == c) ≡ 1 = one_same (get_or ks t 0) c same in omega (arith, open_mark ks ds t c n lt h, e)
 
@@ -68,21 +65,6 @@ count_bound (k ∷ ks) c = let ih : count_of ks c ≤ length ks = count_bound ks
     (λ (e : (k == c) ≡ true). rw e (omega arith))
     (λ (e : (k == c) ≡ false). rw e (omega arith))
     (cases_Bool (k == c))
-
--- one write of the count keeps the sum with what is left
-pub count_step : (ks left : List ℕ) (i c : ℕ) → i < length ks → get_or ks i 0 < length left → get_or left c 0 + count_of (drop i ks) c ≡ count_of ks c → get_or (set left (get_or ks i 0) (get_or left (get_or ks i 0) 0 + 1)) c 0 + count_of (drop (i + 1) ks) c ≡ count_of ks c
-count_step ks left i c lt within h =
-    let step : count_of (drop i ks) c ≡ one (get_or ks i 0 == c) + count_of (drop (i + 1) ks) c = ap (λ z. count_of z c) (drop_more ks i 0 lt) in
-    ⊎_elim
-    (λ (e : get_or ks i 0 ≡ c).
-    let weighs : one (get_or ks i 0 == c) ≡ 1 = one_same (get_or ks i 0) c e in
-    let got : get_or (set left (get_or ks i 0) (get_or left (get_or ks i 0) 0 + 1)) c 0 ≡ get_or left c 0 + 1 = subst (λ z. get_or (set left (get_or ks i 0) (get_or left (get_or ks i 0) 0 + 1)) z 0 ≡ get_or left z 0 + 1) e (get_or-set_same left (get_or ks i 0) (get_or left (get_or ks i 0) 0 + 1) 0 within) in
-    omega arith)
-    (λ (ne : get_or ks i 0 ≡ c → ⊥).
-    let weighs : one (get_or ks i 0 == c) ≡ 0 = one_other (get_or ks i 0) c ne in
-    let got : get_or (set left (get_or ks i 0) (get_or left (get_or ks i 0) 0 + 1)) c 0 ≡ get_or left c 0 = get_or-set_other left (get_or ks i 0) c (get_or left (get_or ks i 0) 0 + 1) 0 (λ q. ne (sym q)) in
-    omega arith)
-    (cases_eq (get_or ks i 0) c)
 
 pub count_room : (ks : List ℕ) (i v : ℕ) → i < length ks → v + count_of (drop i ks) (get_or ks i 0) ≡ count_of ks (get_or ks i 0) → v + 1 ≤ length ks
 count_room ks i v lt h =
@@ -184,17 +166,6 @@ new_kept of left fits below counts = record {
   counts = λ c lt. counts c lt ∙ sym (open_fresh of c);
   within = omega arith;
   passed = λ c lt. absurd (omega arith);
-}
-
--- the pointer moves on
-pub moved_kept : (of : List ℕ) (done : List Bool) (left : List ℕ) (at here : ℕ) → Kept of done left at → here ≤ length left → ((i : ℕ) → at ≤ i → i < here → get_or left i 0 ≡ 0) → Kept of done left here
-moved_kept of done left at here k le passed = record {
-  size = k.size;
-  fits = k.fits;
-  stages = k.stages;
-  counts = k.counts;
-  within = le;
-  passed = λ i lt. ⊎_elim (λ (a : i < at). k.passed i a) (λ (a : at ≤ i). passed i a lt) (cases_lt i at);
 }
 
 pub all_iff : (of : List ℕ) (done : List Bool) (left : List ℕ) (at here : ℕ) → Kept of done left at → ((i : ℕ) → at ≤ i → i < here → get_or left i 0 ≡ 0) → (here < length left → 0 < get_or left here 0) → (length left ≤ here) ↔ ((t : ℕ) → t < length of → get_or done t false ≡ true)

@@ -4,7 +4,7 @@ use Rattle.std.proofs.lemmas.Bool.{eq-eqb, eqb-true, ne_eqb, cases_eq, false≢t
 use Rattle.std.proofs.lemmas.List.{get_or_read, get_or-set_same, get_or-set_other, length-set}
 use Rattle.std.proofs.lemmas.Nat.{div-mul-add, mod-mul-add, div-add-mod'}
 use Rattle.step_marks.specs.Marks.{Marks, no_marks, AllDone, LowerDone}
-use Rattle.step_marks.specs.Run.{Run, block_at, colour, inner, begun_at, ended_at, AllEnded, lower, MayBegin, SamePlaces}
+use Rattle.step_marks.specs.Run.{Run, block_at, colour, inner, begun_at, ended_at, AllEnded, lower, MayBegin}
 use Rattle.step_marks.specs.RunKept.{Whole}
 
 -- a place that begins
@@ -52,20 +52,6 @@ module _ (v : Run) (p : ℕ) (m cs : Marks) (w : Whole v) (inside : p < length v
       (λ (e : i ≡ b). subst (λ z. length (block_at after z).done ≡ length (block_at v z).done) (sym e) (ap (λ z. length z.done) here ∙ (ap length done ∙ length-set (block_at v b).done (p % v.size) true)))
       (λ (ne : i ≡ b → ⊥). ap (λ z. length z.done) (there i ne))
       (cases_eq i b)
-
-  pub end_same : cs.of ≡ v.colours.of → SamePlaces v after
-  end_same co = record {
-    size = refl;
-    number = refl;
-    core = refl;
-    lower = λ q r. (
-        let c : (s : ℕ) → colour after s ≡ colour v s = λ s. ap (λ z. get_or z (s / v.size) 0) co in
-        let i : (s : ℕ) → inner after s ≡ inner v s = λ s. ap (λ z. get_or z (s % v.size) 0) (of_same (s / v.size)) in
-        ap (λ z. nat_lt z (colour after r) || ((q / v.size == r / v.size) && nat_lt (inner after q) (inner after r))) (c q)
-        ∙ (ap (λ z. nat_lt (colour v q) z || ((q / v.size == r / v.size) && nat_lt (inner after q) (inner after r))) (c r)
-        ∙ (ap (λ z. nat_lt (colour v q) (colour v r) || ((q / v.size == r / v.size) && nat_lt z (inner after r))) (i q)
-        ∙ ap (λ z. nat_lt (colour v q) (colour v r) || ((q / v.size == r / v.size) && nat_lt (inner v q) z)) (i r))));
-  }
 
   same_place : (q : ℕ) → q / v.size ≡ b → q % v.size ≡ p % v.size → q ≡ p
   same_place q e f = sym (div-add-mod' q v.size) ∙ (ap (λ z. z * v.size + q % v.size) e ∙ (ap (λ z. b * v.size + z) f ∙ div-add-mod' p v.size))
@@ -141,12 +127,6 @@ more_whole v p old m w inside h begun open_place more =
     end_whole v p m v.colours w inside (of_is v p old m w inside h) (done_is v p old m w inside h) refl refl (λ i ne. refl)
     ((λ t. absurd (false≢true (sym open_place ∙ (w.closed (p / v.size) (w.block_in p inside)).0 t (p % v.size) (w.place_in p inside)))), (λ all. absurd (more all)))
     begun
-
-pub wrote_same : (v : Run) (p : ℕ) (old m cs : Marks) → Whole v → p < length v.begun → Wrote v p old m → cs.of ≡ v.colours.of → SamePlaces v (Wrote_run v p m cs)
-wrote_same v p old m cs w inside h e = end_same v p m cs w inside (of_is v p old m w inside h) (done_is v p old m w inside h) e
-
-pub wrote_marks : (v : Run) (p : ℕ) (old m cs : Marks) → Whole v → p < length v.begun → Wrote v p old m → (q : ℕ) → ended_at (Wrote_run v p m cs) q ≡ (q == p || ended_at v q)
-wrote_marks v p old m cs w inside h = end_marks v p m cs w inside (of_is v p old m w inside h) (done_is v p old m w inside h)
 
 -- the counters' answer is that of the places
 pub may_iff : (v : Run) (p : ℕ) → Whole v → p < length v.begun → (LowerDone v.colours (colour v p) × LowerDone (block_at v (p / v.size)) (inner v p)) ↔ MayBegin v p

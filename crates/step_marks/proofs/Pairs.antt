@@ -1,7 +1,7 @@
-use Rattle.std.proofs.Common.{◌≡◌, ℕ, suc, ◌+◌, ◌<◌, ◌≤◌, true, false, cond, sym, ap, subst, ◌∙◌, arith, ⊎_elim, List, [], ◌∷◌, length, get_or, drop}
+use Rattle.std.proofs.Common.{◌≡◌, ℕ, suc, ◌+◌, ◌<◌, true, false, cond, sym, ap, subst, ◌∙◌, arith, ⊎_elim, List, [], ◌∷◌, length, get_or, drop}
 use Rattle.std.specs.Prelude.{◌&&◌, ◌==◌, ◌↔◌}
-use Rattle.std.proofs.lemmas.Bool.{eq-eqb, eqb-true, cases_Bool, and_parts, and_from, lt-ltb, ltb-true}
-use Rattle.std.proofs.lemmas.List.{drop_more, drop_all}
+use Rattle.std.proofs.lemmas.Bool.{eqb-true, cases_Bool, and_parts, lt-ltb, ltb-true}
+use Rattle.std.proofs.lemmas.List.{drop_more}
 use Rattle.step_marks.specs.Marks.{StageDone}
 use Rattle.step_marks.specs.Item.{Item, pair_at, place_of, AllSent, AllReceived, Paired}
 
@@ -13,22 +13,12 @@ pair_found (f ∷ fs) (t ∷ ts) s r n lt = ⊎_elim
     (λ (e : ((f == s) && (t == r)) ≡ false). (let lt' : suc (pair_at fs ts s r) < suc (length fs) = rw e at lt in rw e (pair_found fs ts s r (omega arith) (omega arith))))
     (cases_Bool ((f == s) && (t == r)))
 
-pub pair_here : (fs ts : List ℕ) (s r i : ℕ) → i < length fs → length ts ≡ length fs → get_or fs i 0 ≡ s → get_or ts i 0 ≡ r → pair_at fs ts s r ≡ i + pair_at (drop i fs) (drop i ts) s r → pair_at fs ts s r ≡ i
-pair_here fs ts s r i lt n es et h =
-    let it : i < length ts = omega arith in
-    let a : pair_at (drop i fs) (drop i ts) s r ≡ pair_at (get_or fs i 0 ∷ drop (i + 1) fs) (get_or ts i 0 ∷ drop (i + 1) ts) s r = ap (λ z. pair_at z (drop i ts) s r) (drop_more fs i 0 lt) ∙ ap (λ z. pair_at (get_or fs i 0 ∷ drop (i + 1) fs) z s r) (drop_more ts i 0 it) in
-    let b : pair_at (get_or fs i 0 ∷ drop (i + 1) fs) (get_or ts i 0 ∷ drop (i + 1) ts) s r ≡ 0 = ap (λ z. cond z 0 (suc (pair_at (drop (i + 1) fs) (drop (i + 1) ts) s r))) (and_from (get_or fs i 0 == s) (get_or ts i 0 == r) (eq-eqb _ _ es) (eq-eqb _ _ et)) in
-    omega (arith, h, a ∙ b)
-
 pub pair_not_here : (fs ts : List ℕ) (s r i : ℕ) → i < length fs → length ts ≡ length fs → ((get_or fs i 0 == s) && (get_or ts i 0 == r)) ≡ false → pair_at fs ts s r ≡ i + pair_at (drop i fs) (drop i ts) s r → pair_at fs ts s r ≡ (i + 1) + pair_at (drop (i + 1) fs) (drop (i + 1) ts) s r
 pair_not_here fs ts s r i lt n ne h =
     let it : i < length ts = omega arith in
     let a : pair_at (drop i fs) (drop i ts) s r ≡ pair_at (get_or fs i 0 ∷ drop (i + 1) fs) (get_or ts i 0 ∷ drop (i + 1) ts) s r = ap (λ z. pair_at z (drop i ts) s r) (drop_more fs i 0 lt) ∙ ap (λ z. pair_at (get_or fs i 0 ∷ drop (i + 1) fs) z s r) (drop_more ts i 0 it) in
     let b : pair_at (get_or fs i 0 ∷ drop (i + 1) fs) (get_or ts i 0 ∷ drop (i + 1) ts) s r ≡ suc (pair_at (drop (i + 1) fs) (drop (i + 1) ts) s r) = ap (λ z. cond z 0 (suc (pair_at (drop (i + 1) fs) (drop (i + 1) ts) s r))) ne in
     omega (arith, h, a ∙ b)
-
-pub pair_end : (fs ts : List ℕ) (s r i : ℕ) → length fs ≤ i → pair_at fs ts s r ≡ i + pair_at (drop i fs) (drop i ts) s r → pair_at fs ts s r ≡ i
-pair_end fs ts s r i le h = (let a : pair_at (drop i fs) (drop i ts) s r ≡ 0 = ap (λ z. pair_at z (drop i ts) s r) (drop_all i fs le) in omega (arith, h, a))
 
 pub sent_iff : (w : Item) (x : ℕ) → Paired w → StageDone w.sends x ↔ AllSent w x
 sent_iff w x p = (

@@ -9,8 +9,8 @@ use Rattle.step_orders.specs.declared.walks.RunPlace.{RunPlace}
 use Rattle.step_orders.specs.declared.walks.ItemPlace.{ItemPlace}
 use Rattle.step_orders.specs.Alone.{alone}
 use Rattle.step_orders.specs.Runs.{each_alone}
-use Rattle.step_orders.specs.Left.{upward, onward, onward_by, in_runs, run_left, runs_left, receives_left, elements_left, free_left, item_left}
-use Rattle.step_orders.proofs.Places.{in_runs_from, on_over, run_over}
+use Rattle.step_orders.specs.Left.{upward, onward, onward_by, in_runs, run_left, runs_left, free_left, item_left}
+use Rattle.step_orders.proofs.Places.{in_runs_from, run_over}
 
 pub alone_push : (k r : ℕ) (xs : List ℕ) (x : ℕ) (rest : List Step) → alone k r (xs ++ (x ∷ [])) ++ rest ≡ alone k r xs ++ (Begin k r x ∷ End k r x ∷ rest)
 alone_push k r [] x rest = refl
@@ -57,12 +57,6 @@ on_more first rest some f i n lt e = by (n - i) (omega arith)
     by : (m : ℕ) → 0 < m → onward_by first f i m ≡ some ++ onward_by rest f i m
     by zero h = absurd (omega arith)
     by (suc m) h = ap (λ z. z ++ upward f (suc i) m) e ∙ append_assoc some rest (upward f (suc i) m)
-
--- the messages have come
-pub elements_alone : (o : Outline) (g k : ℕ) (p : ItemPlace) → o.ranks ≤ p.sends.rank → o.ranks ≤ p.receives.rank → free_left o g k p ≡ elements_left o g k p.elements
-elements_alone o g k p s r =
-    ap (λ z. z ++ (receives_left o g k p.receives ++ elements_left o g k p.elements)) (on_over _ _ p.sends.rank o.ranks s)
-    ∙ ap (λ z. z ++ elements_left o g k p.elements) (on_over _ _ p.receives.rank o.ranks r)
 
 -- of a Free item some are taken
 pub item_more : (o : Outline) (g k : ℕ) (p q : ItemPlace) (some : List Step) → o.is_free k ≡ true → free_left o g k p ≡ some ++ free_left o g k q

@@ -35,10 +35,6 @@ piece_on xs start at le lt =
     ∙ ap (λ z. take (at - start) (drop start xs) ++ (z ∷ [])) (get_or-drop start xs (at - start) 0 ∙ ap (λ n. get_or xs n 0) i)))
 
 module _ (t : ℕ → ℕ → Bool) (g : ℕ) (xs : List ℕ) where
-  -- nothing is cut
-  pub cut_first : IsCut t g xs [] 0 0
-  cut_first = record { begun = refl; order = omega arith; ends = tt; left = refl }
-
   -- the piece goes on
   pub cut_on : (es : List ℕ) (start at : ℕ) → IsCut t g xs es start at → at < length xs
       → goes_on t g (take (at - start) (drop start xs)) (get_or xs at 0) ≡ true

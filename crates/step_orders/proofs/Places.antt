@@ -34,13 +34,6 @@ on_head first rest f i n s lt e = by (n - i) (omega arith)
     by zero h = absurd (omega arith)
     by (suc m) h = ap (λ z. z ++ upward f (suc i) m) e
 
-pub on_over : (first : List Step) (f : ℕ → List Step) (i n : ℕ) → n ≤ i → onward first f i n ≡ []
-on_over first f i n le = by (n - i) (omega arith)
-  where
-    by : (m : ℕ) → m ≡ 0 → onward_by first f i m ≡ []
-    by zero h = refl
-    by (suc m) h = absurd (omega arith)
-
 pub on_next : (first : List Step) (f : ℕ → List Step) (i n : ℕ)
     → i < n → first ≡ [] → onward first f i n ≡ onward (f (i + 1)) f (i + 1) n
 on_next first f i n lt e = by (n - i) (n - (i + 1)) (omega arith)

@@ -9,7 +9,7 @@ use Rattle.step_orders.specs.declared.own_walks.OwnPlace.{OwnPlace}
 use Rattle.step_orders.specs.ElementRuns.{runs_of}
 use Rattle.step_orders.specs.Left.{onward, runs_left, send_steps, receive_steps}
 use Rattle.step_orders.specs.OwnLeft.{own_free_left, own_item_left, own_left}
-use Rattle.step_orders.proofs.Places.{drop_head, drop_end, on_head, on_next, all_runs}
+use Rattle.step_orders.proofs.Places.{drop_head, drop_end, on_next, all_runs}
 use Rattle.step_orders.proofs.Whole.{map_numbers, elements_are}
 
 abbrev pub at_item : ℕ → OwnPlace
@@ -44,14 +44,6 @@ module _ (o : Outline) (g r k : ℕ) (p : OwnPlace) where
       ∙ (ap (λ z. z ++ runs_on) (next_message (Recv k r) (numbers (λ s. o.sends k s r) o.ranks) ys p.receives d lt)
       ∙ ap (λ z. Recv k r (get_or ys p.receives 0) ∷ z) (sym (sends_over xs e le (receives_on (p.receives + 1) ++ runs_on))))
 
-  -- its messages are over: its runs are left
-  pub own_runs : (xs ys : List ℕ) → xs ≡ numbers (o.sends k r) o.ranks → length xs ≤ p.sends
-      → ys ≡ numbers (λ s. o.sends k s r) o.ranks → length ys ≤ p.receives
-      → own_free_left o g r k p ≡ runs_on
-  own_runs xs ys e le d ld =
-      sends_over xs e le (receives_on p.receives ++ runs_on)
-      ∙ ap (λ z. z ++ runs_on) (no_message (Recv k r) (numbers (λ s. o.sends k s r) o.ranks) ys p.receives d ld)
-
 module _ (o : Outline) (g r : ℕ) where
   all_own : (k : ℕ) → own_item_left o g r k (at_item k) ≡ own_item o g r k
   all_own k = ap (λ z. cond (o.is_free k) z [])
@@ -74,12 +66,3 @@ module _ (o : Outline) (g r : ℕ) where
   pub own_over : (p q : OwnPlace) → p.item < o.items → o.is_free p.item ≡ true → own_free_left o g r p.item p ≡ [] → q ≡ at_item (p.item + 1)
       → own_left o g r p ≡ own_left o g r q
   own_over p q lt f none e = over p q lt (ap (λ b. cond b (own_free_left o g r p.item p) []) f ∙ none) e
-
-  -- the next step
-  pub own_head : (p q : OwnPlace) (s : Step) → p.item < o.items → o.is_free p.item ≡ true → q.item ≡ p.item
-      → own_free_left o g r p.item p ≡ s ∷ own_free_left o g r p.item q
-      → own_left o g r p ≡ s ∷ own_left o g r q
-  own_head p q s lt f same h =
-      on_head (own_item_left o g r p.item p) (own_item_left o g r p.item q) (own_item o g r) p.item o.items s lt
-      (ap (λ b. cond b (own_free_left o g r p.item p) []) f ∙ (h ∙ ap (λ z. s ∷ z) (sym (ap (λ b. cond b (own_free_left o g r p.item q) []) f))))
-      ∙ ap (λ z. s ∷ onward (own_item_left o g r z q) (own_item o g r) z o.items) (sym same)

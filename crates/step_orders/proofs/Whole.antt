@@ -138,10 +138,3 @@ pub item_over : (o : Outline) (g k : ℕ) (p q : ItemPlace) → k < o.items → 
 item_over o g k p q lt e none first =
     on_next (item_left o g k p) (item_steps o g) k o.items lt (ap (λ b. cond b (free_left o g k p) (Join k ∷ [])) e ∙ none)
     ∙ ap (λ z. onward z (item_steps o g) (k + 1) o.items) (sym (all_left o g (k + 1) q first))
-
--- the next step of a Free item
-pub item_head : (o : Outline) (g k : ℕ) (p q : ItemPlace) (s : Step) → k < o.items → o.is_free k ≡ true → free_left o g k p ≡ s ∷ free_left o g k q
-    → onward (item_left o g k p) (item_steps o g) k o.items ≡ s ∷ onward (item_left o g k q) (item_steps o g) k o.items
-item_head o g k p q s lt e h =
-    on_head (item_left o g k p) (item_left o g k q) (item_steps o g) k o.items s lt
-    (ap (λ b. cond b (free_left o g k p) (Join k ∷ [])) e ∙ (h ∙ ap (λ z. s ∷ z) (sym (ap (λ b. cond b (free_left o g k q) (Join k ∷ [])) e))))

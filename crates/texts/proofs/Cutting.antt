@@ -21,9 +21,6 @@ words-none line = refl
 pub words-step : (line i : ℕ) (bs : List ℕ) → i < length bs → blank (get_or bs i 0) ≡ true → words line (drop i bs) ≡ words (line_after line (get_or bs i 0)) (drop (suc i) bs)
 words-step line i bs h b = ap (words line) (drop-cons bs i 0 h) ∙ words-blank line (get_or bs i 0) (drop (suc i) bs) b
 
-pub is_dark-drop : (i : ℕ) (bs : List ℕ) → i < length bs → blank (get_or bs i 0) ≡ false → IsDark (drop i bs)
-is_dark-drop i bs h b = rw (drop-cons bs i 0 h) b
-
 -- the token at the front, and what stands behind it
 abbrev pub Token : ℕ → ℕ → List ℕ → Type 0
 Token line b bs = words line (b ∷ bs) ≡ (record { text = b ∷ take (prefix_len dark bs) bs; line = line }) ∷ words line (drop (prefix_len dark bs) bs)

@@ -1,14 +1,12 @@
 // The whole of what the program does.
 
-ghost use Rattle.std.specs.Prelude.{◌≡◌, map, string_bytes};
-ghost use Rattle.answers.specs.Endings.{ending_status, ending_line, ending_of, Writes};
-ghost use Rattle.answer_lines.specs.Halts.{answer_of};
-ghost use Rattle.answer_lines.specs.Reports.{Stands};
+ghost use Rattle.std.specs.Prelude.{map, string_bytes};
 ghost use Rattle.tool_command.specs.Endings.{AreLent, Ends};
 
 use crate::answered::answered;
-use answer_lines::{Answer, Failure, Line, report};
-use op_outside::{Shelf, Sink, write_all_of};
+use answer_lines::Failure;
+use answer_writing::{write_answer, write_failure};
+use op_outside::{Shelf, Sink};
 use std::alloc::Global;
 use std::marker::Sync;
 use std::thread::Threads;
@@ -47,39 +45,5 @@ pub fn tools<R: Threads + Sync, F: Shelf, O: Sink, E: Sink>(
     match answered(rt, alloc, words, &call, shelf) {
         Ok(answer) => write_answer(&answer, out, err),
         Err(failure) => write_failure(failure, err),
-    }
-}
-
-// Writes an answer, and gives the status.
-fn write_answer<O: Sink, E: Sink>(answer: &Answer, out: &mut O, err: &mut E) -> u8
-    ensures { Writes (answer_of answer.now) result (O.faults out.old, O.faults out.new) (O.written out.old, O.written out.new)
-        (Stands (E.faults err.old, E.faults err.new) (E.written err.old, E.written err.new)) }
-{
-    match answer {
-        Answer::Done(bytes) => match write_all_of(out, bytes) {
-            Ok(()) => 0,
-            Err(_) => report(err, Line::CannotWrite),
-        },
-        Answer::Faulted { out: bytes, line } => {
-            let _ = write_all_of(out, bytes);
-            let _ = write_all_of(err, line);
-            9
-        }
-        Answer::Refused { status, line } => {
-            let _ = write_all_of(err, line);
-            *status
-        }
-    }
-}
-
-// Writes the line of a call that has no answer, and gives the status.
-fn write_failure<E: Sink>(failure: Failure<'_>, err: &mut E) -> u8
-    ensures status { result ≡ ending_status (ending_of failure.entry) }
-    ensures said { Stands (E.faults err.old, E.faults err.new) (E.written err.old, E.written err.new)
-        (ending_line (ending_of failure.entry)) }
-{
-    match failure {
-        Failure::Unread(name) => report(err, Line::CannotRead(name)),
-        Failure::OutOfMemory => report(err, Line::OutOfMemory),
     }
 }

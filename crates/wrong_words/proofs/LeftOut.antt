@@ -22,13 +22,6 @@ pub found : (words : List (List ℕ)) (count n : ℕ) → 0 < n → is_call (wit
 found words count zero lt is = absurd (omega (arith, lt))
 found words count (suc n) lt is = rw is refl
 
--- at the last place none is, and the others are tried
-pub passed : (words : List (List ℕ)) (count n less : ℕ) → n ≡ less + 1 → is_call (without_at n count words) ≡ false → last_place words count n ≡ last_place words count less
-passed words count zero less e is = absurd (omega (arith, e))
-passed words count (suc n) less e is =
-    let same : n ≡ less = omega (arith, e) in
-    rw is (ap (last_place words count) same)
-
 -- ---- words left out
 
 pub left_out : {X : Type 0} (f : X → List ℕ) (all front back tail : List X) (place count : ℕ)

@@ -20,8 +20,8 @@ last_place words count zero = None
 last_place words count (suc n) = if is_call (without_at (suc n) count words) then Some (suc n) else last_place words count n
 
 -- the same among all words behind the first
-abbrev pub place_in : (words : List (List ℕ)) (count : ℕ) → Option ℕ
-place_in words count = last_place words count (length words - 1)
+abbrev pub wrong_place : (words : List (List ℕ)) (count : ℕ) → Option ℕ
+wrong_place words count = last_place words count (length words - 1)
 
 -- so many words from a place on, each with a space before it
 abbrev pub words_at : (words : List (List ℕ)) (place count : ℕ) → List ℕ
@@ -34,10 +34,10 @@ said_of_two words (Some place) = codes "wrong:" ++ words_at words place 2 ++ cod
 
 -- what is said of one word, or else of two
 abbrev pub said_of_one : (words : List (List ℕ)) → Option ℕ → List ℕ
-said_of_one words None = said_of_two words (place_in words 2)
+said_of_one words None = said_of_two words (wrong_place words 2)
 said_of_one words (Some place) = codes "wrong:" ++ words_at words place 1 ++ codes "\n"
 
 -- what is said of words that are refused: the last word that can be left out so that a call is left; or the last two such words that stand
 -- behind one another; or that none can be
 abbrev pub said_wrong : List (List ℕ) → List ℕ
-said_wrong words = said_of_one words (place_in words 1)
+said_wrong words = said_of_one words (wrong_place words 1)

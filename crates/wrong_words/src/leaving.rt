@@ -1,6 +1,6 @@
 // Words left out.
 ghost use Rattle.std.specs.Prelude.{◌≡◌, ◌≤◌, ◌<◌, ◌-◌, ◌++◌, map, take, drop, string_bytes, IfOk, OnOk, length};
-ghost use Rattle.wrong_words.specs.Wrong.{is_call, without_at, last_place, place_in};
+ghost use Rattle.wrong_words.specs.Wrong.{is_call, without_at, last_place, wrong_place};
 
 use command_words::{WordsRefusal, read_words};
 use op_num::OutOfMemory;
@@ -86,13 +86,13 @@ fn last_place(
 
 /// The last place behind the first word at which so many words, one or two, can be left out so that a call is left. An error is want of
 /// memory.
-pub fn place_in(
+pub fn wrong_place(
     alloc: Global,
     words: &Vec<String>,
     count: usize,
 ) -> Result<Option<usize>, OutOfMemory>
     requires { count ≤ 2 }
-    ensures { IfOk result (λ p. p ≡ place_in (map string_bytes words.now.items) count) }
+    ensures { IfOk result (λ p. p ≡ wrong_place (map string_bytes words.now.items) count) }
 {
     last_place(alloc, words, count, words.len().saturating_sub(1))
 }

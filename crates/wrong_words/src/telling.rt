@@ -1,9 +1,9 @@
 // What is said of words that are refused.
 ghost use Rattle.std.specs.Prelude.{◌≡◌, ◌≤◌, ◌∷◌, ◌++◌, codes, map, take, drop, string_bytes, OnOk};
 ghost use Rattle.std.specs.List.{flat_map};
-ghost use Rattle.wrong_words.specs.Wrong.{words_at, place_in, said_of_one, said_of_two, said_wrong};
+ghost use Rattle.wrong_words.specs.Wrong.{words_at, wrong_place, said_of_one, said_of_two, said_wrong};
 
-use crate::leaving::{from_place, front_of, place_in};
+use crate::leaving::{from_place, front_of, wrong_place};
 use op_num::OutOfMemory;
 use std::alloc::Global;
 
@@ -62,8 +62,8 @@ fn put_two(out: &mut Vec<u8>, words: &Vec<String>, place: Option<usize>) -> Resu
 pub fn put_wrong(alloc: Global, out: &mut Vec<u8>, words: &Vec<String>) -> Result<(), OutOfMemory>
     ensures { OnOk result (out.new.items ≡ out.old.items ++ said_wrong (map string_bytes words.now.items)) }
 {
-    match place_in(alloc, words, 1)? {
+    match wrong_place(alloc, words, 1)? {
         Some(place) => put_words_at(out, words, place, 1),
-        None => put_two(out, words, place_in(alloc, words, 2)?),
+        None => put_two(out, words, wrong_place(alloc, words, 2)?),
     }
 }

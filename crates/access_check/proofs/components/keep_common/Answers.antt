@@ -1,4 +1,4 @@
-use Rattle.std.proofs.Common.{rules, ◌≡◌, ◌≤◌, ◌<◌, ◌∙◌, sym, ap, length, set, bit_and, get_or, arith, length-set}
+use Rattle.std.proofs.Common.{rules, ◌≡◌, ◌≤◌, ◌<◌, ◌∙◌, length, arith, length-set}
 use Rattle.access_check.specs.States.{has_component}
 use Rattle.access_check.proofs.Bits.{common_step, rest_step, common_end}
 use Rattle.access_check.proofs.components.keep_common.Goals as goal

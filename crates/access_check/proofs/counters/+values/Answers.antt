@@ -1,4 +1,4 @@
-use Rattle.std.proofs.Common.{◌≡◌, ◌+◌, ◌-◌, ◌<◌, ◌≤◌, ◌∙◌, length, map, get_or, rules, refl, sym, ap, subst, arith, length-set}
+use Rattle.std.proofs.Common.{◌≡◌, ◌+◌, ◌-◌, ◌<◌, ◌≤◌, ◌∙◌, length, map, get_or, refl, ap, arith, length-set}
 use Rattle.kernel_model.specs.Obeys.{static}
 use Rattle.access_check.specs.Chains.{over_chain}
 use Rattle.access_check.specs.States.{counters_of, number_of}

@@ -1,4 +1,3 @@
-use Rattle.std.proofs.Common.{rules, arith}
 use Rattle.access_check.proofs.Small.{small_from, small_to}
 use Rattle.access_check.proofs.modes.are_small.Goals as goal
 

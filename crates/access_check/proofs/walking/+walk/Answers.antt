@@ -1,8 +1,8 @@
-use Rattle.std.proofs.Common.{rules, ◌≡◌, ◌∙◌, refl, sym, ap, subst, ◌+◌, ◌-◌, ◌<◌, ◌≤◌, ◌∷◌, ℕ, ℤ, pos, Option, Some, length, map, set, drop, arith, to_z, w32, length-set, false}
+use Rattle.std.proofs.Common.{◌≡◌, ◌∙◌, refl, sym, ap, subst, ◌+◌, ◌-◌, ◌<◌, ◌≤◌, ◌∷◌, pos, Some, length, map, set, drop, arith, to_z, w32, length-set, false}
 use Rattle.std.proofs.lemmas.Int.{to_z_pos}
 use Rattle.kernel_types.specs.declared.statements.RStmt.{RStmt}
 use Rattle.kernel_model.specs.Obeys.{with_counter}
-use Rattle.kernel_model.specs.Walk.{Breach, Covered, stmt_found, covered_after, turns_found, turns_covered}
+use Rattle.kernel_model.specs.Walk.{Covered, stmt_found, covered_after, turns_found, turns_covered}
 use Rattle.access_check.specs.Modes.{model_of}
 use Rattle.access_check.specs.Found.{found_of}
 use Rattle.access_check.specs.States.{has_component, counters_of}

@@ -1,4 +1,4 @@
-use Rattle.std.proofs.Common.{◌≡◌, ◌≤◌, ◌+◌, ◌-◌, ◌++◌, ◌∷◌, [], length, take, drop, subst, sym, ap, ◌∙◌, arith, ℕ, length-drop, refl, false}
+use Rattle.std.proofs.Common.{◌≡◌, ◌≤◌, ◌+◌, ◌-◌, ◌++◌, ◌∷◌, [], length, take, drop, sym, ◌∙◌, arith, ℕ, length-drop, false}
 use Rattle.std.proofs.lemmas.List.{length-take, drop_all}
 use Rattle.c_lex.specs.Lexed.{AtEnd, AtBadByte, AtOpenComment, AtOpenText, AtNumberTooLarge}
 use Rattle.c_lex.proofs.Closes.{rest_is}

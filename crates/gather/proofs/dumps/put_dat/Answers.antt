@@ -1,5 +1,5 @@
-use Rattle.std.proofs.Common.{◌≡◌, ◌<◌, ◌≤◌, ◌*◌, ℕ, length, sym, ap, subst, ◌∙◌, rules}
-use Rattle.mesh_decl.specs.Mesh.{dat_set, dat_dim, set_count}
+use Rattle.std.proofs.Common.{◌≡◌, ◌<◌, ◌≤◌, ◌*◌, length, sym, ap, subst, ◌∙◌, rules}
+use Rattle.mesh_decl.specs.Mesh.{dat_set, dat_dim}
 use Rattle.local_mesh.specs.LocalMesh.{originals_in}
 use Rattle.gather.proofs.Held.{originals_read, dat_printed}
 use Rattle.gather.proofs.dumps.put_dat.Goals as goal

@@ -1,4 +1,4 @@
-use Rattle.std.proofs.Common.{◌≡◌, ◌++◌, ◌+◌, ℕ, suc, sym, ap, ◌∙◌, append_assoc, add-one}
+use Rattle.std.proofs.Common.{◌≡◌, ◌++◌, ◌+◌, sym, ap, ◌∙◌, append_assoc, add-one}
 use Rattle.gather.specs.Dump.{dat_text, dats_text}
 use Rattle.gather.proofs.Growing.{grows_on}
 use Rattle.gather.proofs.dumps.put_dats.Goals as goal

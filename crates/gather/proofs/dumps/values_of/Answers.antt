@@ -1,7 +1,4 @@
-use Rattle.std.proofs.Common.{◌≡◌, ◌≤◌, ◌+◌, ◌*◌, length, drop, subst, arith}
-use Rattle.std.specs.Prelude.{slice_index}
-use Rattle.local_mesh.specs.LocalMesh.{originals_in}
-use Rattle.mesh_decl.specs.Mesh.{dat_set, dat_dim}
+use Rattle.std.proofs.Common.{◌≡◌, ◌≤◌, ◌+◌, ◌*◌, length, drop, subst}
 use Rattle.gather.proofs.Held.{base_at, base_fits, values_fit}
 use Rattle.gather.proofs.dumps.values_of.Goals as goal
 

@@ -1,4 +1,4 @@
-use Rattle.std.proofs.Common.{◌≡◌, ◌++◌, length, rules, arith}
+use Rattle.std.proofs.Common.{◌≡◌, ◌++◌, length, rules}
 use Rattle.mesh_decl.specs.Printed.{printed_line}
 use Rattle.gather.proofs.Pieces.{line_ends}
 use Rattle.gather.proofs.lines.put_line.Goals as goal

@@ -1,4 +1,4 @@
-use Rattle.std.proofs.Common.{◌≡◌, ◌∙◌, ◌++◌, ◌+◌, ◌∷◌, [], sym, ap, subst, arith, List, map, take, get_or, length}
+use Rattle.std.proofs.Common.{◌≡◌, ◌∙◌, ◌++◌, ◌+◌, ◌∷◌, [], sym, ap, subst, arith, List, map, take}
 use Rattle.std.proofs.lemmas.List.{take_all, take_more}
 use Rattle.kernel_types.specs.View.{RExprTree, rexpr_of}
 use Rattle.main_trace.specs.Naming.{SpellAll}

@@ -1,6 +1,4 @@
 use Rattle.std.proofs.Common.{length}
-use Rattle.op_translate.specs.Edits.{edits, LieWithin}
-use Rattle.op_translate.specs.Translation.{to_stub}
 use Rattle.op_translate.proofs.Spans.{tokens_span, stubs_lie}
 use Rattle.op_translate.proofs.translating.translated.Goals as goal
 

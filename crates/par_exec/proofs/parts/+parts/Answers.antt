@@ -1,5 +1,4 @@
-use Rattle.std.proofs.Common.{rules, ◌≡◌, ℕ, ◌+◌, ◌<◌, ◌^◌, length, ◌-◌, ◌≤◌, ◌/◌, List, ◌++◌, sym, ap, subst, ◌∙◌, arith}
-use denote.Param.Send.{IsSync, IsSend}
+use Rattle.std.proofs.Common.{rules, ◌≡◌, ◌+◌, ◌<◌, ◌^◌, length, ◌-◌, ◌≤◌, ◌/◌, ◌++◌, sym, subst, ◌∙◌, arith}
 use Rattle.par_exec.specs.Parts.{TakesEach, MadeEach}
 use Rattle.par_exec.proofs.EachPart.{takes_front, takes_back, made_both}
 use Rattle.par_exec.proofs.parts.+parts.Goals as goal

@@ -3,7 +3,7 @@ use Rattle.std.proofs.lemmas.List.{get_or-map, length-map}
 use Rattle.bound_program.specs.Values.{bound_of, item_of}
 use Rattle.loop_plan.specs.Values.{item_plan_of, plan_of, no_item_plan}
 use Rattle.schedule_check.proofs.Distinct.{are_distinct}
-use Rattle.plan_counts.specs.Counts.{cells_sent}
+use Rattle.plan_counts.specs.Counts.{exchanged_cells}
 use Rattle.plan_counts.specs.Imports.{sent_by}
 use Rattle.plan_counts.specs.Parts.{tally_in, plus, run_tally, items_tally}
 use Rattle.plan_counts.specs.declared.tallies.Tally.{Tally}
@@ -39,7 +39,7 @@ loop-item-preserved c =
     let li : k < length items = omega (arith, lt, c.requires.plan.items, length-map items item_plan_of) in
     let lp : k < length p.items = omega (arith, lt, c.requires.plan.items) in
     let inside = item_there b c.args.ranks.now p items c.requires.plan refl k i li lt c.index-item_plan.ensures in
-    let same : sent_by b.mesh imports (item_plan_of i) ≡ cells_sent b.mesh c.args.ranks.now (item_plan_of i) =
+    let same : sent_by b.mesh imports (item_plan_of i) ≡ exchanged_cells b.mesh c.args.ranks.now (item_plan_of i) =
     sent_same b.mesh c.args.ranks.now imports (λ d ld. (c.is_in_range.ensures.dats d ld).set) c.in_ok-imports.ensures (item_plan_of i) inside in
     let here : item_plan_of i ≡ get_or p.items k no_item_plan = sym (get_or-map item_plan_of items k i no_item_plan li ∙ ap item_plan_of (sym c.index-item_plan.ensures)) in
     let count : length new ≡ length old = c.in_ok-count_item.ensures.length ∙ ap length c.deref_mut.ensures.value in

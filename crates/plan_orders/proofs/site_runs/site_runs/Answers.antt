@@ -5,7 +5,8 @@ use Rattle.loop_plan.specs.Values.{PlanValue, SitePlanValue, plan_of, site_plan,
 use Rattle.loop_plan.specs.StepOutline.{step_outline}
 use Rattle.loop_plan.specs.Proper.{IsSitePlan}
 use Rattle.plan_orders.specs.Runs.{blocks_in, inner_in}
-use Rattle.plan_orders.proofs.LoopRuns.{has_plan, site_read, site_none, coloured, no_runs}
+use Rattle.loop_plan.proofs.PlanReads.{site_read, site_none}
+use Rattle.plan_orders.proofs.LoopRuns.{has_plan, coloured, no_runs}
 use Rattle.plan_orders.proofs.site_runs.site_runs.Goals as goal
 
 pub loop_runs-requires-clause-plan : goal.loop_runs-requires-clause-plan

@@ -2,7 +2,8 @@ use Rattle.std.proofs.Common.{◌≡◌}
 use Rattle.std.specs.Prelude.{vec_capacity}
 use Rattle.flat_machine.specs.Layout.{message_cells}
 use Rattle.rank_program.specs.Sound.{layout_in, outline_in}
-use Rattle.planned_run.specs.Room.{sum_below, cells_sent}
+use Rattle.loop_plan.specs.Counted.{sum_below}
+use Rattle.planned_run.specs.Room.{cells_sent}
 use Rattle.planned_run.proofs.rooms.cells_in_item.Given as goal
 
 abbrev pub invariant-loop-from : goal.invariant-loop-from

@@ -1,4 +1,4 @@
-use Rattle.std.proofs.Common.{◌≡◌, ◌<◌, ℕ, zero, suc, List, [], ◌∷◌, length, get_or, Some, refl, sym, ap, ap₂, ◌∙◌, arith}
+use Rattle.std.proofs.Common.{◌≡◌, ◌<◌, ℕ, zero, suc, List, [], ◌∷◌, length, get_or, Some, ap₂, ◌∙◌, arith}
 use Rattle.kernel_types.specs.declared.kernels.RKernel.{RKernel}
 use Rattle.bound_program.specs.Fits.{TakesArgs}
 use Rattle.run_model.specs.Kernels.{kernel_at}

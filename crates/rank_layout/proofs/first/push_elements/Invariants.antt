@@ -1,4 +1,4 @@
-use Rattle.std.proofs.Common.{◌≡◌, ◌-◌, ◌≤◌, ◌*◌, ◌++◌, ℕ, length, take, drop, flat_map}
+use Rattle.std.proofs.Common.{◌≡◌, ◌-◌, ◌≤◌, ◌*◌, ◌++◌, length, take, drop, flat_map}
 use Rattle.rank_layout.proofs.first.push_elements.Given as goal
 
 abbrev pub invariant-loop-done : goal.invariant-loop-done
