@@ -7,6 +7,7 @@ ghost use Rattle.c_reader.specs.Rows.{seen_by, items_seen};
 ghost use Rattle.c_reader.specs.Hosts.{for_header_at, lead_in, declares as declares_at, body_at, is_closed as is_closed_at, hosts_in};
 ghost use Rattle.c_reader.specs.Hosts.{if_at, host_led, host_at};
 ghost use Rattle.c_reader.specs.Kinds.{kinds};
+ghost use Rattle.c_reader.specs.declared.leads.HostLead.TheVariants as led;
 
 use crate::assignments::read_assignment;
 use crate::calls::read_call;
@@ -96,12 +97,7 @@ fn read_led(
             let (declaration, next) = read_declaration(alloc, tokens, depth, at)?;
             Ok((Host::Declaration(declaration), next))
         }
-        HostLead::Block => {
-            let next = after_sign(tokens, Sign::LeftBrace, at)?;
-            let (body, next) = read_hosts(alloc, tokens, depth, Closing::Brace, next)?;
-            let next = after_sign(tokens, Sign::RightBrace, next)?;
-            Ok((Host::Block { at, body }, next))
-        }
+        HostLead::Block => read_block(alloc, tokens, depth, at),
         HostLead::Empty => {
             let next = after_sign(tokens, Sign::Semicolon, at)?;
             Ok((Host::Empty(at), next))
@@ -111,18 +107,44 @@ fn read_led(
             Ok((Host::Assign(assignment), next))
         }
         HostLead::If => read_if(alloc, tokens, depth, at),
-        HostLead::For => {
-            let (header, next) = read_for_header(alloc, tokens, depth, at)?;
-            let (body, next) = read_body(alloc, tokens, depth, next)?;
-            let body = Box::new(alloc, body)?;
-            Ok((Host::For { header, body }, next))
-        }
+        HostLead::For => read_for(alloc, tokens, depth, at),
         HostLead::Call(lead) => {
             let (call, next) = read_call(alloc, tokens, depth, lead, at)?;
             Ok((Host::Call(call), next))
         }
         HostLead::Nothing => Err(ReadError::Fault(Fault::Syntax(at))),
     }
+}
+
+// A block.
+#[cycle(hosts)]
+fn read_block(
+    alloc: Global,
+    tokens: &[Token],
+    depth: usize,
+    at: usize,
+) -> Result<(Host, usize), ReadError>
+    ensures { Gives (seen_by host_of) result (host_led (kinds tokens.now) depth (host_at (kinds tokens.now) depth) led.Block at) }
+{
+    let next = after_sign(tokens, Sign::LeftBrace, at)?;
+    let (body, next) = read_hosts(alloc, tokens, depth, Closing::Brace, next)?;
+    let next = after_sign(tokens, Sign::RightBrace, next)?;
+    Ok((Host::Block { at, body }, next))
+}
+
+// A `for`.
+#[cycle(hosts)]
+fn read_for(
+    alloc: Global,
+    tokens: &[Token],
+    depth: usize,
+    at: usize,
+) -> Result<(Host, usize), ReadError>
+    ensures { Gives (seen_by host_of) result (host_led (kinds tokens.now) depth (host_at (kinds tokens.now) depth) led.For at) }
+{
+    let (header, next) = read_for_header(alloc, tokens, depth, at)?;
+    let (body, next) = read_body(alloc, tokens, depth, next)?;
+    Ok((Host::For { header, body }, next))
 }
 
 // What the token there begins.
@@ -148,10 +170,8 @@ fn read_if(
 {
     let (condition, next) = read_condition(alloc, tokens, depth, at)?;
     let (then, next) = read_body(alloc, tokens, depth, next)?;
-    let then = Box::new(alloc, then)?;
     if is_word(tokens, Word::Else, next) {
         let (otherwise, next) = read_body(alloc, tokens, depth, next + 1)?;
-        let otherwise = Box::new(alloc, otherwise)?;
         Ok((
             Host::IfElse {
                 at,
@@ -173,20 +193,21 @@ fn read_if(
     }
 }
 
-// The whole body of an `if` or a `for`, which is no declaration.
+// The whole body of an `if` or a `for`, which is no declaration, in a box.
 #[cycle(hosts)]
 fn read_body(
     alloc: Global,
     tokens: &[Token],
     depth: usize,
     at: usize,
-) -> Result<(Host, usize), ReadError>
-    ensures { Gives (seen_by host_of) result (body_at (kinds tokens.now) (host_at (kinds tokens.now) depth) at) }
+) -> Result<(Box<Host>, usize), ReadError>
+    ensures { Gives (seen_by (λ b. host_of b.value)) result (body_at (kinds tokens.now) (host_at (kinds tokens.now) depth) at) }
 {
     if declares(tokens, at) {
         return Err(ReadError::Fault(Fault::Syntax(at)));
     }
-    read_host(alloc, tokens, depth, at)
+    let (body, next) = read_host(alloc, tokens, depth, at)?;
+    Ok((Box::new(alloc, body)?, next))
 }
 
 // Whether a declaration begins there.

@@ -7,6 +7,7 @@ ghost use Rattle.c_reader.specs.Rows.{seen_by, items_seen};
 ghost use Rattle.c_reader.specs.Statements.{condition_at, same_ident as same_at, for_header_at, lead_in, body_at, stmts_in, if_at};
 ghost use Rattle.c_reader.specs.Statements.{stmt_led, stmt_at};
 ghost use Rattle.c_reader.specs.Kinds.{kinds};
+ghost use Rattle.c_reader.specs.declared.leads.StmtLead.TheVariants as led;
 
 use crate::assignments::read_assignment;
 use crate::cursor::{after_sign, after_word, ident, is_sign, is_word, number};
@@ -120,12 +121,7 @@ fn read_led(
             let (declaration, next) = read_declaration(alloc, tokens, depth, at)?;
             Ok((Stmt::Declaration(declaration), next))
         }
-        StmtLead::Block => {
-            let next = after_sign(tokens, Sign::LeftBrace, at)?;
-            let (body, next) = read_stmts(alloc, tokens, depth, next)?;
-            let next = after_sign(tokens, Sign::RightBrace, next)?;
-            Ok((Stmt::Block { at, body }, next))
-        }
+        StmtLead::Block => read_block(alloc, tokens, depth, at),
         StmtLead::Empty => {
             let next = after_sign(tokens, Sign::Semicolon, at)?;
             Ok((Stmt::Empty(at), next))
@@ -135,14 +131,40 @@ fn read_led(
             Ok((Stmt::Assign(assignment), next))
         }
         StmtLead::If => read_if(alloc, tokens, depth, at),
-        StmtLead::For => {
-            let (header, next) = read_for_header(alloc, tokens, at)?;
-            let (body, next) = read_body(alloc, tokens, depth, next)?;
-            let body = Box::new(alloc, body)?;
-            Ok((Stmt::For { header, body }, next))
-        }
+        StmtLead::For => read_for(alloc, tokens, depth, at),
         StmtLead::Nothing => Err(ReadError::Fault(Fault::Syntax(at))),
     }
+}
+
+// A block.
+#[cycle(statements)]
+fn read_block(
+    alloc: Global,
+    tokens: &[Token],
+    depth: usize,
+    at: usize,
+) -> Result<(Stmt, usize), ReadError>
+    ensures { Gives (seen_by stmt_of) result (stmt_led (kinds tokens.now) depth (stmt_at (kinds tokens.now) depth) led.Block at) }
+{
+    let next = after_sign(tokens, Sign::LeftBrace, at)?;
+    let (body, next) = read_stmts(alloc, tokens, depth, next)?;
+    let next = after_sign(tokens, Sign::RightBrace, next)?;
+    Ok((Stmt::Block { at, body }, next))
+}
+
+// A `for`.
+#[cycle(statements)]
+fn read_for(
+    alloc: Global,
+    tokens: &[Token],
+    depth: usize,
+    at: usize,
+) -> Result<(Stmt, usize), ReadError>
+    ensures { Gives (seen_by stmt_of) result (stmt_led (kinds tokens.now) depth (stmt_at (kinds tokens.now) depth) led.For at) }
+{
+    let (header, next) = read_for_header(alloc, tokens, at)?;
+    let (body, next) = read_body(alloc, tokens, depth, next)?;
+    Ok((Stmt::For { header, body }, next))
 }
 
 // What the token there begins.
@@ -168,10 +190,8 @@ fn read_if(
 {
     let (condition, next) = read_condition(alloc, tokens, depth, at)?;
     let (then, next) = read_body(alloc, tokens, depth, next)?;
-    let then = Box::new(alloc, then)?;
     if is_word(tokens, Word::Else, next) {
         let (otherwise, next) = read_body(alloc, tokens, depth, next + 1)?;
-        let otherwise = Box::new(alloc, otherwise)?;
         Ok((
             Stmt::IfElse {
                 at,
@@ -193,20 +213,21 @@ fn read_if(
     }
 }
 
-// The whole body of an `if` or a `for`, which is no declaration.
+// The whole body of an `if` or a `for`, which is no declaration, in a box.
 #[cycle(statements)]
 fn read_body(
     alloc: Global,
     tokens: &[Token],
     depth: usize,
     at: usize,
-) -> Result<(Stmt, usize), ReadError>
-    ensures { Gives (seen_by stmt_of) result (body_at (kinds tokens.now) (stmt_at (kinds tokens.now) depth) at) }
+) -> Result<(Box<Stmt>, usize), ReadError>
+    ensures { Gives (seen_by (λ b. stmt_of b.value)) result (body_at (kinds tokens.now) (stmt_at (kinds tokens.now) depth) at) }
 {
     if is_word(tokens, Word::Int, at) {
         return Err(ReadError::Fault(Fault::Syntax(at)));
     }
-    read_stmt(alloc, tokens, depth, at)
+    let (body, next) = read_stmt(alloc, tokens, depth, at)?;
+    Ok((Box::new(alloc, body)?, next))
 }
 
 /// The statements before the `}` that closes them, and its place.

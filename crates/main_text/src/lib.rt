@@ -3,6 +3,7 @@
 
 mod accesses;
 mod arguments;
+mod calls;
 mod globals;
 mod loops;
 mod prints;

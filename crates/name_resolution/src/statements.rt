@@ -1,6 +1,7 @@
 // Statements of kernels: the rules that they break, and what they mean.
 
 ghost use Rattle.std.specs.Prelude.{◌≡◌, ◌≤◌, true, map, IfOk};
+ghost use Rattle.c_tree.specs.Tree as tree;
 ghost use Rattle.c_tree.specs.View.{expr_of, declr_of, assignment_of, place_of, stmt_of, stmts_of};
 ghost use Rattle.name_resolution.specs.First.{least_from};
 ghost use Rattle.name_resolution.specs.Scopes.{scope, repeated};
@@ -168,12 +169,7 @@ fn step(
             let steps = declrs_steps(alloc, places, file, walk, &declaration.declrs)?;
             Ok(block(steps))
         }
-        Stmt::Block { body, .. } => {
-            let known = walk.own.len();
-            let steps = steps(alloc, places, file, walk, body)?;
-            walk.own.truncate(known);
-            Ok(block(steps))
-        }
+        Stmt::Block { body, .. } => inner_block(alloc, places, file, walk, body),
         Stmt::Empty(_) => Ok(block(Vec::new(alloc))),
         Stmt::Assign(assignment) => {
             let known = Scope {
@@ -190,7 +186,6 @@ fn step(
         } => {
             let condition = condition_value(alloc, places, file, walk, condition)?;
             let then = inner_step(alloc, places, file, walk, then)?;
-            let then = Box::new(alloc, then)?;
             let otherwise = Box::new(alloc, block(Vec::new(alloc)))?;
             Ok(RStmt::If {
                 condition,
@@ -206,29 +201,74 @@ fn step(
         } => {
             let condition = condition_value(alloc, places, file, walk, condition)?;
             let then = inner_step(alloc, places, file, walk, then)?;
-            let then = Box::new(alloc, then)?;
             let otherwise = inner_step(alloc, places, file, walk, otherwise)?;
-            let otherwise = Box::new(alloc, otherwise)?;
             Ok(RStmt::If {
                 condition,
                 then,
                 otherwise,
             })
         }
-        Stmt::For { header, body } => {
-            let counter = walk.next;
-            let known = walk.own.len();
-            declare_counter(walk, header)?;
-            let body = inner_step(alloc, places, file, walk, body)?;
-            walk.own.truncate(known);
-            Ok(RStmt::For {
-                counter,
-                first: size_of(header.from),
-                past: size_of(header.to),
-                body: Box::new(alloc, body)?,
-            })
-        }
+        Stmt::For { header, body } => for_step(alloc, places, file, walk, header, body),
     }
+}
+
+// A block, whose names end with it.
+#[cycle(steps)]
+fn inner_block(
+    alloc: Global,
+    places: &[Pos],
+    file: &IndexMap<Name, Decl>,
+    walk: &mut Walk,
+    body: &[Stmt],
+) -> Result<RStmt, OutOfMemory>
+    requires { walk.old.next ≤ 1024 }
+    ensures fits { IfOk result (λ s. StmtFits (rstmt_of s)) }
+    ensures step { IfOk result (λ s.
+        rstmt_of s ≡ Block (steps places.now file.now.entries walk.old.own.entries walk.old.next (stmts_of body.now))) }
+    ensures first { IfOk result (λ _.
+        walk.new.first ≡ least_from walk.old.first
+        (stmts_breaches file.now.entries walk.old.own.entries walk.old.next (stmts_of body.now))) }
+    ensures own { IfOk result (λ _. walk.new.own.entries ≡ walk.old.own.entries) }
+    ensures next { IfOk result (λ _. walk.new.next ≡ behind walk.old.next (cells_of_all (stmts_of body.now))) }
+{
+    let known = walk.own.len();
+    let steps = steps(alloc, places, file, walk, body)?;
+    walk.own.truncate(known);
+    Ok(block(steps))
+}
+
+// A `for`, whose counter ends with it.
+#[tactic(auto, using(crate::proofs::Firsts::least_append))]
+#[cycle(steps)]
+fn for_step(
+    alloc: Global,
+    places: &[Pos],
+    file: &IndexMap<Name, Decl>,
+    walk: &mut Walk,
+    header: &ForHeader,
+    body: &Stmt,
+) -> Result<RStmt, OutOfMemory>
+    requires { walk.old.next ≤ 1024 }
+    ensures fits { IfOk result (λ s. StmtFits (rstmt_of s)) }
+    ensures step { IfOk result (λ s.
+        rstmt_of s ≡ step places.now file.now.entries walk.old.own.entries walk.old.next (tree.For header.now (stmt_of body.now))) }
+    ensures first { IfOk result (λ _.
+        walk.new.first ≡ least_from walk.old.first
+        (stmt_breaches file.now.entries walk.old.own.entries walk.old.next (tree.For header.now (stmt_of body.now)))) }
+    ensures own { IfOk result (λ _. walk.new.own.entries ≡ walk.old.own.entries) }
+    ensures next { IfOk result (λ _. walk.new.next ≡ behind walk.old.next (cells (tree.For header.now (stmt_of body.now)))) }
+{
+    let counter = walk.next;
+    let known = walk.own.len();
+    declare_counter(walk, header)?;
+    let body = inner_step(alloc, places, file, walk, body)?;
+    walk.own.truncate(known);
+    Ok(RStmt::For {
+        counter,
+        first: size_of(header.from),
+        past: size_of(header.to),
+        body,
+    })
 }
 
 // The condition of an `if`.
@@ -255,7 +295,7 @@ fn condition_value(
     value(alloc, places, known, condition)
 }
 
-// A statement whose names end with it.
+// A statement whose names end with it, in a box.
 #[cycle(steps)]
 fn inner_step(
     alloc: Global,
@@ -263,10 +303,11 @@ fn inner_step(
     file: &IndexMap<Name, Decl>,
     walk: &mut Walk,
     stmt: &Stmt,
-) -> Result<RStmt, OutOfMemory>
+) -> Result<Box<RStmt>, OutOfMemory>
     requires { walk.old.next ≤ 1024 }
-    ensures fits { IfOk result (λ s. StmtFits (rstmt_of s)) }
-    ensures step { IfOk result (λ s. rstmt_of s ≡ step places.now file.now.entries walk.old.own.entries walk.old.next (stmt_of stmt.now)) }
+    ensures fits { IfOk result (λ s. StmtFits (rstmt_of s.value)) }
+    ensures step { IfOk result (λ s.
+        rstmt_of s.value ≡ step places.now file.now.entries walk.old.own.entries walk.old.next (stmt_of stmt.now)) }
     ensures first { IfOk result (λ _.
         walk.new.first ≡ least_from walk.old.first
         (stmt_breaches file.now.entries walk.old.own.entries walk.old.next (stmt_of stmt.now))) }
@@ -276,7 +317,7 @@ fn inner_step(
     let known = walk.own.len();
     let step = step(alloc, places, file, walk, stmt)?;
     walk.own.truncate(known);
-    Ok(step)
+    Ok(Box::new(alloc, step)?)
 }
 
 /// Statements, in the order of the text.

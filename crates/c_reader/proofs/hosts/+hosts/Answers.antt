@@ -30,13 +30,13 @@ read_if-returns-in_err-otherwise t c =
     let p = err_from_is_err_and c.from_residual-in_err-otherwise.result c.from_residual-in_err-otherwise.ensures.1 in
     rw (p.1, p.2) (if_two_fails (kinds c.args.tokens.now) c.args.depth (host_at (kinds c.args.tokens.now) c.args.depth) c.args.at _ _ _ _ c.in_err-otherwise.field-0.0 c.in_ok-condition.ensures c.in_ok-then.ensures (sym c.is_word.ensures.is ∙ c.if-is_word.true) c.in_err-otherwise.ensures)
 
-pub read_if-returns-in_ok-otherwise-2 : goal.read_if-returns-in_ok-otherwise-2
-read_if-returns-in_ok-otherwise-2 t c =
-    rw (c.in_ok-then-2.ensures.ok, c.in_ok-otherwise-2.ensures.ok) (if_two (kinds c.args.tokens.now) c.args.depth (host_at (kinds c.args.tokens.now) c.args.depth) c.args.at _ _ _ _ _ _ c.in_ok-condition.ensures c.in_ok-then.ensures (sym c.is_word.ensures.is ∙ c.if-is_word.true) c.in_ok-otherwise.ensures)
+pub read_if-returns-in_ok-otherwise : goal.read_if-returns-in_ok-otherwise
+read_if-returns-in_ok-otherwise t c =
+    (if_two (kinds c.args.tokens.now) c.args.depth (host_at (kinds c.args.tokens.now) c.args.depth) c.args.at _ _ _ _ _ _ c.in_ok-condition.ensures c.in_ok-then.ensures (sym c.is_word.ensures.is ∙ c.if-is_word.true) c.in_ok-otherwise.ensures)
 
-pub read_led-returns-in_ok-next-in-Block-2 : goal.read_led-returns-in_ok-next-in-Block-2
-read_led-returns-in_ok-next-in-Block-2 t c =
-    rw (block_view c.args.at c.in_ok-body-in-Block.body) (block_led (kinds c.args.tokens.now) c.args.depth (host_at (kinds c.args.tokens.now) c.args.depth) _ c.args.at _ _ _ _ (sym c.host_lead.ensures ∙ c.in-Block.is) c.in_ok-next-in-Block.ensures c.in_ok-body-in-Block.ensures c.in_ok-next-in-Block-2.ensures)
+pub read_block-returns-in_ok-next-2 : goal.read_block-returns-in_ok-next-2
+read_block-returns-in_ok-next-2 t c =
+    rw (block_view c.args.at c.in_ok-body.body) (block_led (kinds c.args.tokens.now) c.args.depth (host_at (kinds c.args.tokens.now) c.args.depth) _ c.args.at _ _ _ _ refl c.in_ok-next.ensures c.in_ok-body.ensures c.in_ok-next-2.ensures)
 
 pub read_host-returns : goal.read_host-returns
 read_host-returns t c =

@@ -16,6 +16,12 @@ decreases-read_led l = 5 * l.depth + 3
 abbrev pub decreases-read_if : goal.decreases-read_if
 decreases-read_if l = 5 * l.depth + 2
 
+abbrev pub decreases-read_block : goal.decreases-read_block
+decreases-read_block l = 5 * l.depth + 2
+
+abbrev pub decreases-read_for : goal.decreases-read_for
+decreases-read_for l = 5 * l.depth + 2
+
 abbrev pub decreases-read_body : goal.decreases-read_body
 decreases-read_body l = 5 * l.depth + 1
 
