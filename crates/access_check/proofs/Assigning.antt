@@ -4,6 +4,7 @@ use Rattle.std.specs.Prelude.{nat_eq}
 use Rattle.kernel_types.specs.declared.statements.RStmt.{RStmt, Block', Declare, SetScalar, SetLocal, SetArg, If', For', Row_of-RStmt, end_of-RStmt, more_of-RStmt}
 use Rattle.kernel_model.specs.Obeys.{Counters, with_counter, static}
 use Rattle.kernel_model.specs.Walk.{Covered, none_covered, with_covered, both_covered, turns_covered, covered_after, row_covered_after}
+use Rattle.lemmas.proofs.Truth.{or_assoc, or_none}
 
 -- what c has, d has too
 abbrev pub Within : Covered → Covered → Type 0
@@ -15,25 +16,11 @@ Adds f = (c : Covered) (a i : ℕ) → f c a i ≡ (c a i || f none_covered a i)
 
 -- ---- or
 
-pub or_none : (x : Bool) → x ≡ (x || false)
-or_none true = refl
-or_none false = refl
-
 or_over : (x y : Bool) → (x || y) ≡ (y || (x || false))
 or_over true true = refl
 or_over true false = refl
 or_over false true = refl
 or_over false false = refl
-
-pub or_then : (x y z : Bool) → ((x || y) || z) ≡ (x || (y || z))
-or_then true y z = refl
-or_then false y z = refl
-
-pub or_swap : (x y z : Bool) → (x || (y || z)) ≡ ((y || x) || z)
-or_swap true true z = refl
-or_swap true false z = refl
-or_swap false true z = refl
-or_swap false false z = refl
 
 or_both : (x y z : Bool) → ((x || y) && (x || z)) ≡ (x || (y && z))
 or_both true y z = refl
@@ -61,7 +48,7 @@ adds_with b (Some (pos j)) c a i = or_over (nat_eq b a && nat_eq j i) (c a i)
 
 adds_then : (f g : Covered → Covered) → Adds f → Adds g → Adds (λ c. g (f c))
 adds_then f g h k c a i =
-    k (f c) a i ∙ ap (λ x. x || g none_covered a i) (h c a i) ∙ or_then (c a i) (f none_covered a i) (g none_covered a i) ∙ ap (λ x. c a i || x) (sym (k (f none_covered) a i))
+    k (f c) a i ∙ ap (λ x. x || g none_covered a i) (h c a i) ∙ or_assoc (c a i) (f none_covered a i) (g none_covered a i) ∙ ap (λ x. c a i || x) (sym (k (f none_covered) a i))
 
 adds_both : (f g : Covered → Covered) → Adds f → Adds g → Adds (λ c. both_covered (f c) (g c))
 adds_both f g h k c a i =

@@ -4,9 +4,7 @@ use Rattle.std.specs.Int.{bit_at}
 use Rattle.std.proofs.lemmas.Bool.{cases_eq, eq-eqb, ne_eqb, cases_lt}
 use Rattle.std.proofs.Math.ListN.{get_or-eq_default}
 use Rattle.std.proofs.lemmas.Nat.Bits.{bit_at_and, bit_at-zero, bit_at_set_same, bit_at_set_other, bit_at-lt}
-
-bit_cases : (n i : ℕ) → (bit_at n i ≡ 0) ⊎ (bit_at n i ≡ 1)
-bit_cases n i = ⊎_elim (λ e. inl e) (λ (e : bit_at n i ≡ 0 → ⊥). inr (let l : bit_at n i < 2 = bit_at-lt n i in omega arith)) (cases_eq (bit_at n i) 0)
+use Rattle.lemmas.proofs.Numbers.{bit_cases, zero_bit}
 
 min_one : (a b : ℕ) → (a ≡ 0) ⊎ (a ≡ 1) → (b ≡ 0) ⊎ (b ≡ 1) → eqb (min a b) 1 ≡ (eqb a 1 && eqb b 1)
 min_one a b h k = ⊎_elim
@@ -37,12 +35,9 @@ abbrev pub Zeros : List ℕ → Type 0
 Zeros [] = Unit {0}
 Zeros (w ∷ ws) = (w ≡ 0) × Zeros ws
 
-no_bit : (i : ℕ) → eqb (bit_at 0 i) 1 ≡ false
-no_bit i = rw bit_at-zero refl
-
 pub zeros_have_none : (ws : List ℕ) → Zeros ws → (a i : ℕ) → eqb (bit_at (get_or ws a 0) i) 1 ≡ false
-zeros_have_none [] z a i = no_bit i
-zeros_have_none (w ∷ ws) z zero i = ap (λ (x : ℕ). eqb (bit_at x i) 1) z.0 ∙ no_bit i
+zeros_have_none [] z a i = zero_bit i
+zeros_have_none (w ∷ ws) z zero i = ap (λ (x : ℕ). eqb (bit_at x i) 1) z.0 ∙ zero_bit i
 zeros_have_none (w ∷ ws) z (suc a) i = zeros_have_none ws z.1 a i
 
 -- ---- words in common
@@ -68,5 +63,5 @@ common_end ws ls rs a le h k b i = ⊎_elim
     (λ (m : b < a). h b m i)
     (λ (m : a ≤ b).
     let z : get_or ls b 0 ≡ 0 = get_or-eq_default ls 0 (omega arith) in
-    ap (λ (x : ℕ). eqb (bit_at x i) 1) (k b m ∙ z) ∙ no_bit i ∙ sym (ap (λ x. eqb (bit_at x i) 1 && eqb (bit_at (get_or rs b 0) i) 1) z ∙ ap (λ c. c && eqb (bit_at (get_or rs b 0) i) 1) (no_bit i)))
+    ap (λ (x : ℕ). eqb (bit_at x i) 1) (k b m ∙ z) ∙ zero_bit i ∙ sym (ap (λ x. eqb (bit_at x i) 1 && eqb (bit_at (get_or rs b 0) i) 1) z ∙ ap (λ c. c && eqb (bit_at (get_or rs b 0) i) 1) (zero_bit i)))
     (cases_lt b a)

@@ -9,22 +9,20 @@ use Rattle.kernel_model.specs.Obeys.{Mode, mode_at, Counters, no_counters}
 use Rattle.kernel_model.specs.Refusals.{NotAllWritten, opposite}
 use Rattle.kernel_model.specs.Walk.{Breach, Covered, none_covered, all_below, is_op_write, noted_if, leaves_unwritten, ends_found}
 use Rattle.access_check.specs.Indices.{expr_names, stmt_names, row_names}
-use Rattle.access_check.proofs.Unnamed.{or_left, or_right}
+use Rattle.access_check.proofs.Unnamed.{or_left}
 use Rattle.access_check.specs.Agree.{Agree, CountersFit, RowCountersFit}
+use Rattle.lemmas.proofs.Truth.{or_right}
+use Rattle.std.proofs.Math.Bool.{and-false}
 
 -- ---- all numbers below one
 
 pub below_step : (p : ℕ → Bool) (n : ℕ) → all_below p n ≡ true → p n ≡ true → all_below p (n + 1) ≡ true
 below_step p n h e = ap (all_below p) (add-one n) ∙ ap (λ b. b && all_below p n) e ∙ h
 
-and_none : (a : Bool) → (a && false) ≡ false
-and_none true = refl
-and_none false = refl
-
 pub below_lacks : (p : ℕ → Bool) (n i : ℕ) → i < n → p i ≡ false → all_below p n ≡ false
 below_lacks p zero i l e = absurd (omega (arith, l))
 below_lacks p (suc n) i l e = ⊎_elim
-    (λ (m : i < n). ap (λ b. p n && b) (below_lacks p n i m e) ∙ and_none (p n))
+    (λ (m : i < n). ap (λ b. p n && b) (below_lacks p n i m e) ∙ and-false (p n))
     (λ (m : n ≤ i). let q : i ≡ n = omega arith in ap (λ b. b && all_below p n) (ap p (sym q) ∙ e))
     (cases_lt i n)
 

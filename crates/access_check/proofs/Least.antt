@@ -5,7 +5,8 @@ use Rattle.c_lex.specs.declared.tokens.Pos.{Pos}
 use Rattle.c_lex.specs.Order.{IsEarlier}
 use Rattle.kernel_model.specs.Refusals.{Rule, WritesRead, ReadsInc, IncNotSum, ReadsUnwritten, NotAllWritten, WriteIndexNotStatic, LiteralIndexOut, MinMaxForm, number_of}
 use Rattle.kernel_model.specs.Walk.{Breach, noted_if}
-use Rattle.kernel_model.proofs.Firsts.{d_holds, Counts, IsFirst, first_iff, OrIf, noted_if_first}
+use Rattle.kernel_model.proofs.Firsts.{Counts, IsFirst, first_iff, OrIf, noted_if_first}
+use Rattle.lemmas.proofs.Truth.{decides_itself}
 
 abbrev pub Found : Type 0
 Found = Option Breach
@@ -79,7 +80,7 @@ module _ (broken : Bool) (r : Rule) (p : Pos) (x : Found) where
   With = OrIf (Has x) (broken ≡ true) r p
 
   with_first : IsFirst (noted_if broken r p x) With
-  with_first = noted_if_first broken (broken ≡ true) r p x (Has x) (d_holds broken) (has_first x)
+  with_first = noted_if_first broken (broken ≡ true) r p x (Has x) (decides_itself broken) (has_first x)
 
   pub has_still : (s : Rule) (q : Pos) → Has x s q → Has (noted_if broken r p x) s q
   has_still s q h = first_has (noted_if broken r p x) With s q with_first (inl h)
@@ -102,10 +103,10 @@ module _ (b : Bool) (r : Rule) (p : Pos) (c : Bool) (s : Rule) (q : Pos) (x : Fo
   Other = OrIf (OrIf (Has x) (b ≡ true) r p) (c ≡ true) s q
 
   one_first : IsFirst (noted_if b r p (noted_if c s q x)) One
-  one_first = noted_if_first b (b ≡ true) r p (noted_if c s q x) (OrIf (Has x) (c ≡ true) s q) (d_holds b) (noted_if_first c (c ≡ true) s q x (Has x) (d_holds c) (has_first x))
+  one_first = noted_if_first b (b ≡ true) r p (noted_if c s q x) (OrIf (Has x) (c ≡ true) s q) (decides_itself b) (noted_if_first c (c ≡ true) s q x (Has x) (decides_itself c) (has_first x))
 
   other_first : IsFirst (noted_if c s q (noted_if b r p x)) Other
-  other_first = noted_if_first c (c ≡ true) s q (noted_if b r p x) (OrIf (Has x) (b ≡ true) r p) (d_holds c) (noted_if_first b (b ≡ true) r p x (Has x) (d_holds b) (has_first x))
+  other_first = noted_if_first c (c ≡ true) s q (noted_if b r p x) (OrIf (Has x) (b ≡ true) r p) (decides_itself c) (noted_if_first b (b ≡ true) r p x (Has x) (decides_itself b) (has_first x))
 
   pub note_swap : noted_if b r p (noted_if c s q x) ≡ noted_if c s q (noted_if b r p x)
   note_swap =

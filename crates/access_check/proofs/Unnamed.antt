@@ -10,6 +10,7 @@ use Rattle.kernel_model.specs.Obeys.{Mode, Counters, with_counter, static, stati
 use Rattle.kernel_model.specs.Walk.{Covered, with_covered, both_covered, turns_covered, covered_after, row_covered_after, event_found, expr_found, own_found, right_found, turns_found, stmt_found, row_found}
 use Rattle.access_check.specs.Indices.{expr_names, stmt_names, row_names}
 use Rattle.access_check.proofs.Least.{Found}
+use Rattle.lemmas.proofs.Truth.{or_right}
 
 -- the counters have the same values, but for that one
 abbrev pub AgreeBut : ℕ → Counters → Counters → Type 0
@@ -18,10 +19,6 @@ AgreeBut k cs ds = (j : ℕ) → nat_eq j k ≡ false → cs j ≡ ds j
 pub or_left : (x y : Bool) → (x || y) ≡ false → x ≡ false
 or_left true y e = e
 or_left false y e = refl
-
-pub or_right : (x y : Bool) → (x || y) ≡ false → y ≡ false
-or_right true y e = absurd (let f : ⊥ = cc in f)
-or_right false y e = e
 
 -- one more counter
 but_with : (k j : ℕ) (v : ℤ) (cs ds : Counters) → AgreeBut k cs ds → AgreeBut k (with_counter cs j v) (with_counter ds j v)

@@ -27,7 +27,7 @@ fn note_cell(named: &mut [bool], cell: u32)
 // Notes the cells that static indices in an expression name, and those that it names itself where it is such an index.
 // A chain of operators, each the left operand of the one before it, is gone along by a loop.
 #[cycle(notes)]
-#[tactic(auto, using(crate::proofs::Assigning::or_then))]
+#[tactic(auto, using(lemmas::proofs::Truth::or_assoc))]
 fn note_names(e: &RExpr, is_index: bool, named: &mut [bool])
     ensures { (k : ℕ) → names_of named.new k ≡ (expr_names is_index e.now k || names_of named.old k) }
 {
@@ -85,7 +85,7 @@ fn note_names(e: &RExpr, is_index: bool, named: &mut [bool])
 
 /// Notes the cells that static indices in a statement name.
 #[cycle(statements)]
-#[tactic(auto, using(crate::proofs::Assigning::or_then))]
+#[tactic(auto, using(lemmas::proofs::Truth::or_assoc))]
 pub fn note_indices(st: &RStmt, named: &mut [bool])
     ensures { (k : ℕ) → names_of named.new k ≡ (stmt_names st.now k || names_of named.old k) }
 {

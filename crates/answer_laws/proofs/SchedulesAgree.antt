@@ -18,6 +18,7 @@ use Rattle.command_words.specs.Words.{Schedule, Standard, Drawn, Written}
 use Rattle.answers.specs.Judgements.{Order, InStandardOrder, BySeed, ByText, OrderOf, StepsOf, steps_in, end_line, IsTextRefused, judged_next, IsStepRefused}
 use Rattle.answer_laws.proofs.IsOne.{IsOne, held_is_one, told_is_one}
 use Rattle.answer_laws.proofs.SaidOnce.{schedule_once, next_once}
+use Rattle.lemmas.proofs.Truth.{not_both}
 
 pub order_is_one : (s : Schedule) (files : Files) → IsOne (OrderOf s files)
 order_is_one Standard files = told_is_one InStandardOrder
@@ -58,9 +59,6 @@ steps_cut front rest = map-append (λ (l : Line). l.step) front rest
 well_or_not : (x : Result (Unit {0}) ScheduleRefusal) (e : ScheduleRefusal) → x ≡ Ok tt → x ≡ Err e → ⊥
 well_or_not x e h k = let f : Ok tt ≡ Err e = sym h ∙ k in cc
 
-true_false : (b : Bool) → b ≡ true → b ≡ false → ⊥
-true_false b h k = let f : true ≡ false = sym h ∙ k in cc
-
 module _ (o : Outline) where
   -- it is not among the steps before another
   not_before : (ls : List Line) (end : ℕ) (r s : Refusal) (h : IsStepRefused o ls end r) (k : IsStepRefused o ls end s) (l : Line) (more rest : List Line)
@@ -98,7 +96,7 @@ module _ (steps_decide : (o : Outline) (s : Step) → (is_step o s ≡ true) ↔
       where
         by_missing : (t : Option Step) → missing o (has pre) s ≡ t → too_early t ≡ Ok tt
         by_missing None is = refl
-        by_missing (Some t) is = let m = missing_is o (has pre) s t is in absurd (true_false (has pre t) (a.order pre s post refl t m.0 m.1) m.2)
+        by_missing (Some t) is = let m = missing_is o (has pre) s t is in absurd (not_both (has pre t) (a.order pre s post refl t m.0 m.1) m.2)
 
     -- and none is left at the end
     ends_well : (l : List Step) → Accepted o l → ended o (has l) ≡ Ok tt
@@ -106,7 +104,7 @@ module _ (steps_decide : (o : Outline) (s : Step) → (is_step o s ≡ true) ↔
       where
         by_left : (t : Option Step) → left_over o (has l) ≡ t → incomplete t ≡ Ok tt
         by_left None is = refl
-        by_left (Some t) is = let m = left_is o (has l) t is in absurd (true_false (has l t) (a.whole t m.0) m.1)
+        by_left (Some t) is = let m = left_is o (has l) t is in absurd (not_both (has l t) (a.whole t m.0) m.1)
 
     next_well : (front rest : List Step) → Accepted o (front ++ rest) → judged_next o (has front) rest ≡ Ok tt
     next_well front [] a = ends_well front (subst (Accepted o) (append-nil front) a)

@@ -7,10 +7,7 @@ use Rattle.mesh_decl.specs.declared.owners.Owners.{Owners}
 use Rattle.bound_program.specs.Values.{BoundValue}
 use Rattle.bound_chains.specs.Slices.{owns_pair, needs}
 use Rattle.bound_chains.specs.Counts.{sum_below, begins_at, some_pair, sends, MessagesAreFew}
-
-one_or_none : (b : Bool) → cond b 1 0 ≤ 1
-one_or_none true = omega arith
-one_or_none false = omega arith
+use Rattle.lemmas.proofs.Truth.{cond_bit}
 
 none_of : (b : Bool) → b ≡ false → cond b 1 0 ≤ 0
 none_of true h = absurd (false≢true (sym h))
@@ -18,7 +15,7 @@ none_of false h = omega arith
 
 count_all : (n : ℕ) (p : ℕ → Bool) → count_below n p ≤ n
 count_all zero p = omega arith
-count_all (suc n) p = let a : count_below n p ≤ n = count_all n p in let b : cond (p n) 1 0 ≤ 1 = one_or_none (p n) in omega arith
+count_all (suc n) p = let a : count_below n p ≤ n = count_all n p in let b : cond (p n) 1 0 ≤ 1 = cond_bit (p n) in omega arith
 
 count_none : (n : ℕ) (p : ℕ → Bool) → ((k : ℕ) → p k ≡ false) → count_below n p ≤ 0
 count_none zero p h = omega arith

@@ -23,9 +23,10 @@ use Rattle.bound_plan.specs.Setups.{setup_of}
 use Rattle.bound_plan.specs.Layouts.{layout_of, exported, exported_cells}
 use Rattle.bound_plan.specs.Laws.{Planned}
 use Rattle.bound_plan.specs.Given.{HaloLaws}
-use Rattle.bound_plan.proofs.Halos.{any_at, owns_is, owner_is}
+use Rattle.bound_plan.proofs.Halos.{owns_is, owner_is}
 use Rattle.bound_plan.proofs.Among.{among_at, at_among, among_pieces, piece_among}
 use Rattle.bound_plan.proofs.FrameFacts.{dat_cell}
+use Rattle.lemmas.proofs.Lists.{any_at}
 
 module _ (b : BoundValue) where
   -- the cells of an element

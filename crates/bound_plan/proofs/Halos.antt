@@ -15,16 +15,7 @@ use Rattle.local_mesh.specs.declared.types.RankMesh.{RankMesh}
 use Rattle.loop_plan.specs.Pairs.{sets_of, imports_from, passes}
 use Rattle.loop_plan.specs.Distributed.{IsDistributed}
 use Rattle.bound_plan.specs.Given.{HaloLaws}
-
--- where a test of some holds
-pub any_at : (f : ℕ → Bool) (xs : List ℕ) → list_any f xs ≡ true → (k : ℕ) × (k < length xs) × (f (get_or xs k 0) ≡ true)
-any_at f [] h = absurd (false≢true h)
-any_at f (x ∷ xs) h = ⊎_elim
-    (λ (e : f x ≡ true). (zero, omega arith, e))
-    (λ (e : list_any f xs ≡ true).
-    let w : (k : ℕ) × (k < length xs) × (f (get_or xs k 0) ≡ true) = any_at f xs e in
-    (suc w.0, (let l : w.0 < length xs = w.1 in omega arith), w.2))
-    (or_cases (f x) (list_any f xs) h)
+use Rattle.lemmas.proofs.Lists.{any_at}
 
 -- a set with an element is one of the mesh
 pub set_there : (g : MeshValue) (s e : ℕ) → e < set_size g s → s < set_count g

@@ -27,10 +27,11 @@ use Rattle.bound_plan.specs.Layouts.{exported, exported_cells}
 use Rattle.bound_plan.specs.Laws.{Planned}
 use Rattle.bound_plan.specs.Machine.{AreMessages}
 use Rattle.bound_plan.specs.Given.{HaloLaws}
-use Rattle.bound_plan.proofs.Halos.{any_at, owner_is}
+use Rattle.bound_plan.proofs.Halos.{owner_is}
 use Rattle.bound_plan.proofs.Among.{at_among, among_pieces, piece_among}
 use Rattle.bound_plan.proofs.Onces.{Apart, once_of, once_pieces}
 use Rattle.bound_plan.proofs.Exports.{cell_among, among_cell, exchanged_there}
+use Rattle.lemmas.proofs.Lists.{any_at}
 
 abbrev dat_of : Cell → ℕ
 dat_of (Data c) = c.dat

@@ -33,12 +33,7 @@ use Rattle.bound_plan.proofs.Touched.{Merges, merges}
 use Rattle.bound_plan.proofs.Parts.{parts}
 use Rattle.run_model.proofs.Windows.{mode_is, is_argument}
 use Rattle.bound_plan.proofs.FrameFacts.{among_arg, arg_among}
-
-one_test : (x y : Bool) → (x ≡ true → y ≡ true) → (y ≡ true → x ≡ true) → x ≡ y
-one_test true true f g = refl
-one_test false false f g = refl
-one_test true false f g = sym (f refl)
-one_test false true f g = g refl
+use Rattle.lemmas.proofs.Truth.{iff_eq}
 
 module _ (numbers : NumberLaws) (items : ItemLaws) (halos : HaloLaws) (kernels : KernelLaws) (windows : WindowsAreReached) (law : ExactlyModified) (b : BoundValue) (o : Owners) (n : Perms) (meshes : List RankMesh) (p : PlanValue) (pl : Planned b o n meshes p) (k : ℕ) (free : kind_of (item_at b k) ≡ Free) (e : ℕ) where
   abbrev f : RKernel
@@ -69,7 +64,7 @@ module _ (numbers : NumberLaws) (items : ItemLaws) (halos : HaloLaws) (kernels :
   unfolding parts
   modified_is c le =
       let both = law (setup_of b o meshes p) (parts numbers items halos b o n meshes p pl) k e c free le in
-      one_test (is_modified ((setup_of b o meshes p).touch k e (Data c))) (item_modifies b k c.dat && among (frame_cells b (site_of b k).args e) (Data c))
+      iff_eq (is_modified ((setup_of b o meshes p).touch k e (Data c))) (item_modifies b k c.dat && among (frame_cells b (site_of b k).args e) (Data c))
       (λ h. let w = both.0 h in and_from (item_modifies b k c.dat) (among (frame_cells b (site_of b k).args e) (Data c)) w.0 (reached_among c w.1 w.2 w.3))
       (λ h.
       let w : (item_modifies b k c.dat ≡ true) × (among (frame_cells b (site_of b k).args e) (Data c) ≡ true) = and_parts (item_modifies b k c.dat) (among (frame_cells b (site_of b k).args e) (Data c)) h in

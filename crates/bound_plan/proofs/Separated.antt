@@ -10,9 +10,7 @@ use Rattle.colouring.specs.declared.types.IncArg.{IncArg}
 use Rattle.colouring.specs.declared.types.Colours.{Colours}
 use Rattle.colouring.specs.Colours.{Conflict, goes_before}
 use Rattle.loop_plan.specs.Proper.{Separate}
-
-one_lower : (a b : ℕ) → a ≢ b → (a < b) ⊎ (b < a)
-one_lower a b ne = ⊎_elim (λ (l : a < b). inl l) (λ (l : b ≤ a). inr (let n : a ≡ b → ⊥ = ne in omega arith)) (cases_lt a b)
+use Rattle.lemmas.proofs.Numbers.{lt_or_gt}
 
 module _ (g : MeshValue) (maps : List (Vec ℕ Global)) (args : List IncArg) (places size : ℕ) (c : Colours) (some : 0 < size) (is : Separate g maps args places size c) where
   in_block : (x : ℕ) → x < places → IsInBlock places size (x / size) x
@@ -44,10 +42,10 @@ module _ (g : MeshValue) (maps : List (Vec ℕ Global)) (args : List IncArg) (pl
       (λ (e : p / size ≡ q / size). ⊎_elim
       (λ l. inl (by_inner p q e l))
       (λ l. inr (by_inner q p (sym e) l))
-      (one_lower (get_or c.inner.items p 0) (get_or c.inner.items q 0) (is.inner p q lp lq ne (e, k))))
+      (lt_or_gt (get_or c.inner.items p 0) (get_or c.inner.items q 0) (is.inner p q lp lq ne (e, k))))
       (λ (d : p / size ≡ q / size → ⊥). ⊎_elim
       (λ l. inl (by_block p q l))
       (λ l. inr (by_block q p l))
-      (one_lower (get_or c.blocks.items (p / size) 0) (get_or c.blocks.items (q / size) 0)
+      (lt_or_gt (get_or c.blocks.items (p / size) 0) (get_or c.blocks.items (q / size) 0)
       (is.blocks (p / size) (q / size) (counted p lp) (counted q lq) d (p, q, in_block p lp, in_block q lq, k))))
       (cases_eq (p / size) (q / size))

@@ -5,7 +5,7 @@ use Rattle.std.proofs.lemmas.Bool.{cases_eq, eq-eqb, eqb-true}
 use Rattle.std.proofs.lemmas.List.Elements.{Contains-append_left, Contains-push, Contains-push_cases}
 use Rattle.rank_sets.specs.Below.{any_below}
 use Rattle.rank_sets.proofs.Below.{any_from, any_witness}
-use Rattle.breadth_order.proofs.Walk.{both}
+use Rattle.lemmas.proofs.Truth.{not_both}
 
 -- what stands in a list stood in the old one, or is a target at one of the first n places but x
 abbrev pub AreNew : (ℕ → ℕ) → ℕ → ℕ → List ℕ → List ℕ → Type 0
@@ -41,7 +41,7 @@ has_more p n x t seen found e m h y a d f = ⊎_elim
     (λ (b : any_below n (λ i. nat_eq (p i) y) ≡ true). h y b d f)
     (λ (q : p n ≡ y). absurd (⊎_elim
     (λ (s : t ≡ x). d (sym (e ∙ q) ∙ s))
-    (λ (s : get_or seen t false ≡ true). both (get_or seen y false) (subst (λ z. get_or seen z false ≡ true) (e ∙ q) s) f)
+    (λ (s : get_or seen t false ≡ true). not_both (get_or seen y false) (subst (λ z. get_or seen z false ≡ true) (e ∙ q) s) f)
     m))
     (any_split p n y a)
 

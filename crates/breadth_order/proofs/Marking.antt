@@ -4,11 +4,11 @@ use Rattle.std.proofs.lemmas.Bool.{cases_eq, eq-eqb, ne_eqb, and_parts, and_from
 use Rattle.std.proofs.lemmas.List.{get_or-set_same, get_or-set_other, get_or_default}
 use Rattle.mesh_decl.specs.Mesh.{MeshValue, set_size, map_from, map_to}
 use Rattle.rank_sets.specs.Below.{any_below, count_below}
-use Rattle.rank_sets.proofs.Bools.{same_Bool}
 use Rattle.rank_sets.proofs.Below.{any_from, any_witness, any_more, count_agree}
 use Rattle.breadth_order.specs.Neighbours.{has_target, are_neighbours, havers}
 use Rattle.breadth_order.specs.Degrees.{degree}
 use Rattle.breadth_order.proofs.Having.{haver_at, haver_has}
+use Rattle.lemmas.proofs.Truth.{iff_eq}
 
 -- one more mark
 pub count_set : (last : List ℕ) (t x n : ℕ) → t < n → n ≤ length last → get_or last t 0 ≢ x → count_below n (λ y. nat_eq (get_or (set last t x) y 0) x) ≡ count_below n (λ y. nat_eq (get_or last y 0) x) + 1
@@ -60,16 +60,6 @@ step_new : (a b c d : Bool) → c ≡ true → d ≡ true → (a || ((b || d) &&
 step_new true b c d e f = refl
 step_new false true c d e f = e
 step_new false false c d e f = and_from d c f e
-
-pub or_and : (a e b : Bool) → ((a && b) || (e && b)) ≡ ((a || e) && b)
-or_and true true true = refl
-or_and true true false = refl
-or_and true false true = refl
-or_and true false false = refl
-or_and false true true = refl
-or_and false true false = refl
-or_and false false true = refl
-or_and false false false = refl
 
 -- which elements a number marks: those that it marked, and all but one of the first n places' targets
 abbrev pub Marks : List ℕ → List ℕ → (ℕ → Bool) → ℕ → ℕ → Type 0
@@ -124,7 +114,7 @@ others_set last initial t x l h y z n e = ⊎_elim
 -- two elements are neighbours where one of those that have the first has the second
 pub near_by : (g : MeshValue) (m x y : ℕ) (having : List ℕ) → having ≡ havers g m (set_size g (map_from g m)) x → (any_below (length having) (λ k. has_target g m (get_or having k 0) y) && not (nat_eq x y)) ≡ are_neighbours g m x y
 unfolding are_neighbours
-near_by g m x y having e = ap (λ z. z && not (nat_eq x y)) (same_Bool (any_below (length having) (λ k. has_target g m (get_or having k 0) y)) (any_below (set_size g (map_from g m)) (λ e. has_target g m e y && has_target g m e x))
+near_by g m x y having e = ap (λ z. z && not (nat_eq x y)) (iff_eq (any_below (length having) (λ k. has_target g m (get_or having k 0) y)) (any_below (set_size g (map_from g m)) (λ e. has_target g m e y && has_target g m e x))
     (λ t.
     let w = any_witness (length having) (λ k. has_target g m (get_or having k 0) y) t in
     let l : w.0 < length (havers g m (set_size g (map_from g m)) x) = subst (λ (z : List ℕ). w.0 < length z) e w.1 in

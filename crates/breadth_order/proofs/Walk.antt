@@ -6,9 +6,7 @@ use Rattle.std.proofs.lemmas.List.{length_push, length-set, get_or_push, get_or_
 use Rattle.std.proofs.lemmas.List.Elements.{Contains-append_left, Contains-push}
 use Rattle.std.proofs.lemmas.List.Sums.{sum_by-set, sum_by-cons, position_or_len_is, passes_at_first}
 use Rattle.breadth_order.specs.Taken.{earliest, IsNext, IsTaken, IsWalk, Rises}
-
-pub both : (b : Bool) → b ≡ true → b ≡ false → ⊥
-both b t f = let z : true ≡ false = sym t ∙ f in cc
+use Rattle.lemmas.proofs.Truth.{not_both}
 
 module _ (n : ℕ) (near : ℕ → ℕ → Bool) where
   -- the place of the earliest neighbour
@@ -26,7 +24,7 @@ module _ (n : ℕ) (near : ℕ → ℕ → Bool) where
 
   pub earliest_ge : (taken : List ℕ) (y h : ℕ) → h ≤ length taken → ((j : ℕ) → j < h → near (get_or taken j 0) y ≡ false) → h ≤ earliest near taken y
   earliest_ge taken y h l before = ⊎_elim
-      (λ (m : earliest near taken y < h). absurd (both (near (get_or taken (earliest near taken y) 0) y) (earliest_at taken y (omega arith)) (before (earliest near taken y) m)))
+      (λ (m : earliest near taken y < h). absurd (not_both (near (get_or taken (earliest near taken y) 0) y) (earliest_at taken y (omega arith)) (before (earliest near taken y) m)))
       (λ (m : h ≤ earliest near taken y). m)
       (cases_lt (earliest near taken y) h)
 
@@ -35,13 +33,13 @@ module _ (n : ℕ) (near : ℕ → ℕ → Bool) where
   unmarked order seen h y w l absent = false_from_ne_true (get_or seen y false) (λ t. absent (w.taken y l t))
 
   pub untaken : (order : List ℕ) (seen : List Bool) (h z : ℕ) → IsWalk n near order seen h → get_or seen z false ≡ false → Contains order z → ⊥
-  untaken order seen h z w f c = both (get_or seen z false) (subst (λ q. get_or seen q false ≡ true) (slice_is order z c) (w.marked c.0 c.1)) f
+  untaken order seen h z w f c = not_both (get_or seen z false) (subst (λ q. get_or seen q false ≡ true) (slice_is order z c) (w.marked c.0 c.1)) f
     where
       slice_is : (order : List ℕ) (z : ℕ) (c : Contains order z) → get_or order c.0 0 ≡ z
       slice_is order z c = get_or_default order c.0 0 z c.1 ∙ c.2
 
   far : (order : List ℕ) (seen : List Bool) (h y : ℕ) → IsWalk n near order seen h → h ≤ length order → y < n → get_or seen y false ≡ false → (j : ℕ) → j < h → near (get_or order j 0) y ≡ false
-  far order seen h y w lh l f j lj = false_from_ne_true (near (get_or order j 0) y) (λ t. both (get_or seen y false) (w.closed j y lj (omega arith) l t) f)
+  far order seen h y w lh l f j lj = false_from_ne_true (near (get_or order j 0) y) (λ t. not_both (get_or seen y false) (w.closed j y lj (omega arith) l t) f)
 
   -- one more element taken
   pub taken_push : (key : ℕ → ℕ) (order : List ℕ) (z : ℕ) → IsTaken n near key order → IsNext n near key order z → IsTaken n near key (order ++ z ∷ [])
@@ -67,7 +65,7 @@ module _ (n : ℕ) (near : ℕ → ℕ → Bool) where
         let g : get_or seen y false ≡ false = unmarked order seen (length order) y w ly absent in
         let c = all y ly in
         let e : get_or starts c.0 0 ≡ y = get_or_default starts c.0 0 y c.1 ∙ c.2 in
-        let le : i ≤ c.0 = ⊎_elim (λ (m : c.0 < i). absurd (both (get_or seen y false) (subst (λ q. get_or seen q false ≡ true) e (done c.0 m)) g)) (λ (m : i ≤ c.0). m) (cases_lt c.0 i) in
+        let le : i ≤ c.0 = ⊎_elim (λ (m : c.0 < i). absurd (not_both (get_or seen y false) (subst (λ q. get_or seen q false ≡ true) e (done c.0 m)) g)) (λ (m : i ≤ c.0). m) (cases_lt c.0 i) in
         inr (
           earliest_none order (get_or starts i 0) (far order seen (length order) (get_or starts i 0) w (omega arith) lz f) ∙ sym (earliest_none order y (far order seen (length order) y w (omega arith) ly g)),
           subst (λ q. key (get_or starts i 0) ≤ key q) e (rises i c.0 le c.1),
@@ -110,7 +108,7 @@ module _ (n : ℕ) (near : ℕ → ℕ → Bool) where
 
 -- what isn't marked now wasn't marked before
 pub before : (old new : List Bool) (y : ℕ) → ((y : ℕ) → get_or old y false ≡ true → get_or new y false ≡ true) → get_or new y false ≡ false → get_or old y false ≡ false
-before old new y kept f = false_from_ne_true (get_or old y false) (λ t. both (get_or new y false) (kept y t) f)
+before old new y kept f = false_from_ne_true (get_or old y false) (λ t. not_both (get_or new y false) (kept y t) f)
 
 -- the first neighbour of place h that isn't marked comes next, where all neighbours of earlier places are marked
 pub next_near : (n : ℕ) (near : ℕ → ℕ → Bool) (key : ℕ → ℕ) (order : List ℕ) (seen : List Bool) (h i : ℕ) (items : List ℕ) → IsWalk n near order seen h → h < length order → i < length items → get_or items i 0 < n → near (get_or order h 0) (get_or items i 0) ≡ true → get_or seen (get_or items i 0) false ≡ false → ((y : ℕ) → near (get_or order h 0) y ≡ true → get_or seen y false ≡ false → Contains items y) → ((j : ℕ) → j < i → get_or seen (get_or items j 0) false ≡ true) → Rises key items → IsNext n near key order (get_or items i 0)
@@ -130,7 +128,7 @@ next_near n near key order seen h i items w lh li lz nz f all done rises =
           let t : near (get_or order h 0) y ≡ true = subst (λ q. near (get_or order q 0) y ≡ true) e (earliest_at n near order y (omega arith)) in
           let k = all y t g in
           let at : get_or items k.0 0 ≡ y = get_or_default items k.0 0 y k.1 ∙ k.2 in
-          let le : i ≤ k.0 = ⊎_elim (λ (q : k.0 < i). absurd (both (get_or seen y false) (subst (λ v. get_or seen v false ≡ true) at (done k.0 q)) g)) (λ (q : i ≤ k.0). q) (cases_lt k.0 i) in
+          let le : i ≤ k.0 = ⊎_elim (λ (q : k.0 < i). absurd (not_both (get_or seen y false) (subst (λ v. get_or seen v false ≡ true) at (done k.0 q)) g)) (λ (q : i ≤ k.0). q) (cases_lt k.0 i) in
           inr (ez ∙ sym e, subst (λ v. key z ≤ key v) at (rises i k.0 le k.1)))
           (cases_lt h (earliest near order y)));
     }

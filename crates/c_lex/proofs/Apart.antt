@@ -6,9 +6,10 @@ use Rattle.c_lex.specs.declared.tokens.Kind.{Kind}
 use Rattle.c_lex.specs.declared.tokens.Kind.TheVariants as kind
 use Rattle.c_lex.specs.Spelling.{blank, letter, digit, value_of, IsFigure, textual, all_escaped, HasForm}
 use Rattle.c_lex.specs.Lexed.{EndsLine, HasNoClose, IsPassed, IsLongest, FitsIn, is_closed, CannotGoOn, HasBadByte, BeginsNothing, IsTooLarge}
-use Rattle.c_lex.proofs.Forms.{true_false, Begins, begins, not_empty, one_kind, text_begins, figure_head}
+use Rattle.c_lex.proofs.Forms.{Begins, begins, not_empty, one_kind, text_begins, figure_head}
 use Rattle.c_lex.proofs.Units.{units_one, unit_none, closed_through, nil_right}
 use Rattle.c_lex.proofs.Longest.{text_row}
+use Rattle.std.proofs.lemmas.Bool.{true≢false}
 
 -- parts of one row of bytes that are equally long are the same
 pub same_front : (s r s' r' : List ℕ) → s ++ r ≡ s' ++ r' → length s ≡ length s' → (s ≡ s') × (r ≡ r')
@@ -61,7 +62,7 @@ blank_begins (kind.Word w) b h g = let r = letter_bounds b g in let q = blank_bo
 blank_begins (kind.Name x) b h g = let r = letter_bounds b g in let q = blank_bounds b h in absurd (omega arith)
 blank_begins (kind.Number z) b h g = let r = digit_bounds b g in let q = blank_bounds b h in absurd (omega arith)
 blank_begins (kind.Text t) b h g = let q = blank_bounds b h in absurd (omega arith)
-blank_begins (kind.Sign s) b h g = true_false (sym h ∙ g.0.no_blank)
+blank_begins (kind.Sign s) b h g = true≢false (sym h ∙ g.0.no_blank)
 
 pub hash_begins : (k : Kind) (b : ℕ) → b ≡ 35 → Begins k b → ⊥
 hash_begins (kind.Word w) b h g = let r = letter_bounds b g in absurd (omega arith)
@@ -226,7 +227,7 @@ token_bad k s r good bs f b e =
 pub token_open_text : (k : Kind) (s r rest : List ℕ) → HasForm k s → s ++ r ≡ 34 ∷ rest → is_closed rest ≡ false → ⊥
 token_open_text k s r rest f e h =
     let t = token_text k s r rest f e in
-    true_false (sym (closed_through t.0 (34 ∷ r)) ∙ sym (ap is_closed t.2) ∙ h)
+    true≢false (sym (closed_through t.0 (34 ∷ r)) ∙ sym (ap is_closed t.2) ∙ h)
 
 pub token_large : (k : Kind) (s r bs : List ℕ) → IsLongest k s r → FitsIn k s → IsTooLarge bs → bs ≡ s ++ r → ⊥
 token_large k s r bs a f l e =
@@ -252,7 +253,7 @@ pub large_nothing : (fresh : Bool) (bs : List ℕ) → IsTooLarge bs → BeginsN
 large_nothing fresh bs l n = n.no_token (kind.Number (pos (value_of l.figure))) l.figure l.rest (l.form, refl) l.cut
 
 pub large_other : (bs : List ℕ) → IsTooLarge bs → (b : ℕ) (rest : List ℕ) → bs ≡ b ∷ rest → digit b ≡ false → ⊥
-large_other bs l b rest e h = true_false (sym (large_digit bs l b rest e) ∙ h)
+large_other bs l b rest e h = true≢false (sym (large_digit bs l b rest e) ∙ h)
 
 pub large_some : (bs : List ℕ) → IsTooLarge bs → bs ≢ []
 large_some bs l e = by_figure l.figure l.form (sym l.cut ∙ e)
@@ -272,4 +273,4 @@ pub bad_open : (good bs rest : List ℕ) → HasBadByte good bs → bs ≡ 34 �
 bad_open good bs rest b e h =
     let row = sym e ∙ bad_row good bs b in
     let same : rest ≡ all_escaped b.text ++ b.rest = cc in
-    true_false (sym b.closed ∙ sym (closed_through b.text b.rest) ∙ sym (ap is_closed same) ∙ h)
+    true≢false (sym b.closed ∙ sym (closed_through b.text b.rest) ∙ sym (ap is_closed same) ∙ h)

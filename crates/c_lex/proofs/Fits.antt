@@ -12,14 +12,7 @@ use Rattle.c_lex.specs.declared.front.Front.TheVariants.{Token, TooLarge}
 use Rattle.c_lex.specs.Spelling.{sign_spelling, digit, value_of}
 use Rattle.c_lex.specs.Front.{LiesIn, front_sign, sign_or, front_figure, figure_size}
 use Rattle.c_lex.specs.Lexed.{after_byte, advance}
-
-pub find_true : {X : Type 0} (p : X → Bool) (xs : List X) (x : X) → find p xs ≡ Some x → p x ≡ true
-find_true p [] x h = cc
-find_true p (y ∷ ys) x h = by_test (p y) refl h (find_true p ys x)
-  where
-    by_test : (t : Bool) → p y ≡ t → cond t (Some y) (find p ys) ≡ Some x → (find p ys ≡ Some x → p x ≡ true) → p x ≡ true
-    by_test true e h f = let same : y ≡ x = cc in rw (sym same) e
-    by_test false e h f = f h
+use Rattle.lemmas.proofs.Lists.{find_passes}
 
 -- the sign's bytes stand at the front
 pub sign_prefix : (bs : List ℕ) (s : Sign) → starts_with nat_eq bs (sign_spelling s) ≡ true → take (length (sign_spelling s)) bs ≡ sign_spelling s
@@ -36,7 +29,7 @@ sign_fits bs h = by_sign (find (λ s. starts_with nat_eq bs (sign_spelling s)) S
     by_sign : (f : Option Sign) → find (λ s. starts_with nat_eq bs (sign_spelling s)) SIGNS ≡ f → LiesIn (length bs) (sign_or f)
     by_sign None e = h
     by_sign (Some s) e =
-        let is = sign_prefix bs s (find_true (λ s. starts_with nat_eq bs (sign_spelling s)) SIGNS s e) in
+        let is = sign_prefix bs s (find_passes (λ s. starts_with nat_eq bs (sign_spelling s)) SIGNS s e) in
         let long : length (take (length (sign_spelling s)) bs) ≡ length (sign_spelling s) = ap length is in
         (sign_some s, omega (arith, long, length-take (length (sign_spelling s)) bs))
 

@@ -3,7 +3,7 @@ use Rattle.std.proofs.Common.{◌≡◌, ◌≢◌, ℕ, ◌≤◌, Bool, true, 
 use Rattle.std.specs.List.{list_all, starts_with}
 use Rattle.std.specs.Str.{bytes_eq}
 use Rattle.std.proofs.lemmas.Slice.Eq.{bytes_eq-Decides}
-use Rattle.std.proofs.lemmas.Bool.{leb-true, eq-eqb}
+use Rattle.std.proofs.lemmas.Bool.{leb-true, eq-eqb, and_parts, true≢false}
 use Rattle.std.proofs.lemmas.Bool.Decides.{nat_tests}
 use Rattle.c_lex.specs.declared.tokens.Kind.{Kind}
 use Rattle.c_lex.specs.declared.tokens.Kind.TheVariants as kind
@@ -15,12 +15,9 @@ use Rattle.c_lex.specs.contracts.tokens.Sign as the_sign
 use Rattle.c_lex.specs.contracts.tokens.Word as the_word
 use Rattle.c_lex.specs.declared.spelling.TheConstants.{SIGNS, WORDS}
 use Rattle.c_lex.specs.Spelling.{sign_spelling, word_spelling, blank, letter, digit, IsName, IsFigure, textual, all_escaped, text_spelling, HasForm}
-use Rattle.c_lex.proofs.Runs.{and_true}
 use Rattle.c_lex.proofs.Units.{units_one}
 use denote.Enum.Bare.{sameb, same_true}
-
-pub true_false : true ≡ false → ⊥
-true_false h = cc
+use Rattle.std.proofs.Math.Seq.{take-append_seam}
 
 -- a list has an item, by a test
 abbrev member : {X : Type 0} → (X → X → Bool) → X → List X → Bool
@@ -36,7 +33,7 @@ falling len n (y ∷ ys) = nat_le (len y) n && falling len (len y) ys
 find_falling : {X : Type 0} (p : X → Bool) (len : X → ℕ) (n : ℕ) (xs : List X) (x : X) → falling len n xs ≡ true → find p xs ≡ Some x → len x ≤ n
 find_falling p len n [] x f h = cc
 find_falling p len n (y ∷ ys) x f h =
-    let r = and_true (nat_le (len y) n) (falling len (len y) ys) f in
+    let r = and_parts (nat_le (len y) n) (falling len (len y) ys) f in
     let first = leb-true (len y) n r.0 in
     by_test (p y) h (λ g. find_falling p len (len y) ys x r.1 g) first
   where
@@ -48,7 +45,7 @@ find_falling p len n (y ∷ ys) x f h =
 find_longest : {X : Type 0} (p : X → Bool) (len : X → ℕ) (same : X → X → Bool) → ((a b : X) → same a b ≡ true → a ≡ b) → (n : ℕ) (xs : List X) (x : X) → falling len n xs ≡ true → member same x xs ≡ true → p x ≡ true → (y : X) × (find p xs ≡ Some y) × (len x ≤ len y)
 find_longest {X = X} p len same is n [] x f m h = cc
 find_longest {X = X} p len same is n (y ∷ ys) x f m h =
-    let r = and_true (nat_le (len y) n) (falling len (len y) ys) f in
+    let r = and_parts (nat_le (len y) n) (falling len (len y) ys) f in
     by_test (p y) refl (same x y) refl m (λ g. find_longest p len same is (len y) ys x r.1 g h) (λ z g. find_falling p len (len y) ys z r.1 g)
   where
     by_test : (t : Bool) → p y ≡ t → (s : Bool) → same x y ≡ s → cond s true (member same x ys) ≡ true → (member same x ys ≡ true → (z : X) × (find p ys ≡ Some z) × (len x ≤ len z)) → ((z : X) → find p ys ≡ Some z → len z ≤ len y) → (z : X) × (cond t (Some y) (find p ys) ≡ Some z) × (len x ≤ len z)
@@ -88,19 +85,11 @@ signs_fall = refl
 -- no word where none is found
 pub no_word : (bs : List ℕ) → find (λ w. bytes_eq bs (word_spelling w)) WORDS ≡ None → (w : Word) → bs ≢ word_spelling w
 no_word bs h w q =
-    true_false (sym ((bytes_eq-Decides bs (word_spelling w)).1 q) ∙ find_nothing (λ w. bytes_eq bs (word_spelling w)) same_word (same_true the_word.the_type tt) WORDS w (word_listed w) h)
-
-pub take_front : (s rest : List ℕ) → take (length s) (s ++ rest) ≡ s
-take_front [] rest = refl
-take_front (b ∷ bs) rest = ap (λ z. b ∷ z) (take_front bs rest)
-
-pub drop_front : (s rest : List ℕ) → drop (length s) (s ++ rest) ≡ rest
-drop_front [] rest = refl
-drop_front (b ∷ bs) rest = drop_front bs rest
+    true≢false (sym ((bytes_eq-Decides bs (word_spelling w)).1 q) ∙ find_nothing (λ w. bytes_eq bs (word_spelling w)) same_word (same_true the_word.the_type tt) WORDS w (word_listed w) h)
 
 sign_starts : (s : Sign) (rest : List ℕ) → starts_with nat_eq (sign_spelling s ++ rest) (sign_spelling s) ≡ true
 sign_starts s rest =
-    (bytes_eq-Decides (sign_spelling s) (take (length (sign_spelling s)) (sign_spelling s ++ rest))).1 (sym (take_front (sign_spelling s) rest))
+    (bytes_eq-Decides (sign_spelling s) (take (length (sign_spelling s)) (sign_spelling s ++ rest))).1 (sym (take-append_seam (sign_spelling s) rest))
 
 -- the sign that is found is at least as long as any that stands there
 pub sign_found : (s : Sign) (rest : List ℕ) → (t : Sign) × (find (λ z. starts_with nat_eq (sign_spelling s ++ rest) (sign_spelling z)) SIGNS ≡ Some t) × (length (sign_spelling s) ≤ length (sign_spelling t))
@@ -174,7 +163,7 @@ pub digit_quote : (b : ℕ) → digit b ≡ true → b ≡ 34 → ⊥
 digit_quote b h g = let r = digit_bounds b h in absurd (omega arith)
 
 pub quote_sign : (b : ℕ) → b ≡ 34 → BeginsSign b → ⊥
-quote_sign b h g = true_false (sym (eq-eqb b 34 h) ∙ g.no_quote)
+quote_sign b h g = true≢false (sym (eq-eqb b 34 h) ∙ g.no_quote)
 
 -- a kind that begins as another does
 pub name_begins : (k : Kind) (b : ℕ) → letter b ≡ true → Begins k b → (s : List ℕ) → HasForm k s → IsName s
@@ -182,14 +171,14 @@ name_begins (kind.Word w) b h g s f = subst IsName (sym f) (word_named w)
 name_begins (kind.Name x) b h g s f = f.1
 name_begins (kind.Number z) b h g s f = absurd (letter_digit b h g)
 name_begins (kind.Text t) b h g s f = absurd (letter_quote b h g)
-name_begins (kind.Sign t) b h g s f = absurd (true_false (sym h ∙ g.0.no_letter))
+name_begins (kind.Sign t) b h g s f = absurd (true≢false (sym h ∙ g.0.no_letter))
 
 pub figure_begins : (k : Kind) (b : ℕ) → digit b ≡ true → Begins k b → (s : List ℕ) → HasForm k s → IsFigure s
 figure_begins (kind.Word w) b h g s f = absurd (letter_digit b g h)
 figure_begins (kind.Name x) b h g s f = absurd (letter_digit b g h)
 figure_begins (kind.Number z) b h g s f = f.0
 figure_begins (kind.Text t) b h g s f = absurd (digit_quote b h g)
-figure_begins (kind.Sign t) b h g s f = absurd (true_false (sym h ∙ g.0.no_digit))
+figure_begins (kind.Sign t) b h g s f = absurd (true≢false (sym h ∙ g.0.no_digit))
 
 pub text_begins : (k : Kind) (b : ℕ) → b ≡ 34 → Begins k b → (s : List ℕ) → HasForm k s → (t : List ℕ) × HasForm (kind.Text t) s
 text_begins (kind.Word w) b h g s f = absurd (letter_quote b g h)
@@ -199,9 +188,9 @@ text_begins (kind.Text t) b h g s f = (t, f)
 text_begins (kind.Sign t) b h g s f = absurd (quote_sign b h g.0)
 
 pub sign_begins_as : (k : Kind) (b : ℕ) → BeginsSign b → Begins k b → (s : List ℕ) → HasForm k s → (t : Sign) × (s ≡ sign_spelling t)
-sign_begins_as (kind.Word w) b h g s f = absurd (true_false (sym g ∙ h.no_letter))
-sign_begins_as (kind.Name x) b h g s f = absurd (true_false (sym g ∙ h.no_letter))
-sign_begins_as (kind.Number z) b h g s f = absurd (true_false (sym g ∙ h.no_digit))
+sign_begins_as (kind.Word w) b h g s f = absurd (true≢false (sym g ∙ h.no_letter))
+sign_begins_as (kind.Name x) b h g s f = absurd (true≢false (sym g ∙ h.no_letter))
+sign_begins_as (kind.Number z) b h g s f = absurd (true≢false (sym g ∙ h.no_digit))
 sign_begins_as (kind.Text t) b h g s f = absurd (quote_sign b g h)
 sign_begins_as (kind.Sign t) b h g s f = (t, f)
 
@@ -238,24 +227,24 @@ one_kind k k' b s h g = by_kinds k k' h g (begins k b s h) (begins k' b s g)
     by_kinds (kind.Word v) (kind.Name x) h g p q = absurd (g.2 v h)
     by_kinds (kind.Word v) (kind.Number z) h g p q = absurd (letter_digit b p q)
     by_kinds (kind.Word v) (kind.Text t) h g p q = absurd (letter_quote b p q)
-    by_kinds (kind.Word v) (kind.Sign t) h g p q = absurd (true_false (sym p ∙ q.0.no_letter))
+    by_kinds (kind.Word v) (kind.Sign t) h g p q = absurd (true≢false (sym p ∙ q.0.no_letter))
     by_kinds (kind.Name x) (kind.Word w) h g p q = absurd (h.2 w g)
     by_kinds (kind.Name x) (kind.Name y) h g p q = ap kind.Name (sym h.0 ∙ g.0)
     by_kinds (kind.Name x) (kind.Number z) h g p q = absurd (letter_digit b p q)
     by_kinds (kind.Name x) (kind.Text t) h g p q = absurd (letter_quote b p q)
-    by_kinds (kind.Name x) (kind.Sign t) h g p q = absurd (true_false (sym p ∙ q.0.no_letter))
+    by_kinds (kind.Name x) (kind.Sign t) h g p q = absurd (true≢false (sym p ∙ q.0.no_letter))
     by_kinds (kind.Number z) (kind.Word w) h g p q = absurd (letter_digit b q p)
     by_kinds (kind.Number z) (kind.Name y) h g p q = absurd (letter_digit b q p)
     by_kinds (kind.Number z) (kind.Number y) h g p q = ap kind.Number (h.1 ∙ sym g.1)
     by_kinds (kind.Number z) (kind.Text t) h g p q = absurd (digit_quote b p q)
-    by_kinds (kind.Number z) (kind.Sign t) h g p q = absurd (true_false (sym p ∙ q.0.no_digit))
+    by_kinds (kind.Number z) (kind.Sign t) h g p q = absurd (true≢false (sym p ∙ q.0.no_digit))
     by_kinds (kind.Text t) (kind.Word w) h g p q = absurd (letter_quote b q p)
     by_kinds (kind.Text t) (kind.Name y) h g p q = absurd (letter_quote b q p)
     by_kinds (kind.Text t) (kind.Number z) h g p q = absurd (digit_quote b q p)
     by_kinds (kind.Text t) (kind.Text u) h g p q = ap kind.Text (one_text t u h.1 g.1 (sym h.0 ∙ g.0))
     by_kinds (kind.Text t) (kind.Sign u) h g p q = absurd (quote_sign b p q.0)
-    by_kinds (kind.Sign t) (kind.Word w) h g p q = absurd (true_false (sym q ∙ p.0.no_letter))
-    by_kinds (kind.Sign t) (kind.Name y) h g p q = absurd (true_false (sym q ∙ p.0.no_letter))
-    by_kinds (kind.Sign t) (kind.Number z) h g p q = absurd (true_false (sym q ∙ p.0.no_digit))
+    by_kinds (kind.Sign t) (kind.Word w) h g p q = absurd (true≢false (sym q ∙ p.0.no_letter))
+    by_kinds (kind.Sign t) (kind.Name y) h g p q = absurd (true≢false (sym q ∙ p.0.no_letter))
+    by_kinds (kind.Sign t) (kind.Number z) h g p q = absurd (true≢false (sym q ∙ p.0.no_digit))
     by_kinds (kind.Sign t) (kind.Text u) h g p q = absurd (quote_sign b q p.0)
     by_kinds (kind.Sign t) (kind.Sign u) h g p q = ap kind.Sign (one_sign t u (sym h ∙ g))

@@ -8,10 +8,11 @@ use Rattle.c_lex.specs.declared.front.Front.TheVariants.{Passed, Token, BadByte,
 use Rattle.c_lex.specs.Spelling.{blank, letter, digit, part, textual, escaped, all_escaped}
 use Rattle.c_lex.specs.Lexed.{IsPassed, HasBadByte, is_closed}
 use Rattle.c_lex.specs.Front.{LiesIn, IsText, IsFront, unit_of, front_word, front_sign, front_figure, passes_line}
-use Rattle.c_lex.proofs.Forms.{true_false, BeginsSign}
+use Rattle.c_lex.proofs.Forms.{BeginsSign}
 use Rattle.c_lex.proofs.Units.{no_unit, closed_through, all_escaped-push, nil_right}
 use Rattle.c_lex.proofs.Longest.{word_front, figure_front, sign_front, text_front}
 use Rattle.c_lex.proofs.Lines.{starts_not}
+use Rattle.std.proofs.lemmas.Bool.{or_parts, true≢false}
 
 pub front_blank : (fresh : Bool) (bs : List ℕ) → 0 < length bs → blank (slice_index bs 0) ≡ true → IsFront fresh bs (Passed 1)
 front_blank fresh [] h e = absurd (omega arith)
@@ -25,10 +26,6 @@ pub front_digit : (fresh : Bool) (bs : List ℕ) → 0 < length bs → digit (sl
 front_digit fresh [] h e = absurd (omega arith)
 front_digit fresh (b ∷ bs) h e = figure_front fresh b bs e
 
-or_false : (a b : Bool) → (a || b) ≡ false → (a ≡ false) × (b ≡ false)
-or_false true b h = cc
-or_false false b h = (refl, h)
-
 and_left : (a b : Bool) → a ≡ true → (a && b) ≡ false → b ≡ false
 and_left true b e h = h
 and_left false b e h = cc
@@ -38,21 +35,21 @@ nothing_passed : (fresh : Bool) (b : ℕ) (bs : List ℕ) → blank b ≡ false 
 nothing_passed fresh b bs h l c s rest (inl p) e =
     let row : b ∷ bs ≡ p.byte ∷ rest = e ∙ ap (λ z. z ++ rest) p.cut in
     let same : b ≡ p.byte = cc in
-    true_false (sym (subst (λ z. blank z ≡ true) (sym same) p.blank) ∙ h)
+    true≢false (sym (subst (λ z. blank z ≡ true) (sym same) p.blank) ∙ h)
 nothing_passed fresh b bs h l c s rest (inr (inl p)) e =
-    let r = or_false (starts_with nat_eq (b ∷ bs) (codes "//")) (fresh && starts_with nat_eq (b ∷ bs) (codes "#include")) l in
+    let r = or_parts (starts_with nat_eq (b ∷ bs) (codes "//")) (fresh && starts_with nat_eq (b ∷ bs) (codes "#include")) l in
     starts_not (codes "//") (b ∷ bs) (p.body ++ rest) r.0 (e ∙ ap (λ z. z ++ rest) p.cut ∙ append_assoc (codes "//") p.body rest)
 nothing_passed fresh b bs h l c s rest (inr (inr (inl p))) e =
     starts_not (codes "/*") (b ∷ bs) ((p.body ++ codes "*/") ++ rest) c (e ∙ ap (λ z. z ++ rest) p.cut ∙ append_assoc (codes "/*") (p.body ++ codes "*/") rest)
 nothing_passed fresh b bs h l c s rest (inr (inr (inr p))) e =
-    let r = or_false (starts_with nat_eq (b ∷ bs) (codes "//")) (fresh && starts_with nat_eq (b ∷ bs) (codes "#include")) l in
+    let r = or_parts (starts_with nat_eq (b ∷ bs) (codes "//")) (fresh && starts_with nat_eq (b ∷ bs) (codes "#include")) l in
     let q = and_left fresh (starts_with nat_eq (b ∷ bs) (codes "#include")) p.alone r.1 in
     starts_not (codes "#include") (b ∷ bs) (p.body ++ rest) q (e ∙ ap (λ z. z ++ rest) p.cut ∙ append_assoc (codes "#include") p.body rest)
 
 pub front_other : (fresh : Bool) (bs : List ℕ) → 0 < length bs → blank (slice_index bs 0) ≡ false → letter (slice_index bs 0) ≡ false → digit (slice_index bs 0) ≡ false → nat_eq (slice_index bs 0) 34 ≡ false → passes_line fresh bs ≡ false → starts_with nat_eq bs (codes "/*") ≡ false → IsFront fresh bs (front_sign bs)
 front_other fresh [] o h i d q l c = absurd (omega arith)
 front_other fresh (b ∷ bs) o h i d q l c =
-    let r = or_false (starts_with nat_eq (b ∷ bs) (codes "//")) (fresh && starts_with nat_eq (b ∷ bs) (codes "#include")) l in
+    let r = or_parts (starts_with nat_eq (b ∷ bs) (codes "//")) (fresh && starts_with nat_eq (b ∷ bs) (codes "#include")) l in
     let begins : BeginsSign b = record { no_blank = h; no_letter = i; no_digit = d; no_quote = q } in
     sign_front fresh b bs begins (λ rest e. starts_not (codes "//") (b ∷ bs) rest r.0 e, λ rest e. starts_not (codes "/*") (b ∷ bs) rest c e) (nothing_passed fresh b bs h l c)
 

@@ -3,12 +3,12 @@ use Rattle.std.proofs.Common.{◌≡◌, ◌≢◌, ℕ, suc, ◌+◌, Bool, tru
 use Rattle.std.specs.List.{list_all, prefix_len, starts_with}
 use Rattle.std.proofs.Math.Numerals.{one-add}
 use Rattle.std.proofs.lemmas.Slice.Eq.{bytes_eq-Decides}
-use Rattle.std.proofs.lemmas.Bool.{eqb-true}
+use Rattle.std.proofs.lemmas.Bool.{eqb-true, and_parts, true≢false}
 use Rattle.c_lex.specs.declared.front.Front.TheVariants.{Passed, OpenComment}
 use Rattle.c_lex.specs.Lexed.{EndsLine, HasNoClose}
 use Rattle.c_lex.specs.Front.{in_line, further, closes, close_len, passes_line, IsFront}
-use Rattle.c_lex.proofs.Runs.{and_true, all_of_prefix}
-use Rattle.c_lex.proofs.Forms.{true_false, take_front}
+use Rattle.c_lex.proofs.Runs.{all_of_prefix}
+use Rattle.std.proofs.Math.Seq.{take-append_seam}
 
 -- a list that begins with another is that and what is left
 pub starts : (p bs : List ℕ) → starts_with nat_eq bs p ≡ true → bs ≡ p ++ drop (length p) bs
@@ -17,18 +17,18 @@ starts p bs h =
 
 pub starts_not : (p bs rest : List ℕ) → starts_with nat_eq bs p ≡ false → bs ≢ p ++ rest
 starts_not p bs rest h e =
-    true_false (sym ((bytes_eq-Decides p (take (length p) bs)).1 (sym (ap (take (length p)) e ∙ take_front p rest))) ∙ h)
+    true≢false (sym ((bytes_eq-Decides p (take (length p) bs)).1 (sym (ap (take (length p)) e ∙ take-append_seam p rest))) ∙ h)
 
 -- what goes up to the end of the line
 no_line_feed : (s a b : List ℕ) → list_all in_line s ≡ true → s ≢ a ++ 10 ∷ b
 no_line_feed [] [] b h e = cc
 no_line_feed [] (x ∷ a) b h e = cc
 no_line_feed (y ∷ s) [] b h e =
-    let r = and_true (in_line y) (list_all in_line s) h in
+    let r = and_parts (in_line y) (list_all in_line s) h in
     let same : y ≡ 10 = cc in
     let line : in_line 10 ≡ true = subst (λ z. in_line z ≡ true) same r.0 in cc
 no_line_feed (y ∷ s) (x ∷ a) b h e =
-    let r = and_true (in_line y) (list_all in_line s) h in no_line_feed s a b r.1 (let q : s ≡ a ++ 10 ∷ b = cc in q)
+    let r = and_parts (in_line y) (list_all in_line s) h in no_line_feed s a b r.1 (let q : s ≡ a ++ 10 ∷ b = cc in q)
 
 line_feed : (b : ℕ) → in_line b ≡ false → b ≡ 10
 line_feed b h = by_test (nat_eq b 10) refl h
@@ -54,7 +54,7 @@ line_ends bs = record {
 line_cut : (p more : List ℕ) → list_all in_line p ≡ true → take (prefix_len in_line (p ++ more)) (p ++ more) ≡ p ++ take (prefix_len in_line more) more
 line_cut [] more h = refl
 line_cut (x ∷ p) more h =
-    let r = and_true (in_line x) (list_all in_line p) h in
+    let r = and_parts (in_line x) (list_all in_line p) h in
     rw (r.0, one-add (prefix_len in_line (p ++ more))) (ap (λ z. x ∷ z) (line_cut p more r.1))
 
 line_is : (p bs : List ℕ) → list_all in_line p ≡ true → starts_with nat_eq bs p ≡ true → (body : List ℕ) × (take (prefix_len in_line bs) bs ≡ p ++ body)
@@ -99,7 +99,7 @@ closes_is : (bs : List ℕ) → closes bs ≡ true → (more : List ℕ) × (bs 
 closes_is [] h = cc
 closes_is (b ∷ []) h = cc
 closes_is (b ∷ c ∷ bs) h =
-    let r = and_true (nat_eq b 42) (nat_eq c 47) h in
+    let r = and_parts (nat_eq b 42) (nat_eq c 47) h in
     (bs, rw (eqb-true b 42 r.0, eqb-true c 47 r.1) refl)
 
 -- the first `*/` ends what stands before it

@@ -5,7 +5,7 @@ use Rattle.std.specs.Str.{bytes_eq}
 use Rattle.std.proofs.Math.Numerals.{one-add}
 use Rattle.std.proofs.lemmas.List.{length-take}
 use Rattle.std.proofs.lemmas.Slice.Eq.{bytes_eq-Decides}
-use Rattle.std.proofs.lemmas.Bool.{eqb-true, eq-eqb, ltb-false, ltb-true}
+use Rattle.std.proofs.lemmas.Bool.{eqb-true, eq-eqb, ltb-false, ltb-true, true≢false}
 use Rattle.std.proofs.lemmas.List.Sums.{prefix_len-le-length}
 use Rattle.std.proofs.lemmas.Bool.Decides.{nat_tests}
 use Rattle.c_lex.specs.declared.tokens.Kind.{Kind}
@@ -18,9 +18,10 @@ use Rattle.c_lex.specs.Spelling.{sign_spelling, word_spelling, letter, digit, pa
 use Rattle.c_lex.specs.Lexed.{NoLonger, BeginsNoComment, IsLongest, IsPassed}
 use Rattle.c_lex.specs.Front.{IsFront, word_or, front_word, sign_or, front_sign, figure_size, front_figure}
 use Rattle.c_lex.proofs.Runs.{all_of_prefix, prefix_at_least}
-use Rattle.c_lex.proofs.Fits.{find_true, sign_prefix, figure_some}
+use Rattle.c_lex.proofs.Fits.{sign_prefix, figure_some}
 use Rattle.c_lex.proofs.Units.{units_one}
-use Rattle.c_lex.proofs.Forms.{true_false, no_word, sign_found, BeginsSign, Begins, begins, not_empty, name_begins, figure_begins, text_begins, sign_begins_as}
+use Rattle.c_lex.proofs.Forms.{no_word, sign_found, BeginsSign, Begins, begins, not_empty, name_begins, figure_begins, text_begins, sign_begins_as}
+use Rattle.lemmas.proofs.Lists.{find_passes}
 
 pub taken : (n : ℕ) (bs : List ℕ) → n ≤ length bs → length (take n bs) ≡ n
 taken n bs h = simp length-take (omega arith)
@@ -37,7 +38,7 @@ longest_at bs k l w f n c =
 
 no_slash : (b : ℕ) (bs : List ℕ) → nat_eq b 47 ≡ false → BeginsNoComment (b ∷ bs)
 no_slash b bs h =
-    (λ rest e. true_false (sym (eq-eqb b 47 (let same : b ≡ 47 = cc in same)) ∙ h), λ rest e. true_false (sym (eq-eqb b 47 (let same : b ≡ 47 = cc in same)) ∙ h))
+    (λ rest e. true≢false (sym (eq-eqb b 47 (let same : b ≡ 47 = cc in same)) ∙ h), λ rest e. true≢false (sym (eq-eqb b 47 (let same : b ≡ 47 = cc in same)) ∙ h))
 
 letter_slash : (b : ℕ) → letter b ≡ true → nat_eq b 47 ≡ false
 letter_slash b h = grind (arith, nat_tests)
@@ -154,7 +155,7 @@ word_front fresh b bs h = by_word (find (λ w. bytes_eq s (word_spelling w)) WOR
 
     by_word : (f : Option Word) → find (λ w. bytes_eq s (word_spelling w)) WORDS ≡ f → IsFront fresh (b ∷ bs) (word_or f s)
     by_word (Some v) e =
-        let is : s ≡ word_spelling v = (bytes_eq-Decides s (word_spelling v)).0 (find_true (λ w. bytes_eq s (word_spelling w)) WORDS v e) in
+        let is : s ≡ word_spelling v = (bytes_eq-Decides s (word_spelling v)).0 (find_passes (λ w. bytes_eq s (word_spelling w)) WORDS v e) in
         subst (λ z. IsFront fresh (b ∷ bs) (Token (kind.Word v) z)) (sym (taken n (b ∷ bs) fits)) (at (kind.Word v) is, tt)
     by_word None e =
         subst (λ z. IsFront fresh (b ∷ bs) (Token (kind.Name s) z)) (sym (taken n (b ∷ bs) fits)) (at (kind.Name s) (refl, name_shape b bs h, no_word s e), tt)
@@ -169,7 +170,7 @@ figure_shape b bs d = by_zero (nat_eq b 48) refl
     by_zero : (t : Bool) → nat_eq b 48 ≡ t → IsFigure (take (cond t 1 (prefix_len digit (b ∷ bs))) (b ∷ bs))
     by_zero true e = d
     by_zero false e =
-        let other : b ≢ 48 = λ q. true_false (sym (eq-eqb b 48 q) ∙ e) in
+        let other : b ≢ 48 = λ q. true≢false (sym (eq-eqb b 48 q) ∙ e) in
         rw (d, one-add (prefix_len digit bs)) (by_rest (take (prefix_len digit bs) bs) other (all_of_prefix digit bs))
 
 -- a number
@@ -207,7 +208,7 @@ sign_front fresh b bs h c p = by_sign (find_sign (b ∷ bs)) refl
   where
     by_sign : (f : Option Sign) → find_sign (b ∷ bs) ≡ f → IsFront fresh (b ∷ bs) (sign_or f)
     by_sign (Some t) e =
-        let is = sign_prefix (b ∷ bs) t (find_true (λ s. starts_with nat_eq (b ∷ bs) (sign_spelling s)) SIGNS t e) in
+        let is = sign_prefix (b ∷ bs) t (find_passes (λ s. starts_with nat_eq (b ∷ bs) (sign_spelling s)) SIGNS t e) in
         let size : length (take (length (sign_spelling t)) (b ∷ bs)) ≡ length (sign_spelling t) = ap length is in
         let fits : length (sign_spelling t) ≤ length (b ∷ bs) = omega (arith, size, length-take (length (sign_spelling t)) (b ∷ bs)) in
         (longest_at (b ∷ bs) (kind.Sign t) (length (sign_spelling t)) fits is (sign_longest b bs h t e) c, tt)
@@ -219,6 +220,6 @@ sign_front fresh b bs h c p = by_sign (find_sign (b ∷ bs)) refl
             no_token = sign_none b bs h e;
             no_passed = p;
             no_comment = c;
-            no_text = λ rest q. true_false (sym (eq-eqb b 34 (let same : b ≡ 34 = cc in same)) ∙ h.no_quote);
+            no_text = λ rest q. true≢false (sym (eq-eqb b 34 (let same : b ≡ 34 = cc in same)) ∙ h.no_quote);
           },
         )

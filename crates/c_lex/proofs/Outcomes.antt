@@ -2,8 +2,9 @@
 use Rattle.std.proofs.Common.{◌≡◌, ℕ, Bool, true, false, List, [], ◌∷◌, ◌++◌, refl, sym, ap, subst, ◌∙◌, ◌⊎◌, inl, inr}
 use Rattle.c_lex.specs.Spelling.{all_escaped}
 use Rattle.c_lex.specs.Lexed.{IsApart, BeginsWithPart, Stop, AtEnd, AtBadByte, AtOpenComment, AtOpenText, AtNumberTooLarge, Stops, Part, bytes_of, is_fresh_behind, is_number_part, AreParts, Outcome, outcome_of, Lexes}
-use Rattle.c_lex.proofs.Forms.{true_false}
 use Rattle.c_lex.proofs.OneStep.{Goes, Ends, IsStep, one_step}
+use Rattle.std.proofs.lemmas.Bool.{true≢false}
+use Rattle.std.proofs.lemmas.List.{append_cancel_left}
 
 -- where tokens end at what may not stand behind a number
 pub record Clashes (number : Bool) (bs : List ℕ) (stop : Stop) : Type 0 where
@@ -13,7 +14,7 @@ pub record Clashes (number : Bool) (bs : List ℕ) (stop : Stop) : Type 0 where
 
 apart_not : (bs : List ℕ) → IsApart bs → BeginsWithPart bs → ⊥
 apart_not [] a b = b
-apart_not (c ∷ bs) a b = true_false (sym b ∙ a)
+apart_not (c ∷ bs) a b = true≢false (sym b ∙ a)
 
 quote_apart : (bs rest : List ℕ) → bs ≡ 34 ∷ rest → IsApart bs
 quote_apart bs rest e = subst IsApart (sym e) refl
@@ -61,10 +62,6 @@ part_stop fresh number bs x y a s b = by_side (stop_is fresh number bs y b)
     by_side (inl d) = clash_apart number bs y d a
     by_side (inr d) = step_apart x y (one_step fresh bs (Goes x) (Ends y) s d.1)
 
-cancel : (a b c : List ℕ) → a ++ b ≡ a ++ c → b ≡ c
-cancel [] b c h = h
-cancel (x ∷ a) b c h = cancel a b c (let e : a ++ b ≡ a ++ c = cc in e)
-
 -- the parts of the bytes, and where they end, are the same
 parts_one : (xs ys : List Part) (x y : Stop) (fresh number : Bool) (bs : List ℕ) → AreParts x fresh number bs xs → AreParts y fresh number bs ys → (xs ≡ ys) × (x ≡ y)
 parts_one [] [] x y fresh number bs a b = (refl, stops_one fresh number bs x y a b)
@@ -74,7 +71,7 @@ parts_one (p ∷ xs) [] x y fresh number bs a b =
     absurd (part_stop fresh number bs p y a.0 (a.1.0, a.1.1, a.1.2) b)
 parts_one (p ∷ xs) (q ∷ ys) x y fresh number bs a b =
     let same = step_part p q (one_step fresh bs (Goes p) (Goes q) (a.1.0, a.1.1, a.1.2) (b.1.0, b.1.1, b.1.2)) in
-    let rest : a.1.0 ≡ b.1.0 = cancel (bytes_of q) a.1.0 b.1.0 (ap (λ z. bytes_of z ++ a.1.0) (sym same) ∙ sym a.1.1 ∙ b.1.1) in
+    let rest : a.1.0 ≡ b.1.0 = append_cancel_left (bytes_of q) a.1.0 b.1.0 (ap (λ z. bytes_of z ++ a.1.0) (sym same) ∙ sym a.1.1 ∙ b.1.1) in
     let more = subst (λ z. AreParts x (is_fresh_behind fresh z) (is_number_part z) a.1.0 xs) same a.1.3 in
     let r = parts_one xs ys x y (is_fresh_behind fresh q) (is_number_part q) b.1.0 (subst (λ z. AreParts x (is_fresh_behind fresh q) (is_number_part q) z xs) rest more) b.1.3 in
     (ap (λ z. z ∷ xs) same ∙ ap (λ z. q ∷ z) r.0, r.1)

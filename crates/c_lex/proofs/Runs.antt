@@ -4,10 +4,7 @@ use Rattle.std.specs.List.{list_all, prefix_len}
 use Rattle.std.proofs.Math.Numerals.{one-add}
 use Rattle.c_lex.specs.Spelling.{digit}
 use Rattle.c_lex.specs.Front.{figure_size}
-
-pub and_true : (a b : Bool) → (a && b) ≡ true → (a ≡ true) × (b ≡ true)
-and_true true b h = (refl, h)
-and_true false b h = cc
+use Rattle.std.proofs.lemmas.Bool.{and_parts}
 
 pub all_of_prefix : {X : Type 0} (p : X → Bool) (xs : List X) → list_all p (take (prefix_len p xs) xs) ≡ true
 all_of_prefix p [] = refl
@@ -20,7 +17,7 @@ all_of_prefix p (x ∷ xs) = by_test (p x) refl (all_of_prefix p xs)
 pub prefix_at_least : {X : Type 0} (p : X → Bool) (s rest : List X) → list_all p s ≡ true → length s ≤ prefix_len p (s ++ rest)
 prefix_at_least p [] rest h = zero-le
 prefix_at_least p (x ∷ xs) rest h =
-    let r = and_true (p x) (list_all p xs) h in
+    let r = and_parts (p x) (list_all p xs) h in
     rw r.0 (omega (arith, prefix_at_least p xs rest r.1))
 
 pub figure_digits : (bs : List ℕ) → 0 < length bs → digit (slice_index bs 0) ≡ true → list_all digit (take (figure_size bs) bs) ≡ true

@@ -2,7 +2,7 @@
 use Rattle.std.proofs.Common.{◌≡◌, ◌≢◌, ℕ, zero, suc, ◌+◌, ◌≤◌, ◌<◌, Bool, true, false, List, [], ◌∷◌, ◌++◌, length, take, drop, get_or, slice_index, Option, Some, None, find, refl, sym, ap, subst, ◌∙◌, arith, nat_eq, ◌⊎◌, inl, inr, codes, drop-cons, length-drop, cond}
 use Rattle.std.specs.List.{list_all, prefix_len, starts_with}
 use Rattle.std.specs.Str.{bytes_eq}
-use Rattle.std.proofs.lemmas.Bool.{cases_lt, eqb-true}
+use Rattle.std.proofs.lemmas.Bool.{cases_lt, eqb-true, true≢false}
 use Rattle.std.proofs.lemmas.List.{length-take, drop_all}
 use Rattle.std.proofs.lemmas.List.Sums.{prefix_len-le-length}
 use Rattle.c_lex.specs.declared.tokens.Word.{Word}
@@ -13,7 +13,6 @@ use Rattle.c_lex.specs.declared.front.Front.TheVariants.{Passed, Token, BadByte,
 use Rattle.c_lex.specs.Spelling.{blank, letter, digit, part, textual, all_escaped, word_spelling, text_spelling}
 use Rattle.c_lex.specs.Lexed.{IsPassed, is_closed}
 use Rattle.c_lex.specs.Front.{LiesIn, IsText, IsFront, in_line, passes_line, closes, close_len, further, plain, escape_of, unit_of, word_or, front_word, front_sign, front_figure}
-use Rattle.c_lex.proofs.Forms.{true_false}
 use Rattle.c_lex.proofs.Fits.{figure_fits, sign_fits}
 use Rattle.c_lex.proofs.Units.{unit_is, list_all-push}
 use Rattle.c_lex.proofs.Lines.{starts, line_front, block_front, open_front}
@@ -119,7 +118,7 @@ text_stop bs t n s lt none = by_quote (nat_eq (get_or bs n 0) 34) refl
 
     by_quote : (b : Bool) → nat_eq (get_or bs n 0) 34 ≡ b → TextFront bs
     by_quote true is = (Token (kind.Text t) (n + 1), (spelled (eqb-true (get_or bs n 0) 34 is), s.held), (omega arith, omega (arith, lt)))
-    by_quote false is = by_closed (λ e. true_false (sym (ap (λ z. nat_eq z 34) e) ∙ is)) (is_closed (drop n bs)) refl
+    by_quote false is = by_closed (λ e. true≢false (sym (ap (λ z. nat_eq z 34) e) ∙ is)) (is_closed (drop n bs)) refl
 
 text_turn : (bs t : List ℕ) (n : ℕ) → SoFar bs t n → n < length bs → ((u : List ℕ) (m : ℕ) → n < m → SoFar bs u m → TextFront bs) → TextFront bs
 text_turn bs t n s lt on = by_unit (unit_of (drop n bs)) refl

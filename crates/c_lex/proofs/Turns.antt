@@ -12,9 +12,10 @@ use Rattle.c_lex.specs.Spelling.{part}
 use Rattle.c_lex.specs.Lexed.{after_byte, advance, start, fresh_after, IsApart, is_number, Stop, AtEnd, AtBadByte, AtOpenComment, AtOpenText, AtNumberTooLarge, Stops, Part, Passed, Spelled, bytes_of, is_fresh_behind, is_number_part, IsPartBefore, AreParts, tokens_of, all_bytes, Outcome, outcome_of, Lexes}
 use Rattle.c_lex.specs.Front.{IsFront}
 use Rattle.c_lex.specs.Answered.{Answers}
-use Rattle.c_lex.proofs.Forms.{true_false}
 use Rattle.c_lex.proofs.Longest.{taken}
 use Rattle.c_lex.proofs.Outcomes.{one_outcome}
+use Rattle.std.proofs.lemmas.Bool.{and_parts, true≢false}
+use Rattle.std.proofs.lemmas.List.{append-nil}
 
 -- n bytes of the source have been cut into parts
 pub record State (bs : List ℕ) (fresh number : Bool) (n : ℕ) (p : Pos) (ts : List Lexeme) : Type 0 where
@@ -31,12 +32,8 @@ advance-append : (p : Pos) (a b : List ℕ) → advance p (a ++ b) ≡ advance (
 advance-append p [] b = refl
 advance-append p (x ∷ xs) b = advance-append (after_byte p x) xs b
 
-pub nil_right : {X : Type 0} (xs : List X) → xs ++ [] ≡ xs
-nil_right [] = refl
-nil_right (x ∷ xs) = ap (λ z. x ∷ z) (nil_right xs)
-
 all_bytes-push : (xs : List Part) (x : Part) → all_bytes (xs ++ x ∷ []) ≡ all_bytes xs ++ bytes_of x
-all_bytes-push [] x = nil_right (bytes_of x)
+all_bytes-push [] x = append-nil (bytes_of x)
 all_bytes-push (y ∷ xs) x =
     ap (λ z. bytes_of y ++ z) (all_bytes-push xs x) ∙ sym (append_assoc (bytes_of y) (all_bytes xs) (bytes_of x))
 
@@ -98,22 +95,18 @@ pub stops_here : (bs : List ℕ) (fresh number : Bool) (n : ℕ) (p : Pos) (ts :
 stops_here bs fresh number n p ts stop h s = record {
   parts = s.parts;
   stop = stop;
-  are = subst (AreParts stop true false bs) (nil_right s.parts) (s.goes stop [] h);
+  are = subst (AreParts stop true false bs) (append-nil s.parts) (s.goes stop [] h);
   gives = outcome_is s.parts p ts stop s.place s.tokens;
 }
 
-and_true : (a b : Bool) → (a && b) ≡ true → (a ≡ true) × (b ≡ true)
-and_true true b h = (refl, h)
-and_true false b h = cc
-
 pub clash_stops : (fresh number : Bool) (bs : List ℕ) → 0 < length bs → (number && part (slice_index bs 0)) ≡ true → Stops fresh number bs (AtBadByte [])
 clash_stops fresh number [] o h = absurd (omega arith)
-clash_stops fresh number (b ∷ bs) o h = let r = and_true number (part b) h in inl (r.0, refl, r.1)
+clash_stops fresh number (b ∷ bs) o h = let r = and_parts number (part b) h in inl (r.0, refl, r.1)
 
 pub apart : (number : Bool) (bs : List ℕ) → (number && part (slice_index bs 0)) ≡ false → number ≡ true → IsApart bs
 apart number [] h e = tt
 apart true (b ∷ bs) h e = h
-apart false (b ∷ bs) h e = absurd (true_false (sym e))
+apart false (b ∷ bs) h e = absurd (true≢false (sym e))
 
 none_taken : (l : ℕ) (bs : List ℕ) → l ≡ 0 → take l bs ≡ []
 none_taken l bs h = rw h refl
@@ -132,7 +125,7 @@ only_answer bs (Err refusal.OutOfMemory) o h a = tt
 
 pub passed_more : (bs : List ℕ) (fresh number : Bool) (n : ℕ) (p : Pos) (ts : List Lexeme) (l : ℕ) → l ≤ length (drop n bs) → (number ≡ true → IsApart (drop n bs)) → IsFront fresh (drop n bs) (front.Passed l) → State bs fresh number n p ts → State bs (fresh_after fresh (take l (drop n bs))) false (n + l) (advance p (take l (drop n bs))) ts
 passed_more bs fresh number n p ts l w a f s =
-    subst (State bs (fresh_after fresh (take l (drop n bs))) false (n + l) (advance p (take l (drop n bs)))) (nil_right ts) (part_more bs fresh number n p ts l (Passed (take l (drop n bs))) w refl a f s)
+    subst (State bs (fresh_after fresh (take l (drop n bs))) false (n + l) (advance p (take l (drop n bs)))) (append-nil ts) (part_more bs fresh number n p ts l (Passed (take l (drop n bs))) w refl a f s)
 
 pub token_more : (bs : List ℕ) (fresh number : Bool) (n : ℕ) (p : Pos) (ts : List Lexeme) (k : Kind) (l : ℕ) → l ≤ length (drop n bs) → (number ≡ true → IsApart (drop n bs)) → IsFront fresh (drop n bs) (front.Token k l) → State bs fresh number n p ts → State bs false (is_number k) (n + l) (advance p (take l (drop n bs))) (ts ++ record { kind = k; from = n; to = n + l; at = p } ∷ [])
 token_more bs fresh number n p ts k l w a f s =

@@ -1,12 +1,12 @@
 -- The bytes of texts.
 use Rattle.std.proofs.Common.{◌≡◌, ◌≢◌, ℕ, ◌≤◌, Bool, true, false, ◌&&◌, ◌||◌, cond, List, [], ◌∷◌, ◌++◌, length, take, drop, Option, Some, None, refl, sym, ap, subst, ◌∙◌, arith, nat_eq, nat_le, not, append_assoc, take-append-drop}
 use Rattle.std.specs.List.{list_all}
-use Rattle.std.proofs.lemmas.Bool.{eqb-true}
+use Rattle.std.proofs.lemmas.Bool.{eqb-true, and_parts}
 use Rattle.std.proofs.lemmas.Bool.Decides.{nat_tests}
 use Rattle.c_lex.specs.Spelling.{textual, escaped, all_escaped}
 use Rattle.c_lex.specs.Lexed.{is_closed}
 use Rattle.c_lex.specs.Front.{plain, escape_of, unit_of}
-use Rattle.c_lex.proofs.Runs.{and_true}
+use Rattle.std.proofs.lemmas.List.{append_cancel_left}
 
 -- a byte is spelled by one of the four escapes, or by itself
 pub escaped_cases : (P : ℕ → List ℕ → Type 0) → P 10 (92 ∷ 110 ∷ []) → P 9 (92 ∷ 116 ∷ []) → P 92 (92 ∷ 92 ∷ []) → P 34 (92 ∷ 34 ∷ []) → ((c : ℕ) → nat_eq c 10 ≡ false → nat_eq c 9 ≡ false → nat_eq c 92 ≡ false → nat_eq c 34 ≡ false → P c (c ∷ [])) → (c : ℕ) → P c (escaped c)
@@ -120,11 +120,7 @@ all_escaped-push t c = all_escaped-append t (c ∷ []) ∙ ap (λ z. all_escaped
 
 pub list_all-push : (p : ℕ → Bool) (t : List ℕ) (c : ℕ) → list_all p t ≡ true → p c ≡ true → list_all p (t ++ c ∷ []) ≡ true
 list_all-push p [] c h g = rw g refl
-list_all-push p (x ∷ t) c h g = let r = and_true (p x) (list_all p t) h in rw r.0 (list_all-push p t c r.1 g)
-
-pub append_cancel : (a b c : List ℕ) → a ++ b ≡ a ++ c → b ≡ c
-append_cancel [] b c h = h
-append_cancel (x ∷ a) b c h = append_cancel a b c (let e : a ++ b ≡ a ++ c = cc in e)
+list_all-push p (x ∷ t) c h g = let r = and_parts (p x) (list_all p t) h in rw r.0 (list_all-push p t c r.1 g)
 
 some_pair : (a b c d : ℕ) → ◌≡◌ {A = Option (ℕ × ℕ)} (Some (a, b)) (Some (c, d)) → a ≡ c
 some_pair a b c d h = let e : ◌≡◌ {A = ℕ × ℕ} (a, b) (c, d) = cc in ap (λ p. p.0) e
@@ -133,18 +129,18 @@ some_pair a b c d h = let e : ◌≡◌ {A = ℕ × ℕ} (a, b) (c, d) = cc in a
 pub units_one : (t u r q : List ℕ) → list_all textual t ≡ true → list_all textual u ≡ true → unit_of r ≡ None → unit_of q ≡ None → all_escaped t ++ r ≡ all_escaped u ++ q → (t ≡ u) × (r ≡ q)
 units_one [] [] r q a b n m h = (refl, h)
 units_one [] (d ∷ u) r q a b n m h =
-    let g = and_true (textual d) (list_all textual u) b in
+    let g = and_parts (textual d) (list_all textual u) b in
     absurd (no_unit r n d (all_escaped u ++ q) g.0 (h ∙ append_assoc (escaped d) (all_escaped u) q))
 units_one (c ∷ t) [] r q a b n m h =
-    let g = and_true (textual c) (list_all textual t) a in
+    let g = and_parts (textual c) (list_all textual t) a in
     absurd (no_unit q m c (all_escaped t ++ r) g.0 (sym h ∙ append_assoc (escaped c) (all_escaped t) r))
 units_one (c ∷ t) (d ∷ u) r q a b n m h =
-    let f = and_true (textual c) (list_all textual t) a in
-    let g = and_true (textual d) (list_all textual u) b in
+    let f = and_parts (textual c) (list_all textual t) a in
+    let g = and_parts (textual d) (list_all textual u) b in
     let left : escaped c ++ (all_escaped t ++ r) ≡ escaped d ++ (all_escaped u ++ q) = sym (append_assoc (escaped c) (all_escaped t) r) ∙ h ∙ append_assoc (escaped d) (all_escaped u) q in
     let units = sym (unit_escaped c (all_escaped t ++ r) f.0) ∙ ap unit_of left ∙ unit_escaped d (all_escaped u ++ q) g.0 in
     let same = some_pair c (length (escaped c)) d (length (escaped d)) units in
-    let more = units_one t u r q f.1 g.1 n m (append_cancel (escaped d) (all_escaped t ++ r) (all_escaped u ++ q) (subst (λ z. escaped z ++ (all_escaped t ++ r) ≡ escaped d ++ (all_escaped u ++ q)) same left)) in
+    let more = units_one t u r q f.1 g.1 n m (append_cancel_left (escaped d) (all_escaped t ++ r) (all_escaped u ++ q) (subst (λ z. escaped z ++ (all_escaped t ++ r) ≡ escaped d ++ (all_escaped u ++ q)) same left)) in
     (ap (λ z. z ∷ t) same ∙ ap (λ z. d ∷ z) more.0, more.1)
 
 -- whether a text is closed shows behind its bytes

@@ -31,11 +31,12 @@ use Rattle.c_reader.proofs.Lists.{AllValid, joined, until_complete, until_sound,
 use Rattle.c_reader.proofs.Marks.{made_complete}
 use Rattle.c_reader.proofs.CallRows.{call_lead, call_complete, call_sound, call_far}
 use Rattle.c_reader.proofs.StmtHeads.{NoElse}
-use Rattle.c_reader.proofs.StmtHeads.{true_false, Condition, condition_complete, condition_sound, condition_far}
+use Rattle.c_reader.proofs.StmtHeads.{Condition, condition_complete, condition_sound, condition_far}
 use Rattle.c_reader.proofs.Assigned.{assignment_complete, assignment_sound, assignment_far}
 use Rattle.c_reader.proofs.Declared.{tail_of, declaration_complete, declaration_sound, declaration_far}
 use Rattle.c_reader.proofs.HostHeads.{header_complete, header_sound, header_far}
 use Rattle.c_reader.proofs.HostLists.{list_of, trees_list, hosts_joined, joined_hosts, valid_list, list_valid, host_lead, host_begins, call_some, host_deep}
+use Rattle.std.proofs.lemmas.Bool.{true≢false}
 
 -- an `else` does not stand behind what it would belong to
 abbrev pub Needs : List Kind → HostTree → ℕ → Type 0
@@ -181,7 +182,7 @@ module _ (ks : List Kind) (f k d : ℕ) (room : suc k + d ≡ 65) (before : k �
       let r = spans_split ks n (condition k at c) tail e s in
       let q = spans_split ks r.0 (host (suc k) t) (word_mark k wd.Else ∷ host (suc k) u) e r.2 in
       let one = condition_complete ks f k d room before at c n r.0 o.0 r.1 in
-      let two = body_complete t r.0 q.0 o.1 o.2 q.1 (λ z. absurd (true_false (sym z ∙ o.3))) in
+      let two = body_complete t r.0 q.0 o.1 o.2 q.1 (λ z. absurd (true≢false (sym z ∙ o.3))) in
       let three = body_complete u (suc q.0) e o.4 o.5 q.2.2 (λ z. h z) in
       if_both ks d rec n at r.0 q.0 e c t u (first_deep n (condition k at c)) (first_deep r.0 (host (suc k) t)) (first_deep (suc q.0) (host (suc k) u)) one two q.2.0 three s.1 ∙ ap (λ z. after z (Ok (HostIfElse at c t u, e))) (sym (deep_split ks n (condition k at c) tail r.0 r.1 ∙ ap (or_else (first_deep n (condition k at c))) (deep_between ks r.0 (host (suc k) t) (word_mark k wd.Else) (host (suc k) u) q.0 q.1 fits)))
   led_complete (HostFor c t) n e o s h =
@@ -194,7 +195,7 @@ module _ (ks : List Kind) (f k d : ℕ) (room : suc k + d ≡ 65) (before : k �
   FoundAt n y = Found ks IsHost (host k) (Needs ks) n y.0 y.1
 
   no_open : (n : ℕ) → false ≡ true → NoElse ks n
-  no_open n h = absurd (true_false (sym h))
+  no_open n h = absurd (true≢false (sym h))
 
   if_sound : (n : ℕ) (y : HostTree × ℕ) → if_at ks d rec n ≡ Ok y → FoundAt n y
   unfolding if_at
@@ -232,7 +233,7 @@ module _ (ks : List Kind) (f k d : ℕ) (room : suc k + d ≡ 65) (before : k �
           not_open s e g t = by_open (host_ends_open s) refl
             where
               by_open : (b : Bool) → host_ends_open s ≡ b → b ≡ false
-              by_open true i = absurd (true_false (sym t ∙ g i))
+              by_open true i = absurd (true≢false (sym t ∙ g i))
               by_open false i = refl
 
   pub led_sound : (l : HostLead) (n : ℕ) (y : HostTree × ℕ) → lead_in (slice_get ks n) ≡ l → host_led ks d rec l n ≡ Ok y → FoundAt n y

@@ -9,13 +9,10 @@ use Rattle.c_reader.specs.declared.faults.ReadError.{ReadError}
 use Rattle.c_reader.specs.declared.faults.ReadError.TheVariants as errors
 use Rattle.c_reader.specs.Descent.{◌>>=◌, Fails, sign_is, sign_at}
 use Rattle.c_reader.specs.Rows.{Reader, separated, behind_commas, until, with_front}
+use Rattle.std.proofs.lemmas.List.{append-nil}
 
 left_over : (c m : ℕ) → c < m → m - c ≡ suc (m - (c + 1))
 left_over c m h = omega arith
-
-nil_right : {A : Type 0} (xs : List A) → xs ++ [] ≡ xs
-nil_right [] = refl
-nil_right (x ∷ xs) = ap (λ z. x ∷ z) (nil_right xs)
 
 map-push : {X A : Type 0} (view : X → A) (xs : List X) (x : X) → map view (xs ++ x ∷ []) ≡ map view xs ++ view x ∷ []
 map-push view [] x = refl
@@ -60,7 +57,7 @@ module _ {X A : Type 0} (view : X → A) (closes : ℕ → Bool) (p : Reader A) 
   -- what closes the items
   pub until_ends : c < m → closes n ≡ true → all ≡ Ok (map view xs, n)
   until_ends h b =
-      so_far ∙ ap (λ z. with_front (map view xs) (until closes p z n)) (left_over c m h) ∙ ap (with_front (map view xs)) (until_end closes p (m - (c + 1)) n b) ∙ ap (λ z. Ok (z, n)) (nil_right (map view xs))
+      so_far ∙ ap (λ z. with_front (map view xs) (until closes p z n)) (left_over c m h) ∙ ap (with_front (map view xs)) (until_end closes p (m - (c + 1)) n b) ∙ ap (λ z. Ok (z, n)) (append-nil (map view xs))
 
   -- no tokens left
   pub until_over : m ≤ c → all ≡ Err (Syntax n)
@@ -96,7 +93,7 @@ module _ {X A : Type 0} (view : X → A) (ks : List Kind) (p : Reader A) (m c n 
 
   pub commas_ends : c < m → sign_is s.Comma (slice_get ks n) ≡ false → all ≡ Ok (map view xs, n)
   commas_ends h b =
-      so_far ∙ ap (λ z. with_front (map view xs) (behind_commas ks p z n)) (left_over c m h) ∙ ap (with_front (map view xs)) (commas_end ks p (m - (c + 1)) n b) ∙ ap (λ z. Ok (z, n)) (nil_right (map view xs))
+      so_far ∙ ap (λ z. with_front (map view xs) (behind_commas ks p z n)) (left_over c m h) ∙ ap (with_front (map view xs)) (commas_end ks p (m - (c + 1)) n b) ∙ ap (λ z. Ok (z, n)) (append-nil (map view xs))
 
   pub commas_over : m ≤ c → all ≡ Err (Syntax n)
   commas_over h =

@@ -28,9 +28,6 @@ use Rattle.c_reader.proofs.CallRows.{then_exact, needy_then}
 abbrev pub NoElse : List Kind → ℕ → Type 0
 NoElse ks n = word_is wd.Else (slice_get ks n) ≡ false
 
-pub true_false : true ≡ false → ⊥
-true_false h = cc
-
 -- the head of an `if`
 pub condition_exact : (ks : List Kind) (f k d : ℕ) → suc k + d ≡ 65 → k ≤ f + 1 → Exact ks f 4 (λ v. IsGrouped v.1.1.0) (λ v. condition k v.0 v.1.1.0) Free Free (condition_row ks d)
 condition_exact ks f k d room before =

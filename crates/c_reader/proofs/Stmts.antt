@@ -29,8 +29,9 @@ use Rattle.c_reader.proofs.Lists.{AllValid, joined, until_complete, until_sound,
 use Rattle.c_reader.proofs.Marks.{made_complete}
 use Rattle.c_reader.proofs.Declared.{tail_of, declaration_complete, declaration_sound, declaration_far}
 use Rattle.c_reader.proofs.Assigned.{assignment_complete, assignment_sound, assignment_far}
-use Rattle.c_reader.proofs.StmtHeads.{NoElse, true_false, condition_complete, Condition, condition_sound, condition_far, header_complete, header_sound, header_far}
+use Rattle.c_reader.proofs.StmtHeads.{NoElse, condition_complete, Condition, condition_sound, condition_far, header_complete, header_sound, header_far}
 use Rattle.c_reader.proofs.StmtLists.{list_of, trees_list, stmts_joined, joined_stmts, valid_list, list_valid, stmt_lead, stmt_begins, stmt_deep}
+use Rattle.std.proofs.lemmas.Bool.{true≢false}
 
 -- an `else` does not stand behind what it would belong to
 abbrev pub Needs : List Kind → StmtTree → ℕ → Type 0
@@ -78,7 +79,7 @@ module _ (ks : List Kind) (f k d : ℕ) (room : suc k + d ≡ 65) (before : k �
   int_lead : (s : StmtTree) (n e : ℕ) → IsStmt s → Spans ks n (stmt (suc k) s) e → word_is wd.Int (slice_get ks n) ≡ false → IsBody s
   int_lead (LocalDeclaration v) n e o s h =
       let s' : Spans ks n (word_if false (suc k) wd.Const ++ tail_of (suc k) v) e = subst (λ z. Spans ks n (word_if z (suc k) wd.Const ++ tail_of (suc k) v) e) o.0 s in
-      true_false (sym (word_here wd.Int (slice_get ks n) s'.0) ∙ h)
+      true≢false (sym (word_here wd.Int (slice_get ks n) s'.0) ∙ h)
   int_lead (Block at ss) n e o s h = tt
   int_lead (Empty at) n e o s h = tt
   int_lead (Assign a) n e o s h = tt
@@ -171,7 +172,7 @@ module _ (ks : List Kind) (f k d : ℕ) (room : suc k + d ≡ 65) (before : k �
       let r = spans_split ks n (condition k at c) tail e s in
       let q = spans_split ks r.0 (stmt (suc k) t) (word_mark k wd.Else ∷ stmt (suc k) u) e r.2 in
       let one = condition_complete ks f k d room before at c n r.0 o.0 r.1 in
-      let two = body_complete t r.0 q.0 o.1 o.2 q.1 (λ z. absurd (true_false (sym z ∙ o.3))) in
+      let two = body_complete t r.0 q.0 o.1 o.2 q.1 (λ z. absurd (true≢false (sym z ∙ o.3))) in
       let three = body_complete u (suc q.0) e o.4 o.5 q.2.2 (λ z. h z) in
       if_both ks d rec n at r.0 q.0 e c t u (first_deep n (condition k at c)) (first_deep r.0 (stmt (suc k) t)) (first_deep (suc q.0) (stmt (suc k) u)) one two q.2.0 three s.1 ∙ ap (λ z. after z (Ok (IfElse at c t u, e))) (sym (deep_split ks n (condition k at c) tail r.0 r.1 ∙ ap (or_else (first_deep n (condition k at c))) (deep_between ks r.0 (stmt (suc k) t) (word_mark k wd.Else) (stmt (suc k) u) q.0 q.1 fits)))
   led_complete (For c t) n e o s h =
@@ -182,7 +183,7 @@ module _ (ks : List Kind) (f k d : ℕ) (room : suc k + d ≡ 65) (before : k �
   FoundAt n y = Found ks IsStmt (stmt k) (Needs ks) n y.0 y.1
 
   no_open : (n : ℕ) → false ≡ true → NoElse ks n
-  no_open n h = absurd (true_false (sym h))
+  no_open n h = absurd (true≢false (sym h))
 
   if_sound : (n : ℕ) (y : StmtTree × ℕ) → if_at ks d rec n ≡ Ok y → FoundAt n y
   unfolding if_at
@@ -220,7 +221,7 @@ module _ (ks : List Kind) (f k d : ℕ) (room : suc k + d ≡ 65) (before : k �
           not_open s e g t = by_open (ends_open s) refl
             where
               by_open : (b : Bool) → ends_open s ≡ b → b ≡ false
-              by_open true i = absurd (true_false (sym t ∙ g i))
+              by_open true i = absurd (true≢false (sym t ∙ g i))
               by_open false i = refl
 
   pub led_sound : (l : StmtLead) (n : ℕ) (y : StmtTree × ℕ) → lead_in (slice_get ks n) ≡ l → stmt_led ks d rec l n ≡ Ok y → FoundAt n y

@@ -13,23 +13,12 @@ use Rattle.run_model.specs.Arguments.{no_arg}
 use Rattle.bound_plan.specs.Variables.{reduction_of, reduced_by}
 use Rattle.bound_plan.proofs.Globals.{named_once}
 use Rattle.chain_stores.specs.Cells.{Values}
-use Rattle.chain_stores.proofs.Writing.{cases_bool}
 use Rattle.chain_elements.specs.Globals.{is_on}
 use Rattle.chain_elements.specs.Merging.{Change, changed_by, changed_all}
 use Rattle.chain_elements.proofs.Lists.{any_taken, on_taken}
 use Rattle.chain_elements.proofs.Putting.{how_all}
-
-no_test : (a : Bool) (z v : ℤ) → cond (a && false) z v ≡ v
-no_test true z v = refl
-no_test false z v = refl
-
-or_no : (l : Bool) → (l || false) ≡ l
-or_no true = refl
-or_no false = refl
-
-or_yes : (l : Bool) → (l || true) ≡ true
-or_yes true = refl
-or_yes false = refl
+use Rattle.lemmas.proofs.Truth.{cases_bool, cond_never, or_true}
+use Rattle.std.proofs.Math.Bool.{or-false}
 
 pub some_or_none : (r : Option Reduction) → (r ≡ None) ⊎ ((o : Reduction) × (r ≡ Some o))
 some_or_none None = inl refl
@@ -38,7 +27,7 @@ some_or_none (Some o) = inr (o, refl)
 module _ (ch : Change) (plain : (z : ℤ) (m : ℕ) (c : Cell) → ch None z m c ≡ z) where
   -- nothing is changed
   pub unchanged : (r v : ℕ) (a : Access) (p : Values) → reduction_of a ≡ None → (m : ℕ) (c : Cell) → p m c ≡ changed_by ch r (Global v a) p m c
-  unchanged r v a p none m (Data c) = sym (no_test (nat_eq m r) (ch (reduction_of a) (p r (cell_in (Whole v) c.component)) r (cell_in (Whole v) c.component)) (p m (Data c)))
+  unchanged r v a p none m (Data c) = sym (cond_never (nat_eq m r) (ch (reduction_of a) (p r (cell_in (Whole v) c.component)) r (cell_in (Whole v) c.component)) (p m (Data c)))
   unchanged r v a p none m (Variable n) = ⊎_elim
       (λ (h : (nat_eq m r && nat_eq n.variable v) ≡ true).
       let q = and_parts (nat_eq m r) (nat_eq n.variable v) h in
@@ -53,7 +42,7 @@ module _ (ch : Change) (plain : (z : ℤ) (m : ℕ) (c : Cell) → ch None z m c
 
   pub changed_none : (r : ℕ) (all : List Arg) (p : Values) (m : ℕ) (c : Cell) → p m c ≡ changed_all ch r all [] p m c
   changed_none r all p m (Data c) = refl
-  changed_none r all p m (Variable n) = sym (no_test (nat_eq m r) (ch (reduced_by all n.variable) (p m (Variable n)) m (Variable n)) (p m (Variable n)))
+  changed_none r all p m (Variable n) = sym (cond_never (nat_eq m r) (ch (reduced_by all n.variable) (p m (Variable n)) m (Variable n)) (p m (Variable n)))
 
   module _ (r : ℕ) (all : List Arg) (p : Values) (i : ℕ) (apart : AllApart all) (lt : i < length all) (m : ℕ) where
     abbrev g : Values
@@ -79,7 +68,7 @@ module _ (ch : Change) (plain : (z : ℤ) (m : ℕ) (c : Cell) → ch None z m c
           absurd (omega (arith, same, w.1)))
           (λ (h : list_any (is_on n.variable) (take i all) ≡ false).
           ap (λ t. cond (nat_eq m r && t) (ch (reduced_by all n.variable) (p m (Variable n)) m (Variable n)) (p m (Variable n))) h
-          ∙ no_test (nat_eq m r) (ch (reduced_by all n.variable) (p m (Variable n)) m (Variable n)) (p m (Variable n)))
+          ∙ cond_never (nat_eq m r) (ch (reduced_by all n.variable) (p m (Variable n)) m (Variable n)) (p m (Variable n)))
           (cases_bool (list_any (is_on n.variable) (take i all)))
 
       -- changed once, or not at all
@@ -106,11 +95,11 @@ module _ (ch : Change) (plain : (z : ℤ) (m : ℕ) (c : Cell) → ch None z m c
           ∙ ap (λ t. ch t (g r (cell_in (Whole v) n.component)) r (cell_in (Whole v) n.component)) how
           ∙ ap₂ (λ x y. ch (reduced_by all n.variable) (g x y) x y) (sym em) cell
           ∙ once ev
-          ∙ sym (ap later (ap₂ (λ x y. x && y) q.0 (any_taken (is_on n.variable) all i (Global v a) lt is ∙ ap (λ t. list_any (is_on n.variable) (take i all) || t) q.1 ∙ or_yes (list_any (is_on n.variable) (take i all)))))
+          ∙ sym (ap later (ap₂ (λ x y. x && y) q.0 (any_taken (is_on n.variable) all i (Global v a) lt is ∙ ap (λ t. list_any (is_on n.variable) (take i all) || t) q.1 ∙ or_true (list_any (is_on n.variable) (take i all)))))
 
       drop_it : (x l y : Bool) → (x && y) ≡ false → (x && (l || y)) ≡ (x && l)
       drop_it false l y e = refl
-      drop_it true l y e = ap (λ t. l || t) e ∙ or_no l
+      drop_it true l y e = ap (λ t. l || t) e ∙ or-false l
 
       elsewhere : (nat_eq m r && nat_eq n.variable v) ≡ false → now (nat_eq m r && nat_eq n.variable v) ≡ later (nat_eq m r && list_any (is_on n.variable) (take (i + 1) all))
       elsewhere h = ap now h ∙ ap later (sym (ap (λ t. nat_eq m r && t) (any_taken (is_on n.variable) all i (Global v a) lt is) ∙ drop_it (nat_eq m r) (list_any (is_on n.variable) (take i all)) (nat_eq n.variable v) h))
@@ -119,8 +108,8 @@ module _ (ch : Change) (plain : (z : ℤ) (m : ℕ) (c : Cell) → ch None z m c
     by (Dat d v a) is (Data x) = refl
     by (Dat d v a) is (Variable n) =
         ap (λ t. cond (nat_eq m r && t) (ch (reduced_by all n.variable) (p m (Variable n)) m (Variable n)) (p m (Variable n)))
-        (sym (any_taken (is_on n.variable) all i (Dat d v a) lt is ∙ or_no (list_any (is_on n.variable) (take i all))))
-    by (Global v a) is (Data x) = no_test (nat_eq m r) (ch (reduction_of a) (g r (cell_in (Whole v) x.component)) r (cell_in (Whole v) x.component)) (p m (Data x))
+        (sym (any_taken (is_on n.variable) all i (Dat d v a) lt is ∙ or-false (list_any (is_on n.variable) (take i all))))
+    by (Global v a) is (Data x) = cond_never (nat_eq m r) (ch (reduction_of a) (g r (cell_in (Whole v) x.component)) r (cell_in (Whole v) x.component)) (p m (Data x))
     by (Global v a) is (Variable n) = ⊎_elim (here v a is n) (elsewhere v a is n) (cases_bool (nat_eq m r && nat_eq n.variable v))
 
     pub changed_more : (c : Cell) → changed_by ch r (get_or all i no_arg) g m c ≡ changed_all ch r all (take (i + 1) all) p m c

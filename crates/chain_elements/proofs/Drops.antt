@@ -16,10 +16,7 @@ use Rattle.chain_stores.specs.Cells.{Values, with_target}
 use Rattle.chain_stores.proofs.Listing.{more}
 use Rattle.chain_elements.specs.Dropping.{leads_to, dropped, dropped_by}
 use Rattle.chain_elements.proofs.Lists.{any_taken}
-
-no_test : (a : Bool) (z v : ℤ) → cond (a && false) z v ≡ v
-no_test true z v = refl
-no_test false z v = refl
+use Rattle.lemmas.proofs.Truth.{cond_never}
 
 gated : (a n q : Bool) (z v : ℤ) → (q ≡ true → n ≡ true) → cond (a && q) z v ≡ cond (a && (n && q)) z v
 gated false n q z v h = refl
@@ -50,7 +47,7 @@ module _ (b : BoundValue) (o : Owners) (k r e : ℕ) where
       ap (λ t. cond (nat_eq m r && (nat_eq c.dat d && nat_eq c.element t)) (pos 0) (f m (Data c))) is
       ∙ gated (nat_eq m r) (not (needs b o k r c.dat c.element)) (nat_eq c.dat d && nat_eq c.element (element_by b v e)) (pos 0) (f m (Data c))
       (λ h. ap not (same_needs d v c h ∙ ap (needs b o k r d) (sym is) ∙ none))
-  drops d v a y f is none m (Variable x) = no_test (nat_eq m r) (pos 0) (f m (Variable x))
+  drops d v a y f is none m (Variable x) = cond_never (nat_eq m r) (pos 0) (f m (Variable x))
 
   pub dropped_none : (f : Values) (m : ℕ) (c : Cell) → f m c ≡ dropped b o k r e [] f m c
   dropped_none f m (Data c) = gone (nat_eq m r) (not (needs b o k r c.dat c.element)) (pos 0) (f m (Data c))

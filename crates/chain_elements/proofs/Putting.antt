@@ -15,8 +15,9 @@ use Rattle.run_model.specs.Arguments.{no_arg}
 use Rattle.bound_plan.specs.Variables.{reduction_of, reduced_by}
 use Rattle.bound_plan.proofs.Globals.{reduced_some, first_reduces, named_once}
 use Rattle.chain_stores.specs.Cells.{Values}
-use Rattle.chain_stores.proofs.Writing.{cases_bool}
 use Rattle.chain_elements.specs.Globals.{is_on, with_global, with_globals}
+use Rattle.lemmas.proofs.Truth.{cases_bool, cond_never, cond_or}
+use Rattle.std.proofs.Math.Bool.{or-false}
 
 -- ---- how an argument merges amounts is how the loop does
 
@@ -62,24 +63,9 @@ any_more xs i n x lt is = ap (list_any (is_on n)) (take_more xs i no_arg lt) ∙
     any_snoc [] = or_nil (is_on n (get_or xs i no_arg))
     any_snoc (z ∷ zs) = ap (λ q. is_on n z || q) (any_snoc zs) ∙ or_assoc (is_on n z) (list_any (is_on n) zs) (is_on n (get_or xs i no_arg))
 
-no_test : (a : Bool) (z v : ℤ) → cond (a && false) z v ≡ v
-no_test true z v = refl
-no_test false z v = refl
-
-or_no : (l : Bool) → (l || false) ≡ l
-or_no true = refl
-or_no false = refl
-
-one_more : (a l e : Bool) (z v : ℤ) → cond (a && e) z (cond (a && l) z v) ≡ cond (a && (l || e)) z v
-one_more false l e z v = refl
-one_more true true true z v = refl
-one_more true true false z v = refl
-one_more true false true z v = refl
-one_more true false false z v = refl
-
 pub globals_none : (ranks r : ℕ) (all : List Arg) (f : Values) (m : ℕ) (c : Cell) → f m c ≡ with_globals ranks r all [] f m c
 globals_none ranks r all f m (Data c) = refl
-globals_none ranks r all f m (Variable v) = sym (no_test (nat_eq m r) (window_of (reduced_by all v.variable) (f ranks (Variable v))) (f m (Variable v)))
+globals_none ranks r all f m (Variable v) = sym (cond_never (nat_eq m r) (window_of (reduced_by all v.variable) (f ranks (Variable v))) (f m (Variable v)))
 
 pub globals_more : (ranks r : ℕ) (all : List Arg) (f : Values) (i : ℕ) → r ≢ ranks → AllApart all → i < length all → (m : ℕ) (c : Cell)
     → with_global ranks r (get_or all i no_arg) (with_globals ranks r all (take i all) f) m c ≡ with_globals ranks r all (take (i + 1) all) f m c
@@ -89,10 +75,10 @@ globals_more ranks r all f i other apart lt m c = by (get_or all i no_arg) refl 
     by (Dat d v a) is (Data x) = refl
     by (Dat d v a) is (Variable n) =
         ap (λ t. cond (nat_eq m r && t) (window_of (reduced_by all n.variable) (f ranks (Variable n))) (f m (Variable n)))
-        (sym (any_more all i n.variable (Dat d v a) lt is ∙ or_no (list_any (is_on n.variable) (take i all))))
-    by (Global v a) is (Data x) = no_test (nat_eq m r) (window_of (reduction_of a) (with_globals ranks r all (take i all) f ranks (cell_in (Whole v) x.component))) (f m (Data x))
+        (sym (any_more all i n.variable (Dat d v a) lt is ∙ or-false (list_any (is_on n.variable) (take i all))))
+    by (Global v a) is (Data x) = cond_never (nat_eq m r) (window_of (reduction_of a) (with_globals ranks r all (take i all) f ranks (cell_in (Whole v) x.component))) (f m (Data x))
     by (Global v a) is (Variable n) =
-        value n ∙ one_more (nat_eq m r) (list_any (is_on n.variable) (take i all)) (nat_eq n.variable v) (window_of (reduced_by all n.variable) (f ranks (Variable n))) (f m (Variable n))
+        value n ∙ cond_or (nat_eq m r) (list_any (is_on n.variable) (take i all)) (nat_eq n.variable v) (window_of (reduced_by all n.variable) (f ranks (Variable n))) (f m (Variable n))
         ∙ ap (λ t. cond (nat_eq m r && t) (window_of (reduced_by all n.variable) (f ranks (Variable n))) (f m (Variable n))) (sym (any_more all i n.variable (Global v a) lt is))
       where
         behind : (x : VarCell) → with_globals ranks r all (take i all) f ranks (Variable x) ≡ f ranks (Variable x)

@@ -15,16 +15,13 @@ use Rattle.run_model.proofs.Memory.{dat_there}
 use Rattle.bound_chains.specs.Slices.{needs, owns_pair}
 use Rattle.chain_memory.specs.Places.{block_at}
 use Rattle.chain_stores.specs.Cells.{Values, cleared, taken}
-use Rattle.chain_stores.proofs.Starting.{below_next}
 use Rattle.chain_exchange.specs.declared.exchanges.Exchange.{Exchange}
 use Rattle.chain_exchange.specs.declared.exchanges.Exchange.TheVariants.{Drop, Take}
 use Rattle.chain_exchange.specs.Exchanged.{is_copy, brought, exchanged_where, exchanged_all}
+use Rattle.lemmas.proofs.Numbers.{lt_next}
+use Rattle.lemmas.proofs.Truth.{cond_never, or_and_right}
 
 -- ---- tests
-
-no_test : (a : Bool) (z v : ℤ) → cond (a && false) z v ≡ v
-no_test true z v = refl
-no_test false z v = refl
 
 grouped : (a d l k : Bool) → (a ≡ true → d ≡ true → l ≡ k) → (a && (d && l)) ≡ ((a && d) && k)
 grouped true true l k e = e refl refl
@@ -38,13 +35,6 @@ twice true false true z v = refl
 twice true false false z v = refl
 twice false true k z v = refl
 twice false false k z v = refl
-
-apart_or : (a c d : Bool) → ((a && d) || (c && d)) ≡ ((a || c) && d)
-apart_or true true true = refl
-apart_or true true false = refl
-apart_or true false true = refl
-apart_or true false false = refl
-apart_or false c d = refl
 
 or_apart : (a c d : Bool) → ((a && c) || (a && d)) ≡ (a && (c || d))
 or_apart true c d = refl
@@ -92,7 +82,7 @@ module _ (b : BoundValue) (o : Owners) (k : ℕ) where
   brought_same Drop chosen f c h = refl
   brought_same Take chosen f c h =
       let r = block_at b o None (Data c) in
-      ap (λ t. cond (chosen r c.dat && t) (brought b o k Take f c) (f r (Data c))) (own_no_copy c h) ∙ no_test (chosen r c.dat) (brought b o k Take f c) (f r (Data c))
+      ap (λ t. cond (chosen r c.dat && t) (brought b o k Take f c) (f r (Data c))) (own_no_copy c h) ∙ cond_never (chosen r c.dat) (brought b o k Take f c) (f r (Data c))
 
   -- two exchanges, one after the other
   both : (what : Exchange) (p q s : ℕ → ℕ → Bool) (f : Values) (m : ℕ) (c : Cell) → has_cell b c ≡ true → ((r d : ℕ) → (p r d || q r d) ≡ s r d)
@@ -122,12 +112,12 @@ module _ (b : BoundValue) (o : Owners) (k : ℕ) where
   pub list_dropped : (r d : ℕ) (ys : List ℕ) (f : Values) → ys ≡ copies r d → (m : ℕ) (c : Cell) → has_cell b c ≡ true
       → cleared r d ys f m c ≡ exchanged_where b o k Drop (λ x e. nat_eq x r && nat_eq e d) f m c
   list_dropped r d ys f is m (Data c) h = ap (λ t. cond t (pos 0) (f m (Data c))) (among_is r d m c h ys is)
-  list_dropped r d ys f is m (Variable v) h = no_test (nat_eq m r) (pos 0) (f m (Variable v))
+  list_dropped r d ys f is m (Variable v) h = cond_never (nat_eq m r) (pos 0) (f m (Variable v))
 
   pub list_taken : (r d : ℕ) (ys : List ℕ) (f : Values) → ys ≡ copies r d → (m : ℕ) (c : Cell) → has_cell b c ≡ true
       → taken b o r d ys f m c ≡ exchanged_where b o k Take (λ x e. nat_eq x r && nat_eq e d) f m c
   list_taken r d ys f is m (Data c) h = ap (λ t. cond t (f (block_at b o None (Data c)) (Data c)) (f m (Data c))) (among_is r d m c h ys is)
-  list_taken r d ys f is m (Variable v) h = no_test (nat_eq m r) (f (block_at b o None (Variable v)) (Variable v)) (f m (Variable v))
+  list_taken r d ys f is m (Variable v) h = cond_never (nat_eq m r) (f (block_at b o None (Variable v)) (Variable v)) (f m (Variable v))
 
   -- ---- ranks
 
@@ -138,7 +128,7 @@ module _ (b : BoundValue) (o : Owners) (k : ℕ) where
       → exchanged_where b o k what (λ x e. nat_eq x n && nat_eq e d) (exchanged_where b o k what (λ x e. nat_lt x n && nat_eq e d) f) m c
       ≡ exchanged_where b o k what (λ x e. nat_lt x (n + 1) && nat_eq e d) f m c
   ranks_more what n d f m c h = both what (λ x e. nat_lt x n && nat_eq e d) (λ x e. nat_eq x n && nat_eq e d) (λ x e. nat_lt x (n + 1) && nat_eq e d) f m c h
-      (λ x e. apart_or (nat_lt x n) (nat_eq x n) (nat_eq e d) ∙ ap (λ t. t && nat_eq e d) (sym (below_next x n)))
+      (λ x e. or_and_right (nat_lt x n) (nat_eq x n) (nat_eq e d) ∙ ap (λ t. t && nat_eq e d) (sym (lt_next x n)))
 
   -- ---- dats
 
@@ -153,7 +143,7 @@ module _ (b : BoundValue) (o : Owners) (k : ℕ) where
       → exchanged_where b o k what (λ x e. nat_lt x ranks && nat_eq e n) (exchanged_where b o k what (λ x e. nat_lt x ranks && nat_lt e n) f) m c
       ≡ exchanged_where b o k what (λ x e. nat_lt x ranks && nat_lt e (n + 1)) f m c
   dats_more what ranks n f m c h = both what (λ x e. nat_lt x ranks && nat_lt e n) (λ x e. nat_lt x ranks && nat_eq e n) (λ x e. nat_lt x ranks && nat_lt e (n + 1)) f m c h
-      (λ x e. or_apart (nat_lt x ranks) (nat_lt e n) (nat_eq e n) ∙ ap (λ t. nat_lt x ranks && t) (sym (below_next e n)))
+      (λ x e. or_apart (nat_lt x ranks) (nat_lt e n) (nat_eq e n) ∙ ap (λ t. nat_lt x ranks && t) (sym (lt_next e n)))
 
   -- all of them
   pub all_dats : (what : Exchange) (f : Values) (m : ℕ) (c : Cell) → has_cell b c ≡ true

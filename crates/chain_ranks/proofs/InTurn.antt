@@ -10,7 +10,7 @@ use Rattle.schedule_model.specs.Effects.{Ran, Faulted, Finished}
 use Rattle.chain_model.specs.Slicing.{Slicing}
 use Rattle.chain_model.specs.Machine.{ChainState, one_run, rank_run, ranks_run, ran, view}
 use Rattle.schedule_model.specs.Program.{elements}
-use Rattle.chain_stores.proofs.Writing.{cases_bool}
+use Rattle.lemmas.proofs.Truth.{cases_bool}
 
 -- ---- the list
 

@@ -28,13 +28,14 @@ use Rattle.placed_runs.specs.Placed.{HoldsWindows, LeavesPlaced}
 use Rattle.chain_memory.specs.Places.{in_block, all_cells, stands_at}
 use Rattle.chain_memory.proofs.Standing.{reached_there}
 use Rattle.chain_stores.specs.Cells.{Values, BlocksHold}
-use Rattle.chain_stores.proofs.Writing.{cases_bool, blocks_apart}
+use Rattle.chain_stores.proofs.Writing.{blocks_apart}
 use Rattle.chain_elements.specs.Globals.{is_on, with_globals}
 use Rattle.chain_elements.specs.Dropping.{leads_to, dropped}
 use Rattle.chain_elements.specs.Merging.{merged_all}
 use Rattle.chain_elements.specs.Constants.{constants_in}
 use Rattle.chain_ranks.specs.Running.{StoresStand, AreHeld}
 use Rattle.chain_ranks.proofs.Reached.{is_reached, reached_by, led_to, on_variable}
+use Rattle.lemmas.proofs.Truth.{cases_bool}
 
 -- what a memory has, block by block
 abbrev pub read : BoundValue → List ℤ → Values

@@ -27,12 +27,12 @@ use Rattle.bound_chains.specs.Slices.{needs, slicing_of}
 use Rattle.placed_runs.specs.Placed.{LeavesPlaced, EndsPlaced}
 use Rattle.chain_memory.specs.Places.{in_block, stands_at}
 use Rattle.chain_stores.specs.Cells.{BlocksHold}
-use Rattle.chain_stores.proofs.Writing.{cases_bool}
 use Rattle.chain_elements.specs.Globals.{with_globals}
 use Rattle.chain_elements.specs.Dropping.{dropped}
 use Rattle.chain_elements.specs.Merging.{merged_all}
 use Rattle.chain_ranks.specs.Running.{StoresStand, Runs}
 use Rattle.chain_ranks.proofs.OneElement.{read, given_dat, given_variable, pair_after, variable_after, amount_after}
+use Rattle.lemmas.proofs.Truth.{cases_bool}
 
 -- one fault more is kept
 pub kept_more : {F : Type 0} (o : Option (Stop F)) (xs : List (Stop F)) (x : Stop F) → kept_of o (xs ++ x ∷ []) ≡ kept (kept_of o xs) x

@@ -17,10 +17,11 @@ use Rattle.bound_plan.proofs.Touched.{Merges, merges}
 use Rattle.chain_model.specs.Machine.{merged_over}
 use Rattle.chain_memory.specs.Places.{in_block}
 use Rattle.chain_stores.specs.Cells.{Values, BlocksHold, is_cell_of, component_of, with_target}
-use Rattle.chain_stores.proofs.Writing.{cases_bool, is_component, component_is, has_of, block_follow, written}
+use Rattle.chain_stores.proofs.Writing.{is_component, component_is, has_of, block_follow, written}
 use Rattle.chain_elements.specs.Globals.{is_on}
 use Rattle.chain_elements.specs.Merging.{changed_all}
 use Rattle.chain_ranks.specs.Partials.{units}
+use Rattle.lemmas.proofs.Truth.{cases_bool}
 
 -- where there's no reduction nothing is merged
 pub merged_plain : (part : ℕ → ℤ) (n : ℕ) (z : ℤ) → merged_over None part n z ≡ z

@@ -7,7 +7,6 @@ use Rattle.rank_sets.specs.Below.{any_below, count_below}
 use Rattle.rank_sets.specs.RankSet.{has, has_at}
 use Rattle.rank_sets.specs.declared.rank_set.RankSet.{RankSet}
 use Rattle.rank_sets.proofs.Below.{any_agree, count_agree}
-use Rattle.rank_sets.proofs.Bools.{same_Bool}
 use Rattle.mesh_decl.specs.declared.owners.Owners.{Owners}
 use Rattle.mesh_decl.specs.Mesh.{dat_count, dat_set, set_size}
 use Rattle.bound_program.specs.Values.{BoundValue, SiteValue}
@@ -16,12 +15,13 @@ use Rattle.bound_chains.specs.Counts.{some_pair, sum_below, sends, begins_at}
 use Rattle.chain_needs.specs.PairSets.{pairs_of}
 use Rattle.chain_needs.specs.Needed.{AreNeeded}
 use Rattle.chain_slices.specs.Shapes.{sends_before, chain_messages}
+use Rattle.lemmas.proofs.Truth.{iff_eq}
 
 -- ---- a rank of a set
 
 pub contains_is : (s e w m : RankSet) (rank : ℕ) (r : Bool) → rank < 64 → ((k : ℕ) → has e k ≡ false) → ((k : ℕ) → has w k ≡ (has e k || nat_eq k rank))
     → ((k : ℕ) → k < 64 → has m k ≡ (has w k && not (has s k))) → (IsTrue r) ↔ ((k : ℕ) → k < 64 → has m k ≡ false) → r ≡ has s rank
-contains_is s e w m rank r lt empty with_it minus is = same_Bool r (has s rank)
+contains_is s e w m rank r lt empty with_it minus is = iff_eq r (has s rank)
     (λ t. ⊎_elim
     (λ (q : has s rank ≡ true). q)
     (λ (q : has s rank ≡ false).

@@ -8,8 +8,8 @@ use Rattle.schedule_model.specs.Cells.{Cell, Data, Variable, DatCell}
 use Rattle.bound_program.specs.Values.{BoundValue}
 use Rattle.run_model.specs.Windows.{Element, cell_in}
 use Rattle.chain_memory.specs.Places.{block_at}
-use Rattle.chain_stores.proofs.Writing.{cases_bool}
 use Rattle.chain_stores.specs.Cells.{Values, is_among, with_target, cleared, taken}
+use Rattle.lemmas.proofs.Truth.{cases_bool, cond_never}
 
 -- one element more
 list_any_more : (ys : List ℕ) (i x e : ℕ) → i < length ys → get_or ys i 0 ≡ e → list_any (nat_eq x) (take (i + 1) ys) ≡ (list_any (nat_eq x) (take i ys) || nat_eq x e)
@@ -36,10 +36,6 @@ more true true true false z v = refl
 more true true false true z v = refl
 more true true false false z v = refl
 
-no_test : (a : Bool) (z v : ℤ) → cond (a && false) z v ≡ v
-no_test true z v = refl
-no_test false z v = refl
-
 none_there : (a d : Bool) (z v : ℤ) → cond (a && (d && false)) z v ≡ v
 none_there true true z v = refl
 none_there true false z v = refl
@@ -47,7 +43,7 @@ none_there false d z v = refl
 
 pub cleared_none : (n d : ℕ) (f : Values) (m : ℕ) (c : Cell) → f m c ≡ cleared n d [] f m c
 cleared_none n d f m (Data c) = sym (none_there (nat_eq m n) (nat_eq c.dat d) (pos 0) (f m (Data c)))
-cleared_none n d f m (Variable v) = sym (no_test (nat_eq m n) (pos 0) (f m (Variable v)))
+cleared_none n d f m (Variable v) = sym (cond_never (nat_eq m n) (pos 0) (f m (Variable v)))
 
 pub cleared_more : (n d : ℕ) (ys : List ℕ) (i e : ℕ) (f : Values) → i < length ys → get_or ys i 0 ≡ e → (m : ℕ) (c : Cell)
     → with_target n (Element d e) (λ j. pos 0) (cleared n d (take i ys) f) m c ≡ cleared n d (take (i + 1) ys) f m c
@@ -55,8 +51,8 @@ cleared_more n d ys i e f lt is m (Data c) =
     more (nat_eq m n) (nat_eq c.dat d) (list_any (nat_eq c.element) (take i ys)) (nat_eq c.element e) (pos 0) (f m (Data c))
     ∙ ap (λ t. cond (nat_eq m n && (nat_eq c.dat d && t)) (pos 0) (f m (Data c))) (sym (list_any_more ys i c.element e lt is))
 cleared_more n d ys i e f lt is m (Variable v) =
-    no_test (nat_eq m n) (pos 0) (cond (nat_eq m n && false) (pos 0) (f m (Variable v)))
-    ∙ no_test (nat_eq m n) (pos 0) (f m (Variable v)) ∙ sym (no_test (nat_eq m n) (pos 0) (f m (Variable v)))
+    cond_never (nat_eq m n) (pos 0) (cond (nat_eq m n && false) (pos 0) (f m (Variable v)))
+    ∙ cond_never (nat_eq m n) (pos 0) (f m (Variable v)) ∙ sym (cond_never (nat_eq m n) (pos 0) (f m (Variable v)))
 
 module _ (b : BoundValue) (o : Owners) where
   abbrev own : Cell → ℕ
@@ -64,7 +60,7 @@ module _ (b : BoundValue) (o : Owners) where
 
   pub taken_none : (n d : ℕ) (f : Values) (m : ℕ) (c : Cell) → f m c ≡ taken b o n d [] f m c
   taken_none n d f m (Data c) = sym (none_there (nat_eq m n) (nat_eq c.dat d) (f (own (Data c)) (Data c)) (f m (Data c)))
-  taken_none n d f m (Variable v) = sym (no_test (nat_eq m n) (f (own (Variable v)) (Variable v)) (f m (Variable v)))
+  taken_none n d f m (Variable v) = sym (cond_never (nat_eq m n) (f (own (Variable v)) (Variable v)) (f m (Variable v)))
 
   -- the owner's block isn't the one that is written
   kept_at : (n d : ℕ) (ys : List ℕ) (f : Values) (c : Cell) → own c ≢ n → taken b o n d ys f (own c) c ≡ f (own c) c
@@ -93,5 +89,5 @@ module _ (b : BoundValue) (o : Owners) where
       ∙ more (nat_eq m n) (nat_eq c.dat d) (list_any (nat_eq c.element) (take i ys)) (nat_eq c.element e) (f (own (Data c)) (Data c)) (f m (Data c))
       ∙ ap (λ t. cond (nat_eq m n && (nat_eq c.dat d && t)) (f (own (Data c)) (Data c)) (f m (Data c))) (sym (list_any_more ys i c.element e lt is))
   taken_more n d ys i e from f lt is at apart m (Variable v) =
-      no_test (nat_eq m n) (taken b o n d (take i ys) f from (cell_in (Element d e) v.component)) (taken b o n d (take i ys) f m (Variable v))
-      ∙ no_test (nat_eq m n) (f (own (Variable v)) (Variable v)) (f m (Variable v)) ∙ sym (no_test (nat_eq m n) (f (own (Variable v)) (Variable v)) (f m (Variable v)))
+      cond_never (nat_eq m n) (taken b o n d (take i ys) f from (cell_in (Element d e) v.component)) (taken b o n d (take i ys) f m (Variable v))
+      ∙ cond_never (nat_eq m n) (f (own (Variable v)) (Variable v)) (f m (Variable v)) ∙ sym (cond_never (nat_eq m n) (f (own (Variable v)) (Variable v)) (f m (Variable v)))

@@ -13,32 +13,12 @@ use Rattle.run_model.specs.Memory.{Holds, memory_length, place_of, has_cell, fir
 use Rattle.run_model.specs.Programs.{program_of, first_values}
 use Rattle.run_model.proofs.Memory.{inside, dat_there}
 use Rattle.chain_memory.specs.Places.{block_at, in_block, all_cells}
-use Rattle.chain_stores.proofs.Writing.{cases_bool}
 use Rattle.chain_stores.proofs.Listing.{more}
 use Rattle.chain_stores.specs.Cells.{Values, BlocksHold, with_target, first_in_last, taken_by_owners, is_below, is_earlier}
+use Rattle.lemmas.proofs.Numbers.{lt_next}
+use Rattle.lemmas.proofs.Truth.{cases_bool, cond_never, cond_or}
 
 -- ---- element by element
-
--- a number below the next one
-pub below_next : (y n : ℕ) → nat_lt y (n + 1) ≡ (nat_lt y n || nat_eq y n)
-below_next y n = ⊎_elim
-    (λ (l : y < n). lt-ltb y (n + 1) (omega arith) ∙ sym (ap (λ t. t || nat_eq y n) (lt-ltb y n l)))
-    (λ (l : n ≤ y). ⊎_elim
-    (λ (e : y ≡ n). lt-ltb y (n + 1) (omega arith) ∙ sym (ap₂ (λ s t. s || t) (le-ltb y n l) (eq-eqb y n e)))
-    (λ (e : y ≢ n). le-ltb y (n + 1) (omega (arith, l, e)) ∙ sym (ap₂ (λ s t. s || t) (le-ltb y n l) (ne_eqb y n e)))
-    (cases_eq y n))
-    (cases_lt y n)
-
-one_more : (a l e : Bool) (z v : ℤ) → cond (a && e) z (cond (a && l) z v) ≡ cond (a && (l || e)) z v
-one_more false l e z v = refl
-one_more true true true z v = refl
-one_more true true false z v = refl
-one_more true false true z v = refl
-one_more true false false z v = refl
-
-no_test : (a : Bool) (z v : ℤ) → cond (a && false) z v ≡ v
-no_test true z v = refl
-no_test false z v = refl
 
 module _ (b : BoundValue) (o : Owners) where
   abbrev own : Cell → ℕ
@@ -61,14 +41,14 @@ module _ (b : BoundValue) (o : Owners) where
       (last_stays test f (record { dat = d; element = e; component = c.component }) lt ∙ ap (f o.ranks) same))
       (λ (h : (nat_eq c.dat d && nat_eq c.element e) ≡ false).
       ap (λ t. cond (nat_eq m (own (cell_in (Element d e) 0)) && t) (taken_by_owners b o test f o.ranks (cell_in (Element d e) c.component)) v) h
-      ∙ no_test (nat_eq m (own (cell_in (Element d e) 0))) (taken_by_owners b o test f o.ranks (cell_in (Element d e) c.component)) v
-      ∙ sym (no_test (nat_eq m (own (Data c))) (f o.ranks (Data c)) v)
+      ∙ cond_never (nat_eq m (own (cell_in (Element d e) 0))) (taken_by_owners b o test f o.ranks (cell_in (Element d e) c.component)) v
+      ∙ sym (cond_never (nat_eq m (own (Data c))) (f o.ranks (Data c)) v)
       ∙ sym (ap (λ t. cond (nat_eq m (own (Data c)) && t) (f o.ranks (Data c)) v) h))
       (cases_bool (nat_eq c.dat d && nat_eq c.element e))
 
   pub elements_none : (d : ℕ) (f : Values) (m : ℕ) (c : Cell) → f m c ≡ taken_by_owners b o (is_below d 0) f m c
   elements_none d f m (Data c) =
-      sym (ap (λ t. cond (nat_eq m (own (Data c)) && t) (f o.ranks (Data c)) (f m (Data c))) (and_no (nat_eq c.dat d) ∙ refl) ∙ no_test (nat_eq m (own (Data c))) (f o.ranks (Data c)) (f m (Data c)))
+      sym (ap (λ t. cond (nat_eq m (own (Data c)) && t) (f o.ranks (Data c)) (f m (Data c))) (and_no (nat_eq c.dat d) ∙ refl) ∙ cond_never (nat_eq m (own (Data c))) (f o.ranks (Data c)) (f m (Data c)))
     where
       and_no : (a : Bool) → (a && nat_lt c.element 0) ≡ false
       and_no true = le-ltb c.element 0 (omega arith)
@@ -82,15 +62,15 @@ module _ (b : BoundValue) (o : Owners) where
       ap (λ k. cond (nat_eq m k && (nat_eq c.dat d && nat_eq c.element n)) (taken_by_owners b o (is_below d n) f o.ranks (cell_in (Element d n) c.component)) (taken_by_owners b o (is_below d n) f m (Data c))) at
       ∙ own_value (is_below d n) f m d n c (taken_by_owners b o (is_below d n) f m (Data c)) (subst (λ k. k < o.ranks) at lt)
       ∙ more (nat_eq m (own (Data c))) (nat_eq c.dat d) (nat_lt c.element n) (nat_eq c.element n) (f o.ranks (Data c)) (f m (Data c))
-      ∙ ap (λ t. cond (nat_eq m (own (Data c)) && (nat_eq c.dat d && t)) (f o.ranks (Data c)) (f m (Data c))) (sym (below_next c.element n))
+      ∙ ap (λ t. cond (nat_eq m (own (Data c)) && (nat_eq c.dat d && t)) (f o.ranks (Data c)) (f m (Data c))) (sym (lt_next c.element n))
   elements_more d n to f at lt m (Variable v) =
-      no_test (nat_eq m to) (taken_by_owners b o (is_below d n) f o.ranks (cell_in (Element d n) v.component)) (f m (Variable v))
+      cond_never (nat_eq m to) (taken_by_owners b o (is_below d n) f o.ranks (cell_in (Element d n) v.component)) (f m (Variable v))
 
   -- ---- dat by dat
 
   pub dats_none : (f : Values) (m : ℕ) (c : Cell) → f m c ≡ taken_by_owners b o (is_earlier 0) f m c
   dats_none f m (Data c) =
-      sym (ap (λ t. cond (nat_eq m (own (Data c)) && t) (f o.ranks (Data c)) (f m (Data c))) (le-ltb c.dat 0 (omega arith)) ∙ no_test (nat_eq m (own (Data c))) (f o.ranks (Data c)) (f m (Data c)))
+      sym (ap (λ t. cond (nat_eq m (own (Data c)) && t) (f o.ranks (Data c)) (f m (Data c))) (le-ltb c.dat 0 (omega arith)) ∙ cond_never (nat_eq m (own (Data c))) (f o.ranks (Data c)) (f m (Data c)))
   dats_none f m (Variable v) = refl
 
   pub dats_more : IsInRange b.mesh → AreOwners b.mesh o → (d : ℕ) (f : Values) (m : ℕ) (c : Cell) → has_cell b c ≡ true
@@ -99,8 +79,8 @@ module _ (b : BoundValue) (o : Owners) where
       let t = dat_there b c h in
       let below : own (Data c) < o.ranks = owners.below (dat_set b.mesh c.dat) c.element (ranges.dats c.dat t.dat).set t.element in
       ap₂ (λ s z. cond (nat_eq m (own (Data c)) && s) z (taken_by_owners b o (is_earlier d) f m (Data c))) (there t.element) (last_stays (is_earlier d) f c below)
-      ∙ one_more (nat_eq m (own (Data c))) (nat_lt c.dat d) (nat_eq c.dat d) (f o.ranks (Data c)) (f m (Data c))
-      ∙ ap (λ s. cond (nat_eq m (own (Data c)) && s) (f o.ranks (Data c)) (f m (Data c))) (sym (below_next c.dat d))
+      ∙ cond_or (nat_eq m (own (Data c))) (nat_lt c.dat d) (nat_eq c.dat d) (f o.ranks (Data c)) (f m (Data c))
+      ∙ ap (λ s. cond (nat_eq m (own (Data c)) && s) (f o.ranks (Data c)) (f m (Data c))) (sym (lt_next c.dat d))
     where
       there : c.element < set_size b.mesh (dat_set b.mesh c.dat) → (nat_eq c.dat d && nat_lt c.element (set_size b.mesh (dat_set b.mesh d))) ≡ nat_eq c.dat d
       there lt = ⊎_elim

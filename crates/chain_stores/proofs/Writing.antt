@@ -15,11 +15,7 @@ use Rattle.run_model.proofs.Memory.{inside, apart, follow, dat_there, var_there,
 use Rattle.chain_memory.proofs.Within.{pair_within, variable_within}
 use Rattle.chain_memory.specs.Places.{in_block}
 use Rattle.chain_stores.specs.Cells.{Values, BlocksHold, component_of, is_cell_of, with_target}
-
--- a test that is passed or isn't
-pub cases_bool : (a : Bool) → (a ≡ true) ⊎ (a ≡ false)
-cases_bool true = inl refl
-cases_bool false = inr refl
+use Rattle.lemmas.proofs.Truth.{cases_bool}
 
 module _ (b : BoundValue) where
   -- what is reached is there

@@ -17,18 +17,7 @@ use Rattle.checkpoint.specs.Cut.{var_values, says, says_var, says_vars, says_dat
 use Rattle.checkpoint.specs.StateText.{var_text, vars_text, dats_text}
 use Rattle.checkpoint.proofs.Saying.{Says, AllSay}
 use Rattle.checkpoint.proofs.Printing.{var_said}
-
-pub map_fused : {A B C : Type 0} (g : B → C) (f : A → B) (xs : List A) → map g (map f xs) ≡ map (λ x. g (f x)) xs
-map_fused g f [] = refl
-map_fused g f (x ∷ xs) = ap (λ l. g (f x) ∷ l) (map_fused g f xs)
-
-pub map_range : {A : Type 0} (f g : ℕ → A) (a n : ℕ) → ((i : ℕ) → i < n → f (a + i) ≡ g (a + i)) → map f (range_with_len a n) ≡ map g (range_with_len a n)
-map_range f g a zero h = refl
-map_range f g a (suc n) h =
-    let here : f a ≡ g a = (let e : a + 0 ≡ a = omega arith in subst (λ j. f j ≡ g j) e (h 0 (omega arith))) in
-    let more : map f (range_with_len (a + 1) n) ≡ map g (range_with_len (a + 1) n) =
-    map_range f g (a + 1) n (λ i lt. let e : a + suc i ≡ (a + 1) + i = omega arith in subst (λ j. f j ≡ g j) e (h (suc i) (let l : suc i < suc n = omega (arith, lt) in l))) in
-    ap (λ x. x ∷ map f (range_with_len (a + 1) n)) here ∙ ap (λ l. g a ∷ l) more
+use Rattle.lemmas.proofs.Lists.{map_map, map_range}
 
 module _ (c : BoundValue) (s : Store) where
   abbrev cells : List ℤ
@@ -55,7 +44,7 @@ module _ (c : BoundValue) (s : Store) where
       let ks = map (λ i. from + i) (numbers count) in
       let text = codes "var " ++ decimal n ++ codes " " ++ decimal (length ks) ++ codes "\n" ++ places ks in
       let same : map cell ks ≡ its v count =
-      map_fused cell (λ i. from + i) (numbers count)
+      map_map cell (λ i. from + i) (numbers count)
       ∙ map_range (λ i. cell (from + i)) (λ i. s (Variable (record { variable = v; component = i }))) 0 count
       (λ i lt. let e : i ≡ 0 + i = omega arith in subst (λ j. cell (from + j) ≡ s (Variable (record { variable = v; component = j }))) e (h i lt)) in
       record {
@@ -83,7 +72,7 @@ module _ (c : BoundValue) (s : Store) where
       let split : cells ≡ map f front ++ map f (own ++ more) = ap (map f) all ∙ map-append f front (own ++ more) in
       let long : length front ≡ length (map f front) = sym (length-map front f) in
       let parts : map f (own ++ more) ≡ map f own ++ map f more = map-append f own more in
-      let one : map f own ≡ its v (length x.start) = map_fused f (λ j. record { variable = v; component = j }) (numbers (length x.start)) in
+      let one : map f own ≡ its v (length x.start) = map_map f (λ j. record { variable = v; component = j }) (numbers (length x.start)) in
       let count : length (its v (length x.start)) ≡ length x.start = length-map-range_with_len (λ j. s (Variable (record { variable = v; component = j }))) 0 (length x.start) in
       ap (λ l. get_or l (length front + i) (pos 0)) split
       ∙ (ap (λ n. get_or (map f front ++ map f (own ++ more)) (n + i) (pos 0)) long

@@ -16,8 +16,8 @@ use Rattle.run_model.specs.Programs.{first_values}
 use Rattle.checkpoint.specs.Cut.{var_values, state_at, with_dats, with_vars, tail}
 use Rattle.checkpoint.specs.Laws.{KeepsConstants}
 use Rattle.checkpoint.proofs.Shape.{AreSame, Like, dim_same, flat_alike}
-use Rattle.checkpoint.proofs.StateSaid.{map_fused}
 use Rattle.checkpoint.proofs.Agreeing.{Agree}
+use Rattle.lemmas.proofs.Lists.{map_map}
 
 -- ---- lists
 
@@ -166,7 +166,7 @@ module _ (b : BoundValue) (k : ℕ) (s : Store) (kept : KeepsConstants b s) wher
       (λ x. map s (map (λ i. Data (record { dat = c.dat; element = x; component = i })) (numbers (dat_dim b.mesh c.dat))))
       (λ x. map (f x) (numbers (dat_dim b.mesh c.dat)))
       (numbers (set_size b.mesh (dat_set b.mesh c.dat)))
-      (λ x. map_fused s (λ i. Data (record { dat = c.dat; element = x; component = i })) (numbers (dat_dim b.mesh c.dat))))
+      (λ x. map_map s (λ i. Data (record { dat = c.dat; element = x; component = i })) (numbers (dat_dim b.mesh c.dat))))
       ∙ (in_rows f (dat_dim b.mesh c.dat) 0 (set_size b.mesh (dat_set b.mesh c.dat)) c.element c.component lx li
       ∙ (let e : 0 + c.element ≡ c.element = omega arith in ap (λ x. f x c.component) e))))
   tail_begins (Variable v) h =

@@ -16,9 +16,7 @@ use Rattle.colouring.specs.Meeting.{Has, SomeMeet, Marked, BlocksAlike, PlacesAl
 use Rattle.colouring.specs.Clashes.{BlocksClash, PlacesClash}
 use Rattle.colouring.proofs.Blocks.{block_is, place_in, row_in}
 use Rattle.colouring.proofs.Translating.{conflict_to, conflict_from}
-
-there : (order : List ℕ) (x : ℕ) (c : Contains order x) → get_or order c.0 0 ≡ x
-there order x c = sym (get_or_default order c.0 x 0 c.1) ∙ c.2
+use Rattle.lemmas.proofs.Lists.{contains_at}
 
 -- ---- blocks
 
@@ -47,12 +45,12 @@ module _ (table : List ℕ) (w size places m : ℕ) (em : m ≡ min size places)
         oc.0,
         ob.1,
         oc.1,
-        subst (λ x. (x ≢ get_or order oc.0 0) × (get_or cs x 0 ≡ get_or cs (get_or order oc.0 0) 0) × Conflict table (m * w) x (get_or order oc.0 0)) (sym (there order b ob))
-            (subst (λ y. (b ≢ y) × (get_or cs b 0 ≡ get_or cs y 0) × Conflict table (m * w) b y) (sym (there order c oc))
+        subst (λ x. (x ≢ get_or order oc.0 0) × (get_or cs x 0 ≡ get_or cs (get_or order oc.0 0) 0) × Conflict table (m * w) x (get_or order oc.0 0)) (sym (contains_at order b ob))
+            (subst (λ y. (b ≢ y) × (get_or cs b 0 ≡ get_or cs y 0) × Conflict table (m * w) b y) (sym (contains_at order c oc))
             (h.4, h.6, (k.4.0, k.4.1, i, j, k.4.4))),
       )
 
--- there are no more blocks than places
+-- contains_at are no more blocks than places
 pub few_blocks : (n size places : ℕ) → 0 < size → ((b : ℕ) → (b < n) ↔ (b * size < places)) → n ≤ places
 few_blocks n size places some count = ⊎_elim
     (λ (l : places < n). (
@@ -106,8 +104,8 @@ none_alike_more table cs order w size b first last some ef el all clear before q
       op.0,
       oq.1,
       op.1,
-      subst (λ x. (x ≢ get_or order op.0 0) × (get_or cs x 0 ≡ get_or cs (get_or order op.0 0) 0) × Conflict table w x (get_or order op.0 0)) (sym (there order q oq))
-          (subst (λ y. (q ≢ y) × (get_or cs q 0 ≡ get_or cs y 0) × Conflict table w q y) (sym (there order p op))
+      subst (λ x. (x ≢ get_or order op.0 0) × (get_or cs x 0 ≡ get_or cs (get_or order op.0 0) 0) × Conflict table w x (get_or order op.0 0)) (sym (contains_at order q oq))
+          (subst (λ y. (q ≢ y) × (get_or cs q 0 ≡ get_or cs y 0) × Conflict table w q y) (sym (contains_at order p op))
           (ne, e, k.1)),
     ))
     (cases_lt p (b * size)))

@@ -3,16 +3,13 @@ use Rattle.std.specs.Prelude.{◌↔◌, ◌⊎◌, bit_or}
 use Rattle.std.specs.Int.{bit_at, w32}
 use Rattle.std.proofs.lemmas.Bool.{cases_eq}
 use Rattle.std.proofs.lemmas.Nat.{mod_below}
-use Rattle.std.proofs.lemmas.Nat.Bits.{bit_at_or, bit_at_set_same, bit_at_set_other, bit_at_ones}
-
-bit_small : (n i : ℕ) → bit_at n i < 2
-bit_small n i = mod_below (n / 2 ^ i) 2 (omega arith)
+use Rattle.std.proofs.lemmas.Nat.Bits.{bit_at_or, bit_at_set_same, bit_at_set_other, bit_at_ones, bit_at-lt}
 
 pub or_iff : (a m b : ℕ) → (bit_at (bit_or a m) b ≡ 1) ↔ ((bit_at a b ≡ 1) ⊎ (bit_at m b ≡ 1))
 or_iff a m b =
     let o : bit_at (bit_or a m) b ≡ max (bit_at a b) (bit_at m b) = bit_at_or a m b in
-    let x : bit_at a b < 2 = bit_small a b in
-    let y : bit_at m b < 2 = bit_small m b in
+    let x : bit_at a b < 2 = bit_at-lt a b in
+    let y : bit_at m b < 2 = bit_at-lt m b in
     ((λ h. ⊎_elim (λ (e : bit_at a b ≡ 1). inl e) (λ (ne : bit_at a b ≡ 1 → ⊥). inr (omega arith)) (cases_eq (bit_at a b) 1)), (λ h. ⊎_elim (λ (e : bit_at a b ≡ 1). omega arith) (λ (e : bit_at m b ≡ 1). omega arith) h))
 
 pub joined_step : (f : ℕ → ℕ) (ts : List ℕ) (all start k : ℕ) → start ≤ k → ((b : ℕ) → (bit_at all b ≡ 1) ↔ ((x : ℕ) × (start ≤ x) × (x < k) × (bit_at (f (get_or ts x 0)) b ≡ 1))) → (b : ℕ) → (bit_at (bit_or all (f (get_or ts k 0))) b ≡ 1) ↔ ((x : ℕ) × (start ≤ x) × (x < k + 1) × (bit_at (f (get_or ts x 0)) b ≡ 1))

@@ -11,9 +11,7 @@ use Rattle.colouring.specs.declared.types.Colours.{Colours}
 use Rattle.schedule_steps.specs.Outline.{Outline, by_colour}
 use Rattle.colouring.specs.Outlined.{IsOutlined}
 use Rattle.colouring.specs.Colours.{Conflict, BlocksConflict, AreColours, goes_before}
-
-one_lower : (a b : ℕ) → a ≢ b → (a < b) ⊎ (b < a)
-one_lower a b ne = ⊎_elim (λ (l : a < b). inl l) (λ (l : b ≤ a). inr (let n : a ≡ b → ⊥ = ne in omega arith)) (cases_lt a b)
+use Rattle.lemmas.proofs.Numbers.{lt_or_gt}
 
 module _ (g : MeshValue) (maps : List (Vec ℕ Global)) (args : List IncArg) (places size : ℕ) (c : Colours) where
   turned : (p q : ℕ) → Conflict g maps args p q → Conflict g maps args q p
@@ -23,16 +21,16 @@ module _ (g : MeshValue) (maps : List (Vec ℕ Global)) (args : List IncArg) (pl
   blocks_differ is a b ne k = ⊎_elim
       (λ (l : a < b). (is.blocks b (counted b k.1 k.3)).free a l k)
       (λ (l : b < a). λ e. (is.blocks a (counted a k.0 k.2)).free b l (k.1, k.0, k.3, k.2, turned k.0 k.1 k.4) (sym e))
-      (one_lower a b ne)
+      (lt_or_gt a b ne)
     where
       counted : (d p : ℕ) → IsInBlock places size d p → d < length c.blocks.items
       counted d p i = (is.blocks_count d).1 (let x : d * size ≤ p = i.0 in let y : p < places = i.2 in omega arith)
 
   pub places_are_ordered : 0 < size → AreColours g maps args places size c → (p q : ℕ) → p < places → q < places → p ≢ q → Conflict g maps args p q → (goes_before c size p q ≡ true) ⊎ (goes_before c size q p ≡ true)
   places_are_ordered some is p q lp lq ne k = ⊎_elim
-      (λ (e : p / size ≡ q / size). ⊎_elim (λ l. inl (by_inner p q e l)) (λ l. inr (by_inner q p (sym e) l)) (one_lower (get_or c.inner.items p 0) (get_or c.inner.items q 0) (inner_differ e)))
+      (λ (e : p / size ≡ q / size). ⊎_elim (λ l. inl (by_inner p q e l)) (λ l. inr (by_inner q p (sym e) l)) (lt_or_gt (get_or c.inner.items p 0) (get_or c.inner.items q 0) (inner_differ e)))
       (λ (d : p / size ≡ q / size → ⊥). ⊎_elim (λ l. inl (by_block p q l)) (λ l. inr (by_block q p l))
-      (one_lower (get_or c.blocks.items (p / size) 0) (get_or c.blocks.items (q / size) 0) (blocks_differ is (p / size) (q / size) d (p, q, in_block p lp, in_block q lq, k))))
+      (lt_or_gt (get_or c.blocks.items (p / size) 0) (get_or c.blocks.items (q / size) 0) (blocks_differ is (p / size) (q / size) d (p, q, in_block p lp, in_block q lq, k))))
       (cases_eq (p / size) (q / size))
     where
       in_block : (x : ℕ) → x < places → IsInBlock places size (x / size) x
@@ -42,7 +40,7 @@ module _ (g : MeshValue) (maps : List (Vec ℕ Global)) (args : List IncArg) (pl
       inner_differ e = ⊎_elim
           (λ (l : p < q). (is.inner q lq).free p l (e, k))
           (λ (l : q < p). λ f. (is.inner p lp).free q l (sym e, turned p q k) (sym f))
-          (one_lower p q ne)
+          (lt_or_gt p q ne)
 
       by_inner : (x y : ℕ) → x / size ≡ y / size → get_or c.inner.items x 0 < get_or c.inner.items y 0 → goes_before c size x y ≡ true
       by_inner x y e l =

@@ -2,7 +2,7 @@
 use Rattle.std.proofs.Common.{◌≡◌, ◌<◌, ◌≤◌, ◌||◌, ℕ, Bool, true, false, not, ◌&&◌, nat_lt, List, [], ◌∷◌, Option, Some, None, IfSome, Result, Ok, Err, if◌then◌else◌, refl, subst, codes, arith}
 use Rattle.std.specs.Prelude.{option_and_then, option_map, is_some}
 use Rattle.std.specs.Str.{bytes_eq}
-use Rattle.std.proofs.lemmas.Bool.{ltb-true, ltb-false, and_parts}
+use Rattle.std.proofs.lemmas.Bool.{ltb-true, ltb-false, and_parts, not-true}
 use Rattle.clap.specs.Walk.{Row, first_of}
 use Rattle.clap.specs.Kinds.{Kinds}
 use Rattle.clap.specs.Faults.{fault_of}
@@ -48,12 +48,8 @@ any (Some x) = tt
 abbrev IsTo : ℕ → ℕ → Type 0
 IsTo most n = (0 < n) × (n ≤ most)
 
-not_true : (b : Bool) → not b ≡ true → b ≡ false
-not_true true h = let bad : ⊥ = cc in absurd bad
-not_true false h = refl
-
 number_is : (most n : ℕ) (b : Bool) → nat_lt 0 n && not (nat_lt most n) ≡ b → Holds (IsTo most) (if b then Some n else None)
-number_is most n true e = let h = and_parts (nat_lt 0 n) (not (nat_lt most n)) e in (ltb-true 0 n h.0, ltb-false most n (not_true (nat_lt most n) h.1))
+number_is most n true e = let h = and_parts (nat_lt 0 n) (not (nat_lt most n)) e in (ltb-true 0 n h.0, ltb-false most n (not-true (nat_lt most n) h.1))
 number_is most n false e = tt
 
 number_holds : (most : ℕ) (word : List ℕ) → Holds (IsTo most) (number_to most word)

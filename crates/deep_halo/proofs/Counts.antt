@@ -1,11 +1,8 @@
 -- At most all numbers pass.
 use Rattle.std.proofs.Common.{◌≤◌, ℕ, zero, suc, Bool, true, false, cond, arith}
 use Rattle.rank_sets.specs.Below.{count_below}
-
-one_most : (t : Bool) → cond t 1 0 ≤ 1
-one_most true = omega arith
-one_most false = omega arith
+use Rattle.lemmas.proofs.Truth.{cond_bit}
 
 pub count_most : (n : ℕ) (p : ℕ → Bool) → count_below n p ≤ n
 count_most zero p = omega arith
-count_most (suc n) p = omega (arith, count_most n p, one_most (p n))
+count_most (suc n) p = omega (arith, count_most n p, cond_bit (p n))

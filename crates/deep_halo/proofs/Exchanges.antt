@@ -15,13 +15,13 @@ use Rattle.bound_chains.specs.Slices.{needs, owns_pair, slicing_of}
 use Rattle.bound_chains.proofs.Backwards.{owns_needed}
 use Rattle.chain_memory.specs.Places.{in_block}
 use Rattle.chain_stores.specs.Cells.{Values, BlocksHold}
-use Rattle.chain_stores.proofs.Writing.{cases_bool}
 use Rattle.chain_exchange.specs.declared.exchanges.Exchange.TheVariants.{Drop, Take}
 use Rattle.chain_exchange.specs.Exchanged.{is_copy, exchanged_all}
 use Rattle.chain_exchange.proofs.Exchanging.{owns_there}
 use Rattle.chain_ranks.specs.Running.{StoresStand}
 use Rattle.chain_ranks.proofs.OneElement.{read}
 use Rattle.deep_halo.specs.Programs.{IsHolding}
+use Rattle.lemmas.proofs.Truth.{cases_bool}
 
 module _ (b : BoundValue) (o : Owners) (owners : AreOwners b.mesh o) (st : ChainState KernelFault) where
   -- of a pair that a rank doesn't hold there are zeros

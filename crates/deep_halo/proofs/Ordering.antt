@@ -22,11 +22,12 @@ use Rattle.rank_memory.specs.Stops.{stop_in}
 use Rattle.placed_runs.specs.Placed.{HoldsWindows, LeavesPlaced, EndsPlaced}
 use Rattle.chain_memory.specs.Places.{in_block, all_cells, block_at, stands_at}
 use Rattle.chain_memory.proofs.Standing.{reached_there, stand_apart}
-use Rattle.chain_stores.proofs.Writing.{cases_bool, blocks_apart}
+use Rattle.chain_stores.proofs.Writing.{blocks_apart}
 use Rattle.chain_elements.specs.Constants.{constants_in}
 use Rattle.chain_ranks.proofs.OneElement.{read}
 use Rattle.chain_ranks.proofs.Reached.{is_reached}
 use Rattle.deep_halo.specs.Orders.{OwnersStand, OthersStay, LoopEnds}
+use Rattle.lemmas.proofs.Truth.{cases_bool}
 
 -- the constants' values, as the owners have them
 pub owned_constants : (b : BoundValue) (o : Owners) (law : ConstantsAreNumbered) (fits : Fits b) (memory : List ℤ) (s : Store) → OwnersStand b o memory s

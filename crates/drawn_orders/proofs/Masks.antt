@@ -1,7 +1,7 @@
 -- Turns ask only whether joins and sends are taken.
 use Rattle.std.proofs.Common.{◌≡◌, ℕ, zero, suc, ◌<◌, Bool, true, false, cond, refl, sym, ap, subst, ◌∙◌, arith, ⊎_elim, List, [], ◌∷◌, ◌++◌}
 use Rattle.std.specs.Prelude.{nat_lt, not, ◌&&◌, ◌||◌, ◌==◌}
-use Rattle.std.proofs.lemmas.Bool.{cases_eq, eq-eqb, ne_eqb, or_left, cond-true, cond-false}
+use Rattle.std.proofs.lemmas.Bool.{cases_eq, eq-eqb, ne_eqb, or_left, cond-true, cond-false, or_right}
 use Rattle.schedule_steps.specs.Outline.{Outline}
 use Rattle.schedule_steps.specs.declared.step.Step.{Step}
 use Rattle.schedule_steps.specs.declared.step.Step.TheVariants.{Send, Recv, Begin, End, Join}
@@ -10,10 +10,6 @@ use Rattle.schedule_steps.specs.Members.{same_refl}
 use Rattle.schedule_steps.specs.Turns.{marked}
 use Rattle.schedule_steps.specs.Drawn.{first_below, next_join, is_early, waits, numbers, drawn_number, picked, turn, turn_by, put_left, TakenBy, DrawnFrom, Turn, Over, JoinOf, StepOf}
 use Rattle.drawn_orders.specs.UnderWay.{is_rank_step}
-
-pub or_yes : (a b : Bool) → b ≡ true → (a || b) ≡ true
-or_yes true b e = refl
-or_yes false b e = e
 
 pub numbers_same : (s t : ℕ → Bool) (n : ℕ) → ((x : ℕ) → x < n → s x ≡ t x) → numbers s n ≡ numbers t n
 numbers_same s t zero h = refl
@@ -44,7 +40,7 @@ module _ (o : Outline) where
   pub left_planned : (rest : ℕ → List Step) (r : ℕ) (s : Step) (left : List Step) → rest r ≡ s ∷ left → Planned rest → Planned (put_left r left rest)
   left_planned rest r s left of_rank p y ly t h = ⊎_elim
       (λ (e : y ≡ r). p y ly t (ap (λ z. has (rest z) t) e ∙ (ap (λ z. has z t) of_rank
-      ∙ or_yes (same t s) (has left t) (sym (ap (λ z. has z t) (cond-true (y == r) left (rest y) (eq-eqb y r e))) ∙ h))))
+      ∙ or_right (same t s) (has left t) (sym (ap (λ z. has z t) (cond-true (y == r) left (rest y) (eq-eqb y r e))) ∙ h))))
       (λ (ne : y ≡ r → ⊥). p y ly t (sym (ap (λ z. has z t) (cond-false (y == r) left (rest y) (ne_eqb y r ne))) ∙ h))
       (cases_eq y r)
 

@@ -1,7 +1,7 @@
 -- A drawn order under way after one more step.
 use Rattle.std.proofs.Common.{◌≡◌, ℕ, ◌+◌, ◌<◌, ◌≤◌, Bool, true, false, cond, refl, sym, ap, subst, ◌∙◌, arith, ⊎_elim, List, [], ◌∷◌, ◌++◌}
 use Rattle.std.specs.Prelude.{nat_lt, ◌&&◌, ◌||◌, ◌==◌}
-use Rattle.std.proofs.lemmas.Bool.{lt-ltb, le-ltb, ltb-false, cases_eq, cases_lt, false≢true, eq-eqb, ne_eqb, or_left, and_from}
+use Rattle.std.proofs.lemmas.Bool.{lt-ltb, le-ltb, ltb-false, cases_eq, cases_lt, false≢true, eq-eqb, ne_eqb, or_left, and_from, or_right}
 use Rattle.std.proofs.lemmas.List.{append_assoc}
 use Rattle.schedule_steps.specs.Outline.{Outline}
 use Rattle.schedule_steps.specs.declared.step.Step.{Step}
@@ -10,7 +10,7 @@ use Rattle.schedule_steps.specs.Steps.{IsStep, Earlier, by_item, same, has, Acce
 use Rattle.schedule_steps.specs.Members.{same_refl, has_push}
 use Rattle.schedule_steps.specs.Turns.{marked}
 use Rattle.schedule_steps.specs.Drawn.{drawn_number, turn, put_left, TakenBy, DrawnFrom, Over, JoinOf, StepOf}
-use Rattle.drawn_orders.proofs.Masks.{or_yes, left_planned}
+use Rattle.drawn_orders.proofs.Masks.{left_planned}
 use Rattle.drawn_orders.specs.UnderWay.{IsNextJoin, sent_after, is_rank_step, IsUnderWay}
 
 pushed : (list : List Step) (s : Step) → has (list ++ (s ∷ [])) ≡ marked s (has list)
@@ -66,7 +66,7 @@ module _ (o : Outline) (list coming : List Step) (rest : ℕ → List Step) (x j
 
       known : (k : ℕ) → k < o.items → o.is_free k ≡ false → ((k == join) || has list (Join k)) ≡ nat_lt k next
       known k lt f = ⊎_elim
-          (λ (l : k < join). or_yes (k == join) (has list (Join k)) (u.joins k lt f ∙ lt-ltb k join l) ∙ sym (lt-ltb k next (omega arith)))
+          (λ (l : k < join). or_right (k == join) (has list (Join k)) (u.joins k lt f ∙ lt-ltb k join l) ∙ sym (lt-ltb k next (omega arith)))
           (λ (l : join ≤ k). ⊎_elim
           (λ (i : k ≡ join). ap (λ b. b || has list (Join k)) (eq-eqb k join i) ∙ sym (lt-ltb k next (omega arith)))
           (λ (ne : k ≡ join → ⊥). or_same (k == join) (has list (Join k)) (nat_lt k next) (ne_eqb k join ne)
@@ -129,7 +129,7 @@ module _ (o : Outline) (list coming : List Step) (rest : ℕ → List Step) (x j
 
         by_number : a ≡ y → b ≡ z → (((k == i) && true) || has list (Send k a b)) ≡ nat_lt k (i + 1)
         by_number ea eb = ⊎_elim
-            (λ (lt : k < i). or_yes ((k == i) && true) (has list (Send k a b)) (before (Send k a b) p (by_item a refl (sym ea) lt)) ∙ sym (lt-ltb k (i + 1) (omega arith)))
+            (λ (lt : k < i). or_right ((k == i) && true) (has list (Send k a b)) (before (Send k a b) p (by_item a refl (sym ea) lt)) ∙ sym (lt-ltb k (i + 1) (omega arith)))
             (λ (le : i ≤ k). ⊎_elim
             (λ (e : k ≡ i). ap (λ w. (w && true) || has list (Send k a b)) (eq-eqb k i e) ∙ sym (lt-ltb k (i + 1) (omega arith)))
             (λ (ne : k ≡ i → ⊥).

@@ -2,7 +2,7 @@
 use Rattle.std.proofs.Common.{◌≡◌, ℕ, ◌<◌, Bool, true, false, cond, refl, sym, ap, ◌∙◌, arith, ⊎_elim, List, [], ◌∷◌, length, length-set, get_or, set, map, Vec, Option, Some, None}
 use Rattle.std.specs.Prelude.{◌==◌, ◌&&◌, IfSome, IfNone}
 use Rattle.std.specs.declared.alloc.Global.{Global}
-use Rattle.std.proofs.lemmas.Bool.{cases_eq, eq-eqb, ne_eqb, cond-true, cond-false, and_from}
+use Rattle.std.proofs.lemmas.Bool.{cases_eq, eq-eqb, ne_eqb, cond-true, cond-false, and_from, and_right}
 use Rattle.std.proofs.lemmas.List.{get_or-map, map-set, get_or-set_same, get_or-set_other, length-map}
 use Rattle.schedule_steps.specs.declared.step.Step.{Step}
 use Rattle.drawn_orders.specs.Rests.{rest_of, rests, sent_below}
@@ -45,10 +45,6 @@ taken {A} L heads streams rank d new step lt count left r = ⊎_elim own other (
 abbrev items_of : Vec ℕ Global → List ℕ
 items_of v = v.items
 
-and_no : (v w : Bool) → w ≡ false → (v && w) ≡ false
-and_no true w e = e
-and_no false w e = refl
-
 pub marks : (rows : List (Vec ℕ Global)) (a b n : ℕ) (d v : Vec ℕ Global)
     → a < length rows
     → b < length (get_or (map (λ (z : Vec ℕ Global). z.items) rows) a [])
@@ -82,7 +78,7 @@ marks rows a b n d v la lb is s r = ap (λ z. get_or (get_or z s []) r 0) (map-s
         (λ (ne : r ≡ b → ⊥).
         get_or-set_other row b r n 0 ne
         ∙ (ap (λ z. get_or (get_or (map items_of rows) z []) r 0) (sym e)
-        ∙ sym (cond-false ((s == a) && (r == b)) n (sent_below rows s r) (and_no (s == a) (r == b) (ne_eqb r b ne)))))
+        ∙ sym (cond-false ((s == a) && (r == b)) n (sent_below rows s r) (and_right (s == a) (r == b) (ne_eqb r b ne)))))
         (cases_eq r b))
 
 pub others_kept : {A : Type 0} (L : A → List Step) (streams : List A) (rank : ℕ) (new : A) (r : ℕ) → (r ≡ rank → ⊥)

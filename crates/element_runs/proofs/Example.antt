@@ -23,6 +23,7 @@ use Rattle.reductions.specs.Access.{OpRw}
 use Rattle.schedule_laws.specs.Arguments.{Argument, Direct, Entries, reaches}
 use Rattle.element_runs.specs.ElementRun.{IsElementRun, Held}
 use Rattle.element_runs.specs.OnWindows.{OnWindows, no_cell}
+use Rattle.lemmas.proofs.Truth.{and_first, and_second}
 
 abbrev pub here : Pos
 here = record { line = 1; column = 1 }
@@ -63,14 +64,6 @@ only_first P p zero zero lt = p
 only_first P p zero (suc i) lt = absurd (omega arith)
 only_first P p (suc a) i lt = absurd (omega arith)
 
-and_left : (x y : Bool) → (x && y) ≡ true → x ≡ true
-and_left true y e = refl
-and_left false y e = e
-
-and_right : (x y : Bool) → (x && y) ≡ true → y ≡ true
-and_right true y e = e
-and_right false y e = absurd (let f : ⊥ = cc in f)
-
 is_cell : (c : DatCell) → c.dat ≡ 0 → c.element ≡ 0 → Data c ≡ cell_of 0 c.component
 is_cell c d e = ap (λ x. Data (record { dat = x; element = c.element; component = c.component })) d ∙ ap (λ x. Data (record { dat = 0; element = x; component = c.component })) e
 
@@ -84,10 +77,10 @@ module _ (entry : Entries) (width : ℕ → ℕ) where
 
   reached : (a : ℕ) (c : Cell) → a < 1 → is_reached c ≡ true → (i : ℕ) × (i < (mode_at modes a).dim) × (c ≡ cell_of a i)
   reached zero (Data c) lt r =
-      let more = and_right (0 == c.dat) ((0 == c.element) && nat_lt c.component 1) r in
-      let d : 0 ≡ c.dat = eqb-true 0 c.dat (and_left (0 == c.dat) ((0 == c.element) && nat_lt c.component 1) r) in
-      let e : 0 ≡ c.element = eqb-true 0 c.element (and_left (0 == c.element) (nat_lt c.component 1) more) in
-      (c.component, ltb-true c.component 1 (and_right (0 == c.element) (nat_lt c.component 1) more), is_cell c (sym d) (sym e))
+      let more = and_second (0 == c.dat) ((0 == c.element) && nat_lt c.component 1) r in
+      let d : 0 ≡ c.dat = eqb-true 0 c.dat (and_first (0 == c.dat) ((0 == c.element) && nat_lt c.component 1) r) in
+      let e : 0 ≡ c.element = eqb-true 0 c.element (and_first (0 == c.element) (nat_lt c.component 1) more) in
+      (c.component, ltb-true c.component 1 (and_second (0 == c.element) (nat_lt c.component 1) more), is_cell c (sym d) (sym e))
   reached zero (Variable v) lt r = absurd (let f : ⊥ = cc in f)
   reached (suc a) c lt r = absurd (omega arith)
 
@@ -114,10 +107,10 @@ module _ (entry : Entries) (width : ℕ → ℕ) where
     where
       first_reached : alike (Data c) (cell_of 0 0) ≡ true → ⊥
       first_reached e =
-          let more = and_right (c.dat == 0) ((c.element == 0) && (c.component == 0)) e in
-          let d : c.dat ≡ 0 = eqb-true c.dat 0 (and_left (c.dat == 0) ((c.element == 0) && (c.component == 0)) e) in
-          let l : c.element ≡ 0 = eqb-true c.element 0 (and_left (c.element == 0) (c.component == 0) more) in
-          let k : c.component ≡ 0 = eqb-true c.component 0 (and_right (c.element == 0) (c.component == 0) more) in
+          let more = and_second (c.dat == 0) ((c.element == 0) && (c.component == 0)) e in
+          let d : c.dat ≡ 0 = eqb-true c.dat 0 (and_first (c.dat == 0) ((c.element == 0) && (c.component == 0)) e) in
+          let l : c.element ≡ 0 = eqb-true c.element 0 (and_first (c.element == 0) (c.component == 0) more) in
+          let k : c.component ≡ 0 = eqb-true c.component 0 (and_second (c.element == 0) (c.component == 0) more) in
           let same : Data c ≡ cell_of 0 0 = is_cell c d l ∙ ap (cell_of 0) k in
           let r : true ≡ false = subst (λ x. is_reached x ≡ false) same (h 0 (omega arith)) in
           let f : ⊥ = cc in f

@@ -1,6 +1,6 @@
 -- The run of a kernel for one element is independent by its arguments.
 use Rattle.std.proofs.Common.{◌≡◌, ◌<◌, ◌+◌, ℕ, ℤ, Bool, true, false, List, refl, sym, ap, ◌∙◌, subst, ◌⊎◌, inl, inr, ⊎_elim, FitsSigned, w32}
-use Rattle.std.proofs.lemmas.Bool.{eq-eqb}
+use Rattle.std.proofs.lemmas.Bool.{eq-eqb, and_from}
 use Rattle.reductions.specs.Reduction.{Reduction, unit_of, merged, IsCommuting}
 use Rattle.kernel_types.specs.declared.faults.KernelFault.{KernelFault}
 use Rattle.kernel_types.specs.declared.kernels.RKernel.{RKernel}
@@ -16,7 +16,7 @@ use Rattle.schedule_laws.specs.Arguments.{Argument, access_of, reading, Entries,
 use Rattle.schedule_laws.specs.ByArguments.{SameRuns}
 use Rattle.schedule_laws.specs.Tells.{settling, All}
 use Rattle.element_runs.specs.ElementRun.{Held, EndsAs, IsElementRun, ElementRunsAreIndependent}
-use Rattle.element_runs.proofs.Reached.{same_test, both_hold, search_for, is_argument}
+use Rattle.element_runs.proofs.Reached.{same_test, search_for, is_argument}
 
 -- ---- tests and accesses
 
@@ -72,7 +72,7 @@ module _ (indep : Independence) (reads : ReadsStay) (ops : (r : Reduction) → I
     only_read : (a i : ℕ) (c : Cell) → i < (mode_at modes a).dim → c ≡ cell_of a i → All entry dim width arg n e c (λ x. x ≡ OpRead) → OnlyRead modes ts (target_at ts a).array ((target_at ts a).from + i)
     only_read a i c lt is all b j jt x y =
         let mt = subst (λ m. j < m) (held.counts b) jt in
-        let same = both_hold _ _ (eq-eqb _ _ x) (eq-eqb _ _ y) in
+        let same = and_from _ _ (eq-eqb _ _ x) (eq-eqb _ _ y) in
         access b j mt ∙ (all b (in_args b j mt) (also_reaches a i b j c lt mt is same))
 
     -- a cell that OP_READ arguments alone reach, or none, stays

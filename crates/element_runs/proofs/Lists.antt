@@ -1,7 +1,7 @@
 -- The run of a kernel for one element, over any lists and over whole arrays.
 use Rattle.std.proofs.Common.{◌≡◌, ◌<◌, ◌+◌, ℕ, ℤ, Bool, true, List, refl, sym, ap, ◌∙◌, subst, ⊎_elim, FitsSigned, w32}
 use Rattle.std.specs.Prelude.{nat_eq}
-use Rattle.std.proofs.lemmas.Bool.{false≢true, eq-eqb, eqb-true, and_parts}
+use Rattle.std.proofs.lemmas.Bool.{false≢true, eq-eqb, eqb-true, and_parts, and_from}
 use Rattle.reductions.specs.Reduction.{Reduction, unit_of, merged, IsCommuting}
 use Rattle.kernel_types.specs.declared.faults.KernelFault.{KernelFault}
 use Rattle.kernel_types.specs.declared.kernels.RKernel.{RKernel}
@@ -14,7 +14,7 @@ use Rattle.schedule_model.specs.Cells.{Cell, Store, InRange}
 use Rattle.schedule_model.specs.Effects.{Ran, Faulted, Finished}
 use Rattle.schedule_laws.specs.Arguments.{Argument, Entries, reaches}
 use Rattle.element_runs.specs.ElementRun.{Held, IsUnreached, EndsAs, IsElementRun, HoldsAll, OnArrays, EndsHolding, ElementRunsKeepRange, ElementRunsKeepReads, AnyListsServe, ElementRunsAgree, ElementRunsOnArrays}
-use Rattle.element_runs.proofs.Reached.{same_test, both_hold, search_for, is_argument}
+use Rattle.element_runs.proofs.Reached.{same_test, search_for, is_argument}
 use Rattle.element_runs.proofs.Independent.{stays}
 
 module _ (entry : Entries) (dim width : ℕ → ℕ) (arg : ℕ → Argument) (n e : ℕ) (modes : List Mode) (cell_of : ℕ → ℕ → Cell) where
@@ -104,7 +104,7 @@ module _ (entry : Entries) (dim width : ℕ → ℕ) (arg : ℕ → Argument) (n
               on.apart (cell_of a i) (cell_of b j) (on.there a i lt) (on.there b j mt)
               (sym (on.arrays a i lt) ∙ eqb-true (target_at ts a).array (target_at ts b).array x.0 ∙ on.arrays b j mt)
               (sym (on.indices a i lt) ∙ eqb-true ((target_at ts a).from + i) ((target_at ts b).from + j) x.1 ∙ on.indices b j mt)),
-          (λ t. both_hold (nat_eq (target_at ts a).array (target_at ts b).array) (nat_eq ((target_at ts a).from + i) ((target_at ts b).from + j))
+          (λ t. and_from (nat_eq (target_at ts a).array (target_at ts b).array) (nat_eq ((target_at ts a).from + i) ((target_at ts b).from + j))
               (eq-eqb (target_at ts a).array (target_at ts b).array (on.arrays a i lt ∙ ap array t ∙ sym (on.arrays b j mt)))
               (eq-eqb ((target_at ts a).from + i) ((target_at ts b).from + j) (on.indices a i lt ∙ ap index t ∙ sym (on.indices b j mt)))),
         );

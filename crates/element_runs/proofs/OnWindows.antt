@@ -1,7 +1,7 @@
 -- The run of a kernel for one element is that of its meaning on the windows' values.
 use Rattle.std.proofs.Common.{◌≡◌, ◌<◌, ◌+◌, ℕ, zero, suc, ℤ, pos, Bool, true, false, List, [], ◌∷◌, map, length, get_or, refl, sym, ap, ◌∙◌, subst, ⊎_elim, arith}
 use Rattle.std.specs.Prelude.{nat_eq, slice_index_or}
-use Rattle.std.proofs.lemmas.Bool.{cases_Bool, false≢true, eq-eqb, eqb-true, and_parts, cond-true, cond-false}
+use Rattle.std.proofs.lemmas.Bool.{cases_Bool, false≢true, eq-eqb, eqb-true, and_parts, cond-true, cond-false, and_from}
 use Rattle.kernel_types.specs.declared.faults.KernelFault.{KernelFault}
 use Rattle.kernel_types.specs.declared.kernels.RKernel.{RKernel}
 use Rattle.kernel_model.specs.Meaning.{Target, target_at, cell, read_arg, kernel_meaning}
@@ -16,7 +16,7 @@ use Rattle.schedule_laws.specs.Arguments.{Argument, Entries, reaches}
 use Rattle.flat_machine.specs.Layout.{lookup, of_core}
 use Rattle.element_runs.specs.ElementRun.{Held, IsUnreached, EndsAs, IsElementRun, AnyListsServe}
 use Rattle.element_runs.specs.OnWindows.{no_cell, OnWindows, core_of, ElementRunsOnWindows}
-use Rattle.element_runs.proofs.Reached.{both_hold, search_for, is_argument}
+use Rattle.element_runs.proofs.Reached.{search_for, is_argument}
 
 -- ---- lists
 map_at : (f : Cell → ℤ) (xs : List Cell) (j : ℕ) → j < length xs → get_or (map f xs) j (pos 0) ≡ f (get_or xs j no_cell)
@@ -78,7 +78,7 @@ module _ (entry : Entries) (dim width : ℕ → ℕ) (arg : ℕ → Argument) (n
           let x : (nat_eq (target_at ts a).array (target_at ts b).array ≡ true) × (nat_eq ((target_at ts a).from + i) ((target_at ts b).from + j) ≡ true) =
           and_parts (nat_eq (target_at ts a).array (target_at ts b).array) (nat_eq ((target_at ts a).from + i) ((target_at ts b).from + j)) t in
           sym (on.are a i lt) ∙ ap (λ m. get_or cells m no_cell) (eqb-true ((target_at ts a).from + i) ((target_at ts b).from + j) x.1) ∙ on.are b j mt),
-      (λ t. both_hold (nat_eq (target_at ts a).array (target_at ts b).array) (nat_eq ((target_at ts a).from + i) ((target_at ts b).from + j))
+      (λ t. and_from (nat_eq (target_at ts a).array (target_at ts b).array) (nat_eq ((target_at ts a).from + i) ((target_at ts b).from + j))
           (eq-eqb (target_at ts a).array (target_at ts b).array (on.arrays a i lt ∙ sym (on.arrays b j mt)))
           (eq-eqb ((target_at ts a).from + i) ((target_at ts b).from + j) (on.once ((target_at ts a).from + i) ((target_at ts b).from + j) (on.inside a i lt) (on.inside b j mt) (on.are a i lt ∙ t ∙ sym (on.are b j mt))))),
     );

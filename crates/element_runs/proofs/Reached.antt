@@ -12,10 +12,6 @@ same_test false false p q = refl
 same_test true false p q = sym (q.1 (p.0 refl))
 same_test false true p q = p.1 (q.0 refl)
 
-pub both_hold : (x y : Bool) → x ≡ true → y ≡ true → (x && y) ≡ true
-both_hold true y p q = q
-both_hold false y p q = p
-
 -- some argument of the first m reaches, or none does
 pub search_for : (p : ℕ → Bool) (m : ℕ) → ((a : ℕ) × (a < m) × (p a ≡ true)) ⊎ ((a : ℕ) → a < m → p a ≡ false)
 search_for p zero = inr (λ a lt. absurd (omega arith))

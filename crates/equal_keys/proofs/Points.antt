@@ -59,8 +59,3 @@ classes_from keys sorted of n m there points = record {
     (λ h. point_one sorted (get_or keys j 0) (get_or of i 0) (get_or of j 0) (subst (λ k. IsPoint sorted k (get_or of i 0)) h (points i il)) (points j jl)),
   );
 }
-
-pub there_from : (keys sorted : List ℕ) → length sorted ≡ length keys → IsPermutation keys sorted → (i : ℕ) → i < length keys → (k : ℕ) × (k < length sorted) × (get_or sorted k 0 ≡ get_or keys i 0)
-there_from keys sorted n p i il =
-    let g : Contains sorted (get_or keys i 0) = Contains-permutation keys sorted (get_or keys i 0) p (i, il, get_or_default keys i (get_or keys i 0) 0 il) in
-    (g.0, g.1, get_or_default sorted g.0 0 (get_or keys i 0) g.1 ∙ g.2)

@@ -9,30 +9,15 @@ use Rattle.kernel_model.specs.Independence.{store_after}
 use Rattle.fault_order.specs.declared.effects.Effects.{Effects}
 use Rattle.fault_order.specs.Effects.{may_be_out, sign_may_fault, count_at, may_fault, fault_if, in_order, either, effects_of, row_effects}
 use Rattle.fault_order.specs.Law.{HaveCounts, UnchangedAfterFaults}
-use Rattle.fault_order.proofs.Values.{HasValue, neither, sign_has, index_has, index_value, has_value}
+use Rattle.fault_order.proofs.Values.{HasValue, sign_has, index_has, index_value, has_value}
+use Rattle.std.proofs.lemmas.Bool.{and_parts, or_left, or_parts, or_right, true_from_ne_false}
 
 -- ---- tests
-
-both : (b c : Bool) → (b && c) ≡ true → (b ≡ true) × (c ≡ true)
-both true c e = (refl, e)
-both false c e = absurd (let f : ⊥ = cc in f)
-
-or_first : (b c : Bool) → b ≡ true → (b || c) ≡ true
-or_first true c e = refl
-or_first false c e = absurd (let f : ⊥ = cc in f)
-
-or_second : (b c : Bool) → c ≡ true → (b || c) ≡ true
-or_second true c e = refl
-or_second false c e = e
 
 not_both : (b c : Bool) → not (b && c) ≡ true → c ≡ true → b ≡ false
 not_both true true e f = absurd (let g : ⊥ = cc in g)
 not_both true false e f = absurd (let g : ⊥ = cc in g)
 not_both false c e f = refl
-
-is_true : (b : Bool) → (b ≡ false → ⊥) → b ≡ true
-is_true true h = refl
-is_true false h = absurd (h refl)
 
 -- ---- ends
 
@@ -43,41 +28,41 @@ EndsBy x s (Done t ls) = x.stores ≡ false → t ≡ s
 EndsBy x s (Faulted t ls f) = (x.faults ≡ true) × (x.stores ≡ false → t ≡ s) × (x.ordered ≡ true → t ≡ s)
 
 ends_after : (x y : Effects) (s t : Store) (o : Outcome) → (x.stores ≡ false → t ≡ s) → EndsBy y t o → EndsBy (in_order x y) s o
-ends_after x y s t (Done u ls) h k = λ e. let parts = neither x.stores y.stores e in k parts.1 ∙ h parts.0
+ends_after x y s t (Done u ls) h k = λ e. let parts = or_parts x.stores y.stores e in k parts.1 ∙ h parts.0
 ends_after x y s t (Faulted u ls f) h k = (
-  or_second x.faults y.faults k.0,
-  λ e. let parts = neither x.stores y.stores e in k.1 parts.1 ∙ h parts.0,
+  or_right x.faults y.faults k.0,
+  λ e. let parts = or_parts x.stores y.stores e in k.1 parts.1 ∙ h parts.0,
   λ e.
-      let parts = both (not (x.stores && y.faults)) (x.ordered && y.ordered) e in
-      k.2 (both x.ordered y.ordered parts.1).1 ∙ h (not_both x.stores y.faults parts.0 k.0),
+      let parts = and_parts (not (x.stores && y.faults)) (x.ordered && y.ordered) e in
+      k.2 (and_parts x.ordered y.ordered parts.1).1 ∙ h (not_both x.stores y.faults parts.0 k.0),
 )
 
 ends_then : (x y : Effects) (s : Store) (o : Outcome) (go : Store → List ℤ → Outcome) → EndsBy x s o → ((t : Store) (ls : List ℤ) → EndsBy y t (go t ls)) → EndsBy (in_order x y) s (then_do o go)
 ends_then x y s (Done t ls) go h k = ends_after x y s t (go t ls) h (k t ls)
 ends_then x y s (Faulted t ls f) go h k = (
-  or_first x.faults y.faults h.0,
-  λ e. h.1 (neither x.stores y.stores e).0,
-  λ e. h.2 (both x.ordered y.ordered (both (not (x.stores && y.faults)) (x.ordered && y.ordered) e).1).0,
+  or_left x.faults y.faults h.0,
+  λ e. h.1 (or_parts x.stores y.stores e).0,
+  λ e. h.2 (and_parts x.ordered y.ordered (and_parts (not (x.stores && y.faults)) (x.ordered && y.ordered) e).1).0,
 )
 
 ends_with : {A : Type 0} → (x : Effects) (s : Store) (ls : List ℤ) (r : Result A KernelFault) (go : A → Outcome) → (x.faults ≡ false → HasValue r) → ((v : A) → r ≡ Ok v → EndsBy x s (go v)) → EndsBy x s (with_value s ls r go)
 ends_with x s ls (Ok v) go h k = k v refl
-ends_with x s ls (Err f) go h k = (is_true x.faults h, λ e. refl, λ e. refl)
+ends_with x s ls (Err f) go h k = (true_from_ne_false x.faults h, λ e. refl, λ e. refl)
 
 ends_first : (x y : Effects) (s : Store) (o : Outcome) → EndsBy x s o → EndsBy (either x y) s o
-ends_first x y s (Done t ls) h = λ e. h (neither x.stores y.stores e).0
+ends_first x y s (Done t ls) h = λ e. h (or_parts x.stores y.stores e).0
 ends_first x y s (Faulted t ls f) h = (
-  or_first x.faults y.faults h.0,
-  λ e. h.1 (neither x.stores y.stores e).0,
-  λ e. h.2 (both x.ordered y.ordered e).0,
+  or_left x.faults y.faults h.0,
+  λ e. h.1 (or_parts x.stores y.stores e).0,
+  λ e. h.2 (and_parts x.ordered y.ordered e).0,
 )
 
 ends_second : (x y : Effects) (s : Store) (o : Outcome) → EndsBy y s o → EndsBy (either x y) s o
-ends_second x y s (Done t ls) h = λ e. h (neither x.stores y.stores e).1
+ends_second x y s (Done t ls) h = λ e. h (or_parts x.stores y.stores e).1
 ends_second x y s (Faulted t ls f) h = (
-  or_second x.faults y.faults h.0,
-  λ e. h.1 (neither x.stores y.stores e).1,
-  λ e. h.2 (both x.ordered y.ordered e).1,
+  or_right x.faults y.faults h.0,
+  λ e. h.1 (or_parts x.stores y.stores e).1,
+  λ e. h.2 (and_parts x.ordered y.ordered e).1,
 )
 
 ends_cond : (x : Effects) (s : Store) (b : Bool) (o p : Outcome) → EndsBy x s o → EndsBy x s p → EndsBy x s (cond b o p)
@@ -117,14 +102,14 @@ module _ (counts : List ℕ) (ts : List Target) (consts : List ℤ) (counted : H
     ends (Declare from count) s ls = λ e. refl
     ends (SetScalar k op opat e) s ls =
         let x = effects_of counts (SetScalar k op opat e) in
-        let parts = neither (sign_may_fault op e) (may_fault counts e) in
+        let parts = or_parts (sign_may_fault op e) (may_fault counts e) in
         ends_with x s ls (value_of ts consts e s ls) _ (λ h. has_value ts consts s ls counts counted e (parts h).1)
         (λ v f. ends_with x s ls (stored op opat (slice_index_or ls k (pos 0)) v) _ (λ h. sign_has ts consts s ls op e opat (slice_index_or ls k (pos 0)) (parts h).0 v f)
         (λ r g. λ h. refl))
     ends (SetLocal from count form ix at op opat e) s ls =
         let x = effects_of counts (SetLocal from count form ix at op opat e) in
-        let parts = neither (may_be_out count ix) (sign_may_fault op e || may_fault counts e) in
-        let sides = neither (sign_may_fault op e) (may_fault counts e) in
+        let parts = or_parts (may_be_out count ix) (sign_may_fault op e || may_fault counts e) in
+        let sides = or_parts (sign_may_fault op e) (may_fault counts e) in
         ends_with x s ls (value_of ts consts ix s ls) _ (λ h. index_value ts consts s ls count ix (parts h).0)
         (λ z d. ends_with x s ls (index_in count at z) _ (λ h. index_has ts consts s ls count count ix at (omega arith) (parts h).0 z d)
         (λ i c. ends_with x s ls (value_of ts consts e s ls) _ (λ h. has_value ts consts s ls counts counted e (sides (parts h).1).1)
@@ -132,8 +117,8 @@ module _ (counts : List ℕ) (ts : List Target) (consts : List ℤ) (counted : H
         (λ r g. λ h. refl))))
     ends (SetArg a form ix at op opat e) s ls =
         let x = effects_of counts (SetArg a form ix at op opat e) in
-        let parts = λ (h : x.faults ≡ false). neither (may_be_out (count_at counts a) ix) (sign_may_fault op e || may_fault counts e) (neither (may_be_out (count_at counts a) ix || (sign_may_fault op e || may_fault counts e)) false h).0 in
-        let sides = neither (sign_may_fault op e) (may_fault counts e) in
+        let parts = λ (h : x.faults ≡ false). or_parts (may_be_out (count_at counts a) ix) (sign_may_fault op e || may_fault counts e) (or_parts (may_be_out (count_at counts a) ix || (sign_may_fault op e || may_fault counts e)) false h).0 in
+        let sides = or_parts (sign_may_fault op e) (may_fault counts e) in
         ends_with x s ls (value_of ts consts ix s ls) _ (λ h. index_value ts consts s ls (count_at counts a) ix (parts h).0)
         (λ z d. ends_with x s ls (index_in (target_at ts a).count at z) _ (λ h. index_has ts consts s ls (count_at counts a) (target_at ts a).count ix at (counted a) (parts h).0 z d)
         (λ i c. ends_with x s ls (value_of ts consts e s ls) _ (λ h. has_value ts consts s ls counts counted e (sides (parts h).1).1)
@@ -142,7 +127,7 @@ module _ (counts : List ℕ) (ts : List Target) (consts : List ℤ) (counted : H
     ends (If' e p a q b) s ls =
         let x = either (effects_of counts a) (effects_of counts b) in
         let m = fault_if (may_fault counts e) in
-        ends_with (in_order m x) s ls (value_of ts consts e s ls) _ (λ h. has_value ts consts s ls counts counted e (neither (may_fault counts e) x.faults h).0)
+        ends_with (in_order m x) s ls (value_of ts consts e s ls) _ (λ h. has_value ts consts s ls counts counted e (or_parts (may_fault counts e) x.faults h).0)
         (λ v f. ends_after m x s s (cond (is_zero v) (meaning ts consts b s ls) (meaning ts consts a s ls)) (λ h. refl)
         (ends_cond x s (is_zero v) (meaning ts consts b s ls) (meaning ts consts a s ls)
         (ends_second (effects_of counts a) (effects_of counts b) s (meaning ts consts b s ls) (ends b s ls))

@@ -1,7 +1,7 @@
 -- Expressions that can't fault have values.
 use Rattle.std.proofs.Common.{◌≡◌, ℕ, ℤ, pos, ◌≤◌, ◌<◌, List, Result, Ok, Err, Bool, true, false, cond, ◌||◌, refl, sym, subst, arith}
 use Rattle.std.specs.Prelude.{nat_lt}
-use Rattle.std.proofs.lemmas.Bool.{ltb-true, lt-ltb}
+use Rattle.std.proofs.lemmas.Bool.{ltb-true, lt-ltb, or_parts}
 use Rattle.op_num.specs.declared.refusals.Fault.TheVariants.{Index, DivZero, ShiftCount}
 use Rattle.c_lex.specs.declared.tokens.Pos.{Pos}
 use Rattle.c_tree.specs.declared.expressions.BinaryOp.{BinaryOp}
@@ -20,10 +20,6 @@ use Rattle.fault_order.specs.Law.{HaveCounts}
 abbrev pub HasValue : {A : Type 0} → Result A KernelFault → Type 0
 HasValue (Ok v) = Unit {0}
 HasValue (Err f) = ⊥
-
-pub neither : (b c : Bool) → (b || c) ≡ false → (b ≡ false) × (c ≡ false)
-neither true c e = absurd (let f : ⊥ = cc in f)
-neither false c e = (refl, e)
 
 is_not : (b : Bool) → not b ≡ false → b ≡ true
 is_not true e = refl
@@ -106,19 +102,19 @@ module _ (ts : List Target) (consts : List ℤ) (s : Store) (ls : List ℤ) wher
     has_value (Const' from count form p e at) h = element_has count count e at _ (omega arith) h
     has_value (Unary' op p a) h = value_then (value_of ts consts a s ls) _ (has_value a h) (λ v f. tt)
     has_value (Binary' op p a q b at) h =
-        let parts = neither (operator_may_fault op b) (may_fault counts b || may_fault counts a) h in
-        let sides = neither (may_fault counts b) (may_fault counts a) parts.1 in
+        let parts = or_parts (operator_may_fault op b) (may_fault counts b || may_fault counts a) h in
+        let sides = or_parts (may_fault counts b) (may_fault counts a) parts.1 in
         value_then (value_of ts consts a s ls) _ (has_value a sides.1)
         (λ x f. value_cond (is_settled op x) (Ok (truth (not (is_zero x)))) (on_value Err (value_of ts consts b s ls) (λ y. apply op at x y)) tt
         (value_then (value_of ts consts b s ls) (λ y. apply op at x y) (has_value b sides.0) (operator_has op b at x parts.0)))
     has_value (Choice' p c q a r b) h =
-        let parts = neither (may_fault counts a) (may_fault counts b || may_fault counts c) h in
-        let sides = neither (may_fault counts b) (may_fault counts c) parts.1 in
+        let parts = or_parts (may_fault counts a) (may_fault counts b || may_fault counts c) h in
+        let sides = or_parts (may_fault counts b) (may_fault counts c) parts.1 in
         value_then (value_of ts consts c s ls) (λ x. cond (is_zero x) (value_of ts consts b s ls) (value_of ts consts a s ls)) (has_value c sides.1)
         (λ x f. value_cond (is_zero x) (value_of ts consts b s ls) (value_of ts consts a s ls) (has_value b sides.0) (has_value a parts.0))
     has_value (Paren' p a) h = has_value a h
     has_value (Extremum' which p a q b) h =
-        let sides = neither (may_fault counts b) (may_fault counts a) h in
+        let sides = or_parts (may_fault counts b) (may_fault counts a) h in
         value_then (value_of ts consts a s ls) _ (has_value a sides.1)
         (λ x f. value_then (value_of ts consts b s ls) _ (has_value b sides.0) (λ y g. tt))
     has_value (Absolute' p a) h = value_then (value_of ts consts a s ls) _ (has_value a h) (λ v f. tt)

@@ -7,6 +7,7 @@ use Rattle.schedule_model.specs.Tests.{same_cell_refl, same_cell_true}
 use Rattle.flat_machine.specs.Layout.{lookup, among}
 use Rattle.flat_machine.specs.Scatter.{Once, scatter, looked_up, Placed}
 use Rattle.flat_machine.proofs.Rows.{updated_at, updated_length}
+use Rattle.lemmas.proofs.Lists.{length-set_if}
 
 -- a cell that isn't among them
 lookup_none : (xs : List Cell) (ws : List ℤ) (c : Cell) (d : ℤ) → among xs c ≡ false → lookup xs ws c d ≡ d
@@ -20,15 +21,11 @@ cond_same : (b : Bool) (v : ℤ) → cond b v v ≡ v
 cond_same true v = refl
 cond_same false v = refl
 
-set_if_length : (b : Bool) (xs : List ℤ) (i : ℕ) (w : ℤ) → length (cond b (set xs i w) xs) ≡ length xs
-set_if_length true xs i w = length-set xs i w
-set_if_length false xs i w = refl
-
 module _ (taken : DatCell → Bool) (place : DatCell → ℕ) (cell_at : ℕ → DatCell) where
   scatter_length : (xs : List Cell) (ws buffer : List ℤ) → length (scatter taken place xs ws buffer) ≡ length buffer
   scatter_length [] ws buffer = refl
   scatter_length (x ∷ xs) [] buffer = refl
-  scatter_length (Data c ∷ xs) (w ∷ ws) buffer = scatter_length xs ws (cond (taken c) (set buffer (place c) w) buffer) ∙ set_if_length (taken c) buffer (place c) w
+  scatter_length (Data c ∷ xs) (w ∷ ws) buffer = scatter_length xs ws (cond (taken c) (set buffer (place c) w) buffer) ∙ length-set_if (taken c) buffer (place c) w
   scatter_length (Variable v ∷ xs) (w ∷ ws) buffer = scatter_length xs ws buffer
 
   -- what an index has after one cell was written
@@ -81,7 +78,7 @@ module _ (taken : DatCell → Bool) (place : DatCell → ℕ) (cell_at : ℕ →
   at [] ws buffer once h i lt = sym (cond_same (taken (cell_at i)) (get_or buffer i (pos 0)))
   at (x ∷ xs) [] buffer once h i lt = sym (cond_same (taken (cell_at i)) (get_or buffer i (pos 0)))
   at (Data c ∷ xs) (w ∷ ws) buffer once h i lt =
-      let size : length (cond (taken c) (set buffer (place c) w) buffer) ≡ length buffer = set_if_length (taken c) buffer (place c) w in
+      let size : length (cond (taken c) (set buffer (place c) w) buffer) ≡ length buffer = length-set_if (taken c) buffer (place c) w in
       at xs ws (cond (taken c) (set buffer (place c) w) buffer) once.1 (subst (Placed taken place cell_at xs) (sym size) (fewer (Data c) xs (length buffer) h)) i (subst (λ z. i < z) (sym size) lt)
       ∙ one_more c xs w ws buffer i once.0 h lt
   at (Variable v ∷ xs) (w ∷ ws) buffer once h i lt = at xs ws buffer once.1 (fewer (Variable v) xs (length buffer) h) i lt

@@ -7,7 +7,6 @@ mod Facing
 mod Whole
 mod Assembling
 mod Converting
-mod Fresh
 mod Spelled
 mod One
 mod OneNumbers

@@ -4,15 +4,15 @@ use Rattle.std.specs.declared.alloc.Global.{Global}
 use Rattle.std.proofs.lemmas.Bool.{cases_eq, eq-eqb, ne_eqb}
 use Rattle.std.proofs.lemmas.List.{append-nil}
 use Rattle.rank_sets.specs.Below.{row, rows}
-use Rattle.rank_sets.proofs.Bools.{and_false, and_true}
 use Rattle.rank_sets.proofs.Rows.{rows_set_same, rows_set_other, rows_push, rows_push_left}
+use Rattle.std.proofs.Math.Bool.{and-false, and-true}
 
 pub pushed_rows : (exports : List (Vec (Vec ℕ Global) Global)) (owner n : ℕ) (v : Vec (Vec ℕ Global) Global) (news : List (Vec ℕ Global)) (element : ℕ) (ranks : ℕ → Bool) → owner < length exports → v.items ≡ news → ((r : ℕ) → r < n → row news r ≡ row (rows exports owner) r ++ cond (ranks r) (element ∷ []) []) → (a r : ℕ) → a < n → r < n → row (rows (set exports owner v) a) r ≡ row (rows exports a) r ++ cond (ranks r && nat_eq owner a) (element ∷ []) []
 pushed_rows exports owner n v news element ranks l e h a r la lr = ⊎_elim
     (λ (q : a ≡ owner).
-    rw (q, eq-eqb owner owner refl, and_true (ranks r)) (ap (λ z. row z r) (rows_set_same exports owner v l ∙ e) ∙ h r lr))
+    rw (q, eq-eqb owner owner refl, and-true (ranks r)) (ap (λ z. row z r) (rows_set_same exports owner v l ∙ e) ∙ h r lr))
     (λ (m : a ≡ owner → ⊥).
-    rw (ne_eqb owner a (λ q. m (sym q)), and_false (ranks r)) (ap (λ z. row z r) (rows_set_other exports owner a v m) ∙ sym (append-nil (row (rows exports a) r))))
+    rw (ne_eqb owner a (λ q. m (sym q)), and-false (ranks r)) (ap (λ z. row z r) (rows_set_other exports owner a v m) ∙ sym (append-nil (row (rows exports a) r))))
     (cases_eq a owner)
 
 pub pushed_lengths : (exports : List (Vec (Vec ℕ Global) Global)) (owner n : ℕ) (v : Vec (Vec ℕ Global) Global) → owner < length exports → length v.items ≡ n → ((a : ℕ) → a < length exports → length (rows exports a) ≡ n) → (a : ℕ) → a < length exports → length (rows (set exports owner v) a) ≡ n

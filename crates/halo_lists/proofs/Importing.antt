@@ -8,14 +8,14 @@ use Rattle.rank_sets.specs.Below.{any_below}
 use Rattle.rank_sets.specs.RankSet.{has, has_at}
 use Rattle.mesh_decl.specs.Mesh.{MeshValue, set_count, map_count, set_size, map_from, map_to, map_dim, target, IsInRange}
 use Rattle.mesh_decl.specs.Owners.{AreOwners, owner_of, owners_in}
-use Rattle.rank_sets.proofs.Bools.{same_Bool}
 use Rattle.rank_sets.proofs.Below.{any_witness, any_from, any_agree}
 use Rattle.halo_lists.specs.Halo.{reaches_by, reaches, owns, imports_execute, executes, named_by, named_from, named, imports_nonexecute, imports, is_core}
 use Rattle.halo_lists.specs.Sets.{AreExecuting, has_in, sets_in}
 use Rattle.halo_lists.proofs.SetsReading.{sets_read}
-use Rattle.halo_lists.proofs.Steps.{eqb_comm}
 use Rattle.std.proofs.lemmas.Bool.{cases_eq}
 use Rattle.std.proofs.lemmas.List.{get_or_push, get_or_append_left}
+use Rattle.lemmas.proofs.Numbers.{nat_eq_comm}
+use Rattle.lemmas.proofs.Truth.{iff_eq}
 
 without_own : (w h : Bool) → ((w || (not w && h)) && not w) ≡ (not w && h)
 without_own true h = refl
@@ -39,7 +39,7 @@ owned_at o s owners e x r = ap (λ (z : List ℕ). nat_eq (get_or z x 0) r) e
 pub execute_has : (g : MeshValue) (o : Owners) (s x owner : ℕ) (executing none single exec : RankSet) → owner ≡ owner_of o s x → ((r : ℕ) → has executing r ≡ executes g o s x r) → ((r : ℕ) → has none r ≡ false) → ((r : ℕ) → has single r ≡ (has none r || nat_eq r owner)) → ((r : ℕ) → r < 64 → has exec r ≡ (has executing r && not (has single r))) → (r : ℕ) → r < 64 → has exec r ≡ imports_execute g o s x r
 unfolding executes imports_execute owns
 execute_has g o s x owner executing none single exec e h without one less r l =
-    let single_is : has single r ≡ nat_eq (owner_of o s x) r = one r ∙ (ap (λ z. z || nat_eq r owner) (without r) ∙ (eqb_comm r owner ∙ ap (λ z. nat_eq z r) e)) in
+    let single_is : has single r ≡ nat_eq (owner_of o s x) r = one r ∙ (ap (λ z. z || nat_eq r owner) (without r) ∙ (nat_eq_comm r owner ∙ ap (λ z. nat_eq z r) e)) in
     less r l ∙ (ap (λ z. has executing r && not z) single_is ∙ (ap (λ z. z && not (nat_eq (owner_of o s x) r)) (h r) ∙ without_own (nat_eq (owner_of o s x) r) (reaches g o s x r)))
 
 -- those that name it and don't execute it
@@ -115,7 +115,7 @@ pub core_iff : (g : MeshValue) (o : Owners) (s x : ℕ) → IsInRange g → AreO
 unfolding is_core imports_execute owns reaches
 core_iff g o s x ok own ls lx b iff =
     let foreign : ℕ → Bool = λ m. nat_eq (map_from g m) s && any_below (map_dim g m) (λ i. not (nat_eq (owner_of o (map_to g m) (target g m x i)) (owner_of o s x))) in
-    same_Bool b (not (any_below (map_count g) foreign))
+    iff_eq b (not (any_below (map_count g) foreign))
     (λ t. not_from_false (any_below (map_count g) foreign) (false_from_ne_true (any_below (map_count g) foreign) (λ a.
     let m = any_witness (map_count g) foreign a in
     let c = and_parts (nat_eq (map_from g m.0) s) (any_below (map_dim g m.0) (λ i. not (nat_eq (owner_of o (map_to g m.0) (target g m.0 x i)) (owner_of o s x)))) m.2 in

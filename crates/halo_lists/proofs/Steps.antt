@@ -5,8 +5,9 @@ use Rattle.rank_sets.specs.Below.{any_below}
 use Rattle.rank_sets.specs.RankSet.{has, has_at}
 use Rattle.rank_sets.specs.declared.rank_set.RankSet.{RankSet}
 use Rattle.rank_sets.proofs.Below.{any_more}
-use Rattle.rank_sets.proofs.Bools.{and_false, and_true, or_false}
 use Rattle.rank_sets.proofs.Rows.{has_at_set_same, has_at_set_other, has_at_push_left, has_at_push}
+use Rattle.lemmas.proofs.Truth.{or_assoc}
+use Rattle.std.proofs.Math.Bool.{and-false, and-true, or-false}
 
 -- one more way to have a mark
 or_and_more : (b h a e : Bool) → ((b || (h && a)) || (h && e)) ≡ (b || (h && (a || e)))
@@ -15,18 +16,14 @@ or_and_more true false a e = refl
 or_and_more false true a e = refl
 or_and_more false false a e = refl
 
-pub or_assoc : (a b c : Bool) → ((a || b) || c) ≡ (a || (b || c))
-or_assoc true b c = refl
-or_assoc false b c = refl
-
 -- a mark at target t: the union there, the rest as it was
 pub union_at : (now : List RankSet) (t : ℕ) (s ranks : RankSet) → t < length now → ((r : ℕ) → has s r ≡ (has_at now t r || has ranks r)) → (y r : ℕ) → has_at (set now t s) y r ≡ (has_at now y r || (has ranks r && nat_eq t y))
 union_at now t s ranks l h y r = ⊎_elim
     (λ (q : y ≡ t).
-    rw (q, eq-eqb t t refl, and_true (has ranks r)) (has_at_set_same now t s l r ∙ h r))
+    rw (q, eq-eqb t t refl, and-true (has ranks r)) (has_at_set_same now t s l r ∙ h r))
     (λ (n : y ≡ t → ⊥).
     let m : t ≡ y → ⊥ = λ q. n (sym q) in
-    rw (ne_eqb t y m, and_false (has ranks r), or_false (has_at now y r)) (has_at_set_other now t y s n r))
+    rw (ne_eqb t y m, and-false (has ranks r), or-false (has_at now y r)) (has_at_set_other now t y s n r))
     (cases_eq y t)
 
 pub name_more : (b : Bool) (now : List RankSet) (t : ℕ) (s ranks : RankSet) (n : ℕ) (f : ℕ → ℕ) → t < length now → ((r : ℕ) → has s r ≡ (has_at now t r || has ranks r)) → t ≡ f n → (y r : ℕ) → has_at now y r ≡ (b || (has ranks r && any_below n (λ i. nat_eq (f i) y))) → has_at (set now t s) y r ≡ (b || (has ranks r && any_below (n + 1) (λ i. nat_eq (f i) y)))
@@ -45,17 +42,14 @@ pub map_step_yes : (old now : Bool) (n : ℕ) (e p : ℕ → Bool) → old ≡ a
 map_step_yes old now n e p h t k = k ∙ (ap (λ z. z || p n) h ∙ (ap (λ z. any_below n (λ m. e m && p m) || (z && p n)) (sym t) ∙ sym (any_more n (λ m. e m && p m))))
 
 pub map_step_no : (old : Bool) (n : ℕ) (e p : ℕ → Bool) → old ≡ any_below n (λ m. e m && p m) → e n ≡ false → old ≡ any_below (n + 1) (λ m. e m && p m)
-map_step_no old n e p h t = h ∙ (sym (or_false (any_below n (λ m. e m && p m))) ∙ (ap (λ z. any_below n (λ m. e m && p m) || (z && p n)) (sym t) ∙ sym (any_more n (λ m. e m && p m))))
+map_step_no old n e p h t = h ∙ (sym (or-false (any_below n (λ m. e m && p m))) ∙ (ap (λ z. any_below n (λ m. e m && p m) || (z && p n)) (sym t) ∙ sym (any_more n (λ m. e m && p m))))
 
 -- the same beside what is so already
 pub own_step_yes : (b old now : Bool) (n : ℕ) (e p : ℕ → Bool) → old ≡ (b || any_below n (λ m. e m && p m)) → e n ≡ true → now ≡ (old || p n) → now ≡ (b || any_below (n + 1) (λ m. e m && p m))
 own_step_yes b old now n e p h t k = any_step b old now n (λ m. e m && p m) h (k ∙ ap (λ z. old || (z && p n)) (sym t))
 
 pub own_step_no : (b old : Bool) (n : ℕ) (e p : ℕ → Bool) → old ≡ (b || any_below n (λ m. e m && p m)) → e n ≡ false → old ≡ (b || any_below (n + 1) (λ m. e m && p m))
-own_step_no b old n e p h t = any_step b old old n (λ m. e m && p m) h (sym (or_false old) ∙ ap (λ z. old || (z && p n)) (sym t))
-
-pub none_yet : (b : Bool) → b ≡ (b || false)
-none_yet b = sym (or_false b)
+own_step_no b old n e p h t = any_step b old old n (λ m. e m && p m) h (sym (or-false old) ∙ ap (λ z. old || (z && p n)) (sym t))
 
 -- one more set written, of sets that were there
 pub set_more : (now initial : List RankSet) (n : ℕ) (s : RankSet) (p : ℕ → ℕ → Bool) → n < length now → ((r : ℕ) → has s r ≡ (has_at now n r || p n r)) → ((x r : ℕ) → x < n → has_at now x r ≡ (has_at initial x r || p x r)) → ((x r : ℕ) → n ≤ x → has_at now x r ≡ has_at initial x r) → (x r : ℕ) → x < n + 1 → has_at (set now n s) x r ≡ (has_at initial x r || p x r)
@@ -73,9 +67,3 @@ has_more xs s n p e h k x r l = ⊎_elim
     (λ (q : x ≡ n). rw q (has_at_push xs s n e r ∙ k r))
     (λ (m : x ≡ n → ⊥). let lx : x < n = omega arith in has_at_push_left xs s x (rw e lx) r ∙ h x r lx)
     (cases_eq x n)
-
-pub eqb_comm : (a b : ℕ) → nat_eq a b ≡ nat_eq b a
-eqb_comm a b = ⊎_elim
-    (λ (e : a ≡ b). eq-eqb a b e ∙ sym (eq-eqb b a (sym e)))
-    (λ (n : a ≡ b → ⊥). ne_eqb a b n ∙ sym (ne_eqb b a (λ e. n (sym e))))
-    (cases_eq a b)

@@ -13,6 +13,7 @@ use Rattle.in_place.specs.InPlace.{NameTheSame, LeavesUnwritten, IsSpared, EndsI
 use Rattle.in_place.specs.Leaving.{InWindows, ObeyingLeave, UnstoringLeave}
 use Rattle.in_place.proofs.Standings.{at, stands_within, gathered_length, gathered_at}
 use Rattle.in_place.proofs.Scattering.{scattered_is}
+use Rattle.lemmas.proofs.Numbers.{eq_both}
 
 -- ---- which cells are reached
 
@@ -57,12 +58,6 @@ fits_windows spans ts inside ws long = record {
       subst (λ x. (target_at ts a).from + i < length (slice_index_or (ws ∷ []) x [])) (sym (inside a i lt).0)
       (subst (λ n. (target_at ts a).from + i < n) (sym long) (inside a i lt).1);
 }
-
-eq_both : (x y u v : ℕ) → (x ≡ y → u ≡ v) → (u ≡ v → x ≡ y) → nat_eq x y ≡ nat_eq u v
-eq_both x y u v f g = ⊎_elim
-    (λ (e : x ≡ y). eq-eqb x y e ∙ sym (eq-eqb u v (f e)))
-    (λ (n : x ≡ y → ⊥). ne_eqb x y n ∙ sym (ne_eqb u v (λ e. n (g e))))
-    (cases_eq x y)
 
 one_array : (ts : List Target) → ((a : ℕ) → (target_at ts a).array ≡ 0) → (a i b j : ℕ) → same_cell ts a i b j ≡ nat_eq ((target_at ts a).from + i) ((target_at ts b).from + j)
 one_array ts first a i b j =

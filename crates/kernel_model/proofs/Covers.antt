@@ -10,7 +10,8 @@ use Rattle.reductions.specs.Access.{Access, OpRead, OpWrite, OpRw, OpReduce}
 use Rattle.kernel_model.specs.Obeys.{Event, Assigned, HasAssigned, with_assigned}
 use Rattle.kernel_model.specs.Refusals.{Rule, WritesRead, ReadsInc, IncNotSum, ReadsUnwritten, NotAllWritten, WriteIndexNotStatic, LiteralIndexOut, MinMaxForm, argument_of, index_of, place_of, is_target, is_sum, is_extremum, is_read, opposite, IsOut, IsUnwritten, Breaks}
 use Rattle.kernel_model.specs.Walk.{Breach, Covered, none_covered, with_covered, both_covered, is_op_read, is_op_write, is_op_reduce, is_op_inc, is_op_extremum, is_unknown, is_out, is_unwritten, breaks, with_rule, with_rules}
-use Rattle.kernel_model.proofs.Firsts.{d_iff, d_and, d_three, d_true, d_false, d_holds, d_fails, d_some, IsFirst, first_iff, OrIf, noted_if_first}
+use Rattle.kernel_model.proofs.Firsts.{d_iff, d_and, d_three, d_true, d_false, d_fails, d_some, IsFirst, first_iff, OrIf, noted_if_first}
+use Rattle.lemmas.proofs.Truth.{decides_itself}
 
 -- ---- what every path has assigned
 
@@ -127,16 +128,16 @@ d_unwritten c f cov dim a (Some (pos i)) =
 
 module _ {I : Type 0} (p0 : I) (c : Covered) (f : I → Assigned) (cov : Covers c f) (acc : Access) (dim : ℕ) (e : Event) where
   d_breaks : (rule : Rule) → Decides (breaks c acc dim e rule) ((p : I) × Breaks acc dim (f p) e rule)
-  d_breaks WritesRead = d_some _ p0 (d_and _ _ (d_op_read acc) (d_holds (is_target e)))
-  d_breaks ReadsInc = d_some _ p0 (d_and _ _ (d_op_reduce acc) (d_holds (is_read acc e)))
-  d_breaks IncNotSum = d_some _ p0 (d_three _ _ _ (d_op_inc acc) (d_holds (is_target e)) (d_fails (is_sum e)))
+  d_breaks WritesRead = d_some _ p0 (d_and _ _ (d_op_read acc) (decides_itself (is_target e)))
+  d_breaks ReadsInc = d_some _ p0 (d_and _ _ (d_op_reduce acc) (decides_itself (is_read acc e)))
+  d_breaks IncNotSum = d_some _ p0 (d_three _ _ _ (d_op_inc acc) (decides_itself (is_target e)) (d_fails (is_sum e)))
   d_breaks ReadsUnwritten =
       d_iff _ (λ h. (h.1.1.0, (h.0, h.1.0, h.1.1.1))) (λ h. (h.1.0, (h.1.1, (h.0, h.1.2))))
-      (d_and _ _ (d_op_write acc) (d_and _ _ (d_holds (is_read acc e)) (d_unwritten c f cov dim (argument_of e) (index_of e))))
+      (d_and _ _ (d_op_write acc) (d_and _ _ (decides_itself (is_read acc e)) (d_unwritten c f cov dim (argument_of e) (index_of e))))
   d_breaks NotAllWritten = d_false (λ h. h.1)
   d_breaks WriteIndexNotStatic = d_some _ p0 (d_and _ _ (d_op_write acc) (d_unknown (index_of e)))
   d_breaks LiteralIndexOut = d_some _ p0 (d_out dim (index_of e))
-  d_breaks MinMaxForm = d_some _ p0 (d_three _ _ _ (d_op_extremum acc) (d_holds (is_target e)) (d_fails (is_extremum acc e)))
+  d_breaks MinMaxForm = d_some _ p0 (d_three _ _ _ (d_op_extremum acc) (decides_itself (is_target e)) (d_fails (is_extremum acc e)))
 
   -- a rule that the event breaks on some path
   abbrev pub EventBreach : Rule → Pos → Type 0

@@ -31,9 +31,6 @@ d_true p = (λ e. p, λ h. refl)
 pub d_false : {P : Type 0} → (P → ⊥) → Decides false P
 d_false n = (λ e. absurd (let f : ⊥ = cc in f), λ p. absurd (n p))
 
-pub d_holds : (r : Bool) → Decides r (r ≡ true)
-d_holds r = (λ e. e, λ e. e)
-
 pub d_fails : (r : Bool) → Decides (opposite r) (r ≡ false)
 d_fails true = (λ e. absurd (let f : ⊥ = cc in f), λ e. absurd (let f : ⊥ = cc in f))
 d_fails false = (λ e. refl, λ e. refl)

@@ -20,9 +20,10 @@ use Rattle.kernel_model.specs.Independence.{access, dim, SameStoredAliases}
 use Rattle.kernel_model.proofs.Paths.{some_expr_path, allowed_front, assigned_after-append, expr_keeps, keeps_two, own_keeps, right_keeps, target_event_after, after_keeping, after_expr, keeping_both}
 use Rattle.kernel_model.proofs.Static.{Static, static_value, index_ok}
 use Rattle.kernel_model.proofs.Agreement.{Agrees, sum_stored, more_merged, merged_before}
-use Rattle.kernel_model.proofs.Tokens.{same_value, and_left, and_right, index_other_place}
+use Rattle.kernel_model.proofs.Tokens.{same_value, index_other_place}
 use Rattle.kernel_model.proofs.SameValues.{expr_same}
 use Rattle.kernel_model.proofs.SameStores.{Ends, ends_value, store_same}
+use Rattle.lemmas.proofs.Truth.{and_first, and_second}
 
 module _ (modes : List Mode) (consts : List ℤ) (ts us : List Target) (aliases : SameStoredAliases modes ts us) (s0 t0 : Store) (counts_s : (a : ℕ) → (target_at ts a).count ≡ dim modes a) (counts_t : (a : ℕ) → (target_at us a).count ≡ dim modes a) where
   abbrev Agree : Assigned → Store → Store → Type 0
@@ -65,8 +66,8 @@ module _ (modes : List Mode) (consts : List ℤ) (ts us : List Target) (aliases 
     -- the target itself on the right
     place_value : (rs : List Target) (u : Store) (x : RExpr) (z : ℤ) (i : ℕ) → is_place a form ix x ≡ true → value_of rs consts ix u ls ≡ Ok z → index_in (target_at rs a).count at z ≡ Ok i → value_of rs consts x u ls ≡ Ok (read_arg rs u a i)
     place_value rs u (Arg' b other_form p jx bt) z i e f g =
-        let same : a ≡ b = eqb-true a b (and_left _ _ e) in
-        let tok : same_tokens ix jx ≡ true = and_right (same_form form other_form) (same_tokens ix jx) (and_right (nat_eq a b) (same_form form other_form && same_tokens ix jx) e) in
+        let same : a ≡ b = eqb-true a b (and_first _ _ e) in
+        let tok : same_tokens ix jx ≡ true = and_second (same_form form other_form) (same_tokens ix jx) (and_second (nat_eq a b) (same_form form other_form && same_tokens ix jx) e) in
         subst (λ c. and_then (value_of rs consts jx u ls) (λ z. and_then (index_in (target_at rs c).count bt z) (λ i. Ok (read_arg rs u c i))) ≡ Ok (read_arg rs u a i)) same
         (ap (λ r. and_then r (λ z. and_then (index_in (target_at rs a).count bt z) (λ i. Ok (read_arg rs u a i)))) (same_value rs consts u ls ix jx tok z f)
         ∙ ap (λ r. on_value Err r (λ i. Ok (read_arg rs u a i))) (index_other_place (target_at rs a).count at bt z i g))
@@ -139,7 +140,7 @@ module _ (modes : List Mode) (consts : List ℤ) (ts us : List Target) (aliases 
 
     own_relaxed : (which : MinMax) (x : RExpr) (w : ExprPath x) → is_place a form ix x ≡ true → (access modes a ≡ OpReduce (reduction_of which) → ⊥) → AllAllowed modes before (own_events which x w cs) → AllAllowed modes before (expr_events x w cs)
     own_relaxed which (Arg' b other_form p jx bt) w e n h =
-        let same : a ≡ b = eqb-true a b (and_left _ _ e) in
+        let same : a ≡ b = eqb-true a b (and_first _ _ e) in
         let own = after_expr modes jx w cs before (Owns which b (static jx cs) bt ∷ []) h in
         keeping_both modes (expr_events jx w cs) (Reads b (static jx cs) bt ∷ []) before (expr_keeps jx w cs before) (allowed_front modes before (expr_events jx w cs) (Owns which b (static jx cs) bt ∷ []) h)
         (own_read which (access modes b) (dim modes b) b (static jx cs) (λ g. n (ap (access modes) same ∙ g)) own.0, tt)

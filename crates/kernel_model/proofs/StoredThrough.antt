@@ -1,7 +1,7 @@
 -- Cells that are reached only by arguments through which a kernel's text stores nothing stay.
 use Rattle.std.proofs.Common.{◌≡◌, ℕ, zero, suc, ℤ, pos, ◌+◌, ◌-◌, ◌<◌, List, Bool, true, false, ◌||◌, set, refl, sym, ◌∙◌, replicate}
 use Rattle.std.specs.Prelude.{slice_index_or}
-use Rattle.std.proofs.lemmas.Bool.{eq-eqb}
+use Rattle.std.proofs.lemmas.Bool.{eq-eqb, or_left, or_right}
 use Rattle.c_lex.specs.declared.tokens.Pos.{Pos}
 use Rattle.c_tree.specs.declared.declarations.AssignOp.TheVariants as assign
 use Rattle.kernel_types.specs.declared.expressions.ElementForm.TheVariants as form
@@ -11,14 +11,7 @@ use Rattle.kernel_model.specs.Numbers.{is_zero}
 use Rattle.kernel_model.specs.Meaning.{Store, Target, target_at, value_of, Outcome, stored, turns, meaning, meaning_of_all, read_arg, store_arg}
 use Rattle.kernel_model.specs.StoredThrough.{stores_through, row_stores_through, UnstoredStay}
 use Rattle.kernel_model.proofs.Reached.{OnEnd, on_end_value, on_end_index, on_end_then, on_end_cond, SameCell, cell_kept, cell_after, same_at_first}
-
-either_first : (b c : Bool) → b ≡ true → (b || c) ≡ true
-either_first true c e = refl
-either_first false c e = absurd (let f : ⊥ = cc in f)
-
-either_second : (b c : Bool) → c ≡ true → (b || c) ≡ true
-either_second true c e = refl
-either_second false c e = e
+use Rattle.lemmas.proofs.Truth.{not_both}
 
 module _ (ts : List Target) (consts : List ℤ) (P : Store → Type 0) (may : ℕ → Type 0) (keep : (a i : ℕ) (v : ℤ) (s : Store) → may a → i < (target_at ts a).count → P s → P (store_arg ts s a i v)) where
   turns_keep : (body : Store → List ℤ → Outcome) (k : ℕ) → ((s : Store) (ls : List ℤ) → P s → OnEnd P (body s ls)) → (i n : ℕ) (s : Store) (ls : List ℤ) → P s → OnEnd P (turns body k i n s ls)
@@ -38,8 +31,8 @@ module _ (ts : List Target) (consts : List ℤ) (P : Store → Type 0) (may : �
         on_end_value P s ls (value_of ts consts ix s ls) _ p (λ z. on_end_index P s ls (target_at ts a).count at z _ p (λ i lt. on_end_value P s ls (value_of ts consts e s ls) _ p (λ v. on_end_value P s ls (stored op opat (read_arg ts s a i) v) _ p (λ r. keep a i r s (h a (eq-eqb a a refl)) lt p))))
     stmt_keeps (If' e q a r b) h s ls p =
         on_end_value P s ls (value_of ts consts e s ls) _ p
-        (λ x. on_end_cond P (is_zero x) _ _ (stmt_keeps b (λ c g. h c (either_second (stores_through c a) (stores_through c b) g)) s ls p)
-        (stmt_keeps a (λ c g. h c (either_first (stores_through c a) (stores_through c b) g)) s ls p))
+        (λ x. on_end_cond P (is_zero x) _ _ (stmt_keeps b (λ c g. h c (or_right (stores_through c a) (stores_through c b) g)) s ls p)
+        (stmt_keeps a (λ c g. h c (or_left (stores_through c a) (stores_through c b) g)) s ls p))
     stmt_keeps (For' k first past q body) h s ls p =
         turns_keep (meaning ts consts body) k (λ s' ls' p'. stmt_keeps body h s' ls' p') first (past - first) s ls p
 
@@ -47,11 +40,8 @@ module _ (ts : List Target) (consts : List ℤ) (P : Store → Type 0) (may : �
     row_keeps end_of-RStmt h s ls p = p
     row_keeps (more_of-RStmt first rest) h s ls p =
         on_end_then P (meaning ts consts first s ls) (meaning_of_all ts consts rest)
-        (stmt_keeps first (λ c g. h c (either_first (stores_through c first) (row_stores_through c rest) g)) s ls p)
-        (λ s' ls' q. row_keeps rest (λ c g. h c (either_second (stores_through c first) (row_stores_through c rest) g)) s' ls' q)
-
-not_both : (b : Bool) → b ≡ true → b ≡ false → ⊥
-not_both b e f = let g : true ≡ false = sym e ∙ f in let k : ⊥ = cc in k
+        (stmt_keeps first (λ c g. h c (or_left (stores_through c first) (row_stores_through c rest) g)) s ls p)
+        (λ s' ls' q. row_keeps rest (λ c g. h c (or_right (stores_through c first) (row_stores_through c rest) g)) s' ls' q)
 
 pub unstored_stay : UnstoredStay
 unstored_stay k ts consts s x j fits unstored =

@@ -17,17 +17,10 @@ use Rattle.kernel_types.specs.declared.expressions.RExpr.TheVariants.{Number, Sc
 use Rattle.kernel_model.specs.Numbers.{Value, fault, truth, is_zero, is_shift, apply, apply_unary, is_settled, extremum, not}
 use Rattle.kernel_model.specs.Meaning.{Store, Target, target_at, read_arg, on_value, and_then, index_in, value_of}
 use Rattle.kernel_model.specs.SameTokens.{same_form, same_op, same_unary, same_which, same_tokens}
-
-pub and_left : (a b : Bool) → (a && b) ≡ true → a ≡ true
-and_left true b e = refl
-and_left false b e = e
-
-pub and_right : (a b : Bool) → (a && b) ≡ true → b ≡ true
-and_right true b e = e
-and_right false b e = absurd (let k : ⊥ = cc in k)
+use Rattle.lemmas.proofs.Truth.{and_first, and_second}
 
 and_fourth : (a b c d : Bool) → (a && (b && (c && d))) ≡ true → d ≡ true
-and_fourth a b c d e = and_right c d (and_right b (c && d) (and_right a (b && (c && d)) e))
+and_fourth a b c d e = and_second c d (and_second b (c && d) (and_second a (b && (c && d)) e))
 
 -- a fault gives no value
 chained : {A : Type 0} → (r r' : Result A KernelFault) (go go' : A → Value) (z : ℤ) → ((x : A) → r ≡ Ok x → r' ≡ Ok x) → ((x : A) → go x ≡ Ok z → go' x ≡ Ok z) → on_value Err r go ≡ Ok z → on_value Err r' go' ≡ Ok z
@@ -122,40 +115,40 @@ module _ (ts : List Target) (consts : List ℤ) (s : Store) (ls : List ℤ) wher
   same_value (Scalar k) (Scalar j) h z v = let e : k ≡ j = eqb-true k j h in subst (λ x. ◌≡◌ {A = Value} (Ok (slice_index_or ls x (pos 0))) (Ok z)) e v
   same_value (Constant k) (Constant j) h z v = let e : k ≡ j = eqb-true k j h in subst (λ x. ◌≡◌ {A = Value} (Ok (slice_index_or consts x (pos 0))) (Ok z)) e v
   same_value (Arg' a form p e at) (Arg' b other_form q f bt) h z v =
-      let k : a ≡ b = eqb-true a b (and_left _ _ h) in
+      let k : a ≡ b = eqb-true a b (and_first _ _ h) in
       subst (λ c. and_then (val f) (λ z. and_then (index_in (target_at ts c).count bt z) (λ i. Ok (read_arg ts s c i))) ≡ Ok z) k
-      (element_other (target_at ts a).count at bt (val e) (val f) (read_arg ts s a) z (λ x w. same_value e f (and_right _ _ (and_right _ _ h)) x w) v)
+      (element_other (target_at ts a).count at bt (val e) (val f) (read_arg ts s a) z (λ x w. same_value e f (and_second _ _ (and_second _ _ h)) x w) v)
   same_value (Local' from count form p e at) (Local' other_from other_count other_form q f bt) h z v =
-      let k : from ≡ other_from = eqb-true from other_from (and_left _ _ h) in
-      let l : count ≡ other_count = eqb-true count other_count (and_left _ _ (and_right _ _ h)) in
+      let k : from ≡ other_from = eqb-true from other_from (and_first _ _ h) in
+      let l : count ≡ other_count = eqb-true count other_count (and_first _ _ (and_second _ _ h)) in
       subst (λ c. and_then (val f) (λ z. and_then (index_in c bt z) (λ i. Ok (slice_index_or ls (other_from + i) (pos 0)))) ≡ Ok z) l
       (subst (λ g. and_then (val f) (λ z. and_then (index_in count bt z) (λ i. Ok (slice_index_or ls (g + i) (pos 0)))) ≡ Ok z) k
       (element_other count at bt (val e) (val f) (λ i. slice_index_or ls (from + i) (pos 0)) z (λ x w. same_value e f (and_fourth (nat_eq from other_from) (nat_eq count other_count) (same_form form other_form) (same_tokens e f) h) x w) v))
   same_value (Const' from count form p e at) (Const' other_from other_count other_form q f bt) h z v =
-      let k : from ≡ other_from = eqb-true from other_from (and_left _ _ h) in
-      let l : count ≡ other_count = eqb-true count other_count (and_left _ _ (and_right _ _ h)) in
+      let k : from ≡ other_from = eqb-true from other_from (and_first _ _ h) in
+      let l : count ≡ other_count = eqb-true count other_count (and_first _ _ (and_second _ _ h)) in
       subst (λ c. and_then (val f) (λ z. and_then (index_in c bt z) (λ i. Ok (slice_index_or consts (other_from + i) (pos 0)))) ≡ Ok z) l
       (subst (λ g. and_then (val f) (λ z. and_then (index_in count bt z) (λ i. Ok (slice_index_or consts (g + i) (pos 0)))) ≡ Ok z) k
       (element_other count at bt (val e) (val f) (λ i. slice_index_or consts (from + i) (pos 0)) z (λ x w. same_value e f (and_fourth (nat_eq from other_from) (nat_eq count other_count) (same_form form other_form) (same_tokens e f) h) x w) v))
   same_value (Unary' op p a) (Unary' oq q b) h z v =
-      let k : op ≡ oq = same_unary_is op oq (and_left _ _ h) in
+      let k : op ≡ oq = same_unary_is op oq (and_first _ _ h) in
       subst (λ o. and_then (val b) (λ x. Ok (apply_unary o x)) ≡ Ok z) k
-      (chained (val a) (val b) _ _ z (λ x w. same_value a b (and_right _ _ h) x w) (λ x w. w) v)
+      (chained (val a) (val b) _ _ z (λ x w. same_value a b (and_second _ _ h) x w) (λ x w. w) v)
   same_value (Binary' op p a q b at) (Binary' oq r c t d bt) h z v =
-      let k : op ≡ oq = same_op_is op oq (and_left _ _ h) in
+      let k : op ≡ oq = same_op_is op oq (and_first _ _ h) in
       subst (λ o. and_then (val c) (λ x. cond (is_settled o x) (Ok (truth (not (is_zero x)))) (and_then (val d) (λ y. apply o bt x y))) ≡ Ok z) k
-      (chained (val a) (val c) _ _ z (λ x w. same_value a c (and_left _ _ (and_right _ _ h)) x w)
+      (chained (val a) (val c) _ _ z (λ x w. same_value a c (and_first _ _ (and_second _ _ h)) x w)
       (λ x w. chose (is_settled op x) _ _ _ _ z (λ u. u)
-      (λ u. chained (val b) (val d) _ _ z (λ y u. same_value b d (and_right _ _ (and_right _ _ h)) y u) (λ y u. apply_other op at bt x y z u) u) w) v)
+      (λ u. chained (val b) (val d) _ _ z (λ y u. same_value b d (and_second _ _ (and_second _ _ h)) y u) (λ y u. apply_other op at bt x y z u) u) w) v)
   same_value (Choice' p x q a r b) (Choice' o y t c u d) h z v =
-      chained (val x) (val y) _ _ z (λ k w. same_value x y (and_left _ _ h) k w)
-      (λ k w. chose (is_zero k) _ _ _ _ z (λ l. same_value b d (and_right _ _ (and_right _ _ h)) z l) (λ l. same_value a c (and_left _ _ (and_right _ _ h)) z l) w) v
+      chained (val x) (val y) _ _ z (λ k w. same_value x y (and_first _ _ h) k w)
+      (λ k w. chose (is_zero k) _ _ _ _ z (λ l. same_value b d (and_second _ _ (and_second _ _ h)) z l) (λ l. same_value a c (and_first _ _ (and_second _ _ h)) z l) w) v
   same_value (Paren' p a) (Paren' q b) h z v = same_value a b h z v
   same_value (Extremum' which p a q b) (Extremum' other_which r c t d) h z v =
-      let k : which ≡ other_which = same_which_is which other_which (and_left _ _ h) in
+      let k : which ≡ other_which = same_which_is which other_which (and_first _ _ h) in
       subst (λ o. and_then (val c) (λ x. and_then (val d) (λ y. Ok (extremum o x y))) ≡ Ok z) k
-      (chained (val a) (val c) _ _ z (λ x w. same_value a c (and_left _ _ (and_right _ _ h)) x w)
-      (λ x w. chained (val b) (val d) _ _ z (λ y u. same_value b d (and_right _ _ (and_right _ _ h)) y u) (λ y u. u) w) v)
+      (chained (val a) (val c) _ _ z (λ x w. same_value a c (and_first _ _ (and_second _ _ h)) x w)
+      (λ x w. chained (val b) (val d) _ _ z (λ y u. same_value b d (and_second _ _ (and_second _ _ h)) y u) (λ y u. u) w) v)
   same_value (Absolute' p a) (Absolute' q b) h z v =
       chained (val a) (val b) _ _ z (λ x w. same_value a b h x w) (λ x w. w) v
   same_value e f h z v = absurd (let k : ⊥ = cc in k)

@@ -7,6 +7,7 @@ use Rattle.std.proofs.lemmas.List.Sums.{fails_before_first, split_at_first, pref
 use Rattle.std.proofs.lemmas.List.Splits.{join_with_byte-slice_split, slice_split_none, slice_split_at, slice_split_first}
 use Rattle.std.specs.List.{All, onto_first, join_with_byte, position_or_len, before_first, after_first}
 use Rattle.line_texts.specs.Lines.{is_lf, is_space, words, words_to_come, HasNoLf, HasNoSpace, Unread, IsTaken, Takes}
+use Rattle.lemmas.proofs.Lists.{heads_same, tails_same}
 
 -- ---- lines
 
@@ -58,12 +59,6 @@ front_no_lf b bs h = h zero 0 (omega arith)
 
 rest_no_lf : (b : ℕ) (bs : List ℕ) → HasNoLf (b ∷ bs) → HasNoLf bs
 rest_no_lf b bs h k d lt = h (suc k) d (omega arith)
-
-heads_same : (a b : ℕ) (fs bs : List ℕ) → a ∷ fs ≡ b ∷ bs → a ≡ b
-heads_same a b fs bs e = ap (λ xs. get_or xs 0 0) e
-
-tails_same : (a b : ℕ) (fs bs : List ℕ) → a ∷ fs ≡ b ∷ bs → fs ≡ bs
-tails_same a b fs bs e = ap (λ xs. drop 1 xs) e
 
 no_lf_at : (b : ℕ) → is_lf b ≡ false → b ≡ 10 → ⊥
 no_lf_at b h e = let t : is_lf b ≡ true = eq-eqb b 10 e in cc

@@ -16,7 +16,7 @@ use Rattle.local_mesh.specs.declared.types.RankMesh.{RankMesh}
 use Rattle.local_mesh.specs.LocalMesh.{originals_in}
 use Rattle.local_mesh.specs.Numbers.{own_in}
 use Rattle.local_mesh.specs.Lists.{IsLocal, AreLocals, AreRead, AreAtOwners, IsHeld, originals_of}
-use Rattle.local_mesh.proofs.Stands.{contains_get}
+use Rattle.lemmas.proofs.Lists.{contains_at}
 
 -- one more rank's own elements have their numbers
 at_step : (n : ℕ) (owner : ℕ → ℕ) (orig : ℕ → List ℕ) (r own : ℕ) (was now mine : List ℕ) → mine ≡ take own (orig r) → own ≤ length (orig r)
@@ -36,7 +36,7 @@ at_step n owner orig r own was now mine em few mineown all at others inv x lx lo
     let h : get_or now x 0 ≡ w.0 = subst (λ z. get_or now z 0 ≡ w.0) q (at w.0 (omega (arith, w.1))) in
     subst (λ z. IsLocal (orig z) x (get_or now x 0)) (sym e) (subst (λ z. IsLocal (orig r) x z) (sym h) (omega (arith, w.1), w.2)))
     (λ (ne : owner x ≡ r → ⊥).
-    let absent : ¬ Contains mine x = λ c. (let l : c.0 < own = (let z : c.0 < length mine = c.1 in omega arith) in ne (ap owner (sym (sym (read c.0 l) ∙ contains_get mine x c)) ∙ mineown c.0 l)) in
+    let absent : ¬ Contains mine x = λ c. (let l : c.0 < own = (let z : c.0 < length mine = c.1 in omega arith) in ne (ap owner (sym (sym (read c.0 l) ∙ contains_at mine x c)) ∙ mineown c.0 l)) in
     subst (λ z. IsLocal (orig (owner x)) x z) (sym (others x absent)) (inv x lx (omega arith)))
     (cases_eq (owner x) r)
 
@@ -64,7 +64,7 @@ module _ (g : MeshValue) (o : Owners) (meshes : List RankMesh) (s : ℕ) where
       (λ x lx e.
       let t : owns o s x r ≡ true = is_owned o s x r e in
       let c : Contains (originals_in sets s) x = (held.copies x).1 (lx, or_left (owns o s x r) (imports_execute g o s x r || imports_nonexecute g o s x r) t) in
-      let q : get_or (originals_in sets s) c.0 0 ≡ x = contains_get (originals_in sets s) x c in
+      let q : get_or (originals_in sets s) c.0 0 ≡ x = contains_at (originals_in sets s) x c in
       (c.0, (held.owned c.0 c.1).1 (subst (λ z. owns o s z r ≡ true) (sym q) t), q)))
       at others inv
 
@@ -95,7 +95,7 @@ module _ (g : MeshValue) (o : Owners) (s : ℕ) (h : SetHalo) (is : IsSetHalo g 
       → (x : ℕ) → x < set_size g s → has_copy g o s x r ≡ true → IsLocal (originals_in sets s) x (get_or numbers x 0)
   held_local r sets numbers held at x lx t =
       let c : Contains (originals_in sets s) x = (held.copies x).1 (lx, t) in
-      let q : get_or (originals_in sets s) c.0 0 ≡ x = contains_get (originals_in sets s) x c in
+      let q : get_or (originals_in sets s) c.0 0 ≡ x = contains_at (originals_in sets s) x c in
       let e : get_or numbers x 0 ≡ c.0 = subst (λ z. get_or numbers z 0 ≡ c.0) q (at c.0 c.1) in
       subst (λ z. IsLocal (originals_in sets s) x z) (sym e) (c.1, q)
 

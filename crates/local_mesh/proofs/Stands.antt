@@ -5,14 +5,14 @@ use Rattle.std.proofs.lemmas.Bool.{cases_lt, eq-eqb, eqb-true}
 use Rattle.std.proofs.lemmas.List.{get_or_default}
 use Rattle.rank_sets.specs.Below.{any_below, count_below, listed}
 use Rattle.rank_sets.proofs.Below.{any_witness, any_from, at_listed, listed_at, length_listed, count_lt}
-use Rattle.rank_sets.proofs.Bools.{same_Bool}
 use Rattle.local_mesh.specs.Standing.{stands}
+use Rattle.lemmas.proofs.Truth.{iff_eq}
 
 -- a number below n stands in the list of those that pass where it passes
 pub stands_listed : (n : ℕ) (p : ℕ → Bool) (xs : List ℕ) (y : ℕ) → xs ≡ listed n p → y < n → stands xs y ≡ p y
 unfolding stands
 stands_listed n p xs y e l = ap (λ (z : List ℕ). any_below (length z) (λ k. nat_eq (get_or z k 0) y)) e
-    ∙ same_Bool (any_below (length (listed n p)) (λ k. nat_eq (get_or (listed n p) k 0) y)) (p y)
+    ∙ iff_eq (any_below (length (listed n p)) (λ k. nat_eq (get_or (listed n p) k 0) y)) (p y)
     (λ t.
     let w = any_witness (length (listed n p)) (λ k. nat_eq (get_or (listed n p) k 0) y) t in
     let a = at_listed n w.0 0 p (rw (← length_listed n p) w.1) in
@@ -26,9 +26,6 @@ stands_nothing y = refl
 
 pub contains_at : (xs : List ℕ) (k x : ℕ) → k < length xs → get_or xs k 0 ≡ x → Contains xs x
 contains_at xs k x l e = (k, l, get_or_default xs k x 0 l ∙ e)
-
-pub contains_get : (xs : List ℕ) (x : ℕ) (c : Contains xs x) → get_or xs c.0 0 ≡ x
-contains_get xs x c = get_or_default xs c.0 0 x c.1 ∙ c.2
 
 -- a number that passes stands in the list
 pub listed_contains : (n : ℕ) (p : ℕ → Bool) (x : ℕ) → x < n → p x ≡ true → Contains (listed n p) x

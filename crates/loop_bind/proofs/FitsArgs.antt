@@ -2,7 +2,7 @@
 use Rattle.std.proofs.Common.{◌≡◌, ℕ, ◌<◌, ◌≤◌, List, length, map, Bool, true, false, not, refl, sym, subst}
 use Rattle.std.specs.Prelude.{All, Option, Some, None, IfSome, is_some, is_none, bytes_eq, nat_eq, nat_lt}
 use Rattle.std.specs.Map.{lookup}
-use Rattle.std.proofs.lemmas.Bool.{ltb-true}
+use Rattle.std.proofs.lemmas.Bool.{ltb-true, not-false, or_parts}
 use Rattle.std.proofs.lemmas.List.{length-map}
 use Rattle.std.proofs.lemmas.List.Elements.{All-get_or, All-map}
 use Rattle.c_tree.specs.declared.expressions.Ident.{Ident}
@@ -24,11 +24,11 @@ use Rattle.main_names.specs.SoFar.{Declared}
 use Rattle.main_names.specs.Meanings.{or_zero, count_of, values_named}
 use Rattle.main_text.specs.Arguments.{slot_constant, is_reserved, is_wrong_set, is_wrong_index}
 use Rattle.bound_program.specs.Fits.{ViaFits, GlobalAccess}
-use Rattle.main_declarations.proofs.Judged.{or_false, not_false, not_equal_false}
 use Rattle.loop_bind.proofs.FitsState.{at, MeaningFits, HasDim, HasValues, ExternFits, IsOwn, Lawful}
 use Rattle.loop_bind.proofs.FitsVars.{program}
 use Rattle.main_declarations.proofs.Shapes.{Below, never}
 use Rattle.loop_bind.proofs.FitsExterns.{found_entry, Is}
+use Rattle.lemmas.proofs.Numbers.{equal_from_not}
 
 -- ---- dats
 
@@ -42,7 +42,7 @@ module _ (g : MeshValue) (ks : List RKernel) (ss : List SiteValue) (vs : List Va
   pub direct_fits : (i : ArgIndex) (set d : Option ℕ) (p : ℕ) → is_none set ≡ false → is_none d ≡ false → is_wrong_set g set d (via.Identity p) None ≡ false → ViaFits (program g ks ss vs is) (or_zero set) (or_zero d) None
   direct_fits i None d p a b e = never a
   direct_fits i (Some s) None p a b e = never b
-  direct_fits i (Some s) (Some d) p a b e = not_equal_false (dat_set g d) s e
+  direct_fits i (Some s) (Some d) p a b e = equal_from_not (dat_set g d) s e
 
   pub via_fits : (i : ArgIndex) (x : Ident) (set d m : Option ℕ) → is_none set ≡ false → is_none d ≡ false → is_none m ≡ false → Below (map_count g) m
       → is_wrong_set g set d (via.Map x) m ≡ false → is_wrong_index g i (via.Map x) m ≡ false
@@ -52,9 +52,9 @@ module _ (g : MeshValue) (ks : List RKernel) (ss : List SiteValue) (vs : List Va
   via_fits i x (Some s) (Some d) None a b c l e f = never c
   via_fits i x (Some s) (Some d) (Some m) a b c l e f =
       let n = count_of (record { value = i.value; at = i.at }) in
-      let s' = or_false (not (nat_eq (map_from g m) s)) (not (nat_eq (map_to g m) (dat_set g d))) e in
-      let i' = or_false i.is_negative (not (nat_lt n (map_dim g m))) f in
-      (l, not_equal_false (map_from g m) s s'.0, not_equal_false (map_to g m) (dat_set g d) s'.1, ltb-true n (map_dim g m) (not_false (nat_lt n (map_dim g m)) i'.1))
+      let s' = or_parts (not (nat_eq (map_from g m) s)) (not (nat_eq (map_to g m) (dat_set g d))) e in
+      let i' = or_parts i.is_negative (not (nat_lt n (map_dim g m))) f in
+      (l, equal_from_not (map_from g m) s s'.0, equal_from_not (map_to g m) (dat_set g d) s'.1, ltb-true n (map_dim g m) (not-false (nat_lt n (map_dim g m)) i'.1))
 
 -- ---- globals
 

@@ -2,7 +2,7 @@
 use Rattle.std.proofs.Common.{◌≡◌, ℕ, ◌<◌, ◌≤◌, List, [], ◌∷◌, ◌++◌, length, map, Bool, true, false, not, ◌&&◌, refl, sym, subst, arith, ◌∙◌}
 use Rattle.std.specs.Prelude.{All, Option, Some, None, IfSome, is_none, bytes_eq, nat_eq}
 use Rattle.std.specs.List.{list_any}
-use Rattle.std.proofs.lemmas.Bool.{eq-eqb}
+use Rattle.std.proofs.lemmas.Bool.{eq-eqb, not-false, or_parts}
 use Rattle.std.proofs.lemmas.List.{length-map, length_push}
 use Rattle.std.proofs.lemmas.List.Elements.{All-nil, All-cons, All-push, All-weaker}
 use Rattle.std.proofs.lemmas.Map.Entries.{All-lookup}
@@ -40,7 +40,7 @@ use Rattle.main_declarations.specs.Variables.{glob_token, ampersand_found}
 use Rattle.main_text.specs.Arguments.{access_of, global_of, is_same, is_twice, is_reserved, is_wrong_set, is_wrong_index, is_wrong_dim, dim_of, map_found, global_found, reach_found, arg_found, with_earlier, args_found, kernel_found, kernel_number, via_of, var_number, arg_of, site, loop_found, judged_loop, after_globals}
 use Rattle.bound_program.specs.Classes.{is_read}
 use Rattle.bound_program.specs.Fits.{TakesArgs, AreApart, AllApart, ArgFits, SiteFits}
-use Rattle.main_declarations.proofs.Judged.{Gives, gives_unless, left_nil, right_nil, or_false, not_false, not_equal_false, not_over, not_if, positive}
+use Rattle.main_declarations.proofs.Judged.{Gives, gives_unless, left_nil, right_nil, not_over, not_if}
 use Rattle.loop_bind.proofs.FitsState.{at, MeaningFits, IsOwn, Grows, grows-trans, vars-self, so_far, Lawful, means_fits}
 use Rattle.loop_bind.proofs.FitsVars.{VarsKept, site_more}
 use Rattle.main_declarations.proofs.Shapes.{Below, never, known_below}
@@ -48,6 +48,7 @@ use Rattle.loop_bind.proofs.FitsMesh.{set_below, map_below, dat_below}
 use Rattle.loop_bind.proofs.FitsMeshWalk.{Goes}
 use Rattle.loop_bind.proofs.FitsExterns.{IsThere, AllThere, all-add}
 use Rattle.loop_bind.proofs.FitsArgs.{dat_dim_small, direct_fits, via_fits, GlobalFits, by_fits, access_fits}
+use Rattle.lemmas.proofs.Numbers.{equal_from_not, positive}
 
 -- ---- apart from the globals before
 
@@ -78,12 +79,12 @@ read_is access.Max e = never (sym e)
 apart_is : (v : ℕ) (a : Access) (e : Earlier) → is_same v a e ≡ false → AreApart (Global e.var e.access) (Global v a)
 apart_is v a e n same =
     let t : nat_eq e.var v ≡ true = eq-eqb e.var v same in
-    let r = and_true (is_read e.access) (is_read a) (not_false (is_read e.access && is_read a) (subst (λ b. b && not (is_read e.access && is_read a) ≡ false) t n)) in
+    let r = and_true (is_read e.access) (is_read a) (not-false (is_read e.access && is_read a) (subst (λ b. b && not (is_read e.access && is_read a) ≡ false) t n)) in
     (read_is e.access r.0, read_is a r.1)
 
 away_global : (es : List Earlier) (v : ℕ) (a : Access) → is_twice es v a ≡ false → Away es (Global v a)
 away_global [] v a n = tt
-away_global (e ∷ es) v a n = let o = or_false (is_same v a e) (list_any (is_same v a) es) n in (apart_is v a e o.0, away_global es v a o.1)
+away_global (e ∷ es) v a n = let o = or_parts (is_same v a e) (list_any (is_same v a) es) n in (apart_is v a e o.0, away_global es v a o.1)
 
 away_first : (es : List Earlier) (f : Earlier) (x : Arg) → Away (es ++ f ∷ []) x → Away es x
 away_first [] f x h = tt
@@ -164,9 +165,9 @@ module _ (ks : List RKernel) (es : List Named) (places : List Pos) (k : Declared
       let f3 = found_if places (is_wrong_dim (Some v.count) (count_of n)) n.at refusal.DimMismatch in
       let f4 = found_if places (is_reserved v.is_kept a) a_at refusal.ReservedAccess in
       let e123 : f1 ++ f2 ++ f3 ≡ [] = left_nil (f1 ++ f2 ++ f3) f4 e in
-      let dim = or_false (nat_eq (count_of n) 0) (not (nat_eq (count_of n) v.count)) (not_if places (is_wrong_dim (Some v.count) (count_of n)) n.at refusal.DimMismatch (right_nil (f1 ++ f2) f3 e123)) in
+      let dim = or_parts (nat_eq (count_of n) 0) (not (nat_eq (count_of n) v.count)) (not_if places (is_wrong_dim (Some v.count) (count_of n)) n.at refusal.DimMismatch (right_nil (f1 ++ f2) f3 e123)) in
       let some : 0 < count_of n = positive (count_of n) dim.0 in
-      let same : count_of n ≡ v.count = not_equal_false (count_of n) v.count dim.1 in
+      let same : count_of n ≡ v.count = equal_from_not (count_of n) v.count dim.1 in
       record {
         fits = (f.var, omega (arith, f.start, some, same), omega (arith, f.start, l, same), access_fits a v.is_kept (at k.vars v.var).constant (not_if places (is_reserved v.is_kept a) a_at refusal.ReservedAccess (right_nil (f1 ++ f2 ++ f3) f4 e)) f.kept);
         away = away_global before v.var a (not_if places (is_twice before v.var a) (glob_token places g) refusal.GlobalTwice (right_nil f1 f2 (left_nil (f1 ++ f2) f3 e123)));
@@ -247,7 +248,7 @@ module _ (ks : List RKernel) (es : List Named) (places : List Pos) (k : Declared
   kernel_is t x n None f e = never (not_if places true x.at refusal.UnknownKernel e)
   kernel_is t x n (Some (m.Extern z)) f e = never (not_if places true x.at refusal.UnknownKernel e)
   kernel_is t x n (Some m.ExternArray) f e = never (not_if places true x.at refusal.UnknownKernel e)
-  kernel_is t x n (Some (m.Kernel number params)) f e = subst (TakesArgs ks number) (not_equal_false params n (not_if places (not (nat_eq params n)) t refusal.ArgCount e)) f
+  kernel_is t x n (Some (m.Kernel number params)) f e = subst (TakesArgs ks number) (equal_from_not params n (not_if places (not (nat_eq params n)) t refusal.ArgCount e)) f
   kernel_is t x n (Some (m.Set s)) f e = never (not_if places true x.at refusal.UnknownKernel e)
   kernel_is t x n (Some (m.Map s)) f e = never (not_if places true x.at refusal.UnknownKernel e)
   kernel_is t x n (Some (m.Dat s)) f e = never (not_if places true x.at refusal.UnknownKernel e)

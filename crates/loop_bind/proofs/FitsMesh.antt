@@ -1,7 +1,7 @@
 -- One set, map or dat more.
 use Rattle.std.proofs.Common.{◌≡◌, ℕ, suc, ℤ, pos, negsuc, ◌+◌, ◌*◌, ◌<◌, ◌≤◌, List, [], ◌∷◌, length, Ok, Err, Bool, true, false, not, ◌||◌, refl, sym, subst, arith}
 use Rattle.std.specs.Prelude.{Option, Some, None, IfSome, is_none, nat_eq, nat_lt, if◌then◌else◌}
-use Rattle.std.proofs.lemmas.Bool.{ltb-false}
+use Rattle.std.proofs.lemmas.Bool.{ltb-false, not-false, or_parts}
 use Rattle.std.proofs.lemmas.List.Elements.{All-nil, All-cons}
 use Rattle.c_lex.specs.declared.tokens.Pos.{Pos}
 use Rattle.c_tree.specs.declared.expressions.Ident.{Ident}
@@ -22,7 +22,7 @@ use Rattle.bound_program.specs.Limits.{max_size, max_dim}
 use Rattle.main_names.specs.SoFar.{Declared}
 use Rattle.main_names.specs.Meanings.{set_of, map_of, dat_of, or_zero, or_none}
 use Rattle.main_declarations.specs.Declarations.{awaited, first_stray, place_found, data_found, stray_found, target_found, cells_found, value_found, size_found, size_of}
-use Rattle.main_declarations.proofs.Judged.{left_nil, or_false, not_false, not_in, not_over, not_if, IsNil}
+use Rattle.main_declarations.proofs.Judged.{left_nil, not_in, not_over, not_if, IsNil}
 use Rattle.main_declarations.proofs.Shapes.{Below, never, is_dim-true, awaited-is, data_is}
 use Rattle.loop_bind.proofs.FitsState.{MeaningFits}
 
@@ -71,7 +71,7 @@ module _ (ks : List RKernel) (g : MeshValue) (vs : List VarValue) (n : ℕ) wher
 -- ---- what was not found
 
 pub no_site_yet : (places : List Pos) (k : Declared) (nested : Bool) (t : ℕ) → place_found places k nested t ≡ [] → k.sites ≡ []
-no_site_yet places k nested t e = none k.sites (ltb-false 0 (length k.sites) (or_false nested (nat_lt 0 (length k.sites)) (not_if places (nested || nat_lt 0 (length k.sites)) t refusal.DeclarationPlace e)).1)
+no_site_yet places k nested t e = none k.sites (ltb-false 0 (length k.sites) (or_parts nested (nat_lt 0 (length k.sites)) (not_if places (nested || nat_lt 0 (length k.sites)) t refusal.DeclarationPlace e)).1)
   where
     none : (ss : List SiteValue) → length ss ≤ 0 → ss ≡ []
     none [] l = refl
@@ -112,7 +112,7 @@ no_stray size i (z ∷ zs) e = pick (λ h. no_stray size (suc i) zs h) (is_eleme
 module _ (places : List Pos) (g : MeshValue) (x : Ident) where
   elements_are : (n dim to : ℕ) (zs : Option (List ℤ)) → data_found places zs (Some n) x ≡ [] → target_found places g dim x zs (Some n) (Some to) ≡ [] → AreElements (set_size g to) (or_none zs)
   elements_are n dim to None d e = All-nil (λ t. is_element (set_size g to) t ≡ true)
-  elements_are n dim to (Some zs) d e = stray (first_stray (set_size g to) 0 zs) refl (subst (λ b. (if b then stray_found places (map_count g) dim x (first_stray (set_size g to) 0 zs) else []) ≡ []) (not_false (nat_eq (length zs) n) (not_if places (not (nat_eq (length zs) n)) x.at refusal.DimMismatch d)) e)
+  elements_are n dim to (Some zs) d e = stray (first_stray (set_size g to) 0 zs) refl (subst (λ b. (if b then stray_found places (map_count g) dim x (first_stray (set_size g to) 0 zs) else []) ≡ []) (not-false (nat_eq (length zs) n) (not_if places (not (nat_eq (length zs) n)) x.at refusal.DimMismatch d)) e)
     where
       stray : (o : Option ℕ) → first_stray (set_size g to) 0 zs ≡ o → stray_found places (map_count g) dim x o ≡ [] → AreElements (set_size g to) zs
       stray None f h = no_stray (set_size g to) 0 zs f

@@ -12,6 +12,7 @@ use Rattle.bound_program.specs.Values.{VarValue}
 use Rattle.main_names.specs.SoFar.{first_cell}
 use Rattle.main_declarations.specs.Variables.{with_constant}
 use Rattle.source_fits.specs.Constants.{FileVariable, NamesApart, is_constant}
+use Rattle.std.proofs.Math.Bool.{or-false}
 
 -- ---- names among those that are told
 
@@ -22,16 +23,12 @@ not_same x y d = pick (bytes_eq x y) refl
     pick false e = refl
     pick true e = absurd (d ((bytes_eq-Decides x y).0 e))
 
-or_none : (b : Bool) → b || false ≡ b
-or_none true = refl
-or_none false = refl
-
 or_true : (b : Bool) → b || true ≡ true
 or_true true = refl
 or_true false = refl
 
 more_same : (f : FileVariable) (x : List ℕ) (done : List (List ℕ)) → f.name ≢ x → is_constant (done ++ x ∷ []) f ≡ is_constant done f
-more_same f x done d = ap (λ b. f.is_const || b) (list_any-append (bytes_eq f.name) done (x ∷ []) ∙ ap (λ b. list_any (bytes_eq f.name) done || (b || false)) (not_same f.name x d) ∙ or_none (list_any (bytes_eq f.name) done))
+more_same f x done d = ap (λ b. f.is_const || b) (list_any-append (bytes_eq f.name) done (x ∷ []) ∙ ap (λ b. list_any (bytes_eq f.name) done || (b || false)) (not_same f.name x d) ∙ or-false (list_any (bytes_eq f.name) done))
 
 more_here : (f : FileVariable) (x : List ℕ) (done : List (List ℕ)) → f.name ≡ x → is_constant (done ++ x ∷ []) f ≡ true
 more_here f x done e =

@@ -30,7 +30,7 @@ use Rattle.main_text.specs.Arguments.{judged_loop}
 use Rattle.main_text.specs.Text.{nested, turning, target_name, target_index, target_var, assignment, line_found, declares, judged_call, opened, followed_by, ended, with_counter, judged_bounds, judged_host, judged_hosts}
 use Rattle.source_fits.specs.Sources.{HasNumbers, PlaceIsRead, CallIsRead, HostIsRead, HostsAreRead}
 use Rattle.loop_bind.proofs.FitsTargets.{IsVariable, Behind, AssignsVariables, AllAssignVariables}
-use Rattle.main_declarations.proofs.Judged.{Gives, gives_then, gives_unless, not_if, not_equal_false}
+use Rattle.main_declarations.proofs.Judged.{Gives, gives_then, gives_unless, not_if}
 use Rattle.loop_bind.proofs.FitsValues.{Within, within_more, zero_is_num}
 use Rattle.loop_bind.proofs.FitsState.{at, MeaningFits, NameFits, NameIsOwn, Grows, Lawful, means_fits}
 use Rattle.loop_bind.proofs.FitsReads.{resolved_within}
@@ -41,6 +41,7 @@ use Rattle.loop_bind.proofs.FitsMeshWalk.{Goes, set_is_lawful, map_is_lawful, da
 use Rattle.loop_bind.proofs.FitsConst.{constant_is_lawful}
 use Rattle.loop_bind.proofs.FitsLoop.{Loops, loop_is_lawful}
 use Rattle.loop_bind.proofs.FitsMain.{AllWithin, SomeWithin, IsVar, FitOne, steps_more, Walks, WalksOn, walks_behind, walks_does, walks_self, walks_step, walks_trans, goes_name, declrs_are}
+use Rattle.lemmas.proofs.Numbers.{equal_from_not}
 
 -- so many cells, all expressions within
 all_within : (ks : List RKernel) (es : List Named) (places : List Pos) (k : Declared) → Lawful ks es k → (xs : List ExprTree) → All HasNumbers xs → AllWithin k.cells (map (resolved places k.names) xs)
@@ -114,7 +115,7 @@ module _ (ks : List RKernel) (es : List Named) where
 
     line_is : (t : ℕ) (l : TextLiteral) (n : ℕ) (o : Option ℕ) → line_found places consts es t l n o ≡ [] → o ≡ Some n
     line_is t l n None e = never (not_if places true l.at refusal.TypeMismatch e)
-    line_is t l n (Some c) e = ap (λ (j : ℕ). Some j) (not_equal_false c n (not_if places (not (nat_eq c n)) t refusal.ArgCount e))
+    line_is t l n (Some c) e = ap (λ (j : ℕ). Some j) (equal_from_not c n (not_if places (not (nat_eq c n)) t refusal.ArgCount e))
 
     call_is : (a : Walked) (w : Spot) (c : OpCallTree) → Walks ks es a → CallIsRead c → Gives (WalksOn ks es a.declared) (judged_call places consts es a w c)
     call_is a w (tree.CallInit at n) h r = walks_self ks es a h

@@ -10,6 +10,7 @@ use Rattle.bound_program.specs.Values.{Exit, ItemValue, Free, Reduce, Ordered, H
 use Rattle.bound_program.specs.Fits.{site_at}
 use Rattle.loop_plan.specs.declared.exchange.LoopRun.TheVariants as run
 use Rattle.loop_plan.specs.Needs.{needs, free_args, run_of, stale_before, item_modifies, item_needs}
+use Rattle.std.proofs.Math.Bool.{and-false}
 
 pub item_read : (trace : List Item) (k : ℕ) (x : Item) → k < length trace → x ≡ get_or trace k x → item_of x ≡ slice_index_or (map item_of trace) k (Host Exit)
 item_read trace k x l e = ap item_of e ∙ sym (get_or-map item_of trace k x (Host Exit) l)
@@ -41,14 +42,10 @@ listed_none : (n : ℕ) (p : ℕ → Bool) → ((d : ℕ) → p d ≡ false) →
 listed_none zero p h = refl
 listed_none (suc n) p h = ap (λ (z : List ℕ). z ++ cond (p n) (n ∷ []) []) (listed_none n p h) ∙ ap (λ z. cond z (n ∷ []) []) (h n)
 
-and_false : (x : Bool) → (x && false) ≡ false
-and_false true = refl
-and_false false = refl
-
 -- a loop without arguments exchanges nothing
 pub nothing_needed : (n : ℕ) (bits : List Bool) (args : List Arg) (now : List ℕ) → args ≡ [] → now ≡ [] → now ≡ listed n (λ d. slice_index_or bits d false && needs args d)
 nothing_needed n bits args now e h =
-    h ∙ sym (listed_none n (λ d. slice_index_or bits d false && needs args d) (λ d. ap (λ z. slice_index_or bits d false && needs z d) e ∙ and_false (slice_index_or bits d false)))
+    h ∙ sym (listed_none n (λ d. slice_index_or bits d false && needs args d) (λ d. ap (λ z. slice_index_or bits d false && needs z d) e ∙ and-false (slice_index_or bits d false)))
 
 stale_more : (m n : ℕ → Bool) (k : ℕ) → stale_bit m n (k + 1) ≡ (m k || (stale_bit m n k && not (n k)))
 stale_more m n k = let e : k + 1 ≡ suc k = omega arith in ap (stale_bit m n) e

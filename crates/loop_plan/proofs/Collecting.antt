@@ -9,9 +9,9 @@ use Rattle.rank_sets.specs.RankSet.{has, has_at}
 use Rattle.rank_sets.specs.declared.rank_set.RankSet.{RankSet}
 use Rattle.rank_sets.proofs.Below.{listed_agree}
 use Rattle.rank_sets.proofs.Rows.{has_at_push, has_at_push_left}
-use Rattle.rank_sets.proofs.Bools.{and_false, and_true}
 use Rattle.loop_plan.specs.Pairs.{pair, pairs_below}
 use Rattle.loop_plan.specs.declared.types.Pair.{Pair}
+use Rattle.std.proofs.Math.Bool.{and-false, and-true}
 
 -- of the numbers below n the set has those that pass, and no others
 pub record Collected (s : RankSet) (f : ℕ → Bool) (n : ℕ) : Type 0 where
@@ -80,14 +80,14 @@ first_listed (suc n) r p q l t f g = ⊎_elim
     ∙ (ap (λ z. cond z (n ∷ []) []) here
     ∙ (ap (λ z. z ∷ []) (sym e) ∙ sym (ap (λ (z : List ℕ). r ∷ z) after))))
     (λ (ne : r ≡ n → ⊥).
-    let kept : q n ≡ p n = g n (omega arith) ∙ (ap (λ z. p n && not z) (ne_eqb n r (λ z. omega arith)) ∙ and_true (p n)) in
+    let kept : q n ≡ p n = g n (omega arith) ∙ (ap (λ z. p n && not z) (ne_eqb n r (λ z. omega arith)) ∙ and-true (p n)) in
     ap (λ (z : List ℕ). z ++ cond (p n) (n ∷ []) []) (first_listed n r p q (omega arith) t f (λ k m. g k (omega arith)))
     ∙ ap (λ z. r ∷ (listed n q ++ cond z (n ∷ []) [])) (sym kept))
     (cases_eq r n)
   where
     gone : (k : ℕ) → k < suc n → r ≡ n → q k ≡ false
     gone k m e = ⊎_elim
-        (λ (s : k ≡ r). g k m ∙ (ap (λ z. p k && not z) (eq-eqb k r s) ∙ and_false (p k)))
+        (λ (s : k ≡ r). g k m ∙ (ap (λ z. p k && not z) (eq-eqb k r s) ∙ and-false (p k)))
         (λ (s : k ≡ r → ⊥). g k m ∙ ap (λ z. z && not (nat_eq k r)) (f k (omega arith)))
         (cases_eq k r)
 

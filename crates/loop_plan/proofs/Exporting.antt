@@ -16,13 +16,8 @@ use Rattle.local_mesh.specs.Parts.{by_new}
 use Rattle.local_mesh.specs.LocalMesh.{IsLocalSet, IsRankMesh, AreRankMeshes, originals_in, executed_in}
 use Rattle.local_mesh.proofs.Numbered.{groups_apart, number_few}
 use Rattle.loop_plan.specs.Pairs.{sets_of, own_in, owned, imported, imports_from}
-use Rattle.loop_plan.proofs.Imports.{witness, owned_is_own, own_is_owned, imported_is_import, imported_below, import_is_imported}
-
--- an element of a list, whatever stands past the end
-pub pick : {X : Type 0} (xs : List X) (k : ℕ) → k < length xs → (x : X) × ((d : X) → get_or xs k d ≡ x)
-pick [] k l = absurd (omega arith)
-pick (x ∷ xs) zero l = (x, λ d. refl)
-pick (x ∷ xs) (suc k) l = pick xs k (omega arith)
+use Rattle.loop_plan.proofs.Imports.{owned_is_own, own_is_owned, imported_is_import, imported_below, import_is_imported}
+use Rattle.lemmas.proofs.Lists.{any_at, element_at}
 
 module _ (g : MeshValue) (o : Owners) (p : Perms) (meshes : List RankMesh) where
   -- one set of one rank
@@ -38,10 +33,10 @@ module _ (g : MeshValue) (o : Owners) (p : Perms) (meshes : List RankMesh) where
     unfolding sets_of own_in executed_in originals_in
     local r t lr lt =
         let lm : r < length meshes = (let e : length meshes ≡ o.ranks = h.count in omega arith) in
-        let m : (x : RankMesh) × ((d : RankMesh) → get_or meshes r d ≡ x) = pick meshes r lm in
+        let m : (x : RankMesh) × ((d : RankMesh) → get_or meshes r d ≡ x) = element_at meshes r lm in
         let mesh : IsRankMesh g o p r m.0 = subst (IsRankMesh g o p r) (m.1 m.0) (h.ranks r m.0 lr) in
         let ls : t < length m.0.sets.items = (let e : length m.0.sets.items ≡ set_count g = mesh.sets_count in omega arith) in
-        let s : (x : LocalSet) × ((d : LocalSet) → get_or m.0.sets.items t d ≡ x) = pick m.0.sets.items t ls in
+        let s : (x : LocalSet) × ((d : LocalSet) → get_or m.0.sets.items t d ≡ x) = element_at m.0.sets.items t ls in
         let e : get_or (map (λ (x : RankMesh). x.sets.items) meshes) r [] ≡ m.0.sets.items = get_or-map (λ (x : RankMesh). x.sets.items) meshes r m.0 [] lm ∙ ap (λ (x : RankMesh). x.sets.items) (m.1 m.0) in
         record {
           set = s.0;
@@ -83,7 +78,7 @@ module _ (g : MeshValue) (o : Owners) (p : Perms) (meshes : List RankMesh) where
     unfolding sets_of
     sets_counted r lr =
         let lm : r < length meshes = (let e : length meshes ≡ o.ranks = h.count in omega arith) in
-        let m : (x : RankMesh) × ((d : RankMesh) → get_or meshes r d ≡ x) = pick meshes r lm in
+        let m : (x : RankMesh) × ((d : RankMesh) → get_or meshes r d ≡ x) = element_at meshes r lm in
         let mesh : IsRankMesh g o p r m.0 = subst (IsRankMesh g o p r) (m.1 m.0) (h.ranks r m.0 lr) in
         let e : get_or (map (λ (x : RankMesh). x.sets.items) meshes) r [] ≡ m.0.sets.items = get_or-map (λ (x : RankMesh). x.sets.items) meshes r m.0 [] lm ∙ ap (λ (x : RankMesh). x.sets.items) (m.1 m.0) in
         ap (λ (z : List LocalSet). length z) e ∙ mesh.sets_count
@@ -107,7 +102,7 @@ module _ (g : MeshValue) (o : Owners) (p : Perms) (meshes : List RankMesh) where
           let l : IsLocal r t = local r t lr lt in
           let m : IsLocal s t = local s t ls lt in
           let w : (k : ℕ) × (k < length (drop (own_count r t) l.set.original)) × (is_sent (get_or (drop (own_count r t) l.set.original) k 0) ≡ true) =
-          witness is_sent (drop (own_count r t) l.set.original) (sym (ap (list_any is_sent) (imported_are r t l)) ∙ i) in
+          any_at is_sent (drop (own_count r t) l.set.original) (sym (ap (list_any is_sent) (imported_are r t l)) ∙ i) in
           let x : ℕ = get_or (drop (own_count r t) l.set.original) w.0 0 in (
             x,
             imported_below (set_size g t) (perm_in p t) (λ y. owns o t y r) (λ y. imports_execute g o t y r) (λ y. imports_nonexecute g o t y r) l.set.original (perms.numbers t lt) l.is.inverse w.0 w.1,

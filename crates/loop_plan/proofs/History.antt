@@ -15,12 +15,7 @@ use Rattle.bound_program.specs.Classes.{scatters}
 use Rattle.loop_plan.specs.Values.{PlanValue, item_plan, no_item_plan}
 use Rattle.loop_plan.specs.Needs.{arg_needs, reads_copies, needs, item_at, free_args, run_of, item_modifies, item_needs, exchanges, stale_before, exchanged_at, AreOfDats, IsLoopOf, IsInRange, AreExchanges}
 use Rattle.loop_plan.proofs.Numbers.{is_listed, not_listed}
-
-and_comm : (x y : Bool) → (x && y) ≡ (y && x)
-and_comm true true = refl
-and_comm true false = refl
-and_comm false true = refl
-and_comm false false = refl
+use Rattle.std.proofs.Math.Bool.{and_comm}
 
 -- what arguments need is one of their dats
 needed_within : (n d : ℕ) (scattering : Bool) (args : List Arg) → AreOfDats n args → list_any (arg_needs scattering d) args ≡ true → d < n

@@ -9,15 +9,7 @@ use Rattle.rank_sets.proofs.Below.{count_lt}
 use Rattle.mesh_decl.specs.Owners.{IsNumbering}
 use Rattle.local_mesh.specs.Local.{earlier, local_number, AreInverse}
 use Rattle.local_mesh.proofs.Numbered.{number_below, number_copied, number_contains}
-use Rattle.local_mesh.proofs.Stands.{contains_get}
-
--- ---- lists
-pub witness : (f : ℕ → Bool) (xs : List ℕ) → list_any f xs ≡ true → (k : ℕ) × (k < length xs) × (f (get_or xs k 0) ≡ true)
-witness f [] h = absurd (false≢true h)
-witness f (x ∷ xs) h = ⊎_elim
-    (λ (e : f x ≡ true). (zero, omega arith, e))
-    (λ (e : list_any f xs ≡ true). let w : (k : ℕ) × (k < length xs) × (f (get_or xs k 0) ≡ true) = witness f xs e in (suc w.0, (let l : w.0 < length xs = w.1 in omega arith), w.2))
-    (or_cases (f x) (list_any f xs) h)
+use Rattle.lemmas.proofs.Lists.{any_at, contains_at}
 
 module _ (n : ℕ) (perm : List ℕ) (p q r : ℕ → Bool) (original : List ℕ) (perms : IsNumbering n perm) (inv : AreInverse n (λ j. get_or perm j 0) p q r original) where
   abbrev order : ℕ → ℕ
@@ -59,7 +51,7 @@ module _ (n : ℕ) (perm : List ℕ) (p q r : ℕ → Bool) (original : List ℕ
   -- what stands among the owned is owned
   pub owned_is_own : (x : ℕ) → list_any (nat_eq x) (take own original) ≡ true → p x ≡ true
   owned_is_own x h =
-      let w : (k : ℕ) × (k < length (take own original)) × (nat_eq x (get_or (take own original) k 0) ≡ true) = witness (nat_eq x) (take own original) h in
+      let w : (k : ℕ) × (k < length (take own original)) × (nat_eq x (get_or (take own original) k 0) ≡ true) = any_at (nat_eq x) (take own original) h in
       let few : own ≤ length original = own_few in
       let len : length (take own original) ≡ own = length-take-le own original few in
       let l : w.0 < own = (let z : w.0 < length (take own original) = w.1 in omega arith) in
@@ -102,7 +94,7 @@ module _ (n : ℕ) (perm : List ℕ) (p q r : ℕ → Bool) (original : List ℕ
   pub import_is_imported : (x : ℕ) (f : ℕ → Bool) → x < n → p x ≡ false → (q x || r x) ≡ true → f x ≡ true → list_any f (drop own original) ≡ true
   import_is_imported x f l np h t =
       let c : Contains original x = number_contains n perm p q r original perms inv x l (or_right (p x) (q x || r x) h) in
-      let e : get_or original c.0 0 ≡ x = contains_get original x c in
+      let e : get_or original c.0 0 ≡ x = contains_at original x c in
       let few : own ≤ c.0 = ⊎_elim
       (λ (m : c.0 < own). absurd (false≢true (sym np ∙ (ap p (sym e) ∙ own_at c.0 m c.1))))
       (λ (m : own ≤ c.0). m)

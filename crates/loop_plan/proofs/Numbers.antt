@@ -5,21 +5,10 @@ use Rattle.std.specs.List.{list_any}
 use Rattle.std.proofs.lemmas.Bool.{cases_eq, ne_eqb, eq-eqb}
 use Rattle.std.proofs.lemmas.List.Folds.{list_any-append}
 use Rattle.rank_sets.specs.Below.{listed}
-
-or_false : (x : Bool) → (x || false) ≡ x
-or_false true = refl
-or_false false = refl
-
-and_true : (x : Bool) → (x && true) ≡ x
-and_true true = refl
-and_true false = refl
-
-and_false : (x : Bool) → (x && false) ≡ false
-and_false true = refl
-and_false false = refl
+use Rattle.std.proofs.Math.Bool.{and-false, and-true, or-false}
 
 one_listed : (d n : ℕ) (b : Bool) → list_any (nat_eq d) (cond b (n ∷ []) []) ≡ (b && nat_eq d n)
-one_listed d n true = or_false (nat_eq d n)
+one_listed d n true = or-false (nat_eq d n)
 one_listed d n false = refl
 
 more_listed : (d n : ℕ) (p : ℕ → Bool) → list_any (nat_eq d) (listed (suc n) p) ≡ (list_any (nat_eq d) (listed n p) || (p n && nat_eq d n))
@@ -30,7 +19,7 @@ not_listed d zero p l = refl
 not_listed d (suc n) p l =
     more_listed d n p
     ∙ (ap (λ z. z || (p n && nat_eq d n)) (not_listed d n p (omega arith))
-    ∙ (ap (λ z. p n && z) (ne_eqb d n (λ e. omega arith)) ∙ and_false (p n)))
+    ∙ (ap (λ z. p n && z) (ne_eqb d n (λ e. omega arith)) ∙ and-false (p n)))
 
 pub is_listed : (d n : ℕ) (p : ℕ → Bool) → d < n → list_any (nat_eq d) (listed n p) ≡ p d
 is_listed d zero p l = absurd (omega arith)
@@ -38,11 +27,11 @@ is_listed d (suc n) p l = ⊎_elim
     (λ (e : d ≡ n).
     more_listed d n p
     ∙ (ap (λ z. z || (p n && nat_eq d n)) (not_listed d n p (omega arith))
-    ∙ (ap (λ z. p n && z) (eq-eqb d n e) ∙ (and_true (p n) ∙ ap p (sym e)))))
+    ∙ (ap (λ z. p n && z) (eq-eqb d n e) ∙ (and-true (p n) ∙ ap p (sym e)))))
     (λ (ne : d ≡ n → ⊥).
     more_listed d n p
     ∙ (ap (λ z. z || (p n && nat_eq d n)) (is_listed d n p (omega arith))
-    ∙ (ap (λ z. p d || (p n && z)) (ne_eqb d n ne) ∙ (ap (λ z. p d || z) (and_false (p n)) ∙ or_false (p d)))))
+    ∙ (ap (λ z. p d || (p n && z)) (ne_eqb d n ne) ∙ (ap (λ z. p d || z) (and-false (p n)) ∙ or-false (p d)))))
     (cases_eq d n)
 
 -- a bit that is cleared where it is set and needed, and then set where the dat is modified

@@ -16,6 +16,7 @@ use Rattle.loop_plan.specs.Values.{PlanValue, site_plan}
 use Rattle.loop_plan.specs.Places.{reducing, places_of, maps_of, runs_free}
 use Rattle.loop_plan.specs.OnePlan.{AreLeast, LeastColoursAreOne}
 use Rattle.loop_plan.proofs.AlikeMeshes.{length_same, rows_same, places_same}
+use Rattle.lemmas.proofs.Numbers.{same_bound}
 
 module _ (C D : ℕ → ℕ → Type 0) (to : (q p : ℕ) → C q p → D q p) (from : (q p : ℕ) → D q p → C q p) (xs ys : List ℕ) (n : ℕ) (h : (p : ℕ) → p < n → IsLeast C xs p) (k : (p : ℕ) → p < n → IsLeast D ys p) where
   least_here : (p : ℕ) → p < n → ((q : ℕ) → q < p → get_or xs q 0 ≡ get_or ys q 0) → get_or xs p 0 ≡ get_or ys p 0
@@ -33,15 +34,6 @@ module _ (C D : ℕ → ℕ → Type 0) (to : (q p : ℕ) → C q p → D q p) (
 
   one_least : (p : ℕ) → p < n → get_or xs p 0 ≡ get_or ys p 0
   one_least p l = least_below (suc p) p (omega arith) l
-
-same_count : (m n : ℕ) (P : ℕ → Type 0) → ((b : ℕ) → (b < m) ↔ P b) → ((b : ℕ) → (b < n) ↔ P b) → m ≡ n
-same_count m n P h k = ⊎_elim
-    (λ (e : m ≡ n). e)
-    (λ (ne : m ≡ n → ⊥). ⊎_elim
-    (λ (l : m < n). let z : m < m = (h m).1 ((k m).0 l) in absurd (omega arith))
-    (λ (l : n ≤ m). let z : n < n = (k n).1 ((h n).0 (omega arith)) in absurd (omega arith))
-    (cases_lt m n))
-    (cases_eq m n)
 
 -- the same targets, so the same conflicts
 module _ (g : MeshValue) (ms ns : List (Vec ℕ Global)) (rows : (k : ℕ) → row ms k ≡ row ns k) (args : List IncArg) where
@@ -64,7 +56,7 @@ module _ (g : MeshValue) (ms ns : List (Vec ℕ Global)) (rows : (k : ℕ) → r
 
   blocks_same : c.blocks.items ≡ d.blocks.items
   blocks_same =
-      let count : length c.blocks.items ≡ length d.blocks.items = same_count (length c.blocks.items) (length d.blocks.items) (λ b. b * size < places) h.blocks_count k.blocks_count in
+      let count : length c.blocks.items ≡ length d.blocks.items = same_bound (length c.blocks.items) (length d.blocks.items) (λ b. b * size < places) h.blocks_count k.blocks_count in
       ext_get_or 0 c.blocks.items d.blocks.items count
       (one_least (BlocksConflict g ms args places size) (BlocksConflict g ns args places size) (blocks_to g ms ns rows args places size) (blocks_to g ns ms back args places size)
       c.blocks.items d.blocks.items (length c.blocks.items) h.blocks (λ b l. k.blocks b (omega arith)))

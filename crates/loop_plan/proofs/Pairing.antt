@@ -18,19 +18,16 @@ use Rattle.local_mesh.specs.declared.types.RankMesh.{RankMesh}
 use Rattle.local_mesh.specs.LocalMesh.{AreRankMeshes}
 use Rattle.loop_plan.specs.Pairs.{sets_of, imports_from}
 use Rattle.loop_plan.specs.Exports.{exports_in, is_some_exported, HaveExports}
-use Rattle.loop_plan.proofs.Exporting.{pick, messages}
-
-one_truth : (a b : Bool) → (a ≡ true → b ≡ true) → (b ≡ true → a ≡ true) → a ≡ b
-one_truth true b f g = sym (f refl)
-one_truth false true f g = absurd (false≢true (g refl))
-one_truth false false f g = refl
+use Rattle.loop_plan.proofs.Exporting.{messages}
+use Rattle.lemmas.proofs.Lists.{element_at}
+use Rattle.lemmas.proofs.Truth.{iff_eq}
 
 module _ (g : MeshValue) (o : Owners) (h : Halos) (halos : AreHalos g o h) where
   set_at : (t : ℕ) → t < set_count g → (x : SetHalo) × (exports_in h t ≡ x.exports.items) × IsSetHalo g o t x
   unfolding exports_in
   set_at t l =
       let ls : t < length h.sets.items = (let e : length h.sets.items ≡ set_count g = halos.count in omega arith) in
-      let s : (x : SetHalo) × ((d : SetHalo) → get_or h.sets.items t d ≡ x) = pick h.sets.items t ls in (
+      let s : (x : SetHalo) × ((d : SetHalo) → get_or h.sets.items t d ≡ x) = element_at h.sets.items t ls in (
         s.0,
         get_or-map (λ (x : SetHalo). x.exports.items) h.sets.items t s.0 [] ls ∙ ap (λ (x : SetHalo). x.exports.items) (s.1 s.0),
         subst (IsSetHalo g o t) (s.1 s.0) (halos.sets t s.0 l),
@@ -70,4 +67,4 @@ module _ (g : MeshValue) (o : Owners) (h : Halos) (halos : AreHalos g o h) where
         lt-ltb 0 (length (row (rows (exports_in h t) s) r)) (omega arith)
 
     pub exported_is_imported : is_some_exported (exports_in h t) s r ≡ imports_from (sets_of meshes s) (sets_of meshes r) t
-    exported_is_imported = one_truth (is_some_exported (exports_in h t) s r) (imports_from (sets_of meshes s) (sets_of meshes r) t) to_imports from_imports
+    exported_is_imported = iff_eq (is_some_exported (exports_in h t) s r) (imports_from (sets_of meshes s) (sets_of meshes r) t) to_imports from_imports

@@ -5,7 +5,6 @@ use Rattle.std.specs.List.{list_any}
 use Rattle.std.proofs.lemmas.List.{take_more}
 use Rattle.std.proofs.lemmas.List.Folds.{list_any-append}
 use Rattle.std.proofs.lemmas.List.Elements.{All-head, All-tail}
-use Rattle.rank_sets.proofs.Bools.{or_false}
 use Rattle.mesh_decl.specs.declared.access.Via.{Via}
 use Rattle.mesh_decl.specs.Mesh.{dat_set}
 use Rattle.colouring.specs.declared.types.IncArg.{IncArg}
@@ -17,9 +16,10 @@ use Rattle.bound_program.specs.Values.{Exit, ItemValue, Free, Reduce, Ordered, H
 use Rattle.bound_program.specs.Fits.{ViaFits, ArgFits}
 use Rattle.loop_plan.specs.Needs.{item_at, run_of}
 use Rattle.loop_plan.specs.Places.{reducing, runs_loop, is_run}
+use Rattle.std.proofs.Math.Bool.{or-false}
 
 one_run : (i : ItemValue) (s : ℕ) → is_run (run_of i) s ≡ list_any (runs_loop s) (i ∷ [])
-one_run (Free n) s = sym (or_false (nat_eq n s))
+one_run (Free n) s = sym (or-false (nat_eq n s))
 one_run (Reduce n) s = refl
 one_run (Ordered n) s = refl
 one_run (Host a) s = refl

@@ -57,17 +57,6 @@ abbrev IsFalse : Bool → Type 0
 IsFalse false = Unit {0}
 IsFalse true = ⊥
 
-pub or_false : (a b : Bool) → a || b ≡ false → (a ≡ false) × (b ≡ false)
-or_false true b e = absurd (subst IsFalse (sym e) tt)
-or_false false b e = (refl, e)
-
-pub not_false : (b : Bool) → not b ≡ false → b ≡ true
-not_false true e = refl
-not_false false e = absurd (subst IsFalse (sym e) tt)
-
-pub not_equal_false : (m n : ℕ) → not (nat_eq m n) ≡ false → m ≡ n
-not_equal_false m n e = eqb-true m n (not_false (nat_eq m n) e)
-
 pub not_in : (turn : Turn) (b : Bool) (t : ℕ) (r : BindRefusal) → found_in turn b t r ≡ [] → b ≡ false
 not_in turn false t r e = refl
 not_in turn true t r e = absurd (subst IsNil (sym e) tt)
@@ -77,6 +66,3 @@ not_over turn limit size t c e = ltb-false limit size (not_in turn (nat_lt limit
 
 pub not_if : (places : List Pos) (b : Bool) (t : ℕ) (r : Pos → BindRefusal) → found_if places b t r ≡ [] → b ≡ false
 not_if places b t r e = not_in _ b t _ e
-
-pub positive : (n : ℕ) → nat_eq n 0 ≡ false → 0 < n
-positive n e = grind (arith, eqb-false)

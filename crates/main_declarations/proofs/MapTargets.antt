@@ -2,7 +2,7 @@
 use Rattle.std.proofs.Common.{◌≡◌, ◌∙◌, ◌⊎◌, inl, inr, ℕ, suc, ℤ, ◌+◌, ◌*◌, ◌/◌, ◌%◌, ◌<◌, Bool, true, false, not, List, [], ◌∷◌, ◌++◌, length, Option, Some, None, Ok, Err, refl, sym, ap, subst, arith, lt-ltb}
 use Rattle.std.specs.Prelude.{is_none, nat_eq, nat_lt, if◌then◌else◌}
 use Rattle.std.specs.Option.{option_or}
-use Rattle.std.proofs.lemmas.Bool.{eqb-false}
+use Rattle.std.proofs.lemmas.Bool.{eqb-false, not-false}
 use Rattle.std.proofs.lemmas.List.Elements.{All-head, All-tail}
 use Rattle.std.proofs.lemmas.Nat.{div-mul-add, mod-mul-add}
 use Rattle.c_lex.specs.declared.tokens.Pos.{Pos}
@@ -26,7 +26,7 @@ use Rattle.main_names.specs.Meanings.{array_of, count_of, or_none, or_zero, set_
 use Rattle.main_names.specs.SoFar.{Declared}
 use Rattle.main_declarations.specs.Declarations.{is_dim, awaited, first_stray, place_found, set_found, dim_found, data_found, target_found, stray_found, cells_found, map_decl_found}
 use Rattle.main_declarations.specs.Targets.{target_refusal, shape_decl_found, targets_found, strays_found}
-use Rattle.main_declarations.proofs.Judged.{nothing_found, left_nil, right_nil, not_false, not_in}
+use Rattle.main_declarations.proofs.Judged.{nothing_found, left_nil, right_nil, not_in}
 use Rattle.main_declarations.proofs.Shapes.{never}
 
 -- ---- what is found in the order of the tokens, and the cells of the mesh
@@ -87,7 +87,7 @@ module _ (places : List Pos) (g : MeshValue) (dim : ℕ) (x : Ident) where
   aimed (Some s) (Some t) None p q d e = never (not_in InOrder true x.at (refusal.UnknownEntry (place places x.at)) e)
   aimed (Some s) (Some t) (Some zs) p q d e =
       let w : awaited g (Some s) dim ≡ Some (set_size g s * dim) = ap (λ (b : Bool). if b then Some (set_size g s * dim) else None) d in
-      let f : nat_eq (length zs) (set_size g s * dim) ≡ true = not_false (nat_eq (length zs) (set_size g s * dim)) (not_in InOrder (not (nat_eq (length zs) (set_size g s * dim))) x.at (refusal.DimMismatch (place places x.at)) (subst (λ o. data_found places (Some zs) o x ≡ []) w e)) in
+      let f : nat_eq (length zs) (set_size g s * dim) ≡ true = not-false (nat_eq (length zs) (set_size g s * dim)) (not_in InOrder (not (nat_eq (length zs) (set_size g s * dim))) x.at (refusal.DimMismatch (place places x.at)) (subst (λ o. data_found places (Some zs) o x ≡ []) w e)) in
       ap (λ o. target_found places g dim x (Some zs) o (Some t)) w
       ∙ ap (λ (b : Bool). if b then stray_found places (map_count g) dim x (first_stray (set_size g t) 0 zs) else []) f
 

@@ -20,7 +20,8 @@ use Rattle.main_names.specs.Meanings.{set_of, or_zero, or_none, count_of, array_
 use Rattle.main_declarations.specs.Declarations.{is_dim, awaited, place_found, set_found, dim_found, type_found, data_found, cells_found, dat_decl_found}
 use Rattle.main_declarations.specs.KnownSets.{IsKnown, SetsKnown}
 use Rattle.main_declarations.specs.Targets.{shape_decl_found}
-use Rattle.main_declarations.proofs.Judged.{nothing_found, left_nil, right_nil, not_equal_false, not_over, not_if, positive}
+use Rattle.main_declarations.proofs.Judged.{nothing_found, left_nil, right_nil, not_over, not_if}
+use Rattle.lemmas.proofs.Numbers.{equal_from_not, positive}
 
 -- ---- numbers of sets
 
@@ -66,7 +67,7 @@ awaited-is g s n e = ap (λ (b : Bool). if b then Some (set_size g s * n) else N
 
 pub data_is : (places : List Pos) (x : Ident) (n : ℕ) (zs : Option (List ℤ)) → data_found places zs (Some n) x ≡ [] → length (or_none zs) ≡ n
 data_is places x n None e = never (not_if places true x.at refusal.UnknownEntry e)
-data_is places x n (Some zs) e = not_equal_false (length zs) n (not_if places (not (nat_eq (length zs) n)) x.at refusal.DimMismatch e)
+data_is places x n (Some zs) e = equal_from_not (length zs) n (not_if places (not (nat_eq (length zs) n)) x.at refusal.DimMismatch e)
 
 -- ---- the mesh takes it
 

@@ -3,7 +3,7 @@ use Rattle.std.proofs.Common.{◌≡◌, ℕ, ◌+◌, ◌<◌, Bool, true, fals
 use Rattle.std.proofs.lemmas.List.{get_or_default}
 use Rattle.std.specs.Prelude.{if◌then◌else◌}
 use Rattle.mesh_decl.specs.Printed.{one_more, conversions}
-use Rattle.main_trace.proofs.Lists.{drop_item}
+use Rattle.lemmas.proofs.Lists.{drop_here}
 
 -- behind an open `%`
 abbrev pub behind : List ℕ → Option ℕ
@@ -29,7 +29,7 @@ conversions-cons c (d ∷ ds) = refl
 
 -- the text from a byte on is that byte and what follows
 here : (cs : List ℕ) (k : ℕ) → k < length cs → drop k cs ≡ get_or cs k 0 ∷ drop (k + 1) cs
-here cs k h = drop_item cs k (get_or cs k 0) h (get_or_default cs k 0 (get_or cs k 0) h)
+here cs k h = drop_here cs k (get_or cs k 0) h (get_or_default cs k 0 (get_or cs k 0) h)
 
 pub closes_two : (n k : ℕ) (cs : List ℕ) → k < length cs → get_or cs k 0 ≡ 100 → added (n + 1) (conversions (drop (k + 1) cs)) ≡ added n (behind (drop k cs))
 closes_two n k cs h t = rw (here cs k h, t) (sym (added-one n (conversions (drop (k + 1) cs))))
@@ -38,7 +38,7 @@ pub closes_one : (n k : ℕ) (cs : List ℕ) → k < length cs → get_or cs k 0
 closes_one n k cs h t = rw (here cs k h, t) refl
 
 pub closes_none : (n k : ℕ) (cs : List ℕ) (c : ℕ) → k < length cs → c ≡ get_or cs k c → nat_eq c 100 ≡ false → nat_eq c 37 ≡ false → added n (behind (drop k cs)) ≡ None
-closes_none n k cs c h g t u = rw (drop_item cs k c h g, t, u) refl
+closes_none n k cs c h g t u = rw (drop_here cs k c h g, t, u) refl
 
 pub opens : (n k : ℕ) (cs : List ℕ) → k < length cs → added n (rest (nat_eq (get_or cs k 0) 37) (drop (k + 1) cs)) ≡ added n (conversions (drop k cs))
 opens n k cs h = rw (here cs k h, conversions-cons (get_or cs k 0) (drop (k + 1) cs)) (by (nat_eq (get_or cs k 0) 37))

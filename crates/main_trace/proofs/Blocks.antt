@@ -6,7 +6,7 @@ use Rattle.bound_program.specs.Values.{SiteValue}
 use Rattle.main_trace.specs.Steps as steps
 use Rattle.main_trace.specs.Trace.{after, events, all_events}
 use Rattle.main_trace.specs.Unrolling.{step_of, steps_of, steps_of_row}
-use Rattle.main_trace.proofs.Lists.{drop_item, drop_end}
+use Rattle.lemmas.proofs.Lists.{drop_end, drop_here}
 
 row_is : (m : _) (row : Row_of-Step m) → steps_of_row row ≡ steps_of (items-the_row-Step m row)
 row_is m end_of-Step = refl
@@ -28,7 +28,7 @@ pub block_is : (s : Step) (v : Vec Step Global) (items : List Step) → s ≡ Bl
 block_is s v items p q = ap step_of p ∙ step_of-Block v ∙ ap (λ z. steps.Block (steps_of z)) (sym q)
 
 pub block_go : (sites : List SiteValue) (told : List ℤ) (items : List Step) (k : ℕ) (x : Step) → k < length items → x ≡ get_or items k x → all_events sites told (steps_of (drop k items)) ≡ events sites told (step_of x) ++ all_events sites (after told (step_of x)) (steps_of (drop (k + 1) items))
-block_go sites told items k x h e = rw (drop_item items k x h e) refl
+block_go sites told items k x h e = rw (drop_here items k x h e) refl
 
 pub block_end : (sites : List SiteValue) (told : List ℤ) (items : List Step) (k : ℕ) → length items ≤ k → all_events sites told (steps_of (drop k items)) ≡ []
 block_end sites told items k h = rw (drop_end items k h) refl

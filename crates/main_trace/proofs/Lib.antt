@@ -1,7 +1,6 @@
 pub mod Blocks
 pub mod HostValues
 pub mod Leaves
-pub mod Lists
 pub mod Renamed
 pub mod Rounds
 pub mod ToldValues

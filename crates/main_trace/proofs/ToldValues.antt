@@ -3,11 +3,7 @@ use Rattle.std.proofs.Common.{◌≡◌, ℤ, ◌≤◌, List, [], ◌∷◌, �
 use Rattle.std.proofs.lemmas.List.{take-take}
 use Rattle.main_trace.specs.Trace.{number, one_more, after}
 use Rattle.main_trace.specs.Steps.{Step, Do, Loop, Fix, Block, Choose, Repeat}
-
-pub take_front : (xs ys : List ℤ) → take (length xs) (xs ++ ys) ≡ xs
-take_front [] [] = refl
-take_front [] (y ∷ ys) = refl
-take_front (x ∷ xs) ys = ap (λ z. x ∷ z) (take_front xs ys)
+use Rattle.std.proofs.Math.Seq.{take-append_seam}
 
 take_all : (xs : List ℤ) → take (length xs) xs ≡ xs
 take_all [] = refl
@@ -26,7 +22,7 @@ extends-trans xs ys zs h k = record { front = sym (take-take (length xs) (length
 
 one_more-extends : (xs : List ℤ) (z : Option ℤ) → Extends xs (one_more xs z)
 one_more-extends xs None = extends-self xs
-one_more-extends xs (Some z) = record { front = take_front xs (z ∷ []); longer = omega (arith, length-append xs (z ∷ [])) }
+one_more-extends xs (Some z) = record { front = take-append_seam xs (z ∷ []); longer = omega (arith, length-append xs (z ∷ [])) }
 
 pub after-extends : (xs : List ℤ) (s : Step) → Extends xs (after xs s)
 after-extends xs (Do a) = extends-self xs

@@ -1,14 +1,11 @@
 -- One item more of a list that is made item for item.
 use Rattle.std.proofs.Common.{◌≡◌, ℕ, zero, suc, ◌+◌, ◌<◌, ◌∙◌, ◌++◌, [], ◌∷◌, arith, List, length, map, take, get_or, refl, sym, ap, append_assoc}
 use Rattle.std.specs.List.{flat_map}
-
-append-none : {A : Type 0} (xs : List A) → xs ++ [] ≡ xs
-append-none [] = refl
-append-none (x ∷ xs) = ap (λ ys. x ∷ ys) (append-none xs)
+use Rattle.std.proofs.lemmas.List.{append-nil}
 
 flat-suc : {A : Type 0} (f : ℕ → List A) (xs : List ℕ) (i : ℕ) → i < length xs → flat_map f (take (suc i) xs) ≡ flat_map f (take i xs) ++ f (get_or xs i 0)
 flat-suc f [] i h = absurd (omega arith)
-flat-suc f (x ∷ xs) zero h = append-none (f x)
+flat-suc f (x ∷ xs) zero h = append-nil (f x)
 flat-suc f (x ∷ xs) (suc i) h = ap (λ ys. f x ++ ys) (flat-suc f xs i (omega arith)) ∙ sym (append_assoc (f x) (flat_map f (take i xs)) (f (get_or xs i 0)))
 
 map-suc : {A : Type 0} (f : ℕ → A) (xs : List ℕ) (i : ℕ) → i < length xs → map f (take (suc i) xs) ≡ map f (take i xs) ++ f (get_or xs i 0) ∷ []

@@ -19,9 +19,9 @@ use Rattle.mesh_text.specs.Token.{is_c_name, version_of, keyword_of}
 use Rattle.mesh_text.specs.Piece.{IsValue, Gives, piece_of}
 use Rattle.mesh_text.specs.Spelling.{Named, total, size_of, has_name, ArePieces, IsEntry, IsNew, AreEntries, digit_of}
 use Rattle.mesh_text.specs.Reading.{State, finish, Magic, Version, Between, OneName, ManyName, OneValue, Count, Pieces, End, step, versioned, began, named, room_for, one_of, count_of, given, filled, AreSome, Stands}
-use Rattle.texts.proofs.Chosen.{eq_itself}
 use Rattle.mesh_text.proofs.PieceExact.{piece_complete, gives_some}
 use Rattle.mesh_text.proofs.Running.{step-version, step-between, step-one_name, step-many_name, step-one_value, step-count, step-pieces, step-magic, filled-more}
+use Rattle.lemmas.proofs.Lists.{bytes_eq_from}
 
 new_named : (es : List Named) (w : Word) (name : List ℕ) → w.text ≡ name → IsNew name es → named es w ≡ Ok name
 unfolding named
@@ -116,7 +116,7 @@ version_read form.One = refl
 version_read form.Two = refl
 
 magic_on : (w : Word) → w.text ≡ codes "op2mesh" → step Magic w ≡ Ok Version
-magic_on w e = step-magic w (eq_itself w.text (codes "op2mesh") e)
+magic_on w e = step-magic w (bytes_eq_from w.text (codes "op2mesh") e)
 
 goes_mesh : (f : Form) (ts : List (List ℕ)) (es : List Named) → AreSome f ts es → Goes step finish Magic ts (Between f es)
 goes_mesh f ts es s =

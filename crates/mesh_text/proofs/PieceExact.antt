@@ -11,7 +11,8 @@ use Rattle.mesh_text.specs.declared.entry.Form.{Form}
 use Rattle.mesh_text.specs.declared.entry.Form.TheVariants as form
 use Rattle.mesh_text.specs.declared.piece.Piece.TheVariants.{Values, OutOfRange, NoTimes}
 use Rattle.mesh_text.specs.Piece.{IsValue, Gives, no_star, one_value, value_piece, times_piece, run_of, run_piece, split_piece, piece_of}
-use Rattle.texts.proofs.Chosen.{ok_then}
+use Rattle.lemmas.proofs.Truth.{ok_then}
+use Rattle.std.proofs.Math.Seq.{drop-append_seam, take-append_seam}
 
 value_sound : (r : Result ℤ NumRefusal) (n : ℕ) (z : ℤ) → one_value r ≡ Values n z → (n ≡ 1) × (r ≡ Ok z)
 value_sound (Ok y) n z h = (cc, cc)
@@ -134,14 +135,6 @@ whole_value text z h =
     let t : nat_eq (prefix_len no_star text) (length text) ≡ true = grind (arith, nat_tests) in
     ap (λ b. cond b (value_piece text) (run_piece (take (prefix_len no_star text) text) (drop 1 (drop (prefix_len no_star text) text)))) t ∙ value_complete text z h
 
-take_front : (xs ys : List ℕ) → take (length xs) (xs ++ ys) ≡ xs
-take_front [] ys = refl
-take_front (x ∷ xs) ys = ap (λ zs. x ∷ zs) (take_front xs ys)
-
-drop_front : (xs ys : List ℕ) → drop (length xs) (xs ++ ys) ≡ ys
-drop_front [] ys = refl
-drop_front (x ∷ xs) ys = drop_front xs ys
-
 whole_run : (times value : List ℕ) (n : ℕ) (z : ℤ) → number_of times ≡ Some n → 0 < n → n < 2 ^ 31 → IsValue value z → piece_of form.Two (times ++ 42 ∷ value) ≡ Values n z
 whole_run times value n z e s f v =
     let text = times ++ 42 ∷ value in
@@ -150,8 +143,8 @@ whole_run times value n z e s f v =
     let t : nat_eq (length times) (length text) ≡ false = grind (arith, nat_tests) in
     ap (λ k. split_piece k text) len
     ∙ ap (λ b. cond b (value_piece text) (run_piece (take (length times) text) (drop 1 (drop (length times) text)))) t
-    ∙ ap (λ xs. run_piece xs (drop 1 (drop (length times) text))) (take_front times (42 ∷ value))
-    ∙ ap (λ xs. run_piece times (drop 1 xs)) (drop_front times (42 ∷ value))
+    ∙ ap (λ xs. run_piece xs (drop 1 (drop (length times) text))) (take-append_seam times (42 ∷ value))
+    ∙ ap (λ xs. run_piece times (drop 1 xs)) (drop-append_seam times (42 ∷ value))
     ∙ run_complete times value n z e s f v
 
 pub piece_complete : (f : Form) (text : List ℕ) (n : ℕ) (z : ℤ) → Gives f text n z → piece_of f text ≡ Values n z

@@ -11,7 +11,7 @@ use Rattle.std.specs.Ordering.{int_eq}
 use Rattle.op_num.specs.Spelling.{number_of, integer_of, i32_judged}
 use Rattle.texts.specs.Cut.{words, text_of, texts, dark}
 use Rattle.texts.specs.Lines.{IsToken, line_of, text_of_lines, AreTokens, AreLines, placed}
-use Rattle.texts.proofs.Words.{concat, placed_texts, all_and, all_append, number_token, integer_token, concat_append, lines_append}
+use Rattle.texts.proofs.Words.{concat, placed_texts, number_token, integer_token, concat_append, lines_append}
 use Rattle.mesh_text.specs.declared.entry.Form.{Form}
 use Rattle.mesh_text.specs.declared.entry.Form.TheVariants as form
 use Rattle.mesh_text.specs.declared.entry.Entry.{Entry}
@@ -21,6 +21,7 @@ use Rattle.mesh_text.specs.Piece.{IsValue, Gives}
 use Rattle.mesh_text.specs.Spelling.{Named, ArePieces, IsEntry, AreEntries, Spells, header}
 use Rattle.mesh_text.proofs.Grouping.{spread, spread_stretches}
 use Rattle.mesh_text.specs.Canonical.{onto_stretch, stretches, alone, groups, piece_text, pieces_of, lines_of, entry_lines, mesh_lines, canonical, entry_text, FitI32, HasI32, IsCounted, CanBeSpelled, HaveSpelling}
+use Rattle.lemmas.proofs.Lists.{list_all_append, list_all_cons}
 
 flat_text : (f : Form) (es : List Named) → text_of_lines (flat_map (entry_lines f) es) ≡ flat_map (entry_text f) es
 flat_text f [] = refl
@@ -56,11 +57,11 @@ letter_dark b h = grind (arith, nat_tests)
 
 parts_dark : (bs : List ℕ) → list_all part bs ≡ true → list_all dark bs ≡ true
 parts_dark [] h = refl
-parts_dark (b ∷ bs) h = let k = and_parts (part b) (list_all part bs) h in all_and dark b bs (part_dark b k.0) (parts_dark bs k.1)
+parts_dark (b ∷ bs) h = let k = and_parts (part b) (list_all part bs) h in list_all_cons dark b bs (part_dark b k.0) (parts_dark bs k.1)
 
 name_token : (name : List ℕ) → is_c_name name ≡ true → IsToken name
 name_token [] h = cc
-name_token (b ∷ bs) h = let k = and_parts (letter b) (list_all part bs) h in (omega arith, all_and dark b bs (letter_dark b k.0) (parts_dark bs k.1))
+name_token (b ∷ bs) h = let k = and_parts (letter b) (list_all part bs) h in (omega arith, list_all_cons dark b bs (letter_dark b k.0) (parts_dark bs k.1))
 
 abbrev AreGroups : List (ℕ × ℤ) → Type 0
 AreGroups [] = Unit {0}
@@ -126,7 +127,7 @@ module _ (printed : (z : ℤ) → FitsSigned w32 z → i32_judged (integer_of (s
       go false =
           let a = number_token (decimal n) n (counted n (omega arith)) in
           let b = value_token (signed_decimal z) z (printed z f) in
-          (simp length-append (omega (arith, a.0)), all_append dark (decimal n) (42 ∷ signed_decimal z) a.1 b.1)
+          (simp length-append (omega (arith, a.0)), list_all_append dark (decimal n) (42 ∷ signed_decimal z) a.1 b.1)
 
   pieces_tokens : (gs : List (ℕ × ℤ)) → AreGroups gs → length (spread gs) < 2 ^ 31 → AreTokens (map piece_text gs)
   pieces_tokens [] a h = tt

@@ -61,10 +61,6 @@ step-end es w = refl
 pub filled-more : (f : Form) (es : List Named) (name : List ℕ) (left : ℕ) (zs : List ℤ) → 0 < left → filled f es name left zs ≡ Pieces f es name left zs
 filled-more f es name left zs h = let e : nat_eq left 0 ≡ false = grind (arith, nat_tests) in rw e refl
 
-pub is_none : {X : Type 0} (o : Option X) → is_some o ≡ false → o ≡ None
-is_none None h = refl
-is_none (Some x) h = cc
-
 pub one_named : (f : Form) (es : List Named) (u v : Uncut) (w : Word) (name : List ℕ) → IsNext u v w → named es w ≡ Ok name → run_from (OneName f es) u ≡ run_from (OneValue f es name) v
 one_named f es u v w name n h = run_onto step finish (OneName f es) u v w name (named es w) (OneValue f es) n (step-one_name f es w) h
 

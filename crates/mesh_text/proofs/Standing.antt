@@ -25,9 +25,10 @@ use Rattle.mesh_text.specs.Token.{is_c_name, is_magic, version_of, keyword_of}
 use Rattle.mesh_text.specs.Piece.{IsPiece, piece_of}
 use Rattle.mesh_text.specs.Spelling.{Named, total, size_of, has_name, ArePieces, IsEntry, IsNew, AreEntries, AreMesh, header, digit_of}
 use Rattle.mesh_text.specs.Reading.{State, Magic, Version, Between, OneName, ManyName, OneValue, Count, Pieces, End, step, versioned, began, named, room_for, one_of, count_of, given, filled, AreSome, Stands}
-use Rattle.texts.proofs.Chosen.{chosen, ok_then, ok_else, same_bytes}
 use Rattle.mesh_text.proofs.PieceExact.{piece_sound}
 use Rattle.mesh_text.proofs.Running.{step-version, step-between, step-one_name, step-many_name, step-one_value, step-count, step-pieces, step-end}
+use Rattle.lemmas.proofs.Lists.{bytes_eq_same, with_one}
+use Rattle.lemmas.proofs.Truth.{cond_cases, ok_else, ok_then}
 
 -- one token more for an array
 pieces_more : (f : Form) (ps : List (List ℕ)) (p : List ℕ) (zs ys : List ℤ) → ArePieces f ps zs → IsPiece f p ys → ArePieces f (ps ++ p ∷ []) (zs ++ ys)
@@ -59,10 +60,10 @@ filled_stands f es name left zs front count pieces ts whole some new number fits
 
 -- what a token said
 version_is : (text : List ℕ) (f : Form) → version_of text ≡ Some f → text ≡ digit_of f
-version_is text f h = elim (chosen (bytes_eq text (codes "1")) (Some form.One) (cond (bytes_eq text (codes "2")) (Some form.Two) None) (Some f) h) [
-  | inl k ↦ let e : form.One ≡ f = cc in same_bytes text (codes "1") k.0 ∙ ap digit_of e
-  | inr k ↦ elim (chosen (bytes_eq text (codes "2")) (Some form.Two) None (Some f) k.1) [
-    | inl m ↦ let e : form.Two ≡ f = cc in same_bytes text (codes "2") m.0 ∙ ap digit_of e
+version_is text f h = elim (cond_cases (bytes_eq text (codes "1")) (Some form.One) (cond (bytes_eq text (codes "2")) (Some form.Two) None) (Some f) h) [
+  | inl k ↦ let e : form.One ≡ f = cc in bytes_eq_same text (codes "1") k.0 ∙ ap digit_of e
+  | inr k ↦ elim (cond_cases (bytes_eq text (codes "2")) (Some form.Two) None (Some f) k.1) [
+    | inl m ↦ let e : form.Two ≡ f = cc in bytes_eq_same text (codes "2") m.0 ∙ ap digit_of e
     | inr m ↦ absurd (cc m.1)
   ]
 ]
@@ -73,12 +74,12 @@ word_of keyword.Ints = codes "ints"
 word_of keyword.Done = codes "done"
 
 keyword_is : (text : List ℕ) (k : Keyword) → keyword_of text ≡ Some k → text ≡ word_of k
-keyword_is text w h = elim (chosen (bytes_eq text (codes "int")) (Some keyword.Int) (cond (bytes_eq text (codes "ints")) (Some keyword.Ints) (cond (bytes_eq text (codes "done")) (Some keyword.Done) None)) (Some w) h) [
-  | inl k ↦ let e : keyword.Int ≡ w = cc in same_bytes text (codes "int") k.0 ∙ ap word_of e
-  | inr k ↦ elim (chosen (bytes_eq text (codes "ints")) (Some keyword.Ints) (cond (bytes_eq text (codes "done")) (Some keyword.Done) None) (Some w) k.1) [
-    | inl m ↦ let e : keyword.Ints ≡ w = cc in same_bytes text (codes "ints") m.0 ∙ ap word_of e
-    | inr m ↦ elim (chosen (bytes_eq text (codes "done")) (Some keyword.Done) None (Some w) m.1) [
-      | inl n ↦ let e : keyword.Done ≡ w = cc in same_bytes text (codes "done") n.0 ∙ ap word_of e
+keyword_is text w h = elim (cond_cases (bytes_eq text (codes "int")) (Some keyword.Int) (cond (bytes_eq text (codes "ints")) (Some keyword.Ints) (cond (bytes_eq text (codes "done")) (Some keyword.Done) None)) (Some w) h) [
+  | inl k ↦ let e : keyword.Int ≡ w = cc in bytes_eq_same text (codes "int") k.0 ∙ ap word_of e
+  | inr k ↦ elim (cond_cases (bytes_eq text (codes "ints")) (Some keyword.Ints) (cond (bytes_eq text (codes "done")) (Some keyword.Done) None) (Some w) k.1) [
+    | inl m ↦ let e : keyword.Ints ≡ w = cc in bytes_eq_same text (codes "ints") m.0 ∙ ap word_of e
+    | inr m ↦ elim (cond_cases (bytes_eq text (codes "done")) (Some keyword.Done) None (Some w) m.1) [
+      | inl n ↦ let e : keyword.Done ≡ w = cc in bytes_eq_same text (codes "done") n.0 ∙ ap word_of e
       | inr n ↦ absurd (cc n.1)
     ]
   ]
@@ -156,7 +157,7 @@ unfolding step
 behind_magic q ts w s h =
     let a = ok_then (is_magic w.text) (Ok Version) (Header w.line) q h in
     let e : Version ≡ q = cc (a.1) in
-    subst (Stands (ts ++ w.text ∷ [])) e (ap (λ xs. xs ++ w.text ∷ []) s ∙ ap (λ t. t ∷ []) (same_bytes w.text (codes "op2mesh") a.0))
+    subst (Stands (ts ++ w.text ∷ [])) e (ap (λ xs. xs ++ w.text ∷ []) s ∙ ap (λ t. t ∷ []) (bytes_eq_same w.text (codes "op2mesh") a.0))
 
 behind_version : (q : State) (ts : List (List ℕ)) (w : Word) → ts ≡ codes "op2mesh" ∷ [] → versioned (version_of w.text) w.line ≡ Ok q → Stands (ts ++ w.text ∷ []) q
 behind_version q ts w s h =
@@ -169,10 +170,6 @@ behind_between : (f : Form) (es : List Named) (q : State) (ts : List (List ℕ))
 behind_between f es q ts w s h =
     let b = began_is f es (keyword_of w.text) (piece_of f w.text) w.line q h in
     subst (Stands (ts ++ w.text ∷ [])) b.2 (begun_stands f es b.0 ts w.text (keyword_is w.text b.0 b.1) s)
-
--- the tokens with one more
-with_one : (ts front back : List (List ℕ)) (t u : List ℕ) → ts ≡ front ++ back → t ≡ u → ts ++ t ∷ [] ≡ front ++ (back ++ u ∷ [])
-with_one ts front back t u s e = ap (λ xs. xs ++ t ∷ []) s ∙ append_assoc front back (t ∷ []) ∙ ap (λ x. front ++ (back ++ x ∷ [])) e
 
 behind_one_name : (f : Form) (es : List Named) (q : State) (ts : List (List ℕ)) (w : Word) → Stands ts (OneName f es) → onto (named es w) (OneValue f es) ≡ Ok q → Stands (ts ++ w.text ∷ []) q
 behind_one_name f es q ts w s h =

@@ -14,7 +14,8 @@ use Rattle.name_resolution.specs.Scopes.{Scope, means, decl_or, use_breaches}
 use Rattle.name_resolution.specs.Kernels.{writing, name_breaches, expr_breaches, place_breaches, value, set_element, assigned}
 use Rattle.kernel_types.specs.View.{RExprTree, Number}
 use Rattle.name_resolution.proofs.Trees.{FormIn, ExprIn, StmtIn, StoresIn}
-use Rattle.name_resolution.proofs.Fits.{AllAre, Fit, FitAs, mk, meant, none_of_both, or_right, Allowed, allowed, single_in, element_in}
+use Rattle.name_resolution.proofs.Fits.{AllAre, Fit, FitAs, mk, meant, none_of_both, Allowed, allowed, single_in, element_in}
+use Rattle.lemmas.proofs.Truth.{or_right}
 
 -- stores to what is declared so go to cells of these alone
 abbrev pub MayAs : (ℕ → Type 0) → Sort → (f : Bool) → (from count : ℕ) → Type 0

@@ -62,10 +62,6 @@ pub none_if : (b : Bool) (r : TypeRule) (t : ℕ) → breach_if b r t ≡ [] →
 none_if true r t h = cc
 none_if false r t h = refl
 
-pub or_right : (a b : Bool) → (a || b) ≡ false → b ≡ false
-or_right true b h = cc
-or_right false b h = h
-
 -- what the use of a name breaks none of
 pub record Allowed (how : Use) (d : Decl) : Type 0 where
   pub reach : (how.in_kernel && is_out_of_reach d) ≡ false

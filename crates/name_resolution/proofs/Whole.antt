@@ -15,10 +15,11 @@ use Rattle.name_resolution.specs.Work.{work_of_all, cells_of_all, is_heavy, behi
 use Rattle.name_resolution.specs.Kernels.{after_params, param_decl, params_breaches, stmts_breaches, kernel_breaches, kernel}
 use Rattle.name_resolution.specs.Mains.{declr_name}
 use Rattle.name_resolution.specs.Programs.{constant_cells, variable_decl, with_variable, after_variables, after_top, after_tops, top_breaches, tops_breaches, kernels_of, kernels}
-use Rattle.name_resolution.proofs.Fits.{AllAre, Fit, appended, declared_are, none_of_both, none_if, or_right}
+use Rattle.name_resolution.proofs.Fits.{AllAre, Fit, appended, declared_are, none_of_both, none_if}
 use Rattle.name_resolution.proofs.Within.{all_wide, stmts_in}
 use Rattle.name_resolution.proofs.Counters.{IsOfFile, stmts_count}
 use Rattle.name_resolution.proofs.Bridge.{KernelIn, KernelsIn}
+use Rattle.lemmas.proofs.Truth.{or_right}
 
 -- ---- a kernel
 

@@ -18,6 +18,7 @@ use Rattle.breadth_order.specs.Taken.{Rises}
 use Rattle.breadth_order.specs.Unseen.{AreUnseen}
 use Rattle.neighbour_graph.specs.Graph.{graph_line, AreNeighbours, AreRows}
 use Rattle.neighbour_graph.specs.Parts.{HasLines}
+use Rattle.lemmas.proofs.Lists.{get_or_any}
 
 -- ---- one row
 
@@ -28,14 +29,11 @@ unkeyed x = omega arith
 not_less : (a b : ℕ) → b ≤ a → is_lt (nat_cmp a b) ≡ false
 not_less a b le = grind (arith, common_steps, le)
 
-any_default : (xs : List ℕ) (k d e : ℕ) → k < length xs → get_or xs k d ≡ get_or xs k e
-any_default xs k d e lt = grind (arith, common_steps, lt)
-
 sorted : (xs : List ℕ) → Rises (keyed []) xs → IsSorted nat_cmp xs
 sorted xs rises k d low lt =
     let up = rises k (k + 1) (omega arith) lt in
-    let first = any_default xs k d 0 (omega arith) in
-    let second = any_default xs (k + 1) d 0 lt in
+    let first = get_or_any xs k d 0 (omega arith) in
+    let second = get_or_any xs (k + 1) d 0 lt in
     let a = unkeyed (slice_index xs k) in
     let b = unkeyed (slice_index xs (k + 1)) in
     not_less (slice_index_or xs (k + 1) d) (slice_index_or xs k d) (omega arith)
@@ -46,7 +44,7 @@ pub near_row : (g : MeshValue) (m x : ℕ) (seen : List Bool) (xs ys : List ℕ)
 near_row g m x seen xs ys u none e = subst (AreNeighbours g m x) (sym e) (record {
   near = λ y c. (
       let f = Contains-from_dedup eqb xs y c in
-      subst (λ z. are_neighbours g m x z ≡ true) (any_default xs f.0 0 y f.1 ∙ f.2) (u.near f.0 f.1));
+      subst (λ z. are_neighbours g m x z ≡ true) (get_or_any xs f.0 0 y f.1 ∙ f.2) (u.near f.0 f.1));
   all = λ y h. Contains-dedup_nat xs y (u.all y h (none y));
   rises = IsStrictlyIncreasing-dedup xs (sorted xs u.rises);
 })

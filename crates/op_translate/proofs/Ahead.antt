@@ -3,7 +3,7 @@ use Rattle.std.proofs.Common.{◌≡◌, ◌≢◌, nat_eq, ◌⊎◌, ℕ, suc,
 use Rattle.std.specs.Prelude.{not}
 use Rattle.std.specs.List.{list_all}
 use Rattle.std.specs.Str.{bytes_eq}
-use Rattle.std.proofs.lemmas.Bool.{cases_lt, and_parts, and_from}
+use Rattle.std.proofs.lemmas.Bool.{cases_lt, and_parts, and_from, true≢false}
 use Rattle.std.proofs.lemmas.List.Folds.{list_all-append}
 use Rattle.std.proofs.lemmas.Slice.Eq.{bytes_eq-Decides}
 use Rattle.c_lex.specs.declared.tokens.Kind.{Kind}
@@ -14,9 +14,10 @@ use Rattle.c_lex.specs.declared.tokens.Word.{Word}
 use Rattle.c_lex.specs.declared.spelling.TheConstants.{WORDS}
 use Rattle.c_lex.specs.Spelling.{sign_spelling, word_spelling, letter, digit, part, textual, text_spelling, IsName, IsFigure, HasForm}
 use Rattle.c_lex.specs.Lexed.{EndsLine, IsPassed, BeginsNoComment, NoLonger, IsLongest, Part, Passed, Spelled, IsPartBefore}
-use Rattle.c_lex.proofs.Forms.{true_false, no_word, word_named, begins, not_empty, letter_digit, text_begins}
+use Rattle.c_lex.proofs.Forms.{no_word, word_named, begins, not_empty, letter_digit, text_begins}
 use Rattle.c_lex.proofs.Longest.{text_one}
 use Rattle.c_lex.proofs.Apart.{letter_bounds}
+use Rattle.lemmas.proofs.Lists.{find_passes}
 
 -- ---- lists
 
@@ -54,15 +55,7 @@ figures (b ∷ []) h = and_from (digit b) true h refl
 figures (b ∷ c ∷ bs) h = and_from (digit b) (list_all digit (c ∷ bs)) h.0 h.2
 
 not_letter : (c : ℕ) → not (letter c) ≡ true → letter c ≡ true → ⊥
-not_letter c h k = true_false (sym h ∙ ap not k)
-
-pub found_passes : {X : Type 0} (p : X → Bool) (xs : List X) (y : X) → find p xs ≡ Some y → p y ≡ true
-found_passes p [] y h = let q : ⊥ = cc in absurd q
-found_passes p (x ∷ xs) y h = by (p x) refl h (found_passes p xs y)
-  where
-    by : (t : Bool) → p x ≡ t → cond t (Some x) (find p xs) ≡ Some y → (find p xs ≡ Some y → p y ≡ true) → p y ≡ true
-    by true e h f = let same : x ≡ y = cc in subst (λ z. p z ≡ true) same e
-    by false e h f = f h
+not_letter c h k = true≢false (sym h ∙ ap not k)
 
 -- what is a name but for being reserved has a form
 name_form : (x : List ℕ) → IsName x → (k : Kind) × HasForm k x
@@ -70,7 +63,7 @@ name_form x h = by (find (λ w. bytes_eq x (word_spelling w)) WORDS) refl
   where
     by : (o : Option Word) → find (λ w. bytes_eq x (word_spelling w)) WORDS ≡ o → (k : Kind) × HasForm k x
     by None e = (kind.Name x, (refl, h, no_word x e))
-    by (Some w) e = (kind.Word w, (bytes_eq-Decides x (word_spelling w)).0 (found_passes (λ w. bytes_eq x (word_spelling w)) WORDS w e))
+    by (Some w) e = (kind.Word w, (bytes_eq-Decides x (word_spelling w)).0 (find_passes (λ w. bytes_eq x (word_spelling w)) WORDS w e))
 
 name_front : (f : List ℕ) (c : ℕ) (t : List ℕ) → IsName (f ++ c ∷ t) → 0 < length f → IsName (f ++ c ∷ [])
 name_front [] c t h some = absurd (omega (arith, some))
@@ -132,7 +125,7 @@ module _ (k : Kind) (s r : List ℕ) (c : ℕ) (x y : List ℕ) (is : letter c �
 -- a form in which a LF stands behind other bytes is a text
 no_lf_name : (f t : List ℕ) → IsName (f ++ 10 ∷ t) → 0 < length f → ⊥
 no_lf_name [] t h some = absurd (omega (arith, some))
-no_lf_name (b ∷ f) t h some = true_false (sym (all_at part f 10 t h.1))
+no_lf_name (b ∷ f) t h some = true≢false (sym (all_at part f 10 t h.1))
 
 no_lf_sign : (s : Sign) → list_all (λ b. not (nat_eq b 10)) (sign_spelling s) ≡ true
 no_lf_sign sign.LeftParen = refl
@@ -141,10 +134,10 @@ no_lf_sign _ = refl
 pub lf_inside : (j : Kind) (w f t : List ℕ) → w ≡ f ++ 10 ∷ t → 0 < length f → HasForm j w → (z : List ℕ) × HasForm (kind.Text z) w
 lf_inside (kind.Word q) w f t g some h = absurd (no_lf_name f t (subst IsName (sym h ∙ g) (word_named q)) some)
 lf_inside (kind.Name q) w f t g some h = absurd (no_lf_name f t (subst IsName g h.1) some)
-lf_inside (kind.Number q) w f t g some h = absurd (true_false (sym (all_at digit f 10 t (subst (λ l. list_all digit l ≡ true) g (figures w h.0)))))
+lf_inside (kind.Number q) w f t g some h = absurd (true≢false (sym (all_at digit f 10 t (subst (λ l. list_all digit l ≡ true) g (figures w h.0)))))
 lf_inside (kind.Text q) w f t g some h = (q, h)
 lf_inside (kind.Sign q) w f t g some h =
-    absurd (true_false (sym (all_at (λ b. not (nat_eq b 10)) f 10 t (subst (λ l. list_all (λ b. not (nat_eq b 10)) l ≡ true) (sym h ∙ g) (no_lf_sign q)))))
+    absurd (true≢false (sym (all_at (λ b. not (nat_eq b 10)) f 10 t (subst (λ l. list_all (λ b. not (nat_eq b 10)) l ≡ true) (sym h ∙ g) (no_lf_sign q)))))
 
 lf_longest : (k : Kind) (s r x y : List ℕ) → IsLongest k s (r ++ x) → NoLonger (s ++ (r ++ 10 ∷ y)) (length s)
 lf_longest k s r x y old j w rest h e =

@@ -2,7 +2,7 @@
 use Rattle.std.proofs.Common.{◌≡◌, ◌≢◌, ℕ, ◌≤◌, ◌<◌, Bool, true, false, List, [], ◌∷◌, ◌++◌, length, ⊎_elim, refl, sym, ap, subst, ◌∙◌, append_assoc, arith, codes, nat_eq}
 use Rattle.std.specs.Prelude.{not}
 use Rattle.std.specs.List.{list_all, starts_with}
-use Rattle.std.proofs.lemmas.Bool.{cases_lt}
+use Rattle.std.proofs.lemmas.Bool.{cases_lt, true≢false}
 use Rattle.c_lex.specs.declared.tokens.Kind.{Kind}
 use Rattle.c_lex.specs.declared.tokens.Kind.TheVariants as kind
 use Rattle.c_lex.specs.declared.tokens.Sign.{Sign}
@@ -11,7 +11,7 @@ use Rattle.c_lex.specs.declared.tokens.Word.{Word}
 use Rattle.c_lex.specs.declared.tokens.Word.TheVariants as word
 use Rattle.c_lex.specs.Spelling.{sign_spelling, word_spelling, part, IsName, HasForm}
 use Rattle.c_lex.specs.Lexed.{fresh_after, BeginsNoComment, NoLonger, IsLongest, Part, Passed, Spelled, all_bytes, is_number}
-use Rattle.c_lex.proofs.Forms.{true_false, Begins, BeginsSign, begins, name_begins, sign_begins_as, not_empty}
+use Rattle.c_lex.proofs.Forms.{Begins, BeginsSign, begins, name_begins, sign_begins_as, not_empty}
 use Rattle.c_lex.proofs.Apart.{letter_bounds}
 use Rattle.op_translate.specs.Translation.{prefix}
 use Rattle.op_translate.proofs.Ahead.{beyond, all_at}
@@ -30,7 +30,7 @@ named_longest (b ∷ s) c rest n apart k (a ∷ w) more h e =
     (λ (l : length (b ∷ s) < length (a ∷ w)).
     let t = beyond (b ∷ s) (a ∷ w) c rest more e l in
     let row : IsName ((b ∷ s) ++ c ∷ t.0) = subst IsName t.1 named in
-    absurd (true_false (sym (all_at part s c t.0 row.1) ∙ apart)))
+    absurd (true≢false (sym (all_at part s c t.0 row.1) ∙ apart)))
     (λ (l : length (a ∷ w) ≤ length (b ∷ s)). l)
     (cases_lt (length (b ∷ s)) (length (a ∷ w)))
 
@@ -64,7 +64,7 @@ short_comma _ = refl
 
 short_one : (b : ℕ) (w : List ℕ) → nat_eq b b ≡ true → short b (b ∷ w) ≡ true → length (b ∷ w) ≤ 1
 short_one b [] e h = omega arith
-short_one b (d ∷ w) e h = absurd (true_false (sym h ∙ ap not e))
+short_one b (d ∷ w) e h = absurd (true≢false (sym h ∙ ap not e))
 
 sign_longest : (b : ℕ) → BeginsSign b → nat_eq b b ≡ true → ((s : Sign) → short b (sign_spelling s) ≡ true) → (rest : List ℕ) → NoLonger (b ∷ rest) 1
 sign_longest b is e all rest k [] more h row = omega arith
@@ -114,7 +114,7 @@ pub stub_form : (x : List ℕ) → IsName x → HasForm (kind.Name (prefix ++ x)
 stub_form x n = (
   refl,
   stub_named x n,
-  (λ w e. true_false (sym (stub_begins x) ∙ (ap (λ z. starts_with nat_eq z prefix) e ∙ not_reserved w))),
+  (λ w e. true≢false (sym (stub_begins x) ∙ (ap (λ z. starts_with nat_eq z prefix) e ∙ not_reserved w))),
 )
 
 -- ---- calls
@@ -175,7 +175,7 @@ to_stub_swaps x f g h is = record {
       codes "(" ++ bs,
       append_assoc (prefix ++ x) (codes "(") bs,
       (named_before (kind.Name (prefix ++ x)) (prefix ++ x) 40 bs (stub_form x is.named) (stub_named x is.named) refl, tt),
-      ((λ n. absurd (true_false (sym n))), (bs, refl, (paren_before bs, tt), a)),
+      ((λ n. absurd (true≢false (sym n))), (bs, refl, (paren_before bs, tt), a)),
     ),
   );
 }
@@ -195,18 +195,18 @@ to_call_swaps x is = record {
       refl,
       (named_before (kind.Word word.OpParLoop) (codes "op_par_loop") 40 ((x ++ codes ",") ++ bs) refl (refl, refl) refl, tt),
       (
-        (λ n. absurd (true_false (sym n))),
+        (λ n. absurd (true≢false (sym n))),
         (
           (x ++ codes ",") ++ bs,
           refl,
           (paren_before ((x ++ codes ",") ++ bs), tt),
           (
-            (λ n. absurd (true_false (sym n))),
+            (λ n. absurd (true≢false (sym n))),
             (
               codes "," ++ bs,
               append_assoc x (codes ",") bs,
               (named_before (kind.Name x) x 44 bs (refl, is.named, is.free) is.named refl, tt),
-              ((λ n. absurd (true_false (sym n))), (bs, refl, (comma_before bs, tt), a)),
+              ((λ n. absurd (true≢false (sym n))), (bs, refl, (comma_before bs, tt), a)),
             ),
           ),
         ),

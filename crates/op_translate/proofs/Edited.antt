@@ -13,17 +13,17 @@ use Rattle.c_lex.specs.declared.tokens.Token.{Token}
 use Rattle.c_lex.specs.declared.spelling.TheConstants.{WORDS}
 use Rattle.c_lex.specs.Spelling.{word_spelling}
 use Rattle.c_lex.specs.Lexed.{advance, Part, Passed, Spelled, all_bytes, tokens_of}
-use Rattle.c_lex.proofs.Forms.{true_false}
 use Rattle.op_translate.specs.declared.refusals.TransRefusal.{TransRefusal}
 use Rattle.op_translate.specs.declared.refusals.TransRefusal.TheVariants.{NameTaken, NoCall}
 use Rattle.op_translate.specs.Edits.{Edit, with_edit, edits}
 use Rattle.op_translate.specs.Translation.{prefix, begins, is_name, kernel_in, to_stub, to_call, or_else, first_refusal, taken, refuses_stub, uncalled, refuses_call}
-use Rattle.op_translate.proofs.Ahead.{found_passes}
 use Rattle.op_translate.proofs.Quiet.{is_loop, is_taken, no_stub, no_call}
 use Rattle.op_translate.proofs.Patches.{all_bytes-append, olds}
 use Rattle.op_translate.proofs.Calls.{gaps, paren_part, comma_part, name_part, call_parts, stub_parts, IsKernel}
 use Rattle.op_translate.proofs.Made.{NoEdit, OneEdit, AreEdits}
 use Rattle.op_translate.proofs.Sites.{part_kinds, NoneTaken, Site, Other, Called, forward, backward, IsOther, AreSites, call_row}
+use Rattle.lemmas.proofs.Lists.{find_passes}
+use Rattle.std.proofs.lemmas.Bool.{true≢false}
 
 -- ---- the tokens of a call
 
@@ -117,7 +117,7 @@ is_named (c ∷ cs) k =
     by_word : (o : Option Word) → find (λ w. bytes_eq (c ∷ cs) (word_spelling w)) WORDS ≡ o → is_none o ≡ true
     by_word None e = refl
     by_word (Some w) e =
-        absurd (k.free w ((bytes_eq-Decides (c ∷ cs) (word_spelling w)).0 (found_passes (λ z. bytes_eq (c ∷ cs) (word_spelling z)) WORDS w e)))
+        absurd (k.free w ((bytes_eq-Decides (c ∷ cs) (word_spelling w)).0 (find_passes (λ z. bytes_eq (c ∷ cs) (word_spelling z)) WORDS w e)))
 
 kernel_found : (x : List ℕ) → IsKernel x → kernel_in (prefix ++ x) ≡ Some x
 kernel_found x k = ap (λ t. cond t (Some x) None) (is_named x k)
@@ -165,7 +165,7 @@ backward_edits (Called x f g k ∷ ss) h = (one_call x h.0, backward_edits ss h.
 -- ---- the refusals
 
 uncalled_quiet : (k : Kind) (at : Pos) (o : Option Edit) → is_loop k ≡ false → is_taken k ≡ false → uncalled k at o ≡ None
-uncalled_quiet (kind.Word word.OpParLoop) at o f g = absurd (true_false f)
+uncalled_quiet (kind.Word word.OpParLoop) at o f g = absurd (true≢false f)
 uncalled_quiet (kind.Word _) at o f g = refl
 uncalled_quiet (kind.Name x) at None f g = ap (λ t. cond t (Some (NoCall at)) None) g
 uncalled_quiet (kind.Name x) at (Some e) f g = refl

@@ -5,10 +5,10 @@ use Rattle.std.specs.List.{flat_map}
 use Rattle.std.specs.Fmt.{decimal}
 use Rattle.c_lex.specs.Front.{in_line}
 use Rattle.c_lex.specs.Lexed.{EndsLine, AtEnd, Part, Passed, all_bytes, AreParts}
-use Rattle.c_lex.proofs.Forms.{true_false}
 use Rattle.op_translate.specs.Stubs.{Loop, arg_text, stub_text, stubs_text, table_text}
 use Rattle.op_translate.proofs.Ahead.{all_at}
 use Rattle.op_translate.proofs.Named.{LoopNamed, LoopsNamed, Clean, clean_both, name_clean, decimal_clean, args_clean}
+use Rattle.std.proofs.lemmas.Bool.{true≢false}
 
 abbrev pub line_parts : List (List ℕ) → List Part
 line_parts [] = []
@@ -19,7 +19,7 @@ AllClean [] = Unit {0}
 AllClean (l ∷ ls) = Clean l × AllClean ls
 
 no_lf : (l : List ℕ) → Clean l → (a b : List ℕ) → l ≢ a ++ 10 ∷ b
-no_lf l h a b e = true_false (sym (all_at in_line a 10 b (subst Clean e h)))
+no_lf l h a b e = true≢false (sym (all_at in_line a 10 b (subst Clean e h)))
 
 line_ends : (l rest : List ℕ) → Clean l → EndsLine (codes "//" ++ l) (10 ∷ rest)
 line_ends l rest h = record {
@@ -37,7 +37,7 @@ lines_stand (l ∷ ls) fresh number h = (
     refl,
     inr (inl (record { body = l; cut = refl; ends = line_ends l (all_bytes (line_parts ls)) h.0 })),
     (
-      (λ n. absurd (true_false (sym n))),
+      (λ n. absurd (true≢false (sym n))),
       (all_bytes (line_parts ls), refl, inl (record { byte = 10; cut = refl; blank = refl }), lines_stand ls _ _ h.1),
     ),
   ),

@@ -3,9 +3,9 @@ use Rattle.std.proofs.Common.{◌≡◌, ℕ, ◌+◌, ◌-◌, List, [], ◌∷
 use Rattle.c_lex.specs.declared.tokens.Pos.{Pos}
 use Rattle.c_lex.specs.declared.tokens.Token.{Token}
 use Rattle.c_lex.specs.Lexed.{advance, Part, Passed, Spelled, bytes_of, all_bytes, tokens_of}
-use Rattle.c_lex.proofs.Forms.{take_front, drop_front}
 use Rattle.op_translate.specs.Edits.{Edit, edited, with_edit, edits}
 use Rattle.op_translate.proofs.Patches.{all_bytes-append, Patch, Keep, Swap, olds, news}
+use Rattle.std.proofs.Math.Seq.{drop-append_seam, take-append_seam}
 
 -- ---- edits of parts
 
@@ -39,9 +39,9 @@ after_kept begins n p (Spelled k s) more h =
 one_made : (m : ℕ) (kept old rest text : List ℕ) (es : List Edit) → edited m (kept ++ (old ++ rest)) (record { from = m + length kept; to = m + length kept + length old; text = text } ∷ es) ≡ kept ++ text ++ edited (m + length kept + length old) rest es
 one_made m kept old rest text es =
     let bs : List ℕ = kept ++ (old ++ rest) in
-    let front : take (m + length kept - m) bs ≡ kept = ap (λ z. take z bs) (let e : m + length kept - m ≡ length kept = omega arith in e) ∙ take_front kept (old ++ rest) in
+    let front : take (m + length kept - m) bs ≡ kept = ap (λ z. take z bs) (let e : m + length kept - m ≡ length kept = omega arith in e) ∙ take-append_seam kept (old ++ rest) in
     let size : m + length kept + length old - m ≡ length (kept ++ old) = omega (arith, length-append kept old) in
-    let back : drop (m + length kept + length old - m) bs ≡ rest = ap (λ z. drop z bs) size ∙ (ap (λ z. drop (length (kept ++ old)) z) (sym (append_assoc kept old rest)) ∙ drop_front (kept ++ old) rest) in
+    let back : drop (m + length kept + length old - m) bs ≡ rest = ap (λ z. drop z bs) size ∙ (ap (λ z. drop (length (kept ++ old)) z) (sym (append_assoc kept old rest)) ∙ drop-append_seam (kept ++ old) rest) in
     ap (λ z. z ++ text ++ edited (m + length kept + length old) (drop (m + length kept + length old - m) bs) es) front
     ∙ ap (λ z. kept ++ text ++ edited (m + length kept + length old) z es) back
 

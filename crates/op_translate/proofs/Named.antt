@@ -3,7 +3,7 @@ use Rattle.std.proofs.Common.{◌≡◌, ℕ, zero, suc, ◌+◌, ◌/◌, ◌%�
 use Rattle.std.specs.Prelude.{not, codes}
 use Rattle.std.specs.List.{list_all, flat_map}
 use Rattle.std.specs.Fmt.{digit_glyph, digits_onto, digits, decimal, signed_decimal}
-use Rattle.std.proofs.lemmas.Bool.{eqb-true, and_parts, and_from}
+use Rattle.std.proofs.lemmas.Bool.{eqb-true, and_parts, and_from, true≢false}
 use Rattle.std.proofs.lemmas.List.Folds.{list_all-append}
 use Rattle.c_lex.specs.declared.tokens.Kind.{Kind}
 use Rattle.c_lex.specs.declared.tokens.Kind.TheVariants as kind
@@ -21,7 +21,6 @@ use Rattle.c_tree.specs.Signs.{access_word_of}
 use Rattle.c_tree.specs.Tree.{OpCallTree, ParLoop, HostTree, HostDeclaration, HostBlock, HostEmpty, HostAssign, HostIf, HostIfElse, HostFor, HostCall, HostTrees, NoHost, MoreHost, MainTree, ProgramTree}
 use Rattle.c_tree.specs.Print.{Mark, condition, tops, glob, host_counter, arg_index, via_mark, argument, arguments, call, host, hosts, argv_marks, main, program}
 use Rattle.c_tree.specs.Reads.{shown}
-use Rattle.c_lex.proofs.Forms.{true_false}
 use Rattle.op_translate.specs.Stubs.{Loop, loop_of, loops_of, all_loops_of, index_of, via_name, use_text, arg_text}
 use Rattle.op_translate.proofs.Printed.{ahead, ahead-append, ahead_none}
 
@@ -149,7 +148,7 @@ parts_clean : (x : List ℕ) → list_all part x ≡ true → Clean x
 parts_clean [] h = refl
 parts_clean (b ∷ bs) h =
     let q = and_parts (part b) (list_all part bs) h in
-    and_from (in_line b) (list_all in_line bs) (in_line_from b (λ e. true_false (sym q.0 ∙ ap part e))) (parts_clean bs q.1)
+    and_from (in_line b) (list_all in_line bs) (in_line_from b (λ e. true≢false (sym q.0 ∙ ap part e))) (parts_clean bs q.1)
 
 pub name_clean : (x : List ℕ) → IsName x → Clean x
 name_clean [] n = absurd n

@@ -3,8 +3,9 @@ use Rattle.std.proofs.Common.{◌≡◌, ℕ, Bool, true, false, List, [], ◌�
 use Rattle.std.proofs.lemmas.List.{append_cancel_left}
 use Rattle.c_lex.specs.Spelling.{letter}
 use Rattle.c_lex.specs.Lexed.{IsApart, IsPassed, Stop, AtEnd, Part, Passed, Spelled, bytes_of, all_bytes, IsPartBefore, is_fresh_behind, is_number_part, AreParts}
-use Rattle.c_lex.proofs.Forms.{not_empty, true_false}
+use Rattle.c_lex.proofs.Forms.{not_empty}
 use Rattle.op_translate.proofs.Ahead.{part_kept}
+use Rattle.std.proofs.lemmas.Bool.{true≢false}
 
 -- ---- parts
 
@@ -154,5 +155,5 @@ spliced (Swap old new ∷ ps) fresh number h a =
     let later : AreParts AtEnd false false rest (olds ps) = subst (λ z. AreParts AtEnd false false z (olds ps)) same number_is in
     let begins : all_bytes (old ++ olds ps) ≡ 111 ∷ (h.0.old_first.0 ++ rest) = split ∙ ap (λ z. z ++ rest) h.0.old_first.1 in
     let clear : number ≡ true → ⊥ =
-    λ n. true_false (let q : IsApart (111 ∷ (h.0.old_first.0 ++ rest)) = subst IsApart begins (h.0.apart AtEnd fresh number (all_bytes (old ++ olds ps)) (olds ps) a n) in q) in
+    λ n. true≢false (let q : IsApart (111 ∷ (h.0.old_first.0 ++ rest)) = subst IsApart begins (h.0.apart AtEnd fresh number (all_bytes (old ++ olds ps)) (olds ps) a n) in q) in
     subst (λ z. AreParts AtEnd fresh number z (new ++ news ps)) (sym (all_bytes-append new (news ps))) (h.0.stand AtEnd fresh number (all_bytes (news ps)) (news ps) clear (spliced ps false false h.1 later))

@@ -8,9 +8,9 @@ use Rattle.c_tree.specs.Tree.{OpCallTree, CallInit, DeclSet, DeclMap, DeclDat, D
 use Rattle.c_tree.specs.Tree.{HostTree, HostDeclaration, HostBlock, HostEmpty, HostAssign, HostIf, HostIfElse, HostFor, HostCall, HostTrees, NoHost, MoreHost, MainTree, ProgramTree}
 use Rattle.c_tree.specs.Print.{Mark, ident, vars, assignment, condition, tops, host_counter, arguments, close, call, host, hosts, argv_marks, return_marks, main, program}
 use Rattle.c_tree.specs.Reads.{shown}
-use Rattle.c_lex.proofs.Forms.{true_false}
 use Rattle.op_translate.proofs.Quiet.{is_loop}
 use Rattle.op_translate.proofs.Quietly.{quiet, quiet-append, expr_quiet, vars_quiet, assignment_quiet, condition_quiet, tops_quiet, header_quiet, global_quiet, arguments_quiet, values_quiet, argv_quiet, return_quiet}
+use Rattle.std.proofs.lemmas.Bool.{true≢false}
 
 -- the kinds of marks, before others
 abbrev pub ahead : List Mark → List Kind → List Kind
@@ -37,7 +37,7 @@ AllFollow [] = Unit {0}
 AllFollow (k ∷ ks) = Follows k ks × AllFollow ks
 
 nothing_follows : (k : Kind) (ks : List Kind) → is_loop k ≡ false → Follows k ks
-nothing_follows (kind.Word word.OpParLoop) ks h = absurd (true_false h)
+nothing_follows (kind.Word word.OpParLoop) ks h = absurd (true≢false h)
 nothing_follows (kind.Word _) ks h = tt
 nothing_follows (kind.Name x) ks h = tt
 nothing_follows (kind.Number z) ks h = tt
@@ -49,7 +49,7 @@ pass [] rest q h = h
 pass (m ∷ ms) rest q h = by_kind (is_loop m.kind) refl q (λ g. pass ms rest g h)
   where
     by_kind : (t : Bool) → is_loop m.kind ≡ t → cond t false (quiet ms true) ≡ true → (quiet ms true ≡ true → AllFollow (ahead ms rest)) → AllFollow (ahead (m ∷ ms) rest)
-    by_kind true e q more = absurd (true_false (sym q))
+    by_kind true e q more = absurd (true≢false (sym q))
     by_kind false e q more = (nothing_follows m.kind (ahead ms rest) e, more q)
 
 call_follows : (k : ℕ) (c : OpCallTree) (rest : List Kind) → AllFollow rest → AllFollow (ahead (call k c) rest)

@@ -6,8 +6,8 @@ use Rattle.c_lex.specs.declared.tokens.Kind.TheVariants as kind
 use Rattle.c_lex.specs.declared.tokens.Sign.TheVariants as sign
 use Rattle.c_lex.specs.declared.tokens.Word.TheVariants as word
 use Rattle.c_lex.specs.declared.tokens.Token.{Token}
-use Rattle.c_lex.proofs.Forms.{true_false}
 use Rattle.op_translate.specs.Translation.{prefix, begins, is_name, kernel_in, called, to_stub, stubbed, to_call}
+use Rattle.std.proofs.lemmas.Bool.{true≢false}
 
 -- the word `op_par_loop`
 abbrev pub is_loop : Kind → Bool
@@ -20,7 +20,7 @@ is_taken (kind.Name x) = begins x
 is_taken k = false
 
 quiet_called : (a b c d : Kind) → is_loop a ≡ false → called a b c d ≡ None
-quiet_called (kind.Word word.OpParLoop) b c d h = absurd (true_false h)
+quiet_called (kind.Word word.OpParLoop) b c d h = absurd (true≢false h)
 quiet_called (kind.Word _) b c d h = refl
 quiet_called (kind.Name x) b c d h = refl
 quiet_called (kind.Number z) b c d h = refl

@@ -4,6 +4,7 @@ use Rattle.std.proofs.lemmas.List.Sums.{sum_by-append, sum_by-cons}
 use Rattle.std.proofs.lemmas.Bool.{eqb-true}
 use Rattle.line_texts.specs.Lines.{is_lf}
 use Rattle.output_pieces.specs.Lines.{lines_in, EndsInLf, AreLines}
+use Rattle.lemmas.proofs.Lists.{heads_same, tails_same}
 
 -- whether a byte is an LF, as a number
 step : ℕ → ℕ
@@ -53,12 +54,6 @@ tail_ends : (c : ℕ) (a : List ℕ) → EndsInLf (c ∷ a) → EndsInLf a
 tail_ends c a (inl e) = inl (ap (drop 1) e)
 tail_ends c a (inr ([], e)) = inl (ap (drop 1) e)
 tail_ends c a (inr (z ∷ f, e)) = inr (f, ap (drop 1) e)
-
-heads_same : (a b : ℕ) (fs bs : List ℕ) → a ∷ fs ≡ b ∷ bs → a ≡ b
-heads_same a b fs bs e = ap (λ xs. get_or xs 0 0) e
-
-tails_same : (a b : ℕ) (fs bs : List ℕ) → a ∷ fs ≡ b ∷ bs → fs ≡ bs
-tails_same a b fs bs e = ap (λ xs. drop 1 xs) e
 
 -- so many lines stand in front of a text in one way
 pub lines_one : (a b r s : List ℕ) (n : ℕ) → a ++ r ≡ b ++ s → AreLines n a → AreLines n b → a ≡ b

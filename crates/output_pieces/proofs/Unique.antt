@@ -4,7 +4,7 @@ use Rattle.std.proofs.Common.{append_assoc, arith}
 use Rattle.std.specs.List.{count_by}
 use Rattle.std.proofs.lemmas.Slice.Eq.{bytes_eq-Decides}
 use Rattle.std.proofs.Math.Seq.{drop-append_seam}
-use Rattle.std.proofs.lemmas.List.{take-take}
+use Rattle.std.proofs.lemmas.List.{take-take, append_cancel_left}
 use Rattle.std.proofs.lemmas.List.Sums.{sum_by-take-le}
 use Rattle.mesh_decl.specs.Mesh.{set_size, dat_set}
 use Rattle.bound_program.specs.Values.{BoundValue, ItemValue, Host, Print}
@@ -15,10 +15,6 @@ use Rattle.output_pieces.proofs.Cutting.{header_closed}
 use Rattle.output_pieces.proofs.Searching.{more_prints}
 
 -- ---- the item
-
--- what stands behind a front that two texts share is one
-behind_is : (front a b : List ℕ) → front ++ a ≡ front ++ b → a ≡ b
-behind_is front a b e = sym (drop-append_seam front a) ∙ ap (drop (length front)) e ∙ drop-append_seam front b
 
 -- counts of a front grow
 count_grows : (file : List ℕ) (trace : List ItemValue) (i j : ℕ) → i ≤ j
@@ -72,7 +68,7 @@ module _ (b : BoundValue) (file : List ℕ) (dat item : ℕ) (output : List ℕ)
       let fronts : at_p.front ++ first ≡ at_q.front ++ first =
       lines_one (at_p.front ++ first) (at_q.front ++ first) (dp.rows ++ at_p.rest) (dq.rows ++ at_q.rest) (lines_before b item + lines_in first) whole (front_lines p at_p) (front_lines q at_q) in
       let behind : dp.rows ++ at_p.rest ≡ dq.rows ++ at_q.rest =
-      behind_is (at_q.front ++ first) (dp.rows ++ at_p.rest) (dq.rows ++ at_q.rest) (ap (λ x. x ++ (dp.rows ++ at_p.rest)) (sym fronts) ∙ whole) in
+      append_cancel_left (at_q.front ++ first) (dp.rows ++ at_p.rest) (dq.rows ++ at_q.rest) (ap (λ x. x ++ (dp.rows ++ at_p.rest)) (sym fronts) ∙ whole) in
       let rows : dp.rows ≡ dq.rows = lines_one dp.rows dq.rows at_p.rest at_q.rest (set_size b.mesh (dat_set b.mesh dat)) behind dp.lines dq.lines in
       dp.whole ∙ ap (λ x. first ++ x) rows ∙ sym dq.whole
 

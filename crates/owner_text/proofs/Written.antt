@@ -15,15 +15,13 @@ use Rattle.mesh_decl.specs.Mesh.{MeshValue, set_count, set_size, set_name}
 use Rattle.mesh_decl.specs.Owners.{AreOwners, owners_in, owner_of}
 use Rattle.part_text.specs.Spelling.{Table, Given, AreRanks, IsSet, AreSets, Spells}
 use Rattle.owner_text.specs.Written.{Line, set_lines, lines_from, partition_text, HaveNames}
+use Rattle.lemmas.proofs.Lists.{get_or_any}
 
 zero_more : (k : ℕ) → k ≡ 0 + k
 zero_more k = omega arith
 
 one_more : (k : ℕ) → k + 1 ≡ suc k
 one_more k = omega arith
-
-any_default : (xs : List ℕ) (k d e : ℕ) → k < length xs → get_or xs k d ≡ get_or xs k e
-any_default xs k d e lt = grind (arith, common_steps, lt)
 
 -- ---- lines and their tokens
 
@@ -141,7 +139,7 @@ module _ (g : MeshValue) (o : Owners) (are : AreOwners g o) where
   ranks_below : (s : ℕ) (rs : List ℕ) → s < set_count g → rs ≡ owners_in o s → All (λ r. r < o.ranks) rs
   unfolding owner_of
   ranks_below s rs low e k d lt =
-      let same : get_or rs k d ≡ get_or rs k 0 = any_default rs k d 0 lt in
+      let same : get_or rs k d ≡ get_or rs k 0 = get_or_any rs k d 0 lt in
       subst (λ n. n < o.ranks) (sym (same ∙ ap (λ l. get_or l k 0) e))
       (are.below s k low (let long = are.lengths s low in let len = ap length e in omega (arith, lt)))
 

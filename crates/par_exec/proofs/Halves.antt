@@ -5,10 +5,7 @@ use Rattle.std.proofs.Math.Seq.{drop-append-add}
 use Rattle.std.proofs.Math.Nat.{mul-le-mul_right}
 use Rattle.std.proofs.lemmas.Bool.Decides.{nat_tests}
 use Rattle.par_exec.specs.Windows.{replaced, window, EachWindow}
-
-empty : (a : List ℤ) → length a ≡ 0 → a ≡ []
-empty [] h = refl
-empty (x ∷ xs) h = cc
+use Rattle.lemmas.proofs.Lists.{empty_from_length}
 
 -- what is past the first windows
 pub rest_cells : (count low stride len : ℕ) → low ≤ count → len ≡ count * stride → len - low * stride ≡ (count - low) * stride
@@ -52,7 +49,7 @@ window-next stride j s =
 
 -- a buffer whose windows became what a function makes of them is the buffer with its windows replaced
 pub replaced-each : (f : ℕ → List ℤ → List ℤ) (stride i n : ℕ) (old new : List ℤ) → length old ≡ n * stride → length new ≡ n * stride → EachWindow f stride i n old new → new ≡ replaced f stride i n old
-replaced-each f stride i zero old new lo ln each = empty new (omega (arith, ln)) ∙ sym (empty old (omega (arith, lo)))
+replaced-each f stride i zero old new lo ln each = empty_from_length new (omega (arith, ln)) ∙ sym (empty_from_length old (omega (arith, lo)))
 replaced-each f stride i (suc n) old new lo ln each =
     let start : 0 * stride ≡ 0 = omega arith in
     let number : i + 0 ≡ i = omega arith in

@@ -11,9 +11,9 @@ use Rattle.part_text.specs.declared.refusals.PartRefusal.TheVariants.{WrongCount
 use Rattle.part_text.specs.Token.{keyword_of}
 use Rattle.part_text.specs.Spelling.{Table, Given, no_ranks, AreRanks, IsSet, AreSets, ArePart}
 use Rattle.part_text.specs.Reading.{set_of, State, finish, Magic, Version, Between, SetName, Count, Ranks, End, step, began, free_set, named, sized, ranked, gathered, filled, IsFree, Stands}
-use Rattle.texts.proofs.Chosen.{eq_itself}
 use Rattle.part_text.proofs.Names.{is_set}
 use Rattle.part_text.proofs.Running.{step-magic, step-version, step-between, step-set_name, step-count, step-ranks, filled-more}
+use Rattle.lemmas.proofs.Lists.{bytes_eq_from}
 
 -- where every set has its ranks they are gathered
 gathers : (line : ℕ) (owners : List (List ℕ)) → gathered line (map (λ rs. Some rs) owners) ≡ Ok owners
@@ -39,10 +39,10 @@ is_ranked ranks o line r e l =
 
 module _ (g : MeshValue) (ranks : ℕ) where
   magic_on : (w : Word) → w.text ≡ codes "op2part" → step g ranks Magic w ≡ Ok Version
-  magic_on w e = step-magic g ranks w (eq_itself w.text (codes "op2part") e)
+  magic_on w e = step-magic g ranks w (bytes_eq_from w.text (codes "op2part") e)
 
   version_on : (w : Word) → w.text ≡ codes "1" → step g ranks Version w ≡ Ok (Between (no_ranks g))
-  version_on w e = step-version g ranks w (eq_itself w.text (codes "1") e)
+  version_on w e = step-version g ranks w (bytes_eq_from w.text (codes "1") e)
 
   set_on : (t : Table) (w : Word) → w.text ≡ codes "set" → step g ranks (Between t) w ≡ Ok (SetName t)
   set_on t w e = step-between g ranks t w ∙ ap (λ x. began t (keyword_of x) (number_of x) w.line) e

@@ -5,7 +5,8 @@ use Rattle.std.proofs.lemmas.Bool.Decides.{nat_tests}
 use Rattle.mesh_decl.specs.Mesh.{MeshValue, set_count, set_name}
 use Rattle.part_text.specs.Spelling.{IsNamed}
 use Rattle.part_text.specs.Reading.{set_below, set_of}
-use Rattle.texts.proofs.Chosen.{chosen, same_bytes, eq_itself}
+use Rattle.lemmas.proofs.Lists.{bytes_eq_from, bytes_eq_same}
+use Rattle.lemmas.proofs.Truth.{cond_cases}
 
 -- the same of the sets below n
 record IsBelow (g : MeshValue) (name : List ℕ) (n k : ℕ) : Type 0 where
@@ -23,14 +24,14 @@ module _ (g : MeshValue) (name : List ℕ) where
       go : (j : ℕ) (t : Bool) → nat_eq j n ≡ t → k < j → j < suc n → set_name g j ≡ name → ⊥
       go j true t a b c =
           let same : j ≡ n = grind (arith, nat_tests) in
-          let yes : bytes_eq (set_name g n) name ≡ true = eq_itself (set_name g n) name (subst (λ m. set_name g m ≡ name) same c) in
+          let yes : bytes_eq (set_name g n) name ≡ true = bytes_eq_from (set_name g n) name (subst (λ m. set_name g m ≡ name) same c) in
           cc (yes, other)
       go j false t a b c = let low : j < n = grind (arith, nat_tests) in r.last j a low c
 
   below_is : (n k : ℕ) → set_below g name n ≡ Some k → IsBelow g name n k
   below_is zero k h = cc
-  below_is (suc n) k h = elim (chosen (bytes_eq (set_name g n) name) (Some n) (set_below g name n) (Some k) h) [
-    | inl a ↦ let e : n ≡ k = cc (a.1) in found_next n k (same_bytes (set_name g n) name a.0) e
+  below_is (suc n) k h = elim (cond_cases (bytes_eq (set_name g n) name) (Some n) (set_below g name n) (Some k) h) [
+    | inl a ↦ let e : n ≡ k = cc (a.1) in found_next n k (bytes_eq_same (set_name g n) name a.0) e
     | inr a ↦ found_before n k a.0 (below_is n k a.1)
   ]
 
@@ -42,12 +43,12 @@ module _ (g : MeshValue) (name : List ℕ) where
       go true t true s rest = let same : n ≡ k = grind (arith, nat_tests) in ap Some same
       go false t true s rest =
           let same : k ≡ n = grind (arith, nat_tests) in
-          let yes : bytes_eq (set_name g n) name ≡ true = eq_itself (set_name g n) name (subst (λ m. set_name g m ≡ name) same b.name_of) in
+          let yes : bytes_eq (set_name g n) name ≡ true = bytes_eq_from (set_name g n) name (subst (λ m. set_name g m ≡ name) same b.name_of) in
           absurd (cc (yes, t))
       go true t false s rest =
           let h = b.within in
           let low : k < n = grind (arith, nat_tests) in
-          absurd (b.last n low (omega arith) (same_bytes (set_name g n) name t))
+          absurd (b.last n low (omega arith) (bytes_eq_same (set_name g n) name t))
       go false t false s rest = let h = b.within in let low : k < n = grind (arith, nat_tests) in rest low
 
   pub set_is : (k : ℕ) → set_of g name ≡ Some k → IsNamed g name k

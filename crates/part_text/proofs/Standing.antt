@@ -13,9 +13,10 @@ use Rattle.part_text.specs.declared.token.Keyword.TheVariants as keyword
 use Rattle.part_text.specs.Token.{is_magic, is_version, keyword_of}
 use Rattle.part_text.specs.Spelling.{Table, Given, no_ranks, AreRanks, IsSet, AreSets, ArePart}
 use Rattle.part_text.specs.Reading.{set_of, State, Magic, Version, Between, SetName, Count, Ranks, End, step, began, free_set, named, sized, ranked, gathered, filled, IsFree, Stands}
-use Rattle.texts.proofs.Chosen.{chosen, ok_then, same_bytes}
 use Rattle.part_text.proofs.Names.{set_is}
 use Rattle.part_text.proofs.Running.{step-between, step-set_name, step-count, step-ranks, step-end}
+use Rattle.lemmas.proofs.Lists.{bytes_eq_same, with_one}
+use Rattle.lemmas.proofs.Truth.{cond_cases, ok_then}
 
 -- the ranks of every set
 pub gathered_is : (line : ℕ) (t : Table) (owners : List (List ℕ)) → gathered line t ≡ Ok owners → t ≡ map (λ rs. Some rs) owners
@@ -37,10 +38,10 @@ word_of keyword.Set = codes "set"
 word_of keyword.Done = codes "done"
 
 keyword_is : (text : List ℕ) (k : Keyword) → keyword_of text ≡ Some k → text ≡ word_of k
-keyword_is text w h = elim (chosen (bytes_eq text (codes "set")) (Some keyword.Set) (cond (bytes_eq text (codes "done")) (Some keyword.Done) None) (Some w) h) [
-  | inl k ↦ let e : keyword.Set ≡ w = cc in same_bytes text (codes "set") k.0 ∙ ap word_of e
-  | inr k ↦ elim (chosen (bytes_eq text (codes "done")) (Some keyword.Done) None (Some w) k.1) [
-    | inl m ↦ let e : keyword.Done ≡ w = cc in same_bytes text (codes "done") m.0 ∙ ap word_of e
+keyword_is text w h = elim (cond_cases (bytes_eq text (codes "set")) (Some keyword.Set) (cond (bytes_eq text (codes "done")) (Some keyword.Done) None) (Some w) h) [
+  | inl k ↦ let e : keyword.Set ≡ w = cc in bytes_eq_same text (codes "set") k.0 ∙ ap word_of e
+  | inr k ↦ elim (cond_cases (bytes_eq text (codes "done")) (Some keyword.Done) None (Some w) k.1) [
+    | inl m ↦ let e : keyword.Done ≡ w = cc in bytes_eq_same text (codes "done") m.0 ∙ ap word_of e
     | inr m ↦ absurd (cc m.1)
   ]
 ]
@@ -75,10 +76,6 @@ ranked_is ranks (Some m) line r h =
     let e : m ≡ r = cc (a.1) in
     (ap Some e, subst (λ x. x < ranks) e low)
 
--- the tokens with one more
-with_one : (ts front back : List (List ℕ)) (t u : List ℕ) → ts ≡ front ++ back → t ≡ u → ts ++ t ∷ [] ≡ front ++ (back ++ u ∷ [])
-with_one ts front back t u s e = ap (λ xs. xs ++ t ∷ []) s ∙ append_assoc front back (t ∷ []) ∙ ap (λ x. front ++ (back ++ x ∷ [])) e
-
 module _ (g : MeshValue) (ranks : ℕ) where
   -- one set more
   sets_more : (ts front : List (List ℕ)) (ss : List Given) (before t : Table) (k : ℕ) (rs : List ℕ) → AreSets g ranks ts ss before t → IsSet g ranks front k rs → slice_get t k ≡ Some None → AreSets g ranks (ts ++ front) (ss ++ (k, rs) ∷ []) before (slice_set t k (Some rs))
@@ -107,14 +104,14 @@ module _ (g : MeshValue) (ranks : ℕ) where
   behind_magic q ts w s h =
       let a = ok_then (is_magic w.text) (Ok Version) (Header w.line) q h in
       let e : Version ≡ q = cc (a.1) in
-      subst (Stands g ranks (ts ++ w.text ∷ [])) e (ap (λ xs. xs ++ w.text ∷ []) s ∙ ap (λ t. t ∷ []) (same_bytes w.text (codes "op2part") a.0))
+      subst (Stands g ranks (ts ++ w.text ∷ [])) e (ap (λ xs. xs ++ w.text ∷ []) s ∙ ap (λ t. t ∷ []) (bytes_eq_same w.text (codes "op2part") a.0))
 
   behind_version : (q : State) (ts : List (List ℕ)) (w : Word) → ts ≡ codes "op2part" ∷ [] → step g ranks Version w ≡ Ok q → Stands g ranks (ts ++ w.text ∷ []) q
   unfolding step
   behind_version q ts w s h =
       let a = ok_then (is_version w.text) (Ok (Between (no_ranks g))) (Header w.line) q h in
       let e : Between (no_ranks g) ≡ q = cc (a.1) in
-      let whole : ts ++ w.text ∷ [] ≡ codes "op2part" ∷ codes "1" ∷ [] = ap (λ xs. xs ++ w.text ∷ []) s ∙ ap (λ t. codes "op2part" ∷ t ∷ []) (same_bytes w.text (codes "1") a.0) in
+      let whole : ts ++ w.text ∷ [] ≡ codes "op2part" ∷ codes "1" ∷ [] = ap (λ xs. xs ++ w.text ∷ []) s ∙ ap (λ t. codes "op2part" ∷ t ∷ []) (bytes_eq_same w.text (codes "1") a.0) in
       let part : ArePart g ranks (ts ++ w.text ∷ []) (no_ranks g) = ([], [], whole, (refl, refl)) in
       subst (Stands g ranks (ts ++ w.text ∷ [])) e part
 

@@ -11,6 +11,3 @@ none_passes n p h j l = false_from_ne_true (p j) (λ t. let z : true ≡ false =
 -- the first that passes, where none before it does
 pub first_from : (n : ℕ) (p : ℕ → Bool) (k : ℕ) → k < n → p k ≡ true → any_below k p ≡ false → IsFirst n p k
 first_from n p k l t h = record { within = l; passes = t; before = none_passes k p h }
-
-pub both_true : (a b : Bool) → a ≡ true → b ≡ true → (a && b) ≡ true
-both_true a b p q = rw (p, q) refl

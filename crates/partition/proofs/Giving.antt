@@ -7,9 +7,10 @@ use Rattle.std.proofs.lemmas.Bool.{cases_eq, cases_lt, false_from_ne_true}
 use Rattle.std.proofs.lemmas.List.{length_push, length-drop, get_or-drop, get_or_push, get_or_append_left, take-append-le, take_all, get_or-take, length-take-le, get_or_default}
 use Rattle.breadth_order.specs.Keys.{keyed}
 use Rattle.breadth_order.specs.Taken.{earliest, IsWalk, Rises}
-use Rattle.breadth_order.proofs.Walk.{both, walk_push, earliest_is, earliest_none, earliest_at, earliest_ge, unmarked, untaken, marked_set}
+use Rattle.breadth_order.proofs.Walk.{walk_push, earliest_is, earliest_none, earliest_at, earliest_ge, unmarked, untaken, marked_set}
 use Rattle.partition.specs.Block.{block_start, InBlock}
 use Rattle.partition.specs.Grow.{IsNextFree, AreNextFree, IsGrowing}
+use Rattle.lemmas.proofs.Truth.{not_both}
 
 chained : (a b c : ℕ) → a ≤ b → b ≤ c → a ≤ c
 chained a b c p q = omega arith
@@ -74,7 +75,7 @@ growing_push n ranks near i h order seen z lz lh g short next = record {
 -- what isn't marked is no neighbour of the rank's elements before place h
 far_mine : (n ranks : ℕ) (near : ℕ → ℕ → Bool) (i h : ℕ) (order : List ℕ) (seen : List Bool) (s y : ℕ) → s ≡ block_start n ranks i → IsGrowing n ranks near i h order seen → length order < block_start n ranks (i + 1) → h ≤ length order → y < n → get_or seen y false ≡ false → (j : ℕ) → j < h - s → near (get_or (drop s order) j 0) y ≡ false
 far_mine n ranks near i h order seen s y es g short lh ly f j lj = false_from_ne_true (near (get_or (drop s order) j 0) y) (λ t.
-    both (get_or seen y false) (g.closed short (s + j) y (subst (λ q. q ≤ s + j) es (omega arith)) (omega (arith, lj)) (omega (arith, lj, lh)) ly (subst (λ q. near q y ≡ true) (get_or-drop s order j 0) t)) f)
+    not_both (get_or seen y false) (g.closed short (s + j) y (subst (λ q. q ≤ s + j) es (omega arith)) (omega (arith, lj)) (omega (arith, lj, lh)) ly (subst (λ q. near q y ≡ true) (get_or-drop s order j 0) t)) f)
 
 -- the least element that isn't marked comes next where the rank's elements have no neighbour left
 pub next_start_free : (n ranks : ℕ) (near : ℕ → ℕ → Bool) (i : ℕ) (order : List ℕ) (seen : List Bool) (s z : ℕ) → s ≡ block_start n ranks i → IsWalk n near order seen 0 → IsGrowing n ranks near i (length order) order seen → length order < block_start n ranks (i + 1) → z < n → get_or seen z false ≡ false → ((y : ℕ) → y < z → get_or seen y false ≡ true) → IsNextFree n near order (drop s order) z
@@ -89,7 +90,7 @@ next_start_free n ranks near i order seen s z es w g short lz f before =
           let fy : get_or seen y false ≡ false = unmarked n near order seen 0 y w ly absent in
           inr (
             none z lz f ∙ sym (none y ly fy),
-            ⊎_elim (λ (m : y < z). absurd (both (get_or seen y false) (before y m) fy)) (λ (m : z ≤ y). m) (cases_lt y z),
+            ⊎_elim (λ (m : y < z). absurd (not_both (get_or seen y false) (before y m) fy)) (λ (m : z ≤ y). m) (cases_lt y z),
           ));
     }
 
@@ -116,7 +117,7 @@ next_near_free n ranks near i h order seen s k items es w g short sh lh lk lz nz
           let t : near (get_or mine (h - s) 0) y ≡ true = subst (λ q. near (get_or mine q 0) y ≡ true) e (earliest_at n near mine y (omega (arith, e, lm))) in
           let c = all y (subst (λ q. near q y ≡ true) at t) fy in
           let here : get_or items c.0 0 ≡ y = get_or_default items c.0 0 y c.1 ∙ c.2 in
-          let le : k ≤ c.0 = ⊎_elim (λ (q : c.0 < k). absurd (both (get_or seen y false) (subst (λ v. get_or seen v false ≡ true) here (done c.0 q)) fy)) (λ (q : k ≤ c.0). q) (cases_lt c.0 k) in
+          let le : k ≤ c.0 = ⊎_elim (λ (q : c.0 < k). absurd (not_both (get_or seen y false) (subst (λ v. get_or seen v false ≡ true) here (done c.0 q)) fy)) (λ (q : k ≤ c.0). q) (cases_lt c.0 k) in
           inr (ez ∙ sym e, subst (λ v. z ≤ v) here (rises k c.0 le c.1)))
           (cases_lt (h - s) (earliest near mine y)));
     }

@@ -9,11 +9,11 @@ use Rattle.mesh_decl.specs.Mesh.{MeshValue, IsMapAt, set_count, map_count, set_s
 use Rattle.mesh_decl.specs.Owners.{AreOwners, owners_in, owner_of}
 use Rattle.rank_sets.specs.Below.{any_below}
 use Rattle.rank_sets.proofs.Below.{any_agree, any_from}
-use Rattle.rank_sets.proofs.Bools.{same_Bool}
 use Rattle.partition.specs.Block.{AreBlocks, InBlock, block_start}
 use Rattle.partition.specs.Derive.{AreDerived, IsFirst, IsNextSet, IsByTargets, IsByNames, IsByBlocks, leads_to_known, leads_from_known, can_follow_targets, can_follow_names}
 use Rattle.partition.specs.Elected.{IsElected, target_votes, naming_votes, is_named}
 use Rattle.partition.proofs.TurnSteps.{next_kept}
+use Rattle.lemmas.proofs.Truth.{iff_eq}
 
 -- ---- lists of owners
 
@@ -307,7 +307,7 @@ module _
           (λ (q : h.turn s ≤ h.turn t). ⊎_elim
           (λ (e : given t ≡ true). let z = given_a t lt e in let y = later_a s l new in absurd (omega arith))
           (λ (e : given t ≡ false).
-          let agree : (z : ℕ) → z < set_count g → known_a s z ≡ known_b t z = λ z lz. same_Bool (known_a s z) (known_b t z)
+          let agree : (z : ℕ) → z < set_count g → known_a s z ≡ known_b t z = λ z lz. iff_eq (known_a s z) (known_b t z)
           (λ x. lt-ltb (k.turn z) (k.turn t) (has_before t z lt lz e q (ltb-true (h.turn z) (h.turn s) x)))
           (λ x. let y : k.turn z < k.turn t = ltb-true (k.turn z) (k.turn t) x in lt-ltb (h.turn z) (h.turn s) (down m z lz (omega arith) (omega arith))) in
           let one : s ≡ t = one_at s t (known_a s) (known_b t) (owners_in a) (owners_in b) (owners_in a s) (owners_in b t) agree (next_a s l new) (k.next t lt e) in
@@ -317,7 +317,7 @@ module _
           (cases_lt (h.turn t) (h.turn s))
 
       before : Before s
-      before t lt = same_Bool (known_a s t) (known_b s t)
+      before t lt = iff_eq (known_a s t) (known_b s t)
           (λ x. lt-ltb (k.turn t) (k.turn s) (up t lt (ltb-true (h.turn t) (h.turn s) x)))
           (λ x. lt-ltb (h.turn t) (h.turn s) (down (suc (k.turn t)) t lt (omega arith) (ltb-true (k.turn t) (k.turn s) x)))
 

@@ -1,6 +1,6 @@
 -- One turn after another: what is so of the sets that have owners.
 use Rattle.std.proofs.Common.{◌≡◌, ◌⊎◌, inl, inr, ℕ, zero, suc, ◌+◌, ◌<◌, ◌≤◌, not, Bool, true, false, cond, nat_eq, nat_lt, List, [], length, get_or, set, refl, sym, ◌∙◌, arith, ⊎_elim, subst}
-use Rattle.std.proofs.lemmas.Bool.{cases_Bool, cases_eq, eq-eqb, ne_eqb, and_parts}
+use Rattle.std.proofs.lemmas.Bool.{cases_Bool, cases_eq, eq-eqb, ne_eqb, and_parts, not-false, not-true}
 use Rattle.std.proofs.lemmas.List.{length-set, get_or-set_same, get_or-set_other}
 use Rattle.std.proofs.Math.Path.{fun_ext}
 use Rattle.mesh_decl.specs.declared.owners.Owners.{Owners}
@@ -19,14 +19,6 @@ pub record IsTurn (g : MeshValue) (ranks turn : ℕ) (known0 : ℕ → Bool) (se
   pub first : (s : ℕ) → s < set_count g → known0 s ≡ nat_eq (at s) 0
   pub kept : (s : ℕ) → s < set_count g → known0 s ≡ true → get_or items s [] ≡ sets0 s
   pub next : (s : ℕ) → s < set_count g → known0 s ≡ false → get_or known s false ≡ true → IsNextSet g ranks (λ t. get_or items t []) (λ t. nat_lt (at t) (at s)) s (get_or items s [])
-
-not_true : (b : Bool) → not b ≡ true → b ≡ false
-not_true true h = sym h
-not_true false h = refl
-
-not_false : (b : Bool) → not b ≡ false → b ≡ true
-not_false true h = refl
-not_false false h = sym h
 
 clash : {A : Type 0} (b : Bool) → b ≡ true → b ≡ false → A
 clash b p q = let z : true ≡ false = sym p ∙ q in cc
@@ -77,10 +69,10 @@ count_all (suc n) p h = rw (h n (omega arith), count_all n p (λ j l. h j (omega
 -- the set that gets owners next has none yet
 pub next_unknown : (g : MeshValue) (ranks : ℕ) (o : ℕ → List ℕ) (known : ℕ → Bool) (s : ℕ) (xs : List ℕ) → IsNextSet g ranks o known s xs → (s < set_count g) × (known s ≡ false)
 next_unknown g ranks o known s xs h = ⊎_elim
-    (λ (r : IsByTargets g ranks o known s xs). (r.next.0.within, not_true (known s) (and_parts (not (known s)) (any_below (map_count g) (leads_to_known g known s)) r.next.0.passes).0))
+    (λ (r : IsByTargets g ranks o known s xs). (r.next.0.within, not-true (known s) (and_parts (not (known s)) (any_below (map_count g) (leads_to_known g known s)) r.next.0.passes).0))
     (λ (k : IsByNames g ranks o known s xs ⊎ IsByBlocks g ranks known s xs). ⊎_elim
-    (λ (r : IsByNames g ranks o known s xs). (r.next.0.within, not_true (known s) (and_parts (not (known s)) (any_below (map_count g) (leads_from_known g known s)) r.next.0.passes).0))
-    (λ (r : IsByBlocks g ranks known s xs). (r.set.within, not_true (known s) r.set.passes))
+    (λ (r : IsByNames g ranks o known s xs). (r.next.0.within, not-true (known s) (and_parts (not (known s)) (any_below (map_count g) (leads_from_known g known s)) r.next.0.passes).0))
+    (λ (r : IsByBlocks g ranks known s xs). (r.set.within, not-true (known s) r.set.passes))
     k)
     h
 
@@ -112,7 +104,7 @@ turn_init g ranks items known h = record {
 pub turn_none : (g : MeshValue) (ranks turn : ℕ) (known0 : ℕ → Bool) (sets0 : ℕ → List ℕ) (items : List (List ℕ)) (known : List Bool) → turn < set_count g → IsTurn g ranks turn known0 sets0 items known → any_below (set_count g) (λ s. not (get_or known s false)) ≡ false → IsTurn g ranks (turn + 1) known0 sets0 items known
 turn_none g ranks turn known0 sets0 items known l h none = record {
   facts = h.facts;
-  many = (let e : count_below (set_count g) (λ s. get_or known s false) ≡ set_count g = count_all (set_count g) (λ s. get_or known s false) (λ j lj. not_false (get_or known j false) (none_passes (set_count g) (λ s. not (get_or known s false)) none j lj)) in omega (arith, e, l));
+  many = (let e : count_below (set_count g) (λ s. get_or known s false) ≡ set_count g = count_all (set_count g) (λ s. get_or known s false) (λ j lj. not-false (get_or known j false) (none_passes (set_count g) (λ s. not (get_or known s false)) none j lj)) in omega (arith, e, l));
   at = h.at;
   turns = λ s. ⊎_elim (λ (k : (h.at s ≤ turn) × (get_or known s false ≡ true)). inl (omega (arith, k.0), k.1)) (λ k. inr k) (h.turns s);
   first = h.first;

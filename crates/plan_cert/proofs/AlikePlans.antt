@@ -14,10 +14,10 @@ use Rattle.loop_plan.specs.OnePlan.{AreAlike}
 use Rattle.loop_plan.proofs.AlikeMeshes.{length_same}
 use Rattle.plan_cert.specs.Awaited.{Exactly, Sizes, Done, awaited, header_line, ColourLists, FitLines}
 use Rattle.plan_cert.specs.Certified.{all, lists_of, colours_in, Certified}
-use Rattle.plan_cert.proofs.Telling.{fronts_same}
 use Rattle.plan_cert.proofs.SameRanks.{awaited_same, lines_to}
 use Rattle.plan_cert.proofs.OneOutcome.{body, awaited_body, one_colours, tells_one, fits_tell}
 use Rattle.plan_cert.proofs.ByNumber.{Each, each_listed, each_at, sites_flat}
+use Rattle.lemmas.proofs.Lists.{fronts_same}
 
 -- lists one after another, each as long as the other, are the same
 one_each : {X : Type 0} (f g : ℕ → List X) (ks : List ℕ) → Each (λ k. length (f k) ≡ length (g k)) ks → flat_map f ks ≡ flat_map g ks → Each (λ k. f k ≡ g k) ks

@@ -3,7 +3,7 @@ use Rattle.std.proofs.Common.{◌≡◌, ℕ, zero, suc, ◌<◌, ⊎_elim, refl
 use Rattle.std.specs.Prelude.{◌||◌, Some}
 use Rattle.std.specs.Map.{lookup}
 use Rattle.std.specs.List.{list_any, flat_map}
-use Rattle.std.proofs.lemmas.Bool.{cases_eq, eq-eqb, ne_eqb, false≢true}
+use Rattle.std.proofs.lemmas.Bool.{cases_eq, eq-eqb, ne_eqb, false≢true, or_parts}
 use Rattle.rank_sets.specs.Below.{listed}
 use Rattle.loop_plan.specs.Values.{SitePlanValue, PlanValue, site_plan, or_none}
 use Rattle.loop_plan.proofs.Numbers.{not_listed}
@@ -15,23 +15,19 @@ abbrev pub Apart : List ℕ → Type 0
 Apart [] = Unit {0}
 Apart (k ∷ ks) = (list_any (nat_eq k) ks ≡ false) × Apart ks
 
-either : (x y : Bool) → (x || y) ≡ false → (x ≡ false) × (y ≡ false)
-either true y h = absurd (false≢true (sym h))
-either false y h = (refl, h)
-
 turned : (x y : ℕ) → nat_eq x y ≡ false → nat_eq y x ≡ false
 turned x y h = ne_eqb y x (λ e. false≢true (sym h ∙ eq-eqb x y (sym e)))
 
 none_push : (k n : ℕ) (ks : List ℕ) → list_any (nat_eq k) ks ≡ false → nat_eq k n ≡ false → list_any (nat_eq k) (ks ++ n ∷ []) ≡ false
 none_push k n [] h e = ap (λ z. z || false) e
 none_push k n (x ∷ xs) h e =
-    let o = either (nat_eq k x) (list_any (nat_eq k) xs) h in
+    let o = or_parts (nat_eq k x) (list_any (nat_eq k) xs) h in
     ap (λ z. z || list_any (nat_eq k) (xs ++ n ∷ [])) o.0 ∙ none_push k n xs o.1 e
 
 apart_push : (n : ℕ) (ks : List ℕ) → Apart ks → list_any (nat_eq n) ks ≡ false → Apart (ks ++ n ∷ [])
 apart_push n [] h e = (refl, tt)
 apart_push n (k ∷ ks) h e =
-    let o = either (nat_eq n k) (list_any (nat_eq n) ks) e in
+    let o = or_parts (nat_eq n k) (list_any (nat_eq n) ks) e in
     (none_push k n ks h.0 (turned n k o.0), apart_push n ks h.1 o.1)
 
 pub listed_apart : (n : ℕ) (t : ℕ → Bool) → Apart (listed n t)
@@ -88,7 +84,7 @@ found es s = (s, or_none (lookup (nat_eq s) es))
 behind : (e : ℕ × SitePlanValue) (es : Entries) (ks : List ℕ) → list_any (nat_eq e.0) ks ≡ false → map (found (e ∷ es)) ks ≡ map (found es) ks
 behind e es [] h = refl
 behind e es (k ∷ ks) h =
-    let o = either (nat_eq e.0 k) (list_any (nat_eq e.0) ks) h in
+    let o = or_parts (nat_eq e.0 k) (list_any (nat_eq e.0) ks) h in
     let here : found (e ∷ es) k ≡ found es k = ap (λ z. (k, or_none (cond z (Some e.1) (lookup (nat_eq k) es)))) (turned e.0 k o.0) in
     ap (λ z. z ∷ map (found (e ∷ es)) ks) here ∙ ap (λ zs. found es k ∷ zs) (behind e es ks o.1)
 

@@ -5,8 +5,10 @@ use Rattle.std.proofs.lemmas.Bool.{cases_lt}
 use Rattle.std.proofs.lemmas.List.{append_cancel_left}
 use Rattle.op_num.specs.Spelling.{number_of}
 use Rattle.plan_cert.specs.Awaited.{AreColours}
-use Rattle.plan_cert.proofs.Telling.{some_same, colours_long, colours_one, fronts_same}
+use Rattle.plan_cert.proofs.Telling.{colours_long, colours_one}
 use Rattle.plan_cert.proofs.Deciding.{Known, Begins, begins_known, bytes_known, heads_same, tails_same, longer}
+use Rattle.lemmas.proofs.Lists.{fronts_same}
+use Rattle.std.proofs.lemmas.Option.{same_Some}
 
 -- ---- so many at the front
 
@@ -26,7 +28,7 @@ colour_by : (w : List ℕ) (o : Option ℕ) → number_of w ≡ o → Known (IsC
 colour_by w None e = inr (λ h. (let f : Some h.0 ≡ None = sym h.1 ∙ e in cc))
 colour_by w (Some c) e = ⊎_elim
     (λ (l : c < 2 ^ 32). inl (c, e, l))
-    (λ (l : 2 ^ 32 ≤ c). inr (λ h. (let same : h.0 ≡ c = some_same h.0 c (sym h.1 ∙ e) in let m : h.0 < 2 ^ 32 = h.2 in omega arith)))
+    (λ (l : 2 ^ 32 ≤ c). inr (λ h. (let same : h.0 ≡ c = same_Some h.0 c (sym h.1 ∙ e) in let m : h.0 < 2 ^ 32 = h.2 in omega arith)))
     (cases_lt c (2 ^ 32))
 
 first_is : (w : List ℕ) (ws : List (List ℕ)) (count : ℕ) → Told (w ∷ ws) (suc count) → IsColour w × Told ws count

@@ -11,11 +11,12 @@ use Rattle.std.proofs.lemmas.List.Sums.{AllPass-from_list_all}
 use Rattle.op_num.specs.Spelling.{number_of}
 use Rattle.texts.specs.Cut.{dark}
 use Rattle.texts.specs.Lines.{line_of}
-use Rattle.texts.proofs.Words.{number_token, all_and}
+use Rattle.texts.proofs.Words.{number_token}
 use Rattle.line_texts.specs.Lines.{is_lf, is_space, words, HasNoLf, HasNoSpace}
 use Rattle.line_texts.proofs.Cutting.{one_line, one_cut}
 use Rattle.loop_plan.specs.Spaced.{spaced}
 use Rattle.loop_plan.proofs.Lines.{line_is_spaced}
+use Rattle.lemmas.proofs.Lists.{list_all_cons}
 
 -- ---- words without blanks
 
@@ -43,7 +44,7 @@ either_dark false xs ys h k = k
 onto_dark : (k n : ℕ) (acc : List ℕ) → IsDark acc → IsDark (digits_onto k 10 false n acc)
 onto_dark zero n acc h = h
 onto_dark (suc k) n acc h =
-    let here : IsDark (digit_glyph false (n % 10) ∷ acc) = all_and dark (digit_glyph false (n % 10)) acc (glyph_dark (n % 10) (mod_below n 10 (omega arith))) h in
+    let here : IsDark (digit_glyph false (n % 10) ∷ acc) = list_all_cons dark (digit_glyph false (n % 10)) acc (glyph_dark (n % 10) (mod_below n 10 (omega arith))) h in
     either_dark (n / 10 == 0) (digit_glyph false (n % 10) ∷ acc) (digits_onto k 10 false (n / 10) (digit_glyph false (n % 10) ∷ acc))
     here (onto_dark k (n / 10) (digit_glyph false (n % 10) ∷ acc) here)
 

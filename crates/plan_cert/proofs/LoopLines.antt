@@ -22,8 +22,8 @@ use Rattle.plan_cert.specs.Judged.{FitsAmong}
 use Rattle.plan_cert.specs.Told.{site_front, TellsColours, LineIs}
 use Rattle.plan_cert.proofs.Reading.{fits_one, refused_here}
 use Rattle.plan_cert.proofs.Lining.{content, joined_spaced, lf_there, line_content, line_front}
-use Rattle.plan_cert.proofs.Telling.{same_count}
 use Rattle.plan_cert.proofs.OneLine.{site_words, told_dark}
+use Rattle.lemmas.proofs.Numbers.{same_bound}
 
 -- what was written into an empty vector
 pub front_written : (s r n : ℕ) (empty text front : List ℕ) → empty ≡ [] → text ≡ empty ++ site_front s r n → front ≡ text → front ≡ site_front s r n
@@ -78,7 +78,7 @@ module _ (b : BoundValue) (meshes : List RankMesh) (size s r n : ℕ) (places : 
         inner_words = i.inner;
         are_blocks = i.are_blocks;
         are_inner = i.are_inner;
-        block_count = same_count (length c.blocks) count (λ a. a * size < n) (λ a. subst (λ z. (a < length c.blocks) ↔ (a * size < z)) (sym places) (i.block_count a)) counts;
+        block_count = same_bound (length c.blocks) count (λ a. a * size < n) (λ a. subst (λ z. (a < length c.blocks) ↔ (a * size < z)) (sym places) (i.block_count a)) counts;
         inner_count = i.inner_count ∙ sym places;
         is =
             (line_front (codes "site") (drop 1 (words_of i.blocks i.inner)) line new.rest more (told_dark b meshes size s r c whole i) t.no_lf (sym t.whole ∙ (e ∙ ap (λ z. z ++ more) i.is))).0

@@ -10,8 +10,9 @@ use Rattle.bound_program.specs.Values.{BoundValue}
 use Rattle.plan_cert.specs.Awaited.{Awaited, Exactly, Sizes, ColoursOf, Done, done_line, ColourLists, IsSizes, IsSite, places_in, FitsLine}
 use Rattle.plan_cert.specs.Certified.{Clashes, Refuses}
 use Rattle.plan_cert.proofs.Lining.{AreDark, dark_append, decimal_dark, one_front}
-use Rattle.plan_cert.proofs.Telling.{colours_dark, same_count}
+use Rattle.plan_cert.proofs.Telling.{colours_dark}
 use Rattle.plan_cert.proofs.ColourWords.{ToldBehind, one_told}
+use Rattle.lemmas.proofs.Numbers.{same_bound}
 
 -- a line that others may stand behind
 abbrev pub IsEarly : Awaited → Type 0
@@ -65,7 +66,7 @@ module _ (b : BoundValue) (meshes : List RankMesh) where
       pub one_site : (c d : ColourLists) (line other rest more : List ℕ) → IsSite b meshes size s r c line → IsSite b meshes size s r d other → line ++ rest ≡ other ++ more → (c ≡ d) × (rest ≡ more)
       one_site c d line other rest more i j e =
           let o = one_words line other rest more i.blocks i.inner j.blocks j.inner i.is j.is (told_dark c line i) (told_dark d other j) e in
-          let blocks : length c.blocks ≡ length d.blocks = same_count (length c.blocks) (length d.blocks) (λ a. a * size < places_in b meshes s r) i.block_count j.block_count in
+          let blocks : length c.blocks ≡ length d.blocks = same_bound (length c.blocks) (length d.blocks) (λ a. a * size < places_in b meshes s r) i.block_count j.block_count in
           let inner : length c.inner ≡ length d.inner = i.inner_count ∙ sym j.inner_count in
           let t = told_by c line i in
           let u = told_by d other j in

@@ -21,12 +21,7 @@ use Rattle.loop_plan.proofs.StepsCounted.{same_sum}
 use Rattle.loop_plan.proofs.StepTotals.{sum_of_list, steps_counted}
 use Rattle.loop_plan.proofs.ProperPlan.{loop_below, loop_runs}
 use Rattle.plan_cert.specs.Laws.{CertifiedHaveSteps}
-
-and_turned : (x y : Bool) → (x && y) ≡ (y && x)
-and_turned true true = refl
-and_turned true false = refl
-and_turned false true = refl
-and_turned false false = refl
+use Rattle.std.proofs.Math.Bool.{and_comm}
 
 -- exchanges by the history of dats are those by one bit a dat
 pub exchange_is : (b : BoundValue) (meshes : List RankMesh) (p : PlanValue) → AreExchanges b p → (k : ℕ) → k < length b.trace → (item_plan p k).exchange ≡ exchange_of b meshes k
@@ -34,7 +29,7 @@ exchange_is b meshes p h k l =
     h.in_order k l
     ∙ listed_agree (dat_count b.mesh) (exchanges b p k) (exchanged_at b k) (λ d ld.
     by_bit (λ i. item_modifies b i d) (λ i. item_needs b i d) (λ i. exchanges b p i d) (h.history d) k
-    ∙ and_turned (item_needs b k d) (stale_before b k d))
+    ∙ and_comm (item_needs b k d) (stale_before b k d))
 
 module _
     (b : BoundValue) (meshes : List RankMesh) (range : IsInRange b) (p : PlanValue)

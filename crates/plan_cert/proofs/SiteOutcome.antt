@@ -16,13 +16,13 @@ use Rattle.loop_plan.specs.Proper.{Separate, HasColours}
 use Rattle.plan_exists.proofs.Built.{vec_of, items_are}
 use Rattle.plan_cert.specs.Awaited.{ColoursOf, ColourLists, IsSite, places_in, BlocksClashIn, PlacesClashIn}
 use Rattle.plan_cert.specs.Certified.{lists_of}
-use Rattle.plan_cert.proofs.Telling.{same_count}
 use Rattle.plan_cert.proofs.Deciding.{Known, FirstLine, first_line}
 use Rattle.plan_cert.proofs.Lining.{lf_there, content, line_content, content_cut, line_front}
 use Rattle.plan_cert.proofs.ColourWords.{ToldBehind, SomeTold, told_behind}
 use Rattle.plan_cert.proofs.OneLine.{site_words, told_dark}
 use Rattle.plan_cert.proofs.Clashing.{blocks_known, places_known}
 use Rattle.plan_cert.proofs.Outcomes.{Outcome, line_taken, line_refused}
+use Rattle.lemmas.proofs.Numbers.{same_bound}
 
 -- so many blocks there are
 count_of : ℕ → ℕ → ℕ
@@ -120,7 +120,7 @@ module _ (b : BoundValue) (meshes : List RankMesh) (size s r : ℕ) where
             inner_words = i.inner;
             are_blocks = i.are_blocks;
             are_inner = i.are_inner;
-            block_count = same_count (length c.blocks) many (λ a. a * size < places_in b meshes s r) i.block_count (counts (places_in b meshes s r) size some);
+            block_count = same_bound (length c.blocks) many (λ a. a * size < places_in b meshes s r) i.block_count (counts (places_in b meshes s r) size some);
             inner_count = i.inner_count;
             is = ap words o.0 ∙ content_cut (codes "site") (told_words i.blocks i.inner) dark;
           },

@@ -14,9 +14,9 @@ use Rattle.bound_program.specs.Values.{BoundValue}
 use Rattle.plan_cert.specs.Awaited.{Sizes, sizes_front, IsSizes}
 use Rattle.plan_cert.specs.Certified.{RefusedAmong}
 use Rattle.plan_cert.specs.Judged.{FitsAmong}
-use Rattle.plan_cert.proofs.Telling.{some_same}
 use Rattle.plan_cert.proofs.Lining.{decimal_dark, dark_no_lf, lf_there}
 use Rattle.plan_cert.proofs.Reading.{fits_one, refused_here}
+use Rattle.std.proofs.lemmas.Option.{same_Some}
 
 -- ---- the number behind
 
@@ -46,14 +46,6 @@ ok_same m n r e f = let g : Ok m ≡ Ok n = sym e ∙ f in cc
 pub ok_no_err : (n : ℕ) (e : NumRefusal) (r : Result ℕ NumRefusal) → r ≡ Err e → r ≡ Ok n → ⊥
 ok_no_err n e r f g = let h : Err e ≡ Ok n = sym f ∙ g in cc
 
--- what nothing stands in
-pub empty_list : (xs : List ℕ) (r : Bool) → r ≡ nat_eq (length xs) 0 → r ≡ true → xs ≡ []
-empty_list [] r e t = refl
-empty_list (x ∷ xs) r e t = absurd (let n : length (x ∷ xs) ≡ 0 = eqb-true (length (x ∷ xs)) 0 (sym e ∙ t) in omega arith)
-
-pub not_empty : (xs : List ℕ) (r : Bool) → r ≡ nat_eq (length xs) 0 → r ≡ false → xs ≡ [] → ⊥
-not_empty xs r e f n = false≢true (sym f ∙ (e ∙ ap (λ (z : List ℕ). nat_eq (length z) 0) n))
-
 module _ (b : BoundValue) (meshes : List RankMesh) (ranks : ℕ) (count : length meshes ≡ ranks) (old : Unread) (told : Option ℕ) (rest front : List ℕ) (er : rest ≡ old.rest) (ef : front ≡ sizes_front ranks)
     (tells : (n : ℕ) (more : List ℕ) → n < 2 ^ 32 → rest ≡ front ++ (decimal n ++ 10 ∷ more) → told ≡ Some n) where
   line_is : (n : ℕ) (line : List ℕ) → IsSizes b meshes n line → line ≡ front ++ (decimal n ++ 10 ∷ [])
@@ -70,7 +62,7 @@ module _ (b : BoundValue) (meshes : List RankMesh) (ranks : ℕ) (count : length
   size_refused s e wrong size = refused_here b meshes size Sizes old 2 (
     refl,
     λ n line more i h. (
-        let same : s ≡ n = some_same s n (sym e ∙ told_is n line more i h) in
+        let same : s ≡ n = same_Some s n (sym e ∙ told_is n line more i h) in
         let some = i.some in
         let few = i.few in
         wrong (omega arith) (omega arith)),
@@ -80,7 +72,7 @@ module _ (b : BoundValue) (meshes : List RankMesh) (ranks : ℕ) (count : length
   other_refused s text e t wrong size = refused_here b meshes size Sizes old 2 (
     refl,
     λ n line more i h. (
-        let same : n ≡ s = some_same n s (sym (told_is n line more i h) ∙ e) in
+        let same : n ≡ s = same_Some n s (sym (told_is n line more i h) ∙ e) in
         let line_text : line ≡ text = line_is n line i ∙ (ap (λ z. front ++ (decimal z ++ 10 ∷ [])) same ∙ sym t) in
         wrong more (h ∙ ap (λ z. z ++ more) line_text)),
   )

@@ -14,17 +14,10 @@ use Rattle.plan_cert.specs.Awaited.{AreColours}
 use Rattle.plan_cert.specs.Told.{ToldIs, TellsColours}
 use Rattle.plan_cert.proofs.Lining.{AreDark, dark_append, number_dark, joined_spaced, content_cut}
 use Rattle.plan_cert.proofs.Deciding.{heads_same, tails_same}
+use Rattle.lemmas.proofs.Lists.{fronts_same}
+use Rattle.std.proofs.lemmas.Option.{same_Some}
 
 -- ---- lists
-
-pub fronts_same : {X : Type 0} → (xs ys more rest : List X) → length xs ≡ length ys → xs ++ more ≡ ys ++ rest → (xs ≡ ys) × (more ≡ rest)
-fronts_same [] [] more rest l e = (refl, e)
-fronts_same [] (y ∷ ys) more rest l e = absurd (omega arith)
-fronts_same (x ∷ xs) [] more rest l e = absurd (omega arith)
-fronts_same (x ∷ xs) (y ∷ ys) more rest l e =
-    let h : x ≡ y = heads_same x y (xs ++ more) (ys ++ rest) e in
-    let t = fronts_same xs ys more rest (omega arith) (tails_same x y (xs ++ more) (ys ++ rest) e) in
-    (rw h (ap (λ zs. y ∷ zs) t.0), t.1)
 
 -- ---- colours
 
@@ -62,9 +55,6 @@ module _ (ws seen more rest : List (List ℕ)) (cs found : List ℕ) (told : Are
   pub colour_there : (w : List ℕ) → seen ++ w ∷ rest ≡ ws ++ more → ((c : ℕ) → number_of w ≡ Some c → c < 2 ^ 32 → ⊥) → ⊥
   colour_there w e none = let k = colour_next ws seen cs w more rest told words_few e in none k.0 k.1 k.2
 
-pub some_same : (m n : ℕ) → Some m ≡ Some n → m ≡ n
-some_same m n e = cc
-
 pub colours_one : (ws : List (List ℕ)) (cs ds : List ℕ) → AreColours ws cs → AreColours ws ds → cs ≡ ds
 colours_one [] [] [] h k = refl
 colours_one [] [] (d ∷ ds) h k = absurd k
@@ -73,20 +63,13 @@ colours_one (w ∷ ws) [] ds h k = absurd h
 colours_one (w ∷ ws) (c ∷ cs) [] h k = absurd k
 colours_one (w ∷ ws) (c ∷ cs) (d ∷ ds) h k =
     let e : Some c ≡ Some d = sym h.0 ∙ k.0 in
-    let same : c ≡ d = some_same c d e in
+    let same : c ≡ d = same_Some c d e in
     rw same (ap (λ zs. d ∷ zs) (colours_one ws cs ds h.2 k.2))
 
 pub colours_dark : (ws : List (List ℕ)) (cs : List ℕ) → AreColours ws cs → AreDark ws
 colours_dark [] cs h = tt
 colours_dark (w ∷ ws) [] h = absurd h
 colours_dark (w ∷ ws) (c ∷ cs) h = (number_dark w c h.0, colours_dark ws cs h.2)
-
--- numbers with the same below them are one
-pub same_count : (m n : ℕ) (P : ℕ → Type 0) → ((a : ℕ) → (a < m) ↔ P a) → ((a : ℕ) → (a < n) ↔ P a) → m ≡ n
-same_count m n P h k =
-    let up : n < m → ⊥ = λ l. (let e : n < n = (k n).1 ((h n).0 l) in omega arith) in
-    let down : m < n → ⊥ = λ l. (let e : m < m = (h m).1 ((k m).0 l) in omega arith) in
-    omega arith
 
 -- ---- words of a line
 

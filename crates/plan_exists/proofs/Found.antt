@@ -2,7 +2,7 @@
 use Rattle.std.proofs.Common.{◌≡◌, ◌<◌, ℕ, zero, suc, nat_eq, cond, List, [], ◌∷◌, length, get_or, arith, ⊎_elim}
 use Rattle.std.specs.List.{Contains}
 use Rattle.std.proofs.lemmas.Bool.{cases_eq, eq-eqb, ne_eqb}
-use Rattle.local_mesh.proofs.Stands.{contains_get}
+use Rattle.lemmas.proofs.Lists.{contains_at}
 
 -- the first place
 pub found : ℕ → List ℕ → ℕ
@@ -24,4 +24,4 @@ found_at y (x ∷ xs) k l e = ⊎_elim
     later rest (suc k) l e h = rest k (omega arith) e
 
 pub found_in : (y : ℕ) (xs : List ℕ) → Contains xs y → (found y xs < length xs) × (get_or xs (found y xs) 0 ≡ y)
-found_in y xs c = let w = contains_get xs y c in found_at y xs c.0 c.1 w
+found_in y xs c = let w = contains_at xs y c in found_at y xs c.0 c.1 w

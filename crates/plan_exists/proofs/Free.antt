@@ -1,11 +1,10 @@
 -- The least colour that no earlier one in conflict has.
 use Rattle.std.proofs.Common.{◌≡◌, ◌+◌, ◌<◌, ◌≤◌, ℕ, zero, suc, Bool, true, false, ◌&&◌, nat_eq, cond, List, [], ◌∷◌, ◌++◌, length, get_or, refl, sym, ◌∙◌, subst, arith, ⊎_elim, inl, inr, ◌⊎◌}
-use Rattle.std.proofs.lemmas.Bool.{cases_eq, cases_Bool, eq-eqb, eqb-true, false_from_ne_true}
+use Rattle.std.proofs.lemmas.Bool.{cases_eq, cases_Bool, eq-eqb, eqb-true, false_from_ne_true, and_from, and_parts}
 use Rattle.std.proofs.lemmas.List.{get_or_push, get_or_append_left, length_push}
 use Rattle.rank_sets.specs.Below.{any_below}
 use Rattle.rank_sets.proofs.Below.{any_from, any_witness}
 use Rattle.colouring.specs.Colours.{IsLeast}
-use Rattle.plan_exists.proofs.Tests.{both, and_holds}
 
 -- no less than anything in a list
 total : List ℕ → ℕ
@@ -66,7 +65,7 @@ module _ (t : ℕ → ℕ → Bool) where
       past : free_from (suc (total cs)) cs n 0 ≡ suc (total cs) + 0 → taken cs n (free_from (suc (total cs)) cs n 0) ≡ true → ⊥
       past q h =
           let w = any_witness n (λ q. t q n && nat_eq (get_or cs q 0) (free_from (suc (total cs)) cs n 0)) h in
-          let e = eqb-true (get_or cs w.0 0) (free_from (suc (total cs)) cs n 0) (both (t w.0 n) (nat_eq (get_or cs w.0 0) (free_from (suc (total cs)) cs n 0)) w.2).1 in
+          let e = eqb-true (get_or cs w.0 0) (free_from (suc (total cs)) cs n 0) (and_parts (t w.0 n) (nat_eq (get_or cs w.0 0) (free_from (suc (total cs)) cs n 0)) w.2).1 in
           let m = at_most_total cs w.0 in
           omega arith
 
@@ -98,13 +97,13 @@ module _ (t : ℕ → ℕ → Bool) where
     least p l = record {
       free = λ q lq c e. (
           let same : get_or (colours p) q 0 ≡ colour p = colours_at p q lq ∙ (sym (colours_at n q (omega arith)) ∙ (e ∙ colours_at n p l)) in
-          let hit = and_holds (t q p) (nat_eq (get_or (colours p) q 0) (colour p)) ((right q p l).1 c) (eq-eqb (get_or (colours p) q 0) (colour p) same) in
+          let hit = and_from (t q p) (nat_eq (get_or (colours p) q 0) (colour p)) ((right q p l).1 c) (eq-eqb (get_or (colours p) q 0) (colour p) same) in
           let yes : taken (colours p) p (colour p) ≡ true = any_from p (λ q. t q p && nat_eq (get_or (colours p) q 0) (colour p)) q lq hit in
           let no : taken (colours p) p (colour p) ≡ false = free_not_taken p (colours p) in
           let bad : true ≡ false = sym yes ∙ no in cc);
       taken = λ c lc. (
           let m : c < colour p = subst (λ z. c < z) (colours_at n p l) lc in
           let w = any_witness p (λ q. t q p && nat_eq (get_or (colours p) q 0) c) ((free_is (suc (total (colours p))) (colours p) p 0).all_taken c (omega arith) m) in
-          let h = both (t w.0 p) (nat_eq (get_or (colours p) w.0 0) c) w.2 in
+          let h = and_parts (t w.0 p) (nat_eq (get_or (colours p) w.0 0) c) w.2 in
           (w.0, w.1, (right w.0 p l).0 h.0, colours_at n w.0 (let lw = w.1 in omega arith) ∙ (sym (colours_at p w.0 w.1) ∙ eqb-true (get_or (colours p) w.0 0) c h.1)));
     }

@@ -1,13 +1,12 @@
 -- The set that gets owners next, and they.
 use Rattle.std.proofs.Common.{◌≡◌, ◌<◌, ℕ, Bool, true, false, not, cond, List, length, get_or, sym, ◌∙◌, subst, ⊎_elim, inl, inr, ◌⊎◌}
-use Rattle.std.proofs.lemmas.Bool.{cases_Bool}
+use Rattle.std.proofs.lemmas.Bool.{cases_Bool, and_parts}
 use Rattle.mesh_decl.specs.Mesh.{MeshValue, set_count, map_count, set_size, map_from, map_to}
 use Rattle.rank_sets.specs.Below.{any_below}
 use Rattle.partition.specs.Block.{InBlock}
 use Rattle.partition.specs.Elected.{IsElected, target_votes, naming_votes, is_named}
 use Rattle.partition.specs.Derive.{IsFirst, IsNextSet, can_follow_targets, can_follow_names, leads_to_known, leads_from_known}
 use Rattle.plan_exists.proofs.Built.{table, length_table, table_at}
-use Rattle.plan_exists.proofs.Tests.{both}
 use Rattle.plan_exists.proofs.Firsts.{first, greatest}
 use Rattle.plan_exists.proofs.Blocks.{block_of, in_block, block_below, block_list, length_block, block_at}
 
@@ -104,13 +103,13 @@ module _ (ranks : ℕ) (some : 0 < ranks) where
         by_names : any_below (set_count g) (can_follow_targets g known) ≡ false → (any_below (set_count g) (can_follow_names g known) ≡ false) ⊎ ((k : ℕ) × IsFirst (set_count g) (can_follow_names g known) k) → (any_below (set_count g) (λ t. not (known t)) ≡ false) ⊎ Next
         by_names none (inl none_names) = by_blocks none none_names (first (λ t. not (known t)) (set_count g))
         by_names none (inr k) = ⊎_elim
-            (λ (h : any_below (map_count g) (leads_from_known g known k.0) ≡ false). clash (any_below (map_count g) (leads_from_known g known k.0)) (both (not (known k.0)) (any_below (map_count g) (leads_from_known g known k.0)) k.1.passes).1 h)
+            (λ (h : any_below (map_count g) (leads_from_known g known k.0) ≡ false). clash (any_below (map_count g) (leads_from_known g known k.0)) (and_parts (not (known k.0)) (any_below (map_count g) (leads_from_known g known k.0)) k.1.passes).1 h)
             (λ (m : (j : ℕ) × IsFirst (map_count g) (leads_from_known g known k.0) j). inr (next_by_names m.0 k.0 none k.1 m.1))
             (first (leads_from_known g known k.0) (map_count g))
 
         by_targets : (any_below (set_count g) (can_follow_targets g known) ≡ false) ⊎ ((k : ℕ) × IsFirst (set_count g) (can_follow_targets g known) k) → (any_below (set_count g) (λ t. not (known t)) ≡ false) ⊎ Next
         by_targets (inl none) = by_names none (first (can_follow_names g known) (set_count g))
         by_targets (inr k) = ⊎_elim
-            (λ (h : any_below (map_count g) (leads_to_known g known k.0) ≡ false). clash (any_below (map_count g) (leads_to_known g known k.0)) (both (not (known k.0)) (any_below (map_count g) (leads_to_known g known k.0)) k.1.passes).1 h)
+            (λ (h : any_below (map_count g) (leads_to_known g known k.0) ≡ false). clash (any_below (map_count g) (leads_to_known g known k.0)) (and_parts (not (known k.0)) (any_below (map_count g) (leads_to_known g known k.0)) k.1.passes).1 h)
             (λ (m : (j : ℕ) × IsFirst (map_count g) (leads_to_known g known k.0) j). inr (next_by_targets m.0 k.0 k.1 m.1))
             (first (leads_to_known g known k.0) (map_count g))

@@ -1,7 +1,7 @@
 -- Tests that tell where places and blocks conflict.
 use Rattle.std.proofs.Common.{◌≡◌, ◌+◌, ◌/◌, ◌<◌, ◌≤◌, ℕ, suc, Bool, true, false, ◌&&◌, nat_eq, List, [], ◌∷◌, refl, ap, ◌∙◌, arith, ⊎_elim, Vec, Global}
 use Rattle.std.specs.List.{list_any, Contains}
-use Rattle.std.proofs.lemmas.Bool.{eq-eqb, eqb-true, or_cases}
+use Rattle.std.proofs.lemmas.Bool.{eq-eqb, eqb-true, or_cases, and_from, and_parts}
 use Rattle.std.proofs.lemmas.List.Folds.{list_any_at}
 use Rattle.std.proofs.Math.Nat.{div-lt_iff_lt-mul, le-div_iff_mul-le}
 use Rattle.rank_sets.specs.Below.{any_below}
@@ -12,13 +12,6 @@ use Rattle.colouring.specs.declared.types.IncArg.{IncArg}
 use Rattle.colouring.specs.Colours.{target_of, Conflict, ConflictWithin, BlocksConflict}
 
 -- ---- tests
-
-pub both : (a b : Bool) → (a && b) ≡ true → (a ≡ true) × (b ≡ true)
-both true b h = (refl, h)
-both false b h = let bad : false ≡ true = h in cc
-
-pub and_holds : (a b : Bool) → a ≡ true → b ≡ true → (a && b) ≡ true
-and_holds a b h k = ap (λ z. z && b) h ∙ k
 
 -- what passes
 pub any_in : {X : Type 0} (test : X → Bool) (xs : List X) → list_any test xs ≡ true → (x : X) × Contains xs x × (test x ≡ true)
@@ -45,7 +38,7 @@ module _ (g : MeshValue) (maps : List (Vec ℕ Global)) (args : List IncArg) whe
   conflict_holds p q h =
       let x = any_in (λ x. list_any (meets p q x) args) args h in
       let y = any_in (meets p q x.0) args x.2 in
-      let e = both (nat_eq x.0.dat y.0.dat) (nat_eq (target_of g maps p x.0) (target_of g maps q y.0)) y.2 in
+      let e = and_parts (nat_eq x.0.dat y.0.dat) (nat_eq (target_of g maps p x.0) (target_of g maps q y.0)) y.2 in
       (x.0, y.0, x.1, y.1, eqb-true x.0.dat y.0.dat e.0, eqb-true (target_of g maps p x.0) (target_of g maps q y.0) e.1)
 
   conflict_found : (p q : ℕ) → Conflict g maps args p q → conflict p q ≡ true
@@ -53,7 +46,7 @@ module _ (g : MeshValue) (maps : List (Vec ℕ Global)) (args : List IncArg) whe
   conflict_found p q c =
       any_of (λ x. list_any (meets p q x) args) args c.0 c.2
       (any_of (meets p q c.0) args c.1 c.3
-      (and_holds (nat_eq c.0.dat c.1.dat) (nat_eq (target_of g maps p c.0) (target_of g maps q c.1))
+      (and_from (nat_eq c.0.dat c.1.dat) (nat_eq (target_of g maps p c.0) (target_of g maps q c.1))
       (eq-eqb c.0.dat c.1.dat c.4) (eq-eqb (target_of g maps p c.0) (target_of g maps q c.1) c.5)))
 
   module _ (size : ℕ) where
@@ -64,8 +57,8 @@ module _ (g : MeshValue) (maps : List (Vec ℕ Global)) (args : List IncArg) whe
     pub within_is : (p q : ℕ) → (within p q ≡ true → ConflictWithin g maps args size p q) × (ConflictWithin g maps args size p q → within p q ≡ true)
     unfolding within
     within_is p q = (
-      λ h. (let w = both (nat_eq (p / size) (q / size)) (conflict p q) h in (eqb-true (p / size) (q / size) w.0, conflict_holds p q w.1)),
-      λ c. and_holds (nat_eq (p / size) (q / size)) (conflict p q) (eq-eqb (p / size) (q / size) c.0) (conflict_found p q c.1),
+      λ h. (let w = and_parts (nat_eq (p / size) (q / size)) (conflict p q) h in (eqb-true (p / size) (q / size) w.0, conflict_holds p q w.1)),
+      λ c. and_from (nat_eq (p / size) (q / size)) (conflict p q) (eq-eqb (p / size) (q / size) c.0) (conflict_found p q c.1),
     )
 
     in_block : (places a p : ℕ) → 0 < size → p < places → p / size ≡ a → IsInBlock places size a p
@@ -95,12 +88,12 @@ module _ (g : MeshValue) (maps : List (Vec ℕ Global)) (args : List IncArg) whe
         λ h. (
             let p = any_witness places (λ p. any_below places (at_blocks a e p)) h in
             let q = any_witness places (at_blocks a e p.0) p.2 in
-            let x = both (nat_eq (p.0 / size) a) (nat_eq (q.0 / size) e && conflict p.0 q.0) q.2 in
-            let y = both (nat_eq (q.0 / size) e) (conflict p.0 q.0) x.1 in
+            let x = and_parts (nat_eq (p.0 / size) a) (nat_eq (q.0 / size) e && conflict p.0 q.0) q.2 in
+            let y = and_parts (nat_eq (q.0 / size) e) (conflict p.0 q.0) x.1 in
             (p.0, q.0, in_block places a p.0 some p.1 (eqb-true (p.0 / size) a x.0), in_block places e q.0 some q.1 (eqb-true (q.0 / size) e y.0), conflict_holds p.0 q.0 y.1)),
         λ c. any_from places (λ p. any_below places (at_blocks a e p)) c.0 c.2.2
             (any_from places (at_blocks a e c.0) c.1 c.3.2
-            (and_holds (nat_eq (c.0 / size) a) (nat_eq (c.1 / size) e && conflict c.0 c.1)
+            (and_from (nat_eq (c.0 / size) a) (nat_eq (c.1 / size) e && conflict c.0 c.1)
             (eq-eqb (c.0 / size) a (block_of places a c.0 some c.2))
-            (and_holds (nat_eq (c.1 / size) e) (conflict c.0 c.1) (eq-eqb (c.1 / size) e (block_of places e c.1 some c.3)) (conflict_found c.0 c.1 c.4)))),
+            (and_from (nat_eq (c.1 / size) e) (conflict c.0 c.1) (eq-eqb (c.1 / size) e (block_of places e c.1 some c.3)) (conflict_found c.0 c.1 c.4)))),
       )

@@ -1,7 +1,7 @@
 -- All numbers below a bound in turn: at each place the least of those that aren't taken.
 use Rattle.std.proofs.Common.{◌≡◌, ◌<◌, ◌≤◌, ◌+◌, ℕ, zero, suc, Bool, true, false, not, ◌||◌, nat_eq, cond, List, [], ◌∷◌, ◌++◌, length, get_or, take, refl, sym, ap, ◌∙◌, subst, arith, ⊎_elim, length-take-le, get_or-take}
 use Rattle.std.specs.List.{Contains, list_any}
-use Rattle.std.proofs.lemmas.Bool.{cases_eq, cases_Bool, eq-eqb, ne_eqb, eqb-true, false_from_ne_true}
+use Rattle.std.proofs.lemmas.Bool.{cases_eq, cases_Bool, eq-eqb, ne_eqb, eqb-true, false_from_ne_true, not-false}
 use Rattle.std.proofs.lemmas.List.{get_or_push, get_or_append_left, length_push, take_all, take-append-le}
 use Rattle.std.proofs.lemmas.List.Folds.{list_any-append}
 use Rattle.rank_sets.specs.Below.{count_below}
@@ -55,10 +55,6 @@ count_none (suc n) = let h = count_none n in rw h refl
 count_all : (n : ℕ) (p : ℕ → Bool) → ((y : ℕ) → y < n → p y ≡ true) → count_below n p ≡ n
 count_all zero p h = refl
 count_all (suc n) p h = let e = count_all n p (λ y l. h y (omega arith)) in let t = h n (omega arith) in rw (e, t) (omega arith)
-
-is_true : (b : Bool) → not b ≡ false → b ≡ true
-is_true true h = refl
-is_true false h = let bad : true ≡ false = h in cc
 
 -- where all are counted, all pass
 all_pass : (n : ℕ) (p : ℕ → Bool) → count_below n p ≡ n → (y : ℕ) → y < n → p y ≡ true
@@ -135,7 +131,7 @@ module _ (n : ℕ) (f : List ℕ → ℕ → ℕ) (key : ℕ → ℕ) where
     where
       step : Turned k → Turned (suc k)
       step t = ⊎_elim
-          (λ none. (let c : count_below n (has t.order) ≡ n = count_all n (has t.order) (λ y m. is_true (has t.order y) (none y m)) in let d = t.counted in absurd (omega arith)))
+          (λ none. (let c : count_below n (has t.order) ≡ n = count_all n (has t.order) (λ y m. not-false (has t.order y) (none y m)) in let d = t.counted in absurd (omega arith)))
           (λ p. turned_more k t p.0 p.1)
           (picked (f t.order) key (λ y. not (has t.order y)) n)
 

@@ -1,7 +1,7 @@
 -- The receivers and the senders among all pairs that pass a test.
 use Rattle.std.proofs.Common.{◌≡◌, ℕ, zero, suc, ◌<◌, ◌≤◌, Bool, true, false, cond, refl, ap, ◌∙◌, arith, ⊎_elim, List, [], ◌∷◌, ◌++◌, append-nil, map}
 use Rattle.std.specs.Prelude.{◌==◌, ◌&&◌, filter, All}
-use Rattle.std.proofs.lemmas.Bool.{cases_eq, eq-eqb, ne_eqb}
+use Rattle.std.proofs.lemmas.Bool.{cases_eq, eq-eqb, ne_eqb, and_right}
 use Rattle.std.proofs.lemmas.List.{map-append}
 use Rattle.std.proofs.lemmas.List.Elements.{All-append, All-map}
 use Rattle.schedule_steps.specs.Drawn.{numbers}
@@ -76,10 +76,6 @@ more_of m n r u =
     last true = chosen_one to from (pair m n) r
     last false = refl
 
-and_no : (b c : Bool) → c ≡ false → (b && c) ≡ false
-and_no true c e = e
-and_no false c e = refl
-
 and_yes : (b c : Bool) → c ≡ true → (b && c) ≡ b
 and_yes true c e = e
 and_yes false c e = refl
@@ -89,7 +85,7 @@ none_of m zero r u le = refl
 none_of m (suc n) r u le =
     more_of m n r u
     ∙ (ap (λ z. z ++ cond (u n && (n == r)) (m ∷ []) []) (none_of m n r u (omega arith))
-    ∙ ap (λ b. cond b (m ∷ []) []) (and_no (u n) (n == r) (ne_eqb n r (λ e. omega arith))))
+    ∙ ap (λ b. cond b (m ∷ []) []) (and_right (u n) (n == r) (ne_eqb n r (λ e. omega arith))))
 
 one_of : (m n r : ℕ) (u : ℕ → Bool) → r < n → senders_in (map (pair m) (listed n u)) r ≡ cond (u r) (m ∷ []) []
 one_of m zero r u lt = absurd (omega arith)
@@ -100,7 +96,7 @@ one_of m (suc n) r u lt = ⊎_elim
     ∙ (ap (λ b. cond b (m ∷ []) []) (and_yes (u n) (n == r) (eq-eqb n r e)) ∙ ap (λ z. cond (u z) (m ∷ []) []) e)))
     (λ (ne : n ≡ r → ⊥).
     more_of m n r u
-    ∙ (ap (λ b. senders_in (map (pair m) (listed n u)) r ++ cond b (m ∷ []) []) (and_no (u n) (n == r) (ne_eqb n r ne))
+    ∙ (ap (λ b. senders_in (map (pair m) (listed n u)) r ++ cond b (m ∷ []) []) (and_right (u n) (n == r) (ne_eqb n r ne))
     ∙ (append-nil (senders_in (map (pair m) (listed n u)) r) ∙ one_of m n r u (omega arith))))
     (cases_eq n r)
 

@@ -17,6 +17,7 @@ use Rattle.local_mesh.specs.LocalMesh.{originals_in, IsRankMesh}
 use Rattle.local_mesh.specs.Numbers.{OwnedComeFirst, OriginalsAreDistinct, OriginalsAreHeld}
 use Rattle.loop_plan.specs.Pairs.{sets_of, own_in}
 use Rattle.loop_plan.specs.Distributed.{IsDistributed}
+use Rattle.lemmas.proofs.Lists.{element_at}
 
 -- the laws of the lower crates
 pub record Given : Type 0 where
@@ -26,11 +27,6 @@ pub record Given : Type 0 where
   pub others : (g : MeshValue) (o : Owners) (s x r : ℕ) → imports g o s x r ≡ true → owner_of o s x ≢ r
   pub listed : (n : ℕ) (t : ℕ → Bool) → HasNumbers n t
   pub dats : (g : MeshValue) → IsMesh g → (d : ℕ) → d < dat_count g → IsDatAt g d
-
-pick : {A : Type 0} (xs : List A) (r : ℕ) → r < length xs → (x : A) × ((d : A) → get_or xs r d ≡ x)
-pick [] r l = absurd (omega arith)
-pick (x ∷ xs) zero l = (x, λ d. refl)
-pick (x ∷ xs) (suc r) l = pick xs r (omega arith)
 
 -- a place of the front of a list
 in_front : (n : ℕ) (xs : List ℕ) (k : ℕ) → k < length (take n xs) → (k < n) × (k < length xs)
@@ -60,7 +56,7 @@ module _ (laws : Given) (g : MeshValue) (o : Owners) (n : Perms) (meshes : List 
   mesh : (m : RankMesh) × IsRankMesh g o n r m × (m.sets.items ≡ sets_of meshes r)
   unfolding sets_of
   mesh =
-      let m : (x : RankMesh) × ((e : RankMesh) → get_or meshes r e ≡ x) = pick meshes r there in (
+      let m : (x : RankMesh) × ((e : RankMesh) → get_or meshes r e ≡ x) = element_at meshes r there in (
         m.0,
         subst (IsRankMesh g o n r) (m.1 m.0) (d.are_meshes.ranks r m.0 lr),
         sym (get_or-map (λ (x : RankMesh). x.sets.items) meshes r m.0 [] there ∙ ap (λ (x : RankMesh). x.sets.items) (m.1 m.0)),

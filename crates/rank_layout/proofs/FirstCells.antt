@@ -13,14 +13,7 @@ use Rattle.local_mesh.specs.LocalMesh.{originals_in, cells_before, AreClosed}
 use Rattle.run_model.specs.Windows.{numbers}
 use Rattle.rank_layout.specs.First.{element_values, rank_values, first_cells}
 use Rattle.rank_layout.proofs.FlatMaps.{flat_more}
-
--- one piece more
-one_piece : {X : Type 0} (f : X → List ℤ) (xs : List X) (i : ℕ) (d : X) → i < length xs
-    → length (flat_map f (take (suc i) xs)) ≡ length (flat_map f (take i xs)) + length (f (get_or xs i d))
-one_piece f xs i d lt =
-    let next : suc i ≡ i + 1 = omega arith in
-    ap (λ k. length (flat_map f (take k xs))) next ∙ ap length (flat_more f xs i d lt)
-    ∙ length-append (flat_map f (take i xs)) (f (get_or xs i d))
+use Rattle.lemmas.proofs.Lists.{one_piece}
 
 -- pieces of n cells each
 even : (f : ℕ → List ℤ) (xs : List ℕ) (n : ℕ) → ((k : ℕ) → k < length xs → length (f (get_or xs k 0)) ≡ n)

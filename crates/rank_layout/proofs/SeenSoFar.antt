@@ -1,7 +1,7 @@
 -- What was reached so far, each once, with one thing more.
 use Rattle.std.proofs.Common.{◌≡◌, ◌≤◌, ◌+◌, ℕ, Bool, true, false, ◌||◌, List, [], ◌∷◌, ◌++◌, length, flat_map, refl, sym, ap, ◌∙◌, ◌⊎◌, inl, inr, ⊎_elim, arith, length-append}
 use Rattle.std.specs.Prelude.{if◌then◌else◌}
-use Rattle.std.proofs.lemmas.Bool.{cases_Bool, false≢true, or_cases, or_parts, or_left, or_right}
+use Rattle.std.proofs.lemmas.Bool.{cases_Bool, false≢true, or_cases, or_parts, or_left, or_right, false_from_ne_true}
 use Rattle.std.proofs.lemmas.List.{append-nil}
 use Rattle.std.proofs.lemmas.List.FromFn.{length-map-range_with_len}
 use Rattle.bound_program.specs.Values.{BoundValue}
@@ -96,12 +96,8 @@ has_of (x ∷ xs) r h = ⊎_elim
     (λ s. or_right (is_same x r) (has xs r) (has_of xs r (has_without x r (different xs) s)))
     (or_cases (is_same x r) (has (without x (different xs)) r) h)
 
-by_false : (c : Bool) → (c ≡ true → ⊥) → c ≡ false
-by_false true never = absurd (never refl)
-by_false false never = refl
-
 pub new_in_different : (xs : List Reached) (r : Reached) → has xs r ≡ false → has (different xs) r ≡ false
-new_in_different xs r h = by_false (has (different xs) r) (λ t. false≢true (sym h ∙ has_of xs r t))
+new_in_different xs r h = false_from_ne_true (has (different xs) r) (λ t. false≢true (sym h ∙ has_of xs r t))
 
 pub has_append : (xs ys : List Reached) (r : Reached) → has (xs ++ ys) r ≡ (has xs r || has ys r)
 has_append [] ys r = refl

@@ -12,6 +12,7 @@ use Rattle.rank_state.specs.Frames.{Pane, Shut, with_pane}
 use Rattle.rank_memory.specs.Slots.{no_slot, held_pane, pane_of, of_entry, entry, with_entry, panes_in, fits_held, used_held, used, Tied}
 use Rattle.std.specs.List.{sum_by}
 use Rattle.std.proofs.lemmas.List.Sums.{sum_by-set}
+use Rattle.lemmas.proofs.Numbers.{lt_or_gt}
 
 abbrev pub Table : Type 0
 Table = List (List (Option ℕ))
@@ -54,15 +55,12 @@ same_entry : (f f' : ℕ → Pane) (o : Option ℕ) → ((t : ℕ) → o ≡ Som
 same_entry f f' None h = refl
 same_entry f f' (Some t) h = h t refl
 
-lt_cases : (t s : ℕ) → t ≢ s → (t < s) ⊎ (s < t)
-lt_cases t s h = grind arith
-
 pub rows_apart : (s t stride : ℕ) → t ≢ s → (t * stride + stride ≤ s * stride) ⊎ (s * stride + stride ≤ t * stride)
 rows_apart s t stride h =
     ⊎_elim
     (λ (lt : t < s). inl (grind arith))
     (λ (lt : s < t). inr (grind arith))
-    (lt_cases t s h)
+    (lt_or_gt t s h)
 
 -- a frame is opened in a free slot
 pub opened_panes : (stride : ℕ) (table : Table) (slots : List Slot) (staging staging' : List ℤ) (free : List ℕ) (r x s : ℕ) (v : Slot)

@@ -21,9 +21,6 @@ rows_set ws r x n v h =
     map-set (λ (w : Vec ℕ Global). w.items) ws r (with_item (get_or ws r v) x n)
     ∙ ap (λ row. set (lists ws) r (set row x n)) (sym (get_or-map (λ (w : Vec ℕ Global). w.items) ws r v [] h))
 
-pub refilled : {A : Type 0} (v : Vec A Global) (ws : List A) → length ws ≡ length v.items → (with_items v ws).items ≡ ws
-refilled v ws e = let k = v.ok.0 in grind (arith, common_steps)
-
 -- where an element stands
 pub record Stands (stride : ℕ) (table : List (List ℕ)) (slots : List Slot) (staging : List ℤ) (p : Panes) (r x : ℕ) : Type 0 where
   pub rank : r < length table

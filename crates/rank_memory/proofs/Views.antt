@@ -4,7 +4,7 @@ use Rattle.std.specs.Vec.{with_items}
 use Rattle.std.proofs.lemmas.List.{map-set, get_or-map, length-map}
 use Rattle.rank_state.specs.declared.scalars.Scalar.{Scalar}
 use Rattle.rank_state.specs.Windows.{Merges}
-use Rattle.rank_memory.proofs.Vecs.{refilled}
+use Rattle.lemmas.proofs.Lists.{refilled}
 
 abbrev pub lists : List (Vec ℤ Global) → List (List ℤ)
 lists vs = map (λ (v : Vec ℤ Global). v.items) vs

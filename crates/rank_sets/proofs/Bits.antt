@@ -3,12 +3,10 @@ use Rattle.std.proofs.Common.{◌≡◌, ℕ, ◌-◌, ◌*◌, ◌%◌, ◌^◌
 use Rattle.std.specs.Int.{bit_at, bit_not, trailing_zeros}
 use Rattle.std.proofs.lemmas.Bool.{cases_eq, eq-eqb, ne_eqb, eqb-true}
 use Rattle.std.proofs.lemmas.Nat.{and_le_l}
-use Rattle.rank_sets.proofs.Bools.{or_true, or_false, and_true, and_false}
 use Rattle.std.proofs.lemmas.Nat.Bits.{bit_at_or, bit_at_and, bit_at-zero, bit_at_set_same, bit_at_set_other, bit_at_clear_same, bit_at_clear_other, bit_at-trailing_zeros, bit_at_not, bit_at-lt, same_from_bits_below}
-
--- a bit is 0 or 1
-bit_cases : (n i : ℕ) → (bit_at n i ≡ 0) ⊎ (bit_at n i ≡ 1)
-bit_cases n i = ⊎_elim (λ e. inl e) (λ (e : bit_at n i ≡ 0 → ⊥). inr (let l : bit_at n i < 2 = bit_at-lt n i in omega arith)) (cases_eq (bit_at n i) 0)
+use Rattle.lemmas.proofs.Numbers.{bit_cases}
+use Rattle.lemmas.proofs.Truth.{or_true}
+use Rattle.std.proofs.Math.Bool.{and-false, and-true, or-false}
 
 max_one : (a b : ℕ) → (a ≡ 0) ⊎ (a ≡ 1) → (b ≡ 0) ⊎ (b ≡ 1) → eqb (max a b) 1 ≡ (eqb a 1 || eqb b 1)
 max_one a b h k = ⊎_elim
@@ -31,17 +29,14 @@ minus_bit a b k l m = ap (λ (z : ℕ). eqb z 1) (bit_at_and a (bit_not w64 b) k
 pub with_bit : (a r k : ℕ) → r < 64 → eqb (bit_at (bit_or a (1 * 2 ^ r % 2 ^ 64)) k) 1 ≡ (eqb (bit_at a k) 1 || eqb k r)
 with_bit a r k l = ⊎_elim
     (λ (e : k ≡ r). rw (eq-eqb k r e) (ap (λ (z : ℕ). eqb z 1) (ap (bit_at (bit_or a (1 * 2 ^ r % 2 ^ 64))) e ∙ bit_at_set_same w64 a r l) ∙ sym (or_true (eqb (bit_at a k) 1))))
-    (λ (e : k ≡ r → ⊥). rw (ne_eqb k r e) (ap (λ (z : ℕ). eqb z 1) (bit_at_set_other w64 a r l k e) ∙ sym (or_false (eqb (bit_at a k) 1))))
+    (λ (e : k ≡ r → ⊥). rw (ne_eqb k r e) (ap (λ (z : ℕ). eqb z 1) (bit_at_set_other w64 a r l k e) ∙ sym (or-false (eqb (bit_at a k) 1))))
     (cases_eq k r)
 
 pub without_bit : (a r k : ℕ) → r < 64 → k < 64 → eqb (bit_at (bit_and a (bit_not w64 (1 * 2 ^ r % 2 ^ 64))) k) 1 ≡ (eqb (bit_at a k) 1 && not (eqb k r))
 without_bit a r k l m = ⊎_elim
-    (λ (e : k ≡ r). rw (eq-eqb k r e) (ap (λ (z : ℕ). eqb z 1) (ap (bit_at (bit_and a (bit_not w64 (1 * 2 ^ r % 2 ^ 64)))) e ∙ bit_at_clear_same w64 a r l) ∙ sym (and_false (eqb (bit_at a k) 1))))
-    (λ (e : k ≡ r → ⊥). rw (ne_eqb k r e) (ap (λ (z : ℕ). eqb z 1) (bit_at_clear_other w64 a r l k m e) ∙ sym (and_true (eqb (bit_at a k) 1))))
+    (λ (e : k ≡ r). rw (eq-eqb k r e) (ap (λ (z : ℕ). eqb z 1) (ap (bit_at (bit_and a (bit_not w64 (1 * 2 ^ r % 2 ^ 64)))) e ∙ bit_at_clear_same w64 a r l) ∙ sym (and-false (eqb (bit_at a k) 1))))
+    (λ (e : k ≡ r → ⊥). rw (ne_eqb k r e) (ap (λ (z : ℕ). eqb z 1) (bit_at_clear_other w64 a r l k m e) ∙ sym (and-true (eqb (bit_at a k) 1))))
     (cases_eq k r)
-
-pub empty_bit : (k : ℕ) → eqb (bit_at 0 k) 1 ≡ false
-empty_bit k = rw bit_at-zero refl
 
 -- a number with none of its bits set is 0
 pub none_zero : (a : ℕ) → a < 2 ^ 64 → ((k : ℕ) → k < 64 → eqb (bit_at a k) 1 ≡ false) → a ≡ 0

@@ -1,4 +1,3 @@
-pub mod Bools
 pub mod Bits
 pub mod Below
 pub mod Rows

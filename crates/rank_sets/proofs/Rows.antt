@@ -3,10 +3,10 @@ use Rattle.std.proofs.Common.{◌≡◌, ◌≢◌, ℕ, ◌<◌, ◌≤◌, fal
 use Rattle.std.specs.declared.alloc.Global.{Global}
 use Rattle.std.proofs.lemmas.List.{get_or-map, map-set, get_or-set_same, get_or-set_other, length-map, get_or_append_left, get_or_push, get_or_read, get_or_default, length_push, get_or_past, get_or-replicate, length-replicate}
 use Rattle.std.proofs.lemmas.Bool.{cases_lt}
-use Rattle.rank_sets.proofs.Bits.{empty_bit}
 use Rattle.rank_sets.specs.Below.{row, rows}
 use Rattle.rank_sets.specs.RankSet.{has, has_at, no_ranks}
 use Rattle.rank_sets.specs.declared.rank_set.RankSet.{RankSet}
+use Rattle.lemmas.proofs.Numbers.{zero_bit}
 
 pub row_read : (xs : List (Vec ℕ Global)) (i : ℕ) (v : Vec ℕ Global) → i < length xs → v ≡ get_or xs i v → v.items ≡ row xs i
 unfolding row
@@ -54,7 +54,7 @@ has_at_push xs s j e r = ap (λ z. has z r) (get_or_push xs s no_ranks j e)
 
 pub has-no_ranks : (r : ℕ) → has no_ranks r ≡ false
 unfolding has
-has-no_ranks r = empty_bit r
+has-no_ranks r = zero_bit r
 
 pub has_at_past : (xs : List RankSet) (i r : ℕ) → length xs ≤ i → has_at xs i r ≡ false
 unfolding has_at

@@ -11,6 +11,7 @@ use Rattle.rank_state.specs.declared.spans.Span.{Span}
 use Rattle.rank_state.specs.declared.scalars.Scalar.{Scalar}
 use Rattle.rank_state.specs.Spans.{Within, total, with_window, cells_at, scattered}
 use Rattle.rank_state.specs.Windows.{cells_from, span_cells, Marked, scalar_cells}
+use Rattle.lemmas.proofs.Lists.{length-set_if}
 
 -- the law that writing cell by cell is looking up by index
 abbrev pub LookUp : Type 0
@@ -36,10 +37,6 @@ window_if_none : (b : Bool) (at : ℕ) (m : List ℤ) → m ≡ cond b (with_win
 window_if_none true at m = sym (window_none at m)
 window_if_none false at m = refl
 
-set_if_length : (b : Bool) (m : List ℤ) (at : ℕ) (w : ℤ) → length (cond b (set m at w) m) ≡ length m
-set_if_length true m at w = length-set m at w
-set_if_length false m at w = refl
-
 pub window_length : (at : ℕ) (w m : List ℤ) → at + length w ≤ length m → length (with_window at w m) ≡ length m
 window_length at w m h = grind (arith, Rattle.std.proofs.lemmas.Grind.common_steps)
 
@@ -63,7 +60,7 @@ module _ (taken : DatCell → Bool) (place : DatCell → ℕ) (cell_at : ℕ →
       let here : taken (cell_at at) ≡ b = (let e : at + 0 ≡ at = omega arith in subst (λ j. taken (cell_at j) ≡ b) e (h 0 (omega arith))) in
       ap (λ i. scatter taken place (cells_from cell_at (suc at) k ++ xs) ws (cond (taken (cell_at at)) (set m i w) m)) (placed at (omega arith))
       ∙ (ap (λ z. scatter taken place (cells_from cell_at (suc at) k ++ xs) ws (cond z (set m at w) m)) here
-      ∙ (span_scatter (suc at) k b xs ws (cond b (set m at w) m) (set_if_length b m at w ∙ len) (omega arith) (omega arith)
+      ∙ (span_scatter (suc at) k b xs ws (cond b (set m at w) m) (length-set_if b m at w ∙ len) (omega arith) (omega arith)
       (λ j lt. (let e : at + suc j ≡ suc at + j = omega arith in subst (λ i. taken (cell_at i) ≡ b) e (h (suc j) (omega arith))))
       ∙ ap (scatter taken place xs (drop k ws)) (window_if_more b at w (take k ws) m (omega arith))))
 

@@ -75,9 +75,3 @@ one_array ts first a i b j =
 
 pub read_first : (ts : List Target) → ((a : ℕ) → (target_at ts a).array ≡ 0) → (cells : List ℤ) (a i : ℕ) → read_arg ts (cells ∷ []) a i ≡ get_or cells ((target_at ts a).from + i) (pos 0)
 read_first ts first cells a i = ap (λ x. cell (cells ∷ []) x ((target_at ts a).from + i)) (first a)
-
-pub eq_both : (x y u v : ℕ) → (x ≡ y → u ≡ v) → (u ≡ v → x ≡ y) → nat_eq x y ≡ nat_eq u v
-eq_both x y u v f g = ⊎_elim
-    (λ (e : x ≡ y). eq-eqb x y e ∙ sym (eq-eqb u v (f e)))
-    (λ (n : x ≡ y → ⊥). ne_eqb x y n ∙ sym (ne_eqb u v (λ e. n (g e))))
-    (cases_eq x y)

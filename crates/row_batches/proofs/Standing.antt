@@ -20,8 +20,9 @@ use Rattle.kernel_columns.specs.Batch.{RowsApart}
 use Rattle.row_batches.specs.declared.rows.RowLoop.{RowLoop}
 use Rattle.row_batches.specs.Filled.{FilledFor, cells_of}
 use Rattle.row_batches.specs.RowLoops.{Allows, AllowsScalar, scalar_in, column_at, scalar_at, column_access, column_cell, OnDat, OnVariable, in_frame, in_memory, ReduceApart, NeverMeet}
-use Rattle.row_batches.proofs.Accesses.{changing, reading, reducing, reduced_by, both_ways, no_array, one_array, read_first, eq_both}
+use Rattle.row_batches.proofs.Accesses.{changing, reading, reducing, reduced_by, both_ways, no_array, one_array, read_first}
 use Rattle.row_batches.proofs.Given.{IsSetOut, looked_up, in_row, in_rows}
+use Rattle.lemmas.proofs.Numbers.{eq_both}
 
 -- ---- scalars
 

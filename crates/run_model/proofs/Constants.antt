@@ -11,6 +11,7 @@ use Rattle.run_model.specs.Kernels.{is_among, constant_or, constant_in, constant
 use Rattle.run_model.specs.Arguments.{is_there, is_constant, var_width}
 use Rattle.run_model.specs.Constants.{no_constant, IsNumbered, ConstantsAreNumbered}
 use Rattle.run_model.proofs.Tiling.{covers_by, covers, IsCovered, all_covered, among_bounds, among_true}
+use Rattle.std.proofs.lemmas.Option.{same_Some}
 
 -- the cell is of a variable that has the constant, among those from number v on
 pub record Named (xs : List VarValue) (v j : ℕ) (c : VarCell) : Type 0 where
@@ -83,13 +84,6 @@ named (x ∷ xs) v j w = ⊎_elim
 covered_by : (c : Option ℕ) (n j first : ℕ) → c ≡ Some first → is_among first n j ≡ true → covers_by c n j ≡ true
 covered_by c n j first e h = ap (λ o. covers_by o n j) e ∙ h
 
-some_is : (x y : ℕ) → Some x ≡ Some y → x ≡ y
-some_is x y h = ap (by_default x) h
-  where
-    by_default : ℕ → Option ℕ → ℕ
-    by_default d None = d
-    by_default d (Some k) = k
-
 module _ (b : BoundValue) where
   -- how many constants there are
   abbrev pub count : ℕ
@@ -154,7 +148,7 @@ module _ (b : BoundValue) where
         let own : covers (var_at b v) (first + i) ≡ true = covered_by (var_at b v).constant (length (var_at b v).start) (first + i) first at (among_true first (length (var_at b v).start) (first + i) (omega arith) (omega arith)) in
         let its : covers (var_at b m.number) (first + i) ≡ true = covered_by (var_at b m.number).constant (length (var_at b m.number).start) (first + i) m.first m.constant (among_true m.first (length (var_at b m.number).start) (first + i) m.from m.before) in
         let same : m.number ≡ v = ⊎_elim (λ (e : m.number ≡ v). e) (λ (ne : m.number ≢ v). absurd (apart (first + i) m.number v m.below lv ne its own)) (cases_eq m.number v) in
-        let firsts : m.first ≡ first = some_is m.first first (sym m.constant ∙ ap (λ n. (var_at b n).constant) same ∙ at) in
+        let firsts : m.first ≡ first = same_Some m.first first (sym m.constant ∙ ap (λ n. (var_at b n).constant) same ∙ at) in
         let variable : (constant_in b.vars 0 (first + i)).variable ≡ v = omega (arith, m.variable, same) in
         let component : (constant_in b.vars 0 (first + i)).component ≡ i = omega (arith, m.component, firsts) in
         ap₂ (λ x y. record { variable = x; component = y }) variable component

@@ -13,16 +13,7 @@ use Rattle.run_model.specs.Programs.{program_of}
 use Rattle.run_model.specs.Arguments.{dat_width}
 use Rattle.run_model.specs.Memory.{dat_start, var_start, memory_length, place_of, has_cell, first_memory, FirstMemoryHolds}
 use Rattle.run_model.proofs.Memory.{dat_there, var_there, dat_below, dats_follow}
-
--- one piece more
-one_piece : {X : Type 0} (f : X → List ℤ) (xs : List X) (i : ℕ) (d : X) → i < length xs
-    → length (flat_map f (take (suc i) xs)) ≡ length (flat_map f (take i xs)) + length (f (get_or xs i d))
-one_piece f xs i d lt =
-    let next : suc i ≡ i + 1 = omega arith in
-    ap (λ k. length (flat_map f (take k xs))) next ∙ ap (λ l. length (flat_map f l)) (take_more xs i d lt)
-    ∙ ap length (flat_map-append f (take i xs) (get_or xs i d ∷ []))
-    ∙ length-append (flat_map f (take i xs)) (f (get_or xs i d) ++ [])
-    ∙ ap (λ l. length (flat_map f (take i xs)) + length l) (append-nil (f (get_or xs i d)))
+use Rattle.lemmas.proofs.Lists.{one_piece}
 
 module _ (b : BoundValue) (dats : (d : ℕ) → d < dat_count b.mesh → IsDatAt b.mesh d) where
   abbrev of_dats : List ℤ

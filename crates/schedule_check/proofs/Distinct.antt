@@ -21,11 +21,7 @@ use Rattle.loop_plan.proofs.Exporting.{executed_held, sets_counted}
 use Rattle.loop_plan.proofs.PlanWriting.{exchanges_are_dats}
 use Rattle.schedule_check.specs.Mail.{AreDistinct, IsInside}
 use Rattle.schedule_check.proofs.Holds.{holds, in_range, pair_holds}
-
-pick : {A : Type 0} (xs : List A) (r : ℕ) → r < length xs → (x : A) × ((d : A) → get_or xs r d ≡ x)
-pick [] r l = absurd (omega arith)
-pick (x ∷ xs) zero l = (x, λ d. refl)
-pick (x ∷ xs) (suc r) l = pick xs r (omega arith)
+use Rattle.lemmas.proofs.Lists.{element_at}
 
 module _ (g : MeshValue) (h : Halos) (meshes : List RankMesh) (d : Distributed g h meshes) where
   there : (r : ℕ) → r < length meshes → r < d.owners.ranks
@@ -37,12 +33,12 @@ module _ (g : MeshValue) (h : Halos) (meshes : List RankMesh) (d : Distributed g
   apart : (r t : ℕ) → r < length meshes → t < set_count g → Apart (originals_in (sets_of meshes r) t)
   unfolding sets_of originals_in Apart
   apart r t lr lt =
-      let m : (x : RankMesh) × ((e : RankMesh) → get_or meshes r e ≡ x) = pick meshes r lr in
+      let m : (x : RankMesh) × ((e : RankMesh) → get_or meshes r e ≡ x) = element_at meshes r lr in
       let mesh : IsRankMesh g d.owners d.numbers r m.0 = subst (IsRankMesh g d.owners d.numbers r) (m.1 m.0) (d.distributed.are_meshes.ranks r m.0 (there r lr)) in
       let e : get_or (map (λ (x : RankMesh). x.sets.items) meshes) r [] ≡ m.0.sets.items = get_or-map (λ (x : RankMesh). x.sets.items) meshes r m.0 [] lr ∙ ap (λ (x : RankMesh). x.sets.items) (m.1 m.0) in
       let n : length m.0.sets.items ≡ set_count g = mesh.sets_count in
       let l : t < length m.0.sets.items = omega arith in
-      let s : (x : LocalSet) × ((e : LocalSet) → get_or m.0.sets.items t e ≡ x) = pick m.0.sets.items t l in
+      let s : (x : LocalSet) × ((e : LocalSet) → get_or m.0.sets.items t e ≡ x) = element_at m.0.sets.items t l in
       let is : IsLocalSet g d.owners d.numbers t r s.0 = subst (IsLocalSet g d.owners d.numbers t r) (s.1 s.0) (mesh.sets t s.0 lt) in
       let orig : originals_in (sets_of meshes r) t ≡ s.0.original = ap (λ (z : List LocalSet). get_or (map (λ (x : LocalSet). x.original) z) t []) e
       ∙ (get_or-map (λ (x : LocalSet). x.original) m.0.sets.items t s.0 [] l ∙ ap (λ (x : LocalSet). x.original) (s.1 s.0)) in

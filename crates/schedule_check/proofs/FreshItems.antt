@@ -21,8 +21,8 @@ use Rattle.loop_plan.specs.Pairs.{sets_of, core_in, passes, pairs_below}
 use Rattle.loop_plan.specs.StepOutline.{is_free, loop_of, loop_at, step_outline}
 use Rattle.schedule_check.specs.Froms.{froms, tos}
 use Rattle.schedule_check.specs.NewPlaces.{AreNewPlaces, AreColoured, blocks_of, inner_of}
-use Rattle.schedule_check.proofs.PlaceReads.{all_false}
 use Rattle.schedule_check.proofs.Holds.{holds, found, below_holds, in_range, nth_holds, no_pair, Apart, below_apart, pairs_few}
+use Rattle.lemmas.proofs.Numbers.{all_false}
 
 module _ (b : BoundValue) (meshes : List RankMesh) (p : PlanValue) (k : ℕ) where
   abbrev o : Outline

@@ -10,6 +10,7 @@ use Rattle.loop_plan.specs.Pairs.{pair, pairs_below}
 use Rattle.loop_plan.specs.declared.types.Pair.{Pair}
 use Rattle.loop_plan.proofs.Numbers.{is_listed, not_listed}
 use Rattle.schedule_check.specs.Froms.{froms, tos}
+use Rattle.std.proofs.Math.Bool.{or-false}
 
 pub holds : List Pair → ℕ → ℕ → Bool
 holds [] s r = false
@@ -80,10 +81,6 @@ wide_holds t n (suc m) s r l =
     and_no true = refl
     and_no false = refl
 
-or_no : (x : Bool) → (x || false) ≡ x
-or_no true = refl
-or_no false = refl
-
 -- a pair of a sender below m and a receiver below n that pass
 pub below_holds : (t : ℕ → ℕ → Bool) (n m s r : ℕ) → r < n → s < m → holds (pairs_below t n m) s r ≡ t s r
 below_holds t n zero s r lr ls = absurd (omega arith)
@@ -93,7 +90,7 @@ below_holds t n (suc m) s r lr ls =
     (λ (e : m ≡ s). ap (λ z. z || ((m == s) && list_any (nat_eq r) (listed n (t m)))) (past_holds t n m s r (omega arith))
     ∙ (ap (λ z. z && list_any (nat_eq r) (listed n (t m))) (eq-eqb m s e) ∙ (is_listed r n (t m) lr ∙ ap (λ z. t z r) e)))
     (λ (ne : m ≡ s → ⊥). ap (λ z. holds (pairs_below t n m) s r || (z && list_any (nat_eq r) (listed n (t m)))) (ne_eqb m s ne)
-    ∙ (or_no (holds (pairs_below t n m) s r) ∙ below_holds t n m s r lr (omega arith)))
+    ∙ (or-false (holds (pairs_below t n m) s r) ∙ below_holds t n m s r lr (omega arith)))
     (cases_eq m s))
 
 pub in_range : (t : ℕ → ℕ → Bool) (n m s r : ℕ) → holds (pairs_below t n m) s r ≡ true → (s < m) × (r < n)

@@ -8,6 +8,7 @@ use Rattle.step_marks.specs.NewRun.{IsNewRun}
 use Rattle.step_marks.specs.Run.{Run}
 use Rattle.loop_plan.specs.Pairs.{core_in}
 use Rattle.schedule_check.specs.NewPlaces.{AreNewPlaces, blocks_of, inner_of}
+use Rattle.lemmas.proofs.Numbers.{all_false}
 
 pub core_at : (sets : List LocalSet) (t : ℕ) (s : LocalSet) → t < length sets → (get_or sets t s).core.items ≡ core_in sets t
 unfolding core_in
@@ -32,12 +33,6 @@ one_more P d xs v k n last before a lt = ⊎_elim
     (λ (e : a ≡ k). subst (λ z. P z (get_or (xs ++ (v ∷ [])) z d)) (sym e) (subst (P k) (sym (get_or_push xs v d k n)) last))
     (λ (ne : a ≡ k → ⊥). (let l : a < k = omega arith in subst (P a) (sym (get_or_append_left xs (v ∷ []) d a (omega arith))) (before a l)))
     (cases_eq a k)
-
-pub all_false : (n i : ℕ) → get_or (replicate n false) i false ≡ false
-all_false n i = ⊎_elim
-    (λ (l : i < n). get_or-replicate n i false false l)
-    (λ (g : n ≤ i). get_or_past (replicate n false) i false (subst (λ z. z ≤ i) (sym (length-replicate n false)) g))
-    (cases_lt i n)
 
 -- the places with these colours and these core elements
 pub new_are : (size : ℕ) (blocks inner : List ℕ) (cores core : List Bool) (v : Run) → IsNewRun size blocks inner cores v

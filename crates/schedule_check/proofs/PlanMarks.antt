@@ -7,11 +7,11 @@ use Rattle.bound_program.specs.Values.{BoundValue}
 use Rattle.step_marks.specs.Item.{Item}
 use Rattle.step_marks.specs.Marked.{no_item}
 use Rattle.step_judge.specs.Fresh.{AreFresh}
-use Rattle.step_judge.proofs.Own.{grows}
 use Rattle.loop_plan.specs.Values.{PlanValue}
 use Rattle.loop_plan.specs.Distributed.{Distributed}
 use Rattle.loop_plan.specs.StepOutline.{step_outline}
 use Rattle.schedule_check.specs.ItemMarks.{AreItemMarks}
+use Rattle.lemmas.proofs.Numbers.{div_mono}
 
 -- there is a rank
 pub some_rank : (g : MeshValue) (h : Halos) (meshes : List RankMesh) → Distributed g h meshes → 0 < length meshes
@@ -34,5 +34,5 @@ are_fresh b meshes p ws ranks some few count items = record {
   items = count;
   each = λ k l. (items k (omega arith)).fresh;
   all = λ k r x. refl;
-  in_order = λ k r x y l. grows x y p.block (omega arith);
+  in_order = λ k r x y l. div_mono x y p.block (omega arith);
 }

@@ -14,7 +14,8 @@ use Rattle.flat_machine.specs.Flat.{StartsFlat}
 use Rattle.schedule_examples.specs.Ring.{other, x_cell, r_cell, x, r, sum, is_x, is_r, is_sum, kind, site, touch, reduces, digits, modifies, needs, ring, one_cell, base, is_variable, kept_variables, first_value}
 use Rattle.schedule_examples.specs.RingLayout.{cells, side, of_side, cell_at, exports, count, ring_layout, ring_start}
 use Rattle.schedule_examples.proofs.Lawful.{OfNode, of_node, owner_in, other_is, other_not, writes_own, is_merged, modified, all_edges}
-use Rattle.schedule_examples.proofs.Windows.{r_is, sum_is, two, same_test, is_x_of, all, run_is, same_length}
+use Rattle.schedule_examples.proofs.Windows.{r_is, sum_is, two, is_x_of, all, run_is, same_length}
+use Rattle.lemmas.proofs.Truth.{iff_eq}
 
 module _ (faulty : Bool) where
   -- ---- cells that exist
@@ -139,7 +140,7 @@ module _ (faulty : Bool) where
   window_modified (suc (suc (suc (suc n)))) e c fr lt m h = cc
 
   modified_is : (k e : ℕ) (c : DatCell) → kind k ≡ Free → e < 2 → is_modified (touch k e (Data c)) ≡ (modifies k c.dat && among (cells k e) (Data c))
-  modified_is k e c fr lt = same_test (is_modified (touch k e (Data c))) (modifies k c.dat && among (cells k e) (Data c))
+  modified_is k e c fr lt = iff_eq (is_modified (touch k e (Data c))) (modifies k c.dat && among (cells k e) (Data c))
       (λ h. and_from (modifies k c.dat) (among (cells k e) (Data c)) (modified faulty k e c fr lt h) (modified_held k e c fr lt h))
       (λ h. let a : (modifies k c.dat ≡ true) × (among (cells k e) (Data c) ≡ true) = and_parts (modifies k c.dat) (among (cells k e) (Data c)) h in window_modified k e c fr lt a.0 a.1)
 

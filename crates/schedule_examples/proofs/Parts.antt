@@ -15,6 +15,7 @@ use Rattle.schedule_examples.specs.RingArguments.{args, of_nodes, of_edges, arg,
 use Rattle.schedule_examples.proofs.Lawful.{of_node, x_no_r, other_is, other_not, goes, only_read, ordered}
 use Rattle.schedule_examples.proofs.Windows.{sum_is}
 use Rattle.schedule_examples.proofs.OnBuffers.{sum_only, below, of_below}
+use Rattle.lemmas.proofs.Truth.{iff_eq}
 
 abbrev of_one : ℕ → ℕ
 of_one d = 1
@@ -87,12 +88,6 @@ reads_x (suc (suc zero)) d m i h = cc
 reads_x (suc (suc (suc zero))) d m i h = cc
 reads_x (suc (suc (suc (suc n)))) d m i h = cc
 
--- ---- touches
-same_test : (b c : Bool) → (b ≡ true → c ≡ true) → (c ≡ true → b ≡ true) → b ≡ c
-same_test true c f g = sym (f refl)
-same_test false true f g = g refl
-same_test false false f g = refl
-
 -- the cell is the component 0 of dat d's element n
 abbrev hits : ℕ → ℕ → DatCell → Bool
 hits d n c = (d == c.dat) && ((n == c.element) && nat_lt c.component 1)
@@ -119,7 +114,7 @@ hit_node d n c lt h =
 
 -- a node's cell is hit from one side or the other
 both_sides : (d e : ℕ) (c : DatCell) → e < 2 → of_dat d c ≡ (hits d e c || hits d (other e) c)
-both_sides d e c lt = same_test (of_dat d c) (hits d e c || hits d (other e) c)
+both_sides d e c lt = iff_eq (of_dat d c) (hits d e c || hits d (other e) c)
     (λ h. ⊎_elim
     (λ (i : c.element ≡ e). or_left (hits d e c) (hits d (other e) c) (is_hit d e c (sym (of_node c d h).of_dat) (sym i) (component_0 d c h)))
     (λ (ne : c.element ≡ e → ⊥). or_right (hits d e c) (hits d (other e) c) (is_hit d (other e) c (sym (of_node c d h).of_dat) (sym (other_is false e c.element lt (of_node c d h).below ne)) (component_0 d c h)))
@@ -127,7 +122,7 @@ both_sides d e c lt = same_test (of_dat d c) (hits d e c || hits d (other e) c)
     (λ h. ⊎_elim (λ t. hit_node d e c lt t) (λ t. hit_node d (other e) c (below false e lt) t) (or_cases (hits d e c) (hits d (other e) c) h))
 
 own_side : (e : ℕ) (c : DatCell) → e < 2 → (is_x c && (c.element == e)) ≡ hits 0 e c
-own_side e c lt = same_test (is_x c && (c.element == e)) (hits 0 e c)
+own_side e c lt = iff_eq (is_x c && (c.element == e)) (hits 0 e c)
     (λ h. let a : (is_x c ≡ true) × ((c.element == e) ≡ true) = and_parts (is_x c) (c.element == e) h in
     is_hit 0 e c (sym (of_node c 0 a.0).of_dat) (sym (eqb-true c.element e a.1)) (component_0 0 c a.0))
     (λ h. and_from (is_x c) (c.element == e) (hit_node 0 e c lt h) (eq-eqb c.element e (sym (hit 0 e c h).1)))

@@ -11,6 +11,7 @@ use Rattle.flat_machine.specs.Layout.{Leaves, lookup, of_core}
 use Rattle.schedule_examples.specs.Ring.{other, x_cell, r_cell, sum_cell, one_cell, x, r, sum, one, base, is_x, is_r, is_sum, kind, written, added, moved, unless, run}
 use Rattle.schedule_examples.specs.RingLayout.{cells, unless_core, constant_of, core_run}
 use Rattle.schedule_examples.proofs.Lawful.{of_node}
+use Rattle.lemmas.proofs.Truth.{iff_eq}
 
 -- ---- cells
 -- a cell of a dat of the ring
@@ -46,14 +47,9 @@ two P a b (suc (suc n)) lt = absurd (omega arith)
 one_of : (y c : Cell) (v d : ℤ) → (y ≡ c → v ≡ d) → cond (same_cell y c) v d ≡ d
 one_of y c v d h = ⊎_elim (λ t. cond-true (same_cell y c) v d t ∙ h (same_cell_true y c t)) (λ t. cond-false (same_cell y c) v d t) (cases_Bool (same_cell y c))
 
-pub same_test : (b c : Bool) → (b ≡ true → c ≡ true) → (c ≡ true → b ≡ true) → b ≡ c
-same_test true c f g = sym (f refl)
-same_test false true f g = g refl
-same_test false false f g = refl
-
 -- the cell is x of the element
 pub is_x_of : (e : ℕ) (c : DatCell) → e < 2 → (is_x c && (c.element == e)) ≡ same_cell (x e) (Data c)
-is_x_of e c lt = same_test (is_x c && (c.element == e)) (same_cell (x e) (Data c))
+is_x_of e c lt = iff_eq (is_x c && (c.element == e)) (same_cell (x e) (Data c))
     (λ h. let a : (is_x c ≡ true) × ((c.element == e) ≡ true) = and_parts (is_x c) (c.element == e) h in
     subst (λ z. same_cell (x e) (Data z) ≡ true) (sym (x_is c a.0 ∙ ap x_cell (eqb-true c.element e a.1))) (same_cell_refl (x e)))
     (λ h. let i : x_cell e ≡ c = (let j : x e ≡ Data c = same_cell_true (x e) (Data c) h in cc) in

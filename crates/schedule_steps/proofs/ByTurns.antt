@@ -6,23 +6,15 @@ use Rattle.schedule_steps.specs.declared.step.Step.{Step}
 use Rattle.schedule_steps.specs.Steps.{IsStep, same, has, Accepted}
 use Rattle.schedule_steps.specs.Members.{has_push}
 use Rattle.schedule_steps.specs.Turns.{Takes, marked, Turns, nothing_taken}
-
-swap3 : (a b c : Bool) → (a || (b || c)) ≡ ((b || a) || c)
-swap3 true true c = refl
-swap3 true false c = refl
-swap3 false true c = refl
-swap3 false false c = refl
-
-or_false : (a : Bool) → (a || false) ≡ a
-or_false true = refl
-or_false false = refl
+use Rattle.lemmas.proofs.Truth.{or_swap}
+use Rattle.std.proofs.Math.Bool.{or-false}
 
 -- the marks after a list
 abbrev after : List Step → (Step → Bool) → Step → Bool
 after l m t = has l t || m t
 
 after_more : (s : Step) (l : List Step) (m : Step → Bool) → after l (marked s m) ≡ after (s ∷ l) m
-after_more s l m = λ i t. swap3 (has l t) (same t s) (m t) i
+after_more s l m = λ i t. or_swap (has l t) (same t s) (m t) i
 
 module _ (o : Outline) where
   turn_at : (pre : List Step) (s : Step) (post : List Step) (m : Step → Bool) → Turns o m (pre ++ (s ∷ post)) → Takes o (after pre m) s
@@ -35,10 +27,10 @@ module _ (o : Outline) where
 
   pub from_turns : (l : List Step) → Turns o nothing_taken l → Accepted o l
   from_turns l h = record {
-    whole = λ s plan. sym (or_false (has l s)) ∙ turns_end l nothing_taken h s plan;
+    whole = λ s plan. sym (or-false (has l s)) ∙ turns_end l nothing_taken h s plan;
     steps = λ pre s post e. (at pre s post e).planned;
-    once = λ pre s post e. sym (or_false (has pre s)) ∙ (at pre s post e).untaken;
-    order = λ pre s post e t plan early. sym (or_false (has pre t)) ∙ (at pre s post e).after t plan early;
+    once = λ pre s post e. sym (or-false (has pre s)) ∙ (at pre s post e).untaken;
+    order = λ pre s post e t plan early. sym (or-false (has pre t)) ∙ (at pre s post e).after t plan early;
   }
     where
       at : (pre : List Step) (s : Step) (post : List Step) → l ≡ pre ++ (s ∷ post) → Takes o (after pre nothing_taken) s

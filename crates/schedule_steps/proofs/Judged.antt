@@ -1,7 +1,7 @@
 -- The tests decide what they test.
 use Rattle.std.proofs.Common.{◌≡◌, ℕ, Bool, true, false, ◌⊎◌, inl, inr, refl, sym, ap, subst, ◌∙◌, ⊎_elim, Option, Some, None, List, [], ◌∷◌, ◌++◌}
 use Rattle.std.specs.Prelude.{◌&&◌, ◌==◌, nat_lt, not, is_none, ◌↔◌}
-use Rattle.std.proofs.lemmas.Bool.{cases_Bool, false≢true, false_from_ne_true, or_cases, or_left, or_right, and_parts, and_from, cond-true, cond-false, eqb-true, eq-eqb, ltb-true, lt-ltb, not_from_false, not_from_true}
+use Rattle.std.proofs.lemmas.Bool.{cases_Bool, false≢true, false_from_ne_true, or_cases, or_left, or_right, and_parts, and_from, cond-true, cond-false, eqb-true, eq-eqb, ltb-true, lt-ltb, not_from_false, not_from_true, not-true}
 use Rattle.schedule_steps.specs.Outline.{Outline, runs, by_colour}
 use Rattle.schedule_steps.specs.declared.step.Step.{Step}
 use Rattle.schedule_steps.specs.declared.step.Step.TheVariants.{Send, Recv, Begin, End, Join}
@@ -12,10 +12,6 @@ use Rattle.schedule_steps.specs.Standard.{standard}
 use Rattle.schedule_steps.specs.Judged.{is_step, rank_of, share_rank, is_earlier_in_item, is_earlier, first_of, missing, may_take, left_over, takes_all, is_accepted}
 use Rattle.schedule_steps.proofs.ByTurns.{by_turns}
 use Rattle.schedule_steps.proofs.Standard.{accepted}
-
-not_true : (b : Bool) → not b ≡ true → b ≡ false
-not_true true h = absurd (false≢true h)
-not_true false h = refl
 
 -- ---- steps of the plan
 module _ (o : Outline) where
@@ -48,7 +44,7 @@ module _ (o : Outline) where
   step_from (Recv k r s) h = passes k s r h
   step_from (Begin k r e) h = executes k r e h
   step_from (End k r e) h = executes k r e h
-  step_from (Join k) h = let a : (nat_lt k o.items ≡ true) × (not (o.is_free k) ≡ true) = and_parts (nat_lt k o.items) (not (o.is_free k)) h in (ltb-true k o.items a.0, not_true (o.is_free k) a.1)
+  step_from (Join k) h = let a : (nat_lt k o.items ≡ true) × (not (o.is_free k) ≡ true) = and_parts (nat_lt k o.items) (not (o.is_free k)) h in (ltb-true k o.items a.0, not-true (o.is_free k) a.1)
 
   step_to : (s : Step) → IsStep o s → is_step o s ≡ true
   step_to (Send k s r) h = is_passed k s r h
@@ -107,7 +103,7 @@ module _ (o : Outline) where
   in_item_from (Recv k r s) (Begin j a e) h =
       let u : ((k == j) ≡ true) × (((r == a) && not (o.is_core k r e)) ≡ true) = and_parts (k == j) ((r == a) && not (o.is_core k r e)) h in
       let v : ((r == a) ≡ true) × (not (o.is_core k r e) ≡ true) = and_parts (r == a) (not (o.is_core k r e)) u.1 in
-      subst (λ z. Earlier o (Recv k r s) (Begin z a e)) (eqb-true k j u.0) (subst (λ z. Earlier o (Recv k r s) (Begin k z e)) (eqb-true r a v.0) (received (not_true (o.is_core k r e) v.1)))
+      subst (λ z. Earlier o (Recv k r s) (Begin z a e)) (eqb-true k j u.0) (subst (λ z. Earlier o (Recv k r s) (Begin k z e)) (eqb-true r a v.0) (received (not-true (o.is_core k r e) v.1)))
   in_item_from (Begin k r e) (End j a f) h =
       let u : (k ≡ j) × (r ≡ a) × (e ≡ f) = same3_true k r e j a f h in
       subst (λ z. Earlier o (Begin k r e) (End z a f)) u.0 (subst (λ z. Earlier o (Begin k r e) (End k z f)) u.1 (subst (λ z. Earlier o (Begin k r e) (End k r z)) u.2 begun))
@@ -204,7 +200,7 @@ module _ (o : Outline) where
   missing_is m s t h =
       let f : (has (standard o 1) t ≡ true) × ((is_earlier o t s && not (m t)) ≡ true) = first_is (λ t. is_earlier o t s && not (m t)) (standard o 1) t h in
       let u : (is_earlier o t s ≡ true) × (not (m t) ≡ true) = and_parts (is_earlier o t s) (not (m t)) f.1 in
-      (planned t f.0, earlier_from o t s u.0, not_true (m t) u.1)
+      (planned t f.0, earlier_from o t s u.0, not-true (m t) u.1)
 
   takes_from : (m : Step → Bool) (s : Step) → may_take o m s ≡ true → Takes o m s
   takes_from m s h =
@@ -212,7 +208,7 @@ module _ (o : Outline) where
       let b : (not (m s) ≡ true) × (is_none (missing o m s) ≡ true) = and_parts (not (m s)) (is_none (missing o m s)) a.1 in
       record {
         planned = step_from o s a.0;
-        untaken = not_true (m s) b.0;
+        untaken = not-true (m s) b.0;
         after = λ t plan early. ⊎_elim
             (λ u. u)
             (λ (u : m t ≡ false). absurd (false≢true (sym (first_none (λ t. is_earlier o t s && not (m t)) (standard o 1) (none_is (missing o m s) b.1) t (stands t plan))
@@ -226,7 +222,7 @@ module _ (o : Outline) where
       (none_first (λ t. is_earlier o t s && not (m t)) (standard o 1)
       (λ t i. false_from_ne_true (is_earlier o t s && not (m t)) (λ u.
       let v : (is_earlier o t s ≡ true) × (not (m t) ≡ true) = and_parts (is_earlier o t s) (not (m t)) u in
-      false≢true (sym (not_true (m t) v.1) ∙ h.after t (planned t i) (earlier_from o t s v.0))))))
+      false≢true (sym (not-true (m t) v.1) ∙ h.after t (planned t i) (earlier_from o t s v.0))))))
 
   pub takes_test : (m : Step → Bool) (s : Step) → (may_take o m s ≡ true) ↔ Takes o m s
   takes_test m s = (takes_from m s, takes_to m s)
@@ -234,7 +230,7 @@ module _ (o : Outline) where
   pub left_is : (m : Step → Bool) (t : Step) → left_over o m ≡ Some t → IsStep o t × (m t ≡ false)
   left_is m t h =
       let f : (has (standard o 1) t ≡ true) × (not (m t) ≡ true) = first_is (λ t. not (m t)) (standard o 1) t h in
-      (planned t f.0, not_true (m t) f.1)
+      (planned t f.0, not-true (m t) f.1)
 
   turns_from : (l : List Step) (m : Step → Bool) → takes_all o m l ≡ true → Turns o m l
   turns_from [] m h = λ s plan. ⊎_elim

@@ -18,8 +18,8 @@ use Rattle.schedule_text.specs.declared.token.Keyword.TheVariants as keyword
 use Rattle.schedule_text.specs.Token.{keyword_of, word_text}
 use Rattle.schedule_text.specs.Spelling.{word_of, numbers_of, at_line, IsNumber, AreNumbers, IsStep, AreSteps}
 use Rattle.schedule_text.specs.Reading.{Begun, First, Second, Third, State, Magic, Version, Between, Numbers, End, step_of, opened, began, numbered, grown, first_word, so_far, step, finish, AreSome, Stands}
-use Rattle.texts.proofs.Chosen.{eq_itself}
 use Rattle.schedule_text.proofs.Running.{step-magic, step-version, step-between, step-numbers}
+use Rattle.lemmas.proofs.Lists.{bytes_eq_from}
 
 -- the tokens lead from one state to the other
 abbrev pub Goes : State → List Word → State → Type 0
@@ -33,10 +33,10 @@ goes_on : (p q r : State) (w : Word) (ws : List Word) → step p w ≡ Ok q → 
 goes_on p q r w ws k a = through-more step finish p q w ws k ∙ a
 
 magic_on : (w : Word) → w.text ≡ codes "op2sched" → step Magic w ≡ Ok Version
-magic_on w e = step-magic w (eq_itself w.text (codes "op2sched") e)
+magic_on w e = step-magic w (bytes_eq_from w.text (codes "op2sched") e)
 
 version_on : (w : Word) → w.text ≡ codes "1" → step Version w ≡ Ok (Between [])
-version_on w e = step-version w (eq_itself w.text (codes "1") e)
+version_on w e = step-version w (bytes_eq_from w.text (codes "1") e)
 
 -- ---- a step's first word, or `done`
 

@@ -20,20 +20,21 @@ use Rattle.schedule_text.specs.declared.token.Keyword.TheVariants as keyword
 use Rattle.schedule_text.specs.Token.{is_magic, is_version, rank_word_of, keyword_by, keyword_of, rank_text, word_text}
 use Rattle.schedule_text.specs.Spelling.{word_of, numbers_of, at_line, IsNumber, AreNumbers, IsStep, AreSteps, AreSchedule}
 use Rattle.schedule_text.specs.Reading.{Begun, First, Second, Third, State, Magic, Version, Between, Numbers, End, step_of, opened, began, numbered, grown, first_word, so_far, step, Stands}
-use Rattle.texts.proofs.Chosen.{chosen, ok_then, same_bytes}
 use Rattle.schedule_text.proofs.Running.{step-between, step-numbers, step-end}
+use Rattle.lemmas.proofs.Lists.{bytes_eq_same}
+use Rattle.lemmas.proofs.Truth.{cond_cases, ok_then}
 
 -- ---- what a token said
 
 rank_is : (text : List ℕ) (r : RankWord) → rank_word_of text ≡ Some r → text ≡ rank_text r
-rank_is text r h = elim (chosen (bytes_eq text (codes "begin")) (Some word.Begin) (cond (bytes_eq text (codes "end")) (Some word.End) (cond (bytes_eq text (codes "send")) (Some word.Send) (cond (bytes_eq text (codes "recv")) (Some word.Recv) None))) (Some r) h) [
-  | inl k ↦ let e : word.Begin ≡ r = cc in same_bytes text (codes "begin") k.0 ∙ ap rank_text e
-  | inr k ↦ elim (chosen (bytes_eq text (codes "end")) (Some word.End) (cond (bytes_eq text (codes "send")) (Some word.Send) (cond (bytes_eq text (codes "recv")) (Some word.Recv) None)) (Some r) k.1) [
-    | inl m ↦ let e : word.End ≡ r = cc in same_bytes text (codes "end") m.0 ∙ ap rank_text e
-    | inr m ↦ elim (chosen (bytes_eq text (codes "send")) (Some word.Send) (cond (bytes_eq text (codes "recv")) (Some word.Recv) None) (Some r) m.1) [
-      | inl n ↦ let e : word.Send ≡ r = cc in same_bytes text (codes "send") n.0 ∙ ap rank_text e
-      | inr n ↦ elim (chosen (bytes_eq text (codes "recv")) (Some word.Recv) None (Some r) n.1) [
-        | inl o ↦ let e : word.Recv ≡ r = cc in same_bytes text (codes "recv") o.0 ∙ ap rank_text e
+rank_is text r h = elim (cond_cases (bytes_eq text (codes "begin")) (Some word.Begin) (cond (bytes_eq text (codes "end")) (Some word.End) (cond (bytes_eq text (codes "send")) (Some word.Send) (cond (bytes_eq text (codes "recv")) (Some word.Recv) None))) (Some r) h) [
+  | inl k ↦ let e : word.Begin ≡ r = cc in bytes_eq_same text (codes "begin") k.0 ∙ ap rank_text e
+  | inr k ↦ elim (cond_cases (bytes_eq text (codes "end")) (Some word.End) (cond (bytes_eq text (codes "send")) (Some word.Send) (cond (bytes_eq text (codes "recv")) (Some word.Recv) None)) (Some r) k.1) [
+    | inl m ↦ let e : word.End ≡ r = cc in bytes_eq_same text (codes "end") m.0 ∙ ap rank_text e
+    | inr m ↦ elim (cond_cases (bytes_eq text (codes "send")) (Some word.Send) (cond (bytes_eq text (codes "recv")) (Some word.Recv) None) (Some r) m.1) [
+      | inl n ↦ let e : word.Send ≡ r = cc in bytes_eq_same text (codes "send") n.0 ∙ ap rank_text e
+      | inr n ↦ elim (cond_cases (bytes_eq text (codes "recv")) (Some word.Recv) None (Some r) n.1) [
+        | inl o ↦ let e : word.Recv ≡ r = cc in bytes_eq_same text (codes "recv") o.0 ∙ ap rank_text e
         | inr o ↦ absurd (cc o.1)
       ]
     ]
@@ -50,10 +51,10 @@ keyword_is text k h = go (rank_word_of text) refl h
   where
     go : (o : Option RankWord) → rank_word_of text ≡ o → keyword_by text o ≡ Some k → text ≡ key_text k
     go (Some r) e h = let m : keyword.Step (Rank r) ≡ k = cc in rank_is text r e ∙ ap key_text m
-    go None e h = elim (chosen (bytes_eq text (codes "join")) (Some (keyword.Step Join)) (cond (bytes_eq text (codes "done")) (Some keyword.Done) None) (Some k) h) [
-      | inl a ↦ let m : keyword.Step Join ≡ k = cc in same_bytes text (codes "join") a.0 ∙ ap key_text m
-      | inr a ↦ elim (chosen (bytes_eq text (codes "done")) (Some keyword.Done) None (Some k) a.1) [
-        | inl b ↦ let m : keyword.Done ≡ k = cc in same_bytes text (codes "done") b.0 ∙ ap key_text m
+    go None e h = elim (cond_cases (bytes_eq text (codes "join")) (Some (keyword.Step Join)) (cond (bytes_eq text (codes "done")) (Some keyword.Done) None) (Some k) h) [
+      | inl a ↦ let m : keyword.Step Join ≡ k = cc in bytes_eq_same text (codes "join") a.0 ∙ ap key_text m
+      | inr a ↦ elim (cond_cases (bytes_eq text (codes "done")) (Some keyword.Done) None (Some k) a.1) [
+        | inl b ↦ let m : keyword.Done ≡ k = cc in bytes_eq_same text (codes "done") b.0 ∙ ap key_text m
         | inr b ↦ absurd (cc b.1)
       ]
     ]
@@ -151,7 +152,7 @@ unfolding step
 behind_magic q ws w s h =
     let a = ok_then (is_magic w.text) (Ok Version) (Header w.line) q h in
     let e : Version ≡ q = cc (a.1) in
-    let stands : Stands (ws ++ w ∷ []) Version = (w, ap (λ xs. xs ++ w ∷ []) s, same_bytes w.text (codes "op2sched") a.0) in
+    let stands : Stands (ws ++ w ∷ []) Version = (w, ap (λ xs. xs ++ w ∷ []) s, bytes_eq_same w.text (codes "op2sched") a.0) in
     subst (Stands (ws ++ w ∷ [])) e stands
 
 behind_version : (q : State) (ws : List Word) (w : Word) → Stands ws Version → step Version w ≡ Ok q → Stands (ws ++ w ∷ []) q
@@ -159,7 +160,7 @@ unfolding step
 behind_version q ws w s h =
     let a = ok_then (is_version w.text) (Ok (Between [])) (Header w.line) q h in
     let e : Between [] ≡ q = cc (a.1) in
-    let part : AreSchedule (ws ++ w ∷ []) [] = (s.0, w, [], ap (λ xs. xs ++ w ∷ []) s.1, s.2, same_bytes w.text (codes "1") a.0, refl) in
+    let part : AreSchedule (ws ++ w ∷ []) [] = (s.0, w, [], ap (λ xs. xs ++ w ∷ []) s.1, s.2, bytes_eq_same w.text (codes "1") a.0, refl) in
     let stands : Stands (ws ++ w ∷ []) (Between []) = (part, omega arith) in
     subst (Stands (ws ++ w ∷ [])) e stands
 

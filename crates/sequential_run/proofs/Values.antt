@@ -13,6 +13,7 @@ use Rattle.run_model.specs.Hosts as hosts
 use Rattle.sequential_run.specs.Arrays.{Arrays}
 use Rattle.sequential_run.specs.Statements.{variable_cells}
 use Rattle.sequential_run.specs.Holds.{Holds}
+use Rattle.lemmas.proofs.Lists.{empty_from_length}
 
 -- a list of n values, each by its number
 listed : (f : ℕ → ℤ) (l : List ℤ) (n : ℕ) → length l ≡ n → ((i : ℕ) → i < n → get_or l i (pos 0) ≡ f i) → l ≡ map f (numbers n)
@@ -22,10 +23,6 @@ listed f l n long are = ext_get_or (pos 0) l (map f (numbers n))
     let li : i < n = omega (arith, lt, long) in
     are i li ∙ sym (get_or-map-range_with_len f 0 n i i (pos 0) li (omega arith)))
 
-empty : (l : List ℤ) → length l ≡ 0 → l ≡ []
-empty [] long = refl
-empty (x ∷ l) long = absurd (omega (arith, long))
-
 module _ (s : Store) where
   -- ---- dats
 
@@ -33,7 +30,7 @@ module _ (s : Store) where
   rows : (d w n x : ℕ) (l : List ℤ) → length l ≡ n * w
       → ((y i : ℕ) → y < n → i < w → get_or l (y * w + i) (pos 0) ≡ s (Data (record { dat = d; element = x + y; component = i })))
       → l ≡ map s (flat_map (λ y. map (λ i. Data (record { dat = d; element = y; component = i })) (numbers w)) (range_with_len x n))
-  rows d w zero x l long are = empty l (omega (arith, long))
+  rows d w zero x l long are = empty_from_length l (omega (arith, long))
   rows d w (suc n) x l long are =
       let enough : w ≤ length l = omega (arith, long) in
       let first : take w l ≡ map (λ i. s (Data (record { dat = d; element = x; component = i }))) (numbers w) =

@@ -15,7 +15,8 @@ use Rattle.name_resolution.specs.Mains.{place_name as place_name', declr_name, d
 use Rattle.name_resolution.specs.Programs.{other_decl, variable_decl, constant_cells, with_variable, after_variables, after_top, after_tops, named_in, file_of, tops_breaches, breaches}
 use Rattle.source_fits.specs.Assigned as known
 use Rattle.source_fits.specs.Assigned.{Known, found, knows, place_name, CanBeAssigned, Assigns, AllAssign, MainAssigns}
-use Rattle.source_fits.proofs.Nothing.{IsNil, left_nil, right_nil, or_false, never}
+use Rattle.source_fits.proofs.Nothing.{IsNil, left_nil, right_nil, never}
+use Rattle.std.proofs.lemmas.Bool.{or_parts}
 
 -- it is a variable that isn't `const`
 abbrev assignable : Decl → Bool
@@ -161,11 +162,11 @@ could fixed indexed t d e =
     let b1 = breach_if (names.is_out_of_reach d) rule.UnknownName t in
     let e2 = right_nil [] _ e in
     let e3 = right_nil (breach_if _ rule.NotAnArray t) _ e2 in
-    let thing = or_false (is_no_value d.sort) _ (no_breach _ rule.NotAScalar t (left_nil _ _ e3)) in
+    let thing = or_parts (is_no_value d.sort) _ (no_breach _ rule.NotAScalar t (left_nil _ _ e3)) in
     let e4 = right_nil (breach_if _ rule.NotAScalar t) _ e3 in
     let counter = no_breach (is_counter d.sort) rule.AssignsCounter t (left_nil _ _ e4) in
-    let kept = or_false d.is_const _ (no_breach (is_read_only false fixed d) rule.AssignsConst t (right_nil (breach_if (is_counter d.sort) rule.AssignsCounter t) _ e4)) in
-    let extern = or_false (is_extern d.sort) _ kept.1 in
+    let kept = or_parts d.is_const _ (no_breach (is_read_only false fixed d) rule.AssignsConst t (right_nil (breach_if (is_counter d.sort) rule.AssignsCounter t) _ e4)) in
+    let extern = or_parts (is_extern d.sort) _ kept.1 in
     let c0 = thing.0 in
     let c1 = extern.0 in
     let c2 = kept.0 in

@@ -16,10 +16,7 @@ use Rattle.source_fits.specs.Assigned.{Known, found, knows, after_host}
 use Rattle.source_fits.specs.Constants.{call_names, constant_names, all_constant_names}
 use Rattle.source_fits.specs.Hidden.{CallNamesNoOwn, NamesNoOwn, AllNameNoOwn}
 use Rattle.source_fits.proofs.Assigned.{Both, Like, like_found, like_more, like_host}
-
-or_none : (b : Bool) → b || false ≡ b
-or_none true = refl
-or_none false = refl
+use Rattle.std.proofs.Math.Bool.{or-false}
 
 or_assoc : (a b c : Bool) → (a || b) || c ≡ a || (b || c)
 or_assoc true b c = refl
@@ -34,7 +31,7 @@ module _ (x : List ℕ) where
   has_inserted names y = by (list_any (bytes_eq y) names) refl
     where
       there : list_any (bytes_eq y) names ≡ true → (b : Bool) → bytes_eq x y ≡ b → Has names ≡ Has names || (b || false)
-      there q false e = sym (or_none (Has names))
+      there q false e = sym (or-false (Has names))
       there q true e =
           let same : x ≡ y = (bytes_eq-Decides x y).0 e in
           let h : Has names ≡ true = subst (λ z. list_any (bytes_eq z) names ≡ true) (sym same) q in
@@ -50,16 +47,16 @@ module _ (x : List ℕ) where
   unhidden (Some o) d b e = cc
 
   call_has : (own : Names) (k : Known) (names : List (List ℕ)) (c : OpCallTree) → Like own k → CallNamesNoOwn k c → Has (named_by_call own names c) ≡ Has names || Has (call_names c)
-  call_has own k names (tree.CallInit at n) h i = sym (or_none (Has names))
-  call_has own k names (tree.DeclSet at y e l) h i = sym (or_none (Has names))
-  call_has own k names (tree.DeclMap at y from to n v l) h i = sym (or_none (Has names))
-  call_has own k names (tree.DeclDat at y on n u v l) h i = sym (or_none (Has names))
+  call_has own k names (tree.CallInit at n) h i = sym (or-false (Has names))
+  call_has own k names (tree.DeclSet at y e l) h i = sym (or-false (Has names))
+  call_has own k names (tree.DeclMap at y from to n v l) h i = sym (or-false (Has names))
+  call_has own k names (tree.DeclDat at y on n u v l) h i = sym (or-false (Has names))
   call_has own k names (tree.DeclConst at n l g) h i =
       let none = unhidden (found k g.name.name) (decl_in own g.name.name) (like_found g.name.name own k h) i in
       ap (λ o. Has (if is_some o then names else insert_key bytes_eq names g.name.name)) none ∙ has_inserted names g.name.name
-  call_has own k names (tree.ParLoop at f l on args) h i = sym (or_none (Has names))
-  call_has own k names (tree.Printf at l es) h i = sym (or_none (Has names))
-  call_has own k names (tree.PrintDat at y l) h i = sym (or_none (Has names))
+  call_has own k names (tree.ParLoop at f l on args) h i = sym (or-false (Has names))
+  call_has own k names (tree.Printf at l es) h i = sym (or-false (Has names))
+  call_has own k names (tree.PrintDat at y l) h i = sym (or-false (Has names))
 
   -- what two statements name, one behind the other
   two_have : (names first both : List (List ℕ)) (a b : List (List ℕ)) → Has first ≡ Has names || Has a → Has both ≡ Has first || Has b → Has both ≡ Has names || Has (a ++ b)
@@ -68,10 +65,10 @@ module _ (x : List ℕ) where
 
   mutual
     host_has : (own : Names) (k : Known) (names : List (List ℕ)) (s : HostTree) → Like own k → NamesNoOwn k s → Has (named_after own names s) ≡ Has names || Has (constant_names s)
-    host_has own k names (tree.HostDeclaration v) h i = sym (or_none (Has names))
+    host_has own k names (tree.HostDeclaration v) h i = sym (or-false (Has names))
     host_has own k names (tree.HostBlock at hs) h i = hosts_have own k names hs h i
-    host_has own k names (tree.HostEmpty at) h i = sym (or_none (Has names))
-    host_has own k names (tree.HostAssign a) h i = sym (or_none (Has names))
+    host_has own k names (tree.HostEmpty at) h i = sym (or-false (Has names))
+    host_has own k names (tree.HostAssign a) h i = sym (or-false (Has names))
     host_has own k names (tree.HostIf at e s) h i = host_has own k names s h i
     host_has own k names (tree.HostIfElse at e s t) h i =
         let first = named_after own names s in
@@ -83,7 +80,7 @@ module _ (x : List ℕ) where
     host_has own k names (tree.HostCall c) h i = call_has own k names c h i
 
     hosts_have : (own : Names) (k : Known) (names : List (List ℕ)) (hs : HostTrees) → Like own k → AllNameNoOwn k hs → Has (named_after_all own names hs) ≡ Has names || Has (all_constant_names hs)
-    hosts_have own k names tree.NoHost h i = sym (or_none (Has names))
+    hosts_have own k names tree.NoHost h i = sym (or-false (Has names))
     hosts_have own k names (tree.MoreHost s hs) h i =
         let first = named_after own names s in
         two_have names first (named_after_all (own_after own s) first hs) (constant_names s) (all_constant_names hs) (host_has own k names s h i.0)

@@ -19,7 +19,3 @@ IsFalse true = ⊥
 
 pub never : {X : Type 0} → true ≡ false → X
 never e = absurd (subst IsFalse (sym e) tt)
-
-pub or_false : (a b : Bool) → a || b ≡ false → (a ≡ false) × (b ≡ false)
-or_false true b e = never e
-or_false false b e = (refl, e)

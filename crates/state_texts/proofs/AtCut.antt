@@ -11,10 +11,10 @@ use Rattle.bound_program.specs.Values.{BoundValue, VarValue}
 use Rattle.run_model.specs.Windows.{numbers}
 use Rattle.run_model.specs.Hosts.{dat_cells}
 use Rattle.checkpoint.specs.Cut.{HasShape, starts, var_values, state_at}
-use Rattle.checkpoint.proofs.StateSaid.{map_fused, map_range}
 use Rattle.state_texts.specs.Laws.{CutsAreRead}
 use Rattle.state_texts.proofs.DatLines.{lengths_by_number}
 use Rattle.state_texts.proofs.Written.{IntegersAreRead, Small, AllSmall, state_read}
+use Rattle.lemmas.proofs.Lists.{map_map, map_range}
 
 module _ (s : Store) where
   -- ---- as many values as cells
@@ -48,7 +48,7 @@ module _ (s : Store) where
     shape_at k = record {
       vars = vars_long 0 b.vars;
       dats =
-          map_fused length (λ d. map s (dat_cells b d)) (numbers (dat_count b.mesh))
+          map_map length (λ d. map s (dat_cells b d)) (numbers (dat_count b.mesh))
           ∙ (map_range (λ d. length (map s (dat_cells b d))) (λ d. length (dat_values b.mesh d)) 0 (dat_count b.mesh) (λ i l. dat_long (0 + i) (let m : 0 + i < dat_count b.mesh = omega arith in m))
           ∙ lengths_by_number b.mesh);
     }

@@ -8,7 +8,6 @@ use Rattle.std.proofs.Math.Dec.{eqb-suc-zero}
 use Rattle.std.proofs.Math.Seq.{take-append_seam}
 use Rattle.op_num.specs.Spelling.{integer_of, i32_judged}
 use Rattle.op_num.specs.declared.refusals.NumRefusal.{NumRefusal}
-use Rattle.texts.proofs.Chosen.{eq_itself, same_bytes}
 use Rattle.line_texts.specs.Lines.{is_lf, HasNoLf, Unread, IsTaken, words}
 use Rattle.line_texts.proofs.Cutting.{joined}
 use Rattle.bound_program.specs.Values.{BoundValue}
@@ -20,13 +19,14 @@ use Rattle.state_texts.proofs.Judging.{fits_none, fits_one, fits_append, refused
 use Rattle.state_texts.proofs.Words.{no_lf_nil, no_lf_cons, words_row, spell_one}
 use Rattle.state_texts.proofs.OneLine.{no_line, first_line, lf_behind, values_line, item_is_line}
 use Rattle.state_texts.proofs.Telling.{words_are, told_empty}
+use Rattle.lemmas.proofs.Lists.{bytes_eq_from, bytes_eq_same, tails_same}
 
 -- ---- bytes
 
 pub bytes_dec : (xs ys : List ℕ) → (xs ≡ ys) ⊎ (xs ≡ ys → ⊥)
 bytes_dec xs ys = ⊎_elim
-    (λ (t : bytes_eq xs ys ≡ true). inl (same_bytes xs ys t))
-    (λ (f : bytes_eq xs ys ≡ false). inr (λ e. false≢true (sym f ∙ eq_itself xs ys e)))
+    (λ (t : bytes_eq xs ys ≡ true). inl (bytes_eq_same xs ys t))
+    (λ (f : bytes_eq xs ys ≡ false). inr (λ e. false≢true (sym f ∙ bytes_eq_from xs ys e)))
     (cases_Bool (bytes_eq xs ys))
 
 -- the first line, where there is one
@@ -187,9 +187,6 @@ module _ (b : BoundValue) where
 
 -- ---- the mark
 
-heads_gone : (c d : ℕ) (xs ys : List ℕ) → c ∷ xs ≡ d ∷ ys → xs ≡ ys
-heads_gone c d xs ys e = ap (drop 1) e
-
 abbrev pub Marked : List ℕ → Type 0
 Marked bytes = ((front : List ℕ) × (text : List ℕ) × IsSplit bytes front text) ⊎ HasNoMark bytes
 
@@ -203,15 +200,15 @@ mark_dec (c ∷ cs) = by (mark_dec cs) (bytes_dec (take 12 (c ∷ cs)) mark)
   where
     later : (front text : List ℕ) → IsSplit cs front text → (x y : List ℕ) → c ∷ cs ≡ x ++ (mark ++ y) → length x ≤ length (c ∷ front)
     later front text s [] y e = omega arith
-    later front text s (d ∷ x) y e = let l = s.last x y (heads_gone c d cs (x ++ (mark ++ y)) e) in omega arith
+    later front text s (d ∷ x) y e = let l = s.last x y (tails_same c d cs (x ++ (mark ++ y)) e) in omega arith
 
     first : HasNoMark cs → (x y : List ℕ) → c ∷ cs ≡ x ++ (mark ++ y) → length x ≤ 0
     first n [] y e = omega arith
-    first n (d ∷ x) y e = absurd (n x y (heads_gone c d cs (x ++ (mark ++ y)) e))
+    first n (d ∷ x) y e = absurd (n x y (tails_same c d cs (x ++ (mark ++ y)) e))
 
     none : HasNoMark cs → (take 12 (c ∷ cs) ≡ mark → ⊥) → HasNoMark (c ∷ cs)
     none n o [] y e = o (ap (take 12) e ∙ take-append_seam mark y)
-    none n o (d ∷ x) y e = n x y (heads_gone c d cs (x ++ (mark ++ y)) e)
+    none n o (d ∷ x) y e = n x y (tails_same c d cs (x ++ (mark ++ y)) e)
 
     by : Marked cs → (take 12 (c ∷ cs) ≡ mark) ⊎ (take 12 (c ∷ cs) ≡ mark → ⊥) → Marked (c ∷ cs)
     by (inl s) d = inl (c ∷ s.0, s.1, record { whole = ap (λ z. c ∷ z) s.2.whole; last = later s.0 s.1 s.2 })

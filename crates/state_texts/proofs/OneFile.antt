@@ -13,7 +13,8 @@ use Rattle.state_texts.specs.Laws.{SaysOneState, SaysOneRefusal, SaysNotBoth}
 use Rattle.state_texts.proofs.ItemLines.{NumbersAreRead, decimal_one}
 use Rattle.state_texts.proofs.Judging.{all_append}
 use Rattle.state_texts.proofs.VarLines.{flat}
-use Rattle.state_texts.proofs.OneReading.{fronts_same, flats_same, Same, First, Second, order_in, lines_one, fit_parts, line_refused, same_number}
+use Rattle.state_texts.proofs.OneReading.{flats_same, Same, First, Second, order_in, lines_one, fit_parts, line_refused, same_number}
+use Rattle.lemmas.proofs.Lists.{fronts_same}
 
 -- ---- the end is awaited last
 

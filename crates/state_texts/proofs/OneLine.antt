@@ -4,14 +4,14 @@ use Rattle.std.specs.Prelude.{codes}
 use Rattle.std.specs.Fmt.{decimal}
 use Rattle.std.specs.List.{All}
 use Rattle.std.specs.Str.{bytes_eq}
-use Rattle.std.proofs.lemmas.Bool.{false≢true}
+use Rattle.std.proofs.lemmas.Bool.{false≢true, not-false}
 use Rattle.std.proofs.lemmas.List.{append_cancel_right}
-use Rattle.texts.proofs.Chosen.{eq_itself, same_bytes}
 use Rattle.line_texts.specs.Lines.{HasNoLf, Unread, IsTaken, Takes, words, HasNoSpace}
 use Rattle.line_texts.proofs.Cutting.{one_line, one_cut}
 use Rattle.bound_program.specs.Values.{BoundValue}
 use Rattle.state_texts.specs.Reading.{Awaited, Item, Exactly, Values, Done, IsLine, HasValues, item_line, LineFits, AllFit, all, Refuses}
 use Rattle.state_texts.proofs.Words.{no_lf_nil, no_lf_cons, no_lf_append, decimal_no_lf, line_no_lf, spell_dark, row, words_row, row_no_lf}
+use Rattle.lemmas.proofs.Lists.{bytes_eq_from, bytes_eq_same}
 
 -- ---- lines
 
@@ -47,14 +47,10 @@ same_front xs ys e = append_cancel_right xs ys (10 ∷ []) e
 
 -- bytes that were compared
 pub bytes_differ : (xs ys : List ℕ) (r : Bool) → r ≡ not (bytes_eq xs ys) → r ≡ true → xs ≡ ys → ⊥
-bytes_differ xs ys r e t same = false≢true (sym (ap not (eq_itself xs ys same)) ∙ (sym e ∙ t))
-
-not_false : (b : Bool) → not b ≡ false → b ≡ true
-not_false true e = refl
-not_false false e = sym e
+bytes_differ xs ys r e t same = false≢true (sym (ap not (bytes_eq_from xs ys same)) ∙ (sym e ∙ t))
 
 pub bytes_same : (xs ys : List ℕ) (r : Bool) → r ≡ not (bytes_eq xs ys) → r ≡ false → xs ≡ ys
-bytes_same xs ys r e f = same_bytes xs ys (not_false (bytes_eq xs ys) (sym e ∙ f))
+bytes_same xs ys r e f = bytes_eq_same xs ys (not-false (bytes_eq xs ys) (sym e ∙ f))
 
 -- the line that was written
 pub written : (line made text : List ℕ) → made ++ 10 ∷ [] ≡ line → text ≡ made → text ++ 10 ∷ [] ≡ line

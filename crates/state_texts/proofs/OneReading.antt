@@ -6,23 +6,9 @@ use Rattle.state_texts.proofs.Words.{row, words_row, spell_one}
 use Rattle.state_texts.proofs.OneLine.{one_first, fit_is_line}
 use Rattle.state_texts.proofs.Telling.{words_are}
 use Rattle.state_texts.proofs.VarLines.{flat}
+use Rattle.lemmas.proofs.Lists.{fronts_same, head_same, tail_same}
 
 -- ---- lists
-
-head_same : {X : Type 0} → (x y : X) (xs ys : List X) → x ∷ xs ≡ y ∷ ys → x ≡ y
-head_same x y xs ys e = ap (λ zs. get_or zs 0 x) e
-
-tail_same : {X : Type 0} → (x y : X) (xs ys : List X) → x ∷ xs ≡ y ∷ ys → xs ≡ ys
-tail_same x y xs ys e = ap (drop 1) e
-
-pub fronts_same : {X : Type 0} → (xs ys more rest : List X) → length xs ≡ length ys → xs ++ more ≡ ys ++ rest → (xs ≡ ys) × (more ≡ rest)
-fronts_same [] [] more rest l e = (refl, e)
-fronts_same [] (y ∷ ys) more rest l e = absurd (omega arith)
-fronts_same (x ∷ xs) [] more rest l e = absurd (omega arith)
-fronts_same (x ∷ xs) (y ∷ ys) more rest l e =
-    let h : x ≡ y = head_same x y (xs ++ more) (ys ++ rest) e in
-    let t = fronts_same xs ys more rest (omega arith) (tail_same x y (xs ++ more) (ys ++ rest) e) in
-    (rw h (ap (λ zs. y ∷ zs) t.0), t.1)
 
 -- lists of the same lengths, one after another
 pub flats_same : (xs ys : List (List ℤ)) (more rest : List ℤ) → map length xs ≡ map length ys → flat xs ++ more ≡ flat ys ++ rest → (xs ≡ ys) × (more ≡ rest)

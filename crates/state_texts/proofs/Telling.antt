@@ -12,8 +12,9 @@ use Rattle.line_texts.specs.Lines.{words}
 use Rattle.line_texts.proofs.Cutting.{joined}
 use Rattle.state_texts.specs.Reading.{Spell, HasValues}
 use Rattle.state_texts.specs.Judged.{ToldIs}
-use Rattle.state_texts.proofs.Words.{row, words_row, spell_dark, spell_long, spell_push, dark_spaces, empty_list, not_empty}
+use Rattle.state_texts.proofs.Words.{row, words_row, spell_dark, spell_long, spell_push, dark_spaces}
 use Rattle.state_texts.proofs.OneLine.{values_cut, words_cut}
+use Rattle.lemmas.proofs.Lists.{empty_from_test, not_empty_from_test}
 
 -- ---- what is pushed
 
@@ -138,11 +139,11 @@ told_empty line zs true e count z = (
   record {
     words = [];
     spell = tt;
-    is = ap (λ (l : List ℕ). l ++ 10 ∷ []) (empty_list line true e refl);
+    is = ap (λ (l : List ℕ). l ++ 10 ∷ []) (empty_from_test line true e refl);
     count = sym z;
   },
 )
-told_empty line zs false e count z = λ more h. not_empty line false e refl (none h.words more h.spell (h.count ∙ z) (values_cut count line more h))
+told_empty line zs false e count z = λ more h. not_empty_from_test line false e refl (none h.words more h.spell (h.count ∙ z) (values_cut count line more h))
   where
     none : (ws : List (List ℕ)) (more : List ℤ) → Spell ws more → length more ≡ 0 → line ≡ row ws → line ≡ []
     none [] more s n l = l

@@ -79,13 +79,6 @@ decimal_no_lf n k d l = digit_not_lf (get_or (decimal n) k d) (AllPass-from_list
 
 -- ---- what nothing stands in
 
-pub empty_list : (xs : List ℕ) (r : Bool) → r ≡ nat_eq (length xs) 0 → r ≡ true → xs ≡ []
-empty_list [] r e t = refl
-empty_list (x ∷ xs) r e t = absurd (let n : length (x ∷ xs) ≡ 0 = eqb-true (length (x ∷ xs)) 0 (sym e ∙ t) in omega arith)
-
-pub not_empty : (xs : List ℕ) (r : Bool) → r ≡ nat_eq (length xs) 0 → r ≡ false → xs ≡ [] → ⊥
-not_empty xs r e f n = false≢true (sym f ∙ (e ∙ ap (λ (z : List ℕ). nat_eq (length z) 0) n))
-
 -- ---- lines
 
 pub line_no_lf : (xs ys : List ℕ) → HasNoLf (xs ++ 10 ∷ ys) → ⊥

@@ -7,6 +7,7 @@ use Rattle.schedule_steps.specs.Alike.{AlikeOutlines}
 use Rattle.step_marks.specs.Item.{run_at}
 use Rattle.step_marks.specs.Marked.{Marked, item_at, outline_of}
 use Rattle.step_judge.specs.Wanted.{AreMarksOf}
+use Rattle.lemmas.proofs.Numbers.{div_mono}
 
 pub alike_self : (o : Outline) → AlikeOutlines o o
 alike_self o = record {
@@ -19,12 +20,8 @@ alike_self o = record {
   colours = λ k r e f h i a b d. refl;
 }
 
-pub grows : (x y n : ℕ) → x ≤ y → x / n ≤ y / n
-grows x y zero l = omega (arith, div-zero x, div-zero y)
-grows x y (suc n) l = le-div (x / suc n) y (suc n) (omega arith) (let h : x / suc n * suc n ≤ x = div-mul-le_self x (suc n) in omega arith)
-
 pub own : (v : Marked) → AreMarksOf (outline_of v) v
 own v = record {
   alike = alike_self (outline_of v);
-  in_order = λ k r x y lt. grows x y (run_at (item_at v k) r).size (omega arith);
+  in_order = λ k r x y lt. div_mono x y (run_at (item_at v k) r).size (omega arith);
 }

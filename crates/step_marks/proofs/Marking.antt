@@ -14,6 +14,7 @@ use Rattle.schedule_steps.specs.Steps.{item, IsStep, same3, same}
 use Rattle.schedule_steps.specs.Alike.{AlikeOutlines}
 use Rattle.schedule_steps.specs.Judged.{is_step, rank_of, share_rank, is_earlier_in_item, is_earlier}
 use Rattle.step_marks.specs.Marked.{Marked, no_item, item_at, outline_of, taken, TakesOne}
+use Rattle.lemmas.proofs.Truth.{or_self}
 
 -- an item's shape: what never changes
 pub record SameItem (w u : Item) : Type 0 where
@@ -178,9 +179,6 @@ module _ (v : Marked) (k : ℕ) (u : Item) (inn : k < length v.items) (shape : S
         (λ t st lt of. h.marks t ∙ or_right (same t s) (taken v t)
         ((stands_iff v w.laid x (get_or at x 0) xl).0 (w.at_stands x xl) t (step_back t st) lt of));
   }
-
-or_self : (b c : Bool) → c ≡ false → b ≡ (c || b)
-or_self b c e = sym (ap (λ z. z || b) e)
 
 -- a message is sent
 module _ (v : Marked) (k s r : ℕ) (inn : k < length v.items) (paired : Paired (item_at v k)) (link : place_of (item_at v k) s r < length (item_at v k).sends.of) where

@@ -9,6 +9,7 @@ use Rattle.step_marks.specs.Ranked.{Ranked}
 use Rattle.step_marks.specs.Run.{Run, block_at, colour, inner, ended_at}
 use Rattle.step_marks.specs.RunKept.{Whole}
 use Rattle.step_marks.specs.NewRun.{IsFresh, IsNewRun}
+use Rattle.lemmas.proofs.Numbers.{all_false}
 
 -- tests of orders that are one are one
 lt_same : (a b x y : ℕ) → (a < b) ↔ (x < y) → nat_lt a b ≡ nat_lt x y
@@ -16,12 +17,6 @@ lt_same a b x y h = ⊎_elim
     (λ (l : a < b). lt-ltb a b l ∙ sym (lt-ltb x y (h.0 l)))
     (λ (g : b ≤ a). le-ltb a b g ∙ sym (le-ltb x y (⊎_elim (λ (l : x < y). (let k : a < b = h.1 l in absurd (omega arith))) (λ (m : y ≤ x). m) (cases_lt x y))))
     (cases_lt a b)
-
-all_false : (n i : ℕ) → get_or (replicate n false) i false ≡ false
-all_false n i = ⊎_elim
-    (λ (l : i < n). get_or-replicate n i false false l)
-    (λ (g : n ≤ i). get_or_past (replicate n false) i false (subst (λ z. z ≤ i) (sym (length-replicate n false)) g))
-    (cases_lt i n)
 
 -- one more behind others
 pub one_more : (P : ℕ → Marks → Type 0) (xs : List Marks) (v : Marks) (k : ℕ) → length xs ≡ k → P k v → ((a : ℕ) → a < k → P a (get_or xs a no_marks))

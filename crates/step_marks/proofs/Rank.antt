@@ -38,8 +38,3 @@ ranked_from colours sorted of n m there points = record {
     (λ h. (let g : (k : ℕ) × (k < length sorted) × (get_or sorted k 0 ≡ get_or colours i 0) = there i il in point_less sorted (get_or colours i 0) (get_or colours j 0) (get_or of i 0) (get_or of j 0) g.0 (points i il) (points j jl) g.1 g.2 h)),
   );
 }
-
-pub there_from : (colours sorted : List ℕ) → length sorted ≡ length colours → IsPermutation colours sorted → (i : ℕ) → i < length colours → (k : ℕ) × (k < length sorted) × (get_or sorted k 0 ≡ get_or colours i 0)
-there_from colours sorted n p i il =
-    let g : Contains sorted (get_or colours i 0) = Contains-permutation colours sorted (get_or colours i 0) p (i, il, get_or_default colours i (get_or colours i 0) 0 il) in
-    (g.0, g.1, get_or_default sorted g.0 0 (get_or colours i 0) g.1 ∙ g.2)

@@ -11,6 +11,7 @@ use Rattle.step_marks.specs.Kept.{Whole}
 use Rattle.schedule_steps.specs.Steps.{item, IsStep, same3, same}
 use Rattle.step_marks.specs.Marked.{Marked, no_item, item_at, outline_of, taken, TakesOne}
 use Rattle.step_marks.proofs.Marking.{SameItem, after, here, takes_from, whole_after, put}
+use Rattle.lemmas.proofs.Truth.{or_self}
 
 abbrev pub with_run : Item → ℕ → Run → Item
 with_run w r run = record { free = w.free; joined = w.joined; sends = w.sends; receipts = w.receipts; ranks = set w.ranks r run }
@@ -40,9 +41,6 @@ run_shape w r run lt h = record {
       (cases_eq x r);
   ranks = length-set w.ranks r run;
 }
-
-or_self : (b c : Bool) → c ≡ false → b ≡ (c || b)
-or_self b c e = sym (ap (λ z. z || b) e)
 
 -- the marks of a place before and after
 module _ (v : Marked) (k r p : ℕ) (run : Run) (inn : k < length v.items) (rank : r < length (item_at v k).ranks) (same_run : SamePlaces (run_at (item_at v k) r) run) where

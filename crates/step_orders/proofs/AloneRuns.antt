@@ -1,7 +1,7 @@
 -- Runs of one element each.
 use Rattle.std.proofs.Common.{◌≡◌, ℕ, zero, suc, ◌<◌, ◌≤◌, ◌+◌, ◌-◌, refl, sym, ap, ◌∙◌, arith, add-one, Bool, true, false, not, cond, List, [], ◌∷◌, ◌++◌, append_assoc}
 use Rattle.std.proofs.Common.{length, take, drop, get_or}
-use Rattle.std.proofs.lemmas.Bool.{false≢true}
+use Rattle.std.proofs.lemmas.Bool.{false≢true, not-true}
 use Rattle.schedule_steps.specs.Outline.{Outline}
 use Rattle.schedule_steps.specs.declared.step.Step.{Step}
 use Rattle.schedule_steps.specs.declared.step.Step.TheVariants.{Begin, End, Join}
@@ -40,14 +40,10 @@ run_ended k r runs p le e =
     ap (λ b. runs_left k r runs (record { run = p.run; at = p.at; ending = b })) e
     ∙ (run_over k r runs p.run p.at le ∙ at_run k r runs (p.run + 1))
 
-off : (b : Bool) → not b ≡ true → b ≡ false
-off true h = absurd (false≢true h)
-off false h = refl
-
 -- no element of a run was begun
 pub run_unbegun : (k r : ℕ) (runs : List (List ℕ)) (p : RunPlace) → p.at ≡ 0 → not p.ending ≡ true → runs_left k r runs p ≡ in_runs k r (drop p.run runs)
 run_unbegun k r runs p none e =
-    ap (λ b. runs_left k r runs (record { run = p.run; at = p.at; ending = b })) (off p.ending e)
+    ap (λ b. runs_left k r runs (record { run = p.run; at = p.at; ending = b })) (not-true p.ending e)
     ∙ (ap (λ a. runs_left k r runs (record { run = p.run; at = a; ending = false })) none ∙ at_run k r runs p.run)
 
 -- of the first some are taken

@@ -1,4 +1,3 @@
-pub mod Chosen
 pub mod Cutting
 pub mod Exact
 pub mod FewBytes

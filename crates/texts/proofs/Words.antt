@@ -9,6 +9,7 @@ use Rattle.std.specs.List.{list_all, flat_map}
 use Rattle.op_num.specs.Spelling.{number_after, number_of, integer_of, negated, plain}
 use Rattle.texts.specs.Cut.{text_of, dark}
 use Rattle.texts.specs.Lines.{IsToken, AreLines, on_line, placed}
+use Rattle.lemmas.proofs.Lists.{list_all_cons}
 
 -- the tokens of lines
 abbrev pub concat : List (List (List ℕ)) → List (List ℕ)
@@ -24,13 +25,6 @@ placed_texts line [] = refl
 placed_texts line ([] ∷ ls) = placed_texts line ls
 placed_texts line ((t ∷ ts) ∷ ls) = map-append text_of (map (on_line line) (t ∷ ts)) (placed (line + 1) ls) ∙ ap (λ xs. xs ++ map text_of (placed (line + 1) ls)) (on_texts line (t ∷ ts)) ∙ ap (λ xs. (t ∷ ts) ++ xs) (placed_texts (line + 1) ls)
 
-pub all_and : (p : ℕ → Bool) (x : ℕ) (xs : List ℕ) → p x ≡ true → list_all p xs ≡ true → list_all p (x ∷ xs) ≡ true
-all_and p x xs a b = rw a b
-
-pub all_append : (p : ℕ → Bool) (xs ys : List ℕ) → list_all p xs ≡ true → list_all p ys ≡ true → list_all p (xs ++ ys) ≡ true
-all_append p [] ys a b = b
-all_append p (x ∷ xs) ys a b = let k = and_parts (p x) (list_all p xs) a in all_and p x (xs ++ ys) k.0 (all_append p xs ys k.1 b)
-
 pub concat_append : (cs bs : List (List (List ℕ))) → concat (cs ++ bs) ≡ concat cs ++ concat bs
 concat_append cs bs = flat_map-append (λ l. l) cs bs
 
@@ -40,7 +34,7 @@ lines_append (c ∷ cs) bs a b = (a.0, lines_append cs bs a.1 b)
 
 -- numbers are tokens
 dark_by : (m c : ℕ) (cs : List ℕ) (n : ℕ) (t : Bool) → is_ascii_digit c ≡ t → cond t (number_after (m * 10 + (c - 48)) cs) None ≡ Some n → (number_after (m * 10 + (c - 48)) cs ≡ Some n → list_all dark cs ≡ true) → list_all dark (c ∷ cs) ≡ true
-dark_by m c cs n true t h r = let b : dark c ≡ true = grind (arith, nat_tests) in all_and dark c cs b (r h)
+dark_by m c cs n true t h r = let b : dark c ≡ true = grind (arith, nat_tests) in list_all_cons dark c cs b (r h)
 dark_by m c cs n false t h r = cc
 
 digits_dark : (m : ℕ) (ds : List ℕ) (n : ℕ) → number_after m ds ≡ Some n → list_all dark ds ≡ true
@@ -64,5 +58,5 @@ integer_token [] z h = cc
 integer_token (c ∷ cs) z h = go (nat_eq c 45) refl h
   where
     go : (t : Bool) → nat_eq c 45 ≡ t → cond t (negated (number_of cs)) (plain (number_of (c ∷ cs))) ≡ Some z → IsToken (c ∷ cs)
-    go true t h = let k = negated_some (number_of cs) z h in let b : dark c ≡ true = grind (arith, nat_tests) in (omega arith, all_and dark c cs b (number_token cs k.0 k.1).1)
+    go true t h = let k = negated_some (number_of cs) z h in let b : dark c ≡ true = grind (arith, nat_tests) in (omega arith, list_all_cons dark c cs b (number_token cs k.0 k.1).1)
     go false t h = let k = plain_some (number_of (c ∷ cs)) z h in number_token (c ∷ cs) k.0 k.1

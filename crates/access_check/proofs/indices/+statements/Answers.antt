@@ -1,9 +1,9 @@
 use Rattle.std.proofs.Common.{◌≡◌, ◌∙◌, sym, ap, ◌||◌, ◌+◌, ◌∷◌, drop}
 use Rattle.kernel_types.specs.declared.statements.RStmt.{RStmt}
 use Rattle.access_check.specs.Indices.{names_of, stmt_names, list_names}
-use Rattle.access_check.proofs.Assigning.{or_swap}
 use Rattle.access_check.proofs.Walks.{names_of_block, drop_here}
 use Rattle.access_check.proofs.indices.+statements.Goals as goal
+use Rattle.lemmas.proofs.Truth.{or_swap}
 
 pub loop-inner-init : goal.loop-inner-init
 loop-inner-init t c = λ k.

@@ -4,8 +4,9 @@ use Rattle.rank_sets.specs.Below.{any_below, count_below}
 use Rattle.rank_sets.proofs.Below.{any_more, count_agree}
 use Rattle.breadth_order.specs.Neighbours.{has_target}
 use Rattle.breadth_order.proofs.Near.{count_within}
-use Rattle.breadth_order.proofs.Marking.{count_none, or_and}
+use Rattle.breadth_order.proofs.Marking.{count_none}
 use Rattle.breadth_order.proofs.counts.mark_neighbours.Goals as goal
+use Rattle.lemmas.proofs.Truth.{or_and_right}
 
 pub loop-element-init : goal.loop-element-init
 loop-element-init c =
@@ -48,7 +49,7 @@ loop-element-preserved c =
           let h = λ (k : ℕ). has_target g m (get_or having k 0) y in
           c.mark_targets-count.ensures.marks y (omega (arith, n, l))
           ∙ (ap (λ z. z || (h j && not (nat_eq x y))) (inv.marks y l)
-          ∙ (or_and (any_below j h) (h j) (not (nat_eq x y))
+          ∙ (or_and_right (any_below j h) (h j) (not (nat_eq x y))
           ∙ ap (λ z. z && not (nat_eq x y)) (sym (any_more j h)))));
       others = λ y z d e. inv.others y z d (c.mark_targets-count.ensures.others y z d e);
     }

@@ -4,9 +4,10 @@ use Rattle.mesh_decl.specs.Mesh.{set_size, dat_set}
 use Rattle.mesh_decl.specs.Owners.{owner_of}
 use Rattle.bound_program.specs.Values.{bound_of}
 use Rattle.bound_chains.specs.Slices.{owns_pair}
-use Rattle.halo_lists.proofs.Steps.{any_step, eqb_comm}
+use Rattle.halo_lists.proofs.Steps.{any_step}
 use Rattle.chain_needs.proofs.OwnPairs.{owner_is}
 use Rattle.chain_slices.proofs.messages.add_dat.Goals as goal
+use Rattle.lemmas.proofs.Numbers.{nat_eq_comm}
 
 pub loop-element-preserved : goal.loop-element-preserved
 loop-element-preserved c = λ s r.
@@ -21,4 +22,4 @@ loop-element-preserved c = λ s r.
     (c.add_at.ensures s r
     ∙ (ap (λ z. has_at c.loop-element.to s r || (z && nat_eq c.rank_of.result s)) (c.ranks_of-ranks.ensures r)
     ∙ ap (λ z. has_at c.loop-element.to s r || (has_at c.args.others.now e r && z))
-    (eqb_comm c.rank_of.result s ∙ owner_is b o c.args.dat e s c.rank_of.result l (c.rank_of.ensures ∙ ap (λ z. owner_of o z e) set))))
+    (nat_eq_comm c.rank_of.result s ∙ owner_is b o c.args.dat e s c.rank_of.result l (c.rank_of.ensures ∙ ap (λ z. owner_of o z e) set))))

@@ -1,7 +1,8 @@
 use Rattle.std.proofs.Common.{◌||◌, nat_eq, arith, get_or, ap, ◌∙◌}
 use Rattle.std.proofs.lemmas.List.{length_push}
-use Rattle.halo_lists.proofs.Steps.{has_more, eqb_comm}
+use Rattle.halo_lists.proofs.Steps.{has_more}
 use Rattle.halo_lists.proofs.masks.owner_sets.Goals as goal
+use Rattle.lemmas.proofs.Numbers.{nat_eq_comm}
 
 pub loop-owner-preserved : goal.loop-owner-preserved
 loop-owner-preserved c =
@@ -9,5 +10,5 @@ loop-owner-preserved c =
     rw c.in_ok-push.ensures.items (
       omega (arith, length_push c.loop-owner.sets.items c.with.result, c.loop-owner.invariant.0),
       has_more c.loop-owner.sets.items c.with.result c.loop-owner.owner-index (λ x r. nat_eq (get_or c.args.owners.now x 0) r) c.loop-owner.invariant.0 c.loop-owner.invariant.1
-          (λ r. c.with.ensures r ∙ (ap (λ z. z || nat_eq r owner) (c.empty.ensures r) ∙ eqb_comm r owner)),
+          (λ r. c.with.ensures r ∙ (ap (λ z. z || nat_eq r owner) (c.empty.ensures r) ∙ nat_eq_comm r owner)),
     )

@@ -4,8 +4,8 @@ use Rattle.rank_sets.specs.Below.{row}
 use Rattle.rank_sets.specs.RankSet.{has, has_at}
 use Rattle.rank_sets.specs.declared.rank_set.RankSet.{RankSet}
 use Rattle.rank_sets.proofs.Appending.{listed_step}
-use Rattle.halo_lists.proofs.Steps.{eqb_comm}
 use Rattle.local_mesh.proofs.groups.push_copies.Goals as goal
+use Rattle.lemmas.proofs.Numbers.{nat_eq_comm}
 
 or_swap : (a b : Bool) → (a || b) ≡ (b || a)
 or_swap true true = refl
@@ -15,7 +15,7 @@ or_swap false false = refl
 
 -- the owner beside those that import
 all : (either one : RankSet) (owner : ℕ) (e n : Bool) (r : ℕ) → has either r ≡ (e || n) → has one r ≡ (has either r || nat_eq r owner) → has one r ≡ (nat_eq owner r || (e || n))
-all either one owner e n r h k = k ∙ (ap (λ z. z || nat_eq r owner) h ∙ (or_swap (e || n) (nat_eq r owner) ∙ ap (λ z. z || (e || n)) (eqb_comm r owner)))
+all either one owner e n r h k = k ∙ (ap (λ z. z || nat_eq r owner) h ∙ (or_swap (e || n) (nat_eq r owner) ∙ ap (λ z. z || (e || n)) (nat_eq_comm r owner)))
 
 pub push_each-requires : goal.push_each-requires
 unfolding has_at

@@ -3,13 +3,13 @@ use Rattle.std.proofs.lemmas.Bool.{eqb-true}
 use Rattle.rank_sets.specs.Below.{row}
 use Rattle.rank_sets.specs.RankSet.{has}
 use Rattle.rank_sets.specs.declared.rank_set.RankSet.{RankSet}
-use Rattle.halo_lists.proofs.Steps.{eqb_comm}
 use Rattle.local_mesh.proofs.Inverse.{ordered_step}
 use Rattle.local_mesh.proofs.groups.push_owned.Goals as goal
+use Rattle.lemmas.proofs.Numbers.{nat_eq_comm}
 
 -- the set of one rank
 alone : (none one : RankSet) (owner : ℕ) → ((r : ℕ) → has none r ≡ false) → ((r : ℕ) → has one r ≡ (has none r || nat_eq r owner)) → (r : ℕ) → has one r ≡ nat_eq owner r
-alone none one owner without with r = with r ∙ (ap (λ z. z || nat_eq r owner) (without r) ∙ eqb_comm r owner)
+alone none one owner without with r = with r ∙ (ap (λ z. z || nat_eq r owner) (without r) ∙ nat_eq_comm r owner)
 
 pub push_each-requires : goal.push_each-requires
 push_each-requires c =

@@ -3,10 +3,10 @@ use Rattle.local_mesh.specs.declared.types.RankMesh.{RankMesh}
 use Rattle.bound_program.specs.Values.{bound_of}
 use Rattle.bound_program.specs.Fits.{site_at}
 use Rattle.loop_plan.specs.Places.{reducing, places_of, maps_of}
-use Rattle.loop_plan.proofs.Exporting.{pick}
 use Rattle.loop_plan.proofs.SetReads.{sets_at, maps_at}
 use Rattle.loop_plan.proofs.SitePlanning.{args_are, colours_moved}
 use Rattle.loop_plan.proofs.sites.site_plan.Goals as goal
+use Rattle.lemmas.proofs.Lists.{element_at}
 
 pub colours_by_rank-requires-clause-args : goal.colours_by_rank-requires-clause-args
 colours_by_rank-requires-clause-args c = λ r m l.
@@ -26,7 +26,7 @@ returns c =
       places = c.in_ok-places.ensures.places;
       colours_count = c.in_ok-colours.ensures.count;
       colours = λ r d l. (
-          let m : RankMesh = (pick meshes r l).0 in
+          let m : RankMesh = (element_at meshes r l).0 in
           colours_moved b.mesh (get_or meshes r m).maps.items (maps_of meshes r) c.deref.result.now (reducing (site_at b c.args.site).args)
           (get_or c.deref-2.result.now r 0) (places_of meshes (site_at b c.args.site) r) c.args.block (get_or c.in_ok-colours.colours.items r d)
           (maps_at meshes r m l)

@@ -1,8 +1,8 @@
 use Rattle.std.proofs.Common.{◌≡◌, ℕ, true, false, nat_eq, get_or, arith, subst}
-use Rattle.std.proofs.lemmas.Bool.{eq-eqb}
+use Rattle.std.proofs.lemmas.Bool.{eq-eqb, and_from}
 use Rattle.mesh_decl.specs.Mesh.{map_count, map_from, map_to}
 use Rattle.partition.specs.Derive.{leads_to_known}
-use Rattle.partition.proofs.Firsts.{first_from, both_true}
+use Rattle.partition.proofs.Firsts.{first_from}
 use Rattle.partition.proofs.next.map_to_known.Goals as goal
 
 pub returns-then-known-to-clause-some : goal.returns-then-known-to-clause-some
@@ -13,4 +13,4 @@ returns-then-known-to-clause-some c =
     let f : map_from g m ≡ c.args.set = subst (λ (z : ℕ × ℕ × ℕ). z.0 ≡ c.args.set) e c.if-from-set.true in
     let k : get_or c.args.known.now (map_to g m) false ≡ true = subst (λ (z : ℕ × ℕ × ℕ). get_or c.args.known.now z.1 false ≡ true) e c.if-known-to.true in
     first_from (map_count g) (leads_to_known g (λ s. get_or c.args.known.now s false) c.args.set) m (omega (arith, c.loop-map-test.true, c.loop-map.auto.map-end, c.map_count-map-end.ensures.count))
-    (both_true (nat_eq (map_from g m) c.args.set) (get_or c.args.known.now (map_to g m) false) (eq-eqb (map_from g m) c.args.set f) k) c.loop-map.invariant
+    (and_from (nat_eq (map_from g m) c.args.set) (get_or c.args.known.now (map_to g m) false) (eq-eqb (map_from g m) c.args.set f) k) c.loop-map.invariant

@@ -3,8 +3,9 @@ use Rattle.mesh_decl.specs.Mesh.{set_count, map_count}
 use Rattle.rank_sets.specs.Below.{any_below}
 use Rattle.rank_sets.proofs.Below.{any_from}
 use Rattle.partition.specs.Derive.{can_follow_names, leads_from_known}
-use Rattle.partition.proofs.Firsts.{first_from, both_true}
+use Rattle.partition.proofs.Firsts.{first_from}
 use Rattle.partition.proofs.next.next_by_names.Goals as goal
+use Rattle.std.proofs.lemmas.Bool.{and_from}
 
 pub returns-in-Some-clause-some : goal.returns-in-Some-clause-some
 returns-in-Some-clause-some c =
@@ -13,6 +14,6 @@ returns-in-Some-clause-some c =
     let known : ℕ → Bool = λ t. get_or c.args.known.now t false in
     let first = c.in-Some.ensures.some in (
       first_from (set_count g) (can_follow_names g known) s (omega (arith, c.loop-set-test.true, c.loop-set.auto.set-end, c.set_count-set-end.ensures.count))
-          (both_true (not (known s)) (any_below (map_count g) (leads_from_known g known s)) (rw c.if-not-known-set.true refl) (any_from (map_count g) (leads_from_known g known s) c.in-Some.map first.within first.passes)) c.loop-set.invariant,
+          (and_from (not (known s)) (any_below (map_count g) (leads_from_known g known s)) (rw c.if-not-known-set.true refl) (any_from (map_count g) (leads_from_known g known s) c.in-Some.map first.within first.passes)) c.loop-set.invariant,
       first,
     )

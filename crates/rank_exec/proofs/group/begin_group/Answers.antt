@@ -1,6 +1,6 @@
 use Rattle.std.proofs.Common.{arith, ◌≡◌, ◌≤◌, ◌*◌, ◌∙◌, ap, sym, length, subst}
-use Rattle.rank_memory.proofs.Vecs.{refilled}
 use Rattle.rank_exec.proofs.group.begin_group.Goals as goal
+use Rattle.lemmas.proofs.Lists.{refilled}
 
 pub returns-clause-group : goal.returns-clause-group
 returns-clause-group g c most fits =

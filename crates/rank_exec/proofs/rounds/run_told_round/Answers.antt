@@ -1,6 +1,5 @@
 use Rattle.std.proofs.Common.{◌≡◌, ◌++◌, List, length, sym, ap, subst, ◌∙◌}
 use Rattle.std.specs.Vec.{with_items}
-use Rattle.rank_memory.proofs.Vecs.{refilled}
 use Rattle.rank_machine.specs.OnRanks.{places_on}
 use Rattle.rank_exec.proofs.GatheredGroups.{Lists}
 use Rattle.schedule_steps.specs.declared.step.Step.{Step}
@@ -12,6 +11,7 @@ use Rattle.rank_exec.proofs.Driving.{ready_front}
 use Rattle.rank_exec.proofs.Closing.{groups_front}
 use Rattle.rank_exec.proofs.Several.{all_can, all_done}
 use Rattle.rank_exec.proofs.rounds.run_told_round.Goals as goal
+use Rattle.lemmas.proofs.Lists.{refilled}
 
 pub run_round-requires-clause-can : goal.run_round-requires-clause-can
 run_round-requires-clause-can g c κs within =

@@ -1,8 +1,8 @@
 use Rattle.std.proofs.Common.{◌<◌, List, ℕ, length, get_or, arith, sym, subst}
 use Rattle.local_mesh.specs.Parts.{AreSorted}
-use Rattle.local_mesh.proofs.Stands.{contains_get}
 use Rattle.local_mesh.proofs.Looking.{lookup_is}
 use Rattle.local_mesh.proofs.lookup.Lookup.new.Goals as goal
+use Rattle.lemmas.proofs.Lists.{contains_at}
 
 pub locals_of-requires : goal.locals_of-requires
 locals_of-requires c =
@@ -13,7 +13,7 @@ locals_of-requires c =
     (λ k l. (
     let f = sorted.found k l in
     let w = c.requires.parts.within f.0 f.1 in
-    subst (λ z. z < length c.number_locals.new.numbers) (contains_get xs (get_or ys k 0) f) (omega (arith, c.number_locals.auto.numbers))))
+    subst (λ z. z < length c.number_locals.new.numbers) (contains_at xs (get_or ys k 0) f) (omega (arith, c.number_locals.auto.numbers))))
 
 pub returns : goal.returns
 returns c =

@@ -1,7 +1,7 @@
 use Rattle.std.proofs.Common.{ℤ, ◌∙◌, List, All, Vec, Global, length, sym, ap, subst}
 use Rattle.rank_memory.specs.Spare.{HasSpare}
-use Rattle.rank_memory.proofs.Vecs.{refilled}
 use Rattle.rank_machine.proofs.machine.Machine.element.Goals as goal
+use Rattle.lemmas.proofs.Lists.{refilled}
 
 pub invariant_of-self : goal.invariant_of-self
 invariant_of-self c =

@@ -9,7 +9,6 @@ use Rattle.rank_state.specs.Machine.{State}
 use Rattle.rank_memory.specs.Spare.{HasSpare}
 use Rattle.rank_memory.specs.Stops.{stop_in}
 use Rattle.rank_memory.proofs.Views.{lists}
-use Rattle.rank_memory.proofs.Vecs.{refilled}
 use Rattle.rank_program.specs.AloneRuns.{Share}
 use Rattle.rank_program.specs.Rooms.{HasRoomOf}
 use Rattle.rank_program.specs.Sound.{setup_in, layout_in, tables_in}
@@ -17,6 +16,7 @@ use Rattle.rank_machine.specs.declared.ranks.RankPart.{RankPart}
 use Rattle.rank_machine.specs.OnRanks.{share_in, lent, CanRunOn, RanOn, RanOnRanks, RanLent, share_at, places_on, kept_of_all, with_shares}
 use Rattle.rank_machine.proofs.OnRanks.{can_all, ran_all, made_many, spare_all, space_all, same_rows, same_partials}
 use Rattle.rank_machine.proofs.machine.Machine.on_ranks.Goals as goal
+use Rattle.lemmas.proofs.Lists.{refilled}
 
 pub run_lent-kept-requires-clause-can : goal.run_lent-kept-requires-clause-can
 run_lent-kept-requires-clause-can g c κs within =

@@ -1,11 +1,11 @@
 use Rattle.std.proofs.Common.{◌≡◌, ℕ, ℤ, List, length, sym, ap, subst, ◌∙◌, None}
-use Rattle.rank_memory.proofs.Vecs.{refilled}
 use Rattle.rank_memory.specs.Stops.{stop_in}
 use Rattle.rank_program.specs.AloneRuns.{AllBegin, Reaches}
 use Rattle.rank_program.specs.Sound.{setup_in, layout_in, tables_in}
 use Rattle.rank_machine.specs.OnRanks.{places_on, share_in}
 use Rattle.rank_machine.proofs.OnRanks.{place_is}
 use Rattle.rank_machine.proofs.ranks.RoundPartJobRankPart.run.Goals as goal
+use Rattle.lemmas.proofs.Lists.{refilled}
 
 pub run_places-part-requires-clause-steps : goal.run_places-part-requires-clause-steps
 run_places-part-requires-clause-steps c =

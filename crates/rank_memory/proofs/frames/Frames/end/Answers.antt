@@ -9,8 +9,9 @@ use Rattle.rank_state.specs.Spans.{cells_at}
 use Rattle.rank_state.specs.Frames.{Panes, Pane, Shut, pane_at, with_pane, shut, closed}
 use Rattle.rank_memory.specs.Slots.{Tied, no_slot, entry, entries, with_entry, panes_in, pane_of, of_entry, held_pane}
 use Rattle.rank_memory.proofs.Slots.{Table, shut_panes, tied_shut}
-use Rattle.rank_memory.proofs.Vecs.{Rows, lists, refilled, Stands, stands}
+use Rattle.rank_memory.proofs.Vecs.{Rows, lists, Stands, stands}
 use Rattle.rank_memory.proofs.frames.Frames.end.Goals as goal
+use Rattle.lemmas.proofs.Lists.{refilled}
 
 abbrev of_parts : List (List Pane) → ℕ → ℕ → Panes
 of_parts ps l st = record { panes = ps; left = l; stride = st }

@@ -7,8 +7,9 @@ use Rattle.rank_state.specs.Spans.{cells_at}
 use Rattle.kernel_types.specs.declared.faults.KernelFault.{KernelFault}
 use Rattle.flat_machine.specs.Layout.{Leaves}
 use Rattle.rank_memory.proofs.Slots.{Table, opened_panes, tied_opened, last_free}
-use Rattle.rank_memory.proofs.Vecs.{Rows, lists, refilled, Stands, stands}
+use Rattle.rank_memory.proofs.Vecs.{Rows, lists, Stands, stands}
 use Rattle.rank_memory.proofs.frames.Frames.open.Goals as goal
+use Rattle.lemmas.proofs.Lists.{refilled}
 
 abbrev of_parts : List (List Pane) → ℕ → ℕ → Panes
 of_parts ps l st = record { panes = ps; left = l; stride = st }

@@ -7,8 +7,9 @@ use Rattle.rank_memory.specs.Slots.{Tied, panes_in, entries, with_entry}
 use Rattle.kernel_types.specs.declared.faults.KernelFault.{KernelFault}
 use Rattle.flat_machine.specs.Layout.{Faults}
 use Rattle.rank_memory.proofs.Slots.{Table, opened_panes, tied_opened, last_free}
-use Rattle.rank_memory.proofs.Vecs.{Rows, lists, refilled, Stands, stands}
+use Rattle.rank_memory.proofs.Vecs.{Rows, lists, Stands, stands}
 use Rattle.rank_memory.proofs.frames.Frames.open_broken.Goals as goal
+use Rattle.lemmas.proofs.Lists.{refilled}
 
 abbrev of_parts : List (List Pane) → ℕ → ℕ → Panes
 of_parts ps l st = record { panes = ps; left = l; stride = st }

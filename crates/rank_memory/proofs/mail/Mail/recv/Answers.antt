@@ -6,8 +6,8 @@ use Rattle.rank_state.specs.Mail.{Post, Box, Carries, first_post, without_first,
 use Rattle.rank_memory.specs.Letters.{posts_in, cells_of, index_of, offset_of, found, Positive}
 use Rattle.rank_memory.proofs.Letters.{cells_append, posts_append, posts_front, positive_append, positive_take, positive_drop, at_least}
 use Rattle.rank_memory.proofs.Finding.{has_letter, whole_message, offset_is, first_found, rest_found}
-use Rattle.rank_memory.proofs.Vecs.{refilled}
 use Rattle.rank_memory.proofs.mail.Mail.recv.Goals as goal
+use Rattle.lemmas.proofs.Lists.{refilled}
 
 abbrev of_parts : List Post → ℕ → Box
 of_parts ps n = record { posts = ps; left = n }

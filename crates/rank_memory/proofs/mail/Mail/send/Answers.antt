@@ -6,8 +6,8 @@ use Rattle.rank_state.specs.Mail.{Post, Box, sent}
 use Rattle.rank_memory.specs.Letters.{post_with, posts_in, cells_of, Positive}
 use Rattle.rank_memory.proofs.Letters.{cells_append, posts_append, posts_front, positive_append}
 use Rattle.rank_memory.proofs.Panes.{gathered_length}
-use Rattle.rank_memory.proofs.Vecs.{refilled}
 use Rattle.rank_memory.proofs.mail.Mail.send.Goals as goal
+use Rattle.lemmas.proofs.Lists.{refilled}
 
 abbrev of_parts : List Post → ℕ → Box
 of_parts ps n = record { posts = ps; left = n }

@@ -2,12 +2,13 @@ use Rattle.std.proofs.Common.{◌≡◌, ◌<◌, true, ℕ, rules, eqb, ap, ◌
 use Rattle.std.specs.Int.{bit_at}
 use Rattle.std.proofs.lemmas.Bool.{eqb-true, eq-eqb}
 use Rattle.rank_sets.specs.RankSet.{has}
-use Rattle.rank_sets.proofs.Bits.{empty_bit, none_zero}
+use Rattle.rank_sets.proofs.Bits.{none_zero}
 use Rattle.rank_sets.proofs.rank_set.RankSet.is_empty.Goals as goal
+use Rattle.lemmas.proofs.Numbers.{zero_bit}
 
 pub returns : goal.returns
 unfolding has
 returns c = (
-  λ (h : eqb c.args.self.bits 0 ≡ true) (k : ℕ) (l : k < 64). ap (λ (z : ℕ). eqb (bit_at z k) 1) (eqb-true c.args.self.bits 0 h) ∙ empty_bit k,
+  λ (h : eqb c.args.self.bits 0 ≡ true) (k : ℕ) (l : k < 64). ap (λ (z : ℕ). eqb (bit_at z k) 1) (eqb-true c.args.self.bits 0 h) ∙ zero_bit k,
   λ h. eq-eqb c.args.self.bits 0 (none_zero c.args.self.bits (search rules) h),
 )
