@@ -2,7 +2,7 @@
 use Rattle.std.proofs.Common.{◌≡◌, ℕ, zero, suc, ℤ, pos, negsuc, ◌-◌, List, Option, Some, None, Bool, true, false, ◌&&◌, ◌||◌, refl, sym, ap, ◌∙◌}
 use Rattle.std.specs.Prelude.{nat_lt}
 use Rattle.c_lex.specs.declared.tokens.Pos.{Pos}
-use Rattle.reductions.specs.Access.{Access}
+use Rattle.op_num.specs.Access.{Access}
 use Rattle.c_tree.specs.declared.expressions.MinMax.{MinMax}
 use Rattle.kernel_types.specs.declared.expressions.RExpr.{RExpr}
 use Rattle.kernel_types.specs.declared.expressions.RExpr.TheVariants.{Number, Scalar, Constant, Arg', Local', Const', Unary', Binary', Choice', Paren', Extremum', Absolute'}

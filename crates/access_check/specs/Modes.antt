@@ -1,6 +1,6 @@
 -- Modes of arguments as the definitions of the access rules have them.
 use Rattle.std.specs.Prelude.{ℕ, ◌≤◌, List, length, map}
-use Rattle.reductions.specs.Access.{access_of}
+use Rattle.op_num.specs.Access.{access_of}
 use Rattle.kernel_model.specs.Obeys as model
 use Rattle.kernel_model.specs.Obeys.{mode_at}
 use Rattle.access_check.specs.declared.modes.Mode.{Mode}

@@ -6,7 +6,7 @@ ghost use Rattle.kernel_model.specs.Obeys.{KernelObeys};
 ghost use Rattle.kernel_model.specs.Walk as model;
 ghost use Rattle.kernel_model.specs.Refusals.{opposite, parameter_place};
 ghost use Rattle.kernel_model.specs.Walk.{all_below, is_op_write};
-ghost use Rattle.reductions.specs.Access.{access_of};
+ghost use Rattle.op_num.specs.Access.{access_of};
 ghost use Rattle.access_check.specs.Modes.{model_of, AreSmall};
 ghost use Rattle.access_check.specs.Found.{found_of};
 ghost use Rattle.access_check.specs.Refusals.{Refuses, Disobeys};

@@ -17,5 +17,5 @@ mod walking;
 pub use checking::check;
 pub use kernel_types::{Pos, RKernel};
 pub use modes::{Mode, are_small};
-pub use reductions::Access;
+pub use op_num::reductions::Access;
 pub use refusals::AccessRefusal;

@@ -5,7 +5,7 @@ ghost use Rattle.kernel_model.specs.Obeys.{mode_at};
 ghost use Rattle.access_check.specs.Modes.{model_of, AreSmall};
 
 use crate::components::ARGUMENTS;
-use reductions::Access;
+use op_num::reductions::Access;
 
 /// What a kernel may do to an argument, and how many components its target has.
 #[derive(Clone, Copy, Debug, PartialEq, Eq)]

@@ -4,7 +4,7 @@ ghost use Rattle.std.specs.Prelude.{◌≡◌, ◌≤◌, ◌<◌, ◌⊎◌, �
 ghost use Rattle.kernel_model.specs.Refusals.{argument_of, is_target, is_sum, is_extremum, is_read, belongs, opposite, sum_reads};
 ghost use Rattle.kernel_model.specs.Walk.{is_op_read, is_op_write, is_op_reduce, is_op_inc, is_op_extremum, is_unknown, is_out};
 ghost use Rattle.kernel_model.specs.Walk.{is_unwritten, event_found, with_rules};
-ghost use Rattle.reductions.specs.Access.{access_of};
+ghost use Rattle.op_num.specs.Access.{access_of};
 ghost use Rattle.access_check.specs.Modes.{model_of, AreSmall};
 ghost use Rattle.access_check.specs.Found.{found_of};
 ghost use Rattle.access_check.specs.States.{has_component, number_of};
@@ -15,7 +15,7 @@ use crate::found::{Breach, Rule, with_rule};
 use crate::modes::{Mode, mode_of};
 use c_tree::MinMax;
 use kernel_types::Pos;
-use reductions::Access;
+use op_num::reductions::Access;
 
 /// How a component is used.
 #[derive(Clone, Copy, Debug, PartialEq, Eq)]

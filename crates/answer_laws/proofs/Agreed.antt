@@ -10,10 +10,10 @@ use Rattle.kernel_model.specs.Refusals.{ObeysUnlessBroken, OneRefusal}
 use Rattle.kernel_model.specs.Walk.{Breach, WalkFinds}
 use Rattle.name_resolution.specs.Programs as names
 use Rattle.name_resolution.specs.Programs.{Resolves}
-use Rattle.mesh_text.specs.Spelling.{Named}
-use Rattle.mesh_text.specs.Reading.{Read, Reads as Spelled}
+use Rattle.mesh_decl.specs.Spelling.{Named}
+use Rattle.mesh_decl.specs.Reading.{Read, Reads as Spelled}
 use Rattle.kernel_model.specs.Trees.{WalksAlike}
-use Rattle.bind_refusals.specs.declared.refusals.BindRefusal.{BindRefusal}
+use Rattle.bound_program.specs.declared.refusals.refusals.BindRefusal.{BindRefusal}
 use Rattle.bound_program.specs.Values.{BoundValue}
 use Rattle.loop_bind.specs.Bound.{bound}
 use Rattle.bound_plan.specs.OneRun.{KernelsAreOne}
@@ -22,7 +22,7 @@ use Rattle.op_outside.specs.Outside.{Files}
 use Rattle.command_words.specs.Refusal.{SourceBytes, MeshBytes, Refusal}
 use Rattle.answer_lines.specs.Lines.{Answer, done, refused, line_of}
 use Rattle.answers.specs.Said.{SaysTypes, SaysMesh, SaysBinding}
-use Rattle.mesh_text.specs.declared.entry.Form.{Form}
+use Rattle.mesh_decl.specs.declared.text.entry.Form.{Form}
 use Rattle.mesh_gen.specs.Sample.{sample_source, sample_mesh}
 use Rattle.command_words.specs.Words.{ChainJob, ChainOptions, PlanJob, Options, Input, InFiles, OfSample, Command, OnPlan, OnChains, Converts, Translates, Restores, ShowsUsage, ShowsVersion, WordsAre}
 use Rattle.answers.specs.Judgements.{TextIs, SourceIs, FileIs, MeshIs, TreeIs, TypesAre, TranslationIs, RestorationIs, EntriesAre, BoundIs, AccessesAre}

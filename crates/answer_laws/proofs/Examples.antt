@@ -3,7 +3,7 @@ use Rattle.std.proofs.Common.{◌≡◌, true, false, [], ◌∷◌, Some, None,
 use Rattle.std.specs.Fmt.{digits}
 use Rattle.op_num.specs.declared.refusals.Fault.TheVariants.{DivZero}
 use Rattle.clap.proofs.OnLiterals.{clap_on_literals}
-use Rattle.mesh_text.specs.declared.entry.Form.TheVariants as form
+use Rattle.mesh_decl.specs.declared.text.entry.Form.TheVariants as form
 use Rattle.command_words.specs.Refusal.{CannotRead, TooDeep, NoTokens, BadName, BadTarget, BadAccess, BadMesh, BadCut, BadState, BadPart, BadPartition, BadPlan, BadSchedule, BadStep, EarlyStep, LeftStep, BadStub, BeyondLimit, StateBytes, PartitionBytes, PlanBytes, Steps, ScheduleSteps, SetSize, Usage}
 use Rattle.answer_lines.specs.Lines.{line_of, fault_line}
 use Rattle.distribute.specs.Parts.{Block, Bisect, Grow}

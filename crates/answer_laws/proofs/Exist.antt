@@ -15,11 +15,11 @@ use Rattle.name_resolution.specs.Programs as names
 use Rattle.name_resolution.specs.Programs.{Resolves, resolved}
 use Rattle.kernel_model.specs.Refusals.{ObeysUnlessBroken, OneRefusal}
 use Rattle.kernel_model.specs.Walk.{WalkFinds}
-use Rattle.mesh_text.specs.declared.entry.MeshRefusal.TheVariants as mesh
-use Rattle.mesh_text.specs.Spelling.{Named, Spells}
-use Rattle.mesh_text.specs.Reading.{Read, Reads as Spelled, Refuses}
-use Rattle.bind_refusals.specs.declared.refusals.BindRefusal.{BindRefusal}
-use Rattle.bind_refusals.specs.declared.refusals.BindRefusal.TheVariants as bind
+use Rattle.mesh_decl.specs.declared.text.entry.MeshRefusal.TheVariants as mesh
+use Rattle.mesh_decl.specs.Spelling.{Named, Spells}
+use Rattle.mesh_decl.specs.Reading.{Read, Reads as Spelled, Refuses}
+use Rattle.bound_program.specs.declared.refusals.refusals.BindRefusal.{BindRefusal}
+use Rattle.bound_program.specs.declared.refusals.refusals.BindRefusal.TheVariants as bind
 use Rattle.bound_program.specs.Values.{BoundValue}
 use Rattle.loop_bind.specs.Bound.{bound}
 use Rattle.op_outside.specs.Outside.{Files}

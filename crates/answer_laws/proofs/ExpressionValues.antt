@@ -11,17 +11,17 @@ use Rattle.kernel_model.specs.Numbers.{Value, is_zero, is_settled}
 use Rattle.kernel_model.specs.Operators.{IsNumber}
 use Rattle.kernel_model.specs.Meaning.{and_then, index_in}
 use Rattle.kernel_model.proofs.Ranges.{operators_stay_in_range}
-use Rattle.mesh_text.specs.declared.entry.Form.TheVariants as form
-use Rattle.bind_refusals.specs.declared.refusals.BindRefusal.TheVariants as refusal
-use Rattle.bind_refusals.specs.Refusals.{found_if}
+use Rattle.mesh_decl.specs.declared.text.entry.Form.TheVariants as form
+use Rattle.bound_program.specs.declared.refusals.refusals.BindRefusal.TheVariants as refusal
+use Rattle.bound_program.specs.Refusals.{found_if}
 use Rattle.bound_program.specs.HostExpr.{value, is_static}
-use Rattle.main_names.specs.declared.scopes.Meaning.{Meaning}
-use Rattle.main_names.specs.declared.scopes.Meaning.TheVariants as m
-use Rattle.main_names.specs.Names.{Names, Scope, means, named_in, or_else}
-use Rattle.main_names.specs.Expressions.{read, resolved, asked, known, first_token, judged_static, judged_value}
-use Rattle.main_trace.specs.Steps.{Asked}
-use Rattle.main_trace.specs.Trace.{number}
-use Rattle.source_fits.specs.Sources.{HasNumbers}
+use Rattle.main_declarations.specs.declared.names.scopes.Meaning.{Meaning}
+use Rattle.main_declarations.specs.declared.names.scopes.Meaning.TheVariants as m
+use Rattle.main_declarations.specs.Names.{Names, Scope, means, named_in, or_else}
+use Rattle.main_declarations.specs.Expressions.{read, resolved, asked, known, first_token, judged_static, judged_value}
+use Rattle.bound_program.specs.Steps.{Asked}
+use Rattle.bound_program.specs.Trace.{number}
+use Rattle.loop_bind.specs.Sources.{HasNumbers}
 use Rattle.main_declarations.proofs.Judged.{Gives, gives_then, gives_unless}
 use Rattle.answer_laws.proofs.SpelledValues.{Num, zero_num, AllNum, num_at}
 

@@ -14,27 +14,27 @@ use Rattle.c_tree.specs.Print.{sign_at, word_at, named_word, word_if, commas, de
 use Rattle.kernel_types.specs.declared.kernels.ConstDecl.{ConstDecl}
 use Rattle.mesh_decl.specs.Mesh.{MeshValue}
 use Rattle.mesh_decl.specs.Printed.{conversions}
-use Rattle.mesh_text.specs.declared.entry.Entry.{Entry}
-use Rattle.mesh_text.specs.declared.entry.Entry.TheVariants.{One, Many}
-use Rattle.mesh_text.specs.Spelling.{Named}
-use Rattle.bind_refusals.specs.declared.refusals.BindRefusal.TheVariants as refusal
-use Rattle.bind_refusals.specs.Refusals.{Judged, ◌>>=◌, found_if}
+use Rattle.mesh_decl.specs.declared.text.entry.Entry.{Entry}
+use Rattle.mesh_decl.specs.declared.text.entry.Entry.TheVariants.{One, Many}
+use Rattle.mesh_decl.specs.Spelling.{Named}
+use Rattle.bound_program.specs.declared.refusals.refusals.BindRefusal.TheVariants as refusal
+use Rattle.bound_program.specs.Refusals.{Judged, ◌>>=◌, found_if}
 use Rattle.bound_program.specs.Values.{VarValue, Line, Print}
-use Rattle.main_names.specs.declared.walks.Spot.{Spot}
-use Rattle.main_names.specs.declared.scopes.Cells.{Cells}
-use Rattle.main_names.specs.declared.scopes.Meaning.{Meaning}
-use Rattle.main_names.specs.declared.scopes.Meaning.TheVariants as m
-use Rattle.main_names.specs.Names.{means}
-use Rattle.main_names.specs.Expressions.{resolved, judged_static, judged_value}
-use Rattle.main_names.specs.Meanings.{dat_of, or_zero, values_named}
-use Rattle.main_names.specs.SoFar.{Declared, Walked, does, behind, with_var, first_cell}
-use Rattle.main_trace.specs.Steps.{Asked, Do, Loop, Fix, Block, Choose, Repeat, NoStep}
-use Rattle.main_trace.specs.Limited.{ToldValue}
+use Rattle.main_declarations.specs.declared.names.walks.Spot.{Spot}
+use Rattle.main_declarations.specs.declared.names.scopes.Cells.{Cells}
+use Rattle.main_declarations.specs.declared.names.scopes.Meaning.{Meaning}
+use Rattle.main_declarations.specs.declared.names.scopes.Meaning.TheVariants as m
+use Rattle.main_declarations.specs.Names.{means}
+use Rattle.main_declarations.specs.Expressions.{resolved, judged_static, judged_value}
+use Rattle.main_declarations.specs.Meanings.{dat_of, or_zero, values_named}
+use Rattle.main_declarations.specs.SoFar.{Declared, Walked, does, behind, with_var, first_cell}
+use Rattle.bound_program.specs.Steps.{Asked, Do, Loop, Fix, Block, Choose, Repeat, NoStep}
+use Rattle.bound_program.specs.Limited.{ToldValue}
 use Rattle.main_declarations.specs.Declarations.{with_dat, set_decl_found, map_decl_found, dat_decl_found, judged_set, judged_map, judged_dat}
 use Rattle.main_declarations.specs.Variables.{with_file_value, judged_file_declr, judged_file_declrs, with_fixed, with_fixed_later, with_turning, const_at, judged_declr, judged_declrs, file_cells, with_constant, after_constant, constant_decl_found, judged_constant}
 use Rattle.main_declarations.specs.File.{judged_extern, judged_array, judged_top, judged_tops}
-use Rattle.main_text.specs.Arguments.{with_extern, extern_var, after_global, after_globals, loop_found, site, judged_loop}
-use Rattle.main_text.specs.Text.{nested, turning, line_found, declares, judged_call, opened, followed_by, ended, with_counter, judged_bounds, judged_host, judged_hosts}
+use Rattle.loop_bind.specs.Arguments.{with_extern, extern_var, after_global, after_globals, loop_found, site, judged_loop}
+use Rattle.loop_bind.specs.Text.{nested, turning, line_found, declares, judged_call, opened, followed_by, ended, with_counter, judged_bounds, judged_host, judged_hosts}
 use Rattle.loop_bind.specs.Weights.{started, with_told}
 use Rattle.loop_bind.specs.Bound.{text}
 use Rattle.main_declarations.proofs.Judged.{Gives, gives_then, gives_weaker, gives_unless, gives_any}

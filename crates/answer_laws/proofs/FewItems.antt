@@ -11,15 +11,15 @@ use Rattle.c_tree.specs.Print.{Mark, sign_at, named_word, vars, tops, hosts, arg
 use Rattle.c_tree.specs.Reads.{Reads}
 use Rattle.kernel_types.specs.declared.kernels.Resolved.{Resolved}
 use Rattle.mesh_decl.specs.Mesh.{dat_count}
-use Rattle.mesh_text.specs.Spelling.{Named}
-use Rattle.bind_refusals.specs.Refusals.{Judged}
+use Rattle.mesh_decl.specs.Spelling.{Named}
+use Rattle.bound_program.specs.Refusals.{Judged}
 use Rattle.bound_program.specs.Limits.{max_trace}
 use Rattle.bound_program.specs.Values.{BoundValue, VarValue, ItemValue}
-use Rattle.main_names.specs.SoFar.{Walked, quiet, nothing_declared}
-use Rattle.main_trace.specs.Trace.{Event, Turn, Does, Tells, Stops}
-use Rattle.main_trace.specs.Limited.{UnrolledValue, before, item, told, unrolled}
+use Rattle.main_declarations.specs.SoFar.{Walked, quiet, nothing_declared}
+use Rattle.bound_program.specs.Trace.{Event, Turn, Does, Tells, Stops}
+use Rattle.bound_program.specs.Limited.{UnrolledValue, before, item, told, unrolled}
 use Rattle.main_declarations.specs.File.{judged_tops}
-use Rattle.main_text.specs.Text.{outermost, judged_hosts}
+use Rattle.loop_bind.specs.Text.{outermost, judged_hosts}
 use Rattle.loop_bind.specs.Weights.{within_weight, weight_of_all, trace}
 use Rattle.loop_bind.specs.Bound.{text, happens, finished, unrolled_text, bound}
 use Rattle.main_declarations.proofs.Judged.{Gives, gives_then, gives_weaker, gives_any}

@@ -6,16 +6,16 @@ use Rattle.c_tree.specs.Tree.{ProgramTree}
 use Rattle.kernel_types.specs.declared.kernels.Resolved.{Resolved}
 use Rattle.mesh_decl.specs.declared.decl.DatDecl.{DatDecl}
 use Rattle.mesh_decl.specs.Mesh.{dat_values}
-use Rattle.mesh_text.specs.Spelling.{Named, Spells}
+use Rattle.mesh_decl.specs.Spelling.{Named, Spells}
 use Rattle.bound_program.specs.HostExpr.{value}
 use Rattle.bound_program.specs.Limits.{max_trace}
 use Rattle.bound_program.specs.Values.{BoundValue, VarValue, no_var}
 use Rattle.bound_program.specs.Fits.{var_at}
-use Rattle.main_names.specs.SoFar.{Walked, quiet, nothing_declared}
-use Rattle.main_trace.specs.Limited.{ToldValue, unrolled}
+use Rattle.main_declarations.specs.SoFar.{Walked, quiet, nothing_declared}
+use Rattle.bound_program.specs.Limited.{ToldValue, unrolled}
 use Rattle.main_declarations.specs.File.{judged_tops}
-use Rattle.main_text.specs.Text.{outermost, judged_hosts}
-use Rattle.source_fits.specs.Sources.{TopIsRead, HostsAreRead}
+use Rattle.loop_bind.specs.Text.{outermost, judged_hosts}
+use Rattle.loop_bind.specs.Sources.{TopIsRead, HostsAreRead}
 use Rattle.loop_bind.specs.Weights.{started, with_told, within_weight, weight_of_all, trace}
 use Rattle.loop_bind.specs.Bound.{text, happens, finished, unrolled_text, bound}
 use Rattle.main_declarations.proofs.Judged.{Gives, gives_then, gives_any}

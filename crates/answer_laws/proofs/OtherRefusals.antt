@@ -10,20 +10,20 @@ use Rattle.name_resolution.specs.declared.refusals.TypeRefusal.{TypeRefusal}
 use Rattle.name_resolution.specs.declared.refusals.TypeRefusal.TheVariants as types
 use Rattle.op_translate.specs.declared.refusals.TransRefusal.{TransRefusal}
 use Rattle.op_translate.specs.declared.refusals.TransRefusal.TheVariants as trans
-use Rattle.mesh_text.specs.declared.entry.MeshRefusal.{MeshRefusal}
-use Rattle.mesh_text.specs.declared.entry.MeshRefusal.TheVariants as mesh
-use Rattle.bind_refusals.specs.declared.refusals.BindRefusal.{BindRefusal}
-use Rattle.bind_refusals.specs.declared.refusals.BindRefusal.TheVariants as bind
+use Rattle.mesh_decl.specs.declared.text.entry.MeshRefusal.{MeshRefusal}
+use Rattle.mesh_decl.specs.declared.text.entry.MeshRefusal.TheVariants as mesh
+use Rattle.bound_program.specs.declared.refusals.refusals.BindRefusal.{BindRefusal}
+use Rattle.bound_program.specs.declared.refusals.refusals.BindRefusal.TheVariants as bind
 use Rattle.mesh_decl.specs.declared.owners.Owners.{Owners}
 use Rattle.mesh_decl.specs.declared.owners.Perms.{Perms}
 use Rattle.bound_program.specs.Values.{BoundValue}
 use Rattle.op_outside.specs.Outside.{Files}
 use Rattle.command_words.specs.Refusal.{Limit, Refusal, Usage, CannotRead, NoTokens, NoTree, TooDeep, BadName, BadBinding, BadTarget, BadAccess, BadMesh, BadCut, BadState, BadPart, BadPartition, BadPlan, BadSchedule, BadStep, EarlyStep, LeftStep, BadStub, BeyondLimit, StateBytes, PartitionBytes, PlanBytes, ScheduleBytes, status_of}
-use Rattle.part_text.specs.declared.refusals.PartRefusal.{PartRefusal}
-use Rattle.part_text.specs.declared.refusals.PartRefusal.TheVariants as part
-use Rattle.schedule_text.specs.declared.lines.Line.{Line}
-use Rattle.schedule_text.specs.declared.refusals.ScheduleTextRefusal.{ScheduleTextRefusal}
-use Rattle.schedule_text.specs.declared.refusals.ScheduleTextRefusal.TheVariants as text
+use Rattle.partition.specs.declared.part_text.refusals.PartRefusal.{PartRefusal}
+use Rattle.partition.specs.declared.part_text.refusals.PartRefusal.TheVariants as part
+use Rattle.schedule_steps.specs.declared.text.lines.Line.{Line}
+use Rattle.schedule_steps.specs.declared.text.refusals.ScheduleTextRefusal.{ScheduleTextRefusal}
+use Rattle.schedule_steps.specs.declared.text.refusals.ScheduleTextRefusal.TheVariants as text
 use Rattle.step_judge.specs.declared.refusal.ScheduleRefusal.{ScheduleRefusal}
 use Rattle.step_judge.specs.declared.refusal.ScheduleRefusal.TheVariants as taking
 use Rattle.schedule_steps.specs.Outline.{Outline}

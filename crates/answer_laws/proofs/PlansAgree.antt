@@ -17,7 +17,7 @@ use Rattle.schedule_steps.specs.declared.step.Step.{Step}
 use Rattle.schedule_steps.specs.Steps.{IsStep, Earlier}
 use Rattle.schedule_steps.specs.Drawn.{IsDrawn}
 use Rattle.schedule_steps.specs.Judged.{is_step, missing, left_over}
-use Rattle.schedule_text.specs.Reading.{Read as ScheduleRead, Reads as ScheduleReads}
+use Rattle.schedule_steps.specs.Reading.{Read as ScheduleRead, Reads as ScheduleReads}
 use Rattle.bound_program.specs.Values.{BoundValue}
 use Rattle.bound_program.specs.Fits.{Fits}
 use Rattle.loop_plan.specs.PlanText.{plan_text}

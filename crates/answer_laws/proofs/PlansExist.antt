@@ -5,8 +5,8 @@ use Rattle.mesh_decl.specs.declared.owners.Owners.{Owners}
 use Rattle.mesh_decl.specs.declared.owners.Perms.{Perms}
 use Rattle.mesh_decl.specs.Mesh.{MeshValue, IsMesh}
 use Rattle.mesh_decl.specs.Owners.{AreOwners, ArePerms}
-use Rattle.part_text.specs.declared.refusals.PartRefusal.TheVariants as part
-use Rattle.part_text.specs.Reading.{Refuses}
+use Rattle.partition.specs.declared.part_text.refusals.PartRefusal.TheVariants as part
+use Rattle.partition.specs.Reading.{Refuses}
 use Rattle.distribute.specs.Parts.{Parts, Block, Bisect, Grow, Text, NumbersRefusal, OwnersRefusal}
 use Rattle.distribute.specs.Judgements.{NumbersAre, OwnersAre}
 use Rattle.distribute.specs.declared.types.Distribution.{Distribution}
@@ -16,7 +16,7 @@ use Rattle.schedule_steps.specs.declared.step.Step.{Step}
 use Rattle.bound_program.specs.Values.{BoundValue}
 use Rattle.bound_program.specs.Fits.{Fits}
 use Rattle.checkpoint.specs.Laws.{HeadsFit, TailsFit}
-use Rattle.state_texts.specs.Laws.{SaysSomething}
+use Rattle.checkpoint.specs.StateTextLaws.{SaysSomething}
 use Rattle.loop_plan.specs.Distributed.{IsDistributed}
 use Rattle.loop_plan.specs.StepCounts.{program_steps}
 use Rattle.loop_plan.specs.Values.{PlanValue}

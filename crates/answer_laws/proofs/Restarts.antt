@@ -9,7 +9,7 @@ use Rattle.kernel_types.specs.declared.kernels.RKernel.{RKernel}
 use Rattle.kernel_types.specs.View.{rkernel_of}
 use Rattle.name_resolution.specs.Programs as names
 use Rattle.name_resolution.specs.Programs.{Resolves}
-use Rattle.mesh_text.specs.Reading.{Read, Reads as Spelled}
+use Rattle.mesh_decl.specs.Reading.{Read, Reads as Spelled}
 use Rattle.line_texts.specs.Lines.{HasNoLf}
 use Rattle.mesh_decl.specs.declared.decl.SetDecl.{SetDecl}
 use Rattle.mesh_decl.specs.declared.decl.DatDecl.{DatDecl}
@@ -20,15 +20,15 @@ use Rattle.bound_program.specs.Values.{BoundValue, no_site}
 use Rattle.loop_bind.specs.Constants.{LeavesConstants}
 use Rattle.loop_bind.specs.Names.{HasNames, BoundNamesAreNames}
 use Rattle.loop_bind.specs.Resolvable.{BoundProgramsLeaveConstants}
-use Rattle.source_fits.specs.Resolvable.{IsResolvedSource, ResolvedSourcesAre}
+use Rattle.loop_bind.specs.ResolvedSources.{IsResolvedSource, ResolvedSourcesAre}
 use Rattle.run_model.specs.Programs.{program_of, run_of_program}
 use Rattle.run_model.specs.Ranges.{StartsInRange, AllObey, RunInRange, RunsKeepRange}
 use Rattle.bound_plan.specs.OneRun.{with_kernels, ProgramsAreOne}
 use Rattle.checkpoint.specs.Cut.{StateValue, CanCut, state_at, head, tail}
 use Rattle.checkpoint.specs.Laws.{later, behind, HeadsStop, HeadsPrintStates, TailsGoOn, EndAlike}
 use Rattle.checkpoint.specs.StateText.{state_text}
-use Rattle.state_texts.specs.Reading.{Says, IsSplit, all}
-use Rattle.state_texts.specs.Laws.{HasPlainNames, SaysBehind, CutsAreRead, NamesArePlain}
+use Rattle.checkpoint.specs.Reading.{Says, IsSplit, all}
+use Rattle.checkpoint.specs.StateTextLaws.{HasPlainNames, SaysBehind, CutsAreRead, NamesArePlain}
 use Rattle.op_outside.specs.Outside.{Files}
 use Rattle.command_words.specs.Refusal.{StateBytes}
 use Rattle.command_words.specs.Words.{RunsPlan, Whole, Before, From, Options, InFiles}

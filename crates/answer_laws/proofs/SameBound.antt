@@ -4,13 +4,13 @@ use Rattle.c_tree.specs.Tree.{ProgramTree}
 use Rattle.kernel_types.specs.declared.kernels.ConstDecl.{ConstDecl}
 use Rattle.kernel_types.specs.declared.kernels.Resolved.{Resolved}
 use Rattle.kernel_types.specs.View.{rkernel_of, resolved_of}
-use Rattle.mesh_text.specs.Spelling.{Named}
-use Rattle.bind_refusals.specs.Refusals.{Judged, ◌>>=◌}
+use Rattle.mesh_decl.specs.Spelling.{Named}
+use Rattle.bound_program.specs.Refusals.{Judged, ◌>>=◌}
 use Rattle.bound_program.specs.Values.{BoundValue}
-use Rattle.main_names.specs.SoFar.{Walked, quiet, nothing_declared}
-use Rattle.main_trace.specs.Limited.{UnrolledValue}
+use Rattle.main_declarations.specs.SoFar.{Walked, quiet, nothing_declared}
+use Rattle.bound_program.specs.Limited.{UnrolledValue}
 use Rattle.main_declarations.specs.File.{judged_tops}
-use Rattle.main_text.specs.Text.{judged_hosts, outermost}
+use Rattle.loop_bind.specs.Text.{judged_hosts, outermost}
 use Rattle.loop_bind.specs.Weights.{trace}
 use Rattle.loop_bind.specs.Bound.{text, happens, unrolled_text, bound}
 use Rattle.bound_plan.specs.OneRun.{with_kernels}

@@ -12,7 +12,7 @@ use Rattle.bound_program.specs.Fits.{Fits}
 use Rattle.run_model.specs.Kernels.{kernel_at}
 use Rattle.run_model.specs.Arguments.{modes_of}
 use Rattle.run_model.specs.Programs.{printed_in, stop_in}
-use Rattle.sequential_run.specs.Laws.{RunsAreOne}
+use Rattle.run_model.specs.SequentialLaws.{RunsAreOne}
 use Rattle.bound_plan.specs.Memories.{unless_stopped}
 use Rattle.bound_plan.specs.OneRun.{SameTree, with_kernels, KernelsAreOne, ProgramsAreOne}
 use Rattle.answer_lines.specs.Lines.{Answer}

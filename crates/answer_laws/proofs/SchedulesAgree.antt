@@ -7,8 +7,8 @@ use Rattle.schedule_steps.specs.Steps.{IsStep, Earlier, has, Accepted}
 use Rattle.schedule_steps.specs.Drawn.{IsDrawn}
 use Rattle.schedule_steps.specs.Standard.{standard}
 use Rattle.schedule_steps.specs.Judged.{is_step, missing, left_over}
-use Rattle.schedule_text.specs.declared.lines.Line.{Line}
-use Rattle.schedule_text.specs.Reading.{Read, Reads}
+use Rattle.schedule_steps.specs.declared.text.lines.Line.{Line}
+use Rattle.schedule_steps.specs.Reading.{Read, Reads}
 use Rattle.step_judge.specs.declared.refusal.ScheduleRefusal.{ScheduleRefusal}
 use Rattle.step_judge.specs.Verdicts.{judged, ended, too_early, incomplete}
 use Rattle.op_outside.specs.Outside.{Files}

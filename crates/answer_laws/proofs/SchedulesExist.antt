@@ -8,9 +8,9 @@ use Rattle.schedule_steps.specs.Members.{has_push}
 use Rattle.schedule_steps.specs.Standard.{standard}
 use Rattle.schedule_steps.specs.Drawn.{IsDrawn}
 use Rattle.schedule_steps.specs.Judged.{is_step, missing, left_over}
-use Rattle.schedule_text.specs.declared.lines.Line.{Line}
-use Rattle.schedule_text.specs.declared.refusals.ScheduleTextRefusal.TheVariants as text
-use Rattle.schedule_text.specs.Reading.{Read, Reads, Refuses}
+use Rattle.schedule_steps.specs.declared.text.lines.Line.{Line}
+use Rattle.schedule_steps.specs.declared.text.refusals.ScheduleTextRefusal.TheVariants as text
+use Rattle.schedule_steps.specs.Reading.{Read, Reads, Refuses}
 use Rattle.step_judge.specs.declared.refusal.ScheduleRefusal.{ScheduleRefusal}
 use Rattle.step_judge.specs.declared.refusal.ScheduleRefusal.TheVariants as taking
 use Rattle.step_judge.specs.Verdicts.{judged, too_early, incomplete}

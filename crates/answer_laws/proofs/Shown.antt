@@ -5,9 +5,9 @@ use Rattle.schedule_model.specs.Sequential.{Stop}
 use Rattle.schedule_steps.specs.declared.step.Step.{Step}
 use Rattle.mesh_decl.specs.declared.owners.Owners.{Owners}
 use Rattle.bound_program.specs.Values.{BoundValue}
-use Rattle.sequential_run.specs.Program.{first_fault}
+use Rattle.run_model.specs.Program.{first_fault}
 use Rattle.checkpoint.specs.Laws.{later}
-use Rattle.mesh_text.specs.Canonical.{canonical}
+use Rattle.mesh_decl.specs.Canonical.{canonical}
 use Rattle.op_outside.specs.Outside.{Files, appended, AppendsFront}
 use Rattle.command_words.specs.Refusal.{Refusal, Usage, CannotRead, NoTokens, NoTree, TooDeep, BadName, BadBinding, BadTarget, BadAccess, BadMesh, BadCut, BadState, BadPart, BadPartition, BadPlan, BadSchedule, BadStep, EarlyStep, LeftStep, BadStub, BeyondLimit, status_of}
 use Rattle.answer_lines.specs.Lines.{Answer, done, refused, faulted}

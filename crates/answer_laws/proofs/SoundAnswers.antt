@@ -3,18 +3,18 @@ use Rattle.std.proofs.Common.{◌≡◌, inl, inr, ℕ, zero, suc, Bool, List, �
 use Rattle.std.specs.List.{Contains}
 use Rattle.c_tree.specs.declared.refusals.SourceRefusal.TheVariants as source
 use Rattle.name_resolution.specs.declared.refusals.TypeRefusal.TheVariants as types
-use Rattle.mesh_text.specs.declared.entry.MeshRefusal.TheVariants as mesh
+use Rattle.mesh_decl.specs.declared.text.entry.MeshRefusal.TheVariants as mesh
 use Rattle.kernel_types.specs.declared.faults.KernelFault.{KernelFault}
 use Rattle.schedule_model.specs.Sequential.{Stop}
 use Rattle.mesh_decl.specs.declared.owners.Owners.{Owners}
 use Rattle.bound_program.specs.Values.{BoundValue}
-use Rattle.sequential_run.specs.Program.{first_fault}
+use Rattle.run_model.specs.Program.{first_fault}
 use Rattle.checkpoint.specs.Laws.{later}
-use Rattle.mesh_text.specs.Canonical.{canonical}
+use Rattle.mesh_decl.specs.Canonical.{canonical}
 use Rattle.op_outside.specs.Outside.{Files}
 use Rattle.command_words.specs.Refusal.{SourceBytes, MeshBytes, Refusal}
 use Rattle.answer_lines.specs.Lines.{Answer, done, refused, faulted}
-use Rattle.schedule_text.specs.declared.refusals.ScheduleTextRefusal.TheVariants as text
+use Rattle.schedule_steps.specs.declared.text.refusals.ScheduleTextRefusal.TheVariants as text
 use Rattle.schedule_steps.specs.declared.step.Step.{Step}
 use Rattle.command_words.specs.Words.{ChainJob, CountsChains, RunsChains, ChainOptions, PlanJob, Check, ShowsPlan, ShowsSchedule, RunsPlan, Options, group_of, Input, InFiles, OfSample, Command, OnPlan, OnChains, Converts, Translates, Restores, ShowsUsage, ShowsVersion, judged, names_from, names_before, names_by, names_in_blocks, names_at, names_of}
 use Rattle.answers.specs.Judgements.{TextIs, SourceIs, TreeIs, TranslationIs, RestorationIs, TypesAre, FileIs, MeshIs, EntriesAre, BoundIs, AccessesAre, CutOf, Chosen, ChosenIs, NumbersOf, PartsOf, OwnersOf, ColouringOf, Planned, PlanIs, OrderOf, outline_of, StepsOf}

@@ -10,17 +10,17 @@ use Rattle.op_num.specs.Spelling.{fits_i32, i32_judged, integer_of}
 use Rattle.op_num.specs.declared.refusals.NumRefusal.{NumRefusal}
 use Rattle.op_num.specs.declared.refusals.NumRefusal.TheVariants.{TooLarge}
 use Rattle.std.proofs.lemmas.Bool.Decides.{nat_tests}
-use Rattle.mesh_text.specs.declared.entry.Entry.{Entry}
-use Rattle.mesh_text.specs.declared.entry.Entry.TheVariants.{One, Many}
-use Rattle.mesh_text.specs.declared.entry.Form.{Form}
-use Rattle.mesh_text.specs.declared.entry.Form.TheVariants as form
-use Rattle.mesh_text.specs.Piece.{IsPiece, IsValue, IsRun}
-use Rattle.mesh_text.specs.Spelling.{Named, ArePieces, IsEntry, AreEntries, Spells}
+use Rattle.mesh_decl.specs.declared.text.entry.Entry.{Entry}
+use Rattle.mesh_decl.specs.declared.text.entry.Entry.TheVariants.{One, Many}
+use Rattle.mesh_decl.specs.declared.text.entry.Form.{Form}
+use Rattle.mesh_decl.specs.declared.text.entry.Form.TheVariants as form
+use Rattle.mesh_decl.specs.Piece.{IsPiece, IsValue, IsRun}
+use Rattle.mesh_decl.specs.Spelling.{Named, ArePieces, IsEntry, AreEntries, Spells}
 use Rattle.bound_program.specs.HostExpr.{value}
 use Rattle.bound_program.specs.Values.{VarValue}
-use Rattle.main_names.specs.declared.scopes.Meaning.{Meaning}
-use Rattle.main_names.specs.Meanings.{or_none, array_of, array_if, is_extern_array, entry_values, values_named}
-use Rattle.main_trace.specs.Limited.{before}
+use Rattle.main_declarations.specs.declared.names.scopes.Meaning.{Meaning}
+use Rattle.main_declarations.specs.Meanings.{or_none, array_of, array_if, is_extern_array, entry_values, values_named}
+use Rattle.bound_program.specs.Limited.{before}
 
 abbrev pub Num : ℤ → Type 0
 Num z = FitsSigned w32 z

@@ -7,8 +7,8 @@ use Rattle.kernel_types.specs.declared.kernels.Resolved.{Resolved}
 use Rattle.kernel_types.specs.View.{resolved_of}
 use Rattle.name_resolution.specs.Programs as names
 use Rattle.name_resolution.specs.Programs.{Resolves}
-use Rattle.mesh_text.specs.Spelling.{Named}
-use Rattle.mesh_text.specs.Reading.{Read, Reads as Spelled}
+use Rattle.mesh_decl.specs.Spelling.{Named}
+use Rattle.mesh_decl.specs.Reading.{Read, Reads as Spelled}
 use Rattle.schedule_model.specs.Sequential.{Seq}
 use Rattle.bound_program.specs.Values.{BoundValue}
 use Rattle.bound_program.specs.Fits.{Fits}

@@ -10,8 +10,8 @@ use Rattle.bound_program.specs.Fits.{Fits}
 use Rattle.bound_plan.specs.OneRun.{with_kernels}
 use Rattle.checkpoint.specs.Cut.{StateValue, CanCut, HasShape, head, tail}
 use Rattle.checkpoint.specs.Laws.{HeadsFit, TailsFit}
-use Rattle.state_texts.specs.Reading.{Awaited, Item, Exactly, Values, Done, awaited, IsItem, LineFits, AllFit, Says, Refuses, RefusedAmong, SaysNone}
-use Rattle.state_texts.specs.Laws.{SaysOneState, SaysOneRefusal, SaysNotBoth, SaysSomething}
+use Rattle.checkpoint.specs.Reading.{Awaited, Item, Exactly, Values, Done, awaited, IsItem, LineFits, AllFit, Says, Refuses, RefusedAmong, SaysNone}
+use Rattle.checkpoint.specs.StateTextLaws.{SaysOneState, SaysOneRefusal, SaysNotBoth, SaysSomething}
 use Rattle.op_outside.specs.Outside.{Files}
 use Rattle.command_words.specs.Refusal.{StateBytes, Refusal, BadCut, BadState}
 use Rattle.command_words.specs.Words.{Stretch, Whole, Before, From}

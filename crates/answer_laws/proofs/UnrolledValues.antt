@@ -5,16 +5,16 @@ use Rattle.std.proofs.lemmas.Int.{ints}
 use Rattle.c_lex.specs.declared.tokens.Pos.{Pos}
 use Rattle.kernel_model.specs.Numbers.{Value, is_zero}
 use Rattle.kernel_model.specs.Operators.{IsNumber}
-use Rattle.bind_refusals.specs.Refusals.{Judged}
+use Rattle.bound_program.specs.Refusals.{Judged}
 use Rattle.bound_program.specs.HostExpr.{value}
 use Rattle.bound_program.specs.Values.{ItemValue, SiteValue, Free, Reduce, Ordered, Host, Exit, no_site}
 use Rattle.bound_program.specs.declared.sites.Class.{Class}
 use Rattle.bound_program.specs.declared.sites.Class.TheVariants as class
 use Rattle.bound_program.specs.declared.sites.Arg.{Arg as LoopArgument}
 use Rattle.bound_program.specs.Classes.{reduces}
-use Rattle.main_trace.specs.Steps.{Asked, Step, Do, Loop, Fix, Block, Choose, Repeat, Steps, NoStep, MoreStep}
-use Rattle.main_trace.specs.Trace.{Event, Turn, Does, Tells, Stops, Later, nothing, known as known_later, number, choose, answer, tells, counts, turns, turns_left, one_more, after, events, all_events, main_events}
-use Rattle.main_trace.specs.Limited.{ToldValue, UnrolledValue, before, item, told, unrolled}
+use Rattle.bound_program.specs.Steps.{Asked, Step, Do, Loop, Fix, Block, Choose, Repeat, Steps, NoStep, MoreStep}
+use Rattle.bound_program.specs.Trace.{Event, Turn, Does, Tells, Stops, Later, nothing, known as known_later, number, choose, answer, tells, counts, turns, turns_left, one_more, after, events, all_events, main_events}
+use Rattle.bound_program.specs.Limited.{ToldValue, UnrolledValue, before, item, told, unrolled}
 use Rattle.main_declarations.proofs.Judged.{Gives}
 use Rattle.answer_laws.proofs.SpelledValues.{Num, AllNum, nums_then}
 use Rattle.answer_laws.proofs.ExpressionValues.{Nums, value_in}

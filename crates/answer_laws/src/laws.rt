@@ -11,7 +11,7 @@ ghost use Rattle.answer_laws.specs.OnCells.{RunsAnswerOnCells};
 pub fn runs_answer_on_cells()
     ensures { RunsAnswerOnCells }
 {
-    sequential_run::runs_are_one();
+    run_model::sequential_run::runs_are_one();
 }
 
 /// A law: any two answers to the same words over the same files have the same status and the same bytes for the output, and
@@ -25,7 +25,7 @@ pub fn answers_agree()
     op_translate::one_translation();
     op_translate::one_restoration();
     name_resolution::one_answer();
-    mesh_text::one_outcome();
+    mesh_decl::text::one_outcome();
     kernel_model::walk_finds();
     kernel_model::rules_are_broken();
     kernel_model::kernels_are_trees();
@@ -36,12 +36,12 @@ pub fn answers_agree()
     loop_plan::one_plan();
     loop_plan::one_plan_text();
     loop_plan::one_step_count();
-    state_texts::one_state();
+    checkpoint::state_texts::one_state();
     plan_cert::one_refusal();
     plan_cert::none_is_refused();
     plan_cert::plans_are_alike();
     plan_cert::no_kernel_is_read();
-    schedule_text::one_outcome();
+    schedule_steps::text::one_outcome();
     schedule_steps::drawn_once();
     schedule_steps::tests_decide();
     runs_answer_on_cells();
@@ -61,7 +61,7 @@ pub fn answers_exist()
     c_reader::one_depth();
     c_reader::deep_is_far();
     name_resolution::some_answer();
-    mesh_text::one_outcome();
+    mesh_decl::text::one_outcome();
     loop_bind::refusals_have_causes();
     loop_bind::resolved_sources_are();
     loop_bind::spelled_entries_fit();
@@ -69,7 +69,7 @@ pub fn answers_exist()
     loop_bind::bound_maps_are_narrow();
     kernel_model::walk_finds();
     kernel_model::rules_are_broken();
-    part_text::one_outcome();
+    partition::part_text::one_outcome();
     plan_exists::some_numbers();
     plan_exists::some_owners();
     plan_exists::outcomes_fit();
@@ -79,9 +79,9 @@ pub fn answers_exist()
     plan_cert::some_outcome();
     checkpoint::heads_fit();
     checkpoint::tails_fit();
-    state_texts::some_state();
+    checkpoint::state_texts::some_state();
     schedule_steps::drawn_exists();
-    schedule_text::one_outcome();
+    schedule_steps::text::one_outcome();
     step_judge::taken_lists_are_accepted();
 }
 
@@ -135,7 +135,7 @@ pub fn restarts_are_whole()
     command_words::heads_are_not_dumped();
     c_reader::one_tree();
     name_resolution::one_answer();
-    mesh_text::one_outcome();
+    mesh_decl::text::one_outcome();
     loop_bind::resolved_sources_are();
     loop_bind::bound_programs_leave_constants();
     loop_bind::bound_names_are_names();
@@ -143,8 +143,8 @@ pub fn restarts_are_whole()
     checkpoint::heads_stop();
     checkpoint::heads_print_states();
     checkpoint::tails_go_on();
-    state_texts::one_state();
-    state_texts::names_are_plain();
-    state_texts::cuts_are_read();
+    checkpoint::state_texts::one_state();
+    checkpoint::state_texts::names_are_plain();
+    checkpoint::state_texts::cuts_are_read();
     bound_plan::one_program();
 }

@@ -6,12 +6,12 @@ use Rattle.c_lex.specs.declared.tokens.Pos.{Pos}
 use Rattle.op_num.specs.declared.refusals.Fault.{Fault}
 use Rattle.op_num.specs.declared.refusals.Fault.TheVariants as fault
 use Rattle.kernel_types.specs.declared.faults.KernelFault.{KernelFault}
-use Rattle.mesh_text.specs.declared.entry.TheConstants.{MESH_BYTES, MESH_VALUES}
+use Rattle.mesh_decl.specs.declared.text.entry.TheConstants.{MESH_BYTES, MESH_VALUES}
 use Rattle.bound_program.specs.Limits.{max_sets, max_maps, max_dats, max_size, max_dim, max_cells, max_arguments, max_trace, max_weight}
 use Rattle.schedule_model.specs.Sequential.{Stop}
 use Rattle.schedule_steps.specs.declared.step.Step.{Step}
-use Rattle.schedule_text.specs.declared.lines.TheConstants.{SCHEDULE_STEPS}
-use Rattle.schedule_text.specs.Written.{tokens_of}
+use Rattle.schedule_steps.specs.declared.text.lines.TheConstants.{SCHEDULE_STEPS}
+use Rattle.schedule_steps.specs.Written.{tokens_of}
 use Rattle.loop_plan.specs.StepCounts.{max_steps}
 use Rattle.answer_lines.specs.declared.limits.TheConstants.{SOURCE_BYTES, STATE_BYTES, PARTITION_BYTES, PLAN_BYTES, SCHEDULE_BYTES}
 use Rattle.command_words.specs.Refusal.{Limit, SourceBytes, MeshBytes, MeshValues, Sets, Maps, Dats, SetSize, Dim, MeshCells}

@@ -11,7 +11,7 @@ use bound_program::{
 };
 use loop_plan::MAX_STEPS;
 use mesh_decl::{MESH_BYTES, MESH_VALUES};
-use schedule_text::SCHEDULE_STEPS;
+use schedule_steps::text::SCHEDULE_STEPS;
 
 /// The most bytes of a source file.
 pub const SOURCE_BYTES: u64 = 1_048_576;

@@ -7,16 +7,16 @@ use Rattle.schedule_model.specs.Sequential.{Stop}
 use Rattle.bound_program.specs.Values.{BoundValue}
 use Rattle.bound_program.specs.Fits.{Fits}
 use Rattle.mesh_decl.specs.declared.owners.Owners.{Owners}
-use Rattle.sequential_run.specs.Program.{printed, first_fault}
+use Rattle.run_model.specs.Program.{printed, first_fault}
 use Rattle.bound_chains.specs.Outcomes.{chains_run, chains_text, dump_after}
 use Rattle.checkpoint.specs.Laws.{later}
 use Rattle.loop_plan.specs.PlanText.{plan_text}
 use Rattle.schedule_steps.specs.declared.step.Step.{Step}
-use Rattle.schedule_text.specs.Written.{schedule_text}
+use Rattle.schedule_steps.specs.Written.{schedule_text}
 use Rattle.bound_plan.specs.Memories.{dump_of, unless_stopped}
 use Rattle.op_outside.specs.Outside.{Files}
-use Rattle.mesh_text.specs.declared.entry.Form.{Form}
-use Rattle.mesh_text.specs.Canonical.{canonical}
+use Rattle.mesh_decl.specs.declared.text.entry.Form.{Form}
+use Rattle.mesh_decl.specs.Canonical.{canonical}
 use Rattle.command_words.specs.declared.usage.TheConstants.{USAGE, VERSION}
 use Rattle.command_words.specs.Refusal.{Refusal, CannotRead}
 use Rattle.answer_lines.specs.Lines.{Answer, done, refused, faulted}

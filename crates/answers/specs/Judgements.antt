@@ -11,10 +11,10 @@ use Rattle.kernel_types.specs.declared.kernels.Resolved.{Resolved}
 use Rattle.kernel_types.specs.View.{resolved_of}
 use Rattle.name_resolution.specs.declared.refusals.TypeRefusal.{TypeRefusal}
 use Rattle.name_resolution.specs.Programs.{Resolves}
-use Rattle.mesh_text.specs.declared.entry.MeshRefusal.{MeshRefusal}
-use Rattle.mesh_text.specs.Spelling.{Named, Spells, total}
-use Rattle.mesh_text.specs.Reading.{Refuses}
-use Rattle.bind_refusals.specs.declared.refusals.BindRefusal.{BindRefusal}
+use Rattle.mesh_decl.specs.declared.text.entry.MeshRefusal.{MeshRefusal}
+use Rattle.mesh_decl.specs.Spelling.{Named, Spells, total}
+use Rattle.mesh_decl.specs.Reading.{Refuses}
+use Rattle.bound_program.specs.declared.refusals.refusals.BindRefusal.{BindRefusal}
 use Rattle.bound_program.specs.Values.{BoundValue, SiteValue}
 use Rattle.loop_bind.specs.Bound.{bound}
 use Rattle.kernel_model.specs.Obeys.{KernelObeys}
@@ -31,7 +31,7 @@ use Rattle.distribute.specs.Judgements.{NumbersAre, OwnersAre}
 use Rattle.distribute.specs.Distributions.{IsDistribution}
 use Rattle.local_mesh.specs.declared.types.RankMesh.{RankMesh}
 use Rattle.checkpoint.specs.Cut.{StateValue, CanCut, head, tail}
-use Rattle.state_texts.specs.Reading.{Says, SaysNone}
+use Rattle.checkpoint.specs.Reading.{Says, SaysNone}
 use Rattle.loop_plan.specs.Values.{PlanValue}
 use Rattle.loop_plan.specs.Proper.{Proper, HasLeastColours}
 use Rattle.loop_plan.specs.StepCounts.{program_steps}
@@ -44,9 +44,9 @@ use Rattle.schedule_steps.specs.declared.step.Step.{Step}
 use Rattle.schedule_steps.specs.Steps.{has, Accepted}
 use Rattle.schedule_steps.specs.Standard.{standard}
 use Rattle.schedule_steps.specs.Drawn.{IsDrawn}
-use Rattle.schedule_text.specs.declared.lines.Line.{Line}
-use Rattle.schedule_text.specs.declared.refusals.ScheduleTextRefusal.{ScheduleTextRefusal}
-use Rattle.schedule_text.specs.Reading.{Reads as SchedulesRead}
+use Rattle.schedule_steps.specs.declared.text.lines.Line.{Line}
+use Rattle.schedule_steps.specs.declared.text.refusals.ScheduleTextRefusal.{ScheduleTextRefusal}
+use Rattle.schedule_steps.specs.Reading.{Reads as SchedulesRead}
 use Rattle.step_judge.specs.declared.refusal.ScheduleRefusal.{ScheduleRefusal}
 use Rattle.step_judge.specs.Verdicts.{judged, ended}
 use Rattle.op_translate.specs.declared.refusals.TransRefusal.{TransRefusal}

@@ -3,7 +3,7 @@ use Rattle.std.specs.Prelude.{◌≡◌, ℕ, ◌<◌, ◌≤◌, ◌⊎◌, fal
 use Rattle.kernel_types.specs.declared.faults.KernelFault.{KernelFault}
 use Rattle.schedule_model.specs.Sequential.{Stop}
 use Rattle.op_outside.specs.Outside.{Files}
-use Rattle.state_texts.specs.Reading.{IsSplit}
+use Rattle.checkpoint.specs.Reading.{IsSplit}
 use Rattle.answer_lines.specs.Lines.{Answer, done, faulted}
 use Rattle.command_words.specs.Words.{RunsPlan, Stretch, Whole, Before, From, Options, InFiles, OnPlan, WordsAre}
 use Rattle.answers.specs.Answers.{Answers}

@@ -6,9 +6,9 @@ use Rattle.std.proofs.lemmas.Bool.{false≢true, and_parts, and_from, or_left, o
 use Rattle.std.proofs.lemmas.List.Folds.{list_any_at}
 use Rattle.rank_sets.specs.Below.{any_below}
 use Rattle.rank_sets.proofs.Below.{any_from}
-use Rattle.reductions.specs.Access.{access_of}
-use Rattle.reductions.specs.declared.access.Access.{Access}
-use Rattle.reductions.specs.declared.access.Access.TheVariants as code
+use Rattle.op_num.specs.Access.{access_of}
+use Rattle.op_num.specs.declared.reductions.access.Access.{Access}
+use Rattle.op_num.specs.declared.reductions.access.Access.TheVariants as code
 use Rattle.mesh_decl.specs.declared.owners.Owners.{Owners}
 use Rattle.mesh_decl.specs.Mesh.{set_size, target}
 use Rattle.mesh_decl.specs.Owners.{owner_of}
@@ -16,9 +16,9 @@ use Rattle.local_mesh.specs.declared.types.RankMesh.{RankMesh}
 use Rattle.schedule_model.specs.Cells.{Data, DatCell}
 use Rattle.schedule_model.specs.Effects.{is_read, is_modified}
 use Rattle.schedule_model.specs.Program.{Free, is_free}
-use Rattle.schedule_laws.specs.Arguments as theorem
-use Rattle.schedule_laws.specs.Arguments.{reading, modifying, reaches}
-use Rattle.schedule_laws.proofs.Touches.{read_by, modified_by}
+use Rattle.schedule_model.specs.Arguments as theorem
+use Rattle.schedule_model.specs.Arguments.{reading, modifying, reaches}
+use Rattle.schedule_model.proofs.schedule_laws.Touches.{read_by, modified_by}
 use Rattle.bound_program.specs.declared.sites.Arg.{Arg}
 use Rattle.bound_program.specs.declared.sites.Arg.TheVariants.{Dat, Global}
 use Rattle.bound_program.specs.Values.{BoundValue}

@@ -4,8 +4,8 @@ use Rattle.std.specs.Prelude.{ℕ, suc, Bool, true, false, not, ◌&&◌, ◌||�
 use Rattle.std.specs.List.{list_any}
 use Rattle.rank_sets.specs.Below.{any_below}
 use Rattle.kernel_types.specs.declared.faults.KernelFault.{KernelFault}
-use Rattle.reductions.specs.declared.access.Access.{Access}
-use Rattle.reductions.specs.declared.access.Access.TheVariants.{Read, Rw}
+use Rattle.op_num.specs.declared.reductions.access.Access.{Access}
+use Rattle.op_num.specs.declared.reductions.access.Access.TheVariants.{Read, Rw}
 use Rattle.mesh_decl.specs.declared.owners.Owners.{Owners}
 use Rattle.mesh_decl.specs.Mesh.{set_size, dat_set}
 use Rattle.mesh_decl.specs.Owners.{owner_of}

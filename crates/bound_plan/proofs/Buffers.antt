@@ -10,7 +10,7 @@ use Rattle.mesh_decl.specs.declared.owners.Perms.{Perms}
 use Rattle.mesh_decl.specs.Mesh.{MeshValue, set_count, set_size, dat_count, dat_set, dat_dim}
 use Rattle.mesh_decl.specs.Owners.{owner_of}
 use Rattle.bound_plan.proofs.Places.{one_of}
-use Rattle.halo_lists.specs.Halo.{owns, imports_execute, imports_nonexecute, has_copy}
+use Rattle.local_mesh.specs.Halo.{owns, imports_execute, imports_nonexecute, has_copy}
 use Rattle.local_mesh.specs.declared.types.LocalSet.{LocalSet}
 use Rattle.local_mesh.specs.declared.types.RankMesh.{RankMesh}
 use Rattle.local_mesh.specs.LocalMesh.{cells_before, originals_in}

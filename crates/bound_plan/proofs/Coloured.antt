@@ -2,8 +2,8 @@
 use Rattle.std.proofs.Common.{◌≡◌, ◌≢◌, ◌/◌, ◌<◌, ◌≤◌, ℕ, Bool, true, ◌⊎◌, inl, inr, List, [], length, get_or, map, refl, sym, ap, subst, ◌∙◌, ⊎_elim}
 use Rattle.std.specs.Prelude.{◌&&◌, ◌||◌, ◌==◌, nat_lt, Contains}
 use Rattle.std.proofs.lemmas.List.{get_or-map}
-use Rattle.reductions.specs.Reduction.{Reduction}
-use Rattle.reductions.specs.Access.{OpReduce}
+use Rattle.op_num.specs.Reduction.{Reduction}
+use Rattle.op_num.specs.Access.{OpReduce}
 use Rattle.mesh_decl.specs.declared.owners.Owners.{Owners}
 use Rattle.mesh_decl.specs.declared.owners.Perms.{Perms}
 use Rattle.mesh_decl.specs.Mesh.{set_size}
@@ -16,8 +16,8 @@ use Rattle.colouring.specs.Colours.{Conflict, AreArgs, goes_before, reached_by}
 use Rattle.schedule_model.specs.Program.{Free}
 use Rattle.schedule_model.specs.Setup.{executes, outline}
 use Rattle.schedule_steps.specs.Outline.{by_colour}
-use Rattle.schedule_laws.specs.Arguments.{is_on}
-use Rattle.schedule_laws.specs.Arguments as theorem
+use Rattle.schedule_model.specs.Arguments.{is_on}
+use Rattle.schedule_model.specs.Arguments as theorem
 use Rattle.bound_program.specs.Values.{BoundValue}
 use Rattle.run_model.specs.Programs.{kind_of, loop_of, item_at}
 use Rattle.run_model.specs.Laws.{site_of}

@@ -4,14 +4,14 @@ use Rattle.std.specs.Prelude.{◌&&◌, ◌||◌, nat_eq, is_none, if◌then◌e
 use Rattle.std.specs.List.{list_all}
 use Rattle.std.proofs.lemmas.Bool.{cases_Bool, false≢true, or_cases, or_from, or_parts, and_from, eqb-true, eq-eqb, not-true, not-false, not_from_true, not_from_false}
 use Rattle.std.proofs.lemmas.List.Folds.{list_all_at, list_any_at}
-use Rattle.reductions.specs.Reduction.{Reduction, Add, Min, Max}
-use Rattle.reductions.specs.Access as laws
-use Rattle.reductions.specs.Access.{OpRead, OpReduce, access_of}
-use Rattle.reductions.specs.declared.access.Access.{Access}
-use Rattle.reductions.specs.declared.access.Access.TheVariants as code
+use Rattle.op_num.specs.Reduction.{Reduction, Add, Min, Max}
+use Rattle.op_num.specs.Access as laws
+use Rattle.op_num.specs.Access.{OpRead, OpReduce, access_of}
+use Rattle.op_num.specs.declared.reductions.access.Access.{Access}
+use Rattle.op_num.specs.declared.reductions.access.Access.TheVariants as code
 use Rattle.mesh_decl.specs.declared.access.Via.{Via}
-use Rattle.schedule_laws.specs.Arguments.{Direct, Indirect, modifying, reading, is_direct, is_on}
-use Rattle.schedule_laws.specs.Arguments as theorem
+use Rattle.schedule_model.specs.Arguments.{Direct, Indirect, modifying, reading, is_direct, is_on}
+use Rattle.schedule_model.specs.Arguments as theorem
 use Rattle.bound_program.specs.declared.sites.Arg.{Arg}
 use Rattle.bound_program.specs.declared.sites.Arg.TheVariants.{Dat, Global}
 use Rattle.bound_program.specs.declared.sites.Class.TheVariants as class

@@ -9,13 +9,13 @@ use Rattle.mesh_decl.specs.declared.owners.Perms.{Perms}
 use Rattle.mesh_decl.specs.declared.access.Via.{Via}
 use Rattle.mesh_decl.specs.Mesh.{set_size, dat_count, dat_set, dat_dim, map_from, target}
 use Rattle.mesh_decl.specs.Owners.{owner_of}
-use Rattle.halo_lists.specs.Halo.{owns, imports_execute, imports_nonexecute, has_copy}
+use Rattle.local_mesh.specs.Halo.{owns, imports_execute, imports_nonexecute, has_copy}
 use Rattle.local_mesh.specs.declared.types.RankMesh.{RankMesh}
 use Rattle.schedule_model.specs.Cells.{Cell, Data, DatCell}
 use Rattle.schedule_model.specs.Program.{Free}
 use Rattle.schedule_model.specs.Setup as setup
 use Rattle.flat_machine.specs.Layout.{among, is_cell, Exists, Has}
-use Rattle.element_runs.specs.OnWindows.{no_cell, OnWindows}
+use Rattle.run_model.specs.OnWindows.{no_cell, OnWindows}
 use Rattle.bound_program.specs.declared.sites.Arg.{Arg}
 use Rattle.bound_program.specs.declared.sites.Arg.TheVariants.{Dat, Global}
 use Rattle.bound_program.specs.Values.{BoundValue, SiteValue}

@@ -3,10 +3,10 @@ use Rattle.std.proofs.Common.{◌≡◌, ◌<◌, ◌≤◌, ℕ, zero, suc, tru
 use Rattle.std.specs.Prelude.{nat_eq}
 use Rattle.std.proofs.lemmas.Bool.{cases_Bool, cases_lt, cond-true, cond-false, eqb-true, eq-eqb}
 use Rattle.std.proofs.lemmas.List.Folds.{list_any_at}
-use Rattle.reductions.specs.Reduction.{Reduction, Add, Min, Max}
-use Rattle.reductions.specs.Access.{OpReduce, access_of}
-use Rattle.reductions.specs.declared.access.Access.{Access}
-use Rattle.reductions.specs.declared.access.Access.TheVariants as code
+use Rattle.op_num.specs.Reduction.{Reduction, Add, Min, Max}
+use Rattle.op_num.specs.Access.{OpReduce, access_of}
+use Rattle.op_num.specs.declared.reductions.access.Access.{Access}
+use Rattle.op_num.specs.declared.reductions.access.Access.TheVariants as code
 use Rattle.bound_program.specs.declared.sites.Arg.{Arg}
 use Rattle.bound_program.specs.declared.sites.Arg.TheVariants.{Dat, Global}
 use Rattle.bound_program.specs.Classes.{is_reducing, reduces, is_reduced}

@@ -10,7 +10,7 @@ use Rattle.mesh_decl.specs.declared.owners.Owners.{Owners}
 use Rattle.mesh_decl.specs.declared.owners.Perms.{Perms}
 use Rattle.mesh_decl.specs.Mesh.{MeshValue, IsMesh, size_in, set_count, map_count, set_size, map_from, map_to, map_dim, target, dat_set}
 use Rattle.mesh_decl.specs.Owners.{AreOwners, owner_of}
-use Rattle.halo_lists.specs.Halo.{owns, executes, imports, imports_execute, imports_nonexecute, is_core}
+use Rattle.local_mesh.specs.Halo.{owns, executes, imports, imports_execute, imports_nonexecute, is_core}
 use Rattle.local_mesh.specs.declared.types.RankMesh.{RankMesh}
 use Rattle.loop_plan.specs.Pairs.{sets_of, imports_from, passes}
 use Rattle.loop_plan.specs.Distributed.{IsDistributed}

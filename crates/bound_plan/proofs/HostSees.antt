@@ -16,7 +16,7 @@ use Rattle.local_mesh.specs.declared.types.RankMesh.{RankMesh}
 use Rattle.schedule_model.specs.Cells.{Cell, Data, Variable, VarCell, Store, same_cell}
 use Rattle.schedule_model.specs.Program.{Hosted, Halts, Goes}
 use Rattle.flat_machine.specs.Layout.{among, Exists, HostedAlike}
-use Rattle.element_runs.specs.OnWindows.{no_cell}
+use Rattle.run_model.specs.OnWindows.{no_cell}
 use Rattle.kernel_types.specs.View.{RExprTree}
 use Rattle.bound_program.specs.HostExpr.{value}
 use Rattle.bound_program.specs.Values.{BoundValue, VarValue, ActValue, Clear, Assign, Line, Print, Exit}

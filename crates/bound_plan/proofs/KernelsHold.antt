@@ -2,8 +2,8 @@
 use Rattle.std.proofs.Common.{◌≡◌, ◌<◌, ℕ, zero, suc, true, false, List, [], ◌∷◌, length, get_or, Some, refl, sym, ap, ◌∙◌, ⊎_elim}
 use Rattle.std.specs.Prelude.{◌&&◌, ◌==◌, nat_lt}
 use Rattle.std.proofs.lemmas.Bool.{cases_Bool, false≢true, and_parts}
-use Rattle.reductions.specs.Access as laws
-use Rattle.reductions.specs.Access.{OpRead, OpWrite, OpRw, OpReduce}
+use Rattle.op_num.specs.Access as laws
+use Rattle.op_num.specs.Access.{OpRead, OpWrite, OpRw, OpReduce}
 use Rattle.kernel_types.specs.declared.kernels.RKernel.{RKernel}
 use Rattle.kernel_model.specs.Obeys.{KernelObeys}
 use Rattle.mesh_decl.specs.declared.owners.Owners.{Owners}
@@ -12,8 +12,8 @@ use Rattle.local_mesh.specs.declared.types.RankMesh.{RankMesh}
 use Rattle.schedule_model.specs.Cells.{Data, DatCell}
 use Rattle.schedule_model.specs.Program.{is_loop}
 use Rattle.schedule_model.specs.Laws.{Kernels}
-use Rattle.schedule_laws.specs.Arguments.{Argument, Direct, Indirect, Global, access_of, modifying, is_on, reaches}
-use Rattle.schedule_laws.specs.Tells.{All}
+use Rattle.schedule_model.specs.Arguments.{Argument, Direct, Indirect, Global, access_of, modifying, is_on, reaches}
+use Rattle.schedule_model.specs.Tells.{All}
 use Rattle.bound_program.specs.Values.{BoundValue, no_site}
 use Rattle.bound_program.specs.Classes.{modifies}
 use Rattle.bound_program.specs.Fits.{Fits, SiteFits, TakesArgs}

@@ -6,7 +6,7 @@ use Rattle.std.proofs.lemmas.Bool.{ltb_from_iff}
 use Rattle.mesh_decl.specs.declared.owners.Owners.{Owners}
 use Rattle.mesh_decl.specs.declared.owners.Perms.{Perms}
 use Rattle.mesh_decl.specs.Mesh.{MeshValue, set_count, set_size}
-use Rattle.halo_lists.specs.Halo.{owns, executes, has_copy, is_core}
+use Rattle.local_mesh.specs.Halo.{owns, executes, has_copy, is_core}
 use Rattle.local_mesh.specs.declared.types.LocalSet.{LocalSet}
 use Rattle.local_mesh.specs.declared.types.RankMesh.{RankMesh}
 use Rattle.local_mesh.specs.LocalMesh.{IsLocalSet, IsRankMesh, originals_in, executed_in}

@@ -9,14 +9,14 @@ use Rattle.mesh_decl.specs.declared.owners.Owners.{Owners}
 use Rattle.mesh_decl.specs.declared.owners.Perms.{Perms}
 use Rattle.mesh_decl.specs.Mesh.{set_size, dat_count, dat_set, dat_dim}
 use Rattle.mesh_decl.specs.Owners.{owner_of}
-use Rattle.halo_lists.specs.Halo.{owns, imports, imports_execute, imports_nonexecute}
+use Rattle.local_mesh.specs.Halo.{owns, imports, imports_execute, imports_nonexecute}
 use Rattle.local_mesh.specs.declared.types.RankMesh.{RankMesh}
 use Rattle.schedule_model.specs.Cells.{Cell, Data, Variable, DatCell}
 use Rattle.schedule_model.specs.Setup as setup
 use Rattle.schedule_model.specs.Machine.{arrives}
 use Rattle.flat_machine.specs.Layout.{among}
 use Rattle.flat_machine.specs.Scatter.{Once}
-use Rattle.element_runs.specs.OnWindows.{no_cell}
+use Rattle.run_model.specs.OnWindows.{no_cell}
 use Rattle.bound_program.specs.Values.{BoundValue}
 use Rattle.run_model.specs.Windows.{Element, cell_in, cells_in}
 use Rattle.loop_plan.specs.Values.{PlanValue, ItemPlanValue, item_plan, no_item_plan}

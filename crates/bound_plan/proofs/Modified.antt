@@ -2,7 +2,7 @@
 use Rattle.std.proofs.Common.{◌≡◌, ◌<◌, ℕ, Bool, true, false, List, length, Some, refl, sym, ap, subst, ◌∙◌}
 use Rattle.std.specs.Prelude.{◌&&◌}
 use Rattle.std.proofs.lemmas.Bool.{and_parts, and_from}
-use Rattle.reductions.specs.Reduction.{Reduction}
+use Rattle.op_num.specs.Reduction.{Reduction}
 use Rattle.kernel_model.specs.Obeys.{Mode, mode_at}
 use Rattle.mesh_decl.specs.declared.owners.Owners.{Owners}
 use Rattle.mesh_decl.specs.declared.owners.Perms.{Perms}
@@ -11,9 +11,9 @@ use Rattle.local_mesh.specs.declared.types.RankMesh.{RankMesh}
 use Rattle.schedule_model.specs.Cells.{Data, Variable, DatCell, VarCell}
 use Rattle.schedule_model.specs.Effects.{is_modified}
 use Rattle.schedule_model.specs.Program.{Free, is_loop}
-use Rattle.schedule_laws.specs.Arguments.{reaches}
+use Rattle.schedule_model.specs.Arguments.{reaches}
 use Rattle.flat_machine.specs.Layout.{among}
-use Rattle.element_runs.specs.ElementRun.{IsElementRun}
+use Rattle.run_model.specs.ElementRun.{IsElementRun}
 use Rattle.kernel_types.specs.declared.kernels.RKernel.{RKernel}
 use Rattle.bound_program.specs.Values.{BoundValue}
 use Rattle.run_model.specs.Windows.{reached, cell_in}

@@ -4,7 +4,7 @@ use Rattle.std.proofs.lemmas.Bool.{false≢true, false_from_ne_true}
 use Rattle.schedule_model.specs.Cells.{Cell}
 use Rattle.flat_machine.specs.Layout.{among}
 use Rattle.flat_machine.specs.Scatter.{Once}
-use Rattle.element_runs.specs.OnWindows.{no_cell}
+use Rattle.run_model.specs.OnWindows.{no_cell}
 use Rattle.bound_plan.proofs.Among.{among_at, at_among, piece_among, either_among}
 
 -- numbers that stand at one place each

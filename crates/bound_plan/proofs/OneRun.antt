@@ -12,7 +12,7 @@ use Rattle.kernel_model.specs.Trees.{RunsAlike}
 use Rattle.mesh_decl.specs.declared.owners.Owners.{Owners}
 use Rattle.mesh_decl.specs.Mesh.{MeshValue, dat_count, dat_set, dat_dim}
 use Rattle.mesh_decl.specs.Owners.{owners_in, owner_of}
-use Rattle.halo_lists.specs.Halo.{reaches, owns, imports_execute, executes, named_from, imports_nonexecute, imports, is_core}
+use Rattle.local_mesh.specs.Halo.{reaches, owns, imports_execute, executes, named_from, imports_nonexecute, imports, is_core}
 use Rattle.local_mesh.specs.declared.types.RankMesh.{RankMesh}
 use Rattle.local_mesh.specs.Values.{RankMeshValue, rank_mesh_value}
 use Rattle.schedule_steps.specs.Outline.{Outline}

@@ -1,17 +1,17 @@
 -- The parts of the setup: arguments, halos, messages and colours of its Free loops.
 use Rattle.std.proofs.Common.{◌≡◌, ◌<◌, ℕ, true, List, length, get_or, Some, None, refl, sym, ap, subst, ◌∙◌}
-use Rattle.reductions.specs.Reduction.{Reduction}
-use Rattle.reductions.specs.Access as laws
-use Rattle.reductions.specs.Access.{OpRead, OpReduce, access_of}
+use Rattle.op_num.specs.Reduction.{Reduction}
+use Rattle.op_num.specs.Access as laws
+use Rattle.op_num.specs.Access.{OpRead, OpReduce, access_of}
 use Rattle.mesh_decl.specs.declared.owners.Owners.{Owners}
 use Rattle.mesh_decl.specs.declared.owners.Perms.{Perms}
 use Rattle.mesh_decl.specs.Mesh.{map_count, map_from, map_to, map_dim, dat_set}
 use Rattle.local_mesh.specs.declared.types.RankMesh.{RankMesh}
 use Rattle.schedule_model.specs.Cells.{VarCell}
 use Rattle.schedule_model.specs.Program.{Free}
-use Rattle.schedule_laws.specs.Arguments.{Direct, Indirect, is_on, modifying, reading}
-use Rattle.schedule_laws.specs.Arguments as theorem
-use Rattle.schedule_laws.specs.LoopParts.{LoopParts}
+use Rattle.schedule_model.specs.Arguments.{Direct, Indirect, is_on, modifying, reading}
+use Rattle.schedule_model.specs.Arguments as theorem
+use Rattle.schedule_model.specs.LoopParts.{LoopParts}
 use Rattle.bound_program.specs.declared.sites.Arg.{Arg}
 use Rattle.bound_program.specs.declared.sites.Arg.TheVariants.{Dat}
 use Rattle.bound_program.specs.Values.{BoundValue}

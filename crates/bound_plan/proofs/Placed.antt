@@ -5,7 +5,7 @@ use Rattle.std.proofs.lemmas.Bool.{cases_Bool, cond-true, cond-false}
 use Rattle.mesh_decl.specs.declared.owners.Owners.{Owners}
 use Rattle.mesh_decl.specs.declared.owners.Perms.{Perms}
 use Rattle.mesh_decl.specs.Owners.{owner_of}
-use Rattle.halo_lists.specs.Halo.{owns, imports_execute, executes}
+use Rattle.local_mesh.specs.Halo.{owns, imports_execute, executes}
 use Rattle.local_mesh.specs.declared.types.RankMesh.{RankMesh}
 use Rattle.local_mesh.specs.LocalMesh.{executed_in}
 use Rattle.schedule_model.specs.Program.{Free, is_loop}

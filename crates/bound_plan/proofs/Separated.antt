@@ -5,7 +5,7 @@ use Rattle.std.specs.Prelude.{◌&&◌, ◌==◌, nat_lt}
 use Rattle.std.proofs.lemmas.Bool.{cases_eq, cases_lt, or_left, or_right, and_from, eq-eqb, lt-ltb}
 use Rattle.std.proofs.Math.Nat.{div-mul-le_self, lt-div-mul-add, add-mul}
 use Rattle.mesh_decl.specs.Mesh.{MeshValue}
-use Rattle.block_plan.specs.Blocks.{IsInBlock}
+use Rattle.colouring.specs.Blocks.{IsInBlock}
 use Rattle.colouring.specs.declared.types.IncArg.{IncArg}
 use Rattle.colouring.specs.declared.types.Colours.{Colours}
 use Rattle.colouring.specs.Colours.{Conflict, goes_before}

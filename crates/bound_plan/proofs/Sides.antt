@@ -6,7 +6,7 @@ use Rattle.mesh_decl.specs.declared.owners.Owners.{Owners}
 use Rattle.mesh_decl.specs.declared.owners.Perms.{Perms}
 use Rattle.mesh_decl.specs.Mesh.{set_size}
 use Rattle.mesh_decl.specs.Owners.{owner_of}
-use Rattle.halo_lists.specs.Halo.{owns, imports_execute, imports_nonexecute, has_copy}
+use Rattle.local_mesh.specs.Halo.{owns, imports_execute, imports_nonexecute, has_copy}
 use Rattle.local_mesh.specs.declared.types.RankMesh.{RankMesh}
 use Rattle.schedule_model.specs.Program.{Free}
 use Rattle.schedule_model.specs.Setup.{executes}

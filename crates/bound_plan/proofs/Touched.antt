@@ -2,16 +2,16 @@
 use Rattle.std.proofs.Common.{◌≡◌, ◌<◌, ℕ, zero, suc, true, false, ◌⊎◌, inl, inr, List, length, get_or, Option, Some, None, refl, sym, ap, subst, ◌∙◌, arith, ⊎_elim}
 use Rattle.std.specs.Prelude.{◌==◌, nat_lt}
 use Rattle.std.proofs.lemmas.Bool.{cases_Bool, cond-true, cond-false, false≢true, and_parts, and_left, eqb-true, ltb-true}
-use Rattle.reductions.specs.Reduction.{Reduction}
-use Rattle.reductions.specs.Access.{OpRead, access_of}
-use Rattle.reductions.specs.declared.access.Access.{Access}
-use Rattle.reductions.specs.declared.access.Access.TheVariants as code
+use Rattle.op_num.specs.Reduction.{Reduction}
+use Rattle.op_num.specs.Access.{OpRead, access_of}
+use Rattle.op_num.specs.declared.reductions.access.Access.{Access}
+use Rattle.op_num.specs.declared.reductions.access.Access.TheVariants as code
 use Rattle.schedule_model.specs.Cells.{Cell, Variable, VarCell}
 use Rattle.schedule_model.specs.Effects.{Untouched, Read, is_modified}
-use Rattle.schedule_laws.specs.Arguments.{Argument, Entries, reaches, joined, touch_by}
-use Rattle.schedule_laws.specs.Arguments as theorem
-use Rattle.schedule_laws.specs.Tells.{All}
-use Rattle.schedule_laws.specs.ByArguments.{touch_with}
+use Rattle.schedule_model.specs.Arguments.{Argument, Entries, reaches, joined, touch_by}
+use Rattle.schedule_model.specs.Arguments as theorem
+use Rattle.schedule_model.specs.Tells.{All}
+use Rattle.schedule_model.specs.ByArguments.{touch_with}
 use Rattle.bound_program.specs.declared.sites.Arg.{Arg}
 use Rattle.bound_program.specs.declared.sites.Arg.TheVariants.{Dat, Global}
 use Rattle.bound_program.specs.Values.{BoundValue}

@@ -6,7 +6,7 @@ use Rattle.mesh_decl.specs.Mesh.{MeshValue, IsMesh, IsMapAt, IsDatAt, set_count,
 use Rattle.mesh_decl.specs.Mesh.{map_from, map_to, map_dim, target}
 use Rattle.mesh_decl.specs.Owners.{IsNumbering, ArePerms, owner_of, perm_in}
 use Rattle.rank_sets.specs.Below.{HasNumbers}
-use Rattle.halo_lists.specs.Halo.{has_copy, owns, executes, imports, imports_execute, is_core}
+use Rattle.local_mesh.specs.Halo.{has_copy, owns, executes, imports, imports_execute, is_core}
 use Rattle.local_mesh.specs.declared.types.LocalSet.{LocalSet}
 use Rattle.local_mesh.specs.LocalMesh.{IsLocalSet, AreRankMeshes}
 use Rattle.local_mesh.specs.declared.types.RankMesh.{RankMesh}
@@ -24,10 +24,10 @@ use Rattle.schedule_model.specs.Cells.{Data, DatCell}
 use Rattle.schedule_model.specs.Effects.{is_modified}
 use Rattle.schedule_model.specs.Program.{Free, elements}
 use Rattle.schedule_model.specs.Setup.{Setup}
-use Rattle.schedule_laws.specs.Arguments.{reaches}
-use Rattle.schedule_laws.specs.LoopParts.{LoopParts}
-use Rattle.element_runs.specs.ElementRun.{ElementRunsAreIndependentByTouches}
-use Rattle.element_runs.specs.OnWindows.{ElementRunsOnWindows}
+use Rattle.schedule_model.specs.Arguments.{reaches}
+use Rattle.schedule_model.specs.LoopParts.{LoopParts}
+use Rattle.run_model.specs.ElementRun.{ElementRunsAreIndependentByTouches}
+use Rattle.run_model.specs.OnWindows.{ElementRunsOnWindows}
 use Rattle.run_model.specs.Constants.{ConstantsAreNumbered, ConstantsAreRead}
 use Rattle.run_model.specs.Ranges.{FirstValuesInRange, HostsKeepRange}
 

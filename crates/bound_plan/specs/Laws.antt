@@ -10,9 +10,9 @@ use Rattle.schedule_steps.specs.Alike.{AlikeOutlines}
 use Rattle.schedule_model.specs.Setup.{Setup}
 use Rattle.flat_machine.specs.Layout.{Layout, IsLayout, by_place}
 use Rattle.flat_machine.specs.Flat.{Flat, StartsFlat, flat_from, AgreesFlat}
-use Rattle.element_runs.specs.OnWindows.{OnWindows}
+use Rattle.run_model.specs.OnWindows.{OnWindows}
 use Rattle.schedule_model.specs.Laws.{Items, Lawful, Coloured}
-use Rattle.schedule_laws.specs.LoopParts.{LoopParts}
+use Rattle.schedule_model.specs.LoopParts.{LoopParts}
 use Rattle.run_model.specs.Ranges.{AllObey, StartsInRange}
 use Rattle.bound_program.specs.Values.{BoundValue, SiteValue}
 use Rattle.bound_program.specs.Fits.{Fits}

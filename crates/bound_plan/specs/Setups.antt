@@ -3,10 +3,10 @@ use Rattle.std.specs.Prelude.{◌/◌, ◌&&◌, List, length}
 use Rattle.kernel_types.specs.declared.faults.KernelFault.{KernelFault}
 use Rattle.mesh_decl.specs.declared.owners.Owners.{Owners}
 use Rattle.mesh_decl.specs.Owners.{owner_of}
-use Rattle.halo_lists.specs.Halo.{owns, imports_execute, imports_nonexecute, is_core}
+use Rattle.local_mesh.specs.Halo.{owns, imports_execute, imports_nonexecute, is_core}
 use Rattle.local_mesh.specs.declared.types.RankMesh.{RankMesh}
 use Rattle.schedule_model.specs.Setup.{Setup}
-use Rattle.schedule_laws.specs.ByArguments.{touch_with}
+use Rattle.schedule_model.specs.ByArguments.{touch_with}
 use Rattle.bound_program.specs.Values.{BoundValue}
 use Rattle.run_model.specs.Programs.{program_of}
 use Rattle.run_model.specs.Arguments.{argument_at, entries, dat_width, var_width, is_constant}

@@ -1,8 +1,8 @@
 -- Where the cells of variables stand in the list of all, and how loops merge amounts into them.
 use Rattle.std.specs.Prelude.{ℕ, zero, suc, ◌+◌, cond, nat_eq, nat_lt, List, [], ◌∷◌, slice_index_or, Option, Some, None}
-use Rattle.reductions.specs.Reduction.{Reduction, Add, Min, Max}
-use Rattle.reductions.specs.declared.access.Access.{Access}
-use Rattle.reductions.specs.declared.access.Access.TheVariants as access
+use Rattle.op_num.specs.Reduction.{Reduction, Add, Min, Max}
+use Rattle.op_num.specs.declared.reductions.access.Access.{Access}
+use Rattle.op_num.specs.declared.reductions.access.Access.TheVariants as access
 use Rattle.schedule_model.specs.Cells.{VarCell}
 use Rattle.bound_program.specs.declared.sites.Arg.{Arg}
 use Rattle.bound_program.specs.declared.sites.Arg.TheVariants.{Dat, Global}

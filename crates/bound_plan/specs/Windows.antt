@@ -6,7 +6,7 @@ use Rattle.kernel_model.specs.Meaning.{kernel_meaning}
 use Rattle.kernel_model.specs.Meaning as kernel
 use Rattle.schedule_model.specs.Cells.{Cell}
 use Rattle.flat_machine.specs.Layout.{Core, Leaves}
-use Rattle.element_runs.specs.OnWindows.{core_of}
+use Rattle.run_model.specs.OnWindows.{core_of}
 use Rattle.bound_program.specs.declared.sites.Arg.{Arg}
 use Rattle.bound_program.specs.declared.sites.Arg.TheVariants.{Dat, Global}
 use Rattle.bound_program.specs.Values.{BoundValue, SiteValue}

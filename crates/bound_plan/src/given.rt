@@ -12,10 +12,10 @@ pub(crate) fn meshes_and_items()
 {
     rank_sets::numbers_are_listed();
     mesh_decl::declarations_hold();
-    halo_lists::execute_halo_owns_a_target();
-    halo_lists::executed_targets_are_copies();
-    halo_lists::core_targets_are_owned();
-    halo_lists::imports_are_of_others();
+    local_mesh::halo_lists::execute_halo_owns_a_target();
+    local_mesh::halo_lists::executed_targets_are_copies();
+    local_mesh::halo_lists::core_targets_are_owned();
+    local_mesh::halo_lists::imports_are_of_others();
     local_mesh::owned_come_first();
     local_mesh::executed_come_first();
     local_mesh::originals_are_distinct();
@@ -32,9 +32,9 @@ pub(crate) fn kernels_and_frames()
     ensures frames { FrameLaws }
 {
     kernel_model::shape_stays();
-    schedule_laws::windows_are_modified::<KernelFault>();
-    element_runs::element_runs_give_effects();
-    element_runs::element_runs_on_windows();
+    schedule_model::schedule_laws::windows_are_modified::<KernelFault>();
+    run_model::element_runs::element_runs_give_effects();
+    run_model::element_runs::element_runs_on_windows();
     run_model::items_are_there();
     run_model::elements_run_kernels();
     run_model::loops_keep();

@@ -17,7 +17,7 @@ pub fn setups_are_coloured()
     ensures { SetupsAreColoured }
 {
     setups_have_parts();
-    schedule_laws::setup_is_lawful::<KernelFault>();
+    schedule_model::schedule_laws::setup_is_lawful::<KernelFault>();
 }
 
 /// A law: a bound program on several ranks with a proper plan, whose loops' kernels obey their modes and that begins with
@@ -28,5 +28,5 @@ pub fn setups_are_lawful()
     meshes_and_items();
     kernels_and_frames();
     setups_have_parts();
-    schedule_laws::setup_is_lawful::<KernelFault>();
+    schedule_model::schedule_laws::setup_is_lawful::<KernelFault>();
 }

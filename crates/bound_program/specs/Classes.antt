@@ -1,8 +1,8 @@
 -- How a loop reaches its dats, and whether the order of its elements may matter.
 use Rattle.std.specs.Prelude.{ℕ, Bool, true, false, not, ◌&&◌, ◌||◌, List, Option, is_some, is_none, nat_eq, if◌then◌else◌}
 use Rattle.std.specs.List.{list_all, list_any}
-use Rattle.reductions.specs.declared.access.Access.{Access}
-use Rattle.reductions.specs.declared.access.Access.TheVariants as access
+use Rattle.op_num.specs.declared.reductions.access.Access.{Access}
+use Rattle.op_num.specs.declared.reductions.access.Access.TheVariants as access
 use Rattle.mesh_decl.specs.declared.access.Via.{Via}
 use Rattle.bound_program.specs.declared.sites.Arg.{Arg}
 use Rattle.bound_program.specs.declared.sites.Arg.TheVariants.{Dat, Global}

@@ -8,8 +8,8 @@ use Rattle.kernel_types.specs.declared.statements.RStmt.{RStmt, Block', Declare,
 use Rattle.kernel_types.specs.declared.statements.RStmt.{end_of-RStmt, more_of-RStmt}
 use Rattle.kernel_types.specs.declared.kernels.RKernel.{RKernel}
 use Rattle.kernel_types.specs.Resolved.{IsResolved}
-use Rattle.reductions.specs.declared.access.Access.{Access}
-use Rattle.reductions.specs.declared.access.Access.TheVariants as access
+use Rattle.op_num.specs.declared.reductions.access.Access.{Access}
+use Rattle.op_num.specs.declared.reductions.access.Access.TheVariants as access
 use Rattle.mesh_decl.specs.declared.access.Via.{Via}
 use Rattle.mesh_decl.specs.Mesh.{IsMesh, set_count, map_count, dat_count, map_from, map_to, map_dim, dat_set, dat_dim}
 use Rattle.mesh_decl.specs.Printed.{conversions}

@@ -3,3 +3,9 @@ pub mod Values
 pub mod Limits
 pub mod Classes
 pub mod Fits
+pub mod Refusals
+pub mod Steps
+pub mod Trace
+pub mod Limited
+pub mod Unrolling
+pub mod Naming

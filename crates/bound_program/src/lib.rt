@@ -8,7 +8,9 @@ mod acts;
 mod classes;
 mod limits;
 mod programs;
+pub mod refusals;
 mod sites;
+pub mod trace;
 
 pub use acts::{Act, Item, ToldAct};
 pub use classes::{class_of, is_access};

@@ -5,10 +5,10 @@ use Rattle.std.proofs.lemmas.List.{get_or-map}
 use Rattle.rank_sets.specs.Below.{row, listed}
 use Rattle.mesh_decl.specs.declared.owners.Owners.{Owners}
 use Rattle.mesh_decl.specs.Mesh.{MeshValue, set_count, set_size}
-use Rattle.halo_lists.specs.declared.types.SetHalo.{SetHalo}
-use Rattle.halo_lists.specs.declared.types.Halos.{Halos}
-use Rattle.halo_lists.specs.Halo.{imports_execute, imports_nonexecute}
-use Rattle.halo_lists.specs.Halos.{IsSetHalo, AreHalos}
+use Rattle.local_mesh.specs.declared.halo_lists.types.SetHalo.{SetHalo}
+use Rattle.local_mesh.specs.declared.halo_lists.types.Halos.{Halos}
+use Rattle.local_mesh.specs.Halo.{imports_execute, imports_nonexecute}
+use Rattle.local_mesh.specs.Halos.{IsSetHalo, AreHalos}
 use Rattle.cell_numbers.specs.Marks.{exec_in, nonexec_in}
 
 -- ---- lists as code reads them

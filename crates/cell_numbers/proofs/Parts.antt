@@ -6,7 +6,7 @@ use Rattle.rank_sets.specs.Below.{listed}
 use Rattle.mesh_decl.specs.declared.owners.Owners.{Owners}
 use Rattle.mesh_decl.specs.Mesh.{MeshValue}
 use Rattle.mesh_decl.specs.Owners.{owners_in, owner_of}
-use Rattle.halo_lists.specs.Halo.{owns, reaches, named, executes, imports_execute, imports_nonexecute}
+use Rattle.local_mesh.specs.Halo.{owns, reaches, named, executes, imports_execute, imports_nonexecute}
 use Rattle.cell_numbers.specs.Numbers.{part_of}
 use Rattle.cell_numbers.specs.Marks.{marked, own_or_other, AllBelow}
 use Rattle.cell_numbers.proofs.Listed.{listed_any, listed_below}

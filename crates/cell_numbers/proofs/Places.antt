@@ -11,7 +11,7 @@ use Rattle.bound_program.specs.declared.sites.Site.{Site}
 use Rattle.bound_program.specs.Classes.{scatters}
 use Rattle.bound_program.specs.Fits.{site_at}
 use Rattle.distribute.specs.declared.types.Distribution.{Distribution}
-use Rattle.halo_lists.specs.Halo.{owns, has_copy, imports_execute, imports_nonexecute}
+use Rattle.local_mesh.specs.Halo.{owns, has_copy, imports_execute, imports_nonexecute}
 use Rattle.local_mesh.specs.declared.types.RankMesh.{RankMesh}
 use Rattle.local_mesh.specs.declared.types.LocalSet.{LocalSet}
 use Rattle.local_mesh.specs.LocalMesh.{originals_in, executed_in, IsRankMesh}

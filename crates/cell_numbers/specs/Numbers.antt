@@ -4,7 +4,7 @@ use Rattle.std.specs.Fmt.{decimal}
 use Rattle.mesh_decl.specs.declared.owners.Owners.{Owners}
 use Rattle.mesh_decl.specs.Mesh.{MeshValue}
 use Rattle.mesh_decl.specs.Owners.{owner_of}
-use Rattle.halo_lists.specs.Halo.{owns, imports_execute, imports_nonexecute}
+use Rattle.local_mesh.specs.Halo.{owns, imports_execute, imports_nonexecute}
 use Rattle.local_mesh.specs.declared.types.RankMesh.{RankMesh}
 use Rattle.local_mesh.specs.Lists.{originals_of, IsLocal}
 use Rattle.loop_plan.specs.Values.{PlanValue, block_colour_in}

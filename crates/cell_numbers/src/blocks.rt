@@ -10,8 +10,8 @@ ghost use Rattle.loop_plan.specs.Places.{runs_loop, runs_free};
 ghost use Rattle.cell_numbers.specs.Numbers.{IsBlockColour};
 ghost use Rattle.cell_numbers.specs.Shown.{IsOnRanks, IsFreeRun};
 
-use block_plan::block_of;
 use bound_program::{Bound, Item};
+use colouring::block_plan::block_of;
 use distribute::Distribution;
 use loop_plan::{Plan, SitePlan};
 use op_num::OutOfMemory;

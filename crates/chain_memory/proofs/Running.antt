@@ -10,8 +10,8 @@ use Rattle.kernel_model.specs.Meaning.{Target}
 use Rattle.mesh_decl.specs.declared.owners.Owners.{Owners}
 use Rattle.mesh_decl.specs.Mesh.{IsInRange, set_size}
 use Rattle.mesh_decl.specs.Owners.{AreOwners}
-use Rattle.views.specs.declared.frame.Place.{Place}
-use Rattle.views.specs.Framed.{PlacesIn}
+use Rattle.kernel_types.specs.declared.views.frame.Place.{Place}
+use Rattle.kernel_types.specs.Framed.{PlacesIn}
 use Rattle.schedule_model.specs.Cells.{Store}
 use Rattle.rank_state.specs.declared.spans.Span.{Span}
 use Rattle.rank_state.specs.Core.{fault_of}
@@ -23,7 +23,7 @@ use Rattle.bound_program.specs.Fits.{Fits, constant_cells, site_at}
 use Rattle.run_model.specs.Windows.{windows}
 use Rattle.run_model.specs.Kernels.{constant_in, constants, constant_values, element_run}
 use Rattle.run_model.specs.Laws.{WindowsAreReached}
-use Rattle.placed_runs.specs.Placed.{arg_places, place_spans, HoldsWindows, EndsPlaced, RunsPlaced, PlacedElementsRun}
+use Rattle.chain_memory.specs.Placed.{arg_places, place_spans, HoldsWindows, EndsPlaced, RunsPlaced, PlacedElementsRun}
 use Rattle.chain_memory.specs.Places.{stands_at, all_cells, AtRank}
 use Rattle.chain_memory.specs.Sound.{IsLoop}
 use Rattle.chain_memory.specs.declared.loops.Loop.{Loop}

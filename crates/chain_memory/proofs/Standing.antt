@@ -9,7 +9,7 @@ use Rattle.mesh_decl.specs.Owners.{AreOwners, owner_of}
 use Rattle.schedule_model.specs.Cells.{Cell, same_cell}
 use Rattle.schedule_model.specs.Tests.{same_cell_true}
 use Rattle.flat_machine.specs.Layout.{among}
-use Rattle.element_runs.specs.OnWindows.{no_cell, OnWindows}
+use Rattle.run_model.specs.OnWindows.{no_cell, OnWindows}
 use Rattle.in_place.specs.Saving.{place_cells}
 use Rattle.bound_program.specs.declared.sites.Arg.{Arg}
 use Rattle.bound_program.specs.declared.sites.Arg.TheVariants.{Dat, Global}
@@ -21,7 +21,7 @@ use Rattle.run_model.specs.Memory.{memory_length, place_of, has_cell}
 use Rattle.run_model.proofs.Windows.{is_argument, below}
 use Rattle.run_model.proofs.Memory.{has_dat, has_var, inside, apart, follow}
 use Rattle.chain_memory.proofs.Within.{block_end, pair_within, variable_within}
-use Rattle.placed_runs.specs.Placed.{arg_place, ArePlaced}
+use Rattle.chain_memory.specs.Placed.{arg_place, ArePlaced}
 use Rattle.chain_memory.specs.Places.{all_cells, block_at, stands_at, AtRank}
 
 module _ (b : BoundValue) where

@@ -1,3 +1,5 @@
 pub mod Places
 pub mod Layouts
 pub mod Sound
+pub mod Placed
+pub mod Cells

@@ -6,7 +6,7 @@ ghost use Rattle.schedule_model.specs.Cells.{Store};
 ghost use Rattle.bound_program.specs.Fits.{ArgFits, ViaFits, site_at};
 ghost use Rattle.run_model.specs.Windows.{Element, cell_in, element_by};
 ghost use Rattle.run_model.specs.Kernels.{constants, constant_values, element_run};
-ghost use Rattle.placed_runs.specs.Placed.{arg_place as place_of_arg, arg_places, HoldsWindows, EndsPlaced};
+ghost use Rattle.chain_memory.specs.Placed.{arg_place as place_of_arg, arg_places, HoldsWindows, EndsPlaced};
 ghost use Rattle.chain_memory.specs.Places.{all_cells, block_at, AtRank};
 ghost use Rattle.chain_memory.specs.Sound.{Sound, IsLoop, program_in, ranks_in, place_in};
 
@@ -16,7 +16,7 @@ use crate::places::{owner_of, pair_at, variable_at, width_of};
 use bound_program::{Arg, Via};
 use in_place::run_here;
 use kernel_types::KernelFault;
-use views::Place;
+use kernel_types::views::Place;
 
 // All arguments' cells are taken over from a run.
 const MARKS: [bool; MAX_ARGS] = [true; MAX_ARGS];
@@ -125,7 +125,7 @@ pub fn run_element(
 {
     blocks.bound.mesh.is_in_range();
     run_model::windows_are_reached();
-    placed_runs::placed_elements_run();
+    crate::placed_runs::placed_elements_run();
     let mut places = [Place { from: 0, count: 0 }; MAX_ARGS];
     let places = &mut places[..all.args.len()];
     put_places(blocks, at, all, element, places);

@@ -4,9 +4,11 @@
 
 mod blocks;
 mod cells;
+pub mod chain_stores;
 mod elements;
 mod layouts;
 mod loops;
+pub mod placed_runs;
 mod places;
 
 pub use blocks::Blocks;

@@ -2,7 +2,7 @@
 use Rattle.std.proofs.Common.{◌≡◌, ℕ, ℤ, zero, suc, ◌<◌, ◌≤◌, Bool, true, false, cond, ◌⊎◌, inl, inr, refl, sym, ap, subst, ◌∙◌, arith, ⊎_elim, Option, Some, None, List, ◌++◌}
 use Rattle.std.specs.Prelude.{◌&&◌, ◌==◌, nat_lt, is_some}
 use Rattle.std.proofs.lemmas.Bool.{cases_eq, cases_lt, cases_Bool, false≢true, false_from_ne_true, cond_both, cond-true, cond-false, and_from, and_right, eq-eqb, ne_eqb, lt-ltb, le-ltb}
-use Rattle.reductions.specs.Reduction.{Reduction}
+use Rattle.op_num.specs.Reduction.{Reduction}
 use Rattle.schedule_model.specs.Cells.{Cell, Data, Variable, DatCell, VarCell, Store, InRange}
 use Rattle.schedule_model.specs.Program.{Kind, Free, Reduce, Ordered, Host, is_free, is_loop, Halts, Goes, elements}
 use Rattle.schedule_model.specs.Setup.{owner_of}

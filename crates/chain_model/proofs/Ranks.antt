@@ -2,7 +2,7 @@
 use Rattle.std.proofs.Common.{◌≡◌, ℕ, ℤ, zero, suc, ◌<◌, ◌≤◌, Bool, true, false, cond, inl, inr, refl, sym, ap, subst, ◌∙◌, arith, ⊎_elim, Option, Some, None}
 use Rattle.std.specs.Prelude.{◌&&◌, ◌==◌, not}
 use Rattle.std.proofs.lemmas.Bool.{cases_eq, cases_Bool, false≢true, cond_both, cond-true, cond-false, and_from, and_right, not_from_false, eq-eqb, ne_eqb}
-use Rattle.reductions.specs.Reduction.{Reduction}
+use Rattle.op_num.specs.Reduction.{Reduction}
 use Rattle.schedule_model.specs.Cells.{Cell, Data, Variable, DatCell, VarCell}
 use Rattle.schedule_model.specs.Effects.{is_modified}
 use Rattle.schedule_model.specs.Program.{Free, Reduce, is_free, elements}

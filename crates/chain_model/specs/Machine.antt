@@ -1,6 +1,6 @@
 -- The machine that runs chains: ranks with stores, item by item, with one exchange at the start of each chain.
 use Rattle.std.specs.Prelude.{◌≡◌, ℕ, ℤ, zero, suc, cond, ◌==◌, List, [], ◌∷◌, ◌++◌, Option, Some, None, is_some, pos}
-use Rattle.reductions.specs.Reduction.{Reduction}
+use Rattle.op_num.specs.Reduction.{Reduction}
 use Rattle.schedule_model.specs.Cells.{Data, Variable, DatCell, VarCell, Store}
 use Rattle.schedule_model.specs.Effects.{Ran, Faulted, Finished}
 use Rattle.schedule_model.specs.Program.{Kind, Free, Reduce, Ordered, Host, Hosted, Halts, Goes, elements}

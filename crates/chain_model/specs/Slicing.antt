@@ -1,6 +1,6 @@
 -- A program on ranks that run its chains with one exchange each: what a rank needs, and which elements it executes.
 use Rattle.std.specs.Prelude.{ℕ, Bool, cond, nat_lt, Option}
-use Rattle.reductions.specs.Reduction.{Reduction}
+use Rattle.op_num.specs.Reduction.{Reduction}
 use Rattle.schedule_model.specs.Cells.{VarCell}
 use Rattle.schedule_model.specs.Program.{Program}
 

@@ -19,7 +19,7 @@ pub fn chains_run_as_sequential<F>()
     ensures kept { (p : Setup F) (needs : ℕ → ℕ → ℕ → ℕ → Bool) (executes : ℕ → ℕ → ℕ → Bool)
         → Lawful p → AreSlices p needs executes → KeepsNeeds (sliced p needs executes) }
 {
-    reductions::reductions_commute();
+    op_num::reductions::reductions_commute();
 }
 
 /// A chain is told by its first item, and has one last item.

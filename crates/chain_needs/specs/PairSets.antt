@@ -4,7 +4,7 @@ use Rattle.std.specs.declared.alloc.Global.{Global}
 use Rattle.rank_sets.specs.declared.rank_set.RankSet.{RankSet}
 use Rattle.mesh_decl.specs.declared.access.Via.{Via}
 use Rattle.mesh_decl.specs.Mesh.{MeshValue, dat_count, dat_set, set_size, map_count, map_from, map_to, map_dim}
-use Rattle.halo_lists.specs.Sets.{sets_in, has_in}
+use Rattle.local_mesh.specs.Sets.{sets_in, has_in}
 use Rattle.bound_program.specs.declared.sites.Arg.{Arg}
 use Rattle.bound_program.specs.declared.sites.Arg.TheVariants.{Dat, Global as Variable}
 

@@ -2,6 +2,7 @@
 //! by walking over the elements of each loop.
 #![tactic(auto)]
 
+pub mod chain_slices;
 mod chains;
 mod counting;
 mod executing;

@@ -3,7 +3,7 @@
 ghost use Rattle.std.specs.Prelude.{◌≡◌, ◌<◌, ℕ, length};
 ghost use Rattle.mesh_decl.specs.Mesh.{set_size, dat_set};
 ghost use Rattle.rank_sets.specs.RankSet.{has};
-ghost use Rattle.halo_lists.specs.Sets.{sets_in, has_in};
+ghost use Rattle.local_mesh.specs.Sets.{sets_in, has_in};
 ghost use Rattle.bound_program.specs.Values.{bound_of};
 ghost use Rattle.run_model.specs.Windows.{element_by};
 ghost use Rattle.chain_needs.specs.PairSets.{ViaLeads};

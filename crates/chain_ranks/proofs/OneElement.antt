@@ -7,7 +7,7 @@ use Rattle.kernel_types.specs.declared.faults.KernelFault.{KernelFault}
 use Rattle.mesh_decl.specs.declared.owners.Owners.{Owners}
 use Rattle.mesh_decl.specs.Mesh.{IsInRange, set_size}
 use Rattle.mesh_decl.specs.Owners.{AreOwners}
-use Rattle.reductions.specs.Reduction.{Reduction}
+use Rattle.op_num.specs.Reduction.{Reduction}
 use Rattle.schedule_model.specs.Cells.{Cell, Data, Variable, DatCell, VarCell, Store}
 use Rattle.schedule_model.specs.Machine.{window_of, merge_at}
 use Rattle.bound_program.specs.Values.{BoundValue, SiteValue, no_site}
@@ -24,15 +24,15 @@ use Rattle.bound_plan.specs.Variables.{reduced_by, reduces_at}
 use Rattle.bound_plan.proofs.Touched.{Merges, merges}
 use Rattle.chain_model.specs.Machine.{ChainState, value_in, replaced, left_in, pair_values, view}
 use Rattle.bound_chains.specs.Slices.{needs, slicing_of}
-use Rattle.placed_runs.specs.Placed.{HoldsWindows, LeavesPlaced}
+use Rattle.chain_memory.specs.Placed.{HoldsWindows, LeavesPlaced}
 use Rattle.chain_memory.specs.Places.{in_block, all_cells, stands_at}
 use Rattle.chain_memory.proofs.Standing.{reached_there}
-use Rattle.chain_stores.specs.Cells.{Values, BlocksHold}
-use Rattle.chain_stores.proofs.Writing.{blocks_apart}
-use Rattle.chain_elements.specs.Globals.{is_on, with_globals}
-use Rattle.chain_elements.specs.Dropping.{leads_to, dropped}
-use Rattle.chain_elements.specs.Merging.{merged_all}
-use Rattle.chain_elements.specs.Constants.{constants_in}
+use Rattle.chain_memory.specs.Cells.{Values, BlocksHold}
+use Rattle.chain_memory.proofs.chain_stores.Writing.{blocks_apart}
+use Rattle.chain_ranks.specs.Globals.{is_on, with_globals}
+use Rattle.chain_ranks.specs.Dropping.{leads_to, dropped}
+use Rattle.chain_ranks.specs.Merging.{merged_all}
+use Rattle.chain_ranks.specs.Constants.{constants_in}
 use Rattle.chain_ranks.specs.Running.{StoresStand, AreHeld}
 use Rattle.chain_ranks.proofs.Reached.{is_reached, reached_by, led_to, on_variable}
 use Rattle.lemmas.proofs.Truth.{cases_bool}

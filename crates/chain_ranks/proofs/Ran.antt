@@ -19,17 +19,17 @@ use Rattle.run_model.specs.Programs.{item_at, loop_of}
 use Rattle.run_model.specs.Laws.{WindowsAreReached}
 use Rattle.host_acts.specs.Variables.{of_vars}
 use Rattle.rank_state.specs.Machine.{noted}
-use Rattle.rank_memory.specs.declared.stop.Stop.{Stop as Told}
-use Rattle.rank_memory.specs.Stops.{stop_in}
+use Rattle.rank_state.specs.declared.rank_memory.stop.Stop.{Stop as Told}
+use Rattle.rank_state.specs.Stops.{stop_in}
 use Rattle.bound_plan.specs.Variables.{reduces_at}
 use Rattle.chain_model.specs.Machine.{ChainState, replaced, left_in, pair_values, view, ran}
 use Rattle.bound_chains.specs.Slices.{needs, slicing_of}
-use Rattle.placed_runs.specs.Placed.{LeavesPlaced, EndsPlaced}
+use Rattle.chain_memory.specs.Placed.{LeavesPlaced, EndsPlaced}
 use Rattle.chain_memory.specs.Places.{in_block, stands_at}
-use Rattle.chain_stores.specs.Cells.{BlocksHold}
-use Rattle.chain_elements.specs.Globals.{with_globals}
-use Rattle.chain_elements.specs.Dropping.{dropped}
-use Rattle.chain_elements.specs.Merging.{merged_all}
+use Rattle.chain_memory.specs.Cells.{BlocksHold}
+use Rattle.chain_ranks.specs.Globals.{with_globals}
+use Rattle.chain_ranks.specs.Dropping.{dropped}
+use Rattle.chain_ranks.specs.Merging.{merged_all}
 use Rattle.chain_ranks.specs.Running.{StoresStand, Runs}
 use Rattle.chain_ranks.proofs.OneElement.{read, given_dat, given_variable, pair_after, variable_after, amount_after}
 use Rattle.lemmas.proofs.Truth.{cases_bool}

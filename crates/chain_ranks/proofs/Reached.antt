@@ -6,7 +6,7 @@ use Rattle.std.proofs.lemmas.List.Folds.{list_any_at}
 use Rattle.kernel_model.specs.Obeys.{Mode, mode_at}
 use Rattle.mesh_decl.specs.declared.owners.Owners.{Owners}
 use Rattle.schedule_model.specs.Cells.{Cell, Data, Variable, DatCell, VarCell}
-use Rattle.element_runs.specs.OnWindows.{no_cell}
+use Rattle.run_model.specs.OnWindows.{no_cell}
 use Rattle.bound_program.specs.declared.sites.Arg.{Arg}
 use Rattle.bound_program.specs.declared.sites.Arg.TheVariants.{Dat, Global}
 use Rattle.bound_program.specs.Values.{BoundValue, SiteValue}
@@ -16,8 +16,8 @@ use Rattle.run_model.specs.Laws.{WindowsAreReached}
 use Rattle.run_model.proofs.Windows.{mode_is, is_argument}
 use Rattle.bound_plan.proofs.Among.{at_among, among_at}
 use Rattle.flat_machine.specs.Layout.{among}
-use Rattle.chain_elements.specs.Globals.{is_on}
-use Rattle.chain_elements.specs.Dropping.{leads_to}
+use Rattle.chain_ranks.specs.Globals.{is_on}
+use Rattle.chain_ranks.specs.Dropping.{leads_to}
 
 -- the cell is one of the element's windows
 abbrev pub is_reached : BoundValue → List Arg → ℕ → Cell → Bool

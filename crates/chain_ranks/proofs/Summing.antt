@@ -3,7 +3,7 @@ use Rattle.std.proofs.Common.{◌≡◌, ◌≢◌, ◌<◌, ◌≤◌, ◌+◌,
 use Rattle.std.specs.List.{list_any}
 use Rattle.std.proofs.lemmas.Bool.{and_parts, eqb-true, eq-eqb, ne_eqb, lt-ltb}
 use Rattle.std.proofs.lemmas.List.Folds.{list_any_at}
-use Rattle.reductions.specs.Reduction.{Reduction, unit_of, merged}
+use Rattle.op_num.specs.Reduction.{Reduction, unit_of, merged}
 use Rattle.schedule_model.specs.Cells.{Cell, Variable, VarCell}
 use Rattle.schedule_model.specs.Machine.{window_of}
 use Rattle.bound_program.specs.Values.{BoundValue, no_site}
@@ -16,10 +16,10 @@ use Rattle.bound_plan.specs.Variables.{reduced_by, reduces_at}
 use Rattle.bound_plan.proofs.Touched.{Merges, merges}
 use Rattle.chain_model.specs.Machine.{merged_over}
 use Rattle.chain_memory.specs.Places.{in_block}
-use Rattle.chain_stores.specs.Cells.{Values, BlocksHold, is_cell_of, component_of, with_target}
-use Rattle.chain_stores.proofs.Writing.{is_component, component_is, has_of, block_follow, written}
-use Rattle.chain_elements.specs.Globals.{is_on}
-use Rattle.chain_elements.specs.Merging.{changed_all}
+use Rattle.chain_memory.specs.Cells.{Values, BlocksHold, is_cell_of, component_of, with_target}
+use Rattle.chain_memory.proofs.chain_stores.Writing.{is_component, component_is, has_of, block_follow, written}
+use Rattle.chain_ranks.specs.Globals.{is_on}
+use Rattle.chain_ranks.specs.Merging.{changed_all}
 use Rattle.chain_ranks.specs.Partials.{units}
 use Rattle.lemmas.proofs.Truth.{cases_bool}
 

@@ -7,9 +7,9 @@ use Rattle.run_model.specs.Kernels.{constants}
 use Rattle.run_model.specs.Programs.{item_at, loop_of, program_of}
 use Rattle.chain_model.specs.Machine.{ChainState, view, ran}
 use Rattle.bound_chains.specs.Slices.{slicing_of}
-use Rattle.chain_slices.specs.Slices.{AreSlices, IsFreeItem}
+use Rattle.chain_needs.specs.Slices.{AreSlices, IsFreeItem}
 use Rattle.chain_memory.specs.Sound.{Sound, IsLoop, program_in}
-use Rattle.chain_elements.specs.Constants.{constants_in}
+use Rattle.chain_ranks.specs.Constants.{constants_in}
 use Rattle.chain_ranks.specs.declared.loops.ChainLoop.{ChainLoop}
 
 module _ (x : ChainLoop) where

@@ -2,8 +2,8 @@
 use Rattle.std.specs.Prelude.{ℕ}
 use Rattle.schedule_model.specs.Machine.{window_of}
 use Rattle.chain_model.specs.Machine.{merged_over}
-use Rattle.chain_stores.specs.Cells.{Values}
-use Rattle.chain_elements.specs.Merging.{Change}
+use Rattle.chain_memory.specs.Cells.{Values}
+use Rattle.chain_ranks.specs.Merging.{Change}
 
 -- the unit, where the loop merges amounts into the variable
 abbrev pub units : Change

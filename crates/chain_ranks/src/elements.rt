@@ -6,21 +6,21 @@ ghost use Rattle.mesh_decl.specs.Mesh.{set_size};
 ghost use Rattle.mesh_decl.specs.Owners.{owner_of};
 ghost use Rattle.host_acts.specs.Variables.{of_vars};
 ghost use Rattle.rank_state.specs.Machine.{noted};
-ghost use Rattle.rank_memory.specs.Stops.{stop_in};
+ghost use Rattle.rank_state.specs.Stops.{stop_in};
 ghost use Rattle.chain_model.specs.Machine.{ChainState};
 ghost use Rattle.chain_memory.specs.Places.{all_cells};
 ghost use Rattle.chain_memory.specs.Sound.{ranks_in};
-ghost use Rattle.chain_stores.specs.Cells.{Values, BlocksHold};
-ghost use Rattle.chain_elements.specs.Dropping.{dropped};
-ghost use Rattle.chain_elements.specs.Merging.{merged_all};
+ghost use Rattle.chain_memory.specs.Cells.{Values, BlocksHold};
+ghost use Rattle.chain_ranks.specs.Dropping.{dropped};
+ghost use Rattle.chain_ranks.specs.Merging.{merged_all};
 ghost use Rattle.chain_ranks.specs.Running.{Runs};
 ghost use Rattle.chain_ranks.specs.Loops.{IsChainLoop, HasConstants, element_ran, program_of_loop, owners_of_loop};
 
+use crate::chain_elements::{drop_unheld, merge_globals, put_globals};
 use crate::loops::ChainLoop;
-use chain_elements::{drop_unheld, merge_globals, put_globals};
 use chain_memory::run_element;
 use kernel_types::KernelFault;
-use rank_memory::stop::{Stop, least};
+use rank_state::rank_memory::stop::{Stop, least};
 
 // Keeps the fault of an element, where its rank owns it.
 fn keep_fault(

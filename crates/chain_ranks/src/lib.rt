@@ -1,6 +1,8 @@
 //! A Free loop of a chain on all ranks, as the machine of chains does it: what each executes, and what their amounts come to.
 #![tactic(auto)]
 
+pub mod chain_elements;
+pub mod chain_exchange;
 mod elements;
 mod loops;
 mod ranks;

@@ -1,7 +1,7 @@
 // What the elements of a Free loop have in common.
 
 use chain_memory::{Blocks, Loop};
-use chain_slices::Slices;
+use chain_needs::chain_slices::Slices;
 
 /// The loop of a Free item.
 #[derive(Drop)]

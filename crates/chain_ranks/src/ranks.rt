@@ -14,7 +14,7 @@ ghost use Rattle.chain_ranks.specs.Loops.{IsChainLoop, HasConstants, program_of_
 
 use crate::elements::run_on_rank;
 use crate::loops::ChainLoop;
-use rank_memory::stop::Stop;
+use rank_state::rank_memory::stop::Stop;
 
 // The elements that a rank executes, by increasing number.
 fn run_rank(

@@ -8,12 +8,12 @@ ghost use Rattle.rank_state.specs.Windows.{operation};
 ghost use Rattle.chain_model.specs.Machine.{merged_over};
 ghost use Rattle.chain_memory.specs.Places.{all_cells};
 ghost use Rattle.chain_memory.specs.Sound.{Sound, IsLoop, program_in, ranks_in};
-ghost use Rattle.chain_stores.specs.Cells.{Values, BlocksHold, Hold, with_target};
-ghost use Rattle.chain_elements.specs.Merging.{changed_by, changed_all};
+ghost use Rattle.chain_memory.specs.Cells.{Values, BlocksHold, Hold, with_target};
+ghost use Rattle.chain_ranks.specs.Merging.{changed_by, changed_all};
 ghost use Rattle.chain_ranks.specs.Partials.{sums_of};
 
+use crate::chain_elements::{merge_cells, operation_of, partial_at};
 use bound_program::Arg;
-use chain_elements::{merge_cells, operation_of, partial_at};
 use chain_memory::{Blocks, Loop, variable_at, width_of};
 use rank_state::Operation;
 

@@ -1,7 +1,7 @@
 // Units in the partials of a loop.
 
 ghost use Rattle.std.specs.Prelude.{◌≡◌, ◌<◌, ℕ, pos, true, Some, length, get_or};
-ghost use Rattle.reductions.specs.Reduction.{Reduction, unit_of};
+ghost use Rattle.op_num.specs.Reduction.{Reduction, unit_of};
 ghost use Rattle.schedule_model.specs.Cells.{Variable, VarCell};
 ghost use Rattle.bound_program.specs.Fits.{ArgFits};
 ghost use Rattle.run_model.specs.Memory.{has_cell};
@@ -9,14 +9,14 @@ ghost use Rattle.host_acts.specs.Variables.{of_vars};
 ghost use Rattle.bound_plan.specs.Variables.{reduces_at};
 ghost use Rattle.chain_memory.specs.Places.{in_block, all_cells};
 ghost use Rattle.chain_memory.specs.Sound.{Sound, IsLoop, program_in, ranks_in};
-ghost use Rattle.chain_stores.specs.Cells.{Values, BlocksHold};
-ghost use Rattle.chain_elements.specs.Merging.{changed_by, changed_all};
+ghost use Rattle.chain_memory.specs.Cells.{Values, BlocksHold};
+ghost use Rattle.chain_ranks.specs.Merging.{changed_by, changed_all};
 ghost use Rattle.chain_ranks.specs.Partials.{units};
 
+use crate::chain_elements::{operation_of, partial_at};
 use bound_program::Arg;
-use chain_elements::{operation_of, partial_at};
 use chain_memory::{Blocks, Loop, fill_cells, width_of};
-use rank_memory::scalars::unit;
+use rank_state::rank_memory::scalars::unit;
 
 // Of an argument on a rank, where it is on a variable into which the loop merges amounts.
 fn put_unit(partials: &mut [i32], blocks: &Blocks<'_>, rank: u32, set: u32, arg: Arg)

@@ -6,16 +6,16 @@ use Rattle.std.proofs.lemmas.List.{get_or_past}
 use Rattle.kernel_types.specs.declared.faults.KernelFault.{KernelFault}
 use Rattle.kernel_types.specs.declared.kernels.RKernel.{RKernel}
 use Rattle.kernel_model.specs.Meaning.{on_value, stored}
-use Rattle.reductions.specs.Access.{OpRead}
-use Rattle.reductions.specs.Access as access
+use Rattle.op_num.specs.Access.{OpRead}
+use Rattle.op_num.specs.Access as access
 use Rattle.mesh_decl.specs.Printed.{printed_line}
 use Rattle.schedule_model.specs.Cells.{Variable, Store}
 use Rattle.schedule_model.specs.Effects.{Ran, Faulted, Finished}
 use Rattle.schedule_model.specs.Program as program
 use Rattle.schedule_model.specs.Program.{Kind, Hosted, Halts, Goes, is_loop, elements}
 use Rattle.schedule_model.specs.Sequential.{Loop, Broke, Ran_through, loop, one_more, after_run, Seq, Stopped, Going, with_variables, after_loop, after_host, item_from, after_item, seq}
-use Rattle.schedule_laws.specs.Arguments.{reaches}
-use Rattle.schedule_laws.specs.Arguments as laws
+use Rattle.schedule_model.specs.Arguments.{reaches}
+use Rattle.schedule_model.specs.Arguments as laws
 use Rattle.bound_program.specs.declared.sites.Arg.{Arg}
 use Rattle.bound_program.specs.declared.sites.Arg.TheVariants.{Dat, Global}
 use Rattle.bound_program.specs.Values.{BoundValue, ItemValue, Free, Reduce, Ordered, Host, ActValue, Clear, Assign, Line, Print, Exit, no_site}

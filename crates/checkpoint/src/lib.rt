@@ -6,6 +6,7 @@
 
 mod heads;
 mod laws;
+pub mod state_texts;
 mod states;
 mod tails;
 

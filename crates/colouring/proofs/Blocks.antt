@@ -3,7 +3,7 @@ use Rattle.std.proofs.Common.{◌≡◌, ℕ, zero, suc, ◌+◌, ◌-◌, ◌*�
 use Rattle.std.proofs.lemmas.Bool.{cases_lt}
 use Rattle.std.proofs.lemmas.Nat.{div-mul-add}
 use Rattle.std.proofs.Math.Nat.{lt-div-mul-add}
-use Rattle.block_plan.specs.Blocks.{IsInBlock}
+use Rattle.colouring.specs.Blocks.{IsInBlock}
 use Rattle.colouring.specs.Rows.{In, Conflict, Least, MeetFrom, MeetWithin, BlocksMeet}
 use Rattle.colouring.specs.Colours.{IsLeast}
 use Rattle.colouring.proofs.Parts.{least_kept, least_same}

@@ -5,7 +5,7 @@ use Rattle.std.specs.declared.alloc.Global.{Global}
 use Rattle.std.proofs.lemmas.Bool.{cases_eq, cases_lt, lt-ltb, eq-eqb, or_left, or_right, and_from}
 use Rattle.std.proofs.Math.Nat.{lt-div-mul-add}
 use Rattle.mesh_decl.specs.Mesh.{MeshValue}
-use Rattle.block_plan.specs.Blocks.{IsInBlock}
+use Rattle.colouring.specs.Blocks.{IsInBlock}
 use Rattle.colouring.specs.declared.types.IncArg.{IncArg}
 use Rattle.colouring.specs.declared.types.Colours.{Colours}
 use Rattle.schedule_steps.specs.Outline.{Outline, by_colour}

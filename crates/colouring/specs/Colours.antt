@@ -7,7 +7,7 @@ use Rattle.mesh_decl.specs.declared.access.Via.{Via}
 use Rattle.mesh_decl.specs.Mesh.{MeshValue, map_count, dat_count, map_from, map_to, map_dim, target, dat_set}
 use Rattle.local_mesh.specs.declared.types.LocalSet.{LocalSet}
 use Rattle.local_mesh.specs.LocalMesh.{executed_in}
-use Rattle.block_plan.specs.Blocks.{IsInBlock}
+use Rattle.colouring.specs.Blocks.{IsInBlock}
 use Rattle.colouring.specs.declared.types.IncArg.{IncArg}
 use Rattle.colouring.specs.declared.types.Colours.{Colours}
 

@@ -7,3 +7,4 @@ pub mod Outlined
 pub mod Laws
 pub mod Meeting
 pub mod Clashes
+pub mod Blocks

@@ -1,6 +1,6 @@
 -- The colour is the least number that no earlier conflicting row has.
 use Rattle.std.specs.Prelude.{◌≡◌, ◌<◌, ◌≤◌, ◌+◌, ◌*◌, ◌/◌, ℕ, List, get_or, length}
-use Rattle.block_plan.specs.Blocks.{IsInBlock}
+use Rattle.colouring.specs.Blocks.{IsInBlock}
 
 -- no number: of a dat without a base, and of a target without a mark
 abbrev pub none : ℕ

@@ -8,10 +8,10 @@ ghost use Rattle.colouring.specs.Clashes.{ClashIs};
 ghost use Rattle.colouring.specs.Meeting.{BlocksAlike, PlacesAlike};
 ghost use Rattle.colouring.specs.Rows.{none};
 
+use crate::block_plan::{bounds, count};
 use crate::meeting::{order_rows, rows_meet};
 use crate::table::{first_numbers, target_table};
 use crate::types::{Colours, IncArg};
-use block_plan::{bounds, count};
 use local_mesh::RankMesh;
 use mesh_decl::Mesh;
 use op_num::OutOfMemory;

@@ -11,6 +11,7 @@ ghost use Rattle.local_mesh.specs.LocalMesh.{IsRankMesh};
 ghost use Rattle.colouring.specs.Colours.{AreArgs, AreColours};
 ghost use Rattle.colouring.specs.Mapped.{AreRowColours};
 
+pub mod block_plan;
 mod conflicts;
 mod greedy;
 mod laws;

@@ -4,9 +4,9 @@ ghost use Rattle.colouring.specs.Colours.{IsLeast};
 ghost use Rattle.colouring.specs.Rows.{MeetFrom, MeetWithin, BlocksMeet};
 ghost use Rattle.colouring.specs.Masks.{IsClear};
 
+use crate::block_plan::{bounds, count};
 use crate::greedy::colour_rows;
 use crate::masks::Masks;
-use block_plan::{bounds, count};
 use op_num::OutOfMemory;
 use std::alloc::Global;
 

@@ -9,8 +9,8 @@ use Rattle.clap.specs.Faults.{fault_of}
 use Rattle.clap.specs.declared.builder.action.ArgAction.TheVariants.{SetTrue}
 use Rattle.clap.specs.declared.error.kind.ErrorKind.TheVariants as kind
 use Rattle.op_num.specs.Spelling.{number_of}
-use Rattle.mesh_text.specs.declared.entry.Form.{Form}
-use Rattle.mesh_text.specs.declared.entry.Form.TheVariants as form
+use Rattle.mesh_decl.specs.declared.text.entry.Form.{Form}
+use Rattle.mesh_decl.specs.declared.text.entry.Form.TheVariants as form
 use Rattle.mesh_gen.specs.declared.places.TheConstants.{MAX_SIDE}
 use Rattle.distribute.specs.Parts.{Parts, Block, Bisect, Grow}
 use Rattle.command_words.specs.declared.limits.TheConstants.{MAX_RANKS, MAX_BLOCK, MAX_WORKERS, MAX_GROUP}

@@ -7,7 +7,7 @@ ghost use Rattle.command_words.specs.Values.{options_in};
 use crate::limits::MAX_GROUP;
 use crate::sides::Side;
 use distribute::Parts;
-use mesh_text::Form;
+use mesh_decl::text::Form;
 
 /// What is done with a plan.
 #[derive(Clone, Copy, PartialEq, Eq, Debug)]

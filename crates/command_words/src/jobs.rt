@@ -12,8 +12,8 @@ use crate::options::{
     plans_itself, runs_nothing, stops_at_an_item,
 };
 use crate::sides::Side;
+use mesh_decl::text::Form;
 use mesh_gen::MAX_SIDE;
-use mesh_text::Form;
 
 /// What is asked for by the job's name.
 pub fn by_job<'a>(

@@ -14,10 +14,10 @@ use Rattle.chain_model.specs.Machine.{ChainState, value_in, exchanged, gathered,
 use Rattle.bound_chains.specs.Slices.{needs, owns_pair, slicing_of}
 use Rattle.bound_chains.proofs.Backwards.{owns_needed}
 use Rattle.chain_memory.specs.Places.{in_block}
-use Rattle.chain_stores.specs.Cells.{Values, BlocksHold}
-use Rattle.chain_exchange.specs.declared.exchanges.Exchange.TheVariants.{Drop, Take}
-use Rattle.chain_exchange.specs.Exchanged.{is_copy, exchanged_all}
-use Rattle.chain_exchange.proofs.Exchanging.{owns_there}
+use Rattle.chain_memory.specs.Cells.{Values, BlocksHold}
+use Rattle.chain_ranks.specs.declared.chain_exchange.exchanges.Exchange.TheVariants.{Drop, Take}
+use Rattle.chain_ranks.specs.Exchanged.{is_copy, exchanged_all}
+use Rattle.chain_ranks.proofs.chain_exchange.Exchanging.{owns_there}
 use Rattle.chain_ranks.specs.Running.{StoresStand}
 use Rattle.chain_ranks.proofs.OneElement.{read}
 use Rattle.deep_halo.specs.Programs.{IsHolding}

@@ -20,7 +20,7 @@ use Rattle.bound_chains.specs.Slices.{slicing_of}
 use Rattle.chain_memory.specs.Places.{all_cells}
 use Rattle.chain_memory.specs.Layouts.{IsLayout}
 use Rattle.chain_memory.specs.declared.layouts.Layout.{Layout}
-use Rattle.chain_stores.specs.Cells.{BlocksHold, first_in_last, taken_by_owners, is_earlier}
+use Rattle.chain_memory.specs.Cells.{BlocksHold, first_in_last, taken_by_owners, is_earlier}
 use Rattle.chain_ranks.specs.Running.{StoresStand}
 use Rattle.deep_halo.specs.Stands.{Stands}
 use Rattle.deep_halo.proofs.HostVariables.{variables_long}

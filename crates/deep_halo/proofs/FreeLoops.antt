@@ -3,7 +3,7 @@ use Rattle.std.proofs.Common.{◌≡◌, ◌≢◌, ◌<◌, ⊎_elim, ℕ, zero
 use Rattle.std.proofs.lemmas.Bool.{ne_eqb, cases_eq, false≢true}
 use Rattle.kernel_types.specs.declared.faults.KernelFault.{KernelFault}
 use Rattle.mesh_decl.specs.declared.owners.Owners.{Owners}
-use Rattle.reductions.specs.Reduction.{Reduction, unit_of}
+use Rattle.op_num.specs.Reduction.{Reduction, unit_of}
 use Rattle.schedule_model.specs.Cells.{Variable, VarCell, Store}
 use Rattle.schedule_model.specs.Effects.{Ran, Faulted, Finished}
 use Rattle.schedule_model.specs.Kept.{kept, kept_of, OfElements}
@@ -21,13 +21,13 @@ use Rattle.run_model.specs.Programs.{item_at, kind_of, loop_of, program_of}
 use Rattle.run_model.proofs.Memory.{has_var}
 use Rattle.host_acts.specs.Variables.{of_vars}
 use Rattle.bound_plan.specs.Variables.{reduces_at}
-use Rattle.rank_memory.specs.declared.stop.Stop.{Stop as Recorded}
-use Rattle.rank_memory.specs.Stops.{stop_in}
+use Rattle.rank_state.specs.declared.rank_memory.stop.Stop.{Stop as Recorded}
+use Rattle.rank_state.specs.Stops.{stop_in}
 use Rattle.chain_model.specs.Chains.{begins}
 use Rattle.chain_model.specs.Machine.{ChainState, supplied, exchanged, view, ran, one_run, rank_run, ranks_run}
 use Rattle.bound_chains.specs.Slices.{slicing_of}
 use Rattle.chain_memory.specs.Places.{in_block, all_cells}
-use Rattle.chain_elements.specs.Constants.{constants_in}
+use Rattle.chain_ranks.specs.Constants.{constants_in}
 use Rattle.chain_ranks.specs.Running.{StoresStand, AreHeld, Runs}
 use Rattle.chain_ranks.specs.Loops.{HasConstants}
 use Rattle.chain_ranks.proofs.OneElement.{read}

@@ -22,8 +22,8 @@ use Rattle.run_model.specs.Laws.{LoopsAreThere}
 use Rattle.run_model.specs.Memory.{has_cell}
 use Rattle.run_model.specs.Programs.{item_at, kind_of, program_of}
 use Rattle.run_model.proofs.Memory.{dat_there}
-use Rattle.rank_memory.specs.declared.stop.Stop.{Stop}
-use Rattle.rank_memory.specs.Stops.{stop_in, stop_of}
+use Rattle.rank_state.specs.declared.rank_memory.stop.Stop.{Stop}
+use Rattle.rank_state.specs.Stops.{stop_in, stop_of}
 use Rattle.chain_model.specs.Slicing.{pair_owner}
 use Rattle.chain_model.specs.Machine.{ChainState, Holding, value_in, pair_values, gathered, spread, looped, hosted, reduced, unless_recorded, item_run}
 use Rattle.bound_chains.specs.Slices.{owns_pair, slicing_of}

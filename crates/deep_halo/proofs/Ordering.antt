@@ -17,13 +17,13 @@ use Rattle.run_model.specs.Kernels.{constants, constant_values, element_run}
 use Rattle.run_model.specs.Constants.{ConstantsAreNumbered, no_constant}
 use Rattle.run_model.specs.Laws.{WindowsAreReached}
 use Rattle.run_model.proofs.Memory.{has_var}
-use Rattle.rank_memory.specs.declared.stop.Stop.{Stop}
-use Rattle.rank_memory.specs.Stops.{stop_in}
-use Rattle.placed_runs.specs.Placed.{HoldsWindows, LeavesPlaced, EndsPlaced}
+use Rattle.rank_state.specs.declared.rank_memory.stop.Stop.{Stop}
+use Rattle.rank_state.specs.Stops.{stop_in}
+use Rattle.chain_memory.specs.Placed.{HoldsWindows, LeavesPlaced, EndsPlaced}
 use Rattle.chain_memory.specs.Places.{in_block, all_cells, block_at, stands_at}
 use Rattle.chain_memory.proofs.Standing.{reached_there, stand_apart}
-use Rattle.chain_stores.proofs.Writing.{blocks_apart}
-use Rattle.chain_elements.specs.Constants.{constants_in}
+use Rattle.chain_memory.proofs.chain_stores.Writing.{blocks_apart}
+use Rattle.chain_ranks.specs.Constants.{constants_in}
 use Rattle.chain_ranks.proofs.OneElement.{read}
 use Rattle.chain_ranks.proofs.Reached.{is_reached}
 use Rattle.deep_halo.specs.Orders.{OwnersStand, OthersStay, LoopEnds}

@@ -7,8 +7,8 @@ use Rattle.kernel_types.specs.declared.faults.KernelFault.{KernelFault}
 use Rattle.mesh_decl.specs.declared.owners.Owners.{Owners}
 use Rattle.schedule_model.specs.Sequential as model
 use Rattle.bound_program.specs.Values.{BoundValue}
-use Rattle.rank_memory.specs.declared.stop.Stop.{Stop}
-use Rattle.rank_memory.specs.Stops.{stop_in}
+use Rattle.rank_state.specs.declared.rank_memory.stop.Stop.{Stop}
+use Rattle.rank_state.specs.Stops.{stop_in}
 use Rattle.chain_model.specs.Machine.{ChainState}
 use Rattle.bound_chains.specs.Dump.{stores_text}
 use Rattle.bound_chains.specs.Laws.{RunsAsProgram}

@@ -4,7 +4,7 @@ use Rattle.std.specs.List.{list_any}
 use Rattle.std.proofs.lemmas.Bool.{eq-eqb, ne_eqb, cases_eq, lt-ltb}
 use Rattle.kernel_types.specs.declared.faults.KernelFault.{KernelFault}
 use Rattle.mesh_decl.specs.declared.owners.Owners.{Owners}
-use Rattle.reductions.specs.Reduction.{Reduction}
+use Rattle.op_num.specs.Reduction.{Reduction}
 use Rattle.schedule_model.specs.Cells.{Data, Variable, VarCell}
 use Rattle.schedule_model.specs.Machine.{unit_at, merge_at}
 use Rattle.schedule_model.specs.Program as program
@@ -18,12 +18,12 @@ use Rattle.run_model.proofs.Memory.{var_there}
 use Rattle.host_acts.specs.Variables.{of_vars}
 use Rattle.bound_plan.specs.Variables.{reduced_by, reduces_at}
 use Rattle.bound_plan.proofs.Trace.{reduce_after, first_item}
-use Rattle.rank_memory.specs.declared.stop.Stop.{Stop}
+use Rattle.rank_state.specs.declared.rank_memory.stop.Stop.{Stop}
 use Rattle.chain_model.specs.Machine.{ChainState, merged_over, reduced}
 use Rattle.bound_chains.specs.Slices.{slicing_of}
-use Rattle.chain_stores.specs.Cells.{BlocksHold}
-use Rattle.chain_elements.specs.Globals.{is_on}
-use Rattle.chain_elements.specs.Merging.{changed_all}
+use Rattle.chain_memory.specs.Cells.{BlocksHold}
+use Rattle.chain_ranks.specs.Globals.{is_on}
+use Rattle.chain_ranks.specs.Merging.{changed_all}
 use Rattle.chain_ranks.specs.Running.{StoresStand, PartialsStand}
 use Rattle.chain_ranks.specs.Partials.{sums_of}
 use Rattle.chain_ranks.proofs.OneElement.{read}

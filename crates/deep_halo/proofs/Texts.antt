@@ -13,7 +13,7 @@ use Rattle.run_model.specs.Windows.{numbers, Element, cell_in}
 use Rattle.run_model.proofs.Memory.{has_dat}
 use Rattle.chain_model.specs.Machine.{ChainState, value_in}
 use Rattle.chain_memory.specs.Places.{in_block}
-use Rattle.chain_stores.proofs.Writing.{block_follow}
+use Rattle.chain_memory.proofs.chain_stores.Writing.{block_follow}
 use Rattle.chain_ranks.specs.Running.{StoresStand}
 
 numbers_more : (n : ℕ) → numbers (n + 1) ≡ numbers n ++ n ∷ []

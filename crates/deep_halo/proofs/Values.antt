@@ -12,7 +12,7 @@ use Rattle.bound_program.specs.Values.{BoundValue}
 use Rattle.run_model.specs.Windows.{numbers, Element, cell_in}
 use Rattle.run_model.proofs.Memory.{has_dat}
 use Rattle.chain_memory.specs.Places.{in_block}
-use Rattle.chain_stores.proofs.Writing.{block_follow}
+use Rattle.chain_memory.proofs.chain_stores.Writing.{block_follow}
 use Rattle.deep_halo.specs.Orders.{OwnersStand}
 
 -- the cells of an element of a dat

@@ -6,8 +6,8 @@ use Rattle.schedule_model.specs.Cells.{Cell, Data, DatCell, Store}
 use Rattle.schedule_model.specs.Sequential.{Loop, Broke, Ran_through}
 use Rattle.bound_program.specs.Values.{BoundValue}
 use Rattle.run_model.specs.Memory.{has_cell}
-use Rattle.rank_memory.specs.declared.stop.Stop.{Stop}
-use Rattle.rank_memory.specs.Stops.{stop_in}
+use Rattle.rank_state.specs.declared.rank_memory.stop.Stop.{Stop}
+use Rattle.rank_state.specs.Stops.{stop_in}
 use Rattle.chain_memory.specs.Places.{in_block, all_cells, block_at, stands_at}
 
 module _ (b : BoundValue) (o : Owners) where

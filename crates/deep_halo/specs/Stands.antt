@@ -9,8 +9,8 @@ use Rattle.bound_program.specs.Values.{BoundValue, ItemValue, Free, Reduce, Orde
 use Rattle.run_model.specs.Programs.{item_at, program_of}
 use Rattle.host_acts.specs.Variables.{of_vars}
 use Rattle.bound_plan.specs.Variables.{reduces_at}
-use Rattle.rank_memory.specs.declared.stop.Stop.{Stop}
-use Rattle.rank_memory.specs.Stops.{stop_in, stop_of}
+use Rattle.rank_state.specs.declared.rank_memory.stop.Stop.{Stop}
+use Rattle.rank_state.specs.Stops.{stop_in, stop_of}
 use Rattle.chain_model.specs.Chains.{follows_free}
 use Rattle.chain_model.specs.Machine.{ChainState}
 use Rattle.chain_memory.specs.Places.{all_cells}

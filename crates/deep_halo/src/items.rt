@@ -16,12 +16,12 @@ use crate::programs::Program;
 use crate::state::State;
 use crate::supply::begin_chain;
 use bound_program::Item;
-use chain_elements::read_constants;
 use chain_memory::loop_of;
+use chain_ranks::chain_elements::read_constants;
 use chain_ranks::{ChainLoop, put_units, reduce_all, run_ranks};
 use kernel_types::KernelFault;
 use op_num::OutOfMemory;
-use rank_memory::stop::Stop;
+use rank_state::rank_memory::stop::Stop;
 use std::alloc::Global;
 
 // A Free loop, behind the exchange where a chain begins there.

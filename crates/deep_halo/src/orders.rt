@@ -13,9 +13,9 @@ ghost use Rattle.deep_halo.specs.Programs.{IsProgram, program_of_run, owners_of_
 ghost use Rattle.deep_halo.specs.Orders.{OwnersStand, OthersStay, LoopEnds};
 
 use crate::programs::Program;
-use chain_elements::read_constants;
 use chain_memory::{Loop, run_element};
-use rank_memory::stop::Stop;
+use chain_ranks::chain_elements::read_constants;
+use rank_state::rank_memory::stop::Stop;
 
 // Runs an element on the owners' pairs and the variables.
 fn run_owned(

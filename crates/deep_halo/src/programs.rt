@@ -1,7 +1,7 @@
 // A program with what its run by chains looks up.
 
 use chain_memory::Blocks;
-use chain_slices::Slices;
+use chain_needs::chain_slices::Slices;
 
 /// A program on the ranks of owners, with its slices.
 #[derive(Drop)]

@@ -1,6 +1,6 @@
 // A run under way.
 
-use rank_memory::stop::Stop;
+use rank_state::rank_memory::stop::Stop;
 
 /// A run under way.
 #[derive(Drop)]

@@ -6,10 +6,10 @@ use Rattle.mesh_decl.specs.declared.owners.Owners.{Owners}
 use Rattle.mesh_decl.specs.declared.owners.Perms.{Perms}
 use Rattle.mesh_decl.specs.Mesh.{MeshValue, map_count, set_size, map_from, map_to, map_dim, target}
 use Rattle.mesh_decl.specs.Owners.{owners_in, owner_of, perm_in}
-use Rattle.halo_lists.specs.Halo.{reaches, owns, imports_execute, executes, named_from, imports_nonexecute, imports, is_core}
-use Rattle.halo_lists.specs.declared.types.SetHalo.{SetHalo}
-use Rattle.halo_lists.specs.declared.types.Halos.{Halos}
-use Rattle.halo_lists.specs.Halos.{IsSetHalo, AreHalos}
+use Rattle.local_mesh.specs.Halo.{reaches, owns, imports_execute, executes, named_from, imports_nonexecute, imports, is_core}
+use Rattle.local_mesh.specs.declared.halo_lists.types.SetHalo.{SetHalo}
+use Rattle.local_mesh.specs.declared.halo_lists.types.Halos.{Halos}
+use Rattle.local_mesh.specs.Halos.{IsSetHalo, AreHalos}
 use Rattle.local_mesh.specs.declared.types.LocalSet.{LocalSet}
 use Rattle.local_mesh.specs.declared.types.RankMesh.{RankMesh}
 use Rattle.local_mesh.specs.Local.{earlier, AreInverse}

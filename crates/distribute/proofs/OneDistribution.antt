@@ -4,9 +4,9 @@ use Rattle.mesh_decl.specs.declared.owners.Owners.{Owners}
 use Rattle.mesh_decl.specs.declared.owners.Perms.{Perms}
 use Rattle.mesh_decl.specs.Mesh.{MeshValue, IsInRange}
 use Rattle.mesh_decl.specs.Owners.{ArePerms}
-use Rattle.halo_lists.specs.declared.types.Halos.{Halos}
-use Rattle.halo_lists.specs.Halos.{AreHalos}
-use Rattle.halo_lists.specs.Values.{halos_value}
+use Rattle.local_mesh.specs.declared.halo_lists.types.Halos.{Halos}
+use Rattle.local_mesh.specs.Halos.{AreHalos}
+use Rattle.local_mesh.specs.HaloValues.{halos_value}
 use Rattle.local_mesh.specs.Values.{rank_mesh_value, AreOne}
 use Rattle.distribute.specs.declared.types.Distribution.{Distribution}
 use Rattle.distribute.specs.Distributions.{IsDistribution, distribution_value}

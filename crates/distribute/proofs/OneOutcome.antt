@@ -7,9 +7,9 @@ use Rattle.mesh_decl.specs.declared.owners.Perms.{Perms}
 use Rattle.mesh_decl.specs.Mesh.{MeshValue, IsDatAt, map_count, dat_count, map_name, dat_name, set_count, set_size, map_to, dat_set, dat_dim, dat_values, IsInRange}
 use Rattle.mesh_decl.specs.Named.{Names, NamesOne}
 use Rattle.mesh_decl.specs.Owners.{owners_in, owner_of}
-use Rattle.breadth_order.specs.Neighbours.{are_neighbours}
-use Rattle.part_text.specs.declared.refusals.PartRefusal.{PartRefusal}
-use Rattle.part_text.specs.Reading.{Reads, Read}
+use Rattle.renumber.specs.Neighbours.{are_neighbours}
+use Rattle.partition.specs.declared.part_text.refusals.PartRefusal.{PartRefusal}
+use Rattle.partition.specs.Reading.{Reads, Read}
 use Rattle.partition.specs.Derive.{AreDerived}
 use Rattle.partition.specs.OneDerived.{IsOneBlocks, IsOneDerived}
 use Rattle.partition.specs.OneOwner.{IsOneGrowth, IsOneBisection}

@@ -3,8 +3,8 @@ use Rattle.std.specs.Prelude.{◌≡◌, ℕ, List, map}
 use Rattle.mesh_decl.specs.declared.owners.Owners.{Owners}
 use Rattle.mesh_decl.specs.declared.owners.Perms.{Perms}
 use Rattle.mesh_decl.specs.Mesh.{MeshValue}
-use Rattle.halo_lists.specs.Halos.{AreHalos}
-use Rattle.halo_lists.specs.Values.{HalosValue, halos_value}
+use Rattle.local_mesh.specs.Halos.{AreHalos}
+use Rattle.local_mesh.specs.HaloValues.{HalosValue, halos_value}
 use Rattle.local_mesh.specs.LocalMesh.{AreRankMeshes}
 use Rattle.local_mesh.specs.Values.{RankMeshValue, rank_mesh_value}
 use Rattle.distribute.specs.declared.types.Distribution.{Distribution}

@@ -5,10 +5,10 @@ use Rattle.mesh_decl.specs.declared.owners.Perms.{Perms}
 use Rattle.mesh_decl.specs.Mesh.{MeshValue, set_size, map_to, dat_set, dat_dim, dat_values}
 use Rattle.mesh_decl.specs.Named.{NamesMap, NamesDat}
 use Rattle.mesh_decl.specs.Owners.{owners_in, owner_of}
-use Rattle.breadth_order.specs.Neighbours.{are_neighbours}
-use Rattle.part_text.specs.declared.refusals.PartRefusal.{PartRefusal}
-use Rattle.part_text.specs.Spelling.{Spells}
-use Rattle.part_text.specs.Reading.{Refuses}
+use Rattle.renumber.specs.Neighbours.{are_neighbours}
+use Rattle.partition.specs.declared.part_text.refusals.PartRefusal.{PartRefusal}
+use Rattle.partition.specs.Spelling.{Spells}
+use Rattle.partition.specs.Reading.{Refuses}
 use Rattle.partition.specs.Bisect.{IsBisected}
 use Rattle.partition.specs.Block.{AreBlocks}
 use Rattle.partition.specs.Derive.{AreDerived}

@@ -1,7 +1,7 @@
 -- How the elements of a mesh are given to ranks, and why they are not.
 use Rattle.std.specs.Prelude.{◌≡◌, ℕ, ◌+◌, ◌^◌, ◌<◌, List, length, Option, Some, None, Result, Ok, Err}
 use Rattle.std.specs.Borrow.{Bor}
-use Rattle.part_text.specs.declared.refusals.PartRefusal.{PartRefusal}
+use Rattle.partition.specs.declared.part_text.refusals.PartRefusal.{PartRefusal}
 use Rattle.distribute.specs.declared.types.Parts.{Parts as Given}
 use Rattle.distribute.specs.declared.types.Parts.TheVariants as given
 use Rattle.distribute.specs.declared.types.NumbersRefusal.{NumbersRefusal as Unnumbered}

@@ -4,7 +4,7 @@ ghost use Rattle.mesh_decl.specs.Owners.{AreOwners, ArePerms};
 ghost use Rattle.distribute.specs.Distributions.{IsDistribution};
 
 use crate::types::Distribution;
-use halo_lists::halos;
+use local_mesh::halo_lists::halos;
 use local_mesh::localise;
 use mesh_decl::{Mesh, Owners, Perms};
 use op_num::OutOfMemory;

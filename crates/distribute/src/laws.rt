@@ -1,10 +1,10 @@
 // That what is asked for comes to one outcome.
 ghost use Rattle.distribute.specs.Laws.{NumbersAreOne, OwnersAreOne, DistributionsAreOne};
 
-use halo_lists::one_halos;
+use local_mesh::halo_lists::one_halos;
 use local_mesh::one_rank_meshes;
 use mesh_decl::one_named;
-use part_text::one_outcome;
+use partition::part_text::one_outcome;
 use partition::{one_bisection, one_derived, one_growth};
 use renumber::one_numbering;
 

@@ -15,5 +15,5 @@ pub use distribution::distribute;
 pub use laws::{one_distribution, one_numbers, one_owners};
 pub use numbers::numbers_by;
 pub use owners::owners_by;
-pub use part_text::PartRefusal;
+pub use partition::part_text::PartRefusal;
 pub use types::{Distribution, NumbersRefusal, OwnersRefusal, Parts};

@@ -6,7 +6,7 @@ ghost use Rattle.distribute.specs.Judgements.{OwnersAre};
 
 use crate::types::{OwnersRefusal, Parts};
 use mesh_decl::{Mesh, Owners};
-use part_text::{PartRefusal, read_partition};
+use partition::part_text::{PartRefusal, read_partition};
 use partition::{bisect, block, grow};
 use std::alloc::Global;
 

@@ -1,8 +1,8 @@
 // What is asked of a distribution, what it is, and why there is none.
-use halo_lists::Halos;
 use local_mesh::RankMesh;
+use local_mesh::halo_lists::Halos;
 use mesh_decl::{Owners, Perms};
-use part_text::PartRefusal;
+use partition::part_text::PartRefusal;
 use std::alloc::AllocError;
 
 /// How the elements of a mesh are given to ranks.

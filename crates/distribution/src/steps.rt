@@ -2,7 +2,7 @@
 ghost use Rattle.std.specs.Prelude.{◌<◌, ◌≤◌};
 
 use anyhow::Error;
-use halo_lists::halos;
+use local_mesh::halo_lists::halos;
 use local_mesh::localise;
 use mesh_decl::Mesh;
 use partition::{bisect, block, grow};

@@ -5,8 +5,8 @@ use Rattle.c_tree.specs.declared.hosts.AccessWord.{AccessWord}
 use Rattle.c_tree.specs.declared.hosts.AccessWord.TheVariants as word
 use Rattle.c_tree.specs.declared.hosts.LoopArg.{LoopArg}
 use Rattle.c_tree.specs.declared.hosts.LoopArg.TheVariants as arg
-use Rattle.reductions.specs.Reduction.{Add, Min, Max}
-use Rattle.reductions.specs.Access.{Access, OpRead, OpWrite, OpRw, OpReduce}
+use Rattle.op_num.specs.Reduction.{Add, Min, Max}
+use Rattle.op_num.specs.Access.{Access, OpRead, OpWrite, OpRw, OpReduce}
 use Rattle.kernel_model.specs.Obeys.{Mode}
 
 -- the access that a word names

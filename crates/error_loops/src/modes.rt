@@ -1,6 +1,6 @@
 // How the arguments of a loop let its kernel use its parameters.
 ghost use Rattle.std.specs.Prelude.{◌≡◌, map, IfOk};
-ghost use Rattle.reductions.specs.Access.{access_of};
+ghost use Rattle.op_num.specs.Access.{access_of};
 ghost use Rattle.access_check.specs.Modes.{model_of};
 ghost use Rattle.error_loops.specs.Modes.{dim_of, asked_by, mode_by};
 

@@ -3,7 +3,7 @@ use Rattle.std.proofs.Common.{◌≡◌, ℕ, inl, inr, List, [], Option, Some, 
 use Rattle.std.proofs.lemmas.Slice.Eq.{bytes_eq-Decides}
 use Rattle.std.specs.List.{find}
 use Rattle.op_outside.specs.Outside.{Files, Holds}
-use Rattle.error_texts.specs.Texts.{has_name, all_texts, shown_text}
+use Rattle.explanations.specs.Texts.{has_name, all_texts, shown_text}
 use Rattle.command_words.specs.Words.{named_by}
 use Rattle.answer_lines.specs.Lines as lines
 use Rattle.answer_lines.specs.Lines.{done, refused}

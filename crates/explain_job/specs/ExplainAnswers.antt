@@ -3,7 +3,7 @@ use Rattle.std.specs.Prelude.{◌≡◌, ℕ, nat_eq, nat_lt, ◌⊎◌, List, [
 use Rattle.std.specs.Prelude.{None, option_and_then, if◌then◌else◌}
 use Rattle.std.specs.List.{Contains, find, flat_map}
 use Rattle.op_outside.specs.Outside.{Files}
-use Rattle.error_texts.specs.Texts.{has_name, all_texts, shown_text}
+use Rattle.explanations.specs.Texts.{has_name, all_texts, shown_text}
 use Rattle.explanations.specs.Explanation.{said}
 use Rattle.wrong_words.specs.Wrong.{said_wrong}
 use Rattle.command_words.specs.Refusal.{CannotRead}

@@ -6,7 +6,7 @@ ghost use Rattle.held_files.specs.Held.{held as held_by};
 ghost use Rattle.command_words.specs.Words.{named_by};
 ghost use Rattle.answers.specs.Answers.{Answers};
 ghost use Rattle.answer_lines.specs.Halts.{answer_of, StopsWhere};
-ghost use Rattle.error_texts.specs.Texts.{has_name, all_texts};
+ghost use Rattle.explanations.specs.Texts.{has_name, all_texts};
 ghost use Rattle.job_inputs.specs.Chains.{AnswersBy, AnswersOver};
 ghost use Rattle.explain_job.specs.ExplainAnswers.{title, as_source, said_of, source_over, ExplainsAnswer, ExplainsCall, ExplainAnswers};
 ghost use Rattle.explain_job.specs.Held.{AreHeld};

@@ -1,10 +1,10 @@
 // The text of the error that words name.
 ghost use Rattle.std.specs.Prelude.{◌≡◌, ◌∷◌, ◌++◌, drop, map, option_map, string_bytes, IfOk, OnOk};
 ghost use Rattle.std.specs.List.{find, flat_map};
-ghost use Rattle.error_texts.specs.Texts.{has_name, all_texts};
+ghost use Rattle.explanations.specs.Texts.{has_name, all_texts};
 ghost use Rattle.explain_job.specs.ExplainAnswers.{title};
 
-use error_texts::text_named;
+use explanations::texts::text_named;
 use op_num::OutOfMemory;
 use std::alloc::Global;
 

@@ -2,8 +2,8 @@
 use Rattle.std.specs.Prelude.{ℕ, nat_eq, List, [], ◌++◌, Option, Some, None, codes, slice_get, if◌then◌else◌}
 use Rattle.std.specs.Fmt.{decimal}
 use Rattle.std.specs.List.{find}
-use Rattle.source_carets.specs.Carets.{line_at, marked}
-use Rattle.error_texts.specs.Texts.{explains, all_texts, shown_text}
+use Rattle.explanations.specs.Carets.{line_at, marked}
+use Rattle.explanations.specs.Texts.{explains, all_texts, shown_text}
 use Rattle.explanations.specs.declared.places.Place.{Place}
 use Rattle.explanations.specs.Words.{line_words, place_in, tells_place, tells_limit}
 

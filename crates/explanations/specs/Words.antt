@@ -4,7 +4,7 @@ use Rattle.std.specs.Prelude.{option_and_then, option_map, slice_get, ifâ—Œthenâ
 use Rattle.std.specs.List.{starts_with, ends_with}
 use Rattle.std.specs.Str.{bytes_eq}
 use Rattle.op_num.specs.Spelling.{number_of}
-use Rattle.byte_cuts.specs.Cuts.{parts}
+use Rattle.explanations.specs.Cuts.{parts}
 use Rattle.explanations.specs.declared.places.Place.{Place}
 
 -- a line without the LF at its end, if it has one

@@ -1,14 +1,14 @@
 // What is said of a line and its status.
 ghost use Rattle.std.specs.Prelude.{◌≡◌, ◌++◌, codes, option_map, OnOk, IfOk};
 ghost use Rattle.std.specs.Fmt.{decimal};
-ghost use Rattle.error_texts.specs.Texts.{shown_text};
+ghost use Rattle.explanations.specs.Texts.{shown_text};
 ghost use Rattle.explanations.specs.Explanation.{shown_line, shown_place, shown_at, meaning, explanation, said};
 
+use crate::carets::{line_at, put_marked};
 use crate::limits::put_sizes;
 use crate::places::{Place, place_in, tells_place};
-use error_texts::{put_text, text_of_line};
+use crate::texts::{put_text, text_of_line};
 use op_num::{OutOfMemory, put_u64};
-use source_carets::{line_at, put_marked};
 use std::alloc::Global;
 
 // A line of the source with a caret, if there is one.

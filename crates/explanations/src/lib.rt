@@ -3,9 +3,12 @@
 //! `explain_status` writes it, for a status, a line and the bytes of the source. `specs/Explanation.antt` says what it is, part by part.
 #![tactic(auto)]
 
+pub mod carets;
 mod explanation;
 mod limits;
+pub mod parts;
 mod places;
+pub mod texts;
 
 pub use explanation::{explain_status, explain_text, put_place};
 pub use places::{Place, place_in, word_number};

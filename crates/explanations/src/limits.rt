@@ -3,8 +3,8 @@ ghost use Rattle.std.specs.Prelude.{◌≡◌, ◌++◌, codes, option_map, OnOk
 ghost use Rattle.explanations.specs.Words.{line_words, tells_limit};
 ghost use Rattle.explanations.specs.Explanation.{shown_two, sizes_of, shown_sizes};
 
+use crate::parts::part_at;
 use crate::places::without_lf;
-use byte_cuts::part_at;
 use op_num::OutOfMemory;
 
 // Whether a line is one of a limit.

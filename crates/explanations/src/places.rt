@@ -1,9 +1,9 @@
 // The place in the source that a line tells.
 ghost use Rattle.std.specs.Prelude.{◌≡◌, option_map, slice_get};
-ghost use Rattle.byte_cuts.specs.Cuts.{parts, parts_to_come};
+ghost use Rattle.explanations.specs.Cuts.{parts, parts_to_come};
 ghost use Rattle.explanations.specs.Words.{without_lf, line_words, behind_at, number_in, number_at, place_of, place_in, tells_place};
 
-use byte_cuts::{cut, part_at};
+use crate::parts::{cut, part_at};
 use op_num::read_u64;
 
 /// A place in a source: its line and its column in bytes, both from 1.

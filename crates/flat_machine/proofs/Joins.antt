@@ -2,7 +2,7 @@
 use Rattle.std.proofs.Common.{◌≡◌, ℕ, ℤ, zero, suc, ◌<◌, ◌≤◌, Bool, true, false, cond, inl, refl, sym, ap, subst, ◌∙◌, arith, ⊎_elim, Option, Some, None, List, [], ◌∷◌, map, ◌++◌}
 use Rattle.std.specs.Prelude.{◌==◌, is_some}
 use Rattle.std.proofs.lemmas.Bool.{cases_Bool, cond-true, cond-false, eqb-true, eq-eqb}
-use Rattle.reductions.specs.Reduction.{Reduction}
+use Rattle.op_num.specs.Reduction.{Reduction}
 use Rattle.schedule_model.specs.Cells.{Cell, Data, Variable, DatCell, VarCell, Store}
 use Rattle.schedule_model.specs.Program.{Kind, Free, Reduce, Ordered, Host, Hosted, Halts, Goes, elements, is_loop}
 use Rattle.schedule_model.specs.Setup.{Setup, owner_of}

@@ -2,7 +2,7 @@
 use Rattle.std.proofs.Common.{◌≡◌, ℕ, ℤ, pos, ◌<◌, Bool, true, false, cond, inl, refl, sym, ap, subst, ◌∙◌, ⊎_elim, Option, Some, None, List, [], ◌∷◌, ◌++◌, map, length}
 use Rattle.std.specs.Prelude.{◌&&◌, ◌||◌, ◌==◌}
 use Rattle.std.proofs.lemmas.Bool.{cases_Bool, false≢true, false_from_ne_true, and_parts, and_from, cond-true, cond-false, eqb-true, eq-eqb}
-use Rattle.reductions.specs.Reduction.{Reduction}
+use Rattle.op_num.specs.Reduction.{Reduction}
 use Rattle.schedule_steps.specs.declared.step.Step.TheVariants.{Send, Recv, Begin, End}
 use Rattle.schedule_steps.specs.Steps.{IsStep, same3}
 use Rattle.schedule_steps.specs.Members.{same3_true}

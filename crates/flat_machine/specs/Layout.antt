@@ -1,7 +1,7 @@
 -- Where the cells of a setup stand: in one flat buffer a rank, in one list of variables, in the windows of a kernel.
 -- Where its elements stand: in places by rank.
 use Rattle.std.specs.Prelude.{◌≡◌, ◌<◌, ◌⊎◌, ℕ, ℤ, Bool, true, false, cond, ◌&&◌, ◌||◌, nat_lt, List, [], ◌∷◌, map, length, Some, None}
-use Rattle.reductions.specs.Reduction.{Reduction}
+use Rattle.op_num.specs.Reduction.{Reduction}
 use Rattle.schedule_steps.specs.Outline.{Outline}
 use Rattle.schedule_model.specs.Cells.{Cell, Data, Variable, DatCell, VarCell, Store, same_cell}
 use Rattle.schedule_model.specs.Effects.{Ran, Faulted, Finished, is_modified}

@@ -5,9 +5,9 @@ ghost use Rattle.kernel_types.specs.Resolved.{IsResolved};
 ghost use Rattle.kernel_code.specs.Coded.{IsCode};
 
 use kernel_code::{Code, run_on};
+use kernel_types::views::{Place, are_places_in};
 use op_num::wrap_add;
 use std::alloc::{AllocError, Global};
-use views::{Place, are_places_in};
 
 /// The arrays q, adt and res, one after another, each with so many cells.
 pub fn filled(alloc: Global, cells: u32) -> Result<Vec<i32>, AllocError> {

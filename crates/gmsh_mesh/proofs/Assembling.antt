@@ -5,10 +5,10 @@ use Rattle.std.proofs.lemmas.List.{length-map}
 use Rattle.std.proofs.lemmas.List.Elements.{All-from_get_or}
 use Rattle.std.proofs.lemmas.Bool.{cases_lt}
 use Rattle.std.proofs.lemmas.Bool.Decides.{nat_tests}
-use Rattle.mesh_text.specs.declared.entry.TheConstants.{MESH_VALUES}
-use Rattle.cell_sides.specs.declared.shape.Shape.{Shape}
-use Rattle.cell_sides.specs.Sides.{nodes, sides, side_nodes, AreSides}
-use Rattle.tag_places.specs.Places.{ArePlaces}
+use Rattle.mesh_decl.specs.declared.text.entry.TheConstants.{MESH_VALUES}
+use Rattle.gmsh_mesh.specs.declared.cell_sides.shape.Shape.{Shape}
+use Rattle.gmsh_mesh.specs.Sides.{nodes, sides, side_nodes, AreSides}
+use Rattle.gmsh_mesh.specs.Places.{ArePlaces}
 use Rattle.gmsh_text.specs.declared.nodes.Tag.{Tag}
 use Rattle.gmsh_text.specs.declared.read.GmshText.{GmshText}
 use Rattle.gmsh_text.specs.Rows.{Rows}

@@ -2,10 +2,10 @@
 use Rattle.std.proofs.Common.{◌≡◌, inr, ℕ, ◌<◌, ◌≤◌, ◌∙◌, refl, sym, ap, subst, arith, Bool, true, false, List, length, Option, Result, Ok, Err}
 use Rattle.std.specs.Prelude.{nat_lt, if◌then◌else◌}
 use Rattle.std.proofs.lemmas.Bool.Decides.{nat_tests}
-use Rattle.mesh_text.specs.declared.entry.TheConstants.{MESH_VALUES, MESH_BYTES}
-use Rattle.mesh_text.specs.declared.entry.Form.TheVariants.{Two}
-use Rattle.mesh_text.specs.Spelling.{total}
-use Rattle.mesh_text.specs.Canonical.{canonical}
+use Rattle.mesh_decl.specs.declared.text.entry.TheConstants.{MESH_VALUES, MESH_BYTES}
+use Rattle.mesh_decl.specs.declared.text.entry.Form.TheVariants.{Two}
+use Rattle.mesh_decl.specs.Spelling.{total}
+use Rattle.mesh_decl.specs.Canonical.{canonical}
 use Rattle.gmsh_text.specs.declared.read.GmshText.{GmshText}
 use Rattle.gmsh_text.specs.Reading.{outcome}
 use Rattle.gmsh_mesh.specs.declared.choice.Dimension.{Dimension}

@@ -5,13 +5,13 @@ use Rattle.std.proofs.lemmas.List.{length-drop, length-take-le, length-map}
 use Rattle.std.proofs.lemmas.List.Elements.{All-from_get_or, All-take, All-drop, All-append}
 use Rattle.std.proofs.Math.Nat.{div-le_self}
 use Rattle.std.proofs.lemmas.Bool.{cases_lt}
-use Rattle.cell_sides.specs.declared.shape.Shape.{Shape}
-use Rattle.cell_sides.specs.Sides.{source, AreSides}
-use Rattle.cell_faces.specs.Nodes.{row}
-use Rattle.cell_faces.specs.Mates.{AreSideMates}
-use Rattle.mesh_faces.specs.Faces.{IsSelection, IsInner, IsOuter, AreFaces}
-use Rattle.mesh_faces.specs.Arrays.{rows_of, cell_of, cells_of, pair_of, pairs_of}
-use Rattle.mesh_faces.specs.Sums.{AreMutual}
+use Rattle.gmsh_mesh.specs.declared.cell_sides.shape.Shape.{Shape}
+use Rattle.gmsh_mesh.specs.Sides.{source, AreSides}
+use Rattle.gmsh_mesh.specs.Nodes.{row}
+use Rattle.gmsh_mesh.specs.SideMates.{AreSideMates}
+use Rattle.gmsh_mesh.specs.FaceLists.{IsSelection, IsInner, IsOuter, AreFaces}
+use Rattle.gmsh_mesh.specs.Arrays.{rows_of, cell_of, cells_of, pair_of, pairs_of}
+use Rattle.gmsh_mesh.specs.Sums.{AreMutual}
 use Rattle.gmsh_mesh.specs.Faces.{FaceArrays}
 use Rattle.gmsh_mesh.specs.Small.{AreSmall, AreSmallFaces}
 

@@ -2,11 +2,11 @@
 use Rattle.std.proofs.Common.{◌≡◌, ◌⊎◌, inl, inr, ℕ, zero, suc, ◌*◌, ◌/◌, ◌<◌, ◌≤◌, ◌∙◌, refl, sym, ap, ⊎_elim, arith, List, length, get_or, Result, Ok, Err}
 use Rattle.std.proofs.lemmas.Bool.{cases_lt}
 use Rattle.std.proofs.lemmas.List.{ext_get_or}
-use Rattle.cell_sides.specs.declared.shape.Shape.{Shape}
-use Rattle.cell_sides.specs.Sides.{sides, side_nodes, AreSides}
-use Rattle.cell_faces.specs.Mates.{IsSideMate, AreSideMates, IsThirdSide, IsFirstThirdSide}
-use Rattle.mesh_faces.specs.Faces.{IsSelection, IsInner, IsOuter}
-use Rattle.mesh_faces.specs.Arrays.{rows_of, cells_of, pairs_of}
+use Rattle.gmsh_mesh.specs.declared.cell_sides.shape.Shape.{Shape}
+use Rattle.gmsh_mesh.specs.Sides.{sides, side_nodes, AreSides}
+use Rattle.gmsh_mesh.specs.SideMates.{IsSideMate, AreSideMates, IsThirdSide, IsFirstThirdSide}
+use Rattle.gmsh_mesh.specs.FaceLists.{IsSelection, IsInner, IsOuter}
+use Rattle.gmsh_mesh.specs.Arrays.{rows_of, cells_of, pairs_of}
 use Rattle.gmsh_mesh.specs.declared.refusal.GmshRefusal.{GmshRefusal}
 use Rattle.gmsh_mesh.specs.declared.refusal.GmshRefusal.TheVariants as refusal
 use Rattle.gmsh_mesh.specs.Faces.{MatesAre, FaceArrays, AreFacesOf}

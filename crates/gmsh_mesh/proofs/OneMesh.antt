@@ -1,7 +1,7 @@
 -- The bytes of a file come to one result.
 use Rattle.std.proofs.Common.{◌≡◌, ℕ, subst, ℤ, List, [], length, Option, Ok}
-use Rattle.cell_sides.specs.declared.shape.Shape.{Shape}
-use Rattle.cell_sides.specs.Sides.{nodes, side_nodes}
+use Rattle.gmsh_mesh.specs.declared.cell_sides.shape.Shape.{Shape}
+use Rattle.gmsh_mesh.specs.Sides.{nodes, side_nodes}
 use Rattle.gmsh_text.specs.declared.read.GmshText.{GmshText}
 use Rattle.gmsh_text.specs.Reading.{outcome}
 use Rattle.gmsh_mesh.specs.declared.choice.Dimension.{Dimension}

@@ -2,7 +2,7 @@
 use Rattle.std.proofs.Common.{◌≡◌, ◌⊎◌, inl, inr, ℕ, ◌/◌, ◌<◌, ◌≤◌, ◌∙◌, refl, sym, ap, ⊎_elim, arith, List, length, map, get_or, Result, Ok, Err}
 use Rattle.std.proofs.lemmas.Bool.{cases_lt}
 use Rattle.std.proofs.lemmas.List.{ext_get_or}
-use Rattle.tag_places.specs.Places.{IsDoubled, AreDistinct, IsPlace, IsUnknown, ArePlaces, IsFirstDoubled, IsFirstUnknown}
+use Rattle.gmsh_mesh.specs.Places.{IsDoubled, AreDistinct, IsPlace, IsUnknown, ArePlaces, IsFirstDoubled, IsFirstUnknown}
 use Rattle.gmsh_text.specs.declared.nodes.Tag.{Tag}
 use Rattle.gmsh_mesh.specs.declared.refusal.GmshRefusal.{GmshRefusal}
 use Rattle.gmsh_mesh.specs.declared.refusal.GmshRefusal.TheVariants as refusal

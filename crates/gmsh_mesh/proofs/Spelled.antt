@@ -1,9 +1,9 @@
 -- The text of a mesh is read again.
 use Rattle.std.proofs.Common.{◌≡◌, ℕ, ◌+◌, ◌^◌, ◌<◌, ◌≤◌, refl, sym, subst, arith, pos, List, length, map, Result, Ok, Err, IfOk}
 use Rattle.std.proofs.lemmas.List.{length-map}
-use Rattle.mesh_text.specs.declared.entry.TheConstants.{MESH_VALUES}
-use Rattle.mesh_text.specs.Spelling.{Named, Spells, total}
-use Rattle.mesh_text.specs.Canonical.{CanBeSpelled}
+use Rattle.mesh_decl.specs.declared.text.entry.TheConstants.{MESH_VALUES}
+use Rattle.mesh_decl.specs.Spelling.{Named, Spells, total}
+use Rattle.mesh_decl.specs.Canonical.{CanBeSpelled}
 use Rattle.gmsh_mesh.specs.Mesh.{Arrays}
 use Rattle.gmsh_mesh.specs.Entries.{entries}
 

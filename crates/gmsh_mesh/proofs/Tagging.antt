@@ -2,8 +2,8 @@
 use Rattle.std.proofs.Common.{◌≡◌, ◌⊎◌, inl, inr, ℕ, ◌+◌, ◌*◌, ◌<◌, ◌≤◌, ℤ, pos, Bool, ◌∙◌, ◌++◌, refl, sym, ap, subst, ⊎_elim, arith, List, length, get_or, take, drop, add-mul, mul-le-mul_right, Option, Some, None, Result, Ok, Err}
 use Rattle.std.proofs.lemmas.List.{length-drop, take-append-le, drop-append-le}
 use Rattle.std.proofs.Math.Seq.{drop-append-add}
-use Rattle.cell_faces.specs.Nodes.{row, IsSameNodes}
-use Rattle.cell_faces.specs.Mates.{IsSameSide, AreSideClasses}
+use Rattle.gmsh_mesh.specs.Nodes.{row, IsSameNodes}
+use Rattle.gmsh_mesh.specs.SideMates.{IsSameSide, AreSideClasses}
 use Rattle.gmsh_text.specs.declared.entities.Group.{Group}
 use Rattle.gmsh_text.specs.declared.entities.Group.TheVariants.{Ungrouped, One, Several}
 use Rattle.gmsh_mesh.specs.declared.refusal.GmshRefusal.{GmshRefusal}

@@ -1,13 +1,13 @@
 -- Sizes of what a mesh is made of.
 use Rattle.std.proofs.Common.{◌≡◌, inl, inr, ℕ, ◌+◌, ◌*◌, ◌≤◌, ◌∙◌, refl, sym, ap, subst, arith, ℤ, List, [], ◌∷◌, length, Option, Result, Ok, Err, mul_assoc, mul_right_comm}
 use Rattle.std.proofs.lemmas.List.{length-map}
-use Rattle.cell_sides.specs.declared.shape.Shape.{Shape}
-use Rattle.cell_sides.specs.declared.shape.Shape.TheVariants.{Triangle, Quadrangle, Tetrahedron, Hexahedron}
-use Rattle.cell_sides.specs.Sides.{nodes, sides, side_nodes}
-use Rattle.cell_faces.specs.Mates.{AreSideMates}
-use Rattle.mesh_faces.specs.Faces.{AreFaces}
-use Rattle.mesh_faces.specs.Arrays.{cell_of, pairs_of}
-use Rattle.mesh_faces.specs.Sums.{AreMutual}
+use Rattle.gmsh_mesh.specs.declared.cell_sides.shape.Shape.{Shape}
+use Rattle.gmsh_mesh.specs.declared.cell_sides.shape.Shape.TheVariants.{Triangle, Quadrangle, Tetrahedron, Hexahedron}
+use Rattle.gmsh_mesh.specs.Sides.{nodes, sides, side_nodes}
+use Rattle.gmsh_mesh.specs.SideMates.{AreSideMates}
+use Rattle.gmsh_mesh.specs.FaceLists.{AreFaces}
+use Rattle.gmsh_mesh.specs.Arrays.{cell_of, pairs_of}
+use Rattle.gmsh_mesh.specs.Sums.{AreMutual}
 use Rattle.gmsh_text.specs.declared.table.Elements.{Elements}
 use Rattle.gmsh_text.specs.declared.refusal.TextRefusal.{TextRefusal}
 use Rattle.gmsh_text.specs.declared.read.GmshText.{GmshText}

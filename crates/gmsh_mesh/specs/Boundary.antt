@@ -1,6 +1,6 @@
 -- The physical tags of the boundary.
 use Rattle.std.specs.Prelude.{◌≡◌, ◌≢◌, ◌<◌, ◌⊎◌, ℕ, ℤ, pos, List, length, slice_index, get_or, Ok, Err}
-use Rattle.cell_faces.specs.Nodes.{row, IsSameNodes}
+use Rattle.gmsh_mesh.specs.Nodes.{row, IsSameNodes}
 use Rattle.gmsh_text.specs.declared.entities.Group.{Group}
 use Rattle.gmsh_text.specs.declared.entities.Group.TheVariants.{Ungrouped, One, Several}
 use Rattle.gmsh_mesh.specs.declared.refusal.GmshRefusal.TheVariants.{TwoGroups}

@@ -1,7 +1,7 @@
 -- Which elements are the cells, and which the boundary.
 use Rattle.std.specs.Prelude.{ℕ, nat_lt, List, [], ◌∷◌, Option, Some, None, Result, Ok, Err, if◌then◌else◌}
-use Rattle.cell_sides.specs.declared.shape.Shape.{Shape}
-use Rattle.cell_sides.specs.declared.shape.Shape.TheVariants.{Triangle, Quadrangle, Tetrahedron, Hexahedron}
+use Rattle.gmsh_mesh.specs.declared.cell_sides.shape.Shape.{Shape}
+use Rattle.gmsh_mesh.specs.declared.cell_sides.shape.Shape.TheVariants.{Triangle, Quadrangle, Tetrahedron, Hexahedron}
 use Rattle.gmsh_text.specs.Rows.{Rows}
 use Rattle.gmsh_text.specs.declared.table.Elements.{Elements}
 use Rattle.gmsh_mesh.specs.declared.choice.Dimension.{Dimension}

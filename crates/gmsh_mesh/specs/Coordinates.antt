@@ -4,9 +4,9 @@ use Rattle.std.specs.Prelude.{if◌then◌else◌}
 use Rattle.std.specs.Ordering.{int_eq}
 use Rattle.texts.specs.Cut.{Word}
 use Rattle.texts.specs.Automaton.{after, onto}
-use Rattle.scaled_decimals.specs.Decimal.{Decimal, decimal_of}
-use Rattle.scaled_decimals.specs.Nearest.{fits_at, judged}
-use Rattle.scaled_decimals.specs.declared.reading.DecimalRefusal.{DecimalRefusal}
+use Rattle.gmsh_text.specs.Decimal.{Decimal, decimal_of}
+use Rattle.gmsh_text.specs.Nearest.{fits_at, judged}
+use Rattle.gmsh_text.specs.declared.decimals.reading.DecimalRefusal.{DecimalRefusal}
 use Rattle.gmsh_text.specs.declared.nodes.Point.{Point}
 use Rattle.gmsh_mesh.specs.declared.choice.Dimension.{Dimension}
 use Rattle.gmsh_mesh.specs.declared.choice.Dimension.TheVariants.{Two, Three}

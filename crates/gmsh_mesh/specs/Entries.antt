@@ -1,8 +1,8 @@
 -- The entries of a mesh.
 use Rattle.std.specs.Prelude.{pos, ◌/◌, List, [], ◌∷◌, ◌++◌, map, length, codes}
-use Rattle.cell_sides.specs.Sides.{nodes}
-use Rattle.mesh_text.specs.Spelling.{Named}
-use Rattle.mesh_text.specs.declared.entry.Entry.TheVariants.{One, Many}
+use Rattle.gmsh_mesh.specs.Sides.{nodes}
+use Rattle.mesh_decl.specs.Spelling.{Named}
+use Rattle.mesh_decl.specs.declared.text.entry.Entry.TheVariants.{One, Many}
 use Rattle.gmsh_mesh.specs.Mesh.{Arrays}
 
 -- how many there are of each set

@@ -1,10 +1,10 @@
 -- The faces of the cells.
 use Rattle.std.specs.Prelude.{◌≡◌, ◌*◌, ◌/◌, ℕ, List, length, slice_index, Ok, Err}
-use Rattle.cell_sides.specs.declared.shape.Shape.{Shape}
-use Rattle.cell_sides.specs.Sides.{sides, side_nodes}
-use Rattle.cell_faces.specs.Mates.{AreSideMates, IsFirstThirdSide}
-use Rattle.mesh_faces.specs.Faces.{AreFaces}
-use Rattle.mesh_faces.specs.Arrays.{rows_of, cells_of, pairs_of}
+use Rattle.gmsh_mesh.specs.declared.cell_sides.shape.Shape.{Shape}
+use Rattle.gmsh_mesh.specs.Sides.{sides, side_nodes}
+use Rattle.gmsh_mesh.specs.SideMates.{AreSideMates, IsFirstThirdSide}
+use Rattle.gmsh_mesh.specs.FaceLists.{AreFaces}
+use Rattle.gmsh_mesh.specs.Arrays.{rows_of, cells_of, pairs_of}
 use Rattle.gmsh_mesh.specs.declared.refusal.GmshRefusal.TheVariants.{ThirdCell}
 use Rattle.gmsh_mesh.specs.Stages.{Judgement}
 

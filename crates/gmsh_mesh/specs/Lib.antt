@@ -10,3 +10,12 @@ pub mod Entries
 pub mod Source
 pub mod Small
 pub mod Outcome
+pub mod Mates
+pub mod EqualKeys
+pub mod Places
+pub mod Sides
+pub mod Nodes
+pub mod SideMates
+pub mod FaceLists
+pub mod Sums
+pub mod Arrays

@@ -1,9 +1,9 @@
 -- The mesh of a text of Gmsh: nodes and cells in the order of the file, and the faces. Its judgements stand in this order: the cells have a
 -- shape, and the values are within the limit; the nodes are right, each by itself; the elements are; the faces of the cells; the boundary.
 use Rattle.std.specs.Prelude.{◌≡◌, ◌+◌, ◌*◌, ℕ, ℤ, nat_lt, List, [], length, Result, Ok, Err, if◌then◌else◌}
-use Rattle.mesh_text.specs.declared.entry.TheConstants.{MESH_VALUES}
-use Rattle.cell_sides.specs.declared.shape.Shape.{Shape}
-use Rattle.cell_sides.specs.Sides.{nodes, side_nodes, AreSides}
+use Rattle.mesh_decl.specs.declared.text.entry.TheConstants.{MESH_VALUES}
+use Rattle.gmsh_mesh.specs.declared.cell_sides.shape.Shape.{Shape}
+use Rattle.gmsh_mesh.specs.Sides.{nodes, side_nodes, AreSides}
 use Rattle.gmsh_text.specs.Rows.{Rows}
 use Rattle.gmsh_text.specs.declared.read.GmshText.{GmshText}
 use Rattle.gmsh_mesh.specs.declared.choice.Dimension.{Dimension}

@@ -1,6 +1,6 @@
 -- Nodes by number: from 0, in the order of the file.
 use Rattle.std.specs.Prelude.{◌≡◌, ◌/◌, ℕ, List, map, slice_index, Ok, Err}
-use Rattle.tag_places.specs.Places.{ArePlaces, IsFirstDoubled, IsFirstUnknown}
+use Rattle.gmsh_mesh.specs.Places.{ArePlaces, IsFirstDoubled, IsFirstUnknown}
 use Rattle.gmsh_text.specs.declared.nodes.Tag.{Tag}
 use Rattle.gmsh_mesh.specs.declared.refusal.GmshRefusal.TheVariants.{DuplicateTag, UnknownTag}
 use Rattle.gmsh_mesh.specs.Stages.{Judgement}

@@ -1,9 +1,9 @@
 -- What the bytes of a Gmsh file come to: the text of their mesh and a program for it, or a refusal.
 use Rattle.std.specs.Prelude.{◌≡◌, ℕ, List, length, Option, nat_lt, Result, Ok, Err, if◌then◌else◌}
-use Rattle.mesh_text.specs.declared.entry.TheConstants.{MESH_VALUES, MESH_BYTES}
-use Rattle.mesh_text.specs.declared.entry.Form.TheVariants.{Two}
-use Rattle.mesh_text.specs.Spelling.{total}
-use Rattle.mesh_text.specs.Canonical.{canonical}
+use Rattle.mesh_decl.specs.declared.text.entry.TheConstants.{MESH_VALUES, MESH_BYTES}
+use Rattle.mesh_decl.specs.declared.text.entry.Form.TheVariants.{Two}
+use Rattle.mesh_decl.specs.Spelling.{total}
+use Rattle.mesh_decl.specs.Canonical.{canonical}
 use Rattle.gmsh_text.specs.declared.refusal.TextRefusal.{TextRefusal}
 use Rattle.gmsh_text.specs.declared.refusal.TextRefusal.TheVariants as text
 use Rattle.gmsh_text.specs.declared.read.GmshText.{GmshText}

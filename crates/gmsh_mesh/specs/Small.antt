@@ -1,9 +1,9 @@
 -- Numbers of nodes and cells that are values of a mesh text.
 use Rattle.std.specs.Prelude.{◌≡◌, ◌*◌, ◌<◌, ◌≤◌, ◌^◌, ℕ, List, length}
 use Rattle.std.specs.List.{All}
-use Rattle.mesh_text.specs.declared.entry.TheConstants.{MESH_VALUES}
-use Rattle.cell_sides.specs.declared.shape.Shape.{Shape}
-use Rattle.cell_sides.specs.Sides.{nodes, side_nodes}
+use Rattle.mesh_decl.specs.declared.text.entry.TheConstants.{MESH_VALUES}
+use Rattle.gmsh_mesh.specs.declared.cell_sides.shape.Shape.{Shape}
+use Rattle.gmsh_mesh.specs.Sides.{nodes, side_nodes}
 use Rattle.gmsh_text.specs.declared.read.GmshText.{GmshText}
 use Rattle.gmsh_mesh.specs.Choice.{cell_table, side_table}
 use Rattle.gmsh_mesh.specs.Faces.{FaceArrays}

@@ -1,7 +1,7 @@
 -- The program of a shape.
 use Rattle.std.specs.Prelude.{ℕ, List}
-use Rattle.cell_sides.specs.declared.shape.Shape.{Shape}
-use Rattle.cell_sides.specs.declared.shape.Shape.TheVariants.{Triangle, Quadrangle, Tetrahedron, Hexahedron}
+use Rattle.gmsh_mesh.specs.declared.cell_sides.shape.Shape.{Shape}
+use Rattle.gmsh_mesh.specs.declared.cell_sides.shape.Shape.TheVariants.{Triangle, Quadrangle, Tetrahedron, Hexahedron}
 use Rattle.gmsh_mesh.specs.declared.source.TheConstants.{TRIANGLE_SOURCE, QUADRANGLE_SOURCE, TETRAHEDRON_SOURCE, HEXAHEDRON_SOURCE}
 
 -- the program for a mesh of cells of this shape

@@ -4,8 +4,8 @@ ghost use Rattle.gmsh_mesh.specs.Stages.{Gives};
 ghost use Rattle.gmsh_mesh.specs.Boundary.{TagsAre};
 ghost use Rattle.gmsh_mesh.specs.Classes.{joined_tag as tag_with, AreMarks, AreClassTags, IsClassRefused, AreTagsOf};
 
+use crate::cell_faces::side_classes;
 use crate::refusal::GmshRefusal;
-use cell_faces::side_classes;
 use gmsh_text::Group;
 use std::alloc::{AllocError, Global};
 use std::marker::Model;

@@ -2,8 +2,8 @@
 ghost use Rattle.std.specs.Prelude.{◌≡◌};
 ghost use Rattle.gmsh_mesh.specs.Choice.{dim_count, dimension, choice, chosen, one_type, cell_table, side_table};
 
+use crate::cell_sides::Shape;
 use crate::refusal::GmshRefusal;
-use cell_sides::Shape;
 use gmsh_text::{Elements, Table};
 
 /// How many coordinates a node has.

@@ -1,10 +1,10 @@
 // From the bytes of a Gmsh file to a mesh text and a program for it.
 ghost use Rattle.std.specs.Prelude.{◌≡◌, ◌+◌, ◌<◌, ◌≤◌, ◌^◌, ◌++◌, ◌∷◌, [], false, Ok, IfOk, OnOk, length, map, pos};
-ghost use Rattle.mesh_text.specs.declared.entry.TheConstants.{MESH_BYTES, MESH_VALUES};
-ghost use Rattle.mesh_text.specs.declared.entry.Form.TheVariants.{Two};
-ghost use Rattle.mesh_text.specs.declared.entry.Entry.TheVariants.{Many};
-ghost use Rattle.mesh_text.specs.Canonical.{canonical};
-ghost use Rattle.mesh_text.specs.Spelling.{Spells, has_name, total};
+ghost use Rattle.mesh_decl.specs.declared.text.entry.TheConstants.{MESH_BYTES, MESH_VALUES};
+ghost use Rattle.mesh_decl.specs.declared.text.entry.Form.TheVariants.{Two};
+ghost use Rattle.mesh_decl.specs.declared.text.entry.Entry.TheVariants.{Many};
+ghost use Rattle.mesh_decl.specs.Canonical.{canonical};
+ghost use Rattle.mesh_decl.specs.Spelling.{Spells, has_name, total};
 ghost use Rattle.gmsh_text.specs.Whole.{AreWhole};
 ghost use Rattle.gmsh_mesh.specs.Stages.{Gives};
 ghost use Rattle.gmsh_mesh.specs.Mesh.{Arrays};
@@ -14,11 +14,11 @@ ghost use Rattle.gmsh_mesh.specs.Small.{AreSmall, HasSmall};
 
 use crate::choice::{Dimension, choose_dimension};
 use crate::mesh::{Mesh, build_mesh};
+use crate::mesh_faces::as_values;
 use crate::refusal::GmshRefusal;
 use crate::source::mesh_source;
 use gmsh_text::{elements_are_whole, read_gmsh};
-use mesh_faces::as_values;
-use mesh_text::{Entries, Entry, Form, MESH_BYTES, MESH_VALUES, Values, write_mesh};
+use mesh_decl::text::{Entries, Entry, Form, MESH_BYTES, MESH_VALUES, Values, write_mesh};
 use op_num::{Name, OutOfMemory};
 use std::alloc::Global;
 

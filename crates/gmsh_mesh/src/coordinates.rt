@@ -7,7 +7,7 @@ ghost use Rattle.gmsh_mesh.specs.Coordinates.{coordinate, plane_word, place, pla
 use crate::choice::Dimension;
 use crate::refusal::GmshRefusal;
 use gmsh_text::Point;
-use scaled_decimals::{largest_scale, read_scaled};
+use gmsh_text::decimals::{largest_scale, read_scaled};
 use std::alloc::Global;
 use texts::Token;
 

@@ -1,16 +1,16 @@
 // The faces of the cells.
 ghost use Rattle.std.specs.Prelude.{◌≡◌, ◌*◌, ◌<◌, ◌≤◌, ◌^◌, IfOk, length};
-ghost use Rattle.cell_sides.specs.Sides.{nodes, sides as sides_of, side_nodes, AreSides};
-ghost use Rattle.cell_faces.specs.Mates.{AreSideMates};
+ghost use Rattle.gmsh_mesh.specs.Sides.{nodes, sides as sides_of, side_nodes, AreSides};
+ghost use Rattle.gmsh_mesh.specs.SideMates.{AreSideMates};
 ghost use Rattle.gmsh_mesh.specs.Stages.{Gives};
 ghost use Rattle.gmsh_mesh.specs.Faces.{MatesAre, AreFacesOf};
 ghost use Rattle.gmsh_mesh.specs.Small.{AreSmall, AreSmallFaces};
 
+use crate::cell_faces::side_mates;
+use crate::cell_sides::Shape;
+use crate::equal_keys::MateRefusal;
+use crate::mesh_faces::{both_cells, cells_at, find_faces, rows_at, sides_are_of_faces};
 use crate::refusal::GmshRefusal;
-use cell_faces::side_mates;
-use cell_sides::Shape;
-use equal_keys::MateRefusal;
-use mesh_faces::{both_cells, cells_at, find_faces, rows_at, sides_are_of_faces};
 use std::alloc::{AllocError, Global};
 use std::marker::Model;
 

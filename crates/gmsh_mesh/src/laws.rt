@@ -1,13 +1,13 @@
 // Laws of meshes.
 ghost use Rattle.std.specs.Prelude.{◌≡◌, ◌+◌, ◌*◌, ℕ, List, Option, Result, Ok, length};
-ghost use Rattle.cell_sides.specs.Sides.{nodes, sides};
+ghost use Rattle.gmsh_mesh.specs.Sides.{nodes, sides};
 ghost use Rattle.gmsh_mesh.specs.declared.choice.Dimension.{Dimension};
 ghost use Rattle.gmsh_mesh.specs.declared.refusal.GmshRefusal.{GmshRefusal};
 ghost use Rattle.gmsh_mesh.specs.Mesh.{Arrays};
 ghost use Rattle.gmsh_mesh.specs.Outcome.{ArraysAre, Conversion, Comes};
 
+use crate::mesh_faces::sides_are_of_faces;
 use gmsh_text::elements_are_whole;
-use mesh_faces::sides_are_of_faces;
 
 /// A law: the bytes of a Gmsh file spell one mesh at most, and come to one outcome.
 pub fn one_outcome()

@@ -5,16 +5,21 @@
 #![tactic(auto)]
 
 mod boundary;
+pub mod cell_faces;
+pub mod cell_sides;
 mod choice;
 mod convert;
 mod coordinates;
+pub mod equal_keys;
 mod faces;
 mod laws;
 mod mesh;
+pub mod mesh_faces;
 mod numbers;
 mod refusal;
 mod source;
 mod stages;
+pub mod tag_places;
 
 pub use choice::Dimension;
 pub use convert::{Conversion, from_gmsh};

@@ -1,8 +1,8 @@
 // The arrays of a mesh, from a text of Gmsh.
 ghost use Rattle.std.specs.Prelude.{◌≡◌, ◌+◌, ◌*◌, ◌<◌, ◌≤◌, ◌^◌, IfOk, length};
-ghost use Rattle.cell_sides.specs.Sides.{nodes, side_nodes};
-ghost use Rattle.tag_places.specs.Places.{ArePlaces};
-ghost use Rattle.mesh_text.specs.declared.entry.TheConstants.{MESH_VALUES};
+ghost use Rattle.gmsh_mesh.specs.Sides.{nodes, side_nodes};
+ghost use Rattle.gmsh_mesh.specs.Places.{ArePlaces};
+ghost use Rattle.mesh_decl.specs.declared.text.entry.TheConstants.{MESH_VALUES};
 ghost use Rattle.gmsh_text.specs.Whole.{AreWhole};
 ghost use Rattle.gmsh_mesh.specs.Stages.{Gives};
 ghost use Rattle.gmsh_mesh.specs.Choice.{cell_table, side_table};
@@ -11,15 +11,15 @@ ghost use Rattle.gmsh_mesh.specs.Mesh.{MeshIs, NodesAre, RowsAre, ElementsAre, F
 ghost use Rattle.gmsh_mesh.specs.Small.{AreSmallFaces, HasSmall, ArePlacesOf};
 
 use crate::boundary::{SideElements, boundary_tags};
+use crate::cell_sides::{Shape, all_sides};
 use crate::choice::{Choice, Dimension, cells_of, check_types, choose_shape, sides_of};
 use crate::coordinates::coordinates;
 use crate::faces::{FaceRows, face_rows, mates_of};
 use crate::numbers::{numbered, tag_numbers};
 use crate::refusal::GmshRefusal;
 use crate::stages::both;
-use cell_sides::{Shape, all_sides};
 use gmsh_text::{GmshText, Table};
-use mesh_text::MESH_VALUES;
+use mesh_decl::text::MESH_VALUES;
 use std::alloc::Global;
 use std::marker::Model;
 

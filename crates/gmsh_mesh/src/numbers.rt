@@ -4,9 +4,9 @@ ghost use Rattle.gmsh_mesh.specs.Stages.{Gives};
 ghost use Rattle.gmsh_mesh.specs.Numbers.{NumbersAre, numbers as numbers_of};
 
 use crate::refusal::GmshRefusal;
+use crate::tag_places::{TagRefusal, tag_places};
 use gmsh_text::Tag;
 use std::alloc::{AllocError, Global};
-use tag_places::{TagRefusal, tag_places};
 
 // The tags without their lines.
 pub(crate) fn tag_numbers(alloc: Global, tags: &[Tag]) -> Result<Vec<u32>, AllocError>

@@ -2,7 +2,7 @@
 ghost use Rattle.std.specs.Prelude.{◌≡◌};
 ghost use Rattle.gmsh_mesh.specs.Source.{source_text};
 
-use cell_sides::Shape;
+use crate::cell_sides::Shape;
 
 /// The program for a mesh of triangles.
 pub const TRIANGLE_SOURCE: &str =

@@ -6,3 +6,6 @@ pub mod Values
 pub mod Sections
 pub mod Reading
 pub mod Whole
+pub mod Decimal
+pub mod Nearest
+pub mod Bounded

@@ -4,7 +4,7 @@ use Rattle.std.specs.Str.{bytes_eq}
 use Rattle.op_num.specs.Spelling.{number_of, integer_of, fits_i32}
 use Rattle.texts.specs.Cut.{Word, Uncut}
 use Rattle.texts.specs.Automaton.{onto}
-use Rattle.scaled_decimals.specs.Decimal.{Decimal, decimal_of}
+use Rattle.gmsh_text.specs.Decimal.{Decimal, decimal_of}
 use Rattle.gmsh_text.specs.declared.refusal.TextRefusal.{TextRefusal}
 use Rattle.gmsh_text.specs.declared.refusal.TextRefusal.TheVariants.{Syntax, NumberRange}
 use Rattle.gmsh_text.specs.declared.nodes.Tag.{Tag}

@@ -5,6 +5,7 @@
 //! the text spells them; which elements are cells, and whether tags are known, is for who reads the mesh.
 #![tactic(auto)]
 
+pub mod decimals;
 mod elements;
 mod entities;
 mod format;

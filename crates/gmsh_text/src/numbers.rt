@@ -1,17 +1,17 @@
 // Tokens that are numbers or words of the format.
 ghost use Rattle.std.specs.Prelude.{◌≡◌, ◌<◌, ◌≤◌, ◌^◌, ℕ, Ok, IfOk, is_some};
 ghost use Rattle.op_num.specs.Spelling.{number_of, integer_of};
-ghost use Rattle.scaled_decimals.specs.Decimal.{decimal_of};
+ghost use Rattle.gmsh_text.specs.Decimal.{decimal_of};
 ghost use Rattle.texts.specs.Cut.{Word, first_of, rest_of};
 ghost use Rattle.gmsh_text.specs.declared.refusal.TextRefusal.TheVariants as Refusal;
 ghost use Rattle.gmsh_text.specs.Parsing.{IsRead, taken};
 ghost use Rattle.gmsh_text.specs.Numbers.{number, number_below, integer, integer_within, decimal, decimal_word, tag, word};
 ghost use Rattle.gmsh_text.specs.Numbers.{skip_decimals, skip_integers};
 
+use crate::decimals::{DecimalRefusal, read_scaled};
 use crate::nodes::Tag;
 use crate::refusal::TextRefusal;
 use op_num::{NumRefusal, read_i32, read_u64};
-use scaled_decimals::{DecimalRefusal, read_scaled};
 use texts::{Token, Tokens};
 
 // The next token.

@@ -14,14 +14,14 @@ ghost use Rattle.run_model.specs.Memory.{Holds, memory_length, var_start};
 ghost use Rattle.host_acts.specs.Acts.{program_of, Begins, assignment_of, ActEnds, GivesValues, PrintsLine, values_in, component_in};
 ghost use Rattle.host_acts.specs.Acts.{new_value_in};
 
+use bound_program::trace::{host_value, told_values_are_closed};
 use bound_program::{Act, ToldAct, Var};
 use gather::print_line;
+use kernel_model::operators::{index_of, stored_value};
+use kernel_types::views::Place;
 use kernel_types::{AssignOp, KernelFault, Pos, RExpr};
-use main_trace::{host_value, told_values_are_closed};
 use op_num::{OutOfMemory, Text};
-use operators::{index_of, stored_value};
 use std::alloc::Global;
-use views::Place;
 
 /// All variables, and where each begins among the cells of all of them.
 #[derive(Drop)]

@@ -4,7 +4,7 @@ use Rattle.std.specs.Result.{result_err}
 use Rattle.std.specs.Prelude.{slice_index_or}
 use Rattle.kernel_types.specs.declared.faults.KernelFault.{KernelFault}
 use Rattle.kernel_model.specs.Meaning.{Target, Ran, Finished, Stopped, ran_of}
-use Rattle.element_runs.specs.OnWindows.{core_of}
+use Rattle.run_model.specs.OnWindows.{core_of}
 use Rattle.rank_state.specs.declared.spans.Span.{Span}
 use Rattle.rank_state.specs.Spans.{scattered}
 use Rattle.rank_state.specs.Core.{fault_of}

@@ -4,8 +4,8 @@ ghost use Rattle.std.specs.Prelude.{◌≡◌, ◌≤◌, ℕ, Bool, true, List,
 ghost use Rattle.kernel_types.specs.Resolved.{IsResolved};
 ghost use Rattle.kernel_model.specs.Meaning.{Target};
 ghost use Rattle.kernel_code.specs.Coded.{IsCode};
-ghost use Rattle.views.specs.Framed.{PlacesIn, target_of};
-ghost use Rattle.fault_order.specs.Law.{StopsUnchanged};
+ghost use Rattle.kernel_types.specs.Framed.{PlacesIn, target_of};
+ghost use Rattle.kernel_model.specs.Law.{StopsUnchanged};
 ghost use Rattle.rank_state.specs.declared.spans.Span.{Span};
 ghost use Rattle.rank_state.specs.Core.{fault_of};
 ghost use Rattle.rank_state.specs.Frames.{pane_after, closed};
@@ -16,7 +16,7 @@ use crate::laws::runs_in_place;
 use crate::saving::{put_back, save};
 use kernel_code::{Code, run_on};
 use kernel_types::KernelFault;
-use views::Place;
+use kernel_types::views::Place;
 
 // Runs a kernel's code that leaves the memory as it was where it faults.
 fn run_clean(
@@ -82,7 +82,7 @@ fn run_saved(
 
 /// Runs a kernel's code on a memory's own cells, those at the places of the kernel's arguments. Where it faults, the cells of
 /// marked arguments are put back, and the fault is answered. Where `clean`, a fault of the kernel leaves all cells as they were by
-/// itself (`fault_order::unchanged_after_faults`), and none is saved or put back.
+/// itself (`kernel_model::fault_order::unchanged_after_faults`), and none is saved or put back.
 ///
 /// So it is a run on windows and their end, for all spans that gather windows in which the arguments stand as they do here, and
 /// whose written ones have marked arguments alone: the memory has in the end what that run leaves of the written spans, and

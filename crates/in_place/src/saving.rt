@@ -1,11 +1,11 @@
 // The marked places' cells of a memory, saved before a run and put back after its fault.
 
 ghost use Rattle.std.specs.Prelude.{◌≡◌, ◌≤◌, List, ℤ, length};
-ghost use Rattle.views.specs.Framed.{PlacesIn};
+ghost use Rattle.kernel_types.specs.Framed.{PlacesIn};
 ghost use Rattle.in_place.specs.Saving.{place_cells, place_spans, AreKept, AreSaved};
 
-use rank_memory::copying::copy;
-use views::Place;
+use kernel_types::views::Place;
+use rank_state::rank_memory::copying::copy;
 
 /// Copies the marked places' cells, each to where it stands among the cells of all places.
 pub fn save(memory: &[i32], places: &[Place], marks: &[bool], saved: &mut [i32])

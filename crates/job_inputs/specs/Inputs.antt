@@ -8,13 +8,13 @@ use Rattle.kernel_types.specs.declared.kernels.Resolved.{Resolved}
 use Rattle.kernel_types.specs.View.{resolved_of}
 use Rattle.kernel_model.specs.Refusals.{Rule, number_of}
 use Rattle.name_resolution.specs.Programs.{Resolves}
-use Rattle.mesh_text.specs.Spelling.{Named}
+use Rattle.mesh_decl.specs.Spelling.{Named}
 use Rattle.distribute.specs.Parts.{Parts, Text}
 use Rattle.mesh_decl.specs.declared.decl.MapDecl.{MapDecl}
 use Rattle.bound_program.specs.Limits.{max_dim}
 use Rattle.bound_program.specs.Values.{BoundValue, bound_of}
-use Rattle.state_texts.specs.declared.refusals.StateRefusal.{StateRefusal}
-use Rattle.state_texts.specs.declared.refusals.StateRefusal.TheVariants as state
+use Rattle.checkpoint.specs.declared.state_texts.refusals.StateRefusal.{StateRefusal}
+use Rattle.checkpoint.specs.declared.state_texts.refusals.StateRefusal.TheVariants as state
 use Rattle.command_words.specs.Refusal as answer
 use Rattle.command_words.specs.Words.{Stretch, Whole, Before, From, Parting, ByRule, ByFile, Blocks, OfSize, AsPlanned, Input}
 use Rattle.answers.specs.Judgements as judged

@@ -1,6 +1,6 @@
 -- How a loop lets its kernel use a parameter.
 use Rattle.std.specs.Prelude.{◌≡◌, ℕ, List, length, map, Contains, Some, slice_index_or}
-use Rattle.reductions.specs.declared.access.Access.TheVariants.{Read}
+use Rattle.op_num.specs.declared.reductions.access.Access.TheVariants.{Read}
 use Rattle.kernel_types.specs.declared.kernels.RKernel.{RKernel}
 use Rattle.kernel_model.specs.Obeys.{KernelObeys}
 use Rattle.access_check.specs.declared.modes.Mode.{Mode}

@@ -16,11 +16,11 @@ ghost use Rattle.job_inputs.specs.Chains.{HaltsOver};
 use crate::files::file_of;
 use answer_lines::{Failure, Halt, Limit, Refusal};
 use bound_program::Bound;
+use checkpoint::state_texts::{StateRefusal, read_state};
 use checkpoint::{HeadRefusal, head, tail, tails_obey};
 use command_words::Stretch;
 use kept_files::Kept;
 use op_outside::Shelf;
-use state_texts::{StateRefusal, read_state};
 use std::alloc::Global;
 
 /// The program whose items run, of a program that is bound.

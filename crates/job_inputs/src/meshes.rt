@@ -2,8 +2,8 @@
 
 ghost use Rattle.std.specs.Prelude.{◌≡◌, ◌≤◌, ℕ, List, [], length, slice_index_or, option_map, Ok, Err, IfOk, IfErr};
 ghost use Rattle.c_tree.specs.View.{program_of, host_of, hosts_of};
-ghost use Rattle.mesh_text.specs.Spelling.{Spells};
-ghost use Rattle.mesh_text.specs.declared.entry.TheConstants.{MESH_BYTES};
+ghost use Rattle.mesh_decl.specs.Spelling.{Spells};
+ghost use Rattle.mesh_decl.specs.declared.text.entry.TheConstants.{MESH_BYTES};
 ghost use Rattle.bound_program.specs.Values as values;
 ghost use Rattle.bound_program.specs.Fits.{Fits};
 ghost use Rattle.command_words.specs.Refusal as answer;
@@ -15,8 +15,8 @@ ghost use Rattle.job_inputs.specs.Inputs.{IsJudged, HasNarrowMaps};
 ghost use Rattle.job_inputs.specs.Maps.{map_by};
 
 use answer_lines::{Failure, Halt, Limit, Refusal, most};
-use bind_refusals::{BindRefusal, Counted};
 use bound_program::Bound;
+use bound_program::refusals::{BindRefusal, Counted};
 use c_tree::{Host, OpCall, Pos, Program};
 use kernel_types::Resolved;
 use loop_bind::{bind, bound_maps_are_narrow, resolved_sources_are, spelled_entries_fit};

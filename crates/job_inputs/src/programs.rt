@@ -4,7 +4,7 @@ ghost use Rattle.std.specs.Prelude.{◌≡◌, ◌≤◌, ◌↔◌, ℕ, All, L
 ghost use Rattle.op_outside.specs.Outside.{Files, Rose};
 ghost use Rattle.kept_files.specs.Readings.{AreNext, HaveCome, Finds};
 ghost use Rattle.c_tree.specs.View.{program_of};
-ghost use Rattle.mesh_text.specs.declared.entry.TheConstants.{MESH_BYTES};
+ghost use Rattle.mesh_decl.specs.declared.text.entry.TheConstants.{MESH_BYTES};
 ghost use Rattle.bound_program.specs.Values as values;
 ghost use Rattle.bound_program.specs.Fits.{Fits};
 ghost use Rattle.answer_lines.specs.Lines.{refused};

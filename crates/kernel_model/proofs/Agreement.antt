@@ -3,11 +3,11 @@ use Rattle.std.proofs.Common.{◌≡◌, ◌≢◌, ℕ, ℤ, pos, negsuc, ◌+�
 use Rattle.std.specs.Prelude.{slice_index_or, neg_ℤ}
 use Rattle.std.proofs.lemmas.Int.{int_wrap-add_left, int_wrap-add_right, ints}
 use Rattle.std.specs.Int.{int_wrap, w32}
-use Rattle.reductions.specs.Reduction.{Reduction, Add, merged, unit_of}
-use Rattle.reductions.proofs.Laws.{commuting}
+use Rattle.op_num.specs.Reduction.{Reduction, Add, merged, unit_of}
+use Rattle.op_num.proofs.reductions.Laws.{commuting}
 use Rattle.kernel_model.specs.Numbers.{sum, difference}
 use Rattle.kernel_model.specs.Meaning.{Store, Target, target_at, read_arg, store_arg}
-use Rattle.reductions.specs.Access.{OpRead, OpWrite, OpRw, OpReduce}
+use Rattle.op_num.specs.Access.{OpRead, OpWrite, OpRw, OpReduce}
 use Rattle.kernel_model.specs.Obeys.{Mode, Assigned, HasAssigned, with_assigned}
 use Rattle.kernel_model.specs.Independence.{same_cell, access, dim, SameStoredAliases, Alone, OnlyReduced, IsReducing}
 use Rattle.kernel_model.proofs.Stores.{read_arg-store_arg, length-with_cell, length-array_with_cell, read-same_cell, same_cell_refl}

@@ -5,8 +5,8 @@ use Rattle.std.specs.Bool.{Decides}
 use Rattle.std.proofs.lemmas.Bool.{eqb-true, eq-eqb, cases_lt}
 use Rattle.std.proofs.lemmas.Bool.Decides.{Decides-ltb}
 use Rattle.c_lex.specs.declared.tokens.Pos.{Pos}
-use Rattle.reductions.specs.Reduction.{Reduction, Add, Min, Max}
-use Rattle.reductions.specs.Access.{Access, OpRead, OpWrite, OpRw, OpReduce}
+use Rattle.op_num.specs.Reduction.{Reduction, Add, Min, Max}
+use Rattle.op_num.specs.Access.{Access, OpRead, OpWrite, OpRw, OpReduce}
 use Rattle.kernel_model.specs.Obeys.{Event, Assigned, HasAssigned, with_assigned}
 use Rattle.kernel_model.specs.Refusals.{Rule, WritesRead, ReadsInc, IncNotSum, ReadsUnwritten, NotAllWritten, WriteIndexNotStatic, LiteralIndexOut, MinMaxForm, argument_of, index_of, place_of, is_target, is_sum, is_extremum, is_read, opposite, IsOut, IsUnwritten, Breaks}
 use Rattle.kernel_model.specs.Walk.{Breach, Covered, none_covered, with_covered, both_covered, is_op_read, is_op_write, is_op_reduce, is_op_inc, is_op_extremum, is_unknown, is_out, is_unwritten, breaks, with_rule, with_rules}

@@ -4,7 +4,7 @@ use Rattle.std.specs.Bool.{Decides}
 use Rattle.std.proofs.lemmas.Bool.{cases_lt}
 use Rattle.std.proofs.Math.ListN.{get_or-eq_default}
 use Rattle.c_lex.specs.declared.tokens.Pos.{Pos}
-use Rattle.reductions.specs.Access.{OpRead, OpWrite}
+use Rattle.op_num.specs.Access.{OpRead, OpWrite}
 use Rattle.kernel_types.specs.declared.kernels.RKernel.{RKernel}
 use Rattle.kernel_types.specs.declared.statements.RStmt.{RStmt}
 use Rattle.kernel_model.specs.Obeys.{Mode, mode_at, no_mode, no_counters, Event, Path, events, Assigned, HasAssigned, after_event, assigned_after}

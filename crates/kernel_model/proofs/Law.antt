@@ -2,12 +2,12 @@
 use Rattle.std.proofs.Common.{◌≡◌, ◌≢◌, ℕ, zero, suc, ℤ, pos, ◌+◌, ◌-◌, ◌<◌, List, [], ◌++◌, length, set, refl, ap, ◌∙◌, subst, ◌⊎◌, inl, inr}
 use Rattle.std.specs.Prelude.{slice_index_or, replicate}
 use Rattle.std.proofs.lemmas.List.{length-replicate}
-use Rattle.reductions.specs.Reduction.{Reduction, merged, unit_of}
+use Rattle.op_num.specs.Reduction.{Reduction, merged, unit_of}
 use Rattle.kernel_types.specs.declared.statements.RStmt.{RStmt, Block', Declare, SetScalar, SetLocal, SetArg, If', For', Row_of-RStmt, end_of-RStmt, more_of-RStmt}
 use Rattle.kernel_types.specs.Resolved.{StmtWithin, RowWithin, StoresOnly, RowStoresOnly, CountersKept, RowCountersKept}
 use Rattle.kernel_model.specs.Numbers.{is_zero}
 use Rattle.kernel_model.specs.Meaning.{Store, Target, target_at, read_arg, index_in, value_of, Outcome, Done, Faulted, stored, turns, meaning, meaning_of_all, without_locals}
-use Rattle.reductions.specs.Access.{OpRead, OpWrite, OpRw}
+use Rattle.op_num.specs.Access.{OpRead, OpWrite, OpRw}
 use Rattle.kernel_model.specs.Obeys.{Mode, Counters, no_counters, with_counter, Event, expr_events, EachTurn, Path, RowPath, turn_events, events, row_events, Assigned, AllAllowed, assigned_after, AllWritten}
 use Rattle.kernel_model.specs.Independence.{access, dim, SameStoredAliases, Alone, SameRuns, Independence, StoredIndependence}
 use Rattle.kernel_model.proofs.Paths.{some_expr_path, some_path, some_row_path, each_turn, allowed_front, allowed_back, assigned_after-append, expr_keeps, after_expr}

@@ -8,7 +8,7 @@ use Rattle.c_tree.specs.declared.declarations.AssignOp.TheVariants as assign
 use Rattle.kernel_types.specs.declared.statements.RStmt.{RStmt, Block', Declare, SetScalar, SetLocal, SetArg, If', For', Row_of-RStmt, end_of-RStmt, more_of-RStmt}
 use Rattle.kernel_model.specs.Numbers.{is_zero}
 use Rattle.kernel_model.specs.Meaning.{Store, Target, target_at, store_arg, value_of, stored, turns, meaning, meaning_of_all, read_arg}
-use Rattle.reductions.specs.Access.{OpRead}
+use Rattle.op_num.specs.Access.{OpRead}
 use Rattle.kernel_model.specs.Obeys.{Mode, mode_at, Counters, no_counters, with_counter, static, Path, RowPath, EachTurn, own_side, right_events, store_event, Own, Neither, First, Second, target_event, turn_events, events, row_events, Assigned, MayAssign, MayAdd, MayChange, MayMerge, Allowed, AllAllowed, assigned_after}
 use Rattle.kernel_model.specs.Independence.{ReadsStay}
 use Rattle.kernel_model.proofs.Paths.{some_expr_path, some_path, some_row_path, each_turn, allowed_front, allowed_back, right_keeps, after_expr, after_keeping}

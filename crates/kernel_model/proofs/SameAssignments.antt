@@ -7,13 +7,13 @@ use Rattle.c_tree.specs.declared.expressions.MinMax.{MinMax}
 use Rattle.c_tree.specs.declared.expressions.MinMax.TheVariants as min_max
 use Rattle.c_tree.specs.declared.declarations.AssignOp.{AssignOp}
 use Rattle.c_tree.specs.declared.declarations.AssignOp.TheVariants as assign
-use Rattle.reductions.specs.Reduction.{Reduction, Add, Min, Max}
+use Rattle.op_num.specs.Reduction.{Reduction, Add, Min, Max}
 use Rattle.kernel_types.specs.declared.expressions.ElementForm.{ElementForm}
 use Rattle.kernel_types.specs.declared.expressions.RExpr.{RExpr}
 use Rattle.kernel_types.specs.declared.expressions.RExpr.TheVariants.{Arg', Extremum'}
 use Rattle.kernel_model.specs.Numbers.{Value, extremum, reduction_of}
 use Rattle.kernel_model.specs.Meaning.{Store, Target, target_at, read_arg, store_arg, on_value, and_then, index_in, value_of, Outcome, Done, with_value, stored}
-use Rattle.reductions.specs.Access.{Access, OpReduce}
+use Rattle.op_num.specs.Access.{Access, OpReduce}
 use Rattle.kernel_model.specs.Obeys.{Mode, Counters, static, Event, Reads, Assigns, Owns, Merges, ExprPath, expr_events, store_event, Assigned, MayRead, MayAssign, MayOwn, MayMerge, is_place, Own, Neither, First, Second, own_side, own_events, right_events, target_event, Allowed, with_assigned, AllAllowed, assigned_after}
 use Rattle.kernel_model.specs.SameTokens.{same_form, same_tokens}
 use Rattle.kernel_model.specs.Independence.{access, dim, SameStoredAliases}

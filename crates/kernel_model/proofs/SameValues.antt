@@ -8,7 +8,7 @@ use Rattle.kernel_types.specs.declared.expressions.RExpr.{RExpr}
 use Rattle.kernel_types.specs.declared.expressions.RExpr.TheVariants.{Number, Scalar, Constant, Arg', Local', Const', Unary', Binary', Choice', Paren', Extremum', Absolute'}
 use Rattle.kernel_model.specs.Numbers.{Value, fault, truth, is_zero, not, is_settled, is_lazy, apply, apply_unary, extremum, magnitude}
 use Rattle.kernel_model.specs.Meaning.{Store, Target, target_at, read_arg, and_then, index_in, value_of}
-use Rattle.reductions.specs.Access.{Access, OpRead, OpWrite, OpRw, OpReduce}
+use Rattle.op_num.specs.Access.{Access, OpRead, OpWrite, OpRw, OpReduce}
 use Rattle.kernel_model.specs.Obeys.{Mode, Counters, static, Reads, ExprPath, taken_if, expr_events, Assigned, HasAssigned, MayRead, AllAllowed}
 use Rattle.kernel_model.specs.Independence.{access, dim, SameStoredAliases}
 use Rattle.kernel_model.proofs.Paths.{some_if, taken, taken_if-taken, some_expr_path, allowed_front, after_expr}

@@ -1,11 +1,11 @@
 -- What a kernel that obeys its modes does to two stores, and what any kernel keeps.
 use Rattle.std.specs.Prelude.{◌≡◌, ◌≢◌, ℕ, ℤ, pos, ◌+◌, ◌<◌, List, [], length, Bool, true, ◌&&◌, ◌⊎◌, nat_eq, slice_index_or, FitsSigned}
 use Rattle.std.specs.Int.{w32}
-use Rattle.reductions.specs.Reduction.{Reduction, merged}
+use Rattle.op_num.specs.Reduction.{Reduction, merged}
 use Rattle.kernel_types.specs.declared.kernels.RKernel.{RKernel}
 use Rattle.kernel_types.specs.Resolved.{IsResolved}
 use Rattle.kernel_model.specs.Meaning.{Store, cell, Target, target_at, read_arg, Ran, Finished, Stopped, kernel_meaning}
-use Rattle.reductions.specs.Access.{Access, OpRead, OpWrite, OpRw, OpReduce}
+use Rattle.op_num.specs.Access.{Access, OpRead, OpWrite, OpRw, OpReduce}
 use Rattle.kernel_model.specs.Obeys.{Mode, mode_at, KernelObeys}
 
 -- two arguments' components are one cell

@@ -8,3 +8,6 @@ pub mod Walk
 pub mod Trees
 pub mod Operators
 pub mod StoredThrough
+pub mod Placed
+pub mod Effects
+pub mod Law

@@ -13,7 +13,7 @@ use Rattle.kernel_types.specs.declared.expressions.RExpr.TheVariants.{Choice', P
 use Rattle.kernel_types.specs.declared.statements.RStmt.{RStmt, Block', Declare, SetScalar, SetLocal, SetArg, If', For', Row_of-RStmt}
 use Rattle.kernel_types.specs.declared.statements.RStmt.{end_of-RStmt, more_of-RStmt}
 use Rattle.kernel_types.specs.declared.kernels.RKernel.{RKernel}
-pub use Rattle.views.specs.Stores.{Store, cell, with_cell, Target, no_target, target_at, read_arg, store_arg}
+pub use Rattle.kernel_types.specs.Stores.{Store, cell, with_cell, Target, no_target, target_at, read_arg, store_arg}
 use Rattle.kernel_model.specs.Numbers.{Value, fault, truth, is_zero, apply, apply_unary, is_settled, extremum, magnitude, not}
 
 -- ---- values

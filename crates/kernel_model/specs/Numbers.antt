@@ -13,7 +13,7 @@ use Rattle.c_tree.specs.declared.expressions.UnaryOp.{UnaryOp}
 use Rattle.c_tree.specs.declared.expressions.UnaryOp.TheVariants as unary
 use Rattle.c_tree.specs.declared.expressions.MinMax.{MinMax}
 use Rattle.c_tree.specs.declared.expressions.MinMax.TheVariants as min_max
-use Rattle.reductions.specs.Reduction.{Reduction, Min, Max, merged}
+use Rattle.op_num.specs.Reduction.{Reduction, Min, Max, merged}
 use Rattle.kernel_types.specs.declared.faults.KernelFault.{KernelFault}
 
 -- `x + y`

@@ -5,10 +5,10 @@ use Rattle.c_lex.specs.declared.tokens.Pos.{Pos}
 use Rattle.c_lex.specs.Order.{IsEarlier}
 use Rattle.c_tree.specs.declared.expressions.MinMax.{MinMax}
 use Rattle.c_tree.specs.declared.expressions.MinMax.TheVariants as min_max
-use Rattle.reductions.specs.Reduction.{Reduction, Add, Min, Max}
+use Rattle.op_num.specs.Reduction.{Reduction, Add, Min, Max}
 use Rattle.kernel_types.specs.declared.statements.RStmt.{RStmt}
 use Rattle.kernel_types.specs.declared.kernels.RKernel.{RKernel}
-use Rattle.reductions.specs.Access.{Access, OpRead, OpWrite, OpReduce}
+use Rattle.op_num.specs.Access.{Access, OpRead, OpWrite, OpReduce}
 use Rattle.kernel_model.specs.Obeys.{Mode, mode_at, Event, Reads, Assigns, Adds, Changes, Owns, Merges, Path, events, no_counters, Assigned}
 use Rattle.kernel_model.specs.Obeys.{HasAssigned, assigned_after, KernelObeys}
 

@@ -3,8 +3,8 @@ use Rattle.std.specs.Prelude.{ℕ, zero, suc, ℤ, pos, negsuc, ◌-◌, List, l
 use Rattle.std.specs.Prelude.{nat_eq, nat_lt}
 use Rattle.c_lex.specs.declared.tokens.Pos.{Pos}
 use Rattle.c_tree.specs.declared.expressions.MinMax.{MinMax}
-use Rattle.reductions.specs.Reduction.{Add, Min, Max}
-use Rattle.reductions.specs.Access.{Access, OpRead, OpWrite, OpReduce}
+use Rattle.op_num.specs.Reduction.{Add, Min, Max}
+use Rattle.op_num.specs.Access.{Access, OpRead, OpWrite, OpReduce}
 use Rattle.kernel_types.specs.declared.expressions.RExpr.{RExpr}
 use Rattle.kernel_types.specs.declared.expressions.RExpr.TheVariants.{Number, Scalar, Constant, Arg', Local', Const', Unary', Binary'}
 use Rattle.kernel_types.specs.declared.expressions.RExpr.TheVariants.{Choice', Paren', Extremum', Absolute'}

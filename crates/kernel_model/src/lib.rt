@@ -1,7 +1,9 @@
 //! What a kernel does to a store of cells, which accesses it may make, and what follows for its elements.
 #![tactic(auto)]
 
+pub mod fault_order;
 mod laws;
+pub mod operators;
 
 pub use laws::{
     independence, kernels_are_trees, operators_stay_in_range, others_stay, range_stays, reads_stay,

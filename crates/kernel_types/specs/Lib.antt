@@ -1,2 +1,5 @@
 pub mod Resolved
 pub mod View
+pub mod Stores
+pub mod Cutting
+pub mod Framed

@@ -7,6 +7,7 @@ mod faults;
 mod kernels;
 mod resolved;
 mod statements;
+pub mod views;
 
 pub use c_tree::{AssignOp, BinaryOp, MinMax, Name, Pos, UnaryOp};
 pub use expressions::{ElementForm, RExpr};

@@ -8,9 +8,9 @@ use Rattle.mesh_decl.specs.Mesh.{MeshValue, set_size}
 use Rattle.mesh_decl.specs.Owners.{owner_of}
 use Rattle.rank_sets.specs.Below.{listed, row, rows}
 use Rattle.rank_sets.proofs.Below.{at_listed, length_listed}
-use Rattle.halo_lists.specs.Halo.{owns, imports, imports_execute, imports_nonexecute, has_copy}
-use Rattle.halo_lists.specs.declared.types.SetHalo.{SetHalo}
-use Rattle.halo_lists.specs.Halos.{IsSetHalo}
+use Rattle.local_mesh.specs.Halo.{owns, imports, imports_execute, imports_nonexecute, has_copy}
+use Rattle.local_mesh.specs.declared.halo_lists.types.SetHalo.{SetHalo}
+use Rattle.local_mesh.specs.Halos.{IsSetHalo}
 use Rattle.local_mesh.specs.declared.types.LocalSet.{LocalSet}
 use Rattle.local_mesh.specs.declared.types.RankMesh.{RankMesh}
 use Rattle.local_mesh.specs.LocalMesh.{originals_in}

@@ -7,7 +7,7 @@ use Rattle.mesh_decl.specs.declared.owners.Perms.{Perms}
 use Rattle.mesh_decl.specs.Mesh.{MeshValue, IsMapAt, set_count, map_count, set_size, map_from, map_to, map_dim, target}
 use Rattle.mesh_decl.proofs.FieldReads.{some_in}
 use Rattle.mesh_decl.specs.Owners.{ArePerms, perm_in}
-use Rattle.halo_lists.specs.Halo.{owns, imports_execute, imports_nonexecute, has_copy, executes}
+use Rattle.local_mesh.specs.Halo.{owns, imports_execute, imports_nonexecute, has_copy, executes}
 use Rattle.local_mesh.specs.declared.types.LocalSet.{LocalSet}
 use Rattle.local_mesh.specs.LocalMesh.{IsLocalSet, originals_in, executed_in, AreClosed}
 use Rattle.local_mesh.proofs.Numbered.{groups_apart, number_few, number_below, number_apart, number_contains, copy_executed}

@@ -9,9 +9,9 @@ use Rattle.mesh_decl.specs.Mesh.{MeshValue, set_size}
 use Rattle.mesh_decl.specs.Owners.{IsNumbering, perm_in}
 use Rattle.rank_sets.specs.Below.{listed, row}
 use Rattle.rank_sets.proofs.Below.{at_listed, length_listed}
-use Rattle.halo_lists.specs.declared.types.SetHalo.{SetHalo}
-use Rattle.halo_lists.specs.Halo.{owns, imports_execute, imports_nonexecute, has_copy}
-use Rattle.halo_lists.specs.Halos.{IsSetHalo}
+use Rattle.local_mesh.specs.declared.halo_lists.types.SetHalo.{SetHalo}
+use Rattle.local_mesh.specs.Halo.{owns, imports_execute, imports_nonexecute, has_copy}
+use Rattle.local_mesh.specs.Halos.{IsSetHalo}
 use Rattle.local_mesh.specs.declared.types.Groups.{Groups}
 use Rattle.local_mesh.specs.declared.types.LocalSet.{LocalSet}
 use Rattle.local_mesh.specs.Local.{ordered, AreInverse}

@@ -4,7 +4,7 @@ use Rattle.std.specs.List.{Contains}
 use Rattle.mesh_decl.specs.Owners.{IsNumbering}
 use Rattle.mesh_decl.specs.Mesh.{MeshValue}
 use Rattle.mesh_decl.specs.declared.owners.Owners.{Owners}
-use Rattle.halo_lists.specs.Halo.{owns, reaches, imports_execute, imports_nonexecute, executes, named}
+use Rattle.local_mesh.specs.Halo.{owns, reaches, imports_execute, imports_nonexecute, executes, named}
 use Rattle.local_mesh.specs.Local.{earlier, local_number, AreApart, AreInverse}
 use Rattle.local_mesh.proofs.Inverse.{apart_sum, number_executed}
 use Rattle.local_mesh.proofs.Stands.{contains_at}

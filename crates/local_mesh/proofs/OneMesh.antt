@@ -8,9 +8,9 @@ use Rattle.mesh_decl.specs.Mesh.{MeshValue, set_count, map_count, dat_count, set
 use Rattle.mesh_decl.specs.Owners.{ArePerms}
 use Rattle.mesh_decl.proofs.FieldReads.{some_in}
 use Rattle.rank_sets.specs.Below.{row}
-use Rattle.halo_lists.specs.Halo.{owns, imports_execute, imports_nonexecute, is_core}
-use Rattle.halo_lists.specs.Values.{lists_of}
-use Rattle.halo_lists.proofs.OneHalo.{same_lists}
+use Rattle.local_mesh.specs.Halo.{owns, imports_execute, imports_nonexecute, is_core}
+use Rattle.local_mesh.specs.HaloValues.{lists_of}
+use Rattle.local_mesh.proofs.halo_lists.OneHalo.{same_lists}
 use Rattle.local_mesh.specs.declared.types.LocalSet.{LocalSet}
 use Rattle.local_mesh.specs.declared.types.RankMesh.{RankMesh}
 use Rattle.local_mesh.specs.Local.{AreInverse}

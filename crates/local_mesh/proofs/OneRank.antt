@@ -6,9 +6,9 @@ use Rattle.mesh_decl.specs.declared.owners.Owners.{Owners}
 use Rattle.mesh_decl.specs.declared.owners.Perms.{Perms}
 use Rattle.mesh_decl.specs.Mesh.{MeshValue, set_count, set_size}
 use Rattle.mesh_decl.specs.Owners.{AreOwners, IsNumbering, owner_of, perm_in}
-use Rattle.halo_lists.specs.declared.types.SetHalo.{SetHalo}
-use Rattle.halo_lists.specs.Halo.{owns, imports_execute, imports_nonexecute}
-use Rattle.halo_lists.specs.Halos.{IsSetHalo}
+use Rattle.local_mesh.specs.declared.halo_lists.types.SetHalo.{SetHalo}
+use Rattle.local_mesh.specs.Halo.{owns, imports_execute, imports_nonexecute}
+use Rattle.local_mesh.specs.Halos.{IsSetHalo}
 use Rattle.local_mesh.specs.declared.types.LocalSet.{LocalSet}
 use Rattle.local_mesh.specs.Local.{ordered}
 use Rattle.local_mesh.specs.Lookup.{Rises}

@@ -6,3 +6,7 @@ pub mod LocalMesh
 pub mod Numbers
 pub mod Values
 pub mod Lists
+pub mod Halo
+pub mod Sets
+pub mod Halos
+pub mod HaloValues

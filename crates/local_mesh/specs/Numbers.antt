@@ -6,7 +6,7 @@ use Rattle.mesh_decl.specs.declared.owners.Perms.{Perms}
 use Rattle.mesh_decl.specs.Mesh.{MeshValue, set_count, set_size, map_count, map_from, map_to, map_dim, target, IsInRange}
 use Rattle.mesh_decl.specs.Owners.{ArePerms}
 use Rattle.rank_sets.specs.Below.{row}
-use Rattle.halo_lists.specs.Halo.{owns, executes, has_copy, is_core}
+use Rattle.local_mesh.specs.Halo.{owns, executes, has_copy, is_core}
 use Rattle.local_mesh.specs.declared.types.LocalSet.{LocalSet}
 use Rattle.local_mesh.specs.declared.types.RankMesh.{RankMesh}
 use Rattle.local_mesh.specs.LocalMesh.{originals_in, executed_in, AreClosed, IsRankMesh}

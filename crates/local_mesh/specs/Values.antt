@@ -4,7 +4,7 @@ use Rattle.mesh_decl.specs.declared.owners.Owners.{Owners}
 use Rattle.mesh_decl.specs.declared.owners.Perms.{Perms}
 use Rattle.mesh_decl.specs.Mesh.{MeshValue, IsInRange}
 use Rattle.mesh_decl.specs.Owners.{ArePerms}
-use Rattle.halo_lists.specs.Values.{lists_of}
+use Rattle.local_mesh.specs.HaloValues.{lists_of}
 use Rattle.local_mesh.specs.declared.types.LocalSet.{LocalSet}
 use Rattle.local_mesh.specs.declared.types.RankMesh.{RankMesh}
 use Rattle.local_mesh.specs.LocalMesh.{AreRankMeshes}

@@ -4,7 +4,7 @@ ghost use Rattle.mesh_decl.specs.Mesh.{MeshValue, dat_count, dat_set, dat_dim, s
 ghost use Rattle.mesh_decl.specs.declared.owners.Owners.{Owners};
 ghost use Rattle.mesh_decl.specs.declared.owners.Perms.{Perms};
 ghost use Rattle.mesh_decl.specs.Owners.{IsNumbering, perm_in};
-ghost use Rattle.halo_lists.specs.Halo.{has_copy};
+ghost use Rattle.local_mesh.specs.Halo.{has_copy};
 ghost use Rattle.local_mesh.specs.declared.types.LocalSet.{LocalSet};
 ghost use Rattle.local_mesh.specs.LocalMesh.{originals_in, AreBases, IsLocalSet};
 

@@ -10,12 +10,13 @@ ghost use Rattle.std.specs.Prelude.{◌≡◌, ℕ, ◌<◌, ◌≤◌, ◌^◌,
 ghost use Rattle.rank_sets.specs.Below.{row};
 ghost use Rattle.mesh_decl.specs.Mesh.{set_count, map_count, set_size};
 ghost use Rattle.mesh_decl.specs.Owners.{AreOwners, ArePerms};
-ghost use Rattle.halo_lists.specs.Halos.{IsSetHalo, AreHalos};
+ghost use Rattle.local_mesh.specs.Halos.{IsSetHalo, AreHalos};
 ghost use Rattle.local_mesh.specs.Parts.{AreGroups};
 ghost use Rattle.local_mesh.specs.LocalMesh.{AreClosed, AreLocalTargets, AreBases, AreRankMeshes};
 
 mod cells;
 mod groups;
+pub mod halo_lists;
 mod kept;
 mod laws;
 mod lists;
@@ -27,9 +28,9 @@ mod targets;
 mod types;
 mod whole;
 
+use crate::halo_lists::{Halos, SetHalo, executed_targets_are_copies};
 use cells::first_cells;
 use groups::groups_by_rank;
-use halo_lists::{Halos, SetHalo, executed_targets_are_copies};
 use kept::{is_kept, kept_groups};
 pub use laws::{cells_are_of_copies, originals_are_copies, places_are_disjoint, places_fit};
 pub use lists::{LocalLists, local_lists};

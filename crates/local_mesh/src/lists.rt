@@ -4,16 +4,16 @@ ghost use Rattle.rank_sets.specs.Below.{row, rows};
 ghost use Rattle.mesh_decl.specs.Mesh.{set_count, set_size};
 ghost use Rattle.mesh_decl.specs.Owners.{AreOwners, ArePerms};
 ghost use Rattle.mesh_decl.specs.declared.owners.Perms.{Perms as ThePerms};
-ghost use Rattle.halo_lists.specs.Halos.{IsSetHalo, AreHalos};
+ghost use Rattle.local_mesh.specs.Halos.{IsSetHalo, AreHalos};
 ghost use Rattle.local_mesh.specs.LocalMesh.{originals_in, AreRankMeshes};
 ghost use Rattle.local_mesh.specs.Numbers.{own_in};
 ghost use Rattle.local_mesh.specs.Lists.{sets_of as the_sets_of, originals_of as the_originals_of, IsBelow, AreBelow, AreRead, AreAllRead};
 ghost use Rattle.local_mesh.specs.Lists.{AreAtOwners, AreImports, IsLocalLists, AreLocalLists, AreHeld};
 
+use crate::halo_lists::{Halos, SetHalo};
 use crate::number_laws::rank_meshes_are_closed;
 use crate::originals::{locals_of, number_locals};
 use crate::types::{LocalSet, RankMesh};
-use halo_lists::{Halos, SetHalo};
 use mesh_decl::{Mesh, Owners};
 use op_num::OutOfMemory;
 use std::alloc::Global;

@@ -3,7 +3,7 @@ ghost use Rattle.local_mesh.specs.Numbers.{OwnedComeFirst, ExecutedComeFirst, Or
 ghost use Rattle.local_mesh.specs.Numbers.{RankMeshesAreClosed, TargetsAreLocal, EqualTargetsAreLocal};
 ghost use Rattle.local_mesh.specs.Values.{AreOne};
 
-use halo_lists::executed_targets_are_copies;
+use crate::halo_lists::executed_targets_are_copies;
 
 /// A local number is below the count of what the rank owns exactly where the rank owns its element.
 pub fn owned_come_first()

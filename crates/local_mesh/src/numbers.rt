@@ -3,16 +3,16 @@ ghost use Rattle.std.specs.Prelude.{◌≡◌, ℕ, Bool, false, ◌<◌, ◌≤
 ghost use Rattle.std.specs.Prelude.{slice_index_or, IfSome, IfNone, Some, None, Vec};
 ghost use Rattle.std.specs.declared.alloc.Global.{Global as TheGlobal};
 ghost use Rattle.rank_sets.specs.Below.{row};
-ghost use Rattle.halo_lists.specs.declared.types.SetHalo.{SetHalo};
+ghost use Rattle.local_mesh.specs.declared.halo_lists.types.SetHalo.{SetHalo};
 ghost use Rattle.local_mesh.specs.declared.types.Groups.{Groups};
 ghost use Rattle.local_mesh.specs.declared.types.LocalSet.{LocalSet};
 ghost use Rattle.local_mesh.specs.Lookup.{Rises};
 ghost use Rattle.local_mesh.specs.Parts.{AreParts, AreSorted, IsJoined, IsReady, IsJoinedFrom};
 
+use crate::halo_lists::{Halos, SetHalo};
 use crate::lookup::Lookup;
 use crate::originals::Originals;
 use crate::types::{Groups, LocalSet};
-use halo_lists::{Halos, SetHalo};
 use op_num::OutOfMemory;
 use std::alloc::Global;
 

@@ -2,15 +2,15 @@
 ghost use Rattle.std.specs.Prelude.{◌≡◌, ℕ, ◌<◌, ◌≤◌, ◌^◌, [], IfOk, IfSome, IfNone, length, slice_index, slice_index_or};
 ghost use Rattle.mesh_decl.specs.Mesh.{set_count, set_size};
 ghost use Rattle.mesh_decl.specs.Owners.{AreOwners, ArePerms, IsNumbering};
-ghost use Rattle.halo_lists.specs.Halos.{AreHalos};
+ghost use Rattle.local_mesh.specs.Halos.{AreHalos};
 ghost use Rattle.local_mesh.specs.declared.types.LocalSet.{LocalSet as TheSet};
 ghost use Rattle.local_mesh.specs.Parts.{IsJoined, IsKept};
 ghost use Rattle.local_mesh.specs.LocalMesh.{IsLocalSet};
 
+use crate::halo_lists::Halos;
 use crate::kept::is_kept;
 use crate::numbers::local_set;
 use crate::types::LocalSet;
-use halo_lists::Halos;
 use mesh_decl::{Mesh, Owners, Perms};
 use op_num::OutOfMemory;
 use std::alloc::Global;

@@ -13,32 +13,32 @@ use Rattle.c_tree.specs.declared.hosts.LoopArg.TheVariants as tree
 use Rattle.c_tree.specs.Tree.{ExprTree}
 use Rattle.kernel_model.specs.Numbers.{Value}
 use Rattle.kernel_types.specs.declared.kernels.ConstDecl.{ConstDecl}
-use Rattle.reductions.specs.declared.access.Access.{Access}
+use Rattle.op_num.specs.declared.reductions.access.Access.{Access}
 use Rattle.mesh_decl.specs.Mesh.{MeshValue, set_count, map_count, dat_count}
-use Rattle.mesh_text.specs.Spelling.{Named}
-use Rattle.bind_refusals.specs.declared.refusals.BindRefusal.{BindRefusal}
-use Rattle.bind_refusals.specs.declared.refusals.BindRefusal.TheVariants as refusal
-use Rattle.bind_refusals.specs.declared.refusals.Counted.{Counted}
-use Rattle.bind_refusals.specs.declared.refusals.Counted.TheVariants as counted
-use Rattle.bind_refusals.specs.declared.founds.Turn.{Turn}
-use Rattle.bind_refusals.specs.declared.founds.Turn.TheVariants.{InOrder, SizeValue, MeshCells}
-use Rattle.bind_refusals.specs.declared.founds.Found.{Found}
-use Rattle.bind_refusals.specs.Refusals.{place, is_before, earlier, least_from, found_in, found_over, found_if}
+use Rattle.mesh_decl.specs.Spelling.{Named}
+use Rattle.bound_program.specs.declared.refusals.refusals.BindRefusal.{BindRefusal}
+use Rattle.bound_program.specs.declared.refusals.refusals.BindRefusal.TheVariants as refusal
+use Rattle.bound_program.specs.declared.refusals.refusals.Counted.{Counted}
+use Rattle.bound_program.specs.declared.refusals.refusals.Counted.TheVariants as counted
+use Rattle.bound_program.specs.declared.refusals.founds.Turn.{Turn}
+use Rattle.bound_program.specs.declared.refusals.founds.Turn.TheVariants.{InOrder, SizeValue, MeshCells}
+use Rattle.bound_program.specs.declared.refusals.founds.Found.{Found}
+use Rattle.bound_program.specs.Refusals.{place, is_before, earlier, least_from, found_in, found_over, found_if}
 use Rattle.bound_program.specs.HostExpr.{value, is_static}
 use Rattle.bound_program.specs.Limits.{max_sets, max_maps, max_dats, max_size, max_dim, max_cells, max_arguments}
-use Rattle.main_names.specs.declared.scopes.Cells.{Cells}
-use Rattle.main_names.specs.declared.scopes.Meaning.{Meaning}
-use Rattle.main_names.specs.declared.scopes.Meaning.TheVariants.{Kernel}
-use Rattle.main_names.specs.Names.{Scope, means}
-use Rattle.main_names.specs.Meanings.{count_of, set_of, dat_of, array_of, or_none}
-use Rattle.main_names.specs.Expressions.{first_token, resolved}
-use Rattle.main_names.specs.SoFar.{Declared}
+use Rattle.main_declarations.specs.declared.names.scopes.Cells.{Cells}
+use Rattle.main_declarations.specs.declared.names.scopes.Meaning.{Meaning}
+use Rattle.main_declarations.specs.declared.names.scopes.Meaning.TheVariants.{Kernel}
+use Rattle.main_declarations.specs.Names.{Scope, means}
+use Rattle.main_declarations.specs.Meanings.{count_of, set_of, dat_of, array_of, or_none}
+use Rattle.main_declarations.specs.Expressions.{first_token, resolved}
+use Rattle.main_declarations.specs.SoFar.{Declared}
 use Rattle.main_declarations.specs.Declarations.{awaited, place_found, set_found, dim_found, type_found, data_found, stray_found, target_found, cells_found, value_found, size_found, set_decl_found, map_decl_found, dat_decl_found}
 use Rattle.main_declarations.specs.Variables.{file_cells, glob_token, ampersand_found, constant_found, constant_decl_found}
-use Rattle.main_text.specs.declared.globals.GlobalVar.{GlobalVar}
-use Rattle.main_text.specs.declared.arguments.Earlier.{Earlier}
-use Rattle.main_text.specs.Arguments.{access_of, is_twice, is_reserved, via_map, is_wrong_set, is_wrong_index, is_wrong_dim, dim_of, global_of, map_found, global_found, reach_found, dat_arg_found, arg_found, with_earlier, args_found, kernel_found, loop_found}
-use Rattle.main_text.specs.Text.{line_found}
+use Rattle.loop_bind.specs.declared.main_text.globals.GlobalVar.{GlobalVar}
+use Rattle.loop_bind.specs.declared.main_text.arguments.Earlier.{Earlier}
+use Rattle.loop_bind.specs.Arguments.{access_of, is_twice, is_reserved, via_map, is_wrong_set, is_wrong_index, is_wrong_dim, dim_of, global_of, map_found, global_found, reach_found, dat_arg_found, arg_found, with_earlier, args_found, kernel_found, loop_found}
+use Rattle.loop_bind.specs.Text.{line_found}
 
 -- a refusal other than want of memory
 abbrev pub IsCause : BindRefusal → Type 0

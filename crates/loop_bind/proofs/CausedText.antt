@@ -9,26 +9,26 @@ use Rattle.kernel_model.specs.Numbers.{Value}
 use Rattle.kernel_types.specs.declared.kernels.ConstDecl.{ConstDecl}
 use Rattle.kernel_types.specs.declared.kernels.Resolved.{Resolved}
 use Rattle.mesh_decl.specs.Mesh.{MeshValue}
-use Rattle.mesh_text.specs.declared.entry.Entry.{Entry}
-use Rattle.mesh_text.specs.declared.entry.Entry.TheVariants.{One, Many}
-use Rattle.mesh_text.specs.Spelling.{Named}
-use Rattle.bind_refusals.specs.declared.refusals.BindRefusal.TheVariants as refusal
-use Rattle.bind_refusals.specs.declared.refusals.Counted.TheVariants as counted
-use Rattle.bind_refusals.specs.declared.founds.Found.{Found}
-use Rattle.bind_refusals.specs.Refusals.{Judged, ◌>>=◌, unless, unless_found}
+use Rattle.mesh_decl.specs.declared.text.entry.Entry.{Entry}
+use Rattle.mesh_decl.specs.declared.text.entry.Entry.TheVariants.{One, Many}
+use Rattle.mesh_decl.specs.Spelling.{Named}
+use Rattle.bound_program.specs.declared.refusals.refusals.BindRefusal.TheVariants as refusal
+use Rattle.bound_program.specs.declared.refusals.refusals.Counted.TheVariants as counted
+use Rattle.bound_program.specs.declared.refusals.founds.Found.{Found}
+use Rattle.bound_program.specs.Refusals.{Judged, ◌>>=◌, unless, unless_found}
 use Rattle.bound_program.specs.Limits.{max_trace, max_weight}
 use Rattle.bound_program.specs.Values.{BoundValue}
-use Rattle.main_names.specs.declared.walks.Spot.{Spot}
-use Rattle.main_names.specs.Names.{Scope}
-use Rattle.main_names.specs.Expressions.{known, judged_static, judged_value}
-use Rattle.main_names.specs.SoFar.{Declared, Walked, quiet, nothing_declared}
-use Rattle.main_trace.specs.Trace.{Event, Turn, Does, Tells, Stops}
-use Rattle.main_trace.specs.Limited.{UnrolledValue, before, item, told, unrolled}
+use Rattle.main_declarations.specs.declared.names.walks.Spot.{Spot}
+use Rattle.main_declarations.specs.Names.{Scope}
+use Rattle.main_declarations.specs.Expressions.{known, judged_static, judged_value}
+use Rattle.main_declarations.specs.SoFar.{Declared, Walked, quiet, nothing_declared}
+use Rattle.bound_program.specs.Trace.{Event, Turn, Does, Tells, Stops}
+use Rattle.bound_program.specs.Limited.{UnrolledValue, before, item, told, unrolled}
 use Rattle.main_declarations.specs.File.{judged_extern, judged_array, judged_top, judged_tops}
 use Rattle.main_declarations.specs.Variables.{judged_file_declr, judged_file_declrs, const_at, judged_declr, judged_declrs}
-use Rattle.main_text.specs.Arguments.{after_globals, loop_found, judged_loop}
+use Rattle.loop_bind.specs.Arguments.{after_globals, loop_found, judged_loop}
 use Rattle.mesh_decl.specs.Printed.{conversions}
-use Rattle.main_text.specs.Text.{line_found, judged_call, judged_bounds, judged_host, judged_hosts, with_counter, outermost}
+use Rattle.loop_bind.specs.Text.{line_found, judged_call, judged_bounds, judged_host, judged_hosts, with_counter, outermost}
 use Rattle.loop_bind.specs.Weights.{weight_of_all, within_weight, weighed, trace}
 use Rattle.loop_bind.specs.Bound.{text, unrolled_text, happens, bound}
 use Rattle.loop_bind.proofs.CausedFinds.{IsCause, AllCaused, OneCaused, least_caused, if_caused, set_decl_caused, map_decl_caused, dat_decl_caused, constant_decl_caused, loop_caused, line_caused}

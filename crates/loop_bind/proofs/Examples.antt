@@ -12,17 +12,17 @@ use Rattle.c_tree.specs.declared.hosts.LoopArg.TheVariants as arg
 use Rattle.c_tree.specs.Tree as tree
 use Rattle.c_tree.specs.Tree.{ExprTree, DeclrTree, TopTree, HostTree, HostTrees}
 use Rattle.kernel_types.specs.declared.kernels.ConstDecl.{ConstDecl}
-use Rattle.mesh_text.specs.declared.entry.Entry.TheVariants.{Many}
-use Rattle.mesh_text.specs.Spelling.{Named}
+use Rattle.mesh_decl.specs.declared.text.entry.Entry.TheVariants.{Many}
+use Rattle.mesh_decl.specs.Spelling.{Named}
 use Rattle.mesh_decl.specs.Mesh.{size_in, map_from, map_to, map_dim, dat_set, dat_dim}
-use Rattle.bind_refusals.specs.declared.refusals.BindRefusal.TheVariants as refusal
+use Rattle.bound_program.specs.declared.refusals.refusals.BindRefusal.TheVariants as refusal
 use Rattle.kernel_types.specs.View.{Number, Scalar, Binary}
 use Rattle.bound_program.specs.Values.{Assign, Line, Exit, ItemValue, Free, Host, VarValue}
-use Rattle.bind_refusals.specs.Refusals.{Judged, ◌>>=◌}
-use Rattle.main_names.specs.SoFar.{Walked, quiet, nothing_declared}
+use Rattle.bound_program.specs.Refusals.{Judged, ◌>>=◌}
+use Rattle.main_declarations.specs.SoFar.{Walked, quiet, nothing_declared}
 use Rattle.main_declarations.specs.File.{judged_tops}
-use Rattle.main_text.specs.Text.{judged_hosts, outermost}
-use Rattle.main_trace.specs.Trace.{turns}
+use Rattle.loop_bind.specs.Text.{judged_hosts, outermost}
+use Rattle.bound_program.specs.Trace.{turns}
 use Rattle.loop_bind.specs.Weights.{trace, with_told}
 use Rattle.loop_bind.specs.Bound.{happens}
 

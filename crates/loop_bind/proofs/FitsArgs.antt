@@ -9,20 +9,20 @@ use Rattle.c_tree.specs.declared.expressions.Ident.{Ident}
 use Rattle.c_tree.specs.declared.hosts.ArgIndex.{ArgIndex}
 use Rattle.c_tree.specs.declared.hosts.ArgVia.TheVariants as via
 use Rattle.kernel_types.specs.declared.kernels.RKernel.{RKernel}
-use Rattle.reductions.specs.declared.access.Access.{Access}
-use Rattle.reductions.specs.declared.access.Access.TheVariants as access
+use Rattle.op_num.specs.declared.reductions.access.Access.{Access}
+use Rattle.op_num.specs.declared.reductions.access.Access.TheVariants as access
 use Rattle.mesh_decl.specs.declared.decl.DatDecl.{DatDecl}
 use Rattle.mesh_decl.specs.Mesh.{MeshValue, map_count, dat_count, map_from, map_to, map_dim, dat_set, dat_dim}
-use Rattle.mesh_text.specs.Spelling.{Named}
-use Rattle.main_text.specs.declared.globals.GlobalVar.{GlobalVar}
-use Rattle.main_names.specs.declared.scopes.Meaning.{Meaning}
-use Rattle.main_names.specs.declared.scopes.Meaning.TheVariants.{Extern, ExternArray, Kernel, Set, Map, Dat, Variable, Fixed, FixedLater, Turning}
+use Rattle.mesh_decl.specs.Spelling.{Named}
+use Rattle.loop_bind.specs.declared.main_text.globals.GlobalVar.{GlobalVar}
+use Rattle.main_declarations.specs.declared.names.scopes.Meaning.{Meaning}
+use Rattle.main_declarations.specs.declared.names.scopes.Meaning.TheVariants.{Extern, ExternArray, Kernel, Set, Map, Dat, Variable, Fixed, FixedLater, Turning}
 use Rattle.bound_program.specs.Values.{SiteValue, VarValue, ItemValue}
-use Rattle.main_names.specs.Names.{named_in, or_else}
+use Rattle.main_declarations.specs.Names.{named_in, or_else}
 use Rattle.bound_program.specs.Limits.{max_dim}
-use Rattle.main_names.specs.SoFar.{Declared}
-use Rattle.main_names.specs.Meanings.{or_zero, count_of, values_named}
-use Rattle.main_text.specs.Arguments.{slot_constant, is_reserved, is_wrong_set, is_wrong_index}
+use Rattle.main_declarations.specs.SoFar.{Declared}
+use Rattle.main_declarations.specs.Meanings.{or_zero, count_of, values_named}
+use Rattle.loop_bind.specs.Arguments.{slot_constant, is_reserved, is_wrong_set, is_wrong_index}
 use Rattle.bound_program.specs.Fits.{ViaFits, GlobalAccess}
 use Rattle.loop_bind.proofs.FitsState.{at, MeaningFits, HasDim, HasValues, ExternFits, IsOwn, Lawful}
 use Rattle.loop_bind.proofs.FitsVars.{program}

@@ -7,20 +7,20 @@ use Rattle.kernel_types.specs.declared.kernels.RKernel.{RKernel}
 use Rattle.kernel_types.specs.declared.kernels.Resolved.{Resolved}
 use Rattle.mesh_decl.specs.declared.decl.SetDecl.{SetDecl}
 use Rattle.mesh_decl.specs.Mesh.{MeshValue, no_mesh, IsMesh, IsMap, IsDat}
-use Rattle.mesh_text.specs.Spelling.{Named}
+use Rattle.mesh_decl.specs.Spelling.{Named}
 use Rattle.bound_program.specs.Values.{BoundValue}
-use Rattle.bind_refusals.specs.Refusals.{Judged, ◌>>=◌}
+use Rattle.bound_program.specs.Refusals.{Judged, ◌>>=◌}
 use Rattle.bound_program.specs.Limits.{max_trace}
-use Rattle.main_trace.specs.Steps.{Block}
-use Rattle.main_names.specs.SoFar.{Declared, Walked, quiet, nothing_declared}
-use Rattle.main_text.specs.Text.{outermost, judged_hosts}
+use Rattle.bound_program.specs.Steps.{Block}
+use Rattle.main_declarations.specs.SoFar.{Declared, Walked, quiet, nothing_declared}
+use Rattle.loop_bind.specs.Text.{outermost, judged_hosts}
 use Rattle.main_declarations.specs.File.{judged_tops}
-use Rattle.main_trace.specs.Trace.{events}
-use Rattle.main_trace.specs.Limited.{UnrolledValue, unrolled}
+use Rattle.bound_program.specs.Trace.{events}
+use Rattle.bound_program.specs.Limited.{UnrolledValue, unrolled}
 use Rattle.loop_bind.specs.Weights.{weight_of_all, within_weight, weighed, trace, with_told}
 use Rattle.loop_bind.specs.Bound.{text, happens, finished, unrolled_text, bound}
 use Rattle.bound_program.specs.Fits.{SiteFits, ItemsFit, EndsWithHost}
-use Rattle.source_fits.specs.Sources.{TopIsRead, HostsAreRead, HaveNumbers, TopsTake}
+use Rattle.loop_bind.specs.Sources.{TopIsRead, HostsAreRead, HaveNumbers, TopsTake}
 use Rattle.loop_bind.proofs.FitsTargets.{AllAssignVariables, MainAssignsVariables}
 use Rattle.main_declarations.proofs.Judged.{Gives, gives_then, gives_any}
 use Rattle.loop_bind.proofs.FitsState.{NameFits, NameIsOwn, ExternFits, HasDim, HasMapDim, so_far, Lawful}

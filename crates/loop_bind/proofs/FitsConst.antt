@@ -9,11 +9,11 @@ use Rattle.c_tree.specs.declared.expressions.TextLiteral.{TextLiteral}
 use Rattle.c_tree.specs.declared.hosts.GlobalName.{GlobalName}
 use Rattle.kernel_types.specs.declared.kernels.ConstDecl.{ConstDecl}
 use Rattle.kernel_types.specs.declared.kernels.RKernel.{RKernel}
-use Rattle.mesh_text.specs.Spelling.{Named}
-use Rattle.main_names.specs.declared.scopes.Cells.{Cells}
+use Rattle.mesh_decl.specs.Spelling.{Named}
+use Rattle.main_declarations.specs.declared.names.scopes.Cells.{Cells}
 use Rattle.bound_program.specs.Values.{VarValue}
-use Rattle.main_names.specs.Names.{means}
-use Rattle.main_names.specs.SoFar.{Declared, first_cell}
+use Rattle.main_declarations.specs.Names.{means}
+use Rattle.main_declarations.specs.SoFar.{Declared, first_cell}
 use Rattle.main_declarations.specs.Declarations.{place_found, type_found}
 use Rattle.main_declarations.specs.Variables.{file_cells, constant_found, with_constant, after_constant, constant_decl_found, judged_constant}
 use Rattle.bound_program.specs.Fits.{SiteFits}

@@ -11,25 +11,25 @@ use Rattle.c_tree.specs.Tree as tree
 use Rattle.c_tree.specs.Tree.{ExprTree, DeclrTree, OpCallTree, HostTree, HostTrees}
 use Rattle.kernel_types.specs.declared.kernels.ConstDecl.{ConstDecl}
 use Rattle.mesh_decl.specs.Printed.{conversions}
-use Rattle.mesh_text.specs.Spelling.{Named}
-use Rattle.bind_refusals.specs.declared.refusals.BindRefusal.TheVariants as refusal
-use Rattle.main_names.specs.declared.walks.Spot.{Spot}
-use Rattle.main_names.specs.declared.scopes.Meaning.{Meaning}
-use Rattle.main_names.specs.declared.scopes.Meaning.TheVariants as m
+use Rattle.mesh_decl.specs.Spelling.{Named}
+use Rattle.bound_program.specs.declared.refusals.refusals.BindRefusal.TheVariants as refusal
+use Rattle.main_declarations.specs.declared.names.walks.Spot.{Spot}
+use Rattle.main_declarations.specs.declared.names.scopes.Meaning.{Meaning}
+use Rattle.main_declarations.specs.declared.names.scopes.Meaning.TheVariants as m
 use Rattle.bound_program.specs.Values.{Line, Print}
-use Rattle.main_names.specs.Names.{Scope, means, declare, told_later, closed}
-use Rattle.main_trace.specs.Steps.{Asked, Do, Loop, Fix, Block, Choose, Repeat, NoStep}
-use Rattle.main_names.specs.Expressions.{resolved, judged_static, judged_value}
-use Rattle.bind_refusals.specs.Refusals.{Judged, ◌>>=◌, found_if, unless_found}
-use Rattle.bind_refusals.specs.declared.founds.Found.{Found}
+use Rattle.main_declarations.specs.Names.{Scope, means, declare, told_later, closed}
+use Rattle.bound_program.specs.Steps.{Asked, Do, Loop, Fix, Block, Choose, Repeat, NoStep}
+use Rattle.main_declarations.specs.Expressions.{resolved, judged_static, judged_value}
+use Rattle.bound_program.specs.Refusals.{Judged, ◌>>=◌, found_if, unless_found}
+use Rattle.bound_program.specs.declared.refusals.founds.Found.{Found}
 use Rattle.mesh_decl.specs.Mesh.{set_count, map_count, dat_count}
-use Rattle.main_names.specs.SoFar.{Declared, Walked, does, behind, next_cells, changing, unchanging}
-use Rattle.main_names.specs.Meanings.{count_of, dat_of, or_zero}
+use Rattle.main_declarations.specs.SoFar.{Declared, Walked, does, behind, next_cells, changing, unchanging}
+use Rattle.main_declarations.specs.Meanings.{count_of, dat_of, or_zero}
 use Rattle.main_declarations.specs.Declarations.{set_decl_found, map_decl_found, dat_decl_found, judged_set, judged_map, judged_dat}
 use Rattle.main_declarations.specs.Variables.{with_fixed, with_fixed_later, with_turning, const_at, with_changing, judged_declr, judged_declrs, judged_constant}
-use Rattle.main_text.specs.Arguments.{after_globals, loop_found, site, judged_loop}
-use Rattle.main_text.specs.Text.{nested, turning, line_found, declares, judged_call, opened, followed_by, ended, with_counter, judged_bounds, judged_host, judged_hosts}
-use Rattle.source_fits.specs.Constants.{FileVariable, NamesApart, call_names, constant_names, all_constant_names}
+use Rattle.loop_bind.specs.Arguments.{after_globals, loop_found, site, judged_loop}
+use Rattle.loop_bind.specs.Text.{nested, turning, line_found, declares, judged_call, opened, followed_by, ended, with_counter, judged_bounds, judged_host, judged_hosts}
+use Rattle.loop_bind.specs.FileVariables.{FileVariable, NamesApart, call_names, constant_names, all_constant_names}
 use Rattle.main_declarations.proofs.Judged.{Gives, gives_then, gives_unless, gives_any}
 use Rattle.loop_bind.proofs.FitsState.{known-fits}
 use Rattle.loop_bind.proofs.FitsFileConsts.{EntryNamed}

@@ -10,11 +10,11 @@ use Rattle.kernel_types.specs.declared.kernels.RKernel.{RKernel}
 use Rattle.kernel_types.specs.declared.kernels.ConstDecl.{ConstDecl}
 use Rattle.kernel_types.specs.Resolved.{IsResolved, AreResolved, cells_of, FollowOn}
 use Rattle.bound_program.specs.Values.{VarValue, BoundValue}
-use Rattle.main_names.specs.Meanings.{or_zero}
-use Rattle.main_names.specs.SoFar.{first_cell}
-use Rattle.main_trace.specs.Limited.{ToldValue}
+use Rattle.main_declarations.specs.Meanings.{or_zero}
+use Rattle.main_declarations.specs.SoFar.{first_cell}
+use Rattle.bound_program.specs.Limited.{ToldValue}
 use Rattle.loop_bind.specs.Weights.{started, with_told}
-use Rattle.source_fits.specs.Constants.{FileVariable, is_constant, Begins, AreConstants, AreOfOne}
+use Rattle.loop_bind.specs.FileVariables.{FileVariable, is_constant, Begins, AreConstants, AreOfOne}
 use Rattle.bound_program.specs.Fits.{cells_from, constant_cells, HasCells, NamesConstants, UsesConstants, RowUsesConstants, AreOfVariable, KernelFits, ConstantsFit}
 use Rattle.loop_bind.proofs.FitsState.{at}
 use Rattle.loop_bind.proofs.FitsTold.{AllOne, one_same, all_moved}

@@ -13,12 +13,12 @@ use Rattle.kernel_types.specs.declared.kernels.ConstDecl.{ConstDecl}
 use Rattle.kernel_types.specs.declared.kernels.RKernel.{RKernel}
 use Rattle.kernel_types.specs.declared.kernels.Resolved.{Resolved}
 use Rattle.kernel_types.specs.Resolved.{AreResolved, cells_of, FollowOn}
-use Rattle.main_names.specs.SoFar.{first_cell}
+use Rattle.main_declarations.specs.SoFar.{first_cell}
 use Rattle.name_resolution.specs.Programs.{named_in}
 use Rattle.bound_program.specs.Fits.{UsesConstants}
-use Rattle.source_fits.specs.Sources.{HasNumbers, IsRead, TopIsRead, HostsAreRead}
-use Rattle.source_fits.specs.Constants.{FileVariable, file_variables, NamesApart, AreConstants, AreFound, AreOfOne}
-use Rattle.source_fits.specs.Resolvable.{IsResolvedSource}
+use Rattle.loop_bind.specs.Sources.{HasNumbers, IsRead, TopIsRead, HostsAreRead}
+use Rattle.loop_bind.specs.FileVariables.{FileVariable, file_variables, NamesApart, AreConstants, AreFound, AreOfOne}
+use Rattle.loop_bind.specs.ResolvedSources.{IsResolvedSource}
 use Rattle.main_declarations.proofs.Shapes.{never}
 
 -- int x; const int c = 5; int a[2]; .. x = 1; op_decl_const(1, "int", &x); op_printf("%d", c);

@@ -9,14 +9,14 @@ use Rattle.std.proofs.lemmas.Slice.Eq.{bytes_eq-Decides}
 use Rattle.c_tree.specs.declared.hosts.LoopArg.{LoopArg}
 use Rattle.c_tree.specs.declared.hosts.LoopArg.TheVariants as tree
 use Rattle.kernel_types.specs.declared.kernels.RKernel.{RKernel}
-use Rattle.mesh_text.specs.Spelling.{Named}
-use Rattle.main_names.specs.declared.scopes.Meaning.{Meaning}
-use Rattle.main_names.specs.declared.scopes.Meaning.TheVariants.{Extern, ExternArray, Kernel, Set, Map, Dat, Variable, Fixed, FixedLater, Turning}
+use Rattle.mesh_decl.specs.Spelling.{Named}
+use Rattle.main_declarations.specs.declared.names.scopes.Meaning.{Meaning}
+use Rattle.main_declarations.specs.declared.names.scopes.Meaning.TheVariants.{Extern, ExternArray, Kernel, Set, Map, Dat, Variable, Fixed, FixedLater, Turning}
 use Rattle.bound_program.specs.Values.{VarValue}
-use Rattle.main_names.specs.Names.{named_in, or_else, means}
-use Rattle.main_names.specs.SoFar.{Declared, with_var}
-use Rattle.main_names.specs.Meanings.{values_named}
-use Rattle.main_text.specs.Arguments.{extern_var, with_extern, after_global, after_globals}
+use Rattle.main_declarations.specs.Names.{named_in, or_else, means}
+use Rattle.main_declarations.specs.SoFar.{Declared, with_var}
+use Rattle.main_declarations.specs.Meanings.{values_named}
+use Rattle.loop_bind.specs.Arguments.{extern_var, with_extern, after_global, after_globals}
 use Rattle.loop_bind.proofs.FitsState.{at, at_last, Grows, grows-self, grows-trans, HasValues, ExternFits, IsOwn, Lawful}
 use Rattle.loop_bind.proofs.FitsVars.{lawful-var, grows-var}
 use Rattle.loop_bind.proofs.FitsMeshWalk.{Goes}

@@ -13,22 +13,22 @@ use Rattle.c_tree.specs.Tree.{ExprTree, DeclrTree, TopTree}
 use Rattle.kernel_types.specs.declared.kernels.ConstDecl.{ConstDecl}
 use Rattle.kernel_types.specs.declared.kernels.RKernel.{RKernel}
 use Rattle.kernel_model.specs.Numbers.{Value}
-use Rattle.mesh_text.specs.declared.entry.Entry.{Entry}
-use Rattle.mesh_text.specs.declared.entry.Entry.TheVariants.{One, Many}
-use Rattle.mesh_text.specs.Spelling.{Named}
+use Rattle.mesh_decl.specs.declared.text.entry.Entry.{Entry}
+use Rattle.mesh_decl.specs.declared.text.entry.Entry.TheVariants.{One, Many}
+use Rattle.mesh_decl.specs.Spelling.{Named}
 use Rattle.bound_program.specs.HostExpr.{value, is_static}
 use Rattle.bound_program.specs.Values.{VarValue}
-use Rattle.main_names.specs.declared.scopes.Meaning.{Meaning}
-use Rattle.main_names.specs.declared.scopes.Meaning.TheVariants.{Extern, ExternArray, Kernel, Variable, Fixed}
-use Rattle.main_trace.specs.Steps.{Asked}
-use Rattle.main_names.specs.Expressions.{first_token, resolved, asked, known, judged_static, judged_value}
-use Rattle.bind_refusals.specs.declared.refusals.BindRefusal.TheVariants as refusal
-use Rattle.bind_refusals.specs.Refusals.{Judged, found_if}
-use Rattle.main_names.specs.SoFar.{Declared, with_var, with_file_name, next_cells, changing, unchanging, first_cell}
-use Rattle.main_names.specs.Meanings.{count_of}
+use Rattle.main_declarations.specs.declared.names.scopes.Meaning.{Meaning}
+use Rattle.main_declarations.specs.declared.names.scopes.Meaning.TheVariants.{Extern, ExternArray, Kernel, Variable, Fixed}
+use Rattle.bound_program.specs.Steps.{Asked}
+use Rattle.main_declarations.specs.Expressions.{first_token, resolved, asked, known, judged_static, judged_value}
+use Rattle.bound_program.specs.declared.refusals.refusals.BindRefusal.TheVariants as refusal
+use Rattle.bound_program.specs.Refusals.{Judged, found_if}
+use Rattle.main_declarations.specs.SoFar.{Declared, with_var, with_file_name, next_cells, changing, unchanging, first_cell}
+use Rattle.main_declarations.specs.Meanings.{count_of}
 use Rattle.main_declarations.specs.Variables.{with_file_value, judged_file_declr, judged_file_declrs}
 use Rattle.main_declarations.specs.File.{judged_extern, judged_array, judged_top, judged_tops}
-use Rattle.source_fits.specs.Sources.{HasNumbers, IsRead, TopIsRead, HasNumber, HaveNumbers, TopsTake}
+use Rattle.loop_bind.specs.Sources.{HasNumbers, IsRead, TopIsRead, HasNumber, HaveNumbers, TopsTake}
 use Rattle.main_declarations.proofs.Judged.{Gives, gives_then, gives_unless}
 use Rattle.kernel_model.specs.Operators.{IsNumber}
 use Rattle.loop_bind.proofs.FitsValues.{Num, no_nums, Within, value_num}

@@ -9,19 +9,19 @@ use Rattle.c_tree.specs.declared.expressions.Ident.{Ident}
 use Rattle.c_tree.specs.Tree as tree
 use Rattle.c_tree.specs.Tree.{DeclrTree, TopTree}
 use Rattle.kernel_types.specs.declared.kernels.ConstDecl.{ConstDecl}
-use Rattle.mesh_text.specs.declared.entry.Entry.{Entry}
-use Rattle.mesh_text.specs.declared.entry.Entry.TheVariants.{One, Many}
-use Rattle.mesh_text.specs.Spelling.{Named}
-use Rattle.main_names.specs.declared.scopes.Meaning.{Meaning}
-use Rattle.main_names.specs.declared.scopes.Meaning.TheVariants as m
+use Rattle.mesh_decl.specs.declared.text.entry.Entry.{Entry}
+use Rattle.mesh_decl.specs.declared.text.entry.Entry.TheVariants.{One, Many}
+use Rattle.mesh_decl.specs.Spelling.{Named}
+use Rattle.main_declarations.specs.declared.names.scopes.Meaning.{Meaning}
+use Rattle.main_declarations.specs.declared.names.scopes.Meaning.TheVariants as m
 use Rattle.bound_program.specs.Values.{VarValue}
-use Rattle.bind_refusals.specs.Refusals.{Judged}
-use Rattle.main_names.specs.SoFar.{Declared, with_var, with_file_name, next_cells, changing, unchanging, first_cell}
-use Rattle.main_names.specs.Meanings.{count_of}
-use Rattle.main_names.specs.Expressions.{judged_value}
+use Rattle.bound_program.specs.Refusals.{Judged}
+use Rattle.main_declarations.specs.SoFar.{Declared, with_var, with_file_name, next_cells, changing, unchanging, first_cell}
+use Rattle.main_declarations.specs.Meanings.{count_of}
+use Rattle.main_declarations.specs.Expressions.{judged_value}
 use Rattle.main_declarations.specs.Variables.{with_file_value, judged_file_declr, judged_file_declrs}
 use Rattle.main_declarations.specs.File.{judged_extern, judged_array, judged_top, judged_tops}
-use Rattle.source_fits.specs.Constants.{FileVariable, declr_variable, declrs_variables, top_variables, file_variables}
+use Rattle.loop_bind.specs.FileVariables.{FileVariable, declr_variable, declrs_variables, top_variables, file_variables}
 use Rattle.main_declarations.proofs.Judged.{Gives, gives_then, gives_any}
 use Rattle.loop_bind.proofs.FitsState.{known-fits}
 use Rattle.loop_bind.proofs.FitsTags.{no_variable, Tag, Tagged, tagged_next, HasName, name_more}

@@ -11,22 +11,22 @@ use Rattle.c_tree.specs.declared.hosts.GlobalName.{GlobalName}
 use Rattle.c_tree.specs.Tree as tree
 use Rattle.c_tree.specs.Tree.{OpCallTree, HostTree, HostTrees}
 use Rattle.kernel_types.specs.declared.kernels.ConstDecl.{ConstDecl}
-use Rattle.mesh_text.specs.Spelling.{Named}
-use Rattle.bind_refusals.specs.declared.refusals.BindRefusal.TheVariants as refusal
-use Rattle.bind_refusals.specs.Refusals.{Judged, ◌>>=◌, found_if}
-use Rattle.main_names.specs.declared.walks.Spot.{Spot}
-use Rattle.main_names.specs.declared.scopes.Meaning.{Meaning}
-use Rattle.main_names.specs.declared.scopes.Meaning.TheVariants as m
-use Rattle.main_names.specs.Names.{named_in, or_else, means}
-use Rattle.main_names.specs.Expressions.{judged_static}
-use Rattle.main_names.specs.SoFar.{Declared, Walked, behind}
-use Rattle.main_trace.specs.Steps.{Asked, Block, Choose, Repeat, NoStep}
+use Rattle.mesh_decl.specs.Spelling.{Named}
+use Rattle.bound_program.specs.declared.refusals.refusals.BindRefusal.TheVariants as refusal
+use Rattle.bound_program.specs.Refusals.{Judged, ◌>>=◌, found_if}
+use Rattle.main_declarations.specs.declared.names.walks.Spot.{Spot}
+use Rattle.main_declarations.specs.declared.names.scopes.Meaning.{Meaning}
+use Rattle.main_declarations.specs.declared.names.scopes.Meaning.TheVariants as m
+use Rattle.main_declarations.specs.Names.{named_in, or_else, means}
+use Rattle.main_declarations.specs.Expressions.{judged_static}
+use Rattle.main_declarations.specs.SoFar.{Declared, Walked, behind}
+use Rattle.bound_program.specs.Steps.{Asked, Block, Choose, Repeat, NoStep}
 use Rattle.main_declarations.specs.Declarations.{place_found, type_found}
 use Rattle.main_declarations.specs.Variables.{file_cells, constant_found, after_constant, constant_decl_found, judged_constant}
-use Rattle.main_text.specs.Text.{nested, turning, judged_call, opened, followed_by, ended, with_counter, judged_bounds, judged_host, judged_hosts}
-use Rattle.source_fits.specs.Assigned.{Known, found, knows, after_host}
-use Rattle.source_fits.specs.Constants.{FileVariable, NamesApart, constant_names, is_constant, Begins, AreConstants}
-use Rattle.source_fits.specs.Hidden.{CallNamesNoOwn, NamesNoOwn, AllNameNoOwn}
+use Rattle.loop_bind.specs.Text.{nested, turning, judged_call, opened, followed_by, ended, with_counter, judged_bounds, judged_host, judged_hosts}
+use Rattle.loop_bind.specs.Assigned.{Known, found, knows, after_host}
+use Rattle.loop_bind.specs.FileVariables.{FileVariable, NamesApart, constant_names, is_constant, Begins, AreConstants}
+use Rattle.loop_bind.specs.Hidden.{CallNamesNoOwn, NamesNoOwn, AllNameNoOwn}
 use Rattle.main_declarations.proofs.Judged.{Gives, gives_then, gives_unless, left_nil, right_nil, not_if, gives_any}
 use Rattle.main_declarations.proofs.Shapes.{never}
 use Rattle.loop_bind.proofs.FitsScopes.{Both, same_found}

@@ -16,28 +16,28 @@ use Rattle.c_tree.specs.declared.hosts.GlobalName.{GlobalName}
 use Rattle.c_tree.specs.declared.hosts.LoopArg.{LoopArg}
 use Rattle.c_tree.specs.declared.hosts.LoopArg.TheVariants as tree
 use Rattle.kernel_types.specs.declared.kernels.RKernel.{RKernel}
-use Rattle.reductions.specs.declared.access.Access.{Access}
-use Rattle.reductions.specs.declared.access.Access.TheVariants as access
+use Rattle.op_num.specs.declared.reductions.access.Access.{Access}
+use Rattle.op_num.specs.declared.reductions.access.Access.TheVariants as access
 use Rattle.mesh_decl.specs.Mesh.{set_count, dat_count}
-use Rattle.mesh_text.specs.Spelling.{Named}
-use Rattle.bind_refusals.specs.declared.refusals.BindRefusal.TheVariants as refusal
-use Rattle.bind_refusals.specs.declared.refusals.Counted.TheVariants as counted
-use Rattle.bind_refusals.specs.declared.founds.Turn.TheVariants.{InOrder}
-use Rattle.main_text.specs.declared.globals.GlobalVar.{GlobalVar}
-use Rattle.main_text.specs.declared.arguments.Earlier.{Earlier}
+use Rattle.mesh_decl.specs.Spelling.{Named}
+use Rattle.bound_program.specs.declared.refusals.refusals.BindRefusal.TheVariants as refusal
+use Rattle.bound_program.specs.declared.refusals.refusals.Counted.TheVariants as counted
+use Rattle.bound_program.specs.declared.refusals.founds.Turn.TheVariants.{InOrder}
+use Rattle.loop_bind.specs.declared.main_text.globals.GlobalVar.{GlobalVar}
+use Rattle.loop_bind.specs.declared.main_text.arguments.Earlier.{Earlier}
 use Rattle.bound_program.specs.declared.sites.Arg.{Arg}
 use Rattle.bound_program.specs.declared.sites.Arg.TheVariants.{Dat, Global}
-use Rattle.main_names.specs.declared.scopes.Meaning.{Meaning}
-use Rattle.main_names.specs.declared.scopes.Meaning.TheVariants as m
+use Rattle.main_declarations.specs.declared.names.scopes.Meaning.{Meaning}
+use Rattle.main_declarations.specs.declared.names.scopes.Meaning.TheVariants as m
 use Rattle.bound_program.specs.Values.{SiteValue}
-use Rattle.main_names.specs.Names.{named_in, means}
+use Rattle.main_declarations.specs.Names.{named_in, means}
 use Rattle.bound_program.specs.Limits.{max_dim, max_arguments}
-use Rattle.bind_refusals.specs.Refusals.{found_if, found_over}
-use Rattle.main_names.specs.SoFar.{Declared}
-use Rattle.main_names.specs.Meanings.{set_of, map_of, dat_of, or_zero, count_of}
+use Rattle.bound_program.specs.Refusals.{found_if, found_over}
+use Rattle.main_declarations.specs.SoFar.{Declared}
+use Rattle.main_declarations.specs.Meanings.{set_of, map_of, dat_of, or_zero, count_of}
 use Rattle.main_declarations.specs.Declarations.{set_found, type_found}
 use Rattle.main_declarations.specs.Variables.{glob_token, ampersand_found}
-use Rattle.main_text.specs.Arguments.{access_of, global_of, is_same, is_twice, is_reserved, is_wrong_set, is_wrong_index, is_wrong_dim, dim_of, map_found, global_found, reach_found, arg_found, with_earlier, args_found, kernel_found, kernel_number, via_of, var_number, arg_of, site, loop_found, judged_loop, after_globals}
+use Rattle.loop_bind.specs.Arguments.{access_of, global_of, is_same, is_twice, is_reserved, is_wrong_set, is_wrong_index, is_wrong_dim, dim_of, map_found, global_found, reach_found, arg_found, with_earlier, args_found, kernel_found, kernel_number, via_of, var_number, arg_of, site, loop_found, judged_loop, after_globals}
 use Rattle.bound_program.specs.Classes.{is_read}
 use Rattle.bound_program.specs.Fits.{TakesArgs, AreApart, AllApart, ArgFits, SiteFits}
 use Rattle.main_declarations.proofs.Judged.{Gives, gives_unless, left_nil, right_nil, not_over, not_if}

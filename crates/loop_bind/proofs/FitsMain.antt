@@ -9,20 +9,20 @@ use Rattle.c_tree.specs.Tree.{ExprTree, DeclrTree}
 use Rattle.kernel_types.specs.declared.kernels.RKernel.{RKernel}
 use Rattle.mesh_decl.specs.Mesh.{dat_count}
 use Rattle.mesh_decl.specs.Printed.{conversions}
-use Rattle.mesh_text.specs.Spelling.{Named}
-use Rattle.main_names.specs.declared.walks.Spot.{Spot}
-use Rattle.main_names.specs.declared.scopes.Meaning.{Meaning}
-use Rattle.main_names.specs.declared.scopes.Meaning.TheVariants.{Variable, Fixed, FixedLater, Turning}
+use Rattle.mesh_decl.specs.Spelling.{Named}
+use Rattle.main_declarations.specs.declared.names.walks.Spot.{Spot}
+use Rattle.main_declarations.specs.declared.names.scopes.Meaning.{Meaning}
+use Rattle.main_declarations.specs.declared.names.scopes.Meaning.TheVariants.{Variable, Fixed, FixedLater, Turning}
 use Rattle.kernel_types.specs.View.{RExprTree}
 use Rattle.bound_program.specs.Values.{VarValue, ActValue, Clear, Assign, Line, Print, Exit}
-use Rattle.main_trace.specs.Steps.{Asked, Step, Do, Loop, Fix, Block, Choose, Repeat, Steps, NoStep, MoreStep, followed, one_step}
-use Rattle.main_names.specs.Expressions.{resolved, judged_static, judged_value}
-use Rattle.main_names.specs.Names.{told_later}
-use Rattle.bind_refusals.specs.Refusals.{Judged}
-use Rattle.main_names.specs.SoFar.{Declared, Walked, does, behind, with_var, with_name, next_cells, changing, unchanging}
-use Rattle.main_names.specs.Meanings.{count_of}
+use Rattle.bound_program.specs.Steps.{Asked, Step, Do, Loop, Fix, Block, Choose, Repeat, Steps, NoStep, MoreStep, followed, one_step}
+use Rattle.main_declarations.specs.Expressions.{resolved, judged_static, judged_value}
+use Rattle.main_declarations.specs.Names.{told_later}
+use Rattle.bound_program.specs.Refusals.{Judged}
+use Rattle.main_declarations.specs.SoFar.{Declared, Walked, does, behind, with_var, with_name, next_cells, changing, unchanging}
+use Rattle.main_declarations.specs.Meanings.{count_of}
 use Rattle.main_declarations.specs.Variables.{with_fixed, with_fixed_later, with_turning, const_at, with_changing, initializer, judged_declr, judged_declrs}
-use Rattle.source_fits.specs.Sources.{HasNumbers, IsRead}
+use Rattle.loop_bind.specs.Sources.{HasNumbers, IsRead}
 use Rattle.main_declarations.proofs.Judged.{Gives, gives_then}
 use Rattle.loop_bind.proofs.FitsValues.{Num, Within, within_more}
 use Rattle.loop_bind.proofs.FitsState.{at, MeaningFits, IsOwn, Grows, grows-self, grows-trans, Lawful}

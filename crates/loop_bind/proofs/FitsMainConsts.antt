@@ -12,20 +12,20 @@ use Rattle.c_tree.specs.declared.hosts.GlobalName.{GlobalName}
 use Rattle.c_tree.specs.declared.hosts.LoopArg.{LoopArg}
 use Rattle.c_tree.specs.declared.hosts.LoopArg.TheVariants as arg
 use Rattle.kernel_types.specs.declared.kernels.ConstDecl.{ConstDecl}
-use Rattle.mesh_text.specs.Spelling.{Named}
-use Rattle.bind_refusals.specs.declared.refusals.BindRefusal.TheVariants as refusal
-use Rattle.main_names.specs.declared.scopes.Cells.{Cells}
-use Rattle.main_names.specs.declared.scopes.Meaning.{Meaning}
-use Rattle.main_names.specs.declared.scopes.Meaning.TheVariants as m
+use Rattle.mesh_decl.specs.Spelling.{Named}
+use Rattle.bound_program.specs.declared.refusals.refusals.BindRefusal.TheVariants as refusal
+use Rattle.main_declarations.specs.declared.names.scopes.Cells.{Cells}
+use Rattle.main_declarations.specs.declared.names.scopes.Meaning.{Meaning}
+use Rattle.main_declarations.specs.declared.names.scopes.Meaning.TheVariants as m
 use Rattle.bound_program.specs.Values.{VarValue}
-use Rattle.main_names.specs.Names.{Names, named_in, or_else, means}
-use Rattle.bind_refusals.specs.Refusals.{found_if}
-use Rattle.main_names.specs.SoFar.{Declared, with_var, with_name}
-use Rattle.main_names.specs.Meanings.{values_named}
+use Rattle.main_declarations.specs.Names.{Names, named_in, or_else, means}
+use Rattle.bound_program.specs.Refusals.{found_if}
+use Rattle.main_declarations.specs.SoFar.{Declared, with_var, with_name}
+use Rattle.main_declarations.specs.Meanings.{values_named}
 use Rattle.main_declarations.specs.Declarations.{place_found, type_found}
 use Rattle.main_declarations.specs.Variables.{file_cells, constant_found, after_constant, constant_decl_found, judged_constant}
-use Rattle.main_text.specs.Arguments.{extern_var, with_extern, after_global, after_globals}
-use Rattle.source_fits.specs.Constants.{FileVariable, NamesApart}
+use Rattle.loop_bind.specs.Arguments.{extern_var, with_extern, after_global, after_globals}
+use Rattle.loop_bind.specs.FileVariables.{FileVariable, NamesApart}
 use Rattle.main_declarations.proofs.Judged.{Gives, gives_unless, left_nil, right_nil, not_if}
 use Rattle.loop_bind.proofs.FitsState.{known-fits}
 use Rattle.main_declarations.proofs.Shapes.{never}

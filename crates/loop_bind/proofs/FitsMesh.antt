@@ -9,18 +9,18 @@ use Rattle.c_tree.specs.Tree.{ExprTree}
 use Rattle.kernel_types.specs.declared.kernels.RKernel.{RKernel}
 use Rattle.kernel_model.specs.Numbers.{Value}
 use Rattle.mesh_decl.specs.Mesh.{MeshValue, set_count, map_count, dat_count, set_size, is_element, AreElements, IsMap, IsDat}
-use Rattle.bind_refusals.specs.declared.refusals.BindRefusal.TheVariants as refusal
-use Rattle.bind_refusals.specs.declared.refusals.Counted.TheVariants as counted
-use Rattle.bind_refusals.specs.declared.founds.Turn.TheVariants.{SizeValue}
-use Rattle.main_names.specs.declared.scopes.Meaning.{Meaning}
-use Rattle.main_names.specs.declared.scopes.Meaning.TheVariants.{Extern, ExternArray, Kernel, Set, Map, Dat, Variable, Fixed, FixedLater, Turning}
+use Rattle.bound_program.specs.declared.refusals.refusals.BindRefusal.TheVariants as refusal
+use Rattle.bound_program.specs.declared.refusals.refusals.Counted.TheVariants as counted
+use Rattle.bound_program.specs.declared.refusals.founds.Turn.TheVariants.{SizeValue}
+use Rattle.main_declarations.specs.declared.names.scopes.Meaning.{Meaning}
+use Rattle.main_declarations.specs.declared.names.scopes.Meaning.TheVariants.{Extern, ExternArray, Kernel, Set, Map, Dat, Variable, Fixed, FixedLater, Turning}
 use Rattle.bound_program.specs.HostExpr.{value, is_static}
 use Rattle.bound_program.specs.Values.{SiteValue, VarValue}
-use Rattle.main_names.specs.Expressions.{first_token, resolved}
-use Rattle.bind_refusals.specs.Refusals.{place, found_if, found_over}
+use Rattle.main_declarations.specs.Expressions.{first_token, resolved}
+use Rattle.bound_program.specs.Refusals.{place, found_if, found_over}
 use Rattle.bound_program.specs.Limits.{max_size, max_dim}
-use Rattle.main_names.specs.SoFar.{Declared}
-use Rattle.main_names.specs.Meanings.{set_of, map_of, dat_of, or_zero, or_none}
+use Rattle.main_declarations.specs.SoFar.{Declared}
+use Rattle.main_declarations.specs.Meanings.{set_of, map_of, dat_of, or_zero, or_none}
 use Rattle.main_declarations.specs.Declarations.{awaited, first_stray, place_found, data_found, stray_found, target_found, cells_found, value_found, size_found, size_of}
 use Rattle.main_declarations.proofs.Judged.{left_nil, not_in, not_over, not_if, IsNil}
 use Rattle.main_declarations.proofs.Shapes.{Below, never, is_dim-true, awaited-is, data_is}

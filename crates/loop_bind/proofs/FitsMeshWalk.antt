@@ -14,18 +14,18 @@ use Rattle.mesh_decl.specs.declared.decl.MapDecl.{MapDecl}
 use Rattle.mesh_decl.specs.declared.decl.DatDecl.{DatDecl}
 use Rattle.mesh_decl.specs.Mesh.{set_count, map_count, dat_count, IsMap, IsDat}
 use Rattle.mesh_decl.proofs.Declared as mesh
-use Rattle.mesh_text.specs.Spelling.{Named}
-use Rattle.bind_refusals.specs.declared.refusals.BindRefusal.TheVariants as refusal
-use Rattle.bind_refusals.specs.declared.refusals.Counted.TheVariants as counted
-use Rattle.bind_refusals.specs.declared.founds.Turn.TheVariants.{InOrder}
-use Rattle.main_names.specs.declared.scopes.Meaning.TheVariants.{Set, Map, Dat}
+use Rattle.mesh_decl.specs.Spelling.{Named}
+use Rattle.bound_program.specs.declared.refusals.refusals.BindRefusal.TheVariants as refusal
+use Rattle.bound_program.specs.declared.refusals.refusals.Counted.TheVariants as counted
+use Rattle.bound_program.specs.declared.refusals.founds.Turn.TheVariants.{InOrder}
+use Rattle.main_declarations.specs.declared.names.scopes.Meaning.TheVariants.{Set, Map, Dat}
 use Rattle.bound_program.specs.HostExpr.{value}
-use Rattle.main_names.specs.Names.{means, declare}
-use Rattle.main_names.specs.Expressions.{resolved}
+use Rattle.main_declarations.specs.Names.{means, declare}
+use Rattle.main_declarations.specs.Expressions.{resolved}
 use Rattle.bound_program.specs.Limits.{max_sets, max_maps, max_dats, max_size, max_dim}
-use Rattle.bind_refusals.specs.Refusals.{found_over}
-use Rattle.main_names.specs.SoFar.{Declared}
-use Rattle.main_names.specs.Meanings.{set_of, or_zero, or_none, count_of, array_of}
+use Rattle.bound_program.specs.Refusals.{found_over}
+use Rattle.main_declarations.specs.SoFar.{Declared}
+use Rattle.main_declarations.specs.Meanings.{set_of, or_zero, or_none, count_of, array_of}
 use Rattle.main_declarations.specs.Declarations.{awaited, with_set, with_map, with_dat, place_found, set_found, dim_found, type_found, data_found, target_found, cells_found, size_found, size_of, set_decl_found, judged_set, map_decl_found, judged_map, dat_decl_found, judged_dat}
 use Rattle.bound_program.specs.Fits.{SiteFits}
 use Rattle.main_declarations.proofs.Judged.{Gives, gives_unless, left_nil, right_nil, not_over, not_if}

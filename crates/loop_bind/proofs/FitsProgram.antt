@@ -5,20 +5,20 @@ use Rattle.std.proofs.lemmas.List.Elements.{All-nil}
 use Rattle.c_tree.specs.Tree.{ProgramTree}
 use Rattle.kernel_types.specs.declared.kernels.ConstDecl.{ConstDecl}
 use Rattle.kernel_types.specs.declared.kernels.Resolved.{Resolved}
-use Rattle.mesh_text.specs.Spelling.{Named}
+use Rattle.mesh_decl.specs.Spelling.{Named}
 use Rattle.bound_program.specs.Values.{BoundValue}
-use Rattle.bind_refusals.specs.Refusals.{Judged}
+use Rattle.bound_program.specs.Refusals.{Judged}
 use Rattle.bound_program.specs.Limits.{max_trace}
-use Rattle.main_names.specs.SoFar.{Declared, Walked, quiet, nothing_declared}
-use Rattle.main_text.specs.Text.{outermost, judged_hosts}
+use Rattle.main_declarations.specs.SoFar.{Declared, Walked, quiet, nothing_declared}
+use Rattle.loop_bind.specs.Text.{outermost, judged_hosts}
 use Rattle.main_declarations.specs.File.{judged_tops}
 use Rattle.loop_bind.specs.Weights.{trace}
 use Rattle.loop_bind.specs.Bound.{text, happens, finished, unrolled_text, bound}
-use Rattle.source_fits.specs.Constants.{FileVariable, file_variables, all_constant_names}
+use Rattle.loop_bind.specs.FileVariables.{FileVariable, file_variables, all_constant_names}
 use Rattle.bound_program.specs.Fits.{Fits, KernelFits}
-use Rattle.source_fits.specs.Hidden.{AllNameNoOwn}
-use Rattle.source_fits.specs.Resolvable.{IsResolvedSource, NamedNamesAreAll}
-use Rattle.source_fits.specs.Sources.{HaveNumbers}
+use Rattle.loop_bind.specs.Hidden.{AllNameNoOwn}
+use Rattle.loop_bind.specs.ResolvedSources.{IsResolvedSource, NamedNamesAreAll}
+use Rattle.loop_bind.specs.Sources.{HaveNumbers}
 use Rattle.loop_bind.specs.Resolvable.{BoundProgramsFit, BoundMapsAreNarrow}
 use Rattle.name_resolution.specs.Programs.{named_in}
 use Rattle.loop_bind.proofs.FitsHidden.{hosts_unhidden, are_same}
@@ -26,7 +26,7 @@ use Rattle.main_declarations.proofs.Judged.{Gives, gives_then}
 use Rattle.loop_bind.proofs.FitsState.{HasMapDim, so_far}
 use Rattle.loop_bind.proofs.FitsTargets.{AllAssignVariables, MainAssignsVariables}
 use Rattle.loop_bind.proofs.FitsScopeWalk.{Scoped, tops_scoped, hosts_assign}
-use Rattle.source_fits.specs.Assigned.{after_tops}
+use Rattle.loop_bind.specs.Assigned.{after_tops}
 use Rattle.loop_bind.proofs.FitsMain.{Walks}
 use Rattle.loop_bind.proofs.FitsTrace.{Unrolls, Last}
 use Rattle.loop_bind.proofs.FitsTold.{all_one}

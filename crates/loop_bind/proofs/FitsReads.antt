@@ -6,14 +6,14 @@ use Rattle.c_tree.specs.Tree as tree
 use Rattle.c_tree.specs.Tree.{ExprTree}
 use Rattle.kernel_types.specs.declared.kernels.RKernel.{RKernel}
 use Rattle.mesh_decl.specs.Mesh.{MeshValue}
-use Rattle.mesh_text.specs.Spelling.{Named}
-use Rattle.main_names.specs.declared.scopes.Meaning.{Meaning}
-use Rattle.main_names.specs.declared.scopes.Meaning.TheVariants.{Extern, ExternArray, Kernel, Set, Map, Dat, Variable, Fixed, FixedLater, Turning}
+use Rattle.mesh_decl.specs.Spelling.{Named}
+use Rattle.main_declarations.specs.declared.names.scopes.Meaning.{Meaning}
+use Rattle.main_declarations.specs.declared.names.scopes.Meaning.TheVariants.{Extern, ExternArray, Kernel, Set, Map, Dat, Variable, Fixed, FixedLater, Turning}
 use Rattle.bound_program.specs.Values.{VarValue}
-use Rattle.main_names.specs.Names.{means}
-use Rattle.main_names.specs.Expressions.{read, cells_of, resolved}
-use Rattle.main_names.specs.SoFar.{Declared}
-use Rattle.source_fits.specs.Sources.{HasNumbers}
+use Rattle.main_declarations.specs.Names.{means}
+use Rattle.main_declarations.specs.Expressions.{read, cells_of, resolved}
+use Rattle.main_declarations.specs.SoFar.{Declared}
+use Rattle.loop_bind.specs.Sources.{HasNumbers}
 use Rattle.loop_bind.proofs.FitsValues.{Within, zero_is_num}
 use Rattle.loop_bind.proofs.FitsState.{MeaningFits, Lawful, means_fits}
 

@@ -1,9 +1,9 @@
 -- The names that the walk knows are those of the text, and what can be assigned is a variable there.
 use Rattle.std.proofs.Common.{◌≡◌, ℕ, zero, suc, List, [], ◌∷◌, ◌++◌, length, take, Bool, true, false, refl, ap, subst}
 use Rattle.std.specs.Prelude.{Option, Some, None, is_some, bytes_eq, if◌then◌else◌}
-use Rattle.main_names.specs.declared.scopes.Meaning.{Meaning}
-use Rattle.main_names.specs.Names.{Names, named_in, or_else, known}
-use Rattle.source_fits.specs.Assigned.{Known, found, knows, CanBeAssigned}
+use Rattle.main_declarations.specs.declared.names.scopes.Meaning.{Meaning}
+use Rattle.main_declarations.specs.Names.{Names, named_in, or_else, known}
+use Rattle.loop_bind.specs.Assigned.{Known, found, knows, CanBeAssigned}
 use Rattle.loop_bind.proofs.FitsTargets.{IsVariable}
 
 -- what can be assigned is a variable

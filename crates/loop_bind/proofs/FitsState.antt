@@ -8,15 +8,15 @@ use Rattle.kernel_types.specs.declared.kernels.RKernel.{RKernel}
 use Rattle.mesh_decl.specs.declared.decl.MapDecl.{MapDecl}
 use Rattle.mesh_decl.specs.declared.decl.DatDecl.{DatDecl}
 use Rattle.mesh_decl.specs.Mesh.{MeshValue, set_count, map_count, dat_count, IsMesh}
-use Rattle.mesh_text.specs.Spelling.{Named}
-use Rattle.main_names.specs.declared.scopes.Cells.{Cells}
-use Rattle.main_names.specs.declared.scopes.Meaning.{Meaning}
-use Rattle.main_names.specs.declared.scopes.Meaning.TheVariants.{Extern, ExternArray, Kernel, Set, Map, Dat, Variable, Fixed, FixedLater, Turning}
+use Rattle.mesh_decl.specs.Spelling.{Named}
+use Rattle.main_declarations.specs.declared.names.scopes.Cells.{Cells}
+use Rattle.main_declarations.specs.declared.names.scopes.Meaning.{Meaning}
+use Rattle.main_declarations.specs.declared.names.scopes.Meaning.TheVariants.{Extern, ExternArray, Kernel, Set, Map, Dat, Variable, Fixed, FixedLater, Turning}
 use Rattle.bound_program.specs.Values.{VarValue, BoundValue, no_var}
-use Rattle.main_names.specs.Names.{Names, named_in, or_else, means, known}
+use Rattle.main_declarations.specs.Names.{Names, named_in, or_else, means, known}
 use Rattle.bound_program.specs.Limits.{max_sets, max_maps, max_dats, max_dim}
-use Rattle.main_names.specs.SoFar.{Declared}
-use Rattle.main_names.specs.Meanings.{values_named}
+use Rattle.main_declarations.specs.SoFar.{Declared}
+use Rattle.main_declarations.specs.Meanings.{values_named}
 use Rattle.bound_program.specs.Fits.{TakesArgs, SiteFits}
 use Rattle.loop_bind.proofs.FitsValues.{Num}
 

@@ -9,9 +9,9 @@ use Rattle.std.proofs.lemmas.Slice.Eq.{bytes_eq-Decides}
 use Rattle.c_lex.specs.declared.tokens.Pos.{Pos}
 use Rattle.kernel_types.specs.declared.kernels.ConstDecl.{ConstDecl}
 use Rattle.bound_program.specs.Values.{VarValue}
-use Rattle.main_names.specs.SoFar.{first_cell}
+use Rattle.main_declarations.specs.SoFar.{first_cell}
 use Rattle.main_declarations.specs.Variables.{with_constant}
-use Rattle.source_fits.specs.Constants.{FileVariable, NamesApart, is_constant}
+use Rattle.loop_bind.specs.FileVariables.{FileVariable, NamesApart, is_constant}
 use Rattle.std.proofs.Math.Bool.{or-false}
 
 -- ---- names among those that are told

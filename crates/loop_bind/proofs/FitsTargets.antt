@@ -5,14 +5,14 @@ use Rattle.c_tree.specs.Tree as tree
 use Rattle.c_tree.specs.Tree.{HostTree, HostTrees, ProgramTree}
 use Rattle.kernel_types.specs.declared.kernels.ConstDecl.{ConstDecl}
 use Rattle.kernel_types.specs.declared.kernels.Resolved.{Resolved}
-use Rattle.mesh_text.specs.Spelling.{Named}
-use Rattle.main_names.specs.declared.walks.Spot.{Spot}
-use Rattle.main_names.specs.declared.scopes.Meaning.{Meaning}
-use Rattle.main_names.specs.declared.scopes.Meaning.TheVariants.{Variable}
-use Rattle.main_names.specs.Names.{means}
-use Rattle.bind_refusals.specs.Refusals.{Judged}
-use Rattle.main_names.specs.SoFar.{Declared, Walked, quiet, nothing_declared}
-use Rattle.main_text.specs.Text.{nested, turning, target_name, opened, with_counter, outermost, judged_host}
+use Rattle.mesh_decl.specs.Spelling.{Named}
+use Rattle.main_declarations.specs.declared.names.walks.Spot.{Spot}
+use Rattle.main_declarations.specs.declared.names.scopes.Meaning.{Meaning}
+use Rattle.main_declarations.specs.declared.names.scopes.Meaning.TheVariants.{Variable}
+use Rattle.main_declarations.specs.Names.{means}
+use Rattle.bound_program.specs.Refusals.{Judged}
+use Rattle.main_declarations.specs.SoFar.{Declared, Walked, quiet, nothing_declared}
+use Rattle.loop_bind.specs.Text.{nested, turning, target_name, opened, with_counter, outermost, judged_host}
 use Rattle.main_declarations.specs.File.{judged_tops}
 
 -- it means a variable that isn't `const`

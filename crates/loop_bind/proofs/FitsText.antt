@@ -12,23 +12,23 @@ use Rattle.kernel_types.specs.declared.kernels.ConstDecl.{ConstDecl}
 use Rattle.kernel_types.specs.declared.kernels.RKernel.{RKernel}
 use Rattle.mesh_decl.specs.Mesh.{dat_count}
 use Rattle.mesh_decl.specs.Printed.{conversions}
-use Rattle.mesh_text.specs.Spelling.{Named}
-use Rattle.bind_refusals.specs.declared.refusals.BindRefusal.TheVariants as refusal
-use Rattle.main_names.specs.declared.walks.Spot.{Spot}
-use Rattle.main_names.specs.declared.scopes.Meaning.{Meaning}
-use Rattle.main_names.specs.declared.scopes.Meaning.TheVariants as m
+use Rattle.mesh_decl.specs.Spelling.{Named}
+use Rattle.bound_program.specs.declared.refusals.refusals.BindRefusal.TheVariants as refusal
+use Rattle.main_declarations.specs.declared.names.walks.Spot.{Spot}
+use Rattle.main_declarations.specs.declared.names.scopes.Meaning.{Meaning}
+use Rattle.main_declarations.specs.declared.names.scopes.Meaning.TheVariants as m
 use Rattle.bound_program.specs.Values.{Line, Print}
-use Rattle.main_names.specs.Names.{means, told_later, closed}
-use Rattle.main_trace.specs.Steps.{Asked, Step, Do, Loop, Block, Choose, Repeat, NoStep}
-use Rattle.main_names.specs.Expressions.{resolved, cells_of, judged_static}
-use Rattle.bind_refusals.specs.Refusals.{Judged, ◌>>=◌, found_if}
-use Rattle.main_names.specs.SoFar.{Declared, Walked, does, behind}
-use Rattle.main_names.specs.Meanings.{dat_of, or_zero}
+use Rattle.main_declarations.specs.Names.{means, told_later, closed}
+use Rattle.bound_program.specs.Steps.{Asked, Step, Do, Loop, Block, Choose, Repeat, NoStep}
+use Rattle.main_declarations.specs.Expressions.{resolved, cells_of, judged_static}
+use Rattle.bound_program.specs.Refusals.{Judged, ◌>>=◌, found_if}
+use Rattle.main_declarations.specs.SoFar.{Declared, Walked, does, behind}
+use Rattle.main_declarations.specs.Meanings.{dat_of, or_zero}
 use Rattle.main_declarations.specs.Declarations.{judged_set, judged_map, judged_dat}
 use Rattle.main_declarations.specs.Variables.{judged_constant}
-use Rattle.main_text.specs.Arguments.{judged_loop}
-use Rattle.main_text.specs.Text.{nested, turning, target_name, target_index, target_var, assignment, line_found, declares, judged_call, opened, followed_by, ended, with_counter, judged_bounds, judged_host, judged_hosts}
-use Rattle.source_fits.specs.Sources.{HasNumbers, PlaceIsRead, CallIsRead, HostIsRead, HostsAreRead}
+use Rattle.loop_bind.specs.Arguments.{judged_loop}
+use Rattle.loop_bind.specs.Text.{nested, turning, target_name, target_index, target_var, assignment, line_found, declares, judged_call, opened, followed_by, ended, with_counter, judged_bounds, judged_host, judged_hosts}
+use Rattle.loop_bind.specs.Sources.{HasNumbers, PlaceIsRead, CallIsRead, HostIsRead, HostsAreRead}
 use Rattle.loop_bind.proofs.FitsTargets.{IsVariable, Behind, AssignsVariables, AllAssignVariables}
 use Rattle.main_declarations.proofs.Judged.{Gives, gives_then, gives_unless, not_if}
 use Rattle.loop_bind.proofs.FitsValues.{Within, within_more, zero_is_num}

@@ -7,7 +7,7 @@ use Rattle.kernel_types.specs.declared.kernels.RKernel.{RKernel}
 use Rattle.mesh_decl.specs.Mesh.{MeshValue}
 use Rattle.kernel_types.specs.View.{RExprTree, Number, Scalar, Constant, Arg, Local, Const, Unary, Binary, Choice, Paren, Extremum, Absolute}
 use Rattle.bound_program.specs.Values.{ActValue, Clear, Assign, Line, Print, Exit, ItemValue, Free, Reduce, Ordered, Host, SiteValue, VarValue, BoundValue}
-use Rattle.main_trace.specs.Limited.{ToldValue}
+use Rattle.bound_program.specs.Limited.{ToldValue}
 use Rattle.loop_bind.specs.Weights.{started, with_told}
 use Rattle.bound_program.specs.Fits.{HostWithin, IndexWithin, ActFits, due, ItemsFit}
 use Rattle.loop_bind.proofs.FitsState.{at, cells_in, vars-self, vars-trans}

@@ -13,10 +13,10 @@ use Rattle.bound_program.specs.declared.sites.Class.TheVariants as class
 use Rattle.kernel_types.specs.View.{RExprTree}
 use Rattle.bound_program.specs.HostExpr.{value, closed}
 use Rattle.bound_program.specs.Values.{ActValue, Clear, Assign, Line, Print, Exit, closed_act, ItemValue, Free, Reduce, Ordered, Host, BoundValue}
-use Rattle.main_trace.specs.Steps.{Asked, Step, Do, Loop, Fix, Block, Choose, Repeat, Steps, NoStep, MoreStep}
-use Rattle.bind_refusals.specs.Refusals.{Judged}
-use Rattle.main_trace.specs.Trace.{Event, Turn, Does, Tells, Stops, Later, nothing, known, number, choose, answer, tells, counts, turns, turns_left, one_more, after, events, all_events, main_events}
-use Rattle.main_trace.specs.Limited.{ToldValue, UnrolledValue, before, item, told, unrolled}
+use Rattle.bound_program.specs.Steps.{Asked, Step, Do, Loop, Fix, Block, Choose, Repeat, Steps, NoStep, MoreStep}
+use Rattle.bound_program.specs.Refusals.{Judged}
+use Rattle.bound_program.specs.Trace.{Event, Turn, Does, Tells, Stops, Later, nothing, known, number, choose, answer, tells, counts, turns, turns_left, one_more, after, events, all_events, main_events}
+use Rattle.bound_program.specs.Limited.{ToldValue, UnrolledValue, before, item, told, unrolled}
 use Rattle.bound_program.specs.Classes.{reduces}
 use Rattle.bound_program.specs.Fits.{site_at, all_cells, HostWithin, IndexWithin, ActFits, due, ItemsFit, EndsWithHost}
 use Rattle.main_declarations.proofs.Judged.{Gives}

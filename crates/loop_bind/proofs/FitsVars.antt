@@ -6,12 +6,12 @@ use Rattle.std.proofs.lemmas.List.Elements.{All-nil, All-weaker}
 use Rattle.std.proofs.lemmas.List.Sums.{sum_by_push}
 use Rattle.kernel_types.specs.declared.kernels.RKernel.{RKernel}
 use Rattle.mesh_decl.specs.Mesh.{MeshValue}
-use Rattle.mesh_text.specs.Spelling.{Named}
-use Rattle.main_names.specs.declared.scopes.Meaning.{Meaning}
+use Rattle.mesh_decl.specs.Spelling.{Named}
+use Rattle.main_declarations.specs.declared.names.scopes.Meaning.{Meaning}
 use Rattle.bound_program.specs.declared.sites.Arg.{Arg}
 use Rattle.bound_program.specs.declared.sites.Arg.TheVariants.{Dat, Global}
 use Rattle.bound_program.specs.Values.{SiteValue, VarValue, BoundValue, ItemValue}
-use Rattle.main_names.specs.SoFar.{Declared, with_var, with_name, with_file_name, next_cells}
+use Rattle.main_declarations.specs.SoFar.{Declared, with_var, with_name, with_file_name, next_cells}
 use Rattle.bound_program.specs.Fits.{ArgFits, SiteFits, GlobalAccess}
 use Rattle.loop_bind.proofs.FitsState.{at, VarsGrow, vars-push, at_push, at_last, CellsFit, MeaningFits, NameFits, Grows, names_more, known-fits, ExternFits, extern_more, IsOwn, NameIsOwn, so_far, Lawful}
 

@@ -9,27 +9,27 @@ use Rattle.c_tree.specs.declared.expressions.NumberLiteral.{NumberLiteral}
 use Rattle.c_tree.specs.declared.hosts.GlobalName.{GlobalName}
 use Rattle.c_tree.specs.declared.hosts.LoopArg.{LoopArg}
 use Rattle.c_tree.specs.declared.hosts.LoopArg.TheVariants as tree
-use Rattle.reductions.specs.declared.access.Access.{Access}
-use Rattle.reductions.specs.declared.access.Access.TheVariants as access
-use Rattle.mesh_text.specs.Spelling.{Named}
-use Rattle.bind_refusals.specs.declared.refusals.BindRefusal.TheVariants as refusal
-use Rattle.bind_refusals.specs.declared.refusals.Counted.TheVariants as counted
-use Rattle.bind_refusals.specs.declared.founds.Turn.TheVariants.{InOrder}
-use Rattle.main_text.specs.declared.globals.GlobalVar.{GlobalVar}
-use Rattle.main_text.specs.declared.arguments.Earlier.{Earlier}
+use Rattle.op_num.specs.declared.reductions.access.Access.{Access}
+use Rattle.op_num.specs.declared.reductions.access.Access.TheVariants as access
+use Rattle.mesh_decl.specs.Spelling.{Named}
+use Rattle.bound_program.specs.declared.refusals.refusals.BindRefusal.TheVariants as refusal
+use Rattle.bound_program.specs.declared.refusals.refusals.Counted.TheVariants as counted
+use Rattle.bound_program.specs.declared.refusals.founds.Turn.TheVariants.{InOrder}
+use Rattle.loop_bind.specs.declared.main_text.globals.GlobalVar.{GlobalVar}
+use Rattle.loop_bind.specs.declared.main_text.arguments.Earlier.{Earlier}
 use Rattle.bound_program.specs.declared.sites.Arg.TheVariants.{Global}
-use Rattle.main_names.specs.declared.scopes.Cells.{Cells}
-use Rattle.main_names.specs.declared.scopes.Meaning.{Meaning}
-use Rattle.main_names.specs.declared.scopes.Meaning.TheVariants as m
+use Rattle.main_declarations.specs.declared.names.scopes.Cells.{Cells}
+use Rattle.main_declarations.specs.declared.names.scopes.Meaning.{Meaning}
+use Rattle.main_declarations.specs.declared.names.scopes.Meaning.TheVariants as m
 use Rattle.bound_program.specs.Values.{VarValue}
-use Rattle.main_names.specs.Names.{means}
+use Rattle.main_declarations.specs.Names.{means}
 use Rattle.bound_program.specs.Limits.{max_dim, max_arguments}
-use Rattle.bind_refusals.specs.Refusals.{found_if, found_over}
-use Rattle.main_names.specs.SoFar.{Declared, with_var}
-use Rattle.main_names.specs.Meanings.{set_of, or_zero, count_of, values_named}
+use Rattle.bound_program.specs.Refusals.{found_if, found_over}
+use Rattle.main_declarations.specs.SoFar.{Declared, with_var}
+use Rattle.main_declarations.specs.Meanings.{set_of, or_zero, count_of, values_named}
 use Rattle.main_declarations.specs.Declarations.{set_found, type_found}
 use Rattle.main_declarations.specs.Variables.{glob_token, ampersand_found}
-use Rattle.main_text.specs.Arguments.{access_of, slot_constant, global_of, extern_var, with_extern, after_global, after_globals, is_twice, is_reserved, is_wrong_dim, global_found, arg_found, with_earlier, args_found, kernel_found, var_number, arg_of, site, loop_found, judged_loop}
+use Rattle.loop_bind.specs.Arguments.{access_of, slot_constant, global_of, extern_var, with_extern, after_global, after_globals, is_twice, is_reserved, is_wrong_dim, global_found, arg_found, with_earlier, args_found, kernel_found, var_number, arg_of, site, loop_found, judged_loop}
 use Rattle.main_declarations.proofs.Judged.{Gives, gives_unless, left_nil, right_nil, not_if}
 use Rattle.main_declarations.proofs.Shapes.{never}
 use Rattle.loop_bind.proofs.LeavesState.{IsFree, stay-trans, stay-push, MeaningLeaves, ArgIsFree, SiteIsFree, Leaves, leaves-var, means_leaves, LeavesOn}

@@ -8,20 +8,20 @@ use Rattle.c_tree.specs.declared.expressions.Ident.{Ident}
 use Rattle.c_tree.specs.Tree as tree
 use Rattle.c_tree.specs.Tree.{ExprTree, DeclrTree, TopTree}
 use Rattle.kernel_types.specs.declared.kernels.ConstDecl.{ConstDecl}
-use Rattle.mesh_text.specs.declared.entry.Entry.{Entry}
-use Rattle.mesh_text.specs.declared.entry.Entry.TheVariants.{One, Many}
-use Rattle.mesh_text.specs.Spelling.{Named}
-use Rattle.main_names.specs.declared.walks.Spot.{Spot}
-use Rattle.main_names.specs.declared.scopes.Cells.{Cells}
-use Rattle.main_names.specs.declared.scopes.Meaning.{Meaning}
-use Rattle.main_names.specs.declared.scopes.Meaning.TheVariants as m
+use Rattle.mesh_decl.specs.declared.text.entry.Entry.{Entry}
+use Rattle.mesh_decl.specs.declared.text.entry.Entry.TheVariants.{One, Many}
+use Rattle.mesh_decl.specs.Spelling.{Named}
+use Rattle.main_declarations.specs.declared.names.walks.Spot.{Spot}
+use Rattle.main_declarations.specs.declared.names.scopes.Cells.{Cells}
+use Rattle.main_declarations.specs.declared.names.scopes.Meaning.{Meaning}
+use Rattle.main_declarations.specs.declared.names.scopes.Meaning.TheVariants as m
 use Rattle.bound_program.specs.Values.{VarValue, Clear}
-use Rattle.main_names.specs.Names.{told_later}
-use Rattle.main_trace.specs.Steps.{Asked, Step, Do, Fix, one_step}
-use Rattle.main_names.specs.Expressions.{judged_static, judged_value}
-use Rattle.bind_refusals.specs.Refusals.{Judged}
-use Rattle.main_names.specs.SoFar.{Declared, Walked, does, behind, with_var, with_name, with_file_name, next_cells, changing, unchanging, first_cell, nothing_declared}
-use Rattle.main_names.specs.Meanings.{count_of}
+use Rattle.main_declarations.specs.Names.{told_later}
+use Rattle.bound_program.specs.Steps.{Asked, Step, Do, Fix, one_step}
+use Rattle.main_declarations.specs.Expressions.{judged_static, judged_value}
+use Rattle.bound_program.specs.Refusals.{Judged}
+use Rattle.main_declarations.specs.SoFar.{Declared, Walked, does, behind, with_var, with_name, with_file_name, next_cells, changing, unchanging, first_cell, nothing_declared}
+use Rattle.main_declarations.specs.Meanings.{count_of}
 use Rattle.main_declarations.specs.Variables.{with_file_value, judged_file_declr, judged_file_declrs, with_fixed, with_fixed_later, with_turning, const_at, with_changing, initializer, judged_declr, judged_declrs, with_constant, after_constant}
 use Rattle.main_declarations.specs.File.{judged_extern, judged_array, judged_top, judged_tops}
 use Rattle.main_declarations.proofs.Judged.{Gives, gives_then, gives_any}

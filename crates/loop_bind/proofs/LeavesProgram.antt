@@ -4,15 +4,15 @@ use Rattle.c_tree.specs.Tree.{ProgramTree}
 use Rattle.kernel_types.specs.declared.kernels.ConstDecl.{ConstDecl}
 use Rattle.kernel_types.specs.declared.kernels.Resolved.{Resolved}
 use Rattle.mesh_decl.specs.Mesh.{MeshValue}
-use Rattle.mesh_text.specs.Spelling.{Named}
-use Rattle.bind_refusals.specs.Refusals.{Judged}
+use Rattle.mesh_decl.specs.Spelling.{Named}
+use Rattle.bound_program.specs.Refusals.{Judged}
 use Rattle.bound_program.specs.Limits.{max_trace}
-use Rattle.main_names.specs.SoFar.{Declared, Walked, quiet, nothing_declared}
+use Rattle.main_declarations.specs.SoFar.{Declared, Walked, quiet, nothing_declared}
 use Rattle.main_declarations.specs.File.{judged_tops}
-use Rattle.main_text.specs.Text.{outermost, judged_hosts}
-use Rattle.main_trace.specs.Limited.{UnrolledValue, unrolled}
-use Rattle.source_fits.specs.Assigned.{after_tops}
-use Rattle.source_fits.specs.Resolvable.{IsResolvedSource}
+use Rattle.loop_bind.specs.Text.{outermost, judged_hosts}
+use Rattle.bound_program.specs.Limited.{UnrolledValue, unrolled}
+use Rattle.loop_bind.specs.Assigned.{after_tops}
+use Rattle.loop_bind.specs.ResolvedSources.{IsResolvedSource}
 use Rattle.loop_bind.specs.Weights.{weight_of_all, within_weight, weighed, trace}
 use Rattle.loop_bind.specs.Bound.{text, happens, finished, unrolled_text, bound}
 use Rattle.loop_bind.specs.Constants.{LeavesConstants}

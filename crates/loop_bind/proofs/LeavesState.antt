@@ -5,16 +5,16 @@ use Rattle.std.proofs.Common.{inl, inr}
 use Rattle.std.proofs.lemmas.List.{length_push}
 use Rattle.std.proofs.lemmas.List.Elements.{All-weaker}
 use Rattle.std.proofs.lemmas.Map.Entries.{All-lookup}
-use Rattle.reductions.specs.declared.access.Access.TheVariants as access
-use Rattle.main_names.specs.declared.scopes.Meaning.{Meaning}
-use Rattle.main_names.specs.declared.scopes.Meaning.TheVariants.{Variable}
-use Rattle.main_names.specs.declared.scopes.Meaning.TheVariants as m
+use Rattle.op_num.specs.declared.reductions.access.Access.TheVariants as access
+use Rattle.main_declarations.specs.declared.names.scopes.Meaning.{Meaning}
+use Rattle.main_declarations.specs.declared.names.scopes.Meaning.TheVariants.{Variable}
+use Rattle.main_declarations.specs.declared.names.scopes.Meaning.TheVariants as m
 use Rattle.bound_program.specs.declared.sites.Arg.{Arg}
 use Rattle.bound_program.specs.declared.sites.Arg.TheVariants.{Dat, Global}
 use Rattle.bound_program.specs.Values.{ActValue, Clear, Assign, Line, Print, Exit, SiteValue, VarValue}
-use Rattle.main_names.specs.Names.{Names, named_in, or_else, means}
-use Rattle.main_names.specs.SoFar.{Declared, Walked, with_var, with_name, with_file_name}
-use Rattle.main_trace.specs.Steps.{Step, Do, Loop, Fix, Block, Choose, Repeat, Steps, NoStep, MoreStep, followed}
+use Rattle.main_declarations.specs.Names.{Names, named_in, or_else, means}
+use Rattle.main_declarations.specs.SoFar.{Declared, Walked, with_var, with_name, with_file_name}
+use Rattle.bound_program.specs.Steps.{Step, Do, Loop, Fix, Block, Choose, Repeat, Steps, NoStep, MoreStep, followed}
 use Rattle.loop_bind.proofs.FitsState.{at, at_push, at_last, known-fits}
 
 -- ---- variables

@@ -11,10 +11,10 @@ use Rattle.bound_program.specs.declared.sites.Class.{Class}
 use Rattle.bound_program.specs.declared.sites.Class.TheVariants as class
 use Rattle.bound_program.specs.Values.{ActValue, Clear, Assign, Line, Print, Exit, closed_act, ItemValue, Free, Reduce, Ordered, Host, SiteValue, VarValue, BoundValue, no_site}
 use Rattle.bound_program.specs.Classes.{reduces}
-use Rattle.main_trace.specs.Steps.{Step, Do, Loop, Fix, Block, Choose, Repeat, Steps, NoStep, MoreStep}
-use Rattle.bind_refusals.specs.Refusals.{Judged}
-use Rattle.main_trace.specs.Trace.{Event, Turn, Does, Tells, Stops, Later, nothing, number, choose, answer, tells, counts, turns, turns_left, after, events, all_events, main_events}
-use Rattle.main_trace.specs.Limited.{ToldValue, UnrolledValue, before, item, told, unrolled}
+use Rattle.bound_program.specs.Steps.{Step, Do, Loop, Fix, Block, Choose, Repeat, Steps, NoStep, MoreStep}
+use Rattle.bound_program.specs.Refusals.{Judged}
+use Rattle.bound_program.specs.Trace.{Event, Turn, Does, Tells, Stops, Later, nothing, number, choose, answer, tells, counts, turns, turns_left, after, events, all_events, main_events}
+use Rattle.bound_program.specs.Limited.{ToldValue, UnrolledValue, before, item, told, unrolled}
 use Rattle.loop_bind.specs.Weights.{started, with_told}
 use Rattle.loop_bind.specs.Constants.{ActLeaves, ItemLeaves, ArgLeaves, LeavesConstants}
 use Rattle.main_declarations.proofs.Judged.{Gives}

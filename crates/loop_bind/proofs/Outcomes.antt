@@ -1,13 +1,13 @@
 -- What a part refuses, the whole refuses.
 use Rattle.std.proofs.Common.{◌≡◌, ◌∙◌, ap, List, Ok, Err, inl, inr}
 use Rattle.mesh_decl.specs.Mesh.{MeshValue}
-use Rattle.bind_refusals.specs.declared.refusals.BindRefusal.{BindRefusal}
-use Rattle.bind_refusals.specs.Refusals.{◌>>=◌, JudgesBy}
+use Rattle.bound_program.specs.declared.refusals.refusals.BindRefusal.{BindRefusal}
+use Rattle.bound_program.specs.Refusals.{◌>>=◌, JudgesBy}
 use Rattle.bound_program.specs.Limits.{max_trace}
-use Rattle.main_trace.specs.declared.steps.Unrolled.{Unrolled}
-use Rattle.main_trace.specs.Trace.{Event}
-use Rattle.main_trace.specs.Limited.{UnrolledValue, unrolled}
-use Rattle.main_trace.specs.Unrolling.{seen, Gives}
+use Rattle.bound_program.specs.declared.trace.steps.Unrolled.{Unrolled}
+use Rattle.bound_program.specs.Trace.{Event}
+use Rattle.bound_program.specs.Limited.{UnrolledValue, unrolled}
+use Rattle.bound_program.specs.Unrolling.{seen, Gives}
 use Rattle.loop_bind.specs.Weights.{weighed, within_weight, weight_of_all, trace}
 
 -- `main` is too long, or something in it faults

@@ -2,15 +2,15 @@
 use Rattle.std.specs.Prelude.{List, Ok}
 use Rattle.kernel_types.specs.declared.kernels.Resolved.{Resolved}
 use Rattle.c_tree.specs.Tree.{ProgramTree}
-use Rattle.mesh_text.specs.Spelling.{Named}
+use Rattle.mesh_decl.specs.Spelling.{Named}
 use Rattle.bound_program.specs.Values.{BoundValue}
-use Rattle.bind_refusals.specs.Refusals.{Judged, ◌>>=◌}
-use Rattle.main_names.specs.SoFar.{Declared, Walked, quiet, nothing_declared}
-use Rattle.main_trace.specs.Steps.{Block}
+use Rattle.bound_program.specs.Refusals.{Judged, ◌>>=◌}
+use Rattle.main_declarations.specs.SoFar.{Declared, Walked, quiet, nothing_declared}
+use Rattle.bound_program.specs.Steps.{Block}
 use Rattle.main_declarations.specs.File.{judged_tops}
-use Rattle.main_text.specs.Text.{judged_hosts, outermost}
-use Rattle.main_trace.specs.Trace.{Event, main_events}
-use Rattle.main_trace.specs.Limited.{UnrolledValue}
+use Rattle.loop_bind.specs.Text.{judged_hosts, outermost}
+use Rattle.bound_program.specs.Trace.{Event, main_events}
+use Rattle.bound_program.specs.Limited.{UnrolledValue}
 use Rattle.loop_bind.specs.Weights.{trace, with_told}
 
 -- what the text declares, and its statements

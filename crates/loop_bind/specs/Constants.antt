@@ -1,6 +1,6 @@
 -- Nothing in a program sets a variable that is `const`.
 use Rattle.std.specs.Prelude.{◌≡◌, false, true, All}
-use Rattle.reductions.specs.declared.access.Access.TheVariants.{Read}
+use Rattle.op_num.specs.declared.reductions.access.Access.TheVariants.{Read}
 use Rattle.bound_program.specs.declared.sites.Arg.{Arg}
 use Rattle.bound_program.specs.declared.sites.Arg.TheVariants.{Dat, Global}
 use Rattle.bound_program.specs.Values.{ActValue, Clear, Assign, ItemValue, Host, SiteValue, BoundValue}

@@ -3,3 +3,10 @@ pub mod Constants
 pub mod Bound
 pub mod Names
 pub mod Resolvable
+pub mod Arguments
+pub mod Text
+pub mod Sources
+pub mod FileVariables
+pub mod Assigned
+pub mod Hidden
+pub mod ResolvedSources

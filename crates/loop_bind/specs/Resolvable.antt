@@ -2,13 +2,13 @@
 use Rattle.std.specs.Prelude.{◌≡◌, ◌≤◌, List, Ok, All}
 use Rattle.c_tree.specs.Tree.{ProgramTree}
 use Rattle.kernel_types.specs.declared.kernels.Resolved.{Resolved}
-use Rattle.mesh_text.specs.Spelling.{Named}
+use Rattle.mesh_decl.specs.Spelling.{Named}
 use Rattle.mesh_decl.specs.declared.decl.MapDecl.{MapDecl}
 use Rattle.bound_program.specs.Limits.{max_dim}
 use Rattle.bound_program.specs.Fits.{Fits}
 use Rattle.bound_program.specs.Values.{BoundValue}
-use Rattle.source_fits.specs.Resolvable.{IsResolvedSource}
-use Rattle.source_fits.specs.Sources.{HaveNumbers}
+use Rattle.loop_bind.specs.ResolvedSources.{IsResolvedSource}
+use Rattle.loop_bind.specs.Sources.{HaveNumbers}
 use Rattle.loop_bind.specs.Bound.{bound}
 use Rattle.loop_bind.specs.Constants.{LeavesConstants}
 

@@ -2,14 +2,14 @@
 use Rattle.std.specs.Prelude.{ℕ, zero, suc, ℤ, ◌+◌, ◌*◌, List, [], ◌∷◌, length, sum_by, Ok, Err, nat_lt, if◌then◌else◌}
 use Rattle.mesh_decl.specs.Mesh.{MeshValue, set_size, set_name, dat_set, dat_dim, dat_name}
 use Rattle.mesh_decl.specs.Printed.{conversions}
-use Rattle.bind_refusals.specs.declared.refusals.BindRefusal.TheVariants as refusal
-use Rattle.bind_refusals.specs.declared.refusals.Counted.TheVariants as counted
+use Rattle.bound_program.specs.declared.refusals.refusals.BindRefusal.TheVariants as refusal
+use Rattle.bound_program.specs.declared.refusals.refusals.Counted.TheVariants as counted
 use Rattle.bound_program.specs.Values.{Line, Print, ItemValue, Host, VarValue}
-use Rattle.bind_refusals.specs.Refusals.{Judged, ◌>>=◌}
+use Rattle.bound_program.specs.Refusals.{Judged, ◌>>=◌}
 use Rattle.bound_program.specs.Limits.{max_trace, max_weight}
-use Rattle.main_names.specs.Meanings.{or_zero}
-use Rattle.main_trace.specs.Trace.{Event}
-use Rattle.main_trace.specs.Limited.{ToldValue, UnrolledValue, unrolled}
+use Rattle.main_declarations.specs.Meanings.{or_zero}
+use Rattle.bound_program.specs.Trace.{Event}
+use Rattle.bound_program.specs.Limited.{ToldValue, UnrolledValue, unrolled}
 
 -- ---- what is printed
 

@@ -1,15 +1,15 @@
 // Laws of the definitions, each as the contract of a function that does nothing.
 
 ghost use Rattle.std.specs.Prelude.{◌≢◌, List, Err};
-ghost use Rattle.bind_refusals.specs.declared.refusals.BindRefusal.TheVariants.{OutOfMemory};
+ghost use Rattle.bound_program.specs.declared.refusals.refusals.BindRefusal.TheVariants.{OutOfMemory};
 ghost use Rattle.c_tree.specs.Tree.{ProgramTree};
 ghost use Rattle.kernel_types.specs.declared.kernels.Resolved.{Resolved as Kernels};
-ghost use Rattle.mesh_text.specs.Spelling.{Named};
+ghost use Rattle.mesh_decl.specs.Spelling.{Named};
 ghost use Rattle.loop_bind.specs.Bound.{bound};
 ghost use Rattle.loop_bind.specs.Names.{BoundNamesAreNames};
 ghost use Rattle.loop_bind.specs.Resolvable.{BoundProgramsFit, BoundMapsAreNarrow, BoundProgramsLeaveConstants};
 
-use source_fits::named_names_are_all;
+use crate::source_fits::named_names_are_all;
 
 /// A law: a program that is bound fits, where its source is a resolved one and the values of its mesh text are of 32 bits.
 pub fn bound_programs_fit()

@@ -6,11 +6,15 @@
 
 mod binding;
 mod laws;
+pub mod main_text;
+pub mod source_fits;
 mod told;
 mod weights;
 
-pub use bind_refusals::{BindRefusal, Counted, first_is_answered};
+pub use crate::source_fits::{resolved_names_hold, resolved_sources_are, spelled_entries_fit};
 pub use binding::bind;
+pub use bound_program::refusals::{BindRefusal, Counted, first_is_answered};
+pub use bound_program::trace::{host_value, host_values_are_kernel_values};
 pub use bound_program::{
     Access, Act, Arg, AssignOp, Bound, Class, ElementForm, Item, Mesh, Name, Pos, RExpr, RKernel,
     Site, Text, Var, Via, class_of,
@@ -19,5 +23,3 @@ pub use laws::{
     bound_maps_are_narrow, bound_names_are_names, bound_programs_fit,
     bound_programs_leave_constants, refusals_have_causes,
 };
-pub use main_trace::{host_value, host_values_are_kernel_values};
-pub use source_fits::{resolved_names_hold, resolved_sources_are, spelled_entries_fit};

@@ -2,11 +2,11 @@
 
 ghost use Rattle.std.specs.Prelude.{◌≡◌, ◌∷◌, [], map, IfOk, OnOk};
 ghost use Rattle.bound_program.specs.Values.{var_of};
-ghost use Rattle.main_trace.specs.Unrolling.{told_of};
+ghost use Rattle.bound_program.specs.Unrolling.{told_of};
 ghost use Rattle.loop_bind.specs.Weights.{started, with_told};
 
 use bound_program::Var;
-use main_trace::Told;
+use bound_program::trace::Told;
 use mesh_decl::Values;
 use op_num::OutOfMemory;
 use std::alloc::Global;

@@ -2,15 +2,15 @@
 
 ghost use Rattle.std.specs.Prelude.{◌≡◌, ◌≤◌, ◌+◌, ◌*◌, ◌^◌, length, map, IfSome, IfNone, Err};
 ghost use Rattle.mesh_decl.specs.Mesh.{set_name, dat_name};
-ghost use Rattle.bind_refusals.specs.declared.refusals.BindRefusal.TheVariants.{OutOfMemory};
-ghost use Rattle.bind_refusals.specs.Refusals.{JudgesBy};
+ghost use Rattle.bound_program.specs.declared.refusals.refusals.BindRefusal.TheVariants.{OutOfMemory};
+ghost use Rattle.bound_program.specs.Refusals.{JudgesBy};
 ghost use Rattle.bound_program.specs.Values.{item_of};
 ghost use Rattle.loop_bind.specs.Weights.{line_weight, print_weight, weight, weight_of_all, within_weight};
 
-use bind_refusals::{BindRefusal, Counted};
+use crate::main_text::conversions;
+use bound_program::refusals::{BindRefusal, Counted};
 use bound_program::{Act, Item, MAX_WEIGHT};
-use main_names::{dat_shape, set_size};
-use main_text::conversions;
+use main_declarations::names::{dat_shape, set_size};
 use mesh_decl::Mesh;
 
 // How long the name of a dat is; 0 where there is none.

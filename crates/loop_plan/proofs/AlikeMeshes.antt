@@ -8,7 +8,7 @@ use Rattle.std.proofs.lemmas.Simd.{map-map}
 use Rattle.std.proofs.Math.Path.{fun_ext}
 use Rattle.rank_sets.specs.Below.{row}
 use Rattle.mesh_decl.specs.Mesh.{MeshValue, dat_set}
-use Rattle.halo_lists.specs.Values.{lists_of}
+use Rattle.local_mesh.specs.HaloValues.{lists_of}
 use Rattle.local_mesh.specs.declared.types.LocalSet.{LocalSet}
 use Rattle.local_mesh.specs.declared.types.RankMesh.{RankMesh}
 use Rattle.local_mesh.specs.LocalMesh.{originals_in, executed_in}

@@ -10,10 +10,10 @@ use Rattle.mesh_decl.specs.declared.owners.Owners.{Owners}
 use Rattle.mesh_decl.specs.declared.owners.Perms.{Perms}
 use Rattle.mesh_decl.specs.Owners.{AreOwners, ArePerms}
 use Rattle.mesh_decl.specs.Mesh.{MeshValue, set_count, set_size}
-use Rattle.halo_lists.specs.Halo.{owns, imports}
-use Rattle.halo_lists.specs.Halos.{IsSetHalo, AreHalos}
-use Rattle.halo_lists.specs.declared.types.SetHalo.{SetHalo}
-use Rattle.halo_lists.specs.declared.types.Halos.{Halos}
+use Rattle.local_mesh.specs.Halo.{owns, imports}
+use Rattle.local_mesh.specs.Halos.{IsSetHalo, AreHalos}
+use Rattle.local_mesh.specs.declared.halo_lists.types.SetHalo.{SetHalo}
+use Rattle.local_mesh.specs.declared.halo_lists.types.Halos.{Halos}
 use Rattle.local_mesh.specs.declared.types.RankMesh.{RankMesh}
 use Rattle.local_mesh.specs.LocalMesh.{AreRankMeshes}
 use Rattle.loop_plan.specs.Pairs.{sets_of, imports_from}

@@ -4,7 +4,7 @@ use Rattle.std.specs.Prelude.{◌||◌, slice_index}
 use Rattle.rank_sets.specs.Below.{listed}
 use Rattle.rank_sets.proofs.Below.{listed_agree}
 use Rattle.mesh_decl.specs.Mesh.{MeshValue, IsDatAt, set_size, dat_count, dat_set}
-use Rattle.halo_lists.specs.declared.types.Halos.{Halos}
+use Rattle.local_mesh.specs.declared.halo_lists.types.Halos.{Halos}
 use Rattle.local_mesh.specs.declared.types.RankMesh.{RankMesh}
 use Rattle.local_mesh.proofs.Grouping.{listed_within}
 use Rattle.bound_program.specs.Values.{ItemValue, Free, Reduce, Ordered, Host, BoundValue}

@@ -6,7 +6,7 @@ use Rattle.std.proofs.lemmas.List.{get_or_push, get_or_append_left, map-append, 
 use Rattle.rank_sets.specs.Below.{listed}
 use Rattle.rank_sets.proofs.Below.{listed_agree}
 use Rattle.mesh_decl.specs.Mesh.{dat_count}
-use Rattle.halo_lists.specs.declared.types.Halos.{Halos}
+use Rattle.local_mesh.specs.declared.halo_lists.types.Halos.{Halos}
 use Rattle.bound_program.specs.Values.{BoundValue}
 use Rattle.loop_plan.specs.declared.types.ItemPlan.{ItemPlan}
 use Rattle.loop_plan.specs.Values.{ItemPlanValue, item_plan_of, no_item_plan}

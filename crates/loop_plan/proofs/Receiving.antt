@@ -3,7 +3,7 @@ use Rattle.std.proofs.Common.{◌≡◌, ℕ, suc, ◌<◌, ◌≤◌, false, Li
 use Rattle.std.specs.Prelude.{◌||◌, nat_lt}
 use Rattle.rank_sets.specs.Below.{rows}
 use Rattle.mesh_decl.specs.Mesh.{MeshValue, IsDatAt, dat_count, dat_set}
-use Rattle.halo_lists.specs.declared.types.Halos.{Halos}
+use Rattle.local_mesh.specs.declared.halo_lists.types.Halos.{Halos}
 use Rattle.loop_plan.specs.Exports.{exports_in, is_some_exported, passes_by_exports, HaveExports, AreDats}
 use Rattle.loop_plan.proofs.Collecting.{row_past}
 

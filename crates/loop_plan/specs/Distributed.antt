@@ -4,8 +4,8 @@ use Rattle.mesh_decl.specs.Mesh.{MeshValue}
 use Rattle.mesh_decl.specs.declared.owners.Owners.{Owners}
 use Rattle.mesh_decl.specs.declared.owners.Perms.{Perms}
 use Rattle.mesh_decl.specs.Owners.{AreOwners, ArePerms}
-use Rattle.halo_lists.specs.declared.types.Halos.{Halos}
-use Rattle.halo_lists.specs.Halos.{AreHalos}
+use Rattle.local_mesh.specs.declared.halo_lists.types.Halos.{Halos}
+use Rattle.local_mesh.specs.Halos.{AreHalos}
 use Rattle.local_mesh.specs.declared.types.RankMesh.{RankMesh}
 use Rattle.local_mesh.specs.LocalMesh.{AreRankMeshes}
 

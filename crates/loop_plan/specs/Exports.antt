@@ -5,9 +5,9 @@ use Rattle.std.specs.List.{list_any}
 use Rattle.rank_sets.specs.declared.rank_set.RankSet.{RankSet}
 use Rattle.rank_sets.specs.Below.{row, rows}
 use Rattle.mesh_decl.specs.Mesh.{MeshValue, set_count, dat_count, dat_set}
-use Rattle.halo_lists.specs.declared.types.SetHalo.{SetHalo}
-use Rattle.halo_lists.specs.declared.types.Halos.{Halos}
-use Rattle.halo_lists.specs.Sets.{sets_in, has_in}
+use Rattle.local_mesh.specs.declared.halo_lists.types.SetHalo.{SetHalo}
+use Rattle.local_mesh.specs.declared.halo_lists.types.Halos.{Halos}
+use Rattle.local_mesh.specs.Sets.{sets_in, has_in}
 
 -- of a set, by owner and rank, the owner's elements that the rank imports
 unfoldable pub exports_in : Halos → ℕ → List (Vec (Vec ℕ Global) Global)

@@ -13,7 +13,7 @@ use crate::exchange::exchange_at;
 use crate::messages::{all_receivers, messages};
 use crate::types::ItemPlan;
 use bound_program::Bound;
-use halo_lists::Halos;
+use local_mesh::halo_lists::Halos;
 use op_num::OutOfMemory;
 use rank_sets::RankSet;
 use std::alloc::Global;

@@ -3,13 +3,13 @@ ghost use Rattle.std.specs.Prelude.{◌≡◌, ◌<◌, ◌≤◌, ◌&&◌, ◌
 ghost use Rattle.rank_sets.specs.Below.{listed, row, rows};
 ghost use Rattle.rank_sets.specs.RankSet.{has, has_at};
 ghost use Rattle.mesh_decl.specs.Mesh.{set_count};
-ghost use Rattle.halo_lists.specs.Sets.{sets_in, has_in};
+ghost use Rattle.local_mesh.specs.Sets.{sets_in, has_in};
 ghost use Rattle.loop_plan.specs.Pairs.{pair, pairs_below};
 ghost use Rattle.loop_plan.specs.Exports.{exports_in, is_some_exported, passes_by_exports, HaveExports, AreReceivers, AreDats};
 
 use crate::types::Pair;
 use bound_program::Mesh;
-use halo_lists::Halos;
+use local_mesh::halo_lists::Halos;
 use op_num::OutOfMemory;
 use rank_sets::RankSet;
 use std::alloc::Global;

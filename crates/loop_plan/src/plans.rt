@@ -14,8 +14,8 @@ use crate::items::item_plans;
 use crate::sites::site_plans;
 use crate::types::{ItemPlan, Plan, PlanRefusal};
 use bound_program::Bound;
-use halo_lists::Halos;
 use local_mesh::RankMesh;
+use local_mesh::halo_lists::Halos;
 use op_num::OutOfMemory;
 use std::alloc::{AllocError, Global};
 

@@ -3,7 +3,7 @@ ghost use Rattle.std.specs.Prelude.{◌≡◌, ℕ, ◌<◌, ◌+◌, ◌||◌, 
 ghost use Rattle.std.specs.Prelude.{IfOk, OnOk, length, slice_index, slice_index_or};
 ghost use Rattle.indexmap.specs.IndexMap.{get};
 ghost use Rattle.mesh_decl.specs.Mesh.{set_count};
-ghost use Rattle.halo_lists.specs.declared.types.Halos.{Halos};
+ghost use Rattle.local_mesh.specs.declared.halo_lists.types.Halos.{Halos};
 ghost use Rattle.local_mesh.specs.declared.types.RankMesh.{RankMesh as RankMeshValue};
 ghost use Rattle.colouring.specs.declared.types.Colours.{Colours as ColoursValue};
 ghost use Rattle.colouring.specs.Colours.{AreArgs, AreColours};

@@ -4,7 +4,7 @@ ghost use Rattle.std.specs.List.{flat_map};
 ghost use Rattle.std.specs.Fmt.{decimal};
 ghost use Rattle.texts.specs.Lines.{line_of, text_of_lines};
 ghost use Rattle.mesh_decl.specs.Mesh.{set_count, set_name, dat_name};
-ghost use Rattle.halo_lists.specs.declared.types.Halos.{Halos};
+ghost use Rattle.local_mesh.specs.declared.halo_lists.types.Halos.{Halos};
 ghost use Rattle.local_mesh.specs.LocalMesh.{originals_in, executed_in};
 ghost use Rattle.loop_plan.specs.Exports.{AreDats};
 ghost use Rattle.loop_plan.specs.Pairs.{own_in};

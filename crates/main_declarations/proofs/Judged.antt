@@ -3,12 +3,12 @@ use Rattle.std.proofs.Common.{◌≡◌, ◌<◌, ◌≤◌, ℕ, List, [], ◌�
 use Rattle.std.specs.Prelude.{IfNone, nat_lt, nat_eq}
 use Rattle.std.proofs.lemmas.Bool.{ltb-false, eqb-true, eqb-false}
 use Rattle.c_lex.specs.declared.tokens.Pos.{Pos}
-use Rattle.bind_refusals.specs.declared.refusals.BindRefusal.{BindRefusal}
-use Rattle.bind_refusals.specs.declared.refusals.Counted.{Counted}
-use Rattle.bind_refusals.specs.declared.founds.Turn.{Turn}
-use Rattle.bind_refusals.specs.declared.founds.Found.{Found}
-use Rattle.bind_refusals.specs.Refusals.{Judged, ◌>>=◌, unless, unless_found, first_of, found_in, found_over, found_if}
-use Rattle.bind_refusals.proofs.First.{answers}
+use Rattle.bound_program.specs.declared.refusals.refusals.BindRefusal.{BindRefusal}
+use Rattle.bound_program.specs.declared.refusals.refusals.Counted.{Counted}
+use Rattle.bound_program.specs.declared.refusals.founds.Turn.{Turn}
+use Rattle.bound_program.specs.declared.refusals.founds.Found.{Found}
+use Rattle.bound_program.specs.Refusals.{Judged, ◌>>=◌, unless, unless_found, first_of, found_in, found_over, found_if}
+use Rattle.bound_program.proofs.refusals.First.{answers}
 
 -- what is so of the value, where there is one
 abbrev pub Gives : {A : Type 0} → (A → Type 0) → Judged A → Type 0

@@ -9,15 +9,15 @@ use Rattle.c_tree.specs.Tree as tree
 use Rattle.c_tree.specs.Tree.{DeclrTree, TopTree}
 use Rattle.kernel_types.specs.declared.kernels.ConstDecl.{ConstDecl}
 use Rattle.mesh_decl.specs.Mesh.{set_count}
-use Rattle.mesh_text.specs.declared.entry.Entry.{Entry}
-use Rattle.mesh_text.specs.declared.entry.Entry.TheVariants.{One, Many}
-use Rattle.mesh_text.specs.Spelling.{Named}
-use Rattle.main_names.specs.declared.scopes.Meaning.{Meaning}
-use Rattle.main_names.specs.declared.scopes.Meaning.TheVariants as m
-use Rattle.main_names.specs.Names.{Names, Scope, named_in, known, declare, declare_in_file, closed}
-use Rattle.main_names.specs.Expressions.{judged_value}
-use Rattle.main_names.specs.Meanings.{set_of, count_of}
-use Rattle.main_names.specs.SoFar.{Declared, next_cells}
+use Rattle.mesh_decl.specs.declared.text.entry.Entry.{Entry}
+use Rattle.mesh_decl.specs.declared.text.entry.Entry.TheVariants.{One, Many}
+use Rattle.mesh_decl.specs.Spelling.{Named}
+use Rattle.main_declarations.specs.declared.names.scopes.Meaning.{Meaning}
+use Rattle.main_declarations.specs.declared.names.scopes.Meaning.TheVariants as m
+use Rattle.main_declarations.specs.Names.{Names, Scope, named_in, known, declare, declare_in_file, closed}
+use Rattle.main_declarations.specs.Expressions.{judged_value}
+use Rattle.main_declarations.specs.Meanings.{set_of, count_of}
+use Rattle.main_declarations.specs.SoFar.{Declared, next_cells}
 use Rattle.main_declarations.specs.File.{judged_extern, judged_array, judged_top, judged_tops}
 use Rattle.main_declarations.specs.KnownSets.{IsKnown, SetsKnown}
 use Rattle.main_declarations.specs.Variables.{with_file_value, judged_file_declr, judged_file_declrs}

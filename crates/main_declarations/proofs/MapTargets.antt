@@ -8,22 +8,22 @@ use Rattle.std.proofs.lemmas.Nat.{div-mul-add, mod-mul-add}
 use Rattle.c_lex.specs.declared.tokens.Pos.{Pos}
 use Rattle.c_tree.specs.declared.expressions.Ident.{Ident}
 use Rattle.c_tree.specs.declared.expressions.NumberLiteral.{NumberLiteral}
-use Rattle.mesh_text.specs.Spelling.{Named}
+use Rattle.mesh_decl.specs.Spelling.{Named}
 use Rattle.mesh_decl.specs.declared.decl.MapRefusal.{MapRefusal}
 use Rattle.mesh_decl.specs.declared.decl.MapRefusal.TheVariants.{Target, OutOfMemory}
 use Rattle.mesh_decl.specs.Mesh.{MeshValue, map_count, set_size, is_element, AreElements, IsFirstBad, RefusesTarget}
 use Rattle.bound_program.specs.Limits.{max_cells, max_dim, max_maps}
-use Rattle.bind_refusals.specs.declared.founds.Found.{Found}
-use Rattle.bind_refusals.specs.declared.founds.Turn.{Turn}
-use Rattle.bind_refusals.specs.declared.founds.Turn.TheVariants.{InOrder, SizeValue, MeshCells}
-use Rattle.bind_refusals.specs.declared.refusals.BindRefusal.{BindRefusal}
-use Rattle.bind_refusals.specs.declared.refusals.BindRefusal.TheVariants as refusal
-use Rattle.bind_refusals.specs.declared.refusals.Counted.TheVariants as counted
-use Rattle.bind_refusals.specs.Refusals.{place, is_before, earlier, least_from, first_of, unless_found, found_in, found_if, found_over}
-use Rattle.bind_refusals.proofs.Firsts.{least_append}
-use Rattle.main_names.specs.Names.{means}
-use Rattle.main_names.specs.Meanings.{array_of, count_of, or_none, or_zero, set_of}
-use Rattle.main_names.specs.SoFar.{Declared}
+use Rattle.bound_program.specs.declared.refusals.founds.Found.{Found}
+use Rattle.bound_program.specs.declared.refusals.founds.Turn.{Turn}
+use Rattle.bound_program.specs.declared.refusals.founds.Turn.TheVariants.{InOrder, SizeValue, MeshCells}
+use Rattle.bound_program.specs.declared.refusals.refusals.BindRefusal.{BindRefusal}
+use Rattle.bound_program.specs.declared.refusals.refusals.BindRefusal.TheVariants as refusal
+use Rattle.bound_program.specs.declared.refusals.refusals.Counted.TheVariants as counted
+use Rattle.bound_program.specs.Refusals.{place, is_before, earlier, least_from, first_of, unless_found, found_in, found_if, found_over}
+use Rattle.bound_program.proofs.refusals.Firsts.{least_append}
+use Rattle.main_declarations.specs.Names.{means}
+use Rattle.main_declarations.specs.Meanings.{array_of, count_of, or_none, or_zero, set_of}
+use Rattle.main_declarations.specs.SoFar.{Declared}
 use Rattle.main_declarations.specs.Declarations.{is_dim, awaited, first_stray, place_found, set_found, dim_found, data_found, target_found, stray_found, cells_found, map_decl_found}
 use Rattle.main_declarations.specs.Targets.{target_refusal, shape_decl_found, targets_found, strays_found}
 use Rattle.main_declarations.proofs.Judged.{nothing_found, left_nil, right_nil, not_in}

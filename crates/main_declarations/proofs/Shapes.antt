@@ -7,16 +7,16 @@ use Rattle.c_tree.specs.declared.expressions.Ident.{Ident}
 use Rattle.c_tree.specs.declared.expressions.NumberLiteral.{NumberLiteral}
 use Rattle.c_tree.specs.declared.expressions.TextLiteral.{TextLiteral}
 use Rattle.mesh_decl.specs.Mesh.{MeshValue, set_count, map_count, dat_count, set_size}
-use Rattle.mesh_text.specs.Spelling.{Named}
-use Rattle.bind_refusals.specs.declared.refusals.BindRefusal.TheVariants as refusal
-use Rattle.bind_refusals.specs.declared.refusals.Counted.TheVariants as counted
-use Rattle.bind_refusals.specs.declared.founds.Turn.TheVariants.{InOrder}
-use Rattle.bind_refusals.specs.Refusals.{first_of, found_if, found_over}
+use Rattle.mesh_decl.specs.Spelling.{Named}
+use Rattle.bound_program.specs.declared.refusals.refusals.BindRefusal.TheVariants as refusal
+use Rattle.bound_program.specs.declared.refusals.refusals.Counted.TheVariants as counted
+use Rattle.bound_program.specs.declared.refusals.founds.Turn.TheVariants.{InOrder}
+use Rattle.bound_program.specs.Refusals.{first_of, found_if, found_over}
 use Rattle.bound_program.specs.Limits.{max_dim, max_maps, max_dats}
-use Rattle.main_names.specs.declared.scopes.Meaning.{Meaning}
-use Rattle.main_names.specs.Names.{named_in, or_else, means}
-use Rattle.main_names.specs.SoFar.{Declared}
-use Rattle.main_names.specs.Meanings.{set_of, or_zero, or_none, count_of, array_of}
+use Rattle.main_declarations.specs.declared.names.scopes.Meaning.{Meaning}
+use Rattle.main_declarations.specs.Names.{named_in, or_else, means}
+use Rattle.main_declarations.specs.SoFar.{Declared}
+use Rattle.main_declarations.specs.Meanings.{set_of, or_zero, or_none, count_of, array_of}
 use Rattle.main_declarations.specs.Declarations.{is_dim, awaited, place_found, set_found, dim_found, type_found, data_found, cells_found, dat_decl_found}
 use Rattle.main_declarations.specs.KnownSets.{IsKnown, SetsKnown}
 use Rattle.main_declarations.specs.Targets.{shape_decl_found}

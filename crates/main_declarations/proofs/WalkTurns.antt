@@ -2,11 +2,11 @@
 use Rattle.std.proofs.Common.{◌≡◌, List, [], ◌∷◌, ◌++◌, refl, ap, ℕ, zero, suc, ◌<◌, ◌≤◌, map, length, get_or, set, Option, arith}
 use Rattle.c_lex.specs.declared.tokens.Pos.{Pos}
 use Rattle.bound_program.specs.declared.programs.Var.{Var}
-use Rattle.main_trace.specs.declared.steps.Step.{Step}
+use Rattle.bound_program.specs.declared.trace.steps.Step.{Step}
 use Rattle.bound_program.specs.Values.{var_of}
 use Rattle.main_declarations.specs.Variables.{with_constant}
-use Rattle.main_trace.specs.Steps.{MoreStep, followed, one_step}
-use Rattle.main_trace.specs.Unrolling.{step_of, steps_of}
+use Rattle.bound_program.specs.Steps.{MoreStep, followed, one_step}
+use Rattle.bound_program.specs.Unrolling.{step_of, steps_of}
 
 pub steps_push : (ss : List Step) (s : Step) → steps_of (ss ++ s ∷ []) ≡ followed (steps_of ss) (one_step (step_of s))
 steps_push [] s = refl

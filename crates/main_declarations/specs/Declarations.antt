@@ -8,19 +8,19 @@ use Rattle.c_tree.specs.declared.expressions.TextLiteral.{TextLiteral}
 use Rattle.c_tree.specs.Tree.{ExprTree}
 use Rattle.kernel_model.specs.Numbers.{Value}
 use Rattle.mesh_decl.specs.Mesh.{MeshValue, set_count, map_count, dat_count, set_size, is_element}
-use Rattle.bind_refusals.specs.declared.refusals.BindRefusal.TheVariants as refusal
-use Rattle.bind_refusals.specs.declared.refusals.Counted.TheVariants as counted
-use Rattle.main_names.specs.declared.scopes.Meaning.TheVariants.{Set, Map, Dat}
-use Rattle.mesh_text.specs.Spelling.{Named}
-use Rattle.main_names.specs.Names.{means, declare}
+use Rattle.bound_program.specs.declared.refusals.refusals.BindRefusal.TheVariants as refusal
+use Rattle.bound_program.specs.declared.refusals.refusals.Counted.TheVariants as counted
+use Rattle.main_declarations.specs.declared.names.scopes.Meaning.TheVariants.{Set, Map, Dat}
+use Rattle.mesh_decl.specs.Spelling.{Named}
+use Rattle.main_declarations.specs.Names.{means, declare}
 use Rattle.bound_program.specs.HostExpr.{value, is_static}
-use Rattle.bind_refusals.specs.Refusals.{place, Judged, unless_found, found_in, found_over, found_if}
-use Rattle.main_names.specs.Expressions.{first_token, resolved}
-use Rattle.bind_refusals.specs.declared.founds.Turn.TheVariants.{InOrder, SizeValue, MeshCells}
-use Rattle.bind_refusals.specs.declared.founds.Found.{Found}
+use Rattle.bound_program.specs.Refusals.{place, Judged, unless_found, found_in, found_over, found_if}
+use Rattle.main_declarations.specs.Expressions.{first_token, resolved}
+use Rattle.bound_program.specs.declared.refusals.founds.Turn.TheVariants.{InOrder, SizeValue, MeshCells}
+use Rattle.bound_program.specs.declared.refusals.founds.Found.{Found}
 use Rattle.bound_program.specs.Limits.{max_sets, max_maps, max_dats, max_size, max_dim, max_cells}
-use Rattle.main_names.specs.Meanings.{array_of, count_of, or_none, or_zero, set_of}
-use Rattle.main_names.specs.SoFar.{Declared}
+use Rattle.main_declarations.specs.Meanings.{array_of, count_of, or_none, or_zero, set_of}
+use Rattle.main_declarations.specs.SoFar.{Declared}
 
 -- ---- sizes
 

@@ -6,13 +6,13 @@ use Rattle.c_tree.specs.declared.expressions.Ident.{Ident}
 use Rattle.c_tree.specs.Tree as tree
 use Rattle.c_tree.specs.Tree.{ExprTree, PlaceTree, AssignmentTree, TopTree, OpCallTree, HostTree, HostTrees, HostForHeaderTree}
 use Rattle.kernel_types.specs.declared.kernels.ConstDecl.{ConstDecl}
-use Rattle.mesh_text.specs.declared.entry.Entry.{Entry}
-use Rattle.mesh_text.specs.declared.entry.Entry.TheVariants.{One, Many}
-use Rattle.mesh_text.specs.Spelling.{Named}
-use Rattle.bind_refusals.specs.declared.refusals.BindRefusal.TheVariants as refusal
-use Rattle.main_names.specs.declared.scopes.Meaning.TheVariants.{Extern, ExternArray, Kernel}
-use Rattle.bind_refusals.specs.Refusals.{place, Judged, ◌>>=◌}
-use Rattle.main_names.specs.SoFar.{Declared, with_file_name}
+use Rattle.mesh_decl.specs.declared.text.entry.Entry.{Entry}
+use Rattle.mesh_decl.specs.declared.text.entry.Entry.TheVariants.{One, Many}
+use Rattle.mesh_decl.specs.Spelling.{Named}
+use Rattle.bound_program.specs.declared.refusals.refusals.BindRefusal.TheVariants as refusal
+use Rattle.main_declarations.specs.declared.names.scopes.Meaning.TheVariants.{Extern, ExternArray, Kernel}
+use Rattle.bound_program.specs.Refusals.{place, Judged, ◌>>=◌}
+use Rattle.main_declarations.specs.SoFar.{Declared, with_file_name}
 use Rattle.main_declarations.specs.Variables.{judged_file_declrs}
 
 module _ (places : List Pos) (consts : List ConstDecl) (entries : List Named) where

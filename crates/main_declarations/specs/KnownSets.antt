@@ -1,9 +1,9 @@
 -- The sets that names stand for are those of the mesh.
 use Rattle.std.specs.Prelude.{ℕ, ◌<◌, List, All, Some, IfSome}
 use Rattle.mesh_decl.specs.Mesh.{set_count}
-use Rattle.main_names.specs.declared.scopes.Meaning.{Meaning}
-use Rattle.main_names.specs.Meanings.{set_of}
-use Rattle.main_names.specs.SoFar.{Declared}
+use Rattle.main_declarations.specs.declared.names.scopes.Meaning.{Meaning}
+use Rattle.main_declarations.specs.Meanings.{set_of}
+use Rattle.main_declarations.specs.SoFar.{Declared}
 
 -- the meaning is none of a set, or of one of the first n
 abbrev pub IsKnown : ℕ → Meaning → Type 0

@@ -3,3 +3,8 @@ pub mod Variables
 pub mod File
 pub mod Targets
 pub mod KnownSets
+pub mod Names
+pub mod Meanings
+pub mod Expressions
+pub mod SoFar
+pub mod Walks

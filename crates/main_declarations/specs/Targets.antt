@@ -3,20 +3,20 @@ use Rattle.std.specs.Prelude.{ℕ, suc, ◌+◌, Bool, List, ◌++◌, length}
 use Rattle.c_lex.specs.declared.tokens.Pos.{Pos}
 use Rattle.c_tree.specs.declared.expressions.Ident.{Ident}
 use Rattle.c_tree.specs.declared.expressions.NumberLiteral.{NumberLiteral}
-use Rattle.mesh_text.specs.Spelling.{Named}
+use Rattle.mesh_decl.specs.Spelling.{Named}
 use Rattle.mesh_decl.specs.declared.decl.MapRefusal.{MapRefusal}
 use Rattle.mesh_decl.specs.declared.decl.MapRefusal.TheVariants.{Target, OutOfMemory}
 use Rattle.mesh_decl.specs.Mesh.{map_count, set_size}
-use Rattle.bind_refusals.specs.declared.founds.Found.{Found}
-use Rattle.bind_refusals.specs.declared.founds.Turn.TheVariants.{InOrder}
-use Rattle.bind_refusals.specs.declared.refusals.BindRefusal.{BindRefusal}
-use Rattle.bind_refusals.specs.declared.refusals.BindRefusal.TheVariants as refusal
-use Rattle.bind_refusals.specs.declared.refusals.Counted.TheVariants as counted
-use Rattle.bind_refusals.specs.Refusals.{place, found_over}
+use Rattle.bound_program.specs.declared.refusals.founds.Found.{Found}
+use Rattle.bound_program.specs.declared.refusals.founds.Turn.TheVariants.{InOrder}
+use Rattle.bound_program.specs.declared.refusals.refusals.BindRefusal.{BindRefusal}
+use Rattle.bound_program.specs.declared.refusals.refusals.BindRefusal.TheVariants as refusal
+use Rattle.bound_program.specs.declared.refusals.refusals.Counted.TheVariants as counted
+use Rattle.bound_program.specs.Refusals.{place, found_over}
 use Rattle.bound_program.specs.Limits.{max_maps}
-use Rattle.main_names.specs.Names.{means}
-use Rattle.main_names.specs.Meanings.{array_of, count_of, or_none, or_zero, set_of}
-use Rattle.main_names.specs.SoFar.{Declared}
+use Rattle.main_declarations.specs.Names.{means}
+use Rattle.main_declarations.specs.Meanings.{array_of, count_of, or_none, or_zero, set_of}
+use Rattle.main_declarations.specs.SoFar.{Declared}
 use Rattle.main_declarations.specs.Declarations.{awaited, first_stray, place_found, set_found, dim_found, data_found, target_found}
 use Rattle.main_declarations.specs.Declarations.{stray_found, cells_found}
 

@@ -10,20 +10,20 @@ use Rattle.c_tree.specs.declared.expressions.TextLiteral.{TextLiteral}
 use Rattle.c_tree.specs.declared.hosts.GlobalName.{GlobalName}
 use Rattle.c_tree.specs.Tree.{ExprTree, DeclrTree, Plain, Init, Array}
 use Rattle.kernel_types.specs.declared.kernels.ConstDecl.{ConstDecl}
-use Rattle.bind_refusals.specs.declared.refusals.BindRefusal.TheVariants as refusal
-use Rattle.main_names.specs.declared.walks.Spot.{Spot}
+use Rattle.bound_program.specs.declared.refusals.refusals.BindRefusal.TheVariants as refusal
+use Rattle.main_declarations.specs.declared.names.walks.Spot.{Spot}
 use Rattle.bound_program.specs.Values.{VarValue, ActValue, Clear, Assign}
-use Rattle.main_names.specs.declared.scopes.Cells.{Cells}
-use Rattle.main_names.specs.declared.scopes.Meaning.{Meaning}
-use Rattle.main_names.specs.declared.scopes.Meaning.TheVariants.{Variable, Fixed, FixedLater, Turning}
-use Rattle.main_names.specs.Names.{means, told_later}
-use Rattle.main_trace.specs.Steps.{Do, Fix}
-use Rattle.bind_refusals.specs.Refusals.{place, Judged, ◌>>=◌, unless_found, found_if}
-use Rattle.main_names.specs.Expressions.{resolved, judged_static, judged_value}
-use Rattle.bind_refusals.specs.declared.founds.Found.{Found}
-use Rattle.main_names.specs.SoFar.{Declared, Walked, does, behind, next_cells, with_var, with_name, with_file_name, changing, unchanging}
-use Rattle.main_names.specs.SoFar.{first_cell}
-use Rattle.main_names.specs.Meanings.{count_of}
+use Rattle.main_declarations.specs.declared.names.scopes.Cells.{Cells}
+use Rattle.main_declarations.specs.declared.names.scopes.Meaning.{Meaning}
+use Rattle.main_declarations.specs.declared.names.scopes.Meaning.TheVariants.{Variable, Fixed, FixedLater, Turning}
+use Rattle.main_declarations.specs.Names.{means, told_later}
+use Rattle.bound_program.specs.Steps.{Do, Fix}
+use Rattle.bound_program.specs.Refusals.{place, Judged, ◌>>=◌, unless_found, found_if}
+use Rattle.main_declarations.specs.Expressions.{resolved, judged_static, judged_value}
+use Rattle.bound_program.specs.declared.refusals.founds.Found.{Found}
+use Rattle.main_declarations.specs.SoFar.{Declared, Walked, does, behind, next_cells, with_var, with_name, with_file_name, changing, unchanging}
+use Rattle.main_declarations.specs.SoFar.{first_cell}
+use Rattle.main_declarations.specs.Meanings.{count_of}
 use Rattle.main_declarations.specs.Declarations.{place_found, type_found}
 
 module _ (places : List Pos) where

@@ -2,16 +2,16 @@
 
 ghost use Rattle.std.specs.Prelude.{◌≡◌, map};
 ghost use Rattle.bound_program.specs.Values.{var_of};
-ghost use Rattle.bind_refusals.specs.Refusals.{least_from, first_of, Judges};
+ghost use Rattle.bound_program.specs.Refusals.{least_from, first_of, Judges};
 ghost use Rattle.main_declarations.specs.Variables.{glob_token, is_wrong_ampersand, ampersand_found, file_cells, constant_found};
 ghost use Rattle.main_declarations.specs.Variables.{constant_decl_found, with_constant, after_constant, judged_constant};
-ghost use Rattle.main_names.specs.Walks.{declared_of};
+ghost use Rattle.main_declarations.specs.Walks.{declared_of};
 
 use crate::mesh_notes::{note_place, note_type};
-use bind_refusals::{BindRefusal, Found, note_if, place};
+use crate::names::{Cells, Declared, Meaning, Source};
 use bound_program::Var;
+use bound_program::refusals::{BindRefusal, Found, note_if, place};
 use c_tree::{GlobalName, NumberLiteral, TextLiteral};
-use main_names::{Cells, Declared, Meaning, Source};
 use op_num::Name;
 
 /// The first token of a global.
@@ -65,7 +65,7 @@ fn file_cells(source: &Source<'_>, meaning: Option<Meaning>) -> Option<Cells>
 }
 
 // Notes what is wrong with the variable and the dim of a constant.
-#[tactic(auto, using(bind_refusals::proofs::Firsts::least_append))]
+#[tactic(auto, using(bound_program::proofs::refusals::Firsts::least_append))]
 fn note_constant(
     source: &Source<'_>,
     first: &mut Option<Found>,
@@ -93,7 +93,7 @@ fn note_constant(
 }
 
 // The first of what is wrong with the declaration of a constant.
-#[tactic(auto, using(bind_refusals::proofs::Firsts::first_of_three))]
+#[tactic(auto, using(bound_program::proofs::refusals::Firsts::first_of_three))]
 fn first_in_constant(
     source: &Source<'_>,
     k: &Declared,

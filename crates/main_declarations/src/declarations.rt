@@ -3,22 +3,22 @@
 ghost use Rattle.std.specs.Prelude.{◌≡◌, false, length, map, OnOk};
 ghost use Rattle.c_tree.specs.View.{expr_of, declr_of};
 ghost use Rattle.bound_program.specs.Values.{act_of, Clear};
-ghost use Rattle.main_trace.specs.Steps.{Do, followed, one_step};
-ghost use Rattle.main_names.specs.SoFar.{does, behind};
+ghost use Rattle.bound_program.specs.Steps.{Do, followed, one_step};
+ghost use Rattle.main_declarations.specs.SoFar.{does, behind};
 ghost use Rattle.main_declarations.specs.Variables.{with_fixed, with_fixed_later, with_turning, const_at, with_changing, initializer};
 ghost use Rattle.main_declarations.specs.Variables.{judged_declr, judged_declrs};
-ghost use Rattle.main_trace.specs.Unrolling.{step_of, steps_of};
-ghost use Rattle.main_names.specs.Walks.{declared_of, walked};
-ghost use Rattle.bind_refusals.specs.Refusals.{Judges};
+ghost use Rattle.bound_program.specs.Unrolling.{step_of, steps_of};
+ghost use Rattle.main_declarations.specs.Walks.{declared_of, walked};
+ghost use Rattle.bound_program.specs.Refusals.{Judges};
 
-use bind_refusals::{BindRefusal, place};
-use bound_program::Act;
-use c_tree::{AssignOp, Declr, Expr, Ident};
-use main_names::{
+use crate::names::{
     Declared, Meaning, Source, Spot, changing, judged_static, judged_value, resolved, unchanging,
     zeros,
 };
-use main_trace::Step;
+use bound_program::Act;
+use bound_program::refusals::{BindRefusal, place};
+use bound_program::trace::Step;
+use c_tree::{AssignOp, Declr, Expr, Ident};
 use op_num::{Name, OutOfMemory};
 use std::alloc::Global;
 

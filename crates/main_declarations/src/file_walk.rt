@@ -3,17 +3,17 @@
 ghost use Rattle.std.specs.Prelude.{◌≡◌, suc, pos, true, length, replicate, map, OnOk};
 ghost use Rattle.c_tree.specs.Tree.{Extern, ExternArray};
 ghost use Rattle.c_tree.specs.View.{declr_of, top_of};
-ghost use Rattle.main_names.specs.declared.scopes.Meaning.TheVariants.{Variable};
-ghost use Rattle.main_names.specs.SoFar.{next_cells, with_var, with_file_name, changing};
+ghost use Rattle.main_declarations.specs.declared.names.scopes.Meaning.TheVariants.{Variable};
+ghost use Rattle.main_declarations.specs.SoFar.{next_cells, with_var, with_file_name, changing};
 ghost use Rattle.main_declarations.specs.Variables.{with_file_value, judged_file_declr, judged_file_declrs};
 ghost use Rattle.main_declarations.specs.File.{judged_top, judged_tops};
 ghost use Rattle.main_declarations.specs.KnownSets.{SetsKnown};
-ghost use Rattle.main_names.specs.Walks.{declared_of};
-ghost use Rattle.bind_refusals.specs.Refusals.{Judges};
+ghost use Rattle.main_declarations.specs.Walks.{declared_of};
+ghost use Rattle.bound_program.specs.Refusals.{Judges};
 
-use bind_refusals::{BindRefusal, place};
+use crate::names::{Declared, Meaning, Source, changing, judged_value, unchanging, zeros};
+use bound_program::refusals::{BindRefusal, place};
 use c_tree::{Declr, Ident, Kernel, Top};
-use main_names::{Declared, Meaning, Source, changing, judged_value, unchanging, zeros};
 use mesh_decl::Entry;
 use op_num::{Name, OutOfMemory};
 use std::alloc::{AllocError, Global};

@@ -8,6 +8,7 @@ mod file_walk;
 mod map_walk;
 mod mesh_notes;
 mod mesh_walk;
+pub mod names;
 
 pub use constants::{glob_token, judged_constant, note_ampersand};
 pub use declarations::{add_act, add_step, judged_declrs, with_turning};

@@ -4,27 +4,27 @@
 ghost use Rattle.std.specs.Prelude.{◌≡◌, ◌<◌, ◌+◌, ◌*◌, length, Some, None, IfOk, OnOk};
 ghost use Rattle.std.specs.Option.{option_or};
 ghost use Rattle.mesh_decl.specs.Mesh.{set_count, map_count, set_size};
-ghost use Rattle.main_names.specs.Names.{declare};
-ghost use Rattle.bind_refusals.specs.Refusals.{least_from, first_of, unless_found, Judges};
+ghost use Rattle.main_declarations.specs.Names.{declare};
+ghost use Rattle.bound_program.specs.Refusals.{least_from, first_of, unless_found, Judges};
 ghost use Rattle.main_declarations.specs.Declarations.{with_map, first_stray, stray_found, map_decl_found, judged_map};
 ghost use Rattle.main_declarations.specs.KnownSets.{SetsKnown};
 ghost use Rattle.main_declarations.specs.Targets.{target_refusal, shape_found, shape_decl_found, targets_found, strays_found};
-ghost use Rattle.main_names.specs.Walks.{declared_of};
+ghost use Rattle.main_declarations.specs.Walks.{declared_of};
 
 use crate::mesh_notes::{
     awaited, note_cells, note_data, note_dim, note_place, note_set, note_targets,
 };
-use bind_refusals::{BindRefusal, Counted, Found, Turn, note_over, place};
-use bound_program::MAX_MAPS;
-use c_tree::{Ident, NumberLiteral};
-use main_names::{
+use crate::names::{
     Declared, Meaning, Source, is_extern_array, known, or_zero, set_of, values_named,
 };
+use bound_program::MAX_MAPS;
+use bound_program::refusals::{BindRefusal, Counted, Found, Turn, note_over, place};
+use c_tree::{Ident, NumberLiteral};
 use mesh_decl::MapRefusal;
 use op_num::{Name, OutOfMemory};
 
 // Notes what is wrong with a map between these sets, with these values, its targets aside.
-#[tactic(auto, using(bind_refusals::proofs::Firsts::least_append))]
+#[tactic(auto, using(bound_program::proofs::refusals::Firsts::least_append))]
 fn note_shape(
     source: &Source<'_>,
     first: &mut Option<Found>,
@@ -56,7 +56,7 @@ fn note_shape(
 }
 
 // The first of what is wrong with the declaration of a map, its targets aside.
-#[tactic(auto, using(bind_refusals::proofs::Firsts::first_of_three))]
+#[tactic(auto, using(bound_program::proofs::refusals::Firsts::first_of_three))]
 fn first_in_shape(
     source: &Source<'_>,
     k: &Declared,

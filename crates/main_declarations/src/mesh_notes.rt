@@ -6,17 +6,19 @@ ghost use Rattle.c_tree.specs.View.{expr_of};
 ghost use Rattle.mesh_decl.specs.Mesh.{set_size, is_element as is_element_of};
 ghost use Rattle.kernel_types.specs.View.{rexpr_of};
 ghost use Rattle.bound_program.specs.HostExpr.{value, is_static};
-ghost use Rattle.bind_refusals.specs.Refusals.{least_from};
-ghost use Rattle.main_names.specs.Meanings.{array_if};
+ghost use Rattle.bound_program.specs.Refusals.{least_from};
+ghost use Rattle.main_declarations.specs.Meanings.{array_if};
 ghost use Rattle.main_declarations.specs.Declarations.{awaited, are_awaited, is_dim, first_stray, place_found, set_found, dim_found};
 ghost use Rattle.main_declarations.specs.Declarations.{type_found, data_found, stray_found, target_found, cells_found, value_found};
-ghost use Rattle.main_names.specs.Walks.{declared_of};
+ghost use Rattle.main_declarations.specs.Walks.{declared_of};
 
-use bind_refusals::{BindRefusal, Counted, Found, Turn, note_if, note_in, note_over, place};
+use crate::names::{Declared, Source, set_of, set_size};
+use bound_program::refusals::{
+    BindRefusal, Counted, Found, Turn, note_if, note_in, note_over, place,
+};
 use bound_program::{MAX_CELLS, MAX_DIM, MAX_SIZE};
 use c_tree::{Ident, NumberLiteral, TextLiteral};
 use kernel_types::KernelFault;
-use main_names::{Declared, Source, set_of, set_size};
 use mesh_decl::{Entries, Entry, Mesh};
 use op_num::{Name, OutOfMemory, Text};
 use std::alloc::AllocError;
@@ -70,7 +72,7 @@ pub fn note_set(source: &Source<'_>, first: &mut Option<Found>, k: &Declared, x:
 }
 
 /// Notes a dim that is 0 or above its limit.
-#[tactic(auto, using(bind_refusals::proofs::Firsts::least_append))]
+#[tactic(auto, using(bound_program::proofs::refusals::Firsts::least_append))]
 pub fn note_dim(source: &Source<'_>, first: &mut Option<Found>, n: NumberLiteral)
     ensures { first.new ≡ least_from first.old (dim_found source.now.places.now n) }
 {
@@ -251,7 +253,7 @@ pub fn note_cells(
 }
 
 /// Notes what is wrong with the value of a size.
-#[tactic(auto, using(bind_refusals::proofs::Firsts::least_append))]
+#[tactic(auto, using(bound_program::proofs::refusals::Firsts::least_append))]
 pub fn note_value(
     source: &Source<'_>,
     first: &mut Option<Found>,

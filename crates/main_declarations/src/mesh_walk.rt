@@ -4,26 +4,26 @@ ghost use Rattle.std.specs.Prelude.{◌≡◌, ◌<◌, ◌+◌, ◌*◌, length
 ghost use Rattle.c_tree.specs.View.{expr_of};
 ghost use Rattle.mesh_decl.specs.Mesh.{set_count, dat_count, set_size};
 ghost use Rattle.kernel_types.specs.View.{rexpr_of};
-ghost use Rattle.main_names.specs.Names.{declare};
-ghost use Rattle.bind_refusals.specs.Refusals.{least_from, first_of, Judges};
-ghost use Rattle.main_names.specs.Expressions.{resolved};
+ghost use Rattle.main_declarations.specs.Names.{declare};
+ghost use Rattle.bound_program.specs.Refusals.{least_from, first_of, Judges};
+ghost use Rattle.main_declarations.specs.Expressions.{resolved};
 ghost use Rattle.main_declarations.specs.Declarations.{with_set, with_dat, size_found, size_of, set_decl_found};
 ghost use Rattle.main_declarations.specs.Declarations.{dat_found, dat_decl_found, judged_set, judged_dat};
 ghost use Rattle.main_declarations.specs.KnownSets.{SetsKnown};
-ghost use Rattle.main_names.specs.Walks.{declared_of};
+ghost use Rattle.main_declarations.specs.Walks.{declared_of};
 
 use crate::mesh_notes::{
     awaited, note_cells, note_data, note_dim, note_place, note_set, note_type, note_value,
 };
-use bind_refusals::{BindRefusal, Counted, Found, Turn, note_if, note_over, place};
-use bound_program::{MAX_DATS, MAX_SETS};
-use c_tree::{Expr, Ident, NumberLiteral, TextLiteral};
-use kernel_types::{KernelFault, RExpr};
-use main_names::{
+use crate::names::{
     Declared, Meaning, Source, first_token, is_extern_array, is_static, known, or_zero, resolved,
     set_of, values_named,
 };
-use main_trace::host_value;
+use bound_program::refusals::{BindRefusal, Counted, Found, Turn, note_if, note_over, place};
+use bound_program::trace::host_value;
+use bound_program::{MAX_DATS, MAX_SETS};
+use c_tree::{Expr, Ident, NumberLiteral, TextLiteral};
+use kernel_types::{KernelFault, RExpr};
 use op_num::OutOfMemory;
 use std::alloc::AllocError;
 
@@ -78,7 +78,7 @@ fn add_set(k: &mut Declared, x: &Ident, size: u32) -> Result<(), OutOfMemory>
 }
 
 // The first of what is wrong with the declaration of a set.
-#[tactic(auto, using(bind_refusals::proofs::Firsts::first_of_three))]
+#[tactic(auto, using(bound_program::proofs::refusals::Firsts::first_of_three))]
 fn first_in_set(
     source: &Source<'_>,
     k: &Declared,
@@ -126,7 +126,7 @@ pub fn judged_set(
 }
 
 // Notes what is wrong with a dat on this set, with these values.
-#[tactic(auto, using(bind_refusals::proofs::Firsts::least_append))]
+#[tactic(auto, using(bound_program::proofs::refusals::Firsts::least_append))]
 fn note_dat(
     source: &Source<'_>,
     first: &mut Option<Found>,
@@ -186,7 +186,7 @@ fn add_dat(
 }
 
 // The first of what is wrong with the declaration of a dat.
-#[tactic(auto, using(bind_refusals::proofs::Firsts::first_of_three))]
+#[tactic(auto, using(bound_program::proofs::refusals::Firsts::first_of_three))]
 fn first_in_dat(
     source: &Source<'_>,
     k: &Declared,

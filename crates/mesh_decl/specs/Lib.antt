@@ -2,3 +2,9 @@ pub mod Mesh
 pub mod Owners
 pub mod Printed
 pub mod Named
+pub mod Token
+pub mod Piece
+pub mod Spelling
+pub mod Reading
+pub mod Answered
+pub mod Canonical

@@ -1,5 +1,5 @@
 // What a mesh holds.
-use mesh_text::Values;
+use crate::text::Values;
 use op_num::Name;
 use std::alloc::AllocFailed;
 use thiserror::Error;

@@ -11,16 +11,17 @@ mod mesh;
 mod named;
 mod numbers;
 mod owners;
+pub mod text;
 
+pub use crate::text::{
+    Entries, Entry, Form, MESH_BYTES, MESH_VALUES, MeshRefusal, Values, one_spelling,
+    read_can_be_written, read_mesh, write_mesh, written_is_spelled,
+};
 pub use access::Via;
 pub use decl::{DatDecl, MapDecl, MapRefusal, SetDecl};
 pub use laws::declarations_hold;
 pub use mesh::Mesh;
-pub use mesh_text::{
-    Entries, Entry, Form, MESH_BYTES, MESH_VALUES, MeshRefusal, Values, one_spelling,
-    read_can_be_written, read_mesh, write_mesh, written_is_spelled,
-};
 pub use named::one_named;
 pub use numbers::Numbers;
+pub use op_num::reductions::Access;
 pub use owners::{Owners, Perms};
-pub use reductions::Access;

@@ -7,7 +7,7 @@ ghost use Rattle.mesh_decl.specs.Mesh.{target, dat_set, dat_dim, dat_name, dat_v
 ghost use Rattle.mesh_decl.specs.Mesh.{IsDatAt, IsInRange, IsFirstBad, RefusesTarget};
 
 use crate::decl::{DatDecl, MapDecl, MapRefusal, SetDecl};
-use mesh_text::Values;
+use crate::text::Values;
 use op_num::{Name, OutOfMemory};
 use std::alloc::{AllocError, Global};
 use std::marker::Model;

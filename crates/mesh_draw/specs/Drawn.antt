@@ -9,14 +9,14 @@ use Rattle.cell_numbers.specs.declared.types.Shown.TheVariants as shown
 use Rattle.cell_numbers.specs.declared.types.ShownRefusal.TheVariants as unshown
 use Rattle.cell_numbers.specs.Numbers.{shown_text}
 use Rattle.cell_numbers.specs.Shown.{AreNumbers, IsThere, IsNotThere}
-use Rattle.cell_shapes.specs.declared.shape.Shape.{Shape}
-use Rattle.cell_shapes.specs.Shapes.{IsShape, IsUnshaped}
-use Rattle.cell_picture.specs.Picture.{IsPicture}
-use Rattle.cell_vtk.specs.declared.field.Field.{Field}
-use Rattle.cell_vtk.specs.Text.{Data, whole_text}
-use Rattle.output_fields.specs.declared.refusals.FieldRefusal.{FieldRefusal}
-use Rattle.output_fields.specs.declared.refusals.FieldRefusal.TheVariants as unread
-use Rattle.output_fields.specs.Fields.{AreFields, HaveNoFields}
+use Rattle.mesh_draw.specs.declared.shapes.shape.Shape.{Shape}
+use Rattle.mesh_draw.specs.Shapes.{IsShape, IsUnshaped}
+use Rattle.mesh_draw.specs.Picture.{IsPicture}
+use Rattle.mesh_draw.specs.declared.vtk.field.Field.{Field}
+use Rattle.mesh_draw.specs.Text.{Data, whole_text}
+use Rattle.mesh_draw.specs.declared.fields.refusals.FieldRefusal.{FieldRefusal}
+use Rattle.mesh_draw.specs.declared.fields.refusals.FieldRefusal.TheVariants as unread
+use Rattle.mesh_draw.specs.Fields.{AreFields, HaveNoFields}
 use Rattle.mesh_draw.specs.declared.types.DrawRefusal.{DrawRefusal}
 use Rattle.mesh_draw.specs.declared.types.DrawRefusal.TheVariants as refusal
 use Rattle.mesh_draw.specs.Fills.{fills_of, labels_of}

@@ -1,2 +1,10 @@
 pub mod Fills
 pub mod Drawn
+pub mod Shapes
+pub mod Colours
+pub mod Frame
+pub mod Picture
+pub mod Text
+pub mod Values
+pub mod Numbers
+pub mod Fields

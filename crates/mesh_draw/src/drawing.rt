@@ -7,11 +7,11 @@ ghost use Rattle.mesh_draw.specs.Drawn.{IsPlaneShape, IsNotPlane, IsDrawn, IsUnd
 
 use crate::fills::fills_of;
 use crate::labels::{labels_of, title_of};
+use crate::picture::picture;
+use crate::shapes::{Shape, shape_of};
 use crate::types::DrawRefusal;
 use bound_program::{Bound, Mesh};
 use cell_numbers::{Shown, numbers_of};
-use cell_picture::picture;
-use cell_shapes::{Shape, shape_of};
 use distribute::Distribution;
 use loop_plan::Plan;
 use std::alloc::Global;

@@ -1,14 +1,14 @@
 // The colours of cells by their numbers.
 ghost use Rattle.std.specs.Prelude.{◌≡◌, ◌<◌, ◌⊎◌, All, IfOk, IfErr, IfSome, IfNone, ◌≤◌};
 ghost use Rattle.cell_numbers.specs.declared.types.ShownRefusal.TheVariants.{OutOfMemory as NoMemory};
-ghost use Rattle.cell_picture.specs.Picture.{IsColour};
+ghost use Rattle.mesh_draw.specs.Picture.{IsColour};
 ghost use Rattle.mesh_draw.specs.declared.types.DrawRefusal.{DrawRefusal as Refusal};
 ghost use Rattle.mesh_draw.specs.Drawn.{HasManyColours};
 ghost use Rattle.mesh_draw.specs.Fills.{fill_of, fills_of};
 
+use crate::picture::COLOUR_COUNT;
 use crate::types::DrawRefusal;
 use cell_numbers::Shown;
-use cell_picture::COLOUR_COUNT;
 use std::alloc::Global;
 
 // The number of the colour of a cell with this number.

@@ -7,15 +7,15 @@ ghost use Rattle.cell_numbers.specs.Numbers.{shown_text};
 ghost use Rattle.cell_numbers.specs.Shown.{IsOnRanks};
 ghost use Rattle.mesh_draw.specs.Drawn.{array_name, AreRunFields, AreUntold, IsGrid, IsNoGrid};
 
+use crate::fields::fields_of;
+use crate::shapes::shape_of;
 use crate::types::DrawRefusal;
+use crate::vtk::{Field, GridData, vtk_text};
 use bound_program::Bound;
 use cell_numbers::{Shown, numbers_of, put_shown};
-use cell_shapes::shape_of;
-use cell_vtk::{Field, GridData, vtk_text};
 use distribute::Distribution;
 use loop_plan::Plan;
 use op_num::OutOfMemory;
-use output_fields::fields_of;
 use std::alloc::Global;
 
 // The title.

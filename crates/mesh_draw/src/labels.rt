@@ -1,12 +1,12 @@
 // Legends and titles.
 ghost use Rattle.std.specs.Prelude.{◌≡◌, ◌+◌, ◌<◌, ◌≤◌, ◌++◌, max, All, map, length, OnOk, IfOk};
 ghost use Rattle.std.specs.List.{range_with_len};
-ghost use Rattle.cell_picture.specs.Picture.{IsColour, HasColour};
+ghost use Rattle.mesh_draw.specs.Picture.{IsColour, HasColour};
 ghost use Rattle.cell_numbers.specs.Numbers.{shown_text};
 ghost use Rattle.mesh_draw.specs.Fills.{label, numbered, past_all, part_labels, labels_of};
 
+use crate::picture::{COLOUR_COUNT, Label};
 use cell_numbers::{Shown, put_shown};
-use cell_picture::{COLOUR_COUNT, Label};
 use op_num::{OutOfMemory, Text, put_u64};
 use std::alloc::Global;
 

@@ -5,13 +5,17 @@
 #![tactic(auto)]
 
 mod drawing;
+pub mod fields;
 mod fills;
 mod grid;
 mod labels;
+pub mod picture;
+pub mod shapes;
 mod types;
+pub mod vtk;
 
+pub use crate::shapes::ShapeRefusal;
 pub use cell_numbers::{Shown, ShownRefusal};
-pub use cell_shapes::ShapeRefusal;
 pub use drawing::draw;
 pub use grid::vtk;
 pub use types::DrawRefusal;

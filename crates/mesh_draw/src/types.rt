@@ -1,7 +1,7 @@
 // Why there is no picture.
+use crate::fields::FieldRefusal;
+use crate::shapes::ShapeRefusal;
 use cell_numbers::ShownRefusal;
-use cell_shapes::ShapeRefusal;
-use output_fields::FieldRefusal;
 use std::alloc::{AllocError, AllocFailed};
 use thiserror::Error;
 

@@ -6,12 +6,12 @@ use Rattle.std.proofs.lemmas.List.Sums.{sum_by-cons}
 use Rattle.std.specs.Fmt.{decimal, signed_decimal}
 use Rattle.std.specs.List.{flat_map, sum_by}
 use Rattle.texts.specs.Lines.{line_of, separator, text_of_lines}
-use Rattle.mesh_text.specs.declared.entry.Form.TheVariants as form
-use Rattle.mesh_text.specs.declared.entry.Entry.TheVariants.{One, Many}
-use Rattle.mesh_text.specs.declared.entry.TheConstants.{MESH_BYTES, MESH_VALUES}
-use Rattle.mesh_text.specs.Spelling.{Named, Spells, total, header}
-use Rattle.mesh_text.specs.Reading.{Reads}
-use Rattle.mesh_text.specs.Canonical.{alone, groups, piece_text, pieces_of, entry_lines, entry_text, CanBeSpelled, canonical}
+use Rattle.mesh_decl.specs.declared.text.entry.Form.TheVariants as form
+use Rattle.mesh_decl.specs.declared.text.entry.Entry.TheVariants.{One, Many}
+use Rattle.mesh_decl.specs.declared.text.entry.TheConstants.{MESH_BYTES, MESH_VALUES}
+use Rattle.mesh_decl.specs.Spelling.{Named, Spells, total, header}
+use Rattle.mesh_decl.specs.Reading.{Reads}
+use Rattle.mesh_decl.specs.Canonical.{alone, groups, piece_text, pieces_of, entry_lines, entry_text, CanBeSpelled, canonical}
 use Rattle.mesh_gen.specs.Grid.{nodes_of_cells, cells_of_edges, cells_of_boundary, walls, coordinates, sums, zeros}
 use Rattle.mesh_gen.specs.Sample.{mesh_entries, sample_mesh}
 use Rattle.mesh_gen.proofs.Bounds.{product_fits}

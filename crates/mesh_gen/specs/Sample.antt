@@ -1,9 +1,9 @@
 -- The source and the mesh of the sample.
 use Rattle.std.specs.Prelude.{ℕ, pos, ◌+◌, ◌-◌, ◌*◌, List, [], ◌∷◌, ◌++◌, codes}
-use Rattle.mesh_text.specs.declared.entry.Form.TheVariants as form
-use Rattle.mesh_text.specs.declared.entry.Entry.TheVariants.{One, Many}
-use Rattle.mesh_text.specs.Spelling.{Named}
-use Rattle.mesh_text.specs.Canonical.{canonical}
+use Rattle.mesh_decl.specs.declared.text.entry.Form.TheVariants as form
+use Rattle.mesh_decl.specs.declared.text.entry.Entry.TheVariants.{One, Many}
+use Rattle.mesh_decl.specs.Spelling.{Named}
+use Rattle.mesh_decl.specs.Canonical.{canonical}
 use Rattle.mesh_gen.specs.declared.source.TheConstants.{SOURCE}
 use Rattle.mesh_gen.specs.Grid.{nodes_of_cells, cells_of_edges, cells_of_boundary, walls, coordinates, sums, zeros}
 

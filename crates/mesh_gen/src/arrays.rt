@@ -3,7 +3,7 @@ ghost use Rattle.std.specs.Prelude.{◌≡◌, ◌<◌, ◌≤◌, ◌++◌, OnO
 ghost use Rattle.mesh_gen.specs.Grid.{nodes_of_cells, cells_of_edges, cells_of_boundary, walls, coordinates, sums, zeros};
 
 use crate::places::{MAX_SIDE, Pattern, Side, put_rows, put_side};
-use mesh_text::Values;
+use mesh_decl::text::Values;
 use op_num::OutOfMemory;
 use std::alloc::Global;
 

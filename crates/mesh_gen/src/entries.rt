@@ -1,13 +1,13 @@
 // The entries of the mesh text.
 ghost use Rattle.std.specs.Prelude.{◌≡◌, ◌<◌, ◌≤◌, ◌++◌, [], ◌∷◌, false, OnOk, IfOk};
-ghost use Rattle.mesh_text.specs.Spelling.{has_name};
+ghost use Rattle.mesh_decl.specs.Spelling.{has_name};
 ghost use Rattle.mesh_gen.specs.Sample.{sizes, maps, mesh_entries};
 
 use crate::arrays::{
     boundary_cells, cell_nodes, cell_sums, cell_zeros, edge_cells, node_coordinates, wall_values,
 };
 use crate::places::MAX_SIDE;
-use mesh_text::{Entries, Entry};
+use mesh_decl::text::{Entries, Entry};
 use op_num::{Name, OutOfMemory};
 use std::alloc::Global;
 

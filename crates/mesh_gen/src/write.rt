@@ -1,14 +1,14 @@
 // The texts of the sample.
 ghost use Rattle.std.specs.Prelude.{◌≡◌, ◌<◌, ◌^◌, ◌⊎◌, ◌≤◌, ◌↔◌, length, IfOk, Ok, Err};
-ghost use Rattle.mesh_text.specs.Reading.{Reads};
-ghost use Rattle.mesh_text.specs.declared.entry.TheConstants.{MESH_BYTES};
+ghost use Rattle.mesh_decl.specs.Reading.{Reads};
+ghost use Rattle.mesh_decl.specs.declared.text.entry.TheConstants.{MESH_BYTES};
 ghost use Rattle.mesh_gen.specs.Sample.{mesh_entries, sample_mesh, sample_source};
 
 use crate::entries::grid_entries;
 use crate::places::MAX_SIDE;
 use crate::refusal::{Sample, SampleRefusal};
 use crate::source::SOURCE;
-use mesh_text::{Form, write_mesh};
+use mesh_decl::text::{Form, write_mesh};
 use std::alloc::Global;
 
 /// The sample on a grid of `n` times `n` cells: its source, which is the same for every size, and the canonical mesh text

@@ -2,7 +2,7 @@
 
 use mesh_decl::Mesh;
 use op_num::Name;
-use part_text::{PartRefusal, read_partition};
+use partition::part_text::{PartRefusal, read_partition};
 use std::alloc::Global;
 use std::test::Fail;
 

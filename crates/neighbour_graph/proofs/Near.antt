@@ -12,10 +12,10 @@ use Rattle.std.specs.List.{dedup}
 use Rattle.std.specs.List.Sorted.{IsSorted}
 use Rattle.std.specs.Ordering.{nat_cmp, is_lt}
 use Rattle.mesh_decl.specs.Mesh.{MeshValue}
-use Rattle.breadth_order.specs.Keys.{keyed}
-use Rattle.breadth_order.specs.Neighbours.{are_neighbours}
-use Rattle.breadth_order.specs.Taken.{Rises}
-use Rattle.breadth_order.specs.Unseen.{AreUnseen}
+use Rattle.renumber.specs.Keys.{keyed}
+use Rattle.renumber.specs.Neighbours.{are_neighbours}
+use Rattle.renumber.specs.Taken.{Rises}
+use Rattle.renumber.specs.Unseen.{AreUnseen}
 use Rattle.neighbour_graph.specs.Graph.{graph_line, AreNeighbours, AreRows}
 use Rattle.neighbour_graph.specs.Parts.{HasLines}
 use Rattle.lemmas.proofs.Lists.{get_or_any}

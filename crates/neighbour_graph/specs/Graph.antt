@@ -6,7 +6,7 @@ use Rattle.std.specs.List.Sorted.{IsStrictlyIncreasing}
 use Rattle.std.specs.Fmt.{decimal}
 use Rattle.texts.specs.Lines.{line_of}
 use Rattle.mesh_decl.specs.Mesh.{MeshValue, set_size, map_to}
-use Rattle.breadth_order.specs.Neighbours.{are_neighbours}
+use Rattle.renumber.specs.Neighbours.{are_neighbours}
 
 -- the numbers are those of x's neighbours by a map, each once, in increasing order
 pub record AreNeighbours (g : MeshValue) (m x : ℕ) (ys : List ℕ) : Type 0 where

@@ -1,15 +1,15 @@
 // The text of the graph.
 ghost use Rattle.std.specs.Prelude.{◌≡◌, ◌+◌, ◌<◌, IfOk};
 ghost use Rattle.mesh_decl.specs.Mesh.{map_count, set_size, map_to};
-ghost use Rattle.breadth_order.specs.Neighbours.{IsInverse};
+ghost use Rattle.renumber.specs.Neighbours.{IsInverse};
 ghost use Rattle.neighbour_graph.specs.Graph.{IsGraph};
 ghost use Rattle.neighbour_graph.specs.Parts.{HasLines};
 
 use crate::lines::put_line;
 use crate::neighbours::next_row;
-use breadth_order::inverse;
 use mesh_decl::Mesh;
 use op_num::{OutOfMemory, put_u64};
+use renumber::breadth_order::inverse;
 use rows::Rows;
 use std::alloc::{AllocError, Global};
 

@@ -1,12 +1,12 @@
 // The neighbours of one element.
 ghost use Rattle.std.specs.Prelude.{◌≡◌, ◌<◌, ℕ, false, length, OnOk, slice_index_or};
 ghost use Rattle.mesh_decl.specs.Mesh.{map_count, set_size, map_to};
-ghost use Rattle.breadth_order.specs.Neighbours.{IsInverse};
+ghost use Rattle.renumber.specs.Neighbours.{IsInverse};
 ghost use Rattle.neighbour_graph.specs.Graph.{AreNeighbours};
 
-use breadth_order::unseen_neighbours;
 use mesh_decl::Mesh;
 use op_num::OutOfMemory;
+use renumber::breadth_order::unseen_neighbours;
 use rows::Rows;
 
 /// Puts the neighbours by a map of an element into `found`, in place of what it has, each once, in increasing order. `by` is the map's

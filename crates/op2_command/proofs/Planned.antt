@@ -6,7 +6,7 @@ use Rattle.mesh_decl.specs.declared.owners.Perms.{Perms}
 use Rattle.distribute.specs.declared.types.Distribution.{Distribution}
 use Rattle.bound_program.specs.Values.{BoundValue}
 use Rattle.loop_plan.specs.Distributed.{IsDistributed, Distributed}
-use Rattle.halo_lists.specs.Halos.{AreHalos}
+use Rattle.local_mesh.specs.Halos.{AreHalos}
 use Rattle.schedule_steps.specs.declared.step.Step.{Step}
 use Rattle.schedule_steps.specs.Standard.{standard}
 use Rattle.schedule_steps.specs.Drawn.{IsDrawn}
@@ -16,8 +16,8 @@ use Rattle.answer_lines.specs.Lines.{refused}
 use Rattle.command_words.specs.Words.{PlanJob, Standard, Drawn, Written, Options, group_of}
 use Rattle.answers.specs.Judgements.{IsHeld, Chosen, Planned, InStandardOrder, BySeed, ByText, OrderOf, outline_of}
 use Rattle.answers.specs.Judgements.{StepsOf, end_line, IsTextRefused, IsStepRefused}
-use Rattle.schedule_text.specs.declared.lines.Line.{Line}
-use Rattle.schedule_text.specs.Reading.{Reads as SchedulesRead}
+use Rattle.schedule_steps.specs.declared.text.lines.Line.{Line}
+use Rattle.schedule_steps.specs.Reading.{Reads as SchedulesRead}
 use Rattle.answers.specs.Answers.{planned_answer}
 use Rattle.answer_lines.specs.declared.call_answer.Answer.{Answer}
 use Rattle.answer_lines.specs.declared.refusals.Halt.{Halt}

@@ -18,7 +18,7 @@ use Rattle.loop_plan.specs.Values.{PlanValue}
 use Rattle.loop_plan.specs.StepOutline.{step_outline}
 use Rattle.schedule_check.specs.declared.whole.Unaccepted.{Unaccepted}
 use Rattle.schedule_check.specs.Whole.{IsRefusedNext, IsUnaccepted}
-use Rattle.schedule_text.specs.declared.lines.Line.{Line}
+use Rattle.schedule_steps.specs.declared.text.lines.Line.{Line}
 use Rattle.command_words.specs.Refusal.{Refusal}
 use Rattle.answers.specs.Said.{SaysNext}
 use Rattle.answers.specs.Judgements.{steps_in, judged_next, IsStepRefused}

@@ -1,9 +1,9 @@
 -- The chain of judgements from a bound program on, as the code goes along it: what is answered from each of its parts on.
 use Rattle.std.specs.Prelude.{◌≡◌, ℕ, List, Option, Some, None}
 use Rattle.op_outside.specs.Outside.{Files}
-use Rattle.mesh_text.specs.declared.entry.Form.{Form}
-use Rattle.mesh_text.specs.Canonical.{canonical}
-use Rattle.schedule_text.specs.declared.lines.Line.{Line}
+use Rattle.mesh_decl.specs.declared.text.entry.Form.{Form}
+use Rattle.mesh_decl.specs.Canonical.{canonical}
+use Rattle.schedule_steps.specs.declared.text.lines.Line.{Line}
 use Rattle.step_judge.specs.declared.refusal.ScheduleRefusal.{ScheduleRefusal}
 use Rattle.step_judge.specs.declared.refusal.ScheduleRefusal.TheVariants as taking
 use Rattle.command_words.specs.Refusal.{Refusal}

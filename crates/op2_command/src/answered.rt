@@ -3,7 +3,7 @@
 ghost use Rattle.std.specs.Prelude.{◌≡◌, ◌≤◌, [], ◌∷◌, ◌++◌, Ok, Err, All, map, length, string_bytes, IfOk, IfErr};
 ghost use Rattle.op_outside.specs.Outside.{Rose};
 ghost use Rattle.kept_files.specs.Readings.{readings_of};
-ghost use Rattle.mesh_text.specs.declared.entry.TheConstants.{MESH_BYTES};
+ghost use Rattle.mesh_decl.specs.declared.text.entry.TheConstants.{MESH_BYTES};
 ghost use Rattle.command_words.specs.Words.{WordsAre, names_from, names_before, names_by, names_in_blocks, names_at, names_of, named_by};
 ghost use Rattle.command_words.specs.Laws.{AreFew, AreWithin};
 ghost use Rattle.answers.specs.Answers.{BoundAnswers, PlanAnswers, ChainAnswers, ConvertAnswers, CommandAnswers, Answers};
@@ -27,7 +27,7 @@ use job_inputs::{
     expect_stretch, sole_file,
 };
 use kept_files::{Kept, some_files_are_as_seen};
-use mesh_text::{Form, write_mesh};
+use mesh_decl::text::{Form, write_mesh};
 use op_num::OutOfMemory;
 use op_outside::Shelf;
 use par_exec::Gate;

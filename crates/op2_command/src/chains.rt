@@ -22,7 +22,7 @@ use crate::ranges::starts_in_range;
 use answer_laws::runs_answer_on_cells;
 use answer_lines::{Answer, Halt};
 use bound_program::Bound;
-use chain_slices::slices;
+use chain_needs::chain_slices::slices;
 use command_words::{ChainJob, ChainOptions};
 use deep_halo::{ChainOutcome, run_chains};
 use job_inputs::{owners_of, partition_of};

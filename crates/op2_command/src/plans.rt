@@ -37,7 +37,7 @@ use op_num::{OutOfMemory, put_u64};
 use op_outside::Shelf;
 use par_exec::Gate;
 use planned_run::{Order, steps_of};
-use schedule_text::write_schedule;
+use schedule_steps::text::write_schedule;
 use std::alloc::Global;
 use std::marker::Sync;
 use std::thread::Threads;

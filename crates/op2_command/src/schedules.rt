@@ -7,7 +7,7 @@ ghost use Rattle.loop_plan.specs.Values.{plan_of};
 ghost use Rattle.loop_plan.specs.Proper.{Proper};
 ghost use Rattle.loop_plan.specs.StepOutline.{step_outline};
 ghost use Rattle.schedule_check.specs.Whole.{IsWhole};
-ghost use Rattle.schedule_text.specs.Reading.{Reads};
+ghost use Rattle.schedule_steps.specs.Reading.{Reads};
 ghost use Rattle.answer_lines.specs.declared.limits.TheConstants.{SCHEDULE_BYTES};
 ghost use Rattle.answers.specs.Said.{SaysSchedule};
 ghost use Rattle.answers.specs.Judgements.{steps_in, end_line, IsTextRefused, IsStepRefused};
@@ -22,8 +22,8 @@ use loop_plan::Plan;
 use op_num::OutOfMemory;
 use planned_run::judge_list;
 use schedule_check::ScheduleRefusal;
+use schedule_steps::text::{Line, ScheduleTextRefusal, read_schedule};
 use schedule_steps::{Peak, Step};
-use schedule_text::{Line, ScheduleTextRefusal, read_schedule};
 use std::alloc::Global;
 use texts::Tokens;
 

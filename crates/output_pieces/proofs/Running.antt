@@ -13,11 +13,11 @@ use Rattle.schedule_model.specs.Sequential as cells
 use Rattle.bound_program.specs.Values.{BoundValue, SiteValue, ItemValue, Free, Reduce, Ordered, Host, ActValue, Clear, Assign, Line, Print, Exit}
 use Rattle.bound_program.specs.Fits.{Fits, site_at, var_at}
 use Rattle.run_model.specs.Programs.{program_of}
-use Rattle.sequential_run.specs.Arrays.{Arrays, array_of}
-use Rattle.sequential_run.specs.Runs.{Run, Stopped, Going, printed_by, stops}
-use Rattle.sequential_run.specs.Program.{ended, element_run, after_element, after_elements, after_item, before, printed}
-use Rattle.sequential_run.specs.Statements.{after_statement, values_of, component_of, value_of}
-use Rattle.sequential_run.specs.Laws.{Agree, ItemsAgree}
+use Rattle.run_model.specs.Arrays.{Arrays, array_of}
+use Rattle.run_model.specs.Runs.{Run, Stopped, Going, printed_by, stops}
+use Rattle.run_model.specs.Program.{ended, element_run, after_element, after_elements, after_item, before, printed}
+use Rattle.run_model.specs.Statements.{after_statement, values_of, component_of, value_of}
+use Rattle.run_model.specs.SequentialLaws.{Agree, ItemsAgree}
 use Rattle.output_pieces.specs.Lines.{lines_in}
 use Rattle.output_pieces.specs.Found.{FitsHere}
 use Rattle.output_pieces.specs.Pieces.{header, item_lines, lines_before, IsPrint, IsPiece}

@@ -3,9 +3,9 @@ use Rattle.std.specs.Prelude.{◌≡◌, ℕ, List, [], slice_index_or}
 use Rattle.mesh_decl.specs.Printed.{printed_dat}
 use Rattle.bound_program.specs.Values.{BoundValue}
 use Rattle.bound_program.specs.Fits.{Fits}
-use Rattle.sequential_run.specs.Arrays.{Arrays}
-use Rattle.sequential_run.specs.Runs.{Going}
-use Rattle.sequential_run.specs.Program.{before, printed}
+use Rattle.run_model.specs.Arrays.{Arrays}
+use Rattle.run_model.specs.Runs.{Going}
+use Rattle.run_model.specs.Program.{before, printed}
 use Rattle.output_pieces.specs.Pieces.{IsPrint, IsPiece}
 
 -- two pieces of one output are the same

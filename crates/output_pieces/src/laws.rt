@@ -12,5 +12,5 @@ pub fn runs_have_pieces()
     ensures { RunsHavePieces }
 {
     mesh_decl::declarations_hold();
-    sequential_run::runs_are_one();
+    run_model::sequential_run::runs_are_one();
 }

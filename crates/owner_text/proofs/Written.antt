@@ -13,7 +13,7 @@ use Rattle.texts.proofs.Words.{number_token}
 use Rattle.mesh_decl.specs.declared.owners.Owners.{Owners}
 use Rattle.mesh_decl.specs.Mesh.{MeshValue, set_count, set_size, set_name}
 use Rattle.mesh_decl.specs.Owners.{AreOwners, owners_in, owner_of}
-use Rattle.part_text.specs.Spelling.{Table, Given, AreRanks, IsSet, AreSets, Spells}
+use Rattle.partition.specs.Spelling.{Table, Given, AreRanks, IsSet, AreSets, Spells}
 use Rattle.owner_text.specs.Written.{Line, set_lines, lines_from, partition_text, HaveNames}
 use Rattle.lemmas.proofs.Lists.{get_or_any}
 

@@ -1,2 +1,4 @@
 pub mod Written
 pub mod Answered
+pub mod Numbers
+pub mod Owned

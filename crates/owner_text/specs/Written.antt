@@ -5,7 +5,7 @@ use Rattle.std.specs.Fmt.{decimal}
 use Rattle.texts.specs.Cut.{dark}
 use Rattle.texts.specs.Lines.{IsToken, text_of_lines}
 use Rattle.mesh_decl.specs.Mesh.{MeshValue, set_count, set_size, set_name}
-use Rattle.part_text.specs.Spelling.{IsNamed}
+use Rattle.partition.specs.Spelling.{IsNamed}
 
 -- a line: its tokens
 abbrev pub Line : Type 0

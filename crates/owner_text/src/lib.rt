@@ -1,6 +1,7 @@
 //! Partition texts, written: owners as a text that gives them back where it is read.
 #![tactic(auto)]
 
+pub mod metis;
 mod names;
 mod write;
 

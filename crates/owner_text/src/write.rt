@@ -6,7 +6,7 @@ ghost use Rattle.texts.specs.Lines.{line_of, text_of_lines};
 ghost use Rattle.mesh_decl.specs.declared.owners.Owners.{Owners as Owned};
 ghost use Rattle.mesh_decl.specs.Mesh.{MeshValue, set_count, set_size};
 ghost use Rattle.mesh_decl.specs.Owners.{AreOwners};
-ghost use Rattle.part_text.specs.Spelling.{Spells};
+ghost use Rattle.partition.specs.Spelling.{Spells};
 ghost use Rattle.owner_text.specs.Written.{set_lines, partition_text, HaveNames};
 ghost use Rattle.owner_text.specs.Answered.{IsUnnamed};
 

@@ -5,9 +5,9 @@ use Rattle.std.proofs.Math.Nat.{div-le_self, div-mul-le_self, mul-le-mul_right, 
 use Rattle.std.proofs.lemmas.Nat.{le-div}
 use Rattle.std.proofs.lemmas.Bool.{cases_eq, cases_lt, false_from_ne_true}
 use Rattle.std.proofs.lemmas.List.{length_push, length-drop, get_or-drop, get_or_push, get_or_append_left, take-append-le, take_all, get_or-take, length-take-le, get_or_default}
-use Rattle.breadth_order.specs.Keys.{keyed}
-use Rattle.breadth_order.specs.Taken.{earliest, IsWalk, Rises}
-use Rattle.breadth_order.proofs.Walk.{walk_push, earliest_is, earliest_none, earliest_at, earliest_ge, unmarked, untaken, marked_set}
+use Rattle.renumber.specs.Keys.{keyed}
+use Rattle.renumber.specs.Taken.{earliest, IsWalk, Rises}
+use Rattle.renumber.proofs.breadth_order.Walk.{walk_push, earliest_is, earliest_none, earliest_at, earliest_ge, unmarked, untaken, marked_set}
 use Rattle.partition.specs.Block.{block_start, InBlock}
 use Rattle.partition.specs.Grow.{IsNextFree, AreNextFree, IsGrowing}
 use Rattle.lemmas.proofs.Truth.{not_both}

@@ -2,15 +2,15 @@
 ghost use Rattle.std.specs.Prelude.{◌≡◌, ◌≢◌, ℕ, true, false, not, ◌<◌, ◌≤◌, ◌+◌, ◌^◌, IfOk, OnOk, count_by, length, slice_index};
 ghost use Rattle.std.specs.Prelude.{slice_index_or};
 ghost use Rattle.mesh_decl.specs.Mesh.{IsMapAt, map_count, set_size, map_to};
-ghost use Rattle.breadth_order.specs.Neighbours.{are_neighbours, IsInverse};
-ghost use Rattle.breadth_order.specs.Taken.{IsWalk};
+ghost use Rattle.renumber.specs.Neighbours.{are_neighbours, IsInverse};
+ghost use Rattle.renumber.specs.Taken.{IsWalk};
 ghost use Rattle.partition.specs.Block.{InBlock, block_start};
 ghost use Rattle.partition.specs.Grow.{AreNextFree, IsGrown, IsGrowing};
 
 use crate::blocks::block_owner;
-use breadth_order::{inverse, unseen_neighbours};
 use mesh_decl::Mesh;
 use op_num::OutOfMemory;
+use renumber::breadth_order::{inverse, unseen_neighbours};
 use rows::Rows;
 use std::alloc::Global;
 

@@ -4,7 +4,7 @@
 ghost use Rattle.std.specs.Prelude.{◌≡◌, ℕ, ◌<◌, ◌≤◌, IfOk, length, slice_index, nat_eq};
 ghost use Rattle.mesh_decl.specs.Mesh.{dat_count, dat_set, dat_dim, dat_values, map_count, map_to, set_size};
 ghost use Rattle.mesh_decl.specs.Owners.{owners_in, owner_of};
-ghost use Rattle.breadth_order.specs.Neighbours.{are_neighbours};
+ghost use Rattle.renumber.specs.Neighbours.{are_neighbours};
 ghost use Rattle.partition.specs.Bisect.{IsBisected};
 ghost use Rattle.partition.specs.Block.{AreBlocks};
 ghost use Rattle.partition.specs.Derive.{AreGiven, AreDerived, is_given, given_in};
@@ -20,8 +20,10 @@ mod halves;
 mod laws;
 mod next;
 mod one_derivation;
+pub mod part_text;
 mod turns;
 
+pub use crate::part_text::{PartRefusal, one_partition, read_partition};
 use blocks::block_set;
 pub use given::given_fits;
 use growth::grow_set;
@@ -30,7 +32,6 @@ pub use laws::{one_bisection, one_growth};
 use mesh_decl::{Mesh, Numbers, Owners};
 pub use one_derivation::one_derived;
 use op_num::OutOfMemory;
-pub use part_text::{PartRefusal, one_partition, read_partition};
 use std::alloc::Global;
 use turns::{derive_from, derive_rest, split_given};
 

@@ -12,9 +12,9 @@ use crate::lines::{take_end, take_halos, take_header, take_items, take_sizes};
 use crate::sites::take_sites;
 use crate::types::CertRefusal;
 use bound_program::Bound;
-use halo_lists::Halos;
 use line_texts::Lines;
 use local_mesh::RankMesh;
+use local_mesh::halo_lists::Halos;
 use loop_plan::{MAX_STEPS, Plan, number_of_steps, planned_items};
 use std::alloc::Global;
 

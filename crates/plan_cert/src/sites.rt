@@ -1,7 +1,7 @@
 // The lines of loops, which tell the colours.
 ghost use Rattle.std.specs.Prelude.{◌≡◌, ◌<◌, ◌++◌, ◌^◌, [], ◌∷◌, ℕ, true, map, IfOk, OnOk, slice_index, length};
 ghost use Rattle.mesh_decl.specs.Mesh.{set_count};
-ghost use Rattle.halo_lists.specs.declared.types.Halos.{Halos};
+ghost use Rattle.local_mesh.specs.declared.halo_lists.types.Halos.{Halos};
 ghost use Rattle.bound_program.specs.Values.{bound_of};
 ghost use Rattle.bound_program.specs.Fits.{Fits, site_at};
 ghost use Rattle.loop_plan.specs.Distributed.{Distributed};
@@ -17,8 +17,8 @@ ghost use Rattle.plan_cert.specs.Told.{site_front};
 
 use crate::types::CertRefusal;
 use crate::words::told_line;
-use block_plan::count;
 use bound_program::Bound;
+use colouring::block_plan::count;
 use colouring::{Clash, Colours, IncArg, find_clash};
 use indexmap::IndexMap;
 use line_texts::Lines;

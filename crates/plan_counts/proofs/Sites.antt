@@ -1,7 +1,7 @@
 -- What the loops of a program and the items of a plan name is there.
 use Rattle.std.proofs.Common.{◌≡◌, ◌<◌, ℕ, zero, suc, List, [], ◌∷◌, length, get_or, map, ap, subst, sym, ◌∙◌, arith}
 use Rattle.std.proofs.lemmas.List.{get_or-map}
-use Rattle.halo_lists.specs.declared.types.Halos.{Halos}
+use Rattle.local_mesh.specs.declared.halo_lists.types.Halos.{Halos}
 use Rattle.kernel_types.specs.declared.kernels.RKernel.{RKernel}
 use Rattle.local_mesh.specs.declared.types.RankMesh.{RankMesh}
 use Rattle.bound_program.specs.declared.sites.Site.{Site}

@@ -2,7 +2,7 @@
 
 ghost use Rattle.std.specs.Prelude.{◌≡◌, ◌<◌, ◌++◌, ◌^◌, OnOk, IfOk, length};
 ghost use Rattle.std.specs.List.{flat_map};
-ghost use Rattle.halo_lists.specs.declared.types.Halos.{Halos};
+ghost use Rattle.local_mesh.specs.declared.halo_lists.types.Halos.{Halos};
 ghost use Rattle.mesh_decl.specs.Mesh.{dat_count};
 ghost use Rattle.bound_program.specs.Values.{bound_of, site_of};
 ghost use Rattle.bound_program.specs.Fits.{Fits};

@@ -1,7 +1,7 @@
 // What the items of each loop do.
 
 ghost use Rattle.std.specs.Prelude.{◌≡◌, ◌<◌, ℕ, cond, nat_eq, OnOk, IfOk, length, slice_index};
-ghost use Rattle.halo_lists.specs.declared.types.Halos.{Halos};
+ghost use Rattle.local_mesh.specs.declared.halo_lists.types.Halos.{Halos};
 ghost use Rattle.mesh_decl.specs.Mesh.{dat_count};
 ghost use Rattle.bound_program.specs.Values.{bound_of};
 ghost use Rattle.bound_program.specs.Fits.{Fits};

@@ -4,7 +4,7 @@ use Rattle.mesh_decl.specs.declared.owners.Owners.{Owners}
 use Rattle.mesh_decl.specs.declared.owners.Perms.{Perms}
 use Rattle.mesh_decl.specs.Mesh.{MeshValue}
 use Rattle.mesh_decl.specs.Owners.{AreOwners, ArePerms}
-use Rattle.part_text.proofs.Owned as text
+use Rattle.partition.proofs.part_text.Owned as text
 use Rattle.distribute.specs.Parts.{Parts, Block, Bisect, Grow, Text}
 use Rattle.distribute.specs.Judgements.{NumbersAre, OwnersAre}
 

@@ -1,7 +1,7 @@
 -- Owners by growth over neighbours.
 use Rattle.std.proofs.Common.{◌≡◌, ◌<◌, ℕ, Bool, List, length, get_or, take, drop, refl, sym, ap, ◌∙◌, subst, arith}
 use Rattle.std.proofs.lemmas.List.{length-take-le, get_or_default}
-use Rattle.breadth_order.specs.Taken.{earliest}
+use Rattle.renumber.specs.Taken.{earliest}
 use Rattle.partition.specs.Block.{block_start}
 use Rattle.partition.specs.Grow.{IsNextFree, IsGrown}
 use Rattle.renumber.proofs.Numbering.{numbering_from}

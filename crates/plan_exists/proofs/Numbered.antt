@@ -5,9 +5,9 @@ use Rattle.mesh_decl.specs.declared.owners.Perms.{Perms}
 use Rattle.mesh_decl.specs.Mesh.{MeshValue, IsMesh, IsMapAt, set_count, map_count, set_size, map_from, map_to, map_name}
 use Rattle.mesh_decl.specs.Owners.{IsNumbering, ArePerms, perm_in}
 use Rattle.mesh_decl.specs.Named.{Names}
-use Rattle.breadth_order.specs.Neighbours.{are_neighbours}
-use Rattle.breadth_order.specs.Degrees.{degree_order}
-use Rattle.breadth_order.specs.Taken.{earliest, IsTaken}
+use Rattle.renumber.specs.Neighbours.{are_neighbours}
+use Rattle.renumber.specs.Degrees.{degree_order}
+use Rattle.renumber.specs.Taken.{earliest, IsTaken}
 use Rattle.renumber.specs.Identity.{IsIdentity}
 use Rattle.renumber.specs.CuthillMcKee.{target_key, IsByTargets, IsSetOrder, IsCuthillMcKee}
 use Rattle.renumber.proofs.Kept.{kept_numbers}

@@ -5,9 +5,9 @@ use Rattle.mesh_decl.specs.declared.owners.Owners.{Owners}
 use Rattle.mesh_decl.specs.Mesh.{MeshValue, IsMesh, IsMapAt, IsDatAt, set_count, map_count, dat_count, set_size, map_to, map_name, dat_set, dat_dim, dat_values, dat_name}
 use Rattle.mesh_decl.specs.Owners.{owner_of}
 use Rattle.mesh_decl.specs.Named.{Names}
-use Rattle.breadth_order.specs.Neighbours.{are_neighbours}
-use Rattle.part_text.specs.Spelling.{Table, Given, no_ranks, AreSets, Spells}
-use Rattle.part_text.specs.Reading.{Read, Reads}
+use Rattle.renumber.specs.Neighbours.{are_neighbours}
+use Rattle.partition.specs.Spelling.{Table, Given, no_ranks, AreSets, Spells}
+use Rattle.partition.specs.Reading.{Read, Reads}
 use Rattle.partition.specs.Grow.{IsGrown}
 use Rattle.partition.specs.Bisect.{IsBisected}
 use Rattle.distribute.specs.Parts.{Parts, Block, Bisect, Grow, Text, OwnersRefusal, NoDat, NoMap, Unspelled}

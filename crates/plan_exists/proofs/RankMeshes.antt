@@ -6,7 +6,7 @@ use Rattle.mesh_decl.specs.declared.owners.Owners.{Owners}
 use Rattle.mesh_decl.specs.declared.owners.Perms.{Perms}
 use Rattle.mesh_decl.specs.Mesh.{MeshValue, IsMapAt, set_count, map_count, dat_count, set_size, map_from, map_to, map_dim, map_targets, target}
 use Rattle.mesh_decl.specs.Owners.{ArePerms}
-use Rattle.halo_lists.specs.Halo.{executes, has_copy}
+use Rattle.local_mesh.specs.Halo.{executes, has_copy}
 use Rattle.local_mesh.specs.declared.types.LocalSet.{LocalSet}
 use Rattle.local_mesh.specs.declared.types.RankMesh.{RankMesh}
 use Rattle.local_mesh.specs.LocalMesh.{IsLocalSet, IsRankMesh, AreLocalTargets, AreClosed, originals_in, executed_in, cells_before}

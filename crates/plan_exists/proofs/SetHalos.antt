@@ -3,10 +3,10 @@ use Rattle.std.proofs.Common.{◌≡◌, ◌≤◌, ◌<◌, ◌^◌, ℕ, false
 use Rattle.rank_sets.specs.Below.{listed, row, rows}
 use Rattle.mesh_decl.specs.declared.owners.Owners.{Owners}
 use Rattle.mesh_decl.specs.Mesh.{MeshValue, set_count, set_size}
-use Rattle.halo_lists.specs.declared.types.SetHalo.{SetHalo}
-use Rattle.halo_lists.specs.declared.types.Halos.{Halos}
-use Rattle.halo_lists.specs.Halo.{imports_execute, imports_nonexecute, imports, is_core, owns}
-use Rattle.halo_lists.specs.Halos.{IsSetHalo, AreHalos}
+use Rattle.local_mesh.specs.declared.halo_lists.types.SetHalo.{SetHalo}
+use Rattle.local_mesh.specs.declared.halo_lists.types.Halos.{Halos}
+use Rattle.local_mesh.specs.Halo.{imports_execute, imports_nonexecute, imports, is_core, owns}
+use Rattle.local_mesh.specs.Halos.{IsSetHalo, AreHalos}
 use Rattle.plan_exists.proofs.Built.{table, length_table, table_at, vec_of, items_are, row_is, rows_are}
 use Rattle.plan_exists.proofs.Short.{short_listed}
 

@@ -4,7 +4,7 @@ use Rattle.mesh_decl.specs.declared.owners.Owners.{Owners}
 use Rattle.mesh_decl.specs.declared.owners.Perms.{Perms}
 use Rattle.mesh_decl.specs.Mesh.{MeshValue, set_count, set_size}
 use Rattle.mesh_decl.specs.Owners.{ArePerms, perm_in}
-use Rattle.halo_lists.specs.Halo.{owns, imports_execute, imports_nonexecute, is_core}
+use Rattle.local_mesh.specs.Halo.{owns, imports_execute, imports_nonexecute, is_core}
 use Rattle.local_mesh.specs.declared.types.LocalSet.{LocalSet}
 use Rattle.local_mesh.specs.Local.{ordered, earlier, AreInverse}
 use Rattle.local_mesh.specs.Parts.{by_new}

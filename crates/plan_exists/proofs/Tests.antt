@@ -7,7 +7,7 @@ use Rattle.std.proofs.Math.Nat.{div-lt_iff_lt-mul, le-div_iff_mul-le}
 use Rattle.rank_sets.specs.Below.{any_below}
 use Rattle.rank_sets.proofs.Below.{any_from, any_witness}
 use Rattle.mesh_decl.specs.Mesh.{MeshValue}
-use Rattle.block_plan.specs.Blocks.{IsInBlock}
+use Rattle.colouring.specs.Blocks.{IsInBlock}
 use Rattle.colouring.specs.declared.types.IncArg.{IncArg}
 use Rattle.colouring.specs.Colours.{target_of, Conflict, ConflictWithin, BlocksConflict}
 

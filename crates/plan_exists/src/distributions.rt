@@ -1,7 +1,7 @@
 // Halos and local meshes are there.
 ghost use Rattle.plan_exists.specs.Laws.{DistributionsExist, NarrowMeshesFitMemory};
 
-use halo_lists::executed_targets_are_copies;
+use local_mesh::halo_lists::executed_targets_are_copies;
 use mesh_decl::declarations_hold;
 
 /// A mesh has halos and local meshes for any owners and new numbers of its elements.

@@ -2,7 +2,7 @@
 ghost use Rattle.plan_exists.specs.Laws.{OwnersExist, OutcomesFit};
 
 use mesh_decl::declarations_hold;
-use part_text::one_outcome;
+use partition::part_text::one_outcome;
 
 /// Whatever is asked for the owners of a mesh among 1 to 64 ranks, there are such owners, or the refusal.
 pub fn some_owners()

@@ -15,7 +15,7 @@ use Rattle.rank_sets.specs.Below.{HasNumbers, listed}
 use Rattle.mesh_decl.specs.declared.owners.Owners.{Owners}
 use Rattle.mesh_decl.specs.declared.owners.Perms.{Perms}
 use Rattle.mesh_decl.specs.Mesh.{MeshValue, set_count, set_size, dat_count, dat_set, dat_dim}
-use Rattle.halo_lists.specs.Halo.{owns, imports}
+use Rattle.local_mesh.specs.Halo.{owns, imports}
 use Rattle.local_mesh.specs.declared.types.RankMesh.{RankMesh}
 use Rattle.flat_machine.specs.Layout.{message_cells}
 use Rattle.bound_program.specs.Values.{BoundValue}

@@ -11,7 +11,7 @@ use Rattle.mesh_decl.specs.declared.owners.Owners.{Owners}
 use Rattle.mesh_decl.specs.declared.owners.Perms.{Perms}
 use Rattle.mesh_decl.specs.Mesh.{MeshValue, IsMesh, IsDatAt, set_count, set_size, dat_count}
 use Rattle.mesh_decl.specs.Owners.{owner_of}
-use Rattle.halo_lists.specs.Halo.{owns, imports, imports_execute, imports_nonexecute, has_copy}
+use Rattle.local_mesh.specs.Halo.{owns, imports, imports_execute, imports_nonexecute, has_copy}
 use Rattle.local_mesh.specs.declared.types.RankMesh.{RankMesh}
 use Rattle.local_mesh.specs.LocalMesh.{originals_in, IsRankMesh}
 use Rattle.local_mesh.specs.Numbers.{OwnedComeFirst, OriginalsAreDistinct, OriginalsAreHeld}

@@ -1,7 +1,7 @@
 // The orders in which the steps of a plan are taken.
 
 ghost use Rattle.std.specs.Prelude.{◌≡◌, ◌≤◌, List, IfOk, IfErr};
-ghost use Rattle.halo_lists.specs.declared.types.Halos.{Halos as TheHalos};
+ghost use Rattle.local_mesh.specs.declared.halo_lists.types.Halos.{Halos as TheHalos};
 ghost use Rattle.schedule_steps.specs.declared.step.Step.{Step as StepValue};
 ghost use Rattle.schedule_steps.specs.Steps.{Accepted};
 ghost use Rattle.schedule_steps.specs.Standard as the;
@@ -17,7 +17,6 @@ ghost use Rattle.schedule_check.specs.Whole.{IsWhole, IsUnaccepted};
 ghost use Rattle.planned_run.specs.Orders.{InOrder, CanTake};
 
 use bound_program::Bound;
-use drawn_orders::drawn;
 use local_mesh::RankMesh;
 use loop_plan::Plan;
 use op_num::OutOfMemory;
@@ -25,6 +24,7 @@ use plan_orders::PlanShape;
 use schedule_check::{Checker, Unaccepted, take_all};
 use schedule_steps::{Peak, Step};
 use std::alloc::Global;
+use step_orders::drawn::drawn;
 use step_orders::{Listed, standard};
 
 /// In which order the steps of a plan are taken.

@@ -14,7 +14,7 @@ pub fn peaks_are_room()
 {
     rank_sets::numbers_are_listed();
     mesh_decl::declarations_hold();
-    halo_lists::imports_are_of_others();
+    local_mesh::halo_lists::imports_are_of_others();
     local_mesh::owned_come_first();
     local_mesh::originals_are_distinct();
     local_mesh::originals_are_held();

@@ -2,8 +2,8 @@
 
 ghost use Rattle.std.specs.Prelude.{◌≡◌, ◌<◌, ◌≤◌, List, IfOk};
 ghost use Rattle.mesh_decl.specs.declared.owners.Perms.{Perms};
-ghost use Rattle.halo_lists.specs.declared.types.Halos.{Halos as TheHalos};
-ghost use Rattle.halo_lists.specs.Halos.{AreHalos};
+ghost use Rattle.local_mesh.specs.declared.halo_lists.types.Halos.{Halos as TheHalos};
+ghost use Rattle.local_mesh.specs.Halos.{AreHalos};
 ghost use Rattle.schedule_steps.specs.declared.step.Step.{Step};
 ghost use Rattle.schedule_steps.specs.Steps.{Accepted};
 ghost use Rattle.schedule_steps.specs.Peaks.{IsPeak};
@@ -27,9 +27,8 @@ use crate::orders::Order;
 use crate::peaks::peaks_are_room;
 use crate::rooms::standard_room;
 use bound_program::Bound;
-use drawn_orders::DrawnOrder;
-use halo_lists::Halos;
 use kernel_code::compile_all;
+use local_mesh::halo_lists::Halos;
 use local_mesh::{RankMesh, local_lists};
 use loop_plan::{Plan, Steps};
 use mesh_decl::Owners;
@@ -43,8 +42,9 @@ use schedule_steps::Peak;
 use std::alloc::Global;
 use std::marker::Sync;
 use std::thread::Threads;
+use step_orders::ahead::Ahead;
+use step_orders::drawn::DrawnOrder;
 use step_orders::{Listed, Shape};
-use steps_ahead::Ahead;
 
 // How many steps are held at most of a stream that is looked ahead: a group of 1,024 begins with their ends, and one more.
 const MOST_HELD: usize = 2049;

@@ -4,7 +4,7 @@ use Rattle.gather.specs.Dump.{dump_text}
 use Rattle.bound_program.specs.Values.{BoundValue}
 use Rattle.run_model.specs.Programs.{first_fault}
 use Rattle.bound_plan.specs.Memories.{run_output}
-use Rattle.rank_memory.specs.Stops.{stop_in}
+use Rattle.rank_state.specs.Stops.{stop_in}
 use Rattle.rank_program.specs.declared.program.DistributedProgram.{DistributedProgram}
 use Rattle.rank_exec.specs.declared.running.Outcome.{Outcome}
 use Rattle.rank_program.specs.Sound.{program_in}

@@ -12,7 +12,7 @@ ghost use Rattle.flat_machine.specs.Flat.{Flat, StartsFlat, flat_step, flat_from
 ghost use Rattle.rank_program.specs.Rooms.{HasRoomOf};
 ghost use Rattle.rank_exec.specs.RunRooms.{HasRunRoomOf};
 ghost use Rattle.rank_state.specs.Shows.{Shows};
-ghost use Rattle.rank_memory.specs.Stops.{stop_in};
+ghost use Rattle.rank_state.specs.Stops.{stop_in};
 ghost use Rattle.rank_exec.specs.Driving.{Ready, After, posts, takes, opens, shuts, FitsPeak, AsSequential};
 ghost use Rattle.rank_program.specs.Sound.{Sound, setup_in, layout_in, tables_in};
 ghost use Rattle.rank_program.specs.Keeping.{KeepsIn};
@@ -27,8 +27,8 @@ use op_num::OutOfMemory;
 use par_exec::Gate;
 use rank_machine::machine::Machine;
 use rank_machine::{messages, steps};
-use rank_memory::stop::Stop;
 use rank_program::{DistributedProgram, Room};
+use rank_state::rank_memory::stop::Stop;
 use schedule_steps::Step;
 use std::alloc::Global;
 use std::marker::Sync;

@@ -10,7 +10,7 @@ ghost use Rattle.bound_program.specs.Values.{Host as HostItem, Print, told_act_o
 ghost use Rattle.run_model.specs.Hosts.{dat_cells};
 ghost use Rattle.run_model.specs.Programs.{item_at};
 ghost use Rattle.rank_state.specs.Shows.{Shows};
-ghost use Rattle.rank_memory.specs.Stops.{stop_in};
+ghost use Rattle.rank_state.specs.Stops.{stop_in};
 ghost use Rattle.rank_exec.specs.Driving.{After, IsPrint, ItsCells};
 ghost use Rattle.rank_program.specs.Sound.{Sound, program_in, setup_in, layout_in, tables_in};
 
@@ -19,8 +19,8 @@ use host_acts::Variables;
 use kernel_types::KernelFault;
 use op_num::{OutOfMemory, Text};
 use rank_machine::machine::Machine;
-use rank_memory::stop::Stop;
 use rank_program::{DistributedProgram, owners_copy};
+use rank_state::rank_memory::stop::Stop;
 use std::alloc::Global;
 
 // Appends the values of an element of a dat, from its owner.

@@ -14,7 +14,7 @@ ghost use Rattle.rank_state.specs.Core.{fault_of};
 ghost use Rattle.rank_state.specs.Indices.{values_at};
 ghost use Rattle.rank_state.specs.Ordered.{AreOwned, run_of, left_in};
 ghost use Rattle.rank_state.specs.Shows.{Shows};
-ghost use Rattle.rank_memory.specs.Stops.{stop_in};
+ghost use Rattle.rank_state.specs.Stops.{stop_in};
 ghost use Rattle.rank_exec.specs.Driving.{After, RanElement};
 ghost use Rattle.rank_program.specs.Rooms.{HasRoomOf};
 ghost use Rattle.rank_program.specs.Sound.{Sound, program_in, setup_in, layout_in, tables_in};
@@ -25,9 +25,9 @@ use kernel_types::KernelFault;
 use op_num::OutOfMemory;
 use rank_machine::machine::Machine;
 use rank_machine::steps::read_constants;
-use rank_memory::stop::Stop;
 use rank_program::{DistributedProgram, Room, push_owned_windows, reduced_scalars};
 use rank_state::Owned;
+use rank_state::rank_memory::stop::Stop;
 use std::alloc::Global;
 
 // A Reduce, where no fault of an earlier item is kept.

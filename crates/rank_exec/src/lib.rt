@@ -19,6 +19,6 @@ mod sharing;
 pub mod stream;
 
 pub use rank_machine::machine::Machine;
-pub use rank_memory::stop::Stop;
+pub use rank_state::rank_memory::stop::Stop;
 pub use running::{Outcome, run_planned};
 pub use sharing::come_in_rounds;

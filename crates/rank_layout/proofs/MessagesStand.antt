@@ -7,7 +7,7 @@ use Rattle.rank_sets.specs.Below.{HasNumbers, row, rows}
 use Rattle.mesh_decl.specs.declared.owners.Owners.{Owners}
 use Rattle.mesh_decl.specs.declared.owners.Perms.{Perms}
 use Rattle.mesh_decl.specs.Mesh.{MeshValue, IsMesh, IsDatAt, set_count, dat_count, dat_dim, dat_set}
-use Rattle.halo_lists.specs.declared.types.Halos.{Halos}
+use Rattle.local_mesh.specs.declared.halo_lists.types.Halos.{Halos}
 use Rattle.local_mesh.specs.declared.types.RankMesh.{RankMesh}
 use Rattle.local_mesh.specs.declared.lists.LocalLists.{LocalLists}
 use Rattle.local_mesh.specs.Lists.{AreLocals}

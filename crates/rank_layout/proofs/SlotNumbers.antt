@@ -4,8 +4,8 @@ use Rattle.std.proofs.lemmas.Bool.{cases_lt}
 use Rattle.std.proofs.lemmas.List.{append-nil, map-id, length-map, get_or-map}
 use Rattle.std.proofs.lemmas.List.Concat.{flat_map-append, get_or-flat_map}
 use Rattle.std.proofs.lemmas.List.FromFn.{length-range_with_len, get_or-range_with_len, length-map-range_with_len, get_or-map-range_with_len, take-map-range_with_len, map-range_with_len_more}
-use Rattle.reductions.specs.Reduction.{Reduction}
-use Rattle.reductions.specs.declared.access.Access.{Access}
+use Rattle.op_num.specs.Reduction.{Reduction}
+use Rattle.op_num.specs.declared.reductions.access.Access.{Access}
 use Rattle.schedule_model.specs.Cells.{VarCell}
 use Rattle.bound_program.specs.declared.sites.Arg.{Arg}
 use Rattle.bound_program.specs.declared.sites.Arg.TheVariants.{Dat, Global}

@@ -3,11 +3,11 @@ use Rattle.std.specs.Prelude.{◌≡◌, ◌<◌, ◌≤◌, ℕ, Bool, true, fa
 use Rattle.std.specs.Prelude.{None}
 use Rattle.std.specs.declared.alloc.Global.{Global}
 use Rattle.kernel_types.specs.declared.kernels.RKernel.{RKernel}
-use Rattle.fault_order.specs.Effects.{faults_first}
+use Rattle.kernel_model.specs.Effects.{faults_first}
 use Rattle.mesh_decl.specs.declared.owners.Owners.{Owners}
 use Rattle.mesh_decl.specs.Mesh.{dat_set}
 use Rattle.local_mesh.specs.declared.lists.LocalLists.{LocalLists}
-use Rattle.reductions.specs.Reduction.{Reduction}
+use Rattle.op_num.specs.Reduction.{Reduction}
 use Rattle.flat_machine.specs.Scatter.{Once}
 use Rattle.bound_program.specs.declared.sites.Arg.{Arg}
 use Rattle.bound_program.specs.declared.sites.Arg.TheVariants.{Dat, Global as Variable}

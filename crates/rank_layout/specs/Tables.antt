@@ -1,7 +1,7 @@
 -- The tables of a bound program with its plan: constants, partials, places, and the most cells of a frame.
 use Rattle.std.specs.Prelude.{ℕ, max, List, [], ◌∷◌, map, length, sum_by, slice_index, get_or, Option, Some, None}
 use Rattle.std.specs.List.{flat_map}
-use Rattle.reductions.specs.Reduction.{Reduction, Add}
+use Rattle.op_num.specs.Reduction.{Reduction, Add}
 use Rattle.schedule_model.specs.Cells.{VarCell}
 use Rattle.bound_program.specs.declared.sites.Arg.{Arg}
 use Rattle.bound_program.specs.declared.sites.Arg.TheVariants.{Dat, Global}

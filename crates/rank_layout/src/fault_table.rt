@@ -8,7 +8,7 @@ ghost use Rattle.rank_layout.specs.Made.{FaultsFirst};
 
 use crate::windows::{MAX_ARGS, width_of};
 use bound_program::{Bound, Site};
-use fault_order::faults_first;
+use kernel_model::fault_order::faults_first;
 use op_num::OutOfMemory;
 use std::alloc::Global;
 

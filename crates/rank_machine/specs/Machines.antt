@@ -2,7 +2,7 @@
 use Rattle.std.specs.Prelude.{◌≡◌, ℕ, ℤ, List, Vec, All, take, vec_len, Result, Ok, Err}
 use Rattle.flat_machine.specs.Layout.{Core, Faults, Leaves}
 use Rattle.std.specs.declared.alloc.Global.{Global}
-use Rattle.rank_memory.specs.Spare.{HasSpare}
+use Rattle.rank_state.specs.Spare.{HasSpare}
 
 -- where an element's windows have at most `stride` cells: each memory can take as many in behind its own, and the window holds as many
 pub record IsMachine (stride : ℕ) (memories : List (Vec ℤ Global)) (window : Vec ℤ Global) : Type 0 where

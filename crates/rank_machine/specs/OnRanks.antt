@@ -8,8 +8,8 @@ use Rattle.schedule_model.specs.Setup.{Setup}
 use Rattle.flat_machine.specs.Layout.{Layout}
 use Rattle.rank_state.specs.Machine.{State}
 use Rattle.rank_state.specs.Shows.{Tables}
-use Rattle.rank_memory.specs.Spare.{HasSpare}
-use Rattle.rank_memory.specs.Stops.{stop_in}
+use Rattle.rank_state.specs.Spare.{HasSpare}
+use Rattle.rank_state.specs.Stops.{stop_in}
 use Rattle.rank_program.specs.declared.program.DistributedProgram.{DistributedProgram}
 use Rattle.rank_program.specs.AloneRuns.{AllBegin, Share, Reaches, share_of}
 use Rattle.rank_program.specs.FromNone.{kept_both, with_fault}

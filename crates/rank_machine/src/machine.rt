@@ -3,19 +3,19 @@
 ghost use Rattle.std.specs.Prelude.{◌≡◌, ◌<◌, ◌*◌, ◌^◌, All, length, map, IfOk};
 ghost use Rattle.rank_state.specs.Starting.{units as united, started};
 ghost use Rattle.rank_state.specs.Indices.{values_at, InLength};
-ghost use Rattle.rank_memory.specs.Spare.{HasSpare};
+ghost use Rattle.rank_state.specs.Spare.{HasSpare};
 
 mod elements;
 mod joins;
 mod messages;
 mod rounds;
 
-use rank_memory::frames::Frames;
-use rank_memory::mail::Mail;
-use rank_memory::owned::gather_values;
-use rank_memory::scalars::unit;
-use rank_memory::stop::Stop;
 use rank_state::Operation;
+use rank_state::rank_memory::frames::Frames;
+use rank_state::rank_memory::mail::Mail;
+use rank_state::rank_memory::owned::gather_values;
+use rank_state::rank_memory::scalars::unit;
+use rank_state::rank_memory::stop::Stop;
 use std::alloc::{AllocError, Global};
 use std::marker::Model;
 
@@ -41,7 +41,7 @@ impl Model for Machine {
 
     ghost Value = { State KernelFault };
 
-    ghost use Rattle.rank_memory.specs.Stops.{stop_in};
+    ghost use Rattle.rank_state.specs.Stops.{stop_in};
     ghost use Rattle.rank_machine.specs.Machines.{IsMachine};
 
     ghost view = { λ m. record {

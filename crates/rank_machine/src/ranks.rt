@@ -3,13 +3,13 @@
 ghost use Rattle.std.specs.Prelude.{◌≡◌, ◌<◌, ◌||◌, map, length};
 ghost use Rattle.schedule_model.specs.Machine.{is_less, is_less_element};
 ghost use Rattle.par_exec.specs.Parts.{TakesEach, MadeEach};
-ghost use Rattle.rank_memory.specs.Stops.{stop_of, stop_in};
+ghost use Rattle.rank_state.specs.Stops.{stop_of, stop_in};
 ghost use Rattle.rank_program.specs.FromNone.{kept_both};
 ghost use Rattle.rank_machine.specs.OnRanks.{CanRunOn, RanOn, share_in, lent, kept_of_all, RanLent};
 
 use par_exec::{Gate, PartJob, run_parts};
-use rank_memory::stop::Stop;
 use rank_program::{DistributedProgram, Room, run_places};
+use rank_state::rank_memory::stop::Stop;
 use std::marker::Sync;
 use std::mem::swap;
 use std::thread::Threads;

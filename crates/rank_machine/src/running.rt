@@ -6,14 +6,14 @@ ghost use Rattle.rank_state.specs.Core.{fault_of};
 ghost use Rattle.rank_state.specs.Windows.{firsts, Reads};
 ghost use Rattle.rank_state.specs.Indices.{InLength, values_at};
 ghost use Rattle.rank_state.specs.Ordered.{Within_all, total_all, gathered_all, memories_after, variables_after};
-ghost use Rattle.rank_memory.specs.Spare.{KeepsSpare};
+ghost use Rattle.rank_state.specs.Spare.{KeepsSpare};
 ghost use Rattle.rank_machine.specs.Machines.{ran_in};
 ghost use Rattle.rank_program.specs.Sound.{Takes, layout_in};
 
 use kernel_types::KernelFault;
-use rank_memory::loading::load;
-use rank_memory::owned::{load_all, put_back_values, scatter_all};
 use rank_program::{DistributedProgram, run_kernel};
+use rank_state::rank_memory::loading::load;
+use rank_state::rank_memory::owned::{load_all, put_back_values, scatter_all};
 use rank_state::{Owned, Scalar, Span};
 
 /// Copies an element's windows into the frame and runs its kernel there; how many cells they have, or the fault.

@@ -5,7 +5,7 @@ ghost use Rattle.kernel_types.specs.declared.faults.KernelFault.{KernelFault};
 ghost use Rattle.flat_machine.specs.Flat.{Flat, StartsFlat};
 ghost use Rattle.rank_state.specs.Shows.{Shows};
 ghost use Rattle.rank_state.specs.Starting.{AreFirst};
-ghost use Rattle.rank_memory.specs.Spare.{HasSpare};
+ghost use Rattle.rank_state.specs.Spare.{HasSpare};
 ghost use Rattle.rank_program.specs.Sound.{Sound, setup_in, layout_in, tables_in};
 
 use crate::machine::Machine;

@@ -1,19 +1,19 @@
 -- The components of the arguments of a Free loop on dats stand in columns.
 use Rattle.std.proofs.Common.{◌≡◌, ◌<◌, ◌≤◌, ◌+◌, ◌*◌, ℕ, true, List, length, get_or, Option, Some, None, refl, sym, ap, ap₂, ◌∙◌, subst, ⊎_elim, arith}
 use Rattle.std.specs.Prelude.{slice_index}
-use Rattle.reductions.specs.declared.access.Access.{Access}
-use Rattle.reductions.specs.Access.{access_of}
+use Rattle.op_num.specs.declared.reductions.access.Access.{Access}
+use Rattle.op_num.specs.Access.{access_of}
 use Rattle.mesh_decl.specs.declared.access.Via.{Via}
-use Rattle.views.specs.declared.frame.Place.{Place}
+use Rattle.kernel_types.specs.declared.views.frame.Place.{Place}
 use Rattle.bound_program.specs.declared.sites.Arg.{Arg}
 use Rattle.run_model.specs.Arguments.{access_by}
 use Rattle.row_batches.specs.declared.rows.RowColumn.{RowColumn}
 use Rattle.row_batches.specs.declared.rows.RowLoop.{RowLoop}
 use Rattle.row_batches.specs.Ways.{local_in}
 use Rattle.row_batches.specs.RowLoops.{Allows, column_at, way_of, OnDat}
-use Rattle.batch_tables.specs.declared.args.LocalArg.{LocalArg}
-use Rattle.batch_tables.specs.Alike.{arg_in, same_column, IsFirst}
-use Rattle.batch_tables.specs.Tables.{place_at, local_at, IsShared, Opens}
+use Rattle.row_batches.specs.declared.batch_tables.args.LocalArg.{LocalArg}
+use Rattle.row_batches.specs.Alike.{arg_in, same_column, IsFirst}
+use Rattle.row_batches.specs.Tables.{place_at, local_at, IsShared, Opens}
 use Rattle.rank_program.proofs.RowArgs.{same_way_is, same_column_dat, same_column_way, are_same_column, column_sym, first_column_again}
 use Rattle.rank_program.proofs.RowWays.{IsOn, AreOn, AreTables, has_first}
 use Rattle.rank_program.proofs.RowWays as its

@@ -4,7 +4,7 @@ use Rattle.std.specs.Prelude.{◌↔◌, ◌==◌, true, nat_lt, slice_index}
 use Rattle.std.proofs.lemmas.Bool.Decides.{same_from_decides, Decides-ltb}
 use Rattle.std.proofs.lemmas.List.{get_or_default}
 use Rattle.mesh_decl.specs.Owners.{owner_of}
-use Rattle.halo_lists.specs.Halo.{owns}
+use Rattle.local_mesh.specs.Halo.{owns}
 use Rattle.local_mesh.specs.LocalMesh.{originals_in}
 use Rattle.local_mesh.specs.Numbers.{OwnedComeFirst, own_in}
 use Rattle.rank_layout.proofs.RankMeshes.{rank_mesh, sets_at, some_at}

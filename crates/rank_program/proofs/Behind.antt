@@ -4,10 +4,10 @@ use Rattle.std.proofs.lemmas.Bool.{cases_lt}
 use Rattle.std.proofs.lemmas.List.{get_or-map, get_or_append_left}
 use Rattle.kernel_model.specs.Meaning.{Target, no_target, target_at}
 use Rattle.kernel_model.specs.Obeys.{Mode, mode_at, no_mode}
-use Rattle.views.specs.declared.frame.Place.{Place}
-use Rattle.views.specs.Framed.{target_of}
+use Rattle.kernel_types.specs.declared.views.frame.Place.{Place}
+use Rattle.kernel_types.specs.Framed.{target_of}
 use Rattle.schedule_model.specs.Cells.{Cell, Data, Variable, DatCell, VarCell}
-use Rattle.element_runs.specs.OnWindows.{no_cell, OnWindows}
+use Rattle.run_model.specs.OnWindows.{no_cell, OnWindows}
 use Rattle.bound_program.specs.declared.sites.Arg.{Arg}
 use Rattle.bound_program.specs.declared.sites.Arg.TheVariants.{Dat, Global}
 use Rattle.bound_program.specs.Values.{BoundValue, SiteValue}

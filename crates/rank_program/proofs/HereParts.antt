@@ -2,10 +2,10 @@
 use Rattle.std.proofs.Common.{◌≡◌, ◌<◌, ◌≤◌, ◌+◌, ◌-◌, ◌*◌, ℕ, zero, suc, ℤ, Bool, false, true, List, [], ◌∷◌, ◌++◌, All, map, take, length, get_or, Option, Some, refl, sym, ap, ap₂, ◌∙◌, subst, arith}
 use Rattle.std.proofs.lemmas.List.{get_or_default, length-take-le}
 use Rattle.kernel_types.specs.declared.kernels.RKernel.{RKernel}
-use Rattle.views.specs.declared.frame.Place.{Place}
-use Rattle.views.specs.Framed.{PlacesIn, target_of}
-use Rattle.fault_order.specs.Effects.{faults_first}
-use Rattle.fault_order.specs.Law.{StopsUnchanged, HaveCounts, UnchangedAfterFaults}
+use Rattle.kernel_types.specs.declared.views.frame.Place.{Place}
+use Rattle.kernel_types.specs.Framed.{PlacesIn, target_of}
+use Rattle.kernel_model.specs.Effects.{faults_first}
+use Rattle.kernel_model.specs.Law.{StopsUnchanged, HaveCounts, UnchangedAfterFaults}
 use Rattle.mesh_decl.specs.Mesh.{set_size}
 use Rattle.local_mesh.specs.declared.types.RankMesh.{RankMesh}
 use Rattle.schedule_steps.specs.declared.step.Step.TheVariants.{Begin}
@@ -17,7 +17,7 @@ use Rattle.bound_program.specs.Values as value
 use Rattle.bound_program.specs.declared.sites.Arg.TheVariants.{Dat, Global}
 use Rattle.bound_program.specs.Values.{BoundValue, SiteValue, no_site}
 use Rattle.schedule_model.specs.Cells.{Cell, Data, DatCell}
-use Rattle.element_runs.specs.OnWindows.{no_cell, OnWindows}
+use Rattle.run_model.specs.OnWindows.{no_cell, OnWindows}
 use Rattle.bound_program.specs.Fits.{ArgFits, SiteFits}
 use Rattle.bound_program.specs.Classes.{modifies}
 use Rattle.bound_program.specs.Limits.{max_dim}
@@ -43,7 +43,7 @@ use Rattle.rank_program.specs.Keeping.{KeepsIn}
 use Rattle.rank_program.specs.declared.program.DistributedProgram.{DistributedProgram}
 use Rattle.rank_layout.specs.DatWindows.{spans_after, ArgHere}
 use Rattle.rank_program.specs.Here.{arg_stands, arg_place, behind, scalars_in}
-use Rattle.batch_tables.specs.declared.args.LocalArg.{LocalArg}
+use Rattle.row_batches.specs.declared.batch_tables.args.LocalArg.{LocalArg}
 use Rattle.rank_program.specs.LocalArgs.{AreArgs, InBuffer, places_in}
 use Rattle.rank_layout.specs.Numbered.{ArgThere}
 use Rattle.rank_layout.specs.Made.{writes_by}

@@ -4,15 +4,15 @@ use Rattle.std.specs.Prelude.{nat_eq}
 use Rattle.std.specs.List.{list_all}
 use Rattle.std.proofs.lemmas.Bool.{cases_lt, false≢true, lt-ltb, le-ltb, eq-eqb, or_cases, not-false, not_from_true}
 use Rattle.std.proofs.lemmas.List.{get_or-map, get_or_past, get_or_append_left, get_or-append-add, length-map, length-append}
-use Rattle.reductions.specs.Access.{OpRead, access_of}
-use Rattle.reductions.specs.declared.access.Access.{Access as Code}
-use Rattle.reductions.specs.declared.access.Access.TheVariants.{Read, Write, Rw, Inc, Min, Max}
+use Rattle.op_num.specs.Access.{OpRead, access_of}
+use Rattle.op_num.specs.declared.reductions.access.Access.{Access as Code}
+use Rattle.op_num.specs.declared.reductions.access.Access.TheVariants.{Read, Write, Rw, Inc, Min, Max}
 use Rattle.kernel_model.specs.Meaning.{Target, no_target, target_at}
 use Rattle.kernel_model.specs.Obeys.{Mode, mode_at, no_mode}
-use Rattle.views.specs.declared.frame.Place.{Place}
-use Rattle.views.specs.Framed.{target_of}
+use Rattle.kernel_types.specs.declared.views.frame.Place.{Place}
+use Rattle.kernel_types.specs.Framed.{target_of}
 use Rattle.schedule_model.specs.Cells.{Cell, Data, Variable}
-use Rattle.element_runs.specs.OnWindows.{no_cell, OnWindows}
+use Rattle.run_model.specs.OnWindows.{no_cell, OnWindows}
 use Rattle.bound_program.specs.declared.sites.Arg.{Arg}
 use Rattle.bound_program.specs.declared.sites.Arg.TheVariants.{Dat, Global}
 use Rattle.bound_program.specs.Values.{BoundValue, SiteValue}

@@ -4,12 +4,12 @@ use Rattle.std.specs.Prelude.{slice_index}
 use Rattle.std.proofs.Math.Nat.{suc-mul}
 use Rattle.std.proofs.lemmas.Bool.{cases_Bool, cases_lt, false≢true}
 use Rattle.std.proofs.lemmas.Nat.{same_from_place}
-use Rattle.reductions.specs.Reduction.{Reduction}
-use Rattle.reductions.specs.declared.access.Access.{Access}
-use Rattle.reductions.specs.Access.{OpRead, OpWrite, OpRw, OpReduce, access_of}
-use Rattle.reductions.specs.Access as model
+use Rattle.op_num.specs.Reduction.{Reduction}
+use Rattle.op_num.specs.declared.reductions.access.Access.{Access}
+use Rattle.op_num.specs.Access.{OpRead, OpWrite, OpRw, OpReduce, access_of}
+use Rattle.op_num.specs.Access as model
 use Rattle.mesh_decl.specs.declared.access.Via.{Via}
-use Rattle.views.specs.declared.frame.Place.{Place}
+use Rattle.kernel_types.specs.declared.views.frame.Place.{Place}
 use Rattle.bound_program.specs.declared.sites.Arg.{Arg}
 use Rattle.bound_program.specs.declared.sites.Arg.TheVariants.{Dat}
 use Rattle.run_model.specs.Arguments.{access_by}
@@ -17,9 +17,9 @@ use Rattle.row_batches.specs.declared.rows.RowColumn.{RowColumn}
 use Rattle.row_batches.specs.declared.rows.RowLoop.{RowLoop}
 use Rattle.row_batches.specs.Ways.{local_in}
 use Rattle.row_batches.specs.RowLoops.{Allows, column_at, column_access, way_of, column_cell, AreTested, IsWhole, LeadsFrom, ReduceApart}
-use Rattle.batch_tables.specs.declared.args.LocalArg.{LocalArg}
-use Rattle.batch_tables.specs.Alike.{arg_in, same_via, same_column, IsFirst}
-use Rattle.batch_tables.specs.Tables.{place_at, IsShared}
+use Rattle.row_batches.specs.declared.batch_tables.args.LocalArg.{LocalArg}
+use Rattle.row_batches.specs.Alike.{arg_in, same_via, same_column, IsFirst}
+use Rattle.row_batches.specs.Tables.{place_at, IsShared}
 use Rattle.rank_program.proofs.RowArgs.{same_via_is, same_way_is, same_column_dat, same_column_way, are_same_column, column_sym, column_trans, same_via_self, allows_reduction, orderly, they_meet}
 use Rattle.rank_program.proofs.RowWays.{IsOn, AreOn, AreTables}
 use Rattle.rank_program.proofs.RowWays as its

@@ -3,7 +3,7 @@ use Rattle.std.proofs.Common.{◌≡◌, ◌<◌, ℕ, ℤ, List, [], ◌∷◌,
 use Rattle.kernel_types.specs.declared.faults.KernelFault.{KernelFault}
 use Rattle.kernel_model.specs.Meaning as kernel
 use Rattle.mesh_decl.specs.Mesh.{set_size}
-use Rattle.element_runs.specs.OnWindows.{core_of}
+use Rattle.run_model.specs.OnWindows.{core_of}
 use Rattle.bound_program.specs.declared.sites.Arg.{Arg}
 use Rattle.bound_program.specs.declared.sites.Arg.TheVariants.{Dat, Global}
 use Rattle.bound_program.specs.Values.{BoundValue, SiteValue}

@@ -3,13 +3,13 @@ use Rattle.std.proofs.Common.{◌≡◌, ◌<◌, ◌≤◌, ◌+◌, ◌*◌, �
 use Rattle.std.specs.Prelude.{slice_index}
 use Rattle.std.proofs.lemmas.Bool.{cases_eq}
 use Rattle.std.proofs.lemmas.List.{get_or_default}
-use Rattle.views.specs.declared.frame.Place.{Place}
+use Rattle.kernel_types.specs.declared.views.frame.Place.{Place}
 use Rattle.mesh_decl.specs.Mesh.{MeshValue, dat_dim}
 use Rattle.local_mesh.specs.declared.types.RankMesh.{RankMesh}
 use Rattle.bound_program.specs.declared.sites.Arg.{Arg}
 use Rattle.bound_program.specs.declared.sites.Arg.TheVariants.{Dat, Global}
 use Rattle.run_model.specs.Arguments.{no_arg}
-use Rattle.batch_tables.specs.declared.args.LocalArg.{LocalArg}
+use Rattle.row_batches.specs.declared.batch_tables.args.LocalArg.{LocalArg}
 use Rattle.rank_layout.specs.DatWindows.{local_by, ArgHere}
 use Rattle.rank_program.specs.Here.{arg_place}
 use Rattle.row_batches.specs.Ways.{local_in}

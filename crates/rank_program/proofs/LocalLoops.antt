@@ -3,7 +3,7 @@ use Rattle.std.proofs.Common.{◌≡◌, ◌<◌, ◌≤◌, ℕ, Bool, false, t
 use Rattle.kernel_types.specs.declared.kernels.RKernel.{RKernel}
 use Rattle.kernel_types.specs.Resolved.{IsResolved}
 use Rattle.kernel_code.specs.declared.code.Code.{Code}
-use Rattle.fault_order.specs.Effects.{faults_first}
+use Rattle.kernel_model.specs.Effects.{faults_first}
 use Rattle.local_mesh.specs.declared.types.RankMesh.{RankMesh}
 use Rattle.schedule_steps.specs.declared.step.Step.TheVariants.{Begin}
 use Rattle.schedule_steps.specs.Steps.{IsStep}

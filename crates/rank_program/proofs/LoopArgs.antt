@@ -2,7 +2,7 @@
 use Rattle.std.proofs.Common.{◌≡◌, ◌<◌, ◌≤◌, ◌+◌, ◌*◌, ℕ, suc, true, false, List, length, get_or, Option, Some, None, refl, sym, ap, ap₂, ◌∙◌, subst, arith}
 use Rattle.std.specs.Prelude.{slice_index, ◌^◌, IfSome}
 use Rattle.std.proofs.Math.Nat.{suc-mul}
-use Rattle.reductions.specs.declared.access.Access.{Access}
+use Rattle.op_num.specs.declared.reductions.access.Access.{Access}
 use Rattle.mesh_decl.specs.declared.access.Via.{Via}
 use Rattle.mesh_decl.specs.Mesh.{dat_dim}
 use Rattle.schedule_model.specs.Cells.{Data, DatCell}
@@ -19,9 +19,9 @@ use Rattle.bound_plan.specs.Laws.{FramesAreReached}
 use Rattle.bound_plan.specs.Places.{original_at, cell_at}
 use Rattle.bound_plan.proofs.Trace.{class_is}
 use Rattle.row_batches.specs.Ways.{local_in}
-use Rattle.batch_tables.specs.declared.args.LocalArg.{LocalArg}
-use Rattle.batch_tables.specs.Alike.{arg_in, same_column}
-use Rattle.batch_tables.specs.Tables.{local_at}
+use Rattle.row_batches.specs.declared.batch_tables.args.LocalArg.{LocalArg}
+use Rattle.row_batches.specs.Alike.{arg_in, same_column}
+use Rattle.row_batches.specs.Tables.{local_at}
 use Rattle.rank_layout.specs.DatWindows.{local_by, ArgHere}
 use Rattle.rank_layout.specs.StepLaws.{IsBegin, StepsStand}
 use Rattle.rank_layout.specs.WindowLaws.{arg_span, IsPlaceOf, ArgsAreHere, ArgsHaveCells, ElementWindowsStand}

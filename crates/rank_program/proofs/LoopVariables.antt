@@ -2,11 +2,11 @@
 use Rattle.std.proofs.Common.{◌≡◌, ◌<◌, ◌≤◌, ◌+◌, ◌-◌, ℕ, List, [], map, length, get_or, Option, None, sym, ap, ◌∙◌, subst, arith}
 use Rattle.std.specs.Prelude.{◌^◌}
 use Rattle.std.proofs.lemmas.List.{get_or-map, length-map}
-use Rattle.reductions.specs.declared.access.Access.{Access}
-use Rattle.views.specs.declared.frame.Place.{Place}
-use Rattle.views.specs.Framed.{no_place}
+use Rattle.op_num.specs.declared.reductions.access.Access.{Access}
+use Rattle.kernel_types.specs.declared.views.frame.Place.{Place}
+use Rattle.kernel_types.specs.Framed.{no_place}
 use Rattle.schedule_model.specs.Cells.{Cell, Variable}
-use Rattle.element_runs.specs.OnWindows.{no_cell}
+use Rattle.run_model.specs.OnWindows.{no_cell}
 use Rattle.local_mesh.specs.declared.types.RankMesh.{RankMesh}
 use Rattle.bound_program.specs.declared.sites.Arg.{Arg}
 use Rattle.bound_program.specs.declared.sites.Arg.TheVariants.{Global}
@@ -17,9 +17,9 @@ use Rattle.bound_plan.specs.Laws.{FramesAreReached}
 use Rattle.bound_plan.specs.Places.{cell_at}
 use Rattle.bound_plan.specs.Variables.{variable_at}
 use Rattle.rank_state.specs.Windows.{scalar_cells}
-use Rattle.batch_tables.specs.declared.args.LocalArg.{LocalArg}
-use Rattle.batch_tables.specs.Alike.{arg_in}
-use Rattle.batch_tables.specs.Tables.{place_at, local_at}
+use Rattle.row_batches.specs.declared.batch_tables.args.LocalArg.{LocalArg}
+use Rattle.row_batches.specs.Alike.{arg_in}
+use Rattle.row_batches.specs.Tables.{place_at, local_at}
 use Rattle.rank_layout.specs.StepLaws.{StepsStand}
 use Rattle.rank_layout.specs.WindowLaws.{ArgsAreHere, ArgsHaveCells, ElementWindowsStand}
 use Rattle.rank_program.specs.declared.program.DistributedProgram.{DistributedProgram}

@@ -2,14 +2,14 @@
 use Rattle.std.proofs.Common.{◌≡◌, ◌≢◌, ◌<◌, ◌⊎◌, inl, inr, ℕ, zero, suc, Bool, true, false, not, List, [], ◌∷◌, length, get_or, Option, Some, None, refl, sym, ap, ap₂, ◌∙◌, subst, ⊎_elim, arith}
 use Rattle.std.specs.Prelude.{nat_eq, ◌&&◌}
 use Rattle.std.proofs.lemmas.Bool.{cases_Bool, false≢true, eqb-true, eq-eqb, and_parts, cond-true, cond-false}
-use Rattle.reductions.specs.Reduction.{Reduction}
-use Rattle.reductions.specs.declared.access.Access.{Access}
-use Rattle.reductions.specs.declared.access.Access.TheVariants.{Read, Write, Rw, Inc, Min, Max}
-use Rattle.reductions.specs.Access.{OpRead, OpWrite, OpRw, OpReduce, access_of}
-use Rattle.reductions.specs.Access as model
+use Rattle.op_num.specs.Reduction.{Reduction}
+use Rattle.op_num.specs.declared.reductions.access.Access.{Access}
+use Rattle.op_num.specs.declared.reductions.access.Access.TheVariants.{Read, Write, Rw, Inc, Min, Max}
+use Rattle.op_num.specs.Access.{OpRead, OpWrite, OpRw, OpReduce, access_of}
+use Rattle.op_num.specs.Access as model
 use Rattle.mesh_decl.specs.declared.access.Via.{Via}
-use Rattle.schedule_laws.specs.Arguments as theorem
-use Rattle.schedule_laws.specs.Arguments.{is_on, modifying, is_direct}
+use Rattle.schedule_model.specs.Arguments as theorem
+use Rattle.schedule_model.specs.Arguments.{is_on, modifying, is_direct}
 use Rattle.bound_program.specs.declared.sites.Arg.{Arg}
 use Rattle.bound_program.specs.declared.sites.Arg.TheVariants.{Dat, Global}
 use Rattle.bound_program.specs.declared.sites.Class.TheVariants as class
@@ -24,7 +24,7 @@ use Rattle.rank_state.specs.declared.scalars.Scalar.{Scalar}
 use Rattle.rank_state.specs.declared.scalars.Scalar.TheVariants.{Value, Amount}
 use Rattle.rank_state.specs.Windows.{operation}
 use Rattle.row_batches.specs.RowLoops.{Allows, AllowsScalar}
-use Rattle.batch_tables.specs.Alike.{arg_in, same_via, same_way, same_column, may_meet, IsFirst}
+use Rattle.row_batches.specs.Alike.{arg_in, same_via, same_way, same_column, may_meet, IsFirst}
 
 -- ---- ways
 

@@ -3,16 +3,16 @@ use Rattle.std.proofs.Common.{◌≡◌, ◌≢◌, ◌<◌, ◌≤◌, ◌+◌,
 use Rattle.std.specs.Prelude.{slice_index}
 use Rattle.std.proofs.lemmas.Bool.{cases_lt, cases_eq}
 use Rattle.std.proofs.lemmas.List.{get_or-map, get_or_past, length-map}
-use Rattle.reductions.specs.Access.{OpRead, OpReduce, access_of}
+use Rattle.op_num.specs.Access.{OpRead, OpReduce, access_of}
 use Rattle.mesh_decl.specs.declared.access.Via.{Via}
 use Rattle.mesh_decl.specs.Mesh.{dat_dim}
-use Rattle.views.specs.declared.frame.Place.{Place}
-use Rattle.views.specs.Framed.{target_of, no_place, PlacesIn}
+use Rattle.kernel_types.specs.declared.views.frame.Place.{Place}
+use Rattle.kernel_types.specs.Framed.{target_of, no_place, PlacesIn}
 use Rattle.kernel_model.specs.Meaning.{Target, target_at}
 use Rattle.kernel_model.specs.Obeys.{Mode, mode_at, no_mode, KernelObeys}
 use Rattle.kernel_model.specs.Independence.{access, dim}
 use Rattle.schedule_model.specs.Cells.{Cell, Variable}
-use Rattle.element_runs.specs.OnWindows.{no_cell}
+use Rattle.run_model.specs.OnWindows.{no_cell}
 use Rattle.local_mesh.specs.declared.types.RankMesh.{RankMesh}
 use Rattle.bound_program.specs.declared.sites.Arg.{Arg}
 use Rattle.bound_program.specs.declared.sites.Arg.TheVariants.{Global}
@@ -29,9 +29,9 @@ use Rattle.rank_layout.specs.Made.{EachIsScalar}
 use Rattle.row_batches.specs.declared.rows.RowLoop.{RowLoop}
 use Rattle.row_batches.specs.Ways.{local_in}
 use Rattle.row_batches.specs.RowLoops.{AllowsScalar, scalar_in, width, column_access, OnDat, OnVariable, NeverMeet, ReduceApart, RunsInRows, IsModified, MergeAlike}
-use Rattle.batch_tables.specs.declared.args.LocalArg.{LocalArg}
-use Rattle.batch_tables.specs.Alike.{arg_in}
-use Rattle.batch_tables.specs.Tables.{place_at, local_at, scalar_place}
+use Rattle.row_batches.specs.declared.batch_tables.args.LocalArg.{LocalArg}
+use Rattle.row_batches.specs.Alike.{arg_in}
+use Rattle.row_batches.specs.Tables.{place_at, local_at, scalar_place}
 use Rattle.rank_layout.specs.DatWindows.{local_by}
 use Rattle.rank_layout.specs.StepLaws.{IsBegin, StepsStand}
 use Rattle.rank_layout.specs.WindowLaws.{ArgsAreHere, ArgsHaveCells, ElementWindowsStand}

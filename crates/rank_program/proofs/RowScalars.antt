@@ -2,11 +2,11 @@
 use Rattle.std.proofs.Common.{◌≡◌, ◌<◌, ℕ, zero, suc, Bool, true, false, List, [], ◌∷◌, length, get_or, Option, Some, None, refl, sym, ap, ◌∙◌, subst, arith}
 use Rattle.std.specs.Prelude.{nat_lt}
 use Rattle.std.proofs.lemmas.Bool.{lt-ltb, ltb-true, cond-true, cond-false}
-use Rattle.reductions.specs.Reduction.{Reduction}
-use Rattle.reductions.specs.declared.access.Access.{Access}
-use Rattle.reductions.specs.Access.{OpRead, OpReduce, access_of}
+use Rattle.op_num.specs.Reduction.{Reduction}
+use Rattle.op_num.specs.declared.reductions.access.Access.{Access}
+use Rattle.op_num.specs.Access.{OpRead, OpReduce, access_of}
 use Rattle.schedule_model.specs.Cells.{Variable, VarCell}
-use Rattle.element_runs.specs.OnWindows.{no_cell}
+use Rattle.run_model.specs.OnWindows.{no_cell}
 use Rattle.bound_program.specs.declared.sites.Arg.TheVariants.{Global}
 use Rattle.bound_program.specs.Values.{BoundValue}
 use Rattle.bound_program.specs.Fits.{GlobalAccess, AllApart, site_at}

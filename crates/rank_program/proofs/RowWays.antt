@@ -2,9 +2,9 @@
 use Rattle.std.proofs.Common.{◌≡◌, ◌<◌, ◌≤◌, ◌+◌, ◌*◌, inl, inr, ℕ, zero, suc, Bool, true, false, List, length, get_or, Option, Some, None, refl, sym, ap, ◌∙◌, subst, ⊎_elim, arith}
 use Rattle.std.specs.Prelude.{slice_index}
 use Rattle.std.proofs.lemmas.Bool.{cases_Bool, cases_eq}
-use Rattle.reductions.specs.declared.access.Access.{Access}
+use Rattle.op_num.specs.declared.reductions.access.Access.{Access}
 use Rattle.mesh_decl.specs.declared.access.Via.{Via}
-use Rattle.views.specs.declared.frame.Place.{Place}
+use Rattle.kernel_types.specs.declared.views.frame.Place.{Place}
 use Rattle.bound_program.specs.declared.sites.Arg.{Arg}
 use Rattle.bound_program.specs.declared.sites.Arg.TheVariants.{Dat}
 use Rattle.bound_program.specs.declared.sites.Class.TheVariants as class
@@ -12,10 +12,10 @@ use Rattle.bound_program.specs.Classes.{class_of}
 use Rattle.row_batches.specs.declared.rows.RowLoop.{RowLoop}
 use Rattle.row_batches.specs.Ways.{HasTarget, local_in}
 use Rattle.row_batches.specs.RowLoops.{column_at}
-use Rattle.batch_tables.specs.declared.args.LocalArg.{LocalArg}
-use Rattle.batch_tables.specs.Alike.{arg_in, same_way, IsFirst}
-use Rattle.batch_tables.specs.Tables.{via_of, local_at, AreWays, AreColumns, ArePairs, IsStored}
-use Rattle.batch_tables.proofs.Firsts.{unique}
+use Rattle.row_batches.specs.declared.batch_tables.args.LocalArg.{LocalArg}
+use Rattle.row_batches.specs.Alike.{arg_in, same_way, IsFirst}
+use Rattle.row_batches.specs.Tables.{via_of, local_at, AreWays, AreColumns, ArePairs, IsStored}
+use Rattle.row_batches.proofs.batch_tables.Firsts.{unique}
 use Rattle.rank_program.proofs.RowArgs.{same_way_is, same_way_of, first_way_again}
 
 -- each argument has a first one that is like it

@@ -1,8 +1,8 @@
 -- Batches of a loop's elements on a rank: those that run in rows.
 use Rattle.std.specs.Prelude.{◌≡◌, ◌<◌, ◌≤◌, ◌+◌, ◌⊎◌, ◌||◌, ℕ, ℤ, Bool, true, false, List, [], ◌∷◌, length, slice_index, Option}
 use Rattle.kernel_types.specs.declared.faults.KernelFault.{KernelFault}
-use Rattle.views.specs.declared.frame.Place.{Place}
-use Rattle.views.specs.Framed.{PlacesIn}
+use Rattle.kernel_types.specs.declared.views.frame.Place.{Place}
+use Rattle.kernel_types.specs.Framed.{PlacesIn}
 use Rattle.schedule_steps.specs.declared.step.Step.TheVariants.{Begin}
 use Rattle.schedule_steps.specs.Steps.{IsStep}
 use Rattle.schedule_model.specs.Sequential.{Stop}

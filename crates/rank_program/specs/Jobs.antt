@@ -7,10 +7,10 @@ use Rattle.kernel_types.specs.Resolved.{IsResolved}
 use Rattle.kernel_model.specs.Meaning.{kernel_meaning}
 use Rattle.kernel_model.specs.Meaning as kernel
 use Rattle.kernel_code.specs.Coded.{IsCode}
-use Rattle.views.specs.declared.frame.Place.{Place}
-use Rattle.views.specs.Framed.{target_of, PlacesIn}
+use Rattle.kernel_types.specs.declared.views.frame.Place.{Place}
+use Rattle.kernel_types.specs.Framed.{target_of, PlacesIn}
 use Rattle.flat_machine.specs.Layout.{Core, Faults, Leaves}
-use Rattle.element_runs.specs.OnWindows.{core_of}
+use Rattle.run_model.specs.OnWindows.{core_of}
 use Rattle.par_exec.specs.Windows as par
 use Rattle.rank_program.specs.declared.tasks.Task.{Task}
 use Rattle.rank_program.specs.declared.tasks.Targets.{Targets}

@@ -1,7 +1,7 @@
 -- The arguments of a loop on dats by a rank's local numbers.
 use Rattle.std.specs.Prelude.{ℕ, ◌≡◌, ◌+◌, ◌*◌, ◌<◌, ◌≤◌, ◌^◌, List, [], ◌∷◌, Option, Some, None}
 use Rattle.std.specs.Prelude.{length, get_or, slice_index}
-use Rattle.views.specs.declared.frame.Place.{Place}
+use Rattle.kernel_types.specs.declared.views.frame.Place.{Place}
 use Rattle.mesh_decl.specs.declared.access.Via.{Via}
 use Rattle.mesh_decl.specs.Mesh.{MeshValue, dat_dim}
 use Rattle.local_mesh.specs.declared.types.RankMesh.{RankMesh}
@@ -10,7 +10,7 @@ use Rattle.bound_program.specs.declared.sites.Arg.TheVariants.{Dat, Global}
 use Rattle.rank_layout.specs.DatWindows.{local_by, ViaHere}
 use Rattle.row_batches.specs.declared.ways.LocalVia.{LocalVia}
 use Rattle.row_batches.specs.Ways.{HasTarget, local_in}
-use Rattle.batch_tables.specs.declared.args.LocalArg.{LocalArg}
+use Rattle.row_batches.specs.declared.batch_tables.args.LocalArg.{LocalArg}
 
 module _ (x : ℕ) where
   -- where the argument's cells stand for a place; those of one on a variable stand where they stood

@@ -1,11 +1,11 @@
 -- What the elements of a loop that run on a rank's own cells have in common.
 use Rattle.std.specs.Prelude.{◌≡◌, ◌<◌, ◌≤◌, ◌+◌, ℕ, ℤ, true, All, List, length, map, get_or, Some, slice_index_or}
-use Rattle.views.specs.declared.frame.Place.{Place}
+use Rattle.kernel_types.specs.declared.views.frame.Place.{Place}
 use Rattle.kernel_types.specs.Resolved.{IsResolved}
 use Rattle.kernel_code.specs.Coded.{IsCode}
-use Rattle.fault_order.specs.Effects.{faults_first}
+use Rattle.kernel_model.specs.Effects.{faults_first}
 use Rattle.schedule_model.specs.Cells.{Cell, Variable}
-use Rattle.element_runs.specs.OnWindows.{no_cell}
+use Rattle.run_model.specs.OnWindows.{no_cell}
 use Rattle.bound_program.specs.declared.sites.Arg.{Arg}
 use Rattle.bound_program.specs.declared.sites.Arg.TheVariants.{Dat, Global}
 use Rattle.bound_program.specs.Values.{BoundValue}

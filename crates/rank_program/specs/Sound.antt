@@ -4,7 +4,7 @@ use Rattle.kernel_types.specs.declared.faults.KernelFault.{KernelFault}
 use Rattle.kernel_code.specs.Codes.{AreCodesOf, HaveRoom}
 use Rattle.mesh_decl.specs.Mesh.{set_size}
 use Rattle.mesh_decl.specs.declared.owners.Perms.{Perms}
-use Rattle.halo_lists.specs.declared.types.Halos.{Halos}
+use Rattle.local_mesh.specs.declared.halo_lists.types.Halos.{Halos}
 use Rattle.schedule_steps.specs.Outline.{Outline}
 use Rattle.schedule_steps.specs.declared.step.Step.TheVariants.{Begin}
 use Rattle.schedule_steps.specs.Steps.{IsStep}

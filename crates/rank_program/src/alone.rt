@@ -1,8 +1,8 @@
 // Elements that begin and end one after another on a rank.
 
 ghost use Rattle.std.specs.Prelude.{◌≡◌, ◌<◌, ◌+◌, length, take, vec_capacity};
-ghost use Rattle.rank_memory.specs.Spare.{HasSpare};
-ghost use Rattle.rank_memory.specs.Stops.{stop_in};
+ghost use Rattle.rank_state.specs.Spare.{HasSpare};
+ghost use Rattle.rank_state.specs.Stops.{stop_in};
 ghost use Rattle.rank_program.specs.Rooms.{HasRoomOf};
 ghost use Rattle.rank_program.specs.AloneRuns.{AllBegin, Reaches};
 ghost use Rattle.rank_program.specs.Keeping.{KeepsIn};
@@ -13,7 +13,7 @@ use crate::local_loops::local_loop;
 use crate::program::DistributedProgram;
 use crate::room::Room;
 use rank_layout::MAX_ARGS;
-use rank_memory::stop::Stop;
+use rank_state::rank_memory::stop::Stop;
 
 // Puts so many cells behind those of a buffer, which has the capacity.
 fn lengthen(memory: &mut Vec<i32>, count: usize)

@@ -1,7 +1,7 @@
 // Batches of a loop's elements on a rank: up to 64 of them at once where they can run in rows, else one after another.
 
 ghost use Rattle.std.specs.Prelude.{◌≡◌, ◌<◌, ◌≤◌, ◌+◌, ◌==◌, ℕ, true, false, length, take, get_or, slice_index};
-ghost use Rattle.rank_memory.specs.Stops.{stop_in};
+ghost use Rattle.rank_state.specs.Stops.{stop_in};
 ghost use Rattle.rank_program.specs.Rooms.{most_saved, most_ways, most_columns};
 ghost use Rattle.rank_program.specs.AloneRuns.{AllBegin};
 ghost use Rattle.row_batches.specs.RowLoops.{HasRowRoom};
@@ -16,11 +16,11 @@ use crate::local_loops::LocalLoop;
 use crate::room::MOST_COLUMNS;
 use crate::row_loops::{MOST_PAIRS, no_column, row_loop};
 use kernel_columns::{Numbers, ROWS};
+use kernel_types::views::Place;
 use rank_layout::{MAX_ARGS, element_windows_stand, steps_stand, windows_stand};
-use rank_memory::stop::Stop;
 use rank_state::Scalar;
+use rank_state::rank_memory::stop::Stop;
 use row_batches::{FEWEST, RowLoop, RowRoom, run_batch};
-use views::Place;
 
 // Whether a loop reduces into a variable.
 fn reduces(scalars: &[Scalar]) -> bool

@@ -6,7 +6,7 @@ ghost use Rattle.schedule_steps.specs.Steps.{IsStep};
 ghost use Rattle.flat_machine.specs.Layout.{by_place};
 ghost use Rattle.rank_state.specs.Windows.{Merges};
 ghost use Rattle.rank_state.specs.Machine.{noted};
-ghost use Rattle.rank_memory.specs.Stops.{stop_in};
+ghost use Rattle.rank_state.specs.Stops.{stop_in};
 ghost use Rattle.rank_program.specs.Rooms.{most_saved, most_ways, most_columns};
 ghost use Rattle.rank_program.specs.AloneRuns.{AllBegin, Reaches, RunsAt};
 ghost use Rattle.row_batches.specs.RowLoops.{HasRowRoom};
@@ -22,11 +22,11 @@ use crate::items::site_of;
 use crate::local_args::put_places;
 use crate::local_loops::LocalLoop;
 use kernel_types::KernelFault;
+use kernel_types::views::Place;
 use rank_layout::{MAX_ARGS, element_windows_stand, put_windows, steps_stand, windows_stand};
-use rank_memory::scalars::{fill, merge_amounts};
-use rank_memory::stop::{Stop, least};
+use rank_state::rank_memory::scalars::{fill, merge_amounts};
+use rank_state::rank_memory::stop::{Stop, least};
 use row_batches::RowRoom;
-use views::Place;
 
 // Puts down where windows stand behind so many cells, which stood behind so many others.
 fn move_behind(width: usize, others: usize, windows: &[Place], cells: &mut [Place])
@@ -140,7 +140,7 @@ fn run_element(
     windows_stand();
     element_windows_stand();
     bound_plan::frames_are_reached();
-    fault_order::unchanged_after_faults();
+    kernel_model::fault_order::unchanged_after_faults();
     let width = local.part.cells;
     put_places(local.args, place, cells);
     fill(local.variables, local.scalars, width, memory);

@@ -5,7 +5,7 @@ ghost use Rattle.kernel_types.specs.Resolved.{IsResolved};
 ghost use Rattle.kernel_model.specs.Meaning.{kernel_meaning};
 ghost use Rattle.kernel_code.specs.Coded.{IsCode};
 ghost use Rattle.mesh_decl.specs.Mesh.{set_size};
-ghost use Rattle.element_runs.specs.OnWindows.{core_of};
+ghost use Rattle.run_model.specs.OnWindows.{core_of};
 ghost use Rattle.bound_program.specs.Values.{bound_of, site_of};
 ghost use Rattle.bound_program.specs.Fits.{SiteFits};
 ghost use Rattle.rank_state.specs.Core.{ran_of};
@@ -17,8 +17,8 @@ use crate::program::DistributedProgram;
 use bound_program::{Bound, Site};
 use kernel_code::{Code, run_on};
 use kernel_types::KernelFault;
+use kernel_types::views::Place;
 use rank_layout::{MAX_ARGS, put_windows};
-use views::Place;
 
 // Runs a loop's kernel for an element on the windows of its frame, with the values of all constants. An error is the first fault
 // of the run.

@@ -10,11 +10,11 @@ ghost use Rattle.rank_program.specs.Sound.{Sound, setup_in, layout_in, tables_in
 use crate::items::{loop_of, site_of};
 use crate::local_args::put_local_args;
 use crate::program::DistributedProgram;
-use batch_tables::LocalArg;
 use kernel_code::Code;
 use local_mesh::RankMesh;
 use rank_layout::{MachineTables, element_windows_stand, row_of, steps_stand, windows_stand};
 use rank_state::Scalar;
+use row_batches::batch_tables::LocalArg;
 
 /// The loop of an item on a rank, with the values that its kernel reads.
 #[derive(Drop)]

@@ -8,12 +8,12 @@ ghost use Rattle.rank_program.specs.Sound.{Sound};
 use crate::items::site_of;
 use crate::local_loops::LocalLoop;
 use crate::room::MOST_COLUMNS;
-use batch_tables::{put_columns, put_pairs, put_scalars, put_ways, stores};
 use kernel_columns::is_straight;
+use kernel_types::views::Place;
+use op_num::reductions::Access;
 use rank_layout::{MAX_ARGS, element_windows_stand, steps_stand, windows_stand};
-use reductions::Access;
+use row_batches::batch_tables::{put_columns, put_pairs, put_scalars, put_ways, stores};
 use row_batches::{LocalVia, RowColumn, RowLoop};
-use views::Place;
 
 /// As many pairs as a loop has of different arguments at most.
 pub const MOST_PAIRS: usize = MAX_ARGS * (MAX_ARGS - 1) / 2;

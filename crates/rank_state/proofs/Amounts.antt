@@ -2,7 +2,7 @@
 use Rattle.std.proofs.Common.{◌≡◌, ℕ, zero, suc, ℤ, pos, ◌+◌, ◌<◌, ◌≤◌, Bool, true, false, refl, sym, ap, ◌∙◌, arith, ⊎_elim, Some, List, [], ◌∷◌, ◌++◌, length, drop, get_or, set, get_or-set_same, get_or-set_other, length-set, append_assoc, append-nil}
 use Rattle.std.proofs.lemmas.Bool.{cases_Bool, false≢true, false_from_ne_true, or_cases, or_parts, or_left, or_right, cond-true, cond-false, eqb-true}
 use Rattle.std.proofs.lemmas.List.{drop-drop}
-use Rattle.reductions.specs.Reduction.{merged}
+use Rattle.op_num.specs.Reduction.{merged}
 use Rattle.schedule_model.specs.Cells.{Cell, Variable, DatCell, VarCell, same_cell}
 use Rattle.schedule_model.specs.Tests.{same_cell_refl, same_cell_true}
 use Rattle.schedule_model.specs.Setup.{Setup}

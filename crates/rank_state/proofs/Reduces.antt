@@ -3,7 +3,7 @@ use Rattle.std.proofs.Common.{◌≡◌, ℕ, zero, suc, ℤ, pos, ◌<◌, ◌�
 use Rattle.std.specs.Prelude.{◌==◌}
 use Rattle.std.proofs.lemmas.Bool.{cases_Bool, cases_eq, false≢true, false_from_ne_true, or_cases, or_parts, or_left, or_right, cond-true, cond-false, eqb-true, eq-eqb, ne_eqb}
 use Rattle.std.proofs.lemmas.List.{ext_get_or, get_or-map, length-map}
-use Rattle.reductions.specs.Reduction.{Reduction, unit_of, merged}
+use Rattle.op_num.specs.Reduction.{Reduction, unit_of, merged}
 use Rattle.schedule_model.specs.Cells.{Variable, VarCell, same_cell}
 use Rattle.schedule_model.specs.Tests.{same_cell_refl}
 use Rattle.schedule_model.specs.Setup.{Setup}

@@ -1,7 +1,7 @@
 -- The lists at the start show the start of the flat machine.
 use Rattle.std.proofs.Common.{◌≡◌, ◌<◌, ℕ, zero, suc, ℤ, pos, refl, sym, ap, subst, ◌∙◌, arith, List, [], ◌∷◌, length, map, get_or, replicate, None}
 use Rattle.std.proofs.lemmas.List.{get_or-map, length-map, length-replicate}
-use Rattle.reductions.specs.Reduction.{unit_of}
+use Rattle.op_num.specs.Reduction.{unit_of}
 use Rattle.schedule_model.specs.Setup.{Setup}
 use Rattle.schedule_model.specs.Machine.{unit_at}
 use Rattle.flat_machine.specs.Layout.{Layout}

@@ -1,6 +1,6 @@
 -- The joins of the machine's lists: a Reduce, a host statement, and a stop.
 use Rattle.std.specs.Prelude.{◌≡◌, ◌<◌, ℕ, zero, suc, ℤ, pos, Bool, true, false, ◌||◌, ◌==◌, List, [], ◌∷◌, map, length, get_or, set, Some}
-use Rattle.reductions.specs.Reduction.{Reduction, unit_of, merged}
+use Rattle.op_num.specs.Reduction.{Reduction, unit_of, merged}
 use Rattle.schedule_model.specs.Setup.{Setup}
 use Rattle.flat_machine.specs.Layout.{Layout}
 use Rattle.flat_machine.specs.Scatter.{Once}

@@ -11,3 +11,7 @@ pub mod Ordered
 pub mod Starting
 pub mod Groups
 pub mod Indices
+pub mod Slots
+pub mod Letters
+pub mod Spare
+pub mod Stops

@@ -4,7 +4,7 @@ use Rattle.schedule_model.specs.Cells.{Data, Variable}
 use Rattle.schedule_model.specs.Setup.{Setup}
 use Rattle.schedule_model.specs.Machine.{unit_at}
 use Rattle.flat_machine.specs.Layout.{Layout}
-use Rattle.reductions.specs.Reduction.{unit_of}
+use Rattle.op_num.specs.Reduction.{unit_of}
 use Rattle.rank_state.specs.declared.scalars.Operation.{Operation}
 use Rattle.rank_state.specs.declared.scalars.Operation.TheVariants.{Sum}
 use Rattle.rank_state.specs.Windows.{operation}

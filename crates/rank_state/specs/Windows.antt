@@ -1,6 +1,6 @@
 -- The cells of a layout that spans of a buffer, and scalars behind them, stand for.
 use Rattle.std.specs.Prelude.{◌≡◌, ◌<◌, ◌+◌, ℕ, zero, suc, ℤ, pos, Bool, false, ◌||◌, ◌==◌, List, [], ◌∷◌, ◌++◌, get_or, set}
-use Rattle.reductions.specs.Reduction.{Reduction, unit_of, merged}
+use Rattle.op_num.specs.Reduction.{Reduction, unit_of, merged}
 use Rattle.schedule_model.specs.Cells.{Cell, Data, Variable, DatCell, VarCell}
 use Rattle.rank_state.specs.declared.spans.Span.{Span}
 use Rattle.rank_state.specs.declared.scalars.Operation.{Operation}

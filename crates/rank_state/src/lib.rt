@@ -3,6 +3,7 @@
 
 mod laws;
 mod owned;
+pub mod rank_memory;
 mod scalars;
 mod spans;
 

@@ -6,11 +6,11 @@ use Rattle.std.proofs.lemmas.List.{ext_get_or, get_or_default, get_or-take, leng
 use Rattle.mesh_decl.specs.declared.owners.Perms.{Perms}
 use Rattle.mesh_decl.specs.Mesh.{MeshValue, IsMapAt, set_count, set_size, map_from, map_to, map_dim, target}
 use Rattle.mesh_decl.specs.Owners.{ArePerms, IsNumbering, perm_in}
-use Rattle.breadth_order.specs.Taken.{IsTaken, IsNext, Rises, earliest}
-use Rattle.breadth_order.specs.Neighbours.{are_neighbours}
-use Rattle.breadth_order.specs.Degrees.{degree_order}
-use Rattle.breadth_order.specs.OneOrder.{AreApart, IsOneOrder, DegreesAreApart}
-use Rattle.breadth_order.proofs.OneOrder.{in_front, low_parts}
+use Rattle.renumber.specs.Taken.{IsTaken, IsNext, Rises, earliest}
+use Rattle.renumber.specs.Neighbours.{are_neighbours}
+use Rattle.renumber.specs.Degrees.{degree_order}
+use Rattle.renumber.specs.OneOrder.{AreApart, IsOneOrder, DegreesAreApart}
+use Rattle.renumber.proofs.breadth_order.OneOrder.{in_front, low_parts}
 use Rattle.renumber.specs.Identity.{IsIdentity}
 use Rattle.renumber.specs.CuthillMcKee.{IsCuthillMcKee, IsByTargets, least_below, target_key}
 

@@ -4,7 +4,7 @@ use Rattle.std.specs.List.{Contains, All}
 use Rattle.std.proofs.lemmas.List.Sorted.{IsPermutation-reverse, All-permutation, Contains-permutation, length_permutation}
 use Rattle.std.proofs.lemmas.List.{get_or_default}
 use Rattle.mesh_decl.specs.Owners.{IsNumbering}
-use Rattle.breadth_order.specs.Taken.{IsTaken}
+use Rattle.renumber.specs.Taken.{IsTaken}
 use Rattle.renumber.proofs.Numbering.{numbering_from}
 
 below : (n : ℕ) (near : ℕ → ℕ → Bool) (key : ℕ → ℕ) (xs : List ℕ) → IsTaken n near key xs → All (λ x. x < n) xs

@@ -3,9 +3,9 @@ use Rattle.std.specs.Prelude.{◌≡◌, ◌≢◌, ℕ, zero, suc, ◌+◌, ◌
 use Rattle.mesh_decl.specs.declared.owners.Perms.{Perms}
 use Rattle.mesh_decl.specs.Mesh.{MeshValue, set_count, set_size, map_from, map_to, map_dim, target}
 use Rattle.mesh_decl.specs.Owners.{ArePerms, IsNumbering, perm_in}
-use Rattle.breadth_order.specs.Neighbours.{are_neighbours}
-use Rattle.breadth_order.specs.Degrees.{degree_order}
-use Rattle.breadth_order.specs.Taken.{IsTaken, Rises}
+use Rattle.renumber.specs.Neighbours.{are_neighbours}
+use Rattle.renumber.specs.Degrees.{degree_order}
+use Rattle.renumber.specs.Taken.{IsTaken, Rises}
 
 -- the least of f 0, f 1, .. below n; where n is 0, 2 ^ 32 - 1, which is above all numbers of elements
 abbrev pub least_below : ℕ → (ℕ → ℕ) → ℕ

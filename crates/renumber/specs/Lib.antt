@@ -1,3 +1,9 @@
 pub mod Identity
 pub mod CuthillMcKee
 pub mod OneNumbering
+pub mod Taken
+pub mod Neighbours
+pub mod Keys
+pub mod Degrees
+pub mod Unseen
+pub mod OneOrder

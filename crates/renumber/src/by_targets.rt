@@ -4,7 +4,7 @@ ghost use Rattle.mesh_decl.specs.Mesh.{IsMapAt, map_count, set_size, map_from, m
 ghost use Rattle.mesh_decl.specs.Owners.{IsNumbering};
 ghost use Rattle.renumber.specs.CuthillMcKee.{least_below, IsByTargets};
 
-use breadth_order::by_keys;
+use crate::breadth_order::by_keys;
 use mesh_decl::Mesh;
 use op_num::OutOfMemory;
 use std::alloc::Global;

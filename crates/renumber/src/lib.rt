@@ -6,11 +6,12 @@ ghost use Rattle.mesh_decl.specs.Mesh.{map_count};
 ghost use Rattle.renumber.specs.Identity.{IsIdentity};
 ghost use Rattle.renumber.specs.CuthillMcKee.{IsCuthillMcKee};
 
+pub mod breadth_order;
 mod by_targets;
 mod laws;
 mod orders;
 
-use breadth_order::taking_order;
+use crate::breadth_order::taking_order;
 pub use laws::one_numbering;
 use mesh_decl::{Mesh, Numbers, Perms};
 use op_num::OutOfMemory;

@@ -1,6 +1,6 @@
 -- Fewer rows of a batch.
 use Rattle.std.proofs.Common.{◌≡◌, ◌<◌, ◌≤◌, inl, inr, ℕ, ℤ, List, ⊎_elim, arith}
-use Rattle.views.specs.declared.frame.Place.{Place}
+use Rattle.kernel_types.specs.declared.views.frame.Place.{Place}
 use Rattle.kernel_types.specs.declared.kernels.RKernel.{RKernel}
 use Rattle.kernel_model.specs.Meaning.{Target}
 use Rattle.kernel_model.specs.Obeys.{Mode}

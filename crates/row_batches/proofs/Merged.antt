@@ -2,8 +2,8 @@
 use Rattle.std.proofs.Common.{◌≡◌, ◌≢◌, ℕ, zero, suc, ℤ, pos, ◌<◌, ◌≤◌, ⊎_elim, List, [], ◌∷◌, length, get_or, set, refl, sym, ap, ◌∙◌, subst, arith, get_or-set_other, get_or-set_same}
 use Rattle.std.proofs.lemmas.Bool.{cases_eq}
 use Rattle.std.proofs.lemmas.List.{set_comm, set-set, set-get_or, length-set}
-use Rattle.reductions.specs.Reduction.{Reduction, unit_of, merged, IsCommuting}
-use Rattle.reductions.specs.Access.{OpRead, OpReduce}
+use Rattle.op_num.specs.Reduction.{Reduction, unit_of, merged, IsCommuting}
+use Rattle.op_num.specs.Access.{OpRead, OpReduce}
 use Rattle.rank_state.specs.declared.scalars.Scalar.{Scalar}
 use Rattle.rank_state.specs.declared.scalars.Scalar.TheVariants.{Value, Amount}
 use Rattle.rank_state.specs.Windows.{operation, amount, amounts, InSlots, Merges}

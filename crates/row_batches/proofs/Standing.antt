@@ -4,10 +4,10 @@ use Rattle.std.specs.Prelude.{slice_index}
 use Rattle.std.proofs.Math.ListN.{get_or-map, get_or-append, length-map}
 use Rattle.std.proofs.lemmas.List.{get_or-append-add}
 use Rattle.std.proofs.lemmas.Bool.{cases_lt, cases_eq, eqb-true}
-use Rattle.reductions.specs.Reduction.{Reduction, unit_of}
-use Rattle.reductions.specs.Access.{Access, OpRead, OpWrite, OpRw, OpReduce}
-use Rattle.views.specs.declared.frame.Place.{Place}
-use Rattle.views.specs.Framed.{target_of}
+use Rattle.op_num.specs.Reduction.{Reduction, unit_of}
+use Rattle.op_num.specs.Access.{Access, OpRead, OpWrite, OpRw, OpReduce}
+use Rattle.kernel_types.specs.declared.views.frame.Place.{Place}
+use Rattle.kernel_types.specs.Framed.{target_of}
 use Rattle.kernel_model.specs.Meaning.{Target, target_at, read_arg}
 use Rattle.kernel_model.specs.Obeys.{Mode}
 use Rattle.kernel_model.specs.Independence.{access, dim, SameStoredAliases, Alone, InRange}

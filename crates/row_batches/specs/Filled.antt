@@ -1,7 +1,7 @@
 -- Columns that are filled for a batch, in the first rows.
 use Rattle.std.specs.Prelude.{◌≡◌, ℕ, ℤ, pos, ◌<◌, List, [], length, get_or}
-use Rattle.reductions.specs.Reduction.{unit_of}
-use Rattle.reductions.specs.Access.{Access, OpRead, OpWrite, OpRw, OpReduce, access_of}
+use Rattle.op_num.specs.Reduction.{unit_of}
+use Rattle.op_num.specs.Access.{Access, OpRead, OpWrite, OpRw, OpReduce, access_of}
 use Rattle.kernel_columns.specs.Rows.{at_row}
 use Rattle.kernel_columns.specs.Moving.{stands_in_row, StandWithin}
 use Rattle.row_batches.specs.declared.rows.RowColumn.{RowColumn}

@@ -4,3 +4,5 @@ pub mod Put
 pub mod RowLoops
 pub mod RowsRun
 pub mod Ways
+pub mod Alike
+pub mod Tables

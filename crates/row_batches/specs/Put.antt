@@ -1,6 +1,6 @@
 -- Columns that are put back, in the first rows.
 use Rattle.std.specs.Prelude.{ℕ, zero, suc, ℤ, pos, List, [], ◌∷◌, get_or, slice_set}
-use Rattle.reductions.specs.Access.{Access, OpRead, OpWrite, OpRw, OpReduce, access_of}
+use Rattle.op_num.specs.Access.{Access, OpRead, OpWrite, OpRw, OpReduce, access_of}
 use Rattle.rank_state.specs.declared.scalars.Operation.{Operation}
 use Rattle.rank_state.specs.declared.scalars.Scalar.{Scalar}
 use Rattle.rank_state.specs.declared.scalars.Scalar.TheVariants.{Value, Amount}

@@ -1,9 +1,9 @@
 -- Loops whose elements run in rows: where each component of an argument stands, in a row's frame and in the memory.
 use Rattle.std.specs.Prelude.{◌≡◌, ◌≢◌, ◌<◌, ◌≤◌, ◌+◌, ◌*◌, ◌⊎◌, ℕ, List, length, map, get_or, slice_index, true, Option, None}
-use Rattle.reductions.specs.declared.access.Access.TheVariants as code
-use Rattle.reductions.specs.Access.{Access, OpRead, OpWrite, OpRw, OpReduce, access_of}
-use Rattle.views.specs.declared.frame.Place.{Place}
-use Rattle.views.specs.Framed.{target_of}
+use Rattle.op_num.specs.declared.reductions.access.Access.TheVariants as code
+use Rattle.op_num.specs.Access.{Access, OpRead, OpWrite, OpRw, OpReduce, access_of}
+use Rattle.kernel_types.specs.declared.views.frame.Place.{Place}
+use Rattle.kernel_types.specs.Framed.{target_of}
 use Rattle.kernel_model.specs.Meaning.{target_at}
 use Rattle.kernel_model.specs.Obeys.{Mode, KernelObeys}
 use Rattle.kernel_model.specs.Independence.{access, dim}

@@ -4,8 +4,8 @@ ghost use Rattle.std.specs.Prelude.{◌≡◌, ◌<◌, ◌≤◌, ◌+◌, ℕ,
 ghost use Rattle.kernel_types.specs.Resolved.{IsResolved};
 ghost use Rattle.kernel_code.specs.Coded.{IsCode};
 ghost use Rattle.kernel_model.specs.Obeys.{Mode};
-ghost use Rattle.views.specs.declared.frame.Place.{Place};
-ghost use Rattle.views.specs.Framed.{PlacesIn, target_of};
+ghost use Rattle.kernel_types.specs.declared.views.frame.Place.{Place};
+ghost use Rattle.kernel_types.specs.Framed.{PlacesIn, target_of};
 ghost use Rattle.rank_state.specs.Windows.{Reads, Merges, firsts};
 ghost use Rattle.row_batches.specs.Ways.{AreNumbers};
 ghost use Rattle.row_batches.specs.Meeting.{AreDifferent, NeverInPairs};
@@ -61,7 +61,7 @@ fn run_looked_up(
 {
     kernel_columns::batches_run();
     kernel_columns::columns_are_put();
-    reductions::reductions_commute();
+    op_num::reductions::reductions_commute();
     let inner = rows.columns.len();
     let cells = &mut frame[..inner + rows.scalars.len()];
     fill_columns(rows.columns, numbers, memory, cells, count);

@@ -9,8 +9,8 @@ ghost use Rattle.row_batches.specs.Filled.{ColumnStands, ColumnsStand, IsFilled}
 
 use crate::rows::RowColumn;
 use kernel_columns::{Column, Numbers, gather};
+use op_num::reductions::{Access, Greatest, Least, Merge, Sum};
 use rank_state::{Operation, Scalar};
-use reductions::{Access, Greatest, Least, Merge, Sum};
 
 /// The same number in each of the first rows, at most 64.
 pub fn fill_with(column: &mut Column, number: i32, rows: usize)

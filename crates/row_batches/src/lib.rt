@@ -2,6 +2,7 @@
 #![tactic(auto)]
 
 mod batch;
+pub mod batch_tables;
 mod filling;
 mod meeting;
 mod putting;

@@ -8,8 +8,8 @@ ghost use Rattle.row_batches.specs.Put.{column_put_back, put_back, total_of, tot
 
 use crate::rows::RowColumn;
 use kernel_columns::{Column, Numbers, merge, merge_all, store};
+use op_num::reductions::{Access, Greatest, Least, Sum};
 use rank_state::{Operation, Scalar};
-use reductions::{Access, Greatest, Least, Sum};
 
 // Puts back a column of a dat's component in so many rows.
 fn put_column(

@@ -6,10 +6,10 @@ ghost use Rattle.row_batches.specs.RowLoops.{HasRowRoom};
 use crate::ways::LocalVia;
 use kernel_code::Code;
 use kernel_columns::{Column, Numbers, ROWS};
+use kernel_types::views::Place;
+use op_num::reductions::Access;
 use rank_state::Scalar;
-use reductions::Access;
 use std::alloc::{AllocError, Global};
-use views::Place;
 
 /// A column of the frame that has a component of a dat's elements: those that arguments reach in one way. Arguments with one dat,
 /// map and index share it.

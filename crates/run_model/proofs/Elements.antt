@@ -7,8 +7,8 @@ use Rattle.kernel_model.specs.Meaning.{kernel_meaning}
 use Rattle.kernel_model.specs.Obeys.{Mode, mode_at}
 use Rattle.kernel_model.specs.Independence.{ShapeStays}
 use Rattle.schedule_model.specs.Cells.{Cell, Store}
-use Rattle.schedule_laws.specs.Arguments.{reaches}
-use Rattle.element_runs.specs.ElementRun.{EndsAs, ElementRunsKeepRange, ElementRunsKeepReads}
+use Rattle.schedule_model.specs.Arguments.{reaches}
+use Rattle.run_model.specs.ElementRun.{EndsAs, ElementRunsKeepRange, ElementRunsKeepReads}
 use Rattle.bound_program.specs.Values.{BoundValue, SiteValue}
 use Rattle.bound_program.specs.Fits.{Fits, KernelFits}
 use Rattle.run_model.specs.Windows.{window_cells, windows}

@@ -11,8 +11,8 @@ use Rattle.kernel_model.specs.Independence.{Fits as InStore, store_after, ShapeS
 use Rattle.mesh_decl.specs.Mesh.{target, map_count, map_from, set_size, dat_set, IsMapAt}
 use Rattle.schedule_model.specs.Cells.{Store}
 use Rattle.schedule_model.specs.Effects.{Ran, Faulted, Finished}
-use Rattle.element_runs.specs.ElementRun.{OnArrays, ElementRunsOnArrays}
-use Rattle.element_runs.specs.ElementRun as laws
+use Rattle.run_model.specs.ElementRun.{OnArrays, ElementRunsOnArrays}
+use Rattle.run_model.specs.ElementRun as laws
 use Rattle.bound_program.specs.declared.sites.Arg.{Arg}
 use Rattle.bound_program.specs.declared.sites.Arg.TheVariants.{Dat, Global}
 use Rattle.bound_program.specs.Values.{BoundValue, SiteValue, no_site}

@@ -9,11 +9,11 @@ use Rattle.kernel_model.specs.Obeys.{Mode, mode_at}
 use Rattle.kernel_model.specs.Independence.{Fits, store_after}
 use Rattle.kernel_model.specs.Independence as law
 use Rattle.schedule_model.specs.Cells.{Cell, Store, InRange}
-use Rattle.schedule_laws.specs.Arguments.{Argument, Entries, reaches}
+use Rattle.schedule_model.specs.Arguments.{Argument, Entries, reaches}
 use Rattle.flat_machine.specs.Layout.{of_core}
-use Rattle.element_runs.specs.ElementRun.{Held, IsUnreached, EndsAs}
-use Rattle.element_runs.specs.OnWindows.{no_cell, OnWindows, core_of}
-use Rattle.element_runs.proofs.OnWindows.{found, missed}
+use Rattle.run_model.specs.ElementRun.{Held, IsUnreached, EndsAs}
+use Rattle.run_model.specs.OnWindows.{no_cell, OnWindows, core_of}
+use Rattle.run_model.proofs.element_runs.OnWindows.{found, missed}
 
 -- the values of a list are in range where the store's are
 pub values_in_range : (xs : List Cell) (s : Store) → InRange s → (j : ℕ) → FitsSigned w32 (get_or (map s xs) j (pos 0))

@@ -2,12 +2,12 @@
 use Rattle.std.proofs.Common.{◌≡◌, ℕ, true, Option, Some, None, refl, sym, ap, ◌∙◌}
 use Rattle.std.specs.Prelude.{◌==◌, nat_lt}
 use Rattle.std.proofs.lemmas.Bool.{false≢true, and_parts, eqb-true}
-use Rattle.reductions.specs.Access.{OpRead, access_of}
-use Rattle.reductions.specs.declared.access.Access.{Access}
-use Rattle.reductions.specs.declared.access.Access.TheVariants.{Read, Write, Rw, Inc, Min, Max}
+use Rattle.op_num.specs.Access.{OpRead, access_of}
+use Rattle.op_num.specs.declared.reductions.access.Access.{Access}
+use Rattle.op_num.specs.declared.reductions.access.Access.TheVariants.{Read, Write, Rw, Inc, Min, Max}
 use Rattle.schedule_model.specs.Cells.{Cell, Data, Variable}
-use Rattle.schedule_laws.specs.Arguments.{reaches}
-use Rattle.schedule_laws.specs.Arguments as laws
+use Rattle.schedule_model.specs.Arguments.{reaches}
+use Rattle.schedule_model.specs.Arguments as laws
 use Rattle.bound_program.specs.declared.sites.Arg.{Arg}
 use Rattle.bound_program.specs.declared.sites.Arg.TheVariants.{Dat, Global}
 use Rattle.bound_program.specs.Values.{BoundValue}

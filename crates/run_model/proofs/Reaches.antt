@@ -4,7 +4,7 @@ use Rattle.std.specs.Prelude.{◌&&◌, ◌==◌, nat_lt}
 use Rattle.std.proofs.lemmas.Bool.{false≢true, and_parts, and_from, eq-eqb, eqb-true, lt-ltb, ltb-true}
 use Rattle.mesh_decl.specs.Mesh.{target, dat_dim}
 use Rattle.schedule_model.specs.Cells.{Cell, Data, Variable, DatCell}
-use Rattle.schedule_laws.specs.Arguments.{reaches, access_of}
+use Rattle.schedule_model.specs.Arguments.{reaches, access_of}
 use Rattle.bound_program.specs.declared.sites.Arg.{Arg}
 use Rattle.bound_program.specs.declared.sites.Arg.TheVariants.{Dat, Global}
 use Rattle.bound_program.specs.Values.{BoundValue}

@@ -4,7 +4,7 @@ use Rattle.std.proofs.lemmas.Bool.{cases_lt}
 use Rattle.std.proofs.lemmas.List.{get_or-map, length-map, get_or_past}
 use Rattle.kernel_model.specs.Meaning.{Target, no_target, target_at}
 use Rattle.kernel_model.specs.Obeys.{Mode, mode_at, no_mode}
-use Rattle.element_runs.specs.OnWindows.{no_cell}
+use Rattle.run_model.specs.OnWindows.{no_cell}
 use Rattle.bound_program.specs.declared.sites.Arg.{Arg}
 use Rattle.bound_program.specs.declared.sites.Arg.TheVariants.{Dat, Global}
 use Rattle.bound_program.specs.Values.{BoundValue, SiteValue}

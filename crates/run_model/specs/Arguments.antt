@@ -1,13 +1,13 @@
 -- A loop's arguments as the theorem on schedules names them, and the cells that they reach.
 use Rattle.std.specs.Prelude.{ℕ, Bool, true, false, ◌&&◌, List, length, map, Option, Some, None, nat_lt, slice_index_or}
-use Rattle.reductions.specs.Access.{Access, access_of}
-use Rattle.reductions.specs.declared.access.Access.TheVariants.{Read}
+use Rattle.op_num.specs.Access.{Access, access_of}
+use Rattle.op_num.specs.declared.reductions.access.Access.TheVariants.{Read}
 use Rattle.kernel_model.specs.Obeys.{Mode}
 use Rattle.mesh_decl.specs.declared.access.Via.{Via}
 use Rattle.mesh_decl.specs.Mesh.{target, dat_dim}
 use Rattle.schedule_model.specs.Cells.{Cell, Data, Variable}
-use Rattle.schedule_laws.specs.Arguments.{Argument, Direct, Indirect, Entries}
-use Rattle.schedule_laws.specs.Arguments as laws
+use Rattle.schedule_model.specs.Arguments.{Argument, Direct, Indirect, Entries}
+use Rattle.schedule_model.specs.Arguments as laws
 use Rattle.bound_program.specs.declared.sites.Arg.{Arg}
 use Rattle.bound_program.specs.declared.sites.Arg.TheVariants.{Dat, Global}
 use Rattle.bound_program.specs.Values.{BoundValue, SiteValue}

@@ -1,7 +1,7 @@
 -- The constants that kernels read, as cells of variables.
 use Rattle.std.specs.Prelude.{◌≡◌, ◌<◌, ◌+◌, ℕ, true, length, sum_by, All, Some, slice_index_or}
 use Rattle.schedule_model.specs.Cells.{Variable, VarCell}
-use Rattle.schedule_laws.specs.ByArguments.{ReadConstants}
+use Rattle.schedule_model.specs.ByArguments.{ReadConstants}
 use Rattle.bound_program.specs.Values.{BoundValue, SiteValue}
 use Rattle.bound_program.specs.Fits.{SiteFits, ConstantsFit, constant_cells, var_at}
 use Rattle.run_model.specs.Kernels.{constants}

@@ -1,15 +1,15 @@
 -- The runs of a loop's elements are those of its kernel.
 use Rattle.std.specs.Prelude.{◌≡◌, ◌<◌, ℕ, true, length, Some}
-use Rattle.reductions.specs.Access.{OpRead}
+use Rattle.op_num.specs.Access.{OpRead}
 use Rattle.kernel_types.specs.declared.faults.KernelFault.{KernelFault}
 use Rattle.kernel_types.specs.declared.kernels.RKernel.{RKernel}
 use Rattle.kernel_model.specs.Obeys.{KernelObeys}
 use Rattle.schedule_model.specs.Cells.{Cell, Store, InRange}
 use Rattle.schedule_model.specs.Effects.{Ran, Finished}
 use Rattle.schedule_model.specs.Program.{is_loop}
-use Rattle.schedule_laws.specs.Tells.{All}
-use Rattle.element_runs.specs.ElementRun.{IsElementRun}
-use Rattle.element_runs.specs.OnWindows.{OnWindows}
+use Rattle.schedule_model.specs.Tells.{All}
+use Rattle.run_model.specs.ElementRun.{IsElementRun}
+use Rattle.run_model.specs.OnWindows.{OnWindows}
 use Rattle.bound_program.specs.Values.{BoundValue, SiteValue}
 use Rattle.bound_program.specs.Fits.{Fits, ActFits, site_at}
 use Rattle.run_model.specs.Windows.{window_cells, windows}

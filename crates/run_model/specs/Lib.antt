@@ -8,3 +8,12 @@ pub mod Laws
 pub mod Constants
 pub mod Memory
 pub mod Ranges
+pub mod ElementRun
+pub mod RunsKernels
+pub mod OnWindows
+pub mod Arrays
+pub mod Runs
+pub mod Statements
+pub mod Program
+pub mod Holds
+pub mod SequentialLaws

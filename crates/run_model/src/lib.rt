@@ -39,7 +39,7 @@ pub fn loops_keep()
     ensures reads { LoopsKeepReads }
 {
     elements_run_kernels();
-    element_runs::element_runs_keep();
+    crate::element_runs::element_runs_keep();
 }
 
 /// A law: where the mesh and the variables begin with numbers of 32 bits, all cells hold such numbers before the run; and a
@@ -65,7 +65,7 @@ pub fn elements_run_on_memory()
     ensures { ElementsRunOnMemory }
 {
     elements_run_kernels();
-    element_runs::element_runs_on_arrays();
+    crate::element_runs::element_runs_on_arrays();
     kernel_model::shape_stays();
 }
 
@@ -96,3 +96,6 @@ pub fn constants_are_read()
 pub fn runs_stop_at_faults()
     ensures { RunsStopAtFaults }
 {}
+
+pub mod element_runs;
+pub mod sequential_run;

@@ -3,8 +3,8 @@ use Rattle.std.proofs.Common.{◌≡◌, ◌≢◌, ℕ, Bool, zero, suc, ◌<�
 use Rattle.std.proofs.lemmas.List.{get_or-map}
 use Rattle.mesh_decl.specs.Mesh.{MeshValue, set_count, set_size}
 use Rattle.mesh_decl.specs.Owners.{perm_in}
-use Rattle.halo_lists.specs.declared.types.Halos.{Halos}
-use Rattle.halo_lists.specs.Halo.{owns, imports_execute, imports_nonexecute}
+use Rattle.local_mesh.specs.declared.halo_lists.types.Halos.{Halos}
+use Rattle.local_mesh.specs.Halo.{owns, imports_execute, imports_nonexecute}
 use Rattle.local_mesh.specs.declared.types.LocalSet.{LocalSet}
 use Rattle.local_mesh.specs.declared.types.RankMesh.{RankMesh}
 use Rattle.local_mesh.specs.LocalMesh.{originals_in, executed_in, IsLocalSet, IsRankMesh}

@@ -8,11 +8,11 @@ use Rattle.colouring.specs.declared.types.Colours.{Colours}
 use Rattle.schedule_steps.specs.Outline.{Outline}
 use Rattle.bound_program.specs.Values.{BoundValue, Free}
 use Rattle.bound_program.specs.Fits.{site_at}
-use Rattle.step_marks.specs.Run.{Run, begun_at, ended_at}
-use Rattle.step_marks.specs.Item.{Item, no_run, pair_at, linked}
-use Rattle.step_marks.specs.NewRun.{ends_before}
+use Rattle.step_judge.specs.Run.{Run, begun_at, ended_at}
+use Rattle.step_judge.specs.Item.{Item, no_run, pair_at, linked}
+use Rattle.step_judge.specs.NewRun.{ends_before}
 use Rattle.std.proofs.lemmas.Nat.{mul-le}
-use Rattle.step_marks.specs.NewItem.{free_item}
+use Rattle.step_judge.specs.NewItem.{free_item}
 use Rattle.step_judge.specs.Fresh.{IsFreshRun, IsFreshItem}
 use Rattle.loop_plan.specs.declared.types.Pair.{Pair}
 use Rattle.loop_plan.specs.Values.{PlanValue, SitePlanValue, item_plan, site_plan, places_in}

@@ -5,7 +5,7 @@ use Rattle.std.specs.List.{list_any}
 use Rattle.std.proofs.lemmas.Bool.{cases_Bool, cases_eq, cases_lt, false≢true, eq-eqb, ne_eqb, lt-ltb, le-ltb, and_from, or_left, or_right}
 use Rattle.std.proofs.lemmas.List.{length-map, length-append, map-append, get_or_append_left, get_or-append_right}
 use Rattle.rank_sets.specs.Below.{listed}
-use Rattle.step_marks.specs.Item.{pair_at}
+use Rattle.step_judge.specs.Item.{pair_at}
 use Rattle.loop_plan.specs.Pairs.{pair, pairs_below}
 use Rattle.loop_plan.specs.declared.types.Pair.{Pair}
 use Rattle.loop_plan.proofs.Numbers.{is_listed, not_listed}

@@ -2,7 +2,7 @@
 use Rattle.std.proofs.Common.{◌≡◌, ◌<◌, ◌≤◌, ◌^◌, ◌∙◌, ℕ, List, length, get_or, map, subst, sym, ap, arith}
 use Rattle.std.proofs.lemmas.List.{length-map}
 use Rattle.bound_program.specs.Values.{BoundValue}
-use Rattle.step_marks.specs.Item.{pair_at}
+use Rattle.step_judge.specs.Item.{pair_at}
 use Rattle.local_mesh.specs.declared.types.RankMesh.{RankMesh}
 use Rattle.loop_plan.specs.declared.types.Pair.{Pair}
 use Rattle.loop_plan.specs.declared.types.Plan.{Plan}

@@ -9,10 +9,10 @@ use Rattle.schedule_steps.specs.Outline.{Outline}
 use Rattle.schedule_steps.specs.declared.step.Step.TheVariants.{Send, Recv, Begin, End, Join}
 use Rattle.schedule_steps.specs.Steps.{IsStep}
 use Rattle.schedule_steps.specs.Judged.{is_step}
-use Rattle.step_marks.specs.declared.load.Load.{Load}
-use Rattle.step_marks.specs.Item.{pair_at}
-use Rattle.step_marks.specs.Marked.{Marked, item_at, outline_of, taken}
-use Rattle.step_marks.proofs.Pairs.{pair_found}
+use Rattle.step_judge.specs.declared.marks.load.Load.{Load}
+use Rattle.step_judge.specs.Item.{pair_at}
+use Rattle.step_judge.specs.Marked.{Marked, item_at, outline_of, taken}
+use Rattle.step_judge.proofs.marks.Pairs.{pair_found}
 use Rattle.step_judge.specs.declared.refusal.ScheduleRefusal.{ScheduleRefusal}
 use Rattle.step_judge.specs.Verdicts.{judged}
 use Rattle.step_judge.specs.Wanted.{AreMarksOf}

@@ -4,8 +4,8 @@ use Rattle.std.proofs.lemmas.Bool.{cases_eq, cases_lt}
 use Rattle.std.proofs.lemmas.List.{get_or-map, get_or_push, get_or_append_left, get_or-replicate, get_or_past, length-replicate}
 use Rattle.local_mesh.specs.declared.types.LocalSet.{LocalSet}
 use Rattle.colouring.specs.declared.types.Colours.{Colours}
-use Rattle.step_marks.specs.NewRun.{IsNewRun}
-use Rattle.step_marks.specs.Run.{Run}
+use Rattle.step_judge.specs.NewRun.{IsNewRun}
+use Rattle.step_judge.specs.Run.{Run}
 use Rattle.loop_plan.specs.Pairs.{core_in}
 use Rattle.schedule_check.specs.NewPlaces.{AreNewPlaces, blocks_of, inner_of}
 use Rattle.lemmas.proofs.Numbers.{all_false}

@@ -2,10 +2,10 @@
 use Rattle.std.proofs.Common.{◌≡◌, ℕ, ◌^◌, ◌<◌, ◌≤◌, refl, arith, List, length, get_or}
 use Rattle.local_mesh.specs.declared.types.RankMesh.{RankMesh}
 use Rattle.mesh_decl.specs.Mesh.{MeshValue}
-use Rattle.halo_lists.specs.declared.types.Halos.{Halos}
+use Rattle.local_mesh.specs.declared.halo_lists.types.Halos.{Halos}
 use Rattle.bound_program.specs.Values.{BoundValue}
-use Rattle.step_marks.specs.Item.{Item}
-use Rattle.step_marks.specs.Marked.{no_item}
+use Rattle.step_judge.specs.Item.{Item}
+use Rattle.step_judge.specs.Marked.{no_item}
 use Rattle.step_judge.specs.Fresh.{AreFresh}
 use Rattle.loop_plan.specs.Values.{PlanValue}
 use Rattle.loop_plan.specs.Distributed.{Distributed}

@@ -10,10 +10,10 @@ use Rattle.schedule_steps.specs.Standard.{one_if, standard}
 use Rattle.schedule_steps.specs.Judged.{is_step}
 use Rattle.schedule_steps.specs.Peaks.{step_count}
 use Rattle.schedule_steps.specs.Alike.{AlikeOutlines}
-use Rattle.step_marks.specs.declared.load.Load.{Load}
-use Rattle.step_marks.specs.Load.{loaded}
-use Rattle.step_marks.specs.Item.{place_of}
-use Rattle.step_marks.specs.Marked.{Marked, item_at, outline_of, taken}
+use Rattle.step_judge.specs.declared.marks.load.Load.{Load}
+use Rattle.step_judge.specs.Load.{loaded}
+use Rattle.step_judge.specs.Item.{place_of}
+use Rattle.step_judge.specs.Marked.{Marked, item_at, outline_of, taken}
 use Rattle.step_judge.specs.Wanted.{AreMarksOf}
 use Rattle.step_judge.specs.Checking.{step_cells, untaken, HasRoom}
 

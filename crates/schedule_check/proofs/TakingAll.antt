@@ -13,8 +13,8 @@ use Rattle.schedule_steps.specs.Turns.{marked, nothing_taken}
 use Rattle.schedule_steps.specs.Standard.{standard}
 use Rattle.schedule_steps.specs.Judged.{is_step, is_earlier, first_of, missing, left_over}
 use Rattle.schedule_steps.specs.Peaks.{IsPeak, step_count}
-use Rattle.step_marks.specs.declared.load.Load.{Load}
-use Rattle.step_marks.specs.Load.{loaded, loaded_all, no_load}
+use Rattle.step_judge.specs.declared.marks.load.Load.{Load}
+use Rattle.step_judge.specs.Load.{loaded, loaded_all, no_load}
 use Rattle.step_judge.specs.declared.refusal.ScheduleRefusal.{ScheduleRefusal}
 use Rattle.step_judge.specs.declared.refusal.ScheduleRefusal.TheVariants.{NoSuchStep, Repeated, Incomplete}
 use Rattle.step_judge.specs.Verdicts.{too_early, judged, incomplete, finished}

@@ -2,7 +2,7 @@
 use Rattle.std.specs.Prelude.{◌≡◌, ℕ, true, List}
 use Rattle.local_mesh.specs.declared.types.RankMesh.{RankMesh}
 use Rattle.bound_program.specs.Values.{BoundValue}
-use Rattle.step_marks.specs.Item.{Item, pair_at, place_of}
+use Rattle.step_judge.specs.Item.{Item, pair_at, place_of}
 use Rattle.step_judge.specs.Fresh.{IsFreshItem}
 use Rattle.loop_plan.specs.Values.{PlanValue, item_plan}
 use Rattle.loop_plan.specs.StepOutline.{step_outline}

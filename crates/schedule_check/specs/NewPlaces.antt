@@ -2,8 +2,8 @@
 use Rattle.std.specs.Prelude.{◌≡◌, ◌<◌, ◌*◌, ◌↔◌, ℕ, Bool, false, List, [], length, map, slice_index, slice_index_or}
 use Rattle.colouring.specs.declared.types.Colours.{Colours}
 use Rattle.loop_plan.specs.Values.{SitePlanValue}
-use Rattle.step_marks.specs.NewRun.{ends_before}
-use Rattle.step_marks.specs.Run.{Run, begun_at, ended_at, core_at, lower}
+use Rattle.step_judge.specs.NewRun.{ends_before}
+use Rattle.step_judge.specs.Run.{Run, begun_at, ended_at, core_at, lower}
 
 -- with these colours, in blocks of this size; a place that the list of core elements doesn't have is not core
 pub record AreNewPlaces (size : ℕ) (blocks inner : List ℕ) (core : List Bool) (v : Run) : Type 0 where

@@ -7,8 +7,8 @@ use Rattle.schedule_steps.specs.declared.step.Step.TheVariants.{Send}
 use Rattle.schedule_steps.specs.Steps.{IsStep}
 use Rattle.schedule_steps.specs.Turns.{marked}
 use Rattle.schedule_steps.specs.Judged.{is_step}
-use Rattle.step_marks.specs.Load.{loaded, no_load}
-use Rattle.step_marks.specs.Marked.{outline_of, taken}
+use Rattle.step_judge.specs.Load.{loaded, no_load}
+use Rattle.step_judge.specs.Marked.{outline_of, taken}
 use Rattle.step_judge.specs.Wanted.{AreMarksOf}
 use Rattle.step_judge.specs.Checking.{Checking, cells_of}
 use Rattle.bound_program.specs.Values.{BoundValue}

@@ -1,6 +1,6 @@
 // Checkers of plans.
 ghost use Rattle.std.specs.Prelude.{◌≡◌, ◌<◌, ◌≤◌, ◌*◌, ◌^◌, ℕ, true, IsTrue, IfOk, OnOk, OnErr, [], length, slice_index, slice_index_or};
-ghost use Rattle.halo_lists.specs.declared.types.Halos.{Halos};
+ghost use Rattle.local_mesh.specs.declared.halo_lists.types.Halos.{Halos};
 ghost use Rattle.schedule_steps.specs.Judged.{left_over};
 ghost use Rattle.schedule_steps.specs.Peaks.{step_count};
 ghost use Rattle.bound_program.specs.Values.{bound_of};
@@ -9,7 +9,7 @@ ghost use Rattle.step_judge.specs.Verdicts.{judged, finished};
 ghost use Rattle.loop_plan.specs.Values.{plan_of};
 ghost use Rattle.loop_plan.specs.Distributed.{Distributed};
 ghost use Rattle.loop_plan.specs.StepOutline.{step_outline};
-ghost use Rattle.step_marks.specs.Marked.{taken};
+ghost use Rattle.step_judge.specs.Marked.{taken};
 ghost use Rattle.loop_plan.specs.Proper.{Proper};
 ghost use Rattle.schedule_check.specs.PlanChecking.{checking, IsOfPlan, TakesPlanStep, IsNew};
 
@@ -64,7 +64,7 @@ impl<'a> Checker<'a> {
         schedule_steps::standard_is_accepted();
         schedule_steps::alike_outlines_accept_alike();
         schedule_steps::accepted_lists_have_all_steps();
-        step_marks::alike_outlines_judge_alike();
+        step_judge::marks::alike_outlines_judge_alike();
         bound.mesh.is_in_range();
         let marks = plan_marks(alloc, bound, plan, ranks)?;
         let cells = all_cells(alloc, &bound.mesh, ranks, &plan.items)?;

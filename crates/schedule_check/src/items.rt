@@ -2,7 +2,7 @@
 ghost use Rattle.std.specs.Prelude.{◌≡◌, ◌<◌, ◌≤◌, ℕ, IfOk, length, get_or};
 ghost use Rattle.bound_program.specs.Values.{bound_of, Free};
 ghost use Rattle.bound_program.specs.Fits.{site_at};
-ghost use Rattle.step_marks.specs.Marked.{no_item};
+ghost use Rattle.step_judge.specs.Marked.{no_item};
 ghost use Rattle.loop_plan.specs.Values.{site_plan_of, plan_of, site_plan};
 ghost use Rattle.loop_plan.specs.Needs.{item_at, IsInRange};
 ghost use Rattle.loop_plan.specs.Proper.{Proper};
@@ -16,7 +16,7 @@ use local_mesh::RankMesh;
 use loop_plan::{LoopRun, Plan, SitePlan, run_at};
 use op_num::OutOfMemory;
 use std::alloc::Global;
-use step_marks::ItemMarks;
+use step_judge::marks::ItemMarks;
 
 // The plan of a loop that runs on a rank.
 fn site_of(plan: &Plan, site: u32) -> &SitePlan

@@ -1,11 +1,11 @@
 // The marks of a plan.
 ghost use Rattle.std.specs.Prelude.{◌≡◌, ◌<◌, ℕ, false, true, IfOk, length};
-ghost use Rattle.halo_lists.specs.declared.types.Halos.{Halos};
+ghost use Rattle.local_mesh.specs.declared.halo_lists.types.Halos.{Halos};
 ghost use Rattle.schedule_steps.specs.declared.step.Step.{Step};
 ghost use Rattle.schedule_steps.specs.Steps.{IsStep};
 ghost use Rattle.bound_program.specs.Values.{bound_of};
 ghost use Rattle.bound_program.specs.Fits.{Fits};
-ghost use Rattle.step_marks.specs.Marked.{item_at as marks_at, outline_of, taken};
+ghost use Rattle.step_judge.specs.Marked.{item_at as marks_at, outline_of, taken};
 ghost use Rattle.step_judge.specs.Wanted.{AreMarksOf};
 ghost use Rattle.loop_plan.specs.Values.{plan_of};
 ghost use Rattle.loop_plan.specs.Distributed.{Distributed};
@@ -20,7 +20,7 @@ use loop_plan::Plan;
 use op_num::OutOfMemory;
 use std::alloc::Global;
 use step_judge::fresh_marks;
-use step_marks::StepMarks;
+use step_judge::marks::StepMarks;
 
 /// The marks of the plan's steps, of which none is taken.
 pub fn plan_marks(

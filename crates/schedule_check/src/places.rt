@@ -1,6 +1,6 @@
 // The marks of the places that ranks run.
 ghost use Rattle.std.specs.Prelude.{◌≡◌, ◌<◌, ◌*◌, ◌↔◌, ℕ, false, IfOk, length, get_or, slice_index_or};
-ghost use Rattle.step_marks.specs.Item.{no_run};
+ghost use Rattle.step_judge.specs.Item.{no_run};
 ghost use Rattle.loop_plan.specs.Pairs.{sets_of, core_in};
 ghost use Rattle.loop_plan.specs.Values.{site_plan_of};
 ghost use Rattle.schedule_check.specs.NewPlaces.{AreNewPlaces, AreColoured, blocks_of, inner_of};
@@ -9,7 +9,7 @@ use local_mesh::{LocalSet, RankMesh};
 use loop_plan::{Colours, SitePlan};
 use op_num::OutOfMemory;
 use std::alloc::Global;
-use step_marks::Places;
+use step_judge::marks::Places;
 
 // Whether a place is core; one that the list doesn't have isn't.
 fn is_core(core: &[bool], place: usize) -> bool

@@ -39,7 +39,7 @@ pub fn take_all<S: Steps>(checker: Checker<'_>, steps: &mut S) -> Result<Peak, U
     schedule_steps::tests_decide();
     schedule_steps::standard_is_accepted();
     step_judge::taken_lists_are_accepted();
-    step_marks::loads_give_the_peak();
+    step_judge::marks::loads_give_the_peak();
     let mut checker = checker;
     let mut step = 0;
     while let Some(next) = steps.next_step() {

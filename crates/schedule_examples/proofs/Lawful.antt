@@ -4,7 +4,7 @@ use Rattle.std.specs.Prelude.{◌&&◌, ◌||◌, ◌==◌, not, nat_lt, ◌↔�
 use Rattle.std.specs.Int.{int_wrap}
 use Rattle.std.proofs.lemmas.Int.{SFits-int_wrap}
 use Rattle.std.proofs.lemmas.Bool.{cases_eq, cases_lt, false≢true, and_parts, and_from, and_left, and_right, or_left, or_right, cond-true, cond-false, cond_both, eqb-true, eq-eqb, ne_eqb, ltb-true, lt-ltb}
-use Rattle.reductions.specs.Reduction.{Reduction, Add}
+use Rattle.op_num.specs.Reduction.{Reduction, Add}
 use Rattle.schedule_steps.specs.Outline.{by_colour}
 use Rattle.schedule_model.specs.Cells.{Cell, Data, Variable, DatCell, VarCell, Store, InRange}
 use Rattle.schedule_model.specs.History.{ByHistory, exchanged_by_bit}

@@ -2,13 +2,13 @@
 use Rattle.std.proofs.Common.{◌≡◌, ℕ, zero, suc, ◌<◌, Bool, true, false, cond, ◌⊎◌, inl, inr, refl, sym, ap, subst, ◌∙◌, arith, ⊎_elim, Some, None}
 use Rattle.std.specs.Prelude.{◌&&◌, ◌||◌, ◌==◌, nat_lt}
 use Rattle.std.proofs.lemmas.Bool.{cases_eq, false≢true, and_parts, and_from, or_left, or_right, or_cases, eqb-true, eq-eqb, ltb-true, lt-ltb}
-use Rattle.reductions.specs.Reduction.{Reduction, Add}
+use Rattle.op_num.specs.Reduction.{Reduction, Add}
 use Rattle.schedule_model.specs.Cells.{Data, Variable, DatCell, VarCell}
 use Rattle.schedule_model.specs.Effects.{Touch, Untouched, Read, Written, Merged, is_modified}
 use Rattle.schedule_model.specs.Program.{Free, is_free}
-use Rattle.reductions.specs.Access.{Access, OpRead, OpReduce}
-use Rattle.schedule_laws.specs.Arguments.{Direct, Indirect, Global, access_of, modifying, reading, is_direct, is_on, joined, touch_by}
-use Rattle.schedule_laws.specs.LoopParts.{LoopParts}
+use Rattle.op_num.specs.Access.{Access, OpRead, OpReduce}
+use Rattle.schedule_model.specs.Arguments.{Direct, Indirect, Global, access_of, modifying, reading, is_direct, is_on, joined, touch_by}
+use Rattle.schedule_model.specs.LoopParts.{LoopParts}
 use Rattle.schedule_examples.specs.Ring.{other, sum_cell, is_x, is_r, is_sum, is_one, is_base, kind, site, set, touch, reduces, modifies, needs, sends, import_execute, import_nonexecute, core, ring}
 use Rattle.schedule_examples.specs.RingLayout.{of_side}
 use Rattle.schedule_examples.specs.RingArguments.{args, of_nodes, of_edges, arg, entry}

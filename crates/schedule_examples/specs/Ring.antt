@@ -3,7 +3,7 @@
 use Rattle.std.specs.Prelude.{ℕ, zero, suc, ℤ, pos, ◌+ℤ◌, Bool, true, false, cond, ◌&&◌, ◌||◌, ◌==◌, nat_lt, List, [], ◌∷◌, Option, Some}
 use Rattle.std.specs.Prelude.{None}
 use Rattle.std.specs.Int.{int_wrap, w32}
-use Rattle.reductions.specs.Reduction.{Reduction, Add}
+use Rattle.op_num.specs.Reduction.{Reduction, Add}
 use Rattle.schedule_model.specs.Cells.{Cell, Data, Variable, DatCell, VarCell, Store}
 use Rattle.schedule_model.specs.Effects.{Ran, Faulted, Finished, Touch, Untouched, Read, Written, Merged}
 use Rattle.schedule_model.specs.Program.{Program, Kind, Free, Reduce, Ordered, Host, Goes}

@@ -1,8 +1,8 @@
 -- The arguments of the ring's loops, and the map from edges to nodes.
 use Rattle.std.specs.Prelude.{ℕ, zero, suc}
-use Rattle.reductions.specs.Reduction.{Add}
-use Rattle.reductions.specs.Access.{OpRead, OpWrite, OpReduce}
-use Rattle.schedule_laws.specs.Arguments.{Argument, Direct, Indirect, Global, Entries}
+use Rattle.op_num.specs.Reduction.{Add}
+use Rattle.op_num.specs.Access.{OpRead, OpWrite, OpReduce}
+use Rattle.schedule_model.specs.Arguments.{Argument, Direct, Indirect, Global, Entries}
 use Rattle.schedule_examples.specs.RingLayout.{of_side}
 
 -- how many arguments a loop has

@@ -9,7 +9,7 @@ ghost use Rattle.schedule_model.specs.Sequential.{sequential};
 ghost use Rattle.schedule_model.specs.Machine.{machine, Agrees};
 ghost use Rattle.schedule_model.specs.Laws.{Lawful, Coloured};
 ghost use Rattle.schedule_model.specs.Laws.{Kernels, Items};
-ghost use Rattle.schedule_laws.specs.LoopParts.{LoopParts};
+ghost use Rattle.schedule_model.specs.LoopParts.{LoopParts};
 ghost use Rattle.flat_machine.specs.Layout.{IsLayout};
 ghost use Rattle.flat_machine.specs.Flat.{StartsFlat, flat_from};
 ghost use Rattle.schedule_examples.specs.Ring.{ring, x_cell, r_cell, sum_cell};

@@ -2,7 +2,7 @@
 use Rattle.std.proofs.Common.{◌≡◌, ℕ, ℤ, suc, ◌<◌, true, false, ◌⊎◌, inl, inr, refl, sym, ap, subst, ◌∙◌, arith, ⊎_elim, Option, Some, None, FitsSigned, w32}
 use Rattle.std.specs.Prelude.{◌&&◌}
 use Rattle.std.proofs.lemmas.Bool.{cases_eq, cases_Bool, false≢true, false_from_ne_true, cond_both, ltb-true}
-use Rattle.reductions.specs.Reduction.{Reduction, unit_of}
+use Rattle.op_num.specs.Reduction.{Reduction, unit_of}
 use Rattle.schedule_model.specs.Cells.{Cell, Data, Variable, DatCell, VarCell, Store, InRange}
 use Rattle.schedule_model.specs.Effects.{Untouched, Merged, is_read, is_modified, with_units, fault_of, effect_of, outcome}
 use Rattle.schedule_model.specs.Program.{Free, is_free, elements}

@@ -1,7 +1,7 @@
 -- Every value stays in range, whatever steps of the plan are taken.
 use Rattle.std.proofs.Common.{true, ap, ◌≡◌, ℕ, ℤ, zero, suc, ◌<◌, Bool, cond, refl, arith, Option, Some, None, List, [], ◌∷◌, ◌++◌, FitsSigned, w32}
 use Rattle.std.specs.Prelude.{◌&&◌, ◌==◌, nat_lt}
-use Rattle.reductions.specs.Reduction.{Reduction}
+use Rattle.op_num.specs.Reduction.{Reduction}
 use Rattle.schedule_steps.specs.declared.step.Step.{Step}
 use Rattle.schedule_steps.specs.declared.step.Step.TheVariants.{Send, Recv, Begin, End, Join}
 use Rattle.schedule_steps.specs.Steps.{IsStep, same3}

@@ -1,7 +1,7 @@
 -- What runs on two stores say of the effects of one element.
 use Rattle.std.proofs.Common.{◌≡◌, ℤ, true, false, refl, sym, ap, subst, ◌∙◌, Option, Some, None, FitsSigned, w32}
 use Rattle.std.proofs.lemmas.Bool.{false≢true, false_from_ne_true, cond-true, cond-false, cond_both}
-use Rattle.reductions.specs.Reduction.{Reduction, IsCommuting, unit_of, merged}
+use Rattle.op_num.specs.Reduction.{Reduction, IsCommuting, unit_of, merged}
 use Rattle.schedule_model.specs.Cells.{Cell, Store, InRange, same_cell, with_cell}
 use Rattle.schedule_model.specs.Effects.{Ran, Faulted, Finished, Touch, Untouched, Read, Updated, Written, Merged, Mixed, is_read, is_modified, CellAlike, Alike, Independent, at_unit, with_units, fault_of, left_by, made_of, unless_faulty, effect_of, outcome, GivesEffects}
 use Rattle.schedule_model.specs.Tests.{same_cell_refl, same_cell_true}

@@ -1,6 +1,6 @@
 -- What one run of a kernel may do to a cell, and the law of independence of its runs on two stores.
 use Rattle.std.specs.Prelude.{◌≡◌, ℤ, Bool, true, false, Option, Some, None}
-use Rattle.reductions.specs.Reduction.{Reduction, unit_of, merged}
+use Rattle.op_num.specs.Reduction.{Reduction, unit_of, merged}
 use Rattle.schedule_model.specs.Cells.{Cell, Store, InRange, with_cell}
 
 -- the first fault of a run, or the store after it

@@ -1,7 +1,7 @@
 -- What binding, kernels, owners, halos, exchanges and colours have to give.
 use Rattle.std.specs.Prelude.{◌≡◌, ◌<◌, ◌⊎◌, ℕ, ℤ, suc, true, false, Option, Some, None, List, FitsSigned}
 use mir.Syntax.{w32}
-use Rattle.reductions.specs.Reduction.{Reduction}
+use Rattle.op_num.specs.Reduction.{Reduction}
 use Rattle.schedule_steps.specs.Outline.{by_colour}
 use Rattle.schedule_model.specs.Cells.{Data, Variable, DatCell, VarCell, Store, InRange}
 use Rattle.schedule_model.specs.History.{ByHistory}

@@ -8,3 +8,7 @@ pub mod Sequential
 pub mod Machine
 pub mod Laws
 pub mod Kept
+pub mod Arguments
+pub mod LoopParts
+pub mod Tells
+pub mod ByArguments

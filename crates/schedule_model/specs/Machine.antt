@@ -1,7 +1,7 @@
 -- The distributed machine: ranks with memories, messages, frames and partials, driven by the steps of a schedule.
 use Rattle.std.specs.Prelude.{◌≡◌, ℕ, ℤ, zero, suc, Bool, false, cond, ◌&&◌, ◌||◌, ◌==◌, nat_lt, List, [], ◌∷◌, ◌++◌, Option, Some, None}
 use Rattle.std.specs.Prelude.{is_some, pos}
-use Rattle.reductions.specs.Reduction.{Reduction, unit_of, merged}
+use Rattle.op_num.specs.Reduction.{Reduction, unit_of, merged}
 use Rattle.schedule_steps.specs.declared.step.Step.{Step}
 use Rattle.schedule_steps.specs.declared.step.Step.TheVariants.{Send, Recv, Begin, End, Join}
 use Rattle.schedule_steps.specs.Steps.{same3}

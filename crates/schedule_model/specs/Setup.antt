@@ -1,6 +1,6 @@
 -- A bound program on a number of ranks: how its loops reach cells, its owners, halos, exchanges and colours.
 use Rattle.std.specs.Prelude.{ℕ, Bool, cond, ◌&&◌, ◌||◌, ◌==◌, nat_lt, Option}
-use Rattle.reductions.specs.Reduction.{Reduction}
+use Rattle.op_num.specs.Reduction.{Reduction}
 use Rattle.schedule_steps.specs.Outline.{Outline}
 use Rattle.schedule_model.specs.Cells.{Cell, DatCell, VarCell}
 use Rattle.schedule_model.specs.Effects.{Touch}

@@ -18,7 +18,7 @@ pub fn accepted_runs_as_sequential<F>()
     ensures { (p : Setup F) → Lawful p → Coloured p → (l : List Step)
         → Accepted (outline p) l → Agrees p (sequential p.program) (machine p l) }
 {
-    reductions::reductions_commute();
+    op_num::reductions::reductions_commute();
 }
 
 /// From independence on two stores: each run is given by whether the element faults and by what it
@@ -26,7 +26,7 @@ pub fn accepted_runs_as_sequential<F>()
 pub fn independence_gives_effects<F>()
     ensures { (run : Store → Ran F) (touch : Cell → Touch) → Independent run touch → GivesEffects run touch }
 {
-    reductions::reductions_commute();
+    op_num::reductions::reductions_commute();
 }
 
 /// The exchanges of a dat are those of the history exactly where one bit gives them.

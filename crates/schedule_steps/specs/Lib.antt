@@ -9,3 +9,8 @@ pub mod Firsts
 pub mod UnderWay
 pub mod Alike
 pub mod Peaks
+pub mod Token
+pub mod Spelling
+pub mod Reading
+pub mod Answered
+pub mod Written

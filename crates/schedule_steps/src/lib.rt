@@ -5,6 +5,7 @@ mod elements;
 mod orders;
 mod peak;
 mod step;
+pub mod text;
 
 pub use elements::{elements_are_ordered, first_step_is_of_first_element};
 pub use orders::{

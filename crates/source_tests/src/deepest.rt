@@ -4,13 +4,13 @@ use crate::shown::shows_its_tokens;
 use access_check::{Mode, are_small, check};
 use c_reader::read_program;
 use kernel_code::{compile, run_on};
+use kernel_types::views::Place;
 use kernel_types::{RKernel, is_resolved};
 use name_resolution::resolve;
-use reductions::Access;
+use op_num::reductions::Access;
 use std::alloc::{AllocError, Global};
 use std::test::Fail;
 use std::thread::Builder;
-use views::Place;
 
 // 0, then for each level a chain of 128 operators in parentheses, whose leftmost operand is the level below.
 fn deep(alloc: Global, levels: usize) -> Result<String, AllocError> {

@@ -1,7 +1,7 @@
 // Kernels whose faults come before their stores, and others.
 
 use c_reader::read_program;
-use fault_order::faults_first;
+use kernel_model::fault_order::faults_first;
 use name_resolution::resolve;
 use std::alloc::Global;
 use std::test::Fail;

@@ -8,8 +8,8 @@ use Rattle.schedule_steps.specs.declared.step.Step.TheVariants.{Begin, End}
 use Rattle.schedule_steps.specs.Steps.{IsStep}
 use Rattle.schedule_steps.specs.Judged.{first_of}
 use Rattle.schedule_steps.specs.Firsts.{goes_first, meets, IsFirst}
-use Rattle.step_marks.specs.Item.{run_at}
-use Rattle.step_marks.specs.Marked.{Marked, item_at, outline_of}
+use Rattle.step_judge.specs.Item.{run_at}
+use Rattle.step_judge.specs.Marked.{Marked, item_at, outline_of}
 use Rattle.step_judge.specs.Wanted.{AreMarksOf, FirstBelow}
 
 module _ (o : Outline) (f : Step → Bool) (k r : ℕ) where

@@ -7,7 +7,7 @@ use Rattle.schedule_steps.specs.declared.step.Step.{Step}
 use Rattle.schedule_steps.specs.declared.step.Step.TheVariants.{Send, Join}
 use Rattle.schedule_steps.specs.Standard.{below, where_true, sends_of, receives_of, element_steps, item_steps}
 use Rattle.schedule_steps.specs.Judged.{is_step, first_of}
-use Rattle.step_marks.specs.Marked.{Marked, item_at, outline_of}
+use Rattle.step_judge.specs.Marked.{Marked, item_at, outline_of}
 use Rattle.step_judge.specs.Wanted.{AreMarksOf}
 
 module _ (f : Step → Bool) where

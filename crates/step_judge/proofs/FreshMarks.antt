@@ -3,9 +3,9 @@ use Rattle.std.proofs.Common.{◌≡◌, ℕ, ◌<◌, ◌≤◌, true, sym, sub
 use Rattle.std.proofs.lemmas.Bool.{cases_lt, false≢true}
 use Rattle.std.proofs.lemmas.List.{get_or_past}
 use Rattle.schedule_steps.specs.Outline.{Outline, runs}
-use Rattle.step_marks.specs.Item.{Item, linked}
-use Rattle.step_marks.specs.Marked.{Marked, no_item, item_at}
-use Rattle.step_marks.specs.Kept.{LaidOut}
+use Rattle.step_judge.specs.Item.{Item, linked}
+use Rattle.step_judge.specs.Marked.{Marked, no_item, item_at}
+use Rattle.step_judge.specs.Kept.{LaidOut}
 use Rattle.step_judge.specs.Fresh.{AreFresh}
 
 module _ (o : Outline) (n : ℕ) (items : List Item) (fresh : AreFresh o n items) where

@@ -9,7 +9,7 @@ use Rattle.schedule_steps.specs.Members.{same_refl, split_at}
 use Rattle.schedule_steps.specs.Turns.{Takes}
 use Rattle.schedule_steps.specs.Standard.{standard}
 use Rattle.schedule_steps.specs.Judged.{is_step, is_earlier, first_of, missing, may_take}
-use Rattle.step_marks.specs.Marked.{Marked, outline_of, taken, IsReady}
+use Rattle.step_judge.specs.Marked.{Marked, outline_of, taken, IsReady}
 use Rattle.step_judge.specs.declared.refusal.ScheduleRefusal.TheVariants.{NoSuchStep, Repeated}
 use Rattle.step_judge.specs.Verdicts.{too_early, judged}
 use Rattle.step_judge.specs.Wanted.{wanted}

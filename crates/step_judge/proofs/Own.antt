@@ -4,8 +4,8 @@ use Rattle.std.proofs.Math.Nat.{div-zero, div-mul-le_self}
 use Rattle.std.proofs.lemmas.Nat.{le-div}
 use Rattle.schedule_steps.specs.Outline.{Outline}
 use Rattle.schedule_steps.specs.Alike.{AlikeOutlines}
-use Rattle.step_marks.specs.Item.{run_at}
-use Rattle.step_marks.specs.Marked.{Marked, item_at, outline_of}
+use Rattle.step_judge.specs.Item.{run_at}
+use Rattle.step_judge.specs.Marked.{Marked, item_at, outline_of}
 use Rattle.step_judge.specs.Wanted.{AreMarksOf}
 use Rattle.lemmas.proofs.Numbers.{div_mono}
 

@@ -11,8 +11,8 @@ use Rattle.schedule_steps.specs.Members.{same_true, same_refl}
 use Rattle.schedule_steps.specs.Standard.{one_if}
 use Rattle.schedule_steps.specs.Judged.{is_step, missing}
 use Rattle.schedule_steps.specs.Peaks.{open_step, mail_step}
-use Rattle.step_marks.specs.Load.{HasCells}
-use Rattle.step_marks.specs.Marked.{Marked, outline_of, taken, TakesOne}
+use Rattle.step_judge.specs.Load.{HasCells}
+use Rattle.step_judge.specs.Marked.{Marked, outline_of, taken, TakesOne}
 use Rattle.step_judge.specs.declared.refusal.ScheduleRefusal.TheVariants.{NoSuchStep, Repeated}
 use Rattle.step_judge.specs.Verdicts.{too_early, judged}
 use Rattle.step_judge.specs.Checking.{cells_in, step_cells, untaken, HasRoom}

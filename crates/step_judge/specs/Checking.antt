@@ -5,10 +5,10 @@ use Rattle.schedule_steps.specs.declared.step.Step.TheVariants.{Send, Recv}
 use Rattle.schedule_steps.specs.Steps.{has}
 use Rattle.schedule_steps.specs.Standard.{one_if}
 use Rattle.schedule_steps.specs.Judged.{is_step}
-use Rattle.step_marks.specs.declared.load.Load.{Load}
-use Rattle.step_marks.specs.Item.{place_of}
-use Rattle.step_marks.specs.Load.{loaded}
-use Rattle.step_marks.specs.Marked.{Marked, item_at, outline_of, taken, TakesOne}
+use Rattle.step_judge.specs.declared.marks.load.Load.{Load}
+use Rattle.step_judge.specs.Item.{place_of}
+use Rattle.step_judge.specs.Load.{loaded}
+use Rattle.step_judge.specs.Marked.{Marked, item_at, outline_of, taken, TakesOne}
 
 -- which steps are taken, how many cells each message has, and what is open and under way
 pub record Checking : Type 0 where

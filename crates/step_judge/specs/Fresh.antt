@@ -2,9 +2,9 @@
 use Rattle.std.specs.Prelude.{◌≡◌, ◌<◌, ◌≤◌, ◌^◌, ℕ, true, false, List, length, get_or}
 use Rattle.schedule_steps.specs.Outline.{Outline, by_colour}
 use Rattle.schedule_steps.specs.Firsts.{BlocksInOrder}
-use Rattle.step_marks.specs.Run.{Run, begun_at, ended_at, core_at, lower}
-use Rattle.step_marks.specs.Item.{Item, linked, sent, received, run_at}
-use Rattle.step_marks.specs.Marked.{no_item}
+use Rattle.step_judge.specs.Run.{Run, begun_at, ended_at, core_at, lower}
+use Rattle.step_judge.specs.Item.{Item, linked, sent, received, run_at}
+use Rattle.step_judge.specs.Marked.{no_item}
 
 -- item, rank: the places of the rank, none of them begun
 pub record IsFreshRun (o : Outline) (k r : ℕ) (v : Run) : Type 0 where

@@ -3,3 +3,15 @@ pub mod Wanted
 pub mod Checking
 pub mod Fresh
 pub mod TakenAll
+pub mod Marks
+pub mod Counts
+pub mod Ranked
+pub mod Run
+pub mod RunKept
+pub mod NewRun
+pub mod Item
+pub mod NewItem
+pub mod Marked
+pub mod Kept
+pub mod Load
+pub mod Rising

@@ -7,7 +7,7 @@ use Rattle.schedule_steps.specs.Steps.{IsStep}
 use Rattle.schedule_steps.specs.Alike.{AlikeOutlines}
 use Rattle.schedule_steps.specs.Judged.{is_earlier}
 use Rattle.schedule_steps.specs.Firsts.{goes_first, BlocksInOrder, meets}
-use Rattle.step_marks.specs.Marked.{Marked, outline_of, taken}
+use Rattle.step_judge.specs.Marked.{Marked, outline_of, taken}
 
 -- the step is not taken and, where a later step is given, has to come before it
 abbrev pub wanted : Marked → Option Step → Step → Bool

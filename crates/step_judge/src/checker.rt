@@ -3,17 +3,17 @@ ghost use Rattle.std.specs.Prelude.{◌≡◌, OnOk, OnErr, ℕ, Vec, map, slice
 ghost use Rattle.std.specs.declared.alloc.Global.{Global as GlobalValue};
 ghost use Rattle.schedule_steps.specs.Outline.{Outline};
 ghost use Rattle.schedule_steps.specs.Judged.{left_over};
-ghost use Rattle.step_marks.specs.Load.{no_load};
-ghost use Rattle.step_marks.specs.Marked.{taken};
+ghost use Rattle.step_judge.specs.Load.{no_load};
+ghost use Rattle.step_judge.specs.Marked.{taken};
 ghost use Rattle.step_judge.specs.Verdicts.{judged, finished};
 ghost use Rattle.step_judge.specs.Wanted.{AreMarksOf};
 ghost use Rattle.step_judge.specs.Checking.{cells_of, step_cells, TakesStep, HasRoom};
 
 use crate::judge::{end_steps, take_step};
+use crate::marks::{Load, StepMarks};
 use crate::refusal::ScheduleRefusal;
 use schedule_steps::{Peak, Step};
 use std::marker::Model;
-use step_marks::{Load, StepMarks};
 
 /// A schedule that is taken step by step: which steps are taken, and what is open and under way. `cells` has by item and message how
 /// many cells the message has.

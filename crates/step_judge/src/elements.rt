@@ -6,12 +6,12 @@ ghost use Rattle.schedule_steps.specs.Steps.{IsStep};
 ghost use Rattle.schedule_steps.specs.Standard.{element_steps};
 ghost use Rattle.schedule_steps.specs.Judged.{is_step, first_of};
 ghost use Rattle.schedule_steps.specs.Firsts.{meets};
-ghost use Rattle.step_marks.specs.Item.{run_at};
-ghost use Rattle.step_marks.specs.Marked.{item_at, outline_of};
+ghost use Rattle.step_judge.specs.Item.{run_at};
+ghost use Rattle.step_judge.specs.Marked.{item_at, outline_of};
 ghost use Rattle.step_judge.specs.Wanted.{wanted, IsPlanned, IsPlace, AreMarksOf, FirstBelow};
 
+use crate::marks::StepMarks;
 use schedule_steps::Step;
-use step_marks::StepMarks;
 
 /// Whether the step is not taken and, where a later step is given, has to come before it.
 pub fn is_wanted(marks: &StepMarks, step: Step, later: Option<Step>) -> bool

@@ -3,12 +3,12 @@ ghost use Rattle.std.specs.Prelude.{◌≡◌, ℕ, false, IfOk};
 ghost use Rattle.schedule_steps.specs.Outline.{Outline};
 ghost use Rattle.schedule_steps.specs.declared.step.Step.{Step};
 ghost use Rattle.schedule_steps.specs.Steps.{IsStep};
-ghost use Rattle.step_marks.specs.Marked.{outline_of, taken};
+ghost use Rattle.step_judge.specs.Marked.{outline_of, taken};
 ghost use Rattle.step_judge.specs.Wanted.{AreMarksOf};
 ghost use Rattle.step_judge.specs.Fresh.{AreFresh};
 
+use crate::marks::{ItemMarks, StepMarks};
 use std::alloc::{AllocError, Global};
-use step_marks::{ItemMarks, StepMarks};
 
 /// The marks of a plan on so many ranks, by its items, of which no step is taken.
 pub fn fresh_marks(

@@ -1,14 +1,14 @@
 // A step in its turn, and the end.
 ghost use Rattle.std.specs.Prelude.{◌≡◌, OnOk, OnErr};
 ghost use Rattle.schedule_steps.specs.Outline.{Outline};
-ghost use Rattle.step_marks.specs.Marked.{outline_of, taken, TakesOne};
+ghost use Rattle.step_judge.specs.Marked.{outline_of, taken, TakesOne};
 ghost use Rattle.step_judge.specs.Verdicts.{judged, ended};
 ghost use Rattle.step_judge.specs.Wanted.{AreMarksOf};
 
+use crate::marks::StepMarks;
 use crate::refusal::ScheduleRefusal;
 use crate::search::first_wanted;
 use schedule_steps::Step;
-use step_marks::StepMarks;
 
 /// Takes the step, or says why not; then no mark changes. Takes no memory.
 ///
@@ -21,7 +21,7 @@ pub fn take_step(marks: &mut StepMarks, step: Step) -> Result<(), ScheduleRefusa
 {
     schedule_steps::tests_decide();
     schedule_steps::standard_is_accepted();
-    step_marks::alike_outlines_judge_alike();
+    crate::marks::alike_outlines_judge_alike();
     if !marks.has_step(step) {
         return Err(ScheduleRefusal::NoSuchStep);
     }

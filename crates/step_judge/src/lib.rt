@@ -6,6 +6,7 @@ mod elements;
 mod fresh;
 mod judge;
 mod laws;
+pub mod marks;
 mod messages;
 mod refusal;
 mod search;

@@ -3,12 +3,12 @@ ghost use Rattle.std.specs.Prelude.{◌≡◌, ◌<◌, ◌&&◌, true, length};
 ghost use Rattle.schedule_steps.specs.Outline.{Outline};
 ghost use Rattle.schedule_steps.specs.Standard.{below, sends_of, receives_of};
 ghost use Rattle.schedule_steps.specs.Judged.{is_step, first_of};
-ghost use Rattle.step_marks.specs.Marked.{item_at, outline_of};
+ghost use Rattle.step_judge.specs.Marked.{item_at, outline_of};
 ghost use Rattle.step_judge.specs.Wanted.{wanted, IsPlanned, AreMarksOf};
 
 use crate::elements::is_wanted;
+use crate::marks::StepMarks;
 use schedule_steps::Step;
-use step_marks::StepMarks;
 
 // Whether the plan has the step, and it is wanted.
 fn has_wanted(marks: &StepMarks, step: Step, later: Option<Step>) -> bool

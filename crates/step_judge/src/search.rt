@@ -4,13 +4,13 @@ ghost use Rattle.schedule_steps.specs.Outline.{Outline};
 ghost use Rattle.schedule_steps.specs.declared.step.Step.TheVariants.{Join};
 ghost use Rattle.schedule_steps.specs.Standard.{below, sends_of, receives_of, element_steps, item_steps, standard};
 ghost use Rattle.schedule_steps.specs.Judged.{first_of};
-ghost use Rattle.step_marks.specs.Marked.{item_at, outline_of};
+ghost use Rattle.step_judge.specs.Marked.{item_at, outline_of};
 ghost use Rattle.step_judge.specs.Wanted.{wanted, IsPlanned, AreMarksOf};
 
 use crate::elements::{first_of_elements, is_wanted};
+use crate::marks::StepMarks;
 use crate::messages::{first_of_receives, first_of_sends};
 use schedule_steps::Step;
-use step_marks::StepMarks;
 
 // The first wanted step of an item's elements.
 fn first_element(marks: &StepMarks, later: Option<Step>, item: u32) -> Option<Step>

@@ -5,3 +5,7 @@ pub mod Left
 pub mod Order
 pub mod OwnLeft
 pub mod Alone
+pub mod Rests
+pub mod TurnOf
+pub mod ToCome
+pub mod UnderWay

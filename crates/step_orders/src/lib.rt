@@ -1,9 +1,11 @@
 //! The standard order of a plan's steps, one step after another, with no list of them.
 #![tactic(auto)]
 
+pub mod ahead;
 mod alone_walks;
 mod closed_walks;
 mod counting;
+pub mod drawn;
 mod laws;
 mod list;
 mod order;

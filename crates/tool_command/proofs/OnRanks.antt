@@ -3,7 +3,7 @@ use Rattle.std.proofs.Common.{◌≡◌, refl, sym, subst}
 use Rattle.mesh_decl.specs.declared.owners.Owners.{Owners}
 use Rattle.mesh_decl.specs.declared.owners.Perms.{Perms}
 use Rattle.mesh_decl.specs.Owners.{AreOwners, ArePerms}
-use Rattle.halo_lists.specs.Halos.{AreHalos}
+use Rattle.local_mesh.specs.Halos.{AreHalos}
 use Rattle.local_mesh.specs.LocalMesh.{AreRankMeshes}
 use Rattle.bound_program.specs.Values.{BoundValue}
 use Rattle.distribute.specs.declared.types.Distribution.{Distribution}

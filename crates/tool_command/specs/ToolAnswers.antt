@@ -5,11 +5,11 @@ use Rattle.op_outside.specs.Outside.{Files}
 use Rattle.mesh_decl.specs.declared.owners.Owners.{Owners}
 use Rattle.mesh_decl.specs.Mesh.{set_count, set_size, set_name}
 use Rattle.mesh_decl.specs.Named.{NamesMap, NamesSet}
-use Rattle.metis_owners.specs.Numbers.{ranks_in}
-use Rattle.metis_owners.specs.Owned.{AreByMetis}
-use Rattle.metis_owners.specs.declared.refusals.MetisRefusal.{MetisRefusal}
-use Rattle.metis_owners.specs.declared.refusals.MetisRefusal.TheVariants as metis
-use Rattle.part_text.specs.Spelling.{Spells}
+use Rattle.owner_text.specs.Numbers.{ranks_in}
+use Rattle.owner_text.specs.Owned.{AreByMetis}
+use Rattle.owner_text.specs.declared.metis.refusals.MetisRefusal.{MetisRefusal}
+use Rattle.owner_text.specs.declared.metis.refusals.MetisRefusal.TheVariants as metis
+use Rattle.partition.specs.Spelling.{Spells}
 use Rattle.owner_text.specs.Written.{partition_text, HasName}
 use Rattle.bound_program.specs.Values.{BoundValue}
 use Rattle.bound_program.specs.Fits.{Fits}
@@ -27,9 +27,9 @@ use Rattle.gmsh_mesh.specs.Outcome.{Conversion, Comes}
 use Rattle.cell_numbers.specs.declared.types.Shown.{Shown}
 use Rattle.cell_numbers.specs.declared.types.Shown.TheVariants as shown
 use Rattle.cell_numbers.specs.declared.types.ShownRefusal.TheVariants as unshown
-use Rattle.cell_shapes.specs.declared.shape.ShapeRefusal.TheVariants as shape
-use Rattle.output_fields.specs.declared.refusals.FieldRefusal.{FieldRefusal}
-use Rattle.output_fields.specs.declared.refusals.FieldRefusal.TheVariants as untold
+use Rattle.mesh_draw.specs.declared.shapes.shape.ShapeRefusal.TheVariants as shape
+use Rattle.mesh_draw.specs.declared.fields.refusals.FieldRefusal.{FieldRefusal}
+use Rattle.mesh_draw.specs.declared.fields.refusals.FieldRefusal.TheVariants as untold
 use Rattle.mesh_draw.specs.declared.types.DrawRefusal.{DrawRefusal}
 use Rattle.mesh_draw.specs.declared.types.DrawRefusal.TheVariants as undrawn
 use Rattle.mesh_draw.specs.Drawn.{IsDrawn, IsUndrawn, IsGrid, IsNoGrid}

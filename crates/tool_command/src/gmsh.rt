@@ -2,7 +2,7 @@
 
 ghost use Rattle.std.specs.Prelude.{◌≡◌, ◌<◌, ◌≤◌, [], ◌∷◌, length, option_map, IfOk};
 ghost use Rattle.op_outside.specs.Outside.{Rose};
-ghost use Rattle.mesh_text.specs.declared.entry.TheConstants.{MESH_BYTES};
+ghost use Rattle.mesh_decl.specs.declared.text.entry.TheConstants.{MESH_BYTES};
 ghost use Rattle.answer_lines.specs.Halts.{answer_of};
 ghost use Rattle.job_inputs.specs.Chains.{AnswersBy, AnswersOver};
 ghost use Rattle.tool_command.specs.ToolAnswers.{GmshAnswers, ConversionAnswers, SourceAnswers, TextAnswers, source_answer, conversion_of};

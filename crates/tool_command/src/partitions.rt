@@ -15,8 +15,8 @@ use answer_lines::{Answer, Failure, Halt, Limit};
 use bound_program::Bound;
 use job_inputs::file_of;
 use kept_files::Kept;
-use metis_owners::{MetisRefusal, owners_by_metis};
 use op_outside::Shelf;
+use owner_text::metis::{MetisRefusal, owners_by_metis};
 use std::alloc::Global;
 
 // The answer to the bytes of a partitioner's text, for the set of this number.

@@ -19,14 +19,14 @@ use crate::lines::{put_at, refused_by};
 use answer_lines::{Answer, Failure, Halt, Limit, put_named};
 use bound_program::Bound;
 use cell_numbers::{Shown, ShownRefusal};
-use cell_shapes::ShapeRefusal;
 use job_inputs::file_of;
 use job_plans::Planned;
 use kept_files::Kept;
+use mesh_draw::fields::FieldRefusal;
+use mesh_draw::shapes::ShapeRefusal;
 use mesh_draw::{DrawRefusal, draw, vtk};
 use op_num::OutOfMemory;
 use op_outside::Shelf;
-use output_fields::FieldRefusal;
 use std::alloc::Global;
 use tool_words::Picture;
 

@@ -1,8 +1,8 @@
 use Rattle.std.proofs.Common.{◌<◌, arith, sym, subst}
 use Rattle.std.proofs.lemmas.List.{length_push}
 use Rattle.mesh_decl.specs.Mesh.{set_count}
-use Rattle.halo_lists.specs.declared.types.SetHalo.{SetHalo}
-use Rattle.halo_lists.specs.Halos.{IsSetHalo}
+use Rattle.local_mesh.specs.declared.halo_lists.types.SetHalo.{SetHalo}
+use Rattle.local_mesh.specs.Halos.{IsSetHalo}
 use Rattle.local_mesh.specs.Parts.{AreGroups}
 use Rattle.local_mesh.proofs.Growing.{each_more}
 use Rattle.local_mesh.proofs.all_groups.Goals as goal

@@ -2,8 +2,8 @@ use Rattle.std.proofs.Common.{List, Vec, ℕ, length, sym, ap, ◌∙◌}
 use Rattle.std.specs.declared.alloc.Global.{Global}
 use Rattle.rank_sets.specs.Below.{row}
 use Rattle.mesh_decl.specs.Mesh.{set_size}
-use Rattle.halo_lists.specs.Halo.{imports_execute, imports_nonexecute}
-use Rattle.halo_lists.proofs.Importing.{owners_below}
+use Rattle.local_mesh.specs.Halo.{imports_execute, imports_nonexecute}
+use Rattle.local_mesh.proofs.halo_lists.Importing.{owners_below}
 use Rattle.local_mesh.proofs.Grouping.{listed_within, groups_are, kept_are}
 use Rattle.local_mesh.proofs.groups_of.Goals as goal
 

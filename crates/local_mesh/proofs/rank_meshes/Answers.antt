@@ -5,8 +5,8 @@ use Rattle.mesh_decl.specs.declared.owners.Perms.{Perms}
 use Rattle.mesh_decl.specs.Mesh.{MeshValue, set_count, set_size}
 use Rattle.mesh_decl.specs.Owners.{ArePerms}
 use Rattle.mesh_decl.proofs.FieldReads.{some_in}
-use Rattle.halo_lists.specs.declared.types.SetHalo.{SetHalo}
-use Rattle.halo_lists.specs.Halos.{IsSetHalo}
+use Rattle.local_mesh.specs.declared.halo_lists.types.SetHalo.{SetHalo}
+use Rattle.local_mesh.specs.Halos.{IsSetHalo}
 use Rattle.local_mesh.specs.declared.types.Groups.{Groups}
 use Rattle.local_mesh.specs.declared.types.LocalSet.{LocalSet}
 use Rattle.local_mesh.specs.Parts.{AreGroups, IsJoinedFrom}

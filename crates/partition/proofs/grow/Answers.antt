@@ -2,7 +2,7 @@ use Rattle.std.proofs.Common.{◌≡◌, ◌<◌, ℕ, List, nat_eq, get_or, ap,
 use Rattle.mesh_decl.specs.Mesh.{MeshValue, set_count, set_size, map_to}
 use Rattle.mesh_decl.specs.declared.owners.Owners.{Owners}
 use Rattle.mesh_decl.specs.Owners.{owners_in, owner_of}
-use Rattle.breadth_order.specs.Neighbours.{are_neighbours}
+use Rattle.renumber.specs.Neighbours.{are_neighbours}
 use Rattle.partition.specs.Derive.{AreDerived}
 use Rattle.partition.specs.Grow.{IsGrown}
 use Rattle.partition.proofs.OneSet.{all_ok, one_kept, derived_own}

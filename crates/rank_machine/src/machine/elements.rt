@@ -15,9 +15,9 @@ ghost use Rattle.rank_program.specs.Keeping.{KeepsIn};
 
 use crate::machine::Machine;
 use crate::running::run_in;
-use rank_memory::loading::load;
-use rank_memory::stop::least;
 use rank_program::{DistributedProgram, Room, run_places};
+use rank_state::rank_memory::loading::load;
+use rank_state::rank_memory::stop::least;
 use rank_state::{Scalar, Span};
 
 // How many cells the spans have.

@@ -17,7 +17,7 @@ ghost use Rattle.rank_state.specs.Joins.{reduced};
 ghost use Rattle.rank_state.specs.Core.{fault_of};
 ghost use Rattle.rank_state.specs.Ordered.{Within_all, total_all, all_windows, left_in};
 ghost use Rattle.rank_state.specs.Indices.{InLength};
-ghost use Rattle.rank_memory.specs.Stops.{stop_in};
+ghost use Rattle.rank_state.specs.Stops.{stop_in};
 ghost use Rattle.rank_program.specs.Sound.{Takes, layout_in};
 
 use crate::machine::Machine;
@@ -28,8 +28,8 @@ use gather::print_dat;
 use host_acts::{Variables, run_act};
 use kernel_types::KernelFault;
 use op_num::{OutOfMemory, Text};
-use rank_memory::stop::{Stop, before};
 use rank_program::DistributedProgram;
+use rank_state::rank_memory::stop::{Stop, before};
 use rank_state::{Owned, Scalar};
 use std::alloc::Global;
 

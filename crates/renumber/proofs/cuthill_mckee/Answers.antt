@@ -3,8 +3,8 @@ use Rattle.std.proofs.lemmas.List.{length_push}
 use Rattle.mesh_decl.specs.Mesh.{set_count, set_size, map_from, map_to}
 use Rattle.mesh_decl.specs.Owners.{IsNumbering, perm_in}
 use Rattle.rank_sets.proofs.Growing.{list_more}
-use Rattle.breadth_order.specs.Neighbours.{are_neighbours}
-use Rattle.breadth_order.specs.Degrees.{degree_order}
+use Rattle.renumber.specs.Neighbours.{are_neighbours}
+use Rattle.renumber.specs.Degrees.{degree_order}
 use Rattle.renumber.specs.CuthillMcKee.{IsSetOrder, IsByTargets}
 use Rattle.renumber.proofs.Reversed.{reversed_numbering}
 use Rattle.renumber.proofs.cuthill_mckee.Goals as goal

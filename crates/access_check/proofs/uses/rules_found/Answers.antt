@@ -1,7 +1,7 @@
 use Rattle.std.proofs.Common.{◌≡◌, ◌∙◌, ◌&&◌, sym, ap, refl}
 use Rattle.kernel_model.specs.Refusals.{WritesRead, ReadsInc, IncNotSum, ReadsUnwritten, WriteIndexNotStatic, LiteralIndexOut, MinMaxForm, index_of, is_read}
 use Rattle.kernel_model.specs.Walk.{is_op_write, is_unknown, is_out, is_unwritten}
-use Rattle.reductions.specs.Access.{access_of}
+use Rattle.op_num.specs.Access.{access_of}
 use Rattle.access_check.specs.States.{has_component}
 use Rattle.access_check.specs.Uses.{event_of}
 use Rattle.access_check.proofs.Events.{argument_is, index_is, place_is, noted_same}

@@ -2,7 +2,7 @@ use Rattle.std.proofs.Common.{◌<◌, ◌∙◌, ℕ, sym, ap, subst, map, leng
 use Rattle.std.proofs.lemmas.List.{length-map}
 use Rattle.mesh_decl.specs.Mesh.{set_size}
 use Rattle.mesh_decl.specs.Owners.{owners_in}
-use Rattle.halo_lists.specs.Halo.{imports_execute, imports_nonexecute}
+use Rattle.local_mesh.specs.Halo.{imports_execute, imports_nonexecute}
 use Rattle.cell_numbers.specs.Marks.{own_or_other}
 use Rattle.cell_numbers.proofs.Halos.{exec_rank, exec_row, nonexec_rank, nonexec_row}
 use Rattle.cell_numbers.proofs.Parts.{part_marked, own_at, marks_within}

@@ -1,5 +1,5 @@
 use Rattle.std.proofs.Common.{◌≡◌, [], map, take}
-use Rattle.placed_runs.specs.Placed.{arg_place}
+use Rattle.chain_memory.specs.Placed.{arg_place}
 use Rattle.chain_memory.specs.Places.{stands_at}
 use Rattle.chain_memory.specs.Sound.{program_in}
 use Rattle.chain_memory.proofs.elements.put_places.Given as goal

@@ -1,10 +1,10 @@
 use Rattle.std.proofs.Common.{◌≡◌, ◌<◌, ◌≤◌, ℕ, List, true, replicate, take, length, sym, ap, subst, ◌∙◌, arith}
 use Rattle.std.proofs.lemmas.List.{length-map, get_or-replicate}
 use Rattle.kernel_types.specs.Resolved.{IsResolved}
-use Rattle.views.specs.declared.frame.Place.{Place}
-use Rattle.views.specs.Framed.{PlacesIn}
+use Rattle.kernel_types.specs.declared.views.frame.Place.{Place}
+use Rattle.kernel_types.specs.Framed.{PlacesIn}
 use Rattle.in_place.specs.Saving.{place_cells}
-use Rattle.placed_runs.specs.Placed.{arg_place}
+use Rattle.chain_memory.specs.Placed.{arg_place}
 use Rattle.chain_memory.specs.Places.{all_cells, stands_at}
 use Rattle.chain_memory.specs.Sound.{program_in}
 use Rattle.chain_memory.proofs.Running.{few_arguments, all_marked, runs_placed, places_fit, places_few, takes, resolved, ends_placed}

@@ -9,16 +9,16 @@ use Rattle.run_model.specs.Kernels.{constants, constant_values, element_run}
 use Rattle.run_model.specs.Programs.{item_at, loop_of}
 use Rattle.host_acts.specs.Variables.{of_vars}
 use Rattle.rank_state.specs.Machine.{noted}
-use Rattle.rank_memory.specs.Stops.{stop_in}
+use Rattle.rank_state.specs.Stops.{stop_in}
 use Rattle.bound_plan.specs.Variables.{reduces_at}
 use Rattle.chain_model.specs.Machine.{view, ran}
 use Rattle.bound_chains.specs.Slices.{slicing_of}
-use Rattle.placed_runs.specs.Placed.{HoldsWindows, EndsPlaced}
+use Rattle.chain_memory.specs.Placed.{HoldsWindows, EndsPlaced}
 use Rattle.chain_memory.specs.Places.{stands_at}
-use Rattle.chain_stores.specs.Cells.{BlocksHold}
-use Rattle.chain_elements.specs.Globals.{with_globals}
-use Rattle.chain_elements.specs.Dropping.{dropped}
-use Rattle.chain_elements.specs.Merging.{merged_all}
+use Rattle.chain_memory.specs.Cells.{BlocksHold}
+use Rattle.chain_ranks.specs.Globals.{with_globals}
+use Rattle.chain_ranks.specs.Dropping.{dropped}
+use Rattle.chain_ranks.specs.Merging.{merged_all}
 use Rattle.chain_ranks.specs.Running.{Runs}
 use Rattle.chain_ranks.specs.Loops.{program_of_loop, owners_of_loop}
 use Rattle.chain_ranks.proofs.OneElement.{read, has_read, constants_seen, sees}

@@ -3,8 +3,8 @@ use Rattle.std.proofs.lemmas.Bool.{eq-eqb, ne_eqb}
 use Rattle.mesh_decl.specs.Owners.{owner_of}
 use Rattle.host_acts.specs.Variables.{of_vars}
 use Rattle.chain_memory.specs.Sound.{ranks_in}
-use Rattle.chain_stores.specs.Cells.{BlocksHold}
-use Rattle.chain_elements.specs.Merging.{merged_all}
+use Rattle.chain_memory.specs.Cells.{BlocksHold}
+use Rattle.chain_ranks.specs.Merging.{merged_all}
 use Rattle.chain_ranks.specs.Loops.{program_of_loop, owners_of_loop}
 use Rattle.chain_ranks.proofs.elements.take_over.Goals as goal
 use Rattle.chain_ranks.proofs.elements.take_over.Goals.{then-rank_of-rank, else-rank_of-rank}

@@ -8,7 +8,7 @@ use Rattle.bound_program.specs.Fits.{site_at}
 use Rattle.run_model.specs.Programs.{program_of}
 use Rattle.chain_model.specs.Machine.{ChainState, chain_start, rank_run}
 use Rattle.bound_chains.specs.Slices.{slicing_of, executes}
-use Rattle.chain_elements.specs.Constants.{constants_in}
+use Rattle.chain_ranks.specs.Constants.{constants_in}
 use Rattle.chain_ranks.specs.Running.{Runs}
 use Rattle.chain_ranks.specs.Loops.{HasConstants, element_ran, program_of_loop, owners_of_loop}
 use Rattle.chain_ranks.proofs.InTurn.{rank_keeps, first_turn, executed, next_turn, last_turn}

@@ -1,7 +1,7 @@
 use Rattle.std.proofs.Common.{◌≡◌, ◌+◌, suc, sym, ap, subst, ◌∙◌, arith}
 use Rattle.chain_model.specs.Machine.{ranks_run}
 use Rattle.bound_chains.specs.Slices.{slicing_of}
-use Rattle.chain_elements.specs.Constants.{constants_in}
+use Rattle.chain_ranks.specs.Constants.{constants_in}
 use Rattle.chain_ranks.specs.Running.{Runs}
 use Rattle.chain_ranks.specs.Loops.{HasConstants, program_of_loop, owners_of_loop}
 use Rattle.chain_ranks.proofs.InTurn.{ranks_keep}

@@ -3,11 +3,11 @@ use Rattle.std.proofs.lemmas.List.{take_all, get_or_default}
 use Rattle.bound_program.specs.declared.sites.Arg.{Arg}
 use Rattle.run_model.specs.Arguments.{no_arg}
 use Rattle.chain_memory.specs.Sound.{program_in, ranks_in}
-use Rattle.chain_stores.specs.Cells.{Hold}
-use Rattle.chain_stores.proofs.Writing.{held_as}
-use Rattle.chain_elements.specs.Merging.{changed_by, changed_all}
-use Rattle.chain_elements.proofs.Loops.{arg_fits, args_apart}
-use Rattle.chain_elements.proofs.Changes.{changed_none, changed_more}
+use Rattle.chain_memory.specs.Cells.{Hold}
+use Rattle.chain_memory.proofs.chain_stores.Writing.{held_as}
+use Rattle.chain_ranks.specs.Merging.{changed_by, changed_all}
+use Rattle.chain_ranks.proofs.chain_elements.Loops.{arg_fits, args_apart}
+use Rattle.chain_ranks.proofs.chain_elements.Changes.{changed_none, changed_more}
 use Rattle.chain_ranks.specs.Partials.{sums_of}
 use Rattle.chain_ranks.proofs.Summing.{merged_plain}
 use Rattle.chain_ranks.proofs.sums.reduce_all.Goals as goal

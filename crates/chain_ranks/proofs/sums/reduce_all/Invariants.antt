@@ -1,8 +1,8 @@
 use Rattle.std.proofs.Common.{take}
 use Rattle.host_acts.specs.Variables.{of_vars}
 use Rattle.chain_memory.specs.Sound.{program_in, ranks_in}
-use Rattle.chain_stores.specs.Cells.{Values, BlocksHold, Hold}
-use Rattle.chain_elements.specs.Merging.{changed_all}
+use Rattle.chain_memory.specs.Cells.{Values, BlocksHold, Hold}
+use Rattle.chain_ranks.specs.Merging.{changed_all}
 use Rattle.chain_ranks.specs.Partials.{sums_of}
 use Rattle.chain_ranks.proofs.sums.reduce_all.Given as goal
 

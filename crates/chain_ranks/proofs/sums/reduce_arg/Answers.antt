@@ -1,5 +1,5 @@
 use Rattle.std.proofs.Common.{◌≡◌, Option, Some, None, sym, ap, subst, ◌∙◌}
-use Rattle.reductions.specs.Reduction.{Reduction}
+use Rattle.op_num.specs.Reduction.{Reduction}
 use Rattle.rank_state.specs.Windows.{operation}
 use Rattle.bound_program.specs.declared.sites.Arg.{Arg}
 use Rattle.bound_program.specs.declared.sites.Arg.TheVariants.{Global}
@@ -7,11 +7,11 @@ use Rattle.run_model.specs.Windows.{Whole, cell_in}
 use Rattle.bound_plan.specs.Variables.{reduction_of}
 use Rattle.chain_model.specs.Machine.{merged_over}
 use Rattle.chain_memory.specs.Sound.{program_in, ranks_in}
-use Rattle.chain_stores.specs.Cells.{Hold, with_target}
-use Rattle.chain_stores.proofs.Writing.{held_as}
-use Rattle.chain_elements.specs.Globals.{reduction_in}
-use Rattle.chain_elements.specs.Merging.{changed_by}
-use Rattle.chain_elements.proofs.Changes.{unchanged}
+use Rattle.chain_memory.specs.Cells.{Hold, with_target}
+use Rattle.chain_memory.proofs.chain_stores.Writing.{held_as}
+use Rattle.chain_ranks.specs.Globals.{reduction_in}
+use Rattle.chain_ranks.specs.Merging.{changed_by}
+use Rattle.chain_ranks.proofs.chain_elements.Changes.{unchanged}
 use Rattle.chain_ranks.specs.Partials.{sums_of}
 use Rattle.chain_ranks.proofs.Summing.{merged_plain}
 use Rattle.chain_ranks.proofs.sums.reduce_arg.Goals as goal

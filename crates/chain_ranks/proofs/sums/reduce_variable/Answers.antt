@@ -1,11 +1,11 @@
 use Rattle.std.proofs.Common.{◌≡◌, ◌+◌, ℕ, suc, Some, subst, arith}
-use Rattle.reductions.specs.Reduction.{merged}
+use Rattle.op_num.specs.Reduction.{merged}
 use Rattle.run_model.specs.Windows.{Whole, cell_in}
 use Rattle.rank_state.specs.Windows.{operation}
 use Rattle.chain_model.specs.Machine.{merged_over}
 use Rattle.chain_memory.specs.Sound.{program_in, ranks_in}
-use Rattle.chain_stores.specs.Cells.{Hold, with_target}
-use Rattle.chain_stores.proofs.Writing.{held_as}
+use Rattle.chain_memory.specs.Cells.{Hold, with_target}
+use Rattle.chain_memory.proofs.chain_stores.Writing.{held_as}
 use Rattle.chain_ranks.proofs.Summing.{with_own, with_twice, summed}
 use Rattle.chain_ranks.proofs.sums.reduce_variable.Goals as goal
 

@@ -4,7 +4,7 @@ use Rattle.host_acts.specs.Variables.{of_vars}
 use Rattle.rank_state.specs.Windows.{operation}
 use Rattle.chain_model.specs.Machine.{merged_over}
 use Rattle.chain_memory.specs.Sound.{program_in, ranks_in}
-use Rattle.chain_stores.specs.Cells.{Values, BlocksHold, Hold, with_target}
+use Rattle.chain_memory.specs.Cells.{Values, BlocksHold, Hold, with_target}
 use Rattle.chain_ranks.proofs.sums.reduce_variable.Given as goal
 
 abbrev pub invariant-loop-rank : goal.invariant-loop-rank

@@ -1,5 +1,5 @@
 use Rattle.std.proofs.Common.{◌≡◌, Option, Some, sym, ap, subst, ◌∙◌, w32, to_z, of_z}
-use Rattle.reductions.specs.Reduction.{Reduction, unit_of}
+use Rattle.op_num.specs.Reduction.{Reduction, unit_of}
 use Rattle.schedule_model.specs.Machine.{window_of}
 use Rattle.rank_state.specs.Windows.{operation}
 use Rattle.bound_program.specs.declared.sites.Arg.{Arg}
@@ -9,11 +9,11 @@ use Rattle.run_model.specs.Windows.{Whole, cell_in}
 use Rattle.host_acts.specs.Variables.{of_vars}
 use Rattle.bound_plan.specs.Variables.{reduction_of}
 use Rattle.chain_memory.specs.Sound.{program_in, ranks_in}
-use Rattle.chain_stores.specs.Cells.{BlocksHold, with_target}
-use Rattle.chain_stores.proofs.Writing.{filled}
-use Rattle.chain_elements.specs.Globals.{reduction_in}
-use Rattle.chain_elements.specs.Merging.{changed_by}
-use Rattle.chain_elements.proofs.Putting.{same_unit}
+use Rattle.chain_memory.specs.Cells.{BlocksHold, with_target}
+use Rattle.chain_memory.proofs.chain_stores.Writing.{filled}
+use Rattle.chain_ranks.specs.Globals.{reduction_in}
+use Rattle.chain_ranks.specs.Merging.{changed_by}
+use Rattle.chain_ranks.proofs.chain_elements.Putting.{same_unit}
 use Rattle.chain_ranks.specs.Partials.{units}
 use Rattle.chain_ranks.proofs.units.put_unit.Goals as goal
 

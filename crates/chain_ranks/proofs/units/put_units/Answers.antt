@@ -5,8 +5,8 @@ use Rattle.schedule_model.specs.Cells.{Variable}
 use Rattle.bound_program.specs.Fits.{site_at}
 use Rattle.host_acts.specs.Variables.{of_vars}
 use Rattle.chain_memory.specs.Sound.{program_in, ranks_in}
-use Rattle.chain_stores.specs.Cells.{BlocksHold}
-use Rattle.chain_elements.specs.Merging.{changed_all}
+use Rattle.chain_memory.specs.Cells.{BlocksHold}
+use Rattle.chain_ranks.specs.Merging.{changed_all}
 use Rattle.chain_ranks.specs.Partials.{units}
 use Rattle.chain_ranks.proofs.OneElement.{read, has_read}
 use Rattle.chain_ranks.proofs.Summing.{unit_put, unit_else}

@@ -1,5 +1,5 @@
 use Rattle.std.proofs.Common.{◌≡◌, ◌<◌, ℕ, pos, true, Some, get_or}
-use Rattle.reductions.specs.Reduction.{Reduction, unit_of}
+use Rattle.op_num.specs.Reduction.{Reduction, unit_of}
 use Rattle.schedule_model.specs.Cells.{Variable, VarCell}
 use Rattle.run_model.specs.Memory.{has_cell}
 use Rattle.host_acts.specs.Variables.{of_vars}

@@ -1,5 +1,5 @@
 use Rattle.std.proofs.Common.{Some, Option, ℕ, sym, ap, subst, ◌∙◌}
-use Rattle.chain_slices.specs.Slices.{IsPairOf}
+use Rattle.chain_needs.specs.Slices.{IsPairOf}
 use Rattle.deep_halo.specs.Programs.{HasBegun, held_since, program_of_run, owners_of_run}
 use Rattle.deep_halo.proofs.dumps.is_held.Goals as goal
 

@@ -3,7 +3,7 @@ use Rattle.std.proofs.lemmas.List.{length-map}
 use Rattle.kernel_types.specs.declared.faults.KernelFault.{KernelFault}
 use Rattle.bound_program.specs.Values.{item_of}
 use Rattle.run_model.specs.Programs.{program_of}
-use Rattle.rank_memory.specs.declared.stop.Stop.{Stop}
+use Rattle.rank_state.specs.declared.rank_memory.stop.Stop.{Stop}
 use Rattle.chain_model.specs.Machine.{ChainState, chain_items, item_run}
 use Rattle.bound_chains.specs.Slices.{slicing_of}
 use Rattle.deep_halo.specs.Programs.{program_of_run, owners_of_run}

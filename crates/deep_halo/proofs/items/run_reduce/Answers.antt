@@ -12,8 +12,8 @@ use Rattle.run_model.specs.Programs.{kind_of}
 use Rattle.host_acts.specs.Variables.{of_vars}
 use Rattle.chain_model.specs.Machine.{reduced}
 use Rattle.bound_chains.specs.Slices.{slicing_of}
-use Rattle.chain_stores.specs.Cells.{BlocksHold}
-use Rattle.chain_elements.specs.Merging.{changed_all}
+use Rattle.chain_memory.specs.Cells.{BlocksHold}
+use Rattle.chain_ranks.specs.Merging.{changed_all}
 use Rattle.chain_ranks.specs.Running.{StoresStand, PartialsStand}
 use Rattle.chain_ranks.specs.Partials.{sums_of}
 use Rattle.chain_ranks.proofs.OneElement.{read, has_read}

@@ -4,7 +4,7 @@ use Rattle.schedule_model.specs.Program.{elements}
 use Rattle.schedule_model.specs.Sequential.{loop, after_run}
 use Rattle.bound_program.specs.Fits.{site_at}
 use Rattle.run_model.specs.Programs.{program_of}
-use Rattle.rank_memory.specs.declared.stop.Stop.{Stop}
+use Rattle.rank_state.specs.declared.rank_memory.stop.Stop.{Stop}
 use Rattle.deep_halo.specs.Programs.{program_of_run, owners_of_run}
 use Rattle.deep_halo.specs.Orders.{LoopEnds}
 use Rattle.deep_halo.proofs.Ordering.{goes_on, stays_broken}

@@ -1,5 +1,5 @@
 use Rattle.std.proofs.Common.{◌≡◌, ⊎_elim, sym, ap, ◌∙◌, rules, arith}
-use Rattle.part_text.specs.declared.refusals.PartRefusal.TheVariants.{OutOfMemory}
+use Rattle.partition.specs.declared.part_text.refusals.PartRefusal.TheVariants.{OutOfMemory}
 use Rattle.distribute.specs.Parts.{Unspelled}
 use Rattle.distribute.proofs.owners.read.Goals as goal
 

@@ -1,5 +1,5 @@
 use Rattle.std.proofs.Common.{◌≡◌}
-use Rattle.byte_cuts.specs.Cuts.{parts, parts_to_come}
+use Rattle.explanations.specs.Cuts.{parts, parts_to_come}
 use Rattle.explanations.specs.Words.{behind_at}
 use Rattle.explanations.proofs.Finding.{left}
 use Rattle.explanations.proofs.places.behind_at.Given as goal

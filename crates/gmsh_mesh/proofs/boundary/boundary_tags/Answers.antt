@@ -1,5 +1,5 @@
 use Rattle.std.proofs.Common.{◌≡◌, ◌+◌, ◌++◌, ◌∙◌, ap, sym, subst, length}
-use Rattle.cell_faces.specs.Mates.{AreSideClasses}
+use Rattle.gmsh_mesh.specs.SideMates.{AreSideClasses}
 use Rattle.gmsh_mesh.specs.Boundary.{SideElements, TagsAre}
 use Rattle.gmsh_mesh.specs.Classes.{AreMarks, AreTagsOf}
 use Rattle.gmsh_mesh.specs.Stages.{Gives}

@@ -1,5 +1,5 @@
 use Rattle.std.proofs.Common.{◌≡◌, ◌≤◌, ◌∙◌, inr, ap, subst, arith, length}
-use Rattle.mesh_text.specs.declared.entry.TheConstants.{MESH_VALUES, MESH_BYTES}
+use Rattle.mesh_decl.specs.declared.text.entry.TheConstants.{MESH_VALUES, MESH_BYTES}
 use Rattle.gmsh_mesh.specs.Mesh.{Arrays}
 use Rattle.gmsh_mesh.specs.Source.{source_text}
 use Rattle.gmsh_mesh.proofs.Converting.{many-values, many-bytes, both-texts}

@@ -1,6 +1,6 @@
 use Rattle.std.proofs.Common.{◌≡◌, ◌∙◌, true, false, sym, ap, subst, arith}
-use Rattle.scaled_decimals.specs.Decimal.{decimal_of}
-use Rattle.scaled_decimals.specs.Nearest.{fits_at, judged}
+use Rattle.gmsh_text.specs.Decimal.{decimal_of}
+use Rattle.gmsh_text.specs.Nearest.{fits_at, judged}
 use Rattle.gmsh_mesh.proofs.Placing.{outside}
 use Rattle.gmsh_mesh.proofs.coordinates.scaled.Goals as goal
 

@@ -1,7 +1,7 @@
 use Rattle.std.proofs.Common.{◌*◌, ◌<◌, ◌^◌, ◌∙◌, ◌≤◌, ℕ, ap, arith, mul-le-mul_left}
-use Rattle.cell_sides.specs.declared.shape.Shape.{Shape}
-use Rattle.cell_sides.specs.Sides.{sides, side_nodes}
-use Rattle.mesh_faces.specs.Arrays.{rows_of, cells_of, pairs_of}
+use Rattle.gmsh_mesh.specs.declared.cell_sides.shape.Shape.{Shape}
+use Rattle.gmsh_mesh.specs.Sides.{sides, side_nodes}
+use Rattle.gmsh_mesh.specs.Arrays.{rows_of, cells_of, pairs_of}
 use Rattle.gmsh_mesh.proofs.Facing.{all-small, has-nodes, no-more-than}
 use Rattle.gmsh_mesh.proofs.Whole.{few}
 use Rattle.gmsh_mesh.proofs.faces.face_rows.Goals as goal

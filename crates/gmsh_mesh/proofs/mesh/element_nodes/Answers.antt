@@ -1,5 +1,5 @@
 use Rattle.std.proofs.Common.{◌≡◌}
-use Rattle.cell_sides.specs.Sides.{nodes, side_nodes}
+use Rattle.gmsh_mesh.specs.Sides.{nodes, side_nodes}
 use Rattle.gmsh_mesh.specs.Stages.{Both}
 use Rattle.gmsh_mesh.specs.Choice.{one_type, cell_table, side_table}
 use Rattle.gmsh_mesh.specs.Mesh.{RowsAre}

@@ -1,5 +1,5 @@
 use Rattle.std.proofs.Common.{◌≡◌, ◌∙◌, Ok, sym, ap, subst, length}
-use Rattle.cell_sides.specs.Sides.{AreSides}
+use Rattle.gmsh_mesh.specs.Sides.{AreSides}
 use Rattle.gmsh_text.specs.Rows.{Rows}
 use Rattle.gmsh_mesh.specs.Choice.{cell_table}
 use Rattle.gmsh_mesh.specs.Faces.{MatesAre, AreFacesOf}

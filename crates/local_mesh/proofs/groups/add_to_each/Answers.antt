@@ -1,6 +1,6 @@
 use Rattle.std.proofs.Common.{refl, get_or}
 use Rattle.rank_sets.specs.RankSet.{has_at}
-use Rattle.halo_lists.proofs.Steps.{name_more}
+use Rattle.local_mesh.proofs.halo_lists.Steps.{name_more}
 use Rattle.local_mesh.proofs.groups.add_to_each.Goals as goal
 
 pub loop-element-preserved : goal.loop-element-preserved

@@ -1,6 +1,6 @@
 use Rattle.mesh_decl.specs.Mesh.{set_size}
 use Rattle.mesh_decl.specs.Owners.{perm_in}
-use Rattle.halo_lists.specs.Halo.{owns, imports_execute, imports_nonexecute}
+use Rattle.local_mesh.specs.Halo.{owns, imports_execute, imports_nonexecute}
 use Rattle.local_mesh.proofs.Numbered.{number_is_copy, number_contains}
 use Rattle.local_mesh.proofs.laws.originals_are_copies.Goals as goal
 

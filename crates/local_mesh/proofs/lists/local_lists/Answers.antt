@@ -1,7 +1,7 @@
 use Rattle.std.proofs.Common.{◌≡◌, ◌<◌, ℕ, length, get_or, arith, subst, ◌∙◌}
 use Rattle.std.proofs.lemmas.List.{length_push, get_or_default}
 use Rattle.mesh_decl.specs.Mesh.{set_count, IsInRange}
-use Rattle.halo_lists.specs.declared.types.SetHalo.{SetHalo}
+use Rattle.local_mesh.specs.declared.halo_lists.types.SetHalo.{SetHalo}
 use Rattle.local_mesh.specs.declared.lists.LocalLists.{LocalLists}
 use Rattle.local_mesh.specs.Lists.{IsLocalLists}
 use Rattle.local_mesh.proofs.Held.{all_held}

@@ -1,6 +1,6 @@
 use Rattle.std.proofs.Common.{◌≡◌, ◌<◌, ℕ, List, length, get_or, arith, subst}
 use Rattle.std.proofs.lemmas.List.{length_push, get_or_read}
-use Rattle.halo_lists.specs.declared.types.SetHalo.{SetHalo}
+use Rattle.local_mesh.specs.declared.halo_lists.types.SetHalo.{SetHalo}
 use Rattle.local_mesh.specs.declared.types.Groups.{Groups}
 use Rattle.local_mesh.specs.declared.types.LocalSet.{LocalSet}
 use Rattle.local_mesh.specs.Parts.{IsJoinedFrom}

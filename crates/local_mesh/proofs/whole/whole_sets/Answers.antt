@@ -2,8 +2,8 @@ use Rattle.std.proofs.Common.{◌≡◌, ◌<◌, ◌∙◌, ℕ, List, Bool, le
 use Rattle.std.proofs.lemmas.List.{length_push}
 use Rattle.mesh_decl.specs.Mesh.{set_count, set_size}
 use Rattle.mesh_decl.specs.Owners.{IsNumbering}
-use Rattle.halo_lists.specs.declared.types.SetHalo.{SetHalo}
-use Rattle.halo_lists.specs.Halos.{IsSetHalo}
+use Rattle.local_mesh.specs.declared.halo_lists.types.SetHalo.{SetHalo}
+use Rattle.local_mesh.specs.Halos.{IsSetHalo}
 use Rattle.local_mesh.specs.LocalMesh.{IsLocalSet}
 use Rattle.local_mesh.proofs.Growing.{each_more}
 use Rattle.local_mesh.proofs.OneRank.{whole_is}

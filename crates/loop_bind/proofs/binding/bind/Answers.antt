@@ -3,14 +3,14 @@ use Rattle.std.specs.Prelude.{Result, IfOk}
 use Rattle.c_tree.specs.Tree.{ProgramTree}
 use Rattle.c_tree.specs.View.{program_of}
 use Rattle.kernel_types.specs.declared.kernels.Resolved.{Resolved}
-use Rattle.mesh_text.specs.Spelling.{Named}
-use Rattle.bind_refusals.specs.declared.refusals.BindRefusal.{BindRefusal}
-use Rattle.bind_refusals.specs.Refusals.{JudgesBy}
+use Rattle.mesh_decl.specs.Spelling.{Named}
+use Rattle.bound_program.specs.declared.refusals.refusals.BindRefusal.{BindRefusal}
+use Rattle.bound_program.specs.Refusals.{JudgesBy}
 use Rattle.bound_program.specs.declared.programs.Bound.{Bound}
 use Rattle.bound_program.specs.Fits.{Fits}
 use Rattle.bound_program.specs.Values.{bound_of}
-use Rattle.source_fits.specs.Resolvable.{IsResolvedSource}
-use Rattle.source_fits.specs.Sources.{HaveNumbers}
+use Rattle.loop_bind.specs.ResolvedSources.{IsResolvedSource}
+use Rattle.loop_bind.specs.Sources.{HaveNumbers}
 use Rattle.loop_bind.specs.Bound.{bound}
 use Rattle.loop_bind.specs.Resolvable.{BoundProgramsFit}
 use Rattle.loop_bind.proofs.binding.bind.Goals as goal

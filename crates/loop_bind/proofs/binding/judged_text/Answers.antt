@@ -1,7 +1,7 @@
 use Rattle.std.proofs.Common.{subst, sym}
 use Rattle.std.proofs.lemmas.List.Elements.{All-nil}
 use Rattle.main_declarations.specs.KnownSets.{SetsKnown}
-use Rattle.main_names.specs.SoFar.{nothing_declared}
+use Rattle.main_declarations.specs.SoFar.{nothing_declared}
 use Rattle.loop_bind.proofs.binding.judged_text.Goals as goal
 
 none_known : SetsKnown nothing_declared

@@ -1,6 +1,6 @@
 use Rattle.std.proofs.Common.{◌≡◌, map, drop}
 use Rattle.bound_program.specs.Values.{var_of}
-use Rattle.main_trace.specs.Unrolling.{told_of}
+use Rattle.bound_program.specs.Unrolling.{told_of}
 use Rattle.loop_bind.specs.Weights.{with_told}
 use Rattle.loop_bind.proofs.told.with_told.Given as goal
 

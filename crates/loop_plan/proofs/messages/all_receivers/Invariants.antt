@@ -1,5 +1,5 @@
 use Rattle.std.proofs.Common.{◌≡◌, ◌<◌, ℕ, length}
-use Rattle.halo_lists.specs.Sets.{sets_in, has_in}
+use Rattle.local_mesh.specs.Sets.{sets_in, has_in}
 use Rattle.loop_plan.specs.Exports.{exports_in, is_some_exported}
 use Rattle.loop_plan.proofs.messages.all_receivers.Given as goal
 

@@ -1,6 +1,6 @@
 use Rattle.std.proofs.Common.{◌∙◌, ap, sym, []}
 use Rattle.std.proofs.lemmas.List.{get_or-map}
-use Rattle.halo_lists.specs.declared.types.SetHalo.{SetHalo}
+use Rattle.local_mesh.specs.declared.halo_lists.types.SetHalo.{SetHalo}
 use Rattle.loop_plan.specs.Exports.{exports_in}
 use Rattle.loop_plan.proofs.messages.exports_of.Goals as goal
 

@@ -1,7 +1,7 @@
 use Rattle.std.proofs.Common.{◌≡◌, map, drop}
 use Rattle.c_tree.specs.View.{declr_of}
 use Rattle.main_declarations.specs.Variables.{judged_declrs}
-use Rattle.main_names.specs.Walks.{walked}
+use Rattle.main_declarations.specs.Walks.{walked}
 use Rattle.main_declarations.proofs.declarations.judged_declrs.Given as goal
 
 abbrev pub invariant-loop-declr : goal.invariant-loop-declr

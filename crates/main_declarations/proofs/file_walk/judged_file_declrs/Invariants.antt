@@ -1,7 +1,7 @@
 use Rattle.std.proofs.Common.{◌≡◌, map, drop}
 use Rattle.c_tree.specs.View.{declr_of}
 use Rattle.main_declarations.specs.Variables.{judged_file_declrs}
-use Rattle.main_names.specs.Walks.{declared_of}
+use Rattle.main_declarations.specs.Walks.{declared_of}
 use Rattle.main_declarations.proofs.file_walk.judged_file_declrs.Given as goal
 
 abbrev pub invariant-loop-declr : goal.invariant-loop-declr

@@ -1,7 +1,7 @@
 use Rattle.std.proofs.Common.{◌≡◌, Ok, map, arith}
 use Rattle.std.proofs.lemmas.Grind.{common_steps}
 use Rattle.c_tree.specs.View.{top_of}
-use Rattle.main_names.specs.Walks.{declared_of}
+use Rattle.main_declarations.specs.Walks.{declared_of}
 use Rattle.main_declarations.specs.File.{judged_tops}
 use Rattle.main_declarations.proofs.KnownNames.{tops_known}
 use Rattle.main_declarations.proofs.file_walk.judged_tops.Goals as goal

@@ -1,7 +1,7 @@
 use Rattle.std.proofs.Common.{◌≡◌, map, drop}
 use Rattle.c_tree.specs.View.{top_of}
 use Rattle.main_declarations.specs.File.{judged_tops}
-use Rattle.main_names.specs.Walks.{declared_of}
+use Rattle.main_declarations.specs.Walks.{declared_of}
 use Rattle.main_declarations.proofs.file_walk.judged_tops.Given as goal
 
 abbrev pub invariant-loop-top : goal.invariant-loop-top

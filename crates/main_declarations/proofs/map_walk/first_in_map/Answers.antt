@@ -1,7 +1,7 @@
 use Rattle.std.proofs.Common.{◌≡◌, ◌∙◌, None, Some, sym, ap}
 use Rattle.std.specs.Option.{option_or}
-use Rattle.bind_refusals.specs.Refusals.{first_of}
-use Rattle.main_names.specs.Walks.{declared_of}
+use Rattle.bound_program.specs.Refusals.{first_of}
+use Rattle.main_declarations.specs.Walks.{declared_of}
 use Rattle.main_declarations.specs.Targets.{shape_decl_found, targets_found, strays_found}
 use Rattle.main_declarations.proofs.MapTargets.{only_strays, more_than_strays, never_none}
 use Rattle.main_declarations.proofs.map_walk.first_in_map.Goals as goal

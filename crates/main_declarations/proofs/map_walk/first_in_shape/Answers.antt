@@ -1,13 +1,13 @@
 use Rattle.std.proofs.Common.{◌≡◌, ◌∙◌, suc, None, ap, sym, rules}
-use Rattle.bind_refusals.specs.declared.founds.Turn.TheVariants.{InOrder}
-use Rattle.bind_refusals.specs.declared.refusals.Counted.TheVariants as counted
+use Rattle.bound_program.specs.declared.refusals.founds.Turn.TheVariants.{InOrder}
+use Rattle.bound_program.specs.declared.refusals.refusals.Counted.TheVariants as counted
 use Rattle.mesh_decl.specs.Mesh.{map_count}
 use Rattle.bound_program.specs.Limits.{max_maps}
-use Rattle.bind_refusals.specs.Refusals.{least_from, found_over}
+use Rattle.bound_program.specs.Refusals.{least_from, found_over}
 use Rattle.main_declarations.specs.Declarations.{place_found}
 use Rattle.main_declarations.specs.Targets.{shape_found}
-use Rattle.main_names.specs.Walks.{declared_of}
-use Rattle.bind_refusals.proofs.Firsts.{first_of_three}
+use Rattle.main_declarations.specs.Walks.{declared_of}
+use Rattle.bound_program.proofs.refusals.Firsts.{first_of_three}
 use Rattle.main_declarations.proofs.map_walk.first_in_shape.Goals as goal
 
 pub returns : goal.returns

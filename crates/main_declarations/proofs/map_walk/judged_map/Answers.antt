@@ -1,8 +1,8 @@
 use Rattle.std.proofs.Common.{◌≡◌, ◌<◌, None, rules}
-use Rattle.bind_refusals.specs.Refusals.{first_of}
-use Rattle.main_names.specs.Names.{means}
-use Rattle.main_names.specs.Meanings.{set_of, or_zero, or_none, count_of, array_of}
-use Rattle.main_names.specs.Walks.{declared_of}
+use Rattle.bound_program.specs.Refusals.{first_of}
+use Rattle.main_declarations.specs.Names.{means}
+use Rattle.main_declarations.specs.Meanings.{set_of, or_zero, or_none, count_of, array_of}
+use Rattle.main_declarations.specs.Walks.{declared_of}
 use Rattle.mesh_decl.specs.Mesh.{set_count}
 use Rattle.main_declarations.specs.Targets.{shape_decl_found}
 use Rattle.main_declarations.proofs.Shapes.{IsReady, map_ready}

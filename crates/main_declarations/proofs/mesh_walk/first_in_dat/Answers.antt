@@ -1,12 +1,12 @@
 use Rattle.std.proofs.Common.{◌≡◌, ◌∙◌, suc, None, ap, sym, rules}
-use Rattle.bind_refusals.specs.declared.founds.Turn.TheVariants.{InOrder}
-use Rattle.bind_refusals.specs.declared.refusals.Counted.TheVariants as counted
+use Rattle.bound_program.specs.declared.refusals.founds.Turn.TheVariants.{InOrder}
+use Rattle.bound_program.specs.declared.refusals.refusals.Counted.TheVariants as counted
 use Rattle.mesh_decl.specs.Mesh.{dat_count}
 use Rattle.bound_program.specs.Limits.{max_dats}
-use Rattle.bind_refusals.specs.Refusals.{least_from, found_over}
+use Rattle.bound_program.specs.Refusals.{least_from, found_over}
 use Rattle.main_declarations.specs.Declarations.{place_found, dat_found}
-use Rattle.main_names.specs.Walks.{declared_of}
-use Rattle.bind_refusals.proofs.Firsts.{first_of_three}
+use Rattle.main_declarations.specs.Walks.{declared_of}
+use Rattle.bound_program.proofs.refusals.Firsts.{first_of_three}
 use Rattle.main_declarations.proofs.mesh_walk.first_in_dat.Goals as goal
 
 pub returns : goal.returns

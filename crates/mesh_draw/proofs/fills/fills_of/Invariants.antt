@@ -1,5 +1,5 @@
 use Rattle.std.proofs.Common.{◌≡◌, All, take}
-use Rattle.cell_picture.specs.Picture.{IsColour}
+use Rattle.mesh_draw.specs.Picture.{IsColour}
 use Rattle.mesh_draw.specs.Fills.{fills_of}
 use Rattle.mesh_draw.proofs.fills.fills_of.Given as goal
 

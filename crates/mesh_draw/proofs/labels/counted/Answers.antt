@@ -1,8 +1,8 @@
 use Rattle.std.proofs.Common.{◌<◌, ◌++◌, ◌∷◌, [], ◌∙◌, List, All, sym, ap, subst, arith, rules}
 use Rattle.std.proofs.lemmas.List.FromFn.{map-range_with_len_more}
 use Rattle.std.proofs.lemmas.List.Elements.{All-push}
-use Rattle.cell_picture.specs.declared.legend.Label.{Label}
-use Rattle.cell_picture.specs.Picture.{HasColour}
+use Rattle.mesh_draw.specs.declared.picture.legend.Label.{Label}
+use Rattle.mesh_draw.specs.Picture.{HasColour}
 use Rattle.mesh_draw.specs.Fills.{numbered}
 use Rattle.mesh_draw.proofs.labels.counted.Goals as goal
 

@@ -1,6 +1,6 @@
 use Rattle.std.proofs.Common.{◌≡◌, All, map, length}
 use Rattle.std.specs.List.{range_with_len}
-use Rattle.cell_picture.specs.Picture.{HasColour}
+use Rattle.mesh_draw.specs.Picture.{HasColour}
 use Rattle.mesh_draw.specs.Fills.{numbered}
 use Rattle.mesh_draw.proofs.labels.counted.Given as goal
 

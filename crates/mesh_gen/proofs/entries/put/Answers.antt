@@ -1,6 +1,6 @@
 use Rattle.std.proofs.Common.{◌≡◌, ap, ◌∙◌, ◌++◌, [], ◌∷◌}
 use Rattle.indexmap.proofs.CallerLemmas.{insert_entry-new}
-use Rattle.mesh_text.specs.Spelling.{has_name}
+use Rattle.mesh_decl.specs.Spelling.{has_name}
 use Rattle.mesh_gen.proofs.entries.put.Goals as goal
 use Rattle.lemmas.proofs.Lists.{none_from}
 

@@ -1,7 +1,7 @@
 use Rattle.std.proofs.Common.{◌≡◌, ℕ, ◌+◌, ◌*◌, ◌/◌, ap, ◌∙◌}
 use Rattle.std.proofs.lemmas.List.{with_items_is}
 use Rattle.mesh_decl.specs.Mesh.{set_size, map_to}
-use Rattle.breadth_order.specs.Neighbours.{are_neighbours}
+use Rattle.renumber.specs.Neighbours.{are_neighbours}
 use Rattle.partition.proofs.Giving.{apart}
 use Rattle.partition.proofs.growth.giving_order.Goals as goal
 

@@ -1,7 +1,7 @@
 use Rattle.std.proofs.Common.{◌≡◌, ◌<◌, ℕ, true, false, length, get_or}
 use Rattle.mesh_decl.specs.Mesh.{set_size, map_to}
-use Rattle.breadth_order.specs.Neighbours.{are_neighbours}
-use Rattle.breadth_order.specs.Taken.{IsWalk}
+use Rattle.renumber.specs.Neighbours.{are_neighbours}
+use Rattle.renumber.specs.Taken.{IsWalk}
 use Rattle.partition.specs.Block.{block_start}
 use Rattle.partition.specs.Grow.{AreNextFree}
 use Rattle.partition.proofs.growth.giving_order.Given as goal

@@ -2,7 +2,7 @@ use Rattle.std.proofs.Common.{◌≡◌, ◌<◌, ◌++◌, ◌∷◌, [], ℕ, 
 use Rattle.std.specs.declared.alloc.Global.{Global}
 use Rattle.std.proofs.lemmas.List.{length_push}
 use Rattle.mesh_decl.specs.Mesh.{set_size, map_to}
-use Rattle.breadth_order.specs.Neighbours.{are_neighbours}
+use Rattle.renumber.specs.Neighbours.{are_neighbours}
 use Rattle.partition.proofs.Giving.{IsShare, share_start}
 use Rattle.partition.proofs.growth.take_share.Goals as goal
 use Rattle.partition.proofs.growth.take_share.Goals.{then-head-len+in_ok-push, else-head-len}

@@ -1,6 +1,6 @@
 use Rattle.std.proofs.Common.{◌-◌}
 use Rattle.mesh_decl.specs.Mesh.{set_size, map_to}
-use Rattle.breadth_order.specs.Neighbours.{are_neighbours}
+use Rattle.renumber.specs.Neighbours.{are_neighbours}
 use Rattle.partition.proofs.Giving.{IsShare}
 use Rattle.partition.proofs.growth.take_share.Given as goal
 

@@ -2,7 +2,7 @@ use Rattle.std.proofs.Common.{subst}
 use Rattle.schedule_model.specs.Sequential.{sequential}
 use Rattle.flat_machine.specs.Flat.{flat_from}
 use Rattle.rank_exec.specs.Driving.{After}
-use Rattle.rank_memory.specs.Stops.{stop_in}
+use Rattle.rank_state.specs.Stops.{stop_in}
 use Rattle.rank_exec.proofs.Driving.{as_sequential}
 use Rattle.rank_program.specs.Sound.{setup_in, layout_in, tables_in}
 use Rattle.rank_exec.proofs.drive.drive.Goals as goal

@@ -4,7 +4,7 @@ use Rattle.schedule_steps.specs.declared.step.Step.{Step}
 use Rattle.schedule_steps.specs.declared.step.Step.TheVariants.{Send, Recv, Begin, End, Join}
 use Rattle.flat_machine.specs.Layout.{message_cells}
 use Rattle.flat_machine.specs.Flat.{Flat, flat_step, flat_from}
-use Rattle.rank_memory.specs.Stops.{stop_of, stop_in}
+use Rattle.rank_state.specs.Stops.{stop_of, stop_in}
 use Rattle.rank_exec.specs.Driving.{Ready, After, Reached, to_come}
 use Rattle.rank_exec.proofs.Driving.{reached_none, reached_at, reached_more, front_taken, at_stop}
 use Rattle.rank_exec.proofs.Closing.{groups_after}

@@ -1,7 +1,7 @@
 use Rattle.std.proofs.Common.{◌≡◌, ◌+◌, ◌≤◌, sym, subst, arith, length, ⊎_elim}
 use Rattle.std.proofs.lemmas.Grind.{common_steps}
 use Rattle.rank_exec.specs.Tasks.{IsLoaded}
-use Rattle.rank_memory.proofs.Middles.{mid_same, before_mid, after_mid}
+use Rattle.rank_state.proofs.rank_memory.Middles.{mid_same, before_mid, after_mid}
 use Rattle.rank_program.specs.Sound.{setup_in, layout_in, tables_in}
 use Rattle.rank_exec.proofs.group_steps.load_at.Goals as goal
 

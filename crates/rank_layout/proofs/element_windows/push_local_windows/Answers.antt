@@ -1,6 +1,6 @@
 use Rattle.std.proofs.Common.{◌≤◌, ◌+◌, false, length, get_or, None, ap, ◌∙◌, arith}
 use Rattle.std.proofs.lemmas.List.{get_or-map}
-use Rattle.reductions.specs.declared.access.Access.TheVariants.{Read}
+use Rattle.op_num.specs.declared.reductions.access.Access.TheVariants.{Read}
 use Rattle.bound_program.specs.declared.sites.Arg.TheVariants.{Dat}
 use Rattle.rank_layout.specs.Made.{writes_by}
 use Rattle.rank_layout.specs.WindowLaws.{arg_span}

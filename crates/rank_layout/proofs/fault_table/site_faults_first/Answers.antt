@@ -2,7 +2,7 @@ use Rattle.std.proofs.Common.{◌≡◌, ◌<◌, ℕ, zero, suc, List, [], ◌�
 use Rattle.kernel_types.specs.declared.kernels.RKernel.{RKernel}
 use Rattle.bound_program.specs.Fits.{TakesArgs}
 use Rattle.run_model.specs.Kernels.{kernel_at}
-use Rattle.fault_order.specs.Effects.{faults_first}
+use Rattle.kernel_model.specs.Effects.{faults_first}
 use Rattle.rank_layout.proofs.fault_table.site_faults_first.Goals as goal
 
 -- a kernel that takes the arguments is there

@@ -1,5 +1,5 @@
 use Rattle.std.proofs.Common.{◌≡◌, ◌<◌, length, ap, subst, None, arith}
-use Rattle.reductions.specs.declared.access.Access.TheVariants.{Read}
+use Rattle.op_num.specs.declared.reductions.access.Access.TheVariants.{Read}
 use Rattle.bound_program.specs.declared.sites.Arg.TheVariants.{Dat}
 use Rattle.bound_program.specs.Values.{bound_of, no_site}
 use Rattle.bound_program.specs.Fits.{SiteFits, site_at}

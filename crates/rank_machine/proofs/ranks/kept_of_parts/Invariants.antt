@@ -1,5 +1,5 @@
 use Rattle.std.proofs.Common.{◌≡◌, ◌-◌, ◌≤◌, length, map, drop}
-use Rattle.rank_memory.specs.Stops.{stop_in}
+use Rattle.rank_state.specs.Stops.{stop_in}
 use Rattle.rank_machine.specs.OnRanks.{share_in, kept_of_all}
 use Rattle.rank_machine.proofs.ranks.kept_of_parts.Given as goal
 

@@ -1,9 +1,9 @@
 use Rattle.std.proofs.Common.{◌≡◌, refl, zero, ◌∷◌, ◌<◌, ℕ, suc, ℤ, pos, [], List, length, get_or, set, sym, ap, ◌∙◌, arith, add-one, get_or-set_same}
 use Rattle.std.proofs.lemmas.List.{set-get_or}
-use Rattle.reductions.specs.Reduction.{merged}
+use Rattle.op_num.specs.Reduction.{merged}
 use Rattle.rank_state.specs.Windows.{operation}
 use Rattle.rank_state.specs.Joins.{merge_rows}
-use Rattle.rank_memory.proofs.Views.{lists, row_is}
+use Rattle.rank_state.proofs.rank_memory.Views.{lists, row_is}
 use Rattle.rank_machine.proofs.reduce.merge_all.Goals as goal
 
 set_again : (xs : List ℤ) (i : ℕ) (a b : ℤ) → set (set xs i a) i b ≡ set xs i b
@@ -30,6 +30,6 @@ loop-row-preserved c =
     (c.merge_row.ensures ∙ ap (λ r. set c.loop-row.variables c.args.at (merged (operation c.args.how) (get_or c.loop-row.variables c.args.at (pos 0)) (get_or r c.args.slot (pos 0)))) row)
     ∙ ap (λ n. set c.args.variables.now c.args.at (merge_rows (operation c.args.how) c.args.slot (lists c.args.rows.now) n (get_or c.args.variables.now c.args.at (pos 0)))) (sym (add-one c.loop-row.row-index))
   where
-    step : (o : Rattle.reductions.specs.Reduction.Reduction) (xs ys new : List ℤ) (i : ℕ) (a b : ℤ) → i < length xs → ys ≡ set xs i a → new ≡ set ys i (merged o (get_or ys i (pos 0)) b) → new ≡ set xs i (merged o a b)
+    step : (o : Rattle.op_num.specs.Reduction.Reduction) (xs ys new : List ℤ) (i : ℕ) (a b : ℤ) → i < length xs → ys ≡ set xs i a → new ≡ set ys i (merged o (get_or ys i (pos 0)) b) → new ≡ set xs i (merged o a b)
     step o xs ys new i a b lt e h =
         h ∙ (ap (λ z. set z i (merged o (get_or z i (pos 0)) b)) e ∙ (ap (λ z. set (set xs i a) i (merged o z b)) (get_or-set_same xs i a (pos 0) lt) ∙ set_again xs i a (merged o a b)))

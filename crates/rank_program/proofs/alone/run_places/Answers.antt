@@ -1,6 +1,6 @@
 use Rattle.std.proofs.Common.{◌≡◌, ◌≤◌, ◌++◌, List, ℕ, ℤ, take, drop, length, vec_len, get_or, sym, ap, subst, ◌∙◌, arith}
 use Rattle.std.proofs.Math.Seq.{take-append_seam}
-use Rattle.rank_memory.specs.Stops.{stop_in}
+use Rattle.rank_state.specs.Stops.{stop_in}
 use Rattle.rank_program.specs.AloneRuns.{AllBegin, Reaches}
 use Rattle.rank_program.specs.Keeping.{KeepsIn}
 use Rattle.rank_program.specs.Sound.{setup_in, layout_in, tables_in}

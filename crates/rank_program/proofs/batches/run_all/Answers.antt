@@ -1,5 +1,5 @@
 use Rattle.std.proofs.Common.{◌+◌, ◌≤◌, take, length, ◌∙◌, arith}
-use Rattle.rank_memory.specs.Stops.{stop_in}
+use Rattle.rank_state.specs.Stops.{stop_in}
 use Rattle.rank_program.proofs.BatchRuns.{goes_further}
 use Rattle.rank_program.proofs.batches.run_all.Goals as goal
 

@@ -1,5 +1,5 @@
 use Rattle.std.proofs.Common.{◌≡◌, ◌≤◌, ◌+◌, ◌-◌, length, take}
-use Rattle.rank_memory.specs.Stops.{stop_in}
+use Rattle.rank_state.specs.Stops.{stop_in}
 use Rattle.rank_program.specs.Rooms.{most_saved, most_ways, most_columns}
 use Rattle.row_batches.specs.RowLoops.{HasRowRoom}
 use Rattle.rank_program.specs.Batches.{GoesOn}

@@ -1,5 +1,5 @@
 use Rattle.std.proofs.Common.{◌≡◌, ◌+◌, suc, take, subst, ◌∙◌, arith}
-use Rattle.rank_memory.specs.Stops.{stop_in}
+use Rattle.rank_state.specs.Stops.{stop_in}
 use Rattle.rank_program.specs.AloneRuns.{Reaches}
 use Rattle.rank_program.specs.Batches.{GoesOn}
 use Rattle.rank_program.specs.Sound.{setup_in, layout_in, tables_in}

@@ -1,5 +1,5 @@
 use Rattle.std.proofs.Common.{◌≡◌, ◌≤◌, ◌+◌, length, take}
-use Rattle.rank_memory.specs.Stops.{stop_in}
+use Rattle.rank_state.specs.Stops.{stop_in}
 use Rattle.rank_program.specs.Rooms.{most_saved}
 use Rattle.rank_program.specs.Batches.{GoesOn}
 use Rattle.rank_program.specs.LocalLoops.{VariablesStand}

@@ -1,5 +1,5 @@
 use Rattle.std.proofs.Common.{length, ◌∙◌, arith}
-use Rattle.rank_memory.specs.Stops.{stop_in}
+use Rattle.rank_state.specs.Stops.{stop_in}
 use Rattle.rank_program.proofs.LocalElements.{locals_here, still_stand, inside, few_cells, unchanged, element_runs}
 use Rattle.rank_program.proofs.here.run_element.Goals as goal
 

@@ -1,5 +1,5 @@
 use Rattle.std.proofs.Common.{[], ◌∷◌, All, ap, sym, subst, ◌∙◌}
-use Rattle.element_runs.specs.OnWindows.{core_of}
+use Rattle.run_model.specs.OnWindows.{core_of}
 use Rattle.kernel_model.specs.Meaning.{kernel_meaning}
 use Rattle.bound_program.specs.Values.{bound_of, site_of}
 use Rattle.bound_plan.specs.Windows.{frame_windows}

@@ -1,7 +1,7 @@
 use Rattle.std.proofs.Common.{◌≡◌, ◌<◌, ◌∙◌, ℕ, List, arith, length, get_or, ap}
 use Rattle.mesh_decl.specs.Mesh.{MeshValue, set_size, map_from, map_dim, target}
-use Rattle.breadth_order.specs.Keys.{keyed}
-use Rattle.breadth_order.specs.Taken.{Rises}
+use Rattle.renumber.specs.Keys.{keyed}
+use Rattle.renumber.specs.Taken.{Rises}
 use Rattle.renumber.specs.CuthillMcKee.{least_below, target_key}
 use Rattle.renumber.proofs.Numbering.{numbering_from}
 use Rattle.renumber.proofs.by_targets.by_targets.Goals as goal

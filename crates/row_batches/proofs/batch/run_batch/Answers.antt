@@ -1,7 +1,7 @@
 use Rattle.std.proofs.Common.{◌≡◌, refl, arith, map, true, false}
 use Rattle.std.specs.Prelude.{slice_index}
 use Rattle.std.proofs.lemmas.Grind.{common_steps}
-use Rattle.views.specs.Framed.{target_of}
+use Rattle.kernel_types.specs.Framed.{target_of}
 use Rattle.rank_state.specs.Windows.{firsts}
 use Rattle.row_batches.proofs.Fewer.{fewer, none_run}
 use Rattle.row_batches.proofs.batch.run_batch.Goals as goal

@@ -1,8 +1,8 @@
 use Rattle.std.proofs.Common.{List, arith}
 use Rattle.std.proofs.lemmas.List.{length_push}
 use Rattle.bound_program.specs.Values.{bound_of}
-use Rattle.step_marks.specs.Item.{Item}
-use Rattle.step_marks.specs.Marked.{no_item}
+use Rattle.step_judge.specs.Item.{Item}
+use Rattle.step_judge.specs.Marked.{no_item}
 use Rattle.loop_plan.specs.Values.{plan_of}
 use Rattle.schedule_check.specs.ItemMarks.{AreItemMarks}
 use Rattle.schedule_check.proofs.PlaceReads.{one_more}

@@ -1,6 +1,6 @@
 use Rattle.std.proofs.Common.{◌≡◌, ◌<◌, ℕ, length, get_or}
 use Rattle.bound_program.specs.Values.{bound_of}
-use Rattle.step_marks.specs.Marked.{no_item}
+use Rattle.step_judge.specs.Marked.{no_item}
 use Rattle.loop_plan.specs.Values.{plan_of}
 use Rattle.schedule_check.specs.ItemMarks.{AreItemMarks}
 use Rattle.schedule_check.proofs.items.all_items.Given as goal

@@ -1,9 +1,9 @@
 use Rattle.std.proofs.Common.{◌≡◌, ◌<◌, ◌∙◌, ℕ, List, length, get_or, subst, sym, ap}
 use Rattle.bound_program.specs.Values.{bound_of, BoundValue}
 use Rattle.bound_program.specs.Fits.{site_at}
-use Rattle.step_marks.specs.Run.{Run}
-use Rattle.step_marks.specs.Item.{no_run, pair_at}
-use Rattle.step_marks.specs.NewItem.{free_item}
+use Rattle.step_judge.specs.Run.{Run}
+use Rattle.step_judge.specs.Item.{no_run, pair_at}
+use Rattle.step_judge.specs.NewItem.{free_item}
 use Rattle.schedule_check.specs.ItemMarks.{AreItemMarks}
 use Rattle.loop_plan.specs.declared.types.Pair.{Pair}
 use Rattle.loop_plan.specs.Values.{PlanValue, SitePlanValue, plan_of, item_plan, site_plan_of}

@@ -1,5 +1,5 @@
 use Rattle.std.proofs.Common.{◌≡◌, length, arith}
-use Rattle.step_marks.specs.NewRun.{IsNewRun}
+use Rattle.step_judge.specs.NewRun.{IsNewRun}
 use Rattle.schedule_check.proofs.PlaceReads.{new_are}
 use Rattle.schedule_check.proofs.places.new_places.Goals as goal
 

@@ -2,8 +2,8 @@ use Rattle.std.proofs.Common.{◌≡◌, ◌<◌, ◌*◌, ◌∙◌, ℕ, List,
 use Rattle.std.specs.Prelude.{◌↔◌, slice_index}
 use Rattle.std.proofs.lemmas.List.{length_push, get_or_read}
 use Rattle.colouring.specs.declared.types.Colours.{Colours}
-use Rattle.step_marks.specs.Run.{Run}
-use Rattle.step_marks.specs.Item.{no_run}
+use Rattle.step_judge.specs.Run.{Run}
+use Rattle.step_judge.specs.Item.{no_run}
 use Rattle.loop_plan.specs.Pairs.{sets_of, core_in}
 use Rattle.schedule_check.specs.NewPlaces.{AreNewPlaces, blocks_of, inner_of}
 use Rattle.schedule_check.proofs.PlaceReads.{blocks_read, inner_read, one_more}

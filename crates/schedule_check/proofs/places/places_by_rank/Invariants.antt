@@ -1,5 +1,5 @@
 use Rattle.std.proofs.Common.{◌≡◌, ◌<◌, ℕ, length, get_or}
-use Rattle.step_marks.specs.Item.{no_run}
+use Rattle.step_judge.specs.Item.{no_run}
 use Rattle.loop_plan.specs.Pairs.{sets_of, core_in}
 use Rattle.schedule_check.specs.NewPlaces.{AreNewPlaces, blocks_of, inner_of}
 use Rattle.schedule_check.proofs.places.places_by_rank.Given as goal

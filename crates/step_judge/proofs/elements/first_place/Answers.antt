@@ -1,6 +1,6 @@
 use Rattle.std.proofs.Common.{◌≡◌, ℕ, arith, subst, length}
-use Rattle.step_marks.specs.Item.{run_at}
-use Rattle.step_marks.specs.Marked.{item_at}
+use Rattle.step_judge.specs.Item.{run_at}
+use Rattle.step_judge.specs.Marked.{item_at}
 use Rattle.step_judge.specs.Wanted.{wanted, FirstBelow}
 use Rattle.step_judge.proofs.elements.first_place.Goals as goal
 

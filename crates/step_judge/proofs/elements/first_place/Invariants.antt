@@ -1,5 +1,5 @@
 use Rattle.schedule_steps.specs.Outline.{Outline}
-use Rattle.step_marks.specs.Marked.{outline_of}
+use Rattle.step_judge.specs.Marked.{outline_of}
 use Rattle.step_judge.specs.Wanted.{wanted, IsPlace, AreMarksOf, FirstBelow}
 use Rattle.step_judge.proofs.elements.first_place.Given as goal
 

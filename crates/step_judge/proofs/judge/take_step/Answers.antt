@@ -4,7 +4,7 @@ use Rattle.schedule_steps.specs.Outline.{Outline}
 use Rattle.schedule_steps.specs.Steps.{IsStep}
 use Rattle.schedule_steps.specs.Standard.{standard}
 use Rattle.schedule_steps.specs.Judged.{is_step, first_of, missing}
-use Rattle.step_marks.specs.Marked.{Marked, outline_of, taken, IsReady}
+use Rattle.step_judge.specs.Marked.{Marked, outline_of, taken, IsReady}
 use Rattle.step_judge.specs.Wanted.{wanted, AreMarksOf}
 use Rattle.step_judge.proofs.Own.{own}
 use Rattle.step_judge.proofs.Judging.{none_ready, missing_same, untaken}

@@ -1,6 +1,6 @@
 use Rattle.std.proofs.Common.{◌≡◌, ◌<◌, ◌∙◌, ℕ, List, length, map, get_or, sym, ap, subst, arith}
 use Rattle.std.proofs.lemmas.List.{get_or-map}
-use Rattle.reductions.specs.Reduction.{Reduction, Add}
+use Rattle.op_num.specs.Reduction.{Reduction, Add}
 use Rattle.bound_program.specs.Values.{VarValue, bound_of, var_of}
 use Rattle.host_acts.specs.Variables.{VarsBegin, of_vars}
 use Rattle.run_model.specs.Memory.{memory_length}

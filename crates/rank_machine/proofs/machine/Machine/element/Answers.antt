@@ -1,5 +1,5 @@
 use Rattle.std.proofs.Common.{ℤ, ◌∙◌, List, All, Vec, Global, length, sym, ap, subst}
-use Rattle.rank_memory.specs.Spare.{HasSpare}
+use Rattle.rank_state.specs.Spare.{HasSpare}
 use Rattle.rank_machine.proofs.machine.Machine.element.Goals as goal
 use Rattle.lemmas.proofs.Lists.{refilled}
 

@@ -4,8 +4,8 @@ use Rattle.kernel_types.specs.declared.faults.KernelFault.{KernelFault}
 use Rattle.rank_state.specs.Spans.{total}
 use Rattle.rank_state.specs.Frames.{Panes, pane_at, closed}
 use Rattle.rank_state.specs.Machine.{State, row, merged_pane, ended}
-use Rattle.rank_memory.specs.Stops.{stop_in}
-use Rattle.rank_memory.proofs.Views.{lists, rank_in, row_is, row_put}
+use Rattle.rank_state.specs.Stops.{stop_in}
+use Rattle.rank_state.proofs.rank_memory.Views.{lists, rank_in, row_is, row_put}
 use Rattle.rank_machine.proofs.machine.Machine.end.Goals as goal
 
 abbrev of_parts : State KernelFault → List (List ℤ) → List (List ℤ) → Panes → State KernelFault

@@ -6,9 +6,9 @@ use Rattle.par_exec.specs.Parts.{TakesEach, MadeEach}
 use Rattle.schedule_model.specs.Sequential.{Stop}
 use Rattle.rank_state.specs.Indices.{values_at}
 use Rattle.rank_state.specs.Machine.{State}
-use Rattle.rank_memory.specs.Spare.{HasSpare}
-use Rattle.rank_memory.specs.Stops.{stop_in}
-use Rattle.rank_memory.proofs.Views.{lists}
+use Rattle.rank_state.specs.Spare.{HasSpare}
+use Rattle.rank_state.specs.Stops.{stop_in}
+use Rattle.rank_state.proofs.rank_memory.Views.{lists}
 use Rattle.rank_program.specs.AloneRuns.{Share}
 use Rattle.rank_program.specs.Rooms.{HasRoomOf}
 use Rattle.rank_program.specs.Sound.{setup_in, layout_in, tables_in}

@@ -3,8 +3,8 @@ use Rattle.std.specs.Vec.{with_items}
 use Rattle.kernel_types.specs.declared.faults.KernelFault.{KernelFault}
 use Rattle.rank_state.specs.Mail.{Box, arrived, first_post}
 use Rattle.rank_state.specs.Machine.{State, row, taken}
-use Rattle.rank_memory.specs.Stops.{stop_in}
-use Rattle.rank_memory.proofs.Views.{lists, rank_in, row_is, row_put}
+use Rattle.rank_state.specs.Stops.{stop_in}
+use Rattle.rank_state.proofs.rank_memory.Views.{lists, rank_in, row_is, row_put}
 use Rattle.rank_machine.proofs.machine.Machine.recv.Goals as goal
 
 abbrev of_parts : State KernelFault → List (List ℤ) → Box → State KernelFault

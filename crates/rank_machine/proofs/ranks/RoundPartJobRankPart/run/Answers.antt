@@ -1,5 +1,5 @@
 use Rattle.std.proofs.Common.{◌≡◌, ℕ, ℤ, List, length, sym, ap, subst, ◌∙◌, None}
-use Rattle.rank_memory.specs.Stops.{stop_in}
+use Rattle.rank_state.specs.Stops.{stop_in}
 use Rattle.rank_program.specs.AloneRuns.{AllBegin, Reaches}
 use Rattle.rank_program.specs.Sound.{setup_in, layout_in, tables_in}
 use Rattle.rank_machine.specs.OnRanks.{places_on, share_in}

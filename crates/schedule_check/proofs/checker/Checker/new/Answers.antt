@@ -3,8 +3,8 @@ use Rattle.std.specs.Prelude.{slice_index, slice_index_or}
 use Rattle.std.specs.declared.alloc.Global.{Global}
 use Rattle.std.proofs.lemmas.List.{length-map}
 use Rattle.schedule_steps.specs.Outline.{Outline}
-use Rattle.step_marks.specs.Load.{no_load}
-use Rattle.step_marks.specs.Marked.{outline_of}
+use Rattle.step_judge.specs.Load.{no_load}
+use Rattle.step_judge.specs.Marked.{outline_of}
 use Rattle.step_judge.specs.Checking.{Checking}
 use Rattle.bound_program.specs.Values.{bound_of, BoundValue}
 use Rattle.loop_plan.specs.declared.types.ItemPlan.{ItemPlan}

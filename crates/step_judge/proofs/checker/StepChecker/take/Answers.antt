@@ -4,8 +4,8 @@ use Rattle.std.specs.Result.{IsErr, IsErrAnd}
 use Rattle.std.specs.declared.alloc.Global.{Global as GlobalValue}
 use Rattle.std.proofs.lemmas.Bool.{false≢true}
 use Rattle.schedule_steps.specs.Judged.{is_step}
-use Rattle.step_marks.specs.Load.{HasCells}
-use Rattle.step_marks.specs.Marked.{Marked, outline_of, taken}
+use Rattle.step_judge.specs.Load.{HasCells}
+use Rattle.step_judge.specs.Marked.{Marked, outline_of, taken}
 use Rattle.step_judge.specs.declared.refusal.ScheduleRefusal.{ScheduleRefusal}
 use Rattle.step_judge.specs.Verdicts.{judged}
 use Rattle.step_judge.specs.Wanted.{AreMarksOf}

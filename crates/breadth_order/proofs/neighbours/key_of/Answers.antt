@@ -1,9 +1,0 @@
-use Rattle.std.proofs.Common.{◌≡◌, ◌+◌, ◌*◌, rules, get_or, ap}
-use Rattle.breadth_order.specs.Keys.{keyed}
-use Rattle.breadth_order.proofs.neighbours.key_of.Goals as goal
-
-pub returns : goal.returns
-unfolding keyed
-returns c =
-    let e : c.unwrap_or-key.result ≡ get_or c.args.keys.now c.args.number 0 = search rules in
-    ap (λ z. z * 4294967296 + c.args.number) e

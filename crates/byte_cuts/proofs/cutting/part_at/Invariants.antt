@@ -1,6 +1,0 @@
-use Rattle.std.proofs.Common.{◌≡◌, drop}
-use Rattle.byte_cuts.specs.Cuts.{parts, parts_to_come}
-use Rattle.byte_cuts.proofs.cutting.part_at.Given as goal
-
-abbrev pub invariant-loop-passed : goal.invariant-loop-passed
-invariant-loop-passed l = parts_to_come l.separator l.rest ≡ drop l.passed (parts l.separator l.bytes)

@@ -1,9 +1,0 @@
-use Rattle.std.proofs.Common.{◌≡◌, ◌++◌, map}
-use Rattle.std.specs.List.{flat_map, range_with_len}
-use Rattle.markup.specs.Tree.{printed}
-use Rattle.cell_picture.specs.Picture.{polygon}
-use Rattle.cell_picture.proofs.polygons.put_polygons.Given as goal
-
-abbrev pub invariant-loop-cell : goal.invariant-loop-cell
-invariant-loop-cell l =
-    l.out.items ≡ l.initial.out.items ++ flat_map printed (map (polygon l.mesh l.shape l.frame l.fills) (range_with_len 0 l.cell))

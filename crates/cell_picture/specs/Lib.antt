@@ -1,3 +1,0 @@
-pub mod Colours
-pub mod Frame
-pub mod Picture

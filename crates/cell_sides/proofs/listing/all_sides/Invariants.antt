@@ -1,9 +1,0 @@
-use Rattle.std.proofs.Common.{◌≡◌, ◌<◌, ℕ, length, get_or}
-use Rattle.cell_sides.specs.Sides.{source}
-use Rattle.cell_sides.proofs.listing.all_sides.Given as goal
-
-abbrev pub invariant-loop-place : goal.invariant-loop-place
-invariant-loop-place l = record {
-  size : length l.all.items ≡ l.place;
-  each : (i : ℕ) → i < l.place → get_or l.all.items i 0 ≡ get_or l.cells (source l.shape i) 0;
-}

@@ -1,7 +1,0 @@
-use Rattle.std.proofs.Common.{◌≡◌, ◌++◌, map}
-use Rattle.std.specs.List.{range_with_len, concat}
-use Rattle.cell_vtk.specs.Text.{cell_line}
-use Rattle.cell_vtk.proofs.grid.put_cell_lines.Given as goal
-
-abbrev pub invariant-loop-cell : goal.invariant-loop-cell
-invariant-loop-cell l = l.out.items ≡ l.initial.out.items ++ concat (map (cell_line l.mesh l.shape) (range_with_len 0 l.cell))

@@ -1,4 +1,0 @@
-pub mod Globals
-pub mod Dropping
-pub mod Constants
-pub mod Merging

@@ -1,6 +1,0 @@
-//! The exchange before a chain of loops: copies of others' pairs are dropped, and new ones come from their owners.
-#![tactic(auto)]
-
-mod exchanges;
-
-pub use exchanges::{Exchange, exchange_copies};

@@ -1,7 +1,0 @@
-use Rattle.rank_sets.specs.RankSet.{has_at}
-use Rattle.halo_lists.proofs.Steps.{union_at}
-use Rattle.chain_slices.proofs.messages.add_at.Goals as goal
-
-pub returns : goal.returns
-unfolding has_at
-returns c = union_at c.args.sets.now c.args.place c.union.result c.args.ranks c.requires c.union.ensures

@@ -1,5 +1,0 @@
-use Rattle.chain_slices.proofs.Counting.{contains_is}
-use Rattle.chain_slices.proofs.messages.contains.Goals as goal
-
-pub returns : goal.returns
-returns c = contains_is c.args.set c.empty.result c.with.result c.minus.result c.args.rank c.is_empty.result c.requires c.empty.ensures c.with.ensures c.minus.ensures c.is_empty.ensures

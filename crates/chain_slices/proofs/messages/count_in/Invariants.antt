@@ -1,7 +1,0 @@
-use Rattle.std.proofs.Common.{◌≡◌, ◌≤◌}
-use Rattle.rank_sets.specs.Below.{count_below}
-use Rattle.rank_sets.specs.RankSet.{has}
-use Rattle.chain_slices.proofs.messages.count_in.Given as goal
-
-abbrev pub invariant-loop-rank : goal.invariant-loop-rank
-invariant-loop-rank l = (l.count ≤ l.rank) × (l.count ≡ count_below l.rank (has l.set))

@@ -1,6 +1,0 @@
-use Rattle.std.proofs.Common.{◌≡◌, ℕ, false, length}
-use Rattle.rank_sets.specs.RankSet.{has_at}
-use Rattle.chain_slices.proofs.messages.empty_sets.Given as goal
-
-abbrev pub invariant-loop-rank : goal.invariant-loop-rank
-invariant-loop-rank l = (length l.sets.items ≡ l._rank) × ((s r : ℕ) → has_at l.sets.items s r ≡ false)

@@ -1,4 +1,0 @@
-pub mod Rests
-pub mod TurnOf
-pub mod ToCome
-pub mod UnderWay

@@ -1,5 +1,0 @@
-use Rattle.element_runs.proofs.Lists.{on_arrays}
-use Rattle.element_runs.proofs.element_runs_on_arrays.Goals as goal
-
-pub returns : goal.returns
-returns c = on_arrays c.element_runs_agree.ensures.lists c.others_stay.ensures

@@ -1,5 +1,0 @@
-use Rattle.element_runs.proofs.OnWindows.{on_windows}
-use Rattle.element_runs.proofs.element_runs_on_windows.Goals as goal
-
-pub returns : goal.returns
-returns c = on_windows c.element_runs_agree.ensures.lists c.shape_stays.ensures

@@ -1,5 +1,0 @@
-use Rattle.element_runs.proofs.RunsKernels.{have_kernels}
-use Rattle.element_runs.proofs.setups_have_kernels.Goals as goal
-
-pub returns : goal.returns
-returns c = have_kernels c.element_runs_keep.ensures.range c.element_runs_keep.ensures.reads c.element_runs_give_effects.ensures.independent

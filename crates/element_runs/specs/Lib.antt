@@ -1,3 +1,0 @@
-pub mod ElementRun
-pub mod RunsKernels
-pub mod OnWindows

@@ -1,6 +1,0 @@
-use Rattle.std.proofs.Common.{arith}
-use Rattle.equal_keys.proofs.Taking.{all-taken}
-use Rattle.equal_keys.proofs.pairing.mates.Goals as goal
-
-pub returns-clause-mates : goal.returns-clause-mates
-returns-clause-mates c = all-taken c.args.keys.now _ _ _ (omega arith) c.loop-place.invariant

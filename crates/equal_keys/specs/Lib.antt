@@ -1,2 +1,0 @@
-pub mod Mates
-pub mod Classes

@@ -1,5 +1,0 @@
-use Rattle.std.proofs.Common.{◌<◌, ℕ, get_or}
-use Rattle.halo_lists.proofs.fit.set_fits.Given as goal
-
-abbrev pub invariant-loop-owner : goal.invariant-loop-owner
-invariant-loop-owner l = (x : ℕ) → x < l.owner-index → get_or l.owners x 0 < l.ranks

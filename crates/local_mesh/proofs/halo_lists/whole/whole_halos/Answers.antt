@@ -1,0 +1,14 @@
+use Rattle.std.proofs.Common.{arith}
+use Rattle.std.proofs.lemmas.List.{length_push}
+use Rattle.local_mesh.specs.Halos.{IsSetHalo}
+use Rattle.local_mesh.proofs.halo_lists.EachHalo.{each_more}
+use Rattle.local_mesh.proofs.halo_lists.whole.whole_halos.Goals as goal
+
+pub loop-set-preserved : goal.loop-set-preserved
+loop-set-preserved c =
+    let xs = c.loop-set.sets.items in
+    let h = c.in_ok-whole_halo.field-0 in
+    rw c.in_ok-push.ensures.items (
+      omega (arith, length_push xs h),
+      each_more xs h c.loop-set.set (IsSetHalo c.args.mesh.now c.args.owners.now) c.loop-set.invariant.0 c.in_ok-whole_halo.ensures c.loop-set.invariant.1,
+    )

@@ -1,6 +1,0 @@
-use Rattle.std.proofs.Common.{rules}
-use Rattle.indexmap.proofs.CallerLemmas.{insert_entry-new}
-use Rattle.main_names.proofs.scopes.insert_new.Goals as goal
-
-pub returns : goal.returns
-returns c = search (rules, insert_entry-new)

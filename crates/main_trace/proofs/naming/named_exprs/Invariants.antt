@@ -1,8 +1,0 @@
-use Rattle.std.proofs.Common.{◌≡◌, map, take}
-use Rattle.kernel_types.specs.View.{rexpr_of}
-use Rattle.main_trace.specs.Naming.{Grows, SpellAll}
-use Rattle.main_trace.proofs.naming.named_exprs.Given as goal
-
-abbrev pub invariant-loop-e : goal.invariant-loop-e
-invariant-loop-e l = Grows l.fn.names.items l.names.items
-    × SpellAll l.names.items (map rexpr_of l.named.items) (map rexpr_of (take l.e-index l.es))

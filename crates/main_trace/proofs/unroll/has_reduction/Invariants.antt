@@ -1,6 +1,0 @@
-use Rattle.std.proofs.Common.{◌≡◌, drop}
-use Rattle.bound_program.specs.Classes.{reduces}
-use Rattle.main_trace.proofs.unroll.has_reduction.Given as goal
-
-abbrev pub invariant-loop-arg : goal.invariant-loop-arg
-invariant-loop-arg l = reduces (drop l.arg-index l.args) ≡ reduces l.args

@@ -1,5 +1,0 @@
-use Rattle.std.proofs.Common.{◌≡◌, map, pos, take}
-use Rattle.mesh_faces.proofs.arrays.as_values.Given as goal
-
-abbrev pub invariant-loop-at : goal.invariant-loop-at
-invariant-loop-at l = l.values.items ≡ map pos (take l.at l.numbers)

@@ -1,6 +1,0 @@
-use Rattle.std.proofs.Common.{◌≡◌, take}
-use Rattle.mesh_faces.specs.Arrays.{cells_of}
-use Rattle.mesh_faces.proofs.arrays.cells_at.Given as goal
-
-abbrev pub invariant-loop-at : goal.invariant-loop-at
-invariant-loop-at l = l.cells.items ≡ cells_of l.sides (take l.at l.places)

@@ -1,7 +1,0 @@
-use Rattle.std.proofs.Common.{rules}
-use Rattle.kernel_model.specs.Numbers.{magnitude}
-use Rattle.operators.proofs.numbers.absolute.Goals as goal
-
-pub returns : goal.returns
-unfolding magnitude
-returns c = search rules

@@ -1,7 +1,0 @@
-use Rattle.std.proofs.Common.{refl}
-use Rattle.kernel_model.specs.Numbers.{and_bits}
-use Rattle.operators.proofs.numbers.and.Goals as goal
-
-pub returns : goal.returns
-unfolding and_bits
-returns c = refl

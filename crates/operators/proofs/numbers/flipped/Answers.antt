@@ -1,7 +1,0 @@
-use Rattle.std.proofs.Common.{refl}
-use Rattle.kernel_model.specs.Numbers.{complement}
-use Rattle.operators.proofs.numbers.flipped.Goals as goal
-
-pub returns : goal.returns
-unfolding complement
-returns c = refl

@@ -1,7 +1,0 @@
-use Rattle.std.proofs.Common.{rules}
-use Rattle.kernel_model.specs.Numbers.{negated}
-use Rattle.operators.proofs.numbers.minus.Goals as goal
-
-pub returns : goal.returns
-unfolding negated
-returns c = search rules

@@ -1,7 +1,0 @@
-use Rattle.std.proofs.Common.{rules}
-use Rattle.kernel_model.specs.Numbers.{difference}
-use Rattle.operators.proofs.numbers.sub.Goals as goal
-
-pub returns : goal.returns
-unfolding difference
-returns c = search rules

@@ -1,8 +1,0 @@
-use Rattle.std.proofs.Common.{◌≡◌, None}
-use lib.ListN.{replicate}
-use Rattle.part_text.proofs.read.unowned.Given as goal
-
-abbrev pub invariant-loop : goal.invariant-loop
-invariant-loop l = record {
-  same : l.table.items ≡ replicate l.counter None;
-}

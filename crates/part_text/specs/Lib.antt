@@ -1,4 +1,0 @@
-pub mod Token
-pub mod Spelling
-pub mod Reading
-pub mod Answered

@@ -1,4 +1,0 @@
-pub mod Slots
-pub mod Letters
-pub mod Spare
-pub mod Stops

@@ -1,6 +1,0 @@
-use Rattle.std.proofs.Common.{◌^◌, sym}
-use Rattle.scaled_decimals.proofs.Bounds.{large-none, ten-large}
-use Rattle.scaled_decimals.proofs.shifting.power.Goals as goal
-
-pub returns-then-by-gt19 : goal.returns-then-by-gt19
-returns-then-by-gt19 c = sym (large-none (10 ^ c.args.by) (ten-large c.args.by c.if-by-gt19.true))

@@ -1,4 +1,0 @@
-pub mod Arguments
-pub mod LoopParts
-pub mod Tells
-pub mod ByArguments

@@ -1,5 +1,0 @@
-pub mod Sources
-pub mod Constants
-pub mod Assigned
-pub mod Hidden
-pub mod Resolvable

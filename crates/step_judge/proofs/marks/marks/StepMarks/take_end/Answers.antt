@@ -1,0 +1,13 @@
+use Rattle.step_judge.proofs.marks.Runs.{end_wrote}
+use Rattle.step_judge.proofs.marks.marks.StepMarks.take_end.Goals as goal
+
+pub invariant_of-self : goal.invariant_of-self
+invariant_of-self c =
+    let step = rw (← c.self.view_is) at c.requires.step in
+    (end_wrote _ c.self.inside.at.items c.args.item c.args.rank c.args.place c.index_mut-here.result.now c.end.new.self c.self.invariant step c.index_mut-here.ensures.value c.end.ensures).0
+
+pub returns : goal.returns
+returns c =
+    let step = rw (← c.self.view_is) at c.requires.step in
+    rw (← c.self.view_is)
+    (end_wrote _ c.self.inside.at.items c.args.item c.args.rank c.args.place c.index_mut-here.result.now c.end.new.self c.self.invariant step c.index_mut-here.ensures.value c.end.ensures).1

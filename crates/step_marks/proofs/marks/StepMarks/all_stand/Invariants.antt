@@ -1,6 +1,0 @@
-use Rattle.std.proofs.Common.{◌≡◌, ◌<◌, ℕ}
-use Rattle.step_marks.specs.Marked.{Stands}
-use Rattle.step_marks.proofs.marks.StepMarks.all_stand.Given as goal
-
-abbrev pub invariant-loop-rank : goal.invariant-loop-rank
-invariant-loop-rank l = record { same : l.self ≡ l.fn.self; stand : (x : ℕ) → x < l.rank → Stands l.fn.self x l.item }

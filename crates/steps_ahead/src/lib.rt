@@ -1,9 +1,0 @@
-//! A stream of steps that looks ahead for closed groups: elements of one item and rank that begin one after another and then end in
-//! the same order, wherever they stand.
-#![tactic(auto)]
-
-mod ahead;
-mod groups;
-mod reading;
-
-pub use ahead::Ahead;

@@ -1,8 +1,0 @@
-//! The cells that a kernel's arguments name, in one lent buffer.
-#![tactic(auto)]
-
-mod cutting;
-mod frame;
-
-pub use cutting::cut;
-pub use frame::{Frame, Place, are_places_in};
