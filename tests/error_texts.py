@@ -1,5 +1,5 @@
 #!/usr/bin/env python3
-"""Compares the texts of crates/error_texts with the tables of docs/ERRORS.md, kind, number, cause and what to do of each row, and with that
+"""Compares the texts of crates/explanations with the tables of docs/ERRORS.md, kind, number, cause and what to do of each row, and with that
 of the statuses in docs/COMMANDS.md; and sees that each line which docs/ERRORS.md has begins as those of its text do.
 Ends with 1 where one differs.
 Usage: tests/error_texts.py
@@ -57,7 +57,7 @@ def of_crate():
     """The texts in order: name, front, cause, advice."""
     texts = []
     for table in TABLES:
-        source = (top / f"crates/error_texts/src/{table}.rt").read_text()
+        source = (top / f"crates/explanations/src/texts/{table}.rt").read_text()
         literal = re.search(r'&str = "\\\n(.*)";', source, re.S)[1]
         plain = re.sub(r"\\\n *", "", literal).strip()
         plain = re.sub(r"\\(.)", lambda m: {"n": "\n", "t": "\t"}.get(m[1], m[1]), plain)
