@@ -1,5 +1,6 @@
 -- What words ask for in the code, as `Words` defines it.
-use Rattle.std.specs.Prelude.{◌≡◌, Result, Ok, Err, codes, option_map}
+use Rattle.std.specs.Prelude.{◌≡◌, true, false, Result, Ok, Err, codes, option_map}
+use Rattle.clap.specs.Walk.{Rule as ClapRule}
 use Rattle.clap.specs.declared.parser.matches.Found.{Found}
 use Rattle.clap.specs.Matches.{first_value}
 use Rattle.distribute.specs.Parts.{Parts, Block, Bisect, Grow, name_of}
@@ -7,6 +8,8 @@ use Rattle.command_words.specs.Refusal as answer
 use Rattle.command_words.specs.Words as words
 use Rattle.command_words.specs.Words.{is_set, OnPlan, OnChains, Converts, Translates, Restores, ShowsUsage, ShowsVersion}
 use Rattle.command_words.specs.Laws.{IsWithin}
+use Rattle.command_words.specs.declared.command.WordRule.{WordRule}
+use Rattle.command_words.specs.declared.command.WordRule.TheVariants.{Required, Optional, Valued, Flag}
 use Rattle.command_words.specs.declared.refusals.WordsRefusal.{WordsRefusal}
 use Rattle.command_words.specs.declared.refusals.WordsRefusal.TheVariants.{Usage, OutOfMemory}
 use Rattle.command_words.specs.declared.options.OptionWords.{OptionWords}
@@ -30,6 +33,15 @@ use Rattle.command_words.specs.declared.asked.Input.{Input}
 use Rattle.command_words.specs.declared.asked.Input.TheVariants as input
 use Rattle.command_words.specs.declared.asked.Asked.{Asked}
 use Rattle.command_words.specs.declared.asked.Asked.TheVariants as asked
+
+-- ---- the command
+
+-- a rule of the command
+abbrev pub word_rule : WordRule → ClapRule
+word_rule (Required id) = words.positional true id.now
+word_rule (Optional id) = words.positional false id.now
+word_rule (Valued id) = words.option id.now
+word_rule (Flag id) = words.flag id.now
 
 -- ---- options
 

@@ -1,63 +1,56 @@
 // The command as `clap` has it, and what it matches.
 
-ghost use Rattle.std.specs.Prelude.{◌≡◌, [], List, map, string_bytes, IfOk, IfErr};
+ghost use Rattle.std.specs.Prelude.{◌≡◌, [], List, map, false, string_bytes, IfOk, IfErr};
 ghost use Rattle.clap.specs.Matches.{found_of};
 ghost use Rattle.clap.specs.Faults.{fault_of};
 ghost use Rattle.clap.specs.Kinds.{HasKind};
-ghost use Rattle.clap.specs.Simple.{app_of, matches_of, with_rule};
-ghost use Rattle.clap.specs.Walk.{rows_of};
-ghost use Rattle.command_words.specs.Words.{command, with_rules, positional, option, flag};
+ghost use Rattle.clap.specs.Simple.{app_of, matches_of};
+ghost use Rattle.clap.specs.Walk.{rows_of, rule_of};
+ghost use Rattle.command_words.specs.Words.{command, with_rules};
+ghost use Rattle.command_words.specs.Values.{word_rule};
 
 use crate::usage::VERSION;
 use clap::{Arg, ArgAction, ArgMatches, Command, Error};
 use std::alloc::{AllocError, Global};
 
-/// The command with a further word that has no `-`, with `id` as its name, required or not. An error is want of memory.
-pub fn with_positional<'a>(
-    alloc: Global,
-    command: Command<'a>,
-    id: &'a str,
-    required: bool,
-) -> Result<Command<'a>, AllocError>
-    ensures { IfOk result (λ c. app_of c ≡ with_rule (app_of command.entry) (positional required id.entry.now)) }
-{
-    command.arg(Arg::new(alloc, id).required(required))
+/// A rule of a command: a word or an option that it takes, by its name.
+#[derive(Clone, Copy, Debug)]
+pub enum WordRule<'a> {
+    /// A word without a `-`, which has to stand.
+    Required(&'a str),
+    /// A word without a `-`, which may stand.
+    Optional(&'a str),
+    /// An option with one value, `--ID VALUE` or `--ID=VALUE`.
+    Valued(&'a str),
+    /// An option with no value, `--ID`.
+    Flag(&'a str),
 }
 
-// The command with a further option that takes one value.
-fn with_option<'a>(
-    alloc: Global,
-    command: Command<'a>,
-    id: &'a str,
-) -> Result<Command<'a>, AllocError>
-    ensures { IfOk result (λ c. app_of c ≡ with_rule (app_of command.entry) (option id.entry.now)) }
+// The word or option of a rule, as `clap` takes it.
+fn arg_of<'a>(alloc: Global, rule: WordRule<'a>) -> Arg<'a>
+    ensures same { rule_of result ≡ word_rule rule.entry }
+    ensures own { result.global ≡ false }
 {
-    command.arg(Arg::new(alloc, id).long(id))
+    match rule {
+        WordRule::Required(id) => Arg::new(alloc, id).required(true),
+        WordRule::Optional(id) => Arg::new(alloc, id),
+        WordRule::Valued(id) => Arg::new(alloc, id).long(id),
+        WordRule::Flag(id) => Arg::new(alloc, id).long(id).action(ArgAction::SetTrue),
+    }
 }
 
-/// The command with a further option that takes no value, `--ID`. An error is want of memory.
-pub fn with_flag<'a>(
+/// The command with further rules, one behind the other. An error is want of memory.
+pub fn with_rules<'a>(
     alloc: Global,
     command: Command<'a>,
-    id: &'a str,
+    rules: &[WordRule<'a>],
 ) -> Result<Command<'a>, AllocError>
-    ensures { IfOk result (λ c. app_of c ≡ with_rule (app_of command.entry) (flag id.entry.now)) }
-{
-    command.arg(Arg::new(alloc, id).long(id).action(ArgAction::SetTrue))
-}
-
-/// The command with further options of one value, `--ID VALUE`, one behind the other. An error is want of memory.
-pub fn with_options<'a>(
-    alloc: Global,
-    command: Command<'a>,
-    ids: &[&'a str],
-) -> Result<Command<'a>, AllocError>
-    ensures { IfOk result (λ c. app_of c ≡ with_rules (app_of command.entry) (map (λ id. option id.now) ids.now)) }
+    ensures { IfOk result (λ c. app_of c ≡ with_rules (app_of command.entry) (map word_rule rules.now)) }
 {
     let mut command = command;
-    let mut rest = ids;
-    while let [id, more @ ..] = rest {
-        command = with_option(alloc, command, id)?;
+    let mut rest = rules;
+    while let [rule, more @ ..] = rest {
+        command = command.arg(arg_of(alloc, *rule))?;
         rest = more;
     }
     Ok(command)
@@ -68,29 +61,29 @@ fn command<'a>(alloc: Global) -> Result<Command<'a>, AllocError>
     ensures { IfOk result (λ c. app_of c ≡ command) }
 {
     let command = Command::new(alloc, "op2").version(VERSION);
-    let command = with_positional(alloc, command, "JOB", true)?;
-    let command = with_positional(alloc, command, "INPUT", true)?;
-    let command = with_positional(alloc, command, "MESH", false)?;
-    let command = with_options(
+    with_rules(
         alloc,
         command,
         &[
-            "form",
-            "ranks",
-            "parts",
-            "partition",
-            "renumber",
-            "block",
-            "plan",
-            "at",
-            "from",
-            "schedule",
-            "seed",
-            "workers",
+            WordRule::Required("JOB"),
+            WordRule::Required("INPUT"),
+            WordRule::Optional("MESH"),
+            WordRule::Valued("form"),
+            WordRule::Valued("ranks"),
+            WordRule::Valued("parts"),
+            WordRule::Valued("partition"),
+            WordRule::Valued("renumber"),
+            WordRule::Valued("block"),
+            WordRule::Valued("plan"),
+            WordRule::Valued("at"),
+            WordRule::Valued("from"),
+            WordRule::Valued("schedule"),
+            WordRule::Valued("seed"),
+            WordRule::Valued("workers"),
+            WordRule::Flag("chain"),
+            WordRule::Flag("dump"),
         ],
-    )?;
-    let command = with_flag(alloc, command, "chain")?;
-    with_flag(alloc, command, "dump")
+    )
 }
 
 /// What `clap` matches of the words, the program's name first, or its refusal.

@@ -6,6 +6,8 @@ ghost use Rattle.command_words.specs.Words.{by_job, on_files, where_so, samples,
 ghost use Rattle.command_words.specs.Words.{plans, chains, plans_or_chains, form_of, number_to, InFiles};
 ghost use Rattle.command_words.specs.Values.{input_in, command_of, job_in, chain_job_in, option_words_of};
 
+use crate::asked::ChainJob::{CountsChains, RunsChains};
+use crate::asked::PlanJob::{Check, RunsPlan, ShowsPlan, ShowsSchedule};
 use crate::asked::{Asked, ChainJob, Input, PlanJob};
 use crate::options::{
     OptionWords, chain_options_of, goes_to_the_end, is_unplanned, is_whole, number_to, options_of,
@@ -15,86 +17,55 @@ use crate::sides::Side;
 use mesh_decl::text::Form;
 use mesh_gen::MAX_SIDE;
 
+/// The words behind the job's name, and the values of the options.
+#[derive(Clone, Copy, Debug)]
+pub struct JobWords<'a> {
+    /// The word INPUT.
+    pub input: &'a str,
+    /// The word MESH, where it stands.
+    pub mesh: Option<&'a str>,
+    /// The values of the options.
+    pub options: OptionWords<'a>,
+}
+
 /// What is asked for by the job's name.
-pub fn by_job<'a>(
-    job: &str,
-    input: &'a str,
-    mesh: Option<&'a str>,
-    options: &OptionWords<'a>,
-) -> Option<Asked<'a>>
+pub fn by_job<'a>(job: &str, words: &JobWords<'a>) -> Option<Asked<'a>>
     ensures { option_map command_of result
-        ≡ by_job job.now input.now (option_map (λ s. s.now) mesh.entry) (option_words_of options.now) }
+        ≡ by_job job.now words.now.input.now (option_map (λ s. s.now) words.now.mesh) (option_words_of words.now.options) }
 {
+    let options = &words.options;
     if job == "run" {
-        either_where(
-            goes_to_the_end(options),
-            PlanJob::RunsPlan,
-            ChainJob::RunsChains,
-            input,
-            mesh,
-            options,
-        )
+        either_where(goes_to_the_end(options), RunsPlan, RunsChains, words)
     } else if job == "sample" {
-        samples_where(is_whole(options), input, mesh, options)
+        samples_where(is_whole(options), words)
     } else if job == "state" {
-        plans_where(
-            stops_at_an_item(options),
-            PlanJob::RunsPlan,
-            input,
-            mesh,
-            options,
-        )
+        plans_where(stops_at_an_item(options), RunsPlan, words)
     } else if job == "convert" {
-        converts(input, mesh, options)
+        converts(words)
     } else if job == "translate" {
-        let source = source_alone(input, mesh, options)?;
+        let source = source_alone(words)?;
         Some(Asked::Translate { source })
     } else if job == "restore" {
-        let source = source_alone(input, mesh, options)?;
+        let source = source_alone(words)?;
         Some(Asked::Restore { source })
     } else if job == "check" {
-        either_where(
-            is_whole(options),
-            PlanJob::Check,
-            ChainJob::CountsChains,
-            input,
-            mesh,
-            options,
-        )
+        either_where(is_whole(options), Check, CountsChains, words)
     } else if job == "plan" {
-        plans_where(
-            plans_itself(options),
-            PlanJob::ShowsPlan,
-            input,
-            mesh,
-            options,
-        )
+        plans_where(plans_itself(options), ShowsPlan, words)
     } else if job == "schedule" {
-        plans_where(
-            goes_to_the_end(options),
-            PlanJob::ShowsSchedule,
-            input,
-            mesh,
-            options,
-        )
+        plans_where(goes_to_the_end(options), ShowsSchedule, words)
     } else {
         None
     }
 }
 
 // A job on the plan of SOURCE and MESH, where its options allow it.
-fn plans_where<'a>(
-    allowed: bool,
-    job: PlanJob,
-    source: &'a str,
-    mesh: Option<&'a str>,
-    options: &OptionWords<'a>,
-) -> Option<Asked<'a>>
-    ensures { option_map command_of result ≡ where_so allowed
-        (on_files (plans (job_in job)) source.now (option_map (λ s. s.now) mesh.entry) (option_words_of options.now)) }
+fn plans_where<'a>(allowed: bool, job: PlanJob, words: &JobWords<'a>) -> Option<Asked<'a>>
+    ensures { option_map command_of result ≡ where_so allowed (on_files (plans (job_in job)) words.now.input.now
+        (option_map (λ s. s.now) words.now.mesh) (option_words_of words.now.options)) }
 {
     if allowed {
-        plans(job, in_files(source, mesh)?, options)
+        plans(job, in_files(words)?, &words.options)
     } else {
         None
     }
@@ -105,45 +76,37 @@ fn either_where<'a>(
     allowed: bool,
     plan: PlanJob,
     chain: ChainJob,
-    source: &'a str,
-    mesh: Option<&'a str>,
-    options: &OptionWords<'a>,
+    words: &JobWords<'a>,
 ) -> Option<Asked<'a>>
     ensures { option_map command_of result ≡ where_so allowed
-        (on_files (plans_or_chains (job_in plan) (chain_job_in chain)) source.now (option_map (λ s. s.now) mesh.entry)
-        (option_words_of options.now)) }
+        (on_files (plans_or_chains (job_in plan) (chain_job_in chain)) words.now.input.now
+        (option_map (λ s. s.now) words.now.mesh) (option_words_of words.now.options)) }
 {
     if allowed {
-        plans_or_chains(plan, chain, in_files(source, mesh)?, options)
+        plans_or_chains(plan, chain, in_files(words)?, &words.options)
     } else {
         None
     }
 }
 
 // `sample SIDE`, where its options allow it.
-fn samples_where<'a>(
-    allowed: bool,
-    side: &str,
-    mesh: Option<&str>,
-    options: &OptionWords<'a>,
-) -> Option<Asked<'a>>
-    ensures { option_map command_of result
-        ≡ where_so allowed (samples side.now (option_map (λ s. s.now) mesh.entry) (option_words_of options.now)) }
+fn samples_where<'a>(allowed: bool, words: &JobWords<'a>) -> Option<Asked<'a>>
+    ensures { option_map command_of result ≡ where_so allowed
+        (samples words.now.input.now (option_map (λ s. s.now) words.now.mesh) (option_words_of words.now.options)) }
 {
-    if allowed {
-        samples(side, mesh, options)
-    } else {
-        None
-    }
+    if allowed { samples(words) } else { None }
 }
 
 // SOURCE and MESH.
-fn in_files<'a>(source: &'a str, mesh: Option<&'a str>) -> Option<Input<'a>>
-    ensures { option_map input_in result ≡ option_map (InFiles source.now) (option_map (λ s. s.now) mesh.entry) }
+fn in_files<'a>(words: &JobWords<'a>) -> Option<Input<'a>>
+    ensures { option_map input_in result ≡ option_map (InFiles words.now.input.now) (option_map (λ s. s.now) words.now.mesh) }
 {
-    match mesh {
+    match words.mesh {
         None => None,
-        Some(mesh) => Some(Input::InFiles { source, mesh }),
+        Some(mesh) => Some(Input::InFiles {
+            source: words.input,
+            mesh,
+        }),
     }
 }
 
@@ -156,34 +119,34 @@ fn side_of(word: &str) -> Option<Side>
 }
 
 // `sample SIDE`.
-fn samples<'a>(input: &str, mesh: Option<&str>, options: &OptionWords<'a>) -> Option<Asked<'a>>
+fn samples<'a>(words: &JobWords<'a>) -> Option<Asked<'a>>
     ensures { option_map command_of result
-        ≡ samples input.now (option_map (λ s. s.now) mesh.entry) (option_words_of options.now) }
+        ≡ samples words.now.input.now (option_map (λ s. s.now) words.now.mesh) (option_words_of words.now.options) }
 {
-    if mesh.is_some() {
+    if words.mesh.is_some() {
         return None;
     }
-    let side = side_of(input)?;
+    let side = side_of(words.input)?;
     plans_or_chains(
-        PlanJob::RunsPlan,
-        ChainJob::RunsChains,
+        RunsPlan,
+        RunsChains,
         Input::OfSample { side },
-        options,
+        &words.options,
     )
 }
 
 // `convert MESH`, with `--form`.
-fn converts<'a>(input: &'a str, mesh: Option<&str>, options: &OptionWords<'a>) -> Option<Asked<'a>>
+fn converts<'a>(words: &JobWords<'a>) -> Option<Asked<'a>>
     ensures { option_map command_of result
-        ≡ converts input.now (option_map (λ s. s.now) mesh.entry) (option_words_of options.now) }
+        ≡ converts words.now.input.now (option_map (λ s. s.now) words.now.mesh) (option_words_of words.now.options) }
 {
-    if mesh.is_some() {
+    if words.mesh.is_some() {
         return None;
     }
-    if runs_nothing(options) {
+    if runs_nothing(&words.options) {
         Some(Asked::Convert {
-            form: form_of(options.form)?,
-            mesh: input,
+            form: form_of(words.options.form)?,
+            mesh: words.input,
         })
     } else {
         None
@@ -191,16 +154,13 @@ fn converts<'a>(input: &'a str, mesh: Option<&str>, options: &OptionWords<'a>) -
 }
 
 // SOURCE, for the jobs that take nothing else: no mesh and no option.
-fn source_alone<'a>(
-    source: &'a str,
-    mesh: Option<&str>,
-    options: &OptionWords<'_>,
-) -> Option<&'a str>
+fn source_alone<'a>(words: &JobWords<'a>) -> Option<&'a str>
     ensures { option_map (λ s. s.now) result
-        ≡ source_alone source.now (option_map (λ s. s.now) mesh.entry) (option_words_of options.now) }
+        ≡ source_alone words.now.input.now (option_map (λ s. s.now) words.now.mesh) (option_words_of words.now.options) }
 {
-    if mesh.is_none() && options.form.is_none() && runs_nothing(options) {
-        Some(source)
+    let options = &words.options;
+    if words.mesh.is_none() && options.form.is_none() && runs_nothing(options) {
+        Some(words.input)
     } else {
         None
     }

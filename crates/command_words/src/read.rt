@@ -13,7 +13,7 @@ ghost use Rattle.command_words.specs.Values.{option_words_of, options_found, com
 
 use crate::asked::Asked;
 use crate::command::matched;
-use crate::jobs::by_job;
+use crate::jobs::{JobWords, by_job};
 use crate::laws::{one_fault, options_are_within};
 use crate::options::OptionWords;
 use crate::refusals::WordsRefusal;
@@ -52,7 +52,12 @@ fn job_of<'a>(matches: &ArgMatches<'a>) -> Result<Asked<'a>, WordsRefusal>
     let (Some(job), Some(input)) = (matches.get_str("JOB"), matches.get_str("INPUT")) else {
         return Err(WordsRefusal::Usage);
     };
-    match by_job(job, input, matches.get_str("MESH"), &option_words(matches)) {
+    let words = JobWords {
+        input,
+        mesh: matches.get_str("MESH"),
+        options: option_words(matches),
+    };
+    match by_job(job, &words) {
         Some(asked) => Ok(asked),
         None => Err(WordsRefusal::Usage),
     }

@@ -15,8 +15,8 @@ use Rattle.clap.specs.declared.error.kind.ErrorKind.TheVariants as kind
 use Rattle.clap.specs.declared.parser.matches.ArgMatches.{ArgMatches}
 use Rattle.tool_words.specs.Words.{Command, command, given_in, asked, judged, by_kind, MatchesAre, Explains, call_in}
 use Rattle.tool_words.specs.declared.asked.Asked.{Asked}
-use Rattle.tool_words.specs.declared.refusals.WordsRefusal.{WordsRefusal}
-use Rattle.tool_words.specs.declared.refusals.WordsRefusal.TheVariants.{Usage, OutOfMemory}
+use Rattle.command_words.specs.declared.refusals.WordsRefusal.{WordsRefusal}
+use Rattle.command_words.specs.declared.refusals.WordsRefusal.TheVariants.{Usage, OutOfMemory}
 use Rattle.tool_words.specs.Values.{AsksBy, IsRead, IsReadWith, call_of, given_found}
 
 -- what is asked for is so of the words

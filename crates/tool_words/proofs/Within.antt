@@ -14,8 +14,8 @@ use Rattle.tool_words.specs.Words.{TakesOwners, Picture, PlanJob, TellsOwners, C
 use Rattle.tool_words.specs.Words.{picked, graphed, planned, taken, owned, by_name, given_in, asked, judged, by_kind, MatchesAre, WordsAreWith, call_in}
 use Rattle.tool_words.specs.Ranges.{IsWithin}
 use Rattle.tool_words.specs.declared.asked.Asked.{Asked}
-use Rattle.tool_words.specs.declared.refusals.WordsRefusal.{WordsRefusal}
-use Rattle.tool_words.specs.declared.refusals.WordsRefusal.TheVariants.{Usage, OutOfMemory}
+use Rattle.command_words.specs.declared.refusals.WordsRefusal.{WordsRefusal}
+use Rattle.command_words.specs.declared.refusals.WordsRefusal.TheVariants.{Usage, OutOfMemory}
 use Rattle.tool_words.specs.Values.{IsRead, IsInRange}
 
 module _ (law : OptionWordsAreWithin) where

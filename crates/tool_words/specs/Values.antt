@@ -18,8 +18,8 @@ use Rattle.tool_words.specs.declared.asked.Asked.{Asked}
 use Rattle.tool_words.specs.declared.asked.Asked.TheVariants as asked
 use Rattle.tool_words.specs.declared.given.OwnWords.{OwnWords}
 use Rattle.tool_words.specs.declared.given.Given.{Given}
-use Rattle.tool_words.specs.declared.refusals.WordsRefusal.{WordsRefusal}
-use Rattle.tool_words.specs.declared.refusals.WordsRefusal.TheVariants.{Usage, OutOfMemory}
+use Rattle.command_words.specs.declared.refusals.WordsRefusal.{WordsRefusal}
+use Rattle.command_words.specs.declared.refusals.WordsRefusal.TheVariants.{Usage, OutOfMemory}
 
 -- the options of single jobs
 abbrev pub own_of : OwnWords → words.OwnWords

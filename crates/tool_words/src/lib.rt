@@ -13,11 +13,10 @@ mod given;
 mod jobs;
 mod pictures;
 mod read;
-mod refusals;
 mod usage;
 
 pub use asked::{Asked, Picture, PlanJob, ProgramJob};
 pub use calls::call_in;
+pub use command_words::WordsRefusal;
 pub use read::read_words;
-pub use refusals::WordsRefusal;
 pub use usage::{USAGE, VERSION};

@@ -5,7 +5,7 @@ ghost use Rattle.clap.specs.Matches.{found_of, first_value};
 ghost use Rattle.clap.specs.Values.{kind_of};
 ghost use Rattle.clap.specs.declared.error.kind.ErrorKind.TheVariants as kind;
 ghost use Rattle.tool_words.specs.Words.{Explains, asked, by_kind, call_in};
-ghost use Rattle.tool_words.specs.declared.refusals.WordsRefusal.TheVariants.{OutOfMemory};
+ghost use Rattle.command_words.specs.declared.refusals.WordsRefusal.TheVariants.{OutOfMemory};
 ghost use Rattle.command_words.specs.Values.{option_words_of};
 ghost use Rattle.tool_words.specs.Values.{call_of, given_of, own_of, planning_found, own_found, given_found, AsksBy, IsRead, IsInRange};
 
@@ -13,10 +13,9 @@ use crate::asked::Asked;
 use crate::command::matched;
 use crate::given::{Given, OwnWords};
 use crate::jobs::by_name;
-use crate::refusals::WordsRefusal;
 use clap::error::ErrorKind;
 use clap::{ArgMatches, Error};
-use command_words::{OptionWords, is_set, option_words_are_within};
+use command_words::{OptionWords, WordsRefusal, is_set, option_words_are_within};
 use std::alloc::Global;
 
 /// What the words, the program's name first, ask for, where `call` is the call in them that is to be explained, if they have one, as
