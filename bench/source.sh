@@ -1,7 +1,7 @@
 #!/bin/sh
 # Times `op2 run` on sources of doubling size, and shows each run's peak memory. The sources have kernels with statements of
 # every form, up to the 1 MiB that a source may have; their `main` does nothing.
-# Then times reading a source of 1 MiB with 100,000 names, and resolving them (crates/name_bench); and reading one of 1 MiB with 10,000 loops,
+# Then times reading a source of 1 MiB with 100,000 names, and resolving them (the job `names` of crates/op2_bench); and reading one of 1 MiB with 10,000 loops,
 # and translating it (`op2 translate`).
 # Usage: bench/source.sh [BYTES ..]     (131072 262144 524288 1048576 where none is given; OP2 may name another program)
 here=$(CDPATH= cd -- "$(dirname -- "$0")/.." && pwd) || exit 1
@@ -37,10 +37,10 @@ peak = resource.getrusage(resource.RUSAGE_CHILDREN).ru_maxrss
 print(f"{length} bytes, {count} kernels: status {status}, {time.time() - begun:.2f} s, {peak / 1024:.0f} MiB at the peak")
 PY
 done
-program=$here/crates/name_bench/out/name_bench
+program=$here/crates/op2_bench/out/op2_bench
 if [ ! -x "$program" ]; then
     echo 'building: each crate is proved first' >&2
-    (cd "$here/crates/name_bench" && rt run -- data/source.c 1) >/dev/null 2>&1 </dev/null
+    (cd "$here/crates/op2_bench" && rt run -- names data/source.c 1) >/dev/null 2>&1 </dev/null
 fi
 python3 - "$program" "$work/names.c" <<'PY'
 import subprocess, sys, time
@@ -60,7 +60,7 @@ with open(source, "w") as file:
     file.write("".join(parts) + end)
 def spent(times):
     begun = time.time()
-    subprocess.check_call([program, source, str(times)], stdout=subprocess.DEVNULL)
+    subprocess.check_call([program, "names", source, str(times)], stdout=subprocess.DEVNULL)
     return time.time() - begun
 read = min(spent(0) for _ in range(3))
 resolved = min(spent(4) for _ in range(3))

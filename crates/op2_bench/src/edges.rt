@@ -4,10 +4,15 @@ ghost use Rattle.std.specs.Prelude.{◌≡◌, ◌<◌, ◌≤◌, ◌^◌};
 ghost use Rattle.kernel_types.specs.Resolved.{IsResolved};
 ghost use Rattle.kernel_code.specs.Coded.{IsCode};
 
-use kernel_code::{Code, run_on};
+use crate::flux::flux;
+use kernel_code::{Code, compile, run_on};
+use kernel_types::is_resolved;
 use kernel_types::views::{Place, are_places_in};
 use op_num::wrap_add;
 use std::alloc::{AllocError, Global};
+
+// The most edges.
+const MOST: u32 = 1 << 28;
 
 /// The arrays q, adt and res, one after another, each with so many cells.
 pub fn filled(alloc: Global, cells: u32) -> Result<Vec<i32>, AllocError> {
@@ -78,4 +83,21 @@ pub fn sum_from(memory: &[i32], from: usize) -> i32 {
         sum = wrap_add(sum, *cell);
     }
     sum
+}
+
+/// The number of edges of the flux kernel's loop that have no fault, and the sum of the residuals. `None` is want of memory, or more than
+/// 2^28 edges.
+pub fn flux_sum(alloc: Global, edges: u32) -> Option<(u32, i32)> {
+    if edges > MOST {
+        return None;
+    }
+    let cells = edges / 2 + 1;
+    let kernel = flux(alloc).ok()?;
+    let mut memory = filled(alloc, cells).ok()?;
+    let code = compile(alloc, &kernel).ok()?;
+    if !is_resolved(&kernel, 0) || kernel.params != 6 || code.slots > 8 {
+        return None;
+    }
+    let done = run_edges(&code, &mut memory, cells, edges);
+    Some((done, sum_from(&memory, 2 * cells as usize)))
 }
