@@ -2,8 +2,8 @@
 use Rattle.std.specs.Prelude.{◌≡◌, ℕ, ◌<◌, ◌^◌, List, Bool, false}
 use Rattle.kernel_types.specs.declared.statements.RStmt.{RStmt, Block', Declare, SetScalar, SetLocal, SetArg, If', For', Row_of-RStmt}
 use Rattle.kernel_types.specs.declared.statements.RStmt.{end_of-RStmt, more_of-RStmt}
-use Rattle.kernel_model.specs.Obeys.{Mode, mode_at, Counters}
-use Rattle.kernel_model.specs.Walk.{Breach, Covered, stmt_found, covered_after}
+use Rattle.kernel_model.specs.Obeys.{Mode, mode_at}
+use Rattle.kernel_model.specs.Walk.{Covered}
 use Rattle.access_check.specs.Indices.{stmt_names}
 
 -- both have the same components below the dims

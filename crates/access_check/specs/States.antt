@@ -1,5 +1,5 @@
 -- What the walk over a kernel keeps.
-use Rattle.std.specs.Prelude.{ℕ, ℤ, List, Bool, Option, Some, None, nat_eq, slice_index_or}
+use Rattle.std.specs.Prelude.{ℕ, ℤ, List, Bool, Option, None, nat_eq, slice_index_or}
 use Rattle.std.specs.Int.{bit_at}
 use Rattle.kernel_model.specs.Obeys.{Counters}
 use Rattle.access_check.specs.declared.components.Components.{Components}

@@ -1,5 +1,5 @@
 -- Runs by chains with kernels that have the same trees, and the same owners, are one.
-use Rattle.std.proofs.Common.{◌≡◌, ℕ, suc, ◌&&◌, ◌||◌, not, Bool, true, false, cond, nat_eq, nat_lt, List, [], ◌∷◌, map, drop, length, Option, Some, None, refl, sym, ap, ap₂, ◌∙◌, ◌++◌, codes}
+use Rattle.std.proofs.Common.{◌≡◌, ℕ, suc, ◌&&◌, ◌||◌, not, Bool, true, false, cond, nat_eq, nat_lt, List, [], ◌∷◌, drop, length, Option, Some, None, refl, ap, ap₂, ◌∙◌, ◌++◌, codes}
 use Rattle.std.specs.Fmt.{decimal}
 use Rattle.std.specs.List.{list_any}
 use Rattle.std.proofs.Math.Path.{fun_ext}
@@ -7,7 +7,7 @@ use Rattle.rank_sets.specs.Below.{any_below, count_below}
 use Rattle.kernel_types.specs.declared.faults.KernelFault.{KernelFault}
 use Rattle.kernel_types.specs.declared.kernels.RKernel.{RKernel}
 use Rattle.mesh_decl.specs.declared.owners.Owners.{Owners}
-use Rattle.mesh_decl.specs.Mesh.{dat_count, dat_set, set_size}
+use Rattle.mesh_decl.specs.Mesh.{dat_set, set_size}
 use Rattle.mesh_decl.specs.Owners.{owners_in, owner_of}
 use Rattle.schedule_model.specs.Program.{Program}
 use Rattle.schedule_model.specs.Sequential.{Stop}
@@ -19,10 +19,10 @@ use Rattle.bound_plan.specs.Variables.{reduces_at}
 use Rattle.chain_model.specs.Chains.{begins}
 use Rattle.chain_model.specs.Slicing.{Slicing}
 use Rattle.chain_model.specs.Machine.{chain_machine, ChainState}
-use Rattle.bound_chains.specs.Slices.{modifies_some, reads_pair, owns_pair, executes_for, needs_for, needs_before, free_sites, loops_from, needs, executes, slicing_of}
-use Rattle.bound_chains.specs.Counts.{sum_below, begins_at, chain_count, some_pair, sends, message_count}
+use Rattle.bound_chains.specs.Slices.{modifies_some, reads_pair, owns_pair, executes_for, needs_before, free_sites, loops_from, needs, executes, slicing_of}
+use Rattle.bound_chains.specs.Counts.{sum_below, begins_at, some_pair, message_count}
 use Rattle.bound_chains.specs.Outcomes.{chains_run, chains_text, dump_after}
-use Rattle.bound_chains.specs.OneRun.{SameChains, HaveOneText, ChainsAreOne}
+use Rattle.bound_chains.specs.OneRun.{SameChains, ChainsAreOne}
 
 module _ (b : BoundValue) (ks : List RKernel) (o u : Owners) (programs_are_one : ProgramsAreOne) (h : SameChains b ks o u) where
   abbrev c : BoundValue

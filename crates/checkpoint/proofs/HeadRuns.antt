@@ -5,7 +5,7 @@ use Rattle.kernel_types.specs.declared.faults.KernelFault.{KernelFault}
 use Rattle.schedule_model.specs.Cells.{Store}
 use Rattle.schedule_model.specs.Program.{Program, Kind, Free, Reduce, Ordered, Host, elements}
 use Rattle.schedule_model.specs.Sequential.{Loop, Broke, Ran_through, loop, one_more, after_run, Seq, Stopped, Going, after_loop, after_host, item_from, after_item, seq}
-use Rattle.bound_program.specs.Values.{BoundValue, ItemValue, Exit}
+use Rattle.bound_program.specs.Values.{BoundValue, Exit}
 use Rattle.bound_program.specs.Values as values
 use Rattle.bound_program.specs.Fits.{site_at}
 use Rattle.run_model.specs.Kernels.{element_run}

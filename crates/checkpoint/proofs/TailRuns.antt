@@ -7,7 +7,7 @@ use Rattle.schedule_model.specs.Cells.{Cell, Data, Variable, Store}
 use Rattle.schedule_model.specs.Effects.{Ran, Faulted, Finished}
 use Rattle.schedule_model.specs.Program.{Program, Kind, is_loop, Free, Reduce, Ordered, Host, Hosted, Halts, Goes, elements}
 use Rattle.schedule_model.specs.Sequential.{Loop, Broke, Ran_through, loop, one_more, after_run, Seq, Stopped, Going, with_variables, after_loop, after_host, item_from, after_item, seq, sequential}
-use Rattle.bound_program.specs.Values.{BoundValue, ItemValue, Exit, no_site}
+use Rattle.bound_program.specs.Values.{BoundValue, Exit, no_site}
 use Rattle.bound_program.specs.Values as values
 use Rattle.bound_program.specs.Fits.{Fits, site_at}
 use Rattle.run_model.specs.Programs.{item_at, kind_of, loop_of, act_in, program_of}

@@ -1,5 +1,5 @@
 -- At most all numbers pass.
-use Rattle.std.proofs.Common.{◌≤◌, ℕ, zero, suc, Bool, true, false, cond, arith}
+use Rattle.std.proofs.Common.{◌≤◌, ℕ, zero, suc, Bool, arith}
 use Rattle.rank_sets.specs.Below.{count_below}
 use Rattle.lemmas.proofs.Truth.{cond_bit}
 

@@ -1,8 +1,7 @@
 -- From new numbers and owners to the plan.
 use Rattle.std.proofs.Common.{◌≡◌, ℕ, inl, inr, List, ◌++◌, Option, Result, Ok, Err, refl}
-use Rattle.std.specs.List.{Contains}
 use Rattle.op_outside.specs.Outside.{Files}
-use Rattle.kept_files.specs.Readings.{Readings, names_of, AreNext, HaveCome, Finds}
+use Rattle.kept_files.specs.Readings.{Readings, AreNext, HaveCome, Finds}
 use Rattle.kept_files.proofs.Finding.{finds_on, finds_weaker}
 use Rattle.mesh_decl.specs.declared.owners.Owners.{Owners}
 use Rattle.mesh_decl.specs.declared.owners.Perms.{Perms}
@@ -27,7 +26,7 @@ use Rattle.job_inputs.specs.Inputs.{parts_by, colouring_by}
 use Rattle.job_inputs.specs.Chains.{HaltsOver, AnswersFrom}
 use Rattle.job_inputs.proofs.Chained.{halts_weaker, halts_on, stops_on, stops_always, answers_on, still_named}
 use Rattle.job_inputs.proofs.Jobs.{given_weaker}
-use Rattle.job_plans.specs.Plans.{Unplanned, IsSpread, IsPlannedIn}
+use Rattle.job_plans.specs.Plans.{Unplanned, IsPlannedIn}
 
 -- ---- distributions
 

@@ -8,7 +8,7 @@ use Rattle.local_mesh.specs.Halo.{owns, reaches, imports_execute, imports_nonexe
 use Rattle.local_mesh.specs.Local.{earlier, local_number, AreApart, AreInverse}
 use Rattle.local_mesh.proofs.Inverse.{apart_sum, number_executed}
 use Rattle.local_mesh.proofs.Stands.{contains_at}
-use Rattle.lemmas.proofs.Lists.{contains_at}
+use Rattle.lemmas.proofs.Lists.{contains_at as at_contained}
 use Rattle.std.proofs.Math.Bool.{and-false}
 
 -- owned, import execute and import non-execute have no element in common
@@ -50,7 +50,7 @@ module _ (n : ℕ) (perm : List ℕ) (p q r : ℕ → Bool) (original : List ℕ
       contains_at original (local_number n order p q r w.0) x (inv.within w.0 w.1 h) (inv.at_number w.0 w.1 h ∙ w.2)
 
   pub number_is_copy : (x : ℕ) → Contains original x → (x < n) × ((p x || (q x || r x)) ≡ true)
-  number_is_copy x c = let e = contains_at original x c in (subst (λ z. z < n) e (number_below c.0 c.1), subst (λ z. (p z || (q z || r z)) ≡ true) e (number_copied c.0 c.1))
+  number_is_copy x c = let e = at_contained original x c in (subst (λ z. z < n) e (number_below c.0 c.1), subst (λ z. (p z || (q z || r z)) ≡ true) e (number_copied c.0 c.1))
 
   pub copy_executed : (k : ℕ) → k < earlier (λ j. get_or perm j 0) p n + earlier (λ j. get_or perm j 0) q n → k < length original → (p (get_or original k 0) || q (get_or original k 0)) ≡ true
   copy_executed k l lk =

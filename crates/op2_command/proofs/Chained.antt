@@ -1,11 +1,11 @@
 -- From the parts of the chain of judgements to the answer to the words.
-use Rattle.std.proofs.Common.{ℕ, inl, inr, List, [], Option, None, Some, Result, Ok, Err, IfOk, refl, ap, sym, subst}
+use Rattle.std.proofs.Common.{ℕ, inl, inr, List, [], Option, None, Some, Result, Ok, Err, refl, ap, sym, subst}
 use Rattle.op_outside.specs.Outside.{Files}
-use Rattle.command_words.specs.Refusal.{Refusal, CannotRead}
+use Rattle.command_words.specs.Refusal.{CannotRead}
 use Rattle.answer_lines.specs.Lines as lines
 use Rattle.answer_lines.specs.Lines.{refused}
 use Rattle.command_words.specs.Words.{Command, WordsAre, names_of, named_by, names_in}
-use Rattle.answers.specs.Answers.{given, without, CommandAnswers, Answers}
+use Rattle.answers.specs.Answers.{without, CommandAnswers, Answers}
 use Rattle.answers.specs.Endings.{Tells, Asks}
 use Rattle.answer_lines.specs.declared.call_answer.Answer.{Answer}
 use Rattle.answer_lines.specs.declared.refusals.Failure.{Failure}

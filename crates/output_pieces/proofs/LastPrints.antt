@@ -1,12 +1,12 @@
 -- The last print of a dat, as items are gone through.
-use Rattle.std.proofs.Common.{◌≡◌, ℕ, ◌+◌, ◌<◌, ◌≤◌, ⊎_elim, Some, None, Option, false, List, ◌++◌, drop, length, sym, ap, subst, ◌∙◌, slice_get, arith, take, append_assoc}
+use Rattle.std.proofs.Common.{◌≡◌, ℕ, ◌+◌, ◌<◌, ◌≤◌, ⊎_elim, Some, None, Option, false, List, ◌++◌, drop, length, sym, ap, subst, ◌∙◌, slice_get, arith, take}
 use Rattle.std.proofs.lemmas.Bool.{cases_eq}
 use Rattle.bound_program.specs.Values.{BoundValue, ItemValue, Host, Print}
 use Rattle.mesh_decl.specs.Mesh.{set_size, dat_set}
-use Rattle.output_pieces.specs.Pieces.{header, lines_before, IsAt}
+use Rattle.output_pieces.specs.Pieces.{header, lines_before}
 use Rattle.output_pieces.specs.Lines.{lines_in, AreLines}
 use Rattle.output_pieces.specs.Cuts.{IsBehind}
-use Rattle.output_pieces.specs.Last.{prints_dat, PrintNone, IsLastBefore, AreLastRows, LacksLastRows, LacksLastHeader}
+use Rattle.output_pieces.specs.Last.{prints_dat, PrintNone, AreLastRows, LacksLastRows}
 use Rattle.output_pieces.specs.LastFound.{IsFoundLast, IsLastPrint}
 use Rattle.output_pieces.specs.declared.last.LastPrint.{LastPrint}
 use Rattle.output_pieces.proofs.Cutting.{piece_rest}

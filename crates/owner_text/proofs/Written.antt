@@ -1,19 +1,18 @@
 -- What is written spells its owners.
-use Rattle.std.proofs.Common.{◌≡◌, ℕ, ◌+◌, ◌^◌, ◌<◌, zero, suc, List, [], ◌∷◌, ◌++◌, map, length, Option, Some, None, codes, refl, sym, ap, subst, ◌∙◌, arith, append_assoc, append-nil, get_or, drop}
+use Rattle.std.proofs.Common.{◌≡◌, ℕ, ◌+◌, ◌^◌, ◌<◌, suc, List, [], ◌∷◌, ◌++◌, map, length, Option, Some, None, codes, refl, sym, ap, subst, ◌∙◌, arith, append_assoc, append-nil, get_or, drop}
 use Rattle.std.specs.Prelude.{slice_get, slice_set, All}
-use Rattle.std.proofs.lemmas.Grind.{common_steps}
 use Rattle.std.proofs.lemmas.List.{drop_more}
 use Rattle.std.proofs.lemmas.List.Concat.{flat_map-append}
 use Rattle.std.specs.Fmt.{decimal}
 use lib.ListN.{replicate}
 use Rattle.op_num.specs.Spelling.{number_of}
-use Rattle.texts.specs.Cut.{Word, words, texts, text_of}
+use Rattle.texts.specs.Cut.{Word, words, text_of}
 use Rattle.texts.specs.Lines.{IsToken, line_of, text_of_lines, AreTokens, AreLines, on_line, placed}
 use Rattle.texts.proofs.Words.{number_token}
 use Rattle.mesh_decl.specs.declared.owners.Owners.{Owners}
 use Rattle.mesh_decl.specs.Mesh.{MeshValue, set_count, set_size, set_name}
 use Rattle.mesh_decl.specs.Owners.{AreOwners, owners_in, owner_of}
-use Rattle.partition.specs.Spelling.{Table, Given, AreRanks, IsSet, AreSets, Spells}
+use Rattle.partition.specs.Spelling.{Table, Given, AreRanks, AreSets, Spells}
 use Rattle.owner_text.specs.Written.{Line, set_lines, lines_from, partition_text, HaveNames}
 use Rattle.lemmas.proofs.Lists.{get_or_any}
 

@@ -1,10 +1,9 @@
 -- Closed groups of an item that come next, one behind another: their elements can begin, and the groups are done by them.
-use Rattle.std.proofs.Common.{◌≡◌, ℕ, zero, suc, ◌+◌, ◌<◌, ◌≤◌, refl, sym, ap, subst, ◌∙◌, arith, None, Option, Some, List, [], ◌∷◌, ◌++◌, length, take, get_or, append-nil}
+use Rattle.std.proofs.Common.{◌≡◌, ℕ, zero, suc, ◌+◌, ◌<◌, ◌≤◌, refl, sym, ap, subst, ◌∙◌, arith, None, Option, Some, List, [], ◌∷◌, ◌++◌, length, get_or, append-nil}
 use Rattle.std.proofs.lemmas.List.{take_all}
 use Rattle.std.proofs.lemmas.Bool.{cond_both, cases_lt}
 use Rattle.std.proofs.Common.{⊎_elim}
-use Rattle.schedule_steps.specs.declared.step.Step.{Step}
-use Rattle.schedule_steps.specs.declared.step.Step.TheVariants.{Begin, End}
+use Rattle.schedule_steps.specs.declared.step.Step.TheVariants.{Begin}
 use Rattle.schedule_steps.specs.Outline.{Outline}
 use Rattle.schedule_steps.specs.Steps.{IsStep}
 use Rattle.schedule_steps.specs.Peaks.{open_step, mail_step, count_after}
@@ -18,7 +17,7 @@ use Rattle.flat_machine.specs.Layout.{Layout, by_place, message_cells}
 use Rattle.flat_machine.specs.Flat.{Flat, flat_from}
 use Rattle.closed_groups.specs.Closed.{closed, GroupsAreAlone, RankGroup, all_closed, all_alone, SeveralAreAlone}
 use Rattle.rank_state.specs.Frames.{Pane, Panes, Shut, pane_at}
-use Rattle.rank_state.specs.Groups.{Planned, AllShut, Distinct}
+use Rattle.rank_state.specs.Groups.{Planned, AllShut}
 use Rattle.rank_state.specs.Machine.{State}
 use Rattle.rank_state.specs.Shows.{Tables, Shows}
 use Rattle.rank_program.proofs.AloneRuns.{PairsShow}
@@ -26,7 +25,7 @@ use Rattle.rank_program.specs.FromNone.{OfElement}
 use Rattle.rank_exec.specs.Driving.{Done, ComeReady}
 use Rattle.rank_exec.specs.Rounds.{round, CanBegin}
 use Rattle.rank_exec.proofs.Driving.{count_append, done_none, ready_after, ready_front}
-use Rattle.rank_exec.proofs.Beginning.{BeginsAt, can_both, can_front, can_back, can_alone, can_at}
+use Rattle.rank_exec.proofs.Beginning.{can_both, can_front, can_back, can_alone}
 use Rattle.rank_exec.proofs.AloneRuns.{AreWindowed, can_be_done}
 use Rattle.rank_exec.proofs.Closing.{begins_same, shows_alike, StayShut, closed_ready, closed_done, groups_after, groups_front, open_closed, open_alone, mail_closed, mail_alone}
 

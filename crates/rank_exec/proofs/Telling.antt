@@ -1,5 +1,5 @@
 -- The closed group that a stream tells next.
-use Rattle.std.proofs.Common.{◌≡◌, ℕ, ◌<◌, ◌+◌, refl, sym, ap, ◌∙◌, arith, Option, Some, None, List, [], ◌∷◌, ◌++◌, length}
+use Rattle.std.proofs.Common.{◌≡◌, ℕ, ◌<◌, ◌+◌, sym, ap, ◌∙◌, arith, Option, Some, None, List, [], ◌∷◌, ◌++◌, length}
 use Rattle.std.specs.Prelude.{IfSome, IfNone}
 use Rattle.schedule_steps.specs.declared.step.Step.{Step}
 use Rattle.step_orders.specs.declared.stream.ItemOnRank.{ItemOnRank}

@@ -1,7 +1,5 @@
 -- Marks are those of a plan.
-use Rattle.std.proofs.Common.{ℕ, zero, suc, ◌*◌, ◌≤◌, ◌/◌, refl, arith}
-use Rattle.std.proofs.Math.Nat.{div-zero, div-mul-le_self}
-use Rattle.std.proofs.lemmas.Nat.{le-div}
+use Rattle.std.proofs.Common.{ℕ, ◌*◌, ◌≤◌, ◌/◌, refl, arith}
 use Rattle.schedule_steps.specs.Outline.{Outline}
 use Rattle.schedule_steps.specs.Alike.{AlikeOutlines}
 use Rattle.step_judge.specs.Item.{run_at}

@@ -1,6 +1,6 @@
 -- What `clap` answers is what the words ask for.
 use Rattle.std.specs.declared.alloc.Global.{Global}
-use Rattle.std.proofs.Common.{◌≡◌, ℕ, List, [], map, Option, Some, None, Vec, String, string_bytes, Result, Ok, Err, IfOk, IfErr, codes, true, inl, inr, ⊎_elim, refl, sym, subst}
+use Rattle.std.proofs.Common.{◌≡◌, ℕ, List, [], Option, Some, None, Vec, String, Result, Ok, Err, IfOk, IfErr, codes, true, inl, inr, ⊎_elim, refl, sym, subst}
 use Rattle.clap.specs.Faults.{fault_of, is_simple_and_free}
 use Rattle.clap.specs.Kinds.{HasKind, FailsBy}
 use Rattle.clap.specs.Matches.{found_of, first_value}

@@ -1,9 +1,9 @@
 -- Windows at places.
-use Rattle.std.proofs.Common.{◌≡◌, ◌≢◌, ◌<◌, ◌≤◌, ◌+◌, ◌-◌, ℕ, zero, suc, ℤ, pos, Bool, true, false, cond, ◌⊎◌, inl, inr, ⊎_elim, List, [], ◌∷◌, ◌++◌, map, length, get_or, All, Option, Some, None, refl, sym, ap, subst, ◌∙◌, arith}
+use Rattle.std.proofs.Common.{◌≡◌, ◌≢◌, ◌<◌, ◌≤◌, ◌+◌, ◌-◌, ℕ, zero, suc, ℤ, pos, Bool, true, false, cond, ◌⊎◌, inl, inr, ⊎_elim, List, [], ◌∷◌, ◌++◌, map, length, get_or, Option, Some, refl, sym, ap, subst, ◌∙◌, arith}
 use Rattle.std.specs.Prelude.{slice_index_or, ◌||◌}
 use Rattle.std.specs.List.{flat_map}
 use Rattle.std.proofs.lemmas.Bool.{false≢true, cases_Bool, cond-true, cond-false, or_cases, or_left, or_right}
-use Rattle.std.proofs.lemmas.List.{get_or-map, get_or_past, length-map, length-append, get_or_append_left, get_or-append-add, ext_get_or}
+use Rattle.std.proofs.lemmas.List.{get_or-map, length-map, length-append, get_or_append_left, get_or-append-add, ext_get_or}
 use Rattle.std.proofs.lemmas.List.FromFn.{get_or-map-range_with_len, length-map-range_with_len}
 use Rattle.kernel_types.specs.declared.faults.KernelFault.{KernelFault}
 use Rattle.kernel_types.specs.declared.kernels.RKernel.{RKernel}
@@ -28,7 +28,7 @@ use Rattle.in_place.proofs.Standings.{at, in_first, in_rest, by_span, gathered_l
 use Rattle.in_place.proofs.Standings as standing
 use Rattle.bound_program.specs.declared.sites.Arg.{Arg}
 use Rattle.bound_program.specs.Values.{BoundValue, SiteValue}
-use Rattle.run_model.specs.Windows.{Reached, reached, width, cell_in, cells_in, different, targets, windows, window_cells, without, is_same, numbers}
+use Rattle.run_model.specs.Windows.{Reached, reached, width, cell_in, cells_in, targets, windows, window_cells}
 use Rattle.run_model.specs.Kernels.{kernel_at, constant_values, element_run, run_of}
 use Rattle.run_model.specs.Arguments.{no_arg, arg_at, cell_of, modes_of}
 use Rattle.run_model.specs.Laws.{WindowsAreReached}

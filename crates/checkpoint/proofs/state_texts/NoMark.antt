@@ -1,5 +1,5 @@
 -- No mark stands among lines that fit.
-use Rattle.std.proofs.Common.{◌≡◌, ℕ, ℤ, zero, suc, ◌+◌, ◌<◌, ◌≤◌, refl, sym, ap, ap₂, subst, ◌∙◌, arith, ⊎_elim, List, [], ◌∷◌, ◌++◌, length, length-append, drop, get_or, false, nat_eq, None, Ok}
+use Rattle.std.proofs.Common.{◌≡◌, ℕ, ℤ, zero, suc, ◌+◌, ◌<◌, ◌≤◌, refl, sym, ap, ap₂, subst, ◌∙◌, arith, ⊎_elim, List, [], ◌∷◌, ◌++◌, length, length-append, drop, false, nat_eq, None, Ok}
 use Rattle.std.specs.Prelude.{codes}
 use Rattle.std.specs.Fmt.{decimal}
 use Rattle.std.specs.List.{flat_map}

@@ -1,5 +1,5 @@
 -- A text is read in one way.
-use Rattle.std.proofs.Common.{◌≡◌, ℕ, ℤ, zero, suc, refl, sym, ap, ap₂, subst, ◌∙◌, arith, List, [], ◌∷◌, ◌++◌, append_assoc, length, map, drop, get_or}
+use Rattle.std.proofs.Common.{◌≡◌, ℕ, ℤ, zero, suc, refl, sym, ap, ap₂, subst, ◌∙◌, arith, List, [], ◌∷◌, ◌++◌, append_assoc, length, map}
 use Rattle.bound_program.specs.Values.{BoundValue}
 use Rattle.checkpoint.specs.Reading.{Awaited, Item, Exactly, Values, Done, IsLine, Spell, HasValues, all, LineFits, AllFit, Refuses}
 use Rattle.checkpoint.proofs.state_texts.Words.{row, words_row, spell_one}

@@ -1,10 +1,6 @@
 -- Where the numbers below a key end.
 use Rattle.std.proofs.Common.{◌≡◌, ℕ, ◌<◌, ◌≤◌, ◌∙◌, arith, ⊎_elim, List, length, get_or, subst}
 use Rattle.std.proofs.lemmas.Bool.{cases_lt}
-use Rattle.std.specs.List.{Contains}
-use Rattle.std.specs.List.Sorted.{IsPermutation}
-use Rattle.std.proofs.lemmas.List.{get_or_default}
-use Rattle.std.proofs.lemmas.List.Sorted.{Contains-permutation}
 use Rattle.gmsh_mesh.specs.EqualKeys.{IsPoint, AreClasses}
 
 -- a lower key that stands in the list has a lower point

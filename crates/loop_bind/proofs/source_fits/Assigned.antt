@@ -9,7 +9,7 @@ use Rattle.name_resolution.specs.declared.decls.Sort.TheVariants as sort
 use Rattle.name_resolution.specs.declared.decls.Decl.{Decl}
 use Rattle.name_resolution.specs.First.{breach_if}
 use Rattle.name_resolution.specs.Scopes as names
-use Rattle.name_resolution.specs.Scopes.{Names, scope, decl_in, or_else, means, declared, takes_no_index, needs_index, is_no_value, is_extern, is_counter, is_read_only, use_breaches}
+use Rattle.name_resolution.specs.Scopes.{Names, scope, decl_in, or_else, means, declared, is_no_value, is_extern, is_counter, is_read_only, use_breaches}
 use Rattle.name_resolution.specs.Kernels.{writing, place_breaches, expr_breaches}
 use Rattle.name_resolution.specs.Mains.{place_name as place_name', declr_name, declr_sort, main_decl, with_name, own_after_declrs, own_after_call, with_host_counter, own_after, own_after_all, is_fixed, fixed_after, header_breaches, host_breaches, hosts_breaches}
 use Rattle.name_resolution.specs.Programs.{other_decl, variable_decl, constant_cells, with_variable, after_variables, after_top, after_tops, named_in, file_of, tops_breaches, breaches}

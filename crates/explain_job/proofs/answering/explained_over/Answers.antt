@@ -2,7 +2,7 @@ use Rattle.std.proofs.Common.{◌++◌, ◌∙◌, map, option_map, option_and_t
 use Rattle.held_files.specs.Held.{held as held_by}
 use Rattle.answer_lines.specs.Halts.{answer_of}
 use Rattle.explain_job.specs.ExplainAnswers.{as_source, source_over, said_of}
-use Rattle.explain_job.specs.Named.{named_program, program_by}
+use Rattle.explain_job.specs.Named.{named_program}
 use Rattle.explain_job.specs.Loops.{LoopOf}
 use Rattle.explain_job.proofs.answering.explained_over.Goals as goal
 

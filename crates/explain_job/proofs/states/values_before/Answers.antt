@@ -1,4 +1,4 @@
-use Rattle.std.proofs.Common.{◌∙◌, ap, sym, subst}
+use Rattle.std.proofs.Common.{◌∙◌, subst}
 use Rattle.bound_program.specs.Values.{bound_of}
 use Rattle.error_loops.specs.Faults.{item_in}
 use Rattle.error_loops.specs.Values.{free_loop_in}

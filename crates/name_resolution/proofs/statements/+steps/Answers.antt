@@ -13,8 +13,8 @@ pub inner_step-returns-clause-own : goal.inner_step-returns-clause-own
 inner_step-returns-clause-own t c =
     c.truncate.ensures.entries ∙ rw (c.len-known.ensures.len, c.in_ok-step.ensures.own) (stmt_keeps c.args.walk.now.own.entries c.args.walk.now.next (stmt_of c.args.stmt.now))
 
-pub inner_block-returns-in_ok-steps-clause-own : goal.inner_block-returns-in_ok-steps-clause-own
-inner_block-returns-in_ok-steps-clause-own t c =
+pub inner_block-returns-clause-own : goal.inner_block-returns-clause-own
+inner_block-returns-clause-own t c =
     c.truncate.ensures.entries ∙ rw (c.len-known.ensures.len, c.in_ok-steps.ensures.own) (stmts_keep c.args.walk.now.own.entries c.args.walk.now.next (stmts_of c.args.body.now))
 
 pub step-returns-in-Block-clause-step : goal.step-returns-in-Block-clause-step
@@ -30,7 +30,7 @@ step-returns-in-Block-clause-first t c =
 pub step-returns-in-Block-clause-own : goal.step-returns-in-Block-clause-own
 step-returns-in-Block-clause-own t c =
     let e : stmt_of c.args.stmt.now ≡ tree.Block c.in-Block.at (stmts_of c.in-Block.body.items) = ap stmt_of c.in-Block.is ∙ stmt_block c.in-Block.at c.in-Block.body in
-    rw (e, ← c.deref-in-Block.ensures.value) c.inner_block.ensures.own
+    rw e c.inner_block.ensures.own
 
 pub step-returns-in-Block-clause-next : goal.step-returns-in-Block-clause-next
 step-returns-in-Block-clause-next t c =

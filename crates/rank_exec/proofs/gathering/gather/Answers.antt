@@ -1,11 +1,11 @@
-use Rattle.std.proofs.Common.{◌≡◌, ◌<◌, ◌≤◌, ◌++◌, ◌∷◌, [], List, Some, refl, sym, ap, ap₂, subst, ◌∙◌, arith, length, set, append_assoc}
+use Rattle.std.proofs.Common.{◌≡◌, ◌<◌, ◌≤◌, ◌++◌, ◌∷◌, [], List, refl, sym, ap₂, subst, ◌∙◌, arith, length, set, append_assoc}
 use Rattle.std.proofs.lemmas.List.{length-set}
 use Rattle.rank_machine.specs.OnRanks.{places_on}
 use Rattle.std.specs.Prelude.{IfSome}
 use Rattle.schedule_steps.specs.declared.step.Step.{Step}
 use Rattle.closed_groups.specs.Closed.{closed, RankGroup, all_closed}
 use Rattle.rank_exec.specs.Rounds.{told}
-use Rattle.rank_exec.proofs.GatheredGroups.{Gathered, gathered_none, gathered_more, gathered_later, split_more, some_closed, told_closed, place_is}
+use Rattle.rank_exec.proofs.GatheredGroups.{Gathered, gathered_none, gathered_more, gathered_later, split_more, some_closed, place_is}
 use Rattle.rank_exec.proofs.Telling.{told_is}
 use Rattle.rank_exec.proofs.gathering.gather.Goals as goal
 

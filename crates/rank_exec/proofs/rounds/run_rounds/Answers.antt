@@ -1,4 +1,4 @@
-use Rattle.std.proofs.Common.{◌≡◌, ◌<◌, ◌≤◌, [], ◌++◌, ◌∙◌, List, None, Some, refl, sym, ap, subst, arith, length, append_assoc}
+use Rattle.std.proofs.Common.{◌≡◌, ◌<◌, ◌≤◌, [], ◌++◌, ◌∙◌, List, refl, sym, ap, subst, length, append_assoc}
 use Rattle.std.specs.Prelude.{IfSome}
 use Rattle.schedule_steps.specs.declared.step.Step.{Step}
 use Rattle.flat_machine.specs.Flat.{flat_from}
@@ -8,7 +8,7 @@ use Rattle.rank_exec.specs.Driving.{Done, ComeReady}
 use Rattle.rank_exec.specs.Rounds.{told}
 use Rattle.rank_exec.proofs.Driving.{done_none, done_more, ready_after, ready_front}
 use Rattle.rank_exec.proofs.Closing.{groups_after, groups_front}
-use Rattle.rank_exec.proofs.Telling.{told_is, told_fewer}
+use Rattle.rank_exec.proofs.Telling.{told_is}
 use Rattle.rank_program.specs.Sound.{setup_in, layout_in, tables_in}
 use Rattle.rank_exec.proofs.rounds.run_rounds.Goals as goal
 

@@ -3,9 +3,9 @@ use Rattle.std.specs.Vec.{with_items}
 use Rattle.rank_machine.specs.OnRanks.{places_on}
 use Rattle.rank_exec.proofs.GatheredGroups.{Lists}
 use Rattle.schedule_steps.specs.declared.step.Step.{Step}
-use Rattle.closed_groups.specs.Closed.{closed, all_closed, all_alone, GroupsAreAlone}
+use Rattle.closed_groups.specs.Closed.{closed, all_closed, GroupsAreAlone}
 use Rattle.rank_program.specs.Sound.{setup_in, layout_in, tables_in}
-use Rattle.rank_exec.specs.Driving.{Done, ComeReady}
+use Rattle.rank_exec.specs.Driving.{Done}
 use Rattle.rank_exec.specs.Rounds.{round, told, CanBegin}
 use Rattle.rank_exec.proofs.Driving.{ready_front}
 use Rattle.rank_exec.proofs.Closing.{groups_front}

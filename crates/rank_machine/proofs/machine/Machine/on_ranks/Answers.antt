@@ -1,19 +1,18 @@
-use Rattle.std.proofs.Common.{◌≡◌, ℕ, ℤ, ◌<◌, ◌≤◌, ◌∙◌, ap, ap₂, sym, subst, length, map, arith, List, All, Option, Vec, Global}
+use Rattle.std.proofs.Common.{◌≡◌, ℕ, ℤ, ◌<◌, ◌≤◌, ◌∙◌, ap, ap₂, sym, subst, length, map, List, All, Option}
 use Rattle.std.specs.Vec.{with_items}
 use Rattle.std.proofs.lemmas.List.{length-map}
 use Rattle.kernel_types.specs.declared.faults.KernelFault.{KernelFault}
 use Rattle.par_exec.specs.Parts.{TakesEach, MadeEach}
 use Rattle.schedule_model.specs.Sequential.{Stop}
-use Rattle.rank_state.specs.Indices.{values_at}
 use Rattle.rank_state.specs.Machine.{State}
 use Rattle.rank_state.specs.Spare.{HasSpare}
 use Rattle.rank_state.specs.Stops.{stop_in}
 use Rattle.rank_state.proofs.rank_memory.Views.{lists}
 use Rattle.rank_program.specs.AloneRuns.{Share}
 use Rattle.rank_program.specs.Rooms.{HasRoomOf}
-use Rattle.rank_program.specs.Sound.{setup_in, layout_in, tables_in}
+use Rattle.rank_program.specs.Sound.{tables_in}
 use Rattle.rank_machine.specs.declared.ranks.RankPart.{RankPart}
-use Rattle.rank_machine.specs.OnRanks.{share_in, lent, CanRunOn, RanOn, RanOnRanks, RanLent, share_at, places_on, kept_of_all, with_shares}
+use Rattle.rank_machine.specs.OnRanks.{share_in, lent, CanRunOn, RanOn, with_shares}
 use Rattle.rank_machine.proofs.OnRanks.{can_all, ran_all, made_many, spare_all, space_all, same_rows, same_partials}
 use Rattle.rank_machine.proofs.machine.Machine.on_ranks.Goals as goal
 use Rattle.lemmas.proofs.Lists.{refilled}

@@ -2,7 +2,7 @@ use Rattle.std.proofs.Common.{◌≡◌, ℕ, ℤ, List, length, sym, ap, subst,
 use Rattle.rank_state.specs.Stops.{stop_in}
 use Rattle.rank_program.specs.AloneRuns.{AllBegin, Reaches}
 use Rattle.rank_program.specs.Sound.{setup_in, layout_in, tables_in}
-use Rattle.rank_machine.specs.OnRanks.{places_on, share_in}
+use Rattle.rank_machine.specs.OnRanks.{places_on}
 use Rattle.rank_machine.proofs.OnRanks.{place_is}
 use Rattle.rank_machine.proofs.ranks.RoundPartJobRankPart.run.Goals as goal
 use Rattle.lemmas.proofs.Lists.{refilled}
