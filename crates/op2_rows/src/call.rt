@@ -1,4 +1,4 @@
-// A call of `op2` over files in memory.
+// A call of `op2`, or of `op2-tools`, over files in memory.
 
 use op_outside::{MemoryShelf, MemorySink};
 use op2_command::op2;
@@ -6,6 +6,7 @@ use row_tables::{File, Row};
 use std::alloc::{AllocError, Global};
 use std::marker::Sync;
 use std::thread::Threads;
+use tool_command::tools;
 
 // How many bytes there is room for where a row doesn't say it.
 const ROOM: u64 = 1 << 20;
@@ -29,7 +30,8 @@ fn listed(alloc: Global, number: Option<u64>) -> Result<Vec<u64>, AllocError> {
 // The words of a call, the program's name first.
 fn words_of(alloc: Global, row: &Row) -> Result<Vec<String>, AllocError> {
     let mut words = Vec::new(alloc);
-    words.push(String::from_str(alloc, "op2")?)?;
+    let program = if row.tools { "op2-tools" } else { "op2" };
+    words.push(String::from_str(alloc, program)?)?;
     for word in &row.words {
         words.push(word.clone()?)?;
     }
@@ -56,7 +58,11 @@ pub fn called<R: Threads + Sync>(
     let mut out = MemorySink::new(alloc, room, listed(alloc, row.write_fails)?)?;
     let mut err = MemorySink::new(alloc, ROOM as usize, listed(alloc, row.report_fails)?)?;
     let words = words_of(alloc, row)?;
-    let status = op2(rt, alloc, &words, &mut shelf, &mut out, &mut err);
+    let status = if row.tools {
+        tools(rt, alloc, &words, &mut shelf, &mut out, &mut err)
+    } else {
+        op2(rt, alloc, &words, &mut shelf, &mut out, &mut err)
+    };
     Ok(Ended { status, out, err })
 }
 

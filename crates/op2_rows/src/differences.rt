@@ -6,20 +6,30 @@ use std::alloc::{AllocError, Global};
 use std::marker::Sync;
 use std::thread::Threads;
 
+// What is told of an output.
+#[derive(Clone, Copy)]
+enum Output<'a> {
+    // All of it.
+    Is(&'a str),
+    // A text that stands in it.
+    Has(&'a str),
+}
+
 // How a call must end: its status, its output, and what it writes to the error stream.
 #[derive(Drop)]
 struct Wanted<'a> {
     status: u8,
-    out: &'a str,
+    out: Output<'a>,
     err: String,
 }
 
 // How a row says that its call ends.
 fn wanted_of<'a>(alloc: Global, table: &'a Table, row: &'a Row) -> Result<Wanted<'a>, RowFault> {
-    let out = match (&row.out, &row.out_text) {
-        (Some(out), _) => out.as_str(),
-        (None, Some(name)) => text_of(alloc, table, name.as_str())?,
-        (None, None) => "",
+    let out = match (&row.out, &row.out_text, &row.has) {
+        (Some(out), _, _) => Output::Is(out.as_str()),
+        (None, Some(name), _) => Output::Is(text_of(alloc, table, name.as_str())?),
+        (None, None, Some(part)) => Output::Has(part.as_str()),
+        (None, None, None) => Output::Is(""),
     };
     let err = match &row.err {
         Some(line) => format!(in alloc; "{line}\n")?,
@@ -48,6 +58,26 @@ fn put_unlike(
     lines.push_str(line.as_str())
 }
 
+// Adds a line where the output isn't as wanted.
+fn put_output(
+    lines: &mut String,
+    alloc: Global,
+    got: &[u8],
+    wanted: Output<'_>,
+) -> Result<(), AllocError> {
+    match wanted {
+        Output::Is(text) => put_unlike(lines, alloc, "output", got, text),
+        Output::Has(part) => {
+            let got = String::from_utf8_lossy(alloc, got)?;
+            if got.split_once(part).is_some() {
+                return Ok(());
+            }
+            let line = format!(in alloc; "  output {got:?}, wanted in it {part:?}\n")?;
+            lines.push_str(line.as_str())
+        }
+    }
+}
+
 // Adds a line for each part of an end that isn't the one wanted.
 fn put_differences(
     lines: &mut String,
@@ -59,7 +89,7 @@ fn put_differences(
         let (got, wanted) = (ended.status, wanted.status);
         lines.push_str(format!(in alloc; "  status {got}, wanted {wanted}\n")?.as_str())?;
     }
-    put_unlike(lines, alloc, "output", ended.out.bytes(), wanted.out)?;
+    put_output(lines, alloc, ended.out.bytes(), wanted.out)?;
     put_unlike(lines, alloc, "line", ended.err.bytes(), wanted.err.as_str())
 }
 

@@ -13,12 +13,15 @@ pub struct Table {
     pub row: Vec<Row>,
 }
 
-/// A row: a call of `op2` over files in memory, and how it ends.
+/// A row: a call of `op2`, or of `op2-tools`, over files in memory, and how it ends.
 #[derive(Drop, Deserialize)]
 #[serde(deny_unknown_fields)]
 pub struct Row {
     /// What the row shows.
     pub name: String,
+    /// Whether `op2-tools` is called.
+    #[serde(default)]
+    pub tools: bool,
     /// The words behind the program's name.
     pub words: Vec<String>,
     /// The files that are texts: the name of each, with the name of its text.
@@ -40,6 +43,8 @@ pub struct Row {
     pub out: Option<String>,
     /// The name of the text that it writes to the output.
     pub out_text: Option<String>,
+    /// A text that stands somewhere in what it writes to the output, of which nothing else is told.
+    pub has: Option<String>,
     /// The line that it writes to the error stream, without its end; nothing is written there where none is given.
     pub err: Option<String>,
     /// The number of the read that fails, from 0.

@@ -1,4 +1,4 @@
-use Rattle.std.proofs.Common.{sym, subst, ◌∙◌, length, slice_get}
+use Rattle.std.proofs.Common.{refl, sym, subst, ◌∙◌, length, slice_get}
 use Rattle.std.proofs.lemmas.List.{length-map}
 use Rattle.std.proofs.lemmas.Result.{err_from_is_err_and}
 use Rattle.c_reader.specs.Descent.{Gives}
@@ -36,8 +36,8 @@ pub read_if-returns-in_ok-otherwise : goal.read_if-returns-in_ok-otherwise
 read_if-returns-in_ok-otherwise t c =
     (if_two (kinds c.args.tokens.now) c.args.depth (stmt_at (kinds c.args.tokens.now) c.args.depth) c.args.at _ _ _ _ _ _ c.in_ok-condition.ensures c.in_ok-then.ensures (sym c.is_word.ensures.is ∙ c.if-is_word.true) c.in_ok-otherwise.ensures)
 
-pub read_block-returns-in_ok-next-2 : goal.read_block-returns-in_ok-next-2
-read_block-returns-in_ok-next-2 t c =
+pub read_block-returns : goal.read_block-returns
+read_block-returns t c =
     rw (block_view c.args.at c.in_ok-body.body) (block_led (kinds c.args.tokens.now) c.args.depth (stmt_at (kinds c.args.tokens.now) c.args.depth) _ c.args.at _ _ _ _ refl c.in_ok-next.ensures c.in_ok-body.ensures c.in_ok-next-2.ensures)
 
 pub read_stmt-returns : goal.read_stmt-returns
