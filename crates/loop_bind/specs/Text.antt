@@ -3,9 +3,8 @@ use Rattle.std.specs.Prelude.{ℕ, pos, true, false, not, List, length, map, Opt
 use Rattle.c_lex.specs.declared.tokens.Pos.{Pos}
 use Rattle.c_tree.specs.declared.expressions.Ident.{Ident}
 use Rattle.c_tree.specs.declared.expressions.TextLiteral.{TextLiteral}
-use Rattle.c_tree.specs.declared.hosts.LoopArg.{LoopArg}
 use Rattle.c_tree.specs.Tree as tree
-use Rattle.c_tree.specs.Tree.{ExprTree, PlaceTree, AssignmentTree, OpCallTree, HostTree, HostTrees, HostForHeaderTree}
+use Rattle.c_tree.specs.Tree.{ExprTree, PlaceTree, AssignmentTree, TopTree, OpCallTree, HostTree, HostTrees, HostForHeaderTree}
 use Rattle.kernel_types.specs.declared.kernels.ConstDecl.{ConstDecl}
 use Rattle.mesh_decl.specs.Spelling.{Named}
 use Rattle.mesh_decl.specs.Printed.{conversions}
@@ -76,17 +75,6 @@ module _ (places : List Pos) (consts : List ConstDecl) (entries : List Named) wh
   abbrev pub judged_print : Walked → Ident → List ℕ → Option ℕ → Judged Walked
   judged_print a x file d = unless_found (found_if places (is_none d) x.at refusal.UnknownDat) (does (Do (Print (or_zero d) file)) a)
 
-  -- `op_printf("..", ..);`, its word at the token t
-  abbrev pub called_line : Walked → ℕ → TextLiteral → List ExprTree → Judged Walked
-  called_line a t l es =
-      unless_found (line_found t l (length es) (conversions l.text))
-      (does (Do (Line l.text (map (resolved places a.declared.names) es))) a)
-
-  -- `op_par_loop(f, "..", on, args ..);`, its word at the token t
-  abbrev pub called_loop : Walked → ℕ → Ident → Ident → List LoopArg → Judged Walked
-  called_loop a t f on args =
-      judged_loop places entries a.declared t f on args >>= λ k. Ok (does (Loop (length a.declared.sites)) (behind a k))
-
   -- what follows a declaration, unless it was refused
   abbrev pub declares : Walked → Judged Declared → Judged Walked
   declares a r = r >>= λ k. Ok (behind a k)
@@ -98,8 +86,11 @@ module _ (places : List Pos) (consts : List ConstDecl) (entries : List Named) wh
   judged_call a w (tree.DeclMap at x from to n v l) = declares a (judged_map places entries a.declared w.is_nested at x from to n v)
   judged_call a w (tree.DeclDat at x on n u v l) = declares a (judged_dat places entries a.declared w.is_nested at x on n u v)
   judged_call a w (tree.DeclConst at n u g) = declares a (judged_constant places consts a.declared w.is_nested at n u g)
-  judged_call a w (tree.ParLoop at f l on args) = called_loop a at f on args
-  judged_call a w (tree.Printf at l es) = called_line a at l es
+  judged_call a w (tree.ParLoop at f l on args) =
+      judged_loop places entries a.declared at f on args >>= λ k. Ok (does (Loop (length a.declared.sites)) (behind a k))
+  judged_call a w (tree.Printf at l es) =
+      unless_found (line_found at l (length es) (conversions l.text))
+      (does (Do (Line l.text (map (resolved places a.declared.names) es))) a)
   judged_call a w (tree.PrintDat at x l) = judged_print a x l.text (dat_of (means a.declared.names x.name))
 
   -- ---- statements

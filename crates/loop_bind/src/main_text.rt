@@ -1,7 +1,6 @@
 //! The statements of `main`, judged in the order of the text: loops with their arguments, prints, assignments and control.
 mod accesses;
 mod arguments;
-mod calls;
 mod globals;
 mod loops;
 mod prints;

@@ -12,7 +12,7 @@ use Rattle.cell_numbers.specs.Shown.{AreNumbers, IsThere, IsNotThere}
 use Rattle.mesh_draw.specs.declared.shapes.shape.Shape.{Shape}
 use Rattle.mesh_draw.specs.Shapes.{IsShape, IsUnshaped}
 use Rattle.mesh_draw.specs.Picture.{IsPicture}
-use Rattle.mesh_draw.specs.declared.vtk.field.Field.{Field}
+use Rattle.mesh_draw.specs.declared.vtk_texts.field.Field.{Field}
 use Rattle.mesh_draw.specs.Text.{Data, whole_text}
 use Rattle.mesh_draw.specs.declared.fields.refusals.FieldRefusal.{FieldRefusal}
 use Rattle.mesh_draw.specs.declared.fields.refusals.FieldRefusal.TheVariants as unread

@@ -2,7 +2,7 @@
 use Rattle.std.specs.Prelude.{◌≡◌, ◌≢◌, ℕ, zero, suc, ◌+◌, ◌<◌, ◌⊎◌, List, [], ◌∷◌, ◌++◌, Option, Some, None}
 use Rattle.mesh_decl.specs.Mesh.{dat_count, dat_set, dat_dim, dat_name}
 use Rattle.bound_program.specs.Values.{BoundValue}
-use Rattle.mesh_draw.specs.declared.vtk.field.Field.{Field}
+use Rattle.mesh_draw.specs.declared.vtk_texts.field.Field.{Field}
 use Rattle.output_pieces.specs.Last.{AreLastRows, IsUnprinted, LacksLastHeader, LacksLastRows}
 use Rattle.mesh_draw.specs.declared.fields.refusals.FieldRefusal.{FieldRefusal}
 use Rattle.mesh_draw.specs.declared.fields.refusals.FieldRefusal.TheVariants as refusal

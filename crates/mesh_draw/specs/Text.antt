@@ -9,7 +9,7 @@ use Rattle.mesh_draw.specs.declared.shapes.shape.CellKind.{CellKind}
 use Rattle.mesh_draw.specs.declared.shapes.shape.CellKind.TheVariants as kind
 use Rattle.mesh_draw.specs.declared.shapes.shape.Shape.{Shape}
 use Rattle.mesh_draw.specs.Shapes.{kind_of}
-use Rattle.mesh_draw.specs.declared.vtk.field.Field.{Field}
+use Rattle.mesh_draw.specs.declared.vtk_texts.field.Field.{Field}
 
 -- numbers, each behind a space
 abbrev pub spaced : List ℕ → List ℕ

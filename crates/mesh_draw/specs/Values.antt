@@ -1,5 +1,5 @@
 -- The data of a grid in the code, as `Text` defines it.
-use Rattle.mesh_draw.specs.declared.vtk.text.GridData.{GridData}
+use Rattle.mesh_draw.specs.declared.vtk_texts.text.GridData.{GridData}
 use Rattle.mesh_draw.specs.Text.{Data}
 
 -- the data of a grid as lists alone

@@ -10,7 +10,7 @@ ghost use Rattle.mesh_draw.specs.Drawn.{array_name, AreRunFields, AreUntold, IsG
 use crate::fields::fields_of;
 use crate::shapes::shape_of;
 use crate::types::DrawRefusal;
-use crate::vtk::{Field, GridData, vtk_text};
+use crate::vtk_texts::{Field, GridData, vtk_text};
 use bound_program::Bound;
 use cell_numbers::{Shown, numbers_of, put_shown};
 use distribute::Distribution;

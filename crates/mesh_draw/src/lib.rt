@@ -12,7 +12,7 @@ mod labels;
 pub mod picture;
 pub mod shapes;
 mod types;
-pub mod vtk;
+pub mod vtk_texts;
 
 pub use crate::shapes::ShapeRefusal;
 pub use cell_numbers::{Shown, ShownRefusal};

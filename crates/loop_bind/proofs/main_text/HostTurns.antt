@@ -20,7 +20,7 @@ use Rattle.bound_program.specs.Refusals.{◌>>=◌, unless, unless_found, first_
 use Rattle.main_declarations.specs.Names.{Scope, closed}
 use Rattle.bound_program.specs.Steps.{Do, Block, Steps, followed, one_step}
 use Rattle.main_declarations.specs.SoFar.{Walked, does}
-use Rattle.loop_bind.specs.Text.{nested, opened, ended, line_found, called_line, judged_host, judged_hosts}
+use Rattle.loop_bind.specs.Text.{nested, opened, ended, line_found, judged_call, judged_host, judged_hosts}
 
 -- ---- calls
 
@@ -35,14 +35,14 @@ unless_done f None x r h = cc
 unless_done f (Some g) x r h = cc
 
 module _ (places : List Pos) (consts : List ConstDecl) (entries : List Named) where
-  module _ (a : Walked) (t : ℕ) (l : TextLiteral) (es : List Expr) where
+  module _ (a : Walked) (w : Spot) (t : ℕ) (l : TextLiteral) (es : List Expr) where
     -- `op_printf` is refused
-    pub line_stops : (e : BindRefusal) (x : ActValue) (b : Walked) → JudgesBy {X = Act} act_of (Err e) (unless_found (line_found places consts entries t l (length es) (conversions l.text)) x) → Judges {X = Unit {0}} (Err e) b (called_line places consts entries a t l (map expr_of es))
+    pub line_stops : (e : BindRefusal) (x : ActValue) (b : Walked) → JudgesBy {X = Act} act_of (Err e) (unless_found (line_found places consts entries t l (length es) (conversions l.text)) x) → Judges {X = Unit {0}} (Err e) b (judged_call places consts entries a w (tree.Printf t l (map expr_of es)))
     line_stops e x b (inl h) = inl h
     line_stops e x b (inr h) = inr (rw (length-map es expr_of) (unless_refused (first_of (line_found places consts entries t l (length es) (conversions l.text))) x _ e h))
 
     -- `op_printf` does this
-    pub line_done : (r : ActValue) → unless_found (line_found places consts entries t l (length es) (conversions l.text)) (Line l.text (map (resolved places a.declared.names) (map expr_of es))) ≡ Ok r → called_line places consts entries a t l (map expr_of es) ≡ Ok (does (Do r) a)
+    pub line_done : (r : ActValue) → unless_found (line_found places consts entries t l (length es) (conversions l.text)) (Line l.text (map (resolved places a.declared.names) (map expr_of es))) ≡ Ok r → judged_call places consts entries a w (tree.Printf t l (map expr_of es)) ≡ Ok (does (Do r) a)
     line_done r h = rw (length-map es expr_of) (unless_done (λ x. does (Do x) a) (first_of (line_found places consts entries t l (length es) (conversions l.text))) (Line l.text (map (resolved places a.declared.names) (map expr_of es))) r h)
 
   -- ---- blocks

@@ -1,27 +1,34 @@
 // The statements of `main`, judged in the order of the text.
 
-ghost use Rattle.std.specs.Prelude.{ℕ, ◌≡◌, option_map, IfOk, OnOk};
-ghost use Rattle.c_tree.specs.Tree as tree;
-ghost use Rattle.c_tree.specs.View.{expr_of, place_of, assignment_of, host_for_header_of, host_of, hosts_of};
+ghost use Rattle.std.specs.Prelude.{◌≡◌, length, map, option_map, is_none, IfOk, OnOk};
+ghost use Rattle.c_tree.specs.View.{expr_of, place_of, assignment_of, call_of, host_of, hosts_of};
 ghost use Rattle.kernel_types.specs.View.{rexpr_of};
-ghost use Rattle.bound_program.specs.Values.{act_of};
-ghost use Rattle.bound_program.specs.Refusals.{Judges};
+ghost use Rattle.mesh_decl.specs.Printed.{conversions};
+ghost use Rattle.bound_program.specs.Values.{act_of, Line, Print};
+ghost use Rattle.main_declarations.specs.Names.{means};
+ghost use Rattle.bound_program.specs.Refusals.{unless_found, found_if, Judges, JudgesBy};
+ghost use Rattle.main_declarations.specs.Meanings.{dat_of, or_zero};
+ghost use Rattle.main_declarations.specs.Expressions.{resolved};
 ghost use Rattle.bound_program.specs.Steps.{Block, Choose, Repeat};
-ghost use Rattle.loop_bind.specs.Text.{target_name, target_index, assignment, nested, judged_host, judged_hosts};
+ghost use Rattle.loop_bind.specs.Text.{target_name, target_index, assignment, line_found, nested, judged_call, judged_host, judged_hosts};
 ghost use Rattle.bound_program.specs.Unrolling.{asked_of, step_of, steps_of};
 ghost use Rattle.main_declarations.specs.KnownSets.{SetsKnown};
-ghost use Rattle.main_declarations.specs.declared.names.walks.Spot.{Spot as SpotValue};
 ghost use Rattle.main_declarations.specs.Walks.{declared_of, walked};
 
-use crate::main_text::calls::judged_call;
+use crate::main_text::loops::{judged_loop, next_site};
+use crate::main_text::prints::conversions;
 use crate::main_text::turns::with_counter;
 use bound_program::Act;
 use bound_program::refusals::{BindRefusal, place};
 use bound_program::trace::{Asked, Step};
-use c_tree::{Assignment, Expr, Host, HostForHeader, Ident, Place};
+use c_tree::{Assignment, Expr, Host, Ident, OpCall, Place, TextLiteral};
 use kernel_types::RExpr;
-use main_declarations::names::{Declared, Source, Spot, cells_of, judged_static, resolved};
-use main_declarations::{add_act, add_step, judged_declrs};
+use main_declarations::names::{
+    Declared, Source, Spot, cells_of, dat_of, judged_static, or_zero, resolved,
+};
+use main_declarations::{
+    add_act, add_step, judged_constant, judged_dat, judged_declrs, judged_map, judged_set,
+};
 use op_num::OutOfMemory;
 use std::alloc::Global;
 
@@ -76,6 +83,18 @@ fn assignment(source: &Source<'_>, k: &Declared, a: &Assignment) -> Result<Act, 
     })
 }
 
+// The values of an `op_printf`.
+fn resolved_all(source: &Source<'_>, k: &Declared, all: &[Expr]) -> Result<Vec<RExpr>, OutOfMemory>
+    ensures { IfOk result (λ r. map rexpr_of r.items ≡
+        map (resolved source.now.places.now (declared_of k.now).names) (map expr_of all.now)) }
+{
+    let mut values = Vec::new(source.alloc);
+    for e in all {
+        values.push(resolved(source.alloc, source.places, &k.names, e)?)?;
+    }
+    Ok(values)
+}
+
 fn choose(
     alloc: Global,
     test: Asked,
@@ -98,6 +117,151 @@ fn repeat(alloc: Global, from: Asked, to: Asked, inner: Vec<Step>) -> Result<Ste
 {
     let body = Box::new(alloc, Step::block(inner))?;
     Ok(Step::Repeat { from, to, body })
+}
+
+// The line that `op_printf` prints.
+fn line(
+    source: &Source<'_>,
+    k: &Declared,
+    l: &TextLiteral,
+    values: &[Expr],
+) -> Result<Act, OutOfMemory>
+    ensures { IfOk result (λ r. act_of r ≡ Line l.now.text
+        (map (resolved source.now.places.now (declared_of k.now).names) (map expr_of values.now))) }
+{
+    let values = resolved_all(source, k, values)?;
+    let text = l.text.clone()?;
+    Ok(Act::Line { text, values })
+}
+
+// `op_printf("..", ..);`, its word at the token t.
+fn judged_line(
+    source: &Source<'_>,
+    k: &Declared,
+    t: usize,
+    l: &TextLiteral,
+    values: &[Expr],
+) -> Result<Act, BindRefusal>
+    ensures { JudgesBy act_of result (unless_found
+        (line_found source.now.places.now source.now.consts.now source.now.entries.now.entries
+        t l.now (length values.now) (conversions l.now.text))
+        (Line l.now.text (map (resolved source.now.places.now (declared_of k.now).names) (map expr_of values.now)))) }
+{
+    match conversions(l.text.bytes()) {
+        None => Err(BindRefusal::TypeMismatch {
+            at: place(source.places, l.at),
+        }),
+        Some(count) => {
+            if count != values.len() {
+                return Err(BindRefusal::ArgCount {
+                    at: place(source.places, t),
+                });
+            }
+            let line = line(source, k, l, values)?;
+            Ok(line)
+        }
+    }
+}
+
+// `op_print_dat_to_txtfile(x, "..");`
+fn judged_print(
+    source: &Source<'_>,
+    k: &Declared,
+    x: &Ident,
+    file: &TextLiteral,
+) -> Result<Act, BindRefusal>
+    ensures { JudgesBy act_of result (unless_found
+        (found_if source.now.places.now (is_none (dat_of (means (declared_of k.now).names x.now.name)))
+        x.now.at (λ at. BindRefusal.UnknownDat at))
+        (Print (or_zero (dat_of (means (declared_of k.now).names x.now.name))) file.now.text)) }
+{
+    let dat = dat_of(k.names.means(&x.name));
+    if dat.is_none() {
+        return Err(BindRefusal::UnknownDat {
+            at: place(source.places, x.at),
+        });
+    }
+    Ok(Act::Print {
+        dat: or_zero(dat),
+        file: file.text.clone()?,
+    })
+}
+
+// A call of the library.
+fn judged_call(
+    source: &Source<'_>,
+    k: &mut Declared,
+    steps: &mut Vec<Step>,
+    spot: Spot,
+    call: &OpCall,
+) -> Result<(), BindRefusal>
+    requires { SetsKnown (declared_of k.old) }
+    ensures { Judges result (walked k.new steps.new.items)
+        (judged_call source.now.places.now source.now.consts.now source.now.entries.now.entries
+        (walked k.old steps.old.items) spot (call_of call.now)) }
+{
+    match call {
+        OpCall::Init { .. } => Ok(()),
+        OpCall::DeclSet { at, name, size, .. } => {
+            judged_set(source, k, spot.is_nested, *at, name, size)
+        }
+        OpCall::DeclMap {
+            at,
+            name,
+            from,
+            to,
+            dim,
+            values,
+            ..
+        } => judged_map(source, k, spot.is_nested, *at, name, from, to, *dim, values),
+        OpCall::DeclDat {
+            at,
+            name,
+            set,
+            dim,
+            type_text,
+            values,
+            ..
+        } => judged_dat(
+            source,
+            k,
+            spot.is_nested,
+            *at,
+            name,
+            set,
+            *dim,
+            type_text,
+            values,
+        ),
+        OpCall::DeclConst {
+            at,
+            dim,
+            type_text,
+            variable,
+        } => judged_constant(source, k, spot.is_nested, *at, *dim, type_text, variable),
+        OpCall::ParLoop {
+            at,
+            kernel,
+            set,
+            args,
+            ..
+        } => {
+            let number = next_site(k)?;
+            judged_loop(source, k, *at, kernel, set, args)?;
+            add_step(steps, Step::Loop(number))?;
+            Ok(())
+        }
+        OpCall::Printf { at, text, values } => {
+            let act = judged_line(source, k, *at, text, values)?;
+            add_act(source.alloc, steps, act)?;
+            Ok(())
+        }
+        OpCall::PrintDat { dat, file, .. } => {
+            let act = judged_print(source, k, dat, file)?;
+            add_act(source.alloc, steps, act)?;
+            Ok(())
+        }
+    }
 }
 
 // Where the statements of a block or `if` stand.
@@ -130,6 +294,7 @@ fn judged_part(
 
 /// A statement of `main`.
 #[cycle(judged_hosts)]
+#[tactic(auto, using(crate::proofs::main_text::WalkTurns::host_block))]
 fn judged_host(
     source: &Source<'_>,
     host: &Host,
@@ -144,7 +309,15 @@ fn judged_host(
 {
     match host {
         Host::Declaration(v) => judged_declrs(source, k, steps, spot, v.is_const, &v.declrs),
-        Host::Block { body, .. } => judged_block(source, body, k, steps, spot),
+        Host::Block { body, .. } => {
+            let known = k.names.own.len();
+            let told = k.names.told;
+            let mut inner = Vec::new(source.alloc);
+            judged_hosts(source, body, k, &mut inner, nested(spot))?;
+            k.names.cut(known, told);
+            add_step(steps, Step::block(inner))?;
+            Ok(())
+        }
         Host::Empty(_) => Ok(()),
         Host::Assign(a) => {
             let act = assignment(source, k, a)?;
@@ -155,117 +328,48 @@ fn judged_host(
             condition,
             then,
             ..
-        } => judged_if(source, condition, then, k, steps, spot),
+        } => {
+            let test = judged_static(source.alloc, source.places, &k.names, condition)?;
+            let mut inner = Vec::new(source.alloc);
+            judged_host(source, then, k, &mut inner, nested(spot))?;
+            add_step(
+                steps,
+                choose(source.alloc, test, inner, Vec::new(source.alloc))?,
+            )?;
+            Ok(())
+        }
         Host::IfElse {
             condition,
             then,
             otherwise,
             ..
-        } => judged_choice(source, condition, then, otherwise, k, steps, spot),
-        Host::For { header, body } => judged_for(source, header, body, k, steps),
+        } => {
+            let test = judged_static(source.alloc, source.places, &k.names, condition)?;
+            let mut inner = Vec::new(source.alloc);
+            judged_part(source, then, k, &mut inner, nested(spot))?;
+            let mut other = Vec::new(source.alloc);
+            judged_host(source, otherwise, k, &mut other, nested(spot))?;
+            add_step(steps, choose(source.alloc, test, inner, other)?)?;
+            Ok(())
+        }
+        Host::For { header, body } => {
+            let known = k.names.own.len();
+            let told = k.names.told;
+            let from = judged_static(source.alloc, source.places, &k.names, &header.from)?;
+            with_counter(source, k, &header.name)?;
+            let to = judged_static(source.alloc, source.places, &k.names, &header.to)?;
+            let mut inner = Vec::new(source.alloc);
+            let turning = Spot {
+                is_nested: true,
+                in_for: true,
+            };
+            judged_host(source, body, k, &mut inner, turning)?;
+            k.names.cut(known, told);
+            add_step(steps, repeat(source.alloc, from, to, inner)?)?;
+            Ok(())
+        }
         Host::Call(call) => judged_call(source, k, steps, spot, call),
     }
-}
-
-// A block of `main`, wherever it begins.
-#[cycle(judged_hosts)]
-fn judged_block(
-    source: &Source<'_>,
-    body: &[Host],
-    k: &mut Declared,
-    steps: &mut Vec<Step>,
-    spot: Spot,
-) -> Result<(), BindRefusal>
-    requires { SetsKnown (declared_of k.old) }
-    ensures { (at : ℕ) → Judges result (walked k.new steps.new.items)
-        (judged_host source.now.places.now source.now.consts.now source.now.entries.now.entries
-        (walked k.old steps.old.items) spot (tree.HostBlock at (hosts_of body.now))) }
-{
-    let known = k.names.own.len();
-    let told = k.names.told;
-    let mut inner = Vec::new(source.alloc);
-    judged_hosts(source, body, k, &mut inner, nested(spot))?;
-    k.names.cut(known, told);
-    add_step(steps, Step::block(inner))?;
-    Ok(())
-}
-
-// An `if` without `else`.
-#[cycle(judged_hosts)]
-fn judged_if(
-    source: &Source<'_>,
-    condition: &Expr,
-    then: &Host,
-    k: &mut Declared,
-    steps: &mut Vec<Step>,
-    spot: Spot,
-) -> Result<(), BindRefusal>
-    requires { SetsKnown (declared_of k.old) }
-    ensures { (at : ℕ) → Judges result (walked k.new steps.new.items)
-        (judged_host source.now.places.now source.now.consts.now source.now.entries.now.entries
-        (walked k.old steps.old.items) spot (tree.HostIf at (expr_of condition.now) (host_of then.now))) }
-{
-    let test = judged_static(source.alloc, source.places, &k.names, condition)?;
-    let mut inner = Vec::new(source.alloc);
-    judged_host(source, then, k, &mut inner, nested(spot))?;
-    let none = Vec::new(source.alloc);
-    add_step(steps, choose(source.alloc, test, inner, none)?)?;
-    Ok(())
-}
-
-// An `if` with its `else`.
-#[cycle(judged_hosts)]
-fn judged_choice(
-    source: &Source<'_>,
-    condition: &Expr,
-    then: &Host,
-    otherwise: &Host,
-    k: &mut Declared,
-    steps: &mut Vec<Step>,
-    spot: Spot,
-) -> Result<(), BindRefusal>
-    requires { SetsKnown (declared_of k.old) }
-    ensures { (at : ℕ) → Judges result (walked k.new steps.new.items)
-        (judged_host source.now.places.now source.now.consts.now source.now.entries.now.entries
-        (walked k.old steps.old.items) spot (tree.HostIfElse at (expr_of condition.now) (host_of then.now) (host_of otherwise.now))) }
-{
-    let test = judged_static(source.alloc, source.places, &k.names, condition)?;
-    let mut inner = Vec::new(source.alloc);
-    judged_part(source, then, k, &mut inner, nested(spot))?;
-    let mut other = Vec::new(source.alloc);
-    judged_host(source, otherwise, k, &mut other, nested(spot))?;
-    add_step(steps, choose(source.alloc, test, inner, other)?)?;
-    Ok(())
-}
-
-// A `for`.
-#[cycle(judged_hosts)]
-fn judged_for(
-    source: &Source<'_>,
-    header: &HostForHeader,
-    body: &Host,
-    k: &mut Declared,
-    steps: &mut Vec<Step>,
-) -> Result<(), BindRefusal>
-    requires { SetsKnown (declared_of k.old) }
-    ensures { (w : SpotValue) → Judges result (walked k.new steps.new.items)
-        (judged_host source.now.places.now source.now.consts.now source.now.entries.now.entries
-        (walked k.old steps.old.items) w (tree.HostFor (host_for_header_of header.now) (host_of body.now))) }
-{
-    let known = k.names.own.len();
-    let told = k.names.told;
-    let from = judged_static(source.alloc, source.places, &k.names, &header.from)?;
-    with_counter(source, k, &header.name)?;
-    let to = judged_static(source.alloc, source.places, &k.names, &header.to)?;
-    let mut inner = Vec::new(source.alloc);
-    let turning = Spot {
-        is_nested: true,
-        in_for: true,
-    };
-    judged_host(source, body, k, &mut inner, turning)?;
-    k.names.cut(known, told);
-    add_step(steps, repeat(source.alloc, from, to, inner)?)?;
-    Ok(())
 }
 
 /// Statements of `main`, in order. The names of sets stand for those of the mesh.
