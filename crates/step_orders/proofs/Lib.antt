@@ -4,6 +4,7 @@ pub mod Whole
 pub mod Buckets
 pub mod Counted
 pub mod Flat
+pub mod Blocks
 pub mod Windows
 pub mod Cutting
 pub mod KeyPieces

@@ -1,5 +1,5 @@
 -- What is left of ranks after a step, and which sends are taken.
-use Rattle.std.proofs.Common.{◌≡◌, ℕ, ◌<◌, Bool, true, false, cond, refl, sym, ap, ◌∙◌, arith, ⊎_elim, List, [], ◌∷◌, length, length-set, get_or, set, map, Vec, Option, Some, None}
+use Rattle.std.proofs.Common.{◌≡◌, ℕ, ◌<◌, cond, sym, ap, ◌∙◌, arith, ⊎_elim, List, [], ◌∷◌, length, length-set, get_or, set, map, Vec, Option, Some, None}
 use Rattle.std.specs.Prelude.{◌==◌, ◌&&◌, IfSome, IfNone}
 use Rattle.std.specs.declared.alloc.Global.{Global}
 use Rattle.std.proofs.lemmas.Bool.{cases_eq, eq-eqb, ne_eqb, cond-true, cond-false, and_from, and_right}
