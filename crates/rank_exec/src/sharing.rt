@@ -4,11 +4,16 @@ ghost use Rattle.std.specs.Prelude.{◌<◌};
 
 use bound_program::Item;
 use kernel_code::Part;
+use kernel_columns::is_straight;
 use rank_program::{DistributedProgram, KernelJob};
 use schedule_steps::Step;
 
 // As many operations as threads are worth: starting them takes as long as some thousands.
 const WORTH_THREADS: usize = 16384;
+
+// As many operations as threads are worth where the elements can run in batches instead: kernels of 200 turns, of which 64 have some
+// 80,000 operations, took four times as long in groups by four workers as in batches by one.
+const WORTH_MORE_THAN_BATCHES: usize = 1_048_576;
 
 // As many elements as a group has that threads are tried for.
 const FULL_GROUP: usize = 64;
@@ -61,9 +66,30 @@ fn operations_in(program: &DistributedProgram<'_>, item: u32) -> usize {
     operations(&code.part)
 }
 
-/// Whether the kernel of a Free item is so short that not even a full group of its elements is worth threads.
+// Whether the elements of a Free item may run in batches, many at once: kernels are known to obey their modes, and the item's has no
+// `if` with a `for` inside.
+fn comes_in_batches(program: &DistributedProgram<'_>, item: u32) -> bool {
+    let Some(Item::Free { site }) = program.bound.trace.get(item as usize) else {
+        return false;
+    };
+    let Some(site) = program.bound.sites.get(*site as usize) else {
+        return false;
+    };
+    let Some(code) = program.codes.get(site.kernel as usize) else {
+        return false;
+    };
+    program.obeying && is_straight(&code.part)
+}
+
+/// Whether the kernel of a Free item is so short that not even a full group of its elements is worth threads, beside a run in place by
+/// one worker.
 pub fn is_short(program: &DistributedProgram<'_>, item: u32) -> bool {
-    operations_in(program, item).saturating_mul(FULL_GROUP) < WORTH_THREADS
+    let worth = if comes_in_batches(program, item) {
+        WORTH_MORE_THAN_BATCHES
+    } else {
+        WORTH_THREADS
+    };
+    operations_in(program, item).saturating_mul(FULL_GROUP) < worth
 }
 
 /// Whether the elements of a Free item come in rounds, where each rank's run on one thread: their kernel is short, or there are as
