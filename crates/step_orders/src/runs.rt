@@ -78,7 +78,8 @@ impl Runs {
 
     /// The places of a rank by block colour, block, colour and number, in runs of at most `group` places of one block and colour.
     /// There is a place for each of the colours, `size` of them to a block, and a colour for each block; a block without one has
-    /// the colour 0. It takes linear time where colours are below the number of places, else time n log n. An error is want of memory.
+    /// the colour 0. It takes linear time where the colours of a block's places are below the number of these, and those of blocks
+    /// below theirs, else time n log n. An error is want of memory.
     pub fn of_places(
         alloc: Global,
         size: u32,
