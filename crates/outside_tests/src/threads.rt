@@ -1,8 +1,23 @@
 // What no clause says: that two threads run at once, and that the gate is told before each job.
 ghost use Rattle.std.specs.Prelude.{◌≡◌, ◌<◌, ◌+◌, ◌*◌, ◌^◌, length, slice_set, pos};
 
-use par_exec::{Gate, Job, Open, PartJob, run_group, run_parts};
+use par_exec::{Crew, Gate, Job, Open, PartJob, run_group, run_parts};
+use std::alloc::Global;
+use std::marker::Sync;
 use std::sync::atomic::{AtomicU64, Ordering};
+use std::thread::Threads;
+
+// So many workers on these threads, and a gate.
+fn crew<'a, R: Threads + Sync, G: Gate>(threads: &'a R, workers: u32, gate: &'a G) -> Crew<'a, R, G>
+    requires { 0 < workers }
+{
+    Crew {
+        threads,
+        alloc: Global,
+        workers,
+        gate,
+    }
+}
 
 // Writes the number of a window into its first cell.
 struct Number;
@@ -57,7 +72,7 @@ fn two_workers_meet(rt: HostRuntime) {
         seen: AtomicU64::new(0),
     };
     let mut cells = [0i32; 128];
-    run_group(&rt, 2, &mut cells, 2, &Number, &gate);
+    run_group(&crew(&rt, 2, &gate), &mut cells, 2, &Number);
     assert_eq!(rt; gate.seen.load(Ordering::SeqCst), 2);
     for window in 0..64usize {
         assert_eq!(rt; cells[2 * window], window as i32);
@@ -86,7 +101,7 @@ fn two_workers_meet_on_parts(rt: HostRuntime) {
         seen: AtomicU64::new(0),
     };
     let mut parts = [7u32; 64];
-    run_parts(&rt, 2, &Add, &gate, &mut parts);
+    run_parts(&crew(&rt, 2, &gate), &Add, &mut parts);
     assert_eq!(rt; gate.seen.load(Ordering::SeqCst), 2);
     for part in 0..64usize {
         assert_eq!(rt; parts[part], 7 + part as u32);
@@ -115,11 +130,11 @@ fn any_number_of_workers_does_all(rt: HostRuntime) {
             sum: AtomicU64::new(0),
         };
         let mut cells = [7i32; 15];
-        run_group(&rt, workers, &mut cells, 3, &Number, &gate);
+        run_group(&crew(&rt, workers, &gate), &mut cells, 3, &Number);
         assert_eq!(rt; cells, [0, 7, 7, 1, 7, 7, 2, 7, 7, 3, 7, 7, 4, 7, 7]);
         assert_eq!(rt; gate.entered.load(Ordering::SeqCst), 5);
         assert_eq!(rt; gate.sum.load(Ordering::SeqCst), 10);
         let mut empty: [i32; 0] = [];
-        run_group(&rt, workers, &mut empty, 3, &Number, &Open);
+        run_group(&crew(&rt, workers, &Open), &mut empty, 3, &Number);
     }
 }

@@ -9,8 +9,10 @@ ghost use Rattle.std.specs.Prelude.{◌≡◌, ℕ, ℤ, ◌+◌, ◌*◌, ◌/�
 ghost use denote.Param.Send.{IsSync};
 ghost use Rattle.par_exec.specs.Windows.{replaced, EachWindow};
 
+mod crew;
 mod parts;
 
+pub use crew::Crew;
 pub use parts::{PartJob, run_parts};
 use std::marker::Sync;
 use std::thread::{Threads, join_mut};
@@ -43,29 +45,35 @@ impl Gate for Open {
     fn enter(&self, _index: usize) {}
 }
 
-/// Runs job i on window i, for each window of the buffer, and calls `gate.enter(i)` just before.
+/// Runs job i on window i, for each window of the buffer, and tells the crew's gate of i just before.
 ///
 /// `staging` is cut into windows of `stride` cells, at least 1, which divides its length; they are
-/// numbered from 0. With more than one of the `workers`, at least 1, and more than one window, the
-/// buffer is split into halves that run by fork and join, the workers shared out between them. The
-/// result is the same for every number of workers and every gate. Takes no memory.
+/// numbered from 0. With more than one worker and more than one window, the buffer is split into
+/// halves that run by fork and join, the workers shared out between them. The result is the same
+/// for every crew. Takes no memory.
 pub fn run_group<R: Threads + Sync, J: Job, G: Gate>(
-    rt: &R,
-    workers: u32,
+    crew: &Crew<'_, R, G>,
     staging: &mut [i32],
     stride: usize,
     jobs: &J,
-    gate: &G,
 )
     requires stride { 0 < stride }
     requires whole { length staging.old % stride ≡ 0 }
-    requires workers { 0 < workers }
     requires accepts { (i : ℕ) → i < length staging.old / stride → J.accepts jobs.now i stride }
     ensures each { EachWindow (J.new_window jobs.now) stride 0 (length staging.old / stride) staging.old staging.new }
     ensures together { staging.new ≡ replaced (J.new_window jobs.now) stride 0 (length staging.old / stride) staging.old }
 {
     let count = staging.len() / stride;
-    run_windows(rt, workers, 0, count, stride, jobs, gate, staging);
+    run_windows(
+        crew.threads,
+        crew.workers,
+        0,
+        count,
+        stride,
+        jobs,
+        crew.gate,
+        staging,
+    );
 }
 
 // Runs job i on window i, where the buffer has `count` windows from number `first` on.

@@ -4,7 +4,7 @@ ghost use Rattle.std.specs.Prelude.{◌≡◌, ℕ, ◌+◌, ◌<◌, ◌^◌, l
 ghost use denote.Param.Send.{IsSync, IsSend};
 ghost use Rattle.par_exec.specs.Parts.{TakesEach, MadeEach};
 
-use crate::Gate;
+use crate::{Crew, Gate};
 use std::marker::{Send, Sync};
 use std::thread::{Threads, join_mut};
 
@@ -22,24 +22,20 @@ pub trait PartJob<T>: Sync {
         ensures { makes self.now index part.old part.new };
 }
 
-/// Runs job i on part i, for each part of the list, and calls `gate.enter(i)` just before; the parts are numbered from 0.
+/// Runs job i on part i, for each part of the list, and tells the crew's gate of i just before; the parts are numbered from 0.
 ///
-/// With more than one of the `workers`, at least 1, and more than one part, the list is split into halves that run by fork and
-/// join, the workers shared out between them. What is said of each part holds for every number of workers and every gate. Takes no
-/// memory.
+/// With more than one worker and more than one part, the list is split into halves that run by fork and join, the workers shared
+/// out between them. What is said of each part holds for every crew. Takes no memory.
 pub fn run_parts<R: Threads + Sync, T: Send, J: PartJob<T>, G: Gate>(
-    rt: &R,
-    workers: u32,
+    crew: &Crew<'_, R, G>,
     jobs: &J,
-    gate: &G,
     parts: &mut [T],
 )
-    requires workers { 0 < workers }
     requires takes { TakesEach (J.takes jobs.now) 0 parts.old }
     ensures { MadeEach (J.makes jobs.now) 0 parts.old parts.new }
 {
     let count = parts.len();
-    run_from(rt, workers, 0, count, jobs, gate, parts);
+    run_from(crew.threads, crew.workers, 0, count, jobs, crew.gate, parts);
 }
 
 // Runs job i on part i, where the list has `count` parts from number `first` on.
