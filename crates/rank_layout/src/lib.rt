@@ -34,7 +34,7 @@ pub use laws_sent::{exports_are_few, receives_stand, rooms_stand, sends_stand};
 pub use laws_steps::steps_stand;
 pub use laws_tables::{places_stand, scalars_stand, slots_stand, tables_are_indexed};
 pub use messages::{push_exports, push_imports};
-pub use owned_windows::{owners_span, push_windows};
+pub use owned_windows::{OwnedDats, owners_span, push_windows};
 pub use rooms::most_spans;
 pub use sites::args_of;
 pub use tables::{MachineTables, row_of};

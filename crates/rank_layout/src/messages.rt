@@ -9,6 +9,7 @@ ghost use Rattle.rank_layout.specs.Messages as the;
 ghost use Rattle.rank_layout.specs.Exports as sent;
 
 use local_mesh::{LocalLists, RankMesh};
+use loop_plan::Pair;
 use mesh_decl::Mesh;
 use rank_state::Span;
 
@@ -99,17 +100,16 @@ pub fn push_exports(
     part: &RankMesh,
     lists: &[LocalLists],
     dats: &[u32],
-    from: u32,
-    to: u32,
+    pair: Pair,
     spans: &mut Vec<Span>,
 )
     requires lists { length lists.now ≡ set_count mesh.now }
-    requires has { (t : ℕ) → t < set_count mesh.now → HasList (exports_in lists.now t) from to }
-    requires there { AreThere mesh.now part.now (λ t. sent.exported_locals lists.now t from to) dats.now }
+    requires has { (t : ℕ) → t < set_count mesh.now → HasList (exports_in lists.now t) pair.from pair.to }
+    requires there { AreThere mesh.now part.now (λ t. sent.exported_locals lists.now t pair.from pair.to) dats.now }
     requires room { length spans.old.items
-        + length (spans_of mesh.now part.now (λ t. sent.exported_locals lists.now t from to) dats.now) ≤ vec_capacity spans.old }
+        + length (spans_of mesh.now part.now (λ t. sent.exported_locals lists.now t pair.from pair.to) dats.now) ≤ vec_capacity spans.old }
     ensures spans { spans.new.items
-        ≡ spans.old.items ++ spans_of mesh.now part.now (λ t. sent.exported_locals lists.now t from to) dats.now }
+        ≡ spans.old.items ++ spans_of mesh.now part.now (λ t. sent.exported_locals lists.now t pair.from pair.to) dats.now }
     ensures room { vec_capacity spans.new ≡ vec_capacity spans.old }
 {
     for dat in dats {
@@ -118,29 +118,28 @@ pub fn push_exports(
             mesh,
             part,
             *dat,
-            exported_locals(lists, set, from, to),
+            exported_locals(lists, set, pair.from, pair.to),
             spans,
         );
     }
 }
 
-/// Puts down where the cells of a message from `from` stand on its receiver `rank`, whose local mesh is `part`.
+/// Puts down where the cells of a message stand on its receiver, whose local mesh is `part`: those of each of the dats.
 pub fn push_imports(
     mesh: &Mesh,
     part: &RankMesh,
     lists: &[LocalLists],
     dats: &[u32],
-    rank: u32,
-    from: u32,
+    pair: Pair,
     spans: &mut Vec<Span>,
 )
     requires lists { length lists.now ≡ set_count mesh.now }
-    requires has { (t : ℕ) → t < set_count mesh.now → HasList (imports_in lists.now t) rank from }
-    requires there { AreThere mesh.now part.now (λ t. the.imported_locals lists.now t rank from) dats.now }
+    requires has { (t : ℕ) → t < set_count mesh.now → HasList (imports_in lists.now t) pair.to pair.from }
+    requires there { AreThere mesh.now part.now (λ t. the.imported_locals lists.now t pair.to pair.from) dats.now }
     requires room { length spans.old.items
-        + length (spans_of mesh.now part.now (λ t. the.imported_locals lists.now t rank from) dats.now) ≤ vec_capacity spans.old }
+        + length (spans_of mesh.now part.now (λ t. the.imported_locals lists.now t pair.to pair.from) dats.now) ≤ vec_capacity spans.old }
     ensures spans { spans.new.items
-        ≡ spans.old.items ++ spans_of mesh.now part.now (λ t. the.imported_locals lists.now t rank from) dats.now }
+        ≡ spans.old.items ++ spans_of mesh.now part.now (λ t. the.imported_locals lists.now t pair.to pair.from) dats.now }
     ensures room { vec_capacity spans.new ≡ vec_capacity spans.old }
 {
     for dat in dats {
@@ -149,7 +148,7 @@ pub fn push_imports(
             mesh,
             part,
             *dat,
-            imported_locals(lists, set, rank, from),
+            imported_locals(lists, set, pair.to, pair.from),
             spans,
         );
     }

@@ -9,7 +9,7 @@ ghost use Rattle.rank_layout.specs.OwnedWindows.{owners_span, HasPlace, owned_by
 use crate::element_by;
 use bound_program::{Arg, Bound};
 use local_mesh::{LocalLists, RankMesh};
-use mesh_decl::{Mesh, Owners};
+use mesh_decl::Owners;
 use rank_state::Owned;
 
 // Whether both spans begin at one cell.
@@ -61,49 +61,46 @@ fn place_on(meshes: &[RankMesh], rank: u32, dat: u32, dim: u32, local: u32) -> u
     meshes[rank as usize].place(dat, dim, local)
 }
 
+/// A bound program's dats in the buffers of their owners: the program, who owns each element, the local mesh of each rank, and by set
+/// the local numbers of what ranks own.
+#[derive(Clone, Copy)]
+pub struct OwnedDats<'a> {
+    pub bound: &'a Bound,
+    pub owners: &'a Owners,
+    pub meshes: &'a [RankMesh],
+    pub lists: &'a [LocalLists],
+}
+
 /// Where the values of an element of a dat stand in the buffer of its owner. Takes no memory.
-pub fn owners_span(
-    mesh: &Mesh,
-    owners: &Owners,
-    meshes: &[RankMesh],
-    lists: &[LocalLists],
-    dat: u32,
-    element: u32,
-) -> Owned
-    requires { HasPlace mesh.now owners.now meshes.now lists.now dat element }
-    ensures { result ≡ owners_span mesh.now owners.now meshes.now lists.now dat element }
+pub fn owners_span(dats: &OwnedDats<'_>, dat: u32, element: u32) -> Owned
+    requires { HasPlace (bound_of dats.now.bound.now).mesh dats.now.owners.now dats.now.meshes.now dats.now.lists.now dat element }
+    ensures { result
+        ≡ owners_span (bound_of dats.now.bound.now).mesh dats.now.owners.now dats.now.meshes.now dats.now.lists.now dat element }
 {
-    let (set, dim) = mesh.dat_shape(dat);
-    let rank = owners.rank_of(set, element);
-    let local = owners_locals(lists, set)[element as usize];
+    let (set, dim) = dats.bound.mesh.dat_shape(dat);
+    let rank = dats.owners.rank_of(set, element);
+    let local = owners_locals(dats.lists, set)[element as usize];
     Owned {
         rank,
-        at: place_on(meshes, rank, dat, dim, local),
+        at: place_on(dats.meshes, rank, dat, dim, local),
         dim: dim as usize,
     }
 }
 
 // Puts down the window of one argument, where it is on a dat.
-fn push_window(
-    bound: &Bound,
-    owners: &Owners,
-    meshes: &[RankMesh],
-    lists: &[LocalLists],
-    arg: Arg,
-    element: u32,
-    spans: &mut Vec<Owned>,
-)
-    requires placed { ArgPlaced (bound_of bound.now) owners.now meshes.now lists.now element arg }
+fn push_window(dats: &OwnedDats<'_>, arg: Arg, element: u32, spans: &mut Vec<Owned>)
+    requires placed { ArgPlaced (bound_of dats.now.bound.now) dats.now.owners.now dats.now.meshes.now dats.now.lists.now element arg }
     requires room { length spans.old.items < vec_capacity spans.old }
     ensures spans { spans.new.items
-        ≡ owned_after (owned_by (bound_of bound.now) owners.now meshes.now lists.now element) (arg ∷ []) spans.old.items }
+        ≡ owned_after
+        (owned_by (bound_of dats.now.bound.now) dats.now.owners.now dats.now.meshes.now dats.now.lists.now element) (arg ∷ []) spans.old.items }
     ensures room { vec_capacity spans.new ≡ vec_capacity spans.old }
     ensures more { length spans.new.items ≤ length spans.old.items + 1 }
 {
     match arg {
         Arg::Dat { dat, via, .. } => {
-            let reached = element_by(bound, via, element);
-            let span = owners_span(&bound.mesh, owners, meshes, lists, dat, reached);
+            let reached = element_by(dats.bound, via, element);
+            let span = owners_span(dats, dat, reached);
             push_owned(span, spans);
         }
         Arg::Global { .. } => {}
@@ -112,22 +109,16 @@ fn push_window(
 
 /// Puts down where the windows on dats of an element stand in the buffers of their owners, in the order in which the
 /// arguments first reach them. Takes no memory.
-pub fn push_windows(
-    bound: &Bound,
-    owners: &Owners,
-    meshes: &[RankMesh],
-    lists: &[LocalLists],
-    args: &[Arg],
-    element: u32,
-    spans: &mut Vec<Owned>,
-)
-    requires placed { All (ArgPlaced (bound_of bound.now) owners.now meshes.now lists.now element) args.now }
+pub fn push_windows(dats: &OwnedDats<'_>, args: &[Arg], element: u32, spans: &mut Vec<Owned>)
+    requires placed { All
+        (ArgPlaced (bound_of dats.now.bound.now) dats.now.owners.now dats.now.meshes.now dats.now.lists.now element) args.now }
     requires room { length spans.old.items + length args.now ≤ vec_capacity spans.old }
     ensures spans { spans.new.items
-        ≡ owned_after (owned_by (bound_of bound.now) owners.now meshes.now lists.now element) args.now spans.old.items }
+        ≡ owned_after
+        (owned_by (bound_of dats.now.bound.now) dats.now.owners.now dats.now.meshes.now dats.now.lists.now element) args.now spans.old.items }
     ensures room { vec_capacity spans.new ≡ vec_capacity spans.old }
 {
     for arg in args {
-        push_window(bound, owners, meshes, lists, *arg, element, spans);
+        push_window(dats, *arg, element, spans);
     }
 }

@@ -5,4 +5,4 @@ use Rattle.rank_layout.proofs.messages.push_exports.Given as goal
 
 abbrev pub invariant-loop-dat : goal.invariant-loop-dat
 invariant-loop-dat l =
-    (l.spans.items ≡ l.fn.spans.items ++ spans_of l.mesh l.part (λ t. exported_locals l.lists t l.from l.to) (take l.dat-index l.dats)) × (vec_capacity l.spans ≡ vec_capacity l.fn.spans)
+    (l.spans.items ≡ l.fn.spans.items ++ spans_of l.mesh l.part (λ t. exported_locals l.lists t l.pair.from l.pair.to) (take l.dat-index l.dats)) × (vec_capacity l.spans ≡ vec_capacity l.fn.spans)

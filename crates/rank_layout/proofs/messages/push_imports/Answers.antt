@@ -10,9 +10,9 @@ pub push_dat-requires-clause-room : goal.push_dat-requires-clause-room
 push_dat-requires-clause-room c =
     let g = c.args.mesh.now in
     let dat = get_or c.args.dats.now c.loop-dat.dat-index 0 in
-    let room = room_more (dat_spans g c.args.part.now (λ t. imported_locals c.args.lists.now t c.args.rank c.args.from)) c.args.spans.now.items c.args.dats.now c.loop-dat.dat-index 0
+    let room = room_more (dat_spans g c.args.part.now (λ t. imported_locals c.args.lists.now t c.args.pair.to c.args.pair.from)) c.args.spans.now.items c.args.dats.now c.loop-dat.dat-index 0
     (vec_capacity c.args.spans.now) c.loop-dat.spans.items c.loop-dat-test.true c.loop-dat.invariant.0 c.requires.room in
-    let size = length-map (imported_locals c.args.lists.now (dat_set g dat) c.args.rank c.args.from) (element_span (slice_index c.args.part.now.bases.items dat) (dat_dim g dat)) in
-    let read : length c.imported_locals.result.now ≡ length (imported_locals c.args.lists.now (dat_set g dat) c.args.rank c.args.from) =
-    ap length c.imported_locals.ensures ∙ ap (λ (q : ℕ × ℕ). length (imported_locals c.args.lists.now q.0 c.args.rank c.args.from)) c.dat_shape-set.ensures in
+    let size = length-map (imported_locals c.args.lists.now (dat_set g dat) c.args.pair.to c.args.pair.from) (element_span (slice_index c.args.part.now.bases.items dat) (dat_dim g dat)) in
+    let read : length c.imported_locals.result.now ≡ length (imported_locals c.args.lists.now (dat_set g dat) c.args.pair.to c.args.pair.from) =
+    ap length c.imported_locals.ensures ∙ ap (λ (q : ℕ × ℕ). length (imported_locals c.args.lists.now q.0 c.args.pair.to c.args.pair.from)) c.dat_shape-set.ensures in
     omega (arith, room, size, read, c.loop-dat.invariant.1)

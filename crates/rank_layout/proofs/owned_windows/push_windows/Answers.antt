@@ -8,7 +8,7 @@ pub loop-arg-preserved : goal.loop-arg-preserved
 loop-arg-preserved c =
     let more : length c.push_window.new.spans.items ≤ length c.args.spans.now.items + (c.loop-arg.arg-index + 1) =
     omega (arith, c.push_window.ensures.more, c.loop-arg.invariant.1) in (
-      after_more (owned_by (bound_of c.args.bound.now) c.args.owners.now c.args.meshes.now c.args.lists.now c.args.element) c.args.args.now c.loop-arg.arg-index _
+      after_more (owned_by (bound_of c.args.dats.now.bound.now) c.args.dats.now.owners.now c.args.dats.now.meshes.now c.args.dats.now.lists.now c.args.element) c.args.args.now c.loop-arg.arg-index _
           c.args.spans.now.items c.loop-arg.spans.items c.push_window.new.spans.items c.loop-arg-test.true c.loop-arg.invariant.0 c.push_window.ensures.spans,
       more,
       c.push_window.ensures.room ∙ c.loop-arg.invariant.2,
