@@ -11,7 +11,7 @@ ghost use Rattle.rank_layout.specs.Tables.{tables_of};
 ghost use Rattle.rank_program.specs.Sound.{Sound, program_in, plan_in, setup_in, layout_in};
 
 use crate::program::DistributedProgram;
-use loop_plan::Plan;
+use loop_plan::{Pair, Plan};
 use rank_layout::{push_exports, push_imports, receives_stand, sends_stand};
 use rank_state::Span;
 
@@ -46,8 +46,7 @@ pub fn push_sent(
         &program.meshes[from as usize],
         program.lists,
         exchange_of(program.plan, item),
-        from,
-        to,
+        Pair { from, to },
         spans,
     );
 }
@@ -74,8 +73,7 @@ pub fn push_received(
         &program.meshes[rank as usize],
         program.lists,
         exchange_of(program.plan, item),
-        rank,
-        from,
+        Pair { from, to: rank },
         spans,
     );
 }

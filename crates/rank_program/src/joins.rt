@@ -16,7 +16,8 @@ use crate::laws_copies::copies_stand;
 use crate::program::DistributedProgram;
 use bound_program::{Bound, Item};
 use rank_layout::{
-    args_of, owned_stand, owners_span, push_windows, reduces_are_there, row_of, scalars_stand,
+    OwnedDats, args_of, owned_stand, owners_span, push_windows, reduces_are_there, row_of,
+    scalars_stand,
 };
 use rank_state::{Owned, Scalar};
 
@@ -39,15 +40,14 @@ pub fn push_owned_windows<'p>(
 {
     owned_stand();
     let site = loop_of(program.bound, item);
-    push_windows(
-        program.bound,
-        program.owners,
-        program.meshes,
-        program.lists,
-        args_of(program.bound, site as usize),
-        element,
-        spans,
-    );
+    let args = args_of(program.bound, site as usize);
+    let dats = OwnedDats {
+        bound: program.bound,
+        owners: program.owners,
+        meshes: program.meshes,
+        lists: program.lists,
+    };
+    push_windows(&dats, args, element, spans);
     row_of(&program.tables.indices, site)
 }
 
@@ -83,12 +83,11 @@ pub fn owners_copy(program: &DistributedProgram<'_>, dat: u32, element: u32) -> 
     ensures { IsOwnersCopy (program_in program.now) (setup_in program.now) (layout_in program.now) dat element result }
 {
     copies_stand();
-    owners_span(
-        &program.bound.mesh,
-        program.owners,
-        program.meshes,
-        program.lists,
-        dat,
-        element,
-    )
+    let dats = OwnedDats {
+        bound: program.bound,
+        owners: program.owners,
+        meshes: program.meshes,
+        lists: program.lists,
+    };
+    owners_span(&dats, dat, element)
 }

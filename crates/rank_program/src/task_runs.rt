@@ -4,23 +4,20 @@ ghost use Rattle.std.specs.Prelude.{◌≡◌, ◌<◌, ◌*◌, ℕ, take, leng
 ghost use Rattle.rank_program.specs.Jobs.{Accepts, RanIn, job_core, part, task_at};
 
 use crate::kernel_job::KernelJob;
-use par_exec::{Gate, run_group};
+use par_exec::{Crew, Gate, run_group};
 use std::marker::Sync;
 use std::thread::Threads;
 
-/// Runs a job's kernel once for each of its tasks, on the first cells of the task's window of `staging`, by so many
-/// workers, at least 1; `gate` is told of each task just before, by its number. A window has `window` cells, more than its
-/// task's cells and the kernel's slots together. Behind the task's cells stands a 0 then, or a 1 where the run had a fault,
-/// after which its cells mean nothing. Takes no memory.
+/// Runs a job's kernel once for each of its tasks, on the first cells of the task's window of `staging`, by the workers of
+/// `crew`, whose gate is told of each task just before, by its number. A window has `window` cells, more than its task's cells
+/// and the kernel's slots together. Behind the task's cells stands a 0 then, or a 1 where the run had a fault, after which its
+/// cells mean nothing. Takes no memory.
 pub fn run_tasks<R: Threads + Sync, G: Gate>(
-    rt: &R,
+    crew: &Crew<'_, R, G>,
     job: &KernelJob<'_>,
     staging: &mut [i32],
     window: usize,
-    workers: u32,
-    gate: &G,
 )
-    requires workers { 0 < workers }
     requires wide { 0 < window }
     requires whole { length staging.old ≡ length job.now.tasks.now * window }
     requires accepts { (i : ℕ) → i < length job.now.tasks.now → Accepts job.now i window }
@@ -29,5 +26,5 @@ pub fn run_tasks<R: Threads + Sync, G: Gate>(
         (task_at job.now.tasks.now i).cells (part window i staging.new) }
 {
     kernel_model::shape_stays();
-    run_group(rt, workers, staging, window, job, gate);
+    run_group(crew, staging, window, job);
 }

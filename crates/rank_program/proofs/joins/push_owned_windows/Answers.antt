@@ -10,8 +10,8 @@ use Rattle.rank_program.specs.Sound.{program_in, plan_in, setup_in, layout_in}
 use Rattle.rank_layout.specs.OwnedWindows.{owned_after, owned_by, ArgPlaced}
 use Rattle.rank_program.proofs.joins.push_owned_windows.Goals as goal
 
-pub args_of-requires : goal.args_of-requires
-args_of-requires c =
+pub args_of-args-requires : goal.args_of-args-requires
+args_of-args-requires c =
     let x = c.args.program.now in
     let has = c.owned_stand.ensures (program_in x) x.owners.now c.requires.sound.numbers x.meshes.now (plan_in x) c.requires.sound.halos x.lists.now
     c.requires.sound.lists c.args.item c.args.element c.requires.kind c.requires.element in
@@ -23,7 +23,7 @@ push_windows-requires-clause-placed c =
     let b = program_in x in
     let has = c.owned_stand.ensures b x.owners.now c.requires.sound.numbers x.meshes.now (plan_in x) c.requires.sound.halos x.lists.now
     c.requires.sound.lists c.args.item c.args.element c.requires.kind c.requires.element in
-    let args = c.args_of.ensures ∙ ap (λ (n : ℕ). (get_or b.sites n no_site).args) c.loop_of-site.ensures in
+    let args = c.args_of-args.ensures ∙ ap (λ (n : ℕ). (get_or b.sites n no_site).args) c.loop_of-site.ensures in
     subst (λ (l : List Arg). All (ArgPlaced b x.owners.now x.meshes.now x.lists.now c.args.element) l) (sym args) has.placed
 
 pub push_windows-requires-clause-room : goal.push_windows-requires-clause-room
@@ -32,7 +32,7 @@ push_windows-requires-clause-room c =
     let b = program_in x in
     let has = c.owned_stand.ensures b x.owners.now c.requires.sound.numbers x.meshes.now (plan_in x) c.requires.sound.halos x.lists.now
     c.requires.sound.lists c.args.item c.args.element c.requires.kind c.requires.element in
-    let args = ap (λ (l : List Arg). length l) (c.args_of.ensures ∙ ap (λ (n : ℕ). (get_or b.sites n no_site).args) c.loop_of-site.ensures) in
+    let args = ap (λ (l : List Arg). length l) (c.args_of-args.ensures ∙ ap (λ (n : ℕ). (get_or b.sites n no_site).args) c.loop_of-site.ensures) in
     let few = c.requires.sound.made.elements (loop_of (item_at b c.args.item)) has.loop in
     let none = ap (λ (l : List Owned). length l) c.requires.empty in
     omega (arith, args, few, none, c.requires.room)
@@ -51,7 +51,7 @@ returns-clause-are c =
     let s = loop_of (item_at b c.args.item) in
     let has = c.owned_stand.ensures b x.owners.now c.requires.sound.numbers x.meshes.now (plan_in x) c.requires.sound.halos x.lists.now
     c.requires.sound.lists c.args.item c.args.element c.requires.kind c.requires.element in
-    let args = c.args_of.ensures ∙ ap (λ (n : ℕ). (get_or b.sites n no_site).args) c.loop_of-site.ensures in
+    let args = c.args_of-args.ensures ∙ ap (λ (n : ℕ). (get_or b.sites n no_site).args) c.loop_of-site.ensures in
     let spans =
     c.push_windows.ensures.spans
     ∙ ap₂ (λ (l : List Arg) (z : List Owned). owned_after (owned_by b x.owners.now x.meshes.now x.lists.now c.args.element) l z) args c.requires.empty in
