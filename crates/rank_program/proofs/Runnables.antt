@@ -1,13 +1,23 @@
--- What a program that can be run has.
-use Rattle.std.proofs.Common.{List}
-use Rattle.mesh_decl.specs.declared.owners.Owners.{Owners}
+-- What a planned program has.
+use Rattle.std.proofs.Common.{◌≡◌, List, sym, subst}
 use Rattle.local_mesh.specs.declared.types.RankMesh.{RankMesh}
 use Rattle.local_mesh.specs.declared.lists.LocalLists.{LocalLists}
-use Rattle.bound_program.specs.Values.{BoundValue}
-use Rattle.loop_plan.specs.Values.{PlanValue}
+use Rattle.bound_program.specs.Values.{bound_of}
+use Rattle.planned_program.specs.Planned.{PlannedValue, FitTogether}
 use Rattle.rank_layout.specs.MessageLaws.{HasLists}
-use Rattle.rank_program.specs.Runnables.{CanRun}
+use Rattle.rank_program.specs.Runnables.{HasLocalLists}
 
-pub has_lists : (b : BoundValue) (o : Owners) (meshes : List RankMesh) (p : PlanValue) (table : List LocalLists) → (r : CanRun b o meshes p table)
-    → HasLists b o r.numbers meshes p r.halos table
-has_lists b o meshes p table r = record { planned = r.planned; halos = r.are_halos; lists = r.lists }
+-- p is q, and has these local meshes
+pub has_lists : (p q : PlannedValue) (meshes : List RankMesh) (table : List LocalLists)
+    → p ≡ q
+    → meshes ≡ p.distribution.ranks.items
+    → FitTogether p
+    → HasLocalLists q table
+    → HasLists (bound_of p.bound) p.distribution.owners p.distribution.perms meshes p.plan p.distribution.halos table
+has_lists p q meshes table view same h lists =
+    subst (λ (ms : List RankMesh). HasLists (bound_of p.bound) p.distribution.owners p.distribution.perms ms p.plan p.distribution.halos table) (sym same)
+    (record {
+      planned = record { fits = h.fits; distributed = h.distributed; proper = h.proper };
+      halos = h.are_halos;
+      lists = subst (λ (z : PlannedValue). HasLocalLists z table) (sym view) lists;
+    })

@@ -4,11 +4,10 @@ ghost use Rattle.std.specs.Prelude.{◌≡◌, true, IfOk};
 ghost use Rattle.kernel_code.specs.Codes.{AreCodesOf};
 ghost use Rattle.bound_program.specs.Values.{bound_of};
 ghost use Rattle.run_model.specs.Ranges.{AllObey};
-ghost use Rattle.loop_plan.specs.Values.{plan_of};
 ghost use Rattle.host_acts.specs.Variables.{VarsBegin};
 ghost use Rattle.rank_state.specs.Starting.{AreSlots, ArePlaces};
 ghost use Rattle.rank_program.specs.Sound.{Sound, program_in, setup_in, layout_in, tables_in};
-ghost use Rattle.rank_program.specs.Runnables.{CanRun, IsProgramOf};
+ghost use Rattle.rank_program.specs.Runnables.{HasLocalLists, IsProgramOf};
 
 use bound_program::Bound;
 use kernel_code::{Code, room_for};
@@ -16,6 +15,7 @@ use local_mesh::{LocalLists, RankMesh};
 use loop_plan::Plan;
 use mesh_decl::Owners;
 use op_num::OutOfMemory;
+use planned_program::Planned;
 use rank_layout::{
     MachineTables, element_windows_stand, exports_are_few, first_cells_stand, first_variables,
     most_spans, places_stand, rooms_stand, slots_stand, steps_stand, tables_are_indexed,
@@ -44,9 +44,8 @@ pub struct DistributedProgram<'a> {
 }
 
 impl<'a> DistributedProgram<'a> {
-    /// A bound program on the ranks of `owners`, with the local meshes of these, the plan for them, the local numbers of
-    /// what ranks own and exchange by set, the codes of the program's kernels, and whether these are known to obey their arguments'
-    /// accesses: then elements that come one after another may run several at once.
+    /// A planned program, with the local numbers of what ranks own and exchange by set, the codes of the program's kernels, and whether
+    /// these are known to obey their arguments' accesses: then elements that come one after another may run several at once.
     ///
     /// It takes time linear in the program's arguments and their cells, in its Free loops times the ranks, and in the lists
     /// of what ranks export, for each dat.
@@ -55,19 +54,16 @@ impl<'a> DistributedProgram<'a> {
     /// Want of memory alone.
     pub fn new(
         alloc: Global,
-        bound: &'a Bound,
-        owners: &'a Owners,
-        meshes: &'a [RankMesh],
+        planned: &'a Planned<'a>,
         lists: &'a [LocalLists],
-        plan: &'a Plan,
         codes: &'a [Code<'a>],
         obeying: bool,
     ) -> Result<DistributedProgram<'a>, OutOfMemory>
-        requires runs { CanRun (bound_of bound.now) owners.now meshes.now (plan_of plan.now) lists.now }
-        requires codes { AreCodesOf (bound_of bound.now).kernels codes.now }
-        requires obeying { obeying ≡ true → AllObey (bound_of bound.now) }
+        requires lists { HasLocalLists planned.now lists.now }
+        requires codes { AreCodesOf (bound_of planned.now.bound).kernels codes.now }
+        requires obeying { obeying ≡ true → AllObey (bound_of planned.now.bound) }
         ensures sound { IfOk result Sound }
-        ensures of { IfOk result (IsProgramOf (bound_of bound.now) owners.now meshes.now (plan_of plan.now)) }
+        ensures of { IfOk result (IsProgramOf planned.now) }
     {
         bound_plan::layouts_fit();
         tables_are_indexed();
@@ -77,6 +73,9 @@ impl<'a> DistributedProgram<'a> {
         first_cells_stand();
         steps_stand();
         element_windows_stand();
+        let (bound, plan) = (planned.bound, &planned.plan);
+        let owners = &planned.distribution.owners;
+        let meshes = planned.distribution.ranks.as_slice();
         // That one vector has them all says that 64 bits count the variables' cells.
         let _variables = first_variables(alloc, &bound.vars)?;
         let spans = most_spans(bound, lists, owners.ranks);

@@ -1,6 +1,9 @@
-use Rattle.std.proofs.Common.{◌≡◌, length, map, ap, ◌∙◌, arith}
+use Rattle.std.proofs.Common.{◌≡◌, length, map, ap, sym, subst, ◌∙◌, arith}
+use Rattle.kernel_code.specs.Codes.{AreCodesOf}
 use Rattle.bound_program.specs.Values.{bound_of, var_of}
+use Rattle.run_model.specs.Ranges.{AllObey}
 use Rattle.loop_plan.specs.Values.{plan_of}
+use Rattle.planned_program.specs.Planned.{PlannedValue}
 use Rattle.rank_layout.specs.First.{first_variables}
 use Rattle.rank_program.proofs.Runnables.{has_lists}
 use Rattle.rank_program.proofs.Windowed.{windowed}
@@ -8,40 +11,51 @@ use Rattle.rank_program.proofs.program.DistributedProgram.new.Goals as goal
 
 pub most_spans-spans-requires-clause-few : goal.most_spans-spans-requires-clause-few
 most_spans-spans-requires-clause-few c =
-    let r = c.requires.runs in
-    c.exports_are_few.ensures (bound_of c.args.bound.now) c.args.owners.now r.numbers c.args.meshes.now (plan_of c.args.plan.now) r.halos c.args.lists.now
-    (has_lists (bound_of c.args.bound.now) c.args.owners.now c.args.meshes.now (plan_of c.args.plan.now) c.args.lists.now r)
+    let v : PlannedValue = record { bound = c.planned.inside.bound.now; distribution = c.planned.inside.distribution; plan = plan_of c.planned.inside.plan } in
+    let lists = has_lists v c.args.planned.now c.as_slice-meshes.result.now c.args.lists.now c.planned.view_is c.as_slice-meshes.ensures.value c.planned.invariant c.requires.lists in
+    c.exports_are_few.ensures (bound_of v.bound) v.distribution.owners v.distribution.perms c.as_slice-meshes.result.now v.plan v.distribution.halos c.args.lists.now lists
 
 pub returns-clause-sound : goal.returns-clause-sound
 returns-clause-sound c =
-    let b = bound_of c.args.bound.now in
-    let p = plan_of c.args.plan.now in
-    let r = c.requires.runs in
-    let lists = has_lists b c.args.owners.now c.args.meshes.now p c.args.lists.now r in
+    let v : PlannedValue = record { bound = c.planned.inside.bound.now; distribution = c.planned.inside.distribution; plan = plan_of c.planned.inside.plan } in
+    let b = bound_of v.bound in
+    let o = v.distribution.owners in
+    let n = v.distribution.perms in
+    let ms = c.as_slice-meshes.result.now in
+    let lists = has_lists v c.args.planned.now ms c.args.lists.now c.planned.view_is c.as_slice-meshes.ensures.value c.planned.invariant c.requires.lists in
     let made = c.in_ok-tables.ensures c.args.lists.now
-    (c.rooms_stand.ensures b c.args.owners.now r.numbers c.args.meshes.now p r.halos c.args.lists.now lists c.most_spans-spans.result
+    (c.rooms_stand.ensures b o n ms v.plan v.distribution.halos c.args.lists.now lists c.most_spans-spans.result
     c.most_spans-spans.ensures.elements c.most_spans-spans.ensures.messages) in
     record {
-      numbers = r.numbers;
-      halos = r.halos;
-      planned = r.planned;
+      numbers = n;
+      halos = v.distribution.halos;
+      planned = lists.planned;
       lists = lists;
       made = made;
-      codes = c.requires.codes;
-      obeying = c.requires.obeying;
+      codes = subst (λ (z : PlannedValue). AreCodesOf (bound_of z.bound).kernels c.args.codes.now) (sym c.planned.view_is) c.requires.codes;
+      obeying = λ e. subst (λ (z : PlannedValue). AllObey (bound_of z.bound)) (sym c.planned.view_is) (c.requires.obeying e);
       room = c.room_for.ensures;
-      layout = c.layouts_fit.ensures b c.args.owners.now r.numbers c.args.meshes.now p r.planned;
-      indexed = c.tables_are_indexed.ensures b c.args.owners.now r.numbers c.args.meshes.now p r.planned;
-      windowed = windowed b c.args.owners.now r.numbers c.args.meshes.now p r.planned c.args.lists.now c.in_ok-tables.tables made c.steps_stand.ensures c.element_windows_stand.ensures;
+      layout = c.layouts_fit.ensures b o n ms v.plan lists.planned;
+      indexed = c.tables_are_indexed.ensures b o n ms v.plan lists.planned;
+      windowed = windowed b o n ms v.plan lists.planned c.args.lists.now c.in_ok-tables.tables made c.steps_stand.ensures c.element_windows_stand.ensures;
       variables = c.variables_stand.ensures b;
     }
 
+pub returns-clause-of : goal.returns-clause-of
+returns-clause-of c = record {
+  of_bound = ap (λ (z : PlannedValue). bound_of z.bound) c.planned.view_is;
+  of_owners = ap (λ (z : PlannedValue). z.distribution.owners) c.planned.view_is;
+  of_meshes = c.as_slice-meshes.ensures.value ∙ ap (λ (z : PlannedValue). z.distribution.ranks.items) c.planned.view_is;
+  of_plan = ap (λ (z : PlannedValue). z.plan) c.planned.view_is;
+}
+
 pub new-requires-clause-few : goal.new-requires-clause-few
 new-requires-clause-few c =
-    let b = bound_of c.args.bound.now in
-    let r = c.requires.runs in
-    let v = c.in_ok-_variables._variables in
-    let first = c.first_cells_stand.ensures.stand b c.args.owners.now r.numbers c.args.meshes.now (plan_of c.args.plan.now) r.planned in
-    let items : length v.items ≡ length (first_variables b.vars) =
-    ap length (c.in_ok-_variables.ensures ∙ ap (λ vs. first_variables (map var_of vs)) c.deref.ensures.value) in
-    omega (arith, items, first.count, v.ok.0, v.small)
+    let p = c.planned.inside in
+    let v : PlannedValue = record { bound = p.bound.now; distribution = p.distribution; plan = plan_of p.plan } in
+    let lists = has_lists v c.args.planned.now c.as_slice-meshes.result.now c.args.lists.now c.planned.view_is c.as_slice-meshes.ensures.value c.planned.invariant c.requires.lists in
+    let vs = c.in_ok-_variables._variables in
+    let first = c.first_cells_stand.ensures.stand (bound_of v.bound) v.distribution.owners v.distribution.perms c.as_slice-meshes.result.now v.plan lists.planned in
+    let items : length vs.items ≡ length (first_variables (bound_of v.bound).vars) =
+    ap length (c.in_ok-_variables.ensures ∙ ap (λ l. first_variables (map var_of l)) c.deref.ensures.value) in
+    omega (arith, items, first.count, vs.ok.0, vs.small)
