@@ -9,3 +9,4 @@ mod reduce;
 mod running;
 pub mod start;
 pub mod steps;
+pub mod windows;

@@ -19,6 +19,14 @@ use rank_state::rank_memory::stop::Stop;
 use std::alloc::{AllocError, Global};
 use std::marker::Model;
 
+/// What a machine has room for: so many frames, of at most `stride` cells each, and so many cells under way.
+#[derive(Clone, Copy, Debug)]
+pub struct Sizes {
+    pub frames: usize,
+    pub mail: usize,
+    pub stride: usize,
+}
+
 /// The state of all ranks between two steps.
 #[derive(Drop)]
 pub struct Machine {
@@ -85,29 +93,26 @@ fn units_of_ranks(
 }
 
 impl Machine {
-    /// A machine whose memories and variables hold their first values, with a partial for each slot,
-    /// and room for so many frames, of at most `stride` cells each, and for so many cells under way.
-    /// Each memory has spare capacity for `stride` more cells. `places` says for each rank how many places there may be.
+    /// A machine whose memories and variables hold their first values, with a partial for each slot, and room of these sizes. Each
+    /// memory has spare capacity for `sizes.stride` more cells. `places` says for each rank how many places there may be.
     pub fn new(
         alloc: Global,
         memories: Vec<Vec<i32>>,
         variables: Vec<i32>,
         slots: &[Operation],
         places: &[usize],
-        frames: usize,
-        mail: usize,
-        stride: usize,
+        sizes: Sizes,
     ) -> Result<Machine, AllocError>
-        requires small { frames * stride < 2 ^ 60 }
-        requires spare { All (HasSpare stride) memories.items }
-        ensures { IfOk result
-            (λ m. m ≡ started (map (λ v. v.items) memories.items) variables.items slots.now places.now frames mail stride) }
+        requires small { sizes.frames * sizes.stride < 2 ^ 60 }
+        requires spare { All (HasSpare sizes.stride) memories.items }
+        ensures { IfOk result (λ m. m
+            ≡ started (map (λ v. v.items) memories.items) variables.items slots.now places.now sizes.frames sizes.mail sizes.stride) }
     {
         let partials = units_of_ranks(alloc, &memories, slots)?;
-        let frames = Frames::new(alloc, places, frames, stride)?;
-        let mail = Mail::new(alloc, mail)?;
+        let frames = Frames::new(alloc, places, sizes.frames, sizes.stride)?;
+        let mail = Mail::new(alloc, sizes.mail)?;
         let output = Vec::new(alloc);
-        let window = vec![in alloc; 0; stride]?;
+        let window = vec![in alloc; 0; sizes.stride]?;
         Ok(Machine {
             memories,
             variables,

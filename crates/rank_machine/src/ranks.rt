@@ -7,7 +7,7 @@ ghost use Rattle.rank_state.specs.Stops.{stop_of, stop_in};
 ghost use Rattle.rank_program.specs.FromNone.{kept_both};
 ghost use Rattle.rank_machine.specs.OnRanks.{CanRunOn, RanOn, share_in, lent, kept_of_all, RanLent};
 
-use par_exec::{Gate, PartJob, run_parts};
+use par_exec::{Crew, Gate, PartJob, run_parts};
 use rank_program::{DistributedProgram, Room, run_places};
 use rank_state::rank_memory::stop::Stop;
 use std::marker::Sync;
@@ -24,13 +24,13 @@ pub struct RankPart {
     pub room: Room,
 }
 
-// The elements of an item, by places for each rank, with the values of all variables.
+/// The elements of an item, by places for each rank, with the values of all variables.
 #[derive(Drop)]
-struct Round<'a, 'b> {
-    program: &'a DistributedProgram<'b>,
-    lists: &'a [Vec<u32>],
-    item: u32,
-    variables: &'a [i32],
+pub struct Round<'a, 'b> {
+    pub program: &'a DistributedProgram<'b>,
+    pub lists: &'a [Vec<u32>],
+    pub item: u32,
+    pub variables: &'a [i32],
 }
 
 impl<'a, 'b> PartJob<RankPart> for Round<'a, 'b> {
@@ -58,31 +58,6 @@ impl<'a, 'b> PartJob<RankPart> for Round<'a, 'b> {
             &mut part.room,
         );
     }
-}
-
-// Runs the kernel of an item's loop for the elements at each rank's places, one after another, in place on what is lent of the rank,
-// from no fault on.
-fn run_ranks<R: Threads + Sync, G: Gate>(
-    rt: &R,
-    program: &DistributedProgram<'_>,
-    item: u32,
-    lists: &[Vec<u32>],
-    variables: &[i32],
-    parts: &mut [RankPart],
-    workers: u32,
-    gate: &G,
-)
-    requires workers { 0 < workers }
-    requires can { TakesEach (CanRunOn program.now item variables.now lists.now) 0 parts.old }
-    ensures { MadeEach (RanOn program.now item variables.now lists.now) 0 parts.old parts.new }
-{
-    let round = Round {
-        program,
-        lists,
-        item,
-        variables,
-    };
-    run_parts(rt, workers, &round, gate, parts);
 }
 
 // Gives each part the memory and the partials of its rank, and the rank what the part had.
@@ -142,32 +117,28 @@ fn kept_of_parts(fault: Option<Stop>, parts: &[RankPart]) -> Option<Stop>
     least
 }
 
-/// Runs the kernel of an item's loop for the elements at each rank's places, one after another, in place on the rank's memory and
+/// Runs the kernel of a round's item for the elements at each rank's places, one after another, in place on the rank's memory and
 /// partials, from no fault on; answers the fault to keep of `fault` and of theirs, put together by increasing rank. The ranks are shared
-/// out among the `workers`, at least 1; `gate` is told of each rank just before. What is said of each rank holds for every number of
-/// workers and every gate. There is a part for each rank. Takes no memory.
+/// out among the workers of `crew`, and its gate is told of each rank just before. What is said of each rank holds for every crew. There
+/// is a part for each rank. Takes no memory.
 pub fn run_lent<R: Threads + Sync, G: Gate>(
-    rt: &R,
-    program: &DistributedProgram<'_>,
-    item: u32,
-    lists: &[Vec<u32>],
-    variables: &[i32],
+    crew: &Crew<'_, R, G>,
+    round: &Round<'_, '_>,
     memories: &mut [Vec<i32>],
     partials: &mut [Vec<i32>],
     fault: Option<Stop>,
     parts: &mut [RankPart],
-    workers: u32,
-    gate: &G,
 ) -> Option<Stop>
-    requires workers { 0 < workers }
     requires memories { length memories.old ≡ length parts.old }
     requires partials { length partials.old ≡ length parts.old }
-    requires can { TakesEach (CanRunOn program.now item variables.now lists.now) 0 (lent memories.old partials.old parts.old) }
-    ensures { RanLent program.now item variables.now lists.now memories.old partials.old parts.old (stop_in fault)
+    requires can { TakesEach (CanRunOn round.now.program.now round.now.item round.now.variables.now round.now.lists.now) 0
+        (lent memories.old partials.old parts.old) }
+    ensures { RanLent round.now.program.now round.now.item round.now.variables.now round.now.lists.now
+        memories.old partials.old parts.old (stop_in fault)
         memories.new partials.new parts.new (stop_in result) }
 {
     swap_all(memories, partials, parts);
-    run_ranks(rt, program, item, lists, variables, parts, workers, gate);
+    run_parts(crew, round, parts);
     let kept = kept_of_parts(fault, parts);
     swap_all(memories, partials, parts);
     kept

@@ -10,41 +10,48 @@ ghost use Rattle.rank_state.specs.Spare.{KeepsSpare};
 ghost use Rattle.rank_machine.specs.Machines.{ran_in};
 ghost use Rattle.rank_program.specs.Sound.{Takes, layout_in};
 
+use crate::windows::{KernelRun, OwnedWindows, Windows};
 use kernel_types::KernelFault;
 use rank_program::{DistributedProgram, run_kernel};
 use rank_state::rank_memory::loading::load;
 use rank_state::rank_memory::owned::{load_all, put_back_values, scatter_all};
-use rank_state::{Owned, Scalar, Span};
+
+/// The cells that elements read on a rank: its buffer, and the variables.
+#[derive(Clone, Copy, Debug)]
+pub struct Cells<'a> {
+    pub memory: &'a [i32],
+    pub variables: &'a [i32],
+}
 
 /// Copies an element's windows into the frame and runs its kernel there; how many cells they have, or the fault.
 pub fn run_in(
     program: &DistributedProgram<'_>,
-    item: u32,
-    element: u32,
-    constants: &[i32],
-    memory: &[i32],
-    spans: &[Span],
-    variables: &[i32],
-    scalars: &[Scalar],
+    run: &KernelRun<'_>,
+    cells: &Cells<'_>,
+    windows: &Windows<'_>,
     frame: &mut [i32],
     scratch: &mut [i32],
 ) -> Result<usize, KernelFault>
-    requires takes { Takes program.now item element (length constants.now) (total spans.now + length scalars.now) }
+    requires takes { Takes program.now run.now.item run.now.element (length run.now.constants.now)
+        (total windows.now.spans.now + length windows.now.scalars.now) }
     requires locals { program.now.locals ≤ length scratch.old }
-    requires inside { Within (length memory.now) spans.now }
-    requires reads { Reads (length variables.now) scalars.now }
-    requires room { total spans.now + length scalars.now ≤ length frame.old }
-    ensures count { IfOk result (λ n. n ≡ total spans.now + length scalars.now) }
+    requires inside { Within (length cells.now.memory.now) windows.now.spans.now }
+    requires reads { Reads (length cells.now.variables.now) windows.now.scalars.now }
+    requires room { total windows.now.spans.now + length windows.now.scalars.now ≤ length frame.old }
+    ensures count { IfOk result (λ n. n ≡ total windows.now.spans.now + length windows.now.scalars.now) }
     ensures ran { ran_in frame.new result
-        ≡ (layout_in program.now).core item element constants.now (gathered memory.now spans.now ++ firsts variables.now scalars.now) }
+        ≡ (layout_in program.now).core run.now.item run.now.element run.now.constants.now
+        (gathered cells.now.memory.now windows.now.spans.now ++ firsts cells.now.variables.now windows.now.scalars.now) }
 {
-    let count = load(memory, spans, variables, scalars, frame);
+    let (spans, scalars) = (windows.spans, windows.scalars);
+    let count = load(cells.memory, spans, cells.variables, scalars, frame);
+    let window = &mut frame[..count];
     match run_kernel(
         program,
-        item,
-        element,
-        constants,
-        &mut frame[..count],
+        run.item,
+        run.element,
+        run.constants,
+        window,
         scratch,
     ) {
         Ok(()) => Ok(count),
@@ -55,46 +62,46 @@ pub fn run_in(
 /// Runs an element of an Ordered loop on the owners' cells and the variables; its fault, where it has one.
 pub fn run_owned(
     program: &DistributedProgram<'_>,
-    constants: &[i32],
-    item: u32,
-    element: u32,
+    run: &KernelRun<'_>,
     memories: &mut [Vec<i32>],
     variables: &mut [i32],
-    spans: &[Owned],
-    indices: &[usize],
+    windows: &OwnedWindows<'_>,
     frame: &mut [i32],
     scratch: &mut [i32],
 ) -> Option<KernelFault>
-    requires takes { Takes program.now item element (length constants.now) (total_all spans.now + length indices.now) }
+    requires takes { Takes program.now run.now.item run.now.element (length run.now.constants.now)
+        (total_all windows.now.spans.now + length windows.now.indices.now) }
     requires locals { program.now.locals ≤ length scratch.old }
-    requires inside { Within_all (map (λ v. v.items) memories.old) spans.now }
-    requires reads { InLength (length variables.old) indices.now }
-    requires room { total_all spans.now + length indices.now ≤ length frame.old }
+    requires inside { Within_all (map (λ v. v.items) memories.old) windows.now.spans.now }
+    requires reads { InLength (length variables.old) windows.now.indices.now }
+    requires room { total_all windows.now.spans.now + length windows.now.indices.now ≤ length frame.old }
     ensures fault { result
-        ≡ fault_of ((layout_in program.now).core item element constants.now
-        (gathered_all (map (λ v. v.items) memories.old) spans.now ++ values_at variables.old indices.now)) }
+        ≡ fault_of ((layout_in program.now).core run.now.item run.now.element run.now.constants.now
+        (gathered_all (map (λ v. v.items) memories.old) windows.now.spans.now ++ values_at variables.old windows.now.indices.now)) }
     ensures memories { map (λ v. v.items) memories.new
-        ≡ memories_after spans.now
-        ((layout_in program.now).core item element constants.now
-        (gathered_all (map (λ v. v.items) memories.old) spans.now ++ values_at variables.old indices.now))
+        ≡ memories_after windows.now.spans.now
+        ((layout_in program.now).core run.now.item run.now.element run.now.constants.now
+        (gathered_all (map (λ v. v.items) memories.old) windows.now.spans.now ++ values_at variables.old windows.now.indices.now))
         (map (λ v. v.items) memories.old) }
     ensures spare { KeepsSpare memories.old memories.new }
     ensures variables { variables.new
-        ≡ variables_after (total_all spans.now) indices.now
-        ((layout_in program.now).core item element constants.now
-        (gathered_all (map (λ v. v.items) memories.old) spans.now ++ values_at variables.old indices.now)) variables.old }
+        ≡ variables_after (total_all windows.now.spans.now) windows.now.indices.now
+        ((layout_in program.now).core run.now.item run.now.element run.now.constants.now
+        (gathered_all (map (λ v. v.items) memories.old) windows.now.spans.now ++ values_at variables.old windows.now.indices.now))
+        variables.old }
 {
+    let (spans, indices) = (windows.spans, windows.indices);
     let count = load_all(memories, spans, variables, indices, frame);
     let whole = count + indices.len();
-    let ran = run_kernel(
+    let window = &mut frame[..whole];
+    match run_kernel(
         program,
-        item,
-        element,
-        constants,
-        &mut frame[..whole],
+        run.item,
+        run.element,
+        run.constants,
+        window,
         scratch,
-    );
-    match ran {
+    ) {
         Ok(()) => {
             scatter_all(memories, spans, &frame[..whole]);
             put_back_values(variables, indices, &frame[count..whole]);

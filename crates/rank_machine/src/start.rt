@@ -8,7 +8,7 @@ ghost use Rattle.rank_state.specs.Starting.{AreFirst};
 ghost use Rattle.rank_state.specs.Spare.{HasSpare};
 ghost use Rattle.rank_program.specs.Sound.{Sound, setup_in, layout_in, tables_in};
 
-use crate::machine::Machine;
+use crate::machine::{Machine, Sizes};
 use kernel_types::KernelFault;
 use rank_program::DistributedProgram;
 use std::alloc::{AllocError, Global};
@@ -35,16 +35,18 @@ pub fn start(
     ensures mail { IfOk result (λ m. m.mail.left ≡ mail) }
 {
     rank_state::start_shows::<KernelFault>();
-    let stride = program.stride();
+    let sizes = Sizes {
+        frames,
+        mail,
+        stride: program.stride(),
+    };
     let machine = Machine::new(
         alloc,
         memories,
         variables,
         program.slots(),
         program.places(),
-        frames,
-        mail,
-        stride,
+        sizes,
     )?;
     Ok(machine)
 }

@@ -6,7 +6,6 @@ ghost use Rattle.schedule_steps.specs.declared.step.Step.TheVariants.{Begin, End
 ghost use Rattle.schedule_steps.specs.Steps.{IsStep};
 ghost use Rattle.flat_machine.specs.Layout.{by_place};
 ghost use Rattle.flat_machine.specs.Flat.{Flat, Shut_pane, flat_step};
-ghost use Rattle.rank_state.specs.declared.spans.Span.{Span};
 ghost use Rattle.rank_state.specs.Frames.{Shut, pane_at};
 ghost use Rattle.rank_state.specs.Indices.{values_at};
 ghost use Rattle.rank_state.specs.Shows.{AreWindows, Shows, pane_in};
@@ -15,9 +14,9 @@ ghost use Rattle.rank_program.specs.Sound.{Sound, setup_in, layout_in, tables_in
 ghost use Rattle.rank_program.specs.Keeping.{KeepsIn};
 
 use crate::machine::Machine;
+use crate::windows::{Begun, Windows};
 use kernel_types::KernelFault;
 use rank_program::{DistributedProgram, Room, original_at, owns_at, push_element};
-use rank_state::{Scalar, Span};
 
 /// Copies the values of all constants.
 pub fn read_constants(machine: &Machine, program: &DistributedProgram<'_>, values: &mut Vec<i32>)
@@ -34,35 +33,31 @@ pub fn read_constants(machine: &Machine, program: &DistributedProgram<'_>, value
 fn begin_on(
     machine: &mut Machine,
     program: &DistributedProgram<'_>,
-    item: u32,
-    rank: u32,
-    place: u32,
-    spans: &[Span],
-    scalars: &[Scalar],
+    element: Begun,
+    windows: &Windows<'_>,
     constants: &[i32],
     locals: &mut [i32],
 )
     requires sound { Sound program.now }
-    requires planned { IsStep (by_place (setup_in program.now) (layout_in program.now)) (Begin item rank place) }
-    requires are { AreWindows (setup_in program.now) (layout_in program.now) (tables_in program.now) item rank place spans.now scalars.now }
+    requires planned { IsStep (by_place (setup_in program.now) (layout_in program.now)) (Begin element.item element.rank element.place) }
+    requires original { element.original ≡ (layout_in program.now).original element.item element.rank element.place }
+    requires are { AreWindows (setup_in program.now) (layout_in program.now) (tables_in program.now)
+        element.item element.rank element.place windows.now.spans.now windows.now.scalars.now }
     requires values { constants.now ≡ values_at machine.old.variables (tables_in program.now).constants }
     requires locals { program.now.locals ≤ length locals.old }
     requires shows { (f : Flat KernelFault) × Shows (setup_in program.now) (layout_in program.now) (tables_in program.now) machine.old f }
-    requires shut { pane_at machine.old.frames.panes rank place ≡ Shut }
+    requires shut { pane_at machine.old.frames.panes element.rank element.place ≡ Shut }
     requires room { 0 < machine.old.frames.left }
     ensures shows { (f : Flat KernelFault) → Shows (setup_in program.now) (layout_in program.now) (tables_in program.now) machine.old f
         → Shows (setup_in program.now) (layout_in program.now) (tables_in program.now) machine.new
-        (flat_step (setup_in program.now) (layout_in program.now) (Begin item rank place) f) }
+        (flat_step (setup_in program.now) (layout_in program.now) (Begin element.item element.rank element.place) f) }
     ensures mail { machine.new.mail.left ≡ machine.old.mail.left }
     ensures frames { machine.new.frames.left + 1 ≡ machine.old.frames.left }
 {
     rank_state::begin_shows::<KernelFault>();
     rank_state::steps_can::<KernelFault>();
     rank_state::windows_are_counted::<KernelFault>();
-    let original = original_at(program, item, rank, place);
-    machine.begin(
-        program, constants, item, rank, place, original, spans, scalars, locals,
-    );
+    machine.begin(program, constants, element, windows, locals);
 }
 
 /// A begin.
@@ -90,14 +85,21 @@ pub fn begin(
     read_constants(machine, program, &mut room.constants);
     room.spans.clear();
     let scalars = push_element(program, item, rank, place, &mut room.spans);
-    begin_on(
-        machine,
-        program,
+    let element = Begun {
         item,
         rank,
         place,
-        &room.spans,
+        original: original_at(program, item, rank, place),
+    };
+    let windows = Windows {
+        spans: &room.spans,
         scalars,
+    };
+    begin_on(
+        machine,
+        program,
+        element,
+        &windows,
         &room.constants,
         &mut room.locals,
     );
@@ -110,12 +112,12 @@ fn end_on(
     item: u32,
     rank: u32,
     place: u32,
-    spans: &[Span],
-    scalars: &[Scalar],
+    windows: &Windows<'_>,
 )
     requires sound { Sound program.now }
     requires planned { IsStep (by_place (setup_in program.now) (layout_in program.now)) (End item rank place) }
-    requires are { AreWindows (setup_in program.now) (layout_in program.now) (tables_in program.now) item rank place spans.now scalars.now }
+    requires are { AreWindows (setup_in program.now) (layout_in program.now) (tables_in program.now)
+        item rank place windows.now.spans.now windows.now.scalars.now }
     requires shows { (f : Flat KernelFault) × Shows (setup_in program.now) (layout_in program.now) (tables_in program.now) machine.old f }
     requires open { pane_in item (pane_at machine.old.frames.panes rank place) ≢ Shut_pane }
     ensures shows { (f : Flat KernelFault) → Shows (setup_in program.now) (layout_in program.now) (tables_in program.now) machine.old f
@@ -127,7 +129,7 @@ fn end_on(
     rank_state::end_shows::<KernelFault>();
     rank_state::steps_can::<KernelFault>();
     let own = owns_at(program, item, rank, place);
-    machine.end(own, rank, place, spans, scalars);
+    machine.end(own, rank, place, windows);
 }
 
 /// An end.
@@ -153,7 +155,11 @@ pub fn end(
 {
     room.spans.clear();
     let scalars = push_element(program, item, rank, place, &mut room.spans);
-    end_on(machine, program, item, rank, place, &room.spans, scalars);
+    let windows = Windows {
+        spans: &room.spans,
+        scalars,
+    };
+    end_on(machine, program, item, rank, place, &windows);
 }
 
 /// A begin that is followed at once by its own end.

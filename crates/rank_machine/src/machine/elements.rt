@@ -14,7 +14,8 @@ ghost use Rattle.rank_program.specs.Sound.{Sound, Takes, setup_in, layout_in, ta
 ghost use Rattle.rank_program.specs.Keeping.{KeepsIn};
 
 use crate::machine::Machine;
-use crate::running::run_in;
+use crate::running::{Cells, run_in};
+use crate::windows::{Begun, KernelRun, Windows};
 use rank_program::{DistributedProgram, Room, run_places};
 use rank_state::rank_memory::loading::load;
 use rank_state::rank_memory::stop::least;
@@ -38,41 +39,42 @@ impl Machine {
         &mut self,
         program: &DistributedProgram<'_>,
         constants: &[i32],
-        item: u32,
-        rank: u32,
-        place: u32,
-        original: u32,
-        spans: &[Span],
-        scalars: &[Scalar],
+        element: Begun,
+        windows: &Windows<'_>,
         scratch: &mut [i32],
     )
-        requires takes { Takes program.now item original (length constants.now) (total spans.now + length scalars.now) }
+        requires takes { Takes program.now element.item element.original (length constants.now)
+            (total windows.now.spans.now + length windows.now.scalars.now) }
         requires locals { program.now.locals ≤ length scratch.old }
-        requires rank { rank < length self.old.memories }
-        requires frames { rank < length self.old.frames.panes }
-        requires place { place < length (slice_index_or self.old.frames.panes rank []) }
-        requires shut { pane_at self.old.frames.panes rank place ≡ Shut }
+        requires rank { element.rank < length self.old.memories }
+        requires frames { element.rank < length self.old.frames.panes }
+        requires place { element.place < length (slice_index_or self.old.frames.panes element.rank []) }
+        requires shut { pane_at self.old.frames.panes element.rank element.place ≡ Shut }
         requires room { 0 < self.old.frames.left }
-        requires inside { Within (length (row self.old.memories rank)) spans.now }
-        requires reads { Reads (length self.old.variables) scalars.now }
-        requires fits { total spans.now + length scalars.now ≤ self.old.frames.stride }
+        requires inside { Within (length (row self.old.memories element.rank)) windows.now.spans.now }
+        requires reads { Reads (length self.old.variables) windows.now.scalars.now }
+        requires fits { total windows.now.spans.now + length windows.now.scalars.now ≤ self.old.frames.stride }
         ensures { self.new
-            ≡ begun_as item rank place original
-            ((layout_in program.now).core item original constants.now (windows_of self.old rank spans.now scalars.now)) self.old }
+            ≡ begun_as element.item element.rank element.place element.original
+            ((layout_in program.now).core element.item element.original constants.now
+            (windows_of self.old element.rank windows.now.spans.now windows.now.scalars.now)) self.old }
     {
-        let ran = run_in(
-            program,
+        let Begun {
             item,
+            rank,
+            place,
             original,
+        } = element;
+        let run = KernelRun {
+            item,
+            element: original,
             constants,
-            &self.memories[rank as usize],
-            spans,
-            &self.variables,
-            scalars,
-            &mut self.window,
-            scratch,
-        );
-        match ran {
+        };
+        let cells = Cells {
+            memory: &self.memories[rank as usize],
+            variables: &self.variables,
+        };
+        match run_in(program, &run, &cells, windows, &mut self.window, scratch) {
             Ok(count) => self.frames.open(item, rank, place, &self.window[..count]),
             Err(fault) => {
                 self.frames.open_broken(item, rank, place, fault);
@@ -148,28 +150,28 @@ impl Machine {
     }
 
     /// Copies an element's frame back, and merges its amounts where the element is owned.
-    pub fn end(&mut self, own: bool, rank: u32, place: u32, spans: &[Span], scalars: &[Scalar])
+    pub fn end(&mut self, own: bool, rank: u32, place: u32, windows: &Windows<'_>)
         requires rank { rank < length self.old.memories }
         requires partials { rank < length self.old.partials }
         requires frames { rank < length self.old.frames.panes }
         requires place { place < length (slice_index_or self.old.frames.panes rank []) }
         requires open { pane_at self.old.frames.panes rank place ≢ Shut }
-        requires inside { Within (length (row self.old.memories rank)) spans.now }
-        requires slots { Merges (length (row self.old.partials rank)) scalars.now }
-        requires small { total spans.now < 2 ^ 64 }
-        requires enough { Enough (total spans.now) (pane_at self.old.frames.panes rank place) }
-        requires exact { Exactly (total spans.now + length scalars.now) (pane_at self.old.frames.panes rank place) }
-        ensures { self.new ≡ ended own rank place spans.now scalars.now self.old }
+        requires inside { Within (length (row self.old.memories rank)) windows.now.spans.now }
+        requires slots { Merges (length (row self.old.partials rank)) windows.now.scalars.now }
+        requires small { total windows.now.spans.now < 2 ^ 64 }
+        requires enough { Enough (total windows.now.spans.now) (pane_at self.old.frames.panes rank place) }
+        requires exact { Exactly (total windows.now.spans.now + length windows.now.scalars.now) (pane_at self.old.frames.panes rank place) }
+        ensures { self.new ≡ ended own rank place windows.now.spans.now windows.now.scalars.now self.old }
     {
-        let skip = cells(spans);
+        let skip = cells(windows.spans);
         self.frames.end(
             own,
             rank,
             place,
             &mut self.memories[rank as usize],
-            spans,
+            windows.spans,
             &mut self.partials[rank as usize],
-            scalars,
+            windows.scalars,
             skip,
         );
     }

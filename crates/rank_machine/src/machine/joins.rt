@@ -23,6 +23,7 @@ ghost use Rattle.rank_program.specs.Sound.{Takes, layout_in};
 use crate::machine::Machine;
 use crate::reduce::{reduce_variables, unite_all};
 use crate::running::run_owned;
+use crate::windows::{KernelRun, OwnedWindows};
 use bound_program::{Mesh, ToldAct};
 use gather::print_dat;
 use host_acts::{Variables, run_act};
@@ -56,33 +57,30 @@ impl Machine {
     pub fn element(
         &mut self,
         program: &DistributedProgram<'_>,
-        constants: &[i32],
-        item: u32,
-        element: u32,
-        spans: &[Owned],
-        indices: &[usize],
+        run: &KernelRun<'_>,
+        windows: &OwnedWindows<'_>,
         scratch: &mut [i32],
     ) -> Option<KernelFault>
-        requires takes { Takes program.now item element (length constants.now) (total_all spans.now + length indices.now) }
+        requires takes { Takes program.now run.now.item run.now.element (length run.now.constants.now)
+            (total_all windows.now.spans.now + length windows.now.indices.now) }
         requires locals { program.now.locals ≤ length scratch.old }
-        requires inside { Within_all self.old.memories spans.now }
-        requires reads { InLength (length self.old.variables) indices.now }
-        requires room { total_all spans.now + length indices.now ≤ self.old.frames.stride }
+        requires inside { Within_all self.old.memories windows.now.spans.now }
+        requires reads { InLength (length self.old.variables) windows.now.indices.now }
+        requires room { total_all windows.now.spans.now + length windows.now.indices.now ≤ self.old.frames.stride }
         ensures fault { result
-            ≡ fault_of ((layout_in program.now).core item element constants.now (all_windows spans.now indices.now self.old)) }
+            ≡ fault_of ((layout_in program.now).core run.now.item run.now.element run.now.constants.now
+            (all_windows windows.now.spans.now windows.now.indices.now self.old)) }
         ensures state { self.new
-            ≡ left_in spans.now indices.now
-            ((layout_in program.now).core item element constants.now (all_windows spans.now indices.now self.old)) self.old }
+            ≡ left_in windows.now.spans.now windows.now.indices.now
+            ((layout_in program.now).core run.now.item run.now.element run.now.constants.now
+            (all_windows windows.now.spans.now windows.now.indices.now self.old)) self.old }
     {
         run_owned(
             program,
-            constants,
-            item,
-            element,
+            run,
             &mut self.memories,
             &mut self.variables,
-            spans,
-            indices,
+            windows,
             &mut self.window,
             scratch,
         )

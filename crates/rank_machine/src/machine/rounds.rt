@@ -11,8 +11,8 @@ ghost use Rattle.rank_program.specs.Keeping.{KeepsIn};
 ghost use Rattle.rank_machine.specs.OnRanks.{places_on, RanOnRanks, share_at, with_shares};
 
 use crate::machine::Machine;
-use crate::ranks::{RankPart, run_lent};
-use par_exec::Gate;
+use crate::ranks::{RankPart, Round, run_lent};
+use par_exec::{Crew, Gate};
 use rank_program::DistributedProgram;
 use std::marker::Sync;
 use std::thread::Threads;
@@ -26,19 +26,16 @@ impl Machine {
     }
 
     /// Runs the kernel for the elements at each rank's places, one after another, and puts back at once what each leaves; the ranks
-    /// are shared out among the `workers`, at least 1, and `gate` is told of each rank just before. The faults are put together by
+    /// are shared out among the workers of `crew`, and its gate is told of each rank just before. The faults are put together by
     /// increasing rank. There are as many lists of places and parts as ranks; the parts' rooms have the values of all constants.
     pub fn on_ranks<R: Threads + Sync, G: Gate>(
         &mut self,
-        rt: &R,
+        crew: &Crew<'_, R, G>,
         program: &DistributedProgram<'_>,
         item: u32,
         lists: &[Vec<u32>],
         parts: &mut [RankPart],
-        workers: u32,
-        gate: &G,
     )
-        requires workers { 0 < workers }
         requires sound { Sound program.now }
         requires keeps { KeepsIn program.now item }
         requires listed { length lists.now ≡ length parts.old }
@@ -58,18 +55,19 @@ impl Machine {
         ensures space { All (λ x. HasRoomOf program.now x.room) parts.new }
         ensures count { length parts.new ≡ length parts.old }
     {
-        let kept = run_lent(
-            rt,
+        let round = Round {
             program,
-            item,
             lists,
-            &self.variables,
+            item,
+            variables: &self.variables,
+        };
+        let kept = run_lent(
+            crew,
+            &round,
             &mut self.memories,
             &mut self.partials,
             self.fault,
             parts,
-            workers,
-            gate,
         );
         self.fault = kept;
     }
