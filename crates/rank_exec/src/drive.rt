@@ -17,6 +17,7 @@ ghost use Rattle.rank_exec.specs.Driving.{Ready, After, posts, takes, opens, shu
 ghost use Rattle.rank_program.specs.Sound.{Sound, setup_in, layout_in, tables_in};
 ghost use Rattle.rank_program.specs.Keeping.{KeepsIn};
 
+use crate::begins::BeginAt;
 use crate::group::run_begins;
 use crate::joins::join;
 use crate::rounds::run_behind;
@@ -24,7 +25,7 @@ use crate::run_room::RunRoom;
 use crate::stream::{Steps, next_of};
 use kernel_types::KernelFault;
 use op_num::OutOfMemory;
-use par_exec::Gate;
+use par_exec::{Crew, Gate};
 use rank_machine::machine::Machine;
 use rank_machine::{messages, steps};
 use rank_program::{DistributedProgram, Room};
@@ -78,16 +79,12 @@ fn take(
 
 // The steps of an accepted list, up to the first that stops.
 fn run<R: Threads + Sync, G: Gate, S: Steps>(
-    rt: &R,
-    alloc: Global,
+    crew: &Crew<'_, R, G>,
     machine: &mut Machine,
     program: &DistributedProgram<'_>,
     room: &mut RunRoom,
     steps: &mut S,
-    workers: u32,
-    gate: &G,
 ) -> Result<Option<Stop>, OutOfMemory>
-    requires workers { 0 < workers }
     requires sound { Sound program.now }
     requires keeps { (k : ℕ) → KeepsIn program.now k }
     requires space { HasRunRoomOf program.now room.old }
@@ -109,14 +106,13 @@ fn run<R: Threads + Sync, G: Gate, S: Steps>(
     let mut next = next_of(steps);
     while let Some(step) = next {
         if let Step::Begin { item, rank, place } = step {
-            next = run_begins(
-                rt, machine, program, room, steps, item, rank, place, workers, gate,
-            );
+            let begin = BeginAt { item, rank, place };
+            next = run_begins(crew, machine, program, room, steps, begin);
         } else {
-            if let Some(stop) = take(alloc, machine, program, &mut room.step, step)? {
+            if let Some(stop) = take(crew.alloc, machine, program, &mut room.step, step)? {
                 return Ok(Some(stop));
             }
-            run_behind(rt, machine, program, room, steps, step, workers, gate)?;
+            run_behind(crew, machine, program, room, steps, step)?;
             next = next_of(steps);
         }
     }
@@ -126,11 +122,10 @@ fn run<R: Threads + Sync, G: Gate, S: Steps>(
 /// The steps of an accepted list: the stop and the output are those of the sequential run. Where no step stops, the
 /// machine's lists, its memories among them, show where the machine on flat buffers ends.
 ///
-/// A run of begins is done in groups by the `workers`, at least 1, and `gate` is told of each begin of a group; a begin that
-/// its own end follows is done in place. So are closed groups that the stream tells behind a step: with several workers and
-/// ranks in rounds, of which the gate is told of each rank, else where their kernel is short. The answer is the same for every
-/// number of workers and every gate. `room` is what [`RunRoom::new`] gives; memory is wanted for what joins print, and for the
-/// places of rounds.
+/// A run of begins is done in groups by the workers of `crew`, and its gate is told of each begin of a group; a begin that its
+/// own end follows is done in place. So are closed groups that the stream tells behind a step: with several workers and ranks
+/// in rounds, of which the gate is told of each rank, else where their kernel is short. The answer is the same for every crew.
+/// `room` is what [`RunRoom::new`] gives; memory is wanted for what joins print, and for the places of rounds.
 ///
 /// However it ends, by the last step, by a stop or for want of memory, what `steps` still holds is a suffix of what it held:
 /// steps are taken from the front, and none is put back.
@@ -138,16 +133,12 @@ fn run<R: Threads + Sync, G: Gate, S: Steps>(
 /// # Errors
 /// Want of memory alone.
 pub fn drive<R: Threads + Sync, G: Gate, S: Steps>(
-    rt: &R,
-    alloc: Global,
+    crew: &Crew<'_, R, G>,
     machine: &mut Machine,
     program: &DistributedProgram<'_>,
     room: &mut RunRoom,
     steps: &mut S,
-    workers: u32,
-    gate: &G,
 ) -> Result<Option<Stop>, OutOfMemory>
-    requires workers { 0 < workers }
     requires sound { Sound program.now }
     requires keeps { (k : ℕ) → KeepsIn program.now k }
     requires space { HasRunRoomOf program.now room.old }
@@ -166,6 +157,6 @@ pub fn drive<R: Threads + Sync, G: Gate, S: Steps>(
     ensures suffix { (front : List Step) × (S.left steps.old ≡ front ++ S.left steps.new) }
 {
     flat_machine::flat_runs_as_sequential::<KernelFault>();
-    let stop = run(rt, alloc, machine, program, room, steps, workers, gate)?;
+    let stop = run(crew, machine, program, room, steps)?;
     Ok(stop)
 }

@@ -17,13 +17,14 @@ ghost use Rattle.rank_program.specs.Sound.{Sound, Takes, setup_in, layout_in, ta
 ghost use Rattle.rank_program.specs.Keeping.{KeepsIn};
 
 use crate::alone::run_alone;
+use crate::begins::{BeginAt, Begins};
 use crate::group_room::GroupRoom;
 use crate::group_steps::{load_all, open_all};
 use crate::run_room::{MOST_BEGINS, RunRoom};
 use crate::sharing::workers_for;
 use crate::stream::{Steps, next_of};
 use kernel_types::KernelFault;
-use par_exec::Gate;
+use par_exec::{Crew, Gate};
 use rank_machine::machine::Machine;
 use rank_machine::steps::{in_place, read_constants};
 use rank_program::{DistributedProgram, Room, Targets, Task, job, put_targets, run_tasks};
@@ -34,7 +35,7 @@ use std::thread::Threads;
 // Runs the kernel of the loop that is the item once for each task, on the first cells of the task's window of `staging`.
 // Behind them stands a 0 then, or a 1 where the run had a fault. The first task is that of `place`.
 fn run_all<R: Threads + Sync, G: Gate>(
-    rt: &R,
+    crew: &Crew<'_, R, G>,
     program: &DistributedProgram<'_>,
     item: u32,
     place: u32,
@@ -43,10 +44,7 @@ fn run_all<R: Threads + Sync, G: Gate>(
     constants: &[i32],
     staging: &mut [i32],
     window: usize,
-    workers: u32,
-    gate: &G,
 )
-    requires workers { 0 < workers }
     requires takes { (i : ℕ) → i < length tasks.now
         → Takes program.now item (task_at tasks.now i).element (length constants.now) (task_at tasks.now i).cells }
     requires wide { 0 < window }
@@ -64,8 +62,8 @@ fn run_all<R: Threads + Sync, G: Gate>(
     }
     put_targets(program, item, tasks, targets);
     let job = job(program, item, tasks, targets, constants);
-    let workers = workers_for(&job, place, workers);
-    run_tasks(rt, &job, staging, window, workers, gate);
+    let crew = crew.with_workers(workers_for(&job, place, crew.workers));
+    run_tasks(&crew, &job, staging, window);
 }
 
 // The first place, or 0 where there is none.
@@ -78,116 +76,98 @@ fn first_of(places: &[u32]) -> u32 {
 
 // The begins of a group on windows of `window` cells of the staging buffer, with room for their tasks.
 fn begin_tasks<R: Threads + Sync, G: Gate>(
-    rt: &R,
+    crew: &Crew<'_, R, G>,
     machine: &mut Machine,
     program: &DistributedProgram<'_>,
     room: &mut Room,
-    item: u32,
-    rank: u32,
-    places: &[u32],
+    group: &Begins<'_>,
     tasks: &mut Vec<Task>,
     targets: &mut Vec<Targets>,
     staging: &mut [i32],
     window: usize,
-    workers: u32,
-    gate: &G,
 )
-    requires workers { 0 < workers }
     requires sound { Sound program.now }
-    requires planned { Planned (by_place (setup_in program.now) (layout_in program.now)) item rank places.now }
+    requires planned { Planned (by_place (setup_in program.now) (layout_in program.now))
+        group.now.item group.now.rank group.now.places.now }
     requires space { HasRoomOf program.now room.old }
     requires shows { (f : Flat KernelFault) × Shows (setup_in program.now) (layout_in program.now) (tables_in program.now) machine.old f }
-    requires shut { AllShut machine.old.frames.panes rank places.now }
-    requires distinct { Distinct places.now }
-    requires room { length places.now ≤ machine.old.frames.left }
+    requires shut { AllShut machine.old.frames.panes group.now.rank group.now.places.now }
+    requires distinct { Distinct group.now.places.now }
+    requires room { length group.now.places.now ≤ machine.old.frames.left }
     requires wide { (tables_in program.now).stride + program.now.locals < window }
-    requires enough { length places.now * window ≤ length staging.old }
+    requires enough { length group.now.places.now * window ≤ length staging.old }
     requires none { tasks.old.items ≡ [] }
-    requires tasks { length places.now ≤ vec_capacity tasks.old }
+    requires tasks { length group.now.places.now ≤ vec_capacity tasks.old }
     requires empty { targets.old.items ≡ [] }
-    requires targets { length places.now ≤ vec_capacity targets.old }
+    requires targets { length group.now.places.now ≤ vec_capacity targets.old }
     ensures shows { (f : Flat KernelFault) → Shows (setup_in program.now) (layout_in program.now) (tables_in program.now) machine.old f
         → Shows (setup_in program.now) (layout_in program.now) (tables_in program.now) machine.new
-        (flat_from (setup_in program.now) (layout_in program.now) (begins item rank places.now) f) }
+        (flat_from (setup_in program.now) (layout_in program.now) (begins group.now.item group.now.rank group.now.places.now) f) }
     ensures space { HasRoomOf program.now room.new }
     ensures mail { machine.new.mail.left ≡ machine.old.mail.left }
-    ensures frames { machine.new.frames.left + length places.now ≡ machine.old.frames.left }
+    ensures frames { machine.new.frames.left + length group.now.places.now ≡ machine.old.frames.left }
     ensures tasks { vec_capacity tasks.new ≡ vec_capacity tasks.old }
     ensures targets { vec_capacity targets.new ≡ vec_capacity targets.old }
 {
     rank_state::windows_are_counted::<KernelFault>();
-    let staging = &mut staging[..places.len() * window];
-    load_all(
-        machine, program, room, item, rank, places, tasks, staging, window,
-    );
+    let staging = &mut staging[..group.places.len() * window];
+    load_all(machine, program, room, group, tasks, staging, window);
     read_constants(machine, program, &mut room.constants);
     run_all(
-        rt,
+        crew,
         program,
-        item,
-        first_of(places),
+        group.item,
+        first_of(group.places),
         tasks,
         targets,
         &room.constants,
         staging,
         window,
-        workers,
-        gate,
     );
-    open_all(
-        machine, program, room, item, rank, places, tasks, staging, window,
-    );
+    open_all(machine, program, room, group, tasks, staging, window);
 }
 
-/// The begins of a group, in their order. Their kernels run first, by the `workers`, at least 1, and the gate is told of each
-/// run just before, by the begin's number in the group, from 0 on. `group` is room for as many begins or more.
+/// The begins of a group, in their order. Their kernels run first, by the workers of `crew`, and its gate is told of each run
+/// just before, by the begin's number in the group, from 0 on. `buffers` are room for as many begins or more.
 pub fn begin_group<R: Threads + Sync, G: Gate>(
-    rt: &R,
+    crew: &Crew<'_, R, G>,
     machine: &mut Machine,
     program: &DistributedProgram<'_>,
     room: &mut Room,
-    group: &mut GroupRoom,
-    item: u32,
-    rank: u32,
-    places: &[u32],
-    workers: u32,
-    gate: &G,
+    buffers: &mut GroupRoom,
+    group: &Begins<'_>,
 )
-    requires workers { 0 < workers }
     requires sound { Sound program.now }
-    requires planned { Planned (by_place (setup_in program.now) (layout_in program.now)) item rank places.now }
+    requires planned { Planned (by_place (setup_in program.now) (layout_in program.now))
+        group.now.item group.now.rank group.now.places.now }
     requires space { HasRoomOf program.now room.old }
     requires shows { (f : Flat KernelFault) × Shows (setup_in program.now) (layout_in program.now) (tables_in program.now) machine.old f }
-    requires shut { AllShut machine.old.frames.panes rank places.now }
-    requires distinct { Distinct places.now }
-    requires room { length places.now ≤ machine.old.frames.left }
-    requires group { HasGroupRoom (length places.now) (tables_in program.now).stride (program.now.locals) group.old }
+    requires shut { AllShut machine.old.frames.panes group.now.rank group.now.places.now }
+    requires distinct { Distinct group.now.places.now }
+    requires room { length group.now.places.now ≤ machine.old.frames.left }
+    requires buffers { HasGroupRoom (length group.now.places.now) (tables_in program.now).stride (program.now.locals) buffers.old }
     ensures shows { (f : Flat KernelFault) → Shows (setup_in program.now) (layout_in program.now) (tables_in program.now) machine.old f
         → Shows (setup_in program.now) (layout_in program.now) (tables_in program.now) machine.new
-        (flat_from (setup_in program.now) (layout_in program.now) (begins item rank places.now) f) }
+        (flat_from (setup_in program.now) (layout_in program.now) (begins group.now.item group.now.rank group.now.places.now) f) }
     ensures space { HasRoomOf program.now room.new }
     ensures mail { machine.new.mail.left ≡ machine.old.mail.left }
-    ensures frames { machine.new.frames.left + length places.now ≡ machine.old.frames.left }
-    ensures group { (most : ℕ) → HasGroupRoom most (tables_in program.now).stride (program.now.locals) group.old
-        → HasGroupRoom most (tables_in program.now).stride (program.now.locals) group.new }
+    ensures frames { machine.new.frames.left + length group.now.places.now ≡ machine.old.frames.left }
+    ensures buffers { (most : ℕ) → HasGroupRoom most (tables_in program.now).stride (program.now.locals) buffers.old
+        → HasGroupRoom most (tables_in program.now).stride (program.now.locals) buffers.new }
 {
-    let window = group.window;
-    group.tasks.clear();
-    group.targets.clear();
+    let window = buffers.window;
+    buffers.tasks.clear();
+    buffers.targets.clear();
     begin_tasks(
-        rt,
+        crew,
         machine,
         program,
         room,
-        item,
-        rank,
-        places,
-        &mut group.tasks,
-        &mut group.targets,
-        &mut group.staging,
+        group,
+        &mut buffers.tasks,
+        &mut buffers.targets,
+        &mut buffers.staging,
         window,
-        workers,
-        gate,
     );
 }
 
@@ -256,30 +236,26 @@ fn is_end(step: Option<Step>, item: u32, rank: u32, place: u32) -> bool
 /// A begin and those of its item and rank that come next, as one group; a begin that its own end
 /// follows, in place, and with it those of which the stream tells that they follow in the same way. Answers the step after them.
 pub fn run_begins<R: Threads + Sync, G: Gate, S: Steps>(
-    rt: &R,
+    crew: &Crew<'_, R, G>,
     machine: &mut Machine,
     program: &DistributedProgram<'_>,
     room: &mut RunRoom,
     steps: &mut S,
-    item: u32,
-    rank: u32,
-    place: u32,
-    workers: u32,
-    gate: &G,
+    begin: BeginAt,
 ) -> Option<Step>
-    requires workers { 0 < workers }
     requires sound { Sound program.now }
     requires keeps { (k : ℕ) → KeepsIn program.now k }
     requires space { HasRunRoomOf program.now room.old }
     requires shows { (f : Flat KernelFault) × Shows (setup_in program.now) (layout_in program.now) (tables_in program.now) machine.old f }
     requires ready { ComeReady (setup_in program.now) (layout_in program.now) (tables_in program.now)
-        (Begin item rank place ∷ S.left steps.old) machine.old }
-    ensures done { (done : List Step) × (Begin item rank place ∷ S.left steps.old ≡ done ++ to_come result (S.left steps.new))
-        × (0 < length done)
+        (Begin begin.item begin.rank begin.place ∷ S.left steps.old) machine.old }
+    ensures done { (done : List Step)
+        × (Begin begin.item begin.rank begin.place ∷ S.left steps.old ≡ done ++ to_come result (S.left steps.new)) × (0 < length done)
         × Done (setup_in program.now) (layout_in program.now) (tables_in program.now) done machine.old machine.new }
     ensures over { result ≡ None → S.left steps.new ≡ [] }
     ensures space { HasRunRoomOf program.now room.new }
 {
+    let BeginAt { item, rank, place } = begin;
     room.places.clear();
     room.places.push_reserved(place);
     let next = collect(steps, item, rank, &mut room.places);
@@ -288,17 +264,18 @@ pub fn run_begins<R: Threads + Sync, G: Gate, S: Steps>(
         run_alone(machine, program, room, steps);
         return next_of(steps);
     }
+    let group = Begins {
+        item,
+        rank,
+        places: &room.places,
+    };
     begin_group(
-        rt,
+        crew,
         machine,
         program,
         &mut room.step,
         &mut room.group,
-        item,
-        rank,
-        &room.places,
-        workers,
-        gate,
+        &group,
     );
     next
 }

@@ -25,8 +25,8 @@ use kernel_types::KernelFault;
 use op_num::OutOfMemory;
 use rank_machine::machine::Machine;
 use rank_machine::steps::read_constants;
+use rank_machine::windows::{KernelRun, OwnedWindows};
 use rank_program::{DistributedProgram, Room, push_owned_windows, reduced_scalars};
-use rank_state::Owned;
 use rank_state::rank_memory::stop::Stop;
 use std::alloc::Global;
 
@@ -51,29 +51,29 @@ fn reduce(machine: &mut Machine, program: &DistributedProgram<'_>, item: u32)
 fn run_one_on(
     machine: &mut Machine,
     program: &DistributedProgram<'_>,
-    item: u32,
-    element: u32,
-    spans: &[Owned],
-    indices: &[usize],
-    constants: &[i32],
+    run: &KernelRun<'_>,
+    windows: &OwnedWindows<'_>,
     locals: &mut [i32],
 ) -> Option<KernelFault>
     requires sound { Sound program.now }
-    requires kind { (setup_in program.now).program.kind item ≡ Ordered }
-    requires element { element < elements (setup_in program.now).program item }
-    requires are { AreOwned (setup_in program.now) (layout_in program.now) (tables_in program.now) item element spans.now indices.now }
-    requires values { constants.now ≡ values_at machine.old.variables (tables_in program.now).constants }
+    requires kind { (setup_in program.now).program.kind run.now.item ≡ Ordered }
+    requires element { run.now.element < elements (setup_in program.now).program run.now.item }
+    requires are { AreOwned (setup_in program.now) (layout_in program.now) (tables_in program.now)
+        run.now.item run.now.element windows.now.spans.now windows.now.indices.now }
+    requires values { run.now.constants.now ≡ values_at machine.old.variables (tables_in program.now).constants }
     requires locals { program.now.locals ≤ length locals.old }
     requires shows { (f : Flat KernelFault) × Shows (setup_in program.now) (layout_in program.now) (tables_in program.now) machine.old f }
     ensures fault { result
-        ≡ fault_of (run_of (layout_in program.now) (tables_in program.now) item element spans.now indices.now machine.old) }
+        ≡ fault_of (run_of (layout_in program.now) (tables_in program.now)
+        run.now.item run.now.element windows.now.spans.now windows.now.indices.now machine.old) }
     ensures state { machine.new
-        ≡ left_in spans.now indices.now
-        (run_of (layout_in program.now) (tables_in program.now) item element spans.now indices.now machine.old) machine.old }
+        ≡ left_in windows.now.spans.now windows.now.indices.now
+        (run_of (layout_in program.now) (tables_in program.now)
+        run.now.item run.now.element windows.now.spans.now windows.now.indices.now machine.old) machine.old }
 {
     rank_state::steps_can::<KernelFault>();
     rank_state::windows_are_counted::<KernelFault>();
-    machine.element(program, constants, item, element, spans, indices, locals)
+    machine.element(program, run, windows, locals)
 }
 
 // One element of an Ordered loop; its fault, where it has one.
@@ -96,16 +96,16 @@ fn run_one(
     read_constants(machine, program, &mut room.constants);
     room.owned.clear();
     let indices = push_owned_windows(program, item, element, &mut room.owned);
-    run_one_on(
-        machine,
-        program,
+    let run = KernelRun {
         item,
         element,
-        &room.owned,
+        constants: &room.constants,
+    };
+    let windows = OwnedWindows {
+        spans: &room.owned,
         indices,
-        &room.constants,
-        &mut room.locals,
-    )
+    };
+    run_one_on(machine, program, &run, &windows, &mut room.locals)
 }
 
 // How many elements an Ordered loop has.

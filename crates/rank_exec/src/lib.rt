@@ -2,6 +2,7 @@
 #![tactic(auto)]
 
 mod alone;
+mod begins;
 mod closed;
 pub mod drive;
 mod gathering;

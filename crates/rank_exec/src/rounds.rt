@@ -24,7 +24,7 @@ use crate::sharing::{come_in_rounds, may_come_in_rounds, workers_for_round};
 use crate::stream::{Steps, next_closed_of};
 use kernel_types::KernelFault;
 use op_num::OutOfMemory;
-use par_exec::Gate;
+use par_exec::{Crew, Gate};
 use rank_machine::machine::Machine;
 use rank_machine::ranks::RankPart;
 use rank_machine::steps::read_constants;
@@ -52,16 +52,13 @@ fn read_all(machine: &Machine, program: &DistributedProgram<'_>, parts: &mut [Ra
 
 // A round: on each rank the elements at its places, begun and ended one after another.
 fn run_round<R: Threads + Sync, G: Gate>(
-    rt: &R,
+    crew: &Crew<'_, R, G>,
     machine: &mut Machine,
     program: &DistributedProgram<'_>,
     item: u32,
     lists: &[Vec<u32>],
     parts: &mut [RankPart],
-    workers: u32,
-    gate: &G,
 )
-    requires workers { 0 < workers }
     requires sound { Sound program.now }
     requires keeps { KeepsIn program.now item }
     requires listed { length lists.now ≡ length parts.old }
@@ -79,23 +76,20 @@ fn run_round<R: Threads + Sync, G: Gate>(
     ranks_come_in_turn::<KernelFault>();
     shares_are_set::<KernelFault>();
     read_all(machine, program, parts);
-    let workers = workers_for_round(program, item, lists, workers);
-    machine.on_ranks(rt, program, item, lists, parts, workers, gate);
+    let crew = crew.with_workers(workers_for_round(program, item, lists, crew.workers));
+    machine.on_ranks(&crew, program, item, lists, parts);
 }
 
 // A closed group that was told, with those of its item that come next on its rank and the ranks behind it, as a round. Answers the
 // group that was told behind them, whose places stand in the room. An error is want of memory.
 fn run_told_round<R: Threads + Sync, G: Gate, S: Steps>(
-    rt: &R,
+    crew: &Crew<'_, R, G>,
     machine: &mut Machine,
     program: &DistributedProgram<'_>,
     room: &mut RunRoom,
     steps: &mut S,
     of: ItemOnRank,
-    workers: u32,
-    gate: &G,
 ) -> Result<Option<ItemOnRank>, OutOfMemory>
-    requires workers { 0 < workers }
     requires sound { Sound program.now }
     requires keeps { (k : ℕ) → KeepsIn program.now k }
     requires space { HasRunRoomOf program.now room.old }
@@ -126,14 +120,12 @@ fn run_told_round<R: Threads + Sync, G: Gate, S: Steps>(
     clear_all(&mut room.round.lists);
     let next = gather(steps, of, &mut room.places, &mut room.round.lists)?;
     run_round(
-        rt,
+        crew,
         machine,
         program,
         of.item,
         &room.round.lists,
         &mut room.round.parts,
-        workers,
-        gate,
     );
     Ok(next)
 }
@@ -141,15 +133,12 @@ fn run_told_round<R: Threads + Sync, G: Gate, S: Steps>(
 // The closed groups that come next, as long as the stream tells them, as rounds. A group whose item comes in none is run by itself,
 // and is the last. An error is want of memory.
 fn run_rounds<R: Threads + Sync, G: Gate, S: Steps>(
-    rt: &R,
+    crew: &Crew<'_, R, G>,
     machine: &mut Machine,
     program: &DistributedProgram<'_>,
     room: &mut RunRoom,
     steps: &mut S,
-    workers: u32,
-    gate: &G,
 ) -> Result<(), OutOfMemory>
-    requires workers { 0 < workers }
     requires sound { Sound program.now }
     requires keeps { (k : ℕ) → KeepsIn program.now k }
     requires space { HasRunRoomOf program.now room.old }
@@ -168,7 +157,7 @@ fn run_rounds<R: Threads + Sync, G: Gate, S: Steps>(
     let mut next = next_closed_of(steps, &mut room.places);
     while let Some(of) = next {
         if of.rank as usize >= room.round.lists.len()
-            || !come_in_rounds(program, of.item, workers)
+            || !come_in_rounds(program, of.item, crew.workers)
         {
             run_group(
                 machine,
@@ -180,7 +169,7 @@ fn run_rounds<R: Threads + Sync, G: Gate, S: Steps>(
             );
             return Ok(());
         }
-        next = run_told_round(rt, machine, program, room, steps, of, workers, gate)?;
+        next = run_told_round(crew, machine, program, room, steps, of)?;
     }
     Ok(())
 }
@@ -191,16 +180,13 @@ fn run_rounds<R: Threads + Sync, G: Gate, S: Steps>(
 /// # Errors
 /// Want of memory alone.
 pub fn run_behind<R: Threads + Sync, G: Gate, S: Steps>(
-    rt: &R,
+    crew: &Crew<'_, R, G>,
     machine: &mut Machine,
     program: &DistributedProgram<'_>,
     room: &mut RunRoom,
     steps: &mut S,
     before: Step,
-    workers: u32,
-    gate: &G,
 ) -> Result<(), OutOfMemory>
-    requires workers { 0 < workers }
     requires sound { Sound program.now }
     requires keeps { (k : ℕ) → KeepsIn program.now k }
     requires space { HasRunRoomOf program.now room.old }
@@ -216,11 +202,11 @@ pub fn run_behind<R: Threads + Sync, G: Gate, S: Steps>(
     let parts = room.round.parts.len();
     let lists = room.round.lists.len();
     if parts != ranks || lists != ranks || machine.ranks() != ranks {
-        run_closed(machine, program, room, steps, before, workers);
+        run_closed(machine, program, room, steps, before, crew.workers);
         return Ok(());
     }
-    if may_come_in_rounds(program, before, workers) {
-        run_rounds(rt, machine, program, room, steps, workers, gate)?;
+    if may_come_in_rounds(program, before, crew.workers) {
+        run_rounds(crew, machine, program, room, steps)?;
     }
     Ok(())
 }

@@ -16,14 +16,13 @@ use crate::run_room::RunRoom;
 use crate::stream::Steps;
 use gather::dump;
 use op_num::OutOfMemory;
-use par_exec::Gate;
+use par_exec::{Crew, Gate};
 use rank_layout::{first_cells_stand, first_memories, first_variables};
 use rank_machine::machine::Machine;
 use rank_machine::start::start;
 use rank_program::{DistributedProgram, kernels_keep_reads};
 use rank_state::rank_memory::stop::Stop;
 use schedule_steps::Peak;
-use std::alloc::Global;
 use std::marker::Sync;
 use std::thread::Threads;
 
@@ -73,23 +72,18 @@ fn outcome_of(
 /// loop one element after another in its set's original order. Where `dumps` and no fault stops the run, a dump of what the
 /// ranks hold after these steps stands behind the printed bytes.
 ///
-/// Begins that come one after another are done in groups by the `workers`, at least 1, on threads of `rt`, or on all ranks at once;
-/// `gate` is told of each begin of a group, or of each rank, just before it. The answer is the same for every number of workers and
-/// every gate.
+/// Begins that come one after another are done in groups by the workers of `crew`, or on all ranks at once; its gate is told of
+/// each begin of a group, or of each rank, just before it. The answer is the same for every crew.
 ///
 /// # Errors
 /// Want of memory alone.
 pub fn run_planned<R: Threads + Sync, G: Gate, S: Steps>(
-    rt: &R,
-    alloc: Global,
+    crew: &Crew<'_, R, G>,
     program: &DistributedProgram<'_>,
     peak: Peak,
     steps: &mut S,
-    workers: u32,
-    gate: &G,
     dumps: bool,
 ) -> Result<Outcome, OutOfMemory>
-    requires workers { 0 < workers }
     requires sound { Sound program.now }
     requires obey { AllObey (program_in program.now) }
     requires start { StartsInRange (program_in program.now) }
@@ -105,27 +99,18 @@ pub fn run_planned<R: Threads + Sync, G: Gate, S: Steps>(
     bound_plan::plans_are_by_place();
     bound_plan::first_states_start();
     let spare = program.stride();
-    let memories = first_memories(alloc, &program.bound.mesh, program.meshes, spare)?;
-    let variables = first_variables(alloc, &program.bound.vars)?;
+    let memories = first_memories(crew.alloc, &program.bound.mesh, program.meshes, spare)?;
+    let variables = first_variables(crew.alloc, &program.bound.vars)?;
     let mut machine = start(
-        alloc,
+        crew.alloc,
         program,
         memories,
         variables,
         peak.frames as usize,
         peak.mail as usize,
     )?;
-    let mut room = RunRoom::new(alloc, program, workers)?;
-    let stop = drive(
-        rt,
-        alloc,
-        &mut machine,
-        program,
-        &mut room,
-        steps,
-        workers,
-        gate,
-    )?;
+    let mut room = RunRoom::new(crew.alloc, program, crew.workers)?;
+    let stop = drive(crew, &mut machine, program, &mut room, steps)?;
     let outcome = outcome_of(program, machine, stop, dumps)?;
     Ok(outcome)
 }

@@ -12,93 +12,93 @@ use Rattle.rank_program.specs.Sound.{setup_in, layout_in, tables_in}
 use Rattle.rank_exec.proofs.group.run_begins.Goals as goal
 
 pub in_place-requires-clause-planned : goal.in_place-requires-clause-planned
-in_place-requires-clause-planned g c = (c.requires.ready [] c.args.item c.args.rank (c.args.place ∷ []) (g.S.Steps.left c.args.steps.now) refl c.args.machine.now (done_none (setup_in c.args.program.now) (layout_in c.args.program.now) (tables_in c.args.program.now) c.args.machine.now)).0.0
+in_place-requires-clause-planned g c = (c.requires.ready [] c.args.begin.item c.args.begin.rank (c.args.begin.place ∷ []) (g.S.Steps.left c.args.steps.now) refl c.args.machine.now (done_none (setup_in c.args.program.now) (layout_in c.args.program.now) (tables_in c.args.program.now) c.args.machine.now)).0.0
 
 pub in_place-requires-clause-shut : goal.in_place-requires-clause-shut
-in_place-requires-clause-shut g c = (c.requires.ready [] c.args.item c.args.rank (c.args.place ∷ []) (g.S.Steps.left c.args.steps.now) refl c.args.machine.now (done_none (setup_in c.args.program.now) (layout_in c.args.program.now) (tables_in c.args.program.now) c.args.machine.now)).1.0
+in_place-requires-clause-shut g c = (c.requires.ready [] c.args.begin.item c.args.begin.rank (c.args.begin.place ∷ []) (g.S.Steps.left c.args.steps.now) refl c.args.machine.now (done_none (setup_in c.args.program.now) (layout_in c.args.program.now) (tables_in c.args.program.now) c.args.machine.now)).1.0
 
 pub in_place-requires-clause-room : goal.in_place-requires-clause-room
 in_place-requires-clause-room g c =
-    let left : 1 ≤ c.args.machine.now.frames.left = (c.requires.ready [] c.args.item c.args.rank (c.args.place ∷ []) (g.S.Steps.left c.args.steps.now) refl c.args.machine.now (done_none (setup_in c.args.program.now) (layout_in c.args.program.now) (tables_in c.args.program.now) c.args.machine.now)).3 in
+    let left : 1 ≤ c.args.machine.now.frames.left = (c.requires.ready [] c.args.begin.item c.args.begin.rank (c.args.begin.place ∷ []) (g.S.Steps.left c.args.steps.now) refl c.args.machine.now (done_none (setup_in c.args.program.now) (layout_in c.args.program.now) (tables_in c.args.program.now) c.args.machine.now)).3 in
     omega (arith, left)
 
 pub run_alone-requires-clause-shows : goal.run_alone-requires-clause-shows
-run_alone-requires-clause-shows g c = (flat_step (setup_in c.args.program.now) (layout_in c.args.program.now) (End c.args.item c.args.rank c.args.place) (flat_step (setup_in c.args.program.now) (layout_in c.args.program.now) (Begin c.args.item c.args.rank c.args.place) c.requires.shows.0), c.in_place.ensures.shows c.requires.shows.0 c.requires.shows.1)
+run_alone-requires-clause-shows g c = (flat_step (setup_in c.args.program.now) (layout_in c.args.program.now) (End c.args.begin.item c.args.begin.rank c.args.begin.place) (flat_step (setup_in c.args.program.now) (layout_in c.args.program.now) (Begin c.args.begin.item c.args.begin.rank c.args.begin.place) c.requires.shows.0), c.in_place.ensures.shows c.requires.shows.0 c.requires.shows.1)
 
 pub run_alone-requires-clause-ready : goal.run_alone-requires-clause-ready
 run_alone-requires-clause-ready g c =
-    let one : c.push_reserved.new.self.items ≡ c.args.place ∷ [] = c.push_reserved.ensures.items ∙ ap (λ xs. xs ++ (c.args.place ∷ [])) c.clear.ensures.items in
-    let all : begins c.args.item c.args.rank c.collect-next.new.places.items ++ to_come c.collect-next.result (g.S.Steps.left c.collect-next.new.steps) ≡ Begin c.args.item c.args.rank c.args.place ∷ g.S.Steps.left c.args.steps.now =
-    c.collect-next.ensures.all ∙ ap (λ xs. begins c.args.item c.args.rank xs ++ g.S.Steps.left c.args.steps.now) one in
+    let one : c.push_reserved.new.self.items ≡ c.args.begin.place ∷ [] = c.push_reserved.ensures.items ∙ ap (λ xs. xs ++ (c.args.begin.place ∷ [])) c.clear.ensures.items in
+    let all : begins c.args.begin.item c.args.begin.rank c.collect-next.new.places.items ++ to_come c.collect-next.result (g.S.Steps.left c.collect-next.new.steps) ≡ Begin c.args.begin.item c.args.begin.rank c.args.begin.place ∷ g.S.Steps.left c.args.steps.now =
+    c.collect-next.ensures.all ∙ ap (λ xs. begins c.args.begin.item c.args.begin.rank xs ++ g.S.Steps.left c.args.steps.now) one in
     let n : length c.collect-next.new.places.items ≡ 1 = omega (arith, c.if-len-eq1.true, c.len.ensures) in
-    let rest : to_come c.collect-next.result (g.S.Steps.left c.collect-next.new.steps) ≡ g.S.Steps.left c.args.steps.now = after_one c.args.item c.args.rank c.args.place c.collect-next.new.places.items (to_come c.collect-next.result (g.S.Steps.left c.collect-next.new.steps)) (g.S.Steps.left c.args.steps.now) n all in
-    let here : g.S.Steps.left c.args.steps.now ≡ End c.args.item c.args.rank c.args.place ∷ g.S.Steps.left c.collect-next.new.steps = sym rest ∙ ap (λ s. to_come s (g.S.Steps.left c.collect-next.new.steps)) (c.is_end.ensures c.if-is_end.true) in
-    let pair = done_pair (setup_in c.args.program.now) (layout_in c.args.program.now) (tables_in c.args.program.now) c.args.item c.args.rank c.args.place c.args.machine.now c.in_place.new.machine c.in_place.ensures.shows c.in_place.ensures.mail c.in_place.ensures.frames in
-    ready_after (setup_in c.args.program.now) (layout_in c.args.program.now) (tables_in c.args.program.now) (Begin c.args.item c.args.rank c.args.place ∷ g.S.Steps.left c.args.steps.now) (Begin c.args.item c.args.rank c.args.place ∷ End c.args.item c.args.rank c.args.place ∷ []) (g.S.Steps.left c.collect-next.new.steps) c.args.machine.now c.in_place.new.machine c.requires.ready (ap (λ z. Begin c.args.item c.args.rank c.args.place ∷ z) here) pair
+    let rest : to_come c.collect-next.result (g.S.Steps.left c.collect-next.new.steps) ≡ g.S.Steps.left c.args.steps.now = after_one c.args.begin.item c.args.begin.rank c.args.begin.place c.collect-next.new.places.items (to_come c.collect-next.result (g.S.Steps.left c.collect-next.new.steps)) (g.S.Steps.left c.args.steps.now) n all in
+    let here : g.S.Steps.left c.args.steps.now ≡ End c.args.begin.item c.args.begin.rank c.args.begin.place ∷ g.S.Steps.left c.collect-next.new.steps = sym rest ∙ ap (λ s. to_come s (g.S.Steps.left c.collect-next.new.steps)) (c.is_end.ensures c.if-is_end.true) in
+    let pair = done_pair (setup_in c.args.program.now) (layout_in c.args.program.now) (tables_in c.args.program.now) c.args.begin.item c.args.begin.rank c.args.begin.place c.args.machine.now c.in_place.new.machine c.in_place.ensures.shows c.in_place.ensures.mail c.in_place.ensures.frames in
+    ready_after (setup_in c.args.program.now) (layout_in c.args.program.now) (tables_in c.args.program.now) (Begin c.args.begin.item c.args.begin.rank c.args.begin.place ∷ g.S.Steps.left c.args.steps.now) (Begin c.args.begin.item c.args.begin.rank c.args.begin.place ∷ End c.args.begin.item c.args.begin.rank c.args.begin.place ∷ []) (g.S.Steps.left c.collect-next.new.steps) c.args.machine.now c.in_place.new.machine c.requires.ready (ap (λ z. Begin c.args.begin.item c.args.begin.rank c.args.begin.place ∷ z) here) pair
 
 pub returns-then-is_end-clause-done : goal.returns-then-is_end-clause-done
 returns-then-is_end-clause-done g c =
-    let one : c.push_reserved.new.self.items ≡ c.args.place ∷ [] = c.push_reserved.ensures.items ∙ ap (λ xs. xs ++ (c.args.place ∷ [])) c.clear.ensures.items in
-    let all : begins c.args.item c.args.rank c.collect-next.new.places.items ++ to_come c.collect-next.result (g.S.Steps.left c.collect-next.new.steps) ≡ Begin c.args.item c.args.rank c.args.place ∷ g.S.Steps.left c.args.steps.now =
-    c.collect-next.ensures.all ∙ ap (λ xs. begins c.args.item c.args.rank xs ++ g.S.Steps.left c.args.steps.now) one in
+    let one : c.push_reserved.new.self.items ≡ c.args.begin.place ∷ [] = c.push_reserved.ensures.items ∙ ap (λ xs. xs ++ (c.args.begin.place ∷ [])) c.clear.ensures.items in
+    let all : begins c.args.begin.item c.args.begin.rank c.collect-next.new.places.items ++ to_come c.collect-next.result (g.S.Steps.left c.collect-next.new.steps) ≡ Begin c.args.begin.item c.args.begin.rank c.args.begin.place ∷ g.S.Steps.left c.args.steps.now =
+    c.collect-next.ensures.all ∙ ap (λ xs. begins c.args.begin.item c.args.begin.rank xs ++ g.S.Steps.left c.args.steps.now) one in
     let n : length c.collect-next.new.places.items ≡ 1 = omega (arith, c.if-len-eq1.true, c.len.ensures) in
-    let rest : to_come c.collect-next.result (g.S.Steps.left c.collect-next.new.steps) ≡ g.S.Steps.left c.args.steps.now = after_one c.args.item c.args.rank c.args.place c.collect-next.new.places.items (to_come c.collect-next.result (g.S.Steps.left c.collect-next.new.steps)) (g.S.Steps.left c.args.steps.now) n all in
-    let here : g.S.Steps.left c.args.steps.now ≡ End c.args.item c.args.rank c.args.place ∷ g.S.Steps.left c.collect-next.new.steps = sym rest ∙ ap (λ s. to_come s (g.S.Steps.left c.collect-next.new.steps)) (c.is_end.ensures c.if-is_end.true) in
-    let pair = done_pair (setup_in c.args.program.now) (layout_in c.args.program.now) (tables_in c.args.program.now) c.args.item c.args.rank c.args.place c.args.machine.now c.in_place.new.machine c.in_place.ensures.shows c.in_place.ensures.mail c.in_place.ensures.frames in
+    let rest : to_come c.collect-next.result (g.S.Steps.left c.collect-next.new.steps) ≡ g.S.Steps.left c.args.steps.now = after_one c.args.begin.item c.args.begin.rank c.args.begin.place c.collect-next.new.places.items (to_come c.collect-next.result (g.S.Steps.left c.collect-next.new.steps)) (g.S.Steps.left c.args.steps.now) n all in
+    let here : g.S.Steps.left c.args.steps.now ≡ End c.args.begin.item c.args.begin.rank c.args.begin.place ∷ g.S.Steps.left c.collect-next.new.steps = sym rest ∙ ap (λ s. to_come s (g.S.Steps.left c.collect-next.new.steps)) (c.is_end.ensures c.if-is_end.true) in
+    let pair = done_pair (setup_in c.args.program.now) (layout_in c.args.program.now) (tables_in c.args.program.now) c.args.begin.item c.args.begin.rank c.args.begin.place c.args.machine.now c.in_place.new.machine c.in_place.ensures.shows c.in_place.ensures.mail c.in_place.ensures.frames in
     let more = c.run_alone.ensures.done in
     let next : g.S.Steps.left c.collect-next.new.steps ≡ more.0 ++ to_come c.next_of.result (g.S.Steps.left c.next_of.new.steps) = more.1 ∙ ap (λ z. more.0 ++ z) c.next_of.ensures.next in
     let some : 0 < suc (suc (length more.0)) = omega arith in (
-      Begin c.args.item c.args.rank c.args.place ∷ End c.args.item c.args.rank c.args.place ∷ more.0,
-      ap (λ z. Begin c.args.item c.args.rank c.args.place ∷ z) (here ∙ ap (λ z. End c.args.item c.args.rank c.args.place ∷ z) next),
+      Begin c.args.begin.item c.args.begin.rank c.args.begin.place ∷ End c.args.begin.item c.args.begin.rank c.args.begin.place ∷ more.0,
+      ap (λ z. Begin c.args.begin.item c.args.begin.rank c.args.begin.place ∷ z) (here ∙ ap (λ z. End c.args.begin.item c.args.begin.rank c.args.begin.place ∷ z) next),
       some,
-      done_more (setup_in c.args.program.now) (layout_in c.args.program.now) (tables_in c.args.program.now) (Begin c.args.item c.args.rank c.args.place ∷ End c.args.item c.args.rank c.args.place ∷ []) more.0 c.args.machine.now c.in_place.new.machine c.run_alone.new.machine pair more.2,
+      done_more (setup_in c.args.program.now) (layout_in c.args.program.now) (tables_in c.args.program.now) (Begin c.args.begin.item c.args.begin.rank c.args.begin.place ∷ End c.args.begin.item c.args.begin.rank c.args.begin.place ∷ []) more.0 c.args.machine.now c.in_place.new.machine c.run_alone.new.machine pair more.2,
     )
 
 pub begin_group-requires-clause-planned : goal.begin_group-requires-clause-planned
 begin_group-requires-clause-planned g c κs within =
-    let one : c.push_reserved.new.self.items ≡ c.args.place ∷ [] = c.push_reserved.ensures.items ∙ ap (λ xs. xs ++ (c.args.place ∷ [])) c.clear.ensures.items in
-    let all : begins c.args.item c.args.rank c.collect-next.new.places.items ++ to_come c.collect-next.result (g.S.Steps.left c.collect-next.new.steps) ≡ Begin c.args.item c.args.rank c.args.place ∷ g.S.Steps.left c.args.steps.now =
-    c.collect-next.ensures.all ∙ ap (λ xs. begins c.args.item c.args.rank xs ++ g.S.Steps.left c.args.steps.now) one in
-    subst (λ xs. Planned (by_place (setup_in c.args.program.now) (layout_in c.args.program.now)) c.args.item c.args.rank xs) (sym c.deref.ensures.value)
-    (c.requires.ready [] c.args.item c.args.rank c.collect-next.new.places.items (to_come c.collect-next.result (g.S.Steps.left c.collect-next.new.steps)) (sym all) c.args.machine.now (done_none (setup_in c.args.program.now) (layout_in c.args.program.now) (tables_in c.args.program.now) c.args.machine.now)).0
+    let one : c.push_reserved.new.self.items ≡ c.args.begin.place ∷ [] = c.push_reserved.ensures.items ∙ ap (λ xs. xs ++ (c.args.begin.place ∷ [])) c.clear.ensures.items in
+    let all : begins c.args.begin.item c.args.begin.rank c.collect-next.new.places.items ++ to_come c.collect-next.result (g.S.Steps.left c.collect-next.new.steps) ≡ Begin c.args.begin.item c.args.begin.rank c.args.begin.place ∷ g.S.Steps.left c.args.steps.now =
+    c.collect-next.ensures.all ∙ ap (λ xs. begins c.args.begin.item c.args.begin.rank xs ++ g.S.Steps.left c.args.steps.now) one in
+    subst (λ xs. Planned (by_place (setup_in c.args.program.now) (layout_in c.args.program.now)) c.args.begin.item c.args.begin.rank xs) (sym c.deref.ensures.value)
+    (c.requires.ready [] c.args.begin.item c.args.begin.rank c.collect-next.new.places.items (to_come c.collect-next.result (g.S.Steps.left c.collect-next.new.steps)) (sym all) c.args.machine.now (done_none (setup_in c.args.program.now) (layout_in c.args.program.now) (tables_in c.args.program.now) c.args.machine.now)).0
 
 pub begin_group-requires-clause-shut : goal.begin_group-requires-clause-shut
 begin_group-requires-clause-shut g c κs within =
-    let one : c.push_reserved.new.self.items ≡ c.args.place ∷ [] = c.push_reserved.ensures.items ∙ ap (λ xs. xs ++ (c.args.place ∷ [])) c.clear.ensures.items in
-    let all : begins c.args.item c.args.rank c.collect-next.new.places.items ++ to_come c.collect-next.result (g.S.Steps.left c.collect-next.new.steps) ≡ Begin c.args.item c.args.rank c.args.place ∷ g.S.Steps.left c.args.steps.now =
-    c.collect-next.ensures.all ∙ ap (λ xs. begins c.args.item c.args.rank xs ++ g.S.Steps.left c.args.steps.now) one in
-    subst (λ xs. AllShut c.args.machine.now.frames.panes c.args.rank xs) (sym c.deref.ensures.value)
-    (c.requires.ready [] c.args.item c.args.rank c.collect-next.new.places.items (to_come c.collect-next.result (g.S.Steps.left c.collect-next.new.steps)) (sym all) c.args.machine.now (done_none (setup_in c.args.program.now) (layout_in c.args.program.now) (tables_in c.args.program.now) c.args.machine.now)).1
+    let one : c.push_reserved.new.self.items ≡ c.args.begin.place ∷ [] = c.push_reserved.ensures.items ∙ ap (λ xs. xs ++ (c.args.begin.place ∷ [])) c.clear.ensures.items in
+    let all : begins c.args.begin.item c.args.begin.rank c.collect-next.new.places.items ++ to_come c.collect-next.result (g.S.Steps.left c.collect-next.new.steps) ≡ Begin c.args.begin.item c.args.begin.rank c.args.begin.place ∷ g.S.Steps.left c.args.steps.now =
+    c.collect-next.ensures.all ∙ ap (λ xs. begins c.args.begin.item c.args.begin.rank xs ++ g.S.Steps.left c.args.steps.now) one in
+    subst (λ xs. AllShut c.args.machine.now.frames.panes c.args.begin.rank xs) (sym c.deref.ensures.value)
+    (c.requires.ready [] c.args.begin.item c.args.begin.rank c.collect-next.new.places.items (to_come c.collect-next.result (g.S.Steps.left c.collect-next.new.steps)) (sym all) c.args.machine.now (done_none (setup_in c.args.program.now) (layout_in c.args.program.now) (tables_in c.args.program.now) c.args.machine.now)).1
 
 pub begin_group-requires-clause-distinct : goal.begin_group-requires-clause-distinct
 begin_group-requires-clause-distinct g c κs within =
-    let one : c.push_reserved.new.self.items ≡ c.args.place ∷ [] = c.push_reserved.ensures.items ∙ ap (λ xs. xs ++ (c.args.place ∷ [])) c.clear.ensures.items in
-    let all : begins c.args.item c.args.rank c.collect-next.new.places.items ++ to_come c.collect-next.result (g.S.Steps.left c.collect-next.new.steps) ≡ Begin c.args.item c.args.rank c.args.place ∷ g.S.Steps.left c.args.steps.now =
-    c.collect-next.ensures.all ∙ ap (λ xs. begins c.args.item c.args.rank xs ++ g.S.Steps.left c.args.steps.now) one in
+    let one : c.push_reserved.new.self.items ≡ c.args.begin.place ∷ [] = c.push_reserved.ensures.items ∙ ap (λ xs. xs ++ (c.args.begin.place ∷ [])) c.clear.ensures.items in
+    let all : begins c.args.begin.item c.args.begin.rank c.collect-next.new.places.items ++ to_come c.collect-next.result (g.S.Steps.left c.collect-next.new.steps) ≡ Begin c.args.begin.item c.args.begin.rank c.args.begin.place ∷ g.S.Steps.left c.args.steps.now =
+    c.collect-next.ensures.all ∙ ap (λ xs. begins c.args.begin.item c.args.begin.rank xs ++ g.S.Steps.left c.args.steps.now) one in
     subst (λ xs. Distinct xs) (sym c.deref.ensures.value)
-    (c.requires.ready [] c.args.item c.args.rank c.collect-next.new.places.items (to_come c.collect-next.result (g.S.Steps.left c.collect-next.new.steps)) (sym all) c.args.machine.now (done_none (setup_in c.args.program.now) (layout_in c.args.program.now) (tables_in c.args.program.now) c.args.machine.now)).2
+    (c.requires.ready [] c.args.begin.item c.args.begin.rank c.collect-next.new.places.items (to_come c.collect-next.result (g.S.Steps.left c.collect-next.new.steps)) (sym all) c.args.machine.now (done_none (setup_in c.args.program.now) (layout_in c.args.program.now) (tables_in c.args.program.now) c.args.machine.now)).2
 
 pub begin_group-requires-clause-room : goal.begin_group-requires-clause-room
 begin_group-requires-clause-room g c κs within =
-    let one : c.push_reserved.new.self.items ≡ c.args.place ∷ [] = c.push_reserved.ensures.items ∙ ap (λ xs. xs ++ (c.args.place ∷ [])) c.clear.ensures.items in
-    let all : begins c.args.item c.args.rank c.collect-next.new.places.items ++ to_come c.collect-next.result (g.S.Steps.left c.collect-next.new.steps) ≡ Begin c.args.item c.args.rank c.args.place ∷ g.S.Steps.left c.args.steps.now =
-    c.collect-next.ensures.all ∙ ap (λ xs. begins c.args.item c.args.rank xs ++ g.S.Steps.left c.args.steps.now) one in
+    let one : c.push_reserved.new.self.items ≡ c.args.begin.place ∷ [] = c.push_reserved.ensures.items ∙ ap (λ xs. xs ++ (c.args.begin.place ∷ [])) c.clear.ensures.items in
+    let all : begins c.args.begin.item c.args.begin.rank c.collect-next.new.places.items ++ to_come c.collect-next.result (g.S.Steps.left c.collect-next.new.steps) ≡ Begin c.args.begin.item c.args.begin.rank c.args.begin.place ∷ g.S.Steps.left c.args.steps.now =
+    c.collect-next.ensures.all ∙ ap (λ xs. begins c.args.begin.item c.args.begin.rank xs ++ g.S.Steps.left c.args.steps.now) one in
     subst (λ xs. length xs ≤ c.args.machine.now.frames.left) (sym c.deref.ensures.value)
-    (c.requires.ready [] c.args.item c.args.rank c.collect-next.new.places.items (to_come c.collect-next.result (g.S.Steps.left c.collect-next.new.steps)) (sym all) c.args.machine.now (done_none (setup_in c.args.program.now) (layout_in c.args.program.now) (tables_in c.args.program.now) c.args.machine.now)).3
+    (c.requires.ready [] c.args.begin.item c.args.begin.rank c.collect-next.new.places.items (to_come c.collect-next.result (g.S.Steps.left c.collect-next.new.steps)) (sym all) c.args.machine.now (done_none (setup_in c.args.program.now) (layout_in c.args.program.now) (tables_in c.args.program.now) c.args.machine.now)).3
 
 pub returns-clause-done : goal.returns-clause-done
 returns-clause-done g c =
-    let one : c.push_reserved.new.self.items ≡ c.args.place ∷ [] = c.push_reserved.ensures.items ∙ ap (λ xs. xs ++ (c.args.place ∷ [])) c.clear.ensures.items in
-    let all : begins c.args.item c.args.rank c.collect-next.new.places.items ++ to_come c.collect-next.result (g.S.Steps.left c.collect-next.new.steps) ≡ Begin c.args.item c.args.rank c.args.place ∷ g.S.Steps.left c.args.steps.now =
-    c.collect-next.ensures.all ∙ ap (λ xs. begins c.args.item c.args.rank xs ++ g.S.Steps.left c.args.steps.now) one in
-    let some : 0 < length (begins c.args.item c.args.rank c.collect-next.new.places.items) = (let a = begins_length c.args.item c.args.rank c.collect-next.new.places.items in let b = ap length one in omega (arith, c.collect-next.ensures.more)) in (
-      begins c.args.item c.args.rank c.collect-next.new.places.items,
+    let one : c.push_reserved.new.self.items ≡ c.args.begin.place ∷ [] = c.push_reserved.ensures.items ∙ ap (λ xs. xs ++ (c.args.begin.place ∷ [])) c.clear.ensures.items in
+    let all : begins c.args.begin.item c.args.begin.rank c.collect-next.new.places.items ++ to_come c.collect-next.result (g.S.Steps.left c.collect-next.new.steps) ≡ Begin c.args.begin.item c.args.begin.rank c.args.begin.place ∷ g.S.Steps.left c.args.steps.now =
+    c.collect-next.ensures.all ∙ ap (λ xs. begins c.args.begin.item c.args.begin.rank xs ++ g.S.Steps.left c.args.steps.now) one in
+    let some : 0 < length (begins c.args.begin.item c.args.begin.rank c.collect-next.new.places.items) = (let a = begins_length c.args.begin.item c.args.begin.rank c.collect-next.new.places.items in let b = ap length one in omega (arith, c.collect-next.ensures.more)) in (
+      begins c.args.begin.item c.args.begin.rank c.collect-next.new.places.items,
       sym all,
       some,
       record {
-        shows = λ f h. subst (λ xs. Shows (setup_in c.args.program.now) (layout_in c.args.program.now) (tables_in c.args.program.now) c.begin_group.new.machine (flat_from (setup_in c.args.program.now) (layout_in c.args.program.now) (begins c.args.item c.args.rank xs) f)) c.deref.ensures.value (c.begin_group.ensures.shows f h);
-        mail = λ n. ap (λ m. c.begin_group.new.machine.mail.left + m) (no_mail_by (message_cells (layout_in c.args.program.now)) c.args.item c.args.rank n c.collect-next.new.places.items) ∙ ap (λ m. m + n) c.begin_group.ensures.mail;
-        frames = λ n. (let e = opened_by c.args.item c.args.rank n c.collect-next.new.places.items in let d = ap length c.deref.ensures.value in omega (arith, c.begin_group.ensures.frames));
+        shows = λ f h. subst (λ xs. Shows (setup_in c.args.program.now) (layout_in c.args.program.now) (tables_in c.args.program.now) c.begin_group.new.machine (flat_from (setup_in c.args.program.now) (layout_in c.args.program.now) (begins c.args.begin.item c.args.begin.rank xs) f)) c.deref.ensures.value (c.begin_group.ensures.shows f h);
+        mail = λ n. ap (λ m. c.begin_group.new.machine.mail.left + m) (no_mail_by (message_cells (layout_in c.args.program.now)) c.args.begin.item c.args.begin.rank n c.collect-next.new.places.items) ∙ ap (λ m. m + n) c.begin_group.ensures.mail;
+        frames = λ n. (let e = opened_by c.args.begin.item c.args.begin.rank n c.collect-next.new.places.items in let d = ap length c.deref.ensures.value in omega (arith, c.begin_group.ensures.frames));
       },
     )
 

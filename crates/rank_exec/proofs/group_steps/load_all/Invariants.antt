@@ -8,7 +8,7 @@ use Rattle.rank_exec.proofs.group_steps.load_all.Given as goal
 
 abbrev pub invariant-loop-i : goal.invariant-loop-i
 invariant-loop-i l = record {
-  loaded : (j : ℕ) → j < l.i → IsLoaded (setup_in l.program) (layout_in l.program) (tables_in l.program) l.item l.rank (get_or l.places j 0) l.machine (task_at l.tasks.items j) (part l.window j l.staging);
+  loaded : (j : ℕ) → j < l.i → IsLoaded (setup_in l.program) (layout_in l.program) (tables_in l.program) l.group.item l.group.rank (get_or l.group.places.now j 0) l.machine (task_at l.tasks.items j) (part l.window j l.staging);
   count : length l.tasks.items ≡ l.i;
   tasks : vec_capacity l.tasks ≡ vec_capacity l.initial.tasks;
   space : HasRoomOf l.program l.room;

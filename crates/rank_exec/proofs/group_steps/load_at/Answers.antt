@@ -10,7 +10,7 @@ same_length c = grind (arith, common_steps)
 
 pub returns-clause-loaded : goal.returns-clause-loaded
 returns-clause-loaded c =
-    subst (IsLoaded (setup_in c.args.program.now) (layout_in c.args.program.now) (tables_in c.args.program.now) c.args.item c.args.rank c.args.place c.args.machine.now c.load_one.result)
+    subst (IsLoaded (setup_in c.args.program.now) (layout_in c.args.program.now) (tables_in c.args.program.now) c.args.begin.item c.args.begin.rank c.args.begin.place c.args.machine.now c.load_one.result)
     (sym (mid_same c.args.at c.args.window c.args.staging.now c.load_one.new.window c.requires.part (same_length c))) c.load_one.ensures.loaded
 
 pub returns-clause-others : goal.returns-clause-others

@@ -15,24 +15,24 @@ use Rattle.rank_exec.proofs.group_steps.open_all.Goals as goal
 
 pub loop-i-preserved : goal.loop-i-preserved
 loop-i-preserved c =
-    let e : drop c.loop-i.i c.args.places.now ≡ get_or c.args.places.now c.loop-i.i 0 ∷ drop (c.loop-i.i + 1) c.args.places.now =
-    drop-cons c.args.places.now c.loop-i.i 0 c.loop-i-test.true ∙ ap (λ n. get_or c.args.places.now c.loop-i.i 0 ∷ drop n c.args.places.now) (sym (add-one c.loop-i.i)) in
-    let planned = subst (Planned (by_place (setup_in c.args.program.now) (layout_in c.args.program.now)) c.args.item c.args.rank) e c.loop-i.invariant.planned in
-    let shut = subst (AllShut c.loop-i.machine.frames.panes c.args.rank) e c.loop-i.invariant.shut in
+    let e : drop c.loop-i.i c.args.group.now.places.now ≡ get_or c.args.group.now.places.now c.loop-i.i 0 ∷ drop (c.loop-i.i + 1) c.args.group.now.places.now =
+    drop-cons c.args.group.now.places.now c.loop-i.i 0 c.loop-i-test.true ∙ ap (λ n. get_or c.args.group.now.places.now c.loop-i.i 0 ∷ drop n c.args.group.now.places.now) (sym (add-one c.loop-i.i)) in
+    let planned = subst (Planned (by_place (setup_in c.args.program.now) (layout_in c.args.program.now)) c.args.group.now.item c.args.group.now.rank) e c.loop-i.invariant.planned in
+    let shut = subst (AllShut c.loop-i.machine.frames.panes c.args.group.now.rank) e c.loop-i.invariant.shut in
     let distinct = subst Distinct e c.loop-i.invariant.distinct in
-    let next : begins c.args.item c.args.rank (take (c.loop-i.i + 1) c.args.places.now) ≡ begins c.args.item c.args.rank (take c.loop-i.i c.args.places.now) ++ (Begin c.args.item c.args.rank (get_or c.args.places.now c.loop-i.i 0) ∷ []) =
-    ap (begins c.args.item c.args.rank) (take_next c.args.places.now c.loop-i.i 0 c.loop-i-test.true) ∙ begins_push c.args.item c.args.rank (take c.loop-i.i c.args.places.now) (get_or c.args.places.now c.loop-i.i 0) in
+    let next : begins c.args.group.now.item c.args.group.now.rank (take (c.loop-i.i + 1) c.args.group.now.places.now) ≡ begins c.args.group.now.item c.args.group.now.rank (take c.loop-i.i c.args.group.now.places.now) ++ (Begin c.args.group.now.item c.args.group.now.rank (get_or c.args.group.now.places.now c.loop-i.i 0) ∷ []) =
+    ap (begins c.args.group.now.item c.args.group.now.rank) (take_next c.args.group.now.places.now c.loop-i.i 0 c.loop-i-test.true) ∙ begins_push c.args.group.now.item c.args.group.now.rank (take c.loop-i.i c.args.group.now.places.now) (get_or c.args.group.now.places.now c.loop-i.i 0) in
     let before = c.loop-i.invariant.shows c.requires.shows.0 c.requires.shows.1 in
     record {
       planned = planned.1;
-      shut = still_shut c.loop-i.machine.frames.panes c.open_one.new.machine.frames.panes c.args.rank (get_or c.args.places.now c.loop-i.i 0) (drop (c.loop-i.i + 1) c.args.places.now) distinct.0
-          (λ y ne closed. c.begin_opens.ensures.others (setup_in c.args.program.now) (layout_in c.args.program.now) (tables_in c.args.program.now) c.loop-i.machine c.open_one.new.machine (flat_from (setup_in c.args.program.now) (layout_in c.args.program.now) (begins c.args.item c.args.rank (take c.loop-i.i c.args.places.now)) c.requires.shows.0) c.args.item c.args.rank (get_or c.args.places.now c.loop-i.i 0) y before (c.open_one.ensures.shows (flat_from (setup_in c.args.program.now) (layout_in c.args.program.now) (begins c.args.item c.args.rank (take c.loop-i.i c.args.places.now)) c.requires.shows.0) before) ne closed)
+      shut = still_shut c.loop-i.machine.frames.panes c.open_one.new.machine.frames.panes c.args.group.now.rank (get_or c.args.group.now.places.now c.loop-i.i 0) (drop (c.loop-i.i + 1) c.args.group.now.places.now) distinct.0
+          (λ y ne closed. c.begin_opens.ensures.others (setup_in c.args.program.now) (layout_in c.args.program.now) (tables_in c.args.program.now) c.loop-i.machine c.open_one.new.machine (flat_from (setup_in c.args.program.now) (layout_in c.args.program.now) (begins c.args.group.now.item c.args.group.now.rank (take c.loop-i.i c.args.group.now.places.now)) c.requires.shows.0) c.args.group.now.item c.args.group.now.rank (get_or c.args.group.now.places.now c.loop-i.i 0) y before (c.open_one.ensures.shows (flat_from (setup_in c.args.program.now) (layout_in c.args.program.now) (begins c.args.group.now.item c.args.group.now.rank (take c.loop-i.i c.args.group.now.places.now)) c.requires.shows.0) before) ne closed)
           shut.1;
       distinct = distinct.1;
       shows = λ f h.
           let at = c.loop-i.invariant.shows f h in
-          subst (Shows (setup_in c.args.program.now) (layout_in c.args.program.now) (tables_in c.args.program.now) c.open_one.new.machine) (sym (ap (λ z. flat_from (setup_in c.args.program.now) (layout_in c.args.program.now) z f) next ∙ from_push (setup_in c.args.program.now) (layout_in c.args.program.now) (begins c.args.item c.args.rank (take c.loop-i.i c.args.places.now)) (Begin c.args.item c.args.rank (get_or c.args.places.now c.loop-i.i 0)) f at.stop))
-          (c.open_one.ensures.shows (flat_from (setup_in c.args.program.now) (layout_in c.args.program.now) (begins c.args.item c.args.rank (take c.loop-i.i c.args.places.now)) f) at);
+          subst (Shows (setup_in c.args.program.now) (layout_in c.args.program.now) (tables_in c.args.program.now) c.open_one.new.machine) (sym (ap (λ z. flat_from (setup_in c.args.program.now) (layout_in c.args.program.now) z f) next ∙ from_push (setup_in c.args.program.now) (layout_in c.args.program.now) (begins c.args.group.now.item c.args.group.now.rank (take c.loop-i.i c.args.group.now.places.now)) (Begin c.args.group.now.item c.args.group.now.rank (get_or c.args.group.now.places.now c.loop-i.i 0)) f at.stop))
+          (c.open_one.ensures.shows (flat_from (setup_in c.args.program.now) (layout_in c.args.program.now) (begins c.args.group.now.item c.args.group.now.rank (take c.loop-i.i c.args.group.now.places.now)) f) at);
       space = c.open_one.ensures.space;
       mail = c.open_one.ensures.mail ∙ c.loop-i.invariant.mail;
       frames = (let m = c.open_one.ensures.frames in omega (arith, c.loop-i.invariant.frames));
@@ -41,13 +41,13 @@ loop-i-preserved c =
 pub open_one-requires-clause-ran : goal.open_one-requires-clause-ran
 open_one-requires-clause-ran c =
     let wide : c.loop-i.i * c.args.window + c.args.window - c.loop-i.i * c.args.window ≡ c.args.window = omega arith in
-    let i_lt : c.loop-i.i < length c.args.places.now = c.loop-i-test.true in
-    subst (λ n. IsRun (setup_in c.args.program.now) (layout_in c.args.program.now) (tables_in c.args.program.now) c.args.item c.args.rank (get_or c.args.places.now c.loop-i.i 0) c.loop-i.machine (task_at c.args.tasks.now c.loop-i.i).cells (take n (drop (c.loop-i.i * c.args.window) c.args.staging.now))) (sym wide)
-    (run_later (setup_in c.args.program.now) (layout_in c.args.program.now) (tables_in c.args.program.now) c.args.item c.args.rank (get_or c.args.places.now c.loop-i.i 0) (task_at c.args.tasks.now c.loop-i.i).cells (part c.args.window c.loop-i.i c.args.staging.now) (take c.loop-i.i c.args.places.now) c.args.machine.now c.loop-i.machine
+    let i_lt : c.loop-i.i < length c.args.group.now.places.now = c.loop-i-test.true in
+    subst (λ n. IsRun (setup_in c.args.program.now) (layout_in c.args.program.now) (tables_in c.args.program.now) c.args.group.now.item c.args.group.now.rank (get_or c.args.group.now.places.now c.loop-i.i 0) c.loop-i.machine (task_at c.args.tasks.now c.loop-i.i).cells (take n (drop (c.loop-i.i * c.args.window) c.args.staging.now))) (sym wide)
+    (run_later (setup_in c.args.program.now) (layout_in c.args.program.now) (tables_in c.args.program.now) c.args.group.now.item c.args.group.now.rank (get_or c.args.group.now.places.now c.loop-i.i 0) (task_at c.args.tasks.now c.loop-i.i).cells (part c.args.window c.loop-i.i c.args.staging.now) (take c.loop-i.i c.args.group.now.places.now) c.args.machine.now c.loop-i.machine
     c.requires.shows.0 c.requires.shows.1 (c.loop-i.invariant.shows c.requires.shows.0 c.requires.shows.1) (c.requires.ran c.loop-i.i i_lt))
 
 pub returns-clause-shows : goal.returns-clause-shows
 returns-clause-shows c f h =
     let p = c.args.program.now in
-    subst (λ ps. Shows (setup_in p) (layout_in p) (tables_in p) c.loop-i.machine (flat_from (setup_in p) (layout_in p) (begins c.args.item c.args.rank ps) f))
-    (take_all c.loop-i.i c.args.places.now (omega (arith, c.loop-i-test.false))) (c.loop-i.invariant.shows f h)
+    subst (λ ps. Shows (setup_in p) (layout_in p) (tables_in p) c.loop-i.machine (flat_from (setup_in p) (layout_in p) (begins c.args.group.now.item c.args.group.now.rank ps) f))
+    (take_all c.loop-i.i c.args.group.now.places.now (omega (arith, c.loop-i-test.false))) (c.loop-i.invariant.shows f h)
