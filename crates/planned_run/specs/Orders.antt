@@ -1,11 +1,15 @@
 -- The orders in which the steps of a plan are taken.
-use Rattle.std.specs.Prelude.{◌≡◌, ◌≤◌, ℕ, List}
+use Rattle.std.specs.Prelude.{◌≡◌, ◌≤◌, ℕ, Bool, List}
 use Rattle.schedule_steps.specs.Outline.{Outline}
 use Rattle.schedule_steps.specs.declared.step.Step.{Step}
 use Rattle.schedule_steps.specs.Steps.{Accepted}
 use Rattle.schedule_steps.specs.Peaks.{IsPeak}
 use Rattle.schedule_steps.specs.Standard.{standard}
 use Rattle.schedule_steps.specs.Drawn.{IsDrawn}
+use Rattle.bound_program.specs.Values.{bound_of}
+use Rattle.planned_program.specs.Planned.{PlannedValue}
+use Rattle.schedule_check.specs.Mail.{plan_cells}
+use Rattle.bound_plan.specs.Memories.{dump_of}
 use Rattle.planned_run.specs.declared.orders.Order.{Order}
 use Rattle.planned_run.specs.declared.orders.Order.TheVariants.{Standard, Drawn, Listed}
 
@@ -20,3 +24,11 @@ abbrev pub CanTake : Outline → (ℕ → ℕ → ℕ → ℕ) → Order → Typ
 CanTake o cells (Standard g) = 1 ≤ g
 CanTake o cells (Drawn g seed) = 1 ≤ g
 CanTake o cells (Listed s k) = Accepted o s.now × IsPeak cells s.now k
+
+-- by item, sender and receiver, how many cells a message of a plan has
+abbrev pub message_cells_of : PlannedValue → ℕ → ℕ → ℕ → ℕ
+message_cells_of p = plan_cells (bound_of p.bound) p.distribution.ranks.items p.plan
+
+-- what the ranks hold after these steps of a plan, written out where it is asked for
+abbrev pub planned_dump : Bool → PlannedValue → List Step → List ℕ
+planned_dump dumps p l = dump_of dumps (bound_of p.bound) p.distribution.owners p.distribution.ranks.items p.plan l

@@ -1,26 +1,18 @@
 // The orders in which the steps of a plan are taken.
 
 ghost use Rattle.std.specs.Prelude.{◌≡◌, ◌≤◌, List, IfOk, IfErr};
-ghost use Rattle.local_mesh.specs.declared.halo_lists.types.Halos.{Halos as TheHalos};
 ghost use Rattle.schedule_steps.specs.declared.step.Step.{Step as StepValue};
 ghost use Rattle.schedule_steps.specs.Steps.{Accepted};
 ghost use Rattle.schedule_steps.specs.Standard as the;
 ghost use Rattle.schedule_steps.specs.Drawn.{IsDrawn};
 ghost use Rattle.bound_program.specs.Values.{bound_of};
-ghost use Rattle.bound_program.specs.Fits.{Fits};
-ghost use Rattle.loop_plan.specs.Values.{plan_of};
-ghost use Rattle.loop_plan.specs.Distributed.{Distributed};
-ghost use Rattle.loop_plan.specs.Proper.{Proper};
-ghost use Rattle.loop_plan.specs.StepOutline.{step_outline};
-ghost use Rattle.schedule_check.specs.Mail.{plan_cells};
+ghost use Rattle.planned_program.specs.Planned.{outline_of};
 ghost use Rattle.schedule_check.specs.Whole.{IsWhole, IsUnaccepted};
-ghost use Rattle.planned_run.specs.Orders.{InOrder, CanTake};
+ghost use Rattle.planned_run.specs.Orders.{InOrder, CanTake, message_cells_of};
 
-use bound_program::Bound;
-use local_mesh::RankMesh;
-use loop_plan::Plan;
 use op_num::OutOfMemory;
 use plan_orders::PlanShape;
+use planned_program::Planned;
 use schedule_check::{Checker, Unaccepted, take_all};
 use schedule_steps::{Peak, Step};
 use std::alloc::Global;
@@ -41,20 +33,17 @@ pub enum Order<'a> {
 // The drawn order of a plan's steps, in a list. An error is want of memory.
 fn drawn_steps(
     alloc: Global,
-    bound: &Bound,
-    meshes: &[RankMesh],
-    plan: &Plan,
+    planned: &Planned<'_>,
     group: u32,
     seed: u64,
 ) -> Result<Vec<Step>, OutOfMemory>
-    requires fits { Fits (bound_of bound.now) }
-    requires plan { Proper (bound_of bound.now) meshes.now (plan_of plan.now) }
     requires group { 1 ≤ group }
     ensures drawn { IfOk result
-        (λ v. IsDrawn (step_outline (bound_of bound.now) meshes.now (plan_of plan.now)) group seed v.items) }
-    ensures accepted { IfOk result (λ v. Accepted (step_outline (bound_of bound.now) meshes.now (plan_of plan.now)) v.items) }
+        (λ v. IsDrawn (outline_of planned.now) group seed v.items) }
+    ensures accepted { IfOk result (λ v. Accepted (outline_of planned.now) v.items) }
 {
-    let shape = PlanShape::new(alloc, bound, meshes, plan, group)?;
+    let found = &planned.distribution;
+    let shape = PlanShape::new(alloc, planned.bound, &found.ranks, &planned.plan, group)?;
     let steps = drawn(alloc, &shape, seed)?;
     Ok(steps)
 }
@@ -62,18 +51,15 @@ fn drawn_steps(
 // The standard order of a plan's steps, in a list. An error is want of memory.
 fn standard_steps(
     alloc: Global,
-    bound: &Bound,
-    meshes: &[RankMesh],
-    plan: &Plan,
+    planned: &Planned<'_>,
     group: u32,
 ) -> Result<Vec<Step>, OutOfMemory>
-    requires fits { Fits (bound_of bound.now) }
-    requires plan { Proper (bound_of bound.now) meshes.now (plan_of plan.now) }
     requires group { 1 ≤ group }
     ensures { IfOk result
-        (λ v. v.items ≡ the.standard (step_outline (bound_of bound.now) meshes.now (plan_of plan.now)) group) }
+        (λ v. v.items ≡ the.standard (outline_of planned.now) group) }
 {
-    let shape = PlanShape::new(alloc, bound, meshes, plan, group)?;
+    let found = &planned.distribution;
+    let shape = PlanShape::new(alloc, planned.bound, &found.ranks, &planned.plan, group)?;
     let steps = standard(alloc, &shape)?;
     Ok(steps)
 }
@@ -89,26 +75,21 @@ fn copied(alloc: Global, steps: &[Step]) -> Result<Vec<Step>, OutOfMemory>
 
 /// The steps of a plan in this order, in a list.
 ///
-/// `meshes` are the local meshes that the plan is for, by rank. The list is as long as the plan has steps.
+/// The list is as long as the plan has steps.
 ///
 /// # Errors
 /// Want of memory alone.
 pub fn steps_of(
     alloc: Global,
-    bound: &Bound,
-    meshes: &[RankMesh],
-    plan: &Plan,
+    planned: &Planned<'_>,
     order: &Order<'_>,
 ) -> Result<Vec<Step>, OutOfMemory>
-    requires fits { Fits (bound_of bound.now) }
-    requires plan { Proper (bound_of bound.now) meshes.now (plan_of plan.now) }
-    requires order { CanTake (step_outline (bound_of bound.now) meshes.now (plan_of plan.now))
-        (plan_cells (bound_of bound.now) meshes.now (plan_of plan.now)) order.now }
-    ensures { IfOk result (λ v. InOrder (step_outline (bound_of bound.now) meshes.now (plan_of plan.now)) order.now v.items) }
+    requires order { CanTake (outline_of planned.now) (message_cells_of planned.now) order.now }
+    ensures { IfOk result (λ v. InOrder (outline_of planned.now) order.now v.items) }
 {
     match order {
-        Order::Standard { group } => standard_steps(alloc, bound, meshes, plan, *group),
-        Order::Drawn { group, seed } => drawn_steps(alloc, bound, meshes, plan, *group, *seed),
+        Order::Standard { group } => standard_steps(alloc, planned, *group),
+        Order::Drawn { group, seed } => drawn_steps(alloc, planned, *group, *seed),
         Order::Listed { steps, .. } => copied(alloc, steps),
     }
 }
@@ -116,26 +97,21 @@ pub fn steps_of(
 /// Judges a list of steps: its peak exactly where the plan accepts it. Else the refusal is that of the first step that can't be
 /// taken in its turn, with the number of the steps before it, or of the first step in standard order that is left at the end.
 ///
-/// `meshes` are the local meshes that the plan is for, by rank.
-///
 /// # Errors
 /// Want of memory alone, also where 32 bits can't count the plan's steps, or 64 bits the cells of a message for each.
 pub fn judge_list(
     alloc: Global,
-    bound: &Bound,
-    meshes: &[RankMesh],
-    plan: &Plan,
+    planned: &Planned<'_>,
     steps: &[Step],
 ) -> Result<Result<Peak, Unaccepted>, OutOfMemory>
-    requires fits { Fits (bound_of bound.now) }
-    requires ranks { (h : TheHalos) × Distributed (bound_of bound.now).mesh h meshes.now }
-    requires plan { Proper (bound_of bound.now) meshes.now (plan_of plan.now) }
     ensures whole { IfOk result
-        (λ r. IfOk r (IsWhole (bound_of bound.now) meshes.now (plan_of plan.now) steps.now)) }
+        (λ r. IfOk r (IsWhole (bound_of planned.now.bound) planned.now.distribution.ranks.items planned.now.plan steps.now)) }
     ensures unaccepted { IfOk result
-        (λ r. IfErr r (λ u. (come : List StepValue) × IsUnaccepted (bound_of bound.now) meshes.now (plan_of plan.now) steps.now come u)) }
+        (λ r. IfErr r (λ u. (come : List StepValue)
+        × IsUnaccepted (bound_of planned.now.bound) planned.now.distribution.ranks.items planned.now.plan steps.now come u)) }
 {
-    let checker = Checker::new(alloc, bound, plan, meshes)?;
+    let found = &planned.distribution;
+    let checker = Checker::new(alloc, planned.bound, &planned.plan, &found.ranks)?;
     let judged = take_all(checker, &mut Listed::new(steps));
     Ok(judged)
 }

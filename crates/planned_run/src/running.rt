@@ -1,9 +1,7 @@
 // The run of a bound program on several ranks.
 
 ghost use Rattle.std.specs.Prelude.{◌≡◌, ◌<◌, ◌≤◌, List, IfOk};
-ghost use Rattle.mesh_decl.specs.declared.owners.Perms.{Perms};
 ghost use Rattle.local_mesh.specs.declared.halo_lists.types.Halos.{Halos as TheHalos};
-ghost use Rattle.local_mesh.specs.Halos.{AreHalos};
 ghost use Rattle.schedule_steps.specs.declared.step.Step.{Step};
 ghost use Rattle.schedule_steps.specs.Steps.{Accepted};
 ghost use Rattle.schedule_steps.specs.Peaks.{IsPeak};
@@ -13,7 +11,7 @@ ghost use Rattle.bound_program.specs.Values.{bound_of};
 ghost use Rattle.bound_program.specs.Fits.{Fits};
 ghost use Rattle.run_model.specs.Ranges.{AllObey, StartsInRange};
 ghost use Rattle.loop_plan.specs.Values.{plan_of};
-ghost use Rattle.loop_plan.specs.Distributed.{IsDistributed, Distributed};
+ghost use Rattle.loop_plan.specs.Distributed.{Distributed};
 ghost use Rattle.loop_plan.specs.Proper.{Proper};
 ghost use Rattle.loop_plan.specs.StepOutline.{step_outline};
 ghost use Rattle.bound_plan.specs.Memories.{dump_of};
@@ -21,20 +19,20 @@ ghost use Rattle.rank_program.specs.Sound.{Sound, program_in, plan_in, layout_in
 ghost use Rattle.rank_exec.specs.Driving.{FitsPeak};
 ghost use Rattle.rank_exec.specs.Runs.{IsRunBy};
 ghost use Rattle.schedule_check.specs.Mail.{plan_cells};
-ghost use Rattle.planned_run.specs.Orders.{InOrder, CanTake};
+ghost use Rattle.planned_program.specs.Planned.{outline_of};
+ghost use Rattle.planned_run.specs.Orders.{InOrder, CanTake, message_cells_of, planned_dump};
 
 use crate::orders::Order;
 use crate::peaks::peaks_are_room;
 use crate::rooms::standard_room;
 use bound_program::Bound;
 use kernel_code::compile_all;
-use local_mesh::halo_lists::Halos;
 use local_mesh::{RankMesh, local_lists};
 use loop_plan::{Plan, Steps};
-use mesh_decl::Owners;
 use op_num::OutOfMemory;
-use par_exec::Gate;
+use par_exec::{Crew, Gate};
 use plan_orders::{PlanShape, standard_order};
+use planned_program::Planned;
 use rank_exec::{Outcome, come_in_rounds, run_planned};
 use rank_program::DistributedProgram;
 use schedule_check::{Checker, take_all};
@@ -72,16 +70,12 @@ fn peak_of<S: Steps>(
 
 // Runs a program by an accepted list of its plan's steps that has this peak. An error is want of memory.
 fn run_peaked<R: Threads + Sync, G: Gate, S: Steps>(
-    rt: &R,
-    alloc: Global,
+    crew: &Crew<'_, R, G>,
     program: &DistributedProgram<'_>,
     peak: Peak,
     steps: &mut S,
-    workers: u32,
-    gate: &G,
     dumps: bool,
 ) -> Result<Outcome, OutOfMemory>
-    requires workers { 0 < workers }
     requires sound { Sound program.now }
     requires obey { AllObey (program_in program.now) }
     requires start { StartsInRange (program_in program.now) }
@@ -91,22 +85,18 @@ fn run_peaked<R: Threads + Sync, G: Gate, S: Steps>(
         (dump_of dumps (program_in program.now) program.now.owners.now program.now.meshes.now (plan_in program.now) (S.left steps.old))) }
 {
     peaks_are_room();
-    run_planned(rt, alloc, program, peak, steps, workers, gate, dumps)
+    run_planned(crew, program, peak, steps, dumps)
 }
 
 // Runs a program by an accepted list of its plan's steps, which comes twice: for its peak, and for the run. An error is want
 // of memory.
 fn run_steps<R: Threads + Sync, G: Gate, S: Steps>(
-    rt: &R,
-    alloc: Global,
+    crew: &Crew<'_, R, G>,
     program: &DistributedProgram<'_>,
     steps: &mut S,
     again: &mut S,
-    workers: u32,
-    gate: &G,
     dumps: bool,
 ) -> Result<Outcome, OutOfMemory>
-    requires workers { 0 < workers }
     requires sound { Sound program.now }
     requires obey { AllObey (program_in program.now) }
     requires start { StartsInRange (program_in program.now) }
@@ -115,8 +105,14 @@ fn run_steps<R: Threads + Sync, G: Gate, S: Steps>(
     ensures { IfOk result (IsRunBy (program_in program.now)
         (dump_of dumps (program_in program.now) program.now.owners.now program.now.meshes.now (plan_in program.now) (S.left steps.old))) }
 {
-    let peak = peak_of(alloc, program.bound, program.meshes, program.plan, steps)?;
-    run_peaked(rt, alloc, program, peak, again, workers, gate, dumps)
+    let peak = peak_of(
+        crew.alloc,
+        program.bound,
+        program.meshes,
+        program.plan,
+        steps,
+    )?;
+    run_peaked(crew, program, peak, again, dumps)
 }
 
 // Which of the items have elements that come in rounds. An error is want of memory.
@@ -137,17 +133,13 @@ fn round_items(
 // the list of `items` items is looked ahead for closed groups of elements that come in rounds, so that each rank's first group is
 // told too. An error is want of memory.
 fn run_ahead<R: Threads + Sync, G: Gate, S: Steps + Drop>(
-    rt: &R,
-    alloc: Global,
+    crew: &Crew<'_, R, G>,
     program: &DistributedProgram<'_>,
     items: u32,
     room: Peak,
     mut steps: S,
-    workers: u32,
-    gate: &G,
     dumps: bool,
 ) -> Result<Outcome, OutOfMemory>
-    requires workers { 0 < workers }
     requires sound { Sound program.now }
     requires obey { AllObey (program_in program.now) }
     requires start { StartsInRange (program_in program.now) }
@@ -156,25 +148,21 @@ fn run_ahead<R: Threads + Sync, G: Gate, S: Steps + Drop>(
     ensures { IfOk result (IsRunBy (program_in program.now)
         (dump_of dumps (program_in program.now) program.now.owners.now program.now.meshes.now (plan_in program.now) (S.left steps))) }
 {
-    if workers == 1 || program.owners.ranks == 1 {
-        return run_planned(rt, alloc, program, room, &mut steps, workers, gate, dumps);
+    if crew.workers == 1 || program.owners.ranks == 1 {
+        return run_planned(crew, program, room, &mut steps, dumps);
     }
-    let round = round_items(alloc, program, items, workers)?;
-    let mut ahead = Ahead::new(alloc, steps, round, MOST_HELD)?;
-    run_planned(rt, alloc, program, room, &mut ahead, workers, gate, dumps)
+    let round = round_items(crew.alloc, program, items, crew.workers)?;
+    let mut ahead = Ahead::new(crew.alloc, steps, round, MOST_HELD)?;
+    run_planned(crew, program, room, &mut ahead, dumps)
 }
 
 // Runs a program by the standard order of its plan. An error is want of memory.
 fn run_standard<R: Threads + Sync, G: Gate>(
-    rt: &R,
-    alloc: Global,
+    crew: &Crew<'_, R, G>,
     program: &DistributedProgram<'_>,
     group: u32,
-    workers: u32,
-    gate: &G,
     dumps: bool,
 ) -> Result<Outcome, OutOfMemory>
-    requires workers { 0 < workers }
     requires sound { Sound program.now }
     requires obey { AllObey (program_in program.now) }
     requires start { StartsInRange (program_in program.now) }
@@ -182,26 +170,28 @@ fn run_standard<R: Threads + Sync, G: Gate>(
     ensures { IfOk result (λ x. (l : List Step) → l ≡ the.standard (outline_in program.now) group → IsRunBy (program_in program.now)
         (dump_of dumps (program_in program.now) program.now.owners.now program.now.meshes.now (plan_in program.now) l) x) }
 {
-    let shape = PlanShape::new(alloc, program.bound, program.meshes, program.plan, group)?;
-    let room = standard_room(alloc, program, &shape, group)?;
+    let shape = PlanShape::new(
+        crew.alloc,
+        program.bound,
+        program.meshes,
+        program.plan,
+        group,
+    )?;
+    let room = standard_room(crew.alloc, program, &shape, group)?;
     let items = shape.items();
     let steps = standard_order(&shape);
-    let outcome = run_ahead(rt, alloc, program, items, room, steps, workers, gate, dumps)?;
+    let outcome = run_ahead(crew, program, items, room, steps, dumps)?;
     Ok(outcome)
 }
 
 // Runs a program by a drawn order of its plan. An error is want of memory.
 fn run_drawn<R: Threads + Sync, G: Gate>(
-    rt: &R,
-    alloc: Global,
+    crew: &Crew<'_, R, G>,
     program: &DistributedProgram<'_>,
     group: u32,
     seed: u64,
-    workers: u32,
-    gate: &G,
     dumps: bool,
 ) -> Result<Outcome, OutOfMemory>
-    requires workers { 0 < workers }
     requires sound { Sound program.now }
     requires obey { AllObey (program_in program.now) }
     requires start { StartsInRange (program_in program.now) }
@@ -210,26 +200,26 @@ fn run_drawn<R: Threads + Sync, G: Gate>(
         (dump_of dumps (program_in program.now) program.now.owners.now program.now.meshes.now (plan_in program.now) l) x) }
 {
     schedule_steps::drawn_once();
-    let shape = PlanShape::new(alloc, program.bound, program.meshes, program.plan, group)?;
-    let mut steps = DrawnOrder::new(alloc, &shape, seed)?;
-    let mut again = DrawnOrder::new(alloc, &shape, seed)?;
-    let outcome = run_steps(
-        rt, alloc, program, &mut steps, &mut again, workers, gate, dumps,
+    let shape = PlanShape::new(
+        crew.alloc,
+        program.bound,
+        program.meshes,
+        program.plan,
+        group,
     )?;
+    let mut steps = DrawnOrder::new(crew.alloc, &shape, seed)?;
+    let mut again = DrawnOrder::new(crew.alloc, &shape, seed)?;
+    let outcome = run_steps(crew, program, &mut steps, &mut again, dumps)?;
     Ok(outcome)
 }
 
 // Runs a program by this order of its plan's steps. An error is want of memory.
 fn run_in_order<R: Threads + Sync, G: Gate>(
-    rt: &R,
-    alloc: Global,
+    crew: &Crew<'_, R, G>,
     program: &DistributedProgram<'_>,
     order: &Order<'_>,
-    workers: u32,
-    gate: &G,
     dumps: bool,
 ) -> Result<Outcome, OutOfMemory>
-    requires workers { 0 < workers }
     requires sound { Sound program.now }
     requires obey { AllObey (program_in program.now) }
     requires start { StartsInRange (program_in program.now) }
@@ -239,61 +229,42 @@ fn run_in_order<R: Threads + Sync, G: Gate>(
         (dump_of dumps (program_in program.now) program.now.owners.now program.now.meshes.now (plan_in program.now) l) x) }
 {
     match order {
-        Order::Standard { group } => {
-            run_standard(rt, alloc, program, *group, workers, gate, dumps)
-        }
-        Order::Drawn { group, seed } => {
-            run_drawn(rt, alloc, program, *group, *seed, workers, gate, dumps)
-        }
+        Order::Standard { group } => { run_standard(crew, program, *group, dumps) }
+        Order::Drawn { group, seed } => { run_drawn(crew, program, *group, *seed, dumps) }
         Order::Listed { steps, peak } => {
             let mut steps = Listed::new(steps);
-            let outcome = run_peaked(rt, alloc, program, *peak, &mut steps, workers, gate, dumps)?;
+            let outcome = run_peaked(crew, program, *peak, &mut steps, dumps)?;
             Ok(outcome)
         }
     }
 }
 
-/// Runs a bound program on ranks with these owners, halos and local meshes, by this order of the steps of a plan for them: the
-/// printed bytes and the first fault are those of running each loop one element after another in its set's original order.
-/// Where `dumps` and no fault stops the run, a dump of what the ranks hold after these steps stands behind the printed bytes.
+/// Runs a planned program by this order of its plan's steps: the printed bytes and the first fault are those of running each loop one
+/// element after another in its set's original order. Where `dumps` and no fault stops the run, a dump of what the ranks hold after
+/// these steps stands behind the printed bytes.
 ///
-/// Begins that come one after another are done in groups by the `workers`, at least 1, on threads of `rt`; `gate` is told of
-/// each begin of a group just before it. The answer is the same for every number of workers and every gate.
+/// Begins that come one after another are done in groups by the workers of `crew`, and its gate is told of each begin of a group
+/// just before it. The answer is the same for every crew.
 ///
 /// # Errors
 /// Want of memory alone.
 pub fn run_on_ranks<R: Threads + Sync, G: Gate>(
-    rt: &R,
-    alloc: Global,
-    bound: &Bound,
-    owners: &Owners,
-    halos: &Halos,
-    meshes: &[RankMesh],
-    plan: &Plan,
+    crew: &Crew<'_, R, G>,
+    planned: &Planned<'_>,
     order: &Order<'_>,
-    workers: u32,
-    gate: &G,
     dumps: bool,
 ) -> Result<Outcome, OutOfMemory>
-    requires workers { 0 < workers }
-    requires fits { Fits (bound_of bound.now) }
-    requires obey { AllObey (bound_of bound.now) }
-    requires start { StartsInRange (bound_of bound.now) }
-    requires spread { (n : Perms)
-        × IsDistributed (bound_of bound.now).mesh owners.now n meshes.now
-        × AreHalos (bound_of bound.now).mesh owners.now halos.now }
-    requires plan { Proper (bound_of bound.now) meshes.now (plan_of plan.now) }
-    requires order { CanTake (step_outline (bound_of bound.now) meshes.now (plan_of plan.now))
-        (plan_cells (bound_of bound.now) meshes.now (plan_of plan.now)) order.now }
-    ensures { IfOk result (λ x. (l : List Step)
-        → InOrder (step_outline (bound_of bound.now) meshes.now (plan_of plan.now)) order.now l
-        → IsRunBy (bound_of bound.now) (dump_of dumps (bound_of bound.now) owners.now meshes.now (plan_of plan.now) l) x) }
+    requires obey { AllObey (bound_of planned.now.bound) }
+    requires start { StartsInRange (bound_of planned.now.bound) }
+    requires order { CanTake (outline_of planned.now) (message_cells_of planned.now) order.now }
+    ensures { IfOk result (λ x. (l : List Step) → InOrder (outline_of planned.now) order.now l
+        → IsRunBy (bound_of planned.now.bound) (planned_dump dumps planned.now l) x) }
 {
-    let lists = local_lists(alloc, &bound.mesh, owners, halos, meshes)?;
-    let codes = compile_all(alloc, &bound.kernels)?;
-    let program = DistributedProgram::new(
-        alloc, bound, owners, meshes, &lists, plan, &codes, true,
-    )?;
-    let outcome = run_in_order(rt, alloc, &program, order, workers, gate, dumps)?;
+    let (bound, found) = (planned.bound, &planned.distribution);
+    let (halos, meshes) = (&found.halos, found.ranks.as_slice());
+    let lists = local_lists(crew.alloc, &bound.mesh, &found.owners, halos, meshes)?;
+    let codes = compile_all(crew.alloc, &bound.kernels)?;
+    let program = DistributedProgram::new(crew.alloc, planned, &lists, &codes, true)?;
+    let outcome = run_in_order(crew, &program, order, dumps)?;
     Ok(outcome)
 }

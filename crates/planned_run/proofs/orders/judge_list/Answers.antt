@@ -1,9 +1,10 @@
-use Rattle.std.proofs.Common.{◌≡◌, List, subst}
+use Rattle.std.proofs.Common.{◌≡◌, ◌∙◌, List, ap, subst}
 use Rattle.std.specs.Prelude.{Result, Ok, Err, IfErr}
 use Rattle.local_mesh.specs.declared.types.RankMesh.{RankMesh}
 use Rattle.schedule_steps.specs.declared.step.Step.{Step}
-use Rattle.bound_program.specs.Values.{BoundValue}
+use Rattle.bound_program.specs.Values.{BoundValue, bound_of}
 use Rattle.loop_plan.specs.Values.{PlanValue}
+use Rattle.planned_program.specs.Planned.{PlannedValue}
 use Rattle.schedule_check.specs.declared.whole.Unaccepted.{Unaccepted}
 use Rattle.schedule_check.specs.Whole.{IsUnaccepted}
 use Rattle.planned_run.proofs.orders.judge_list.Goals as goal
@@ -21,9 +22,19 @@ one_refusal {b} {d} {m} {n} {p} {q} {l} {k} come u eb em ep el h =
     (subst (λ z. IsUnaccepted d z p l come u) em
     (subst (λ z. IsUnaccepted z m p l come u) eb h)))
 
+pub new-checker-requires-clause-ranks : goal.new-checker-requires-clause-ranks
+new-checker-requires-clause-ranks c =
+    let d = c.planned.inside.distribution in
+    let h = c.planned.invariant in
+    rw c.deref.ensures.value (d.halos, record { owners = d.owners; numbers = d.perms; are_halos = h.are_halos; distributed = h.distributed })
+
 pub returns-clause-unaccepted : goal.returns-clause-unaccepted
 returns-clause-unaccepted c =
     let new = c.in_ok-checker.ensures in
+    let view = c.planned.view_is in
+    let bound = new.bound ∙ ap (λ (v : PlannedValue). bound_of v.bound) view in
+    let meshes = new.meshes ∙ (c.deref.ensures.value ∙ ap (λ (v : PlannedValue). v.distribution.ranks.items) view) in
+    let plan = new.plan ∙ ap (λ (v : PlannedValue). v.plan) view in
     if_err c.take_all-judged.result
-    (λ u h. (c.take_all-judged.new.steps, one_refusal c.take_all-judged.new.steps u new.bound new.meshes new.plan c.new-2.ensures h))
+    (λ u h. (c.take_all-judged.new.steps, one_refusal c.take_all-judged.new.steps u bound meshes plan c.new-2.ensures h))
     c.take_all-judged.ensures.unaccepted

@@ -1,21 +1,27 @@
-use Rattle.std.proofs.Common.{sym, subst}
+use Rattle.std.proofs.Common.{List, sym, subst}
+use Rattle.kernel_code.specs.Codes.{AreCodesOf}
+use Rattle.local_mesh.specs.declared.types.RankMesh.{RankMesh}
+use Rattle.local_mesh.specs.declared.lists.LocalLists.{LocalLists}
 use Rattle.local_mesh.specs.Lists.{AreLocalLists}
 use Rattle.bound_program.specs.Values.{bound_of}
 use Rattle.run_model.specs.Ranges.{AllObey, StartsInRange}
-use Rattle.loop_plan.specs.Values.{plan_of}
+use Rattle.planned_program.specs.Planned.{PlannedValue}
+use Rattle.rank_program.specs.Runnables.{HasLocalLists}
 use Rattle.planned_run.proofs.SameProgram.{told, can_take}
 use Rattle.planned_run.proofs.running.run_on_ranks.Goals as goal
 
-pub new-requires-clause-runs : goal.new-requires-clause-runs
-new-requires-clause-runs g c =
-    let s = c.requires.spread in
-    record {
-      numbers = s.0;
-      halos = c.args.halos.now;
-      planned = record { fits = c.requires.fits; distributed = s.1; proper = c.requires.plan };
-      are_halos = s.2;
-      lists = subst (AreLocalLists c.args.bound.now.mesh c.args.owners.now c.args.halos.now c.args.meshes.now) (sym c.deref-2.ensures.value) c.in_ok-lists.ensures;
-    }
+pub new-requires-clause-lists : goal.new-requires-clause-lists
+new-requires-clause-lists g c =
+    let p = c.planned.inside in
+    subst (λ (v : PlannedValue). HasLocalLists v c.deref.result.now) c.planned.view_is
+    (subst (λ (ms : List RankMesh). AreLocalLists p.bound.now.mesh p.distribution.owners p.distribution.halos ms c.deref.result.now) c.as_slice.ensures.value
+    (subst (λ (ls : List LocalLists). AreLocalLists p.bound.now.mesh p.distribution.owners p.distribution.halos c.as_slice.result.now ls)
+    (sym c.deref.ensures.value) c.in_ok-lists.ensures))
+
+pub new-requires-clause-codes : goal.new-requires-clause-codes
+new-requires-clause-codes g c =
+    subst (λ (v : PlannedValue). AreCodesOf (bound_of v.bound).kernels c.deref-2.result.now) c.planned.view_is
+    (rw c.deref-2.ensures.value c.in_ok-codes.ensures)
 
 pub run_in_order-requires-clause-obey : goal.run_in_order-requires-clause-obey
 run_in_order-requires-clause-obey g c κs within = subst AllObey (sym c.in_ok-program.ensures.of.of_bound) c.requires.obey
@@ -24,9 +30,10 @@ pub run_in_order-requires-clause-start : goal.run_in_order-requires-clause-start
 run_in_order-requires-clause-start g c κs within = subst StartsInRange (sym c.in_ok-program.ensures.of.of_bound) c.requires.start
 
 pub run_in_order-requires-clause-order : goal.run_in_order-requires-clause-order
-run_in_order-requires-clause-order g c κs within = can_take (bound_of c.args.bound.now) c.args.owners.now c.args.meshes.now (plan_of c.args.plan.now)
-    c.in_ok-program.program c.in_ok-program.ensures.of c.args.order.now c.requires.order
+run_in_order-requires-clause-order g c κs within =
+    can_take c.args.planned.now c.in_ok-program.program c.in_ok-program.ensures.of c.args.order.now c.requires.order
 
 pub returns : goal.returns
-returns g c = told (bound_of c.args.bound.now) c.args.owners.now c.args.meshes.now (plan_of c.args.plan.now)
-    c.in_ok-program.program c.in_ok-program.ensures.of c.args.order.now c.args.dumps c.in_ok-outcome.outcome c.in_ok-outcome.ensures
+returns g c =
+    told c.args.planned.now c.in_ok-program.program c.in_ok-program.ensures.of c.args.order.now c.args.dumps c.in_ok-outcome.outcome
+    c.in_ok-outcome.ensures
