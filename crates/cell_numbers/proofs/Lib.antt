@@ -5,3 +5,4 @@ pub mod Halos
 pub mod FreeRuns
 pub mod ShownNumbers
 pub mod Pushed
+mod OnRanks

@@ -3,15 +3,13 @@ ghost use Rattle.std.specs.Prelude.{◌≡◌, ◌<◌, OnOk, IfOk, IfErr};
 ghost use Rattle.mesh_decl.specs.Mesh.{set_count};
 ghost use Rattle.bound_program.specs.Values.{bound_of};
 ghost use Rattle.bound_program.specs.Fits.{site_at};
-ghost use Rattle.loop_plan.specs.Values.{plan_of};
-ghost use Rattle.cell_numbers.specs.Shown.{IsOnRanks, AreNumbers, IsFreeRun, IsNoLoop, IsUnshown};
+ghost use Rattle.cell_numbers.specs.Shown.{AreNumbers, IsFreeRun, IsNoLoop, IsUnshown};
 
 use crate::blocks::{block_colours, runs_free};
 use crate::owned::parts_of;
 use crate::types::{Shown, ShownRefusal};
 use bound_program::Bound;
-use distribute::Distribution;
-use loop_plan::Plan;
+use planned_program::Planned;
 use std::alloc::Global;
 
 // Whether a loop runs over a set as a Free one.
@@ -29,24 +27,22 @@ fn judge_loop(bound: &Bound, site: u32, set: u32) -> Result<(), ShownRefusal>
     Ok(())
 }
 
-/// By element of a set, its number of what is shown. `found` is the mesh by some owners and new numbers, and `plan` a plan of the
-/// program there.
+/// By element of a set, its number of what is shown of a planned program.
 ///
 /// # Errors
 /// The first cause of [`ShownRefusal`] that is so; `OutOfMemory` where memory runs out.
 pub fn numbers_of(
     alloc: Global,
-    bound: &Bound,
-    found: &Distribution,
-    plan: &Plan,
+    planned: &Planned<'_>,
     set: u32,
     shown: Shown,
 ) -> Result<Vec<u32>, ShownRefusal>
-    requires planned { IsOnRanks (bound_of bound.now) found.now (plan_of plan.now) }
-    requires set { set < set_count (bound_of bound.now).mesh }
-    ensures ok { IfOk result (λ v. AreNumbers (bound_of bound.now) found.now (plan_of plan.now) shown set v.items) }
-    ensures err { IfErr result (IsUnshown (bound_of bound.now) found.now shown set) }
+    requires set { set < set_count (bound_of planned.now.bound).mesh }
+    ensures ok { IfOk result (λ v. AreNumbers (bound_of planned.now.bound) planned.now.distribution planned.now.plan
+        shown set v.items) }
+    ensures err { IfErr result (IsUnshown (bound_of planned.now.bound) planned.now.distribution shown set) }
 {
+    let (bound, found) = (planned.bound, &planned.distribution);
     match shown {
         Shown::Owners => Ok(Vec::from_slice(alloc, found.owners.of_set(set))?),
         Shown::Halos { rank } => {
@@ -57,7 +53,7 @@ pub fn numbers_of(
         }
         Shown::Colours { site } => {
             judge_loop(bound, site, set)?;
-            Ok(block_colours(alloc, bound, found, plan, site)?)
+            Ok(block_colours(alloc, bound, found, &planned.plan, site)?)
         }
     }
 }

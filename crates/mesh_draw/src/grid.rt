@@ -2,9 +2,7 @@
 ghost use Rattle.std.specs.Prelude.{◌≡◌, ◌+◌, ◌<◌, ◌^◌, ◌++◌, codes, length, option_map, IfOk, IfErr, IfSome};
 ghost use Rattle.bound_program.specs.Values.{bound_of};
 ghost use Rattle.bound_program.specs.Fits.{Fits};
-ghost use Rattle.loop_plan.specs.Values.{plan_of};
 ghost use Rattle.cell_numbers.specs.Numbers.{shown_text};
-ghost use Rattle.cell_numbers.specs.Shown.{IsOnRanks};
 ghost use Rattle.mesh_draw.specs.Drawn.{array_name, AreRunFields, AreUntold, IsGrid, IsNoGrid};
 
 use crate::fields::fields_of;
@@ -13,9 +11,8 @@ use crate::types::DrawRefusal;
 use crate::vtk_texts::{Field, GridData, vtk_text};
 use bound_program::Bound;
 use cell_numbers::{Shown, numbers_of, put_shown};
-use distribute::Distribution;
-use loop_plan::Plan;
 use op_num::OutOfMemory;
+use planned_program::Planned;
 use std::alloc::Global;
 
 // The title.
@@ -58,7 +55,7 @@ fn fields_on(
 
 /// The text for VTK of a mesh on ranks, in the plane or in space: its nodes, where the first dat named `coords` says that they lie, its
 /// cells, which have the nodes that the first map named `cells` says, and the number of each of what is shown, in an array named
-/// `op2-owner`, `op2-halo` or `op2-colour`. `found` is the mesh by some owners and new numbers, and `plan` a plan of the program there.
+/// `op2-owner`, `op2-halo` or `op2-colour`.
 /// With the output of a run, of fewer than 2^32 - 1 bytes, there is an array for each dat on the cells or the nodes that the program
 /// prints: what it printed last of it.
 ///
@@ -66,26 +63,23 @@ fn fields_on(
 /// The first cause of [`DrawRefusal`] that is so, which is `Shape`, `Shown` or `Fields`; `Shown(OutOfMemory)` where memory runs out.
 pub fn vtk(
     alloc: Global,
-    bound: &Bound,
-    found: &Distribution,
-    plan: &Plan,
+    planned: &Planned<'_>,
     coords: &[u8],
     cells: &[u8],
     shown: Shown,
     output: Option<&[u8]>,
 ) -> Result<Vec<u8>, DrawRefusal>
-    requires on_ranks { IsOnRanks (bound_of bound.now) found.now (plan_of plan.now) }
-    requires fits { Fits (bound_of bound.now) }
-    requires output { IfSome output (λ bytes. length bytes.now + 1 < 2 ^ 32) }
-    ensures ok { IfOk result (λ v. IsGrid (bound_of bound.now) found.now (plan_of plan.now) coords.now cells.now shown
-        (option_map (λ bytes. bytes.now) output.entry) v.items) }
-    ensures err { IfErr result (IsNoGrid (bound_of bound.now) found.now (plan_of plan.now) coords.now cells.now shown
-        (option_map (λ bytes. bytes.now) output.entry)) }
+    requires { IfSome output (λ bytes. length bytes.now + 1 < 2 ^ 32) }
+    ensures ok { IfOk result (λ v. IsGrid (bound_of planned.now.bound) planned.now.distribution planned.now.plan
+        coords.now cells.now shown (option_map (λ bytes. bytes.now) output.entry) v.items) }
+    ensures err { IfErr result (IsNoGrid (bound_of planned.now.bound) planned.now.distribution planned.now.plan
+        coords.now cells.now shown (option_map (λ bytes. bytes.now) output.entry)) }
 {
+    let bound = planned.bound;
     let shape = shape_of(&bound.mesh, coords, cells)?;
     bound.mesh.is_in_range();
     let (set, _, _) = bound.mesh.map_ends(shape.cells);
-    let numbers = numbers_of(alloc, bound, found, plan, set, shown)?;
+    let numbers = numbers_of(alloc, planned, set, shown)?;
     let (nodes, _) = bound.mesh.dat_shape(shape.coords);
     let on_cells = fields_on(alloc, bound, output, set)?;
     let on_nodes = fields_on(alloc, bound, output, nodes)?;
