@@ -1,5 +1,5 @@
 -- From new numbers and owners to the plan.
-use Rattle.std.proofs.Common.{◌≡◌, ℕ, inl, inr, List, ◌++◌, Option, Result, Ok, Err, refl}
+use Rattle.std.proofs.Common.{◌≡◌, ℕ, inl, inr, List, ◌++◌, Option, Result, Ok, Err, refl, sym, subst}
 use Rattle.op_outside.specs.Outside.{Files}
 use Rattle.kept_files.specs.Readings.{Readings, AreNext, HaveCome, Finds}
 use Rattle.kept_files.proofs.Finding.{finds_on, finds_weaker}
@@ -9,9 +9,15 @@ use Rattle.mesh_decl.specs.Mesh.{MeshValue}
 use Rattle.mesh_decl.specs.Owners.{AreOwners, ArePerms}
 use Rattle.distribute.specs.declared.types.Distribution.{Distribution}
 use Rattle.distribute.specs.Distributions.{IsDistribution}
-use Rattle.bound_program.specs.Values.{BoundValue}
+use Rattle.bound_program.specs.declared.programs.Bound.{Bound}
+use Rattle.bound_program.specs.Values.{BoundValue, bound_of}
 use Rattle.bound_program.specs.Fits.{Fits}
-use Rattle.loop_plan.specs.Distributed.{Distributed}
+use Rattle.local_mesh.specs.Halos.{AreHalos}
+use Rattle.loop_plan.specs.declared.types.Plan.{Plan}
+use Rattle.loop_plan.specs.Values.{plan_of}
+use Rattle.loop_plan.specs.Distributed.{IsDistributed, Distributed}
+use Rattle.loop_plan.specs.Proper.{Proper}
+use Rattle.planned_program.specs.Planned.{FitTogether}
 use Rattle.command_words.specs.Refusal.{Refusal}
 use Rattle.command_words.specs.Words.{Options, names_by, names_in_blocks}
 use Rattle.answer_lines.specs.Lines as lines
@@ -38,6 +44,24 @@ pub unplanned : (c : Colouring) (b : BoundValue) (u : Owners) (n : Perms) (d : D
     → StopsWhere (IsUnplanned c b d.ranks.items) h
     → StopsWhere (λ r. PlanIs c b u n (Err r)) h
 unplanned c b u n d h is s = stops_weaker (IsUnplanned c b d.ranks.items) (λ r. PlanIs c b u n (Err r)) h (λ r k. (d, is, k)) s
+
+pub fit_together : (b : Bound) (u : Owners) (n : Perms) (d : Distribution) (p : Plan)
+    → Fits (bound_of b)
+    → AreOwners b.mesh u
+    → ArePerms b.mesh n
+    → IsDistribution b.mesh u n d
+    → Proper (bound_of b) d.ranks.items (plan_of p)
+    → FitTogether (record { bound = b; distribution = d; plan = plan_of p })
+fit_together b u n d p fits are_owners are_perms h proper =
+    let spread = record { are_owners = are_owners; are_perms = are_perms; are_meshes = h.ranks } in
+    record {
+      fits = fits;
+      distributed =
+          subst (λ z. IsDistributed b.mesh z d.perms d.ranks.items) (sym h.owners)
+          (subst (λ z. IsDistributed b.mesh u z d.ranks.items) (sym h.perms) spread);
+      are_halos = subst (λ z. AreHalos b.mesh z d.halos) (sym h.owners) h.halos;
+      proper = proper;
+    }
 
 -- ---- judgements over files
 

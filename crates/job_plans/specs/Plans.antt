@@ -3,12 +3,9 @@ use Rattle.std.specs.Prelude.{◌≡◌, Ok}
 use Rattle.op_outside.specs.Outside.{Files}
 use Rattle.mesh_decl.specs.declared.owners.Owners.{Owners}
 use Rattle.mesh_decl.specs.declared.owners.Perms.{Perms}
-use Rattle.mesh_decl.specs.Owners.{AreOwners, ArePerms}
 use Rattle.distribute.specs.Parts.{Parts}
-use Rattle.distribute.specs.declared.types.Distribution.{Distribution}
-use Rattle.distribute.specs.Distributions.{IsDistribution}
 use Rattle.bound_program.specs.Values.{BoundValue}
-use Rattle.loop_plan.specs.Values.{plan_of}
+use Rattle.planned_program.specs.Planned.{PlannedValue}
 use Rattle.plan_cert.specs.declared.types.CertRefusal.{CertRefusal}
 use Rattle.plan_cert.specs.declared.types.CertRefusal.TheVariants as cert
 use Rattle.command_words.specs.Refusal.{Steps, Refusal, BadPlan, BeyondLimit}
@@ -16,23 +13,14 @@ use Rattle.command_words.specs.Words.{Options}
 use Rattle.answer_lines.specs.Lines.{Answer}
 use Rattle.answers.specs.Judgements as judged
 use Rattle.answers.specs.Judgements.{Colouring, NumbersOf, PartsOf, OwnersOf, ColouringOf, PlanIs}
-use Rattle.job_plans.specs.declared.planned.Planned.{Planned}
 
 -- the mesh on ranks and the plan there, as the judgements have them
-abbrev pub planned_of : Planned → judged.Planned
-planned_of p = record { distribution = p.distribution; plan = plan_of p.plan }
+abbrev pub planned_of : PlannedValue → judged.Planned
+planned_of p = record { distribution = p.distribution; plan = p.plan }
 
 -- nothing is answered of a plan, so that all answers are refusals that came before
 abbrev pub Unplanned : judged.Planned → Answer → Type 0
 Unplanned p a = ⊥
-
--- the mesh of a program by some owners and new numbers
-pub record IsSpread (b : BoundValue) (d : Distribution) : Type 0 where
-  pub owners : Owners
-  pub numbers : Perms
-  pub are_owners : AreOwners b.mesh owners
-  pub are_perms : ArePerms b.mesh numbers
-  pub distributed : IsDistribution b.mesh owners numbers d
 
 -- by the options, over the files of a partition and a plan, these are the mesh on ranks and the plan there
 pub record IsPlannedIn (o : Options) (b : BoundValue) (p : judged.Planned) (files : Files) : Type 0 where

@@ -6,4 +6,4 @@
 mod colourings;
 mod planned;
 
-pub use planned::{Planned, planned_on};
+pub use planned::planned_on;

@@ -6,8 +6,6 @@ ghost use Rattle.kept_files.specs.Readings.{AreNext, HaveCome, Finds};
 ghost use Rattle.mesh_decl.specs.Owners.{AreOwners, ArePerms};
 ghost use Rattle.bound_program.specs.Values.{bound_of};
 ghost use Rattle.bound_program.specs.Fits.{Fits};
-ghost use Rattle.loop_plan.specs.Values.{plan_of};
-ghost use Rattle.loop_plan.specs.Proper.{Proper};
 ghost use Rattle.answer_lines.specs.declared.limits.TheConstants.{PLAN_BYTES};
 ghost use Rattle.answer_lines.specs.Lines.{refused};
 ghost use Rattle.answer_lines.specs.Halts.{StopsWhere};
@@ -18,38 +16,29 @@ ghost use Rattle.answers.specs.Judgements.{PlanIs};
 ghost use Rattle.answers.specs.Answers.{PlanningAnswers};
 ghost use Rattle.job_inputs.specs.Inputs.{colouring_by};
 ghost use Rattle.job_inputs.specs.Chains.{HaltsOver};
-ghost use Rattle.job_plans.specs.Plans.{planned_of, Unplanned, IsSpread, IsPlannedIn};
+ghost use Rattle.job_plans.specs.Plans.{planned_of, Unplanned, IsPlannedIn};
 
 use crate::colourings::plan_by;
 use answer_lines::Halt;
 use bound_program::Bound;
 use command_words::{Blocks, Options};
-use distribute::{Distribution, distribute};
+use distribute::distribute;
 use job_inputs::{numbers_of, owners_of, partition_of, plan_text_of};
 use kept_files::Kept;
-use loop_plan::Plan;
 use mesh_decl::{Owners, Perms};
 use op_outside::Shelf;
+use planned_program::Planned;
 use std::alloc::Global;
 
-/// The mesh of a program on ranks, and the plan of its loops there.
-#[derive(Drop)]
-pub struct Planned {
-    /// Owners, halos, and the mesh of each rank.
-    pub distribution: Distribution,
-    /// Blocks, colours and steps.
-    pub plan: Plan,
-}
-
 // The mesh by these owners and new numbers, and the plan there. Where a file tells blocks and colours, `text` is what it holds.
-fn plan_over<'a>(
+fn plan_over<'a, 'b>(
     alloc: Global,
     blocks: Blocks<'_>,
-    bound: &Bound,
+    bound: &'b Bound,
     owners: Owners,
     perms: Perms,
     text: &[u8],
-) -> Result<Planned, Halt<'a>>
+) -> Result<Planned<'b>, Halt<'a>>
     requires fits { Fits (bound_of bound.now) }
     requires owners { AreOwners (bound_of bound.now).mesh owners }
     requires perms { ArePerms (bound_of bound.now).mesh perms }
@@ -57,13 +46,17 @@ fn plan_over<'a>(
     requires few { length text.now ≤ PLAN_BYTES }
     ensures ok { IfOk result (λ p. PlanIs (colouring_by (blocks_in blocks.entry) text.now) (bound_of bound.now) owners perms
         (Ok (planned_of p))) }
-    ensures spread { IfOk result (λ p. IsSpread (bound_of bound.now) p.distribution) }
+    ensures of { IfOk result (λ p. p.bound ≡ bound.now) }
     ensures err { IfErr result (StopsWhere (λ r. PlanIs (colouring_by (blocks_in blocks.entry) text.now) (bound_of bound.now) owners perms
         (Err r))) }
 {
     let distribution = distribute(alloc, &bound.mesh, owners, perms)?;
     let plan = plan_by(alloc, bound, &distribution, blocks, text)?;
-    Ok(Planned { distribution, plan })
+    Ok(Planned {
+        bound,
+        distribution,
+        plan,
+    })
 }
 
 /// The mesh of a bound program on the ranks that the options ask for, and its plan there. The program fits, and the numbers of the options
@@ -71,13 +64,13 @@ fn plan_over<'a>(
 ///
 /// Judged are, up to the first refusal, new numbers, the partition's file, owners, the plan's file, and the plan. A file that could not be
 /// read is a failure, where the shelf's count of faults rose, and so is want of memory.
-pub fn planned_on<'a, F: Shelf>(
+pub fn planned_on<'a, 'b, F: Shelf>(
     alloc: Global,
     shelf: &mut F,
     kept: &mut Kept<'a>,
     options: &Options<'a>,
-    bound: &Bound,
-) -> Result<Planned, Halt<'a>>
+    bound: &'b Bound,
+) -> Result<Planned<'b>, Halt<'a>>
     requires parting { All (λ name. F.lends shelf.old name) (names_by (options_in options.now).parting) }
     requires blocks { All (λ name. F.lends shelf.old name) (names_in_blocks (options_in options.now).blocks) }
     requires next { AreNext (names_by (options_in options.now).parting ++ names_in_blocks (options_in options.now).blocks) kept.old }
@@ -90,8 +83,7 @@ pub fn planned_on<'a, F: Shelf>(
         (HaveCome (names_by (options_in options.now).parting ++ names_in_blocks (options_in options.now).blocks) kept.old kept.new) }
     ensures ok { IfOk result (λ p. Finds (F.told shelf.old) kept.old kept.new
         (IsPlannedIn (options_in options.now) (bound_of bound.now) (planned_of p))) }
-    ensures spread { IfOk result (λ p. IsSpread (bound_of bound.now) p.distribution) }
-    ensures proper { IfOk result (λ p. Proper (bound_of bound.now) p.distribution.ranks.items (plan_of p.plan)) }
+    ensures of { IfOk result (λ p. p.bound ≡ bound.now) }
     ensures err { IfErr result (HaltsOver (F.told shelf.old) kept.old
         (λ files r. PlanningAnswers Unplanned (options_in options.now) files (bound_of bound.now) (refused r))
         (Rose (F.faults shelf.old) (F.faults shelf.new))) }

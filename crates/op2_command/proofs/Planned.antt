@@ -2,11 +2,6 @@
 use Rattle.std.proofs.Common.{◌≡◌, ℕ, inl, inr, List, Option, Result, Ok, Err, refl, sym, subst}
 use Rattle.op_outside.specs.Outside.{Files}
 use Rattle.kept_files.specs.Readings.{Readings, Finds}
-use Rattle.mesh_decl.specs.declared.owners.Perms.{Perms}
-use Rattle.distribute.specs.declared.types.Distribution.{Distribution}
-use Rattle.bound_program.specs.Values.{BoundValue}
-use Rattle.loop_plan.specs.Distributed.{IsDistributed, Distributed}
-use Rattle.local_mesh.specs.Halos.{AreHalos}
 use Rattle.schedule_steps.specs.declared.step.Step.{Step}
 use Rattle.schedule_steps.specs.Standard.{standard}
 use Rattle.schedule_steps.specs.Drawn.{IsDrawn}
@@ -23,24 +18,9 @@ use Rattle.answer_lines.specs.declared.call_answer.Answer.{Answer}
 use Rattle.answer_lines.specs.declared.refusals.Halt.{Halt}
 use Rattle.answer_lines.specs.Halts.{StopsWhere, answer_of}
 use Rattle.job_inputs.specs.Chains.{AnswersBy, HaltsOver, AnswersFrom}
-use Rattle.job_plans.specs.Plans.{IsSpread}
-use Rattle.job_plans.proofs.Planning.{spread}
 use Rattle.op2_command.specs.Chains.{StepsAnswers, ScheduleAnswers}
 use Rattle.answer_lines.proofs.Halts.{stops_weaker}
 use Rattle.job_inputs.proofs.Chained.{halts_weaker, answers_by, finds_from}
-
--- ---- distributions
-
-pub spread_by : (b : BoundValue) (d : Distribution) → IsSpread b d → Distributed b.mesh d.halos d.ranks.items
-spread_by b d h = spread b.mesh h.owners h.numbers d h.are_owners h.are_perms h.distributed
-
-pub spread_on : (b : BoundValue) (d : Distribution) → IsSpread b d → (n : Perms) × IsDistributed b.mesh d.owners n d.ranks.items × AreHalos b.mesh d.owners d.halos
-spread_on b d h =
-    let k = h.distributed in (
-      h.numbers,
-      subst (λ u. IsDistributed b.mesh u h.numbers d.ranks.items) (sym k.owners) (record { are_owners = h.are_owners; are_perms = h.are_perms; are_meshes = k.ranks }),
-      subst (λ u. AreHalos b.mesh u d.halos) (sym k.owners) k.halos,
-    )
 
 -- ---- schedules
 

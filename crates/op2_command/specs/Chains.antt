@@ -6,6 +6,8 @@ use Rattle.mesh_decl.specs.Canonical.{canonical}
 use Rattle.schedule_steps.specs.declared.text.lines.Line.{Line}
 use Rattle.step_judge.specs.declared.refusal.ScheduleRefusal.{ScheduleRefusal}
 use Rattle.step_judge.specs.declared.refusal.ScheduleRefusal.TheVariants as taking
+use Rattle.bound_program.specs.Values.{bound_of}
+use Rattle.planned_program.specs.Planned.{PlannedValue}
 use Rattle.command_words.specs.Refusal.{Refusal}
 use Rattle.answer_lines.specs.Lines as lines
 use Rattle.command_words.specs.Words.{PlanJob, Options, group_of}
@@ -15,6 +17,10 @@ use Rattle.answers.specs.Judgements.{Chosen, Planned, Order, OrderOf, outline_of
 use Rattle.answers.specs.Answers.{given, planned_answer}
 
 -- ---- parts of the chain
+
+-- the program whose items run, of which the first has that number in the whole program
+abbrev pub chosen_in : ℕ → PlannedValue → Chosen
+chosen_in first p = record { program = bound_of p.bound; first = first }
 
 -- what is answered of a plan, where its steps come from this
 abbrev pub StepsAnswers : PlanJob → Options → Chosen → Planned → Order → lines.Answer → Type 0

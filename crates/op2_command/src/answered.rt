@@ -30,7 +30,7 @@ use kept_files::{Kept, some_files_are_as_seen};
 use mesh_decl::text::{Form, write_mesh};
 use op_num::OutOfMemory;
 use op_outside::Shelf;
-use par_exec::Gate;
+use par_exec::{Crew, Gate};
 use std::alloc::Global;
 use std::marker::Sync;
 use std::thread::Threads;
@@ -56,13 +56,11 @@ fn awaited<'a>(
 
 // The answer of a job on the plan of a program over a mesh.
 fn to_plan<'a, F: Shelf, R: Threads + Sync, G: Gate>(
-    rt: &R,
-    alloc: Global,
+    crew: &Crew<'_, R, G>,
     shelf: &mut F,
     job: PlanJob,
     options: &Options<'a>,
     input: Input<'a>,
-    gate: &G,
 ) -> Result<Answer, Halt<'a>>
     requires input { All (λ name. F.lends shelf.old name) (names_from (input_in input)) }
     requires state { All (λ name. F.lends shelf.old name) (names_before (options_in options.now).stretch) }
@@ -77,9 +75,9 @@ fn to_plan<'a, F: Shelf, R: Threads + Sync, G: Gate>(
         (Rose (F.faults shelf.old) (F.faults shelf.new)) result }
 {
     some_files_are_as_seen();
-    let mut kept = awaited(alloc, options, input)?;
-    let bound = bound_input(alloc, shelf, &mut kept, input)?;
-    planned(rt, alloc, shelf, &mut kept, job, options, bound, gate)
+    let mut kept = awaited(crew.alloc, options, input)?;
+    let bound = bound_input(crew.alloc, shelf, &mut kept, input)?;
+    planned(crew, shelf, &mut kept, job, options, bound)
 }
 
 // The files that a job on chains reads, in the order in which it does.
@@ -161,7 +159,15 @@ fn to_asked<'a, F: Shelf, R: Threads + Sync, G: Gate>(
             job,
             options,
             input,
-        } => to_plan(rt, alloc, shelf, job, &options, input, gate),
+        } => {
+            let crew = Crew {
+                threads: rt,
+                alloc,
+                workers: options.workers,
+                gate,
+            };
+            to_plan(&crew, shelf, job, &options, input)
+        }
         Asked::Chains {
             job,
             options,

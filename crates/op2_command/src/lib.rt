@@ -8,6 +8,7 @@
 mod answered;
 mod chains;
 mod faults;
+mod plan_task;
 mod plans;
 mod ranges;
 mod runs;

@@ -2,24 +2,18 @@
 
 ghost use Rattle.std.specs.Prelude.{◌≡◌, ◌≤◌, length, option_map, slice_get, IfOk, IfErr, Ok};
 ghost use Rattle.bound_program.specs.Values.{bound_of};
-ghost use Rattle.bound_program.specs.Fits.{Fits};
-ghost use Rattle.loop_plan.specs.Values.{plan_of};
-ghost use Rattle.loop_plan.specs.Proper.{Proper};
-ghost use Rattle.loop_plan.specs.StepOutline.{step_outline};
+ghost use Rattle.planned_program.specs.Planned.{outline_of};
 ghost use Rattle.schedule_check.specs.Whole.{IsWhole};
 ghost use Rattle.schedule_steps.specs.Reading.{Reads};
 ghost use Rattle.answer_lines.specs.declared.limits.TheConstants.{SCHEDULE_BYTES};
 ghost use Rattle.answers.specs.Said.{SaysSchedule};
 ghost use Rattle.answers.specs.Judgements.{steps_in, end_line, IsTextRefused, IsStepRefused};
 ghost use Rattle.answer_lines.specs.Halts.{StopsWhere};
-ghost use Rattle.job_plans.specs.Plans.{IsSpread};
 ghost use Rattle.op2_command.specs.Chains.{CanRefuse, SaysFirst};
 
 use answer_lines::{Failure, Halt, Limit, Refusal, most};
-use bound_program::Bound;
-use distribute::Distribution;
-use loop_plan::Plan;
 use op_num::OutOfMemory;
+use planned_program::Planned;
 use planned_run::judge_list;
 use schedule_check::ScheduleRefusal;
 use schedule_steps::text::{Line, ScheduleTextRefusal, read_schedule};
@@ -124,22 +118,18 @@ fn line_at(lines: &[Line], step: u64) -> Option<&Line>
 /// The steps of these lines, and their peak, where the plan accepts them; `end` is the line of the end.
 pub fn judged<'a>(
     alloc: Global,
-    bound: &Bound,
-    found: &Distribution,
-    plan: &Plan,
+    planned: &Planned<'_>,
     lines: &[Line],
     end: u32,
 ) -> Result<(Vec<Step>, Peak), Halt<'a>>
-    requires fits { Fits (bound_of bound.now) }
-    requires found { IsSpread (bound_of bound.now) found.now }
-    requires plan { Proper (bound_of bound.now) found.now.ranks.items (plan_of plan.now) }
     ensures steps { IfOk result (λ r. r.0.items ≡ steps_in lines.now) }
-    ensures whole { IfOk result (λ r. IsWhole (bound_of bound.now) found.now.ranks.items (plan_of plan.now) (steps_in lines.now) r.1) }
+    ensures whole { IfOk result (λ r. IsWhole (bound_of planned.now.bound) planned.now.distribution.ranks.items planned.now.plan
+        (steps_in lines.now) r.1) }
     ensures err { IfErr result
-        (StopsWhere (IsStepRefused (step_outline (bound_of bound.now) found.now.ranks.items (plan_of plan.now)) lines.now end)) }
+        (StopsWhere (IsStepRefused (outline_of planned.now) lines.now end)) }
 {
     let steps = steps_in(alloc, lines)?;
-    match judge_list(alloc, bound, &found.ranks, plan, &steps)? {
+    match judge_list(alloc, planned, &steps)? {
         Ok(peak) => Ok((steps, peak)),
         Err(refused) => Err(unaccepted(line_at(lines, refused.step), end, refused.refusal)),
     }

@@ -1,4 +1,3 @@
 pub mod Wording
 pub mod Ended
-pub mod OnRanks
 pub mod Weaker

@@ -3,15 +3,14 @@
 ghost use Rattle.mesh_decl.specs.Owners.{AreOwners};
 ghost use Rattle.bound_program.specs.Values.{bound_of};
 ghost use Rattle.job_inputs.specs.Chains.{AnswersBy};
-ghost use Rattle.job_plans.specs.Plans.{IsSpread};
 ghost use Rattle.tool_command.specs.ToolAnswers.{OwnersTold};
 
 use crate::lines::refused_name;
 use answer_lines::{Answer, Failure, Halt};
 use bound_program::Bound;
-use job_plans::Planned;
 use mesh_decl::Owners;
 use owner_text::{WriteRefusal, write_partition};
+use planned_program::Planned;
 use std::alloc::Global;
 
 /// The answer that these owners are.
@@ -30,9 +29,8 @@ pub fn written<'a>(alloc: Global, bound: &Bound, owners: &Owners) -> Result<Answ
 }
 
 /// The answer of telling the owners on the ranks of a plan.
-pub fn told<'a>(alloc: Global, bound: &Bound, planned: &Planned) -> Result<Answer, Halt<'a>>
-    requires { IsSpread (bound_of bound.now) planned.now.distribution }
-    ensures { AnswersBy (OwnersTold (bound_of bound.now) planned.now.distribution.owners) result }
+pub fn told<'a>(alloc: Global, planned: &Planned<'_>) -> Result<Answer, Halt<'a>>
+    ensures { AnswersBy (OwnersTold (bound_of planned.now.bound) planned.now.distribution.owners) result }
 {
-    written(alloc, bound, &planned.distribution.owners)
+    written(alloc, planned.bound, &planned.distribution.owners)
 }

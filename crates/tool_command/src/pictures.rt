@@ -5,11 +5,8 @@ ghost use Rattle.answer_lines.specs.Halts.{answer_of};
 ghost use Rattle.op_outside.specs.Outside.{Rose};
 ghost use Rattle.kept_files.specs.Readings.{AreNext};
 ghost use Rattle.bound_program.specs.Values.{bound_of};
-ghost use Rattle.bound_program.specs.Fits.{Fits};
-ghost use Rattle.loop_plan.specs.Values.{plan_of};
-ghost use Rattle.loop_plan.specs.Proper.{Proper};
 ghost use Rattle.job_inputs.specs.Chains.{AnswersBy, AnswersFrom};
-ghost use Rattle.job_plans.specs.Plans.{planned_of, IsSpread};
+ghost use Rattle.job_plans.specs.Plans.{planned_of};
 ghost use Rattle.tool_words.specs.Values.{picture_of};
 ghost use Rattle.tool_command.specs.ToolAnswers.{number_in, said_of_field, said_of_picture, refused_by_tool};
 ghost use Rattle.tool_command.specs.ToolAnswers.{DrawAnswers, GridOver, GridAnswers};
@@ -17,16 +14,15 @@ ghost use Rattle.tool_command.specs.Endings.{output_names};
 
 use crate::lines::{put_at, refused_by};
 use answer_lines::{Answer, Failure, Halt, Limit, put_named};
-use bound_program::Bound;
 use cell_numbers::{Shown, ShownRefusal};
 use job_inputs::file_of;
-use job_plans::Planned;
 use kept_files::Kept;
 use mesh_draw::fields::FieldRefusal;
 use mesh_draw::shapes::ShapeRefusal;
 use mesh_draw::{DrawRefusal, draw, vtk};
 use op_num::OutOfMemory;
 use op_outside::Shelf;
+use planned_program::Planned;
 use std::alloc::Global;
 use tool_words::Picture;
 
@@ -98,17 +94,13 @@ fn refused_picture(
 /// The answer of drawing a picture.
 pub fn drawn<'a>(
     alloc: Global,
-    bound: &Bound,
-    planned: &Planned,
+    planned: &Planned<'_>,
     picture: Picture<'_>,
 ) -> Result<Answer, Halt<'a>>
-    requires spread { IsSpread (bound_of bound.now) planned.now.distribution }
-    requires proper { Proper (bound_of bound.now) planned.now.distribution.ranks.items (plan_of planned.now.plan) }
-    ensures { AnswersBy (DrawAnswers (picture_of picture.entry) (bound_of bound.now) (planned_of planned.now)) result }
+    ensures { AnswersBy (DrawAnswers (picture_of picture.entry) (bound_of planned.now.bound) (planned_of planned.now)) result }
 {
-    let (found, plan) = (&planned.distribution, &planned.plan);
     let (coords, cells) = (picture.coords.as_bytes(), picture.cells.as_bytes());
-    match draw(alloc, bound, found, plan, coords, cells, picture.shown) {
+    match draw(alloc, planned, coords, cells, picture.shown) {
         Ok(text) => Ok(Answer::Done(text)),
         Err(DrawRefusal::Shown(ShownRefusal::OutOfMemory)) => Err(Halt::Failed(
             Failure::OutOfMemory,
@@ -120,30 +112,16 @@ pub fn drawn<'a>(
 // The answer of writing the grid for VTK, with what the bytes of an output say where there are some.
 fn gridded_over<'a>(
     alloc: Global,
-    bound: &Bound,
-    planned: &Planned,
+    planned: &Planned<'_>,
     picture: Picture<'_>,
     output: Option<&[u8]>,
 ) -> Result<Answer, Halt<'a>>
-    requires spread { IsSpread (bound_of bound.now) planned.now.distribution }
-    requires proper { Proper (bound_of bound.now) planned.now.distribution.ranks.items (plan_of planned.now.plan) }
-    requires fits { Fits (bound_of bound.now) }
     requires output { IfSome output (λ bytes. length bytes.now + 1 < 2 ^ 32) }
-    ensures { AnswersBy (GridOver (picture_of picture.entry) (bound_of bound.now) (planned_of planned.now)
+    ensures { AnswersBy (GridOver (picture_of picture.entry) (bound_of planned.now.bound) (planned_of planned.now)
         (option_map (λ bytes. bytes.now) output.entry)) result }
 {
-    let (found, plan) = (&planned.distribution, &planned.plan);
     let (coords, cells) = (picture.coords.as_bytes(), picture.cells.as_bytes());
-    match vtk(
-        alloc,
-        bound,
-        found,
-        plan,
-        coords,
-        cells,
-        picture.shown,
-        output,
-    ) {
+    match vtk(alloc, planned, coords, cells, picture.shown, output) {
         Ok(text) => Ok(Answer::Done(text)),
         Err(DrawRefusal::Shown(ShownRefusal::OutOfMemory)) => Err(Halt::Failed(
             Failure::OutOfMemory,
@@ -157,22 +135,18 @@ fn gridded_from<'a, F: Shelf>(
     alloc: Global,
     shelf: &mut F,
     kept: &mut Kept<'a>,
-    bound: &Bound,
-    planned: &Planned,
+    planned: &Planned<'_>,
     picture: Picture<'_>,
     output: &'a str,
 ) -> Result<Answer, Halt<'a>>
     requires lent { F.lends shelf.old output.now }
     requires next { AreNext (output.now ∷ []) kept.old }
-    requires spread { IsSpread (bound_of bound.now) planned.now.distribution }
-    requires proper { Proper (bound_of bound.now) planned.now.distribution.ranks.items (plan_of planned.now.plan) }
-    requires fits { Fits (bound_of bound.now) }
     ensures { AnswersFrom (F.told shelf.old) kept.old
-        (λ files. GridAnswers (picture_of picture.entry) (Some output.now) files (bound_of bound.now) (planned_of planned.now))
+        (λ files. GridAnswers (picture_of picture.entry) (Some output.now) files (bound_of planned.now.bound) (planned_of planned.now))
         (Rose (F.faults shelf.old) (F.faults shelf.new)) result }
 {
     let bytes = file_of(alloc, shelf, kept, output, Limit::PrintWeight)?;
-    gridded_over(alloc, bound, planned, picture, Some(&bytes))
+    gridded_over(alloc, planned, picture, Some(&bytes))
 }
 
 /// The answer of writing the grid for VTK. The file of an output, where one is named, is the next in `kept`.
@@ -180,22 +154,18 @@ pub fn gridded<'a, F: Shelf>(
     alloc: Global,
     shelf: &mut F,
     kept: &mut Kept<'a>,
-    bound: &Bound,
-    planned: &Planned,
+    planned: &Planned<'_>,
     picture: Picture<'_>,
     output: Option<&'a str>,
 ) -> Result<Answer, Halt<'a>>
     requires lent { All (λ name. F.lends shelf.old name) (output_names (option_map (λ s. s.now) output)) }
     requires next { AreNext (output_names (option_map (λ s. s.now) output)) kept.old }
-    requires spread { IsSpread (bound_of bound.now) planned.now.distribution }
-    requires proper { Proper (bound_of bound.now) planned.now.distribution.ranks.items (plan_of planned.now.plan) }
-    requires fits { Fits (bound_of bound.now) }
     ensures { AnswersFrom (F.told shelf.old) kept.old
-        (λ files. GridAnswers (picture_of picture.entry) (option_map (λ s. s.now) output.entry) files (bound_of bound.now)
+        (λ files. GridAnswers (picture_of picture.entry) (option_map (λ s. s.now) output.entry) files (bound_of planned.now.bound)
         (planned_of planned.now)) (Rose (F.faults shelf.old) (F.faults shelf.new)) result }
 {
     match output {
-        Some(output) => gridded_from(alloc, shelf, kept, bound, planned, picture, output),
-        None => gridded_over(alloc, bound, planned, picture, None),
+        Some(output) => gridded_from(alloc, shelf, kept, planned, picture, output),
+        None => gridded_over(alloc, planned, picture, None),
     }
 }

@@ -5,14 +5,12 @@ ghost use Rattle.op_outside.specs.Outside.{Rose};
 ghost use Rattle.kept_files.specs.Readings.{readings_of, AreNext};
 ghost use Rattle.bound_program.specs.Values.{bound_of};
 ghost use Rattle.bound_program.specs.Fits.{Fits};
-ghost use Rattle.loop_plan.specs.Values.{plan_of};
-ghost use Rattle.loop_plan.specs.Proper.{Proper};
 ghost use Rattle.command_words.specs.Words.{InFiles, names_by, names_in_blocks};
 ghost use Rattle.command_words.specs.Laws.{AreWithin};
 ghost use Rattle.command_words.specs.Values.{options_in};
 ghost use Rattle.answers.specs.Answers.{BoundAnswers};
 ghost use Rattle.job_inputs.specs.Chains.{AnswersFrom, AnswersOver};
-ghost use Rattle.job_plans.specs.Plans.{planned_of, IsSpread};
+ghost use Rattle.job_plans.specs.Plans.{planned_of};
 ghost use Rattle.tool_words.specs.Values.{plan_job_of};
 ghost use Rattle.tool_command.specs.ToolAnswers.{OnPlanned, PlanJobAnswers};
 ghost use Rattle.tool_command.specs.Endings.{names_for_plan, names_behind};
@@ -24,10 +22,11 @@ use answer_lines::{Answer, Halt};
 use bound_program::Bound;
 use command_words::{Input, Options};
 use job_inputs::{bound_input, expect_blocks, expect_input, expect_parting};
-use job_plans::{Planned, planned_on};
+use job_plans::planned_on;
 use kept_files::{Kept, some_files_are_as_seen};
 use op_num::OutOfMemory;
 use op_outside::Shelf;
+use planned_program::Planned;
 use std::alloc::Global;
 use tool_words::PlanJob;
 
@@ -65,24 +64,20 @@ fn on_planned<'a, F: Shelf>(
     shelf: &mut F,
     kept: &mut Kept<'a>,
     job: PlanJob<'a>,
-    bound: &Bound,
-    planned: &Planned,
+    planned: &Planned<'_>,
 ) -> Result<Answer, Halt<'a>>
     requires lent { All (λ name. F.lends shelf.old name) (names_for_plan (plan_job_of job)) }
     requires next { AreNext (names_for_plan (plan_job_of job)) kept.old }
-    requires fits { Fits (bound_of bound.now) }
-    requires spread { IsSpread (bound_of bound.now) planned.now.distribution }
-    requires proper { Proper (bound_of bound.now) planned.now.distribution.ranks.items (plan_of planned.now.plan) }
     ensures { AnswersFrom (F.told shelf.old) kept.old
-        (λ files. OnPlanned (plan_job_of job.entry) (bound_of bound.now) files (planned_of planned.now))
+        (λ files. OnPlanned (plan_job_of job.entry) (bound_of planned.now.bound) files (planned_of planned.now))
         (Rose (F.faults shelf.old) (F.faults shelf.new)) result }
 {
     match job {
-        PlanJob::TellsOwners => told(alloc, bound, planned),
-        PlanJob::Counts { plain } => counted(alloc, bound, planned, plain),
-        PlanJob::Draws { picture } => drawn(alloc, bound, planned, picture),
+        PlanJob::TellsOwners => told(alloc, planned),
+        PlanJob::Counts { plain } => counted(alloc, planned, plain),
+        PlanJob::Draws { picture } => drawn(alloc, planned, picture),
         PlanJob::Grids { picture, output } => {
-            gridded(alloc, shelf, kept, bound, planned, picture, output)
+            gridded(alloc, shelf, kept, planned, picture, output)
         }
     }
 }
@@ -108,7 +103,7 @@ fn on_bound_plan<'a, F: Shelf>(
         (Rose (F.faults shelf.old) (F.faults shelf.new)) result }
 {
     let planned = planned_on(alloc, shelf, kept, options, bound)?;
-    on_planned(alloc, shelf, kept, job, bound, &planned)
+    on_planned(alloc, shelf, kept, job, &planned)
 }
 
 /// The answer of a job on the plan of the program in a file over the mesh in a file, with these options, whose numbers are in range:

@@ -2,7 +2,7 @@ use Rattle.std.proofs.lemmas.Result.{err_from_is_err_and}
 use Rattle.bound_program.specs.Values.{bound_of}
 use Rattle.command_words.specs.Values.{blocks_in}
 use Rattle.job_inputs.specs.Inputs.{colouring_by}
-use Rattle.job_plans.proofs.Planning.{spread, unplanned}
+use Rattle.job_plans.proofs.Planning.{spread, fit_together, unplanned}
 use Rattle.job_plans.proofs.planned.plan_over.Goals as goal
 
 pub plan_by-requires-clause-ranks : goal.plan_by-requires-clause-ranks
@@ -18,11 +18,7 @@ returns-in_err-plan-clause-err c =
 pub returns-clause-ok : goal.returns-clause-ok
 returns-clause-ok c = (c.in_ok-distribution.ensures, c.in_ok-plan.ensures.ok)
 
-pub returns-clause-spread : goal.returns-clause-spread
-returns-clause-spread c = record {
-  owners = c.args.owners;
-  numbers = c.args.perms;
-  are_owners = c.requires.owners;
-  are_perms = c.requires.perms;
-  distributed = c.in_ok-distribution.ensures;
-}
+pub invariant_of-result : goal.invariant_of-result
+invariant_of-result c =
+    fit_together c.args.bound.now c.args.owners c.args.perms c.in_ok-distribution.distribution c.in_ok-plan.plan
+    c.requires.fits c.requires.owners c.requires.perms c.in_ok-distribution.ensures c.in_ok-plan.ensures.ok.proper

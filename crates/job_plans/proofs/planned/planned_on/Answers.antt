@@ -55,7 +55,7 @@ returns-clause-come g c =
     if_ok_weaker c.plan_over.result _ _
     (λ p k. both_come (names_by (options_in c.args.options.now).parting) (names_in_blocks (options_in c.args.options.now).blocks) c.args.kept.now
     c.partition_of.new.kept c.plan_text_of.new.kept c.in_ok-partition.ensures.come c.in_ok-text.ensures.come)
-    c.plan_over.ensures.spread
+    c.plan_over.ensures.of
 
 pub returns-clause-ok : goal.returns-clause-ok
 returns-clause-ok g c =
@@ -67,9 +67,6 @@ returns-clause-ok g c =
     c.in_ok-owners.owners (rw c.deref.ensures.value at c.in_ok-owners.ensures.ok) c.plan_text_of.new.kept c.in_ok-text.text.items seen
     (planned_of p) (rw c.deref-2.ensures.value at is))
     c.plan_over.ensures.ok
-
-pub returns-clause-proper : goal.returns-clause-proper
-returns-clause-proper g c = if_ok_weaker c.plan_over.result _ _ (λ p is. is.1.proper) c.plan_over.ensures.ok
 
 pub returns-clause-err : goal.returns-clause-err
 returns-clause-err g c =

@@ -31,7 +31,7 @@ scheduled-requires-clause-next g c κs within =
 
 pub returns : goal.returns
 returns g c =
-    let rest = rw c.in_ok-planned.ensures.calm at (rw c.in_ok-planned.ensures.told at c.scheduled.ensures) in
+    let rest = rw c.in_ok-planned.ensures.of at (rw c.in_ok-planned.ensures.calm at (rw c.in_ok-planned.ensures.told at c.scheduled.ensures)) in
     planning_answered (λ files p. ScheduleAnswers (job_in c.args.job) (options_in c.args.options.now) (chosen_of c.args.chosen.now) p files)
     (options_in c.args.options.now) (bound_of c.args.chosen.now.bound) c.requires.fits
     (g.F.Shelf.told c.args.shelf.now) (Rose (g.F.Shelf.faults c.args.shelf.now) (g.F.Shelf.faults c.scheduled.new.shelf)) c.args.kept.now

@@ -31,7 +31,7 @@ on_planned-requires-clause-next g c =
 
 pub returns : goal.returns
 returns g c =
-    let rest = rw c.in_ok-planned.ensures.calm at (rw c.in_ok-planned.ensures.told at c.on_planned.ensures) in
+    let rest = rw c.in_ok-planned.ensures.of at (rw c.in_ok-planned.ensures.calm at (rw c.in_ok-planned.ensures.told at c.on_planned.ensures)) in
     planning_answered (OnPlanned (plan_job_of c.args.job) (bound_of c.args.bound.now)) (options_in c.args.options.now) (bound_of c.args.bound.now) c.requires.fits
     (g.F.Shelf.told c.args.shelf.now) (Rose (g.F.Shelf.faults c.args.shelf.now) (g.F.Shelf.faults c.on_planned.new.shelf)) c.args.kept.now
     c.planned_on.new.kept (planned_of c.in_ok-planned.planned) c.on_planned.result c.in_ok-planned.ensures.ok

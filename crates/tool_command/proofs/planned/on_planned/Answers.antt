@@ -29,24 +29,24 @@ answered told kept b p rose r j x Q is same h =
 
 pub returns-in-TellsOwners : goal.returns-in-TellsOwners
 returns-in-TellsOwners g c =
-    answered (g.F.Shelf.told c.args.shelf.now) c.args.kept.now (bound_of c.args.bound.now) (planned_of c.args.planned.now)
+    answered (g.F.Shelf.told c.args.shelf.now) c.args.kept.now (bound_of c.args.planned.now.bound) (planned_of c.args.planned.now)
     (Rose (g.F.Shelf.faults c.args.shelf.now) (g.F.Shelf.faults c.args.shelf.now)) c.told.result c.args.job TellsOwners
-    (OwnersTold (bound_of c.args.bound.now) (planned_of c.args.planned.now).distribution.owners) (ap plan_job_of c.in-TellsOwners.is) (λ files a k. k)
+    (OwnersTold (bound_of c.args.planned.now.bound) (planned_of c.args.planned.now).distribution.owners) (ap plan_job_of c.in-TellsOwners.is) (λ files a k. k)
     c.told.ensures
 
 pub returns-in-Counts : goal.returns-in-Counts
 returns-in-Counts g c =
-    answered (g.F.Shelf.told c.args.shelf.now) c.args.kept.now (bound_of c.args.bound.now) (planned_of c.args.planned.now)
+    answered (g.F.Shelf.told c.args.shelf.now) c.args.kept.now (bound_of c.args.planned.now.bound) (planned_of c.args.planned.now)
     (Rose (g.F.Shelf.faults c.args.shelf.now) (g.F.Shelf.faults c.args.shelf.now)) c.counted.result c.args.job (Counts c.in-Counts.plain)
-    (CountAnswers c.in-Counts.plain (bound_of c.args.bound.now) (planned_of c.args.planned.now)) (ap plan_job_of c.in-Counts.is) (λ files a k. k)
+    (CountAnswers c.in-Counts.plain (bound_of c.args.planned.now.bound) (planned_of c.args.planned.now)) (ap plan_job_of c.in-Counts.is) (λ files a k. k)
     c.counted.ensures
 
 pub returns-in-Draws : goal.returns-in-Draws
 returns-in-Draws g c =
-    answered (g.F.Shelf.told c.args.shelf.now) c.args.kept.now (bound_of c.args.bound.now) (planned_of c.args.planned.now)
+    answered (g.F.Shelf.told c.args.shelf.now) c.args.kept.now (bound_of c.args.planned.now.bound) (planned_of c.args.planned.now)
     (Rose (g.F.Shelf.faults c.args.shelf.now) (g.F.Shelf.faults c.args.shelf.now)) c.drawn.result c.args.job
     (Draws (picture_of c.in-Draws.picture))
-    (DrawAnswers (picture_of c.in-Draws.picture) (bound_of c.args.bound.now) (planned_of c.args.planned.now)) (ap plan_job_of c.in-Draws.is)
+    (DrawAnswers (picture_of c.in-Draws.picture) (bound_of c.args.planned.now.bound) (planned_of c.args.planned.now)) (ap plan_job_of c.in-Draws.is)
     (λ files a k. k) c.drawn.ensures
 
 pub gridded-requires-clause-lent : goal.gridded-requires-clause-lent
