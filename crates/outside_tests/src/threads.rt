@@ -88,7 +88,7 @@ impl PartJob<u32> for Add {
 
     ghost makes = { λ _ i x y. y ≡ x + i };
 
-    fn run(&self, index: usize, part: &mut u32) {
+    fn run<R: Threads + Sync>(&self, _threads: &R, _workers: u32, index: usize, part: &mut u32) {
         *part += index as u32;
     }
 }
@@ -101,7 +101,7 @@ fn two_workers_meet_on_parts(rt: HostRuntime) {
         seen: AtomicU64::new(0),
     };
     let mut parts = [7u32; 64];
-    run_parts(&crew(&rt, 2, &gate), &Add, &mut parts);
+    run_parts(&rt, 2, &gate, &Add, &mut parts);
     assert_eq!(rt; gate.seen.load(Ordering::SeqCst), 2);
     for part in 0..64usize {
         assert_eq!(rt; parts[part], 7 + part as u32);

@@ -4,7 +4,7 @@ ghost use Rattle.std.specs.Prelude.{◌≡◌, ℕ, ◌+◌, ◌<◌, ◌^◌, l
 ghost use denote.Param.Send.{IsSync, IsSend};
 ghost use Rattle.par_exec.specs.Parts.{TakesEach, MadeEach};
 
-use crate::{Crew, Gate};
+use crate::Gate;
 use std::marker::{Send, Sync};
 use std::thread::{Threads, join_mut};
 
@@ -16,32 +16,37 @@ pub trait PartJob<T>: Sync {
     /// What the job may make of a part, by its number.
     ghost makes: { Self → ℕ → T → T → Type 0 };
 
-    /// Works on the part with number `index`, in place.
-    fn run(&self, index: usize, part: &mut T)
-        requires { takes self.now index part.old }
+    /// Works on the part with number `index`, in place, by so many workers, at least 1, that it has to itself.
+    fn run<R: Threads + Sync>(&self, threads: &R, workers: u32, index: usize, part: &mut T)
+        requires workers { 0 < workers }
+        requires takes { takes self.now index part.old }
         ensures { makes self.now index part.old part.new };
 }
 
-/// Runs job i on part i, for each part of the list, and tells the crew's gate of i just before; the parts are numbered from 0.
+/// Runs job i on part i, for each part of the list, and tells the gate of i just before; the parts are numbered from 0.
 ///
 /// With more than one worker and more than one part, the list is split into halves that run by fork and join, the workers shared
-/// out between them. What is said of each part holds for every crew. Takes no memory.
+/// out between them; a part has those to itself that are left for it. What is said of each part holds for every number of workers, at
+/// least 1, and every gate. Takes no memory.
 pub fn run_parts<R: Threads + Sync, T: Send, J: PartJob<T>, G: Gate>(
-    crew: &Crew<'_, R, G>,
+    threads: &R,
+    workers: u32,
+    gate: &G,
     jobs: &J,
     parts: &mut [T],
 )
+    requires workers { 0 < workers }
     requires takes { TakesEach (J.takes jobs.now) 0 parts.old }
     ensures { MadeEach (J.makes jobs.now) 0 parts.old parts.new }
 {
     let count = parts.len();
-    run_from(crew.threads, crew.workers, 0, count, jobs, crew.gate, parts);
+    run_from(threads, workers, 0, count, jobs, gate, parts);
 }
 
 // Runs job i on part i, where the list has `count` parts from number `first` on.
 #[cycle(parts)]
 fn run_from<R: Threads + Sync, T: Send, J: PartJob<T>, G: Gate>(
-    rt: &R,
+    threads: &R,
     workers: u32,
     first: usize,
     count: usize,
@@ -60,7 +65,7 @@ fn run_from<R: Threads + Sync, T: Send, J: PartJob<T>, G: Gate>(
     }
     if count == 1 {
         gate.enter(first);
-        jobs.run(first, &mut parts[0]);
+        jobs.run(threads, workers, first, &mut parts[0]);
         return;
     }
     let low = count / 2;
@@ -68,23 +73,23 @@ fn run_from<R: Threads + Sync, T: Send, J: PartJob<T>, G: Gate>(
     let next = first + low;
     let (front, back) = parts.split_at_mut(low);
     if workers == 1 {
-        run_from(rt, 1, first, low, jobs, gate, front);
-        run_from(rt, 1, next, high, jobs, gate, back);
+        run_from(threads, 1, first, low, jobs, gate, front);
+        run_from(threads, 1, next, high, jobs, gate, back);
         return;
     }
     let theirs = workers / 2;
     let ours = workers - theirs;
     join_mut(
-        rt,
+        threads,
         &mut ||
             requires { IsSync R.row × IsSync J.row × IsSync G.row × IsSend T.row × (0 < theirs) × (first + low < 2 ^ 64)
                 × (length front.now ≡ low) × TakesEach (J.takes jobs.now) first front.now }
             ensures { MadeEach (J.makes jobs.entry.now) first front.entry.now front.exit.now }
-        { run_from(rt, theirs, first, low, jobs, gate, front) },
+        { run_from(threads, theirs, first, low, jobs, gate, front) },
         &mut ||
             requires { IsSync R.row × IsSync J.row × IsSync G.row × IsSend T.row × (0 < ours) × (next + high < 2 ^ 64)
                 × (length back.now ≡ high) × TakesEach (J.takes jobs.now) next back.now }
             ensures { MadeEach (J.makes jobs.entry.now) next back.entry.now back.exit.now }
-        { run_from(rt, ours, next, high, jobs, gate, back) },
+        { run_from(threads, ours, next, high, jobs, gate, back) },
     );
 }
