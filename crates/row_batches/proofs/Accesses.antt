@@ -3,7 +3,7 @@ use Rattle.std.proofs.Common.{◌≡◌, ◌≢◌, ℕ, ℤ, pos, ◌+◌, ◌*
 use Rattle.std.specs.Prelude.{nat_eq}
 use Rattle.std.proofs.Math.Nat.{mul-le-mul_right}
 use Rattle.std.proofs.Math.ListN.{get_or-map}
-use Rattle.std.proofs.lemmas.Bool.{cases_lt, cases_eq, eq-eqb, ne_eqb}
+use Rattle.std.proofs.lemmas.Bool.{cases_lt}
 use Rattle.op_num.specs.Reduction.{Reduction}
 use Rattle.op_num.specs.Access.{Access, OpRead, OpWrite, OpRw, OpReduce}
 use Rattle.kernel_types.specs.declared.views.frame.Place.{Place}
@@ -43,6 +43,11 @@ both_ways shared own other a ne b how = ⊎_elim
     (λ (e : shared ≡ OpRead). absurd (changing shared own a ne e))
     (λ (e : shared ≡ OpRw). e)
     (reading shared other b how)
+
+-- an access that is that of a reduction reads nothing
+pub only_reduces : (p q : Access) → p ≡ q → (p ≢ OpRead) × (p ≢ OpWrite) × (p ≢ OpRw) → (q ≡ OpRead) ⊎ (q ≡ OpRw) → ⊥
+only_reduces p q e none (inl r) = none.0 (e ∙ r)
+only_reduces p q e none (inr r) = none.2 (e ∙ r)
 
 -- ---- numbers of elements
 

@@ -13,6 +13,14 @@ use Rattle.row_batches.specs.Filled.{IsFilled, cells_of}
 use Rattle.row_batches.specs.RowLoops.{column_at, column_in, scalar_in, column_access, column_cell, way_of, width, IsWhole, LeadsFrom, RunsInRows, NeverMeet, ReduceApart}
 use Rattle.row_batches.proofs.Accesses.{same_number}
 
+-- a column's cell in a row is where it was looked up
+pub where_looked_up : (y : RowLoop) (batch : List ℕ) (rows : ℕ) (numbers : List (List ℕ)) → IsWhole y → AreNumbers rows y.ways.now batch numbers → (c l : ℕ) → c < length y.columns.now → l < rows → cells_of numbers (column_at y c) l ≡ column_cell y (slice_index batch l) c
+where_looked_up y batch rows numbers whole looked c l c_lt l_lt =
+    let e : slice_index (get_or numbers (column_at y c).way []) l ≡ local_in (way_of y c) (slice_index batch l) = looked (column_at y c).way l (whole.ways c c_lt) l_lt in
+    let d = (column_at y c).dim in
+    let same : slice_index (get_or numbers (column_at y c).way []) l * d ≡ local_in (way_of y c) (slice_index batch l) * d = ap (λ n. n * d) e in
+    omega (arith, same)
+
 -- so many rows of a batch were looked up and filled, and do not meet
 pub record IsSetOut (y : RowLoop) (m : List ℤ) (modes : List Mode) (stand : ℕ → List Place) (batch : List ℕ) (numbers : List (List ℕ)) (frame : List (List ℤ)) : Type 0 where
   pub rows : ℕ
@@ -37,11 +45,7 @@ module _ (y : RowLoop) (m : List ℤ) (modes : List Mode) (stand : ℕ → List 
 
   -- a column's cell in a row is where it was looked up
   pub looked_up : (c l : ℕ) → c < length y.columns.now → l < h.rows → cells_of numbers (column_at y c) l ≡ column_cell y (place l) c
-  looked_up c l c_lt l_lt =
-      let e : slice_index (get_or numbers (column_at y c).way []) l ≡ local_in (way_of y c) (place l) = h.looked (column_at y c).way l (h.whole.ways c c_lt) l_lt in
-      let d = (column_at y c).dim in
-      let same : slice_index (get_or numbers (column_at y c).way []) l * d ≡ local_in (way_of y c) (place l) * d = ap (λ n. n * d) e in
-      omega (arith, same)
+  looked_up = where_looked_up y batch h.rows numbers h.whole h.looked
 
   tested : (c d l : ℕ) → c < length y.columns.now → d < length y.columns.now → l < h.rows → ReduceApart y c d → local_in (way_of y c) (place l) ≢ local_in (way_of y d) (place l)
   tested c d l c_lt d_lt l_lt r same = ⊎_elim

@@ -1,4 +1,5 @@
 pub mod Accesses
+pub mod Asides
 pub mod Fewer
 pub mod Given
 pub mod Merged
@@ -6,3 +7,4 @@ pub mod Moves
 pub mod Picks
 pub mod Ran
 pub mod Standing
+pub mod Stays

@@ -20,7 +20,7 @@ use Rattle.kernel_columns.specs.Batch.{RowsApart}
 use Rattle.row_batches.specs.declared.rows.RowLoop.{RowLoop}
 use Rattle.row_batches.specs.Filled.{FilledFor, cells_of}
 use Rattle.row_batches.specs.RowLoops.{Allows, AllowsScalar, scalar_in, column_at, scalar_at, column_access, column_cell, OnDat, OnVariable, in_frame, in_memory, ReduceApart, NeverMeet}
-use Rattle.row_batches.proofs.Accesses.{changing, reading, reducing, reduced_by, both_ways, no_array, one_array, read_first}
+use Rattle.row_batches.proofs.Accesses.{changing, reading, reducing, reduced_by, both_ways, no_array, one_array, read_first, only_reduces}
 use Rattle.row_batches.proofs.Given.{IsSetOut, looked_up, in_row, in_rows}
 use Rattle.lemmas.proofs.Numbers.{eq_both}
 
@@ -225,10 +225,6 @@ module _ (y : RowLoop) (m : List ℤ) (modes : List Mode) (stand : ℕ → List 
   apart_at i l a b x z i_lt l_lt ne changes how lt (inl d) (inl e) same =
       columns (fcol a x) (fcol b z) d.few e.few d.allows e.allows (sym d.cell ∙ same ∙ e.cell)
     where
-      only_reduces : (p q : Access) → p ≡ q → (p ≢ OpRead) × (p ≢ OpWrite) × (p ≢ OpRw) → (q ≡ OpRead) ⊎ (q ≡ OpRw) → ⊥
-      only_reduces p q e none (inl r) = none.0 (e ∙ r)
-      only_reduces p q e none (inr r) = none.2 (e ∙ r)
-
       columns : (c k : ℕ) → c < length y.columns.now → k < length y.columns.now → Allows (column_access y c) (access modes a) → Allows (column_access y k) (access modes b) → column_cell y (x_of i) c ≡ column_cell y (x_of l) k → ⊥
       columns c k c_lt k_lt c_allows k_allows meet = ⊎_elim
           (λ (q : c ≡ k).

@@ -1,3 +1,4 @@
+pub mod Asides
 pub mod Filled
 pub mod Meeting
 pub mod Put

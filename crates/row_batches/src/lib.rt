@@ -4,12 +4,14 @@
 mod batch;
 pub mod batch_tables;
 mod filling;
+mod laws;
 mod meeting;
 mod putting;
 mod ranges;
 mod rows;
 mod ways;
 
-pub use batch::{FEWEST, run_batch};
+pub use batch::{FEWEST, put_aside, run_aside, run_batch};
+pub use laws::{asides_stay, places_stay_apart};
 pub use rows::{RowColumn, RowLoop, RowRoom};
 pub use ways::{LocalVia, local_number};
