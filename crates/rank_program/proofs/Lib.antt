@@ -22,6 +22,7 @@ pub mod FromNone
 mod JobWindows
 mod RowArgs
 mod RowWays
+mod InManyRows
 mod InRows
 mod ArgColumns
 mod RowScalars

@@ -14,6 +14,7 @@ use crate::program::DistributedProgram;
 use crate::room::Room;
 use rank_layout::MAX_ARGS;
 use rank_state::rank_memory::stop::Stop;
+use worker_batches::AtOnce;
 
 // Puts so many cells behind those of a buffer, which has the capacity.
 fn lengthen(memory: &mut Vec<i32>, count: usize)
@@ -27,10 +28,12 @@ fn lengthen(memory: &mut Vec<i32>, count: usize)
     }
 }
 
-/// Runs the kernel of an item's loop for the elements at places of a rank, one after another, on the cells of the rank's buffer
-/// `memory`. While they run, the cells of the loop's scalars stand behind these, for which the buffer has capacity. Answers the
-/// fault to keep of `fault` and of theirs; an element that faults leaves the buffer and the partials as they were. Takes no memory.
-pub fn run_places(
+/// Runs the kernel of an item's loop for the elements at places of a rank, as one after another, on the cells of the rank's buffer
+/// `memory`, by as many workers as `how` says. While they run, the cells of the loop's scalars stand behind these, for which the buffer
+/// has capacity. Answers the fault to keep of `fault` and of theirs; an element that faults leaves the buffer and the partials as they
+/// were. Takes no memory.
+pub fn run_places<H: AtOnce>(
+    how: &H,
     program: &DistributedProgram<'_>,
     item: u32,
     rank: u32,
@@ -41,6 +44,7 @@ pub fn run_places(
     fault: Option<Stop>,
     room: &mut Room,
 ) -> Option<Stop>
+    requires ready { H.ready how.now }
     requires sound { Sound program.now }
     requires keeps { KeepsIn program.now item }
     requires some { 0 < length places.now }
@@ -62,6 +66,7 @@ pub fn run_places(
     let width = memory.len();
     lengthen(memory, local.scalars.len());
     let kept = run_here(
+        how,
         &local,
         places,
         memory,
@@ -70,6 +75,7 @@ pub fn run_places(
         &mut room.saved,
         &mut room.locals,
         &mut room.rows,
+        &mut room.batches,
     );
     memory.truncate(width);
     kept

@@ -5,80 +5,23 @@ ghost use Rattle.rank_state.specs.Stops.{stop_in};
 ghost use Rattle.rank_program.specs.Rooms.{most_saved, most_ways, most_columns};
 ghost use Rattle.rank_program.specs.AloneRuns.{AllBegin};
 ghost use Rattle.row_batches.specs.RowLoops.{HasRowRoom};
-ghost use Rattle.rank_program.specs.Batches.{IsRowLoop, Counts, reduces, GoesOn, GoesCleanly};
+ghost use Rattle.rank_program.specs.Batches.{IsRowLoop, GoesOn, GoesCleanly};
 ghost use Rattle.rank_program.specs.Keeping.{KeepsIn};
 ghost use Rattle.rank_program.specs.LocalLoops.{IsLocalLoop, VariablesStand};
 ghost use Rattle.rank_program.specs.Sound.{Sound, setup_in, layout_in, tables_in};
 
-use crate::begun::own_places;
+use crate::counts::all_count;
 use crate::here::run_alone;
 use crate::local_loops::LocalLoop;
+use crate::many::run_many;
 use crate::room::MOST_COLUMNS;
 use crate::row_loops::{MOST_PAIRS, no_column, row_loop};
-use kernel_columns::{Numbers, ROWS};
+use kernel_columns::ROWS;
 use kernel_types::views::Place;
 use rank_layout::{MAX_ARGS, element_windows_stand, steps_stand, windows_stand};
-use rank_state::Scalar;
 use rank_state::rank_memory::stop::Stop;
 use row_batches::{FEWEST, RowLoop, RowRoom, run_batch};
-
-// Whether a loop reduces into a variable.
-fn reduces(scalars: &[Scalar]) -> bool
-    ensures { result ≡ reduces scalars.now }
-{
-    for scalar in scalars {
-        if let Scalar::Amount { .. } = scalar {
-            return true;
-        }
-    }
-    false
-}
-
-// Whether so many places from `at` on are below one.
-fn all_below(places: &[u32], at: usize, count: usize, end: u32) -> bool
-    requires some { 0 < count }
-    requires fits { at + count ≤ length places.now }
-    ensures { result ≡ true → (j : ℕ) → j < count → get_or places.now (at + j) 0 < end }
-{
-    let mut most = 0;
-    for j in 0..count {
-        most = places[at + j].max(most);
-    }
-    most < end
-}
-
-// Whether what the elements at the places of a batch leave of the loop's scalars counts: it reduces into none, or its rank owns the
-// elements.
-fn all_count(local: &LocalLoop<'_>, places: &[u32], at: usize, count: usize) -> bool
-    requires sound { Sound local.now.program.now }
-    requires steps { AllBegin (setup_in local.now.program.now) (layout_in local.now.program.now) (tables_in local.now.program.now)
-        local.now.item local.now.rank places.now }
-    requires some { 0 < count }
-    requires fits { at + count ≤ length places.now }
-    ensures { result ≡ true → (j : ℕ) → j < count → Counts
-        ((setup_in local.now.program.now).owner ((setup_in local.now.program.now).program.set local.now.item)
-        ((layout_in local.now.program.now).original local.now.item local.now.rank (get_or places.now (at + j) 0)) == local.now.rank)
-        local.now.scalars.now }
-{
-    if !reduces(local.scalars) {
-        return true;
-    }
-    let end = own_places(local.program, local.item, local.rank);
-    all_below(places, at, count, end)
-}
-
-// So many places from `at` on, at most 64.
-fn batch_at(places: &[u32], at: usize, count: usize) -> Numbers
-    requires few { count ≤ ROWS }
-    requires fits { at + count ≤ length places.now }
-    ensures { (j : ℕ) → j < count → slice_index result j ≡ get_or places.now (at + j) 0 }
-{
-    let mut batch = [0; ROWS];
-    for j in 0..count {
-        batch[j] = places[at + j];
-    }
-    batch
-}
+use worker_batches::{AtOnce, BatchesRoom, batch_at};
 
 // Runs the kernel of a loop for elements at the places from `at` on at once: for as many of so many, at most 64, as run in rows, on
 // `memory`: the cells of the rank's buffer, and behind them one for each of the loop's scalars, whatever it holds. Answers how many
@@ -260,10 +203,64 @@ fn run_some(
     upto
 }
 
+// Runs the kernel of a loop for elements at the places from `at` on: in batches at once for as many as run so, else at most 64 of them,
+// as `run_some` does. Answers how many ran.
+fn run_next<H: AtOnce>(
+    how: &H,
+    local: &LocalLoop<'_>,
+    rows: &RowLoop<'_>,
+    places: &[u32],
+    at: usize,
+    pause: &mut Pause,
+    cells: &mut [Place],
+    memory: &mut [i32],
+    partials: &mut [i32],
+    kept: &mut Option<Stop>,
+    saved: &mut [i32],
+    scratch: &mut [i32],
+    room: &mut RowRoom,
+    many: &mut BatchesRoom,
+) -> usize
+    requires ready { H.ready how.now }
+    requires sound { Sound local.now.program.now }
+    requires is { IsLocalLoop local.now }
+    requires keeps { KeepsIn local.now.program.now local.now.item }
+    requires rows { IsRowLoop local.now rows.now }
+    requires steps { AllBegin (setup_in local.now.program.now) (layout_in local.now.program.now) (tables_in local.now.program.now)
+        local.now.item local.now.rank places.now }
+    requires more { at < length places.now }
+    requires stand { VariablesStand local.now cells.old }
+    requires memory { length memory.old ≡ local.now.part.now.cells + length local.now.scalars.now }
+    requires partials { length partials.old ≡ (tables_in local.now.program.now).slots }
+    requires saved { most_saved ≤ length saved.old }
+    requires scratch { local.now.program.now.locals ≤ length scratch.old }
+    requires room { HasRowRoom most_ways most_columns most_columns room.old }
+    ensures some { 0 < result }
+    ensures few { at + result ≤ length places.now }
+    ensures runs { GoesOn local.now places.now at (at + result)
+        (record { cells = take local.now.part.now.cells memory.old; partials = partials.old; fault = stop_in kept.old })
+        (record { cells = take local.now.part.now.cells memory.new; partials = partials.new; fault = stop_in kept.new }) }
+    ensures stand { VariablesStand local.now cells.new }
+    ensures room { HasRowRoom most_ways most_columns most_columns room.new }
+{
+    let pausing = pause.left > 0;
+    let ran = run_many(
+        how, local, rows, places, at, pausing, memory, partials, many,
+    );
+    if ran > 0 {
+        return ran;
+    }
+    let count = ROWS.min(places.len() - at);
+    run_some(
+        local, rows, places, at, count, pause, cells, memory, partials, kept, saved, scratch, room,
+    )
+}
+
 // Runs the kernel of a loop whose elements run in rows for the elements at places, by batches. Where no element of a batch runs in rows,
 // its first 8 run one after another, and twice as many each time that the next batch fails too. Answers how many elements ran; fewer
 // than make a batch are left.
-fn run_all(
+fn run_all<H: AtOnce>(
+    how: &H,
     local: &LocalLoop<'_>,
     rows: &RowLoop<'_>,
     places: &[u32],
@@ -274,7 +271,9 @@ fn run_all(
     saved: &mut [i32],
     scratch: &mut [i32],
     room: &mut RowRoom,
+    many: &mut BatchesRoom,
 ) -> usize
+    requires ready { H.ready how.now }
     requires sound { Sound local.now.program.now }
     requires is { IsLocalLoop local.now }
     requires keeps { KeepsIn local.now.program.now local.now.item }
@@ -300,10 +299,9 @@ fn run_all(
     };
     let mut at = 0;
     while places.len() - at >= FEWEST {
-        let count = ROWS.min(places.len() - at);
-        at += run_some(
-            local, rows, places, at, count, &mut pause, cells, memory, partials, kept, saved,
-            scratch, room,
+        at += run_next(
+            how, local, rows, places, at, &mut pause, cells, memory, partials, kept, saved,
+            scratch, room, many,
         );
     }
     at
@@ -311,7 +309,8 @@ fn run_all(
 
 /// Runs the kernel of a loop on a rank for elements at places by batches of up to 64, where its elements run in rows, on `memory` as
 /// `run_here` does. Answers how many elements ran, from the first on.
-pub fn run_batches(
+pub fn run_batches<H: AtOnce>(
+    how: &H,
     local: &LocalLoop<'_>,
     places: &[u32],
     cells: &mut [Place],
@@ -321,7 +320,9 @@ pub fn run_batches(
     saved: &mut [i32],
     scratch: &mut [i32],
     room: &mut RowRoom,
+    many: &mut BatchesRoom,
 ) -> usize
+    requires ready { H.ready how.now }
     requires sound { Sound local.now.program.now }
     requires is { IsLocalLoop local.now }
     requires keeps { KeepsIn local.now.program.now local.now.item }
@@ -359,7 +360,7 @@ pub fn run_batches(
     ) {
         None => 0,
         Some(rows) => run_all(
-            local, &rows, places, cells, memory, partials, kept, saved, scratch, room,
+            how, local, &rows, places, cells, memory, partials, kept, saved, scratch, room, many,
         ),
     }
 }

@@ -27,6 +27,7 @@ use rank_layout::{MAX_ARGS, element_windows_stand, put_windows, steps_stand, win
 use rank_state::rank_memory::scalars::{fill, merge_amounts};
 use rank_state::rank_memory::stop::{Stop, least};
 use row_batches::RowRoom;
+use worker_batches::{AtOnce, BatchesRoom};
 
 // Puts down where windows stand behind so many cells, which stood behind so many others.
 fn move_behind(width: usize, others: usize, windows: &[Place], cells: &mut [Place])
@@ -200,10 +201,11 @@ pub fn run_alone(
 }
 
 /// Runs the kernel of a loop on a rank for the elements at places, as one after another, on `memory`: the cells of the rank's buffer,
-/// and behind them one for each of the loop's scalars, whatever it holds. Where they run in rows, 64 of them run at once; what `rows`
-/// holds means nothing before and after. Answers the fault to keep of `fault` and of theirs; an element that faults leaves the buffer
-/// and the partials as they were. Takes no memory.
-pub fn run_here(
+/// and behind them one for each of the loop's scalars, whatever it holds. Where they run in rows, 64 of them run at once, and several
+/// batches of 64 by the workers that `how` says; what `rows` and `batches` hold means nothing before and after. Answers the fault to keep
+/// of `fault` and of theirs; an element that faults leaves the buffer and the partials as they were. Takes no memory.
+pub fn run_here<H: AtOnce>(
+    how: &H,
     local: &LocalLoop<'_>,
     places: &[u32],
     memory: &mut [i32],
@@ -212,7 +214,9 @@ pub fn run_here(
     saved: &mut [i32],
     scratch: &mut [i32],
     rows: &mut RowRoom,
+    batches: &mut BatchesRoom,
 ) -> Option<Stop>
+    requires ready { H.ready how.now }
     requires sound { Sound local.now.program.now }
     requires is { IsLocalLoop local.now }
     requires keeps { KeepsIn local.now.program.now local.now.item }
@@ -236,7 +240,7 @@ pub fn run_here(
     put_behind(local, places[0], cells);
     let mut kept = fault;
     let done = run_batches(
-        local, places, cells, memory, partials, &mut kept, saved, scratch, rows,
+        how, local, places, cells, memory, partials, &mut kept, saved, scratch, rows, batches,
     );
     run_alone(
         local,

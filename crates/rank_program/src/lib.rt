@@ -1,10 +1,11 @@
 //! A bound program, distributed and planned: what the machine reads of it, and the runs of its elements, in place on a rank's cells or
-//! by several workers, each on a window of one buffer.
+//! by several workers, each on columns of its own or on a window of one buffer.
 #![tactic(auto)]
 
 mod alone;
 mod batches;
 mod begun;
+mod counts;
 mod elements;
 mod exchanges;
 mod here;
@@ -18,6 +19,7 @@ mod laws;
 mod laws_copies;
 mod local_args;
 mod local_loops;
+mod many;
 mod program;
 mod room;
 mod row_loops;
@@ -34,6 +36,7 @@ pub use kernel_job::KernelJob;
 pub use kernel_run::run_kernel;
 pub use laws::faults_come_together;
 pub use program::DistributedProgram;
-pub use room::{MOST_SAVED, Room};
+pub use room::{MOST_COLUMNS, MOST_SAVED, Room};
+pub use row_loops::comes_in_batches;
 pub use task_runs::run_tasks;
 pub use tasks::{MOST_ARGS, Targets, Task};

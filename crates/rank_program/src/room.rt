@@ -8,9 +8,11 @@ use crate::program::DistributedProgram;
 use rank_state::{Owned, Span};
 use row_batches::RowRoom;
 use std::alloc::{AllocError, Global};
+use worker_batches::BatchesRoom;
 
 /// Room for the spans of an element or a message, for the locals of a kernel, for the cells that it may spoil, for a batch of
-/// elements, and for the values of all constants. What stands there means nothing between two steps.
+/// elements, for batches that several workers run at once, and for the values of all constants. What stands there means nothing between
+/// two steps.
 #[derive(Drop)]
 pub struct Room {
     pub spans: Vec<Span>,
@@ -18,6 +20,7 @@ pub struct Room {
     pub locals: Vec<i32>,
     pub saved: Vec<i32>,
     pub rows: RowRoom,
+    pub batches: BatchesRoom,
     pub constants: Vec<i32>,
 }
 
@@ -31,7 +34,7 @@ pub const MOST_WAYS: usize = 16;
 pub const MOST_COLUMNS: usize = 128;
 
 impl Room {
-    /// As much room as any step needs.
+    /// As much room as any step needs that one worker takes.
     pub fn new(alloc: Global, program: &DistributedProgram<'_>) -> Result<Room, AllocError>
         requires { Sound program.now }
         ensures { IfOk result (HasRoomOf program.now) }
@@ -43,6 +46,7 @@ impl Room {
             locals: vec![in alloc; 0; program.locals]?,
             saved: vec![in alloc; 0; MOST_SAVED]?,
             rows: RowRoom::new(alloc, MOST_WAYS, MOST_COLUMNS, MOST_COLUMNS)?,
+            batches: BatchesRoom::none(alloc),
             constants: vec![in alloc; 0; program.constants().len()]?,
         })
     }

@@ -7,7 +7,9 @@ ghost use Rattle.rank_program.specs.Sound.{Sound};
 
 use crate::items::site_of;
 use crate::local_loops::LocalLoop;
+use crate::program::DistributedProgram;
 use crate::room::MOST_COLUMNS;
+use bound_program::Item;
 use kernel_columns::is_straight;
 use kernel_types::views::Place;
 use op_num::reductions::Access;
@@ -85,4 +87,19 @@ pub fn row_loop<'p: 'a, 'a>(
         constants: local.constants,
         variables: local.variables,
     })
+}
+
+/// Whether the elements of a Free item may run in batches: the program's kernels are known to obey their modes, and the item's has no `if`
+/// with a `for` inside and not too many slots. Where it has, they run one after another.
+pub fn comes_in_batches(program: &DistributedProgram<'_>, item: u32) -> bool {
+    let Some(Item::Free { site }) = program.bound.trace.get(item as usize) else {
+        return false;
+    };
+    let Some(site) = program.bound.sites.get(*site as usize) else {
+        return false;
+    };
+    let Some(code) = program.codes.get(site.kernel as usize) else {
+        return false;
+    };
+    program.obeying && code.slots as usize <= MOST_COLUMNS && is_straight(&code.part)
 }

@@ -16,27 +16,27 @@ all_same P cs ds constants old before first new after last h =
     subst (λ m. P ds before m) last (subst (λ m. P ds m new) first (subst (λ k. P k old new) constants h))
 
 pub local_loop-local-requires-clause-step : goal.local_loop-local-requires-clause-step
-local_loop-local-requires-clause-step c = (get_or c.args.places.now 0 0, c.requires.steps 0 c.requires.some)
+local_loop-local-requires-clause-step g c = (get_or c.args.places.now 0 0, c.requires.steps 0 c.requires.some)
 
 pub lengthen-requires : goal.lengthen-requires
-lengthen-requires c =
+lengthen-requires g c =
     let l = c.local_loop-local.result in
     let few = of_loop c.args.program.now c.args.item c.args.rank c.deref.result.now c.args.variables.now l c.local_loop-local.ensures.of
     (λ d j q cs vs. length l.scalars.now ≤ (tables_in d).stride) c.local_loop-local.ensures.is.stride in
     record { spare = omega (arith, few, c.requires.spare) }
 
 pub run_here-kept-requires-clause-keeps : goal.run_here-kept-requires-clause-keeps
-run_here-kept-requires-clause-keeps c =
+run_here-kept-requires-clause-keeps g c =
     to_loop c.args.program.now c.args.item c.args.rank c.deref.result.now c.args.variables.now c.local_loop-local.result c.local_loop-local.ensures.of
     (λ d j q cs vs. KeepsIn d j) c.requires.keeps
 
 pub run_here-kept-requires-clause-steps : goal.run_here-kept-requires-clause-steps
-run_here-kept-requires-clause-steps c =
+run_here-kept-requires-clause-steps g c =
     to_loop c.args.program.now c.args.item c.args.rank c.deref.result.now c.args.variables.now c.local_loop-local.result c.local_loop-local.ensures.of
     (λ d j q cs vs. AllBegin (setup_in d) (layout_in d) (tables_in d) j q c.args.places.now) c.requires.steps
 
 pub returns-clause-runs : goal.returns-clause-runs
-returns-clause-runs c =
+returns-clause-runs g c =
     let p = c.args.program.now in
     let l = c.local_loop-local.result in
     let of = c.local_loop-local.ensures.of in

@@ -8,7 +8,7 @@ use Rattle.rank_program.specs.Sound.{tables_in}
 use Rattle.rank_program.proofs.batches.run_all.Given as goal
 
 abbrev pub invariant-loop-at : goal.invariant-loop-at
-invariant-loop-at l = record {
+invariant-loop-at g l = record {
   runs : GoesOn l.local l.places 0 l.at
       (record { cells = take l.local.part.now.cells l.fn.memory; partials = l.fn.partials; fault = stop_in l.fn.kept })
       (record { cells = take l.local.part.now.cells l.memory; partials = l.partials; fault = stop_in l.kept });
@@ -22,4 +22,4 @@ invariant-loop-at l = record {
 }
 
 abbrev pub decreases-loop-at : goal.decreases-loop-at
-decreases-loop-at l = length l.places - l.at
+decreases-loop-at g l = length l.places - l.at

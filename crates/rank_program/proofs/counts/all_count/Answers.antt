@@ -1,6 +1,6 @@
 use Rattle.std.proofs.Common.{◌+◌, inl, get_or, ◌∙◌, arith}
 use Rattle.std.proofs.lemmas.Bool.{lt-ltb}
-use Rattle.rank_program.proofs.batches.all_count.Goals as goal
+use Rattle.rank_program.proofs.counts.all_count.Goals as goal
 
 pub own_places-end-requires-clause-step : goal.own_places-end-requires-clause-step
 own_places-end-requires-clause-step c =
