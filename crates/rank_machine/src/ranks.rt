@@ -13,6 +13,7 @@ use rank_state::rank_memory::stop::Stop;
 use std::marker::Sync;
 use std::mem::swap;
 use std::thread::Threads;
+use worker_batches::Workers;
 
 /// What elements are lent of their rank: its cells and partials, where they note their fault, and room for a step with the values
 /// of all constants.
@@ -40,13 +41,18 @@ impl<'a, 'b> PartJob<RankPart> for Round<'a, 'b> {
 
     ghost makes = { λ s r x y. RanOn s.program.now s.item s.variables.now s.lists.now r x y };
 
-    fn run(&self, index: usize, part: &mut RankPart) {
+    fn run<R: Threads + Sync>(&self, threads: &R, workers: u32, index: usize, part: &mut RankPart) {
         let places = self.lists[index].as_slice();
         if places.is_empty() {
             part.fault = None;
             return;
         }
+        let how = Workers {
+            threads,
+            count: workers,
+        };
         part.fault = run_places(
+            &how,
             self.program,
             self.item,
             index as u32,
@@ -138,7 +144,7 @@ pub fn run_lent<R: Threads + Sync, G: Gate>(
         memories.new partials.new parts.new (stop_in result) }
 {
     swap_all(memories, partials, parts);
-    run_parts(crew, round, parts);
+    run_parts(crew.threads, crew.workers, crew.gate, round, parts);
     let kept = kept_of_parts(fault, parts);
     swap_all(memories, partials, parts);
     kept

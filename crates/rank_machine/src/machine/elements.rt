@@ -20,6 +20,7 @@ use rank_program::{DistributedProgram, Room, run_places};
 use rank_state::rank_memory::loading::load;
 use rank_state::rank_memory::stop::least;
 use rank_state::{Scalar, Span};
+use worker_batches::OneWorker;
 
 // How many cells the spans have.
 fn cells(spans: &[Span]) -> usize
@@ -136,6 +137,7 @@ impl Machine {
         ensures space { HasRoomOf program.now room.new }
     {
         let fault = run_places(
+            &OneWorker,
             program,
             item,
             rank,

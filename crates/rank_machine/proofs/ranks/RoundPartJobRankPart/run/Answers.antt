@@ -8,14 +8,17 @@ use Rattle.rank_machine.proofs.ranks.RoundPartJobRankPart.run.Goals as goal
 use Rattle.lemmas.proofs.Lists.{refilled}
 
 pub run_places-part-requires-clause-steps : goal.run_places-part-requires-clause-steps
-run_places-part-requires-clause-steps c =
+run_places-part-requires-clause-steps g c =
     let x = c.args.self.now.program.now in
     let places : c.as_slice-places.result.now ≡ places_on c.args.self.now.lists.now c.args.index =
-    c.as_slice-places.ensures.value ∙ place_is c.args.self.now.lists.now c.args.index c.index-self-index.result c.requires.listed in
-    subst (AllBegin (setup_in x) (layout_in x) (tables_in x) c.args.self.now.item c.args.index) (sym places) c.requires.steps
+    c.as_slice-places.ensures.value ∙ place_is c.args.self.now.lists.now c.args.index c.index-self-index.result c.requires.takes.listed in
+    subst (AllBegin (setup_in x) (layout_in x) (tables_in x) c.args.self.now.item c.args.index) (sym places) c.requires.takes.steps
+
+pub run_places-part-requires-clause-ready : goal.run_places-part-requires-clause-ready
+run_places-part-requires-clause-ready g c = record { shared = c.type_bounds.sync-R.shared }
 
 pub returns : goal.returns
-returns c =
+returns g c =
     let x = c.args.self.now.program.now in
     let p = setup_in x in
     let l = layout_in x in
@@ -27,7 +30,7 @@ returns c =
     let new = c.run_places-part.new in
     let kept = stop_in c.run_places-part.result in
     let places : c.as_slice-places.result.now ≡ places_on c.args.self.now.lists.now r =
-    c.as_slice-places.ensures.value ∙ place_is c.args.self.now.lists.now r c.index-self-index.result c.requires.listed in
+    c.as_slice-places.ensures.value ∙ place_is c.args.self.now.lists.now r c.index-self-index.result c.requires.takes.listed in
     let ran = λ (xs : List ℕ) (from to : List ℤ). Reaches p l t k r cs vs xs (record { cells = c.args.part.now.memory.items; partials = from; fault = None }) (length xs) (record { cells = new.memory.items; partials = to; fault = kept }) in
     record {
       reaches = subst (λ (z : List ℤ). ran (places_on c.args.self.now.lists.now r) c.args.part.now.partials.items z) (sym (refilled c.args.part.now.partials new.partials (c.run_places-part.auto.partials ∙ ap length c.deref_mut.ensures.value)))
