@@ -174,8 +174,8 @@ fn run_rounds<R: Threads + Sync, G: Gate, S: Steps>(
     Ok(())
 }
 
-/// The closed groups that come behind a step, as long as the stream tells them: as rounds where several workers run a program on
-/// several ranks, else one after another. Nothing is done behind the step of an item whose elements are better run in groups.
+/// The closed groups that come behind a step, as long as the stream tells them: as rounds where several workers run the program, else
+/// one after another, as short ones do on one rank. Nothing is done behind the step of an item whose elements are better run in groups.
 ///
 /// # Errors
 /// Want of memory alone.
@@ -201,12 +201,13 @@ pub fn run_behind<R: Threads + Sync, G: Gate, S: Steps>(
     let ranks = program.owners.ranks as usize;
     let parts = room.round.parts.len();
     let lists = room.round.lists.len();
-    if parts != ranks || lists != ranks || machine.ranks() != ranks {
-        run_closed(machine, program, room, steps, before, crew.workers);
-        return Ok(());
+    if parts == ranks
+        && lists == ranks
+        && machine.ranks() == ranks
+        && may_come_in_rounds(program, before, crew.workers)
+    {
+        return run_rounds(crew, machine, program, room, steps);
     }
-    if may_come_in_rounds(program, before, crew.workers) {
-        run_rounds(crew, machine, program, room, steps)?;
-    }
+    run_closed(machine, program, room, steps, before, crew.workers);
     Ok(())
 }

@@ -22,8 +22,7 @@ pub struct RunRoom {
 }
 
 impl RunRoom {
-    /// As much room as any list of steps needs, whatever its length. Where one worker runs the program, or it has one rank, there is
-    /// none for rounds.
+    /// As much room as any list of steps needs, whatever its length. Where one worker runs the program, there is none for rounds.
     pub fn new(
         alloc: Global,
         program: &DistributedProgram<'_>,
@@ -33,12 +32,12 @@ impl RunRoom {
         ensures { IfOk result (HasRunRoomOf program.now) }
     {
         let ranks = program.owners.ranks;
-        let rounds = if workers > 1 && ranks > 1 { ranks } else { 0 };
+        let rounds = if workers > 1 { ranks } else { 0 };
         Ok(RunRoom {
             step: Room::new(alloc, program)?,
             places: Vec::with_capacity(alloc, MOST_BEGINS)?,
             group: GroupRoom::new(alloc, MOST_BEGINS, program.stride(), program.locals)?,
-            round: RoundRoom::new(alloc, program, rounds)?,
+            round: RoundRoom::new(alloc, program, rounds, workers)?,
         })
     }
 }

@@ -4,16 +4,11 @@ ghost use Rattle.std.specs.Prelude.{◌<◌};
 
 use bound_program::Item;
 use kernel_code::Part;
-use kernel_columns::is_straight;
-use rank_program::{DistributedProgram, KernelJob};
+use rank_program::{DistributedProgram, KernelJob, comes_in_batches};
 use schedule_steps::Step;
 
 // As many operations as threads are worth: starting them takes as long as some thousands.
 const WORTH_THREADS: usize = 16384;
-
-// As many operations as threads are worth where the elements can run in batches instead: kernels of 200 turns, of which 64 have some
-// 80,000 operations, took four times as long in groups by four workers as in batches by one.
-const WORTH_MORE_THAN_BATCHES: usize = 1_048_576;
 
 // As many elements as a group has that threads are tried for.
 const FULL_GROUP: usize = 64;
@@ -66,36 +61,22 @@ fn operations_in(program: &DistributedProgram<'_>, item: u32) -> usize {
     operations(&code.part)
 }
 
-// Whether the elements of a Free item may run in batches, many at once: kernels are known to obey their modes, and the item's has no
-// `if` with a `for` inside.
-fn comes_in_batches(program: &DistributedProgram<'_>, item: u32) -> bool {
-    let Some(Item::Free { site }) = program.bound.trace.get(item as usize) else {
-        return false;
-    };
-    let Some(site) = program.bound.sites.get(*site as usize) else {
-        return false;
-    };
-    let Some(code) = program.codes.get(site.kernel as usize) else {
-        return false;
-    };
-    program.obeying && is_straight(&code.part)
-}
-
-/// Whether the kernel of a Free item is so short that not even a full group of its elements is worth threads, beside a run in place by
-/// one worker.
+/// Whether the kernel of a Free item is so short that not even a full group of its elements is worth threads.
 pub fn is_short(program: &DistributedProgram<'_>, item: u32) -> bool {
-    let worth = if comes_in_batches(program, item) {
-        WORTH_MORE_THAN_BATCHES
-    } else {
-        WORTH_THREADS
-    };
-    operations_in(program, item).saturating_mul(FULL_GROUP) < worth
+    operations_in(program, item).saturating_mul(FULL_GROUP) < WORTH_THREADS
 }
 
-/// Whether the elements of a Free item come in rounds, where each rank's run on one thread: their kernel is short, or there are as
-/// many ranks as `workers` at least.
+/// Whether the elements of a Free item come in rounds, where each rank's run in place: there are as many ranks as `workers` at least, or
+/// their kernel is short and there are several ranks, or it isn't and they run in batches, which several workers share out on a rank.
 pub fn come_in_rounds(program: &DistributedProgram<'_>, item: u32, workers: u32) -> bool {
-    workers <= program.owners.ranks || is_short(program, item)
+    let ranks = program.owners.ranks;
+    if workers <= ranks {
+        return true;
+    }
+    if is_short(program, item) {
+        return ranks > 1;
+    }
+    comes_in_batches(program, item)
 }
 
 /// Whether elements that come next may come in rounds, behind this step: those of the same item would.
