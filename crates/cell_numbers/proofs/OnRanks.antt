@@ -7,7 +7,8 @@ use Rattle.cell_numbers.specs.Shown.{IsOnRanks}
 pub on_ranks : (p : PlannedValue) → FitTogether p → IsOnRanks (bound_of p.bound) p.distribution p.plan
 on_ranks p h = record {
   owners = h.distributed.are_owners;
+  numbers = h.numbers;
   perms = h.distributed.are_perms;
-  distributed = record { owners = refl; perms = refl; halos = h.are_halos; ranks = h.distributed.are_meshes };
+  distributed = record { owners = refl; halos = h.are_halos; ranks = h.distributed.are_meshes };
   planned = h.proper;
 }

@@ -54,8 +54,8 @@ module _ (b : BoundValue) (d : Distribution) (p : PlanValue) (on : IsOnRanks b d
   pub owner_here : (s x r : ℕ) → s < set_count b.mesh → x < set_size b.mesh s → r ≡ owner_of d.owners s x → r < d.owners.ranks
   owner_here s x r ls lx e = subst (λ (n : ℕ). n < d.owners.ranks) (sym e) (on.owners.below s x ls lx)
 
-  pub rank_mesh : (r : ℕ) (m : RankMesh) → r < d.owners.ranks → m ≡ get_or d.ranks.items r m → IsRankMesh b.mesh d.owners d.perms r m
-  rank_mesh r m l e = subst (λ (z : RankMesh). IsRankMesh b.mesh d.owners d.perms r z) (sym e) (on.distributed.ranks.ranks r m l)
+  pub rank_mesh : (r : ℕ) (m : RankMesh) → r < d.owners.ranks → m ≡ get_or d.ranks.items r m → IsRankMesh b.mesh d.owners on.numbers r m
+  rank_mesh r m l e = subst (λ (z : RankMesh). IsRankMesh b.mesh d.owners on.numbers r z) (sym e) (on.distributed.ranks.ranks r m l)
 
   sets_here : (r : ℕ) (m : RankMesh) → r < d.owners.ranks → m ≡ get_or d.ranks.items r m → m.sets.items ≡ sets_of d.ranks.items r
   sets_here r m l e = ap (λ (z : RankMesh). z.sets.items) e ∙ sets_at d.ranks.items r m (rank_here r l)
@@ -67,7 +67,7 @@ module _ (b : BoundValue) (d : Distribution) (p : PlanValue) (on : IsOnRanks b d
   is_held held s x r m ls lx er em none =
       let here : r < d.owners.ranks = owner_here s x r ls lx er in
       let found : Contains (originals_in m.sets.items s) x =
-      (held b.mesh d.owners d.perms r m on.perms (rank_mesh r m here em) s x ls).1 (lx, owner_has b.mesh d.owners s x r er) in
+      (held b.mesh d.owners on.numbers r m on.perms (rank_mesh r m here em) s x ls).1 (lx, owner_has b.mesh d.owners s x r er) in
       none found.0 found.1 (get_or_default (originals_in m.sets.items s) found.0 0 x found.1 ∙ found.2)
 
   -- its local number there
@@ -92,7 +92,7 @@ module _ (b : BoundValue) (d : Distribution) (p : PlanValue) (on : IsOnRanks b d
       let sets : m.sets.items ≡ sets_of d.ranks.items r = sets_here r m here em in
       let owned : owns d.owners s (slice_index (originals_in m.sets.items s) local) r ≡ true =
       ap (λ (y : ℕ). owns d.owners s y r) e ∙ owner_owns d.owners s x r er in
-      let own : local < own_in m.sets.items s = (first b.mesh d.owners d.perms r m (rank_mesh r m here em) s local ls ll).1 owned in
+      let own : local < own_in m.sets.items s = (first b.mesh d.owners on.numbers r m (rank_mesh r m here em) s local ls ll).1 owned in
       owned_executed (scatters (site_at b site).args) local (own_in (sets_of d.ranks.items r) s) (executed_in (sets_of d.ranks.items r) s)
       (subst (λ (z : List LocalSet). local < own_in z s) sets own) (own_within (sets_of d.ranks.items r) s)
 

@@ -1,5 +1,6 @@
 -- When there are numbers for the elements of a set, and which.
 use Rattle.std.specs.Prelude.{◌≡◌, ℕ, ◌<◌, ◌≤◌, true, List, length, slice_index}
+use Rattle.mesh_decl.specs.declared.owners.Perms.{Perms}
 use Rattle.mesh_decl.specs.Mesh.{set_size}
 use Rattle.mesh_decl.specs.Owners.{AreOwners, ArePerms}
 use Rattle.bound_program.specs.Values.{BoundValue}
@@ -15,11 +16,12 @@ use Rattle.cell_numbers.specs.declared.types.ShownRefusal.{ShownRefusal}
 use Rattle.cell_numbers.specs.declared.types.ShownRefusal.TheVariants as refusal
 use Rattle.cell_numbers.specs.Numbers.{HasNumber}
 
--- the mesh on ranks, by owners and new numbers of its own, and a plan of the program there
+-- the mesh on ranks, by owners of its own and some new numbers, and a plan of the program there
 pub record IsOnRanks (b : BoundValue) (d : Distribution) (p : PlanValue) : Type 0 where
   pub owners : AreOwners b.mesh d.owners
-  pub perms : ArePerms b.mesh d.perms
-  pub distributed : IsDistribution b.mesh d.owners d.perms d
+  pub numbers : Perms
+  pub perms : ArePerms b.mesh numbers
+  pub distributed : IsDistribution b.mesh d.owners numbers d
   pub planned : Proper b d.ranks.items p
 
 -- the loop runs as a Free one

@@ -33,5 +33,4 @@ module _ (one : OneHalos) (meshes : AreOne) (g : MeshValue) (o u : Owners) (p q 
   one_distribution =
       let count : a.owners.ranks ≡ b.owners.ranks = ap (λ (z : Owners). z.ranks) h.owners ∙ (same.0 ∙ sym (ap (λ (z : Owners). z.ranks) k.owners)) in
       let owners : a.owners.sets.items ≡ b.owners.sets.items = ap (λ (z : Owners). z.sets.items) h.owners ∙ (same.1 ∙ sym (ap (λ (z : Owners). z.sets.items) k.owners)) in
-      let perms : a.perms.sets.items ≡ b.perms.sets.items = ap (λ (z : Perms). z.sets.items) h.perms ∙ (numbers ∙ sym (ap (λ (z : Perms). z.sets.items) k.perms)) in
-      rw (count, owners, perms, halos_same, ranks_same) refl
+      rw (count, owners, halos_same, ranks_same) refl

@@ -9,10 +9,9 @@ use Rattle.local_mesh.specs.LocalMesh.{AreRankMeshes}
 use Rattle.local_mesh.specs.Values.{RankMeshValue, rank_mesh_value}
 use Rattle.distribute.specs.declared.types.Distribution.{Distribution}
 
--- the owners and new numbers, with their halos and the local mesh of each rank
+-- the owners, with their halos and the local mesh of each rank by new numbers
 pub record IsDistribution (g : MeshValue) (o : Owners) (p : Perms) (d : Distribution) : Type 0 where
   pub owners : d.owners ≡ o
-  pub perms : d.perms ≡ p
   pub halos : AreHalos g o d.halos
   pub ranks : AreRankMeshes g o p d.ranks.items
 
@@ -20,7 +19,6 @@ pub record IsDistribution (g : MeshValue) (o : Owners) (p : Perms) (d : Distribu
 pub record DistributionValue : Type 0 where
   pub rank_count : ℕ
   pub owners : List (List ℕ)
-  pub numbers : List (List ℕ)
   pub halos : HalosValue
   pub ranks : List RankMeshValue
 
@@ -29,7 +27,6 @@ unfoldable pub distribution_value : Distribution → DistributionValue
 distribution_value d = record {
   rank_count = d.owners.ranks;
   owners = d.owners.sets.items;
-  numbers = d.perms.sets.items;
   halos = halos_value d.halos;
   ranks = map rank_mesh_value d.ranks.items;
 }

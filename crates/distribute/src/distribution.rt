@@ -10,8 +10,9 @@ use mesh_decl::{Mesh, Owners, Perms};
 use op_num::OutOfMemory;
 use std::alloc::Global;
 
-/// The halos of a mesh and the local mesh of each rank, by these owners and new numbers, which are part of what is given.
-/// It fails only for want of memory, also where a rank would have 2^64 cells or more.
+/// The halos of a mesh and the local mesh of each rank, by these owners, which are part of what is given, and these new
+/// numbers, which are dropped: the local meshes keep their order. It fails only for want of memory, also where a rank would
+/// have 2^64 cells or more.
 pub fn distribute(
     alloc: Global,
     mesh: &Mesh,
@@ -26,7 +27,6 @@ pub fn distribute(
     let ranks = localise(alloc, mesh, &owners, &halos, &perms)?;
     Ok(Distribution {
         owners,
-        perms,
         halos,
         ranks,
     })

@@ -1,7 +1,7 @@
 // What is asked of a distribution, what it is, and why there is none.
 use local_mesh::RankMesh;
 use local_mesh::halo_lists::Halos;
-use mesh_decl::{Owners, Perms};
+use mesh_decl::Owners;
 use partition::part_text::PartRefusal;
 use std::alloc::AllocError;
 
@@ -40,11 +40,11 @@ pub enum OwnersRefusal<'a> {
     OutOfMemory,
 }
 
-/// A mesh on several ranks: who owns which element, new numbers, the halos, and the local mesh of each rank.
+/// A mesh on several ranks: who owns which element, the halos, and the local mesh of each rank, which numbers its elements in
+/// the order of their new numbers.
 #[derive(Debug, Drop)]
 pub struct Distribution {
     pub owners: Owners,
-    pub perms: Perms,
     pub halos: Halos,
     pub ranks: Vec<RankMesh>,
 }

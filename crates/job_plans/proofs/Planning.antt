@@ -56,9 +56,8 @@ fit_together b u n d p fits are_owners are_perms h proper =
     let spread = record { are_owners = are_owners; are_perms = are_perms; are_meshes = h.ranks } in
     record {
       fits = fits;
-      distributed =
-          subst (λ z. IsDistributed b.mesh z d.perms d.ranks.items) (sym h.owners)
-          (subst (λ z. IsDistributed b.mesh u z d.ranks.items) (sym h.perms) spread);
+      numbers = n;
+      distributed = subst (λ z. IsDistributed b.mesh z n d.ranks.items) (sym h.owners) spread;
       are_halos = subst (λ z. AreHalos b.mesh z d.halos) (sym h.owners) h.halos;
       proper = proper;
     }

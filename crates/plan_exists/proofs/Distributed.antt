@@ -36,10 +36,9 @@ module _
 
     pub distributed : (d : Distribution) × IsDistribution g o p d
     distributed = (
-      record { owners = o; perms = p; halos = halos_of g o; ranks = vec_of all_meshes },
+      record { owners = o; halos = halos_of g o; ranks = vec_of all_meshes },
       record {
         owners = refl;
-        perms = refl;
         halos = are_halos g o (sizes_fit g mesh) own.few_ranks (let f = mesh.few_sets in omega arith);
         ranks = subst (AreRankMeshes g o p) (sym meshes_items) are_all;
       },

@@ -1,4 +1,5 @@
 -- A bound program with its mesh on several ranks and its plan there.
+use Rattle.mesh_decl.specs.declared.owners.Perms.{Perms}
 use Rattle.local_mesh.specs.Halos.{AreHalos}
 use Rattle.distribute.specs.declared.types.Distribution.{Distribution}
 use Rattle.schedule_steps.specs.Outline.{Outline}
@@ -16,10 +17,12 @@ pub record PlannedValue : Type 0 where
   pub distribution : Distribution
   pub plan : PlanValue
 
--- the program keeps what every bound program does, the distribution is one of its mesh, and the plan is one of the program on these ranks
+-- the program keeps what every bound program does, the distribution is one of its mesh by some new numbers, and the plan is one of the
+-- program on these ranks
 pub record FitTogether (p : PlannedValue) : Type 0 where
   pub fits : Fits (bound_of p.bound)
-  pub distributed : IsDistributed p.bound.mesh p.distribution.owners p.distribution.perms p.distribution.ranks.items
+  pub numbers : Perms
+  pub distributed : IsDistributed p.bound.mesh p.distribution.owners numbers p.distribution.ranks.items
   pub are_halos : AreHalos p.bound.mesh p.distribution.owners p.distribution.halos
   pub proper : Proper (bound_of p.bound) p.distribution.ranks.items p.plan
 

@@ -10,7 +10,7 @@ use std::marker::Model;
 #[derive(Drop)]
 pub struct Planned<'a> {
     pub bound: &'a Bound,
-    /// Owners, new numbers, halos, and the mesh of each rank.
+    /// Owners, halos, and the mesh of each rank.
     pub distribution: Distribution,
     /// Blocks, colours and steps.
     pub plan: Plan,

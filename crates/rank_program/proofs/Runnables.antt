@@ -11,11 +11,11 @@ use Rattle.rank_program.specs.Runnables.{HasLocalLists}
 pub has_lists : (p q : PlannedValue) (meshes : List RankMesh) (table : List LocalLists)
     → p ≡ q
     → meshes ≡ p.distribution.ranks.items
-    → FitTogether p
+    → (fit : FitTogether p)
     → HasLocalLists q table
-    → HasLists (bound_of p.bound) p.distribution.owners p.distribution.perms meshes p.plan p.distribution.halos table
+    → HasLists (bound_of p.bound) p.distribution.owners fit.numbers meshes p.plan p.distribution.halos table
 has_lists p q meshes table view same h lists =
-    subst (λ (ms : List RankMesh). HasLists (bound_of p.bound) p.distribution.owners p.distribution.perms ms p.plan p.distribution.halos table) (sym same)
+    subst (λ (ms : List RankMesh). HasLists (bound_of p.bound) p.distribution.owners h.numbers ms p.plan p.distribution.halos table) (sym same)
     (record {
       planned = record { fits = h.fits; distributed = h.distributed; proper = h.proper };
       halos = h.are_halos;

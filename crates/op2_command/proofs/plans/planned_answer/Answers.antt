@@ -7,7 +7,7 @@ write_plan-requires-clause-ranks g c =
       found.halos,
       rw c.deref.ensures.value (record {
         owners = found.owners;
-        numbers = found.perms;
+        numbers = spread.numbers;
         are_halos = spread.are_halos;
         distributed = spread.distributed;
       }),

@@ -26,7 +26,7 @@ pub new-checker-requires-clause-ranks : goal.new-checker-requires-clause-ranks
 new-checker-requires-clause-ranks c =
     let d = c.planned.inside.distribution in
     let h = c.planned.invariant in
-    rw c.deref.ensures.value (d.halos, record { owners = d.owners; numbers = d.perms; are_halos = h.are_halos; distributed = h.distributed })
+    rw c.deref.ensures.value (d.halos, record { owners = d.owners; numbers = h.numbers; are_halos = h.are_halos; distributed = h.distributed })
 
 pub returns-clause-unaccepted : goal.returns-clause-unaccepted
 returns-clause-unaccepted c =

@@ -10,7 +10,7 @@ pub write_counts-requires-clause-ranks : goal.write_counts-requires-clause-ranks
 write_counts-requires-clause-ranks c =
     let d = c.planned.inside.distribution in
     let h = c.planned.invariant in
-    rw c.deref.ensures.value (d.halos, record { owners = d.owners; numbers = d.perms; are_halos = h.are_halos; distributed = h.distributed })
+    rw c.deref.ensures.value (d.halos, record { owners = d.owners; numbers = h.numbers; are_halos = h.are_halos; distributed = h.distributed })
 
 pub returns : goal.returns
 returns c =

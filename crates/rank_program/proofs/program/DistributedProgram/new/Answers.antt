@@ -13,14 +13,14 @@ pub most_spans-spans-requires-clause-few : goal.most_spans-spans-requires-clause
 most_spans-spans-requires-clause-few c =
     let v : PlannedValue = record { bound = c.planned.inside.bound.now; distribution = c.planned.inside.distribution; plan = plan_of c.planned.inside.plan } in
     let lists = has_lists v c.args.planned.now c.as_slice-meshes.result.now c.args.lists.now c.planned.view_is c.as_slice-meshes.ensures.value c.planned.invariant c.requires.lists in
-    c.exports_are_few.ensures (bound_of v.bound) v.distribution.owners v.distribution.perms c.as_slice-meshes.result.now v.plan v.distribution.halos c.args.lists.now lists
+    c.exports_are_few.ensures (bound_of v.bound) v.distribution.owners c.planned.invariant.numbers c.as_slice-meshes.result.now v.plan v.distribution.halos c.args.lists.now lists
 
 pub returns-clause-sound : goal.returns-clause-sound
 returns-clause-sound c =
     let v : PlannedValue = record { bound = c.planned.inside.bound.now; distribution = c.planned.inside.distribution; plan = plan_of c.planned.inside.plan } in
     let b = bound_of v.bound in
     let o = v.distribution.owners in
-    let n = v.distribution.perms in
+    let n = c.planned.invariant.numbers in
     let ms = c.as_slice-meshes.result.now in
     let lists = has_lists v c.args.planned.now ms c.args.lists.now c.planned.view_is c.as_slice-meshes.ensures.value c.planned.invariant c.requires.lists in
     let made = c.in_ok-tables.ensures c.args.lists.now
@@ -55,7 +55,7 @@ new-requires-clause-few c =
     let v : PlannedValue = record { bound = p.bound.now; distribution = p.distribution; plan = plan_of p.plan } in
     let lists = has_lists v c.args.planned.now c.as_slice-meshes.result.now c.args.lists.now c.planned.view_is c.as_slice-meshes.ensures.value c.planned.invariant c.requires.lists in
     let vs = c.in_ok-_variables._variables in
-    let first = c.first_cells_stand.ensures.stand (bound_of v.bound) v.distribution.owners v.distribution.perms c.as_slice-meshes.result.now v.plan lists.planned in
+    let first = c.first_cells_stand.ensures.stand (bound_of v.bound) v.distribution.owners c.planned.invariant.numbers c.as_slice-meshes.result.now v.plan lists.planned in
     let items : length vs.items ≡ length (first_variables (bound_of v.bound).vars) =
     ap length (c.in_ok-_variables.ensures ∙ ap (λ l. first_variables (map var_of l)) c.deref.ensures.value) in
     omega (arith, items, first.count, vs.ok.0, vs.small)
