@@ -1,11 +1,13 @@
 -- Local numbers of elements on their owners, rank by rank; and what is read at lists of elements.
 use Rattle.std.proofs.Common.{◌≡◌, ℕ, ◌+◌, ◌<◌, ◌≤◌, Bool, true, ◌&&◌, ◌||◌, List, length, take, get_or, sym, ap, ◌∙◌, arith, ⊎_elim, subst}
-use Rattle.std.specs.List.{Contains}
+use Rattle.std.specs.Prelude.{slice_index}
+use Rattle.std.specs.List.{Contains, range_with_len}
 use Rattle.std.proofs.lemmas.Bool.{cases_eq, and_parts, or_left, or_right, eqb-true, eq-eqb}
 use Rattle.std.proofs.lemmas.List.{get_or-take, length-take-le}
+use Rattle.std.proofs.lemmas.List.FromFn.{length-range_with_len, get_or-range_with_len}
 use Rattle.mesh_decl.specs.declared.owners.Owners.{Owners}
-use Rattle.mesh_decl.specs.Mesh.{MeshValue, set_size}
-use Rattle.mesh_decl.specs.Owners.{owner_of}
+use Rattle.mesh_decl.specs.Mesh.{MeshValue, set_count, set_size}
+use Rattle.mesh_decl.specs.Owners.{AreOwners, owner_of}
 use Rattle.rank_sets.specs.Below.{listed, row, rows}
 use Rattle.rank_sets.proofs.Below.{at_listed, length_listed}
 use Rattle.local_mesh.specs.Halo.{owns, imports, imports_execute, imports_nonexecute, has_copy}
@@ -13,6 +15,7 @@ use Rattle.local_mesh.specs.declared.halo_lists.types.SetHalo.{SetHalo}
 use Rattle.local_mesh.specs.Halos.{IsSetHalo}
 use Rattle.local_mesh.specs.declared.types.LocalSet.{LocalSet}
 use Rattle.local_mesh.specs.declared.types.RankMesh.{RankMesh}
+use Rattle.local_mesh.specs.Parts.{IsKept}
 use Rattle.local_mesh.specs.LocalMesh.{originals_in}
 use Rattle.local_mesh.specs.Numbers.{own_in}
 use Rattle.local_mesh.specs.Lists.{IsLocal, AreLocals, AreRead, AreAtOwners, IsHeld, originals_of}
@@ -67,6 +70,23 @@ module _ (g : MeshValue) (o : Owners) (meshes : List RankMesh) (s : ℕ) where
       let q : get_or (originals_in sets s) c.0 0 ≡ x = contains_at (originals_in sets s) x c in
       (c.0, (held.owned c.0 c.1).1 (subst (λ z. owns o s z r ≡ true) (sym q) t), q)))
       at others inv
+
+-- where the one rank has all elements in order, each has its own number there
+pub own_numbers : (g : MeshValue) (o : Owners) (meshes : List RankMesh) (s : ℕ) (original : List ℕ) → AreOwners g o → s < set_count g → o.ranks ≡ 1
+    → original ≡ originals_of meshes 0 s → length original ≡ set_size g s → IsKept (length original) (slice_index original)
+    → AreAtOwners g o meshes s (range_with_len 0 (set_size g s))
+own_numbers g o meshes s original owners ls one is size kept =
+    let n : ℕ = set_size g s in
+    record {
+      count = length-range_with_len 0 n;
+      each = λ x lx.
+          let first : owner_of o s x ≡ 0 = (let b = owners.below s x ls lx in omega arith) in
+          let at : get_or (range_with_len 0 n) x 0 ≡ x = get_or-range_with_len 0 n x 0 lx ∙ (let e : 0 + x ≡ x = omega arith in e) in
+          let lo : x < length original = omega (arith, size, lx) in
+          let here : IsLocal original x x = (lo, kept x lo) in
+          subst (λ (r : ℕ). IsLocal (originals_of meshes r s) x (get_or (range_with_len 0 n) x 0)) (sym first)
+          (subst (λ (k : ℕ). IsLocal (originals_of meshes 0 s) x k) (sym at) (subst (λ (z : List ℕ). IsLocal z x x) is here));
+    }
 
 -- what is read at a list of elements are their local numbers, where each has its own in the table
 pub read_locals : (numbers elements locals original : List ℕ) → AreRead numbers elements locals → ((k : ℕ) → k < length elements → IsLocal original (get_or elements k 0) (get_or numbers (get_or elements k 0) 0)) → AreLocals original elements locals

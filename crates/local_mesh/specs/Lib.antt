@@ -5,6 +5,7 @@ pub mod Parts
 pub mod LocalMesh
 pub mod Numbers
 pub mod Values
+pub mod HeldNumbers
 pub mod Lists
 pub mod Halo
 pub mod Sets

@@ -52,7 +52,7 @@ pub record AreImports (o : Owners) (meshes : List RankMesh) (s : ℕ) (h : SetHa
 
 -- the lists of set s
 pub record IsLocalLists (g : MeshValue) (o : Owners) (meshes : List RankMesh) (s : ℕ) (h : SetHalo) (t : LocalLists) : Type 0 where
-  pub owners : AreAtOwners g o meshes s t.at_owner.items
+  pub owners : AreAtOwners g o meshes s t.at_owner
   pub exports : AreExports o meshes s h t.exports.items
   pub imports : AreImports o meshes s h t.imports.items
 

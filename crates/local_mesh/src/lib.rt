@@ -20,6 +20,7 @@ pub mod halo_lists;
 mod kept;
 mod laws;
 mod lists;
+mod local_numbers;
 mod lookup;
 mod number_laws;
 mod numbers;
@@ -34,6 +35,7 @@ use groups::groups_by_rank;
 use kept::{is_kept, kept_groups};
 pub use laws::{cells_are_of_copies, originals_are_copies, places_are_disjoint, places_fit};
 pub use lists::{LocalLists, local_lists};
+pub use local_numbers::LocalNumbers;
 use mesh_decl::{Mesh, Owners, Perms};
 pub use number_laws::{
     core_is_marked, equal_targets_are_local, executed_come_first, one_rank_meshes,

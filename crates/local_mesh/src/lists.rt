@@ -1,5 +1,6 @@
 // Local numbers of elements on their owners, and of what ranks export and import.
-ghost use Rattle.std.specs.Prelude.{◌≡◌, ℕ, ◌<◌, ◌≤◌, IfOk, length, take, slice_index, slice_index_or};
+ghost use Rattle.std.specs.Prelude.{◌≡◌, ℕ, ◌<◌, ◌≤◌, IsTrue, IfOk, length, take, slice_index, slice_index_or};
+ghost use Rattle.std.specs.List.{range_with_len};
 ghost use Rattle.rank_sets.specs.Below.{row, rows};
 ghost use Rattle.mesh_decl.specs.Mesh.{set_count, set_size};
 ghost use Rattle.mesh_decl.specs.Owners.{AreOwners, ArePerms};
@@ -11,6 +12,8 @@ ghost use Rattle.local_mesh.specs.Lists.{sets_of as the_sets_of, originals_of as
 ghost use Rattle.local_mesh.specs.Lists.{AreAtOwners, AreImports, IsLocalLists, AreLocalLists, AreHeld};
 
 use crate::halo_lists::{Halos, SetHalo};
+use crate::kept::is_kept;
+use crate::local_numbers::LocalNumbers;
 use crate::number_laws::rank_meshes_are_closed;
 use crate::originals::{locals_of, number_locals};
 use crate::types::{LocalSet, RankMesh};
@@ -22,7 +25,7 @@ use std::alloc::Global;
 #[derive(Debug, Drop)]
 pub struct LocalLists {
     /// By element, its local number on the rank that owns it.
-    pub at_owner: Vec<u32>,
+    pub at_owner: LocalNumbers,
     /// By owner and then by importing rank, the owner's local numbers of what the rank imports from it, by increasing
     /// original number.
     pub exports: Vec<Vec<Vec<u32>>>,
@@ -67,7 +70,7 @@ fn owned_of(meshes: &[RankMesh], rank: u32, set: u32) -> &[u32]
     &originals_of(meshes, rank, set)[..count]
 }
 
-// By element of a set, its local number on its owner.
+// By element of a set, its local number on its owner, one by one.
 fn locals_at_owners(
     alloc: Global,
     mesh: &Mesh,
@@ -87,18 +90,55 @@ fn locals_at_owners(
     Ok(numbers)
 }
 
+// Whether each element of a set has its own number on the one rank.
+fn have_own_numbers(mesh: &Mesh, owners: &Owners, meshes: &[RankMesh], set: u32) -> bool
+    requires set { set < set_count mesh.now }
+    requires owners { AreOwners mesh.now owners.now }
+    requires held { AreHeld mesh.now owners.now meshes.now set }
+    ensures { IsTrue result → AreAtOwners mesh.now owners.now meshes.now set (range_with_len 0 (set_size mesh.now set)) }
+{
+    if owners.ranks != 1 {
+        return false;
+    }
+    let originals = originals_of(meshes, 0, set);
+    if originals.len() != mesh.set_size(set) as usize {
+        return false;
+    }
+    is_kept(originals)
+}
+
+// By element of a set, its local number on its owner.
+fn at_owners(
+    alloc: Global,
+    mesh: &Mesh,
+    owners: &Owners,
+    meshes: &[RankMesh],
+    set: u32,
+) -> Result<LocalNumbers, OutOfMemory>
+    requires set { set < set_count mesh.now }
+    requires owners { AreOwners mesh.now owners.now }
+    requires held { AreHeld mesh.now owners.now meshes.now set }
+    ensures { IfOk result (AreAtOwners mesh.now owners.now meshes.now set) }
+{
+    if have_own_numbers(mesh, owners, meshes, set) {
+        return Ok(LocalNumbers::same(mesh.set_size(set)));
+    }
+    let numbers = locals_at_owners(alloc, mesh, owners, meshes, set)?;
+    Ok(LocalNumbers::listed(numbers))
+}
+
 // Of each list what stands in the table at its places.
 fn read_lists(
     alloc: Global,
     lists: &[Vec<u32>],
-    table: &[u32],
+    table: &LocalNumbers,
 ) -> Result<Vec<Vec<u32>>, OutOfMemory>
     requires { AreBelow (length table.now) lists.now }
     ensures { IfOk result (λ v. AreAllRead table.now lists.now v.items) }
 {
     let mut found = Vec::with_capacity(alloc, lists.len())?;
     for places in lists {
-        found.push(locals_of(alloc, places, table)?)?;
+        found.push(table.of_each(alloc, places)?)?;
     }
     Ok(found)
 }
@@ -107,7 +147,7 @@ fn read_lists(
 fn read_exports(
     alloc: Global,
     exports: &[Vec<Vec<u32>>],
-    table: &[u32],
+    table: &LocalNumbers,
 ) -> Result<Vec<Vec<Vec<u32>>>, OutOfMemory>
     requires { (a : ℕ) → a < length exports.now → AreBelow (length table.now) (rows exports.now a) }
     ensures length { IfOk result (λ v. length v.items ≡ length exports.now) }
@@ -177,7 +217,7 @@ fn set_lists(
     requires halo { IsSetHalo mesh.now owners.now set halo.now }
     ensures { IfOk result (IsLocalLists mesh.now owners.now meshes.now set halo.now) }
 {
-    let at_owner = locals_at_owners(alloc, mesh, owners, meshes, set)?;
+    let at_owner = at_owners(alloc, mesh, owners, meshes, set)?;
     let exports = read_exports(alloc, &halo.exports, &at_owner)?;
     let imports = locals_of_imports(alloc, mesh, owners, meshes, halo, set)?;
     Ok(LocalLists {

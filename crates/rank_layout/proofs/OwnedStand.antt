@@ -52,9 +52,9 @@ mesh_at [] r lt = absurd (omega arith)
 mesh_at (x ∷ xs) zero lt = (x, refl)
 mesh_at (x ∷ xs) (suc r) lt = mesh_at xs r (omega arith)
 
-locals_at : (lists : List LocalLists) (t : ℕ) (e : LocalLists) → t < length lists → owners_locals lists t ≡ (get_or lists t e).at_owner.items
+locals_at : (lists : List LocalLists) (t : ℕ) (e : LocalLists) → t < length lists → owners_locals lists t ≡ (get_or lists t e).at_owner
 unfolding owners_locals
-locals_at lists t e lt = get_or-map (λ (x : LocalLists). x.at_owner.items) lists t e [] lt
+locals_at lists t e lt = get_or-map (λ (x : LocalLists). x.at_owner) lists t e [] lt
 
 module _ (b : BoundValue) (o : Owners) (n : Perms) (meshes : List RankMesh) (p : PlanValue) (h : Halos) (lists : List LocalLists)
     (has_lists : HasLists b o n meshes p h lists)

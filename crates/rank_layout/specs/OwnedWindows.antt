@@ -35,7 +35,7 @@ owned_after span_by (Global v a ∷ xs) spans = owned_after span_by xs spans
 
 -- of a set, by element, its local number on its owner
 unfoldable pub owners_locals : List LocalLists → ℕ → List ℕ
-owners_locals lists t = slice_index_or (map (λ (x : LocalLists). x.at_owner.items) lists) t []
+owners_locals lists t = slice_index_or (map (λ (x : LocalLists). x.at_owner) lists) t []
 
 -- what stands for the span of an argument that is on no dat
 abbrev pub no_owned : Owned

@@ -43,12 +43,13 @@ fn push_owned(span: Owned, spans: &mut Vec<Owned>)
     }
 }
 
-// By element of a set, its local number on its owner.
-fn owners_locals(lists: &[LocalLists], set: u32) -> &[u32]
-    requires { set < length lists.now }
-    ensures { result.now ≡ owners_locals lists.now set }
+// The local number of an element of a set on its owner.
+fn owners_local(lists: &[LocalLists], set: u32, element: u32) -> u32
+    requires set { set < length lists.now }
+    requires element { element < length (owners_locals lists.now set) }
+    ensures { result ≡ slice_index (owners_locals lists.now set) element }
 {
-    &lists[set as usize].at_owner
+    lists[set as usize].at_owner.of(element)
 }
 
 // Where the values of a dat's element with a local number begin in a rank's buffer; `dim` is the dat's.
@@ -79,7 +80,7 @@ pub fn owners_span(dats: &OwnedDats<'_>, dat: u32, element: u32) -> Owned
 {
     let (set, dim) = dats.bound.mesh.dat_shape(dat);
     let rank = dats.owners.rank_of(set, element);
-    let local = owners_locals(dats.lists, set)[element as usize];
+    let local = owners_local(dats.lists, set, element);
     Owned {
         rank,
         at: place_on(dats.meshes, rank, dat, dim, local),

@@ -11,8 +11,8 @@ read_exports-requires c =
     let g = c.args.mesh.now in
     let o = c.args.owners.now in
     let h = c.requires.halo in
-    let table : List ℕ = c.deref-2.result.now in
-    let size : length table ≡ set_size g c.args.set = rw c.deref-2.ensures.value c.in_ok-at_owner.ensures.count in
+    let table : List ℕ = c.in_ok-at_owner.at_owner in
+    let size : length table ≡ set_size g c.args.set = c.in_ok-at_owner.ensures.count in
     subst (λ (z : List (Vec (Vec ℕ Global) Global)). (a : ℕ) → a < length z → AreBelow (length table) (rows z a)) (sym c.deref.ensures.value)
     (λ a la r lr k lk.
     let ra : a < o.ranks = omega (arith, h.export_count) in
@@ -26,12 +26,11 @@ returns c =
     let o = c.args.owners.now in
     let h = c.args.halo.now in
     let is = c.requires.halo in
-    let t : List ℕ = c.in_ok-at_owner.at_owner.items in
+    let t : List ℕ = c.in_ok-at_owner.at_owner in
     let v = c.in_ok-exports.exports.items in
     let count : length v ≡ length h.exports.items = subst (λ (z : List (Vec (Vec ℕ Global) Global)). length v ≡ length z) c.deref.ensures.value c.in_ok-exports.ensures.length in
     let read : (a : ℕ) → a < length h.exports.items → AreAllRead t (rows h.exports.items a) (rows v a) =
-    subst (λ (y : List ℕ). (a : ℕ) → a < length h.exports.items → AreAllRead y (rows h.exports.items a) (rows v a)) c.deref-2.ensures.value
-    (subst (λ (z : List (Vec (Vec ℕ Global) Global)). (a : ℕ) → a < length z → AreAllRead c.deref-2.result.now (rows z a) (rows v a)) c.deref.ensures.value c.in_ok-exports.ensures.read) in
+    subst (λ (z : List (Vec (Vec ℕ Global) Global)). (a : ℕ) → a < length z → AreAllRead t (rows z a) (rows v a)) c.deref.ensures.value c.in_ok-exports.ensures.read in
     let within : (a : ℕ) → a < o.ranks → a < length h.exports.items = λ a la. omega (arith, is.export_count) in
     record {
       owners = c.in_ok-at_owner.ensures;
