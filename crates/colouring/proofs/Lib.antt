@@ -11,3 +11,4 @@ pub mod Reaching
 pub mod Columns
 pub mod Marking
 pub mod Alike
+mod NoConflicts

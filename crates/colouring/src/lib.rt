@@ -19,6 +19,7 @@ mod mapped;
 mod masks;
 mod meeting;
 mod passing;
+mod plain;
 mod table;
 mod types;
 mod within;
@@ -33,6 +34,7 @@ use mapped::columns_map;
 use masks::Masks;
 use mesh_decl::Mesh;
 use op_num::OutOfMemory;
+use plain::one_colour;
 use std::alloc::Global;
 use table::{first_numbers, target_table};
 pub use types::{Colours, IncArg};
@@ -59,15 +61,8 @@ fn row_colours(
     Ok(Colours { blocks, inner })
 }
 
-/// The colours for the first `places` of what the rank executes, in blocks of `size`, where these arguments reduce.
-///
-/// It goes through the places once, and through the blocks once. A place or block looks, for each of its targets, at
-/// masks of 32 colours in turn, and passes in one step over those that one of its targets, or two of them together, are
-/// known to fill; so time is linear in the targets where they have few colours, on a star, and where the colours of two
-/// hubs interleave. At worst it is that of one look at each target for each 32 colours below the one that is found.
-/// Memory is linear in the targets; where the arguments lead by all targets of one map in order, its table is read in
-/// place. It fails only for want of memory, also where there are 2 ^ 32 - 1 targets or more.
-pub fn colour(
+// The colours for the first `places` of what the rank executes, in blocks of `size`, where these arguments reduce.
+fn target_colours(
     alloc: Global,
     mesh: &Mesh,
     rank: &RankMesh,
@@ -93,4 +88,31 @@ pub fn colour(
             row_colours(alloc, &table, args.len(), places, size, total)
         }
     }
+}
+
+/// The colours for the first `places` of what the rank executes, in blocks of `size`, where these arguments reduce.
+///
+/// It goes through the places once, and through the blocks once. A place or block looks, for each of its targets, at
+/// masks of 32 colours in turn, and passes in one step over those that one of its targets, or two of them together, are
+/// known to fill; so time is linear in the targets where they have few colours, on a star, and where the colours of two
+/// hubs interleave. At worst it is that of one look at each target for each 32 colours below the one that is found.
+/// Memory is linear in the targets; where the arguments lead by all targets of one map in order, its table is read in
+/// place; where no arguments reduce, no target is looked at. It fails only for want of memory, also where there are 2 ^ 32 - 1 targets or more.
+pub fn colour(
+    alloc: Global,
+    mesh: &Mesh,
+    rank: &RankMesh,
+    args: &[IncArg],
+    places: u32,
+    size: u32,
+) -> Result<Colours, OutOfMemory>
+    requires rank { (o : Owners) × (p : Perms) × (r : ℕ) × IsRankMesh mesh.now o p r rank.now }
+    requires args { AreArgs mesh.now rank.now.sets.items places args.now }
+    requires size { 0 < size }
+    ensures { IfOk result (AreColours mesh.now rank.now.maps.items args.now places size) }
+{
+    if args.is_empty() {
+        return one_colour(alloc, places, size);
+    }
+    target_colours(alloc, mesh, rank, args, places, size)
 }
