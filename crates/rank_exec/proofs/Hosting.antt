@@ -15,11 +15,12 @@ use Rattle.schedule_model.specs.Sequential.{with_variables}
 use Rattle.flat_machine.specs.Layout.{Layout}
 use Rattle.flat_machine.specs.Flat.{Flat, owned, variable, flat_step}
 use Rattle.bound_program.specs.Values.{BoundValue, ActValue, Host, Clear, Assign, Line, Print, Exit}
-use Rattle.mesh_decl.specs.Mesh.{set_count}
+use Rattle.mesh_decl.specs.Mesh.{set_count, dat_count}
+use Rattle.mesh_decl.specs.Printed.{printed_dat}
 use Rattle.bound_program.specs.declared.sites.Site.{Site}
 use Rattle.bound_program.specs.Values.{Ordered, SiteValue, site_of, no_site}
 use Rattle.bound_program.specs.Fits.{ActFits, Fits, site_at}
-use Rattle.run_model.specs.Laws.{LoopsAreThere}
+use Rattle.run_model.specs.Laws.{LoopsAreThere, ActsAreThere}
 use Rattle.schedule_model.specs.Program.{is_loop}
 use Rattle.run_model.specs.Windows.{numbers}
 use Rattle.run_model.specs.Hosts.{variables_of, variable_cells, dat_cells, act_run}
@@ -158,6 +159,24 @@ plain_fits b (Assign v i op op_at e at) plain h = h
 plain_fits b (Line text es) plain h = h
 plain_fits b (Print d file) plain h = absurd (plain d file refl)
 plain_fits b Exit plain h = h
+
+-- the dat that an item prints is there
+pub printed_there : (b : BoundValue) (k d : ℕ) (file : List ℕ) → Fits b → ActsAreThere → item_at b k ≡ Host (Print d file) → d < dat_count b.mesh
+printed_there b k d file fits acts is = subst (ActFits b) (ap act_in is) (acts b k fits)
+
+-- what was printed is the values of the dat
+pub print_goes_on : (b : BoundValue) (p : Setup KernelFault) (l : Layout KernelFault) (t : Tables) → p.program ≡ program_of b → Indexed p l t
+    → (st new : State KernelFault) (f : Flat KernelFault) → Shows p l t st f → (k d : ℕ) (file : List ℕ) → item_at b k ≡ Host (Print d file)
+    → Hosts p l t st f k → (vs : List ℤ) → vs ≡ map (owned p l f) (dat_cells b d)
+    → new ≡ record st { output = new.output } → new.output ≡ st.output ++ printed_dat file b.mesh d vs
+    → Shows p l t new (flat_step p l (Join k) f)
+print_goes_on b p l t is indexed st new f h k d file item hosts vs values others printed =
+    let out : new.output ≡ st.output ++ printed_dat file b.mesh d (map (owned p l f) (dat_cells b d)) =
+    printed ∙ ap (λ ws. st.output ++ printed_dat file b.mesh d ws) values in
+    subst (λ (z : State KernelFault). Shows p l t z (flat_step p l (Join k) f))
+    (ap (λ o. record st { output = o }) (sym out) ∙ sym others)
+    (hosts (variables_of (owned p l f)) (printed_dat file b.mesh d (map (owned p l f) (dat_cells b d))) st.variables
+    (host_is b p l t is k (Print d file) item (owned p l f)) h.sized.count (variable_here b p l t is indexed st f h))
 
 -- ---- loops
 

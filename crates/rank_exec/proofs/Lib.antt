@@ -14,3 +14,4 @@ pub mod RanksInTurn
 pub mod AllShares
 pub mod SameStart
 pub mod Held
+mod StandingCells

@@ -3,3 +3,4 @@ pub mod RunRooms
 pub mod Tasks
 pub mod Rounds
 pub mod Runs
+pub mod Standing

@@ -14,6 +14,7 @@ ghost use Rattle.rank_state.specs.Stops.{stop_in};
 ghost use Rattle.rank_exec.specs.Driving.{After, IsPrint, ItsCells};
 ghost use Rattle.rank_program.specs.Sound.{Sound, program_in, setup_in, layout_in, tables_in};
 
+use crate::standing::standing_cells;
 use bound_program::{Act, ToldAct};
 use host_acts::Variables;
 use kernel_types::KernelFault;
@@ -94,8 +95,12 @@ fn run_print(
     rank_state::join_shows::<KernelFault>();
     rank_state::owners_show::<KernelFault>();
     run_model::items_are_there();
+    let mesh = &program.bound.mesh;
+    if let Some(cells) = standing_cells(program, dat) {
+        return machine.print_owned(file, mesh, dat, cells);
+    }
     let values = dat_values(alloc, machine, program, dat)?;
-    machine.print(file, &program.bound.mesh, dat, &values)
+    machine.print(file, mesh, dat, &values)
 }
 
 // A statement that prints no dat.

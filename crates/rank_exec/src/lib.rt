@@ -17,6 +17,7 @@ mod rounds;
 pub mod run_room;
 mod running;
 mod sharing;
+mod standing;
 pub mod stream;
 
 pub use rank_machine::machine::Machine;

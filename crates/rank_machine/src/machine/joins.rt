@@ -114,6 +114,28 @@ impl Machine {
         Ok(())
     }
 
+    /// Prints the values of a dat, which are those of cells that a rank owns.
+    pub fn print_owned(
+        &mut self,
+        file: &Text,
+        mesh: &Mesh,
+        dat: u32,
+        place: Owned,
+    ) -> Result<(), OutOfMemory>
+        requires dat { dat < dat_count mesh.now }
+        requires rank { place.rank < length self.old.memories }
+        requires inside { place.at + place.dim ≤ length (row self.old.memories place.rank) }
+        requires values { place.dim ≡ set_size mesh.now (dat_set mesh.now dat) * dat_dim mesh.now dat }
+        ensures others { self.new ≡ record self.old { output = self.new.output } }
+        ensures printed { OnOk result (self.new.output ≡ self.old.output
+            ++ printed_dat file.now mesh.now dat (cells_at place.at place.dim (row self.old.memories place.rank))) }
+    {
+        let memory = &self.memories[place.rank as usize];
+        let values = &memory[place.at..place.at + place.dim];
+        print_dat(&mut self.output, file, mesh, dat, values)?;
+        Ok(())
+    }
+
     /// Does a statement of `main` that is no loop and prints no dat, up to its first fault.
     pub fn act(
         &mut self,
