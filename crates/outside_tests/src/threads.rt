@@ -8,12 +8,17 @@ use std::sync::atomic::{AtomicU64, Ordering};
 use std::thread::Threads;
 
 // So many workers on these threads, and a gate.
-fn crew<'a, R: Threads + Sync, G: Gate>(threads: &'a R, workers: u32, gate: &'a G) -> Crew<'a, R, G>
+fn crew<'a, R: Threads + Sync, G: Gate>(
+    threads: &'a R,
+    alloc: Global,
+    workers: u32,
+    gate: &'a G,
+) -> Crew<'a, R, G>
     requires { 0 < workers }
 {
     Crew {
         threads,
-        alloc: Global,
+        alloc,
         workers,
         gate,
     }
@@ -72,7 +77,7 @@ fn two_workers_meet(rt: HostRuntime) {
         seen: AtomicU64::new(0),
     };
     let mut cells = [0i32; 128];
-    run_group(&crew(&rt, 2, &gate), &mut cells, 2, &Number);
+    run_group(&crew(&rt, rt.alloc(), 2, &gate), &mut cells, 2, &Number);
     assert_eq!(rt; gate.seen.load(Ordering::SeqCst), 2);
     for window in 0..64usize {
         assert_eq!(rt; cells[2 * window], window as i32);
@@ -130,11 +135,21 @@ fn any_number_of_workers_does_all(rt: HostRuntime) {
             sum: AtomicU64::new(0),
         };
         let mut cells = [7i32; 15];
-        run_group(&crew(&rt, workers, &gate), &mut cells, 3, &Number);
+        run_group(
+            &crew(&rt, rt.alloc(), workers, &gate),
+            &mut cells,
+            3,
+            &Number,
+        );
         assert_eq!(rt; cells, [0, 7, 7, 1, 7, 7, 2, 7, 7, 3, 7, 7, 4, 7, 7]);
         assert_eq!(rt; gate.entered.load(Ordering::SeqCst), 5);
         assert_eq!(rt; gate.sum.load(Ordering::SeqCst), 10);
         let mut empty: [i32; 0] = [];
-        run_group(&crew(&rt, workers, &Open), &mut empty, 3, &Number);
+        run_group(
+            &crew(&rt, rt.alloc(), workers, &Open),
+            &mut empty,
+            3,
+            &Number,
+        );
     }
 }

@@ -18,6 +18,7 @@ pub trait PartJob<T>: Sync {
 
     /// Works on the part with number `index`, in place, by so many workers, at least 1, that it has to itself.
     fn run<R: Threads + Sync>(&self, threads: &R, workers: u32, index: usize, part: &mut T)
+        requires shared { IsSync R.row }
         requires workers { 0 < workers }
         requires takes { takes self.now index part.old }
         ensures { makes self.now index part.old part.new };

@@ -15,7 +15,7 @@ run_places-part-requires-clause-steps g c =
     subst (AllBegin (setup_in x) (layout_in x) (tables_in x) c.args.self.now.item c.args.index) (sym places) c.requires.takes.steps
 
 pub run_places-part-requires-clause-ready : goal.run_places-part-requires-clause-ready
-run_places-part-requires-clause-ready g c = record { shared = c.type_bounds.sync-R.shared }
+run_places-part-requires-clause-ready g c = record { shared = c.requires.shared.shared }
 
 pub returns : goal.returns
 returns g c =
