@@ -1,5 +1,5 @@
 -- Where nothing reduces, nothing is in conflict.
-use Rattle.std.proofs.Common.{◌≡◌, ◌==◌, ◌<◌, ◌*◌, ℕ, Bool, true, List, Vec, [], ◌∷◌, refl, length, get_or, ap, ◌∙◌, sym, subst, absurd, arith}
+use Rattle.std.proofs.Common.{◌≡◌, ◌==◌, ◌<◌, ◌*◌, ℕ, Bool, true, List, Vec, [], ◌∷◌, refl, length, get_or, ap, ◌∙◌, sym, subst, arith}
 use Rattle.std.specs.Prelude.{◌↔◌, Contains, replicate}
 use Rattle.std.specs.declared.alloc.Global.{Global}
 use Rattle.std.proofs.lemmas.Bool.{eqb-true}
@@ -15,7 +15,9 @@ none_meet g maps p q h = absurd (let c = h.2 in omega (arith, c.1))
 -- the least colour is the first, where there are no conflicts
 first_least : (Conflicts : ℕ → ℕ → Type 0) (n p : ℕ) → p < n → ((q : ℕ) → Conflicts q p → ⊥) → IsLeast Conflicts (replicate n 0) p
 first_least Conflicts n p lt none =
-    let zero_at : get_or (replicate n 0) p 0 ≡ 0 = get_or-replicate n p 0 0 lt in
+    let none_is : ℕ = 0 in
+    let zeros : List ℕ = replicate n none_is in
+    let zero_at : get_or zeros p none_is ≡ none_is = get_or-replicate n p none_is none_is lt in
     record {
       free = λ q l h _. none q h;
       taken = λ c l. absurd (omega (arith, zero_at, l));

@@ -54,7 +54,7 @@ row_is b cell_at d e at n dim h =
     ∙ rows_are cell_at d e at 0 n (λ i le lt. h i (omega arith))
     ∙ ap (λ k. map (λ i. Data (record { dat = d; element = e; component = i })) (numbers k)) dim
 
-range_more : (a n : ℕ) → range_with_len a (n + 1) ≡ range_with_len a n ++ (a + n) ∷ []
+pub range_more : (a n : ℕ) → range_with_len a (n + 1) ≡ range_with_len a n ++ (a + n) ∷ []
 range_more a zero = ap (λ k. k ∷ []) (let k : a ≡ a + 0 = omega arith in k)
 range_more a (suc n) = ap (range_with_len a) (let k : suc n + 1 ≡ suc (n + 1) = omega arith in k) ∙ ap (λ l. a ∷ l) (range_more (a + 1) n ∙ ap (λ k. range_with_len (a + 1) n ++ k ∷ []) (let k : a + 1 + n ≡ a + suc n = omega arith in k))
 

@@ -22,8 +22,8 @@ one_refusal {b} {d} {m} {n} {p} {q} {l} {k} come u eb em ep el h =
     (subst (λ z. IsUnaccepted d z p l come u) em
     (subst (λ z. IsUnaccepted z m p l come u) eb h)))
 
-pub new-checker-requires-clause-ranks : goal.new-checker-requires-clause-ranks
-new-checker-requires-clause-ranks c =
+pub new-requires-clause-ranks : goal.new-requires-clause-ranks
+new-requires-clause-ranks c =
     let d = c.planned.inside.distribution in
     let h = c.planned.invariant in
     rw c.deref.ensures.value (d.halos, record { owners = d.owners; numbers = h.numbers; are_halos = h.are_halos; distributed = h.distributed })

@@ -106,6 +106,6 @@ pub returns-clause-space : goal.returns-clause-space
 returns-clause-space g c = record {
   step_fits = c.begin_group.ensures.space;
   places_fit = omega (arith, c.collect-next.ensures.space, c.push_reserved.ensures.capacity, c.clear.ensures.capacity, c.requires.space.places_fit);
-  group_fits = c.begin_group.ensures.group most_begins c.requires.space.group_fits;
+  group_fits = c.begin_group.ensures.buffers most_begins c.requires.space.group_fits;
   parts_fit = c.requires.space.parts_fit;
 }
