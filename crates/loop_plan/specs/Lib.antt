@@ -10,6 +10,7 @@ pub mod Counts
 pub mod ItemPlans
 pub mod StepCounts
 pub mod Proper
+pub mod Turns
 pub mod SitePlans
 pub mod Spaced
 pub mod PlanText

@@ -11,6 +11,7 @@ mod needs;
 mod places;
 mod plans;
 mod sites;
+mod turns;
 mod types;
 mod writing;
 
@@ -26,7 +27,7 @@ pub use laws::{
 };
 pub use needs::is_scattering;
 pub use places::{place_count, places_by_rank};
-pub use plans::{MAX_STEPS, number_of_steps, plan, planned_items};
+pub use plans::{MAX_STEPS, number_of_steps, plan, plan_in_turn, planned_items};
 pub use schedule_steps::Step;
 pub use sites::{insert_plan, reducing_args, running_loops, site_plans};
 pub use step_orders::{Listed, Steps};

@@ -12,7 +12,7 @@ ghost use Rattle.loop_plan.specs.Proper.{Proper, HasLeastColours};
 use crate::counting::{count_steps, totals_by_loop};
 use crate::items::item_plans;
 use crate::sites::site_plans;
-use crate::types::{ItemPlan, Plan, PlanRefusal};
+use crate::types::{ItemPlan, Plan, PlanKind, PlanRefusal};
 use bound_program::Bound;
 use local_mesh::RankMesh;
 use local_mesh::halo_lists::Halos;
@@ -60,6 +60,40 @@ pub fn number_of_steps(
     }
 }
 
+// The plans of the items, and how many steps the program has.
+#[derive(Drop)]
+struct Counted {
+    items: Vec<ItemPlan>,
+    steps: u64,
+}
+
+// The plans of a program's items, where it has no more steps than the limit. The refusals are those of `plan`.
+fn counted_items(
+    alloc: Global,
+    bound: &Bound,
+    ranks: &[RankMesh],
+    halos: &Halos,
+) -> Result<Counted, PlanRefusal>
+    requires fits { Fits (bound_of bound.now) }
+    requires ranks { Distributed (bound_of bound.now).mesh halos.now ranks.now }
+    ensures items { IfOk result (λ c. ArePlanned (bound_of bound.now) ranks.now c.items.items) }
+    ensures sites { IfOk result (λ c. length (bound_of bound.now).sites < 2 ^ 32) }
+    ensures steps { IfOk result (λ c. c.steps ≡ program_steps (bound_of bound.now) ranks.now) }
+    ensures few { IfOk result (λ c. c.steps ≤ max_steps) }
+    ensures refused { IfErr result (λ e. Refuses (program_steps (bound_of bound.now) ranks.now) e) }
+{
+    bound.mesh.is_in_range();
+    if bound.sites.len() > u32::MAX as usize {
+        return Err(PlanRefusal::OutOfMemory);
+    }
+    let items = planned_items(alloc, bound, ranks, halos)?;
+    let steps = number_of_steps(alloc, bound, ranks, &items)?;
+    if MAX_STEPS < steps {
+        return Err(PlanRefusal::TooManySteps { steps });
+    }
+    Ok(Counted { items, steps })
+}
+
 /// The plan of a program on these ranks, in blocks of `block` places, with least colours.
 ///
 /// It is refused exactly where there are more steps than `MAX_STEPS`, and fails otherwise only for want of memory, also where
@@ -82,20 +116,44 @@ pub fn plan(
     ensures refused { IfErr result (λ e. Refuses (program_steps (bound_of bound.now) ranks.now) e) }
 {
     bound.mesh.is_in_range();
-    if bound.sites.len() > u32::MAX as usize {
-        return Err(PlanRefusal::OutOfMemory);
-    }
-    let items = planned_items(alloc, bound, ranks, halos)?;
-    let steps = number_of_steps(alloc, bound, ranks, &items)?;
-    if MAX_STEPS < steps {
-        return Err(PlanRefusal::TooManySteps { steps });
-    }
-    let sites = site_plans(alloc, bound, ranks, block)?;
+    let counted = counted_items(alloc, bound, ranks, halos)?;
+    let sites = site_plans(alloc, bound, ranks, PlanKind::Coloured { size: block })?;
     Ok(Plan {
         ranks: ranks.len() as u32,
         block,
         sites,
-        items,
-        steps,
+        items: counted.items,
+        steps: counted.steps,
+    })
+}
+
+/// A plan of a program on these ranks by which places go in their order: each block of `block` places, and each place, has a colour of its
+/// own. So no place's targets are looked at; but no two places may begin together.
+///
+/// It is refused and fails as `plan` does.
+pub fn plan_in_turn(
+    alloc: Global,
+    bound: &Bound,
+    ranks: &[RankMesh],
+    halos: &Halos,
+    block: u32,
+) -> Result<Plan, PlanRefusal>
+    requires fits { Fits (bound_of bound.now) }
+    requires ranks { Distributed (bound_of bound.now).mesh halos.now ranks.now }
+    requires block { 0 < block }
+    ensures proper { IfOk result (λ p. Proper (bound_of bound.now) ranks.now (plan_of p)) }
+    ensures steps { IfOk result (λ p. p.steps ≡ program_steps (bound_of bound.now) ranks.now) }
+    ensures few { IfOk result (λ p. p.steps ≤ max_steps) }
+    ensures refused { IfErr result (λ e. Refuses (program_steps (bound_of bound.now) ranks.now) e) }
+{
+    bound.mesh.is_in_range();
+    let counted = counted_items(alloc, bound, ranks, halos)?;
+    let sites = site_plans(alloc, bound, ranks, PlanKind::InTurn { size: block })?;
+    Ok(Plan {
+        ranks: ranks.len() as u32,
+        block,
+        sites,
+        items: counted.items,
+        steps: counted.steps,
     })
 }

@@ -13,12 +13,14 @@ ghost use Rattle.loop_plan.specs.Values.{entry_of, site_plan_of};
 ghost use Rattle.loop_plan.specs.Needs.{IsLoopOf, IsInRange};
 ghost use Rattle.loop_plan.specs.Distributed.{Distributed};
 ghost use Rattle.loop_plan.specs.Places.{reducing, runs_free, is_run, HaveSets};
-ghost use Rattle.loop_plan.specs.SitePlans.{IsLeastPlan, ArePlans};
+ghost use Rattle.loop_plan.specs.SitePlans.{IsLeastPlan, IsPlanOf, ArePlansOf, block_of};
+ghost use Rattle.loop_plan.specs.Turns.{IsTurnPlan};
 
 use crate::exchange::{LoopRun, args_of, run_at};
 use crate::needs::is_merged;
 use crate::places::places_by_rank;
-use crate::types::{SitePlan, SitePlans};
+use crate::turns::turns_by_rank;
+use crate::types::{PlanKind, SitePlan, SitePlans};
 use bound_program::{Arg, Bound, Mesh};
 use colouring::{Colours, IncArg, colour};
 use indexmap::IndexMap;
@@ -99,8 +101,8 @@ fn colours_by_rank(
     Ok(colours)
 }
 
-// The plan of a loop.
-fn site_plan(
+// The plan of a loop, with least colours.
+fn least_plan(
     alloc: Global,
     bound: &Bound,
     ranks: &[RankMesh],
@@ -118,6 +120,46 @@ fn site_plan(
     let args = reducing_args(alloc, args_of(bound, site))?;
     let colours = colours_by_rank(alloc, &bound.mesh, ranks, &args, &places, block)?;
     Ok(SitePlan { places, colours })
+}
+
+// The plan of a loop whose places go in their order.
+fn turn_plan(
+    alloc: Global,
+    bound: &Bound,
+    ranks: &[RankMesh],
+    site: u32,
+    size: u32,
+) -> Result<SitePlan, OutOfMemory>
+    requires fits { Fits (bound_of bound.now) }
+    requires sets { HaveSets (bound_of bound.now).mesh ranks.now }
+    requires site { site < length (bound_of bound.now).sites }
+    requires size { 0 < size }
+    ensures { IfOk result (λ p. IsTurnPlan (bound_of bound.now) ranks.now size site (site_plan_of p)) }
+{
+    let places = places_by_rank(alloc, bound, ranks, site)?;
+    let colours = turns_by_rank(alloc, &places, size)?;
+    Ok(SitePlan { places, colours })
+}
+
+// The plan of a loop, of this kind.
+fn site_plan(
+    alloc: Global,
+    bound: &Bound,
+    ranks: &[RankMesh],
+    site: u32,
+    kind: PlanKind,
+) -> Result<SitePlan, OutOfMemory>
+    requires fits { Fits (bound_of bound.now) }
+    requires ranks { (h : Halos) × Distributed (bound_of bound.now).mesh h ranks.now }
+    requires sets { HaveSets (bound_of bound.now).mesh ranks.now }
+    requires site { site < length (bound_of bound.now).sites }
+    requires block { 0 < block_of kind }
+    ensures { IfOk result (λ p. IsPlanOf (bound_of bound.now) ranks.now kind site (site_plan_of p)) }
+{
+    match kind {
+        PlanKind::Coloured { size } => least_plan(alloc, bound, ranks, site, size),
+        PlanKind::InTurn { size } => turn_plan(alloc, bound, ranks, site, size),
+    }
 }
 
 /// Adds a plan behind the others, of the loop `site`, which has none yet.
@@ -147,46 +189,48 @@ fn add_plan(
     ranks: &[RankMesh],
     is_run: bool,
     site: u32,
-    block: u32,
+    kind: PlanKind,
 ) -> Result<(), OutOfMemory>
     requires fits { Fits (bound_of bound.now) }
     requires ranks { (h : Halos) × Distributed (bound_of bound.now).mesh h ranks.now }
     requires sets { HaveSets (bound_of bound.now).mesh ranks.now }
     requires run { is_run ≡ runs_free (bound_of bound.now) site }
     requires site { site < length (bound_of bound.now).sites }
-    requires block { 0 < block }
-    requires before { ArePlans (bound_of bound.now) ranks.now block site (map entry_of plans.old.entries) }
-    ensures { OnOk result (ArePlans (bound_of bound.now) ranks.now block (site + 1) (map entry_of plans.new.entries)) }
+    requires block { 0 < block_of kind }
+    requires before { ArePlansOf (bound_of bound.now) (IsPlanOf (bound_of bound.now) ranks.now kind) site (map entry_of plans.old.entries) }
+    ensures { OnOk result
+        (ArePlansOf (bound_of bound.now) (IsPlanOf (bound_of bound.now) ranks.now kind) (site + 1) (map entry_of plans.new.entries)) }
 {
     if !is_run {
         return Ok(());
     }
-    let plan = site_plan(alloc, bound, ranks, site, block)?;
+    let plan = site_plan(alloc, bound, ranks, site, kind)?;
     insert_plan(plans, site, plan)?;
     Ok(())
 }
 
-/// The plans of the loops that run as Free ones.
+/// The plans of the loops that run as Free ones, of this kind.
 pub fn site_plans(
     alloc: Global,
     bound: &Bound,
     ranks: &[RankMesh],
-    block: u32,
+    kind: PlanKind,
 ) -> Result<SitePlans, OutOfMemory>
     requires fits { Fits (bound_of bound.now) }
     requires few { length (bound_of bound.now).sites < 2 ^ 32 }
     requires range { IsInRange (bound_of bound.now) }
     requires ranks { (h : Halos) × Distributed (bound_of bound.now).mesh h ranks.now }
     requires sets { HaveSets (bound_of bound.now).mesh ranks.now }
-    requires block { 0 < block }
+    requires block { 0 < block_of kind }
     ensures { IfOk result (λ m.
-        ArePlans (bound_of bound.now) ranks.now block (length (bound_of bound.now).sites) (map entry_of m.entries)) }
+        ArePlansOf (bound_of bound.now) (IsPlanOf (bound_of bound.now) ranks.now kind) (length (bound_of bound.now).sites)
+        (map entry_of m.entries)) }
 {
     let runs = running_loops(alloc, bound)?;
     let mut plans = IndexMap::new(alloc);
     for site in 0..bound.sites.len() as u32 {
         let is_run = is_running(&runs, site);
-        add_plan(&mut plans, alloc, bound, ranks, is_run, site, block)?;
+        add_plan(&mut plans, alloc, bound, ranks, is_run, site, kind)?;
     }
     Ok(plans)
 }

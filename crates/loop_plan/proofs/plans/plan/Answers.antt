@@ -6,9 +6,6 @@ use Rattle.loop_plan.proofs.Planning.{sets_had}
 use Rattle.loop_plan.proofs.ProperPlan.{is_proper, least_are_site_plans, has_least}
 use Rattle.loop_plan.proofs.plans.plan.Goals as goal
 
-pub number_of_steps-requires-clause-sets : goal.number_of_steps-requires-clause-sets
-number_of_steps-requires-clause-sets c = sets_had c.args.bound.now.mesh c.args.halos.now c.args.ranks.now c.requires.ranks c.is_in_range.ensures.sizes
-
 pub site_plans-requires-clause-range : goal.site_plans-requires-clause-range
 site_plans-requires-clause-range c = in_range (bound_of c.args.bound.now) c.requires.fits
 
@@ -18,13 +15,15 @@ site_plans-requires-clause-sets c = sets_had c.args.bound.now.mesh c.args.halos.
 pub returns-clause-proper : goal.returns-clause-proper
 returns-clause-proper c =
     let b = bound_of c.args.bound.now in
-    let p = plan_of (record { ranks = length c.args.ranks.now; block = c.args.block; sites = c.in_ok-sites.sites; items = c.in_ok-items.items; steps = c.in_ok-steps.steps }) in
+    let x = c.in_ok-counted.counted in
+    let p = plan_of (record { ranks = length c.args.ranks.now; block = c.args.block; sites = c.in_ok-sites.sites; items = x.items; steps = x.steps }) in
     is_proper b c.args.ranks.now p
-    c.in_ok-items.items.items (in_range b c.requires.fits) refl refl c.in_ok-items.ensures
-    (least_are_site_plans b c.args.ranks.now c.args.block (length b.sites) p.sites c.in_ok-sites.ensures) c.requires.block c.in_ok-steps.ensures
+    x.items.items (in_range b c.requires.fits) refl refl c.in_ok-counted.ensures.items
+    (least_are_site_plans b c.args.ranks.now c.args.block (length b.sites) p.sites c.in_ok-sites.ensures) c.requires.block c.in_ok-counted.ensures.steps
 
 pub returns-clause-colours : goal.returns-clause-colours
 returns-clause-colours c =
+    let x = c.in_ok-counted.counted in
     has_least (bound_of c.args.bound.now) c.args.ranks.now
-    (plan_of (record { ranks = length c.args.ranks.now; block = c.args.block; sites = c.in_ok-sites.sites; items = c.in_ok-items.items; steps = c.in_ok-steps.steps }))
+    (plan_of (record { ranks = length c.args.ranks.now; block = c.args.block; sites = c.in_ok-sites.sites; items = x.items; steps = x.steps }))
     c.in_ok-sites.ensures

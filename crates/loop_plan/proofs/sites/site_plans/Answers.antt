@@ -3,7 +3,7 @@ use Rattle.std.specs.Prelude.{slice_index_or}
 use Rattle.std.proofs.lemmas.List.{length-map}
 use Rattle.bound_program.specs.Values.{bound_of, site_of}
 use Rattle.loop_plan.specs.Values.{entry_of}
-use Rattle.loop_plan.specs.SitePlans.{ArePlans}
+use Rattle.loop_plan.specs.SitePlans.{IsPlanOf, ArePlansOf}
 use Rattle.loop_plan.proofs.sites.site_plans.Goals as goal
 
 pub add_plan-requires-clause-run : goal.add_plan-requires-clause-run
@@ -13,4 +13,4 @@ add_plan-requires-clause-run c =
 pub returns : goal.returns
 returns c =
     let e : c.loop-site.site ≡ length (bound_of c.args.bound.now).sites = omega (arith, c.loop-site-test.false, c.loop-site.auto.site-end, c.requires.few, length-map c.args.bound.now.sites.items site_of) in
-    subst (λ z. ArePlans (bound_of c.args.bound.now) c.args.ranks.now c.args.block z (map entry_of c.loop-site.plans.entries)) e c.loop-site.invariant
+    subst (λ z. ArePlansOf (bound_of c.args.bound.now) (IsPlanOf (bound_of c.args.bound.now) c.args.ranks.now c.args.kind) z (map entry_of c.loop-site.plans.entries)) e c.loop-site.invariant
