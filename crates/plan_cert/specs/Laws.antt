@@ -52,6 +52,14 @@ CertifiedHaveSteps =
     → Certified b meshes bytes p
     → p.steps ≡ program_steps b meshes
 
+-- a plan that is proper has as many steps as the program
+abbrev pub ProperHaveSteps : Type 0
+ProperHaveSteps =
+    (b : BoundValue) (meshes : List RankMesh) (p : PlanValue)
+    → Fits b
+    → Proper b meshes p
+    → p.steps ≡ program_steps b meshes
+
 -- a text gives a plan, or a line of it is refused
 abbrev pub SomeOutcome : Type 0
 SomeOutcome =

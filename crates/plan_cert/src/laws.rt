@@ -1,7 +1,7 @@
 // Laws of plan texts whose colours were chosen elsewhere, each as the contract of a function that does nothing. The
 // first three are also of two lists of local meshes that are the same as lists, as those of two distributions are.
 ghost use Rattle.plan_cert.specs.Laws.{RefusalsAreOne, NoneIsRefused, PlansAreAlike, SomeOutcome, LeastAreShort, WrittenAreCertified};
-ghost use Rattle.plan_cert.specs.Laws.{CertifiedHaveSteps, NoKernelIsRead};
+ghost use Rattle.plan_cert.specs.Laws.{CertifiedHaveSteps, ProperHaveSteps, NoKernelIsRead};
 
 /// A law: one line of a text is the first that is refused, and by one number.
 pub fn one_refusal()
@@ -21,6 +21,13 @@ pub fn plans_are_alike()
 /// A law: a plan that a text gives has as many steps as the program, where that fits.
 pub fn certified_plans_have_steps()
     ensures { CertifiedHaveSteps }
+{
+    loop_plan::bound_is_in_range();
+}
+
+/// A law: a plan that is proper has as many steps as the program, where that fits.
+pub fn proper_plans_have_steps()
+    ensures { ProperHaveSteps }
 {
     loop_plan::bound_is_in_range();
 }

@@ -14,6 +14,7 @@ mod words;
 pub use judge::certify;
 pub use laws::{
     certified_plans_have_steps, least_colours_are_short, no_kernel_is_read, none_is_refused,
-    one_refusal, plans_are_alike, some_outcome, written_plans_are_certified,
+    one_refusal, plans_are_alike, proper_plans_have_steps, some_outcome,
+    written_plans_are_certified,
 };
 pub use types::CertRefusal;
