@@ -53,7 +53,7 @@ pub fit_together : (b : Bound) (u : Owners) (n : Perms) (d : Distribution) (p : 
     → Proper (bound_of b) d.ranks.items (plan_of p)
     → FitTogether (record { bound = b; distribution = d; plan = plan_of p })
 fit_together b u n d p fits are_owners are_perms h proper =
-    let spread = record { are_owners = are_owners; are_perms = are_perms; are_meshes = h.ranks } in
+    let spread : IsDistributed b.mesh u n d.ranks.items = record { are_owners = are_owners; are_perms = are_perms; are_meshes = h.ranks } in
     record {
       fits = fits;
       numbers = n;
@@ -156,12 +156,14 @@ module _ (rest : Files → Planned → lines.Answer → Type 0) (o : Options) (b
       halts_weaker told rose old (λ files r. PlanningAnswers Unplanned o files b (refused r)) (λ files r. All files (refused r)) h
       (λ files r x. (fits, planning_never (rest files) o files b (refused r) x)) k
 
-  pub planning_answered : (mid : Readings) (p : Planned) (r : Result Answer Halt) → Finds told old mid (IsPlannedIn o b p)
+  pub planning_answered : (mid : Readings) (p q : Planned) (r : Result Answer Halt)
+      → ((files : Files) (a : lines.Answer) → rest files p a → rest files q a)
+      → Finds told old mid (IsPlannedIn o b q)
       → AreNext (names_by o.parting ++ names_in_blocks o.blocks) old
       → HaveCome (names_by o.parting ++ names_in_blocks o.blocks) old mid
       → AnswersFrom told mid (λ files. rest files p) rose r
       → AnswersFrom told old All rose r
-  planning_answered mid p r found next come h =
-      answers_on told rose old mid (IsPlannedIn o b p) found (λ files. rest files p) All r
+  planning_answered mid p q r step found next come h =
+      answers_on told rose old mid (IsPlannedIn o b q) found (λ files. rest files p) All r
       (still_named (names_by o.parting ++ names_in_blocks o.blocks) old mid next come)
-      (λ files a k x. (fits, planning_reached (rest files) o b p files a k x)) h
+      (λ files a k x. (fits, planning_reached (rest files) o b q files a k (step files a x))) h

@@ -1,3 +1,4 @@
+use Rattle.std.proofs.Common.{ap}
 use Rattle.std.proofs.lemmas.Result.{err_from_is_err_and}
 use Rattle.bound_program.specs.Values.{bound_of}
 use Rattle.command_words.specs.Values.{blocks_in}
@@ -16,7 +17,16 @@ returns-in_err-plan-clause-err c =
     c.in_ok-distribution.distribution c.in_err-plan.field-0.0 c.in_ok-distribution.ensures c.in_err-plan.ensures.err)
 
 pub returns-clause-ok : goal.returns-clause-ok
-returns-clause-ok c = (c.in_ok-distribution.ensures, c.in_ok-plan.ensures.ok)
+returns-clause-ok c =
+    let d = c.in_ok-distribution.distribution in
+    let stands = c.in_ok-plan.ensures.ok in (
+      record { distribution = d; plan = stands.asked },
+      (c.in_ok-distribution.ensures, stands.planned),
+      record {
+        steps = stands.steps;
+        same = λ e. ap (λ p. record { distribution = d; plan = p }) (stands.same e);
+      },
+    )
 
 pub invariant_of-result : goal.invariant_of-result
 invariant_of-result c =
