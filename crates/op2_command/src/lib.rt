@@ -8,6 +8,7 @@
 mod answered;
 mod chains;
 mod faults;
+mod in_turn;
 mod plan_task;
 mod plans;
 mod ranges;

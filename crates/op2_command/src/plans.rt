@@ -20,6 +20,7 @@ ghost use Rattle.job_inputs.specs.Chains.{AnswersBy, AnswersFrom};
 ghost use Rattle.job_plans.specs.Plans.{planned_of};
 ghost use Rattle.op2_command.specs.Chains.{chosen_in, StepsAnswers, ScheduleAnswers};
 
+use crate::in_turn::goes_in_turn;
 use crate::plan_task::PlanTask;
 use crate::runs::run_on;
 use crate::schedules::{end_line, judged, lines_of};
@@ -161,7 +162,8 @@ fn chosen_answer<'a, F: Shelf, R: Threads + Sync, G: Gate>(
         (λ files. ChosenAnswers (job_in job) (options_in options.now) files (chosen_of chosen.now))
         (Rose (F.faults shelf.old) (F.faults shelf.new)) result }
 {
-    let planned = planned_on(crew.alloc, shelf, kept, options, &chosen.bound)?;
+    let in_turn = goes_in_turn(job, options);
+    let planned = planned_on(crew.alloc, shelf, kept, options, &chosen.bound, in_turn)?;
     let task = PlanTask {
         job,
         options,

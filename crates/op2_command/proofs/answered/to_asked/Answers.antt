@@ -31,8 +31,8 @@ to_plan-requires-clause-schedule g c κs within =
     schedule_lent (g.F.Shelf.lends c.args.shelf.now) (names_from (input_in c.in-Plan.input)) (names_before o.stretch) (names_by o.parting) (names_in_blocks o.blocks) (names_at o.schedule)
     (rw c.in-Plan.is at c.requires.lent)
 
-pub invariant_of-crew-in-Plan : goal.invariant_of-crew-in-Plan
-invariant_of-crew-in-Plan g c = (rw c.in-Plan.is at c.requires.within).some_workers
+pub invariant_of-crew : goal.invariant_of-crew
+invariant_of-crew g c = record { some = (rw c.in-Plan.is at c.requires.within).some_workers }
 
 pub returns-in-Plan : goal.returns-in-Plan
 returns-in-Plan g c = rw c.in-Plan.is c.to_plan.ensures

@@ -1,14 +1,17 @@
-use Rattle.std.proofs.Common.{◌++◌}
+use Rattle.std.proofs.Common.{◌++◌, Ok, sym, subst}
 use Rattle.std.proofs.lemmas.Result.{err_from_is_err_and}
 use Rattle.op_outside.specs.Outside.{Rose}
+use Rattle.bound_program.specs.declared.programs.Bound.{Bound}
 use Rattle.bound_program.specs.Values.{bound_of}
 use Rattle.command_words.specs.Words.{names_by, names_in_blocks, names_at}
 use Rattle.command_words.specs.Values.{options_in, job_in}
+use Rattle.answers.specs.Judgements.{AccessesAre}
 use Rattle.job_inputs.specs.Inputs.{chosen_of}
 use Rattle.job_inputs.proofs.Jobs.{next_first, next_then}
 use Rattle.job_plans.specs.Plans.{planned_of}
 use Rattle.job_plans.proofs.Planning.{planning_halted, planning_answered}
 use Rattle.op2_command.specs.Chains.{ScheduleAnswers}
+use Rattle.op2_command.proofs.InTurn.{schedules_alike}
 use Rattle.op2_command.proofs.plans.chosen_answer.Goals as goal
 
 pub planned_on-requires-clause-next : goal.planned_on-requires-clause-next
@@ -29,13 +32,20 @@ scheduled-requires-clause-next g c κs within =
     next_then (names_by (options_in c.args.options.now).parting ++ names_in_blocks (options_in c.args.options.now).blocks) (names_at (options_in c.args.options.now).schedule)
     c.args.kept.now c.planned_on.new.kept c.requires.next c.in_ok-planned.ensures.come
 
+pub scheduled-requires-clause-obeyed : goal.scheduled-requires-clause-obeyed
+scheduled-requires-clause-obeyed g c κs within =
+    subst (λ (b : Bound). AccessesAre (bound_of b) (Ok tt)) (sym c.in_ok-planned.ensures.of) c.requires.obeyed
+
 pub returns : goal.returns
 returns g c =
     let rest = rw c.in_ok-planned.ensures.of at (rw c.in_ok-planned.ensures.calm at (rw c.in_ok-planned.ensures.told at c.scheduled.ensures)) in
     planning_answered (λ files p. ScheduleAnswers (job_in c.args.job) (options_in c.args.options.now) (chosen_of c.args.chosen.now) p files)
     (options_in c.args.options.now) (bound_of c.args.chosen.now.bound) c.requires.fits
     (g.F.Shelf.told c.args.shelf.now) (Rose (g.F.Shelf.faults c.args.shelf.now) (g.F.Shelf.faults c.scheduled.new.shelf)) c.args.kept.now
-    c.planned_on.new.kept (planned_of c.in_ok-planned.planned) c.scheduled.result c.in_ok-planned.ensures.ok
+    c.planned_on.new.kept (planned_of c.in_ok-planned.planned) c.in_ok-planned.ensures.ok.0 c.scheduled.result
+    (λ files a. schedules_alike (job_in c.args.job) (options_in c.args.options.now) (chosen_of c.args.chosen.now) (planned_of c.in_ok-planned.planned)
+    c.in_ok-planned.ensures.ok.0 files a c.goes_in_turn-in_turn.result c.goes_in_turn-in_turn.ensures c.in_ok-planned.ensures.ok.2)
+    c.in_ok-planned.ensures.ok.1
     (next_first (names_by (options_in c.args.options.now).parting ++ names_in_blocks (options_in c.args.options.now).blocks) (names_at (options_in c.args.options.now).schedule)
     c.args.kept.now c.requires.next)
     c.in_ok-planned.ensures.come rest
