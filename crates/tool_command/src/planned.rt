@@ -102,7 +102,7 @@ fn on_bound_plan<'a, F: Shelf>(
         (λ files. PlanJobAnswers (plan_job_of job.entry) (options_in options.now) files (bound_of bound.now))
         (Rose (F.faults shelf.old) (F.faults shelf.new)) result }
 {
-    let planned = planned_on(alloc, shelf, kept, options, bound)?;
+    let planned = planned_on(alloc, shelf, kept, options, bound, false)?;
     on_planned(alloc, shelf, kept, job, &planned)
 }
 
