@@ -55,7 +55,8 @@ pub fn run_on<R: Threads + Sync, G: Gate>(
     requires obeyed { AccessesAre (bound_of planned.now.bound) (Ok tt) }
     requires order { CanTake (outline_of planned.now) (message_cells_of planned.now) order.now }
     ensures { IfOk result (λ a. (l : List StepValue) → InOrder (outline_of planned.now) order.now l
-        → answer_of a ≡ run_answer task.now.first (bound_of planned.now.bound) (planned_dump task.now.options.now.dumps planned.now l)) }
+        → answer_of a ≡ run_answer task.now.first (bound_of planned.now.bound)
+        (planned_dump task.now.options.now.dumps planned.now l)) }
 {
     starts_in_range(planned.bound);
     runs_answer_on_cells();

@@ -1,6 +1,7 @@
 // Where the cells of messages stand.
 
-ghost use Rattle.std.specs.Prelude.{◌≡◌, ◌<◌, ◌≤◌, ◌+◌, ◌*◌, ◌++◌, ℕ, All, map, length, slice_index, vec_capacity};
+ghost use Rattle.std.specs.Prelude.{◌≡◌, ◌<◌, ◌≤◌, ◌+◌, ◌*◌, ◌++◌, ℕ};
+ghost use Rattle.std.specs.Prelude.{All, map, length, slice_index, vec_capacity};
 ghost use Rattle.rank_sets.specs.Below.{row, rows};
 ghost use Rattle.mesh_decl.specs.Mesh.{dat_count, set_count};
 ghost use Rattle.rank_layout.specs.Exports.{exports_in};
@@ -107,7 +108,8 @@ pub fn push_exports(
     requires has { (t : ℕ) → t < set_count mesh.now → HasList (exports_in lists.now t) pair.from pair.to }
     requires there { AreThere mesh.now part.now (λ t. sent.exported_locals lists.now t pair.from pair.to) dats.now }
     requires room { length spans.old.items
-        + length (spans_of mesh.now part.now (λ t. sent.exported_locals lists.now t pair.from pair.to) dats.now) ≤ vec_capacity spans.old }
+        + length (spans_of mesh.now part.now (λ t. sent.exported_locals lists.now t pair.from pair.to) dats.now)
+        ≤ vec_capacity spans.old }
     ensures spans { spans.new.items
         ≡ spans.old.items ++ spans_of mesh.now part.now (λ t. sent.exported_locals lists.now t pair.from pair.to) dats.now }
     ensures room { vec_capacity spans.new ≡ vec_capacity spans.old }
@@ -137,7 +139,8 @@ pub fn push_imports(
     requires has { (t : ℕ) → t < set_count mesh.now → HasList (imports_in lists.now t) pair.to pair.from }
     requires there { AreThere mesh.now part.now (λ t. the.imported_locals lists.now t pair.to pair.from) dats.now }
     requires room { length spans.old.items
-        + length (spans_of mesh.now part.now (λ t. the.imported_locals lists.now t pair.to pair.from) dats.now) ≤ vec_capacity spans.old }
+        + length (spans_of mesh.now part.now (λ t. the.imported_locals lists.now t pair.to pair.from) dats.now)
+        ≤ vec_capacity spans.old }
     ensures spans { spans.new.items
         ≡ spans.old.items ++ spans_of mesh.now part.now (λ t. the.imported_locals lists.now t pair.to pair.from) dats.now }
     ensures room { vec_capacity spans.new ≡ vec_capacity spans.old }

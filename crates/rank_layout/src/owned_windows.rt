@@ -94,7 +94,8 @@ fn push_window(dats: &OwnedDats<'_>, arg: Arg, element: u32, spans: &mut Vec<Own
     requires room { length spans.old.items < vec_capacity spans.old }
     ensures spans { spans.new.items
         ≡ owned_after
-        (owned_by (bound_of dats.now.bound.now) dats.now.owners.now dats.now.meshes.now dats.now.lists.now element) (arg ∷ []) spans.old.items }
+        (owned_by (bound_of dats.now.bound.now) dats.now.owners.now dats.now.meshes.now dats.now.lists.now element)
+        (arg ∷ []) spans.old.items }
     ensures room { vec_capacity spans.new ≡ vec_capacity spans.old }
     ensures more { length spans.new.items ≤ length spans.old.items + 1 }
 {
@@ -116,7 +117,8 @@ pub fn push_windows(dats: &OwnedDats<'_>, args: &[Arg], element: u32, spans: &mu
     requires room { length spans.old.items + length args.now ≤ vec_capacity spans.old }
     ensures spans { spans.new.items
         ≡ owned_after
-        (owned_by (bound_of dats.now.bound.now) dats.now.owners.now dats.now.meshes.now dats.now.lists.now element) args.now spans.old.items }
+        (owned_by (bound_of dats.now.bound.now) dats.now.owners.now dats.now.meshes.now dats.now.lists.now element)
+        args.now spans.old.items }
     ensures room { vec_capacity spans.new ≡ vec_capacity spans.old }
 {
     for arg in args {

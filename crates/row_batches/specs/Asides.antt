@@ -1,5 +1,6 @@
 -- Batches that ran on columns of their own and are put back later, and what their places touch of a memory.
-use Rattle.std.specs.Prelude.{◌≡◌, ◌≢◌, ◌<◌, ◌≤◌, ◌+◌, ◌⊎◌, ℕ, ℤ, pos, true, List, [], ◌∷◌, length, map, take, get_or, slice_index, FitsSigned}
+use Rattle.std.specs.Prelude.{◌≡◌, ◌≢◌, ◌<◌, ◌≤◌, ◌+◌, ◌⊎◌, ℕ, ℤ, pos, true, FitsSigned}
+use Rattle.std.specs.Prelude.{List, [], ◌∷◌, length, map, take, get_or, slice_index}
 use Rattle.std.specs.Int.{w32}
 use Rattle.op_num.specs.Access.{OpRead, OpRw}
 use Rattle.kernel_types.specs.declared.views.frame.Place.{Place}
@@ -23,7 +24,8 @@ module _ (y : RowLoop) where
   -- they are filled from the cell
   abbrev pub ReadsFrom : (x k : ℕ) → Type 0
   ReadsFrom x k =
-      (c : ℕ) × (c < length y.columns.now) × ((column_access y c ≡ OpRead) ⊎ (column_access y c ≡ OpRw)) × (column_cell y x c ≡ k)
+      (c : ℕ) × (c < length y.columns.now) × ((column_access y c ≡ OpRead) ⊎ (column_access y c ≡ OpRw))
+      × (column_cell y x c ≡ k)
 
   -- what one of the first places of a list modifies, no other reads; the places must differ where the loop says so
   abbrev pub NeverReadOthers : (places : List ℕ) (n : ℕ) → Type 0
@@ -42,7 +44,8 @@ module _ (y : RowLoop) where
     -- the memories have the same in all cells that the first places of the batch don't modify
     abbrev pub LeavesOthers : (old new : List ℤ) → Type 0
     LeavesOthers old new =
-        (k : ℕ) → ((l : ℕ) → l < rows → Modifies (slice_index batch l) k → ⊥) → get_or new k (pos 0) ≡ get_or old k (pos 0)
+        (k : ℕ) → ((l : ℕ) → l < rows → Modifies (slice_index batch l) k → ⊥)
+        → get_or new k (pos 0) ≡ get_or old k (pos 0)
 
     -- in each of the first rows the frame has what the kernel leaves of columns that were filled from the memory
     pub record IsAside (numbers : List (List ℕ)) (memory : List ℤ) (frame : List (List ℤ)) : Type 0 where
