@@ -6,6 +6,9 @@ pub mod Entries
 pub mod Fresh
 pub mod Panes
 pub mod Letters
+pub mod Moving
 pub mod Finding
+pub mod Queued
+pub mod Walking
 pub mod Views
 pub mod Kept

@@ -13,5 +13,6 @@ pub mod Groups
 pub mod Indices
 pub mod Slots
 pub mod Letters
+pub mod Queues
 pub mod Spare
 pub mod Stops

@@ -1,7 +1,6 @@
 -- A part of a list that was written, and the parts beside it.
 use Rattle.std.proofs.Common.{◌≡◌, ℕ, ℤ, ◌+◌, ◌-◌, ◌≤◌, List, ◌++◌, length, take, drop, sym, ap, ◌∙◌, arith, append_assoc, length-drop, length-append}
 use Rattle.std.proofs.lemmas.List.{take-append-le, drop-append-le, drop-take, take-take, length-take-le}
-use Rattle.std.proofs.lemmas.Grind.{common_steps}
 use Rattle.std.proofs.Math.Seq.{take-append_seam, drop-append_seam, drop-append-add}
 use lib.Seq.{drop-drop}
 use borrow.Rule.Slice.PartMut.{put_mid}
@@ -38,17 +37,3 @@ after_mid a k b n xs w h l le =
     ∙ drop-drop (b - (a + k)) (a + k - a) (drop a xs)
     ∙ drop-drop ((a + k - a) + (b - (a + k))) a xs
     ∙ ap (λ i. drop i xs) j)
-
--- a part that was rotated: what stood behind its front comes first
-pub pulled : (a k n : ℕ) (xs : List ℤ) → a + k + n ≤ length xs → take n (drop a (put_mid a (a + k + n - a) xs (drop k (take (a + k + n - a) (drop a xs)) ++ take k (take (a + k + n - a) (drop a xs))))) ≡ take n (drop (a + k) xs)
-pulled a k n xs h =
-    let m = a + k + n - a in
-    let e : a + k + n - a ≡ k + n = omega arith in
-    let part = take (a + k + n - a) (drop a xs) in
-    let back : drop k (take (a + k + n - a) (drop a xs)) ≡ take n (drop (a + k) xs) =
-    ap (λ j. drop k (take j (drop a xs))) e ∙ drop-take k n (drop a xs) ∙ ap (take n) (drop-drop k a xs) in
-    let len : length (drop k (take (a + k + n - a) (drop a xs))) ≡ n = grind (arith, common_steps) in
-    ap (take n) (drop_front a xs _ (omega arith) ∙ append_assoc (drop k (take (a + k + n - a) (drop a xs))) (take k (take (a + k + n - a) (drop a xs))) _)
-    ∙ ap (λ j. take j (drop k (take (a + k + n - a) (drop a xs)) ++ (take k (take (a + k + n - a) (drop a xs)) ++ drop (a + k + n - a) (drop a xs)))) (sym len)
-    ∙ take-append_seam (drop k (take (a + k + n - a) (drop a xs))) _
-    ∙ back

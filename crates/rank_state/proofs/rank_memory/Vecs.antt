@@ -1,8 +1,7 @@
 -- A table of vectors as a table of lists.
 use Rattle.std.proofs.Common.{◌≡◌, ℕ, ◌<◌, ℤ, List, [], length, map, get_or, set, None, Vec, Global, sym, ap, ◌∙◌, arith}
-use Rattle.std.specs.Vec.{with_item, with_items}
+use Rattle.std.specs.Vec.{with_item}
 use Rattle.std.proofs.lemmas.List.{get_or-map, map-set, length-map}
-use Rattle.std.proofs.lemmas.Grind.{common_steps}
 use Rattle.rank_state.specs.declared.rank_memory.slot.Slot.{Slot}
 use Rattle.rank_state.specs.Frames.{Panes, Shut, pane_at}
 use Rattle.rank_state.specs.Slots.{slot_of, entries, of_entry, pane_of, panes_in, entry}

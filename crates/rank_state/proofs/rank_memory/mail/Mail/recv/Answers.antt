@@ -1,130 +1,139 @@
-use Rattle.std.proofs.Common.{◌≡◌, ℕ, suc, ◌+◌, ◌-◌, ◌<◌, List, ◌++◌, length, take, drop, sym, ap, ap₂, ◌∙◌, subst, arith}
+use Rattle.std.proofs.Common.{rules, ◌≡◌, ℕ, ◌+◌, ◌<◌, ◌≤◌, List, length, get_or, set, refl, sym, ap, ap₂, ◌∙◌, subst, arith, length-set}
 use Rattle.std.specs.Vec.{with_items}
 use Rattle.rank_state.specs.declared.rank_memory.mail.Letter.{Letter}
-use Rattle.rank_state.specs.Spans.{total, scattered}
+use Rattle.rank_state.specs.Spans.{total, scattered, cells_at}
 use Rattle.rank_state.specs.Mail.{Post, Box, Carries, first_post, without_first, received, arrived}
-use Rattle.rank_state.specs.Letters.{posts_in, cells_of, index_of, offset_of, found, Positive}
-use Rattle.rank_state.proofs.rank_memory.Letters.{cells_append, posts_append, posts_front, positive_append, positive_take, positive_drop, at_least}
-use Rattle.rank_state.proofs.rank_memory.Finding.{has_letter, whole_message, offset_is, first_found, rest_found}
+use Rattle.rank_state.specs.Letters.{posts_in, unread_cells, InOrder, index_of, found, no_letter, read_of}
+use Rattle.rank_state.proofs.rank_memory.Letters.{order_at}
+use Rattle.rank_state.proofs.rank_memory.Finding.{has_letter, whole_message, first_found, rest_read, unread_read, order_read}
+use Rattle.rank_state.specs.Queues.{Queued}
+use Rattle.rank_state.proofs.rank_memory.Queued.{alike, read_alike, same_queues}
 use Rattle.rank_state.proofs.rank_memory.mail.Mail.recv.Goals as goal
+use Rattle.rank_state.proofs.rank_memory.mail.Mail.recv.Goals.{After-deref-5, After-read-count}
 use Rattle.lemmas.proofs.Lists.{refilled}
 
 abbrev of_parts : List Post → ℕ → Box
 of_parts ps n = record { posts = ps; left = n }
 
-pub place_of-index-requires-clause-has : goal.place_of-index-requires-clause-has
-place_of-index-requires-clause-has c =
-    let carries = subst (λ (b : Box). Carries c.args.item c.args.from c.args.to (total c.args.spans.now) b) (sym c.self.view_is) c.requires.oldest in
-    subst (λ l. index_of c.args.from c.args.to l < length l) (sym c.deref.ensures.value) (has_letter c.args.from c.args.to c.args.item (total c.args.spans.now) c.self.inside.letters.items c.self.inside.cells.items carries)
+carries : (c : After-deref-5) → Carries c.args.item c.args.from c.args.to (total c.args.spans.now) (of_parts (posts_in c.self.inside.letters.items c.self.inside.cells.items) c.self.inside.left)
+carries c = subst (λ (b : Box). Carries c.args.item c.args.from c.args.to (total c.args.spans.now) b) (sym c.self.view_is) c.requires.oldest
 
-pub pull-requires-clause-room : goal.pull-requires-clause-room
-pull-requires-clause-room c =
-    let carries = subst (λ (b : Box). Carries c.args.item c.args.from c.args.to (total c.args.spans.now) b) (sym c.self.view_is) c.requires.oldest in
-    let inv = c.self.invariant in
-    let whole = whole_message c.args.from c.args.to c.args.item (total c.args.spans.now) c.self.inside.letters.items c.self.inside.cells.items carries (omega (arith, inv.0, inv.1)) in
-    let count : c.place_of-index.result.2 ≡ (found c.args.from c.args.to c.self.inside.letters.items).count = c.place_of-index.ensures.count ∙ ap (λ l. (found c.args.from c.args.to l).count) c.deref.ensures.value in
-    omega arith
+-- the message is there, whole
+has : (c : After-deref-5) → index_of c.args.from c.args.to c.self.inside.letters.items < length c.self.inside.letters.items
+has c = has_letter c.args.from c.args.to c.args.item (total c.args.spans.now) c.self.inside.letters.items c.self.inside.cells.items (carries c)
 
-has_at_end : (c : goal.After-self-2-1) → index_of c.args.from c.args.to c.self.inside.letters.items < length c.self.inside.letters.items
-has_at_end c =
-    let carries = subst (λ (b : Box). Carries c.args.item c.args.from c.args.to (total c.args.spans.now) b) (sym c.self.view_is) c.requires.oldest in
-    has_letter c.args.from c.args.to c.args.item (total c.args.spans.now) c.self.inside.letters.items c.self.inside.cells.items carries
+whole : (c : After-deref-5) → total c.args.spans.now ≡ (found c.args.from c.args.to c.self.inside.letters.items).count
+whole c = whole_message c.args.from c.args.to c.args.item (total c.args.spans.now) c.self.inside.filled c.self.inside.letters.items c.self.inside.cells.items (carries c) c.self.invariant.0 c.self.invariant.1
 
-pub remove-requires : goal.remove-requires
-remove-requires c =
-    let carries = subst (λ (b : Box). Carries c.args.item c.args.from c.args.to (total c.args.spans.now) b) (sym c.self.view_is) c.requires.oldest in
-    let has = has_letter c.args.from c.args.to c.args.item (total c.args.spans.now) c.self.inside.letters.items c.self.inside.cells.items carries in
-    let index : c.place_of-index.result.0 ≡ index_of c.args.from c.args.to c.self.inside.letters.items = c.place_of-index.ensures.index ∙ ap (index_of c.args.from c.args.to) c.deref.ensures.value in
-    omega (arith, c.self.inside.letters.ok.0)
+pub find-index-requires-clause-has : goal.find-index-requires-clause-has
+find-index-requires-clause-has c = subst (λ ls. index_of c.args.from c.args.to ls < length ls) (sym c.deref-5.ensures.value) (has (goal.at.find-index-requires-clause-has c).After-deref-5)
 
-index_is : (c : goal.After-self-2-1) → c.place_of-index.result.0 ≡ index_of c.args.from c.args.to c.self.inside.letters.items
-index_is c = c.place_of-index.ensures.index ∙ ap (index_of c.args.from c.args.to) c.deref.ensures.value
+-- what the call of `read` is given
+index_is : (c : After-read-count) → c.find-index.result ≡ index_of c.args.from c.args.to c.self.inside.letters.items
+index_is c = c.find-index.ensures ∙ ap (index_of c.args.from c.args.to) c.deref-5.ensures.value
 
-at_is : (c : goal.After-self-2-1) → c.place_of-index.result.1 ≡ offset_of c.args.from c.args.to c.self.inside.letters.items
-at_is c = c.place_of-index.ensures.offset ∙ ap (offset_of c.args.from c.args.to) c.deref.ensures.value
+pub read-count-requires-clause-index : goal.read-count-requires-clause-index
+read-count-requires-clause-index c =
+    let e : c.find-index.result ≡ index_of c.args.from c.args.to c.self.inside.letters.items = c.find-index.ensures ∙ ap (index_of c.args.from c.args.to) c.deref-5.ensures.value in
+    let n : length c.deref_mut-2.result.now ≡ length c.self.inside.letters.items = ap length c.deref_mut-2.ensures.value in
+    omega (arith, has (goal.at.read-count-requires-clause-index c).After-deref-5)
 
-count_is : (c : goal.After-self-2-1) → c.place_of-index.result.2 ≡ (found c.args.from c.args.to c.self.inside.letters.items).count
-count_is c = c.place_of-index.ensures.count ∙ ap (λ l. (found c.args.from c.args.to l).count) c.deref.ensures.value
+pub read-count-requires-clause-part : goal.read-count-requires-clause-part
+read-count-requires-clause-part c =
+    let e : c.find-index.result ≡ index_of c.args.from c.args.to c.self.inside.letters.items = c.find-index.ensures ∙ ap (index_of c.args.from c.args.to) c.deref-5.ensures.value in
+    let h = has (goal.at.read-count-requires-clause-part c).After-deref-5 in
+    let n : length c.deref-6.result.now ≡ length c.self.inside.cells.items = ap length c.deref-6.ensures.value in
+    let inside : (get_or c.self.inside.letters.items c.find-index.result no_letter).at + (get_or c.self.inside.letters.items c.find-index.result no_letter).count ≤ c.self.inside.filled =
+    order_at 0 c.self.inside.filled c.find-index.result c.self.inside.letters.items c.self.invariant.0 (omega arith) in
+    let same : (get_or c.deref_mut-2.result.now c.find-index.result no_letter).at + (get_or c.deref_mut-2.result.now c.find-index.result no_letter).count
+    ≡ (get_or c.self.inside.letters.items c.find-index.result no_letter).at + (get_or c.self.inside.letters.items c.find-index.result no_letter).count =
+    ap (λ ls. (get_or ls c.find-index.result no_letter).at + (get_or ls c.find-index.result no_letter).count) c.deref_mut-2.ensures.value in
+    omega (arith, c.self.invariant.1)
 
-front : (c : goal.After-self-2-1) → List Letter
-front c = take (index_of c.args.from c.args.to c.self.inside.letters.items) c.self.inside.letters.items
+pub read-count-requires-clause-room : goal.read-count-requires-clause-room
+read-count-requires-clause-room c =
+    let e : c.find-index.result ≡ index_of c.args.from c.args.to c.self.inside.letters.items = c.find-index.ensures ∙ ap (index_of c.args.from c.args.to) c.deref-5.ensures.value in
+    let same : (get_or c.deref_mut-2.result.now c.find-index.result no_letter).count ≡ (found c.args.from c.args.to c.self.inside.letters.items).count =
+    ap₂ (λ ls i. (get_or ls i no_letter).count) c.deref_mut-2.ensures.value e in
+    omega (arith, whole (goal.at.read-count-requires-clause-room c).After-deref-5)
 
-back : (c : goal.After-self-2-1) → List Letter
-back c = drop (suc (index_of c.args.from c.args.to c.self.inside.letters.items)) c.self.inside.letters.items
+-- what it answers
+letter_is : (c : After-read-count) → get_or c.deref_mut-2.result.now c.find-index.result no_letter ≡ found c.args.from c.args.to c.self.inside.letters.items
+letter_is c = ap₂ (λ ls i. get_or ls i no_letter) c.deref_mut-2.ensures.value (index_is c)
 
-letters_are : (c : goal.After-self-2-1) → c.remove.new.self.items ≡ front c ++ back c
-unfolding front back
-letters_are c = c.remove.ensures.items ∙ ap (λ i. take i c.self.inside.letters.items ++ drop (suc i) c.self.inside.letters.items) (index_is c)
+count_is : (c : After-read-count) → c.read-count.result ≡ (found c.args.from c.args.to c.self.inside.letters.items).count
+count_is c = c.read-count.ensures.count ∙ ap (λ (l : Letter). l.count) (letter_is c)
 
-front_is : (c : goal.After-self-2-1) → cells_of (front c) ≡ c.place_of-index.result.1
-unfolding front
-front_is c = (offset_is c.args.from c.args.to c.self.inside.letters.items (has_at_end c)).0 ∙ sym (at_is c)
+letters_are : (c : After-read-count) → (with_items c.self.inside.letters c.read-count.new.letters).items
+    ≡ set c.self.inside.letters.items (index_of c.args.from c.args.to c.self.inside.letters.items) (read_of (found c.args.from c.args.to c.self.inside.letters.items))
+letters_are c =
+    refilled c.self.inside.letters c.read-count.new.letters (c.read-count.auto.letters ∙ ap length c.deref_mut-2.ensures.value)
+    ∙ c.read-count.ensures.letters
+    ∙ ap₂ (λ ls l. set ls c.find-index.result (read_of l)) c.deref_mut-2.ensures.value (letter_is c)
+    ∙ ap (λ i. set c.self.inside.letters.items i (read_of (found c.args.from c.args.to c.self.inside.letters.items))) (index_is c)
 
-back_is : (c : goal.After-self-2-1) → c.place_of-index.result.1 + c.place_of-index.result.2 + cells_of (back c) ≡ c.self.inside.filled
-unfolding back
-back_is c =
-    let o = (offset_is c.args.from c.args.to c.self.inside.letters.items (has_at_end c)).1 in
-    omega (arith, at_is c, count_is c, c.self.invariant.0)
+fewer : (c : After-read-count) → index_of c.args.from c.args.to c.self.inside.letters.items < length c.self.inside.letters.items → unread_cells (set c.self.inside.letters.items (index_of c.args.from c.args.to c.self.inside.letters.items) (read_of (found c.args.from c.args.to c.self.inside.letters.items))) + c.read-count.result ≡ c.self.inside.unread
+fewer c h = (let e = unread_read c.args.from c.args.to c.self.inside.letters.items h in omega (arith, count_is c, c.self.invariant.2))
 
-kept : (c : goal.After-self-2-1) → length c.pull.new.cells ≡ length c.self.inside.cells.items
-kept c = c.pull.auto.cells ∙ ap length c.deref_mut.ensures.value
+pub overflow_sub-self : goal.overflow_sub-self
+overflow_sub-self c = omega (arith, fewer (goal.at.overflow_sub-self c).After-read-count (has (goal.at.overflow_sub-self c).After-deref-5))
 
-cells_are : (c : goal.After-self-2-1) → (with_items c.self.inside.cells c.pull.new.cells).items ≡ c.pull.new.cells
-cells_are c = refilled c.self.inside.cells c.pull.new.cells (kept c)
+pub overflow_add-self : goal.overflow_add-self
+overflow_add-self c = (let e = fewer (goal.at.overflow_add-self c).After-read-count (has (goal.at.overflow_add-self c).After-deref-5) in let inv = c.self.invariant in let n = c.self.inside.cells.ok.0 in search rules)
 
-positive : (c : goal.After-self-2-1) → Positive (front c ++ back c)
-unfolding front back
-positive c = positive_append (front c) (back c) (positive_take (index_of c.args.from c.args.to c.self.inside.letters.items) c.self.inside.letters.items c.self.invariant.4) (positive_drop (suc (index_of c.args.from c.args.to c.self.inside.letters.items)) c.self.inside.letters.items c.self.invariant.4)
+-- the queues, with the letter read
+queues_are : (c : After-read-count) → (with_items c.self.inside.queues c.pass_read.new.queues).items ≡ c.pass_read.new.queues
+queues_are c = refilled c.self.inside.queues c.pass_read.new.queues (c.pass_read.auto.queues ∙ ap length c.deref_mut.ensures.value)
+
+queued : (c : After-read-count) → index_of c.args.from c.args.to c.self.inside.letters.items < length c.self.inside.letters.items
+    → Queued (with_items c.self.inside.queues c.pass_read.new.queues).items c.self.inside.next.items (with_items c.self.inside.letters c.read-count.new.letters).items (length (with_items c.self.inside.letters c.read-count.new.letters).items)
+queued c h =
+    let i = index_of c.args.from c.args.to c.self.inside.letters.items in
+    let ls = c.self.inside.letters.items in
+    let passed : Queued c.pass_read.new.queues c.self.inside.next.items c.self.inside.letters.items (length c.self.inside.letters.items) =
+    same_queues c.pass_read.new.queues c.pass_read.new.queues c.deref.result.now c.self.inside.next.items c.deref-2.result.now c.self.inside.letters.items (length c.deref-2.result.now) (length c.self.inside.letters.items)
+    refl c.deref.ensures.value c.deref-2.ensures.value (ap length c.deref-2.ensures.value) c.pass_read.ensures in
+    let marked : List Letter = set c.self.inside.letters.items (index_of c.args.from c.args.to c.self.inside.letters.items) (read_of (found c.args.from c.args.to c.self.inside.letters.items)) in
+    let read : Queued c.pass_read.new.queues c.self.inside.next.items (set c.self.inside.letters.items (index_of c.args.from c.args.to c.self.inside.letters.items) (read_of (found c.args.from c.args.to c.self.inside.letters.items))) (length c.self.inside.letters.items) =
+    alike c.pass_read.new.queues c.self.inside.letters.items (set c.self.inside.letters.items (index_of c.args.from c.args.to c.self.inside.letters.items) (read_of (found c.args.from c.args.to c.self.inside.letters.items))) c.self.inside.next.items c.self.inside.next.items (length c.self.inside.letters.items)
+    (read_alike (length c.pass_read.new.queues) (index_of c.args.from c.args.to c.self.inside.letters.items) (length c.self.inside.letters.items) c.self.inside.letters.items c.self.inside.next.items h) passed in
+    let long : length c.self.inside.letters.items ≡ length (with_items c.self.inside.letters c.read-count.new.letters).items =
+    sym (ap length (letters_are c) ∙ length-set c.self.inside.letters.items (index_of c.args.from c.args.to c.self.inside.letters.items) (read_of (found c.args.from c.args.to c.self.inside.letters.items))) in
+    same_queues c.pass_read.new.queues (with_items c.self.inside.queues c.pass_read.new.queues).items c.self.inside.next.items c.self.inside.next.items
+    (set c.self.inside.letters.items (index_of c.args.from c.args.to c.self.inside.letters.items) (read_of (found c.args.from c.args.to c.self.inside.letters.items))) (with_items c.self.inside.letters c.read-count.new.letters).items
+    (length c.self.inside.letters.items) (length (with_items c.self.inside.letters c.read-count.new.letters).items) (sym (queues_are c)) refl (sym (letters_are c)) long read
 
 pub invariant_of-self : goal.invariant_of-self
 invariant_of-self c =
-    let k : length (with_items c.self.inside.cells c.pull.new.cells).items ≡ length c.self.inside.cells.items = ap length (cells_are c) ∙ kept c in
-    let n : cells_of c.remove.new.self.items ≡ cells_of (front c) + cells_of (back c) = ap cells_of (letters_are c) ∙ cells_append (front c) (back c) in
+    let d = (goal.at.invariant_of-self c).After-read-count in
     let inv = c.self.invariant in
-    let a = front_is c in
-    let b = back_is c in
-    let p : Positive c.remove.new.self.items = subst Positive (sym (letters_are c)) (positive c) in
-    let m = at_least c.remove.new.self.items p in
-    let z : c.self.inside.filled - c.place_of-index.result.2 ≡ cells_of c.remove.new.self.items = omega arith in
-    (z, omega (arith, inv.1), omega (arith, c.remove.new.self.ok.0), omega (arith, inv.3, c.remove.ensures.capacity), p)
-
-posts_are : (c : goal.After-self-2-1) → posts_in c.remove.new.self.items (with_items c.self.inside.cells c.pull.new.cells).items ≡ without_first c.args.from c.args.to (posts_in c.self.inside.letters.items c.self.inside.cells.items)
-unfolding front back
-posts_are c =
-    let ls = c.self.inside.letters.items in
-    let new = c.pull.new.cells in
-    let off = offset_of c.args.from c.args.to c.self.inside.letters.items in
-    let l = found c.args.from c.args.to c.self.inside.letters.items in
-    let before : take (cells_of (front c)) c.pull.new.cells ≡ take (cells_of (front c)) c.self.inside.cells.items =
-    subst (λ n. take n c.pull.new.cells ≡ take n c.self.inside.cells.items) (sym (front_is c)) (c.pull.ensures.before ∙ ap (take c.place_of-index.result.1) c.deref_mut.ensures.value) in
-    let rest : c.self.inside.filled - c.place_of-index.result.1 - c.place_of-index.result.2 ≡ cells_of (back c) = (let b = back_is c in omega arith) in
-    let after : take (cells_of (back c)) (drop (offset_of c.args.from c.args.to c.self.inside.letters.items) c.pull.new.cells) ≡ take (cells_of (back c)) (drop (offset_of c.args.from c.args.to c.self.inside.letters.items + (found c.args.from c.args.to c.self.inside.letters.items).count) c.self.inside.cells.items) =
-    ap₂ (λ n m. take n (drop m c.pull.new.cells)) (sym rest) (sym (at_is c))
-    ∙ c.pull.ensures.after
-    ∙ ap₂ (λ n m. take n (drop m c.deref_mut.result.now)) rest (ap₂ ◌+◌ (at_is c) (count_is c))
-    ∙ ap (λ xs. take (cells_of (back c)) (drop (offset_of c.args.from c.args.to c.self.inside.letters.items + (found c.args.from c.args.to c.self.inside.letters.items).count) xs)) c.deref_mut.ensures.value in
-    ap₂ posts_in (letters_are c) (cells_are c)
-    ∙ posts_append (front c) (back c) c.pull.new.cells
-    ∙ ap₂ ◌++◌ (posts_front (front c) c.pull.new.cells c.self.inside.cells.items before)
-    (ap (λ m. posts_in (back c) (drop m c.pull.new.cells)) (front_is c ∙ at_is c)
-    ∙ posts_front (back c) (drop (offset_of c.args.from c.args.to c.self.inside.letters.items) c.pull.new.cells) (drop (offset_of c.args.from c.args.to c.self.inside.letters.items + (found c.args.from c.args.to c.self.inside.letters.items).count) c.self.inside.cells.items) after)
-    ∙ sym (rest_found c.args.from c.args.to c.self.inside.letters.items c.self.inside.cells.items (has_at_end c))
+    let same : length (with_items c.self.inside.queues c.pass_read.new.queues).items ≡ length c.self.inside.queues.items = ap length (queues_are d) ∙ c.pass_read.auto.queues ∙ ap length c.deref_mut.ensures.value in
+    let some_queue : 0 < length (with_items c.self.inside.queues c.pass_read.new.queues).items = omega (arith, inv.7) in
+    let less : unread_cells (with_items c.self.inside.letters c.read-count.new.letters).items + c.read-count.result ≡ c.self.inside.unread = ap (λ ls. unread_cells ls + c.read-count.result) (letters_are d) ∙ fewer d (has (goal.at.invariant_of-self c).After-deref-5) in (
+      subst (InOrder 0 c.self.inside.filled) (sym (letters_are d)) (order_read 0 c.self.inside.filled (index_of c.args.from c.args.to c.self.inside.letters.items) c.self.inside.letters.items inv.0),
+      inv.1,
+      omega arith,
+      omega (arith, inv.3),
+      inv.4,
+      inv.5,
+      inv.6 ∙ sym (ap length (letters_are d) ∙ length-set c.self.inside.letters.items (index_of c.args.from c.args.to c.self.inside.letters.items) (read_of (found c.args.from c.args.to c.self.inside.letters.items))),
+      some_queue,
+      queued d (has (goal.at.invariant_of-self c).After-deref-5),
+    )
 
 pub returns-clause-mail : goal.returns-clause-mail
 returns-clause-mail c =
-    let k : length (with_items c.self.inside.cells c.pull.new.cells).items ≡ length c.self.inside.cells.items = ap length (cells_are c) ∙ kept c in
-    let carries = subst (λ (b : Box). Carries c.args.item c.args.from c.args.to (total c.args.spans.now) b) (sym c.self.view_is) c.requires.oldest in
-    let inv = c.self.invariant in
-    let whole : total c.args.spans.now ≡ (found c.args.from c.args.to c.self.inside.letters.items).count = whole_message c.args.from c.args.to c.args.item (total c.args.spans.now) c.self.inside.letters.items c.self.inside.cells.items carries (omega (arith, inv.0, inv.1)) in
-    let b = back_is c in
-    let left : length (with_items c.self.inside.cells c.pull.new.cells).items - (c.self.inside.filled - c.place_of-index.result.2) ≡ (length c.self.inside.cells.items - c.self.inside.filled) + total c.args.spans.now = omega (arith, inv.1, count_is c) in
-    subst (λ (b : Box). of_parts (posts_in c.remove.new.self.items (with_items c.self.inside.cells c.pull.new.cells).items) (length (with_items c.self.inside.cells c.pull.new.cells).items - (c.self.inside.filled - c.place_of-index.result.2)) ≡ received c.args.from c.args.to (total c.args.spans.now) b) c.self.view_is
-    (ap₂ of_parts (posts_are c) left)
+    let d = (goal.at.returns-clause-mail c).After-read-count in
+    let posts : posts_in (with_items c.self.inside.letters c.read-count.new.letters).items c.self.inside.cells.items ≡ without_first c.args.from c.args.to (posts_in c.self.inside.letters.items c.self.inside.cells.items) =
+    ap (λ ls. posts_in ls c.self.inside.cells.items) (letters_are d) ∙ rest_read c.args.from c.args.to c.self.inside.letters.items c.self.inside.cells.items (has (goal.at.returns-clause-mail c).After-deref-5) in
+    let left : c.self.inside.left + c.read-count.result ≡ c.self.inside.left + total c.args.spans.now = omega (arith, count_is d, whole (goal.at.returns-clause-mail c).After-deref-5) in
+    subst (λ (b : Box). of_parts (posts_in (with_items c.self.inside.letters c.read-count.new.letters).items c.self.inside.cells.items) (c.self.inside.left + c.read-count.result) ≡ received c.args.from c.args.to (total c.args.spans.now) b) c.self.view_is
+    (ap₂ of_parts posts left)
 
 pub returns-clause-memory : goal.returns-clause-memory
 returns-clause-memory c =
-    c.pull.ensures.memory
-    ∙ ap (λ xs. scattered 0 (take c.place_of-index.result.2 (drop c.place_of-index.result.1 xs)) c.args.spans.now c.args.memory.now) c.deref_mut.ensures.value
-    ∙ ap₂ (λ n m. scattered 0 (take n (drop m c.self.inside.cells.items)) c.args.spans.now c.args.memory.now) (count_is c) (at_is c)
-    ∙ ap (λ o. arrived c.args.spans.now o c.args.memory.now) (sym (first_found c.args.from c.args.to c.self.inside.letters.items c.self.inside.cells.items (has_at_end c)))
+    let d = (goal.at.returns-clause-memory c).After-read-count in
+    c.read-count.ensures.memory
+    ∙ ap₂ (λ (l : Letter) cs. scattered 0 (cells_at l.at l.count cs) c.args.spans.now c.args.memory.now) (letter_is d) c.deref-6.ensures.value
+    ∙ ap (λ o. arrived c.args.spans.now o c.args.memory.now) (sym (first_found c.args.from c.args.to c.self.inside.letters.items c.self.inside.cells.items (has (goal.at.returns-clause-memory c).After-deref-5)))
     ∙ ap (λ (b : Box). arrived c.args.spans.now (first_post c.args.from c.args.to b.posts) c.args.memory.now) c.self.view_is
