@@ -110,7 +110,7 @@ impl Machine {
     {
         let partials = units_of_ranks(alloc, &memories, slots)?;
         let frames = Frames::new(alloc, places, sizes.frames, sizes.stride)?;
-        let mail = Mail::new(alloc, sizes.mail)?;
+        let mail = Mail::new(alloc, memories.len(), sizes.mail)?;
         let output = Vec::new(alloc);
         let window = vec![in alloc; 0; sizes.stride]?;
         Ok(Machine {

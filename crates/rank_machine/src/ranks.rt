@@ -8,7 +8,7 @@ ghost use Rattle.rank_program.specs.FromNone.{kept_both};
 ghost use Rattle.rank_machine.specs.OnRanks.{CanRunOn, RanOn, share_in, lent, kept_of_all, RanLent};
 
 use par_exec::{Crew, Gate, PartJob, run_parts};
-use rank_program::{DistributedProgram, Room, run_places};
+use rank_program::{DistributedProgram, RankElements, Room, run_places};
 use rank_state::rank_memory::stop::Stop;
 use std::marker::Sync;
 use std::mem::swap;
@@ -51,13 +51,16 @@ impl<'a, 'b> PartJob<RankPart> for Round<'a, 'b> {
             threads,
             count: workers,
         };
+        let elements = RankElements {
+            program: self.program,
+            item: self.item,
+            rank: index as u32,
+            places,
+            variables: self.variables,
+        };
         part.fault = run_places(
             &how,
-            self.program,
-            self.item,
-            index as u32,
-            places,
-            self.variables,
+            &elements,
             &mut part.memory,
             &mut part.partials,
             None,

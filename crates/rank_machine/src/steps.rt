@@ -101,7 +101,7 @@ pub fn begin(
         element,
         &windows,
         &room.constants,
-        &mut room.locals,
+        &mut room.kernels.locals,
     );
 }
 

@@ -26,6 +26,8 @@ use Rattle.rank_program.specs.Batches.{Counts, reduces, GoesOn}
 use Rattle.rank_program.specs.Keeping.{KeepsIn}
 use Rattle.rank_program.specs.LocalArgs.{places_in}
 use Rattle.rank_program.specs.LocalLoops.{IsLocalLoop, VariablesStand}
+use Rattle.rank_program.specs.LocalRuns.{IsLent, StaysLent}
+use Rattle.rank_program.specs.declared.share.RankShare.{RankShare}
 use Rattle.rank_program.specs.Sound.{Sound, setup_in, layout_in, tables_in}
 use Rattle.rank_layout.specs.StepLaws.{StepsStand}
 use Rattle.rank_layout.specs.WindowLaws.{ArgsAreHere, ArgsHaveCells, ElementWindowsStand}
@@ -154,13 +156,29 @@ module _ (l : LocalLoop) (sound : Sound l.program.now) (is : IsLocalLoop l) (sta
 
 -- ---- stretches of places
 
-module _ (l : LocalLoop) (places : List ℕ) where
+module _ (l : LocalLoop) where
   -- no place
-  pub goes_nowhere : (at : ℕ) (s : Share KernelFault) → GoesOn l places at (at + 0) s s
+  pub goes_nowhere : (at : ℕ) (s : Share KernelFault) → GoesOn l at (at + 0) s s
   goes_nowhere at s start h =
       let none : at ≡ at + 0 = omega arith in
-      subst (λ n. Reaches (setup_in l.program.now) (layout_in l.program.now) (tables_in l.program.now) l.item l.rank l.constants.now l.variables.now places start n s) none h
+      subst (λ n. Reaches (setup_in l.program.now) (layout_in l.program.now) (tables_in l.program.now) l.item l.rank l.constants.now l.variables.now l.places.now start n s) none h
 
   -- one stretch and the next
-  pub goes_further : (from to end : ℕ) (old between new : Share KernelFault) → GoesOn l places from to old between → GoesOn l places to end between new → GoesOn l places from end old new
+  pub goes_further : (from to end : ℕ) (old between new : Share KernelFault) → GoesOn l from to old between → GoesOn l to end between new → GoesOn l from end old new
   goes_further from to end old between new first second start h = second start (first start h)
+
+-- ---- what is lent
+
+pub stays_lent : (old between new : RankShare) → StaysLent old between → StaysLent between new → StaysLent old new
+stays_lent old between new first second = record {
+  memory = second.memory ∙ first.memory;
+  partials = second.partials ∙ first.partials;
+  cells = second.cells ∙ first.cells;
+  slots = second.slots ∙ first.slots;
+}
+
+pub still_lent : (l : LocalLoop) (old new : RankShare) → StaysLent old new → IsLent l old → IsLent l new
+still_lent l old new stays lent = record {
+  memory = stays.cells ∙ lent.memory;
+  partials = stays.slots ∙ lent.partials;
+}

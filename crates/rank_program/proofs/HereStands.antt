@@ -2,7 +2,7 @@
 use Rattle.std.proofs.Common.{◌≡◌, ◌<◌, ◌≤◌, ◌+◌, ℕ, zero, suc, Bool, true, false, not, List, [], ◌∷◌, ◌++◌, All, map, length, get_or, refl, sym, ap, ◌∙◌, subst, ⊎_elim, arith}
 use Rattle.std.specs.Prelude.{nat_eq}
 use Rattle.std.specs.List.{list_all}
-use Rattle.std.proofs.lemmas.Bool.{cases_lt, false≢true, lt-ltb, le-ltb, eq-eqb, or_cases, not-false, not_from_true}
+use Rattle.std.proofs.lemmas.Bool.{cases_lt, false≢true, eq-eqb, or_cases, not-false, not_from_true}
 use Rattle.std.proofs.lemmas.List.{get_or-map, get_or_past, get_or_append_left, get_or-append-add, length-map, length-append}
 use Rattle.op_num.specs.Access.{OpRead, access_of}
 use Rattle.op_num.specs.declared.reductions.access.Access.{Access as Code}

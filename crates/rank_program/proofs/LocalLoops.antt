@@ -22,6 +22,7 @@ use Rattle.rank_state.specs.Windows.{Reads, Merges}
 use Rattle.rank_layout.specs.Made.{row_of, writes_by}
 use Rattle.rank_program.specs.declared.program.DistributedProgram.{DistributedProgram}
 use Rattle.rank_program.specs.declared.local_loops.LocalLoop.{LocalLoop}
+use Rattle.rank_program.specs.declared.rank_elements.RankElements.{RankElements}
 use Rattle.rank_program.specs.Here.{scalars_in}
 use Rattle.rank_program.specs.LocalLoops.{IsLoopOf}
 use Rattle.rank_program.specs.Sound.{Sound, program_in, plan_in, setup_in, layout_in, tables_in}
@@ -100,20 +101,24 @@ module _ (c : DistributedProgram) (sound : Sound c) (stand : StepsStand) (k r x 
       pub resolved_in : AreNumbered b → (n : ℕ) → n ≡ length (constants b) → IsResolved n kernel_read
       resolved_in numbered n long = resolved b sound.planned.fits site fits kernel_read kernel_same numbered n long
 
--- what holds of a loop holds of the program, item, rank and values that it is of
-module _ (c : DistributedProgram) (k r : ℕ) (cs vs : List ℤ) (l : LocalLoop) (of : IsLoopOf c k r cs vs l) (P : DistributedProgram → (k r : ℕ) → (cs vs : List ℤ) → Type 0) where
-  pub of_loop : P l.program.now l.item l.rank l.constants.now l.variables.now → P c k r cs vs
+-- what holds of a loop holds of the elements and values that it is of
+module _ (e : RankElements) (cs : List ℤ) (l : LocalLoop) (of : IsLoopOf e cs l) (P : DistributedProgram → (k r : ℕ) → (xs : List ℕ) → (cs vs : List ℤ) → Type 0) where
+  pub of_loop : P l.program.now l.item l.rank l.places.now l.constants.now l.variables.now
+      → P e.program.now e.item e.rank e.places.now cs e.variables.now
   of_loop h =
-      subst (λ ws. P c k r cs ws) of.variables
-      (subst (λ ds. P c k r ds l.variables.now) of.constants
-      (subst (λ q. P c k q l.constants.now l.variables.now) of.rank
-      (subst (λ j. P c j l.rank l.constants.now l.variables.now) of.item
-      (subst (λ d. P d l.item l.rank l.constants.now l.variables.now) of.program h))))
+      subst (λ ws. P e.program.now e.item e.rank e.places.now cs ws) of.variables
+      (subst (λ ds. P e.program.now e.item e.rank e.places.now ds l.variables.now) of.constants
+      (subst (λ ys. P e.program.now e.item e.rank ys l.constants.now l.variables.now) of.places
+      (subst (λ q. P e.program.now e.item q l.places.now l.constants.now l.variables.now) of.rank
+      (subst (λ j. P e.program.now j l.rank l.places.now l.constants.now l.variables.now) of.item
+      (subst (λ d. P d l.item l.rank l.places.now l.constants.now l.variables.now) of.program h)))))
 
-  pub to_loop : P c k r cs vs → P l.program.now l.item l.rank l.constants.now l.variables.now
+  pub to_loop : P e.program.now e.item e.rank e.places.now cs e.variables.now
+      → P l.program.now l.item l.rank l.places.now l.constants.now l.variables.now
   to_loop h =
-      subst (λ d. P d l.item l.rank l.constants.now l.variables.now) (sym of.program)
-      (subst (λ j. P c j l.rank l.constants.now l.variables.now) (sym of.item)
-      (subst (λ q. P c k q l.constants.now l.variables.now) (sym of.rank)
-      (subst (λ ds. P c k r ds l.variables.now) (sym of.constants)
-      (subst (λ ws. P c k r cs ws) (sym of.variables) h))))
+      subst (λ d. P d l.item l.rank l.places.now l.constants.now l.variables.now) (sym of.program)
+      (subst (λ j. P e.program.now j l.rank l.places.now l.constants.now l.variables.now) (sym of.item)
+      (subst (λ q. P e.program.now e.item q l.places.now l.constants.now l.variables.now) (sym of.rank)
+      (subst (λ ys. P e.program.now e.item e.rank ys l.constants.now l.variables.now) (sym of.places)
+      (subst (λ ds. P e.program.now e.item e.rank e.places.now ds l.variables.now) (sym of.constants)
+      (subst (λ ws. P e.program.now e.item e.rank e.places.now cs ws) (sym of.variables) h)))))

@@ -1,11 +1,10 @@
 -- Batches of a loop's elements on a rank: those that run in rows.
-use Rattle.std.specs.Prelude.{◌≡◌, ◌<◌, ◌≤◌, ◌+◌, ◌⊎◌, ◌||◌, ℕ, ℤ, Bool, true, false, List, [], ◌∷◌, length, slice_index, Option}
+use Rattle.std.specs.Prelude.{◌≡◌, ◌<◌, ◌≤◌, ◌+◌, ◌⊎◌, ◌||◌, ℕ, Bool, true, false, List, [], ◌∷◌, length, slice_index}
 use Rattle.kernel_types.specs.declared.faults.KernelFault.{KernelFault}
 use Rattle.kernel_types.specs.declared.views.frame.Place.{Place}
 use Rattle.kernel_types.specs.Framed.{PlacesIn}
 use Rattle.schedule_steps.specs.declared.step.Step.TheVariants.{Begin}
 use Rattle.schedule_steps.specs.Steps.{IsStep}
-use Rattle.schedule_model.specs.Sequential.{Stop}
 use Rattle.flat_machine.specs.Layout.{by_place}
 use Rattle.run_model.specs.Arguments.{modes_of}
 use Rattle.run_model.specs.Laws.{site_of}
@@ -16,8 +15,10 @@ use Rattle.row_batches.specs.RowLoops.{width, IsWhole, LeadsFrom, RunsInRows}
 use Rattle.rank_program.specs.AloneRuns.{Share, Reaches}
 use Rattle.rank_program.specs.Rooms.{most_ways, most_columns}
 use Rattle.rank_program.specs.declared.local_loops.LocalLoop.{LocalLoop}
+use Rattle.rank_program.specs.declared.row_loops.LoopInRows.{LoopInRows}
 use Rattle.rank_program.specs.LocalArgs.{places_in}
 use Rattle.rank_program.specs.LocalLoops.{VariablesStand}
+use Rattle.rank_program.specs.LocalRuns.{CanRunHere, AllBeginHere}
 use Rattle.rank_program.specs.Sound.{program_in, setup_in, layout_in, tables_in}
 
 -- the loop reduces into the scalar
@@ -39,21 +40,14 @@ module _ (l : LocalLoop) where
   abbrev pub BeginsAt : ℕ → Type 0
   BeginsAt x = IsStep (by_place (setup_in l.program.now) (layout_in l.program.now)) (Begin l.item l.rank x)
 
-  -- the elements at the places from one on and before another run one after another
-  abbrev pub GoesOn : (places : List ℕ) → (from to : ℕ) → (old new : Share KernelFault) → Type 0
-  GoesOn places from to old new =
+  -- its elements at the places from one on and before another run one after another
+  abbrev pub GoesOn : (from to : ℕ) → (old new : Share KernelFault) → Type 0
+  GoesOn from to old new =
       (start : Share KernelFault)
       → Reaches (setup_in l.program.now) (layout_in l.program.now) (tables_in l.program.now) l.item l.rank
-      l.constants.now l.variables.now places start from old
+      l.constants.now l.variables.now l.places.now start from old
       → Reaches (setup_in l.program.now) (layout_in l.program.now) (tables_in l.program.now) l.item l.rank
-      l.constants.now l.variables.now places start to new
-
-  -- the same, with no fault
-  abbrev pub GoesCleanly : (places : List ℕ) → (from to : ℕ) → (old new partials merged : List ℤ) → Type 0
-  GoesCleanly places from to old new partials merged =
-      (kept : Option (Stop KernelFault))
-      → GoesOn places from to (record { cells = old; partials = partials; fault = kept })
-      (record { cells = new; partials = merged; fault = kept })
+      l.constants.now l.variables.now l.places.now start to new
 
   -- it is this loop, whose elements run in rows where they begin
   pub record IsRowLoop (y : RowLoop) : Type 0 where
@@ -73,3 +67,9 @@ module _ (l : LocalLoop) where
         → ((r : ℕ) → r < rows → BeginsAt (slice_index batch r))
         → RunsInRows y l.part.now.cells (modes_of (program_in l.program.now) (site_of (program_in l.program.now) l.item))
         (λ x. places_in x l.args.now stand) batch rows
+
+-- its elements can run on the rank's own cells, and in rows
+pub record CanRunInRows (y : LoopInRows) : Type 0 where
+  pub can : CanRunHere y.local.now
+  pub rows : IsRowLoop y.local.now y.rows
+  pub steps : AllBeginHere y.local.now

@@ -13,3 +13,4 @@ pub mod AloneRuns
 pub mod FromNone
 pub mod Jobs
 pub mod Batches
+pub mod LocalRuns

@@ -15,8 +15,8 @@ use Rattle.run_model.specs.Laws.{site_of}
 use Rattle.bound_plan.specs.Variables.{variable_at}
 use Rattle.rank_state.specs.Windows.{scalar_cells, Reads, Merges}
 use Rattle.rank_layout.specs.Made.{writes_by}
-use Rattle.rank_program.specs.declared.program.DistributedProgram.{DistributedProgram}
 use Rattle.rank_program.specs.declared.local_loops.LocalLoop.{LocalLoop}
+use Rattle.rank_program.specs.declared.rank_elements.RankElements.{RankElements}
 use Rattle.rank_program.specs.Here.{scalars_in}
 use Rattle.rank_program.specs.LocalArgs.{AreArgs, places_in}
 use Rattle.rank_program.specs.Sound.{program_in, layout_in, tables_in}
@@ -31,13 +31,14 @@ StandsBehind b width vs p (Global v a) =
     × (k + p.count ≤ length vs)
     × ((j : ℕ) → j < p.count → get_or vs (k + j) no_cell ≡ Variable (record { variable = v; component = j }))
 
--- it is that of the item's loop on the rank, with these values of the constants and of the variables
-pub record IsLoopOf (c : DistributedProgram) (k r : ℕ) (cs vs : List ℤ) (l : LocalLoop) : Type 0 where
-  pub program : l.program.now ≡ c
-  pub item : l.item ≡ k
-  pub rank : l.rank ≡ r
+-- it is that of these elements, with these values of the constants
+pub record IsLoopOf (e : RankElements) (cs : List ℤ) (l : LocalLoop) : Type 0 where
+  pub program : l.program.now ≡ e.program.now
+  pub item : l.item ≡ e.item
+  pub rank : l.rank ≡ e.rank
+  pub places : l.places.now ≡ e.places.now
   pub constants : l.constants.now ≡ cs
-  pub variables : l.variables.now ≡ vs
+  pub variables : l.variables.now ≡ e.variables.now
 
 module _ (l : LocalLoop) where
   abbrev pub program_of : BoundValue

@@ -2,6 +2,7 @@
 use Rattle.std.specs.Prelude.{◌≡◌, ◌≤◌, ℕ, length, vec_capacity}
 use Rattle.row_batches.specs.RowLoops.{HasRowRoom}
 use Rattle.rank_program.specs.declared.program.DistributedProgram.{DistributedProgram}
+use Rattle.rank_program.specs.declared.room.KernelRoom.{KernelRoom}
 use Rattle.rank_program.specs.declared.room.Room.{Room}
 use Rattle.rank_program.specs.Sound.{tables_in}
 
@@ -17,13 +18,18 @@ most_ways = 16
 abbrev pub most_columns : ℕ
 most_columns = 128
 
--- for so many spans, for locals of so many cells, and for so many constants
-pub record HasRoom (spans locals constants : ℕ) (room : Room) : Type 0 where
-  pub spans_fit : spans ≤ vec_capacity room.spans
-  pub owned_fit : spans ≤ vec_capacity room.owned
+-- for kernels with locals of so many cells
+pub record HasKernelRoom (locals : ℕ) (room : KernelRoom) : Type 0 where
+  pub places_fit : most_ways ≤ vec_capacity room.places
   pub locals_fit : locals ≤ length room.locals.items
   pub saved_fits : most_saved ≤ length room.saved.items
   pub rows_fit : HasRowRoom most_ways most_columns most_columns room.rows
+
+-- for so many spans, for kernels with locals of so many cells, and for so many constants
+pub record HasRoom (spans locals constants : ℕ) (room : Room) : Type 0 where
+  pub spans_fit : spans ≤ vec_capacity room.spans
+  pub owned_fit : spans ≤ vec_capacity room.owned
+  pub kernels_fit : HasKernelRoom locals room.kernels
   pub constants_fit : length room.constants.items ≡ constants
 
 -- for each step of the program

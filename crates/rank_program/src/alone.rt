@@ -10,7 +10,7 @@ ghost use Rattle.rank_program.specs.Sound.{Sound, setup_in, layout_in, tables_in
 
 use crate::here::run_here;
 use crate::local_loops::local_loop;
-use crate::program::DistributedProgram;
+use crate::rank_elements::RankElements;
 use crate::room::Room;
 use rank_layout::MAX_ARGS;
 use rank_state::rank_memory::stop::Stop;
@@ -28,55 +28,40 @@ fn lengthen(memory: &mut Vec<i32>, count: usize)
     }
 }
 
-/// Runs the kernel of an item's loop for the elements at places of a rank, as one after another, on the cells of the rank's buffer
-/// `memory`, by as many workers as `how` says. While they run, the cells of the loop's scalars stand behind these, for which the buffer
-/// has capacity. Answers the fault to keep of `fault` and of theirs; an element that faults leaves the buffer and the partials as they
-/// were. Takes no memory.
+/// Runs the kernel of an item's loop for elements on a rank, as one after another, on the cells of the rank's buffer `memory`, by as many
+/// workers as `how` says. While they run, the cells of the loop's scalars stand behind these, for which the buffer has capacity. Answers
+/// the fault to keep of `fault` and of theirs; an element that faults leaves the buffer and the partials as they were. Takes no memory.
 pub fn run_places<H: AtOnce>(
     how: &H,
-    program: &DistributedProgram<'_>,
-    item: u32,
-    rank: u32,
-    places: &[u32],
-    variables: &[i32],
+    elements: &RankElements<'_>,
     memory: &mut Vec<i32>,
     partials: &mut [i32],
     fault: Option<Stop>,
     room: &mut Room,
 ) -> Option<Stop>
     requires ready { H.ready how.now }
-    requires sound { Sound program.now }
-    requires keeps { KeepsIn program.now item }
-    requires some { 0 < length places.now }
-    requires steps { AllBegin (setup_in program.now) (layout_in program.now) (tables_in program.now) item rank places.now }
-    requires variables { length variables.now ≡ (layout_in program.now).variables }
-    requires memory { length memory.old.items ≡ (layout_in program.now).width rank }
-    requires partials { length partials.old ≡ (tables_in program.now).slots }
-    requires spare { HasSpare (tables_in program.now).stride memory.old }
-    requires space { HasRoomOf program.now room.old }
-    ensures runs { Reaches (setup_in program.now) (layout_in program.now) (tables_in program.now) item rank
-        room.old.constants.items variables.now places.now
-        (record { cells = memory.old.items; partials = partials.old; fault = stop_in fault }) (length places.now)
+    requires sound { Sound elements.now.program.now }
+    requires keeps { KeepsIn elements.now.program.now elements.now.item }
+    requires some { 0 < length elements.now.places.now }
+    requires steps { AllBegin (setup_in elements.now.program.now) (layout_in elements.now.program.now) (tables_in elements.now.program.now)
+        elements.now.item elements.now.rank elements.now.places.now }
+    requires variables { length elements.now.variables.now ≡ (layout_in elements.now.program.now).variables }
+    requires memory { length memory.old.items ≡ (layout_in elements.now.program.now).width elements.now.rank }
+    requires partials { length partials.old ≡ (tables_in elements.now.program.now).slots }
+    requires spare { HasSpare (tables_in elements.now.program.now).stride memory.old }
+    requires space { HasRoomOf elements.now.program.now room.old }
+    ensures runs { Reaches (setup_in elements.now.program.now) (layout_in elements.now.program.now) (tables_in elements.now.program.now)
+        elements.now.item elements.now.rank room.old.constants.items elements.now.variables.now elements.now.places.now
+        (record { cells = memory.old.items; partials = partials.old; fault = stop_in fault }) (length elements.now.places.now)
         (record { cells = memory.new.items; partials = partials.new; fault = stop_in result }) }
-    ensures spare { HasSpare (tables_in program.now).stride memory.new }
-    ensures space { HasRoomOf program.now room.new }
+    ensures spare { HasSpare (tables_in elements.now.program.now).stride memory.new }
+    ensures space { HasRoomOf elements.now.program.now room.new }
 {
     let mut args = [None; MAX_ARGS];
-    let local = local_loop(program, item, rank, &room.constants, variables, &mut args);
+    let local = local_loop(elements, &room.constants, &mut args);
     let width = memory.len();
     lengthen(memory, local.scalars.len());
-    let kept = run_here(
-        how,
-        &local,
-        places,
-        memory,
-        partials,
-        fault,
-        &mut room.saved,
-        &mut room.locals,
-        &mut room.rows,
-        &mut room.batches,
-    );
+    let kept = run_here(how, &local, memory, partials, fault, &mut room.kernels);
     memory.truncate(width);
     kept
 }

@@ -1,9 +1,9 @@
 // Elements whose amounts count.
 
 ghost use Rattle.std.specs.Prelude.{◌≡◌, ◌<◌, ◌≤◌, ◌+◌, ◌==◌, ℕ, true, length, get_or};
-ghost use Rattle.rank_program.specs.AloneRuns.{AllBegin};
 ghost use Rattle.rank_program.specs.Batches.{Counts, reduces};
-ghost use Rattle.rank_program.specs.Sound.{Sound, setup_in, layout_in, tables_in};
+ghost use Rattle.rank_program.specs.LocalRuns.{AllBeginHere};
+ghost use Rattle.rank_program.specs.Sound.{Sound, setup_in, layout_in};
 
 use crate::begun::own_places;
 use crate::local_loops::LocalLoop;
@@ -34,22 +34,22 @@ fn all_below(places: &[u32], at: usize, count: usize, end: u32) -> bool
     most < end
 }
 
-/// Whether what the elements at the places of a batch leave of the loop's scalars counts: it reduces into none, or its rank owns the
-/// elements.
-pub fn all_count(local: &LocalLoop<'_>, places: &[u32], at: usize, count: usize) -> bool
+/// Whether what the elements of a loop at so many places from `at` on leave of its scalars counts: it reduces into none, or its rank owns
+/// the elements.
+pub fn all_count(local: &LocalLoop<'_>, at: usize, count: usize) -> bool
     requires sound { Sound local.now.program.now }
-    requires steps { AllBegin (setup_in local.now.program.now) (layout_in local.now.program.now) (tables_in local.now.program.now)
-        local.now.item local.now.rank places.now }
+    requires steps { AllBeginHere local.now }
     requires some { 0 < count }
-    requires fits { at + count ≤ length places.now }
+    requires fits { at + count ≤ length local.now.places.now }
     ensures { result ≡ true → (j : ℕ) → j < count → Counts
         ((setup_in local.now.program.now).owner ((setup_in local.now.program.now).program.set local.now.item)
-        ((layout_in local.now.program.now).original local.now.item local.now.rank (get_or places.now (at + j) 0)) == local.now.rank)
+        ((layout_in local.now.program.now).original local.now.item local.now.rank (get_or local.now.places.now (at + j) 0))
+        == local.now.rank)
         local.now.scalars.now }
 {
     if !reduces(local.scalars) {
         return true;
     }
     let end = own_places(local.program, local.item, local.rank);
-    all_below(places, at, count, end)
+    all_below(local.places, at, count, end)
 }

@@ -1,11 +1,8 @@
 // A kernel's run on an element's frame.
 
-ghost use Rattle.std.specs.Prelude.{◌≡◌, ◌<◌, ◌≤◌, [], ◌∷◌, length};
-ghost use Rattle.kernel_types.specs.Resolved.{IsResolved};
-ghost use Rattle.kernel_model.specs.Meaning.{kernel_meaning};
-ghost use Rattle.kernel_code.specs.Coded.{IsCode};
+ghost use Rattle.std.specs.Prelude.{◌≡◌, ◌<◌, ◌≤◌, length, map};
+ghost use Rattle.kernel_types.specs.Framed.{PlacesIn, target_of};
 ghost use Rattle.mesh_decl.specs.Mesh.{set_size};
-ghost use Rattle.run_model.specs.OnWindows.{core_of};
 ghost use Rattle.bound_program.specs.Values.{bound_of, site_of};
 ghost use Rattle.bound_program.specs.Fits.{SiteFits};
 ghost use Rattle.rank_state.specs.Core.{ran_of};
@@ -15,37 +12,21 @@ ghost use Rattle.rank_program.specs.Sound.{Takes, layout_in};
 use crate::items::loop_of;
 use crate::program::DistributedProgram;
 use bound_program::{Bound, Site};
-use kernel_code::{Code, run_on};
+use kernel_code::run_on;
 use kernel_types::KernelFault;
 use kernel_types::views::Place;
 use rank_layout::{MAX_ARGS, put_windows};
 
-// Runs a loop's kernel for an element on the windows of its frame, with the values of all constants. An error is the first fault
-// of the run.
-fn run_framed(
-    bound: &Bound,
-    site: &Site,
-    code: &Code<'_>,
-    element: u32,
-    constants: &[i32],
-    windows: &mut [i32],
-    scratch: &mut [i32],
-) -> Result<(), KernelFault>
+// Puts down where the windows of a loop's arguments stand in an element's frame.
+fn put_frame(bound: &Bound, site: &Site, element: u32, places: &mut [Place])
     requires site { SiteFits (bound_of bound.now) (site_of site.now) }
     requires element { element < set_size bound.now.mesh site.now.set }
-    requires code { IsCode code.now }
-    requires params { length site.now.args.items ≡ code.now.kernel.now.params }
-    requires resolved { IsResolved (length constants.now) code.now.kernel.now }
-    requires windows { length windows.old ≡ length (frame_cells (bound_of bound.now) site.now.args.items element) }
-    requires scratch { code.now.slots ≤ length scratch.old }
-    ensures { ran_of windows.new result
-        ≡ core_of (kernel_meaning (frame_windows (bound_of bound.now) site.now.args.items element) constants.now code.now.kernel.now
-        (windows.old ∷ [])) }
+    requires count { length places.old ≡ length site.now.args.items }
+    ensures count { length places.new ≡ length site.now.args.items }
+    ensures windows { map target_of places.new ≡ frame_windows (bound_of bound.now) site.now.args.items element }
+    ensures within { PlacesIn (length (frame_cells (bound_of bound.now) site.now.args.items element)) places.new }
 {
-    let mut room = [Place { from: 0, count: 0 }; MAX_ARGS];
-    let places = &mut room[..site.args.len()];
     let _cells = put_windows(bound, &site.args, element, places);
-    run_on(code, windows, places, constants, scratch)
 }
 
 /// Runs the kernel of the loop that is the item for an element, with the values of all constants, on the cells of its windows, one
@@ -70,13 +51,8 @@ pub fn run_kernel(
     let number = loop_of(program.bound, item) as usize;
     let site = &program.bound.sites[number];
     let code = &program.codes[site.kernel as usize];
-    run_framed(
-        program.bound,
-        site,
-        code,
-        element,
-        constants,
-        windows,
-        scratch,
-    )
+    let mut room = [Place { from: 0, count: 0 }; MAX_ARGS];
+    let places = &mut room[..site.args.len()];
+    put_frame(program.bound, site, element, places);
+    run_on(code, windows, places, constants, scratch)
 }

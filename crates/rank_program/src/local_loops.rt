@@ -10,18 +10,21 @@ ghost use Rattle.rank_program.specs.Sound.{Sound, setup_in, layout_in, tables_in
 use crate::items::{loop_of, site_of};
 use crate::local_args::put_local_args;
 use crate::program::DistributedProgram;
+use crate::rank_elements::RankElements;
 use kernel_code::Code;
 use local_mesh::RankMesh;
 use rank_layout::{MachineTables, element_windows_stand, row_of, steps_stand, windows_stand};
 use rank_state::Scalar;
 use row_batches::batch_tables::LocalArg;
 
-/// The loop of an item on a rank, with the values that its kernel reads.
+/// The loop of an item on a rank over some of its elements, with the values that its kernel reads.
 #[derive(Drop)]
 pub struct LocalLoop<'a> {
     pub program: &'a DistributedProgram<'a>,
     pub item: u32,
     pub rank: u32,
+    /// The places of the elements on the rank.
+    pub places: &'a [u32],
     /// The rank's local mesh.
     pub part: &'a RankMesh,
     /// The code of the loop's kernel.
@@ -47,44 +50,44 @@ fn faults_first(tables: &MachineTables, number: u32) -> bool
     tables.faults_first[number as usize]
 }
 
-/// The loop of an item on a rank that has an element of it, with the values of the constants and of the variables. `room` is lent
-/// for its arguments. Takes no memory.
+/// The loop of elements on a rank, of which there is one, with the values of the constants. `room` is lent for its arguments. Takes no
+/// memory.
 pub fn local_loop<'p: 'a, 'a>(
-    program: &'p DistributedProgram<'p>,
-    item: u32,
-    rank: u32,
+    elements: &'a RankElements<'p>,
     constants: &'a [i32],
-    variables: &'a [i32],
     room: &'a mut [Option<LocalArg<'p>>],
 ) -> LocalLoop<'a>
-    requires sound { Sound program.now }
-    requires step { (place : ℕ) × IsStep (by_place (setup_in program.now) (layout_in program.now)) (Begin item rank place) }
-    requires constants { length constants.now ≡ length (tables_in program.now).constants }
-    requires variables { length variables.now ≡ (layout_in program.now).variables }
+    requires sound { Sound elements.now.program.now }
+    requires step { (place : ℕ) × IsStep (by_place (setup_in elements.now.program.now) (layout_in elements.now.program.now))
+        (Begin elements.now.item elements.now.rank place) }
+    requires constants { length constants.now ≡ length (tables_in elements.now.program.now).constants }
+    requires variables { length elements.now.variables.now ≡ (layout_in elements.now.program.now).variables }
     requires room { 16 ≤ length room.old }
-    ensures of { IsLoopOf program.now item rank constants.now variables.now result }
+    ensures of { IsLoopOf elements.now constants.now result }
     ensures is { IsLocalLoop result }
 {
     steps_stand();
     windows_stand();
     element_windows_stand();
     run_model::constants_are_read();
-    let number = loop_of(program.bound, item);
-    let site = site_of(program.bound, item);
-    let part = &program.meshes[rank as usize];
+    let program = elements.program;
+    let number = loop_of(program.bound, elements.item);
+    let site = site_of(program.bound, elements.item);
+    let part = &program.meshes[elements.rank as usize];
     let args = &mut room[..site.args.len()];
     put_local_args(&program.bound.mesh, part, &site.args, args);
     LocalLoop {
         program,
-        item,
-        rank,
+        item: elements.item,
+        rank: elements.rank,
+        places: elements.places,
         part,
         code: &program.codes[site.kernel as usize],
         clean: faults_first(&program.tables, number),
         marks: row_of(&program.tables.writes, number),
         scalars: row_of(&program.tables.scalars, number),
         constants,
-        variables,
+        variables: elements.variables,
         args,
     }
 }

@@ -1,16 +1,13 @@
 // Elements of a loop on a rank in batches that run at once.
 
 ghost use Rattle.std.specs.Prelude.{◌≡◌, ◌<◌, ◌≤◌, ◌+◌, length, take, drop};
-ghost use Rattle.rank_program.specs.AloneRuns.{AllBegin};
-ghost use Rattle.rank_program.specs.Batches.{IsRowLoop, GoesCleanly};
-ghost use Rattle.rank_program.specs.Keeping.{KeepsIn};
-ghost use Rattle.rank_program.specs.LocalLoops.{IsLocalLoop};
-ghost use Rattle.rank_program.specs.Sound.{Sound, setup_in, layout_in, tables_in};
+ghost use Rattle.rank_program.specs.Batches.{CanRunInRows, GoesOn};
+ghost use Rattle.rank_program.specs.LocalRuns.{IsLent, StaysLent, share_in};
 
 use crate::counts::all_count;
-use crate::local_loops::LocalLoop;
+use crate::row_loops::LoopInRows;
+use crate::share::RankShare;
 use rank_layout::{element_windows_stand, steps_stand, windows_stand};
-use row_batches::RowLoop;
 use worker_batches::{AtOnce, BatchesRoom};
 
 // So many places of a list from one on.
@@ -21,80 +18,72 @@ fn part_at(places: &[u32], at: usize, count: usize) -> &[u32]
     &places[at..at + count]
 }
 
-// Runs the kernel of a loop for elements at so many places from `at` on, in batches at once, for as many as can run so, on `memory`: the
-// cells of the rank's buffer, and behind them one for each of the loop's scalars, whatever it holds. Answers how many ran, from the first
-// on.
+// Runs the kernel of a loop for elements at so many places from `at` on, in batches at once, for as many as can run so. Answers how many
+// ran, from the first on.
 fn run_from<H: AtOnce>(
     how: &H,
-    local: &LocalLoop<'_>,
-    rows: &RowLoop<'_>,
-    places: &[u32],
+    run: &LoopInRows<'_>,
     at: usize,
     count: usize,
-    memory: &mut [i32],
-    partials: &mut [i32],
+    share: &mut RankShare<'_>,
     room: &mut BatchesRoom,
 ) -> usize
     requires ready { H.ready how.now }
-    requires sound { Sound local.now.program.now }
-    requires is { IsLocalLoop local.now }
-    requires keeps { KeepsIn local.now.program.now local.now.item }
-    requires rows { IsRowLoop local.now rows.now }
-    requires steps { AllBegin (setup_in local.now.program.now) (layout_in local.now.program.now) (tables_in local.now.program.now)
-        local.now.item local.now.rank places.now }
+    requires can { CanRunInRows run.now }
     requires some { 0 < count }
-    requires fits { at + count ≤ length places.now }
-    requires memory { length memory.old ≡ local.now.part.now.cells + length local.now.scalars.now }
-    requires partials { length partials.old ≡ (tables_in local.now.program.now).slots }
+    requires fits { at + count ≤ length run.now.local.now.places.now }
+    requires lent { IsLent run.now.local.now share.old }
     ensures few { result ≤ count }
-    ensures runs { GoesCleanly local.now places.now at (at + result)
-        (take local.now.part.now.cells memory.old) (take local.now.part.now.cells memory.new) partials.old partials.new }
+    ensures runs { GoesOn run.now.local.now at (at + result) (share_in run.now.local.now share.old)
+        (share_in run.now.local.now share.new) }
+    ensures fault { share.new.fault ≡ share.old.fault }
+    ensures lent { StaysLent share.old share.new }
 {
     steps_stand();
     windows_stand();
     element_windows_stand();
     bound_plan::frames_are_reached();
     in_place::finishes_here();
-    if !all_count(local, places, at, count) {
+    if !all_count(run.local, at, count) {
         return 0;
     }
-    let part = part_at(places, at, count);
-    how.run(rows, part, &mut memory[..local.part.cells], partials, room)
+    let part = part_at(run.local.places, at, count);
+    let width = run.local.part.cells;
+    how.run(
+        &run.rows,
+        part,
+        &mut share.memory[..width],
+        share.partials,
+        room,
+    )
 }
 
-/// Runs the kernel of a loop for elements at the places from `at` on, in batches at once, for as many as can run so, on `memory` as
-/// `run_here` does; for none while batches pause. Answers how many ran, from the first on.
+/// Runs the kernel of a loop for elements at its places from `at` on, in batches at once, for as many as can run so; for none while
+/// batches pause. Answers how many ran, from the first on. None of them has a fault.
 pub fn run_many<H: AtOnce>(
     how: &H,
-    local: &LocalLoop<'_>,
-    rows: &RowLoop<'_>,
-    places: &[u32],
+    run: &LoopInRows<'_>,
     at: usize,
     pausing: bool,
-    memory: &mut [i32],
-    partials: &mut [i32],
+    share: &mut RankShare<'_>,
     room: &mut BatchesRoom,
 ) -> usize
     requires ready { H.ready how.now }
-    requires sound { Sound local.now.program.now }
-    requires is { IsLocalLoop local.now }
-    requires keeps { KeepsIn local.now.program.now local.now.item }
-    requires rows { IsRowLoop local.now rows.now }
-    requires steps { AllBegin (setup_in local.now.program.now) (layout_in local.now.program.now) (tables_in local.now.program.now)
-        local.now.item local.now.rank places.now }
-    requires fits { at ≤ length places.now }
-    requires memory { length memory.old ≡ local.now.part.now.cells + length local.now.scalars.now }
-    requires partials { length partials.old ≡ (tables_in local.now.program.now).slots }
-    ensures few { at + result ≤ length places.now }
-    ensures runs { GoesCleanly local.now places.now at (at + result)
-        (take local.now.part.now.cells memory.old) (take local.now.part.now.cells memory.new) partials.old partials.new }
+    requires can { CanRunInRows run.now }
+    requires fits { at ≤ length run.now.local.now.places.now }
+    requires lent { IsLent run.now.local.now share.old }
+    ensures few { at + result ≤ length run.now.local.now.places.now }
+    ensures runs { GoesOn run.now.local.now at (at + result) (share_in run.now.local.now share.old)
+        (share_in run.now.local.now share.new) }
+    ensures fault { share.new.fault ≡ share.old.fault }
+    ensures lent { StaysLent share.old share.new }
 {
     if pausing {
         return 0;
     }
-    let count = how.most(room).min(places.len() - at);
+    let count = how.most(room).min(run.local.places.len() - at);
     if count == 0 {
         return 0;
     }
-    run_from(how, local, rows, places, at, count, memory, partials, room)
+    run_from(how, run, at, count, share, room)
 }

@@ -1,26 +1,34 @@
 // What steps need on their way, taken once.
 
 ghost use Rattle.std.specs.Prelude.{IfOk};
-ghost use Rattle.rank_program.specs.Rooms.{HasRoomOf};
+ghost use Rattle.rank_program.specs.Rooms.{HasKernelRoom, HasRoomOf};
 ghost use Rattle.rank_program.specs.Sound.{Sound};
 
 use crate::program::DistributedProgram;
+use kernel_types::views::Place;
 use rank_state::{Owned, Span};
 use row_batches::RowRoom;
 use std::alloc::{AllocError, Global};
 use worker_batches::BatchesRoom;
 
-/// Room for the spans of an element or a message, for the locals of a kernel, for the cells that it may spoil, for a batch of
-/// elements, for batches that several workers run at once, and for the values of all constants. What stands there means nothing between
-/// two steps.
+/// Room for runs of kernels: where their arguments stand, their locals, the cells that they may spoil, a batch of elements, and batches
+/// that several workers run at once. What stands there means nothing between two steps.
 #[derive(Drop)]
-pub struct Room {
-    pub spans: Vec<Span>,
-    pub owned: Vec<Owned>,
+pub struct KernelRoom {
+    pub places: Vec<Place>,
     pub locals: Vec<i32>,
     pub saved: Vec<i32>,
     pub rows: RowRoom,
     pub batches: BatchesRoom,
+}
+
+/// Room for the spans of an element or a message, for runs of kernels, and for the values of all constants. What stands there means
+/// nothing between two steps.
+#[derive(Drop)]
+pub struct Room {
+    pub spans: Vec<Span>,
+    pub owned: Vec<Owned>,
+    pub kernels: KernelRoom,
     pub constants: Vec<i32>,
 }
 
@@ -33,6 +41,21 @@ pub const MOST_WAYS: usize = 16;
 /// How many columns a kernel has at most that runs for a batch of elements at once: as many as a cache of 32 KiB holds.
 pub const MOST_COLUMNS: usize = 128;
 
+impl KernelRoom {
+    // As much as kernels with so many cells of locals need that one worker runs.
+    fn new(alloc: Global, locals: usize) -> Result<KernelRoom, AllocError>
+        ensures { IfOk result (HasKernelRoom locals) }
+    {
+        Ok(KernelRoom {
+            places: Vec::with_capacity(alloc, MOST_WAYS)?,
+            locals: vec![in alloc; 0; locals]?,
+            saved: vec![in alloc; 0; MOST_SAVED]?,
+            rows: RowRoom::new(alloc, MOST_WAYS, MOST_COLUMNS, MOST_COLUMNS)?,
+            batches: BatchesRoom::none(alloc),
+        })
+    }
+}
+
 impl Room {
     /// As much room as any step needs that one worker takes.
     pub fn new(alloc: Global, program: &DistributedProgram<'_>) -> Result<Room, AllocError>
@@ -43,10 +66,7 @@ impl Room {
         Ok(Room {
             spans: Vec::with_capacity(alloc, most)?,
             owned: Vec::with_capacity(alloc, most)?,
-            locals: vec![in alloc; 0; program.locals]?,
-            saved: vec![in alloc; 0; MOST_SAVED]?,
-            rows: RowRoom::new(alloc, MOST_WAYS, MOST_COLUMNS, MOST_COLUMNS)?,
-            batches: BatchesRoom::none(alloc),
+            kernels: KernelRoom::new(alloc, program.locals)?,
             constants: vec![in alloc; 0; program.constants().len()]?,
         })
     }

@@ -10,6 +10,7 @@ use crate::local_loops::LocalLoop;
 use crate::program::DistributedProgram;
 use crate::room::MOST_COLUMNS;
 use bound_program::Item;
+use kernel_code::Code;
 use kernel_columns::is_straight;
 use kernel_types::views::Place;
 use op_num::reductions::Access;
@@ -30,13 +31,19 @@ pub fn no_column() -> RowColumn {
     }
 }
 
+/// A loop on a rank as its elements run one after another, and as they run in rows.
+#[derive(Drop)]
+pub struct LoopInRows<'a> {
+    pub local: &'a LocalLoop<'a>,
+    pub rows: RowLoop<'a>,
+}
+
 /// The loop as its elements run in rows, where its kernel is known to obey its modes, has no `if` with a `for` inside, and has few columns.
-/// `cells` are places of its arguments on variables. The other slices are lent for its tables, whatever they hold: the numbers of ways,
-/// the ways, the columns, the places of arguments in a row's frame, and pairs of ways.
+/// `cells` are places of its arguments on variables. The other slices are lent for its tables, whatever they hold: the ways, the columns,
+/// the places of arguments in a row's frame, and pairs of ways.
 pub fn row_loop<'p: 'a, 'a>(
     local: &'a LocalLoop<'p>,
     cells: &[Place],
-    numbers: &mut [usize],
     ways: &'a mut [Option<LocalVia<'p>>],
     columns: &'a mut [RowColumn],
     places: &'a mut [Place],
@@ -46,7 +53,6 @@ pub fn row_loop<'p: 'a, 'a>(
     requires is { IsLocalLoop local.now }
     requires step { (place : ℕ) × BeginsAt local.now place }
     requires stand { VariablesStand local.now cells.now }
-    requires numbers { 16 ≤ length numbers.old }
     requires ways { 16 ≤ length ways.old }
     requires columns { length columns.old < 2 ^ 32 }
     requires places { 16 ≤ length places.old }
@@ -65,7 +71,8 @@ pub fn row_loop<'p: 'a, 'a>(
     }
     let site = site_of(program.bound, local.item);
     let width = local.part.cells;
-    let numbers = &mut numbers[..site.args.len()];
+    let mut room = [0; MAX_ARGS];
+    let numbers = &mut room[..site.args.len()];
     let ways = &mut ways[..site.args.len()];
     let places = &mut places[..site.args.len()];
     put_ways(&site.args, local.args, numbers, ways);
@@ -89,8 +96,14 @@ pub fn row_loop<'p: 'a, 'a>(
     })
 }
 
-/// Whether the elements of a Free item may run in batches: the program's kernels are known to obey their modes, and the item's has no `if`
-/// with a `for` inside and not too many slots. Where it has, they run one after another.
+/// Whether elements with this kernel may run in batches, if the program's kernels obey their modes: it has no `if` with a `for` inside and
+/// not too many slots.
+pub fn runs_in_batches(code: &Code<'_>) -> bool {
+    code.slots as usize <= MOST_COLUMNS && is_straight(&code.part)
+}
+
+/// Whether the elements of a Free item may run in batches: the program's kernels are known to obey their modes, and the item's
+/// may run so. Where it may not, they run one after another.
 pub fn comes_in_batches(program: &DistributedProgram<'_>, item: u32) -> bool {
     let Some(Item::Free { site }) = program.bound.trace.get(item as usize) else {
         return false;
@@ -101,5 +114,5 @@ pub fn comes_in_batches(program: &DistributedProgram<'_>, item: u32) -> bool {
     let Some(code) = program.codes.get(site.kernel as usize) else {
         return false;
     };
-    program.obeying && code.slots as usize <= MOST_COLUMNS && is_straight(&code.part)
+    program.obeying && runs_in_batches(code)
 }

@@ -16,7 +16,7 @@ ghost use Rattle.rank_program.specs.Keeping.{KeepsIn};
 use crate::machine::Machine;
 use crate::running::{Cells, run_in};
 use crate::windows::{Begun, KernelRun, Windows};
-use rank_program::{DistributedProgram, Room, run_places};
+use rank_program::{DistributedProgram, RankElements, Room, run_places};
 use rank_state::rank_memory::loading::load;
 use rank_state::rank_memory::stop::least;
 use rank_state::{Scalar, Span};
@@ -136,13 +136,16 @@ impl Machine {
             × (self.new ≡ with_share rank new self.old) }
         ensures space { HasRoomOf program.now room.new }
     {
-        let fault = run_places(
-            &OneWorker,
+        let elements = RankElements {
             program,
             item,
             rank,
             places,
-            &self.variables,
+            variables: &self.variables,
+        };
+        let fault = run_places(
+            &OneWorker,
+            &elements,
             &mut self.memories[rank as usize],
             &mut self.partials[rank as usize],
             self.fault,

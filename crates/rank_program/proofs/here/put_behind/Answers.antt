@@ -1,6 +1,7 @@
-use Rattle.std.proofs.Common.{◌≡◌, length, sym, ap, ap₂, map, ◌∙◌, arith}
+use Rattle.std.proofs.Common.{◌≡◌, ◌-◌, length, sym, ap, ap₂, map, ◌∙◌, arith}
+use Rattle.std.proofs.lemmas.List.{length-map}
 use Rattle.run_model.specs.Laws as the
-use Rattle.rank_program.specs.Here.{behind, scalars_in}
+use Rattle.rank_program.specs.Here.{behind, moved, scalars_in}
 use Rattle.rank_program.specs.LocalArgs.{places_in}
 use Rattle.rank_program.specs.Sound.{program_in, layout_in}
 use Rattle.rank_program.proofs.Behind.{put_is}
@@ -34,18 +35,23 @@ overflow_sub-end c =
     let count : length l.scalars.now ≡ length (scalars_in l.program.now l.item) = ap length c.requires.is.scalars in
     omega (arith, fit, same, count, c.put_windows-end.ensures.count)
 
-pub move_behind-requires-clause-count : goal.move_behind-requires-clause-count
-move_behind-requires-clause-count c =
+pub move_behind-requires-clause-room : goal.move_behind-requires-clause-room
+move_behind-requires-clause-room c =
     let l = c.args.local.now in
-    c.requires.cells ∙ c.requires.is.args.0
-    ∙ sym (ap length (args_read l.program.now c.requires.sound c.steps_stand.ensures l.item l.rank c.args.place c.requires.step
-    c.site_of-site.result.now c.site_of-site.ensures c.deref.result.now c.deref.ensures.value))
-    ∙ sym (c.put_windows-end.auto.places
+    let count : length c.put_windows-end.new.places ≡ length l.args.now =
+    c.put_windows-end.auto.places
     ∙ room_read l.program.now c.requires.sound c.steps_stand.ensures l.item l.rank c.args.place c.requires.step
-    c.site_of-site.result.now c.site_of-site.ensures c.deref.result.now c.deref.ensures.value c.len.result (omega (arith, c.len.ensures)) _ (omega arith))
+    c.site_of-site.result.now c.site_of-site.ensures c.deref.result.now c.deref.ensures.value c.len.result (omega (arith, c.len.ensures)) _ (omega arith)
+    ∙ ap length (args_read l.program.now c.requires.sound c.steps_stand.ensures l.item l.rank c.args.place c.requires.step
+    c.site_of-site.result.now c.site_of-site.ensures c.deref.result.now c.deref.ensures.value)
+    ∙ sym c.requires.is.args.0 in
+    let few = c.requires.is.few in
+    let room = c.requires.room in
+    let same = c.clear.ensures.capacity in
+    omega (arith, count, few, room, same)
 
-pub returns : goal.returns
-returns c =
+pub returns-clause-stand : goal.returns-clause-stand
+returns-clause-stand c =
     let l = c.args.local.now in
     let p = l.program.now in
     let b = program_in p in
@@ -59,11 +65,17 @@ returns c =
     let put = put_is b site.args c.deref.result.now
     (args_read p sound stand l.item l.rank x c.requires.step c.site_of-site.result.now c.site_of-site.ensures c.deref.result.now c.deref.ensures.value)
     e c.original_at-element.result c.original_at-element.ensures (length l.scalars.now) l.part.now.cells c.put_windows-end.result
-    c.put_windows-end.new.places c.move_behind.new.cells c.put_windows-end.ensures.places c.put_windows-end.ensures.count c.move_behind.ensures in
+    c.put_windows-end.new.places c.move_behind.new.places.items c.put_windows-end.ensures.places c.put_windows-end.ensures.count c.move_behind.ensures.are in
     record {
       at = behind b site.args e (length (scalars_in p l.item)) ((layout_in p).width l.rank);
       behind = stand_behind p sound stand l.item l.rank x c.requires.step c.frames_are_reached.ensures spans
           (windows_here p sound stand l.item l.rank x c.requires.step c.element_windows_stand.ensures l.part.now is.part);
       are = λ y. ap (places_in y l.args.now) (put ∙ ap₂ (λ n w. map (behind b site.args e n w) site.args) (ap length is.scalars) is.width);
-      count = c.move_behind.auto.cells ∙ c.requires.cells;
+      count =
+          ap length c.move_behind.ensures.are ∙ length-map c.put_windows-end.new.places (moved l.part.now.cells (c.put_windows-end.result - length l.scalars.now))
+          ∙ c.put_windows-end.auto.places
+          ∙ room_read p sound stand l.item l.rank x c.requires.step
+          c.site_of-site.result.now c.site_of-site.ensures c.deref.result.now c.deref.ensures.value c.len.result (omega (arith, c.len.ensures)) _ (omega arith)
+          ∙ ap length (args_read p sound stand l.item l.rank x c.requires.step c.site_of-site.result.now c.site_of-site.ensures c.deref.result.now c.deref.ensures.value)
+          ∙ sym is.args.0;
     }

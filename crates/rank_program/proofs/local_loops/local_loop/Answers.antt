@@ -13,39 +13,39 @@ use Rattle.rank_program.proofs.local_loops.local_loop.Goals as goal
 
 pub put_local_args-requires-clause-here : goal.put_local_args-requires-clause-here
 put_local_args-requires-clause-here c =
-    let a = c.args in
+    let a = c.args.elements.now in
     let x = c.requires.step.0 in (
       x,
       args_stand a.program.now c.requires.sound c.steps_stand.ensures a.item a.rank x c.requires.step.1 c.site_of-site.result.now c.site_of-site.ensures
           c.deref.result.now c.deref.ensures.value c.loop_of-number.result c.loop_of-number.ensures
-          (get_or a.program.now.meshes.now a.rank c.index-program-rank.result) (ap (get_or a.program.now.meshes.now a.rank) c.index-program-rank.is) c.windows_stand.ensures.here,
+          (get_or a.program.now.meshes.now a.rank c.index-program-elements.result) (ap (get_or a.program.now.meshes.now a.rank) c.index-program-elements.is) c.windows_stand.ensures.here,
     )
 
 pub bounds-program-site : goal.bounds-program-site
 bounds-program-site c =
-    code_there c.args.program.now c.requires.sound c.steps_stand.ensures c.args.item c.args.rank c.requires.step.0 c.requires.step.1 c.site_of-site.result.now c.site_of-site.ensures
+    code_there c.args.elements.now.program.now c.requires.sound c.steps_stand.ensures c.args.elements.now.item c.args.elements.now.rank c.requires.step.0 c.requires.step.1 c.site_of-site.result.now c.site_of-site.ensures
 
 pub faults_first-requires : goal.faults_first-requires
 faults_first-requires c =
-    let p = c.args.program.now in
-    row_there p c.requires.sound c.steps_stand.ensures c.args.item c.args.rank c.requires.step.0 c.requires.step.1 c.loop_of-number.result
+    let p = c.args.elements.now.program.now in
+    row_there p c.requires.sound c.steps_stand.ensures c.args.elements.now.item c.args.elements.now.rank c.requires.step.0 c.requires.step.1 c.loop_of-number.result
     (length p.tables.faults_first.items) c.loop_of-number.ensures c.requires.sound.made.fault_count
 
 pub row_of-requires : goal.row_of-requires
 row_of-requires c =
-    row_there c.args.program.now c.requires.sound c.steps_stand.ensures c.args.item c.args.rank c.requires.step.0 c.requires.step.1 c.loop_of-number.result
+    row_there c.args.elements.now.program.now c.requires.sound c.steps_stand.ensures c.args.elements.now.item c.args.elements.now.rank c.requires.step.0 c.requires.step.1 c.loop_of-number.result
     (length c.deref-2.result.now) c.loop_of-number.ensures (ap length c.deref-2.ensures.value ∙ c.requires.sound.made.write_count)
 
 pub row_of-requires-2 : goal.row_of-requires-2
 row_of-requires-2 c =
-    row_there c.args.program.now c.requires.sound c.steps_stand.ensures c.args.item c.args.rank c.requires.step.0 c.requires.step.1 c.loop_of-number.result
+    row_there c.args.elements.now.program.now c.requires.sound c.steps_stand.ensures c.args.elements.now.item c.args.elements.now.rank c.requires.step.0 c.requires.step.1 c.loop_of-number.result
     (length c.deref-3.result.now) c.loop_of-number.ensures (ap length c.deref-3.ensures.value ∙ c.requires.sound.made.scalar_count)
 
 pub returns-clause-is : goal.returns-clause-is
 returns-clause-is c =
-    let p = c.args.program.now in
-    let k = c.args.item in
-    let r = c.args.rank in
+    let p = c.args.elements.now.program.now in
+    let k = c.args.elements.now.item in
+    let r = c.args.elements.now.rank in
     let sound = c.requires.sound in
     let stand = c.steps_stand.ensures in
     let x = c.requires.step.0 in
@@ -53,8 +53,8 @@ returns-clause-is c =
     let read = c.site_of-site.result.now in
     let is = c.site_of-site.ensures in
     let code = c.index-program-site.result in
-    let m = get_or p.meshes.now r c.index-program-rank.result in
-    let part : m ≡ get_or p.meshes.now r m = ap (get_or p.meshes.now r) c.index-program-rank.is in
+    let m = get_or p.meshes.now r c.index-program-elements.result in
+    let part : m ≡ get_or p.meshes.now r m = ap (get_or p.meshes.now r) c.index-program-elements.is in
     let n = c.loop_of-number.result in
     let loop = c.loop_of-number.ensures in
     let there = code_there p sound stand k r x step read is in
@@ -75,7 +75,7 @@ returns-clause-is c =
       scalars = scalars;
       constants = c.requires.constants;
       resolved = resolved_in p sound stand k r x step read is code (c.constants_are_read.ensures.numbered (program_in p) sound.planned.fits.constants) (length c.args.constants.now) long;
-      variables = variables_are p sound stand k r x step windows m part c.row_of-2.result.now scalars (length c.args.variables.now) c.requires.variables;
+      variables = variables_are p sound stand k r x step windows m part c.row_of-2.result.now scalars (length c.args.elements.now.variables.now) c.requires.variables;
       partials = partials_are p sound stand k r x step windows m part c.row_of-2.result.now scalars;
       stride = stride_is p sound stand k r x step windows m part c.row_of-2.result.now scalars;
       few = (let few = (site_fits p sound stand k r x step).few in let same = ap length args in let count = c.put_local_args.ensures.0 in omega (arith, few, same, count));

@@ -1,13 +1,9 @@
-use Rattle.std.proofs.Common.{take}
+use Rattle.rank_program.specs.LocalRuns.{share_in}
 use Rattle.rank_program.proofs.BatchRuns.{goes_nowhere}
 use Rattle.rank_program.proofs.many.run_many.Goals as goal
 
 pub returns-then-pausing-clause-runs : goal.returns-then-pausing-clause-runs
-returns-then-pausing-clause-runs g c = λ kept.
-    goes_nowhere c.args.local.now c.args.places.now c.args.at
-    (record { cells = take c.args.local.now.part.now.cells c.args.memory.now; partials = c.args.partials.now; fault = kept })
+returns-then-pausing-clause-runs g c = goes_nowhere c.args.run.now.local.now c.args.at (share_in c.args.run.now.local.now c.args.share.now)
 
 pub returns-then-count-eq0-clause-runs : goal.returns-then-count-eq0-clause-runs
-returns-then-count-eq0-clause-runs g c = λ kept.
-    goes_nowhere c.args.local.now c.args.places.now c.args.at
-    (record { cells = take c.args.local.now.part.now.cells c.args.memory.now; partials = c.args.partials.now; fault = kept })
+returns-then-count-eq0-clause-runs g c = goes_nowhere c.args.run.now.local.now c.args.at (share_in c.args.run.now.local.now c.args.share.now)
