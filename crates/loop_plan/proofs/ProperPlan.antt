@@ -26,7 +26,7 @@ use Rattle.loop_plan.specs.StepOutline.{is_free, loop_of, loop_at, step_outline,
 use Rattle.loop_plan.specs.ItemPlans.{plan_in, ArePlanned}
 use Rattle.loop_plan.specs.StepCounts.{message_count, place_count, steps_at, program_steps}
 use Rattle.loop_plan.specs.SitePlans.{IsLeastPlan, ArePlans, AreSitePlans, ArePlansOf}
-use Rattle.loop_plan.specs.Turns.{AreTurns, IsTurnPlan}
+use Rattle.loop_plan.specs.Turns.{AreTurns, IsTurnPlan, HasTurns}
 use Rattle.loop_plan.specs.Proper.{Separate, IsSitePlan, Proper, HasLeastColours}
 use Rattle.loop_plan.proofs.History.{are_exchanges}
 use Rattle.loop_plan.proofs.StepsCounted.{same_sum}
@@ -186,3 +186,7 @@ module _ (b : BoundValue) (meshes : List RankMesh) where
   pub has_least : (p : PlanValue) → ArePlans b meshes p.block (length b.sites) p.sites → HasLeastColours b meshes p
   unfolding site_plan
   has_least p sites s r d l run m = (sites.plans s l run).colours r d m
+
+  pub has_turns : (p : PlanValue) → ArePlansOf b (IsTurnPlan b meshes p.block) (length b.sites) p.sites → HasTurns b meshes p
+  unfolding site_plan
+  has_turns p sites s r d l run m = (sites.plans s l run).colours r d m

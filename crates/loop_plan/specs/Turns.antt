@@ -1,11 +1,11 @@
 -- Plans in which a rank's places go in their order.
-use Rattle.std.specs.Prelude.{◌≡◌, ℕ, ◌*◌, ◌<◌, ◌↔◌, List, length, slice_index, slice_index_or}
+use Rattle.std.specs.Prelude.{◌≡◌, ℕ, true, ◌*◌, ◌<◌, ◌↔◌, List, length, slice_index, slice_index_or}
 use Rattle.local_mesh.specs.declared.types.RankMesh.{RankMesh}
 use Rattle.colouring.specs.declared.types.Colours.{Colours}
 use Rattle.bound_program.specs.Values.{BoundValue}
 use Rattle.bound_program.specs.Fits.{site_at}
-use Rattle.loop_plan.specs.Values.{SitePlanValue}
-use Rattle.loop_plan.specs.Places.{places_of}
+use Rattle.loop_plan.specs.Values.{SitePlanValue, PlanValue, site_plan}
+use Rattle.loop_plan.specs.Places.{places_of, runs_free}
 
 -- each block of this size, and each place, has a colour of its own, its number
 pub record AreTurns (places size : ℕ) (c : Colours) : Type 0 where
@@ -22,3 +22,9 @@ module _ (b : BoundValue) (meshes : List RankMesh) where
     pub colours_count : length l.colours ≡ length meshes
     pub colours : (r : ℕ) (d : Colours) → r < length meshes
         → AreTurns (places_of meshes (site_at b s) r) size (slice_index_or l.colours r d)
+
+  -- on each rank the blocks and places of each Free loop that runs go in their order
+  abbrev pub HasTurns : PlanValue → Type 0
+  HasTurns p =
+      (s r : ℕ) (d : Colours) → s < length b.sites → runs_free b s ≡ true → r < length meshes
+      → AreTurns (places_of meshes (site_at b s) r) p.block (slice_index_or (site_plan p s).colours r d)

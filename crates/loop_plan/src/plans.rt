@@ -8,6 +8,7 @@ ghost use Rattle.loop_plan.specs.ItemPlans.{ArePlanned};
 ghost use Rattle.loop_plan.specs.Places.{HaveSets};
 ghost use Rattle.loop_plan.specs.StepCounts.{program_steps, max_steps, Refuses};
 ghost use Rattle.loop_plan.specs.Proper.{Proper, HasLeastColours};
+ghost use Rattle.loop_plan.specs.Turns.{HasTurns};
 
 use crate::counting::{count_steps, totals_by_loop};
 use crate::items::item_plans;
@@ -142,6 +143,8 @@ pub fn plan_in_turn(
     requires ranks { Distributed (bound_of bound.now).mesh halos.now ranks.now }
     requires block { 0 < block }
     ensures proper { IfOk result (λ p. Proper (bound_of bound.now) ranks.now (plan_of p)) }
+    ensures turns { IfOk result (λ p. HasTurns (bound_of bound.now) ranks.now (plan_of p)) }
+    ensures block { IfOk result (λ p. p.block ≡ block) }
     ensures steps { IfOk result (λ p. p.steps ≡ program_steps (bound_of bound.now) ranks.now) }
     ensures few { IfOk result (λ p. p.steps ≤ max_steps) }
     ensures refused { IfErr result (λ e. Refuses (program_steps (bound_of bound.now) ranks.now) e) }

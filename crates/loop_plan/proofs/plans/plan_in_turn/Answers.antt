@@ -3,7 +3,7 @@ use Rattle.bound_program.specs.Values.{bound_of}
 use Rattle.loop_plan.specs.Values.{plan_of}
 use Rattle.loop_plan.proofs.Ranges.{in_range}
 use Rattle.loop_plan.proofs.Planning.{sets_had}
-use Rattle.loop_plan.proofs.ProperPlan.{is_proper, turns_are_site_plans}
+use Rattle.loop_plan.proofs.ProperPlan.{is_proper, turns_are_site_plans, has_turns}
 use Rattle.loop_plan.proofs.plans.plan_in_turn.Goals as goal
 
 pub site_plans-requires-clause-range : goal.site_plans-requires-clause-range
@@ -20,3 +20,10 @@ returns-clause-proper c =
     is_proper b c.args.ranks.now p
     x.items.items (in_range b c.requires.fits) refl refl c.in_ok-counted.ensures.items
     (turns_are_site_plans b c.args.ranks.now c.args.block (length b.sites) p.sites c.in_ok-sites.ensures) c.requires.block c.in_ok-counted.ensures.steps
+
+pub returns-clause-turns : goal.returns-clause-turns
+returns-clause-turns c =
+    let x = c.in_ok-counted.counted in
+    has_turns (bound_of c.args.bound.now) c.args.ranks.now
+    (plan_of (record { ranks = length c.args.ranks.now; block = c.args.block; sites = c.in_ok-sites.sites; items = x.items; steps = x.steps }))
+    c.in_ok-sites.ensures

@@ -1,7 +1,5 @@
 use Rattle.std.proofs.Common.{◌≡◌, ◌<◌, ◌∙◌, ℕ, List, length, get_or, ap, subst, sym}
 use Rattle.bound_program.specs.Values.{bound_of}
-use Rattle.bound_program.specs.Fits.{site_at}
-use Rattle.loop_plan.specs.Places.{places_of}
 use Rattle.loop_plan.specs.Turns.{AreTurns}
 use Rattle.loop_plan.proofs.sites.turn_plan.Goals as goal
 
