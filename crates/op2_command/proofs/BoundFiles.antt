@@ -2,7 +2,7 @@
 use Rattle.std.proofs.Common.{◌≡◌, ℕ, List, [], ◌++◌, Option, Result, Err, ap, sym, subst, ◌∙◌, append_assoc}
 use Rattle.std.proofs.lemmas.List.{append-nil}
 use Rattle.op_outside.specs.Outside.{Files}
-use Rattle.kept_files.specs.Readings.{Readings, names_of, readings_of, AreNext, HaveCome, Finds}
+use Rattle.job_inputs.specs.Readings.{Readings, names_of, readings_of, AreNext, HaveCome, Finds}
 use Rattle.bound_program.specs.Values.{BoundValue}
 use Rattle.answer_lines.specs.Lines.{refused}
 use Rattle.command_words.specs.Words.{PlanJob, Options, Input, names_from, names_before, names_by, names_in_blocks, names_at}

@@ -1,7 +1,7 @@
 -- From the items that run to what is answered of them.
 use Rattle.std.proofs.Common.{◌≡◌, ℕ, inl, inr, List, ◌++◌, Option, Result, Ok, Err, refl, ap, subst, ◌∙◌, append_assoc}
 use Rattle.op_outside.specs.Outside.{Files}
-use Rattle.kept_files.specs.Readings.{Readings, AreNext, HaveCome, Finds}
+use Rattle.job_inputs.specs.Readings.{Readings, AreNext, HaveCome, Finds}
 use Rattle.bound_program.specs.Values.{BoundValue}
 use Rattle.bound_program.specs.Fits.{Fits}
 use Rattle.answer_lines.specs.Lines as lines

@@ -1,17 +1,18 @@
 -- What is answered of a plan by which places go in their order is answered of the one that is asked for.
-use Rattle.std.proofs.Common.{◌≡◌, Bool, true, false, inl, inr, List, Result, Ok, Err, refl, sym, ap, subst, ◌∙◌}
+use Rattle.std.proofs.Common.{◌≡◌, Bool, true, false, cond, inl, inr, List, Result, Ok, Err, refl, sym, ap, subst, ◌∙◌}
 use Rattle.op_outside.specs.Outside.{Files}
 use Rattle.schedule_steps.specs.declared.step.Step.{Step}
 use Rattle.schedule_steps.specs.Standard.{standard}
 use Rattle.command_words.specs.Refusal.{Refusal}
-use Rattle.command_words.specs.Words.{PlanJob, Check, ShowsPlan, ShowsSchedule, RunsPlan, Standard, Options, group_of}
+use Rattle.command_words.specs.Words.{PlanJob, Check, ShowsPlan, ShowsSchedule, RunsPlan, Options, group_of}
 use Rattle.answer_lines.specs.Lines as lines
 use Rattle.answer_lines.specs.Lines.{done}
-use Rattle.answers.specs.Judgements.{Chosen, Planned, Order, InStandardOrder, OrderOf, StepsOf, outline_of}
+use Rattle.answers.specs.Judgements.{Chosen, Planned, InStandardOrder, OrderOf, outline_of}
 use Rattle.answers.specs.Answers.{sizes_text, planned_answer}
 use Rattle.job_plans.specs.Plans.{AreAlike}
 use Rattle.op2_command.specs.Chains.{StepsAnswers, ScheduleAnswers, IsUntold, GoesInTurn}
 
+-- such a job answers the same of two plans with as many steps, by any lists of them
 answer_alike : (j : PlanJob) (dumps : Bool) (c : Chosen) (p q : Planned) (l m : List Step) → IsUntold j dumps → p.plan.steps ≡ q.plan.steps
     → planned_answer j dumps c p l ≡ planned_answer j dumps c q m
 answer_alike Check dumps c p q l m u e = ap (λ n. done (sizes_text c.program n)) e
@@ -41,3 +42,11 @@ module _ (j : PlanJob) (o : Options) (c : Chosen) (p q : Planned) (files : Files
   pub schedules_alike : (t : Bool) → (t ≡ true → GoesInTurn j o) → AreAlike t p q → ScheduleAnswers j o c p files a → ScheduleAnswers j o c q files a
   schedules_alike true g alike h = in_turn (g refl) alike.steps h
   schedules_alike false g alike h = subst (λ z. ScheduleAnswers j o c z files a) (alike.same refl) h
+
+-- in the standard order with groups of one as with those of the options
+pub standard_alike : (t : Bool) (j : PlanJob) (o : Options) (c : Chosen) (p : Planned) (a : lines.Answer) → (t ≡ true → GoesInTurn j o)
+    → a ≡ planned_answer j o.dumps c p (standard (outline_of c.program p) (cond t 1 (group_of o)))
+    → a ≡ planned_answer j o.dumps c p (standard (outline_of c.program p) (group_of o))
+standard_alike true j o c p a g e =
+    e ∙ answer_alike j o.dumps c p p (standard (outline_of c.program p) 1) (standard (outline_of c.program p) (group_of o)) (g refl).untold refl
+standard_alike false j o c p a g e = e

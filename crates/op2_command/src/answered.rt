@@ -2,7 +2,7 @@
 
 ghost use Rattle.std.specs.Prelude.{◌≡◌, ◌≤◌, [], ◌∷◌, ◌++◌, Ok, Err, All, map, length, string_bytes, IfOk, IfErr};
 ghost use Rattle.op_outside.specs.Outside.{Rose};
-ghost use Rattle.kept_files.specs.Readings.{readings_of};
+ghost use Rattle.job_inputs.specs.Readings.{readings_of};
 ghost use Rattle.mesh_decl.specs.declared.text.entry.TheConstants.{MESH_BYTES};
 ghost use Rattle.command_words.specs.Words.{WordsAre, names_from, names_before, names_by, names_in_blocks, names_at, names_of, named_by};
 ghost use Rattle.command_words.specs.Laws.{AreFew, AreWithin};
@@ -22,11 +22,11 @@ use command_words::{
     Asked, ChainJob, ChainOptions, Input, Options, PlanJob, USAGE, VERSION, WordsRefusal,
     read_words,
 };
+use job_inputs::kept_files::{Kept, some_files_are_as_seen};
 use job_inputs::{
     bound_input, entries_of, expect_blocks, expect_input, expect_parting, expect_schedule,
     expect_stretch, sole_file,
 };
-use kept_files::{Kept, some_files_are_as_seen};
 use mesh_decl::text::{Form, write_mesh};
 use op_num::OutOfMemory;
 use op_outside::Shelf;

@@ -3,7 +3,7 @@
 ghost use Rattle.std.specs.Prelude.{◌≡◌, ◌++◌, ℕ, List, All, length, Ok, IfOk, codes};
 ghost use Rattle.std.specs.Fmt.{decimal};
 ghost use Rattle.op_outside.specs.Outside.{Rose};
-ghost use Rattle.kept_files.specs.Readings.{AreNext};
+ghost use Rattle.job_inputs.specs.Readings.{AreNext};
 ghost use Rattle.mesh_decl.specs.Owners.{AreOwners};
 ghost use Rattle.bound_program.specs.Values.{bound_of};
 ghost use Rattle.bound_program.specs.Fits.{Fits};
@@ -25,8 +25,8 @@ use bound_program::Bound;
 use chain_needs::chain_slices::slices;
 use command_words::{ChainJob, ChainOptions};
 use deep_halo::{ChainOutcome, run_chains};
+use job_inputs::kept_files::Kept;
 use job_inputs::{owners_of, partition_of};
-use kept_files::Kept;
 use mesh_decl::Owners;
 use op_num::{OutOfMemory, put_u64};
 use op_outside::Shelf;

@@ -1,8 +1,8 @@
 // The plan of a bound program: which of its items run, their plan, the order of its steps, and what is written.
 
-ghost use Rattle.std.specs.Prelude.{◌≡◌, ◌≤◌, ◌++◌, List, All, length, Ok, IfOk};
+ghost use Rattle.std.specs.Prelude.{◌≡◌, ◌≤◌, ◌++◌, List, All, length, true, Ok, IfOk};
 ghost use Rattle.op_outside.specs.Outside.{Rose};
-ghost use Rattle.kept_files.specs.Readings.{AreNext};
+ghost use Rattle.job_inputs.specs.Readings.{AreNext};
 ghost use Rattle.bound_program.specs.Values.{bound_of};
 ghost use Rattle.bound_program.specs.Fits.{Fits};
 ghost use Rattle.planned_program.specs.Planned.{outline_of};
@@ -18,7 +18,7 @@ ghost use Rattle.answer_lines.specs.Halts.{answer_of};
 ghost use Rattle.job_inputs.specs.Inputs.{chosen_of};
 ghost use Rattle.job_inputs.specs.Chains.{AnswersBy, AnswersFrom};
 ghost use Rattle.job_plans.specs.Plans.{planned_of};
-ghost use Rattle.op2_command.specs.Chains.{chosen_in, StepsAnswers, ScheduleAnswers};
+ghost use Rattle.op2_command.specs.Chains.{chosen_in, GoesInTurn, StepsAnswers, ScheduleAnswers};
 
 use crate::in_turn::goes_in_turn;
 use crate::plan_task::PlanTask;
@@ -27,9 +27,9 @@ use crate::schedules::{end_line, judged, lines_of};
 use answer_lines::{Answer, Halt, Limit};
 use bound_program::Bound;
 use command_words::{Options, PlanJob, Schedule};
+use job_inputs::kept_files::Kept;
 use job_inputs::{Chosen, chosen_by, file_of, state_text_of};
 use job_plans::planned_on;
-use kept_files::Kept;
 use loop_plan::{Plan, write_plan};
 use op_num::{OutOfMemory, put_u64};
 use op_outside::Shelf;
@@ -117,19 +117,21 @@ fn scheduled<'a, F: Shelf, R: Threads + Sync, G: Gate>(
     requires lent { All (λ name. F.lends shelf.old name) (names_at (options_in task.now.options.now).schedule) }
     requires next { AreNext (names_at (options_in task.now.options.now).schedule) kept.old }
     requires within { AreWithin (options_in task.now.options.now) }
+    requires turn { task.now.in_turn ≡ true → GoesInTurn (job_in task.now.job) (options_in task.now.options.now) }
     requires obeyed { AccessesAre (bound_of planned.now.bound) (Ok tt) }
     ensures { AnswersFrom (F.told shelf.old) kept.old
         (ScheduleAnswers (job_in task.now.job) (options_in task.now.options.now) (chosen_in task.now.first planned.now)
         (planned_of planned.now)) (Rose (F.faults shelf.old) (F.faults shelf.new)) result }
 {
     schedule_steps::drawn_exists();
-    let group = task.options.group();
     match task.options.schedule {
         Schedule::Standard => {
+            let group = task.group();
             let order = Order::Standard { group };
             Ok(planned_answer(crew, task, planned, &order)?)
         }
         Schedule::Drawn { seed } => {
+            let group = task.options.group();
             let order = Order::Drawn { group, seed };
             Ok(planned_answer(crew, task, planned, &order)?)
         }
@@ -162,12 +164,13 @@ fn chosen_answer<'a, F: Shelf, R: Threads + Sync, G: Gate>(
         (λ files. ChosenAnswers (job_in job) (options_in options.now) files (chosen_of chosen.now))
         (Rose (F.faults shelf.old) (F.faults shelf.new)) result }
 {
-    let in_turn = goes_in_turn(job, options);
+    let in_turn = goes_in_turn(crew.alloc, job, options, &chosen.bound)?;
     let planned = planned_on(crew.alloc, shelf, kept, options, &chosen.bound, in_turn)?;
     let task = PlanTask {
         job,
         options,
         first: chosen.first,
+        in_turn,
     };
     scheduled(crew, shelf, kept, &task, &planned)
 }

@@ -8,8 +8,8 @@ ghost use Rattle.job_inputs.specs.Chains.{AnswersBy, AnswersOver};
 ghost use Rattle.op2_command.specs.Chains.{TextTranslates, TextRestores};
 
 use answer_lines::{Answer, Halt, Limit};
+use job_inputs::kept_files::some_files_are_as_seen;
 use job_inputs::{restoration_of, sole_file, tokens_of, translation_of, tree_of_tokens};
-use kept_files::some_files_are_as_seen;
 use op_outside::Shelf;
 use std::alloc::Global;
 

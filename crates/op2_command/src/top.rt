@@ -9,7 +9,7 @@ use answer_laws::{
     calls_are_complete, calls_report_their_answers, calls_show_their_answers, others_write_nothing,
     unread_files_are_named, usage_is_of_words,
 };
-use answer_writing::{write_answer, write_failure};
+use answers::answer_writing::{write_answer, write_failure};
 use op_outside::{Shelf, Sink};
 use par_exec::{Gate, Open};
 use std::alloc::Global;

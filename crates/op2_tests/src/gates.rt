@@ -37,11 +37,26 @@ int main(int argc, char **argv) {
 }
 ";
 
+// A loop whose kernel takes 300 turns for an element.
+const TURNS: &str = "extern int n;
+extern int a0[];
+void turns(int *a) { for (int i = 0; i < 300; i++) { a[0] = a[0] * 3 + i; } }
+int main(int argc, char **argv) {
+  op_set s = op_decl_set(n, \"s\");
+  op_dat a = op_decl_dat(s, 1, \"int\", a0, \"a\");
+  op_par_loop(turns, \"turns\", s, op_arg_dat(a, -1, OP_ID, 1, \"int\", OP_RW));
+  op_print_dat_to_txtfile(a, \"a\");
+  op_exit();
+}
+";
+
 const TWO: &str = "op2mesh 1 int n 2 ints a0 2 5 7 done";
 
 const SIXTY_FOUR: &str = "op2mesh 2 int n 64 ints a0 64 64*0 done";
 
 const HUNDRED: &str = "op2mesh 2 int n 100 ints a0 100 100*0 done";
+
+const TWO_THOUSAND: &str = "op2mesh 2 int n 2000 ints a0 2000 2000*0 done";
 
 const THOUSANDS: &str = "op2mesh 2 int n 20000 ints a0 20000 20000*0 done";
 
@@ -97,7 +112,7 @@ fn gated_source<'a, R: Threads + Sync, G: Gate>(
     for word in options {
         words.push(String::from_str(alloc, word)?)?;
     }
-    let mut out = MemorySink::new(alloc, 10_000, Vec::new(alloc))?;
+    let mut out = MemorySink::new(alloc, 100_000, Vec::new(alloc))?;
     let mut err = MemorySink::new(alloc, 1000, Vec::new(alloc))?;
     let status = op2_gated(rt, alloc, &words, &mut shelf, &mut out, &mut err, gate);
     Ok(Ended { status, out })
@@ -252,5 +267,26 @@ fn groups_behind_the_first_run_in_place(rt: HostRuntime) -> Result<(), Fail> {
     assert_eq!(rt; ended.status, 0);
     assert_eq!(rt; ended.out.bytes(), printed.as_bytes());
     assert_eq!(rt; gate.told.load(Ordering::SeqCst), 64);
+    Ok(())
+}
+
+// On one rank with two workers: no group where a loop over many elements has a short kernel, and one round where it has a long one; the
+// output is that of one worker.
+#[test]
+fn many_elements_come_in_no_groups(rt: HostRuntime) -> Result<(), Fail> {
+    let alloc = rt.alloc();
+    for (source, told) in [(BUMP, 0), (TURNS, 1)] {
+        let gate = Count {
+            told: AtomicU64::new(0),
+        };
+        let one = gated_source(&rt, alloc, source, &[], TWO_THOUSAND, &gate)?;
+        assert_eq!(rt; one.status, 0);
+        assert_eq!(rt; gate.told.load(Ordering::SeqCst), 0);
+        let options: &[&str] = &["--workers", "2"];
+        let two = gated_source(&rt, alloc, source, options, TWO_THOUSAND, &gate)?;
+        assert_eq!(rt; two.status, 0);
+        assert_eq!(rt; two.out.bytes(), one.out.bytes());
+        assert_eq!(rt; gate.told.load(Ordering::SeqCst), told);
+    }
     Ok(())
 }

@@ -24,6 +24,11 @@ pub count_append : (g : Step → ℕ → ℕ) (n : ℕ) (l m : List Step) → co
 count_append g n [] m = refl
 count_append g n (x ∷ l) m = count_append g (g x n) l m
 
+-- what is left behind a step that was looked at is left behind all of them
+pub suffix : (done come : List Step) (next : Option Step) (left : List Step) → come ≡ done ++ to_come next left → (front : List Step) × (come ≡ front ++ left)
+suffix done come None left e = (done, e)
+suffix done come (Some s) left e = (done ++ (s ∷ []), e ∙ sym (append_assoc done (s ∷ []) left))
+
 -- no count is above the greatest
 pub count_below : (g : Step → ℕ → ℕ) (n : ℕ) (l m : List Step) → count_after g n l ≤ greatest g n (l ++ m)
 count_below g n [] [] = omega arith

@@ -1,5 +1,5 @@
--- Closed groups that are gathered into lists of places by rank.
-use Rattle.std.proofs.Common.{◌≡◌, ℕ, zero, suc, ◌+◌, ◌<◌, ◌≤◌, refl, sym, ap, ap₂, subst, ◌∙◌, ⊎_elim, arith, List, [], ◌∷◌, ◌++◌, length, map, set, get_or, get_or-set_same, get_or-set_other, append_assoc, append-nil, Vec, Global}
+-- Elements that are gathered into lists of places by rank.
+use Rattle.std.proofs.Common.{◌≡◌, ℕ, Bool, zero, suc, ◌+◌, ◌<◌, ◌≤◌, refl, sym, ap, ap₂, subst, ◌∙◌, ⊎_elim, arith, List, [], ◌∷◌, ◌++◌, length, map, set, get_or, get_or-set_same, get_or-set_other, append_assoc, append-nil, Vec, Global}
 use Rattle.std.proofs.lemmas.List.{get_or-map, length-map, length-set, map-set}
 use Rattle.std.proofs.lemmas.Bool.{cases_lt}
 use Rattle.schedule_steps.specs.declared.step.Step.{Step}
@@ -7,7 +7,8 @@ use Rattle.schedule_steps.specs.declared.step.Step.TheVariants.{Begin, End}
 use Rattle.step_orders.specs.Alone.{alone}
 use Rattle.closed_groups.specs.Closed.{closed, RankGroup, all_closed, all_alone}
 use Rattle.rank_machine.specs.OnRanks.{places_on}
-use Rattle.rank_exec.specs.Rounds.{round}
+use Rattle.rank_exec.specs.Rounds.{round, elements}
+use Rattle.rank_exec.proofs.Telling.{groups_of, elements_closed, elements_alone, some_elements}
 
 -- ---- rounds
 
@@ -50,13 +51,22 @@ round_more k f g r xs here others above (suc n) lt = ⊎_elim (λ m. before m (r
 
 -- ---- groups
 
-pub closed_push : (k : ℕ) (gs : List RankGroup) (x : RankGroup) → all_closed k (gs ++ (x ∷ [])) ≡ all_closed k gs ++ closed k x.rank x.places
-closed_push k [] x = append-nil (closed k x.rank x.places)
-closed_push k (g ∷ gs) x = ap (λ z. closed k g.rank g.places ++ z) (closed_push k gs x) ∙ sym (append_assoc (closed k g.rank g.places) (all_closed k gs) (closed k x.rank x.places))
+closed_append : (k : ℕ) (gs hs : List RankGroup) → all_closed k (gs ++ hs) ≡ all_closed k gs ++ all_closed k hs
+closed_append k [] hs = refl
+closed_append k (g ∷ gs) hs =
+    ap (λ z. closed k g.rank g.places ++ z) (closed_append k gs hs) ∙ sym (append_assoc (closed k g.rank g.places) (all_closed k gs) (all_closed k hs))
 
-pub alone_push : (k : ℕ) (gs : List RankGroup) (x : RankGroup) → all_alone k (gs ++ (x ∷ [])) ≡ all_alone k gs ++ alone k x.rank x.places
-alone_push k [] x = append-nil (alone k x.rank x.places)
-alone_push k (g ∷ gs) x = ap (λ z. alone k g.rank g.places ++ z) (alone_push k gs x) ∙ sym (append_assoc (alone k g.rank g.places) (all_alone k gs) (alone k x.rank x.places))
+alone_groups : (k : ℕ) (gs hs : List RankGroup) → all_alone k (gs ++ hs) ≡ all_alone k gs ++ all_alone k hs
+alone_groups k [] hs = refl
+alone_groups k (g ∷ gs) hs =
+    ap (λ z. alone k g.rank g.places ++ z) (alone_groups k gs hs) ∙ sym (append_assoc (alone k g.rank g.places) (all_alone k gs) (all_alone k hs))
+
+-- behind groups the elements that were told
+closed_told : (b : Bool) (k r : ℕ) (xs : List ℕ) (gs : List RankGroup) → all_closed k (gs ++ groups_of b r xs) ≡ all_closed k gs ++ elements b k r xs
+closed_told b k r xs gs = closed_append k gs (groups_of b r xs) ∙ ap (λ z. all_closed k gs ++ z) (elements_closed b k r xs)
+
+alone_told : (b : Bool) (k r : ℕ) (xs : List ℕ) (gs : List RankGroup) → all_alone k (gs ++ groups_of b r xs) ≡ all_alone k gs ++ alone k r xs
+alone_told b k r xs gs = alone_groups k gs (groups_of b r xs) ∙ ap (λ z. all_alone k gs ++ z) (elements_alone b k r xs)
 
 -- ---- lists of places
 
@@ -96,15 +106,15 @@ gathered_none k last ls empty = record {
   above = λ s lt. empty s;
 }
 
--- one group more
-pub gathered_more : (k last rank : ℕ) (xs : List ℕ) (gs : List RankGroup) (ls : Lists) (v : Vec ℕ Global) → last ≤ rank → rank < length ls
+-- the elements that were told more
+pub gathered_more : (b : Bool) (k last rank : ℕ) (xs : List ℕ) (gs : List RankGroup) (ls : Lists) (v : Vec ℕ Global) → last ≤ rank → rank < length ls
     → v.items ≡ places_on ls rank ++ xs → Gathered k last gs ls
-    → Gathered k rank (gs ++ (record { rank = rank; places = xs } ∷ [])) (set ls rank v)
-gathered_more k last rank xs gs ls v le lt is h =
-    let group : RankGroup = record { rank = rank; places = xs } in
+    → Gathered k rank (gs ++ groups_of b rank xs) (set ls rank v)
+gathered_more b k last rank xs gs ls v le lt is h =
     let more = round_more k (places_on ls) (places_on (set ls rank v)) rank xs (placed ls rank v lt ∙ is) (λ s ne. other_place ls rank s v ne) (λ s a. h.above s (omega (arith, a, le))) (length ls) lt in
     record {
-      same = alone_push k gs group ∙ (ap (λ z. z ++ alone k rank xs) h.same ∙ (sym more ∙ ap (round k (places_on (set ls rank v))) (sym (length-set ls rank v))));
+      same = alone_told b k rank xs gs
+          ∙ (ap (λ z. z ++ alone k rank xs) h.same ∙ (sym more ∙ ap (round k (places_on (set ls rank v))) (sym (length-set ls rank v))));
       above = λ s a. other_place ls rank s v (λ (q : s ≡ rank). absurd (omega (arith, a, q))) ∙ h.above s (omega (arith, a, le));
     }
 
@@ -117,30 +127,19 @@ gathered_later k last rank gs ls le h = record {
 
 -- ---- what came
 
-pub split_more : (k : ℕ) (gs : List RankGroup) (x : RankGroup) (come left rest : List Step) → come ≡ all_closed k gs ++ (closed k x.rank x.places ++ left) → left ≡ rest
-    → come ≡ all_closed k (gs ++ (x ∷ [])) ++ rest
-split_more k gs x come left rest e i =
+pub split_more : (b : Bool) (k r : ℕ) (xs : List ℕ) (gs : List RankGroup) (come left rest : List Step)
+    → come ≡ all_closed k gs ++ (elements b k r xs ++ left) → left ≡ rest
+    → come ≡ all_closed k (gs ++ groups_of b r xs) ++ rest
+split_more b k r xs gs come left rest e i =
     e
-    ∙ (sym (append_assoc (all_closed k gs) (closed k x.rank x.places) left)
-    ∙ (ap (λ z. z ++ left) (sym (closed_push k gs x)) ∙ ap (λ z. all_closed k (gs ++ (x ∷ [])) ++ z) i))
+    ∙ (sym (append_assoc (all_closed k gs) (elements b k r xs) left)
+    ∙ (ap (λ z. z ++ left) (sym (closed_told b k r xs gs)) ∙ ap (λ z. all_closed k (gs ++ groups_of b r xs) ++ z) i))
 
 length_back : (ss ts : List Step) → length ts ≤ length (ss ++ ts)
 length_back [] ts = omega arith
 length_back (s ∷ ss) ts = let h = length_back ss ts in omega (arith, h)
 
-closed_some : (k r : ℕ) (xs : List ℕ) → 0 < length xs → 0 < length (closed k r xs)
-closed_some k r [] lt = absurd (omega (arith, lt))
-closed_some k r (x ∷ xs) lt = omega arith
-
-pub some_closed : (k : ℕ) (gs : List RankGroup) (x : RankGroup) → 0 < length x.places → 0 < length (all_closed k (gs ++ (x ∷ [])))
-some_closed k gs x lt =
-    subst (λ (z : List Step). 0 < length z) (sym (closed_push k gs x))
-    (let a = closed_some k x.rank x.places lt in let b = length_back (all_closed k gs) (closed k x.rank x.places) in omega (arith, a, b))
-
-pub told_closed : (k r : ℕ) (xs : List ℕ) (left rest : List Step) → left ≡ closed k r xs ++ rest → 0 < length xs → length rest < length left
-told_closed k r xs left rest e lt =
-    subst (λ (z : List Step). length rest < length z) (sym e) (more (closed k r xs) (closed_some k r xs lt))
-  where
-    more : (ss : List Step) → 0 < length ss → length rest < length (ss ++ rest)
-    more [] h = absurd (omega (arith, h))
-    more (s ∷ ss) h = let i = length_back ss rest in omega (arith, i)
+pub some_closed : (b : Bool) (k r : ℕ) (xs : List ℕ) (gs : List RankGroup) → 0 < length xs → 0 < length (all_closed k (gs ++ groups_of b r xs))
+some_closed b k r xs gs lt =
+    subst (λ (z : List Step). 0 < length z) (sym (closed_told b k r xs gs))
+    (let a = some_elements b k r xs lt in let c = length_back (all_closed k gs) (elements b k r xs) in omega (arith, a, c))

@@ -1,12 +1,12 @@
 -- Cells of a dat that stand side by side.
-use Rattle.std.proofs.Common.{◌≡◌, ◌<◌, ◌≤◌, ◌+◌, ℕ, zero, suc, List, [], ◌∷◌, ◌++◌, map, refl, sym, ap, ap₂, ◌∙◌, subst, arith, ⊎_elim, ◌-◌, ◌*◌, pos, length}
+use Rattle.std.proofs.Common.{◌≡◌, ◌<◌, ◌≤◌, ◌+◌, ℕ, zero, suc, [], ◌∷◌, ◌++◌, refl, sym, ap, ap₂, ◌∙◌, subst, arith, ⊎_elim, ◌-◌, ◌*◌, pos, length}
 use Rattle.std.specs.Prelude.{◌⊎◌}
 use Rattle.std.specs.List.{flat_map}
 use Rattle.std.proofs.lemmas.Bool.{cases_lt}
 use Rattle.std.proofs.lemmas.List.{flat_map_more, length-map}
 use Rattle.kernel_types.specs.declared.faults.KernelFault.{KernelFault}
 use Rattle.mesh_decl.specs.Mesh.{dat_set, dat_dim, set_size}
-use Rattle.schedule_model.specs.Cells.{Cell, DatCell, Store}
+use Rattle.schedule_model.specs.Cells.{DatCell, Store}
 use Rattle.schedule_model.specs.Setup.{Setup, owner_of}
 use Rattle.flat_machine.specs.Layout.{Layout}
 use Rattle.bound_program.specs.Values.{BoundValue}

@@ -1,9 +1,9 @@
 -- The elements of one item on all ranks, each rank's one after another, rank after rank.
-use Rattle.std.specs.Prelude.{◌≡◌, ◌<◌, ◌≤◌, ℕ, zero, suc, List, [], ◌∷◌, ◌++◌, length, Option, Some, None}
+use Rattle.std.specs.Prelude.{◌≡◌, ◌<◌, ◌≤◌, ℕ, Bool, true, false, zero, suc, List, [], ◌∷◌, ◌++◌, length, Option, Some, None}
 use Rattle.schedule_steps.specs.declared.step.Step.{Step}
 use Rattle.schedule_steps.specs.declared.step.Step.TheVariants.{Send, Recv, Begin, End, Join}
 use Rattle.schedule_steps.specs.Steps.{IsStep}
-use Rattle.step_orders.specs.declared.stream.ItemOnRank.{ItemOnRank}
+use Rattle.rank_exec.specs.declared.stream.Told.{Told}
 use Rattle.step_orders.specs.Alone.{alone}
 use Rattle.closed_groups.specs.Closed.{closed}
 use Rattle.schedule_model.specs.Setup.{Setup}
@@ -38,10 +38,15 @@ CanBegin p l fs (Recv k a b ∷ ss) = CanBegin p l fs ss
 CanBegin p l fs (End k r x ∷ ss) = CanBegin p l fs ss
 CanBegin p l fs (Join k ∷ ss) = CanBegin p l fs ss
 
--- the steps of the closed group that was told, at these places
-abbrev pub told : Option ItemOnRank → List ℕ → List Step
+-- elements of item k on rank r at these places: each begins and ends before the next begins, or they are a closed group
+abbrev pub elements : (alone : Bool) → (k r : ℕ) → List ℕ → List Step
+elements true k r xs = alone k r xs
+elements false k r xs = closed k r xs
+
+-- the steps that were told, at these places
+abbrev pub told : Option Told → List ℕ → List Step
 told None xs = []
-told (Some of) xs = closed of.item of.rank xs
+told (Some of) xs = elements of.alone of.item of.rank xs
 
 -- Elements that ran on each rank by itself, from no fault, were begun and ended rank after rank.
 abbrev pub RanksComeInTurn : {F : Type 0} → Setup F → Layout F → Tables → Type 0

@@ -9,13 +9,14 @@ ghost use Rattle.rank_state.specs.Shows.{Shows};
 ghost use Rattle.rank_program.specs.Rooms.{HasRoomOf};
 ghost use Rattle.rank_exec.specs.RunRooms.{HasRunRoomOf};
 ghost use Rattle.rank_exec.specs.Driving.{Done, ComeReady};
+ghost use Rattle.rank_exec.specs.Rounds.{elements};
 ghost use Rattle.rank_program.specs.Sound.{Sound, setup_in, layout_in, tables_in};
 ghost use Rattle.rank_program.specs.Keeping.{KeepsIn};
 
 use crate::alone::run_places;
 use crate::run_room::RunRoom;
 use crate::sharing::is_short;
-use crate::stream::{Steps, next_closed_of};
+use crate::stream::{Steps, Told, next_closed_of};
 use kernel_types::KernelFault;
 use rank_machine::machine::Machine;
 use rank_program::{DistributedProgram, Room};
@@ -43,6 +44,29 @@ pub fn run_group(
 {
     closed_groups::places_stay_shut::<KernelFault>();
     run_places(machine, program, room, item, rank, places);
+}
+
+/// Elements that were told, one after another, each begun and ended in place.
+pub fn run_told(
+    machine: &mut Machine,
+    program: &DistributedProgram<'_>,
+    room: &mut Room,
+    of: Told,
+    places: &[u32],
+)
+    requires sound { Sound program.now }
+    requires keeps { KeepsIn program.now of.item }
+    requires space { HasRoomOf program.now room.old }
+    requires shows { (f : Flat KernelFault) × Shows (setup_in program.now) (layout_in program.now) (tables_in program.now) machine.old f }
+    requires ready { ComeReady (setup_in program.now) (layout_in program.now) (tables_in program.now)
+        (elements of.alone of.item of.rank places.now) machine.old }
+    requires alone { GroupsAreAlone (setup_in program.now) (layout_in program.now) (elements of.alone of.item of.rank places.now) }
+    ensures done { Done (setup_in program.now) (layout_in program.now) (tables_in program.now)
+        (elements of.alone of.item of.rank places.now) machine.old machine.new }
+    ensures space { HasRoomOf program.now room.new }
+{
+    closed_groups::places_stay_shut::<KernelFault>();
+    run_places(machine, program, room, of.item, of.rank, places);
 }
 
 // The step is the end of an element whose kernel is short, or of one where a single worker runs all kernels.

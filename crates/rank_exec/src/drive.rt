@@ -107,7 +107,7 @@ fn run<R: Threads + Sync, G: Gate, S: Steps>(
     while let Some(step) = next {
         if let Step::Begin { item, rank, place } = step {
             let begin = BeginAt { item, rank, place };
-            next = run_begins(crew, machine, program, room, steps, begin);
+            next = run_begins(crew, machine, program, room, steps, begin)?;
         } else {
             if let Some(stop) = take(crew.alloc, machine, program, &mut room.step, step)? {
                 return Ok(Some(stop));

@@ -1,9 +1,11 @@
 // Runs of begins.
 
 ghost use Rattle.std.specs.Prelude.{◌≡◌, ◌<◌, ◌≤◌, ◌+◌, ◌*◌, ◌++◌, ◌∷◌, ℕ, true, [], List, length, take, None, Some, vec_capacity};
+ghost use Rattle.std.specs.Prelude.{IfOk, OnOk};
 ghost use Rattle.kernel_types.specs.declared.faults.KernelFault.{KernelFault};
 ghost use Rattle.schedule_steps.specs.declared.step.Step.{Step};
 ghost use Rattle.schedule_steps.specs.declared.step.Step.TheVariants.{Begin, End};
+ghost use Rattle.closed_groups.specs.Closed.{GroupsAreAlone};
 ghost use Rattle.flat_machine.specs.Layout.{by_place};
 ghost use Rattle.flat_machine.specs.Flat.{Flat, flat_from};
 ghost use Rattle.rank_program.specs.Rooms.{HasRoomOf};
@@ -16,14 +18,15 @@ ghost use Rattle.rank_exec.specs.Driving.{Done, ComeReady, to_come};
 ghost use Rattle.rank_program.specs.Sound.{Sound, Takes, setup_in, layout_in, tables_in};
 ghost use Rattle.rank_program.specs.Keeping.{KeepsIn};
 
-use crate::alone::run_alone;
 use crate::begins::{BeginAt, Begins};
 use crate::group_room::GroupRoom;
 use crate::group_steps::{load_all, open_all};
+use crate::rounds::run_on;
 use crate::run_room::{MOST_BEGINS, RunRoom};
 use crate::sharing::workers_for;
 use crate::stream::{Steps, next_of};
 use kernel_types::KernelFault;
+use op_num::OutOfMemory;
 use par_exec::{Crew, Gate};
 use rank_machine::machine::Machine;
 use rank_machine::steps::{in_place, read_constants};
@@ -234,7 +237,10 @@ fn is_end(step: Option<Step>, item: u32, rank: u32, place: u32) -> bool
 }
 
 /// A begin and those of its item and rank that come next, as one group; a begin that its own end
-/// follows, in place, and with it those of which the stream tells that they follow in the same way. Answers the step after them.
+/// follows, in place, and with it those of which the stream tells that they come behind it. Answers the step after them.
+///
+/// # Errors
+/// Want of memory alone.
 pub fn run_begins<R: Threads + Sync, G: Gate, S: Steps>(
     crew: &Crew<'_, R, G>,
     machine: &mut Machine,
@@ -242,18 +248,21 @@ pub fn run_begins<R: Threads + Sync, G: Gate, S: Steps>(
     room: &mut RunRoom,
     steps: &mut S,
     begin: BeginAt,
-) -> Option<Step>
+) -> Result<Option<Step>, OutOfMemory>
     requires sound { Sound program.now }
     requires keeps { (k : ℕ) → KeepsIn program.now k }
     requires space { HasRunRoomOf program.now room.old }
     requires shows { (f : Flat KernelFault) × Shows (setup_in program.now) (layout_in program.now) (tables_in program.now) machine.old f }
     requires ready { ComeReady (setup_in program.now) (layout_in program.now) (tables_in program.now)
         (Begin begin.item begin.rank begin.place ∷ S.left steps.old) machine.old }
-    ensures done { (done : List Step)
-        × (Begin begin.item begin.rank begin.place ∷ S.left steps.old ≡ done ++ to_come result (S.left steps.new)) × (0 < length done)
-        × Done (setup_in program.now) (layout_in program.now) (tables_in program.now) done machine.old machine.new }
-    ensures over { result ≡ None → S.left steps.new ≡ [] }
-    ensures space { HasRunRoomOf program.now room.new }
+    requires alone { GroupsAreAlone (setup_in program.now) (layout_in program.now)
+        (Begin begin.item begin.rank begin.place ∷ S.left steps.old) }
+    ensures done { IfOk result (λ next. (done : List Step)
+        × (Begin begin.item begin.rank begin.place ∷ S.left steps.old ≡ done ++ to_come next (S.left steps.new)) × (0 < length done)
+        × Done (setup_in program.now) (layout_in program.now) (tables_in program.now) done machine.old machine.new) }
+    ensures over { IfOk result (λ next. next ≡ None → S.left steps.new ≡ []) }
+    ensures suffix { (front : List Step) × (Begin begin.item begin.rank begin.place ∷ S.left steps.old ≡ front ++ S.left steps.new) }
+    ensures space { OnOk result (HasRunRoomOf program.now room.new) }
 {
     let BeginAt { item, rank, place } = begin;
     room.places.clear();
@@ -261,8 +270,9 @@ pub fn run_begins<R: Threads + Sync, G: Gate, S: Steps>(
     let next = collect(steps, item, rank, &mut room.places);
     if room.places.len() == 1 && is_end(next, item, rank, place) {
         in_place(machine, program, &mut room.step, item, rank, place);
-        run_alone(machine, program, room, steps);
-        return next_of(steps);
+        let end = Step::End { item, rank, place };
+        run_on(crew, machine, program, room, steps, end)?;
+        return Ok(next_of(steps));
     }
     let group = Begins {
         item,
@@ -277,5 +287,5 @@ pub fn run_begins<R: Threads + Sync, G: Gate, S: Steps>(
         &mut room.group,
         &group,
     );
-    next
+    Ok(next)
 }

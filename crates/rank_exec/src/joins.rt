@@ -105,7 +105,7 @@ fn run_one(
         spans: &room.owned,
         indices,
     };
-    run_one_on(machine, program, &run, &windows, &mut room.locals)
+    run_one_on(machine, program, &run, &windows, &mut room.kernels.locals)
 }
 
 // How many elements an Ordered loop has.

@@ -23,4 +23,4 @@ pub mod stream;
 pub use rank_machine::machine::Machine;
 pub use rank_state::rank_memory::stop::Stop;
 pub use running::{Outcome, run_planned};
-pub use sharing::come_in_rounds;
+pub use sharing::{come_in_rounds, needs_groups};

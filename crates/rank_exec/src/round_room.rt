@@ -38,7 +38,7 @@ fn room_for(
             .get(rank as usize)
             .copied()
             .unwrap_or(0);
-        room.batches = BatchesRoom::new(
+        room.kernels.batches = BatchesRoom::new(
             alloc,
             BATCHES,
             MOST_ARGS,

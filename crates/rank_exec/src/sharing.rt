@@ -3,8 +3,8 @@
 ghost use Rattle.std.specs.Prelude.{◌<◌};
 
 use bound_program::Item;
-use kernel_code::Part;
-use rank_program::{DistributedProgram, KernelJob, comes_in_batches};
+use kernel_code::{Code, Part};
+use rank_program::{DistributedProgram, KernelJob, comes_in_batches, runs_in_batches};
 use schedule_steps::Step;
 
 // As many operations as threads are worth: starting them takes as long as some thousands.
@@ -59,6 +59,14 @@ fn operations_in(program: &DistributedProgram<'_>, item: u32) -> usize {
         return 0;
     };
     operations(&code.part)
+}
+
+/// Whether elements with a kernel that obeys its modes are better begun in groups by so many `workers` on so many `ranks`: it isn't short,
+/// doesn't run in batches, and there are more workers than ranks.
+pub fn needs_groups(code: &Code<'_>, ranks: u32, workers: u32) -> bool {
+    workers > ranks
+        && operations(&code.part).saturating_mul(FULL_GROUP) >= WORTH_THREADS
+        && !runs_in_batches(code)
 }
 
 /// Whether the kernel of a Free item is so short that not even a full group of its elements is worth threads.

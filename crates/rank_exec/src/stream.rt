@@ -3,6 +3,7 @@
 ghost use Rattle.std.specs.Prelude.{◌≡◌, ◌<◌, ◌++◌, [], None, length, vec_capacity, IfSome, IfNone};
 ghost use Rattle.closed_groups.specs.Closed.{closed};
 ghost use Rattle.rank_exec.specs.Driving.{to_come};
+ghost use Rattle.rank_exec.specs.Rounds.{elements};
 
 use schedule_steps::Step;
 use step_orders::ItemOnRank;
@@ -16,8 +17,16 @@ pub(crate) fn next_of<S: Steps>(steps: &mut S) -> Option<Step>
     steps.next_step()
 }
 
-// The item and rank of the closed group that comes next, whose steps are taken and whose places are put down; `None` where none
-// is told.
+// Elements of an item on a rank that a stream tells to come next: where they are `alone`, each begins and ends before the next begins;
+// else they are a closed group.
+#[derive(Clone, Copy, PartialEq, Eq, Debug)]
+pub(crate) struct Told {
+    pub item: u32,
+    pub rank: u32,
+    pub alone: bool,
+}
+
+// The closed group that comes next, whose steps are taken and whose places are put down; `None` where none is told.
 pub(crate) fn next_closed_of<S: Steps>(steps: &mut S, places: &mut Vec<u32>) -> Option<ItemOnRank>
     requires empty { places.old.items ≡ [] }
     ensures some { IfSome result (λ of. S.left steps.old ≡ closed of.item of.rank places.new.items ++ S.left steps.new) }
@@ -26,4 +35,30 @@ pub(crate) fn next_closed_of<S: Steps>(steps: &mut S, places: &mut Vec<u32>) -> 
     ensures room { vec_capacity places.new ≡ vec_capacity places.old }
 {
     steps.next_closed(places)
+}
+
+// The elements that are told to come next, whose steps are taken and whose places are put down; `None` where none are told.
+pub(crate) fn next_told<S: Steps>(steps: &mut S, places: &mut Vec<u32>) -> Option<Told>
+    requires empty { places.old.items ≡ [] }
+    ensures some { IfSome result (λ of. S.left steps.old ≡ elements of.alone of.item of.rank places.new.items ++ S.left steps.new) }
+    ensures more { IfSome result (λ of. 0 < length places.new.items) }
+    ensures none { IfNone result (S.left steps.new ≡ S.left steps.old) }
+    ensures room { vec_capacity places.new ≡ vec_capacity places.old }
+{
+    if let Some(ItemOnRank { item, rank }) = steps.next_alone(places) {
+        return Some(Told {
+            item,
+            rank,
+            alone: true,
+        });
+    }
+    places.clear();
+    let Some(ItemOnRank { item, rank }) = steps.next_closed(places) else {
+        return None;
+    };
+    Some(Told {
+        item,
+        rank,
+        alone: false,
+    })
 }

@@ -19,8 +19,8 @@ loop-next-init g c = record {
   over = c.next_of-next.ensures.over;
 }
 
-pub run_begins-next-requires-clause-ready : goal.run_begins-next-requires-clause-ready
-run_begins-next-requires-clause-ready g c κs within =
+pub run_begins-requires-clause-ready : goal.run_begins-requires-clause-ready
+run_begins-requires-clause-ready g c κs within =
     come_ready (setup_in c.args.program.now) (layout_in c.args.program.now) (tables_in c.args.program.now) (c.steps_are_ready.ensures.begin (setup_in c.args.program.now) (layout_in c.args.program.now) (tables_in c.args.program.now)) (g.S.Steps.left c.args.steps.now) (Begin c.in-Begin.item c.in-Begin.rank c.in-Begin.place ∷ g.S.Steps.left c.loop-next.steps) c.requires.accepted c.requires.starts.0 c.requires.starts.1 c.args.machine.now c.loop-next.machine c.requires.starts.2 c.requires.peak.opened r
   where
     r : Reached (setup_in c.args.program.now) (layout_in c.args.program.now) (tables_in c.args.program.now) (g.S.Steps.left c.args.steps.now) (Begin c.in-Begin.item c.in-Begin.rank c.in-Begin.place ∷ g.S.Steps.left c.loop-next.steps) c.args.machine.now c.loop-next.machine
@@ -28,12 +28,29 @@ run_begins-next-requires-clause-ready g c κs within =
 
 pub loop-next-preserved-in-Begin : goal.loop-next-preserved-in-Begin
 loop-next-preserved-in-Begin g c =
-    let done = c.run_begins-next.ensures.done in
+    let done = c.in_ok-next.ensures.done in
     record {
-      reached = reached_more (setup_in c.args.program.now) (layout_in c.args.program.now) (tables_in c.args.program.now) (g.S.Steps.left c.args.steps.now) (Begin c.in-Begin.item c.in-Begin.rank c.in-Begin.place ∷ g.S.Steps.left c.loop-next.steps) (to_come c.run_begins-next.result (g.S.Steps.left c.run_begins-next.new.steps)) done.0 c.args.machine.now c.loop-next.machine c.run_begins-next.new.machine r done.1 done.3;
-      space = c.run_begins-next.ensures.space;
-      over = c.run_begins-next.ensures.over;
+      reached = reached_more (setup_in c.args.program.now) (layout_in c.args.program.now) (tables_in c.args.program.now) (g.S.Steps.left c.args.steps.now) (Begin c.in-Begin.item c.in-Begin.rank c.in-Begin.place ∷ g.S.Steps.left c.loop-next.steps) (to_come c.in_ok-next.next (g.S.Steps.left c.run_begins.new.steps)) done.0 c.args.machine.now c.loop-next.machine c.run_begins.new.machine r done.1 done.3;
+      space = c.in_ok-next.ensures.space;
+      over = c.in_ok-next.ensures.over;
     }
+  where
+    r : Reached (setup_in c.args.program.now) (layout_in c.args.program.now) (tables_in c.args.program.now) (g.S.Steps.left c.args.steps.now) (Begin c.in-Begin.item c.in-Begin.rank c.in-Begin.place ∷ g.S.Steps.left c.loop-next.steps) c.args.machine.now c.loop-next.machine
+    r = reached_at (setup_in c.args.program.now) (layout_in c.args.program.now) (tables_in c.args.program.now) (g.S.Steps.left c.args.steps.now) (g.S.Steps.left c.loop-next.steps) c.args.machine.now c.loop-next.machine c.loop-next.next (Begin c.in-Begin.item c.in-Begin.rank c.in-Begin.place) (c.in-Some.is ∙ ap Some c.in-Begin.is) c.loop-next.invariant.reached
+
+pub run_begins-requires-clause-alone : goal.run_begins-requires-clause-alone
+run_begins-requires-clause-alone g c κs within =
+    groups_after (setup_in c.args.program.now) (layout_in c.args.program.now) (g.S.Steps.left c.args.steps.now) r.front
+    (Begin c.in-Begin.item c.in-Begin.rank c.in-Begin.place ∷ g.S.Steps.left c.loop-next.steps)
+    (c.closed_groups_are_alone.ensures (setup_in c.args.program.now) c.requires.coloured (layout_in c.args.program.now) c.requires.sound.layout (g.S.Steps.left c.args.steps.now) c.requires.accepted) r.split
+  where
+    r : Reached (setup_in c.args.program.now) (layout_in c.args.program.now) (tables_in c.args.program.now) (g.S.Steps.left c.args.steps.now) (Begin c.in-Begin.item c.in-Begin.rank c.in-Begin.place ∷ g.S.Steps.left c.loop-next.steps) c.args.machine.now c.loop-next.machine
+    r = reached_at (setup_in c.args.program.now) (layout_in c.args.program.now) (tables_in c.args.program.now) (g.S.Steps.left c.args.steps.now) (g.S.Steps.left c.loop-next.steps) c.args.machine.now c.loop-next.machine c.loop-next.next (Begin c.in-Begin.item c.in-Begin.rank c.in-Begin.place) (c.in-Some.is ∙ ap Some c.in-Begin.is) c.loop-next.invariant.reached
+
+pub returns-in_err-next-clause-suffix : goal.returns-in_err-next-clause-suffix
+returns-in_err-next-clause-suffix g c =
+    let more = c.run_begins.ensures.suffix in
+    (r.front ++ more.0, r.split ∙ (ap (λ z. r.front ++ z) more.1 ∙ sym (append_assoc r.front more.0 (g.S.Steps.left c.run_begins.new.steps))))
   where
     r : Reached (setup_in c.args.program.now) (layout_in c.args.program.now) (tables_in c.args.program.now) (g.S.Steps.left c.args.steps.now) (Begin c.in-Begin.item c.in-Begin.rank c.in-Begin.place ∷ g.S.Steps.left c.loop-next.steps) c.args.machine.now c.loop-next.machine
     r = reached_at (setup_in c.args.program.now) (layout_in c.args.program.now) (tables_in c.args.program.now) (g.S.Steps.left c.args.steps.now) (g.S.Steps.left c.loop-next.steps) c.args.machine.now c.loop-next.machine c.loop-next.next (Begin c.in-Begin.item c.in-Begin.rank c.in-Begin.place) (c.in-Some.is ∙ ap Some c.in-Begin.is) c.loop-next.invariant.reached

@@ -2,10 +2,10 @@ use Rattle.std.proofs.Common.{◌≡◌, ◌<◌, ◌≤◌, [], ◌++◌, ◌�
 use Rattle.std.specs.Prelude.{IfSome}
 use Rattle.schedule_steps.specs.declared.step.Step.{Step}
 use Rattle.flat_machine.specs.Flat.{flat_from}
-use Rattle.closed_groups.specs.Closed.{closed, GroupsAreAlone}
+use Rattle.closed_groups.specs.Closed.{GroupsAreAlone}
 use Rattle.rank_exec.specs.RunRooms.{most_begins}
 use Rattle.rank_exec.specs.Driving.{Done, ComeReady}
-use Rattle.rank_exec.specs.Rounds.{told}
+use Rattle.rank_exec.specs.Rounds.{elements, told}
 use Rattle.rank_exec.proofs.Driving.{done_none, done_more, ready_after, ready_front}
 use Rattle.rank_exec.proofs.Closing.{groups_after, groups_front}
 use Rattle.rank_exec.proofs.Telling.{told_is}
@@ -16,16 +16,16 @@ pub loop-next-init : goal.loop-next-init
 loop-next-init g c = record {
   done = (
     [],
-    told_is c.next_closed_of-next.result c.next_closed_of-next.new.places.items (g.S.Steps.left c.args.steps.now) (g.S.Steps.left c.next_closed_of-next.new.steps) c.next_closed_of-next.ensures.some c.next_closed_of-next.ensures.none,
+    told_is c.next_told-next.result c.next_told-next.new.places.items (g.S.Steps.left c.args.steps.now) (g.S.Steps.left c.next_told-next.new.steps) c.next_told-next.ensures.some c.next_told-next.ensures.none,
     done_none (setup_in c.args.program.now) (layout_in c.args.program.now) (tables_in c.args.program.now) c.args.machine.now,
   );
   space = record {
     step_fits = c.requires.space.step_fits;
-    places_fit = subst (λ n. most_begins ≤ n) (sym (c.next_closed_of-next.ensures.room ∙ c.clear.ensures.capacity)) c.requires.space.places_fit;
+    places_fit = subst (λ n. most_begins ≤ n) (sym (c.next_told-next.ensures.room ∙ c.clear.ensures.capacity)) c.requires.space.places_fit;
     group_fits = c.requires.space.group_fits;
     parts_fit = c.requires.space.parts_fit;
   };
-  some = c.next_closed_of-next.ensures.more;
+  some = c.next_told-next.ensures.more;
   lists = refl;
   parts = refl;
 }
@@ -56,26 +56,26 @@ pub run_told_round-requires-clause-some : goal.run_told_round-requires-clause-so
 run_told_round-requires-clause-some g c κs within =
     subst (λ o. IfSome o (λ x. 0 < length c.loop-next.room.places.items)) c.in-Some.is c.loop-next.invariant.some
 
-pub run_group-requires-clause-ready : goal.run_group-requires-clause-ready
-run_group-requires-clause-ready g c =
+pub run_told-requires-clause-ready : goal.run_told-requires-clause-ready
+run_told-requires-clause-ready g c =
     let p = setup_in c.args.program.now in
     let l = layout_in c.args.program.now in
     let t = tables_in c.args.program.now in
     let h = c.loop-next.invariant.done in
     let come = subst (λ o. ComeReady p l t (told o c.loop-next.room.places.items ++ g.S.Steps.left c.loop-next.steps) c.loop-next.machine) c.in-Some.is
     (ready_after p l t (g.S.Steps.left c.args.steps.now) h.0 (told c.loop-next.next c.loop-next.room.places.items ++ g.S.Steps.left c.loop-next.steps) c.args.machine.now c.loop-next.machine c.requires.ready h.1 h.2) in
-    subst (λ xs. ComeReady p l t (closed c.in-Some.of.item c.in-Some.of.rank xs) c.loop-next.machine) (sym c.deref.ensures.value)
-    (ready_front p l t (closed c.in-Some.of.item c.in-Some.of.rank c.loop-next.room.places.items ++ g.S.Steps.left c.loop-next.steps) (closed c.in-Some.of.item c.in-Some.of.rank c.loop-next.room.places.items) (g.S.Steps.left c.loop-next.steps) c.loop-next.machine come refl)
+    subst (λ xs. ComeReady p l t (elements c.in-Some.of.alone c.in-Some.of.item c.in-Some.of.rank xs) c.loop-next.machine) (sym c.deref.ensures.value)
+    (ready_front p l t (elements c.in-Some.of.alone c.in-Some.of.item c.in-Some.of.rank c.loop-next.room.places.items ++ g.S.Steps.left c.loop-next.steps) (elements c.in-Some.of.alone c.in-Some.of.item c.in-Some.of.rank c.loop-next.room.places.items) (g.S.Steps.left c.loop-next.steps) c.loop-next.machine come refl)
 
-pub run_group-requires-clause-alone : goal.run_group-requires-clause-alone
-run_group-requires-clause-alone g c =
+pub run_told-requires-clause-alone : goal.run_told-requires-clause-alone
+run_told-requires-clause-alone g c =
     let p = setup_in c.args.program.now in
     let l = layout_in c.args.program.now in
     let h = c.loop-next.invariant.done in
     let come = subst (λ o. GroupsAreAlone p l (told o c.loop-next.room.places.items ++ g.S.Steps.left c.loop-next.steps)) c.in-Some.is
     (groups_after p l (g.S.Steps.left c.args.steps.now) h.0 (told c.loop-next.next c.loop-next.room.places.items ++ g.S.Steps.left c.loop-next.steps) c.requires.alone h.1) in
-    subst (λ xs. GroupsAreAlone p l (closed c.in-Some.of.item c.in-Some.of.rank xs)) (sym c.deref.ensures.value)
-    (groups_front p l (closed c.in-Some.of.item c.in-Some.of.rank c.loop-next.room.places.items ++ g.S.Steps.left c.loop-next.steps) (closed c.in-Some.of.item c.in-Some.of.rank c.loop-next.room.places.items) (g.S.Steps.left c.loop-next.steps) come refl)
+    subst (λ xs. GroupsAreAlone p l (elements c.in-Some.of.alone c.in-Some.of.item c.in-Some.of.rank xs)) (sym c.deref.ensures.value)
+    (groups_front p l (elements c.in-Some.of.alone c.in-Some.of.item c.in-Some.of.rank c.loop-next.room.places.items ++ g.S.Steps.left c.loop-next.steps) (elements c.in-Some.of.alone c.in-Some.of.item c.in-Some.of.rank c.loop-next.room.places.items) (g.S.Steps.left c.loop-next.steps) come refl)
 
 pub returns-then-of-len-clause-done : goal.returns-then-of-len-clause-done
 returns-then-of-len-clause-done g c =
@@ -83,14 +83,14 @@ returns-then-of-len-clause-done g c =
     let l = layout_in c.args.program.now in
     let t = tables_in c.args.program.now in
     let h = c.loop-next.invariant.done in
-    let group : List Step = closed c.in-Some.of.item c.in-Some.of.rank c.loop-next.room.places.items in
+    let group : List Step = elements c.in-Some.of.alone c.in-Some.of.item c.in-Some.of.rank c.loop-next.room.places.items in
     let come : g.S.Steps.left c.args.steps.now ≡ h.0 ++ (group ++ g.S.Steps.left c.loop-next.steps) =
     subst (λ o. g.S.Steps.left c.args.steps.now ≡ h.0 ++ (told o c.loop-next.room.places.items ++ g.S.Steps.left c.loop-next.steps)) c.in-Some.is h.1 in
-    let done : Done p l t group c.loop-next.machine c.run_group.new.machine =
-    subst (λ xs. Done p l t (closed c.in-Some.of.item c.in-Some.of.rank xs) c.loop-next.machine c.run_group.new.machine) c.deref.ensures.value c.run_group.ensures.done in (
+    let done : Done p l t group c.loop-next.machine c.run_told.new.machine =
+    subst (λ xs. Done p l t (elements c.in-Some.of.alone c.in-Some.of.item c.in-Some.of.rank xs) c.loop-next.machine c.run_told.new.machine) c.deref.ensures.value c.run_told.ensures.done in (
       h.0 ++ group,
       come ∙ sym (append_assoc h.0 group (g.S.Steps.left c.loop-next.steps)),
-      done_more p l t h.0 group c.args.machine.now c.loop-next.machine c.run_group.new.machine h.2 done,
+      done_more p l t h.0 group c.args.machine.now c.loop-next.machine c.run_told.new.machine h.2 done,
     )
 
 pub returns-then-of-len-clause-suffix : goal.returns-then-of-len-clause-suffix
@@ -99,7 +99,7 @@ returns-then-of-len-clause-suffix g c =
     let l = layout_in c.args.program.now in
     let t = tables_in c.args.program.now in
     let h = c.loop-next.invariant.done in
-    let group : List Step = closed c.in-Some.of.item c.in-Some.of.rank c.loop-next.room.places.items in
+    let group : List Step = elements c.in-Some.of.alone c.in-Some.of.item c.in-Some.of.rank c.loop-next.room.places.items in
     let come : g.S.Steps.left c.args.steps.now ≡ h.0 ++ (group ++ g.S.Steps.left c.loop-next.steps) =
     subst (λ o. g.S.Steps.left c.args.steps.now ≡ h.0 ++ (told o c.loop-next.room.places.items ++ g.S.Steps.left c.loop-next.steps)) c.in-Some.is h.1 in
     (h.0 ++ group, come ∙ sym (append_assoc h.0 group (g.S.Steps.left c.loop-next.steps)))
@@ -110,7 +110,7 @@ returns-in_err-next-clause-suffix g c =
     let l = layout_in c.args.program.now in
     let t = tables_in c.args.program.now in
     let h = c.loop-next.invariant.done in
-    let group : List Step = closed c.in-Some.of.item c.in-Some.of.rank c.loop-next.room.places.items in
+    let group : List Step = elements c.in-Some.of.alone c.in-Some.of.item c.in-Some.of.rank c.loop-next.room.places.items in
     let come : g.S.Steps.left c.args.steps.now ≡ h.0 ++ (group ++ g.S.Steps.left c.loop-next.steps) =
     subst (λ o. g.S.Steps.left c.args.steps.now ≡ h.0 ++ (told o c.loop-next.room.places.items ++ g.S.Steps.left c.loop-next.steps)) c.in-Some.is h.1 in
     let more = c.run_told_round.ensures.suffix in
@@ -122,7 +122,7 @@ loop-next-preserved g c =
     let l = layout_in c.args.program.now in
     let t = tables_in c.args.program.now in
     let h = c.loop-next.invariant.done in
-    let group : List Step = closed c.in-Some.of.item c.in-Some.of.rank c.loop-next.room.places.items in
+    let group : List Step = elements c.in-Some.of.alone c.in-Some.of.item c.in-Some.of.rank c.loop-next.room.places.items in
     let come : g.S.Steps.left c.args.steps.now ≡ h.0 ++ (group ++ g.S.Steps.left c.loop-next.steps) =
     subst (λ o. g.S.Steps.left c.args.steps.now ≡ h.0 ++ (told o c.loop-next.room.places.items ++ g.S.Steps.left c.loop-next.steps)) c.in-Some.is h.1 in
     let made = c.in_ok-next.ensures.done in

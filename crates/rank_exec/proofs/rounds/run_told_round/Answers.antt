@@ -3,10 +3,10 @@ use Rattle.std.specs.Vec.{with_items}
 use Rattle.rank_machine.specs.OnRanks.{places_on}
 use Rattle.rank_exec.proofs.GatheredGroups.{Lists}
 use Rattle.schedule_steps.specs.declared.step.Step.{Step}
-use Rattle.closed_groups.specs.Closed.{closed, all_closed, GroupsAreAlone}
+use Rattle.closed_groups.specs.Closed.{all_closed, GroupsAreAlone}
 use Rattle.rank_program.specs.Sound.{setup_in, layout_in, tables_in}
 use Rattle.rank_exec.specs.Driving.{Done}
-use Rattle.rank_exec.specs.Rounds.{round, told, CanBegin}
+use Rattle.rank_exec.specs.Rounds.{round, elements, told, CanBegin}
 use Rattle.rank_exec.proofs.Driving.{ready_front}
 use Rattle.rank_exec.proofs.Closing.{groups_front}
 use Rattle.rank_exec.proofs.Several.{all_can, all_done}
@@ -20,7 +20,7 @@ run_round-requires-clause-can g c κs within =
     let t = tables_in c.args.program.now in
     let groups = c.in_ok-next.ensures.groups in
     let gs = groups.0 in
-    let come : List Step = closed c.args.of.item c.args.of.rank c.args.room.now.places.items ++ g.S.Steps.left c.args.steps.now in
+    let come : List Step = elements c.args.of.alone c.args.of.item c.args.of.rank c.args.room.now.places.items ++ g.S.Steps.left c.args.steps.now in
     let rest : List Step = told c.in_ok-next.next c.gather.new.places.items ++ g.S.Steps.left c.gather.new.steps in
     let same : c.deref.result.now ≡ c.gather.new.lists = c.deref.ensures.value ∙ refilled (with_items c.args.room.now.round.lists c.clear_all.new.lists) c.gather.new.lists (c.gather.auto.lists ∙ ap length c.deref_mut-2.ensures.value) in
     subst (λ (ls : Lists). CanBegin p l c.args.machine.now.frames (round c.args.of.item (places_on ls) (length ls))) (sym same)
@@ -37,7 +37,7 @@ returns-clause-done g c =
     let t = tables_in c.args.program.now in
     let groups = c.in_ok-next.ensures.groups in
     let gs = groups.0 in
-    let come : List Step = closed c.args.of.item c.args.of.rank c.args.room.now.places.items ++ g.S.Steps.left c.args.steps.now in
+    let come : List Step = elements c.args.of.alone c.args.of.item c.args.of.rank c.args.room.now.places.items ++ g.S.Steps.left c.args.steps.now in
     let rest : List Step = told c.in_ok-next.next c.gather.new.places.items ++ g.S.Steps.left c.gather.new.steps in
     let same : c.deref.result.now ≡ c.gather.new.lists = c.deref.ensures.value ∙ refilled (with_items c.args.room.now.round.lists c.clear_all.new.lists) c.gather.new.lists (c.gather.auto.lists ∙ ap length c.deref_mut-2.ensures.value) in
     let done : Done p l t (round c.args.of.item (places_on c.gather.new.lists) (length c.gather.new.lists)) c.args.machine.now c.run_round.new.machine =
