@@ -13,13 +13,13 @@ use Rattle.chain_model.specs.Slicing.{pair_owner}
 use Rattle.chain_model.specs.Machine.{ChainState, value_in, exchanged, gathered, pair_values}
 use Rattle.bound_chains.specs.Slices.{needs, owns_pair, slicing_of}
 use Rattle.bound_chains.proofs.Backwards.{owns_needed}
-use Rattle.chain_memory.specs.Places.{in_block}
-use Rattle.chain_memory.specs.Cells.{Values, BlocksHold}
-use Rattle.chain_ranks.specs.declared.chain_exchange.exchanges.Exchange.TheVariants.{Drop, Take}
-use Rattle.chain_ranks.specs.Exchanged.{is_copy, exchanged_all}
-use Rattle.chain_ranks.proofs.chain_exchange.Exchanging.{owns_there}
-use Rattle.chain_ranks.specs.Running.{StoresStand}
-use Rattle.chain_ranks.proofs.OneElement.{read}
+use Rattle.deep_halo.specs.Places.{in_block}
+use Rattle.deep_halo.specs.Cells.{Values, BlocksHold}
+use Rattle.deep_halo.specs.declared.chain_ranks.chain_exchange.exchanges.Exchange.TheVariants.{Drop, Take}
+use Rattle.deep_halo.specs.Exchanged.{is_copy, exchanged_all}
+use Rattle.deep_halo.proofs.chain_ranks.chain_exchange.Exchanging.{owns_there}
+use Rattle.deep_halo.specs.Running.{StoresStand}
+use Rattle.deep_halo.proofs.chain_ranks.OneElement.{read}
 use Rattle.deep_halo.specs.Programs.{IsHolding}
 use Rattle.lemmas.proofs.Truth.{cases_bool}
 

@@ -17,11 +17,11 @@ use Rattle.host_acts.specs.Variables.{of_vars}
 use Rattle.chain_model.specs.Slicing.{pair_owner}
 use Rattle.chain_model.specs.Machine.{value_in, pair_values, chain_start}
 use Rattle.bound_chains.specs.Slices.{slicing_of}
-use Rattle.chain_memory.specs.Places.{all_cells}
-use Rattle.chain_memory.specs.Layouts.{IsLayout}
-use Rattle.chain_memory.specs.declared.layouts.Layout.{Layout}
-use Rattle.chain_memory.specs.Cells.{BlocksHold, first_in_last, taken_by_owners, is_earlier}
-use Rattle.chain_ranks.specs.Running.{StoresStand}
+use Rattle.deep_halo.specs.Places.{all_cells}
+use Rattle.deep_halo.specs.Layouts.{IsLayout}
+use Rattle.deep_halo.specs.declared.chain_memory.layouts.Layout.{Layout}
+use Rattle.deep_halo.specs.Cells.{BlocksHold, first_in_last, taken_by_owners, is_earlier}
+use Rattle.deep_halo.specs.Running.{StoresStand}
 use Rattle.deep_halo.specs.Stands.{Stands}
 use Rattle.deep_halo.proofs.HostVariables.{variables_long}
 

@@ -26,12 +26,12 @@ use Rattle.rank_state.specs.Stops.{stop_in}
 use Rattle.chain_model.specs.Chains.{begins}
 use Rattle.chain_model.specs.Machine.{ChainState, supplied, exchanged, view, ran, one_run, rank_run, ranks_run}
 use Rattle.bound_chains.specs.Slices.{slicing_of}
-use Rattle.chain_memory.specs.Places.{in_block, all_cells}
-use Rattle.chain_ranks.specs.Constants.{constants_in}
-use Rattle.chain_ranks.specs.Running.{StoresStand, AreHeld, Runs}
-use Rattle.chain_ranks.specs.Loops.{HasConstants}
-use Rattle.chain_ranks.proofs.OneElement.{read}
-use Rattle.chain_ranks.proofs.Ran.{kept_more}
+use Rattle.deep_halo.specs.Places.{in_block, all_cells}
+use Rattle.deep_halo.specs.Constants.{constants_in}
+use Rattle.deep_halo.specs.Running.{StoresStand, AreHeld, Runs}
+use Rattle.deep_halo.specs.Loops.{HasConstants}
+use Rattle.deep_halo.proofs.chain_ranks.OneElement.{read}
+use Rattle.deep_halo.proofs.chain_ranks.Ran.{kept_more}
 use Rattle.deep_halo.specs.Stands.{recent}
 use Rattle.deep_halo.proofs.Units.{units_before}
 

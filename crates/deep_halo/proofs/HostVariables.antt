@@ -19,10 +19,10 @@ use Rattle.run_model.specs.Memory.{Holds, memory_length, var_start, place_of, ha
 use Rattle.run_model.proofs.Memory.{dat_there, inside}
 use Rattle.host_acts.specs.Variables.{of_vars}
 use Rattle.host_acts.specs.Acts.{ActEnds}
-use Rattle.chain_memory.specs.Places.{in_block, all_cells}
-use Rattle.chain_memory.specs.Layouts.{IsLayout}
-use Rattle.chain_memory.specs.declared.layouts.Layout.{Layout}
-use Rattle.chain_memory.proofs.Within.{vars_behind}
+use Rattle.deep_halo.specs.Places.{in_block, all_cells}
+use Rattle.deep_halo.specs.Layouts.{IsLayout}
+use Rattle.deep_halo.specs.declared.chain_memory.layouts.Layout.{Layout}
+use Rattle.deep_halo.proofs.chain_memory.Within.{vars_behind}
 use Rattle.deep_halo.specs.Orders.{OwnersStand}
 use Rattle.deep_halo.specs.Hosts.{Sets, HostEnds}
 

@@ -28,8 +28,8 @@ use Rattle.chain_model.specs.Slicing.{pair_owner}
 use Rattle.chain_model.specs.Machine.{ChainState, Holding, value_in, pair_values, gathered, spread, looped, hosted, reduced, unless_recorded, item_run}
 use Rattle.bound_chains.specs.Slices.{owns_pair, slicing_of}
 use Rattle.bound_chains.proofs.Backwards.{owns_needed}
-use Rattle.chain_memory.specs.Places.{in_block, stands_at}
-use Rattle.chain_ranks.specs.Running.{StoresStand}
+use Rattle.deep_halo.specs.Places.{in_block, stands_at}
+use Rattle.deep_halo.specs.Running.{StoresStand}
 use Rattle.deep_halo.specs.Hosts.{HostEnds}
 use Rattle.deep_halo.specs.Orders.{OwnersStand, OthersStay, LoopEnds}
 use Rattle.deep_halo.specs.Programs.{IsHolding, held_since}

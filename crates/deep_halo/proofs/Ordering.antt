@@ -19,13 +19,13 @@ use Rattle.run_model.specs.Laws.{WindowsAreReached}
 use Rattle.run_model.proofs.Memory.{has_var}
 use Rattle.rank_state.specs.declared.rank_memory.stop.Stop.{Stop}
 use Rattle.rank_state.specs.Stops.{stop_in}
-use Rattle.chain_memory.specs.Placed.{HoldsWindows, LeavesPlaced, EndsPlaced}
-use Rattle.chain_memory.specs.Places.{in_block, all_cells, block_at, stands_at}
-use Rattle.chain_memory.proofs.Standing.{reached_there, stand_apart}
-use Rattle.chain_memory.proofs.chain_stores.Writing.{blocks_apart}
-use Rattle.chain_ranks.specs.Constants.{constants_in}
-use Rattle.chain_ranks.proofs.OneElement.{read}
-use Rattle.chain_ranks.proofs.Reached.{is_reached}
+use Rattle.deep_halo.specs.Placed.{HoldsWindows, LeavesPlaced, EndsPlaced}
+use Rattle.deep_halo.specs.Places.{in_block, all_cells, block_at, stands_at}
+use Rattle.deep_halo.proofs.chain_memory.Standing.{reached_there, stand_apart}
+use Rattle.deep_halo.proofs.chain_memory.chain_stores.Writing.{blocks_apart}
+use Rattle.deep_halo.specs.Constants.{constants_in}
+use Rattle.deep_halo.proofs.chain_ranks.OneElement.{read}
+use Rattle.deep_halo.proofs.chain_ranks.Reached.{is_reached}
 use Rattle.deep_halo.specs.Orders.{OwnersStand, OthersStay, LoopEnds}
 use Rattle.lemmas.proofs.Truth.{cases_bool}
 

@@ -13,7 +13,7 @@ use Rattle.chain_model.specs.Machine.{ChainState}
 use Rattle.bound_chains.specs.Dump.{stores_text}
 use Rattle.bound_chains.specs.Laws.{RunsAsProgram}
 use Rattle.bound_chains.specs.Outcomes.{chains_run, dump_after}
-use Rattle.chain_ranks.specs.Running.{StoresStand}
+use Rattle.deep_halo.specs.Running.{StoresStand}
 use Rattle.deep_halo.specs.Programs.{IsHolding}
 use Rattle.deep_halo.specs.Runs.{IsRun, PrintsTheProgram}
 use Rattle.deep_halo.specs.Stands.{Stands, Ends}

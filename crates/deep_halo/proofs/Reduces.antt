@@ -21,13 +21,13 @@ use Rattle.bound_plan.proofs.Trace.{reduce_after, first_item}
 use Rattle.rank_state.specs.declared.rank_memory.stop.Stop.{Stop}
 use Rattle.chain_model.specs.Machine.{ChainState, merged_over, reduced}
 use Rattle.bound_chains.specs.Slices.{slicing_of}
-use Rattle.chain_memory.specs.Cells.{BlocksHold}
-use Rattle.chain_ranks.specs.Globals.{is_on}
-use Rattle.chain_ranks.specs.Merging.{changed_all}
-use Rattle.chain_ranks.specs.Running.{StoresStand, PartialsStand}
-use Rattle.chain_ranks.specs.Partials.{sums_of}
-use Rattle.chain_ranks.proofs.OneElement.{read}
-use Rattle.chain_ranks.proofs.Summing.{merged_plain, on_argument}
+use Rattle.deep_halo.specs.Cells.{BlocksHold}
+use Rattle.deep_halo.specs.Globals.{is_on}
+use Rattle.deep_halo.specs.Merging.{changed_all}
+use Rattle.deep_halo.specs.Running.{StoresStand, PartialsStand}
+use Rattle.deep_halo.specs.Partials.{sums_of}
+use Rattle.deep_halo.proofs.chain_ranks.OneElement.{read}
+use Rattle.deep_halo.proofs.chain_ranks.Summing.{merged_plain, on_argument}
 use Rattle.deep_halo.specs.Stands.{free_loop, recent}
 
 -- the loop of a Reduce is that of the Free item before it

@@ -12,9 +12,9 @@ use Rattle.bound_program.specs.Values.{BoundValue}
 use Rattle.run_model.specs.Windows.{numbers, Element, cell_in}
 use Rattle.run_model.proofs.Memory.{has_dat}
 use Rattle.chain_model.specs.Machine.{ChainState, value_in}
-use Rattle.chain_memory.specs.Places.{in_block}
-use Rattle.chain_memory.proofs.chain_stores.Writing.{block_follow}
-use Rattle.chain_ranks.specs.Running.{StoresStand}
+use Rattle.deep_halo.specs.Places.{in_block}
+use Rattle.deep_halo.proofs.chain_memory.chain_stores.Writing.{block_follow}
+use Rattle.deep_halo.specs.Running.{StoresStand}
 
 numbers_more : (n : ℕ) → numbers (n + 1) ≡ numbers n ++ n ∷ []
 numbers_more n = sym (map-id (numbers (n + 1))) ∙ map-range_with_len_more (λ (x : ℕ). x) 0 n n (omega arith) ∙ ap (λ z. z ++ n ∷ []) (map-id (numbers n))

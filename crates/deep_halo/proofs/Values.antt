@@ -11,8 +11,8 @@ use Rattle.schedule_model.specs.Cells.{Cell, Data, Store}
 use Rattle.bound_program.specs.Values.{BoundValue}
 use Rattle.run_model.specs.Windows.{numbers, Element, cell_in}
 use Rattle.run_model.proofs.Memory.{has_dat}
-use Rattle.chain_memory.specs.Places.{in_block}
-use Rattle.chain_memory.proofs.chain_stores.Writing.{block_follow}
+use Rattle.deep_halo.specs.Places.{in_block}
+use Rattle.deep_halo.proofs.chain_memory.chain_stores.Writing.{block_follow}
 use Rattle.deep_halo.specs.Orders.{OwnersStand}
 
 -- the cells of an element of a dat

@@ -6,7 +6,7 @@ use Rattle.schedule_model.specs.Cells.{Data, Variable, DatCell, VarCell}
 use Rattle.schedule_model.specs.Program.{Hosted, Halts, Goes}
 use Rattle.bound_program.specs.Values.{BoundValue}
 use Rattle.run_model.specs.Memory.{has_cell}
-use Rattle.chain_memory.specs.Places.{in_block}
+use Rattle.deep_halo.specs.Places.{in_block}
 
 module _ (b : BoundValue) (o : Owners) (old new : List ℤ) (said says : List ℕ) where
   -- the ranks' pairs stay, and the variables have these values

@@ -4,3 +4,16 @@ pub mod Stands
 pub mod Orders
 pub mod Hosts
 pub mod Own
+pub mod Places
+pub mod Layouts
+pub mod Sound
+pub mod Placed
+pub mod Cells
+pub mod Running
+pub mod Loops
+pub mod Partials
+pub mod Exchanged
+pub mod Globals
+pub mod Dropping
+pub mod Constants
+pub mod Merging

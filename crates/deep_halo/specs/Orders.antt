@@ -8,7 +8,7 @@ use Rattle.bound_program.specs.Values.{BoundValue}
 use Rattle.run_model.specs.Memory.{has_cell}
 use Rattle.rank_state.specs.declared.rank_memory.stop.Stop.{Stop}
 use Rattle.rank_state.specs.Stops.{stop_in}
-use Rattle.chain_memory.specs.Places.{in_block, all_cells, block_at, stands_at}
+use Rattle.deep_halo.specs.Places.{in_block, all_cells, block_at, stands_at}
 
 module _ (b : BoundValue) (o : Owners) where
   -- the owners' blocks have the store's pairs, and the block behind them its variables

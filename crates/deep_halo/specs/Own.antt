@@ -7,7 +7,7 @@ use Rattle.bound_program.specs.Values.{BoundValue}
 use Rattle.run_model.specs.Memory.{has_cell}
 use Rattle.chain_model.specs.Machine.{ChainState, value_in}
 use Rattle.bound_chains.specs.Slices.{owns_pair}
-use Rattle.chain_memory.specs.Places.{in_block, all_cells}
+use Rattle.deep_halo.specs.Places.{in_block, all_cells}
 
 -- the ranks' blocks have their own pairs of the stores, with zeros for all others, and the block behind them has the variables
 pub record OwnStand (b : BoundValue) (o : Owners) (memory : List ℤ) (st : ChainState KernelFault) : Type 0 where

@@ -9,7 +9,7 @@ use Rattle.chain_model.specs.Machine.{Holding}
 use Rattle.bound_chains.specs.Slices.{needs, owns_pair}
 use Rattle.bound_chains.specs.Counts.{begins_at}
 use Rattle.chain_needs.specs.Slices.{AreSlices, IsFreeItem}
-use Rattle.chain_memory.specs.Sound.{Sound, program_in}
+use Rattle.deep_halo.specs.Sound.{Sound, program_in}
 use Rattle.deep_halo.specs.declared.programs.Program.{Program}
 
 module _ (x : Program) where

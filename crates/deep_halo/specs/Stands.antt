@@ -13,8 +13,8 @@ use Rattle.rank_state.specs.declared.rank_memory.stop.Stop.{Stop}
 use Rattle.rank_state.specs.Stops.{stop_in, stop_of}
 use Rattle.chain_model.specs.Chains.{follows_free}
 use Rattle.chain_model.specs.Machine.{ChainState}
-use Rattle.chain_memory.specs.Places.{all_cells}
-use Rattle.chain_ranks.specs.Running.{StoresStand, PartialsStand}
+use Rattle.deep_halo.specs.Places.{all_cells}
+use Rattle.deep_halo.specs.Running.{StoresStand, PartialsStand}
 use Rattle.deep_halo.specs.Programs.{IsHolding, HasBegun}
 use Rattle.deep_halo.specs.declared.state.State.{State}
 

@@ -8,13 +8,13 @@ ghost use Rattle.mesh_decl.specs.Mesh.{dat_count, dat_set, dat_name, set_size};
 ghost use Rattle.gather.specs.Dump.{copy_text};
 ghost use Rattle.chain_model.specs.Machine.{ChainState, Holding};
 ghost use Rattle.bound_chains.specs.Dump.{held_in, pair_text, held_text, store_text, stores_text};
-ghost use Rattle.chain_memory.specs.Places.{all_cells};
-ghost use Rattle.chain_memory.specs.Sound.{ranks_in};
-ghost use Rattle.chain_ranks.specs.Running.{StoresStand};
+ghost use Rattle.deep_halo.specs.Places.{all_cells};
+ghost use Rattle.deep_halo.specs.Sound.{ranks_in};
+ghost use Rattle.deep_halo.specs.Running.{StoresStand};
 ghost use Rattle.deep_halo.specs.Programs.{IsProgram, IsHolding, HasBegun, held_since, program_of_run, owners_of_run};
 
+use crate::chain_memory::{owner_of, pair_at};
 use crate::programs::Program;
-use chain_memory::{owner_of, pair_at};
 use op_num::{OutOfMemory, put_i32, put_u64};
 
 // Whether a rank holds a pair.

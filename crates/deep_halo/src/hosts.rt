@@ -7,15 +7,15 @@ ghost use Rattle.schedule_model.specs.Cells.{Store};
 ghost use Rattle.bound_program.specs.Values.{told_act_of};
 ghost use Rattle.bound_program.specs.Fits.{ActFits};
 ghost use Rattle.run_model.specs.Hosts.{dat_cells, act_run};
-ghost use Rattle.chain_memory.specs.Places.{all_cells};
-ghost use Rattle.chain_memory.specs.Sound.{ranks_in};
+ghost use Rattle.deep_halo.specs.Places.{all_cells};
+ghost use Rattle.deep_halo.specs.Sound.{ranks_in};
 ghost use Rattle.deep_halo.specs.Programs.{IsProgram, program_of_run, owners_of_run};
 ghost use Rattle.deep_halo.specs.Orders.{OwnersStand};
 ghost use Rattle.deep_halo.specs.Hosts.{HostEnds};
 
+use crate::chain_memory::{owner_of, pair_at};
 use crate::programs::Program;
 use bound_program::{Act, ToldAct};
-use chain_memory::{owner_of, pair_at};
 use gather::print_dat;
 use host_acts::{Variables, run_act};
 use kernel_types::KernelFault;

@@ -10,15 +10,15 @@ ghost use Rattle.bound_chains.specs.Slices.{slicing_of};
 ghost use Rattle.deep_halo.specs.Programs.{IsProgram, IsRoom, program_of_run, owners_of_run};
 ghost use Rattle.deep_halo.specs.Stands.{Stands, Ends};
 
+use crate::chain_memory::loop_of;
+use crate::chain_ranks::chain_elements::read_constants;
+use crate::chain_ranks::{ChainLoop, put_units, reduce_all, run_ranks};
 use crate::hosts::run_host;
 use crate::orders::run_ordered;
 use crate::programs::Program;
 use crate::state::State;
 use crate::supply::begin_chain;
 use bound_program::Item;
-use chain_memory::loop_of;
-use chain_ranks::chain_elements::read_constants;
-use chain_ranks::{ChainLoop, put_units, reduce_all, run_ranks};
 use kernel_types::KernelFault;
 use op_num::OutOfMemory;
 use rank_state::rank_memory::stop::Stop;

@@ -2,6 +2,8 @@
 //! again itself. All cells of all ranks stand in one memory, a block for each rank, in which kernels run in place.
 #![tactic(auto)]
 
+pub mod chain_memory;
+pub mod chain_ranks;
 mod dumps;
 mod hosts;
 mod items;

@@ -7,14 +7,14 @@ ghost use Rattle.schedule_model.specs.Program.{elements};
 ghost use Rattle.schedule_model.specs.Sequential.{loop as run_through, after_run};
 ghost use Rattle.run_model.specs.Kernels.{constants};
 ghost use Rattle.run_model.specs.Programs.{item_at, loop_of as loop_in, program_of};
-ghost use Rattle.chain_memory.specs.Places.{all_cells};
-ghost use Rattle.chain_memory.specs.Sound.{IsLoop, ranks_in};
+ghost use Rattle.deep_halo.specs.Places.{all_cells};
+ghost use Rattle.deep_halo.specs.Sound.{IsLoop, ranks_in};
 ghost use Rattle.deep_halo.specs.Programs.{IsProgram, program_of_run, owners_of_run};
 ghost use Rattle.deep_halo.specs.Orders.{OwnersStand, OthersStay, LoopEnds};
 
+use crate::chain_memory::{Loop, run_element};
+use crate::chain_ranks::chain_elements::read_constants;
 use crate::programs::Program;
-use chain_memory::{Loop, run_element};
-use chain_ranks::chain_elements::read_constants;
 use rank_state::rank_memory::stop::Stop;
 
 // Runs an element on the owners' pairs and the variables.

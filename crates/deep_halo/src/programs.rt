@@ -1,6 +1,6 @@
 // A program with what its run by chains looks up.
 
-use chain_memory::Blocks;
+use crate::chain_memory::Blocks;
 use chain_needs::chain_slices::Slices;
 
 /// A program on the ranks of owners, with its slices.

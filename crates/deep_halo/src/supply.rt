@@ -8,15 +8,15 @@ ghost use Rattle.chain_model.specs.Machine.{ChainState, exchanged, supplied};
 ghost use Rattle.bound_chains.specs.Slices.{slicing_of};
 ghost use Rattle.bound_chains.specs.Counts.{begins_at};
 ghost use Rattle.chain_needs.specs.Slices.{IsFreeItem};
-ghost use Rattle.chain_memory.specs.Places.{all_cells};
-ghost use Rattle.chain_memory.specs.Sound.{ranks_in};
-ghost use Rattle.chain_ranks.specs.Running.{StoresStand, AreHeld};
+ghost use Rattle.deep_halo.specs.Places.{all_cells};
+ghost use Rattle.deep_halo.specs.Sound.{ranks_in};
+ghost use Rattle.deep_halo.specs.Running.{StoresStand, AreHeld};
 ghost use Rattle.deep_halo.specs.Own.{OwnStand};
 ghost use Rattle.deep_halo.specs.Programs.{IsProgram, IsHolding, HasBegun, program_of_run, owners_of_run};
 
+use crate::chain_ranks::chain_exchange::{Exchange, exchange_copies};
 use crate::programs::Program;
 use chain_needs::begins_chain;
-use chain_ranks::chain_exchange::{Exchange, exchange_copies};
 
 // Drops the copies of the chain that began last, if one did.
 fn drop_copies(memory: &mut [i32], program: &Program<'_>, begun: Option<u32>)

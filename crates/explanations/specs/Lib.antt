@@ -3,3 +3,14 @@ pub mod Explanation
 pub mod Cuts
 pub mod Texts
 pub mod Carets
+pub mod Placed
+pub mod Calls
+pub mod Modes
+pub mod Judgements
+pub mod First
+pub mod Arguments
+pub mod Accesses
+pub mod Faults
+pub mod Values
+pub mod Held
+pub mod Wrong

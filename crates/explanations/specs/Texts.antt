@@ -3,12 +3,12 @@ use Rattle.std.specs.Prelude.{ℕ, Bool, nat_eq, List, [], ◌++◌, Option, Som
 use Rattle.std.specs.List.{starts_with}
 use Rattle.std.specs.Str.{bytes_eq}
 use Rattle.explanations.specs.Cuts.{parts}
-use Rattle.explanations.specs.declared.texts.sources.TheConstants.{SOURCES}
-use Rattle.explanations.specs.declared.texts.bindings.TheConstants.{BINDINGS}
-use Rattle.explanations.specs.declared.texts.files.TheConstants.{FILES}
-use Rattle.explanations.specs.declared.texts.limits.TheConstants.{LIMITS}
-use Rattle.explanations.specs.declared.texts.program.TheConstants.{PROGRAM}
-use Rattle.explanations.specs.declared.texts.statuses.TheConstants.{STATUSES}
+use Rattle.explanations.specs.declared.meanings.sources.TheConstants.{SOURCES}
+use Rattle.explanations.specs.declared.meanings.bindings.TheConstants.{BINDINGS}
+use Rattle.explanations.specs.declared.meanings.files.TheConstants.{FILES}
+use Rattle.explanations.specs.declared.meanings.limits.TheConstants.{LIMITS}
+use Rattle.explanations.specs.declared.meanings.program.TheConstants.{PROGRAM}
+use Rattle.explanations.specs.declared.meanings.statuses.TheConstants.{STATUSES}
 
 -- the texts of a table, one a line
 abbrev pub texts_of : (table : List ℕ) → List (List ℕ)

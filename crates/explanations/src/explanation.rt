@@ -6,8 +6,8 @@ ghost use Rattle.explanations.specs.Explanation.{shown_line, shown_place, shown_
 
 use crate::carets::{line_at, put_marked};
 use crate::limits::put_sizes;
+use crate::meanings::{put_text, text_of_line};
 use crate::places::{Place, place_in, tells_place};
-use crate::texts::{put_text, text_of_line};
 use op_num::{OutOfMemory, put_u64};
 use std::alloc::Global;
 

@@ -4,11 +4,14 @@
 #![tactic(auto)]
 
 pub mod carets;
+pub mod error_loops;
 mod explanation;
+pub mod held_files;
 mod limits;
+pub mod meanings;
 pub mod parts;
 mod places;
-pub mod texts;
+pub mod wrong_words;
 
 pub use explanation::{explain_status, explain_text, put_place};
 pub use places::{Place, place_in, word_number};

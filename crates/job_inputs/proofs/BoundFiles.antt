@@ -2,8 +2,8 @@
 use Rattle.std.proofs.Common.{◌≡◌, ℕ, inl, inr, List, Option, Ok, Err, refl, ap, subst}
 use Rattle.std.specs.List.{Contains}
 use Rattle.op_outside.specs.Outside.{Files}
-use Rattle.kept_files.specs.Readings.{Readings, names_of, Finds}
-use Rattle.kept_files.proofs.Finding.{finds_on, finds_weaker}
+use Rattle.job_inputs.specs.Readings.{Readings, names_of, Finds}
+use Rattle.job_inputs.proofs.kept_files.Finding.{finds_on, finds_weaker}
 use Rattle.c_tree.specs.Tree.{ProgramTree}
 use Rattle.kernel_types.specs.declared.kernels.Resolved.{Resolved}
 use Rattle.bound_program.specs.Values.{BoundValue}

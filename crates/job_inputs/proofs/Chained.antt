@@ -4,10 +4,10 @@ use Rattle.std.specs.List.{Contains}
 use Rattle.std.specs.Str.{bytes_eq}
 use Rattle.std.proofs.lemmas.Slice.Eq.{bytes_eq-Decides}
 use Rattle.op_outside.specs.Outside.{Files}
-use Rattle.kept_files.specs.Seen.{Seen, nothing_seen, Agree, IsSight}
-use Rattle.kept_files.specs.Readings.{Readings, names_of, readings_of, AreNext, HaveCome, IsSeen, Finds}
-use Rattle.kept_files.proofs.Seeing.{agree_before, grows_on}
-use Rattle.kept_files.proofs.Finding.{nothing_is_seen, finds_on, finds_weaker, finds_last, finds_always}
+use Rattle.job_inputs.specs.Seen.{Seen, nothing_seen, Agree, IsSight}
+use Rattle.job_inputs.specs.Readings.{Readings, names_of, readings_of, AreNext, HaveCome, IsSeen, Finds}
+use Rattle.job_inputs.proofs.kept_files.Seeing.{agree_before, grows_on}
+use Rattle.job_inputs.proofs.kept_files.Finding.{nothing_is_seen, finds_on, finds_weaker, finds_last, finds_always}
 use Rattle.command_words.specs.Refusal.{Refusal, CannotRead}
 use Rattle.answer_lines.specs.Lines as lines
 use Rattle.answer_lines.specs.Lines.{refused}

@@ -2,7 +2,7 @@
 -- of them.
 use Rattle.std.proofs.Common.{◌≡◌, ℕ, inl, inr, List, [], ◌∷◌, ◌++◌, Option, Result, Ok, Err, refl, ap, sym, subst, ◌∙◌, append-nil, append_assoc}
 use Rattle.op_outside.specs.Outside.{Files}
-use Rattle.kept_files.specs.Readings.{Readings, names_of, readings_of, AreNext, HaveCome, Finds}
+use Rattle.job_inputs.specs.Readings.{Readings, names_of, readings_of, AreNext, HaveCome, Finds}
 use Rattle.mesh_decl.specs.declared.owners.Owners.{Owners}
 use Rattle.bound_program.specs.Values.{BoundValue}
 use Rattle.bound_program.specs.Fits.{Fits}

@@ -3,10 +3,10 @@ use Rattle.std.proofs.Common.{◌≡◌, ◌<◌, ◌≤◌, ℕ, suc, arith, Li
 use Rattle.std.specs.List.{Contains}
 use Rattle.std.proofs.lemmas.Slice.Eq.{bytes_eq-Decides}
 use Rattle.op_outside.specs.Outside.{Files}
-use Rattle.kept_files.specs.Seen.{Seen}
-use Rattle.kept_files.specs.Readings.{Readings, names_of, AreNext, IsSeen, Finds, IsUnseen}
-use Rattle.kept_files.proofs.Seeing.{grows_same}
-use Rattle.kept_files.proofs.Finding.{finds_weaker}
+use Rattle.job_inputs.specs.Seen.{Seen}
+use Rattle.job_inputs.specs.Readings.{Readings, names_of, AreNext, IsSeen, Finds, IsUnseen}
+use Rattle.job_inputs.proofs.kept_files.Seeing.{grows_same}
+use Rattle.job_inputs.proofs.kept_files.Finding.{finds_weaker}
 use Rattle.command_words.specs.Refusal.{Limit, Refusal, CannotRead, BeyondLimit}
 use Rattle.answer_lines.specs.Lines.{most}
 use Rattle.answers.specs.Judgements.{IsHeld}

@@ -2,8 +2,8 @@
 use Rattle.std.specs.Prelude.{◌≡◌, ℕ, List, [], Option, Some, None, Result, Ok, Err}
 use Rattle.std.specs.List.{Contains}
 use Rattle.op_outside.specs.Outside.{Files}
-use Rattle.kept_files.specs.Seen.{Seen, Agree, Grows, IsSight}
-use Rattle.kept_files.specs.Readings.{Readings, names_of, IsSeen, Finds}
+use Rattle.job_inputs.specs.Seen.{Seen, Agree, Grows, IsSight}
+use Rattle.job_inputs.specs.Readings.{Readings, names_of, IsSeen, Finds}
 use Rattle.c_tree.specs.Tree.{ProgramTree}
 use Rattle.kernel_types.specs.declared.kernels.Resolved.{Resolved}
 use Rattle.bound_program.specs.Values.{BoundValue}

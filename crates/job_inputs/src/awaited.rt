@@ -1,12 +1,12 @@
 // The files that are to be read, in the order in which a job names them.
 
 ghost use Rattle.std.specs.Prelude.{◌≡◌, ◌++◌, OnOk};
-ghost use Rattle.kept_files.specs.Readings.{readings_of};
+ghost use Rattle.job_inputs.specs.Readings.{readings_of};
 ghost use Rattle.command_words.specs.Words.{names_from, names_before, names_by, names_in_blocks, names_at};
 ghost use Rattle.command_words.specs.Values.{stretch_in, parting_in, blocks_in, schedule_in, input_in};
 
+use crate::kept_files::Kept;
 use command_words::{Blocks, Input, Parting, Schedule, Stretch};
-use kept_files::Kept;
 use op_num::OutOfMemory;
 
 /// The files that a source and a mesh come from are to be read, behind those that are. An error is want of memory.

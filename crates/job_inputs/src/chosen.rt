@@ -2,7 +2,7 @@
 
 ghost use Rattle.std.specs.Prelude.{◌≡◌, ◌≤◌, ◌↔◌, ℕ, List, All, length, Ok, Err, IfOk, IfErr, OnOk};
 ghost use Rattle.op_outside.specs.Outside.{Rose};
-ghost use Rattle.kept_files.specs.Readings.{AreNext, HaveCome, Finds};
+ghost use Rattle.job_inputs.specs.Readings.{AreNext, HaveCome, Finds};
 ghost use Rattle.bound_program.specs.Values.{bound_of};
 ghost use Rattle.bound_program.specs.Fits.{Fits};
 ghost use Rattle.answer_lines.specs.declared.limits.TheConstants.{STATE_BYTES};
@@ -14,12 +14,12 @@ ghost use Rattle.job_inputs.specs.Inputs.{cut_by, SaysState, chosen_of};
 ghost use Rattle.job_inputs.specs.Chains.{HaltsOver};
 
 use crate::files::file_of;
+use crate::kept_files::Kept;
 use answer_lines::{Failure, Halt, Limit, Refusal};
 use bound_program::Bound;
 use checkpoint::state_texts::{StateRefusal, read_state};
 use checkpoint::{HeadRefusal, head, tail, tails_obey};
 use command_words::Stretch;
-use kept_files::Kept;
 use op_outside::Shelf;
 use std::alloc::Global;
 

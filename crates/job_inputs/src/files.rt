@@ -2,14 +2,14 @@
 
 ghost use Rattle.std.specs.Prelude.{◌≡◌, ◌≤◌, ◌<◌, ◌^◌, ◌↔◌, List, ℕ, [], ◌∷◌, Ok, Err, IfOk, IfErr, OnOk, vec_len};
 ghost use Rattle.op_outside.specs.Outside.{Rose};
-ghost use Rattle.kept_files.specs.Readings.{readings_of, AreNext, HaveCome, Finds};
+ghost use Rattle.job_inputs.specs.Readings.{readings_of, AreNext, HaveCome, Finds};
 ghost use Rattle.answers.specs.Judgements.{IsHeld};
 ghost use Rattle.answer_lines.specs.Lines.{most};
 ghost use Rattle.answer_lines.specs.Halts.{limit_of};
 ghost use Rattle.job_inputs.specs.Chains.{HaltsOver};
 
+use crate::kept_files::Kept;
 use answer_lines::{Failure, Halt, Limit, Refusal, most};
-use kept_files::Kept;
 use op_outside::{ReadRefusal, Shelf};
 use std::alloc::Global;
 

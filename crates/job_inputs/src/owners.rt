@@ -2,7 +2,7 @@
 
 ghost use Rattle.std.specs.Prelude.{◌≡◌, ◌≤◌, ◌↔◌, ℕ, List, All, length, Ok, Err, IfOk, IfErr, OnOk};
 ghost use Rattle.op_outside.specs.Outside.{Rose};
-ghost use Rattle.kept_files.specs.Readings.{AreNext, HaveCome, Finds};
+ghost use Rattle.job_inputs.specs.Readings.{AreNext, HaveCome, Finds};
 ghost use Rattle.mesh_decl.specs.Owners.{AreOwners, ArePerms};
 ghost use Rattle.distribute.specs.Parts.{Text, parts_of, HasLines, UnownedWhere};
 ghost use Rattle.distribute.specs.declared.types.OwnersRefusal.TheVariants as unowned;
@@ -20,11 +20,11 @@ ghost use Rattle.job_inputs.specs.Inputs.{parts_by};
 ghost use Rattle.job_inputs.specs.Chains.{HaltsOver};
 
 use crate::files::file_of;
+use crate::kept_files::Kept;
 use answer_lines::{Failure, Halt, Limit, Refusal};
 use bound_program::Bound;
 use command_words::{Options, Parting};
 use distribute::{NumbersRefusal, OwnersRefusal, PartRefusal, Parts, numbers_by, owners_by};
-use kept_files::Kept;
 use mesh_decl::{Owners, Perms};
 use op_outside::Shelf;
 use std::alloc::Global;

@@ -2,7 +2,7 @@
 
 ghost use Rattle.std.specs.Prelude.{◌≡◌, ◌≤◌, ◌↔◌, ℕ, All, List, [], ◌∷◌, length, Ok, Err, IfOk, IfErr, OnOk};
 ghost use Rattle.op_outside.specs.Outside.{Files, Rose};
-ghost use Rattle.kept_files.specs.Readings.{AreNext, HaveCome, Finds};
+ghost use Rattle.job_inputs.specs.Readings.{AreNext, HaveCome, Finds};
 ghost use Rattle.c_tree.specs.View.{program_of};
 ghost use Rattle.mesh_decl.specs.declared.text.entry.TheConstants.{MESH_BYTES};
 ghost use Rattle.bound_program.specs.Values as values;
@@ -18,13 +18,13 @@ ghost use Rattle.job_inputs.specs.Chains.{Never, TextOver, HaltsOver};
 
 use crate::accesses::judge_accesses;
 use crate::files::file_of;
+use crate::kept_files::Kept;
 use crate::meshes::{bound_of, entries_of};
 use crate::sources::{tree_of, types_of};
 use answer_lines::{Failure, Halt, Limit};
 use bound_program::Bound;
 use c_tree::Program;
 use command_words::{Input, Side};
-use kept_files::Kept;
 use kernel_types::Resolved;
 use mesh_gen::{SampleRefusal, sample};
 use op_outside::Shelf;

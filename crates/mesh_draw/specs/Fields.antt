@@ -3,7 +3,7 @@ use Rattle.std.specs.Prelude.{◌≡◌, ◌≢◌, ℕ, zero, suc, ◌+◌, ◌
 use Rattle.mesh_decl.specs.Mesh.{dat_count, dat_set, dat_dim, dat_name}
 use Rattle.bound_program.specs.Values.{BoundValue}
 use Rattle.mesh_draw.specs.declared.vtk_texts.field.Field.{Field}
-use Rattle.output_pieces.specs.Last.{AreLastRows, IsUnprinted, LacksLastHeader, LacksLastRows}
+use Rattle.mesh_draw.specs.Last.{AreLastRows, IsUnprinted, LacksLastHeader, LacksLastRows}
 use Rattle.mesh_draw.specs.declared.fields.refusals.FieldRefusal.{FieldRefusal}
 use Rattle.mesh_draw.specs.declared.fields.refusals.FieldRefusal.TheVariants as refusal
 use Rattle.mesh_draw.specs.Numbers.{AreNumberLines, IsOther}

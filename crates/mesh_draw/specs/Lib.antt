@@ -8,3 +8,12 @@ pub mod Text
 pub mod Values
 pub mod Numbers
 pub mod Fields
+pub mod Tree
+pub mod Lines
+pub mod Pieces
+pub mod Answered
+pub mod Found
+pub mod Cuts
+pub mod Laws
+pub mod Last
+pub mod LastFound

@@ -5,7 +5,7 @@ use Rattle.std.specs.List.{range_with_len, join_with_byte}
 use Rattle.std.specs.Fmt.{decimal}
 use Rattle.mesh_decl.specs.Mesh.{MeshValue, map_count, dat_count, set_size, map_from, map_to, map_dim, target, dat_set, dat_dim, dat_values}
 use Rattle.mesh_draw.specs.declared.shapes.shape.Shape.{Shape}
-use Rattle.markup.specs.Tree.{Pair, Node, Element, Empty, Text, NoNode, MoreNodes, nodes_of, printed}
+use Rattle.mesh_draw.specs.Tree.{Pair, Node, Element, Empty, Text, NoNode, MoreNodes, nodes_of, printed}
 use Rattle.mesh_draw.specs.declared.picture.palette.TheConstants.{COLOUR_COUNT}
 use Rattle.mesh_draw.specs.declared.picture.frame.Frame.{Frame}
 use Rattle.mesh_draw.specs.declared.picture.legend.Label.{Label}

@@ -9,6 +9,8 @@ pub mod fields;
 mod fills;
 mod grid;
 mod labels;
+pub mod markup;
+pub mod output_pieces;
 pub mod picture;
 pub mod shapes;
 mod types;

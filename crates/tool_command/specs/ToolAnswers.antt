@@ -13,10 +13,10 @@ use Rattle.partition.specs.Spelling.{Spells}
 use Rattle.owner_text.specs.Written.{partition_text, HasName}
 use Rattle.bound_program.specs.Values.{BoundValue}
 use Rattle.bound_program.specs.Fits.{Fits}
-use Rattle.output_pieces.specs.Pieces.{IsPiece}
-use Rattle.output_pieces.specs.Answered.{IsRefused}
-use Rattle.output_pieces.specs.declared.refusals.PieceRefusal.{PieceRefusal}
-use Rattle.output_pieces.specs.declared.refusals.PieceRefusal.TheVariants.{NoPrint, NoHeader, FewRows, OutOfMemory}
+use Rattle.mesh_draw.specs.Pieces.{IsPiece}
+use Rattle.mesh_draw.specs.Answered.{IsRefused}
+use Rattle.mesh_draw.specs.declared.output_pieces.refusals.PieceRefusal.{PieceRefusal}
+use Rattle.mesh_draw.specs.declared.output_pieces.refusals.PieceRefusal.TheVariants.{NoPrint, NoHeader, FewRows, OutOfMemory}
 use Rattle.neighbour_graph.specs.Graph.{IsGraph}
 use Rattle.plan_counts.specs.Table.{counts_text}
 use Rattle.gmsh_mesh.specs.declared.choice.Dimension.{Dimension}
@@ -38,8 +38,8 @@ use Rattle.command_words.specs.Words.{InFiles, Options}
 use Rattle.answer_lines.specs.Lines.{Answer, done, refused}
 use Rattle.answers.specs.Judgements.{IsHeld, Planned}
 use Rattle.answers.specs.Answers.{given, BoundAnswers, PlanningAnswers, without}
-use Rattle.judged_texts.specs.Judged.{IsJudged}
-use Rattle.explain_job.specs.ExplainAnswers.{ExplainAnswers}
+use Rattle.tool_command.specs.Judged.{IsJudged}
+use Rattle.tool_command.specs.ExplainAnswers.{ExplainAnswers}
 use Rattle.tool_command.specs.GmshLines.{said_of_mesh}
 use Rattle.tool_words.specs.declared.usage.TheConstants.{USAGE, VERSION}
 use Rattle.tool_words.specs.Words.{ProgramJob, Picks, Graphs, TakesOwners, Picture, PlanJob, TellsOwners, Counts, Draws, Grids}

@@ -8,12 +8,12 @@ ghost use Rattle.tool_words.specs.Values.{command_of, call_of, IsInRange};
 ghost use Rattle.tool_command.specs.ToolAnswers.{CommandAnswers};
 ghost use Rattle.tool_command.specs.Endings.{AreLent, AnswersWords, CallAnswers, names_of};
 
+use crate::explain::explained;
 use crate::gmsh::from_gmsh_file;
 use crate::lines::refused_words;
 use crate::planned::on_plan;
 use crate::programs::on_program;
 use answer_lines::{Answer, Failure, Halt, done, refused};
-use explain_job::explained;
 use op_outside::Shelf;
 use std::alloc::Global;
 use std::marker::Sync;

@@ -8,11 +8,11 @@ ghost use Rattle.job_inputs.specs.Chains.{AnswersBy, AnswersOver};
 ghost use Rattle.tool_command.specs.ToolAnswers.{GmshAnswers, ConversionAnswers, SourceAnswers, TextAnswers, source_answer, conversion_of};
 
 use crate::gmsh_lines::{refused_mesh, refused_source};
+use crate::judged::check_refusal;
 use answer_lines::{Answer, Failure, Halt, Limit, done};
 use gmsh_mesh::{Conversion, Dimension, GmshRefusal, from_gmsh};
+use job_inputs::kept_files::some_files_are_as_seen;
 use job_inputs::sole_file;
-use judged_texts::check_refusal;
-use kept_files::some_files_are_as_seen;
 use op_num::OutOfMemory;
 use op_outside::Shelf;
 use std::alloc::Global;

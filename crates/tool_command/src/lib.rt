@@ -7,9 +7,11 @@
 
 mod answered;
 mod counts;
+pub mod explain;
 mod gmsh;
 mod gmsh_lines;
 mod graphs;
+pub mod judged;
 mod lines;
 mod owners;
 mod partitions;

@@ -7,9 +7,9 @@ ghost use Rattle.answer_lines.specs.Reports.{Stands};
 ghost use Rattle.tool_command.specs.ToolAnswers.{tool_line, refused_by_tool, words_refused, said_of_piece, said_of_metis};
 
 use answer_lines::{Answer, put_named};
+use mesh_draw::output_pieces::PieceRefusal;
 use op_num::{OutOfMemory, put_u64};
 use op_outside::{Sink, write_all_of};
-use output_pieces::PieceRefusal;
 use owner_text::metis::MetisRefusal;
 use std::alloc::Global;
 

@@ -2,7 +2,7 @@
 
 ghost use Rattle.std.specs.Prelude.{◌+◌, ◌^◌, ◌<◌, ◌∷◌, [], length};
 ghost use Rattle.op_outside.specs.Outside.{Rose};
-ghost use Rattle.kept_files.specs.Readings.{AreNext};
+ghost use Rattle.job_inputs.specs.Readings.{AreNext};
 ghost use Rattle.mesh_decl.specs.Mesh.{set_count};
 ghost use Rattle.bound_program.specs.Values.{bound_of};
 ghost use Rattle.command_words.specs.Laws.{AreFew};
@@ -14,7 +14,7 @@ use crate::owners::written;
 use answer_lines::{Answer, Failure, Halt, Limit};
 use bound_program::Bound;
 use job_inputs::file_of;
-use kept_files::Kept;
+use job_inputs::kept_files::Kept;
 use op_outside::Shelf;
 use owner_text::metis::{MetisRefusal, owners_by_metis};
 use std::alloc::Global;

@@ -2,7 +2,7 @@
 
 ghost use Rattle.std.specs.Prelude.{◌≡◌, [], ◌∷◌};
 ghost use Rattle.op_outside.specs.Outside.{Rose};
-ghost use Rattle.kept_files.specs.Readings.{AreNext};
+ghost use Rattle.job_inputs.specs.Readings.{AreNext};
 ghost use Rattle.bound_program.specs.Values.{bound_of};
 ghost use Rattle.bound_program.specs.Fits.{Fits};
 ghost use Rattle.job_inputs.specs.Chains.{AnswersBy, AnswersFrom};
@@ -12,9 +12,9 @@ use crate::lines::refused_piece;
 use answer_lines::{Answer, Failure, Halt, Limit};
 use bound_program::Bound;
 use job_inputs::file_of;
-use kept_files::Kept;
+use job_inputs::kept_files::Kept;
+use mesh_draw::output_pieces::{PieceRefusal, piece_of};
 use op_outside::Shelf;
-use output_pieces::{PieceRefusal, piece_of};
 use std::alloc::Global;
 
 // The answer to the bytes of an output.

@@ -3,7 +3,7 @@
 ghost use Rattle.std.specs.Prelude.{◌≡◌, ◌+◌, ◌<◌, ◌^◌, ◌++◌, [], ◌∷◌, All, Some, option_map, length, OnOk, IfOk, IfSome};
 ghost use Rattle.answer_lines.specs.Halts.{answer_of};
 ghost use Rattle.op_outside.specs.Outside.{Rose};
-ghost use Rattle.kept_files.specs.Readings.{AreNext};
+ghost use Rattle.job_inputs.specs.Readings.{AreNext};
 ghost use Rattle.bound_program.specs.Values.{bound_of};
 ghost use Rattle.job_inputs.specs.Chains.{AnswersBy, AnswersFrom};
 ghost use Rattle.job_plans.specs.Plans.{planned_of};
@@ -16,7 +16,7 @@ use crate::lines::{put_at, refused_by};
 use answer_lines::{Answer, Failure, Halt, Limit, put_named};
 use cell_numbers::{Shown, ShownRefusal};
 use job_inputs::file_of;
-use kept_files::Kept;
+use job_inputs::kept_files::Kept;
 use mesh_draw::fields::FieldRefusal;
 use mesh_draw::shapes::ShapeRefusal;
 use mesh_draw::{DrawRefusal, draw, vtk};

@@ -2,7 +2,7 @@
 
 ghost use Rattle.std.specs.Prelude.{◌≡◌, ◌++◌, [], ◌∷◌, All, IfOk};
 ghost use Rattle.op_outside.specs.Outside.{Rose};
-ghost use Rattle.kept_files.specs.Readings.{readings_of, AreNext};
+ghost use Rattle.job_inputs.specs.Readings.{readings_of, AreNext};
 ghost use Rattle.bound_program.specs.Values.{bound_of};
 ghost use Rattle.bound_program.specs.Fits.{Fits};
 ghost use Rattle.command_words.specs.Words.{InFiles, names_by, names_in_blocks};
@@ -21,9 +21,9 @@ use crate::pictures::{drawn, gridded};
 use answer_lines::{Answer, Halt};
 use bound_program::Bound;
 use command_words::{Input, Options};
+use job_inputs::kept_files::{Kept, some_files_are_as_seen};
 use job_inputs::{bound_input, expect_blocks, expect_input, expect_parting};
 use job_plans::planned_on;
-use kept_files::{Kept, some_files_are_as_seen};
 use op_num::OutOfMemory;
 use op_outside::Shelf;
 use planned_program::Planned;

@@ -2,7 +2,7 @@
 
 ghost use Rattle.std.specs.Prelude.{◌≡◌, ◌++◌, [], ◌∷◌, All, IfOk};
 ghost use Rattle.op_outside.specs.Outside.{Rose};
-ghost use Rattle.kept_files.specs.Readings.{readings_of, AreNext};
+ghost use Rattle.job_inputs.specs.Readings.{readings_of, AreNext};
 ghost use Rattle.bound_program.specs.Values.{bound_of};
 ghost use Rattle.bound_program.specs.Fits.{Fits};
 ghost use Rattle.job_inputs.specs.Chains.{AnswersFrom, AnswersOver};
@@ -20,7 +20,7 @@ use answer_lines::{Answer, Halt};
 use bound_program::Bound;
 use command_words::Input;
 use job_inputs::bound_input;
-use kept_files::{Kept, some_files_are_as_seen};
+use job_inputs::kept_files::{Kept, some_files_are_as_seen};
 use op_num::OutOfMemory;
 use op_outside::Shelf;
 use std::alloc::Global;

@@ -5,7 +5,7 @@ ghost use Rattle.tool_command.specs.Endings.{AreLent, Ends};
 
 use crate::answered::answered;
 use answer_lines::Failure;
-use answer_writing::{write_answer, write_failure};
+use answers::answer_writing::{write_answer, write_failure};
 use op_outside::{Shelf, Sink};
 use std::alloc::Global;
 use std::marker::Sync;

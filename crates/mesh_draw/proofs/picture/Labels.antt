@@ -4,7 +4,7 @@ use Rattle.std.specs.List.{flat_map}
 use Rattle.std.proofs.lemmas.List.{take_more}
 use Rattle.std.proofs.Math.ListN.{length-take}
 use Rattle.std.proofs.lemmas.Grind.{flat_map-append}
-use Rattle.markup.specs.Tree.{Node, printed}
+use Rattle.mesh_draw.specs.Tree.{Node, printed}
 use Rattle.mesh_draw.specs.declared.picture.frame.Frame.{Frame}
 use Rattle.mesh_draw.specs.declared.picture.legend.Label.{Label}
 use Rattle.mesh_draw.specs.Picture.{square, caption, labels_from}

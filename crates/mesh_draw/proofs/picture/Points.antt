@@ -2,7 +2,7 @@
 use Rattle.std.proofs.Common.{◌≡◌, ℕ, ◌+◌, ◌*◌, ◌<◌, ◌==◌, List, [], ◌∷◌, ◌++◌, length, map, refl, sym, ap, subst, ◌∙◌, append_assoc, arith, if◌then◌else◌}
 use Rattle.std.specs.List.{join_with_byte, range_with_len, flat_map}
 use Rattle.std.proofs.lemmas.List.{flat_map_more}
-use Rattle.markup.specs.Tree.{Node, printed}
+use Rattle.mesh_draw.specs.Tree.{Node, printed}
 use Rattle.std.proofs.lemmas.Bool.Decides.{nat_tests}
 use Rattle.std.proofs.lemmas.List.FromFn.{length-map-range_with_len, map-range_with_len_more}
 use Rattle.mesh_decl.specs.Mesh.{MeshValue, IsInRange, set_size, map_to, dat_set, dat_dim, dat_values}

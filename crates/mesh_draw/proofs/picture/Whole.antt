@@ -1,7 +1,7 @@
 -- Elements put together from their tags and what stands between them.
 use Rattle.std.proofs.Common.{◌≡◌, ℕ, List, ◌∷◌, ◌++◌, codes, sym, ap, ◌∙◌, append_assoc}
 use Rattle.std.specs.List.{flat_map}
-use Rattle.markup.specs.Tree.{Node, nodes_of, start_tag, printed, all_printed}
+use Rattle.mesh_draw.specs.Tree.{Node, nodes_of, start_tag, printed, all_printed}
 use Rattle.mesh_draw.specs.Picture.{view_attributes}
 
 -- an element behind others: its start, its nodes, its end

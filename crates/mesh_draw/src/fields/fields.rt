@@ -7,10 +7,10 @@ ghost use Rattle.mesh_draw.specs.Fields.{some_field, IsFieldOrNone, HasNoField, 
 
 use crate::fields::numbers::other_line;
 use crate::fields::refusals::FieldRefusal;
+use crate::output_pieces::{PieceRefusal, last_rows};
 use crate::vtk_texts::Field;
 use bound_program::Bound;
 use op_num::{OutOfMemory, Text};
-use output_pieces::{PieceRefusal, last_rows};
 use std::alloc::Global;
 
 // The field of a dat, or none where the program doesn't print it.

@@ -1,17 +1,17 @@
 // The whole picture.
 ghost use Rattle.std.specs.Prelude.{◌≡◌, ◌<◌, ◌^◌, ◌++◌, All, length, codes, OnOk, IfOk};
 ghost use Rattle.mesh_decl.specs.Mesh.{set_size, dat_set, dat_values};
-ghost use Rattle.markup.specs.Tree.{start_tag, printed};
+ghost use Rattle.mesh_draw.specs.Tree.{start_tag, printed};
 ghost use Rattle.mesh_draw.specs.Frame.{IsFrame};
 ghost use Rattle.mesh_draw.specs.Picture.{view_box, line_width, cell_count, view_attributes, drawing_attributes, drawing};
 ghost use Rattle.mesh_draw.specs.Picture.{sized_attributes, whole_height, whole_attributes, title_of};
 ghost use Rattle.mesh_draw.specs.Picture.{IsColour, HasColour, IsPlane, IsPicture};
 
+use crate::markup::{Attribute, nodes_print_in_order, put_end, put_start, put_text};
 use crate::picture::frame::{Frame, frame_of, margin, pixels, with_margins};
 use crate::picture::legend::{Label, number_text, put_labels};
 use crate::picture::polygons::put_polygons;
 use crate::shapes::Shape;
-use markup::{Attribute, nodes_print_in_order, put_end, put_start, put_text};
 use mesh_decl::Mesh;
 use op_num::{OutOfMemory, put_u64};
 use std::alloc::Global;

@@ -2,12 +2,12 @@
 ghost use Rattle.std.specs.Prelude.{◌≡◌, ◌<◌, ◌^◌, ◌++◌, All, length, OnOk, IfOk};
 ghost use Rattle.std.specs.List.{flat_map};
 ghost use Rattle.std.specs.Fmt.{decimal};
-ghost use Rattle.markup.specs.Tree.{printed};
+ghost use Rattle.mesh_draw.specs.Tree.{printed};
 ghost use Rattle.mesh_draw.specs.Picture.{rect_of, square, caption, labels_from, HasColour};
 
+use crate::markup::{Attribute, put_empty, put_end, put_start, put_text};
 use crate::picture::frame::{Frame, pixels};
 use crate::picture::palette::colour;
-use markup::{Attribute, put_empty, put_end, put_start, put_text};
 use op_num::{OutOfMemory, Text, put_u64};
 use std::alloc::Global;
 

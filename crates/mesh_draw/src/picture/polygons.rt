@@ -1,14 +1,14 @@
 // The polygons of cells.
 ghost use Rattle.std.specs.Prelude.{◌≡◌, ◌+◌, ◌*◌, ◌<◌, ◌==◌, ◌++◌, [], ◌∷◌, All, length, OnOk, if◌then◌else◌};
 ghost use Rattle.std.specs.List.{flat_map};
-ghost use Rattle.markup.specs.Tree.{printed};
+ghost use Rattle.mesh_draw.specs.Tree.{printed};
 ghost use Rattle.mesh_draw.specs.Frame.{coordinate, from_left, from_top};
 ghost use Rattle.mesh_draw.specs.Picture.{point_text, points_text, polygon_of, polygon, polygons, cell_count, IsColour, IsPlane};
 
+use crate::markup::{Attribute, put_empty};
 use crate::picture::frame::{Frame, above_low, below_high};
 use crate::picture::palette::colour;
 use crate::shapes::Shape;
-use markup::{Attribute, put_empty};
 use mesh_decl::Mesh;
 use op_num::{OutOfMemory, put_u64};
 

@@ -4,8 +4,8 @@ use Rattle.kernel_types.specs.declared.faults.KernelFault.{KernelFault}
 use Rattle.run_model.specs.Windows.{numbers}
 use Rattle.chain_model.specs.Machine.{ChainState}
 use Rattle.bound_chains.specs.Dump.{store_text}
-use Rattle.chain_memory.specs.Sound.{ranks_in}
-use Rattle.chain_ranks.specs.Running.{StoresStand}
+use Rattle.deep_halo.specs.Sound.{ranks_in}
+use Rattle.deep_halo.specs.Running.{StoresStand}
 use Rattle.deep_halo.specs.Programs.{IsHolding, program_of_run, owners_of_run}
 use Rattle.deep_halo.proofs.dumps.put_stores.Given as goal
 

@@ -10,7 +10,7 @@ use Rattle.run_model.specs.Hosts.{act_run}
 use Rattle.run_model.specs.Programs.{item_at, kind_of, loop_of, act_in, program_of}
 use Rattle.chain_model.specs.Machine.{ChainState, gathered}
 use Rattle.bound_chains.specs.Slices.{slicing_of}
-use Rattle.chain_ranks.specs.Running.{StoresStand}
+use Rattle.deep_halo.specs.Running.{StoresStand}
 use Rattle.deep_halo.specs.Hosts.{HostEnds}
 use Rattle.deep_halo.specs.Orders.{OthersStay}
 use Rattle.deep_halo.specs.Programs.{program_of_run, owners_of_run}

@@ -3,12 +3,12 @@ use Rattle.std.specs.Vec.{with_items}
 use Rattle.std.proofs.lemmas.List.{with_items_is}
 use Rattle.std.proofs.lemmas.Option.{same_Some}
 use Rattle.host_acts.specs.Variables.{of_vars}
-use Rattle.chain_memory.specs.Places.{all_cells}
+use Rattle.deep_halo.specs.Places.{all_cells}
 use Rattle.chain_model.specs.Machine.{supplied, ranks_run}
 use Rattle.bound_chains.specs.Slices.{slicing_of}
-use Rattle.chain_ranks.specs.Running.{StoresStand, AreHeld, PartialsStand, Runs}
-use Rattle.chain_ranks.specs.Loops.{HasConstants}
-use Rattle.chain_ranks.proofs.OneElement.{read, has_read}
+use Rattle.deep_halo.specs.Running.{StoresStand, AreHeld, PartialsStand, Runs}
+use Rattle.deep_halo.specs.Loops.{HasConstants}
+use Rattle.deep_halo.proofs.chain_ranks.OneElement.{read, has_read}
 use Rattle.deep_halo.specs.Programs.{program_of_run, owners_of_run}
 use Rattle.deep_halo.specs.Stands.{free_loop, Stands}
 use Rattle.deep_halo.specs.declared.state.State.{State}

@@ -12,11 +12,11 @@ use Rattle.run_model.specs.Programs.{kind_of}
 use Rattle.host_acts.specs.Variables.{of_vars}
 use Rattle.chain_model.specs.Machine.{reduced}
 use Rattle.bound_chains.specs.Slices.{slicing_of}
-use Rattle.chain_memory.specs.Cells.{BlocksHold}
-use Rattle.chain_ranks.specs.Merging.{changed_all}
-use Rattle.chain_ranks.specs.Running.{StoresStand, PartialsStand}
-use Rattle.chain_ranks.specs.Partials.{sums_of}
-use Rattle.chain_ranks.proofs.OneElement.{read, has_read}
+use Rattle.deep_halo.specs.Cells.{BlocksHold}
+use Rattle.deep_halo.specs.Merging.{changed_all}
+use Rattle.deep_halo.specs.Running.{StoresStand, PartialsStand}
+use Rattle.deep_halo.specs.Partials.{sums_of}
+use Rattle.deep_halo.proofs.chain_ranks.OneElement.{read, has_read}
 use Rattle.deep_halo.specs.Programs.{program_of_run, owners_of_run}
 use Rattle.deep_halo.specs.Stands.{free_loop, Stands}
 use Rattle.deep_halo.specs.declared.state.State.{State}

@@ -6,7 +6,7 @@ use Rattle.schedule_model.specs.Sequential.{after_run}
 use Rattle.bound_program.specs.Fits.{site_at}
 use Rattle.run_model.specs.Kernels.{element_run}
 use Rattle.rank_state.specs.declared.rank_memory.stop.Stop.{Stop}
-use Rattle.chain_ranks.proofs.OneElement.{read, has_read}
+use Rattle.deep_halo.proofs.chain_ranks.OneElement.{read, has_read}
 use Rattle.deep_halo.specs.Programs.{program_of_run, owners_of_run}
 use Rattle.deep_halo.specs.Orders.{LoopEnds}
 use Rattle.deep_halo.proofs.Ordering.{owned_told, owned_ends, owned_others, as_owned, as_owned_stands}

@@ -5,8 +5,8 @@ use Rattle.std.proofs.lemmas.List.{with_items_is, length-replicate}
 use Rattle.chain_model.specs.Machine.{chain_start}
 use Rattle.bound_chains.specs.Slices.{slicing_of}
 use Rattle.mesh_decl.specs.Mesh.{dat_count}
-use Rattle.chain_memory.specs.Cells.{BlocksHold, first_in_last, taken_by_owners, is_earlier}
-use Rattle.chain_ranks.specs.Running.{StoresStand}
+use Rattle.deep_halo.specs.Cells.{BlocksHold, first_in_last, taken_by_owners, is_earlier}
+use Rattle.deep_halo.specs.Running.{StoresStand}
 use Rattle.deep_halo.specs.Programs.{program_of_run, owners_of_run}
 use Rattle.deep_halo.proofs.FirstStates.{dats_first, partials_long, first_stores, first_stands}
 use Rattle.deep_halo.proofs.runs.first_state.Goals as goal

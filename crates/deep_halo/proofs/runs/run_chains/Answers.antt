@@ -1,6 +1,6 @@
 use Rattle.std.proofs.Common.{◌<◌, ◌^◌, sym, subst, ◌∙◌, arith}
 use Rattle.bound_program.specs.Values.{bound_of}
-use Rattle.chain_memory.specs.Cells.{BlocksHold, first_in_last}
+use Rattle.deep_halo.specs.Cells.{BlocksHold, first_in_last}
 use Rattle.kernel_code.specs.Codes.{AreCodesOf}
 use Rattle.deep_halo.proofs.Outcomes.{prints_it}
 use Rattle.deep_halo.proofs.runs.run_chains.Goals as goal

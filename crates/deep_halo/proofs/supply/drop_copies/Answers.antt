@@ -1,6 +1,6 @@
 use Rattle.std.proofs.Common.{◌<◌, ◌≤◌, ℕ, Option, Some, None, subst, ◌∙◌, arith}
 use Rattle.schedule_model.specs.Cells.{Data, Variable}
-use Rattle.chain_ranks.proofs.OneElement.{read, has_read}
+use Rattle.deep_halo.proofs.chain_ranks.OneElement.{read, has_read}
 use Rattle.deep_halo.specs.Programs.{IsHolding, program_of_run, owners_of_run}
 use Rattle.deep_halo.proofs.Exchanges.{own_first, own_dropped}
 use Rattle.deep_halo.proofs.supply.drop_copies.Goals as goal

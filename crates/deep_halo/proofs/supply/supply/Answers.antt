@@ -1,4 +1,4 @@
-use Rattle.chain_ranks.proofs.OneElement.{read, has_read}
+use Rattle.deep_halo.proofs.chain_ranks.OneElement.{read, has_read}
 use Rattle.deep_halo.specs.Programs.{program_of_run, owners_of_run}
 use Rattle.deep_halo.proofs.Exchanges.{exchanged_stand}
 use Rattle.deep_halo.proofs.supply.supply.Goals as goal

@@ -1,5 +1,5 @@
 use Rattle.std.proofs.Common.{refl}
-use Rattle.kept_files.proofs.Finding.{finds_weaker}
+use Rattle.job_inputs.proofs.kept_files.Finding.{finds_weaker}
 use Rattle.job_inputs.proofs.Chained.{if_ok_weaker}
 use Rattle.job_inputs.proofs.chosen.state_text_of.Goals as goal
 

@@ -2,7 +2,7 @@ use Rattle.std.proofs.Common.{◌≤◌, suc, vec_len, ap, subst, ◌∙◌, add
 use Rattle.op_outside.specs.Outside.{Rose}
 use Rattle.answer_lines.specs.Lines.{most}
 use Rattle.answer_lines.specs.Halts.{limit_of}
-use Rattle.kept_files.specs.Readings.{Finds}
+use Rattle.job_inputs.specs.Readings.{Finds}
 use Rattle.std.specs.Prelude.{IsSomeAnd, length, ◌<◌, refl, []}
 use Rattle.job_inputs.proofs.Reading.{file_read, file_missing, file_large, file_unread}
 use Rattle.job_inputs.proofs.files.file_of.Goals as goal

@@ -1,7 +1,7 @@
 use Rattle.std.proofs.Common.{◌≡◌, [], ◌∷◌, ◌++◌, None, Ok, Err, IfErr, ap, subst, ◌∙◌}
 use Rattle.op_outside.specs.Outside.{Rose}
-use Rattle.kept_files.specs.Readings.{readings_of, Finds}
-use Rattle.kept_files.proofs.Finding.{finds_last}
+use Rattle.job_inputs.specs.Readings.{readings_of, Finds}
+use Rattle.job_inputs.proofs.kept_files.Finding.{finds_last}
 use Rattle.answer_lines.specs.Halts.{limit_of}
 use Rattle.answers.specs.Judgements.{IsHeld}
 use Rattle.job_inputs.specs.Chains.{HaltsOver}

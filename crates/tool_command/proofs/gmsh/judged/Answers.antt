@@ -1,5 +1,5 @@
 use Rattle.std.proofs.Common.{option_map, subst}
-use Rattle.judged_texts.specs.Judged.{IsJudged}
+use Rattle.tool_command.specs.Judged.{IsJudged}
 use Rattle.tool_command.proofs.gmsh.judged.Goals as goal
 
 pub returns : goal.returns

@@ -1,6 +1,6 @@
 use Rattle.std.proofs.Common.{◌≡◌, Option, Result, sym, subst, ap}
 use Rattle.op_outside.specs.Outside.{Files, Rose}
-use Rattle.kept_files.specs.Readings.{Readings}
+use Rattle.job_inputs.specs.Readings.{Readings}
 use Rattle.bound_program.specs.Values.{BoundValue, bound_of}
 use Rattle.answer_lines.specs.Lines as lines
 use Rattle.answer_lines.specs.declared.call_answer.Answer.{Answer}

@@ -1,5 +1,5 @@
 use Rattle.std.proofs.Common.{ℕ, List, length, codes, ap, ◌∙◌, ◌++◌}
-use Rattle.markup.specs.Tree.{start_tag, end_tag}
+use Rattle.mesh_draw.specs.Tree.{start_tag, end_tag}
 use Rattle.mesh_draw.specs.Picture.{whole_attributes, title_of, drawing, labels_from}
 use Rattle.mesh_draw.proofs.picture.Whole.{whole_put}
 use Rattle.mesh_draw.proofs.picture.drawing.picture.Goals as goal

@@ -1,5 +1,5 @@
 use Rattle.std.proofs.Common.{ℕ, codes, ap, ◌∙◌, ◌++◌}
-use Rattle.markup.specs.Tree.{start_tag, end_tag}
+use Rattle.mesh_draw.specs.Tree.{start_tag, end_tag}
 use Rattle.mesh_draw.specs.Picture.{cell_count, drawing_attributes, polygons}
 use Rattle.mesh_draw.proofs.picture.Whole.{element_put}
 use Rattle.mesh_draw.proofs.picture.drawing.put_drawing.Goals as goal

@@ -1,6 +1,6 @@
 use Rattle.std.proofs.Common.{◌≡◌, ◌++◌, take}
 use Rattle.std.specs.List.{flat_map}
-use Rattle.markup.specs.Tree.{printed}
+use Rattle.mesh_draw.specs.Tree.{printed}
 use Rattle.mesh_draw.specs.Picture.{labels_from}
 use Rattle.mesh_draw.proofs.picture.legend.put_labels.Given as goal
 

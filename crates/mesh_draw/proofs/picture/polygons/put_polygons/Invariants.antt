@@ -1,6 +1,6 @@
 use Rattle.std.proofs.Common.{◌≡◌, ◌++◌, map}
 use Rattle.std.specs.List.{flat_map, range_with_len}
-use Rattle.markup.specs.Tree.{printed}
+use Rattle.mesh_draw.specs.Tree.{printed}
 use Rattle.mesh_draw.specs.Picture.{polygon}
 use Rattle.mesh_draw.proofs.picture.polygons.put_polygons.Given as goal
 

@@ -1,6 +1,0 @@
-use Rattle.std.proofs.Common.{take}
-use Rattle.chain_memory.specs.Cells.{Values, Hold, cleared}
-use Rattle.chain_memory.proofs.chain_stores.lists.clear_pairs.Given as goal
-
-abbrev pub invariant-loop-element : goal.invariant-loop-element
-invariant-loop-element l = (f : Values) → Hold l.blocks l.initial.memory f → Hold l.blocks l.memory (cleared l.rank l.dat (take l.element-index l.elements) f)

@@ -1,8 +1,0 @@
-use Rattle.std.proofs.Common.{◌≡◌, [], map, take}
-use Rattle.chain_memory.specs.Placed.{arg_place}
-use Rattle.chain_memory.specs.Places.{stands_at}
-use Rattle.chain_memory.specs.Sound.{program_in}
-use Rattle.chain_memory.proofs.elements.put_places.Given as goal
-
-abbrev pub invariant-loop-i : goal.invariant-loop-i
-invariant-loop-i l = take l.i l.places ≡ map (arg_place (program_in l.blocks) [] l.element (stands_at (program_in l.blocks) l.blocks.owners.now l.at)) (take l.i l.all.args.now)

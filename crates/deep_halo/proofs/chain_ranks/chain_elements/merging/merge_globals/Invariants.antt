@@ -1,0 +1,10 @@
+use Rattle.std.proofs.Common.{take}
+use Rattle.host_acts.specs.Variables.{of_vars}
+use Rattle.deep_halo.specs.Sound.{program_in, ranks_in}
+use Rattle.deep_halo.specs.Cells.{Values, BlocksHold, Hold}
+use Rattle.deep_halo.specs.Merging.{merged_all}
+use Rattle.deep_halo.proofs.chain_ranks.chain_elements.merging.merge_globals.Given as goal
+
+abbrev pub invariant-loop-arg : goal.invariant-loop-arg
+invariant-loop-arg l = (f p : Values) → Hold l.blocks l.memory f → BlocksHold (of_vars (program_in l.blocks).vars) (ranks_in l.blocks) l.initial.partials p
+    → BlocksHold (of_vars (program_in l.blocks).vars) (ranks_in l.blocks) l.partials (merged_all l.rank l.all.args.now (take l.arg-index l.all.args.now) f p)

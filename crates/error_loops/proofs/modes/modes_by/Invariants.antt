@@ -1,7 +1,0 @@
-use Rattle.std.proofs.Common.{◌≡◌, map, take}
-use Rattle.access_check.specs.Modes.{model_of}
-use Rattle.error_loops.specs.Modes.{mode_by}
-use Rattle.error_loops.proofs.modes.modes_by.Given as goal
-
-abbrev pub invariant-loop-arg : goal.invariant-loop-arg
-invariant-loop-arg l = map model_of l.modes.items ≡ map mode_by (take l.arg-index l.args)

@@ -1,4 +1,0 @@
-use Rattle.error_loops.proofs.reading.source_by.Goals as goal
-
-pub returns-in-None-clause-none : goal.returns-in-None-clause-none
-returns-in-None-clause-none c = λ lexed p types r. (rw c.in-None.is at c.in_ok-program.ensures.none) p r.reads

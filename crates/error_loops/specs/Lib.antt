@@ -1,9 +1,0 @@
-pub mod Placed
-pub mod Calls
-pub mod Modes
-pub mod Judgements
-pub mod First
-pub mod Arguments
-pub mod Accesses
-pub mod Faults
-pub mod Values

@@ -1,4 +1,0 @@
-pub mod Held
-pub mod Named
-pub mod Loops
-pub mod ExplainAnswers

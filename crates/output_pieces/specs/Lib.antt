@@ -1,8 +1,0 @@
-pub mod Lines
-pub mod Pieces
-pub mod Answered
-pub mod Found
-pub mod Cuts
-pub mod Laws
-pub mod Last
-pub mod LastFound
