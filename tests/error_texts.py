@@ -57,7 +57,7 @@ def of_crate():
     """The texts in order: name, front, cause, advice."""
     texts = []
     for table in TABLES:
-        source = (top / f"crates/explanations/src/texts/{table}.rt").read_text()
+        source = (top / f"crates/explanations/src/meanings/{table}.rt").read_text()
         literal = re.search(r'&str = "\\\n(.*)";', source, re.S)[1]
         plain = re.sub(r"\\\n *", "", literal).strip()
         plain = re.sub(r"\\(.)", lambda m: {"n": "\n", "t": "\t"}.get(m[1], m[1]), plain)

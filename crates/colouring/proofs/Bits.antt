@@ -2,7 +2,6 @@ use Rattle.std.proofs.Common.{◌≡◌, ℕ, ◌+◌, ◌*◌, ◌/◌, ◌%◌
 use Rattle.std.specs.Prelude.{◌↔◌, ◌⊎◌, bit_or}
 use Rattle.std.specs.Int.{bit_at, w32}
 use Rattle.std.proofs.lemmas.Bool.{cases_eq}
-use Rattle.std.proofs.lemmas.Nat.{mod_below}
 use Rattle.std.proofs.lemmas.Nat.Bits.{bit_at_or, bit_at_set_same, bit_at_set_other, bit_at_ones, bit_at-lt}
 
 pub or_iff : (a m b : ℕ) → (bit_at (bit_or a m) b ≡ 1) ↔ ((bit_at a b ≡ 1) ⊎ (bit_at m b ≡ 1))

@@ -1,12 +1,11 @@
 -- Where nothing reduces, nothing is in conflict.
 use Rattle.std.proofs.Common.{◌≡◌, ◌==◌, ◌<◌, ◌*◌, ℕ, Bool, true, List, Vec, [], ◌∷◌, refl, length, get_or, ap, ◌∙◌, sym, subst, arith}
-use Rattle.std.specs.Prelude.{◌↔◌, Contains, replicate}
+use Rattle.std.specs.Prelude.{◌↔◌, replicate}
 use Rattle.std.specs.declared.alloc.Global.{Global}
 use Rattle.std.proofs.lemmas.Bool.{eqb-true}
 use Rattle.std.proofs.lemmas.List.{get_or-replicate, length-replicate}
 use Rattle.mesh_decl.specs.Mesh.{MeshValue}
 use Rattle.colouring.specs.declared.types.Colours.{Colours}
-use Rattle.colouring.specs.declared.types.IncArg.{IncArg}
 use Rattle.colouring.specs.Colours.{Conflict, ConflictWithin, BlocksConflict, IsLeast, AreColours}
 
 none_meet : (g : MeshValue) (maps : List (Vec ℕ Global)) (p q : ℕ) → Conflict g maps [] p q → ⊥

@@ -2,7 +2,7 @@
 use Rattle.std.proofs.Common.{◌≡◌, ◌≢◌, ℕ, ◌+◌, ◌*◌, ◌/◌, ◌<◌, ◌≤◌, ◌⊎◌, true, inl, inr, refl, sym, arith, ⊎_elim, List, Vec, length, get_or, div-mul-le_self, add-mul}
 use Rattle.std.specs.Prelude.{◌&&◌, ◌==◌, nat_lt}
 use Rattle.std.specs.declared.alloc.Global.{Global}
-use Rattle.std.proofs.lemmas.Bool.{cases_eq, cases_lt, lt-ltb, eq-eqb, or_left, or_right, and_from}
+use Rattle.std.proofs.lemmas.Bool.{cases_eq, lt-ltb, eq-eqb, or_left, or_right, and_from}
 use Rattle.std.proofs.Math.Nat.{lt-div-mul-add}
 use Rattle.mesh_decl.specs.Mesh.{MeshValue}
 use Rattle.colouring.specs.Blocks.{IsInBlock}

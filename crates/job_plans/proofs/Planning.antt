@@ -1,8 +1,8 @@
 -- From new numbers and owners to the plan.
 use Rattle.std.proofs.Common.{◌≡◌, ℕ, inl, inr, List, ◌++◌, Option, Result, Ok, Err, refl, sym, subst}
 use Rattle.op_outside.specs.Outside.{Files}
-use Rattle.kept_files.specs.Readings.{Readings, AreNext, HaveCome, Finds}
-use Rattle.kept_files.proofs.Finding.{finds_on, finds_weaker}
+use Rattle.job_inputs.specs.Readings.{Readings, AreNext, HaveCome, Finds}
+use Rattle.job_inputs.proofs.kept_files.Finding.{finds_on, finds_weaker}
 use Rattle.mesh_decl.specs.declared.owners.Owners.{Owners}
 use Rattle.mesh_decl.specs.declared.owners.Perms.{Perms}
 use Rattle.mesh_decl.specs.Mesh.{MeshValue}

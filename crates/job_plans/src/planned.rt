@@ -2,7 +2,7 @@
 
 ghost use Rattle.std.specs.Prelude.{◌≡◌, ◌≤◌, ◌↔◌, ◌++◌, ℕ, List, All, length, Ok, Err, IfOk, IfErr, OnOk};
 ghost use Rattle.op_outside.specs.Outside.{Rose};
-ghost use Rattle.kept_files.specs.Readings.{AreNext, HaveCome, Finds};
+ghost use Rattle.job_inputs.specs.Readings.{AreNext, HaveCome, Finds};
 ghost use Rattle.mesh_decl.specs.Owners.{AreOwners, ArePerms};
 ghost use Rattle.bound_program.specs.Values.{bound_of};
 ghost use Rattle.bound_program.specs.Fits.{Fits};
@@ -25,7 +25,7 @@ use bound_program::Bound;
 use command_words::{Blocks, Options};
 use distribute::distribute;
 use job_inputs::{numbers_of, owners_of, partition_of, plan_text_of};
-use kept_files::Kept;
+use job_inputs::kept_files::Kept;
 use mesh_decl::{Owners, Perms};
 use op_outside::Shelf;
 use planned_program::Planned;

@@ -48,14 +48,6 @@ pub none_from : {X : Type 0} (o : Option X) → is_some o ≡ false → o ≡ No
 none_from None h = refl
 none_from (Some x) h = cc
 
--- equal lists of numbers have equal heads
-pub heads_same : (a b : ℕ) (xs ys : List ℕ) → a ∷ xs ≡ b ∷ ys → a ≡ b
-heads_same a b xs ys e = ap (λ zs. get_or zs 0 0) e
-
--- equal lists of numbers have equal tails
-pub tails_same : (a b : ℕ) (xs ys : List ℕ) → a ∷ xs ≡ b ∷ ys → xs ≡ ys
-tails_same a b xs ys e = ap (drop 1) e
-
 -- the element at a place below the length
 pub element_at : {A : Type 0} (xs : List A) (r : ℕ) → r < length xs → (x : A) × ((d : A) → get_or xs r d ≡ x)
 element_at [] r l = absurd (omega arith)

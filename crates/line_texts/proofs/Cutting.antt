@@ -7,7 +7,7 @@ use Rattle.std.proofs.lemmas.List.Sums.{fails_before_first, split_at_first, pref
 use Rattle.std.proofs.lemmas.List.Splits.{join_with_byte-slice_split, slice_split_none, slice_split_at, slice_split_first}
 use Rattle.std.specs.List.{All, onto_first, join_with_byte, position_or_len, before_first, after_first}
 use Rattle.line_texts.specs.Lines.{is_lf, is_space, words, words_to_come, HasNoLf, HasNoSpace, Unread, IsTaken, Takes}
-use Rattle.lemmas.proofs.Lists.{heads_same, tails_same}
+use Rattle.lemmas.proofs.Lists.{head_same, tail_same}
 
 -- ---- lines
 
@@ -64,12 +64,12 @@ no_lf_at : (b : ℕ) → is_lf b ≡ false → b ≡ 10 → ⊥
 no_lf_at b h e = let t : is_lf b ≡ true = eq-eqb b 10 e in cc
 
 pub one_line : (line other rest more : List ℕ) → HasNoLf line → HasNoLf other → line ++ 10 ∷ rest ≡ other ++ 10 ∷ more → (line ≡ other) × (rest ≡ more)
-one_line [] [] rest more h k e = (refl, tails_same 10 10 rest more e)
-one_line [] (b ∷ bs) rest more h k e = absurd (no_lf_at b (front_no_lf b bs k) (sym (heads_same 10 b rest (bs ++ 10 ∷ more) e)))
-one_line (a ∷ fs) [] rest more h k e = absurd (no_lf_at a (front_no_lf a fs h) (heads_same a 10 (fs ++ 10 ∷ rest) more e))
+one_line [] [] rest more h k e = (refl, tail_same 10 10 rest more e)
+one_line [] (b ∷ bs) rest more h k e = absurd (no_lf_at b (front_no_lf b bs k) (sym (head_same 10 b rest (bs ++ 10 ∷ more) e)))
+one_line (a ∷ fs) [] rest more h k e = absurd (no_lf_at a (front_no_lf a fs h) (head_same a 10 (fs ++ 10 ∷ rest) more e))
 one_line (a ∷ fs) (b ∷ bs) rest more h k e =
-    let is : a ≡ b = heads_same a b (fs ++ 10 ∷ rest) (bs ++ 10 ∷ more) e in
-    let more_same = one_line fs bs rest more (rest_no_lf a fs h) (rest_no_lf b bs k) (tails_same a b (fs ++ 10 ∷ rest) (bs ++ 10 ∷ more) e) in
+    let is : a ≡ b = head_same a b (fs ++ 10 ∷ rest) (bs ++ 10 ∷ more) e in
+    let more_same = one_line fs bs rest more (rest_no_lf a fs h) (rest_no_lf b bs k) (tail_same a b (fs ++ 10 ∷ rest) (bs ++ 10 ∷ more) e) in
     (rw is (ap (λ xs. b ∷ xs) more_same.0), more_same.1)
 
 -- ---- words

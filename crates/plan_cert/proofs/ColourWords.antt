@@ -6,8 +6,8 @@ use Rattle.std.proofs.lemmas.List.{append_cancel_left}
 use Rattle.op_num.specs.Spelling.{number_of}
 use Rattle.plan_cert.specs.Awaited.{AreColours}
 use Rattle.plan_cert.proofs.Telling.{colours_long, colours_one}
-use Rattle.plan_cert.proofs.Deciding.{Known, Begins, begins_known, bytes_known, heads_same, tails_same, longer}
-use Rattle.lemmas.proofs.Lists.{fronts_same}
+use Rattle.plan_cert.proofs.Deciding.{Known, Begins, begins_known, bytes_known, longer}
+use Rattle.lemmas.proofs.Lists.{fronts_same, head_same, tail_same}
 use Rattle.std.proofs.lemmas.Option.{same_Some}
 
 -- ---- so many at the front
@@ -39,8 +39,8 @@ first_is w ws count t = go t.told t.colours t.is t.are t.many
     go [] (c ∷ cs) e a m = absurd a
     go (v ∷ vs) [] e a m = absurd a
     go (v ∷ vs) (c ∷ cs) e a m = (
-      (c, subst (λ z. number_of z ≡ Some c) (sym (heads_same w v ws (vs ++ t.more) e)) a.0, a.1),
-      record { told = vs; more = t.more; colours = cs; is = tails_same w v ws (vs ++ t.more) e; are = a.2; many = omega arith },
+      (c, subst (λ z. number_of z ≡ Some c) (sym (head_same w v ws (vs ++ t.more) e)) a.0, a.1),
+      record { told = vs; more = t.more; colours = cs; is = tail_same w v ws (vs ++ t.more) e; are = a.2; many = omega arith },
     )
 
 told_more : (w : List ℕ) (ws : List (List ℕ)) (count : ℕ) → Known (IsColour w) → Known (Told ws count) → Known (Told (w ∷ ws) (suc count))
@@ -88,7 +88,7 @@ one_told fixed words blocks places bs cs ds es t u =
     let long : length t.block_words ≡ length u.block_words = colours_long t.block_words bs t.are_blocks ∙ (t.block_count ∙ (sym u.block_count ∙ sym (colours_long u.block_words ds u.are_blocks))) in
     let behind = append_cancel_left fixed (t.block_words ++ codes "inner" ∷ t.inner_words) (u.block_words ++ codes "inner" ∷ u.inner_words) (sym t.is ∙ u.is) in
     let same = fronts_same t.block_words u.block_words (codes "inner" ∷ t.inner_words) (codes "inner" ∷ u.inner_words) long behind in
-    let inner = tails_same (codes "inner") (codes "inner") t.inner_words u.inner_words same.1 in (
+    let inner = tail_same (codes "inner") (codes "inner") t.inner_words u.inner_words same.1 in (
       colours_one u.block_words bs ds (subst (λ z. AreColours z bs) same.0 t.are_blocks) u.are_blocks,
       colours_one u.inner_words cs es (subst (λ z. AreColours z cs) inner t.are_inner) u.are_inner,
     )
@@ -121,8 +121,8 @@ inner_told (w ∷ ws) count = both (bytes_known w (codes "inner")) (all_told ws 
   where
     both : Known (w ≡ codes "inner") → Known (AllTold ws count) → Known ((inner : List (List ℕ)) × (w ∷ ws ≡ codes "inner" ∷ inner) × AllTold inner count)
     both (inl e) (inl a) = inl (ws, ap (λ z. z ∷ ws) e, a)
-    both (inl e) (inr h) = inr (λ k. h (subst (λ z. AllTold z count) (sym (tails_same w (codes "inner") ws k.0 k.1)) k.2))
-    both (inr h) a = inr (λ k. h (heads_same w (codes "inner") ws k.0 k.1))
+    both (inl e) (inr h) = inr (λ k. h (subst (λ z. AllTold z count) (sym (tail_same w (codes "inner") ws k.0 k.1)) k.2))
+    both (inr h) a = inr (λ k. h (head_same w (codes "inner") ws k.0 k.1))
 
 behind_known : (fixed words rest : List (List ℕ)) (blocks places : ℕ) → words ≡ fixed ++ rest → Known (Told rest blocks) → Known (SomeTold fixed words blocks places)
 behind_known fixed words rest blocks places e (inr h) = inr (λ s. (

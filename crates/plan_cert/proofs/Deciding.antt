@@ -1,7 +1,8 @@
 -- What can be told: whether numbers below a bound pass, whether a list begins with another, and where a line ends.
-use Rattle.std.proofs.Common.{◌≡◌, ℕ, Bool, true, false, zero, suc, ◌<◌, ◌⊎◌, inl, inr, ⊎_elim, refl, sym, ap, subst, ◌∙◌, arith, List, [], ◌∷◌, ◌++◌, append-nil, length, get_or, drop}
+use Rattle.std.proofs.Common.{◌≡◌, ℕ, Bool, true, false, zero, suc, ◌<◌, ◌⊎◌, inl, inr, ⊎_elim, refl, sym, ap, subst, ◌∙◌, arith, List, [], ◌∷◌, ◌++◌, append-nil, length}
 use Rattle.std.proofs.lemmas.Bool.{cases_eq, eqb-true}
 use Rattle.std.proofs.lemmas.List.{append_cancel_left}
+use Rattle.lemmas.proofs.Lists.{head_same, tail_same}
 use Rattle.line_texts.specs.Lines.{is_lf, HasNoLf}
 use Rattle.plan_cert.proofs.Lining.{no_lf_none, no_lf_behind}
 
@@ -44,11 +45,6 @@ below_known P h (suc n) = known_more P n (below_known P h n) (h n)
 -- ---- lists
 
 module _ {X : Type 0} where
-  pub heads_same : (x y : X) (xs ys : List X) → x ∷ xs ≡ y ∷ ys → x ≡ y
-  heads_same x y xs ys e = ap (λ zs. get_or zs 0 x) e
-
-  pub tails_same : (x y : X) (xs ys : List X) → x ∷ xs ≡ y ∷ ys → xs ≡ ys
-  tails_same x y xs ys e = ap (drop 1) e
 
   pub longer : (x : X) (xs : List X) → [] ≡ x ∷ xs → ⊥
   longer x xs e = let l : 0 ≡ suc (length xs) = ap length e in omega arith
@@ -59,8 +55,8 @@ module _ {X : Type 0} where
 
   begins_more : (x y : X) (xs ys : List X) → Known (x ≡ y) → Known (Begins xs ys) → Known (Begins (x ∷ xs) (y ∷ ys))
   begins_more x y xs ys (inl e) (inl h) = inl (h.0, ap (λ z. z ∷ ys) (sym e) ∙ ap (λ zs. x ∷ zs) h.1)
-  begins_more x y xs ys (inl e) (inr h) = inr (λ k. h (k.0, tails_same y x ys (xs ++ k.0) k.1))
-  begins_more x y xs ys (inr e) h = inr (λ k. e (sym (heads_same y x ys (xs ++ k.0) k.1)))
+  begins_more x y xs ys (inl e) (inr h) = inr (λ k. h (k.0, tail_same y x ys (xs ++ k.0) k.1))
+  begins_more x y xs ys (inr e) h = inr (λ k. e (sym (head_same y x ys (xs ++ k.0) k.1)))
 
   module _ (same : (x y : X) → Known (x ≡ y)) where
     pub begins_known : (xs ys : List X) → Known (Begins xs ys)

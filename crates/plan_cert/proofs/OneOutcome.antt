@@ -9,7 +9,7 @@ use Rattle.loop_plan.specs.Values.{PlanValue}
 use Rattle.loop_plan.specs.Places.{runs_free}
 use Rattle.plan_cert.specs.Awaited.{Awaited, Exactly, Sizes, ColoursOf, Done, each_below, awaited_halo, awaited_set, awaited_halos, awaited_ranks, awaited_sites, awaited_item, awaited_items, awaited, header_line, ColourLists, IsSizes, FitsLine, FitLines}
 use Rattle.plan_cert.specs.Certified.{all, colours_in, Certified, Refuses, RefusedAmong, IsRefused}
-use Rattle.plan_cert.proofs.Deciding.{heads_same, tails_same}
+use Rattle.lemmas.proofs.Lists.{head_same, tail_same}
 use Rattle.plan_cert.proofs.SameRanks.{awaited_same, lines_to, refused_to}
 use Rattle.plan_cert.proofs.OneLine.{IsEarly, one_size, one_fit, not_both, one_number}
 
@@ -84,29 +84,29 @@ module _ (b : BoundValue) (meshes : List RankMesh) (size : ℕ) where
   one_by : (e f : List Awaited) (h k : Awaited) (t u : List Awaited) (ls ms : List (List ℕ)) (rest more : List ℕ) (cs ds : List ColourLists) (m n : ℕ)
       → Ends (e ++ h ∷ t) → e ++ h ∷ t ≡ f ++ k ∷ u → Fit e ls cs → Fit f ms ds → all ls ++ rest ≡ all ms ++ more → Ref h rest m → Ref k more n → (m ≡ n) × (length ls ≡ length ms)
   one_by [] [] h k t u [] [] rest more cs ds m n ends order a c e x y =
-      let same : h ≡ k = heads_same h k t u order in
+      let same : h ≡ k = head_same h k t u order in
       (one_number b meshes size k more m n (subst (λ z. Ref k z m) e (subst (λ z. Ref z rest m) same x)) y, refl)
   one_by [] [] h k t u [] (l ∷ ls) rest more cs ds m n ends order a c e x y = absurd c
   one_by [] [] h k t u (l ∷ ls) ms rest more cs ds m n ends order a c e x y = absurd a
   one_by [] (z ∷ f) h k t u (l ∷ ls) ms rest more cs ds m n ends order a c e x y = absurd a
   one_by [] (z ∷ f) h k t u [] [] rest more cs ds m n ends order a c e x y = absurd c
   one_by [] (z ∷ f) h k t u [] (l ∷ ls) rest more cs ds m n ends order a c e x y =
-      let same : h ≡ z = heads_same h z t (f ++ k ∷ u) order in
+      let same : h ≡ z = head_same h z t (f ++ k ∷ u) order in
       let early : IsEarly z = (early_first z f k u (subst Ends order ends)).0 in
       absurd (not_both b meshes size z l rest (all ls ++ more) c.0 m (inl early) c.3 (e ∙ append_assoc l (all ls) more) (subst (λ w. Ref w rest m) same x))
   one_by (z ∷ e) [] h k t u ls (l ∷ ms) rest more cs ds m n ends order a c q x y = absurd c
   one_by (z ∷ e) [] h k t u [] [] rest more cs ds m n ends order a c q x y = absurd a
   one_by (z ∷ e) [] h k t u (l ∷ ls) [] rest more cs ds m n ends order a c q x y =
-      let same : k ≡ z = sym (heads_same z k (e ++ h ∷ t) u order) in
+      let same : k ≡ z = sym (head_same z k (e ++ h ∷ t) u order) in
       let early : IsEarly z = (early_first z e h t ends).0 in
       absurd (not_both b meshes size z l more (all ls ++ rest) a.0 n (inl early) a.3 (sym q ∙ append_assoc l (all ls) rest) (subst (λ w. Ref w more n) same y))
   one_by (z ∷ e) (w ∷ f) h k t u [] ms rest more cs ds m n ends order a c q x y = absurd a
   one_by (z ∷ e) (w ∷ f) h k t u (l ∷ ls) [] rest more cs ds m n ends order a c q x y = absurd c
   one_by (z ∷ e) (w ∷ f) h k t u (l ∷ ls) (j ∷ ms) rest more cs ds m n ends order a c q x y =
-      let same : z ≡ w = heads_same z w (e ++ h ∷ t) (f ++ k ∷ u) order in
+      let same : z ≡ w = head_same z w (e ++ h ∷ t) (f ++ k ∷ u) order in
       let fit : FitsLine b meshes size w l a.0 = subst (λ v. FitsLine b meshes size v l a.0) same a.3 in
       let o = one_fit b meshes size w l j (all ls ++ rest) (all ms ++ more) a.0 c.0 fit c.3 (sym (append_assoc l (all ls) rest) ∙ (q ∙ append_assoc j (all ms) more)) in
-      let r = one_by e f h k t u ls ms rest more a.1 c.1 m n (early_first z e h t ends).1 (tails_same z w (e ++ h ∷ t) (f ++ k ∷ u) order) a.4 c.4 o.1 x y in
+      let r = one_by e f h k t u ls ms rest more a.1 c.1 m n (early_first z e h t ends).1 (tail_same z w (e ++ h ∷ t) (f ++ k ∷ u) order) a.4 c.4 o.1 x y in
       (r.0, ap suc r.1)
 
   -- ---- none is refused
@@ -167,22 +167,22 @@ module _ (b : BoundValue) (meshes : List RankMesh) where
       → Tells b meshes m bytes ⊎ RefusedAmong b meshes n (Exactly 1 header_line ∷ Sizes ∷ ys) bytes number before
   sized_by m n bytes number before ys [] h t (l ∷ ls) rest cs o f e x a = absurd f
   sized_by m n bytes number before ys [] h t [] rest cs o f e x a =
-      let same : Exactly 1 header_line ≡ h = heads_same (Exactly 1 header_line) h (Sizes ∷ ys) t o in
+      let same : Exactly 1 header_line ≡ h = head_same (Exactly 1 header_line) h (Sizes ∷ ys) t o in
       let k : Refuses b meshes m (Exactly 1 header_line) rest number = subst (λ z. Refuses b meshes m z rest number) (sym same) x in
       inr (record { lines = []; rest = rest; split = e; earlier = []; here = Exactly 1 header_line; later = Sizes ∷ ys; order = refl; colours = []; fit = refl; refuses = k; at = a })
   sized_by m n bytes number before ys (z ∷ []) h t [] rest cs o f e x a = absurd f
   sized_by m n bytes number before ys (z ∷ []) h t (l ∷ j ∷ ls) rest cs o f e x a = absurd f.4
   sized_by m n bytes number before ys (z ∷ []) h t (l ∷ []) rest cs o f e x a =
-      let first : Exactly 1 header_line ≡ z = heads_same (Exactly 1 header_line) z (Sizes ∷ ys) (h ∷ t) o in
-      let tail : Sizes ∷ ys ≡ h ∷ t = tails_same (Exactly 1 header_line) z (Sizes ∷ ys) (h ∷ t) o in
-      let same : Sizes ≡ h = heads_same Sizes h ys t tail in
+      let first : Exactly 1 header_line ≡ z = head_same (Exactly 1 header_line) z (Sizes ∷ ys) (h ∷ t) o in
+      let tail : Sizes ∷ ys ≡ h ∷ t = tail_same (Exactly 1 header_line) z (Sizes ∷ ys) (h ∷ t) o in
+      let same : Sizes ≡ h = head_same Sizes h ys t tail in
       let k : Refuses b meshes m Sizes rest number = subst (λ z. Refuses b meshes m z rest number) (sym same) x in
       let fit : FitsLine b meshes m (Exactly 1 header_line) l f.0 = subst (λ z. FitsLine b meshes m z l f.0) (sym first) f.3 in
       inr (record { lines = l ∷ []; rest = rest; split = e; earlier = Exactly 1 header_line ∷ []; here = Sizes; later = ys; order = refl; colours = f.0 ++ []; fit = (f.0, [], refl, fit, refl); refuses = k; at = a })
   sized_by m n bytes number before ys (z ∷ w ∷ v) h t ls rest cs o f e x a =
-      let first : Exactly 1 header_line ≡ z = heads_same (Exactly 1 header_line) z (Sizes ∷ ys) (w ∷ (v ++ h ∷ t)) o in
-      let tail : Sizes ∷ ys ≡ w ∷ (v ++ h ∷ t) = tails_same (Exactly 1 header_line) z (Sizes ∷ ys) (w ∷ (v ++ h ∷ t)) o in
-      let second : Sizes ≡ w = heads_same Sizes w ys (v ++ h ∷ t) tail in
+      let first : Exactly 1 header_line ≡ z = head_same (Exactly 1 header_line) z (Sizes ∷ ys) (w ∷ (v ++ h ∷ t)) o in
+      let tail : Sizes ∷ ys ≡ w ∷ (v ++ h ∷ t) = tail_same (Exactly 1 header_line) z (Sizes ∷ ys) (w ∷ (v ++ h ∷ t)) o in
+      let second : Sizes ≡ w = head_same Sizes w ys (v ++ h ∷ t) tail in
       inl (fits_tell m v ls rest bytes cs (subst (λ u. FitLines b meshes m (u ∷ Sizes ∷ v) ls cs) (sym first) (subst (λ u. FitLines b meshes m (z ∷ u ∷ v) ls cs) (sym second) f)) e)
 
   sized : (m n : ℕ) (bytes : List ℕ) (number before : ℕ) (ys : List Awaited) → RefusedAmong b meshes m (Exactly 1 header_line ∷ Sizes ∷ ys) bytes number before

@@ -13,7 +13,7 @@ use Rattle.loop_plan.specs.Spaced.{spaced}
 use Rattle.plan_cert.specs.Awaited.{AreColours}
 use Rattle.plan_cert.specs.Told.{ToldIs, TellsColours}
 use Rattle.plan_cert.proofs.Lining.{AreDark, dark_append, number_dark, joined_spaced, content_cut}
-use Rattle.plan_cert.proofs.Deciding.{heads_same, tails_same}
+use Rattle.lemmas.proofs.Lists.{head_same, tail_same}
 use Rattle.lemmas.proofs.Lists.{fronts_same}
 use Rattle.std.proofs.lemmas.Option.{same_Some}
 
@@ -37,8 +37,8 @@ colours_push (v ∷ ws) (d ∷ cs) w c e l h = (h.0, h.1, colours_push ws cs w c
 colour_next : (ws seen : List (List ℕ)) (cs : List ℕ) (w : List ℕ) (more rest : List (List ℕ)) → AreColours ws cs → length seen < length ws → seen ++ w ∷ rest ≡ ws ++ more → (c : ℕ) × (number_of w ≡ Some c) × (c < 2 ^ 32)
 colour_next [] seen cs w more rest h l e = absurd (omega arith)
 colour_next (v ∷ ws) seen [] w more rest h l e = absurd h
-colour_next (v ∷ ws) [] (c ∷ cs) w more rest h l e = (c, subst (λ z. number_of z ≡ Some c) (sym (heads_same w v rest (ws ++ more) e)) h.0, h.1)
-colour_next (v ∷ ws) (u ∷ seen) (c ∷ cs) w more rest h l e = colour_next ws seen cs w more rest h.2 (omega arith) (tails_same u v (seen ++ w ∷ rest) (ws ++ more) e)
+colour_next (v ∷ ws) [] (c ∷ cs) w more rest h l e = (c, subst (λ z. number_of z ≡ Some c) (sym (head_same w v rest (ws ++ more) e)) h.0, h.1)
+colour_next (v ∷ ws) (u ∷ seen) (c ∷ cs) w more rest h l e = colour_next ws seen cs w more rest h.2 (omega arith) (tail_same u v (seen ++ w ∷ rest) (ws ++ more) e)
 
 -- where more colours are told than were found, the next word is there, and is a colour
 module _ (ws seen more rest : List (List ℕ)) (cs found : List ℕ) (told : AreColours ws cs) (so_far : AreColours seen found) (few : length found < length cs) where
@@ -128,7 +128,7 @@ module _ (front line behind : List ℕ) (blocks places : ℕ) (bs cs : List ℕ)
 
   module _ (o o1 : List (List ℕ)) (w : o ≡ words behind) (next : o ≡ [] ∷ o1) where
     left : o1 ≡ t.block_words ++ codes "inner" ∷ t.inner_words
-    left = tails_same [] [] o1 (t.block_words ++ codes "inner" ∷ t.inner_words) (sym next ∙ (w ∙ line_cut front line behind blocks places bs cs e t))
+    left = tail_same [] [] o1 (t.block_words ++ codes "inner" ∷ t.inner_words) (sym next ∙ (w ∙ line_cut front line behind blocks places bs cs e t))
 
     pub blocks_there : (o2 : List (List ℕ)) (r : Option (Vec ℕ Global)) → r ≡ None → ToldIs o1 o2 blocks r → ⊥
     blocks_there o2 r n k = subst (ToldIs o1 o2 blocks) n k t.block_words (codes "inner" ∷ t.inner_words) bs left t.are_blocks t.block_count
@@ -148,7 +148,7 @@ module _ (front line behind : List ℕ) (blocks places : ℕ) (bs cs : List ℕ)
 
       module _ (o3 : List (List ℕ)) (inner : o2 ≡ codes "inner" ∷ o3) where
         inner_left : o3 ≡ t.inner_words
-        inner_left = tails_same (codes "inner") (codes "inner") o3 t.inner_words (sym inner ∙ behind_blocks)
+        inner_left = tail_same (codes "inner") (codes "inner") o3 t.inner_words (sym inner ∙ behind_blocks)
 
         pub inner_there : (o4 : List (List ℕ)) (q : Option (Vec ℕ Global)) → q ≡ None → ToldIs o3 o4 places q → ⊥
         inner_there o4 q n k = subst (ToldIs o3 o4 places) n k t.inner_words [] cs (inner_left ∙ sym (append-nil t.inner_words)) t.are_inner t.inner_count

@@ -19,7 +19,7 @@ use Rattle.checkpoint.proofs.state_texts.Judging.{fits_none, fits_one, fits_appe
 use Rattle.checkpoint.proofs.state_texts.Words.{no_lf_nil, no_lf_cons, words_row, spell_one}
 use Rattle.checkpoint.proofs.state_texts.OneLine.{no_line, first_line, lf_behind, values_line, item_is_line}
 use Rattle.checkpoint.proofs.state_texts.Telling.{words_are, told_empty}
-use Rattle.lemmas.proofs.Lists.{bytes_eq_from, bytes_eq_same, tails_same}
+use Rattle.lemmas.proofs.Lists.{bytes_eq_from, bytes_eq_same, tail_same}
 
 -- ---- bytes
 
@@ -200,15 +200,15 @@ mark_dec (c ∷ cs) = by (mark_dec cs) (bytes_dec (take 12 (c ∷ cs)) mark)
   where
     later : (front text : List ℕ) → IsSplit cs front text → (x y : List ℕ) → c ∷ cs ≡ x ++ (mark ++ y) → length x ≤ length (c ∷ front)
     later front text s [] y e = omega arith
-    later front text s (d ∷ x) y e = let l = s.last x y (tails_same c d cs (x ++ (mark ++ y)) e) in omega arith
+    later front text s (d ∷ x) y e = let l = s.last x y (tail_same c d cs (x ++ (mark ++ y)) e) in omega arith
 
     first : HasNoMark cs → (x y : List ℕ) → c ∷ cs ≡ x ++ (mark ++ y) → length x ≤ 0
     first n [] y e = omega arith
-    first n (d ∷ x) y e = absurd (n x y (tails_same c d cs (x ++ (mark ++ y)) e))
+    first n (d ∷ x) y e = absurd (n x y (tail_same c d cs (x ++ (mark ++ y)) e))
 
     none : HasNoMark cs → (take 12 (c ∷ cs) ≡ mark → ⊥) → HasNoMark (c ∷ cs)
     none n o [] y e = o (ap (take 12) e ∙ take-append_seam mark y)
-    none n o (d ∷ x) y e = n x y (tails_same c d cs (x ++ (mark ++ y)) e)
+    none n o (d ∷ x) y e = n x y (tail_same c d cs (x ++ (mark ++ y)) e)
 
     by : Marked cs → (take 12 (c ∷ cs) ≡ mark) ⊎ (take 12 (c ∷ cs) ≡ mark → ⊥) → Marked (c ∷ cs)
     by (inl s) d = inl (c ∷ s.0, s.1, record { whole = ap (λ z. c ∷ z) s.2.whole; last = later s.0 s.1 s.2 })

@@ -14,7 +14,7 @@ use Rattle.checkpoint.specs.Reading.{mark, IsSplit, Awaited, Item, Exactly, Valu
 use Rattle.checkpoint.proofs.state_texts.Words.{no_lf_cons, no_lf_nil}
 use Rattle.checkpoint.proofs.state_texts.OneLine.{fit_is_line, lf_behind}
 use Rattle.std.specs.Prelude.{map}
-use Rattle.lemmas.proofs.Lists.{heads_same, tails_same}
+use Rattle.lemmas.proofs.Lists.{head_same, tail_same}
 
 -- ---- `o` behind LF
 
@@ -27,7 +27,7 @@ abbrev pub NoFirst : List ℕ → Type 0
 NoFirst bytes = (y : List ℕ) → bytes ≡ 111 ∷ y → ⊥
 
 pub not_first : (c : ℕ) (xs : List ℕ) → nat_eq c 111 ≡ false → NoFirst (c ∷ xs)
-not_first c xs h y e = false≢true (sym h ∙ ap (λ z. nat_eq z 111) (heads_same c 111 xs y e))
+not_first c xs h y e = false≢true (sym h ∙ ap (λ z. nat_eq z 111) (head_same c 111 xs y e))
 
 none_no_o : NoO []
 none_no_o [] y e = let n : 0 ≡ suc (suc (length y)) = ap length e in omega arith
@@ -37,10 +37,10 @@ no_lf_first : (a : ℕ) (fs : List ℕ) → HasNoLf (a ∷ fs) → a ≡ 10 → 
 no_lf_first a fs h e = false≢true (sym (h zero 0 (omega arith)) ∙ ap is_lf e)
 
 line_no_o : (front rest : List ℕ) → HasNoLf front → NoFirst rest → NoO rest → NoO (front ++ 10 ∷ rest)
-line_no_o [] rest h f n [] y e = f y (tails_same 10 10 rest (111 ∷ y) e)
-line_no_o [] rest h f n (c ∷ x) y e = n x y (tails_same 10 c rest (x ++ 10 ∷ 111 ∷ y) e)
-line_no_o (a ∷ fs) rest h f n [] y e = no_lf_first a fs h (heads_same a 10 (fs ++ 10 ∷ rest) (111 ∷ y) e)
-line_no_o (a ∷ fs) rest h f n (c ∷ x) y e = line_no_o fs rest (λ k d l. h (suc k) d (omega arith)) f n x y (tails_same a c (fs ++ 10 ∷ rest) (x ++ 10 ∷ 111 ∷ y) e)
+line_no_o [] rest h f n [] y e = f y (tail_same 10 10 rest (111 ∷ y) e)
+line_no_o [] rest h f n (c ∷ x) y e = n x y (tail_same 10 c rest (x ++ 10 ∷ 111 ∷ y) e)
+line_no_o (a ∷ fs) rest h f n [] y e = no_lf_first a fs h (head_same a 10 (fs ++ 10 ∷ rest) (111 ∷ y) e)
+line_no_o (a ∷ fs) rest h f n (c ∷ x) y e = line_no_o fs rest (λ k d l. h (suc k) d (omega arith)) f n x y (tail_same a c (fs ++ 10 ∷ rest) (x ++ 10 ∷ 111 ∷ y) e)
 
 -- ---- lines that fit don't begin with it
 
@@ -64,7 +64,7 @@ none_judged z h = cc
 
 word_begins : (w rest : List ℕ) (z : ℤ) (y : List ℕ) → i32_judged (integer_of w) ≡ Ok z → w ++ rest ≡ 111 ∷ y → ⊥
 word_begins [] rest z y h e = none_judged z h
-word_begins (c ∷ cs) rest z y h e = none_judged z (sym (ap (λ d. i32_judged (integer_of (d ∷ cs))) (heads_same c 111 (cs ++ rest) y e)) ∙ h)
+word_begins (c ∷ cs) rest z y h e = none_judged z (sym (ap (λ d. i32_judged (integer_of (d ∷ cs))) (head_same c 111 (cs ++ rest) y e)) ∙ h)
 
 words_begin : (ws : List (List ℕ)) (zs : List ℤ) (y : List ℕ) → Spell ws zs → words_line ws ≡ 111 ∷ y → ⊥
 words_begin [] zs y s e = not_first 10 [] refl y e
@@ -80,7 +80,7 @@ line_begins b k Done line zs y h f e = not_first 100 (codes "one\n") refl y (sym
 
 line_first : (line more : List ℕ) → IsLine line → NoFirst line → NoFirst (line ++ more)
 line_first [] more i h y e = absurd (let n : 0 ≡ length i.0 + 1 = ap length i.2 ∙ length-append i.0 (10 ∷ []) in omega arith)
-line_first (c ∷ cs) more i h y e = h cs (ap (λ d. d ∷ cs) (heads_same c 111 (cs ++ more) y e))
+line_first (c ∷ cs) more i h y e = h cs (ap (λ d. d ∷ cs) (head_same c 111 (cs ++ more) y e))
 
 lines_no_o : (b : BoundValue) (k : ℕ) (xs : List Awaited) (ls : List (List ℕ)) (zs : List ℤ) → AllBegin xs → AllFit b k xs ls zs → NoFirst (all ls) × NoO (all ls)
 lines_no_o b k [] [] zs h f = ((λ y e. let n : 0 ≡ suc (length y) = ap length e in omega arith), none_no_o)
@@ -125,8 +125,8 @@ longer : (o x a c : List ℕ) → length o ≤ length x → o ++ a ≡ x ++ c �
 longer [] x a c l e = (x, refl, e)
 longer (d ∷ o) [] a c l e = absurd (omega arith)
 longer (d ∷ o) (f ∷ x) a c l e =
-    let r = longer o x a c (omega arith) (tails_same d f (o ++ a) (x ++ c) e) in
-    (r.0, ap₂ (λ z w. z ∷ w) (sym (heads_same d f (o ++ a) (x ++ c) e)) r.1, r.2)
+    let r = longer o x a c (omega arith) (tail_same d f (o ++ a) (x ++ c) e) in
+    (r.0, ap₂ (λ z w. z ∷ w) (sym (head_same d f (o ++ a) (x ++ c) e)) r.1, r.2)
 
 header_no_lf : HasNoLf (codes "op2state 1")
 header_no_lf =
@@ -148,7 +148,7 @@ split_at_fit b k o ls zs f = record {
 
     inside : (m y : List ℕ) → 0 < length m → mark ++ all ls ≡ m ++ (mark ++ y) → ⊥
     inside [] y l e = omega arith
-    inside (c ∷ m) y l e = no_o m (codes "p2state 1\n" ++ y) (tails_same 10 c (codes "op2state 1\n" ++ all ls) (m ++ (mark ++ y)) e)
+    inside (c ∷ m) y l e = no_o m (codes "p2state 1\n" ++ y) (tail_same 10 c (codes "op2state 1\n" ++ all ls) (m ++ (mark ++ y)) e)
 
     later : (x y : List ℕ) → length o < length x → o ++ (mark ++ all ls) ≡ x ++ (mark ++ y) → ⊥
     later x y l e =
