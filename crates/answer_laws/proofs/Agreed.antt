@@ -20,7 +20,7 @@ use Rattle.bound_plan.specs.OneRun.{KernelsAreOne}
 use Rattle.op_translate.specs.Translation as trans
 use Rattle.op_outside.specs.Outside.{Files}
 use Rattle.command_words.specs.Refusal.{SourceBytes, MeshBytes, Refusal}
-use Rattle.answer_lines.specs.Lines.{Answer, done, refused, line_of}
+use Rattle.command_words.specs.Lines.{Answer, done, refused, line_of}
 use Rattle.answers.specs.Said.{SaysTypes, SaysMesh, SaysBinding}
 use Rattle.mesh_decl.specs.declared.text.entry.Form.{Form}
 use Rattle.mesh_gen.specs.Sample.{sample_source, sample_mesh}

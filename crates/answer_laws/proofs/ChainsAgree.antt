@@ -9,10 +9,10 @@ use Rattle.distribute.specs.Laws.{SameOwners, SameOutcome, OwnersAreOne}
 use Rattle.bound_program.specs.Values.{BoundValue}
 use Rattle.bound_program.specs.Fits.{Fits}
 use Rattle.bound_plan.specs.OneRun.{with_kernels, ProgramsAreOne}
-use Rattle.bound_chains.specs.Outcomes.{chains_run, dump_after}
-use Rattle.bound_chains.specs.OneRun.{HaveOneText, ChainsAreOne}
+use Rattle.chain_model.specs.Outcomes.{chains_run, dump_after}
+use Rattle.chain_model.specs.OneRun.{HaveOneText, ChainsAreOne}
 use Rattle.op_outside.specs.Outside.{Files}
-use Rattle.answer_lines.specs.Lines.{Answer, done, refused}
+use Rattle.command_words.specs.Lines.{Answer, done, refused}
 use Rattle.command_words.specs.Words.{ChainJob, CountsChains, RunsChains, ChainOptions}
 use Rattle.answers.specs.Said.{SaysOwners}
 use Rattle.answers.specs.Judgements.{PartsOf, OwnersOf}

@@ -24,7 +24,7 @@ use Rattle.bound_program.specs.Values.{BoundValue}
 use Rattle.loop_bind.specs.Bound.{bound}
 use Rattle.op_outside.specs.Outside.{Files}
 use Rattle.command_words.specs.Refusal.{SourceBytes, MeshBytes, Refusal, NoTree, TooDeep}
-use Rattle.answer_lines.specs.Lines.{Answer, most}
+use Rattle.command_words.specs.Lines.{Answer, most}
 use Rattle.mesh_gen.specs.Sample.{sample_source}
 use Rattle.command_words.specs.Words.{ChainJob, ChainOptions, PlanJob, Options, Input, InFiles, OfSample, Command, OnPlan, OnChains, Converts, Translates, Restores, ShowsUsage, ShowsVersion, WordsAre}
 use Rattle.op_translate.specs.declared.refusals.TransRefusal.TheVariants as trans

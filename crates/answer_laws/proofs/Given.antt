@@ -1,7 +1,7 @@
 -- A judgement and what comes after it, twice.
 use Rattle.std.proofs.Common.{◌≡◌, inl, inr, Result, Ok, Err, refl, sym, subst}
 use Rattle.command_words.specs.Refusal.{Refusal}
-use Rattle.answer_lines.specs.Lines.{Answer, refused}
+use Rattle.command_words.specs.Lines.{Answer, refused}
 use Rattle.answers.specs.Answers.{given}
 
 -- two answers are so where both judgements refuse or both give

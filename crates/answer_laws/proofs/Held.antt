@@ -2,7 +2,7 @@
 use Rattle.std.proofs.Common.{◌≤◌, ◌<◌, ◌⊎◌, inl, inr, ℕ, suc, List, length, Option, Some, None, Result, Ok, Err, refl}
 use Rattle.std.proofs.lemmas.Bool.{cases_lt}
 use Rattle.command_words.specs.Refusal.{Limit, Refusal, CannotRead, BeyondLimit}
-use Rattle.answer_lines.specs.Lines.{most}
+use Rattle.command_words.specs.Lines.{most}
 use Rattle.answers.specs.Judgements.{IsHeld}
 
 pub held_exists : (l : Limit) (name : List ℕ) (o : Option (List ℕ)) → ¬ ((r : Result (List ℕ) Refusal) → ¬ IsHeld l name o r)

@@ -26,7 +26,7 @@ use Rattle.bound_plan.specs.Memories.{dump_of}
 use Rattle.bound_plan.specs.OneRun.{with_kernels, ProgramsAreOne, DumpsAreOne}
 use Rattle.op_outside.specs.Outside.{Files}
 use Rattle.command_words.specs.Refusal.{Refusal, PartitionBytes, PlanBytes}
-use Rattle.answer_lines.specs.Lines.{Answer, done, refused}
+use Rattle.command_words.specs.Lines.{Answer, done, refused}
 use Rattle.answers.specs.Said.{SaysNumbers, SaysOwners}
 use Rattle.command_words.specs.Words.{PlanJob, Check, ShowsPlan, ShowsSchedule, RunsPlan, Parting, ByRule, ByFile, Blocks, OfSize, AsPlanned, Options, group_of}
 use Rattle.answers.specs.Judgements.{CutOf, Chosen, ChosenIs, NumbersOf, PartsOf, OwnersOf, Colouring, Least, Told, ColouringOf, Planned, PlanIs, Order, OrderOf, outline_of, StepsOf}

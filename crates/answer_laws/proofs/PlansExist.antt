@@ -22,10 +22,10 @@ use Rattle.loop_plan.specs.StepCounts.{program_steps}
 use Rattle.loop_plan.specs.Values.{PlanValue}
 use Rattle.plan_cert.specs.Certified.{Certified, IsRefused}
 use Rattle.plan_cert.specs.Laws.{SomeOutcome}
-use Rattle.plan_exists.specs.Laws.{NumbersExist, OwnersExist, OutcomesFit, NarrowMeshesFitMemory, DistributionsExist, PlansExist}
+use Rattle.loop_plan.specs.Laws.{NumbersExist, OwnersExist, OutcomesFit, NarrowMeshesFitMemory, DistributionsExist, PlansExist}
 use Rattle.op_outside.specs.Outside.{Files}
 use Rattle.command_words.specs.Refusal.{PartitionBytes, PlanBytes, ScheduleBytes, Steps, Refusal, BadPart, BadPlan, BeyondLimit}
-use Rattle.answer_lines.specs.Lines.{Answer, most}
+use Rattle.command_words.specs.Lines.{Answer, most}
 use Rattle.answers.specs.Said.{SaysOwners}
 use Rattle.command_words.specs.Words.{ChainJob, ChainOptions, PlanJob, Parting, ByRule, ByFile, Blocks, OfSize, AsPlanned, Schedule, Standard, Drawn, Written, Options, group_of}
 use Rattle.answers.specs.Judgements.{IsHeld, Chosen, NumbersOf, PartsOf, OwnersOf, Colouring, Least, Told, ColouringOf, Planned, PlanIs, Order, InStandardOrder, BySeed, ByText, OrderOf, outline_of, StepsOf}

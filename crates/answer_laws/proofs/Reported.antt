@@ -1,6 +1,6 @@
 -- What a call leaves on `err`.
 use Rattle.std.proofs.Common.{◌≡◌, ◌⊎◌, inl, inr, ℕ, List, refl, ◌∙◌}
-use Rattle.answer_lines.specs.Lines.{Answer}
+use Rattle.command_words.specs.Lines.{Answer}
 use Rattle.answers.specs.Endings.{Ending, Answered, OutOfMemory, Unread, Unwritten, ending_status, ending_line, unwritten_status, unwritten_line, Call, Tells, EndsBy, Ends, AreReported}
 use Rattle.answers.specs.Laws.{Agree, AnswersAgree, SourceLacksTree}
 use Rattle.answer_laws.proofs.Complete.{tells_answer}

@@ -10,7 +10,7 @@ use Rattle.kernel_types.specs.View.{rkernel_of}
 use Rattle.name_resolution.specs.Programs as names
 use Rattle.name_resolution.specs.Programs.{Resolves}
 use Rattle.mesh_decl.specs.Reading.{Read, Reads as Spelled}
-use Rattle.line_texts.specs.Lines.{HasNoLf}
+use Rattle.texts.specs.CutLines.{HasNoLf}
 use Rattle.mesh_decl.specs.declared.decl.SetDecl.{SetDecl}
 use Rattle.mesh_decl.specs.declared.decl.DatDecl.{DatDecl}
 use Rattle.schedule_model.specs.Cells.{Store, InRange}
@@ -33,7 +33,7 @@ use Rattle.op_outside.specs.Outside.{Files}
 use Rattle.command_words.specs.Refusal.{StateBytes}
 use Rattle.command_words.specs.Words.{RunsPlan, Whole, Before, From, Options, InFiles}
 use Rattle.command_words.specs.Laws.{HeadsAreNotDumped}
-use Rattle.answer_lines.specs.Lines.{Answer, done, faulted}
+use Rattle.command_words.specs.Lines.{Answer, done, faulted}
 use Rattle.answers.specs.Judgements.{IsHeld, AccessesAre, Uncut, BeforeItem, FromText, Chosen, ChosenIs}
 use Rattle.answers.specs.Restarts.{Printed, StopBefore, ComesTo, GoesOn, CutAt, RestartsAreWhole}
 use Rattle.answer_laws.proofs.FirstValues.{bound_programs_start_in_range}

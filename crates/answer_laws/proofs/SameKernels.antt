@@ -15,7 +15,7 @@ use Rattle.run_model.specs.Programs.{printed_in, stop_in}
 use Rattle.run_model.specs.SequentialLaws.{RunsAreOne}
 use Rattle.bound_plan.specs.Memories.{unless_stopped}
 use Rattle.bound_plan.specs.OneRun.{SameTree, with_kernels, KernelsAreOne, ProgramsAreOne}
-use Rattle.answer_lines.specs.Lines.{Answer}
+use Rattle.command_words.specs.Lines.{Answer}
 use Rattle.answers.specs.Answers.{ran, run_answer}
 use Rattle.answer_laws.specs.OnCells.{RunsAnswerOnCells}
 use Rattle.answer_laws.proofs.Sites.{found_by, site_found, first_found, same_found}

@@ -10,7 +10,7 @@ use Rattle.checkpoint.specs.Laws.{later}
 use Rattle.mesh_decl.specs.Canonical.{canonical}
 use Rattle.op_outside.specs.Outside.{Files, appended, AppendsFront}
 use Rattle.command_words.specs.Refusal.{Refusal, Usage, CannotRead, NoTokens, NoTree, TooDeep, BadName, BadBinding, BadTarget, BadAccess, BadMesh, BadCut, BadState, BadPart, BadPartition, BadPlan, BadSchedule, BadStep, EarlyStep, LeftStep, BadStub, BeyondLimit, status_of}
-use Rattle.answer_lines.specs.Lines.{Answer, done, refused, faulted}
+use Rattle.command_words.specs.Lines.{Answer, done, refused, faulted}
 use Rattle.command_words.specs.Words.{ChainJob, CountsChains, RunsChains, ChainOptions, PlanJob, Check, ShowsPlan, ShowsSchedule, RunsPlan, Options, group_of, Input, Command, OnPlan, OnChains, Converts, Translates, Restores, ShowsUsage, ShowsVersion, WordsAre}
 use Rattle.answers.specs.Judgements.{TextIs, SourceIs, TreeIs, TranslationIs, RestorationIs, TypesAre, FileIs, MeshIs, EntriesAre, BoundIs, AccessesAre, CutOf, Chosen, ChosenIs, NumbersOf, PartsOf, OwnersOf, ColouringOf, Planned, PlanIs, OrderOf, outline_of, StepsOf}
 use Rattle.answers.specs.Answers.{given, ran, planned_answer, ChosenAnswers, PlannedAnswers, chain_answer, ChainAnswers, BoundAnswers, CommandAnswers, Answers}

@@ -13,7 +13,7 @@ use Rattle.checkpoint.specs.Laws.{later}
 use Rattle.mesh_decl.specs.Canonical.{canonical}
 use Rattle.op_outside.specs.Outside.{Files}
 use Rattle.command_words.specs.Refusal.{SourceBytes, MeshBytes, Refusal}
-use Rattle.answer_lines.specs.Lines.{Answer, done, refused, faulted}
+use Rattle.command_words.specs.Lines.{Answer, done, refused, faulted}
 use Rattle.schedule_steps.specs.declared.text.refusals.ScheduleTextRefusal.TheVariants as text
 use Rattle.schedule_steps.specs.declared.step.Step.{Step}
 use Rattle.command_words.specs.Words.{ChainJob, CountsChains, RunsChains, ChainOptions, PlanJob, Check, ShowsPlan, ShowsSchedule, RunsPlan, Options, group_of, Input, InFiles, OfSample, Command, OnPlan, OnChains, Converts, Translates, Restores, ShowsUsage, ShowsVersion, judged, names_from, names_before, names_by, names_in_blocks, names_at, names_of}

@@ -22,7 +22,7 @@ use Rattle.bound_plan.specs.Memories.{unless_stopped, dump_of}
 use Rattle.op_outside.specs.Outside.{Files}
 use Rattle.command_words.specs.Refusal.{SourceBytes, MeshBytes, Refusal, status_of, Usage, CannotRead, NoTokens, NoTree, TooDeep, BadName, BadBinding, BadTarget, BadAccess, BadMesh, BadCut, BadState, BadPart, BadPartition, BadPlan, BadSchedule, BadStep, EarlyStep, LeftStep, BadStub, BeyondLimit}
 use Rattle.command_words.specs.Words.{RunsPlan, Stretch, Options, Command, InFiles, OnPlan, WordsAre, group_of}
-use Rattle.answer_lines.specs.Lines.{Answer, refused}
+use Rattle.command_words.specs.Lines.{Answer, refused}
 use Rattle.answers.specs.Judgements.{SourceIs, TreeIs, TypesAre, MeshIs, EntriesAre, BoundIs, AccessesAre, Cut, CutOf, Chosen, ChosenIs, NumbersOf, PartsOf, OwnersOf, ColouringOf, PlanIs, OrderOf, outline_of, StepsOf}
 use Rattle.answers.specs.Answers.{given, ran, planned_answer, ChosenAnswers, PlannedAnswers, CommandAnswers}
 use Rattle.answers.specs.Endings.{IsWritten}

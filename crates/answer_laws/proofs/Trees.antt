@@ -12,7 +12,7 @@ use Rattle.c_tree.specs.declared.refusals.SourceRefusal.{SourceRefusal}
 use Rattle.c_tree.specs.declared.refusals.SourceRefusal.TheVariants as source
 use Rattle.c_tree.specs.Refused.{HasNoTree}
 use Rattle.command_words.specs.Refusal.{Refusal}
-use Rattle.answer_lines.specs.Lines.{line_of}
+use Rattle.command_words.specs.Lines.{line_of}
 use Rattle.answers.specs.Said.{SaysLex, SaysSource}
 use Rattle.answers.specs.Judgements.{IsUnread, TreeIs}
 use Rattle.answers.specs.Laws.{LacksTree}

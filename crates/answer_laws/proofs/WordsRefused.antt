@@ -10,7 +10,7 @@ use Rattle.clap.specs.Kinds.{Kinds}
 use Rattle.clap.specs.Faults.{fault_of}
 use Rattle.clap.specs.declared.error.kind.ErrorKind.TheVariants as kind
 use Rattle.command_words.specs.Refusal.{Refusal, Usage, status_of}
-use Rattle.answer_lines.specs.Lines.{Answer}
+use Rattle.command_words.specs.Lines.{Answer}
 use Rattle.command_words.specs.Words.{Command, WordsAre, OptionWords, command, options_in, or_usage, by_job, asked, judged, named_by, names_in}
 use Rattle.answers.specs.Answers.{Answers}
 use Rattle.answers.specs.Endings.{Ending, Answered, OutOfMemory, Unread, Unwritten, ending_status, unwritten_status, Call, HoldAll, Tells, IsWritten, EndsBy, Ends, IsUsage, IsUnread}

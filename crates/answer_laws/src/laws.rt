@@ -47,7 +47,7 @@ pub fn answers_agree()
     runs_answer_on_cells();
     bound_plan::one_program();
     bound_plan::one_dump();
-    bound_chains::chains_are_one();
+    chain_model::bound_chains::chains_are_one();
 }
 
 /// A law: no words and files are without an answer.
@@ -70,12 +70,12 @@ pub fn answers_exist()
     kernel_model::walk_finds();
     kernel_model::rules_are_broken();
     partition::part_text::one_outcome();
-    plan_exists::some_numbers();
-    plan_exists::some_owners();
-    plan_exists::outcomes_fit();
-    plan_exists::some_distribution();
-    plan_exists::narrow_meshes_fit_memory();
-    plan_exists::some_plan();
+    loop_plan::plan_exists::some_numbers();
+    loop_plan::plan_exists::some_owners();
+    loop_plan::plan_exists::outcomes_fit();
+    loop_plan::plan_exists::some_distribution();
+    loop_plan::plan_exists::narrow_meshes_fit_memory();
+    loop_plan::plan_exists::some_plan();
     plan_cert::some_outcome();
     checkpoint::heads_fit();
     checkpoint::tails_fit();

@@ -8,7 +8,7 @@ use Rattle.bound_program.specs.Values.{BoundValue}
 use Rattle.bound_program.specs.Fits.{Fits}
 use Rattle.mesh_decl.specs.declared.owners.Owners.{Owners}
 use Rattle.run_model.specs.Program.{printed, first_fault}
-use Rattle.bound_chains.specs.Outcomes.{chains_run, chains_text, dump_after}
+use Rattle.chain_model.specs.Outcomes.{chains_run, chains_text, dump_after}
 use Rattle.checkpoint.specs.Laws.{later}
 use Rattle.loop_plan.specs.PlanText.{plan_text}
 use Rattle.schedule_steps.specs.declared.step.Step.{Step}
@@ -19,7 +19,7 @@ use Rattle.mesh_decl.specs.declared.text.entry.Form.{Form}
 use Rattle.mesh_decl.specs.Canonical.{canonical}
 use Rattle.command_words.specs.declared.usage.TheConstants.{USAGE, VERSION}
 use Rattle.command_words.specs.Refusal.{Refusal, CannotRead}
-use Rattle.answer_lines.specs.Lines.{Answer, done, refused, faulted}
+use Rattle.command_words.specs.Lines.{Answer, done, refused, faulted}
 use Rattle.command_words.specs.Words.{PlanJob, Check, ShowsPlan, ShowsSchedule, RunsPlan, Options, group_of, Input}
 use Rattle.command_words.specs.Words.{ChainJob, CountsChains, RunsChains, ChainOptions}
 use Rattle.command_words.specs.Words.{Command, OnPlan, OnChains, Converts, Translates, Restores, ShowsUsage, ShowsVersion, WordsAre}

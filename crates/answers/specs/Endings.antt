@@ -3,9 +3,9 @@ use Rattle.std.specs.Prelude.{◌≡◌, ℕ, ◌⊎◌, List, [], All, Option, 
 use Rattle.std.specs.List.{Contains}
 use Rattle.op_outside.specs.Outside.{Files, Rose, appended, AppendsFront}
 use Rattle.command_words.specs.Refusal.{Usage, CannotRead, status_of}
-use Rattle.answer_lines.specs.Lines.{Answer, whole_line, line_of}
-use Rattle.answer_lines.specs.declared.refusals.Failure.{Failure}
-use Rattle.answer_lines.specs.declared.refusals.Failure.TheVariants as failure
+use Rattle.command_words.specs.Lines.{Answer, whole_line, line_of}
+use Rattle.command_words.specs.declared.answer_lines.refusals.Failure.{Failure}
+use Rattle.command_words.specs.declared.answer_lines.refusals.Failure.TheVariants as failure
 use Rattle.command_words.specs.Words.{WordsAre, named_by}
 use Rattle.answers.specs.Answers.{Answers, ComesToBeRead}
 use Rattle.answers.specs.Laws.{SourceLacksTree}

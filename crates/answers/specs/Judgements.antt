@@ -55,7 +55,7 @@ use Rattle.command_words.specs.Words.{Input, InFiles, OfSample, Stretch, Whole, 
 use Rattle.command_words.specs.Words.{Blocks, OfSize, AsPlanned, Schedule, Standard, Drawn, Written, Options}
 use Rattle.command_words.specs.Refusal.{Limit, SourceBytes, MeshBytes, MeshValues, StateBytes, PartitionBytes, PlanBytes, Steps}
 use Rattle.command_words.specs.Refusal.{ScheduleBytes, Refusal, CannotRead, BadAccess, BadCut, BadState, BadPlan, BeyondLimit}
-use Rattle.answer_lines.specs.Lines.{most}
+use Rattle.command_words.specs.Lines.{most}
 use Rattle.answers.specs.Said.{SaysSource, SaysTypes, SaysTranslation, SaysMesh, SaysBinding, SaysNumbers, SaysOwners, SaysSchedule, SaysNext}
 
 -- ---- files

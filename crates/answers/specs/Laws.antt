@@ -5,7 +5,7 @@ use Rattle.c_lex.specs.Lexed.{Lexes}
 use Rattle.c_tree.specs.Tree.{ProgramTree}
 use Rattle.c_tree.specs.Reads.{Prints}
 use Rattle.op_outside.specs.Outside.{Files}
-use Rattle.answer_lines.specs.Lines.{Answer}
+use Rattle.command_words.specs.Lines.{Answer}
 use Rattle.command_words.specs.Words.{Command, OnPlan, OnChains, Translates, WordsAre}
 use Rattle.answers.specs.Judgements.{TextIs, SourceIs}
 use Rattle.answers.specs.Answers.{Answers}

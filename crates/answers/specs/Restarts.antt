@@ -4,7 +4,7 @@ use Rattle.kernel_types.specs.declared.faults.KernelFault.{KernelFault}
 use Rattle.schedule_model.specs.Sequential.{Stop}
 use Rattle.op_outside.specs.Outside.{Files}
 use Rattle.checkpoint.specs.Reading.{IsSplit}
-use Rattle.answer_lines.specs.Lines.{Answer, done, faulted}
+use Rattle.command_words.specs.Lines.{Answer, done, faulted}
 use Rattle.command_words.specs.Words.{RunsPlan, Stretch, Whole, Before, From, Options, InFiles, OnPlan, WordsAre}
 use Rattle.answers.specs.Answers.{Answers}
 use Rattle.answers.specs.Endings.{IsWritten}

@@ -30,7 +30,7 @@ use Rattle.distribute.specs.Parts.{NumbersRefusal, UnknownMap, OwnersRefusal, No
 use Rattle.command_words.specs.Refusal.{Limit, MeshValues, Sets, Maps, Dats, SetSize, Dim, MeshCells, Arguments, Trace, PrintWeight}
 use Rattle.command_words.specs.Refusal.{ScheduleSteps, Refusal, NoTokens, NoTree, TooDeep, BadName, BadBinding, BadTarget, BadMesh, BadPart}
 use Rattle.command_words.specs.Refusal.{BadPartition, BadSchedule, BadStep, EarlyStep, LeftStep, BadStub, BeyondLimit}
-use Rattle.answer_lines.specs.Lines.{most}
+use Rattle.command_words.specs.Lines.{most}
 
 -- ---- the source
 

@@ -1,7 +1,7 @@
 -- What is planned is the mesh on ranks, and a plan of the program there.
 use Rattle.std.proofs.Common.{refl}
 use Rattle.bound_program.specs.Values.{bound_of}
-use Rattle.planned_program.specs.Planned.{PlannedValue, FitTogether}
+use Rattle.loop_plan.specs.Planned.{PlannedValue, FitTogether}
 use Rattle.cell_numbers.specs.Shown.{IsOnRanks}
 
 pub on_ranks : (p : PlannedValue) → FitTogether p → IsOnRanks (bound_of p.bound) p.distribution p.plan

@@ -9,7 +9,7 @@ use crate::blocks::{block_colours, runs_free};
 use crate::owned::parts_of;
 use crate::types::{Shown, ShownRefusal};
 use bound_program::Bound;
-use planned_program::Planned;
+use loop_plan::planned_program::Planned;
 use std::alloc::Global;
 
 // Whether a loop runs over a set as a Free one.

@@ -12,7 +12,7 @@ use Rattle.schedule_model.proofs.Sequence.{is_going, store_at}
 use Rattle.schedule_model.proofs.Least.{Member}
 use Rattle.schedule_model.proofs.Facts.{is_reduce, source}
 use Rattle.chain_model.specs.Slicing.{Slicing}
-use Rattle.chain_model.specs.Laws.{AreSlices, sliced}
+use Rattle.chain_model.specs.ChainLaws.{AreSlices, sliced}
 
 pub record Given (F : Type 0) : Type 0 where
   pub p : Setup F

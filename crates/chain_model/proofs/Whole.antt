@@ -16,7 +16,7 @@ use Rattle.schedule_model.proofs.Stops.{going_down}
 use Rattle.schedule_model.proofs.Facts.{is_reduce, reduce_kind, source, source_self}
 use Rattle.chain_model.specs.Slicing.{pair_owner}
 use Rattle.chain_model.specs.Machine.{pair_values, ChainState, chain_start, gathered, supplied, item_run, chain_items, chain_machine, ChainAgrees}
-use Rattle.chain_model.specs.Laws.{AreSlices, IsHeld, KeepsNeeds, sliced}
+use Rattle.chain_model.specs.ChainLaws.{AreSlices, IsHeld, KeepsNeeds, sliced}
 use Rattle.chain_model.proofs.Given.{Given, chains, Comes, part}
 use Rattle.chain_model.proofs.Stores.{IsValue, cell_is, some_is, GoodPair}
 use Rattle.chain_model.proofs.Invariants.{Doing, During, Before}

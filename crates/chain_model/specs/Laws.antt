@@ -1,62 +1,68 @@
--- What needs and executed elements have to give, and that chains then run as the sequential run does.
-use Rattle.std.specs.Prelude.{◌≡◌, ◌<◌, ℕ, ℤ, suc, Bool, true, List, Option, Some, None}
-use Rattle.schedule_model.specs.Cells.{Data, DatCell, Store}
-use Rattle.schedule_model.specs.Effects.{is_read, is_modified}
-use Rattle.schedule_model.specs.Program.{Free, elements}
-use Rattle.schedule_model.specs.Setup.{Setup, owner_of}
-use Rattle.schedule_model.specs.Sequential.{Going, seq}
-use Rattle.chain_model.specs.Slicing.{Slicing}
-use Rattle.chain_model.specs.Machine.{pair_values, supplied, chain_items}
+-- Chains of a bound program.
+use Rattle.std.specs.Prelude.{◌≡◌, ℕ, suc, true, false, ◌||◌, ◌&&◌, nat_eq}
+use Rattle.std.specs.List.{list_any}
+use Rattle.rank_sets.specs.Below.{any_below}
+use Rattle.mesh_decl.specs.declared.owners.Owners.{Owners}
+use Rattle.mesh_decl.specs.Mesh.{set_size}
+use Rattle.mesh_decl.specs.Owners.{AreOwners, owner_of}
+use Rattle.schedule_model.specs.Program.{is_free}
+use Rattle.bound_program.specs.Values.{BoundValue}
+use Rattle.bound_program.specs.Fits.{Fits}
+use Rattle.run_model.specs.Programs.{program_of, run_of_program, printed, first_fault}
+use Rattle.run_model.specs.Ranges.{AllObey, StartsInRange}
+use Rattle.run_model.specs.Laws.{site_of}
+use Rattle.loop_plan.specs.Laws.{FitsMemory}
+use Rattle.chain_model.specs.Machine.{ChainAgrees}
+use Rattle.chain_model.specs.Held.{StoresHold}
+use Rattle.chain_model.specs.ChainLaws.{KeepsNeeds}
+use Rattle.chain_model.specs.Slices.{slicing_of, needs, executes, owns_pair, modifies_some, reads_pair}
+use Rattle.chain_model.specs.Outcomes.{chains_run, chains_output}
 
--- what of a setup chains use: its program and its owners
-abbrev pub sliced : {F : Type 0} → Setup F → (ℕ → ℕ → ℕ → ℕ → Bool) → (ℕ → ℕ → ℕ → Bool) → Slicing F
-sliced p needs executes = record {
-  program = p.program;
-  reduces = p.reduces;
-  ranks = p.ranks;
-  owner = p.owner;
-  needs = needs;
-  executes = executes;
-}
+-- what is needed and executed, item by item, from the end of a chain to its start
+pub record AreBackwards (b : BoundValue) (o : Owners) : Type 0 where
+  -- before an item that isn't Free, a rank's own pairs
+  pub last : (k r d y : ℕ) → is_free ((program_of b).kind k) ≡ false → needs b o k r d y ≡ owns_pair b o r d y
+  -- before a Free item also what is read by the elements that it executes
+  pub needed : (k r d y : ℕ)
+      → is_free ((program_of b).kind k) ≡ true
+      → needs b o k r d y
+      ≡ (needs b o (suc k) r d y
+      || any_below (set_size b.mesh (site_of b k).set) (λ e. executes b o k r e && list_any (reads_pair b d y e) (site_of b k).args))
+  -- its own elements, and those that modify what it needs behind the item
+  pub executed : (k r e : ℕ)
+      → executes b o k r e
+      ≡ (nat_eq (owner_of o (site_of b k).set e) r || list_any (modifies_some b (needs b o (suc k) r) e) (site_of b k).args)
 
--- needs and executed elements hang together
-pub record AreSlices {F : Type 0} (p : Setup F) (needs : ℕ → ℕ → ℕ → ℕ → Bool) (executes : ℕ → ℕ → ℕ → Bool) : Type 0 where
-  -- a rank executes its own elements, and needs its own pairs
-  pub own_elements : (k r e : ℕ)
-      → p.program.kind k ≡ Free
-      → e < elements p.program k
-      → p.owner (p.program.set k) e ≡ r
-      → executes k r e ≡ true
-  pub own_pairs : (k r : ℕ) (x : DatCell) → owner_of p x ≡ r → needs k r x.dat x.element ≡ true
-  -- what it needs behind a Free item it needs before it too, and it executes the elements that modify it
-  pub later : (k r d y : ℕ) → p.program.kind k ≡ Free → needs (suc k) r d y ≡ true → needs k r d y ≡ true
-  pub modified : (k r e : ℕ) (x : DatCell)
-      → p.program.kind k ≡ Free
-      → e < elements p.program k
-      → is_modified (p.touch k e (Data x)) ≡ true
-      → needs (suc k) r x.dat x.element ≡ true
-      → executes k r e ≡ true
-  -- it needs what these read
-  pub read : (k r e : ℕ) (x : DatCell)
-      → p.program.kind k ≡ Free
-      → e < elements p.program k
-      → executes k r e ≡ true
-      → is_read (p.touch k e (Data x)) ≡ true
-      → needs k r x.dat x.element ≡ true
+-- what is needed and executed is so in every program on every number of ranks
+abbrev pub SlicesAreBackwards : Type 0
+SlicesAreBackwards = (b : BoundValue) (o : Owners) → AreBackwards b o
 
--- the pair is held, with these values
-abbrev pub IsHeld : Option (ℕ → ℤ) → (ℕ → ℤ) → Type 0
-IsHeld None u = ⊥
-IsHeld (Some v) u = (i : ℕ) → v i ≡ u i
+-- a program and owners of its mesh's elements, whose kernels obey their modes, and that begins with numbers of 32 bits; its lists of
+-- targets are as short as those of memory
+pub record Chainable (b : BoundValue) (o : Owners) : Type 0 where
+  pub fits : Fits b
+  pub owners : AreOwners b.mesh o
+  pub memory : FitsMemory b.mesh
+  pub obey : AllObey b
+  pub start : StartsInRange b
 
--- before a Free item's elements run, each rank holds what it needs, with the values of the sequential run before the item, where that run
--- comes to the item
-abbrev pub KeepsNeeds : {F : Type 0} → Slicing F → Type 0
-KeepsNeeds c =
-    (k r d y : ℕ) (s : Store) (o : List ℕ)
-    → k < c.program.items
-    → c.program.kind k ≡ Free
-    → seq c.program k ≡ Going s o
-    → r < c.ranks
-    → c.needs k r d y ≡ true
-    → IsHeld ((supplied c k (chain_items c k)).stores r d y) (pair_values s d y)
+-- chains run as the sequential run does
+abbrev pub ChainsRunAsSequential : Type 0
+ChainsRunAsSequential = (b : BoundValue) (o : Owners) → Chainable b o → ChainAgrees (slicing_of b o) (run_of_program b) (chains_run b o)
+
+-- each rank holds what it needs before each loop
+abbrev pub ChainsKeepNeeds : Type 0
+ChainsKeepNeeds = (b : BoundValue) (o : Owners) → Chainable b o → KeepsNeeds (slicing_of b o)
+
+-- so a run without a dump prints what the program prints, and stops at its first fault
+pub record RunsAsProgram (b : BoundValue) (o : Owners) : Type 0 where
+  pub output : chains_output b o false ≡ printed b
+  pub stop : (chains_run b o).stop ≡ first_fault b
+
+-- every run by chains does so
+abbrev pub ChainsPrintTheProgram : Type 0
+ChainsPrintTheProgram = (b : BoundValue) (o : Owners) → Chainable b o → RunsAsProgram b o
+
+-- which pairs ranks hold before each item of a run by chains
+abbrev pub ChainStoresHold : Type 0
+ChainStoresHold = (b : BoundValue) (o : Owners) (k : ℕ) → StoresHold (slicing_of b o) k

@@ -1,5 +1,12 @@
 pub mod Chains
 pub mod Slicing
 pub mod Machine
-pub mod Laws
+pub mod ChainLaws
 pub mod Held
+pub mod Slices
+pub mod Counts
+pub mod Dump
+pub mod Outcomes
+pub mod Given
+pub mod Laws
+pub mod OneRun

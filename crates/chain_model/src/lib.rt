@@ -2,6 +2,7 @@
 //! chain. The machine that runs them, and the theorem that it runs as the sequential run does.
 #![tactic(auto)]
 
+pub mod bound_chains;
 mod theorem;
 
 pub use theorem::{chains_are_told_by_firsts, chains_run_as_sequential, stores_hold};

@@ -5,7 +5,7 @@ ghost use Rattle.schedule_model.specs.Laws.{Lawful};
 ghost use Rattle.schedule_model.specs.Sequential.{sequential};
 ghost use Rattle.chain_model.specs.Chains.{ChainsAreToldByFirsts};
 ghost use Rattle.chain_model.specs.Machine.{ChainAgrees, chain_machine};
-ghost use Rattle.chain_model.specs.Laws.{AreSlices, KeepsNeeds, sliced};
+ghost use Rattle.chain_model.specs.ChainLaws.{AreSlices, KeepsNeeds, sliced};
 ghost use Rattle.chain_model.specs.Slicing.{Slicing};
 ghost use Rattle.chain_model.specs.Held.{NeedsOwn, StoresHold};
 

@@ -16,7 +16,7 @@ use Rattle.bound_program.specs.declared.sites.Arg.TheVariants.{Dat, Global}
 use Rattle.bound_program.specs.Values.{BoundValue, SiteValue}
 use Rattle.bound_program.specs.Classes.{is_read}
 use Rattle.bound_program.specs.Fits.{SiteFits}
-use Rattle.bound_chains.specs.Slices.{modifies_some, reads_pair, executes_for, needs_before}
+use Rattle.chain_model.specs.Slices.{modifies_some, reads_pair, executes_for, needs_before}
 use Rattle.chain_needs.specs.PairSets.{ArePairSets, ArgLeads, pairs_of}
 use Rattle.chain_needs.specs.Needed.{AreNeeded}
 use Rattle.chain_needs.proofs.Leading.{all_lead}

@@ -6,7 +6,7 @@ use Rattle.mesh_decl.specs.declared.owners.Owners.{Owners}
 use Rattle.mesh_decl.specs.Mesh.{set_size, dat_set}
 use Rattle.mesh_decl.specs.Owners.{owner_of}
 use Rattle.bound_program.specs.Values.{BoundValue}
-use Rattle.bound_chains.specs.Slices.{owns_pair}
+use Rattle.chain_model.specs.Slices.{owns_pair}
 use Rattle.lemmas.proofs.Numbers.{nat_eq_comm}
 
 pub owner_is : (b : BoundValue) (o : Owners) (d y r rank : ℕ) → y < set_size b.mesh (dat_set b.mesh d) → rank ≡ owner_of o (dat_set b.mesh d) y → nat_eq r rank ≡ owns_pair b o r d y

@@ -7,7 +7,7 @@ use Rattle.rank_sets.specs.declared.rank_set.RankSet.{RankSet}
 use Rattle.mesh_decl.specs.declared.owners.Owners.{Owners}
 use Rattle.mesh_decl.specs.Mesh.{set_size}
 use Rattle.bound_program.specs.Values.{BoundValue, SiteValue}
-use Rattle.bound_chains.specs.Slices.{needs_before, executes_for}
+use Rattle.chain_model.specs.Slices.{needs_before, executes_for}
 use Rattle.chain_needs.specs.PairSets.{pairs_of}
 use Rattle.chain_needs.specs.Needed.{AreNeeded}
 use Rattle.chain_needs.specs.declared.chain_slices.levels.Level.{Level}

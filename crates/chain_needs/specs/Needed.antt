@@ -5,7 +5,7 @@ use Rattle.rank_sets.specs.declared.rank_set.RankSet.{RankSet}
 use Rattle.mesh_decl.specs.declared.owners.Owners.{Owners}
 use Rattle.mesh_decl.specs.Mesh.{dat_count, dat_set, set_size}
 use Rattle.bound_program.specs.Values.{BoundValue, SiteValue}
-use Rattle.bound_chains.specs.Slices.{needs_before}
+use Rattle.chain_model.specs.Slices.{needs_before}
 use Rattle.chain_needs.specs.PairSets.{ArePairSets, pairs_of}
 
 -- each pair's set has the ranks that need it before these loops

@@ -5,8 +5,8 @@ use Rattle.mesh_decl.specs.declared.owners.Owners.{Owners}
 use Rattle.mesh_decl.specs.Mesh.{dat_count, dat_set, set_size}
 use Rattle.bound_program.specs.Values.{BoundValue, SiteValue}
 use Rattle.bound_program.specs.Fits.{site_at}
-use Rattle.bound_chains.specs.Slices.{needs_before, owns_pair}
-use Rattle.bound_chains.specs.Counts.{some_pair, sum_below}
+use Rattle.chain_model.specs.Slices.{needs_before, owns_pair}
+use Rattle.chain_model.specs.Counts.{some_pair, sum_below}
 use Rattle.chain_needs.specs.declared.chain_slices.shapes.Shape.{Shape}
 use Rattle.chain_needs.specs.Levels.{AreLevels}
 

@@ -7,8 +7,8 @@ use Rattle.mesh_decl.specs.Mesh.{dat_count, dat_set, set_size}
 use Rattle.schedule_model.specs.Program.{is_free, elements}
 use Rattle.bound_program.specs.Values.{BoundValue}
 use Rattle.run_model.specs.Programs.{program_of}
-use Rattle.bound_chains.specs.Slices.{loops_from, needs}
-use Rattle.bound_chains.specs.Counts.{begins_at, chain_count, message_count}
+use Rattle.chain_model.specs.Slices.{loops_from, needs}
+use Rattle.chain_model.specs.Counts.{begins_at, chain_count, message_count}
 use Rattle.chain_needs.specs.declared.chain_slices.shapes.Shape.{Shape}
 use Rattle.chain_needs.specs.declared.chain_slices.sliced.LevelAt.{LevelAt}
 use Rattle.chain_needs.specs.declared.chain_slices.sliced.Slices.{Slices}

@@ -8,7 +8,7 @@ ghost use Rattle.mesh_decl.specs.Owners.{AreOwners};
 ghost use Rattle.bound_program.specs.Values.{bound_of, item_of};
 ghost use Rattle.bound_program.specs.Fits.{Fits, site_at};
 ghost use Rattle.run_model.specs.Programs.{item_at};
-ghost use Rattle.bound_chains.specs.Slices.{loops_from, needs, executes};
+ghost use Rattle.chain_model.specs.Slices.{loops_from, needs, executes};
 ghost use Rattle.chain_needs.specs.PairSets.{ArePairSets, pairs_of};
 ghost use Rattle.chain_needs.specs.FreeSites.{free_site_of};
 

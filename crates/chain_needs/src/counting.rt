@@ -5,7 +5,7 @@ ghost use Rattle.schedule_model.specs.Program.{is_free};
 ghost use Rattle.bound_program.specs.Values.{bound_of};
 ghost use Rattle.run_model.specs.Programs.{kind_of, item_at, program_of};
 ghost use Rattle.chain_model.specs.Chains.{follows_free};
-ghost use Rattle.bound_chains.specs.Counts.{begins_at, chain_count};
+ghost use Rattle.chain_model.specs.Counts.{begins_at, chain_count};
 
 use crate::chains::free_site;
 use bound_program::Bound;

@@ -7,7 +7,7 @@ ghost use Rattle.mesh_decl.specs.Owners.{AreOwners, owner_of};
 ghost use Rattle.rank_sets.specs.RankSet.{has, has_at};
 ghost use Rattle.bound_program.specs.Values.{bound_of};
 ghost use Rattle.bound_program.specs.Fits.{SiteFits, site_at};
-ghost use Rattle.bound_chains.specs.Slices.{executes_for, modifies_some};
+ghost use Rattle.chain_model.specs.Slices.{executes_for, modifies_some};
 ghost use Rattle.chain_needs.specs.PairSets.{ArePairSets, ArgLeads, pairs_of};
 
 use crate::reaching::{element_of, ranks_at};

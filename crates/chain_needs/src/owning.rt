@@ -6,7 +6,7 @@ ghost use Rattle.mesh_decl.specs.Owners.{AreOwners};
 ghost use Rattle.rank_sets.specs.RankSet.{has_at};
 ghost use Rattle.local_mesh.specs.Sets.{has_in};
 ghost use Rattle.bound_program.specs.Values.{bound_of};
-ghost use Rattle.bound_chains.specs.Slices.{owns_pair};
+ghost use Rattle.chain_model.specs.Slices.{owns_pair};
 ghost use Rattle.chain_needs.specs.PairSets.{ArePairSets};
 
 use bound_program::Bound;

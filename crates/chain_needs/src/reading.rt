@@ -8,7 +8,7 @@ ghost use Rattle.rank_sets.specs.Below.{any_below};
 ghost use Rattle.bound_program.specs.Values.{bound_of};
 ghost use Rattle.bound_program.specs.Fits.{SiteFits, site_at};
 ghost use Rattle.local_mesh.specs.Sets.{sets_in, has_in};
-ghost use Rattle.bound_chains.specs.Slices.{may_read, reads_pair};
+ghost use Rattle.chain_model.specs.Slices.{may_read, reads_pair};
 ghost use Rattle.chain_needs.specs.PairSets.{ArePairSets, ArgLeads};
 
 use crate::reaching::element_of;

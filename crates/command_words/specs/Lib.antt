@@ -5,3 +5,6 @@ pub mod OptionValues
 pub mod Words
 pub mod Laws
 pub mod Values
+pub mod Lines
+pub mod Halts
+pub mod Reports

@@ -5,6 +5,7 @@
 //! there for other programs too.
 #![tactic(auto)]
 
+pub mod answer_lines;
 mod asked;
 mod command;
 mod jobs;

@@ -13,10 +13,10 @@ use Rattle.bound_program.specs.Values.{BoundValue}
 use Rattle.run_model.specs.Memory.{has_cell, memory_length}
 use Rattle.run_model.specs.Programs.{first_values}
 use Rattle.run_model.proofs.Memory.{dat_there}
-use Rattle.host_acts.specs.Variables.{of_vars}
+use Rattle.gather.specs.Variables.{of_vars}
 use Rattle.chain_model.specs.Slicing.{pair_owner}
 use Rattle.chain_model.specs.Machine.{value_in, pair_values, chain_start}
-use Rattle.bound_chains.specs.Slices.{slicing_of}
+use Rattle.chain_model.specs.Slices.{slicing_of}
 use Rattle.deep_halo.specs.Places.{all_cells}
 use Rattle.deep_halo.specs.Layouts.{IsLayout}
 use Rattle.deep_halo.specs.declared.chain_memory.layouts.Layout.{Layout}

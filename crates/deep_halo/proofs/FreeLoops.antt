@@ -19,13 +19,13 @@ use Rattle.run_model.specs.Memory.{has_cell}
 use Rattle.run_model.specs.Laws.{LoopsAreThere}
 use Rattle.run_model.specs.Programs.{item_at, kind_of, loop_of, program_of}
 use Rattle.run_model.proofs.Memory.{has_var}
-use Rattle.host_acts.specs.Variables.{of_vars}
+use Rattle.gather.specs.Variables.{of_vars}
 use Rattle.bound_plan.specs.Variables.{reduces_at}
 use Rattle.rank_state.specs.declared.rank_memory.stop.Stop.{Stop as Recorded}
 use Rattle.rank_state.specs.Stops.{stop_in}
 use Rattle.chain_model.specs.Chains.{begins}
 use Rattle.chain_model.specs.Machine.{ChainState, supplied, exchanged, view, ran, one_run, rank_run, ranks_run}
-use Rattle.bound_chains.specs.Slices.{slicing_of}
+use Rattle.chain_model.specs.Slices.{slicing_of}
 use Rattle.deep_halo.specs.Places.{in_block, all_cells}
 use Rattle.deep_halo.specs.Constants.{constants_in}
 use Rattle.deep_halo.specs.Running.{StoresStand, AreHeld, Runs}

@@ -10,9 +10,9 @@ use Rattle.bound_program.specs.Values.{BoundValue}
 use Rattle.rank_state.specs.declared.rank_memory.stop.Stop.{Stop}
 use Rattle.rank_state.specs.Stops.{stop_in}
 use Rattle.chain_model.specs.Machine.{ChainState}
-use Rattle.bound_chains.specs.Dump.{stores_text}
-use Rattle.bound_chains.specs.Laws.{RunsAsProgram}
-use Rattle.bound_chains.specs.Outcomes.{chains_run, dump_after}
+use Rattle.chain_model.specs.Dump.{stores_text}
+use Rattle.chain_model.specs.Laws.{RunsAsProgram}
+use Rattle.chain_model.specs.Outcomes.{chains_run, dump_after}
 use Rattle.deep_halo.specs.Running.{StoresStand}
 use Rattle.deep_halo.specs.Programs.{IsHolding}
 use Rattle.deep_halo.specs.Runs.{IsRun, PrintsTheProgram}

@@ -15,12 +15,12 @@ use Rattle.run_model.specs.Arguments.{var_width}
 use Rattle.run_model.specs.Programs.{item_at, kind_of, loop_of}
 use Rattle.run_model.specs.Laws.{LoopsAreThere}
 use Rattle.run_model.proofs.Memory.{var_there}
-use Rattle.host_acts.specs.Variables.{of_vars}
+use Rattle.gather.specs.Variables.{of_vars}
 use Rattle.bound_plan.specs.Variables.{reduced_by, reduces_at}
 use Rattle.bound_plan.proofs.Trace.{reduce_after, first_item}
 use Rattle.rank_state.specs.declared.rank_memory.stop.Stop.{Stop}
 use Rattle.chain_model.specs.Machine.{ChainState, merged_over, reduced}
-use Rattle.bound_chains.specs.Slices.{slicing_of}
+use Rattle.chain_model.specs.Slices.{slicing_of}
 use Rattle.deep_halo.specs.Cells.{BlocksHold}
 use Rattle.deep_halo.specs.Globals.{is_on}
 use Rattle.deep_halo.specs.Merging.{changed_all}

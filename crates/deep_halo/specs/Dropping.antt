@@ -7,7 +7,7 @@ use Rattle.bound_program.specs.declared.sites.Arg.{Arg}
 use Rattle.bound_program.specs.declared.sites.Arg.TheVariants.{Dat, Global}
 use Rattle.bound_program.specs.Values.{BoundValue}
 use Rattle.run_model.specs.Windows.{element_by}
-use Rattle.bound_chains.specs.Slices.{needs}
+use Rattle.chain_model.specs.Slices.{needs}
 use Rattle.deep_halo.specs.Cells.{Values}
 
 module _ (b : BoundValue) (o : Owners) (k r e : ℕ) where

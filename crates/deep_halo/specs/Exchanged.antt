@@ -3,7 +3,7 @@ use Rattle.std.specs.Prelude.{ℕ, ℤ, pos, Bool, not, ◌&&◌, cond, None, na
 use Rattle.mesh_decl.specs.declared.owners.Owners.{Owners}
 use Rattle.schedule_model.specs.Cells.{Data, Variable, DatCell}
 use Rattle.bound_program.specs.Values.{BoundValue}
-use Rattle.bound_chains.specs.Slices.{needs, owns_pair}
+use Rattle.chain_model.specs.Slices.{needs, owns_pair}
 use Rattle.deep_halo.specs.Places.{block_at}
 use Rattle.deep_halo.specs.Cells.{Values}
 use Rattle.deep_halo.specs.declared.chain_ranks.chain_exchange.exchanges.Exchange.{Exchange}

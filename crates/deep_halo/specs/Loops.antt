@@ -6,7 +6,7 @@ use Rattle.mesh_decl.specs.declared.owners.Owners.{Owners}
 use Rattle.run_model.specs.Kernels.{constants}
 use Rattle.run_model.specs.Programs.{item_at, loop_of, program_of}
 use Rattle.chain_model.specs.Machine.{ChainState, view, ran}
-use Rattle.bound_chains.specs.Slices.{slicing_of}
+use Rattle.chain_model.specs.Slices.{slicing_of}
 use Rattle.chain_needs.specs.Slices.{AreSlices, IsFreeItem}
 use Rattle.deep_halo.specs.Sound.{Sound, IsLoop, program_in}
 use Rattle.deep_halo.specs.Constants.{constants_in}

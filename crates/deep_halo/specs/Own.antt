@@ -6,7 +6,7 @@ use Rattle.schedule_model.specs.Cells.{Data, Variable, DatCell, VarCell}
 use Rattle.bound_program.specs.Values.{BoundValue}
 use Rattle.run_model.specs.Memory.{has_cell}
 use Rattle.chain_model.specs.Machine.{ChainState, value_in}
-use Rattle.bound_chains.specs.Slices.{owns_pair}
+use Rattle.chain_model.specs.Slices.{owns_pair}
 use Rattle.deep_halo.specs.Places.{in_block, all_cells}
 
 -- the ranks' blocks have their own pairs of the stores, with zeros for all others, and the block behind them has the variables

@@ -10,7 +10,7 @@ use Rattle.flat_machine.specs.Layout.{among}
 use Rattle.rank_state.specs.declared.spans.Span.{Span}
 use Rattle.rank_state.specs.Core.{fault_of}
 use Rattle.rank_state.specs.Frames.{pane_after, closed}
-use Rattle.in_place.specs.Here.{IsHere, core_on_gathered}
+use Rattle.kernel_runs.specs.Here.{IsHere, core_on_gathered}
 use Rattle.bound_program.specs.declared.sites.Arg.{Arg}
 use Rattle.bound_program.specs.Values.{BoundValue, SiteValue}
 use Rattle.run_model.specs.Windows.{Reached, reached, width, cell_in, targets, windows, window_cells}

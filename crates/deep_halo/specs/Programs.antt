@@ -6,8 +6,8 @@ use Rattle.bound_program.specs.Values.{BoundValue}
 use Rattle.run_model.specs.Kernels.{constants}
 use Rattle.kernel_code.specs.Codes.{HaveRoom}
 use Rattle.chain_model.specs.Machine.{Holding}
-use Rattle.bound_chains.specs.Slices.{needs, owns_pair}
-use Rattle.bound_chains.specs.Counts.{begins_at}
+use Rattle.chain_model.specs.Slices.{needs, owns_pair}
+use Rattle.chain_model.specs.Counts.{begins_at}
 use Rattle.chain_needs.specs.Slices.{AreSlices, IsFreeItem}
 use Rattle.deep_halo.specs.Sound.{Sound, program_in}
 use Rattle.deep_halo.specs.declared.programs.Program.{Program}

@@ -7,12 +7,12 @@ use Rattle.schedule_model.specs.Cells.{Data, Variable, DatCell, VarCell}
 use Rattle.schedule_model.specs.Kept.{kept_of}
 use Rattle.bound_program.specs.Values.{BoundValue}
 use Rattle.run_model.specs.Memory.{has_cell}
-use Rattle.host_acts.specs.Variables.{of_vars}
+use Rattle.gather.specs.Variables.{of_vars}
 use Rattle.bound_plan.specs.Variables.{reduces_at}
 use Rattle.rank_state.specs.declared.rank_memory.stop.Stop.{Stop}
 use Rattle.rank_state.specs.Stops.{stop_in}
 use Rattle.chain_model.specs.Machine.{ChainState, value_in}
-use Rattle.bound_chains.specs.Slices.{needs}
+use Rattle.chain_model.specs.Slices.{needs}
 use Rattle.deep_halo.specs.Places.{in_block, all_cells}
 
 module _ (b : BoundValue) (o : Owners) where

@@ -5,7 +5,7 @@ use Rattle.mesh_decl.specs.declared.owners.Owners.{Owners}
 use Rattle.schedule_model.specs.Sequential.{Stop}
 use Rattle.bound_program.specs.Values.{BoundValue}
 use Rattle.run_model.specs.Programs.{printed, first_fault}
-use Rattle.bound_chains.specs.Outcomes.{chains_run, chains_output, dump_after}
+use Rattle.chain_model.specs.Outcomes.{chains_run, chains_output, dump_after}
 use Rattle.deep_halo.specs.declared.runs.ChainStop.{ChainStop}
 use Rattle.deep_halo.specs.declared.runs.ChainOutcome.{ChainOutcome}
 

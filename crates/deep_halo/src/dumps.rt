@@ -7,7 +7,7 @@ ghost use Rattle.kernel_types.specs.declared.faults.KernelFault.{KernelFault as 
 ghost use Rattle.mesh_decl.specs.Mesh.{dat_count, dat_set, dat_name, set_size};
 ghost use Rattle.gather.specs.Dump.{copy_text};
 ghost use Rattle.chain_model.specs.Machine.{ChainState, Holding};
-ghost use Rattle.bound_chains.specs.Dump.{held_in, pair_text, held_text, store_text, stores_text};
+ghost use Rattle.chain_model.specs.Dump.{held_in, pair_text, held_text, store_text, stores_text};
 ghost use Rattle.deep_halo.specs.Places.{all_cells};
 ghost use Rattle.deep_halo.specs.Sound.{ranks_in};
 ghost use Rattle.deep_halo.specs.Running.{StoresStand};

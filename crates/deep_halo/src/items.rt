@@ -6,7 +6,7 @@ ghost use Rattle.schedule_model.specs.Program.{is_free, Free, Reduce};
 ghost use Rattle.bound_program.specs.Values as bound;
 ghost use Rattle.run_model.specs.Programs.{item_at, kind_of};
 ghost use Rattle.chain_model.specs.Machine.{ChainState, item_run, reduced, chain_start, chain_machine};
-ghost use Rattle.bound_chains.specs.Slices.{slicing_of};
+ghost use Rattle.chain_model.specs.Slices.{slicing_of};
 ghost use Rattle.deep_halo.specs.Programs.{IsProgram, IsRoom, program_of_run, owners_of_run};
 ghost use Rattle.deep_halo.specs.Stands.{Stands, Ends};
 

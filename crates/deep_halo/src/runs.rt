@@ -6,8 +6,8 @@ ghost use Rattle.bound_program.specs.Values.{bound_of};
 ghost use Rattle.bound_program.specs.Fits.{Fits};
 ghost use Rattle.run_model.specs.Kernels as kernels;
 ghost use Rattle.chain_model.specs.Machine.{chain_start};
-ghost use Rattle.bound_chains.specs.Laws.{Chainable};
-ghost use Rattle.bound_chains.specs.Slices.{slicing_of};
+ghost use Rattle.chain_model.specs.Laws.{Chainable};
+ghost use Rattle.chain_model.specs.Slices.{slicing_of};
 ghost use Rattle.chain_needs.specs.Slices.{AreSlices};
 ghost use Rattle.deep_halo.specs.Sound.{ranks_in};
 ghost use Rattle.deep_halo.specs.Cells.{BlocksHold, first_in_last};
@@ -152,7 +152,7 @@ pub fn run_chains(
     ensures machine { IfOk result (IsRun (bound_of bound.now) owners.now dump) }
     ensures sequential { Chainable (bound_of bound.now) owners.now → IfOk result (PrintsTheProgram (bound_of bound.now) owners.now dump) }
 {
-    bound_chains::chains_run_as_sequential();
+    chain_model::bound_chains::chains_run_as_sequential();
     bound.mesh.is_in_range();
     let codes: Vec<Code<'_>> = compile_all(alloc, &bound.kernels)?;
     let first = first_block(alloc, bound)?;

@@ -5,8 +5,8 @@ ghost use Rattle.kernel_types.specs.declared.faults.KernelFault.{KernelFault as 
 ghost use Rattle.run_model.specs.Programs.{program_of};
 ghost use Rattle.chain_model.specs.Chains.{follows_free};
 ghost use Rattle.chain_model.specs.Machine.{ChainState, exchanged, supplied};
-ghost use Rattle.bound_chains.specs.Slices.{slicing_of};
-ghost use Rattle.bound_chains.specs.Counts.{begins_at};
+ghost use Rattle.chain_model.specs.Slices.{slicing_of};
+ghost use Rattle.chain_model.specs.Counts.{begins_at};
 ghost use Rattle.chain_needs.specs.Slices.{IsFreeItem};
 ghost use Rattle.deep_halo.specs.Places.{all_cells};
 ghost use Rattle.deep_halo.specs.Sound.{ranks_in};

@@ -51,3 +51,5 @@ pub fn scatter_is_look_up()
         → Once xs → Placed taken place cell_at xs (length buffer)
         → scatter taken place xs ws buffer ≡ looked_up taken cell_at xs ws buffer }
 {}
+
+pub mod schedule_examples;

@@ -1,3 +1,5 @@
 pub mod Grows
 pub mod Pieces
 pub mod Dump
+pub mod Variables
+pub mod Acts

@@ -3,6 +3,7 @@
 
 mod dats;
 mod dumps;
+pub mod host_acts;
 mod lines;
 
 pub use dats::print_dat;

@@ -9,15 +9,15 @@ use Rattle.kernel_types.specs.declared.kernels.Resolved.{Resolved}
 use Rattle.bound_program.specs.Values.{BoundValue}
 use Rattle.mesh_gen.specs.Sample.{sample_source, sample_mesh}
 use Rattle.command_words.specs.Refusal.{Refusal, SourceBytes, MeshBytes}
-use Rattle.answer_lines.specs.Lines.{refused}
+use Rattle.command_words.specs.Lines.{refused}
 use Rattle.command_words.specs.Words.{InFiles, OfSample}
 use Rattle.answers.specs.Judgements.{IsHeld, TreeIs, TypesAre}
 use Rattle.answers.specs.Answers.{BoundAnswers}
-use Rattle.answer_lines.specs.declared.refusals.Halt.{Halt}
-use Rattle.answer_lines.specs.Halts.{StopsWhere}
+use Rattle.command_words.specs.declared.answer_lines.refusals.Halt.{Halt}
+use Rattle.command_words.specs.Halts.{StopsWhere}
 use Rattle.job_inputs.specs.Inputs.{IsBoundOver, IsBoundIn}
 use Rattle.job_inputs.specs.Chains.{Never, TextOver, HaltsOver}
-use Rattle.answer_lines.proofs.Halts.{stops_weaker}
+use Rattle.command_words.proofs.answer_lines.Halts.{stops_weaker}
 use Rattle.job_inputs.proofs.Chained.{halts_weaker, halts_on, stops_on}
 
 -- ---- files

@@ -9,14 +9,14 @@ use Rattle.job_inputs.specs.Readings.{Readings, names_of, readings_of, AreNext, 
 use Rattle.job_inputs.proofs.kept_files.Seeing.{agree_before, grows_on}
 use Rattle.job_inputs.proofs.kept_files.Finding.{nothing_is_seen, finds_on, finds_weaker, finds_last, finds_always}
 use Rattle.command_words.specs.Refusal.{Refusal, CannotRead}
-use Rattle.answer_lines.specs.Lines as lines
-use Rattle.answer_lines.specs.Lines.{refused}
+use Rattle.command_words.specs.Lines as lines
+use Rattle.command_words.specs.Lines.{refused}
 use Rattle.answers.specs.Answers.{without}
-use Rattle.answer_lines.specs.declared.call_answer.Answer.{Answer}
-use Rattle.answer_lines.specs.declared.refusals.Failure.TheVariants.{Unread, OutOfMemory}
-use Rattle.answer_lines.specs.declared.refusals.Halt.{Halt}
-use Rattle.answer_lines.specs.declared.refusals.Halt.TheVariants.{Refused, Failed}
-use Rattle.answer_lines.specs.Halts.{refusal_of, StopsWhere, answer_of}
+use Rattle.command_words.specs.declared.answer_lines.call_answer.Answer.{Answer}
+use Rattle.command_words.specs.declared.answer_lines.refusals.Failure.TheVariants.{Unread, OutOfMemory}
+use Rattle.command_words.specs.declared.answer_lines.refusals.Halt.{Halt}
+use Rattle.command_words.specs.declared.answer_lines.refusals.Halt.TheVariants.{Refused, Failed}
+use Rattle.command_words.specs.Halts.{refusal_of, StopsWhere, answer_of}
 use Rattle.job_inputs.specs.Chains.{AnswersBy, Misses, HaltsOver, AnswersFrom, Over, AnswersOver}
 
 -- ---- results

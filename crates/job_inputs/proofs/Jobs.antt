@@ -8,13 +8,13 @@ use Rattle.bound_program.specs.Values.{BoundValue}
 use Rattle.bound_program.specs.Fits.{Fits}
 use Rattle.command_words.specs.Refusal.{Limit, Refusal}
 use Rattle.command_words.specs.Words.{Input, Parting, names_from}
-use Rattle.answer_lines.specs.Lines as lines
-use Rattle.answer_lines.specs.Lines.{refused}
+use Rattle.command_words.specs.Lines as lines
+use Rattle.command_words.specs.Lines.{refused}
 use Rattle.answers.specs.Judgements.{IsHeld, SourceIs, MeshIs, TreeIs, TypesAre, EntriesAre, BoundIs, AccessesAre, PartsOf, OwnersOf}
 use Rattle.answers.specs.Answers.{given, BoundAnswers}
-use Rattle.answer_lines.specs.declared.call_answer.Answer.{Answer}
-use Rattle.answer_lines.specs.declared.refusals.Halt.{Halt}
-use Rattle.answer_lines.specs.Halts.{StopsWhere}
+use Rattle.command_words.specs.declared.answer_lines.call_answer.Answer.{Answer}
+use Rattle.command_words.specs.declared.answer_lines.refusals.Halt.{Halt}
+use Rattle.command_words.specs.Halts.{StopsWhere}
 use Rattle.job_inputs.specs.Inputs.{IsBoundIn, parts_by}
 use Rattle.job_inputs.specs.Chains.{Never, AnswersBy, HaltsOver, AnswersFrom, AnswersOver}
 use Rattle.job_inputs.proofs.Chained.{SomeAreSeen, halts_weaker, stops_on, answers_on, answers_by, still_named, names_are, to_whole}

@@ -4,13 +4,13 @@ use Rattle.c_tree.specs.Tree.{ProgramTree}
 use Rattle.kernel_types.specs.declared.kernels.Resolved.{Resolved}
 use Rattle.mesh_decl.specs.Spelling.{Named}
 use Rattle.bound_program.specs.Values.{BoundValue}
-use Rattle.answer_lines.specs.Lines.{refused}
+use Rattle.command_words.specs.Lines.{refused}
 use Rattle.command_words.specs.Refusal.{Refusal}
 use Rattle.answers.specs.Judgements.{EntriesAre, BoundIs, AccessesAre}
-use Rattle.answer_lines.specs.declared.refusals.Halt.{Halt}
-use Rattle.answer_lines.specs.Halts.{StopsWhere}
+use Rattle.command_words.specs.declared.answer_lines.refusals.Halt.{Halt}
+use Rattle.command_words.specs.Halts.{StopsWhere}
 use Rattle.job_inputs.specs.Chains.{Never, TextOver}
-use Rattle.answer_lines.proofs.Halts.{stops_weaker}
+use Rattle.command_words.proofs.answer_lines.Halts.{stops_weaker}
 
 module _ (p : ProgramTree) (types : Resolved) (text : List ℕ) where
   abbrev Refuses : Refusal → Type 0

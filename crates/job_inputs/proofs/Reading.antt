@@ -8,7 +8,7 @@ use Rattle.job_inputs.specs.Readings.{Readings, names_of, AreNext, IsSeen, Finds
 use Rattle.job_inputs.proofs.kept_files.Seeing.{grows_same}
 use Rattle.job_inputs.proofs.kept_files.Finding.{finds_weaker}
 use Rattle.command_words.specs.Refusal.{Limit, Refusal, CannotRead, BeyondLimit}
-use Rattle.answer_lines.specs.Lines.{most}
+use Rattle.command_words.specs.Lines.{most}
 use Rattle.answers.specs.Judgements.{IsHeld}
 use Rattle.answers.specs.Answers.{without}
 use Rattle.job_inputs.specs.Chains.{Misses}

@@ -18,13 +18,13 @@ use Rattle.run_model.specs.Kernels.{kernel_at}
 use Rattle.run_model.specs.Arguments.{mode_of, modes_of, arg_width}
 use Rattle.command_words.specs.Refusal as answer
 use Rattle.answers.specs.Judgements.{AccessesAre, IsFirstSite, SiteObeys, SiteRefuses}
-use Rattle.answer_lines.specs.declared.refusals.Halt.{Halt}
-use Rattle.answer_lines.specs.Halts.{StopsWhere}
+use Rattle.command_words.specs.declared.answer_lines.refusals.Halt.{Halt}
+use Rattle.command_words.specs.Halts.{StopsWhere}
 use Rattle.job_inputs.specs.declared.known_uses.ArgUse.{ArgUse}
 use Rattle.job_inputs.specs.Inputs.{IsAccessRefusal}
 use Rattle.job_inputs.specs.Known.{use_of, AreObeyed}
 use Rattle.job_inputs.proofs.Known.{known_obeyed, noted_obeyed}
-use Rattle.answer_lines.proofs.Halts.{stops_weaker}
+use Rattle.command_words.proofs.answer_lines.Halts.{stops_weaker}
 
 -- ---- the kernel of a loop
 

@@ -7,11 +7,11 @@ use Rattle.distribute.specs.Judgements.{OwnersAre}
 use Rattle.bound_program.specs.Values.{BoundValue}
 use Rattle.answers.specs.Said.{SaysOwners}
 use Rattle.answers.specs.Judgements.{OwnersOf}
-use Rattle.answer_lines.specs.declared.refusals.Failure.TheVariants.{OutOfMemory}
-use Rattle.answer_lines.specs.declared.refusals.Halt.{Halt}
-use Rattle.answer_lines.specs.declared.refusals.Halt.TheVariants.{Failed}
-use Rattle.answer_lines.specs.Halts.{StopsWhere}
-use Rattle.answer_lines.proofs.Halts.{stops_weaker}
+use Rattle.command_words.specs.declared.answer_lines.refusals.Failure.TheVariants.{OutOfMemory}
+use Rattle.command_words.specs.declared.answer_lines.refusals.Halt.{Halt}
+use Rattle.command_words.specs.declared.answer_lines.refusals.Halt.TheVariants.{Failed}
+use Rattle.command_words.specs.Halts.{StopsWhere}
+use Rattle.command_words.proofs.answer_lines.Halts.{stops_weaker}
 
 -- a refusal that says why owners aren't there is one of theirs
 pub owners_refused_by : (ranks : ℕ) (b : BoundValue) (parts : Parts) (e : OwnersRefusal) (h : Halt)

@@ -5,3 +5,4 @@ pub mod Known
 pub mod Seen
 pub mod Readings
 pub mod Views
+pub mod Plans

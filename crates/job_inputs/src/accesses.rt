@@ -11,14 +11,14 @@ ghost use Rattle.bound_program.specs.Fits.{Fits, SiteFits, ArgFits};
 ghost use Rattle.run_model.specs.Arguments as run;
 ghost use Rattle.command_words.specs.Refusal.{BadAccess};
 ghost use Rattle.answers.specs.Judgements.{AccessesAre, SiteObeys, SiteRefuses};
-ghost use Rattle.answer_lines.specs.Halts.{StopsWhere};
+ghost use Rattle.command_words.specs.Halts.{StopsWhere};
 ghost use Rattle.job_inputs.specs.Inputs.{IsAccessRefusal};
 ghost use Rattle.job_inputs.specs.Known.{AreObeyed};
 
 use crate::known_uses::{KnownUses, are_known, note_uses};
 use access_check::{AccessRefusal, Mode, check};
-use answer_lines::{Failure, Halt, Refusal};
 use bound_program::{Arg, Bound, Site};
+use command_words::answer_lines::{Failure, Halt, Refusal};
 use indexmap::IndexSet;
 use op_num::OutOfMemory;
 use std::alloc::Global;

@@ -5,21 +5,21 @@ ghost use Rattle.op_outside.specs.Outside.{Rose};
 ghost use Rattle.job_inputs.specs.Readings.{AreNext, HaveCome, Finds};
 ghost use Rattle.bound_program.specs.Values.{bound_of};
 ghost use Rattle.bound_program.specs.Fits.{Fits};
-ghost use Rattle.answer_lines.specs.declared.limits.TheConstants.{STATE_BYTES};
+ghost use Rattle.command_words.specs.declared.answer_lines.limits.TheConstants.{STATE_BYTES};
 ghost use Rattle.command_words.specs.Words.{names_before};
 ghost use Rattle.command_words.specs.Values.{stretch_in};
 ghost use Rattle.answers.specs.Judgements.{AccessesAre, BeforeItem, FromText, CutOf, ChosenIs};
-ghost use Rattle.answer_lines.specs.Halts.{StopsWhere};
+ghost use Rattle.command_words.specs.Halts.{StopsWhere};
 ghost use Rattle.job_inputs.specs.Inputs.{cut_by, SaysState, chosen_of};
 ghost use Rattle.job_inputs.specs.Chains.{HaltsOver};
 
 use crate::files::file_of;
 use crate::kept_files::Kept;
-use answer_lines::{Failure, Halt, Limit, Refusal};
 use bound_program::Bound;
 use checkpoint::state_texts::{StateRefusal, read_state};
 use checkpoint::{HeadRefusal, head, tail, tails_obey};
 use command_words::Stretch;
+use command_words::answer_lines::{Failure, Halt, Limit, Refusal};
 use op_outside::Shelf;
 use std::alloc::Global;
 

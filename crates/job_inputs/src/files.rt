@@ -4,12 +4,12 @@ ghost use Rattle.std.specs.Prelude.{◌≡◌, ◌≤◌, ◌<◌, ◌^◌, ◌�
 ghost use Rattle.op_outside.specs.Outside.{Rose};
 ghost use Rattle.job_inputs.specs.Readings.{readings_of, AreNext, HaveCome, Finds};
 ghost use Rattle.answers.specs.Judgements.{IsHeld};
-ghost use Rattle.answer_lines.specs.Lines.{most};
-ghost use Rattle.answer_lines.specs.Halts.{limit_of};
+ghost use Rattle.command_words.specs.Lines.{most};
+ghost use Rattle.command_words.specs.Halts.{limit_of};
 ghost use Rattle.job_inputs.specs.Chains.{HaltsOver};
 
 use crate::kept_files::Kept;
-use answer_lines::{Failure, Halt, Limit, Refusal, most};
+use command_words::answer_lines::{Failure, Halt, Limit, Refusal, most};
 use op_outside::{ReadRefusal, Shelf};
 use std::alloc::Global;
 

@@ -11,6 +11,7 @@ mod accesses;
 mod awaited;
 mod chosen;
 mod files;
+pub mod job_plans;
 pub mod kept_files;
 mod known_uses;
 mod meshes;

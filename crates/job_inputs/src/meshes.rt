@@ -10,14 +10,14 @@ ghost use Rattle.command_words.specs.Refusal as answer;
 ghost use Rattle.answers.specs.Judgements.{EntriesAre, BoundIs};
 ghost use Rattle.answers.specs.Said as said;
 ghost use Rattle.answers.specs.Said.{SaysMesh, SaysBinding, maps_in, map_name};
-ghost use Rattle.answer_lines.specs.Halts.{limit_of as limit_in, StopsWhere};
+ghost use Rattle.command_words.specs.Halts.{limit_of as limit_in, StopsWhere};
 ghost use Rattle.job_inputs.specs.Inputs.{IsJudged, HasNarrowMaps};
 ghost use Rattle.job_inputs.specs.Maps.{map_by};
 
-use answer_lines::{Failure, Halt, Limit, Refusal, most};
 use bound_program::Bound;
 use bound_program::refusals::{BindRefusal, Counted};
 use c_tree::{Host, OpCall, Pos, Program};
+use command_words::answer_lines::{Failure, Halt, Limit, Refusal, most};
 use kernel_types::Resolved;
 use loop_bind::{bind, bound_maps_are_narrow, resolved_sources_are, spelled_entries_fit};
 use mesh_decl::{Entries, MeshRefusal, read_mesh};

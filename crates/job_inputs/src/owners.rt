@@ -8,21 +8,21 @@ ghost use Rattle.distribute.specs.Parts.{Text, parts_of, HasLines, UnownedWhere}
 ghost use Rattle.distribute.specs.declared.types.OwnersRefusal.TheVariants as unowned;
 ghost use Rattle.bound_program.specs.Values.{bound_of};
 ghost use Rattle.answers.specs.Said.{SaysPartition, SaysOwners};
-ghost use Rattle.answer_lines.specs.declared.limits.TheConstants.{PARTITION_BYTES};
+ghost use Rattle.command_words.specs.declared.answer_lines.limits.TheConstants.{PARTITION_BYTES};
 ghost use Rattle.command_words.specs.Words.{names_by};
 ghost use Rattle.command_words.specs.Laws.{AreFew};
 ghost use Rattle.answers.specs.Judgements.{NumbersOf, PartsOf, OwnersOf};
 ghost use Rattle.command_words.specs.Values.{parting_in, options_in};
-ghost use Rattle.answer_lines.specs.declared.refusals.Failure.TheVariants.{OutOfMemory};
-ghost use Rattle.answer_lines.specs.declared.refusals.Halt.TheVariants.{Failed};
-ghost use Rattle.answer_lines.specs.Halts.{StopsWhere};
+ghost use Rattle.command_words.specs.declared.answer_lines.refusals.Failure.TheVariants.{OutOfMemory};
+ghost use Rattle.command_words.specs.declared.answer_lines.refusals.Halt.TheVariants.{Failed};
+ghost use Rattle.command_words.specs.Halts.{StopsWhere};
 ghost use Rattle.job_inputs.specs.Inputs.{parts_by};
 ghost use Rattle.job_inputs.specs.Chains.{HaltsOver};
 
 use crate::files::file_of;
 use crate::kept_files::Kept;
-use answer_lines::{Failure, Halt, Limit, Refusal};
 use bound_program::Bound;
+use command_words::answer_lines::{Failure, Halt, Limit, Refusal};
 use command_words::{Options, Parting};
 use distribute::{NumbersRefusal, OwnersRefusal, PartRefusal, Parts, numbers_by, owners_by};
 use mesh_decl::{Owners, Perms};

@@ -3,7 +3,7 @@
 ghost use Rattle.std.specs.Prelude.{◌≡◌, ◌≤◌, ◌↔◌, ℕ, List, All, length, Ok, Err, IfOk, IfErr, OnOk};
 ghost use Rattle.op_outside.specs.Outside.{Rose};
 ghost use Rattle.job_inputs.specs.Readings.{AreNext, HaveCome, Finds};
-ghost use Rattle.answer_lines.specs.declared.limits.TheConstants.{PLAN_BYTES};
+ghost use Rattle.command_words.specs.declared.answer_lines.limits.TheConstants.{PLAN_BYTES};
 ghost use Rattle.command_words.specs.Words.{names_in_blocks};
 ghost use Rattle.command_words.specs.Values.{blocks_in};
 ghost use Rattle.answers.specs.Judgements.{ColouringOf};
@@ -12,8 +12,8 @@ ghost use Rattle.job_inputs.specs.Chains.{HaltsOver};
 
 use crate::files::file_of;
 use crate::kept_files::Kept;
-use answer_lines::{Halt, Limit};
 use command_words::Blocks;
+use command_words::answer_lines::{Halt, Limit};
 use op_outside::Shelf;
 use std::alloc::Global;
 

@@ -5,12 +5,12 @@ ghost use Rattle.c_lex.specs.Lexed.{Lexes};
 ghost use Rattle.c_tree.specs.View.{program_of};
 ghost use Rattle.answers.specs.Judgements.{TreeIs, TypesAre};
 ghost use Rattle.answers.specs.Said.{SaysLex, SaysSource, SaysTypes};
-ghost use Rattle.answer_lines.specs.declared.limits.TheConstants.{SOURCE_BYTES};
-ghost use Rattle.answer_lines.specs.Halts.{StopsWhere};
+ghost use Rattle.command_words.specs.declared.answer_lines.limits.TheConstants.{SOURCE_BYTES};
+ghost use Rattle.command_words.specs.Halts.{StopsWhere};
 
-use answer_lines::{Failure, Halt, Refusal};
 use c_reader::{SourceRefusal, read_lexed, read_program};
 use c_tree::{LexRefusal, Program, Token, lex};
+use command_words::answer_lines::{Failure, Halt, Refusal};
 use kernel_types::Resolved;
 use name_resolution::{TypeRefusal, resolve};
 use std::alloc::Global;

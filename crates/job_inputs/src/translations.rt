@@ -5,12 +5,12 @@ ghost use Rattle.c_lex.specs.Lexed.{Lexes};
 ghost use Rattle.c_tree.specs.View.{program_of};
 ghost use Rattle.answers.specs.Judgements.{TreeIs, TranslationIs, RestorationIs};
 ghost use Rattle.answers.specs.Said.{SaysTranslation};
-ghost use Rattle.answer_lines.specs.declared.limits.TheConstants.{SOURCE_BYTES};
-ghost use Rattle.answer_lines.specs.Halts.{StopsWhere};
+ghost use Rattle.command_words.specs.declared.answer_lines.limits.TheConstants.{SOURCE_BYTES};
+ghost use Rattle.command_words.specs.Halts.{StopsWhere};
 
 use crate::sources::unlexed;
-use answer_lines::{Failure, Halt, Refusal};
 use c_tree::{Program, Token};
+use command_words::answer_lines::{Failure, Halt, Refusal};
 use op_translate::{TransRefusal, restore, translate};
 use std::alloc::Global;
 

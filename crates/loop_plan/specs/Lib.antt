@@ -15,3 +15,5 @@ pub mod SitePlans
 pub mod Spaced
 pub mod PlanText
 pub mod OnePlan
+pub mod Planned
+pub mod Laws

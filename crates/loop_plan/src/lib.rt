@@ -9,6 +9,8 @@ mod laws;
 mod messages;
 mod needs;
 mod places;
+pub mod plan_exists;
+pub mod planned_program;
 mod plans;
 mod sites;
 mod turns;

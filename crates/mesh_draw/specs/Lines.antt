@@ -1,7 +1,7 @@
 -- Lines of an output: bytes up to an LF, with it.
 use Rattle.std.specs.Prelude.{◌≡◌, ℕ, ◌⊎◌, List, [], ◌∷◌, ◌++◌}
 use Rattle.std.specs.List.{count_by}
-use Rattle.line_texts.specs.Lines.{is_lf}
+use Rattle.texts.specs.CutLines.{is_lf}
 
 -- how many LFs there are
 abbrev pub lines_in : List ℕ → ℕ

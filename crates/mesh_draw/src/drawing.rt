@@ -10,7 +10,7 @@ use crate::shapes::{Shape, shape_of};
 use crate::types::DrawRefusal;
 use bound_program::Mesh;
 use cell_numbers::{Shown, numbers_of};
-use planned_program::Planned;
+use loop_plan::planned_program::Planned;
 use std::alloc::Global;
 
 // The shape of the cells, in the plane.

@@ -11,8 +11,8 @@ use crate::types::DrawRefusal;
 use crate::vtk_texts::{Field, GridData, vtk_text};
 use bound_program::Bound;
 use cell_numbers::{Shown, numbers_of, put_shown};
+use loop_plan::planned_program::Planned;
 use op_num::OutOfMemory;
-use planned_program::Planned;
 use std::alloc::Global;
 
 // The title.

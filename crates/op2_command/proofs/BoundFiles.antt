@@ -4,11 +4,11 @@ use Rattle.std.proofs.lemmas.List.{append-nil}
 use Rattle.op_outside.specs.Outside.{Files}
 use Rattle.job_inputs.specs.Readings.{Readings, names_of, readings_of, AreNext, HaveCome, Finds}
 use Rattle.bound_program.specs.Values.{BoundValue}
-use Rattle.answer_lines.specs.Lines.{refused}
+use Rattle.command_words.specs.Lines.{refused}
 use Rattle.command_words.specs.Words.{PlanJob, Options, Input, names_from, names_before, names_by, names_in_blocks, names_at}
 use Rattle.answers.specs.Answers.{BoundAnswers, PlannedAnswers, PlanAnswers}
-use Rattle.answer_lines.specs.declared.call_answer.Answer.{Answer}
-use Rattle.answer_lines.specs.declared.refusals.Halt.{Halt}
+use Rattle.command_words.specs.declared.answer_lines.call_answer.Answer.{Answer}
+use Rattle.command_words.specs.declared.answer_lines.refusals.Halt.{Halt}
 use Rattle.job_inputs.specs.Inputs.{IsBoundIn}
 use Rattle.job_inputs.specs.Chains.{Never, HaltsOver, AnswersFrom, AnswersOver}
 use Rattle.job_inputs.proofs.Chained.{SomeAreSeen, halts_weaker, answers_on, still_named, names_are, to_whole}

@@ -2,17 +2,17 @@
 use Rattle.std.proofs.Common.{ℕ, inl, inr, List, [], Option, None, Some, Result, Ok, Err, refl, ap, sym, subst}
 use Rattle.op_outside.specs.Outside.{Files}
 use Rattle.command_words.specs.Refusal.{CannotRead}
-use Rattle.answer_lines.specs.Lines as lines
-use Rattle.answer_lines.specs.Lines.{refused}
+use Rattle.command_words.specs.Lines as lines
+use Rattle.command_words.specs.Lines.{refused}
 use Rattle.command_words.specs.Words.{Command, WordsAre, names_of, named_by, names_in}
 use Rattle.answers.specs.Answers.{without, CommandAnswers, Answers}
 use Rattle.answers.specs.Endings.{Tells, Asks}
-use Rattle.answer_lines.specs.declared.call_answer.Answer.{Answer}
-use Rattle.answer_lines.specs.declared.refusals.Failure.{Failure}
-use Rattle.answer_lines.specs.declared.refusals.Failure.TheVariants.{Unread, OutOfMemory}
-use Rattle.answer_lines.specs.declared.refusals.Halt.{Halt}
-use Rattle.answer_lines.specs.declared.refusals.Halt.TheVariants.{Refused, Failed}
-use Rattle.answer_lines.specs.Halts.{refusal_of, answer_of, StopsWhere}
+use Rattle.command_words.specs.declared.answer_lines.call_answer.Answer.{Answer}
+use Rattle.command_words.specs.declared.answer_lines.refusals.Failure.{Failure}
+use Rattle.command_words.specs.declared.answer_lines.refusals.Failure.TheVariants.{Unread, OutOfMemory}
+use Rattle.command_words.specs.declared.answer_lines.refusals.Halt.{Halt}
+use Rattle.command_words.specs.declared.answer_lines.refusals.Halt.TheVariants.{Refused, Failed}
+use Rattle.command_words.specs.Halts.{refusal_of, answer_of, StopsWhere}
 use Rattle.job_inputs.specs.Chains.{Over, AsksFor, AnswersOver}
 use Rattle.op2_command.specs.Writes.{CallAnswers}
 

@@ -4,14 +4,14 @@ use Rattle.op_outside.specs.Outside.{Files}
 use Rattle.job_inputs.specs.Readings.{Readings, AreNext, HaveCome, Finds}
 use Rattle.bound_program.specs.Values.{BoundValue}
 use Rattle.bound_program.specs.Fits.{Fits}
-use Rattle.answer_lines.specs.Lines as lines
-use Rattle.answer_lines.specs.Lines.{refused}
+use Rattle.command_words.specs.Lines as lines
+use Rattle.command_words.specs.Lines.{refused}
 use Rattle.command_words.specs.Words.{PlanJob, Options, names_before, names_by, names_in_blocks, names_at}
 use Rattle.answers.specs.Judgements.{CutOf, Chosen, ChosenIs}
 use Rattle.answers.specs.Answers.{ChosenAnswers, PlannedAnswers}
-use Rattle.answer_lines.specs.declared.call_answer.Answer.{Answer}
-use Rattle.answer_lines.specs.declared.refusals.Halt.{Halt}
-use Rattle.answer_lines.specs.Halts.{StopsWhere}
+use Rattle.command_words.specs.declared.answer_lines.call_answer.Answer.{Answer}
+use Rattle.command_words.specs.declared.answer_lines.refusals.Halt.{Halt}
+use Rattle.command_words.specs.Halts.{StopsWhere}
 use Rattle.job_inputs.specs.Inputs.{cut_by}
 use Rattle.job_inputs.specs.Chains.{HaltsOver, AnswersFrom}
 use Rattle.job_inputs.proofs.Chained.{halts_weaker, stops_on, answers_on, still_named}

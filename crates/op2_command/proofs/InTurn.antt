@@ -5,11 +5,11 @@ use Rattle.schedule_steps.specs.declared.step.Step.{Step}
 use Rattle.schedule_steps.specs.Standard.{standard}
 use Rattle.command_words.specs.Refusal.{Refusal}
 use Rattle.command_words.specs.Words.{PlanJob, Check, ShowsPlan, ShowsSchedule, RunsPlan, Options, group_of}
-use Rattle.answer_lines.specs.Lines as lines
-use Rattle.answer_lines.specs.Lines.{done}
+use Rattle.command_words.specs.Lines as lines
+use Rattle.command_words.specs.Lines.{done}
 use Rattle.answers.specs.Judgements.{Chosen, Planned, InStandardOrder, OrderOf, outline_of}
 use Rattle.answers.specs.Answers.{sizes_text, planned_answer}
-use Rattle.job_plans.specs.Plans.{AreAlike}
+use Rattle.job_inputs.specs.Plans.{AreAlike}
 use Rattle.op2_command.specs.Chains.{StepsAnswers, ScheduleAnswers, IsUntold, GoesInTurn}
 
 -- such a job answers the same of two plans with as many steps, by any lists of them

@@ -6,20 +6,20 @@ use Rattle.schedule_steps.specs.declared.step.Step.{Step}
 use Rattle.schedule_steps.specs.Standard.{standard}
 use Rattle.schedule_steps.specs.Drawn.{IsDrawn}
 use Rattle.command_words.specs.Refusal.{ScheduleBytes}
-use Rattle.answer_lines.specs.Lines as lines
-use Rattle.answer_lines.specs.Lines.{refused}
+use Rattle.command_words.specs.Lines as lines
+use Rattle.command_words.specs.Lines.{refused}
 use Rattle.command_words.specs.Words.{PlanJob, Standard, Drawn, Written, Options, group_of}
 use Rattle.answers.specs.Judgements.{IsHeld, Chosen, Planned, InStandardOrder, BySeed, ByText, OrderOf, outline_of}
 use Rattle.answers.specs.Judgements.{StepsOf, end_line, IsTextRefused, IsStepRefused}
 use Rattle.schedule_steps.specs.declared.text.lines.Line.{Line}
 use Rattle.schedule_steps.specs.Reading.{Reads as SchedulesRead}
 use Rattle.answers.specs.Answers.{planned_answer}
-use Rattle.answer_lines.specs.declared.call_answer.Answer.{Answer}
-use Rattle.answer_lines.specs.declared.refusals.Halt.{Halt}
-use Rattle.answer_lines.specs.Halts.{StopsWhere, answer_of}
+use Rattle.command_words.specs.declared.answer_lines.call_answer.Answer.{Answer}
+use Rattle.command_words.specs.declared.answer_lines.refusals.Halt.{Halt}
+use Rattle.command_words.specs.Halts.{StopsWhere, answer_of}
 use Rattle.job_inputs.specs.Chains.{AnswersBy, HaltsOver, AnswersFrom}
 use Rattle.op2_command.specs.Chains.{StepsAnswers, ScheduleAnswers}
-use Rattle.answer_lines.proofs.Halts.{stops_weaker}
+use Rattle.command_words.proofs.answer_lines.Halts.{stops_weaker}
 use Rattle.job_inputs.proofs.Chained.{halts_weaker, answers_by, finds_from}
 
 -- ---- schedules

@@ -22,10 +22,10 @@ use Rattle.schedule_steps.specs.declared.text.lines.Line.{Line}
 use Rattle.command_words.specs.Refusal.{Refusal}
 use Rattle.answers.specs.Said.{SaysNext}
 use Rattle.answers.specs.Judgements.{steps_in, judged_next, IsStepRefused}
-use Rattle.answer_lines.specs.declared.refusals.Halt.{Halt}
-use Rattle.answer_lines.specs.Halts.{StopsWhere}
+use Rattle.command_words.specs.declared.answer_lines.refusals.Halt.{Halt}
+use Rattle.command_words.specs.Halts.{StopsWhere}
 use Rattle.op2_command.specs.Chains.{CanRefuse, SaysFirst}
-use Rattle.answer_lines.proofs.Halts.{stops_weaker}
+use Rattle.command_words.proofs.answer_lines.Halts.{stops_weaker}
 
 module _ (o : Outline) where
   -- where the steps of l are taken in turn behind those of done, each is judged well where those before it are taken

@@ -7,9 +7,9 @@ use Rattle.schedule_steps.specs.declared.text.lines.Line.{Line}
 use Rattle.step_judge.specs.declared.refusal.ScheduleRefusal.{ScheduleRefusal}
 use Rattle.step_judge.specs.declared.refusal.ScheduleRefusal.TheVariants as taking
 use Rattle.bound_program.specs.Values.{bound_of}
-use Rattle.planned_program.specs.Planned.{PlannedValue}
+use Rattle.loop_plan.specs.Planned.{PlannedValue}
 use Rattle.command_words.specs.Refusal.{Refusal}
-use Rattle.answer_lines.specs.Lines as lines
+use Rattle.command_words.specs.Lines as lines
 use Rattle.command_words.specs.Words.{PlanJob, Check, ShowsPlan, ShowsSchedule, RunsPlan, Standard, Options, group_of}
 use Rattle.answers.specs.Said.{SaysStep, SaysEnd}
 use Rattle.answers.specs.Judgements.{TreeIs, TranslationIs, RestorationIs, EntriesAre}

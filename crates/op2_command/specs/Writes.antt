@@ -5,10 +5,10 @@ use Rattle.op_outside.specs.Outside.{Files}
 use Rattle.command_words.specs.Words.{named_by}
 use Rattle.answers.specs.Endings.{Tells, Asks}
 use Rattle.answers.specs.Endings.{Call, Ends, IsComplete, IsUsage, IsUnread, IsShown, AreReported, IsSilent}
-use Rattle.answer_lines.specs.declared.call_answer.Answer.{Answer}
-use Rattle.answer_lines.specs.declared.refusals.Failure.{Failure}
-use Rattle.answer_lines.specs.declared.refusals.Failure.TheVariants.{Unread, OutOfMemory}
-use Rattle.answer_lines.specs.Halts.{answer_of}
+use Rattle.command_words.specs.declared.answer_lines.call_answer.Answer.{Answer}
+use Rattle.command_words.specs.declared.answer_lines.refusals.Failure.{Failure}
+use Rattle.command_words.specs.declared.answer_lines.refusals.Failure.TheVariants.{Unread, OutOfMemory}
+use Rattle.command_words.specs.Halts.{answer_of}
 
 -- the words have this answer over the files that are told; or a file that they ask for could not be read, or memory ran out
 abbrev pub CallAnswers : List (List ℕ) → Option Files → (rose : Type 0) → Result Answer Failure → Type 0

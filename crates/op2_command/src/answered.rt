@@ -9,7 +9,7 @@ ghost use Rattle.command_words.specs.Laws.{AreFew, AreWithin};
 ghost use Rattle.answers.specs.Answers.{BoundAnswers, PlanAnswers, ChainAnswers, ConvertAnswers, CommandAnswers, Answers};
 ghost use Rattle.command_words.specs.Values.{options_in, job_in, input_in, command_of};
 ghost use Rattle.command_words.specs.Values.{chain_options_in, chain_job_in, IsInRange};
-ghost use Rattle.answer_lines.specs.Halts.{StopsWhere};
+ghost use Rattle.command_words.specs.Halts.{StopsWhere};
 ghost use Rattle.job_inputs.specs.Chains.{AnswersBy, AnswersOver};
 ghost use Rattle.op2_command.specs.Chains.{RewriteAnswers};
 ghost use Rattle.op2_command.specs.Writes.{CallAnswers};
@@ -17,7 +17,7 @@ ghost use Rattle.op2_command.specs.Writes.{CallAnswers};
 use crate::chains::chained;
 use crate::plans::planned;
 use crate::sources::{restored, translated};
-use answer_lines::{Answer, Failure, Halt, Limit, Refusal, done, refused};
+use command_words::answer_lines::{Answer, Failure, Halt, Limit, Refusal, done, refused};
 use command_words::{
     Asked, ChainJob, ChainOptions, Input, Options, PlanJob, USAGE, VERSION, WordsRefusal,
     read_words,

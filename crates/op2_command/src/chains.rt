@@ -13,24 +13,24 @@ ghost use Rattle.command_words.specs.Laws.{AreFew};
 ghost use Rattle.command_words.specs.Values.{chain_job_in, chain_options_in};
 ghost use Rattle.answers.specs.Judgements.{AccessesAre};
 ghost use Rattle.answers.specs.Answers.{ran, chain_answer, ChainAnswers};
-ghost use Rattle.answer_lines.specs.Halts.{answer_of};
+ghost use Rattle.command_words.specs.Halts.{answer_of};
 ghost use Rattle.job_inputs.specs.Inputs.{HasNarrowMaps};
 ghost use Rattle.job_inputs.specs.Chains.{AnswersFrom};
 
 use crate::faults::put_fault;
 use crate::ranges::starts_in_range;
 use answer_laws::runs_answer_on_cells;
-use answer_lines::{Answer, Halt};
 use bound_program::Bound;
 use chain_needs::chain_slices::slices;
+use command_words::answer_lines::{Answer, Halt};
 use command_words::{ChainJob, ChainOptions};
 use deep_halo::{ChainOutcome, run_chains};
 use job_inputs::kept_files::Kept;
 use job_inputs::{owners_of, partition_of};
+use loop_plan::plan_exists::narrow_meshes_fit_memory;
 use mesh_decl::Owners;
 use op_num::{OutOfMemory, put_u64};
 use op_outside::Shelf;
-use plan_exists::narrow_meshes_fit_memory;
 use std::alloc::Global;
 
 // How many items the program has, and how many chains and messages there are.

@@ -2,9 +2,9 @@
 
 ghost use Rattle.std.specs.Prelude.{◌≡◌, ◌++◌, codes, OnOk};
 ghost use Rattle.std.specs.Fmt.{decimal};
-ghost use Rattle.answer_lines.specs.Lines.{at_place, fault_name, part_name, fault_line};
+ghost use Rattle.command_words.specs.Lines.{at_place, fault_name, part_name, fault_line};
 
-use answer_lines::{put_counted, put_named, put_placed};
+use command_words::answer_lines::{put_counted, put_named, put_placed};
 use kernel_types::KernelFault;
 use op_num::{Fault, OutOfMemory, put_u64};
 

@@ -7,7 +7,7 @@ ghost use Rattle.op2_command.specs.Chains.{IsUntold, GoesInTurn};
 use bound_program::Bound;
 use command_words::{Options, PlanJob, Schedule};
 use op_num::OutOfMemory;
-use planned_run::runs_well_in_turn;
+use rank_exec::planned_run::runs_well_in_turn;
 use std::alloc::Global;
 
 // Whether a job tells neither the colours of a plan nor the order of its steps.

@@ -3,22 +3,22 @@
 ghost use Rattle.std.specs.Prelude.{◌≡◌, List, Ok, IfOk};
 ghost use Rattle.rank_state.specs.Stops.{stop_in};
 ghost use Rattle.bound_program.specs.Values.{bound_of};
-ghost use Rattle.planned_program.specs.Planned.{outline_of};
+ghost use Rattle.loop_plan.specs.Planned.{outline_of};
 ghost use Rattle.schedule_steps.specs.declared.step.Step.{Step as StepValue};
-ghost use Rattle.planned_run.specs.Orders.{InOrder, CanTake, message_cells_of, planned_dump};
+ghost use Rattle.rank_exec.specs.Orders.{InOrder, CanTake, message_cells_of, planned_dump};
 ghost use Rattle.answers.specs.Judgements.{AccessesAre};
 ghost use Rattle.answers.specs.Answers.{ran, run_answer};
-ghost use Rattle.answer_lines.specs.Halts.{answer_of};
+ghost use Rattle.command_words.specs.Halts.{answer_of};
 
 use crate::faults::put_fault;
 use crate::plan_task::PlanTask;
 use crate::ranges::starts_in_range;
 use answer_laws::runs_answer_on_cells;
-use answer_lines::Answer;
+use command_words::answer_lines::Answer;
+use loop_plan::planned_program::Planned;
 use op_num::OutOfMemory;
 use par_exec::{Crew, Gate};
-use planned_program::Planned;
-use planned_run::{Order, Outcome, run_on_ranks};
+use rank_exec::planned_run::{Order, Outcome, run_on_ranks};
 use std::alloc::Global;
 use std::marker::Sync;
 use std::thread::Threads;

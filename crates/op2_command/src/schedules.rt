@@ -2,19 +2,19 @@
 
 ghost use Rattle.std.specs.Prelude.{◌≡◌, ◌≤◌, length, option_map, slice_get, IfOk, IfErr, Ok};
 ghost use Rattle.bound_program.specs.Values.{bound_of};
-ghost use Rattle.planned_program.specs.Planned.{outline_of};
+ghost use Rattle.loop_plan.specs.Planned.{outline_of};
 ghost use Rattle.schedule_check.specs.Whole.{IsWhole};
 ghost use Rattle.schedule_steps.specs.Reading.{Reads};
-ghost use Rattle.answer_lines.specs.declared.limits.TheConstants.{SCHEDULE_BYTES};
+ghost use Rattle.command_words.specs.declared.answer_lines.limits.TheConstants.{SCHEDULE_BYTES};
 ghost use Rattle.answers.specs.Said.{SaysSchedule};
 ghost use Rattle.answers.specs.Judgements.{steps_in, end_line, IsTextRefused, IsStepRefused};
-ghost use Rattle.answer_lines.specs.Halts.{StopsWhere};
+ghost use Rattle.command_words.specs.Halts.{StopsWhere};
 ghost use Rattle.op2_command.specs.Chains.{CanRefuse, SaysFirst};
 
-use answer_lines::{Failure, Halt, Limit, Refusal, most};
+use command_words::answer_lines::{Failure, Halt, Limit, Refusal, most};
+use loop_plan::planned_program::Planned;
 use op_num::OutOfMemory;
-use planned_program::Planned;
-use planned_run::judge_list;
+use rank_exec::planned_run::judge_list;
 use schedule_check::ScheduleRefusal;
 use schedule_steps::text::{Line, ScheduleTextRefusal, read_schedule};
 use schedule_steps::{Peak, Step};

@@ -3,11 +3,11 @@
 ghost use Rattle.std.specs.Prelude.{◌≤◌, [], ◌∷◌, length};
 ghost use Rattle.op_outside.specs.Outside.{Rose};
 ghost use Rattle.answers.specs.Answers.{TranslateAnswers, RestoreAnswers};
-ghost use Rattle.answer_lines.specs.declared.limits.TheConstants.{SOURCE_BYTES};
+ghost use Rattle.command_words.specs.declared.answer_lines.limits.TheConstants.{SOURCE_BYTES};
 ghost use Rattle.job_inputs.specs.Chains.{AnswersBy, AnswersOver};
 ghost use Rattle.op2_command.specs.Chains.{TextTranslates, TextRestores};
 
-use answer_lines::{Answer, Halt, Limit};
+use command_words::answer_lines::{Answer, Halt, Limit};
 use job_inputs::kept_files::some_files_are_as_seen;
 use job_inputs::{restoration_of, sole_file, tokens_of, translation_of, tree_of_tokens};
 use op_outside::Shelf;

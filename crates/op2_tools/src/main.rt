@@ -1,7 +1,7 @@
 //! The program `op2-tools`: the words of its command line, over real files and streams.
 #![tactic(auto)]
 
-use answer_lines::{Line, report};
+use command_words::answer_lines::{Line, report};
 use op_outside::{FileShelf, OutSink};
 use std::process::ExitCode;
 use std::rt::Env;

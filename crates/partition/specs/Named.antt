@@ -2,7 +2,7 @@
 use Rattle.std.specs.Prelude.{◌≡◌, ℕ, ◌/◌, ◌<◌, List, [], length, slice_index, slice_index_or}
 use Rattle.mesh_decl.specs.Mesh.{MeshValue, set_size, map_to, map_dim}
 use Rattle.rank_sets.specs.Below.{count_below}
-use Rattle.rows.specs.Parts.{FillingValue}
+use Rattle.renumber.specs.Parts.{FillingValue}
 use Rattle.partition.specs.Elected.{names, entries, gathered}
 
 -- by map m, for each element the owners of those of the first e entries that name it, with room for all entries

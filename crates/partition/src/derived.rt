@@ -9,7 +9,7 @@ ghost use Rattle.partition.specs.Named.{AreNamed};
 use crate::elect::{most_frequent, most_frequent_or_block};
 use mesh_decl::Mesh;
 use op_num::OutOfMemory;
-use rows::{Filling, Rows};
+use renumber::rows::{Filling, Rows};
 use std::alloc::Global;
 
 // Puts the owners of an element's targets into a list.

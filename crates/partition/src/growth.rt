@@ -11,7 +11,7 @@ use crate::blocks::block_owner;
 use mesh_decl::Mesh;
 use op_num::OutOfMemory;
 use renumber::breadth_order::{inverse, unseen_neighbours};
-use rows::Rows;
+use renumber::rows::Rows;
 use std::alloc::Global;
 
 // The least element that isn't marked, where those below `from` are.

@@ -3,7 +3,7 @@ use Rattle.std.proofs.Common.{◌≡◌, ℕ, Bool, true, false, zero, suc, ◌<
 use Rattle.std.proofs.lemmas.Bool.{cases_eq, eqb-true}
 use Rattle.std.proofs.lemmas.List.{append_cancel_left}
 use Rattle.lemmas.proofs.Lists.{head_same, tail_same}
-use Rattle.line_texts.specs.Lines.{is_lf, HasNoLf}
+use Rattle.texts.specs.CutLines.{is_lf, HasNoLf}
 use Rattle.plan_cert.proofs.Lining.{no_lf_none, no_lf_behind}
 
 -- it holds, or it doesn't
@@ -45,7 +45,6 @@ below_known P h (suc n) = known_more P n (below_known P h n) (h n)
 -- ---- lists
 
 module _ {X : Type 0} where
-
   pub longer : (x : X) (xs : List X) → [] ≡ x ∷ xs → ⊥
   longer x xs e = let l : 0 ≡ suc (length xs) = ap length e in omega arith
 

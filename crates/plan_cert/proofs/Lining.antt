@@ -12,8 +12,8 @@ use Rattle.op_num.specs.Spelling.{number_of}
 use Rattle.texts.specs.Cut.{dark}
 use Rattle.texts.specs.Lines.{line_of}
 use Rattle.texts.proofs.Words.{number_token}
-use Rattle.line_texts.specs.Lines.{is_lf, is_space, words, HasNoLf, HasNoSpace}
-use Rattle.line_texts.proofs.Cutting.{one_line, one_cut}
+use Rattle.texts.specs.CutLines.{is_lf, is_space, words, HasNoLf, HasNoSpace}
+use Rattle.texts.proofs.line_texts.Cutting.{one_line, one_cut}
 use Rattle.loop_plan.specs.Spaced.{spaced}
 use Rattle.loop_plan.proofs.Lines.{line_is_spaced}
 use Rattle.lemmas.proofs.Lists.{list_all_cons}

@@ -21,7 +21,7 @@ use Rattle.loop_plan.specs.PlanText.{halo_line, item_line}
 use Rattle.loop_plan.specs.StepCounts.{exchange_of}
 use Rattle.loop_plan.specs.Proper.{Proper}
 use Rattle.loop_plan.specs.SitePlans.{AreSitePlans}
-use Rattle.plan_exists.specs.Laws.{PlansExist}
+use Rattle.loop_plan.specs.Laws.{PlansExist}
 use Rattle.plan_cert.specs.Awaited.{Exactly, Sizes, Done, header_line, done_line, awaited_halo, awaited_set, awaited_halos, awaited_sites, awaited_item, awaited_items, places_in, ColourLists, IsSizes, FitLines}
 use Rattle.plan_cert.specs.Certified.{all, colours_in, Certified, RefusedAmong, IsRefused}
 use Rattle.plan_cert.specs.Laws.{SomeOutcome}

@@ -37,7 +37,7 @@ pub fn some_outcome()
     ensures { SomeOutcome }
 {
     loop_plan::bound_is_in_range();
-    plan_exists::some_plan();
+    loop_plan::plan_exists::some_plan();
 }
 
 /// A law: least colours are below 2 ^ 32, on the local meshes of a program that fits.

@@ -15,7 +15,7 @@ use Rattle.schedule_model.specs.Kept.{kept_of, OfElements}
 use Rattle.flat_machine.specs.Layout.{Layout, by_place, message_cells}
 use Rattle.flat_machine.specs.Flat.{Flat, Shut_pane, flat_from}
 use Rattle.flat_machine.specs.Flat as flat
-use Rattle.closed_groups.specs.Closed.{AreAlike, closed, GroupsAreAlone}
+use Rattle.rank_exec.specs.Closed.{AreAlike, closed, GroupsAreAlone}
 use Rattle.rank_state.specs.Frames.{Pane, Shut, Broken, Holds, pane_at}
 use Rattle.rank_state.specs.Groups.{begins, Planned, AllShut, Distinct}
 use Rattle.rank_state.specs.Machine.{State}

@@ -5,7 +5,7 @@ use Rattle.std.proofs.lemmas.Bool.{cases_lt}
 use Rattle.schedule_steps.specs.declared.step.Step.{Step}
 use Rattle.schedule_steps.specs.declared.step.Step.TheVariants.{Begin, End}
 use Rattle.step_orders.specs.Alone.{alone}
-use Rattle.closed_groups.specs.Closed.{closed, RankGroup, all_closed, all_alone}
+use Rattle.rank_exec.specs.Closed.{closed, RankGroup, all_closed, all_alone}
 use Rattle.rank_machine.specs.OnRanks.{places_on}
 use Rattle.rank_exec.specs.Rounds.{round, elements}
 use Rattle.rank_exec.proofs.Telling.{groups_of, elements_closed, elements_alone, some_elements}

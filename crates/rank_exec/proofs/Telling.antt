@@ -7,7 +7,7 @@ use Rattle.step_orders.specs.Alone.{alone}
 use Rattle.schedule_model.specs.Setup.{Setup}
 use Rattle.flat_machine.specs.Layout.{Layout}
 use Rattle.flat_machine.specs.Flat.{Flat}
-use Rattle.closed_groups.specs.Closed.{closed, GroupsAreAlone, RankGroup, all_closed, all_alone}
+use Rattle.rank_exec.specs.Closed.{closed, GroupsAreAlone, RankGroup, all_closed, all_alone}
 use Rattle.rank_state.specs.Machine.{State}
 use Rattle.rank_state.specs.Shows.{Tables, Shows}
 use Rattle.rank_exec.specs.declared.stream.Told.{Told}

@@ -4,3 +4,7 @@ pub mod Tasks
 pub mod Rounds
 pub mod Runs
 pub mod Standing
+pub mod Closed
+pub mod Peaks
+pub mod Orders
+pub mod Room

@@ -5,7 +5,7 @@ use Rattle.schedule_steps.specs.declared.step.Step.TheVariants.{Send, Recv, Begi
 use Rattle.schedule_steps.specs.Steps.{IsStep}
 use Rattle.rank_exec.specs.declared.stream.Told.{Told}
 use Rattle.step_orders.specs.Alone.{alone}
-use Rattle.closed_groups.specs.Closed.{closed}
+use Rattle.rank_exec.specs.Closed.{closed}
 use Rattle.schedule_model.specs.Setup.{Setup}
 use Rattle.flat_machine.specs.Layout.{Layout, IsLayout, by_place}
 use Rattle.rank_state.specs.Indices.{values_at}

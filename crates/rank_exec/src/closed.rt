@@ -3,7 +3,7 @@
 ghost use Rattle.std.specs.Prelude.{◌≡◌, ◌++◌, ℕ, List};
 ghost use Rattle.kernel_types.specs.declared.faults.KernelFault.{KernelFault};
 ghost use Rattle.schedule_steps.specs.declared.step.Step.{Step};
-ghost use Rattle.closed_groups.specs.Closed.{closed, GroupsAreAlone};
+ghost use Rattle.rank_exec.specs.Closed.{closed, GroupsAreAlone};
 ghost use Rattle.flat_machine.specs.Flat.{Flat};
 ghost use Rattle.rank_state.specs.Shows.{Shows};
 ghost use Rattle.rank_program.specs.Rooms.{HasRoomOf};
@@ -42,7 +42,7 @@ pub fn run_group(
         (closed item rank places.now) machine.old machine.new }
     ensures space { HasRoomOf program.now room.new }
 {
-    closed_groups::places_stay_shut::<KernelFault>();
+    crate::closed_groups::places_stay_shut::<KernelFault>();
     run_places(machine, program, room, item, rank, places);
 }
 
@@ -65,7 +65,7 @@ pub fn run_told(
         (elements of.alone of.item of.rank places.now) machine.old machine.new }
     ensures space { HasRoomOf program.now room.new }
 {
-    closed_groups::places_stay_shut::<KernelFault>();
+    crate::closed_groups::places_stay_shut::<KernelFault>();
     run_places(machine, program, room, of.item, of.rank, places);
 }
 

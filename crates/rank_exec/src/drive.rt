@@ -102,7 +102,7 @@ fn run<R: Threads + Sync, G: Gate, S: Steps>(
 {
     schedule_steps::peak_is_room();
     rank_state::steps_are_ready::<KernelFault>();
-    closed_groups::closed_groups_are_alone::<KernelFault>();
+    crate::closed_groups::closed_groups_are_alone::<KernelFault>();
     let mut next = next_of(steps);
     while let Some(step) = next {
         if let Step::Begin { item, rank, place } = step {

@@ -2,7 +2,7 @@
 
 ghost use Rattle.std.specs.Prelude.{◌≡◌, ◌<◌, ◌≤◌, ◌++◌, ℕ, List, [], Some, IfOk, IfSome, length, vec_capacity};
 ghost use Rattle.schedule_steps.specs.declared.step.Step.{Step};
-ghost use Rattle.closed_groups.specs.Closed.{RankGroup, all_closed, all_alone};
+ghost use Rattle.rank_exec.specs.Closed.{RankGroup, all_closed, all_alone};
 ghost use Rattle.rank_machine.specs.OnRanks.{places_on};
 ghost use Rattle.rank_exec.specs.declared.stream.Told.{Told as ToldValue};
 ghost use Rattle.rank_exec.specs.Rounds.{round, elements, told};

@@ -5,7 +5,7 @@ ghost use Rattle.std.specs.Prelude.{IfOk, OnOk};
 ghost use Rattle.kernel_types.specs.declared.faults.KernelFault.{KernelFault};
 ghost use Rattle.schedule_steps.specs.declared.step.Step.{Step};
 ghost use Rattle.schedule_steps.specs.declared.step.Step.TheVariants.{Begin, End};
-ghost use Rattle.closed_groups.specs.Closed.{GroupsAreAlone};
+ghost use Rattle.rank_exec.specs.Closed.{GroupsAreAlone};
 ghost use Rattle.flat_machine.specs.Layout.{by_place};
 ghost use Rattle.flat_machine.specs.Flat.{Flat, flat_from};
 ghost use Rattle.rank_program.specs.Rooms.{HasRoomOf};

@@ -4,6 +4,7 @@
 mod alone;
 mod begins;
 mod closed;
+pub mod closed_groups;
 pub mod drive;
 mod gathering;
 mod group;
@@ -12,6 +13,7 @@ mod group_steps;
 mod hosts;
 mod joins;
 pub mod laws;
+pub mod planned_run;
 mod round_room;
 mod rounds;
 pub mod run_room;

@@ -5,10 +5,10 @@ ghost use Rattle.rank_program.specs.Rooms.{HasRoomOf};
 ghost use Rattle.rank_program.specs.Sound.{Sound};
 ghost use Rattle.rank_machine.specs.OnRanks.{places_on};
 
+use kernel_runs::worker_batches::BatchesRoom;
 use rank_machine::ranks::RankPart;
 use rank_program::{DistributedProgram, MOST_ARGS, MOST_COLUMNS, Room};
 use std::alloc::{AllocError, Global};
-use worker_batches::BatchesRoom;
 
 /// For each rank a list of places, and what elements are lent of it; for no rank where none come in rounds.
 #[derive(Drop)]

@@ -3,7 +3,7 @@
 ghost use Rattle.std.specs.Prelude.{◌≡◌, ◌<◌, ◌++◌, ◌^◌, ℕ, true, List, All, IfOk, IfSome, OnOk, length};
 ghost use Rattle.kernel_types.specs.declared.faults.KernelFault.{KernelFault};
 ghost use Rattle.schedule_steps.specs.declared.step.Step.{Step};
-ghost use Rattle.closed_groups.specs.Closed.{GroupsAreAlone};
+ghost use Rattle.rank_exec.specs.Closed.{GroupsAreAlone};
 ghost use Rattle.flat_machine.specs.Flat.{Flat};
 ghost use Rattle.rank_state.specs.Indices.{values_at};
 ghost use Rattle.rank_state.specs.Shows.{Shows};
@@ -114,8 +114,8 @@ fn run_told_round<R: Threads + Sync, G: Gate, S: Steps>(
     ensures lists { OnOk result (length room.new.round.lists.items ≡ length room.old.round.lists.items) }
     ensures parts { OnOk result (length room.new.round.parts.items ≡ length room.old.round.parts.items) }
 {
-    closed_groups::several_are_alone::<KernelFault>();
-    closed_groups::places_stay_shut::<KernelFault>();
+    crate::closed_groups::several_are_alone::<KernelFault>();
+    crate::closed_groups::places_stay_shut::<KernelFault>();
     rank_state::in_place_shows::<KernelFault>();
     clear_all(&mut room.round.lists);
     let next = gather(steps, of, &mut room.places, &mut room.round.lists)?;

@@ -1,7 +1,7 @@
 // Steps that come one after another.
 
 ghost use Rattle.std.specs.Prelude.{◌≡◌, ◌<◌, ◌++◌, [], None, length, vec_capacity, IfSome, IfNone};
-ghost use Rattle.closed_groups.specs.Closed.{closed};
+ghost use Rattle.rank_exec.specs.Closed.{closed};
 ghost use Rattle.rank_exec.specs.Driving.{to_come};
 ghost use Rattle.rank_exec.specs.Rounds.{elements};
 

@@ -7,13 +7,13 @@ ghost use Rattle.rank_state.specs.Stops.{stop_of, stop_in};
 ghost use Rattle.rank_program.specs.FromNone.{kept_both};
 ghost use Rattle.rank_machine.specs.OnRanks.{CanRunOn, RanOn, share_in, lent, kept_of_all, RanLent};
 
+use kernel_runs::worker_batches::Workers;
 use par_exec::{Crew, Gate, PartJob, run_parts};
 use rank_program::{DistributedProgram, RankElements, Room, run_places};
 use rank_state::rank_memory::stop::Stop;
 use std::marker::Sync;
 use std::mem::swap;
 use std::thread::Threads;
-use worker_batches::Workers;
 
 /// What elements are lent of their rank: its cells and partials, where they note their fault, and room for a step with the values
 /// of all constants.

@@ -7,13 +7,13 @@ use Rattle.mesh_decl.specs.declared.access.Via.{Via}
 use Rattle.kernel_types.specs.declared.views.frame.Place.{Place}
 use Rattle.bound_program.specs.declared.sites.Arg.{Arg}
 use Rattle.run_model.specs.Arguments.{access_by}
-use Rattle.row_batches.specs.declared.rows.RowColumn.{RowColumn}
-use Rattle.row_batches.specs.declared.rows.RowLoop.{RowLoop}
-use Rattle.row_batches.specs.Ways.{local_in}
-use Rattle.row_batches.specs.RowLoops.{Allows, column_at, way_of, OnDat}
-use Rattle.row_batches.specs.declared.batch_tables.args.LocalArg.{LocalArg}
-use Rattle.row_batches.specs.Alike.{arg_in, same_column, IsFirst}
-use Rattle.row_batches.specs.Tables.{place_at, local_at, IsShared, Opens}
+use Rattle.kernel_runs.specs.declared.row_batches.rows.RowColumn.{RowColumn}
+use Rattle.kernel_runs.specs.declared.row_batches.rows.RowLoop.{RowLoop}
+use Rattle.kernel_runs.specs.Ways.{local_in}
+use Rattle.kernel_runs.specs.RowLoops.{Allows, column_at, way_of, OnDat}
+use Rattle.kernel_runs.specs.declared.row_batches.batch_tables.args.LocalArg.{LocalArg}
+use Rattle.kernel_runs.specs.Alike.{arg_in, same_column, IsFirst}
+use Rattle.kernel_runs.specs.Tables.{place_at, local_at, IsShared, Opens}
 use Rattle.rank_program.proofs.RowArgs.{same_way_is, same_column_dat, same_column_way, are_same_column, column_sym, first_column_again}
 use Rattle.rank_program.proofs.RowWays.{IsOn, AreOn, AreTables, has_first}
 use Rattle.rank_program.proofs.RowWays as its

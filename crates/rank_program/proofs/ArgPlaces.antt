@@ -10,8 +10,8 @@ use Rattle.kernel_model.specs.Meaning.{target_at}
 use Rattle.local_mesh.specs.declared.types.RankMesh.{RankMesh}
 use Rattle.bound_program.specs.declared.sites.Arg.{Arg}
 use Rattle.bound_program.specs.declared.sites.Arg.TheVariants.{Dat, Global}
-use Rattle.row_batches.specs.declared.batch_tables.args.LocalArg.{LocalArg}
-use Rattle.row_batches.specs.Tables.{place_at}
+use Rattle.kernel_runs.specs.declared.row_batches.batch_tables.args.LocalArg.{LocalArg}
+use Rattle.kernel_runs.specs.Tables.{place_at}
 use Rattle.rank_program.specs.LocalArgs.{IsVia, IsArg, place_in, places_in}
 
 pub target_is : (ps : List Place) (a : ℕ) → target_at (map target_of ps) a ≡ target_of (place_at ps a)

@@ -18,8 +18,8 @@ use Rattle.rank_state.specs.declared.scalars.Scalar.{Scalar}
 use Rattle.rank_state.specs.declared.scalars.Scalar.TheVariants.{Value, Amount}
 use Rattle.rank_state.specs.Windows.{firsts, amounts}
 use Rattle.rank_program.specs.AloneRuns.{AllBegin, Share, RunsAt, Reaches}
-use Rattle.in_place.specs.Here.{FinishesHere}
-use Rattle.row_batches.specs.RowsRun.{RunsOne, RowsRun}
+use Rattle.kernel_runs.specs.Here.{FinishesHere}
+use Rattle.kernel_runs.specs.RowsRun.{RunsOne, RowsRun}
 use Rattle.rank_program.specs.declared.program.DistributedProgram.{DistributedProgram}
 use Rattle.rank_program.specs.declared.local_loops.LocalLoop.{LocalLoop}
 use Rattle.rank_program.specs.Batches.{Counts, reduces, GoesOn}

@@ -23,7 +23,7 @@ use Rattle.rank_state.specs.Shows.{AreWindows}
 use Rattle.rank_state.proofs.Counted.{windows_counted}
 use Rattle.rank_state.proofs.Scatters.{scattered_length}
 use Rattle.rank_program.specs.AloneRuns.{RunsAt}
-use Rattle.in_place.specs.Here.{core_on_gathered}
+use Rattle.kernel_runs.specs.Here.{core_on_gathered}
 use Rattle.rank_program.specs.declared.program.DistributedProgram.{DistributedProgram}
 use Rattle.rank_program.specs.Here.{scalars_in, merged_after}
 use Rattle.rank_program.specs.Sound.{Sound, program_in, setup_in, layout_in, tables_in, core_in}

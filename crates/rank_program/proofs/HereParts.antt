@@ -36,14 +36,14 @@ use Rattle.rank_state.specs.Spans.{Within, gathered}
 use Rattle.rank_state.specs.Windows.{scalar_cells, Marked}
 use Rattle.rank_state.specs.Shows.{AreWindows}
 use Rattle.rank_state.proofs.Counted.{windows_counted}
-use Rattle.in_place.specs.Saving.{place_cells}
-use Rattle.in_place.specs.InPlace.{NameTheSame}
-use Rattle.in_place.specs.Here.{IsHere, core_on_gathered}
+use Rattle.kernel_runs.specs.Saving.{place_cells}
+use Rattle.kernel_runs.specs.InPlace.{NameTheSame}
+use Rattle.kernel_runs.specs.Here.{IsHere, core_on_gathered}
 use Rattle.rank_program.specs.Keeping.{KeepsIn}
 use Rattle.rank_program.specs.declared.program.DistributedProgram.{DistributedProgram}
 use Rattle.rank_layout.specs.DatWindows.{spans_after, ArgHere}
 use Rattle.rank_program.specs.Here.{arg_stands, arg_place, behind, scalars_in}
-use Rattle.row_batches.specs.declared.batch_tables.args.LocalArg.{LocalArg}
+use Rattle.kernel_runs.specs.declared.row_batches.batch_tables.args.LocalArg.{LocalArg}
 use Rattle.rank_program.specs.LocalArgs.{AreArgs, InBuffer, places_in}
 use Rattle.rank_layout.specs.Numbered.{ArgThere}
 use Rattle.rank_layout.specs.Made.{writes_by}

@@ -24,9 +24,9 @@ use Rattle.bound_plan.specs.Windows.{dats_first, frame_cells, frame_windows}
 use Rattle.rank_state.specs.declared.spans.Span.{Span}
 use Rattle.rank_state.specs.Spans.{Within, total}
 use Rattle.rank_state.specs.Windows.{Marked}
-use Rattle.in_place.specs.Standing.{stands_at, is_written, Apart}
-use Rattle.in_place.specs.InPlace.{NameTheSame}
-use Rattle.in_place.proofs.Standings.{in_first, in_rest, first_written, rest_written, by_span, stands_within}
+use Rattle.kernel_runs.specs.Standing.{stands_at, is_written, Apart}
+use Rattle.kernel_runs.specs.InPlace.{NameTheSame}
+use Rattle.kernel_runs.proofs.in_place.Standings.{in_first, in_rest, first_written, rest_written, by_span, stands_within}
 use Rattle.rank_layout.specs.Made.{writes_by}
 use Rattle.rank_program.specs.Here.{span_place}
 use Rattle.rank_program.proofs.Buffer.{run_cells, buffer_cells}

@@ -7,9 +7,9 @@ use Rattle.kernel_code.specs.Coded.{IsCode}
 use Rattle.run_model.specs.Arguments.{modes_of}
 use Rattle.run_model.specs.Laws.{site_of}
 use Rattle.rank_state.specs.Windows.{Reads}
-use Rattle.row_batches.specs.declared.rows.RowLoop.{RowLoop}
-use Rattle.row_batches.specs.RowLoops.{LeadsFrom, RunsInRows}
-use Rattle.worker_batches.specs.Rounds.{CanRun}
+use Rattle.kernel_runs.specs.declared.row_batches.rows.RowLoop.{RowLoop}
+use Rattle.kernel_runs.specs.RowLoops.{LeadsFrom, RunsInRows}
+use Rattle.kernel_runs.specs.Rounds.{CanRun}
 use Rattle.rank_program.specs.declared.local_loops.LocalLoop.{LocalLoop}
 use Rattle.rank_program.specs.Batches.{BeginsAt, IsRowLoop}
 use Rattle.rank_program.specs.LocalArgs.{places_in}

@@ -9,10 +9,10 @@ use Rattle.local_mesh.specs.declared.types.RankMesh.{RankMesh}
 use Rattle.bound_program.specs.declared.sites.Arg.{Arg}
 use Rattle.bound_program.specs.declared.sites.Arg.TheVariants.{Dat, Global}
 use Rattle.run_model.specs.Arguments.{no_arg}
-use Rattle.row_batches.specs.declared.batch_tables.args.LocalArg.{LocalArg}
+use Rattle.kernel_runs.specs.declared.row_batches.batch_tables.args.LocalArg.{LocalArg}
 use Rattle.rank_layout.specs.DatWindows.{local_by, ArgHere}
 use Rattle.rank_program.specs.Here.{arg_place}
-use Rattle.row_batches.specs.Ways.{local_in}
+use Rattle.kernel_runs.specs.Ways.{local_in}
 use Rattle.rank_program.specs.LocalArgs.{IsArg, AreArgs, InBuffer, place_in, places_in}
 
 module _ (x : ℕ) where

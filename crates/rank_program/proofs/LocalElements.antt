@@ -24,8 +24,8 @@ use Rattle.rank_state.specs.Frames.{pane_after, closed}
 use Rattle.rank_state.specs.Machine.{noted}
 use Rattle.rank_state.specs.Shows.{AreWindows}
 use Rattle.rank_program.specs.AloneRuns.{RunsAt}
-use Rattle.in_place.specs.Saving.{place_cells}
-use Rattle.in_place.specs.Here.{IsHere, core_on_gathered}
+use Rattle.kernel_runs.specs.Saving.{place_cells}
+use Rattle.kernel_runs.specs.Here.{IsHere, core_on_gathered}
 use Rattle.rank_program.specs.declared.program.DistributedProgram.{DistributedProgram}
 use Rattle.rank_program.specs.declared.local_loops.LocalLoop.{LocalLoop}
 use Rattle.rank_program.specs.Here.{arg_place, scalars_in, merged_after}

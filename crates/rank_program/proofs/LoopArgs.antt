@@ -18,10 +18,10 @@ use Rattle.run_model.specs.Laws as the
 use Rattle.bound_plan.specs.Laws.{FramesAreReached}
 use Rattle.bound_plan.specs.Places.{original_at, cell_at}
 use Rattle.bound_plan.proofs.Trace.{class_is}
-use Rattle.row_batches.specs.Ways.{local_in}
-use Rattle.row_batches.specs.declared.batch_tables.args.LocalArg.{LocalArg}
-use Rattle.row_batches.specs.Alike.{arg_in, same_column}
-use Rattle.row_batches.specs.Tables.{local_at}
+use Rattle.kernel_runs.specs.Ways.{local_in}
+use Rattle.kernel_runs.specs.declared.row_batches.batch_tables.args.LocalArg.{LocalArg}
+use Rattle.kernel_runs.specs.Alike.{arg_in, same_column}
+use Rattle.kernel_runs.specs.Tables.{local_at}
 use Rattle.rank_layout.specs.DatWindows.{local_by, ArgHere}
 use Rattle.rank_layout.specs.StepLaws.{IsBegin, StepsStand}
 use Rattle.rank_layout.specs.WindowLaws.{arg_span, IsPlaceOf, ArgsAreHere, ArgsHaveCells, ElementWindowsStand}

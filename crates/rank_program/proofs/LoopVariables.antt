@@ -17,9 +17,9 @@ use Rattle.bound_plan.specs.Laws.{FramesAreReached}
 use Rattle.bound_plan.specs.Places.{cell_at}
 use Rattle.bound_plan.specs.Variables.{variable_at}
 use Rattle.rank_state.specs.Windows.{scalar_cells}
-use Rattle.row_batches.specs.declared.batch_tables.args.LocalArg.{LocalArg}
-use Rattle.row_batches.specs.Alike.{arg_in}
-use Rattle.row_batches.specs.Tables.{place_at, local_at}
+use Rattle.kernel_runs.specs.declared.row_batches.batch_tables.args.LocalArg.{LocalArg}
+use Rattle.kernel_runs.specs.Alike.{arg_in}
+use Rattle.kernel_runs.specs.Tables.{place_at, local_at}
 use Rattle.rank_layout.specs.StepLaws.{StepsStand}
 use Rattle.rank_layout.specs.WindowLaws.{ArgsAreHere, ArgsHaveCells, ElementWindowsStand}
 use Rattle.rank_program.specs.declared.program.DistributedProgram.{DistributedProgram}

@@ -23,8 +23,8 @@ use Rattle.rank_state.specs.declared.scalars.Operation.{Operation}
 use Rattle.rank_state.specs.declared.scalars.Scalar.{Scalar}
 use Rattle.rank_state.specs.declared.scalars.Scalar.TheVariants.{Value, Amount}
 use Rattle.rank_state.specs.Windows.{operation}
-use Rattle.row_batches.specs.RowLoops.{Allows, AllowsScalar}
-use Rattle.row_batches.specs.Alike.{arg_in, same_via, same_way, same_column, may_meet, IsFirst}
+use Rattle.kernel_runs.specs.RowLoops.{Allows, AllowsScalar}
+use Rattle.kernel_runs.specs.Alike.{arg_in, same_via, same_way, same_column, may_meet, IsFirst}
 
 -- ---- ways
 

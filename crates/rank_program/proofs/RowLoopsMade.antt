@@ -26,12 +26,12 @@ use Rattle.bound_plan.specs.Laws.{FramesAreReached}
 use Rattle.bound_plan.specs.Places.{original_at, cell_at}
 use Rattle.bound_plan.specs.Variables.{variable_at}
 use Rattle.rank_layout.specs.Made.{EachIsScalar}
-use Rattle.row_batches.specs.declared.rows.RowLoop.{RowLoop}
-use Rattle.row_batches.specs.Ways.{local_in}
-use Rattle.row_batches.specs.RowLoops.{AllowsScalar, scalar_in, width, column_access, OnDat, OnVariable, NeverMeet, ReduceApart, RunsInRows, IsModified, MergeAlike}
-use Rattle.row_batches.specs.declared.batch_tables.args.LocalArg.{LocalArg}
-use Rattle.row_batches.specs.Alike.{arg_in}
-use Rattle.row_batches.specs.Tables.{place_at, local_at, scalar_place}
+use Rattle.kernel_runs.specs.declared.row_batches.rows.RowLoop.{RowLoop}
+use Rattle.kernel_runs.specs.Ways.{local_in}
+use Rattle.kernel_runs.specs.RowLoops.{AllowsScalar, scalar_in, width, column_access, OnDat, OnVariable, NeverMeet, ReduceApart, RunsInRows, IsModified, MergeAlike}
+use Rattle.kernel_runs.specs.declared.row_batches.batch_tables.args.LocalArg.{LocalArg}
+use Rattle.kernel_runs.specs.Alike.{arg_in}
+use Rattle.kernel_runs.specs.Tables.{place_at, local_at, scalar_place}
 use Rattle.rank_layout.specs.DatWindows.{local_by}
 use Rattle.rank_layout.specs.StepLaws.{IsBegin, StepsStand}
 use Rattle.rank_layout.specs.WindowLaws.{ArgsAreHere, ArgsHaveCells, ElementWindowsStand}

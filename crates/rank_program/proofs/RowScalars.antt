@@ -20,7 +20,7 @@ use Rattle.rank_state.specs.declared.scalars.Scalar.TheVariants.{Value, Amount}
 use Rattle.rank_state.specs.Windows.{operation, index, scalar_cells}
 use Rattle.rank_layout.specs.Tables.{slots, no_slot}
 use Rattle.rank_layout.specs.Made.{IsSiteScalar, EachIsScalar}
-use Rattle.row_batches.specs.RowLoops.{AllowsScalar, scalar_in, MergeAlike}
+use Rattle.kernel_runs.specs.RowLoops.{AllowsScalar, scalar_in, MergeAlike}
 use Rattle.rank_program.proofs.RowArgs.{scalar_allows}
 
 operation_one : (a b : Operation) → operation a ≡ operation b → a ≡ b

@@ -9,13 +9,13 @@ use Rattle.bound_program.specs.declared.sites.Arg.{Arg}
 use Rattle.bound_program.specs.declared.sites.Arg.TheVariants.{Dat}
 use Rattle.bound_program.specs.declared.sites.Class.TheVariants as class
 use Rattle.bound_program.specs.Classes.{class_of}
-use Rattle.row_batches.specs.declared.rows.RowLoop.{RowLoop}
-use Rattle.row_batches.specs.Ways.{HasTarget, local_in}
-use Rattle.row_batches.specs.RowLoops.{column_at}
-use Rattle.row_batches.specs.declared.batch_tables.args.LocalArg.{LocalArg}
-use Rattle.row_batches.specs.Alike.{arg_in, same_way, IsFirst}
-use Rattle.row_batches.specs.Tables.{via_of, local_at, AreWays, AreColumns, ArePairs, IsStored}
-use Rattle.row_batches.proofs.batch_tables.Firsts.{unique}
+use Rattle.kernel_runs.specs.declared.row_batches.rows.RowLoop.{RowLoop}
+use Rattle.kernel_runs.specs.Ways.{HasTarget, local_in}
+use Rattle.kernel_runs.specs.RowLoops.{column_at}
+use Rattle.kernel_runs.specs.declared.row_batches.batch_tables.args.LocalArg.{LocalArg}
+use Rattle.kernel_runs.specs.Alike.{arg_in, same_way, IsFirst}
+use Rattle.kernel_runs.specs.Tables.{via_of, local_at, AreWays, AreColumns, ArePairs, IsStored}
+use Rattle.kernel_runs.proofs.row_batches.batch_tables.Firsts.{unique}
 use Rattle.rank_program.proofs.RowArgs.{same_way_is, same_way_of, first_way_again}
 
 -- each argument has a first one that is like it

@@ -3,7 +3,7 @@ use Rattle.std.proofs.Common.{◌≡◌, List, sym, subst}
 use Rattle.local_mesh.specs.declared.types.RankMesh.{RankMesh}
 use Rattle.local_mesh.specs.declared.lists.LocalLists.{LocalLists}
 use Rattle.bound_program.specs.Values.{bound_of}
-use Rattle.planned_program.specs.Planned.{PlannedValue, FitTogether}
+use Rattle.loop_plan.specs.Planned.{PlannedValue, FitTogether}
 use Rattle.rank_layout.specs.MessageLaws.{HasLists}
 use Rattle.rank_program.specs.Runnables.{HasLocalLists}
 

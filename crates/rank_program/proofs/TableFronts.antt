@@ -2,10 +2,10 @@
 use Rattle.std.proofs.Common.{◌≡◌, ◌<◌, ◌+◌, ℕ, List, length, get_or, Option, sym, ◌∙◌, subst, arith}
 use Rattle.kernel_types.specs.declared.views.frame.Place.{Place}
 use Rattle.bound_program.specs.declared.sites.Arg.{Arg}
-use Rattle.row_batches.specs.declared.rows.RowColumn.{RowColumn}
-use Rattle.row_batches.specs.RowLoops.{no_column}
-use Rattle.row_batches.specs.declared.batch_tables.args.LocalArg.{LocalArg}
-use Rattle.row_batches.specs.Tables.{place_at, no_pair, ArePairs, AreColumns}
+use Rattle.kernel_runs.specs.declared.row_batches.rows.RowColumn.{RowColumn}
+use Rattle.kernel_runs.specs.RowLoops.{no_column}
+use Rattle.kernel_runs.specs.declared.row_batches.batch_tables.args.LocalArg.{LocalArg}
+use Rattle.kernel_runs.specs.Tables.{place_at, no_pair, ArePairs, AreColumns}
 
 pub columns_front : (args : List Arg) (locals : List (Option LocalArg)) (numbers : List ℕ) (table front : List RowColumn) (places : List Place) (n count : ℕ)
     → AreColumns args locals numbers table places n count → length front ≡ count → ((c : ℕ) → c < count → get_or front c no_column ≡ get_or table c no_column)

@@ -10,8 +10,8 @@ use Rattle.run_model.specs.Arguments.{modes_of}
 use Rattle.run_model.specs.Laws.{site_of}
 use Rattle.rank_state.specs.declared.scalars.Scalar.{Scalar}
 use Rattle.rank_state.specs.declared.scalars.Scalar.TheVariants.{Value, Amount}
-use Rattle.row_batches.specs.declared.rows.RowLoop.{RowLoop}
-use Rattle.row_batches.specs.RowLoops.{width, IsWhole, LeadsFrom, RunsInRows}
+use Rattle.kernel_runs.specs.declared.row_batches.rows.RowLoop.{RowLoop}
+use Rattle.kernel_runs.specs.RowLoops.{width, IsWhole, LeadsFrom, RunsInRows}
 use Rattle.rank_program.specs.AloneRuns.{Share, Reaches}
 use Rattle.rank_program.specs.Rooms.{most_ways, most_columns}
 use Rattle.rank_program.specs.declared.local_loops.LocalLoop.{LocalLoop}

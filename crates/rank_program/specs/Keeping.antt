@@ -13,9 +13,9 @@ use Rattle.run_model.specs.Laws.{site_of}
 use Rattle.run_model.specs.Programs.{item_at, loop_of}
 use Rattle.run_model.specs.Ranges.{AllObey}
 use Rattle.rank_state.specs.declared.spans.Span.{Span}
-use Rattle.in_place.specs.InPlace.{LeavesUnwritten}
-use Rattle.in_place.specs.Leaving.{InWindows}
-use Rattle.in_place.specs.Standing.{is_written}
+use Rattle.kernel_runs.specs.InPlace.{LeavesUnwritten}
+use Rattle.kernel_runs.specs.Leaving.{InWindows}
+use Rattle.kernel_runs.specs.Standing.{is_written}
 use Rattle.rank_program.specs.declared.program.DistributedProgram.{DistributedProgram}
 use Rattle.rank_program.specs.Sound.{program_in}
 

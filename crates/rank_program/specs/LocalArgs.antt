@@ -8,9 +8,9 @@ use Rattle.local_mesh.specs.declared.types.RankMesh.{RankMesh}
 use Rattle.bound_program.specs.declared.sites.Arg.{Arg}
 use Rattle.bound_program.specs.declared.sites.Arg.TheVariants.{Dat, Global}
 use Rattle.rank_layout.specs.DatWindows.{local_by, ViaHere}
-use Rattle.row_batches.specs.declared.ways.LocalVia.{LocalVia}
-use Rattle.row_batches.specs.Ways.{HasTarget, local_in}
-use Rattle.row_batches.specs.declared.batch_tables.args.LocalArg.{LocalArg}
+use Rattle.kernel_runs.specs.declared.row_batches.ways.LocalVia.{LocalVia}
+use Rattle.kernel_runs.specs.Ways.{HasTarget, local_in}
+use Rattle.kernel_runs.specs.declared.row_batches.batch_tables.args.LocalArg.{LocalArg}
 
 module _ (x : ℕ) where
   -- where the argument's cells stand for a place; those of one on a variable stand where they stood

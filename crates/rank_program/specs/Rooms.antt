@@ -1,6 +1,6 @@
 -- Enough room for what steps need on their way.
 use Rattle.std.specs.Prelude.{◌≡◌, ◌≤◌, ℕ, length, vec_capacity}
-use Rattle.row_batches.specs.RowLoops.{HasRowRoom}
+use Rattle.kernel_runs.specs.RowLoops.{HasRowRoom}
 use Rattle.rank_program.specs.declared.program.DistributedProgram.{DistributedProgram}
 use Rattle.rank_program.specs.declared.room.KernelRoom.{KernelRoom}
 use Rattle.rank_program.specs.declared.room.Room.{Room}

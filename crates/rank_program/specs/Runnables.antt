@@ -3,7 +3,7 @@ use Rattle.std.specs.Prelude.{◌≡◌, List}
 use Rattle.local_mesh.specs.declared.lists.LocalLists.{LocalLists}
 use Rattle.local_mesh.specs.Lists.{AreLocalLists}
 use Rattle.bound_program.specs.Values.{bound_of}
-use Rattle.planned_program.specs.Planned.{PlannedValue}
+use Rattle.loop_plan.specs.Planned.{PlannedValue}
 use Rattle.rank_program.specs.declared.program.DistributedProgram.{DistributedProgram}
 use Rattle.rank_program.specs.Sound.{program_in, plan_in}
 

@@ -12,9 +12,9 @@ use crate::here::run_here;
 use crate::local_loops::local_loop;
 use crate::rank_elements::RankElements;
 use crate::room::Room;
+use kernel_runs::worker_batches::AtOnce;
 use rank_layout::MAX_ARGS;
 use rank_state::rank_memory::stop::Stop;
-use worker_batches::AtOnce;
 
 // Puts so many cells behind those of a buffer, which has the capacity.
 fn lengthen(memory: &mut Vec<i32>, count: usize)

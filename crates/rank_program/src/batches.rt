@@ -2,7 +2,7 @@
 
 ghost use Rattle.std.specs.Prelude.{◌≡◌, ◌<◌, ◌≤◌, ◌+◌, length};
 ghost use Rattle.rank_program.specs.Rooms.{most_ways, most_columns};
-ghost use Rattle.row_batches.specs.RowLoops.{HasRowRoom};
+ghost use Rattle.kernel_runs.specs.RowLoops.{HasRowRoom};
 ghost use Rattle.rank_program.specs.Batches.{CanRunInRows, GoesOn};
 ghost use Rattle.rank_program.specs.LocalRuns.{CanRunHere, AllBeginHere, HasLoopRoom, IsLent, StaysLent, share_in};
 
@@ -14,10 +14,10 @@ use crate::room::{KernelRoom, MOST_COLUMNS};
 use crate::row_loops::{LoopInRows, MOST_PAIRS, no_column, row_loop};
 use crate::share::RankShare;
 use kernel_columns::ROWS;
+use kernel_runs::row_batches::{FEWEST, RowRoom, run_batch};
+use kernel_runs::worker_batches::{AtOnce, batch_at};
 use kernel_types::views::Place;
 use rank_layout::{MAX_ARGS, element_windows_stand, steps_stand, windows_stand};
-use row_batches::{FEWEST, RowRoom, run_batch};
-use worker_batches::{AtOnce, batch_at};
 
 // Runs the kernel of a loop for elements at its places from `at` on at once: for as many of so many, at most 64, as run in rows. Answers
 // how many ran, from the first on. None of them has a fault.
@@ -45,7 +45,7 @@ fn run_rows(
     windows_stand();
     element_windows_stand();
     bound_plan::frames_are_reached();
-    in_place::finishes_here();
+    kernel_runs::in_place::finishes_here();
     if !all_count(run.local, at, count) {
         return 0;
     }

@@ -22,12 +22,12 @@ use crate::local_args::put_places;
 use crate::local_loops::LocalLoop;
 use crate::room::KernelRoom;
 use crate::share::RankShare;
+use kernel_runs::worker_batches::AtOnce;
 use kernel_types::KernelFault;
 use kernel_types::views::Place;
 use rank_layout::{MAX_ARGS, element_windows_stand, put_windows, steps_stand, windows_stand};
 use rank_state::rank_memory::scalars::{fill, merge_amounts};
 use rank_state::rank_memory::stop::{Stop, least};
-use worker_batches::AtOnce;
 
 // Puts down where windows stand behind so many cells, which stood behind so many others.
 fn move_behind(width: usize, others: usize, windows: &[Place], places: &mut Vec<Place>)
@@ -140,7 +140,7 @@ fn run_element(
     let cells = room.places.as_mut_slice();
     put_places(local.args, place, cells);
     fill(local.variables, local.scalars, width, memory);
-    let fault = in_place::run_here(
+    let fault = kernel_runs::in_place::run_here(
         local.code,
         memory,
         cells,

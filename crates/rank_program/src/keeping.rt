@@ -7,5 +7,5 @@ pub fn kernels_keep_reads()
     ensures obeying { ObeyingKeep }
     ensures unstoring { UnstoringKeep }
 {
-    in_place::unwritten_stay();
+    kernel_runs::in_place::unwritten_stay();
 }

@@ -12,10 +12,10 @@ use crate::local_args::put_local_args;
 use crate::program::DistributedProgram;
 use crate::rank_elements::RankElements;
 use kernel_code::Code;
+use kernel_runs::row_batches::batch_tables::LocalArg;
 use local_mesh::RankMesh;
 use rank_layout::{MachineTables, element_windows_stand, row_of, steps_stand, windows_stand};
 use rank_state::Scalar;
-use row_batches::batch_tables::LocalArg;
 
 /// The loop of an item on a rank over some of its elements, with the values that its kernel reads.
 #[derive(Drop)]

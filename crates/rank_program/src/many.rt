@@ -7,8 +7,8 @@ ghost use Rattle.rank_program.specs.LocalRuns.{IsLent, StaysLent, share_in};
 use crate::counts::all_count;
 use crate::row_loops::LoopInRows;
 use crate::share::RankShare;
+use kernel_runs::worker_batches::{AtOnce, BatchesRoom};
 use rank_layout::{element_windows_stand, steps_stand, windows_stand};
-use worker_batches::{AtOnce, BatchesRoom};
 
 // So many places of a list from one on.
 fn part_at(places: &[u32], at: usize, count: usize) -> &[u32]
@@ -43,7 +43,7 @@ fn run_from<H: AtOnce>(
     windows_stand();
     element_windows_stand();
     bound_plan::frames_are_reached();
-    in_place::finishes_here();
+    kernel_runs::in_place::finishes_here();
     if !all_count(run.local, at, count) {
         return 0;
     }

@@ -4,7 +4,7 @@ ghost use Rattle.std.specs.Prelude.{◌≡◌, true, IfOk};
 ghost use Rattle.kernel_code.specs.Codes.{AreCodesOf};
 ghost use Rattle.bound_program.specs.Values.{bound_of};
 ghost use Rattle.run_model.specs.Ranges.{AllObey};
-ghost use Rattle.host_acts.specs.Variables.{VarsBegin};
+ghost use Rattle.gather.specs.Variables.{VarsBegin};
 ghost use Rattle.rank_state.specs.Starting.{AreSlots, ArePlaces};
 ghost use Rattle.rank_program.specs.Sound.{Sound, program_in, setup_in, layout_in, tables_in};
 ghost use Rattle.rank_program.specs.Runnables.{HasLocalLists, IsProgramOf};
@@ -13,9 +13,9 @@ use bound_program::Bound;
 use kernel_code::{Code, room_for};
 use local_mesh::{LocalLists, RankMesh};
 use loop_plan::Plan;
+use loop_plan::planned_program::Planned;
 use mesh_decl::Owners;
 use op_num::OutOfMemory;
-use planned_program::Planned;
 use rank_layout::{
     MachineTables, element_windows_stand, exports_are_few, first_cells_stand, first_variables,
     most_spans, places_stand, rooms_stand, slots_stand, steps_stand, tables_are_indexed,

@@ -5,11 +5,11 @@ ghost use Rattle.rank_program.specs.Rooms.{HasKernelRoom, HasRoomOf};
 ghost use Rattle.rank_program.specs.Sound.{Sound};
 
 use crate::program::DistributedProgram;
+use kernel_runs::row_batches::RowRoom;
+use kernel_runs::worker_batches::BatchesRoom;
 use kernel_types::views::Place;
 use rank_state::{Owned, Span};
-use row_batches::RowRoom;
 use std::alloc::{AllocError, Global};
-use worker_batches::BatchesRoom;
 
 /// Room for runs of kernels: where their arguments stand, their locals, the cells that they may spoil, a batch of elements, and batches
 /// that several workers run at once. What stands there means nothing between two steps.

@@ -12,11 +12,13 @@ use crate::room::MOST_COLUMNS;
 use bound_program::Item;
 use kernel_code::Code;
 use kernel_columns::is_straight;
+use kernel_runs::row_batches::batch_tables::{
+    put_columns, put_pairs, put_scalars, put_ways, stores,
+};
+use kernel_runs::row_batches::{LocalVia, RowColumn, RowLoop};
 use kernel_types::views::Place;
 use op_num::reductions::Access;
 use rank_layout::{MAX_ARGS, element_windows_stand, steps_stand, windows_stand};
-use row_batches::batch_tables::{put_columns, put_pairs, put_scalars, put_ways, stores};
-use row_batches::{LocalVia, RowColumn, RowLoop};
 
 /// As many pairs as a loop has of different arguments at most.
 pub const MOST_PAIRS: usize = MAX_ARGS * (MAX_ARGS - 1) / 2;

@@ -7,3 +7,4 @@ pub mod Keys
 pub mod Degrees
 pub mod Unseen
 pub mod OneOrder
+pub mod Parts

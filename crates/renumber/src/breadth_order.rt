@@ -16,6 +16,7 @@ mod keys;
 mod laws;
 mod neighbours;
 
+use crate::rows::Rows;
 pub use by_target::inverse;
 use counts::degrees;
 pub use keys::by_keys;
@@ -23,7 +24,6 @@ pub use laws::one_taking_order;
 use mesh_decl::Mesh;
 pub use neighbours::unseen_neighbours;
 use op_num::OutOfMemory;
-use rows::Rows;
 use std::alloc::Global;
 
 // Takes the neighbours of the element at a place that aren't taken, by (key, number); `found` is a scratch list.

@@ -10,6 +10,7 @@ pub mod breadth_order;
 mod by_targets;
 mod laws;
 mod orders;
+pub mod rows;
 
 use crate::breadth_order::taking_order;
 pub use laws::one_numbering;

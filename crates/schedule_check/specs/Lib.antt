@@ -4,3 +4,6 @@ pub mod ItemMarks
 pub mod Mail
 pub mod PlanChecking
 pub mod Whole
+pub mod Messages
+pub mod Runs
+pub mod Shape

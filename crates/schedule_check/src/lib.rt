@@ -7,6 +7,7 @@ mod items;
 mod marks;
 mod pairs;
 mod places;
+pub mod plan_orders;
 mod rows;
 mod whole;
 

@@ -2,3 +2,4 @@ pub mod Cut
 pub mod Short
 pub mod Lines
 pub mod Automaton
+pub mod CutLines

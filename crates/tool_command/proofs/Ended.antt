@@ -1,9 +1,9 @@
 -- How a call ends.
 use Rattle.std.proofs.Common.{◌≡◌, ℕ, inl, inr, Err}
 use Rattle.op_outside.specs.Outside.{Rose}
-use Rattle.answer_lines.specs.Lines.{Answer}
-use Rattle.answer_lines.specs.declared.refusals.Failure.{Failure}
-use Rattle.answer_lines.specs.declared.refusals.Failure.TheVariants.{Unread, OutOfMemory}
+use Rattle.command_words.specs.Lines.{Answer}
+use Rattle.command_words.specs.declared.answer_lines.refusals.Failure.{Failure}
+use Rattle.command_words.specs.declared.answer_lines.refusals.Failure.TheVariants.{Unread, OutOfMemory}
 use Rattle.answers.specs.Endings as ending
 use Rattle.answers.specs.Endings.{Answered, Unwritten, Call, IsReported, Writes, ending_status, ending_line, ending_of}
 use Rattle.tool_command.specs.Endings.{Tells, CallAnswers, Ends}

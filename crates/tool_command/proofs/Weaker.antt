@@ -1,11 +1,11 @@
 -- What is answered, where it follows.
 use Rattle.std.proofs.Common.{Result, Ok, Err}
-use Rattle.answer_lines.specs.Lines as lines
-use Rattle.answer_lines.specs.Lines.{refused}
-use Rattle.answer_lines.specs.declared.call_answer.Answer.{Answer}
-use Rattle.answer_lines.specs.declared.refusals.Halt.{Halt}
-use Rattle.answer_lines.specs.Halts.{answer_of}
-use Rattle.answer_lines.proofs.Halts.{stops_weaker}
+use Rattle.command_words.specs.Lines as lines
+use Rattle.command_words.specs.Lines.{refused}
+use Rattle.command_words.specs.declared.answer_lines.call_answer.Answer.{Answer}
+use Rattle.command_words.specs.declared.answer_lines.refusals.Halt.{Halt}
+use Rattle.command_words.specs.Halts.{answer_of}
+use Rattle.command_words.proofs.answer_lines.Halts.{stops_weaker}
 use Rattle.job_inputs.specs.Chains.{AnswersBy}
 
 pub by_weaker : (P Q : lines.Answer → Type 0) (r : Result Answer Halt) → ((a : lines.Answer) → P a → Q a) → AnswersBy P r → AnswersBy Q r

@@ -2,13 +2,13 @@
 use Rattle.std.specs.Prelude.{◌≡◌, ℕ, ◌⊎◌, List, [], ◌∷◌, ◌++◌, All, Option, Some, None, Result, Ok, Err}
 use Rattle.std.specs.List.{Contains}
 use Rattle.op_outside.specs.Outside.{Files, Rose, appended, AppendsFront}
-use Rattle.answer_lines.specs.Lines.{Answer, refused}
-use Rattle.answer_lines.specs.Halts.{answer_of, refusal_of}
-use Rattle.answer_lines.specs.declared.refusals.Halt.{Halt}
-use Rattle.answer_lines.specs.declared.refusals.Halt.TheVariants.{Refused, Failed}
-use Rattle.answer_lines.specs.declared.call_answer.Answer.{Answer as Given}
-use Rattle.answer_lines.specs.declared.refusals.Failure.{Failure}
-use Rattle.answer_lines.specs.declared.refusals.Failure.TheVariants as failure
+use Rattle.command_words.specs.Lines.{Answer, refused}
+use Rattle.command_words.specs.Halts.{answer_of, refusal_of}
+use Rattle.command_words.specs.declared.answer_lines.refusals.Halt.{Halt}
+use Rattle.command_words.specs.declared.answer_lines.refusals.Halt.TheVariants.{Refused, Failed}
+use Rattle.command_words.specs.declared.answer_lines.call_answer.Answer.{Answer as Given}
+use Rattle.command_words.specs.declared.answer_lines.refusals.Failure.{Failure}
+use Rattle.command_words.specs.declared.answer_lines.refusals.Failure.TheVariants as failure
 use Rattle.answers.specs.Endings.{Ending, Answered, OutOfMemory, Unread, Unwritten, Call, ending_status, ending_line}
 use Rattle.answers.specs.Endings.{HoldAll, IsReported, IsWritten}
 use Rattle.command_words.specs.Words.{Options, names_by, names_in_blocks, named_by}

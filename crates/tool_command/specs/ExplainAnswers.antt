@@ -8,8 +8,8 @@ use Rattle.explanations.specs.Explanation.{said}
 use Rattle.explanations.specs.Wrong.{said_wrong}
 use Rattle.command_words.specs.Refusal.{CannotRead}
 use Rattle.command_words.specs.Words.{named_by}
-use Rattle.answer_lines.specs.declared.limits.TheConstants.{SOURCE_BYTES}
-use Rattle.answer_lines.specs.Lines.{Answer, done, refused}
+use Rattle.command_words.specs.declared.answer_lines.limits.TheConstants.{SOURCE_BYTES}
+use Rattle.command_words.specs.Lines.{Answer, done, refused}
 use Rattle.answers.specs.Answers.{Answers}
 use Rattle.tool_command.specs.Named.{source_by, program_by}
 use Rattle.tool_command.specs.Loops.{LoopOf}

@@ -2,10 +2,10 @@
 use Rattle.std.specs.Prelude.{◌≡◌, ℕ, ◌<◌, ◌⊎◌, List, length, All, Option, IsSomeAnd}
 use Rattle.std.specs.List.{Contains}
 use Rattle.op_outside.specs.Outside.{Files, Holds, Lacks}
-use Rattle.answer_lines.specs.Halts.{refusal_of}
-use Rattle.answer_lines.specs.declared.refusals.Halt.{Halt}
-use Rattle.answer_lines.specs.declared.refusals.Halt.TheVariants.{Refused, Failed}
-use Rattle.answer_lines.specs.declared.refusals.Failure.TheVariants.{Unread, OutOfMemory}
+use Rattle.command_words.specs.Halts.{refusal_of}
+use Rattle.command_words.specs.declared.answer_lines.refusals.Halt.{Halt}
+use Rattle.command_words.specs.declared.answer_lines.refusals.Halt.TheVariants.{Refused, Failed}
+use Rattle.command_words.specs.declared.answer_lines.refusals.Failure.TheVariants.{Unread, OutOfMemory}
 use Rattle.command_words.specs.Refusal.{CannotRead}
 use Rattle.tool_command.specs.declared.explain.held.TheConstants.{MOST_BYTES}
 

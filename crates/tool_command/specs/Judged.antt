@@ -2,7 +2,7 @@
 use Rattle.std.specs.Prelude.{◌≡◌, ℕ, nat_eq, List, [], ◌∷◌, Option, Some, None, codes, if◌then◌else◌}
 use Rattle.std.specs.Str.{bytes_eq}
 use Rattle.op_outside.specs.Outside.{Files}
-use Rattle.answer_lines.specs.Lines.{Answer}
+use Rattle.command_words.specs.Lines.{Answer}
 use Rattle.answers.specs.Answers.{Answers}
 use Rattle.tool_command.specs.declared.judged.TheConstants.{SOURCE, MESH}
 

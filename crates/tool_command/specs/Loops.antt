@@ -10,8 +10,8 @@ use Rattle.explanations.specs.Judgements.{judgement_in}
 use Rattle.explanations.specs.Accesses.{IsTold}
 use Rattle.command_words.specs.Refusal.{Refusal}
 use Rattle.command_words.specs.Words.{Input, InFiles, OfSample}
-use Rattle.answer_lines.specs.declared.limits.TheConstants.{STATE_BYTES}
-use Rattle.answer_lines.specs.Lines.{Answer, refused}
+use Rattle.command_words.specs.declared.answer_lines.limits.TheConstants.{STATE_BYTES}
+use Rattle.command_words.specs.Lines.{Answer, refused}
 use Rattle.answers.specs.Judgements.{FromText, Chosen, ChosenIs}
 use Rattle.answers.specs.Answers.{Answers, BoundAnswers}
 use Rattle.job_inputs.specs.Inputs.{IsBoundIn}

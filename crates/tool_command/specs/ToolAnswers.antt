@@ -5,19 +5,19 @@ use Rattle.op_outside.specs.Outside.{Files}
 use Rattle.mesh_decl.specs.declared.owners.Owners.{Owners}
 use Rattle.mesh_decl.specs.Mesh.{set_count, set_size, set_name}
 use Rattle.mesh_decl.specs.Named.{NamesMap, NamesSet}
-use Rattle.owner_text.specs.Numbers.{ranks_in}
-use Rattle.owner_text.specs.Owned.{AreByMetis}
-use Rattle.owner_text.specs.declared.metis.refusals.MetisRefusal.{MetisRefusal}
-use Rattle.owner_text.specs.declared.metis.refusals.MetisRefusal.TheVariants as metis
+use Rattle.metis_text.specs.Numbers.{ranks_in}
+use Rattle.metis_text.specs.Owned.{AreByMetis}
+use Rattle.metis_text.specs.declared.owner_text.metis.refusals.MetisRefusal.{MetisRefusal}
+use Rattle.metis_text.specs.declared.owner_text.metis.refusals.MetisRefusal.TheVariants as metis
 use Rattle.partition.specs.Spelling.{Spells}
-use Rattle.owner_text.specs.Written.{partition_text, HasName}
+use Rattle.metis_text.specs.Written.{partition_text, HasName}
 use Rattle.bound_program.specs.Values.{BoundValue}
 use Rattle.bound_program.specs.Fits.{Fits}
 use Rattle.mesh_draw.specs.Pieces.{IsPiece}
 use Rattle.mesh_draw.specs.Answered.{IsRefused}
 use Rattle.mesh_draw.specs.declared.output_pieces.refusals.PieceRefusal.{PieceRefusal}
 use Rattle.mesh_draw.specs.declared.output_pieces.refusals.PieceRefusal.TheVariants.{NoPrint, NoHeader, FewRows, OutOfMemory}
-use Rattle.neighbour_graph.specs.Graph.{IsGraph}
+use Rattle.metis_text.specs.Graph.{IsGraph}
 use Rattle.plan_counts.specs.Table.{counts_text}
 use Rattle.gmsh_mesh.specs.declared.choice.Dimension.{Dimension}
 use Rattle.gmsh_mesh.specs.declared.refusal.GmshRefusal.{GmshRefusal}
@@ -35,7 +35,7 @@ use Rattle.mesh_draw.specs.declared.types.DrawRefusal.TheVariants as undrawn
 use Rattle.mesh_draw.specs.Drawn.{IsDrawn, IsUndrawn, IsGrid, IsNoGrid}
 use Rattle.command_words.specs.Refusal.{PrintWeight, PartitionBytes, MeshValues, MeshBytes, Refusal, CannotRead, BeyondLimit}
 use Rattle.command_words.specs.Words.{InFiles, Options}
-use Rattle.answer_lines.specs.Lines.{Answer, done, refused}
+use Rattle.command_words.specs.Lines.{Answer, done, refused}
 use Rattle.answers.specs.Judgements.{IsHeld, Planned}
 use Rattle.answers.specs.Answers.{given, BoundAnswers, PlanningAnswers, without}
 use Rattle.tool_command.specs.Judged.{IsJudged}

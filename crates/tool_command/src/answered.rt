@@ -13,7 +13,7 @@ use crate::gmsh::from_gmsh_file;
 use crate::lines::refused_words;
 use crate::planned::on_plan;
 use crate::programs::on_program;
-use answer_lines::{Answer, Failure, Halt, done, refused};
+use command_words::answer_lines::{Answer, Failure, Halt, done, refused};
 use op_outside::Shelf;
 use std::alloc::Global;
 use std::marker::Sync;

@@ -2,12 +2,12 @@
 
 ghost use Rattle.bound_program.specs.Values.{bound_of};
 ghost use Rattle.job_inputs.specs.Chains.{AnswersBy};
-ghost use Rattle.job_plans.specs.Plans.{planned_of};
+ghost use Rattle.job_inputs.specs.Plans.{planned_of};
 ghost use Rattle.tool_command.specs.ToolAnswers.{CountAnswers};
 
-use answer_lines::{Answer, Halt};
+use command_words::answer_lines::{Answer, Halt};
+use loop_plan::planned_program::Planned;
 use plan_counts::write_counts;
-use planned_program::Planned;
 use std::alloc::Global;
 
 /// The answer of telling what a plan costs.

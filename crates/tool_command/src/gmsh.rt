@@ -3,13 +3,13 @@
 ghost use Rattle.std.specs.Prelude.{◌≡◌, ◌<◌, ◌≤◌, [], ◌∷◌, length, option_map, IfOk};
 ghost use Rattle.op_outside.specs.Outside.{Rose};
 ghost use Rattle.mesh_decl.specs.declared.text.entry.TheConstants.{MESH_BYTES};
-ghost use Rattle.answer_lines.specs.Halts.{answer_of};
+ghost use Rattle.command_words.specs.Halts.{answer_of};
 ghost use Rattle.job_inputs.specs.Chains.{AnswersBy, AnswersOver};
 ghost use Rattle.tool_command.specs.ToolAnswers.{GmshAnswers, ConversionAnswers, SourceAnswers, TextAnswers, source_answer, conversion_of};
 
 use crate::gmsh_lines::{refused_mesh, refused_source};
 use crate::judged::check_refusal;
-use answer_lines::{Answer, Failure, Halt, Limit, done};
+use command_words::answer_lines::{Answer, Failure, Halt, Limit, done};
 use gmsh_mesh::{Conversion, Dimension, GmshRefusal, from_gmsh};
 use job_inputs::kept_files::some_files_are_as_seen;
 use job_inputs::sole_file;

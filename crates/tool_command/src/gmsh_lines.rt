@@ -2,12 +2,12 @@
 
 ghost use Rattle.std.specs.Prelude.{◌≡◌, ◌++◌, codes, drop, OnOk, IfOk};
 ghost use Rattle.job_inputs.specs.Chains.{AnswersBy};
-ghost use Rattle.answer_lines.specs.Halts.{answer_of};
+ghost use Rattle.command_words.specs.Halts.{answer_of};
 ghost use Rattle.tool_command.specs.GmshLines.{said, said_of_text, said_of_mesh};
 ghost use Rattle.tool_command.specs.ToolAnswers.{refused_by_tool, mesh_refused, source_refused};
 
 use crate::lines::{put_at, refused_by};
-use answer_lines::{Answer, Halt, Limit, Refusal};
+use command_words::answer_lines::{Answer, Halt, Limit, Refusal};
 use gmsh_mesh::GmshRefusal;
 use gmsh_text::TextRefusal;
 use op_num::OutOfMemory;

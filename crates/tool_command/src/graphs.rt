@@ -5,9 +5,9 @@ ghost use Rattle.job_inputs.specs.Chains.{AnswersBy};
 ghost use Rattle.tool_command.specs.ToolAnswers.{GraphAnswers};
 
 use crate::lines::refused_name;
-use answer_lines::{Answer, Halt};
 use bound_program::Bound;
-use neighbour_graph::write_graph;
+use command_words::answer_lines::{Answer, Halt};
+use metis_text::neighbour_graph::write_graph;
 use std::alloc::Global;
 
 /// The answer of writing the graph of neighbours by the map of this name.

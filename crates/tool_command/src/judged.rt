@@ -2,10 +2,10 @@
 ghost use Rattle.std.specs.Prelude.{◌≡◌, map, option_map, string_bytes, IfOk, OnOk};
 ghost use Rattle.op_outside.specs.Memory.{sure_held};
 ghost use Rattle.answers.specs.Answers.{Answers};
-ghost use Rattle.answer_lines.specs.Halts.{answer_of};
+ghost use Rattle.command_words.specs.Halts.{answer_of};
 ghost use Rattle.tool_command.specs.Judged.{check_words, no_files, with_file, both_texts, refusal_line, IsJudged};
 
-use answer_lines::{Answer, Failure};
+use command_words::answer_lines::{Answer, Failure};
 use op_num::OutOfMemory;
 use op_outside::SureShelf;
 use op2_command::answer_to;

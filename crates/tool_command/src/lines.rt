@@ -2,15 +2,15 @@
 
 ghost use Rattle.std.specs.Prelude.{◌≡◌, ◌++◌, [], codes, OnOk, IfOk};
 ghost use Rattle.std.specs.Fmt.{decimal};
-ghost use Rattle.answer_lines.specs.Halts.{answer_of};
-ghost use Rattle.answer_lines.specs.Reports.{Stands};
+ghost use Rattle.command_words.specs.Halts.{answer_of};
+ghost use Rattle.command_words.specs.Reports.{Stands};
 ghost use Rattle.tool_command.specs.ToolAnswers.{tool_line, refused_by_tool, words_refused, said_of_piece, said_of_metis};
 
-use answer_lines::{Answer, put_named};
+use command_words::answer_lines::{Answer, put_named};
 use mesh_draw::output_pieces::PieceRefusal;
+use metis_text::owner_text::metis::MetisRefusal;
 use op_num::{OutOfMemory, put_u64};
 use op_outside::{Sink, write_all_of};
-use owner_text::metis::MetisRefusal;
 use std::alloc::Global;
 
 // The line of words that are refused.

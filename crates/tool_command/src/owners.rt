@@ -6,11 +6,11 @@ ghost use Rattle.job_inputs.specs.Chains.{AnswersBy};
 ghost use Rattle.tool_command.specs.ToolAnswers.{OwnersTold};
 
 use crate::lines::refused_name;
-use answer_lines::{Answer, Failure, Halt};
 use bound_program::Bound;
+use command_words::answer_lines::{Answer, Failure, Halt};
+use loop_plan::planned_program::Planned;
 use mesh_decl::Owners;
-use owner_text::{WriteRefusal, write_partition};
-use planned_program::Planned;
+use metis_text::owner_text::{WriteRefusal, write_partition};
 use std::alloc::Global;
 
 /// The answer that these owners are.

@@ -11,12 +11,12 @@ ghost use Rattle.tool_command.specs.ToolAnswers.{NumbersTaken, PartitionTaken, T
 
 use crate::lines::{refused_metis, refused_name};
 use crate::owners::written;
-use answer_lines::{Answer, Failure, Halt, Limit};
 use bound_program::Bound;
+use command_words::answer_lines::{Answer, Failure, Halt, Limit};
 use job_inputs::file_of;
 use job_inputs::kept_files::Kept;
+use metis_text::owner_text::metis::{MetisRefusal, owners_by_metis};
 use op_outside::Shelf;
-use owner_text::metis::{MetisRefusal, owners_by_metis};
 use std::alloc::Global;
 
 // The answer to the bytes of a partitioner's text, for the set of this number.

@@ -9,8 +9,8 @@ ghost use Rattle.job_inputs.specs.Chains.{AnswersBy, AnswersFrom};
 ghost use Rattle.tool_command.specs.ToolAnswers.{PieceAnswers, PickAnswers};
 
 use crate::lines::refused_piece;
-use answer_lines::{Answer, Failure, Halt, Limit};
 use bound_program::Bound;
+use command_words::answer_lines::{Answer, Failure, Halt, Limit};
 use job_inputs::file_of;
 use job_inputs::kept_files::Kept;
 use mesh_draw::output_pieces::{PieceRefusal, piece_of};

@@ -1,28 +1,28 @@
 // Pictures of a mesh on ranks.
 
 ghost use Rattle.std.specs.Prelude.{◌≡◌, ◌+◌, ◌<◌, ◌^◌, ◌++◌, [], ◌∷◌, All, Some, option_map, length, OnOk, IfOk, IfSome};
-ghost use Rattle.answer_lines.specs.Halts.{answer_of};
+ghost use Rattle.command_words.specs.Halts.{answer_of};
 ghost use Rattle.op_outside.specs.Outside.{Rose};
 ghost use Rattle.job_inputs.specs.Readings.{AreNext};
 ghost use Rattle.bound_program.specs.Values.{bound_of};
 ghost use Rattle.job_inputs.specs.Chains.{AnswersBy, AnswersFrom};
-ghost use Rattle.job_plans.specs.Plans.{planned_of};
+ghost use Rattle.job_inputs.specs.Plans.{planned_of};
 ghost use Rattle.tool_words.specs.Values.{picture_of};
 ghost use Rattle.tool_command.specs.ToolAnswers.{number_in, said_of_field, said_of_picture, refused_by_tool};
 ghost use Rattle.tool_command.specs.ToolAnswers.{DrawAnswers, GridOver, GridAnswers};
 ghost use Rattle.tool_command.specs.Endings.{output_names};
 
 use crate::lines::{put_at, refused_by};
-use answer_lines::{Answer, Failure, Halt, Limit, put_named};
 use cell_numbers::{Shown, ShownRefusal};
+use command_words::answer_lines::{Answer, Failure, Halt, Limit, put_named};
 use job_inputs::file_of;
 use job_inputs::kept_files::Kept;
+use loop_plan::planned_program::Planned;
 use mesh_draw::fields::FieldRefusal;
 use mesh_draw::shapes::ShapeRefusal;
 use mesh_draw::{DrawRefusal, draw, vtk};
 use op_num::OutOfMemory;
 use op_outside::Shelf;
-use planned_program::Planned;
 use std::alloc::Global;
 use tool_words::Picture;
 

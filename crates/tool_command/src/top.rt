@@ -4,8 +4,8 @@ ghost use Rattle.std.specs.Prelude.{map, string_bytes};
 ghost use Rattle.tool_command.specs.Endings.{AreLent, Ends};
 
 use crate::answered::answered;
-use answer_lines::Failure;
 use answers::answer_writing::{write_answer, write_failure};
+use command_words::answer_lines::Failure;
 use op_outside::{Shelf, Sink};
 use std::alloc::Global;
 use std::marker::Sync;

@@ -2,10 +2,10 @@
 
 ghost use Rattle.std.specs.Prelude.{◌≡◌};
 ghost use Rattle.answers.specs.Endings.{ending_status, ending_line, ending_of, Writes};
-ghost use Rattle.answer_lines.specs.Halts.{answer_of};
-ghost use Rattle.answer_lines.specs.Reports.{Stands};
+ghost use Rattle.command_words.specs.Halts.{answer_of};
+ghost use Rattle.command_words.specs.Reports.{Stands};
 
-use answer_lines::{Answer, Failure, Line, report};
+use command_words::answer_lines::{Answer, Failure, Line, report};
 use op_outside::{Sink, write_all_of};
 
 /// Writes an answer, its bytes to `out` and its line to `err`, and gives the status.

@@ -20,7 +20,7 @@ use Rattle.bound_program.specs.Values.{BoundValue, SiteValue}
 use Rattle.bound_program.specs.Classes.{is_read}
 use Rattle.bound_program.specs.Fits.{SiteFits}
 use Rattle.run_model.specs.Windows.{element_by}
-use Rattle.bound_chains.specs.Slices.{modifies_some, reads_pair, executes_for, needs_before}
+use Rattle.chain_model.specs.Slices.{modifies_some, reads_pair, executes_for, needs_before}
 use Rattle.chain_needs.specs.PairSets.{ArePairSets, pairs_of}
 use Rattle.chain_needs.specs.Needed.{AreNeeded}
 use Rattle.chain_needs.proofs.Agreeing.{executes_same}
@@ -114,7 +114,7 @@ front_any own other (x ∷ xs) l = refl
 
 -- the owners are ranks that there are
 pub own_below : (b : BoundValue) (o : Owners) (own : List (Vec RankSet Memory)) → Rattle.mesh_decl.specs.Owners.AreOwners b.mesh o → IsInRange b.mesh → ArePairSets b.mesh own
-    → ((d y r : ℕ) → d < dat_count b.mesh → y < set_size b.mesh (Rattle.mesh_decl.specs.Mesh.dat_set b.mesh d) → has_in own d y r ≡ Rattle.bound_chains.specs.Slices.owns_pair b o r d y)
+    → ((d y r : ℕ) → d < dat_count b.mesh → y < set_size b.mesh (Rattle.mesh_decl.specs.Mesh.dat_set b.mesh d) → has_in own d y r ≡ Rattle.chain_model.specs.Slices.owns_pair b o r d y)
     → AreBelow o.ranks own
 own_below b o own owners ranges pairs has d y r t = ⊎_elim
     (λ (l : d < dat_count b.mesh). ⊎_elim

@@ -10,8 +10,8 @@ use Rattle.rank_sets.proofs.Below.{any_agree, count_agree}
 use Rattle.mesh_decl.specs.declared.owners.Owners.{Owners}
 use Rattle.mesh_decl.specs.Mesh.{dat_count, dat_set, set_size}
 use Rattle.bound_program.specs.Values.{BoundValue, SiteValue}
-use Rattle.bound_chains.specs.Slices.{owns_pair, needs_before, needs, loops_from}
-use Rattle.bound_chains.specs.Counts.{some_pair, sum_below, sends, begins_at}
+use Rattle.chain_model.specs.Slices.{owns_pair, needs_before, needs, loops_from}
+use Rattle.chain_model.specs.Counts.{some_pair, sum_below, sends, begins_at}
 use Rattle.chain_needs.specs.PairSets.{pairs_of}
 use Rattle.chain_needs.specs.Needed.{AreNeeded}
 use Rattle.chain_needs.specs.Shapes.{sends_before, chain_messages}

@@ -11,9 +11,9 @@ use Rattle.bound_program.specs.Values.{BoundValue, SiteValue}
 use Rattle.bound_program.specs.Fits.{site_at}
 use Rattle.run_model.specs.Programs.{program_of, item_at, kind_of}
 use Rattle.run_model.specs.Laws.{site_of}
-use Rattle.bound_chains.specs.Slices.{loops_from}
-use Rattle.bound_chains.specs.Counts.{begins_at}
-use Rattle.bound_chains.proofs.Backwards.{next_loop}
+use Rattle.chain_model.specs.Slices.{loops_from}
+use Rattle.chain_model.specs.Counts.{begins_at}
+use Rattle.chain_model.proofs.bound_chains.Backwards.{next_loop}
 use Rattle.chain_needs.specs.declared.chain_slices.shapes.Shape.{Shape}
 use Rattle.chain_needs.specs.declared.chain_slices.sliced.LevelAt.{LevelAt}
 use Rattle.chain_needs.specs.Shapes.{loops_of}

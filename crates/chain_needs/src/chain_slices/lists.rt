@@ -6,7 +6,7 @@ ghost use Rattle.rank_sets.specs.RankSet.{has, has_at};
 ghost use Rattle.mesh_decl.specs.Mesh.{dat_count, dat_set, set_size};
 ghost use Rattle.mesh_decl.specs.Owners.{AreOwners};
 ghost use Rattle.bound_program.specs.Values.{bound_of};
-ghost use Rattle.bound_chains.specs.Slices.{owns_pair};
+ghost use Rattle.chain_model.specs.Slices.{owns_pair};
 ghost use Rattle.chain_needs.specs.PairSets.{ArePairSets, pairs_of};
 ghost use Rattle.chain_needs.specs.Levels.{AreBelow};
 

@@ -12,7 +12,7 @@ use Rattle.op_num.specs.declared.refusals.NumRefusal.{NumRefusal}
 use Rattle.texts.specs.Cut.{dark}
 use Rattle.texts.specs.Lines.{line_of}
 use Rattle.texts.proofs.Words.{integer_token}
-use Rattle.line_texts.specs.Lines.{is_lf, HasNoLf, HasNoSpace}
+use Rattle.texts.specs.CutLines.{is_lf, HasNoLf, HasNoSpace}
 use Rattle.checkpoint.specs.Reading.{Spell, words_line}
 
 -- ---- bytes

@@ -11,9 +11,9 @@ use crate::state_texts::lines::{take_end, take_item};
 use crate::state_texts::refusals::StateRefusal;
 use crate::state_texts::vars::take_vars;
 use bound_program::Bound;
-use line_texts::Lines;
 use memchr::memmem;
 use std::alloc::Global;
+use texts::line_texts::Lines;
 
 // How a state begins, behind the line before it.
 const MARK: [u8; 12] = *b"\nop2state 1\n";

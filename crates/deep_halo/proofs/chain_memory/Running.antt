@@ -16,8 +16,8 @@ use Rattle.schedule_model.specs.Cells.{Store}
 use Rattle.rank_state.specs.declared.spans.Span.{Span}
 use Rattle.rank_state.specs.Core.{fault_of}
 use Rattle.rank_state.specs.Frames.{pane_after, closed}
-use Rattle.in_place.specs.Here.{IsHere, core_on_gathered}
-use Rattle.in_place.specs.Saving.{place_cells}
+use Rattle.kernel_runs.specs.Here.{IsHere, core_on_gathered}
+use Rattle.kernel_runs.specs.Saving.{place_cells}
 use Rattle.bound_program.specs.Values.{BoundValue, no_site}
 use Rattle.bound_program.specs.Fits.{Fits, constant_cells, site_at}
 use Rattle.run_model.specs.Windows.{windows}

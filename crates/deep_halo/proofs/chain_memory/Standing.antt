@@ -10,7 +10,7 @@ use Rattle.schedule_model.specs.Cells.{Cell, same_cell}
 use Rattle.schedule_model.specs.Tests.{same_cell_true}
 use Rattle.flat_machine.specs.Layout.{among}
 use Rattle.run_model.specs.OnWindows.{no_cell, OnWindows}
-use Rattle.in_place.specs.Saving.{place_cells}
+use Rattle.kernel_runs.specs.Saving.{place_cells}
 use Rattle.bound_program.specs.declared.sites.Arg.{Arg}
 use Rattle.bound_program.specs.declared.sites.Arg.TheVariants.{Dat, Global}
 use Rattle.bound_program.specs.Values.{BoundValue, SiteValue}

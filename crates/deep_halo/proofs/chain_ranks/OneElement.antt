@@ -23,7 +23,7 @@ use Rattle.run_model.proofs.Memory.{dat_there, var_there}
 use Rattle.bound_plan.specs.Variables.{reduced_by, reduces_at}
 use Rattle.bound_plan.proofs.Touched.{Merges, merges}
 use Rattle.chain_model.specs.Machine.{ChainState, value_in, replaced, left_in, pair_values, view}
-use Rattle.bound_chains.specs.Slices.{needs, slicing_of}
+use Rattle.chain_model.specs.Slices.{needs, slicing_of}
 use Rattle.deep_halo.specs.Placed.{HoldsWindows, LeavesPlaced}
 use Rattle.deep_halo.specs.Places.{in_block, all_cells, stands_at}
 use Rattle.deep_halo.proofs.chain_memory.Standing.{reached_there}

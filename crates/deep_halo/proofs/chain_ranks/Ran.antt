@@ -17,13 +17,13 @@ use Rattle.bound_program.specs.Fits.{Fits, site_at}
 use Rattle.run_model.specs.Memory.{has_cell}
 use Rattle.run_model.specs.Programs.{item_at, loop_of}
 use Rattle.run_model.specs.Laws.{WindowsAreReached}
-use Rattle.host_acts.specs.Variables.{of_vars}
+use Rattle.gather.specs.Variables.{of_vars}
 use Rattle.rank_state.specs.Machine.{noted}
 use Rattle.rank_state.specs.declared.rank_memory.stop.Stop.{Stop as Told}
 use Rattle.rank_state.specs.Stops.{stop_in}
 use Rattle.bound_plan.specs.Variables.{reduces_at}
 use Rattle.chain_model.specs.Machine.{ChainState, replaced, left_in, pair_values, view, ran}
-use Rattle.bound_chains.specs.Slices.{needs, slicing_of}
+use Rattle.chain_model.specs.Slices.{needs, slicing_of}
 use Rattle.deep_halo.specs.Placed.{LeavesPlaced, EndsPlaced}
 use Rattle.deep_halo.specs.Places.{in_block, stands_at}
 use Rattle.deep_halo.specs.Cells.{BlocksHold}

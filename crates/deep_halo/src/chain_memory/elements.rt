@@ -14,7 +14,7 @@ use crate::chain_memory::blocks::Blocks;
 use crate::chain_memory::loops::{Loop, MAX_ARGS};
 use crate::chain_memory::places::{owner_of, pair_at, variable_at, width_of};
 use bound_program::{Arg, Via};
-use in_place::run_here;
+use kernel_runs::in_place::run_here;
 use kernel_types::KernelFault;
 use kernel_types::views::Place;
 

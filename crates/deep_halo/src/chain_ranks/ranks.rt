@@ -2,11 +2,11 @@
 
 ghost use Rattle.std.specs.Prelude.{◌≡◌, ◌<◌, ◌≤◌, length};
 ghost use Rattle.kernel_types.specs.declared.faults.KernelFault.{KernelFault as Fault};
-ghost use Rattle.host_acts.specs.Variables.{of_vars};
+ghost use Rattle.gather.specs.Variables.{of_vars};
 ghost use Rattle.schedule_model.specs.Program.{elements};
 ghost use Rattle.run_model.specs.Programs.{program_of};
 ghost use Rattle.chain_model.specs.Machine.{ChainState, rank_run, ranks_run};
-ghost use Rattle.bound_chains.specs.Slices.{slicing_of};
+ghost use Rattle.chain_model.specs.Slices.{slicing_of};
 ghost use Rattle.deep_halo.specs.Places.{all_cells};
 ghost use Rattle.deep_halo.specs.Sound.{ranks_in};
 ghost use Rattle.deep_halo.specs.Running.{Runs};

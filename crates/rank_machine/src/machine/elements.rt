@@ -16,11 +16,11 @@ ghost use Rattle.rank_program.specs.Keeping.{KeepsIn};
 use crate::machine::Machine;
 use crate::running::{Cells, run_in};
 use crate::windows::{Begun, KernelRun, Windows};
+use kernel_runs::worker_batches::OneWorker;
 use rank_program::{DistributedProgram, RankElements, Room, run_places};
 use rank_state::rank_memory::loading::load;
 use rank_state::rank_memory::stop::least;
 use rank_state::{Scalar, Span};
-use worker_batches::OneWorker;
 
 // How many cells the spans have.
 fn cells(spans: &[Span]) -> usize

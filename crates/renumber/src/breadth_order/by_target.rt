@@ -3,9 +3,9 @@ ghost use Rattle.std.specs.Prelude.{◌≡◌, ℕ, ◌<◌, ◌≤◌, ◌+◌,
 ghost use Rattle.mesh_decl.specs.Mesh.{IsMapAt, map_count, set_size, map_from, map_to, map_dim};
 ghost use Rattle.renumber.specs.Neighbours.{times, havers, IsInverse};
 
+use crate::rows::{Filling, Rows};
 use mesh_decl::Mesh;
 use op_num::OutOfMemory;
-use rows::{Filling, Rows};
 use std::alloc::Global;
 
 // Adds to the count of each target of an element how often it is one.

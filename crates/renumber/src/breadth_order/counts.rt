@@ -5,9 +5,9 @@ ghost use Rattle.mesh_decl.specs.Mesh.{IsMapAt, map_count, set_size, map_from, m
 ghost use Rattle.renumber.specs.Degrees.{degree};
 ghost use Rattle.renumber.specs.Neighbours.{has_target, IsInverse};
 
+use crate::rows::Rows;
 use mesh_decl::Mesh;
 use op_num::OutOfMemory;
-use rows::Rows;
 use std::alloc::Global;
 
 // Marks the targets of an element with a number, but the one that has it; how many weren't marked with it.

@@ -5,9 +5,9 @@ ghost use Rattle.renumber.specs.Keys.{keyed};
 ghost use Rattle.renumber.specs.Neighbours.{has_target, IsInverse};
 ghost use Rattle.renumber.specs.Unseen.{AreUnseen};
 
+use crate::rows::Rows;
 use mesh_decl::Mesh;
 use op_num::OutOfMemory;
-use rows::Rows;
 
 // Orders numbers by (key, number); a number without a key has 0.
 fn key_of(keys: &[u32], number: u32) -> u64

@@ -5,10 +5,10 @@ use Rattle.job_inputs.specs.Seen.{nothing_seen}
 use Rattle.job_inputs.specs.Readings.{Readings, readings_of, Finds}
 use Rattle.job_inputs.proofs.kept_files.Finding.{nothing_is_seen}
 use Rattle.command_words.specs.Refusal.{Refusal}
-use Rattle.answer_lines.specs.declared.refusals.Halt.{Halt}
-use Rattle.answer_lines.specs.declared.refusals.Halt.TheVariants.{Refused}
-use Rattle.answer_lines.specs.declared.refusals.Refusal.{Refusal as CallRefusal}
-use Rattle.answer_lines.specs.Halts.{refusal_of, StopsWhere}
+use Rattle.command_words.specs.declared.answer_lines.refusals.Halt.{Halt}
+use Rattle.command_words.specs.declared.answer_lines.refusals.Halt.TheVariants.{Refused}
+use Rattle.command_words.specs.declared.answer_lines.refusals.Refusal.{Refusal as CallRefusal}
+use Rattle.command_words.specs.Halts.{refusal_of, StopsWhere}
 use Rattle.job_inputs.specs.Chains.{HaltsOver}
 
 module _ (files : Files) (names : List (List ℕ)) (kept : Readings) (is : kept ≡ readings_of names) where

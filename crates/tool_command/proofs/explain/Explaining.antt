@@ -5,13 +5,13 @@ use Rattle.std.specs.List.{find}
 use Rattle.op_outside.specs.Outside.{Files, Holds}
 use Rattle.explanations.specs.Texts.{has_name, all_texts, shown_text}
 use Rattle.command_words.specs.Words.{named_by}
-use Rattle.answer_lines.specs.Lines as lines
-use Rattle.answer_lines.specs.Lines.{done, refused}
-use Rattle.answer_lines.specs.Halts.{answer_of, refusal_of}
-use Rattle.answer_lines.specs.declared.call_answer.Answer.{Answer}
-use Rattle.answer_lines.specs.declared.refusals.Halt.{Halt}
-use Rattle.answer_lines.specs.declared.refusals.Halt.TheVariants.{Refused, Failed}
-use Rattle.answer_lines.specs.declared.refusals.Failure.TheVariants.{Unread, OutOfMemory}
+use Rattle.command_words.specs.Lines as lines
+use Rattle.command_words.specs.Lines.{done, refused}
+use Rattle.command_words.specs.Halts.{answer_of, refusal_of}
+use Rattle.command_words.specs.declared.answer_lines.call_answer.Answer.{Answer}
+use Rattle.command_words.specs.declared.answer_lines.refusals.Halt.{Halt}
+use Rattle.command_words.specs.declared.answer_lines.refusals.Halt.TheVariants.{Refused, Failed}
+use Rattle.command_words.specs.declared.answer_lines.refusals.Failure.TheVariants.{Unread, OutOfMemory}
 use Rattle.answers.specs.Answers.{without}
 use Rattle.answers.specs.Endings.{HoldAll}
 use Rattle.job_inputs.specs.Chains.{AnswersBy, AnswersOver, Over, AsksFor}

@@ -7,9 +7,9 @@ use Rattle.std.proofs.lemmas.List.Quantifiers.{position-Some}
 use Rattle.std.specs.List.{Contains, position}
 use Rattle.std.specs.Str.{bytes_eq}
 use Rattle.op_outside.specs.Outside.{Files, Rose, Holds}
-use Rattle.answer_lines.specs.declared.refusals.Halt.{Halt}
-use Rattle.answer_lines.specs.declared.refusals.Halt.TheVariants.{Refused, Failed}
-use Rattle.answer_lines.specs.declared.refusals.Failure.TheVariants.{Unread, OutOfMemory}
+use Rattle.command_words.specs.declared.answer_lines.refusals.Halt.{Halt}
+use Rattle.command_words.specs.declared.answer_lines.refusals.Halt.TheVariants.{Refused, Failed}
+use Rattle.command_words.specs.declared.answer_lines.refusals.Failure.TheVariants.{Unread, OutOfMemory}
 use Rattle.tool_command.specs.Held.{IsAsFound, AreHeld, CannotHold}
 
 -- a file is held as it is found

@@ -6,7 +6,7 @@ ghost use Rattle.op_outside.specs.Outside.{Rose, Holds};
 ghost use Rattle.explanations.specs.Held.{held as held_by};
 ghost use Rattle.tool_command.specs.Held.{IsAsFound, AreHeld, CannotHold};
 
-use answer_lines::{Failure, Halt, Refusal};
+use command_words::answer_lines::{Failure, Halt, Refusal};
 use explanations::held_files::HeldFiles;
 use op_num::OutOfMemory;
 use op_outside::{ReadRefusal, Shelf, read_whole};

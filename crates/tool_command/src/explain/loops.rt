@@ -5,9 +5,9 @@ ghost use Rattle.bound_program.specs.Values.{bound_of};
 ghost use Rattle.bound_program.specs.Fits.{Fits};
 ghost use Rattle.command_words.specs.Refusal.{Refusal as Cause};
 ghost use Rattle.command_words.specs.Values.{input_in};
-ghost use Rattle.answer_lines.specs.declared.limits.TheConstants.{SOURCE_BYTES};
-ghost use Rattle.answer_lines.specs.Lines.{refused};
-ghost use Rattle.answer_lines.specs.Halts.{StopsWhere};
+ghost use Rattle.command_words.specs.declared.answer_lines.limits.TheConstants.{SOURCE_BYTES};
+ghost use Rattle.command_words.specs.Lines.{refused};
+ghost use Rattle.command_words.specs.Halts.{StopsWhere};
 ghost use Rattle.answers.specs.Answers.{BoundAnswers};
 ghost use Rattle.answers.specs.Judgements.{AccessesAre};
 ghost use Rattle.job_inputs.specs.Inputs.{IsBoundIn};
@@ -17,9 +17,9 @@ ghost use Rattle.tool_command.specs.Loops.{FaultOf, LoopOver, LoopIsTold, LoopOf
 
 use crate::explain::named::Program;
 use crate::explain::states::values_before;
-use answer_lines::Halt;
 use bound_program::Bound;
 use command_words::Input;
+use command_words::answer_lines::Halt;
 use explanations::error_loops::{put_fault_loop, tells_fault, text_of_access};
 use explanations::held_files::HeldFiles;
 use job_inputs::kept_files::Kept;

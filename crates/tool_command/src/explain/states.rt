@@ -2,9 +2,9 @@
 ghost use Rattle.std.specs.Prelude.{◌≡◌, ◌≤◌, length, map, option_map, string_bytes, Ok, IfOk, IfErr};
 ghost use Rattle.bound_program.specs.Values.{bound_of};
 ghost use Rattle.bound_program.specs.Fits.{Fits};
-ghost use Rattle.answer_lines.specs.declared.limits.TheConstants.{STATE_BYTES};
-ghost use Rattle.answer_lines.specs.Lines as lines;
-ghost use Rattle.answer_lines.specs.Halts.{answer_of, StopsWhere};
+ghost use Rattle.command_words.specs.declared.answer_lines.limits.TheConstants.{STATE_BYTES};
+ghost use Rattle.command_words.specs.Lines as lines;
+ghost use Rattle.command_words.specs.Halts.{answer_of, StopsWhere};
 ghost use Rattle.explanations.specs.Faults.{item_in};
 ghost use Rattle.explanations.specs.Values.{free_loop_in, shown_arguments};
 ghost use Rattle.answers.specs.Answers.{Answers};
@@ -14,8 +14,8 @@ ghost use Rattle.tool_command.specs.Named.{named_program};
 ghost use Rattle.tool_command.specs.Loops.{state_words, as_state, StateTells, files_begun, ValuesOf};
 
 use crate::explain::named::Program;
-use answer_lines::{Answer, Halt, STATE_BYTES};
 use bound_program::Bound;
+use command_words::answer_lines::{Answer, Halt, STATE_BYTES};
 use command_words::{Input, Stretch};
 use explanations::error_loops::{free_loop_in, item_in, put_arguments};
 use explanations::held_files::HeldFiles;

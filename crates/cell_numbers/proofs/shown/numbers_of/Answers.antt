@@ -2,7 +2,7 @@ use Rattle.std.proofs.Common.{◌<◌, sym, subst, ◌∙◌}
 use Rattle.mesh_decl.specs.Mesh.{set_count}
 use Rattle.bound_program.specs.Values.{bound_of}
 use Rattle.loop_plan.specs.Values.{plan_of}
-use Rattle.planned_program.specs.Planned.{PlannedValue}
+use Rattle.loop_plan.specs.Planned.{PlannedValue}
 use Rattle.cell_numbers.specs.Shown.{AreNumbers}
 use Rattle.cell_numbers.proofs.OnRanks.{on_ranks}
 use Rattle.cell_numbers.proofs.ShownNumbers.{owners_shown, colours_shown}

@@ -1,7 +1,7 @@
 use Rattle.std.proofs.Common.{◌≡◌, ◌<◌, ◌++◌, ℕ, length, map, get_or}
 use Rattle.bound_program.specs.Values.{bound_of}
 use Rattle.bound_program.specs.Fits.{site_at}
-use Rattle.bound_chains.specs.Slices.{loops_from}
+use Rattle.chain_model.specs.Slices.{loops_from}
 use Rattle.chain_needs.proofs.chains.chain_sites.Given as goal
 
 abbrev pub invariant-loop-k : goal.invariant-loop-k

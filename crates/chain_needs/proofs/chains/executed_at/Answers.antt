@@ -3,7 +3,7 @@ use Rattle.mesh_decl.specs.Mesh.{set_size}
 use Rattle.bound_program.specs.Values.{bound_of, no_site}
 use Rattle.bound_program.specs.Fits.{SiteFits, site_at}
 use Rattle.run_model.specs.Laws.{site_of}
-use Rattle.bound_chains.specs.Slices.{executes_for, needs, executes}
+use Rattle.chain_model.specs.Slices.{executes_for, needs, executes}
 use Rattle.chain_needs.specs.PairSets.{pairs_of}
 use Rattle.chain_needs.proofs.Agreeing.{executes_same}
 use Rattle.chain_needs.proofs.ChainLoops.{site_is, site_there}

@@ -1,7 +1,7 @@
 use Rattle.std.proofs.Common.{ℕ, List, map, ap, ◌∙◌}
 use Rattle.bound_program.specs.Values.{bound_of}
 use Rattle.bound_program.specs.Fits.{site_at}
-use Rattle.bound_chains.specs.Slices.{needs_before, needs}
+use Rattle.chain_model.specs.Slices.{needs_before, needs}
 use Rattle.chain_needs.proofs.chains.needed_at.Goals as goal
 
 pub returns-clause-has : goal.returns-clause-has

@@ -1,6 +1,6 @@
 use Rattle.std.proofs.Common.{sym, ◌∙◌}
 use Rattle.bound_program.specs.Values.{bound_of}
-use Rattle.bound_chains.specs.Counts.{begins_at}
+use Rattle.chain_model.specs.Counts.{begins_at}
 use Rattle.chain_needs.proofs.Tallied.{one_more, no_more}
 use Rattle.chain_needs.proofs.counting.chain_count.Goals as goal
 use Rattle.chain_needs.proofs.counting.chain_count.Goals.{then-begins_chain, else-begins_chain}

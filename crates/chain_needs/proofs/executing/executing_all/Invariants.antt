@@ -2,7 +2,7 @@ use Rattle.std.proofs.Common.{◌≡◌, ◌<◌, ℕ, length}
 use Rattle.rank_sets.specs.RankSet.{has_at}
 use Rattle.bound_program.specs.Values.{bound_of}
 use Rattle.bound_program.specs.Fits.{site_at}
-use Rattle.bound_chains.specs.Slices.{executes_for}
+use Rattle.chain_model.specs.Slices.{executes_for}
 use Rattle.chain_needs.specs.PairSets.{pairs_of}
 use Rattle.chain_needs.proofs.executing.executing_all.Given as goal
 

@@ -7,7 +7,7 @@ use Rattle.mesh_decl.specs.Mesh.{set_size}
 use Rattle.bound_program.specs.Values.{bound_of}
 use Rattle.bound_program.specs.Fits.{site_at}
 use Rattle.local_mesh.specs.Sets.{has_in}
-use Rattle.bound_chains.specs.Slices.{reads_pair}
+use Rattle.chain_model.specs.Slices.{reads_pair}
 use Rattle.chain_needs.proofs.Agreeing.{one_more}
 use Rattle.chain_needs.proofs.needing.before_loop.Goals as goal
 

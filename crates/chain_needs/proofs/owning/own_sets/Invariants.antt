@@ -2,7 +2,7 @@ use Rattle.std.proofs.Common.{◌≡◌, ◌<◌, ℕ, length}
 use Rattle.mesh_decl.specs.Mesh.{set_size, dat_set}
 use Rattle.bound_program.specs.Values.{bound_of}
 use Rattle.local_mesh.specs.Sets.{sets_in, has_in}
-use Rattle.bound_chains.specs.Slices.{owns_pair}
+use Rattle.chain_model.specs.Slices.{owns_pair}
 use Rattle.chain_needs.proofs.owning.own_sets.Given as goal
 
 abbrev pub invariant-loop-dat : goal.invariant-loop-dat

@@ -8,7 +8,7 @@ use Rattle.rank_sets.specs.declared.rank_set.RankSet.{RankSet}
 use Rattle.mesh_decl.specs.Mesh.{set_size, dat_set}
 use Rattle.bound_program.specs.Values.{bound_of}
 use Rattle.bound_program.specs.Fits.{site_at}
-use Rattle.bound_chains.specs.Slices.{reads_pair}
+use Rattle.chain_model.specs.Slices.{reads_pair}
 use Rattle.chain_needs.proofs.Nested.{sets_set_other, sets_at, put_back}
 use Rattle.chain_needs.proofs.reading.read_dat.Goals as goal
 

@@ -6,7 +6,7 @@ use Rattle.mesh_decl.specs.Mesh.{set_size}
 use Rattle.bound_program.specs.Values.{bound_of}
 use Rattle.bound_program.specs.Fits.{site_at}
 use Rattle.local_mesh.specs.Sets.{sets_in, has_in}
-use Rattle.bound_chains.specs.Slices.{reads_pair}
+use Rattle.chain_model.specs.Slices.{reads_pair}
 use Rattle.chain_needs.specs.PairSets.{ArePairSets}
 use Rattle.chain_needs.proofs.reading.read_dats.Given as goal
 

@@ -21,11 +21,11 @@ use Rattle.rank_state.specs.declared.spans.Span.{Span}
 use Rattle.rank_state.specs.Spans.{Within, total, with_window, cells_at, gathered, scattered}
 use Rattle.rank_state.specs.Core.{fault_of}
 use Rattle.rank_state.specs.Frames.{pane_after, closed}
-use Rattle.in_place.specs.Standing.{stands_at, is_written, Apart}
-use Rattle.in_place.specs.InPlace.{NameTheSame, LeavesUnwritten}
-use Rattle.in_place.specs.Here.{IsHere, core_on_gathered}
-use Rattle.in_place.proofs.Standings.{at, in_first, in_rest, by_span, gathered_length, gathered_at, first_written, rest_written}
-use Rattle.in_place.proofs.Standings as standing
+use Rattle.kernel_runs.specs.Standing.{stands_at, is_written, Apart}
+use Rattle.kernel_runs.specs.InPlace.{NameTheSame, LeavesUnwritten}
+use Rattle.kernel_runs.specs.Here.{IsHere, core_on_gathered}
+use Rattle.kernel_runs.proofs.in_place.Standings.{at, in_first, in_rest, by_span, gathered_length, gathered_at, first_written, rest_written}
+use Rattle.kernel_runs.proofs.in_place.Standings as standing
 use Rattle.bound_program.specs.declared.sites.Arg.{Arg}
 use Rattle.bound_program.specs.Values.{BoundValue, SiteValue}
 use Rattle.run_model.specs.Windows.{Reached, reached, width, cell_in, cells_in, targets, windows, window_cells}

@@ -11,7 +11,7 @@ use Rattle.bound_program.specs.declared.sites.Arg.TheVariants.{Dat}
 use Rattle.bound_program.specs.Values.{BoundValue}
 use Rattle.run_model.specs.Windows.{Element, element_by}
 use Rattle.run_model.specs.Arguments.{no_arg}
-use Rattle.bound_chains.specs.Slices.{needs}
+use Rattle.chain_model.specs.Slices.{needs}
 use Rattle.deep_halo.specs.Cells.{Values, with_target}
 use Rattle.deep_halo.proofs.chain_memory.chain_stores.Listing.{more}
 use Rattle.deep_halo.specs.Dropping.{leads_to, dropped, dropped_by}

@@ -12,7 +12,7 @@ use Rattle.schedule_model.specs.Cells.{Cell, Data, Variable, DatCell}
 use Rattle.bound_program.specs.Values.{BoundValue}
 use Rattle.run_model.specs.Memory.{has_cell}
 use Rattle.run_model.proofs.Memory.{dat_there}
-use Rattle.bound_chains.specs.Slices.{needs, owns_pair}
+use Rattle.chain_model.specs.Slices.{needs, owns_pair}
 use Rattle.deep_halo.specs.Places.{block_at}
 use Rattle.deep_halo.specs.Cells.{Values, cleared, taken}
 use Rattle.deep_halo.specs.declared.chain_ranks.chain_exchange.exchanges.Exchange.{Exchange}

@@ -2,7 +2,7 @@ use Rattle.std.proofs.Common.{◌≡◌, ◌≤◌, ◌+◌, ◌-◌, ◌++◌, 
 use Rattle.std.proofs.Common.{pos}
 use Rattle.mesh_decl.specs.Mesh.{dat_dim}
 use Rattle.gather.specs.Dump.{copy_text}
-use Rattle.bound_chains.specs.Dump.{pair_text}
+use Rattle.chain_model.specs.Dump.{pair_text}
 use Rattle.deep_halo.specs.Programs.{program_of_run, owners_of_run}
 use Rattle.deep_halo.proofs.Texts.{pair_values_are}
 use Rattle.deep_halo.proofs.dumps.put_held.Goals as goal

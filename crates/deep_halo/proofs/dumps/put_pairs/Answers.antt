@@ -2,7 +2,7 @@ use Rattle.std.proofs.Common.{◌≡◌, ◌++◌, ℕ, is_some, ap, ◌∙◌, 
 use Rattle.std.specs.List.{flat_map}
 use Rattle.rank_sets.specs.Below.{listed}
 use Rattle.mesh_decl.specs.Mesh.{dat_set, set_size}
-use Rattle.bound_chains.specs.Dump.{pair_text}
+use Rattle.chain_model.specs.Dump.{pair_text}
 use Rattle.deep_halo.specs.Programs.{program_of_run}
 use Rattle.deep_halo.proofs.Texts.{listed_text}
 use Rattle.deep_halo.proofs.dumps.put_pairs.Goals as goal

@@ -3,7 +3,7 @@ use Rattle.std.specs.Prelude.{codes}
 use Rattle.std.specs.List.{flat_map}
 use Rattle.std.specs.Fmt.{decimal}
 use Rattle.mesh_decl.specs.Mesh.{dat_name}
-use Rattle.bound_chains.specs.Dump.{held_in, pair_text, held_text}
+use Rattle.chain_model.specs.Dump.{held_in, pair_text, held_text}
 use Rattle.deep_halo.specs.Programs.{program_of_run}
 use Rattle.deep_halo.proofs.Texts.{text_more}
 use Rattle.deep_halo.proofs.dumps.put_store.Goals as goal

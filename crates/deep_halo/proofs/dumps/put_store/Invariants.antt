@@ -3,7 +3,7 @@ use Rattle.std.specs.List.{flat_map}
 use Rattle.kernel_types.specs.declared.faults.KernelFault.{KernelFault}
 use Rattle.run_model.specs.Windows.{numbers}
 use Rattle.chain_model.specs.Machine.{ChainState}
-use Rattle.bound_chains.specs.Dump.{held_text}
+use Rattle.chain_model.specs.Dump.{held_text}
 use Rattle.deep_halo.specs.Running.{StoresStand}
 use Rattle.deep_halo.specs.Programs.{IsHolding, program_of_run, owners_of_run}
 use Rattle.deep_halo.proofs.dumps.put_store.Given as goal

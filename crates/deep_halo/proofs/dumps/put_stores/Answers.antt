@@ -2,7 +2,7 @@ use Rattle.std.proofs.Common.{◌≡◌, ◌++◌, ℕ, ap, ◌∙◌, append_as
 use Rattle.std.specs.Prelude.{codes}
 use Rattle.std.specs.List.{flat_map}
 use Rattle.run_model.specs.Windows.{numbers}
-use Rattle.bound_chains.specs.Dump.{store_text}
+use Rattle.chain_model.specs.Dump.{store_text}
 use Rattle.deep_halo.specs.Sound.{ranks_in}
 use Rattle.deep_halo.specs.Programs.{program_of_run}
 use Rattle.deep_halo.proofs.Texts.{text_more}

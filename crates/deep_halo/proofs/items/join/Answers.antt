@@ -9,7 +9,7 @@ use Rattle.bound_program.specs.Values.{ItemValue, Reduce, Ordered, Host, told_ac
 use Rattle.run_model.specs.Hosts.{act_run}
 use Rattle.run_model.specs.Programs.{item_at, kind_of, loop_of, act_in, program_of}
 use Rattle.chain_model.specs.Machine.{ChainState, gathered}
-use Rattle.bound_chains.specs.Slices.{slicing_of}
+use Rattle.chain_model.specs.Slices.{slicing_of}
 use Rattle.deep_halo.specs.Running.{StoresStand}
 use Rattle.deep_halo.specs.Hosts.{HostEnds}
 use Rattle.deep_halo.specs.Orders.{OthersStay}

@@ -2,10 +2,10 @@ use Rattle.std.proofs.Common.{◌≡◌, ◌+◌, suc, ℤ, List, Some, length, 
 use Rattle.std.specs.Vec.{with_items}
 use Rattle.std.proofs.lemmas.List.{with_items_is}
 use Rattle.std.proofs.lemmas.Option.{same_Some}
-use Rattle.host_acts.specs.Variables.{of_vars}
+use Rattle.gather.specs.Variables.{of_vars}
 use Rattle.deep_halo.specs.Places.{all_cells}
 use Rattle.chain_model.specs.Machine.{supplied, ranks_run}
-use Rattle.bound_chains.specs.Slices.{slicing_of}
+use Rattle.chain_model.specs.Slices.{slicing_of}
 use Rattle.deep_halo.specs.Running.{StoresStand, AreHeld, PartialsStand, Runs}
 use Rattle.deep_halo.specs.Loops.{HasConstants}
 use Rattle.deep_halo.proofs.chain_ranks.OneElement.{read, has_read}

@@ -5,7 +5,7 @@ use Rattle.bound_program.specs.Values.{item_of}
 use Rattle.run_model.specs.Programs.{program_of}
 use Rattle.rank_state.specs.declared.rank_memory.stop.Stop.{Stop}
 use Rattle.chain_model.specs.Machine.{ChainState, chain_items, item_run}
-use Rattle.bound_chains.specs.Slices.{slicing_of}
+use Rattle.chain_model.specs.Slices.{slicing_of}
 use Rattle.deep_halo.specs.Programs.{program_of_run, owners_of_run}
 use Rattle.deep_halo.specs.Stands.{Stands, Ends}
 use Rattle.deep_halo.proofs.Machine.{one_more, stays}

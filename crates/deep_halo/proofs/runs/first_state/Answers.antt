@@ -3,7 +3,7 @@ use Rattle.std.proofs.lemmas.Grind.{common_steps}
 use Rattle.std.specs.Vec.{with_items}
 use Rattle.std.proofs.lemmas.List.{with_items_is, length-replicate}
 use Rattle.chain_model.specs.Machine.{chain_start}
-use Rattle.bound_chains.specs.Slices.{slicing_of}
+use Rattle.chain_model.specs.Slices.{slicing_of}
 use Rattle.mesh_decl.specs.Mesh.{dat_count}
 use Rattle.deep_halo.specs.Cells.{BlocksHold, first_in_last, taken_by_owners, is_earlier}
 use Rattle.deep_halo.specs.Running.{StoresStand}

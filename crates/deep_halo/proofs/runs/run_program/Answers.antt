@@ -1,5 +1,5 @@
 use Rattle.std.proofs.Common.{ℤ, List, not, length, subst, ap, sym, ◌∙◌}
-use Rattle.bound_chains.specs.Outcomes.{chains_run}
+use Rattle.chain_model.specs.Outcomes.{chains_run}
 use Rattle.deep_halo.specs.Running.{StoresStand}
 use Rattle.deep_halo.specs.Programs.{program_of_run, owners_of_run}
 use Rattle.deep_halo.specs.Stands.{Ends}

@@ -1,6 +1,6 @@
 use Rattle.std.proofs.Common.{◌≡◌, Bool, true, cond, sym, subst, ◌∙◌}
-use Rattle.bound_chains.specs.Counts.{begins_at}
-use Rattle.bound_chains.specs.Slices.{slicing_of}
+use Rattle.chain_model.specs.Counts.{begins_at}
+use Rattle.chain_model.specs.Slices.{slicing_of}
 use Rattle.chain_model.specs.Machine.{exchanged}
 use Rattle.deep_halo.specs.Running.{StoresStand}
 use Rattle.deep_halo.specs.Programs.{program_of_run, owners_of_run}

@@ -2,7 +2,7 @@
 
 ghost use Rattle.std.specs.Prelude.{◌≡◌, ◌<◌, ◌&&◌, true, length, nat_eq, nat_lt};
 ghost use Rattle.mesh_decl.specs.Mesh.{dat_count};
-ghost use Rattle.bound_chains.specs.Counts.{begins_at};
+ghost use Rattle.chain_model.specs.Counts.{begins_at};
 ghost use Rattle.chain_needs.specs.Slices.{AreSlices, IsFreeItem};
 ghost use Rattle.deep_halo.specs.Places.{all_cells};
 ghost use Rattle.deep_halo.specs.Sound.{Sound, program_in, ranks_in};

@@ -1,7 +1,7 @@
 use Rattle.std.proofs.Common.{◌≤◌, suc, vec_len, ap, subst, ◌∙◌, add-one}
 use Rattle.op_outside.specs.Outside.{Rose}
-use Rattle.answer_lines.specs.Lines.{most}
-use Rattle.answer_lines.specs.Halts.{limit_of}
+use Rattle.command_words.specs.Lines.{most}
+use Rattle.command_words.specs.Halts.{limit_of}
 use Rattle.job_inputs.specs.Readings.{Finds}
 use Rattle.std.specs.Prelude.{IsSomeAnd, length, ◌<◌, refl, []}
 use Rattle.job_inputs.proofs.Reading.{file_read, file_missing, file_large, file_unread}

@@ -2,7 +2,7 @@ use Rattle.std.proofs.Common.{◌≡◌, [], ◌∷◌, ◌++◌, None, Ok, Err,
 use Rattle.op_outside.specs.Outside.{Rose}
 use Rattle.job_inputs.specs.Readings.{readings_of, Finds}
 use Rattle.job_inputs.proofs.kept_files.Finding.{finds_last}
-use Rattle.answer_lines.specs.Halts.{limit_of}
+use Rattle.command_words.specs.Halts.{limit_of}
 use Rattle.answers.specs.Judgements.{IsHeld}
 use Rattle.job_inputs.specs.Chains.{HaltsOver}
 use Rattle.job_inputs.proofs.Chained.{if_ok_weaker}

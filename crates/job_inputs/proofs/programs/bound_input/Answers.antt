@@ -1,6 +1,6 @@
 use Rattle.op_outside.specs.Outside.{Rose}
 use Rattle.command_words.specs.Words.{OfSample}
-use Rattle.answer_lines.specs.Lines.{refused}
+use Rattle.command_words.specs.Lines.{refused}
 use Rattle.answers.specs.Answers.{BoundAnswers}
 use Rattle.job_inputs.specs.Chains.{Never}
 use Rattle.op_outside.specs.Outside.{Files}

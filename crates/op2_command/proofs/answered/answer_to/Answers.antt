@@ -1,7 +1,7 @@
 use Rattle.std.proofs.Common.{map, string_bytes}
 use Rattle.op_outside.specs.Outside.{Rose}
-use Rattle.answer_lines.specs.Lines.{refused}
-use Rattle.answer_lines.specs.Halts.{refusal_of, answer_of}
+use Rattle.command_words.specs.Lines.{refused}
+use Rattle.command_words.specs.Halts.{refusal_of, answer_of}
 use Rattle.op2_command.proofs.Chained.{tells, call_failed}
 use Rattle.op2_command.proofs.answered.answer_to.Goals as goal
 

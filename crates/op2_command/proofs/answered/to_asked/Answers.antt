@@ -1,7 +1,7 @@
 use Rattle.command_words.specs.Words.{ShowsUsage, ShowsVersion, names_from, names_before, names_by, names_in_blocks, names_at, names_of}
 use Rattle.command_words.specs.Values.{options_in, chain_options_in, input_in}
 use Rattle.answers.specs.Answers.{CommandAnswers}
-use Rattle.answer_lines.specs.Halts.{answer_of}
+use Rattle.command_words.specs.Halts.{answer_of}
 use Rattle.op2_command.proofs.Chained.{over_all}
 use Rattle.job_inputs.proofs.Lent.{all_right}
 use Rattle.op2_command.proofs.Lent.{state_lent, parting_lent, plan_lent, schedule_lent}

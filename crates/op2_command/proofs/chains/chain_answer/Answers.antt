@@ -5,8 +5,8 @@ use Rattle.schedule_model.specs.Sequential.{Stop}
 use Rattle.bound_program.specs.Values.{BoundValue, bound_of, no_site}
 use Rattle.run_model.specs.Programs.{printed, first_fault}
 use Rattle.bound_plan.specs.Memories.{unless_stopped}
-use Rattle.bound_chains.specs.Outcomes.{chains_run, dump_after}
-use Rattle.bound_chains.specs.Laws.{Chainable}
+use Rattle.chain_model.specs.Outcomes.{chains_run, dump_after}
+use Rattle.chain_model.specs.Laws.{Chainable}
 use Rattle.answers.specs.Answers.{ran}
 use Rattle.job_inputs.proofs.Chained.{if_ok_weaker}
 use Rattle.op2_command.proofs.chains.chain_answer.Goals as goal

@@ -1,11 +1,11 @@
 use Rattle.std.proofs.Common.{◌≡◌, refl, sym, ap, subst, ◌∙◌}
 use Rattle.std.proofs.lemmas.Result.{err_from_is_err_and}
 use Rattle.schedule_steps.specs.Steps.{Accepted}
-use Rattle.planned_program.specs.Planned.{outline_of}
+use Rattle.loop_plan.specs.Planned.{outline_of}
 use Rattle.answers.specs.Judgements.{ByText, steps_in}
 use Rattle.command_words.specs.Values.{options_in, job_in}
-use Rattle.job_plans.specs.Plans.{planned_of}
-use Rattle.answer_lines.specs.Halts.{answer_of}
+use Rattle.job_inputs.specs.Plans.{planned_of}
+use Rattle.command_words.specs.Halts.{answer_of}
 use Rattle.op2_command.specs.Chains.{chosen_in}
 use Rattle.op2_command.proofs.Planned.{steps_answered, text_refused_by, step_refused_by}
 use Rattle.op2_command.proofs.plans.by_text.Goals as goal

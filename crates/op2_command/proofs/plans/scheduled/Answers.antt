@@ -1,13 +1,13 @@
 use Rattle.std.proofs.Common.{sym, ap, cond}
 use Rattle.std.proofs.lemmas.Result.{err_from_is_err_and}
 use Rattle.op_outside.specs.Outside.{Rose}
-use Rattle.planned_program.specs.Planned.{outline_of}
+use Rattle.loop_plan.specs.Planned.{outline_of}
 use Rattle.schedule_steps.specs.Standard.{standard}
 use Rattle.command_words.specs.Words.{group_of}
 use Rattle.command_words.specs.Values.{options_in, job_in, schedule_in}
-use Rattle.job_plans.specs.Plans.{planned_of}
+use Rattle.job_inputs.specs.Plans.{planned_of}
 use Rattle.op2_command.specs.Chains.{chosen_in}
-use Rattle.answer_lines.specs.Halts.{answer_of}
+use Rattle.command_words.specs.Halts.{answer_of}
 use Rattle.op2_command.proofs.InTurn.{standard_alike}
 use Rattle.op2_command.proofs.Planned.{standard_answered, drawn_answered, schedule_unread, text_answered}
 use Rattle.op2_command.proofs.plans.scheduled.Goals as goal

@@ -2,7 +2,7 @@ use Rattle.std.proofs.Common.{sym, subst, ap₂, ◌∙◌}
 use Rattle.bound_program.specs.Values.{bound_of, no_site}
 use Rattle.bound_program.specs.Fits.{Fits}
 use Rattle.run_model.specs.Ranges.{StartsInRange}
-use Rattle.planned_program.specs.Planned.{PlannedValue}
+use Rattle.loop_plan.specs.Planned.{PlannedValue}
 use Rattle.answers.specs.Answers.{ran}
 use Rattle.job_inputs.proofs.Chained.{if_ok_weaker}
 use Rattle.op2_command.proofs.runs.run_on.Goals as goal

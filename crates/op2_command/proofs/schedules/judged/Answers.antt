@@ -1,6 +1,6 @@
 use Rattle.std.proofs.Common.{sym, subst, ◌∙◌}
 use Rattle.bound_program.specs.Values.{bound_of}
-use Rattle.answer_lines.specs.Halts.{StopsWhere}
+use Rattle.command_words.specs.Halts.{StopsWhere}
 use Rattle.op2_command.specs.Chains.{CanRefuse, SaysFirst}
 use Rattle.op2_command.proofs.Refusing.{can_refuse, step_refused}
 use Rattle.op2_command.proofs.schedules.judged.Goals as goal

@@ -1,5 +1,5 @@
 use Rattle.std.proofs.Common.{refl}
-use Rattle.answer_lines.specs.Halts.{answer_of}
+use Rattle.command_words.specs.Halts.{answer_of}
 use Rattle.op2_command.proofs.Ended.{ended, failed, defined}
 use Rattle.op2_command.proofs.top.op2_gated.Goals as goal
 

@@ -2,7 +2,7 @@ use Rattle.std.proofs.Common.{◌*◌, ◌≡◌, ◌<◌, ◌/◌, ◌∙◌, [
 use Rattle.std.proofs.lemmas.List.{length-map, get_or-map}
 use Rattle.mesh_decl.specs.Mesh.{set_size, map_from, map_to, map_dim}
 use Rattle.rank_sets.specs.Below.{count_below}
-use Rattle.rows.specs.Parts.{FillingValue}
+use Rattle.renumber.specs.Parts.{FillingValue}
 use Rattle.partition.specs.Elected.{names, gathered}
 use Rattle.partition.proofs.Gathered.{length_gathered}
 use Rattle.partition.proofs.derived.owners_naming.Goals as goal

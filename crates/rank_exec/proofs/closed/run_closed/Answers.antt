@@ -1,6 +1,6 @@
 use Rattle.std.proofs.Common.{◌≤◌, ◌++◌, [], ◌∙◌, refl, sym, ap, subst, append_assoc}
 use Rattle.flat_machine.specs.Flat.{flat_from}
-use Rattle.closed_groups.specs.Closed.{closed, GroupsAreAlone}
+use Rattle.rank_exec.specs.Closed.{closed, GroupsAreAlone}
 use Rattle.rank_exec.specs.RunRooms.{most_begins}
 use Rattle.rank_exec.specs.Driving.{Done, ComeReady}
 use Rattle.rank_exec.proofs.Driving.{done_none, done_more, ready_after, ready_front}

@@ -3,7 +3,7 @@ use Rattle.std.proofs.lemmas.List.{length-set}
 use Rattle.rank_machine.specs.OnRanks.{places_on}
 use Rattle.std.specs.Prelude.{IfSome}
 use Rattle.schedule_steps.specs.declared.step.Step.{Step}
-use Rattle.closed_groups.specs.Closed.{RankGroup, all_closed}
+use Rattle.rank_exec.specs.Closed.{RankGroup, all_closed}
 use Rattle.rank_exec.specs.declared.stream.Told.{Told}
 use Rattle.rank_exec.specs.Rounds.{elements, told}
 use Rattle.rank_exec.proofs.GatheredGroups.{Gathered, gathered_none, gathered_more, gathered_later, split_more, some_closed, place_is}

@@ -1,6 +1,6 @@
 use Rattle.std.proofs.Common.{◌≡◌, ◌<◌, ◌++◌, List, length}
 use Rattle.std.specs.Prelude.{vec_capacity}
-use Rattle.closed_groups.specs.Closed.{RankGroup, all_closed}
+use Rattle.rank_exec.specs.Closed.{RankGroup, all_closed}
 use Rattle.rank_exec.specs.Rounds.{elements}
 use Rattle.rank_exec.proofs.GatheredGroups.{Gathered}
 use Rattle.rank_exec.proofs.gathering.gather.Given as goal

@@ -2,7 +2,7 @@ use Rattle.std.proofs.Common.{◌≡◌, ◌<◌, ◌≤◌, [], ◌++◌, ◌�
 use Rattle.std.specs.Prelude.{IfSome}
 use Rattle.schedule_steps.specs.declared.step.Step.{Step}
 use Rattle.flat_machine.specs.Flat.{flat_from}
-use Rattle.closed_groups.specs.Closed.{GroupsAreAlone}
+use Rattle.rank_exec.specs.Closed.{GroupsAreAlone}
 use Rattle.rank_exec.specs.RunRooms.{most_begins}
 use Rattle.rank_exec.specs.Driving.{Done, ComeReady}
 use Rattle.rank_exec.specs.Rounds.{elements, told}

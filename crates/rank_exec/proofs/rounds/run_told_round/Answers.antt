@@ -3,7 +3,7 @@ use Rattle.std.specs.Vec.{with_items}
 use Rattle.rank_machine.specs.OnRanks.{places_on}
 use Rattle.rank_exec.proofs.GatheredGroups.{Lists}
 use Rattle.schedule_steps.specs.declared.step.Step.{Step}
-use Rattle.closed_groups.specs.Closed.{all_closed, GroupsAreAlone}
+use Rattle.rank_exec.specs.Closed.{all_closed, GroupsAreAlone}
 use Rattle.rank_program.specs.Sound.{setup_in, layout_in, tables_in}
 use Rattle.rank_exec.specs.Driving.{Done}
 use Rattle.rank_exec.specs.Rounds.{round, elements, told, CanBegin}

@@ -8,8 +8,8 @@ use Rattle.rank_state.specs.Stops.{stop_in}
 use Rattle.rank_state.specs.Windows.{firsts}
 use Rattle.run_model.specs.Arguments.{modes_of}
 use Rattle.run_model.specs.Laws.{site_of}
-use Rattle.row_batches.specs.RowsRun.{RowsRun}
-use Rattle.row_batches.specs.RowLoops.{RunsInRows}
+use Rattle.kernel_runs.specs.RowsRun.{RowsRun}
+use Rattle.kernel_runs.specs.RowLoops.{RunsInRows}
 use Rattle.rank_program.specs.Rooms.{most_ways, most_columns}
 use Rattle.rank_program.specs.Batches.{BeginsAt, GoesOn}
 use Rattle.rank_program.specs.LocalArgs.{places_in}

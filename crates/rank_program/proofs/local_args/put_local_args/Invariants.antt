@@ -1,6 +1,6 @@
 use Rattle.std.proofs.Common.{◌≡◌, ◌<◌, ℕ, Option, length, get_or}
 use Rattle.bound_program.specs.declared.sites.Arg.{Arg}
-use Rattle.row_batches.specs.declared.batch_tables.args.LocalArg.{LocalArg}
+use Rattle.kernel_runs.specs.declared.row_batches.batch_tables.args.LocalArg.{LocalArg}
 use Rattle.rank_program.specs.LocalArgs.{IsArg}
 use Rattle.rank_program.proofs.local_args.put_local_args.Given as goal
 

@@ -4,8 +4,8 @@ use Rattle.std.proofs.lemmas.List.{length-take-le, get_or-take}
 use Rattle.bound_program.specs.declared.sites.Arg.{Arg}
 use Rattle.bound_program.specs.Values.{SiteValue}
 use Rattle.run_model.specs.Laws as the
-use Rattle.row_batches.specs.RowLoops.{no_column}
-use Rattle.row_batches.specs.Tables.{no_pair, place_at, scalar_place, AreWays, AreColumns, ArePairs}
+use Rattle.kernel_runs.specs.RowLoops.{no_column}
+use Rattle.kernel_runs.specs.Tables.{no_pair, place_at, scalar_place, AreWays, AreColumns, ArePairs}
 use Rattle.rank_program.specs.Sound.{program_in}
 use Rattle.rank_program.proofs.TableFronts.{columns_front, pairs_front}
 use Rattle.rank_program.proofs.LoopArgs.{cells_count, dats_are}

@@ -3,7 +3,7 @@ use Rattle.tool_words.specs.Words.{ShowsUsage, ShowsVersion}
 use Rattle.tool_words.specs.Values.{job_of, plan_job_of}
 use Rattle.command_words.specs.Words.{names_by, names_in_blocks}
 use Rattle.command_words.specs.Values.{options_in}
-use Rattle.answer_lines.specs.Halts.{answer_of}
+use Rattle.command_words.specs.Halts.{answer_of}
 use Rattle.tool_command.specs.ToolAnswers.{CommandAnswers}
 use Rattle.tool_command.specs.Endings.{names_for, names_for_plan, names_behind, names_of}
 use Rattle.job_inputs.proofs.Lent.{all_left, all_right}

@@ -1,6 +1,6 @@
 use Rattle.std.proofs.Common.{map, string_bytes, inr, refl}
 use Rattle.op_outside.specs.Outside.{Rose}
-use Rattle.answer_lines.specs.Halts.{answer_of}
+use Rattle.command_words.specs.Halts.{answer_of}
 use Rattle.tool_words.specs.Values.{command_of}
 use Rattle.tool_command.specs.Endings.{names_of}
 use Rattle.tool_command.proofs.Wording.{command_answered, refused_words}

@@ -1,9 +1,9 @@
 use Rattle.std.proofs.Common.{ap, ◌∙◌}
-use Rattle.answer_lines.specs.Lines.{done}
+use Rattle.command_words.specs.Lines.{done}
 use Rattle.loop_plan.specs.Values.{plan_of}
 use Rattle.plan_counts.specs.Table.{counts_text}
 use Rattle.bound_program.specs.Values.{bound_of}
-use Rattle.planned_program.specs.Planned.{PlannedValue}
+use Rattle.loop_plan.specs.Planned.{PlannedValue}
 use Rattle.tool_command.proofs.counts.counted.Goals as goal
 
 pub write_counts-requires-clause-ranks : goal.write_counts-requires-clause-ranks

@@ -1,7 +1,7 @@
 use Rattle.std.proofs.Common.{subst}
 use Rattle.op_outside.specs.Memory.{sure_held}
 use Rattle.answers.specs.Answers.{Answers}
-use Rattle.answer_lines.specs.Halts.{answer_of}
+use Rattle.command_words.specs.Halts.{answer_of}
 use Rattle.tool_command.specs.Judged.{check_words}
 use Rattle.tool_command.proofs.judged.check_refusal.Goals as goal
 

@@ -2,7 +2,7 @@ use Rattle.std.proofs.Common.{None}
 use Rattle.op_outside.specs.Outside.{Rose}
 use Rattle.job_inputs.proofs.Chained.{answers_always}
 use Rattle.bound_program.specs.Values.{bound_of}
-use Rattle.job_plans.specs.Plans.{planned_of}
+use Rattle.job_inputs.specs.Plans.{planned_of}
 use Rattle.tool_words.specs.Values.{picture_of}
 use Rattle.tool_command.specs.ToolAnswers.{GridOver, GridAnswers}
 use Rattle.tool_command.proofs.pictures.gridded.Goals as goal

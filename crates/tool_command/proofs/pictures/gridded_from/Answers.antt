@@ -4,7 +4,7 @@ use Rattle.op_outside.specs.Outside.{Rose}
 use Rattle.command_words.specs.Refusal.{PrintWeight}
 use Rattle.job_inputs.proofs.Jobs.{file_unread, file_answered}
 use Rattle.bound_program.specs.Values.{bound_of}
-use Rattle.job_plans.specs.Plans.{planned_of}
+use Rattle.job_inputs.specs.Plans.{planned_of}
 use Rattle.tool_words.specs.Values.{picture_of}
 use Rattle.tool_command.specs.ToolAnswers.{GridOver}
 use Rattle.tool_command.proofs.pictures.gridded_from.Goals as goal

@@ -2,13 +2,13 @@ use Rattle.std.proofs.Common.{◌≡◌, Option, Result, sym, subst, ap}
 use Rattle.op_outside.specs.Outside.{Files, Rose}
 use Rattle.job_inputs.specs.Readings.{Readings}
 use Rattle.bound_program.specs.Values.{BoundValue, bound_of}
-use Rattle.answer_lines.specs.Lines as lines
-use Rattle.answer_lines.specs.declared.call_answer.Answer.{Answer}
-use Rattle.answer_lines.specs.declared.refusals.Halt.{Halt}
+use Rattle.command_words.specs.Lines as lines
+use Rattle.command_words.specs.declared.answer_lines.call_answer.Answer.{Answer}
+use Rattle.command_words.specs.declared.answer_lines.refusals.Halt.{Halt}
 use Rattle.answers.specs.Judgements.{Planned}
 use Rattle.job_inputs.specs.Chains.{AnswersBy, AnswersFrom}
 use Rattle.job_inputs.proofs.Chained.{answers_always}
-use Rattle.job_plans.specs.Plans.{planned_of}
+use Rattle.job_inputs.specs.Plans.{planned_of}
 use Rattle.tool_words.specs.Words as words
 use Rattle.tool_words.specs.Words.{TellsOwners, Counts, Draws}
 use Rattle.tool_words.specs.Values.{picture_of, plan_job_of}

@@ -1,6 +1,6 @@
 use Rattle.std.proofs.Common.{refl}
-use Rattle.answer_lines.specs.Halts.{answer_of}
-use Rattle.answer_lines.specs.declared.refusals.Failure.TheVariants.{OutOfMemory}
+use Rattle.command_words.specs.Halts.{answer_of}
+use Rattle.command_words.specs.declared.answer_lines.refusals.Failure.TheVariants.{OutOfMemory}
 use Rattle.tool_command.proofs.Ended.{ended, failed}
 use Rattle.tool_command.proofs.top.tools.Goals as goal
 

@@ -3,7 +3,7 @@ use Rattle.std.specs.Prelude.{not}
 use Rattle.rank_sets.specs.Below.{listed, row, rows}
 use Rattle.mesh_decl.specs.Mesh.{dat_set, set_size}
 use Rattle.bound_program.specs.Values.{bound_of}
-use Rattle.bound_chains.specs.Slices.{owns_pair}
+use Rattle.chain_model.specs.Slices.{owns_pair}
 use Rattle.chain_needs.specs.PairSets.{pairs_of}
 use Rattle.chain_needs.proofs.chain_slices.lists.copies_of.Given as goal
 

@@ -4,7 +4,7 @@ use Rattle.std.proofs.lemmas.List.{length_push}
 use Rattle.mesh_decl.specs.Mesh.{set_size, dat_set}
 use Rattle.mesh_decl.specs.Owners.{owner_of}
 use Rattle.bound_program.specs.Values.{bound_of}
-use Rattle.bound_chains.specs.Slices.{owns_pair}
+use Rattle.chain_model.specs.Slices.{owns_pair}
 use Rattle.chain_needs.proofs.chain_slices.Pushed.{has_more_below}
 use Rattle.chain_needs.specs.PairSets.{pairs_of}
 use Rattle.chain_needs.proofs.OwnPairs.{owner_is}

@@ -1,8 +1,8 @@
 use Rattle.std.proofs.Common.{◌≡◌, ◌<◌, ◌≤◌, ◌+◌, ◌∙◌, List, length, sym, ap, subst, arith}
 use Rattle.std.proofs.lemmas.List.{length-map}
 use Rattle.bound_program.specs.Values.{bound_of, item_of}
-use Rattle.bound_chains.specs.Slices.{loops_from}
-use Rattle.bound_chains.specs.Counts.{begins_at, sum_below}
+use Rattle.chain_model.specs.Slices.{loops_from}
+use Rattle.chain_model.specs.Counts.{begins_at, sum_below}
 use Rattle.chain_needs.specs.declared.chain_slices.shapes.Shape.{Shape}
 use Rattle.chain_needs.specs.Slices.{ArePlaces}
 use Rattle.chain_needs.specs.Shapes.{chain_messages}

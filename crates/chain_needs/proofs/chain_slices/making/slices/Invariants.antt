@@ -1,6 +1,6 @@
 use Rattle.std.proofs.Common.{◌≡◌, ◌≤◌, ◌*◌}
 use Rattle.bound_program.specs.Values.{bound_of}
-use Rattle.bound_chains.specs.Counts.{sum_below}
+use Rattle.chain_model.specs.Counts.{sum_below}
 use Rattle.chain_needs.specs.Slices.{AreShapes, ArePlaces}
 use Rattle.chain_needs.proofs.chain_slices.Counting.{item_messages}
 use Rattle.chain_needs.proofs.chain_slices.making.slices.Given as goal

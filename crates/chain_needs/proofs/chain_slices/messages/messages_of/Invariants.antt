@@ -1,7 +1,7 @@
 use Rattle.std.proofs.Common.{◌≡◌, ◌≤◌, ◌*◌}
 use Rattle.rank_sets.specs.Below.{count_below}
 use Rattle.rank_sets.specs.RankSet.{has_at}
-use Rattle.bound_chains.specs.Counts.{sum_below}
+use Rattle.chain_model.specs.Counts.{sum_below}
 use Rattle.chain_needs.proofs.chain_slices.messages.messages_of.Given as goal
 
 abbrev pub invariant-loop-rank : goal.invariant-loop-rank

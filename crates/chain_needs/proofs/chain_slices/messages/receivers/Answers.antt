@@ -6,7 +6,7 @@ use Rattle.rank_sets.specs.RankSet.{has_at}
 use Rattle.rank_sets.specs.declared.rank_set.RankSet.{RankSet}
 use Rattle.mesh_decl.specs.Mesh.{set_size, dat_set}
 use Rattle.bound_program.specs.Values.{bound_of}
-use Rattle.bound_chains.specs.Slices.{owns_pair}
+use Rattle.chain_model.specs.Slices.{owns_pair}
 use Rattle.chain_needs.specs.PairSets.{pairs_of}
 use Rattle.chain_needs.proofs.chain_slices.Listing.{received_more}
 use Rattle.chain_needs.proofs.chain_slices.messages.receivers.Goals as goal

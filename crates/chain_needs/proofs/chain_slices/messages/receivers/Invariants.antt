@@ -4,7 +4,7 @@ use Rattle.rank_sets.specs.Below.{any_below}
 use Rattle.rank_sets.specs.RankSet.{has_at}
 use Rattle.mesh_decl.specs.Mesh.{dat_set, set_size}
 use Rattle.bound_program.specs.Values.{bound_of}
-use Rattle.bound_chains.specs.Slices.{owns_pair}
+use Rattle.chain_model.specs.Slices.{owns_pair}
 use Rattle.chain_needs.specs.PairSets.{pairs_of}
 use Rattle.chain_needs.proofs.chain_slices.messages.receivers.Given as goal
 

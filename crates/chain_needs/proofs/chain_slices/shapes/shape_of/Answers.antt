@@ -5,7 +5,7 @@ use Rattle.rank_sets.proofs.Below.{listed_agree}
 use Rattle.mesh_decl.specs.Mesh.{set_size, dat_set}
 use Rattle.bound_program.specs.Values.{bound_of}
 use Rattle.bound_program.specs.Fits.{site_at}
-use Rattle.bound_chains.specs.Slices.{owns_pair}
+use Rattle.chain_model.specs.Slices.{owns_pair}
 use Rattle.chain_needs.specs.PairSets.{pairs_of}
 use Rattle.chain_needs.specs.Needed.{AreNeeded}
 use Rattle.chain_needs.specs.Levels.{AreLevels, front_of}

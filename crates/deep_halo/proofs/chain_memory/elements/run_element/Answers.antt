@@ -3,7 +3,7 @@ use Rattle.std.proofs.lemmas.List.{length-map, get_or-replicate}
 use Rattle.kernel_types.specs.Resolved.{IsResolved}
 use Rattle.kernel_types.specs.declared.views.frame.Place.{Place}
 use Rattle.kernel_types.specs.Framed.{PlacesIn}
-use Rattle.in_place.specs.Saving.{place_cells}
+use Rattle.kernel_runs.specs.Saving.{place_cells}
 use Rattle.deep_halo.specs.Placed.{arg_place}
 use Rattle.deep_halo.specs.Places.{all_cells, stands_at}
 use Rattle.deep_halo.specs.Sound.{program_in}

@@ -7,12 +7,12 @@ use Rattle.bound_program.specs.declared.sites.Arg.{Arg}
 use Rattle.bound_program.specs.Fits.{site_at}
 use Rattle.run_model.specs.Kernels.{constants, constant_values, element_run}
 use Rattle.run_model.specs.Programs.{item_at, loop_of}
-use Rattle.host_acts.specs.Variables.{of_vars}
+use Rattle.gather.specs.Variables.{of_vars}
 use Rattle.rank_state.specs.Machine.{noted}
 use Rattle.rank_state.specs.Stops.{stop_in}
 use Rattle.bound_plan.specs.Variables.{reduces_at}
 use Rattle.chain_model.specs.Machine.{view, ran}
-use Rattle.bound_chains.specs.Slices.{slicing_of}
+use Rattle.chain_model.specs.Slices.{slicing_of}
 use Rattle.deep_halo.specs.Placed.{HoldsWindows, EndsPlaced}
 use Rattle.deep_halo.specs.Places.{stands_at}
 use Rattle.deep_halo.specs.Cells.{BlocksHold}

@@ -7,7 +7,7 @@ use Rattle.schedule_model.specs.Program.{elements}
 use Rattle.bound_program.specs.Fits.{site_at}
 use Rattle.run_model.specs.Programs.{program_of}
 use Rattle.chain_model.specs.Machine.{ChainState, chain_start, rank_run}
-use Rattle.bound_chains.specs.Slices.{slicing_of, executes}
+use Rattle.chain_model.specs.Slices.{slicing_of, executes}
 use Rattle.deep_halo.specs.Constants.{constants_in}
 use Rattle.deep_halo.specs.Running.{Runs}
 use Rattle.deep_halo.specs.Loops.{HasConstants, element_ran, program_of_loop, owners_of_loop}

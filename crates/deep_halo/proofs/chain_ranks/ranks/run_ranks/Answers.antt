@@ -1,6 +1,6 @@
 use Rattle.std.proofs.Common.{◌≡◌, ◌+◌, suc, sym, ap, subst, ◌∙◌, arith}
 use Rattle.chain_model.specs.Machine.{ranks_run}
-use Rattle.bound_chains.specs.Slices.{slicing_of}
+use Rattle.chain_model.specs.Slices.{slicing_of}
 use Rattle.deep_halo.specs.Constants.{constants_in}
 use Rattle.deep_halo.specs.Running.{Runs}
 use Rattle.deep_halo.specs.Loops.{HasConstants, program_of_loop, owners_of_loop}

@@ -1,6 +1,6 @@
 use Rattle.kernel_types.specs.declared.faults.KernelFault.{KernelFault}
 use Rattle.chain_model.specs.Machine.{ChainState, ranks_run}
-use Rattle.bound_chains.specs.Slices.{slicing_of}
+use Rattle.chain_model.specs.Slices.{slicing_of}
 use Rattle.deep_halo.specs.Running.{Runs}
 use Rattle.deep_halo.specs.Loops.{HasConstants, program_of_loop, owners_of_loop}
 use Rattle.deep_halo.proofs.chain_ranks.ranks.run_ranks.Given as goal

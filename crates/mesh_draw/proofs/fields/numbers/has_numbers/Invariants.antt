@@ -1,5 +1,5 @@
 use Rattle.std.proofs.Common.{◌≡◌, ◌-◌}
-use Rattle.line_texts.specs.Lines.{words}
+use Rattle.texts.specs.CutLines.{words}
 use Rattle.mesh_draw.proofs.fields.NumberLines.{are_numbers}
 use Rattle.mesh_draw.proofs.fields.numbers.has_numbers.Given as goal
 

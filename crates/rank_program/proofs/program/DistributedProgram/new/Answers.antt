@@ -3,7 +3,7 @@ use Rattle.kernel_code.specs.Codes.{AreCodesOf}
 use Rattle.bound_program.specs.Values.{bound_of, var_of}
 use Rattle.run_model.specs.Ranges.{AllObey}
 use Rattle.loop_plan.specs.Values.{plan_of}
-use Rattle.planned_program.specs.Planned.{PlannedValue}
+use Rattle.loop_plan.specs.Planned.{PlannedValue}
 use Rattle.rank_layout.specs.First.{first_variables}
 use Rattle.rank_program.proofs.Runnables.{has_lists}
 use Rattle.rank_program.proofs.Windowed.{windowed}

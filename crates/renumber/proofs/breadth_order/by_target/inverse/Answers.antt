@@ -1,7 +1,7 @@
 use Rattle.std.proofs.Common.{◌≡◌, ◌<◌, ◌≤◌, ◌+◌, ◌++◌, ◌∷◌, [], ℕ, List, length, replicate, map, get_or, arith, ap, sym, ◌∙◌, refl, zero, suc}
 use Rattle.std.proofs.lemmas.List.{length-map}
 use Rattle.mesh_decl.specs.Mesh.{MeshValue, set_size, map_from, map_to}
-use Rattle.rows.specs.Parts.{FillingValue}
+use Rattle.renumber.specs.Parts.{FillingValue}
 use Rattle.renumber.specs.Neighbours.{times, havers}
 use Rattle.renumber.proofs.breadth_order.Having.{havers_more, length_more, length_le}
 use Rattle.renumber.proofs.breadth_order.by_target.inverse.Goals as goal

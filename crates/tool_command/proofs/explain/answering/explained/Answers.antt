@@ -1,6 +1,6 @@
 use Rattle.std.proofs.Common.{◌∙◌, map, option_map, string_bytes, ap, sym}
 use Rattle.op_outside.specs.Outside.{Rose}
-use Rattle.answer_lines.specs.Lines.{done}
+use Rattle.command_words.specs.Lines.{done}
 use Rattle.tool_command.proofs.explain.Explaining.{text_answered, answered}
 use Rattle.tool_command.proofs.explain.answering.explained.Goals as goal
 

@@ -1,6 +1,6 @@
 use Rattle.std.proofs.Common.{◌++◌, ◌∙◌, map, option_map, option_and_then, string_bytes, refl, ap, subst}
 use Rattle.explanations.specs.Held.{held as held_by}
-use Rattle.answer_lines.specs.Halts.{answer_of}
+use Rattle.command_words.specs.Halts.{answer_of}
 use Rattle.tool_command.specs.ExplainAnswers.{as_source, source_over, said_of}
 use Rattle.tool_command.specs.Named.{named_program}
 use Rattle.tool_command.specs.Loops.{LoopOf}

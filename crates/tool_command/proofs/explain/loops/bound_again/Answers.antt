@@ -5,8 +5,8 @@ use Rattle.explanations.specs.Held.{lent, held as held_by}
 use Rattle.bound_program.specs.Values.{bound_of}
 use Rattle.command_words.specs.Values.{input_in}
 use Rattle.command_words.specs.Words.{names_from}
-use Rattle.answer_lines.specs.Lines.{refused}
-use Rattle.answer_lines.specs.Halts.{refusal_of}
+use Rattle.command_words.specs.Lines.{refused}
+use Rattle.command_words.specs.Halts.{refusal_of}
 use Rattle.answers.specs.Answers.{BoundAnswers}
 use Rattle.job_inputs.specs.Inputs.{IsBoundIn}
 use Rattle.job_inputs.specs.Chains.{Never}

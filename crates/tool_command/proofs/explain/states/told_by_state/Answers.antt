@@ -1,6 +1,6 @@
 use Rattle.std.proofs.Common.{Ok, Err, inl, inr, subst}
 use Rattle.bound_program.specs.Values.{bound_of}
-use Rattle.answer_lines.specs.Halts.{refusal_of}
+use Rattle.command_words.specs.Halts.{refusal_of}
 use Rattle.answers.specs.Judgements.{FromText, ChosenIs}
 use Rattle.job_inputs.specs.Inputs.{chosen_of}
 use Rattle.tool_command.proofs.explain.Binding.{refused_by}

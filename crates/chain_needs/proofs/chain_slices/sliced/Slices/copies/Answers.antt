@@ -3,7 +3,7 @@ use Rattle.std.specs.declared.alloc.Global.{Global}
 use Rattle.rank_sets.specs.Below.{listed, row, rows}
 use Rattle.rank_sets.proofs.Rows.{row_read, rows_at}
 use Rattle.mesh_decl.specs.Mesh.{dat_set, set_size}
-use Rattle.bound_chains.specs.Slices.{needs}
+use Rattle.chain_model.specs.Slices.{needs}
 use Rattle.chain_needs.specs.Shapes.{IsShape, needs_others}
 use Rattle.chain_needs.proofs.chain_slices.sliced.Slices.copies.Goals as goal
 

@@ -1,7 +1,7 @@
 use Rattle.std.proofs.Common.{◌<◌, suc, length, ◌∙◌, arith}
 use Rattle.run_model.specs.Laws.{site_of}
 use Rattle.rank_sets.proofs.Rows.{row_read}
-use Rattle.bound_chains.specs.Slices.{loops_from, needs, executes}
+use Rattle.chain_model.specs.Slices.{loops_from, needs, executes}
 use Rattle.chain_needs.specs.Levels.{IsLevel}
 use Rattle.chain_needs.proofs.chain_slices.Reading.{level_of}
 use Rattle.chain_needs.proofs.chain_slices.sliced.Slices.elements.Goals as goal

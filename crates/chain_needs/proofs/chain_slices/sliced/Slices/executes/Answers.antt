@@ -2,7 +2,7 @@ use Rattle.std.proofs.Common.{suc, List, ap, ◌∙◌, arith}
 use Rattle.rank_sets.specs.RankSet.{has_at}
 use Rattle.rank_sets.specs.declared.rank_set.RankSet.{RankSet}
 use Rattle.run_model.specs.Laws.{site_of}
-use Rattle.bound_chains.specs.Slices.{loops_from, needs, executes}
+use Rattle.chain_model.specs.Slices.{loops_from, needs, executes}
 use Rattle.chain_needs.specs.Levels.{IsLevel}
 use Rattle.chain_needs.proofs.chain_slices.Reading.{level_of}
 use Rattle.chain_needs.proofs.chain_slices.sliced.Slices.executes.Goals as goal

@@ -6,8 +6,8 @@ use Rattle.run_model.specs.Programs.{kind_of, item_at}
 use Rattle.run_model.specs.Laws.{site_of}
 use Rattle.local_mesh.specs.Sets.{sets_in}
 use Rattle.local_mesh.proofs.halo_lists.SetsReading.{sets_read}
-use Rattle.bound_chains.specs.Slices.{loops_from, needs, needs_before}
-use Rattle.bound_chains.proofs.Backwards.{next_loop}
+use Rattle.chain_model.specs.Slices.{loops_from, needs, needs_before}
+use Rattle.chain_model.proofs.bound_chains.Backwards.{next_loop}
 use Rattle.chain_needs.specs.Levels.{IsLevel}
 use Rattle.chain_needs.proofs.chain_slices.Reading.{level_of}
 use Rattle.chain_needs.proofs.chain_slices.sliced.Slices.needed.Goals as goal

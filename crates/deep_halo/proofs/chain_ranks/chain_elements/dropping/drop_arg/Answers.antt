@@ -2,7 +2,7 @@ use Rattle.std.proofs.Common.{◌≡◌, false, sym, subst, ◌∙◌}
 use Rattle.bound_program.specs.declared.sites.Arg.{Arg}
 use Rattle.bound_program.specs.declared.sites.Arg.TheVariants.{Dat}
 use Rattle.bound_program.specs.Fits.{ArgFits}
-use Rattle.bound_chains.specs.Slices.{needs}
+use Rattle.chain_model.specs.Slices.{needs}
 use Rattle.chain_needs.specs.Slices.{IsPairOf}
 use Rattle.deep_halo.specs.Sound.{program_in}
 use Rattle.deep_halo.specs.Cells.{Hold}

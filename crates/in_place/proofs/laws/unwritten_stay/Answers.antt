@@ -1,5 +1,0 @@
-use Rattle.in_place.proofs.Runs.{obeying_leave, unstoring_leave}
-use Rattle.in_place.proofs.laws.unwritten_stay.Goals as goal
-
-pub returns : goal.returns
-returns c = record { obeying = obeying_leave c.reads_stay.ensures; unstoring = unstoring_leave c.unstored_stay.ensures }

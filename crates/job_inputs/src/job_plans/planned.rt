@@ -1,0 +1,103 @@
+// The mesh on ranks, and the plan there.
+
+ghost use Rattle.std.specs.Prelude.{◌≡◌, ◌≤◌, ◌↔◌, ◌++◌, ℕ, List, All, length, Ok, Err, IfOk, IfErr, OnOk};
+ghost use Rattle.op_outside.specs.Outside.{Rose};
+ghost use Rattle.job_inputs.specs.Readings.{AreNext, HaveCome, Finds};
+ghost use Rattle.mesh_decl.specs.Owners.{AreOwners, ArePerms};
+ghost use Rattle.bound_program.specs.Values.{bound_of};
+ghost use Rattle.bound_program.specs.Fits.{Fits};
+ghost use Rattle.command_words.specs.declared.answer_lines.limits.TheConstants.{PLAN_BYTES};
+ghost use Rattle.command_words.specs.Lines.{refused};
+ghost use Rattle.command_words.specs.Halts.{StopsWhere};
+ghost use Rattle.command_words.specs.Words.{names_by, names_in_blocks};
+ghost use Rattle.command_words.specs.Laws.{AreWithin, HaveFewPlaces};
+ghost use Rattle.command_words.specs.Values.{options_in, blocks_in};
+ghost use Rattle.answers.specs.Judgements as judged;
+ghost use Rattle.answers.specs.Judgements.{PlanIs};
+ghost use Rattle.answers.specs.Answers.{PlanningAnswers};
+ghost use Rattle.job_inputs.specs.Inputs.{colouring_by};
+ghost use Rattle.job_inputs.specs.Chains.{HaltsOver};
+ghost use Rattle.job_inputs.specs.Plans.{planned_of, Unplanned, IsPlannedIn, AreAlike};
+
+use crate::job_plans::colourings::plan_by;
+use crate::kept_files::Kept;
+use crate::{numbers_of, owners_of, partition_of, plan_text_of};
+use bound_program::Bound;
+use command_words::answer_lines::Halt;
+use command_words::{Blocks, Options};
+use distribute::distribute;
+use loop_plan::planned_program::Planned;
+use mesh_decl::{Owners, Perms};
+use op_outside::Shelf;
+use std::alloc::Global;
+
+// The mesh by these owners and new numbers, and a plan there that runs what the one does that is asked for. Where a file tells blocks and
+// colours, `text` is what it holds.
+fn plan_over<'a, 'b>(
+    alloc: Global,
+    blocks: Blocks<'_>,
+    bound: &'b Bound,
+    owners: Owners,
+    perms: Perms,
+    text: &[u8],
+    in_turn: bool,
+) -> Result<Planned<'b>, Halt<'a>>
+    requires fits { Fits (bound_of bound.now) }
+    requires owners { AreOwners (bound_of bound.now).mesh owners }
+    requires perms { ArePerms (bound_of bound.now).mesh perms }
+    requires places { HaveFewPlaces (blocks_in blocks) }
+    requires few { length text.now ≤ PLAN_BYTES }
+    ensures ok { IfOk result (λ p. (q : judged.Planned)
+        × PlanIs (colouring_by (blocks_in blocks.entry) text.now) (bound_of bound.now) owners perms (Ok q)
+        × AreAlike in_turn (planned_of p) q) }
+    ensures of { IfOk result (λ p. p.bound ≡ bound.now) }
+    ensures err { IfErr result (StopsWhere (λ r. PlanIs (colouring_by (blocks_in blocks.entry) text.now) (bound_of bound.now) owners perms
+        (Err r))) }
+{
+    let distribution = distribute(alloc, &bound.mesh, owners, perms)?;
+    let plan = plan_by(alloc, bound, &distribution, blocks, text, in_turn)?;
+    Ok(Planned {
+        bound,
+        distribution,
+        plan,
+    })
+}
+
+/// The mesh of a bound program on the ranks that the options ask for, and a plan there that runs what the one does that they ask for, in
+/// as many steps: that plan, or one by which places go in their order (`in_turn`), where no file tells it. The program fits, and the
+/// numbers of the options are in range. Where the options name the files of a partition and of a plan, these are the next in `kept`.
+///
+/// Judged are, up to the first refusal, new numbers, the partition's file, owners, the plan's file, and the plan. A file that could not be
+/// read is a failure, where the shelf's count of faults rose, and so is want of memory.
+pub fn planned_on<'a, 'b, F: Shelf>(
+    alloc: Global,
+    shelf: &mut F,
+    kept: &mut Kept<'a>,
+    options: &Options<'a>,
+    bound: &'b Bound,
+    in_turn: bool,
+) -> Result<Planned<'b>, Halt<'a>>
+    requires parting { All (λ name. F.lends shelf.old name) (names_by (options_in options.now).parting) }
+    requires blocks { All (λ name. F.lends shelf.old name) (names_in_blocks (options_in options.now).blocks) }
+    requires next { AreNext (names_by (options_in options.now).parting ++ names_in_blocks (options_in options.now).blocks) kept.old }
+    requires within { AreWithin (options_in options.now) }
+    requires fits { Fits (bound_of bound.now) }
+    ensures told { F.told shelf.new ≡ F.told shelf.old }
+    ensures lends { (n : List ℕ) → F.lends shelf.old n ↔ F.lends shelf.new n }
+    ensures calm { OnOk result (F.faults shelf.new ≡ F.faults shelf.old) }
+    ensures come { OnOk result
+        (HaveCome (names_by (options_in options.now).parting ++ names_in_blocks (options_in options.now).blocks) kept.old kept.new) }
+    ensures ok { IfOk result (λ p. (q : judged.Planned)
+        × Finds (F.told shelf.old) kept.old kept.new (IsPlannedIn (options_in options.now) (bound_of bound.now) q)
+        × AreAlike in_turn (planned_of p) q) }
+    ensures of { IfOk result (λ p. p.bound ≡ bound.now) }
+    ensures err { IfErr result (HaltsOver (F.told shelf.old) kept.old
+        (λ files r. PlanningAnswers Unplanned (options_in options.now) files (bound_of bound.now) (refused r))
+        (Rose (F.faults shelf.old) (F.faults shelf.new))) }
+{
+    let perms = numbers_of(alloc, options, bound)?;
+    let partition = partition_of(alloc, shelf, kept, options.parting)?;
+    let owners = owners_of(alloc, options.ranks, options.parting, bound, &partition)?;
+    let text = plan_text_of(alloc, shelf, kept, options.blocks)?;
+    plan_over(alloc, options.blocks, bound, owners, perms, &text, in_turn)
+}

@@ -1,0 +1,12 @@
+use Rattle.std.proofs.Common.{◌≡◌, ◌+◌, ◌≤◌, drop, length}
+use Rattle.rank_state.specs.Spans.{Within, total}
+use Rattle.kernel_runs.specs.Saving.{place_spans}
+use Rattle.kernel_runs.proofs.in_place.Scattering.{saved_from}
+use Rattle.kernel_runs.proofs.in_place.saving.save.Given as goal
+
+abbrev pub invariant-loop-i : goal.invariant-loop-i
+invariant-loop-i l = record {
+  inside : Within (length l.memory) (place_spans (drop l.i l.places) (drop l.i l.marks));
+  room : l.at + total (place_spans (drop l.i l.places) (drop l.i l.marks)) ≤ length l.saved;
+  left : saved_from l.at l.memory (place_spans (drop l.i l.places) (drop l.i l.marks)) l.saved ≡ saved_from 0 l.memory (place_spans l.places l.marks) l.fn.saved;
+}

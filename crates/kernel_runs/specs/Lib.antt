@@ -1,0 +1,15 @@
+pub mod Standing
+pub mod InPlace
+pub mod Leaving
+pub mod Saving
+pub mod Here
+pub mod Asides
+pub mod Filled
+pub mod Meeting
+pub mod Put
+pub mod RowLoops
+pub mod RowsRun
+pub mod Ways
+pub mod Alike
+pub mod Tables
+pub mod Rounds

@@ -1,0 +1,7 @@
+//! Kernels on the cells of a rank's own memory, in place of windows that are gathered from it.
+mod laws;
+mod running;
+mod saving;
+
+pub use laws::{finishes_here, runs_in_place, unwritten_stay};
+pub use running::run_here;

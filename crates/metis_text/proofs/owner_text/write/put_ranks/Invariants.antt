@@ -1,0 +1,11 @@
+use Rattle.std.proofs.Common.{◌≡◌, ◌++◌, map, length}
+use Rattle.std.specs.Fmt.{decimal}
+use Rattle.texts.specs.Lines.{line_of}
+use Rattle.metis_text.proofs.owner_text.write.put_ranks.Given as goal
+
+-- with the line of those that are left it is the whole
+abbrev pub invariant-loop-rest : goal.invariant-loop-rest
+invariant-loop-rest l = l.out.items ++ line_of (map decimal l.rest) ≡ l.fn.out.items ++ line_of (map decimal l.ranks)
+
+abbrev pub decreases-loop-rest : goal.decreases-loop-rest
+decreases-loop-rest l = length l.rest

@@ -1,4 +1,0 @@
-pub mod Written
-pub mod Answered
-pub mod Numbers
-pub mod Owned

@@ -1,5 +1,0 @@
-use Rattle.plan_exists.proofs.Distributed.{distributed}
-use Rattle.plan_exists.proofs.distributions.some_distribution.Goals as goal
-
-pub returns : goal.returns
-returns c = λ g o p mesh short own perms. distributed c.declarations_hold.ensures.maps c.executed_targets_are_copies.ensures g o p mesh short own perms

@@ -1,8 +1,0 @@
-use Rattle.plan_exists.proofs.Fitting.{owners_fit, numbers_fit}
-use Rattle.plan_exists.proofs.owners.outcomes_fit.Goals as goal
-
-pub returns : goal.returns
-returns c = record {
-  owners = λ g ranks parts o some few h. owners_fit g ranks parts o some few h;
-  numbers = λ g name p h. numbers_fit g name p h;
-}

@@ -1,3 +1,0 @@
-pub mod Peaks
-pub mod Orders
-pub mod Room

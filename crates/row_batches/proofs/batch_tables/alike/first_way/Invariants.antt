@@ -1,6 +1,0 @@
-use Rattle.std.proofs.Common.{◌≡◌, ◌<◌, ℕ, false}
-use Rattle.row_batches.specs.Alike.{arg_in, same_way}
-use Rattle.row_batches.proofs.batch_tables.alike.first_way.Given as goal
-
-abbrev pub invariant-loop-b : goal.invariant-loop-b
-invariant-loop-b l = (i : ℕ) → i < l.b → same_way (arg_in l.args i) (arg_in l.args l.a) ≡ false

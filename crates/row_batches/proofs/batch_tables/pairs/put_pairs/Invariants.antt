@@ -1,5 +1,0 @@
-use Rattle.row_batches.specs.Tables.{ArePairs}
-use Rattle.row_batches.proofs.batch_tables.pairs.put_pairs.Given as goal
-
-abbrev pub invariant-loop-a : goal.invariant-loop-a
-invariant-loop-a l = ArePairs l.args l.numbers l.pairs l.a 0 l.count

@@ -1,5 +1,0 @@
-use Rattle.row_batches.specs.Tables.{ArePairs}
-use Rattle.row_batches.proofs.batch_tables.pairs.put_pairs_of.Given as goal
-
-abbrev pub invariant-loop-b : goal.invariant-loop-b
-invariant-loop-b l = ArePairs l.args l.numbers l.pairs l.a l.b l.count

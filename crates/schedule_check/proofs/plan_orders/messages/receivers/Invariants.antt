@@ -1,0 +1,10 @@
+use Rattle.std.proofs.Common.{◌≡◌, ◌<◌, ℕ, length, take}
+use Rattle.rank_sets.specs.Below.{row}
+use Rattle.schedule_check.specs.Messages.{receivers_in}
+use Rattle.schedule_check.proofs.plan_orders.messages.receivers.Given as goal
+
+abbrev pub invariant-loop-pair : goal.invariant-loop-pair
+invariant-loop-pair l = record {
+  count : length l.lists.items ≡ l.ranks;
+  lists : (s : ℕ) → s < l.ranks → row l.lists.items s ≡ receivers_in (take l.pair-index l.pairs) s;
+}

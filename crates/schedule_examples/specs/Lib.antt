@@ -1,4 +1,0 @@
-pub mod Ring
-pub mod Lists
-pub mod RingLayout
-pub mod RingArguments
