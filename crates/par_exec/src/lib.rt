@@ -63,68 +63,72 @@ pub fn run_group<R: Threads + Sync, J: Job, G: Gate>(
     ensures each { EachWindow (J.new_window jobs.now) stride 0 (length staging.old / stride) staging.old staging.new }
     ensures together { staging.new ≡ replaced (J.new_window jobs.now) stride 0 (length staging.old / stride) staging.old }
 {
-    let count = staging.len() / stride;
-    run_windows(
-        crew.threads,
-        crew.workers,
-        0,
-        count,
-        stride,
+    let work = WindowJobs {
         jobs,
-        crew.gate,
-        staging,
-    );
+        gate: crew.gate,
+        stride,
+    };
+    let count = staging.len() / stride;
+    run_windows(crew.threads, crew.workers, &work, 0, count, staging);
 }
 
-// Runs job i on window i, where the buffer has `count` windows from number `first` on.
+// Jobs on windows of `stride` cells, and the gate that is told of each.
+#[derive(Drop)]
+struct WindowJobs<'a, J, G> {
+    jobs: &'a J,
+    gate: &'a G,
+    stride: usize,
+}
+
+// Runs job i on window i, where the buffer has `count` windows from number `first` on, by so many workers.
 #[cycle(windows)]
 fn run_windows<R: Threads + Sync, J: Job, G: Gate>(
-    rt: &R,
+    threads: &R,
     workers: u32,
+    work: &WindowJobs<'_, J, G>,
     first: usize,
     count: usize,
-    stride: usize,
-    jobs: &J,
-    gate: &G,
     staging: &mut [i32],
 )
-    requires stride { 0 < stride }
+    requires stride { 0 < work.now.stride }
     requires workers { 0 < workers }
     requires room { first + count < 2 ^ 64 }
-    requires whole { length staging.old ≡ count * stride }
-    requires accepts { (i : ℕ) → first ≤ i → i < first + count → J.accepts jobs.now i stride }
-    ensures { EachWindow (J.new_window jobs.now) stride first count staging.old staging.new }
+    requires whole { length staging.old ≡ count * work.now.stride }
+    requires accepts { (i : ℕ) → first ≤ i → i < first + count → J.accepts work.now.jobs.now i work.now.stride }
+    ensures { EachWindow (J.new_window work.now.jobs.now) work.now.stride first count staging.old staging.new }
 {
     if count == 0 {
         return;
     }
     if count == 1 {
-        gate.enter(first);
-        jobs.run(first, staging);
+        work.gate.enter(first);
+        work.jobs.run(first, staging);
         return;
     }
     let low = count / 2;
     let high = count - low;
     let next = first + low;
-    let (front, back) = staging.split_at_mut(low * stride);
+    let (front, back) = staging.split_at_mut(low * work.stride);
     if workers == 1 {
-        run_windows(rt, 1, first, low, stride, jobs, gate, front);
-        run_windows(rt, 1, next, high, stride, jobs, gate, back);
+        run_windows(threads, 1, work, first, low, front);
+        run_windows(threads, 1, work, next, high, back);
         return;
     }
     let theirs = workers / 2;
     let ours = workers - theirs;
     join_mut(
-        rt,
+        threads,
         &mut ||
-            requires { IsSync R.row × IsSync J.row × IsSync G.row × (0 < stride) × (0 < theirs) × (first + low < 2 ^ 64)
-                × (length front.now ≡ low * stride) × ((i : ℕ) → first ≤ i → i < first + low → J.accepts jobs.now i stride) }
-            ensures { EachWindow (J.new_window jobs.entry.now) stride first low front.entry.now front.exit.now }
-        { run_windows(rt, theirs, first, low, stride, jobs, gate, front) },
+            requires { IsSync R.row × IsSync J.row × IsSync G.row × (0 < work.now.stride) × (0 < theirs) × (first + low < 2 ^ 64)
+                × (length front.now ≡ low * work.now.stride)
+                × ((i : ℕ) → first ≤ i → i < first + low → J.accepts work.now.jobs.now i work.now.stride) }
+            ensures { EachWindow (J.new_window work.entry.now.jobs.now) work.entry.now.stride first low front.entry.now front.exit.now }
+        { run_windows(threads, theirs, work, first, low, front) },
         &mut ||
-            requires { IsSync R.row × IsSync J.row × IsSync G.row × (0 < stride) × (0 < ours) × (next + high < 2 ^ 64)
-                × (length back.now ≡ high * stride) × ((i : ℕ) → next ≤ i → i < next + high → J.accepts jobs.now i stride) }
-            ensures { EachWindow (J.new_window jobs.entry.now) stride next high back.entry.now back.exit.now }
-        { run_windows(rt, ours, next, high, stride, jobs, gate, back) },
+            requires { IsSync R.row × IsSync J.row × IsSync G.row × (0 < work.now.stride) × (0 < ours) × (next + high < 2 ^ 64)
+                × (length back.now ≡ high * work.now.stride)
+                × ((i : ℕ) → next ≤ i → i < next + high → J.accepts work.now.jobs.now i work.now.stride) }
+            ensures { EachWindow (J.new_window work.entry.now.jobs.now) work.entry.now.stride next high back.entry.now back.exit.now }
+        { run_windows(threads, ours, work, next, high, back) },
     );
 }

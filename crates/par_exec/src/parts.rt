@@ -40,27 +40,25 @@ pub fn run_parts<R: Threads + Sync, T: Send, J: PartJob<T>, G: Gate>(
     requires takes { TakesEach (J.takes jobs.now) 0 parts.old }
     ensures { MadeEach (J.makes jobs.now) 0 parts.old parts.new }
 {
-    let count = parts.len();
-    run_from(threads, workers, 0, count, jobs, gate, parts);
+    run_from(threads, workers, 0, jobs, gate, parts);
 }
 
-// Runs job i on part i, where the list has `count` parts from number `first` on.
+// Runs job i on part i, where the parts of the list are numbered from `first` on.
 #[cycle(parts)]
 fn run_from<R: Threads + Sync, T: Send, J: PartJob<T>, G: Gate>(
     threads: &R,
     workers: u32,
     first: usize,
-    count: usize,
     jobs: &J,
     gate: &G,
     parts: &mut [T],
 )
     requires workers { 0 < workers }
-    requires room { first + count < 2 ^ 64 }
-    requires whole { length parts.old ≡ count }
+    requires room { first + length parts.old < 2 ^ 64 }
     requires takes { TakesEach (J.takes jobs.now) first parts.old }
     ensures { MadeEach (J.makes jobs.now) first parts.old parts.new }
 {
+    let count = parts.len();
     if count == 0 {
         return;
     }
@@ -70,12 +68,11 @@ fn run_from<R: Threads + Sync, T: Send, J: PartJob<T>, G: Gate>(
         return;
     }
     let low = count / 2;
-    let high = count - low;
     let next = first + low;
     let (front, back) = parts.split_at_mut(low);
     if workers == 1 {
-        run_from(threads, 1, first, low, jobs, gate, front);
-        run_from(threads, 1, next, high, jobs, gate, back);
+        run_from(threads, 1, first, jobs, gate, front);
+        run_from(threads, 1, next, jobs, gate, back);
         return;
     }
     let theirs = workers / 2;
@@ -83,14 +80,14 @@ fn run_from<R: Threads + Sync, T: Send, J: PartJob<T>, G: Gate>(
     join_mut(
         threads,
         &mut ||
-            requires { IsSync R.row × IsSync J.row × IsSync G.row × IsSend T.row × (0 < theirs) × (first + low < 2 ^ 64)
-                × (length front.now ≡ low) × TakesEach (J.takes jobs.now) first front.now }
+            requires { IsSync R.row × IsSync J.row × IsSync G.row × IsSend T.row × (0 < theirs)
+                × (first + length front.now < 2 ^ 64) × TakesEach (J.takes jobs.now) first front.now }
             ensures { MadeEach (J.makes jobs.entry.now) first front.entry.now front.exit.now }
-        { run_from(threads, theirs, first, low, jobs, gate, front) },
+        { run_from(threads, theirs, first, jobs, gate, front) },
         &mut ||
-            requires { IsSync R.row × IsSync J.row × IsSync G.row × IsSend T.row × (0 < ours) × (next + high < 2 ^ 64)
-                × (length back.now ≡ high) × TakesEach (J.takes jobs.now) next back.now }
+            requires { IsSync R.row × IsSync J.row × IsSync G.row × IsSend T.row × (0 < ours)
+                × (next + length back.now < 2 ^ 64) × TakesEach (J.takes jobs.now) next back.now }
             ensures { MadeEach (J.makes jobs.entry.now) next back.entry.now back.exit.now }
-        { run_from(threads, ours, next, high, jobs, gate, back) },
+        { run_from(threads, ours, next, jobs, gate, back) },
     );
 }

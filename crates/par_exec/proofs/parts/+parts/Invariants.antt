@@ -1,10 +1,11 @@
+use Rattle.std.proofs.Common.{length}
 use Rattle.par_exec.proofs.parts.+parts.Given as goal
 
 abbrev pub decreases-join_mut+arg2 : goal.decreases-join_mut+arg2
-decreases-join_mut+arg2 g l = l.low
+decreases-join_mut+arg2 g l = length l.front.now
 
 abbrev pub decreases-join_mut+arg3 : goal.decreases-join_mut+arg3
-decreases-join_mut+arg3 g l = l.high
+decreases-join_mut+arg3 g l = length l.back.now
 
 abbrev pub decreases-run_from : goal.decreases-run_from
-decreases-run_from g l = l.count
+decreases-run_from g l = length l.parts.now
