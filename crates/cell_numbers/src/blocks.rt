@@ -44,7 +44,7 @@ fn site_of(plan: &Plan, site: u32) -> &SitePlan
     requires { 0 < length (site_plan (plan_of plan.now) site).places }
     ensures { site_plan_of result.now ≡ site_plan (plan_of plan.now) site }
 {
-    match plan.sites.get(&site) {
+    match plan.sites.get(site) {
         Some(found) => found,
         None => unreachable!(),
     }

@@ -26,3 +26,5 @@ pub mod AlikeLists
 pub mod OnePlan
 pub mod OneReading
 mod OneStepCount
+pub mod Sharing
+pub mod SamePlans

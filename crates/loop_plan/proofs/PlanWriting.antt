@@ -1,12 +1,12 @@
 -- The text of a whole plan, and what a proper plan has for its lines.
-use Rattle.std.proofs.Common.{◌≡◌, ◌<◌, ◌≤◌, ℕ, zero, suc, Bool, true, cond, refl, sym, ap, subst, ◌∙◌, arith, List, [], ◌∷◌, ◌++◌, append-nil, length, get_or, take, map}
+use Rattle.std.proofs.Common.{◌≡◌, ◌+◌, ◌<◌, ◌≤◌, ℕ, zero, suc, Bool, true, cond, refl, sym, ap, subst, ◌∙◌, arith, List, [], ◌∷◌, ◌++◌, append-nil, length, get_or, take, map}
 use Rattle.std.specs.Prelude.{All, Some, nat_eq, slice_get, slice_index_or, codes}
 use Rattle.std.specs.Map.{lookup}
 use Rattle.std.specs.List.{flat_map}
 use Rattle.std.specs.Fmt.{decimal}
 use Rattle.std.proofs.lemmas.Bool.{eq-eqb, ne_eqb}
 use Rattle.std.proofs.lemmas.Grind.{flat_map-append}
-use Rattle.std.proofs.lemmas.List.{get_or-map, length-map, map_push, take_all}
+use Rattle.std.proofs.lemmas.List.{get_or-map, length-map, take_all, take_more}
 use Rattle.std.proofs.lemmas.Option.{get_or_from_slice_get}
 use Rattle.rank_sets.specs.Below.{count_below, listed}
 use Rattle.rank_sets.proofs.Below.{length_listed, at_listed}
@@ -15,9 +15,8 @@ use Rattle.mesh_decl.specs.Mesh.{MeshValue, set_count, dat_count}
 use Rattle.local_mesh.specs.declared.types.RankMesh.{RankMesh}
 use Rattle.local_mesh.proofs.Grouping.{listed_within}
 use Rattle.bound_program.specs.Values.{ItemValue, BoundValue}
-use Rattle.loop_plan.specs.declared.types.SitePlan.{SitePlan}
 use Rattle.loop_plan.specs.declared.types.ItemPlan.{ItemPlan}
-use Rattle.loop_plan.specs.Values.{ItemPlanValue, SitePlanValue, PlanValue, item_plan, site_plan, or_none, site_plan_of, item_plan_of, entry_of, no_item_plan}
+use Rattle.loop_plan.specs.Values.{ItemPlanValue, SitePlanValue, PlanValue, item_plan, site_plan, or_none, item_plan_of, no_item_plan}
 use Rattle.loop_plan.specs.Needs.{exchanges}
 use Rattle.loop_plan.specs.Exports.{AreDats}
 use Rattle.loop_plan.specs.Places.{runs_free}
@@ -30,22 +29,26 @@ use Rattle.loop_plan.proofs.PlanLines.{text_more, texts_more}
 -- ---- loops
 
 -- the lines of one loop more
-pub entries_more : (es : List (ℕ × SitePlan)) (e : ℕ × SitePlan) (old between now : List ℕ)
-    → between ≡ old ++ text_of_lines (flat_map loop_lines (map entry_of es))
-    → now ≡ between ++ text_of_lines (loop_lines (entry_of e))
-    → now ≡ old ++ text_of_lines (flat_map loop_lines (map entry_of (es ++ e ∷ [])))
-entries_more es e old between now b n =
-    texts_more old between now (flat_map loop_lines (map entry_of es)) (loop_lines (entry_of e)) b n
+pub entries_more : (es : List (ℕ × SitePlanValue)) (k : ℕ) (e : ℕ × SitePlanValue) (old between now : List ℕ)
+    → k < length es
+    → slice_get es k ≡ Some e
+    → between ≡ old ++ text_of_lines (flat_map loop_lines (take k es))
+    → now ≡ between ++ text_of_lines (loop_lines e)
+    → now ≡ old ++ text_of_lines (flat_map loop_lines (take (k + 1) es))
+entries_more es k e old between now l at b n =
+    texts_more old between now (flat_map loop_lines (take k es)) (loop_lines e) b n
     ∙ ap (λ (z : List Line). old ++ text_of_lines z)
-    (ap (λ (z : List Line). flat_map loop_lines (map entry_of es) ++ z) (sym (append-nil (loop_lines (entry_of e))))
-    ∙ (sym (flat_map-append loop_lines (map entry_of es) (entry_of e ∷ [])) ∙ ap (flat_map loop_lines) (sym (map_push entry_of es e))))
+    (ap (λ (z : List Line). flat_map loop_lines (take k es) ++ z) (sym (append-nil (loop_lines e)))
+    ∙ (sym (flat_map-append loop_lines (take k es) (e ∷ []))
+    ∙ ap (flat_map loop_lines) (ap (λ z. take k es ++ z ∷ []) (sym (get_or_from_slice_get es k e e at)) ∙ sym (take_more es k e l))))
 
 -- the plan of an entry is by rank
-pub by_rank_at : (es : List (ℕ × SitePlan)) (k : ℕ) (x : ℕ × SitePlan)
-    → All (λ e. IsByRank (site_plan_of e.1)) es
-    → (k < length es) × (slice_get es k ≡ Some x)
-    → IsByRank (site_plan_of x.1)
-by_rank_at es k x a t = subst (λ (z : ℕ × SitePlan). IsByRank (site_plan_of z.1)) (get_or_from_slice_get es k x x t.1) (a k x t.0)
+pub by_rank_at : (es : List (ℕ × SitePlanValue)) (k : ℕ) (x : ℕ × SitePlanValue)
+    → All (λ e. IsByRank e.1) es
+    → k < length es
+    → slice_get es k ≡ Some x
+    → IsByRank x.1
+by_rank_at es k x a l at = subst (λ (z : ℕ × SitePlanValue). IsByRank z.1) (get_or_from_slice_get es k x x at) (a k x l)
 
 -- ---- items
 
@@ -106,16 +109,13 @@ module _ (b : BoundValue) (meshes : List RankMesh) (p : PlanValue) (proper : Pro
       subst (IsSitePlan b meshes p.block s) (plan_is k d l)
       (proper.loops s (subst (λ z. z < length b.sites) (keys_are k d l) at.0) (subst (λ z. runs_free b z ≡ true) (keys_are k d l) at.1))
 
-  pub are_by_rank : length meshes ≤ 64 → (es : List (ℕ × SitePlan)) → p.sites ≡ map entry_of es → All (λ e. IsByRank (site_plan_of e.1)) es
-  are_by_rank few es e k d l =
-      let lk : k < length p.sites = (let q : length p.sites ≡ length es = ap (λ (z : List (ℕ × SitePlanValue)). length z) e ∙ length-map es entry_of in omega arith) in
-      let i = entry_is k (entry_of d) lk in
-      subst (λ (z : ℕ × SitePlanValue). IsByRank z.1)
-      (ap (λ (z : List (ℕ × SitePlanValue)). get_or z k (entry_of d)) e ∙ get_or-map entry_of es k d (entry_of d) l)
-      (record {
+  pub are_by_rank : length meshes ≤ 64 → All (λ e. IsByRank e.1) p.sites
+  are_by_rank few k d l =
+      let i = entry_is k d l in
+      record {
         count = i.places_count ∙ sym i.colours_count;
         few = (let q = i.places_count in omega arith);
-      })
+      }
 
   dats_at : (k : ℕ) → k < length b.trace → AreDats b.mesh (slice_index_or p.items k no_item_plan).exchange
   unfolding item_plan

@@ -19,8 +19,7 @@ use Rattle.colouring.specs.Colours.{AreArgs, AreColours}
 use Rattle.bound_program.specs.Values.{BoundValue, no_site}
 use Rattle.bound_program.specs.Classes.{scatters}
 use Rattle.bound_program.specs.Fits.{site_at, SiteFits, Fits}
-use Rattle.loop_plan.specs.declared.types.SitePlan.{SitePlan}
-use Rattle.loop_plan.specs.Values.{SitePlanValue, entry_of, or_none}
+use Rattle.loop_plan.specs.Values.{SitePlanValue, or_none}
 use Rattle.loop_plan.specs.Pairs.{sets_of, own_in}
 use Rattle.loop_plan.specs.Places.{reducing, places_of, runs_free}
 use Rattle.loop_plan.specs.SitePlans.{ArePlansOf}
@@ -96,13 +95,13 @@ lookup_new test (d ∷ es) e n h = ⊎_elim
     ∙ lookup_new test es e (sym (ap (λ z. z || list_any test (map (λ x. x.0) es)) t) ∙ n) h)
     (cases_Bool (test d.0))
 
-lookup_none : (test : ℕ → Bool) (es : List (ℕ × SitePlan)) → list_any test (map (λ x. x.0) (map entry_of es)) ≡ false → lookup test es ≡ None
+lookup_none : (test : ℕ → Bool) (es : List (ℕ × SitePlanValue)) → list_any test (map (λ x. x.0) es) ≡ false → lookup test es ≡ None
 lookup_none test [] h = refl
 lookup_none test (d ∷ es) h = ⊎_elim
-    (λ (t : test d.0 ≡ true). absurd (true≢false (sym (ap (λ z. z || list_any test (map (λ x. x.0) (map entry_of es))) t) ∙ h)))
+    (λ (t : test d.0 ≡ true). absurd (true≢false (sym (ap (λ z. z || list_any test (map (λ x. x.0) es)) t) ∙ h)))
     (λ (t : test d.0 ≡ false).
     ap (λ z. cond z (Some d.1) (lookup test es)) t
-    ∙ lookup_none test es (sym (ap (λ z. z || list_any test (map (λ x. x.0) (map entry_of es))) t) ∙ h))
+    ∙ lookup_none test es (sym (ap (λ z. z || list_any test (map (λ x. x.0) es)) t) ∙ h))
     (cases_Bool (test d.0))
 
 module _ (b : BoundValue) (IsPlan : ℕ → SitePlanValue → Type 0) (n : ℕ) where
@@ -110,8 +109,8 @@ module _ (b : BoundValue) (IsPlan : ℕ → SitePlanValue → Type 0) (n : ℕ) 
   no_key es a = ap (list_any (nat_eq n)) a.keys ∙ not_listed n n (runs_free b) (omega arith)
 
   -- loop n has no plan yet
-  pub no_plan : (es : List (ℕ × SitePlan)) → ArePlansOf b IsPlan n (map entry_of es) → lookup (nat_eq n) es ≡ None
-  no_plan es a = lookup_none (nat_eq n) es (no_key (map entry_of es) a)
+  pub no_plan : (es : List (ℕ × SitePlanValue)) → ArePlansOf b IsPlan n es → lookup (nat_eq n) es ≡ None
+  no_plan es a = lookup_none (nat_eq n) es (no_key es a)
 
   -- loop n doesn't run as a Free one
   pub plans_kept : (es : List (ℕ × SitePlanValue)) → runs_free b n ≡ false → ArePlansOf b IsPlan n es → ArePlansOf b IsPlan (n + 1) es

@@ -1,3 +1,4 @@
+pub mod SharedPlans
 pub mod Values
 pub mod Needs
 pub mod Pairs
@@ -12,6 +13,8 @@ pub mod StepCounts
 pub mod Proper
 pub mod Turns
 pub mod SitePlans
+pub mod SameKeys
+pub mod Alike
 pub mod Spaced
 pub mod PlanText
 pub mod OnePlan

@@ -2,15 +2,10 @@
 use Rattle.std.specs.Prelude.{ℕ, List, [], map, slice_index, slice_index_or, nat_eq, Option, Some, None}
 use Rattle.std.specs.Map.{lookup}
 use Rattle.colouring.specs.declared.types.Colours.{Colours}
-use Rattle.loop_plan.specs.declared.types.SitePlan.{SitePlan}
+pub use Rattle.loop_plan.specs.SharedPlans.{SitePlanValue, site_plan_of, no_site_plan, entries_of}
 use Rattle.loop_plan.specs.declared.types.Pair.{Pair}
 use Rattle.loop_plan.specs.declared.types.ItemPlan.{ItemPlan}
 use Rattle.loop_plan.specs.declared.types.Plan.{Plan}
-
--- a Free loop by rank: how many places it executes, and their colours
-pub record SitePlanValue : Type 0 where
-  pub places : List ℕ
-  pub colours : List Colours
 
 -- the dats that an item exchanges, and its messages
 pub record ItemPlanValue : Type 0 where
@@ -27,33 +22,21 @@ pub record PlanValue : Type 0 where
 
 -- ---- the values of the program's types
 
--- the value of a loop's plan
-abbrev pub site_plan_of : SitePlan → SitePlanValue
-site_plan_of s = record { places = s.places.items; colours = s.colours.items }
-
 -- the value of an item's plan
 abbrev pub item_plan_of : ItemPlan → ItemPlanValue
 item_plan_of i = record { exchange = i.exchange.items; pairs = i.pairs.items }
-
--- the value of a loop's number with its plan
-abbrev pub entry_of : ℕ × SitePlan → ℕ × SitePlanValue
-entry_of e = (e.0, site_plan_of e.1)
 
 -- the value of a plan
 abbrev pub plan_of : Plan → PlanValue
 plan_of p = record {
   ranks = p.ranks;
   block = p.block;
-  sites = map entry_of p.sites.entries;
+  sites = entries_of p.sites;
   items = map item_plan_of p.items.items;
   steps = p.steps;
 }
 
 -- ---- parts of a plan by their numbers
-
--- the plan of a loop that has none
-abbrev pub no_site_plan : SitePlanValue
-no_site_plan = record { places = []; colours = [] }
 
 -- the plan of an item that isn't there
 abbrev pub no_item_plan : ItemPlanValue

@@ -1,6 +1,11 @@
 //! Plans: which dats each item exchanges and between which ranks, which places the ranks execute, and their colours.
+//!
+//! `plan` makes the plan of a program with least colours. `planned_program` has a program, its mesh on ranks and its
+//! plan there as one type, and `plan_exists` the laws that there is a distribution and a plan for whatever words ask
+//! for.
 #![tactic(auto)]
 
+mod alike;
 mod counting;
 mod dirty;
 mod exchange;
@@ -12,6 +17,7 @@ mod places;
 pub mod plan_exists;
 pub mod planned_program;
 mod plans;
+mod shared;
 mod sites;
 mod turns;
 mod types;
@@ -31,7 +37,8 @@ pub use needs::is_scattering;
 pub use places::{place_count, places_by_rank};
 pub use plans::{MAX_STEPS, number_of_steps, plan, plan_in_turn, planned_items};
 pub use schedule_steps::Step;
-pub use sites::{insert_plan, reducing_args, running_loops, site_plans};
+pub use shared::SitePlans;
+pub use sites::{reducing_args, running_loops, site_plans};
 pub use step_orders::{Listed, Steps};
-pub use types::{ItemPlan, Pair, Plan, PlanRefusal, SitePlan, SitePlans};
+pub use types::{ItemPlan, Pair, Plan, PlanRefusal, SitePlan};
 pub use writing::{put_item_at, put_rank_halo, write_plan};

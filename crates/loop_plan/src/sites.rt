@@ -1,7 +1,6 @@
 // The plans of Free loops.
-ghost use Rattle.std.specs.Prelude.{◌≡◌, ℕ, ◌<◌, ◌+◌, ◌||◌, ◌++◌, ◌∷◌, [], ◌^◌, false, map, nat_eq, None};
+ghost use Rattle.std.specs.Prelude.{◌≡◌, ℕ, ◌<◌, ◌+◌, ◌||◌, ◌++◌, ◌∷◌, [], ◌^◌, true, false};
 ghost use Rattle.std.specs.Prelude.{IfOk, OnOk, length, slice_index, slice_index_or};
-ghost use Rattle.indexmap.specs.IndexMap.{get};
 ghost use Rattle.mesh_decl.specs.Mesh.{set_count};
 ghost use Rattle.local_mesh.specs.declared.halo_lists.types.Halos.{Halos};
 ghost use Rattle.local_mesh.specs.declared.types.RankMesh.{RankMesh as RankMeshValue};
@@ -9,24 +8,26 @@ ghost use Rattle.colouring.specs.declared.types.Colours.{Colours as ColoursValue
 ghost use Rattle.colouring.specs.Colours.{AreArgs, AreColours};
 ghost use Rattle.bound_program.specs.Values.{bound_of};
 ghost use Rattle.bound_program.specs.Fits.{Fits, site_at};
-ghost use Rattle.loop_plan.specs.Values.{entry_of, site_plan_of};
+ghost use Rattle.loop_plan.specs.Values.{entries_of, site_plan_of};
+ghost use Rattle.loop_plan.specs.Alike.{AreMade};
 ghost use Rattle.loop_plan.specs.Needs.{IsLoopOf, IsInRange};
 ghost use Rattle.loop_plan.specs.Distributed.{Distributed};
 ghost use Rattle.loop_plan.specs.Places.{reducing, runs_free, is_run, HaveSets};
 ghost use Rattle.loop_plan.specs.SitePlans.{IsLeastPlan, IsPlanOf, ArePlansOf, block_of};
 ghost use Rattle.loop_plan.specs.Turns.{IsTurnPlan};
 
+use crate::alike::{PlanKey, plan_key, same_key};
 use crate::exchange::{LoopRun, args_of, run_at};
 use crate::needs::is_merged;
 use crate::places::places_by_rank;
+use crate::shared::SitePlans;
 use crate::turns::turns_by_rank;
-use crate::types::{PlanKind, SitePlan, SitePlans};
+use crate::types::{PlanKind, SitePlan};
 use bound_program::{Arg, Bound, Mesh};
 use colouring::{Colours, IncArg, colour};
-use indexmap::IndexMap;
 use local_mesh::RankMesh;
 use op_num::OutOfMemory;
-use std::alloc::{AllocError, Global};
+use std::alloc::Global;
 
 // The loop of a Free item is marked.
 fn mark(runs: &mut Vec<bool>, run: LoopRun)
@@ -162,15 +163,11 @@ fn site_plan(
     }
 }
 
-/// Adds a plan behind the others, of the loop `site`, which has none yet.
-pub fn insert_plan(plans: &mut SitePlans, site: u32, plan: SitePlan) -> Result<(), OutOfMemory>
-    requires { get nat_eq plans.old site ≡ None }
-    ensures { OnOk result (plans.new.entries ≡ plans.old.entries ++ (site, plan) ∷ []) }
-{
-    match plans.insert(site, plan) {
-        Ok(_) => Ok(()),
-        Err(_) => Err(AllocError),
-    }
+// Plans that are being made, each with what it is made from.
+#[derive(Drop)]
+struct Making {
+    plans: SitePlans,
+    keys: Vec<PlanKey>,
 }
 
 // Whether a loop runs as a Free one.
@@ -181,31 +178,32 @@ fn is_running(runs: &[bool], site: u32) -> bool
     runs[site as usize]
 }
 
-// The plan of a loop, where it runs as a Free one.
+// One loop more, which runs as a Free one: it shares the plan of one that has the same, or has one of its own.
 fn add_plan(
-    plans: &mut SitePlans,
+    making: &mut Making,
     alloc: Global,
     bound: &Bound,
     ranks: &[RankMesh],
-    is_run: bool,
     site: u32,
     kind: PlanKind,
 ) -> Result<(), OutOfMemory>
     requires fits { Fits (bound_of bound.now) }
     requires ranks { (h : Halos) × Distributed (bound_of bound.now).mesh h ranks.now }
     requires sets { HaveSets (bound_of bound.now).mesh ranks.now }
-    requires run { is_run ≡ runs_free (bound_of bound.now) site }
+    requires run { runs_free (bound_of bound.now) site ≡ true }
     requires site { site < length (bound_of bound.now).sites }
     requires block { 0 < block_of kind }
-    requires before { ArePlansOf (bound_of bound.now) (IsPlanOf (bound_of bound.now) ranks.now kind) site (map entry_of plans.old.entries) }
-    ensures { OnOk result
-        (ArePlansOf (bound_of bound.now) (IsPlanOf (bound_of bound.now) ranks.now kind) (site + 1) (map entry_of plans.new.entries)) }
+    requires before { AreMade (bound_of bound.now) kind ranks.now site making.old.plans making.old.keys.items }
+    ensures { OnOk result (AreMade (bound_of bound.now) kind ranks.now (site + 1) making.new.plans making.new.keys.items) }
 {
-    if !is_run {
+    let key = plan_key(alloc, bound, site, kind)?;
+    if let Some(slot) = same_key(&making.keys, &key) {
+        making.plans.share(site, slot)?;
         return Ok(());
     }
     let plan = site_plan(alloc, bound, ranks, site, kind)?;
-    insert_plan(plans, site, plan)?;
+    making.plans.add(site, plan)?;
+    making.keys.push(key)?;
     Ok(())
 }
 
@@ -222,15 +220,19 @@ pub fn site_plans(
     requires ranks { (h : Halos) × Distributed (bound_of bound.now).mesh h ranks.now }
     requires sets { HaveSets (bound_of bound.now).mesh ranks.now }
     requires block { 0 < block_of kind }
-    ensures { IfOk result (λ m.
+    ensures { IfOk result (λ v.
         ArePlansOf (bound_of bound.now) (IsPlanOf (bound_of bound.now) ranks.now kind) (length (bound_of bound.now).sites)
-        (map entry_of m.entries)) }
+        (entries_of v)) }
 {
     let runs = running_loops(alloc, bound)?;
-    let mut plans = IndexMap::new(alloc);
+    let mut making = Making {
+        plans: SitePlans::new(alloc),
+        keys: Vec::new(alloc),
+    };
     for site in 0..bound.sites.len() as u32 {
-        let is_run = is_running(&runs, site);
-        add_plan(&mut plans, alloc, bound, ranks, is_run, site, kind)?;
+        if is_running(&runs, site) {
+            add_plan(&mut making, alloc, bound, ranks, site, kind)?;
+        }
     }
-    Ok(plans)
+    Ok(making.plans)
 }

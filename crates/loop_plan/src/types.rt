@@ -1,7 +1,7 @@
 // Plans.
 
+use crate::shared::SitePlans;
 use colouring::Colours;
-use indexmap::IndexMap;
 use std::alloc::AllocError;
 use thiserror::Error;
 
@@ -11,9 +11,6 @@ pub struct SitePlan {
     pub places: Vec<u32>,
     pub colours: Vec<Colours>,
 }
-
-/// The plans of the Free loops that run, by the loop's number, increasing.
-pub type SitePlans = IndexMap<u32, SitePlan>;
 
 /// A message: its sender and its receiver.
 #[derive(Clone, Copy, PartialEq, Eq, Debug)]

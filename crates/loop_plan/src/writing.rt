@@ -11,7 +11,7 @@ ghost use Rattle.loop_plan.specs.Pairs.{own_in};
 ghost use Rattle.loop_plan.specs.Spaced.{spaced};
 ghost use Rattle.bound_program.specs.Values.{Free, item_of, bound_of};
 ghost use Rattle.bound_program.specs.Fits.{Fits};
-ghost use Rattle.loop_plan.specs.Values.{site_plan_of, item_plan_of, entry_of, plan_of};
+ghost use Rattle.loop_plan.specs.Values.{site_plan_of, item_plan_of, entries_of, plan_of};
 ghost use Rattle.loop_plan.specs.Needs.{item_at};
 ghost use Rattle.loop_plan.specs.ItemPlans.{plan_in};
 ghost use Rattle.loop_plan.specs.SitePlans.{IsByRank};
@@ -22,7 +22,8 @@ ghost use Rattle.loop_plan.specs.PlanText.{halo_line, halo_lines, all_halo_lines
 ghost use Rattle.loop_plan.specs.PlanText.{item_line, item_lines, plan_text};
 
 use crate::places::sets_on;
-use crate::types::{ItemPlan, Plan, SitePlan, SitePlans};
+use crate::shared::SitePlans;
+use crate::types::{ItemPlan, Plan, SitePlan};
 use bound_program::{Bound, Item, Mesh};
 use colouring::Colours;
 use local_mesh::{LocalSet, RankMesh};
@@ -215,7 +216,7 @@ fn put_sites(
 // The lines of a loop that has this plan.
 fn put_site_plan(out: &mut Vec<u8>, site: u32, plan: &SitePlan) -> Result<(), OutOfMemory>
     requires { IsByRank (site_plan_of plan.now) }
-    ensures { OnOk result (out.new.items ≡ out.old.items ++ text_of_lines (loop_lines (entry_of (site, plan.now)))) }
+    ensures { OnOk result (out.new.items ≡ out.old.items ++ text_of_lines (loop_lines (site, site_plan_of plan.now))) }
 {
     put_sites(out, site, plan.places.as_slice(), plan.colours.as_slice())?;
     Ok(())
@@ -223,12 +224,12 @@ fn put_site_plan(out: &mut Vec<u8>, site: u32, plan: &SitePlan) -> Result<(), Ou
 
 // The lines of all loops that have plans.
 fn put_all_sites(out: &mut Vec<u8>, sites: &SitePlans) -> Result<(), OutOfMemory>
-    requires { All (λ e. IsByRank (site_plan_of e.1)) sites.now.entries }
-    ensures { OnOk result (out.new.items
-        ≡ out.old.items ++ text_of_lines (flat_map loop_lines (map entry_of sites.now.entries))) }
+    requires { All (λ e. IsByRank e.1) (entries_of sites.now) }
+    ensures { OnOk result (out.new.items ≡ out.old.items ++ text_of_lines (flat_map loop_lines (entries_of sites.now))) }
 {
-    for (site, plan) in sites.iter() {
-        put_site_plan(out, *site, plan)?;
+    for place in 0..sites.len() {
+        let (site, plan) = sites.loop_at(place);
+        put_site_plan(out, site, plan)?;
     }
     Ok(())
 }

@@ -9,7 +9,7 @@ ghost use Rattle.loop_plan.specs.Needs.{IsInRange};
 ghost use Rattle.loop_plan.specs.Places.{reducing, places_of, runs_free, HaveSets};
 ghost use Rattle.loop_plan.specs.Proper.{Separate, HasColours, IsSitePlan};
 ghost use Rattle.loop_plan.specs.SitePlans.{AreSitePlans};
-ghost use Rattle.loop_plan.specs.Values.{entry_of, site_plan_of};
+ghost use Rattle.loop_plan.specs.Values.{entries_of, site_plan_of};
 ghost use Rattle.plan_cert.specs.Awaited.{ColoursOf, awaited_ranks, awaited_sites};
 ghost use Rattle.plan_cert.specs.Certified.{lists_of, colours_in};
 ghost use Rattle.plan_cert.specs.Judged.{JudgesAmong};
@@ -20,10 +20,9 @@ use crate::words::told_line;
 use bound_program::Bound;
 use colouring::block_plan::count;
 use colouring::{Clash, Colours, IncArg, find_clash};
-use indexmap::IndexMap;
 use local_mesh::RankMesh;
 use loop_plan::{
-    SitePlan, SitePlans, args_of, insert_plan, places_by_rank, reducing_args, running_loops,
+    SitePlan, SitePlans, args_of, places_by_rank, reducing_args, running_loops,
 };
 use op_num::{OutOfMemory, put_u64};
 use std::alloc::Global;
@@ -151,16 +150,16 @@ pub fn take_sites(
     requires size { 0 < size }
     ensures judged { JudgesAmong (bound_of bound.now) ranks.now size
         (awaited_sites (bound_of bound.now) ranks.now (length (bound_of bound.now).sites)) lines.old lines.new
-        (λ m. colours_in (map entry_of m.entries)) result }
-    ensures plans { IfOk result (λ m.
-        AreSitePlans (bound_of bound.now) ranks.now size (length (bound_of bound.now).sites) (map entry_of m.entries)) }
+        (λ v. colours_in (entries_of v)) result }
+    ensures plans { IfOk result (λ v.
+        AreSitePlans (bound_of bound.now) ranks.now size (length (bound_of bound.now).sites) (entries_of v)) }
 {
     let runs = running_loops(alloc, bound)?;
-    let mut plans = IndexMap::new(alloc);
+    let mut plans = SitePlans::new(alloc);
     for site in 0..bound.sites.len() as u32 {
         if runs[site as usize] {
             let plan = take_loop(alloc, lines, bound, ranks, site, size)?;
-            insert_plan(&mut plans, site, plan)?;
+            plans.add(site, plan)?;
         }
     }
     Ok(plans)

@@ -23,7 +23,7 @@ use op_num::OutOfMemory;
 fn places_of<'a>(plan: &'a Plan, site: u32) -> &'a [u32]
     ensures { result.now ≡ (site_plan (plan_of plan.now) site).places }
 {
-    match plan.sites.get(&site) {
+    match plan.sites.get(site) {
         Some(found) => &found.places,
         None => &[],
     }
@@ -33,7 +33,7 @@ fn places_of<'a>(plan: &'a Plan, site: u32) -> &'a [u32]
 fn colours_of<'a>(plan: &'a Plan, site: u32) -> &'a [Colours]
     ensures { result.now ≡ (site_plan (plan_of plan.now) site).colours }
 {
-    match plan.sites.get(&site) {
+    match plan.sites.get(site) {
         Some(found) => &found.colours,
         None => &[],
     }

@@ -11,7 +11,6 @@ pub mod VariableNumbers
 pub mod ConstantNumbers
 pub mod LoopRows
 pub mod TablesStand
-pub mod PlanPlaces
 pub mod ArgVariables
 pub mod ItemLoops
 pub mod RankMeshes

@@ -23,7 +23,8 @@ fn most_places(plan: &Plan, rank: u32) -> usize
     ensures { result ≡ places_on (plan_of plan.now) rank }
 {
     let mut most = 0;
-    for part in plan.sites.values() {
+    for place in 0..plan.sites.len() {
+        let (_, part) = plan.sites.loop_at(place);
         most = places_in(part, rank).max(most);
     }
     most as usize

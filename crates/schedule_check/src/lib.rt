@@ -1,4 +1,5 @@
-//! Whether a schedule of a plan is accepted: each step in its turn, and the end.
+//! Whether a schedule of a plan is accepted: each step in its turn, and the end (`Checker`, `take_all`). And what the
+//! orders of a plan's steps are read from, with its standard order (`plan_orders`).
 #![tactic(auto)]
 
 mod cells;

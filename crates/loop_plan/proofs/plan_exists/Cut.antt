@@ -1,5 +1,5 @@
 -- A list cut along its longest axis.
-use Rattle.std.proofs.Common.{◌≡◌, ◌∙◌, ◌<◌, ◌≤◌, ◌-◌, ℕ, ℤ, true, false, List, length, get_or, take, drop, refl, arith, ⊎_elim, inl, inr}
+use Rattle.std.proofs.Common.{◌≡◌, ◌<◌, ◌≤◌, ◌-◌, ℕ, ℤ, true, false, List, length, get_or, take, drop, refl, arith, ⊎_elim, inl, inr}
 use Rattle.std.proofs.lemmas.List.{take-append-drop, length-take-le}
 use Rattle.std.proofs.lemmas.List.Sorted.{length_permutation}
 use Rattle.partition.specs.Bisect.{height, IsSpread, IsAxis, IsAlong, IsCut}

@@ -17,8 +17,9 @@ use Rattle.loop_plan.specs.Proper.{Proper}
 use Rattle.loop_plan.specs.StepOutline.{is_free, loop_of}
 use Rattle.schedule_check.specs.declared.plan_orders.messages.Messages.{Messages}
 use Rattle.schedule_check.specs.Messages.{HasMessages, receiver_lists, sender_lists}
-use Rattle.schedule_check.specs.Runs.{site_rows, AreLoopRuns}
+use Rattle.schedule_check.specs.Runs.{AreSlotRuns}
 use Rattle.schedule_check.specs.Shape.{IsShape}
+use Rattle.schedule_check.proofs.plan_orders.LoopRuns.{has_slot, are_loop_runs}
 use Rattle.schedule_check.proofs.plan_orders.PairsBelow.{receivers_are, senders_are, pairs_within}
 
 free_is : (i : ItemValue) → is_free i ≡ true → i ≡ Free (loop_of i)
@@ -49,18 +50,19 @@ module _ (b : BoundValue) (meshes : List RankMesh) (plan : Plan) (items : List I
   pub is_shape : (g : ℕ) (messages : List Messages) (runs : List (Vec (List (List ℕ)) Global)) → length b.trace < 2 ^ 32 → IsInRange b
       → length messages ≡ length items
       → ((k : ℕ) → k < length items → HasMessages (plan_in items k).pairs plan.ranks (receiver_lists messages k) (sender_lists messages k))
-      → length runs ≡ length b.sites
-      → ((s : ℕ) → s < length b.sites → AreLoopRuns b meshes p g s (site_rows runs s))
-      → IsShape b meshes p g messages runs
-  is_shape g messages runs few range count has sites loops = record {
+      → length runs ≡ length plan.sites.plans
+      → AreSlotRuns (length meshes) plan.block g plan.sites (length b.sites) runs
+      → IsShape b meshes p plan.sites g messages runs
+  is_shape g messages runs few range count has plans loops = record {
     few = few;
     free_loops = λ k l f. subst (λ z. IsLoopOf (length b.sites) (run_of z)) (free_is (item_at b k) f) (range.loops k l);
     ranks = proper.ranks;
     items = count ∙ counted;
     receivers = λ k s l ls. (lists k l).sent s ls ∙ receivers_are (t k) p.ranks p.ranks s ls;
     senders = λ k r l lr. (lists k l).received r lr ∙ senders_are (t k) p.ranks p.ranks r lr;
-    sites = sites;
-    loops = loops;
+    plans = plans;
+    slots = λ k s l e. has_slot b meshes plan proper k s l e (subst (λ z. IsLoopOf (length b.sites) (run_of z)) e (range.loops k l));
+    loops = λ s l. are_loop_runs b meshes plan g s runs proper l loops;
   }
     where
       lists : (k : ℕ) → k < length b.trace → HasMessages (pairs_below (t k) p.ranks p.ranks) p.ranks (receiver_lists messages k) (sender_lists messages k)

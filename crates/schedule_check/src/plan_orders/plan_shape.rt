@@ -19,7 +19,8 @@ use std::alloc::{AllocError, Global};
 use step_orders::{Runs, Shape, Standard, Steps};
 
 /// What the orders of a plan's steps are read from, where at most so many places of one block and colour are begun together.
-/// It holds the messages of each item by rank, and the runs of each loop by rank, however often the loop runs.
+/// It holds the messages of each item by rank, and the runs of each loop's plan by rank, however many loops share it and
+/// however often they run.
 #[derive(Drop)]
 pub struct PlanShape<'a> {
     bound: &'a Bound,
@@ -28,7 +29,7 @@ pub struct PlanShape<'a> {
     group: u32,
     messages: Vec<Messages>,
     runs: Vec<Vec<Runs>>,
-    ghost is_shape: { IsShape (bound_of bound.now) ranks.now (plan_of plan.now) group messages.items runs.items },
+    ghost is_shape: { IsShape (bound_of bound.now) ranks.now (plan_of plan.now) plan.now.sites group messages.items runs.items },
 }
 
 impl<'a> PlanShape<'a> {
@@ -97,7 +98,10 @@ impl<'a> Shape for PlanShape<'a> {
 
     fn runs(&self, item: u32, rank: u32) -> &Runs {
         match run_at(self.bound, item as usize) {
-            LoopRun::Free { site } => runs_on(&self.runs, site, rank),
+            LoopRun::Free { site } => match self.plan.sites.slot(site) {
+                Some(slot) => runs_on(&self.runs, slot, rank),
+                None => unreachable!(),
+            },
             LoopRun::Ordered { .. } => unreachable!(),
             LoopRun::No => unreachable!(),
         }

@@ -1,12 +1,12 @@
-// The runs of loops, by rank.
-ghost use Rattle.std.specs.Prelude.{◌≡◌, ◌<◌, ◌≤◌, ℕ, [], IfOk, length};
+// The runs of loops, by the slot of their plan and by rank.
+ghost use Rattle.std.specs.Prelude.{◌≡◌, ◌<◌, ◌≤◌, ◌+◌, ℕ, [], IfOk, OnOk, length};
 ghost use Rattle.schedule_steps.specs.Outline.{Outline};
 ghost use Rattle.step_orders.specs.Order.{IsColoured};
 ghost use Rattle.step_orders.specs.ElementRuns.{runs_of};
 ghost use Rattle.bound_program.specs.Values.{bound_of};
 ghost use Rattle.loop_plan.specs.Values.{plan_of, site_plan_of};
 ghost use Rattle.loop_plan.specs.Proper.{IsSitePlan, Proper};
-ghost use Rattle.schedule_check.specs.Runs.{blocks_in, inner_in, runs_at, site_rows, AreLoopRuns};
+ghost use Rattle.schedule_check.specs.Runs.{runs_at, slot_runs, AreRunsOf, AreSlotRuns};
 
 use bound_program::Bound;
 use local_mesh::RankMesh;
@@ -46,10 +46,7 @@ fn loop_runs(
     requires block { 1 ≤ block }
     requires group { 1 ≤ group }
     requires plan { IsSitePlan (bound_of bound.now) ranks.now block site (site_plan_of plan.now) }
-    ensures count { IfOk result (λ v. length v.items ≡ length ranks.now) }
-    ensures runs { IfOk result (λ v. (o : Outline) (k r : ℕ) → r < length ranks.now
-        → IsColoured o k r block (blocks_in plan.now.colours.items r) (inner_in plan.now.colours.items r)
-        → runs_at v.items r ≡ runs_of o group k r) }
+    ensures { IfOk result (λ v. AreRunsOf (length ranks.now) block group (site_plan_of plan.now).colours v.items) }
 {
     let mut runs = Vec::new(alloc);
     for rank in 0..ranks.len() {
@@ -59,30 +56,48 @@ fn loop_runs(
     Ok(runs)
 }
 
-// By rank the runs of a loop, or none where it doesn't run as a Free one.
-fn site_runs(
+// By slot no runs.
+fn no_runs(alloc: Global, slots: usize) -> Result<Vec<Vec<Runs>>, OutOfMemory>
+    ensures count { IfOk result (λ v. length v.items ≡ slots) }
+    ensures none { IfOk result (λ v. (k : ℕ) → slot_runs v.items k ≡ []) }
+{
+    let mut runs = Vec::with_capacity(alloc, slots)?;
+    for _ in 0..slots {
+        runs.push(Vec::new(alloc))?;
+    }
+    Ok(runs)
+}
+
+// The runs of a loop's plan, where no loop before it had the same.
+fn put_runs(
+    runs: &mut [Vec<Runs>],
     alloc: Global,
     bound: &Bound,
     ranks: &[RankMesh],
     plan: &Plan,
     site: u32,
     group: u32,
-) -> Result<Vec<Runs>, OutOfMemory>
+) -> Result<(), OutOfMemory>
     requires plan { Proper (bound_of bound.now) ranks.now (plan_of plan.now) }
-    requires site { site < length (bound_of bound.now).sites }
     requires group { 1 ≤ group }
-    ensures { IfOk result (λ v. AreLoopRuns (bound_of bound.now) ranks.now (plan_of plan.now) group site v.items) }
+    requires count { length runs.old ≡ length plan.now.sites.plans }
+    requires before { AreSlotRuns (length ranks.now) plan.now.block group plan.now.sites site runs.old }
+    ensures count { length runs.new ≡ length runs.old }
+    ensures runs { OnOk result (AreSlotRuns (length ranks.now) plan.now.block group plan.now.sites (site + 1) runs.new) }
 {
-    match plan.sites.get(&site) {
-        Some(found) => {
-            let runs = loop_runs(alloc, bound, ranks, found, site, plan.block, group)?;
-            Ok(runs)
-        }
-        None => Ok(Vec::new(alloc)),
+    let Some(slot) = plan.sites.slot(site) else {
+        return Ok(());
+    };
+    let Some(found) = plan.sites.get(site) else {
+        unreachable!()
+    };
+    if runs[slot].is_empty() {
+        runs[slot] = loop_runs(alloc, bound, ranks, found, site, plan.block, group)?;
     }
+    Ok(())
 }
 
-/// By loop and rank, the runs of the loop's places. An error is want of memory.
+/// By the slot of a loop's plan and rank, the runs of the loop's places. An error is want of memory.
 pub fn plan_runs(
     alloc: Global,
     bound: &Bound,
@@ -94,22 +109,21 @@ pub fn plan_runs(
     requires plan { Proper (bound_of bound.now) ranks.now (plan_of plan.now) }
     requires sites { length (bound_of bound.now).sites ≡ sites }
     requires group { 1 ≤ group }
-    ensures count { IfOk result (λ v. length v.items ≡ sites) }
-    ensures runs { IfOk result (λ v. (s : ℕ) → s < sites
-        → AreLoopRuns (bound_of bound.now) ranks.now (plan_of plan.now) group s (site_rows v.items s)) }
+    ensures count { IfOk result (λ v. length v.items ≡ length plan.now.sites.plans) }
+    ensures runs { IfOk result (λ v. AreSlotRuns (length ranks.now) plan.now.block group plan.now.sites sites v.items) }
 {
-    let mut runs = Vec::new(alloc);
+    let mut runs = no_runs(alloc, plan.sites.count())?;
     for site in 0..sites {
-        runs.push(site_runs(alloc, bound, ranks, plan, site, group)?)?;
+        put_runs(&mut runs, alloc, bound, ranks, plan, site, group)?;
     }
     Ok(runs)
 }
 
-/// The runs of a loop on a rank.
-pub fn runs_on(runs: &[Vec<Runs>], site: u32, rank: u32) -> &Runs
-    requires site { site < length runs.now }
-    requires rank { rank < length (site_rows runs.now site) }
-    ensures { result.now ≡ runs_at (site_rows runs.now site) rank }
+/// The runs on a rank of the places of loops whose plan has this slot.
+pub fn runs_on(runs: &[Vec<Runs>], slot: usize, rank: u32) -> &Runs
+    requires slot { slot < length runs.now }
+    requires rank { rank < length (slot_runs runs.now slot) }
+    ensures { result.now ≡ runs_at (slot_runs runs.now slot) rank }
 {
-    &runs[site as usize][rank as usize]
+    &runs[slot][rank as usize]
 }

@@ -1,25 +1,32 @@
-use Rattle.std.proofs.Common.{◌∙◌, sym, ap, map, []}
-use Rattle.std.specs.Prelude.{◌∷◌}
-use Rattle.std.proofs.lemmas.List.{map-append}
+use Rattle.std.proofs.Common.{◌<◌, List, length, subst}
+use Rattle.std.specs.Prelude.{slice_index_or}
 use Rattle.bound_program.specs.Values.{bound_of}
-use Rattle.loop_plan.specs.Values.{entry_of, site_plan_of}
+use Rattle.loop_plan.specs.declared.alike.PlanKey.{PlanKey}
+use Rattle.loop_plan.specs.SameKeys.{AreSameKeys}
+use Rattle.loop_plan.specs.SharedPlans.{entries_of, site_plan_of}
 use Rattle.loop_plan.specs.SitePlans.{IsPlanOf}
-use Rattle.loop_plan.proofs.SitePlanning.{no_plan, plans_kept, plans_added}
+use Rattle.loop_plan.proofs.SitePlanning.{no_plan}
+use Rattle.loop_plan.proofs.SamePlans.{made_shared, made_added}
 use Rattle.loop_plan.proofs.sites.add_plan.Goals as goal
 
-pub returns-then-not-is_run : goal.returns-then-not-is_run
-returns-then-not-is_run c =
-    plans_kept (bound_of c.args.bound.now) (IsPlanOf (bound_of c.args.bound.now) c.args.ranks.now c.args.kind) c.args.site (map entry_of c.args.plans.now.entries)
-    (sym c.requires.run ∙ c.if-not-is_run.true) c.requires.before
+pub share-requires-clause-none : goal.share-requires-clause-none
+share-requires-clause-none c =
+    no_plan (bound_of c.args.bound.now) (IsPlanOf (bound_of c.args.bound.now) c.args.ranks.now c.args.kind) c.args.site (entries_of c.args.making.now.plans) c.requires.before.plans
 
-pub insert_plan-requires : goal.insert_plan-requires
-insert_plan-requires c = no_plan (bound_of c.args.bound.now) (IsPlanOf (bound_of c.args.bound.now) c.args.ranks.now c.args.kind) c.args.site c.args.plans.now.entries c.requires.before
+pub add-requires : goal.add-requires
+add-requires c =
+    no_plan (bound_of c.args.bound.now) (IsPlanOf (bound_of c.args.bound.now) c.args.ranks.now c.args.kind) c.args.site (entries_of c.args.making.now.plans) c.requires.before.plans
+
+pub returns-in-Some : goal.returns-in-Some
+returns-in-Some c =
+    made_shared (bound_of c.args.bound.now) c.args.ranks.now c.args.kind c.args.site c.args.making.now.plans c.args.making.now.keys.items c.requires.before
+    c.requires.run c.share.new.self c.in_ok-key.key c.in-Some.slot c.in_ok-key.ensures
+    (subst (λ (z : List PlanKey). c.in-Some.slot < length z) c.deref.ensures.value c.in-Some.ensures.within)
+    (subst (λ (z : List PlanKey). (d : PlanKey) → AreSameKeys (slice_index_or z c.in-Some.slot d) c.in_ok-key.key) c.deref.ensures.value c.in-Some.ensures.same)
+    c.in_ok-share.ensures.plans c.in_ok-share.ensures.entries
 
 pub returns : goal.returns
 returns c =
-    plans_added (bound_of c.args.bound.now) (IsPlanOf (bound_of c.args.bound.now) c.args.ranks.now c.args.kind) c.args.site (map entry_of c.args.plans.now.entries)
-    (map entry_of c.insert_plan.new.plans.entries) (site_plan_of c.in_ok-plan.plan)
-    (sym c.requires.run ∙ c.if-not-is_run.false)
-    c.in_ok-plan.ensures
-    (ap (map entry_of) c.in_ok-insert_plan.ensures ∙ map-append entry_of c.args.plans.now.entries ((c.args.site, c.in_ok-plan.plan) ∷ []))
-    c.requires.before
+    made_added (bound_of c.args.bound.now) c.args.ranks.now c.args.kind c.args.site c.args.making.now.plans c.args.making.now.keys.items c.requires.before
+    c.requires.run c.add.new.self c.in_ok-key.key (site_plan_of c.in_ok-plan.plan) c.push.new.self.items c.in_ok-key.ensures c.in_ok-plan.ensures
+    c.in_ok-add.ensures.plans c.in_ok-add.ensures.entries c.in_ok-push.ensures.items

@@ -1,16 +1,30 @@
-use Rattle.std.proofs.Common.{◌≡◌, ◌∙◌, false, length, map, ap, subst, arith, List, Bool}
+use Rattle.std.proofs.Common.{◌≡◌, ◌∙◌, ℕ, Bool, false, ap, sym, List}
 use Rattle.std.specs.Prelude.{slice_index_or}
-use Rattle.std.proofs.lemmas.List.{length-map}
-use Rattle.bound_program.specs.Values.{bound_of, site_of}
-use Rattle.loop_plan.specs.Values.{entry_of}
-use Rattle.loop_plan.specs.SitePlans.{IsPlanOf, ArePlansOf}
+use Rattle.bound_program.specs.Values.{bound_of}
+use Rattle.loop_plan.specs.SharedPlans.{entries_of}
+use Rattle.loop_plan.specs.Places.{runs_free}
+use Rattle.loop_plan.specs.SitePlans.{IsPlanOf}
+use Rattle.loop_plan.proofs.SitePlanning.{plans_kept}
 use Rattle.loop_plan.proofs.sites.site_plans.Goals as goal
+use Rattle.loop_plan.proofs.sites.site_plans.Goals.{then-is_running+in_ok-add_plan, else-is_running}
 
 pub add_plan-requires-clause-run : goal.add_plan-requires-clause-run
 add_plan-requires-clause-run c =
-    c.is_running-is_run.ensures ∙ (ap (λ (z : List Bool). slice_index_or z c.loop-site.site false) c.deref.ensures.value ∙ c.in_ok-runs.ensures.runs c.loop-site.site)
+    sym (c.in_ok-runs.ensures.runs c.loop-site.site) ∙ (ap (λ (z : List Bool). slice_index_or z c.loop-site.site false) (sym c.deref.ensures.value) ∙ (sym c.is_running.ensures ∙ c.if-is_running.true))
 
-pub returns : goal.returns
-returns c =
-    let e : c.loop-site.site ≡ length (bound_of c.args.bound.now).sites = omega (arith, c.loop-site-test.false, c.loop-site.auto.site-end, c.requires.few, length-map c.args.bound.now.sites.items site_of) in
-    subst (λ z. ArePlansOf (bound_of c.args.bound.now) (IsPlanOf (bound_of c.args.bound.now) c.args.ranks.now c.args.kind) z (map entry_of c.loop-site.plans.entries)) e c.loop-site.invariant
+pub loop-site-preserved : goal.loop-site-preserved
+loop-site-preserved c =
+    let b = bound_of c.args.bound.now in
+    let meshes = c.args.ranks.now in
+    let n : ℕ = c.loop-site.site in
+    elim c.if-is_running.branch [
+      | then-is_running+in_ok-add_plan w ↦ rw w.making-is w.in_ok-add_plan.ensures
+      | else-is_running w ↦ (
+          let idle : runs_free b n ≡ false =
+          sym (c.in_ok-runs.ensures.runs n) ∙ (ap (λ (z : List Bool). slice_index_or z n false) (sym c.deref.ensures.value) ∙ (sym c.is_running.ensures ∙ w.if-is_running.false)) in
+          rw w.making-is (record {
+            count = c.loop-site.invariant.count;
+            each = c.loop-site.invariant.each;
+            plans = plans_kept b (IsPlanOf b meshes c.args.kind) n (entries_of c.loop-site.making.plans) idle c.loop-site.invariant.plans;
+          }))
+    ]

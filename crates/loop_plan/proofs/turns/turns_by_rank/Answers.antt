@@ -1,4 +1,4 @@
-use Rattle.std.proofs.Common.{ℕ, get_or, arith}
+use Rattle.std.proofs.Common.{get_or, arith}
 use Rattle.std.proofs.lemmas.List.{length_push}
 use Rattle.colouring.specs.declared.types.Colours.{Colours}
 use Rattle.loop_plan.specs.Turns.{AreTurns}

@@ -1,29 +1,33 @@
-use Rattle.std.proofs.Common.{◌≡◌, ◌<◌, ◌∙◌, ◌++◌, rules, map, length, sym, ap}
-use Rattle.std.specs.Prelude.{Some, slice_get}
+use Rattle.std.proofs.Common.{◌≡◌, ◌<◌, ◌≤◌, ◌∙◌, ◌++◌, ℕ, List, length, ap, arith}
+use Rattle.std.proofs.lemmas.List.{length-map, take_all}
 use Rattle.std.specs.List.{flat_map}
-use Rattle.std.specs.Map.Iter.{deref_pair}
-use Rattle.std.proofs.lemmas.Map.Iter.{iter_turn, iter_end}
-use Rattle.std.proofs.lemmas.List.{map_push}
 use Rattle.texts.specs.Lines.{text_of_lines}
-use Rattle.loop_plan.specs.Values.{entry_of}
+use Rattle.loop_plan.specs.SharedPlans.{SitePlanValue, entry_at, entries_of, site_plan_of}
 use Rattle.loop_plan.specs.PlanText.{loop_lines}
 use Rattle.loop_plan.proofs.PlanWriting.{entries_more, by_rank_at}
 use Rattle.loop_plan.proofs.writing.put_all_sites.Goals as goal
 
+abbrev entry : ℕ → SitePlanValue → ℕ × SitePlanValue
+entry s p = (s, p)
+
 pub put_site_plan-requires : goal.put_site_plan-requires
 put_site_plan-requires c =
-    let turn : (length c.loop-site.yielded < length c.args.sites.now.entries)
-    × (slice_get c.args.sites.now.entries (length c.loop-site.yielded) ≡ Some (deref_pair (c.in-Some.site, c.in-Some.plan))) = search (rules, iter_turn) in
-    by_rank_at c.args.sites.now.entries (length c.loop-site.yielded) (c.in-Some.site.now, c.in-Some.plan.now) c.requires turn
+    let es : List (ℕ × SitePlanValue) = entries_of c.args.sites.now in
+    let many : length es ≡ length c.args.sites.now.slots = length-map c.args.sites.now.slots (entry_at c.args.sites.now.plans) in
+    let l : c.loop-place.place < length es = omega (arith, many, c.loop-place-test.true, c.loop-place.auto.place-end, c.len-place-end.ensures) in
+    by_rank_at es c.loop-place.place (entry c.loop_at-site.result.0 (site_plan_of c.loop_at-site.result.1.now)) c.requires l c.loop_at-site.ensures
 
-pub loop-site-preserved : goal.loop-site-preserved
-loop-site-preserved c =
-    entries_more (map deref_pair c.loop-site.yielded) (c.in-Some.site.now, c.in-Some.plan.now) c.args.out.now.items c.loop-site.out.items
-    c.put_site_plan.new.out.items c.loop-site.invariant c.in_ok-put_site_plan.ensures
-    ∙ ap (λ es. c.args.out.now.items ++ text_of_lines (flat_map loop_lines (map entry_of es)))
-    (sym (map_push deref_pair c.loop-site.yielded (c.in-Some.site, c.in-Some.plan)))
+pub loop-place-preserved : goal.loop-place-preserved
+loop-place-preserved c =
+    let es : List (ℕ × SitePlanValue) = entries_of c.args.sites.now in
+    let many : length es ≡ length c.args.sites.now.slots = length-map c.args.sites.now.slots (entry_at c.args.sites.now.plans) in
+    let l : c.loop-place.place < length es = omega (arith, many, c.loop-place-test.true, c.loop-place.auto.place-end, c.len-place-end.ensures) in
+    entries_more es c.loop-place.place (entry c.loop_at-site.result.0 (site_plan_of c.loop_at-site.result.1.now)) c.args.out.now.items c.loop-place.out.items
+    c.put_site_plan.new.out.items l c.loop_at-site.ensures c.loop-place.invariant c.in_ok-put_site_plan.ensures
 
 pub returns : goal.returns
 returns c =
-    let e : map deref_pair c.loop-site.yielded ≡ c.args.sites.now.entries = search (rules, iter_end) in
-    c.loop-site.invariant ∙ ap (λ es. c.args.out.now.items ++ text_of_lines (flat_map loop_lines (map entry_of es))) e
+    let es : List (ℕ × SitePlanValue) = entries_of c.args.sites.now in
+    let many : length es ≡ length c.args.sites.now.slots = length-map c.args.sites.now.slots (entry_at c.args.sites.now.plans) in
+    let l : length es ≤ c.loop-place.place = omega (arith, many, c.loop-place-test.false, c.loop-place.auto.place-end, c.len-place-end.ensures) in
+    c.loop-place.invariant ∙ ap (λ z. c.args.out.now.items ++ text_of_lines (flat_map loop_lines z)) (take_all c.loop-place.place es l)

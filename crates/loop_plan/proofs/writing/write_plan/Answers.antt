@@ -1,4 +1,4 @@
-use Rattle.std.proofs.Common.{◌≡◌, ◌∙◌, ◌++◌, refl, sym, ap, length, map, arith, List}
+use Rattle.std.proofs.Common.{◌≡◌, ◌∙◌, ◌++◌, sym, ap, length, map, arith, List}
 use Rattle.std.proofs.lemmas.List.{length-map}
 use Rattle.texts.specs.Lines.{text_of_lines}
 use Rattle.bound_program.specs.Values.{bound_of}
@@ -15,7 +15,7 @@ put_all_halos-requires c = record { ranks = sets_had c.args.bound.now.mesh c.req
 pub put_all_sites-requires : goal.put_all_sites-requires
 put_all_sites-requires c =
     let few = (sets_had c.args.bound.now.mesh c.requires.ranks.0 c.args.ranks.now c.requires.ranks.1 c.is_in_range.ensures.sizes).few in
-    are_by_rank (bound_of c.args.bound.now) c.args.ranks.now (plan_of c.args.plan.now) c.requires.plan few c.args.plan.now.sites.entries refl
+    are_by_rank (bound_of c.args.bound.now) c.args.ranks.now (plan_of c.args.plan.now) c.requires.plan few
 
 pub put_items-requires-clause-few : goal.put_items-requires-clause-few
 put_items-requires-clause-few c = c.requires.fits.few

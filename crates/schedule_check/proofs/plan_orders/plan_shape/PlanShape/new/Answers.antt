@@ -1,6 +1,7 @@
-use Rattle.std.proofs.Common.{rules, ◌≡◌, ◌∙◌, length, sym}
+use Rattle.std.proofs.Common.{rules, ◌≡◌, ◌∙◌, length, subst, sym}
 use Rattle.std.proofs.lemmas.List.{length-map}
 use Rattle.bound_program.specs.Values.{bound_of, site_of, BoundValue}
+use Rattle.schedule_check.specs.Runs.{AreSlotRuns}
 use Rattle.schedule_check.proofs.plan_orders.Shapes.{pairs_inside, is_shape}
 use Rattle.schedule_check.proofs.plan_orders.plan_shape.PlanShape.new.Goals as goal
 
@@ -15,6 +16,6 @@ invariant_of-result c =
     record {
       is_shape = is_shape b c.args.ranks.now c.args.plan.now c.deref.result.now c.requires.plan c.deref.ensures.value c.args.group
           c.in_ok-messages.messages.items c.in_ok-runs.runs.items c.requires.fits.few (c.bound_is_in_range.ensures b c.requires.fits)
-          c.in_ok-messages.ensures.count c.in_ok-messages.ensures.messages (c.in_ok-runs.ensures.count ∙ sites)
-          (λ s l. c.in_ok-runs.ensures.runs s (rw sites l));
+          c.in_ok-messages.ensures.count c.in_ok-messages.ensures.messages c.in_ok-runs.ensures.count
+          (subst (λ n. AreSlotRuns (length c.args.ranks.now) c.args.plan.now.block c.args.group c.args.plan.now.sites n c.in_ok-runs.runs.items) sites c.in_ok-runs.ensures.runs);
     }
