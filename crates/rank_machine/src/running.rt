@@ -12,7 +12,7 @@ ghost use Rattle.rank_program.specs.Sound.{Takes, layout_in};
 
 use crate::windows::{KernelRun, OwnedWindows, Windows};
 use kernel_types::KernelFault;
-use rank_program::{DistributedProgram, run_kernel};
+use rank_program::run_kernel;
 use rank_state::rank_memory::loading::load;
 use rank_state::rank_memory::owned::{load_all, put_back_values, scatter_all};
 
@@ -25,29 +25,28 @@ pub struct Cells<'a> {
 
 /// Copies an element's windows into the frame and runs its kernel there; how many cells they have, or the fault.
 pub fn run_in(
-    program: &DistributedProgram<'_>,
     run: &KernelRun<'_>,
     cells: &Cells<'_>,
     windows: &Windows<'_>,
     frame: &mut [i32],
     scratch: &mut [i32],
 ) -> Result<usize, KernelFault>
-    requires takes { Takes program.now run.now.item run.now.element (length run.now.constants.now)
+    requires takes { Takes run.now.program.now run.now.item run.now.element (length run.now.constants.now)
         (total windows.now.spans.now + length windows.now.scalars.now) }
-    requires locals { program.now.locals ≤ length scratch.old }
+    requires locals { run.now.program.now.locals ≤ length scratch.old }
     requires inside { Within (length cells.now.memory.now) windows.now.spans.now }
     requires reads { Reads (length cells.now.variables.now) windows.now.scalars.now }
     requires room { total windows.now.spans.now + length windows.now.scalars.now ≤ length frame.old }
     ensures count { IfOk result (λ n. n ≡ total windows.now.spans.now + length windows.now.scalars.now) }
     ensures ran { ran_in frame.new result
-        ≡ (layout_in program.now).core run.now.item run.now.element run.now.constants.now
+        ≡ (layout_in run.now.program.now).core run.now.item run.now.element run.now.constants.now
         (gathered cells.now.memory.now windows.now.spans.now ++ firsts cells.now.variables.now windows.now.scalars.now) }
 {
     let (spans, scalars) = (windows.spans, windows.scalars);
     let count = load(cells.memory, spans, cells.variables, scalars, frame);
     let window = &mut frame[..count];
     match run_kernel(
-        program,
+        run.program,
         run.item,
         run.element,
         run.constants,
@@ -61,7 +60,6 @@ pub fn run_in(
 
 /// Runs an element of an Ordered loop on the owners' cells and the variables; its fault, where it has one.
 pub fn run_owned(
-    program: &DistributedProgram<'_>,
     run: &KernelRun<'_>,
     memories: &mut [Vec<i32>],
     variables: &mut [i32],
@@ -69,24 +67,24 @@ pub fn run_owned(
     frame: &mut [i32],
     scratch: &mut [i32],
 ) -> Option<KernelFault>
-    requires takes { Takes program.now run.now.item run.now.element (length run.now.constants.now)
+    requires takes { Takes run.now.program.now run.now.item run.now.element (length run.now.constants.now)
         (total_all windows.now.spans.now + length windows.now.indices.now) }
-    requires locals { program.now.locals ≤ length scratch.old }
+    requires locals { run.now.program.now.locals ≤ length scratch.old }
     requires inside { Within_all (map (λ v. v.items) memories.old) windows.now.spans.now }
     requires reads { InLength (length variables.old) windows.now.indices.now }
     requires room { total_all windows.now.spans.now + length windows.now.indices.now ≤ length frame.old }
     ensures fault { result
-        ≡ fault_of ((layout_in program.now).core run.now.item run.now.element run.now.constants.now
+        ≡ fault_of ((layout_in run.now.program.now).core run.now.item run.now.element run.now.constants.now
         (gathered_all (map (λ v. v.items) memories.old) windows.now.spans.now ++ values_at variables.old windows.now.indices.now)) }
     ensures memories { map (λ v. v.items) memories.new
         ≡ memories_after windows.now.spans.now
-        ((layout_in program.now).core run.now.item run.now.element run.now.constants.now
+        ((layout_in run.now.program.now).core run.now.item run.now.element run.now.constants.now
         (gathered_all (map (λ v. v.items) memories.old) windows.now.spans.now ++ values_at variables.old windows.now.indices.now))
         (map (λ v. v.items) memories.old) }
     ensures spare { KeepsSpare memories.old memories.new }
     ensures variables { variables.new
         ≡ variables_after (total_all windows.now.spans.now) windows.now.indices.now
-        ((layout_in program.now).core run.now.item run.now.element run.now.constants.now
+        ((layout_in run.now.program.now).core run.now.item run.now.element run.now.constants.now
         (gathered_all (map (λ v. v.items) memories.old) windows.now.spans.now ++ values_at variables.old windows.now.indices.now))
         variables.old }
 {
@@ -95,7 +93,7 @@ pub fn run_owned(
     let whole = count + indices.len();
     let window = &mut frame[..whole];
     match run_kernel(
-        program,
+        run.program,
         run.item,
         run.element,
         run.constants,

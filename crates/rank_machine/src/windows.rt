@@ -1,5 +1,6 @@
 // Elements on ranks, and their windows.
 
+use rank_program::DistributedProgram;
 use rank_state::{Owned, Scalar, Span};
 
 /// An element of an item that a rank begins: its place there, and its number in its set.
@@ -25,10 +26,14 @@ pub struct OwnedWindows<'a> {
     pub indices: &'a [usize],
 }
 
-/// A run of an item's kernel for an element, with the values of all constants.
-#[derive(Clone, Copy, Debug)]
+/// A run of the kernel of a program's loop for an element.
+#[derive(Drop)]
 pub struct KernelRun<'a> {
+    pub program: &'a DistributedProgram<'a>,
+    /// the item that is the loop
     pub item: u32,
+    /// the element's number in its set
     pub element: u32,
+    /// the values of all constants
     pub constants: &'a [i32],
 }

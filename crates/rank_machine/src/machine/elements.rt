@@ -18,6 +18,7 @@ use crate::running::{Cells, run_in};
 use crate::windows::{Begun, KernelRun, Windows};
 use kernel_runs::worker_batches::OneWorker;
 use rank_program::{DistributedProgram, RankElements, Room, run_places};
+use rank_state::rank_memory::ending::Ending;
 use rank_state::rank_memory::loading::load;
 use rank_state::rank_memory::stop::least;
 use rank_state::{Scalar, Span};
@@ -67,6 +68,7 @@ impl Machine {
             original,
         } = element;
         let run = KernelRun {
+            program,
             item,
             element: original,
             constants,
@@ -75,7 +77,7 @@ impl Machine {
             memory: &self.memories[rank as usize],
             variables: &self.variables,
         };
-        match run_in(program, &run, &cells, windows, &mut self.window, scratch) {
+        match run_in(&run, &cells, windows, &mut self.window, scratch) {
             Ok(count) => self.frames.open(item, rank, place, &self.window[..count]),
             Err(fault) => {
                 self.frames.open_broken(item, rank, place, fault);
@@ -169,15 +171,18 @@ impl Machine {
         ensures { self.new ≡ ended own rank place windows.now.spans.now windows.now.scalars.now self.old }
     {
         let skip = cells(windows.spans);
-        self.frames.end(
+        let ending = Ending {
             own,
+            spans: windows.spans,
+            scalars: windows.scalars,
+            skip,
+        };
+        self.frames.end(
             rank,
             place,
+            &ending,
             &mut self.memories[rank as usize],
-            windows.spans,
             &mut self.partials[rank as usize],
-            windows.scalars,
-            skip,
         );
     }
 }

@@ -29,7 +29,6 @@ use gather::host_acts::{Variables, run_act};
 use gather::print_dat;
 use kernel_types::KernelFault;
 use op_num::{OutOfMemory, Text};
-use rank_program::DistributedProgram;
 use rank_state::rank_memory::stop::{Stop, before};
 use rank_state::{Owned, Scalar};
 use std::alloc::Global;
@@ -56,27 +55,25 @@ impl Machine {
     /// has one.
     pub fn element(
         &mut self,
-        program: &DistributedProgram<'_>,
         run: &KernelRun<'_>,
         windows: &OwnedWindows<'_>,
         scratch: &mut [i32],
     ) -> Option<KernelFault>
-        requires takes { Takes program.now run.now.item run.now.element (length run.now.constants.now)
+        requires takes { Takes run.now.program.now run.now.item run.now.element (length run.now.constants.now)
             (total_all windows.now.spans.now + length windows.now.indices.now) }
-        requires locals { program.now.locals ≤ length scratch.old }
+        requires locals { run.now.program.now.locals ≤ length scratch.old }
         requires inside { Within_all self.old.memories windows.now.spans.now }
         requires reads { InLength (length self.old.variables) windows.now.indices.now }
         requires room { total_all windows.now.spans.now + length windows.now.indices.now ≤ self.old.frames.stride }
         ensures fault { result
-            ≡ fault_of ((layout_in program.now).core run.now.item run.now.element run.now.constants.now
+            ≡ fault_of ((layout_in run.now.program.now).core run.now.item run.now.element run.now.constants.now
             (all_windows windows.now.spans.now windows.now.indices.now self.old)) }
         ensures state { self.new
             ≡ left_in windows.now.spans.now windows.now.indices.now
-            ((layout_in program.now).core run.now.item run.now.element run.now.constants.now
+            ((layout_in run.now.program.now).core run.now.item run.now.element run.now.constants.now
             (all_windows windows.now.spans.now windows.now.indices.now self.old)) self.old }
     {
         run_owned(
-            program,
             run,
             &mut self.memories,
             &mut self.variables,

@@ -10,10 +10,10 @@ ghost use Rattle.flat_machine.specs.Layout.{Faults, Leaves};
 ghost use Rattle.rank_state.specs.Frames.{Panes, Shut, pane_at, opened, shut, closed, Enough, Exactly, fresh};
 ghost use Rattle.rank_state.specs.Slots.{entries, panes_in, Tied};
 
+use crate::rank_memory::ending::Ending;
 use crate::rank_memory::slot::{EMPTY, Held, Slot};
 use crate::rank_memory::staging::{hold_at, merge_back, put_back};
 use crate::rank_memory::table::{all_slots, nothing_open, put_slot, slot_at, take_slot};
-use crate::{Scalar, Span};
 use kernel_types::KernelFault;
 use std::alloc::{AllocError, Global};
 use std::marker::Model;
@@ -121,25 +121,23 @@ impl Frames {
     /// its amounts go into the partials where the element is owned.
     pub fn end(
         &mut self,
-        own: bool,
         rank: u32,
         element: u32,
+        ending: &Ending<'_>,
         memory: &mut [i32],
-        spans: &[Span],
         partials: &mut [i32],
-        scalars: &[Scalar],
-        skip: usize,
     )
         requires rank { rank < length self.old.panes }
         requires element { element < length (slice_index_or self.old.panes rank []) }
         requires open { pane_at self.old.panes rank element ≢ Shut }
-        requires inside { Within (length memory.old) spans.now }
-        requires enough { Enough (total spans.now) (pane_at self.old.panes rank element) }
-        requires slots { Merges (length partials.old) scalars.now }
-        requires exact { Exactly (skip + length scalars.now) (pane_at self.old.panes rank element) }
+        requires inside { Within (length memory.old) ending.now.spans.now }
+        requires enough { Enough (total ending.now.spans.now) (pane_at self.old.panes rank element) }
+        requires slots { Merges (length partials.old) ending.now.scalars.now }
+        requires exact { Exactly (ending.now.skip + length ending.now.scalars.now) (pane_at self.old.panes rank element) }
         ensures shut { self.new ≡ shut rank element self.old }
-        ensures memory { memory.new ≡ closed spans.now (pane_at self.old.panes rank element) memory.old }
-        ensures partials { partials.new ≡ merged_pane own skip scalars.now (pane_at self.old.panes rank element) partials.old }
+        ensures memory { memory.new ≡ closed ending.now.spans.now (pane_at self.old.panes rank element) memory.old }
+        ensures partials { partials.new
+            ≡ merged_pane ending.now.own ending.now.skip ending.now.scalars.now (pane_at self.old.panes rank element) partials.old }
     {
         let Some(slot) = slot_at(&self.table, rank, element) else {
             unreachable!()
@@ -151,17 +149,15 @@ impl Frames {
             at * self.stride,
             self.stride,
             memory,
-            spans,
+            ending.spans,
         );
         merge_back(
             self.slots[at].held,
-            own,
+            ending,
             &self.staging,
             at * self.stride,
             self.stride,
             partials,
-            scalars,
-            skip,
         );
         self.slots[at].held = Held::Nothing;
         take_slot(&mut self.table, rank, element);

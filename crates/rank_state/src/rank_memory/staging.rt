@@ -7,10 +7,11 @@ ghost use Rattle.rank_state.specs.Machine.{merged_pane};
 ghost use Rattle.rank_state.specs.Frames.{Holds, closed, Enough, Exactly};
 ghost use Rattle.rank_state.specs.Slots.{held_pane, fits_held};
 
+use crate::Span;
+use crate::rank_memory::ending::Ending;
 use crate::rank_memory::scalars::merge_amounts;
 use crate::rank_memory::slot::Held;
 use crate::rank_memory::spans::scatter;
-use crate::{Scalar, Span};
 
 /// Copies cells into a part of the staging buffer.
 pub fn hold_at(cells: &[i32], staging: &mut [i32], at: usize, stride: usize) -> Held
@@ -50,25 +51,25 @@ pub fn put_back(
 /// Merges the amounts that an owned element's frame holds behind its spans' cells.
 pub fn merge_back(
     held: Held,
-    own: bool,
+    ending: &Ending<'_>,
     staging: &[i32],
     at: usize,
     stride: usize,
     partials: &mut [i32],
-    scalars: &[Scalar],
-    skip: usize,
 )
     requires part { at + stride ≤ length staging.now }
     requires fits { fits_held stride held }
-    requires inside { Merges (length partials.old) scalars.now }
-    requires exact { Exactly (skip + length scalars.now) (held_pane held 0 (cells_at at stride staging.now)) }
-    ensures { partials.new ≡ merged_pane own skip scalars.now (held_pane held 0 (cells_at at stride staging.now)) partials.old }
+    requires inside { Merges (length partials.old) ending.now.scalars.now }
+    requires exact { Exactly (ending.now.skip + length ending.now.scalars.now) (held_pane held 0 (cells_at at stride staging.now)) }
+    ensures { partials.new
+        ≡ merged_pane ending.now.own ending.now.skip ending.now.scalars.now (held_pane held 0 (cells_at at stride staging.now))
+        partials.old }
 {
     match held {
         Held::Cells(count) => {
-            if own {
+            if ending.own {
                 let frame = &staging[at..at + count];
-                merge_amounts(partials, scalars, &frame[skip..]);
+                merge_amounts(partials, ending.scalars, &frame[ending.skip..]);
             }
         }
         _ => {}

@@ -80,7 +80,7 @@ returns-clause-memory c =
     let pane : pane_at c.args.self.now.panes c.args.rank c.args.element ≡ pane_of inside.stride inside.slots.items inside.staging.items c.in-Some.slot =
     (stands_here c).pane ∙ ap (of_entry (pane_of inside.stride inside.slots.items inside.staging.items)) (entry_is c) in
     c.put_back.ensures
-    ∙ ap (λ s. closed c.args.spans.now (held_pane c.index.result.now.held 0 (cells_at (c.in-Some.slot * inside.stride) inside.stride s)) c.args.memory.now) c.deref-2.ensures.value
-    ∙ ap (λ (w : Slot). closed c.args.spans.now (held_pane w.held 0 (cells_at (c.in-Some.slot * inside.stride) inside.stride inside.staging.items)) c.args.memory.now) slot
-    ∙ any_item c.args.spans.now (get_or inside.slots.items c.in-Some.slot no_slot).held 0 (get_or inside.slots.items c.in-Some.slot no_slot).item (cells_at (c.in-Some.slot * inside.stride) inside.stride inside.staging.items) c.args.memory.now
-    ∙ ap (λ p. closed c.args.spans.now p c.args.memory.now) (sym pane)
+    ∙ ap (λ s. closed c.args.ending.now.spans.now (held_pane c.index.result.now.held 0 (cells_at (c.in-Some.slot * inside.stride) inside.stride s)) c.args.memory.now) c.deref-2.ensures.value
+    ∙ ap (λ (w : Slot). closed c.args.ending.now.spans.now (held_pane w.held 0 (cells_at (c.in-Some.slot * inside.stride) inside.stride inside.staging.items)) c.args.memory.now) slot
+    ∙ any_item c.args.ending.now.spans.now (get_or inside.slots.items c.in-Some.slot no_slot).held 0 (get_or inside.slots.items c.in-Some.slot no_slot).item (cells_at (c.in-Some.slot * inside.stride) inside.stride inside.staging.items) c.args.memory.now
+    ∙ ap (λ p. closed c.args.ending.now.spans.now p c.args.memory.now) (sym pane)
