@@ -1,10 +1,10 @@
 pub mod Accesses
 pub mod Asides
-pub mod Fewer
 pub mod Given
 pub mod Merged
 pub mod Moves
 pub mod Picks
 pub mod Ran
+pub mod SomeRows
 pub mod Standing
 pub mod Stays

@@ -1,14 +1,22 @@
 -- Batches of a list of places, one behind another, each of which runs on columns of its own.
-use Rattle.std.specs.Prelude.{◌≡◌, ◌<◌, ◌≤◌, ◌+◌, ◌*◌, ℕ, ℤ, List, length, slice_index}
+use Rattle.std.specs.Prelude.{◌≡◌, ◌<◌, ◌≤◌, ◌+◌, ◌*◌, ℕ, ℤ, All, List, length, slice_index}
 use Rattle.kernel_types.specs.Resolved.{IsResolved}
 use Rattle.kernel_types.specs.Framed.{PlacesIn}
 use Rattle.kernel_code.specs.Coded.{IsCode}
 use Rattle.kernel_columns.specs.declared.columns.TheConstants.{ROWS}
 use Rattle.rank_state.specs.Windows.{Reads}
 use Rattle.kernel_runs.specs.declared.row_batches.rows.RowLoop.{RowLoop}
-use Rattle.kernel_runs.specs.RowLoops.{width, IsWhole, LeadsFrom}
+use Rattle.kernel_runs.specs.RowLoops.{HasRowRoom, width, IsWhole, LeadsFrom}
 use Rattle.kernel_runs.specs.Asides.{IsAside}
 use Rattle.kernel_runs.specs.declared.worker_batches.room.BatchPart.{BatchPart}
+use Rattle.kernel_runs.specs.declared.worker_batches.room.BatchesRoom.{BatchesRoom}
+
+-- a mark for each of so many places, and room for batches with so many ways, columns and slots, no more than these places make
+pub record HasBatches (ways columns slots places : ℕ) (room : BatchesRoom) : Type 0 where
+  pub parts : All (λ x. HasRowRoom ways columns slots x.room) room.parts.items
+  pub few : length room.parts.items ≤ 512
+  pub there : (i : ℕ) → i < length room.parts.items → i * ROWS < places
+  pub marks : length room.marks.items ≡ places
 
 -- the loop can run for the places on a memory of so many cells
 pub record CanRun (y : RowLoop) (cells : ℕ) (places : List ℕ) : Type 0 where

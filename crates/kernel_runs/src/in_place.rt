@@ -3,5 +3,5 @@ mod laws;
 mod running;
 mod saving;
 
-pub use laws::{finishes_here, runs_in_place, unwritten_stay};
-pub use running::run_here;
+pub use laws::{finishes_here, unwritten_stay};
+pub use running::{KernelInPlace, run_here};

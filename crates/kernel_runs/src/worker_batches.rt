@@ -3,10 +3,8 @@
 mod aside;
 mod at_once;
 mod differing;
-mod places;
 mod room;
 mod rounds;
 
 pub use at_once::{AtOnce, OneWorker, Workers};
-pub use places::batch_at;
-pub use room::{BatchPart, BatchesRoom};
+pub use room::BatchesRoom;

@@ -14,8 +14,8 @@ use crate::room::{KernelRoom, MOST_COLUMNS};
 use crate::row_loops::{LoopInRows, MOST_PAIRS, no_column, row_loop};
 use crate::share::RankShare;
 use kernel_columns::ROWS;
-use kernel_runs::row_batches::{FEWEST, RowRoom, run_batch};
-use kernel_runs::worker_batches::{AtOnce, batch_at};
+use kernel_runs::row_batches::{FEWEST, RowRoom, batch_at, run_batch};
+use kernel_runs::worker_batches::AtOnce;
 use kernel_types::views::Place;
 use rank_layout::{MAX_ARGS, element_windows_stand, steps_stand, windows_stand};
 

@@ -22,6 +22,7 @@ use crate::local_args::put_places;
 use crate::local_loops::LocalLoop;
 use crate::room::KernelRoom;
 use crate::share::RankShare;
+use kernel_runs::in_place::KernelInPlace;
 use kernel_runs::worker_batches::AtOnce;
 use kernel_types::KernelFault;
 use kernel_types::views::Place;
@@ -140,14 +141,17 @@ fn run_element(
     let cells = room.places.as_mut_slice();
     put_places(local.args, place, cells);
     fill(local.variables, local.scalars, width, memory);
+    let kernel = KernelInPlace {
+        code: local.code,
+        marks: local.marks,
+        clean: local.clean,
+        constants: local.constants,
+    };
     let fault = kernel_runs::in_place::run_here(
-        local.code,
+        &kernel,
         memory,
         cells,
-        local.marks,
-        local.clean,
         &mut room.saved,
-        local.constants,
         &mut room.locals,
     );
     note(local, place, fault, kept);

@@ -14,7 +14,7 @@ use crate::chain_memory::blocks::Blocks;
 use crate::chain_memory::loops::{Loop, MAX_ARGS};
 use crate::chain_memory::places::{owner_of, pair_at, variable_at, width_of};
 use bound_program::{Arg, Via};
-use kernel_runs::in_place::run_here;
+use kernel_runs::in_place::{KernelInPlace, run_here};
 use kernel_types::KernelFault;
 use kernel_types::views::Place;
 
@@ -129,8 +129,11 @@ pub fn run_element(
     let mut places = [Place { from: 0, count: 0 }; MAX_ARGS];
     let places = &mut places[..all.args.len()];
     put_places(blocks, at, all, element, places);
-    let marks = &MARKS[..all.args.len()];
-    run_here(
-        all.code, memory, places, marks, false, saved, values, locals,
-    )
+    let kernel = KernelInPlace {
+        code: all.code,
+        marks: &MARKS[..all.args.len()],
+        clean: false,
+        constants: values,
+    };
+    run_here(&kernel, memory, places, saved, locals)
 }

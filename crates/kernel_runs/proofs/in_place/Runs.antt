@@ -1,16 +1,17 @@
 -- A run on a memory's own cells ends as that on the windows which are gathered from it.
-use Rattle.std.proofs.Common.{◌≡◌, ℕ, zero, suc, ℤ, ◌+◌, ◌-◌, ◌<◌, ◌≤◌, false, ◌&&◌, ◌⊎◌, inl, inr, ⊎_elim, List, [], ◌∷◌, length, refl, sym, ap, subst, ◌∙◌, arith}
-use Rattle.std.specs.Prelude.{slice_index_or, nat_eq}
-use Rattle.std.proofs.lemmas.Bool.{cases_lt, cases_eq, eq-eqb, ne_eqb}
+use Rattle.std.proofs.Common.{◌≡◌, ℕ, zero, suc, ℤ, ◌+◌, ◌-◌, ◌<◌, ◌≤◌, false, ◌⊎◌, inl, inr, ⊎_elim, List, [], ◌∷◌, length, refl, sym, ap, subst, ◌∙◌, arith}
+use Rattle.std.specs.Prelude.{slice_index_or}
+use Rattle.std.proofs.lemmas.Bool.{cases_lt, cases_eq}
 use Rattle.kernel_types.specs.declared.kernels.RKernel.{RKernel}
-use Rattle.kernel_model.specs.Meaning.{Store, cell, Target, target_at, read_arg, Ran, Finished, Stopped, kernel_meaning}
-use Rattle.kernel_model.specs.Independence.{same_cell, store_after, Fits, IsReached, OthersStay, ReadsStay, ShapeStays, IsCopy, SameEnd, Transport}
+use Rattle.kernel_model.specs.Meaning.{Store, cell, Target, target_at, Ran, Finished, Stopped, kernel_meaning}
+use Rattle.kernel_model.specs.Independence.{store_after, Fits, IsReached, OthersStay, ReadsStay, ShapeStays, IsCopy, SameEnd, Transport}
 use Rattle.kernel_model.specs.StoredThrough.{UnstoredStay}
 use Rattle.rank_state.specs.declared.spans.Span.{Span}
 use Rattle.rank_state.specs.Spans.{Within, total, gathered}
 use Rattle.kernel_runs.specs.Standing.{stands_at, is_written, Apart, IsUnwritten}
 use Rattle.kernel_runs.specs.InPlace.{NameTheSame, LeavesUnwritten, IsSpared, EndsInPlace, RunsInPlace}
 use Rattle.kernel_runs.specs.Leaving.{InWindows, ObeyingLeave, UnstoringLeave}
+use Rattle.kernel_runs.proofs.OneArray.{one_array, read_first}
 use Rattle.kernel_runs.proofs.in_place.Standings.{at, stands_within, gathered_length, gathered_at}
 use Rattle.kernel_runs.proofs.in_place.Scattering.{scattered_is}
 use Rattle.lemmas.proofs.Numbers.{eq_both}
@@ -58,14 +59,6 @@ fits_windows spans ts inside ws long = record {
       subst (λ x. (target_at ts a).from + i < length (slice_index_or (ws ∷ []) x [])) (sym (inside a i lt).0)
       (subst (λ n. (target_at ts a).from + i < n) (sym long) (inside a i lt).1);
 }
-
-one_array : (ts : List Target) → ((a : ℕ) → (target_at ts a).array ≡ 0) → (a i b j : ℕ) → same_cell ts a i b j ≡ nat_eq ((target_at ts a).from + i) ((target_at ts b).from + j)
-one_array ts first a i b j =
-    ap (λ x. nat_eq x (target_at ts b).array && nat_eq ((target_at ts a).from + i) ((target_at ts b).from + j)) (first a)
-    ∙ ap (λ x. nat_eq 0 x && nat_eq ((target_at ts a).from + i) ((target_at ts b).from + j)) (first b)
-
-read_first : (ts : List Target) → ((a : ℕ) → (target_at ts a).array ≡ 0) → (s : Store) (a i : ℕ) → read_arg ts s a i ≡ cell s 0 ((target_at ts a).from + i)
-read_first ts first s a i = ap (λ x. cell s x ((target_at ts a).from + i)) (first a)
 
 only_array : (s : Store) → length s ≡ 1 → s ≡ slice_index_or s 0 [] ∷ []
 only_array [] e = absurd (omega arith)

@@ -1,15 +1,9 @@
--- What a column's access lets its arguments do; numbers of elements and their cells; targets in one array.
-use Rattle.std.proofs.Common.{◌≡◌, ◌≢◌, ℕ, ℤ, pos, ◌+◌, ◌*◌, ◌<◌, ◌≤◌, ◌&&◌, ◌⊎◌, inl, inr, ⊎_elim, List, [], ◌∷◌, map, get_or, refl, sym, ap, ◌∙◌, subst, arith}
-use Rattle.std.specs.Prelude.{nat_eq}
+-- What a column's access lets its arguments do; numbers of elements and their cells.
+use Rattle.std.proofs.Common.{◌≡◌, ◌≢◌, ℕ, ◌+◌, ◌*◌, ◌<◌, ◌≤◌, ◌⊎◌, inl, inr, ⊎_elim, refl, sym, ap, ◌∙◌, subst, arith}
 use Rattle.std.proofs.Math.Nat.{mul-le-mul_right}
-use Rattle.std.proofs.Math.ListN.{get_or-map}
 use Rattle.std.proofs.lemmas.Bool.{cases_lt}
 use Rattle.op_num.specs.Reduction.{Reduction}
 use Rattle.op_num.specs.Access.{Access, OpRead, OpWrite, OpRw, OpReduce}
-use Rattle.kernel_types.specs.declared.views.frame.Place.{Place}
-use Rattle.kernel_types.specs.Framed.{target_of, no_place}
-use Rattle.kernel_model.specs.Meaning.{Target, target_at, read_arg, cell}
-use Rattle.kernel_model.specs.Independence.{same_cell}
 use Rattle.kernel_runs.specs.RowLoops.{Allows}
 
 -- ---- accesses
@@ -67,16 +61,3 @@ same_number a b d e n k ab de some same = by (cases_lt n k) (cases_lt k n)
     by (inl lt) other = absurd (omega (arith, more n k d lt some, there))
     by (inr le) (inl lt) = absurd (omega (arith, more k n d lt some, there))
     by (inr le) (inr ge) = omega arith
-
--- ---- targets in one array
-
-pub no_array : (ps : List Place) (a : ℕ) → (target_at (map target_of ps) a).array ≡ 0
-no_array ps a = ap (λ t. t.array) (get_or-map target_of ps a no_place)
-
-pub one_array : (ts : List Target) → ((a : ℕ) → (target_at ts a).array ≡ 0) → (a i b j : ℕ) → same_cell ts a i b j ≡ nat_eq ((target_at ts a).from + i) ((target_at ts b).from + j)
-one_array ts first a i b j =
-    ap (λ x. nat_eq x (target_at ts b).array && nat_eq ((target_at ts a).from + i) ((target_at ts b).from + j)) (first a)
-    ∙ ap (λ x. nat_eq 0 x && nat_eq ((target_at ts a).from + i) ((target_at ts b).from + j)) (first b)
-
-pub read_first : (ts : List Target) → ((a : ℕ) → (target_at ts a).array ≡ 0) → (cells : List ℤ) (a i : ℕ) → read_arg ts (cells ∷ []) a i ≡ get_or cells ((target_at ts a).from + i) (pos 0)
-read_first ts first cells a i = ap (λ x. cell (cells ∷ []) x ((target_at ts a).from + i)) (first a)

@@ -16,7 +16,8 @@ use Rattle.kernel_columns.specs.RowMoves.{cell_of, IsMove, AreMoves}
 use Rattle.kernel_columns.specs.Batches.{AreColumns}
 use Rattle.kernel_runs.specs.declared.row_batches.rows.RowLoop.{RowLoop}
 use Rattle.kernel_runs.specs.RowLoops.{Allows, AllowsScalar, scalar_at, column_access, column_cell, width, ReduceApart, NeverMeet, IsModified}
-use Rattle.kernel_runs.proofs.row_batches.Accesses.{changing, no_array}
+use Rattle.kernel_runs.proofs.OneArray.{no_array}
+use Rattle.kernel_runs.proofs.row_batches.Accesses.{changing}
 use Rattle.kernel_runs.proofs.row_batches.Given.{IsSetOut, in_row}
 use Rattle.kernel_runs.proofs.row_batches.Standing.{ft, mt, fcol, mcell, Stands, stands, in_the_frame}
 use Rattle.kernel_runs.proofs.row_batches.Picks.{count, pick, pick_of, picked, differ, below, more_below, first_ones, later_ones}

@@ -20,7 +20,8 @@ use Rattle.kernel_columns.specs.Batch.{RowsApart}
 use Rattle.kernel_runs.specs.declared.row_batches.rows.RowLoop.{RowLoop}
 use Rattle.kernel_runs.specs.Filled.{FilledFor, cells_of}
 use Rattle.kernel_runs.specs.RowLoops.{Allows, AllowsScalar, scalar_in, column_at, scalar_at, column_access, column_cell, OnDat, OnVariable, in_frame, in_memory, ReduceApart, NeverMeet}
-use Rattle.kernel_runs.proofs.row_batches.Accesses.{changing, reading, reducing, reduced_by, both_ways, no_array, one_array, read_first, only_reduces}
+use Rattle.kernel_runs.proofs.OneArray.{no_array, one_array, read_first}
+use Rattle.kernel_runs.proofs.row_batches.Accesses.{changing, reading, reducing, reduced_by, both_ways, only_reduces}
 use Rattle.kernel_runs.proofs.row_batches.Given.{IsSetOut, looked_up, in_row, in_rows}
 use Rattle.lemmas.proofs.Numbers.{eq_both}
 
@@ -94,10 +95,10 @@ module _ (y : RowLoop) (m : List ℤ) (modes : List Mode) (stand : ℕ → List 
   -- what a frame has of a component
   pub in_the_frame : (columns : List (List ℤ)) (l a i : ℕ) → read_arg ft (row l columns ∷ []) a i ≡ at_row l (get_or columns (fcol a i) [])
   in_the_frame columns l a i =
-      read_first ft (no_array y.places.now) (row l columns) a i ∙ get_or-map (at_row l) columns (fcol a i) []
+      read_first ft (no_array y.places.now) (row l columns ∷ []) a i ∙ get_or-map (at_row l) columns (fcol a i) []
 
   pub in_the_memory : (cells : List ℤ) (l a i : ℕ) → read_arg (mt l) (cells ∷ []) a i ≡ get_or cells (mcell l a i) (pos 0)
-  in_the_memory cells l a i = read_first (mt l) (no_array (stand (x_of l))) cells a i
+  in_the_memory cells l a i = read_first (mt l) (no_array (stand (x_of l))) (cells ∷ []) a i
 
   first_fits : (j : ℕ) → FitsSigned w32 (get_or behind j (pos 0))
   first_fits j = ⊎_elim

@@ -14,7 +14,7 @@ use Rattle.kernel_runs.specs.declared.worker_batches.room.BatchPart.{BatchPart}
 use Rattle.kernel_runs.specs.Rounds.{RanBatch}
 use Rattle.par_exec.specs.Parts.{TakesEach}
 use Rattle.kernel_runs.proofs.worker_batches.Parts.{next_part}
-use Rattle.kernel_runs.proofs.worker_batches.Rows.{no_rows, more_rows, part_in_rows}
+use Rattle.kernel_runs.proofs.row_batches.SomeRows.{no_rows, more_rows, part_in_rows}
 
 pub some_of : (n : ℕ) → (n ≡ 0 → ⊥) → 0 < n
 some_of zero ne = absurd (ne refl)
@@ -62,7 +62,7 @@ module _ (y : RowLoop) (places : List ℕ) where
     slots = refl;
     ran = λ modes stand runs.
         no_rows y.code.now.kernel.now y.constants.now (firsts y.variables.now y.scalars.now) y.scalars.now
-        (λ l. map target_of (stand (slice_index places l))) old before;
+        (λ l. map target_of (stand (slice_index places l))) old old before before refl refl;
     others = λ k off. refl;
   }
 

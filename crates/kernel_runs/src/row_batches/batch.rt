@@ -1,6 +1,6 @@
 // A batch: the kernel of a loop runs for up to 64 places of a rank at once, in columns that are put back at once or later.
 
-ghost use Rattle.std.specs.Prelude.{◌≡◌, ◌<◌, ◌≤◌, ◌+◌, ℕ, List, false, true, length, map, slice_index};
+ghost use Rattle.std.specs.Prelude.{◌≡◌, ◌<◌, ◌≤◌, ◌+◌, ℕ, List, true, length, map, slice_index};
 ghost use Rattle.kernel_types.specs.Resolved.{IsResolved};
 ghost use Rattle.kernel_code.specs.Coded.{IsCode};
 ghost use Rattle.kernel_model.specs.Obeys.{Mode};
@@ -11,6 +11,7 @@ ghost use Rattle.kernel_runs.specs.Ways.{AreNumbers};
 ghost use Rattle.kernel_runs.specs.Meeting.{AreDifferent, NeverInPairs};
 ghost use Rattle.kernel_runs.specs.RowLoops.{HasRowRoom, IsWhole, LeadsFrom, RunsInRows, width};
 ghost use Rattle.kernel_runs.specs.RowsRun.{RowsRun};
+ghost use Rattle.kernel_runs.specs.Filled.{ColumnsStand};
 ghost use Rattle.kernel_runs.specs.Asides.{IsAside, LeavesOthers};
 
 use crate::row_batches::filling::{fill_columns, fill_scalars};
@@ -24,11 +25,10 @@ use kernel_columns::{Column, Numbers, ROWS, run_rows};
 /// As many rows as a batch has at least: fewer elements take no longer one after another.
 pub const FEWEST: usize = 8;
 
-// Runs the kernel in the first rows, on columns that are filled from the memory, once their numbers are looked up and found not to
-// meet. Whether it finishes in each of them.
+// Runs the kernel in the first rows, on columns that are filled from the memory, for numbers that were looked up and found not to meet.
+// Whether it finishes in each of them.
 fn run_looked_up(
     rows: &RowLoop<'_>,
-    batch: &Numbers,
     count: usize,
     numbers: &[Numbers],
     memory: &[i32],
@@ -39,18 +39,19 @@ fn run_looked_up(
     requires resolved { IsResolved (length rows.now.constants.now) rows.now.code.now.kernel.now }
     requires params { length rows.now.places.now ≡ rows.now.code.now.kernel.now.params }
     requires fits { PlacesIn (width rows.now) rows.now.places.now }
-    requires whole { IsWhole rows.now }
-    requires leads { (l : ℕ) → l < count → LeadsFrom rows.now (length memory.now) (slice_index batch.now l) }
     requires some { 0 < count }
     requires few { count ≤ ROWS }
-    requires differ { rows.now.differ ≡ true → AreDifferent count batch.now }
     requires ways { length rows.now.ways.now ≤ length numbers.now }
-    requires numbers { AreNumbers count rows.now.ways.now batch.now numbers.now }
+    requires stand { ColumnsStand numbers.now count (length memory.now) rows.now.columns.now }
     requires apart { NeverInPairs count rows.now.pairs.now numbers.now }
     requires variables { Reads (length rows.now.variables.now) rows.now.scalars.now }
     requires frame { width rows.now ≤ length frame.old }
     requires scratch { rows.now.code.now.slots ≤ length scratch.old }
-    ensures { result ≡ true → IsAside rows.now batch.now count numbers.now memory.now frame.new }
+    ensures { result ≡ true
+        → (batch : List ℕ)
+        → (rows.now.differ ≡ true → AreDifferent count batch)
+        → AreNumbers count rows.now.ways.now batch numbers.now
+        → IsAside rows.now batch count numbers.now memory.now frame.new }
 {
     let inner = rows.columns.len();
     let cells = &mut frame[..inner + rows.scalars.len()];
@@ -118,7 +119,6 @@ pub fn run_aside(
     }
     let ran = run_looked_up(
         rows,
-        batch,
         apart,
         &room.numbers,
         memory,

@@ -1,6 +1,6 @@
 // Columns that are filled for a batch, in the first rows: with the components that the loop reads, and with units where it reduces.
 
-ghost use Rattle.std.specs.Prelude.{◌≡◌, ◌<◌, ◌≤◌, ◌+◌, ℕ, ℤ, [], length, get_or};
+ghost use Rattle.std.specs.Prelude.{◌≡◌, ◌<◌, ◌≤◌, ◌+◌, ℕ, [], length, get_or};
 ghost use Rattle.kernel_columns.specs.declared.columns.TheConstants.{ROWS};
 ghost use Rattle.kernel_columns.specs.Rows.{at_row};
 ghost use Rattle.rank_state.specs.Windows.{index, first, Reads};

@@ -1,6 +1,6 @@
 // What the elements of a loop that run in rows have in common, and the room that they take.
 
-ghost use Rattle.std.specs.Prelude.{◌≡◌, ◌<◌, ◌≤◌, ◌+◌, IfOk, length};
+ghost use Rattle.std.specs.Prelude.{IfOk};
 ghost use Rattle.kernel_runs.specs.RowLoops.{HasRowRoom};
 
 use crate::row_batches::ways::LocalVia;

@@ -11,8 +11,7 @@ ghost use Rattle.kernel_runs.specs.RowLoops.{HasRowRoom, IsWhole, LeadsFrom, wid
 ghost use Rattle.kernel_runs.specs.Asides.{IsAside};
 ghost use Rattle.kernel_runs.specs.Rounds.{CanRun, RanBatch};
 
-use crate::row_batches::{RowLoop, RowRoom, run_aside};
-use crate::worker_batches::places::batch_at;
+use crate::row_batches::{RowLoop, RowRoom, batch_at, run_aside};
 use crate::worker_batches::room::BatchPart;
 use kernel_columns::{Numbers, ROWS};
 use par_exec::{Open, PartJob, run_parts};

@@ -1,6 +1,6 @@
 // By how many workers batches run.
 
-ghost use Rattle.std.specs.Prelude.{◌≡◌, ◌<◌, ◌≤◌, ℕ, List, length, map, slice_index};
+ghost use Rattle.std.specs.Prelude.{◌<◌, ◌≤◌, ℕ, List, length, map, slice_index};
 ghost use Rattle.kernel_model.specs.Obeys.{Mode};
 ghost use Rattle.kernel_types.specs.declared.views.frame.Place.{Place};
 ghost use Rattle.kernel_types.specs.Framed.{target_of};
@@ -95,8 +95,7 @@ impl<'a, R: Threads + Sync> AtOnce for Workers<'a, R> {
         partials: &mut [i32],
         room: &mut BatchesRoom,
     ) -> usize {
-        let workers = self.count.max(1);
-        let ran = run_round(self.threads, workers, rows, places, memory, partials, room);
+        let ran = run_round(self, rows, places, memory, partials, room);
         room.note(ran, places.len());
         ran
     }

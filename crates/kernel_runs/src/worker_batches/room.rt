@@ -1,10 +1,13 @@
 // What batches need that run at once.
 
-use crate::row_batches::RowRoom;
+ghost use Rattle.std.specs.Prelude.{◌≡◌, [], IfOk};
+ghost use Rattle.kernel_runs.specs.Rounds.{HasBatches};
+
+use crate::row_batches::{RowRoom, batches_of};
 use kernel_columns::{Numbers, ROWS};
 use std::alloc::{AllocError, Global};
 
-/// A batch: its places, for how many of them, from the first on, the kernel ran, and the columns in which it did.
+// A batch: its places, for how many of them, from the first on, the kernel ran, and the columns in which it did.
 #[derive(Drop)]
 pub struct BatchPart {
     pub batch: Numbers,
@@ -15,15 +18,28 @@ pub struct BatchPart {
 /// Room for batches that run at once, and a mark for each place of the rank. What stands there means nothing between two calls.
 #[derive(Drop)]
 pub struct BatchesRoom {
-    pub parts: Vec<BatchPart>,
-    pub marks: Vec<u32>,
-    /// How many batches the next call takes at most: fewer where those of the last did not all run.
-    pub next: usize,
+    pub(crate) parts: Vec<BatchPart>,
+    pub(crate) marks: Vec<u32>,
+    // How many batches the next call takes at most: fewer where those of the last did not all run.
+    next: usize,
+}
+
+// As many batches as run at once at most, 32,768 elements: the time that their kernels take is long beside that in which threads start.
+const MOST_BATCHES: usize = 512;
+
+// The bytes of a batch's column: 64 cells of 4 bytes.
+const COLUMN_BYTES: usize = ROWS * 4;
+
+// How many batches with so many columns of any kind take so many bytes at most, but for the vectors' own words.
+fn batches_in(bytes: usize, columns: usize) -> usize {
+    bytes / columns.max(1).saturating_mul(COLUMN_BYTES)
 }
 
 impl BatchesRoom {
     /// No room: no batches run at once in it.
-    pub fn none(alloc: Global) -> BatchesRoom {
+    pub fn none(alloc: Global) -> BatchesRoom
+        ensures { result.parts.items ≡ [] }
+    {
         BatchesRoom {
             parts: Vec::new(alloc),
             marks: Vec::new(alloc),
@@ -31,16 +47,26 @@ impl BatchesRoom {
         }
     }
 
-    /// Room for so many batches of loops with at most so many ways, columns and scalars together, and slots, on a rank with so many
-    /// places. Loops with more run as where there is no room.
+    /// Room for batches of loops with at most so many ways, columns and scalars together, and slots, on a rank with so many places.
+    /// Loops with more run as where there is no room. It has as many batches as take so many `bytes`, but at most 512, and no more than
+    /// the places make; with the marks it takes 4 bytes more for each place.
+    ///
+    /// # Errors
+    /// Want of memory alone.
     pub fn new(
         alloc: Global,
-        batches: usize,
+        bytes: usize,
         ways: usize,
         columns: usize,
         slots: usize,
         places: usize,
-    ) -> Result<BatchesRoom, AllocError> {
+    ) -> Result<BatchesRoom, AllocError>
+        ensures { IfOk result (HasBatches ways columns slots places) }
+    {
+        let all = ways.saturating_add(columns).saturating_add(slots);
+        let batches = batches_in(bytes, all)
+            .min(MOST_BATCHES)
+            .min(batches_of(places));
         let mut parts = Vec::with_capacity(alloc, batches)?;
         for _batch in 0..batches {
             parts.push(BatchPart {

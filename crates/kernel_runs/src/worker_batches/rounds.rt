@@ -1,6 +1,6 @@
 // Rounds of batches: those that run at once, and then are put back one after another.
 
-ghost use Rattle.std.specs.Prelude.{◌≡◌, ◌<◌, ◌≤◌, ◌*◌, ℕ, List, true, length, map, slice_index};
+ghost use Rattle.std.specs.Prelude.{◌≡◌, ◌<◌, ◌≤◌, ℕ, List, true, length, map, slice_index};
 ghost use Rattle.par_exec.specs.Parts.{TakesEach};
 ghost use Rattle.kernel_columns.specs.declared.columns.TheConstants.{ROWS};
 ghost use Rattle.kernel_model.specs.Obeys.{Mode};
@@ -13,10 +13,10 @@ ghost use Rattle.kernel_runs.specs.RowLoops.{RunsInRows};
 ghost use Rattle.kernel_runs.specs.RowsRun.{RowsRun};
 ghost use Rattle.kernel_runs.specs.Rounds.{CanRun, RanBatch};
 
-use crate::row_batches::{RowLoop, asides_stay, places_stay_apart, put_aside};
+use crate::row_batches::{RowLoop, asides_stay, batches_of, places_stay_apart, put_aside};
 use crate::worker_batches::aside::run_all_aside;
+use crate::worker_batches::at_once::Workers;
 use crate::worker_batches::differing::all_differ;
-use crate::worker_batches::places::batches_of;
 use crate::worker_batches::room::{BatchPart, BatchesRoom};
 use kernel_columns::ROWS;
 use std::marker::Sync;
@@ -58,18 +58,16 @@ fn put_all(
     done
 }
 
-/// Runs the kernel of a loop for the first places of a list, one after another on the memory, in batches that the `workers`, at least 1,
-/// run at once. Answers for how many.
+/// Runs the kernel of a loop for the first places of a list, one after another on the memory, in batches that the workers run at once.
+/// Answers for how many.
 pub fn run_round<R: Threads + Sync>(
-    threads: &R,
-    workers: u32,
+    workers: &Workers<'_, R>,
     rows: &RowLoop<'_>,
     places: &[u32],
     memory: &mut [i32],
     partials: &mut [i32],
     room: &mut BatchesRoom,
 ) -> usize
-    requires workers { 0 < workers }
     requires can { CanRun rows.now (length memory.old) places.now }
     requires partials { Merges (length partials.old) rows.now.scalars.now }
     requires in_rows { (modes : List Mode) × (stand : ℕ → List Place)
@@ -87,6 +85,13 @@ pub fn run_round<R: Threads + Sync>(
     }
     let count = batches_of(places.len()).min(room.parts.len());
     let parts = &mut room.parts[..count];
-    run_all_aside(threads, workers, rows, places, memory, parts);
+    run_all_aside(
+        workers.threads,
+        workers.count.max(1),
+        rows,
+        places,
+        memory,
+        parts,
+    );
     put_all(rows, places, parts, memory, partials)
 }

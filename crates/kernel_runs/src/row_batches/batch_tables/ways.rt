@@ -1,6 +1,6 @@
 // The ways in which a loop's arguments on dats reach elements.
 
-ghost use Rattle.std.specs.Prelude.{◌≡◌, ◌≤◌, length};
+ghost use Rattle.std.specs.Prelude.{◌≡◌, length};
 ghost use Rattle.kernel_runs.specs.Tables.{AreWays, via_of};
 
 use crate::row_batches::LocalVia;

@@ -15,7 +15,7 @@ held None h e = let q : false ≡ true = e in absurd cc
 held (Some u) h e = h
 
 pub returns : goal.returns
-returns c is =
+returns c is batch differ looked =
     let y = c.args.rows.now in
     let begun = c.fill_scalars.new.frame in
     let left = c.run_rows-ran.new.frame in
@@ -32,9 +32,9 @@ returns c is =
     record {
       some = c.requires.some;
       few = c.requires.few;
-      differ = c.requires.differ;
+      differ = differ;
       ways = c.requires.ways;
-      looked = c.requires.numbers;
+      looked = looked;
       apart = c.requires.apart;
       begun = begun;
       long = omega (arith, begun_long);

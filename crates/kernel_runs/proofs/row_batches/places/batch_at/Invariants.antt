@@ -1,6 +1,6 @@
 use Rattle.std.proofs.Common.{◌≡◌, ◌<◌, ◌+◌, ℕ, length, get_or}
 use Rattle.std.specs.Prelude.{slice_index}
-use Rattle.kernel_runs.proofs.worker_batches.places.batch_at.Given as goal
+use Rattle.kernel_runs.proofs.row_batches.places.batch_at.Given as goal
 
 abbrev pub invariant-loop-j : goal.invariant-loop-j
 invariant-loop-j l = record {

@@ -1,5 +1,5 @@
--- Rows one behind another, and those of a part of a list of places.
-use Rattle.std.proofs.Common.{◌≡◌, ℕ, zero, suc, ℤ, ◌+◌, ◌<◌, ◌≤◌, ◌⊎◌, inl, inr, ⊎_elim, List, map, refl, sym, subst, arith}
+-- No rows, rows one behind another, and those of a part of a list of places.
+use Rattle.std.proofs.Common.{◌≡◌, ℕ, zero, suc, ℤ, ◌+◌, ◌<◌, ◌≤◌, ◌⊎◌, inl, inr, ⊎_elim, List, map, ap, sym, subst, arith}
 use Rattle.std.specs.Prelude.{slice_index}
 use Rattle.kernel_types.specs.declared.kernels.RKernel.{RKernel}
 use Rattle.kernel_types.specs.declared.views.frame.Place.{Place}
@@ -14,9 +14,9 @@ use Rattle.kernel_runs.specs.RowsRun.{RunsOne, RowsRun}
 
 module _ (k : RKernel) (consts behind : List ℤ) (scalars : List Scalar) where
   -- no row
-  pub no_rows : (targets : ℕ → List Target) (old before : List ℤ) → RowsRun k consts behind scalars targets 0 old old before before
+  pub no_rows : (targets : ℕ → List Target) (old new before merged : List ℤ) → new ≡ old → merged ≡ before → RowsRun k consts behind scalars targets 0 old new before merged
   unfolding RowsRun
-  no_rows targets old before = (refl, refl)
+  no_rows targets old new before merged cells partials = (cells, partials)
 
   -- n rows, and others behind them
   pub more_rows : (targets theirs : ℕ → List Target) (n m : ℕ) (old between new before halfway merged : List ℤ)
@@ -65,3 +65,8 @@ part_in_rows y cells modes stand places batch n d m within same h =
           (h.apart c e c_lt e_lt ne changes);
       alike = h.alike;
     }
+
+-- the first places of a batch run in rows where all of them do
+pub fewer : (y : RowLoop) (cells : ℕ) (modes : List Mode) (stand : ℕ → List Place) (batch : List ℕ) (n m : ℕ) → m ≤ n → RunsInRows y cells modes stand batch n → RunsInRows y cells modes stand batch m
+fewer y cells modes stand batch n m le h =
+    part_in_rows y cells modes stand batch batch n 0 m (omega (arith, le)) (λ j lt. let e : j ≡ 0 + j = omega arith in ap (slice_index batch) e) h
