@@ -1,10 +1,9 @@
 -- The begins of a group, after their kernels have run.
-use Rattle.std.proofs.Common.{◌≡◌, ℕ, zero, suc, ℤ, pos, ◌+◌, ◌*◌, ◌<◌, ◌≤◌, true, false, refl, sym, ap, ap₂, ⊎_elim, ◌∙◌, arith, List, [], ◌∷◌, ◌++◌, length, take, get_or, map, Bool, nat_lt, ◌⊎◌, subst}
+use Rattle.std.proofs.Common.{◌≡◌, ℕ, zero, suc, ℤ, pos, ◌+◌, ◌-◌, ◌*◌, ◌<◌, ◌≤◌, true, false, refl, sym, ap, ap₂, ⊎_elim, ◌∙◌, arith, List, [], ◌∷◌, ◌++◌, length, length-drop, take, drop, get_or, map, Bool, nat_lt, subst}
 use Rattle.std.specs.Prelude.{is_some}
-use mathlib.Core.Logic.{inl}
 use Rattle.std.proofs.lemmas.Bool.{cases_Bool, cond-true, cond-false}
 use Rattle.std.proofs.lemmas.Bool.Decides.{nat_tests}
-use Rattle.std.proofs.lemmas.List.{get_or_append_left, get_or_push}
+use Rattle.std.proofs.lemmas.List.{take-append-le, drop-append-le, drop-take, take-take}
 use Rattle.std.proofs.Math.Nat.{mul-le-mul_right}
 use Rattle.schedule_steps.specs.declared.step.Step.TheVariants.{Begin}
 use Rattle.schedule_steps.specs.Outline.{Outline}
@@ -13,15 +12,16 @@ use Rattle.schedule_model.specs.Setup.{Setup}
 use Rattle.flat_machine.specs.Layout.{Layout, Core, Faults, Leaves}
 use Rattle.flat_machine.specs.Flat.{Flat, open_pane, flat_step, flat_from}
 use Rattle.flat_machine.specs.Flat as flat
-use Rattle.rank_state.specs.Spans.{gathered, cells_at}
+use Rattle.rank_state.specs.Spans.{gathered}
 use Rattle.rank_state.specs.Windows.{firsts}
 use Rattle.rank_state.specs.Indices.{values_at}
 use Rattle.rank_state.specs.Groups.{begins, Planned}
 use Rattle.rank_state.specs.Machine.{State, row}
 use Rattle.rank_state.specs.Shows.{Tables, Shows}
 use Rattle.rank_program.specs.declared.tasks.Task.{Task}
-use Rattle.rank_program.specs.Jobs.{RanIn, no_task, task_at, part}
-use Rattle.rank_exec.specs.Tasks.{IsRun}
+use Rattle.rank_program.specs.Jobs.{RanIn, task_at, part}
+use Rattle.rank_exec.specs.declared.group_room.GroupRoom.{GroupRoom}
+use Rattle.rank_exec.specs.Tasks.{IsRun, HasGroupRoom, KeepsGroupRoom}
 
 pub planned_at : (o : Outline) (k r : ℕ) (xs : List ℕ) → Planned o k r xs → (i : ℕ) → i < length xs → IsStep o (Begin k r (get_or xs i 0))
 planned_at o k r [] h i lt = absurd (omega arith)
@@ -77,20 +77,63 @@ module _ {F : Type 0} (p : Setup F) (l : Layout F) (t : Tables) where
       let keep = begins_keep p l k r xs f in
       run_kept k r x n w old new (b.memories ∙ (keep.0 ∙ sym a.memories)) (b.variables ∙ (keep.1 ∙ sym a.variables)) h
 
+-- a window of the front of a buffer is one of the buffer
+pub part_of_front : (window i n : ℕ) (cells : List ℤ) → i * window + window ≤ n → part window i (take n cells) ≡ part window i cells
+part_of_front window i n cells le =
+    let split : n ≡ i * window + (n - i * window) = omega arith in
+    ap (λ m. part window i (take m cells)) split
+    ∙ ap (take window) (drop-take (i * window) (n - i * window) cells)
+    ∙ take-take window (n - i * window) (drop (i * window) cells) (omega arith)
+
+-- a window of a buffer is one of the buffer with more cells behind it
+pub part_of_longer : (window i : ℕ) (cells rest : List ℤ) → i * window + window ≤ length cells → part window i (cells ++ rest) ≡ part window i cells
+part_of_longer window i cells rest le =
+    let room : window ≤ length (drop (i * window) cells) = omega (arith, length-drop (i * window) cells) in
+    ap (take window) (drop-append-le (i * window) cells rest (omega arith)) ∙ take-append-le window (drop (i * window) cells) rest room
+
+-- room that is as large as that before is enough for as many begins
+pub still_enough : (most stride locals : ℕ) (old new : GroupRoom) → KeepsGroupRoom old new → HasGroupRoom most stride locals old → HasGroupRoom most stride locals new
+still_enough most stride locals old new kept fits = record {
+  tasks_fit = subst (λ n. most ≤ n) (sym kept.tasks) fits.tasks_fit;
+  targets_fit = subst (λ n. most ≤ n) (sym kept.targets) fits.targets_fit;
+  window_fits = subst (λ n. stride + locals < n) (sym kept.window) fits.window_fits;
+  staging_fits = subst (λ n. most * n ≤ length new.staging.items) (sym kept.window) (subst (λ n. most * old.window ≤ n) (sym kept.staging) fits.staging_fits);
+}
+
+-- room for some begins is room for fewer
+pub fewer : (most few stride locals : ℕ) (room : GroupRoom) → few ≤ most → HasGroupRoom most stride locals room → HasGroupRoom few stride locals room
+fewer most few stride locals room le fits = record {
+  tasks_fit = omega (arith, le, fits.tasks_fit);
+  targets_fit = omega (arith, le, fits.targets_fit);
+  window_fits = fits.window_fits;
+  staging_fits = (let h : few * room.window ≤ most * room.window = mul-le-mul_right room.window le in omega (arith, fits.staging_fits));
+}
+
+-- room stays as large step by step
+pub kept_on : (a b c : GroupRoom) → KeepsGroupRoom a b → KeepsGroupRoom b c → KeepsGroupRoom a c
+kept_on a b c first then = record {
+  tasks = then.tasks ∙ first.tasks;
+  targets = then.targets ∙ first.targets;
+  window = then.window ∙ first.window;
+  staging = then.staging ∙ first.staging;
+}
+
 -- what holds of each task and its window holds with one more
-pub one_more : (P : ℕ → Task → List ℤ → Type 0) (window n : ℕ) (tasks : List Task) (task : Task) (old new : List ℤ) → length tasks ≡ n
-    → ((j : ℕ) → j < n → P j (task_at tasks j) (part window j old)) → P n task (part window n new)
-    → ((b m : ℕ) → (b + m ≤ n * window) ⊎ (n * window + window ≤ b) → cells_at b m new ≡ cells_at b m old)
-    → (j : ℕ) → j < n + 1 → P j (task_at (tasks ++ (task ∷ [])) j) (part window j new)
-one_more P window n tasks task old new len each one others j lt = go (nat_lt j n) refl
+pub one_more : (P : ℕ → Task → List ℤ → Type 0) (n : ℕ) (old new : GroupRoom) → length old.tasks.items ≡ n
+    → ((j : ℕ) → j < n → P j (task_at old.tasks.items j) (part old.window j old.staging.items))
+    → P n (task_at new.tasks.items (length old.tasks.items)) (part new.window (length old.tasks.items) new.staging.items)
+    → ((j : ℕ) → j < length old.tasks.items → (task_at new.tasks.items j ≡ task_at old.tasks.items j) × (part new.window j new.staging.items ≡ part old.window j old.staging.items))
+    → (j : ℕ) → j < n + 1 → P j (task_at new.tasks.items j) (part new.window j new.staging.items)
+one_more P n old new len each one others j lt = go (nat_lt j n) refl
   where
-    go : (test : Bool) → nat_lt j n ≡ test → P j (task_at (tasks ++ (task ∷ [])) j) (part window j new)
+    go : (test : Bool) → nat_lt j n ≡ test → P j (task_at new.tasks.items j) (part new.window j new.staging.items)
     go true h =
         let below : j < n = grind (arith, nat_tests) in
-        subst (P j (task_at (tasks ++ (task ∷ [])) j)) (sym (others (j * window) window (inl (part_ends window j n below))))
-        (subst (λ x. P j x (part window j old)) (sym (get_or_append_left tasks (task ∷ []) no_task j (omega (arith, len)))) (each j below))
+        let same = others j (omega (arith, below, len)) in
+        subst (λ task. P j task (part new.window j new.staging.items)) (sym same.0)
+        (subst (P j (task_at old.tasks.items j)) (sym same.1) (each j below))
     go false h =
         let above : n ≤ j = grind (arith, nat_tests) in
-        let same : n ≡ j = omega arith in
-        subst (λ i. P i (task_at (tasks ++ (task ∷ [])) i) (part window i new)) same
-        (subst (λ x. P n x (part window n new)) (sym (get_or_push tasks task no_task n len)) one)
+        let last : n ≡ j = omega arith in
+        subst (λ i. P i (task_at new.tasks.items i) (part new.window i new.staging.items)) last
+        (subst (λ i. P n (task_at new.tasks.items i) (part new.window i new.staging.items)) len one)

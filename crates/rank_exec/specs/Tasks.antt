@@ -35,3 +35,10 @@ pub record HasGroupRoom (most stride locals : ℕ) (room : GroupRoom) : Type 0 w
   pub targets_fit : most ≤ vec_capacity room.targets
   pub window_fits : stride + locals < room.window
   pub staging_fits : most * room.window ≤ length room.staging.items
+
+-- room that is as large as that before
+pub record KeepsGroupRoom (old new : GroupRoom) : Type 0 where
+  pub tasks : vec_capacity new.tasks ≡ vec_capacity old.tasks
+  pub targets : vec_capacity new.targets ≡ vec_capacity old.targets
+  pub window : new.window ≡ old.window
+  pub staging : length new.staging.items ≡ length old.staging.items

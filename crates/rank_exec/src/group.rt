@@ -12,8 +12,8 @@ ghost use Rattle.rank_program.specs.Rooms.{HasRoomOf};
 ghost use Rattle.rank_exec.specs.RunRooms.{most_begins, HasRunRoomOf};
 ghost use Rattle.rank_state.specs.Shows.{Shows};
 ghost use Rattle.rank_state.specs.Groups.{begins, Distinct, Planned, AllShut};
-ghost use Rattle.rank_program.specs.Jobs.{RanIn, part, task_at};
-ghost use Rattle.rank_exec.specs.Tasks.{HasGroupRoom};
+ghost use Rattle.rank_program.specs.Jobs.{Accepts, RanIn, job_core, part, task_at};
+ghost use Rattle.rank_exec.specs.Tasks.{HasGroupRoom, KeepsGroupRoom};
 ghost use Rattle.rank_exec.specs.Driving.{Done, ComeReady, to_come};
 ghost use Rattle.rank_program.specs.Sound.{Sound, Takes, setup_in, layout_in, tables_in};
 ghost use Rattle.rank_program.specs.Keeping.{KeepsIn};
@@ -30,44 +30,10 @@ use op_num::OutOfMemory;
 use par_exec::{Crew, Gate};
 use rank_machine::machine::Machine;
 use rank_machine::steps::{in_place, read_constants};
-use rank_program::{DistributedProgram, Room, Targets, Task, job, put_targets, run_tasks};
+use rank_program::{DistributedProgram, KernelJob, Room, job, put_targets, run_tasks};
 use schedule_steps::Step;
 use std::marker::Sync;
 use std::thread::Threads;
-
-// Runs the kernel of the loop that is the item once for each task, on the first cells of the task's window of `staging`.
-// Behind them stands a 0 then, or a 1 where the run had a fault. The first task is that of `place`.
-fn run_all<R: Threads + Sync, G: Gate>(
-    crew: &Crew<'_, R, G>,
-    program: &DistributedProgram<'_>,
-    item: u32,
-    place: u32,
-    tasks: &[Task],
-    targets: &mut Vec<Targets>,
-    constants: &[i32],
-    staging: &mut [i32],
-    window: usize,
-)
-    requires takes { (i : ℕ) → i < length tasks.now
-        → Takes program.now item (task_at tasks.now i).element (length constants.now) (task_at tasks.now i).cells }
-    requires wide { 0 < window }
-    requires room { (i : ℕ) → i < length tasks.now → (task_at tasks.now i).cells + program.now.locals < window }
-    requires whole { length staging.old ≡ length tasks.now * window }
-    requires empty { targets.old.items ≡ [] }
-    requires targets { length tasks.now ≤ vec_capacity targets.old }
-    ensures ran { (i : ℕ) → i < length tasks.now
-        → RanIn ((layout_in program.now).core item (task_at tasks.now i).element constants.now
-        (take (task_at tasks.now i).cells (part window i staging.old))) (task_at tasks.now i).cells (part window i staging.new) }
-    ensures targets { vec_capacity targets.new ≡ vec_capacity targets.old }
-{
-    if tasks.is_empty() {
-        return;
-    }
-    put_targets(program, item, tasks, targets);
-    let job = job(program, item, tasks, targets, constants);
-    let crew = crew.with_workers(workers_for(&job, place, crew.workers));
-    run_tasks(&crew, &job, staging, window);
-}
 
 // The first place, or 0 where there is none.
 fn first_of(places: &[u32]) -> u32 {
@@ -77,57 +43,60 @@ fn first_of(places: &[u32]) -> u32 {
     }
 }
 
-// The begins of a group on windows of `window` cells of the staging buffer, with room for their tasks.
-fn begin_tasks<R: Threads + Sync, G: Gate>(
+// Runs a job's kernel once for each of its tasks, on the windows at the front of the staging buffer.
+fn run_in_front<R: Threads + Sync, G: Gate>(
     crew: &Crew<'_, R, G>,
-    machine: &mut Machine,
-    program: &DistributedProgram<'_>,
-    room: &mut Room,
-    group: &Begins<'_>,
-    tasks: &mut Vec<Task>,
-    targets: &mut Vec<Targets>,
+    job: &KernelJob<'_>,
     staging: &mut [i32],
     window: usize,
 )
-    requires sound { Sound program.now }
-    requires planned { Planned (by_place (setup_in program.now) (layout_in program.now))
-        group.now.item group.now.rank group.now.places.now }
-    requires space { HasRoomOf program.now room.old }
-    requires shows { (f : Flat KernelFault) × Shows (setup_in program.now) (layout_in program.now) (tables_in program.now) machine.old f }
-    requires shut { AllShut machine.old.frames.panes group.now.rank group.now.places.now }
-    requires distinct { Distinct group.now.places.now }
-    requires room { length group.now.places.now ≤ machine.old.frames.left }
-    requires wide { (tables_in program.now).stride + program.now.locals < window }
-    requires enough { length group.now.places.now * window ≤ length staging.old }
-    requires none { tasks.old.items ≡ [] }
-    requires tasks { length group.now.places.now ≤ vec_capacity tasks.old }
-    requires empty { targets.old.items ≡ [] }
-    requires targets { length group.now.places.now ≤ vec_capacity targets.old }
-    ensures shows { (f : Flat KernelFault) → Shows (setup_in program.now) (layout_in program.now) (tables_in program.now) machine.old f
-        → Shows (setup_in program.now) (layout_in program.now) (tables_in program.now) machine.new
-        (flat_from (setup_in program.now) (layout_in program.now) (begins group.now.item group.now.rank group.now.places.now) f) }
-    ensures space { HasRoomOf program.now room.new }
-    ensures mail { machine.new.mail.left ≡ machine.old.mail.left }
-    ensures frames { machine.new.frames.left + length group.now.places.now ≡ machine.old.frames.left }
-    ensures tasks { vec_capacity tasks.new ≡ vec_capacity tasks.old }
-    ensures targets { vec_capacity targets.new ≡ vec_capacity targets.old }
+    requires wide { 0 < window }
+    requires enough { length job.now.tasks.now * window ≤ length staging.old }
+    requires accepts { (i : ℕ) → i < length job.now.tasks.now → Accepts job.now i window }
+    ensures { (i : ℕ) → i < length job.now.tasks.now
+        → RanIn (job_core job.now i (take (task_at job.now.tasks.now i).cells (part window i staging.old)))
+        (task_at job.now.tasks.now i).cells (part window i staging.new) }
 {
-    rank_state::windows_are_counted::<KernelFault>();
-    let staging = &mut staging[..group.places.len() * window];
-    load_all(machine, program, room, group, tasks, staging, window);
-    read_constants(machine, program, &mut room.constants);
-    run_all(
-        crew,
+    run_tasks(crew, job, &mut staging[..job.tasks.len() * window], window);
+}
+
+// Runs the kernel of the loop that is the group's item once for each task, on the first cells of the task's window. Behind them
+// stands a 0 then, or a 1 where the run had a fault.
+fn run_all<R: Threads + Sync, G: Gate>(
+    crew: &Crew<'_, R, G>,
+    program: &DistributedProgram<'_>,
+    group: &Begins<'_>,
+    constants: &[i32],
+    buffers: &mut GroupRoom,
+)
+    requires takes { (i : ℕ) → i < length buffers.old.tasks.items
+        → Takes program.now group.now.item (task_at buffers.old.tasks.items i).element
+        (length constants.now) (task_at buffers.old.tasks.items i).cells }
+    requires buffers { HasGroupRoom (length buffers.old.tasks.items) (tables_in program.now).stride program.now.locals buffers.old }
+    requires narrow { (i : ℕ) → i < length buffers.old.tasks.items
+        → (task_at buffers.old.tasks.items i).cells ≤ (tables_in program.now).stride }
+    ensures ran { (i : ℕ) → i < length buffers.old.tasks.items
+        → RanIn ((layout_in program.now).core group.now.item (task_at buffers.old.tasks.items i).element constants.now
+        (take (task_at buffers.old.tasks.items i).cells (part buffers.old.window i buffers.old.staging.items)))
+        (task_at buffers.old.tasks.items i).cells (part buffers.new.window i buffers.new.staging.items) }
+    ensures tasks { buffers.new.tasks ≡ buffers.old.tasks }
+    ensures kept { KeepsGroupRoom buffers.old buffers.new }
+{
+    if buffers.tasks.is_empty() {
+        return;
+    }
+    buffers.targets.clear();
+    put_targets(program, group.item, &buffers.tasks, &mut buffers.targets);
+    let job = job(
         program,
         group.item,
-        first_of(group.places),
-        tasks,
-        targets,
-        &room.constants,
-        staging,
-        window,
+        &buffers.tasks,
+        &buffers.targets,
+        constants,
     );
-    open_all(machine, program, room, group, tasks, staging, window);
+    let place = first_of(group.places);
+    let crew = crew.with_workers(workers_for(&job, place, crew.workers));
+    run_in_front(&crew, &job, &mut buffers.staging, buffers.window);
 }
 
 /// The begins of a group, in their order. Their kernels run first, by the workers of `crew`, and its gate is told of each run
@@ -158,20 +127,11 @@ pub fn begin_group<R: Threads + Sync, G: Gate>(
     ensures buffers { (most : ℕ) → HasGroupRoom most (tables_in program.now).stride (program.now.locals) buffers.old
         → HasGroupRoom most (tables_in program.now).stride (program.now.locals) buffers.new }
 {
-    let window = buffers.window;
-    buffers.tasks.clear();
-    buffers.targets.clear();
-    begin_tasks(
-        crew,
-        machine,
-        program,
-        room,
-        group,
-        &mut buffers.tasks,
-        &mut buffers.targets,
-        &mut buffers.staging,
-        window,
-    );
+    rank_state::windows_are_counted::<KernelFault>();
+    load_all(machine, program, room, group, buffers);
+    read_constants(machine, program, &mut room.constants);
+    run_all(crew, program, group, &room.constants, buffers);
+    open_all(machine, program, room, group, buffers);
 }
 
 // The place, where the step is a begin of the item and rank.

@@ -1,22 +1,22 @@
 // The begins of a group in three phases: windows are gathered, kernels run on them, and frames are opened with what these
 // leave.
 
-ghost use Rattle.std.specs.Prelude.{◌≡◌, ◌⊎◌, ◌<◌, ◌≤◌, ◌+◌, ◌*◌, ℕ, pos, true, [], length, get_or, vec_capacity};
+ghost use Rattle.std.specs.Prelude.{◌≡◌, ◌<◌, ◌≤◌, ◌+◌, ℕ, pos, true, length, get_or};
 ghost use Rattle.kernel_types.specs.declared.faults.KernelFault.{KernelFault};
 ghost use Rattle.schedule_steps.specs.declared.step.Step.TheVariants.{Begin};
 ghost use Rattle.schedule_steps.specs.Steps.{IsStep};
 ghost use Rattle.flat_machine.specs.Layout.{by_place};
 ghost use Rattle.flat_machine.specs.Flat.{Flat, flat_step, flat_from};
-ghost use Rattle.rank_state.specs.Spans.{cells_at};
 ghost use Rattle.rank_state.specs.Frames.{Shut, pane_at};
 ghost use Rattle.rank_state.specs.Groups.{begins, Distinct, Planned, AllShut};
 ghost use Rattle.rank_state.specs.Shows.{Shows};
 ghost use Rattle.rank_program.specs.Rooms.{HasRoomOf};
 ghost use Rattle.rank_program.specs.Jobs.{part, task_at};
-ghost use Rattle.rank_exec.specs.Tasks.{IsLoaded, IsRun};
+ghost use Rattle.rank_exec.specs.Tasks.{IsLoaded, IsRun, HasGroupRoom, KeepsGroupRoom};
 ghost use Rattle.rank_program.specs.Sound.{Sound, setup_in, layout_in, tables_in};
 
 use crate::begins::{BeginAt, Begins};
+use crate::group_room::GroupRoom;
 use kernel_types::KernelFault;
 use rank_machine::machine::Machine;
 use rank_machine::steps::begin as begin_element;
@@ -53,67 +53,72 @@ fn load_one(
     Task { element, cells }
 }
 
-// The same in a part of the staging buffer.
-fn load_at(
+// Adds the task of a begin to those of its group, with its element's windows in the next window of the buffer.
+fn load_next(
     machine: &Machine,
     program: &DistributedProgram<'_>,
     room: &mut Room,
     begin: BeginAt,
-    staging: &mut [i32],
-    at: usize,
-    window: usize,
-) -> Task
+    buffers: &mut GroupRoom,
+)
     requires sound { Sound program.now }
     requires planned { IsStep (by_place (setup_in program.now) (layout_in program.now)) (Begin begin.item begin.rank begin.place) }
     requires space { HasRoomOf program.now room.old }
     requires shows { (f : Flat KernelFault) × Shows (setup_in program.now) (layout_in program.now) (tables_in program.now) machine.now f }
-    requires wide { (tables_in program.now).stride ≤ window }
-    requires part { at + window ≤ length staging.old }
+    requires buffers { HasGroupRoom (length buffers.old.tasks.items + 1) (tables_in program.now).stride program.now.locals buffers.old }
     ensures loaded { IsLoaded (setup_in program.now) (layout_in program.now) (tables_in program.now)
-        begin.item begin.rank begin.place machine.now result
-        (cells_at at window staging.new) }
-    ensures others { (b n : ℕ) → (b + n ≤ at) ⊎ (at + window ≤ b) → cells_at b n staging.new ≡ cells_at b n staging.old }
+        begin.item begin.rank begin.place machine.now
+        (task_at buffers.new.tasks.items (length buffers.old.tasks.items))
+        (part buffers.new.window (length buffers.old.tasks.items) buffers.new.staging.items) }
+    ensures others { (i : ℕ) → i < length buffers.old.tasks.items
+        → (task_at buffers.new.tasks.items i ≡ task_at buffers.old.tasks.items i)
+        × (part buffers.new.window i buffers.new.staging.items ≡ part buffers.old.window i buffers.old.staging.items) }
+    ensures count { length buffers.new.tasks.items ≡ length buffers.old.tasks.items + 1 }
     ensures space { HasRoomOf program.now room.new }
+    ensures kept { KeepsGroupRoom buffers.old buffers.new }
 {
-    load_one(machine, program, room, begin, &mut staging[at..at + window])
+    let window = buffers.window;
+    let at = buffers.tasks.len() * window;
+    let task = load_one(
+        machine,
+        program,
+        room,
+        begin,
+        &mut buffers.staging[at..at + window],
+    );
+    buffers.tasks.push_reserved(task);
 }
 
-/// The tasks of a group's begins, with their elements' windows in the windows of the staging buffer.
+/// Puts down the tasks of a group's begins in `buffers`, with their elements' windows in the windows of the buffer.
 pub fn load_all(
     machine: &Machine,
     program: &DistributedProgram<'_>,
     room: &mut Room,
     group: &Begins<'_>,
-    tasks: &mut Vec<Task>,
-    staging: &mut [i32],
-    window: usize,
+    buffers: &mut GroupRoom,
 )
     requires sound { Sound program.now }
     requires planned { Planned (by_place (setup_in program.now) (layout_in program.now))
         group.now.item group.now.rank group.now.places.now }
     requires space { HasRoomOf program.now room.old }
     requires shows { (f : Flat KernelFault) × Shows (setup_in program.now) (layout_in program.now) (tables_in program.now) machine.now f }
-    requires wide { (tables_in program.now).stride ≤ window }
-    requires whole { length staging.old ≡ length group.now.places.now * window }
-    requires empty { tasks.old.items ≡ [] }
-    requires tasks { length group.now.places.now ≤ vec_capacity tasks.old }
+    requires buffers { HasGroupRoom (length group.now.places.now) (tables_in program.now).stride program.now.locals buffers.old }
     ensures loaded { (i : ℕ) → i < length group.now.places.now
         → IsLoaded (setup_in program.now) (layout_in program.now) (tables_in program.now)
         group.now.item group.now.rank (get_or group.now.places.now i 0) machine.now
-        (task_at tasks.new.items i) (part window i staging.new) }
-    ensures count { length tasks.new.items ≡ length group.now.places.now }
-    ensures tasks { vec_capacity tasks.new ≡ vec_capacity tasks.old }
+        (task_at buffers.new.tasks.items i) (part buffers.new.window i buffers.new.staging.items) }
+    ensures count { length buffers.new.tasks.items ≡ length group.now.places.now }
     ensures space { HasRoomOf program.now room.new }
+    ensures kept { KeepsGroupRoom buffers.old buffers.new }
 {
-    let places = group.places;
-    for i in 0..places.len() {
+    buffers.tasks.clear();
+    for place in group.places {
         let begin = BeginAt {
             item: group.item,
             rank: group.rank,
-            place: places[i],
+            place: *place,
         };
-        let task = load_at(machine, program, room, begin, staging, i * window, window);
-        tasks.push_reserved(task);
+        load_next(machine, program, room, begin, buffers);
     }
 }
 
@@ -161,15 +166,13 @@ fn open_one(
     }
 }
 
-/// The begins of a group whose kernels have run on the windows of the staging buffer, in their order.
+/// The begins of a group whose kernels have run on the windows of the buffer, in their order.
 pub fn open_all(
     machine: &mut Machine,
     program: &DistributedProgram<'_>,
     room: &mut Room,
     group: &Begins<'_>,
-    tasks: &[Task],
-    staging: &[i32],
-    window: usize,
+    buffers: &GroupRoom,
 )
     requires sound { Sound program.now }
     requires planned { Planned (by_place (setup_in program.now) (layout_in program.now))
@@ -179,14 +182,14 @@ pub fn open_all(
     requires shut { AllShut machine.old.frames.panes group.now.rank group.now.places.now }
     requires distinct { Distinct group.now.places.now }
     requires room { length group.now.places.now ≤ machine.old.frames.left }
-    requires count { length tasks.now ≡ length group.now.places.now }
-    requires whole { length staging.now ≡ length group.now.places.now * window }
-    requires wide { (tables_in program.now).stride < window }
-    requires narrow { (i : ℕ) → i < length tasks.now → (task_at tasks.now i).cells ≤ (tables_in program.now).stride }
+    requires buffers { HasGroupRoom (length group.now.places.now) (tables_in program.now).stride program.now.locals buffers.now }
+    requires count { length buffers.now.tasks.items ≡ length group.now.places.now }
+    requires narrow { (i : ℕ) → i < length group.now.places.now
+        → (task_at buffers.now.tasks.items i).cells ≤ (tables_in program.now).stride }
     requires ran { (i : ℕ) → i < length group.now.places.now
         → IsRun (setup_in program.now) (layout_in program.now) (tables_in program.now)
         group.now.item group.now.rank (get_or group.now.places.now i 0) machine.old
-        (task_at tasks.now i).cells (part window i staging.now) }
+        (task_at buffers.now.tasks.items i).cells (part buffers.now.window i buffers.now.staging.items) }
     ensures shows { (f : Flat KernelFault) → Shows (setup_in program.now) (layout_in program.now) (tables_in program.now) machine.old f
         → Shows (setup_in program.now) (layout_in program.now) (tables_in program.now) machine.new
         (flat_from (setup_in program.now) (layout_in program.now) (begins group.now.item group.now.rank group.now.places.now) f) }
@@ -197,7 +200,8 @@ pub fn open_all(
     rank_state::begin_opens::<KernelFault>();
     let places = group.places;
     for i in 0..places.len() {
-        let at = i * window;
+        let at = i * buffers.window;
+        let window = &buffers.staging[at..at + buffers.window];
         let begin = BeginAt {
             item: group.item,
             rank: group.rank,
@@ -208,8 +212,8 @@ pub fn open_all(
             program,
             room,
             begin,
-            tasks[i].cells,
-            &staging[at..at + window],
+            buffers.tasks[i].cells,
+            window,
         );
     }
 }

@@ -50,30 +50,30 @@ fn reduce(machine: &mut Machine, program: &DistributedProgram<'_>, item: u32)
 // One element of an Ordered loop, on the cells of these spans and variables; its fault, where it has one.
 fn run_one_on(
     machine: &mut Machine,
-    program: &DistributedProgram<'_>,
     run: &KernelRun<'_>,
     windows: &OwnedWindows<'_>,
     locals: &mut [i32],
 ) -> Option<KernelFault>
-    requires sound { Sound program.now }
-    requires kind { (setup_in program.now).program.kind run.now.item ≡ Ordered }
-    requires element { run.now.element < elements (setup_in program.now).program run.now.item }
-    requires are { AreOwned (setup_in program.now) (layout_in program.now) (tables_in program.now)
+    requires sound { Sound run.now.program.now }
+    requires kind { (setup_in run.now.program.now).program.kind run.now.item ≡ Ordered }
+    requires element { run.now.element < elements (setup_in run.now.program.now).program run.now.item }
+    requires are { AreOwned (setup_in run.now.program.now) (layout_in run.now.program.now) (tables_in run.now.program.now)
         run.now.item run.now.element windows.now.spans.now windows.now.indices.now }
-    requires values { run.now.constants.now ≡ values_at machine.old.variables (tables_in program.now).constants }
-    requires locals { program.now.locals ≤ length locals.old }
-    requires shows { (f : Flat KernelFault) × Shows (setup_in program.now) (layout_in program.now) (tables_in program.now) machine.old f }
+    requires values { run.now.constants.now ≡ values_at machine.old.variables (tables_in run.now.program.now).constants }
+    requires locals { run.now.program.now.locals ≤ length locals.old }
+    requires shows { (f : Flat KernelFault)
+        × Shows (setup_in run.now.program.now) (layout_in run.now.program.now) (tables_in run.now.program.now) machine.old f }
     ensures fault { result
-        ≡ fault_of (run_of (layout_in program.now) (tables_in program.now)
+        ≡ fault_of (run_of (layout_in run.now.program.now) (tables_in run.now.program.now)
         run.now.item run.now.element windows.now.spans.now windows.now.indices.now machine.old) }
     ensures state { machine.new
         ≡ left_in windows.now.spans.now windows.now.indices.now
-        (run_of (layout_in program.now) (tables_in program.now)
+        (run_of (layout_in run.now.program.now) (tables_in run.now.program.now)
         run.now.item run.now.element windows.now.spans.now windows.now.indices.now machine.old) machine.old }
 {
     rank_state::steps_can::<KernelFault>();
     rank_state::windows_are_counted::<KernelFault>();
-    machine.element(program, run, windows, locals)
+    machine.element(run, windows, locals)
 }
 
 // One element of an Ordered loop; its fault, where it has one.
@@ -97,6 +97,7 @@ fn run_one(
     room.owned.clear();
     let indices = push_owned_windows(program, item, element, &mut room.owned);
     let run = KernelRun {
+        program,
         item,
         element,
         constants: &room.constants,
@@ -105,7 +106,7 @@ fn run_one(
         spans: &room.owned,
         indices,
     };
-    run_one_on(machine, program, &run, &windows, &mut room.kernels.locals)
+    run_one_on(machine, &run, &windows, &mut room.kernels.locals)
 }
 
 // How many elements an Ordered loop has.

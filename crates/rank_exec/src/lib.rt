@@ -1,4 +1,6 @@
-//! The run over the steps of a schedule, each of which shows a step of the machine on flat buffers.
+//! A bound program run on ranks by its plan: the run over the steps of a schedule, each of which shows a step of the
+//! machine on flat buffers (`drive`, `run_planned`), and the whole run, in an order that the plan accepts
+//! (`planned_run`). `closed_groups` says why elements that begin together and then end may run one after another.
 #![tactic(auto)]
 
 mod alone;

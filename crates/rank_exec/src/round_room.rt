@@ -5,9 +5,10 @@ ghost use Rattle.rank_program.specs.Rooms.{HasRoomOf};
 ghost use Rattle.rank_program.specs.Sound.{Sound};
 ghost use Rattle.rank_machine.specs.OnRanks.{places_on};
 
+use kernel_code::Code;
 use kernel_runs::worker_batches::BatchesRoom;
 use rank_machine::ranks::RankPart;
-use rank_program::{DistributedProgram, MOST_ARGS, MOST_COLUMNS, Room};
+use rank_program::{DistributedProgram, MOST_ARGS, MOST_COLUMNS, Room, runs_in_batches};
 use std::alloc::{AllocError, Global};
 
 /// For each rank a list of places, and what elements are lent of it; for no rank where none come in rounds.
@@ -17,8 +18,21 @@ pub struct RoundRoom {
     pub parts: Vec<RankPart>,
 }
 
-// As many batches as several workers run at once on a rank: with fewer, starting threads takes long beside them.
-const BATCHES: usize = 64;
+// What the batches of a rank that run at once take at most, in bytes: 8 MiB. A batch takes 256 for each of its columns, those of numbers
+// and slots among them: 16 KiB where a loop and its kernel have 64, of which 512 run at once, and 68 KiB where they have as many as any that
+// runs in batches, of which 120 do. Each time that batches have run, threads end and start anew for the next.
+const BATCH_BYTES: usize = 8 << 20;
+
+// How many slots the kernels have at most whose elements may run in batches.
+fn most_slots(codes: &[Code<'_>]) -> usize {
+    let mut most = 0;
+    for code in codes {
+        if runs_in_batches(code) {
+            most = most.max(code.slots as usize);
+        }
+    }
+    most
+}
 
 // Room for a step, and on a rank that has several workers to itself for the batches that they run at once.
 fn room_for(
@@ -40,10 +54,10 @@ fn room_for(
             .unwrap_or(0);
         room.kernels.batches = BatchesRoom::new(
             alloc,
-            BATCHES,
+            BATCH_BYTES,
             MOST_ARGS,
-            MOST_COLUMNS,
-            MOST_COLUMNS,
+            program.tables.stride.min(MOST_COLUMNS),
+            most_slots(program.codes),
             places,
         )?;
     }

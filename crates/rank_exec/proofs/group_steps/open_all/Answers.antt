@@ -1,5 +1,5 @@
-use Rattle.std.proofs.Common.{◌≡◌, ◌<◌, ◌-◌, ◌*◌, length, ◌+◌, [], ◌∷◌, ◌++◌, take, drop, get_or, sym, ap, subst, ◌∙◌, arith, add-one, drop-cons}
-use Rattle.std.proofs.lemmas.List.{take_all}
+use Rattle.std.proofs.Common.{◌≡◌, ℕ, ℤ, List, ◌<◌, ◌-◌, ◌*◌, length, ◌+◌, [], ◌∷◌, ◌++◌, take, drop, get_or, sym, ap, subst, ◌∙◌, arith, add-one, drop-cons}
+use Rattle.std.proofs.lemmas.List.{get_or_read, take_all}
 use Rattle.schedule_steps.specs.declared.step.Step.TheVariants.{Begin}
 use Rattle.flat_machine.specs.Layout.{by_place}
 use Rattle.flat_machine.specs.Flat.{flat_from}
@@ -7,7 +7,8 @@ use Rattle.rank_state.specs.Shows.{Shows}
 use Rattle.rank_state.specs.Groups.{begins, Distinct, Planned, AllShut}
 use Rattle.rank_exec.proofs.Driving.{from_push}
 use Rattle.rank_exec.proofs.Grouping.{take_next, begins_push, still_shut}
-use Rattle.rank_program.specs.Jobs.{part, task_at}
+use Rattle.rank_program.specs.declared.tasks.Task.{Task}
+use Rattle.rank_program.specs.Jobs.{part, no_task, task_at}
 use Rattle.rank_exec.specs.Tasks.{IsRun}
 use Rattle.rank_exec.proofs.Tasking.{run_later}
 use Rattle.rank_program.specs.Sound.{setup_in, layout_in, tables_in}
@@ -40,11 +41,18 @@ loop-i-preserved c =
 
 pub open_one-requires-clause-ran : goal.open_one-requires-clause-ran
 open_one-requires-clause-ran c =
-    let wide : c.loop-i.i * c.args.window + c.args.window - c.loop-i.i * c.args.window ≡ c.args.window = omega arith in
+    let window = c.args.buffers.now.window in
+    let at = c.loop-i.i * c.args.buffers.now.window in
+    let wide : c.loop-i.i * c.args.buffers.now.window + c.args.buffers.now.window - c.loop-i.i * c.args.buffers.now.window ≡ c.args.buffers.now.window = omega arith in
     let i_lt : c.loop-i.i < length c.args.group.now.places.now = c.loop-i-test.true in
-    subst (λ n. IsRun (setup_in c.args.program.now) (layout_in c.args.program.now) (tables_in c.args.program.now) c.args.group.now.item c.args.group.now.rank (get_or c.args.group.now.places.now c.loop-i.i 0) c.loop-i.machine (task_at c.args.tasks.now c.loop-i.i).cells (take n (drop (c.loop-i.i * c.args.window) c.args.staging.now))) (sym wide)
-    (run_later (setup_in c.args.program.now) (layout_in c.args.program.now) (tables_in c.args.program.now) c.args.group.now.item c.args.group.now.rank (get_or c.args.group.now.places.now c.loop-i.i 0) (task_at c.args.tasks.now c.loop-i.i).cells (part c.args.window c.loop-i.i c.args.staging.now) (take c.loop-i.i c.args.group.now.places.now) c.args.machine.now c.loop-i.machine
-    c.requires.shows.0 c.requires.shows.1 (c.loop-i.invariant.shows c.requires.shows.0 c.requires.shows.1) (c.requires.ran c.loop-i.i i_lt))
+    let in_tasks : c.loop-i.i < length c.args.buffers.now.tasks.items = omega (arith, i_lt, c.requires.count) in
+    let task : c.index.result.now ≡ task_at c.args.buffers.now.tasks.items c.loop-i.i = get_or_read c.args.buffers.now.tasks.items c.loop-i.i c.index.result.now in_tasks c.index.ensures no_task in
+    let ran = run_later (setup_in c.args.program.now) (layout_in c.args.program.now) (tables_in c.args.program.now) c.args.group.now.item c.args.group.now.rank (get_or c.args.group.now.places.now c.loop-i.i 0) (task_at c.args.buffers.now.tasks.items c.loop-i.i).cells (part c.args.buffers.now.window c.loop-i.i c.args.buffers.now.staging.items) (take c.loop-i.i c.args.group.now.places.now) c.args.machine.now c.loop-i.machine
+    c.requires.shows.0 c.requires.shows.1 (c.loop-i.invariant.shows c.requires.shows.0 c.requires.shows.1) (c.requires.ran c.loop-i.i i_lt) in
+    let Ran = λ (n : ℕ) (w : List ℤ). IsRun (setup_in c.args.program.now) (layout_in c.args.program.now) (tables_in c.args.program.now) c.args.group.now.item c.args.group.now.rank (get_or c.args.group.now.places.now c.loop-i.i 0) c.loop-i.machine n w in
+    subst (λ (t : Task). Ran t.cells (take (at + window - at) (drop at c.deref.result.now))) (sym task)
+    (subst (λ n. Ran (task_at c.args.buffers.now.tasks.items c.loop-i.i).cells (take n (drop at c.deref.result.now))) (sym wide)
+    (subst (λ s. Ran (task_at c.args.buffers.now.tasks.items c.loop-i.i).cells (take window (drop at s))) (sym c.deref.ensures.value) ran))
 
 pub returns-clause-shows : goal.returns-clause-shows
 returns-clause-shows c f h =
