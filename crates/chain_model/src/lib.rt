@@ -1,5 +1,6 @@
-//! Chains of Free loops with one exchange each: ranks execute further elements redundantly, so that nothing need be exchanged within a
-//! chain. The machine that runs them, and the theorem that it runs as the sequential run does.
+//! Chains of Free loops with one exchange each: ranks execute further elements redundantly, so that nothing need be
+//! exchanged within a chain. The machine that runs them, and the theorem that it runs as the sequential run does; and
+//! that it holds of every bound program whose kernels obey their modes (`bound_chains`).
 #![tactic(auto)]
 
 pub mod bound_chains;

@@ -1,7 +1,7 @@
 //! State texts: what a file says of a run that stopped before an item, so that the rest can go on from there.
 //!
-//! `specs/Reading.antt` says which state a file tells, or which is its first line that is refused; `specs/Laws.antt`
-//! that this is one thing, and that a state which was written is read.
+//! `specs/Reading.antt` says which state a file tells, or which is its first line that is refused;
+//! `specs/StateTextLaws.antt` that this is one thing, and that a state which was written is read.
 mod dats;
 mod laws;
 mod lines;

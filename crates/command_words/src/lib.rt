@@ -1,8 +1,9 @@
-//! The words of the command line of `op2`: what they ask for, and when they are refused.
+//! The words of the command line of `op2`: what they ask for, and when they are refused. And what a call ends with, in
+//! lines on the error stream (`answer_lines`).
 //!
-//! `clap` judges the words; what its matches mean is defined in `specs/Words.antt`, and `read_words` gives exactly that, with
-//! the numbers of its options in their ranges. The options of a plan, `options_of`, and a command by its rules, `with_rules`, are
-//! there for other programs too.
+//! `clap` judges the words; what its matches mean is defined in `specs/Words.antt`, and `read_words` gives exactly
+//! that, with the numbers of its options in their ranges. The options of a plan, `options_of`, and a command by its
+//! rules, `with_rules`, are there for other programs too.
 #![tactic(auto)]
 
 pub mod answer_lines;

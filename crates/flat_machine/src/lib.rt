@@ -1,5 +1,6 @@
-//! The distributed machine on flat buffers: memories, variables and windows as lists, elements by
-//! their places. It goes with the machine on cells, so the theorem on schedules holds of it.
+//! The distributed machine on flat buffers: memories, variables and windows as lists, elements by their places. It goes
+//! with the machine on cells, so the theorem on schedules holds of it. `schedule_examples` has a small plan on which
+//! all is computed.
 #![tactic(auto)]
 
 ghost use Rattle.std.specs.Prelude.{◌≡◌, ℕ, ℤ, Bool, not, List, [], ◌++◌, length, None};
@@ -15,6 +16,8 @@ ghost use Rattle.flat_machine.specs.Layout.{Layout, IsLayout, by_place};
 ghost use Rattle.flat_machine.specs.Flat.{Flat, StartsFlat, flat_step, flat_from, AgreesFlat};
 ghost use Rattle.flat_machine.specs.Followed.{is_shut, queue_of};
 ghost use Rattle.flat_machine.specs.Scatter.{Once, scatter, looked_up, Placed};
+
+pub mod schedule_examples;
 
 /// For every accepted list of steps by places, the machine on flat buffers prints and stops as the sequential run does. Where that has
 /// no fault, each owner's buffer and the variables end with its values.
@@ -51,5 +54,3 @@ pub fn scatter_is_look_up()
         → Once xs → Placed taken place cell_at xs (length buffer)
         → scatter taken place xs ws buffer ≡ looked_up taken cell_at xs ws buffer }
 {}
-
-pub mod schedule_examples;

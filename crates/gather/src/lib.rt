@@ -1,4 +1,5 @@
-//! What a program prints, byte for byte.
+//! What a program prints, byte for byte (`print_dat`, `print_line`, `dump`), and the statements of `main` that are no
+//! loop, on the cells of all variables (`host_acts`).
 #![tactic(auto)]
 
 mod dats;

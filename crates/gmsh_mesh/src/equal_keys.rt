@@ -7,4 +7,4 @@ mod rows;
 
 pub use classing::classes;
 pub use pairing::{MateRefusal, mates};
-pub use renumber::rows::row_classes;
+pub use rows::row_classes;

@@ -1,10 +1,12 @@
-//! What a job reads: its source, its mesh, its state, its partition and its plan, each read and judged, and how the reading ends where
-//! it is refused.
+//! What a job reads: its source, its mesh, its state, its partition and its plan, each read and judged, and how the
+//! reading ends where it is refused.
 //!
-//! `bound_input` gives the program bound to its mesh, whose kernels keep to their accesses; `state_text_of` and `chosen_by` give the
-//! program whose items run, the whole or a part of it; `numbers_of`, `partition_of` and `owners_of` give the new numbers and the owners
-//! that the options ask for, and `plan_text_of` the text of a plan. `expect_input` and those beside it say which files a job reads, and
-//! in which order. Of a source alone `translation_of` and `restoration_of` give what it is translated or restored to.
+//! `bound_input` gives the program bound to its mesh, whose kernels keep to their accesses; `state_text_of` and
+//! `chosen_by` the program whose items run, the whole or a part of it; `numbers_of`, `partition_of` and `owners_of` the
+//! new numbers and the owners that the options ask for, and `plan_text_of` the text of a plan. `job_plans` goes from
+//! there to the plan. `expect_input` and those beside it say which files a job reads, and in which order; `kept_files`
+//! reads each of them once. Of a source alone `translation_of` and `restoration_of` give what it is translated or
+//! restored to.
 #![tactic(auto)]
 
 mod accesses;

@@ -1,4 +1,5 @@
-//! The texts of METIS: the graph of neighbours that it partitions, and the owners that it gives.
+//! Texts for graph partitioners and from them, in METIS's form: the graph of neighbours of a set (`neighbour_graph`),
+//! and the owners that a partitioner finds, which are written as a partition text (`owner_text`).
 #![tactic(auto)]
 
 pub mod neighbour_graph;

@@ -1,4 +1,5 @@
-//! New numbers for the elements of a mesh.
+//! New numbers for the elements of a mesh (`identity`, `cuthill_mckee`), the orders by breadth-first walks from which
+//! they come (`breadth_order`), and lists of numbers one behind another in one array (`rows`).
 #![tactic(auto)]
 
 ghost use Rattle.std.specs.Prelude.{◌≡◌, ℕ, ◌<◌, IfOk, length, slice_index};

@@ -1,7 +1,7 @@
 //! Texts whose form goes by lines: bytes cut into lines at each LF, and a line cut into words at single spaces.
 //!
 //! `Lines` gives one line after another, and counts them; `Words` gives one word after another. Neither allocates nor
-//! copies. `specs/Lines.antt` says what a line is, and what its words are.
+//! copies. `specs/CutLines.antt` says what a line is, and what its words are.
 mod laws;
 mod lines;
 mod words;
