@@ -1,4 +1,5 @@
--- One turn of a for is enough, where no static index in its body names its counter: it finds all that all turns find, and covers all that they cover.
+-- One turn of a for is enough, where no static index in its body names its counter: it finds all that all turns find, and covers all that
+-- they cover.
 use Rattle.std.proofs.Common.{◌≡◌, ℕ, zero, suc, pos, ◌⊎◌, inl, inr, ◌+◌, ◌-◌, ◌<◌, ◌≤◌, Bool, false, List, refl, sym, ap, ◌∙◌, arith}
 use Rattle.std.proofs.Math.Path.{fun_ext}
 use Rattle.kernel_types.specs.declared.statements.RStmt.{RStmt}

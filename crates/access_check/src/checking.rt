@@ -86,8 +86,8 @@ fn found_in(
     found
 }
 
-/// Whether the kernel keeps to the accesses of its arguments, one mode for each parameter: if not, the rule that it breaks
-/// at the earliest place. There are at most 16 modes, each of a dim of at most 64.
+/// Whether the kernel keeps to the accesses of its arguments, one mode for each parameter: if not, the rule that it
+/// breaks at the earliest place. There are at most 16 modes, each of a dim of at most 64.
 pub fn check(alloc: Global, kernel: &RKernel, modes: &[Mode]) -> Result<(), AccessRefusal>
     requires resolved { (consts : ℕ) × IsResolved consts kernel.now }
     requires params { length modes.now ≡ kernel.now.params }

@@ -6,7 +6,8 @@ ghost use Rattle.access_check.specs.States.{has_component};
 /// How many arguments a parallel loop has at most.
 pub const ARGUMENTS: usize = 16;
 
-/// Components of arguments: component i of argument a is among them where bit i of word a, counted from the lowest, is 1.
+/// Components of arguments: component i of argument a is among them where bit i of word a, counted from the lowest, is
+/// 1.
 #[derive(Clone, Copy)]
 pub struct Components {
     pub words: [u64; ARGUMENTS],

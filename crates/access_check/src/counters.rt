@@ -96,8 +96,8 @@ fn value_after(e: &RExpr, x: Option<i32>, counters: &[Option<i32>]) -> Option<i3
     static_operator(*op, x, static_value(right, counters))
 }
 
-/// The value of an expression of numbers, counters, `+ - *`, unary `-` and `+`, and parentheses. A chain of operators, each
-/// the left operand of the one before it, is evaluated by loops.
+/// The value of an expression of numbers, counters, `+ - *`, unary `-` and `+`, and parentheses. A chain of operators,
+/// each the left operand of the one before it, is evaluated by loops.
 #[cycle(values)]
 pub fn static_value(e: &RExpr, counters: &[Option<i32>]) -> Option<i32>
     ensures { number_of result ≡ static e.now (counters_of counters.now) }

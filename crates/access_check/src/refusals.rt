@@ -35,8 +35,8 @@ pub enum AccessRefusal {
     /// A static index takes a value that isn't below the argument's dim.
     #[error("an index is out of range at {}:{}", at.line, at.column)]
     LiteralIndexOut { at: Pos },
-    /// An `OP_MIN` argument is the target of another assignment than `P = MIN(P, e)` and `P = MIN(e, P)`, or an `OP_MAX` argument
-    /// of another than the same with `MAX`.
+    /// An `OP_MIN` argument is the target of another assignment than `P = MIN(P, e)` and `P = MIN(e, P)`, or an
+    /// `OP_MAX` argument of another than the same with `MAX`.
     #[error("an OP_MIN or OP_MAX argument is assigned in another form at {}:{}", at.line, at.column)]
     MinMaxForm { at: Pos },
     /// Want of memory.

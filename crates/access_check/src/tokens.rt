@@ -65,8 +65,8 @@ fn is_same_op(a: BinaryOp, b: BinaryOp) -> bool
     }
 }
 
-// Whether both expressions are written in the same tokens. A chain of operators, each the left operand of the one before
-// it, is gone along by a loop.
+// Whether both expressions are written in the same tokens. A chain of operators, each the left operand of the one
+// before it, is gone along by a loop.
 #[cycle(same)]
 #[tactic(auto, using(crate::proofs::Chains::same_swap))]
 fn is_same_chain(a: &RExpr, b: &RExpr) -> bool

@@ -1,4 +1,5 @@
--- Status 2 comes exactly where the words are refused, unless memory ran out; and status 3 only where a file could not be read, or is missing.
+-- Status 2 comes exactly where the words are refused, unless memory ran out; and status 3 only where a file could not be read, or is
+-- missing.
 use Rattle.std.proofs.Common.{◌≡◌, ◌⊎◌, inl, inr, ℕ, List, ◌∷◌, Option, Some, None, IsSome, Ok, Err, refl, sym, ap, ◌∙◌, subst, arith, []}
 use Rattle.std.specs.Prelude.{codes}
 use Rattle.std.specs.List.{Contains}

@@ -6,16 +6,16 @@ ghost use Rattle.answers.specs.Laws.{AnswersAgree, AnswersExist};
 ghost use Rattle.answers.specs.Restarts.{RestartsAreWhole};
 ghost use Rattle.answer_laws.specs.OnCells.{RunsAnswerOnCells};
 
-/// A law: for a program that fits, what its run on whole arrays answers is what the run that the theorem on schedules is about
-/// prints, with its first fault, or with the dump behind it.
+/// A law: for a program that fits, what its run on whole arrays answers is what the run that the theorem on schedules
+/// is about prints, with its first fault, or with the dump behind it.
 pub fn runs_answer_on_cells()
     ensures { RunsAnswerOnCells }
 {
     run_model::sequential_run::runs_are_one();
 }
 
-/// A law: any two answers to the same words over the same files have the same status and the same bytes for the output, and
-/// the same line, unless the source has tokens and no tree.
+/// A law: any two answers to the same words over the same files have the same status and the same bytes for the output,
+/// and the same line, unless the source has tokens and no tree.
 pub fn answers_agree()
     ensures { AnswersAgree }
 {
@@ -85,8 +85,8 @@ pub fn answers_exist()
     step_judge::taken_lists_are_accepted();
 }
 
-/// A law: where a call ends, its status is that of any answer over files that tell it, unless memory ran out or a count of
-/// faults rose.
+/// A law: where a call ends, its status is that of any answer over files that tell it, unless memory ran out or a count
+/// of faults rose.
 pub fn calls_are_complete()
     ensures { (c : Call) (status : ℕ) → Ends c status → IsComplete c status }
 {
@@ -98,22 +98,22 @@ pub fn usage_is_of_words()
     ensures { (c : Call) (status : ℕ) → Ends c status → IsUsage c status }
 {}
 
-/// A law: where a call ends, its status is 3 only where the count of the shelf rose, or where the files that are told lack a name that
-/// the words name.
+/// A law: where a call ends, its status is 3 only where the count of the shelf rose, or where the files that are told
+/// lack a name that the words name.
 pub fn unread_files_are_named()
     ensures { (c : Call) (status : ℕ) → Ends c status → IsUnread c status }
 {}
 
-/// A law: where a call ends, what stands on the output is what any answer over files that tell it has, whole or, where the
-/// count of the output rose, a front of it.
+/// A law: where a call ends, what stands on the output is what any answer over files that tell it has, whole or, where
+/// the count of the output rose, a front of it.
 pub fn calls_show_their_answers()
     ensures { (c : Call) (status : ℕ) → Ends c status → IsShown c status }
 {
     answers_agree();
 }
 
-/// A law: where a call ends with another status than 1, 3 and 4, the line for the errors is that of any answer over files that
-/// tell it, unless the source has tokens and no tree.
+/// A law: where a call ends with another status than 1, 3 and 4, the line for the errors is that of any answer over
+/// files that tell it, unless the source has tokens and no tree.
 pub fn calls_report_their_answers()
     ensures { (c : Call) (status : ℕ) → Ends c status → AreReported c status }
 {
@@ -125,9 +125,9 @@ pub fn others_write_nothing()
     ensures { (c : Call) (status : ℕ) → Ends c status → IsSilent c status }
 {}
 
-/// A law: what a run prints that stops before an item, and then one that goes on from the state that it wrote, is what the whole run
-/// prints, with the same fault or none, whatever the options of the three; or both the first and the whole stop before the item,
-/// alike.
+/// A law: what a run prints that stops before an item, and then one that goes on from the state that it wrote, is what
+/// the whole run prints, with the same fault or none, whatever the options of the three; or both the first and the
+/// whole stop before the item, alike.
 pub fn restarts_are_whole()
     ensures { RestartsAreWhole }
 {

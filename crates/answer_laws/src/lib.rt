@@ -1,5 +1,5 @@
-//! Laws of the definitions in `answers`: that any two answers to the same words over the same files agree, that there is one
-//! for all words and files, and what the ending of a call tells of them.
+//! Laws of the definitions in `answers`: that any two answers to the same words over the same files agree, that there
+//! is one for all words and files, and what the ending of a call tells of them.
 #![tactic(auto)]
 
 mod laws;

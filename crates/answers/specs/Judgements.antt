@@ -56,7 +56,8 @@ use Rattle.command_words.specs.Words.{Blocks, OfSize, AsPlanned, Schedule, Stand
 use Rattle.command_words.specs.Refusal.{Limit, SourceBytes, MeshBytes, MeshValues, StateBytes, PartitionBytes, PlanBytes, Steps}
 use Rattle.command_words.specs.Refusal.{ScheduleBytes, Refusal, CannotRead, BadAccess, BadCut, BadState, BadPlan, BeyondLimit}
 use Rattle.command_words.specs.Lines.{most}
-use Rattle.answers.specs.Said.{SaysSource, SaysTypes, SaysTranslation, SaysMesh, SaysBinding, SaysNumbers, SaysOwners, SaysSchedule, SaysNext}
+use Rattle.answers.specs.Said.{SaysSource, SaysTypes, SaysTranslation, SaysMesh, SaysBinding, SaysNumbers, SaysOwners, SaysSchedule}
+use Rattle.answers.specs.Said.{SaysNext}
 
 -- ---- files
 

@@ -3,8 +3,8 @@ ghost use Rattle.bound_plan.specs.Laws.{CellsHaveOneIndex, FirstStatesStart, Fra
 
 use crate::given::{kernels_and_frames, meshes_and_items};
 
-/// A law: where the cells and elements of a bound program stand on the ranks is a layout of its setup, whether its kernels
-/// obey their modes or don't.
+/// A law: where the cells and elements of a bound program stand on the ranks is a layout of its setup, whether its
+/// kernels obey their modes or don't.
 pub fn layouts_fit()
     ensures { LayoutsFit }
 {

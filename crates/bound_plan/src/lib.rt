@@ -1,8 +1,9 @@
 //! From a bound program, its distribution and its plan to the premises of the theorem on schedules.
 //!
-//! A bound program on several ranks with a plan is a setup (`setup_of`), and its local meshes are a layout (`layout_of`).
-//! The laws here say that this setup and this layout are what the theorem asks, and that the plan's steps are its steps.
-//! Two laws more say that such a run is one, wherever its kernels, owners and local meshes lie in memory.
+//! A bound program on several ranks with a plan is a setup (`setup_of`), and its local meshes are a layout
+//! (`layout_of`). The laws here say that this setup and this layout are what the theorem asks, and that the plan's
+//! steps are its steps. Two laws more say that such a run is one, wherever its kernels, owners and local meshes lie in
+//! memory.
 #![tactic(auto)]
 
 mod given;

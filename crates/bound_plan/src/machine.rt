@@ -19,8 +19,8 @@ pub fn messages_have_cells()
     meshes_and_items();
 }
 
-/// A law: an element of which a rank has a copy stands at one local number, and the values of a local element of a dat stand
-/// side by side in the rank's buffer, from `bases[dat] + local * dim` on.
+/// A law: an element of which a rank has a copy stands at one local number, and the values of a local element of a dat
+/// stand side by side in the rank's buffer, from `bases[dat] + local * dim` on.
 pub fn elements_stand()
     ensures { ElementsStand }
 {

@@ -4,7 +4,8 @@ ghost use Rattle.bound_plan.specs.Laws.{SetupsAreColoured, SetupsAreLawful, Setu
 use crate::given::{kernels_and_frames, meshes_and_items};
 use kernel_types::KernelFault;
 
-/// A law: items, arguments, halos, messages and colours of the setup are as the theorem asks, each by its own definition.
+/// A law: items, arguments, halos, messages and colours of the setup are as the theorem asks, each by its own
+/// definition.
 pub fn setups_have_parts()
     ensures { SetupsHaveParts }
 {
@@ -20,8 +21,8 @@ pub fn setups_are_coloured()
     schedule_model::schedule_laws::setup_is_lawful::<KernelFault>();
 }
 
-/// A law: a bound program on several ranks with a proper plan, whose loops' kernels obey their modes and that begins with
-/// numbers of 32 bits, is lawful.
+/// A law: a bound program on several ranks with a proper plan, whose loops' kernels obey their modes and that begins
+/// with numbers of 32 bits, is lawful.
 pub fn setups_are_lawful()
     ensures { SetupsAreLawful }
 {

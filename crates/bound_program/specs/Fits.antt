@@ -16,7 +16,8 @@ use Rattle.mesh_decl.specs.Printed.{conversions}
 use Rattle.bound_program.specs.declared.sites.Arg.{Arg}
 use Rattle.bound_program.specs.declared.sites.Arg.TheVariants.{Dat, Global}
 use Rattle.bound_program.specs.declared.sites.Class.TheVariants as class
-use Rattle.kernel_types.specs.View.{RExprTree, Number, Scalar, Constant, Arg as Param, Local, Const, Unary, Binary, Choice, Paren, Extremum, Absolute}
+use Rattle.kernel_types.specs.View.{RExprTree, Number, Scalar, Constant, Arg as Param, Local, Const, Unary, Binary, Choice, Paren, Extremum}
+use Rattle.kernel_types.specs.View.{Absolute}
 use Rattle.bound_program.specs.Values.{ActValue, Clear, Assign, Line, Print, Exit, ItemValue, Free, Reduce, Ordered, Host, SiteValue}
 use Rattle.bound_program.specs.Values.{VarValue, BoundValue, no_var, no_site}
 use Rattle.bound_program.specs.Limits.{max_dim, max_arguments}

@@ -3,9 +3,12 @@ use Rattle.std.specs.Prelude.{◌≡◌, ◌⊎◌, ℕ, slice_index_or, Bool, t
 use Rattle.std.specs.Prelude.{Result, Ok, Err, nat_lt, nat_eq, if◌then◌else◌, IfSome, IfNone}
 use Rattle.c_lex.specs.declared.tokens.Pos.{Pos}
 use Rattle.bound_program.specs.declared.refusals.refusals.BindRefusal.{BindRefusal}
-use Rattle.bound_program.specs.declared.refusals.refusals.BindRefusal.TheVariants.{UnknownSet, UnknownMap, UnknownDat, UnknownKernel, ArgCount}
-use Rattle.bound_program.specs.declared.refusals.refusals.BindRefusal.TheVariants.{DimMismatch, TypeMismatch, SetMismatch, IndexRange, MapTarget}
-use Rattle.bound_program.specs.declared.refusals.refusals.BindRefusal.TheVariants.{GlobalTwice, ReservedAccess, ControlNotStatic, TraceTooLong}
+use Rattle.bound_program.specs.declared.refusals.refusals.BindRefusal.TheVariants.{UnknownSet, UnknownMap, UnknownDat, UnknownKernel}
+use Rattle.bound_program.specs.declared.refusals.refusals.BindRefusal.TheVariants.{ArgCount}
+use Rattle.bound_program.specs.declared.refusals.refusals.BindRefusal.TheVariants.{DimMismatch, TypeMismatch, SetMismatch, IndexRange}
+use Rattle.bound_program.specs.declared.refusals.refusals.BindRefusal.TheVariants.{MapTarget}
+use Rattle.bound_program.specs.declared.refusals.refusals.BindRefusal.TheVariants.{GlobalTwice, ReservedAccess, ControlNotStatic}
+use Rattle.bound_program.specs.declared.refusals.refusals.BindRefusal.TheVariants.{TraceTooLong}
 use Rattle.bound_program.specs.declared.refusals.refusals.BindRefusal.TheVariants.{Limit, DeclarationPlace, UnknownEntry, OutOfMemory}
 use Rattle.bound_program.specs.declared.refusals.refusals.Counted.{Counted}
 use Rattle.bound_program.specs.declared.refusals.founds.Turn.{Turn}

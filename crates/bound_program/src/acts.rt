@@ -9,14 +9,16 @@ use std::alloc::Global;
 use std::sync::Arc;
 
 /// A statement of `main` that is no loop. Its expressions are those of a kernel without parameters and constants, whose
-/// local cells are the cells of all variables, one variable after another; names that are known before the run are constants.
+/// local cells are the cells of all variables, one variable after another; names that are known before the run are
+/// constants.
 #[derive(Drop)]
 pub enum Act {
     /// the declaration of a variable: its cells become 0
     Clear {
         var: u32,
     },
-    /// an assignment to a variable, or its initializer; `at` is the place of the variable's name, `op_at` that of the sign
+    /// an assignment to a variable, or its initializer; `at` is the place of the variable's name, `op_at` that of the
+    /// sign
     Assign {
         var: u32,
         index: Option<RExpr>,
@@ -39,8 +41,8 @@ pub enum Act {
     Exit,
 }
 
-/// A statement with the values of the names that were told when `main` was unrolled: in its expressions `Constant(k)` is the
-/// name whose value is the k-th of `told`. The items of all turns of a `for` share one `act`.
+/// A statement with the values of the names that were told when `main` was unrolled: in its expressions `Constant(k)`
+/// is the name whose value is the k-th of `told`. The items of all turns of a `for` share one `act`.
 #[derive(Drop)]
 pub struct ToldAct {
     pub act: Arc<Act, Global>,

@@ -1,7 +1,8 @@
-//! Programs bound to a mesh: the sets, maps, dats and variables of a source, its loops with their arguments, and the list of
-//! what its `main` does.
+//! Programs bound to a mesh: the sets, maps, dats and variables of a source, its loops with their arguments, and the
+//! list of what its `main` does.
 //!
-//! What every bound program keeps is `Fits`, in `specs/Fits.antt`. Plans, schedules and runs stand on these types alone.
+//! What every bound program keeps is `Fits`, in `specs/Fits.antt`. Plans, schedules and runs stand on these types
+//! alone.
 #![tactic(auto)]
 
 mod acts;

@@ -6,9 +6,9 @@ use kernel_types::RKernel;
 use mesh_decl::{Mesh, Values};
 use op_num::Name;
 
-/// A variable: of the file, of `main` outside every `for` or without `const`, or an extern that is an argument of a loop.
-/// `start` holds its cells before the run. `constant` is the number of its first cell among the constants that kernels
-/// read. The cells of one with `is_const`, which is declared `const` or an extern, never change.
+/// A variable: of the file, of `main` outside every `for` or without `const`, or an extern that is an argument of a
+/// loop. `start` holds its cells before the run. `constant` is the number of its first cell among the constants that
+/// kernels read. The cells of one with `is_const`, which is declared `const` or an extern, never change.
 #[derive(Debug, Drop)]
 pub struct Var {
     pub name: Name,

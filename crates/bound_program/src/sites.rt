@@ -22,7 +22,8 @@ pub enum Arg {
 /// Whether the order of a loop's elements may matter.
 #[derive(Clone, Copy, PartialEq, Eq, Debug)]
 pub enum Class {
-    /// Each dat that the loop modifies is reached by direct arguments alone, or by arguments of one reducing access alone.
+    /// Each dat that the loop modifies is reached by direct arguments alone, or by arguments of one reducing access
+    /// alone.
     Free,
     /// The loop runs in the order of its set's elements.
     Ordered,

@@ -1,5 +1,5 @@
-//! `main` when its names are numbers, and the list of what it does: its static control is unrolled under the limit of the
-//! trace.
+//! `main` when its names are numbers, and the list of what it does: its static control is unrolled under the limit of
+//! the trace.
 mod host_values;
 mod laws;
 mod naming;

@@ -47,8 +47,8 @@ pub fn read_program(alloc: Global, bytes: &[u8]) -> Result<Program, SourceRefusa
     read_lexed(alloc, bytes, &tokens)
 }
 
-/// The one tree of the bytes of a source whose tokens these are, where it has at most 64 levels. They are to be fewer than
-/// 2 ^ 32 - 2. `Lex` doesn't come, and `OutOfMemory` only where memory runs out.
+/// The one tree of the bytes of a source whose tokens these are, where it has at most 64 levels. They are to be fewer
+/// than 2 ^ 32 - 2. `Lex` doesn't come, and `OutOfMemory` only where memory runs out.
 pub fn read_lexed(alloc: Global, bytes: &[u8], tokens: &[Token]) -> Result<Program, SourceRefusal>
     requires size { length bytes.now + 2 < 2 ^ 32 }
     requires lexed { Lexes bytes.now (Ok tokens.now) }
@@ -81,7 +81,8 @@ pub fn shows_its_tokens()
     one_outcome();
 }
 
-/// The bytes have no tree of at most 64 levels beside a deeper one, and deeper ones have one first token beyond level 64.
+/// The bytes have no tree of at most 64 levels beside a deeper one, and deeper ones have one first token beyond level
+/// 64.
 pub fn one_depth()
     ensures both { (bytes : List ℕ) (a b : ProgramTree) (n : ℕ) → Reads bytes a → Deep bytes b n → ⊥ }
     ensures same { (bytes : List ℕ) (a b : ProgramTree) (n m : ℕ) → Deep bytes a n → Deep bytes b m → n ≡ m }

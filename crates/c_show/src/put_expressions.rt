@@ -1,5 +1,5 @@
-// What expressions print, put into a list that is made from its end. So a chain of operators, each the left operand of the
-// one before it, is gone along by a loop, and the recursion goes by level of nesting.
+// What expressions print, put into a list that is made from its end. So a chain of operators, each the left operand of
+// the one before it, is gone along by a loop, and the recursion goes by level of nesting.
 
 ghost use Rattle.std.specs.Prelude.{◌≡◌, IfOk, reverse};
 ghost use Rattle.c_tree.specs.Signs.{sign_of, unary_sign_of, min_max_word_of};

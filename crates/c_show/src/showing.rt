@@ -11,9 +11,9 @@ use c_tree::Program;
 use op_num::OutOfMemory;
 use std::alloc::Global;
 
-/// The kinds of the tokens that a tree prints, in order (the grammar of docs/LANGUAGE.md, read from the tree). Numbers and
-/// places that the tree keeps have no part in it. Any tree has one, also one that no source is read as. It fails only
-/// where memory runs out.
+/// The kinds of the tokens that a tree prints, in order (the grammar of docs/LANGUAGE.md, read from the tree). Numbers
+/// and places that the tree keeps have no part in it. Any tree has one, also one that no source is read as. It fails
+/// only where memory runs out.
 pub fn show(alloc: Global, program: &Program) -> Result<Vec<Kind>, OutOfMemory>
     ensures { IfOk result (λ v. v.items ≡ shown (program_of program.now)) }
 {

@@ -140,8 +140,8 @@ pub enum Expr {
     },
 }
 
-// A chain of operators, each the left operand of the one before it, is taken apart by a loop, so that dropping an expression
-// recurses by level of nesting alone.
+// A chain of operators, each the left operand of the one before it, is taken apart by a loop, so that dropping an
+// expression recurses by level of nesting alone.
 impl Drop for Expr {
     fn drop(mut self) {
         loop {

@@ -14,7 +14,8 @@ use crate::hosts::GlobalName;
 use crate::programs::Program;
 use c_lex::{Pos, tokens_in_order};
 
-/// The place of the token with this number, among the places of all. Line and column are 0 where there is no such token.
+/// The place of the token with this number, among the places of all. Line and column are 0 where there is no such
+/// token.
 pub fn pos_of(places: &[Pos], token: usize) -> Pos
     ensures { result ≡ pos_of places.now token }
 {

@@ -1,5 +1,5 @@
-//! Numbers for the elements of a set of a mesh on ranks, for pictures: who owns each, what one rank has of each, or the colours of a
-//! loop's blocks.
+//! Numbers for the elements of a set of a mesh on ranks, for pictures: who owns each, what one rank has of each, or the
+//! colours of a loop's blocks.
 //!
 //! `numbers_of` gives the numbers that `specs/Shown.antt` defines, or the first cause why there are none.
 #![tactic(auto)]

@@ -7,9 +7,11 @@ use thiserror::Error;
 pub enum Shown {
     /// The rank that owns each.
     Owners,
-    /// What the rank of that number has of each: 0 where it owns it, 1 and 2 where it imports it to execute and to read, else 3.
+    /// What the rank of that number has of each: 0 where it owns it, 1 and 2 where it imports it to execute and to
+    /// read, else 3.
     Halos { rank: u32 },
-    /// The colour of the block of each one's place on its owner, in the loop of that number, which runs over the set as a Free one.
+    /// The colour of the block of each one's place on its owner, in the loop of that number, which runs over the set as
+    /// a Free one.
     Colours { site: u32 },
 }
 

@@ -1,5 +1,5 @@
-//! A bound program on several ranks with one exchange for each chain of its Free loops: what each rank needs, which elements it
-//! executes, and that the chains run as the program does in sequence.
+//! A bound program on several ranks with one exchange for each chain of its Free loops: what each rank needs, which
+//! elements it executes, and that the chains run as the program does in sequence.
 mod given;
 mod one_run;
 mod runs;

@@ -1,5 +1,5 @@
-//! What ranks need and execute in all chains of a program: slices. Equal chains have equal ones, which are made once; the messages that
-//! chains send are counted.
+//! What ranks need and execute in all chains of a program: slices. Equal chains have equal ones, which are made once;
+//! the messages that chains send are counted.
 mod copies;
 mod levels;
 mod lists;

@@ -1,5 +1,5 @@
-//! What ranks need and execute in a chain, for all ranks at once: a set of ranks for each pair of a dat and an element, made backwards
-//! by walking over the elements of each loop.
+//! What ranks need and execute in a chain, for all ranks at once: a set of ranks for each pair of a dat and an element,
+//! made backwards by walking over the elements of each loop.
 #![tactic(auto)]
 
 pub mod chain_slices;

@@ -37,8 +37,8 @@ fn before_loop(
     Ok(())
 }
 
-/// The ranks that need each pair before these loops of a chain, one after another. Its time goes by the elements and the arguments of
-/// the loops, whatever the number of ranks is.
+/// The ranks that need each pair before these loops of a chain, one after another. Its time goes by the elements and
+/// the arguments of the loops, whatever the number of ranks is.
 pub fn needed_before(
     alloc: Global,
     bound: &Bound,

@@ -181,12 +181,12 @@ fn say_state(
     Ok(())
 }
 
-/// The head of a program: its items before `item`, which print what they print, and then those that print the state there.
-/// A program is cut before each of its items but the merging of what a loop reduces, and behind its last one.
+/// The head of a program: its items before `item`, which print what they print, and then those that print the state
+/// there. A program is cut before each of its items but the merging of what a loop reduces, and behind its last one.
 ///
 /// # Errors
-/// `HeadRefusal::Item` exactly where the program isn't cut there. Want of memory stands also for 2^32 items, or 2^32 cells of
-/// variables. `bound` is dropped then.
+/// `HeadRefusal::Item` exactly where the program isn't cut there. Want of memory stands also for 2^32 items, or 2^32
+/// cells of variables. `bound` is dropped then.
 pub fn head(alloc: Global, bound: Bound, item: u32) -> Result<Bound, HeadRefusal>
     ensures head { IfOk result (λ h. bound_of h ≡ head_of (bound_of bound) item) }
     ensures cut { IfOk result (λ h. CanCut (bound_of bound) item) }

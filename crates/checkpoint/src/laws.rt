@@ -1,6 +1,7 @@
 // Laws of runs that stop at an item and go on from there, each as the contract of a function that does nothing.
 
-ghost use Rattle.checkpoint.specs.Laws.{RunsGoOn, HeadsPrintStates, HeadsStop, HeadsFit, HeadsObey, RunsKeepConstants, TailsFit, TailsGoOn, TailsObey};
+ghost use Rattle.checkpoint.specs.Laws.{RunsGoOn, HeadsPrintStates, HeadsStop, HeadsFit, HeadsObey, RunsKeepConstants, TailsFit, TailsGoOn};
+ghost use Rattle.checkpoint.specs.Laws.{TailsObey};
 
 /// A law: a run that came to an item goes on as the items from there, begun with its values.
 pub fn runs_go_on()

@@ -1,7 +1,8 @@
-//! Programs cut before an item: the head runs the items before it and prints what is known there, and the tail goes on from
-//! such a state.
+//! Programs cut before an item: the head runs the items before it and prints what is known there, and the tail goes on
+//! from such a state.
 //!
-//! The definitions are those of `specs/Cut.antt` (heads, tails, states) and `specs/StateText.antt` (the text of a state).
+//! The definitions are those of `specs/Cut.antt` (heads, tails, states) and `specs/StateText.antt` (the text of a
+//! state).
 #![tactic(auto)]
 
 mod heads;

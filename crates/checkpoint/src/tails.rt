@@ -57,8 +57,8 @@ fn set_vars(alloc: Global, vars: &mut Vec<Var>, mut values: Vec<Values>)
     }
 }
 
-/// The tail of a program: its items from the state's on, numbered from 0, begun with the values of the state, which was read
-/// for this program.
+/// The tail of a program: its items from the state's on, numbered from 0, begun with the values of the state, which was
+/// read for this program.
 pub fn tail(alloc: Global, bound: Bound, state: State) -> Result<Bound, OutOfMemory>
     requires cut { CanCut (bound_of bound) state.item }
     requires shape { HasShape (bound_of bound) (state_of state) }

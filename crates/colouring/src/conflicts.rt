@@ -101,12 +101,12 @@ fn places_meet(
 }
 
 /// Whether given colours for the first `places` of what the rank executes, in blocks of `size`, keep conflicts apart,
-/// where these arguments reduce: none where they do, else what doesn't, blocks before places. `colours` has a colour for
-/// each block and each place.
+/// where these arguments reduce: none where they do, else what doesn't, blocks before places. `colours` has a colour
+/// for each block and each place.
 ///
-/// Each target keeps the last block, or place, that had it, and blocks and places go by colour: so the time is linear in
-/// the targets and n log n in blocks and places, and no pair is looked at. It fails only for want of memory, also where
-/// there are 2 ^ 32 - 1 targets or more.
+/// Each target keeps the last block, or place, that had it, and blocks and places go by colour: so the time is linear
+/// in the targets and n log n in blocks and places, and no pair is looked at. It fails only for want of memory, also
+/// where there are 2 ^ 32 - 1 targets or more.
 pub fn find_clash(
     alloc: Global,
     mesh: &Mesh,

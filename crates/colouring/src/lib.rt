@@ -97,8 +97,8 @@ fn target_colours(
 /// known to fill; so time is linear in the targets where they have few colours, on a star, and where the colours of two
 /// hubs interleave. At worst it is that of one look at each target for each 32 colours below the one that is found.
 /// Memory is linear in the targets; where the arguments lead by all targets of one map in order, its table is read in
-/// place; where no arguments reduce, no target is looked at. It fails only for want of memory, also where there are 2 ^ 32 - 1
-/// targets or more.
+/// place; where no arguments reduce, no target is looked at. It fails only for want of memory, also where there are 2 ^
+/// 32 - 1 targets or more.
 pub fn colour(
     alloc: Global,
     mesh: &Mesh,

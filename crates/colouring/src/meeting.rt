@@ -1,5 +1,5 @@
-// Rows of targets that have colours: whether two rows of one colour have a common target. Each target keeps the last row
-// that had it, so that no pair of rows is looked at.
+// Rows of targets that have colours: whether two rows of one colour have a common target. Each target keeps the last
+// row that had it, so that no pair of rows is looked at.
 ghost use Rattle.std.specs.Prelude.{◌≡◌, ◌<◌, ◌≤◌, ◌+◌, ◌*◌, ◌^◌, ◌⊎◌, ◌↔◌, ℕ, true, false, OnOk, Contains, length, slice_index, EachIndex};
 ghost use Rattle.std.specs.Prelude.{get_or};
 ghost use Rattle.colouring.specs.Rows.{none};
@@ -19,8 +19,8 @@ fn is_met(colours: &[u32], first: u32, row: u32, mark: u32) -> bool
         && colours[mark as usize] == colours[row as usize]
 }
 
-// Marks the targets of a row, unless one is marked with another row of its colour, from the row `first` on; says whether
-// one is.
+// Marks the targets of a row, unless one is marked with another row of its colour, from the row `first` on; says
+// whether one is.
 fn row_meets(
     targets: &[u32],
     width: usize,
@@ -51,8 +51,8 @@ fn row_meets(
     false
 }
 
-/// Whether two of these rows, which stand by colour, have one colour and a common target. Before it no target is marked but
-/// with a row before `first`.
+/// Whether two of these rows, which stand by colour, have one colour and a common target. Before it no target is marked
+/// but with a row before `first`.
 pub fn rows_meet(
     targets: &[u32],
     width: usize,

@@ -20,7 +20,8 @@ impl Masks {
             .max(number)
     }
 
-    // Keeps in mind that two targets fill the words from `number` up to `end`, unless more is kept than there are words.
+    // Keeps in mind that two targets fill the words from `number` up to `end`, unless more is kept than there are
+    // words.
     fn keep(&mut self, a: u32, b: u32, number: u32, end: u32) -> Result<(), OutOfMemory>
         requires sound { IsSound self.old }
         requires filled { AreFilled self.old a b number end }

@@ -13,7 +13,8 @@ use Rattle.schedule_steps.specs.declared.step.Step.{Step}
 use Rattle.schedule_steps.specs.declared.text.lines.TheConstants.{SCHEDULE_STEPS}
 use Rattle.schedule_steps.specs.Written.{tokens_of}
 use Rattle.loop_plan.specs.StepCounts.{max_steps}
-use Rattle.command_words.specs.declared.answer_lines.limits.TheConstants.{SOURCE_BYTES, STATE_BYTES, PARTITION_BYTES, PLAN_BYTES, SCHEDULE_BYTES}
+use Rattle.command_words.specs.declared.answer_lines.limits.TheConstants.{SOURCE_BYTES, STATE_BYTES, PARTITION_BYTES, PLAN_BYTES}
+use Rattle.command_words.specs.declared.answer_lines.limits.TheConstants.{SCHEDULE_BYTES}
 use Rattle.command_words.specs.Refusal.{Limit, SourceBytes, MeshBytes, MeshValues, Sets, Maps, Dats, SetSize, Dim, MeshCells}
 use Rattle.command_words.specs.Refusal.{Arguments, Trace, PrintWeight, StateBytes, PartitionBytes, PlanBytes, Steps, ScheduleBytes}
 use Rattle.command_words.specs.Refusal.{ScheduleSteps, Refusal, Usage, CannotRead, NoTokens, NoTree, TooDeep, BadName, BadBinding}

@@ -1,5 +1,5 @@
-//! All cells of a program on all ranks in one memory, a block for each rank: where cells stand, and runs of elements in place, in a
-//! rank's block or on the owners' pairs.
+//! All cells of a program on all ranks in one memory, a block for each rank: where cells stand, and runs of elements in
+//! place, in a rank's block or on the owners' pairs.
 mod blocks;
 mod cells;
 pub mod chain_stores;

@@ -1,4 +1,5 @@
-//! A Free loop of a chain on all ranks, as the machine of chains does it: what each executes, and what their amounts come to.
+//! A Free loop of a chain on all ranks, as the machine of chains does it: what each executes, and what their amounts
+//! come to.
 pub mod chain_elements;
 pub mod chain_exchange;
 mod elements;

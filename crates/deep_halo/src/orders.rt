@@ -65,7 +65,8 @@ fn run_owned(
     }
 }
 
-/// Runs the elements of an Ordered loop one after another on the owners' pairs and the variables, up to the first that faults.
+/// Runs the elements of an Ordered loop one after another on the owners' pairs and the variables, up to the first that
+/// faults.
 pub fn run_ordered(
     memory: &mut [i32],
     program: &Program<'_>,

@@ -133,9 +133,10 @@ fn constant_count(bound: &Bound) -> Result<usize, OutOfMemory>
     Ok(count)
 }
 
-/// Runs a program on the ranks of `owners`, each chain with one exchange at its start: the machine of chains, also where kernels don't
-/// obey their modes. Where they do, it prints what the program prints in sequence, and stops at its first fault. With `dump` the stores
-/// of all ranks stand behind that where nothing stops the run. `slices` are those of this program and these owners.
+/// Runs a program on the ranks of `owners`, each chain with one exchange at its start: the machine of chains, also
+/// where kernels don't obey their modes. Where they do, it prints what the program prints in sequence, and stops at its
+/// first fault. With `dump` the stores of all ranks stand behind that where nothing stops the run. `slices` are those
+/// of this program and these owners.
 ///
 /// # Errors
 /// Want of memory alone.

@@ -35,8 +35,8 @@ fn drop_copies(memory: &mut [i32], program: &Program<'_>, begun: Option<u32>)
     }
 }
 
-// The exchange before the item at which a chain begins: copies of the chain that began before, if one did, are dropped, and those
-// that the new one needs are taken from their owners.
+// The exchange before the item at which a chain begins: copies of the chain that began before, if one did, are dropped,
+// and those that the new one needs are taken from their owners.
 fn supply(memory: &mut [i32], program: &Program<'_>, begun: Option<u32>, item: u32)
     requires is { IsProgram program.now }
     requires memory { length memory.old ≡ all_cells (program_of_run program.now) (ranks_in program.now.blocks.now) }
@@ -55,8 +55,8 @@ fn supply(memory: &mut [i32], program: &Program<'_>, begun: Option<u32>, item: u
     exchange_copies(memory, program.blocks, program.slices, item, Exchange::Take);
 }
 
-/// The exchange before a Free item, where a chain begins there. Returns the item at which the item's chain began. `begun` is the item at
-/// which a chain began last, if one did.
+/// The exchange before a Free item, where a chain begins there. Returns the item at which the item's chain began.
+/// `begun` is the item at which a chain began last, if one did.
 pub fn begin_chain(memory: &mut [i32], program: &Program<'_>, begun: Option<u32>, item: u32) -> u32
     requires is { IsProgram program.now }
     requires memory { length memory.old ≡ all_cells (program_of_run program.now) (ranks_in program.now.blocks.now) }

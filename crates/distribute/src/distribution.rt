@@ -11,8 +11,8 @@ use op_num::OutOfMemory;
 use std::alloc::Global;
 
 /// The halos of a mesh and the local mesh of each rank, by these owners, which are part of what is given, and these new
-/// numbers, which are dropped: the local meshes keep their order. It fails only for want of memory, also where a rank would
-/// have 2^64 cells or more.
+/// numbers, which are dropped: the local meshes keep their order. It fails only for want of memory, also where a rank
+/// would have 2^64 cells or more.
 pub fn distribute(
     alloc: Global,
     mesh: &Mesh,

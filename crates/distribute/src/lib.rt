@@ -1,5 +1,5 @@
-//! A mesh on several ranks, as the words of a command ask for it: owners by a rule, by the values of a dat, by growth over
-//! a map or from a text; new numbers; halos; and the local mesh of each rank.
+//! A mesh on several ranks, as the words of a command ask for it: owners by a rule, by the values of a dat, by growth
+//! over a map or from a text; new numbers; halos; and the local mesh of each rank.
 //!
 //! Names are those of the mesh's dats and maps, and mean the first of the name. Each judgement is a relation in
 //! `specs/Judgements.antt`, and laws say that it comes to one outcome.

@@ -10,8 +10,8 @@ use renumber::{cuthill_mckee, identity};
 use std::alloc::Global;
 
 /// New numbers for the elements of a mesh: each element keeps its number where no map is named, and else those of
-/// Cuthill and McKee, reversed, by the first map of that name. It is refused exactly where no map has the name, and fails
-/// otherwise only for want of memory.
+/// Cuthill and McKee, reversed, by the first map of that name. It is refused exactly where no map has the name, and
+/// fails otherwise only for want of memory.
 pub fn numbers_by<'a>(
     alloc: Global,
     mesh: &Mesh,

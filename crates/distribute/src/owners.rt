@@ -72,9 +72,10 @@ fn read<'a>(
     }
 }
 
-/// The owners of the elements of a mesh on `ranks` ranks, 1 to 64, as `parts` asks for them. Names mean the first dat or
-/// map of the name. It is refused exactly where no dat or no map has the name, or where the text spells no owners of the
-/// mesh, with its first refusal; and it fails otherwise only for want of memory. A text has fewer than 2^32 - 1 bytes.
+/// The owners of the elements of a mesh on `ranks` ranks, 1 to 64, as `parts` asks for them. Names mean the first dat
+/// or map of the name. It is refused exactly where no dat or no map has the name, or where the text spells no owners of
+/// the mesh, with its first refusal; and it fails otherwise only for want of memory. A text has fewer than 2^32 - 1
+/// bytes.
 pub fn owners_by<'a>(
     alloc: Global,
     mesh: &Mesh,

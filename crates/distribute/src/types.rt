@@ -40,8 +40,8 @@ pub enum OwnersRefusal<'a> {
     OutOfMemory,
 }
 
-/// A mesh on several ranks: who owns which element, the halos, and the local mesh of each rank, which numbers its elements in
-/// the order of their new numbers.
+/// A mesh on several ranks: who owns which element, the halos, and the local mesh of each rank, which numbers its
+/// elements in the order of their new numbers.
 #[derive(Debug, Drop)]
 pub struct Distribution {
     pub owners: Owners,

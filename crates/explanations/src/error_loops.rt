@@ -1,8 +1,8 @@
-//! The loop that an error of `op2` is about: the loop in which a fault is, and in which turn of it; and the loop and the argument that a
-//! refused access of a kernel is about.
+//! The loop that an error of `op2` is about: the loop in which a fault is, and in which turn of it; and the loop and
+//! the argument that a refused access of a kernel is about.
 //!
-//! `put_fault_loop` and `text_of_access` write them, for a line of `op2`; `specs/Faults.antt` and `specs/Accesses.antt` say what.
-//! `put_arguments` writes what a loop hands to its kernel for an element.
+//! `put_fault_loop` and `text_of_access` write them, for a line of `op2`; `specs/Faults.antt` and `specs/Accesses.antt`
+//! say what. `put_arguments` writes what a loop hands to its kernel for an element.
 mod accesses;
 mod arguments;
 mod calls;

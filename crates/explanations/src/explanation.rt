@@ -21,8 +21,8 @@ fn put_line(out: &mut Vec<u8>, line: Option<&[u8]>, column: u64) -> Result<(), O
     }
 }
 
-/// Appends the line of a place in the source and a caret under the place, if one is told and the source has the line. An error is want of
-/// memory.
+/// Appends the line of a place in the source and a caret under the place, if one is told and the source has the line.
+/// An error is want of memory.
 pub fn put_place(out: &mut Vec<u8>, source: &[u8], place: Option<Place>) -> Result<(), OutOfMemory>
     ensures { OnOk result (out.new.items ≡ out.old.items ++ shown_place source.now place) }
 {
@@ -82,11 +82,12 @@ fn put_explanation(
     put_meaning(out, text_of_line(line))
 }
 
-/// What is said of a status and its line: that `op2` would end well with status 0; or the line, the status, the line of the source with a
-/// caret where the line of `op2` tells a place in it, the sizes where it tells of a limit, and what it means with what to do about it.
+/// What is said of a status and its line: that `op2` would end well with status 0; or the line, the status, the line of
+/// the source with a caret where the line of `op2` tells a place in it, the sizes where it tells of a limit, and what
+/// it means with what to do about it.
 ///
-/// `line` has its LF; with status 0 it doesn't matter. `source` has the bytes of the source, where there is one. An error is want of
-/// memory.
+/// `line` has its LF; with status 0 it doesn't matter. `source` has the bytes of the source, where there is one. An
+/// error is want of memory.
 pub fn explain_status(
     alloc: Global,
     status: u8,

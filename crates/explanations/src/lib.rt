@@ -1,6 +1,7 @@
 //! What is said of a line of `op2`: the line, its status, the place in the source that it names, and what it means.
 //!
-//! `explain_status` writes it, for a status, a line and the bytes of the source. `specs/Explanation.antt` says what it is, part by part.
+//! `explain_status` writes it, for a status, a line and the bytes of the source. `specs/Explanation.antt` says what it
+//! is, part by part.
 #![tactic(auto)]
 
 pub mod carets;

@@ -19,8 +19,8 @@ ghost use Rattle.flat_machine.specs.Scatter.{Once, scatter, looked_up, Placed};
 
 pub mod schedule_examples;
 
-/// For every accepted list of steps by places, the machine on flat buffers prints and stops as the sequential run does. Where that has
-/// no fault, each owner's buffer and the variables end with its values.
+/// For every accepted list of steps by places, the machine on flat buffers prints and stops as the sequential run does.
+/// Where that has no fault, each owner's buffer and the variables end with its values.
 pub fn flat_runs_as_sequential<F>()
     ensures { (p : Setup F) → Lawful p → Coloured p → (l : Layout F) → IsLayout p l → (f : Flat F) → StartsFlat p l f → (steps : List Step)
         → Accepted (by_place p l) steps → AgreesFlat p l (sequential p.program) (flat_from p l steps f) }

@@ -9,9 +9,9 @@ ghost use Rattle.gather.specs.Grows.{Grows};
 use mesh_decl::Mesh;
 use op_num::{OutOfMemory, Text, put_i32, put_u64};
 
-/// Appends what `op_print_dat_to_txtfile` prints of the dat numbered `dat`: a line with the text `file`, the names of dat and
-/// set, the set's size and the dat's dim; then for each element, by its original number, a line with its values. `values` has
-/// the dat's values, `dim` for each element of its set.
+/// Appends what `op_print_dat_to_txtfile` prints of the dat numbered `dat`: a line with the text `file`, the names of
+/// dat and set, the set's size and the dat's dim; then for each element, by its original number, a line with its
+/// values. `values` has the dat's values, `dim` for each element of its set.
 ///
 /// Want of memory leaves `out` as it was.
 pub fn print_dat(

@@ -12,10 +12,10 @@ use local_mesh::{LocalSet, RankMesh};
 use mesh_decl::Mesh;
 use op_num::{Name, OutOfMemory, put_i32, put_u64};
 
-/// Appends the dump of the ranks' memories: a line `dump`; then for each rank, and each dat in order, a line with the rank, the
-/// dat's name and how many elements of its set the rank owns, imports to execute and imports to read; then for each of these,
-/// in local order, a line with its number in the mesh and its values. `ranks` are the local meshes, and `memories` has each
-/// rank's buffer, as long as its local mesh says.
+/// Appends the dump of the ranks' memories: a line `dump`; then for each rank, and each dat in order, a line with the
+/// rank, the dat's name and how many elements of its set the rank owns, imports to execute and imports to read; then
+/// for each of these, in local order, a line with its number in the mesh and its values. `ranks` are the local meshes,
+/// and `memories` has each rank's buffer, as long as its local mesh says.
 ///
 /// Want of memory leaves `out` as it was.
 pub fn dump(

@@ -6,8 +6,8 @@ ghost use Rattle.gather.specs.Pieces.{begins, piece_text, piece_len, piece_value
 
 use op_num::{OutOfMemory, Text, put_i32};
 
-/// Appends what `op_printf` prints of the text: each `%d` is the next of the values, and each `%%` a `%`. A bound program has
-/// as many values as `%d`; where values are wanting, a `%d` prints nothing.
+/// Appends what `op_printf` prints of the text: each `%d` is the next of the values, and each `%%` a `%`. A bound
+/// program has as many values as `%d`; where values are wanting, a `%d` prints nothing.
 ///
 /// Want of memory leaves `out` as it was.
 pub fn print_line(out: &mut Vec<u8>, text: &Text, values: &[i32]) -> Result<(), OutOfMemory>

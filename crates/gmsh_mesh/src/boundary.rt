@@ -27,8 +27,8 @@ impl<'a> Model for SideElements<'a> {
 }
 
 // The physical tag of each of `count` sides of the boundary, each of `width` nodes, or 0: that of the elements with its
-// nodes. `TwoGroups` where such elements are in two groups, with the line of the first that is in another group than one
-// before, or in several.
+// nodes. `TwoGroups` where such elements are in two groups, with the line of the first that is in another group than
+// one before, or in several.
 pub(crate) fn boundary_tags(
     alloc: Global,
     count: usize,

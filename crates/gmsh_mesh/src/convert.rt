@@ -33,17 +33,17 @@ pub struct Conversion {
 
 /// The mesh text of a Gmsh file of version 2.2 or 4.1, ASCII, and a program for it.
 ///
-/// Its entries are `nnode`, `ncell`, `nface` and `nbface`, how many nodes, cells, faces between two cells and faces of one
-/// cell; `x`, the coordinates of each node, each the integer nearest to the decimal times `scale`, ties away from zero;
-/// `cell`, the nodes of each cell; `face` and `fcell`, the nodes and the two cells of each face between cells; `bface`,
-/// `bcell` and `btag`, the nodes, the cell and the physical tag, or 0, of each face of the boundary. Nodes and cells stand in
-/// the order of the file, faces in the order of their first cells and of these cells' sides, and a face's nodes as they run
-/// round it in its first cell. `dim` says whether the mesh is plane; without it the mesh has three dimensions where the file
-/// has tetrahedra or hexahedra. `scale` is not 0, and `bytes` are fewer than 2^32 - 1.
+/// Its entries are `nnode`, `ncell`, `nface` and `nbface`, how many nodes, cells, faces between two cells and faces of
+/// one cell; `x`, the coordinates of each node, each the integer nearest to the decimal times `scale`, ties away from
+/// zero; `cell`, the nodes of each cell; `face` and `fcell`, the nodes and the two cells of each face between cells;
+/// `bface`, `bcell` and `btag`, the nodes, the cell and the physical tag, or 0, of each face of the boundary. Nodes and
+/// cells stand in the order of the file, faces in the order of their first cells and of these cells' sides, and a
+/// face's nodes as they run round it in its first cell. `dim` says whether the mesh is plane; without it the mesh has
+/// three dimensions where the file has tetrahedra or hexahedra. `scale` is not 0, and `bytes` are fewer than 2^32 - 1.
 ///
-/// Each refusal of [`GmshRefusal`] comes exactly where it says. Judged are, one after another: the form of the text, token by
-/// token; whether there are cells; how many values come before the faces; the nodes and then the elements, each line by line;
-/// the faces; the boundary; how many values and how many bytes the mesh has.
+/// Each refusal of [`GmshRefusal`] comes exactly where it says. Judged are, one after another: the form of the text,
+/// token by token; whether there are cells; how many values come before the faces; the nodes and then the elements,
+/// each line by line; the faces; the boundary; how many values and how many bytes the mesh has.
 pub fn from_gmsh(
     alloc: Global,
     bytes: &[u8],

@@ -17,8 +17,8 @@ pub fn one_outcome()
         → Comes bytes dim scale a → Comes bytes dim scale b → a ≡ b }
 {}
 
-/// A law: twice the faces between two cells and the faces of the boundary are all sides of all cells. `fcell` has two cells
-/// for each of the former, and `bcell` one for each of the latter; `cell` has the nodes of each cell.
+/// A law: twice the faces between two cells and the faces of the boundary are all sides of all cells. `fcell` has two
+/// cells for each of the former, and `bcell` one for each of the latter; `cell` has the nodes of each cell.
 pub fn faces_are_all_sides()
     ensures { (bytes : List ℕ) (dim : Option Dimension) (scale : ℕ) (m : Arrays) → ArraysAre bytes dim scale (Ok m)
         → (length m.faces.fcell + length m.faces.bcell) * nodes m.shape ≡ length m.cell * sides m.shape }

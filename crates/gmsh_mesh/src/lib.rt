@@ -1,5 +1,5 @@
-//! Meshes of Gmsh as mesh texts: nodes with integer coordinates, the cells of one shape, the faces between two cells, and
-//! the boundary with its physical tags; and programs over them.
+//! Meshes of Gmsh as mesh texts: nodes with integer coordinates, the cells of one shape, the faces between two cells,
+//! and the boundary with its physical tags; and programs over them.
 //!
 //! `from_gmsh` is exact: the bytes of a file come to one mesh text and one program, or to one refusal.
 #![tactic(auto)]

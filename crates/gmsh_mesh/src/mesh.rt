@@ -46,8 +46,8 @@ impl Model for Mesh {
     ghost view = { λ m. record { dim = m.dim; shape = m.shape; x = m.x.items; cell = m.cell.items; faces = m.faces; btag = m.btag.items } };
 }
 
-// What a mesh has before its faces: the coordinates of its nodes, the nodes of its cells, and those of the elements that are
-// like sides.
+// What a mesh has before its faces: the coordinates of its nodes, the nodes of its cells, and those of the elements
+// that are like sides.
 #[derive(Drop)]
 struct Places {
     dim: Dimension,

@@ -19,8 +19,8 @@ pub(crate) fn tag_numbers(alloc: Global, tags: &[Tag]) -> Result<Vec<u32>, Alloc
     Ok(numbers)
 }
 
-// The nodes of elements by number: `nodes` has their tags, `lines` the line of each element, which has `width` nodes. The
-// nodes' own tags are `tags`, without their lines `numbers`.
+// The nodes of elements by number: `nodes` has their tags, `lines` the line of each element, which has `width` nodes.
+// The nodes' own tags are `tags`, without their lines `numbers`.
 pub(crate) fn numbered(
     alloc: Global,
     tags: &[Tag],

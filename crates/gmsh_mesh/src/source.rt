@@ -376,8 +376,8 @@ int main(int argc, char **argv) {
 }
 "#;
 
-// The program for a mesh of cells of this shape: it declares all sets, maps and dats of the mesh, and prints how many there
-// are, and the sums of the coordinates at nodes, cells, faces and the boundary, and of the physical tags.
+// The program for a mesh of cells of this shape: it declares all sets, maps and dats of the mesh, and prints how many
+// there are, and the sums of the coordinates at nodes, cells, faces and the boundary, and of the physical tags.
 pub(crate) fn mesh_source(shape: Shape) -> &'static str
     ensures { result.now ≡ source_text shape }
 {

@@ -1,8 +1,8 @@
-//! Texts of Gmsh's mesh format (MSH), versions 2.2 and 4.1, in ASCII: nodes with their tags and their coordinates as they
-//! are spelled, and elements with their physical tags and the tags of their nodes.
+//! Texts of Gmsh's mesh format (MSH), versions 2.2 and 4.1, in ASCII: nodes with their tags and their coordinates as
+//! they are spelled, and elements with their physical tags and the tags of their nodes.
 //!
-//! `read_gmsh` is exact: a text has one meaning or one refusal, the first in the order of its tokens. Numbers are kept as
-//! the text spells them; which elements are cells, and whether tags are known, is for who reads the mesh.
+//! `read_gmsh` is exact: a text has one meaning or one refusal, the first in the order of its tokens. Numbers are kept
+//! as the text spells them; which elements are cells, and whether tags are known, is for who reads the mesh.
 #![tactic(auto)]
 
 pub mod decimals;

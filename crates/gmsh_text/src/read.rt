@@ -25,14 +25,14 @@ pub struct GmshText<'a> {
     pub elements: Elements,
 }
 
-/// What the text `bytes` has, in version 2.2 or 4.1 of the format of Gmsh's reference manual ("MSH file format"): the nodes
-/// in the order of the file, and the elements by type. Coordinates stay the tokens of `bytes`. Sections come in the order
-/// of the manual: the format, in version 4.1 the entities where they are given, the nodes, the elements; sections of other
-/// names are passed over, and so are the names of physical groups and what stands behind the elements. Version 4.1 gives an
-/// element the physical group of its entity. Tags of elements, and in version 4.1 the second number of nodes or elements
-/// and the bounds of their tags, are read as numbers alone. Each refusal is that of the first token, in order, that may not
-/// stand where it does, or of the end; `TextRefusal` says what each is. Lines are counted in `u32`, so the text has fewer
-/// than 2 ^ 32 - 1 bytes.
+/// What the text `bytes` has, in version 2.2 or 4.1 of the format of Gmsh's reference manual ("MSH file format"): the
+/// nodes in the order of the file, and the elements by type. Coordinates stay the tokens of `bytes`. Sections come in
+/// the order of the manual: the format, in version 4.1 the entities where they are given, the nodes, the elements;
+/// sections of other names are passed over, and so are the names of physical groups and what stands behind the
+/// elements. Version 4.1 gives an element the physical group of its entity. Tags of elements, and in version 4.1 the
+/// second number of nodes or elements and the bounds of their tags, are read as numbers alone. Each refusal is that of
+/// the first token, in order, that may not stand where it does, or of the end; `TextRefusal` says what each is. Lines
+/// are counted in `u32`, so the text has fewer than 2 ^ 32 - 1 bytes.
 pub fn read_gmsh<'a>(alloc: Global, bytes: &'a [u8]) -> Result<GmshText<'a>, TextRefusal>
     requires { length bytes.now + 1 < 2 ^ 32 }
     // The text comes to what is given, unless memory runs out.
@@ -69,8 +69,8 @@ fn read_body<'a>(
     Ok(GmshText { nodes, elements })
 }
 
-/// A law: a text has whole elements, as many groups of a type as lines, and for each line the nodes of an element of this
-/// type.
+/// A law: a text has whole elements, as many groups of a type as lines, and for each line the nodes of an element of
+/// this type.
 pub fn elements_are_whole()
     ensures { (bytes : List ℕ) (t : Found) → outcome bytes ≡ Ok t → AreWhole t.elements }
 {}

@@ -2,8 +2,8 @@
 use std::alloc::{AllocError, AllocFailed};
 use thiserror::Error;
 
-/// Why a text is not read. A line is that of the token that is refused, from 1; where a token is missing it is the line of
-/// the last token, or 1 where there is none.
+/// Why a text is not read. A line is that of the token that is refused, from 1; where a token is missing it is the line
+/// of the last token, or 1 where there is none.
 #[derive(Clone, Copy, Debug, PartialEq, Eq, Error)]
 pub enum TextRefusal {
     /// The first token is not `$MeshFormat`.
@@ -18,11 +18,12 @@ pub enum TextRefusal {
     /// A token that is missing, or out of place in another way than the others here.
     #[error("line {line}: not in the form of the format")]
     Syntax { line: u32 },
-    /// A number that the format has, but beyond its range here: a node's or an element's tag or a count above 4294967295,
-    /// another integer outside 32 bits, a dimension above 3, or a mark for parameters above 1.
+    /// A number that the format has, but beyond its range here: a node's or an element's tag or a count above
+    /// 4294967295, another integer outside 32 bits, a dimension above 3, or a mark for parameters above 1.
     #[error("line {line}: a number out of range")]
     NumberRange { line: u32 },
-    /// An element that is curved, or is neither a point, a line, a triangle, a quadrangle, a tetrahedron nor a hexahedron.
+    /// An element that is curved, or is neither a point, a line, a triangle, a quadrangle, a tetrahedron nor a
+    /// hexahedron.
     #[error("line {line}: elements of this type are not read")]
     ElementType { line: u32 },
     /// An entity that stands twice.

@@ -34,8 +34,8 @@ pub struct Chosen {
 
 /// What the file holds that tells a state, which is the next in `kept` then; nothing where none does.
 ///
-/// Refused are a file that isn't there, and one with more than `STATE_BYTES` bytes. A file that could not be read is a failure,
-/// where the shelf's count of faults rose, and so is want of memory.
+/// Refused are a file that isn't there, and one with more than `STATE_BYTES` bytes. A file that could not be read is a
+/// failure, where the shelf's count of faults rose, and so is want of memory.
 pub fn state_text_of<'a, F: Shelf>(
     alloc: Global,
     shelf: &mut F,
@@ -112,11 +112,12 @@ fn tail_from<'a>(alloc: Global, bound: Bound, text: &[u8]) -> Result<Chosen, Hal
     Ok(Chosen { bound, first })
 }
 
-/// The program whose items run, of a program that fits and keeps to its accesses: the whole, or its head before an item, or its tail from
-/// the state on that `text` tells. Where no file tells a state, `text` isn't looked at; it has at most `STATE_BYTES` bytes.
+/// The program whose items run, of a program that fits and keeps to its accesses: the whole, or its head before an
+/// item, or its tail from the state on that `text` tells. Where no file tells a state, `text` isn't looked at; it has
+/// at most `STATE_BYTES` bytes.
 ///
-/// Refused are an item before which the program can't be cut, and a text that tells no state of the program, at its first line that
-/// isn't as awaited. Want of memory is the one failure.
+/// Refused are an item before which the program can't be cut, and a text that tells no state of the program, at its
+/// first line that isn't as awaited. Want of memory is the one failure.
 pub fn chosen_by<'a>(
     alloc: Global,
     bound: Bound,

@@ -13,11 +13,12 @@ use command_words::answer_lines::{Failure, Halt, Limit, Refusal, most};
 use op_outside::{ReadRefusal, Shelf};
 use std::alloc::Global;
 
-/// The bytes of the file `name`, which is the next of those in `kept` that are to be read; at most as many as the limit allows, which
-/// is one of bytes, below 2^32. Where it was read before, they are what was read then, so that a file has one content.
+/// The bytes of the file `name`, which is the next of those in `kept` that are to be read; at most as many as the limit
+/// allows, which is one of bytes, below 2^32. Where it was read before, they are what was read then, so that a file has
+/// one content.
 ///
-/// Refused are a file that isn't there, and one with more bytes than the limit allows, with one more than it as its size. A file
-/// that could not be read is a failure, where the shelf's count of faults rose, and so is want of memory.
+/// Refused are a file that isn't there, and one with more bytes than the limit allows, with one more than it as its
+/// size. A file that could not be read is a failure, where the shelf's count of faults rose, and so is want of memory.
 pub fn file_of<'a, F: Shelf>(
     alloc: Global,
     shelf: &mut F,

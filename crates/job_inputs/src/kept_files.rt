@@ -1,7 +1,8 @@
 //! Files that are read at most once in a call.
 //!
-//! `Kept` has the readings of files that are still to come, in order, and of each name among them the bytes, where its file was
-//! read before: so a file that is named twice has one content, also where its shelf doesn't tell what it holds.
+//! `Kept` has the readings of files that are still to come, in order, and of each name among them the bytes, where its
+//! file was read before: so a file that is named twice has one content, also where its shelf doesn't tell what it
+//! holds.
 mod kept;
 mod laws;
 

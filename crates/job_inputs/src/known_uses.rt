@@ -1,8 +1,8 @@
 // The parameters of kernels that were judged, each with its access and dim.
 //
-// What a kernel may do to an argument depends on the mode of that argument alone. So a loop needs no walk over its kernel where
-// each of its arguments was judged before, in loops of that kernel. The definition speaks of parameters past the last one too, so
-// the first of those is noted with the others.
+// What a kernel may do to an argument depends on the mode of that argument alone. So a loop needs no walk over its
+// kernel where each of its arguments was judged before, in loops of that kernel. The definition speaks of parameters
+// past the last one too, so the first of those is noted with the others.
 
 ghost use Rattle.std.specs.Prelude.{◌≡◌, ◌≤◌, ◌⊎◌, ℕ, length, Contains, IsTrue, OnOk};
 ghost use Rattle.job_inputs.specs.declared.known_uses.ArgUse.{ArgUse as Use};

@@ -26,8 +26,8 @@ use std::alloc::{AllocError, Global};
 
 /// The entries that the text of a mesh spells; it has at most `MESH_BYTES` bytes.
 ///
-/// A text that spells none is refused at its first fault, with its line; where its values become more than a mesh may have, with
-/// their number so far. Want of memory is the one failure.
+/// A text that spells none is refused at its first fault, with its line; where its values become more than a mesh may
+/// have, with their number so far. Want of memory is the one failure.
 pub fn entries_of<'a>(alloc: Global, text: &[u8]) -> Result<Entries, Halt<'a>>
     requires { length text.now ≤ MESH_BYTES }
     ensures ok { IfOk result (λ es. EntriesAre text.now (Ok es.entries)) }
@@ -162,7 +162,8 @@ fn copied_name(alloc: Global, bytes: &[u8]) -> Result<Name, AllocError>
     Ok(Name::new(bytes.to_vec(alloc)?))
 }
 
-// The name of the map with this number, of those that `main` declares in the order of the text; none where there is none.
+// The name of the map with this number, of those that `main` declares in the order of the text; none where there is
+// none.
 fn map_name(body: &[Host], map: u32) -> &[u8]
     ensures { result.now ≡ slice_index_or (maps_in (hosts_of body.now)) map [] }
 {

@@ -118,11 +118,11 @@ fn owners_by_text<'a>(
     }
 }
 
-/// Owners of the elements of each set among so many ranks, 1 to 64, as they are asked for. Where a file tells them, `text` is what it
-/// holds, and else it isn't looked at; it has at most `PARTITION_BYTES` bytes.
+/// Owners of the elements of each set among so many ranks, 1 to 64, as they are asked for. Where a file tells them,
+/// `text` is what it holds, and else it isn't looked at; it has at most `PARTITION_BYTES` bytes.
 ///
-/// Refused are the name of a dat or a map that the mesh hasn't, and a text that spells no owners of the mesh, at its first fault with
-/// its line. Want of memory is the one failure.
+/// Refused are the name of a dat or a map that the mesh hasn't, and a text that spells no owners of the mesh, at its
+/// first fault with its line. Want of memory is the one failure.
 pub fn owners_of<'a>(
     alloc: Global,
     ranks: u32,
@@ -145,8 +145,8 @@ pub fn owners_of<'a>(
 
 /// What the file holds that tells the owners, which is the next in `kept` then; nothing where none does.
 ///
-/// Refused are a file that isn't there, and one with more than `PARTITION_BYTES` bytes. A file that could not be read is a failure,
-/// where the shelf's count of faults rose, and so is want of memory.
+/// Refused are a file that isn't there, and one with more than `PARTITION_BYTES` bytes. A file that could not be read
+/// is a failure, where the shelf's count of faults rose, and so is want of memory.
 pub fn partition_of<'a, F: Shelf>(
     alloc: Global,
     shelf: &mut F,

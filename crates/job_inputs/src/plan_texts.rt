@@ -17,10 +17,11 @@ use command_words::answer_lines::{Halt, Limit};
 use op_outside::Shelf;
 use std::alloc::Global;
 
-/// What the file holds that tells the blocks and colours of a plan, which is the next in `kept` then; nothing where none does.
+/// What the file holds that tells the blocks and colours of a plan, which is the next in `kept` then; nothing where
+/// none does.
 ///
-/// Refused are a file that isn't there, and one with more than `PLAN_BYTES` bytes. A file that could not be read is a failure, where
-/// the shelf's count of faults rose, and so is want of memory.
+/// Refused are a file that isn't there, and one with more than `PLAN_BYTES` bytes. A file that could not be read is a
+/// failure, where the shelf's count of faults rose, and so is want of memory.
 pub fn plan_text_of<'a, F: Shelf>(
     alloc: Global,
     shelf: &mut F,

@@ -99,11 +99,12 @@ fn bound_sample<'a>(alloc: Global, side: Side) -> Result<Bound, Halt<'a>>
     bound_over(alloc, &program, types, &texts.mesh)
 }
 
-/// The program and the mesh that are asked for, bound; the program's kernels keep to their accesses. Where they come from files, these
-/// are the next in `kept`.
+/// The program and the mesh that are asked for, bound; the program's kernels keep to their accesses. Where they come
+/// from files, these are the next in `kept`.
 ///
-/// Judged are, up to the first refusal, the source, its tree, its names and types, the mesh, its entries, their binding and the
-/// accesses. A file that could not be read is a failure, where the shelf's count of faults rose, and so is want of memory.
+/// Judged are, up to the first refusal, the source, its tree, its names and types, the mesh, its entries, their binding
+/// and the accesses. A file that could not be read is a failure, where the shelf's count of faults rose, and so is want
+/// of memory.
 pub fn bound_input<'a, F: Shelf>(
     alloc: Global,
     shelf: &mut F,

@@ -17,8 +17,8 @@ use std::alloc::Global;
 
 /// The tree of the source; it has at most `SOURCE_BYTES` bytes.
 ///
-/// A source without one is refused, with the place where it can't be read, and one whose tree has too many levels. Want of
-/// memory is the one failure.
+/// A source without one is refused, with the place where it can't be read, and one whose tree has too many levels. Want
+/// of memory is the one failure.
 pub fn tree_of<'a>(alloc: Global, source: &[u8]) -> Result<Program, Halt<'a>>
     requires { length source.now ≤ SOURCE_BYTES }
     ensures ok { IfOk result (λ p. TreeIs source.now (Ok (program_of p))) }

@@ -14,8 +14,8 @@ use command_words::answer_lines::{Failure, Halt, Refusal};
 use op_translate::{TransRefusal, restore, translate};
 use std::alloc::Global;
 
-/// The translation of the source whose tokens and tree these are: each loop call is a call of its own stub, and a table of the
-/// stubs stands behind it.
+/// The translation of the source whose tokens and tree these are: each loop call is a call of its own stub, and a table
+/// of the stubs stands behind it.
 ///
 /// A source with a name of a stub is refused, with the place of the first. Want of memory is the one failure.
 pub fn translation_of<'a>(
@@ -35,10 +35,11 @@ pub fn translation_of<'a>(
     }
 }
 
-/// The restoration of the source: each call of a stub is a loop call again. The source has at most `SOURCE_BYTES` bytes.
+/// The restoration of the source: each call of a stub is a loop call again. The source has at most `SOURCE_BYTES`
+/// bytes.
 ///
-/// A source without tokens is refused, and else the first of its tokens that is a name of a stub and isn't called, or a loop
-/// call. Want of memory is the one failure.
+/// A source without tokens is refused, and else the first of its tokens that is a name of a stub and isn't called, or a
+/// loop call. Want of memory is the one failure.
 pub fn restoration_of<'a>(alloc: Global, source: &[u8]) -> Result<Vec<u8>, Halt<'a>>
     requires { length source.now ≤ SOURCE_BYTES }
     ensures ok { IfOk result (λ v. RestorationIs source.now (Ok v.items)) }

@@ -13,7 +13,8 @@ use Rattle.kernel_types.specs.declared.statements.RStmt.{end_of-RStmt, more_of-R
 use Rattle.kernel_types.specs.declared.kernels.RKernel.{RKernel}
 use Rattle.kernel_model.specs.Obeys.{Mode, mode_at, Counters, no_counters, with_counter, static, Event, Reads, Owns, Own, First, Second}
 use Rattle.kernel_model.specs.Obeys.{own_side, target_event, KernelObeys}
-use Rattle.kernel_model.specs.Refusals.{Rule, WritesRead, ReadsInc, IncNotSum, ReadsUnwritten, NotAllWritten, WriteIndexNotStatic, LiteralIndexOut}
+use Rattle.kernel_model.specs.Refusals.{Rule, WritesRead, ReadsInc, IncNotSum, ReadsUnwritten, NotAllWritten, WriteIndexNotStatic}
+use Rattle.kernel_model.specs.Refusals.{LiteralIndexOut}
 use Rattle.kernel_model.specs.Refusals.{MinMaxForm, number_of, argument_of, index_of, place_of, is_target, is_sum, is_extremum, is_read}
 use Rattle.kernel_model.specs.Refusals.{opposite, parameter_place, IsRefusal}
 

@@ -1,6 +1,7 @@
 // The laws of kernels, each as the contract of a function that does nothing.
 
-ghost use Rattle.kernel_model.specs.Independence.{Independence, OthersStay, RangeStays, ReadsStay, ShapeStays, StoredIndependence, Transport};
+ghost use Rattle.kernel_model.specs.Independence.{Independence, OthersStay, RangeStays, ReadsStay, ShapeStays, StoredIndependence};
+ghost use Rattle.kernel_model.specs.Independence.{Transport};
 ghost use Rattle.kernel_model.specs.Operators.{OperatorsStayInRange};
 ghost use Rattle.kernel_model.specs.Refusals.{ObeysUnlessBroken, OneRefusal};
 ghost use Rattle.kernel_model.specs.StoredThrough.{UnstoredStay};
@@ -13,7 +14,8 @@ pub fn independence()
     ensures { Independence }
 {}
 
-/// A law: the same where the aliases of OP_READ arguments among each other differ: no kernel that obeys its modes can tell.
+/// A law: the same where the aliases of OP_READ arguments among each other differ: no kernel that obeys its modes can
+/// tell.
 pub fn stored_independence()
     ensures { StoredIndependence }
 {}
@@ -34,8 +36,8 @@ pub fn reads_stay()
     ensures { ReadsStay }
 {}
 
-/// A law: a cell that is reached only by arguments through which the kernel's text stores nothing, or by none, stays under
-/// any kernel, after a fault too.
+/// A law: a cell that is reached only by arguments through which the kernel's text stores nothing, or by none, stays
+/// under any kernel, after a fault too.
 pub fn unstored_stay()
     ensures { UnstoredStay }
 {}
@@ -55,8 +57,8 @@ pub fn operators_stay_in_range()
     ensures { OperatorsStayInRange }
 {}
 
-/// A law: a kernel obeys its modes exactly where it breaks none of the eight access rules at any place, and of the rules
-/// that it breaks at most one stands first: at the earliest place, and there with the least number.
+/// A law: a kernel obeys its modes exactly where it breaks none of the eight access rules at any place, and of the
+/// rules that it breaks at most one stands first: at the earliest place, and there with the least number.
 pub fn rules_are_broken()
     ensures obeys { ObeysUnlessBroken }
     ensures first { OneRefusal }
@@ -68,7 +70,8 @@ pub fn walk_finds()
     ensures { WalkFinds }
 {}
 
-/// A law: where a kernel lies in memory is nothing to it. Kernels with one tree run alike, and the walk finds the same in them.
+/// A law: where a kernel lies in memory is nothing to it. Kernels with one tree run alike, and the walk finds the same
+/// in them.
 pub fn kernels_are_trees()
     ensures runs { RunsAlike }
     ensures walks { WalksAlike }

@@ -73,8 +73,8 @@ pub enum RExpr {
     Absolute(Box<RExpr>),
 }
 
-// A chain of operators, each the left operand of the one before it, is taken apart by a loop, so that dropping an expression
-// recurses by level of nesting alone.
+// A chain of operators, each the left operand of the one before it, is taken apart by a loop, so that dropping an
+// expression recurses by level of nesting alone.
 impl Drop for RExpr {
     fn drop(mut self) {
         loop {

@@ -7,9 +7,9 @@ use crate::expressions::{ElementForm, RExpr};
 use crate::kernels::RKernel;
 use crate::statements::RStmt;
 
-/// Whether a kernel is resolved, where the constants have `consts` cells in all: each parameter, cell of a local and cell
-/// of a constant that it names is there, the index of `*p` is the number 0, no statement in the body of a `for` stores to
-/// the cell of its counter, and each parameter has its place.
+/// Whether a kernel is resolved, where the constants have `consts` cells in all: each parameter, cell of a local and
+/// cell of a constant that it names is there, the index of `*p` is the number 0, no statement in the body of a `for`
+/// stores to the cell of its counter, and each parameter has its place.
 pub fn is_resolved(kernel: &RKernel, consts: usize) -> bool
     ensures { IsTrue result ↔ IsResolved consts kernel.now }
 {

@@ -33,8 +33,8 @@ fn copied(alloc: Global, lists: &[Vec<u32>]) -> Result<Vec<Vec<u32>>, OutOfMemor
     Ok(copies)
 }
 
-/// By rank what it owns, and what it imports to execute and to read of a set, where new numbers are the original ones. It
-/// takes time linear in the elements and what is imported.
+/// By rank what it owns, and what it imports to execute and to read of a set, where new numbers are the original ones.
+/// It takes time linear in the elements and what is imported.
 pub fn kept_groups(
     alloc: Global,
     owners: &[u32],

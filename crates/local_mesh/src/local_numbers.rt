@@ -6,8 +6,8 @@ use op_num::OutOfMemory;
 use std::alloc::Global;
 use std::marker::Model;
 
-/// By element of a set, its local number on the rank that owns it: 4 bytes each, none where each has its own number there.
-/// Contracts see them as a list.
+/// By element of a set, its local number on the rank that owns it: 4 bytes each, none where each has its own number
+/// there. Contracts see them as a list.
 #[derive(Debug, Drop)]
 pub struct LocalNumbers {
     count: u32,

@@ -99,15 +99,15 @@ fn judged_program(
     })
 }
 
-/// The bound program of a source over the entries of a mesh text, or the first refusal: of the text in its order, then of
-/// `main` as it is unrolled, then of the limit on what it prints.
+/// The bound program of a source over the entries of a mesh text, or the first refusal: of the text in its order, then
+/// of `main` as it is unrolled, then of the limit on what it prints.
 ///
-/// `resolved` are the kernels and constants that `resolve` gave for this program; they become part of the bound program, so
-/// they are taken by value.
+/// `resolved` are the kernels and constants that `resolve` gave for this program; they become part of the bound
+/// program, so they are taken by value.
 ///
 /// # Errors
-/// Exactly the refusal that is defined for these, with its place. Beside want of memory, `OutOfMemory` stands for counts that
-/// their numbers cannot hold: 2^32 variables, cells or loops, and a print weight of 2^64 bytes.
+/// Exactly the refusal that is defined for these, with its place. Beside want of memory, `OutOfMemory` stands for
+/// counts that their numbers cannot hold: 2^32 variables, cells or loops, and a print weight of 2^64 bytes.
 pub fn bind(
     alloc: Global,
     program: &Program,
@@ -116,7 +116,8 @@ pub fn bind(
 ) -> Result<Bound, BindRefusal>
     // What is answered is the judgement, unless memory runs out.
     ensures judged { JudgesBy bound_of result (bound (program_of program.now) resolved entries.now.entries) }
-    // What is bound fits, where the source was read, this is what it resolves to, and the entries are those of a mesh text.
+    // What is bound fits, where the source was read, this is what it resolves to, and the entries are those of a mesh
+    // text.
     ensures fits { (source mesh : List ℕ) → Reads source (program_of program.now)
         → Resolves (program_of program.now) (Ok (resolved_of resolved))
         → Spells mesh entries.now.entries → IfOk result (λ b. Fits (bound_of b)) }

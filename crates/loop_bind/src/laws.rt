@@ -11,7 +11,8 @@ ghost use Rattle.loop_bind.specs.Resolvable.{BoundProgramsFit, BoundMapsAreNarro
 
 use crate::source_fits::named_names_are_all;
 
-/// A law: a program that is bound fits, where its source is a resolved one and the values of its mesh text are of 32 bits.
+/// A law: a program that is bound fits, where its source is a resolved one and the values of its mesh text are of 32
+/// bits.
 pub fn bound_programs_fit()
     ensures { BoundProgramsFit }
 {

@@ -1,7 +1,8 @@
-//! Programs bound to a mesh: `bind` gives the bound program of a source and the entries of a mesh text, or the first refusal.
+//! Programs bound to a mesh: `bind` gives the bound program of a source and the entries of a mesh text, or the first
+//! refusal.
 //!
-//! The text is judged in its order, then `main` is unrolled in the order of execution, then what it prints is weighed. The
-//! definition of all three is `bound`, in `specs/Bound.antt`.
+//! The text is judged in its order, then `main` is unrolled in the order of execution, then what it prints is weighed.
+//! The definition of all three is `bound`, in `specs/Bound.antt`.
 #![tactic(auto)]
 
 mod binding;

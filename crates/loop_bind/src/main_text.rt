@@ -1,4 +1,5 @@
-//! The statements of `main`, judged in the order of the text: loops with their arguments, prints, assignments and control.
+//! The statements of `main`, judged in the order of the text: loops with their arguments, prints, assignments and
+//! control.
 mod accesses;
 mod arguments;
 mod globals;

@@ -104,7 +104,8 @@ fn weight_of_all(mesh: &Mesh, items: &[Item]) -> Option<u64>
     Some(sum)
 }
 
-/// Refuses items that print more than the limit. Takes no memory; want of memory stands for a sum that 64 bits cannot hold.
+/// Refuses items that print more than the limit. Takes no memory; want of memory stands for a sum that 64 bits cannot
+/// hold.
 pub fn judged_weight(mesh: &Mesh, items: &[Item]) -> Result<(), BindRefusal>
     ensures judged { JudgesBy (λ t. t) result (within_weight (weight_of_all mesh.now (map item_of items.now))) }
     ensures memory { (result ≡ Err OutOfMemory) → 2 ^ 64 ≤ weight_of_all mesh.now (map item_of items.now) }

@@ -16,8 +16,8 @@ use colouring::IncArg;
 use op_num::OutOfMemory;
 use std::alloc::Global;
 
-/// What a loop's plan is made from, beside the ranks: its set, whether it scatters, and the arguments by which its places
-/// have their colours.
+/// What a loop's plan is made from, beside the ranks: its set, whether it scatters, and the arguments by which its
+/// places have their colours.
 #[derive(Drop)]
 pub struct PlanKey {
     set: u32,

@@ -74,14 +74,14 @@ pub fn exports_are_messages()
         → is_some_exported (exports_in h t) s r ≡ imports_from (sets_of meshes s) (sets_of meshes r) t }
 {}
 
-/// A law: two plans with least colours have the same colours, where their blocks have one size and their local meshes are the
-/// same as lists.
+/// A law: two plans with least colours have the same colours, where their blocks have one size and their local meshes
+/// are the same as lists.
 pub fn least_colours_are_one()
     ensures { LeastColoursAreOne }
 {}
 
-/// Two plans of a program with least colours, in blocks of one size and on local meshes that are the same as lists, have
-/// one text and one number of steps.
+/// Two plans of a program with least colours, in blocks of one size and on local meshes that are the same as lists,
+/// have one text and one number of steps.
 pub fn one_plan_text()
     ensures { PlanTextsAreOne }
 {}

@@ -23,7 +23,8 @@ use std::alloc::{AllocError, Global};
 /// The limit of the number of steps.
 pub const MAX_STEPS: u64 = 8_388_608;
 
-/// The plan of each item, by the local meshes: the dats that it exchanges, and its messages. It fails only for want of memory.
+/// The plan of each item, by the local meshes: the dats that it exchanges, and its messages. It fails only for want of
+/// memory.
 pub fn planned_items(
     alloc: Global,
     bound: &Bound,
@@ -40,8 +41,8 @@ pub fn planned_items(
     Ok(plans)
 }
 
-/// How many steps the program has on these ranks, by the plans of its items. It fails only for want of memory, also where 64
-/// bits can't count the steps.
+/// How many steps the program has on these ranks, by the plans of its items. It fails only for want of memory, also
+/// where 64 bits can't count the steps.
 pub fn number_of_steps(
     alloc: Global,
     bound: &Bound,
@@ -97,8 +98,8 @@ fn counted_items(
 
 /// The plan of a program on these ranks, in blocks of `block` places, with least colours.
 ///
-/// It is refused exactly where there are more steps than `MAX_STEPS`, and fails otherwise only for want of memory, also where
-/// 64 bits can't count the steps, or 32 bits the loops. No step is made to count them.
+/// It is refused exactly where there are more steps than `MAX_STEPS`, and fails otherwise only for want of memory, also
+/// where 64 bits can't count the steps, or 32 bits the loops. No step is made to count them.
 pub fn plan(
     alloc: Global,
     bound: &Bound,
@@ -128,8 +129,8 @@ pub fn plan(
     })
 }
 
-/// A plan of a program on these ranks by which places go in their order: each block of `block` places, and each place, has a colour of its
-/// own. So no place's targets are looked at; but no two places may begin together.
+/// A plan of a program on these ranks by which places go in their order: each block of `block` places, and each place,
+/// has a colour of its own. So no place's targets are looked at; but no two places may begin together.
 ///
 /// It is refused and fails as `plan` does.
 pub fn plan_in_turn(

@@ -10,8 +10,8 @@ use op_num::OutOfMemory;
 use std::alloc::{AllocError, Global};
 use std::marker::Model;
 
-/// The plans of the Free loops that run, by the loop's number, increasing. Loops that have the same plan may share it: each
-/// loop has the number of a plan, its slot.
+/// The plans of the Free loops that run, by the loop's number, increasing. Loops that have the same plan may share it:
+/// each loop has the number of a plan, its slot.
 #[derive(Debug, Drop)]
 pub struct SitePlans {
     plans: Vec<SitePlan>,

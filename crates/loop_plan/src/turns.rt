@@ -30,8 +30,8 @@ fn turns(alloc: Global, places: u32, size: u32) -> Result<Colours, OutOfMemory>
     Ok(Colours { blocks, inner })
 }
 
-/// By rank, colours for so many places by which these go in their order: each block of `size`, and each place, has one of its own. An
-/// error is want of memory.
+/// By rank, colours for so many places by which these go in their order: each block of `size`, and each place, has one
+/// of its own. An error is want of memory.
 pub fn turns_by_rank(alloc: Global, places: &[u32], size: u32) -> Result<Vec<Colours>, OutOfMemory>
     requires { 0 < size }
     ensures count { IfOk result (λ v. length v.items ≡ length places.now) }

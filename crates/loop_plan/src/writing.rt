@@ -139,8 +139,8 @@ fn put_halo(
     Ok(())
 }
 
-/// Appends the line of a plan text for the elements that the rank with this number has of a set: the original numbers of
-/// those that it owns, imports to execute and imports otherwise, by local number. `sets` are the rank's.
+/// Appends the line of a plan text for the elements that the rank with this number has of a set: the original numbers
+/// of those that it owns, imports to execute and imports otherwise, by local number. `sets` are the rank's.
 pub fn put_rank_halo(
     out: &mut Vec<u8>,
     mesh: &Mesh,
@@ -351,9 +351,9 @@ fn put_sizes(out: &mut Vec<u8>, ranks: u32, block: u32) -> Result<(), OutOfMemor
     Ok(())
 }
 
-/// The text of a plan: a line for each set and rank with the elements that the rank owns, imports to execute and imports
-/// otherwise, by local number; one for each Free loop that runs and each rank, with its colours; one for each item, with
-/// the dats that it exchanges.
+/// The text of a plan: a line for each set and rank with the elements that the rank owns, imports to execute and
+/// imports otherwise, by local number; one for each Free loop that runs and each rank, with its colours; one for each
+/// item, with the dats that it exchanges.
 ///
 /// It fails only for want of memory.
 pub fn write_plan(

@@ -21,7 +21,8 @@ use Rattle.bound_program.specs.Steps.{Do, Fix}
 use Rattle.bound_program.specs.Refusals.{place, Judged, ◌>>=◌, unless_found, found_if}
 use Rattle.main_declarations.specs.Expressions.{resolved, judged_static, judged_value}
 use Rattle.bound_program.specs.declared.refusals.founds.Found.{Found}
-use Rattle.main_declarations.specs.SoFar.{Declared, Walked, does, behind, next_cells, with_var, with_name, with_file_name, changing, unchanging}
+use Rattle.main_declarations.specs.SoFar.{Declared, Walked, does, behind, next_cells, with_var, with_name, with_file_name, changing}
+use Rattle.main_declarations.specs.SoFar.{unchanging}
 use Rattle.main_declarations.specs.SoFar.{first_cell}
 use Rattle.main_declarations.specs.Meanings.{count_of}
 use Rattle.main_declarations.specs.Declarations.{place_found, type_found}

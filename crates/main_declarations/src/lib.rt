@@ -1,5 +1,5 @@
-//! Declarations, judged in the order of the text: the externs, variables and kernels of the file, and the sets, maps, dats,
-//! constants and variables of `main`.
+//! Declarations, judged in the order of the text: the externs, variables and kernels of the file, and the sets, maps,
+//! dats, constants and variables of `main`.
 #![tactic(auto)]
 
 mod constants;

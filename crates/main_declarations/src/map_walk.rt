@@ -1,5 +1,5 @@
-// Declarations of maps. The targets are gone through once: as the map is added, or, where something else is wrong with it, to
-// find whether one of them counts before.
+// Declarations of maps. The targets are gone through once: as the map is added, or, where something else is wrong with
+// it, to find whether one of them counts before.
 
 ghost use Rattle.std.specs.Prelude.{◌≡◌, ◌<◌, ◌+◌, ◌*◌, length, Some, None, IfOk, OnOk};
 ghost use Rattle.std.specs.Option.{option_or};
@@ -210,7 +210,8 @@ fn add_map(
     }
 }
 
-/// `op_map x = op_decl_map(from, to, n, array, "..");`, its word at the token t. The names of sets stand for those of the mesh.
+/// `op_map x = op_decl_map(from, to, n, array, "..");`, its word at the token t. The names of sets stand for those of
+/// the mesh.
 pub fn judged_map(
     source: &Source<'_>,
     k: &mut Declared,

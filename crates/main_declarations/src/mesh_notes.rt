@@ -194,8 +194,8 @@ fn note_index(
     );
 }
 
-/// Notes the first value that is no element of the map's target set, where that is known, and the values are those that are awaited, of
-/// a set with fewer than 2^32 elements.
+/// Notes the first value that is no element of the map's target set, where that is known, and the values are those that
+/// are awaited, of a set with fewer than 2^32 elements.
 pub fn note_targets(
     source: &Source<'_>,
     first: &mut Option<Found>,

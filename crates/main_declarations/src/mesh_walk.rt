@@ -215,7 +215,8 @@ fn first_in_dat(
     Ok(first)
 }
 
-/// `op_dat x = op_decl_dat(set, n, l, array, "..");`, its word at the token t. The names of sets stand for those of the mesh.
+/// `op_dat x = op_decl_dat(set, n, l, array, "..");`, its word at the token t. The names of sets stand for those of the
+/// mesh.
 pub fn judged_dat(
     source: &Source<'_>,
     k: &mut Declared,

@@ -1,4 +1,5 @@
-//! What is declared so far in a source, what its names mean at a place, and the expressions of `main` by these meanings.
+//! What is declared so far in a source, what its names mean at a place, and the expressions of `main` by these
+//! meanings.
 mod declared;
 mod expressions;
 mod kernel_constants;

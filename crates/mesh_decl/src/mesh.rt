@@ -3,7 +3,8 @@ ghost use Rattle.std.specs.Prelude.{◌≡◌, ℕ, ℤ, pos, ◌+◌, ◌*◌, 
 ghost use Rattle.std.specs.Prelude.{OnOk, OnErr, IfOk, IfErr, IfSome, IfNone};
 ghost use Rattle.mesh_decl.specs.declared.decl.MapRefusal.{MapRefusal as Refusal};
 ghost use Rattle.mesh_decl.specs.Mesh.{no_mesh, set_count, map_count, dat_count, set_size, set_name, map_from, map_to, map_dim, map_name};
-ghost use Rattle.mesh_decl.specs.Mesh.{target, dat_set, dat_dim, dat_name, dat_values, with_values, is_element as is_element_of, AreElements, IsMapAt};
+ghost use Rattle.mesh_decl.specs.Mesh.{target, dat_set, dat_dim, dat_name, dat_values, with_values, is_element as is_element_of};
+ghost use Rattle.mesh_decl.specs.Mesh.{AreElements, IsMapAt};
 ghost use Rattle.mesh_decl.specs.Mesh.{IsDatAt, IsInRange, IsFirstBad, RefusesTarget};
 
 use crate::decl::{DatDecl, MapDecl, MapRefusal, SetDecl};
@@ -12,9 +13,9 @@ use op_num::{Name, OutOfMemory};
 use std::alloc::{AllocError, Global};
 use std::marker::Model;
 
-/// Sets, maps and dats, each kind numbered from 0 in order of declaration. In every mesh all lengths fit, each dim is at
-/// least 1, and each target is an element of its set; contracts see the lists of what was declared, and `map_count` and
-/// `dat_count` give these facts.
+/// Sets, maps and dats, each kind numbered from 0 in order of declaration. In every mesh all lengths fit, each dim is
+/// at least 1, and each target is an element of its set; contracts see the lists of what was declared, and `map_count`
+/// and `dat_count` give these facts.
 #[derive(Debug, Drop)]
 pub struct Mesh {
     sets: Vec<SetDecl>,
@@ -60,9 +61,9 @@ impl Mesh {
     }
 
     /// Adds a map behind the others, with `dim` targets for each element of the set numbered `from`, in order of
-    /// elements, and gives its number. `MapRefusal::Target` comes exactly where a target is no element of the set numbered
-    /// `to`, with the first one. After a refusal, and where it fails for want of memory (also where there are 4294967295
-    /// maps), the mesh stays as it was.
+    /// elements, and gives its number. `MapRefusal::Target` comes exactly where a target is no element of the set
+    /// numbered `to`, with the first one. After a refusal, and where it fails for want of memory (also where there are
+    /// 4294967295 maps), the mesh stays as it was.
     pub fn add_map(
         &mut self,
         name: Name,
@@ -102,9 +103,9 @@ impl Mesh {
         Ok(number as u32)
     }
 
-    /// Adds a dat behind the others, with `dim` values for each element of the set numbered `set`, in order of elements,
-    /// and gives its number. Where that fails for want of memory, also where there are 4294967295 dats, the mesh stays as
-    /// it was.
+    /// Adds a dat behind the others, with `dim` values for each element of the set numbered `set`, in order of
+    /// elements, and gives its number. Where that fails for want of memory, also where there are 4294967295 dats, the
+    /// mesh stays as it was.
     pub fn add_dat(
         &mut self,
         name: Name,
@@ -136,8 +137,8 @@ impl Mesh {
         Ok(number as u32)
     }
 
-    /// Gives the dat numbered `dat` these values in place of its own, as many: those of element 0, then those of element 1,
-    /// and so on. Takes no memory.
+    /// Gives the dat numbered `dat` these values in place of its own, as many: those of element 0, then those of
+    /// element 1, and so on. Takes no memory.
     pub fn set_values(&mut self, dat: u32, values: Values)
         requires dat { dat < dat_count self.old }
         requires size { length values ≡ length (dat_values self.old dat) }
@@ -185,8 +186,8 @@ impl Mesh {
         self.maps.len() as u32
     }
 
-    /// The set from which the map numbered `map` leads, the set to which it leads, and its dim, the number of targets of
-    /// each element.
+    /// The set from which the map numbered `map` leads, the set to which it leads, and its dim, the number of targets
+    /// of each element.
     pub fn map_ends(&self, map: u32) -> (u32, u32, u32)
         requires { map < map_count self.now }
         ensures { result ≡ (map_from self.now map, map_to self.now map, map_dim self.now map) }

@@ -27,8 +27,9 @@ fn plane_shape(mesh: &Mesh, coords: &[u8], cells: &[u8]) -> Result<Shape, DrawRe
     Ok(shape)
 }
 
-/// The picture of a plane mesh on ranks, as an SVG: polygon i has the nodes of cell i, where the first dat named `coords` says that they
-/// lie, and the first map named `cells` which they are; its colour is that of the cell's number of what is shown.
+/// The picture of a plane mesh on ranks, as an SVG: polygon i has the nodes of cell i, where the first dat named
+/// `coords` says that they lie, and the first map named `cells` which they are; its colour is that of the cell's number
+/// of what is shown.
 ///
 /// # Errors
 /// The first cause of [`DrawRefusal`] that is so; `Shown(OutOfMemory)` where memory runs out.

@@ -33,7 +33,8 @@ fn colour(fill: u32) -> Option<u8>
     }
 }
 
-/// The colours of cells with these numbers. `ManyColours` comes exactly where there is no such colour; else an error is want of memory.
+/// The colours of cells with these numbers. `ManyColours` comes exactly where there is no such colour; else an error is
+/// want of memory.
 pub fn fills_of(alloc: Global, shown: Shown, numbers: &[u32]) -> Result<Vec<u8>, DrawRefusal>
     ensures fills { IfOk result (λ v. v.items ≡ fills_of shown numbers.now) }
     ensures colours { IfOk result (λ v. All IsColour v.items) }

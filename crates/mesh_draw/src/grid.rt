@@ -53,14 +53,15 @@ fn fields_on(
     }
 }
 
-/// The text for VTK of a mesh on ranks, in the plane or in space: its nodes, where the first dat named `coords` says that they lie, its
-/// cells, which have the nodes that the first map named `cells` says, and the number of each of what is shown, in an array named
-/// `op2-owner`, `op2-halo` or `op2-colour`.
-/// With the output of a run, of fewer than 2^32 - 1 bytes, there is an array for each dat on the cells or the nodes that the program
-/// prints: what it printed last of it.
+/// The text for VTK of a mesh on ranks, in the plane or in space: its nodes, where the first dat named `coords` says
+/// that they lie, its cells, which have the nodes that the first map named `cells` says, and the number of each of what
+/// is shown, in an array named `op2-owner`, `op2-halo` or `op2-colour`. With the output of a run, of fewer than 2^32 -
+/// 1 bytes, there is an array for each dat on the cells or the nodes that the program prints: what it printed last of
+/// it.
 ///
 /// # Errors
-/// The first cause of [`DrawRefusal`] that is so, which is `Shape`, `Shown` or `Fields`; `Shown(OutOfMemory)` where memory runs out.
+/// The first cause of [`DrawRefusal`] that is so, which is `Shape`, `Shown` or `Fields`; `Shown(OutOfMemory)` where
+/// memory runs out.
 pub fn vtk(
     alloc: Global,
     planned: &Planned<'_>,

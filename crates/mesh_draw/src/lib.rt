@@ -1,7 +1,7 @@
 //! Pictures of a mesh on ranks: who owns each cell, what one rank has of the cells, or the colours of a loop's blocks.
 //!
-//! `draw` gives the picture of a plane mesh, and `vtk` the text for VTK, in the plane or in space, that `specs/Drawn.antt` defines, or the
-//! first cause why there is none.
+//! `draw` gives the picture of a plane mesh, and `vtk` the text for VTK, in the plane or in space, that
+//! `specs/Drawn.antt` defines, or the first cause why there is none.
 #![tactic(auto)]
 
 mod drawing;

@@ -1,7 +1,7 @@
 //! Elements of XML with attributes and text, written tag by tag.
 //!
-//! The bytes are those that a tree of elements prints (`specs/Tree.antt`), so that they are well-formed; what a name or a value may not
-//! hold is written as a reference.
+//! The bytes are those that a tree of elements prints (`specs/Tree.antt`), so that they are well-formed; what a name or
+//! a value may not hold is written as a reference.
 mod laws;
 mod tags;
 

@@ -1,8 +1,8 @@
 //! Pieces of what a program printed: one printed dat out of the output of a run.
 //!
-//! `piece_of` cuts the output by the program's trace, which says how many lines stand before a dat's first line, and how many
-//! rows behind it: what a line looks like cuts nothing. `specs/Pieces.antt` defines the piece. `last_rows` gives the lines of a
-//! dat's elements where the program prints it last, which `specs/Last.antt` defines.
+//! `piece_of` cuts the output by the program's trace, which says how many lines stand before a dat's first line, and
+//! how many rows behind it: what a line looks like cuts nothing. `specs/Pieces.antt` defines the piece. `last_rows`
+//! gives the lines of a dat's elements where the program prints it last, which `specs/Last.antt` defines.
 mod headers;
 mod last;
 mod laws;

@@ -1,6 +1,7 @@
 //! The sample: a program over an unstructured mesh, and the mesh of a square grid of cells for it.
 //!
-//! `sample` is exact: it gives the two texts for each size of a grid from 1 to `MAX_SIDE`, and refuses every other size.
+//! `sample` is exact: it gives the two texts for each size of a grid from 1 to `MAX_SIDE`, and refuses every other
+//! size.
 #![tactic(auto)]
 
 mod arrays;

@@ -1,8 +1,8 @@
 // The program of the sample.
 
-/// A program in the manner of a solver around an airfoil: in each of ten steps it saves the values of the cells, computes a
-/// local step from the corners of each cell, adds up what flows over each edge and each boundary edge, and updates the cells;
-/// then it prints the total, the least and the greatest value, and the sum of all changes.
+/// A program in the manner of a solver around an airfoil: in each of ten steps it saves the values of the cells,
+/// computes a local step from the corners of each cell, adds up what flows over each edge and each boundary edge, and
+/// updates the cells; then it prints the total, the least and the greatest value, and the sum of all changes.
 pub const SOURCE: &str = r#"extern int nnode;
 extern int ncell;
 extern int nedge;

@@ -11,15 +11,16 @@ use crate::source::SOURCE;
 use mesh_decl::text::{Form, write_mesh};
 use std::alloc::Global;
 
-/// The sample on a grid of `n` times `n` cells: its source, which is the same for every size, and the canonical mesh text
-/// of the grid.
+/// The sample on a grid of `n` times `n` cells: its source, which is the same for every size, and the canonical mesh
+/// text of the grid.
 ///
 /// # Errors
 /// `SizeRange` exactly where `n` is outside 1 to [`MAX_SIDE`]; `OutOfMemory` where memory runs out.
 pub fn sample(alloc: Global, n: u32) -> Result<Sample, SampleRefusal>
     ensures source { IfOk result (λ s. s.source.items ≡ sample_source) }
     ensures mesh { IfOk result (λ s. s.mesh.items ≡ sample_mesh n) }
-    // The source is short. `read_mesh` reads the entries from the mesh text, which is no longer than a mesh file may be.
+    // The source is short. `read_mesh` reads the entries from the mesh text, which is no longer than a mesh file may
+    // be.
     ensures short_source { IfOk result (λ s. length s.source.items < 2 ^ 16) }
     ensures read { IfOk result (λ s. Reads s.mesh.items (Ok (mesh_entries n))) }
     ensures short { IfOk result (λ s. length s.mesh.items ≤ MESH_BYTES) }

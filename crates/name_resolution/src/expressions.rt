@@ -36,8 +36,8 @@ fn judge_name(
     judge_use(first, how, name.at, known.means(&name.name));
 }
 
-/// Judges the names of an expression, from its end. So a chain of operators, each the left operand of the one before it,
-/// is gone along by a loop, and the recursion goes by level of nesting.
+/// Judges the names of an expression, from its end. So a chain of operators, each the left operand of the one before
+/// it, is gone along by a loop, and the recursion goes by level of nesting.
 #[cycle(judges)]
 #[tactic(auto, using(crate::proofs::Swap::least_behind))]
 pub fn judge_expr(first: &mut Option<Breach>, known: Scope<'_>, in_kernel: bool, expr: &Expr)

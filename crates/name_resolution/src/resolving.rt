@@ -126,8 +126,8 @@ pub fn resolve(alloc: Global, program: &Program) -> Result<Resolved, TypeRefusal
     outcome(alloc, program)
 }
 
-/// A law: a source comes to an outcome, and no refusal is want of memory. There are values of the machine's types that have
-/// the resolved trees of a source that was read.
+/// A law: a source comes to an outcome, and no refusal is want of memory. There are values of the machine's types that
+/// have the resolved trees of a source that was read.
 pub fn some_answer()
     ensures some { (p : ProgramTree) → (o : Outcome) × Resolves p o }
     ensures causes { (p : ProgramTree) → ¬ Resolves p (Err OutOfMemory) }
@@ -137,8 +137,8 @@ pub fn some_answer()
     c_lex::tokens_are_few();
 }
 
-/// A law: the kernels and constants that a source comes to are those of a resolved program, where the numbers of the kernels are
-/// of 32 bits.
+/// A law: the kernels and constants that a source comes to are those of a resolved program, where the numbers of the
+/// kernels are of 32 bits.
 pub fn kernels_are_resolved()
     ensures { (p : ProgramTree) (r : Kernels)
         → Resolves p (Ok (resolved_of r)) → KernelsFit (resolved_of r).kernels → IsResolvedProgram r }

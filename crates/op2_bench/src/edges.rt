@@ -85,8 +85,8 @@ pub fn sum_from(memory: &[i32], from: usize) -> i32 {
     sum
 }
 
-/// The number of edges of the flux kernel's loop that have no fault, and the sum of the residuals. `None` is want of memory, or more than
-/// 2^28 edges.
+/// The number of edges of the flux kernel's loop that have no fault, and the sum of the residuals. `None` is want of
+/// memory, or more than 2^28 edges.
 pub fn flux_sum(alloc: Global, edges: u32) -> Option<(u32, i32)> {
     if edges > MOST {
         return None;

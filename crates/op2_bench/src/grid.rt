@@ -47,8 +47,8 @@ fn name(alloc: Global, bytes: &[u8]) -> Result<Name, OutOfMemory> {
     Ok(Name::new(Vec::from_slice(alloc, bytes)?))
 }
 
-/// The sets `cells` and `edges`, the map `ends` from edges to the two cells of each, and the dat `x` with the column and
-/// the row of each cell.
+/// The sets `cells` and `edges`, the map `ends` from edges to the two cells of each, and the dat `x` with the column
+/// and the row of each cell.
 #[tactic(auto, unfolding(mesh_decl::specs::Mesh::size_in))]
 pub fn grid(alloc: Global, side: u32) -> Result<Mesh, OutOfMemory>
     requires some { 0 < side }

@@ -5,11 +5,12 @@
 //!     op2_bench grid SIDE RANKS [counts]
 //!     op2_bench random EDGES CELLS DIM RANKS
 //!
-//! `flux` runs the compiled code of a flux kernel for EDGES edges (1,000,000 where none is told) in place on whole arrays, and
-//! prints how many had no fault, and the sum of the residuals, which is 0. `names` reads a source and resolves its names TIMES
-//! times. `grid` distributes a grid over ranks and prints how long each step takes: it has SIDE times SIDE cells, SIDE 1 to 4096,
-//! and an edge between each two neighbours; RANKS is 1 to 64. With `counts`, only what was made is printed, and no times. `random`
-//! does so for a mesh with DIM random cells for each edge; CELLS is 1 to 16777216, DIM 1 to 64.
+//! `flux` runs the compiled code of a flux kernel for EDGES edges (1,000,000 where none is told) in place on whole
+//! arrays, and prints how many had no fault, and the sum of the residuals, which is 0. `names` reads a source and
+//! resolves its names TIMES times. `grid` distributes a grid over ranks and prints how long each step takes: it has
+//! SIDE times SIDE cells, SIDE 1 to 4096, and an edge between each two neighbours; RANKS is 1 to 64. With `counts`,
+//! only what was made is printed, and no times. `random` does so for a mesh with DIM random cells for each edge; CELLS
+//! is 1 to 16777216, DIM 1 to 64.
 #![tactic(auto)]
 
 mod edges;

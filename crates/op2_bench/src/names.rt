@@ -22,7 +22,8 @@ fn counts(alloc: Global, source: &[u8], times: u32) -> Option<(usize, usize)> {
     Some(counts)
 }
 
-/// How many kernels and constants the source of that file has, where its names are resolved so many times; `None` where it is no source.
+/// How many kernels and constants the source of that file has, where its names are resolved so many times; `None` where
+/// it is no source.
 pub fn counts_of(rt: HostRuntime, source: &str, times: u32) -> Option<(usize, usize)> {
     let mut shelf = FileShelf::new(rt);
     let source = read_whole(rt.alloc(), &mut shelf, source, MOST).ok()?;

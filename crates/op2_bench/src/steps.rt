@@ -19,8 +19,8 @@ fn line(rt: &HostRuntime, timed: bool, step: &str, from: Instant) -> Result<Inst
     Ok(Instant::now(rt)?)
 }
 
-/// Makes owners by blocks, by growth, and by the values of the first dat, the renumbering of Cuthill and McKee, and the halos and
-/// local meshes of the owners by blocks, and prints what was made.
+/// Makes owners by blocks, by growth, and by the values of the first dat, the renumbering of Cuthill and McKee, and the
+/// halos and local meshes of the owners by blocks, and prints what was made.
 pub fn run(rt: &HostRuntime, mesh: &Mesh, ranks: u32, timed: bool) -> Result<(), Error>
     requires some_rank { 0 < ranks }
     requires few_ranks { ranks ≤ 64 }

@@ -99,8 +99,8 @@ fn chain_answer(
     }
 }
 
-/// The answer of a job on the chains of a bound program with these options. The file of a partition, where the options name one, is the
-/// next in `kept`.
+/// The answer of a job on the chains of a bound program with these options. The file of a partition, where the options
+/// name one, is the next in `kept`.
 pub fn chained<'a, F: Shelf>(
     alloc: Global,
     shelf: &mut F,

@@ -29,8 +29,8 @@ fn put_part(out: &mut Vec<u8>, element: Option<u32>) -> Result<(), OutOfMemory>
     }
 }
 
-/// Appends the line of a fault: of an item, by its number in the whole program, at an element of its loop or at a statement of `main`.
-/// An error is want of memory.
+/// Appends the line of a fault: of an item, by its number in the whole program, at an element of its loop or at a
+/// statement of `main`. An error is want of memory.
 pub fn put_fault(
     out: &mut Vec<u8>,
     item: u64,

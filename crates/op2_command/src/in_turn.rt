@@ -22,8 +22,8 @@ fn is_untold(job: PlanJob, dumps: bool) -> bool
     }
 }
 
-// Whether the answer of a job is the same for all plans with as many steps: it is in the standard order, and tells neither colours nor
-// the order of steps.
+// Whether the answer of a job is the same for all plans with as many steps: it is in the standard order, and tells
+// neither colours nor the order of steps.
 fn may_go_in_turn(job: PlanJob, options: &Options<'_>) -> bool
     ensures { result ≡ true → GoesInTurn (job_in job) (options_in options.now) }
 {
@@ -34,8 +34,8 @@ fn may_go_in_turn(job: PlanJob, options: &Options<'_>) -> bool
     }
 }
 
-/// Whether a job takes a plan by which places go in their order, one after another, in place of the one that is asked for: the answer is
-/// the same, and a run is as fast.
+/// Whether a job takes a plan by which places go in their order, one after another, in place of the one that is asked
+/// for: the answer is the same, and a run is as fast.
 ///
 /// # Errors
 /// Want of memory.

@@ -1,8 +1,9 @@
 //! A call of `op2`, from its words to its status, over any files, output and error stream.
 //!
-//! `op2` does what its words say and answers the status; `op2_gated` is the same for every gate. Each call ends as one definition
-//! says (`EndsAsDefined` of `specs/Writes.antt`, over `answers`): with the status, the output and the line of the answer that the
-//! words and the files have, want of memory and what fails outside aside, each with its own status and line.
+//! `op2` does what its words say and answers the status; `op2_gated` is the same for every gate. Each call ends as one
+//! definition says (`EndsAsDefined` of `specs/Writes.antt`, over `answers`): with the status, the output and the line
+//! of the answer that the words and the files have, want of memory and what fails outside aside, each with its own
+//! status and line.
 #![tactic(auto)]
 
 mod answered;

@@ -142,8 +142,8 @@ fn scheduled<'a, F: Shelf, R: Threads + Sync, G: Gate>(
     }
 }
 
-// The answer of a job on the plan of the items that run. The files of a partition, a plan and a schedule, where the options name them,
-// are the next in `kept`.
+// The answer of a job on the plan of the items that run. The files of a partition, a plan and a schedule, where the
+// options name them, are the next in `kept`.
 fn chosen_answer<'a, F: Shelf, R: Threads + Sync, G: Gate>(
     crew: &Crew<'_, R, G>,
     shelf: &mut F,
@@ -175,8 +175,8 @@ fn chosen_answer<'a, F: Shelf, R: Threads + Sync, G: Gate>(
     scheduled(crew, shelf, kept, &task, &planned)
 }
 
-/// The answer of a job on the plan of a bound program with these options. The files of a state, a partition, a plan and a schedule, where
-/// the options name them, are the next in `kept`.
+/// The answer of a job on the plan of a bound program with these options. The files of a state, a partition, a plan and
+/// a schedule, where the options name them, are the next in `kept`.
 pub fn planned<'a, F: Shelf, R: Threads + Sync, G: Gate>(
     crew: &Crew<'_, R, G>,
     shelf: &mut F,

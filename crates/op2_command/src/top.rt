@@ -18,9 +18,9 @@ use std::thread::Threads;
 
 /// Does what the words say, and answers the status that the program ends with.
 ///
-/// `words` has the program's name first; `op2 --help` tells what may stand behind it. What is written to `out` is written at the
-/// end. Where the call ends with another status than 0, one line is written to `err`, and where it is neither 0, 4 nor 9, nothing
-/// to `out`. `rt` starts the threads of `--workers`.
+/// `words` has the program's name first; `op2 --help` tells what may stand behind it. What is written to `out` is
+/// written at the end. Where the call ends with another status than 0, one line is written to `err`, and where it is
+/// neither 0, 4 nor 9, nothing to `out`. `rt` starts the threads of `--workers`.
 pub fn op2<R: Threads + Sync, F: Shelf, O: Sink, E: Sink>(
     rt: &R,
     alloc: Global,
@@ -31,8 +31,8 @@ pub fn op2<R: Threads + Sync, F: Shelf, O: Sink, E: Sink>(
 ) -> u8
     requires { All (λ name. F.lends shelf.old name) (named_by (map string_bytes words.now.items)) }
 
-    // The call has one ending, with its cause, its status and its line; and so its status, its output and its line are those of any
-    // answer that the files tell, as far as nothing failed outside.
+    // The call has one ending, with its cause, its status and its line; and so its status, its output and its line are
+    // those of any answer that the files tell, as far as nothing failed outside.
     ensures { EndsAsDefined (record {
       words = map string_bytes words.now.items;
       told = F.told shelf.old;
@@ -46,8 +46,8 @@ pub fn op2<R: Threads + Sync, F: Shelf, O: Sink, E: Sink>(
     op2_gated(rt, alloc, words, shelf, out, err, &Open)
 }
 
-/// Does what [`op2`] does, with a gate that is told of each element that a group begins, on the thread that runs its kernel, by its
-/// number in the group.
+/// Does what [`op2`] does, with a gate that is told of each element that a group begins, on the thread that runs its
+/// kernel, by its number in the group.
 pub fn op2_gated<R: Threads + Sync, F: Shelf, O: Sink, E: Sink, G: Gate>(
     rt: &R,
     alloc: Global,

@@ -1,6 +1,7 @@
 //! Calls `op2` in memory as rows of tables say, and prints each row whose calls end in another way than it says.
 //!
-//! The words are the files of the tables, in TOML; README.md tells their fields. It ends with status 1 where a row differs.
+//! The words are the files of the tables, in TOML; README.md tells their fields. It ends with status 1 where a row
+//! differs.
 #![tactic(auto)]
 
 mod call;

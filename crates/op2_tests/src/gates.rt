@@ -156,8 +156,8 @@ fn gates_are_told_of_groups(rt: HostRuntime) -> Result<(), Fail> {
     Ok(())
 }
 
-// Holds the first element of a group until the one with the number `last` has entered, and that one until the first has; and
-// counts those of the two that saw the other.
+// Holds the first element of a group until the one with the number `last` has entered, and that one until the first
+// has; and counts those of the two that saw the other.
 #[derive(Drop)]
 struct Meeting {
     last: usize,
@@ -270,8 +270,8 @@ fn groups_behind_the_first_run_in_place(rt: HostRuntime) -> Result<(), Fail> {
     Ok(())
 }
 
-// On one rank with two workers: no group where a loop over many elements has a short kernel, and one round where it has a long one; the
-// output is that of one worker.
+// On one rank with two workers: no group where a loop over many elements has a short kernel, and one round where it has
+// a long one; the output is that of one worker.
 #[test]
 fn many_elements_come_in_no_groups(rt: HostRuntime) -> Result<(), Fail> {
     let alloc = rt.alloc();

@@ -1,5 +1,5 @@
-//! What a parallel loop lets its kernel do to an argument, and the operations by which its elements merge amounts into a cell
-//! in any order.
+//! What a parallel loop lets its kernel do to an argument, and the operations by which its elements merge amounts into
+//! a cell in any order.
 mod access;
 mod merge;
 

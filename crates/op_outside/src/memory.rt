@@ -52,8 +52,8 @@ impl Shelf for MemoryShelf {
 
     ghost lends = { λ _ _. Unit {0} };
 
-    /// Reads as the trait says. The call fails exactly where its number is among those that are to fail, and else the file is
-    /// missing exactly where none is held under the name.
+    /// Reads as the trait says. The call fails exactly where its number is among those that are to fail, and else the
+    /// file is missing exactly where none is held under the name.
     fn read_at(&mut self, name: &str, from: u64, into: &mut [u8]) -> Result<usize, ShelfFault>
         ensures told { Some (held self.new) ≡ Some (held self.old) }
         ensures lends { List ℕ → Unit {0} ↔ Unit {0} }
@@ -122,8 +122,8 @@ impl Sink for MemorySink {
 
     ghost faults = { λ sink. failed (sink_script sink) };
 
-    /// Writes as the trait says. It takes as many bytes of the piece as there is room for, and fails exactly where the call's
-    /// number is among those that are to fail, or where there is no room for a piece that isn't empty.
+    /// Writes as the trait says. It takes as many bytes of the piece as there is room for, and fails exactly where the
+    /// call's number is among those that are to fail, or where there is no room for a piece that isn't empty.
     fn write(&mut self, piece: &[u8]) -> Result<usize, Failed>
         ensures never_falls { failed (sink_script self.old) ≤ failed (sink_script self.new) }
         ensures calm { OnOk result (failed (sink_script self.new) ≡ failed (sink_script self.old)) }

@@ -116,7 +116,8 @@ impl<R: Files + Drop> Shelf for FileShelf<R> {
     }
 }
 
-// Reads on from an open file where it is the one asked for, else from one that is opened; and keeps it open up to its end.
+// Reads on from an open file where it is the one asked for, else from one that is opened; and keeps it open up to its
+// end.
 fn read_part<R: Files>(
     rt: &R,
     opened: Option<Opened<R::File>>,

@@ -1,7 +1,7 @@
 //! Sources whose loop calls are calls of stubs, and back.
 //!
-//! `translate` makes each call of a loop a call of its own stub, as OP2's translator does, and puts a table of the stubs
-//! behind the source. `restore` makes each call of a stub a call of `op_par_loop` again.
+//! `translate` makes each call of a loop a call of its own stub, as OP2's translator does, and puts a table of the
+//! stubs behind the source. `restore` makes each call of a stub a call of `op_par_loop` again.
 #![tactic(auto)]
 
 mod edits;

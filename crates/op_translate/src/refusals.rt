@@ -10,8 +10,8 @@ pub enum TransRefusal {
     /// The name here begins with `op_par_loop_`, as the names of stubs do. It comes in translating alone.
     #[error("name of a stub")]
     NameTaken { at: Pos },
-    /// The name here begins with `op_par_loop_`, but no `(` follows, or the rest of it is no name that a kernel can have.
-    /// It comes in restoring alone.
+    /// The name here begins with `op_par_loop_`, but no `(` follows, or the rest of it is no name that a kernel can
+    /// have. It comes in restoring alone.
     #[error("stub without a call")]
     NoCall { at: Pos },
     /// An `op_par_loop` stands here. It comes in restoring alone.

@@ -11,11 +11,11 @@ use crate::refusals::TransRefusal;
 use c_lex::{Kind, Token, Word, lex};
 use std::alloc::Global;
 
-/// The bytes with each call of a stub a call of `op_par_loop` again: from the name `op_par_loop_K` up to the `(` behind it
-/// stands `op_par_loop(K,`. A table of stubs stays, as the comments that it is. The bytes are to be fewer than 2 ^ 32 - 2, as
-/// for `lex`. `Lex` comes exactly where `lex` refuses the bytes; else the first token counts that is a name that begins with
-/// `op_par_loop_` but is no called stub of a name (`NoCall`), or is `op_par_loop` (`LoopLeft`). `OutOfMemory` comes only
-/// where memory runs out.
+/// The bytes with each call of a stub a call of `op_par_loop` again: from the name `op_par_loop_K` up to the `(` behind
+/// it stands `op_par_loop(K,`. A table of stubs stays, as the comments that it is. The bytes are to be fewer than 2 ^
+/// 32 - 2, as for `lex`. `Lex` comes exactly where `lex` refuses the bytes; else the first token counts that is a name
+/// that begins with `op_par_loop_` but is no called stub of a name (`NoCall`), or is `op_par_loop` (`LoopLeft`).
+/// `OutOfMemory` comes only where memory runs out.
 pub fn restore(alloc: Global, bytes: &[u8]) -> Result<Vec<u8>, TransRefusal>
     requires { length bytes.now + 2 < 2 ^ 32 }
     // What is answered is the restoration or its refusal,

@@ -17,10 +17,10 @@ use c_tree::Program;
 use op_num::OutOfMemory;
 use std::alloc::Global;
 
-/// The source whose tokens and tree these are, with each call of a loop a call of its own stub: from `op_par_loop` up to the
-/// comma behind the kernel K stands `op_par_loop_K(`. Behind it come a LF, unless the source ends with one, and the table of
-/// the stubs as comments (docs/LANGUAGE.md). `NameTaken` comes exactly where a name of the source begins with
-/// `op_par_loop_`, `OutOfMemory` only where memory runs out.
+/// The source whose tokens and tree these are, with each call of a loop a call of its own stub: from `op_par_loop` up
+/// to the comma behind the kernel K stands `op_par_loop_K(`. Behind it come a LF, unless the source ends with one, and
+/// the table of the stubs as comments (docs/LANGUAGE.md). `NameTaken` comes exactly where a name of the source begins
+/// with `op_par_loop_`, `OutOfMemory` only where memory runs out.
 pub fn translate(
     alloc: Global,
     bytes: &[u8],

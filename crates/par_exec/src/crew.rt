@@ -4,7 +4,8 @@ ghost use Rattle.std.specs.Prelude.{◌≡◌, ◌<◌};
 
 use std::alloc::Global;
 
-/// By whom a run is done: threads, an allocator, so many workers, at least 1, and a gate that is told of each job just before it runs.
+/// By whom a run is done: threads, an allocator, so many workers, at least 1, and a gate that is told of each job just
+/// before it runs.
 #[derive(Drop)]
 pub struct Crew<'a, R, G> {
     pub threads: &'a R,

@@ -26,9 +26,9 @@ pub trait PartJob<T>: Sync {
 
 /// Runs job i on part i, for each part of the list, and tells the gate of i just before; the parts are numbered from 0.
 ///
-/// With more than one worker and more than one part, the list is split into halves that run by fork and join, the workers shared
-/// out between them; a part has those to itself that are left for it. What is said of each part holds for every number of workers, at
-/// least 1, and every gate. Takes no memory.
+/// With more than one worker and more than one part, the list is split into halves that run by fork and join, the
+/// workers shared out between them; a part has those to itself that are left for it. What is said of each part holds
+/// for every number of workers, at least 1, and every gate. Takes no memory.
 pub fn run_parts<R: Threads + Sync, T: Send, J: PartJob<T>, G: Gate>(
     threads: &R,
     workers: u32,

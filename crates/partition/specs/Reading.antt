@@ -8,7 +8,8 @@ use Rattle.texts.specs.Automaton
 use Rattle.texts.specs.Automaton.{onto, RefusesAmong}
 use Rattle.mesh_decl.specs.Mesh.{MeshValue, set_count, set_size, set_name}
 use Rattle.partition.specs.declared.part_text.refusals.PartRefusal.{PartRefusal}
-use Rattle.partition.specs.declared.part_text.refusals.PartRefusal.TheVariants.{Header, Syntax, UnknownSet, MissingSet, WrongCount, RankRange}
+use Rattle.partition.specs.declared.part_text.refusals.PartRefusal.TheVariants.{Header, Syntax, UnknownSet, MissingSet, WrongCount}
+use Rattle.partition.specs.declared.part_text.refusals.PartRefusal.TheVariants.{RankRange}
 use Rattle.partition.specs.declared.part_text.token.Keyword.{Keyword}
 use Rattle.partition.specs.declared.part_text.token.Keyword.TheVariants as keyword
 use Rattle.partition.specs.Token.{is_magic, is_version, keyword_of}

@@ -48,8 +48,8 @@ fn clear_ranks(votes: &mut [u64], list: &[u32])
     }
 }
 
-/// The rank most frequent in a list of numbers below `ranks`; of several the lowest. `votes` has a 0 for each rank, before and
-/// after. It takes time linear in the list.
+/// The rank most frequent in a list of numbers below `ranks`; of several the lowest. `votes` has a 0 for each rank,
+/// before and after. It takes time linear in the list.
 pub fn most_frequent(votes: &mut [u64], list: &[u32], ranks: u32) -> u32
     requires some { 0 < ranks }
     requires room { ranks ≤ length votes.old }
@@ -68,8 +68,8 @@ pub fn most_frequent(votes: &mut [u64], list: &[u32], ranks: u32) -> u32
     rank
 }
 
-/// The rank most frequent in a list, or where it is empty the one in whose block an element lies. `votes` has a 0 for each
-/// rank, before and after; there are 1 to 64 ranks, and the element is below `size`.
+/// The rank most frequent in a list, or where it is empty the one in whose block an element lies. `votes` has a 0 for
+/// each rank, before and after; there are 1 to 64 ranks, and the element is below `size`.
 pub fn most_frequent_or_block(
     votes: &mut [u64],
     list: &[u32],

@@ -31,8 +31,8 @@ fn entry_fits(size: u32, ranks: u32, entry: &Option<Vec<u32>>) -> bool
     }
 }
 
-/// Whether `derive` takes these lists for `ranks` ranks: there is an entry for each set of the mesh, and each list has a
-/// rank below `ranks` for each element of its set.
+/// Whether `derive` takes these lists for `ranks` ranks: there is an entry for each set of the mesh, and each list has
+/// a rank below `ranks` for each element of its set.
 pub fn given_fits(mesh: &Mesh, ranks: u32, given: &[Option<Vec<u32>>]) -> bool
     ensures { IsTrue result ↔ AreGiven mesh.now ranks given.now }
 {

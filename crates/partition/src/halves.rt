@@ -51,7 +51,8 @@ fn cut(
     Ok(())
 }
 
-// Gives different elements to `many` ranks from `low` on, by halves. The elements are moved, and what is in `keys` is lost.
+// Gives different elements to `many` ranks from `low` on, by halves. The elements are moved, and what is in `keys` is
+// lost.
 fn halve(
     keys: &mut Vec<u64>,
     owners: &mut [u32],

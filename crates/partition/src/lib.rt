@@ -53,8 +53,8 @@ pub fn block(alloc: Global, mesh: &Mesh, ranks: u32) -> Result<Owners, OutOfMemo
 /// Gives owners to all sets from those of some. `given` has an entry for each set: a list with a rank below `ranks`, of
 /// which there are 1 to 64, for each element, or none. The given lists stay. Until every set has owners:
 ///
-/// 1. the first set without owners from which some map leads to a set with owners takes the first such map; each element
-///    gets the rank most frequent among its targets;
+/// 1. the first set without owners from which some map leads to a set with owners takes the first such map; each
+///    element gets the rank most frequent among its targets;
 /// 2. where there is no such set, the first set without owners to which some map leads from a set with owners takes the
 ///    first such map; each element gets the rank most frequent among the entries that name it, counted by the owners of
 ///    their elements; an element that isn't named gets its rank as by `block`;
@@ -79,14 +79,14 @@ pub fn derive(
     derive_rest(alloc, mesh, ranks, sets, known)
 }
 
-/// Gives the set to which the map numbered `map` leads to the ranks by growth over its neighbours, and derives owners of
-/// the other sets from it, as `derive` does. Two different elements are neighbours where one element has both as targets.
-/// Each rank in turn takes as many elements as by `block`. It begins with the least element that no rank has; then it
-/// takes, breadth first, the neighbours of its elements that no rank has, those of one element by number; where none is
-/// left, it goes on with the least element that no rank has.
+/// Gives the set to which the map numbered `map` leads to the ranks by growth over its neighbours, and derives owners
+/// of the other sets from it, as `derive` does. Two different elements are neighbours where one element has both as
+/// targets. Each rank in turn takes as many elements as by `block`. It begins with the least element that no rank has;
+/// then it takes, breadth first, the neighbours of its elements that no rank has, those of one element by number; where
+/// none is left, it goes on with the least element that no rank has.
 ///
-/// There are 1 to 64 ranks. It takes time linear in the elements and n log n in the pairs of targets of one element, and
-/// fails only for want of memory.
+/// There are 1 to 64 ranks. It takes time linear in the elements and n log n in the pairs of targets of one element,
+/// and fails only for want of memory.
 pub fn grow(alloc: Global, mesh: &Mesh, ranks: u32, map: u32) -> Result<Owners, OutOfMemory>
     requires some { 0 < ranks }
     requires few { ranks ≤ 64 }
@@ -102,14 +102,15 @@ pub fn grow(alloc: Global, mesh: &Mesh, ranks: u32, map: u32) -> Result<Owners, 
     derive_from(alloc, mesh, ranks, to, owners)
 }
 
-/// Gives the elements of the set of a dat to the ranks by the values of the dat, and derives the owners of the other sets
-/// from these as `derive` does. `dat` is the number of a dat of the mesh. There are 1 to 64 ranks.
+/// Gives the elements of the set of a dat to the ranks by the values of the dat, and derives the owners of the other
+/// sets from these as `derive` does. `dat` is the number of a dat of the mesh. There are 1 to 64 ranks.
 ///
 /// All elements are shared among all ranks. A list that several ranks share is cut in two: along the component with the
-/// largest difference of the greatest and the least value in the list, of several the lowest, the elements are ordered by
-/// (value, number); the lower half of the ranks, rounded down, shares the first of them, and the upper half the others. A
-/// list of one rank is given to it. Of n elements rank i gets as many as by `block`. For the set of the dat it takes time
-/// n log n, and n for each component, in each of at most 6 rounds of cuts; it fails only for want of memory.
+/// largest difference of the greatest and the least value in the list, of several the lowest, the elements are ordered
+/// by (value, number); the lower half of the ranks, rounded down, shares the first of them, and the upper half the
+/// others. A list of one rank is given to it. Of n elements rank i gets as many as by `block`. For the set of the dat
+/// it takes time n log n, and n for each component, in each of at most 6 rounds of cuts; it fails only for want of
+/// memory.
 pub fn bisect(alloc: Global, mesh: &Mesh, ranks: u32, dat: u32) -> Result<Owners, OutOfMemory>
     requires some { 0 < ranks }
     requires few { ranks ≤ 64 }

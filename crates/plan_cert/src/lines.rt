@@ -58,7 +58,8 @@ fn put_sizes_front(text: &mut Vec<u8>, ranks: u32) -> Result<(), OutOfMemory>
     Ok(())
 }
 
-/// Takes the second line, which tells how many ranks there are, and gives its block size; `Ranks` where another stands there.
+/// Takes the second line, which tells how many ranks there are, and gives its block size; `Ranks` where another stands
+/// there.
 pub fn take_sizes(alloc: Global, lines: &mut Lines, ranks: u32) -> Result<u32, CertRefusal>
     ensures some { IfOk result (λ size. (0 < size) × (size ≤ 65536)) }
     ensures judged { (b : BoundValue) (meshes : List RankMeshValue) → length meshes ≡ ranks → MatchResult result

@@ -21,9 +21,7 @@ use bound_program::Bound;
 use colouring::block_plan::count;
 use colouring::{Clash, Colours, IncArg, find_clash};
 use local_mesh::RankMesh;
-use loop_plan::{
-    SitePlan, SitePlans, args_of, places_by_rank, reducing_args, running_loops,
-};
+use loop_plan::{SitePlan, SitePlans, args_of, places_by_rank, reducing_args, running_loops};
 use op_num::{OutOfMemory, put_u64};
 use std::alloc::Global;
 use texts::line_texts::Lines;

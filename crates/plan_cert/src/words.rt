@@ -50,7 +50,8 @@ fn is_next(words: &mut Words, word: &[u8]) -> bool
     }
 }
 
-/// What a line tells behind `front`: the colours of so many blocks, `inner`, and those of so many places; none where it is another.
+/// What a line tells behind `front`: the colours of so many blocks, `inner`, and those of so many places; none where it
+/// is another.
 pub fn told_line(
     alloc: Global,
     line: &[u8],

@@ -58,7 +58,8 @@ impl Fields {
         self.push(text)
     }
 
-    /// Appends the line of these fields: with single spaces where `plain` is set, and else in columns. An error is want of memory.
+    /// Appends the line of these fields: with single spaces where `plain` is set, and else in columns. An error is want
+    /// of memory.
     pub fn put_row(&self, out: &mut Vec<u8>, plain: bool) -> Result<(), OutOfMemory>
         ensures { OnOk result (out.new.items ≡ out.old.items ++ row_text plain self.now) }
     {

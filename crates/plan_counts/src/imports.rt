@@ -49,8 +49,8 @@ fn imports_within(
     Ok(rows)
 }
 
-/// By set, sender and receiver, how many elements of the set the receiver imports that the sender owns. It takes time linear in what the
-/// ranks import, for each sender. An error is want of memory.
+/// By set, sender and receiver, how many elements of the set the receiver imports that the sender owns. It takes time
+/// linear in what the ranks import, for each sender. An error is want of memory.
 pub fn all_imports(
     alloc: Global,
     mesh: &Mesh,

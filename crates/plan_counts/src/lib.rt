@@ -1,6 +1,7 @@
 //! How large a plan is, loop by loop: runs, messages and their cells, elements, blocks and colours.
 //!
-//! `specs/Counts.antt` says what each number counts, and `specs/Table.antt` how they are written; `write_counts` writes exactly that.
+//! `specs/Counts.antt` says what each number counts, and `specs/Table.antt` how they are written; `write_counts` writes
+//! exactly that.
 #![tactic(auto)]
 
 mod fields;

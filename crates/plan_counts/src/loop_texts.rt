@@ -99,8 +99,8 @@ fn arg_text(alloc: Global, mesh: &Mesh, number: u64, arg: Arg) -> Result<Vec<u8>
     Ok(text)
 }
 
-/// The first argument that makes a loop with these Ordered, by its number from 1 and its dat; a dash where none does. It takes quadratic
-/// time in the arguments.
+/// The first argument that makes a loop with these Ordered, by its number from 1 and its dat; a dash where none does.
+/// It takes quadratic time in the arguments.
 pub fn blamed(alloc: Global, mesh: &Mesh, args: &[Arg]) -> Result<Vec<u8>, OutOfMemory>
     requires { AreOfDats (dat_count mesh.now) args.now }
     ensures { IfOk result (λ v. v.items ≡ blamed mesh.now args.now 1 args.now) }

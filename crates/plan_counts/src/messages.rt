@@ -76,8 +76,8 @@ fn message_cells(
     Ok(total)
 }
 
-/// The cells of all messages of an item, whose dats are there, by the table of what ranks import. It takes time linear in the messages, for
-/// each dat. An error is want of memory, where 64 bits can't count them.
+/// The cells of all messages of an item, whose dats are there, by the table of what ranks import. It takes time linear
+/// in the messages, for each dat. An error is want of memory, where 64 bits can't count them.
 pub fn sent_by(mesh: &Mesh, imports: &[Vec<Vec<u64>>], item: &ItemPlan) -> Result<u64, OutOfMemory>
     requires { (k : ℕ) → k < length item.now.exchange.items → slice_index item.now.exchange.items k < dat_count mesh.now }
     ensures { IfOk result (λ n. n ≡ sent_by mesh.now imports.now (item_plan_of item.now)) }

@@ -170,11 +170,11 @@ fn put_legend(out: &mut Vec<u8>, plain: bool) -> Result<(), OutOfMemory>
     out.extend_from_slice(LEGEND.as_bytes())
 }
 
-/// The counts of a plan as a text: a line for each loop, in the order of the text, and one of sums. Where `plain` is set the fields stand
-/// between single spaces, for scripts; else they stand in columns, with a head and a legend.
+/// The counts of a plan as a text: a line for each loop, in the order of the text, and one of sums. Where `plain` is
+/// set the fields stand between single spaces, for scripts; else they stand in columns, with a head and a legend.
 ///
-/// It takes time linear in the plan and in what ranks import, for each rank, and quadratic in the arguments of a loop. An error is want of
-/// memory, also where 32 bits can't number the loops, or 64 bits can't count.
+/// It takes time linear in the plan and in what ranks import, for each rank, and quadratic in the arguments of a loop.
+/// An error is want of memory, also where 32 bits can't number the loops, or 64 bits can't count.
 pub fn write_counts(
     alloc: Global,
     bound: &Bound,

@@ -120,8 +120,8 @@ fn count_item(
     }
 }
 
-/// By loop, what its items do. It takes time linear in the items with their exchanges and messages, and in what ranks import, for each
-/// rank. An error is want of memory, also where 64 bits can't count.
+/// By loop, what its items do. It takes time linear in the items with their exchanges and messages, and in what ranks
+/// import, for each rank. An error is want of memory, also where 64 bits can't count.
 pub fn tallies_of(
     alloc: Global,
     bound: &Bound,

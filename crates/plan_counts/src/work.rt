@@ -50,8 +50,8 @@ fn number_of_colours(colours: &[u32]) -> u64
     most
 }
 
-/// How many times the mean of all ranks the one with most places has, in hundredths, rounded down; 100 where none has any. An error is want
-/// of memory, where 64 bits can't count.
+/// How many times the mean of all ranks the one with most places has, in hundredths, rounded down; 100 where none has
+/// any. An error is want of memory, where 64 bits can't count.
 pub fn imbalance_of(places: &[u32]) -> Result<u64, OutOfMemory>
     ensures { IfOk result (λ n. n ≡ imbalance_of places.now) }
 {
@@ -63,7 +63,8 @@ pub fn imbalance_of(places: &[u32]) -> Result<u64, OutOfMemory>
     Ok(product_of(shares, 100)? / total)
 }
 
-/// How many places the ranks execute beyond those elements that they own. An error is want of memory, where 64 bits can't count them.
+/// How many places the ranks execute beyond those elements that they own. An error is want of memory, where 64 bits
+/// can't count them.
 pub fn repeated_of(places: &[u32], owned: u64) -> Result<u64, OutOfMemory>
     ensures { IfOk result (λ n. n ≡ sum places.now - owned) }
 {

@@ -19,7 +19,8 @@ use rank_machine::machine::Machine;
 use rank_machine::steps::read_constants;
 use rank_program::{DistributedProgram, Room};
 
-/// Begins of one item and rank, each followed at once by its own end. The constants are read once: no element changes a variable.
+/// Begins of one item and rank, each followed at once by its own end. The constants are read once: no element changes a
+/// variable.
 pub fn run_places(
     machine: &mut Machine,
     program: &DistributedProgram<'_>,
@@ -46,7 +47,8 @@ pub fn run_places(
     machine.in_place(program, item, rank, places, room);
 }
 
-/// The steps that come next, as long as the stream tells that they are of elements that begin and end one after another.
+/// The steps that come next, as long as the stream tells that they are of elements that begin and end one after
+/// another.
 pub fn run_alone<S: Steps>(
     machine: &mut Machine,
     program: &DistributedProgram<'_>,

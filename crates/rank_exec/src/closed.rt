@@ -77,8 +77,8 @@ fn ends_short(program: &DistributedProgram<'_>, step: Step, workers: u32) -> boo
     }
 }
 
-/// The closed groups that come behind a step, as long as the stream tells them, where the step is the end of an element that isn't
-/// worth the `workers`. One whose kernel is worth them is the last. Behind any other step nothing is done.
+/// The closed groups that come behind a step, as long as the stream tells them, where the step is the end of an element
+/// that isn't worth the `workers`. One whose kernel is worth them is the last. Behind any other step nothing is done.
 pub fn run_closed<S: Steps>(
     machine: &mut Machine,
     program: &DistributedProgram<'_>,

@@ -122,13 +122,14 @@ fn run<R: Threads + Sync, G: Gate, S: Steps>(
 /// The steps of an accepted list: the stop and the output are those of the sequential run. Where no step stops, the
 /// machine's lists, its memories among them, show where the machine on flat buffers ends.
 ///
-/// A run of begins is done in groups by the workers of `crew`, and its gate is told of each begin of a group; a begin that its
-/// own end follows is done in place. So are closed groups that the stream tells behind a step: with several workers and ranks
-/// in rounds, of which the gate is told of each rank, else where their kernel is short. The answer is the same for every crew.
-/// `room` is what [`RunRoom::new`] gives; memory is wanted for what joins print, and for the places of rounds.
+/// A run of begins is done in groups by the workers of `crew`, and its gate is told of each begin of a group; a begin
+/// that its own end follows is done in place. So are closed groups that the stream tells behind a step: with several
+/// workers and ranks in rounds, of which the gate is told of each rank, else where their kernel is short. The answer is
+/// the same for every crew. `room` is what [`RunRoom::new`] gives; memory is wanted for what joins print, and for the
+/// places of rounds.
 ///
-/// However it ends, by the last step, by a stop or for want of memory, what `steps` still holds is a suffix of what it held:
-/// steps are taken from the front, and none is put back.
+/// However it ends, by the last step, by a stop or for want of memory, what `steps` still holds is a suffix of what it
+/// held: steps are taken from the front, and none is put back.
 ///
 /// # Errors
 /// Want of memory alone.

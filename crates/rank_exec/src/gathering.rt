@@ -26,8 +26,9 @@ fn behind(next: Option<Told>, last: Told, ranks: usize) -> Option<Told>
     None
 }
 
-/// Puts the places of elements that were told into the list of their rank, and with them those of the elements of their item that are
-/// told next, as long as ranks don't go down. Answers what was told behind them, whose places stand in `places`.
+/// Puts the places of elements that were told into the list of their rank, and with them those of the elements of their
+/// item that are told next, as long as ranks don't go down. Answers what was told behind them, whose places stand in
+/// `places`.
 ///
 /// # Errors
 /// Want of memory alone.

@@ -60,8 +60,8 @@ fn run_in_front<R: Threads + Sync, G: Gate>(
     run_tasks(crew, job, &mut staging[..job.tasks.len() * window], window);
 }
 
-// Runs the kernel of the loop that is the group's item once for each task, on the first cells of the task's window. Behind them
-// stands a 0 then, or a 1 where the run had a fault.
+// Runs the kernel of the loop that is the group's item once for each task, on the first cells of the task's window.
+// Behind them stands a 0 then, or a 1 where the run had a fault.
 fn run_all<R: Threads + Sync, G: Gate>(
     crew: &Crew<'_, R, G>,
     program: &DistributedProgram<'_>,
@@ -99,8 +99,8 @@ fn run_all<R: Threads + Sync, G: Gate>(
     run_in_front(&crew, &job, &mut buffers.staging, buffers.window);
 }
 
-/// The begins of a group, in their order. Their kernels run first, by the workers of `crew`, and its gate is told of each run
-/// just before, by the begin's number in the group, from 0 on. `buffers` are room for as many begins or more.
+/// The begins of a group, in their order. Their kernels run first, by the workers of `crew`, and its gate is told of
+/// each run just before, by the begin's number in the group, from 0 on. `buffers` are room for as many begins or more.
 pub fn begin_group<R: Threads + Sync, G: Gate>(
     crew: &Crew<'_, R, G>,
     machine: &mut Machine,
@@ -156,8 +156,8 @@ fn begin_in(step: Option<Step>, item: u32, rank: u32) -> Option<u32>
     }
 }
 
-// Adds the places of the begins of the item and rank that come next, while a group has room for them, and answers the step
-// after them.
+// Adds the places of the begins of the item and rank that come next, while a group has room for them, and answers the
+// step after them.
 fn collect<S: Steps>(steps: &mut S, item: u32, rank: u32, places: &mut Vec<u32>) -> Option<Step>
     requires space { most_begins ≤ vec_capacity places.old }
     requires few { length places.old.items ≤ most_begins }
@@ -197,7 +197,8 @@ fn is_end(step: Option<Step>, item: u32, rank: u32, place: u32) -> bool
 }
 
 /// A begin and those of its item and rank that come next, as one group; a begin that its own end
-/// follows, in place, and with it those of which the stream tells that they come behind it. Answers the step after them.
+/// follows, in place, and with it those of which the stream tells that they come behind it. Answers the step after
+/// them.
 ///
 /// # Errors
 /// Want of memory alone.

@@ -6,8 +6,8 @@ ghost use Rattle.rank_exec.specs.Tasks.{HasGroupRoom};
 use rank_program::{Targets, Task};
 use std::alloc::{AllocError, Global};
 
-/// Room for a group: for its tasks and their targets, and a buffer of windows of `window` cells. What stands there means
-/// nothing between two groups.
+/// Room for a group: for its tasks and their targets, and a buffer of windows of `window` cells. What stands there
+/// means nothing between two groups.
 #[derive(Drop)]
 pub struct GroupRoom {
     pub tasks: Vec<Task>,

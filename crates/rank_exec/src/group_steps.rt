@@ -1,5 +1,5 @@
-// The begins of a group in three phases: windows are gathered, kernels run on them, and frames are opened with what these
-// leave.
+// The begins of a group in three phases: windows are gathered, kernels run on them, and frames are opened with what
+// these leave.
 
 ghost use Rattle.std.specs.Prelude.{◌≡◌, ◌<◌, ◌≤◌, ◌+◌, ℕ, pos, true, length, get_or};
 ghost use Rattle.kernel_types.specs.declared.faults.KernelFault.{KernelFault};

@@ -8,8 +8,8 @@ ghost use Rattle.rank_program.specs.AloneRuns.{Share};
 ghost use Rattle.rank_state.specs.Machine.{State};
 ghost use Rattle.rank_exec.specs.Rounds.{RanksComeInTurn, SharesAreSet};
 
-/// A law: where the elements of an item ran on each rank by itself, whatever happened on the others, they were begun and ended rank after
-/// rank, and their faults are put together in that order.
+/// A law: where the elements of an item ran on each rank by itself, whatever happened on the others, they were begun
+/// and ended rank after rank, and their faults are put together in that order.
 pub fn ranks_come_in_turn<F>()
     ensures { (p : Setup F) (l : Layout F) (t : Tables) → RanksComeInTurn p l t }
 {

@@ -18,9 +18,10 @@ pub struct RoundRoom {
     pub parts: Vec<RankPart>,
 }
 
-// What the batches of a rank that run at once take at most, in bytes: 8 MiB. A batch takes 256 for each of its columns, those of numbers
-// and slots among them: 16 KiB where a loop and its kernel have 64, of which 512 run at once, and 68 KiB where they have as many as any that
-// runs in batches, of which 120 do. Each time that batches have run, threads end and start anew for the next.
+// What the batches of a rank that run at once take at most, in bytes: 8 MiB. A batch takes 256 for each of its columns,
+// those of numbers and slots among them: 16 KiB where a loop and its kernel have 64, of which 512 run at once, and 68
+// KiB where they have as many as any that runs in batches, of which 120 do. Each time that batches have run, threads
+// end and start anew for the next.
 const BATCH_BYTES: usize = 8 << 20;
 
 // How many slots the kernels have at most whose elements may run in batches.

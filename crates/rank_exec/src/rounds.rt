@@ -1,4 +1,5 @@
-// Rounds: the elements of an item on all ranks, of which each rank's run one after another, and the ranks are shared out among workers.
+// Rounds: the elements of an item on all ranks, of which each rank's run one after another, and the ranks are shared
+// out among workers.
 
 ghost use Rattle.std.specs.Prelude.{◌≡◌, ◌<◌, ◌++◌, ◌^◌, ℕ, true, List, All, IfOk, IfSome, OnOk, length};
 ghost use Rattle.kernel_types.specs.declared.faults.KernelFault.{KernelFault};
@@ -80,8 +81,8 @@ fn run_round<R: Threads + Sync, G: Gate>(
     machine.on_ranks(&crew, program, item, lists, parts);
 }
 
-// Elements that were told, with those of their item that are told next on their rank and the ranks behind it, as a round. Answers what
-// was told behind them, whose places stand in the room. An error is want of memory.
+// Elements that were told, with those of their item that are told next on their rank and the ranks behind it, as a
+// round. Answers what was told behind them, whose places stand in the room. An error is want of memory.
 fn run_told_round<R: Threads + Sync, G: Gate, S: Steps>(
     crew: &Crew<'_, R, G>,
     machine: &mut Machine,
@@ -130,8 +131,8 @@ fn run_told_round<R: Threads + Sync, G: Gate, S: Steps>(
     Ok(next)
 }
 
-// The elements that come next, as long as the stream tells them, as rounds. Those of an item that comes in none are run by themselves,
-// and are the last. An error is want of memory.
+// The elements that come next, as long as the stream tells them, as rounds. Those of an item that comes in none are run
+// by themselves, and are the last. An error is want of memory.
 fn run_rounds<R: Threads + Sync, G: Gate, S: Steps>(
     crew: &Crew<'_, R, G>,
     machine: &mut Machine,
@@ -188,9 +189,9 @@ fn rounds_may_come(
         && may_come_in_rounds(program, before, workers)
 }
 
-/// The elements that come behind a step, as long as the stream tells them: as rounds where several workers run the program, else closed
-/// groups one after another, as short ones do on one rank. Nothing is done behind the step of an item whose elements are better run in
-/// groups.
+/// The elements that come behind a step, as long as the stream tells them: as rounds where several workers run the
+/// program, else closed groups one after another, as short ones do on one rank. Nothing is done behind the step of an
+/// item whose elements are better run in groups.
 ///
 /// # Errors
 /// Want of memory alone.
@@ -220,8 +221,8 @@ pub fn run_behind<R: Threads + Sync, G: Gate, S: Steps>(
     Ok(())
 }
 
-/// The elements that come behind an element's end, which came behind its begin, as long as the stream tells them: as rounds where several
-/// workers run the program, else such as begin and end one after another.
+/// The elements that come behind an element's end, which came behind its begin, as long as the stream tells them: as
+/// rounds where several workers run the program, else such as begin and end one after another.
 ///
 /// # Errors
 /// Want of memory alone.

@@ -12,7 +12,8 @@ use std::alloc::{AllocError, Global};
 /// How many begins are done as one group at most.
 pub const MOST_BEGINS: usize = 1024;
 
-/// The room for a list of steps: that for a step, a list for the places of a group, that for the group, and that for rounds.
+/// The room for a list of steps: that for a step, a list for the places of a group, that for the group, and that for
+/// rounds.
 #[derive(Drop)]
 pub struct RunRoom {
     pub step: Room,
@@ -22,7 +23,8 @@ pub struct RunRoom {
 }
 
 impl RunRoom {
-    /// As much room as any list of steps needs, whatever its length. Where one worker runs the program, there is none for rounds.
+    /// As much room as any list of steps needs, whatever its length. Where one worker runs the program, there is none
+    /// for rounds.
     pub fn new(
         alloc: Global,
         program: &DistributedProgram<'_>,

@@ -49,8 +49,8 @@ fn with_dump(
     Ok(out)
 }
 
-// What a run puts out that left the machine so: where nothing stopped it, with the dump if it is asked for. An error is want
-// of memory.
+// What a run puts out that left the machine so: where nothing stopped it, with the dump if it is asked for. An error is
+// want of memory.
 fn outcome_of(
     program: &DistributedProgram<'_>,
     machine: Machine,
@@ -67,13 +67,13 @@ fn outcome_of(
     Ok(Outcome { out, stop })
 }
 
-/// Runs a distributed program by steps that its plan accepts, with room for the peak of these steps, where the loops' kernels obey
-/// their modes and the program begins with numbers of 32 bits: the printed bytes and the first fault are those of running each
-/// loop one element after another in its set's original order. Where `dumps` and no fault stops the run, a dump of what the
-/// ranks hold after these steps stands behind the printed bytes.
+/// Runs a distributed program by steps that its plan accepts, with room for the peak of these steps, where the loops'
+/// kernels obey their modes and the program begins with numbers of 32 bits: the printed bytes and the first fault are
+/// those of running each loop one element after another in its set's original order. Where `dumps` and no fault stops
+/// the run, a dump of what the ranks hold after these steps stands behind the printed bytes.
 ///
-/// Begins that come one after another are done in groups by the workers of `crew`, or on all ranks at once; its gate is told of
-/// each begin of a group, or of each rank, just before it. The answer is the same for every crew.
+/// Begins that come one after another are done in groups by the workers of `crew`, or on all ranks at once; its gate is
+/// told of each begin of a group, or of each rank, just before it. The answer is the same for every crew.
 ///
 /// # Errors
 /// Want of memory alone.

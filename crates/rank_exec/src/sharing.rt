@@ -13,7 +13,8 @@ const WORTH_THREADS: usize = 16384;
 // As many elements as a group has that threads are tried for.
 const FULL_GROUP: usize = 64;
 
-// About how many operations a part of a kernel's code has, with those of its longer branch, and of a body as often as it is run.
+// About how many operations a part of a kernel's code has, with those of its longer branch, and of a body as often as
+// it is run.
 fn operations(part: &Part) -> usize {
     match part {
         Part::Straight(ops) => ops.len(),
@@ -35,8 +36,8 @@ fn operations(part: &Part) -> usize {
     }
 }
 
-/// How many of the `workers` run a group's kernels: all of them where these have many operations together, and for a group that
-/// begins with its rank's first place, as a loop of one group does; else one.
+/// How many of the `workers` run a group's kernels: all of them where these have many operations together, and for a
+/// group that begins with its rank's first place, as a loop of one group does; else one.
 pub fn workers_for(job: &KernelJob<'_>, place: u32, workers: u32) -> u32
     requires { 0 < workers }
     ensures { 0 < result }
@@ -61,8 +62,8 @@ fn operations_in(program: &DistributedProgram<'_>, item: u32) -> usize {
     operations(&code.part)
 }
 
-/// Whether elements with a kernel that obeys its modes are better begun in groups by so many `workers` on so many `ranks`: it isn't short,
-/// doesn't run in batches, and there are more workers than ranks.
+/// Whether elements with a kernel that obeys its modes are better begun in groups by so many `workers` on so many
+/// `ranks`: it isn't short, doesn't run in batches, and there are more workers than ranks.
 pub fn needs_groups(code: &Code<'_>, ranks: u32, workers: u32) -> bool {
     workers > ranks
         && operations(&code.part).saturating_mul(FULL_GROUP) >= WORTH_THREADS
@@ -74,8 +75,9 @@ pub fn is_short(program: &DistributedProgram<'_>, item: u32) -> bool {
     operations_in(program, item).saturating_mul(FULL_GROUP) < WORTH_THREADS
 }
 
-/// Whether the elements of a Free item come in rounds, where each rank's run in place: there are as many ranks as `workers` at least, or
-/// their kernel is short and there are several ranks, or it isn't and they run in batches, which several workers share out on a rank.
+/// Whether the elements of a Free item come in rounds, where each rank's run in place: there are as many ranks as
+/// `workers` at least, or their kernel is short and there are several ranks, or it isn't and they run in batches, which
+/// several workers share out on a rank.
 pub fn come_in_rounds(program: &DistributedProgram<'_>, item: u32, workers: u32) -> bool {
     let ranks = program.owners.ranks;
     if workers <= ranks {
@@ -98,8 +100,8 @@ pub fn may_come_in_rounds(program: &DistributedProgram<'_>, before: Step, worker
     }
 }
 
-/// How many of the `workers` run a round with these places by rank: all of them where its kernels have many operations together, else
-/// one.
+/// How many of the `workers` run a round with these places by rank: all of them where its kernels have many operations
+/// together, else one.
 pub fn workers_for_round(
     program: &DistributedProgram<'_>,
     item: u32,

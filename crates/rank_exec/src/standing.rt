@@ -24,8 +24,8 @@ fn joined(cells: Owned, next: Owned) -> Option<Owned>
     })
 }
 
-/// The cells of a dat, where they stand one after another on one rank, in the order of the dat's elements. It takes time linear in
-/// these, and no memory.
+/// The cells of a dat, where they stand one after another on one rank, in the order of the dat's elements. It takes
+/// time linear in these, and no memory.
 pub fn standing_cells(program: &DistributedProgram<'_>, dat: u32) -> Option<Owned>
     requires sound { Sound program.now }
     requires dat { dat < dat_count (program_in program.now).mesh }

@@ -17,8 +17,8 @@ pub(crate) fn next_of<S: Steps>(steps: &mut S) -> Option<Step>
     steps.next_step()
 }
 
-// Elements of an item on a rank that a stream tells to come next: where they are `alone`, each begins and ends before the next begins;
-// else they are a closed group.
+// Elements of an item on a rank that a stream tells to come next: where they are `alone`, each begins and ends before
+// the next begins; else they are a closed group.
 #[derive(Clone, Copy, PartialEq, Eq, Debug)]
 pub(crate) struct Told {
     pub item: u32,
@@ -37,7 +37,8 @@ pub(crate) fn next_closed_of<S: Steps>(steps: &mut S, places: &mut Vec<u32>) -> 
     steps.next_closed(places)
 }
 
-// The elements that are told to come next, whose steps are taken and whose places are put down; `None` where none are told.
+// The elements that are told to come next, whose steps are taken and whose places are put down; `None` where none are
+// told.
 pub(crate) fn next_told<S: Steps>(steps: &mut S, places: &mut Vec<u32>) -> Option<Told>
     requires empty { places.old.items ≡ [] }
     ensures some { IfSome result (λ of. S.left steps.old ≡ elements of.alone of.item of.rank places.new.items ++ S.left steps.new) }

@@ -76,8 +76,8 @@ fn push_window(
 }
 
 /// Puts down where the windows on dats of a loop's element stand in the buffer of a rank, whose local mesh is `part`.
-/// `args` are the loop's arguments, `writes` says of each whether the loop modifies its dat, and `place` is the element's
-/// number on the rank. `spans` is lent empty, with room for as many as there are arguments. Takes no memory.
+/// `args` are the loop's arguments, `writes` says of each whether the loop modifies its dat, and `place` is the
+/// element's number on the rank. `spans` is lent empty, with room for as many as there are arguments. Takes no memory.
 pub fn push_local_windows(
     mesh: &Mesh,
     part: &RankMesh,

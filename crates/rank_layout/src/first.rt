@@ -49,8 +49,8 @@ fn values_from(values: &[i32], dim: usize, first: usize, count: usize) -> &[i32]
     &values[begin..end]
 }
 
-// Puts down the values of the elements, each of which has `dim` of them; those of elements that follow one another stand together.
-// An error is want of memory.
+// Puts down the values of the elements, each of which has `dim` of them; those of elements that follow one another
+// stand together. An error is want of memory.
 fn push_elements(
     values: &[i32],
     dim: usize,
@@ -103,8 +103,8 @@ fn rank_cells(
     Ok(cells)
 }
 
-/// The cells of each rank before the first step: in every copy its element's values in the mesh. Behind them there is spare
-/// capacity for so many more cells.
+/// The cells of each rank before the first step: in every copy its element's values in the mesh. Behind them there is
+/// spare capacity for so many more cells.
 ///
 /// # Errors
 /// Want of memory alone.

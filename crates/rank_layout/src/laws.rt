@@ -6,8 +6,8 @@ ghost use Rattle.rank_layout.specs.First.{FirstCellsStand, MeshesAreClosed};
 use crate::laws_owned::frames_fit;
 use crate::scalars_stand;
 
-/// A law: the spans of a message by local numbers are where its cells stand on its sender and on its receiver, and at the
-/// receiver each of them arrives.
+/// A law: the spans of a message by local numbers are where its cells stand on its sender and on its receiver, and at
+/// the receiver each of them arrives.
 pub fn messages_stand()
     ensures exports { ExportsStand }
     ensures imports { ImportsStand }
@@ -19,7 +19,8 @@ pub fn messages_stand()
 }
 
 /// A law: the spans of the arguments on dats by local numbers, each once, are where the windows on dats of an element
-/// stand on a rank that executes it. All of them are within the rank's buffer, and have the cells that the element reaches.
+/// stand on a rank that executes it. All of them are within the rank's buffer, and have the cells that the element
+/// reaches.
 pub fn windows_stand()
     ensures stand { DatWindowsStand }
     ensures here { ArgsAreHere }
@@ -40,8 +41,8 @@ pub fn element_windows_stand()
     scalars_stand();
 }
 
-/// A law: the mesh's values in each copy, and the variables' first values, are the cells with which the machine starts. Each
-/// rank has the targets of what it executes.
+/// A law: the mesh's values in each copy, and the variables' first values, are the cells with which the machine starts.
+/// Each rank has the targets of what it executes.
 pub fn first_cells_stand()
     ensures stand { FirstCellsStand }
     ensures closed { MeshesAreClosed }

@@ -1,5 +1,5 @@
-//! The layout of a bound program on ranks: the tables that the machine looks up, where the windows of elements and the cells of
-//! messages stand in the buffers of ranks, and what these hold at first.
+//! The layout of a bound program on ranks: the tables that the machine looks up, where the windows of elements and the
+//! cells of messages stand in the buffers of ranks, and what these hold at first.
 #![tactic(auto)]
 
 mod constant_table;

@@ -62,8 +62,8 @@ fn place_on(meshes: &[RankMesh], rank: u32, dat: u32, dim: u32, local: u32) -> u
     meshes[rank as usize].place(dat, dim, local)
 }
 
-/// A bound program's dats in the buffers of their owners: the program, who owns each element, the local mesh of each rank, and by set
-/// the local numbers of what ranks own.
+/// A bound program's dats in the buffers of their owners: the program, who owns each element, the local mesh of each
+/// rank, and by set the local numbers of what ranks own.
 #[derive(Clone, Copy)]
 pub struct OwnedDats<'a> {
     pub bound: &'a Bound,

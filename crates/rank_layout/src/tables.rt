@@ -5,8 +5,8 @@ ghost use Rattle.rank_layout.specs.Made as the;
 
 use rank_state::{Operation, Scalar};
 
-/// Tables of a bound program on several ranks with its plan. A variable's cell goes by its number among the cells of all
-/// variables.
+/// Tables of a bound program on several ranks with its plan. A variable's cell goes by its number among the cells of
+/// all variables.
 #[derive(Drop)]
 pub struct MachineTables {
     /// The constants' cells, by the numbers that kernels give them.

@@ -105,8 +105,8 @@ fn first_same(args: &[Arg], numbers: &[u32], i: usize) -> usize
     i
 }
 
-// Puts down the window of argument `i`, a new one from the cell `next` on where no earlier argument reaches the same; and
-// gives where the windows end then.
+// Puts down the window of argument `i`, a new one from the cell `next` on where no earlier argument reaches the same;
+// and gives where the windows end then.
 fn put_window(
     bound: &Bound,
     args: &[Arg],
@@ -226,8 +226,8 @@ fn put_variables(
     next
 }
 
-/// Puts down where the windows of at most 16 arguments of at most 64 cells stand in an element's frame, and gives how many cells
-/// the frame has; `places` has as many places as there are arguments. Takes no memory.
+/// Puts down where the windows of at most 16 arguments of at most 64 cells stand in an element's frame, and gives how
+/// many cells the frame has; `places` has as many places as there are arguments. Takes no memory.
 pub fn put_windows(bound: &Bound, args: &[Arg], element: u32, places: &mut [Place]) -> usize
     requires there { All (ArgThere (bound_of bound.now) element) args.now }
     requires few { length args.now ≤ 16 }

@@ -1,5 +1,5 @@
-//! The machine: the memories of all ranks with the variables, the least recorded fault and the output, and what each step of a
-//! distributed program makes of them.
+//! The machine: the memories of all ranks with the variables, the least recorded fault and the output, and what each
+//! step of a distributed program makes of them.
 #![tactic(auto)]
 
 pub mod machine;

@@ -93,8 +93,9 @@ fn units_of_ranks(
 }
 
 impl Machine {
-    /// A machine whose memories and variables hold their first values, with a partial for each slot, and room of these sizes. Each
-    /// memory has spare capacity for `sizes.stride` more cells. `places` says for each rank how many places there may be.
+    /// A machine whose memories and variables hold their first values, with a partial for each slot, and room of these
+    /// sizes. Each memory has spare capacity for `sizes.stride` more cells. `places` says for each rank how many places
+    /// there may be.
     pub fn new(
         alloc: Global,
         memories: Vec<Vec<i32>>,

@@ -15,8 +15,8 @@ use std::marker::Sync;
 use std::mem::swap;
 use std::thread::Threads;
 
-/// What elements are lent of their rank: its cells and partials, where they note their fault, and room for a step with the values
-/// of all constants.
+/// What elements are lent of their rank: its cells and partials, where they note their fault, and room for a step with
+/// the values of all constants.
 #[derive(Drop)]
 pub struct RankPart {
     pub memory: Vec<i32>,
@@ -126,10 +126,10 @@ fn kept_of_parts(fault: Option<Stop>, parts: &[RankPart]) -> Option<Stop>
     least
 }
 
-/// Runs the kernel of a round's item for the elements at each rank's places, one after another, in place on the rank's memory and
-/// partials, from no fault on; answers the fault to keep of `fault` and of theirs, put together by increasing rank. The ranks are shared
-/// out among the workers of `crew`, and its gate is told of each rank just before. What is said of each rank holds for every crew. There
-/// is a part for each rank. Takes no memory.
+/// Runs the kernel of a round's item for the elements at each rank's places, one after another, in place on the rank's
+/// memory and partials, from no fault on; answers the fault to keep of `fault` and of theirs, put together by
+/// increasing rank. The ranks are shared out among the workers of `crew`, and its gate is told of each rank just
+/// before. What is said of each rank holds for every crew. There is a part for each rank. Takes no memory.
 pub fn run_lent<R: Threads + Sync, G: Gate>(
     crew: &Crew<'_, R, G>,
     round: &Round<'_, '_>,

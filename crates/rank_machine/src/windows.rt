@@ -12,7 +12,8 @@ pub struct Begun {
     pub original: u32,
 }
 
-/// The windows of an element on a rank: spans of the rank's buffer, and what it reads of the variables or reduces into them.
+/// The windows of an element on a rank: spans of the rank's buffer, and what it reads of the variables or reduces into
+/// them.
 #[derive(Clone, Copy, Debug)]
 pub struct Windows<'a> {
     pub spans: &'a [Span],

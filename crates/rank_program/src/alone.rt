@@ -28,9 +28,10 @@ fn lengthen(memory: &mut Vec<i32>, count: usize)
     }
 }
 
-/// Runs the kernel of an item's loop for elements on a rank, as one after another, on the cells of the rank's buffer `memory`, by as many
-/// workers as `how` says. While they run, the cells of the loop's scalars stand behind these, for which the buffer has capacity. Answers
-/// the fault to keep of `fault` and of theirs; an element that faults leaves the buffer and the partials as they were. Takes no memory.
+/// Runs the kernel of an item's loop for elements on a rank, as one after another, on the cells of the rank's buffer
+/// `memory`, by as many workers as `how` says. While they run, the cells of the loop's scalars stand behind these, for
+/// which the buffer has capacity. Answers the fault to keep of `fault` and of theirs; an element that faults leaves the
+/// buffer and the partials as they were. Takes no memory.
 pub fn run_places<H: AtOnce>(
     how: &H,
     elements: &RankElements<'_>,

@@ -19,8 +19,8 @@ use kernel_runs::worker_batches::AtOnce;
 use kernel_types::views::Place;
 use rank_layout::{MAX_ARGS, element_windows_stand, steps_stand, windows_stand};
 
-// Runs the kernel of a loop for elements at its places from `at` on at once: for as many of so many, at most 64, as run in rows. Answers
-// how many ran, from the first on. None of them has a fault.
+// Runs the kernel of a loop for elements at its places from `at` on at once: for as many of so many, at most 64, as run
+// in rows. Answers how many ran, from the first on. None of them has a fault.
 fn run_rows(
     run: &LoopInRows<'_>,
     at: usize,
@@ -61,8 +61,8 @@ fn run_rows(
     )
 }
 
-// How many elements run one after another before the next batch that is tried in rows, and how many after it if none of its elements
-// runs so.
+// How many elements run one after another before the next batch that is tried in rows, and how many after it if none of
+// its elements runs so.
 #[derive(Drop)]
 struct Pause {
     left: usize,
@@ -122,8 +122,9 @@ fn try_rows(
     ran
 }
 
-// Runs the kernel of a loop for elements at its places from `at` on, at most 64: for as many as run in rows, and one behind them alone,
-// which does not run with them. Where none runs in rows, as many as the pause says run one after another. Answers how many ran.
+// Runs the kernel of a loop for elements at its places from `at` on, at most 64: for as many as run in rows, and one
+// behind them alone, which does not run with them. Where none runs in rows, as many as the pause says run one after
+// another. Answers how many ran.
 fn run_some(
     run: &LoopInRows<'_>,
     at: usize,
@@ -154,8 +155,8 @@ fn run_some(
     upto
 }
 
-// Runs the kernel of a loop for elements at its places from `at` on: in batches at once for as many as run so, else at most 64 of them,
-// as `run_some` does. Answers how many ran.
+// Runs the kernel of a loop for elements at its places from `at` on: in batches at once for as many as run so, else at
+// most 64 of them, as `run_some` does. Answers how many ran.
 fn run_next<H: AtOnce>(
     how: &H,
     run: &LoopInRows<'_>,
@@ -184,9 +185,9 @@ fn run_next<H: AtOnce>(
     run_some(run, at, pause, share, room)
 }
 
-// Runs the kernel of a loop whose elements run in rows for them, by batches. Where no element of a batch runs in rows, its first 8 run
-// one after another, and twice as many each time that the next batch fails too. Answers how many elements ran; fewer than make a batch
-// are left.
+// Runs the kernel of a loop whose elements run in rows for them, by batches. Where no element of a batch runs in rows,
+// its first 8 run one after another, and twice as many each time that the next batch fails too. Answers how many
+// elements ran; fewer than make a batch are left.
 fn run_all<H: AtOnce>(
     how: &H,
     run: &LoopInRows<'_>,
@@ -213,8 +214,8 @@ fn run_all<H: AtOnce>(
     at
 }
 
-/// Runs the kernel of a loop on a rank for its elements by batches of up to 64, where they run in rows. Answers how many elements ran,
-/// from the first on. The room has places of the arguments, as `put_behind` left them.
+/// Runs the kernel of a loop on a rank for its elements by batches of up to 64, where they run in rows. Answers how
+/// many elements ran, from the first on. The room has places of the arguments, as `put_behind` left them.
 pub fn run_batches<H: AtOnce>(
     how: &H,
     local: &LocalLoop<'_>,

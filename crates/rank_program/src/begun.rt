@@ -38,8 +38,8 @@ pub fn owns_at(program: &DistributedProgram<'_>, item: u32, rank: u32, place: u3
     is_own(program.meshes, rank, site.set, place)
 }
 
-/// How many elements of the set of the item's loop a rank owns: an element is its own where its place is below that. The rank has an
-/// element of the loop.
+/// How many elements of the set of the item's loop a rank owns: an element is its own where its place is below that.
+/// The rank has an element of the loop.
 pub fn own_places(program: &DistributedProgram<'_>, item: u32, rank: u32) -> u32
     requires sound { Sound program.now }
     requires step { (place : ℕ) × IsStep (by_place (setup_in program.now) (layout_in program.now)) (Begin item rank place) }
@@ -53,8 +53,8 @@ pub fn own_places(program: &DistributedProgram<'_>, item: u32, rank: u32) -> u32
     own_count(program.meshes, rank, site.set)
 }
 
-/// Puts down where the windows of a place's element stand in its rank's buffer, and gives the scalars behind them. `spans`
-/// is lent empty, with room for as many as an element has at most. Takes no memory.
+/// Puts down where the windows of a place's element stand in its rank's buffer, and gives the scalars behind them.
+/// `spans` is lent empty, with room for as many as an element has at most. Takes no memory.
 pub fn push_element<'p>(
     program: &'p DistributedProgram<'_>,
     item: u32,

@@ -34,8 +34,8 @@ fn all_below(places: &[u32], at: usize, count: usize, end: u32) -> bool
     most < end
 }
 
-/// Whether what the elements of a loop at so many places from `at` on leave of its scalars counts: it reduces into none, or its rank owns
-/// the elements.
+/// Whether what the elements of a loop at so many places from `at` on leave of its scalars counts: it reduces into
+/// none, or its rank owns the elements.
 pub fn all_count(local: &LocalLoop<'_>, at: usize, count: usize) -> bool
     requires sound { Sound local.now.program.now }
     requires steps { AllBeginHere local.now }

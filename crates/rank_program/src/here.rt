@@ -46,8 +46,9 @@ fn move_behind(width: usize, others: usize, windows: &[Place], places: &mut Vec<
     }
 }
 
-// Puts down where the cells of the loop's arguments on variables stand behind the rank's: as in the frame of the element at a place,
-// whose windows end with those of the loop's scalars. What is put down of arguments on dats means nothing.
+// Puts down where the cells of the loop's arguments on variables stand behind the rank's: as in the frame of the
+// element at a place, whose windows end with those of the loop's scalars. What is put down of arguments on dats means
+// nothing.
 fn put_behind(local: &LocalLoop<'_>, place: u32, places: &mut Vec<Place>)
     requires sound { Sound local.now.program.now }
     requires is { IsLocalLoop local.now }
@@ -83,8 +84,8 @@ fn note(local: &LocalLoop<'_>, place: u32, fault: Option<KernelFault>, kept: &mu
     }
 }
 
-// Merges the amounts that the element at a place left in the windows of the loop's scalars into the partials, where the rank owns
-// it and it has no fault.
+// Merges the amounts that the element at a place left in the windows of the loop's scalars into the partials, where the
+// rank owns it and it has no fault.
 fn merge_owned(
     local: &LocalLoop<'_>,
     place: u32,
@@ -111,8 +112,9 @@ fn merge_owned(
     }
 }
 
-// Runs the kernel for the element at a place on `memory`: the cells of the rank's buffer, and behind them one for each of the loop's
-// scalars, whatever it holds. The room has places of the arguments, as `put_behind` or an earlier element left them.
+// Runs the kernel for the element at a place on `memory`: the cells of the rank's buffer, and behind them one for each
+// of the loop's scalars, whatever it holds. The room has places of the arguments, as `put_behind` or an earlier element
+// left them.
 fn run_element(
     local: &LocalLoop<'_>,
     place: u32,
@@ -159,9 +161,9 @@ fn run_element(
     merge_owned(local, place, fault, windows, partials);
 }
 
-/// Runs the kernel of a loop on a rank for its elements at the places from one on and before another, one after another, on the rank's own
-/// cells. The room has places of the arguments, as `put_behind` or an earlier element left them. An element that faults leaves the
-/// buffer and the partials as they were. Takes no memory.
+/// Runs the kernel of a loop on a rank for its elements at the places from one on and before another, one after
+/// another, on the rank's own cells. The room has places of the arguments, as `put_behind` or an earlier element left
+/// them. An element that faults leaves the buffer and the partials as they were. Takes no memory.
 pub fn run_alone(
     local: &LocalLoop<'_>,
     from: usize,
@@ -192,10 +194,10 @@ pub fn run_alone(
     }
 }
 
-/// Runs the kernel of a loop on a rank for its elements, as one after another, on `memory`: the cells of the rank's buffer, and behind
-/// them one for each of the loop's scalars, whatever it holds. Where they run in rows, 64 of them run at once, and several batches of 64
-/// by the workers that `how` says. Answers the fault to keep of `fault` and of theirs; an element that faults leaves the buffer and the
-/// partials as they were. Takes no memory.
+/// Runs the kernel of a loop on a rank for its elements, as one after another, on `memory`: the cells of the rank's
+/// buffer, and behind them one for each of the loop's scalars, whatever it holds. Where they run in rows, 64 of them
+/// run at once, and several batches of 64 by the workers that `how` says. Answers the fault to keep of `fault` and of
+/// theirs; an element that faults leaves the buffer and the partials as they were. Takes no memory.
 pub fn run_here<H: AtOnce>(
     how: &H,
     local: &LocalLoop<'_>,

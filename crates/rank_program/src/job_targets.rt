@@ -44,8 +44,8 @@ fn push_targets(bound: &Bound, args: &[Arg], tasks: &[Task], targets: &mut Vec<T
     }
 }
 
-// Puts down where the windows of a loop's arguments stand in the frames of the tasks' elements. `targets` is lent empty,
-// with room for as many as there are tasks.
+// Puts down where the windows of a loop's arguments stand in the frames of the tasks' elements. `targets` is lent
+// empty, with room for as many as there are tasks.
 fn push_all(bound: &Bound, site: &Site, tasks: &[Task], targets: &mut Vec<Targets>)
     requires site { SiteFits (bound_of bound.now) (site_of site.now) }
     requires elements { (i : ℕ) → i < length tasks.now → (task_at tasks.now i).element < set_size bound.now.mesh site.now.set }

@@ -11,8 +11,8 @@ use kernel_code::{Code, run_on};
 use kernel_types::views::Place;
 use par_exec::Job;
 
-/// The runs of a kernel for tasks: on the first cells of each task's window, with the values of all constants. `targets`
-/// has by task the places of the kernel's `args` arguments.
+/// The runs of a kernel for tasks: on the first cells of each task's window, with the values of all constants.
+/// `targets` has by task the places of the kernel's `args` arguments.
 #[derive(Drop)]
 pub struct KernelJob<'t> {
     pub code: &'t Code<'t>,
@@ -22,8 +22,8 @@ pub struct KernelJob<'t> {
     pub constants: &'t [i32],
 }
 
-// Runs a kernel on the first `cells` cells of a window, with the rest as room for its locals. Behind the cells stands a 0
-// then, or a 1 after a fault, and further zeros.
+// Runs a kernel on the first `cells` cells of a window, with the rest as room for its locals. Behind the cells stands a
+// 0 then, or a 1 after a fault, and further zeros.
 fn run_in(code: &Code<'_>, places: &[Place], constants: &[i32], cells: usize, window: &mut [i32])
     requires code { IsCode code.now }
     requires fits { PlacesIn cells places.now }

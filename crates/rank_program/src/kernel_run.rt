@@ -29,8 +29,9 @@ fn put_frame(bound: &Bound, site: &Site, element: u32, places: &mut [Place])
     let _cells = put_windows(bound, &site.args, element, places);
 }
 
-/// Runs the kernel of the loop that is the item for an element, with the values of all constants, on the cells of its windows, one
-/// window behind another. What the run leaves in `scratch`, the room for locals, means nothing. Takes no memory.
+/// Runs the kernel of the loop that is the item for an element, with the values of all constants, on the cells of its
+/// windows, one window behind another. What the run leaves in `scratch`, the room for locals, means nothing. Takes no
+/// memory.
 ///
 /// # Errors
 /// The first fault of the run; the windows then mean nothing.

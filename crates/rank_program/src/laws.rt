@@ -5,7 +5,8 @@ ghost use Rattle.flat_machine.specs.Layout.{Layout};
 ghost use Rattle.rank_state.specs.Shows.{Tables};
 ghost use Rattle.rank_program.specs.FromNone.{FaultsComeTogether};
 
-/// A law: elements run alike from no fault and from one that was kept, and what they note from none on decides together with that one.
+/// A law: elements run alike from no fault and from one that was kept, and what they note from none on decides together
+/// with that one.
 pub fn faults_come_together<F>()
     ensures { (p : Setup F) (l : Layout F) (t : Tables) → FaultsComeTogether p l t }
 {}

@@ -1,5 +1,5 @@
-//! A bound program, distributed and planned: what the machine reads of it, and the runs of its elements, in place on a rank's cells or
-//! by several workers, each on columns of its own or on a window of one buffer.
+//! A bound program, distributed and planned: what the machine reads of it, and the runs of its elements, in place on a
+//! rank's cells or by several workers, each on columns of its own or on a window of one buffer.
 #![tactic(auto)]
 
 mod alone;

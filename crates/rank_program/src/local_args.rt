@@ -73,8 +73,8 @@ fn put_place(arg: &Option<LocalArg<'_>>, place: u32, stood: &mut Place)
     }
 }
 
-/// Puts down where the cells of each argument stand in a rank's buffer, for the element at a place. The places of arguments on
-/// variables stay as they are.
+/// Puts down where the cells of each argument stand in a rank's buffer, for the element at a place. The places of
+/// arguments on variables stay as they are.
 pub fn put_places(args: &[Option<LocalArg<'_>>], place: u32, places: &mut [Place])
     requires here { All (CountsCells place) args.now }
     requires count { length places.old ≡ length args.now }

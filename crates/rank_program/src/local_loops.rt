@@ -50,8 +50,8 @@ fn faults_first(tables: &MachineTables, number: u32) -> bool
     tables.faults_first[number as usize]
 }
 
-/// The loop of elements on a rank, of which there is one, with the values of the constants. `room` is lent for its arguments. Takes no
-/// memory.
+/// The loop of elements on a rank, of which there is one, with the values of the constants. `room` is lent for its
+/// arguments. Takes no memory.
 pub fn local_loop<'p: 'a, 'a>(
     elements: &'a RankElements<'p>,
     constants: &'a [i32],

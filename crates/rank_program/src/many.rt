@@ -18,8 +18,8 @@ fn part_at(places: &[u32], at: usize, count: usize) -> &[u32]
     &places[at..at + count]
 }
 
-// Runs the kernel of a loop for elements at so many places from `at` on, in batches at once, for as many as can run so. Answers how many
-// ran, from the first on.
+// Runs the kernel of a loop for elements at so many places from `at` on, in batches at once, for as many as can run so.
+// Answers how many ran, from the first on.
 fn run_from<H: AtOnce>(
     how: &H,
     run: &LoopInRows<'_>,
@@ -58,8 +58,8 @@ fn run_from<H: AtOnce>(
     )
 }
 
-/// Runs the kernel of a loop for elements at its places from `at` on, in batches at once, for as many as can run so; for none while
-/// batches pause. Answers how many ran, from the first on. None of them has a fault.
+/// Runs the kernel of a loop for elements at its places from `at` on, in batches at once, for as many as can run so;
+/// for none while batches pause. Answers how many ran, from the first on. None of them has a fault.
 pub fn run_many<H: AtOnce>(
     how: &H,
     run: &LoopInRows<'_>,

@@ -44,11 +44,12 @@ pub struct DistributedProgram<'a> {
 }
 
 impl<'a> DistributedProgram<'a> {
-    /// A planned program, with the local numbers of what ranks own and exchange by set, the codes of the program's kernels, and whether
-    /// these are known to obey their arguments' accesses: then elements that come one after another may run several at once.
+    /// A planned program, with the local numbers of what ranks own and exchange by set, the codes of the program's
+    /// kernels, and whether these are known to obey their arguments' accesses: then elements that come one after
+    /// another may run several at once.
     ///
-    /// It takes time linear in the program's arguments and their cells, in its Free loops times the ranks, and in the lists
-    /// of what ranks export, for each dat.
+    /// It takes time linear in the program's arguments and their cells, in its Free loops times the ranks, and in the
+    /// lists of what ranks export, for each dat.
     ///
     /// # Errors
     /// Want of memory alone.

@@ -11,8 +11,8 @@ use kernel_types::views::Place;
 use rank_state::{Owned, Span};
 use std::alloc::{AllocError, Global};
 
-/// Room for runs of kernels: where their arguments stand, their locals, the cells that they may spoil, a batch of elements, and batches
-/// that several workers run at once. What stands there means nothing between two steps.
+/// Room for runs of kernels: where their arguments stand, their locals, the cells that they may spoil, a batch of
+/// elements, and batches that several workers run at once. What stands there means nothing between two steps.
 #[derive(Drop)]
 pub struct KernelRoom {
     pub places: Vec<Place>,
@@ -22,8 +22,8 @@ pub struct KernelRoom {
     pub batches: BatchesRoom,
 }
 
-/// Room for the spans of an element or a message, for runs of kernels, and for the values of all constants. What stands there means
-/// nothing between two steps.
+/// Room for the spans of an element or a message, for runs of kernels, and for the values of all constants. What stands
+/// there means nothing between two steps.
 #[derive(Drop)]
 pub struct Room {
     pub spans: Vec<Span>,

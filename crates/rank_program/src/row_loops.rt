@@ -40,9 +40,9 @@ pub struct LoopInRows<'a> {
     pub rows: RowLoop<'a>,
 }
 
-/// The loop as its elements run in rows, where its kernel is known to obey its modes, has no `if` with a `for` inside, and has few columns.
-/// `cells` are places of its arguments on variables. The other slices are lent for its tables, whatever they hold: the ways, the columns,
-/// the places of arguments in a row's frame, and pairs of ways.
+/// The loop as its elements run in rows, where its kernel is known to obey its modes, has no `if` with a `for` inside,
+/// and has few columns. `cells` are places of its arguments on variables. The other slices are lent for its tables,
+/// whatever they hold: the ways, the columns, the places of arguments in a row's frame, and pairs of ways.
 pub fn row_loop<'p: 'a, 'a>(
     local: &'a LocalLoop<'p>,
     cells: &[Place],
@@ -98,14 +98,14 @@ pub fn row_loop<'p: 'a, 'a>(
     })
 }
 
-/// Whether elements with this kernel may run in batches, if the program's kernels obey their modes: it has no `if` with a `for` inside and
-/// not too many slots.
+/// Whether elements with this kernel may run in batches, if the program's kernels obey their modes: it has no `if` with
+/// a `for` inside and not too many slots.
 pub fn runs_in_batches(code: &Code<'_>) -> bool {
     code.slots as usize <= MOST_COLUMNS && is_straight(&code.part)
 }
 
-/// Whether the elements of a Free item may run in batches: the program's kernels are known to obey their modes, and the item's
-/// may run so. Where it may not, they run one after another.
+/// Whether the elements of a Free item may run in batches: the program's kernels are known to obey their modes, and the
+/// item's may run so. Where it may not, they run one after another.
 pub fn comes_in_batches(program: &DistributedProgram<'_>, item: u32) -> bool {
     let Some(Item::Free { site }) = program.bound.trace.get(item as usize) else {
         return false;

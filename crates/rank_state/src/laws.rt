@@ -193,8 +193,8 @@ pub fn windows_are_counted<F>()
         → (p.program.kind k ≡ Free) × (l.original k r x < elements p.program k) }
 {}
 
-/// The cells of one owner that stand side by side have the values of the owners' copies, and the variables are those of the
-/// state.
+/// The cells of one owner that stand side by side have the values of the owners' copies, and the variables are those of
+/// the state.
 pub fn owners_show<F>()
     ensures cells { (p : Setup F) (l : Layout F) (t : Tables) → Indexed p l t → (st : State F) (f : Flat F) → Shows p l t st f
         → (o : Owned) → o.rank < p.ranks → o.at + o.dim ≤ l.width o.rank

@@ -1,5 +1,5 @@
-//! The memory of the ranks: cells that are gathered and put back, frames in one staging buffer, messages, windows on the cells of
-//! their owners, and the fault that is kept.
+//! The memory of the ranks: cells that are gathered and put back, frames in one staging buffer, messages, windows on
+//! the cells of their owners, and the fault that is kept.
 pub mod copying;
 pub mod ending;
 pub mod frames;

@@ -1,8 +1,8 @@
 //! Orders of elements by breadth-first walks over the neighbours by a map, as Cuthill and McKee take them.
 //!
-//! E. Cuthill and J. McKee, "Reducing the bandwidth of sparse symmetric matrices", 1969. `specs/Taken.antt` says what an
-//! order of taking is: at each place stands the element with the least (place of its earliest neighbour, key). The walks
-//! read the map and its inverse; no list of neighbours is kept.
+//! E. Cuthill and J. McKee, "Reducing the bandwidth of sparse symmetric matrices", 1969. `specs/Taken.antt` says what
+//! an order of taking is: at each place stands the element with the least (place of its earliest neighbour, key). The
+//! walks read the map and its inverse; no list of neighbours is kept.
 ghost use Rattle.std.specs.Prelude.{◌≡◌, ℕ, true, false, ◌<◌, ◌≤◌, ◌+◌, IfOk, OnOk, length, slice_index, slice_index_or, Contains};
 ghost use Rattle.mesh_decl.specs.Mesh.{IsMapAt, map_count, set_size, map_to};
 ghost use Rattle.renumber.specs.Neighbours.{are_neighbours, IsInverse};
@@ -127,11 +127,11 @@ fn breadth_first(
     Ok(order)
 }
 
-/// The order in which Cuthill and McKee take the elements of the set to which the map numbered `map` leads: two elements
-/// are neighbours where one element has both as targets, and the degree is the number of neighbours. Each walk starts
-/// with the element of least (degree, number) that isn't taken. Every element stands in the order. It takes time linear
-/// in the pairs of targets of one element and n log n in the elements, memory linear in the targets, and fails only for
-/// want of memory.
+/// The order in which Cuthill and McKee take the elements of the set to which the map numbered `map` leads: two
+/// elements are neighbours where one element has both as targets, and the degree is the number of neighbours. Each walk
+/// starts with the element of least (degree, number) that isn't taken. Every element stands in the order. It takes time
+/// linear in the pairs of targets of one element and n log n in the elements, memory linear in the targets, and fails
+/// only for want of memory.
 pub fn taking_order(alloc: Global, mesh: &Mesh, map: u32) -> Result<Vec<u32>, OutOfMemory>
     requires { map < map_count mesh.now }
     ensures length { IfOk result (λ v. length v.items ≡ set_size mesh.now (map_to mesh.now map)) }

@@ -1,5 +1,5 @@
-//! What the meaning of kernels gives to the theorem on schedules: for one element, the run of a kernel that obeys its modes
-//! depends on what its OP_READ and OP_RW arguments reach, and on nothing else.
+//! What the meaning of kernels gives to the theorem on schedules: for one element, the run of a kernel that obeys its
+//! modes depends on what its OP_READ and OP_RW arguments reach, and on nothing else.
 ghost use Rattle.run_model.specs.ElementRun.{ElementRunsAreIndependent, ElementRunsAreIndependentByTouches, ElementRunsGiveEffects};
 ghost use Rattle.run_model.specs.ElementRun.{AnyListsServe, ElementRunsAgree, ElementRunsOnArrays};
 ghost use Rattle.run_model.specs.ElementRun.{ElementRunsKeepRange, ElementRunsKeepReads};
@@ -8,8 +8,8 @@ ghost use Rattle.run_model.specs.RunsKernels.{SetupsHaveKernels};
 
 use kernel_types::KernelFault;
 
-/// A law: where a run for one element, on the cells of dats and variables, is that of a kernel over any lists that hold the
-/// cells which its arguments reach, and the kernel obeys its modes, the run is independent by its arguments.
+/// A law: where a run for one element, on the cells of dats and variables, is that of a kernel over any lists that hold
+/// the cells which its arguments reach, and the kernel obeys its modes, the run is independent by its arguments.
 pub fn element_runs_are_independent()
     ensures { ElementRunsAreIndependent }
 {
@@ -18,8 +18,8 @@ pub fn element_runs_are_independent()
     op_num::reductions::reductions_commute();
 }
 
-/// A law: such a run is independent by the touches of cells, where constants are read; and it is given by whether it faults
-/// and by what it makes of each cell's old value, both of them functions of the cells that are read.
+/// A law: such a run is independent by the touches of cells, where constants are read; and it is given by whether it
+/// faults and by what it makes of each cell's old value, both of them functions of the cells that are read.
 pub fn element_runs_give_effects()
     ensures independent { ElementRunsAreIndependentByTouches }
     ensures effects { ElementRunsGiveEffects }
@@ -41,8 +41,9 @@ pub fn element_runs_keep()
     op_num::reductions::reductions_commute();
 }
 
-/// A law: such a run, of any kernel, ends as the kernel's meaning does over any lists that hold the cells which its arguments reach. So two
-/// runs of one kernel for one element with the same constants, as on whole arrays and on a frame, are equal.
+/// A law: such a run, of any kernel, ends as the kernel's meaning does over any lists that hold the cells which its
+/// arguments reach. So two runs of one kernel for one element with the same constants, as on whole arrays and on a
+/// frame, are equal.
 pub fn element_runs_agree()
     ensures lists { AnyListsServe }
     ensures runs { ElementRunsAgree }
@@ -50,8 +51,8 @@ pub fn element_runs_agree()
     kernel_model::transport();
 }
 
-/// A law: over whole arrays that hold a store, any kernel's meaning leaves arrays that hold the store after the run, or both
-/// have the same fault.
+/// A law: over whole arrays that hold a store, any kernel's meaning leaves arrays that hold the store after the run, or
+/// both have the same fault.
 pub fn element_runs_on_arrays()
     ensures { ElementRunsOnArrays }
 {
@@ -59,8 +60,8 @@ pub fn element_runs_on_arrays()
     kernel_model::others_stay();
 }
 
-/// A law: such a run is that of the kernel's meaning on the values of its windows, one after another in one list: a frame. So
-/// that meaning is what a layout of the flat machine asks for.
+/// A law: such a run is that of the kernel's meaning on the values of its windows, one after another in one list: a
+/// frame. So that meaning is what a layout of the flat machine asks for.
 pub fn element_runs_on_windows()
     ensures { ElementRunsOnWindows }
 {

@@ -1,5 +1,5 @@
-//! The sequential run of a bound program, as definitions: items in order, each loop one element after another in its set's
-//! original order, on the values of all cells. It knows nothing of ranks.
+//! The sequential run of a bound program, as definitions: items in order, each loop one element after another in its
+//! set's original order, on the values of all cells. It knows nothing of ranks.
 #![tactic(auto)]
 
 ghost use Rattle.std.specs.Prelude.{◌≡◌};
@@ -24,16 +24,16 @@ pub fn items_are_there()
     ensures acts { ActsAreThere }
 {}
 
-/// A law: an item that is a loop runs its kernel for each element, with the values of the program's constants, over any lists
-/// that hold the cells which its arguments reach.
+/// A law: an item that is a loop runs its kernel for each element, with the values of the program's constants, over any
+/// lists that hold the cells which its arguments reach.
 pub fn elements_run_kernels()
     ensures { ElementsRunKernels }
 {
     kernel_model::shape_stays();
 }
 
-/// A law: so it keeps all values in range; and where its kernel obeys its modes, each cell that OP_READ arguments alone reach,
-/// or none.
+/// A law: so it keeps all values in range; and where its kernel obeys its modes, each cell that OP_READ arguments alone
+/// reach, or none.
 pub fn loops_keep()
     ensures range { LoopsKeepRange }
     ensures reads { LoopsKeepReads }
@@ -42,8 +42,8 @@ pub fn loops_keep()
     crate::element_runs::element_runs_keep();
 }
 
-/// A law: where the mesh and the variables begin with numbers of 32 bits, all cells hold such numbers before the run; and a
-/// statement that is no loop leaves such numbers in the variables.
+/// A law: where the mesh and the variables begin with numbers of 32 bits, all cells hold such numbers before the run;
+/// and a statement that is no loop leaves such numbers in the variables.
 pub fn values_stay_in_range()
     ensures first { FirstValuesInRange }
     ensures hosts { HostsKeepRange }
@@ -59,8 +59,8 @@ pub fn runs_keep_range()
     values_stay_in_range();
 }
 
-/// A law: over one memory that holds all cells, the dats in order and then the variables, the meaning of the loop's kernel
-/// leaves a memory that holds the cells after the element's run, or both have the same fault.
+/// A law: over one memory that holds all cells, the dats in order and then the variables, the meaning of the loop's
+/// kernel leaves a memory that holds the cells after the element's run, or both have the same fault.
 pub fn elements_run_on_memory()
     ensures { ElementsRunOnMemory }
 {
@@ -85,7 +85,8 @@ pub fn windows_are_reached()
     ensures { WindowsAreReached }
 {}
 
-/// A law: the constants that kernels read are the cells of constant variables, each by its number; and no loop modifies one.
+/// A law: the constants that kernels read are the cells of constant variables, each by its number; and no loop modifies
+/// one.
 pub fn constants_are_read()
     ensures numbered { ConstantsAreNumbered }
     ensures read { ConstantsAreRead }

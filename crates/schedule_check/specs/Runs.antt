@@ -37,7 +37,8 @@ pub record AreRunsOf (ranks block g : ℕ) (cs : List Colours) (v : List (List (
 -- Of each slot there are no runs yet, or those of its plan; loops below n have theirs.
 pub record AreSlotRuns (ranks block g : ℕ) (v : SharedValue) (n : ℕ) (runs : List (Vec (List (List ℕ)) Global)) : Type 0 where
   pub each : (k : ℕ) → (slot_runs runs k ≡ []) ⊎ AreRunsOf ranks block g (plan_at v.plans k).colours (slot_runs runs k)
-  pub loops : (s k : ℕ) → s < n → lookup (nat_eq s) v.slots ≡ Some k → AreRunsOf ranks block g (plan_at v.plans k).colours (slot_runs runs k)
+  pub loops : (s k : ℕ) → s < n → lookup (nat_eq s) v.slots ≡ Some k
+      → AreRunsOf ranks block g (plan_at v.plans k).colours (slot_runs runs k)
 
 -- the slot of a loop that has a plan
 abbrev pub slot_of : List (ℕ × ℕ) → ℕ → ℕ

@@ -47,8 +47,8 @@ pub fn local_set(ranks: &[RankMesh], rank: usize, set: u32) -> &LocalSet
     &sets[set as usize]
 }
 
-/// How many elements of a set the receiver `to` imports that the sender `from` owns, both ranks from 0. It takes time linear in what the
-/// receiver imports.
+/// How many elements of a set the receiver `to` imports that the sender `from` owns, both ranks from 0. It takes time
+/// linear in what the receiver imports.
 pub fn imported_count(mesh: &Mesh, ranks: &[RankMesh], from: usize, to: usize, set: u32) -> u64
     requires ranks { AreDistinct mesh.now ranks.now }
     requires from { from < length ranks.now }

@@ -47,7 +47,8 @@ fn can_count(steps: u64, cells: u64) -> bool
 impl<'a> Checker<'a> {
     /// A checker of the plan, of which no step is taken.
     ///
-    /// It fails only for want of memory, also where 32 bits can't count the steps, or 64 bits the cells of a message for each.
+    /// It fails only for want of memory, also where 32 bits can't count the steps, or 64 bits the cells of a message
+    /// for each.
     pub fn new(
         alloc: Global,
         bound: &'a Bound,
@@ -81,8 +82,8 @@ impl<'a> Checker<'a> {
 
     /// Takes the step, or says why not; then nothing changes. Takes no memory.
     ///
-    /// `NoSuchStep` where the plan hasn't the step; else `Repeated` where it was taken; else `TooEarly` where a step that has to come
-    /// before it isn't taken, with the first of these in standard order.
+    /// `NoSuchStep` where the plan hasn't the step; else `Repeated` where it was taken; else `TooEarly` where a step
+    /// that has to come before it isn't taken, with the first of these in standard order.
     pub fn take(&mut self, step: Step) -> Result<(), ScheduleRefusal>
         ensures answer { result ≡ judged (step_outline (bound_of self.old.bound.now) self.old.ranks.now (plan_of self.old.plan.now))
             (taken self.old.steps.marks) step }
@@ -95,8 +96,8 @@ impl<'a> Checker<'a> {
         self.steps.take(step)
     }
 
-    /// Ends the schedule and gives its peak, or says which step is left: the first in standard order that isn't taken. Takes no
-    /// memory.
+    /// Ends the schedule and gives its peak, or says which step is left: the first in standard order that isn't taken.
+    /// Takes no memory.
     pub fn finish(self) -> Result<Peak, ScheduleRefusal>
         ensures { result ≡ finished self.entry.steps.load.peak
             (left_over (step_outline (bound_of self.entry.bound.now) self.entry.ranks.now (plan_of self.entry.plan.now))

@@ -12,8 +12,8 @@ ghost use Rattle.schedule_model.specs.Sequential.{Stop, sequential};
 ghost use Rattle.schedule_model.specs.Machine.{least, machine, Agrees};
 ghost use Rattle.schedule_model.specs.Kept.{kept_of, if_before, OfElements};
 
-/// For every accepted list the machine prints what the sequential run prints, and stops exactly where that has a fault, with its item,
-/// element and fault. Where it has none, each owner and the variables end with its values.
+/// For every accepted list the machine prints what the sequential run prints, and stops exactly where that has a fault,
+/// with its item, element and fault. Where it has none, each owner and the variables end with its values.
 pub fn accepted_runs_as_sequential<F>()
     ensures { (p : Setup F) → Lawful p → Coloured p → (l : List Step)
         → Accepted (outline p) l → Agrees p (sequential p.program) (machine p l) }

@@ -7,8 +7,8 @@ ghost use Rattle.schedule_steps.specs.Standard.{element_steps};
 ghost use Rattle.schedule_steps.specs.Judged.{first_of};
 ghost use Rattle.schedule_steps.specs.Firsts.{goes_first, BlocksInOrder, meets, IsFirst};
 
-/// Of a rank's steps of elements in the standard order with groups of one, the first that meets a test is of the first element that
-/// meets it: its begin, or else its end.
+/// Of a rank's steps of elements in the standard order with groups of one, the first that meets a test is of the first
+/// element that meets it: its begin, or else its end.
 pub fn first_step_is_of_first_element()
     ensures some { (o : Outline) (f : Step → Bool) (k r x : ℕ) → IsFirst o f k r x
         → first_of f (element_steps o 1 k r) ≡ first_of f (Begin k r x ∷ (End k r x ∷ [])) }
@@ -17,7 +17,8 @@ pub fn first_step_is_of_first_element()
         → first_of f (element_steps o 1 k r) ≡ None }
 {}
 
-/// The order of elements is transitive. Where blocks are in order it goes by colours, and by numbers where colours don't decide.
+/// The order of elements is transitive. Where blocks are in order it goes by colours, and by numbers where colours
+/// don't decide.
 pub fn elements_are_ordered()
     ensures on { (o : Outline) (k r x y z : ℕ)
         → goes_first o k r x y ≡ true → goes_first o k r y z ≡ true → goes_first o k r x z ≡ true }

@@ -15,8 +15,8 @@ use crate::refusal::ScheduleRefusal;
 use schedule_steps::{Peak, Step};
 use std::marker::Model;
 
-/// A schedule that is taken step by step: which steps are taken, and what is open and under way. `cells` has by item and message how
-/// many cells the message has.
+/// A schedule that is taken step by step: which steps are taken, and what is open and under way. `cells` has by item
+/// and message how many cells the message has.
 #[derive(Drop)]
 pub struct StepChecker {
     marks: StepMarks,
@@ -85,8 +85,8 @@ impl StepChecker {
 
     /// Takes the step, or says why not; then nothing changes. Takes no memory.
     ///
-    /// `NoSuchStep` where the plan hasn't the step; else `Repeated` where it was taken; else `TooEarly` where a step that has to come
-    /// before it isn't taken, with the first of these in standard order.
+    /// `NoSuchStep` where the plan hasn't the step; else `Repeated` where it was taken; else `TooEarly` where a step
+    /// that has to come before it isn't taken, with the first of these in standard order.
     pub fn take(&mut self, step: Step) -> Result<(), ScheduleRefusal>
         ensures answer { (o : Outline) → AreMarksOf o self.old.marks → result ≡ judged o (taken self.old.marks) step }
         ensures ok { OnOk result (TakesStep self.old self.new step) }
@@ -98,8 +98,8 @@ impl StepChecker {
         Ok(())
     }
 
-    /// Ends the schedule and gives its peak, or says which step is left: the first in standard order that isn't taken. Takes no
-    /// memory.
+    /// Ends the schedule and gives its peak, or says which step is left: the first in standard order that isn't taken.
+    /// Takes no memory.
     pub fn finish(self) -> Result<Peak, ScheduleRefusal>
         ensures { (o : Outline) → AreMarksOf o self.marks → result ≡ finished self.load.peak (left_over o (taken self.marks)) }
     {

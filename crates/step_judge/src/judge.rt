@@ -12,8 +12,8 @@ use schedule_steps::Step;
 
 /// Takes the step, or says why not; then no mark changes. Takes no memory.
 ///
-/// `NoSuchStep` where the plan hasn't the step; else `Repeated` where it was taken; else `TooEarly` where a step that has to come
-/// before it isn't taken, with the first of these in standard order.
+/// `NoSuchStep` where the plan hasn't the step; else `Repeated` where it was taken; else `TooEarly` where a step that
+/// has to come before it isn't taken, with the first of these in standard order.
 pub fn take_step(marks: &mut StepMarks, step: Step) -> Result<(), ScheduleRefusal>
     ensures answer { (o : Outline) → AreMarksOf o marks.old → result ≡ judged o (taken marks.old) step }
     ensures ok { OnOk result (TakesOne marks.old marks.new step) }
@@ -38,7 +38,8 @@ pub fn take_step(marks: &mut StepMarks, step: Step) -> Result<(), ScheduleRefusa
     }
 }
 
-/// Ends the schedule: `Incomplete` where a step is not taken, with the first of these in standard order. Takes no memory.
+/// Ends the schedule: `Incomplete` where a step is not taken, with the first of these in standard order. Takes no
+/// memory.
 pub fn end_steps(marks: &StepMarks) -> Result<(), ScheduleRefusal>
     ensures { (o : Outline) → AreMarksOf o marks.now → result ≡ ended o (taken marks.now) }
 {

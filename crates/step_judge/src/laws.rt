@@ -8,8 +8,8 @@ ghost use Rattle.step_judge.specs.declared.refusal.ScheduleRefusal.{ScheduleRefu
 ghost use Rattle.step_judge.specs.Verdicts.{judged};
 ghost use Rattle.step_judge.specs.TakenAll.{TakenAll};
 
-/// From where no step is taken: a list that is taken step by step is accepted exactly where no step is left at its end, and no
-/// accepted list goes on with a step that is refused behind it.
+/// From where no step is taken: a list that is taken step by step is accepted exactly where no step is left at its end,
+/// and no accepted list goes on with a step that is refused behind it.
 pub fn taken_lists_are_accepted()
     ensures whole { (o : Outline) (m n : Step → Bool) (l : List Step) → ((t : Step) → IsStep o t → m t ≡ false) → TakenAll o m l n
         → Accepted o l ↔ (left_over o n ≡ None) }

@@ -70,7 +70,8 @@ fn first_of_item(marks: &StepMarks, later: Option<Step>, item: u32) -> Option<St
     }
 }
 
-/// The first step, in standard order, that is not taken and, where a later step is given, has to come before it. Takes no memory.
+/// The first step, in standard order, that is not taken and, where a later step is given, has to come before it. Takes
+/// no memory.
 pub fn first_wanted(marks: &StepMarks, later: Option<Step>) -> Option<Step>
     requires later { IsPlanned (outline_of marks.now) later }
     ensures { (o : Outline) → AreMarksOf o marks.now → result ≡ first_of (wanted marks.now later) (standard o 1) }

@@ -1,5 +1,5 @@
-//! A stream of steps that looks ahead for closed groups: elements of one item and rank that begin one after another and then end in
-//! the same order, wherever they stand.
+//! A stream of steps that looks ahead for closed groups: elements of one item and rank that begin one after another and
+//! then end in the same order, wherever they stand.
 mod ahead;
 mod groups;
 mod reading;

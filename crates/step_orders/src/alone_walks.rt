@@ -62,8 +62,8 @@ fn put_alone(runs: &Runs, from: usize, places: &mut Vec<u32>) -> usize
     run
 }
 
-/// Takes the steps of a rank's elements that come next, where these begin and end one after another, and puts down their places.
-/// Whether there were any.
+/// Takes the steps of a rank's elements that come next, where these begin and end one after another, and puts down
+/// their places. Whether there were any.
 pub fn alone_in_runs(runs: &Runs, here: &mut RunPlace, places: &mut Vec<u32>) -> bool
     requires empty { places.old.items ≡ [] }
     ensures some { result ≡ true
@@ -87,8 +87,8 @@ pub fn alone_in_runs(runs: &Runs, here: &mut RunPlace, places: &mut Vec<u32>) ->
     true
 }
 
-/// Takes the steps of an item's elements that come next, where these are of one rank and begin and end one after another, puts down
-/// their places and gives their rank.
+/// Takes the steps of an item's elements that come next, where these are of one rank and begin and end one after
+/// another, puts down their places and gives their rank.
 pub fn alone_elements<S: Shape>(
     shape: &S,
     item: u32,

@@ -21,8 +21,8 @@ fn put_all(elements: &[u32], places: &mut Vec<u32>)
     }
 }
 
-/// Takes the begins and ends of the run of a rank's elements that comes next, and puts down their places. Whether a run comes next
-/// that has elements, all of which there is room for.
+/// Takes the begins and ends of the run of a rank's elements that comes next, and puts down their places. Whether a run
+/// comes next that has elements, all of which there is room for.
 pub fn closed_in_runs(runs: &Runs, here: &mut RunPlace, places: &mut Vec<u32>) -> bool
     requires empty { places.old.items ≡ [] }
     ensures some { result ≡ true
@@ -51,7 +51,8 @@ pub fn closed_in_runs(runs: &Runs, here: &mut RunPlace, places: &mut Vec<u32>) -
     true
 }
 
-/// Takes the begins and ends of the run of an item's elements that comes next, puts down their places and gives their rank.
+/// Takes the begins and ends of the run of an item's elements that comes next, puts down their places and gives their
+/// rank.
 pub fn closed_elements<S: Shape>(
     shape: &S,
     item: u32,

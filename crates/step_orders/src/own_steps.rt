@@ -7,8 +7,8 @@ use crate::shape::Shape;
 use crate::stream::Steps;
 use schedule_steps::Step;
 
-/// A rank's own steps, one after another: by item its sends by receiver, its receives by sender, and its elements in runs, as in
-/// the standard order. It holds no list of them.
+/// A rank's own steps, one after another: by item its sends by receiver, its receives by sender, and its elements in
+/// runs, as in the standard order. It holds no list of them.
 #[derive(Drop)]
 pub struct OwnSteps<'a, S: Shape> {
     shape: &'a S,

@@ -7,7 +7,8 @@ use crate::shape::Shape;
 use crate::walks::{RunPlace, first_run, next_in_runs};
 use schedule_steps::Step;
 
-/// A place among a rank's own steps: the item, how many of its sends and of its receives have come, and the place in its runs.
+/// A place among a rank's own steps: the item, how many of its sends and of its receives have come, and the place in
+/// its runs.
 #[derive(Clone, Copy, Debug)]
 pub struct OwnPlace {
     pub item: u32,

@@ -25,8 +25,8 @@ fn goes_on(size: u32, colours: &[u32], group: u32, places: &[u32], start: usize,
     start == at || at - start < group as usize && is_alike(size, colours, places[start], places[at])
 }
 
-/// Where the places end that are begun together: each time at most `group` of them, of one block and colour. An error is want of
-/// memory.
+/// Where the places end that are begun together: each time at most `group` of them, of one block and colour. An error
+/// is want of memory.
 pub fn run_ends(
     alloc: Global,
     size: u32,

@@ -11,8 +11,8 @@ use op_num::OutOfMemory;
 use std::alloc::Global;
 use std::marker::Model;
 
-/// Elements in runs, one run after another. `ends` has by run the number of elements in it and before it; it is empty where each element
-/// is a run of its own (`alone`).
+/// Elements in runs, one run after another. `ends` has by run the number of elements in it and before it; it is empty
+/// where each element is a run of its own (`alone`).
 #[derive(Debug, Drop)]
 pub struct Runs {
     elements: Vec<u32>,
@@ -63,8 +63,8 @@ fn part<'a>(elements: &'a [u32], ends: &[usize], run: usize) -> &'a [u32]
 }
 
 impl Runs {
-    /// The elements, cut into runs: a run ends before each of the places, and the next begins there. Elements from the last place
-    /// on are in no run.
+    /// The elements, cut into runs: a run ends before each of the places, and the next begins there. Elements from the
+    /// last place on are in no run.
     pub fn new(elements: Vec<u32>, ends: Vec<usize>) -> Runs
         requires { AreEnds 0 elements.items ends.items }
         ensures { result ≡ cut 0 elements.items ends.items }
@@ -76,10 +76,10 @@ impl Runs {
         }
     }
 
-    /// The places of a rank by block colour, block, colour and number, in runs of at most `group` places of one block and colour.
-    /// There is a place for each of the colours, `size` of them to a block, and a colour for each block; a block without one has
-    /// the colour 0. It takes linear time where the colours of a block's places are below the number of these, and those of blocks
-    /// below theirs, else time n log n. An error is want of memory.
+    /// The places of a rank by block colour, block, colour and number, in runs of at most `group` places of one block
+    /// and colour. There is a place for each of the colours, `size` of them to a block, and a colour for each block; a
+    /// block without one has the colour 0. It takes linear time where the colours of a block's places are below the
+    /// number of these, and those of blocks below theirs, else time n log n. An error is want of memory.
     pub fn of_places(
         alloc: Global,
         size: u32,

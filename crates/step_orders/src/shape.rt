@@ -6,8 +6,8 @@ ghost use Rattle.step_orders.specs.ElementRuns.{runs_of};
 
 use crate::runs::Runs;
 
-/// The items of a plan: by item and rank the receivers and the senders of its messages, and its elements in the runs that are
-/// begun together. No call takes memory.
+/// The items of a plan: by item and rank the receivers and the senders of its messages, and its elements in the runs
+/// that are begun together. No call takes memory.
 pub trait Shape {
     ghost outline: { Self → Outline };
 
@@ -41,8 +41,8 @@ pub trait Shape {
         requires rank { rank < (outline self.now).ranks }
         ensures { result.now ≡ numbers (λ s. (outline self.now).sends item s rank) (outline self.now).ranks };
 
-    /// The elements of a rank in a Free item by block colour, block, colour and number, in runs of elements of one block and
-    /// colour.
+    /// The elements of a rank in a Free item by block colour, block, colour and number, in runs of elements of one
+    /// block and colour.
     fn runs(&self, item: u32, rank: u32) -> &Runs
         requires item { item < (outline self.now).items }
         requires free { (outline self.now).is_free item ≡ true }

@@ -24,9 +24,10 @@ pub trait Steps {
         ensures some { IfSome result (λ s. left self.old ≡ s ∷ left self.new) }
         ensures none { IfNone result ((left self.old ≡ []) × (left self.new ≡ [])) };
 
-    /// Takes steps of elements of one item and rank that begin and end one after another, each before the next begins. Their
-    /// places are put into `places`, which is lent empty, at most as many as it has room for; gives their item and rank. `None`,
-    /// and no step is taken, where no such steps come next, or where the order can't tell. Takes no memory.
+    /// Takes steps of elements of one item and rank that begin and end one after another, each before the next begins.
+    /// Their places are put into `places`, which is lent empty, at most as many as it has room for; gives their item
+    /// and rank. `None`, and no step is taken, where no such steps come next, or where the order can't tell. Takes no
+    /// memory.
     fn next_alone(&mut self, places: &mut Vec<u32>) -> Option<ItemOnRank>
         requires empty { places.old.items ≡ [] }
         ensures some { IfSome result (λ of. left self.old ≡ alone of.item of.rank places.new.items ++ left self.new) }
@@ -38,9 +39,10 @@ pub trait Steps {
         None
     }
 
-    /// Takes the steps of a closed group: elements of one item and rank that begin one after another, and then end in the same
-    /// order. Their places are put into `places`, which is lent empty; gives their item and rank. `None`, and no step is taken,
-    /// where no such group comes next, where there is no room for its places, or where the order can't tell. Takes no memory.
+    /// Takes the steps of a closed group: elements of one item and rank that begin one after another, and then end in
+    /// the same order. Their places are put into `places`, which is lent empty; gives their item and rank. `None`, and
+    /// no step is taken, where no such group comes next, where there is no room for its places, or where the order
+    /// can't tell. Takes no memory.
     fn next_closed(&mut self, places: &mut Vec<u32>) -> Option<ItemOnRank>
         requires empty { places.old.items ≡ [] }
         ensures some { IfSome result (λ of. left self.old

@@ -71,8 +71,8 @@ fn to_words<'a, R: Threads + Sync, F: Shelf>(
     }
 }
 
-/// The answer to the words, or what failed before there is one. `call` is the call in them that is to be explained, if they have one; `rt`
-/// starts the threads of a call's `--workers`.
+/// The answer to the words, or what failed before there is one. `call` is the call in them that is to be explained, if
+/// they have one; `rt` starts the threads of a call's `--workers`.
 pub fn answered<'a, R: Threads + Sync, F: Shelf>(
     rt: &R,
     alloc: Global,

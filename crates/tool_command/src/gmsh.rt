@@ -87,7 +87,8 @@ fn converted<'a, R: Threads + Sync>(
     }
 }
 
-/// The answer to the mesh in a Gmsh file: its mesh text, or a program for it. `rt` would start threads of `op2`, and none is asked for.
+/// The answer to the mesh in a Gmsh file: its mesh text, or a program for it. `rt` would start threads of `op2`, and
+/// none is asked for.
 pub fn from_gmsh_file<'a, R: Threads + Sync, F: Shelf>(
     rt: &R,
     alloc: Global,

@@ -85,8 +85,9 @@ fn refusal_line(answer: Answer) -> Option<Vec<u8>>
     }
 }
 
-/// The line with which `op2 check` refuses a source over a mesh text, or none where it takes them: where its answer has status 0. An
-/// error is want of memory. `op2` does its whole work, on one rank; `rt` would start threads, and none is asked for.
+/// The line with which `op2 check` refuses a source over a mesh text, or none where it takes them: where its answer has
+/// status 0. An error is want of memory. `op2` does its whole work, on one rank; `rt` would start threads, and none is
+/// asked for.
 pub fn check_refusal<R: Threads + Sync>(
     rt: &R,
     alloc: Global,

@@ -26,7 +26,8 @@ pub fn refused_words(alloc: Global) -> Result<Answer, OutOfMemory>
     })
 }
 
-/// Writes the line of words that are refused to `err`, whole or a front of it where a write fails, and gives their status.
+/// Writes the line of words that are refused to `err`, whole or a front of it where a write fails, and gives their
+/// status.
 pub fn report_usage<E: Sink>(err: &mut E) -> u8
     ensures status { result ≡ 2 }
     ensures said { Stands (E.faults err.old, E.faults err.new) (E.written err.old, E.written err.new) (tool_line (codes "usage")) }
@@ -100,8 +101,8 @@ pub fn refused_metis(alloc: Global, refusal: MetisRefusal) -> Result<Answer, Out
     Ok(refused_by(line))
 }
 
-/// The answer where a name stands for nothing: `what` tells the job, the number and what was looked for, with a space behind it. An error
-/// is want of memory.
+/// The answer where a name stands for nothing: `what` tells the job, the number and what was looked for, with a space
+/// behind it. An error is want of memory.
 pub fn refused_name(alloc: Global, what: &[u8], name: &[u8]) -> Result<Answer, OutOfMemory>
     ensures { IfOk result (λ a. answer_of a ≡ refused_by_tool (what.now ++ name.now)) }
 {

@@ -57,8 +57,8 @@ fn partition_taken<'a>(
     }
 }
 
-/// The answer of telling the owners among so many ranks that a graph partitioner gave the elements of a set, and those that the other sets
-/// have by them. The file is the next in `kept`.
+/// The answer of telling the owners among so many ranks that a graph partitioner gave the elements of a set, and those
+/// that the other sets have by them. The file is the next in `kept`.
 pub fn taken<'a, F: Shelf>(
     alloc: Global,
     shelf: &mut F,

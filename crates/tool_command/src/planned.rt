@@ -82,8 +82,8 @@ fn on_planned<'a, F: Shelf>(
     }
 }
 
-// The answer of a job on the plan of a bound program. The files of the options, and those that the job reads itself, are the next in
-// `kept`.
+// The answer of a job on the plan of a bound program. The files of the options, and those that the job reads itself,
+// are the next in `kept`.
 fn on_bound_plan<'a, F: Shelf>(
     alloc: Global,
     shelf: &mut F,
@@ -106,8 +106,8 @@ fn on_bound_plan<'a, F: Shelf>(
     on_planned(alloc, shelf, kept, job, &planned)
 }
 
-/// The answer of a job on the plan of the program in a file over the mesh in a file, with these options, whose numbers are in range:
-/// `op2`'s judgements up to the first refusal, and then the job's.
+/// The answer of a job on the plan of the program in a file over the mesh in a file, with these options, whose numbers
+/// are in range: `op2`'s judgements up to the first refusal, and then the job's.
 pub fn on_plan<'a, F: Shelf>(
     alloc: Global,
     shelf: &mut F,

@@ -74,8 +74,8 @@ fn on_bound<'a, F: Shelf>(
     }
 }
 
-/// The answer of a job on the program in a file over the mesh in a file: `op2`'s judgements up to the first refusal, and then the job's.
-/// Its number of ranks, where it has one, is 1 to 64.
+/// The answer of a job on the program in a file over the mesh in a file: `op2`'s judgements up to the first refusal,
+/// and then the job's. Its number of ranks, where it has one, is 1 to 64.
 pub fn on_program<'a, F: Shelf>(
     alloc: Global,
     shelf: &mut F,

@@ -14,9 +14,9 @@ use tool_words::call_in;
 
 /// Does what the words say, and answers the status that the program ends with.
 ///
-/// `words` has the program's name first; `op2-tools --help` tells what may stand behind it. What is written to `out` is written at the
-/// end. Where the call ends with another status than 0, one line is written to `err`, and where it is neither 0 nor 4, nothing to `out`.
-/// `rt` starts the threads of the `--workers` of a call that is explained.
+/// `words` has the program's name first; `op2-tools --help` tells what may stand behind it. What is written to `out` is
+/// written at the end. Where the call ends with another status than 0, one line is written to `err`, and where it is
+/// neither 0 nor 4, nothing to `out`. `rt` starts the threads of the `--workers` of a call that is explained.
 pub fn tools<R: Threads + Sync, F: Shelf, O: Sink, E: Sink>(
     rt: &R,
     alloc: Global,
@@ -27,7 +27,8 @@ pub fn tools<R: Threads + Sync, F: Shelf, O: Sink, E: Sink>(
 ) -> u8
     requires { AreLent (λ name. F.lends shelf.old name) (map string_bytes words.now.items) }
 
-    // The call has one of the endings, with its cause, its status and its line: by the answer that the words and the files have.
+    // The call has one of the endings, with its cause, its status and its line: by the answer that the words and the
+    // files have.
     ensures { Ends (record {
       words = map string_bytes words.now.items;
       told = F.told shelf.old;

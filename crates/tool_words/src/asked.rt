@@ -7,8 +7,8 @@ use gmsh_mesh::Dimension;
 /// What is done with a program over a mesh.
 #[derive(Clone, Copy, Debug)]
 pub enum ProgramJob<'a> {
-    /// What the dat that it prints with `file` as its file, behind `earlier` such dats, says in the output that the file `output` holds;
-    /// `earlier` is below 2 ^ 32.
+    /// What the dat that it prints with `file` as its file, behind `earlier` such dats, says in the output that the
+    /// file `output` holds; `earlier` is below 2 ^ 32.
     Picks {
         output: &'a str,
         file: &'a str,
@@ -18,8 +18,8 @@ pub enum ProgramJob<'a> {
     Graphs {
         map: &'a str,
     },
-    /// Owners on so many ranks, 1 to 64, are written: those of the set `set` are what a graph partitioner wrote in the file `file`, and
-    /// those of the other sets are derived from them.
+    /// Owners on so many ranks, 1 to 64, are written: those of the set `set` are what a graph partitioner wrote in the
+    /// file `file`, and those of the other sets are derived from them.
     TakesOwners {
         ranks: u32,
         file: &'a str,
@@ -74,8 +74,8 @@ pub enum Asked<'a> {
         source: &'a str,
         mesh: &'a str,
     },
-    /// The mesh text of the mesh of Gmsh in `file`, of this dimension or that of its elements, coordinates times `scale`, which is not 0;
-    /// where `writes_source` is set, a program for it.
+    /// The mesh text of the mesh of Gmsh in `file`, of this dimension or that of its elements, coordinates times
+    /// `scale`, which is not 0; where `writes_source` is set, a program for it.
     Convert {
         file: &'a str,
         dim: Option<Dimension>,

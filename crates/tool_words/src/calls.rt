@@ -20,8 +20,8 @@ fn call_of(alloc: Global, words: &[String]) -> Result<Vec<String>, AllocError>
     Ok(call)
 }
 
-/// The words of a call of `op2` that is to be explained, its name first: those behind `explain`, whatever they are; none where the second
-/// of the words, the program's name first, is another. An error is want of memory.
+/// The words of a call of `op2` that is to be explained, its name first: those behind `explain`, whatever they are;
+/// none where the second of the words, the program's name first, is another. An error is want of memory.
 pub fn call_in(alloc: Global, words: &Vec<String>) -> Result<Option<Vec<String>>, AllocError>
     ensures { IfOk result (λ call. call_of call ≡ call_in (map string_bytes words.now.items)) }
 {

@@ -18,8 +18,9 @@ use clap::{ArgMatches, Error};
 use command_words::{OptionWords, WordsRefusal, is_set, option_words_are_within};
 use std::alloc::Global;
 
-/// What the words, the program's name first, ask for, where `call` is the call in them that is to be explained, if they have one, as
-/// `call_in` gives it. `Usage`: the words are not those of a command. `OutOfMemory`: for want of memory alone.
+/// What the words, the program's name first, ask for, where `call` is the call in them that is to be explained, if they
+/// have one, as `call_in` gives it. `Usage`: the words are not those of a command. `OutOfMemory`: for want of memory
+/// alone.
 pub fn read_words<'a>(
     alloc: Global,
     words: &'a Vec<String>,

@@ -10,8 +10,8 @@ use op_outside::{Sink, write_all_of};
 
 /// Writes an answer, its bytes to `out` and its line to `err`, and gives the status.
 ///
-/// Where `out` fails, the status is 4 and `err` gets that line; but a run with a fault keeps its own. A line that can't be written
-/// changes no status.
+/// Where `out` fails, the status is 4 and `err` gets that line; but a run with a fault keeps its own. A line that can't
+/// be written changes no status.
 pub fn write_answer<O: Sink, E: Sink>(answer: &Answer, out: &mut O, err: &mut E) -> u8
     ensures { Writes (answer_of answer.now) result (O.faults out.old, O.faults out.new) (O.written out.old, O.written out.new)
         (Stands (E.faults err.old, E.faults err.new) (E.written err.old, E.written err.new)) }
@@ -33,7 +33,8 @@ pub fn write_answer<O: Sink, E: Sink>(answer: &Answer, out: &mut O, err: &mut E)
     }
 }
 
-/// Writes the line of a call that has no answer to `err`, whole or a front of it where a write fails, and gives the status.
+/// Writes the line of a call that has no answer to `err`, whole or a front of it where a write fails, and gives the
+/// status.
 pub fn write_failure<E: Sink>(failure: Failure<'_>, err: &mut E) -> u8
     ensures status { result ≡ ending_status (ending_of failure.entry) }
     ensures said { Stands (E.faults err.old, E.faults err.new) (E.written err.old, E.written err.new)

@@ -7,8 +7,8 @@ ghost use Rattle.bound_program.specs.Refusals.{found_if, refusal_of_first};
 use crate::refusals::refusals::{BindRefusal, Counted};
 use c_tree::Pos;
 
-/// When in its statement something is judged: in the order of its tokens, save the value of a set's size, which comes behind
-/// all of them, and the cells of the mesh, which come last.
+/// When in its statement something is judged: in the order of its tokens, save the value of a set's size, which comes
+/// behind all of them, and the cells of the mesh, which come last.
 #[derive(Clone, Copy, PartialEq, Eq, Debug)]
 pub enum Turn {
     InOrder,

@@ -40,7 +40,8 @@ pub enum BindRefusal {
     UnknownKernel {
         at: Pos,
     },
-    /// A loop has not as many arguments as its kernel has parameters, or an `op_printf` not as many values as conversions.
+    /// A loop has not as many arguments as its kernel has parameters, or an `op_printf` not as many values as
+    /// conversions.
     #[error("not as many as awaited")]
     ArgCount {
         at: Pos,

@@ -20,8 +20,8 @@ fn cell_behind(cells: &[i32], from: usize, index: usize) -> i32
     }
 }
 
-/// The value of an expression of `main`, or its first fault: `told` holds the values of the names that are told when `main`
-/// is unrolled, `cells` the cells of all variables. What isn't there is 0.
+/// The value of an expression of `main`, or its first fault: `told` holds the values of the names that are told when
+/// `main` is unrolled, `cells` the cells of all variables. What isn't there is 0.
 pub fn host_value(e: &RExpr, told: &[i32], cells: &[i32]) -> Result<i32, KernelFault>
     ensures { result ≡ value told.now cells.now (rexpr_of e.now) }
 {

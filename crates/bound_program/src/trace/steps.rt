@@ -18,8 +18,9 @@ pub struct Asked {
     pub at: Pos,
 }
 
-/// A statement whose names that are told when `main` is unrolled are numbered anew: in the expressions of `act` `Constant(k)` is the
-/// name with the number `names[k]`. One that stands in a `for` is shared by the items of all turns.
+/// A statement whose names that are told when `main` is unrolled are numbered anew: in the expressions of `act`
+/// `Constant(k)` is the name with the number `names[k]`. One that stands in a `for` is shared by the items of all
+/// turns.
 #[derive(Drop)]
 pub struct NamedAct {
     pub act: Arc<Act, Global>,
@@ -83,7 +84,8 @@ pub struct Told {
     pub value: i32,
 }
 
-/// What `main` does so far, the values that were told to variables on the way, and how many items and turns may still come.
+/// What `main` does so far, the values that were told to variables on the way, and how many items and turns may still
+/// come.
 #[derive(Drop)]
 pub struct Unrolled {
     pub items: Vec<Item>,

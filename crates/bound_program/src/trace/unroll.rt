@@ -193,7 +193,8 @@ fn know(told: &mut Vec<i32>, now: &Known) -> Result<(), OutOfMemory>
     Ok(())
 }
 
-/// What a step of `main` unrolls to, behind what `out` holds. `told` holds the values of the names that are known there.
+/// What a step of `main` unrolls to, behind what `out` holds. `told` holds the values of the names that are known
+/// there.
 #[cycle(unroll)]
 pub fn unroll(
     alloc: Global,

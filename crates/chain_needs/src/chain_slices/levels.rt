@@ -58,7 +58,8 @@ fn before_loop(
     })
 }
 
-/// What is needed before the loops that have levels, of which the last is the first loop's; before none, the owners' pairs.
+/// What is needed before the loops that have levels, of which the last is the first loop's; before none, the owners'
+/// pairs.
 pub fn front<'a>(own: &'a [Vec<RankSet>], levels: &'a [Level]) -> &'a [Vec<RankSet>]
     ensures { result.now ≡ front_of own.now levels.now }
 {

@@ -95,8 +95,8 @@ fn messages_at(shapes: &[Shape], place: Option<LevelAt>) -> u64
     }
 }
 
-/// The slices of a program's chains on the ranks of these owners. The time goes by the elements and the arguments of the loops of the
-/// chains with different loops, whatever the number of ranks is, and by the items.
+/// The slices of a program's chains on the ranks of these owners. The time goes by the elements and the arguments of
+/// the loops of the chains with different loops, whatever the number of ranks is, and by the items.
 ///
 /// # Errors
 /// Want of memory alone.

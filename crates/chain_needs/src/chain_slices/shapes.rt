@@ -22,7 +22,8 @@ pub struct Shape {
     pub sites: Vec<u32>,
     /// By loop, the last one's first.
     pub levels: Vec<Level>,
-    /// By dat and rank, the elements of pairs that the rank needs at the chain's start and doesn't own, in increasing order.
+    /// By dat and rank, the elements of pairs that the rank needs at the chain's start and doesn't own, in increasing
+    /// order.
     pub copies: Vec<Vec<Vec<u32>>>,
     /// How many messages its exchange has.
     pub messages: u64,

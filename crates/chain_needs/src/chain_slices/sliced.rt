@@ -93,7 +93,8 @@ impl Slices {
         }
     }
 
-    /// Of a dat, the elements of pairs that a rank needs before an item, at which a chain begins, and doesn't own, in increasing order.
+    /// Of a dat, the elements of pairs that a rank needs before an item, at which a chain begins, and doesn't own, in
+    /// increasing order.
     pub fn copies(&self, item: u32, dat: u32, rank: u32) -> &[u32]
         requires { (b : BoundValue) × (o : Owners) × AreSlices b o self.now × IsFreeItem b item × (begins_at b item ≡ true)
             × (dat < dat_count b.mesh) × (rank < o.ranks) }

@@ -27,8 +27,8 @@ pub fn written_states_are_read()
     mesh_decl::declarations_hold();
 }
 
-/// A law: so is the state before an item, which the head of a program prints there, and its text stands behind what was printed
-/// before.
+/// A law: so is the state before an item, which the head of a program prints there, and its text stands behind what was
+/// printed before.
 pub fn cuts_are_read()
     ensures { CutsAreRead }
 {

@@ -66,14 +66,14 @@ fn read_text(alloc: Global, text: &[u8], bound: &Bound) -> Result<State, StateRe
 }
 
 /// The state that a state file tells of the program `bound`. Its text begins behind the last line `op2state 1` of the
-/// file that isn't the first; what stands before was printed. `bytes` is the whole file, of fewer than 2^32 - 1 bytes, so
-/// that 32 bits count its lines. The state has the shape of the program, which can be cut before its item, so that `tail`
-/// goes on from it.
+/// file that isn't the first; what stands before was printed. `bytes` is the whole file, of fewer than 2^32 - 1 bytes,
+/// so that 32 bits count its lines. The state has the shape of the program, which can be cut before its item, so that
+/// `tail` goes on from it.
 ///
 /// # Errors
 /// The first line of the text that isn't the one awaited there, with its number in the file, from 1: `Header` (line 1)
-/// where no text begins, else `Item`, `Shape`, `Value` or `End`. A line that is missing, or has no LF, is refused as the
-/// one that is awaited there. It fails otherwise only for want of memory.
+/// where no text begins, else `Item`, `Shape`, `Value` or `End`. A line that is missing, or has no LF, is refused as
+/// the one that is awaited there. It fails otherwise only for want of memory.
 pub fn read_state(alloc: Global, bytes: &[u8], bound: &Bound) -> Result<State, StateRefusal>
     requires bytes { length bytes.now + 1 < 2 ^ 32 }
     requires items { length bound.now.trace.items < 2 ^ 32 }

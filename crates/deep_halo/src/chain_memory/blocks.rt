@@ -5,8 +5,9 @@ use bound_program::Bound;
 use kernel_code::Code;
 use mesh_decl::Owners;
 
-/// A program on the ranks of owners, with the codes of its kernels. Its cells stand in one memory: a block for each rank, which has the
-/// rank's store, with zeros for pairs that the rank doesn't hold; and behind these a block for the program's variables.
+/// A program on the ranks of owners, with the codes of its kernels. Its cells stand in one memory: a block for each
+/// rank, which has the rank's store, with zeros for pairs that the rank doesn't hold; and behind these a block for the
+/// program's variables.
 #[derive(Drop)]
 pub struct Blocks<'a> {
     pub bound: &'a Bound,

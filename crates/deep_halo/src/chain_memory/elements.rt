@@ -21,7 +21,8 @@ use kernel_types::views::Place;
 // All arguments' cells are taken over from a run.
 const MARKS: [bool; MAX_ARGS] = [true; MAX_ARGS];
 
-/// The element of a dat's set to which an element of the loop's set `set` leads, itself or by a map; both by original numbers.
+/// The element of a dat's set to which an element of the loop's set `set` leads, itself or by a map; both by original
+/// numbers.
 pub fn target_of(blocks: &Blocks<'_>, set: u32, dat: u32, via: Option<Via>, element: u32) -> u32
     requires fits { ViaFits (program_in blocks.now) set dat via }
     requires element { element < set_size (program_in blocks.now).mesh set }
@@ -97,9 +98,10 @@ fn put_places(
     }
 }
 
-/// Runs a loop's kernel for an element, in the block of rank `at`, or on the owners' pairs and the program's variables where there is
-/// no rank. Answers the kernel's fault, if it has one, after which the memory is as it was. `element` is an original number; `values`
-/// are those of all constants; `saved` and `locals` are room, whatever they hold. Takes no memory.
+/// Runs a loop's kernel for an element, in the block of rank `at`, or on the owners' pairs and the program's variables
+/// where there is no rank. Answers the kernel's fault, if it has one, after which the memory is as it was. `element` is
+/// an original number; `values` are those of all constants; `saved` and `locals` are room, whatever they hold. Takes no
+/// memory.
 pub fn run_element(
     memory: &mut [i32],
     blocks: &Blocks<'_>,

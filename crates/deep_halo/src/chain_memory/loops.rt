@@ -14,7 +14,8 @@ pub const MAX_ARGS: usize = 16;
 /// How many cells the arguments of a kernel have at most: 16 arguments of 64 cells.
 pub const MOST_SAVED: usize = 1024;
 
-/// A loop: its number, the set that it goes over, its arguments, and the code of its kernel, looked up once for all elements.
+/// A loop: its number, the set that it goes over, its arguments, and the code of its kernel, looked up once for all
+/// elements.
 #[derive(Drop)]
 pub struct Loop<'a> {
     pub site: u32,

@@ -10,7 +10,8 @@ ghost use Rattle.deep_halo.specs.Sound.{Sound, program_in, ranks_in};
 
 use crate::chain_memory::blocks::Blocks;
 
-/// Where the cells of a pair of a dat and an element, by its original number, stand in a block: that of a rank, or the one behind them.
+/// Where the cells of a pair of a dat and an element, by its original number, stand in a block: that of a rank, or the
+/// one behind them.
 pub fn pair_at(blocks: &Blocks<'_>, block: u32, dat: u32, element: u32) -> usize
     requires sound { Sound blocks.now }
     requires block { block ≤ ranks_in blocks.now }

@@ -1,4 +1,5 @@
-//! The elements of a loop on a rank, in the rank's block: what its kernel is given, and what is taken over from its run.
+//! The elements of a loop on a rank, in the rank's block: what its kernel is given, and what is taken over from its
+//! run.
 mod constants;
 mod dropping;
 mod globals;

@@ -77,9 +77,9 @@ fn take_over(
     );
 }
 
-/// Runs an element of a Free loop on a rank that executes it, in the rank's block. After a fault nothing is changed. What it leaves in
-/// pairs that the rank doesn't hold is dropped; its fault is kept and its amounts count where the rank owns it. `element` is an original
-/// number; `saved` and `locals` are room, whatever they hold. Takes no memory.
+/// Runs an element of a Free loop on a rank that executes it, in the rank's block. After a fault nothing is changed.
+/// What it leaves in pairs that the rank doesn't hold is dropped; its fault is kept and its amounts count where the
+/// rank owns it. `element` is an original number; `saved` and `locals` are room, whatever they hold. Takes no memory.
 pub fn run_on_rank(
     memory: &mut [i32],
     partials: &mut [i32],

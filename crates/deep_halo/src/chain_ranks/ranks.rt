@@ -45,8 +45,8 @@ fn run_rank(
     }
 }
 
-/// Runs a Free loop on all ranks, each with the elements that it executes. `saved` and `locals` are room, whatever they hold. Takes no
-/// memory.
+/// Runs a Free loop on all ranks, each with the elements that it executes. `saved` and `locals` are room, whatever they
+/// hold. Takes no memory.
 pub fn run_ranks(
     memory: &mut [i32],
     partials: &mut [i32],

@@ -28,9 +28,9 @@ fn put_all_under(out: &mut Vec<u8>, bytes: &[u8]) -> Result<(), AllocError>
     Ok(())
 }
 
-/// Appends a line of a source, and a line with a caret under its byte in this column, which is counted in bytes from 1, as compilers do.
-/// The caret stands where the byte is shown: a tab has a tab under it, and a character of several bytes one blank. It stands behind the
-/// line's end where the line has no such byte. An error is want of memory.
+/// Appends a line of a source, and a line with a caret under its byte in this column, which is counted in bytes from 1,
+/// as compilers do. The caret stands where the byte is shown: a tab has a tab under it, and a character of several
+/// bytes one blank. It stands behind the line's end where the line has no such byte. An error is want of memory.
 pub fn put_marked(out: &mut Vec<u8>, line: &[u8], column: u64) -> Result<(), AllocError>
     ensures { OnOk result (out.new.items ≡ out.old.items ++ marked line.now column) }
 {

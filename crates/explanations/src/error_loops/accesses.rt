@@ -126,11 +126,12 @@ fn text_of(alloc: Global, source: &[u8], judgement: Judgement) -> Result<Vec<u8>
     }
 }
 
-/// Which loop and which argument a refused access is about: the first loop in the source whose arguments make its kernel break that rule
-/// at that place, with its line of the source, and the argument that it gives the parameter there, by its number from 1, with its line.
+/// Which loop and which argument a refused access is about: the first loop in the source whose arguments make its
+/// kernel break that rule at that place, with its line of the source, and the argument that it gives the parameter
+/// there, by its number from 1, with its line.
 ///
-/// `source` has the bytes of the source, fewer than 2^32 - 2, and `line` what `op2` answers to it. Nothing is said of a line that tells of
-/// no access. An error is want of memory.
+/// `source` has the bytes of the source, fewer than 2^32 - 2, and `line` what `op2` answers to it. Nothing is said of a
+/// line that tells of no access. An error is want of memory.
 pub fn text_of_access(alloc: Global, source: &[u8], line: &[u8]) -> Result<Vec<u8>, OutOfMemory>
     requires { length source.now + 2 < 2 ^ 32 }
     ensures { IfOk result (λ v. IsTold source.now (judgement_in line.now) v.items) }

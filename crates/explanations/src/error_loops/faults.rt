@@ -126,9 +126,9 @@ fn put_item(
     }
 }
 
-/// Appends which turn of which loop of a bound program the fault is in of which this line tells: the item, its turn from 1, the name of
-/// the loop's kernel, and the source's line of the loop with a caret under it. Nothing is appended where the fault is in another
-/// statement. An error is want of memory.
+/// Appends which turn of which loop of a bound program the fault is in of which this line tells: the item, its turn
+/// from 1, the name of the loop's kernel, and the source's line of the loop with a caret under it. Nothing is appended
+/// where the fault is in another statement. An error is want of memory.
 pub fn put_fault_loop(
     out: &mut Vec<u8>,
     bound: &Bound,

@@ -17,8 +17,8 @@ pub fn place_of(at: Pos) -> Place
     }
 }
 
-/// Appends ` at L:C` for the place of a token, and, behind an LF, its line of the source with a caret under it, if the source has the
-/// line. An error is want of memory.
+/// Appends ` at L:C` for the place of a token, and, behind an LF, its line of the source with a caret under it, if the
+/// source has the line. An error is want of memory.
 pub fn put_placed(out: &mut Vec<u8>, source: &[u8], at: Pos) -> Result<(), OutOfMemory>
     ensures { OnOk result (out.new.items ≡ out.old.items ++ placed source.now at) }
 {

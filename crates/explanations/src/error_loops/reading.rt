@@ -119,7 +119,8 @@ fn source_by(
     }
 }
 
-/// A source with its tokens, its tree and its kernels, or none where it is refused for one of them. An error is want of memory.
+/// A source with its tokens, its tree and its kernels, or none where it is refused for one of them. An error is want of
+/// memory.
 pub fn source_of(alloc: Global, source: &[u8]) -> Result<Option<Source>, OutOfMemory>
     requires { length source.now + 2 < 2 ^ 32 }
     ensures some { IfOk result (λ o. IfSome o (λ s. IsReadAs source.now s.tokens.items (program_of s.program) s.types)) }

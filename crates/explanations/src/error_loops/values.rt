@@ -22,7 +22,8 @@ fn free_loop_of(item: &Item) -> Option<u32>
     }
 }
 
-/// The number of the Free loop that the item of a fault runs, of which this line tells; none where it runs no such loop.
+/// The number of the Free loop that the item of a fault runs, of which this line tells; none where it runs no such
+/// loop.
 pub fn free_loop_in(bound: &Bound, line: &[u8]) -> Option<u32>
     ensures { result ≡ free_loop_in (bound_of bound.now) line.now }
 {
@@ -168,9 +169,10 @@ fn put_at_site(out: &mut Vec<u8>, bound: &Bound, site: u32, element: u64) -> Res
     }
 }
 
-/// Appends what the loop of this number hands to its kernel, where the program begins, for the element that the line of a fault names: for
-/// each argument a line with its number from 1, the dat's name, the element to which it leads and its values there, or the variable's name
-/// and its values. Nothing is appended where there is no such loop or element. An error is want of memory.
+/// Appends what the loop of this number hands to its kernel, where the program begins, for the element that the line of
+/// a fault names: for each argument a line with its number from 1, the dat's name, the element to which it leads and
+/// its values there, or the variable's name and its values. Nothing is appended where there is no such loop or element.
+/// An error is want of memory.
 pub fn put_arguments(
     out: &mut Vec<u8>,
     bound: &Bound,

@@ -25,8 +25,8 @@ impl HeldFiles {
         }
     }
 
-    /// Holds the file `name` with these bytes from now on, in place of one with the same name. An error is want of memory, and the files
-    /// are as they were then.
+    /// Holds the file `name` with these bytes from now on, in place of one with the same name. An error is want of
+    /// memory, and the files are as they were then.
     pub fn hold(&mut self, name: String, bytes: Vec<u8>) -> Result<(), OutOfMemory>
         ensures ok { OnOk result (held self.new (string_bytes name) ≡ Some bytes.items) }
         ensures others { OnOk result ((other : List ℕ) → other ≢ string_bytes name → held self.new other ≡ held self.old other) }

@@ -63,8 +63,9 @@ fn explaining_in<'a>(table: &'a str, line: &[u8]) -> Option<&'a [u8]>
     None
 }
 
-/// The text that explains this line of `op2`: the first whose lines begin as it does, so that the text of a single error comes before
-/// that of its status. None where `op2` has no such line. It takes time linear in the texts, and no memory.
+/// The text that explains this line of `op2`: the first whose lines begin as it does, so that the text of a single
+/// error comes before that of its status. None where `op2` has no such line. It takes time linear in the texts, and no
+/// memory.
 pub fn text_of_line(line: &[u8]) -> Option<&'static [u8]>
     ensures { option_map (λ t. t.now) result ≡ find (explains line.now) all_texts }
 {

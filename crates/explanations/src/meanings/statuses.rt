@@ -1,6 +1,7 @@
 // What docs/COMMANDS.md says of the statuses.
 
-/// What each means, and its lines. They stand behind the texts of single errors, which explain lines first: a line for each text.
+/// What each means, and its lines. They stand behind the texts of single errors, which explain lines first: a line for
+/// each text.
 pub const STATUSES: &str = "\
     status 0\tstatus 0\tall is well: what was asked for is written\tit has no line\n\
     status 1\top2: out of memory\tout of memory\tits line: `op2: out of memory`\n\

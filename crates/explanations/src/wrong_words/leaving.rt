@@ -84,8 +84,8 @@ fn last_place(
     Ok(None)
 }
 
-/// The last place behind the first word at which so many words, one or two, can be left out so that a call is left. An error is want of
-/// memory.
+/// The last place behind the first word at which so many words, one or two, can be left out so that a call is left. An
+/// error is want of memory.
 pub fn wrong_place(
     alloc: Global,
     words: &Vec<String>,

@@ -57,8 +57,9 @@ fn put_two(out: &mut Vec<u8>, words: &Vec<String>, place: Option<usize>) -> Resu
     }
 }
 
-/// Appends which words are wrong, where the words, the program's name first, are refused: the last word that can be left out so that a call
-/// is left; or the last two such words that stand behind one another; or that none can be. An error is want of memory.
+/// Appends which words are wrong, where the words, the program's name first, are refused: the last word that can be
+/// left out so that a call is left; or the last two such words that stand behind one another; or that none can be. An
+/// error is want of memory.
 pub fn put_wrong(alloc: Global, out: &mut Vec<u8>, words: &Vec<String>) -> Result<(), OutOfMemory>
     ensures { OnOk result (out.new.items ≡ out.old.items ++ said_wrong (map string_bytes words.now.items)) }
 {

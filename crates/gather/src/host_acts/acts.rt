@@ -30,8 +30,8 @@ pub struct Variables<'a> {
     pub starts: &'a [usize],
 }
 
-/// An assignment to a variable: the values of its told names; its index, where it is an array; the sign and its place; the
-/// right side; the place of the variable's name.
+/// An assignment to a variable: the values of its told names; its index, where it is an array; the sign and its place;
+/// the right side; the place of the variable's name.
 #[derive(Drop)]
 pub struct Assignment<'a> {
     pub told: &'a [i32],

@@ -8,8 +8,8 @@ use std::alloc::{AllocError, Global};
 
 /// For each of `count` sides, at its place, the place of the other side that has the same nodes, in whatever order, or
 /// its own where no other has them. The sides stand one behind another in `sides`, each of `width` nodes. `Third`
-/// exactly where three sides or more have the same nodes, with the first place, from 0, that has two such sides in front
-/// of it. It takes time n log n for each node of a side.
+/// exactly where three sides or more have the same nodes, with the first place, from 0, that has two such sides in
+/// front of it. It takes time n log n for each node of a side.
 pub fn side_mates(
     alloc: Global,
     count: usize,
@@ -26,8 +26,8 @@ pub fn side_mates(
 }
 
 /// The class of each of `count` sides, at its place: sides that have the same nodes, in whatever order, have one class,
-/// others have others, and each class is below `count`. The sides stand one behind another, each of `width` nodes. It takes
-/// time n log n for each node of a side, and fails only for want of memory.
+/// others have others, and each class is below `count`. The sides stand one behind another, each of `width` nodes. It
+/// takes time n log n for each node of a side, and fails only for want of memory.
 pub fn side_classes(
     alloc: Global,
     count: usize,

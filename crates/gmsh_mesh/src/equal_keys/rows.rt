@@ -5,9 +5,9 @@ ghost use Rattle.gmsh_mesh.specs.EqualKeys.{AreRowClasses, AreRowClassesUpTo, Ar
 use crate::equal_keys::classing::classes;
 use std::alloc::{AllocError, Global};
 
-/// The class of each row, at its place: equal rows have one class, others have others, and each class is below the number
-/// of rows, `count`. The rows stand one behind another, each of `width` numbers. It takes time n log n for each number of
-/// a row, and fails only for want of memory.
+/// The class of each row, at its place: equal rows have one class, others have others, and each class is below the
+/// number of rows, `count`. The rows stand one behind another, each of `width` numbers. It takes time n log n for each
+/// number of a row, and fails only for want of memory.
 pub fn row_classes(
     alloc: Global,
     count: usize,

@@ -16,8 +16,8 @@ pub fn as_values(alloc: Global, numbers: &[u32]) -> Result<Vec<i32>, AllocError>
     Ok(values)
 }
 
-/// The rows at these places, one behind another: `rows` has rows of `width` numbers, and places are from 0. It fails only
-/// for want of memory.
+/// The rows at these places, one behind another: `rows` has rows of `width` numbers, and places are from 0. It fails
+/// only for want of memory.
 pub fn rows_at(
     alloc: Global,
     rows: &[u32],
@@ -48,8 +48,8 @@ pub fn cells_at(alloc: Global, places: &[u32], sides: u32) -> Result<Vec<u32>, A
     Ok(cells)
 }
 
-/// For each of these sides its cell and the cell of its mate, where each cell has so many sides. It fails only for want of
-/// memory.
+/// For each of these sides its cell and the cell of its mate, where each cell has so many sides. It fails only for want
+/// of memory.
 pub fn both_cells(
     alloc: Global,
     places: &[u32],

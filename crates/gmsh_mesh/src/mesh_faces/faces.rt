@@ -14,8 +14,8 @@ pub struct Faces {
     pub outer: Vec<u32>,
 }
 
-/// The faces of all cells' sides: `mates` has for each side, at its place, the place of the other side of its face, or its
-/// own where no other cell has it. It takes linear time, and fails only for want of memory.
+/// The faces of all cells' sides: `mates` has for each side, at its place, the place of the other side of its face, or
+/// its own where no other cell has it. It takes linear time, and fails only for want of memory.
 pub fn find_faces(alloc: Global, mates: &[u32]) -> Result<Faces, AllocError>
     requires { length mates.now < 2 ^ 32 }
     ensures { IfOk result (λ f. AreFaces mates.now (length mates.now) f.inner.items f.outer.items) }

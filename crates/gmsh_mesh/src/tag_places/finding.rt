@@ -9,8 +9,8 @@ use crate::tag_places::refusal::TagRefusal;
 use std::alloc::Global;
 
 /// For each of `keys`, at its place, the place of the tag that is equal to it, from 0; no two tags are equal. `Doubled`
-/// exactly where two tags are equal, with the first place that has an equal tag in front of it; `Unknown` exactly where no
-/// two tags are and a key is no tag, with the first such place. It takes time n log n.
+/// exactly where two tags are equal, with the first place that has an equal tag in front of it; `Unknown` exactly where
+/// no two tags are and a key is no tag, with the first such place. It takes time n log n.
 pub fn tag_places(alloc: Global, tags: &[u32], keys: &[u32]) -> Result<Vec<u32>, TagRefusal>
     requires few { length tags.now + length keys.now < 2 ^ 32 }
     ensures places { IfOk result (λ of. ArePlaces tags.now keys.now of.items) }

@@ -88,8 +88,8 @@ fn with_sign(minus: bool, magnitude: u64) -> Result<i32, DecimalRefusal>
     Ok(magnitude as i32)
 }
 
-/// A law: what the definition of scaled decimals rounds a fraction to is the number that is nearest, and no other is; of
-/// two that are as near it is the greater.
+/// A law: what the definition of scaled decimals rounds a fraction to is the number that is nearest, and no other is;
+/// of two that are as near it is the greater.
 pub fn nearest_is_one()
     ensures near { (n d : ℕ) → 0 < d → IsNearest n d (nearest n d) }
     ensures one { (n d q : ℕ) → 0 < d → IsNearest n d q → q ≡ nearest n d }

@@ -136,12 +136,13 @@ fn asked_plan<'a>(
     }
 }
 
-/// A plan of a bound program on the ranks of a distribution that runs what the plan does whose blocks and colours are asked for, in as
-/// many steps: that plan, or one by which places go in their order (`in_turn`), which takes no colouring. Where a file tells blocks and
-/// colours, `text` is what it holds, and that plan is taken; else the text isn't looked at. It has at most `PLAN_BYTES` bytes.
+/// A plan of a bound program on the ranks of a distribution that runs what the plan does whose blocks and colours are
+/// asked for, in as many steps: that plan, or one by which places go in their order (`in_turn`), which takes no
+/// colouring. Where a file tells blocks and colours, `text` is what it holds, and that plan is taken; else the text
+/// isn't looked at. It has at most `PLAN_BYTES` bytes.
 ///
-/// Refused are a text that gives no plan of the program, at its first line that isn't as awaited, and a plan with more steps than
-/// the limit. Want of memory is the one failure.
+/// Refused are a text that gives no plan of the program, at its first line that isn't as awaited, and a plan with more
+/// steps than the limit. Want of memory is the one failure.
 pub fn plan_by<'a>(
     alloc: Global,
     bound: &Bound,

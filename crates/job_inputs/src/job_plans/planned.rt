@@ -31,8 +31,8 @@ use mesh_decl::{Owners, Perms};
 use op_outside::Shelf;
 use std::alloc::Global;
 
-// The mesh by these owners and new numbers, and a plan there that runs what the one does that is asked for. Where a file tells blocks and
-// colours, `text` is what it holds.
+// The mesh by these owners and new numbers, and a plan there that runs what the one does that is asked for. Where a
+// file tells blocks and colours, `text` is what it holds.
 fn plan_over<'a, 'b>(
     alloc: Global,
     blocks: Blocks<'_>,
@@ -63,12 +63,13 @@ fn plan_over<'a, 'b>(
     })
 }
 
-/// The mesh of a bound program on the ranks that the options ask for, and a plan there that runs what the one does that they ask for, in
-/// as many steps: that plan, or one by which places go in their order (`in_turn`), where no file tells it. The program fits, and the
-/// numbers of the options are in range. Where the options name the files of a partition and of a plan, these are the next in `kept`.
+/// The mesh of a bound program on the ranks that the options ask for, and a plan there that runs what the one does that
+/// they ask for, in as many steps: that plan, or one by which places go in their order (`in_turn`), where no file tells
+/// it. The program fits, and the numbers of the options are in range. Where the options name the files of a partition
+/// and of a plan, these are the next in `kept`.
 ///
-/// Judged are, up to the first refusal, new numbers, the partition's file, owners, the plan's file, and the plan. A file that could not be
-/// read is a failure, where the shelf's count of faults rose, and so is want of memory.
+/// Judged are, up to the first refusal, new numbers, the partition's file, owners, the plan's file, and the plan. A
+/// file that could not be read is a failure, where the shelf's count of faults rose, and so is want of memory.
 pub fn planned_on<'a, 'b, F: Shelf>(
     alloc: Global,
     shelf: &mut F,

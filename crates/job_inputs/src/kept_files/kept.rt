@@ -18,8 +18,8 @@ struct Reading<'a> {
     bytes: Option<Vec<u8>>,
 }
 
-/// The readings of files that are still to come, in order. Of a name that stands there and was read before, the bytes are kept.
-/// Contracts see it as the list of the names, each with its bytes, if they are kept.
+/// The readings of files that are still to come, in order. Of a name that stands there and was read before, the bytes
+/// are kept. Contracts see it as the list of the names, each with its bytes, if they are kept.
 #[derive(Drop)]
 pub struct Kept<'a> {
     readings: Vec<Reading<'a>>,
@@ -53,11 +53,12 @@ impl<'a> Kept<'a> {
         Ok(())
     }
 
-    /// The bytes of the file `name`, which is the next to be read and has at most `limit` bytes; `limit` is below 2 ^ 32. Where it
-    /// was read before, they are what was read then, and else they are read from the shelf.
+    /// The bytes of the file `name`, which is the next to be read and has at most `limit` bytes; `limit` is below 2 ^
+    /// 32. Where it was read before, they are what was read then, and else they are read from the shelf.
     ///
-    /// `Failed` comes only where the shelf's count of faults rose in this call, and the file was not read before; `Missing` only
-    /// where the files are told and none has the name; `TooLarge` only where the file has more than `limit` bytes.
+    /// `Failed` comes only where the shelf's count of faults rose in this call, and the file was not read before;
+    /// `Missing` only where the files are told and none has the name; `TooLarge` only where the file has more than
+    /// `limit` bytes.
     pub fn read<F: Shelf>(
         &mut self,
         alloc: Global,

@@ -76,8 +76,8 @@ pub fn assigning_may_fault(op: AssignOp, value: &RExpr, counts: &[u32]) -> bool
     sign_may_fault(op, value) || may_fault(value, counts)
 }
 
-/// Whether an expression may fault, over arguments with so many components. A chain of operators, each the left operand of the
-/// one before it, is gone along by a loop.
+/// Whether an expression may fault, over arguments with so many components. A chain of operators, each the left operand
+/// of the one before it, is gone along by a loop.
 pub fn may_fault(e: &RExpr, counts: &[u32]) -> bool
     ensures { result ≡ may_fault counts.now e.now }
 {

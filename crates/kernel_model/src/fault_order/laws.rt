@@ -2,8 +2,8 @@
 
 ghost use Rattle.kernel_model.specs.Law.{UnchangedAfterFaults};
 
-/// A law: over arguments with at least so many components as it was judged for, a kernel whose faults come first leaves all
-/// cells as they were where it faults.
+/// A law: over arguments with at least so many components as it was judged for, a kernel whose faults come first leaves
+/// all cells as they were where it faults.
 pub fn unchanged_after_faults()
     ensures { UnchangedAfterFaults }
 {}

@@ -58,10 +58,11 @@ fn effects_of(st: &RStmt, counts: &[u32]) -> Effects
     }
 }
 
-/// Whether no part of a kernel that may fault can run after a store through an argument, over arguments with so many components,
-/// one number for each. After a fault of such a kernel all cells are as they were (`unchanged_after_faults`). What may fault is a
-/// division, a remainder or a shift by what is no fitting number, and an index that is no number below the count. A kernel of
-/// which it is false may still be such a one. It takes no memory, and time linear in the size of the kernel.
+/// Whether no part of a kernel that may fault can run after a store through an argument, over arguments with so many
+/// components, one number for each. After a fault of such a kernel all cells are as they were
+/// (`unchanged_after_faults`). What may fault is a division, a remainder or a shift by what is no fitting number, and
+/// an index that is no number below the count. A kernel of which it is false may still be such a one. It takes no
+/// memory, and time linear in the size of the kernel.
 pub fn faults_first(kernel: &RKernel, counts: &[u32]) -> bool
     ensures { result ≡ faults_first counts.now kernel.now }
 {

@@ -25,8 +25,8 @@ pub struct KernelInPlace<'a> {
     pub code: &'a Code<'a>,
     /// By argument whether its cells are put back after a fault.
     pub marks: &'a [bool],
-    /// Whether a fault leaves all cells as they were by itself (`kernel_model::fault_order::unchanged_after_faults`): none is saved
-    /// or put back then.
+    /// Whether a fault leaves all cells as they were by itself (`kernel_model::fault_order::unchanged_after_faults`):
+    /// none is saved or put back then.
     pub clean: bool,
     /// The cells of all constants.
     pub constants: &'a [i32],
@@ -93,14 +93,15 @@ fn run_saved(
     }
 }
 
-/// Runs a kernel on a memory's own cells, those at the places of its arguments. Where it faults, the cells of marked arguments are put
-/// back, and the fault is answered.
+/// Runs a kernel on a memory's own cells, those at the places of its arguments. Where it faults, the cells of marked
+/// arguments are put back, and the fault is answered.
 ///
-/// So it is a run on windows and their end, for all spans that gather windows in which the arguments stand as they do here, and
-/// whose written ones have marked arguments alone: the memory has in the end what that run leaves of the written spans, and
-/// after a fault it is as it was.
+/// So it is a run on windows and their end, for all spans that gather windows in which the arguments stand as they do
+/// here, and whose written ones have marked arguments alone: the memory has in the end what that run leaves of the
+/// written spans, and after a fault it is as it was.
 ///
-/// `saved` has room for the cells of all places, and `scratch` for the code's slots, whatever they hold. It takes no memory.
+/// `saved` has room for the cells of all places, and `scratch` for the code's slots, whatever they hold. It takes no
+/// memory.
 pub fn run_here(
     kernel: &KernelInPlace<'_>,
     memory: &mut [i32],

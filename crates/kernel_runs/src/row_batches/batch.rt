@@ -1,4 +1,5 @@
-// A batch: the kernel of a loop runs for up to 64 places of a rank at once, in columns that are put back at once or later.
+// A batch: the kernel of a loop runs for up to 64 places of a rank at once, in columns that are put back at once or
+// later.
 
 ghost use Rattle.std.specs.Prelude.{◌≡◌, ◌<◌, ◌≤◌, ◌+◌, ℕ, List, true, length, map, slice_index};
 ghost use Rattle.kernel_types.specs.Resolved.{IsResolved};
@@ -25,8 +26,8 @@ use kernel_columns::{Column, Numbers, ROWS, run_rows};
 /// As many rows as a batch has at least: fewer elements take no longer one after another.
 pub const FEWEST: usize = 8;
 
-// Runs the kernel in the first rows, on columns that are filled from the memory, for numbers that were looked up and found not to meet.
-// Whether it finishes in each of them.
+// Runs the kernel in the first rows, on columns that are filled from the memory, for numbers that were looked up and
+// found not to meet. Whether it finishes in each of them.
 fn run_looked_up(
     rows: &RowLoop<'_>,
     count: usize,
@@ -82,14 +83,15 @@ fn rows_of_places(rows: &RowLoop<'_>, batch: &Numbers, count: usize) -> usize
     }
 }
 
-/// Runs the kernel of a loop on a rank for the places of a batch, the first `count` numbers of `batch`, at most 64, in columns of its
-/// own: for as many of them, from the first on, as can run in rows. What the other numbers are means nothing. `memory` has the cells of
-/// the rank's buffer; nothing is put back into it, so several batches can run at once.
+/// Runs the kernel of a loop on a rank for the places of a batch, the first `count` numbers of `batch`, at most 64, in
+/// columns of its own: for as many of them, from the first on, as can run in rows. What the other numbers are means
+/// nothing. `memory` has the cells of the rank's buffer; nothing is put back into it, so several batches can run at
+/// once.
 ///
-/// It answers for how many places from the first on the kernel ran; [`put_aside`] puts back what it left in the room. These are the
-/// places before the first by which two arguments meet in an element, or which must differ from an earlier one and doesn't. Where there
-/// are fewer of them than [`FEWEST`], where a row has a fault, or where rows choose different parts of the code, it answers 0. It takes
-/// no memory.
+/// It answers for how many places from the first on the kernel ran; [`put_aside`] puts back what it left in the room.
+/// These are the places before the first by which two arguments meet in an element, or which must differ from an
+/// earlier one and doesn't. Where there are fewer of them than [`FEWEST`], where a row has a fault, or where rows
+/// choose different parts of the code, it answers 0. It takes no memory.
 pub fn run_aside(
     rows: &RowLoop<'_>,
     batch: &Numbers,
@@ -131,12 +133,13 @@ pub fn run_aside(
     apart
 }
 
-/// Puts back what the kernel left for the first `count` places of a batch that ran aside, from a memory that had the same as this one in
-/// the cells that these read: stores into `memory` and merges into it, and merges the amounts into the rank's partials. So it is called
-/// where the rank owns all of the batch's elements, or where the loop reduces into no variable.
+/// Puts back what the kernel left for the first `count` places of a batch that ran aside, from a memory that had the
+/// same as this one in the cells that these read: stores into `memory` and merges into it, and merges the amounts into
+/// the rank's partials. So it is called where the rank owns all of the batch's elements, or where the loop reduces into
+/// no variable.
 ///
-/// The kernel has run for these places then, one after another on the memory, with the first values of the loop's scalars behind the
-/// memory for each of them. It takes no memory.
+/// The kernel has run for these places then, one after another on the memory, with the first values of the loop's
+/// scalars behind the memory for each of them. It takes no memory.
 pub fn put_aside(
     rows: &RowLoop<'_>,
     batch: &Numbers,
@@ -170,15 +173,16 @@ pub fn put_aside(
     merge_scalars(rows.scalars, cells, inner, count, partials);
 }
 
-/// Runs the kernel of a loop on a rank for the places of a batch, the first `count` numbers of `batch`, at most 64: for as many of
-/// them, from the first on, as can run in rows. What the other numbers are means nothing. `memory` has the cells of the rank's
-/// buffer, and `partials` the rank's partials, into which the amounts of the rows are merged: so it is called where the rank owns all
-/// of the batch's elements, or where the loop reduces into no variable.
+/// Runs the kernel of a loop on a rank for the places of a batch, the first `count` numbers of `batch`, at most 64: for
+/// as many of them, from the first on, as can run in rows. What the other numbers are means nothing. `memory` has the
+/// cells of the rank's buffer, and `partials` the rank's partials, into which the amounts of the rows are merged: so it
+/// is called where the rank owns all of the batch's elements, or where the loop reduces into no variable.
 ///
-/// It answers for how many places from the first on the kernel ran, one after another on the memory, with the first values of the
-/// loop's scalars behind the memory for each of them. These are the places before the first by which two arguments meet in an
-/// element, or which must differ from an earlier one and doesn't. Where there are fewer of them than [`FEWEST`], where a row has a
-/// fault, or where rows choose different parts of the code, it answers 0: memory and partials are as they were. It takes no memory.
+/// It answers for how many places from the first on the kernel ran, one after another on the memory, with the first
+/// values of the loop's scalars behind the memory for each of them. These are the places before the first by which two
+/// arguments meet in an element, or which must differ from an earlier one and doesn't. Where there are fewer of them
+/// than [`FEWEST`], where a row has a fault, or where rows choose different parts of the code, it answers 0: memory and
+/// partials are as they were. It takes no memory.
 pub fn run_batch(
     rows: &RowLoop<'_>,
     batch: &Numbers,

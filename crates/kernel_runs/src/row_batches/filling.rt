@@ -1,4 +1,5 @@
-// Columns that are filled for a batch, in the first rows: with the components that the loop reads, and with units where it reduces.
+// Columns that are filled for a batch, in the first rows: with the components that the loop reads, and with units where
+// it reduces.
 
 ghost use Rattle.std.specs.Prelude.{◌≡◌, ◌<◌, ◌≤◌, ◌+◌, ℕ, [], length, get_or};
 ghost use Rattle.kernel_columns.specs.declared.columns.TheConstants.{ROWS};

@@ -105,7 +105,8 @@ fn merge_scalar(scalar: Scalar, cells: &Column, rows: usize, partials: &mut [i32
     }
 }
 
-/// Merges the amounts of the first rows, at most 64, into the partials. The columns of the scalars stand behind so many others.
+/// Merges the amounts of the first rows, at most 64, into the partials. The columns of the scalars stand behind so many
+/// others.
 pub fn merge_scalars(
     scalars: &[Scalar],
     frame: &[Column],

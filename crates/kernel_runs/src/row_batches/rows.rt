@@ -11,8 +11,8 @@ use op_num::reductions::Access;
 use rank_state::Scalar;
 use std::alloc::{AllocError, Global};
 
-/// A column of the frame that has a component of a dat's elements: those that arguments reach in one way. Arguments with one dat,
-/// map and index share it.
+/// A column of the frame that has a component of a dat's elements: those that arguments reach in one way. Arguments
+/// with one dat, map and index share it.
 #[derive(Clone, Copy)]
 pub struct RowColumn {
     /// The number of the way among those of the loop.
@@ -25,8 +25,8 @@ pub struct RowColumn {
     pub access: Access,
 }
 
-/// A loop on a rank, whose elements run in rows. A row of the frame has a cell for each of `columns`, and behind them one for each of
-/// `scalars`.
+/// A loop on a rank, whose elements run in rows. A row of the frame has a cell for each of `columns`, and behind them
+/// one for each of `scalars`.
 #[derive(Drop)]
 pub struct RowLoop<'a> {
     /// The code of the loop's kernel.

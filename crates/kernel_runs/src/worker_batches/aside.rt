@@ -86,8 +86,8 @@ impl<'a, 'b> PartJob<BatchPart> for Batches<'a, 'b> {
     }
 }
 
-/// Runs the kernel of a loop for the places of a list in batches of 64, each on columns of its own, by the `workers`, at least 1. There
-/// are no more parts than batches.
+/// Runs the kernel of a loop for the places of a list in batches of 64, each on columns of its own, by the `workers`,
+/// at least 1. There are no more parts than batches.
 pub fn run_all_aside<R: Threads + Sync>(
     threads: &R,
     workers: u32,

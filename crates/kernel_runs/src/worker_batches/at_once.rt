@@ -23,10 +23,11 @@ pub trait AtOnce {
     /// How many places a call of `run` takes at most; 0 where no batches run at once.
     fn most(&self, room: &BatchesRoom) -> usize;
 
-    /// Runs the kernel of a loop for places of a rank, for as many of them, from the first on, as can run at once, and answers for how
-    /// many. It has run for these then, one after another on the memory, with the first values of the loop's scalars behind the
-    /// memory for each of them. `memory` has the cells of the rank's buffer, and `partials` the rank's partials, into which the amounts
-    /// are merged: so it is called where the rank owns all of the elements, or where the loop reduces into no variable. Takes no memory.
+    /// Runs the kernel of a loop for places of a rank, for as many of them, from the first on, as can run at once, and
+    /// answers for how many. It has run for these then, one after another on the memory, with the first values of the
+    /// loop's scalars behind the memory for each of them. `memory` has the cells of the rank's buffer, and `partials`
+    /// the rank's partials, into which the amounts are merged: so it is called where the rank owns all of the elements,
+    /// or where the loop reduces into no variable. Takes no memory.
     fn run(
         &self,
         rows: &RowLoop<'_>,

@@ -35,7 +35,8 @@ fn are_marked(numbers: &[u32], marks: &[u32]) -> bool
     true
 }
 
-/// Whether all numbers of a list differ, where there is a mark for each. What the marks are means nothing, before and after.
+/// Whether all numbers of a list differ, where there is a mark for each. What the marks are means nothing, before and
+/// after.
 pub fn all_differ(numbers: &[u32], marks: &mut [u32]) -> bool
     ensures { result ≡ true → AreDifferent (length numbers.now) numbers.now }
 {

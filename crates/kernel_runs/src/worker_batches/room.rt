@@ -15,7 +15,8 @@ pub struct BatchPart {
     pub room: RowRoom,
 }
 
-/// Room for batches that run at once, and a mark for each place of the rank. What stands there means nothing between two calls.
+/// Room for batches that run at once, and a mark for each place of the rank. What stands there means nothing between
+/// two calls.
 #[derive(Drop)]
 pub struct BatchesRoom {
     pub(crate) parts: Vec<BatchPart>,
@@ -24,7 +25,8 @@ pub struct BatchesRoom {
     next: usize,
 }
 
-// As many batches as run at once at most, 32,768 elements: the time that their kernels take is long beside that in which threads start.
+// As many batches as run at once at most, 32,768 elements: the time that their kernels take is long beside that in
+// which threads start.
 const MOST_BATCHES: usize = 512;
 
 // The bytes of a batch's column: 64 cells of 4 bytes.
@@ -47,9 +49,9 @@ impl BatchesRoom {
         }
     }
 
-    /// Room for batches of loops with at most so many ways, columns and scalars together, and slots, on a rank with so many places.
-    /// Loops with more run as where there is no room. It has as many batches as take so many `bytes`, but at most 512, and no more than
-    /// the places make; with the marks it takes 4 bytes more for each place.
+    /// Room for batches of loops with at most so many ways, columns and scalars together, and slots, on a rank with so
+    /// many places. Loops with more run as where there is no room. It has as many batches as take so many `bytes`, but
+    /// at most 512, and no more than the places make; with the marks it takes 4 bytes more for each place.
     ///
     /// # Errors
     /// Want of memory alone.

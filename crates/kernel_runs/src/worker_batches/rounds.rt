@@ -22,8 +22,8 @@ use kernel_columns::ROWS;
 use std::marker::Sync;
 use std::thread::Threads;
 
-// Puts back batches that ran aside, one after another, up to the first of which not all places ran. Answers for how many places of the
-// list, from the first on, the kernel ran.
+// Puts back batches that ran aside, one after another, up to the first of which not all places ran. Answers for how
+// many places of the list, from the first on, the kernel ran.
 fn put_all(
     rows: &RowLoop<'_>,
     places: &[u32],
@@ -58,8 +58,8 @@ fn put_all(
     done
 }
 
-/// Runs the kernel of a loop for the first places of a list, one after another on the memory, in batches that the workers run at once.
-/// Answers for how many.
+/// Runs the kernel of a loop for the first places of a list, one after another on the memory, in batches that the
+/// workers run at once. Answers for how many.
 pub fn run_round<R: Threads + Sync>(
     workers: &Workers<'_, R>,
     rows: &RowLoop<'_>,

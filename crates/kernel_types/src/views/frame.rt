@@ -1,4 +1,5 @@
-// A frame: one lent buffer, and for each argument the place of its cells in it. Arguments with one target share a place.
+// A frame: one lent buffer, and for each argument the place of its cells in it. Arguments with one target share a
+// place.
 
 ghost use Rattle.std.specs.Prelude.{◌≡◌, ℕ, ◌+◌, ◌<◌, ◌↔◌, IsTrue, length, slice_set};
 ghost use Rattle.kernel_types.specs.Stores.{target_at, read_arg, store_arg};

@@ -4,16 +4,17 @@ ghost use Rattle.loop_bind.specs.ResolvedSources.{ResolvedSourcesAre, ResolvedNa
 
 use name_resolution::kernels_are_resolved;
 
-/// A law: a source that was read and resolves has the kernels of a resolved program, which name cells of single constants,
-/// constants that are its variables that kernels read, numbers of 32 bits and arrays with cells, and assigns variables alone.
+/// A law: a source that was read and resolves has the kernels of a resolved program, which name cells of single
+/// constants, constants that are its variables that kernels read, numbers of 32 bits and arrays with cells, and assigns
+/// variables alone.
 pub fn resolved_sources_are()
     ensures { ResolvedSourcesAre }
 {
     kernels_are_resolved();
 }
 
-/// A law: where names and types of a source refuse nothing, its `main` assigns variables alone, and no two variables of its
-/// file have one name.
+/// A law: where names and types of a source refuse nothing, its `main` assigns variables alone, and no two variables of
+/// its file have one name.
 pub fn resolved_names_hold()
     ensures { ResolvedNamesHold }
 {}

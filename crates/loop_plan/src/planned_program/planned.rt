@@ -5,8 +5,8 @@ use bound_program::Bound;
 use distribute::Distribution;
 use std::marker::Model;
 
-/// A bound program with its mesh on several ranks and its plan there. In every one the program is as binding leaves it, the
-/// distribution is one of its mesh, and the plan is one of the program on these ranks.
+/// A bound program with its mesh on several ranks and its plan there. In every one the program is as binding leaves it,
+/// the distribution is one of its mesh, and the plan is one of the program on these ranks.
 #[derive(Drop)]
 pub struct Planned<'a> {
     pub bound: &'a Bound,

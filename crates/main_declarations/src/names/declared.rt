@@ -12,8 +12,8 @@ use mesh_decl::{Mesh, Values};
 use op_num::{Name, OutOfMemory};
 use std::alloc::{AllocError, Global};
 
-/// What is declared so far in the text. `cells` counts those of all variables, `filled` those of the mesh, `kernels` the
-/// kernels; `externs` holds the numbers of the externs that are variables.
+/// What is declared so far in the text. `cells` counts those of all variables, `filled` those of the mesh, `kernels`
+/// the kernels; `externs` holds the numbers of the externs that are variables.
 #[derive(Drop)]
 pub struct Declared {
     pub mesh: Mesh,

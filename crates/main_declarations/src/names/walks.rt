@@ -5,7 +5,8 @@ use c_tree::Pos;
 use mesh_decl::Entries;
 use std::alloc::Global;
 
-/// What the text is judged by: the places of its tokens, the constants that kernels read, and the entries of the mesh text.
+/// What the text is judged by: the places of its tokens, the constants that kernels read, and the entries of the mesh
+/// text.
 #[derive(Clone, Copy)]
 pub struct Source<'a> {
     pub alloc: Global,

@@ -84,8 +84,8 @@ pub enum MeshRefusal {
     /// A name that an entry before has, at the name.
     #[error("line {line}: a name a second time")]
     DuplicateEntry { line: u32 },
-    /// Behind COUNT a token that gives no values, a run of 0, a run of more values than are left, or the end, before COUNT
-    /// values are there; or a number, or in version 2 a run, where an entry or `done` is awaited.
+    /// Behind COUNT a token that gives no values, a run of 0, a run of more values than are left, or the end, before
+    /// COUNT values are there; or a number, or in version 2 a run, where an entry or `done` is awaited.
     #[error("line {line}: not as many values as announced")]
     WrongCount { line: u32 },
     /// A number outside `i32`, or a COUNT or the number of a run above 2147483647.

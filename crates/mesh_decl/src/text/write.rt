@@ -126,8 +126,8 @@ pub fn written_is_spelled()
     printed_is_read();
 }
 
-/// A law: entries that some text spells have names and counts that can be spelled again, so `write_mesh` spells whatever
-/// `read_mesh` read.
+/// A law: entries that some text spells have names and counts that can be spelled again, so `write_mesh` spells
+/// whatever `read_mesh` read.
 pub fn read_can_be_written()
     ensures { (bytes : List ℕ) (es : List Named) → Spells bytes es → CanBeSpelled es }
 {}

@@ -56,8 +56,9 @@ fn push_some(fields: &mut Vec<Field>, field: Option<Field>) -> Result<(), OutOfM
     Ok(())
 }
 
-/// The fields of the dats on a set that a program prints, in order of declaration: of each the lines of its last print, out of the output
-/// of a run. An output has fewer than 2^32 - 1 bytes. It takes time linear in the output and the trace for each such dat.
+/// The fields of the dats on a set that a program prints, in order of declaration: of each the lines of its last print,
+/// out of the output of a run. An output has fewer than 2^32 - 1 bytes. It takes time linear in the output and the
+/// trace for each such dat.
 ///
 /// # Errors
 /// The first cause of [`FieldRefusal`] by the dats in order; `OutOfMemory` where memory runs out.

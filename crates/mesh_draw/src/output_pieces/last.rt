@@ -67,11 +67,12 @@ fn find_last<'a>(
     Ok(last)
 }
 
-/// What a program prints of the elements of a dat where it prints it last, a line for each, out of the output of a run: where the
-/// program's trace says that they stand. What is behind them may be anything.
+/// What a program prints of the elements of a dat where it prints it last, a line for each, out of the output of a run:
+/// where the program's trace says that they stand. What is behind them may be anything.
 ///
-/// `NoPrint`: the program doesn't print the dat. `NoHeader`: the dat's first line isn't where it should end. `FewRows`: the output has too
-/// few lines behind it. `OutOfMemory`: for want of memory alone, also where lines can't be counted in 64 bits.
+/// `NoPrint`: the program doesn't print the dat. `NoHeader`: the dat's first line isn't where it should end. `FewRows`:
+/// the output has too few lines behind it. `OutOfMemory`: for want of memory alone, also where lines can't be counted
+/// in 64 bits.
 pub fn last_rows<'a>(
     alloc: Global,
     bound: &Bound,

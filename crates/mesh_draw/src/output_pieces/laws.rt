@@ -7,7 +7,8 @@ pub fn pieces_are_one()
     ensures { PiecesAreOne }
 {}
 
-/// A law: where the run of a program that fits comes to the item that prints the dat, what it prints there is the piece of its output.
+/// A law: where the run of a program that fits comes to the item that prints the dat, what it prints there is the piece
+/// of its output.
 pub fn runs_have_pieces()
     ensures { RunsHavePieces }
 {

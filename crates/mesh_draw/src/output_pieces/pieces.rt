@@ -32,11 +32,13 @@ pub fn end_of(output: &[u8], header: &[u8], before: u64) -> Result<usize, PieceR
     }
 }
 
-/// What the dat that a program prints with `file` as its file, behind `earlier` such dats, says in the output of a run: its first line and
-/// a line for each element, where the program's trace says that they stand. What is behind them may be anything, as a dump, or be missing.
+/// What the dat that a program prints with `file` as its file, behind `earlier` such dats, says in the output of a run:
+/// its first line and a line for each element, where the program's trace says that they stand. What is behind them may
+/// be anything, as a dump, or be missing.
 ///
-/// `NoPrint`: the program prints no more than those. `NoHeader`: the dat's first line isn't where it should end. `FewRows`: the output has
-/// too few lines behind it. `OutOfMemory`: for want of memory alone, also where lines can't be counted in 64 bits.
+/// `NoPrint`: the program prints no more than those. `NoHeader`: the dat's first line isn't where it should end.
+/// `FewRows`: the output has too few lines behind it. `OutOfMemory`: for want of memory alone, also where lines can't
+/// be counted in 64 bits.
 pub fn piece_of<'a>(
     alloc: Global,
     bound: &Bound,

@@ -80,8 +80,8 @@ fn printed_by(item: &Item, file: &[u8]) -> Option<u32>
 
 /// The item that prints a dat with `file` as its file behind `earlier` such items: its dat, and the LFs before it.
 ///
-/// `NoPrint` comes exactly where there are no more than those; else an error is want of memory, also where lines can't be counted in
-/// 64 bits.
+/// `NoPrint` comes exactly where there are no more than those; else an error is want of memory, also where lines can't
+/// be counted in 64 bits.
 pub fn find_print(
     alloc: Global,
     bound: &Bound,

@@ -189,8 +189,9 @@ fn frame_in(mesh: &Mesh, shape: Shape) -> Frame
     frame_of(mesh.dat_values(shape.coords), mesh.set_size(set))
 }
 
-/// The picture of a plane mesh's cells, as an SVG: polygon i has the nodes of cell i, in their order and where the dat of the shape says
-/// that they lie, and the colour with number i of `fills`; beside the cells stands a legend. The longer side has 800 pixels.
+/// The picture of a plane mesh's cells, as an SVG: polygon i has the nodes of cell i, in their order and where the dat
+/// of the shape says that they lie, and the colour with number i of `fills`; beside the cells stands a legend. The
+/// longer side has 800 pixels.
 ///
 /// It fails only for want of memory.
 pub fn picture(

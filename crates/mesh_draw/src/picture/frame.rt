@@ -10,7 +10,8 @@ pub struct Extent {
     pub high: i32,
 }
 
-/// Where the nodes of a plane mesh lie: their first coordinates from left to right, their second ones from below upwards.
+/// Where the nodes of a plane mesh lie: their first coordinates from left to right, their second ones from below
+/// upwards.
 #[derive(Clone, Copy, Debug)]
 pub struct Frame {
     pub across: Extent,

@@ -8,7 +8,8 @@ pub const COLOUR_COUNT: u8 = 64;
 // How many bytes the text of a colour has.
 const TEXT_LEN: usize = 7;
 
-// The colours, as SVG has them: those of a palette for charts, then each as far from those before it as can be, and a light grey.
+// The colours, as SVG has them: those of a palette for charts, then each as far from those before it as can be, and a
+// light grey.
 const COLOURS: &[u8; 448] = b"\
     #4e79a7#f28e2b#59a14f#e15759#b07aa1#76b7b2#edc948#9c755f\
     #0000ff#00ff00#ff22dd#0055dd#ff0000#bbee00#880077#ff0088\

@@ -14,12 +14,13 @@ pub enum CellKind {
     Quad,
     /// Four nodes in space.
     Tetrahedron,
-    /// Eight nodes in space: four in an order in which one runs round a face, and the four opposite to them in the same order.
+    /// Eight nodes in space: four in an order in which one runs round a face, and the four opposite to them in the same
+    /// order.
     Hexahedron,
 }
 
-/// The numbers of the dat that has the coordinates of the nodes and of the map that leads from each cell to its nodes, and what the
-/// cells are.
+/// The numbers of the dat that has the coordinates of the nodes and of the map that leads from each cell to its nodes,
+/// and what the cells are.
 #[derive(Clone, Copy, Debug, PartialEq, Eq)]
 pub struct Shape {
     pub coords: u32,
@@ -58,8 +59,8 @@ fn kind_of(coords: u32, nodes: u32) -> Option<CellKind>
     }
 }
 
-/// The shape of a mesh's cells by the first dat named `coords`, which has the coordinates of the nodes, two or three for each, and the
-/// first map named `cells`, which leads from each cell to its nodes. It takes no memory.
+/// The shape of a mesh's cells by the first dat named `coords`, which has the coordinates of the nodes, two or three
+/// for each, and the first map named `cells`, which leads from each cell to its nodes. It takes no memory.
 ///
 /// # Errors
 /// The first cause of [`ShapeRefusal`] that is so.

@@ -57,8 +57,8 @@ pub struct GridData<'a> {
     pub on_nodes: &'a [Field],
 }
 
-/// The text of a mesh's cells for VTK, with a number on each cell, and fields on the cells and the nodes. Each count that is announced
-/// is that of the lines that follow, where fields have a line for each element.
+/// The text of a mesh's cells for VTK, with a number on each cell, and fields on the cells and the nodes. Each count
+/// that is announced is that of the lines that follow, where fields have a line for each element.
 ///
 /// It fails only for want of memory.
 pub fn vtk_text(

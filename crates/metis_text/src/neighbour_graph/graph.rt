@@ -13,8 +13,8 @@ use renumber::breadth_order::inverse;
 use renumber::rows::Rows;
 use std::alloc::{AllocError, Global};
 
-// Appends the lines of all elements; how many neighbours they have. An error is want of memory, also where these can't be counted in 64
-// bits.
+// Appends the lines of all elements; how many neighbours they have. An error is want of memory, also where these can't
+// be counted in 64 bits.
 fn put_lines(
     alloc: Global,
     out: &mut Vec<u8>,
@@ -50,12 +50,12 @@ fn sum(a: u64, b: u64) -> Result<u64, OutOfMemory>
     }
 }
 
-/// The graph of the set to which the map numbered `map` leads, in METIS's format: a line with how many elements there are and how many
-/// pairs of neighbours, and then for each element a line with its neighbours, numbered from 1 on. Two elements are neighbours where one
-/// element has both as targets.
+/// The graph of the set to which the map numbered `map` leads, in METIS's format: a line with how many elements there
+/// are and how many pairs of neighbours, and then for each element a line with its neighbours, numbered from 1 on. Two
+/// elements are neighbours where one element has both as targets.
 ///
-/// It takes time n log n in the pairs of targets of one element. An error is want of memory, also where neighbours can't be counted in 64
-/// bits.
+/// It takes time n log n in the pairs of targets of one element. An error is want of memory, also where neighbours
+/// can't be counted in 64 bits.
 pub fn write_graph(alloc: Global, mesh: &Mesh, map: u32) -> Result<Vec<u8>, OutOfMemory>
     requires { map < map_count mesh.now }
     ensures { IfOk result (λ v. IsGraph mesh.now map v.items) }

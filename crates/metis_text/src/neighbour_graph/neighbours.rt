@@ -9,8 +9,8 @@ use op_num::OutOfMemory;
 use renumber::breadth_order::unseen_neighbours;
 use renumber::rows::Rows;
 
-/// Puts the neighbours by a map of an element into `found`, in place of what it has, each once, in increasing order. `by` is the map's
-/// inverse, and `seen` marks nothing. An error is want of memory.
+/// Puts the neighbours by a map of an element into `found`, in place of what it has, each once, in increasing order.
+/// `by` is the map's inverse, and `seen` marks nothing. An error is want of memory.
 pub fn next_row(
     found: &mut Vec<u32>,
     mesh: &Mesh,

@@ -1,6 +1,8 @@
-//! Owners by a partition that a graph partitioner wrote, as METIS writes it: line by line a number for each element of one set.
+//! Owners by a partition that a graph partitioner wrote, as METIS writes it: line by line a number for each element of
+//! one set.
 //!
-//! `specs/Numbers.antt` says what a text is read as, and which line of it is refused; `specs/Owned.antt` what owners it gives.
+//! `specs/Numbers.antt` says what a text is read as, and which line of it is refused; `specs/Owned.antt` what owners it
+//! gives.
 mod numbers;
 mod owners;
 mod refusals;

@@ -20,7 +20,8 @@ use thiserror::Error;
 /// Why owners are not written.
 #[derive(Clone, Copy, Debug, PartialEq, Eq, Error)]
 pub enum WriteRefusal {
-    /// No text can name this set: it has no name, a blank stands in its name, or a later set has it. The first such set is told.
+    /// No text can name this set: it has no name, a blank stands in its name, or a later set has it. The first such set
+    /// is told.
     #[error("no text can name set {set}")]
     Unnamed { set: u32 },
     /// Want of memory.
@@ -96,8 +97,8 @@ fn text_of(alloc: Global, mesh: &Mesh, owners: &Owners) -> Result<Vec<u8>, OutOf
     Ok(out)
 }
 
-/// The text of owners of a mesh: where `read_partition` reads it for this mesh and as many ranks, it gives these owners back. It takes
-/// linear time, and as many comparisons of names as there are pairs of sets.
+/// The text of owners of a mesh: where `read_partition` reads it for this mesh and as many ranks, it gives these owners
+/// back. It takes linear time, and as many comparisons of names as there are pairs of sets.
 ///
 /// Refused is a mesh with a set that no text can name.
 pub fn write_partition(alloc: Global, mesh: &Mesh, owners: &Owners) -> Result<Vec<u8>, WriteRefusal>

@@ -21,10 +21,10 @@ use texts::{Token, Tokens};
 
 /// The owners that the partition text `bytes` spells for a mesh and this number of ranks: for each set of the mesh, in
 /// order of declaration, the rank of each of its elements, each below `ranks`. The text may name the sets in any order.
-/// Each refusal is that of the first token, in order, that may not stand where it does, or of the end; `PartRefusal` says
-/// what each is. Lines are counted in `u32`, so the text has fewer than 2 ^ 32 - 1 bytes. Where several sets of the mesh
-/// have one name, it is the name of the last of them, so that no text gives the others their ranks. It takes time linear in
-/// the bytes, and for each `set` of the text as many comparisons of names as the mesh has sets.
+/// Each refusal is that of the first token, in order, that may not stand where it does, or of the end; `PartRefusal`
+/// says what each is. Lines are counted in `u32`, so the text has fewer than 2 ^ 32 - 1 bytes. Where several sets of
+/// the mesh have one name, it is the name of the last of them, so that no text gives the others their ranks. It takes
+/// time linear in the bytes, and for each `set` of the text as many comparisons of names as the mesh has sets.
 pub fn read_partition(
     alloc: Global,
     bytes: &[u8],

@@ -2,8 +2,8 @@
 use std::alloc::{AllocError, AllocFailed};
 use thiserror::Error;
 
-/// Why a text spells no owners of a mesh. A line is that of the token that is refused, from 1; where a token is missing it
-/// is the line of the last token, or 1 where there is none.
+/// Why a text spells no owners of a mesh. A line is that of the token that is refused, from 1; where a token is missing
+/// it is the line of the last token, or 1 where there is none.
 #[derive(Clone, Copy, Debug, PartialEq, Eq, Error)]
 pub enum PartRefusal {
     /// The first two tokens are not `op2part 1`.

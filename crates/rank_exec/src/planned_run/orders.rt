@@ -94,8 +94,9 @@ pub fn steps_of(
     }
 }
 
-/// Judges a list of steps: its peak exactly where the plan accepts it. Else the refusal is that of the first step that can't be
-/// taken in its turn, with the number of the steps before it, or of the first step in standard order that is left at the end.
+/// Judges a list of steps: its peak exactly where the plan accepts it. Else the refusal is that of the first step that
+/// can't be taken in its turn, with the number of the steps before it, or of the first step in standard order that is
+/// left at the end.
 ///
 /// # Errors
 /// Want of memory alone, also where 32 bits can't count the plan's steps, or 64 bits the cells of a message for each.

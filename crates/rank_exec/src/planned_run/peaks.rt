@@ -6,8 +6,8 @@ ghost use Rattle.schedule_steps.specs.Standard.{standard};
 ghost use Rattle.rank_exec.specs.Peaks.{CellsAreExported, PeaksAreRoom};
 ghost use Rattle.rank_exec.specs.Room.{item_cells};
 
-/// A law: the cells that the checker counts for a message are those that the sender exports, and the peak of an accepted list
-/// is room for it.
+/// A law: the cells that the checker counts for a message are those that the sender exports, and the peak of an
+/// accepted list is room for it.
 pub fn peaks_are_room()
     ensures cells { CellsAreExported }
     ensures room { PeaksAreRoom }
@@ -20,8 +20,8 @@ pub fn peaks_are_room()
     local_mesh::originals_are_held();
 }
 
-/// A law: the standard order never has more elements open than are begun together, nor more than a rank has of one item; and
-/// no more cells are under way than the messages of one item have.
+/// A law: the standard order never has more elements open than are begun together, nor more than a rank has of one
+/// item; and no more cells are under way than the messages of one item have.
 pub fn standard_has_room()
     ensures frames { (o : Outline) (g m : ℕ) → 0 < g
         → ((k r : ℕ) → k < o.items → o.is_free k ≡ true → r < o.ranks → min g (o.count k r) ≤ m)

@@ -132,7 +132,8 @@ fn most_cells<'s>(
     Ok(most)
 }
 
-// How many elements are open at once at most, where the ranks have so many places and at most `group` of them are begun together.
+// How many elements are open at once at most, where the ranks have so many places and at most `group` of them are begun
+// together.
 fn most_open(places: &[usize], group: u32) -> u32
     ensures { (r : ℕ) → r < length places.now → min group (slice_index places.now r) ≤ result }
 {
@@ -143,8 +144,9 @@ fn most_open(places: &[usize], group: u32) -> u32
     most as u32
 }
 
-/// Room for the standard order of a distributed program's plan, with groups of at most `group` places, at least 1: for as many
-/// open elements as are begun together, and for the messages of one item. It takes time linear in the cells of all messages.
+/// Room for the standard order of a distributed program's plan, with groups of at most `group` places, at least 1: for
+/// as many open elements as are begun together, and for the messages of one item. It takes time linear in the cells of
+/// all messages.
 ///
 /// # Errors
 /// Want of memory alone, also where 64 bits can't count the cells of an item's messages.

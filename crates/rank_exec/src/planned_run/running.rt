@@ -44,7 +44,8 @@ use step_orders::ahead::Ahead;
 use step_orders::drawn::DrawnOrder;
 use step_orders::{Listed, Shape};
 
-// How many steps are held at most of a stream that is looked ahead: a group of 1,024 begins with their ends, and one more.
+// How many steps are held at most of a stream that is looked ahead: a group of 1,024 begins with their ends, and one
+// more.
 const MOST_HELD: usize = 2049;
 
 // The peak of an accepted list of a plan's steps. An error is want of memory.
@@ -88,8 +89,8 @@ fn run_peaked<R: Threads + Sync, G: Gate, S: Steps>(
     run_planned(crew, program, peak, steps, dumps)
 }
 
-// Runs a program by an accepted list of its plan's steps, which comes twice: for its peak, and for the run. An error is want
-// of memory.
+// Runs a program by an accepted list of its plan's steps, which comes twice: for its peak, and for the run. An error is
+// want of memory.
 fn run_steps<R: Threads + Sync, G: Gate, S: Steps>(
     crew: &Crew<'_, R, G>,
     program: &DistributedProgram<'_>,
@@ -129,9 +130,9 @@ fn round_items(
     Ok(round)
 }
 
-// Runs a program by an accepted list of its plan's steps, with room for their peak. Where several workers run it on several ranks,
-// the list of `items` items is looked ahead for closed groups of elements that come in rounds, so that each rank's first group is
-// told too. An error is want of memory.
+// Runs a program by an accepted list of its plan's steps, with room for their peak. Where several workers run it on
+// several ranks, the list of `items` items is looked ahead for closed groups of elements that come in rounds, so that
+// each rank's first group is told too. An error is want of memory.
 fn run_ahead<R: Threads + Sync, G: Gate, S: Steps + Drop>(
     crew: &Crew<'_, R, G>,
     program: &DistributedProgram<'_>,
@@ -239,12 +240,12 @@ fn run_in_order<R: Threads + Sync, G: Gate>(
     }
 }
 
-/// Runs a planned program by this order of its plan's steps: the printed bytes and the first fault are those of running each loop one
-/// element after another in its set's original order. Where `dumps` and no fault stops the run, a dump of what the ranks hold after
-/// these steps stands behind the printed bytes.
+/// Runs a planned program by this order of its plan's steps: the printed bytes and the first fault are those of running
+/// each loop one element after another in its set's original order. Where `dumps` and no fault stops the run, a dump of
+/// what the ranks hold after these steps stands behind the printed bytes.
 ///
-/// Begins that come one after another are done in groups by the workers of `crew`, and its gate is told of each begin of a group
-/// just before it. The answer is the same for every crew.
+/// Begins that come one after another are done in groups by the workers of `crew`, and its gate is told of each begin
+/// of a group just before it. The answer is the same for every crew.
 ///
 /// # Errors
 /// Want of memory alone.

@@ -20,9 +20,9 @@ fn has_large_set(mesh: &Mesh) -> bool {
     false
 }
 
-/// Whether so many workers on so many ranks run a program as fast where the places of its loops go in their order as by colours, which
-/// take time: there is one worker; or some set has more than 1,024 elements, and no kernel's elements are better begun in groups, of
-/// which a loop over fewer is one.
+/// Whether so many workers on so many ranks run a program as fast where the places of its loops go in their order as by
+/// colours, which take time: there is one worker; or some set has more than 1,024 elements, and no kernel's elements
+/// are better begun in groups, of which a loop over fewer is one.
 ///
 /// # Errors
 /// Want of memory.

@@ -116,8 +116,8 @@ impl Machine {
         self.frames.open(item, rank, place, cells);
     }
 
-    /// Runs the kernel for the elements at the places, one after another, and puts back at once what each leaves. No frame is opened
-    /// for them. `room` has the values of all constants.
+    /// Runs the kernel for the elements at the places, one after another, and puts back at once what each leaves. No
+    /// frame is opened for them. `room` has the values of all constants.
     pub fn in_place(
         &mut self,
         program: &DistributedProgram<'_>,

@@ -1,4 +1,5 @@
-// The joins on the machine: what reduces into the variables, elements that run on the owners' cells, and host statements.
+// The joins on the machine: what reduces into the variables, elements that run on the owners' cells, and host
+// statements.
 
 ghost use Rattle.std.specs.Prelude.{◌≡◌, ℕ, ◌+◌, ◌<◌, ◌≤◌, ◌*◌, ◌++◌, length, IfOk, OnOk};
 ghost use Rattle.mesh_decl.specs.Mesh.{dat_count, dat_set, dat_dim, set_size};

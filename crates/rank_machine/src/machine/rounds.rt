@@ -25,9 +25,10 @@ impl Machine {
         self.memories.len()
     }
 
-    /// Runs the kernel for the elements at each rank's places, one after another, and puts back at once what each leaves; the ranks
-    /// are shared out among the workers of `crew`, and its gate is told of each rank just before. The faults are put together by
-    /// increasing rank. There are as many lists of places and parts as ranks; the parts' rooms have the values of all constants.
+    /// Runs the kernel for the elements at each rank's places, one after another, and puts back at once what each
+    /// leaves; the ranks are shared out among the workers of `crew`, and its gate is told of each rank just before. The
+    /// faults are put together by increasing rank. There are as many lists of places and parts as ranks; the parts'
+    /// rooms have the values of all constants.
     pub fn on_ranks<R: Threads + Sync, G: Gate>(
         &mut self,
         crew: &Crew<'_, R, G>,

@@ -2,8 +2,8 @@
 
 use crate::{Scalar, Span};
 
-/// What the end of an element puts back of what its frame holds: its windows on spans of the rank's buffer, where these are
-/// written, and the amounts that it reduces into the rank's partials.
+/// What the end of an element puts back of what its frame holds: its windows on spans of the rank's buffer, where these
+/// are written, and the amounts that it reduces into the rank's partials.
 #[derive(Clone, Copy, Debug)]
 pub struct Ending<'a> {
     /// whether the rank owns the element, so that its amounts count

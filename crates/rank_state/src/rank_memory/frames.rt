@@ -45,7 +45,8 @@ impl Model for Frames {
 }
 
 impl Frames {
-    /// Room for `peak` open elements, of at most `stride` cells each. `shape` says for each rank how many places it has.
+    /// Room for `peak` open elements, of at most `stride` cells each. `shape` says for each rank how many places it
+    /// has.
     ///
     /// # Errors
     /// Want of memory, which a `peak` of 2^32 or more is answered by too.

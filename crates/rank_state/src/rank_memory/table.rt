@@ -1,4 +1,5 @@
-// Which slot each open element has: a row of numbers for each rank, with one more than the slot for an open element, and else 0.
+// Which slot each open element has: a row of numbers for each rank, with one more than the slot for an open element,
+// and else 0.
 
 ghost use Rattle.std.specs.Prelude.{◌≡◌, ◌<◌, ◌≤◌, ◌+◌, ◌^◌, [], ℕ, length, map, replicate, slice_index_or, vec_len, vec_capacity};
 ghost use Rattle.std.specs.Prelude.{None, Some, IfOk};

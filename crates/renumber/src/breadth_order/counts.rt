@@ -35,8 +35,8 @@ fn mark_targets(last: &mut [u32], mesh: &Mesh, map: u32, element: u32, number: u
     count
 }
 
-// Marks the neighbours of an element with its number, which marks none yet; how many there are. `having` are the elements
-// that have it as a target.
+// Marks the neighbours of an element with its number, which marks none yet; how many there are. `having` are the
+// elements that have it as a target.
 fn mark_neighbours(last: &mut [u32], mesh: &Mesh, map: u32, having: &[u32], number: u32) -> u32
     requires map { map < map_count mesh.now }
     requires having { (k : ℕ) → k < length having.now → slice_index having.now k < set_size mesh.now (map_from mesh.now map) }

@@ -6,8 +6,8 @@ use crate::rows::compressed::Rows;
 use std::alloc::{AllocError, Global};
 use std::marker::Model;
 
-/// Rows of numbers, and how many each has room for. Contracts see the list of the rows, and that of the lengths that they
-/// have room for.
+/// Rows of numbers, and how many each has room for. Contracts see the list of the rows, and that of the lengths that
+/// they have room for.
 #[derive(Debug, Drop)]
 pub struct Filling {
     starts: Vec<usize>,

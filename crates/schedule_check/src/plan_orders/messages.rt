@@ -10,8 +10,8 @@ use op_num::OutOfMemory;
 use rank_sets::empty_lists;
 use std::alloc::Global;
 
-/// The messages of an item: by rank the ranks that it sends to, and by rank those that it receives from, both increasing. An
-/// item without messages has no lists.
+/// The messages of an item: by rank the ranks that it sends to, and by rank those that it receives from, both
+/// increasing. An item without messages has no lists.
 #[derive(Debug, Drop)]
 pub struct Messages {
     receivers: Vec<Vec<u32>>,

@@ -18,9 +18,9 @@ use op_num::OutOfMemory;
 use std::alloc::{AllocError, Global};
 use step_orders::{Runs, Shape, Standard, Steps};
 
-/// What the orders of a plan's steps are read from, where at most so many places of one block and colour are begun together.
-/// It holds the messages of each item by rank, and the runs of each loop's plan by rank, however many loops share it and
-/// however often they run.
+/// What the orders of a plan's steps are read from, where at most so many places of one block and colour are begun
+/// together. It holds the messages of each item by rank, and the runs of each loop's plan by rank, however many loops
+/// share it and however often they run.
 #[derive(Drop)]
 pub struct PlanShape<'a> {
     bound: &'a Bound,

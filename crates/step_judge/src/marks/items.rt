@@ -11,8 +11,8 @@ use crate::marks::stages::Stages;
 use std::alloc::{AllocError, Global};
 use std::marker::Model;
 
-/// The marks of one item: its messages by sender and by receiver, its places by rank, and whether it is joined. An item is Free or
-/// one join. `rising` tells that the pairs rise by sender and receiver, so that one is found by halving.
+/// The marks of one item: its messages by sender and by receiver, its places by rank, and whether it is joined. An item
+/// is Free or one join. `rising` tells that the pairs rise by sender and receiver, so that one is found by halving.
 #[derive(Drop)]
 pub struct ItemMarks {
     free: bool,

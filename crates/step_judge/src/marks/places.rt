@@ -83,8 +83,8 @@ fn fresh_blocks(
 }
 
 impl Places {
-    /// No place has begun, in blocks of `size` places with these colours of the blocks and of the places within them; `core` says
-    /// which places need no import.
+    /// No place has begun, in blocks of `size` places with these colours of the blocks and of the places within them;
+    /// `core` says which places need no import.
     pub fn new(
         alloc: Global,
         size: u32,

@@ -8,8 +8,9 @@ use crate::{ItemOnRank, Steps};
 use schedule_steps::Step;
 use std::alloc::{AllocError, Global};
 
-/// The steps of a stream. Where the stream itself tells of no closed group, the next steps are looked at: so a closed group of some
-/// items is told wherever it comes next, if it has at most half as many steps as may be held and there is room for its places.
+/// The steps of a stream. Where the stream itself tells of no closed group, the next steps are looked at: so a closed
+/// group of some items is told wherever it comes next, if it has at most half as many steps as may be held and there is
+/// room for its places.
 #[derive(Drop)]
 pub struct Ahead<S> {
     steps: S,
@@ -29,7 +30,8 @@ fn are_told(steps: &[Step], items: &[bool]) -> bool {
 }
 
 impl<S: Steps + Drop> Ahead<S> {
-    /// The steps of the stream, of which up to `most` are held at a time. `items` says by item whether its groups are told.
+    /// The steps of the stream, of which up to `most` are held at a time. `items` says by item whether its groups are
+    /// told.
     ///
     /// # Errors
     /// Want of memory.

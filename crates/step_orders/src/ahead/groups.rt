@@ -67,8 +67,8 @@ fn begin_of(step: Option<Step>) -> Option<ItemOnRank> {
     }
 }
 
-/// The item and rank of the closed group that the steps are, whose places are put down; `None` where they are none, or where there is
-/// no room for its places.
+/// The item and rank of the closed group that the steps are, whose places are put down; `None` where they are none, or
+/// where there is no room for its places.
 pub fn closed_in(steps: &[Step], places: &mut Vec<u32>) -> Option<ItemOnRank>
     requires empty { places.old.items ≡ [] }
     ensures some { IfSome result

@@ -61,8 +61,8 @@ fn read_up_to<S: Steps>(steps: &mut S, held: &mut Vec<Step>, count: usize)
     }
 }
 
-/// Reads a step, and where it is a begin, those of its item and rank that follow and as many steps behind them, as far as there is
-/// room for them.
+/// Reads a step, and where it is a begin, those of its item and rank that follow and as many steps behind them, as far
+/// as there is room for them.
 pub fn read_group<S: Steps>(steps: &mut S, held: &mut Vec<Step>)
     ensures all { held.new.items ++ S.left steps.new ≡ held.old.items ++ S.left steps.old }
     ensures room { vec_capacity held.new ≡ vec_capacity held.old }

@@ -29,8 +29,9 @@ fn own_streams<'a, S: Shape>(
     Ok(streams)
 }
 
-// The next step of a drawn order, which is taken. By rank these are its next step and the stream of those behind it, `number` is the
-// number that was drawn last, `join` the next join or the number of items, and `found` scratch room for a number for each rank.
+// The next step of a drawn order, which is taken. By rank these are its next step and the stream of those behind it,
+// `number` is the number that was drawn last, `join` the next join or the number of items, and `found` scratch room for
+// a number for each rank.
 fn take_turn<S: Shape, T: Steps>(
     shape: &S,
     streams: &mut [T],
@@ -65,8 +66,8 @@ fn take_turn<S: Shape, T: Steps>(
     }
 }
 
-/// The drawn order of a plan's steps by a seed, one step after another. It holds no list of them, and is one itself to contracts:
-/// the steps still to come.
+/// The drawn order of a plan's steps by a seed, one step after another. It holds no list of them, and is one itself to
+/// contracts: the steps still to come.
 ///
 /// A turn looks at the next step of each rank, so a step takes time by the number of ranks.
 #[derive(Drop)]
@@ -98,8 +99,8 @@ impl<'a, S: Shape> Model for DrawnOrder<'a, S> {
 }
 
 impl<'a, S: Shape> DrawnOrder<'a, S> {
-    /// All steps of the drawn order by this seed, any number, are still to come: the only one by this seed, which is accepted. All
-    /// memory that it ever takes is taken here. An error is want of memory.
+    /// All steps of the drawn order by this seed, any number, are still to come: the only one by this seed, which is
+    /// accepted. All memory that it ever takes is taken here. An error is want of memory.
     pub fn new(alloc: Global, shape: &'a S, seed: u64) -> Result<DrawnOrder<'a, S>, OutOfMemory>
         ensures drawn { IfOk result (λ d. IsDrawn (S.outline shape.now) (S.group shape.now) seed d) }
         ensures accepted { IfOk result (λ d. Accepted (S.outline shape.now) d) }
@@ -141,8 +142,8 @@ impl<'a, S: Shape> Steps for DrawnOrder<'a, S> {
 
 /// The drawn order of a plan's steps by a seed, in a list. It is the only one by this seed, and it is accepted.
 ///
-/// A turn looks at the next step of each rank, so the list takes time by its length times the number of ranks. An error is want of
-/// memory.
+/// A turn looks at the next step of each rank, so the list takes time by its length times the number of ranks. An error
+/// is want of memory.
 pub fn drawn<S: Shape>(alloc: Global, shape: &S, seed: u64) -> Result<Vec<Step>, OutOfMemory>
     ensures drawn { IfOk result (λ l. IsDrawn (S.outline shape.now) (S.group shape.now) seed l.items) }
     ensures accepted { IfOk result (λ l. Accepted (S.outline shape.now) l.items) }

@@ -46,8 +46,8 @@ fn put_if(numbers: &mut [u32], count: usize, is_wanted: bool, number: u32) -> us
     count
 }
 
-// Puts at the front of `found`, increasing, the ranks whose next step is of an item before the join and needn't wait for a message;
-// how many they are.
+// Puts at the front of `found`, increasing, the ranks whose next step is of an item before the join and needn't wait
+// for a message; how many they are.
 fn put_going(found: &mut [u32], heads: &[Option<Step>], join: u32, sent: &[Vec<u32>]) -> usize
     requires few { length heads.now < 2 ^ 32 }
     requires room { length heads.now ≤ length found.old }
@@ -82,9 +82,9 @@ fn picked(number: u64, ranks: &[u32]) -> u32
     ranks[((number >> 33) % ranks.len() as u64) as usize]
 }
 
-/// What the next turn takes, where these are the ranks' next steps, `join` is the next join or the number of items, and `number`
-/// the number that is drawn next. `found` is scratch room for a number for each rank: what stands in it is not read, and it is
-/// written over. Takes no memory.
+/// What the next turn takes, where these are the ranks' next steps, `join` is the next join or the number of items, and
+/// `number` the number that is drawn next. `found` is scratch room for a number for each rank: what stands in it is not
+/// read, and it is written over. Takes no memory.
 pub fn next_turn(
     found: &mut [u32],
     heads: &[Option<Step>],

@@ -50,8 +50,8 @@ impl<'a> Lines<'a> {
         Some(line)
     }
 
-    /// Takes these bytes as one line where they come next, and says whether they do; else nothing is taken. `line` has its
-    /// LF.
+    /// Takes these bytes as one line where they come next, and says whether they do; else nothing is taken. `line` has
+    /// its LF.
     pub fn take(&mut self, line: &[u8]) -> bool
         requires { 0 < length line.now }
         ensures taken { result ≡ true → IsTaken self.old self.new line.now }

@@ -142,12 +142,12 @@ fn explained_call<'a, R: Threads + Sync, F: Shelf>(
     explained_over(rt, alloc, &held, words, named.source, named.program)
 }
 
-/// The answer of `explain`: the text of the error that the words behind the first name, as `access 4`; or, for the words of a call of
-/// `op2`, the name of the program first, what `op2` answers to them, explained. Each file that they name is read once, `op2` does its work
-/// once over what was read, and nothing of its output is given.
+/// The answer of `explain`: the text of the error that the words behind the first name, as `access 4`; or, for the
+/// words of a call of `op2`, the name of the program first, what `op2` answers to them, explained. Each file that they
+/// name is read once, `op2` does its work once over what was read, and nothing of its output is given.
 ///
-/// A file that is missing is refused, also where `op2` would not come to read it; one that could not be read is a failure, where the
-/// shelf's count of faults rose, and so is want of memory. `rt` starts the threads of `--workers`.
+/// A file that is missing is refused, also where `op2` would not come to read it; one that could not be read is a
+/// failure, where the shelf's count of faults rose, and so is want of memory. `rt` starts the threads of `--workers`.
 pub fn explained<'a, R: Threads + Sync, F: Shelf>(
     rt: &R,
     alloc: Global,

@@ -92,8 +92,8 @@ fn hold<'a, F: Shelf>(
 
 /// The files of these names, each read once, held in memory.
 ///
-/// Refused is a name that the files lack which are told; a file that could not be read is a failure, where the shelf's count of faults
-/// rose, and so is want of memory.
+/// Refused is a name that the files lack which are told; a file that could not be read is a failure, where the shelf's
+/// count of faults rose, and so is want of memory.
 pub fn hold_all<'a, F: Shelf>(
     alloc: Global,
     shelf: &mut F,

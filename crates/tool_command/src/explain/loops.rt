@@ -129,12 +129,12 @@ fn text_of_source<'a, R: Threads + Sync>(
     }
 }
 
-/// What is said of the loop that a line of `op2` is about: where it tells a fault, the loop in which that is, its turn, and what a Free
-/// loop handed to its kernel; where it refuses an access, the first loop that makes its kernel break the rule, and its argument. Nothing
-/// is said without a source.
+/// What is said of the loop that a line of `op2` is about: where it tells a fault, the loop in which that is, its turn,
+/// and what a Free loop handed to its kernel; where it refuses an access, the first loop that makes its kernel break
+/// the rule, and its argument. Nothing is said without a source.
 ///
-/// `program` is the program over the files that are held, if there is one, and `source` the bytes of the source, no more than
-/// `SOURCE_BYTES`. An error is want of memory.
+/// `program` is the program over the files that are held, if there is one, and `source` the bytes of the source, no
+/// more than `SOURCE_BYTES`. An error is want of memory.
 pub fn text_of_loop<'a, R: Threads + Sync>(
     rt: &R,
     alloc: Global,

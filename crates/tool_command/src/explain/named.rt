@@ -13,15 +13,16 @@ use command_words::{
 use op_num::OutOfMemory;
 use std::alloc::{AllocError, Global};
 
-/// A program over a mesh that words ask for: where the two come from, and whether its run begins where the program does.
+/// A program over a mesh that words ask for: where the two come from, and whether its run begins where the program
+/// does.
 #[derive(Clone, Copy, Debug)]
 pub struct Program<'a> {
     pub input: Input<'a>,
     pub from_start: bool,
 }
 
-/// The files that the words name, in the order in which `op2` reads them, that of the source, if there is one, and the program, if the
-/// words ask for one.
+/// The files that the words name, in the order in which `op2` reads them, that of the source, if there is one, and the
+/// program, if the words ask for one.
 #[derive(Debug, Drop)]
 pub struct Named<'a> {
     pub files: Vec<&'a str>,

@@ -132,8 +132,8 @@ fn files_begun<'a>(program: Program<'a>) -> Option<(&'a str, &'a str)>
     }
 }
 
-/// What the loop in which a fault is handed to its kernel for the element before the item, of which the line tells; nothing where it is no
-/// Free loop, where the program doesn't come from files, or where it goes on from a state.
+/// What the loop in which a fault is handed to its kernel for the element before the item, of which the line tells;
+/// nothing where it is no Free loop, where the program doesn't come from files, or where it goes on from a state.
 ///
 /// The program runs again up to the item. An error is want of memory.
 pub fn values_before<'a, R: Threads + Sync>(

@@ -25,7 +25,8 @@ pub fn clear_pairs(memory: &mut [i32], blocks: &Blocks<'_>, rank: u32, dat: u32,
     }
 }
 
-/// Copies pairs of a dat and elements, by original numbers, which a rank doesn't own, from their owners' blocks to the rank's.
+/// Copies pairs of a dat and elements, by original numbers, which a rank doesn't own, from their owners' blocks to the
+/// rank's.
 pub fn copy_pairs(memory: &mut [i32], blocks: &Blocks<'_>, rank: u32, dat: u32, elements: &[u32])
     requires sound { Sound blocks.now }
     requires memory { length memory.old ≡ all_cells (program_in blocks.now) (ranks_in blocks.now) }

@@ -14,8 +14,8 @@ use crate::chain_memory::{Blocks, Loop, target_of};
 use bound_program::Arg;
 use chain_needs::chain_slices::Slices;
 
-// Sets the pair that an element reaches by an argument on a dat to 0 in the rank's block, where the rank doesn't need it before the
-// item at which the chain began.
+// Sets the pair that an element reaches by an argument on a dat to 0 in the rank's block, where the rank doesn't need
+// it before the item at which the chain began.
 fn drop_arg(
     memory: &mut [i32],
     blocks: &Blocks<'_>,
@@ -44,7 +44,8 @@ fn drop_arg(
     }
 }
 
-/// Sets pairs that an element reaches and that its rank doesn't need before the item at which the chain began to 0 in the rank's block.
+/// Sets pairs that an element reaches and that its rank doesn't need before the item at which the chain began to 0 in
+/// the rank's block.
 pub fn drop_unheld(
     memory: &mut [i32],
     blocks: &Blocks<'_>,

@@ -31,7 +31,8 @@ pub fn operation_of(access: Access) -> Option<Operation>
     }
 }
 
-// What a kernel's window of a variable begins with: the variable's values, or units where the loop merges amounts into it.
+// What a kernel's window of a variable begins with: the variable's values, or units where the loop merges amounts into
+// it.
 fn put_variable(memory: &mut [i32], blocks: &Blocks<'_>, rank: u32, var: u32, access: Access)
     requires sound { Sound blocks.now }
     requires memory { length memory.old ≡ all_cells (program_in blocks.now) (ranks_in blocks.now) }

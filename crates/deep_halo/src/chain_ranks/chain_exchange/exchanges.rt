@@ -75,8 +75,8 @@ fn exchange_dat(
     }
 }
 
-/// Drops or takes the copies of the chain that begins at an item: of each rank, the pairs that it needs before the item and doesn't
-/// own. The time goes by their cells.
+/// Drops or takes the copies of the chain that begins at an item: of each rank, the pairs that it needs before the item
+/// and doesn't own. The time goes by their cells.
 pub fn exchange_copies(
     memory: &mut [i32],
     blocks: &Blocks<'_>,

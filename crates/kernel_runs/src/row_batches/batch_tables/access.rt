@@ -45,8 +45,8 @@ fn joined(some: Access, other: Access) -> Option<Access>
     Some(Access::Rw)
 }
 
-/// What lets each argument that shares the column of argument `a`, which is on a dat, do what it may. None where one of them is a
-/// reduction and another one is not the same.
+/// What lets each argument that shares the column of argument `a`, which is on a dat, do what it may. None where one of
+/// them is a reduction and another one is not the same.
 pub fn shared_access(args: &[Arg], a: usize) -> Option<Access>
     requires there { a < length args.now }
     requires dat { same_column (arg_in args.now a) (arg_in args.now a) ≡ true }

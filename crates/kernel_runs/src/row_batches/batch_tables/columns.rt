@@ -28,9 +28,10 @@ fn put_components(columns: &mut [RowColumn], from: usize, column: RowColumn)
     }
 }
 
-/// Puts down the columns of the components of all arguments on dats, and by argument where its columns stand in a row's frame.
-/// Arguments that reach one dat in one way share columns. `numbers` are those of their ways. Answers how many columns there are;
-/// none where there is no room for them, or where arguments reduce into a column that others use otherwise.
+/// Puts down the columns of the components of all arguments on dats, and by argument where its columns stand in a row's
+/// frame. Arguments that reach one dat in one way share columns. `numbers` are those of their ways. Answers how many
+/// columns there are; none where there is no room for them, or where arguments reduce into a column that others use
+/// otherwise.
 pub fn put_columns(
     args: &[Arg],
     locals: &[Option<LocalArg<'_>>],

@@ -6,7 +6,8 @@ ghost use Rattle.kernel_runs.specs.Tables.{ArePairs};
 use crate::row_batches::batch_tables::alike::can_meet;
 use bound_program::Arg;
 
-// Puts down the pairs of argument `a` with arguments before it. Answers how many there are now; none where there is no room.
+// Puts down the pairs of argument `a` with arguments before it. Answers how many there are now; none where there is no
+// room.
 fn put_pairs_of(
     args: &[Arg],
     numbers: &[usize],
@@ -32,8 +33,8 @@ fn put_pairs_of(
     Some(count)
 }
 
-/// Puts down the pairs of numbers of ways in which arguments reach one dat that the loop may modify. Answers how many there are;
-/// none where there is no room for them.
+/// Puts down the pairs of numbers of ways in which arguments reach one dat that the loop may modify. Answers how many
+/// there are; none where there is no room for them.
 pub fn put_pairs(args: &[Arg], numbers: &[usize], pairs: &mut [(usize, usize)]) -> Option<usize>
     requires numbers { length numbers.now ≡ length args.now }
     ensures { IfSome result (ArePairs args.now numbers.now pairs.new (length args.now) 0) }

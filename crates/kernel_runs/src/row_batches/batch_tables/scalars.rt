@@ -6,7 +6,8 @@ ghost use Rattle.kernel_runs.specs.Tables.{place_at, scalar_place};
 use crate::row_batches::batch_tables::args::LocalArg;
 use kernel_types::views::Place;
 
-/// Puts down where arguments on variables stand in a row's frame behind so many columns: as `stand` has them behind so many cells.
+/// Puts down where arguments on variables stand in a row's frame behind so many columns: as `stand` has them behind so
+/// many cells.
 pub fn put_scalars(
     locals: &[Option<LocalArg<'_>>],
     stand: &[Place],

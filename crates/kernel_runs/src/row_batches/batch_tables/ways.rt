@@ -18,8 +18,8 @@ fn via_of<'a>(local: &Option<LocalArg<'a>>) -> Option<LocalVia<'a>>
     }
 }
 
-/// Puts down the way of each argument, where none before it has the same, and by argument the number of its way: that of the first
-/// argument with it.
+/// Puts down the way of each argument, where none before it has the same, and by argument the number of its way: that
+/// of the first argument with it.
 pub fn put_ways<'a>(
     args: &[Arg],
     locals: &[Option<LocalArg<'a>>],

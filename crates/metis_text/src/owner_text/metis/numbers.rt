@@ -26,7 +26,8 @@ fn rank_on(token: &Token<'_>, ranks: u32, line: u32) -> Result<u32, MetisRefusal
     }
 }
 
-/// The ranks that a text has for so many elements, each below `ranks`, line by line. The text has fewer than 2 ^ 32 - 1 bytes.
+/// The ranks that a text has for so many elements, each below `ranks`, line by line. The text has fewer than 2 ^ 32 - 1
+/// bytes.
 pub fn read_ranks(
     alloc: Global,
     bytes: &[u8],

@@ -29,12 +29,13 @@ fn given_for(
     Ok(given)
 }
 
-/// Owners of the elements of all sets of a mesh on `ranks` ranks, 1 to 64. Those of the set numbered `set` are what the partition `bytes`
-/// says, which METIS or another graph partitioner wrote: line by line a number for each element, in order of original numbers. Those of
-/// the other sets are derived from them, as `partition::derive` does. The text has fewer than 2 ^ 32 - 1 bytes.
+/// Owners of the elements of all sets of a mesh on `ranks` ranks, 1 to 64. Those of the set numbered `set` are what the
+/// partition `bytes` says, which METIS or another graph partitioner wrote: line by line a number for each element, in
+/// order of original numbers. Those of the other sets are derived from them, as `partition::derive` does. The text has
+/// fewer than 2 ^ 32 - 1 bytes.
 ///
-/// Refused is the first line that isn't as awaited: one that has no rank, one that has more, or the first of those that are missing. It
-/// takes time linear in the bytes, and that of `derive`.
+/// Refused is the first line that isn't as awaited: one that has no rank, one that has more, or the first of those that
+/// are missing. It takes time linear in the bytes, and that of `derive`.
 pub fn owners_by_metis(
     alloc: Global,
     mesh: &Mesh,
