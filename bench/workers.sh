@@ -1,7 +1,7 @@
 #!/bin/sh
-# Times runs with one worker and with more of them: the sample of 200, on one rank and on four; kernels of 200 turns on 90,000 nodes and the 179,400 edges
-# between them, on one rank and on four; and a kernel of 20,000 turns on 1,000 elements. Prints seconds of the processor and elapsed seconds of the fastest
-# of three runs, for the last three less what `check` takes, and how long a run takes beside that with one worker.
+# Times runs with one worker and with more of them: the sample of 200, on one rank and on four; kernels of 200 and of 1,800 turns on 90,000 nodes and the
+# 179,400 edges between them, on one rank and on four; and a kernel of 20,000 and one of 180,000 turns on 1,000 elements. Prints seconds of the processor
+# and elapsed seconds of the fastest of three runs, but for the sample less what `check` takes, and how long a run takes beside that with one worker.
 # Usage: bench/workers.sh [WORKERS ..]     (2 4 where none is given; OP2 may name another program)
 here=$(CDPATH= cd -- "$(dirname -- "$0")/.." && pwd) || exit 1
 work=$(mktemp -d) || exit 1
@@ -10,16 +10,16 @@ op2=${OP2:-$here/op2}
 "$op2" run "$here/examples/bump.c" "$here/examples/bump.mesh" >/dev/null || exit 1
 [ $# -gt 0 ] || set -- 2 4
 python3 "$here/bench/grid.py" "$work" 300 || exit 1
-cat >"$work/edges.c" <<'C'
+edges() { sed "s/TURNS/$1/g" >"$work/edges$1.c" <<'C'
 extern int nnode;
 extern int nedge;
 extern int edge[];
 extern int x0[];
 extern int r0[];
-void node(int *x, int *sum) { int s = x[0]; for (int i = 0; i < 200; i++) { s = (s * 7 + i) % 1000; } x[0] = s; *sum += s; }
+void node(int *x, int *sum) { int s = x[0]; for (int i = 0; i < TURNS; i++) { s = (s * 7 + i) % 1000; } x[0] = s; *sum += s; }
 void flux(const int *a, const int *b, int *r, int *q) {
   int s = b[0] - a[0];
-  for (int i = 0; i < 200; i++) { s = (s * 7 + i) % 1000; }
+  for (int i = 0; i < TURNS; i++) { s = (s * 7 + i) % 1000; }
   r[0] += s;
   q[0] -= s;
 }
@@ -37,10 +37,13 @@ int main(int argc, char **argv) {
   op_exit();
 }
 C
-cat >"$work/long.c" <<'C'
+}
+edges 200
+edges 1800
+long() { sed "s/TURNS/$1/g" >"$work/long$1.c" <<'C'
 extern int nnode;
 extern int x0[];
-void node(int *x, int *sum) { int s = x[0]; for (int i = 0; i < 20000; i++) { s = (s * 7 + i) % 1000; } x[0] = s; *sum += s; }
+void node(int *x, int *sum) { int s = x[0]; for (int i = 0; i < TURNS; i++) { s = (s * 7 + i) % 1000; } x[0] = s; *sum += s; }
 int main(int argc, char **argv) {
   op_set nodes = op_decl_set(nnode, "nodes");
   op_dat x = op_decl_dat(nodes, 1, "int", x0, "x");
@@ -50,6 +53,9 @@ int main(int argc, char **argv) {
   op_exit();
 }
 C
+}
+long 20000
+long 180000
 {
     echo 'op2mesh 1'
     echo 'int nnode 1000'
@@ -87,8 +93,10 @@ def row(name, words, options, less):
 for ranks in (1, 4):
     options = ["--ranks", str(ranks)] if ranks > 1 else []
     row(f"sample 200, ranks {ranks}", ["sample", "200"], options, False)
-for ranks in (1, 4):
-    options = ["--ranks", str(ranks)] if ranks > 1 else []
-    row(f"200 turns, 269,400 elements, ranks {ranks}", [work + "/edges.c", work + "/residual.mesh"], options, True)
-row("20,000 turns, 1,000 elements", [work + "/long.c", work + "/long.mesh"], [], True)
+for turns in (200, 1800):
+    for ranks in (1, 4):
+        options = ["--ranks", str(ranks)] if ranks > 1 else []
+        row(f"{turns:,} turns, 269,400 elements, ranks {ranks}", [f"{work}/edges{turns}.c", work + "/residual.mesh"], options, True)
+for turns in (20000, 180000):
+    row(f"{turns:,} turns, 1,000 elements", [f"{work}/long{turns}.c", work + "/long.mesh"], [], True)
 P
