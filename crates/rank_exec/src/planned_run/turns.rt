@@ -8,7 +8,7 @@ use op_num::OutOfMemory;
 use std::alloc::Global;
 
 // A set with more elements is large: the colours of loops over it take time.
-const MANY: u32 = 1024;
+const MANY: u32 = 256;
 
 // Some set is large.
 fn has_large_set(mesh: &Mesh) -> bool {
@@ -21,7 +21,7 @@ fn has_large_set(mesh: &Mesh) -> bool {
 }
 
 /// Whether so many workers on so many ranks run a program as fast where the places of its loops go in their order as by
-/// colours, which take time: there is one worker; or some set has more than 1,024 elements, and no kernel's elements
+/// colours, which take time: there is one worker; or some set has more than 256 elements, and no kernel's elements
 /// are better begun in groups, of which a loop over fewer is one.
 ///
 /// # Errors
