@@ -40,7 +40,7 @@ impl SitePlans {
         }
     }
 
-    /// Gives the loop `site`, behind the others, the plan of this slot.
+    /// Gives the loop `site`, behind the others, the plan of this slot. An error is want of memory.
     pub fn share(&mut self, site: u32, slot: usize) -> Result<(), OutOfMemory>
         requires slot { slot < length self.old.plans }
         requires none { lookup (nat_eq site) (entries_of self.old) ≡ None }
@@ -53,7 +53,7 @@ impl SitePlans {
         }
     }
 
-    /// Adds a plan, in the next slot, and gives it to the loop `site`, behind the others.
+    /// Adds a plan, in the next slot, and gives it to the loop `site`, behind the others. An error is want of memory.
     pub fn add(&mut self, site: u32, plan: SitePlan) -> Result<(), OutOfMemory>
         requires { lookup (nat_eq site) (entries_of self.old) ≡ None }
         ensures plans { OnOk result (self.new.plans ≡ self.old.plans ++ site_plan_of plan ∷ []) }

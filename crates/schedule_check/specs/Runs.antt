@@ -32,7 +32,8 @@ slot_runs rows k = slice_index_or (map (λ (v : Vec (List (List ℕ)) Global). v
 -- by rank the runs of places with these colours, in blocks of this size
 pub record AreRunsOf (ranks block g : ℕ) (cs : List Colours) (v : List (List (List ℕ))) : Type 0 where
   pub count : length v ≡ ranks
-  pub runs : (o : Outline) (k r : ℕ) → r < ranks → IsColoured o k r block (blocks_in cs r) (inner_in cs r) → runs_at v r ≡ runs_of o g k r
+  pub runs : (o : Outline) (k r : ℕ) → r < ranks → IsColoured o k r block (blocks_in cs r) (inner_in cs r)
+      → runs_at v r ≡ runs_of o g k r
 
 -- Of each slot there are no runs yet, or those of its plan; loops below n have theirs.
 pub record AreSlotRuns (ranks block g : ℕ) (v : SharedValue) (n : ℕ) (runs : List (Vec (List (List ℕ)) Global)) : Type 0 where
