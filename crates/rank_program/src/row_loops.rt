@@ -11,7 +11,6 @@ use crate::program::DistributedProgram;
 use crate::room::MOST_COLUMNS;
 use bound_program::Item;
 use kernel_code::Code;
-use kernel_columns::is_straight;
 use kernel_runs::row_batches::batch_tables::{
     put_columns, put_pairs, put_scalars, put_ways, stores,
 };
@@ -40,9 +39,9 @@ pub struct LoopInRows<'a> {
     pub rows: RowLoop<'a>,
 }
 
-/// The loop as its elements run in rows, where its kernel is known to obey its modes, has no `if` with a `for` inside,
-/// and has few columns. `cells` are places of its arguments on variables. The other slices are lent for its tables,
-/// whatever they hold: the ways, the columns, the places of arguments in a row's frame, and pairs of ways.
+/// The loop as its elements run in rows, where its kernel is known to obey its modes and has few columns. `cells` are
+/// places of its arguments on variables. The other slices are lent for its tables, whatever they hold: the ways, the
+/// columns, the places of arguments in a row's frame, and pairs of ways.
 pub fn row_loop<'p: 'a, 'a>(
     local: &'a LocalLoop<'p>,
     cells: &[Place],
@@ -66,9 +65,6 @@ pub fn row_loop<'p: 'a, 'a>(
     bound_plan::frames_are_reached();
     let program = local.program;
     if !program.obeying {
-        return None;
-    }
-    if !is_straight(&local.code.part) {
         return None;
     }
     let site = site_of(program.bound, local.item);
@@ -98,10 +94,10 @@ pub fn row_loop<'p: 'a, 'a>(
     })
 }
 
-/// Whether elements with this kernel may run in batches, if the program's kernels obey their modes: it has no `if` with
-/// a `for` inside and not too many slots.
+/// Whether elements with this kernel may run in batches, if the program's kernels obey their modes: it has not too many
+/// slots.
 pub fn runs_in_batches(code: &Code<'_>) -> bool {
-    code.slots as usize <= MOST_COLUMNS && is_straight(&code.part)
+    code.slots as usize <= MOST_COLUMNS
 }
 
 /// Whether the elements of a Free item may run in batches: the program's kernels are known to obey their modes, and the

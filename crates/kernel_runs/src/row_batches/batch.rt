@@ -90,8 +90,8 @@ fn rows_of_places(rows: &RowLoop<'_>, batch: &Numbers, count: usize) -> usize
 ///
 /// It answers for how many places from the first on the kernel ran; [`put_aside`] puts back what it left in the room.
 /// These are the places before the first by which two arguments meet in an element, or which must differ from an
-/// earlier one and doesn't. Where there are fewer of them than [`FEWEST`], where a row has a fault, or where rows
-/// choose different parts of the code, it answers 0. It takes no memory.
+/// earlier one and doesn't. Where there are fewer of them than [`FEWEST`], where a row has a fault, or where few rows
+/// alone choose a `for` of many turns, it answers 0. It takes no memory.
 pub fn run_aside(
     rows: &RowLoop<'_>,
     batch: &Numbers,
@@ -181,8 +181,8 @@ pub fn put_aside(
 /// It answers for how many places from the first on the kernel ran, one after another on the memory, with the first
 /// values of the loop's scalars behind the memory for each of them. These are the places before the first by which two
 /// arguments meet in an element, or which must differ from an earlier one and doesn't. Where there are fewer of them
-/// than [`FEWEST`], where a row has a fault, or where rows choose different parts of the code, it answers 0: memory and
-/// partials are as they were. It takes no memory.
+/// than [`FEWEST`], where a row has a fault, or where few rows alone choose a `for` of many turns, it answers 0: memory
+/// and partials are as they were. It takes no memory.
 pub fn run_batch(
     rows: &RowLoop<'_>,
     batch: &Numbers,
