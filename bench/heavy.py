@@ -13,6 +13,21 @@ TURNS = """void k(const int *x, const int *y, int *p, int *q) {
   q[0] -= s;
 }
 """
+CHOSEN = """void k(const int *x, const int *y, int *p, int *q) {
+  int s = x[0] + y[0];
+  if (x[0] % 3 == 0)
+    for (int i = 0; i < 2000; i++) s = s * 3 + i;
+  p[0] += s;
+  q[0] -= s;
+}
+"""
+FIXED = """void k(const int *x, const int *y, int *p, int *q) {
+  int s = x[0];
+  for (int i = 0; i < 2000; i++) s = (s * 181 >> 7) + y[0];
+  p[0] += s;
+  q[0] -= s;
+}
+"""
 FLUX = """void k(const int *x, const int *y, int *p, int *q) {
   int f = (x[0] - y[0]) / (x[0] + y[0]);
   p[0] -= f;
@@ -51,7 +66,9 @@ int main(int argc, char **argv) {
 
 # name, kernel, edges, every how many an edge leads from a node to itself, every how many a node has the value 0, with the one before it
 for name, kernel, edges, same, zero in [
-        ("20,000 turns with an `if`", TURNS, 6400, 0, 0), ("the same, of which every 50th edge is from a node to itself", TURNS, 6400, 50, 0),
+        ("20,000 turns with an `if`", TURNS, 6400, 0, 0), ("2,000 turns that every third edge takes", CHOSEN, 64000, 0, 0),
+        ("2,000 turns of fixed point", FIXED, 64000, 0, 0),
+        ("20,000 turns with an `if`, of which every 50th edge is from a node to itself", TURNS, 6400, 50, 0),
         ("a chain of edges", FLUX, n, 0, 0), ("every 50th edge is from a node to itself", FLUX, n, 50, 0), ("all edges are", FLUX, n, 1, 0),
         ("every 50th edge has a fault", FLUX, n, 0, 50), ("all have", FLUX, n, 0, 1)]:
     ends = [v for i in range(edges) for v in (i, i if same and i % same == 0 else i + 1)]
