@@ -1,5 +1,5 @@
 -- A run of an element on its rank is its begin and its own end at once.
-use Rattle.std.proofs.Common.{◌≡◌, ℕ, zero, suc, ◌<◌, ℤ, sym, ap, ap₂, subst, ◌∙◌, arith, List, [], ◌∷◌, ◌++◌, length, set, Option}
+use Rattle.std.proofs.Common.{◌≡◌, ℕ, ◌<◌, ℤ, sym, ap, ap₂, ◌∙◌, List, [], ◌++◌, length, set, Option}
 use Rattle.std.specs.Prelude.{◌==◌}
 use Rattle.std.proofs.lemmas.List.{set-get_or, set-set, get_or-set_same}
 use Rattle.schedule_steps.specs.declared.step.Step.TheVariants.{Begin, End}
@@ -17,7 +17,7 @@ use Rattle.rank_state.specs.Indices.{values_at}
 use Rattle.rank_state.specs.Frames.{Shut, pane_at, pane_after, closed}
 use Rattle.rank_state.specs.Machine.{State, row, noted, merged_pane, passed, windows_of}
 use Rattle.rank_state.specs.Shows.{Tables, AreWindows, Shows}
-use Rattle.rank_program.specs.AloneRuns.{AllBegin, Share, RunsAt, Reaches, share_of, with_share}
+use Rattle.rank_program.specs.AloneRuns.{Share, RunsAt, share_of, with_share}
 
 module _ {F : Type 0} (p : Setup F) (l : Layout F) (t : Tables) (k r : ℕ) where
   -- a begin and its own end at once show what the steps leave
@@ -29,11 +29,6 @@ module _ {F : Type 0} (p : Setup F) (l : Layout F) (t : Tables) (k r : ℕ) wher
       (passed (p.owner (p.program.set k) (l.original k r x) == r) k r (l.original k r x) spans scalars
       (l.core k (l.original k r x) (values_at st.variables t.constants) (windows_of st r spans scalars)) st)
       (flat_step p l (End k r x) (flat_step p l (Begin k r x) f))
-
-  -- one place
-  pub one_begins : (x : ℕ) → IsStep (by_place p l) (Begin k r x) → AllBegin p l t k r (x ∷ [])
-  one_begins x step zero lt = step
-  one_begins x step (suc i) lt = absurd (omega (arith, lt))
 
   abbrev of_parts : State F → List (List ℤ) → List (List ℤ) → Option (Stop F) → State F
   of_parts st ms ps x = record st { memories = ms; partials = ps; fault = x }
@@ -71,12 +66,3 @@ module _ {F : Type 0} (p : Setup F) (l : Layout F) (t : Tables) (k r : ℕ) wher
         let fault : noted k e (fault_of ran) m.fault ≡ new.fault = ap (λ o. noted k e (fault_of o) m.fault) same ∙ sym runs.fault in
         ap₂ (λ ms ps. of_parts old ms ps (noted k e (fault_of ran) m.fault)) memories partials
         ∙ ap (of_parts old (set old.memories r new.cells) (set old.partials r new.partials)) fault
-
-    -- a run of one element is a begin and its own end
-    pub one_shows : PairsShow → (x : ℕ) → IsStep (by_place p l) (Begin k r x) → (new : Share F)
-        → Reaches p l t k r (values_at old.variables t.constants) old.variables (x ∷ []) (share_of r old) 1 new
-        → pane_at old.frames.panes r x ≡ Shut → 0 < old.frames.left → (f : Flat F) → Shows p l t old f
-        → Shows p l t (with_share r new old) (flat_step p l (End k r x) (flat_step p l (Begin k r x) f))
-    one_shows law x step new h shut left f shows =
-        subst (λ st. Shows p l t st (flat_step p l (End k r x) (flat_step p l (Begin k r x) f))) (run_passes x h.0 new h.2)
-        (law x step h.2.spans h.2.scalars h.2.are (with_share r h.0 old) f (subst (λ st. Shows p l t st f) (unchanged h.0 h.1) shows) shut left)

@@ -32,3 +32,4 @@ mod LoopVariables
 mod TableFronts
 mod RowLoopsMade
 mod BatchRuns
+mod RowsGoOn

@@ -61,133 +61,10 @@ fn run_rows(
     )
 }
 
-// How many elements run one after another before the next batch that is tried in rows, and how many after it if none of
-// its elements runs so.
-#[derive(Drop)]
-struct Pause {
-    left: usize,
-    next: usize,
-}
-
-impl Pause {
-    // Notes whether elements of a batch that was tried ran in rows.
-    fn note(&mut self, ran: bool) {
-        if ran {
-            self.next = FEWEST;
-        } else {
-            self.left = self.next;
-            self.next = self.next.saturating_mul(2);
-        }
-    }
-
-    // How many elements run one after another now, at least one of so many.
-    fn pass(&mut self, most: usize) -> usize
-        requires { 0 < most }
-        ensures some { 0 < result }
-        ensures few { result ≤ most }
-    {
-        let now = self.left.max(1).min(most);
-        self.left = self.left.saturating_sub(now);
-        now
-    }
-}
-
-// The same as `run_rows`, but while the pause lasts none runs.
-fn try_rows(
-    run: &LoopInRows<'_>,
-    at: usize,
-    count: usize,
-    pause: &mut Pause,
-    share: &mut RankShare<'_>,
-    room: &mut RowRoom,
-) -> usize
-    requires can { CanRunInRows run.now }
-    requires some { 0 < count }
-    requires few { count ≤ ROWS }
-    requires fits { at + count ≤ length run.now.local.now.places.now }
-    requires lent { IsLent run.now.local.now share.old }
-    requires room { HasRowRoom most_ways most_columns most_columns room.old }
-    ensures few { result ≤ count }
-    ensures runs { GoesOn run.now.local.now at (at + result) (share_in run.now.local.now share.old)
-        (share_in run.now.local.now share.new) }
-    ensures fault { share.new.fault ≡ share.old.fault }
-    ensures lent { StaysLent share.old share.new }
-    ensures room { HasRowRoom most_ways most_columns most_columns room.new }
-{
-    if pause.left > 0 {
-        return 0;
-    }
-    let ran = run_rows(run, at, count, share, room);
-    pause.note(ran > 0);
-    ran
-}
-
-// Runs the kernel of a loop for elements at its places from `at` on, at most 64: for as many as run in rows, and one
-// behind them alone, which does not run with them. Where none runs in rows, as many as the pause says run one after
-// another. Answers how many ran.
-fn run_some(
-    run: &LoopInRows<'_>,
-    at: usize,
-    pause: &mut Pause,
-    share: &mut RankShare<'_>,
-    room: &mut KernelRoom,
-) -> usize
-    requires can { CanRunInRows run.now }
-    requires more { at < length run.now.local.now.places.now }
-    requires lent { IsLent run.now.local.now share.old }
-    requires room { HasLoopRoom run.now.local.now room.old }
-    ensures some { 0 < result }
-    ensures few { result ≤ ROWS }
-    ensures fits { at + result ≤ length run.now.local.now.places.now }
-    ensures runs { GoesOn run.now.local.now at (at + result) (share_in run.now.local.now share.old)
-        (share_in run.now.local.now share.new) }
-    ensures lent { StaysLent share.old share.new }
-    ensures room { HasLoopRoom run.now.local.now room.new }
-{
-    let count = ROWS.min(run.local.places.len() - at);
-    let ran = try_rows(run, at, count, pause, share, &mut room.rows);
-    let upto = if ran > 0 {
-        count.min(ran + 1)
-    } else {
-        pause.pass(count)
-    };
-    run_alone(run.local, at + ran, at + upto, share, room);
-    upto
-}
-
-// Runs the kernel of a loop for elements at its places from `at` on: in batches at once for as many as run so, else at
-// most 64 of them, as `run_some` does. Answers how many ran.
-fn run_next<H: AtOnce>(
-    how: &H,
-    run: &LoopInRows<'_>,
-    at: usize,
-    pause: &mut Pause,
-    share: &mut RankShare<'_>,
-    room: &mut KernelRoom,
-) -> usize
-    requires ready { H.ready how.now }
-    requires can { CanRunInRows run.now }
-    requires more { at < length run.now.local.now.places.now }
-    requires lent { IsLent run.now.local.now share.old }
-    requires room { HasLoopRoom run.now.local.now room.old }
-    ensures some { 0 < result }
-    ensures few { at + result ≤ length run.now.local.now.places.now }
-    ensures runs { GoesOn run.now.local.now at (at + result) (share_in run.now.local.now share.old)
-        (share_in run.now.local.now share.new) }
-    ensures lent { StaysLent share.old share.new }
-    ensures room { HasLoopRoom run.now.local.now room.new }
-{
-    let pausing = pause.left > 0;
-    let ran = run_many(how, run, at, pausing, share, &mut room.batches);
-    if ran > 0 {
-        return ran;
-    }
-    run_some(run, at, pause, share, room)
-}
-
-// Runs the kernel of a loop whose elements run in rows for them, by batches. Where no element of a batch runs in rows,
-// its first 8 run one after another, and twice as many each time that the next batch fails too. Answers how many
-// elements ran; fewer than make a batch are left.
+// Runs the kernel of a loop whose elements run in rows for them, by batches of up to 64, or several of these at once.
+// Behind a batch of which some ran in rows, one element runs alone, which does not run with them. Where none of a batch
+// runs in rows, its first 8 elements run one after another, and twice as many each time that the next batch fails too.
+// Answers how many elements ran; fewer than make a batch are left.
 fn run_all<H: AtOnce>(
     how: &H,
     run: &LoopInRows<'_>,
@@ -203,19 +80,34 @@ fn run_all<H: AtOnce>(
     ensures lent { StaysLent share.old share.new }
     ensures room { HasLoopRoom run.now.local.now room.new }
 {
-    let mut pause = Pause {
-        left: 0,
-        next: FEWEST,
-    };
+    let end = run.local.places.len();
     let mut at = 0;
-    while run.local.places.len() - at >= FEWEST {
-        at += run_next(how, run, at, &mut pause, share, room);
+    let mut pause = FEWEST;
+    while end - at >= FEWEST {
+        let many = run_many(how, run, at, share, &mut room.batches);
+        if many > 0 {
+            at += many;
+            continue;
+        }
+        let count = ROWS.min(end - at);
+        let ran = run_rows(run, at, count, share, &mut room.rows);
+        let upto = if ran > 0 {
+            pause = FEWEST;
+            count.min(ran + 1)
+        } else {
+            let alone = pause.min(end - at);
+            pause = pause.saturating_mul(2);
+            alone
+        };
+        run_alone(run.local, at + ran, at + upto, share, room);
+        at += upto;
     }
     at
 }
 
 /// Runs the kernel of a loop on a rank for its elements by batches of up to 64, where they run in rows. Answers how
-/// many elements ran, from the first on. The room has places of the arguments, as `put_behind` left them.
+/// many elements ran, from the first on. The room has places of the arguments, as `put_behind` left them. The tables of
+/// rows are locals here and not of what calls it, which would clear them for a single element too.
 pub fn run_batches<H: AtOnce>(
     how: &H,
     local: &LocalLoop<'_>,

@@ -1,6 +1,6 @@
 // Elements of a loop on a rank in batches that run at once.
 
-ghost use Rattle.std.specs.Prelude.{◌≡◌, ◌<◌, ◌≤◌, ◌+◌, length, take, drop};
+ghost use Rattle.std.specs.Prelude.{◌≡◌, ◌≤◌, ◌+◌, length, take, drop};
 ghost use Rattle.rank_program.specs.Batches.{CanRunInRows, GoesOn};
 ghost use Rattle.rank_program.specs.LocalRuns.{IsLent, StaysLent, share_in};
 
@@ -18,53 +18,12 @@ fn part_at(places: &[u32], at: usize, count: usize) -> &[u32]
     &places[at..at + count]
 }
 
-// Runs the kernel of a loop for elements at so many places from `at` on, in batches at once, for as many as can run so.
-// Answers how many ran, from the first on.
-fn run_from<H: AtOnce>(
-    how: &H,
-    run: &LoopInRows<'_>,
-    at: usize,
-    count: usize,
-    share: &mut RankShare<'_>,
-    room: &mut BatchesRoom,
-) -> usize
-    requires ready { H.ready how.now }
-    requires can { CanRunInRows run.now }
-    requires some { 0 < count }
-    requires fits { at + count ≤ length run.now.local.now.places.now }
-    requires lent { IsLent run.now.local.now share.old }
-    ensures few { result ≤ count }
-    ensures runs { GoesOn run.now.local.now at (at + result) (share_in run.now.local.now share.old)
-        (share_in run.now.local.now share.new) }
-    ensures fault { share.new.fault ≡ share.old.fault }
-    ensures lent { StaysLent share.old share.new }
-{
-    steps_stand();
-    windows_stand();
-    element_windows_stand();
-    bound_plan::frames_are_reached();
-    kernel_runs::in_place::finishes_here();
-    if !all_count(run.local, at, count) {
-        return 0;
-    }
-    let part = part_at(run.local.places, at, count);
-    let width = run.local.part.cells;
-    how.run(
-        &run.rows,
-        part,
-        &mut share.memory[..width],
-        share.partials,
-        room,
-    )
-}
-
-/// Runs the kernel of a loop for elements at its places from `at` on, in batches at once, for as many as can run so;
-/// for none while batches pause. Answers how many ran, from the first on. None of them has a fault.
+/// Runs the kernel of a loop for elements at its places from `at` on, in batches at once, for as many as can run so.
+/// Answers how many ran, from the first on. None of them has a fault.
 pub fn run_many<H: AtOnce>(
     how: &H,
     run: &LoopInRows<'_>,
     at: usize,
-    pausing: bool,
     share: &mut RankShare<'_>,
     room: &mut BatchesRoom,
 ) -> usize
@@ -78,12 +37,25 @@ pub fn run_many<H: AtOnce>(
     ensures fault { share.new.fault ≡ share.old.fault }
     ensures lent { StaysLent share.old share.new }
 {
-    if pausing {
-        return 0;
-    }
+    steps_stand();
+    windows_stand();
+    element_windows_stand();
+    bound_plan::frames_are_reached();
+    kernel_runs::in_place::finishes_here();
     let count = how.most(room).min(run.local.places.len() - at);
     if count == 0 {
         return 0;
     }
-    run_from(how, run, at, count, share, room)
+    if !all_count(run.local, at, count) {
+        return 0;
+    }
+    let part = part_at(run.local.places, at, count);
+    let width = run.local.part.cells;
+    how.run(
+        &run.rows,
+        part,
+        &mut share.memory[..width],
+        share.partials,
+        room,
+    )
 }

@@ -1,4 +1,4 @@
-use Rattle.std.proofs.Common.{All, sym, subst, ◌∙◌}
+use Rattle.std.proofs.Common.{All, sym, subst}
 use Rattle.bound_program.specs.Values.{bound_of, site_of}
 use Rattle.rank_layout.specs.Numbered.{ArgThere}
 use Rattle.rank_program.proofs.KernelRun.{args_there}
