@@ -61,16 +61,6 @@ pub mail_alone : (cells : ℕ → ℕ → ℕ → ℕ) (k r n : ℕ) (xs : List 
 mail_alone cells k r n [] = refl
 mail_alone cells k r n (x ∷ xs) = mail_alone cells k r n xs
 
--- fewer steps are left
-pub closed_fewer : (k r : ℕ) (xs : List ℕ) (come rest : List Step) → come ≡ closed k r xs ++ rest → 0 < length xs → length rest < length come
-closed_fewer k r [] come rest e some = absurd (omega (arith, some))
-closed_fewer k r (x ∷ xs) come rest e some =
-    subst (λ z. length rest < length z) (sym e) (let h = no_more (left.begins k r xs ++ ends k r (x ∷ xs)) in omega (arith, h))
-  where
-    no_more : (ss : List Step) → length rest ≤ length (ss ++ rest)
-    no_more [] = omega arith
-    no_more (s ∷ ss) = let h = no_more ss in omega (arith, h)
-
 -- ---- the law at parts of a list
 
 module _ {F : Type 0} (p : Setup F) (l : Layout F) where

@@ -3,9 +3,6 @@ use Rattle.std.proofs.Common.{◌≡◌, ℕ, zero, suc, ◌+◌, ◌<◌, ◌�
 use Rattle.std.proofs.lemmas.List.{take_all}
 use Rattle.std.proofs.lemmas.Bool.{cond_both, cases_lt}
 use Rattle.std.proofs.Common.{⊎_elim}
-use Rattle.schedule_steps.specs.declared.step.Step.TheVariants.{Begin}
-use Rattle.schedule_steps.specs.Outline.{Outline}
-use Rattle.schedule_steps.specs.Steps.{IsStep}
 use Rattle.schedule_steps.specs.Peaks.{open_step, mail_step, count_after}
 use Rattle.step_orders.specs.Alone.{alone}
 use Rattle.step_orders.specs.Left.{ends}
@@ -13,18 +10,22 @@ use Rattle.schedule_model.specs.Sequential.{Stop}
 use Rattle.schedule_model.specs.Machine.{is_less}
 use Rattle.schedule_model.specs.Kept.{kept, kept_of, OfElements}
 use Rattle.schedule_model.specs.Setup.{Setup}
-use Rattle.flat_machine.specs.Layout.{Layout, by_place, message_cells}
+use Rattle.flat_machine.specs.Layout.{Layout, IsLayout, by_place, message_cells}
 use Rattle.flat_machine.specs.Flat.{Flat, flat_from}
 use Rattle.rank_exec.specs.Closed.{closed, GroupsAreAlone, RankGroup, all_closed, all_alone, SeveralAreAlone}
 use Rattle.rank_state.specs.Frames.{Pane, Panes, Shut, pane_at}
-use Rattle.rank_state.specs.Groups.{Planned, AllShut}
+use Rattle.rank_state.specs.Groups.{AllShut}
 use Rattle.rank_state.specs.Machine.{State}
-use Rattle.rank_state.specs.Shows.{Tables, Shows}
+use Rattle.rank_state.specs.Indices.{values_at}
+use Rattle.rank_state.specs.Shows.{Tables, Indexed, Shows}
 use Rattle.rank_program.proofs.AloneRuns.{PairsShow}
+use Rattle.rank_program.specs.AloneRuns.{Share}
 use Rattle.rank_program.specs.FromNone.{OfElement}
 use Rattle.rank_exec.specs.Driving.{Done, ComeReady}
-use Rattle.rank_exec.specs.Rounds.{round, CanBegin}
+use Rattle.rank_machine.specs.OnRanks.{RanOnRanks, share_at, with_shares}
+use Rattle.rank_exec.specs.Rounds.{round, CanBegin, RanksComeInTurn, SharesAreSet}
 use Rattle.rank_exec.proofs.Driving.{count_append, done_none, ready_after, ready_front}
+use Rattle.rank_exec.proofs.Tasking.{planned_at}
 use Rattle.rank_exec.proofs.Beginning.{can_both, can_front, can_back, can_alone}
 use Rattle.rank_exec.proofs.AloneRuns.{AreWindowed, can_be_done}
 use Rattle.rank_exec.proofs.Closing.{begins_same, shows_alike, StayShut, closed_ready, closed_done, groups_after, groups_front, open_closed, open_alone, mail_closed, mail_alone}
@@ -57,11 +58,6 @@ mail_all_alone cells k n (x ∷ gs) =
 
 -- ---- the places of a group
 
-planned_get : (o : Outline) (k r : ℕ) (xs : List ℕ) → Planned o k r xs → (i : ℕ) → i < length xs → IsStep o (Begin k r (get_or xs i 0))
-planned_get o k r [] h i lt = absurd (omega (arith, lt))
-planned_get o k r (x ∷ xs) h zero lt = h.0
-planned_get o k r (x ∷ xs) h (suc i) lt = planned_get o k r xs h.1 i (omega (arith, lt))
-
 shut_get : (ps : List (List Pane)) (r : ℕ) (xs : List ℕ) → AllShut ps r xs → (i : ℕ) → i < length xs → pane_at ps r (get_or xs i 0) ≡ Shut
 shut_get ps r [] h i lt = absurd (omega (arith, lt))
 shut_get ps r (x ∷ xs) h zero lt = h.0
@@ -80,7 +76,7 @@ module _ {F : Type 0} (p : Setup F) (l : Layout F) (t : Tables) where
       let all = first [] k r xs (ends k r xs) (ap (λ z. z ++ ends k r xs) (sym (begins_same k r xs))) st (done_none p l t st) in
       let left : length xs ≤ st.frames.left = all.3 in
       let can : CanBegin p l st.frames (alone k r xs) =
-      can_alone p l st.frames k r xs (λ i lt. (planned_get (by_place p l) k r xs all.0 i lt, shut_get st.frames.panes r xs all.1 i lt, omega (arith, lt, left))) in
+      can_alone p l st.frames k r xs (λ i lt. (planned_at (by_place p l) k r xs all.0 i lt, shut_get st.frames.panes r xs all.1 i lt, omega (arith, lt, left))) in
       let alone_ready : ComeReady p l t (alone k r xs) st = closed_ready p l t stay k r xs st f shows first in
       let after = can_be_done p l t k r (law k r) (have k r) xs st alone_ready (length xs) (omega arith) in
       let done : Done p l t (alone k r xs) st after.0 = subst (λ z. Done p l t (alone k r z) st after.0) (take_all (length xs) xs (omega arith)) after.1 in
@@ -119,3 +115,19 @@ kept_element {F = F} (Some y) x a b = cond_both (is_less x y) x y (λ (w : Stop 
 pub kept_elements : {F : Type 0} (o : Option (Stop F)) (xs : List (Stop F)) → OfElement o → OfElements xs → OfElement (kept_of o xs)
 kept_elements o [] a h = a
 kept_elements o (x ∷ xs) a h = kept_elements (kept o x) xs (kept_element o x a h.0) h.1
+
+-- a round is done once the elements of each rank ran on what was lent of it
+pub ran_round : {F : Type 0} (p : Setup F) (l : Layout F) (t : Tables) → RanksComeInTurn p l t → Indexed p l t → IsLayout p l
+    → (k : ℕ) (places : ℕ → List ℕ) (n : ℕ) (old new : State F) (f : Flat F) → Shows p l t old f → CanBegin p l old.frames (round k places n)
+    → (news : List (Share F)) → length news ≡ n → n ≡ length old.memories
+    → RanOnRanks p l t k (values_at old.variables t.constants) old.variables places old (share_at news) (length news)
+    → SharesAreSet old news → new ≡ with_shares news old
+    → Done p l t (round k places n) old new
+ran_round {F = F} p l t turns indexed layout k places n old new f shows can news many ranks ran set is =
+    let cells : length old.memories ≡ length news = omega (arith, many, ranks) in
+    let amounts : length old.partials ≡ length news = omega (arith, cells, shows.sized.ranks, shows.sized.partials) in
+    let kept : OfElement old.fault = subst OfElement (sym shows.fault) (kept_elements None f.faults tt shows.elements) in
+    let done = turns indexed layout k places old (share_at news) (length news) kept (omega (arith, cells)) (omega (arith, amounts)) ran
+    (subst (λ m. CanBegin p l old.frames (round k places m)) (sym many) can) in
+    subst (λ m. Done p l t (round k places m) old new) many
+    (subst (λ (s : State F). Done p l t (round k places (length news)) old s) (set cells amounts ∙ sym is) done)

@@ -13,6 +13,8 @@ use Rattle.schedule_model.specs.Sequential as model
 use Rattle.schedule_model.specs.Sequential.{Seq, Going, Stopped}
 use Rattle.flat_machine.specs.Layout.{Layout, by_place, message_cells}
 use Rattle.flat_machine.specs.Flat.{Flat, Shut_pane, flat_from, StartsFlat}
+use Rattle.rank_exec.specs.declared.begins.Begun.{Begun}
+use Rattle.rank_exec.specs.declared.begins.Begun.TheVariants.{InPlace, Group}
 use Rattle.rank_state.specs.declared.spans.Span.{Span}
 use Rattle.rank_state.specs.declared.owned.Owned.{Owned}
 use Rattle.rank_state.specs.Spans.{total}
@@ -111,6 +113,11 @@ AsSequential (Stopped x s o) stop output = (stop ≡ Some x) × (output ≡ o)
 abbrev pub to_come : Option Step → List Step → List Step
 to_come None rest = rest
 to_come (Some s) rest = s ∷ rest
+
+-- the steps after what was begun
+abbrev pub behind : Begun → List Step → List Step
+behind InPlace rest = rest
+behind (Group next) rest = to_come next rest
 
 -- item k prints the dat to the file
 abbrev pub IsPrint : BoundValue → ℕ → ℕ → List ℕ → Type 0

@@ -1,6 +1,6 @@
 // The steps of a list, one after another, up to the first that stops.
 
-ghost use Rattle.std.specs.Prelude.{◌≡◌, ◌<◌, ◌≤◌, ◌+◌, ◌++◌, ℕ, List, Option, None, IfOk};
+ghost use Rattle.std.specs.Prelude.{◌≡◌, ◌<◌, ◌+◌, ◌++◌, ℕ, List, Option, None, IfOk};
 ghost use Rattle.kernel_types.specs.declared.faults.KernelFault.{KernelFault};
 ghost use Rattle.schedule_steps.specs.declared.step.Step.{Step};
 ghost use Rattle.schedule_steps.specs.declared.step.Step.TheVariants.{Send, Recv, Begin, End, Join};
@@ -17,10 +17,10 @@ ghost use Rattle.rank_exec.specs.Driving.{Ready, After, posts, takes, opens, shu
 ghost use Rattle.rank_program.specs.Sound.{Sound, setup_in, layout_in, tables_in};
 ghost use Rattle.rank_program.specs.Keeping.{KeepsIn};
 
-use crate::begins::BeginAt;
+use crate::begins::{BeginAt, Begun};
+use crate::behind::run_behind;
 use crate::group::run_begins;
 use crate::joins::join;
-use crate::rounds::run_behind;
 use crate::run_room::RunRoom;
 use crate::stream::{Steps, next_of};
 use kernel_types::KernelFault;
@@ -77,48 +77,6 @@ fn take(
     }
 }
 
-// The steps of an accepted list, up to the first that stops.
-fn run<R: Threads + Sync, G: Gate, S: Steps>(
-    crew: &Crew<'_, R, G>,
-    machine: &mut Machine,
-    program: &DistributedProgram<'_>,
-    room: &mut RunRoom,
-    steps: &mut S,
-) -> Result<Option<Stop>, OutOfMemory>
-    requires sound { Sound program.now }
-    requires keeps { (k : ℕ) → KeepsIn program.now k }
-    requires space { HasRunRoomOf program.now room.old }
-    requires coloured { Coloured (setup_in program.now) }
-    requires accepted { Accepted (by_place (setup_in program.now) (layout_in program.now)) (S.left steps.old) }
-    requires starts { (f : Flat KernelFault) × StartsFlat (setup_in program.now) (layout_in program.now) f
-        × Shows (setup_in program.now) (layout_in program.now) (tables_in program.now) machine.old f }
-    requires peak { FitsPeak (layout_in program.now) machine.old.frames.left machine.old.mail.left (S.left steps.old) }
-    ensures after { IfOk result
-        (λ stop. (f : Flat KernelFault) → StartsFlat (setup_in program.now) (layout_in program.now) f
-        → Shows (setup_in program.now) (layout_in program.now) (tables_in program.now) machine.old f
-        → After (setup_in program.now) (layout_in program.now) (tables_in program.now) (stop_in stop) machine.new
-        (flat_from (setup_in program.now) (layout_in program.now) (S.left steps.old) f)) }
-    ensures suffix { (front : List Step) × (S.left steps.old ≡ front ++ S.left steps.new) }
-{
-    schedule_steps::peak_is_room();
-    rank_state::steps_are_ready::<KernelFault>();
-    crate::closed_groups::closed_groups_are_alone::<KernelFault>();
-    let mut next = next_of(steps);
-    while let Some(step) = next {
-        if let Step::Begin { item, rank, place } = step {
-            let begin = BeginAt { item, rank, place };
-            next = run_begins(crew, machine, program, room, steps, begin)?;
-        } else {
-            if let Some(stop) = take(crew.alloc, machine, program, &mut room.step, step)? {
-                return Ok(Some(stop));
-            }
-            run_behind(crew, machine, program, room, steps, step)?;
-            next = next_of(steps);
-        }
-    }
-    Ok(None)
-}
-
 /// The steps of an accepted list: the stop and the output are those of the sequential run. Where no step stops, the
 /// machine's lists, its memories among them, show where the machine on flat buffers ends.
 ///
@@ -158,6 +116,27 @@ pub fn drive<R: Threads + Sync, G: Gate, S: Steps>(
     ensures suffix { (front : List Step) × (S.left steps.old ≡ front ++ S.left steps.new) }
 {
     flat_machine::flat_runs_as_sequential::<KernelFault>();
-    let stop = run(crew, machine, program, room, steps)?;
-    Ok(stop)
+    schedule_steps::peak_is_room();
+    rank_state::steps_are_ready::<KernelFault>();
+    crate::closed_groups::closed_groups_are_alone::<KernelFault>();
+    let mut next = next_of(steps);
+    while let Some(step) = next {
+        if let Step::Begin { item, rank, place } = step {
+            let begin = BeginAt { item, rank, place };
+            match run_begins(crew, machine, program, room, steps, begin) {
+                Begun::InPlace => {
+                    run_behind(crew, machine, program, room, steps, step)?;
+                    next = next_of(steps);
+                }
+                Begun::Group(behind) => next = behind,
+            }
+        } else {
+            if let Some(stop) = take(crew.alloc, machine, program, &mut room.step, step)? {
+                return Ok(Some(stop));
+            }
+            run_behind(crew, machine, program, room, steps, step)?;
+            next = next_of(steps);
+        }
+    }
+    Ok(None)
 }

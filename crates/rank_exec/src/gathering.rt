@@ -55,8 +55,7 @@ pub fn gather<S: Steps>(
     let mut last = of;
     loop {
         lists[last.rank as usize].extend_from_slice(places)?;
-        places.clear();
-        let next = next_told(steps, places);
+        let next = next_told(steps, places, true);
         let Some(more) = behind(next, last, lists.len()) else {
             return Ok(next);
         };

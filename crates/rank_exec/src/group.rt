@@ -1,47 +1,36 @@
 // Runs of begins.
 
 ghost use Rattle.std.specs.Prelude.{◌≡◌, ◌<◌, ◌≤◌, ◌+◌, ◌*◌, ◌++◌, ◌∷◌, ℕ, true, [], List, length, take, None, Some, vec_capacity};
-ghost use Rattle.std.specs.Prelude.{IfOk, OnOk};
 ghost use Rattle.kernel_types.specs.declared.faults.KernelFault.{KernelFault};
 ghost use Rattle.schedule_steps.specs.declared.step.Step.{Step};
 ghost use Rattle.schedule_steps.specs.declared.step.Step.TheVariants.{Begin, End};
 ghost use Rattle.rank_exec.specs.Closed.{GroupsAreAlone};
-ghost use Rattle.flat_machine.specs.Layout.{by_place};
-ghost use Rattle.flat_machine.specs.Flat.{Flat, flat_from};
-ghost use Rattle.rank_program.specs.Rooms.{HasRoomOf};
+ghost use Rattle.flat_machine.specs.Flat.{Flat};
 ghost use Rattle.rank_exec.specs.RunRooms.{most_begins, HasRunRoomOf};
 ghost use Rattle.rank_state.specs.Shows.{Shows};
-ghost use Rattle.rank_state.specs.Groups.{begins, Distinct, Planned, AllShut};
+ghost use Rattle.rank_state.specs.Groups.{begins};
 ghost use Rattle.rank_program.specs.Jobs.{Accepts, RanIn, job_core, part, task_at};
 ghost use Rattle.rank_exec.specs.Tasks.{HasGroupRoom, KeepsGroupRoom};
-ghost use Rattle.rank_exec.specs.Driving.{Done, ComeReady, to_come};
+ghost use Rattle.rank_exec.specs.Driving.{Done, ComeReady, to_come, behind};
+ghost use Rattle.rank_exec.specs.declared.begins.Begun.TheVariants.{Group};
 ghost use Rattle.rank_program.specs.Sound.{Sound, Takes, setup_in, layout_in, tables_in};
 ghost use Rattle.rank_program.specs.Keeping.{KeepsIn};
 
-use crate::begins::{BeginAt, Begins};
+use crate::begins::{BeginAt, Begins, Begun};
 use crate::group_room::GroupRoom;
 use crate::group_steps::{load_all, open_all};
-use crate::rounds::run_on;
 use crate::run_room::{MOST_BEGINS, RunRoom};
 use crate::sharing::workers_for;
-use crate::stream::{Steps, next_of};
+use crate::stream::{Steps, Told, next_of};
+use crate::told::run_told;
 use kernel_types::KernelFault;
-use op_num::OutOfMemory;
 use par_exec::{Crew, Gate};
 use rank_machine::machine::Machine;
-use rank_machine::steps::{in_place, read_constants};
-use rank_program::{DistributedProgram, KernelJob, Room, job, put_targets, run_tasks};
+use rank_machine::steps::read_constants;
+use rank_program::{DistributedProgram, KernelJob, job, put_targets, run_tasks};
 use schedule_steps::Step;
 use std::marker::Sync;
 use std::thread::Threads;
-
-// The first place, or 0 where there is none.
-fn first_of(places: &[u32]) -> u32 {
-    match places {
-        [] => 0,
-        [first, ..] => *first,
-    }
-}
 
 // Runs a job's kernel once for each of its tasks, on the windows at the front of the staging buffer.
 fn run_in_front<R: Threads + Sync, G: Gate>(
@@ -69,6 +58,8 @@ fn run_all<R: Threads + Sync, G: Gate>(
     constants: &[i32],
     buffers: &mut GroupRoom,
 )
+    requires some { 0 < length group.now.places.now }
+    requires count { length buffers.old.tasks.items ≡ length group.now.places.now }
     requires takes { (i : ℕ) → i < length buffers.old.tasks.items
         → Takes program.now group.now.item (task_at buffers.old.tasks.items i).element
         (length constants.now) (task_at buffers.old.tasks.items i).cells }
@@ -82,9 +73,6 @@ fn run_all<R: Threads + Sync, G: Gate>(
     ensures tasks { buffers.new.tasks ≡ buffers.old.tasks }
     ensures kept { KeepsGroupRoom buffers.old buffers.new }
 {
-    if buffers.tasks.is_empty() {
-        return;
-    }
     buffers.targets.clear();
     put_targets(program, group.item, &buffers.tasks, &mut buffers.targets);
     let job = job(
@@ -94,44 +82,8 @@ fn run_all<R: Threads + Sync, G: Gate>(
         &buffers.targets,
         constants,
     );
-    let place = first_of(group.places);
-    let crew = crew.with_workers(workers_for(&job, place, crew.workers));
+    let crew = crew.with_workers(workers_for(&job, group.places[0], crew.workers));
     run_in_front(&crew, &job, &mut buffers.staging, buffers.window);
-}
-
-/// The begins of a group, in their order. Their kernels run first, by the workers of `crew`, and its gate is told of
-/// each run just before, by the begin's number in the group, from 0 on. `buffers` are room for as many begins or more.
-pub fn begin_group<R: Threads + Sync, G: Gate>(
-    crew: &Crew<'_, R, G>,
-    machine: &mut Machine,
-    program: &DistributedProgram<'_>,
-    room: &mut Room,
-    buffers: &mut GroupRoom,
-    group: &Begins<'_>,
-)
-    requires sound { Sound program.now }
-    requires planned { Planned (by_place (setup_in program.now) (layout_in program.now))
-        group.now.item group.now.rank group.now.places.now }
-    requires space { HasRoomOf program.now room.old }
-    requires shows { (f : Flat KernelFault) × Shows (setup_in program.now) (layout_in program.now) (tables_in program.now) machine.old f }
-    requires shut { AllShut machine.old.frames.panes group.now.rank group.now.places.now }
-    requires distinct { Distinct group.now.places.now }
-    requires room { length group.now.places.now ≤ machine.old.frames.left }
-    requires buffers { HasGroupRoom (length group.now.places.now) (tables_in program.now).stride (program.now.locals) buffers.old }
-    ensures shows { (f : Flat KernelFault) → Shows (setup_in program.now) (layout_in program.now) (tables_in program.now) machine.old f
-        → Shows (setup_in program.now) (layout_in program.now) (tables_in program.now) machine.new
-        (flat_from (setup_in program.now) (layout_in program.now) (begins group.now.item group.now.rank group.now.places.now) f) }
-    ensures space { HasRoomOf program.now room.new }
-    ensures mail { machine.new.mail.left ≡ machine.old.mail.left }
-    ensures frames { machine.new.frames.left + length group.now.places.now ≡ machine.old.frames.left }
-    ensures buffers { (most : ℕ) → HasGroupRoom most (tables_in program.now).stride (program.now.locals) buffers.old
-        → HasGroupRoom most (tables_in program.now).stride (program.now.locals) buffers.new }
-{
-    rank_state::windows_are_counted::<KernelFault>();
-    load_all(machine, program, room, group, buffers);
-    read_constants(machine, program, &mut room.constants);
-    run_all(crew, program, group, &room.constants, buffers);
-    open_all(machine, program, room, group, buffers);
 }
 
 // The place, where the step is a begin of the item and rank.
@@ -196,12 +148,10 @@ fn is_end(step: Option<Step>, item: u32, rank: u32, place: u32) -> bool
     }
 }
 
-/// A begin and those of its item and rank that come next, as one group; a begin that its own end
-/// follows, in place, and with it those of which the stream tells that they come behind it. Answers the step after
-/// them.
+/// A begin and those of its item and rank that come next, as one group; a begin that its own end follows, in place.
 ///
-/// # Errors
-/// Want of memory alone.
+/// A group's kernels run first, by the workers of `crew`, and its gate is told of each run just before, by the begin's
+/// number in the group, from 0 on.
 pub fn run_begins<R: Threads + Sync, G: Gate, S: Steps>(
     crew: &Crew<'_, R, G>,
     machine: &mut Machine,
@@ -209,7 +159,7 @@ pub fn run_begins<R: Threads + Sync, G: Gate, S: Steps>(
     room: &mut RunRoom,
     steps: &mut S,
     begin: BeginAt,
-) -> Result<Option<Step>, OutOfMemory>
+) -> Begun
     requires sound { Sound program.now }
     requires keeps { (k : ℕ) → KeepsIn program.now k }
     requires space { HasRunRoomOf program.now room.old }
@@ -218,35 +168,34 @@ pub fn run_begins<R: Threads + Sync, G: Gate, S: Steps>(
         (Begin begin.item begin.rank begin.place ∷ S.left steps.old) machine.old }
     requires alone { GroupsAreAlone (setup_in program.now) (layout_in program.now)
         (Begin begin.item begin.rank begin.place ∷ S.left steps.old) }
-    ensures done { IfOk result (λ next. (done : List Step)
-        × (Begin begin.item begin.rank begin.place ∷ S.left steps.old ≡ done ++ to_come next (S.left steps.new)) × (0 < length done)
-        × Done (setup_in program.now) (layout_in program.now) (tables_in program.now) done machine.old machine.new) }
-    ensures over { IfOk result (λ next. next ≡ None → S.left steps.new ≡ []) }
-    ensures suffix { (front : List Step) × (Begin begin.item begin.rank begin.place ∷ S.left steps.old ≡ front ++ S.left steps.new) }
-    ensures space { OnOk result (HasRunRoomOf program.now room.new) }
+    ensures done { (done : List Step)
+        × (Begin begin.item begin.rank begin.place ∷ S.left steps.old ≡ done ++ behind result (S.left steps.new)) × (0 < length done)
+        × Done (setup_in program.now) (layout_in program.now) (tables_in program.now) done machine.old machine.new }
+    ensures over { result ≡ Group None → S.left steps.new ≡ [] }
+    ensures space { HasRunRoomOf program.now room.new }
 {
+    rank_state::windows_are_counted::<KernelFault>();
     let BeginAt { item, rank, place } = begin;
     room.places.clear();
     room.places.push_reserved(place);
     let next = collect(steps, item, rank, &mut room.places);
     if room.places.len() == 1 && is_end(next, item, rank, place) {
-        in_place(machine, program, &mut room.step, item, rank, place);
-        let end = Step::End { item, rank, place };
-        run_on(crew, machine, program, room, steps, end)?;
-        return Ok(next_of(steps));
+        let of = Told {
+            item,
+            rank,
+            alone: true,
+        };
+        run_told(machine, program, &mut room.step, of, &room.places);
+        return Begun::InPlace;
     }
     let group = Begins {
         item,
         rank,
         places: &room.places,
     };
-    begin_group(
-        crew,
-        machine,
-        program,
-        &mut room.step,
-        &mut room.group,
-        &group,
-    );
-    Ok(next)
+    load_all(machine, program, &mut room.step, &group, &mut room.group);
+    read_constants(machine, program, &mut room.step.constants);
+    run_all(crew, program, &group, &room.step.constants, &mut room.group);
+    open_all(machine, program, &mut room.step, &group, &room.group);
+    Begun::Group(next)
 }

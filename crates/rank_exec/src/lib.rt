@@ -3,9 +3,8 @@
 //! (`planned_run`). `closed_groups` says why elements that begin together and then end may run one after another.
 #![tactic(auto)]
 
-mod alone;
 mod begins;
-mod closed;
+mod behind;
 pub mod closed_groups;
 pub mod drive;
 mod gathering;
@@ -23,6 +22,7 @@ mod running;
 mod sharing;
 mod standing;
 pub mod stream;
+mod told;
 
 pub use rank_machine::machine::Machine;
 pub use rank_state::rank_memory::stop::Stop;

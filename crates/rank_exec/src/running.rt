@@ -1,6 +1,6 @@
 // The run of a distributed program.
 
-ghost use Rattle.std.specs.Prelude.{◌≡◌, ◌<◌, ◌++◌, ℕ, List, true, None, IfOk};
+ghost use Rattle.std.specs.Prelude.{◌≡◌, ◌<◌, ℕ, List, None, IfOk};
 ghost use Rattle.gather.specs.Dump.{AreHeld};
 ghost use Rattle.schedule_steps.specs.Steps.{Accepted};
 ghost use Rattle.run_model.specs.Programs.{run_of_program};
@@ -33,22 +33,6 @@ pub struct Outcome {
     pub stop: Option<Stop>,
 }
 
-// What the machine has printed, and the dump of its memories behind it if it is asked for. An error is want of memory.
-fn with_dump(
-    program: &DistributedProgram<'_>,
-    machine: Machine,
-    dumps: bool,
-) -> Result<Vec<u8>, OutOfMemory>
-    requires held { dumps ≡ true → AreHeld (program_in program.now).mesh program.now.meshes.now machine.memories }
-    ensures { IfOk result (λ v. v.items ≡ machine.output ++ dump_in dumps program.now machine.memories) }
-{
-    let (mut out, memories) = machine.into_parts();
-    if dumps {
-        dump(&mut out, &program.bound.mesh, program.meshes, &memories)?;
-    }
-    Ok(out)
-}
-
 // What a run puts out that left the machine so: where nothing stopped it, with the dump if it is asked for. An error is
 // want of memory.
 fn outcome_of(
@@ -62,8 +46,10 @@ fn outcome_of(
     ensures { IfOk result (λ x. (dump : List ℕ) → (stop ≡ None → dump ≡ dump_in dumps program.now machine.memories)
         → IsRunBy (program_in program.now) dump x) }
 {
-    let ran = stop.is_none();
-    let out = with_dump(program, machine, dumps && ran)?;
+    let (mut out, memories) = machine.into_parts();
+    if dumps && stop.is_none() {
+        dump(&mut out, &program.bound.mesh, program.meshes, &memories)?;
+    }
     Ok(Outcome { out, stop })
 }
 

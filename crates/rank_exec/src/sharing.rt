@@ -70,8 +70,8 @@ pub fn needs_groups(code: &Code<'_>, ranks: u32, workers: u32) -> bool {
         && !runs_in_batches(code)
 }
 
-/// Whether the kernel of a Free item is so short that not even a full group of its elements is worth threads.
-pub fn is_short(program: &DistributedProgram<'_>, item: u32) -> bool {
+// Whether the kernel of a Free item is so short that not even a full group of its elements is worth threads.
+fn is_short(program: &DistributedProgram<'_>, item: u32) -> bool {
     operations_in(program, item).saturating_mul(FULL_GROUP) < WORTH_THREADS
 }
 
@@ -89,14 +89,23 @@ pub fn come_in_rounds(program: &DistributedProgram<'_>, item: u32, workers: u32)
     comes_in_batches(program, item)
 }
 
-/// Whether elements that come next may come in rounds, behind this step: those of the same item would.
+/// Whether elements that come behind this step may come in rounds: those of the same item would.
 pub fn may_come_in_rounds(program: &DistributedProgram<'_>, before: Step, workers: u32) -> bool {
     match before {
-        Step::Send { item, .. } | Step::Recv { item, .. } | Step::End { item, .. } => {
-            come_in_rounds(program, item, workers)
-        }
-        Step::Begin { .. } => false,
+        Step::Send { item, .. }
+        | Step::Recv { item, .. }
+        | Step::Begin { item, .. }
+        | Step::End { item, .. } => come_in_rounds(program, item, workers),
         Step::Join { .. } => true,
+    }
+}
+
+/// Whether closed groups that come behind this step run in place, where they come in no rounds: it is the end of an
+/// element whose kernel is short, or of any where a single worker runs all kernels.
+pub fn groups_run_in_place(program: &DistributedProgram<'_>, before: Step, workers: u32) -> bool {
+    match before {
+        Step::End { item, .. } => workers == 1 || is_short(program, item),
+        _ => false,
     }
 }
 

@@ -1,7 +1,6 @@
 // Steps that come one after another.
 
 ghost use Rattle.std.specs.Prelude.{◌≡◌, ◌<◌, ◌++◌, [], None, length, vec_capacity, IfSome, IfNone};
-ghost use Rattle.rank_exec.specs.Closed.{closed};
 ghost use Rattle.rank_exec.specs.Driving.{to_come};
 ghost use Rattle.rank_exec.specs.Rounds.{elements};
 
@@ -26,32 +25,28 @@ pub(crate) struct Told {
     pub alone: bool,
 }
 
-// The closed group that comes next, whose steps are taken and whose places are put down; `None` where none is told.
-pub(crate) fn next_closed_of<S: Steps>(steps: &mut S, places: &mut Vec<u32>) -> Option<ItemOnRank>
-    requires empty { places.old.items ≡ [] }
-    ensures some { IfSome result (λ of. S.left steps.old ≡ closed of.item of.rank places.new.items ++ S.left steps.new) }
-    ensures more { IfSome result (λ of. 0 < length places.new.items) }
-    ensures none { IfNone result (S.left steps.new ≡ S.left steps.old) }
-    ensures room { vec_capacity places.new ≡ vec_capacity places.old }
-{
-    steps.next_closed(places)
-}
-
-// The elements that are told to come next, whose steps are taken and whose places are put down; `None` where none are
-// told.
-pub(crate) fn next_told<S: Steps>(steps: &mut S, places: &mut Vec<u32>) -> Option<Told>
-    requires empty { places.old.items ≡ [] }
+// The elements that are told to come next, a closed group only where `closed`: their steps are taken, and their places
+// are what stands in `places` then. `None` where none are told.
+pub(crate) fn next_told<S: Steps>(
+    steps: &mut S,
+    places: &mut Vec<u32>,
+    closed: bool,
+) -> Option<Told>
     ensures some { IfSome result (λ of. S.left steps.old ≡ elements of.alone of.item of.rank places.new.items ++ S.left steps.new) }
     ensures more { IfSome result (λ of. 0 < length places.new.items) }
     ensures none { IfNone result (S.left steps.new ≡ S.left steps.old) }
     ensures room { vec_capacity places.new ≡ vec_capacity places.old }
 {
+    places.clear();
     if let Some(ItemOnRank { item, rank }) = steps.next_alone(places) {
         return Some(Told {
             item,
             rank,
             alone: true,
         });
+    }
+    if !closed {
+        return None;
     }
     places.clear();
     let Some(ItemOnRank { item, rank }) = steps.next_closed(places) else {

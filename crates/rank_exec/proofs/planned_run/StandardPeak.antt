@@ -12,6 +12,7 @@ use Rattle.schedule_steps.specs.Standard.{below, where_true, above, one_if, tall
 use Rattle.schedule_steps.specs.Peaks.{open_step, mail_step, count_after, greatest}
 use Rattle.loop_plan.specs.Counted.{sum_below}
 use Rattle.rank_exec.specs.Room.{cells_sent, item_cells}
+use Rattle.rank_exec.proofs.Driving.{count_append}
 
 -- ---- counts along lists
 
@@ -21,10 +22,6 @@ record Goes (f : Step → ℕ → ℕ) (m n : ℕ) (l : List Step) (after : ℕ)
   most : greatest f n l ≤ m
 
 module _ (f : Step → ℕ → ℕ) (m : ℕ) where
-  count_append : (n : ℕ) (a b : List Step) → count_after f n (a ++ b) ≡ count_after f (count_after f n a) b
-  count_append n [] b = refl
-  count_append n (s ∷ a) b = count_append (f s n) a b
-
   greatest_append : (n : ℕ) (a b : List Step) → greatest f n a ≤ m → greatest f (count_after f n a) b ≤ m → greatest f n (a ++ b) ≤ m
   greatest_append n [] b h i = i
   greatest_append n (s ∷ a) b h i =
@@ -33,7 +30,7 @@ module _ (f : Step → ℕ → ℕ) (m : ℕ) where
 
   goes_on : (n u w : ℕ) (a b : List Step) → Goes f m n a u → Goes f m u b w → Goes f m n (a ++ b) w
   goes_on n u w a b g h = record {
-    end = count_append n a b ∙ (ap (λ z. count_after f z b) g.end ∙ h.end);
+    end = count_append f n a b ∙ (ap (λ z. count_after f z b) g.end ∙ h.end);
     most = greatest_append n a b g.most (subst (λ z. greatest f z b ≤ m) (sym g.end) h.most);
   }
 
@@ -43,7 +40,8 @@ module _ (f : Step → ℕ → ℕ) (m : ℕ) where
   one_step : (s : Step) (n : ℕ) → n ≤ m → f s n ≤ m → Goes f m n (s ∷ []) (f s n)
   one_step s n le step = record { end = refl; most = omega arith }
 
-  below_goes : (F : ℕ → List Step) (c : ℕ → ℕ) (n : ℕ) → c 0 ≤ m → ((i : ℕ) → i < n → Goes f m (c i) (F i) (c (suc i))) → Goes f m (c 0) (below F n) (c n)
+  below_goes : (F : ℕ → List Step) (c : ℕ → ℕ) (n : ℕ) → c 0 ≤ m → ((i : ℕ) → i < n → Goes f m (c i) (F i) (c (suc i))) → Goes f m (c 0)
+      (below F n) (c n)
   below_goes F c zero le h = nothing (c 0) le
   below_goes F c (suc n) le h =
       goes_on (c 0) (c n) (c (suc n)) (below F n) (F n)
@@ -130,7 +128,8 @@ run_tally windows o g k r b c j n pos =
     let few : tally (in_group o g k r b c j) n ≤ n = tally_few (in_group o g k r b c j) n in
     let e : tally (in_group o g k r b c j) n ≡ length (take g (drop (j * g) (numbers (is_member o k r b c) n))) =
     sym (length_numbers (in_group o g k r b c j) n) ∙ ap length (windows o g k r b c j n pos) in
-    let l : length (take g (drop (j * g) (numbers (is_member o k r b c) n))) ≡ min g (length (drop (j * g) (numbers (is_member o k r b c) n))) =
+    let l : length (take g (drop (j * g) (numbers (is_member o k r b c) n))) ≡ min g
+    (length (drop (j * g) (numbers (is_member o k r b c) n))) =
     length-take g (drop (j * g) (numbers (is_member o k r b c) n)) in
     omega arith
 
@@ -163,7 +162,8 @@ module _ (m k r : ℕ) where
 
   run_goes : (t : ℕ → Bool) (n : ℕ) → tally t n ≤ m
       → Goes open_step m 0 (below (λ x. where_true (t x) (Begin k r x ∷ [])) n ++ below (λ x. where_true (t x) (End k r x ∷ [])) n) 0
-  run_goes t n le = goes_on open_step m 0 (tally t n) 0 (below (λ x. where_true (t x) (Begin k r x ∷ [])) n) (below (λ x. where_true (t x) (End k r x ∷ [])) n)
+  run_goes t n le = goes_on open_step m 0 (tally t n) 0 (below (λ x. where_true (t x) (Begin k r x ∷ [])) n)
+      (below (λ x. where_true (t x) (End k r x ∷ [])) n)
       (begins_go t n le) (ends_go t n le)
 
 module _ (windows : RunsAreWindows) (o : Outline) (g m : ℕ) (pos : 0 < g) where
@@ -188,16 +188,20 @@ module _ (windows : RunsAreWindows) (o : Outline) (g m : ℕ) (pos : 0 < g) wher
 
   sends_open : (k s : ℕ) → Goes open_step m 0 (sends_of o k s) 0
   sends_open k s = still_below open_step m (λ r. where_true (o.sends k s r) (Send k s r ∷ [])) 0 o.ranks (omega arith)
-      (λ r lr. cond_goes open_step m (o.sends k s r) 0 (Send k s r ∷ []) (omega arith) (one_step open_step m (Send k s r) 0 (omega arith) (omega arith)))
+      (λ r lr. cond_goes open_step m (o.sends k s r) 0 (Send k s r ∷ []) (omega arith)
+      (one_step open_step m (Send k s r) 0 (omega arith) (omega arith)))
 
   receives_open : (k r : ℕ) → Goes open_step m 0 (receives_of o k r) 0
   receives_open k r = still_below open_step m (λ s. where_true (o.sends k s r) (Recv k r s ∷ [])) 0 o.ranks (omega arith)
-      (λ s ls. cond_goes open_step m (o.sends k s r) 0 (Recv k r s ∷ []) (omega arith) (one_step open_step m (Recv k r s) 0 (omega arith) (omega arith)))
+      (λ s ls. cond_goes open_step m (o.sends k s r) 0 (Recv k r s ∷ []) (omega arith)
+      (one_step open_step m (Recv k r s) 0 (omega arith) (omega arith)))
 
   item_opens : (k : ℕ) → (o.is_free k ≡ true → (r : ℕ) → r < o.ranks → min g (o.count k r) ≤ m) → Goes open_step m 0 (item_steps o g k) 0
   item_opens k le = by (o.is_free k) refl
     where
-      by : (b : Bool) → o.is_free k ≡ b → Goes open_step m 0 (cond b (below (sends_of o k) o.ranks ++ (below (receives_of o k) o.ranks ++ below (element_steps o g k) o.ranks)) (Join k ∷ [])) 0
+      by : (b : Bool) → o.is_free k ≡ b → Goes open_step m 0
+          (cond b (below (sends_of o k) o.ranks ++ (below (receives_of o k) o.ranks ++ below (element_steps o g k) o.ranks)) (Join k ∷ []))
+          0
       by true e =
           goes_on open_step m 0 0 0 (below (sends_of o k) o.ranks) (below (receives_of o k) o.ranks ++ below (element_steps o g k) o.ranks)
           (still_below open_step m (sends_of o k) 0 o.ranks (omega arith) (λ s ls. sends_open k s))
@@ -206,7 +210,8 @@ module _ (windows : RunsAreWindows) (o : Outline) (g m : ℕ) (pos : 0 < g) wher
           (still_below open_step m (element_steps o g k) 0 o.ranks (omega arith) (λ r lr. elements_go k r (le e r lr))))
       by false e = one_step open_step m (Join k) 0 (omega arith) (omega arith)
 
-  pub few_open : ((k r : ℕ) → k < o.items → o.is_free k ≡ true → r < o.ranks → min g (o.count k r) ≤ m) → greatest open_step 0 (standard o g) ≤ m
+  pub few_open : ((k r : ℕ) → k < o.items → o.is_free k ≡ true → r < o.ranks → min g (o.count k r) ≤ m) → greatest open_step 0
+      (standard o g) ≤ m
   few_open le =
       let goes : Goes open_step m 0 (standard o g) 0 =
       still_below open_step m (item_steps o g) 0 o.items (omega arith) (λ k lk. item_opens k (λ e r lr. le k r lk e lr)) in
@@ -240,7 +245,8 @@ module _ (o : Outline) (cells : ℕ → ℕ → ℕ → ℕ) (m k : ℕ) where
   sum_up : (f : ℕ → ℕ) (t : ℕ → Bool) (i n : ℕ) → i ≤ n → sum_by f (numbers t i) ≤ sum_by f (numbers t n)
   sum_up f t i zero le = let e : i ≡ 0 = omega arith in subst (λ z. sum_by f (numbers t z) ≤ 0) (sym e) (omega arith)
   sum_up f t i (suc n) le = ⊎_elim
-      (λ (lt : n < i). let e : i ≡ suc n = omega arith in subst (λ z. sum_by f (numbers t z) ≤ sum_by f (numbers t (suc n))) (sym e) (omega arith))
+      (λ (lt : n < i). let e : i ≡ suc n = omega arith in subst (λ z. sum_by f (numbers t z) ≤ sum_by f (numbers t (suc n))) (sym e)
+      (omega arith))
       (λ (ge : i ≤ n).
       let rest : sum_by f (numbers t i) ≤ sum_by f (numbers t n) = sum_up f t i n ge in
       let more : sum_by f (numbers t (suc n)) ≡ sum_by f (numbers t n) + cond (t n) (f n) 0 = next_number f t n in
@@ -258,20 +264,25 @@ module _ (o : Outline) (cells : ℕ → ℕ → ℕ → ℕ) (m k : ℕ) where
   sends_go s n le =
       let start : n + 0 ≡ n = omega arith in
       subst (λ z. Goes (mail_step cells) m z (sends_of o k s) (n + cells_sent o cells k s)) start
-      (below_goes (mail_step cells) m (λ r. where_true (o.sends k s r) (Send k s r ∷ [])) (λ i. n + sum_by (cells k s) (numbers (o.sends k s) i)) o.ranks
+      (below_goes (mail_step cells) m (λ r. where_true (o.sends k s r) (Send k s r ∷ []))
+      (λ i. n + sum_by (cells k s) (numbers (o.sends k s) i)) o.ranks
       (omega arith) (λ i lt.
-      let more : sum_by (cells k s) (numbers (o.sends k s) (suc i)) ≡ sum_by (cells k s) (numbers (o.sends k s) i) + cond (o.sends k s i) (cells k s i) 0 =
+      let more : sum_by (cells k s) (numbers (o.sends k s) (suc i)) ≡ sum_by (cells k s) (numbers (o.sends k s) i) + cond (o.sends k s i)
+      (cells k s i) 0 =
       next_number (cells k s) (o.sends k s) i in
       let up : sum_by (cells k s) (numbers (o.sends k s) (suc i)) ≤ sum_by (cells k s) (numbers (o.sends k s) o.ranks) =
       sum_up (cells k s) (o.sends k s) (suc i) o.ranks (omega arith) in
-      let e : n + sum_by (cells k s) (numbers (o.sends k s) i) + cond (o.sends k s i) (cells k s i) 0 ≡ n + sum_by (cells k s) (numbers (o.sends k s) (suc i)) =
+      let e : n + sum_by (cells k s) (numbers (o.sends k s) i) + cond (o.sends k s i) (cells k s i) 0 ≡ n + sum_by (cells k s)
+      (numbers (o.sends k s) (suc i)) =
       omega arith in
-      subst (λ z. Goes (mail_step cells) m (n + sum_by (cells k s) (numbers (o.sends k s) i)) (where_true (o.sends k s i) (Send k s i ∷ [])) z) e
+      subst (λ z. Goes (mail_step cells) m (n + sum_by (cells k s) (numbers (o.sends k s) i)) (where_true (o.sends k s i) (Send k s i ∷ []))
+      z) e
       (send_one (o.sends k s i) s i (n + sum_by (cells k s) (numbers (o.sends k s) i)) (omega arith))))
 
   all_sends_go : item_cells o cells k ≤ m → Goes (mail_step cells) m 0 (below (sends_of o k) o.ranks) (item_cells o cells k)
   all_sends_go le = below_goes (mail_step cells) m (sends_of o k) (sum_below (cells_sent o cells k)) o.ranks (omega arith) (λ i lt.
-      let up : sum_below (cells_sent o cells k) (suc i) ≤ item_cells o cells k = below_up (cells_sent o cells k) (suc i) o.ranks (omega arith) in
+      let up : sum_below (cells_sent o cells k) (suc i) ≤ item_cells o cells k = below_up (cells_sent o cells k) (suc i) o.ranks
+      (omega arith) in
       sends_go i (sum_below (cells_sent o cells k) i) (omega arith))
 
   receives_go : (r n : ℕ) → n ≤ m → Goes (mail_step cells) m n (receives_of o k r) (n - received r)
@@ -280,11 +291,14 @@ module _ (o : Outline) (cells : ℕ → ℕ → ℕ → ℕ) (m k : ℕ) where
       subst (λ z. Goes (mail_step cells) m z (receives_of o k r) (n - received r)) start
       (below_goes (mail_step cells) m (λ s. where_true (o.sends k s r) (Recv k r s ∷ []))
       (λ i. n - sum_by (λ s. cells k s r) (numbers (λ s. o.sends k s r) i)) o.ranks (omega arith) (λ i lt.
-      let more : sum_by (λ s. cells k s r) (numbers (λ s. o.sends k s r) (suc i)) ≡ sum_by (λ s. cells k s r) (numbers (λ s. o.sends k s r) i) + cond (o.sends k i r) (cells k i r) 0 =
+      let more : sum_by (λ s. cells k s r) (numbers (λ s. o.sends k s r) (suc i)) ≡ sum_by (λ s. cells k s r)
+      (numbers (λ s. o.sends k s r) i) + cond (o.sends k i r) (cells k i r) 0 =
       next_number (λ s. cells k s r) (λ s. o.sends k s r) i in
-      let e : n - sum_by (λ s. cells k s r) (numbers (λ s. o.sends k s r) i) - cond (o.sends k i r) (cells k i r) 0 ≡ n - sum_by (λ s. cells k s r) (numbers (λ s. o.sends k s r) (suc i)) =
+      let e : n - sum_by (λ s. cells k s r) (numbers (λ s. o.sends k s r) i) - cond (o.sends k i r) (cells k i r) 0 ≡ n - sum_by
+      (λ s. cells k s r) (numbers (λ s. o.sends k s r) (suc i)) =
       omega arith in
-      subst (λ z. Goes (mail_step cells) m (n - sum_by (λ s. cells k s r) (numbers (λ s. o.sends k s r) i)) (where_true (o.sends k i r) (Recv k r i ∷ [])) z) e
+      subst (λ z. Goes (mail_step cells) m (n - sum_by (λ s. cells k s r) (numbers (λ s. o.sends k s r) i))
+      (where_true (o.sends k i r) (Recv k r i ∷ [])) z) e
       (receive_one (o.sends k i r) i r (n - sum_by (λ s. cells k s r) (numbers (λ s. o.sends k s r) i)) (omega arith))))
 
   all_receives_go : item_cells o cells k ≤ m → Goes (mail_step cells) m (item_cells o cells k) (below (receives_of o k) o.ranks) 0
@@ -328,16 +342,19 @@ module _ (o : Outline) (cells : ℕ → ℕ → ℕ → ℕ) (m k : ℕ) where
     elements_pass =
         still_below (mail_step cells) m (λ h. below (λ b. where_true (o.block_colour k r b == h) (block_steps o g k r b)) (blocks o k r)) 0
         (above (o.block_colour k r) (blocks o k r)) (omega arith) (λ h lh.
-        still_below (mail_step cells) m (λ b. where_true (o.block_colour k r b == h) (block_steps o g k r b)) 0 (blocks o k r) (omega arith) (λ b lb.
+        still_below (mail_step cells) m (λ b. where_true (o.block_colour k r b == h) (block_steps o g k r b)) 0 (blocks o k r) (omega arith)
+        (λ b lb.
         cond_goes (mail_step cells) m (o.block_colour k r b == h) 0 (block_steps o g k r b) (omega arith) (block_passes b)))
 
   item_goes : (g : ℕ) → (o.is_free k ≡ true → item_cells o cells k ≤ m) → Goes (mail_step cells) m 0 (item_steps o g k) 0
   item_goes g le = by (o.is_free k) refl
     where
       by : (b : Bool) → o.is_free k ≡ b
-          → Goes (mail_step cells) m 0 (cond b (below (sends_of o k) o.ranks ++ (below (receives_of o k) o.ranks ++ below (element_steps o g k) o.ranks)) (Join k ∷ [])) 0
+          → Goes (mail_step cells) m 0 (cond b
+          (below (sends_of o k) o.ranks ++ (below (receives_of o k) o.ranks ++ below (element_steps o g k) o.ranks)) (Join k ∷ [])) 0
       by true e =
-          goes_on (mail_step cells) m 0 (item_cells o cells k) 0 (below (sends_of o k) o.ranks) (below (receives_of o k) o.ranks ++ below (element_steps o g k) o.ranks)
+          goes_on (mail_step cells) m 0 (item_cells o cells k) 0 (below (sends_of o k) o.ranks)
+          (below (receives_of o k) o.ranks ++ below (element_steps o g k) o.ranks)
           (all_sends_go (le e))
           (goes_on (mail_step cells) m (item_cells o cells k) 0 0 (below (receives_of o k) o.ranks) (below (element_steps o g k) o.ranks)
           (all_receives_go (le e))

@@ -5,8 +5,8 @@ use Rattle.rank_exec.specs.Rounds.{elements}
 use Rattle.rank_exec.proofs.GatheredGroups.{Gathered}
 use Rattle.rank_exec.proofs.gathering.gather.Given as goal
 
-abbrev pub invariant-loop-places : goal.invariant-loop-places
-invariant-loop-places g l = record {
+abbrev pub invariant-loop-steps : goal.invariant-loop-steps
+invariant-loop-steps g l = record {
   gathered : (gs : List RankGroup)
       × (elements l.fn.of.alone l.fn.of.item l.fn.of.rank l.fn.places.items ++ g.S.Steps.left l.fn.steps
       ≡ all_closed l.fn.of.item gs ++ (elements l.last.alone l.fn.of.item l.last.rank l.places.items ++ g.S.Steps.left l.steps))
@@ -18,5 +18,5 @@ invariant-loop-places g l = record {
   room : vec_capacity l.places ≡ vec_capacity l.fn.places;
 }
 
-abbrev pub decreases-loop-places : goal.decreases-loop-places
-decreases-loop-places g l = length (g.S.Steps.left l.steps)
+abbrev pub decreases-loop-steps : goal.decreases-loop-steps
+decreases-loop-steps g l = length (g.S.Steps.left l.steps)

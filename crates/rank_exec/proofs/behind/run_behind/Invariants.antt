@@ -1,10 +1,10 @@
-use Rattle.std.proofs.Common.{◌≡◌, ◌<◌, ◌^◌, ◌++◌, List, length, IfSome}
+use Rattle.std.proofs.Common.{◌≡◌, ◌<◌, ◌++◌, List, length, IfSome}
 use Rattle.schedule_steps.specs.declared.step.Step.{Step}
 use Rattle.rank_exec.specs.Driving.{Done}
 use Rattle.rank_exec.specs.RunRooms.{HasRunRoomOf}
 use Rattle.rank_exec.specs.Rounds.{told}
 use Rattle.rank_program.specs.Sound.{setup_in, layout_in, tables_in}
-use Rattle.rank_exec.proofs.rounds.run_rounds.Given as goal
+use Rattle.rank_exec.proofs.behind.run_behind.Given as goal
 
 abbrev pub invariant-loop-next : goal.invariant-loop-next
 invariant-loop-next g l = record {

@@ -2,7 +2,7 @@ use Rattle.std.proofs.Common.{◌≡◌, [], length, None}
 use Rattle.rank_exec.specs.Driving.{Reached, to_come}
 use Rattle.rank_exec.specs.RunRooms.{HasRunRoomOf}
 use Rattle.rank_program.specs.Sound.{setup_in, layout_in, tables_in}
-use Rattle.rank_exec.proofs.drive.run.Given as goal
+use Rattle.rank_exec.proofs.drive.drive.Given as goal
 
 abbrev pub invariant-loop-next : goal.invariant-loop-next
 invariant-loop-next g l = record {

@@ -1,0 +1,45 @@
+// Elements that a stream told, in place.
+
+ghost use Rattle.std.specs.Prelude.{◌<◌, length};
+ghost use Rattle.kernel_types.specs.declared.faults.KernelFault.{KernelFault};
+ghost use Rattle.rank_exec.specs.Closed.{GroupsAreAlone};
+ghost use Rattle.flat_machine.specs.Flat.{Flat};
+ghost use Rattle.rank_state.specs.Shows.{Shows};
+ghost use Rattle.rank_program.specs.Rooms.{HasRoomOf};
+ghost use Rattle.rank_exec.specs.Driving.{Done, ComeReady};
+ghost use Rattle.rank_exec.specs.Rounds.{elements};
+ghost use Rattle.rank_program.specs.Sound.{Sound, setup_in, layout_in, tables_in};
+ghost use Rattle.rank_program.specs.Keeping.{KeepsIn};
+
+use crate::stream::Told;
+use kernel_types::KernelFault;
+use rank_machine::machine::Machine;
+use rank_machine::steps::read_constants;
+use rank_program::{DistributedProgram, Room};
+
+/// Elements that were told, one after another, each begun and ended in place. The constants are read once: no element
+/// changes a variable.
+pub fn run_told(
+    machine: &mut Machine,
+    program: &DistributedProgram<'_>,
+    room: &mut Room,
+    of: Told,
+    places: &[u32],
+)
+    requires sound { Sound program.now }
+    requires keeps { KeepsIn program.now of.item }
+    requires space { HasRoomOf program.now room.old }
+    requires shows { (f : Flat KernelFault) × Shows (setup_in program.now) (layout_in program.now) (tables_in program.now) machine.old f }
+    requires some { 0 < length places.now }
+    requires ready { ComeReady (setup_in program.now) (layout_in program.now) (tables_in program.now)
+        (elements of.alone of.item of.rank places.now) machine.old }
+    requires alone { GroupsAreAlone (setup_in program.now) (layout_in program.now) (elements of.alone of.item of.rank places.now) }
+    ensures done { Done (setup_in program.now) (layout_in program.now) (tables_in program.now)
+        (elements of.alone of.item of.rank places.now) machine.old machine.new }
+    ensures space { HasRoomOf program.now room.new }
+{
+    crate::closed_groups::places_stay_shut::<KernelFault>();
+    rank_state::in_place_shows::<KernelFault>();
+    read_constants(machine, program, &mut room.constants);
+    machine.in_place(program, of.item, of.rank, places, room);
+}
