@@ -119,10 +119,6 @@ parts_next ms ps xs us bs ns qs now r d y m p e f g lx lm lp la lb is =
     ∙ ap (λ j. take j (lent ms ps xs) ++ drop j xs) next)
 
 -- the lists that all parts show
-pub map_map : {X Y Z : Type 0} (f : Y → Z) (g : X → Y) (h : X → Z) → ((x : X) → f (g x) ≡ h x) → (xs : List X) → map f (map g xs) ≡ map h xs
-map_map f g h e [] = refl
-map_map f g h e (x ∷ xs) = ap₂ (λ y ys. y ∷ ys) (e x) (map_map f g h e xs)
-
 pub same_rows : (ys : List RankPart) → views.lists (map (λ (y : RankPart). y.memory) ys) ≡ map (λ (s : Share KernelFault). s.cells) (map share_in ys)
 same_rows [] = refl
 same_rows (y ∷ ys) = ap (λ z. y.memory.items ∷ z) (same_rows ys)

@@ -1,6 +1,6 @@
 // Each begin and end of a list, on a machine whose lists show a state of the machine on flat buffers.
 
-ghost use Rattle.std.specs.Prelude.{◌≡◌, ◌≢◌, ◌<◌, ◌≤◌, ◌+◌, [], length};
+ghost use Rattle.std.specs.Prelude.{◌≡◌, ◌≢◌, ◌<◌, ◌≤◌, ◌+◌, length};
 ghost use Rattle.kernel_types.specs.declared.faults.KernelFault.{KernelFault};
 ghost use Rattle.schedule_steps.specs.declared.step.Step.TheVariants.{Begin, End};
 ghost use Rattle.schedule_steps.specs.Steps.{IsStep};
@@ -11,7 +11,6 @@ ghost use Rattle.rank_state.specs.Indices.{values_at};
 ghost use Rattle.rank_state.specs.Shows.{AreWindows, Shows, pane_in};
 ghost use Rattle.rank_program.specs.Rooms.{HasRoomOf};
 ghost use Rattle.rank_program.specs.Sound.{Sound, setup_in, layout_in, tables_in};
-ghost use Rattle.rank_program.specs.Keeping.{KeepsIn};
 
 use crate::machine::Machine;
 use crate::windows::{Begun, Windows};
@@ -160,34 +159,4 @@ pub fn end(
         scalars,
     };
     end_on(machine, program, item, rank, place, &windows);
-}
-
-/// A begin that is followed at once by its own end.
-pub fn in_place(
-    machine: &mut Machine,
-    program: &DistributedProgram<'_>,
-    room: &mut Room,
-    item: u32,
-    rank: u32,
-    place: u32,
-)
-    requires sound { Sound program.now }
-    requires keeps { KeepsIn program.now item }
-    requires planned { IsStep (by_place (setup_in program.now) (layout_in program.now)) (Begin item rank place) }
-    requires space { HasRoomOf program.now room.old }
-    requires shows { (f : Flat KernelFault) × Shows (setup_in program.now) (layout_in program.now) (tables_in program.now) machine.old f }
-    requires shut { pane_at machine.old.frames.panes rank place ≡ Shut }
-    requires room { 0 < machine.old.frames.left }
-    ensures shows { (f : Flat KernelFault) → Shows (setup_in program.now) (layout_in program.now) (tables_in program.now) machine.old f
-        → Shows (setup_in program.now) (layout_in program.now) (tables_in program.now) machine.new
-        (flat_step (setup_in program.now) (layout_in program.now) (End item rank place)
-        (flat_step (setup_in program.now) (layout_in program.now) (Begin item rank place) f)) }
-    ensures mail { machine.new.mail.left ≡ machine.old.mail.left }
-    ensures frames { machine.new.frames.left ≡ machine.old.frames.left }
-    ensures space { HasRoomOf program.now room.new }
-{
-    rank_state::in_place_shows::<KernelFault>();
-    read_constants(machine, program, &mut room.constants);
-    let places = [place];
-    machine.in_place(program, item, rank, &places, room);
 }

@@ -1,5 +1,5 @@
 use denote.Param.Send.{sendable}
-use Rattle.std.proofs.Common.{◌≡◌, ◌∙◌, ap₂, subst, sym}
+use Rattle.std.proofs.Common.{◌∙◌, ap₂, subst, sym}
 use Rattle.std.proofs.Crossing.{crosses}
 use Rattle.par_exec.specs.Parts.{TakesEach, MadeEach}
 use Rattle.rank_machine.specs.OnRanks.{lent, CanRunOn, RanOn}

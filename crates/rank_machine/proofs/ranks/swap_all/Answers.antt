@@ -1,4 +1,4 @@
-use Rattle.std.proofs.Common.{◌≡◌, ◌+◌, ◌≤◌, ◌<◌, ◌∙◌, ap₂, length, map, get_or, arith}
+use Rattle.std.proofs.Common.{◌<◌, ◌∙◌, ap₂, length, map, get_or, arith}
 use Rattle.std.proofs.lemmas.List.{length-map}
 use Rattle.rank_machine.specs.declared.ranks.RankPart.{RankPart}
 use Rattle.rank_machine.specs.OnRanks.{lent}

@@ -1,4 +1,4 @@
-use Rattle.std.proofs.Common.{◌≡◌, ℕ, ℤ, ◌<◌, ◌≤◌, ◌∙◌, ap, ap₂, sym, subst, length, map, List, All, Option}
+use Rattle.std.proofs.Common.{◌≡◌, ℤ, ◌∙◌, ap, ap₂, sym, subst, length, map, List, All, Option}
 use Rattle.std.specs.Vec.{with_items}
 use Rattle.std.proofs.lemmas.List.{length-map}
 use Rattle.kernel_types.specs.declared.faults.KernelFault.{KernelFault}
