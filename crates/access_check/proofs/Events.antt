@@ -1,11 +1,10 @@
 -- An occurrence as an event keeps its argument, its index and its place.
 use Rattle.std.proofs.Common.{◌≡◌, ℕ, ℤ, Option, Bool, refl, ap, ◌∙◌}
 use Rattle.c_lex.specs.declared.tokens.Pos.{Pos}
-use Rattle.kernel_model.specs.Refusals.{argument_of, index_of, place_of}
+use Rattle.kernel_model.specs.Refusals.{argument_of, index_of, place_of, Rule}
 use Rattle.access_check.specs.declared.uses.Use.{Use}
 use Rattle.access_check.specs.declared.uses.Use.TheVariants as used
 use Rattle.access_check.specs.Uses.{use_event}
-use Rattle.kernel_model.specs.Refusals.{Rule}
 use Rattle.kernel_model.specs.Walk.{Breach, noted_if}
 
 pub argument_is : (how : Use) (a : ℕ) (ix : Option ℤ) (at : Pos) → argument_of (use_event how a ix at) ≡ a

@@ -20,12 +20,8 @@ use Rattle.mesh_decl.specs.Canonical.{canonical}
 use Rattle.command_words.specs.declared.usage.TheConstants.{USAGE, VERSION}
 use Rattle.command_words.specs.Refusal.{Refusal, CannotRead}
 use Rattle.command_words.specs.Lines.{Answer, done, refused, faulted}
-use Rattle.command_words.specs.Words.{PlanJob, Check, ShowsPlan, ShowsSchedule, RunsPlan, Options, group_of, Input}
-use Rattle.command_words.specs.Words.{ChainJob, CountsChains, RunsChains, ChainOptions}
-use Rattle.command_words.specs.Words.{Command, OnPlan, OnChains, Converts, Translates, Restores, ShowsUsage, ShowsVersion, WordsAre}
-use Rattle.answers.specs.Judgements.{TextIs, SourceIs, TreeIs, TranslationIs, RestorationIs, TypesAre, FileIs, MeshIs, EntriesAre}
-use Rattle.answers.specs.Judgements.{BoundIs, AccessesAre, CutOf, Chosen, ChosenIs}
-use Rattle.answers.specs.Judgements.{NumbersOf, PartsOf, OwnersOf, ColouringOf, Planned, PlanIs, OrderOf, outline_of, StepsOf}
+use Rattle.command_words.specs.Words.{PlanJob, Check, ShowsPlan, ShowsSchedule, RunsPlan, Options, group_of, Input, ChainJob, CountsChains, RunsChains, ChainOptions, Command, OnPlan, OnChains, Converts, Translates, Restores, ShowsUsage, ShowsVersion, WordsAre}
+use Rattle.answers.specs.Judgements.{TextIs, SourceIs, TreeIs, TranslationIs, RestorationIs, TypesAre, FileIs, MeshIs, EntriesAre, BoundIs, AccessesAre, CutOf, Chosen, ChosenIs, NumbersOf, PartsOf, OwnersOf, ColouringOf, Planned, PlanIs, OrderOf, outline_of, StepsOf}
 
 -- A judgement, and what comes after it: its refusal ends it, and what it gives goes on.
 abbrev pub given : {A : Type 0} → (Result A Refusal → Type 0) → (A → Answer → Type 0) → Answer → Type 0

@@ -51,13 +51,10 @@ use Rattle.step_judge.specs.declared.refusal.ScheduleRefusal.{ScheduleRefusal}
 use Rattle.step_judge.specs.Verdicts.{judged, ended}
 use Rattle.op_translate.specs.declared.refusals.TransRefusal.{TransRefusal}
 use Rattle.op_translate.specs.Translation.{Translates, Restores}
-use Rattle.command_words.specs.Words.{Input, InFiles, OfSample, Stretch, Whole, Before, From, Parting, ByRule, ByFile}
-use Rattle.command_words.specs.Words.{Blocks, OfSize, AsPlanned, Schedule, Standard, Drawn, Written, Options}
-use Rattle.command_words.specs.Refusal.{Limit, SourceBytes, MeshBytes, MeshValues, StateBytes, PartitionBytes, PlanBytes, Steps}
-use Rattle.command_words.specs.Refusal.{ScheduleBytes, Refusal, CannotRead, BadAccess, BadCut, BadState, BadPlan, BeyondLimit}
+use Rattle.command_words.specs.Words.{Input, InFiles, OfSample, Stretch, Whole, Before, From, Parting, ByRule, ByFile, Blocks, OfSize, AsPlanned, Schedule, Standard, Drawn, Written, Options}
+use Rattle.command_words.specs.Refusal.{Limit, SourceBytes, MeshBytes, MeshValues, StateBytes, PartitionBytes, PlanBytes, Steps, ScheduleBytes, Refusal, CannotRead, BadAccess, BadCut, BadState, BadPlan, BeyondLimit}
 use Rattle.command_words.specs.Lines.{most}
-use Rattle.answers.specs.Said.{SaysSource, SaysTypes, SaysTranslation, SaysMesh, SaysBinding, SaysNumbers, SaysOwners, SaysSchedule}
-use Rattle.answers.specs.Said.{SaysNext}
+use Rattle.answers.specs.Said.{SaysSource, SaysTypes, SaysTranslation, SaysMesh, SaysBinding, SaysNumbers, SaysOwners, SaysSchedule, SaysNext}
 
 -- ---- files
 

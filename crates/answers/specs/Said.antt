@@ -27,9 +27,7 @@ use Rattle.step_judge.specs.declared.refusal.ScheduleRefusal.TheVariants as taki
 use Rattle.op_translate.specs.declared.refusals.TransRefusal.{TransRefusal}
 use Rattle.op_translate.specs.declared.refusals.TransRefusal.TheVariants as trans
 use Rattle.distribute.specs.Parts.{NumbersRefusal, UnknownMap, OwnersRefusal, NoDat, NoMap, Unspelled}
-use Rattle.command_words.specs.Refusal.{Limit, MeshValues, Sets, Maps, Dats, SetSize, Dim, MeshCells, Arguments, Trace, PrintWeight}
-use Rattle.command_words.specs.Refusal.{ScheduleSteps, Refusal, NoTokens, NoTree, TooDeep, BadName, BadBinding, BadTarget, BadMesh, BadPart}
-use Rattle.command_words.specs.Refusal.{BadPartition, BadSchedule, BadStep, EarlyStep, LeftStep, BadStub, BeyondLimit}
+use Rattle.command_words.specs.Refusal.{Limit, MeshValues, Sets, Maps, Dats, SetSize, Dim, MeshCells, Arguments, Trace, PrintWeight, ScheduleSteps, Refusal, NoTokens, NoTree, TooDeep, BadName, BadBinding, BadTarget, BadMesh, BadPart, BadPartition, BadSchedule, BadStep, EarlyStep, LeftStep, BadStub, BeyondLimit}
 use Rattle.command_words.specs.Lines.{most}
 
 -- ---- the source

@@ -2,10 +2,9 @@
 use Rattle.std.specs.Prelude.{◌≡◌, ◌≢◌, ◌↔◌, ◌<◌, ℕ, Bool, true, List, Contains}
 use Rattle.mesh_decl.specs.declared.owners.Owners.{Owners}
 use Rattle.mesh_decl.specs.declared.owners.Perms.{Perms}
-use Rattle.mesh_decl.specs.Mesh.{MeshValue, IsMesh, IsMapAt, IsDatAt, set_count, map_count, dat_count, set_size}
-use Rattle.mesh_decl.specs.Mesh.{map_from, map_to, map_dim, target}
+use Rattle.mesh_decl.specs.Mesh.{MeshValue, IsMesh, IsMapAt, IsDatAt, set_count, map_count, dat_count, set_size, map_from, map_to, map_dim, target}
 use Rattle.mesh_decl.specs.Owners.{IsNumbering, ArePerms, owner_of, perm_in}
-use Rattle.rank_sets.specs.Below.{HasNumbers}
+use Rattle.lemmas.specs.Below.{HasNumbers}
 use Rattle.local_mesh.specs.Halo.{has_copy, owns, executes, imports, imports_execute, is_core}
 use Rattle.local_mesh.specs.declared.types.LocalSet.{LocalSet}
 use Rattle.local_mesh.specs.LocalMesh.{IsLocalSet, AreRankMeshes}

@@ -10,7 +10,7 @@ pub(crate) fn meshes_and_items()
     ensures halos { HaloLaws }
     ensures outlines { AlikeAcceptAlike }
 {
-    rank_sets::numbers_are_listed();
+    lemmas::numbers_are_listed();
     mesh_decl::declarations_hold();
     local_mesh::halo_lists::execute_halo_owns_a_target();
     local_mesh::halo_lists::executed_targets_are_copies();

@@ -1,7 +1,6 @@
 -- The limits of a program.
 use Rattle.std.specs.Prelude.{ℕ}
-use Rattle.bound_program.specs.declared.limits.TheConstants.{MAX_SETS, MAX_MAPS, MAX_DATS, MAX_SIZE, MAX_DIM, MAX_CELLS}
-use Rattle.bound_program.specs.declared.limits.TheConstants.{MAX_ARGUMENTS, MAX_TRACE, MAX_WEIGHT}
+use Rattle.bound_program.specs.declared.limits.TheConstants.{MAX_SETS, MAX_MAPS, MAX_DATS, MAX_SIZE, MAX_DIM, MAX_CELLS, MAX_ARGUMENTS, MAX_TRACE, MAX_WEIGHT}
 
 -- of the sets that are declared
 abbrev pub max_sets : ℕ

@@ -1,13 +1,11 @@
 -- What `main` unrolls to, by recursion on its steps with the values that are told.
-use Rattle.std.specs.Prelude.{ℕ, zero, suc, ℤ, pos, ◌+ℤ◌, ◌-ℤ◌, int_lt, nat_abs, Bool, true, false, List, [], ◌∷◌, ◌++◌, map}
-use Rattle.std.specs.Prelude.{Option, Some, None, Ok, Err, slice_index_or, if◌then◌else◌}
+use Rattle.std.specs.Prelude.{ℕ, zero, suc, ℤ, pos, ◌+ℤ◌, ◌-ℤ◌, int_lt, nat_abs, Bool, true, false, List, [], ◌∷◌, ◌++◌, map, Option, Some, None, Ok, Err, slice_index_or, if◌then◌else◌}
 use Rattle.c_lex.specs.declared.tokens.Pos.{Pos}
 use Rattle.kernel_model.specs.Numbers.{Value, is_zero}
 use Rattle.bound_program.specs.declared.sites.Class.{Class}
 use Rattle.bound_program.specs.declared.sites.Class.TheVariants as class
 use Rattle.bound_program.specs.HostExpr.{value}
-use Rattle.bound_program.specs.Values.{Exit, ItemValue, Free, Reduce, Ordered, Host, SiteValue}
-use Rattle.bound_program.specs.Values.{closed_act, no_site}
+use Rattle.bound_program.specs.Values.{Exit, ItemValue, Free, Reduce, Ordered, Host, SiteValue, closed_act, no_site}
 use Rattle.bound_program.specs.Steps.{Asked, Step, Do, Loop, Fix, Block, Choose, Repeat, Steps, NoStep, MoreStep}
 use Rattle.bound_program.specs.Classes.{reduces}
 

@@ -1,6 +1,5 @@
 -- What stands at the front of the bytes: what the lexer finds there, as functions.
-use Rattle.std.specs.Prelude.{◌≡◌, ◌⊎◌, ◌++◌, drop, nat_le, true, ℕ, ◌+◌, ◌≤◌, ◌<◌, Bool, false, nat_eq, nat_lt, not, List, [], ◌∷◌}
-use Rattle.std.specs.Prelude.{Option, Some, None, ◌&&◌, if◌then◌else◌, length, take, find, pos, codes, ◌||◌}
+use Rattle.std.specs.Prelude.{◌≡◌, ◌⊎◌, ◌++◌, drop, nat_le, true, ℕ, ◌+◌, ◌≤◌, ◌<◌, Bool, false, nat_eq, nat_lt, not, List, [], ◌∷◌, Option, Some, None, ◌&&◌, if◌then◌else◌, length, take, find, pos, codes, ◌||◌}
 use Rattle.std.specs.List.{starts_with, prefix_len}
 use Rattle.std.specs.Str.{bytes_eq}
 use Rattle.c_lex.specs.declared.tokens.Kind.{Kind}

@@ -1,6 +1,5 @@
 -- How tokens are spelled (ISO C 6.4).
-use Rattle.std.specs.Prelude.{◌≡◌, ◌≢◌, ℕ, ◌+◌, ◌*◌, ◌-◌, Bool, true, ◌&&◌, ◌||◌, nat_eq, nat_le, List, [], ◌∷◌, ◌++◌, pos, codes, not}
-use Rattle.std.specs.Prelude.{if◌then◌else◌}
+use Rattle.std.specs.Prelude.{◌≡◌, ◌≢◌, ℕ, ◌+◌, ◌*◌, ◌-◌, Bool, true, ◌&&◌, ◌||◌, nat_eq, nat_le, List, [], ◌∷◌, ◌++◌, pos, codes, not, if◌then◌else◌}
 use Rattle.std.specs.List.{list_all}
 use Rattle.c_lex.specs.declared.tokens.Kind.{Kind}
 use Rattle.c_lex.specs.declared.tokens.Kind.TheVariants as kind

@@ -30,8 +30,7 @@ use Rattle.c_reader.proofs.Exactness.{Exact, Found, word_found, word_here}
 use Rattle.c_reader.proofs.Lists.{AllValid, joined, until_complete, until_sound, until_far}
 use Rattle.c_reader.proofs.Marks.{made_complete}
 use Rattle.c_reader.proofs.CallRows.{call_lead, call_complete, call_sound, call_far}
-use Rattle.c_reader.proofs.StmtHeads.{NoElse}
-use Rattle.c_reader.proofs.StmtHeads.{Condition, condition_complete, condition_sound, condition_far}
+use Rattle.c_reader.proofs.StmtHeads.{NoElse, Condition, condition_complete, condition_sound, condition_far}
 use Rattle.c_reader.proofs.Assigned.{assignment_complete, assignment_sound, assignment_far}
 use Rattle.c_reader.proofs.Declared.{tail_of, declaration_complete, declaration_sound, declaration_far}
 use Rattle.c_reader.proofs.HostHeads.{header_complete, header_sound, header_far}

@@ -1,12 +1,10 @@
 -- What was read of the tokens is the tree of the bytes.
-use Rattle.std.proofs.Common.{◌≡◌, ℕ, suc, ◌+◌, ◌<◌, ◌≤◌, Bool, true, false, List, [], ◌∷◌, length, Option, Some, None, Result, Ok, Err}
-use Rattle.std.proofs.Common.{inl, inr, nat_lt, refl, sym, ap, subst, ◌∙◌, map, slice_get, arith}
+use Rattle.std.proofs.Common.{◌≡◌, ℕ, suc, ◌+◌, ◌<◌, ◌≤◌, Bool, true, false, List, [], ◌∷◌, length, Option, Some, None, Result, Ok, Err, inl, inr, nat_lt, refl, sym, ap, subst, ◌∙◌, map, slice_get, arith, Vec}
 use Rattle.std.specs.Prelude.{if◌then◌else◌}
 use Rattle.std.proofs.lemmas.Option.{slice_get_cases}
 use Rattle.std.proofs.lemmas.List.{length-map}
 use Rattle.c_lex.specs.declared.tokens.Token.{Token}
 use Rattle.c_lex.specs.declared.tokens.Pos.{Pos}
-use Rattle.std.proofs.Common.{Vec}
 use Rattle.c_lex.specs.declared.refusals.LexRefusal.{LexRefusal}
 use Rattle.c_lex.specs.declared.refusals.LexRefusal.TheVariants as lex_refusal
 use Rattle.c_lex.specs.Answered.{Answers}

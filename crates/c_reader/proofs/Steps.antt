@@ -11,9 +11,8 @@ use Rattle.c_tree.specs.declared.expressions.BinaryOp.{BinaryOp}
 use Rattle.c_tree.specs.declared.expressions.BinaryOp.TheVariants as binary
 use Rattle.c_tree.specs.declared.expressions.UnaryOp.{UnaryOp}
 use Rattle.c_tree.specs.declared.expressions.UnaryOp.TheVariants as unary
-use Rattle.c_tree.specs.Signs.{level_of, sign_of, unary_sign_of}
+use Rattle.c_tree.specs.Signs.{level_of, sign_of, unary_sign_of, min_max_word_of}
 use Rattle.c_reader.specs.declared.leads.Lead.TheVariants as lead
-use Rattle.c_tree.specs.Signs.{min_max_word_of}
 use Rattle.c_lex.specs.declared.tokens.Word.{Word}
 use Rattle.c_lex.specs.declared.tokens.Word.TheVariants as word
 use Rattle.c_tree.specs.declared.expressions.MinMax.{MinMax}

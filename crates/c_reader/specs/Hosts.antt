@@ -4,8 +4,7 @@ use Rattle.c_lex.specs.declared.tokens.Kind.{Kind}
 use Rattle.c_lex.specs.declared.tokens.Sign.TheVariants as s
 use Rattle.c_lex.specs.declared.tokens.Word.TheVariants as w
 use Rattle.c_tree.specs.declared.expressions.Ident.{Ident}
-use Rattle.c_tree.specs.Tree.{ExprTree, HostForHeaderTree, HostTree, HostDeclaration, HostBlock, HostEmpty, HostAssign, HostIf, HostIfElse}
-use Rattle.c_tree.specs.Tree.{HostFor, HostCall, HostTrees, NoHost, MoreHost}
+use Rattle.c_tree.specs.Tree.{ExprTree, HostForHeaderTree, HostTree, HostDeclaration, HostBlock, HostEmpty, HostAssign, HostIf, HostIfElse, HostFor, HostCall, HostTrees, NoHost, MoreHost}
 use Rattle.c_reader.specs.declared.faults.Fault.TheVariants.{Syntax, TooDeep}
 use Rattle.c_reader.specs.declared.hosts.Closing.{Closing}
 use Rattle.c_reader.specs.declared.hosts.Closing.TheVariants as closing

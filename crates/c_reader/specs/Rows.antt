@@ -1,6 +1,5 @@
 -- Readers of a row of tokens, one after another.
-use Rattle.std.specs.Prelude.{ℕ, suc, Bool, false, zero, List, [], ◌∷◌, ◌++◌, Option, Some, Result, Ok, Err, slice_get, map, Vec}
-use Rattle.std.specs.Prelude.{if◌then◌else◌}
+use Rattle.std.specs.Prelude.{ℕ, suc, Bool, false, zero, List, [], ◌∷◌, ◌++◌, Option, Some, Result, Ok, Err, slice_get, map, Vec, if◌then◌else◌}
 use Rattle.std.specs.Global.{Global}
 use Rattle.c_lex.specs.declared.tokens.Sign.TheVariants as the_sign
 use Rattle.c_lex.specs.declared.tokens.Kind.{Kind}

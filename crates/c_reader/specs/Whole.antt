@@ -1,6 +1,5 @@
 -- What the readers of the parts of the file, of `main` and of the whole source answer.
-use Rattle.std.specs.Prelude.{ℕ, suc, Bool, true, false, ◌&&◌, List, Option, Some, None, Result, Ok, Err, slice_get, length, nat_eq}
-use Rattle.std.specs.Prelude.{if◌then◌else◌}
+use Rattle.std.specs.Prelude.{ℕ, suc, Bool, true, false, ◌&&◌, List, Option, Some, None, Result, Ok, Err, slice_get, length, nat_eq, if◌then◌else◌}
 use Rattle.c_lex.specs.declared.tokens.Kind.{Kind}
 use Rattle.c_lex.specs.declared.tokens.Pos.{Pos}
 use Rattle.c_lex.specs.declared.tokens.Sign.TheVariants as s

@@ -2,8 +2,7 @@
 use Rattle.std.proofs.Common.{◌≡◌, ℕ, suc, Bool, true, false, List, [], ◌∷◌, Option, Some, None, refl, sym, ap, ◌∙◌}
 use Rattle.c_lex.specs.declared.tokens.Kind.{Kind}
 use Rattle.c_tree.specs.declared.expressions.NumberLiteral.{NumberLiteral}
-use Rattle.c_tree.specs.Tree.{HostForHeaderTree, HostTree, HostDeclaration, HostBlock, HostEmpty, HostAssign, HostIf, HostIfElse, HostFor, HostCall, HostTrees, NoHost, MoreHost}
-use Rattle.c_tree.specs.Tree.{TopTree, Extern, ExternArray, FileDeclaration, Kernel, MainTree, ProgramTree}
+use Rattle.c_tree.specs.Tree.{HostForHeaderTree, HostTree, HostDeclaration, HostBlock, HostEmpty, HostAssign, HostIf, HostIfElse, HostFor, HostCall, HostTrees, NoHost, MoreHost, TopTree, Extern, ExternArray, FileDeclaration, Kernel, MainTree, ProgramTree}
 use Rattle.c_tree.specs.Print.{condition, host_counter, host, hosts, top, tops, argv_marks, return_marks, main, program}
 use Rattle.c_show.specs.Ahead.{condition_first, host_header_first, host_first, hosts_first, top_first, tops_first, argv_first, return_first, main_first, program_first}
 use Rattle.c_tree.specs.Reads.{shown}

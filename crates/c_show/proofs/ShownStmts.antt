@@ -5,8 +5,7 @@ use Rattle.c_lex.specs.declared.tokens.Sign.TheVariants as sign
 use Rattle.c_lex.specs.declared.tokens.Word.{Word}
 use Rattle.c_tree.specs.declared.kernels.ForHeader.{ForHeader}
 use Rattle.c_tree.specs.declared.kernels.Param.{Param}
-use Rattle.c_tree.specs.Tree.{ExprTree, DeclrTree, Plain, Init, Array, DeclarationTree, PlaceTree, Scalar, Element, Target, AssignmentTree}
-use Rattle.c_tree.specs.Tree.{StmtTree, LocalDeclaration, Block, Empty, Assign, If, IfElse, For, StmtTrees, NoStmt, MoreStmt, KernelTree}
+use Rattle.c_tree.specs.Tree.{ExprTree, DeclrTree, Plain, Init, Array, DeclarationTree, PlaceTree, Scalar, Element, Target, AssignmentTree, StmtTree, LocalDeclaration, Block, Empty, Assign, If, IfElse, For, StmtTrees, NoStmt, MoreStmt, KernelTree}
 use Rattle.c_tree.specs.Print.{word_if, commas, declr, declrs, vars, place, assignment, condition, counter, stmt, stmts, param, params, kernel}
 use Rattle.c_show.specs.Ahead.{sign_first, word_first_if, declr_first, more_declrs_first, declrs_first, declaration_first, place_first, assignment_first, condition_first, header_first, stmt_first, stmts_first, param_first, more_params_first, params_first, kernel_first}
 use Rattle.c_show.proofs.ShownExprs.{ahead, ahead-append, expr_is}

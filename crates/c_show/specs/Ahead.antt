@@ -20,14 +20,7 @@ use Rattle.c_tree.specs.declared.hosts.ArgVia.TheVariants as via
 use Rattle.c_tree.specs.declared.hosts.LoopArg.{LoopArg}
 use Rattle.c_tree.specs.declared.hosts.LoopArg.TheVariants as arg
 use Rattle.c_tree.specs.Signs.{sign_of, unary_sign_of, assign_sign_of, min_max_word_of, access_word_of}
-use Rattle.c_tree.specs.Tree.{ExprTree, Number, Name, Index, Deref, Unary, Binary, Choice, Paren, Extremum, Absolute}
-use Rattle.c_tree.specs.Tree.{DeclrTree, Plain, Init, Array, DeclarationTree, PlaceTree, Scalar, Element, Target, AssignmentTree}
-use Rattle.c_tree.specs.Tree.{StmtTree, LocalDeclaration, Block, Empty, Assign, If, IfElse, For, StmtTrees, NoStmt, MoreStmt}
-use Rattle.c_tree.specs.Tree.{KernelTree, TopTree, Extern, ExternArray, FileDeclaration, Kernel, HostForHeaderTree}
-use Rattle.c_tree.specs.Tree.{OpCallTree, CallInit, DeclSet, DeclMap, DeclDat, DeclConst, ParLoop, Printf, PrintDat}
-use Rattle.c_tree.specs.Tree.{HostTree, HostDeclaration, HostBlock, HostEmpty, HostAssign, HostIf, HostIfElse, HostFor, HostCall}
-use Rattle.c_tree.specs.Tree.{HostTrees, NoHost, MoreHost}
-use Rattle.c_tree.specs.Tree.{MainTree, ProgramTree}
+use Rattle.c_tree.specs.Tree.{ExprTree, Number, Name, Index, Deref, Unary, Binary, Choice, Paren, Extremum, Absolute, DeclrTree, Plain, Init, Array, DeclarationTree, PlaceTree, Scalar, Element, Target, AssignmentTree, StmtTree, LocalDeclaration, Block, Empty, Assign, If, IfElse, For, StmtTrees, NoStmt, MoreStmt, KernelTree, TopTree, Extern, ExternArray, FileDeclaration, Kernel, HostForHeaderTree, OpCallTree, CallInit, DeclSet, DeclMap, DeclDat, DeclConst, ParLoop, Printf, PrintDat, HostTree, HostDeclaration, HostBlock, HostEmpty, HostAssign, HostIf, HostIfElse, HostFor, HostCall, HostTrees, NoHost, MoreHost, MainTree, ProgramTree}
 
 -- a sign
 abbrev pub sign_first : Sign → List Kind → List Kind

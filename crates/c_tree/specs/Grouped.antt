@@ -2,14 +2,7 @@
 use Rattle.std.specs.Prelude.{◌≡◌, ◌≢◌, ℕ, ◌≤◌, ◌<◌, Bool, true, false, List, [], ◌∷◌}
 use Rattle.c_tree.specs.declared.kernels.ForHeader.{ForHeader}
 use Rattle.c_tree.specs.Signs.{level_of}
-use Rattle.c_tree.specs.Tree.{ExprTree, Number, Name, Index, Deref, Unary, Binary, Choice, Paren, Extremum, Absolute}
-use Rattle.c_tree.specs.Tree.{DeclrTree, Init, DeclarationTree, PlaceTree, Scalar, Element, Target, AssignmentTree}
-use Rattle.c_tree.specs.Tree.{StmtTree, LocalDeclaration, Block, Empty, Assign, If, IfElse, For, StmtTrees, NoStmt, MoreStmt}
-use Rattle.c_tree.specs.Tree.{KernelTree, TopTree, Extern, ExternArray, FileDeclaration, Kernel, HostForHeaderTree}
-use Rattle.c_tree.specs.Tree.{OpCallTree, DeclSet, Printf}
-use Rattle.c_tree.specs.Tree.{HostTree, HostDeclaration, HostBlock, HostEmpty, HostAssign, HostIf, HostIfElse, HostFor, HostCall}
-use Rattle.c_tree.specs.Tree.{HostTrees, NoHost, MoreHost}
-use Rattle.c_tree.specs.Tree.{ProgramTree}
+use Rattle.c_tree.specs.Tree.{ExprTree, Number, Name, Index, Deref, Unary, Binary, Choice, Paren, Extremum, Absolute, DeclrTree, Init, DeclarationTree, PlaceTree, Scalar, Element, Target, AssignmentTree, StmtTree, LocalDeclaration, Block, Empty, Assign, If, IfElse, For, StmtTrees, NoStmt, MoreStmt, KernelTree, TopTree, Extern, ExternArray, FileDeclaration, Kernel, HostForHeaderTree, OpCallTree, DeclSet, Printf, HostTree, HostDeclaration, HostBlock, HostEmpty, HostAssign, HostIf, HostIfElse, HostFor, HostCall, HostTrees, NoHost, MoreHost, ProgramTree}
 
 -- the operator level of an expression
 abbrev pub strength : ExprTree → ℕ

@@ -1,8 +1,7 @@
 -- A tree of the program as a tree without where it lies in memory.
 use Rattle.std.specs.Prelude.{List, [], ◌∷◌, map}
 use Rattle.c_tree.specs.Tree as tree
-use Rattle.c_tree.specs.Tree.{ExprTree, DeclrTree, DeclarationTree, PlaceTree, AssignmentTree, StmtTree, StmtTrees, KernelTree, TopTree}
-use Rattle.c_tree.specs.Tree.{HostForHeaderTree, OpCallTree, HostTree, HostTrees, MainTree, ProgramTree}
+use Rattle.c_tree.specs.Tree.{ExprTree, DeclrTree, DeclarationTree, PlaceTree, AssignmentTree, StmtTree, StmtTrees, KernelTree, TopTree, HostForHeaderTree, OpCallTree, HostTree, HostTrees, MainTree, ProgramTree}
 use Rattle.c_tree.specs.declared.expressions.Expr.{Expr}
 use Rattle.c_tree.specs.declared.expressions.Expr.TheVariants as e
 use Rattle.c_tree.specs.declared.declarations.Declr.{Declr}

@@ -6,7 +6,7 @@ use Rattle.std.proofs.Math.Bool.{or-false, and-false, and-true}
 use Rattle.std.proofs.lemmas.Bool.{cases_eq, eq-eqb, ne_eqb}
 use Rattle.std.proofs.lemmas.List.Folds.{list_any-append}
 use Rattle.std.proofs.lemmas.List.Elements.{All-append, All-nil}
-use Rattle.rank_sets.specs.Below.{listed}
+use Rattle.lemmas.specs.Below.{listed}
 use Rattle.cell_numbers.specs.Marks.{AllBelow}
 
 -- a last number, where there is one

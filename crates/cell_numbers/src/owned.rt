@@ -3,7 +3,7 @@ ghost use Rattle.std.specs.Prelude.{◌≡◌, ◌<◌, ℕ, length, map, slice_
 ghost use Rattle.mesh_decl.specs.Mesh.{set_count, set_size};
 ghost use Rattle.mesh_decl.specs.Owners.{AreOwners};
 ghost use Rattle.local_mesh.specs.Halos.{AreHalos};
-ghost use Rattle.rank_sets.specs.Below.{row};
+ghost use Rattle.lemmas.specs.Below.{row};
 ghost use Rattle.cell_numbers.specs.Numbers.{part_of};
 ghost use Rattle.cell_numbers.specs.Marks.{AllBelow, marked, own_or_other, exec_in, nonexec_in};
 

@@ -1,6 +1,6 @@
 -- How many chains a program has, and how many messages they send.
 use Rattle.std.specs.Prelude.{◌≤◌, ◌*◌, ℕ, zero, suc, ◌+◌, Bool, ◌&&◌, not, length}
-use Rattle.rank_sets.specs.Below.{any_below, count_below}
+use Rattle.lemmas.specs.Below.{any_below, count_below}
 use Rattle.mesh_decl.specs.declared.owners.Owners.{Owners}
 use Rattle.mesh_decl.specs.Mesh.{dat_count, set_size, dat_set}
 use Rattle.bound_program.specs.Values.{BoundValue}

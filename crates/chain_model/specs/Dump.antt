@@ -2,7 +2,7 @@
 use Rattle.std.specs.Prelude.{ℕ, List, ◌++◌, map, length, is_some, codes}
 use Rattle.std.specs.List.{flat_map}
 use Rattle.std.specs.Fmt.{decimal}
-use Rattle.rank_sets.specs.Below.{listed}
+use Rattle.lemmas.specs.Below.{listed}
 use Rattle.mesh_decl.specs.Mesh.{MeshValue, dat_count, dat_set, dat_dim, dat_name, set_size}
 use Rattle.gather.specs.Dump.{copy_text}
 use Rattle.run_model.specs.Windows.{numbers}

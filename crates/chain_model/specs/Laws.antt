@@ -1,7 +1,7 @@
 -- Chains of a bound program.
 use Rattle.std.specs.Prelude.{◌≡◌, ℕ, suc, true, false, ◌||◌, ◌&&◌, nat_eq}
 use Rattle.std.specs.List.{list_any}
-use Rattle.rank_sets.specs.Below.{any_below}
+use Rattle.lemmas.specs.Below.{any_below}
 use Rattle.mesh_decl.specs.declared.owners.Owners.{Owners}
 use Rattle.mesh_decl.specs.Mesh.{set_size}
 use Rattle.mesh_decl.specs.Owners.{AreOwners, owner_of}

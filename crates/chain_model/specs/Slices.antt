@@ -2,7 +2,7 @@
 -- serves the chain.
 use Rattle.std.specs.Prelude.{ℕ, suc, Bool, true, false, not, ◌&&◌, ◌||◌, cond, nat_eq, nat_lt, List, [], ◌∷◌, drop}
 use Rattle.std.specs.List.{list_any}
-use Rattle.rank_sets.specs.Below.{any_below}
+use Rattle.lemmas.specs.Below.{any_below}
 use Rattle.kernel_types.specs.declared.faults.KernelFault.{KernelFault}
 use Rattle.op_num.specs.declared.reductions.access.Access.{Access}
 use Rattle.op_num.specs.declared.reductions.access.Access.TheVariants.{Read, Rw}

@@ -1,7 +1,7 @@
 -- One number more is counted.
 use Rattle.std.proofs.Common.{◌≡◌, ◌≤◌, ◌+◌, ℕ, Bool, true, false, cond, ap, ◌∙◌, arith}
-use Rattle.rank_sets.specs.Below.{count_below}
-use Rattle.rank_sets.proofs.Below.{count_more}
+use Rattle.lemmas.specs.Below.{count_below}
+use Rattle.lemmas.proofs.Below.{count_more}
 
 is_one : (n : ℕ) (p : ℕ → Bool) → p n ≡ true → count_below (n + 1) p ≡ count_below n p + 1
 is_one n p h = count_more n p ∙ ap (λ b. count_below n p + cond b 1 0) h

@@ -1,7 +1,7 @@
 -- Sets of ranks that say what ranks need before the loops of a chain.
 use Rattle.std.specs.Prelude.{◌≡◌, ◌<◌, ℕ, List, Vec}
 use Rattle.std.specs.declared.alloc.Global.{Global}
-use Rattle.rank_sets.specs.declared.rank_set.RankSet.{RankSet}
+use Rattle.local_mesh.specs.declared.rank_sets.rank_set.RankSet.{RankSet}
 use Rattle.mesh_decl.specs.declared.owners.Owners.{Owners}
 use Rattle.mesh_decl.specs.Mesh.{dat_count, dat_set, set_size}
 use Rattle.bound_program.specs.Values.{BoundValue, SiteValue}

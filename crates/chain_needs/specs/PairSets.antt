@@ -1,7 +1,7 @@
 -- A set of ranks for each pair of a dat and an element.
 use Rattle.std.specs.Prelude.{◌≡◌, ◌<◌, ℕ, Bool, List, Vec, length, Option, Some, None}
 use Rattle.std.specs.declared.alloc.Global.{Global}
-use Rattle.rank_sets.specs.declared.rank_set.RankSet.{RankSet}
+use Rattle.local_mesh.specs.declared.rank_sets.rank_set.RankSet.{RankSet}
 use Rattle.mesh_decl.specs.declared.access.Via.{Via}
 use Rattle.mesh_decl.specs.Mesh.{MeshValue, dat_count, dat_set, set_size, map_count, map_from, map_to, map_dim}
 use Rattle.local_mesh.specs.Sets.{sets_in, has_in}

@@ -1,6 +1,6 @@
 -- What is kept of a chain, by the list of its loops alone.
 use Rattle.std.specs.Prelude.{◌≡◌, ◌<◌, ℕ, Bool, not, ◌&&◌, List, length, map, slice_index}
-use Rattle.rank_sets.specs.Below.{count_below, listed, row, rows}
+use Rattle.lemmas.specs.Below.{count_below, listed, row, rows}
 use Rattle.mesh_decl.specs.declared.owners.Owners.{Owners}
 use Rattle.mesh_decl.specs.Mesh.{dat_count, dat_set, set_size}
 use Rattle.bound_program.specs.Values.{BoundValue, SiteValue}

@@ -1,7 +1,7 @@
 -- What is kept of all chains of a program.
 use Rattle.std.specs.Prelude.{◌≡◌, ◌<◌, ◌≤◌, ◌-◌, ℕ, suc, true, false, List, length, drop, Option, Some, None, slice_index_or}
-use Rattle.rank_sets.specs.RankSet.{has_at}
-use Rattle.rank_sets.specs.declared.rank_set.RankSet.{RankSet}
+use Rattle.local_mesh.specs.RankSet.{has_at}
+use Rattle.local_mesh.specs.declared.rank_sets.rank_set.RankSet.{RankSet}
 use Rattle.mesh_decl.specs.declared.owners.Owners.{Owners}
 use Rattle.mesh_decl.specs.Mesh.{dat_count, dat_set, set_size}
 use Rattle.schedule_model.specs.Program.{is_free, elements}

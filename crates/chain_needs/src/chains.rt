@@ -1,7 +1,7 @@
 // The loops of chains, and what ranks need before an item.
 
 ghost use Rattle.std.specs.Prelude.{◌≡◌, ◌<◌, ◌≤◌, ℕ, Some, IfOk, length, map, slice_index};
-ghost use Rattle.rank_sets.specs.RankSet.{has_at};
+ghost use Rattle.local_mesh.specs.RankSet.{has_at};
 ghost use Rattle.run_model.specs.Laws.{site_of};
 ghost use Rattle.mesh_decl.specs.Mesh.{dat_count, dat_set, set_size};
 ghost use Rattle.mesh_decl.specs.Owners.{AreOwners};
@@ -17,7 +17,7 @@ use crate::needing::needed_before;
 use bound_program::{Bound, Item};
 use mesh_decl::Owners;
 use op_num::OutOfMemory;
-use rank_sets::RankSet;
+use local_mesh::rank_sets::RankSet;
 use std::alloc::Global;
 
 // The number of the loop of an item, where it is Free.

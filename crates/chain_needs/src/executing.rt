@@ -4,7 +4,7 @@ ghost use Rattle.std.specs.Prelude.{◌≡◌, ◌<◌, ◌||◌, nat_eq, ℕ, I
 ghost use Rattle.std.specs.List.{list_any};
 ghost use Rattle.mesh_decl.specs.Mesh.{set_count, set_size};
 ghost use Rattle.mesh_decl.specs.Owners.{AreOwners, owner_of};
-ghost use Rattle.rank_sets.specs.RankSet.{has, has_at};
+ghost use Rattle.local_mesh.specs.RankSet.{has, has_at};
 ghost use Rattle.bound_program.specs.Values.{bound_of};
 ghost use Rattle.bound_program.specs.Fits.{SiteFits, site_at};
 ghost use Rattle.chain_model.specs.Slices.{executes_for, modifies_some};
@@ -15,7 +15,7 @@ use crate::sites::{args_of, set_of};
 use bound_program::{Access, Arg, Bound, is_access};
 use mesh_decl::Owners;
 use op_num::OutOfMemory;
-use rank_sets::RankSet;
+use local_mesh::rank_sets::RankSet;
 use std::alloc::Global;
 
 // The ranks of the pair that an element reaches by an argument other than OP_READ.

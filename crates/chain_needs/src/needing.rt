@@ -13,7 +13,7 @@ use crate::reading::read_dats;
 use bound_program::Bound;
 use mesh_decl::Owners;
 use op_num::OutOfMemory;
-use rank_sets::RankSet;
+use local_mesh::rank_sets::RankSet;
 use std::alloc::Global;
 
 // From what is needed behind a loop to what is needed before it.

@@ -3,7 +3,7 @@
 ghost use Rattle.std.specs.Prelude.{◌≡◌, ◌<◌, ℕ, IfOk, length};
 ghost use Rattle.mesh_decl.specs.Mesh.{set_size, dat_set, dat_count};
 ghost use Rattle.mesh_decl.specs.Owners.{AreOwners};
-ghost use Rattle.rank_sets.specs.RankSet.{has_at};
+ghost use Rattle.local_mesh.specs.RankSet.{has_at};
 ghost use Rattle.local_mesh.specs.Sets.{has_in};
 ghost use Rattle.bound_program.specs.Values.{bound_of};
 ghost use Rattle.chain_model.specs.Slices.{owns_pair};
@@ -12,7 +12,7 @@ ghost use Rattle.chain_needs.specs.PairSets.{ArePairSets};
 use bound_program::Bound;
 use mesh_decl::Owners;
 use op_num::OutOfMemory;
-use rank_sets::RankSet;
+use local_mesh::rank_sets::RankSet;
 use std::alloc::Global;
 
 // The owner of each pair of a dat.

@@ -2,14 +2,14 @@
 
 ghost use Rattle.std.specs.Prelude.{◌≡◌, ◌<◌, ℕ, length};
 ghost use Rattle.mesh_decl.specs.Mesh.{set_size, dat_set};
-ghost use Rattle.rank_sets.specs.RankSet.{has};
+ghost use Rattle.local_mesh.specs.RankSet.{has};
 ghost use Rattle.local_mesh.specs.Sets.{sets_in, has_in};
 ghost use Rattle.bound_program.specs.Values.{bound_of};
 ghost use Rattle.run_model.specs.Windows.{element_by};
 ghost use Rattle.chain_needs.specs.PairSets.{ViaLeads};
 
 use bound_program::{Bound, Via};
-use rank_sets::RankSet;
+use local_mesh::rank_sets::RankSet;
 
 /// The element of a dat's set to which an element of a loop leads, itself or by a map.
 pub fn element_of(bound: &Bound, dat: u32, via: Option<Via>, element: u32) -> u32

@@ -3,8 +3,8 @@
 ghost use Rattle.std.specs.Prelude.{◌≡◌, ◌≢◌, ◌<◌, ◌&&◌, ◌||◌, nat_eq, ℕ, All, length};
 ghost use Rattle.std.specs.List.{list_any};
 ghost use Rattle.mesh_decl.specs.Mesh.{set_size, dat_set, dat_count};
-ghost use Rattle.rank_sets.specs.RankSet.{has, has_at};
-ghost use Rattle.rank_sets.specs.Below.{any_below};
+ghost use Rattle.local_mesh.specs.RankSet.{has, has_at};
+ghost use Rattle.lemmas.specs.Below.{any_below};
 ghost use Rattle.bound_program.specs.Values.{bound_of};
 ghost use Rattle.bound_program.specs.Fits.{SiteFits, site_at};
 ghost use Rattle.local_mesh.specs.Sets.{sets_in, has_in};
@@ -14,7 +14,7 @@ ghost use Rattle.chain_needs.specs.PairSets.{ArePairSets, ArgLeads};
 use crate::reaching::element_of;
 use crate::sites::{args_of, set_of};
 use bound_program::{Access, Arg, Bound};
-use rank_sets::RankSet;
+use local_mesh::rank_sets::RankSet;
 
 // OP_READ or OP_RW.
 fn may_read(access: Access) -> bool
@@ -73,7 +73,7 @@ fn read_by_all(
 }
 
 // The ranks that execute an element.
-#[tactic(auto, unfolding(rank_sets::specs::RankSet::has_at))]
+#[tactic(auto, unfolding(local_mesh::rank_sets::specs::RankSet::has_at))]
 fn ranks_of(executing: &[RankSet], element: u32) -> RankSet
     requires { element < length executing.now }
     ensures { (r : ℕ) → has result r ≡ has_at executing.now element r }

@@ -16,8 +16,7 @@ use Rattle.bound_program.specs.declared.sites.Arg.TheVariants.{Dat, Global}
 use Rattle.bound_program.specs.Values.{BoundValue, ItemValue, Free, Reduce, Ordered, Host, ActValue, Clear, Assign, Line, Print, Exit, SiteValue, VarValue, no_var}
 use Rattle.bound_program.specs.Limits.{max_dim}
 use Rattle.bound_program.specs.Fits.{constant_cells, UsesConstants, GlobalAccess, KernelFits, ConstantsFit, ArgFits, ViaFits, SiteFits, HostWithin, IndexWithin, all_cells, var_at, AreOfVariable, ActFits, due, ItemsFit, EndsWithHost}
-use Rattle.checkpoint.specs.Cut.{StateValue, is_merging, starts, with_dats, with_vars, tail}
-use Rattle.checkpoint.specs.Cut.{HasShape}
+use Rattle.checkpoint.specs.Cut.{StateValue, is_merging, starts, with_dats, with_vars, tail, HasShape}
 use Rattle.checkpoint.specs.Laws.{TailsFit}
 use Rattle.checkpoint.proofs.Shape.{AreSame, Like, count_same, dim_same, set_same, var_same}
 use Rattle.checkpoint.proofs.Values.{dats_keep}

@@ -9,8 +9,7 @@ use Rattle.bound_program.specs.Fits.{Fits, var_at}
 use Rattle.loop_bind.specs.Constants.{LeavesConstants}
 use Rattle.run_model.specs.Programs.{program_of, run_of_program}
 use Rattle.run_model.specs.Ranges.{AllObey}
-use Rattle.checkpoint.specs.Cut.{HasShape}
-use Rattle.checkpoint.specs.Cut.{StateValue, CanCut, state_at, head, tail}
+use Rattle.checkpoint.specs.Cut.{HasShape, StateValue, CanCut, state_at, head, tail}
 use Rattle.checkpoint.specs.StateText.{state_text}
 
 -- ---- any program

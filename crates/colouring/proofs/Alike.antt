@@ -7,8 +7,7 @@ use Rattle.std.proofs.lemmas.Bool.{cases_lt, cases_Bool, false≢true}
 use Rattle.std.proofs.Math.Nat.{lt-div-mul-add}
 use Rattle.mesh_decl.specs.Mesh.{MeshValue}
 use Rattle.colouring.specs.declared.types.IncArg.{IncArg}
-use Rattle.colouring.specs.Rows.{Conflict, MeetWithin}
-use Rattle.colouring.specs.Rows.{none}
+use Rattle.colouring.specs.Rows.{Conflict, MeetWithin, none}
 use Rattle.colouring.specs.Colours.{target_of}
 use Rattle.colouring.specs.Table.{AreStarts, IsTable}
 use Rattle.colouring.specs.Meeting.{Has, SomeMeet, Marked, BlocksAlike, PlacesAlike}

@@ -6,8 +6,8 @@ use Rattle.std.proofs.lemmas.List.{get_or-take, get_or_default, length-take}
 use Rattle.std.proofs.lemmas.Nat.{mul-add-lt}
 use Rattle.std.specs.declared.alloc.Global.{Global}
 use Rattle.mesh_decl.specs.Mesh.{MeshValue, IsDatAt, dat_count, dat_set, map_from}
-use Rattle.rank_sets.specs.Below.{row}
-use Rattle.rank_sets.proofs.Rows.{row_read}
+use Rattle.lemmas.specs.Below.{row}
+use Rattle.lemmas.proofs.Rows.{row_read}
 use Rattle.local_mesh.specs.declared.types.RankMesh.{RankMesh}
 use Rattle.local_mesh.specs.LocalMesh.{executed_in, AreLocalTargets}
 use Rattle.colouring.specs.declared.types.IncArg.{IncArg}

@@ -5,8 +5,7 @@ use Rattle.std.specs.List.Sorted.{IsPermutation}
 use Rattle.std.proofs.lemmas.Bool.{cases_eq}
 use Rattle.std.proofs.lemmas.List.Sorted.{All-permutation, Contains-permutation}
 use Rattle.std.proofs.lemmas.List.{get_or-set_same, get_or-set_other, get_or_default}
-use Rattle.colouring.specs.Rows.{Conflict}
-use Rattle.colouring.specs.Rows.{none}
+use Rattle.colouring.specs.Rows.{Conflict, none}
 use Rattle.colouring.specs.Meeting.{Has, IsMet, Meet, SomeMeet, Marked}
 
 -- ---- rows in order

@@ -6,7 +6,7 @@ use Rattle.std.specs.declared.alloc.Global.{Global}
 use Rattle.std.proofs.lemmas.Nat.{mul-add-lt}
 use Rattle.mesh_decl.specs.Mesh.{MeshValue, set_count, map_from, map_dim, map_to, dat_set}
 use Rattle.mesh_decl.specs.declared.access.Via.{Via}
-use Rattle.rank_sets.specs.Below.{row}
+use Rattle.lemmas.specs.Below.{row}
 use Rattle.local_mesh.specs.declared.types.RankMesh.{RankMesh}
 use Rattle.local_mesh.specs.declared.types.LocalSet.{LocalSet}
 use Rattle.local_mesh.specs.LocalMesh.{executed_in, originals_in, AreLocalTargets, IsRankMesh}

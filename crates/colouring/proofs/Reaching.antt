@@ -6,7 +6,7 @@ use Rattle.mesh_decl.specs.declared.owners.Perms.{Perms}
 use Rattle.mesh_decl.specs.declared.access.Via.{Via}
 use Rattle.mesh_decl.specs.Mesh.{MeshValue, IsDatAt, set_count, dat_count, map_dim, target, dat_set}
 use Rattle.mesh_decl.specs.Owners.{ArePerms}
-use Rattle.rank_sets.specs.Below.{row}
+use Rattle.lemmas.specs.Below.{row}
 use Rattle.local_mesh.specs.declared.types.RankMesh.{RankMesh}
 use Rattle.local_mesh.specs.LocalMesh.{IsRankMesh, executed_in, originals_in}
 use Rattle.local_mesh.specs.Numbers.{OriginalsAreDistinct}

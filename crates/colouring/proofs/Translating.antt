@@ -8,8 +8,7 @@ use Rattle.std.proofs.lemmas.List.{get_or_default}
 use Rattle.mesh_decl.specs.Mesh.{MeshValue}
 use Rattle.colouring.specs.declared.types.IncArg.{IncArg}
 use Rattle.colouring.specs.declared.types.Colours.{Colours}
-use Rattle.colouring.specs.Rows.{In, MeetWithin, BlocksMeet}
-use Rattle.colouring.specs.Rows.{Conflict as Meet}
+use Rattle.colouring.specs.Rows.{In, MeetWithin, BlocksMeet, Conflict as Meet}
 use Rattle.colouring.specs.Colours.{target_of, Conflict, ConflictWithin, BlocksConflict, IsLeast, AreColours}
 use Rattle.colouring.specs.Table.{AreStarts, IsTable}
 use Rattle.colouring.proofs.Parts.{least_same}

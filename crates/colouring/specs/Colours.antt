@@ -1,8 +1,7 @@
 -- Which places and blocks conflict, and their colours: the least number that no earlier one in conflict has.
-use Rattle.std.specs.Prelude.{◌≡◌, ◌≢◌, ℕ, ◌+◌, ◌*◌, ◌/◌, ◌<◌, ◌≤◌, ◌↔◌, Bool, ◌&&◌, ◌||◌, ◌==◌, nat_lt, Option, Some, None}
-use Rattle.std.specs.Prelude.{List, Vec, length, slice_index, slice_index_or, Contains}
+use Rattle.std.specs.Prelude.{◌≡◌, ◌≢◌, ℕ, ◌+◌, ◌*◌, ◌/◌, ◌<◌, ◌≤◌, ◌↔◌, Bool, ◌&&◌, ◌||◌, ◌==◌, nat_lt, Option, Some, None, List, Vec, length, slice_index, slice_index_or, Contains}
 use Rattle.std.specs.declared.alloc.Global.{Global}
-use Rattle.rank_sets.specs.Below.{row}
+use Rattle.lemmas.specs.Below.{row}
 use Rattle.mesh_decl.specs.declared.access.Via.{Via}
 use Rattle.mesh_decl.specs.Mesh.{MeshValue, map_count, dat_count, map_from, map_to, map_dim, target, dat_set}
 use Rattle.local_mesh.specs.declared.types.LocalSet.{LocalSet}

@@ -1,7 +1,6 @@
 -- Rows of targets that have colours: whether two rows of one colour have a common target.
 use Rattle.std.specs.Prelude.{◌≡◌, ◌≢◌, ◌<◌, ◌≤◌, ◌⊎◌, ℕ, List, get_or, length}
-use Rattle.colouring.specs.Rows.{In, Conflict, MeetWithin, BlocksMeet}
-use Rattle.colouring.specs.Rows.{none}
+use Rattle.colouring.specs.Rows.{In, Conflict, MeetWithin, BlocksMeet, none}
 
 -- the row p has the target t
 abbrev pub Has : List ℕ → ℕ → ℕ → ℕ → Type 0

@@ -1,7 +1,6 @@
 -- What `clap` answers is what the words ask for.
 use Rattle.std.proofs.Common.{◌≡◌, ℕ, List, [], ◌∷◌, Result, Ok, Err, IfOk, IfErr, codes, true, inl, inr, ⊎_elim, refl, sym, ap, subst}
-use Rattle.clap.specs.Faults.{fault_of}
-use Rattle.clap.specs.Faults.{is_simple_and_free}
+use Rattle.clap.specs.Faults.{fault_of, is_simple_and_free}
 use Rattle.clap.specs.Kinds.{IsAmong, HasKind, FailsBy}
 use Rattle.clap.specs.Matches.{found_of, first_value}
 use Rattle.clap.specs.declared.parser.matches.Found.{Found}

@@ -11,10 +11,7 @@ use Rattle.clap.specs.declared.error.kind.ErrorKind.TheVariants as kind
 use Rattle.mesh_gen.specs.declared.places.TheConstants.{MAX_SIDE}
 use Rattle.command_words.specs.declared.limits.TheConstants.{MAX_RANKS, MAX_WORKERS}
 use Rattle.command_words.specs.Refusal.{Refusal}
-use Rattle.command_words.specs.Words.{PlanJob, Check, ShowsPlan, ShowsSchedule, RunsPlan, Stretch, Before, Parting, Schedule, Options, Input, InFiles, OfSample}
-use Rattle.command_words.specs.Words.{ChainJob, CountsChains, RunsChains, Command, OnPlan, Translates, Restores, command, number_to, number_or, form_of, OptionWords, options_in, parting_of}
-use Rattle.command_words.specs.Words.{schedule_of, blocks_of, stretch_of, options_with, options_of, goes_to_the_end, is_whole, plans_itself}
-use Rattle.command_words.specs.Words.{stops_at_an_item, runs_nothing, is_unplanned, on_files, samples, converts, source_alone, plans, chain_options_of, chains, plans_or_chains, where_so, by_job, or_usage, asked, judged}
+use Rattle.command_words.specs.Words.{PlanJob, Check, ShowsPlan, ShowsSchedule, RunsPlan, Stretch, Before, Parting, Schedule, Options, Input, InFiles, OfSample, ChainJob, CountsChains, RunsChains, Command, OnPlan, Translates, Restores, command, number_to, number_or, form_of, OptionWords, options_in, parting_of, schedule_of, blocks_of, stretch_of, options_with, options_of, goes_to_the_end, is_whole, plans_itself, stops_at_an_item, runs_nothing, is_unplanned, on_files, samples, converts, source_alone, plans, chain_options_of, chains, plans_or_chains, where_so, by_job, or_usage, asked, judged}
 use Rattle.command_words.specs.Laws.{HeadsAreNotDumped}
 use Rattle.command_words.proofs.Within.{Holds, holds_if, holds_then, holds_map, Any, any}
 

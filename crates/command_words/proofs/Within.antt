@@ -12,10 +12,7 @@ use Rattle.op_num.specs.Spelling.{number_of}
 use Rattle.mesh_gen.specs.declared.places.TheConstants.{MAX_SIDE}
 use Rattle.command_words.specs.declared.limits.TheConstants.{MAX_RANKS, MAX_BLOCK, MAX_WORKERS}
 use Rattle.command_words.specs.Refusal.{Refusal}
-use Rattle.command_words.specs.Words.{PlanJob, Check, ShowsPlan, ShowsSchedule, RunsPlan, Parting, Schedule, Stretch, Input, InFiles, OfSample, ChainJob, CountsChains, RunsChains, ChainOptions, Command, Translates, Restores, command}
-use Rattle.command_words.specs.Words.{number_to, number_or, form_of, OptionWords, options_in, parting_of, schedule_of, blocks_of, stretch_of, options_with, options_of, chain_options_of}
-use Rattle.command_words.specs.Words.{goes_to_the_end, is_whole, plans_itself, stops_at_an_item}
-use Rattle.command_words.specs.Words.{is_unplanned, runs_nothing, on_files, samples, converts, source_alone, plans, chains, plans_or_chains, where_so, by_job, or_usage, asked, judged}
+use Rattle.command_words.specs.Words.{PlanJob, Check, ShowsPlan, ShowsSchedule, RunsPlan, Parting, Schedule, Stretch, Input, InFiles, OfSample, ChainJob, CountsChains, RunsChains, ChainOptions, Command, Translates, Restores, command, number_to, number_or, form_of, OptionWords, options_in, parting_of, schedule_of, blocks_of, stretch_of, options_with, options_of, chain_options_of, goes_to_the_end, is_whole, plans_itself, stops_at_an_item, is_unplanned, runs_nothing, on_files, samples, converts, source_alone, plans, chains, plans_or_chains, where_so, by_job, or_usage, asked, judged}
 use Rattle.command_words.specs.Laws.{AreFew, HaveFewPlaces, AreWithin, IsWithin, OptionsAreWithin, OptionWordsAreWithin}
 
 -- P is so of what there is

@@ -1,8 +1,7 @@
 -- What the options that words ask for keep.
 use Rattle.std.specs.Prelude.{◌≡◌, ℕ, ◌<◌, ◌≤◌, false, List, Ok, IfSome}
 use Rattle.command_words.specs.declared.limits.TheConstants.{MAX_RANKS, MAX_BLOCK, MAX_WORKERS}
-use Rattle.command_words.specs.Words.{PlanJob, Blocks, OfSize, AsPlanned, Before, Options, ChainOptions, Input, Command, OnPlan, OnChains}
-use Rattle.command_words.specs.Words.{OptionWords, options_of, chain_options_of, WordsAre}
+use Rattle.command_words.specs.Words.{PlanJob, Blocks, OfSize, AsPlanned, Before, Options, ChainOptions, Input, Command, OnPlan, OnChains, OptionWords, options_of, chain_options_of, WordsAre}
 
 -- there are 1 to 64 ranks
 pub record AreFew (ranks : ℕ) : Type 0 where

@@ -13,13 +13,8 @@ use Rattle.schedule_steps.specs.declared.step.Step.{Step}
 use Rattle.schedule_steps.specs.declared.text.lines.TheConstants.{SCHEDULE_STEPS}
 use Rattle.schedule_steps.specs.Written.{tokens_of}
 use Rattle.loop_plan.specs.StepCounts.{max_steps}
-use Rattle.command_words.specs.declared.answer_lines.limits.TheConstants.{SOURCE_BYTES, STATE_BYTES, PARTITION_BYTES, PLAN_BYTES}
-use Rattle.command_words.specs.declared.answer_lines.limits.TheConstants.{SCHEDULE_BYTES}
-use Rattle.command_words.specs.Refusal.{Limit, SourceBytes, MeshBytes, MeshValues, Sets, Maps, Dats, SetSize, Dim, MeshCells}
-use Rattle.command_words.specs.Refusal.{Arguments, Trace, PrintWeight, StateBytes, PartitionBytes, PlanBytes, Steps, ScheduleBytes}
-use Rattle.command_words.specs.Refusal.{ScheduleSteps, Refusal, Usage, CannotRead, NoTokens, NoTree, TooDeep, BadName, BadBinding}
-use Rattle.command_words.specs.Refusal.{BadTarget, BadAccess, BadMesh, BadCut, BadState, BadPart, BadPartition, BadPlan, BadSchedule}
-use Rattle.command_words.specs.Refusal.{BadStep, EarlyStep, LeftStep, BadStub, BeyondLimit, status_of}
+use Rattle.command_words.specs.declared.answer_lines.limits.TheConstants.{SOURCE_BYTES, STATE_BYTES, PARTITION_BYTES, PLAN_BYTES, SCHEDULE_BYTES}
+use Rattle.command_words.specs.Refusal.{Limit, SourceBytes, MeshBytes, MeshValues, Sets, Maps, Dats, SetSize, Dim, MeshCells, Arguments, Trace, PrintWeight, StateBytes, PartitionBytes, PlanBytes, Steps, ScheduleBytes, ScheduleSteps, Refusal, Usage, CannotRead, NoTokens, NoTree, TooDeep, BadName, BadBinding, BadTarget, BadAccess, BadMesh, BadCut, BadState, BadPart, BadPartition, BadPlan, BadSchedule, BadStep, EarlyStep, LeftStep, BadStub, BeyondLimit, status_of}
 
 -- the name of a limit
 abbrev pub limit_name : Limit → List ℕ

@@ -1,6 +1,5 @@
 -- What the values of the options mean.
-use Rattle.std.specs.Prelude.{ℕ, ◌^◌, Bool, true, false, not, ◌&&◌, nat_lt, nat_eq, List, Option, Some, None}
-use Rattle.std.specs.Prelude.{codes, if◌then◌else◌, option_and_then, option_map, is_some, length, take, drop}
+use Rattle.std.specs.Prelude.{ℕ, ◌^◌, Bool, true, false, not, ◌&&◌, nat_lt, nat_eq, List, Option, Some, None, codes, if◌then◌else◌, option_and_then, option_map, is_some, length, take, drop}
 use Rattle.std.specs.Str.{bytes_eq}
 use Rattle.clap.specs.Walk.{Row, first_of}
 use Rattle.op_num.specs.Spelling.{number_of}
@@ -8,8 +7,7 @@ use Rattle.mesh_decl.specs.declared.text.entry.Form.{Form}
 use Rattle.mesh_decl.specs.declared.text.entry.Form.TheVariants as form
 use Rattle.distribute.specs.Parts.{Parts, Block, Bisect, Grow}
 use Rattle.command_words.specs.declared.limits.TheConstants.{MAX_RANKS, MAX_BLOCK, MAX_WORKERS}
-use Rattle.command_words.specs.Requests.{Parting, ByRule, ByFile, Schedule, Standard, Drawn, Written, Stretch, Whole, Before, From}
-use Rattle.command_words.specs.Requests.{Blocks, OfSize, AsPlanned, Options, ChainOptions}
+use Rattle.command_words.specs.Requests.{Parting, ByRule, ByFile, Schedule, Standard, Drawn, Written, Stretch, Whole, Before, From, Blocks, OfSize, AsPlanned, Options, ChainOptions}
 
 -- the values of the options, as the words have them
 pub record OptionWords : Type 0 where

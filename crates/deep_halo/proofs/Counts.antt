@@ -1,6 +1,6 @@
 -- At most all numbers pass.
 use Rattle.std.proofs.Common.{◌≤◌, ℕ, zero, suc, Bool, arith}
-use Rattle.rank_sets.specs.Below.{count_below}
+use Rattle.lemmas.specs.Below.{count_below}
 use Rattle.lemmas.proofs.Truth.{cond_bit}
 
 pub count_most : (n : ℕ) (p : ℕ → Bool) → count_below n p ≤ n

@@ -1,6 +1,5 @@
 -- What a loop hands to its kernel for an element, where a program begins.
-use Rattle.std.specs.Prelude.{ℕ, suc, ℤ, ◌*◌, List, [], ◌∷◌, ◌++◌, take, drop, nat_lt, Option, Some, None, slice_get, codes}
-use Rattle.std.specs.Prelude.{option_and_then, if◌then◌else◌}
+use Rattle.std.specs.Prelude.{ℕ, suc, ℤ, ◌*◌, List, [], ◌∷◌, ◌++◌, take, drop, nat_lt, Option, Some, None, slice_get, codes, option_and_then, if◌then◌else◌}
 use Rattle.std.specs.Fmt.{decimal, signed_decimal}
 use Rattle.std.specs.List.{flat_map}
 use Rattle.mesh_decl.specs.declared.access.Via.{Via}

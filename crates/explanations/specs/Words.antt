@@ -1,6 +1,5 @@
 -- What the words of a line say.
-use Rattle.std.specs.Prelude.{ℕ, ◌-◌, ◌^◌, Bool, nat_eq, nat_lt, ◌||◌, List, [], ◌∷◌, length, take, Option, Some, None, codes}
-use Rattle.std.specs.Prelude.{option_and_then, option_map, slice_get, if◌then◌else◌}
+use Rattle.std.specs.Prelude.{ℕ, ◌-◌, ◌^◌, Bool, nat_eq, nat_lt, ◌||◌, List, [], ◌∷◌, length, take, Option, Some, None, codes, option_and_then, option_map, slice_get, if◌then◌else◌}
 use Rattle.std.specs.List.{starts_with, ends_with}
 use Rattle.std.specs.Str.{bytes_eq}
 use Rattle.op_num.specs.Spelling.{number_of}

@@ -1,6 +1,5 @@
 -- The distributed machine on flat buffers, by places.
-use Rattle.std.specs.Prelude.{◌≡◌, ◌<◌, ℕ, ℤ, pos, zero, suc, true, cond, ◌==◌, List, [], ◌∷◌, ◌++◌, map, length, get_or, set, Option, Some}
-use Rattle.std.specs.Prelude.{None, is_some}
+use Rattle.std.specs.Prelude.{◌≡◌, ◌<◌, ℕ, ℤ, pos, zero, suc, true, cond, ◌==◌, List, [], ◌∷◌, ◌++◌, map, length, get_or, set, Option, Some, None, is_some}
 use Rattle.op_num.specs.Reduction.{Reduction}
 use Rattle.schedule_steps.specs.declared.step.Step.{Step}
 use Rattle.schedule_steps.specs.declared.step.Step.TheVariants.{Send, Recv, Begin, End, Join}

@@ -1,7 +1,6 @@
 -- Two nodes and two edges between them, on two ranks: node e and edge e belong to rank e. Dat 0 is x and dat 1 is r, both on the nodes.
 -- Variable 0 is a sum, variable 1 the constant one, and variable 2 a base.
-use Rattle.std.specs.Prelude.{ℕ, zero, suc, ℤ, pos, ◌+ℤ◌, Bool, true, false, cond, ◌&&◌, ◌||◌, ◌==◌, nat_lt, List, [], ◌∷◌, Option, Some}
-use Rattle.std.specs.Prelude.{None}
+use Rattle.std.specs.Prelude.{ℕ, zero, suc, ℤ, pos, ◌+ℤ◌, Bool, true, false, cond, ◌&&◌, ◌||◌, ◌==◌, nat_lt, List, [], ◌∷◌, Option, Some, None}
 use Rattle.std.specs.Int.{int_wrap, w32}
 use Rattle.op_num.specs.Reduction.{Reduction, Add}
 use Rattle.schedule_model.specs.Cells.{Cell, Data, Variable, DatCell, VarCell, Store}

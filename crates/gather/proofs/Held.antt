@@ -2,8 +2,7 @@
 use Rattle.std.proofs.Common.{◌≡◌, ◌<◌, ◌≤◌, ◌+◌, ◌*◌, ℕ, ℤ, zero, suc, ⊎_elim, List, [], ◌++◌, length, drop, get_or, codes, Result, Ok, Err, OnOk, sym, ap, ◌∙◌, subst, append_assoc, arith}
 use Rattle.std.specs.Prelude.{slice_index}
 use Rattle.std.proofs.lemmas.Bool.{cases_eq}
-use Rattle.std.proofs.lemmas.List.{get_or-map}
-use Rattle.std.proofs.lemmas.List.{get_or_default}
+use Rattle.std.proofs.lemmas.List.{get_or-map, get_or_default}
 use Rattle.std.specs.Fmt.{decimal}
 use Rattle.mesh_decl.specs.Mesh.{MeshValue, dat_count, dat_name, dat_set, dat_dim}
 use Rattle.local_mesh.specs.declared.types.LocalSet.{LocalSet}

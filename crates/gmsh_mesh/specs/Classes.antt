@@ -1,6 +1,5 @@
 -- Physical tags by classes of sides: the sides of the boundary stand first, and the elements behind them.
-use Rattle.std.specs.Prelude.{◌≡◌, ◌≢◌, ◌+◌, ◌<◌, ◌⊎◌, ℕ, ℤ, pos, Bool, true, false, List, length, slice_index, get_or}
-use Rattle.std.specs.Prelude.{Option, Some, None, Result, Ok, Err, if◌then◌else◌}
+use Rattle.std.specs.Prelude.{◌≡◌, ◌≢◌, ◌+◌, ◌<◌, ◌⊎◌, ℕ, ℤ, pos, Bool, true, false, List, length, slice_index, get_or, Option, Some, None, Result, Ok, Err, if◌then◌else◌}
 use Rattle.std.specs.Ordering.{int_eq}
 use Rattle.gmsh_text.specs.declared.entities.Group.{Group}
 use Rattle.gmsh_text.specs.declared.entities.Group.TheVariants.{Ungrouped, One, Several}

@@ -1,6 +1,5 @@
 -- The integer that is nearest to a fraction, and what a reader of scaled decimals answers.
-use Rattle.std.specs.Prelude.{ℕ, ℤ, pos, neg_ℤ, ◌+◌, ◌*◌, ◌/◌, ◌^◌, ◌++◌, ◌<◌, ◌≤◌}
-use Rattle.std.specs.Prelude.{List, length, Bool, true, false, Option, Some, None, Result, Ok, Err, if◌then◌else◌}
+use Rattle.std.specs.Prelude.{ℕ, ℤ, pos, neg_ℤ, ◌+◌, ◌*◌, ◌/◌, ◌^◌, ◌++◌, ◌<◌, ◌≤◌, List, length, Bool, true, false, Option, Some, None, Result, Ok, Err, if◌then◌else◌}
 use Rattle.op_num.specs.Spelling.{fits_i32}
 use Rattle.gmsh_text.specs.Decimal.{Decimal, number_from}
 use Rattle.gmsh_text.specs.Bounded.{left, right}

@@ -18,8 +18,7 @@ use Rattle.checkpoint.specs.declared.state_texts.refusals.StateRefusal.TheVarian
 use Rattle.command_words.specs.Refusal as answer
 use Rattle.command_words.specs.Words.{Stretch, Whole, Before, From, Parting, ByRule, ByFile, Blocks, OfSize, AsPlanned, Input}
 use Rattle.answers.specs.Judgements as judged
-use Rattle.answers.specs.Judgements.{SourceIs, TreeIs, TypesAre, MeshIs, EntriesAre, BoundIs, AccessesAre, Cut, Uncut, BeforeItem, FromText}
-use Rattle.answers.specs.Judgements.{Colouring, Least, Told}
+use Rattle.answers.specs.Judgements.{SourceIs, TreeIs, TypesAre, MeshIs, EntriesAre, BoundIs, AccessesAre, Cut, Uncut, BeforeItem, FromText, Colouring, Least, Told}
 use Rattle.job_inputs.specs.declared.chosen.Chosen.{Chosen}
 
 -- ---- judgements

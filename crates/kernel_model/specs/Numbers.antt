@@ -1,6 +1,5 @@
 -- The operators on numbers of 32 bits, each result in the range of `i32` (ISO C 6.5.3 to 6.5.14; overflows wrap).
-use Rattle.std.specs.Prelude.{ℤ, pos, Bool, true, false, cond, ◌&&◌, ◌||◌, ◌+ℤ◌, ◌-ℤ◌, ◌*ℤ◌, neg_ℤ, int_div, int_lt, unsigned_abs, Result}
-use Rattle.std.specs.Prelude.{Ok, Err}
+use Rattle.std.specs.Prelude.{ℤ, pos, Bool, true, false, cond, ◌&&◌, ◌||◌, ◌+ℤ◌, ◌-ℤ◌, ◌*ℤ◌, neg_ℤ, int_div, int_lt, unsigned_abs, Result, Ok, Err}
 use Rattle.std.specs.Ordering.{int_eq}
 use Rattle.std.specs.Int.{w32, int_bit_and, int_bit_or, int_bit_xor, int_bit_not}
 use Rattle.op_num.specs.Wrapping.{wrapped, absolute, remainder, doubled, halved}

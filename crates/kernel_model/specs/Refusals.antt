@@ -1,6 +1,5 @@
 -- Which access rule a kernel breaks, and where (the meaning of OP_READ, OP_WRITE, OP_RW, OP_INC, OP_MIN and OP_MAX in the OP2 manual).
-use Rattle.std.specs.Prelude.{◌≡◌, ℕ, ℤ, pos, negsuc, ◌<◌, ◌≤◌, List, [], ◌∷◌, ◌++◌, Bool, true, false, Option, Some, None, ◌⊎◌, ◌↔◌}
-use Rattle.std.specs.Prelude.{slice_index_or}
+use Rattle.std.specs.Prelude.{◌≡◌, ℕ, ℤ, pos, negsuc, ◌<◌, ◌≤◌, List, [], ◌∷◌, ◌++◌, Bool, true, false, Option, Some, None, ◌⊎◌, ◌↔◌, slice_index_or}
 use Rattle.c_lex.specs.declared.tokens.Pos.{Pos}
 use Rattle.c_lex.specs.Order.{IsEarlier}
 use Rattle.c_tree.specs.declared.expressions.MinMax.{MinMax}
@@ -9,8 +8,7 @@ use Rattle.op_num.specs.Reduction.{Reduction, Add, Min, Max}
 use Rattle.kernel_types.specs.declared.statements.RStmt.{RStmt}
 use Rattle.kernel_types.specs.declared.kernels.RKernel.{RKernel}
 use Rattle.op_num.specs.Access.{Access, OpRead, OpWrite, OpReduce}
-use Rattle.kernel_model.specs.Obeys.{Mode, mode_at, Event, Reads, Assigns, Adds, Changes, Owns, Merges, Path, events, no_counters, Assigned}
-use Rattle.kernel_model.specs.Obeys.{HasAssigned, assigned_after, KernelObeys}
+use Rattle.kernel_model.specs.Obeys.{Mode, mode_at, Event, Reads, Assigns, Adds, Changes, Owns, Merges, Path, events, no_counters, Assigned, HasAssigned, assigned_after, KernelObeys}
 
 -- the rules, in the order in which they count at one place
 pub data Rule : Type 0 where

@@ -10,8 +10,7 @@ use Rattle.c_tree.specs.declared.expressions.MinMax.TheVariants as min_max
 use Rattle.kernel_types.specs.declared.expressions.ElementForm.{ElementForm}
 use Rattle.kernel_types.specs.declared.expressions.ElementForm.TheVariants.{Index, Deref}
 use Rattle.kernel_types.specs.declared.expressions.RExpr.{RExpr}
-use Rattle.kernel_types.specs.declared.expressions.RExpr.TheVariants.{Number, Scalar, Constant, Arg', Local', Const', Unary', Binary'}
-use Rattle.kernel_types.specs.declared.expressions.RExpr.TheVariants.{Choice', Paren', Extremum', Absolute'}
+use Rattle.kernel_types.specs.declared.expressions.RExpr.TheVariants.{Number, Scalar, Constant, Arg', Local', Const', Unary', Binary', Choice', Paren', Extremum', Absolute'}
 
 -- the same tokens are the same tree, places aside
 

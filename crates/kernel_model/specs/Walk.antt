@@ -1,22 +1,15 @@
 -- The refusal of a kernel by one walk over it, with the components that every path has assigned.
-use Rattle.std.specs.Prelude.{ℕ, zero, suc, ℤ, pos, negsuc, ◌-◌, List, length, Bool, true, false, cond, ◌&&◌, ◌||◌, Option, Some, None}
-use Rattle.std.specs.Prelude.{nat_eq, nat_lt}
+use Rattle.std.specs.Prelude.{ℕ, zero, suc, ℤ, pos, negsuc, ◌-◌, List, length, Bool, true, false, cond, ◌&&◌, ◌||◌, Option, Some, None, nat_eq, nat_lt}
 use Rattle.c_lex.specs.declared.tokens.Pos.{Pos}
 use Rattle.c_tree.specs.declared.expressions.MinMax.{MinMax}
 use Rattle.op_num.specs.Reduction.{Add, Min, Max}
 use Rattle.op_num.specs.Access.{Access, OpRead, OpWrite, OpReduce}
 use Rattle.kernel_types.specs.declared.expressions.RExpr.{RExpr}
-use Rattle.kernel_types.specs.declared.expressions.RExpr.TheVariants.{Number, Scalar, Constant, Arg', Local', Const', Unary', Binary'}
-use Rattle.kernel_types.specs.declared.expressions.RExpr.TheVariants.{Choice', Paren', Extremum', Absolute'}
-use Rattle.kernel_types.specs.declared.statements.RStmt.{RStmt, Block', Declare, SetScalar, SetLocal, SetArg, If', For', Row_of-RStmt}
-use Rattle.kernel_types.specs.declared.statements.RStmt.{end_of-RStmt, more_of-RStmt}
+use Rattle.kernel_types.specs.declared.expressions.RExpr.TheVariants.{Number, Scalar, Constant, Arg', Local', Const', Unary', Binary', Choice', Paren', Extremum', Absolute'}
+use Rattle.kernel_types.specs.declared.statements.RStmt.{RStmt, Block', Declare, SetScalar, SetLocal, SetArg, If', For', Row_of-RStmt, end_of-RStmt, more_of-RStmt}
 use Rattle.kernel_types.specs.declared.kernels.RKernel.{RKernel}
-use Rattle.kernel_model.specs.Obeys.{Mode, mode_at, Counters, no_counters, with_counter, static, Event, Reads, Owns, Own, First, Second}
-use Rattle.kernel_model.specs.Obeys.{own_side, target_event, KernelObeys}
-use Rattle.kernel_model.specs.Refusals.{Rule, WritesRead, ReadsInc, IncNotSum, ReadsUnwritten, NotAllWritten, WriteIndexNotStatic}
-use Rattle.kernel_model.specs.Refusals.{LiteralIndexOut}
-use Rattle.kernel_model.specs.Refusals.{MinMaxForm, number_of, argument_of, index_of, place_of, is_target, is_sum, is_extremum, is_read}
-use Rattle.kernel_model.specs.Refusals.{opposite, parameter_place, IsRefusal}
+use Rattle.kernel_model.specs.Obeys.{Mode, mode_at, Counters, no_counters, with_counter, static, Event, Reads, Owns, Own, First, Second, own_side, target_event, KernelObeys}
+use Rattle.kernel_model.specs.Refusals.{Rule, WritesRead, ReadsInc, IncNotSum, ReadsUnwritten, NotAllWritten, WriteIndexNotStatic, LiteralIndexOut, MinMaxForm, number_of, argument_of, index_of, place_of, is_target, is_sum, is_extremum, is_read, opposite, parameter_place, IsRefusal}
 
 -- ---- what was found so far
 

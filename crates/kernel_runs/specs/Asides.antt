@@ -1,6 +1,5 @@
 -- Batches that ran on columns of their own and are put back later, and what their places touch of a memory.
-use Rattle.std.specs.Prelude.{◌≡◌, ◌≢◌, ◌<◌, ◌≤◌, ◌+◌, ◌⊎◌, ℕ, ℤ, pos, true, FitsSigned}
-use Rattle.std.specs.Prelude.{List, [], ◌∷◌, length, map, take, get_or, slice_index}
+use Rattle.std.specs.Prelude.{◌≡◌, ◌≢◌, ◌<◌, ◌≤◌, ◌+◌, ◌⊎◌, ℕ, ℤ, pos, true, FitsSigned, List, [], ◌∷◌, length, map, take, get_or, slice_index}
 use Rattle.std.specs.Int.{w32}
 use Rattle.op_num.specs.Access.{OpRead, OpRw}
 use Rattle.kernel_types.specs.declared.views.frame.Place.{Place}

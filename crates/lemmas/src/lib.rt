@@ -1,2 +1,6 @@
-//! Lemmas on lists, natural numbers and truth values: no code, only what proofs of other crates share.
+//! Lemmas on lists, natural numbers and truth values, and the numbers below a bound that pass a test: what proofs of other crates share.
 #![tactic(auto)]
+
+mod laws;
+
+pub use laws::numbers_are_listed;

@@ -8,8 +8,8 @@ use Rattle.std.proofs.lemmas.List.FromFn.{length-range_with_len, get_or-range_wi
 use Rattle.mesh_decl.specs.declared.owners.Owners.{Owners}
 use Rattle.mesh_decl.specs.Mesh.{MeshValue, set_count, set_size}
 use Rattle.mesh_decl.specs.Owners.{AreOwners, owner_of}
-use Rattle.rank_sets.specs.Below.{listed, row, rows}
-use Rattle.rank_sets.proofs.Below.{at_listed, length_listed}
+use Rattle.lemmas.specs.Below.{listed, row, rows}
+use Rattle.lemmas.proofs.Below.{at_listed, length_listed}
 use Rattle.local_mesh.specs.Halo.{owns, imports, imports_execute, imports_nonexecute, has_copy}
 use Rattle.local_mesh.specs.declared.halo_lists.types.SetHalo.{SetHalo}
 use Rattle.local_mesh.specs.Halos.{IsSetHalo}

@@ -3,8 +3,8 @@ use Rattle.std.proofs.Common.{◌≡◌, ◌+◌, ◌<◌, ℕ, List, Vec, get_o
 use Rattle.std.proofs.lemmas.Bool.{cases_eq}
 use Rattle.std.proofs.lemmas.List.{get_or_push, get_or_append_left}
 use Rattle.std.specs.declared.alloc.Global.{Global}
-use Rattle.rank_sets.specs.Below.{row, rows}
-use Rattle.rank_sets.proofs.Rows.{row_push, row_push_left, rows_at, rows_push, rows_push_left}
+use Rattle.lemmas.specs.Below.{row, rows}
+use Rattle.lemmas.proofs.Rows.{row_push, row_push_left, rows_at, rows_push, rows_push_left}
 
 -- what is so of each item is so with one more
 pub each_more : {X : Type 0} (xs : List X) (h : X) (n : ℕ) (P : ℕ → X → Type 0) → length xs ≡ n → P n h → ((s : ℕ) (d : X) → s < n → P s (get_or xs s d)) → (s : ℕ) (d : X) → s < n + 1 → P s (get_or (xs ++ h ∷ []) s d)

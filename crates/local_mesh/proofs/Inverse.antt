@@ -3,8 +3,8 @@ use Rattle.std.proofs.Common.{◌≡◌, ℕ, zero, suc, ◌+◌, ◌-◌, ◌<�
 use Rattle.std.proofs.lemmas.Bool.{cases_Bool, cases_lt, cases_eq, or_left, or_right, false_from_ne_true}
 use Rattle.std.proofs.lemmas.Nat.{mul-add-lt}
 use Rattle.std.proofs.lemmas.List.{length-append, append-nil, map-append, get_or-map, length-map, get_or_append_left, get_or-append-add}
-use Rattle.rank_sets.specs.Below.{listed}
-use Rattle.rank_sets.proofs.Below.{length_listed, listed_at, at_listed, count_lt}
+use Rattle.lemmas.specs.Below.{listed}
+use Rattle.lemmas.proofs.Below.{length_listed, listed_at, at_listed, count_lt}
 use Rattle.local_mesh.specs.Local.{ordered, earlier, local_number, AreApart, AreInverse}
 
 pub ordered_more : (n : ℕ) (order : ℕ → ℕ) (p : ℕ → Bool) → ordered (n + 1) order p ≡ ordered n order p ++ cond (p (order n)) (order n ∷ []) []

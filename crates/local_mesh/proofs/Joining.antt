@@ -7,8 +7,8 @@ use Rattle.mesh_decl.specs.declared.owners.Owners.{Owners}
 use Rattle.mesh_decl.specs.declared.owners.Perms.{Perms}
 use Rattle.mesh_decl.specs.Mesh.{MeshValue, set_size}
 use Rattle.mesh_decl.specs.Owners.{IsNumbering, perm_in}
-use Rattle.rank_sets.specs.Below.{listed, row}
-use Rattle.rank_sets.proofs.Below.{at_listed, length_listed}
+use Rattle.lemmas.specs.Below.{listed, row}
+use Rattle.lemmas.proofs.Below.{at_listed, length_listed}
 use Rattle.local_mesh.specs.declared.halo_lists.types.SetHalo.{SetHalo}
 use Rattle.local_mesh.specs.Halo.{owns, imports_execute, imports_nonexecute, has_copy}
 use Rattle.local_mesh.specs.Halos.{IsSetHalo}

@@ -1,6 +1,6 @@
 -- Elements that keep their numbers.
 use Rattle.std.proofs.Common.{◌≡◌, ℕ, zero, suc, Bool, List, refl, sym, ◌∙◌, arith, subst}
-use Rattle.rank_sets.specs.Below.{listed}
+use Rattle.lemmas.specs.Below.{listed}
 use Rattle.local_mesh.specs.Local.{ordered}
 use Rattle.local_mesh.specs.Lookup.{Rises}
 use Rattle.local_mesh.specs.Parts.{IsKept}

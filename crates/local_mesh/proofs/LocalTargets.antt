@@ -4,7 +4,7 @@ use Rattle.mesh_decl.specs.declared.owners.Owners.{Owners}
 use Rattle.mesh_decl.specs.declared.owners.Perms.{Perms}
 use Rattle.mesh_decl.specs.Mesh.{MeshValue, map_count, map_from, map_to, map_dim, target, IsInRange}
 use Rattle.mesh_decl.specs.Owners.{ArePerms}
-use Rattle.rank_sets.specs.Below.{row}
+use Rattle.lemmas.specs.Below.{row}
 use Rattle.local_mesh.specs.declared.types.RankMesh.{RankMesh}
 use Rattle.local_mesh.specs.LocalMesh.{IsRankMesh, originals_in, executed_in}
 use Rattle.local_mesh.proofs.Firsts.{distinct}

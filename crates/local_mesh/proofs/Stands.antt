@@ -3,8 +3,8 @@ use Rattle.std.proofs.Common.{◌≡◌, ℕ, ◌<◌, ◌≤◌, Bool, true, fa
 use Rattle.std.specs.List.{Contains}
 use Rattle.std.proofs.lemmas.Bool.{cases_lt, eq-eqb, eqb-true}
 use Rattle.std.proofs.lemmas.List.{get_or_default}
-use Rattle.rank_sets.specs.Below.{any_below, count_below, listed}
-use Rattle.rank_sets.proofs.Below.{any_witness, any_from, at_listed, listed_at, length_listed, count_lt}
+use Rattle.lemmas.specs.Below.{any_below, count_below, listed}
+use Rattle.lemmas.proofs.Below.{any_witness, any_from, at_listed, listed_at, length_listed, count_lt}
 use Rattle.local_mesh.specs.Standing.{stands}
 use Rattle.lemmas.proofs.Truth.{iff_eq}
 

@@ -1,7 +1,7 @@
 -- Import execute, import non-execute, exports and core, as conditions on owners and targets. (The halos of OP2: Mudalige and others, "OP2:
 -- An active library framework for solving unstructured mesh-based applications on multi-core and many-core architectures", 2012.)
 use Rattle.std.specs.Prelude.{ℕ, Bool, ◌&&◌, ◌||◌, not, nat_eq}
-use Rattle.rank_sets.specs.Below.{any_below}
+use Rattle.lemmas.specs.Below.{any_below}
 use Rattle.mesh_decl.specs.declared.owners.Owners.{Owners}
 use Rattle.mesh_decl.specs.Mesh.{MeshValue, map_count, set_size, map_from, map_to, map_dim, target}
 use Rattle.mesh_decl.specs.Owners.{owner_of}

@@ -1,7 +1,7 @@
 -- What the halos of a mesh hold.
 use Rattle.std.specs.Prelude.{◌≡◌, ℕ, false, ◌<◌, ◌&&◌, length, slice_index_or}
 use Rattle.mesh_decl.specs.declared.owners.Owners.{Owners}
-use Rattle.rank_sets.specs.Below.{listed, row, rows}
+use Rattle.lemmas.specs.Below.{listed, row, rows}
 use Rattle.mesh_decl.specs.Mesh.{MeshValue, set_count, set_size}
 use Rattle.local_mesh.specs.declared.halo_lists.types.SetHalo.{SetHalo}
 use Rattle.local_mesh.specs.declared.halo_lists.types.Halos.{Halos}

@@ -11,3 +11,4 @@ pub mod Halo
 pub mod Sets
 pub mod Halos
 pub mod HaloValues
+pub mod RankSet

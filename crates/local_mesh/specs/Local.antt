@@ -1,6 +1,6 @@
 -- Local numbers as counts of elements with a smaller new number.
 use Rattle.std.specs.Prelude.{◌≡◌, ℕ, zero, suc, ◌+◌, ◌<◌, Bool, true, false, ◌||◌, cond, List, [], ◌∷◌, ◌++◌, length, slice_index}
-use Rattle.rank_sets.specs.Below.{count_below}
+use Rattle.lemmas.specs.Below.{count_below}
 
 -- the elements among order 0, order 1, .. below n that pass, in this order
 abbrev pub ordered : ℕ → (ℕ → ℕ) → (ℕ → Bool) → List ℕ

@@ -1,12 +1,11 @@
 -- What the set of a rank is made from.
-use Rattle.std.specs.Prelude.{◌≡◌, ◌≢◌, ℕ, ◌^◌, ◌<◌, ◌≤◌, Bool, false, ◌&&◌, nat_lt, List, ◌++◌, Vec, length, slice_index, slice_index_or}
-use Rattle.std.specs.Prelude.{Contains, IfSome, IfNone}
+use Rattle.std.specs.Prelude.{◌≡◌, ◌≢◌, ℕ, ◌^◌, ◌<◌, ◌≤◌, Bool, false, ◌&&◌, nat_lt, List, ◌++◌, Vec, length, slice_index, slice_index_or, Contains, IfSome, IfNone}
 use Rattle.std.specs.declared.alloc.Global.{Global}
 use Rattle.mesh_decl.specs.declared.owners.Owners.{Owners}
 use Rattle.mesh_decl.specs.declared.owners.Perms.{Perms}
 use Rattle.mesh_decl.specs.Mesh.{MeshValue, set_size}
 use Rattle.mesh_decl.specs.Owners.{perm_in}
-use Rattle.rank_sets.specs.Below.{listed, row}
+use Rattle.lemmas.specs.Below.{listed, row}
 use Rattle.local_mesh.specs.Halo.{owns, imports_execute, imports_nonexecute, has_copy}
 use Rattle.local_mesh.specs.declared.halo_lists.types.SetHalo.{SetHalo}
 use Rattle.local_mesh.specs.declared.types.Groups.{Groups}

@@ -1,11 +1,11 @@
 -- A set of ranks for each element of each set of a mesh.
 use Rattle.std.specs.Prelude.{◌≡◌, ℕ, Bool, ◌<◌, List, [], Vec, map, length, slice_index_or}
 use Rattle.std.specs.declared.alloc.Global.{Global}
-use Rattle.rank_sets.specs.declared.rank_set.RankSet.{RankSet}
+use Rattle.local_mesh.specs.declared.rank_sets.rank_set.RankSet.{RankSet}
 use Rattle.mesh_decl.specs.Mesh.{MeshValue, set_count, set_size}
 use Rattle.mesh_decl.specs.declared.owners.Owners.{Owners}
 use Rattle.local_mesh.specs.Halo.{executes}
-use Rattle.rank_sets.specs.RankSet.{has_at}
+use Rattle.local_mesh.specs.RankSet.{has_at}
 
 -- the sets of ranks of one set's elements
 unfoldable pub sets_in : List (Vec RankSet Global) → ℕ → List RankSet

@@ -1,6 +1,6 @@
 -- Whether a number stands in a list.
 use Rattle.std.specs.Prelude.{ℕ, Bool, nat_eq, List, length, slice_index}
-use Rattle.rank_sets.specs.Below.{any_below}
+use Rattle.lemmas.specs.Below.{any_below}
 
 -- y is one of the numbers
 unfoldable pub stands : List ℕ → ℕ → Bool

@@ -2,14 +2,14 @@
 ghost use Rattle.std.specs.Prelude.{◌≡◌, ℕ, Bool, true, ◌<◌, ◌≤◌, ◌+◌, ◌^◌, ◌||◌, ◌&&◌, nat_eq, [], IfOk, OnOk, Some, Vec, length};
 ghost use Rattle.std.specs.Prelude.{slice_index};
 ghost use Rattle.std.specs.declared.alloc.Global.{Global as TheGlobal};
-ghost use Rattle.rank_sets.specs.Below.{listed, row};
-ghost use Rattle.rank_sets.specs.RankSet.{has, has_at};
+ghost use Rattle.lemmas.specs.Below.{listed, row};
+ghost use Rattle.local_mesh.specs.RankSet.{has, has_at};
 ghost use Rattle.local_mesh.specs.Local.{ordered};
 ghost use Rattle.local_mesh.specs.Standing.{stands};
 
 use crate::types::Groups;
 use op_num::OutOfMemory;
-use rank_sets::{RankSet, push_each};
+use crate::rank_sets::{RankSet, push_each};
 use std::alloc::Global;
 
 /// How many elements each rank owns.

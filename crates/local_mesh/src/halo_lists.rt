@@ -28,7 +28,7 @@ use masks::executing_all;
 use mesh_decl::{Mesh, Owners};
 use named::naming_all;
 use op_num::OutOfMemory;
-use rank_sets::RankSet;
+use crate::rank_sets::RankSet;
 use split::set_halo;
 use std::alloc::Global;
 pub use types::{Halos, SetHalo};

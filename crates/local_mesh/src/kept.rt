@@ -1,6 +1,6 @@
 // The groups of a set whose elements keep their numbers.
 ghost use Rattle.std.specs.Prelude.{◌≡◌, ℕ, ◌<◌, ◌≤◌, ◌↔◌, IsTrue, None, nat_eq, IfOk, length, slice_index};
-ghost use Rattle.rank_sets.specs.Below.{row};
+ghost use Rattle.lemmas.specs.Below.{row};
 ghost use Rattle.local_mesh.specs.Local.{ordered};
 ghost use Rattle.local_mesh.specs.Parts.{IsKept};
 

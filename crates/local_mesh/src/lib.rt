@@ -7,7 +7,7 @@
 #![tactic(auto)]
 
 ghost use Rattle.std.specs.Prelude.{◌≡◌, ℕ, ◌<◌, ◌≤◌, ◌^◌, IfOk, length, slice_index_or};
-ghost use Rattle.rank_sets.specs.Below.{row};
+ghost use Rattle.lemmas.specs.Below.{row};
 ghost use Rattle.mesh_decl.specs.Mesh.{set_count, map_count, set_size};
 ghost use Rattle.mesh_decl.specs.Owners.{AreOwners, ArePerms};
 ghost use Rattle.local_mesh.specs.Halos.{IsSetHalo, AreHalos};
@@ -25,6 +25,7 @@ mod lookup;
 mod number_laws;
 mod numbers;
 mod originals;
+pub mod rank_sets;
 mod targets;
 mod types;
 mod whole;

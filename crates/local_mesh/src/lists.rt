@@ -1,7 +1,7 @@
 // Local numbers of elements on their owners, and of what ranks export and import.
 ghost use Rattle.std.specs.Prelude.{◌≡◌, ℕ, ◌<◌, ◌≤◌, IsTrue, IfOk, length, take, slice_index, slice_index_or};
 ghost use Rattle.std.specs.List.{range_with_len};
-ghost use Rattle.rank_sets.specs.Below.{row, rows};
+ghost use Rattle.lemmas.specs.Below.{row, rows};
 ghost use Rattle.mesh_decl.specs.Mesh.{set_count, set_size};
 ghost use Rattle.mesh_decl.specs.Owners.{AreOwners, ArePerms};
 ghost use Rattle.mesh_decl.specs.declared.owners.Perms.{Perms as ThePerms};

@@ -2,7 +2,7 @@
 ghost use Rattle.std.specs.Prelude.{◌≡◌, ℕ, Bool, false, ◌<◌, ◌≤◌, ◌+◌, ◌^◌, ◌&&◌, ◌++◌, nat_lt, IfOk, length, slice_index};
 ghost use Rattle.std.specs.Prelude.{slice_index_or, IfSome, IfNone, Some, None, Vec};
 ghost use Rattle.std.specs.declared.alloc.Global.{Global as TheGlobal};
-ghost use Rattle.rank_sets.specs.Below.{row};
+ghost use Rattle.lemmas.specs.Below.{row};
 ghost use Rattle.local_mesh.specs.declared.halo_lists.types.SetHalo.{SetHalo};
 ghost use Rattle.local_mesh.specs.declared.types.Groups.{Groups};
 ghost use Rattle.local_mesh.specs.declared.types.LocalSet.{LocalSet};

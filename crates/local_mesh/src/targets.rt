@@ -1,6 +1,6 @@
 // Local targets.
 ghost use Rattle.std.specs.Prelude.{◌≡◌, ℕ, ◌<◌, ◌≤◌, ◌+◌, ◌*◌, IfOk, OnOk, length, slice_index};
-ghost use Rattle.rank_sets.specs.Below.{row};
+ghost use Rattle.lemmas.specs.Below.{row};
 ghost use Rattle.mesh_decl.specs.Mesh.{set_count, map_count, set_size, map_from, map_to, map_dim, target, IsMapAt};
 ghost use Rattle.local_mesh.specs.LocalMesh.{AreClosed, AreLocalTargets};
 

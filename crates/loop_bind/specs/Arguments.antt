@@ -1,6 +1,5 @@
 -- The loops of a program: their kernels, sets and arguments (`op_par_loop`, `op_arg_dat` and `op_arg_gbl` of the OP2 C API).
-use Rattle.std.specs.Prelude.{ℕ, ℤ, Bool, true, false, not, ◌&&◌, ◌||◌, List, [], ◌∷◌, ◌++◌, length, map, slice_index_or, Option, Some}
-use Rattle.std.specs.Prelude.{None, is_some, is_none, nat_eq, nat_lt, bytes_eq, if◌then◌else◌}
+use Rattle.std.specs.Prelude.{ℕ, ℤ, Bool, true, false, not, ◌&&◌, ◌||◌, List, [], ◌∷◌, ◌++◌, length, map, slice_index_or, Option, Some, None, is_some, is_none, nat_eq, nat_lt, bytes_eq, if◌then◌else◌}
 use Rattle.std.specs.Map.{lookup}
 use Rattle.std.specs.List.{list_any}
 use Rattle.c_lex.specs.declared.tokens.Pos.{Pos}

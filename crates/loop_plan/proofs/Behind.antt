@@ -2,7 +2,7 @@
 use Rattle.std.proofs.Common.{◌≡◌, ◌<◌, ◌+◌, ℕ, zero, suc, Bool, false, cond, refl, sym, ap, ◌∙◌, arith, List, [], ◌∷◌, ◌++◌, length, get_or, map}
 use Rattle.std.specs.Prelude.{◌&&◌, ◌||◌, not, slice_index_or}
 use Rattle.std.proofs.lemmas.List.{get_or-map, length-map}
-use Rattle.rank_sets.specs.Below.{listed}
+use Rattle.lemmas.specs.Below.{listed}
 use Rattle.schedule_model.specs.History.{stale_bit}
 use Rattle.bound_program.specs.declared.acts.Item.{Item}
 use Rattle.bound_program.specs.declared.sites.Arg.{Arg}

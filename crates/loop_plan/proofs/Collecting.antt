@@ -4,11 +4,11 @@ use Rattle.std.specs.Prelude.{nat_lt}
 use Rattle.std.specs.declared.alloc.Global.{Global}
 use Rattle.std.proofs.lemmas.Bool.{cases_eq, cases_lt, eq-eqb, ne_eqb}
 use Rattle.std.proofs.lemmas.List.{get_or_past, length-map, append-nil}
-use Rattle.rank_sets.specs.Below.{listed, row}
-use Rattle.rank_sets.specs.RankSet.{has, has_at}
-use Rattle.rank_sets.specs.declared.rank_set.RankSet.{RankSet}
-use Rattle.rank_sets.proofs.Below.{listed_agree}
-use Rattle.rank_sets.proofs.Rows.{has_at_push, has_at_push_left}
+use Rattle.lemmas.specs.Below.{listed, row}
+use Rattle.local_mesh.specs.RankSet.{has, has_at}
+use Rattle.local_mesh.specs.declared.rank_sets.rank_set.RankSet.{RankSet}
+use Rattle.lemmas.proofs.Below.{listed_agree}
+use Rattle.local_mesh.proofs.rank_sets.Rows.{has_at_push, has_at_push_left}
 use Rattle.loop_plan.specs.Pairs.{pair, pairs_below}
 use Rattle.loop_plan.specs.declared.types.Pair.{Pair}
 use Rattle.std.proofs.Math.Bool.{and-false, and-true}

@@ -4,8 +4,8 @@ use Rattle.std.specs.Prelude.{◌&&◌, nat_eq}
 use Rattle.std.specs.List.{list_any}
 use Rattle.std.proofs.lemmas.Bool.{cases_Bool, cases_lt, false≢true, or_cases, and_parts, eqb-true}
 use Rattle.std.proofs.lemmas.List.{get_or_past}
-use Rattle.rank_sets.specs.Below.{listed}
-use Rattle.rank_sets.proofs.Below.{listed_agree}
+use Rattle.lemmas.specs.Below.{listed}
+use Rattle.lemmas.proofs.Below.{listed_agree}
 use Rattle.mesh_decl.specs.Mesh.{dat_count}
 use Rattle.schedule_model.proofs.History.{from_bit}
 use Rattle.bound_program.specs.declared.sites.Arg.{Arg}

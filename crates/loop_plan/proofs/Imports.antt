@@ -5,7 +5,7 @@ use Rattle.std.specs.List.{list_any}
 use Rattle.std.proofs.lemmas.Bool.{cases_Bool, cases_lt, false≢true, or_cases, or_right, or_left, eqb-true, eq-eqb}
 use Rattle.std.proofs.lemmas.List.{get_or-take, get_or-drop, length-take-le, length-drop}
 use Rattle.std.proofs.lemmas.List.Folds.{list_any_at}
-use Rattle.rank_sets.proofs.Below.{count_lt}
+use Rattle.lemmas.proofs.Below.{count_lt}
 use Rattle.mesh_decl.specs.Owners.{IsNumbering}
 use Rattle.local_mesh.specs.Local.{earlier, local_number, AreInverse}
 use Rattle.local_mesh.proofs.Numbered.{number_below, number_copied, number_contains}

@@ -4,7 +4,7 @@ use Rattle.std.specs.Prelude.{◌&&◌, ◌||◌, not, nat_eq}
 use Rattle.std.specs.List.{list_any}
 use Rattle.std.proofs.lemmas.Bool.{cases_eq, ne_eqb, eq-eqb}
 use Rattle.std.proofs.lemmas.List.Folds.{list_any-append}
-use Rattle.rank_sets.specs.Below.{listed}
+use Rattle.lemmas.specs.Below.{listed}
 use Rattle.std.proofs.Math.Bool.{and-false, and-true, or-false}
 
 one_listed : (d n : ℕ) (b : Bool) → list_any (nat_eq d) (cond b (n ∷ []) []) ≡ (b && nat_eq d n)

@@ -4,8 +4,8 @@ use Rattle.std.specs.Map.{lookup}
 use Rattle.std.proofs.lemmas.Bool.{cases_lt}
 use Rattle.std.proofs.lemmas.List.{ext_get_or, get_or-map, get_or_past, length-map}
 use Rattle.std.proofs.Math.Path.{fun_ext}
-use Rattle.rank_sets.specs.Below.{listed, count_below}
-use Rattle.rank_sets.proofs.Below.{listed_agree, length_listed, at_listed}
+use Rattle.lemmas.specs.Below.{listed, count_below}
+use Rattle.lemmas.proofs.Below.{listed_agree, length_listed, at_listed}
 use Rattle.mesh_decl.specs.Mesh.{set_count, dat_count}
 use Rattle.mesh_decl.proofs.FieldReads.{some_in}
 use Rattle.local_mesh.specs.declared.types.RankMesh.{RankMesh}

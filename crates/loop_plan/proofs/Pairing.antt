@@ -4,8 +4,8 @@ use Rattle.std.specs.Prelude.{◌&&◌}
 use Rattle.std.specs.declared.alloc.Global.{Global}
 use Rattle.std.proofs.lemmas.Bool.{and_parts, and_from, ltb-true, lt-ltb}
 use Rattle.std.proofs.lemmas.List.{get_or-map}
-use Rattle.rank_sets.specs.Below.{listed, row, rows}
-use Rattle.rank_sets.proofs.Below.{length_listed, count_lt, at_listed}
+use Rattle.lemmas.specs.Below.{listed, row, rows}
+use Rattle.lemmas.proofs.Below.{length_listed, count_lt, at_listed}
 use Rattle.mesh_decl.specs.declared.owners.Owners.{Owners}
 use Rattle.mesh_decl.specs.declared.owners.Perms.{Perms}
 use Rattle.mesh_decl.specs.Owners.{AreOwners, ArePerms}

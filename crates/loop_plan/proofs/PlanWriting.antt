@@ -8,8 +8,8 @@ use Rattle.std.proofs.lemmas.Bool.{eq-eqb, ne_eqb}
 use Rattle.std.proofs.lemmas.Grind.{flat_map-append}
 use Rattle.std.proofs.lemmas.List.{get_or-map, length-map, take_all, take_more}
 use Rattle.std.proofs.lemmas.Option.{get_or_from_slice_get}
-use Rattle.rank_sets.specs.Below.{count_below, listed}
-use Rattle.rank_sets.proofs.Below.{length_listed, at_listed}
+use Rattle.lemmas.specs.Below.{count_below, listed}
+use Rattle.lemmas.proofs.Below.{length_listed, at_listed}
 use Rattle.texts.specs.Lines.{line_of, text_of_lines}
 use Rattle.mesh_decl.specs.Mesh.{MeshValue, set_count, dat_count}
 use Rattle.local_mesh.specs.declared.types.RankMesh.{RankMesh}

@@ -1,8 +1,8 @@
 -- Plans are proper.
 use Rattle.std.proofs.Common.{◌≡◌, ◌<◌, ◌+◌, ◌*◌, ◌^◌, ℕ, zero, suc, Bool, cond, refl, sym, ap, ◌∙◌, arith, List, [], ◌∷◌, ◌++◌, length, map}
 use Rattle.std.specs.Prelude.{◌||◌, slice_index}
-use Rattle.rank_sets.specs.Below.{listed}
-use Rattle.rank_sets.proofs.Below.{listed_agree}
+use Rattle.lemmas.specs.Below.{listed}
+use Rattle.lemmas.proofs.Below.{listed_agree}
 use Rattle.mesh_decl.specs.Mesh.{MeshValue, IsDatAt, set_size, dat_count, dat_set}
 use Rattle.local_mesh.specs.declared.halo_lists.types.Halos.{Halos}
 use Rattle.local_mesh.specs.declared.types.RankMesh.{RankMesh}

@@ -3,8 +3,8 @@ use Rattle.std.proofs.Common.{◌≡◌, ◌<◌, ◌+◌, ◌∙◌, ℕ, Bool,
 use Rattle.std.specs.Prelude.{◌&&◌, slice_index_or}
 use Rattle.std.proofs.lemmas.Bool.{cases_eq}
 use Rattle.std.proofs.lemmas.List.{get_or_push, get_or_append_left, map-append, length-map}
-use Rattle.rank_sets.specs.Below.{listed}
-use Rattle.rank_sets.proofs.Below.{listed_agree}
+use Rattle.lemmas.specs.Below.{listed}
+use Rattle.lemmas.proofs.Below.{listed_agree}
 use Rattle.mesh_decl.specs.Mesh.{dat_count}
 use Rattle.local_mesh.specs.declared.halo_lists.types.Halos.{Halos}
 use Rattle.bound_program.specs.Values.{BoundValue}

@@ -5,8 +5,7 @@ use Rattle.std.proofs.lemmas.List.Elements.{All-get_or, All-head, All-tail}
 use Rattle.mesh_decl.specs.Mesh.{dat_count}
 use Rattle.bound_program.specs.declared.sites.Arg.{Arg}
 use Rattle.bound_program.specs.declared.sites.Arg.TheVariants.{Dat, Global}
-use Rattle.bound_program.specs.Values.{Exit, ItemValue, Free, Reduce, Ordered, Host, BoundValue}
-use Rattle.bound_program.specs.Values.{no_site}
+use Rattle.bound_program.specs.Values.{Exit, ItemValue, Free, Reduce, Ordered, Host, BoundValue, no_site}
 use Rattle.bound_program.specs.Fits.{site_at, due, ArgFits, SiteFits, ItemsFit, Fits}
 use Rattle.loop_plan.specs.Needs.{item_at, run_of, AreOfDats, IsLoopOf, IsInRange}
 

@@ -1,7 +1,7 @@
 -- Exports of ranks that aren't there.
 use Rattle.std.proofs.Common.{◌≡◌, ℕ, suc, ◌<◌, ◌≤◌, false, List, [], ◌∷◌, length, refl, ap, ◌∙◌, arith}
 use Rattle.std.specs.Prelude.{◌||◌, nat_lt}
-use Rattle.rank_sets.specs.Below.{rows}
+use Rattle.lemmas.specs.Below.{rows}
 use Rattle.mesh_decl.specs.Mesh.{MeshValue, IsDatAt, dat_count, dat_set}
 use Rattle.local_mesh.specs.declared.halo_lists.types.Halos.{Halos}
 use Rattle.loop_plan.specs.Exports.{exports_in, is_some_exported, passes_by_exports, HaveExports, AreDats}

@@ -7,8 +7,8 @@ use Rattle.std.specs.List.{list_any}
 use Rattle.std.proofs.lemmas.Bool.{cases_eq, cases_Bool, eq-eqb, ne_eqb, false≢true, true≢false}
 use Rattle.std.proofs.lemmas.List.{get_or_push, get_or_append_left, append-nil, map-append}
 use Rattle.std.proofs.lemmas.List.Elements.{All-get_or}
-use Rattle.rank_sets.specs.Below.{listed}
-use Rattle.rank_sets.proofs.Below.{listed_more}
+use Rattle.lemmas.specs.Below.{listed}
+use Rattle.lemmas.proofs.Below.{listed_more}
 use Rattle.mesh_decl.specs.Mesh.{MeshValue, set_count}
 use Rattle.local_mesh.specs.declared.types.LocalSet.{LocalSet}
 use Rattle.local_mesh.specs.declared.types.RankMesh.{RankMesh}

@@ -2,8 +2,8 @@
 use Rattle.std.specs.Prelude.{◌≡◌, ℕ, ◌<◌, ◌≤◌, Bool, nat_lt, List, [], Vec, map, length, slice_index, slice_index_or}
 use Rattle.std.specs.declared.alloc.Global.{Global}
 use Rattle.std.specs.List.{list_any}
-use Rattle.rank_sets.specs.declared.rank_set.RankSet.{RankSet}
-use Rattle.rank_sets.specs.Below.{row, rows}
+use Rattle.local_mesh.specs.declared.rank_sets.rank_set.RankSet.{RankSet}
+use Rattle.lemmas.specs.Below.{row, rows}
 use Rattle.mesh_decl.specs.Mesh.{MeshValue, set_count, dat_count, dat_set}
 use Rattle.local_mesh.specs.declared.halo_lists.types.SetHalo.{SetHalo}
 use Rattle.local_mesh.specs.declared.halo_lists.types.Halos.{Halos}

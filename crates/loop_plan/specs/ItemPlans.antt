@@ -1,6 +1,6 @@
 -- What the plan of an item holds.
 use Rattle.std.specs.Prelude.{◌≡◌, ℕ, ◌<◌, List, map, length, slice_index_or}
-use Rattle.rank_sets.specs.Below.{listed}
+use Rattle.lemmas.specs.Below.{listed}
 use Rattle.mesh_decl.specs.Mesh.{dat_count}
 use Rattle.local_mesh.specs.declared.halo_lists.types.Halos.{Halos}
 use Rattle.local_mesh.specs.declared.types.RankMesh.{RankMesh}

@@ -1,7 +1,7 @@
 -- Which dats the items of a bound program modify and need, and which they exchange.
 use Rattle.std.specs.Prelude.{◌≡◌, ℕ, ◌<◌, Bool, true, false, ◌&&◌, nat_eq, List, [], ◌∷◌, Option, Some, None, length, slice_index_or}
 use Rattle.std.specs.List.{list_any}
-use Rattle.rank_sets.specs.Below.{listed}
+use Rattle.lemmas.specs.Below.{listed}
 use Rattle.op_num.specs.declared.reductions.access.Access.{Access}
 use Rattle.op_num.specs.declared.reductions.access.Access.TheVariants.{Read, Rw}
 use Rattle.mesh_decl.specs.declared.access.Via.{Via}

@@ -1,7 +1,7 @@
 -- Which rank imports from which, and the messages of an item.
 use Rattle.std.specs.Prelude.{ℕ, zero, suc, Bool, nat_eq, List, [], ◌++◌, map, take, drop}
 use Rattle.std.specs.List.{list_any}
-use Rattle.rank_sets.specs.Below.{listed}
+use Rattle.lemmas.specs.Below.{listed}
 use Rattle.mesh_decl.specs.Mesh.{MeshValue, dat_set}
 use Rattle.local_mesh.specs.declared.types.LocalSet.{LocalSet}
 use Rattle.local_mesh.specs.declared.types.RankMesh.{RankMesh}

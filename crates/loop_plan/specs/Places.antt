@@ -1,6 +1,5 @@
 -- Which places the ranks execute of a loop, and which of its arguments ask for colours.
-use Rattle.std.specs.Prelude.{◌≡◌, ℕ, ◌^◌, ◌<◌, ◌≤◌, Bool, false, cond, nat_eq, if◌then◌else◌}
-use Rattle.std.specs.Prelude.{List, [], ◌∷◌, Vec, map, length, slice_index_or}
+use Rattle.std.specs.Prelude.{◌≡◌, ℕ, ◌^◌, ◌<◌, ◌≤◌, Bool, false, cond, nat_eq, if◌then◌else◌, List, [], ◌∷◌, Vec, map, length, slice_index_or}
 use Rattle.std.specs.declared.alloc.Global.{Global}
 use Rattle.std.specs.List.{list_any}
 use Rattle.mesh_decl.specs.Mesh.{MeshValue, set_count}

@@ -1,7 +1,7 @@
 -- What a plan keeps, whoever chose its colours.
 use Rattle.std.specs.Prelude.{◌≡◌, ◌≢◌, ℕ, ◌*◌, ◌<◌, ◌↔◌, true, List, Vec, length, map, slice_index, slice_index_or}
 use Rattle.std.specs.declared.alloc.Global.{Global}
-use Rattle.rank_sets.specs.Below.{listed}
+use Rattle.lemmas.specs.Below.{listed}
 use Rattle.mesh_decl.specs.Mesh.{MeshValue}
 use Rattle.local_mesh.specs.declared.types.RankMesh.{RankMesh}
 use Rattle.colouring.specs.declared.types.IncArg.{IncArg}

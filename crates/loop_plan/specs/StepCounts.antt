@@ -1,6 +1,6 @@
 -- How many steps a program has on these ranks.
 use Rattle.std.specs.Prelude.{◌≡◌, ℕ, ◌+◌, ◌*◌, ◌<◌, cond, List, length, slice_index}
-use Rattle.rank_sets.specs.Below.{listed}
+use Rattle.lemmas.specs.Below.{listed}
 use Rattle.mesh_decl.specs.Mesh.{dat_count}
 use Rattle.local_mesh.specs.declared.types.RankMesh.{RankMesh}
 use Rattle.bound_program.specs.Values.{BoundValue}

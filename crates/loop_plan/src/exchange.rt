@@ -2,7 +2,7 @@
 ghost use Rattle.std.specs.Prelude.{◌≡◌, ◌<◌, ◌&&◌, ◌||◌, ℕ, false, not, nat_eq, cond, [], ◌∷◌, ◌++◌, IfOk, OnOk};
 ghost use Rattle.std.specs.Prelude.{length, slice_index, slice_index_or};
 ghost use Rattle.std.specs.List.{list_any};
-ghost use Rattle.rank_sets.specs.Below.{listed};
+ghost use Rattle.lemmas.specs.Below.{listed};
 ghost use Rattle.mesh_decl.specs.Mesh.{dat_count};
 ghost use Rattle.bound_program.specs.Values.{bound_of, item_of};
 ghost use Rattle.bound_program.specs.Fits.{site_at};

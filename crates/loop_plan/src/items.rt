@@ -1,6 +1,6 @@
 // The plans of items.
 ghost use Rattle.std.specs.Prelude.{◌≡◌, ◌<◌, ◌&&◌, ◌||◌, ℕ, false, not, IfOk, OnOk, length, slice_index_or};
-ghost use Rattle.rank_sets.specs.Below.{listed};
+ghost use Rattle.lemmas.specs.Below.{listed};
 ghost use Rattle.mesh_decl.specs.Mesh.{dat_count};
 ghost use Rattle.bound_program.specs.Values.{bound_of};
 ghost use Rattle.loop_plan.specs.Pairs.{pairs_below};
@@ -15,7 +15,7 @@ use crate::types::ItemPlan;
 use bound_program::Bound;
 use local_mesh::halo_lists::Halos;
 use op_num::OutOfMemory;
-use rank_sets::RankSet;
+use local_mesh::rank_sets::RankSet;
 use std::alloc::Global;
 
 // The plan of an item; behind it the bits are those behind the item.

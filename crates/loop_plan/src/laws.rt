@@ -1,7 +1,7 @@
 // What the definitions of plans give. Each function has an empty body, and its contract is the law.
 ghost use Rattle.std.specs.Prelude.{◌≡◌, ◌<◌, ◌↔◌, ℕ, true, List, [], ◌∷◌, ◌++◌, length};
 ghost use Rattle.texts.specs.Lines.{line_of};
-ghost use Rattle.rank_sets.specs.Below.{listed};
+ghost use Rattle.lemmas.specs.Below.{listed};
 ghost use Rattle.mesh_decl.specs.declared.owners.Owners.{Owners};
 ghost use Rattle.mesh_decl.specs.declared.owners.Perms.{Perms};
 ghost use Rattle.mesh_decl.specs.Owners.{AreOwners, ArePerms};

@@ -1,7 +1,7 @@
 // Messages of an item.
 ghost use Rattle.std.specs.Prelude.{◌≡◌, ◌<◌, ◌≤◌, ◌&&◌, ◌||◌, ◌++◌, ℕ, nat_eq, nat_lt, map, IfOk, OnOk, length};
-ghost use Rattle.rank_sets.specs.Below.{listed, row, rows};
-ghost use Rattle.rank_sets.specs.RankSet.{has, has_at};
+ghost use Rattle.lemmas.specs.Below.{listed, row, rows};
+ghost use Rattle.local_mesh.specs.RankSet.{has, has_at};
 ghost use Rattle.mesh_decl.specs.Mesh.{set_count};
 ghost use Rattle.local_mesh.specs.Sets.{sets_in, has_in};
 ghost use Rattle.loop_plan.specs.Pairs.{pair, pairs_below};
@@ -11,7 +11,7 @@ use crate::types::Pair;
 use bound_program::Mesh;
 use local_mesh::halo_lists::Halos;
 use op_num::OutOfMemory;
-use rank_sets::RankSet;
+use local_mesh::rank_sets::RankSet;
 use std::alloc::Global;
 
 // The set, with the rank where that is wanted.

@@ -7,8 +7,7 @@ use Rattle.c_tree.specs.Tree.{ExprTree}
 use Rattle.kernel_types.specs.declared.expressions.ElementForm.{ElementForm}
 use Rattle.kernel_types.specs.declared.expressions.ElementForm.TheVariants.{Index, Deref}
 use Rattle.kernel_types.specs.View.{RExprTree, Number, Scalar, Constant, Local, Unary, Binary, Choice, Paren, Extremum, Absolute}
-use Rattle.bound_program.specs.HostExpr.{value}
-use Rattle.bound_program.specs.HostExpr.{is_static}
+use Rattle.bound_program.specs.HostExpr.{value, is_static}
 use Rattle.main_declarations.specs.declared.names.scopes.Cells.{Cells}
 use Rattle.main_declarations.specs.declared.names.scopes.Meaning.{Meaning}
 use Rattle.main_declarations.specs.declared.names.scopes.Meaning.TheVariants.{Extern, Variable, Fixed, FixedLater, Turning}

@@ -17,8 +17,7 @@ use Rattle.bound_program.specs.Limits.{max_maps}
 use Rattle.main_declarations.specs.Names.{means}
 use Rattle.main_declarations.specs.Meanings.{array_of, count_of, or_none, or_zero, set_of}
 use Rattle.main_declarations.specs.SoFar.{Declared}
-use Rattle.main_declarations.specs.Declarations.{awaited, first_stray, place_found, set_found, dim_found, data_found, target_found}
-use Rattle.main_declarations.specs.Declarations.{stray_found, cells_found}
+use Rattle.main_declarations.specs.Declarations.{awaited, first_stray, place_found, set_found, dim_found, data_found, target_found, stray_found, cells_found}
 
 module _ (places : List Pos) where
   -- the refusal of the map of that number, whose values have this name

@@ -1,7 +1,6 @@
 -- Declarations of variables, of the file and of `main` (ISO C 6.7), and the constants that kernels read (`op_decl_const` of the
 -- OP2 C API).
-use Rattle.std.specs.Prelude.{ℕ, zero, suc, ℤ, pos, Bool, true, false, not, List, [], ◌∷◌, ◌++◌, length, replicate, Option, Some, None, Ok}
-use Rattle.std.specs.Prelude.{is_some, nat_eq, if◌then◌else◌}
+use Rattle.std.specs.Prelude.{ℕ, zero, suc, ℤ, pos, Bool, true, false, not, List, [], ◌∷◌, ◌++◌, length, replicate, Option, Some, None, Ok, is_some, nat_eq, if◌then◌else◌}
 use Rattle.c_lex.specs.declared.tokens.Pos.{Pos}
 use Rattle.c_tree.specs.declared.declarations.AssignOp.TheVariants as assign
 use Rattle.c_tree.specs.declared.expressions.Ident.{Ident}
@@ -21,9 +20,7 @@ use Rattle.bound_program.specs.Steps.{Do, Fix}
 use Rattle.bound_program.specs.Refusals.{place, Judged, ◌>>=◌, unless_found, found_if}
 use Rattle.main_declarations.specs.Expressions.{resolved, judged_static, judged_value}
 use Rattle.bound_program.specs.declared.refusals.founds.Found.{Found}
-use Rattle.main_declarations.specs.SoFar.{Declared, Walked, does, behind, next_cells, with_var, with_name, with_file_name, changing}
-use Rattle.main_declarations.specs.SoFar.{unchanging}
-use Rattle.main_declarations.specs.SoFar.{first_cell}
+use Rattle.main_declarations.specs.SoFar.{Declared, Walked, does, behind, next_cells, with_var, with_name, with_file_name, changing, unchanging, first_cell}
 use Rattle.main_declarations.specs.Meanings.{count_of}
 use Rattle.main_declarations.specs.Declarations.{place_found, type_found}
 

@@ -1,7 +1,5 @@
 -- Meshes as lists of what was declared.
-use Rattle.std.specs.Prelude.{◌≡◌, ℕ, zero, suc, ℤ, pos, negsuc, ◌+◌, ◌*◌, ◌^◌, ◌<◌, Bool, true, false, nat_lt, List, [], ◌∷◌, ◌++◌, length}
-use Rattle.std.specs.Prelude.{map, All}
-use Rattle.std.specs.Prelude.{slice_index, slice_index_or, unsigned_abs}
+use Rattle.std.specs.Prelude.{◌≡◌, ℕ, zero, suc, ℤ, pos, negsuc, ◌+◌, ◌*◌, ◌^◌, ◌<◌, Bool, true, false, nat_lt, List, [], ◌∷◌, ◌++◌, length, map, All, slice_index, slice_index_or, unsigned_abs}
 use Rattle.mesh_decl.specs.declared.decl.SetDecl.{SetDecl}
 use Rattle.mesh_decl.specs.declared.decl.MapDecl.{MapDecl}
 use Rattle.mesh_decl.specs.declared.decl.DatDecl.{DatDecl}

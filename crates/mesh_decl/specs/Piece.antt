@@ -1,6 +1,5 @@
 -- What a token says where values are awaited.
-use Rattle.std.specs.Prelude.{◌≡◌, ℕ, ℤ, ◌^◌, ◌<◌, Bool, not, ◌⊎◌, nat_eq, nat_lt, List, ◌∷◌, ◌++◌, length, take, drop, Some, Result, Ok}
-use Rattle.std.specs.Prelude.{Err, if◌then◌else◌}
+use Rattle.std.specs.Prelude.{◌≡◌, ℕ, ℤ, ◌^◌, ◌<◌, Bool, not, ◌⊎◌, nat_eq, nat_lt, List, ◌∷◌, ◌++◌, length, take, drop, Some, Result, Ok, Err, if◌then◌else◌}
 use lib.ListN.{replicate}
 use Rattle.std.specs.List.{prefix_len}
 use Rattle.op_num.specs.Spelling.{number_of, integer_of, u64_judged, i32_judged}

@@ -1,6 +1,5 @@
 -- Reading a mesh text: what is awaited, what a token does there, and the first token that may not stand where it does.
-use Rattle.std.specs.Prelude.{◌≡◌, ℕ, ℤ, ◌+◌, ◌-◌, ◌^◌, ◌<◌, ◌≤◌, nat_eq, nat_lt, nat_le, List, [], ◌∷◌, ◌++◌, length, map, Option, Some}
-use Rattle.std.specs.Prelude.{None, Result, Ok, Err, codes, if◌then◌else◌}
+use Rattle.std.specs.Prelude.{◌≡◌, ℕ, ℤ, ◌+◌, ◌-◌, ◌^◌, ◌<◌, ◌≤◌, nat_eq, nat_lt, nat_le, List, [], ◌∷◌, ◌++◌, length, map, Option, Some, None, Result, Ok, Err, codes, if◌then◌else◌}
 use lib.ListN.{replicate}
 use Rattle.op_num.specs.Spelling.{number_of, integer_of, i32_judged}
 use Rattle.op_num.specs.declared.refusals.NumRefusal.{NumRefusal}

@@ -1,6 +1,5 @@
 -- The picture of a plane mesh's cells, as a tree of elements. (SVG 1.1, W3C, second edition.)
-use Rattle.std.specs.Prelude.{◌≡◌, ◌<◌, ℕ, ℤ, ◌+◌, ◌*◌, max, List, [], ◌∷◌, ◌++◌, map, length, slice_index, codes, nat_le}
-use Rattle.std.specs.Prelude.{if◌then◌else◌}
+use Rattle.std.specs.Prelude.{◌≡◌, ◌<◌, ℕ, ℤ, ◌+◌, ◌*◌, max, List, [], ◌∷◌, ◌++◌, map, length, slice_index, codes, nat_le, if◌then◌else◌}
 use Rattle.std.specs.List.{range_with_len, join_with_byte}
 use Rattle.std.specs.Fmt.{decimal}
 use Rattle.mesh_decl.specs.Mesh.{MeshValue, map_count, dat_count, set_size, map_from, map_to, map_dim, target, dat_set, dat_dim, dat_values}

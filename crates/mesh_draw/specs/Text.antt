@@ -1,10 +1,8 @@
 -- The text of a mesh's cells for VTK. (The VTK User's Guide, "VTK File Formats": the legacy form, ASCII, an unstructured grid.)
-use Rattle.std.specs.Prelude.{◌≡◌, ℕ, ℤ, pos, ◌+◌, ◌*◌, ◌<◌, List, [], ◌∷◌, ◌++◌, map, length, sum_by, slice_index_or, codes, nat_eq}
-use Rattle.std.specs.Prelude.{Some, if◌then◌else◌}
+use Rattle.std.specs.Prelude.{◌≡◌, ℕ, ℤ, pos, ◌+◌, ◌*◌, ◌<◌, List, [], ◌∷◌, ◌++◌, map, length, sum_by, slice_index_or, codes, nat_eq, Some, if◌then◌else◌}
 use Rattle.std.specs.List.{range_with_len, concat, flat_map}
 use Rattle.std.specs.Fmt.{decimal, signed_decimal}
-use Rattle.mesh_decl.specs.Mesh.{MeshValue, map_count, dat_count, set_size, map_from, map_to, map_dim, target}
-use Rattle.mesh_decl.specs.Mesh.{dat_set, dat_dim, dat_values}
+use Rattle.mesh_decl.specs.Mesh.{MeshValue, map_count, dat_count, set_size, map_from, map_to, map_dim, target, dat_set, dat_dim, dat_values}
 use Rattle.mesh_draw.specs.declared.shapes.shape.CellKind.{CellKind}
 use Rattle.mesh_draw.specs.declared.shapes.shape.CellKind.TheVariants as kind
 use Rattle.mesh_draw.specs.declared.shapes.shape.Shape.{Shape}

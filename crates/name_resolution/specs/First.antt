@@ -1,10 +1,8 @@
 -- The first of the broken rules: that at the least token, and there the one with the lowest number.
-use Rattle.std.specs.Prelude.{◌≡◌, ℕ, ◌<◌, ◌≤◌, ◌⊎◌, Bool, true, false, ◌&&◌, ◌||◌, nat_lt, nat_eq, List, [], ◌∷◌, Option, Some, None}
-use Rattle.std.specs.Prelude.{if◌then◌else◌}
+use Rattle.std.specs.Prelude.{◌≡◌, ℕ, ◌<◌, ◌≤◌, ◌⊎◌, Bool, true, false, ◌&&◌, ◌||◌, nat_lt, nat_eq, List, [], ◌∷◌, Option, Some, None, if◌then◌else◌}
 use Rattle.std.specs.List.{Contains}
 use Rattle.name_resolution.specs.declared.breaches.TypeRule.{TypeRule}
-use Rattle.name_resolution.specs.declared.breaches.TypeRule.TheVariants.{UnknownName, DuplicateName, NotAnArray, NotAScalar}
-use Rattle.name_resolution.specs.declared.breaches.TypeRule.TheVariants.{AssignsCounter, AssignsConst, TooMuchWork}
+use Rattle.name_resolution.specs.declared.breaches.TypeRule.TheVariants.{UnknownName, DuplicateName, NotAnArray, NotAScalar, AssignsCounter, AssignsConst, TooMuchWork}
 use Rattle.name_resolution.specs.declared.breaches.Breach.{Breach}
 
 -- the number of a rule, by which the rules at one token are ordered

@@ -19,9 +19,7 @@ use Rattle.name_resolution.specs.declared.decls.Decl.{Decl}
 use Rattle.name_resolution.specs.declared.decls.Use.{Use}
 use Rattle.name_resolution.specs.First.{breach_if}
 use Rattle.name_resolution.specs.Scopes.{Names, Scope, scope, means, decl_or, declared, repeated, use_breaches}
-use Rattle.kernel_types.specs.View.{RExprTree, Number, Scalar, Constant, Arg, Local, Const, Unary, Binary, Choice, Paren, Extremum}
-use Rattle.kernel_types.specs.View.{Absolute, RStmtTree, RStmtTrees, Block, Declare, SetScalar, SetLocal, SetArg, If, For, NoStmt}
-use Rattle.kernel_types.specs.View.{MoreStmt, RKernelTree}
+use Rattle.kernel_types.specs.View.{RExprTree, Number, Scalar, Constant, Arg, Local, Const, Unary, Binary, Choice, Paren, Extremum, Absolute, RStmtTree, RStmtTrees, Block, Declare, SetScalar, SetLocal, SetArg, If, For, NoStmt, MoreStmt, RKernelTree}
 use Rattle.name_resolution.specs.Work.{size_of, declr_cells, cells, cells_of_all, is_heavy, behind}
 
 -- ---- broken rules, in any order; in_kernel says whether the names stand in a kernel

@@ -3,8 +3,7 @@ use Rattle.std.specs.Prelude.{ℕ, Bool, true, false, not, ◌&&◌, ◌||◌, L
 use Rattle.std.specs.Map.{lookup}
 use Rattle.std.specs.Str.{bytes_eq}
 use Rattle.c_tree.specs.declared.expressions.Ident.{Ident}
-use Rattle.name_resolution.specs.declared.breaches.TypeRule.TheVariants.{UnknownName, DuplicateName, NotAnArray, NotAScalar}
-use Rattle.name_resolution.specs.declared.breaches.TypeRule.TheVariants.{AssignsCounter, AssignsConst}
+use Rattle.name_resolution.specs.declared.breaches.TypeRule.TheVariants.{UnknownName, DuplicateName, NotAnArray, NotAScalar, AssignsCounter, AssignsConst}
 use Rattle.name_resolution.specs.declared.breaches.Breach.{Breach}
 use Rattle.name_resolution.specs.declared.decls.Sort.{Sort}
 use Rattle.name_resolution.specs.declared.decls.Sort.TheVariants as sort

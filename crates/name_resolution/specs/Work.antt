@@ -2,8 +2,7 @@
 use Rattle.std.specs.Prelude.{ℕ, ◌+◌, ◌*◌, ◌-◌, max, min, Bool, ◌||◌, ℤ, pos, negsuc, nat_lt, List, [], ◌∷◌, length}
 use Rattle.c_tree.specs.declared.expressions.NumberLiteral.{NumberLiteral}
 use Rattle.c_tree.specs.declared.kernels.ForHeader.{ForHeader}
-use Rattle.c_tree.specs.Tree.{DeclrTree, Plain, Init, Array, StmtTree, LocalDeclaration, Block, Empty, Assign, If, IfElse, For, StmtTrees}
-use Rattle.c_tree.specs.Tree.{NoStmt, MoreStmt, KernelTree}
+use Rattle.c_tree.specs.Tree.{DeclrTree, Plain, Init, Array, StmtTree, LocalDeclaration, Block, Empty, Assign, If, IfElse, For, StmtTrees, NoStmt, MoreStmt, KernelTree}
 
 -- the number that a literal spells
 abbrev pub nat_of : ℤ → ℕ

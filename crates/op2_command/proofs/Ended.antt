@@ -3,8 +3,7 @@ use Rattle.std.proofs.Common.{◌≡◌, ℕ, inl, inr, Err}
 use Rattle.op_outside.specs.Outside.{Rose}
 use Rattle.command_words.specs.Lines.{Answer}
 use Rattle.answers.specs.Endings as ending
-use Rattle.answers.specs.Endings.{Answered, Unwritten, Call, Ends, IsReported, Tells, ending_status, ending_line, ending_of, Writes}
-use Rattle.answers.specs.Endings.{IsComplete, IsUsage, IsUnread, IsShown, AreReported, IsSilent}
+use Rattle.answers.specs.Endings.{Answered, Unwritten, Call, Ends, IsReported, Tells, ending_status, ending_line, ending_of, Writes, IsComplete, IsUsage, IsUnread, IsShown, AreReported, IsSilent}
 use Rattle.command_words.specs.declared.answer_lines.refusals.Failure.{Failure}
 use Rattle.command_words.specs.declared.answer_lines.refusals.Failure.TheVariants.{Unread, OutOfMemory}
 use Rattle.op2_command.specs.Writes.{CallAnswers, EndsAsDefined}

@@ -9,8 +9,7 @@ use Rattle.command_words.specs.Refusal.{ScheduleBytes}
 use Rattle.command_words.specs.Lines as lines
 use Rattle.command_words.specs.Lines.{refused}
 use Rattle.command_words.specs.Words.{PlanJob, Standard, Drawn, Written, Options, group_of}
-use Rattle.answers.specs.Judgements.{IsHeld, Chosen, Planned, InStandardOrder, BySeed, ByText, OrderOf, outline_of}
-use Rattle.answers.specs.Judgements.{StepsOf, end_line, IsTextRefused, IsStepRefused}
+use Rattle.answers.specs.Judgements.{IsHeld, Chosen, Planned, InStandardOrder, BySeed, ByText, OrderOf, outline_of, StepsOf, end_line, IsTextRefused, IsStepRefused}
 use Rattle.schedule_steps.specs.declared.text.lines.Line.{Line}
 use Rattle.schedule_steps.specs.Reading.{Reads as SchedulesRead}
 use Rattle.answers.specs.Answers.{planned_answer}

@@ -12,8 +12,7 @@ use Rattle.command_words.specs.Refusal.{Refusal}
 use Rattle.command_words.specs.Lines as lines
 use Rattle.command_words.specs.Words.{PlanJob, Check, ShowsPlan, ShowsSchedule, RunsPlan, Standard, Options, group_of}
 use Rattle.answers.specs.Said.{SaysStep, SaysEnd}
-use Rattle.answers.specs.Judgements.{TreeIs, TranslationIs, RestorationIs, EntriesAre}
-use Rattle.answers.specs.Judgements.{Chosen, Planned, Order, OrderOf, outline_of, StepsOf}
+use Rattle.answers.specs.Judgements.{TreeIs, TranslationIs, RestorationIs, EntriesAre, Chosen, Planned, Order, OrderOf, outline_of, StepsOf}
 use Rattle.answers.specs.Answers.{given, planned_answer}
 
 -- ---- parts of the chain

@@ -3,8 +3,7 @@ use Rattle.std.specs.Prelude.{ℕ, List, Option, Result, Ok, Err}
 use Rattle.std.specs.List.{Contains}
 use Rattle.op_outside.specs.Outside.{Files}
 use Rattle.command_words.specs.Words.{named_by}
-use Rattle.answers.specs.Endings.{Tells, Asks}
-use Rattle.answers.specs.Endings.{Call, Ends, IsComplete, IsUsage, IsUnread, IsShown, AreReported, IsSilent}
+use Rattle.answers.specs.Endings.{Tells, Asks, Call, Ends, IsComplete, IsUsage, IsUnread, IsShown, AreReported, IsSilent}
 use Rattle.command_words.specs.declared.answer_lines.call_answer.Answer.{Answer}
 use Rattle.command_words.specs.declared.answer_lines.refusals.Failure.{Failure}
 use Rattle.command_words.specs.declared.answer_lines.refusals.Failure.TheVariants.{Unread, OutOfMemory}

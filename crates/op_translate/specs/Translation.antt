@@ -1,6 +1,5 @@
 -- A source in which each loop call is a call of its own stub, and back.
-use Rattle.std.specs.Prelude.{◌≡◌, ℕ, Bool, false, ◌&&◌, nat_eq, List, [], ◌∷◌, ◌++◌, length, drop, map, Option, Some, None, option_map}
-use Rattle.std.specs.Prelude.{Result, Ok, Err, find, is_none, codes, if◌then◌else◌}
+use Rattle.std.specs.Prelude.{◌≡◌, ℕ, Bool, false, ◌&&◌, nat_eq, List, [], ◌∷◌, ◌++◌, length, drop, map, Option, Some, None, option_map, Result, Ok, Err, find, is_none, codes, if◌then◌else◌}
 use Rattle.std.specs.List.{starts_with, list_all}
 use Rattle.std.specs.Str.{bytes_eq}
 use Rattle.c_lex.specs.declared.tokens.Kind.{Kind}

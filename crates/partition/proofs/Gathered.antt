@@ -1,12 +1,11 @@
 -- Lists of owners gathered by a test, and the votes in them.
-use Rattle.std.proofs.Common.{◌≡◌, ℕ, zero, suc, ◌+◌, ◌<◌, ◌≤◌, ◌/◌, ◌&&◌, Bool, true, false, cond, nat_eq, count_by, List, [], ◌∷◌, ◌++◌, length, get_or, refl, sym, ap, ◌∙◌, arith, ⊎_elim}
+use Rattle.std.proofs.Common.{◌≡◌, ℕ, zero, suc, ◌+◌, ◌<◌, ◌≤◌, ◌/◌, ◌&&◌, Bool, true, false, cond, nat_eq, count_by, List, [], ◌∷◌, ◌++◌, length, get_or, refl, sym, ap, ◌∙◌, arith, ⊎_elim, append-nil}
 use Rattle.std.proofs.lemmas.Bool.{cases_Bool, cases_lt}
 use Rattle.std.proofs.lemmas.List.{length_push, get_or_push, get_or_append_left}
 use Rattle.std.proofs.lemmas.List.Sums.{sum_by-append}
-use Rattle.std.proofs.Common.{append-nil}
 use Rattle.mesh_decl.specs.Mesh.{MeshValue, map_dim, target}
-use Rattle.rank_sets.specs.Below.{any_below, count_below}
-use Rattle.rank_sets.proofs.Below.{any_witness, count_lt}
+use Rattle.lemmas.specs.Below.{any_below, count_below}
+use Rattle.lemmas.proofs.Below.{any_witness, count_lt}
 use Rattle.partition.specs.Elected.{IsElected, gathered, target_votes, naming_votes, names, is_named, entries}
 use Rattle.partition.proofs.Firsts.{none_passes}
 

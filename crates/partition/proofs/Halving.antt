@@ -5,7 +5,7 @@ use Rattle.std.proofs.lemmas.Bool.{cases_lt, eq-eqb, eqb-true, false_from_ne_tru
 use Rattle.std.proofs.lemmas.List.{take_all}
 use Rattle.std.proofs.lemmas.List.Sums.{sum_by_more, count_by_more_yes, count_by_more_no, count_by-le-length}
 use Rattle.std.proofs.Math.Nat.{mul-div_cancel_left, div-le_of_le-mul}
-use Rattle.rank_sets.specs.Below.{count_below}
+use Rattle.lemmas.specs.Below.{count_below}
 use Rattle.partition.specs.Block.{block_start, share}
 use Rattle.partition.specs.Bisect.{IsHalved, IsBisected}
 use Rattle.partition.proofs.Shares.{interval}

@@ -4,8 +4,8 @@ use Rattle.std.proofs.lemmas.Bool.{cases_Bool, cases_eq, eq-eqb, ne_eqb}
 use Rattle.std.proofs.lemmas.Nat.{div-mul-add, mod-mul-add}
 use Rattle.std.proofs.Math.Nat.{mul-le-mul_right}
 use Rattle.mesh_decl.specs.Mesh.{MeshValue, map_dim, target}
-use Rattle.rank_sets.specs.Below.{count_below}
-use Rattle.rank_sets.proofs.Below.{count_more}
+use Rattle.lemmas.specs.Below.{count_below}
+use Rattle.lemmas.proofs.Below.{count_more}
 use Rattle.partition.specs.Elected.{names, gathered}
 
 pub count_most : (n : ℕ) (p : ℕ → Bool) → count_below n p ≤ n

@@ -7,8 +7,8 @@ use Rattle.std.proofs.Math.Nat.{div-mul-le_self, mul-le-mul_right}
 use Rattle.mesh_decl.specs.declared.owners.Owners.{Owners}
 use Rattle.mesh_decl.specs.Mesh.{MeshValue, IsMapAt, set_count, map_count, set_size, map_from, map_to}
 use Rattle.mesh_decl.specs.Owners.{AreOwners, owners_in, owner_of}
-use Rattle.rank_sets.specs.Below.{any_below}
-use Rattle.rank_sets.proofs.Below.{any_agree, any_from}
+use Rattle.lemmas.specs.Below.{any_below}
+use Rattle.lemmas.proofs.Below.{any_agree, any_from}
 use Rattle.partition.specs.Block.{AreBlocks, InBlock, block_start}
 use Rattle.partition.specs.Derive.{AreDerived, IsFirst, IsNextSet, IsByTargets, IsByNames, IsByBlocks, leads_to_known, leads_from_known, can_follow_targets, can_follow_names}
 use Rattle.partition.specs.Elected.{IsElected, target_votes, naming_votes, is_named}

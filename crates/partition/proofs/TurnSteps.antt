@@ -6,7 +6,7 @@ use Rattle.std.proofs.Math.Path.{fun_ext}
 use Rattle.mesh_decl.specs.declared.owners.Owners.{Owners}
 use Rattle.mesh_decl.specs.Mesh.{MeshValue, set_count, map_count, set_size, map_from, map_to}
 use Rattle.mesh_decl.specs.Owners.{owners_in, owner_of}
-use Rattle.rank_sets.specs.Below.{any_below, count_below}
+use Rattle.lemmas.specs.Below.{any_below, count_below}
 use Rattle.partition.specs.Derive.{IsNextSet, IsByTargets, IsByNames, IsByBlocks, AreDerived, AreKnown, leads_to_known, leads_from_known}
 use Rattle.partition.proofs.Firsts.{none_passes}
 

@@ -1,9 +1,8 @@
 -- Owners by repeated halving along the axis with the largest spread.
-use Rattle.std.specs.Prelude.{◌≡◌, ◌⊎◌, ℕ, ℤ, pos, zero, suc, ◌+◌, ◌-◌, ◌*◌, ◌/◌, ◌<◌, ◌≤◌, ◌+ℤ◌, List, ◌++◌, length, slice_index}
-use Rattle.std.specs.Prelude.{slice_index_or, unsigned_abs, nat_eq}
+use Rattle.std.specs.Prelude.{◌≡◌, ◌⊎◌, ℕ, ℤ, pos, zero, suc, ◌+◌, ◌-◌, ◌*◌, ◌/◌, ◌<◌, ◌≤◌, ◌+ℤ◌, List, ◌++◌, length, slice_index, slice_index_or, unsigned_abs, nat_eq}
 use Rattle.std.specs.List.Sorted.{IsPermutation}
 use Rattle.partition.specs.Block.{block_start, share}
-use Rattle.rank_sets.specs.Below.{count_below}
+use Rattle.lemmas.specs.Below.{count_below}
 
 -- component a of element x of a dat of this dim
 abbrev pub component : List ℤ → ℕ → ℕ → ℕ → ℤ

@@ -1,11 +1,10 @@
 -- Owners of the sets that have none, by rule from those that have.
-use Rattle.std.specs.Prelude.{◌≡◌, ◌⊎◌, ℕ, ◌<◌, Bool, true, false, not, ◌&&◌, nat_eq, nat_lt, List, [], Option, Some, None, Vec, map}
-use Rattle.std.specs.Prelude.{length, is_some, slice_index, slice_index_or}
+use Rattle.std.specs.Prelude.{◌≡◌, ◌⊎◌, ℕ, ◌<◌, Bool, true, false, not, ◌&&◌, nat_eq, nat_lt, List, [], Option, Some, None, Vec, map, length, is_some, slice_index, slice_index_or}
 use Rattle.std.specs.declared.alloc.Global.{Global}
 use Rattle.mesh_decl.specs.declared.owners.Owners.{Owners}
 use Rattle.mesh_decl.specs.Mesh.{MeshValue, set_count, map_count, set_size, map_from, map_to}
 use Rattle.mesh_decl.specs.Owners.{AreOwners, owners_in}
-use Rattle.rank_sets.specs.Below.{any_below}
+use Rattle.lemmas.specs.Below.{any_below}
 use Rattle.partition.specs.Block.{InBlock}
 use Rattle.partition.specs.Elected.{IsElected, target_votes, naming_votes, is_named}
 

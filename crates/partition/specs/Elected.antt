@@ -1,7 +1,7 @@
 -- Which rank an element gets by the most frequent owner.
 use Rattle.std.specs.Prelude.{ℕ, zero, suc, ◌*◌, ◌/◌, ◌%◌, ◌<◌, ◌≤◌, Bool, ◌&&◌, cond, nat_eq, List, [], ◌∷◌, ◌++◌, slice_index}
 use Rattle.mesh_decl.specs.Mesh.{MeshValue, set_size, map_from, map_dim, target}
-use Rattle.rank_sets.specs.Below.{any_below, count_below}
+use Rattle.lemmas.specs.Below.{any_below, count_below}
 
 -- rank r has the most votes, and each lower rank has fewer
 pub record IsElected (ranks : ℕ) (votes : ℕ → ℕ) (r : ℕ) : Type 0 where

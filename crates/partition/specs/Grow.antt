@@ -1,6 +1,5 @@
 -- Owners by growth over neighbours: elements are given out one after another, each rank's at the places of its block.
-use Rattle.std.specs.Prelude.{◌≡◌, ◌⊎◌, ℕ, ◌+◌, ◌<◌, ◌≤◌, Bool, true, false, List, length, take, drop, slice_index, slice_index_or}
-use Rattle.std.specs.Prelude.{Contains}
+use Rattle.std.specs.Prelude.{◌≡◌, ◌⊎◌, ℕ, ◌+◌, ◌<◌, ◌≤◌, Bool, true, false, List, length, take, drop, slice_index, slice_index_or, Contains}
 use Rattle.renumber.specs.Taken.{earliest}
 use Rattle.partition.specs.Block.{block_start, InBlock}
 

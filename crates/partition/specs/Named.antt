@@ -1,7 +1,7 @@
 -- Rows of owners while they are being filled.
 use Rattle.std.specs.Prelude.{◌≡◌, ℕ, ◌/◌, ◌<◌, List, [], length, slice_index, slice_index_or}
 use Rattle.mesh_decl.specs.Mesh.{MeshValue, set_size, map_to, map_dim}
-use Rattle.rank_sets.specs.Below.{count_below}
+use Rattle.lemmas.specs.Below.{count_below}
 use Rattle.renumber.specs.Parts.{FillingValue}
 use Rattle.partition.specs.Elected.{names, entries, gathered}
 

@@ -1,6 +1,5 @@
 -- Reading a partition text: what is awaited, what a token does there, and the first token that may not stand where it does.
-use Rattle.std.specs.Prelude.{◌≡◌, ℕ, zero, suc, ◌+◌, ◌-◌, ◌<◌, nat_eq, nat_lt, List, [], ◌∷◌, ◌++◌, length, map, slice_get, slice_set}
-use Rattle.std.specs.Prelude.{Option, Some, None, Result, Ok, Err, codes, if◌then◌else◌}
+use Rattle.std.specs.Prelude.{◌≡◌, ℕ, zero, suc, ◌+◌, ◌-◌, ◌<◌, nat_eq, nat_lt, List, [], ◌∷◌, ◌++◌, length, map, slice_get, slice_set, Option, Some, None, Result, Ok, Err, codes, if◌then◌else◌}
 use Rattle.std.specs.Str.{bytes_eq}
 use Rattle.op_num.specs.Spelling.{number_of}
 use Rattle.texts.specs.Cut.{Word, Uncut, words, text_of}
@@ -8,8 +7,7 @@ use Rattle.texts.specs.Automaton
 use Rattle.texts.specs.Automaton.{onto, RefusesAmong}
 use Rattle.mesh_decl.specs.Mesh.{MeshValue, set_count, set_size, set_name}
 use Rattle.partition.specs.declared.part_text.refusals.PartRefusal.{PartRefusal}
-use Rattle.partition.specs.declared.part_text.refusals.PartRefusal.TheVariants.{Header, Syntax, UnknownSet, MissingSet, WrongCount}
-use Rattle.partition.specs.declared.part_text.refusals.PartRefusal.TheVariants.{RankRange}
+use Rattle.partition.specs.declared.part_text.refusals.PartRefusal.TheVariants.{Header, Syntax, UnknownSet, MissingSet, WrongCount, RankRange}
 use Rattle.partition.specs.declared.part_text.token.Keyword.{Keyword}
 use Rattle.partition.specs.declared.part_text.token.Keyword.TheVariants as keyword
 use Rattle.partition.specs.Token.{is_magic, is_version, keyword_of}

@@ -1,7 +1,7 @@
 // Owners by those of targets, or by those of the entries that name an element.
 ghost use Rattle.std.specs.Prelude.{◌≡◌, ℕ, true, ◌+◌, ◌*◌, ◌<◌, ◌≤◌, ◌/◌, ◌^◌, [], OnOk, IfOk, length, slice_index, slice_index_or};
 ghost use Rattle.mesh_decl.specs.Mesh.{IsMapAt, map_count, set_size, map_from, map_to, map_dim, target};
-ghost use Rattle.rank_sets.specs.Below.{count_below};
+ghost use Rattle.lemmas.specs.Below.{count_below};
 ghost use Rattle.partition.specs.Elected.{names, entries, gathered};
 ghost use Rattle.partition.specs.Derive.{AreByTargets, AreByNames};
 ghost use Rattle.partition.specs.Named.{AreNamed};

@@ -1,7 +1,7 @@
 // Which set gets owners next.
 ghost use Rattle.std.specs.Prelude.{◌≡◌, ℕ, false, not, length, slice_index_or, IfSome, IfNone};
 ghost use Rattle.mesh_decl.specs.Mesh.{map_count, set_count};
-ghost use Rattle.rank_sets.specs.Below.{any_below};
+ghost use Rattle.lemmas.specs.Below.{any_below};
 ghost use Rattle.partition.specs.Derive.{IsFirst, AreTargetsNext, AreNamesNext, leads_to_known, leads_from_known, can_follow_targets};
 ghost use Rattle.partition.specs.Derive.{can_follow_names};
 

@@ -3,7 +3,7 @@ ghost use Rattle.std.specs.Prelude.{◌≡◌, ℕ, true, false, ◌<◌, ◌≤
 ghost use Rattle.std.specs.Prelude.{slice_index, slice_index_or, not, nat_eq};
 ghost use Rattle.std.specs.declared.alloc.Global.{Global as TheGlobal};
 ghost use Rattle.mesh_decl.specs.Mesh.{set_count, set_size};
-ghost use Rattle.rank_sets.specs.Below.{any_below};
+ghost use Rattle.lemmas.specs.Below.{any_below};
 ghost use Rattle.partition.specs.Derive.{IsNextSet, AreDerived, AreKnown, given_list};
 
 use crate::blocks::block_set;

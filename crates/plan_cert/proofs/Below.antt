@@ -2,13 +2,12 @@
 use Rattle.std.proofs.Common.{◌≡◌, ℕ, zero, suc, ◌<◌, refl, sym, ap, ◌∙◌, arith, List, [], ◌∷◌, ◌++◌, append-nil, length, get_or, cond, Bool, true, false}
 use Rattle.std.specs.List.{flat_map}
 use Rattle.std.proofs.lemmas.Grind.{flat_map-append}
-use Rattle.rank_sets.specs.Below.{listed}
+use Rattle.lemmas.specs.Below.{listed}
 use Rattle.texts.specs.Lines.{line_of, text_of_lines}
 use Rattle.local_mesh.specs.declared.types.RankMesh.{RankMesh}
 use Rattle.bound_program.specs.Values.{BoundValue}
 use Rattle.loop_plan.specs.PlanText.{Line}
-use Rattle.plan_cert.specs.Awaited.{Awaited, each_below}
-use Rattle.plan_cert.specs.Awaited.{ColourLists, FitsLine, FitLines}
+use Rattle.plan_cert.specs.Awaited.{Awaited, each_below, ColourLists, FitsLine, FitLines}
 use Rattle.plan_cert.specs.Certified.{all}
 use Rattle.plan_cert.proofs.Reading.{all_append, fit_append}
 

@@ -1,7 +1,7 @@
 -- A plan has as many steps as its program.
 use Rattle.std.proofs.Common.{◌≡◌, ℕ, ◌+◌, ◌*◌, ◌<◌, Bool, true, false, cond, sum, refl, sym, ap, ◌∙◌, List, length, slice_index}
 use Rattle.std.specs.Prelude.{◌&&◌}
-use Rattle.rank_sets.proofs.Below.{listed_agree}
+use Rattle.lemmas.proofs.Below.{listed_agree}
 use Rattle.mesh_decl.specs.Mesh.{dat_count}
 use Rattle.schedule_model.proofs.History.{by_bit}
 use Rattle.schedule_steps.specs.Peaks.{step_count}

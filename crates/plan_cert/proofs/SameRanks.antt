@@ -3,7 +3,7 @@ use Rattle.std.proofs.Common.{◌≡◌, ℕ, zero, suc, ◌+◌, ◌*◌, ◌<�
 use Rattle.std.specs.Prelude.{codes, ◌↔◌}
 use Rattle.std.specs.Fmt.{decimal}
 use Rattle.std.specs.declared.alloc.Global.{Global}
-use Rattle.rank_sets.specs.Below.{row}
+use Rattle.lemmas.specs.Below.{row}
 use Rattle.mesh_decl.specs.declared.access.Via.{Via}
 use Rattle.mesh_decl.specs.Mesh.{MeshValue, map_dim, set_count}
 use Rattle.texts.specs.Lines.{line_of}
@@ -17,8 +17,7 @@ use Rattle.bound_program.specs.Fits.{site_at}
 use Rattle.loop_plan.specs.Pairs.{sets_of}
 use Rattle.loop_plan.specs.Places.{reducing, maps_of, runs_free}
 use Rattle.loop_plan.proofs.AlikeMeshes.{length_same, sets_same, rows_same, places_same, halo_line_same}
-use Rattle.plan_cert.specs.Awaited.{Awaited, Exactly, Sizes, ColoursOf, Done, each_below, awaited_halo, awaited_set, awaited_halos, awaited_ranks, awaited_sites, awaited_items, awaited, header_line}
-use Rattle.plan_cert.specs.Awaited.{ColourLists, IsSizes, IsSite, places_in, BlocksClashIn, PlacesClashIn, FitsLine, FitLines}
+use Rattle.plan_cert.specs.Awaited.{Awaited, Exactly, Sizes, ColoursOf, Done, each_below, awaited_halo, awaited_set, awaited_halos, awaited_ranks, awaited_sites, awaited_items, awaited, header_line, ColourLists, IsSizes, IsSite, places_in, BlocksClashIn, PlacesClashIn, FitsLine, FitLines}
 use Rattle.plan_cert.specs.Certified.{Clashes, Refuses, RefusedAmong, IsRefused}
 
 -- ---- the same conflicts

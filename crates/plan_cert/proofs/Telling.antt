@@ -13,8 +13,7 @@ use Rattle.loop_plan.specs.Spaced.{spaced}
 use Rattle.plan_cert.specs.Awaited.{AreColours}
 use Rattle.plan_cert.specs.Told.{ToldIs, TellsColours}
 use Rattle.plan_cert.proofs.Lining.{AreDark, dark_append, number_dark, joined_spaced, content_cut}
-use Rattle.lemmas.proofs.Lists.{head_same, tail_same}
-use Rattle.lemmas.proofs.Lists.{fronts_same}
+use Rattle.lemmas.proofs.Lists.{head_same, tail_same, fronts_same}
 use Rattle.std.proofs.lemmas.Option.{same_Some}
 
 -- ---- lists

@@ -22,8 +22,7 @@ use Rattle.loop_plan.specs.PlanText.{Line, halo_line, halo_lines, all_halo_lines
 use Rattle.loop_plan.specs.StepCounts.{exchange_of}
 use Rattle.loop_plan.proofs.SetReads.{sets_at}
 use Rattle.loop_plan.proofs.PlanLines.{halos_more, sites_more, items_more}
-use Rattle.plan_cert.specs.Awaited.{ColoursOf, Done, awaited_halo, awaited_set, awaited_halos, awaited_ranks, awaited_sites, awaited_item, awaited_items, awaited, header_line, done_line}
-use Rattle.plan_cert.specs.Awaited.{ColourLists, AreColours, IsSizes, places_in, FitsLine, FitLines}
+use Rattle.plan_cert.specs.Awaited.{ColoursOf, Done, awaited_halo, awaited_set, awaited_halos, awaited_ranks, awaited_sites, awaited_item, awaited_items, awaited, header_line, done_line, ColourLists, AreColours, IsSizes, places_in, FitsLine, FitLines}
 use Rattle.plan_cert.specs.Certified.{all, lists_of, colours_in, Certified}
 use Rattle.plan_cert.specs.Laws.{HasShortColours, WrittenAreCertified}
 use Rattle.plan_cert.proofs.Reading.{all_append, fit_append}

@@ -6,8 +6,7 @@ use Rattle.colouring.specs.declared.types.Colours.{Colours}
 use Rattle.bound_program.specs.Values.{BoundValue}
 use Rattle.loop_plan.specs.Values.{SitePlanValue, PlanValue}
 use Rattle.loop_plan.specs.Proper.{Proper}
-use Rattle.plan_cert.specs.Awaited.{Awaited, Exactly, Sizes, ColoursOf, Done, done_line, ColourLists, awaited, IsSizes, IsSite}
-use Rattle.plan_cert.specs.Awaited.{BlocksClashIn, PlacesClashIn, FitLines}
+use Rattle.plan_cert.specs.Awaited.{Awaited, Exactly, Sizes, ColoursOf, Done, done_line, ColourLists, awaited, IsSizes, IsSite, BlocksClashIn, PlacesClashIn, FitLines}
 
 -- lines one after another
 abbrev pub all : List (List ℕ) → List ℕ

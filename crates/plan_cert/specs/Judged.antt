@@ -6,8 +6,7 @@ use Rattle.bound_program.specs.Values.{BoundValue}
 use Rattle.loop_plan.specs.Values.{PlanValue}
 use Rattle.loop_plan.specs.StepCounts.{max_steps, program_steps}
 use Rattle.plan_cert.specs.declared.types.CertRefusal.{CertRefusal}
-use Rattle.plan_cert.specs.declared.types.CertRefusal.TheVariants.{Header, Ranks, Halo, Site, Item}
-use Rattle.plan_cert.specs.declared.types.CertRefusal.TheVariants.{BlockConflict, InnerConflict, End, TooManySteps, OutOfMemory}
+use Rattle.plan_cert.specs.declared.types.CertRefusal.TheVariants.{Header, Ranks, Halo, Site, Item, BlockConflict, InnerConflict, End, TooManySteps, OutOfMemory}
 use Rattle.plan_cert.specs.Awaited.{Awaited, ColourLists, FitLines}
 use Rattle.plan_cert.specs.Certified.{all, Certified, RefusedAmong, IsRefused}
 

@@ -1,6 +1,5 @@
 -- How large a plan is, loop by loop.
-use Rattle.std.specs.Prelude.{ℕ, suc, ◌+◌, ◌-◌, ◌*◌, ◌/◌, Bool, false, cond, max, nat_eq, List, [], ◌∷◌}
-use Rattle.std.specs.Prelude.{map, length, sum, sum_by}
+use Rattle.std.specs.Prelude.{ℕ, suc, ◌+◌, ◌-◌, ◌*◌, ◌/◌, Bool, false, cond, max, nat_eq, List, [], ◌∷◌, map, length, sum, sum_by}
 use Rattle.mesh_decl.specs.Mesh.{MeshValue}
 use Rattle.local_mesh.specs.declared.types.RankMesh.{RankMesh}
 use Rattle.colouring.specs.declared.types.Colours.{Colours}

@@ -5,23 +5,20 @@ use Rattle.std.proofs.lemmas.Bool.{lt-ltb, cond-true}
 use Rattle.std.proofs.lemmas.List.{length-map, get_or-map, length-append, map-append, flat_map_more}
 use Rattle.std.proofs.lemmas.List.FromFn.{length-map-range_with_len}
 use Rattle.kernel_types.specs.declared.faults.KernelFault.{KernelFault}
-use Rattle.mesh_decl.specs.Mesh.{dat_set, dat_dim, set_size}
+use Rattle.mesh_decl.specs.Mesh.{dat_set, dat_dim, set_size, set_count, dat_count}
 use Rattle.schedule_steps.specs.declared.step.Step.TheVariants.{Join}
 use Rattle.schedule_model.specs.Cells.{Cell, Data, DatCell, VarCell, Store}
 use Rattle.schedule_model.specs.Program as program
-use Rattle.schedule_model.specs.Program.{Program, Hosted, Halts, Goes}
+use Rattle.schedule_model.specs.Program.{Program, Hosted, Halts, Goes, is_loop}
 use Rattle.schedule_model.specs.Setup.{Setup, owner_of, in_set}
 use Rattle.schedule_model.specs.Sequential.{with_variables}
 use Rattle.flat_machine.specs.Layout.{Layout}
 use Rattle.flat_machine.specs.Flat.{Flat, owned, variable, flat_step}
-use Rattle.bound_program.specs.Values.{BoundValue, ActValue, Host, Clear, Assign, Line, Print, Exit}
-use Rattle.mesh_decl.specs.Mesh.{set_count, dat_count}
+use Rattle.bound_program.specs.Values.{BoundValue, ActValue, Host, Clear, Assign, Line, Print, Exit, Ordered, SiteValue, site_of, no_site}
 use Rattle.mesh_decl.specs.Printed.{printed_dat}
 use Rattle.bound_program.specs.declared.sites.Site.{Site}
-use Rattle.bound_program.specs.Values.{Ordered, SiteValue, site_of, no_site}
 use Rattle.bound_program.specs.Fits.{ActFits, Fits, site_at}
 use Rattle.run_model.specs.Laws.{LoopsAreThere, ActsAreThere}
-use Rattle.schedule_model.specs.Program.{is_loop}
 use Rattle.run_model.specs.Windows.{numbers}
 use Rattle.run_model.specs.Hosts.{variables_of, variable_cells, dat_cells, act_run}
 use Rattle.run_model.specs.Memory.{Holds}

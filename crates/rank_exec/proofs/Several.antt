@@ -1,8 +1,7 @@
 -- Closed groups of an item that come next, one behind another: their elements can begin, and the groups are done by them.
-use Rattle.std.proofs.Common.{◌≡◌, ℕ, zero, suc, ◌+◌, ◌<◌, ◌≤◌, refl, sym, ap, subst, ◌∙◌, arith, None, Option, Some, List, [], ◌∷◌, ◌++◌, length, get_or, append-nil}
+use Rattle.std.proofs.Common.{◌≡◌, ℕ, zero, suc, ◌+◌, ◌<◌, ◌≤◌, refl, sym, ap, subst, ◌∙◌, arith, None, Option, Some, List, [], ◌∷◌, ◌++◌, length, get_or, append-nil, ⊎_elim}
 use Rattle.std.proofs.lemmas.List.{take_all}
 use Rattle.std.proofs.lemmas.Bool.{cond_both, cases_lt}
-use Rattle.std.proofs.Common.{⊎_elim}
 use Rattle.schedule_steps.specs.Peaks.{open_step, mail_step, count_after}
 use Rattle.step_orders.specs.Alone.{alone}
 use Rattle.step_orders.specs.Left.{ends}

@@ -1,7 +1,6 @@
 -- The windows on dats of an element, where they stand on a rank.
-use Rattle.std.specs.Prelude.{ℕ, ◌+◌, ◌*◌, ◌<◌, ◌≤◌, Bool, false, ◌||◌, nat_eq, if◌then◌else◌, List, [], ◌∷◌, ◌++◌, length, slice_index}
-use Rattle.std.specs.Prelude.{Option, Some, None}
-use Rattle.rank_sets.specs.Below.{row}
+use Rattle.std.specs.Prelude.{ℕ, ◌+◌, ◌*◌, ◌<◌, ◌≤◌, Bool, false, ◌||◌, nat_eq, if◌then◌else◌, List, [], ◌∷◌, ◌++◌, length, slice_index, Option, Some, None}
+use Rattle.lemmas.specs.Below.{row}
 use Rattle.mesh_decl.specs.declared.access.Via.{Via}
 use Rattle.mesh_decl.specs.Mesh.{MeshValue, map_count, map_dim, dat_count, dat_dim}
 use Rattle.local_mesh.specs.declared.types.RankMesh.{RankMesh}

@@ -1,7 +1,7 @@
 -- What ranks export, by local numbers.
 use Rattle.std.specs.Prelude.{ℕ, List, [], Vec, map, slice_index_or}
 use Rattle.std.specs.declared.alloc.Global.{Global}
-use Rattle.rank_sets.specs.Below.{row, rows}
+use Rattle.lemmas.specs.Below.{row, rows}
 use Rattle.local_mesh.specs.declared.lists.LocalLists.{LocalLists}
 
 -- of a set, by owner and importing rank, the owner's local numbers

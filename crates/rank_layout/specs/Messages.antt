@@ -2,7 +2,7 @@
 use Rattle.std.specs.Prelude.{◌≡◌, ◌<◌, ◌≤◌, ℕ, ◌+◌, ◌*◌, true, All, List, [], Vec, map, length, slice_index, slice_index_or}
 use Rattle.std.specs.declared.alloc.Global.{Global}
 use Rattle.std.specs.List.{flat_map}
-use Rattle.rank_sets.specs.Below.{row, rows}
+use Rattle.lemmas.specs.Below.{row, rows}
 use Rattle.mesh_decl.specs.Mesh.{MeshValue, set_count, dat_count, dat_set, dat_dim}
 use Rattle.local_mesh.specs.declared.types.RankMesh.{RankMesh}
 use Rattle.local_mesh.specs.declared.lists.LocalLists.{LocalLists}

@@ -1,6 +1,5 @@
 -- Where the windows on dats of an element stand in the buffers of the ranks that own them.
-use Rattle.std.specs.Prelude.{◌<◌, ◌≤◌, ℕ, ◌+◌, ◌*◌, Bool, false, ◌&&◌, ◌||◌, nat_eq, if◌then◌else◌}
-use Rattle.std.specs.Prelude.{List, [], ◌∷◌, ◌++◌, map, length, slice_index, slice_index_or}
+use Rattle.std.specs.Prelude.{◌<◌, ◌≤◌, ℕ, ◌+◌, ◌*◌, Bool, false, ◌&&◌, ◌||◌, nat_eq, if◌then◌else◌, List, [], ◌∷◌, ◌++◌, map, length, slice_index, slice_index_or}
 use Rattle.mesh_decl.specs.declared.owners.Owners.{Owners}
 use Rattle.mesh_decl.specs.Mesh.{MeshValue, dat_count, dat_set, dat_dim}
 use Rattle.mesh_decl.specs.Owners.{owners_in, owner_of}

@@ -1,7 +1,7 @@
 // The windows on dats of an element, where they stand on a rank.
 
 ghost use Rattle.std.specs.Prelude.{◌≡◌, ◌<◌, ◌+◌, ◌*◌, Some, length, vec_capacity};
-ghost use Rattle.rank_sets.specs.Below.{row};
+ghost use Rattle.lemmas.specs.Below.{row};
 ghost use Rattle.mesh_decl.specs.Mesh.{map_count, map_dim};
 ghost use Rattle.rank_layout.specs.DatWindows.{begins_at, with_span, local_by};
 

@@ -12,7 +12,7 @@ pub fn messages_stand()
     ensures exports { ExportsStand }
     ensures imports { ImportsStand }
 {
-    rank_sets::numbers_are_listed();
+    lemmas::numbers_are_listed();
     mesh_decl::declarations_hold();
     bound_plan::elements_stand();
     bound_plan::messages_have_cells();

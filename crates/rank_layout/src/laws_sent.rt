@@ -7,7 +7,7 @@ use crate::laws::messages_stand;
 pub fn exports_are_few()
     ensures { ExportsAreFew }
 {
-    rank_sets::numbers_are_listed();
+    lemmas::numbers_are_listed();
     mesh_decl::declarations_hold();
     bound_plan::elements_stand();
     bound_plan::messages_have_cells();
@@ -30,7 +30,7 @@ pub fn rooms_stand()
 pub fn sends_stand()
     ensures { SendsStand }
 {
-    rank_sets::numbers_are_listed();
+    lemmas::numbers_are_listed();
     mesh_decl::declarations_hold();
     bound_plan::elements_stand();
     bound_plan::messages_have_cells();
@@ -41,7 +41,7 @@ pub fn sends_stand()
 pub fn receives_stand()
     ensures { ReceivesStand }
 {
-    rank_sets::numbers_are_listed();
+    lemmas::numbers_are_listed();
     mesh_decl::declarations_hold();
     bound_plan::elements_stand();
     bound_plan::messages_have_cells();

@@ -2,7 +2,7 @@
 
 ghost use Rattle.std.specs.Prelude.{◌≡◌, ◌<◌, ◌≤◌, ◌+◌, ◌*◌, ◌++◌, ℕ};
 ghost use Rattle.std.specs.Prelude.{All, map, length, slice_index, vec_capacity};
-ghost use Rattle.rank_sets.specs.Below.{row, rows};
+ghost use Rattle.lemmas.specs.Below.{row, rows};
 ghost use Rattle.mesh_decl.specs.Mesh.{dat_count, set_count};
 ghost use Rattle.rank_layout.specs.Exports.{exports_in};
 ghost use Rattle.rank_layout.specs.Messages.{element_span, imports_in, HasList, dat_spans, spans_of, AreWithin, AreThere};

@@ -1,6 +1,5 @@
 -- The runs of a kernel for tasks, each on a window of a buffer.
-use Rattle.std.specs.Prelude.{◌≡◌, ◌<◌, ◌≤◌, ◌+◌, ◌-◌, ℕ, ℤ, pos, List, [], ◌∷◌, ◌++◌, map, length, take, replicate, get_or, slice_set}
-use Rattle.std.specs.Prelude.{slice_index_or}
+use Rattle.std.specs.Prelude.{◌≡◌, ◌<◌, ◌≤◌, ◌+◌, ◌-◌, ℕ, ℤ, pos, List, [], ◌∷◌, ◌++◌, map, length, take, replicate, get_or, slice_set, slice_index_or}
 use Rattle.kernel_types.specs.declared.faults.KernelFault.{KernelFault}
 use Rattle.kernel_types.specs.declared.kernels.RKernel.{RKernel}
 use Rattle.kernel_types.specs.Resolved.{IsResolved}

@@ -1,6 +1,5 @@
 -- The machine's lists show a state of the distributed machine on flat buffers.
-use Rattle.std.specs.Prelude.{◌≡◌, ◌<◌, ◌≤◌, ◌+◌, ◌==◌, cond, ℕ, suc, zero, ℤ, pos, true, List, [], ◌∷◌, ◌++◌, map, length, get_or, Some}
-use Rattle.std.specs.Prelude.{None}
+use Rattle.std.specs.Prelude.{◌≡◌, ◌<◌, ◌≤◌, ◌+◌, ◌==◌, cond, ℕ, suc, zero, ℤ, pos, true, List, [], ◌∷◌, ◌++◌, map, length, get_or, Some, None}
 use Rattle.schedule_model.specs.Cells.{VarCell}
 use Rattle.schedule_model.specs.Program.{Free}
 use Rattle.schedule_model.specs.Setup.{Setup}

@@ -1,6 +1,5 @@
 -- How the program keeps the open frames: slots of one staging buffer.
-use Rattle.std.specs.Prelude.{◌≡◌, ◌≢◌, ◌<◌, ◌≤◌, ◌+◌, ◌*◌, ℕ, zero, suc, ℤ, List, [], take, length, get_or, set, map, sum_by}
-use Rattle.std.specs.Prelude.{Option, Some, None}
+use Rattle.std.specs.Prelude.{◌≡◌, ◌≢◌, ◌<◌, ◌≤◌, ◌+◌, ◌*◌, ℕ, zero, suc, ℤ, List, [], take, length, get_or, set, map, sum_by, Option, Some, None}
 use Rattle.rank_state.specs.Spans.{cells_at}
 use Rattle.rank_state.specs.Frames.{Pane, Shut, Broken, Holds}
 use Rattle.rank_state.specs.declared.rank_memory.slot.Held.{Held}

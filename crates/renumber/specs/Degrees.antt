@@ -1,6 +1,6 @@
 -- Elements by (degree, number).
 use Rattle.std.specs.Prelude.{ℕ, ◌+◌, ◌*◌, ◌^◌}
-use Rattle.rank_sets.specs.Below.{count_below}
+use Rattle.lemmas.specs.Below.{count_below}
 use Rattle.mesh_decl.specs.Mesh.{MeshValue, set_size, map_to}
 use Rattle.renumber.specs.Neighbours.{are_neighbours}
 

@@ -1,6 +1,6 @@
 -- Neighbours by a map.
 use Rattle.std.specs.Prelude.{◌≡◌, ℕ, zero, suc, ◌<◌, Bool, not, ◌&&◌, nat_eq, List, [], ◌++◌, length, replicate, slice_index_or}
-use Rattle.rank_sets.specs.Below.{any_below, count_below}
+use Rattle.lemmas.specs.Below.{any_below, count_below}
 use Rattle.mesh_decl.specs.Mesh.{MeshValue, set_size, map_from, map_to, map_dim, target}
 
 -- element e has target x by map m

@@ -1,6 +1,5 @@
 -- Orders of taking (Cuthill and McKee 1969): at each place the least element by the place of its earliest neighbour and its key.
-use Rattle.std.specs.Prelude.{◌≡◌, ℕ, ◌<◌, ◌≤◌, ◌⊎◌, ◌+◌, Bool, true, false, not, List, length, take, slice_index, slice_index_or}
-use Rattle.std.specs.Prelude.{Contains, count_by}
+use Rattle.std.specs.Prelude.{◌≡◌, ℕ, ◌<◌, ◌≤◌, ◌⊎◌, ◌+◌, Bool, true, false, not, List, length, take, slice_index, slice_index_or, Contains, count_by}
 use Rattle.std.specs.List.{position_or_len}
 
 -- the place of y's earliest neighbour among those taken; where it has none, how many are taken

@@ -1,6 +1,5 @@
 -- All cells of a bound program in one memory: the dats in order, each element by element, and then the variables.
-use Rattle.std.specs.Prelude.{◌≡◌, ◌<◌, ◌≤◌, ◌⊎◌, ℕ, zero, suc, ℤ, pos, ◌+◌, ◌*◌, Bool, true, ◌&&◌, List, [], ◌∷◌, length, map, take, drop}
-use Rattle.std.specs.Prelude.{◌++◌, nat_lt, slice_index_or, slice_set}
+use Rattle.std.specs.Prelude.{◌≡◌, ◌<◌, ◌≤◌, ◌⊎◌, ℕ, zero, suc, ℤ, pos, ◌+◌, ◌*◌, Bool, true, ◌&&◌, List, [], ◌∷◌, length, map, take, drop, ◌++◌, nat_lt, slice_index_or, slice_set}
 use Rattle.std.specs.List.{flat_map}
 use Rattle.kernel_types.specs.declared.faults.KernelFault.{KernelFault}
 use Rattle.kernel_types.specs.declared.kernels.RKernel.{RKernel}

@@ -1,6 +1,5 @@
 -- How many cells a message has.
-use Rattle.std.specs.Prelude.{◌≡◌, ◌≢◌, ◌<◌, ◌≤◌, ◌+◌, ◌*◌, ℕ, Bool, nat_eq, List, [], ◌∷◌, length}
-use Rattle.std.specs.Prelude.{take, drop, filter, map, slice_index, All, Vec}
+use Rattle.std.specs.Prelude.{◌≡◌, ◌≢◌, ◌<◌, ◌≤◌, ◌+◌, ◌*◌, ℕ, Bool, nat_eq, List, [], ◌∷◌, length, take, drop, filter, map, slice_index, All, Vec}
 use Rattle.std.specs.List.{list_any}
 use Rattle.std.specs.declared.alloc.Global.{Global}
 use Rattle.mesh_decl.specs.Mesh.{MeshValue, set_count, dat_count, dat_set, dat_dim}

@@ -1,7 +1,7 @@
 -- The messages of an item, by rank.
 use Rattle.std.specs.Prelude.{◌≡◌, ◌<◌, ◌==◌, ℕ, List, [], Vec, map, filter, slice_index_or}
 use Rattle.std.specs.declared.alloc.Global.{Global}
-use Rattle.rank_sets.specs.Below.{row}
+use Rattle.lemmas.specs.Below.{row}
 use Rattle.loop_plan.specs.declared.types.Pair.{Pair}
 use Rattle.schedule_check.specs.declared.plan_orders.messages.Messages.{Messages}
 

@@ -5,7 +5,7 @@ use Rattle.std.specs.declared.alloc.Global.{Global}
 use Rattle.local_mesh.specs.declared.types.RankMesh.{RankMesh}
 use Rattle.schedule_steps.specs.Outline.{Outline}
 use Rattle.schedule_steps.specs.Drawn.{numbers}
-use Rattle.rank_sets.specs.Below.{row}
+use Rattle.lemmas.specs.Below.{row}
 use Rattle.bound_program.specs.Values.{BoundValue, Free}
 use Rattle.loop_plan.specs.SharedPlans.{SharedValue}
 use Rattle.loop_plan.specs.Values.{PlanValue}

@@ -13,10 +13,9 @@ use Rattle.schedule_model.specs.Sequential.{Broke, Ran_through, loop, Going, wit
 use Rattle.schedule_model.specs.Machine.{State, unit_at, merge_at, merged_from, reduced, gathered, spread, looped, hosted, done, joined, step}
 use Rattle.schedule_model.proofs.Fold.{folded, folded_none, folded_same, folded_union, folded_merge}
 use Rattle.schedule_model.proofs.Law.{Law, effect, commutes, merge_unit, merge_amount, no_needs, owner_below}
-use Rattle.schedule_model.proofs.Sequence.{store_of, output_of, is_going, store_at, ran_stays, good_store, FreeCase, was_over, goes_on, ends, free_case, JoinCase, was_over_join, reduces_join, runs_join, breaks_join, goes_join, halts_join, join_case}
+use Rattle.schedule_model.proofs.Sequence.{store_of, output_of, is_going, store_at, ran_stays, good_store, FreeCase, was_over, goes_on, ends, free_case, JoinCase, was_over_join, reduces_join, runs_join, breaks_join, goes_join, halts_join, join_case, GoodLoop, good_loop}
 use Rattle.schedule_model.proofs.Marks.{mark, mark_self, mark_old, mark_true, mark_else, Ready, proper_more, Stands}
 use Rattle.schedule_model.proofs.Range.{Sane, Good, good_reduced, good_looped, good_hosted, good_merged, good_gathered}
-use Rattle.schedule_model.proofs.Sequence.{GoodLoop, good_loop}
 use Rattle.schedule_model.proofs.Least.{Each, Member}
 use Rattle.schedule_model.proofs.Facts.{Fresh, own, clean, came, value_at, is_reduce, source, source_self, source_reduce, part_at, is_merging, part_here, part_else, part_none, At}
 use Rattle.schedule_model.proofs.Inv.{Inv, Letters, abouts, at_item}

@@ -7,8 +7,7 @@ use Rattle.schedule_model.specs.Effects.{is_modified}
 use Rattle.schedule_model.specs.Program.{Free, elements}
 use Rattle.schedule_model.specs.Setup.{Setup, executes, outline}
 use Rattle.op_num.specs.Access.{Access, OpRead, OpReduce}
-use Rattle.schedule_model.specs.Arguments.{Argument, Direct, Indirect, Global, access_of, modifying, reading, is_direct, is_on, Entries}
-use Rattle.schedule_model.specs.Arguments.{target, touch_by}
+use Rattle.schedule_model.specs.Arguments.{Argument, Direct, Indirect, Global, access_of, modifying, reading, is_direct, is_on, Entries, target, touch_by}
 
 -- arguments, halos, messages and colours of the Free items
 pub record LoopParts {F : Type 0} (p : Setup F) : Type 0 where

@@ -1,6 +1,5 @@
 -- Reading a schedule text: what is awaited, what a token does there, and the first token that may not stand where it does.
-use Rattle.std.specs.Prelude.{◌≡◌, ℕ, ◌^◌, ◌<◌, ◌≤◌, nat_lt, List, [], ◌∷◌, ◌++◌, length, Option, Some, None, Result, Ok, Err, codes}
-use Rattle.std.specs.Prelude.{if◌then◌else◌}
+use Rattle.std.specs.Prelude.{◌≡◌, ℕ, ◌^◌, ◌<◌, ◌≤◌, nat_lt, List, [], ◌∷◌, ◌++◌, length, Option, Some, None, Result, Ok, Err, codes, if◌then◌else◌}
 use Rattle.op_num.specs.Spelling.{number_of}
 use Rattle.texts.specs.Cut.{Word, Uncut, words}
 use Rattle.texts.specs.Automaton

@@ -1,8 +1,7 @@
 -- One more place at which a list is cut, and one more element of the piece that is begun.
 use Rattle.std.proofs.Common.{◌≡◌, ℕ, zero, suc, ◌<◌, ◌≤◌, ◌+◌, ◌-◌, refl, sym, ap, ◌∙◌, arith, Bool, true, false, cond, List, [], ◌∷◌, ◌++◌, append-nil, length, take, drop, get_or}
 use Rattle.std.specs.Prelude.{◌&&◌, nat_lt}
-use Rattle.std.proofs.lemmas.List.{append_assoc, length-drop, drop_more, take_more, drop_all, get_or-drop, get_or-take}
-use Rattle.std.proofs.lemmas.List.{length-take}
+use Rattle.std.proofs.lemmas.List.{append_assoc, length-drop, drop_more, take_more, drop_all, get_or-drop, get_or-take, length-take}
 use Rattle.step_orders.specs.Runs.{cut, start_of, AreEnds}
 use Rattle.step_orders.specs.ElementRuns.{unless_empty}
 use Rattle.step_orders.specs.Pieces.{goes_on, pieces_from, IsCut}

@@ -1,6 +1,5 @@
 -- The next join, and the sends that are taken, of a drawn order under way.
-use Rattle.std.specs.Prelude.{◌≡◌, ◌<◌, ◌≤◌, ◌+◌, ◌==◌, ◌&&◌, nat_lt, ℕ, Bool, true, false, cond, ◌^◌}
-use Rattle.std.specs.Prelude.{List, [], ◌++◌, Vec, Option, length, map, slice_index_or}
+use Rattle.std.specs.Prelude.{◌≡◌, ◌<◌, ◌≤◌, ◌+◌, ◌==◌, ◌&&◌, nat_lt, ℕ, Bool, true, false, cond, ◌^◌, List, [], ◌++◌, Vec, Option, length, map, slice_index_or}
 use Rattle.std.specs.declared.alloc.Global.{Global}
 use Rattle.schedule_steps.specs.Outline.{Outline}
 use Rattle.schedule_steps.specs.declared.step.Step.{Step}

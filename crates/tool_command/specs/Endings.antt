@@ -9,11 +9,9 @@ use Rattle.command_words.specs.declared.answer_lines.refusals.Halt.TheVariants.{
 use Rattle.command_words.specs.declared.answer_lines.call_answer.Answer.{Answer as Given}
 use Rattle.command_words.specs.declared.answer_lines.refusals.Failure.{Failure}
 use Rattle.command_words.specs.declared.answer_lines.refusals.Failure.TheVariants as failure
-use Rattle.answers.specs.Endings.{Ending, Answered, OutOfMemory, Unread, Unwritten, Call, ending_status, ending_line}
-use Rattle.answers.specs.Endings.{HoldAll, IsReported, IsWritten}
+use Rattle.answers.specs.Endings.{Ending, Answered, OutOfMemory, Unread, Unwritten, Call, ending_status, ending_line, HoldAll, IsReported, IsWritten}
 use Rattle.command_words.specs.Words.{Options, names_by, names_in_blocks, named_by}
-use Rattle.tool_words.specs.Words.{ProgramJob, Picks, Graphs, TakesOwners, PlanJob, TellsOwners, Counts, Draws, Grids}
-use Rattle.tool_words.specs.Words.{Command, OnProgram, OnPlan, Converts, Explains, ShowsUsage, ShowsVersion, WordsAre}
+use Rattle.tool_words.specs.Words.{ProgramJob, Picks, Graphs, TakesOwners, PlanJob, TellsOwners, Counts, Draws, Grids, Command, OnProgram, OnPlan, Converts, Explains, ShowsUsage, ShowsVersion, WordsAre}
 use Rattle.tool_command.specs.ToolAnswers.{ToolAnswers, ComesToBeRead}
 
 -- ---- the files that words name

@@ -1,6 +1,5 @@
 -- What the job `explain` answers to the words of a call of `op2`, over files that are told.
-use Rattle.std.specs.Prelude.{◌≡◌, ℕ, nat_eq, nat_lt, ◌⊎◌, List, [], ◌∷◌, ◌++◌, length, drop, Option, Some}
-use Rattle.std.specs.Prelude.{None, option_and_then, if◌then◌else◌}
+use Rattle.std.specs.Prelude.{◌≡◌, ℕ, nat_eq, nat_lt, ◌⊎◌, List, [], ◌∷◌, ◌++◌, length, drop, Option, Some, None, option_and_then, if◌then◌else◌}
 use Rattle.std.specs.List.{Contains, find, flat_map}
 use Rattle.op_outside.specs.Outside.{Files}
 use Rattle.explanations.specs.Texts.{has_name, all_texts, shown_text}

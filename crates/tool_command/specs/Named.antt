@@ -3,9 +3,7 @@ use Rattle.std.specs.Prelude.{ℕ, Bool, true, false, List, Option, Some, None, 
 use Rattle.clap.specs.Simple.{matches_of}
 use Rattle.clap.specs.Faults.{fault_of}
 use Rattle.command_words.specs.Refusal.{Refusal}
-use Rattle.command_words.specs.Words.{Input, InFiles, OfSample, command, judged}
-use Rattle.command_words.specs.Words.{Stretch, Whole, Before, From}
-use Rattle.command_words.specs.Words.{Command, OnPlan, OnChains, Converts, Translates, Restores, ShowsUsage, ShowsVersion}
+use Rattle.command_words.specs.Words.{Input, InFiles, OfSample, command, judged, Stretch, Whole, Before, From, Command, OnPlan, OnChains, Converts, Translates, Restores, ShowsUsage, ShowsVersion}
 use Rattle.command_words.specs.Values as values
 use Rattle.tool_command.specs.declared.explain.named.Program.{Program}
 use Rattle.tool_command.specs.declared.explain.named.Named.{Named}

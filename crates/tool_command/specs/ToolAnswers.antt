@@ -42,8 +42,7 @@ use Rattle.tool_command.specs.Judged.{IsJudged}
 use Rattle.tool_command.specs.ExplainAnswers.{ExplainAnswers}
 use Rattle.tool_command.specs.GmshLines.{said_of_mesh}
 use Rattle.tool_words.specs.declared.usage.TheConstants.{USAGE, VERSION}
-use Rattle.tool_words.specs.Words.{ProgramJob, Picks, Graphs, TakesOwners, Picture, PlanJob, TellsOwners, Counts, Draws, Grids}
-use Rattle.tool_words.specs.Words.{Command, OnProgram, OnPlan, Converts, Explains, ShowsUsage, ShowsVersion, WordsAre}
+use Rattle.tool_words.specs.Words.{ProgramJob, Picks, Graphs, TakesOwners, Picture, PlanJob, TellsOwners, Counts, Draws, Grids, Command, OnProgram, OnPlan, Converts, Explains, ShowsUsage, ShowsVersion, WordsAre}
 
 -- ---- lines
 

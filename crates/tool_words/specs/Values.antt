@@ -6,8 +6,7 @@ use Rattle.clap.specs.Matches.{first_value}
 use Rattle.command_words.specs.Words.{OptionWords, is_set}
 use Rattle.command_words.specs.Values.{option_words_of, options_in}
 use Rattle.tool_words.specs.Words as words
-use Rattle.tool_words.specs.Words.{Picks, Graphs, TakesOwners, TellsOwners, Counts, Draws, Grids}
-use Rattle.tool_words.specs.Words.{OnProgram, OnPlan, Converts, Explains, ShowsUsage, ShowsVersion, WordsAreWith, call_in}
+use Rattle.tool_words.specs.Words.{Picks, Graphs, TakesOwners, TellsOwners, Counts, Draws, Grids, OnProgram, OnPlan, Converts, Explains, ShowsUsage, ShowsVersion, WordsAreWith, call_in}
 use Rattle.tool_words.specs.Ranges.{IsWithin}
 use Rattle.tool_words.specs.declared.asked.ProgramJob.{ProgramJob}
 use Rattle.tool_words.specs.declared.asked.ProgramJob.TheVariants as job

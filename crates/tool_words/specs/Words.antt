@@ -1,6 +1,5 @@
 -- The words of the command line of `op2-tools`, by `clap`'s own model of the command.
-use Rattle.std.specs.Prelude.{◌≡◌, ℕ, ◌-◌, Bool, true, false, not, ◌&&◌, ◌⊎◌, nat_lt, List, [], ◌∷◌, ◌++◌, map, Option, Some, None, codes}
-use Rattle.std.specs.Prelude.{if◌then◌else◌, option_and_then, option_map, is_some}
+use Rattle.std.specs.Prelude.{◌≡◌, ℕ, ◌-◌, Bool, true, false, not, ◌&&◌, ◌⊎◌, nat_lt, List, [], ◌∷◌, ◌++◌, map, Option, Some, None, codes, if◌then◌else◌, option_and_then, option_map, is_some}
 use Rattle.std.specs.Str.{bytes_eq}
 use Rattle.clap.specs.Walk.{Rule, Row, first_of}
 use Rattle.clap.specs.Simple.{App, new_app, matches_of}
@@ -13,8 +12,7 @@ use Rattle.cell_numbers.specs.declared.types.Shown.{Shown}
 use Rattle.cell_numbers.specs.declared.types.Shown.TheVariants as shown
 use Rattle.gmsh_mesh.specs.declared.choice.Dimension.{Dimension}
 use Rattle.gmsh_mesh.specs.declared.choice.Dimension.TheVariants as dimension
-use Rattle.command_words.specs.Words.{Options, OptionWords, options_of, chain_options_of, runs_nothing}
-use Rattle.command_words.specs.Words.{positional, option, flag, versioned, with_rules, is_set}
+use Rattle.command_words.specs.Words.{Options, OptionWords, options_of, chain_options_of, runs_nothing, positional, option, flag, versioned, with_rules, is_set}
 
 -- What is done with a program over a mesh: the dat that it prints with this text as its file, behind so many such dats, is picked out of
 -- the output in a file; the graph of neighbours by the map of this name is written; or owners on so many ranks are, of which a graph

@@ -4,8 +4,8 @@ use Rattle.std.specs.Prelude.{◌&&◌, ◌==◌, nat_eq, nat_lt}
 use Rattle.std.specs.List.{list_any}
 use Rattle.std.proofs.lemmas.Bool.{false≢true, and_parts, and_from, or_left, or_right, eqb-true, eq-eqb, not_from_false}
 use Rattle.std.proofs.lemmas.List.Folds.{list_any_at}
-use Rattle.rank_sets.specs.Below.{any_below}
-use Rattle.rank_sets.proofs.Below.{any_from}
+use Rattle.lemmas.specs.Below.{any_below}
+use Rattle.lemmas.proofs.Below.{any_from}
 use Rattle.op_num.specs.Access.{access_of}
 use Rattle.op_num.specs.declared.reductions.access.Access.{Access}
 use Rattle.op_num.specs.declared.reductions.access.Access.TheVariants as code

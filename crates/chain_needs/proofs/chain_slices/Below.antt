@@ -5,11 +5,11 @@ use Rattle.std.specs.List.{list_any}
 use Rattle.std.specs.declared.alloc.Global.{Global as Memory}
 use Rattle.std.proofs.lemmas.Bool.{false≢true, and_parts, or_cases, eqb-true, cases_lt, cases_eq}
 use Rattle.std.proofs.lemmas.List.{length_push, get_or_append_left, get_or_push}
-use Rattle.rank_sets.specs.Below.{any_below, listed}
-use Rattle.rank_sets.specs.RankSet.{has_at}
-use Rattle.rank_sets.specs.declared.rank_set.RankSet.{RankSet}
-use Rattle.rank_sets.proofs.Below.{any_witness, listed_agree}
-use Rattle.rank_sets.proofs.Rows.{has_at_past}
+use Rattle.lemmas.specs.Below.{any_below, listed}
+use Rattle.local_mesh.specs.RankSet.{has_at}
+use Rattle.local_mesh.specs.declared.rank_sets.rank_set.RankSet.{RankSet}
+use Rattle.lemmas.proofs.Below.{any_witness, listed_agree}
+use Rattle.local_mesh.proofs.rank_sets.Rows.{has_at_past}
 use Rattle.mesh_decl.specs.declared.owners.Owners.{Owners}
 use Rattle.mesh_decl.specs.Mesh.{IsInRange, set_size, dat_count}
 use Rattle.mesh_decl.specs.Owners.{owner_of}

@@ -3,11 +3,11 @@ use Rattle.std.proofs.Common.{◌≡◌, ℕ, ◌<◌, ◌≤◌, ◌+◌, Bool,
 use Rattle.std.specs.Prelude.{◌&&◌, ◌||◌}
 use Rattle.std.specs.declared.alloc.Global.{Global}
 use Rattle.std.proofs.lemmas.Bool.{cases_eq}
-use Rattle.rank_sets.specs.Below.{any_below, listed, row, rows}
-use Rattle.rank_sets.specs.RankSet.{has_at}
-use Rattle.rank_sets.specs.declared.rank_set.RankSet.{RankSet}
-use Rattle.rank_sets.proofs.Below.{any_agree, listed_agree}
-use Rattle.rank_sets.proofs.Rows.{rows_push, rows_push_left}
+use Rattle.lemmas.specs.Below.{any_below, listed, row, rows}
+use Rattle.local_mesh.specs.RankSet.{has_at}
+use Rattle.local_mesh.specs.declared.rank_sets.rank_set.RankSet.{RankSet}
+use Rattle.lemmas.proofs.Below.{any_agree, listed_agree}
+use Rattle.lemmas.proofs.Rows.{rows_push, rows_push_left}
 use Rattle.local_mesh.proofs.halo_lists.Steps.{any_step}
 
 pub listed_others : (others : List RankSet) (size ranks r : ℕ) (p : ℕ → ℕ → Bool) → length others ≡ size → ((y r : ℕ) → y < size → r < 64 → has_at others y r ≡ p y r) → ranks ≤ 64 → r < ranks
@@ -30,12 +30,12 @@ received_more now new n size others r p own long has sizes same h e =
     (e ∙ ap (λ z. now || z) (ap (λ m. any_below m (λ y. has_at others y r && own n y)) (long ∙ sym same)
     ∙ any_agree (sizes n) (λ y. has_at others y r && own n y) (λ y. p n y && own n y) (λ y l. ap (λ z. z && own n y) (has y (Rattle.std.proofs.Common.subst (λ m. y < m) same l)))))
 
-pub none_more : (xs : List RankSet) (v : RankSet) → ((r : ℕ) → Rattle.rank_sets.specs.RankSet.has v r ≡ Rattle.std.proofs.Common.false) → ((s r : ℕ) → has_at xs s r ≡ Rattle.std.proofs.Common.false)
+pub none_more : (xs : List RankSet) (v : RankSet) → ((r : ℕ) → Rattle.local_mesh.specs.RankSet.has v r ≡ Rattle.std.proofs.Common.false) → ((s r : ℕ) → has_at xs s r ≡ Rattle.std.proofs.Common.false)
     → (s r : ℕ) → has_at (xs ++ v ∷ []) s r ≡ Rattle.std.proofs.Common.false
 none_more xs v empty h s r = ⊎_elim
-    (λ (l : s < length xs). Rattle.rank_sets.proofs.Rows.has_at_push_left xs v s l r ∙ h s r)
+    (λ (l : s < length xs). Rattle.local_mesh.proofs.rank_sets.Rows.has_at_push_left xs v s l r ∙ h s r)
     (λ (l : length xs ≤ s). ⊎_elim
-    (λ (q : length xs ≡ s). Rattle.rank_sets.proofs.Rows.has_at_push xs v s q r ∙ empty r)
-    (λ (q : length xs ≡ s → ⊥). Rattle.rank_sets.proofs.Rows.has_at_past (xs ++ v ∷ []) s r (omega (arith, Rattle.std.proofs.lemmas.List.length_push xs v)))
+    (λ (q : length xs ≡ s). Rattle.local_mesh.proofs.rank_sets.Rows.has_at_push xs v s q r ∙ empty r)
+    (λ (q : length xs ≡ s → ⊥). Rattle.local_mesh.proofs.rank_sets.Rows.has_at_past (xs ++ v ∷ []) s r (omega (arith, Rattle.std.proofs.lemmas.List.length_push xs v)))
     (cases_eq (length xs) s))
     (Rattle.std.proofs.lemmas.Bool.cases_lt s (length xs))

@@ -3,7 +3,7 @@ use Rattle.std.proofs.Common.{◌≡◌, ℕ, ◌<◌, ◌≤◌, ◌+◌, List,
 use Rattle.std.proofs.lemmas.Bool.{cases_eq, cases_lt}
 use Rattle.std.proofs.lemmas.List.{get_or-map, get_or_past, length-map, length_push, get_or_append_left, get_or_push}
 use Rattle.std.specs.declared.alloc.Global.{Global}
-use Rattle.rank_sets.specs.declared.rank_set.RankSet.{RankSet}
+use Rattle.local_mesh.specs.declared.rank_sets.rank_set.RankSet.{RankSet}
 use Rattle.local_mesh.specs.Sets.{sets_in}
 
 pub sets_at : (xs : List (Vec RankSet Global)) (s : ℕ) (d : Vec RankSet Global) → s < length xs → (get_or xs s d).items ≡ sets_in xs s

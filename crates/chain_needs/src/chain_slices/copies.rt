@@ -4,7 +4,7 @@ ghost use Rattle.std.specs.Prelude.{◌≡◌, ◌<◌, ℕ, IfOk, length};
 ghost use Rattle.local_mesh.specs.Sets.{sets_in};
 
 use op_num::OutOfMemory;
-use rank_sets::RankSet;
+use local_mesh::rank_sets::RankSet;
 use std::alloc::Global;
 
 /// A copy of lists of sets.

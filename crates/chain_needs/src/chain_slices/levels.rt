@@ -2,7 +2,7 @@
 
 ghost use Rattle.std.specs.Prelude.{◌≡◌, ◌<◌, ℕ, List, Vec, IfOk, All, length, map, slice_index};
 ghost use Rattle.std.specs.declared.alloc.Global.{Global as Memory};
-ghost use Rattle.rank_sets.specs.declared.rank_set.RankSet.{RankSet as Set};
+ghost use Rattle.local_mesh.specs.declared.rank_sets.rank_set.RankSet.{RankSet as Set};
 ghost use Rattle.mesh_decl.specs.Owners.{AreOwners};
 ghost use Rattle.bound_program.specs.Values.{SiteValue, bound_of};
 ghost use Rattle.bound_program.specs.Fits.{SiteFits, site_at};
@@ -15,7 +15,7 @@ use crate::{executing_all, own_sets, read_dats};
 use bound_program::Bound;
 use mesh_decl::Owners;
 use op_num::OutOfMemory;
-use rank_sets::{RankSet, places_by_rank};
+use local_mesh::rank_sets::{RankSet, places_by_rank};
 use std::alloc::Global;
 
 /// A loop of a chain.

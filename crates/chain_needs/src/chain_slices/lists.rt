@@ -1,8 +1,8 @@
 // The pairs that ranks need of others, as lists of elements.
 
 ghost use Rattle.std.specs.Prelude.{◌≡◌, ◌<◌, ◌&&◌, not, nat_eq, ℕ, IfOk, length};
-ghost use Rattle.rank_sets.specs.Below.{listed, row, rows};
-ghost use Rattle.rank_sets.specs.RankSet.{has, has_at};
+ghost use Rattle.lemmas.specs.Below.{listed, row, rows};
+ghost use Rattle.local_mesh.specs.RankSet.{has, has_at};
 ghost use Rattle.mesh_decl.specs.Mesh.{dat_count, dat_set, set_size};
 ghost use Rattle.mesh_decl.specs.Owners.{AreOwners};
 ghost use Rattle.bound_program.specs.Values.{bound_of};
@@ -14,7 +14,7 @@ use crate::ranks_at;
 use bound_program::Bound;
 use mesh_decl::Owners;
 use op_num::OutOfMemory;
-use rank_sets::{RankSet, places_by_rank};
+use local_mesh::rank_sets::{RankSet, places_by_rank};
 use std::alloc::Global;
 
 // The ranks of a set but one.

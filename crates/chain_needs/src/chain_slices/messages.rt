@@ -1,8 +1,8 @@
 // Messages, counted.
 
 ghost use Rattle.std.specs.Prelude.{◌≡◌, ◌<◌, ◌≤◌, ◌&&◌, ◌||◌, not, false, ℕ, List, IfOk, length, nat_eq};
-ghost use Rattle.rank_sets.specs.Below.{any_below, count_below};
-ghost use Rattle.rank_sets.specs.RankSet.{has, has_at};
+ghost use Rattle.lemmas.specs.Below.{any_below, count_below};
+ghost use Rattle.local_mesh.specs.RankSet.{has, has_at};
 ghost use Rattle.mesh_decl.specs.Mesh.{dat_count, dat_set, set_size};
 ghost use Rattle.mesh_decl.specs.Owners.{AreOwners};
 ghost use Rattle.bound_program.specs.Values.{SiteValue, bound_of};
@@ -16,7 +16,7 @@ use crate::chain_slices::lists::others_of;
 use bound_program::Bound;
 use mesh_decl::Owners;
 use op_num::OutOfMemory;
-use rank_sets::RankSet;
+use local_mesh::rank_sets::RankSet;
 use std::alloc::Global;
 
 /// Whether a set has a rank.
@@ -51,7 +51,7 @@ fn add_at(sets: &mut [RankSet], place: u32, ranks: RankSet)
 }
 
 /// The ranks of an element.
-#[tactic(auto, unfolding(rank_sets::specs::RankSet::has_at))]
+#[tactic(auto, unfolding(local_mesh::rank_sets::specs::RankSet::has_at))]
 pub fn ranks_of(sets: &[RankSet], element: u32) -> RankSet
     requires { element < length sets.now }
     ensures { (r : ℕ) → has result r ≡ has_at sets.now element r }

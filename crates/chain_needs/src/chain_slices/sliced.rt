@@ -1,7 +1,7 @@
 // The slices of a program's chains.
 
 ghost use Rattle.std.specs.Prelude.{◌≡◌, ◌<◌, ◌&&◌, not, ℕ, true, length};
-ghost use Rattle.rank_sets.specs.Below.{listed};
+ghost use Rattle.lemmas.specs.Below.{listed};
 ghost use Rattle.mesh_decl.specs.declared.owners.Owners.{Owners};
 ghost use Rattle.mesh_decl.specs.Mesh.{dat_count, dat_set, set_size};
 ghost use Rattle.schedule_model.specs.Program.{elements};
@@ -16,7 +16,7 @@ ghost use Rattle.chain_needs.specs.Slices.{AreSlices, IsFreeItem, IsNeeded, IsPa
 use crate::chain_slices::levels::Level;
 use crate::chain_slices::messages::{contains, ranks_of};
 use crate::chain_slices::shapes::Shape;
-use rank_sets::RankSet;
+use local_mesh::rank_sets::RankSet;
 
 /// Where the level of an item stands: of a chain that is kept, by its number and that of the level.
 #[derive(Clone, Copy)]

@@ -1,6 +1,6 @@
 -- No mark stands among lines that fit.
 use Rattle.std.proofs.Common.{◌≡◌, ℕ, ℤ, zero, suc, ◌+◌, ◌<◌, ◌≤◌, refl, sym, ap, ap₂, subst, ◌∙◌, arith, ⊎_elim, List, [], ◌∷◌, ◌++◌, length, length-append, drop, false, nat_eq, None, Ok}
-use Rattle.std.specs.Prelude.{codes}
+use Rattle.std.specs.Prelude.{codes, map}
 use Rattle.std.specs.Fmt.{decimal}
 use Rattle.std.specs.List.{flat_map}
 use Rattle.std.proofs.lemmas.Bool.{cases_lt, false≢true}
@@ -13,7 +13,6 @@ use Rattle.checkpoint.specs.Cut.{starts}
 use Rattle.checkpoint.specs.Reading.{mark, IsSplit, Awaited, Item, Exactly, Values, Done, awaited_vars, dat_line, awaited_dat, awaited_dats, awaited, IsLine, Spell, words_line, all, LineFits, AllFit}
 use Rattle.checkpoint.proofs.state_texts.Words.{no_lf_cons, no_lf_nil}
 use Rattle.checkpoint.proofs.state_texts.OneLine.{fit_is_line, lf_behind}
-use Rattle.std.specs.Prelude.{map}
 use Rattle.lemmas.proofs.Lists.{head_same, tail_same}
 
 -- ---- `o` behind LF

@@ -4,8 +4,8 @@ use Rattle.std.specs.Prelude.{◌==◌}
 use Rattle.std.proofs.lemmas.Bool.{cases_lt}
 use Rattle.std.proofs.lemmas.List.{get_or_past}
 use Rattle.kernel_types.specs.declared.faults.KernelFault.{KernelFault}
-use Rattle.rank_sets.specs.Below.{listed, count_below}
-use Rattle.rank_sets.proofs.Below.{length_listed, count_le, count_lt, at_listed}
+use Rattle.lemmas.specs.Below.{listed, count_below}
+use Rattle.lemmas.proofs.Below.{length_listed, count_le, count_lt, at_listed}
 use Rattle.schedule_model.specs.Effects.{Ran, Faulted, Finished}
 use Rattle.chain_model.specs.Slicing.{Slicing}
 use Rattle.chain_model.specs.Machine.{ChainState, one_run, rank_run, ranks_run, ran, view}

@@ -1,10 +1,9 @@
 -- Cells of the memory into which no column is put back.
 use Rattle.std.proofs.Common.{◌≡◌, ◌≢◌, ℕ, zero, suc, ℤ, pos, ◌<◌, List, [], get_or, refl, ◌∙◌, get_or-set_other, sym, arith}
-use Rattle.op_num.specs.Reduction.{Reduction}
+use Rattle.op_num.specs.Reduction.{Reduction, merged}
 use Rattle.op_num.specs.Access.{Access, OpRead, OpWrite, OpRw, OpReduce, access_of}
 use Rattle.kernel_columns.specs.Rows.{at_row}
 use Rattle.kernel_columns.specs.Moving.{stored, merged_in}
-use Rattle.op_num.specs.Reduction.{merged}
 use Rattle.kernel_runs.specs.declared.row_batches.rows.RowColumn.{RowColumn}
 use Rattle.kernel_runs.specs.Filled.{cells_of}
 use Rattle.kernel_runs.specs.Put.{put_back_for, put_back}

@@ -1,6 +1,6 @@
 use Rattle.std.proofs.Common.{List, Vec, ℕ, length, sym, ap, ◌∙◌}
 use Rattle.std.specs.declared.alloc.Global.{Global}
-use Rattle.rank_sets.specs.Below.{row}
+use Rattle.lemmas.specs.Below.{row}
 use Rattle.mesh_decl.specs.Mesh.{set_size}
 use Rattle.local_mesh.specs.Halo.{imports_execute, imports_nonexecute}
 use Rattle.local_mesh.proofs.halo_lists.Importing.{owners_below}

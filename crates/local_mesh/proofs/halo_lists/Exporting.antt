@@ -3,8 +3,8 @@ use Rattle.std.proofs.Common.{◌≡◌, ℕ, ◌+◌, ◌<◌, Bool, ◌&&◌, 
 use Rattle.std.specs.declared.alloc.Global.{Global}
 use Rattle.std.proofs.lemmas.Bool.{cases_eq, eq-eqb, ne_eqb}
 use Rattle.std.proofs.lemmas.List.{append-nil}
-use Rattle.rank_sets.specs.Below.{row, rows}
-use Rattle.rank_sets.proofs.Rows.{rows_set_same, rows_set_other, rows_push, rows_push_left}
+use Rattle.lemmas.specs.Below.{row, rows}
+use Rattle.lemmas.proofs.Rows.{rows_set_same, rows_set_other, rows_push, rows_push_left}
 use Rattle.std.proofs.Math.Bool.{and-false, and-true}
 
 pub pushed_rows : (exports : List (Vec (Vec ℕ Global) Global)) (owner n : ℕ) (v : Vec (Vec ℕ Global) Global) (news : List (Vec ℕ Global)) (element : ℕ) (ranks : ℕ → Bool) → owner < length exports → v.items ≡ news → ((r : ℕ) → r < n → row news r ≡ row (rows exports owner) r ++ cond (ranks r) (element ∷ []) []) → (a r : ℕ) → a < n → r < n → row (rows (set exports owner v) a) r ≡ row (rows exports a) r ++ cond (ranks r && nat_eq owner a) (element ∷ []) []

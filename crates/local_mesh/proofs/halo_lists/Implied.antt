@@ -2,8 +2,8 @@
 use Rattle.std.proofs.Common.{◌≡◌, ◌≢◌, ◌↔◌, ℕ, ◌<◌, Bool, true, false, not, ◌&&◌, ◌||◌, nat_eq, refl, sym, ◌∙◌}
 use Rattle.std.proofs.lemmas.Bool.{eq-eqb, ne_eqb, eqb-true, and_parts, and_from, true_from_ne_false, not_from_false, not-true}
 use Rattle.mesh_decl.specs.declared.owners.Owners.{Owners}
-use Rattle.rank_sets.specs.Below.{any_below}
-use Rattle.rank_sets.proofs.Below.{any_witness, any_from}
+use Rattle.lemmas.specs.Below.{any_below}
+use Rattle.lemmas.proofs.Below.{any_witness, any_from}
 use Rattle.mesh_decl.specs.Mesh.{MeshValue, map_count, set_size, map_from, map_to, map_dim, target}
 use Rattle.mesh_decl.specs.Owners.{owner_of}
 use Rattle.local_mesh.specs.Halo.{reaches_by, reaches, owns, imports_execute, executes, named_by, named_from, named, imports_nonexecute, imports, has_copy, is_core}

@@ -1,18 +1,17 @@
 -- From the ranks that execute each element to those that import it.
 use Rattle.std.proofs.Common.{◌≡◌, ◌↔◌, ℕ, ◌<◌, Bool, true, false, not, ◌&&◌, ◌||◌, nat_eq, List, [], ◌∷◌, ◌++◌, ◌+◌, length, get_or, Vec, refl, sym, ap, ◌∙◌, arith, ⊎_elim, subst}
 use Rattle.std.specs.declared.alloc.Global.{Global}
-use Rattle.std.proofs.lemmas.Bool.{eq-eqb, ne_eqb, eqb-true, and_parts, or_cases, false_from_ne_true, and_from, not_from_false}
+use Rattle.std.proofs.lemmas.Bool.{eq-eqb, ne_eqb, eqb-true, and_parts, or_cases, false_from_ne_true, and_from, not_from_false, cases_eq}
 use Rattle.mesh_decl.specs.declared.owners.Owners.{Owners}
-use Rattle.rank_sets.specs.declared.rank_set.RankSet.{RankSet}
-use Rattle.rank_sets.specs.Below.{any_below}
-use Rattle.rank_sets.specs.RankSet.{has, has_at}
+use Rattle.local_mesh.specs.declared.rank_sets.rank_set.RankSet.{RankSet}
+use Rattle.lemmas.specs.Below.{any_below}
+use Rattle.local_mesh.specs.RankSet.{has, has_at}
 use Rattle.mesh_decl.specs.Mesh.{MeshValue, set_count, map_count, set_size, map_from, map_to, map_dim, target, IsInRange}
 use Rattle.mesh_decl.specs.Owners.{AreOwners, owner_of, owners_in}
-use Rattle.rank_sets.proofs.Below.{any_witness, any_from, any_agree}
+use Rattle.lemmas.proofs.Below.{any_witness, any_from, any_agree}
 use Rattle.local_mesh.specs.Halo.{reaches_by, reaches, owns, imports_execute, executes, named_by, named_from, named, imports_nonexecute, imports, is_core}
 use Rattle.local_mesh.specs.Sets.{AreExecuting, has_in, sets_in}
 use Rattle.local_mesh.proofs.halo_lists.SetsReading.{sets_read}
-use Rattle.std.proofs.lemmas.Bool.{cases_eq}
 use Rattle.std.proofs.lemmas.List.{get_or_push, get_or_append_left}
 use Rattle.lemmas.proofs.Numbers.{nat_eq_comm}
 use Rattle.lemmas.proofs.Truth.{iff_eq}

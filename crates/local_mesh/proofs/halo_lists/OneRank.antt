@@ -5,7 +5,7 @@ use Rattle.std.proofs.lemmas.List.{get_or-replicate}
 use Rattle.mesh_decl.specs.declared.owners.Owners.{Owners}
 use Rattle.mesh_decl.specs.Mesh.{MeshValue, set_count, set_size, IsInRange}
 use Rattle.mesh_decl.specs.Owners.{AreOwners, owner_of}
-use Rattle.rank_sets.specs.Below.{listed}
+use Rattle.lemmas.specs.Below.{listed}
 use Rattle.local_mesh.specs.Halo.{imports_execute, imports_nonexecute, imports, owns, is_core}
 use Rattle.local_mesh.proofs.halo_lists.Implied.{imported_of_others}
 use Rattle.local_mesh.proofs.halo_lists.Importing.{execute_below, core_iff}

@@ -1,11 +1,11 @@
 -- Steps of the loops that collect marks.
 use Rattle.std.proofs.Common.{◌≡◌, ℕ, ◌+◌, ◌<◌, ◌≤◌, Bool, true, false, ◌&&◌, ◌||◌, nat_eq, List, [], ◌∷◌, ◌++◌, length, set, refl, sym, ap, ◌∙◌, arith, ⊎_elim}
 use Rattle.std.proofs.lemmas.Bool.{cases_eq, eq-eqb, ne_eqb}
-use Rattle.rank_sets.specs.Below.{any_below}
-use Rattle.rank_sets.specs.RankSet.{has, has_at}
-use Rattle.rank_sets.specs.declared.rank_set.RankSet.{RankSet}
-use Rattle.rank_sets.proofs.Below.{any_more}
-use Rattle.rank_sets.proofs.Rows.{has_at_set_same, has_at_set_other, has_at_push_left, has_at_push}
+use Rattle.lemmas.specs.Below.{any_below}
+use Rattle.local_mesh.specs.RankSet.{has, has_at}
+use Rattle.local_mesh.specs.declared.rank_sets.rank_set.RankSet.{RankSet}
+use Rattle.lemmas.proofs.Below.{any_more}
+use Rattle.local_mesh.proofs.rank_sets.Rows.{has_at_set_same, has_at_set_other, has_at_push_left, has_at_push}
 use Rattle.lemmas.proofs.Truth.{or_assoc}
 use Rattle.std.proofs.Math.Bool.{and-false, and-true, or-false}
 

@@ -1,10 +1,10 @@
 // Exports by owner and rank.
 ghost use Rattle.std.specs.Prelude.{◌≡◌, ℕ, Bool, true, ◌<◌, ◌≤◌, ◌^◌, ◌&&◌, nat_eq, IfOk, OnOk, length, cond, [], ◌∷◌, ◌++◌};
-ghost use Rattle.rank_sets.specs.Below.{row, rows};
-ghost use Rattle.rank_sets.specs.RankSet.{has};
+ghost use Rattle.lemmas.specs.Below.{row, rows};
+ghost use Rattle.local_mesh.specs.RankSet.{has};
 
 use op_num::OutOfMemory;
-use rank_sets::{RankSet, empty_lists, push_each};
+use crate::rank_sets::{RankSet, empty_lists, push_each};
 use std::alloc::Global;
 
 /// Appends an element to its owner's list for each rank of a set.

@@ -1,15 +1,15 @@
 // The ranks that execute an element.
 ghost use Rattle.std.specs.Prelude.{◌≡◌, ℕ, Bool, false, true, ◌<◌, ◌≤◌, ◌↔◌, ◌&&◌, ◌||◌, not, nat_eq, IsTrue, IsSome, IfSome, IfNone};
 ghost use Rattle.std.specs.Prelude.{IfOk, length, slice_index};
-ghost use Rattle.rank_sets.specs.Below.{any_below};
+ghost use Rattle.lemmas.specs.Below.{any_below};
 ghost use Rattle.mesh_decl.specs.Mesh.{map_count, set_count, set_size, map_from, map_to, map_dim, target, IsInRange};
 ghost use Rattle.mesh_decl.specs.Owners.{AreOwners};
-ghost use Rattle.rank_sets.specs.RankSet.{has, has_at};
+ghost use Rattle.local_mesh.specs.RankSet.{has, has_at};
 ghost use Rattle.local_mesh.specs.Halo.{reaches_by, executes};
 
 use mesh_decl::{Mesh, Owners};
 use op_num::OutOfMemory;
-use rank_sets::RankSet;
+use crate::rank_sets::RankSet;
 use std::alloc::Global;
 
 /// The owners of an element's targets by one map.

@@ -1,15 +1,15 @@
 // The ranks that name an element as a target.
 ghost use Rattle.std.specs.Prelude.{◌≡◌, ℕ, Bool, false, true, ◌<◌, ◌≤◌, ◌↔◌, ◌&&◌, ◌||◌, not, nat_eq, IsTrue, IsSome, IfSome, IfNone};
 ghost use Rattle.std.specs.Prelude.{IfOk, length};
-ghost use Rattle.rank_sets.specs.Below.{any_below};
+ghost use Rattle.lemmas.specs.Below.{any_below};
 ghost use Rattle.mesh_decl.specs.Mesh.{map_count, set_count, set_size, map_from, map_to, map_dim, target, IsInRange};
-ghost use Rattle.rank_sets.specs.RankSet.{has, has_at};
+ghost use Rattle.local_mesh.specs.RankSet.{has, has_at};
 ghost use Rattle.local_mesh.specs.Halo.{named_by, named_from};
 ghost use Rattle.local_mesh.specs.Sets.{AreSets, has_in};
 
 use mesh_decl::Mesh;
 use op_num::OutOfMemory;
-use rank_sets::RankSet;
+use crate::rank_sets::RankSet;
 use std::alloc::Global;
 
 /// Adds ranks to each target of an element by one map.

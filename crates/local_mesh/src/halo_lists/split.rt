@@ -2,8 +2,8 @@
 ghost use Rattle.std.specs.Prelude.{◌≡◌, ℕ, ◌<◌, ◌+◌, OnOk, IfOk, [], length};
 ghost use Rattle.mesh_decl.specs.Mesh.{set_count, set_size};
 ghost use Rattle.mesh_decl.specs.Owners.{AreOwners};
-ghost use Rattle.rank_sets.specs.Below.{row, rows};
-ghost use Rattle.rank_sets.specs.RankSet.{has, has_at};
+ghost use Rattle.lemmas.specs.Below.{row, rows};
+ghost use Rattle.local_mesh.specs.RankSet.{has, has_at};
 ghost use Rattle.local_mesh.specs.Halo.{executes, named};
 ghost use Rattle.local_mesh.specs.Halos.{IsSetHalo, IsHaloBelow};
 
@@ -11,7 +11,7 @@ use crate::halo_lists::exports::{empty_exports, push_export};
 use crate::halo_lists::types::SetHalo;
 use mesh_decl::{Mesh, Owners};
 use op_num::OutOfMemory;
-use rank_sets::{RankSet, empty_lists, push_each};
+use crate::rank_sets::{RankSet, empty_lists, push_each};
 use std::alloc::Global;
 
 // Adds an element to the halos of the elements before it: it is imported to execute by those that execute it but its

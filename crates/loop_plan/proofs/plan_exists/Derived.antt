@@ -4,7 +4,7 @@ use Rattle.std.proofs.lemmas.Bool.{eqb-true, eq-eqb}
 use Rattle.mesh_decl.specs.declared.owners.Owners.{Owners}
 use Rattle.mesh_decl.specs.Mesh.{MeshValue, IsMesh, set_count, set_size}
 use Rattle.mesh_decl.specs.Owners.{owners_in}
-use Rattle.rank_sets.specs.Below.{any_below}
+use Rattle.lemmas.specs.Below.{any_below}
 use Rattle.partition.specs.Derive.{AreDerived, AreKnown}
 use Rattle.partition.proofs.TurnSteps.{IsTurn, turn_init, turn_step, turn_none, turn_done}
 use Rattle.partition.proofs.OneSet.{derived_one, derived_own, one_kept}

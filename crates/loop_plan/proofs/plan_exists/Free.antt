@@ -2,8 +2,8 @@
 use Rattle.std.proofs.Common.{◌≡◌, ◌+◌, ◌<◌, ◌≤◌, ℕ, zero, suc, Bool, true, false, ◌&&◌, nat_eq, cond, List, [], ◌∷◌, ◌++◌, length, get_or, refl, sym, ◌∙◌, subst, arith, ⊎_elim, inl, inr, ◌⊎◌}
 use Rattle.std.proofs.lemmas.Bool.{cases_eq, cases_Bool, eq-eqb, eqb-true, false_from_ne_true, and_from, and_parts}
 use Rattle.std.proofs.lemmas.List.{get_or_push, get_or_append_left, length_push}
-use Rattle.rank_sets.specs.Below.{any_below}
-use Rattle.rank_sets.proofs.Below.{any_from, any_witness}
+use Rattle.lemmas.specs.Below.{any_below}
+use Rattle.lemmas.proofs.Below.{any_from, any_witness}
 use Rattle.colouring.specs.Colours.{IsLeast}
 
 -- no less than anything in a list

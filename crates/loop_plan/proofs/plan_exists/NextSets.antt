@@ -2,7 +2,7 @@
 use Rattle.std.proofs.Common.{◌≡◌, ◌<◌, ℕ, Bool, true, false, not, cond, List, length, get_or, sym, ◌∙◌, subst, ⊎_elim, inl, inr, ◌⊎◌}
 use Rattle.std.proofs.lemmas.Bool.{cases_Bool, and_parts}
 use Rattle.mesh_decl.specs.Mesh.{MeshValue, set_count, map_count, set_size, map_from, map_to}
-use Rattle.rank_sets.specs.Below.{any_below}
+use Rattle.lemmas.specs.Below.{any_below}
 use Rattle.partition.specs.Block.{InBlock}
 use Rattle.partition.specs.Elected.{IsElected, target_votes, naming_votes, is_named}
 use Rattle.partition.specs.Derive.{IsFirst, IsNextSet, can_follow_targets, can_follow_names, leads_to_known, leads_from_known}

@@ -1,8 +1,7 @@
 -- A plan of a program that fits.
 use Rattle.std.proofs.Common.{◌≡◌, ◌*◌, ◌<◌, ◌≤◌, ℕ, zero, suc, Bool, List, length, map, refl, sym, ap, ◌∙◌, subst, arith}
-use Rattle.std.proofs.lemmas.List.{length-map}
-use Rattle.std.proofs.lemmas.List.{length-append}
-use Rattle.rank_sets.specs.Below.{listed}
+use Rattle.std.proofs.lemmas.List.{length-map, length-append}
+use Rattle.lemmas.specs.Below.{listed}
 use Rattle.mesh_decl.specs.declared.owners.Owners.{Owners}
 use Rattle.mesh_decl.specs.declared.owners.Perms.{Perms}
 use Rattle.mesh_decl.specs.Mesh.{dat_count}

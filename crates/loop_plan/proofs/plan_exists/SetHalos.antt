@@ -1,6 +1,6 @@
 -- The halos of a mesh, by number.
 use Rattle.std.proofs.Common.{◌≡◌, ◌≤◌, ◌<◌, ◌^◌, ℕ, false, ◌&&◌, List, length, refl, sym, ap, ◌∙◌, subst, arith, Vec, Global, get_or}
-use Rattle.rank_sets.specs.Below.{listed, row, rows}
+use Rattle.lemmas.specs.Below.{listed, row, rows}
 use Rattle.mesh_decl.specs.declared.owners.Owners.{Owners}
 use Rattle.mesh_decl.specs.Mesh.{MeshValue, set_count, set_size}
 use Rattle.local_mesh.specs.declared.halo_lists.types.SetHalo.{SetHalo}

@@ -1,7 +1,7 @@
 -- Lists that memory can have.
 use Rattle.std.proofs.Common.{ℕ, ◌<◌, ◌≤◌, ◌^◌, Bool, length, arith, cond, suc, zero, true, false}
-use Rattle.rank_sets.specs.Below.{listed, count_below}
-use Rattle.rank_sets.proofs.Below.{length_listed}
+use Rattle.lemmas.specs.Below.{listed, count_below}
+use Rattle.lemmas.proofs.Below.{length_listed}
 
 cond_few : (t : Bool) → cond {A = ℕ} t 1 0 ≤ 1
 cond_few true = omega arith

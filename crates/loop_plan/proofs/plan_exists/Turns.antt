@@ -4,8 +4,8 @@ use Rattle.std.specs.List.{Contains, list_any}
 use Rattle.std.proofs.lemmas.Bool.{cases_eq, cases_Bool, eq-eqb, ne_eqb, eqb-true, false_from_ne_true, not-false}
 use Rattle.std.proofs.lemmas.List.{get_or_push, get_or_append_left, length_push, take_all, take-append-le}
 use Rattle.std.proofs.lemmas.List.Folds.{list_any-append}
-use Rattle.rank_sets.specs.Below.{count_below}
-use Rattle.rank_sets.proofs.Below.{count_agree}
+use Rattle.lemmas.specs.Below.{count_below}
+use Rattle.lemmas.proofs.Below.{count_agree}
 use Rattle.loop_plan.proofs.plan_exists.Short.{count_few}
 use Rattle.loop_plan.proofs.plan_exists.Tests.{any_in, any_of}
 use Rattle.loop_plan.proofs.plan_exists.Picked.{By, IsPicked, picked}

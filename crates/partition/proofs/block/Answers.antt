@@ -3,7 +3,7 @@ use Rattle.std.proofs.lemmas.List.{length_push}
 use Rattle.mesh_decl.specs.Mesh.{set_count, set_size}
 use Rattle.mesh_decl.specs.Owners.{owners_in, owner_of}
 use Rattle.partition.specs.Block.{InBlock}
-use Rattle.rank_sets.proofs.Growing.{list_more, moved}
+use Rattle.lemmas.proofs.Growing.{list_more, moved}
 use Rattle.partition.proofs.Shares.{share_count}
 use Rattle.partition.proofs.block.Goals as goal
 

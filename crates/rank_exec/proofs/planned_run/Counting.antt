@@ -11,7 +11,7 @@ use Rattle.std.proofs.lemmas.List.{get_or-drop, get_or_default, get_or_past, len
 use Rattle.std.proofs.lemmas.List.Sums.{length-filter}
 use Rattle.std.proofs.lemmas.List.FromFn.{length-map-range_with_len}
 use Rattle.std.proofs.lemmas.Map.Made.{is_member-Decides, IsDistinct-from_AllPairs, length-IsIntersection}
-use Rattle.rank_sets.specs.Below.{HasNumbers, listed}
+use Rattle.lemmas.specs.Below.{HasNumbers, listed}
 use Rattle.mesh_decl.specs.declared.owners.Owners.{Owners}
 use Rattle.mesh_decl.specs.declared.owners.Perms.{Perms}
 use Rattle.mesh_decl.specs.Mesh.{MeshValue, set_count, set_size, dat_count, dat_set, dat_dim}

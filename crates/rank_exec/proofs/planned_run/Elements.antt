@@ -6,7 +6,7 @@ use Rattle.std.proofs.lemmas.Bool.{cases_lt, or_cases, or_left, or_right, eqb-tr
 use Rattle.std.proofs.lemmas.Bool.Decides.{Decides-eqb}
 use Rattle.std.proofs.lemmas.List.{get_or-map, get_or-drop, get_or-take, get_or_default, length-drop, length-take}
 use Rattle.std.proofs.lemmas.Map.Made.{is_member-Decides}
-use Rattle.rank_sets.specs.Below.{HasNumbers}
+use Rattle.lemmas.specs.Below.{HasNumbers}
 use Rattle.mesh_decl.specs.declared.owners.Owners.{Owners}
 use Rattle.mesh_decl.specs.declared.owners.Perms.{Perms}
 use Rattle.mesh_decl.specs.Mesh.{MeshValue, IsMesh, IsDatAt, set_count, set_size, dat_count}

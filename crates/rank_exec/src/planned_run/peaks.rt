@@ -12,7 +12,7 @@ pub fn peaks_are_room()
     ensures cells { CellsAreExported }
     ensures room { PeaksAreRoom }
 {
-    rank_sets::numbers_are_listed();
+    lemmas::numbers_are_listed();
     mesh_decl::declarations_hold();
     local_mesh::halo_lists::imports_are_of_others();
     local_mesh::owned_come_first();

@@ -3,8 +3,8 @@ use Rattle.std.proofs.Common.{◌≡◌, ◌≢◌, ◌⊎◌, ℕ, ◌+◌, Boo
 use Rattle.std.specs.List.{Contains}
 use Rattle.std.proofs.lemmas.Bool.{cases_eq, eq-eqb, eqb-true}
 use Rattle.std.proofs.lemmas.List.Elements.{Contains-append_left, Contains-push, Contains-push_cases}
-use Rattle.rank_sets.specs.Below.{any_below}
-use Rattle.rank_sets.proofs.Below.{any_from, any_witness}
+use Rattle.lemmas.specs.Below.{any_below}
+use Rattle.lemmas.proofs.Below.{any_from, any_witness}
 use Rattle.lemmas.proofs.Truth.{not_both}
 
 -- what stands in a list stood in the old one, or is a target at one of the first n places but x

@@ -5,8 +5,8 @@ use Rattle.std.proofs.lemmas.Bool.{cases_Bool, cases_eq, cases_lt, eq-eqb, ne_eq
 use Rattle.std.proofs.lemmas.List.{length-append, length-replicate, get_or-replicate, get_or_append_left, get_or-append_right, get_or-set_same, get_or-set_other, replicate-append-replicate}
 use Rattle.std.proofs.lemmas.List.Elements.{Contains-append_left, Contains-append_right}
 use Rattle.mesh_decl.specs.Mesh.{MeshValue, map_dim, target}
-use Rattle.rank_sets.specs.Below.{any_below, count_below}
-use Rattle.rank_sets.proofs.Below.{any_from, any_witness, count_more, count_lt}
+use Rattle.lemmas.specs.Below.{any_below, count_below}
+use Rattle.lemmas.proofs.Below.{any_from, any_witness, count_more, count_lt}
 use Rattle.renumber.specs.Neighbours.{has_target, times, havers}
 use Rattle.renumber.proofs.breadth_order.Near.{count_within}
 

@@ -3,8 +3,8 @@ use Rattle.std.proofs.Common.{◌≡◌, ◌≢◌, ℕ, zero, suc, ◌+◌, ◌
 use Rattle.std.proofs.lemmas.Bool.{cases_eq, eq-eqb, ne_eqb, and_parts, and_from}
 use Rattle.std.proofs.lemmas.List.{get_or-set_same, get_or-set_other, get_or_default}
 use Rattle.mesh_decl.specs.Mesh.{MeshValue, set_size, map_from, map_to}
-use Rattle.rank_sets.specs.Below.{any_below, count_below}
-use Rattle.rank_sets.proofs.Below.{any_from, any_witness, any_more, count_agree}
+use Rattle.lemmas.specs.Below.{any_below, count_below}
+use Rattle.lemmas.proofs.Below.{any_from, any_witness, any_more, count_agree}
 use Rattle.renumber.specs.Neighbours.{has_target, are_neighbours, havers}
 use Rattle.renumber.specs.Degrees.{degree}
 use Rattle.renumber.proofs.breadth_order.Having.{haver_at, haver_has}

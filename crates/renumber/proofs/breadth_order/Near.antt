@@ -2,8 +2,8 @@
 use Rattle.std.proofs.Common.{◌≡◌, ℕ, zero, suc, ◌+◌, ◌<◌, ◌≤◌, Bool, true, false, not, ◌&&◌, nat_eq, List, arith, inl, inr, ⊎_elim, subst, refl}
 use Rattle.std.proofs.lemmas.Bool.{cases_Bool, eqb-true, and_parts}
 use Rattle.mesh_decl.specs.Mesh.{MeshValue, IsMapAt, map_count, set_size, map_from, map_to, map_dim, target}
-use Rattle.rank_sets.specs.Below.{any_below, count_below}
-use Rattle.rank_sets.proofs.Below.{any_witness}
+use Rattle.lemmas.specs.Below.{any_below, count_below}
+use Rattle.lemmas.proofs.Below.{any_witness}
 use Rattle.renumber.specs.Neighbours.{has_target, are_neighbours}
 use Rattle.renumber.specs.Taken.{earliest, IsNext}
 

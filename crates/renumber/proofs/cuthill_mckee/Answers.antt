@@ -2,7 +2,7 @@ use Rattle.std.proofs.Common.{◌≡◌, ◌∙◌, ℕ, List, [], arith, refl, 
 use Rattle.std.proofs.lemmas.List.{length_push}
 use Rattle.mesh_decl.specs.Mesh.{set_count, set_size, map_from, map_to}
 use Rattle.mesh_decl.specs.Owners.{IsNumbering, perm_in}
-use Rattle.rank_sets.proofs.Growing.{list_more}
+use Rattle.lemmas.proofs.Growing.{list_more}
 use Rattle.renumber.specs.Neighbours.{are_neighbours}
 use Rattle.renumber.specs.Degrees.{degree_order}
 use Rattle.renumber.specs.CuthillMcKee.{IsSetOrder, IsByTargets}

@@ -2,7 +2,7 @@ use Rattle.std.proofs.Common.{◌≡◌, ◌<◌, ℕ, List, [], arith, length, 
 use Rattle.std.proofs.lemmas.List.{length_push}
 use Rattle.mesh_decl.specs.Mesh.{set_count, set_size}
 use Rattle.mesh_decl.specs.Owners.{perm_in}
-use Rattle.rank_sets.proofs.Growing.{list_more, moved}
+use Rattle.lemmas.proofs.Growing.{list_more, moved}
 use Rattle.renumber.proofs.Kept.{kept_numbers}
 use Rattle.renumber.proofs.identity.Goals as goal
 

@@ -1,6 +1,6 @@
 // How many neighbours each element has.
 ghost use Rattle.std.specs.Prelude.{◌≡◌, ◌≢◌, ℕ, ◌<◌, ◌≤◌, ◌+◌, ◌^◌, ◌&&◌, ◌||◌, not, nat_eq, IfOk, length, slice_index};
-ghost use Rattle.rank_sets.specs.Below.{any_below, count_below};
+ghost use Rattle.lemmas.specs.Below.{any_below, count_below};
 ghost use Rattle.mesh_decl.specs.Mesh.{IsMapAt, map_count, set_size, map_from, map_to};
 ghost use Rattle.renumber.specs.Degrees.{degree};
 ghost use Rattle.renumber.specs.Neighbours.{has_target, IsInverse};

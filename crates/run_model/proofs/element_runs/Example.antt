@@ -16,10 +16,8 @@ use Rattle.op_num.specs.Access.{OpRw, OpWrite}
 use Rattle.kernel_model.specs.Obeys.{Mode, mode_at, KernelObeys}
 use Rattle.kernel_model.specs.Independence.{same_cell}
 use Rattle.kernel_model.specs.Independence as law
-use Rattle.schedule_model.specs.Cells.{DatCell, Cell, Data, Variable, Store, InRange, with_cell}
-use Rattle.schedule_model.specs.Cells.{same_cell as alike}
+use Rattle.schedule_model.specs.Cells.{DatCell, Cell, Data, Variable, Store, InRange, with_cell, same_cell as alike}
 use Rattle.schedule_model.specs.Effects.{Ran, Finished}
-use Rattle.op_num.specs.Access.{OpRw}
 use Rattle.schedule_model.specs.Arguments.{Argument, Direct, Entries, reaches}
 use Rattle.run_model.specs.ElementRun.{IsElementRun, Held}
 use Rattle.run_model.specs.OnWindows.{OnWindows, no_cell}

@@ -8,8 +8,7 @@ use Rattle.kernel_model.specs.Meaning.{Target, target_at, cell, read_arg, kernel
 use Rattle.kernel_model.specs.Meaning as kernel
 use Rattle.kernel_model.specs.Obeys.{Mode, mode_at}
 use Rattle.kernel_model.specs.Independence.{Fits, store_after, ShapeStays}
-use Rattle.schedule_model.specs.Cells.{Cell, Store}
-use Rattle.schedule_model.specs.Cells.{same_cell as one_cell}
+use Rattle.schedule_model.specs.Cells.{Cell, Store, same_cell as one_cell}
 use Rattle.schedule_model.specs.Tests.{same_cell_refl, same_cell_true}
 use Rattle.schedule_model.specs.Effects.{Ran, Faulted, Finished}
 use Rattle.schedule_model.specs.Arguments.{Argument, Entries, reaches}

@@ -18,8 +18,7 @@ use Rattle.run_model.specs.OnWindows.{no_cell, OnWindows, core_of}
 use Rattle.bound_program.specs.Values.{BoundValue, SiteValue}
 use Rattle.bound_program.specs.Fits.{SiteFits, ConstantsFit}
 use Rattle.run_model.specs.Windows.{window_cells, windows}
-use Rattle.run_model.specs.Kernels.{kernel_at, constant_values, run_of}
-use Rattle.run_model.specs.Kernels.{element_run as cells_run}
+use Rattle.run_model.specs.Kernels.{kernel_at, constant_values, run_of, element_run as cells_run}
 use Rattle.run_model.specs.Arguments.{modes_of, cell_of}
 use Rattle.run_model.specs.Constants.{ConstantsAreNumbered}
 use Rattle.run_model.specs.Laws.{WindowsAreReached}

@@ -11,7 +11,7 @@ use Rattle.std.proofs.lemmas.Map.Made.{lookup-map_values}
 use Rattle.std.proofs.lemmas.Option.{none-some, same_Some}
 use Rattle.std.proofs.Math.Bool.{or-false}
 use Rattle.std.proofs.lemmas.List.Folds.{list_any-append, list_any_at}
-use Rattle.rank_sets.specs.Below.{listed}
+use Rattle.lemmas.specs.Below.{listed}
 use Rattle.local_mesh.specs.declared.types.RankMesh.{RankMesh}
 use Rattle.colouring.specs.declared.types.Colours.{Colours}
 use Rattle.bound_program.specs.Values.{BoundValue, Exit, Free, Host}

@@ -5,8 +5,8 @@ use Rattle.std.specs.declared.alloc.Global.{Global}
 use Rattle.std.proofs.lemmas.Bool.{cases_eq, eq-eqb, ne_eqb}
 use Rattle.std.proofs.lemmas.List.{take_more, map-append}
 use Rattle.std.proofs.lemmas.List.Elements.{filter-append}
-use Rattle.rank_sets.specs.Below.{row}
-use Rattle.rank_sets.proofs.Rows.{row_set_same, row_set_other}
+use Rattle.lemmas.specs.Below.{row}
+use Rattle.lemmas.proofs.Rows.{row_set_same, row_set_other}
 use Rattle.loop_plan.specs.declared.types.Pair.{Pair}
 use Rattle.schedule_check.specs.Messages.{HasMessages}
 use Rattle.schedule_check.proofs.plan_orders.TableReads.{row_past}

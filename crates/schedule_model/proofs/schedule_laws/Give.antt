@@ -7,10 +7,9 @@ use Rattle.schedule_model.specs.Cells.{Data, Variable, DatCell, VarCell}
 use Rattle.schedule_model.specs.Effects.{Untouched, Merged, is_read, is_modified}
 use Rattle.schedule_model.specs.Program.{Free, elements}
 use Rattle.schedule_model.specs.Setup.{Setup, in_set, owner_of, has_copy, executes}
-use Rattle.schedule_model.specs.Laws.{Reaches, Lawful, Coloured}
+use Rattle.schedule_model.specs.Laws.{Reaches, Lawful, Coloured, Kernels, Items}
 use Rattle.op_num.specs.Access.{Access, OpRead, OpWrite, OpRw, OpReduce}
 use Rattle.schedule_model.specs.Arguments.{Argument, Direct, Indirect, Global, access_of, modifying, reading, is_direct, is_on, target, reaches}
-use Rattle.schedule_model.specs.Laws.{Kernels, Items}
 use Rattle.schedule_model.specs.LoopParts.{LoopParts}
 use Rattle.schedule_model.proofs.schedule_laws.Touches.{read_by, modified_by, none_reach, one_reduction, one_argument, reaches_on, reaches_named, named_reaches}
 

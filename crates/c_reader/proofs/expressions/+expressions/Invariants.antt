@@ -1,7 +1,6 @@
 use Rattle.std.proofs.Common.{◌≡◌, ◌+◌, ◌-◌, ◌*◌}
 use Rattle.c_tree.specs.View.{expr_of}
-use Rattle.c_reader.specs.Descent.{chain}
-use Rattle.c_reader.specs.Descent.{read as read_at}
+use Rattle.c_reader.specs.Descent.{chain, read as read_at}
 use Rattle.c_reader.specs.Kinds.{kinds}
 use Rattle.c_reader.proofs.expressions.+expressions.Given as goal
 

@@ -1,6 +1,5 @@
-use Rattle.std.proofs.Common.{rules}
+use Rattle.std.proofs.Common.{rules, arith}
 use Rattle.std.proofs.lemmas.Grind.{common_steps}
-use Rattle.std.proofs.Common.{arith}
 use Rattle.c_reader.specs.Whole.{kernel_at}
 use Rattle.c_reader.proofs.StmtTurns.{trees_are}
 use Rattle.c_reader.proofs.tops.read_kernel.Goals as goal

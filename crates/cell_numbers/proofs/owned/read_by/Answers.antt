@@ -1,6 +1,6 @@
 use Rattle.std.proofs.Common.{ℕ, ◌<◌, ◌∙◌, sym, ap, subst, List, Vec, length}
 use Rattle.std.specs.declared.alloc.Global.{Global}
-use Rattle.rank_sets.specs.Below.{row}
+use Rattle.lemmas.specs.Below.{row}
 use Rattle.cell_numbers.proofs.Halos.{nonexec_read, row_read}
 use Rattle.cell_numbers.proofs.owned.read_by.Goals as goal
 

@@ -1,5 +1,5 @@
 use Rattle.std.proofs.Common.{◌≡◌, ◌≤◌}
-use Rattle.rank_sets.specs.Below.{count_below}
+use Rattle.lemmas.specs.Below.{count_below}
 use Rattle.bound_program.specs.Values.{bound_of}
 use Rattle.chain_model.specs.Counts.{begins_at}
 use Rattle.chain_needs.proofs.counting.chain_count.Given as goal

@@ -1,7 +1,7 @@
 use Rattle.std.proofs.Common.{◌≡◌, ◌||◌, ℕ, nat_eq, take}
 use Rattle.std.specs.List.{list_any}
 use Rattle.mesh_decl.specs.Owners.{owner_of}
-use Rattle.rank_sets.specs.RankSet.{has}
+use Rattle.local_mesh.specs.RankSet.{has}
 use Rattle.bound_program.specs.Values.{bound_of}
 use Rattle.chain_model.specs.Slices.{modifies_some}
 use Rattle.chain_needs.specs.PairSets.{pairs_of}

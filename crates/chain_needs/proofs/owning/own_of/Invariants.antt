@@ -1,5 +1,5 @@
 use Rattle.std.proofs.Common.{◌≡◌, ◌<◌, ℕ, length}
-use Rattle.rank_sets.specs.RankSet.{has_at}
+use Rattle.local_mesh.specs.RankSet.{has_at}
 use Rattle.bound_program.specs.Values.{bound_of}
 use Rattle.chain_model.specs.Slices.{owns_pair}
 use Rattle.chain_needs.proofs.owning.own_of.Given as goal

@@ -1,7 +1,7 @@
 use Rattle.std.proofs.Common.{◌≡◌, ◌<◌, List, length, ap, ◌∙◌, arith}
-use Rattle.rank_sets.specs.declared.rank_set.RankSet.{RankSet}
-use Rattle.rank_sets.specs.RankSet.{has_at}
-use Rattle.rank_sets.proofs.Rows.{has_at_read}
+use Rattle.local_mesh.specs.declared.rank_sets.rank_set.RankSet.{RankSet}
+use Rattle.local_mesh.specs.RankSet.{has_at}
+use Rattle.local_mesh.proofs.rank_sets.Rows.{has_at_read}
 use Rattle.local_mesh.specs.Sets.{sets_in}
 use Rattle.local_mesh.proofs.halo_lists.SetsReading.{sets_read}
 use Rattle.chain_needs.proofs.reaching.ranks_at.Goals as goal

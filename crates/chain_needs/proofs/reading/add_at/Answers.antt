@@ -1,4 +1,4 @@
-use Rattle.rank_sets.specs.RankSet.{has_at}
+use Rattle.local_mesh.specs.RankSet.{has_at}
 use Rattle.local_mesh.proofs.halo_lists.Steps.{union_at}
 use Rattle.chain_needs.proofs.reading.add_at.Goals as goal
 

@@ -1,7 +1,7 @@
 use Rattle.std.proofs.Common.{◌≡◌, ◌||◌, ◌&&◌, ℕ}
 use Rattle.std.specs.List.{list_any}
-use Rattle.rank_sets.specs.Below.{any_below}
-use Rattle.rank_sets.specs.RankSet.{has_at}
+use Rattle.lemmas.specs.Below.{any_below}
+use Rattle.local_mesh.specs.RankSet.{has_at}
 use Rattle.bound_program.specs.Values.{bound_of}
 use Rattle.bound_program.specs.Fits.{site_at}
 use Rattle.chain_model.specs.Slices.{reads_pair}

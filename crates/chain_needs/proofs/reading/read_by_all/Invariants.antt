@@ -1,6 +1,6 @@
 use Rattle.std.proofs.Common.{◌≡◌, ◌||◌, ◌&&◌, ℕ, take}
 use Rattle.std.specs.List.{list_any}
-use Rattle.rank_sets.specs.RankSet.{has, has_at}
+use Rattle.local_mesh.specs.RankSet.{has, has_at}
 use Rattle.bound_program.specs.Values.{bound_of}
 use Rattle.chain_model.specs.Slices.{reads_pair}
 use Rattle.chain_needs.proofs.reading.read_by_all.Given as goal

@@ -1,7 +1,6 @@
 -- The cells of a target in a block are written.
-use Rattle.std.proofs.Common.{◌≡◌, ◌≢◌, ◌<◌, ◌≤◌, ◌+◌, ◌-◌, ◌*◌, ◌⊎◌, inl, inr, ⊎_elim, ℕ, suc, ℤ, pos, true, false, cond, ◌&&◌, nat_eq, List, length, get_or, refl, sym, ap, ap₂, subst, ◌∙◌, arith}
+use Rattle.std.proofs.Common.{◌≡◌, ◌≢◌, ◌<◌, ◌≤◌, ◌+◌, ◌-◌, ◌*◌, ◌⊎◌, inl, inr, ⊎_elim, ℕ, suc, ℤ, pos, true, false, cond, ◌&&◌, nat_eq, List, length, get_or, refl, sym, ap, ap₂, subst, ◌∙◌, arith, w32, FitsSigned, to_z, of_z}
 use Rattle.std.proofs.lemmas.Bool.{cases_lt, and_parts, eq-eqb, eqb-true, false≢true}
-use Rattle.std.proofs.Common.{w32, FitsSigned, to_z, of_z}
 use Rattle.std.proofs.lemmas.Int.{to_z-of_z}
 use Rattle.std.proofs.Math.Nat.{mul-le-mul_right, suc-mul}
 use Rattle.std.proofs.lemmas.Nat.{same_from_place}

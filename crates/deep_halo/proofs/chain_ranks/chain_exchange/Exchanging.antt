@@ -2,8 +2,8 @@
 use Rattle.std.proofs.Common.{◌≡◌, ◌≢◌, ◌<◌, ◌+◌, ℕ, ℤ, pos, Bool, true, false, not, cond, ◌&&◌, ◌||◌, nat_eq, nat_lt, List, None, length, get_or, refl, sym, ap, ap₂, subst, ◌∙◌, arith}
 use Rattle.std.specs.List.{list_any}
 use Rattle.std.proofs.lemmas.Bool.{and_parts, eq-eqb, eqb-true, lt-ltb, le-ltb, false≢true}
-use Rattle.rank_sets.specs.Below.{listed}
-use Rattle.rank_sets.proofs.Below.{at_listed, length_listed}
+use Rattle.lemmas.specs.Below.{listed}
+use Rattle.lemmas.proofs.Below.{at_listed, length_listed}
 use Rattle.loop_plan.proofs.Numbers.{is_listed}
 use Rattle.mesh_decl.specs.declared.owners.Owners.{Owners}
 use Rattle.mesh_decl.specs.Mesh.{dat_count, dat_set, set_size}

@@ -1,6 +1,6 @@
 use Rattle.std.proofs.Common.{◌≡◌, ℕ, is_some, sym, ap, ◌∙◌, arith}
-use Rattle.rank_sets.specs.Below.{count_below}
-use Rattle.rank_sets.proofs.Below.{length_listed, count_agree}
+use Rattle.lemmas.specs.Below.{count_below}
+use Rattle.lemmas.proofs.Below.{length_listed, count_agree}
 use Rattle.deep_halo.proofs.Counts.{count_most}
 use Rattle.mesh_decl.specs.Mesh.{dat_set, set_size}
 use Rattle.deep_halo.specs.Programs.{held_since, program_of_run, owners_of_run}

@@ -1,5 +1,5 @@
 use Rattle.std.proofs.Common.{◌≡◌}
-use Rattle.rank_sets.specs.Below.{count_below}
+use Rattle.lemmas.specs.Below.{count_below}
 use Rattle.deep_halo.specs.Programs.{held_since, program_of_run, owners_of_run}
 use Rattle.deep_halo.proofs.dumps.held_count.Given as goal
 

@@ -1,5 +1,4 @@
-use Rattle.std.proofs.Common.{◌≡◌, ◌≤◌, ◌+◌, ◌-◌, ◌++◌, [], ℕ, Bool, true, cond, is_some, take, drop, length, sym, ap, ◌∙◌, arith, get_or-take, get_or-drop, length-take-le, length-drop}
-use Rattle.std.proofs.Common.{pos}
+use Rattle.std.proofs.Common.{◌≡◌, ◌≤◌, ◌+◌, ◌-◌, ◌++◌, [], ℕ, Bool, true, cond, is_some, take, drop, length, sym, ap, ◌∙◌, arith, get_or-take, get_or-drop, length-take-le, length-drop, pos}
 use Rattle.mesh_decl.specs.Mesh.{dat_dim}
 use Rattle.gather.specs.Dump.{copy_text}
 use Rattle.chain_model.specs.Dump.{pair_text}

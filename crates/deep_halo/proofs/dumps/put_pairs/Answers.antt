@@ -1,6 +1,6 @@
 use Rattle.std.proofs.Common.{◌≡◌, ◌++◌, ℕ, is_some, ap, ◌∙◌, arith}
 use Rattle.std.specs.List.{flat_map}
-use Rattle.rank_sets.specs.Below.{listed}
+use Rattle.lemmas.specs.Below.{listed}
 use Rattle.mesh_decl.specs.Mesh.{dat_set, set_size}
 use Rattle.chain_model.specs.Dump.{pair_text}
 use Rattle.deep_halo.specs.Programs.{program_of_run}

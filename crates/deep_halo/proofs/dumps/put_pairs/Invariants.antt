@@ -1,7 +1,7 @@
 use Rattle.std.proofs.Common.{◌≡◌, ◌++◌, is_some}
 use Rattle.std.specs.List.{flat_map}
 use Rattle.kernel_types.specs.declared.faults.KernelFault.{KernelFault}
-use Rattle.rank_sets.specs.Below.{listed}
+use Rattle.lemmas.specs.Below.{listed}
 use Rattle.chain_model.specs.Machine.{ChainState}
 use Rattle.chain_model.specs.Dump.{pair_text}
 use Rattle.deep_halo.specs.Running.{StoresStand}

@@ -1,5 +1,4 @@
-use Rattle.mesh_decl.proofs.Declared.{dat_at}
-use Rattle.mesh_decl.proofs.Declared.{in_range}
+use Rattle.mesh_decl.proofs.Declared.{dat_at, in_range}
 use Rattle.distribute.proofs.OneOutcome.{one_owners}
 use Rattle.distribute.proofs.laws.one_owners.Goals as goal
 

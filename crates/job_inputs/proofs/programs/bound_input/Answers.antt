@@ -1,9 +1,8 @@
-use Rattle.op_outside.specs.Outside.{Rose}
+use Rattle.op_outside.specs.Outside.{Rose, Files}
 use Rattle.command_words.specs.Words.{OfSample}
 use Rattle.command_words.specs.Lines.{refused}
 use Rattle.answers.specs.Answers.{BoundAnswers}
 use Rattle.job_inputs.specs.Chains.{Never}
-use Rattle.op_outside.specs.Outside.{Files}
 use Rattle.job_inputs.proofs.Chained.{if_err_weaker, stops_always}
 use Rattle.job_inputs.proofs.programs.bound_input.Goals as goal
 

@@ -1,7 +1,7 @@
 use Rattle.std.proofs.Common.{◌<◌, ◌||◌, ◌&&◌, ℕ, List, length, get_or, nat_eq, arith, sym, ap, ◌∙◌, subst}
-use Rattle.rank_sets.specs.Below.{row}
-use Rattle.rank_sets.specs.RankSet.{has, has_at}
-use Rattle.rank_sets.proofs.Rows.{row_read}
+use Rattle.lemmas.specs.Below.{row}
+use Rattle.local_mesh.specs.RankSet.{has, has_at}
+use Rattle.lemmas.proofs.Rows.{row_read}
 use Rattle.local_mesh.specs.Standing.{stands}
 use Rattle.local_mesh.proofs.Adding.{rank_more, all_added}
 use Rattle.local_mesh.proofs.groups.add_ranks.Goals as goal

@@ -1,6 +1,6 @@
 use Rattle.std.proofs.Common.{◌≡◌, ◌&&◌, ◌||◌, ltb, ℕ}
-use Rattle.rank_sets.specs.Below.{row}
-use Rattle.rank_sets.specs.RankSet.{has_at}
+use Rattle.lemmas.specs.Below.{row}
+use Rattle.local_mesh.specs.RankSet.{has_at}
 use Rattle.local_mesh.specs.Standing.{stands}
 use Rattle.local_mesh.proofs.groups.add_ranks.Given as goal
 

@@ -1,5 +1,5 @@
 use Rattle.std.proofs.Common.{refl, get_or}
-use Rattle.rank_sets.specs.RankSet.{has_at}
+use Rattle.local_mesh.specs.RankSet.{has_at}
 use Rattle.local_mesh.proofs.halo_lists.Steps.{name_more}
 use Rattle.local_mesh.proofs.groups.add_to_each.Goals as goal
 

@@ -1,6 +1,6 @@
 use Rattle.std.proofs.Common.{◌≡◌, ◌&&◌, ◌||◌, nat_eq, ℕ, get_or}
-use Rattle.rank_sets.specs.Below.{any_below}
-use Rattle.rank_sets.specs.RankSet.{has, has_at}
+use Rattle.lemmas.specs.Below.{any_below}
+use Rattle.local_mesh.specs.RankSet.{has, has_at}
 use Rattle.local_mesh.proofs.groups.add_to_each.Given as goal
 
 abbrev pub invariant-loop-element : goal.invariant-loop-element

@@ -1,6 +1,6 @@
 use Rattle.std.proofs.Common.{arith}
 use Rattle.std.proofs.lemmas.List.{length_push}
-use Rattle.rank_sets.proofs.Appending.{empty_more}
+use Rattle.local_mesh.proofs.rank_sets.Appending.{empty_more}
 use Rattle.local_mesh.proofs.groups.lists_with_room.Goals as goal
 
 pub loop-room-preserved : goal.loop-room-preserved

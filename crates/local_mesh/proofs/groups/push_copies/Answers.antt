@@ -1,9 +1,9 @@
 use Rattle.std.proofs.Common.{◌≡◌, ◌<◌, ◌||◌, ◌++◌, ◌∷◌, [], Bool, true, false, ap, sym, ◌∙◌, refl, ⊎_elim, arith, length, cond, nat_eq, ℕ, get_or}
 use Rattle.std.proofs.lemmas.Bool.{eqb-true, or_cases}
-use Rattle.rank_sets.specs.Below.{row}
-use Rattle.rank_sets.specs.RankSet.{has, has_at}
-use Rattle.rank_sets.specs.declared.rank_set.RankSet.{RankSet}
-use Rattle.rank_sets.proofs.Appending.{listed_step}
+use Rattle.lemmas.specs.Below.{row}
+use Rattle.local_mesh.specs.RankSet.{has, has_at}
+use Rattle.local_mesh.specs.declared.rank_sets.rank_set.RankSet.{RankSet}
+use Rattle.lemmas.proofs.Below.{listed_step}
 use Rattle.local_mesh.proofs.groups.push_copies.Goals as goal
 use Rattle.lemmas.proofs.Numbers.{nat_eq_comm}
 

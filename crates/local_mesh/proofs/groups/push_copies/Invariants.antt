@@ -1,6 +1,6 @@
 use Rattle.std.proofs.Common.{◌≡◌, ◌<◌, ◌||◌, ℕ, nat_eq, length, get_or}
-use Rattle.rank_sets.specs.Below.{row, listed}
-use Rattle.rank_sets.specs.RankSet.{has_at}
+use Rattle.lemmas.specs.Below.{row, listed}
+use Rattle.local_mesh.specs.RankSet.{has_at}
 use Rattle.local_mesh.proofs.groups.push_copies.Given as goal
 
 abbrev pub invariant-loop-element : goal.invariant-loop-element

@@ -1,8 +1,8 @@
 use Rattle.std.proofs.Common.{◌≡◌, ◌<◌, ◌||◌, ◌++◌, ◌∷◌, [], false, ap, sym, ◌∙◌, arith, length, cond, nat_eq, ℕ, get_or}
 use Rattle.std.proofs.lemmas.Bool.{eqb-true}
-use Rattle.rank_sets.specs.Below.{row}
-use Rattle.rank_sets.specs.RankSet.{has}
-use Rattle.rank_sets.specs.declared.rank_set.RankSet.{RankSet}
+use Rattle.lemmas.specs.Below.{row}
+use Rattle.local_mesh.specs.RankSet.{has}
+use Rattle.local_mesh.specs.declared.rank_sets.rank_set.RankSet.{RankSet}
 use Rattle.local_mesh.proofs.Inverse.{ordered_step}
 use Rattle.local_mesh.proofs.groups.push_owned.Goals as goal
 use Rattle.lemmas.proofs.Numbers.{nat_eq_comm}

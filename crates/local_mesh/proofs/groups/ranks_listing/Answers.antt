@@ -1,9 +1,9 @@
 use Rattle.std.proofs.Common.{◌≡◌, ◌||◌, ◌∙◌, List, length, arith, ap}
 use Rattle.std.proofs.lemmas.List.{with_items_is}
-use Rattle.rank_sets.specs.Below.{row}
-use Rattle.rank_sets.specs.RankSet.{has_at}
-use Rattle.rank_sets.specs.declared.rank_set.RankSet.{RankSet}
-use Rattle.rank_sets.proofs.Rows.{has_at_replicate}
+use Rattle.lemmas.specs.Below.{row}
+use Rattle.local_mesh.specs.RankSet.{has_at}
+use Rattle.local_mesh.specs.declared.rank_sets.rank_set.RankSet.{RankSet}
+use Rattle.local_mesh.proofs.rank_sets.Rows.{has_at_replicate}
 use Rattle.local_mesh.specs.Standing.{stands}
 use Rattle.local_mesh.proofs.groups.ranks_listing.Goals as goal
 

@@ -1,6 +1,6 @@
 use Rattle.std.proofs.Common.{List, ap, length, ◌∙◌}
-use Rattle.rank_sets.specs.declared.rank_set.RankSet.{RankSet}
-use Rattle.rank_sets.specs.RankSet.{has_at}
+use Rattle.local_mesh.specs.declared.rank_sets.rank_set.RankSet.{RankSet}
+use Rattle.local_mesh.specs.RankSet.{has_at}
 use Rattle.local_mesh.proofs.halo_lists.Importing.{here_count, here_has, named_agree}
 use Rattle.local_mesh.proofs.halo_lists.halo_of.Goals as goal
 

@@ -1,7 +1,7 @@
 use Rattle.std.proofs.Common.{◌≡◌, arith, ◌∙◌}
 use Rattle.std.proofs.lemmas.List.{length_push}
-use Rattle.rank_sets.specs.Below.{row}
-use Rattle.rank_sets.proofs.Rows.{row_read}
+use Rattle.lemmas.specs.Below.{row}
+use Rattle.lemmas.proofs.Rows.{row_read}
 use Rattle.local_mesh.proofs.Growing.{each_row}
 use Rattle.local_mesh.proofs.kept.copied.Goals as goal
 

@@ -2,7 +2,7 @@ use Rattle.std.proofs.Common.{◌≡◌, ◌<◌, ℕ, List, Vec, length, get_or
 use Rattle.std.specs.declared.alloc.Global.{Global}
 use Rattle.std.proofs.lemmas.List.{length_push, with_items_is}
 use Rattle.mesh_decl.specs.Mesh.{set_size}
-use Rattle.rank_sets.specs.Below.{row, rows}
+use Rattle.lemmas.specs.Below.{row, rows}
 use Rattle.local_mesh.specs.Lists.{AreLocals, AreRead, IsBelow, sets_of, originals_of}
 use Rattle.local_mesh.proofs.AtOwners.{export_within, import_locals}
 use Rattle.local_mesh.proofs.Growing.{each_rows}

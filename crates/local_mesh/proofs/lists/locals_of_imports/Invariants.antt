@@ -1,6 +1,6 @@
 use Rattle.std.proofs.Common.{◌≡◌, ◌<◌, ℕ, length}
 use Rattle.mesh_decl.specs.Mesh.{set_size}
-use Rattle.rank_sets.specs.Below.{row, rows}
+use Rattle.lemmas.specs.Below.{row, rows}
 use Rattle.local_mesh.specs.Lists.{AreLocals, originals_of}
 use Rattle.local_mesh.proofs.lists.locals_of_imports.Given as goal
 

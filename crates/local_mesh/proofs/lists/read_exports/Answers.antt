@@ -1,7 +1,7 @@
 use Rattle.std.proofs.Common.{ℕ, List, Vec, length, arith, sym, subst, ◌∙◌}
 use Rattle.std.specs.declared.alloc.Global.{Global}
 use Rattle.std.proofs.lemmas.List.{length_push}
-use Rattle.rank_sets.specs.Below.{rows}
+use Rattle.lemmas.specs.Below.{rows}
 use Rattle.local_mesh.specs.Lists.{AreAllRead, AreBelow}
 use Rattle.local_mesh.proofs.Growing.{each_rows, rows_read}
 use Rattle.local_mesh.proofs.lists.read_exports.Goals as goal

@@ -1,5 +1,5 @@
 use Rattle.std.proofs.Common.{◌≡◌, ◌<◌, ℕ, length}
-use Rattle.rank_sets.specs.Below.{rows}
+use Rattle.lemmas.specs.Below.{rows}
 use Rattle.local_mesh.specs.Lists.{AreAllRead}
 use Rattle.local_mesh.proofs.lists.read_exports.Given as goal
 

@@ -1,8 +1,8 @@
 use Rattle.std.proofs.Common.{◌≡◌, ◌<◌, ℕ, List, Vec, length, get_or, arith, sym, ap, subst, ◌∙◌}
 use Rattle.std.specs.declared.alloc.Global.{Global}
 use Rattle.std.proofs.lemmas.List.{length_push}
-use Rattle.rank_sets.specs.Below.{row, rows}
-use Rattle.rank_sets.proofs.Rows.{row_read}
+use Rattle.lemmas.specs.Below.{row, rows}
+use Rattle.lemmas.proofs.Rows.{row_read}
 use Rattle.local_mesh.specs.Lists.{AreRead}
 use Rattle.local_mesh.proofs.Growing.{each_row, rows_read}
 use Rattle.local_mesh.proofs.lists.read_imports.Goals as goal

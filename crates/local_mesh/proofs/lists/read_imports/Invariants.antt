@@ -1,5 +1,5 @@
 use Rattle.std.proofs.Common.{◌≡◌, ◌<◌, ℕ, length}
-use Rattle.rank_sets.specs.Below.{row, rows}
+use Rattle.lemmas.specs.Below.{row, rows}
 use Rattle.local_mesh.specs.Lists.{AreRead}
 use Rattle.local_mesh.proofs.lists.read_imports.Given as goal
 

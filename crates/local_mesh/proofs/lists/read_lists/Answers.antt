@@ -1,7 +1,7 @@
 use Rattle.std.proofs.Common.{◌<◌, ℕ, List, length, get_or, arith, sym, subst, ◌∙◌}
 use Rattle.std.proofs.lemmas.List.{length_push}
-use Rattle.rank_sets.specs.Below.{row}
-use Rattle.rank_sets.proofs.Rows.{row_read}
+use Rattle.lemmas.specs.Below.{row}
+use Rattle.lemmas.proofs.Rows.{row_read}
 use Rattle.local_mesh.proofs.Growing.{each_row}
 use Rattle.local_mesh.specs.Lists.{AreRead}
 use Rattle.local_mesh.proofs.lists.read_lists.Goals as goal

@@ -1,7 +1,7 @@
 use Rattle.std.proofs.Common.{◌≡◌, ◌<◌, ℕ, List, Vec, length, arith, sym, subst, ◌∙◌}
 use Rattle.std.specs.declared.alloc.Global.{Global}
 use Rattle.mesh_decl.specs.Mesh.{set_size}
-use Rattle.rank_sets.specs.Below.{row, rows}
+use Rattle.lemmas.specs.Below.{row, rows}
 use Rattle.local_mesh.specs.Lists.{AreAllRead, AreBelow}
 use Rattle.local_mesh.proofs.AtOwners.{export_within, export_locals}
 use Rattle.local_mesh.proofs.lists.set_lists.Goals as goal

@@ -1,5 +1,5 @@
 use Rattle.std.proofs.Common.{◌<◌, ◌∙◌, length}
-use Rattle.rank_sets.proofs.Rows.{row_read}
+use Rattle.lemmas.proofs.Rows.{row_read}
 use Rattle.local_mesh.proofs.numbers.copies_of.Goals as goal
 
 pub returns-in_ok-copies-in-Some-clause-some : goal.returns-in_ok-copies-in-Some-clause-some

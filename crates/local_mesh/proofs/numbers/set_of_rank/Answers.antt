@@ -1,8 +1,8 @@
 use Rattle.std.proofs.Common.{◌≡◌, ◌<◌, ◌∙◌, ◌++◌, ℕ, List, Vec, length, sym, subst}
 use Rattle.std.specs.Prelude.{Option, Some, None, IfSome, IfNone}
 use Rattle.std.specs.declared.alloc.Global.{Global}
-use Rattle.rank_sets.specs.Below.{row}
-use Rattle.rank_sets.proofs.Rows.{row_read}
+use Rattle.lemmas.specs.Below.{row}
+use Rattle.lemmas.proofs.Rows.{row_read}
 use Rattle.local_mesh.specs.Lookup.{Rises}
 use Rattle.local_mesh.specs.Parts.{AreSorted}
 use Rattle.local_mesh.proofs.numbers.set_of_rank.Goals as goal

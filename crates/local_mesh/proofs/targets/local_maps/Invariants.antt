@@ -1,5 +1,5 @@
 use Rattle.std.proofs.Common.{◌≡◌, ◌<◌, ℕ, length}
-use Rattle.rank_sets.specs.Below.{row}
+use Rattle.lemmas.specs.Below.{row}
 use Rattle.local_mesh.specs.LocalMesh.{AreLocalTargets}
 use Rattle.local_mesh.proofs.targets.local_maps.Given as goal
 

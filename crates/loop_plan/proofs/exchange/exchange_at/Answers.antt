@@ -1,6 +1,6 @@
 use Rattle.std.proofs.Common.{◌≡◌, ◌∙◌, sym, subst, false, List}
 use Rattle.std.specs.Prelude.{◌&&◌, IfOk, slice_index_or}
-use Rattle.rank_sets.specs.Below.{listed}
+use Rattle.lemmas.specs.Below.{listed}
 use Rattle.bound_program.specs.declared.sites.Arg.{Arg}
 use Rattle.bound_program.specs.Values.{bound_of}
 use Rattle.loop_plan.specs.Needs.{needs, item_at, free_args}

@@ -1,6 +1,6 @@
 use Rattle.std.proofs.Common.{◌&&◌, false, ◌∙◌, ap, cond, [], ◌∷◌, ◌++◌}
 use Rattle.std.specs.Prelude.{slice_index_or}
-use Rattle.rank_sets.proofs.Appending.{listed_step}
+use Rattle.lemmas.proofs.Below.{listed_step}
 use Rattle.loop_plan.specs.Needs.{needs}
 use Rattle.loop_plan.proofs.exchange.stale_needed.Goals as goal
 

@@ -1,6 +1,6 @@
 use Rattle.std.proofs.Common.{◌≡◌}
 use Rattle.std.specs.Prelude.{false, ◌&&◌, slice_index_or}
-use Rattle.rank_sets.specs.Below.{listed}
+use Rattle.lemmas.specs.Below.{listed}
 use Rattle.loop_plan.specs.Needs.{needs}
 use Rattle.loop_plan.proofs.exchange.stale_needed.Given as goal
 

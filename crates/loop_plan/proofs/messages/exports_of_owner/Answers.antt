@@ -1,6 +1,6 @@
 use Rattle.std.proofs.Common.{◌∙◌, ap, Vec, ℕ}
 use Rattle.std.specs.declared.alloc.Global.{Global}
-use Rattle.rank_sets.proofs.Rows.{rows_at}
+use Rattle.lemmas.proofs.Rows.{rows_at}
 use Rattle.loop_plan.proofs.messages.exports_of_owner.Goals as goal
 
 pub returns : goal.returns

@@ -1,6 +1,6 @@
 use Rattle.std.proofs.Common.{◌∙◌, ap, ◌++◌, map, List}
-use Rattle.rank_sets.specs.Below.{listed}
-use Rattle.rank_sets.specs.RankSet.{has}
+use Rattle.lemmas.specs.Below.{listed}
+use Rattle.local_mesh.specs.RankSet.{has}
 use Rattle.loop_plan.specs.Pairs.{pair}
 use Rattle.loop_plan.specs.declared.types.Pair.{Pair}
 use Rattle.loop_plan.proofs.Collecting.{message_next}

@@ -1,6 +1,6 @@
 use Rattle.std.proofs.Common.{◌≡◌, ◌++◌, map}
-use Rattle.rank_sets.specs.Below.{listed}
-use Rattle.rank_sets.specs.RankSet.{has}
+use Rattle.lemmas.specs.Below.{listed}
+use Rattle.local_mesh.specs.RankSet.{has}
 use Rattle.loop_plan.specs.Pairs.{pair}
 use Rattle.loop_plan.proofs.messages.push_messages.Given as goal
 

@@ -1,6 +1,6 @@
 use Rattle.std.proofs.Common.{ap, List}
-use Rattle.rank_sets.specs.RankSet.{has_at}
-use Rattle.rank_sets.specs.declared.rank_set.RankSet.{RankSet}
+use Rattle.local_mesh.specs.RankSet.{has_at}
+use Rattle.local_mesh.specs.declared.rank_sets.rank_set.RankSet.{RankSet}
 use Rattle.loop_plan.proofs.messages.receivers_at.Goals as goal
 
 pub returns : goal.returns

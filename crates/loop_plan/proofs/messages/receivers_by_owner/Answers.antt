@@ -2,7 +2,7 @@ use Rattle.std.proofs.Common.{◌∙◌, ℕ, ap, arith, List, Vec, length}
 use Rattle.std.specs.Prelude.{nat_lt}
 use Rattle.std.specs.declared.alloc.Global.{Global}
 use Rattle.std.proofs.lemmas.List.{length_push}
-use Rattle.rank_sets.specs.Below.{row}
+use Rattle.lemmas.specs.Below.{row}
 use Rattle.loop_plan.specs.Exports.{is_some_exported}
 use Rattle.loop_plan.proofs.Collecting.{sets_at_more}
 use Rattle.loop_plan.proofs.messages.receivers_by_owner.Goals as goal

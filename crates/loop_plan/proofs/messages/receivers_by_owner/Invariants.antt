@@ -1,5 +1,5 @@
 use Rattle.std.proofs.Common.{◌≡◌, ◌<◌, ℕ, length}
-use Rattle.rank_sets.specs.RankSet.{has_at}
+use Rattle.local_mesh.specs.RankSet.{has_at}
 use Rattle.loop_plan.specs.Exports.{is_some_exported}
 use Rattle.loop_plan.proofs.messages.receivers_by_owner.Given as goal
 

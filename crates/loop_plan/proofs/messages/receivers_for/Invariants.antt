@@ -1,5 +1,5 @@
 use Rattle.std.proofs.Common.{◌≡◌, ℕ, take}
-use Rattle.rank_sets.specs.RankSet.{has}
+use Rattle.local_mesh.specs.RankSet.{has}
 use Rattle.loop_plan.specs.Exports.{passes_by_exports}
 use Rattle.loop_plan.proofs.messages.receivers_for.Given as goal
 

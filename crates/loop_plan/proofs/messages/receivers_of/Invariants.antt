@@ -1,6 +1,6 @@
 use Rattle.std.proofs.Common.{length}
 use Rattle.std.specs.Prelude.{nat_lt}
-use Rattle.rank_sets.specs.Below.{row}
+use Rattle.lemmas.specs.Below.{row}
 use Rattle.loop_plan.proofs.Collecting.{Collected}
 use Rattle.loop_plan.proofs.messages.receivers_of.Given as goal
 

@@ -1,6 +1,6 @@
 use Rattle.std.proofs.Common.{◌≡◌, ◌<◌, ◌≤◌, ◌/◌, ◌%◌, ◌+◌, ◌*◌, ℕ, length, get_or, set, ap, subst, arith}
 use Rattle.mesh_decl.specs.Mesh.{map_dim, target}
-use Rattle.rank_sets.specs.Below.{count_below}
+use Rattle.lemmas.specs.Below.{count_below}
 use Rattle.partition.specs.Elected.{names}
 use Rattle.partition.proofs.Naming.{count_most, naming_counted, entry_target, entry_fits}
 use Rattle.partition.proofs.derived.count_targets.Goals as goal

@@ -1,6 +1,6 @@
 use Rattle.std.proofs.Common.{◌≡◌, ◌<◌, ◌+◌, ◌*◌, ℕ, get_or}
 use Rattle.mesh_decl.specs.Mesh.{set_size, map_to, map_dim}
-use Rattle.rank_sets.specs.Below.{count_below}
+use Rattle.lemmas.specs.Below.{count_below}
 use Rattle.partition.specs.Elected.{names}
 use Rattle.partition.proofs.derived.count_targets.Given as goal
 

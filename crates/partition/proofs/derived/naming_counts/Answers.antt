@@ -1,7 +1,7 @@
 use Rattle.std.proofs.Common.{◌≡◌, ◌∙◌, ◌*◌, ◌++◌, ℕ, List, length, get_or, take, drop, ap, subst, sym, arith}
 use Rattle.std.proofs.lemmas.List.{take_all, take-append-le}
 use Rattle.mesh_decl.specs.Mesh.{set_size, map_from, map_dim}
-use Rattle.rank_sets.specs.Below.{count_below}
+use Rattle.lemmas.specs.Below.{count_below}
 use Rattle.partition.specs.Elected.{names}
 use Rattle.partition.proofs.derived.naming_counts.Goals as goal
 

@@ -1,7 +1,7 @@
 use Rattle.std.proofs.Common.{◌*◌, ◌≡◌, ◌<◌, ◌/◌, ◌∙◌, [], ℕ, List, length, get_or, ap, subst, sym, arith}
 use Rattle.std.proofs.lemmas.List.{length-map, get_or-map}
 use Rattle.mesh_decl.specs.Mesh.{set_size, map_from, map_to, map_dim}
-use Rattle.rank_sets.specs.Below.{count_below}
+use Rattle.lemmas.specs.Below.{count_below}
 use Rattle.renumber.specs.Parts.{FillingValue}
 use Rattle.partition.specs.Elected.{names, gathered}
 use Rattle.partition.proofs.Gathered.{length_gathered}

@@ -1,7 +1,7 @@
 use Rattle.std.proofs.Common.{◌≡◌, ◌<◌, ◌/◌, ◌%◌, ◌∙◌, ◌++◌, ◌∷◌, [], ◌+◌, ◌*◌, ℕ, length, get_or, set, ap, subst, sym, length-set, arith}
 use Rattle.mesh_decl.specs.Mesh.{set_size, map_from, map_dim, target}
-use Rattle.rank_sets.specs.Below.{count_below}
-use Rattle.rank_sets.proofs.Below.{count_lt}
+use Rattle.lemmas.specs.Below.{count_below}
+use Rattle.lemmas.proofs.Below.{count_lt}
 use Rattle.partition.specs.Elected.{names, entries, gathered}
 use Rattle.std.proofs.lemmas.Nat.{div-mul-add}
 use Rattle.partition.specs.Named.{AreNamed}

@@ -1,5 +1,5 @@
 use Rattle.std.proofs.Common.{◌≡◌, false, get_or}
-use Rattle.rank_sets.specs.Below.{any_below}
+use Rattle.lemmas.specs.Below.{any_below}
 use Rattle.partition.specs.Derive.{leads_from_known}
 use Rattle.partition.proofs.next.map_from_known.Given as goal
 

@@ -1,5 +1,5 @@
 use Rattle.std.proofs.Common.{◌≡◌, false, get_or}
-use Rattle.rank_sets.specs.Below.{any_below}
+use Rattle.lemmas.specs.Below.{any_below}
 use Rattle.partition.specs.Derive.{leads_to_known}
 use Rattle.partition.proofs.next.map_to_known.Given as goal
 

@@ -1,5 +1,5 @@
 use Rattle.std.proofs.Common.{◌≡◌, false, not, get_or}
-use Rattle.rank_sets.specs.Below.{any_below}
+use Rattle.lemmas.specs.Below.{any_below}
 use Rattle.partition.proofs.next.next_by_blocks.Given as goal
 
 abbrev pub invariant-loop-set : goal.invariant-loop-set

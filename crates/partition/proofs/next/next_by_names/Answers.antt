@@ -1,7 +1,7 @@
 use Rattle.std.proofs.Common.{ℕ, Bool, false, not, get_or, arith, refl}
 use Rattle.mesh_decl.specs.Mesh.{set_count, map_count}
-use Rattle.rank_sets.specs.Below.{any_below}
-use Rattle.rank_sets.proofs.Below.{any_from}
+use Rattle.lemmas.specs.Below.{any_below}
+use Rattle.lemmas.proofs.Below.{any_from}
 use Rattle.partition.specs.Derive.{can_follow_names, leads_from_known}
 use Rattle.partition.proofs.Firsts.{first_from}
 use Rattle.partition.proofs.next.next_by_names.Goals as goal

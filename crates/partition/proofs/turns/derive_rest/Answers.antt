@@ -1,7 +1,7 @@
 use Rattle.std.proofs.Common.{◌≡◌, ◌<◌, ℕ, List, [], Bool, true, false, not, Option, Some, None, IfSome, IfNone, Vec, ◌+◌, arith, length, get_or, set, subst}
 use Rattle.std.specs.declared.alloc.Global.{Global}
 use Rattle.mesh_decl.specs.Mesh.{MeshValue, set_count, set_size}
-use Rattle.rank_sets.specs.Below.{any_below}
+use Rattle.lemmas.specs.Below.{any_below}
 use Rattle.partition.specs.Derive.{IsNextSet}
 use Rattle.partition.proofs.TurnSteps.{IsTurn, turn_init, turn_step, turn_none, turn_done}
 use Rattle.partition.proofs.turns.derive_rest.Goals as goal

@@ -1,5 +1,5 @@
 use Rattle.std.proofs.Common.{◌∙◌}
-use Rattle.rank_sets.proofs.Rows.{row_read}
+use Rattle.lemmas.proofs.Rows.{row_read}
 use Rattle.rank_layout.proofs.dat_windows.targets_of.Goals as goal
 
 pub returns : goal.returns

@@ -1,6 +1,6 @@
 use Rattle.std.proofs.Common.{◌∙◌, ap, Vec, ℕ}
 use Rattle.std.specs.declared.alloc.Global.{Global}
-use Rattle.rank_sets.proofs.Rows.{row_at}
+use Rattle.lemmas.proofs.Rows.{row_at}
 use Rattle.rank_layout.proofs.messages.list_of.Goals as goal
 
 pub returns : goal.returns

@@ -2,9 +2,9 @@ use Rattle.std.proofs.Common.{◌≡◌, ◌<◌, ◌||◌, ◌&&◌, List, ◌�
 use Rattle.std.specs.List.{list_any}
 use Rattle.std.specs.declared.alloc.Global.{Global}
 use Rattle.std.proofs.lemmas.List.{with_items_is}
-use Rattle.rank_sets.specs.Below.{any_below, listed}
-use Rattle.rank_sets.specs.RankSet.{has_at}
-use Rattle.rank_sets.specs.declared.rank_set.RankSet.{RankSet}
+use Rattle.lemmas.specs.Below.{any_below, listed}
+use Rattle.local_mesh.specs.RankSet.{has_at}
+use Rattle.local_mesh.specs.declared.rank_sets.rank_set.RankSet.{RankSet}
 use Rattle.mesh_decl.specs.Mesh.{set_size}
 use Rattle.local_mesh.specs.Sets.{sets_in, has_in}
 use Rattle.bound_program.specs.Values.{bound_of}

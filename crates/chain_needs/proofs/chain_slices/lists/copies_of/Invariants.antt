@@ -1,6 +1,6 @@
 use Rattle.std.proofs.Common.{◌≡◌, ◌<◌, ◌&&◌, ℕ, length}
 use Rattle.std.specs.Prelude.{not}
-use Rattle.rank_sets.specs.Below.{listed, row, rows}
+use Rattle.lemmas.specs.Below.{listed, row, rows}
 use Rattle.mesh_decl.specs.Mesh.{dat_set, set_size}
 use Rattle.bound_program.specs.Values.{bound_of}
 use Rattle.chain_model.specs.Slices.{owns_pair}

@@ -1,6 +1,6 @@
 use Rattle.std.proofs.Common.{◌&&◌, ◌||◌, nat_eq, ap, ◌∙◌}
 use Rattle.std.specs.Prelude.{not}
-use Rattle.rank_sets.specs.RankSet.{has}
+use Rattle.local_mesh.specs.RankSet.{has}
 use Rattle.chain_needs.proofs.chain_slices.lists.other_ranks.Goals as goal
 
 pub returns : goal.returns

@@ -1,5 +1,5 @@
 use Rattle.std.proofs.Common.{◌≡◌, ◌<◌, ◌&&◌, ◌||◌, nat_eq, ap, ◌∙◌, arith}
-use Rattle.rank_sets.specs.RankSet.{has_at}
+use Rattle.local_mesh.specs.RankSet.{has_at}
 use Rattle.mesh_decl.specs.Mesh.{set_size, dat_set}
 use Rattle.mesh_decl.specs.Owners.{owner_of}
 use Rattle.bound_program.specs.Values.{bound_of}

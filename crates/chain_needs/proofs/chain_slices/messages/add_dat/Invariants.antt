@@ -1,6 +1,6 @@
 use Rattle.std.proofs.Common.{◌≡◌, ◌||◌, ◌&&◌, ℕ}
-use Rattle.rank_sets.specs.Below.{any_below}
-use Rattle.rank_sets.specs.RankSet.{has_at}
+use Rattle.lemmas.specs.Below.{any_below}
+use Rattle.local_mesh.specs.RankSet.{has_at}
 use Rattle.bound_program.specs.Values.{bound_of}
 use Rattle.chain_model.specs.Slices.{owns_pair}
 use Rattle.chain_needs.proofs.chain_slices.messages.add_dat.Given as goal

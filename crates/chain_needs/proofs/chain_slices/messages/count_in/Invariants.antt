@@ -1,6 +1,6 @@
 use Rattle.std.proofs.Common.{◌≡◌, ◌≤◌}
-use Rattle.rank_sets.specs.Below.{count_below}
-use Rattle.rank_sets.specs.RankSet.{has}
+use Rattle.lemmas.specs.Below.{count_below}
+use Rattle.local_mesh.specs.RankSet.{has}
 use Rattle.chain_needs.proofs.chain_slices.messages.count_in.Given as goal
 
 abbrev pub invariant-loop-rank : goal.invariant-loop-rank

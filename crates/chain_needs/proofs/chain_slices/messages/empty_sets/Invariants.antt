@@ -1,5 +1,5 @@
 use Rattle.std.proofs.Common.{◌≡◌, ℕ, false, length}
-use Rattle.rank_sets.specs.RankSet.{has_at}
+use Rattle.local_mesh.specs.RankSet.{has_at}
 use Rattle.chain_needs.proofs.chain_slices.messages.empty_sets.Given as goal
 
 abbrev pub invariant-loop-rank : goal.invariant-loop-rank

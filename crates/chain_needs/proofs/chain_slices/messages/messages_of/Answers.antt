@@ -1,6 +1,6 @@
 use Rattle.std.proofs.Common.{◌≡◌, ap, ◌∙◌, arith}
-use Rattle.rank_sets.specs.Below.{count_below}
-use Rattle.rank_sets.specs.RankSet.{has_at}
+use Rattle.lemmas.specs.Below.{count_below}
+use Rattle.local_mesh.specs.RankSet.{has_at}
 use Rattle.bound_program.specs.Values.{bound_of}
 use Rattle.chain_model.specs.Counts.{sum_below}
 use Rattle.chain_needs.proofs.chain_slices.Counting.{messages_are}

@@ -1,5 +1,5 @@
 use Rattle.std.proofs.Common.{◌≡◌, ◌<◌, ℕ, length, []}
-use Rattle.rank_sets.specs.Below.{row, rows}
+use Rattle.lemmas.specs.Below.{row, rows}
 use Rattle.local_mesh.proofs.halo_lists.exports.empty_exports.Given as goal
 
 abbrev pub invariant-loop-owner : goal.invariant-loop-owner

@@ -2,9 +2,9 @@ use Rattle.std.proofs.Common.{◌≡◌, ◌<◌, ℕ, arith, length, ap, ◌∙
 use Rattle.std.specs.declared.alloc.Global.{Global}
 use Rattle.std.proofs.lemmas.List.{with_items_is}
 use Rattle.std.specs.Vec.{with_items}
-use Rattle.rank_sets.specs.Below.{row, rows}
-use Rattle.rank_sets.specs.RankSet.{has}
-use Rattle.rank_sets.proofs.Rows.{rows_at}
+use Rattle.lemmas.specs.Below.{row, rows}
+use Rattle.local_mesh.specs.RankSet.{has}
+use Rattle.lemmas.proofs.Rows.{rows_at}
 use Rattle.local_mesh.proofs.halo_lists.Exporting.{pushed_rows, pushed_lengths}
 use Rattle.local_mesh.proofs.halo_lists.exports.push_export.Goals as goal
 

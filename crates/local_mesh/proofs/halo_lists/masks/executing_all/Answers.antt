@@ -2,8 +2,8 @@ use Rattle.std.proofs.Common.{◌≡◌, ◌<◌, ◌||◌, nat_eq, ℕ, List, l
 use Rattle.std.proofs.lemmas.Bool.{eq-eqb, ne_eqb}
 use Rattle.std.proofs.lemmas.List.{with_items_is}
 use Rattle.mesh_decl.specs.Mesh.{set_size, map_from}
-use Rattle.rank_sets.specs.RankSet.{has_at}
-use Rattle.rank_sets.specs.declared.rank_set.RankSet.{RankSet}
+use Rattle.local_mesh.specs.RankSet.{has_at}
+use Rattle.local_mesh.specs.declared.rank_sets.rank_set.RankSet.{RankSet}
 use Rattle.local_mesh.specs.Halo.{owns, reaches_by}
 use Rattle.local_mesh.proofs.halo_lists.Importing.{owners_count, owners_below, owned_at, executed_or_reached}
 use Rattle.local_mesh.proofs.halo_lists.Steps.{own_step_yes, own_step_no}

@@ -1,6 +1,6 @@
 use Rattle.std.proofs.Common.{◌≡◌, ◌<◌, ◌||◌, ◌&&◌, nat_eq, ℕ, length}
-use Rattle.rank_sets.specs.Below.{any_below}
-use Rattle.rank_sets.specs.RankSet.{has_at}
+use Rattle.lemmas.specs.Below.{any_below}
+use Rattle.local_mesh.specs.RankSet.{has_at}
 use Rattle.mesh_decl.specs.Mesh.{set_size, map_from}
 use Rattle.local_mesh.specs.Halo.{owns, reaches_by}
 use Rattle.local_mesh.proofs.halo_lists.masks.executing_all.Given as goal

@@ -1,5 +1,5 @@
 use Rattle.std.proofs.Common.{◌≡◌, ◌<◌, ℕ, nat_eq, length, get_or}
-use Rattle.rank_sets.specs.RankSet.{has_at}
+use Rattle.local_mesh.specs.RankSet.{has_at}
 use Rattle.local_mesh.proofs.halo_lists.masks.owner_sets.Given as goal
 
 abbrev pub invariant-loop-owner : goal.invariant-loop-owner

@@ -1,8 +1,8 @@
 use Rattle.std.proofs.Common.{◌≡◌, ℕ, nat_eq}
-use Rattle.rank_sets.specs.Below.{any_below}
+use Rattle.lemmas.specs.Below.{any_below}
 use Rattle.mesh_decl.specs.Mesh.{map_to, target}
 use Rattle.mesh_decl.specs.Owners.{owner_of}
-use Rattle.rank_sets.specs.RankSet.{has}
+use Rattle.local_mesh.specs.RankSet.{has}
 use Rattle.local_mesh.proofs.halo_lists.masks.owners_by.Given as goal
 
 abbrev pub invariant-loop-place : goal.invariant-loop-place

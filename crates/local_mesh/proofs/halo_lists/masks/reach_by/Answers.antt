@@ -1,6 +1,6 @@
 use Rattle.std.proofs.Common.{◌≡◌, ◌<◌, ◌||◌, ℕ, length, ap, ◌∙◌, arith}
 use Rattle.mesh_decl.specs.Mesh.{set_size}
-use Rattle.rank_sets.specs.RankSet.{has, has_at}
+use Rattle.local_mesh.specs.RankSet.{has, has_at}
 use Rattle.local_mesh.specs.Halo.{reaches_by}
 use Rattle.local_mesh.proofs.halo_lists.Steps.{set_more, set_kept}
 use Rattle.local_mesh.proofs.halo_lists.masks.reach_by.Goals as goal

@@ -1,5 +1,5 @@
 use Rattle.std.proofs.Common.{◌≡◌, ◌<◌, ◌≤◌, ◌||◌, ℕ}
-use Rattle.rank_sets.specs.RankSet.{has_at}
+use Rattle.local_mesh.specs.RankSet.{has_at}
 use Rattle.local_mesh.specs.Halo.{reaches_by}
 use Rattle.local_mesh.proofs.halo_lists.masks.reach_by.Given as goal
 

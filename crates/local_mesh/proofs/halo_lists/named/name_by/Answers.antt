@@ -1,7 +1,7 @@
 use Rattle.std.proofs.Common.{◌&&◌, nat_eq}
-use Rattle.rank_sets.specs.Below.{any_below}
+use Rattle.lemmas.specs.Below.{any_below}
 use Rattle.mesh_decl.specs.Mesh.{target, map_dim}
-use Rattle.rank_sets.specs.RankSet.{has_at}
+use Rattle.local_mesh.specs.RankSet.{has_at}
 use Rattle.local_mesh.proofs.halo_lists.Steps.{any_step}
 use Rattle.local_mesh.proofs.halo_lists.named.name_by.Goals as goal
 

@@ -1,5 +1,5 @@
 use Rattle.std.proofs.Common.{arith}
-use Rattle.rank_sets.specs.RankSet.{has_at}
+use Rattle.local_mesh.specs.RankSet.{has_at}
 use Rattle.mesh_decl.specs.Mesh.{target}
 use Rattle.local_mesh.proofs.halo_lists.Steps.{name_more}
 use Rattle.local_mesh.proofs.halo_lists.named.name_targets.Goals as goal

@@ -2,9 +2,9 @@ use Rattle.std.proofs.Common.{◌≡◌, ◌<◌, ◌||◌, nat_eq, arith, ap, s
 use Rattle.std.proofs.lemmas.Bool.{eq-eqb, ne_eqb}
 use Rattle.std.proofs.lemmas.List.{with_items_is, length-replicate}
 use Rattle.mesh_decl.specs.Mesh.{set_count, map_from, map_to}
-use Rattle.rank_sets.specs.RankSet.{has_at}
-use Rattle.rank_sets.specs.declared.rank_set.RankSet.{RankSet}
-use Rattle.rank_sets.proofs.Rows.{has_at_replicate}
+use Rattle.local_mesh.specs.RankSet.{has_at}
+use Rattle.local_mesh.specs.declared.rank_sets.rank_set.RankSet.{RankSet}
+use Rattle.local_mesh.proofs.rank_sets.Rows.{has_at_replicate}
 use Rattle.local_mesh.specs.Halo.{named_by}
 use Rattle.local_mesh.specs.Sets.{has_in, sets_in}
 use Rattle.local_mesh.proofs.halo_lists.Steps.{map_step_yes, map_step_no}

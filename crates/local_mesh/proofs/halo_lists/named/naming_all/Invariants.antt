@@ -1,6 +1,6 @@
 use Rattle.std.proofs.Common.{◌≡◌, ◌&&◌, ℕ, nat_eq, length}
-use Rattle.rank_sets.specs.Below.{any_below}
-use Rattle.rank_sets.specs.RankSet.{has_at}
+use Rattle.lemmas.specs.Below.{any_below}
+use Rattle.local_mesh.specs.RankSet.{has_at}
 use Rattle.mesh_decl.specs.Mesh.{set_size, map_to, map_from}
 use Rattle.local_mesh.specs.Halo.{named_by}
 use Rattle.local_mesh.specs.Sets.{has_in}

@@ -1,9 +1,9 @@
 use Rattle.std.proofs.Common.{◌≡◌, ◌<◌, ◌≤◌, ◌++◌, ◌∷◌, ◌&&◌, [], ◌+◌, Bool, ap, ◌∙◌, arith, length, cond, List, Vec, ℕ, nat_eq, sym}
 use Rattle.std.specs.declared.alloc.Global.{Global}
 use Rattle.std.proofs.lemmas.List.{with_items_is, length_push}
-use Rattle.rank_sets.specs.Below.{row, rows, listed}
-use Rattle.rank_sets.specs.RankSet.{has}
-use Rattle.rank_sets.proofs.Appending.{listed_step}
+use Rattle.lemmas.specs.Below.{row, rows, listed}
+use Rattle.local_mesh.specs.RankSet.{has}
+use Rattle.lemmas.proofs.Below.{listed_step}
 use Rattle.local_mesh.specs.Halo.{imports_execute, imports_nonexecute, imports, owns}
 use Rattle.local_mesh.proofs.halo_lists.Importing.{execute_below, nonexecute_below, imports_below, execute_has, nonexecute_has, imports_has, owned_pair, core_more}
 use Rattle.local_mesh.proofs.halo_lists.split.add_element.Goals as goal

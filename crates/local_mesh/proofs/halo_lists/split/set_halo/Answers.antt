@@ -1,6 +1,6 @@
 use Rattle.std.proofs.Common.{◌≡◌, ap, arith, subst, length}
 use Rattle.mesh_decl.specs.Mesh.{set_size}
-use Rattle.rank_sets.specs.RankSet.{has_at}
+use Rattle.local_mesh.specs.RankSet.{has_at}
 use Rattle.local_mesh.specs.Halos.{IsHaloBelow}
 use Rattle.local_mesh.proofs.halo_lists.split.set_halo.Goals as goal
 

@@ -2,8 +2,8 @@ use Rattle.std.proofs.Common.{◌≡◌, ◌<◌, ◌≤◌, ◌+◌, ◌++◌, 
 use Rattle.std.proofs.lemmas.List.{length-set, length-append, length-replicate}
 use Rattle.std.proofs.lemmas.Bool.{eq-eqb}
 use Rattle.mesh_decl.specs.Mesh.{MeshValue, map_dim, target}
-use Rattle.rank_sets.specs.Below.{count_below}
-use Rattle.rank_sets.proofs.Below.{count_lt}
+use Rattle.lemmas.specs.Below.{count_below}
+use Rattle.lemmas.proofs.Below.{count_lt}
 use Rattle.renumber.specs.Neighbours.{times}
 use Rattle.renumber.proofs.breadth_order.Having.{rowed}
 use Rattle.renumber.proofs.breadth_order.by_target.add_to_targets.Goals as goal

@@ -1,5 +1,5 @@
 use Rattle.std.proofs.Common.{◌≡◌, ◌<◌, ◌++◌, [], ℕ, nat_eq, length, replicate, get_or}
-use Rattle.rank_sets.specs.Below.{count_below}
+use Rattle.lemmas.specs.Below.{count_below}
 use Rattle.mesh_decl.specs.Mesh.{target}
 use Rattle.renumber.proofs.breadth_order.by_target.add_to_targets.Given as goal
 

@@ -1,6 +1,6 @@
 use Rattle.std.proofs.Common.{◌≡◌, ◌<◌, ◌+◌, ℕ, nat_eq, length, get_or, arith, ap, ◌∙◌, refl}
 use Rattle.mesh_decl.specs.Mesh.{map_dim, target}
-use Rattle.rank_sets.specs.Below.{count_below}
+use Rattle.lemmas.specs.Below.{count_below}
 use Rattle.renumber.specs.Neighbours.{times}
 use Rattle.renumber.proofs.breadth_order.Near.{count_within}
 use Rattle.renumber.proofs.breadth_order.Having.{counted}

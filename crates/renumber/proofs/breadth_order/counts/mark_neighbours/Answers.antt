@@ -1,7 +1,7 @@
 use Rattle.std.proofs.Common.{◌≡◌, ◌+◌, ◌&&◌, ◌||◌, not, ℕ, nat_eq, length, get_or, arith, ap, sym, ◌∙◌, subst}
 use Rattle.std.proofs.lemmas.Bool.{ne_eqb}
-use Rattle.rank_sets.specs.Below.{any_below, count_below}
-use Rattle.rank_sets.proofs.Below.{any_more, count_agree}
+use Rattle.lemmas.specs.Below.{any_below, count_below}
+use Rattle.lemmas.proofs.Below.{any_more, count_agree}
 use Rattle.renumber.specs.Neighbours.{has_target}
 use Rattle.renumber.proofs.breadth_order.Near.{count_within}
 use Rattle.renumber.proofs.breadth_order.Marking.{count_none}

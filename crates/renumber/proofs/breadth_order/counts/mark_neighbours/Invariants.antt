@@ -1,5 +1,5 @@
 use Rattle.std.proofs.Common.{◌≡◌, ◌≢◌, ◌<◌, ◌&&◌, not, ℕ, nat_eq, length, get_or}
-use Rattle.rank_sets.specs.Below.{any_below, count_below}
+use Rattle.lemmas.specs.Below.{any_below, count_below}
 use Rattle.renumber.specs.Neighbours.{has_target}
 use Rattle.renumber.proofs.breadth_order.counts.mark_neighbours.Given as goal
 

@@ -1,6 +1,6 @@
 use Rattle.std.proofs.Common.{◌≡◌, ◌<◌, ◌&&◌, ◌||◌, not, ℕ, nat_eq, length, get_or, set, arith, ap, refl, ◌∙◌}
 use Rattle.mesh_decl.specs.Mesh.{map_dim, target}
-use Rattle.rank_sets.specs.Below.{any_below}
+use Rattle.lemmas.specs.Below.{any_below}
 use Rattle.renumber.specs.Neighbours.{has_target}
 use Rattle.renumber.proofs.breadth_order.Near.{count_within}
 use Rattle.renumber.proofs.breadth_order.Marking.{count_set, marks_set, marks_kept, others_set}

@@ -1,5 +1,5 @@
 use Rattle.std.proofs.Common.{◌≡◌, ◌≢◌, ◌<◌, ◌+◌, ℕ, nat_eq, length, get_or}
-use Rattle.rank_sets.specs.Below.{any_below, count_below}
+use Rattle.lemmas.specs.Below.{any_below, count_below}
 use Rattle.mesh_decl.specs.Mesh.{target}
 use Rattle.renumber.proofs.breadth_order.Marking.{Marks}
 use Rattle.renumber.proofs.breadth_order.counts.mark_targets.Given as goal

@@ -3,7 +3,7 @@ use Rattle.std.specs.declared.alloc.Global.{Global}
 use Rattle.std.specs.List.{Contains}
 use Rattle.std.proofs.lemmas.List.Elements.{Contains-append_left}
 use Rattle.mesh_decl.specs.Mesh.{map_dim, target}
-use Rattle.rank_sets.specs.Below.{any_below}
+use Rattle.lemmas.specs.Below.{any_below}
 use Rattle.renumber.specs.Neighbours.{has_target}
 use Rattle.renumber.proofs.breadth_order.Gathering.{new_more, has_more, new_push, has_push}
 use Rattle.renumber.proofs.breadth_order.neighbours.push_unseen.Goals as goal

@@ -1,6 +1,6 @@
 use Rattle.std.proofs.Common.{◌≡◌, ◌≢◌, ◌⊎◌, ℕ, true, false, nat_eq, get_or}
 use Rattle.std.specs.List.{Contains}
-use Rattle.rank_sets.specs.Below.{any_below}
+use Rattle.lemmas.specs.Below.{any_below}
 use Rattle.mesh_decl.specs.Mesh.{target}
 use Rattle.renumber.proofs.breadth_order.neighbours.push_unseen.Given as goal
 

@@ -4,8 +4,8 @@ use Rattle.std.proofs.lemmas.Bool.{and_parts, and_from, cases_eq, eq-eqb, ne_eqb
 use Rattle.std.proofs.lemmas.List.{get_or_default}
 use Rattle.std.proofs.lemmas.List.Sorted.{IsNonDecreasingBy-from_sort_by_key, All-permutation, Contains-permutation}
 use Rattle.mesh_decl.specs.Mesh.{MeshValue, set_size, map_from}
-use Rattle.rank_sets.specs.Below.{any_below}
-use Rattle.rank_sets.proofs.Below.{any_from, any_witness}
+use Rattle.lemmas.specs.Below.{any_below}
+use Rattle.lemmas.proofs.Below.{any_from, any_witness}
 use Rattle.renumber.specs.Keys.{keyed}
 use Rattle.renumber.specs.Neighbours.{has_target, are_neighbours, havers}
 use Rattle.renumber.proofs.breadth_order.Having.{haver_at, haver_has}

@@ -1,5 +1,5 @@
 use Rattle.std.proofs.Common.{◌∙◌, sym}
-use Rattle.rank_sets.proofs.Rows.{row_read}
+use Rattle.lemmas.proofs.Rows.{row_read}
 use Rattle.schedule_check.proofs.plan_orders.TableReads.{row_past}
 use Rattle.schedule_check.proofs.plan_orders.messages.list_at.Goals as goal
 

@@ -1,7 +1,7 @@
 use Rattle.std.proofs.Common.{◌≡◌, ◌<◌, ◌∙◌, ◌++◌, ◌∷◌, [], ℕ, List, Vec, length, length-set, get_or, ap}
 use Rattle.std.specs.declared.alloc.Global.{Global}
 use Rattle.std.proofs.lemmas.List.{get_or_default}
-use Rattle.rank_sets.proofs.Rows.{row_read}
+use Rattle.lemmas.proofs.Rows.{row_read}
 use Rattle.loop_plan.specs.declared.types.Pair.{Pair}
 use Rattle.schedule_check.proofs.plan_orders.PairLists.{push_pair}
 use Rattle.schedule_check.proofs.plan_orders.messages.receivers.Goals as goal

@@ -1,5 +1,5 @@
 use Rattle.std.proofs.Common.{◌≡◌, ◌<◌, ℕ, length, take}
-use Rattle.rank_sets.specs.Below.{row}
+use Rattle.lemmas.specs.Below.{row}
 use Rattle.schedule_check.specs.Messages.{senders_in}
 use Rattle.schedule_check.proofs.plan_orders.messages.senders.Given as goal
 

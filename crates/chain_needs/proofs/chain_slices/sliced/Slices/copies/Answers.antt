@@ -1,7 +1,7 @@
 use Rattle.std.proofs.Common.{◌≡◌, ◌<◌, List, Vec, ℕ, length, ap, ◌∙◌, arith}
 use Rattle.std.specs.declared.alloc.Global.{Global}
-use Rattle.rank_sets.specs.Below.{listed, row, rows}
-use Rattle.rank_sets.proofs.Rows.{row_read, rows_at}
+use Rattle.lemmas.specs.Below.{listed, row, rows}
+use Rattle.lemmas.proofs.Rows.{row_read, rows_at}
 use Rattle.mesh_decl.specs.Mesh.{dat_set, set_size}
 use Rattle.chain_model.specs.Slices.{needs}
 use Rattle.chain_needs.specs.Shapes.{IsShape, needs_others}

@@ -1,6 +1,6 @@
 use Rattle.std.proofs.Common.{◌<◌, suc, length, ◌∙◌, arith}
 use Rattle.run_model.specs.Laws.{site_of}
-use Rattle.rank_sets.proofs.Rows.{row_read}
+use Rattle.lemmas.proofs.Rows.{row_read}
 use Rattle.chain_model.specs.Slices.{loops_from, needs, executes}
 use Rattle.chain_needs.specs.Levels.{IsLevel}
 use Rattle.chain_needs.proofs.chain_slices.Reading.{level_of}

@@ -1,6 +1,6 @@
 use Rattle.std.proofs.Common.{suc, List, ap, ◌∙◌, arith}
-use Rattle.rank_sets.specs.RankSet.{has_at}
-use Rattle.rank_sets.specs.declared.rank_set.RankSet.{RankSet}
+use Rattle.local_mesh.specs.RankSet.{has_at}
+use Rattle.local_mesh.specs.declared.rank_sets.rank_set.RankSet.{RankSet}
 use Rattle.run_model.specs.Laws.{site_of}
 use Rattle.chain_model.specs.Slices.{loops_from, needs, executes}
 use Rattle.chain_needs.specs.Levels.{IsLevel}

@@ -1,6 +1,6 @@
 use Rattle.std.proofs.Common.{◌≡◌, ◌<◌, suc, List, length, sym, ap, ◌∙◌, arith}
-use Rattle.rank_sets.specs.RankSet.{has_at}
-use Rattle.rank_sets.specs.declared.rank_set.RankSet.{RankSet}
+use Rattle.local_mesh.specs.RankSet.{has_at}
+use Rattle.local_mesh.specs.declared.rank_sets.rank_set.RankSet.{RankSet}
 use Rattle.schedule_model.specs.Tests.{free_kind}
 use Rattle.run_model.specs.Programs.{kind_of, item_at}
 use Rattle.run_model.specs.Laws.{site_of}

@@ -1,5 +1,0 @@
-pub mod Bits
-pub mod Below
-pub mod Rows
-pub mod Appending
-pub mod Growing
