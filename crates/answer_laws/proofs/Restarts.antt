@@ -10,7 +10,7 @@ use Rattle.kernel_types.specs.View.{rkernel_of}
 use Rattle.name_resolution.specs.Programs as names
 use Rattle.name_resolution.specs.Programs.{Resolves}
 use Rattle.mesh_decl.specs.Reading.{Read, Reads as Spelled}
-use Rattle.texts.specs.CutLines.{HasNoLf}
+use Rattle.op_num.specs.CutLines.{HasNoLf}
 use Rattle.mesh_decl.specs.declared.decl.SetDecl.{SetDecl}
 use Rattle.mesh_decl.specs.declared.decl.DatDecl.{DatDecl}
 use Rattle.schedule_model.specs.Cells.{Store, InRange}

@@ -37,8 +37,8 @@ use Rattle.loop_plan.specs.Proper.{Proper, HasLeastColours}
 use Rattle.loop_plan.specs.StepCounts.{program_steps}
 use Rattle.loop_plan.specs.StepOutline.{step_outline}
 use Rattle.plan_cert.specs.Certified.{Certified, IsRefused}
-use Rattle.texts.specs.Cut.{words}
-use Rattle.texts.specs.Automaton.{last_line}
+use Rattle.op_num.specs.Cut.{words}
+use Rattle.op_num.specs.Automaton.{last_line}
 use Rattle.schedule_steps.specs.Outline.{Outline}
 use Rattle.schedule_steps.specs.declared.step.Step.{Step}
 use Rattle.schedule_steps.specs.Steps.{has, Accepted}

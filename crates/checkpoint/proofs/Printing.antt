@@ -6,7 +6,7 @@ use Rattle.std.specs.Fmt.{decimal, signed_decimal, digits, digits_onto, digit_gl
 use Rattle.std.proofs.lemmas.Bool.{cases_Bool, and_from, and_parts}
 use Rattle.std.proofs.lemmas.List.{append-nil}
 use Rattle.std.proofs.lemmas.List.Folds.{list_all-append}
-use Rattle.texts.specs.Lines.{line_of, separator}
+use Rattle.op_num.specs.Lines.{line_of, separator}
 use Rattle.mesh_decl.specs.Printed.{printed_line, shown}
 use Rattle.checkpoint.specs.Cut.{more_places, places}
 use Rattle.checkpoint.specs.StateText.{values_text, var_text}

@@ -1,7 +1,7 @@
 -- What is judged of some of a text's lines: they fit what is awaited, or one is the first that is refused.
 use Rattle.std.specs.Prelude.{◌≡◌, ℕ, suc, ℤ, ◌+◌, Bool, true, false, List, ◌++◌, Result, Ok, Err, length, codes}
 use Rattle.std.specs.List.{flat_map}
-use Rattle.texts.specs.CutLines.{Unread}
+use Rattle.op_num.specs.CutLines.{Unread}
 use Rattle.bound_program.specs.Values.{BoundValue}
 use Rattle.checkpoint.specs.Cut.{StateValue, HasShape}
 use Rattle.checkpoint.specs.declared.state_texts.refusals.StateRefusal.{StateRefusal}

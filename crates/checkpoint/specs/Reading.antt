@@ -3,8 +3,8 @@ use Rattle.std.specs.Prelude.{◌≡◌, ◌≢◌, ℕ, suc, ℤ, ◌+◌, ◌�
 use Rattle.std.specs.List.{flat_map, count_by}
 use Rattle.std.specs.Fmt.{decimal}
 use Rattle.op_num.specs.Spelling.{integer_of, i32_judged}
-use Rattle.texts.specs.Lines.{line_of}
-use Rattle.texts.specs.CutLines.{is_lf, HasNoLf}
+use Rattle.op_num.specs.Lines.{line_of}
+use Rattle.op_num.specs.CutLines.{is_lf, HasNoLf}
 use Rattle.mesh_decl.specs.Mesh.{MeshValue, dat_count, set_size, dat_set, dat_dim}
 use Rattle.mesh_decl.specs.Printed.{dat_header}
 use Rattle.bound_program.specs.Values.{BoundValue}

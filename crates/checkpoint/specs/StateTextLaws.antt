@@ -2,7 +2,7 @@
 use Rattle.std.specs.Prelude.{◌≡◌, ℕ, ◌<◌, ◌^◌, ◌⊎◌, FitsSigned, List, ◌++◌, All, length}
 use Rattle.std.specs.Int.{w32}
 use Rattle.c_lex.specs.Spelling.{IsName}
-use Rattle.texts.specs.CutLines.{HasNoLf}
+use Rattle.op_num.specs.CutLines.{HasNoLf}
 use Rattle.mesh_decl.specs.declared.decl.SetDecl.{SetDecl}
 use Rattle.mesh_decl.specs.declared.decl.DatDecl.{DatDecl}
 use Rattle.mesh_decl.specs.Mesh.{MeshValue, IsMesh}

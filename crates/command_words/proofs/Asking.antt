@@ -13,7 +13,7 @@ use Rattle.clap.specs.declared.error.Error.{Error}
 use Rattle.clap.specs.declared.error.kind.ErrorKind.{ErrorKind}
 use Rattle.clap.specs.declared.error.kind.ErrorKind.TheVariants as kind
 use Rattle.clap.specs.declared.parser.matches.ArgMatches.{ArgMatches}
-use Rattle.texts.specs.Automaton.{IsGiven, IsRefused}
+use Rattle.op_num.specs.Automaton.{IsGiven, IsRefused}
 use Rattle.command_words.specs.Refusal.{Refusal}
 use Rattle.command_words.specs.Refusal as answer
 use Rattle.command_words.specs.Words.{Command, command, options_in, asked, judged, WordsAre}

@@ -5,7 +5,7 @@ ghost use Rattle.clap.specs.Matches.{found_of, first_value};
 ghost use Rattle.clap.specs.Values.{kind_of};
 ghost use Rattle.clap.specs.Walk.{Row};
 ghost use Rattle.clap.specs.declared.error.kind.ErrorKind.TheVariants as kind;
-ghost use Rattle.texts.specs.Automaton.{IsGiven, IsRefused};
+ghost use Rattle.op_num.specs.Automaton.{IsGiven, IsRefused};
 ghost use Rattle.command_words.specs.Refusal.{Usage as usage};
 ghost use Rattle.command_words.specs.Words.{Command, asked, judged, is_set, WordsAre};
 ghost use Rattle.command_words.specs.declared.refusals.WordsRefusal.TheVariants.{Usage, OutOfMemory};

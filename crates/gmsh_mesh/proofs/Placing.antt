@@ -3,11 +3,11 @@ use Rattle.std.proofs.Common.{◌≡◌, ℕ, zero, suc, ◌+◌, ◌-◌, ◌^�
 use Rattle.std.proofs.lemmas.Result.{err_from_is_err_and}
 use Rattle.std.proofs.lemmas.Bool.{cases_lt}
 use Rattle.std.specs.Prelude.{if◌then◌else◌}
-use Rattle.texts.specs.Automaton.{after, onto, Answers}
+use Rattle.op_num.specs.Automaton.{after, onto, Answers}
 use Rattle.gmsh_text.specs.Decimal.{Decimal, decimal_of}
 use Rattle.gmsh_text.specs.Nearest.{fits_at, judged}
 use Rattle.gmsh_text.specs.declared.decimals.reading.DecimalRefusal.{DecimalRefusal}
-use Rattle.texts.specs.Cut.{Word}
+use Rattle.op_num.specs.Cut.{Word}
 use Rattle.gmsh_text.specs.declared.nodes.Point.{Point}
 use Rattle.gmsh_mesh.specs.declared.choice.Dimension.{Dimension}
 use Rattle.gmsh_mesh.specs.declared.refusal.GmshRefusal.{GmshRefusal}

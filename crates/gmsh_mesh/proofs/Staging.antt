@@ -5,7 +5,7 @@ use Rattle.std.proofs.lemmas.Bool.Decides.{nat_tests}
 use Rattle.std.specs.Prelude.{nat_lt, if◌then◌else◌, ◌||◌}
 use Rattle.gmsh_mesh.specs.declared.refusal.GmshRefusal.{GmshRefusal}
 use Rattle.gmsh_mesh.specs.declared.refusal.GmshRefusal.TheVariants as refusal
-use Rattle.texts.specs.Automaton.{Answers}
+use Rattle.op_num.specs.Automaton.{Answers}
 use Rattle.gmsh_mesh.specs.Stages.{Judgement, given, line_of, lower, Both, is_lost, earlier, joined, Gives}
 
 -- what is given goes on

@@ -1,8 +1,8 @@
 -- Coordinates as integers.
 use Rattle.std.specs.Prelude.{◌≡◌, ◌^◌, ◌-◌, ◌⊎◌, ℕ, zero, suc, ℤ, pos, List, [], ◌∷◌, ◌++◌, Option, Result, Ok, Err, if◌then◌else◌}
 use Rattle.std.specs.Ordering.{int_eq}
-use Rattle.texts.specs.Cut.{Word}
-use Rattle.texts.specs.Automaton.{after, onto}
+use Rattle.op_num.specs.Cut.{Word}
+use Rattle.op_num.specs.Automaton.{after, onto}
 use Rattle.gmsh_text.specs.Decimal.{Decimal, decimal_of}
 use Rattle.gmsh_text.specs.Nearest.{fits_at, judged}
 use Rattle.gmsh_text.specs.declared.decimals.reading.DecimalRefusal.{DecimalRefusal}

@@ -1,6 +1,6 @@
 // Coordinates as integers.
 ghost use Rattle.std.specs.Prelude.{◌≡◌, ◌<◌, ◌++◌, []};
-ghost use Rattle.texts.specs.Automaton.{Answers, onto};
+ghost use Rattle.op_num.specs.Automaton.{Answers, onto};
 ghost use Rattle.gmsh_mesh.specs.declared.refusal.GmshRefusal.TheVariants.{OutOfMemory};
 ghost use Rattle.gmsh_mesh.specs.Coordinates.{coordinate, plane_word, place, places_behind, IsPlaced};
 
@@ -9,7 +9,7 @@ use crate::refusal::GmshRefusal;
 use gmsh_text::Point;
 use gmsh_text::decimals::{largest_scale, read_scaled};
 use std::alloc::Global;
-use texts::Token;
+use op_num::texts::Token;
 
 // The coordinates of all nodes, node for node, each the integer nearest to the decimal times the scale. In a plane mesh
 // the third is checked to be 0, and left out.

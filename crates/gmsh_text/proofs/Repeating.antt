@@ -1,7 +1,7 @@
 -- One reading a number of times.
 use Rattle.std.proofs.Common.{◌≡◌, ℕ, zero, suc, ◌+◌, ◌<◌, ◌⊎◌, inl, inr, Result, Ok, Err, IsErrAnd, refl, ap, ◌∙◌, arith}
 use Rattle.std.proofs.lemmas.Result.{err_from_is_err_and}
-use Rattle.texts.specs.Cut.{Uncut}
+use Rattle.op_num.specs.Cut.{Uncut}
 use Rattle.gmsh_text.specs.declared.refusal.TextRefusal.{TextRefusal}
 use Rattle.gmsh_text.specs.declared.refusal.TextRefusal.TheVariants.{OutOfMemory}
 use Rattle.gmsh_text.specs.Parsing.{Parsed, and_then, repeat, IsRead, IsMade, IsGot, IsSeen}

@@ -1,6 +1,6 @@
 -- The next section.
 use Rattle.std.proofs.Common.{◌≡◌, ℕ, List, [], ◌∷◌, Some, None, Ok, Err, refl, sym, ap, ◌∙◌}
-use Rattle.texts.specs.Cut.{Word, Uncut, first, behind, first_of, rest_of}
+use Rattle.op_num.specs.Cut.{Word, Uncut, first, behind, first_of, rest_of}
 use Rattle.gmsh_text.specs.declared.refusal.TextRefusal.TheVariants.{Syntax}
 use Rattle.gmsh_text.specs.declared.format.Section.{Section}
 use Rattle.gmsh_text.specs.Sections.{section, section_of, section_or, section_from}

@@ -1,6 +1,6 @@
 -- What is read has tables of whole elements.
 use Rattle.std.proofs.Common.{◌≡◌, ℕ, zero, suc, ◌+◌, ◌*◌, ◌++◌, ◌^◌, [], ◌∷◌, List, length, codes, Ok, Err, refl, sym, ap, subst, arith, length-append}
-use Rattle.texts.specs.Cut.{Uncut, uncut}
+use Rattle.op_num.specs.Cut.{Uncut, uncut}
 use Rattle.gmsh_text.specs.declared.kind.Kind.{Kind}
 use Rattle.gmsh_text.specs.declared.kind.Kind.TheVariants.{Point, Line, Triangle, Quadrangle, Tetrahedron, Hexahedron}
 use Rattle.gmsh_text.specs.declared.entities.Group.{Group}

@@ -2,8 +2,8 @@
 use Rattle.std.specs.Prelude.{ℕ, ℤ, ◌^◌, nat_lt, List, Option, Some, None, Result, Ok, Err, if◌then◌else◌}
 use Rattle.std.specs.Str.{bytes_eq}
 use Rattle.op_num.specs.Spelling.{number_of, integer_of, fits_i32}
-use Rattle.texts.specs.Cut.{Word, Uncut}
-use Rattle.texts.specs.Automaton.{onto}
+use Rattle.op_num.specs.Cut.{Word, Uncut}
+use Rattle.op_num.specs.Automaton.{onto}
 use Rattle.gmsh_text.specs.Decimal.{Decimal, decimal_of}
 use Rattle.gmsh_text.specs.declared.refusal.TextRefusal.{TextRefusal}
 use Rattle.gmsh_text.specs.declared.refusal.TextRefusal.TheVariants.{Syntax, NumberRange}

@@ -1,7 +1,7 @@
 -- Reading tokens from the front: what is read, and what is to come behind it; or the first refusal.
 use Rattle.std.specs.Prelude.{◌≡◌, ℕ, zero, suc, ◌⊎◌, Option, Some, None, Result, Ok, Err}
-use Rattle.texts.specs.Cut.{Word, Uncut, first_of, rest_of}
-use Rattle.texts.specs.Automaton.{onto}
+use Rattle.op_num.specs.Cut.{Word, Uncut, first_of, rest_of}
+use Rattle.op_num.specs.Automaton.{onto}
 use Rattle.gmsh_text.specs.declared.refusal.TextRefusal.{TextRefusal}
 use Rattle.gmsh_text.specs.declared.refusal.TextRefusal.TheVariants.{Syntax, OutOfMemory}
 

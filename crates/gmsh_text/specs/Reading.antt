@@ -1,7 +1,7 @@
 -- What a text of Gmsh spells, token for token (Gmsh's reference manual, "MSH file format", versions 2.2 and 4.1, ASCII).
 use Rattle.std.specs.Prelude.{ℕ, zero, suc, ◌^◌, List, Option, Some, None, Result, Ok, Err, codes, nat_eq, if◌then◌else◌}
 use Rattle.op_num.specs.Spelling.{number_of}
-use Rattle.texts.specs.Cut.{Uncut, uncut}
+use Rattle.op_num.specs.Cut.{Uncut, uncut}
 use Rattle.gmsh_text.specs.declared.refusal.TextRefusal.{TextRefusal}
 use Rattle.gmsh_text.specs.declared.refusal.TextRefusal.TheVariants.{Syntax, ElementType}
 use Rattle.gmsh_text.specs.declared.kind.Kind.{Kind}

@@ -3,7 +3,7 @@ use Rattle.std.specs.Prelude.{ℕ, ℤ, ◌^◌, List, [], ◌∷◌, ◌++◌, 
 use Rattle.std.specs.Str.{bytes_eq}
 use Rattle.std.specs.Map.{lookup}
 use Rattle.std.specs.Ordering.{int_eq}
-use Rattle.texts.specs.Cut.{Word, Uncut}
+use Rattle.op_num.specs.Cut.{Word, Uncut}
 use Rattle.gmsh_text.specs.declared.refusal.TextRefusal.{TextRefusal}
 use Rattle.gmsh_text.specs.declared.refusal.TextRefusal.TheVariants.{Header, Version, Binary, Syntax, DuplicateEntity}
 use Rattle.gmsh_text.specs.declared.entities.Group.{Group}

@@ -14,7 +14,7 @@ use crate::refusal::TextRefusal;
 use crate::table::Elements;
 use op_num::{NumRefusal, read_u64};
 use std::alloc::Global;
-use texts::{Token, Tokens};
+use op_num::texts::{Token, Tokens};
 
 // The elements of a text of this version, whose entities have these groups.
 #[tactic(auto, unfolding(crate::specs::Reading::elements))]

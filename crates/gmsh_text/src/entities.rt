@@ -11,7 +11,7 @@ use crate::refusal::TextRefusal;
 use indexmap::IndexMap;
 use std::alloc::Global;
 use std::marker::Model;
-use texts::Tokens;
+use op_num::texts::Tokens;
 
 /// The physical group of an element.
 #[derive(Clone, Copy, Debug, PartialEq, Eq)]

@@ -1,13 +1,13 @@
 // The head of a text, and the words of its sections.
 ghost use Rattle.std.specs.Prelude.{◌≡◌, codes};
-ghost use Rattle.texts.specs.Automaton.{onto};
+ghost use Rattle.op_num.specs.Automaton.{onto};
 ghost use Rattle.gmsh_text.specs.Parsing.{IsRead};
 ghost use Rattle.gmsh_text.specs.Sections.{format, section, section_of, version_of, text_mark, wanted};
 ghost use Rattle.gmsh_text.specs.Reading.{blocks};
 
 use crate::numbers::{next_token, read_number, read_word};
 use crate::refusal::TextRefusal;
-use texts::{Token, Tokens};
+use op_num::texts::{Token, Tokens};
 
 // A version of the format.
 #[derive(Clone, Copy, Debug, PartialEq, Eq)]

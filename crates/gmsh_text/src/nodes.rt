@@ -9,7 +9,7 @@ use crate::numbers::{pass_decimals, read_decimal, read_integer, read_number, rea
 use crate::refusal::TextRefusal;
 use std::alloc::Global;
 use std::marker::Model;
-use texts::{Token, Tokens};
+use op_num::texts::{Token, Tokens};
 
 /// The tag of a node, and the line that it stands on.
 #[derive(Clone, Copy, Debug)]

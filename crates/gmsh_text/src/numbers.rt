@@ -2,7 +2,7 @@
 ghost use Rattle.std.specs.Prelude.{◌≡◌, ◌<◌, ◌≤◌, ◌^◌, ℕ, Ok, IfOk, is_some};
 ghost use Rattle.op_num.specs.Spelling.{number_of, integer_of};
 ghost use Rattle.gmsh_text.specs.Decimal.{decimal_of};
-ghost use Rattle.texts.specs.Cut.{Word, first_of, rest_of};
+ghost use Rattle.op_num.specs.Cut.{Word, first_of, rest_of};
 ghost use Rattle.gmsh_text.specs.declared.refusal.TextRefusal.TheVariants as Refusal;
 ghost use Rattle.gmsh_text.specs.Parsing.{IsRead, taken};
 ghost use Rattle.gmsh_text.specs.Numbers.{number, number_below, integer, integer_within, decimal, decimal_word, tag, word};
@@ -12,7 +12,7 @@ use crate::decimals::{DecimalRefusal, read_scaled};
 use crate::nodes::Tag;
 use crate::refusal::TextRefusal;
 use op_num::{NumRefusal, read_i32, read_u64};
-use texts::{Token, Tokens};
+use op_num::texts::{Token, Tokens};
 
 // The next token.
 pub(crate) fn next_token<'a>(tokens: &mut Tokens<'a>) -> Result<Token<'a>, TextRefusal>

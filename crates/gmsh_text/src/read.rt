@@ -1,6 +1,6 @@
 // Reading a text.
 ghost use Rattle.std.specs.Prelude.{◌≡◌, ◌+◌, ◌<◌, ◌^◌, ◌⊎◌, ℕ, List, length, Result, Ok, Err, IfOk, IfErr, codes};
-ghost use Rattle.texts.specs.Automaton.{Told};
+ghost use Rattle.op_num.specs.Automaton.{Told};
 ghost use Rattle.gmsh_text.specs.declared.refusal.TextRefusal.TheVariants as Refusal;
 ghost use Rattle.gmsh_text.specs.Groups.{EntityGroups};
 ghost use Rattle.gmsh_text.specs.Parsing.{IsGot};
@@ -16,7 +16,7 @@ use crate::numbers::read_word;
 use crate::refusal::TextRefusal;
 use crate::table::Elements;
 use std::alloc::Global;
-use texts::Tokens;
+use op_num::texts::Tokens;
 
 /// What a text of Gmsh has.
 #[derive(Debug, Drop)]

@@ -1,7 +1,7 @@
 -- Lines by parts with a space in front.
 use Rattle.std.proofs.Common.{◌≡◌, ◌<◌, ◌+◌, ℕ, refl, sym, ap, ◌∙◌, List, [], ◌∷◌, ◌++◌, append_assoc, append-nil, length, get_or, take, map}
 use Rattle.std.proofs.lemmas.List.{take_more, map-append}
-use Rattle.texts.specs.Lines.{line_of}
+use Rattle.op_num.specs.Lines.{line_of}
 use Rattle.loop_plan.specs.Spaced.{spaced}
 
 pub line_is_spaced : (t : List ℕ) (ts : List (List ℕ)) → line_of (t ∷ ts) ≡ t ++ (spaced ts ++ (10 ∷ []))

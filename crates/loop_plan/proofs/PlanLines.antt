@@ -4,7 +4,7 @@ use Rattle.std.specs.Prelude.{codes}
 use Rattle.std.specs.Fmt.{decimal}
 use Rattle.std.proofs.lemmas.Grind.{flat_map-append}
 use Rattle.std.proofs.lemmas.List.{take_more, length-take-le}
-use Rattle.texts.specs.Lines.{line_of, text_of_lines}
+use Rattle.op_num.specs.Lines.{line_of, text_of_lines}
 use Rattle.mesh_decl.specs.Mesh.{MeshValue, set_name}
 use Rattle.local_mesh.specs.declared.types.LocalSet.{LocalSet}
 use Rattle.local_mesh.specs.declared.types.RankMesh.{RankMesh}

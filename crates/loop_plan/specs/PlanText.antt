@@ -2,7 +2,7 @@
 use Rattle.std.specs.Prelude.{ℕ, zero, suc, List, [], ◌∷◌, ◌++◌, map, take, drop, codes}
 use Rattle.std.specs.List.{flat_map}
 use Rattle.std.specs.Fmt.{decimal}
-use Rattle.texts.specs.Lines.{text_of_lines}
+use Rattle.op_num.specs.Lines.{text_of_lines}
 use Rattle.mesh_decl.specs.Mesh.{MeshValue, set_count, set_name, dat_name}
 use Rattle.local_mesh.specs.declared.types.LocalSet.{LocalSet}
 use Rattle.local_mesh.specs.declared.types.RankMesh.{RankMesh}

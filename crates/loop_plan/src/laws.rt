@@ -1,6 +1,6 @@
 // What the definitions of plans give. Each function has an empty body, and its contract is the law.
 ghost use Rattle.std.specs.Prelude.{◌≡◌, ◌<◌, ◌↔◌, ℕ, true, List, [], ◌∷◌, ◌++◌, length};
-ghost use Rattle.texts.specs.Lines.{line_of};
+ghost use Rattle.op_num.specs.Lines.{line_of};
 ghost use Rattle.lemmas.specs.Below.{listed};
 ghost use Rattle.mesh_decl.specs.declared.owners.Owners.{Owners};
 ghost use Rattle.mesh_decl.specs.declared.owners.Perms.{Perms};

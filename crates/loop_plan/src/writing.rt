@@ -2,7 +2,7 @@
 ghost use Rattle.std.specs.Prelude.{◌≡◌, ◌<◌, ◌≤◌, ◌^◌, ◌++◌, ℕ, [], ◌∷◌, map, length, take, drop, All, OnOk, IfOk, codes};
 ghost use Rattle.std.specs.List.{flat_map};
 ghost use Rattle.std.specs.Fmt.{decimal};
-ghost use Rattle.texts.specs.Lines.{line_of, text_of_lines};
+ghost use Rattle.op_num.specs.Lines.{line_of, text_of_lines};
 ghost use Rattle.mesh_decl.specs.Mesh.{set_count, set_name, dat_name};
 ghost use Rattle.local_mesh.specs.declared.halo_lists.types.Halos.{Halos};
 ghost use Rattle.local_mesh.specs.LocalMesh.{originals_in, executed_in};

@@ -1,7 +1,7 @@
 -- What the reader's functions answer, beside what the tokens say.
 use Rattle.std.specs.Prelude.{◌≡◌, ◌+◌, ◌≤◌, false, List, [], ◌∷◌, ◌++◌, Option, Some, None, Result}
-use Rattle.texts.specs.Cut.{Uncut}
-use Rattle.texts.specs.Automaton
+use Rattle.op_num.specs.Cut.{Uncut}
+use Rattle.op_num.specs.Automaton
 use Rattle.mesh_decl.specs.declared.text.entry.Form.{Form}
 use Rattle.mesh_decl.specs.declared.text.entry.MeshRefusal.{MeshRefusal}
 use Rattle.mesh_decl.specs.declared.text.entry.MeshRefusal.TheVariants.{OutOfMemory}

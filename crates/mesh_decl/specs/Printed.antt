@@ -2,7 +2,7 @@
 use Rattle.std.specs.Prelude.{ℕ, zero, suc, ℤ, ◌+◌, ◌&&◌, nat_eq, List, [], ◌∷◌, ◌++◌, map, take, drop, Option, Some, None, codes, if◌then◌else◌}
 use Rattle.std.specs.List.{flat_map}
 use Rattle.std.specs.Fmt.{decimal, signed_decimal}
-use Rattle.texts.specs.Lines.{line_of}
+use Rattle.op_num.specs.Lines.{line_of}
 use Rattle.mesh_decl.specs.Mesh.{MeshValue, set_size, set_name, dat_set, dat_dim, dat_name}
 
 -- the values of the elements, one list each

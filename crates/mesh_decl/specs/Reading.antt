@@ -4,9 +4,9 @@ use lib.ListN.{replicate}
 use Rattle.op_num.specs.Spelling.{number_of, integer_of, i32_judged}
 use Rattle.op_num.specs.declared.refusals.NumRefusal.{NumRefusal}
 use Rattle.op_num.specs.declared.refusals.NumRefusal.TheVariants.{NotDigits, TooLarge}
-use Rattle.texts.specs.Cut.{Word, Uncut, words, text_of}
-use Rattle.texts.specs.Automaton
-use Rattle.texts.specs.Automaton.{onto, RefusesAmong}
+use Rattle.op_num.specs.Cut.{Word, Uncut, words, text_of}
+use Rattle.op_num.specs.Automaton
+use Rattle.op_num.specs.Automaton.{onto, RefusesAmong}
 use Rattle.mesh_decl.specs.declared.text.entry.Form.{Form}
 use Rattle.mesh_decl.specs.declared.text.entry.Entry.TheVariants.{One, Many}
 use Rattle.mesh_decl.specs.declared.text.entry.MeshRefusal.{MeshRefusal}

@@ -1,7 +1,7 @@
 -- Lines of an output: bytes up to an LF, with it.
 use Rattle.std.specs.Prelude.{◌≡◌, ℕ, ◌⊎◌, List, [], ◌∷◌, ◌++◌}
 use Rattle.std.specs.List.{count_by}
-use Rattle.texts.specs.CutLines.{is_lf}
+use Rattle.op_num.specs.CutLines.{is_lf}
 
 -- how many LFs there are
 abbrev pub lines_in : List ℕ → ℕ

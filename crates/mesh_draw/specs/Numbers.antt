@@ -2,7 +2,7 @@
 use Rattle.std.specs.Prelude.{◌≡◌, ℕ, ℤ, List, [], ◌∷◌, ◌++◌, All, length, Ok}
 use Rattle.std.specs.List.{flat_map}
 use Rattle.op_num.specs.Spelling.{integer_of, i32_judged}
-use Rattle.texts.specs.CutLines.{HasNoLf, words}
+use Rattle.op_num.specs.CutLines.{HasNoLf, words}
 
 -- the word spells an integer of 32 bits
 abbrev pub IsNumber : List ℕ → Type 0

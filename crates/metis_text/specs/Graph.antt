@@ -4,7 +4,7 @@ use Rattle.std.specs.Prelude.{◌≡◌, ℕ, ◌+◌, ◌/◌, ◌<◌, true, L
 use Rattle.std.specs.List.{flat_map}
 use Rattle.std.specs.List.Sorted.{IsStrictlyIncreasing}
 use Rattle.std.specs.Fmt.{decimal}
-use Rattle.texts.specs.Lines.{line_of}
+use Rattle.op_num.specs.Lines.{line_of}
 use Rattle.mesh_decl.specs.Mesh.{MeshValue, set_size, map_to}
 use Rattle.renumber.specs.Neighbours.{are_neighbours}
 

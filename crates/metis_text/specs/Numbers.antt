@@ -2,8 +2,8 @@
 -- Partitioning Unstructured Graphs", the manual, "Partition file"). Blanks may stand around a number, and empty lines at the end.
 use Rattle.std.specs.Prelude.{ℕ, zero, suc, nat_lt, List, [], ◌∷◌, Option, Some, None, Result, Ok, Err, if◌then◌else◌}
 use Rattle.op_num.specs.Spelling.{number_of}
-use Rattle.texts.specs.Cut.{Word, words}
-use Rattle.texts.specs.Automaton.{after, onto}
+use Rattle.op_num.specs.Cut.{Word, words}
+use Rattle.op_num.specs.Automaton.{after, onto}
 use Rattle.metis_text.specs.declared.owner_text.metis.refusals.MetisRefusal.{MetisRefusal}
 use Rattle.metis_text.specs.declared.owner_text.metis.refusals.MetisRefusal.TheVariants.{NoRank, Many, Few}
 

@@ -1,7 +1,7 @@
 -- The text of owners.
 use Rattle.std.specs.Prelude.{◌≡◌, ℕ, suc, ◌<◌, List, [], ◌∷◌, ◌++◌, map, codes}
 use Rattle.std.specs.Fmt.{decimal}
-use Rattle.texts.specs.Lines.{IsToken, text_of_lines}
+use Rattle.op_num.specs.Lines.{IsToken, text_of_lines}
 use Rattle.mesh_decl.specs.Mesh.{MeshValue, set_count, set_size, set_name}
 use Rattle.partition.specs.Spelling.{IsNamed}
 

@@ -19,7 +19,7 @@ use schedule_check::ScheduleRefusal;
 use schedule_steps::text::{Line, ScheduleTextRefusal, read_schedule};
 use schedule_steps::{Peak, Step};
 use std::alloc::Global;
-use texts::Tokens;
+use op_num::texts::Tokens;
 
 // A text that spells no steps.
 fn unspelled<'a>(refusal: ScheduleTextRefusal) -> Halt<'a>

@@ -1,8 +1,8 @@
 -- What the reader's functions answer.
 use Rattle.std.specs.Prelude.{◌≡◌, ℕ, ◌⊎◌, Option, Some, None, Result, Ok, Err}
-use Rattle.texts.specs.Cut.{Uncut}
-use Rattle.texts.specs.Automaton
-use Rattle.texts.specs.Automaton.{after, onto}
+use Rattle.op_num.specs.Cut.{Uncut}
+use Rattle.op_num.specs.Automaton
+use Rattle.op_num.specs.Automaton.{after, onto}
 use Rattle.mesh_decl.specs.Mesh.{MeshValue}
 use Rattle.partition.specs.declared.part_text.refusals.PartRefusal.{PartRefusal}
 use Rattle.partition.specs.declared.part_text.refusals.PartRefusal.TheVariants.{OutOfMemory}

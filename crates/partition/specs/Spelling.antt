@@ -2,7 +2,7 @@
 use Rattle.std.specs.Prelude.{◌≡◌, ℕ, ◌<◌, List, [], ◌∷◌, ◌++◌, length, map, slice_get, slice_set, Option, Some, None, codes}
 use lib.ListN.{replicate}
 use Rattle.op_num.specs.Spelling.{number_of}
-use Rattle.texts.specs.Cut.{texts}
+use Rattle.op_num.specs.Cut.{texts}
 use Rattle.mesh_decl.specs.Mesh.{MeshValue, set_count, set_size, set_name}
 
 -- for each set the ranks of its elements, or none so far

@@ -3,7 +3,7 @@ use Rattle.std.proofs.Common.{◌≡◌, ℕ, zero, suc, ◌<◌, refl, sym, ap,
 use Rattle.std.specs.List.{flat_map}
 use Rattle.std.proofs.lemmas.Grind.{flat_map-append}
 use Rattle.lemmas.specs.Below.{listed}
-use Rattle.texts.specs.Lines.{line_of, text_of_lines}
+use Rattle.op_num.specs.Lines.{line_of, text_of_lines}
 use Rattle.local_mesh.specs.declared.types.RankMesh.{RankMesh}
 use Rattle.bound_program.specs.Values.{BoundValue}
 use Rattle.loop_plan.specs.PlanText.{Line}

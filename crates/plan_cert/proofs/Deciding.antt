@@ -3,7 +3,7 @@ use Rattle.std.proofs.Common.{◌≡◌, ℕ, Bool, true, false, zero, suc, ◌<
 use Rattle.std.proofs.lemmas.Bool.{cases_eq, eqb-true}
 use Rattle.std.proofs.lemmas.List.{append_cancel_left}
 use Rattle.lemmas.proofs.Lists.{head_same, tail_same}
-use Rattle.texts.specs.CutLines.{is_lf, HasNoLf}
+use Rattle.op_num.specs.CutLines.{is_lf, HasNoLf}
 use Rattle.plan_cert.proofs.Lining.{no_lf_none, no_lf_behind}
 
 -- it holds, or it doesn't

@@ -3,7 +3,7 @@ use Rattle.std.proofs.Common.{◌≡◌, ℕ, ◌*◌, ◌<◌, ◌↔◌, inl, 
 use Rattle.std.specs.Prelude.{codes}
 use Rattle.std.specs.Fmt.{decimal}
 use Rattle.std.specs.declared.alloc.Global.{Global}
-use Rattle.texts.specs.CutLines.{HasNoLf, Unread, IsTaken, Takes}
+use Rattle.op_num.specs.CutLines.{HasNoLf, Unread, IsTaken, Takes}
 use Rattle.mesh_decl.specs.Mesh.{MeshValue}
 use Rattle.local_mesh.specs.declared.types.RankMesh.{RankMesh}
 use Rattle.colouring.specs.declared.types.IncArg.{IncArg}

@@ -2,7 +2,7 @@
 use Rattle.std.proofs.Common.{◌≡◌, ℕ, ◌+◌, ◌<◌, Bool, true, false, cond, sym, ap, subst, ◌∙◌, List, [], ◌∷◌, ◌++◌, append-nil, length, get_or, map}
 use Rattle.std.proofs.lemmas.Grind.{flat_map-append}
 use Rattle.std.proofs.lemmas.List.{get_or_read}
-use Rattle.texts.specs.CutLines.{Unread}
+use Rattle.op_num.specs.CutLines.{Unread}
 use Rattle.local_mesh.specs.declared.types.RankMesh.{RankMesh}
 use Rattle.bound_program.specs.Values.{BoundValue}
 use Rattle.loop_plan.specs.Values.{SitePlanValue}

@@ -6,7 +6,7 @@ use Rattle.std.specs.declared.alloc.Global.{Global}
 use Rattle.lemmas.specs.Below.{row}
 use Rattle.mesh_decl.specs.declared.access.Via.{Via}
 use Rattle.mesh_decl.specs.Mesh.{MeshValue, map_dim, set_count}
-use Rattle.texts.specs.Lines.{line_of}
+use Rattle.op_num.specs.Lines.{line_of}
 use Rattle.local_mesh.specs.declared.types.RankMesh.{RankMesh}
 use Rattle.local_mesh.specs.Values.{rank_mesh_value}
 use Rattle.colouring.specs.declared.types.IncArg.{IncArg}

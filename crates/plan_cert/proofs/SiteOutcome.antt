@@ -3,9 +3,9 @@ use Rattle.std.proofs.Common.{◌≡◌, ℕ, ◌+◌, ◌-◌, ◌*◌, ◌/◌
 use Rattle.std.specs.Prelude.{codes, ◌↔◌}
 use Rattle.std.specs.List.{join_with_byte}
 use Rattle.std.proofs.Math.Nat.{le-div_iff_mul-le}
-use Rattle.texts.specs.Lines.{line_of}
-use Rattle.texts.specs.CutLines.{words, HasNoLf}
-use Rattle.texts.proofs.line_texts.Cutting.{joined}
+use Rattle.op_num.specs.Lines.{line_of}
+use Rattle.op_num.specs.CutLines.{words, HasNoLf}
+use Rattle.op_num.proofs.texts.line_texts.Cutting.{joined}
 use Rattle.local_mesh.specs.declared.types.RankMesh.{RankMesh}
 use Rattle.colouring.specs.declared.types.Colours.{Colours}
 use Rattle.colouring.proofs.Alike.{few_blocks}

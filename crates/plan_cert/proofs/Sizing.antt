@@ -6,9 +6,9 @@ use Rattle.std.proofs.lemmas.Bool.{lt-ltb, false≢true}
 use Rattle.op_num.specs.Spelling.{number_of, u64_judged}
 use Rattle.op_num.specs.declared.refusals.NumRefusal.{NumRefusal}
 use Rattle.op_num.specs.declared.refusals.NumRefusal.TheVariants.{TooLarge}
-use Rattle.texts.specs.Lines.{line_of}
-use Rattle.texts.specs.CutLines.{HasNoLf, Unread, unread, IsTaken}
-use Rattle.texts.proofs.line_texts.Cutting.{one_line}
+use Rattle.op_num.specs.Lines.{line_of}
+use Rattle.op_num.specs.CutLines.{HasNoLf, Unread, unread, IsTaken}
+use Rattle.op_num.proofs.texts.line_texts.Cutting.{one_line}
 use Rattle.local_mesh.specs.declared.types.RankMesh.{RankMesh}
 use Rattle.bound_program.specs.Values.{BoundValue}
 use Rattle.plan_cert.specs.Awaited.{Sizes, sizes_front, IsSizes}

@@ -6,7 +6,7 @@ use Rattle.std.specs.Fmt.{decimal}
 use Rattle.std.proofs.lemmas.Grind.{flat_map-append}
 use Rattle.std.proofs.lemmas.List.{get_or-map, length-map, take_all}
 use Rattle.op_num.specs.Spelling.{number_of}
-use Rattle.texts.specs.Lines.{line_of, text_of_lines}
+use Rattle.op_num.specs.Lines.{line_of, text_of_lines}
 use Rattle.mesh_decl.specs.Mesh.{set_count}
 use Rattle.mesh_decl.proofs.FieldReads.{some_in}
 use Rattle.local_mesh.specs.declared.types.RankMesh.{RankMesh}

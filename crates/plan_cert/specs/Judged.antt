@@ -1,6 +1,6 @@
 -- What is judged of some of a text's lines: they fit what is awaited, or one is the first that is refused.
 use Rattle.std.specs.Prelude.{◌≡◌, ℕ, suc, ◌+◌, ◌<◌, List, ◌++◌, Result, Ok, Err, length}
-use Rattle.texts.specs.CutLines.{Unread}
+use Rattle.op_num.specs.CutLines.{Unread}
 use Rattle.local_mesh.specs.declared.types.RankMesh.{RankMesh}
 use Rattle.bound_program.specs.Values.{BoundValue}
 use Rattle.loop_plan.specs.Values.{PlanValue}

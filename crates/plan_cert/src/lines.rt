@@ -4,7 +4,7 @@ ghost use Rattle.std.specs.Prelude.{IfOk, OnOk, MatchResult, length};
 ghost use Rattle.std.specs.Fmt.{decimal};
 ghost use Rattle.local_mesh.specs.declared.types.RankMesh.{RankMesh as RankMeshValue};
 ghost use Rattle.mesh_decl.specs.Mesh.{set_count};
-ghost use Rattle.texts.specs.Lines.{line_of};
+ghost use Rattle.op_num.specs.Lines.{line_of};
 ghost use Rattle.bound_program.specs.Values.{BoundValue, bound_of};
 ghost use Rattle.bound_program.specs.Fits.{Fits};
 ghost use Rattle.loop_plan.specs.ItemPlans.{ArePlanned};
@@ -20,7 +20,7 @@ use local_mesh::{LocalSet, RankMesh};
 use loop_plan::{ItemPlan, put_item_at, put_rank_halo};
 use op_num::{OutOfMemory, put_u64, read_u64};
 use std::alloc::Global;
-use texts::line_texts::Lines;
+use op_num::texts::line_texts::Lines;
 
 /// Takes the first line, which says that the text is a plan; `Header` where another stands there.
 pub fn take_header(lines: &mut Lines) -> Result<(), CertRefusal>

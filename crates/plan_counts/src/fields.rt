@@ -3,7 +3,7 @@
 ghost use Rattle.std.specs.Prelude.{◌≡◌, ◌++◌, ◌∷◌, [], map, codes, OnOk, if◌then◌else◌};
 ghost use Rattle.std.specs.List.{flat_map};
 ghost use Rattle.std.specs.Fmt.{decimal};
-ghost use Rattle.texts.specs.Lines.{line_of};
+ghost use Rattle.op_num.specs.Lines.{line_of};
 ghost use Rattle.plan_counts.specs.Table.{padded, row_text};
 
 use op_num::{OutOfMemory, put_u64};

@@ -1,7 +1,7 @@
 -- What the reader's functions answer.
 use Rattle.std.specs.Prelude.{List, [], ◌∷◌, ◌++◌, Option, Some, None, Result}
-use Rattle.texts.specs.Cut.{Uncut}
-use Rattle.texts.specs.Automaton
+use Rattle.op_num.specs.Cut.{Uncut}
+use Rattle.op_num.specs.Automaton
 use Rattle.schedule_steps.specs.declared.text.lines.Line.{Line}
 use Rattle.schedule_steps.specs.declared.text.refusals.ScheduleTextRefusal.{ScheduleTextRefusal}
 use Rattle.schedule_steps.specs.declared.text.refusals.ScheduleTextRefusal.TheVariants.{OutOfMemory}

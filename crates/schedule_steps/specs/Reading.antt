@@ -1,9 +1,9 @@
 -- Reading a schedule text: what is awaited, what a token does there, and the first token that may not stand where it does.
 use Rattle.std.specs.Prelude.{◌≡◌, ℕ, ◌^◌, ◌<◌, ◌≤◌, nat_lt, List, [], ◌∷◌, ◌++◌, length, Option, Some, None, Result, Ok, Err, codes, if◌then◌else◌}
 use Rattle.op_num.specs.Spelling.{number_of}
-use Rattle.texts.specs.Cut.{Word, Uncut, words}
-use Rattle.texts.specs.Automaton
-use Rattle.texts.specs.Automaton.{onto, RefusesAmong}
+use Rattle.op_num.specs.Cut.{Word, Uncut, words}
+use Rattle.op_num.specs.Automaton
+use Rattle.op_num.specs.Automaton.{onto, RefusesAmong}
 use Rattle.schedule_steps.specs.declared.step.Step.{Step}
 use Rattle.schedule_steps.specs.declared.step.Step.TheVariants as taken
 use Rattle.schedule_steps.specs.declared.text.lines.Line.{Line}

@@ -4,7 +4,7 @@ use Rattle.std.specs.Prelude.{codes}
 use Rattle.std.specs.Fmt.{decimal}
 use Rattle.std.proofs.lemmas.List.{append_cancel_left}
 use Rattle.op_num.specs.Spelling.{number_of}
-use Rattle.texts.specs.CutLines.{HasNoLf, Unread, Takes}
+use Rattle.op_num.specs.CutLines.{HasNoLf, Unread, Takes}
 use Rattle.bound_program.specs.Values.{BoundValue}
 use Rattle.checkpoint.specs.Cut.{CanCut}
 use Rattle.checkpoint.specs.Reading.{Item, IsItem, Refuses}

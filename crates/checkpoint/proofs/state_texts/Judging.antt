@@ -2,7 +2,7 @@
 use Rattle.std.proofs.Common.{◌≡◌, ℕ, ℤ, suc, ◌+◌, refl, sym, ap, subst, ◌∙◌, arith, List, [], ◌∷◌, ◌++◌, append_assoc, append-nil, length, length-append, Result, Ok, Err}
 use Rattle.std.specs.Result.{IsErrAnd}
 use Rattle.std.proofs.lemmas.Grind.{flat_map-append}
-use Rattle.texts.specs.CutLines.{Unread, IsTaken}
+use Rattle.op_num.specs.CutLines.{Unread, IsTaken}
 use Rattle.bound_program.specs.Values.{BoundValue}
 use Rattle.checkpoint.specs.declared.state_texts.refusals.StateRefusal.{StateRefusal}
 use Rattle.checkpoint.specs.declared.state_texts.refusals.StateRefusal.TheVariants as refusal

@@ -5,7 +5,7 @@ use Rattle.std.specs.Fmt.{decimal}
 use Rattle.std.specs.List.{flat_map}
 use Rattle.std.proofs.lemmas.Bool.{cases_lt, false≢true}
 use Rattle.op_num.specs.Spelling.{integer_of, i32_judged}
-use Rattle.texts.specs.CutLines.{is_lf, HasNoLf}
+use Rattle.op_num.specs.CutLines.{is_lf, HasNoLf}
 use Rattle.mesh_decl.specs.Mesh.{MeshValue, dat_count, dat_dim, set_size, dat_set}
 use Rattle.bound_program.specs.Values.{BoundValue}
 use Rattle.run_model.specs.Windows.{numbers}

@@ -2,7 +2,7 @@
 use Rattle.std.proofs.Common.{◌≡◌, ℕ, ℤ, zero, suc, ◌+◌, ◌*◌, ◌<◌, ◌≤◌, refl, sym, ap, ap₂, subst, ◌∙◌, arith, ⊎_elim, inl, inr, List, [], ◌∷◌, ◌++◌, append-nil, length, map}
 use Rattle.std.specs.Prelude.{◌⊎◌, codes}
 use Rattle.std.specs.List.{flat_map, range_with_len}
-use Rattle.texts.specs.CutLines.{Unread, unread}
+use Rattle.op_num.specs.CutLines.{Unread, unread}
 use Rattle.mesh_decl.specs.Mesh.{MeshValue, IsMesh, IsDatAt, dat_count, dat_values, set_size, dat_set, dat_dim}
 use Rattle.bound_program.specs.Values.{BoundValue}
 use Rattle.run_model.specs.Windows.{numbers}

@@ -5,7 +5,7 @@ use Rattle.std.specs.List.{flat_map}
 use Rattle.std.proofs.Math.Seq.{drop-cons}
 use Rattle.std.proofs.lemmas.List.{map-append, take-append-drop, take_more, length-map}
 use Rattle.std.proofs.lemmas.Grind.{flat_map-append}
-use Rattle.texts.specs.CutLines.{Unread}
+use Rattle.op_num.specs.CutLines.{Unread}
 use Rattle.bound_program.specs.declared.programs.Var.{Var}
 use Rattle.bound_program.specs.Values.{BoundValue, VarValue, var_of}
 use Rattle.checkpoint.specs.Cut.{starts}

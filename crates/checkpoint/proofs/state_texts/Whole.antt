@@ -1,7 +1,7 @@
 -- A whole text from its parts, and a file from its text.
 use Rattle.std.proofs.Common.{◌≡◌, ℕ, ℤ, suc, ◌+◌, ◌≤◌, sym, ap, subst, ◌∙◌, arith, List, [], ◌∷◌, ◌++◌, append-nil, length, length-append, inr, Result, Ok, Err, IfErr}
 use Rattle.std.specs.Result.{IsErrAnd}
-use Rattle.texts.specs.CutLines.{Unread, unread}
+use Rattle.op_num.specs.CutLines.{Unread, unread}
 use Rattle.bound_program.specs.Values.{BoundValue}
 use Rattle.checkpoint.specs.Cut.{StateValue, CanCut, HasShape, starts}
 use Rattle.checkpoint.specs.declared.state_texts.refusals.StateRefusal.{StateRefusal}

@@ -9,10 +9,10 @@ use Rattle.std.proofs.lemmas.Bool.Decides.{nat_tests}
 use Rattle.std.proofs.lemmas.List.Sums.{AllPass-from_list_all}
 use Rattle.op_num.specs.Spelling.{integer_of, i32_judged}
 use Rattle.op_num.specs.declared.refusals.NumRefusal.{NumRefusal}
-use Rattle.texts.specs.Cut.{dark}
-use Rattle.texts.specs.Lines.{line_of}
-use Rattle.texts.proofs.Words.{integer_token}
-use Rattle.texts.specs.CutLines.{is_lf, HasNoLf, HasNoSpace}
+use Rattle.op_num.specs.Cut.{dark}
+use Rattle.op_num.specs.Lines.{line_of}
+use Rattle.op_num.proofs.texts.Words.{integer_token}
+use Rattle.op_num.specs.CutLines.{is_lf, HasNoLf, HasNoSpace}
 use Rattle.checkpoint.specs.Reading.{Spell, words_line}
 
 -- ---- bytes

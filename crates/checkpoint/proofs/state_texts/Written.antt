@@ -6,7 +6,7 @@ use Rattle.std.specs.Fmt.{decimal, signed_decimal}
 use Rattle.std.specs.List.{flat_map, range_with_len}
 use Rattle.std.proofs.lemmas.List.{take-append-drop, length-map}
 use Rattle.op_num.specs.Spelling.{integer_of, i32_judged}
-use Rattle.texts.specs.CutLines.{HasNoLf}
+use Rattle.op_num.specs.CutLines.{HasNoLf}
 use Rattle.mesh_decl.specs.declared.decl.SetDecl.{SetDecl}
 use Rattle.mesh_decl.specs.declared.decl.DatDecl.{DatDecl}
 use Rattle.mesh_decl.specs.Mesh.{MeshValue, IsMesh, IsDatAt, dat_count, dat_values, set_size, dat_set, dat_dim, dat_name, set_name}

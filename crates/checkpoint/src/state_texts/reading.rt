@@ -13,7 +13,7 @@ use crate::state_texts::vars::take_vars;
 use bound_program::Bound;
 use memchr::memmem;
 use std::alloc::Global;
-use texts::line_texts::Lines;
+use op_num::texts::line_texts::Lines;
 
 // How a state begins, behind the line before it.
 const MARK: [u8; 12] = *b"\nop2state 1\n";

@@ -2,9 +2,9 @@
 use Rattle.std.proofs.Common.{◌≡◌, ℕ, ℤ, Bool, true, false, if◌then◌else◌, nat_le, nat_lt, ◌+◌, ◌^◌, List, Option, Some, None, Result, Ok, Err, refl, sym, ◌∙◌, subst, inl, inr}
 use Rattle.op_num.specs.declared.refusals.NumRefusal.{NumRefusal}
 use Rattle.op_num.specs.declared.refusals.NumRefusal.TheVariants.{NotDigits, TooLarge}
-use Rattle.texts.specs.Cut.{Word, words}
-use Rattle.texts.specs.Automaton.{last_line, run, onto}
-use Rattle.texts.proofs.Exact as exact
+use Rattle.op_num.specs.Cut.{Word, words}
+use Rattle.op_num.specs.Automaton.{last_line, run, onto}
+use Rattle.op_num.proofs.texts.Exact as exact
 use Rattle.mesh_decl.specs.declared.text.entry.Form.{Form}
 use Rattle.mesh_decl.specs.declared.text.entry.MeshRefusal.{MeshRefusal}
 use Rattle.mesh_decl.specs.declared.text.entry.MeshRefusal.TheVariants.{Header, Syntax, DuplicateEntry, WrongCount, NumberRange, Limit, OutOfMemory}

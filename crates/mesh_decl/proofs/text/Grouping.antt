@@ -5,7 +5,7 @@ use Rattle.std.proofs.lemmas.Bool.Decides.{nat_tests, Decides-int_eq}
 use Rattle.std.proofs.Math.Numerals.{one-add}
 use Rattle.std.specs.List.{prefix_len, flat_map}
 use Rattle.std.specs.Ordering.{int_eq}
-use Rattle.texts.specs.Lines.{line_of, separator}
+use Rattle.op_num.specs.Lines.{line_of, separator}
 use Rattle.mesh_decl.specs.declared.text.entry.Form.{Form}
 use Rattle.mesh_decl.specs.declared.text.entry.Form.TheVariants as form
 use Rattle.mesh_decl.specs.Canonical.{FitI32, onto_stretch, stretches, alone, groups, piece_text, pieces_of}

@@ -2,9 +2,9 @@
 use Rattle.std.proofs.Common.{◌≡◌, ℕ, ℤ, pos, negsuc, ◌^◌, ◌<◌, Bool, true, false, cond, nat_lt, nat_le, List, length, Option, Some, None, Ok, refl, sym, ap, ◌∙◌, arith, inl, w32, FitsSigned}
 use Rattle.std.proofs.lemmas.Bool.Decides.{nat_tests}
 use Rattle.op_num.specs.Spelling.{integer_of, fits_i32, i32_judged}
-use Rattle.texts.specs.Cut.{Word, Uncut, first_of, rest_of}
-use Rattle.texts.specs.Short.{short_of}
-use Rattle.texts.specs.Automaton.{IsNext}
+use Rattle.op_num.specs.Cut.{Word, Uncut, first_of, rest_of}
+use Rattle.op_num.specs.Short.{short_of}
+use Rattle.op_num.specs.Automaton.{IsNext}
 use Rattle.mesh_decl.specs.declared.text.entry.Form.{Form}
 use Rattle.mesh_decl.specs.declared.text.entry.Form.TheVariants as form
 use Rattle.mesh_decl.specs.declared.text.piece.Piece.TheVariants.{Values}

@@ -8,9 +8,9 @@ use Rattle.std.proofs.lemmas.List.Sums.{sum_by_push}
 use Rattle.op_num.specs.Spelling.{number_of, integer_of, i32_judged}
 use Rattle.op_num.specs.declared.refusals.NumRefusal.{NumRefusal}
 use Rattle.op_num.specs.declared.refusals.NumRefusal.TheVariants.{NotDigits, TooLarge}
-use Rattle.texts.specs.Cut.{Word}
-use Rattle.texts.specs.Automaton.{onto}
-use Rattle.texts.proofs.Reading.{onto_is}
+use Rattle.op_num.specs.Cut.{Word}
+use Rattle.op_num.specs.Automaton.{onto}
+use Rattle.op_num.proofs.texts.Reading.{onto_is}
 use Rattle.mesh_decl.specs.declared.text.entry.Form.{Form}
 use Rattle.mesh_decl.specs.declared.text.entry.Form.TheVariants as form
 use Rattle.mesh_decl.specs.declared.text.entry.Entry.TheVariants.{One, Many}

@@ -3,7 +3,7 @@ ghost use Rattle.std.specs.Prelude.{◌≡◌, ◌+◌, ◌-◌, ◌<◌, ◌≤
 ghost use Rattle.std.specs.Prelude.{Some, None, ℤ};
 ghost use Rattle.op_num.specs.Spelling.{number_of, integer_of, i32_judged};
 ghost use lib.ListN.{replicate};
-ghost use Rattle.texts.specs.Cut.{uncut, first_of, rest_of};
+ghost use Rattle.op_num.specs.Cut.{uncut, first_of, rest_of};
 ghost use Rattle.mesh_decl.specs.declared.text.entry.Form.{Form as Version};
 ghost use Rattle.mesh_decl.specs.declared.text.entry.MeshRefusal.{MeshRefusal as Refusal};
 ghost use Rattle.mesh_decl.specs.declared.text.entry.Entry.TheVariants as Given;
@@ -11,7 +11,7 @@ ghost use Rattle.mesh_decl.specs.Spelling.{Named, Spells, total as total_of, siz
 ghost use Rattle.mesh_decl.specs.Piece.{piece_of};
 ghost use Rattle.mesh_decl.specs.Reading.{Magic, Between, OneName, ManyName, End, filled, named, one_of, count_of, given, room_for, stray};
 ghost use Rattle.mesh_decl.specs.Reading.{run_from, Refuses, Reads, Read as Outcome};
-ghost use Rattle.texts.specs.Automaton.{Answers, Told, IsNext, IsGiven, IsRefused};
+ghost use Rattle.op_num.specs.Automaton.{Answers, Told, IsNext, IsGiven, IsRefused};
 ghost use Rattle.mesh_decl.specs.Answered.{Leads, Fitting, next_state};
 
 use crate::text::entry::{Entries, Entry, Form, MESH_VALUES, MeshRefusal, Values};
@@ -19,7 +19,7 @@ use crate::text::piece::{Piece, read_piece};
 use crate::text::token::{Keyword, is_magic, is_name, read_keyword, read_version};
 use op_num::{Name, NumRefusal, read_i32, read_u64};
 use std::alloc::Global;
-use texts::{Token, Tokens};
+use op_num::texts::{Token, Tokens};
 
 /// The entries that the mesh text `bytes` spells, in either version of the text. It takes `Entries` of at most
 /// [`MESH_VALUES`] values in all. Each refusal is that of the first token, in order, that may not stand where it does,

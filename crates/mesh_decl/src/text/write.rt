@@ -2,7 +2,7 @@
 ghost use Rattle.std.specs.Prelude.{◌≡◌, ◌<◌, ◌≤◌, ◌++◌, [], ◌∷◌, ℕ, ℤ, List, length, drop, OnOk, IfOk, if◌then◌else◌};
 ghost use Rattle.std.specs.List.{prefix_len};
 ghost use Rattle.std.specs.Ordering.{int_eq};
-ghost use Rattle.texts.specs.Lines.{line_of};
+ghost use Rattle.op_num.specs.Lines.{line_of};
 ghost use Rattle.mesh_decl.specs.declared.text.entry.Form.{Form as Version};
 ghost use Rattle.mesh_decl.specs.Spelling.{Named, Spells, header};
 ghost use Rattle.mesh_decl.specs.Canonical.{canonical, entry_text, groups, piece_text, pieces_of, FitI32, HasI32, CanBeSpelled};
@@ -11,7 +11,7 @@ ghost use Rattle.mesh_decl.specs.Canonical.{HaveSpelling};
 use crate::text::entry::{Entries, Entry, Form};
 use op_num::{Name, OutOfMemory, number_is_read, printed_is_read, put_i32, put_u64};
 use std::alloc::Global;
-use texts::lines_are_cut;
+use op_num::texts::lines_are_cut;
 
 /// The canonical text of the entries in this version: the header, then for each entry in order its line, and behind the
 /// line of an array that has values one line with these; then `done`. In version 2 each longest stretch of two or more

@@ -5,7 +5,7 @@ use Rattle.std.proofs.lemmas.List.{flat_map_more}
 use Rattle.std.proofs.lemmas.List.Elements.{All-append, All-cons, All-nil}
 use Rattle.std.specs.Prelude.{All, ℤ, is_ok, is_err, is_some, not, MatchOption}
 use Rattle.op_num.specs.Spelling.{integer_of, i32_judged}
-use Rattle.texts.specs.CutLines.{Unread, Takes, words}
+use Rattle.op_num.specs.CutLines.{Unread, Takes, words}
 use Rattle.mesh_draw.specs.Numbers.{IsNumber, HasNumbers, lines_text}
 
 -- ---- words

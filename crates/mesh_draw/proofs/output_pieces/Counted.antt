@@ -2,7 +2,7 @@
 use Rattle.std.proofs.Common.{◌≡◌, ℕ, ◌+◌, ◌<◌, inl, inr, Bool, true, false, cond, List, [], ◌∷◌, ◌++◌, length, drop, refl, sym, ap, ap₂, subst, ◌∙◌, append_assoc, append-nil, arith}
 use Rattle.std.proofs.lemmas.List.Sums.{sum_by-append, sum_by-cons}
 use Rattle.std.proofs.lemmas.Bool.{eqb-true}
-use Rattle.texts.specs.CutLines.{is_lf}
+use Rattle.op_num.specs.CutLines.{is_lf}
 use Rattle.mesh_draw.specs.Lines.{lines_in, EndsInLf, AreLines}
 use Rattle.lemmas.proofs.Lists.{head_same, tail_same}
 

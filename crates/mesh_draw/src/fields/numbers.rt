@@ -3,7 +3,7 @@ ghost use Rattle.std.specs.Prelude.{◌≡◌, ◌+◌, ◌<◌, ◌^◌, ◌↔
 ghost use Rattle.mesh_draw.specs.Numbers.{HasNumbers, AreNumberLines, IsOther};
 
 use op_num::read_i32;
-use texts::line_texts::{Lines, Words, lines_are_one};
+use op_num::texts::line_texts::{Lines, Words, lines_are_one};
 
 // Whether a line has so many numbers between single spaces.
 fn has_numbers(line: &[u8], dim: u32) -> bool

@@ -1,6 +1,6 @@
 // Lines of neighbours.
 ghost use Rattle.std.specs.Prelude.{◌≡◌, ◌++◌, ◌∷◌, [], ◌<◌, ◌^◌, All, map, OnOk, if◌then◌else◌};
-ghost use Rattle.texts.specs.Lines.{line_of};
+ghost use Rattle.op_num.specs.Lines.{line_of};
 ghost use Rattle.metis_text.specs.Graph.{vertex, graph_line};
 
 use op_num::{OutOfMemory, put_u64};

@@ -2,8 +2,8 @@
 
 ghost use Rattle.std.specs.Prelude.{◌≡◌, ◌<◌, ℕ, true, false, ◌↔◌, IfSome, None};
 ghost use Rattle.std.specs.List.{list_all};
-ghost use Rattle.texts.specs.Cut.{dark};
-ghost use Rattle.texts.specs.Lines.{IsToken};
+ghost use Rattle.op_num.specs.Cut.{dark};
+ghost use Rattle.op_num.specs.Lines.{IsToken};
 ghost use Rattle.mesh_decl.specs.Mesh.{set_count, set_name};
 ghost use Rattle.metis_text.specs.Written.{HasName, HaveNames};
 

@@ -2,7 +2,7 @@
 
 ghost use Rattle.std.specs.Prelude.{◌≡◌, ◌<◌, ◌++◌, [], ◌∷◌, ℕ, ◌^◌, length, map, OnOk, IfOk, IfErr, if◌then◌else◌};
 ghost use Rattle.std.specs.Fmt.{decimal};
-ghost use Rattle.texts.specs.Lines.{line_of, text_of_lines};
+ghost use Rattle.op_num.specs.Lines.{line_of, text_of_lines};
 ghost use Rattle.mesh_decl.specs.declared.owners.Owners.{Owners as Owned};
 ghost use Rattle.mesh_decl.specs.Mesh.{MeshValue, set_count, set_size};
 ghost use Rattle.mesh_decl.specs.Owners.{AreOwners};
@@ -14,7 +14,7 @@ use crate::owner_text::names::first_unnamed;
 use mesh_decl::{Mesh, Owners};
 use op_num::{OutOfMemory, number_is_read, put_u64};
 use std::alloc::{AllocError, Global};
-use texts::lines_are_cut;
+use op_num::texts::lines_are_cut;
 use thiserror::Error;
 
 /// Why owners are not written.

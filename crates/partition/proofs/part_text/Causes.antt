@@ -2,9 +2,9 @@
 use Rattle.std.proofs.Common.{◌≡◌, ℕ, Bool, true, false, if◌then◌else◌, nat_eq, nat_lt, ◌-◌, List, [], ◌∷◌, Option, Some, None, Result, Ok, Err, refl, sym, ◌∙◌, subst, inl, inr}
 use Rattle.std.specs.Prelude.{slice_get}
 use Rattle.op_num.specs.Spelling.{number_of}
-use Rattle.texts.specs.Cut.{Word, words}
-use Rattle.texts.specs.Automaton.{last_line, run, onto}
-use Rattle.texts.proofs.Exact as exact
+use Rattle.op_num.specs.Cut.{Word, words}
+use Rattle.op_num.specs.Automaton.{last_line, run, onto}
+use Rattle.op_num.proofs.texts.Exact as exact
 use Rattle.mesh_decl.specs.Mesh.{MeshValue, set_size}
 use Rattle.partition.specs.declared.part_text.refusals.PartRefusal.{PartRefusal}
 use Rattle.partition.specs.declared.part_text.refusals.PartRefusal.TheVariants.{Header, Syntax, UnknownSet, MissingSet, WrongCount, RankRange, OutOfMemory}

@@ -2,10 +2,10 @@
 use Rattle.std.proofs.Common.{◌≡◌, ℕ, ◌+◌, ◌-◌, ◌<◌, true, cond, nat_eq, nat_lt, List, [], ◌∷◌, ◌++◌, length, map, slice_get, slice_set, Some, None, Option, Ok, Err, codes, refl, sym, ap, subst, ◌∙◌, arith, append_assoc, append-nil}
 use Rattle.std.proofs.lemmas.Bool.Decides.{nat_tests}
 use Rattle.op_num.specs.Spelling.{number_of}
-use Rattle.texts.specs.Cut.{Word, text_of}
-use Rattle.texts.specs.Automaton.{onto}
-use Rattle.texts.proofs.Exact.{through}
-use Rattle.texts.proofs.Leading.{Goes, goes_nowhere, goes_join, goes_one, goes_on}
+use Rattle.op_num.specs.Cut.{Word, text_of}
+use Rattle.op_num.specs.Automaton.{onto}
+use Rattle.op_num.proofs.texts.Exact.{through}
+use Rattle.op_num.proofs.texts.Leading.{Goes, goes_nowhere, goes_join, goes_one, goes_on}
 use Rattle.mesh_decl.specs.Mesh.{MeshValue, set_size}
 use Rattle.partition.specs.declared.part_text.refusals.PartRefusal.TheVariants.{WrongCount, RankRange}
 use Rattle.partition.specs.Token.{keyword_of}

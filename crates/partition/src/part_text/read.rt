@@ -2,8 +2,8 @@
 ghost use Rattle.std.specs.Prelude.{◌≡◌, ◌+◌, ◌<◌, ◌≤◌, ◌^◌, ◌⊎◌, length, List, ℕ, [], ◌∷◌, ◌++◌, slice_set, OnOk, OnErr, IfOk, IfErr};
 ghost use Rattle.std.specs.Prelude.{IfSome, Ok, Err, Some, None};
 ghost use Rattle.op_num.specs.Spelling.{number_of};
-ghost use Rattle.texts.specs.Cut.{uncut, first_of};
-ghost use Rattle.texts.specs.Automaton.{Answers, Told, IsNext, IsGiven, IsRefused};
+ghost use Rattle.op_num.specs.Cut.{uncut, first_of};
+ghost use Rattle.op_num.specs.Automaton.{Answers, Told, IsNext, IsGiven, IsRefused};
 ghost use Rattle.mesh_decl.specs.Mesh.{MeshValue, set_count, set_size};
 ghost use Rattle.mesh_decl.specs.Owners.{AreOwners};
 ghost use Rattle.partition.specs.declared.part_text.refusals.PartRefusal.{PartRefusal as Refusal};
@@ -17,7 +17,7 @@ use crate::part_text::token::{Keyword, is_magic, is_version, read_keyword};
 use mesh_decl::{Mesh, Numbers, Owners};
 use op_num::{NumRefusal, read_u64};
 use std::alloc::Global;
-use texts::{Token, Tokens};
+use op_num::texts::{Token, Tokens};
 
 /// The owners that the partition text `bytes` spells for a mesh and this number of ranks: for each set of the mesh, in
 /// order of declaration, the rank of each of its elements, each below `ranks`. The text may name the sets in any order.

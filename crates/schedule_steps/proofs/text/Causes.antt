@@ -1,9 +1,9 @@
 -- A text comes to one outcome, its steps or a refusal, and want of memory is none.
 use Rattle.std.proofs.Common.{◌≡◌, ℕ, ◌^◌, Bool, true, false, if◌then◌else◌, nat_lt, length, List, Option, Some, None, Result, Ok, Err, refl, sym, ◌∙◌, subst, inl, inr}
 use Rattle.op_num.specs.Spelling.{number_of}
-use Rattle.texts.specs.Cut.{Word, words}
-use Rattle.texts.specs.Automaton.{last_line, run, onto}
-use Rattle.texts.proofs.Exact as exact
+use Rattle.op_num.specs.Cut.{Word, words}
+use Rattle.op_num.specs.Automaton.{last_line, run, onto}
+use Rattle.op_num.proofs.texts.Exact as exact
 use Rattle.schedule_steps.specs.declared.text.lines.TheConstants.{SCHEDULE_STEPS}
 use Rattle.schedule_steps.specs.declared.text.refusals.ScheduleTextRefusal.{ScheduleTextRefusal}
 use Rattle.schedule_steps.specs.declared.text.refusals.ScheduleTextRefusal.TheVariants.{Header, Syntax, TooManySteps, OutOfMemory}

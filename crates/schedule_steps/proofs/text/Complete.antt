@@ -2,9 +2,9 @@
 use Rattle.std.proofs.Common.{◌≡◌, ℕ, ◌+◌, ◌^◌, ◌<◌, ◌≤◌, true, cond, nat_lt, List, [], ◌∷◌, ◌++◌, length, Option, Some, None, Ok, Err, codes, refl, sym, ap, subst, ◌∙◌, arith, append_assoc, append-nil, length-append}
 use Rattle.std.proofs.lemmas.Bool.Decides.{nat_tests}
 use Rattle.op_num.specs.Spelling.{number_of}
-use Rattle.texts.specs.Cut.{Word}
-use Rattle.texts.specs.Automaton.{onto}
-use Rattle.texts.proofs.Exact.{through, through-none, through-more, through-both}
+use Rattle.op_num.specs.Cut.{Word}
+use Rattle.op_num.specs.Automaton.{onto}
+use Rattle.op_num.proofs.texts.Exact.{through, through-none, through-more, through-both}
 use Rattle.schedule_steps.specs.declared.step.Step.{Step}
 use Rattle.schedule_steps.specs.declared.step.Step.TheVariants as taken
 use Rattle.schedule_steps.specs.declared.text.lines.Line.{Line}

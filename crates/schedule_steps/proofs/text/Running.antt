@@ -1,9 +1,9 @@
 -- One token of a schedule text after another.
 use Rattle.std.proofs.Common.{◌≡◌, ℕ, length, true, false, List, [], Option, Result, Ok, Err, None, refl, sym, ap, ◌∙◌, inr}
 use Rattle.op_num.specs.Spelling.{number_of}
-use Rattle.texts.specs.Cut.{Word, Uncut, first_of}
-use Rattle.texts.specs.Automaton.{onto, IsNext}
-use Rattle.texts.proofs.Reading.{onto_err, run_refused, run_end, run_onto}
+use Rattle.op_num.specs.Cut.{Word, Uncut, first_of}
+use Rattle.op_num.specs.Automaton.{onto, IsNext}
+use Rattle.op_num.proofs.texts.Reading.{onto_err, run_refused, run_end, run_onto}
 use Rattle.schedule_steps.specs.declared.text.lines.Line.{Line}
 use Rattle.schedule_steps.specs.declared.text.refusals.ScheduleTextRefusal.{ScheduleTextRefusal}
 use Rattle.schedule_steps.specs.declared.text.refusals.ScheduleTextRefusal.TheVariants.{Header, Syntax}

@@ -1,8 +1,8 @@
 // Reading a schedule text.
 ghost use Rattle.std.specs.Prelude.{◌≡◌, ◌+◌, ◌<◌, ◌≤◌, ◌^◌, ◌⊎◌, length, List, ℕ, [], ◌∷◌, ◌++◌, OnOk, IfOk, IfErr, None};
 ghost use Rattle.op_num.specs.Spelling.{number_of};
-ghost use Rattle.texts.specs.Cut.{uncut, first_of};
-ghost use Rattle.texts.specs.Automaton.{Answers, IsNext, IsGiven, IsRefused};
+ghost use Rattle.op_num.specs.Cut.{uncut, first_of};
+ghost use Rattle.op_num.specs.Automaton.{Answers, IsNext, IsGiven, IsRefused};
 ghost use Rattle.schedule_steps.specs.declared.text.lines.Line.{Line as Given};
 ghost use Rattle.schedule_steps.specs.declared.text.refusals.ScheduleTextRefusal.{ScheduleTextRefusal as Refusal};
 ghost use Rattle.schedule_steps.specs.Token.{keyword_of};
@@ -18,7 +18,7 @@ use crate::text::refusals::ScheduleTextRefusal;
 use crate::text::token::{Keyword, RankWord, StepWord, is_magic, is_version, read_keyword};
 use op_num::read_u64;
 use std::alloc::Global;
-use texts::{Token, Tokens};
+use op_num::texts::{Token, Tokens};
 
 /// The steps that the schedule text `bytes` spells, at most [`SCHEDULE_STEPS`], in order, each with its line. Each
 /// refusal is that of the first token, in order, that may not stand where it does, or of the end;

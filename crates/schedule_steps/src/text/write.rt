@@ -1,7 +1,7 @@
 // Writing a schedule text.
 ghost use Rattle.std.specs.Prelude.{◌≡◌, ◌≤◌, ◌++◌, [], ◌∷◌, ℕ, List, length, OnOk, IfOk, Ok, codes};
 ghost use Rattle.std.specs.Fmt.{decimal};
-ghost use Rattle.texts.specs.Lines.{line_of};
+ghost use Rattle.op_num.specs.Lines.{line_of};
 ghost use Rattle.schedule_steps.specs.declared.step.Step.{Step as Steps};
 ghost use Rattle.schedule_steps.specs.Spelling.{numbers_of, Spells};
 ghost use Rattle.schedule_steps.specs.Reading.{Reads};
@@ -11,7 +11,7 @@ use crate::Step;
 use crate::text::lines::SCHEDULE_STEPS;
 use op_num::{OutOfMemory, number_is_read, put_u64};
 use std::alloc::Global;
-use texts::lines_are_cut;
+use op_num::texts::lines_are_cut;
 
 /// The text of these steps: the header, one line for each step in order, and `done`. Where they are no more than
 /// [`SCHEDULE_STEPS`], `read_schedule` reads the text again, the first step on line 2, the next on line 3, and so on.

@@ -1,5 +1,5 @@
 use Rattle.std.proofs.Common.{◌≡◌, ◌∙◌, ℕ, ◌⊎◌, inl, inr, Result, Ok, Err, OnOk, IfErr, sym, ap, arith}
-use Rattle.texts.specs.Cut.{Uncut}
+use Rattle.op_num.specs.Cut.{Uncut}
 use Rattle.gmsh_text.specs.declared.refusal.TextRefusal.{TextRefusal}
 use Rattle.gmsh_text.specs.declared.refusal.TextRefusal.TheVariants.{OutOfMemory}
 use Rattle.gmsh_text.specs.declared.kind.Kind.{Kind}

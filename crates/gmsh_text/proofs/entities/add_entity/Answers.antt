@@ -3,7 +3,7 @@ use Rattle.std.proofs.lemmas.Int.{to_z-of_z}
 use Rattle.indexmap.proofs.CallerLemmas.{insert_entry-new}
 use Rattle.std.specs.Map.{lookup}
 use Rattle.std.specs.Ordering.{int_eq}
-use Rattle.texts.specs.Cut.{Uncut}
+use Rattle.op_num.specs.Cut.{Uncut}
 use Rattle.gmsh_text.specs.declared.refusal.TextRefusal.TheVariants.{DuplicateEntity}
 use Rattle.gmsh_text.specs.Groups.{Grouped}
 use Rattle.gmsh_text.specs.Parsing.{and_then}

@@ -1,5 +1,5 @@
 use Rattle.std.proofs.Common.{◌≡◌, ◌∙◌, Ok, Err, ap, arith}
-use Rattle.texts.specs.Cut.{Uncut}
+use Rattle.op_num.specs.Cut.{Uncut}
 use Rattle.gmsh_text.specs.declared.refusal.TextRefusal.{TextRefusal}
 use Rattle.gmsh_text.specs.Groups.{Grouped}
 use Rattle.gmsh_text.specs.Parsing.{and_then}

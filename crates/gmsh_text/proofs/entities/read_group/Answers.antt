@@ -1,6 +1,6 @@
 use Rattle.std.proofs.Common.{◌≡◌, ℤ, ◌∙◌, Ok, Err, sym, ap, arith, rules, w32, FitsSigned}
 use Rattle.std.proofs.lemmas.Int.{to_z-of_z}
-use Rattle.texts.specs.Cut.{Uncut}
+use Rattle.op_num.specs.Cut.{Uncut}
 use Rattle.gmsh_text.specs.declared.refusal.TextRefusal.{TextRefusal}
 use Rattle.gmsh_text.specs.declared.entities.Group.{Group}
 use Rattle.gmsh_text.specs.Values.{joined}

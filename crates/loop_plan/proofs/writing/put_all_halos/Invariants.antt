@@ -1,5 +1,5 @@
 use Rattle.std.proofs.Common.{◌≡◌, ◌++◌}
-use Rattle.texts.specs.Lines.{text_of_lines}
+use Rattle.op_num.specs.Lines.{text_of_lines}
 use Rattle.loop_plan.specs.PlanText.{all_halo_lines}
 use Rattle.loop_plan.proofs.writing.put_all_halos.Given as goal
 

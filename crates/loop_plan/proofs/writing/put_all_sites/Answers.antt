@@ -1,7 +1,7 @@
 use Rattle.std.proofs.Common.{◌≡◌, ◌<◌, ◌≤◌, ◌∙◌, ◌++◌, ℕ, List, length, ap, arith}
 use Rattle.std.proofs.lemmas.List.{length-map, take_all}
 use Rattle.std.specs.List.{flat_map}
-use Rattle.texts.specs.Lines.{text_of_lines}
+use Rattle.op_num.specs.Lines.{text_of_lines}
 use Rattle.loop_plan.specs.SharedPlans.{SitePlanValue, entry_at, entries_of, site_plan_of}
 use Rattle.loop_plan.specs.PlanText.{loop_lines}
 use Rattle.loop_plan.proofs.PlanWriting.{entries_more, by_rank_at}

@@ -1,6 +1,6 @@
 use Rattle.std.proofs.Common.{◌≡◌, ◌++◌, take}
 use Rattle.std.specs.List.{flat_map}
-use Rattle.texts.specs.Lines.{text_of_lines}
+use Rattle.op_num.specs.Lines.{text_of_lines}
 use Rattle.loop_plan.specs.Values.{entries_of}
 use Rattle.loop_plan.specs.PlanText.{loop_lines}
 use Rattle.loop_plan.proofs.writing.put_all_sites.Given as goal

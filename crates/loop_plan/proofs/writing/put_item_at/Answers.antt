@@ -1,5 +1,5 @@
 use Rattle.std.proofs.Common.{◌∙◌, ◌++◌, sym, ap, subst, ℕ, List}
-use Rattle.texts.specs.Lines.{line_of}
+use Rattle.op_num.specs.Lines.{line_of}
 use Rattle.bound_program.specs.Values.{ItemValue, bound_of}
 use Rattle.loop_plan.specs.Needs.{item_at}
 use Rattle.loop_plan.specs.Exports.{AreDats}

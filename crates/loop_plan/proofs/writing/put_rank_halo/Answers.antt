@@ -1,5 +1,5 @@
 use Rattle.std.proofs.Common.{◌≡◌, ◌+◌, ◌++◌, ◌∙◌, ℕ, List, ap, length, arith}
-use Rattle.texts.specs.Lines.{line_of}
+use Rattle.op_num.specs.Lines.{line_of}
 use Rattle.local_mesh.specs.LocalMesh.{originals_in, executed_in}
 use Rattle.loop_plan.specs.PlanText.{Line}
 use Rattle.loop_plan.proofs.SetReads.{own_read, executed_read, originals_read}

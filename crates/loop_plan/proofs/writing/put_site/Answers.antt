@@ -1,7 +1,7 @@
 use Rattle.std.proofs.Common.{◌∙◌, ap, map, ℕ, List, [], ◌∷◌, ◌++◌}
 use Rattle.std.specs.Prelude.{codes}
 use Rattle.std.specs.Fmt.{decimal}
-use Rattle.texts.specs.Lines.{line_of}
+use Rattle.op_num.specs.Lines.{line_of}
 use Rattle.loop_plan.specs.PlanText.{Line}
 use Rattle.loop_plan.proofs.Lines.{parts_put, line_put}
 use Rattle.loop_plan.proofs.writing.put_site.Goals as goal

@@ -1,5 +1,5 @@
 use Rattle.std.proofs.Common.{◌∙◌, ◌++◌, ap, length, arith, ℕ, List}
-use Rattle.texts.specs.Lines.{text_of_lines}
+use Rattle.op_num.specs.Lines.{text_of_lines}
 use Rattle.colouring.specs.declared.types.Colours.{Colours}
 use Rattle.loop_plan.specs.PlanText.{site_lines}
 use Rattle.loop_plan.proofs.writing.put_site_plan.Goals as goal

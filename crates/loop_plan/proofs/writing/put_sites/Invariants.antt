@@ -1,5 +1,5 @@
 use Rattle.std.proofs.Common.{◌≡◌, ◌++◌, take}
-use Rattle.texts.specs.Lines.{text_of_lines}
+use Rattle.op_num.specs.Lines.{text_of_lines}
 use Rattle.loop_plan.specs.PlanText.{site_lines}
 use Rattle.loop_plan.proofs.writing.put_sites.Given as goal
 

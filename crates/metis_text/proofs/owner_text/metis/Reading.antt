@@ -3,8 +3,8 @@ use Rattle.std.proofs.Common.{◌≡◌, ◌<◌, ◌+◌, ◌-◌, ℕ, zero, s
 use Rattle.std.proofs.lemmas.Bool.{ltb-true}
 use Rattle.std.proofs.lemmas.Result.{err_from_is_err_and}
 use Rattle.op_num.specs.Spelling.{number_of}
-use Rattle.texts.specs.Cut.{Word, Uncut, first_of, rest_of}
-use Rattle.texts.specs.Automaton.{after, onto, Answers}
+use Rattle.op_num.specs.Cut.{Word, Uncut, first_of, rest_of}
+use Rattle.op_num.specs.Automaton.{after, onto, Answers}
 use Rattle.metis_text.specs.declared.owner_text.metis.refusals.MetisRefusal.{MetisRefusal}
 use Rattle.metis_text.specs.declared.owner_text.metis.refusals.MetisRefusal.TheVariants.{Many, NoRank}
 use Rattle.metis_text.specs.Numbers.{ranked, rank_on, judged}

@@ -1,14 +1,14 @@
 // The ranks that a text has.
 
 ghost use Rattle.std.specs.Prelude.{◌≡◌, ◌+◌, ◌<◌, ◌^◌, length};
-ghost use Rattle.texts.specs.Automaton.{Answers};
+ghost use Rattle.op_num.specs.Automaton.{Answers};
 ghost use Rattle.metis_text.specs.declared.owner_text.metis.refusals.MetisRefusal.{MetisRefusal as Refusal};
 ghost use Rattle.metis_text.specs.Numbers.{rank_on, ranks_in};
 
 use crate::owner_text::metis::refusals::MetisRefusal;
 use op_num::read_u64;
 use std::alloc::Global;
-use texts::{Token, Tokens};
+use op_num::texts::{Token, Tokens};
 
 // The rank on a line, where this is the next token.
 fn rank_on(token: &Token<'_>, ranks: u32, line: u32) -> Result<u32, MetisRefusal>

@@ -1,5 +1,5 @@
 use Rattle.std.proofs.Common.{◌≡◌, length}
-use Rattle.texts.specs.Automaton.{last_line}
+use Rattle.op_num.specs.Automaton.{last_line}
 use Rattle.answers.specs.Judgements.{end_line}
 use Rattle.op2_command.proofs.schedules.end_line.Given as goal
 

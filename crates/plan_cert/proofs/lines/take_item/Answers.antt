@@ -1,5 +1,5 @@
 use Rattle.std.proofs.Common.{◌≡◌, ◌++◌, ◌∙◌, ℕ, List, [], ap, refl, arith}
-use Rattle.texts.specs.Lines.{line_of}
+use Rattle.op_num.specs.Lines.{line_of}
 use Rattle.mesh_decl.specs.Mesh.{MeshValue, dat_count}
 use Rattle.local_mesh.proofs.Grouping.{listed_within}
 use Rattle.bound_program.specs.Values.{ItemValue, bound_of}

@@ -1,5 +1,5 @@
 use Rattle.std.proofs.Common.{◌≡◌, ◌≤◌, length}
-use Rattle.texts.specs.Cut.{uncut}
+use Rattle.op_num.specs.Cut.{uncut}
 use Rattle.mesh_decl.specs.declared.text.entry.TheConstants.{MESH_VALUES}
 use Rattle.mesh_decl.specs.Spelling.{total}
 use Rattle.mesh_decl.specs.Reading.{Magic, Between, run_from}

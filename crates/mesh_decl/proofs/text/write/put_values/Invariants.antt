@@ -1,5 +1,5 @@
 use Rattle.std.proofs.Common.{◌≡◌, ◌++◌, length}
-use Rattle.texts.specs.Lines.{line_of}
+use Rattle.op_num.specs.Lines.{line_of}
 use Rattle.mesh_decl.specs.Canonical.{FitI32, pieces_of}
 use Rattle.mesh_decl.proofs.text.write.put_values.Given as goal
 

@@ -4,7 +4,7 @@ use Rattle.std.proofs.lemmas.List.{map_push}
 use Rattle.std.proofs.lemmas.List.Elements.{All-push}
 use Rattle.std.specs.List.{flat_map}
 use Rattle.std.specs.Map.Iter.{deref_pair}
-use Rattle.texts.specs.Lines.{line_of}
+use Rattle.op_num.specs.Lines.{line_of}
 use Rattle.mesh_decl.specs.Spelling.{Named, Spells, header}
 use Rattle.mesh_decl.specs.Canonical.{canonical, entry_text, HasI32}
 use Rattle.mesh_decl.proofs.text.Distinct.{have_spelling}

@@ -1,7 +1,7 @@
 use Rattle.std.proofs.Common.{All, ◌≡◌, ◌++◌, map}
 use Rattle.std.specs.List.{flat_map}
 use Rattle.std.specs.Map.Iter.{deref_pair}
-use Rattle.texts.specs.Lines.{line_of}
+use Rattle.op_num.specs.Lines.{line_of}
 use Rattle.mesh_decl.specs.Spelling.{Named, header}
 use Rattle.mesh_decl.specs.Canonical.{entry_text, HasI32}
 use Rattle.mesh_decl.proofs.text.write.write_mesh.Given as goal

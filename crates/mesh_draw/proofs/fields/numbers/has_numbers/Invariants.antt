@@ -1,5 +1,5 @@
 use Rattle.std.proofs.Common.{◌≡◌, ◌-◌}
-use Rattle.texts.specs.CutLines.{words}
+use Rattle.op_num.specs.CutLines.{words}
 use Rattle.mesh_draw.proofs.fields.NumberLines.{are_numbers}
 use Rattle.mesh_draw.proofs.fields.numbers.has_numbers.Given as goal
 

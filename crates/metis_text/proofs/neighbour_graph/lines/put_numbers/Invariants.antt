@@ -1,5 +1,5 @@
 use Rattle.std.proofs.Common.{◌≡◌, ◌++◌, map, length}
-use Rattle.texts.specs.Lines.{line_of}
+use Rattle.op_num.specs.Lines.{line_of}
 use Rattle.metis_text.specs.Graph.{vertex}
 use Rattle.metis_text.proofs.neighbour_graph.lines.put_numbers.Given as goal
 

@@ -1,6 +1,6 @@
 use Rattle.std.proofs.Common.{◌≡◌, ◌++◌, map, length}
 use Rattle.std.specs.Fmt.{decimal}
-use Rattle.texts.specs.Lines.{line_of}
+use Rattle.op_num.specs.Lines.{line_of}
 use Rattle.metis_text.proofs.owner_text.write.put_ranks.Given as goal
 
 -- with the line of those that are left it is the whole

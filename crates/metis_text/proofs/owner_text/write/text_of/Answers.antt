@@ -1,6 +1,6 @@
 use Rattle.std.proofs.Common.{◌+◌, ◌++◌, ◌∙◌, drop, sym, ap, codes, arith, append-nil}
 use Rattle.std.proofs.lemmas.List.{drop_all}
-use Rattle.texts.specs.Lines.{text_of_lines}
+use Rattle.op_num.specs.Lines.{text_of_lines}
 use Rattle.metis_text.specs.Written.{set_lines, lines_from}
 use Rattle.metis_text.proofs.owner_text.Written.{owners_at, set_step, whole}
 use Rattle.metis_text.proofs.owner_text.write.text_of.Goals as goal

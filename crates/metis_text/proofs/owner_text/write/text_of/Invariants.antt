@@ -1,5 +1,5 @@
 use Rattle.std.proofs.Common.{◌≡◌, ◌++◌, drop, codes}
-use Rattle.texts.specs.Lines.{text_of_lines}
+use Rattle.op_num.specs.Lines.{text_of_lines}
 use Rattle.metis_text.specs.Written.{lines_from}
 use Rattle.metis_text.proofs.owner_text.write.text_of.Given as goal
 

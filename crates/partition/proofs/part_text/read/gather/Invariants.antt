@@ -1,5 +1,5 @@
 use Rattle.std.proofs.Common.{◌≡◌, ◌++◌, length}
-use Rattle.texts.specs.Automaton.{onto}
+use Rattle.op_num.specs.Automaton.{onto}
 use Rattle.partition.specs.Reading.{gathered}
 use Rattle.partition.proofs.part_text.read.gather.Given as goal
 

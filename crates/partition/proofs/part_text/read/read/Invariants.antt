@@ -1,5 +1,5 @@
 use Rattle.std.proofs.Common.{◌≡◌, length}
-use Rattle.texts.specs.Cut.{uncut}
+use Rattle.op_num.specs.Cut.{uncut}
 use Rattle.mesh_decl.specs.Mesh.{set_count}
 use Rattle.partition.specs.Reading.{Magic, Between, run_from}
 use Rattle.partition.proofs.part_text.read.read.Given as goal

@@ -1,5 +1,5 @@
 use Rattle.std.proofs.Common.{◌≡◌, length}
-use Rattle.texts.specs.Cut.{uncut}
+use Rattle.op_num.specs.Cut.{uncut}
 use Rattle.schedule_steps.specs.Reading.{Magic, Between, run_from}
 use Rattle.schedule_steps.proofs.text.read.read.Given as goal
 

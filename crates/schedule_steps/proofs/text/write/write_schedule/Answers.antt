@@ -1,6 +1,6 @@
 use Rattle.std.proofs.Common.{◌≡◌, ◌++◌, [], map, drop, arith, subst, sym, ap, ◌∙◌, codes, Ok, append-nil}
 use Rattle.std.proofs.lemmas.List.{drop_all}
-use Rattle.texts.specs.Lines.{line_of, text_of_lines}
+use Rattle.op_num.specs.Lines.{line_of, text_of_lines}
 use Rattle.schedule_steps.specs.Spelling.{Spells}
 use Rattle.schedule_steps.specs.Reading.{Reads}
 use Rattle.schedule_steps.specs.Written.{tokens_of, header, schedule_text, one_a_line, AllFit}

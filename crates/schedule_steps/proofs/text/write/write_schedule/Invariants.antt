@@ -1,5 +1,5 @@
 use Rattle.std.proofs.Common.{◌≡◌, ◌++◌, map, drop}
-use Rattle.texts.specs.Lines.{line_of, text_of_lines}
+use Rattle.op_num.specs.Lines.{line_of, text_of_lines}
 use Rattle.schedule_steps.specs.Written.{tokens_of, header, AllFit}
 use Rattle.schedule_steps.proofs.text.write.write_schedule.Given as goal
 

@@ -1,5 +1,0 @@
-use Rattle.texts.proofs.line_texts.Cutting.{one_line}
-use Rattle.texts.proofs.line_texts.laws.lines_are_one.Goals as goal
-
-pub returns : goal.returns
-returns c = one_line

@@ -1,8 +1,0 @@
-use Rattle.texts.proofs.line_texts.Cutting.{joined, no_spaces}
-use Rattle.texts.proofs.line_texts.laws.words_are_joined.Goals as goal
-
-pub returns-clause-joined : goal.returns-clause-joined
-returns-clause-joined c = joined
-
-pub returns-clause-spaces : goal.returns-clause-spaces
-returns-clause-spaces c = no_spaces
