@@ -1,7 +1,7 @@
 -- The components that every path has assigned: those before, and those that the statement assigns itself.
 use Rattle.std.proofs.Common.{◌≡◌, ℕ, zero, suc, ℤ, pos, negsuc, ◌-◌, Option, Some, None, Bool, true, false, ◌&&◌, ◌||◌, refl, sym, ap, ◌∙◌}
 use Rattle.std.specs.Prelude.{nat_eq}
-use Rattle.kernel_types.specs.declared.statements.RStmt.{RStmt, Block', Declare, SetScalar, SetLocal, SetArg, If', For', Row_of-RStmt, end_of-RStmt, more_of-RStmt}
+use Rattle.kernel_model.specs.declared.types.statements.RStmt.{RStmt, Block', Declare, SetScalar, SetLocal, SetArg, If', For', Row_of-RStmt, end_of-RStmt, more_of-RStmt}
 use Rattle.kernel_model.specs.Obeys.{Counters, with_counter, static}
 use Rattle.kernel_model.specs.Walk.{Covered, none_covered, with_covered, both_covered, turns_covered, covered_after, row_covered_after}
 use Rattle.lemmas.proofs.Truth.{or_assoc, or_none}

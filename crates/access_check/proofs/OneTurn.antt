@@ -2,7 +2,7 @@
 -- they cover.
 use Rattle.std.proofs.Common.{◌≡◌, ℕ, zero, suc, pos, ◌⊎◌, inl, inr, ◌+◌, ◌-◌, ◌<◌, ◌≤◌, Bool, false, List, refl, sym, ap, ◌∙◌, arith}
 use Rattle.std.proofs.Math.Path.{fun_ext}
-use Rattle.kernel_types.specs.declared.statements.RStmt.{RStmt}
+use Rattle.kernel_model.specs.declared.types.statements.RStmt.{RStmt}
 use Rattle.kernel_model.specs.Obeys.{Mode, Counters, with_counter}
 use Rattle.kernel_model.specs.Walk.{Covered, covered_after, turns_covered, stmt_found, turns_found}
 use Rattle.access_check.specs.Indices.{stmt_names, Enough}

@@ -1,6 +1,6 @@
 -- A kernel that is refused doesn't obey its modes.
 use Rattle.std.proofs.Common.{List}
-use Rattle.kernel_types.specs.declared.kernels.RKernel.{RKernel}
+use Rattle.kernel_model.specs.declared.types.kernels.RKernel.{RKernel}
 use Rattle.kernel_model.specs.Obeys.{Mode}
 use Rattle.kernel_model.specs.Refusals as model
 use Rattle.kernel_model.specs.Refusals.{ObeysUnlessBroken}

@@ -4,9 +4,9 @@ use Rattle.std.specs.Prelude.{nat_lt}
 use Rattle.c_lex.specs.declared.tokens.Pos.{Pos}
 use Rattle.op_num.specs.Access.{Access}
 use Rattle.c_tree.specs.declared.expressions.MinMax.{MinMax}
-use Rattle.kernel_types.specs.declared.expressions.RExpr.{RExpr}
-use Rattle.kernel_types.specs.declared.expressions.RExpr.TheVariants.{Number, Scalar, Constant, Arg', Local', Const', Unary', Binary', Choice', Paren', Extremum', Absolute'}
-use Rattle.kernel_types.specs.declared.statements.RStmt.{RStmt, Block', Declare, SetScalar, SetLocal, SetArg, If', For', Row_of-RStmt, end_of-RStmt, more_of-RStmt}
+use Rattle.kernel_model.specs.declared.types.expressions.RExpr.{RExpr}
+use Rattle.kernel_model.specs.declared.types.expressions.RExpr.TheVariants.{Number, Scalar, Constant, Arg', Local', Const', Unary', Binary', Choice', Paren', Extremum', Absolute'}
+use Rattle.kernel_model.specs.declared.types.statements.RStmt.{RStmt, Block', Declare, SetScalar, SetLocal, SetArg, If', For', Row_of-RStmt, end_of-RStmt, more_of-RStmt}
 use Rattle.kernel_model.specs.Obeys.{Mode, mode_at, Counters, with_counter, static, Event, Reads, Owns, Own, First, Second, own_side, target_event}
 use Rattle.kernel_model.specs.Refusals.{Rule, WritesRead, ReadsInc, IncNotSum, ReadsUnwritten, WriteIndexNotStatic, LiteralIndexOut, MinMaxForm, argument_of, index_of, place_of, is_read, opposite}
 use Rattle.kernel_model.specs.Walk.{Covered, covered_after, is_op_write, is_unwritten, noted_if, breaks, event_found, expr_found, own_found, right_found, turns_found, stmt_found, row_found}

@@ -3,8 +3,8 @@ use Rattle.std.proofs.Common.{◌≡◌, ◌≢◌, ℕ, zero, suc, ℤ, pos, �
 use Rattle.std.proofs.lemmas.List.{map-set, length-map, get_or-map}
 use Rattle.c_lex.specs.declared.tokens.Pos.{Pos}
 use Rattle.c_tree.specs.declared.expressions.BinaryOp.{BinaryOp}
-use Rattle.kernel_types.specs.declared.expressions.RExpr.{RExpr, Binary}
-use Rattle.kernel_types.specs.declared.expressions.RExpr.TheVariants.{Number}
+use Rattle.kernel_model.specs.declared.types.expressions.RExpr.{RExpr, Binary}
+use Rattle.kernel_model.specs.declared.types.expressions.RExpr.TheVariants.{Number}
 use Rattle.kernel_model.specs.Obeys.{Counters, static}
 use Rattle.access_check.specs.Chains.{after_left, over_chain}
 

@@ -4,7 +4,7 @@ use Rattle.std.specs.Prelude.{nat_eq}
 use Rattle.std.proofs.lemmas.Bool.{eqb-true, eqb-false}
 use Rattle.std.proofs.Math.Path.{fun_ext}
 use mathlib.Core.Former.{Count}
-use Rattle.kernel_types.specs.declared.statements.RStmt.{RStmt, Block, Block', Row_of-RStmt, end_of-RStmt, more_of-RStmt, items-the_row-RStmt, items_hidden-the_row-RStmt-0}
+use Rattle.kernel_model.specs.declared.types.statements.RStmt.{RStmt, Block, Block', Row_of-RStmt, end_of-RStmt, more_of-RStmt, items-the_row-RStmt, items_hidden-the_row-RStmt-0}
 use Rattle.kernel_model.specs.Obeys.{Mode, Counters, with_counter}
 use Rattle.kernel_model.specs.Walk.{Breach, Covered, stmt_found, row_found, covered_after, row_covered_after, turns_found, turns_covered}
 use Rattle.access_check.specs.Agree.{Agree, CountersFit, RowCountersFit}

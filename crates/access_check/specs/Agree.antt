@@ -1,6 +1,6 @@
 -- Sets of components that have the same of those below the dims, and counters that have their cells.
 use Rattle.std.specs.Prelude.{◌≡◌, ℕ, ◌<◌, ◌^◌, List, Bool, false}
-use Rattle.kernel_types.specs.declared.statements.RStmt.{RStmt, Block', Declare, SetScalar, SetLocal, SetArg, If', For', Row_of-RStmt, end_of-RStmt, more_of-RStmt}
+use Rattle.kernel_model.specs.declared.types.statements.RStmt.{RStmt, Block', Declare, SetScalar, SetLocal, SetArg, If', For', Row_of-RStmt, end_of-RStmt, more_of-RStmt}
 use Rattle.kernel_model.specs.Obeys.{Mode, mode_at}
 use Rattle.kernel_model.specs.Walk.{Covered}
 use Rattle.access_check.specs.Indices.{stmt_names}

@@ -1,7 +1,7 @@
 -- Chains of binary operators, each the left operand of the one before it (ISO C 6.5: binary operators group to the left).
 use Rattle.std.specs.Prelude.{ℕ, zero, suc, ℤ, pos, List, Option, get_or}
-use Rattle.kernel_types.specs.declared.expressions.RExpr.{RExpr}
-use Rattle.kernel_types.specs.declared.expressions.RExpr.TheVariants.{Number, Binary'}
+use Rattle.kernel_model.specs.declared.types.expressions.RExpr.{RExpr}
+use Rattle.kernel_model.specs.declared.types.expressions.RExpr.TheVariants.{Number, Binary'}
 use Rattle.kernel_model.specs.Obeys.{Counters, static, static_op}
 
 module _ (cs : Counters) where

@@ -1,6 +1,6 @@
 -- What a refusal says of a kernel.
 use Rattle.std.specs.Prelude.{List}
-use Rattle.kernel_types.specs.declared.kernels.RKernel.{RKernel}
+use Rattle.kernel_model.specs.declared.types.kernels.RKernel.{RKernel}
 use Rattle.kernel_model.specs.Obeys.{Mode, KernelObeys}
 use Rattle.kernel_model.specs.Refusals as model
 use Rattle.kernel_model.specs.Refusals.{IsRefusal}

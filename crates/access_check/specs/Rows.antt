@@ -1,6 +1,6 @@
 -- The walk over statements in a list.
 use Rattle.std.specs.Prelude.{ℕ, List, [], ◌∷◌, Option, Bool}
-use Rattle.kernel_types.specs.declared.statements.RStmt.{RStmt}
+use Rattle.kernel_model.specs.declared.types.statements.RStmt.{RStmt}
 use Rattle.kernel_model.specs.Obeys.{Mode, Counters}
 use Rattle.kernel_model.specs.Walk.{Breach, Covered, stmt_found, covered_after}
 use Rattle.access_check.specs.Agree.{CountersFit}

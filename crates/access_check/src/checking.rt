@@ -1,7 +1,7 @@
 // The access rules, on a whole kernel.
 
 ghost use Rattle.std.specs.Prelude.{◌≡◌, ◌-◌, ◌<◌, ◌≤◌, ◌⊎◌, ◌&&◌, ℕ, None, length, map, IfOk, IfErr, slice_index_or};
-ghost use Rattle.kernel_types.specs.Resolved.{IsResolved, StmtWithin};
+ghost use Rattle.kernel_model.specs.Resolved.{IsResolved, StmtWithin};
 ghost use Rattle.kernel_model.specs.Obeys.{KernelObeys};
 ghost use Rattle.kernel_model.specs.Walk as model;
 ghost use Rattle.kernel_model.specs.Refusals.{opposite, parameter_place};
@@ -19,7 +19,7 @@ use crate::modes::{Mode, mode_of};
 use crate::refusals::{AccessRefusal, refusal_of};
 use crate::uses::only_writes;
 use crate::walking::walk;
-use kernel_types::{Pos, RKernel};
+use kernel_model::types::{Pos, RKernel};
 use std::alloc::Global;
 
 fn is_whole(covered: &Components, arg: u32, dim: u32) -> bool

@@ -7,7 +7,7 @@ ghost use Rattle.access_check.specs.Chains.{after_left};
 ghost use Rattle.access_check.specs.States.{counters_of, number_of};
 
 use c_tree::{BinaryOp, UnaryOp};
-use kernel_types::RExpr;
+use kernel_model::types::RExpr;
 use op_num::{wrap_add, wrap_mul, wrap_neg, wrap_sub};
 
 fn add(a: i32, b: i32) -> i32

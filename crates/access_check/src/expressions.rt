@@ -14,7 +14,7 @@ use crate::modes::Mode;
 use crate::sides::OwnSide;
 use crate::uses::{Occurrence, Use, occurrence_found};
 use c_tree::MinMax;
-use kernel_types::RExpr;
+use kernel_model::types::RExpr;
 
 // What is found after an expression. A chain of operators, each the left operand of the one before it, is gone along by
 // a loop from its end, since what counts doesn't turn on the order.

@@ -5,7 +5,7 @@ ghost use Rattle.kernel_model.specs.Refusals.{number_of};
 ghost use Rattle.kernel_model.specs.Walk.{precedes, noted_if};
 ghost use Rattle.access_check.specs.Found.{rule_of, breach_of, found_of};
 
-use kernel_types::Pos;
+use kernel_model::types::Pos;
 
 /// The access rules, in the order in which they count at one place.
 #[derive(Clone, Copy, Debug, PartialEq, Eq)]

@@ -3,7 +3,7 @@
 ghost use Rattle.std.specs.Prelude.{◌≡◌, ℕ, ◌||◌, nat_eq};
 ghost use Rattle.access_check.specs.Indices.{names_of, expr_names, stmt_names};
 
-use kernel_types::{RExpr, RStmt};
+use kernel_model::types::{RExpr, RStmt};
 
 /// Whether the table says that an index names the cell.
 pub fn is_named(named: &[bool], cell: u32) -> bool

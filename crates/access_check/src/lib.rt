@@ -15,7 +15,7 @@ mod uses;
 mod walking;
 
 pub use checking::check;
-pub use kernel_types::{Pos, RKernel};
+pub use kernel_model::types::{Pos, RKernel};
 pub use modes::{Mode, are_small};
 pub use op_num::reductions::Access;
 pub use refusals::AccessRefusal;

@@ -1,14 +1,14 @@
 // Why a kernel is refused.
 
 ghost use Rattle.std.specs.Prelude.{List};
-ghost use Rattle.kernel_types.specs.declared.kernels.RKernel.{RKernel};
+ghost use Rattle.kernel_model.specs.declared.types.kernels.RKernel.{RKernel};
 ghost use Rattle.kernel_model.specs.Obeys.{Mode};
 ghost use Rattle.kernel_model.specs.Refusals.{IsRefusal};
 ghost use Rattle.access_check.specs.Found.{rule_of};
 ghost use Rattle.access_check.specs.Refusals.{Refuses};
 
 use crate::found::{Breach, Rule};
-use kernel_types::Pos;
+use kernel_model::types::Pos;
 use thiserror::Error;
 
 /// The access rule that a kernel breaks at the earliest place; of those that it breaks there, the first in this order.

@@ -9,7 +9,7 @@ ghost use Rattle.access_check.specs.Uses.{use_event};
 use crate::tokens::{is_same, is_same_form};
 use crate::uses::Use;
 use c_tree::{AssignOp, MinMax};
-use kernel_types::{ElementForm, RExpr};
+use kernel_model::types::{ElementForm, RExpr};
 
 /// Which operand of `MIN` or `MAX` on the right side is the target of the assignment itself.
 #[derive(Clone, Copy, Debug, PartialEq, Eq)]

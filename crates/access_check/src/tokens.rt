@@ -4,7 +4,7 @@ ghost use Rattle.std.specs.Prelude.{◌≡◌};
 ghost use Rattle.kernel_model.specs.SameTokens.{same_form, same_which, same_unary, same_op, same_tokens};
 
 use c_tree::{BinaryOp, MinMax, UnaryOp};
-use kernel_types::{ElementForm, RExpr};
+use kernel_model::types::{ElementForm, RExpr};
 
 /// Whether two elements are written in the same form, with an index or with `*`.
 pub fn is_same_form(a: ElementForm, b: ElementForm) -> bool

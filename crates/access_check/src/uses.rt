@@ -14,7 +14,7 @@ use crate::components::{Components, is_among};
 use crate::found::{Breach, Rule, with_rule};
 use crate::modes::{Mode, mode_of};
 use c_tree::MinMax;
-use kernel_types::Pos;
+use kernel_model::types::Pos;
 use op_num::reductions::Access;
 
 /// How a component is used.

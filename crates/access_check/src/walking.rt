@@ -17,7 +17,7 @@ use crate::indices::is_named;
 use crate::modes::{Mode, mode_of};
 use crate::sides::{own_side_of, store_of};
 use crate::uses::{Occurrence, occurrence_found};
-use kernel_types::RStmt;
+use kernel_model::types::RStmt;
 
 // The components that every path has assigned after a store.
 fn note_store(modes: &[Mode], covered: &mut Components, arg: u32, index: Option<i32>)

@@ -4,8 +4,8 @@ use Rattle.c_lex.specs.Lexed as lexer
 use Rattle.c_lex.specs.Lexed.{Lexes}
 use Rattle.c_tree.specs.Tree.{ProgramTree}
 use Rattle.c_tree.specs.Reads.{Reads}
-use Rattle.kernel_types.specs.declared.kernels.Resolved.{Resolved}
-use Rattle.kernel_types.specs.View.{resolved_of}
+use Rattle.kernel_model.specs.declared.types.kernels.Resolved.{Resolved}
+use Rattle.kernel_model.specs.View.{resolved_of}
 use Rattle.kernel_model.specs.Refusals.{ObeysUnlessBroken, OneRefusal}
 use Rattle.kernel_model.specs.Walk.{Breach, WalkFinds}
 use Rattle.name_resolution.specs.Programs as names

@@ -1,7 +1,7 @@
 -- What is answered of chains is one, whatever the addresses of kernels and owners.
 use Rattle.std.proofs.Common.{◌≡◌, ◌<◌, List, map, None, Result, Ok, Err, sym, ap, ◌∙◌, subst}
-use Rattle.kernel_types.specs.declared.kernels.RKernel.{RKernel}
-use Rattle.kernel_types.specs.View.{rkernel_of}
+use Rattle.kernel_model.specs.declared.types.kernels.RKernel.{RKernel}
+use Rattle.kernel_model.specs.View.{rkernel_of}
 use Rattle.mesh_decl.specs.declared.owners.Owners.{Owners}
 use Rattle.distribute.specs.Parts.{Parts, OwnersRefusal}
 use Rattle.distribute.specs.Judgements.{OwnersAre}

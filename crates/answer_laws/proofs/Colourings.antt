@@ -1,6 +1,6 @@
 -- Whether a program has a plan on its ranks is one, and so is what is read of it, where its blocks and colours come from one place.
 use Rattle.std.proofs.Common.{◌≡◌, ℕ, inl, inr, List, map, refl, sym, ap, ap₂, ◌∙◌, arith}
-use Rattle.kernel_types.specs.declared.kernels.RKernel.{RKernel}
+use Rattle.kernel_model.specs.declared.types.kernels.RKernel.{RKernel}
 use Rattle.local_mesh.specs.declared.types.RankMesh.{RankMesh}
 use Rattle.local_mesh.specs.Values.{rank_mesh_value}
 use Rattle.bound_program.specs.Values.{BoundValue}

@@ -8,8 +8,8 @@ use Rattle.c_tree.specs.Tree.{ProgramTree}
 use Rattle.c_tree.specs.Reads.{Reads, Deep}
 use Rattle.c_tree.specs.declared.refusals.SourceRefusal.TheVariants as source
 use Rattle.c_tree.specs.Refused.{places, place_at, IsFar}
-use Rattle.kernel_types.specs.declared.kernels.Resolved.{Resolved}
-use Rattle.kernel_types.specs.View.{resolved_of}
+use Rattle.kernel_model.specs.declared.types.kernels.Resolved.{Resolved}
+use Rattle.kernel_model.specs.View.{resolved_of}
 use Rattle.name_resolution.specs.declared.refusals.TypeRefusal.TheVariants as types
 use Rattle.name_resolution.specs.Programs as names
 use Rattle.name_resolution.specs.Programs.{Resolves, resolved}

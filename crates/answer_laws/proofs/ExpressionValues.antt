@@ -5,8 +5,8 @@ use Rattle.std.proofs.lemmas.Map.Entries.{All-lookup}
 use Rattle.c_lex.specs.declared.tokens.Pos.{Pos}
 use Rattle.c_tree.specs.Tree as tree
 use Rattle.c_tree.specs.Tree.{ExprTree}
-use Rattle.kernel_types.specs.declared.faults.KernelFault.{KernelFault}
-use Rattle.kernel_types.specs.View.{RExprTree, Number, Scalar, Constant, Arg, Local, Const, Unary, Binary, Choice, Paren, Extremum, Absolute}
+use Rattle.kernel_model.specs.declared.types.faults.KernelFault.{KernelFault}
+use Rattle.kernel_model.specs.View.{RExprTree, Number, Scalar, Constant, Arg, Local, Const, Unary, Binary, Choice, Paren, Extremum, Absolute}
 use Rattle.kernel_model.specs.Numbers.{Value, is_zero, is_settled}
 use Rattle.kernel_model.specs.Operators.{IsNumber}
 use Rattle.kernel_model.specs.Meaning.{and_then, index_in}

@@ -11,7 +11,7 @@ use Rattle.c_tree.specs.declared.hosts.LoopArg.TheVariants as arg
 use Rattle.c_tree.specs.Tree as tree
 use Rattle.c_tree.specs.Tree.{ExprTree, DeclrTree, DeclarationTree, TopTree, OpCallTree, HostTree, HostTrees}
 use Rattle.c_tree.specs.Print.{sign_at, word_at, named_word, word_if, commas, declr, declrs, vars, condition, top, tops, host_counter, call, host, hosts}
-use Rattle.kernel_types.specs.declared.kernels.ConstDecl.{ConstDecl}
+use Rattle.kernel_model.specs.declared.types.kernels.ConstDecl.{ConstDecl}
 use Rattle.mesh_decl.specs.Mesh.{MeshValue}
 use Rattle.mesh_decl.specs.Printed.{conversions}
 use Rattle.mesh_decl.specs.declared.text.entry.Entry.{Entry}

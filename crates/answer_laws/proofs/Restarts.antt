@@ -4,9 +4,9 @@ use Rattle.std.proofs.lemmas.List.Elements.{All-weaker}
 use Rattle.c_lex.specs.Spelling.{IsName}
 use Rattle.c_tree.specs.Tree.{ProgramTree}
 use Rattle.c_tree.specs.Reads.{Reads}
-use Rattle.kernel_types.specs.declared.faults.KernelFault.{KernelFault}
-use Rattle.kernel_types.specs.declared.kernels.RKernel.{RKernel}
-use Rattle.kernel_types.specs.View.{rkernel_of}
+use Rattle.kernel_model.specs.declared.types.faults.KernelFault.{KernelFault}
+use Rattle.kernel_model.specs.declared.types.kernels.RKernel.{RKernel}
+use Rattle.kernel_model.specs.View.{rkernel_of}
 use Rattle.name_resolution.specs.Programs as names
 use Rattle.name_resolution.specs.Programs.{Resolves}
 use Rattle.mesh_decl.specs.Reading.{Read, Reads as Spelled}

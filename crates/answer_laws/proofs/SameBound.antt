@@ -1,9 +1,9 @@
 -- Binding kernels that have the same trees.
 use Rattle.std.proofs.Common.{◌≡◌, List, map, Ok, Err, refl, ap}
 use Rattle.c_tree.specs.Tree.{ProgramTree}
-use Rattle.kernel_types.specs.declared.kernels.ConstDecl.{ConstDecl}
-use Rattle.kernel_types.specs.declared.kernels.Resolved.{Resolved}
-use Rattle.kernel_types.specs.View.{rkernel_of, resolved_of}
+use Rattle.kernel_model.specs.declared.types.kernels.ConstDecl.{ConstDecl}
+use Rattle.kernel_model.specs.declared.types.kernels.Resolved.{Resolved}
+use Rattle.kernel_model.specs.View.{rkernel_of, resolved_of}
 use Rattle.mesh_decl.specs.Spelling.{Named}
 use Rattle.bound_program.specs.Refusals.{Judged, ◌>>=◌}
 use Rattle.bound_program.specs.Values.{BoundValue}

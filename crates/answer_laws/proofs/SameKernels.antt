@@ -1,10 +1,10 @@
 -- Kernels with the same trees, in bound programs that are the same but for these.
 use Rattle.std.proofs.Common.{◌≡◌, ℕ, List, map, Option, Some, None, refl, sym, ap, ap₂, ◌∙◌}
-use Rattle.kernel_types.specs.declared.kernels.RKernel.{RKernel}
-use Rattle.kernel_types.specs.View.{rkernel_of}
+use Rattle.kernel_model.specs.declared.types.kernels.RKernel.{RKernel}
+use Rattle.kernel_model.specs.View.{rkernel_of}
 use Rattle.kernel_model.specs.Obeys.{Mode}
 use Rattle.kernel_model.specs.Trees.{WalksAlike}
-use Rattle.kernel_types.specs.declared.faults.KernelFault.{KernelFault}
+use Rattle.kernel_model.specs.declared.types.faults.KernelFault.{KernelFault}
 use Rattle.schedule_model.specs.Program.{Program}
 use Rattle.schedule_model.specs.Sequential.{sequential}
 use Rattle.bound_program.specs.Values.{BoundValue}

@@ -1,6 +1,6 @@
 -- What a call leaves on `out`.
 use Rattle.std.proofs.Common.{◌≡◌, ◌⊎◌, inl, inr, ℕ, Bool, List, [], Option, Some, None, Result, refl, sym, ap, ◌∙◌, subst, append-nil}
-use Rattle.kernel_types.specs.declared.faults.KernelFault.{KernelFault}
+use Rattle.kernel_model.specs.declared.types.faults.KernelFault.{KernelFault}
 use Rattle.schedule_model.specs.Sequential.{Stop}
 use Rattle.schedule_steps.specs.declared.step.Step.{Step}
 use Rattle.mesh_decl.specs.declared.owners.Owners.{Owners}

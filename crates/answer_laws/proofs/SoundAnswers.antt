@@ -4,7 +4,7 @@ use Rattle.std.specs.List.{Contains}
 use Rattle.c_tree.specs.declared.refusals.SourceRefusal.TheVariants as source
 use Rattle.name_resolution.specs.declared.refusals.TypeRefusal.TheVariants as types
 use Rattle.mesh_decl.specs.declared.text.entry.MeshRefusal.TheVariants as mesh
-use Rattle.kernel_types.specs.declared.faults.KernelFault.{KernelFault}
+use Rattle.kernel_model.specs.declared.types.faults.KernelFault.{KernelFault}
 use Rattle.schedule_model.specs.Sequential.{Stop}
 use Rattle.mesh_decl.specs.declared.owners.Owners.{Owners}
 use Rattle.bound_program.specs.Values.{BoundValue}

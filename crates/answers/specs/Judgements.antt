@@ -6,9 +6,9 @@ use Rattle.c_tree.specs.Reads.{Reads, Deep}
 use Rattle.c_tree.specs.declared.refusals.SourceRefusal.{SourceRefusal}
 use Rattle.c_tree.specs.declared.refusals.SourceRefusal.TheVariants as source
 use Rattle.c_tree.specs.Refused.{place_at, CanRefuse}
-use Rattle.kernel_types.specs.declared.kernels.RKernel.{RKernel}
-use Rattle.kernel_types.specs.declared.kernels.Resolved.{Resolved}
-use Rattle.kernel_types.specs.View.{resolved_of}
+use Rattle.kernel_model.specs.declared.types.kernels.RKernel.{RKernel}
+use Rattle.kernel_model.specs.declared.types.kernels.Resolved.{Resolved}
+use Rattle.kernel_model.specs.View.{resolved_of}
 use Rattle.name_resolution.specs.declared.refusals.TypeRefusal.{TypeRefusal}
 use Rattle.name_resolution.specs.Programs.{Resolves}
 use Rattle.mesh_decl.specs.declared.text.entry.MeshRefusal.{MeshRefusal}

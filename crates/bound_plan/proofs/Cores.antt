@@ -1,7 +1,7 @@
 -- Kernels on the cells of frames.
 use Rattle.std.proofs.Common.{◌≡◌, ◌<◌, ◌+◌, ℕ, ℤ, true, List, [], ◌∷◌, length, map, sym, ap, subst, ◌∙◌, arith}
 use Rattle.std.specs.Prelude.{slice_index_or}
-use Rattle.kernel_types.specs.declared.kernels.RKernel.{RKernel}
+use Rattle.kernel_model.specs.declared.types.kernels.RKernel.{RKernel}
 use Rattle.kernel_model.specs.Meaning.{Target, target_at, kernel_meaning}
 use Rattle.kernel_model.specs.Meaning as kernel
 use Rattle.kernel_model.specs.Independence.{Fits as NamesCells, ShapeStays, store_after}

@@ -5,7 +5,7 @@ use Rattle.std.proofs.lemmas.Bool.{cases_Bool, cond-true, cond-false, ltb-true, 
 use Rattle.std.proofs.lemmas.List.FromFn.{length-range_with_len, get_or-range_with_len, length-map-range_with_len, get_or-map-range_with_len}
 use Rattle.c_lex.specs.declared.tokens.Pos.{Pos}
 use Rattle.c_tree.specs.declared.declarations.AssignOp.{AssignOp}
-use Rattle.kernel_types.specs.declared.faults.KernelFault.{KernelFault}
+use Rattle.kernel_model.specs.declared.types.faults.KernelFault.{KernelFault}
 use Rattle.op_num.specs.declared.refusals.Fault.TheVariants.{Index}
 use Rattle.kernel_model.specs.Numbers.{fault}
 use Rattle.kernel_model.specs.Meaning.{on_value, index_in, stored}
@@ -17,7 +17,7 @@ use Rattle.schedule_model.specs.Cells.{Cell, Data, Variable, VarCell, Store, sam
 use Rattle.schedule_model.specs.Program.{Hosted, Halts, Goes}
 use Rattle.flat_machine.specs.Layout.{among, Exists, HostedAlike}
 use Rattle.run_model.specs.OnWindows.{no_cell}
-use Rattle.kernel_types.specs.View.{RExprTree}
+use Rattle.kernel_model.specs.View.{RExprTree}
 use Rattle.bound_program.specs.HostExpr.{value}
 use Rattle.bound_program.specs.Values.{BoundValue, VarValue, ActValue, Clear, Assign, Line, Print, Exit}
 use Rattle.bound_program.specs.Fits.{Fits, ActFits, var_at}

@@ -14,7 +14,7 @@ use Rattle.schedule_model.specs.Program.{Free, is_loop}
 use Rattle.schedule_model.specs.Arguments.{reaches}
 use Rattle.flat_machine.specs.Layout.{among}
 use Rattle.run_model.specs.ElementRun.{IsElementRun}
-use Rattle.kernel_types.specs.declared.kernels.RKernel.{RKernel}
+use Rattle.kernel_model.specs.declared.types.kernels.RKernel.{RKernel}
 use Rattle.bound_program.specs.Values.{BoundValue}
 use Rattle.run_model.specs.Windows.{reached, cell_in}
 use Rattle.run_model.specs.Programs.{kind_of, loop_of, item_at, program_of}

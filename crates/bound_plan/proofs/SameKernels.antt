@@ -1,9 +1,9 @@
 -- Kernels with the same trees, in bound programs that are the same but for these.
 use Rattle.std.proofs.Common.{◌≡◌, ℕ, zero, suc, ℤ, List, [], ◌∷◌, map, Option, Some, None, refl, ap}
 use Rattle.std.proofs.Math.Path.{fun_ext}
-use Rattle.kernel_types.specs.declared.faults.KernelFault.{KernelFault}
-use Rattle.kernel_types.specs.declared.kernels.RKernel.{RKernel}
-use Rattle.kernel_types.specs.View.{rkernel_of}
+use Rattle.kernel_model.specs.declared.types.faults.KernelFault.{KernelFault}
+use Rattle.kernel_model.specs.declared.types.kernels.RKernel.{RKernel}
+use Rattle.kernel_model.specs.View.{rkernel_of}
 use Rattle.kernel_model.specs.Trees.{RunsAlike}
 use Rattle.schedule_model.specs.Cells.{Store}
 use Rattle.schedule_model.specs.Effects.{Ran}

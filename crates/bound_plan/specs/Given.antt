@@ -17,7 +17,7 @@ use Rattle.schedule_steps.specs.declared.step.Step.{Step}
 use Rattle.schedule_steps.specs.Steps.{Accepted}
 use Rattle.schedule_steps.specs.Alike.{AlikeOutlines}
 use Rattle.run_model.specs.Laws.{ActsAreThere, LoopsAreThere, ElementsRunKernels, LoopsKeepRange, LoopsKeepReads, WindowsAreReached}
-use Rattle.kernel_types.specs.declared.faults.KernelFault.{KernelFault}
+use Rattle.kernel_model.specs.declared.types.faults.KernelFault.{KernelFault}
 use Rattle.kernel_model.specs.Independence.{ShapeStays}
 use Rattle.schedule_model.specs.Cells.{Data, DatCell}
 use Rattle.schedule_model.specs.Effects.{is_modified}

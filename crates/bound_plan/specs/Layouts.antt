@@ -1,7 +1,7 @@
 -- Where the cells and elements of a bound program stand on several ranks.
 use Rattle.std.specs.Prelude.{ℕ, ◌&&◌, List, length}
 use Rattle.std.specs.List.{flat_map}
-use Rattle.kernel_types.specs.declared.faults.KernelFault.{KernelFault}
+use Rattle.kernel_model.specs.declared.types.faults.KernelFault.{KernelFault}
 use Rattle.mesh_decl.specs.declared.owners.Owners.{Owners}
 use Rattle.mesh_decl.specs.Mesh.{MeshValue, set_size, dat_count, dat_set, dat_dim}
 use Rattle.lemmas.specs.Below.{listed}

@@ -1,6 +1,6 @@
 -- The memories of the ranks after a list of steps, and what a run puts out.
 use Rattle.std.specs.Prelude.{ℕ, ℤ, Bool, List, [], ◌++◌, Option, Some, None, if◌then◌else◌}
-use Rattle.kernel_types.specs.declared.faults.KernelFault.{KernelFault}
+use Rattle.kernel_model.specs.declared.types.faults.KernelFault.{KernelFault}
 use Rattle.mesh_decl.specs.declared.owners.Owners.{Owners}
 use Rattle.local_mesh.specs.declared.types.RankMesh.{RankMesh}
 use Rattle.schedule_steps.specs.declared.step.Step.{Step}

@@ -1,8 +1,8 @@
 -- That a run on several ranks is one: where kernels, owners and local meshes lie in memory is nothing to it, nor which of its plans
 -- with the same colours it has.
 use Rattle.std.specs.Prelude.{◌≡◌, ℕ, Bool, List, map, Option, Some, None}
-use Rattle.kernel_types.specs.declared.kernels.RKernel.{RKernel}
-use Rattle.kernel_types.specs.View.{rkernel_of}
+use Rattle.kernel_model.specs.declared.types.kernels.RKernel.{RKernel}
+use Rattle.kernel_model.specs.View.{rkernel_of}
 use Rattle.mesh_decl.specs.declared.owners.Owners.{Owners}
 use Rattle.local_mesh.specs.declared.types.RankMesh.{RankMesh}
 use Rattle.schedule_steps.specs.declared.step.Step.{Step}

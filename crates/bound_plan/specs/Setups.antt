@@ -1,6 +1,6 @@
 -- The setup of a bound program on several ranks: by owners, halos, local meshes and plan.
 use Rattle.std.specs.Prelude.{◌/◌, ◌&&◌, List, length}
-use Rattle.kernel_types.specs.declared.faults.KernelFault.{KernelFault}
+use Rattle.kernel_model.specs.declared.types.faults.KernelFault.{KernelFault}
 use Rattle.mesh_decl.specs.declared.owners.Owners.{Owners}
 use Rattle.mesh_decl.specs.Owners.{owner_of}
 use Rattle.local_mesh.specs.Halo.{owns, imports_execute, imports_nonexecute, is_core}

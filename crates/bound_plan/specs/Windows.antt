@@ -1,7 +1,7 @@
 -- The windows of an element's frame: those on dats first, and then those on variables.
 use Rattle.std.specs.Prelude.{ℕ, ℤ, List, [], ◌∷◌, ◌++◌, map, Option, Some, None}
-use Rattle.kernel_types.specs.declared.faults.KernelFault.{KernelFault}
-use Rattle.kernel_types.specs.declared.kernels.RKernel.{RKernel}
+use Rattle.kernel_model.specs.declared.types.faults.KernelFault.{KernelFault}
+use Rattle.kernel_model.specs.declared.types.kernels.RKernel.{RKernel}
 use Rattle.kernel_model.specs.Meaning.{kernel_meaning}
 use Rattle.kernel_model.specs.Meaning as kernel
 use Rattle.schedule_model.specs.Cells.{Cell}

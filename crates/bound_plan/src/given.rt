@@ -1,7 +1,7 @@
 // The laws of the lower crates on which the laws here rest.
 ghost use Rattle.bound_plan.specs.Given.{AlikeAcceptAlike, FrameLaws, HaloLaws, ItemLaws, KernelLaws, NumberLaws};
 
-use kernel_types::KernelFault;
+use kernel_model::types::KernelFault;
 
 // Of local numbers, items, halos and meshes, and outlines.
 pub(crate) fn meshes_and_items()

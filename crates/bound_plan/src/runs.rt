@@ -4,7 +4,7 @@ ghost use Rattle.bound_plan.specs.Laws.{PlansRunAsSequential};
 use crate::layout::layouts_fit;
 use crate::setup::{setups_are_coloured, setups_are_lawful};
 use crate::steps::plans_are_by_place;
-use kernel_types::KernelFault;
+use kernel_model::types::KernelFault;
 
 /// A law: every list of steps that a proper plan accepts, run on flat buffers, prints what the sequential run of the
 /// program prints, and stops exactly where that has its first fault; where it has none, each owner's cells and the

@@ -2,7 +2,7 @@
 ghost use Rattle.bound_plan.specs.Laws.{SetupsAreColoured, SetupsAreLawful, SetupsHaveParts};
 
 use crate::given::{kernels_and_frames, meshes_and_items};
-use kernel_types::KernelFault;
+use kernel_model::types::KernelFault;
 
 /// A law: items, arguments, halos, messages and colours of the setup are as the theorem asks, each by its own
 /// definition.

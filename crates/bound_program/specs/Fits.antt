@@ -1,11 +1,11 @@
 -- What every bound program keeps.
 use Rattle.std.specs.Prelude.{◌≡◌, ◌≢◌, ℕ, zero, suc, ◌+◌, ◌<◌, ◌≤◌, ◌^◌, ◌⊎◌, List, [], ◌∷◌, length, sum_by, All, slice_index_or, FitsSigned, Option, Some, None, if◌then◌else◌}
 use Rattle.std.specs.Int.{w32}
-use Rattle.kernel_types.specs.declared.expressions.RExpr.{RExpr}
-use Rattle.kernel_types.specs.declared.expressions.RExpr.TheVariants as r
-use Rattle.kernel_types.specs.declared.statements.RStmt.{RStmt, Block', Declare, SetScalar, SetLocal, SetArg, If', For', Row_of-RStmt, end_of-RStmt, more_of-RStmt}
-use Rattle.kernel_types.specs.declared.kernels.RKernel.{RKernel}
-use Rattle.kernel_types.specs.Resolved.{IsResolved}
+use Rattle.kernel_model.specs.declared.types.expressions.RExpr.{RExpr}
+use Rattle.kernel_model.specs.declared.types.expressions.RExpr.TheVariants as r
+use Rattle.kernel_model.specs.declared.types.statements.RStmt.{RStmt, Block', Declare, SetScalar, SetLocal, SetArg, If', For', Row_of-RStmt, end_of-RStmt, more_of-RStmt}
+use Rattle.kernel_model.specs.declared.types.kernels.RKernel.{RKernel}
+use Rattle.kernel_model.specs.Resolved.{IsResolved}
 use Rattle.op_num.specs.declared.reductions.access.Access.{Access}
 use Rattle.op_num.specs.declared.reductions.access.Access.TheVariants as access
 use Rattle.mesh_decl.specs.declared.access.Via.{Via}
@@ -14,7 +14,7 @@ use Rattle.mesh_decl.specs.Printed.{conversions}
 use Rattle.bound_program.specs.declared.sites.Arg.{Arg}
 use Rattle.bound_program.specs.declared.sites.Arg.TheVariants.{Dat, Global}
 use Rattle.bound_program.specs.declared.sites.Class.TheVariants as class
-use Rattle.kernel_types.specs.View.{RExprTree, Number, Scalar, Constant, Arg as Param, Local, Const, Unary, Binary, Choice, Paren, Extremum, Absolute}
+use Rattle.kernel_model.specs.View.{RExprTree, Number, Scalar, Constant, Arg as Param, Local, Const, Unary, Binary, Choice, Paren, Extremum, Absolute}
 use Rattle.bound_program.specs.Values.{ActValue, Clear, Assign, Line, Print, Exit, ItemValue, Free, Reduce, Ordered, Host, SiteValue, VarValue, BoundValue, no_var, no_site}
 use Rattle.bound_program.specs.Limits.{max_dim, max_arguments}
 use Rattle.bound_program.specs.Classes.{class_of, reduces}

@@ -4,8 +4,8 @@
 -- reads no arrays of constants.
 use Rattle.std.specs.Prelude.{◌≡◌, ℕ, ℤ, pos, ◌+◌, Bool, true, false, ◌&&◌, cond, List, Ok, slice_index_or}
 use Rattle.c_lex.specs.declared.tokens.Pos.{Pos}
-use Rattle.kernel_types.specs.declared.expressions.RExpr.{RExpr}
-use Rattle.kernel_types.specs.View.{RExprTree, Number, Scalar, Constant, Arg, Local, Const, Unary, Binary, Choice, Paren, Extremum, Absolute, rexpr_of}
+use Rattle.kernel_model.specs.declared.types.expressions.RExpr.{RExpr}
+use Rattle.kernel_model.specs.View.{RExprTree, Number, Scalar, Constant, Arg, Local, Const, Unary, Binary, Choice, Paren, Extremum, Absolute, rexpr_of}
 use Rattle.kernel_model.specs.Numbers.{Value, truth, is_zero, apply, apply_unary, is_settled, extremum, magnitude, not}
 use Rattle.kernel_model.specs.Meaning.{Store, Target, value_of, and_then, index_in}
 

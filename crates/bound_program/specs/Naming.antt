@@ -1,6 +1,6 @@
 -- Statements whose names that are told when `main` is unrolled are numbered anew, so that the items of all turns share one statement.
 use Rattle.std.specs.Prelude.{◌≡◌, ℕ, zero, suc, pos, List, [], ◌∷◌, ◌++◌, map, option_map}
-use Rattle.kernel_types.specs.View.{RExprTree, Number, Scalar, Constant, Arg, Local, Const, Unary, Binary, Choice, Paren, Extremum, Absolute}
+use Rattle.kernel_model.specs.View.{RExprTree, Number, Scalar, Constant, Arg, Local, Const, Unary, Binary, Choice, Paren, Extremum, Absolute}
 use Rattle.bound_program.specs.Values.{ActValue, Clear, Assign, Line, Print, Exit, act_of}
 use Rattle.bound_program.specs.declared.trace.steps.NamedAct.{NamedAct}
 

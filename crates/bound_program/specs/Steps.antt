@@ -1,7 +1,7 @@
 -- What is left of `main` when its names are numbers: the statements that are unrolled.
 use Rattle.std.specs.Prelude.{ℕ, Option}
 use Rattle.c_lex.specs.declared.tokens.Pos.{Pos}
-use Rattle.kernel_types.specs.View.{RExprTree}
+use Rattle.kernel_model.specs.View.{RExprTree}
 use Rattle.bound_program.specs.Values.{ActValue}
 
 -- an expression that must be known before the run, and the place of its first token

@@ -13,7 +13,7 @@ use Rattle.bound_program.specs.declared.trace.unroll.LoopForm.{LoopForm}
 use Rattle.bound_program.specs.declared.trace.unroll.LoopForm.TheVariants as form
 use Rattle.bound_program.specs.declared.sites.Class.{Class}
 use Rattle.bound_program.specs.declared.sites.Class.TheVariants as class
-use Rattle.kernel_types.specs.View.{rexpr_of}
+use Rattle.kernel_model.specs.View.{rexpr_of}
 use Rattle.bound_program.specs.Values.{item_of, SiteValue, Free, Reduce, Ordered}
 use Rattle.bound_program.specs.Steps.{Asked, Step, Do, Loop, Fix, Block, Choose, Repeat, Steps, NoStep, MoreStep}
 use Rattle.bound_program.specs.Refusals.{Judged}

@@ -2,9 +2,9 @@
 use Rattle.std.specs.Prelude.{ℕ, ℤ, Bool, false, List, [], map, Option, None, option_map}
 use Rattle.c_lex.specs.declared.tokens.Pos.{Pos}
 use Rattle.c_tree.specs.declared.declarations.AssignOp.{AssignOp}
-use Rattle.kernel_types.specs.declared.kernels.RKernel.{RKernel}
+use Rattle.kernel_model.specs.declared.types.kernels.RKernel.{RKernel}
 use Rattle.mesh_decl.specs.Mesh.{MeshValue}
-use Rattle.kernel_types.specs.View.{RExprTree, rexpr_of}
+use Rattle.kernel_model.specs.View.{RExprTree, rexpr_of}
 use Rattle.bound_program.specs.declared.acts.Act.{Act}
 use Rattle.bound_program.specs.declared.acts.Act.TheVariants as a
 use Rattle.bound_program.specs.declared.acts.ToldAct.{ToldAct}

@@ -3,7 +3,7 @@
 ghost use Rattle.std.specs.Prelude.{◌≡◌, IfOk, []};
 
 use c_tree::{AssignOp, Pos};
-use kernel_types::RExpr;
+use kernel_model::types::RExpr;
 use op_num::{OutOfMemory, Text};
 use std::alloc::Global;
 use std::sync::Arc;

@@ -15,7 +15,7 @@ pub mod trace;
 
 pub use acts::{Act, Item, ToldAct};
 pub use classes::{class_of, is_access};
-pub use kernel_types::{AssignOp, ElementForm, Name, Pos, RExpr, RKernel};
+pub use kernel_model::types::{AssignOp, ElementForm, Name, Pos, RExpr, RKernel};
 pub use limits::{
     MAX_ARGUMENTS, MAX_CELLS, MAX_DATS, MAX_DIM, MAX_MAPS, MAX_SETS, MAX_SIZE, MAX_TRACE,
     MAX_WEIGHT,

@@ -2,7 +2,7 @@
 
 use crate::acts::Item;
 use crate::sites::Site;
-use kernel_types::RKernel;
+use kernel_model::types::RKernel;
 use mesh_decl::{Mesh, Values};
 use op_num::Name;
 

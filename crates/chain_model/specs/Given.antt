@@ -1,5 +1,5 @@
 -- The laws of the lower crates on which the proofs rest.
-use Rattle.kernel_types.specs.declared.faults.KernelFault.{KernelFault}
+use Rattle.kernel_model.specs.declared.types.faults.KernelFault.{KernelFault}
 use Rattle.std.specs.Prelude.{ℕ, Bool}
 use Rattle.schedule_model.specs.Setup.{Setup}
 use Rattle.schedule_model.specs.Laws.{Lawful}

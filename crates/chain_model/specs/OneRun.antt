@@ -1,8 +1,8 @@
 -- That a run by chains is one: where kernels and owners lie in memory is nothing to it.
 use Rattle.std.specs.Prelude.{◌≡◌, Bool, List, map, Option}
-use Rattle.kernel_types.specs.declared.faults.KernelFault.{KernelFault}
-use Rattle.kernel_types.specs.declared.kernels.RKernel.{RKernel}
-use Rattle.kernel_types.specs.View.{rkernel_of}
+use Rattle.kernel_model.specs.declared.types.faults.KernelFault.{KernelFault}
+use Rattle.kernel_model.specs.declared.types.kernels.RKernel.{RKernel}
+use Rattle.kernel_model.specs.View.{rkernel_of}
 use Rattle.mesh_decl.specs.declared.owners.Owners.{Owners}
 use Rattle.schedule_model.specs.Sequential.{Stop}
 use Rattle.bound_program.specs.Values.{BoundValue}

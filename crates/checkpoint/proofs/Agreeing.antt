@@ -8,9 +8,9 @@ use Rattle.c_lex.specs.declared.tokens.Pos.{Pos}
 use Rattle.c_tree.specs.declared.declarations.AssignOp.{AssignOp}
 use Rattle.op_num.specs.declared.refusals.Fault.TheVariants.{Index}
 use Rattle.kernel_model.specs.Numbers.{fault}
-use Rattle.kernel_types.specs.declared.faults.KernelFault.{KernelFault}
-use Rattle.kernel_types.specs.declared.kernels.RKernel.{RKernel}
-use Rattle.kernel_types.specs.View.{RExprTree}
+use Rattle.kernel_model.specs.declared.types.faults.KernelFault.{KernelFault}
+use Rattle.kernel_model.specs.declared.types.kernels.RKernel.{RKernel}
+use Rattle.kernel_model.specs.View.{RExprTree}
 use Rattle.kernel_model.specs.Meaning.{kernel_meaning, on_value, index_in, stored}
 use Rattle.mesh_decl.specs.Mesh.{set_size, dat_set, dat_dim, dat_count, map_count, map_from, target, IsMapAt}
 use Rattle.mesh_decl.specs.Printed.{printed_dat, printed_line}

@@ -1,7 +1,7 @@
 -- A run that came to an item goes on as the items from there.
 use Rattle.std.proofs.Common.{◌≡◌, ◌+◌, ◌-◌, ◌++◌, ℕ, zero, suc, List, [], refl, sym, ap, ◌∙◌, subst, arith, append_assoc}
 use Rattle.std.proofs.lemmas.List.{append-nil}
-use Rattle.kernel_types.specs.declared.faults.KernelFault.{KernelFault}
+use Rattle.kernel_model.specs.declared.types.faults.KernelFault.{KernelFault}
 use Rattle.schedule_model.specs.Cells.{Store}
 use Rattle.schedule_model.specs.Program.{Program, Kind, Free, Reduce, Ordered, Host, Hosted, Halts, Goes, elements}
 use Rattle.schedule_model.specs.Sequential.{Loop, Broke, Ran_through, loop, one_more, Seq, Stopped, Going, after_loop, after_host, item_from, after_item, seq, sequential, with_variables}

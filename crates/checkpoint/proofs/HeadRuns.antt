@@ -1,7 +1,7 @@
 -- The run of a head up to the cut is the program's.
 use Rattle.std.proofs.Common.{◌≡◌, ◌≤◌, ◌<◌, ℕ, zero, suc, List, length, take, refl, ap, ◌∙◌, arith}
 use Rattle.std.proofs.lemmas.List.{get_or_append_left, get_or-take, length-take-le}
-use Rattle.kernel_types.specs.declared.faults.KernelFault.{KernelFault}
+use Rattle.kernel_model.specs.declared.types.faults.KernelFault.{KernelFault}
 use Rattle.schedule_model.specs.Cells.{Store}
 use Rattle.schedule_model.specs.Program.{Program, Kind, Free, Reduce, Ordered, Host, elements}
 use Rattle.schedule_model.specs.Sequential.{Loop, Broke, Ran_through, loop, one_more, after_run, Seq, Stopped, Going, after_loop, after_host, item_from, after_item, seq}

@@ -4,9 +4,9 @@ use Rattle.std.specs.Prelude.{if◌then◌else◌}
 use Rattle.std.proofs.Math.Seq.{drop-cons}
 use Rattle.std.proofs.lemmas.List.{append-nil, drop_all, map-append, take-map}
 use Rattle.std.proofs.lemmas.List.FromFn.{map-range_with_len_more}
-use Rattle.kernel_types.specs.declared.expressions.RExpr.{RExpr}
-use Rattle.kernel_types.specs.declared.expressions.RExpr.TheVariants as e
-use Rattle.kernel_types.specs.View.{rexpr_of, Scalar}
+use Rattle.kernel_model.specs.declared.types.expressions.RExpr.{RExpr}
+use Rattle.kernel_model.specs.declared.types.expressions.RExpr.TheVariants as e
+use Rattle.kernel_model.specs.View.{rexpr_of, Scalar}
 use Rattle.bound_program.specs.declared.acts.Item.{Item}
 use Rattle.bound_program.specs.declared.programs.Var.{Var}
 use Rattle.bound_program.specs.Values.{ItemValue, BoundValue, item_of, var_of}

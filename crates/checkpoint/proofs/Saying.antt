@@ -1,7 +1,7 @@
 -- What statements print that change nothing.
 use Rattle.std.proofs.Common.{◌≡◌, ◌≤◌, ◌+◌, ◌-◌, ◌++◌, ℕ, suc, List, [], ◌∷◌, length, drop, get_or, refl, sym, ap, ◌∙◌, subst, arith, append_assoc}
 use Rattle.std.proofs.lemmas.List.{append-nil, get_or-drop, length-drop, drop-drop}
-use Rattle.kernel_types.specs.declared.faults.KernelFault.{KernelFault}
+use Rattle.kernel_model.specs.declared.types.faults.KernelFault.{KernelFault}
 use Rattle.schedule_model.specs.Cells.{Cell, Data, Variable, Store}
 use Rattle.schedule_model.specs.Program.{Program, Goes}
 use Rattle.schedule_model.specs.Sequential.{Going, with_variables, after_host, item_from, after_item, seq, sequential}

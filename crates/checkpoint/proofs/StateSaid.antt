@@ -5,7 +5,7 @@ use Rattle.std.specs.List.{range_with_len}
 use Rattle.std.specs.Fmt.{decimal}
 use Rattle.std.proofs.lemmas.List.{map-append, length-map, get_or_append_left, get_or-append-add}
 use Rattle.std.proofs.lemmas.List.FromFn.{length-map-range_with_len, get_or-map-range_with_len}
-use Rattle.kernel_types.specs.View.{Scalar}
+use Rattle.kernel_model.specs.View.{Scalar}
 use Rattle.mesh_decl.specs.Printed.{printed_dat, printed_line}
 use Rattle.schedule_model.specs.Cells.{Variable, VarCell, Store}
 use Rattle.schedule_model.specs.Program.{Halts, Goes}

@@ -1,6 +1,6 @@
 -- A head stops where the program does.
 use Rattle.std.proofs.Common.{◌≡◌, ◌≤◌, ◌+◌, ◌-◌, ℕ, zero, suc, List, length, ap, ◌∙◌, subst, arith}
-use Rattle.kernel_types.specs.declared.faults.KernelFault.{KernelFault}
+use Rattle.kernel_model.specs.declared.types.faults.KernelFault.{KernelFault}
 use Rattle.schedule_model.specs.Cells.{Store}
 use Rattle.schedule_model.specs.Program.{Program}
 use Rattle.schedule_model.specs.Sequential.{Stop, Stopped, after_item, seq}

@@ -4,9 +4,9 @@ use Rattle.std.specs.Prelude.{All, if◌then◌else◌}
 use Rattle.std.proofs.lemmas.Bool.{false≢true}
 use Rattle.std.proofs.lemmas.List.{length-drop}
 use Rattle.std.proofs.lemmas.List.Sums.{sum_by-cons}
-use Rattle.kernel_types.specs.View.{RExprTree, Number, Scalar, Constant, Arg as Param, Local, Const, Unary, Binary, Choice, Paren, Extremum, Absolute}
-use Rattle.kernel_types.specs.declared.kernels.RKernel.{RKernel}
-use Rattle.kernel_types.specs.Resolved.{IsResolved}
+use Rattle.kernel_model.specs.View.{RExprTree, Number, Scalar, Constant, Arg as Param, Local, Const, Unary, Binary, Choice, Paren, Extremum, Absolute}
+use Rattle.kernel_model.specs.declared.types.kernels.RKernel.{RKernel}
+use Rattle.kernel_model.specs.Resolved.{IsResolved}
 use Rattle.mesh_decl.specs.declared.decl.SetDecl.{SetDecl}
 use Rattle.mesh_decl.specs.declared.decl.DatDecl.{DatDecl}
 use Rattle.mesh_decl.specs.declared.access.Via.{Via}

@@ -1,7 +1,7 @@
 -- A run that comes to a cut goes on as that of the tail.
 use Rattle.std.proofs.Common.{◌≡◌, ◌≤◌, ◌<◌, ◌+◌, ◌++◌, ℕ, zero, suc, true, List, Some, None, refl, sym, ap, ap₂, ◌∙◌, subst, arith}
 use Rattle.std.proofs.lemmas.List.{get_or-drop, length-drop}
-use Rattle.kernel_types.specs.declared.faults.KernelFault.{KernelFault}
+use Rattle.kernel_model.specs.declared.types.faults.KernelFault.{KernelFault}
 use Rattle.mesh_decl.specs.Mesh.{MeshValue, map_count, set_size, IsMesh, IsMapAt}
 use Rattle.schedule_model.specs.Cells.{Cell, Data, Variable, Store}
 use Rattle.schedule_model.specs.Effects.{Ran, Faulted, Finished}

@@ -4,7 +4,7 @@ use Rattle.std.specs.Fmt.{decimal}
 use Rattle.mesh_decl.specs.declared.decl.DatDecl.{DatDecl}
 use Rattle.mesh_decl.specs.Mesh.{dat_count}
 use Rattle.schedule_model.specs.Cells.{Variable, Store}
-use Rattle.kernel_types.specs.View.{Scalar}
+use Rattle.kernel_model.specs.View.{Scalar}
 use Rattle.checkpoint.specs.declared.states.State.{State}
 use Rattle.bound_program.specs.Values.{Line, Print, ItemValue, Reduce, Host, VarValue, BoundValue}
 use Rattle.run_model.specs.Windows.{numbers}

@@ -1,6 +1,6 @@
 -- A run is that of its head and then that of its tail.
 use Rattle.std.specs.Prelude.{◌≡◌, ℕ, ◌+◌, ◌-◌, ◌≤◌, ◌<◌, ◌^◌, List, length, ◌++◌, true, pos, slice_index_or}
-use Rattle.kernel_types.specs.declared.faults.KernelFault.{KernelFault}
+use Rattle.kernel_model.specs.declared.types.faults.KernelFault.{KernelFault}
 use Rattle.schedule_model.specs.Cells.{Variable, Store}
 use Rattle.schedule_model.specs.Program.{Program}
 use Rattle.schedule_model.specs.Sequential.{Stop, Seq, Stopped, Going, seq, sequential}

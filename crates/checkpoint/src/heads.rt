@@ -2,7 +2,7 @@
 
 ghost use Rattle.std.specs.Prelude.{◌≡◌, ◌<◌, ◌+◌, ◌^◌, ◌++◌, ◌∷◌, [], ℕ, List, length, map, codes, IfOk, OnOk, IfErr, IsTrue, ◌↔◌};
 ghost use Rattle.std.specs.Fmt.{decimal};
-ghost use Rattle.kernel_types.specs.View.{rexpr_of, Scalar};
+ghost use Rattle.kernel_model.specs.View.{rexpr_of, Scalar};
 ghost use Rattle.mesh_decl.specs.Mesh.{dat_count};
 ghost use Rattle.bound_program.specs.Values.{BoundValue, Host, act_of, closed_act, item_of, var_of, bound_of};
 ghost use Rattle.bound_program.specs.Fits.{Fits};
@@ -13,7 +13,7 @@ ghost use Rattle.checkpoint.specs.Cut.{CanCut, places, says, says_var, says_vars
 use crate::laws::heads_fit;
 use crate::states::HeadRefusal;
 use bound_program::{Act, Bound, Item, Text, ToldAct, Var};
-use kernel_types::RExpr;
+use kernel_model::types::RExpr;
 use mesh_decl::Mesh;
 use op_num::{OutOfMemory, put_u64};
 use std::alloc::{AllocError, Global};

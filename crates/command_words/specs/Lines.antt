@@ -5,7 +5,7 @@ use Rattle.std.specs.Fmt.{decimal}
 use Rattle.c_lex.specs.declared.tokens.Pos.{Pos}
 use Rattle.op_num.specs.declared.refusals.Fault.{Fault}
 use Rattle.op_num.specs.declared.refusals.Fault.TheVariants as fault
-use Rattle.kernel_types.specs.declared.faults.KernelFault.{KernelFault}
+use Rattle.kernel_model.specs.declared.types.faults.KernelFault.{KernelFault}
 use Rattle.mesh_decl.specs.declared.text.entry.TheConstants.{MESH_BYTES, MESH_VALUES}
 use Rattle.bound_program.specs.Limits.{max_sets, max_maps, max_dats, max_size, max_dim, max_cells, max_arguments, max_trace, max_weight}
 use Rattle.schedule_model.specs.Sequential.{Stop}

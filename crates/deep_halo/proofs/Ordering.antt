@@ -2,7 +2,7 @@
 use Rattle.std.proofs.Common.{◌≡◌, ◌<◌, ◌+◌, ⊎_elim, ℕ, zero, suc, ℤ, pos, true, false, List, [], ◌∷◌, map, length, get_or, Option, Some, None, refl, sym, ap, ap₂, subst, ◌∙◌, arith}
 use Rattle.std.proofs.lemmas.Bool.{false≢true}
 use Rattle.std.proofs.lemmas.Option.{none-some}
-use Rattle.kernel_types.specs.declared.faults.KernelFault.{KernelFault}
+use Rattle.kernel_model.specs.declared.types.faults.KernelFault.{KernelFault}
 use Rattle.mesh_decl.specs.declared.owners.Owners.{Owners}
 use Rattle.mesh_decl.specs.Mesh.{IsInRange, set_size}
 use Rattle.schedule_model.specs.Cells.{Cell, Data, Variable, VarCell, Store}

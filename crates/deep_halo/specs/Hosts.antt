@@ -1,6 +1,6 @@
 -- What a statement of `main` that is no loop makes of the memory and the output.
 use Rattle.std.specs.Prelude.{◌≡◌, ◌<◌, ◌++◌, ℕ, ℤ, pos, true, List, Result, Ok, Err, get_or}
-use Rattle.kernel_types.specs.declared.faults.KernelFault.{KernelFault}
+use Rattle.kernel_model.specs.declared.types.faults.KernelFault.{KernelFault}
 use Rattle.mesh_decl.specs.declared.owners.Owners.{Owners}
 use Rattle.schedule_model.specs.Cells.{Data, Variable, DatCell, VarCell}
 use Rattle.schedule_model.specs.Program.{Hosted, Halts, Goes}

@@ -1,6 +1,6 @@
 -- A Free loop of a chain.
 use Rattle.std.specs.Prelude.{◌≡◌, ℕ, ℤ, List, length}
-use Rattle.kernel_types.specs.declared.faults.KernelFault.{KernelFault}
+use Rattle.kernel_model.specs.declared.types.faults.KernelFault.{KernelFault}
 use Rattle.bound_program.specs.Values.{BoundValue}
 use Rattle.mesh_decl.specs.declared.owners.Owners.{Owners}
 use Rattle.run_model.specs.Kernels.{constants}

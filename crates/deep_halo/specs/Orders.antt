@@ -1,6 +1,6 @@
 -- The owners' pairs and the variables in the memory, and what an Ordered loop makes of them.
 use Rattle.std.specs.Prelude.{◌≡◌, ◌<◌, ◌≢◌, ℕ, ℤ, pos, true, List, Option, Some, None, length, get_or}
-use Rattle.kernel_types.specs.declared.faults.KernelFault.{KernelFault}
+use Rattle.kernel_model.specs.declared.types.faults.KernelFault.{KernelFault}
 use Rattle.mesh_decl.specs.declared.owners.Owners.{Owners}
 use Rattle.schedule_model.specs.Cells.{Cell, Data, DatCell, Store}
 use Rattle.schedule_model.specs.Sequential.{Loop, Broke, Ran_through}

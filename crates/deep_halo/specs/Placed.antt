@@ -1,9 +1,9 @@
 -- The run of a loop's element on one memory, in which the cells of its windows have places.
 use Rattle.std.specs.Prelude.{◌≡◌, ◌≢◌, ◌<◌, ◌≤◌, ◌+◌, ℕ, ℤ, pos, Bool, true, false, All, List, length, map, get_or, Option, Some, None}
-use Rattle.kernel_types.specs.declared.faults.KernelFault.{KernelFault}
-use Rattle.kernel_types.specs.declared.kernels.RKernel.{RKernel}
-use Rattle.kernel_types.specs.declared.views.frame.Place.{Place}
-use Rattle.kernel_types.specs.Framed.{PlacesIn}
+use Rattle.kernel_model.specs.declared.types.faults.KernelFault.{KernelFault}
+use Rattle.kernel_model.specs.declared.types.kernels.RKernel.{RKernel}
+use Rattle.kernel_model.specs.declared.types.views.frame.Place.{Place}
+use Rattle.kernel_model.specs.Framed.{PlacesIn}
 use Rattle.schedule_model.specs.Cells.{Cell, Store}
 use Rattle.schedule_model.specs.Effects.{Ran, Faulted, Finished}
 use Rattle.flat_machine.specs.Layout.{among}

@@ -1,6 +1,6 @@
 -- What a run under way is to the machine of chains.
 use Rattle.std.specs.Prelude.{◌≡◌, ◌<◌, ◌≢◌, ℕ, zero, suc, true, pos, Option, Some, None, IfSome, is_some, length}
-use Rattle.kernel_types.specs.declared.faults.KernelFault.{KernelFault}
+use Rattle.kernel_model.specs.declared.types.faults.KernelFault.{KernelFault}
 use Rattle.mesh_decl.specs.declared.owners.Owners.{Owners}
 use Rattle.schedule_model.specs.Machine.{unit_at}
 use Rattle.schedule_model.specs.Cells.{VarCell}

@@ -3,7 +3,7 @@
 ghost use Rattle.std.specs.Prelude.{◌≡◌, ◌<◌, ◌++◌, [], ℕ, OnOk, cond, is_some, length, codes};
 ghost use Rattle.std.specs.List.{flat_map};
 ghost use Rattle.std.specs.Fmt.{decimal};
-ghost use Rattle.kernel_types.specs.declared.faults.KernelFault.{KernelFault as Fault};
+ghost use Rattle.kernel_model.specs.declared.types.faults.KernelFault.{KernelFault as Fault};
 ghost use Rattle.mesh_decl.specs.Mesh.{dat_count, dat_set, dat_name, set_size};
 ghost use Rattle.gather.specs.Dump.{copy_text};
 ghost use Rattle.chain_model.specs.Machine.{ChainState, Holding};

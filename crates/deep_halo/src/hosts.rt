@@ -18,7 +18,7 @@ use crate::programs::Program;
 use bound_program::{Act, ToldAct};
 use gather::host_acts::{Variables, run_act};
 use gather::print_dat;
-use kernel_types::KernelFault;
+use kernel_model::types::KernelFault;
 use op_num::{OutOfMemory, Text};
 use std::alloc::Global;
 

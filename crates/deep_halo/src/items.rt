@@ -1,7 +1,7 @@
 // Items, one after another.
 
 ghost use Rattle.std.specs.Prelude.{◌≡◌, ◌<◌, ◌≤◌, ◌+◌, IfOk, length, false};
-ghost use Rattle.kernel_types.specs.declared.faults.KernelFault.{KernelFault as Fault};
+ghost use Rattle.kernel_model.specs.declared.types.faults.KernelFault.{KernelFault as Fault};
 ghost use Rattle.schedule_model.specs.Program.{is_free, Free, Reduce};
 ghost use Rattle.bound_program.specs.Values as bound;
 ghost use Rattle.run_model.specs.Programs.{item_at, kind_of};
@@ -19,7 +19,7 @@ use crate::programs::Program;
 use crate::state::State;
 use crate::supply::begin_chain;
 use bound_program::Item;
-use kernel_types::KernelFault;
+use kernel_model::types::KernelFault;
 use op_num::OutOfMemory;
 use rank_state::rank_memory::stop::Stop;
 use std::alloc::Global;

@@ -25,7 +25,7 @@ use crate::state::State;
 use bound_program::Bound;
 use chain_needs::chain_slices::Slices;
 use kernel_code::{Code, compile_all, room_for};
-use kernel_types::KernelFault;
+use kernel_model::types::KernelFault;
 use mesh_decl::Owners;
 use op_num::OutOfMemory;
 use rank_state::rank_memory::stop::Stop;

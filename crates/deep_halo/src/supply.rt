@@ -1,7 +1,7 @@
 // The exchange before a chain.
 
 ghost use Rattle.std.specs.Prelude.{◌≡◌, ◌<◌, ℕ, true, is_some, length};
-ghost use Rattle.kernel_types.specs.declared.faults.KernelFault.{KernelFault as Fault};
+ghost use Rattle.kernel_model.specs.declared.types.faults.KernelFault.{KernelFault as Fault};
 ghost use Rattle.run_model.specs.Programs.{program_of};
 ghost use Rattle.chain_model.specs.Chains.{follows_free};
 ghost use Rattle.chain_model.specs.Machine.{ChainState, exchanged, supplied};

@@ -8,9 +8,9 @@ use Rattle.c_tree.specs.declared.hosts.LoopArg.{LoopArg}
 use Rattle.c_tree.specs.Places.{pos_of}
 use Rattle.c_tree.specs.Tree.{ProgramTree}
 use Rattle.c_tree.specs.Reads.{Reads}
-use Rattle.kernel_types.specs.declared.kernels.RKernel.{RKernel}
-use Rattle.kernel_types.specs.declared.kernels.Resolved.{Resolved}
-use Rattle.kernel_types.specs.View.{resolved_of}
+use Rattle.kernel_model.specs.declared.types.kernels.RKernel.{RKernel}
+use Rattle.kernel_model.specs.declared.types.kernels.Resolved.{Resolved}
+use Rattle.kernel_model.specs.View.{resolved_of}
 use Rattle.name_resolution.specs.Programs.{Resolves}
 use Rattle.explanations.specs.declared.error_loops.judgements.Judgement.{Judgement}
 use Rattle.explanations.specs.Calls.{Call, all_loops_of}

@@ -2,13 +2,13 @@
 use Rattle.std.specs.Prelude.{◌≡◌, map, ℕ, ℤ, pos, List, [], ◌∷◌, ◌++◌, Option, Some, None, Result, Ok, Err, option_map, slice_index_or}
 use Rattle.c_lex.specs.declared.tokens.Pos.{Pos}
 use Rattle.c_tree.specs.declared.declarations.AssignOp.{AssignOp}
-use Rattle.kernel_types.specs.declared.faults.KernelFault.{KernelFault}
+use Rattle.kernel_model.specs.declared.types.faults.KernelFault.{KernelFault}
 use Rattle.kernel_model.specs.Meaning.{on_value, index_in, stored}
 use Rattle.mesh_decl.specs.Printed.{printed_line}
 use Rattle.schedule_model.specs.Cells.{Store}
 use Rattle.schedule_model.specs.Program.{Hosted, Halts, Goes}
 use Rattle.schedule_model.specs.Sequential.{with_variables}
-use Rattle.kernel_types.specs.View.{RExprTree, rexpr_of}
+use Rattle.kernel_model.specs.View.{RExprTree, rexpr_of}
 use Rattle.bound_program.specs.HostExpr.{value, closed}
 use Rattle.bound_program.specs.Values.{BoundValue, ActValue, Assign, var_of}
 use Rattle.run_model.specs.Memory.{Holds}

@@ -8,7 +8,7 @@ mod starts;
 
 pub use acts::{Variables, run_act};
 pub use bound_program::{Act, Var};
-pub use kernel_types::KernelFault;
+pub use kernel_model::types::KernelFault;
 pub use laws::variables_hold;
 pub use op_num::OutOfMemory;
 pub use starts::variable_starts;

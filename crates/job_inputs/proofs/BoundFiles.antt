@@ -5,7 +5,7 @@ use Rattle.op_outside.specs.Outside.{Files}
 use Rattle.job_inputs.specs.Readings.{Readings, names_of, Finds}
 use Rattle.job_inputs.proofs.kept_files.Finding.{finds_on, finds_weaker}
 use Rattle.c_tree.specs.Tree.{ProgramTree}
-use Rattle.kernel_types.specs.declared.kernels.Resolved.{Resolved}
+use Rattle.kernel_model.specs.declared.types.kernels.Resolved.{Resolved}
 use Rattle.bound_program.specs.Values.{BoundValue}
 use Rattle.mesh_gen.specs.Sample.{sample_source, sample_mesh}
 use Rattle.command_words.specs.Refusal.{Refusal, SourceBytes, MeshBytes}

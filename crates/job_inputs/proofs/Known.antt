@@ -5,8 +5,8 @@ use Rattle.std.proofs.lemmas.Bool.{cases_lt}
 use Rattle.std.proofs.lemmas.List.Elements.{Contains-push_cases}
 use Rattle.indexmap.specs.IndexSet.{insert_key}
 use Rattle.indexmap.proofs.CallerLemmas.{Contains-list_any}
-use Rattle.kernel_types.specs.declared.kernels.RKernel.{RKernel}
-use Rattle.kernel_types.specs.declared.statements.RStmt.{RStmt}
+use Rattle.kernel_model.specs.declared.types.kernels.RKernel.{RKernel}
+use Rattle.kernel_model.specs.declared.types.statements.RStmt.{RStmt}
 use Rattle.kernel_model.specs.Obeys as model
 use Rattle.kernel_model.specs.Obeys.{Obeys, KernelObeys, mode_at, Assigned, Event, Allowed, AllAllowed, Reads, Assigns, Adds, Changes, Owns, Merges, after_event, events, no_counters, MayRead, MayAssign, MayAdd, MayChange, MayOwn, MayMerge}
 use Rattle.kernel_model.specs.Refusals.{argument_of}

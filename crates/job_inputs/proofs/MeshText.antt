@@ -1,7 +1,7 @@
 -- The refusals of what the text of a mesh spells, as those of the chain over it.
 use Rattle.std.proofs.Common.{ℕ, List, Ok, Err, inl, inr, refl}
 use Rattle.c_tree.specs.Tree.{ProgramTree}
-use Rattle.kernel_types.specs.declared.kernels.Resolved.{Resolved}
+use Rattle.kernel_model.specs.declared.types.kernels.Resolved.{Resolved}
 use Rattle.mesh_decl.specs.Spelling.{Named}
 use Rattle.bound_program.specs.Values.{BoundValue}
 use Rattle.command_words.specs.Lines.{refused}

@@ -3,8 +3,8 @@ use Rattle.std.proofs.Common.{◌≡◌, ◌<◌, ◌≤◌, ◌+◌, ℕ, zero,
 use Rattle.std.proofs.Math.Seq.{drop-cons}
 use Rattle.std.proofs.lemmas.List.{length-map, get_or-map, take-append-drop, take_all, map-append}
 use Rattle.std.proofs.lemmas.List.Elements.{All-nil, All-cons}
-use Rattle.kernel_types.specs.declared.kernels.RKernel.{RKernel}
-use Rattle.kernel_types.specs.Resolved.{IsResolved}
+use Rattle.kernel_model.specs.declared.types.kernels.RKernel.{RKernel}
+use Rattle.kernel_model.specs.Resolved.{IsResolved}
 use Rattle.kernel_model.specs.Obeys.{Mode, KernelObeys, mode_at}
 use Rattle.kernel_model.specs.Refusals.{IsRefusal}
 use Rattle.access_check.specs.declared.modes.Mode as code

@@ -5,7 +5,7 @@ use Rattle.op_outside.specs.Outside.{Files}
 use Rattle.job_inputs.specs.Seen.{Seen, Agree, Grows, IsSight}
 use Rattle.job_inputs.specs.Readings.{Readings, names_of, IsSeen, Finds}
 use Rattle.c_tree.specs.Tree.{ProgramTree}
-use Rattle.kernel_types.specs.declared.kernels.Resolved.{Resolved}
+use Rattle.kernel_model.specs.declared.types.kernels.Resolved.{Resolved}
 use Rattle.bound_program.specs.Values.{BoundValue}
 use Rattle.command_words.specs.Refusal.{Refusal, CannotRead}
 use Rattle.command_words.specs.Lines as lines

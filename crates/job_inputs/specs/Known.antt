@@ -1,7 +1,7 @@
 -- How a loop lets its kernel use a parameter.
 use Rattle.std.specs.Prelude.{◌≡◌, ℕ, List, length, map, Contains, Some, slice_index_or}
 use Rattle.op_num.specs.declared.reductions.access.Access.TheVariants.{Read}
-use Rattle.kernel_types.specs.declared.kernels.RKernel.{RKernel}
+use Rattle.kernel_model.specs.declared.types.kernels.RKernel.{RKernel}
 use Rattle.kernel_model.specs.Obeys.{KernelObeys}
 use Rattle.access_check.specs.declared.modes.Mode.{Mode}
 use Rattle.access_check.specs.Modes.{model_of}

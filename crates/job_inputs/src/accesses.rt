@@ -1,7 +1,7 @@
 // The accesses of kernels: each loop's kernel keeps to those of its arguments.
 
 ghost use Rattle.std.specs.Prelude.{◌≡◌, ◌<◌, ℕ, List, map, length, All, Ok, Err, OnOk, IfOk, IfErr};
-ghost use Rattle.kernel_types.specs.declared.kernels.RKernel.{RKernel};
+ghost use Rattle.kernel_model.specs.declared.types.kernels.RKernel.{RKernel};
 ghost use Rattle.kernel_model.specs.Obeys as model;
 ghost use Rattle.kernel_model.specs.Refusals.{Rule, IsRefusal, number_of};
 ghost use Rattle.access_check.specs.Modes.{model_of};

@@ -18,7 +18,7 @@ use bound_program::Bound;
 use bound_program::refusals::{BindRefusal, Counted};
 use c_tree::{Host, OpCall, Pos, Program};
 use command_words::answer_lines::{Failure, Halt, Limit, Refusal, most};
-use kernel_types::Resolved;
+use kernel_model::types::Resolved;
 use loop_bind::{bind, bound_maps_are_narrow, resolved_sources_are, spelled_entries_fit};
 use mesh_decl::{Entries, MeshRefusal, read_mesh};
 use op_num::Name;

@@ -25,7 +25,7 @@ use bound_program::Bound;
 use c_tree::Program;
 use command_words::answer_lines::{Failure, Halt, Limit};
 use command_words::{Input, Side};
-use kernel_types::Resolved;
+use kernel_model::types::Resolved;
 use mesh_gen::{SampleRefusal, sample};
 use op_outside::Shelf;
 use std::alloc::Global;

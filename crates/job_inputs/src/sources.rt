@@ -11,7 +11,7 @@ ghost use Rattle.command_words.specs.Halts.{StopsWhere};
 use c_reader::{SourceRefusal, read_lexed, read_program};
 use c_tree::{LexRefusal, Program, Token, lex};
 use command_words::answer_lines::{Failure, Halt, Refusal};
-use kernel_types::Resolved;
+use kernel_model::types::Resolved;
 use name_resolution::{TypeRefusal, resolve};
 use std::alloc::Global;
 

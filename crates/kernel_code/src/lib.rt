@@ -18,7 +18,7 @@ mod stores;
 
 pub use code::{Code, compile, run, run_on};
 pub use codes::{compile_all, room_for};
-pub use kernel_types::{AssignOp, BinaryOp, Fault, KernelFault, MinMax, Pos, UnaryOp};
+pub use kernel_model::types::{AssignOp, BinaryOp, Fault, KernelFault, MinMax, Pos, UnaryOp};
 pub use laws::codes_mean;
 pub use op::{Element, Op};
 pub use part::Part;

@@ -7,10 +7,10 @@ use Rattle.c_tree.specs.declared.expressions.BinaryOp.TheVariants as binary
 use Rattle.c_tree.specs.declared.expressions.MinMax.TheVariants as min_max
 use Rattle.c_tree.specs.declared.declarations.AssignOp.TheVariants as assign
 use Rattle.op_num.specs.Reduction.{Add, Min}
-use Rattle.kernel_types.specs.declared.expressions.ElementForm.TheVariants as form
-use Rattle.kernel_types.specs.declared.expressions.RExpr.{RExpr}
-use Rattle.kernel_types.specs.declared.expressions.RExpr.TheVariants.{Number, Scalar, Arg', Binary', Choice', Paren', Extremum'}
-use Rattle.kernel_types.specs.declared.statements.RStmt.{Declare, SetArg, If', For', end_of-RStmt, more_of-RStmt}
+use Rattle.kernel_model.specs.declared.types.expressions.ElementForm.TheVariants as form
+use Rattle.kernel_model.specs.declared.types.expressions.RExpr.{RExpr}
+use Rattle.kernel_model.specs.declared.types.expressions.RExpr.TheVariants.{Number, Scalar, Arg', Binary', Choice', Paren', Extremum'}
+use Rattle.kernel_model.specs.declared.types.statements.RStmt.{Declare, SetArg, If', For', end_of-RStmt, more_of-RStmt}
 use Rattle.kernel_model.specs.Numbers.{fault, sum, difference}
 use Rattle.kernel_model.specs.Meaning.{Target, Done, Faulted, meaning, meaning_of_all}
 use Rattle.op_num.specs.Access.{OpRead, OpWrite, OpReduce}

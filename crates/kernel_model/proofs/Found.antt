@@ -5,8 +5,8 @@ use Rattle.std.proofs.lemmas.Bool.{cases_lt}
 use Rattle.std.proofs.Math.ListN.{get_or-eq_default}
 use Rattle.c_lex.specs.declared.tokens.Pos.{Pos}
 use Rattle.op_num.specs.Access.{OpRead, OpWrite}
-use Rattle.kernel_types.specs.declared.kernels.RKernel.{RKernel}
-use Rattle.kernel_types.specs.declared.statements.RStmt.{RStmt}
+use Rattle.kernel_model.specs.declared.types.kernels.RKernel.{RKernel}
+use Rattle.kernel_model.specs.declared.types.statements.RStmt.{RStmt}
 use Rattle.kernel_model.specs.Obeys.{Mode, mode_at, no_mode, no_counters, Event, Path, events, Assigned, HasAssigned, after_event, assigned_after}
 use Rattle.kernel_model.specs.Refusals.{Rule, NotAllWritten, argument_of, place_of, opposite, Breaks, KernelBreaks, parameter_place}
 use Rattle.kernel_model.specs.Walk.{Breach, Covered, none_covered, covered_after, stmt_found, all_below, leaves_unwritten, ends_found, walk, IsFound, WalkFinds, noted_if}

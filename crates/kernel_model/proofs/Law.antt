@@ -3,8 +3,8 @@ use Rattle.std.proofs.Common.{◌≡◌, ◌≢◌, ℕ, zero, suc, ℤ, pos, �
 use Rattle.std.specs.Prelude.{slice_index_or, replicate}
 use Rattle.std.proofs.lemmas.List.{length-replicate}
 use Rattle.op_num.specs.Reduction.{Reduction, merged, unit_of}
-use Rattle.kernel_types.specs.declared.statements.RStmt.{RStmt, Block', Declare, SetScalar, SetLocal, SetArg, If', For', Row_of-RStmt, end_of-RStmt, more_of-RStmt}
-use Rattle.kernel_types.specs.Resolved.{StmtWithin, RowWithin, StoresOnly, RowStoresOnly, CountersKept, RowCountersKept}
+use Rattle.kernel_model.specs.declared.types.statements.RStmt.{RStmt, Block', Declare, SetScalar, SetLocal, SetArg, If', For', Row_of-RStmt, end_of-RStmt, more_of-RStmt}
+use Rattle.kernel_model.specs.Resolved.{StmtWithin, RowWithin, StoresOnly, RowStoresOnly, CountersKept, RowCountersKept}
 use Rattle.kernel_model.specs.Numbers.{is_zero}
 use Rattle.kernel_model.specs.Meaning.{Store, Target, target_at, read_arg, index_in, value_of, Outcome, Done, Faulted, stored, turns, meaning, meaning_of_all, without_locals}
 use Rattle.op_num.specs.Access.{OpRead, OpWrite, OpRw}

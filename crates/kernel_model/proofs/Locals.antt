@@ -4,11 +4,11 @@ use Rattle.std.specs.Prelude.{nat_lt, slice_index_or}
 use Rattle.std.proofs.lemmas.Bool.{ltb-true}
 use Rattle.op_num.specs.declared.refusals.Fault.TheVariants.{Index}
 use Rattle.c_lex.specs.declared.tokens.Pos.{Pos}
-use Rattle.kernel_types.specs.declared.faults.KernelFault.{KernelFault}
-use Rattle.kernel_types.specs.declared.statements.RStmt.{RStmt, Block', Declare, SetScalar, SetLocal, SetArg, If', For', Row_of-RStmt, end_of-RStmt, more_of-RStmt}
+use Rattle.kernel_model.specs.declared.types.faults.KernelFault.{KernelFault}
+use Rattle.kernel_model.specs.declared.types.statements.RStmt.{RStmt, Block', Declare, SetScalar, SetLocal, SetArg, If', For', Row_of-RStmt, end_of-RStmt, more_of-RStmt}
 use Rattle.kernel_model.specs.Numbers.{fault, is_zero}
 use Rattle.kernel_model.specs.Meaning.{Store, Target, target_at, index_in, value_of, Outcome, Done, Faulted, then_do, with_value, stored, cleared, turns, meaning, meaning_of_all, read_arg}
-use Rattle.kernel_types.specs.Resolved.{StoresOnly, RowStoresOnly}
+use Rattle.kernel_model.specs.Resolved.{StoresOnly, RowStoresOnly}
 
 abbrev pub OnDone : (List ℤ → Type 0) → Outcome → Type 0
 OnDone P (Done s ls) = P ls

@@ -5,7 +5,7 @@ use Rattle.c_tree.specs.declared.expressions.MinMax.{MinMax}
 use Rattle.c_tree.specs.declared.expressions.MinMax.TheVariants as min_max
 use Rattle.c_tree.specs.declared.declarations.AssignOp.{AssignOp}
 use Rattle.c_tree.specs.declared.declarations.AssignOp.TheVariants as assign
-use Rattle.kernel_types.specs.declared.statements.RStmt.{RStmt, Block', Declare, SetScalar, SetLocal, SetArg, If', For', Row_of-RStmt, end_of-RStmt, more_of-RStmt}
+use Rattle.kernel_model.specs.declared.types.statements.RStmt.{RStmt, Block', Declare, SetScalar, SetLocal, SetArg, If', For', Row_of-RStmt, end_of-RStmt, more_of-RStmt}
 use Rattle.kernel_model.specs.Numbers.{is_zero}
 use Rattle.kernel_model.specs.Meaning.{Store, Target, target_at, store_arg, value_of, stored, turns, meaning, meaning_of_all, read_arg}
 use Rattle.op_num.specs.Access.{OpRead}

@@ -8,9 +8,9 @@ use Rattle.c_tree.specs.declared.expressions.MinMax.TheVariants as min_max
 use Rattle.c_tree.specs.declared.declarations.AssignOp.{AssignOp}
 use Rattle.c_tree.specs.declared.declarations.AssignOp.TheVariants as assign
 use Rattle.op_num.specs.Reduction.{Reduction, Add, Min, Max}
-use Rattle.kernel_types.specs.declared.expressions.ElementForm.{ElementForm}
-use Rattle.kernel_types.specs.declared.expressions.RExpr.{RExpr}
-use Rattle.kernel_types.specs.declared.expressions.RExpr.TheVariants.{Arg', Extremum'}
+use Rattle.kernel_model.specs.declared.types.expressions.ElementForm.{ElementForm}
+use Rattle.kernel_model.specs.declared.types.expressions.RExpr.{RExpr}
+use Rattle.kernel_model.specs.declared.types.expressions.RExpr.TheVariants.{Arg', Extremum'}
 use Rattle.kernel_model.specs.Numbers.{Value, extremum, reduction_of}
 use Rattle.kernel_model.specs.Meaning.{Store, Target, target_at, read_arg, store_arg, on_value, and_then, index_in, value_of, Outcome, Done, with_value, stored}
 use Rattle.op_num.specs.Access.{Access, OpReduce}

@@ -4,8 +4,8 @@ use Rattle.std.specs.Prelude.{nat_lt, slice_index_or}
 use Rattle.std.proofs.lemmas.Bool.{ltb-true}
 use Rattle.c_lex.specs.declared.tokens.Pos.{Pos}
 use Rattle.op_num.specs.declared.refusals.Fault.TheVariants.{Index}
-use Rattle.kernel_types.specs.declared.expressions.RExpr.{RExpr}
-use Rattle.kernel_types.specs.declared.expressions.RExpr.TheVariants.{Number, Scalar, Constant, Arg', Local', Const', Unary', Binary', Choice', Paren', Extremum', Absolute'}
+use Rattle.kernel_model.specs.declared.types.expressions.RExpr.{RExpr}
+use Rattle.kernel_model.specs.declared.types.expressions.RExpr.TheVariants.{Number, Scalar, Constant, Arg', Local', Const', Unary', Binary', Choice', Paren', Extremum', Absolute'}
 use Rattle.kernel_model.specs.Numbers.{Value, fault, truth, is_zero, not, is_settled, is_lazy, apply, apply_unary, extremum, magnitude}
 use Rattle.kernel_model.specs.Meaning.{Store, Target, target_at, read_arg, and_then, index_in, value_of}
 use Rattle.op_num.specs.Access.{Access, OpRead, OpWrite, OpRw, OpReduce}

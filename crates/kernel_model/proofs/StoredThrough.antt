@@ -4,9 +4,9 @@ use Rattle.std.specs.Prelude.{slice_index_or}
 use Rattle.std.proofs.lemmas.Bool.{eq-eqb, or_left, or_right}
 use Rattle.c_lex.specs.declared.tokens.Pos.{Pos}
 use Rattle.c_tree.specs.declared.declarations.AssignOp.TheVariants as assign
-use Rattle.kernel_types.specs.declared.expressions.ElementForm.TheVariants as form
-use Rattle.kernel_types.specs.declared.expressions.RExpr.TheVariants.{Number, Arg'}
-use Rattle.kernel_types.specs.declared.statements.RStmt.{RStmt, Block', Declare, SetScalar, SetLocal, SetArg, If', For', Row_of-RStmt, end_of-RStmt, more_of-RStmt}
+use Rattle.kernel_model.specs.declared.types.expressions.ElementForm.TheVariants as form
+use Rattle.kernel_model.specs.declared.types.expressions.RExpr.TheVariants.{Number, Arg'}
+use Rattle.kernel_model.specs.declared.types.statements.RStmt.{RStmt, Block', Declare, SetScalar, SetLocal, SetArg, If', For', Row_of-RStmt, end_of-RStmt, more_of-RStmt}
 use Rattle.kernel_model.specs.Numbers.{is_zero}
 use Rattle.kernel_model.specs.Meaning.{Store, Target, target_at, value_of, Outcome, stored, turns, meaning, meaning_of_all, read_arg, store_arg}
 use Rattle.kernel_model.specs.StoredThrough.{stores_through, row_stores_through, UnstoredStay}

@@ -11,9 +11,9 @@ use Rattle.c_tree.specs.declared.expressions.UnaryOp.{UnaryOp}
 use Rattle.c_tree.specs.declared.expressions.UnaryOp.TheVariants as unary
 use Rattle.c_tree.specs.declared.expressions.MinMax.{MinMax}
 use Rattle.c_tree.specs.declared.expressions.MinMax.TheVariants as min_max
-use Rattle.kernel_types.specs.declared.faults.KernelFault.{KernelFault}
-use Rattle.kernel_types.specs.declared.expressions.RExpr.{RExpr}
-use Rattle.kernel_types.specs.declared.expressions.RExpr.TheVariants.{Number, Scalar, Constant, Arg', Local', Const', Unary', Binary', Choice', Paren', Extremum', Absolute'}
+use Rattle.kernel_model.specs.declared.types.faults.KernelFault.{KernelFault}
+use Rattle.kernel_model.specs.declared.types.expressions.RExpr.{RExpr}
+use Rattle.kernel_model.specs.declared.types.expressions.RExpr.TheVariants.{Number, Scalar, Constant, Arg', Local', Const', Unary', Binary', Choice', Paren', Extremum', Absolute'}
 use Rattle.kernel_model.specs.Numbers.{Value, fault, truth, is_zero, is_shift, apply, apply_unary, is_settled, extremum, not}
 use Rattle.kernel_model.specs.Meaning.{Store, Target, target_at, read_arg, on_value, and_then, index_in, value_of}
 use Rattle.kernel_model.specs.SameTokens.{same_form, same_op, same_unary, same_which, same_tokens}

@@ -2,12 +2,12 @@
 use Rattle.std.proofs.Common.{◌≡◌, ℤ, pos, ◌+◌, ◌-◌, List, cond, Ok, refl, sym, ap, ◌∙◌, slice_set}
 use Rattle.std.specs.Prelude.{slice_index_or, replicate}
 use Rattle.std.proofs.Math.Path.{fun_ext}
-use Rattle.kernel_types.specs.declared.expressions.RExpr.{RExpr}
-use Rattle.kernel_types.specs.declared.expressions.RExpr.TheVariants.{Number, Scalar, Constant, Arg', Local', Const', Unary', Binary', Choice', Paren', Extremum', Absolute'}
-use Rattle.kernel_types.specs.declared.statements.RStmt.{RStmt, Block', Declare, SetScalar, SetLocal, SetArg, If', For', Row_of-RStmt, end_of-RStmt, more_of-RStmt}
-use Rattle.kernel_types.specs.declared.kernels.RKernel.{RKernel}
-use Rattle.kernel_types.specs.View as tree
-use Rattle.kernel_types.specs.View.{RExprTree, RStmtTree, RStmtTrees, RKernelTree, rexpr_of, rstmt_of, rstmts_of_row, rkernel_of}
+use Rattle.kernel_model.specs.declared.types.expressions.RExpr.{RExpr}
+use Rattle.kernel_model.specs.declared.types.expressions.RExpr.TheVariants.{Number, Scalar, Constant, Arg', Local', Const', Unary', Binary', Choice', Paren', Extremum', Absolute'}
+use Rattle.kernel_model.specs.declared.types.statements.RStmt.{RStmt, Block', Declare, SetScalar, SetLocal, SetArg, If', For', Row_of-RStmt, end_of-RStmt, more_of-RStmt}
+use Rattle.kernel_model.specs.declared.types.kernels.RKernel.{RKernel}
+use Rattle.kernel_model.specs.View as tree
+use Rattle.kernel_model.specs.View.{RExprTree, RStmtTree, RStmtTrees, RKernelTree, rexpr_of, rstmt_of, rstmts_of_row, rkernel_of}
 use Rattle.kernel_model.specs.Numbers.{Value, truth, is_zero, not, apply, apply_unary, is_settled, extremum, magnitude}
 use Rattle.kernel_model.specs.Meaning.{Store, Target, target_at, read_arg, store_arg, and_then, index_in, value_of, Outcome, Done, then_do, with_value, stored, cleared, turns, meaning, meaning_of_all, Ran, without_locals, kernel_meaning}
 

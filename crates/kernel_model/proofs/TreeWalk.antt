@@ -7,13 +7,13 @@ use Rattle.c_lex.specs.declared.tokens.Pos.{Pos}
 use Rattle.c_tree.specs.declared.expressions.MinMax.{MinMax}
 use Rattle.c_tree.specs.declared.declarations.AssignOp.{AssignOp}
 use Rattle.c_tree.specs.declared.declarations.AssignOp.TheVariants as assign
-use Rattle.kernel_types.specs.declared.expressions.ElementForm.{ElementForm}
-use Rattle.kernel_types.specs.declared.expressions.RExpr.{RExpr}
-use Rattle.kernel_types.specs.declared.expressions.RExpr.TheVariants.{Number, Scalar, Constant, Arg', Local', Const', Unary', Binary', Choice', Paren', Extremum', Absolute'}
-use Rattle.kernel_types.specs.declared.statements.RStmt.{RStmt, Block', Declare, SetScalar, SetLocal, SetArg, If', For', Row_of-RStmt, end_of-RStmt, more_of-RStmt}
-use Rattle.kernel_types.specs.declared.kernels.RKernel.{RKernel}
-use Rattle.kernel_types.specs.View as tree
-use Rattle.kernel_types.specs.View.{RExprTree, RStmtTree, RStmtTrees, RKernelTree, rexpr_of, rstmt_of, rstmts_of_row, rkernel_of}
+use Rattle.kernel_model.specs.declared.types.expressions.ElementForm.{ElementForm}
+use Rattle.kernel_model.specs.declared.types.expressions.RExpr.{RExpr}
+use Rattle.kernel_model.specs.declared.types.expressions.RExpr.TheVariants.{Number, Scalar, Constant, Arg', Local', Const', Unary', Binary', Choice', Paren', Extremum', Absolute'}
+use Rattle.kernel_model.specs.declared.types.statements.RStmt.{RStmt, Block', Declare, SetScalar, SetLocal, SetArg, If', For', Row_of-RStmt, end_of-RStmt, more_of-RStmt}
+use Rattle.kernel_model.specs.declared.types.kernels.RKernel.{RKernel}
+use Rattle.kernel_model.specs.View as tree
+use Rattle.kernel_model.specs.View.{RExprTree, RStmtTree, RStmtTrees, RKernelTree, rexpr_of, rstmt_of, rstmts_of_row, rkernel_of}
 use Rattle.kernel_model.specs.SameTokens.{same_form, same_which, same_unary, same_op, same_tokens}
 use Rattle.kernel_model.specs.Obeys.{Mode, Counters, no_counters, with_counter, static_op, static_unary, static, Reads, Owns, Own, Neither, First, Second, is_place, own_side, target_event}
 use Rattle.kernel_model.specs.Walk.{Breach, Covered, none_covered, with_covered, both_covered, turns_covered, covered_after, row_covered_after, event_found, expr_found, own_found, right_found, turns_found, stmt_found, row_found, ends_found, walk}

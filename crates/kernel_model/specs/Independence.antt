@@ -2,8 +2,8 @@
 use Rattle.std.specs.Prelude.{◌≡◌, ◌≢◌, ℕ, ℤ, pos, ◌+◌, ◌<◌, List, [], length, Bool, true, ◌&&◌, ◌⊎◌, nat_eq, slice_index_or, FitsSigned}
 use Rattle.std.specs.Int.{w32}
 use Rattle.op_num.specs.Reduction.{Reduction, merged}
-use Rattle.kernel_types.specs.declared.kernels.RKernel.{RKernel}
-use Rattle.kernel_types.specs.Resolved.{IsResolved}
+use Rattle.kernel_model.specs.declared.types.kernels.RKernel.{RKernel}
+use Rattle.kernel_model.specs.Resolved.{IsResolved}
 use Rattle.kernel_model.specs.Meaning.{Store, cell, Target, target_at, read_arg, Ran, Finished, Stopped, kernel_meaning}
 use Rattle.op_num.specs.Access.{Access, OpRead, OpWrite, OpRw, OpReduce}
 use Rattle.kernel_model.specs.Obeys.{Mode, mode_at, KernelObeys}

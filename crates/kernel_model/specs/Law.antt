@@ -1,7 +1,7 @@
 -- What a kernel leaves whose faults come before its stores.
 use Rattle.std.specs.Prelude.{◌≡◌, ◌≤◌, ℕ, ℤ, List, true}
-use Rattle.kernel_types.specs.declared.faults.KernelFault.{KernelFault}
-use Rattle.kernel_types.specs.declared.kernels.RKernel.{RKernel}
+use Rattle.kernel_model.specs.declared.types.faults.KernelFault.{KernelFault}
+use Rattle.kernel_model.specs.declared.types.kernels.RKernel.{RKernel}
 use Rattle.kernel_model.specs.Meaning.{Store, Target, target_at, Stopped, kernel_meaning}
 use Rattle.kernel_model.specs.Effects.{count_at, faults_first}
 

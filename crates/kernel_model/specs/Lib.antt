@@ -11,3 +11,8 @@ pub mod StoredThrough
 pub mod Placed
 pub mod Effects
 pub mod Law
+pub mod Resolved
+pub mod View
+pub mod Stores
+pub mod Cutting
+pub mod Framed

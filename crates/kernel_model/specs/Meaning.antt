@@ -5,12 +5,12 @@ use Rattle.c_lex.specs.declared.tokens.Pos.{Pos}
 use Rattle.c_tree.specs.declared.expressions.BinaryOp.TheVariants as binary
 use Rattle.c_tree.specs.declared.declarations.AssignOp.{AssignOp}
 use Rattle.c_tree.specs.declared.declarations.AssignOp.TheVariants as assign
-use Rattle.kernel_types.specs.declared.faults.KernelFault.{KernelFault}
-use Rattle.kernel_types.specs.declared.expressions.RExpr.{RExpr}
-use Rattle.kernel_types.specs.declared.expressions.RExpr.TheVariants.{Number, Scalar, Constant, Arg', Local', Const', Unary', Binary', Choice', Paren', Extremum', Absolute'}
-use Rattle.kernel_types.specs.declared.statements.RStmt.{RStmt, Block', Declare, SetScalar, SetLocal, SetArg, If', For', Row_of-RStmt, end_of-RStmt, more_of-RStmt}
-use Rattle.kernel_types.specs.declared.kernels.RKernel.{RKernel}
-pub use Rattle.kernel_types.specs.Stores.{Store, cell, with_cell, Target, no_target, target_at, read_arg, store_arg}
+use Rattle.kernel_model.specs.declared.types.faults.KernelFault.{KernelFault}
+use Rattle.kernel_model.specs.declared.types.expressions.RExpr.{RExpr}
+use Rattle.kernel_model.specs.declared.types.expressions.RExpr.TheVariants.{Number, Scalar, Constant, Arg', Local', Const', Unary', Binary', Choice', Paren', Extremum', Absolute'}
+use Rattle.kernel_model.specs.declared.types.statements.RStmt.{RStmt, Block', Declare, SetScalar, SetLocal, SetArg, If', For', Row_of-RStmt, end_of-RStmt, more_of-RStmt}
+use Rattle.kernel_model.specs.declared.types.kernels.RKernel.{RKernel}
+pub use Rattle.kernel_model.specs.Stores.{Store, cell, with_cell, Target, no_target, target_at, read_arg, store_arg}
 use Rattle.kernel_model.specs.Numbers.{Value, fault, truth, is_zero, apply, apply_unary, is_settled, extremum, magnitude, not}
 
 -- ---- values

@@ -5,8 +5,8 @@ use Rattle.c_lex.specs.Order.{IsEarlier}
 use Rattle.c_tree.specs.declared.expressions.MinMax.{MinMax}
 use Rattle.c_tree.specs.declared.expressions.MinMax.TheVariants as min_max
 use Rattle.op_num.specs.Reduction.{Reduction, Add, Min, Max}
-use Rattle.kernel_types.specs.declared.statements.RStmt.{RStmt}
-use Rattle.kernel_types.specs.declared.kernels.RKernel.{RKernel}
+use Rattle.kernel_model.specs.declared.types.statements.RStmt.{RStmt}
+use Rattle.kernel_model.specs.declared.types.kernels.RKernel.{RKernel}
 use Rattle.op_num.specs.Access.{Access, OpRead, OpWrite, OpReduce}
 use Rattle.kernel_model.specs.Obeys.{Mode, mode_at, Event, Reads, Assigns, Adds, Changes, Owns, Merges, Path, events, no_counters, Assigned, HasAssigned, assigned_after, KernelObeys}
 

@@ -7,10 +7,10 @@ use Rattle.c_tree.specs.declared.expressions.UnaryOp.{UnaryOp}
 use Rattle.c_tree.specs.declared.expressions.UnaryOp.TheVariants as unary
 use Rattle.c_tree.specs.declared.expressions.MinMax.{MinMax}
 use Rattle.c_tree.specs.declared.expressions.MinMax.TheVariants as min_max
-use Rattle.kernel_types.specs.declared.expressions.ElementForm.{ElementForm}
-use Rattle.kernel_types.specs.declared.expressions.ElementForm.TheVariants.{Index, Deref}
-use Rattle.kernel_types.specs.declared.expressions.RExpr.{RExpr}
-use Rattle.kernel_types.specs.declared.expressions.RExpr.TheVariants.{Number, Scalar, Constant, Arg', Local', Const', Unary', Binary', Choice', Paren', Extremum', Absolute'}
+use Rattle.kernel_model.specs.declared.types.expressions.ElementForm.{ElementForm}
+use Rattle.kernel_model.specs.declared.types.expressions.ElementForm.TheVariants.{Index, Deref}
+use Rattle.kernel_model.specs.declared.types.expressions.RExpr.{RExpr}
+use Rattle.kernel_model.specs.declared.types.expressions.RExpr.TheVariants.{Number, Scalar, Constant, Arg', Local', Const', Unary', Binary', Choice', Paren', Extremum', Absolute'}
 
 -- the same tokens are the same tree, places aside
 

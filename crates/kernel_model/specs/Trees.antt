@@ -1,7 +1,7 @@
 -- Where a kernel lies in memory is nothing to it: kernels with one tree run alike, and the walk finds the same in them.
 use Rattle.std.specs.Prelude.{◌≡◌, ℤ, List}
-use Rattle.kernel_types.specs.declared.kernels.RKernel.{RKernel}
-use Rattle.kernel_types.specs.View.{rkernel_of}
+use Rattle.kernel_model.specs.declared.types.kernels.RKernel.{RKernel}
+use Rattle.kernel_model.specs.View.{rkernel_of}
 use Rattle.kernel_model.specs.Meaning.{Target, Store, kernel_meaning}
 use Rattle.kernel_model.specs.Obeys.{Mode}
 use Rattle.kernel_model.specs.Walk.{walk}

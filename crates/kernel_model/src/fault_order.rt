@@ -4,6 +4,6 @@ mod expressions;
 mod laws;
 mod statements;
 
-pub use kernel_types::RKernel;
+pub use crate::types::RKernel;
 pub use laws::unchanged_after_faults;
 pub use statements::faults_first;

@@ -4,6 +4,7 @@
 pub mod fault_order;
 mod laws;
 pub mod operators;
+pub mod types;
 
 pub use laws::{
     independence, kernels_are_trees, operators_stay_in_range, others_stay, range_stays, reads_stay,

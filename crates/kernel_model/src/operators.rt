@@ -3,7 +3,7 @@
 mod numbers;
 
 pub use c_tree::{AssignOp, BinaryOp, MinMax, Pos, UnaryOp};
-pub use kernel_types::{Fault, KernelFault};
+pub use crate::types::{Fault, KernelFault};
 pub use numbers::{
     absolute, add, apply_op, apply_unary_op, extreme, index_of, mul, settles, stored_value, sub,
     truth_of,

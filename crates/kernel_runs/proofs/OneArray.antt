@@ -2,8 +2,8 @@
 use Rattle.std.proofs.Common.{◌≡◌, ℕ, ◌+◌, ◌&&◌, List, map, ap, ◌∙◌}
 use Rattle.std.specs.Prelude.{nat_eq}
 use Rattle.std.proofs.Math.ListN.{get_or-map}
-use Rattle.kernel_types.specs.declared.views.frame.Place.{Place}
-use Rattle.kernel_types.specs.Framed.{target_of, no_place}
+use Rattle.kernel_model.specs.declared.types.views.frame.Place.{Place}
+use Rattle.kernel_model.specs.Framed.{target_of, no_place}
 use Rattle.kernel_model.specs.Meaning.{Store, Target, target_at, read_arg, cell}
 use Rattle.kernel_model.specs.Independence.{same_cell}
 

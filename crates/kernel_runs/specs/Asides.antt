@@ -2,8 +2,8 @@
 use Rattle.std.specs.Prelude.{◌≡◌, ◌≢◌, ◌<◌, ◌≤◌, ◌+◌, ◌⊎◌, ℕ, ℤ, pos, true, FitsSigned, List, [], ◌∷◌, length, map, take, get_or, slice_index}
 use Rattle.std.specs.Int.{w32}
 use Rattle.op_num.specs.Access.{OpRead, OpRw}
-use Rattle.kernel_types.specs.declared.views.frame.Place.{Place}
-use Rattle.kernel_types.specs.Framed.{target_of}
+use Rattle.kernel_model.specs.declared.types.views.frame.Place.{Place}
+use Rattle.kernel_model.specs.Framed.{target_of}
 use Rattle.kernel_model.specs.Meaning.{Finished, kernel_meaning}
 use Rattle.kernel_model.specs.Obeys.{Mode}
 use Rattle.kernel_columns.specs.declared.columns.TheConstants.{ROWS}

@@ -1,10 +1,10 @@
 -- The places in a memory at which a kernel runs as it does on windows that are gathered from it.
 use Rattle.std.specs.Prelude.{◌≡◌, ◌<◌, ◌+◌, ℕ, ℤ, Bool, true, false, None, List, [], ◌∷◌, length, map, get_or}
-use Rattle.kernel_types.specs.declared.faults.KernelFault.{KernelFault}
-use Rattle.kernel_types.specs.declared.kernels.RKernel.{RKernel}
+use Rattle.kernel_model.specs.declared.types.faults.KernelFault.{KernelFault}
+use Rattle.kernel_model.specs.declared.types.kernels.RKernel.{RKernel}
 use Rattle.kernel_model.specs.Meaning.{Target, target_at, Finished, kernel_meaning}
-use Rattle.kernel_types.specs.declared.views.frame.Place.{Place}
-use Rattle.kernel_types.specs.Framed.{target_of}
+use Rattle.kernel_model.specs.declared.types.views.frame.Place.{Place}
+use Rattle.kernel_model.specs.Framed.{target_of}
 use Rattle.flat_machine.specs.Layout.{Core}
 use Rattle.run_model.specs.OnWindows.{core_of}
 use Rattle.rank_state.specs.declared.spans.Span.{Span}

@@ -1,6 +1,6 @@
 -- A kernel's run on a memory's own cells, and the run on the windows that spans gather from it.
 use Rattle.std.specs.Prelude.{◌≡◌, ◌<◌, ◌+◌, ℕ, ℤ, pos, false, List, [], ◌∷◌, length, get_or, slice_index_or}
-use Rattle.kernel_types.specs.declared.kernels.RKernel.{RKernel}
+use Rattle.kernel_model.specs.declared.types.kernels.RKernel.{RKernel}
 use Rattle.kernel_model.specs.Meaning.{cell, Target, target_at, Ran, Finished, Stopped, kernel_meaning}
 use Rattle.kernel_model.specs.Independence.{store_after}
 use Rattle.rank_state.specs.declared.spans.Span.{Span}

@@ -1,7 +1,7 @@
 -- Which kernels leave the cells of spans that aren't written.
 use Rattle.std.specs.Prelude.{◌≡◌, ◌<◌, ◌+◌, ℕ, ℤ, false, List}
 use Rattle.op_num.specs.Access.{OpRead}
-use Rattle.kernel_types.specs.declared.kernels.RKernel.{RKernel}
+use Rattle.kernel_model.specs.declared.types.kernels.RKernel.{RKernel}
 use Rattle.kernel_model.specs.Meaning.{Target, target_at}
 use Rattle.kernel_model.specs.Obeys.{Mode, mode_at, KernelObeys}
 use Rattle.kernel_model.specs.StoredThrough.{stores_through}

@@ -1,7 +1,7 @@
 -- Batches of a list of places, one behind another, each of which runs on columns of its own.
 use Rattle.std.specs.Prelude.{◌≡◌, ◌<◌, ◌≤◌, ◌+◌, ◌*◌, ℕ, ℤ, All, List, length, slice_index}
-use Rattle.kernel_types.specs.Resolved.{IsResolved}
-use Rattle.kernel_types.specs.Framed.{PlacesIn}
+use Rattle.kernel_model.specs.Resolved.{IsResolved}
+use Rattle.kernel_model.specs.Framed.{PlacesIn}
 use Rattle.kernel_code.specs.Coded.{IsCode}
 use Rattle.kernel_columns.specs.declared.columns.TheConstants.{ROWS}
 use Rattle.rank_state.specs.Windows.{Reads}

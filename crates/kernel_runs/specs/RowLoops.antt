@@ -2,8 +2,8 @@
 use Rattle.std.specs.Prelude.{◌≡◌, ◌≢◌, ◌<◌, ◌≤◌, ◌+◌, ◌*◌, ◌⊎◌, ℕ, List, length, map, get_or, slice_index, true, Option, None}
 use Rattle.op_num.specs.declared.reductions.access.Access.TheVariants as code
 use Rattle.op_num.specs.Access.{Access, OpRead, OpWrite, OpRw, OpReduce, access_of}
-use Rattle.kernel_types.specs.declared.views.frame.Place.{Place}
-use Rattle.kernel_types.specs.Framed.{target_of}
+use Rattle.kernel_model.specs.declared.types.views.frame.Place.{Place}
+use Rattle.kernel_model.specs.Framed.{target_of}
 use Rattle.kernel_model.specs.Meaning.{target_at}
 use Rattle.kernel_model.specs.Obeys.{Mode, KernelObeys}
 use Rattle.kernel_model.specs.Independence.{access, dim}

@@ -1,6 +1,6 @@
 -- The cells that a memory has at marked places.
 use Rattle.std.specs.Prelude.{◌≡◌, ◌<◌, ◌+◌, ℕ, ℤ, pos, Bool, true, List, [], ◌∷◌, length, get_or}
-use Rattle.kernel_types.specs.declared.views.frame.Place.{Place}
+use Rattle.kernel_model.specs.declared.types.views.frame.Place.{Place}
 use Rattle.rank_state.specs.declared.spans.Span.{Span}
 use Rattle.rank_state.specs.Spans.{total}
 use Rattle.kernel_runs.specs.Standing.{stands_at, is_written, IsUnwritten}

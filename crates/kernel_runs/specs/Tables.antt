@@ -3,8 +3,8 @@ use Rattle.std.specs.Prelude.{◌≡◌, ◌≢◌, ◌<◌, ◌≤◌, ◌+◌,
 use Rattle.op_num.specs.declared.reductions.access.Access.{Access}
 use Rattle.op_num.specs.Access.{OpRead, OpWrite, OpRw, access_of}
 use Rattle.op_num.specs.Access as model
-use Rattle.kernel_types.specs.declared.views.frame.Place.{Place}
-use Rattle.kernel_types.specs.Framed.{no_place}
+use Rattle.kernel_model.specs.declared.types.views.frame.Place.{Place}
+use Rattle.kernel_model.specs.Framed.{no_place}
 use Rattle.bound_program.specs.declared.sites.Arg.{Arg}
 use Rattle.run_model.specs.Arguments.{access_by}
 use Rattle.kernel_runs.specs.declared.row_batches.ways.LocalVia.{LocalVia}

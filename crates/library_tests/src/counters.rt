@@ -1,6 +1,6 @@
 // Kernels that no source has: `is_resolved` finds a store to the counter of a `for`.
 
-use kernel_types::{AssignOp, Name, Pos, RBody, RExpr, RKernel, RStmt, is_resolved};
+use kernel_model::types::{AssignOp, Name, Pos, RBody, RExpr, RKernel, RStmt, is_resolved};
 use std::alloc::{AllocError, Global};
 use std::test::Fail;
 

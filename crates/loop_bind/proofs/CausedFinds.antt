@@ -12,7 +12,7 @@ use Rattle.c_tree.specs.declared.hosts.LoopArg.{LoopArg}
 use Rattle.c_tree.specs.declared.hosts.LoopArg.TheVariants as tree
 use Rattle.c_tree.specs.Tree.{ExprTree}
 use Rattle.kernel_model.specs.Numbers.{Value}
-use Rattle.kernel_types.specs.declared.kernels.ConstDecl.{ConstDecl}
+use Rattle.kernel_model.specs.declared.types.kernels.ConstDecl.{ConstDecl}
 use Rattle.op_num.specs.declared.reductions.access.Access.{Access}
 use Rattle.mesh_decl.specs.Mesh.{MeshValue, set_count, map_count, dat_count}
 use Rattle.mesh_decl.specs.Spelling.{Named}

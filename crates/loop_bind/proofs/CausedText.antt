@@ -6,8 +6,8 @@ use Rattle.c_tree.specs.declared.expressions.Ident.{Ident}
 use Rattle.c_tree.specs.Tree as tree
 use Rattle.c_tree.specs.Tree.{ExprTree, DeclrTree, Plain, Init, Array, TopTree, OpCallTree, HostTree, HostTrees, HostForHeaderTree, ProgramTree}
 use Rattle.kernel_model.specs.Numbers.{Value}
-use Rattle.kernel_types.specs.declared.kernels.ConstDecl.{ConstDecl}
-use Rattle.kernel_types.specs.declared.kernels.Resolved.{Resolved}
+use Rattle.kernel_model.specs.declared.types.kernels.ConstDecl.{ConstDecl}
+use Rattle.kernel_model.specs.declared.types.kernels.Resolved.{Resolved}
 use Rattle.mesh_decl.specs.Mesh.{MeshValue}
 use Rattle.mesh_decl.specs.declared.text.entry.Entry.{Entry}
 use Rattle.mesh_decl.specs.declared.text.entry.Entry.TheVariants.{One, Many}

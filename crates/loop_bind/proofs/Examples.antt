@@ -11,12 +11,12 @@ use Rattle.c_tree.specs.declared.hosts.ArgVia.TheVariants as via
 use Rattle.c_tree.specs.declared.hosts.LoopArg.TheVariants as arg
 use Rattle.c_tree.specs.Tree as tree
 use Rattle.c_tree.specs.Tree.{ExprTree, DeclrTree, TopTree, HostTree, HostTrees}
-use Rattle.kernel_types.specs.declared.kernels.ConstDecl.{ConstDecl}
+use Rattle.kernel_model.specs.declared.types.kernels.ConstDecl.{ConstDecl}
 use Rattle.mesh_decl.specs.declared.text.entry.Entry.TheVariants.{Many}
 use Rattle.mesh_decl.specs.Spelling.{Named}
 use Rattle.mesh_decl.specs.Mesh.{size_in, map_from, map_to, map_dim, dat_set, dat_dim}
 use Rattle.bound_program.specs.declared.refusals.refusals.BindRefusal.TheVariants as refusal
-use Rattle.kernel_types.specs.View.{Number, Scalar, Binary}
+use Rattle.kernel_model.specs.View.{Number, Scalar, Binary}
 use Rattle.bound_program.specs.Values.{Assign, Line, Exit, ItemValue, Free, Host, VarValue}
 use Rattle.bound_program.specs.Refusals.{Judged, ◌>>=◌}
 use Rattle.main_declarations.specs.SoFar.{Walked, quiet, nothing_declared}

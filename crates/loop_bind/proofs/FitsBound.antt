@@ -3,8 +3,8 @@ use Rattle.std.proofs.Common.{◌<◌, ◌^◌, List, [], length, Ok, Err, refl,
 use Rattle.std.specs.Prelude.{All, None}
 use Rattle.std.proofs.lemmas.List.Elements.{All-nil, All-weaker}
 use Rattle.c_tree.specs.Tree.{ProgramTree}
-use Rattle.kernel_types.specs.declared.kernels.RKernel.{RKernel}
-use Rattle.kernel_types.specs.declared.kernels.Resolved.{Resolved}
+use Rattle.kernel_model.specs.declared.types.kernels.RKernel.{RKernel}
+use Rattle.kernel_model.specs.declared.types.kernels.Resolved.{Resolved}
 use Rattle.mesh_decl.specs.declared.decl.SetDecl.{SetDecl}
 use Rattle.mesh_decl.specs.Mesh.{MeshValue, no_mesh, IsMesh, IsMap, IsDat}
 use Rattle.mesh_decl.specs.Spelling.{Named}

@@ -8,7 +8,7 @@ use Rattle.std.proofs.lemmas.Map.Entries.{All-lookup}
 use Rattle.std.proofs.lemmas.Slice.Eq.{bytes_eq-Decides}
 use Rattle.c_tree.specs.declared.hosts.LoopArg.{LoopArg}
 use Rattle.c_tree.specs.declared.hosts.LoopArg.TheVariants as tree
-use Rattle.kernel_types.specs.declared.kernels.RKernel.{RKernel}
+use Rattle.kernel_model.specs.declared.types.kernels.RKernel.{RKernel}
 use Rattle.mesh_decl.specs.Spelling.{Named}
 use Rattle.main_declarations.specs.declared.names.scopes.Meaning.{Meaning}
 use Rattle.main_declarations.specs.declared.names.scopes.Meaning.TheVariants.{Extern, ExternArray, Kernel, Set, Map, Dat, Variable, Fixed, FixedLater, Turning}

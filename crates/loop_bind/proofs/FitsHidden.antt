@@ -10,7 +10,7 @@ use Rattle.c_tree.specs.declared.expressions.TextLiteral.{TextLiteral}
 use Rattle.c_tree.specs.declared.hosts.GlobalName.{GlobalName}
 use Rattle.c_tree.specs.Tree as tree
 use Rattle.c_tree.specs.Tree.{OpCallTree, HostTree, HostTrees}
-use Rattle.kernel_types.specs.declared.kernels.ConstDecl.{ConstDecl}
+use Rattle.kernel_model.specs.declared.types.kernels.ConstDecl.{ConstDecl}
 use Rattle.mesh_decl.specs.Spelling.{Named}
 use Rattle.bound_program.specs.declared.refusals.refusals.BindRefusal.TheVariants as refusal
 use Rattle.bound_program.specs.Refusals.{Judged, ◌>>=◌, found_if}

@@ -15,7 +15,7 @@ use Rattle.c_tree.specs.declared.hosts.ArgVia.TheVariants as via
 use Rattle.c_tree.specs.declared.hosts.GlobalName.{GlobalName}
 use Rattle.c_tree.specs.declared.hosts.LoopArg.{LoopArg}
 use Rattle.c_tree.specs.declared.hosts.LoopArg.TheVariants as tree
-use Rattle.kernel_types.specs.declared.kernels.RKernel.{RKernel}
+use Rattle.kernel_model.specs.declared.types.kernels.RKernel.{RKernel}
 use Rattle.op_num.specs.declared.reductions.access.Access.{Access}
 use Rattle.op_num.specs.declared.reductions.access.Access.TheVariants as access
 use Rattle.mesh_decl.specs.Mesh.{set_count, dat_count}

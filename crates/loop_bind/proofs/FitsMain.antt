@@ -6,14 +6,14 @@ use Rattle.std.proofs.lemmas.List.Elements.{All-head, All-tail}
 use Rattle.c_lex.specs.declared.tokens.Pos.{Pos}
 use Rattle.c_tree.specs.Tree as tree
 use Rattle.c_tree.specs.Tree.{ExprTree, DeclrTree}
-use Rattle.kernel_types.specs.declared.kernels.RKernel.{RKernel}
+use Rattle.kernel_model.specs.declared.types.kernels.RKernel.{RKernel}
 use Rattle.mesh_decl.specs.Mesh.{dat_count}
 use Rattle.mesh_decl.specs.Printed.{conversions}
 use Rattle.mesh_decl.specs.Spelling.{Named}
 use Rattle.main_declarations.specs.declared.names.walks.Spot.{Spot}
 use Rattle.main_declarations.specs.declared.names.scopes.Meaning.{Meaning}
 use Rattle.main_declarations.specs.declared.names.scopes.Meaning.TheVariants.{Variable, Fixed, FixedLater, Turning}
-use Rattle.kernel_types.specs.View.{RExprTree}
+use Rattle.kernel_model.specs.View.{RExprTree}
 use Rattle.bound_program.specs.Values.{VarValue, ActValue, Clear, Assign, Line, Print, Exit}
 use Rattle.bound_program.specs.Steps.{Asked, Step, Do, Loop, Fix, Block, Choose, Repeat, Steps, NoStep, MoreStep, followed, one_step}
 use Rattle.main_declarations.specs.Expressions.{resolved, judged_static, judged_value}

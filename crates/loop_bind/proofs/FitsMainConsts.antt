@@ -11,7 +11,7 @@ use Rattle.c_tree.specs.declared.expressions.TextLiteral.{TextLiteral}
 use Rattle.c_tree.specs.declared.hosts.GlobalName.{GlobalName}
 use Rattle.c_tree.specs.declared.hosts.LoopArg.{LoopArg}
 use Rattle.c_tree.specs.declared.hosts.LoopArg.TheVariants as arg
-use Rattle.kernel_types.specs.declared.kernels.ConstDecl.{ConstDecl}
+use Rattle.kernel_model.specs.declared.types.kernels.ConstDecl.{ConstDecl}
 use Rattle.mesh_decl.specs.Spelling.{Named}
 use Rattle.bound_program.specs.declared.refusals.refusals.BindRefusal.TheVariants as refusal
 use Rattle.main_declarations.specs.declared.names.scopes.Cells.{Cells}

@@ -4,7 +4,7 @@ use Rattle.std.specs.Prelude.{All, slice_index_or, Option, Some, None, IfSome, i
 use Rattle.std.proofs.lemmas.List.{get_or_append_left, length_push}
 use Rattle.std.proofs.lemmas.List.Elements.{All-push, All-weaker}
 use Rattle.std.proofs.lemmas.Map.Entries.{All-lookup}
-use Rattle.kernel_types.specs.declared.kernels.RKernel.{RKernel}
+use Rattle.kernel_model.specs.declared.types.kernels.RKernel.{RKernel}
 use Rattle.mesh_decl.specs.declared.decl.MapDecl.{MapDecl}
 use Rattle.mesh_decl.specs.declared.decl.DatDecl.{DatDecl}
 use Rattle.mesh_decl.specs.Mesh.{MeshValue, set_count, map_count, dat_count, IsMesh}

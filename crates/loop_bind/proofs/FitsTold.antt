@@ -3,9 +3,9 @@ use Rattle.std.proofs.Common.{◌≡◌, ℕ, zero, suc, ℤ, ◌+◌, List, [],
 use Rattle.std.specs.Prelude.{Option, Some, None}
 use Rattle.std.proofs.lemmas.List.Elements.{All-weaker}
 use Rattle.std.proofs.lemmas.List.Sums.{sum_by-cons}
-use Rattle.kernel_types.specs.declared.kernels.RKernel.{RKernel}
+use Rattle.kernel_model.specs.declared.types.kernels.RKernel.{RKernel}
 use Rattle.mesh_decl.specs.Mesh.{MeshValue}
-use Rattle.kernel_types.specs.View.{RExprTree, Number, Scalar, Constant, Arg, Local, Const, Unary, Binary, Choice, Paren, Extremum, Absolute}
+use Rattle.kernel_model.specs.View.{RExprTree, Number, Scalar, Constant, Arg, Local, Const, Unary, Binary, Choice, Paren, Extremum, Absolute}
 use Rattle.bound_program.specs.Values.{ActValue, Clear, Assign, Line, Print, Exit, ItemValue, Free, Reduce, Ordered, Host, SiteValue, VarValue, BoundValue}
 use Rattle.bound_program.specs.Limited.{ToldValue}
 use Rattle.loop_bind.specs.Weights.{started, with_told}

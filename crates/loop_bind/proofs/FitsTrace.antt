@@ -10,7 +10,7 @@ use Rattle.mesh_decl.specs.Mesh.{dat_count}
 use Rattle.bound_program.specs.declared.sites.Arg.{Arg}
 use Rattle.bound_program.specs.declared.sites.Class.{Class}
 use Rattle.bound_program.specs.declared.sites.Class.TheVariants as class
-use Rattle.kernel_types.specs.View.{RExprTree}
+use Rattle.kernel_model.specs.View.{RExprTree}
 use Rattle.bound_program.specs.HostExpr.{value, closed}
 use Rattle.bound_program.specs.Values.{ActValue, Clear, Assign, Line, Print, Exit, closed_act, ItemValue, Free, Reduce, Ordered, Host, BoundValue}
 use Rattle.bound_program.specs.Steps.{Asked, Step, Do, Loop, Fix, Block, Choose, Repeat, Steps, NoStep, MoreStep}

@@ -1,8 +1,8 @@
 -- Nothing in a bound program sets a variable that is `const`.
 use Rattle.std.proofs.Common.{List, [], Ok, Err, subst}
 use Rattle.c_tree.specs.Tree.{ProgramTree}
-use Rattle.kernel_types.specs.declared.kernels.ConstDecl.{ConstDecl}
-use Rattle.kernel_types.specs.declared.kernels.Resolved.{Resolved}
+use Rattle.kernel_model.specs.declared.types.kernels.ConstDecl.{ConstDecl}
+use Rattle.kernel_model.specs.declared.types.kernels.Resolved.{Resolved}
 use Rattle.mesh_decl.specs.Mesh.{MeshValue}
 use Rattle.mesh_decl.specs.Spelling.{Named}
 use Rattle.bound_program.specs.Refusals.{Judged}

@@ -6,7 +6,7 @@ use Rattle.c_lex.specs.declared.tokens.Pos.{Pos}
 use Rattle.c_tree.specs.declared.expressions.Ident.{Ident}
 use Rattle.c_tree.specs.Tree as tree
 use Rattle.c_tree.specs.Tree.{PlaceTree, OpCallTree, HostTree, HostTrees}
-use Rattle.kernel_types.specs.declared.kernels.ConstDecl.{ConstDecl}
+use Rattle.kernel_model.specs.declared.types.kernels.ConstDecl.{ConstDecl}
 use Rattle.mesh_decl.specs.Mesh.{set_count, map_count, dat_count}
 use Rattle.mesh_decl.specs.Printed.{conversions}
 use Rattle.mesh_decl.specs.Spelling.{Named}

@@ -10,8 +10,8 @@ use Rattle.c_tree.specs.declared.hosts.LoopArg.{LoopArg}
 use Rattle.c_tree.specs.declared.hosts.LoopArg.TheVariants as arg
 use Rattle.c_tree.specs.Tree as tree
 use Rattle.c_tree.specs.Tree.{ExprTree, DeclrTree, TopTree, OpCallTree, HostTree, HostTrees, ProgramTree}
-use Rattle.kernel_types.specs.declared.kernels.ConstDecl.{ConstDecl}
-use Rattle.kernel_types.specs.declared.kernels.Resolved.{Resolved}
+use Rattle.kernel_model.specs.declared.types.kernels.ConstDecl.{ConstDecl}
+use Rattle.kernel_model.specs.declared.types.kernels.Resolved.{Resolved}
 use Rattle.mesh_decl.specs.declared.decl.SetDecl.{SetDecl}
 use Rattle.mesh_decl.specs.declared.decl.MapDecl.{MapDecl}
 use Rattle.mesh_decl.specs.declared.decl.DatDecl.{DatDecl}

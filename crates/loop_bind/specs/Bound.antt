@@ -1,6 +1,6 @@
 -- The bound program of a source and the entries of a mesh text, or the first refusal.
 use Rattle.std.specs.Prelude.{List, Ok}
-use Rattle.kernel_types.specs.declared.kernels.Resolved.{Resolved}
+use Rattle.kernel_model.specs.declared.types.kernels.Resolved.{Resolved}
 use Rattle.c_tree.specs.Tree.{ProgramTree}
 use Rattle.mesh_decl.specs.Spelling.{Named}
 use Rattle.bound_program.specs.Values.{BoundValue}

@@ -3,7 +3,7 @@ use Rattle.std.specs.Prelude.{◌≡◌, List, ℕ, Ok, All}
 use Rattle.c_lex.specs.Spelling.{IsName}
 use Rattle.c_tree.specs.Tree.{ProgramTree}
 use Rattle.c_tree.specs.Reads.{Reads}
-use Rattle.kernel_types.specs.declared.kernels.Resolved.{Resolved}
+use Rattle.kernel_model.specs.declared.types.kernels.Resolved.{Resolved}
 use Rattle.mesh_decl.specs.Spelling.{Named}
 use Rattle.mesh_decl.specs.declared.decl.SetDecl.{SetDecl}
 use Rattle.mesh_decl.specs.declared.decl.MapDecl.{MapDecl}

@@ -1,7 +1,7 @@
 -- Bound programs of resolved sources fit.
 use Rattle.std.specs.Prelude.{◌≡◌, ◌≤◌, List, Ok, All}
 use Rattle.c_tree.specs.Tree.{ProgramTree}
-use Rattle.kernel_types.specs.declared.kernels.Resolved.{Resolved}
+use Rattle.kernel_model.specs.declared.types.kernels.Resolved.{Resolved}
 use Rattle.mesh_decl.specs.Spelling.{Named}
 use Rattle.mesh_decl.specs.declared.decl.MapDecl.{MapDecl}
 use Rattle.bound_program.specs.Limits.{max_dim}

@@ -4,10 +4,10 @@ use Rattle.std.specs.List.{list_any}
 use Rattle.std.specs.Str.{bytes_eq}
 use Rattle.c_tree.specs.Reads.{Reads}
 use Rattle.c_tree.specs.Tree.{ProgramTree}
-use Rattle.kernel_types.specs.declared.kernels.RKernel.{RKernel}
-use Rattle.kernel_types.specs.declared.kernels.Resolved.{Resolved}
-use Rattle.kernel_types.specs.Resolved.{IsResolvedProgram}
-use Rattle.kernel_types.specs.View.{resolved_of}
+use Rattle.kernel_model.specs.declared.types.kernels.RKernel.{RKernel}
+use Rattle.kernel_model.specs.declared.types.kernels.Resolved.{Resolved}
+use Rattle.kernel_model.specs.Resolved.{IsResolvedProgram}
+use Rattle.kernel_model.specs.View.{resolved_of}
 use Rattle.mesh_decl.specs.Spelling.{Named, Spells}
 use Rattle.name_resolution.specs.Programs.{breaches, named_in, Resolves}
 use Rattle.bound_program.specs.Fits.{UsesConstants}

@@ -3,7 +3,7 @@ use Rattle.std.specs.Prelude.{ℕ, suc, ◌<◌, List, [], ◌∷◌, length, Al
 use Rattle.std.specs.Int.{w32}
 use Rattle.c_tree.specs.Tree as tree
 use Rattle.c_tree.specs.Tree.{ExprTree, DeclrTree, PlaceTree, TopTree, OpCallTree, HostTree, HostTrees}
-use Rattle.kernel_types.specs.declared.kernels.RKernel.{RKernel}
+use Rattle.kernel_model.specs.declared.types.kernels.RKernel.{RKernel}
 use Rattle.mesh_decl.specs.declared.text.entry.Entry.{Entry}
 use Rattle.mesh_decl.specs.declared.text.entry.Entry.TheVariants.{One, Many}
 use Rattle.mesh_decl.specs.Spelling.{Named}

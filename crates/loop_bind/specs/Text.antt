@@ -5,12 +5,12 @@ use Rattle.c_tree.specs.declared.expressions.Ident.{Ident}
 use Rattle.c_tree.specs.declared.expressions.TextLiteral.{TextLiteral}
 use Rattle.c_tree.specs.Tree as tree
 use Rattle.c_tree.specs.Tree.{ExprTree, PlaceTree, AssignmentTree, TopTree, OpCallTree, HostTree, HostTrees, HostForHeaderTree}
-use Rattle.kernel_types.specs.declared.kernels.ConstDecl.{ConstDecl}
+use Rattle.kernel_model.specs.declared.types.kernels.ConstDecl.{ConstDecl}
 use Rattle.mesh_decl.specs.Spelling.{Named}
 use Rattle.mesh_decl.specs.Printed.{conversions}
 use Rattle.bound_program.specs.declared.refusals.refusals.BindRefusal.TheVariants as refusal
 use Rattle.main_declarations.specs.declared.names.walks.Spot.{Spot}
-use Rattle.kernel_types.specs.View.{RExprTree, Number}
+use Rattle.kernel_model.specs.View.{RExprTree, Number}
 use Rattle.bound_program.specs.Values.{ActValue, Assign, Line, Print}
 use Rattle.main_declarations.specs.declared.names.scopes.Meaning.TheVariants.{Turning}
 use Rattle.main_declarations.specs.Names.{Scope, means, told_later, closed}

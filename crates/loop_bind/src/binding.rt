@@ -3,7 +3,7 @@
 ghost use Rattle.std.specs.Prelude.{ℕ, List, map, Ok, IfOk};
 ghost use Rattle.c_tree.specs.Reads.{Reads};
 ghost use Rattle.c_tree.specs.View.{program_of};
-ghost use Rattle.kernel_types.specs.View.{resolved_of};
+ghost use Rattle.kernel_model.specs.View.{resolved_of};
 ghost use Rattle.mesh_decl.specs.Spelling.{Spells};
 ghost use Rattle.name_resolution.specs.Programs.{Resolves};
 ghost use Rattle.bound_program.specs.Refusals.{JudgesBy};
@@ -27,7 +27,7 @@ use bound_program::refusals::BindRefusal;
 use bound_program::trace::{Step, Unrolled, unroll_main};
 use bound_program::{Bound, Site};
 use c_tree::Program;
-use kernel_types::Resolved;
+use kernel_model::types::Resolved;
 use main_declarations::judged_tops;
 use main_declarations::names::{Declared, KernelConstants, Source, Spot};
 use mesh_decl::Entries;

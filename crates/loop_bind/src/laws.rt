@@ -3,7 +3,7 @@
 ghost use Rattle.std.specs.Prelude.{◌≢◌, List, Err};
 ghost use Rattle.bound_program.specs.declared.refusals.refusals.BindRefusal.TheVariants.{OutOfMemory};
 ghost use Rattle.c_tree.specs.Tree.{ProgramTree};
-ghost use Rattle.kernel_types.specs.declared.kernels.Resolved.{Resolved as Kernels};
+ghost use Rattle.kernel_model.specs.declared.types.kernels.Resolved.{Resolved as Kernels};
 ghost use Rattle.mesh_decl.specs.Spelling.{Named};
 ghost use Rattle.loop_bind.specs.Bound.{bound};
 ghost use Rattle.loop_bind.specs.Names.{BoundNamesAreNames};

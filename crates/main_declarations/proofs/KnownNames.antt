@@ -7,7 +7,7 @@ use Rattle.c_lex.specs.declared.tokens.Pos.{Pos}
 use Rattle.c_tree.specs.declared.expressions.Ident.{Ident}
 use Rattle.c_tree.specs.Tree as tree
 use Rattle.c_tree.specs.Tree.{DeclrTree, TopTree}
-use Rattle.kernel_types.specs.declared.kernels.ConstDecl.{ConstDecl}
+use Rattle.kernel_model.specs.declared.types.kernels.ConstDecl.{ConstDecl}
 use Rattle.mesh_decl.specs.Mesh.{set_count}
 use Rattle.mesh_decl.specs.declared.text.entry.Entry.{Entry}
 use Rattle.mesh_decl.specs.declared.text.entry.Entry.TheVariants.{One, Many}

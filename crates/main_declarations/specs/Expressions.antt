@@ -4,9 +4,9 @@ use Rattle.c_lex.specs.declared.tokens.Pos.{Pos}
 use Rattle.c_tree.specs.declared.expressions.Ident.{Ident}
 use Rattle.c_tree.specs.Tree as tree
 use Rattle.c_tree.specs.Tree.{ExprTree}
-use Rattle.kernel_types.specs.declared.expressions.ElementForm.{ElementForm}
-use Rattle.kernel_types.specs.declared.expressions.ElementForm.TheVariants.{Index, Deref}
-use Rattle.kernel_types.specs.View.{RExprTree, Number, Scalar, Constant, Local, Unary, Binary, Choice, Paren, Extremum, Absolute}
+use Rattle.kernel_model.specs.declared.types.expressions.ElementForm.{ElementForm}
+use Rattle.kernel_model.specs.declared.types.expressions.ElementForm.TheVariants.{Index, Deref}
+use Rattle.kernel_model.specs.View.{RExprTree, Number, Scalar, Constant, Local, Unary, Binary, Choice, Paren, Extremum, Absolute}
 use Rattle.bound_program.specs.HostExpr.{value, is_static}
 use Rattle.main_declarations.specs.declared.names.scopes.Cells.{Cells}
 use Rattle.main_declarations.specs.declared.names.scopes.Meaning.{Meaning}

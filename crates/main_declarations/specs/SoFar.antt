@@ -1,6 +1,6 @@
 -- What the text has declared so far, and the steps of `main` so far.
 use Rattle.std.specs.Prelude.{ℕ, ℤ, ◌+◌, Bool, true, false, List, [], ◌∷◌, ◌++◌, length, Option, Some, None, bytes_eq, if◌then◌else◌}
-use Rattle.kernel_types.specs.declared.kernels.ConstDecl.{ConstDecl}
+use Rattle.kernel_model.specs.declared.types.kernels.ConstDecl.{ConstDecl}
 use Rattle.mesh_decl.specs.Mesh.{MeshValue, no_mesh}
 use Rattle.bound_program.specs.Values.{SiteValue, VarValue}
 use Rattle.main_declarations.specs.declared.names.scopes.Cells.{Cells}

@@ -8,7 +8,7 @@ use Rattle.c_tree.specs.declared.expressions.NumberLiteral.{NumberLiteral}
 use Rattle.c_tree.specs.declared.expressions.TextLiteral.{TextLiteral}
 use Rattle.c_tree.specs.declared.hosts.GlobalName.{GlobalName}
 use Rattle.c_tree.specs.Tree.{ExprTree, DeclrTree, Plain, Init, Array}
-use Rattle.kernel_types.specs.declared.kernels.ConstDecl.{ConstDecl}
+use Rattle.kernel_model.specs.declared.types.kernels.ConstDecl.{ConstDecl}
 use Rattle.bound_program.specs.declared.refusals.refusals.BindRefusal.TheVariants as refusal
 use Rattle.main_declarations.specs.declared.names.walks.Spot.{Spot}
 use Rattle.bound_program.specs.Values.{VarValue, ActValue, Clear, Assign}

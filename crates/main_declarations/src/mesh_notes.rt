@@ -4,7 +4,7 @@ ghost use Rattle.std.specs.Prelude.{◌≡◌, ◌<◌, ◌≤◌, ◌+◌, ◌*
 ghost use Rattle.std.specs.Str.{bytes_eq};
 ghost use Rattle.c_tree.specs.View.{expr_of};
 ghost use Rattle.mesh_decl.specs.Mesh.{set_size, is_element as is_element_of};
-ghost use Rattle.kernel_types.specs.View.{rexpr_of};
+ghost use Rattle.kernel_model.specs.View.{rexpr_of};
 ghost use Rattle.bound_program.specs.HostExpr.{value, is_static};
 ghost use Rattle.bound_program.specs.Refusals.{least_from};
 ghost use Rattle.main_declarations.specs.Meanings.{array_if};
@@ -18,7 +18,7 @@ use bound_program::refusals::{
 };
 use bound_program::{MAX_CELLS, MAX_DIM, MAX_SIZE};
 use c_tree::{Ident, NumberLiteral, TextLiteral};
-use kernel_types::KernelFault;
+use kernel_model::types::KernelFault;
 use mesh_decl::{Entries, Entry, Mesh};
 use op_num::{Name, OutOfMemory, Text};
 use std::alloc::AllocError;

@@ -3,7 +3,7 @@
 ghost use Rattle.std.specs.Prelude.{◌≡◌, ◌<◌, ◌+◌, ◌*◌, length, IfOk, OnOk};
 ghost use Rattle.c_tree.specs.View.{expr_of};
 ghost use Rattle.mesh_decl.specs.Mesh.{set_count, dat_count, set_size};
-ghost use Rattle.kernel_types.specs.View.{rexpr_of};
+ghost use Rattle.kernel_model.specs.View.{rexpr_of};
 ghost use Rattle.main_declarations.specs.Names.{declare};
 ghost use Rattle.bound_program.specs.Refusals.{least_from, first_of, Judges};
 ghost use Rattle.main_declarations.specs.Expressions.{resolved};
@@ -23,7 +23,7 @@ use bound_program::refusals::{BindRefusal, Counted, Found, Turn, note_if, note_o
 use bound_program::trace::host_value;
 use bound_program::{MAX_DATS, MAX_SETS};
 use c_tree::{Expr, Ident, NumberLiteral, TextLiteral};
-use kernel_types::{KernelFault, RExpr};
+use kernel_model::types::{KernelFault, RExpr};
 use op_num::OutOfMemory;
 use std::alloc::AllocError;
 

@@ -1,14 +1,14 @@
 -- What is said of resolved kernels without where they lie in memory holds of them where they lie.
 use Rattle.std.proofs.Common.{◌≡◌, ◌≢◌, ℕ, List, [], ◌∷◌, map, length}
-use Rattle.kernel_types.specs.declared.expressions.ElementForm.{ElementForm}
-use Rattle.kernel_types.specs.declared.expressions.ElementForm.TheVariants as form
-use Rattle.kernel_types.specs.declared.expressions.RExpr.{RExpr}
-use Rattle.kernel_types.specs.declared.expressions.RExpr.TheVariants as e
-use Rattle.kernel_types.specs.declared.statements.RStmt.{RStmt, Row_of-RStmt, end_of-RStmt, more_of-RStmt}
-use Rattle.kernel_types.specs.declared.statements.RStmt.TheVariants as s
-use Rattle.kernel_types.specs.declared.kernels.RKernel.{RKernel}
-use Rattle.kernel_types.specs.Resolved.{IsFormOf, ExprWithin, StmtWithin, RowWithin, StoresOnly, RowStoresOnly, CountersKept, RowCountersKept, IsResolved, AreResolved}
-use Rattle.kernel_types.specs.View.{rexpr_of, rstmt_of, rstmts_of_row, rkernel_of, RKernelTree}
+use Rattle.kernel_model.specs.declared.types.expressions.ElementForm.{ElementForm}
+use Rattle.kernel_model.specs.declared.types.expressions.ElementForm.TheVariants as form
+use Rattle.kernel_model.specs.declared.types.expressions.RExpr.{RExpr}
+use Rattle.kernel_model.specs.declared.types.expressions.RExpr.TheVariants as e
+use Rattle.kernel_model.specs.declared.types.statements.RStmt.{RStmt, Row_of-RStmt, end_of-RStmt, more_of-RStmt}
+use Rattle.kernel_model.specs.declared.types.statements.RStmt.TheVariants as s
+use Rattle.kernel_model.specs.declared.types.kernels.RKernel.{RKernel}
+use Rattle.kernel_model.specs.Resolved.{IsFormOf, ExprWithin, StmtWithin, RowWithin, StoresOnly, RowStoresOnly, CountersKept, RowCountersKept, IsResolved, AreResolved}
+use Rattle.kernel_model.specs.View.{rexpr_of, rstmt_of, rstmts_of_row, rkernel_of, RKernelTree}
 use Rattle.name_resolution.specs.Numbers.{ExprFits, StmtFits, RowFits, KernelsFit}
 use Rattle.name_resolution.proofs.Trees.{FormIn, ExprIn, StmtIn, RowIn, StoresIn, RowStoresIn, CountersIn, RowCountersIn}
 

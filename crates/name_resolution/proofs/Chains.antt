@@ -2,7 +2,7 @@
 use Rattle.std.proofs.Common.{◌≡◌, List, [], ◌∷◌, ◌++◌, refl, ap}
 use Rattle.name_resolution.specs.declared.expressions.Operation.{Operation}
 use Rattle.name_resolution.specs.Numbers.{ExprFits}
-use Rattle.kernel_types.specs.View.{RExprTree, Binary, rexpr_of}
+use Rattle.kernel_model.specs.View.{RExprTree, Binary, rexpr_of}
 
 abbrev pub over : List Operation → RExprTree → RExprTree
 over [] r = r

@@ -7,8 +7,8 @@ use Rattle.c_lex.specs.Lexed.{Lexes}
 use Rattle.c_tree.specs.Tree.{ProgramTree}
 use Rattle.c_tree.specs.Print.{program}
 use Rattle.c_tree.specs.Reads.{Reads}
-use Rattle.kernel_types.specs.declared.kernels.Resolved.{Resolved}
-use Rattle.kernel_types.specs.View.{resolved_of}
+use Rattle.kernel_model.specs.declared.types.kernels.Resolved.{Resolved}
+use Rattle.kernel_model.specs.View.{resolved_of}
 use Rattle.name_resolution.specs.declared.breaches.TypeRule.{TypeRule}
 use Rattle.name_resolution.specs.declared.breaches.TypeRule.TheVariants as rule
 use Rattle.name_resolution.specs.declared.breaches.Breach.{Breach}

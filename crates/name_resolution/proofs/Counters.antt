@@ -4,14 +4,14 @@ use Rattle.c_lex.specs.declared.tokens.Pos.{Pos}
 use Rattle.c_tree.specs.declared.declarations.AssignOp.{AssignOp}
 use Rattle.c_tree.specs.Tree as tree
 use Rattle.c_tree.specs.Tree.{DeclrTree, PlaceTree, AssignmentTree, StmtTree, StmtTrees}
-use Rattle.kernel_types.specs.declared.expressions.ElementForm.{ElementForm}
+use Rattle.kernel_model.specs.declared.types.expressions.ElementForm.{ElementForm}
 use Rattle.name_resolution.specs.declared.decls.Sort.{Sort}
 use Rattle.name_resolution.specs.declared.decls.Sort.TheVariants as sort
 use Rattle.name_resolution.specs.declared.decls.Decl.{Decl}
 use Rattle.name_resolution.specs.Scopes.{Names, Scope, scope, means, decl_or, repeated}
 use Rattle.name_resolution.specs.Work.{size_of, declr_cells, cells, cells_of_all, behind}
 use Rattle.name_resolution.specs.Kernels.{set_element, assigned, expr_breaches, place_breaches, after_declr, after_declrs, after_stmt, with_counter, stmt_breaches, stmts_breaches, declr_step, declrs_steps, step, steps}
-use Rattle.kernel_types.specs.View.{RExprTree}
+use Rattle.kernel_model.specs.View.{RExprTree}
 use Rattle.name_resolution.proofs.Trees.{StoresIn, RowStoresIn, CountersIn, RowCountersIn}
 use Rattle.name_resolution.proofs.Fits.{mk, AllAre, Fit, FitAs, declared_are, all_as, none_of_both}
 use Rattle.name_resolution.proofs.ExprsWithin.{MayAs, May, assigned_stores}

@@ -5,14 +5,14 @@ use Rattle.c_tree.specs.declared.declarations.AssignOp.{AssignOp}
 use Rattle.c_tree.specs.Places.{pos_of}
 use Rattle.c_tree.specs.Tree as tree
 use Rattle.c_tree.specs.Tree.{ExprTree, PlaceTree, AssignmentTree}
-use Rattle.kernel_types.specs.declared.expressions.ElementForm.{ElementForm}
-use Rattle.kernel_types.specs.declared.expressions.ElementForm.TheVariants as form
+use Rattle.kernel_model.specs.declared.types.expressions.ElementForm.{ElementForm}
+use Rattle.kernel_model.specs.declared.types.expressions.ElementForm.TheVariants as form
 use Rattle.name_resolution.specs.declared.decls.Sort.{Sort}
 use Rattle.name_resolution.specs.declared.decls.Sort.TheVariants as sort
 use Rattle.name_resolution.specs.declared.decls.Decl.{Decl}
 use Rattle.name_resolution.specs.Scopes.{Scope, means, decl_or, use_breaches}
 use Rattle.name_resolution.specs.Kernels.{writing, name_breaches, expr_breaches, place_breaches, value, set_element, assigned}
-use Rattle.kernel_types.specs.View.{RExprTree, Number}
+use Rattle.kernel_model.specs.View.{RExprTree, Number}
 use Rattle.name_resolution.proofs.Trees.{FormIn, ExprIn, StmtIn, StoresIn}
 use Rattle.name_resolution.proofs.Fits.{AllAre, Fit, FitAs, mk, meant, none_of_both, Allowed, allowed, single_in, element_in}
 use Rattle.lemmas.proofs.Truth.{or_right}

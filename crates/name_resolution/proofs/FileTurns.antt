@@ -4,13 +4,13 @@ use Rattle.c_lex.specs.declared.tokens.Pos.{Pos}
 use Rattle.c_tree.specs.declared.declarations.Declr.{Declr}
 use Rattle.c_tree.specs.declared.programs.Top.{Top}
 use Rattle.c_tree.specs.View.{declr_of, top_of}
-use Rattle.kernel_types.specs.declared.kernels.ConstDecl.{ConstDecl}
-use Rattle.kernel_types.specs.declared.kernels.RKernel.{RKernel}
+use Rattle.kernel_model.specs.declared.types.kernels.ConstDecl.{ConstDecl}
+use Rattle.kernel_model.specs.declared.types.kernels.RKernel.{RKernel}
 use Rattle.name_resolution.specs.declared.breaches.Breach.{Breach}
 use Rattle.name_resolution.specs.declared.decls.Decl.{Decl}
 use Rattle.name_resolution.specs.First.{least_from}
 use Rattle.name_resolution.specs.Scopes.{Names, scope, repeated}
-use Rattle.kernel_types.specs.View.{RKernelTree, rkernel_of, rstmt_of}
+use Rattle.kernel_model.specs.View.{RKernelTree, rkernel_of, rstmt_of}
 use Rattle.name_resolution.specs.Numbers.{StmtFits, KernelsFit}
 use Rattle.name_resolution.specs.Mains.{declr_name, declr_breaches}
 use Rattle.name_resolution.specs.Programs.{with_variable, after_variables, variables_breaches, after_top, after_tops, top_breaches, tops_breaches, kernels_of, kernels, constant_of, constants}

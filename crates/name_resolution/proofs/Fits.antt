@@ -3,7 +3,7 @@ use Rattle.std.proofs.Common.{◌≡◌, ℕ, ◌+◌, ◌<◌, ◌≤◌, Bool,
 use Rattle.std.specs.Map.{lookup}
 use Rattle.std.specs.Str.{bytes_eq}
 use Rattle.c_lex.specs.declared.tokens.Pos.{Pos}
-use Rattle.kernel_types.specs.declared.expressions.ElementForm.{ElementForm}
+use Rattle.kernel_model.specs.declared.types.expressions.ElementForm.{ElementForm}
 use Rattle.name_resolution.specs.declared.breaches.TypeRule.{TypeRule}
 use Rattle.name_resolution.specs.declared.breaches.Breach.{Breach}
 use Rattle.name_resolution.specs.declared.decls.Sort.{Sort}
@@ -13,7 +13,7 @@ use Rattle.name_resolution.specs.declared.decls.Use.{Use}
 use Rattle.name_resolution.specs.First.{breach_if}
 use Rattle.name_resolution.specs.Scopes.{Names, Scope, decl_in, or_else, means, declared, takes_no_index, needs_index, is_no_value, is_counter, is_out_of_reach, is_read_only, use_breaches, decl_or}
 use Rattle.name_resolution.specs.Kernels.{reading, element, single}
-use Rattle.kernel_types.specs.View.{RExprTree}
+use Rattle.kernel_model.specs.View.{RExprTree}
 use Rattle.name_resolution.proofs.Trees.{FormIn, ExprIn}
 
 -- ---- names of which each has the property

@@ -2,8 +2,8 @@
 use Rattle.std.proofs.Common.{◌≡◌, ◌∙◌, ℕ, ◌+◌, Bool, true, false, List, [], ◌∷◌, ◌++◌, is_some, arith, refl, sym, ap, subst, append_assoc, append-nil, if◌then◌else◌}
 use Rattle.c_tree.specs.Tree as tree
 use Rattle.c_tree.specs.Tree.{DeclrTree, TopTree}
-use Rattle.kernel_types.specs.Resolved.{FollowOn, cells_of}
-use Rattle.kernel_types.specs.declared.kernels.ConstDecl.{ConstDecl}
+use Rattle.kernel_model.specs.Resolved.{FollowOn, cells_of}
+use Rattle.kernel_model.specs.declared.types.kernels.ConstDecl.{ConstDecl}
 use Rattle.name_resolution.specs.declared.decls.Decl.{Decl}
 use Rattle.name_resolution.specs.Scopes.{Names, decl_in, declared}
 use Rattle.name_resolution.specs.Mains.{declr_name}

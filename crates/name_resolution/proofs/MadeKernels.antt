@@ -1,14 +1,14 @@
 -- Each tree of resolved kernels is that of some kernels, where its lists are as short as those of memory.
 use Rattle.std.proofs.Common.{◌≡◌, ℕ, suc, ◌<◌, ◌≤◌, ◌^◌, List, [], ◌∷◌, map, length, refl, ap, ◌∙◌, arith, Box, Vec, Global}
 use denote.RawPtr.{null_ptr}
-use Rattle.kernel_types.specs.declared.expressions.RExpr.{RExpr}
-use Rattle.kernel_types.specs.declared.expressions.RExpr.TheVariants as e
-use Rattle.kernel_types.specs.declared.statements.RStmt as stmt
-use Rattle.kernel_types.specs.declared.statements.RStmt.{RStmt}
-use Rattle.kernel_types.specs.declared.statements.RStmt.TheVariants as s
-use Rattle.kernel_types.specs.declared.kernels.RKernel.{RKernel}
-use Rattle.kernel_types.specs.declared.kernels.Resolved.{Resolved}
-use Rattle.kernel_types.specs.View.{RExprTree, Number, Scalar, Constant, Arg, Local, Const, Unary, Binary, Choice, Paren, Extremum, Absolute, RStmtTree, RStmtTrees, Block, Declare, SetScalar, SetLocal, SetArg, If, For, NoStmt, MoreStmt, RKernelTree, ResolvedTree, rexpr_of, rstmt_of, rstmts_of, rkernel_of, resolved_of}
+use Rattle.kernel_model.specs.declared.types.expressions.RExpr.{RExpr}
+use Rattle.kernel_model.specs.declared.types.expressions.RExpr.TheVariants as e
+use Rattle.kernel_model.specs.declared.types.statements.RStmt as stmt
+use Rattle.kernel_model.specs.declared.types.statements.RStmt.{RStmt}
+use Rattle.kernel_model.specs.declared.types.statements.RStmt.TheVariants as s
+use Rattle.kernel_model.specs.declared.types.kernels.RKernel.{RKernel}
+use Rattle.kernel_model.specs.declared.types.kernels.Resolved.{Resolved}
+use Rattle.kernel_model.specs.View.{RExprTree, Number, Scalar, Constant, Arg, Local, Const, Unary, Binary, Choice, Paren, Extremum, Absolute, RStmtTree, RStmtTrees, Block, Declare, SetScalar, SetLocal, SetArg, If, For, NoStmt, MoreStmt, RKernelTree, ResolvedTree, rexpr_of, rstmt_of, rstmts_of, rkernel_of, resolved_of}
 use Rattle.name_resolution.proofs.Steps.{rstmt_block}
 
 -- how many statements there are

@@ -1,12 +1,12 @@
 -- The kernels and constants of a source that breaks no rule are those of a resolved program.
 use Rattle.std.proofs.Common.{◌≡◌, [], sym, subst, arith}
 use Rattle.c_tree.specs.Tree.{ProgramTree}
-use Rattle.kernel_types.specs.declared.kernels.Resolved.{Resolved}
-use Rattle.kernel_types.specs.Resolved.{FollowOn, cells_of, IsResolvedProgram}
+use Rattle.kernel_model.specs.declared.types.kernels.Resolved.{Resolved}
+use Rattle.kernel_model.specs.Resolved.{FollowOn, cells_of, IsResolvedProgram}
 use Rattle.name_resolution.specs.Mains.{hosts_breaches}
 use Rattle.name_resolution.specs.Numbers.{KernelsFit}
 use Rattle.name_resolution.specs.Programs.{breaches, constants, file_of, named_in, resolved, tops_breaches}
-use Rattle.kernel_types.specs.View.{ResolvedTree, resolved_of}
+use Rattle.kernel_model.specs.View.{ResolvedTree, resolved_of}
 use Rattle.name_resolution.proofs.Bridge.{KernelsIn, are_resolved}
 use Rattle.name_resolution.proofs.Fits.{none_of_both}
 use Rattle.name_resolution.proofs.Follow.{cells_are, tops_follow, none_follow}

@@ -12,9 +12,9 @@ use Rattle.c_tree.specs.Print as print
 use Rattle.c_tree.specs.Print.{Mark}
 use Rattle.c_tree.specs.Tree as tree
 use Rattle.c_tree.specs.Tree.{DeclrTree, DeclarationTree, AssignmentTree, PlaceTree, StmtTree, StmtTrees, KernelTree, TopTree, ProgramTree}
-use Rattle.kernel_types.specs.declared.expressions.ElementForm.{ElementForm}
-use Rattle.kernel_types.specs.declared.kernels.ConstDecl.{ConstDecl}
-use Rattle.kernel_types.specs.View.{RExprTree, RKernelTree}
+use Rattle.kernel_model.specs.declared.types.expressions.ElementForm.{ElementForm}
+use Rattle.kernel_model.specs.declared.types.kernels.ConstDecl.{ConstDecl}
+use Rattle.kernel_model.specs.View.{RExprTree, RKernelTree}
 use Rattle.name_resolution.specs.declared.decls.Sort.{Sort}
 use Rattle.name_resolution.specs.declared.decls.Sort.TheVariants as sort
 use Rattle.name_resolution.specs.declared.decls.Decl.{Decl}

@@ -7,14 +7,14 @@ use Rattle.c_tree.specs.declared.kernels.Stmt.{Stmt}
 use Rattle.c_tree.specs.Tree as tree
 use Rattle.c_tree.specs.Tree.{DeclrTree, StmtTree, StmtTrees}
 use Rattle.c_tree.specs.View.{declr_of, stmt_of, stmts_of}
-use Rattle.kernel_types.specs.declared.statements.RStmt as s
-use Rattle.kernel_types.specs.declared.statements.RStmt.{RStmt, Row_of-RStmt, end_of-RStmt, more_of-RStmt, items-the_row-RStmt, items_hidden-the_row-RStmt-0}
+use Rattle.kernel_model.specs.declared.types.statements.RStmt as s
+use Rattle.kernel_model.specs.declared.types.statements.RStmt.{RStmt, Row_of-RStmt, end_of-RStmt, more_of-RStmt, items-the_row-RStmt, items_hidden-the_row-RStmt-0}
 use Rattle.name_resolution.specs.declared.breaches.Breach.{Breach}
 use Rattle.name_resolution.specs.declared.decls.Decl.{Decl}
 use Rattle.name_resolution.specs.First.{least_from}
 use Rattle.name_resolution.specs.Scopes.{Names, decl_in, declared}
 use Rattle.name_resolution.specs.Numbers.{StmtFits, RowFits}
-use Rattle.kernel_types.specs.View.{RStmtTrees, NoStmt, MoreStmt, Block, rstmt_of, rstmts_of, rstmts_of_row}
+use Rattle.kernel_model.specs.View.{RStmtTrees, NoStmt, MoreStmt, Block, rstmt_of, rstmts_of, rstmts_of_row}
 use Rattle.name_resolution.specs.Work.{behind, declr_cells, declrs_cells, cells, cells_of_all}
 use Rattle.name_resolution.specs.Kernels.{after_declr, after_declrs, after_stmt, after_stmts, declr_breaches, declrs_breaches, stmt_breaches, stmts_breaches, declr_step, declrs_steps, step, steps}
 use Rattle.name_resolution.proofs.Firsts.{least_append}

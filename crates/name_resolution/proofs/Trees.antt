@@ -1,8 +1,8 @@
 -- What resolved kernels keep, said of them without where they lie in memory.
 use Rattle.std.proofs.Common.{◌≡◌, ◌≢◌, ℕ, pos, ◌+◌, ◌<◌, ◌≤◌}
-use Rattle.kernel_types.specs.declared.expressions.ElementForm.{ElementForm}
-use Rattle.kernel_types.specs.declared.expressions.ElementForm.TheVariants as form
-use Rattle.kernel_types.specs.View.{RExprTree, Number, Scalar, Constant, Arg, Local, Const, Unary, Binary, Choice, Paren, Extremum, Absolute, RStmtTree, RStmtTrees, Block, Declare, SetScalar, SetLocal, SetArg, If, For, NoStmt, MoreStmt}
+use Rattle.kernel_model.specs.declared.types.expressions.ElementForm.{ElementForm}
+use Rattle.kernel_model.specs.declared.types.expressions.ElementForm.TheVariants as form
+use Rattle.kernel_model.specs.View.{RExprTree, Number, Scalar, Constant, Arg, Local, Const, Unary, Binary, Choice, Paren, Extremum, Absolute, RStmtTree, RStmtTrees, Block, Declare, SetScalar, SetLocal, SetArg, If, For, NoStmt, MoreStmt}
 
 abbrev pub FormIn : ElementForm → RExprTree → Type 0
 FormIn form.Index e = Unit {0}

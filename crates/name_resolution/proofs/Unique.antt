@@ -2,14 +2,14 @@
 use Rattle.std.proofs.Common.{◌≡◌, ◌∙◌, ℕ, inl, inr, nat_eq, List, [], Result, Ok, Err, refl, sym, ap, subst, arith, if◌then◌else◌}
 use Rattle.std.specs.List.{Contains}
 use Rattle.c_tree.specs.Tree.{ProgramTree}
-use Rattle.kernel_types.specs.declared.kernels.Resolved.{Resolved}
+use Rattle.kernel_model.specs.declared.types.kernels.Resolved.{Resolved}
 use Rattle.name_resolution.specs.declared.breaches.TypeRule.{TypeRule}
 use Rattle.name_resolution.specs.declared.breaches.TypeRule.TheVariants.{UnknownName, DuplicateName, NotAnArray, NotAScalar, AssignsCounter, AssignsConst, TooMuchWork}
 use Rattle.name_resolution.specs.declared.breaches.Breach.{Breach}
 use Rattle.name_resolution.specs.declared.refusals.TypeRefusal.{TypeRefusal}
 use Rattle.name_resolution.specs.declared.refusals.TypeRefusal.TheVariants as refusal
 use Rattle.name_resolution.specs.First.{number_of, NotAfter}
-use Rattle.kernel_types.specs.View.{ResolvedTree, resolved_of}
+use Rattle.kernel_model.specs.View.{ResolvedTree, resolved_of}
 use Rattle.name_resolution.specs.Programs.{Answers, Outcome, Resolves, IsFirstRefusal, breaches, refusal_of}
 
 abbrev rule_of : ℕ → TypeRule

@@ -9,8 +9,8 @@ use Rattle.c_tree.specs.declared.declarations.AssignOp.TheVariants.{Set}
 use Rattle.c_tree.specs.Places.{pos_of}
 use Rattle.c_tree.specs.Tree as tree
 use Rattle.c_tree.specs.Tree.{ExprTree, DeclrTree, PlaceTree, AssignmentTree, StmtTree, StmtTrees, KernelTree}
-use Rattle.kernel_types.specs.declared.expressions.ElementForm.{ElementForm}
-use Rattle.kernel_types.specs.declared.expressions.ElementForm.TheVariants as form
+use Rattle.kernel_model.specs.declared.types.expressions.ElementForm.{ElementForm}
+use Rattle.kernel_model.specs.declared.types.expressions.ElementForm.TheVariants as form
 use Rattle.name_resolution.specs.declared.breaches.TypeRule.TheVariants.{TooMuchWork}
 use Rattle.name_resolution.specs.declared.breaches.Breach.{Breach}
 use Rattle.name_resolution.specs.declared.decls.Sort.{Sort}
@@ -19,7 +19,7 @@ use Rattle.name_resolution.specs.declared.decls.Decl.{Decl}
 use Rattle.name_resolution.specs.declared.decls.Use.{Use}
 use Rattle.name_resolution.specs.First.{breach_if}
 use Rattle.name_resolution.specs.Scopes.{Names, Scope, scope, means, decl_or, declared, repeated, use_breaches}
-use Rattle.kernel_types.specs.View.{RExprTree, Number, Scalar, Constant, Arg, Local, Const, Unary, Binary, Choice, Paren, Extremum, Absolute, RStmtTree, RStmtTrees, Block, Declare, SetScalar, SetLocal, SetArg, If, For, NoStmt, MoreStmt, RKernelTree}
+use Rattle.kernel_model.specs.View.{RExprTree, Number, Scalar, Constant, Arg, Local, Const, Unary, Binary, Choice, Paren, Extremum, Absolute, RStmtTree, RStmtTrees, Block, Declare, SetScalar, SetLocal, SetArg, If, For, NoStmt, MoreStmt, RKernelTree}
 use Rattle.name_resolution.specs.Work.{size_of, declr_cells, cells, cells_of_all, is_heavy, behind}
 
 -- ---- broken rules, in any order; in_kernel says whether the names stand in a kernel

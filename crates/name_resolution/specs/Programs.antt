@@ -6,8 +6,8 @@ use Rattle.c_lex.specs.declared.tokens.Pos.{Pos}
 use Rattle.c_tree.specs.Places.{pos_of}
 use Rattle.c_tree.specs.Tree as tree
 use Rattle.c_tree.specs.Tree.{DeclrTree, TopTree, ProgramTree}
-use Rattle.kernel_types.specs.declared.kernels.ConstDecl.{ConstDecl}
-use Rattle.kernel_types.specs.declared.kernels.Resolved.{Resolved}
+use Rattle.kernel_model.specs.declared.types.kernels.ConstDecl.{ConstDecl}
+use Rattle.kernel_model.specs.declared.types.kernels.Resolved.{Resolved}
 use Rattle.name_resolution.specs.declared.breaches.TypeRule.{TypeRule}
 use Rattle.name_resolution.specs.declared.breaches.TypeRule.TheVariants as rule
 use Rattle.name_resolution.specs.declared.breaches.Breach.{Breach}
@@ -21,7 +21,7 @@ use Rattle.name_resolution.specs.Scopes.{Names, scope, declared, repeated}
 use Rattle.name_resolution.specs.Work.{size_of}
 use Rattle.name_resolution.specs.Kernels.{kernel_breaches, kernel}
 use Rattle.name_resolution.specs.Mains.{declr_name, declr_sort, is_wrong_size, declr_breaches, named_after_all, hosts_breaches}
-use Rattle.kernel_types.specs.View.{RKernelTree, ResolvedTree, resolved_of}
+use Rattle.kernel_model.specs.View.{RKernelTree, ResolvedTree, resolved_of}
 
 -- ---- the constants of the file, whose cells stand one behind the other
 

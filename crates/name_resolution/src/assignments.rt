@@ -5,14 +5,14 @@ ghost use Rattle.c_tree.specs.View.{expr_of, assignment_of, place_of};
 ghost use Rattle.name_resolution.specs.First.{least_from};
 ghost use Rattle.name_resolution.specs.Scopes.{scope};
 ghost use Rattle.name_resolution.specs.Numbers.{ExprFits, StmtFits};
-ghost use Rattle.kernel_types.specs.View.{rexpr_of, rstmt_of};
+ghost use Rattle.kernel_model.specs.View.{rexpr_of, rstmt_of};
 ghost use Rattle.name_resolution.specs.Kernels.{place_breaches, assignment_breaches, set_element, assigned};
 
 use crate::breaches::Breach;
 use crate::decls::{Decl, Scope, Sort, Use, judge_use};
 use crate::expressions::{judge_expr, value};
 use c_tree::{AssignOp, Assignment, Place, Pos, pos_of};
-use kernel_types::{ElementForm, RExpr, RStmt};
+use kernel_model::types::{ElementForm, RExpr, RStmt};
 use op_num::OutOfMemory;
 use std::alloc::Global;
 

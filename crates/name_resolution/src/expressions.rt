@@ -6,13 +6,13 @@ ghost use Rattle.c_tree.specs.Places.{pos_of};
 ghost use Rattle.name_resolution.specs.First.{least_from};
 ghost use Rattle.name_resolution.specs.Scopes.{means, scope};
 ghost use Rattle.name_resolution.specs.Numbers.{ExprFits};
-ghost use Rattle.kernel_types.specs.View.{rexpr_of};
+ghost use Rattle.kernel_model.specs.View.{rexpr_of};
 ghost use Rattle.name_resolution.specs.Kernels.{name_breaches, expr_breaches, element, single, value};
 
 use crate::breaches::Breach;
 use crate::decls::{Decl, Scope, Sort, Use, judge_use};
 use c_tree::{BinaryOp, Expr, Ident, Pos, pos_of};
-use kernel_types::{ElementForm, RExpr};
+use kernel_model::types::{ElementForm, RExpr};
 use op_num::OutOfMemory;
 use std::alloc::Global;
 

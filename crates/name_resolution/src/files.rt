@@ -5,7 +5,7 @@ ghost use Rattle.c_tree.specs.View.{declr_of, top_of};
 ghost use Rattle.name_resolution.specs.First.{least_from};
 ghost use Rattle.name_resolution.specs.Scopes.{scope, declared, repeated};
 ghost use Rattle.name_resolution.specs.Numbers.{KernelsFit};
-ghost use Rattle.kernel_types.specs.View.{rkernel_of};
+ghost use Rattle.kernel_model.specs.View.{rkernel_of};
 ghost use Rattle.name_resolution.specs.Mains.{declr_name, declr_breaches};
 ghost use Rattle.name_resolution.specs.Programs.{constant_cells, constants, added_cells, constant_of, declr_count, other_decl};
 ghost use Rattle.name_resolution.specs.Programs.{variable_decl, with_variable, after_variables, after_top, after_tops, variables_breaches};
@@ -18,7 +18,7 @@ use crate::kernels::kernel;
 use crate::work::size_of;
 use c_tree::{Declr, Ident, Pos, Top};
 use indexmap::{IndexMap, IndexSet};
-use kernel_types::{ConstDecl, RKernel};
+use kernel_model::types::{ConstDecl, RKernel};
 use op_num::{Name, OutOfMemory};
 use std::alloc::{AllocError, Global};
 

@@ -5,7 +5,7 @@ ghost use Rattle.c_tree.specs.Places.{pos_of};
 ghost use Rattle.c_tree.specs.View.{kernel_of};
 ghost use Rattle.name_resolution.specs.First.{least_from};
 ghost use Rattle.name_resolution.specs.Numbers.{StmtFits};
-ghost use Rattle.kernel_types.specs.View.{rkernel_of, rstmt_of};
+ghost use Rattle.kernel_model.specs.View.{rkernel_of, rstmt_of};
 ghost use Rattle.name_resolution.specs.Kernels.{param_decl, params_breaches, after_params, kernel_breaches, kernel};
 
 use crate::breaches::{Breach, TypeRule, note_if};
@@ -14,7 +14,7 @@ use crate::statements::{Walk, block, steps};
 use crate::work::{is_heavy, scratch_of};
 use c_tree::{Kernel, Param, Pos, pos_of};
 use indexmap::IndexMap;
-use kernel_types::{RBody, RKernel};
+use kernel_model::types::{RBody, RKernel};
 use op_num::{Name, OutOfMemory};
 use std::alloc::{AllocError, Global};
 

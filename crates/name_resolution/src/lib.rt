@@ -14,6 +14,6 @@ mod statements;
 mod work;
 
 pub use breaches::{Breach, TypeRule};
-pub use kernel_types::{ConstDecl, Name, Pos, RKernel, Resolved};
+pub use kernel_model::types::{ConstDecl, Name, Pos, RKernel, Resolved};
 pub use refusals::TypeRefusal;
 pub use resolving::{kernels_are_resolved, one_answer, resolve, some_answer};

@@ -1,6 +1,6 @@
 // Why a source is not resolved.
 
-use kernel_types::Pos;
+use kernel_model::types::Pos;
 use thiserror::Error;
 
 /// The first rule on names and types that a source breaks, and the place of the name at which it does.

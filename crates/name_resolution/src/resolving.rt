@@ -4,12 +4,12 @@ ghost use Rattle.std.specs.Prelude.{◌≡◌, ◌<◌, ◌^◌, ℕ, List, [], 
 ghost use Rattle.c_tree.specs.Tree.{ProgramTree};
 ghost use Rattle.c_tree.specs.Reads.{Reads};
 ghost use Rattle.c_tree.specs.View.{program_of, hosts_of};
-ghost use Rattle.kernel_types.specs.Resolved.{IsResolvedProgram};
+ghost use Rattle.kernel_model.specs.Resolved.{IsResolvedProgram};
 ghost use Rattle.name_resolution.specs.Numbers.{KernelsFit};
 ghost use Rattle.name_resolution.specs.First.{least_from};
 ghost use Rattle.name_resolution.specs.Programs.{Answers, Outcome, Resolves, breaches, resolved, refusal_of};
-ghost use Rattle.kernel_types.specs.declared.kernels.Resolved.{Resolved as Kernels};
-ghost use Rattle.kernel_types.specs.View.{resolved_of};
+ghost use Rattle.kernel_model.specs.declared.types.kernels.Resolved.{Resolved as Kernels};
+ghost use Rattle.kernel_model.specs.View.{resolved_of};
 ghost use Rattle.name_resolution.specs.declared.refusals.TypeRefusal.TheVariants.{OutOfMemory};
 ghost use Rattle.name_resolution.specs.Mains.{named_after_all, hosts_breaches};
 
@@ -20,7 +20,7 @@ use crate::hosts::{MainWalk, hosts};
 use crate::refusals::TypeRefusal;
 use c_tree::{Host, Pos, Program, pos_of};
 use indexmap::{IndexMap, IndexSet};
-use kernel_types::Resolved;
+use kernel_model::types::Resolved;
 use op_num::{Name, OutOfMemory};
 use std::alloc::Global;
 

@@ -6,7 +6,7 @@ ghost use Rattle.c_tree.specs.View.{expr_of, declr_of, assignment_of, place_of, 
 ghost use Rattle.name_resolution.specs.First.{least_from};
 ghost use Rattle.name_resolution.specs.Scopes.{scope, repeated};
 ghost use Rattle.name_resolution.specs.Numbers.{ExprFits, StmtFits, RowFits};
-ghost use Rattle.kernel_types.specs.View.{rexpr_of, rstmt_of, rstmts_of, Block};
+ghost use Rattle.kernel_model.specs.View.{rexpr_of, rstmt_of, rstmts_of, Block};
 ghost use Rattle.name_resolution.specs.Work.{declr_cells, declrs_cells, cells, cells_of_all, behind};
 ghost use Rattle.name_resolution.specs.Kernels.{value, expr_breaches, with_counter, place_breaches, assignment_breaches, local_decl};
 ghost use Rattle.name_resolution.specs.Kernels.{set_element, assigned, declr_breaches, declrs_breaches, stmt_breaches, stmts_breaches};
@@ -19,7 +19,7 @@ use crate::expressions::{judge_expr, value};
 use crate::work::{behind, declr_cells, size_of};
 use c_tree::{AssignOp, Declr, Expr, ForHeader, Pos, Stmt, pos_of};
 use indexmap::IndexMap;
-use kernel_types::{RExpr, RStmt};
+use kernel_model::types::{RExpr, RStmt};
 use op_num::{Name, OutOfMemory};
 use std::alloc::Global;
 

@@ -1,13 +1,13 @@
 // The arrays of the cells, and the loop over the edges.
 
 ghost use Rattle.std.specs.Prelude.{◌≡◌, ◌<◌, ◌≤◌, ◌^◌};
-ghost use Rattle.kernel_types.specs.Resolved.{IsResolved};
+ghost use Rattle.kernel_model.specs.Resolved.{IsResolved};
 ghost use Rattle.kernel_code.specs.Coded.{IsCode};
 
 use crate::flux::flux;
 use kernel_code::{Code, compile, run_on};
-use kernel_types::is_resolved;
-use kernel_types::views::{Place, are_places_in};
+use kernel_model::types::is_resolved;
+use kernel_model::types::views::{Place, are_places_in};
 use op_num::wrap_add;
 use std::alloc::{AllocError, Global};
 

@@ -5,7 +5,7 @@ ghost use Rattle.std.specs.Fmt.{decimal};
 ghost use Rattle.command_words.specs.Lines.{at_place, fault_name, part_name, fault_line};
 
 use command_words::answer_lines::{put_counted, put_named, put_placed};
-use kernel_types::KernelFault;
+use kernel_model::types::KernelFault;
 use op_num::{Fault, OutOfMemory, put_u64};
 
 // The name of a kind of fault.

@@ -4,7 +4,7 @@ use Rattle.std.specs.List.{range_with_len}
 use Rattle.std.proofs.lemmas.Bool.{lt-ltb, cond-true}
 use Rattle.std.proofs.lemmas.List.{length-map, get_or-map, length-append, map-append, flat_map_more}
 use Rattle.std.proofs.lemmas.List.FromFn.{length-map-range_with_len}
-use Rattle.kernel_types.specs.declared.faults.KernelFault.{KernelFault}
+use Rattle.kernel_model.specs.declared.types.faults.KernelFault.{KernelFault}
 use Rattle.mesh_decl.specs.Mesh.{dat_set, dat_dim, set_size, set_count, dat_count}
 use Rattle.schedule_steps.specs.declared.step.Step.TheVariants.{Join}
 use Rattle.schedule_model.specs.Cells.{Cell, Data, DatCell, VarCell, Store}

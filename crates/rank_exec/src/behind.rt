@@ -1,7 +1,7 @@
 // The elements that come behind a step.
 
 ghost use Rattle.std.specs.Prelude.{◌≡◌, ◌<◌, ◌++◌, ◌^◌, ℕ, true, List, OnOk, length};
-ghost use Rattle.kernel_types.specs.declared.faults.KernelFault.{KernelFault};
+ghost use Rattle.kernel_model.specs.declared.types.faults.KernelFault.{KernelFault};
 ghost use Rattle.schedule_steps.specs.declared.step.Step.{Step};
 ghost use Rattle.rank_exec.specs.Closed.{GroupsAreAlone};
 ghost use Rattle.flat_machine.specs.Flat.{Flat};
@@ -16,7 +16,7 @@ use crate::run_room::RunRoom;
 use crate::sharing::{come_in_rounds, groups_run_in_place, may_come_in_rounds};
 use crate::stream::{Steps, Told, next_told};
 use crate::told::run_told;
-use kernel_types::KernelFault;
+use kernel_model::types::KernelFault;
 use op_num::OutOfMemory;
 use par_exec::{Crew, Gate};
 use rank_machine::machine::Machine;

@@ -1,7 +1,7 @@
 // The steps of a list, one after another, up to the first that stops.
 
 ghost use Rattle.std.specs.Prelude.{◌≡◌, ◌<◌, ◌+◌, ◌++◌, ℕ, List, Option, None, IfOk};
-ghost use Rattle.kernel_types.specs.declared.faults.KernelFault.{KernelFault};
+ghost use Rattle.kernel_model.specs.declared.types.faults.KernelFault.{KernelFault};
 ghost use Rattle.schedule_steps.specs.declared.step.Step.{Step};
 ghost use Rattle.schedule_steps.specs.declared.step.Step.TheVariants.{Send, Recv, Begin, End, Join};
 ghost use Rattle.schedule_steps.specs.Steps.{IsStep, Accepted};
@@ -23,7 +23,7 @@ use crate::group::run_begins;
 use crate::joins::join;
 use crate::run_room::RunRoom;
 use crate::stream::{Steps, next_of};
-use kernel_types::KernelFault;
+use kernel_model::types::KernelFault;
 use op_num::OutOfMemory;
 use par_exec::{Crew, Gate};
 use rank_machine::machine::Machine;

@@ -1,7 +1,7 @@
 // Runs of begins.
 
 ghost use Rattle.std.specs.Prelude.{◌≡◌, ◌<◌, ◌≤◌, ◌+◌, ◌*◌, ◌++◌, ◌∷◌, ℕ, true, [], List, length, take, None, Some, vec_capacity};
-ghost use Rattle.kernel_types.specs.declared.faults.KernelFault.{KernelFault};
+ghost use Rattle.kernel_model.specs.declared.types.faults.KernelFault.{KernelFault};
 ghost use Rattle.schedule_steps.specs.declared.step.Step.{Step};
 ghost use Rattle.schedule_steps.specs.declared.step.Step.TheVariants.{Begin, End};
 ghost use Rattle.rank_exec.specs.Closed.{GroupsAreAlone};
@@ -23,7 +23,7 @@ use crate::run_room::{MOST_BEGINS, RunRoom};
 use crate::sharing::workers_for;
 use crate::stream::{Steps, Told, next_of};
 use crate::told::run_told;
-use kernel_types::KernelFault;
+use kernel_model::types::KernelFault;
 use par_exec::{Crew, Gate};
 use rank_machine::machine::Machine;
 use rank_machine::steps::read_constants;

@@ -2,7 +2,7 @@
 // these leave.
 
 ghost use Rattle.std.specs.Prelude.{◌≡◌, ◌<◌, ◌≤◌, ◌+◌, ℕ, pos, true, length, get_or};
-ghost use Rattle.kernel_types.specs.declared.faults.KernelFault.{KernelFault};
+ghost use Rattle.kernel_model.specs.declared.types.faults.KernelFault.{KernelFault};
 ghost use Rattle.schedule_steps.specs.declared.step.Step.TheVariants.{Begin};
 ghost use Rattle.schedule_steps.specs.Steps.{IsStep};
 ghost use Rattle.flat_machine.specs.Layout.{by_place};
@@ -17,7 +17,7 @@ ghost use Rattle.rank_program.specs.Sound.{Sound, setup_in, layout_in, tables_in
 
 use crate::begins::{BeginAt, Begins};
 use crate::group_room::GroupRoom;
-use kernel_types::KernelFault;
+use kernel_model::types::KernelFault;
 use rank_machine::machine::Machine;
 use rank_machine::steps::begin as begin_element;
 use rank_program::{DistributedProgram, Room, Task, original_at, push_element};

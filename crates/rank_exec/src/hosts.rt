@@ -1,7 +1,7 @@
 // Host statements: the statements of `main` that are no loop.
 
 ghost use Rattle.std.specs.Prelude.{◌≡◌, ◌≢◌, ◌<◌, ◌*◌, ◌+◌, ℕ, List, length, map, None, IfOk, OnOk};
-ghost use Rattle.kernel_types.specs.declared.faults.KernelFault.{KernelFault};
+ghost use Rattle.kernel_model.specs.declared.types.faults.KernelFault.{KernelFault};
 ghost use Rattle.mesh_decl.specs.Mesh.{dat_count, dat_set, dat_dim, set_size};
 ghost use Rattle.schedule_steps.specs.declared.step.Step.TheVariants.{Join};
 ghost use Rattle.schedule_model.specs.Kept.{if_before};
@@ -17,7 +17,7 @@ ghost use Rattle.rank_program.specs.Sound.{Sound, program_in, setup_in, layout_i
 use crate::standing::standing_cells;
 use bound_program::{Act, ToldAct};
 use gather::host_acts::Variables;
-use kernel_types::KernelFault;
+use kernel_model::types::KernelFault;
 use op_num::{OutOfMemory, Text};
 use rank_machine::machine::Machine;
 use rank_program::{DistributedProgram, owners_copy};

@@ -1,7 +1,7 @@
 // The joins.
 
 ghost use Rattle.std.specs.Prelude.{◌≡◌, ◌<◌, ◌≤◌, ℕ, length, None, IfOk};
-ghost use Rattle.kernel_types.specs.declared.faults.KernelFault.{KernelFault};
+ghost use Rattle.kernel_model.specs.declared.types.faults.KernelFault.{KernelFault};
 ghost use Rattle.schedule_steps.specs.declared.step.Step.TheVariants.{Join};
 ghost use Rattle.schedule_steps.specs.Steps.{IsStep};
 ghost use Rattle.schedule_model.specs.Program.{Reduce, Ordered, elements};
@@ -21,7 +21,7 @@ ghost use Rattle.rank_program.specs.Sound.{Sound, program_in, setup_in, layout_i
 
 use crate::hosts::run_host;
 use bound_program::Item;
-use kernel_types::KernelFault;
+use kernel_model::types::KernelFault;
 use op_num::OutOfMemory;
 use rank_machine::machine::Machine;
 use rank_machine::steps::read_constants;

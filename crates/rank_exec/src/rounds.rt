@@ -2,7 +2,7 @@
 // out among workers.
 
 ghost use Rattle.std.specs.Prelude.{◌≡◌, ◌<◌, ◌++◌, ◌^◌, ℕ, List, All, IfOk, IfSome, OnOk, length};
-ghost use Rattle.kernel_types.specs.declared.faults.KernelFault.{KernelFault};
+ghost use Rattle.kernel_model.specs.declared.types.faults.KernelFault.{KernelFault};
 ghost use Rattle.schedule_steps.specs.declared.step.Step.{Step};
 ghost use Rattle.rank_exec.specs.Closed.{GroupsAreAlone};
 ghost use Rattle.flat_machine.specs.Flat.{Flat};
@@ -21,7 +21,7 @@ use crate::round_room::clear_all;
 use crate::run_room::RunRoom;
 use crate::sharing::workers_for_round;
 use crate::stream::{Steps, Told};
-use kernel_types::KernelFault;
+use kernel_model::types::KernelFault;
 use op_num::OutOfMemory;
 use par_exec::{Crew, Gate};
 use rank_machine::machine::Machine;

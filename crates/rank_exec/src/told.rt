@@ -1,7 +1,7 @@
 // Elements that a stream told, in place.
 
 ghost use Rattle.std.specs.Prelude.{◌<◌, length};
-ghost use Rattle.kernel_types.specs.declared.faults.KernelFault.{KernelFault};
+ghost use Rattle.kernel_model.specs.declared.types.faults.KernelFault.{KernelFault};
 ghost use Rattle.rank_exec.specs.Closed.{GroupsAreAlone};
 ghost use Rattle.flat_machine.specs.Flat.{Flat};
 ghost use Rattle.rank_state.specs.Shows.{Shows};
@@ -12,7 +12,7 @@ ghost use Rattle.rank_program.specs.Sound.{Sound, setup_in, layout_in, tables_in
 ghost use Rattle.rank_program.specs.Keeping.{KeepsIn};
 
 use crate::stream::Told;
-use kernel_types::KernelFault;
+use kernel_model::types::KernelFault;
 use rank_machine::machine::Machine;
 use rank_machine::steps::read_constants;
 use rank_program::{DistributedProgram, Room};

@@ -1,7 +1,7 @@
 -- The tables of a machine are those of its program.
 use Rattle.std.specs.Prelude.{◌≡◌, ◌<◌, ◌≤◌, ℕ, Bool, true, false, List, [], ◌∷◌, Vec, map, length, sum_by, get_or, slice_index_or, Some, None}
 use Rattle.std.specs.declared.alloc.Global.{Global}
-use Rattle.kernel_types.specs.declared.kernels.RKernel.{RKernel}
+use Rattle.kernel_model.specs.declared.types.kernels.RKernel.{RKernel}
 use Rattle.kernel_model.specs.Effects.{faults_first}
 use Rattle.mesh_decl.specs.declared.owners.Owners.{Owners}
 use Rattle.mesh_decl.specs.Mesh.{dat_set}

@@ -2,7 +2,7 @@
 // Arguments that reach the same have one window.
 
 ghost use Rattle.std.specs.Prelude.{◌≡◌, ◌+◌, ◌*◌, ◌<◌, ◌≤◌, ℕ, true, false, All, map, length};
-ghost use Rattle.kernel_types.specs.Framed.{target_of, PlacesIn};
+ghost use Rattle.kernel_model.specs.Framed.{target_of, PlacesIn};
 ghost use Rattle.bound_program.specs.Values.{bound_of};
 ghost use Rattle.run_model.specs.Windows.{reached, element_by};
 ghost use Rattle.run_model.specs.Arguments.{arg_width};
@@ -11,7 +11,7 @@ ghost use Rattle.rank_layout.specs.Numbered.{number_of, is_one, is_one_at, ArgNa
 ghost use Rattle.rank_layout.specs.Placed.{is_dat, IsPut, DatsPut, AllPut};
 
 use bound_program::{Arg, Bound, Via};
-use kernel_types::views::Place;
+use kernel_model::types::views::Place;
 
 /// As many as a loop has arguments at most.
 pub const MAX_ARGS: usize = 16;

@@ -1,7 +1,7 @@
 -- Parts that are lent what their ranks have, and what elements made of them.
 use Rattle.std.proofs.Common.{◌≡◌, ℕ, zero, suc, ◌+◌, ◌<◌, ◌≤◌, ◌^◌, ℤ, append-nil, refl, sym, ap, ap₂, subst, ◌∙◌, arith, List, [], ◌∷◌, ◌++◌, length, map, take, drop, get_or, set, All, None, Vec, Global}
 use Rattle.std.proofs.lemmas.List.{get_or-map, length-map, take_all}
-use Rattle.kernel_types.specs.declared.faults.KernelFault.{KernelFault}
+use Rattle.kernel_model.specs.declared.types.faults.KernelFault.{KernelFault}
 use Rattle.par_exec.specs.Parts.{TakesEach, MadeEach}
 use Rattle.rank_state.specs.Indices.{values_at}
 use Rattle.rank_state.specs.Machine.{State, row}

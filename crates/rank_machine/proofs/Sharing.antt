@@ -19,15 +19,15 @@ use Rattle.bound_program.specs.contracts.programs.Bound as Bound
 use Rattle.bound_program.specs.contracts.programs.Var as Var
 use Rattle.bound_program.specs.contracts.sites.Site as Site
 use Rattle.bound_program.specs.contracts.acts.Item as Item
-use Rattle.kernel_types.specs.contracts.kernels.RKernel as Kernel
+use Rattle.kernel_model.specs.contracts.types.kernels.RKernel as Kernel
 use Rattle.kernel_code.specs.contracts.code.Code as Code
 use Rattle.kernel_code.specs.contracts.op.Element as Element
 use Rattle.kernel_code.specs.contracts.op.Op as Op
 use Rattle.kernel_code.specs.contracts.part.Part as Part
 use Rattle.rank_program.specs.contracts.program.DistributedProgram as Program
 use Rattle.kernel_code.proofs.part.Part.TheLaws.TheKnot as parts
-use Rattle.kernel_types.proofs.expressions.RExpr.TheLaws.TheKnot as expressions
-use Rattle.kernel_types.proofs.statements.RStmt.TheLaws.TheKnot as statements
+use Rattle.kernel_model.proofs.types.expressions.RExpr.TheLaws.TheKnot as expressions
+use Rattle.kernel_model.proofs.types.statements.RStmt.TheLaws.TheKnot as statements
 use Rattle.mesh_decl.specs.contracts.mesh.Mesh as Mesh
 
 owners_sync : IsSync Owners.the_row

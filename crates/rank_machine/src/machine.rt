@@ -44,7 +44,7 @@ pub struct Machine {
 
 impl Model for Machine {
     ghost use Rattle.std.specs.Prelude.{◌≡◌, ℕ, map};
-    ghost use Rattle.kernel_types.specs.declared.faults.KernelFault.{KernelFault};
+    ghost use Rattle.kernel_model.specs.declared.types.faults.KernelFault.{KernelFault};
     ghost use Rattle.rank_state.specs.Machine.{State};
 
     ghost Value = { State KernelFault };

@@ -1,7 +1,7 @@
 // Sends and receives, on a machine whose lists show a state of the machine on flat buffers.
 
 ghost use Rattle.std.specs.Prelude.{◌≡◌, ◌<◌, ◌≤◌, ◌+◌, List, length};
-ghost use Rattle.kernel_types.specs.declared.faults.KernelFault.{KernelFault};
+ghost use Rattle.kernel_model.specs.declared.types.faults.KernelFault.{KernelFault};
 ghost use Rattle.schedule_steps.specs.declared.step.Step.TheVariants.{Send, Recv};
 ghost use Rattle.schedule_steps.specs.Steps.{IsStep};
 ghost use Rattle.flat_machine.specs.Layout.{by_place};
@@ -14,7 +14,7 @@ ghost use Rattle.rank_program.specs.Rooms.{HasRoomOf};
 ghost use Rattle.rank_program.specs.Sound.{Sound, setup_in, layout_in, tables_in};
 
 use crate::machine::Machine;
-use kernel_types::KernelFault;
+use kernel_model::types::KernelFault;
 use rank_program::{DistributedProgram, Room, push_received, push_sent};
 use rank_state::Span;
 

@@ -11,7 +11,7 @@ ghost use Rattle.rank_machine.specs.Machines.{ran_in};
 ghost use Rattle.rank_program.specs.Sound.{Takes, layout_in};
 
 use crate::windows::{KernelRun, OwnedWindows, Windows};
-use kernel_types::KernelFault;
+use kernel_model::types::KernelFault;
 use rank_program::run_kernel;
 use rank_state::rank_memory::loading::load;
 use rank_state::rank_memory::owned::{load_all, put_back_values, scatter_all};

@@ -1,7 +1,7 @@
 // The machine before the first step.
 
 ghost use Rattle.std.specs.Prelude.{◌≡◌, ◌<◌, ◌*◌, ◌^◌, ℕ, All, map, IfOk};
-ghost use Rattle.kernel_types.specs.declared.faults.KernelFault.{KernelFault};
+ghost use Rattle.kernel_model.specs.declared.types.faults.KernelFault.{KernelFault};
 ghost use Rattle.flat_machine.specs.Flat.{Flat, StartsFlat};
 ghost use Rattle.rank_state.specs.Shows.{Shows};
 ghost use Rattle.rank_state.specs.Starting.{AreFirst};
@@ -9,7 +9,7 @@ ghost use Rattle.rank_state.specs.Spare.{HasSpare};
 ghost use Rattle.rank_program.specs.Sound.{Sound, setup_in, layout_in, tables_in};
 
 use crate::machine::{Machine, Sizes};
-use kernel_types::KernelFault;
+use kernel_model::types::KernelFault;
 use rank_program::DistributedProgram;
 use std::alloc::{AllocError, Global};
 

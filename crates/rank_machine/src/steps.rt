@@ -1,7 +1,7 @@
 // Each begin and end of a list, on a machine whose lists show a state of the machine on flat buffers.
 
 ghost use Rattle.std.specs.Prelude.{◌≡◌, ◌≢◌, ◌<◌, ◌≤◌, ◌+◌, length};
-ghost use Rattle.kernel_types.specs.declared.faults.KernelFault.{KernelFault};
+ghost use Rattle.kernel_model.specs.declared.types.faults.KernelFault.{KernelFault};
 ghost use Rattle.schedule_steps.specs.declared.step.Step.TheVariants.{Begin, End};
 ghost use Rattle.schedule_steps.specs.Steps.{IsStep};
 ghost use Rattle.flat_machine.specs.Layout.{by_place};
@@ -14,7 +14,7 @@ ghost use Rattle.rank_program.specs.Sound.{Sound, setup_in, layout_in, tables_in
 
 use crate::machine::Machine;
 use crate::windows::{Begun, Windows};
-use kernel_types::KernelFault;
+use kernel_model::types::KernelFault;
 use rank_program::{DistributedProgram, Room, original_at, owns_at, push_element};
 
 /// Copies the values of all constants.

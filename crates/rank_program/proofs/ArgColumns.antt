@@ -4,7 +4,7 @@ use Rattle.std.specs.Prelude.{slice_index}
 use Rattle.op_num.specs.declared.reductions.access.Access.{Access}
 use Rattle.op_num.specs.Access.{access_of}
 use Rattle.mesh_decl.specs.declared.access.Via.{Via}
-use Rattle.kernel_types.specs.declared.views.frame.Place.{Place}
+use Rattle.kernel_model.specs.declared.types.views.frame.Place.{Place}
 use Rattle.bound_program.specs.declared.sites.Arg.{Arg}
 use Rattle.run_model.specs.Arguments.{access_by}
 use Rattle.kernel_runs.specs.declared.row_batches.rows.RowColumn.{RowColumn}

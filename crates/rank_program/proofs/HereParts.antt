@@ -1,9 +1,9 @@
 -- Where the arguments of a place's element stand in its rank's buffer and behind it, as they are read in a distributed program.
 use Rattle.std.proofs.Common.{◌≡◌, ◌<◌, ◌≤◌, ◌+◌, ◌-◌, ◌*◌, ℕ, zero, suc, ℤ, Bool, false, true, List, [], ◌∷◌, ◌++◌, All, map, take, length, get_or, Option, Some, refl, sym, ap, ap₂, ◌∙◌, subst, arith}
 use Rattle.std.proofs.lemmas.List.{get_or_default, length-take-le}
-use Rattle.kernel_types.specs.declared.kernels.RKernel.{RKernel}
-use Rattle.kernel_types.specs.declared.views.frame.Place.{Place}
-use Rattle.kernel_types.specs.Framed.{PlacesIn, target_of}
+use Rattle.kernel_model.specs.declared.types.kernels.RKernel.{RKernel}
+use Rattle.kernel_model.specs.declared.types.views.frame.Place.{Place}
+use Rattle.kernel_model.specs.Framed.{PlacesIn, target_of}
 use Rattle.kernel_model.specs.Effects.{faults_first}
 use Rattle.kernel_model.specs.Law.{StopsUnchanged, HaveCounts, UnchangedAfterFaults}
 use Rattle.mesh_decl.specs.Mesh.{set_size}

@@ -9,8 +9,8 @@ use Rattle.op_num.specs.declared.reductions.access.Access.{Access as Code}
 use Rattle.op_num.specs.declared.reductions.access.Access.TheVariants.{Read, Write, Rw, Inc, Min, Max}
 use Rattle.kernel_model.specs.Meaning.{Target, no_target, target_at}
 use Rattle.kernel_model.specs.Obeys.{Mode, mode_at, no_mode}
-use Rattle.kernel_types.specs.declared.views.frame.Place.{Place}
-use Rattle.kernel_types.specs.Framed.{target_of}
+use Rattle.kernel_model.specs.declared.types.views.frame.Place.{Place}
+use Rattle.kernel_model.specs.Framed.{target_of}
 use Rattle.schedule_model.specs.Cells.{Cell, Data, Variable}
 use Rattle.run_model.specs.OnWindows.{no_cell, OnWindows}
 use Rattle.bound_program.specs.declared.sites.Arg.{Arg}

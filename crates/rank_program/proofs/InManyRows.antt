@@ -2,7 +2,7 @@
 use Rattle.std.proofs.Common.{◌≡◌, ℕ, ◌+◌, ◌<◌, ◌≤◌, List, take, drop, length, get_or, sym, ap, ◌∙◌, subst, arith}
 use Rattle.std.specs.Prelude.{slice_index}
 use Rattle.std.proofs.lemmas.List.{get_or-drop, get_or-take, length-take-le, length-drop}
-use Rattle.kernel_types.specs.Resolved.{IsResolved}
+use Rattle.kernel_model.specs.Resolved.{IsResolved}
 use Rattle.kernel_code.specs.Coded.{IsCode}
 use Rattle.run_model.specs.Arguments.{modes_of}
 use Rattle.run_model.specs.Laws.{site_of}

@@ -9,7 +9,7 @@ use Rattle.op_num.specs.declared.reductions.access.Access.{Access}
 use Rattle.op_num.specs.Access.{OpRead, OpWrite, OpRw, OpReduce, access_of}
 use Rattle.op_num.specs.Access as model
 use Rattle.mesh_decl.specs.declared.access.Via.{Via}
-use Rattle.kernel_types.specs.declared.views.frame.Place.{Place}
+use Rattle.kernel_model.specs.declared.types.views.frame.Place.{Place}
 use Rattle.bound_program.specs.declared.sites.Arg.{Arg}
 use Rattle.bound_program.specs.declared.sites.Arg.TheVariants.{Dat}
 use Rattle.run_model.specs.Arguments.{access_by}

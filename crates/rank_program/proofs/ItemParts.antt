@@ -1,7 +1,7 @@
 -- The kernels that the loops of a program run.
 use Rattle.std.proofs.Common.{◌≡◌, ◌<◌, ℕ, zero, suc, List, [], ◌∷◌, length, get_or, sum_by, Some, refl, sym, ap, ◌∙◌, subst, arith}
-use Rattle.kernel_types.specs.declared.kernels.RKernel.{RKernel}
-use Rattle.kernel_types.specs.Resolved.{IsResolved}
+use Rattle.kernel_model.specs.declared.types.kernels.RKernel.{RKernel}
+use Rattle.kernel_model.specs.Resolved.{IsResolved}
 use Rattle.bound_program.specs.Values.{BoundValue, SiteValue, no_site}
 use Rattle.bound_program.specs.Fits.{Fits, SiteFits, TakesArgs, constant_cells}
 use Rattle.run_model.specs.Kernels.{constants, kernel_at}

@@ -10,8 +10,8 @@ use Rattle.kernel_model.specs.Meaning as kernel
 use Rattle.kernel_model.specs.Meaning.{target_at}
 use Rattle.kernel_model.specs.Independence.{Fits, store_after}
 use Rattle.run_model.specs.OnWindows.{core_of}
-use Rattle.kernel_types.specs.declared.views.frame.Place.{Place}
-use Rattle.kernel_types.specs.Framed.{no_place, target_of, PlacesIn}
+use Rattle.kernel_model.specs.declared.types.views.frame.Place.{Place}
+use Rattle.kernel_model.specs.Framed.{no_place, target_of, PlacesIn}
 use Rattle.rank_program.specs.Jobs.{RanIn, part, flagged, left_after}
 
 -- ---- windows

@@ -1,6 +1,6 @@
 -- The run of a loop's kernel for an element.
 use Rattle.std.proofs.Common.{◌≡◌, ◌<◌, ℕ, ℤ, List, [], ◌∷◌, All, get_or, Some, None, sym, refl, subst, Result, Ok, Err}
-use Rattle.kernel_types.specs.declared.faults.KernelFault.{KernelFault}
+use Rattle.kernel_model.specs.declared.types.faults.KernelFault.{KernelFault}
 use Rattle.kernel_model.specs.Meaning as kernel
 use Rattle.mesh_decl.specs.Mesh.{set_size}
 use Rattle.run_model.specs.OnWindows.{core_of}

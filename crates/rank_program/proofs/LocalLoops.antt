@@ -1,7 +1,7 @@
 -- What is looked up of a loop on a rank is what the runs of its elements take.
 use Rattle.std.proofs.Common.{◌≡◌, ◌<◌, ◌≤◌, ℕ, Bool, false, true, List, ℤ, map, length, get_or, Some, sym, ap, ◌∙◌, subst, arith}
-use Rattle.kernel_types.specs.declared.kernels.RKernel.{RKernel}
-use Rattle.kernel_types.specs.Resolved.{IsResolved}
+use Rattle.kernel_model.specs.declared.types.kernels.RKernel.{RKernel}
+use Rattle.kernel_model.specs.Resolved.{IsResolved}
 use Rattle.kernel_code.specs.declared.code.Code.{Code}
 use Rattle.kernel_model.specs.Effects.{faults_first}
 use Rattle.local_mesh.specs.declared.types.RankMesh.{RankMesh}

@@ -3,8 +3,8 @@ use Rattle.std.proofs.Common.{◌≡◌, ◌<◌, ◌≤◌, ◌+◌, ◌-◌, �
 use Rattle.std.specs.Prelude.{◌^◌}
 use Rattle.std.proofs.lemmas.List.{get_or-map, length-map}
 use Rattle.op_num.specs.declared.reductions.access.Access.{Access}
-use Rattle.kernel_types.specs.declared.views.frame.Place.{Place}
-use Rattle.kernel_types.specs.Framed.{no_place}
+use Rattle.kernel_model.specs.declared.types.views.frame.Place.{Place}
+use Rattle.kernel_model.specs.Framed.{no_place}
 use Rattle.schedule_model.specs.Cells.{Cell, Variable}
 use Rattle.run_model.specs.OnWindows.{no_cell}
 use Rattle.local_mesh.specs.declared.types.RankMesh.{RankMesh}

@@ -1,6 +1,6 @@
 -- Tables of a loop that runs in rows, as much of them as was put down.
 use Rattle.std.proofs.Common.{◌≡◌, ◌<◌, ◌+◌, ℕ, List, length, get_or, Option, sym, ◌∙◌, subst, arith}
-use Rattle.kernel_types.specs.declared.views.frame.Place.{Place}
+use Rattle.kernel_model.specs.declared.types.views.frame.Place.{Place}
 use Rattle.bound_program.specs.declared.sites.Arg.{Arg}
 use Rattle.kernel_runs.specs.declared.row_batches.rows.RowColumn.{RowColumn}
 use Rattle.kernel_runs.specs.RowLoops.{no_column}

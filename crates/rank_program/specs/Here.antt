@@ -1,7 +1,7 @@
 -- Where the arguments of a loop stand in a rank's buffer, for the element at a place of the rank: those on dats among its cells, those
 -- on variables behind them.
 use Rattle.std.specs.Prelude.{ℕ, ℤ, ◌+◌, ◌-◌, false, true, cond, Bool, List, length, Option, Some, None}
-use Rattle.kernel_types.specs.declared.views.frame.Place.{Place}
+use Rattle.kernel_model.specs.declared.types.views.frame.Place.{Place}
 use Rattle.mesh_decl.specs.Mesh.{MeshValue}
 use Rattle.local_mesh.specs.declared.types.RankMesh.{RankMesh}
 use Rattle.bound_program.specs.declared.sites.Arg.{Arg}

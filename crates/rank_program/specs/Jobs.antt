@@ -1,13 +1,13 @@
 -- The runs of a kernel for tasks, each on a window of a buffer.
 use Rattle.std.specs.Prelude.{◌≡◌, ◌<◌, ◌≤◌, ◌+◌, ◌-◌, ℕ, ℤ, pos, List, [], ◌∷◌, ◌++◌, map, length, take, replicate, get_or, slice_set, slice_index_or}
-use Rattle.kernel_types.specs.declared.faults.KernelFault.{KernelFault}
-use Rattle.kernel_types.specs.declared.kernels.RKernel.{RKernel}
-use Rattle.kernel_types.specs.Resolved.{IsResolved}
+use Rattle.kernel_model.specs.declared.types.faults.KernelFault.{KernelFault}
+use Rattle.kernel_model.specs.declared.types.kernels.RKernel.{RKernel}
+use Rattle.kernel_model.specs.Resolved.{IsResolved}
 use Rattle.kernel_model.specs.Meaning.{kernel_meaning}
 use Rattle.kernel_model.specs.Meaning as kernel
 use Rattle.kernel_code.specs.Coded.{IsCode}
-use Rattle.kernel_types.specs.declared.views.frame.Place.{Place}
-use Rattle.kernel_types.specs.Framed.{target_of, PlacesIn}
+use Rattle.kernel_model.specs.declared.types.views.frame.Place.{Place}
+use Rattle.kernel_model.specs.Framed.{target_of, PlacesIn}
 use Rattle.flat_machine.specs.Layout.{Core, Faults, Leaves}
 use Rattle.run_model.specs.OnWindows.{core_of}
 use Rattle.par_exec.specs.Windows as par

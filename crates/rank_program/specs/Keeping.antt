@@ -1,7 +1,7 @@
 -- Kernels that leave the cells of OP_READ arguments, as runs on a rank's own cells ask of them.
 use Rattle.std.specs.Prelude.{◌≡◌, ◌<◌, ◌+◌, ℕ, ℤ, false, List, length, Some}
 use Rattle.op_num.specs.Access.{OpRead}
-use Rattle.kernel_types.specs.declared.kernels.RKernel.{RKernel}
+use Rattle.kernel_model.specs.declared.types.kernels.RKernel.{RKernel}
 use Rattle.kernel_model.specs.Meaning.{Target, target_at}
 use Rattle.kernel_model.specs.Obeys.{Mode, mode_at}
 use Rattle.kernel_model.specs.StoredThrough.{stores_through}

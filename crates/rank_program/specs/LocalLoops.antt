@@ -1,7 +1,7 @@
 -- What the elements of a loop that run on a rank's own cells have in common.
 use Rattle.std.specs.Prelude.{◌≡◌, ◌<◌, ◌≤◌, ◌+◌, ℕ, ℤ, true, All, List, length, map, get_or, Some, slice_index_or}
-use Rattle.kernel_types.specs.declared.views.frame.Place.{Place}
-use Rattle.kernel_types.specs.Resolved.{IsResolved}
+use Rattle.kernel_model.specs.declared.types.views.frame.Place.{Place}
+use Rattle.kernel_model.specs.Resolved.{IsResolved}
 use Rattle.kernel_code.specs.Coded.{IsCode}
 use Rattle.kernel_model.specs.Effects.{faults_first}
 use Rattle.schedule_model.specs.Cells.{Cell, Variable}

@@ -1,6 +1,6 @@
 -- Runs of a loop's elements on a rank's own cells: what they ask of the loop, and what is lent to them.
 use Rattle.std.specs.Prelude.{◌≡◌, ◌+◌, length, take}
-use Rattle.kernel_types.specs.declared.faults.KernelFault.{KernelFault}
+use Rattle.kernel_model.specs.declared.types.faults.KernelFault.{KernelFault}
 use Rattle.rank_state.specs.Stops.{stop_in}
 use Rattle.rank_program.specs.declared.local_loops.LocalLoop.{LocalLoop}
 use Rattle.rank_program.specs.declared.room.KernelRoom.{KernelRoom}

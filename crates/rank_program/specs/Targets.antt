@@ -1,7 +1,7 @@
 -- Where the windows of tasks' arguments stand.
 use Rattle.std.specs.Prelude.{◌≡◌, ◌<◌, ℕ, List, map, length}
-use Rattle.kernel_types.specs.declared.views.frame.Place.{Place}
-use Rattle.kernel_types.specs.Framed.{target_of, PlacesIn}
+use Rattle.kernel_model.specs.declared.types.views.frame.Place.{Place}
+use Rattle.kernel_model.specs.Framed.{target_of, PlacesIn}
 use Rattle.bound_program.specs.declared.sites.Arg.{Arg}
 use Rattle.bound_program.specs.Values.{BoundValue}
 use Rattle.bound_plan.specs.Windows.{frame_cells, frame_windows}

@@ -2,7 +2,7 @@
 
 ghost use Rattle.std.specs.Prelude.{◌≡◌, ◌<◌, ◌≤◌, ◌+◌, ℕ, ℤ, List, [], All, map, take, length, vec_capacity};
 ghost use Rattle.mesh_decl.specs.Mesh.{set_size};
-ghost use Rattle.kernel_types.specs.Framed.{target_of, PlacesIn};
+ghost use Rattle.kernel_model.specs.Framed.{target_of, PlacesIn};
 ghost use Rattle.bound_program.specs.Values.{bound_of, site_of};
 ghost use Rattle.bound_program.specs.Fits.{SiteFits};
 ghost use Rattle.bound_plan.specs.Windows.{frame_cells, frame_windows};
@@ -15,7 +15,7 @@ use crate::items::loop_of;
 use crate::program::DistributedProgram;
 use crate::{KernelJob, MOST_ARGS, Targets, Task};
 use bound_program::{Arg, Bound, Site};
-use kernel_types::views::Place;
+use kernel_model::types::views::Place;
 use rank_layout::{args_of, put_windows};
 
 // Where the windows of a loop's arguments stand in an element's frame.

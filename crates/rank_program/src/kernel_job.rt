@@ -1,14 +1,14 @@
 // A kernel's run on a window.
 
 ghost use Rattle.std.specs.Prelude.{◌≡◌, ◌<◌, ◌+◌, length};
-ghost use Rattle.kernel_types.specs.Resolved.{IsResolved};
+ghost use Rattle.kernel_model.specs.Resolved.{IsResolved};
 ghost use Rattle.kernel_code.specs.Coded.{IsCode};
-ghost use Rattle.kernel_types.specs.Framed.{PlacesIn};
+ghost use Rattle.kernel_model.specs.Framed.{PlacesIn};
 ghost use Rattle.rank_program.specs.Jobs.{window_after};
 
 use crate::tasks::{Targets, Task};
 use kernel_code::{Code, run_on};
-use kernel_types::views::Place;
+use kernel_model::types::views::Place;
 use par_exec::Job;
 
 /// The runs of a kernel for tasks: on the first cells of each task's window, with the values of all constants.

@@ -1,7 +1,7 @@
 // A kernel's run on an element's frame.
 
 ghost use Rattle.std.specs.Prelude.{◌≡◌, ◌<◌, ◌≤◌, length, map};
-ghost use Rattle.kernel_types.specs.Framed.{PlacesIn, target_of};
+ghost use Rattle.kernel_model.specs.Framed.{PlacesIn, target_of};
 ghost use Rattle.mesh_decl.specs.Mesh.{set_size};
 ghost use Rattle.bound_program.specs.Values.{bound_of, site_of};
 ghost use Rattle.bound_program.specs.Fits.{SiteFits};
@@ -13,8 +13,8 @@ use crate::items::loop_of;
 use crate::program::DistributedProgram;
 use bound_program::{Bound, Site};
 use kernel_code::run_on;
-use kernel_types::KernelFault;
-use kernel_types::views::Place;
+use kernel_model::types::KernelFault;
+use kernel_model::types::views::Place;
 use rank_layout::{MAX_ARGS, put_windows};
 
 // Puts down where the windows of a loop's arguments stand in an element's frame.

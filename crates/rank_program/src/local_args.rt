@@ -7,7 +7,7 @@ ghost use Rattle.rank_program.specs.LocalArgs.{CountsCells, IsVia, IsArg, AreArg
 use bound_program::Arg;
 use kernel_runs::row_batches::batch_tables::LocalArg;
 use kernel_runs::row_batches::{LocalVia, local_number};
-use kernel_types::views::Place;
+use kernel_model::types::views::Place;
 use local_mesh::RankMesh;
 use mesh_decl::{Mesh, Via};
 use rank_layout::targets_of;

@@ -7,7 +7,7 @@ ghost use Rattle.rank_program.specs.Sound.{Sound};
 use crate::program::DistributedProgram;
 use kernel_runs::row_batches::RowRoom;
 use kernel_runs::worker_batches::BatchesRoom;
-use kernel_types::views::Place;
+use kernel_model::types::views::Place;
 use rank_state::{Owned, Span};
 use std::alloc::{AllocError, Global};
 

@@ -1,6 +1,6 @@
 // What is told of each run.
 
-use kernel_types::views::Place;
+use kernel_model::types::views::Place;
 
 /// A run: its element by its original number, and how many cells the element's windows have.
 #[derive(Clone, Copy)]

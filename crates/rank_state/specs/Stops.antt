@@ -1,6 +1,6 @@
 -- A stop of the program as one of the model.
 use Rattle.std.specs.Prelude.{Option, Some, None}
-use Rattle.kernel_types.specs.declared.faults.KernelFault.{KernelFault}
+use Rattle.kernel_model.specs.declared.types.faults.KernelFault.{KernelFault}
 use Rattle.schedule_model.specs.Sequential as model
 use Rattle.rank_state.specs.declared.rank_memory.stop.Stop.{Stop}
 

@@ -1,14 +1,14 @@
 -- Statements of `main` leave numbers of 32 bits.
 use Rattle.std.proofs.Common.{◌+◌, ◌*◌, ℕ, zero, suc, ℤ, pos, Bool, true, false, List, [], ◌∷◌, map, get_or, Option, Some, None, Result, Ok, Err, cond, subst, FitsSigned, w32, arith}
 use Rattle.std.specs.Prelude.{◌&&◌, nat_eq, slice_index_or}
-use Rattle.kernel_types.specs.declared.faults.KernelFault.{KernelFault}
+use Rattle.kernel_model.specs.declared.types.faults.KernelFault.{KernelFault}
 use Rattle.kernel_model.specs.Numbers.{Value, truth, is_zero, is_settled, apply, not}
 use Rattle.kernel_model.specs.Meaning.{on_value, and_then, index_in, stored}
 use Rattle.kernel_model.specs.Operators.{IsNumber, OperatorsStayInRange}
 use Rattle.mesh_decl.specs.Mesh.{dat_dim}
 use Rattle.schedule_model.specs.Cells.{Data, Variable, VarCell, Store, InRange}
 use Rattle.schedule_model.specs.Program.{Hosted, Halts, Goes}
-use Rattle.kernel_types.specs.View.{RExprTree, Number, Scalar, Constant, Arg, Local, Const, Unary, Binary, Choice, Paren, Extremum, Absolute}
+use Rattle.kernel_model.specs.View.{RExprTree, Number, Scalar, Constant, Arg, Local, Const, Unary, Binary, Choice, Paren, Extremum, Absolute}
 use Rattle.bound_program.specs.HostExpr.{value}
 use Rattle.bound_program.specs.Values.{BoundValue, ItemValue, Free, Reduce, Ordered, Host, ActValue, Clear, Assign, Line, Print, Exit}
 use Rattle.bound_program.specs.Fits.{HostWithin, ActFits, ItemsFit, due, var_at}

@@ -2,8 +2,8 @@
 use Rattle.std.proofs.Common.{◌≡◌, ◌<◌, ◌+◌, ℕ, zero, suc, ℤ, true, List, [], ◌∷◌, map, length, Some, None, refl, sym, ap, ◌∙◌, subst, arith}
 use Rattle.std.specs.Prelude.{slice_index_or}
 use Rattle.std.proofs.lemmas.List.{get_or-map}
-use Rattle.kernel_types.specs.declared.faults.KernelFault.{KernelFault}
-use Rattle.kernel_types.specs.declared.kernels.RKernel.{RKernel}
+use Rattle.kernel_model.specs.declared.types.faults.KernelFault.{KernelFault}
+use Rattle.kernel_model.specs.declared.types.kernels.RKernel.{RKernel}
 use Rattle.kernel_model.specs.Meaning.{Target, no_target, target_at, kernel_meaning}
 use Rattle.kernel_model.specs.Meaning as kernel
 use Rattle.kernel_model.specs.Obeys.{mode_at}

@@ -1,7 +1,7 @@
 -- A run keeps all values in range.
 use Rattle.std.proofs.Common.{◌≡◌, ℕ, zero, suc, ℤ, true, List, [], ◌∷◌, length, Some, None, refl, ap}
-use Rattle.kernel_types.specs.declared.faults.KernelFault.{KernelFault}
-use Rattle.kernel_types.specs.declared.kernels.RKernel.{RKernel}
+use Rattle.kernel_model.specs.declared.types.faults.KernelFault.{KernelFault}
+use Rattle.kernel_model.specs.declared.types.kernels.RKernel.{RKernel}
 use Rattle.schedule_model.specs.Cells.{Data, Variable, VarCell, Store, InRange}
 use Rattle.schedule_model.specs.Effects.{Ran, Faulted, Finished}
 use Rattle.schedule_model.specs.Program as program

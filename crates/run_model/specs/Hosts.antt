@@ -4,13 +4,13 @@ use Rattle.std.specs.Prelude.{ℕ, suc, ℤ, pos, ◌&&◌, List, [], ◌∷◌,
 use Rattle.std.specs.List.{flat_map}
 use Rattle.c_lex.specs.declared.tokens.Pos.{Pos}
 use Rattle.c_tree.specs.declared.declarations.AssignOp.{AssignOp}
-use Rattle.kernel_types.specs.declared.faults.KernelFault.{KernelFault}
+use Rattle.kernel_model.specs.declared.types.faults.KernelFault.{KernelFault}
 use Rattle.kernel_model.specs.Meaning.{on_value, index_in, stored}
 use Rattle.mesh_decl.specs.Mesh.{set_size, dat_set, dat_dim}
 use Rattle.mesh_decl.specs.Printed.{printed_dat, printed_line}
 use Rattle.schedule_model.specs.Cells.{Cell, Data, Variable, VarCell, Store}
 use Rattle.schedule_model.specs.Program.{Hosted, Halts, Goes}
-use Rattle.kernel_types.specs.View.{RExprTree}
+use Rattle.kernel_model.specs.View.{RExprTree}
 use Rattle.bound_program.specs.HostExpr.{value}
 use Rattle.bound_program.specs.Values.{BoundValue, VarValue, ActValue, Clear, Assign, Line, Print, Exit}
 use Rattle.bound_program.specs.Fits.{var_at}

@@ -1,7 +1,7 @@
 -- The run of a loop's kernel for one element.
 use Rattle.std.specs.Prelude.{ℕ, zero, suc, ℤ, ◌+◌, ◌-◌, Bool, not, ◌&&◌, List, [], ◌∷◌, map, length, sum_by, Option, Some, None, nat_lt, if◌then◌else◌}
-use Rattle.kernel_types.specs.declared.faults.KernelFault.{KernelFault}
-use Rattle.kernel_types.specs.declared.kernels.RKernel.{RKernel}
+use Rattle.kernel_model.specs.declared.types.faults.KernelFault.{KernelFault}
+use Rattle.kernel_model.specs.declared.types.kernels.RKernel.{RKernel}
 use Rattle.kernel_model.specs.Meaning.{kernel_meaning}
 use Rattle.schedule_model.specs.Cells.{Variable, VarCell, Store}
 use Rattle.schedule_model.specs.Effects.{Ran, Finished}

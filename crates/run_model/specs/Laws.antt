@@ -1,8 +1,8 @@
 -- The runs of a loop's elements are those of its kernel.
 use Rattle.std.specs.Prelude.{◌≡◌, ◌<◌, ℕ, true, length, Some}
 use Rattle.op_num.specs.Access.{OpRead}
-use Rattle.kernel_types.specs.declared.faults.KernelFault.{KernelFault}
-use Rattle.kernel_types.specs.declared.kernels.RKernel.{RKernel}
+use Rattle.kernel_model.specs.declared.types.faults.KernelFault.{KernelFault}
+use Rattle.kernel_model.specs.declared.types.kernels.RKernel.{RKernel}
 use Rattle.kernel_model.specs.Obeys.{KernelObeys}
 use Rattle.schedule_model.specs.Cells.{Cell, Store, InRange}
 use Rattle.schedule_model.specs.Effects.{Ran, Finished}

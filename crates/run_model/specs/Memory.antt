@@ -1,8 +1,8 @@
 -- All cells of a bound program in one memory: the dats in order, each element by element, and then the variables.
 use Rattle.std.specs.Prelude.{◌≡◌, ◌<◌, ◌≤◌, ◌⊎◌, ℕ, zero, suc, ℤ, pos, ◌+◌, ◌*◌, Bool, true, ◌&&◌, List, [], ◌∷◌, length, map, take, drop, ◌++◌, nat_lt, slice_index_or, slice_set}
 use Rattle.std.specs.List.{flat_map}
-use Rattle.kernel_types.specs.declared.faults.KernelFault.{KernelFault}
-use Rattle.kernel_types.specs.declared.kernels.RKernel.{RKernel}
+use Rattle.kernel_model.specs.declared.types.faults.KernelFault.{KernelFault}
+use Rattle.kernel_model.specs.declared.types.kernels.RKernel.{RKernel}
 use Rattle.kernel_model.specs.Meaning.{kernel_meaning}
 use Rattle.kernel_model.specs.Meaning as kernel
 use Rattle.mesh_decl.specs.Mesh.{dat_count, dat_values, set_size, dat_set, map_count, IsMapAt, IsDatAt}

@@ -1,8 +1,8 @@
 -- The sequential run of a bound program: the items of `main` in order, each loop one element after another in its set's original
 -- order, on whole arrays, up to the first fault.
 use Rattle.std.specs.Prelude.{ℕ, zero, suc, List, [], map, length, Option, Some, None, slice_get, slice_index_or}
-use Rattle.kernel_types.specs.declared.faults.KernelFault.{KernelFault}
-use Rattle.kernel_types.specs.declared.kernels.RKernel.{RKernel}
+use Rattle.kernel_model.specs.declared.types.faults.KernelFault.{KernelFault}
+use Rattle.kernel_model.specs.declared.types.kernels.RKernel.{RKernel}
 use Rattle.kernel_model.specs.Meaning.{kernel_meaning}
 use Rattle.kernel_model.specs.Meaning as kernel
 use Rattle.mesh_decl.specs.Mesh.{set_size}

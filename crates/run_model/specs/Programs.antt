@@ -1,6 +1,6 @@
 -- A bound program as the theorem on schedules has it: its items, and what they do to the values of all cells.
 use Rattle.std.specs.Prelude.{List, ℕ, pos, ◌+◌, ◌*◌, length, slice_index_or, Option, Some, None}
-use Rattle.kernel_types.specs.declared.faults.KernelFault.{KernelFault}
+use Rattle.kernel_model.specs.declared.types.faults.KernelFault.{KernelFault}
 use Rattle.mesh_decl.specs.Mesh.{set_size, dat_set, dat_dim, dat_values}
 use Rattle.schedule_model.specs.Cells.{Data, Variable, Store}
 use Rattle.schedule_model.specs.Program as program

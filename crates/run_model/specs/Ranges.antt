@@ -1,8 +1,8 @@
 -- The values of a run are numbers of 32 bits.
 use Rattle.std.specs.Prelude.{◌≡◌, ◌<◌, ℕ, ℤ, pos, List, length, Some, slice_index_or, FitsSigned}
 use Rattle.std.specs.Int.{w32}
-use Rattle.kernel_types.specs.declared.faults.KernelFault.{KernelFault}
-use Rattle.kernel_types.specs.declared.kernels.RKernel.{RKernel}
+use Rattle.kernel_model.specs.declared.types.faults.KernelFault.{KernelFault}
+use Rattle.kernel_model.specs.declared.types.kernels.RKernel.{RKernel}
 use Rattle.kernel_model.specs.Obeys.{KernelObeys}
 use Rattle.mesh_decl.specs.Mesh.{dat_values}
 use Rattle.schedule_model.specs.Cells.{VarCell, Store, InRange}

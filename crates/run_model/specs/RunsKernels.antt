@@ -1,8 +1,8 @@
 -- A setup whose loops run kernels for their elements.
 use Rattle.std.specs.Prelude.{◌≡◌, ◌<◌, ℕ, ℤ, Bool, true, List, FitsSigned}
 use Rattle.std.specs.Int.{w32}
-use Rattle.kernel_types.specs.declared.faults.KernelFault.{KernelFault}
-use Rattle.kernel_types.specs.declared.kernels.RKernel.{RKernel}
+use Rattle.kernel_model.specs.declared.types.faults.KernelFault.{KernelFault}
+use Rattle.kernel_model.specs.declared.types.kernels.RKernel.{RKernel}
 use Rattle.kernel_model.specs.Obeys.{Mode, KernelObeys}
 use Rattle.schedule_model.specs.Cells.{Cell, VarCell, Store, InRange}
 use Rattle.schedule_model.specs.Program.{Free, Ordered, Goes, is_loop, elements}

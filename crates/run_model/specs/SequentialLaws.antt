@@ -1,6 +1,6 @@
 -- The run on whole arrays is the one that the theorem on schedules is about.
 use Rattle.std.specs.Prelude.{◌≡◌, ℕ}
-use Rattle.kernel_types.specs.declared.faults.KernelFault.{KernelFault}
+use Rattle.kernel_model.specs.declared.types.faults.KernelFault.{KernelFault}
 use Rattle.schedule_model.specs.Sequential.{Seq, seq}
 use Rattle.schedule_model.specs.Sequential as cells
 use Rattle.bound_program.specs.Values.{BoundValue}

@@ -6,7 +6,7 @@ ghost use Rattle.run_model.specs.ElementRun.{ElementRunsKeepRange, ElementRunsKe
 ghost use Rattle.run_model.specs.OnWindows.{ElementRunsOnWindows};
 ghost use Rattle.run_model.specs.RunsKernels.{SetupsHaveKernels};
 
-use kernel_types::KernelFault;
+use kernel_model::types::KernelFault;
 
 /// A law: where a run for one element, on the cells of dats and variables, is that of a kernel over any lists that hold
 /// the cells which its arguments reach, and the kernel obeys its modes, the run is independent by its arguments.

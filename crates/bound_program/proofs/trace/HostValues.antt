@@ -1,9 +1,9 @@
 -- The values of expressions of `main` and of kernels.
 use Rattle.std.proofs.Common.{◌≡◌, refl, List, ℤ}
-use Rattle.kernel_types.specs.declared.expressions.RExpr.{RExpr}
-use Rattle.kernel_types.specs.declared.expressions.RExpr.TheVariants as r
+use Rattle.kernel_model.specs.declared.types.expressions.RExpr.{RExpr}
+use Rattle.kernel_model.specs.declared.types.expressions.RExpr.TheVariants as r
 use Rattle.kernel_model.specs.Meaning.{Store, Target, value_of}
-use Rattle.kernel_types.specs.View.{rexpr_of}
+use Rattle.kernel_model.specs.View.{rexpr_of}
 use Rattle.bound_program.specs.HostExpr.{value, IsHost, MeansAsInKernels}
 
 module _ (ts : List Target) (s : Store) (told cells : List ℤ) where

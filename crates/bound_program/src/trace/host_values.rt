@@ -1,13 +1,13 @@
 // The values of expressions of `main`.
 
 ghost use Rattle.std.specs.Prelude.{◌≡◌, ◌+◌, pos, slice_index_or};
-ghost use Rattle.kernel_types.specs.View.{rexpr_of};
+ghost use Rattle.kernel_model.specs.View.{rexpr_of};
 ghost use Rattle.bound_program.specs.HostExpr.{value};
 
 use kernel_model::operators::{
     KernelFault, absolute, apply_op, apply_unary_op, extreme, index_of, settles, truth_of,
 };
-use kernel_types::RExpr;
+use kernel_model::types::RExpr;
 
 // The cell with this number behind the first ones, or 0 where there is none.
 fn cell_behind(cells: &[i32], from: usize, index: usize) -> i32

@@ -1,7 +1,7 @@
 // Laws of the definitions, each as the contract of a function that does nothing.
 
 ghost use Rattle.std.specs.Prelude.{◌≡◌, ℤ, List, []};
-ghost use Rattle.kernel_types.specs.View.{RExprTree};
+ghost use Rattle.kernel_model.specs.View.{RExprTree};
 ghost use Rattle.bound_program.specs.HostExpr.{MeansAsInKernels, value, closed};
 
 /// A law: an expression of `main` has the value, or the fault, that it has in a kernel whose local cells are those of

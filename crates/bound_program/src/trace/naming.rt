@@ -1,13 +1,13 @@
 // Statements of `main` whose told names are numbered anew.
 
 ghost use Rattle.std.specs.Prelude.{◌≡◌, ◌++◌, ◌<◌, ℕ, List, map, option_map, length, pos, slice_index, slice_index_or, IfOk, IfSome};
-ghost use Rattle.kernel_types.specs.View.{rexpr_of, Constant};
+ghost use Rattle.kernel_model.specs.View.{rexpr_of, Constant};
 ghost use Rattle.bound_program.specs.Values.{act_of, told_act_of, closed_act};
 ghost use Rattle.bound_program.specs.Naming.{name, renamed, renamed_act, named_act_of, Grows, Spells, SpellAll};
 
 use crate::trace::steps::NamedAct;
 use crate::{Act, ToldAct};
-use kernel_types::RExpr;
+use kernel_model::types::RExpr;
 use op_num::OutOfMemory;
 use std::alloc::{AllocError, Global};
 use std::sync::Arc;

@@ -5,7 +5,7 @@ ghost use Rattle.std.specs.Prelude.{◌≡◌, IfOk};
 use crate::trace::naming::named_act;
 use crate::{Act, Item};
 use c_tree::Pos;
-use kernel_types::RExpr;
+use kernel_model::types::RExpr;
 use op_num::OutOfMemory;
 use std::alloc::Global;
 use std::sync::Arc;

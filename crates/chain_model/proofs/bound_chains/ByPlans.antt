@@ -1,6 +1,6 @@
 -- Chains of a bound program, by a plan that is there.
 use Rattle.std.proofs.Common.{◌≡◌, List, append-nil, None, Result, Ok, Err, ◌∙◌, arith}
-use Rattle.kernel_types.specs.declared.faults.KernelFault.{KernelFault}
+use Rattle.kernel_model.specs.declared.types.faults.KernelFault.{KernelFault}
 use Rattle.mesh_decl.specs.declared.owners.Owners.{Owners}
 use Rattle.mesh_decl.specs.declared.owners.Perms.{Perms}
 use Rattle.mesh_decl.specs.Owners.{ArePerms}

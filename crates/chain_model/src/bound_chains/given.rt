@@ -1,7 +1,7 @@
 // The laws of the lower crates on which the laws here rest.
 ghost use Rattle.chain_model.specs.Given.{ChainLaws, PlanLaws};
 
-use kernel_types::KernelFault;
+use kernel_model::types::KernelFault;
 
 // That there is a plan, whose setup is lawful.
 pub(crate) fn plans_are_there()

@@ -1,7 +1,7 @@
 -- The kernel of a loop, and the loop of a number.
 use Rattle.std.proofs.Common.{◌≡◌, ◌<◌, ℕ, zero, suc, List, [], ◌∷◌, map, length, get_or, Some, refl, sym, ap, subst, ◌∙◌, arith}
 use Rattle.std.proofs.lemmas.List.{length-map, get_or-map}
-use Rattle.kernel_types.specs.declared.kernels.RKernel.{RKernel}
+use Rattle.kernel_model.specs.declared.types.kernels.RKernel.{RKernel}
 use Rattle.bound_program.specs.declared.sites.Site.{Site}
 use Rattle.bound_program.specs.Values.{BoundValue, SiteValue, site_of, no_site}
 use Rattle.bound_program.specs.Fits.{Fits, TakesArgs, site_at}

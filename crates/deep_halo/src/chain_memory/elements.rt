@@ -15,8 +15,8 @@ use crate::chain_memory::loops::{Loop, MAX_ARGS};
 use crate::chain_memory::places::{owner_of, pair_at, variable_at, width_of};
 use bound_program::{Arg, Via};
 use kernel_runs::in_place::{KernelInPlace, run_here};
-use kernel_types::KernelFault;
-use kernel_types::views::Place;
+use kernel_model::types::KernelFault;
+use kernel_model::types::views::Place;
 
 // All arguments' cells are taken over from a run.
 const MARKS: [bool; MAX_ARGS] = [true; MAX_ARGS];

@@ -1,7 +1,7 @@
 // An element on a rank that executes it.
 
 ghost use Rattle.std.specs.Prelude.{◌≡◌, ◌<◌, ◌≤◌, cond, nat_eq, Some, length};
-ghost use Rattle.kernel_types.specs.declared.faults.KernelFault.{KernelFault as Fault};
+ghost use Rattle.kernel_model.specs.declared.types.faults.KernelFault.{KernelFault as Fault};
 ghost use Rattle.mesh_decl.specs.Mesh.{set_size};
 ghost use Rattle.mesh_decl.specs.Owners.{owner_of};
 ghost use Rattle.gather.specs.Variables.{of_vars};
@@ -19,7 +19,7 @@ ghost use Rattle.deep_halo.specs.Loops.{IsChainLoop, HasConstants, element_ran, 
 use crate::chain_memory::run_element;
 use crate::chain_ranks::chain_elements::{drop_unheld, merge_globals, put_globals};
 use crate::chain_ranks::loops::ChainLoop;
-use kernel_types::KernelFault;
+use kernel_model::types::KernelFault;
 use rank_state::rank_memory::stop::{Stop, least};
 
 // Keeps the fault of an element, where its rank owns it.

@@ -1,7 +1,7 @@
 // The elements of a Free loop on all ranks.
 
 ghost use Rattle.std.specs.Prelude.{◌≡◌, ◌<◌, ◌≤◌, length};
-ghost use Rattle.kernel_types.specs.declared.faults.KernelFault.{KernelFault as Fault};
+ghost use Rattle.kernel_model.specs.declared.types.faults.KernelFault.{KernelFault as Fault};
 ghost use Rattle.gather.specs.Variables.{of_vars};
 ghost use Rattle.schedule_model.specs.Program.{elements};
 ghost use Rattle.run_model.specs.Programs.{program_of};

@@ -6,8 +6,8 @@ use Rattle.std.proofs.Math.Seq.{drop-cons}
 use Rattle.std.proofs.lemmas.List.{length-map, take-append-drop, take_all, map-append}
 use Rattle.std.proofs.lemmas.List.Elements.{All-nil, All-cons}
 use Rattle.c_lex.specs.declared.tokens.Pos.{Pos}
-use Rattle.kernel_types.specs.declared.kernels.RKernel.{RKernel}
-use Rattle.kernel_types.specs.Resolved.{IsResolved, AreResolved}
+use Rattle.kernel_model.specs.declared.types.kernels.RKernel.{RKernel}
+use Rattle.kernel_model.specs.Resolved.{IsResolved, AreResolved}
 use Rattle.kernel_model.specs.Obeys.{Mode, KernelObeys, mode_at}
 use Rattle.kernel_model.specs.Refusals.{Rule, ObeysUnlessBroken, OneRefusal, number_of}
 use Rattle.access_check.specs.declared.modes.Mode as code

@@ -2,7 +2,7 @@
 ghost use Rattle.std.specs.Prelude.{◌≡◌, ◌++◌, ◌+◌, ◌<◌, ◌^◌, Some, codes, length, slice_get, OnOk, IfOk};
 ghost use Rattle.std.specs.Fmt.{decimal};
 ghost use Rattle.c_tree.specs.View.{program_of};
-ghost use Rattle.kernel_types.specs.Resolved.{IsResolvedProgram};
+ghost use Rattle.kernel_model.specs.Resolved.{IsResolvedProgram};
 ghost use Rattle.explanations.specs.Calls.{call_of};
 ghost use Rattle.explanations.specs.Judgements.{judgement_in};
 ghost use Rattle.explanations.specs.Accesses.{shown_call, shown_arg, shown_argument, shown, Tells, TellsOver, IsTold};

@@ -6,7 +6,7 @@ ghost use Rattle.explanations.specs.Arguments.{stands_at, name_of, name_at, is_n
 use crate::Place;
 use crate::error_loops::placed::place_of;
 use c_tree::{Kind, LoopArg, Pos, Token};
-use kernel_types::RKernel;
+use kernel_model::types::RKernel;
 
 // Whether a token stands at this place.
 fn stands_at(at: Place, token: &Token) -> bool

@@ -2,8 +2,8 @@
 ghost use Rattle.std.specs.Prelude.{◌≡◌, ◌↔◌, ℕ, List, map, length, option_map, IfOk, IsTrue};
 ghost use Rattle.std.specs.List.{find};
 ghost use Rattle.std.specs.Str.{bytes_eq};
-ghost use Rattle.kernel_types.specs.Resolved.{IsResolved, IsResolvedProgram};
-ghost use Rattle.kernel_types.specs.declared.kernels.RKernel.{RKernel as Kernel};
+ghost use Rattle.kernel_model.specs.Resolved.{IsResolved, IsResolvedProgram};
+ghost use Rattle.kernel_model.specs.declared.types.kernels.RKernel.{RKernel as Kernel};
 ghost use Rattle.kernel_model.specs.Obeys.{Mode as KernelMode};
 ghost use Rattle.access_check.specs.Modes.{model_of, AreSmall};
 ghost use Rattle.access_check.specs.Refusals.{Refuses};
@@ -15,7 +15,7 @@ use crate::error_loops::judgements::Judgement;
 use crate::error_loops::modes::modes_by;
 use crate::error_loops::placed::place_of;
 use access_check::{AccessRefusal, Mode, are_small, check};
-use kernel_types::{RKernel, Resolved};
+use kernel_model::types::{RKernel, Resolved};
 use op_num::OutOfMemory;
 use std::alloc::{AllocError, Global};
 

@@ -6,14 +6,14 @@ use Rattle.std.proofs.lemmas.List.{append-nil, get_or-drop}
 use Rattle.c_lex.specs.declared.tokens.Pos.{Pos}
 use Rattle.c_tree.specs.declared.declarations.AssignOp.{AssignOp}
 use Rattle.op_num.specs.declared.refusals.Fault.TheVariants.{Index}
-use Rattle.kernel_types.specs.declared.faults.KernelFault.{KernelFault}
+use Rattle.kernel_model.specs.declared.types.faults.KernelFault.{KernelFault}
 use Rattle.kernel_model.specs.Numbers.{Value, fault}
 use Rattle.kernel_model.specs.Meaning.{on_value, index_in, stored}
 use Rattle.mesh_decl.specs.Printed.{printed_line}
 use Rattle.schedule_model.specs.Cells.{Variable, VarCell, Store}
 use Rattle.schedule_model.specs.Program.{Hosted, Halts, Goes}
 use Rattle.schedule_model.specs.Sequential.{with_variables}
-use Rattle.kernel_types.specs.View.{RExprTree}
+use Rattle.kernel_model.specs.View.{RExprTree}
 use Rattle.bound_program.specs.HostExpr.{value}
 use Rattle.bound_program.specs.Values.{BoundValue}
 use Rattle.bound_program.specs.Fits.{var_at}

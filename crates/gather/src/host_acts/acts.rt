@@ -4,7 +4,7 @@ ghost use Rattle.std.specs.Prelude.{◌≡◌, ◌<◌, ◌≤◌, ◌+◌, ◌�
 ghost use Rattle.std.specs.Int.{w32};
 ghost use Rattle.schedule_model.specs.Cells.{Store};
 ghost use Rattle.schedule_model.specs.Sequential.{with_variables};
-ghost use Rattle.kernel_types.specs.View.{rexpr_of};
+ghost use Rattle.kernel_model.specs.View.{rexpr_of};
 ghost use Rattle.bound_program.specs.HostExpr.{value, closed};
 ghost use Rattle.bound_program.specs.Values.{act_of, closed_act, told_act_of, Line};
 ghost use Rattle.bound_program.specs.Fits.{ActFits};
@@ -18,8 +18,8 @@ use crate::print_line;
 use bound_program::trace::{host_value, told_values_are_closed};
 use bound_program::{Act, ToldAct, Var};
 use kernel_model::operators::{index_of, stored_value};
-use kernel_types::views::Place;
-use kernel_types::{AssignOp, KernelFault, Pos, RExpr};
+use kernel_model::types::views::Place;
+use kernel_model::types::{AssignOp, KernelFault, Pos, RExpr};
 use op_num::{OutOfMemory, Text};
 use std::alloc::Global;
 

@@ -1,8 +1,8 @@
 -- How a run ends, by the effects of its statement.
 use Rattle.std.proofs.Common.{◌≡◌, ℕ, zero, suc, ℤ, pos, ◌+◌, ◌-◌, List, set, Result, Ok, Err, Bool, true, false, cond, ◌&&◌, ◌||◌, refl, sym, ◌∙◌, ap, subst, arith, replicate}
 use Rattle.std.specs.Prelude.{slice_index_or}
-use Rattle.kernel_types.specs.declared.faults.KernelFault.{KernelFault}
-use Rattle.kernel_types.specs.declared.statements.RStmt.{RStmt, Block', Declare, SetScalar, SetLocal, SetArg, If', For', Row_of-RStmt, end_of-RStmt, more_of-RStmt}
+use Rattle.kernel_model.specs.declared.types.faults.KernelFault.{KernelFault}
+use Rattle.kernel_model.specs.declared.types.statements.RStmt.{RStmt, Block', Declare, SetScalar, SetLocal, SetArg, If', For', Row_of-RStmt, end_of-RStmt, more_of-RStmt}
 use Rattle.kernel_model.specs.Numbers.{is_zero, not}
 use Rattle.kernel_model.specs.Meaning.{Store, Target, target_at, index_in, value_of, Outcome, Done, Faulted, then_do, with_value, stored, turns, meaning, meaning_of_all, read_arg, without_locals, Stopped}
 use Rattle.kernel_model.specs.Independence.{store_after}

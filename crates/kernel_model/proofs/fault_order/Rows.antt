@@ -1,7 +1,7 @@
 -- Statements of a block as a list.
 use Rattle.std.proofs.Common.{◌≡◌, ℕ, List, refl, ap, ◌∙◌, Vec, Global}
 use mathlib.Core.Former.{Count}
-use Rattle.kernel_types.specs.declared.statements.RStmt.{RStmt, Block, Block', Row_of-RStmt, end_of-RStmt, more_of-RStmt, items-the_row-RStmt, items_hidden-the_row-RStmt-0}
+use Rattle.kernel_model.specs.declared.types.statements.RStmt.{RStmt, Block, Block', Row_of-RStmt, end_of-RStmt, more_of-RStmt, items-the_row-RStmt, items_hidden-the_row-RStmt-0}
 use Rattle.kernel_model.specs.Effects.{in_order, effects_of, row_effects, list_effects}
 
 abbrev row_of : RStmt → (n : Count) × Row_of-RStmt n

@@ -5,7 +5,7 @@ ghost use Rattle.kernel_model.specs.Effects.{may_be_out, may_be_zero, may_be_no_
 ghost use Rattle.kernel_model.specs.Effects.{count_at, may_fault};
 
 use c_tree::{AssignOp, BinaryOp};
-use kernel_types::RExpr;
+use crate::types::RExpr;
 
 /// How many components an argument has; 0 for one that is not there.
 pub fn count_at(counts: &[u32], argument: u32) -> u32

@@ -5,7 +5,7 @@ ghost use Rattle.kernel_model.specs.Effects.{effects_of, faults_first};
 
 use crate::fault_order::effects::Effects;
 use crate::fault_order::expressions::{assigning_may_fault, count_at, may_be_out, may_fault};
-use kernel_types::{RKernel, RStmt};
+use crate::types::{RKernel, RStmt};
 
 // What a statement may do, over arguments with so many components.
 fn effects_of(st: &RStmt, counts: &[u32]) -> Effects

@@ -7,7 +7,7 @@ ghost use Rattle.kernel_model.specs.Meaning.{index_in, stored};
 ghost use Rattle.kernel_model.specs.Placed.{placed};
 
 use c_tree::{AssignOp, BinaryOp, MinMax, Pos, UnaryOp};
-use kernel_types::{Fault, KernelFault};
+use crate::types::{Fault, KernelFault};
 use op_num::reductions::{Greatest, Least, Merge};
 use op_num::{abs, div, rem, shl, shr, wrap_add, wrap_mul, wrap_neg, wrap_sub};
 

@@ -2,7 +2,7 @@
 use Rattle.std.proofs.Common.{◌≡◌, ℕ, ℤ, List, [], ◌∷◌, Some, None, Result, Ok, Err, refl, ap, ◌∙◌}
 use Rattle.std.specs.Result.{result_err}
 use Rattle.std.specs.Prelude.{slice_index_or}
-use Rattle.kernel_types.specs.declared.faults.KernelFault.{KernelFault}
+use Rattle.kernel_model.specs.declared.types.faults.KernelFault.{KernelFault}
 use Rattle.kernel_model.specs.Meaning.{Target, Ran, Finished, Stopped, ran_of}
 use Rattle.run_model.specs.OnWindows.{core_of}
 use Rattle.rank_state.specs.declared.spans.Span.{Span}

@@ -2,7 +2,7 @@
 use Rattle.std.proofs.Common.{◌≡◌, ℕ, zero, suc, ℤ, ◌+◌, ◌-◌, ◌<◌, ◌≤◌, false, ◌⊎◌, inl, inr, ⊎_elim, List, [], ◌∷◌, length, refl, sym, ap, subst, ◌∙◌, arith}
 use Rattle.std.specs.Prelude.{slice_index_or}
 use Rattle.std.proofs.lemmas.Bool.{cases_lt, cases_eq}
-use Rattle.kernel_types.specs.declared.kernels.RKernel.{RKernel}
+use Rattle.kernel_model.specs.declared.types.kernels.RKernel.{RKernel}
 use Rattle.kernel_model.specs.Meaning.{Store, cell, Target, target_at, Ran, Finished, Stopped, kernel_meaning}
 use Rattle.kernel_model.specs.Independence.{store_after, Fits, IsReached, OthersStay, ReadsStay, ShapeStays, IsCopy, SameEnd, Transport}
 use Rattle.kernel_model.specs.StoredThrough.{UnstoredStay}

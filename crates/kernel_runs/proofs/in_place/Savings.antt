@@ -2,8 +2,8 @@
 use Rattle.std.proofs.Common.{◌≡◌, ℕ, zero, suc, ℤ, ◌+◌, ◌<◌, Bool, true, false, List, [], ◌∷◌, map, length, get_or, refl, sym, ap, subst, ◌∙◌, arith}
 use Rattle.std.proofs.lemmas.Bool.{false≢true, false_from_ne_true}
 use Rattle.kernel_model.specs.Meaning.{Target, target_at}
-use Rattle.kernel_types.specs.declared.views.frame.Place.{Place}
-use Rattle.kernel_types.specs.Framed.{target_of, PlacesIn}
+use Rattle.kernel_model.specs.declared.types.views.frame.Place.{Place}
+use Rattle.kernel_model.specs.Framed.{target_of, PlacesIn}
 use Rattle.rank_state.specs.declared.spans.Span.{Span}
 use Rattle.rank_state.specs.Spans.{Within, total}
 use Rattle.kernel_runs.specs.Standing.{stands_at, is_written, IsUnwritten}

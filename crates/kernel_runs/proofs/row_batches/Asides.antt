@@ -3,7 +3,7 @@ use Rattle.std.proofs.Common.{◌≡◌, ◌≢◌, ℕ, ℤ, pos, ◌<◌, ◌�
 use Rattle.std.specs.Prelude.{slice_index}
 use Rattle.std.proofs.lemmas.Bool.{cases_eq}
 use Rattle.op_num.specs.Access.{Access, OpRead, OpWrite, OpRw, OpReduce}
-use Rattle.kernel_types.specs.declared.views.frame.Place.{Place}
+use Rattle.kernel_model.specs.declared.types.views.frame.Place.{Place}
 use Rattle.kernel_model.specs.Obeys.{Mode}
 use Rattle.kernel_runs.specs.declared.row_batches.rows.RowColumn.{RowColumn}
 use Rattle.kernel_runs.specs.declared.row_batches.rows.RowLoop.{RowLoop}

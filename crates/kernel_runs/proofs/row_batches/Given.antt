@@ -2,7 +2,7 @@
 use Rattle.std.proofs.Common.{◌≡◌, ◌≢◌, ℕ, ℤ, pos, ◌+◌, ◌*◌, ◌<◌, ◌≤◌, ◌⊎◌, ⊎_elim, List, [], length, get_or, refl, sym, ap, ◌∙◌, subst, true, FitsSigned, w32, arith}
 use Rattle.std.specs.Prelude.{slice_index}
 use Rattle.op_num.specs.Access.{OpRead, OpWrite, OpRw}
-use Rattle.kernel_types.specs.declared.views.frame.Place.{Place}
+use Rattle.kernel_model.specs.declared.types.views.frame.Place.{Place}
 use Rattle.kernel_model.specs.Obeys.{Mode}
 use Rattle.rank_state.specs.Windows.{first}
 use Rattle.kernel_columns.specs.Rows.{at_row}

@@ -4,8 +4,8 @@ use Rattle.std.proofs.Math.ListN.{get_or-map}
 use Rattle.std.proofs.lemmas.List.{get_or-append-add, get_or-drop, length-map, length-take-le}
 use Rattle.op_num.specs.Reduction.{Reduction, unit_of, merged, IsCommuting}
 use Rattle.op_num.specs.Access.{Access, OpRead, OpWrite, OpRw, OpReduce}
-use Rattle.kernel_types.specs.Resolved.{IsResolved}
-use Rattle.kernel_types.specs.declared.views.frame.Place.{Place}
+use Rattle.kernel_model.specs.Resolved.{IsResolved}
+use Rattle.kernel_model.specs.declared.types.views.frame.Place.{Place}
 use Rattle.kernel_model.specs.Meaning.{Finished, kernel_meaning, read_arg}
 use Rattle.kernel_model.specs.Obeys.{Mode}
 use Rattle.kernel_model.specs.Independence.{access, dim}

@@ -1,8 +1,8 @@
 -- Batches that are put back one after another.
 use Rattle.std.proofs.Common.{◌≡◌, ◌≢◌, ℕ, zero, suc, ℤ, ◌+◌, ◌*◌, ◌<◌, ◌≤◌, List, map, drop, length, get_or, sym, ap, ◌∙◌, subst, true, refl, arith}
 use Rattle.std.specs.Prelude.{slice_index}
-use Rattle.kernel_types.specs.declared.views.frame.Place.{Place}
-use Rattle.kernel_types.specs.Framed.{target_of}
+use Rattle.kernel_model.specs.declared.types.views.frame.Place.{Place}
+use Rattle.kernel_model.specs.Framed.{target_of}
 use Rattle.kernel_model.specs.Obeys.{Mode}
 use Rattle.rank_state.specs.Windows.{firsts}
 use Rattle.kernel_runs.specs.declared.row_batches.rows.RowLoop.{RowLoop}

@@ -1,10 +1,10 @@
 // Kernels that run on a memory's own cells.
 
 ghost use Rattle.std.specs.Prelude.{◌≡◌, ◌≤◌, ℕ, Bool, true, List, length, map};
-ghost use Rattle.kernel_types.specs.Resolved.{IsResolved};
+ghost use Rattle.kernel_model.specs.Resolved.{IsResolved};
 ghost use Rattle.kernel_model.specs.Meaning.{Target};
 ghost use Rattle.kernel_code.specs.Coded.{IsCode};
-ghost use Rattle.kernel_types.specs.Framed.{PlacesIn, target_of};
+ghost use Rattle.kernel_model.specs.Framed.{PlacesIn, target_of};
 ghost use Rattle.kernel_model.specs.Law.{StopsUnchanged};
 ghost use Rattle.rank_state.specs.declared.spans.Span.{Span};
 ghost use Rattle.rank_state.specs.Core.{fault_of};
@@ -15,8 +15,8 @@ ghost use Rattle.kernel_runs.specs.Here.{IsHere, core_on_gathered};
 use crate::in_place::laws::runs_in_place;
 use crate::in_place::saving::{put_back, save};
 use kernel_code::{Code, run_on};
-use kernel_types::KernelFault;
-use kernel_types::views::Place;
+use kernel_model::types::KernelFault;
+use kernel_model::types::views::Place;
 
 /// A kernel that runs on a memory's own cells: what is the same for all elements that it runs for.
 #[derive(Drop)]

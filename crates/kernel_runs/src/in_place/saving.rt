@@ -1,10 +1,10 @@
 // The marked places' cells of a memory, saved before a run and put back after its fault.
 
 ghost use Rattle.std.specs.Prelude.{◌≡◌, ◌≤◌, List, ℤ, length};
-ghost use Rattle.kernel_types.specs.Framed.{PlacesIn};
+ghost use Rattle.kernel_model.specs.Framed.{PlacesIn};
 ghost use Rattle.kernel_runs.specs.Saving.{place_cells, place_spans, AreKept, AreSaved};
 
-use kernel_types::views::Place;
+use kernel_model::types::views::Place;
 use rank_state::rank_memory::copying::copy;
 
 /// Copies the marked places' cells, each to where it stands among the cells of all places.

@@ -2,11 +2,11 @@
 // later.
 
 ghost use Rattle.std.specs.Prelude.{◌≡◌, ◌<◌, ◌≤◌, ◌+◌, ℕ, List, true, length, map, slice_index};
-ghost use Rattle.kernel_types.specs.Resolved.{IsResolved};
+ghost use Rattle.kernel_model.specs.Resolved.{IsResolved};
 ghost use Rattle.kernel_code.specs.Coded.{IsCode};
 ghost use Rattle.kernel_model.specs.Obeys.{Mode};
-ghost use Rattle.kernel_types.specs.declared.views.frame.Place.{Place};
-ghost use Rattle.kernel_types.specs.Framed.{PlacesIn, target_of};
+ghost use Rattle.kernel_model.specs.declared.types.views.frame.Place.{Place};
+ghost use Rattle.kernel_model.specs.Framed.{PlacesIn, target_of};
 ghost use Rattle.rank_state.specs.Windows.{Reads, Merges, firsts};
 ghost use Rattle.kernel_runs.specs.Ways.{AreNumbers};
 ghost use Rattle.kernel_runs.specs.Meeting.{AreDifferent, NeverInPairs};

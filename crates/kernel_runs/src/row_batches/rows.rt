@@ -6,7 +6,7 @@ ghost use Rattle.kernel_runs.specs.RowLoops.{HasRowRoom};
 use crate::row_batches::ways::LocalVia;
 use kernel_code::Code;
 use kernel_columns::{Column, Numbers, ROWS};
-use kernel_types::views::Place;
+use kernel_model::types::views::Place;
 use op_num::reductions::Access;
 use rank_state::Scalar;
 use std::alloc::{AllocError, Global};

@@ -2,8 +2,8 @@
 
 ghost use Rattle.std.specs.Prelude.{◌≡◌, ◌<◌, ◌≤◌, ◌*◌, ℕ, true, length, slice_index};
 ghost use Rattle.par_exec.specs.Parts.{TakesEach};
-ghost use Rattle.kernel_types.specs.Resolved.{IsResolved};
-ghost use Rattle.kernel_types.specs.Framed.{PlacesIn};
+ghost use Rattle.kernel_model.specs.Resolved.{IsResolved};
+ghost use Rattle.kernel_model.specs.Framed.{PlacesIn};
 ghost use Rattle.kernel_code.specs.Coded.{IsCode};
 ghost use Rattle.kernel_columns.specs.declared.columns.TheConstants.{ROWS};
 ghost use Rattle.rank_state.specs.Windows.{Reads};

@@ -2,8 +2,8 @@
 
 ghost use Rattle.std.specs.Prelude.{◌<◌, ◌≤◌, ℕ, List, length, map, slice_index};
 ghost use Rattle.kernel_model.specs.Obeys.{Mode};
-ghost use Rattle.kernel_types.specs.declared.views.frame.Place.{Place};
-ghost use Rattle.kernel_types.specs.Framed.{target_of};
+ghost use Rattle.kernel_model.specs.declared.types.views.frame.Place.{Place};
+ghost use Rattle.kernel_model.specs.Framed.{target_of};
 ghost use Rattle.rank_state.specs.Windows.{Merges, firsts};
 ghost use Rattle.kernel_runs.specs.RowLoops.{RunsInRows};
 ghost use Rattle.kernel_runs.specs.RowsRun.{RowsRun};

@@ -4,8 +4,8 @@ ghost use Rattle.std.specs.Prelude.{◌≡◌, ◌<◌, ◌≤◌, ℕ, List, tr
 ghost use Rattle.par_exec.specs.Parts.{TakesEach};
 ghost use Rattle.kernel_columns.specs.declared.columns.TheConstants.{ROWS};
 ghost use Rattle.kernel_model.specs.Obeys.{Mode};
-ghost use Rattle.kernel_types.specs.declared.views.frame.Place.{Place};
-ghost use Rattle.kernel_types.specs.Framed.{target_of};
+ghost use Rattle.kernel_model.specs.declared.types.views.frame.Place.{Place};
+ghost use Rattle.kernel_model.specs.Framed.{target_of};
 ghost use Rattle.rank_state.specs.Windows.{Merges, firsts};
 ghost use Rattle.kernel_runs.specs.Asides.{NeverReadOthers};
 ghost use Rattle.kernel_runs.specs.Meeting.{AreDifferent};

@@ -7,7 +7,7 @@ use Rattle.c_tree.specs.declared.expressions.TextLiteral.{TextLiteral}
 use Rattle.c_tree.specs.Tree as tree
 use Rattle.c_tree.specs.Tree.{HostTrees}
 use Rattle.c_tree.specs.View.{expr_of}
-use Rattle.kernel_types.specs.declared.kernels.ConstDecl.{ConstDecl}
+use Rattle.kernel_model.specs.declared.types.kernels.ConstDecl.{ConstDecl}
 use Rattle.mesh_decl.specs.Printed.{conversions}
 use Rattle.mesh_decl.specs.Spelling.{Named}
 use Rattle.bound_program.specs.declared.acts.Act.{Act}

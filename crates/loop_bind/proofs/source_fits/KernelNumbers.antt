@@ -12,9 +12,9 @@ use Rattle.c_tree.specs.Print.{sign_at, word_at, named_word, ident, word_if, com
 use Rattle.c_tree.specs.Reads.{Reads}
 use Rattle.c_tree.specs.Tree as tree
 use Rattle.c_tree.specs.Tree.{ExprTree, DeclrTree, DeclarationTree, PlaceTree, AssignmentTree, StmtTree, StmtTrees, KernelTree, TopTree, ProgramTree}
-use Rattle.kernel_types.specs.declared.expressions.ElementForm.{ElementForm}
-use Rattle.kernel_types.specs.declared.expressions.ElementForm.TheVariants as form
-use Rattle.kernel_types.specs.View.{RExprTree, Number}
+use Rattle.kernel_model.specs.declared.types.expressions.ElementForm.{ElementForm}
+use Rattle.kernel_model.specs.declared.types.expressions.ElementForm.TheVariants as form
+use Rattle.kernel_model.specs.View.{RExprTree, Number}
 use Rattle.name_resolution.specs.declared.decls.Sort.{Sort}
 use Rattle.name_resolution.specs.declared.decls.Sort.TheVariants as sort
 use Rattle.name_resolution.specs.declared.decls.Decl.{Decl}

@@ -5,13 +5,13 @@ use Rattle.std.proofs.lemmas.List.Elements.{All-nil, All-cons}
 use Rattle.c_lex.specs.declared.tokens.Pos.{Pos}
 use Rattle.c_tree.specs.Tree as tree
 use Rattle.c_tree.specs.Tree.{DeclrTree, TopTree, ProgramTree}
-use Rattle.kernel_types.specs.declared.expressions.RExpr.{RExpr}
-use Rattle.kernel_types.specs.declared.expressions.RExpr.TheVariants as e
-use Rattle.kernel_types.specs.declared.statements.RStmt.{RStmt, Row_of-RStmt, end_of-RStmt, more_of-RStmt}
-use Rattle.kernel_types.specs.declared.statements.RStmt.TheVariants as s
-use Rattle.kernel_types.specs.declared.kernels.RKernel.{RKernel}
-use Rattle.kernel_types.specs.declared.kernels.ConstDecl.{ConstDecl}
-use Rattle.kernel_types.specs.View.{RKernelTree, rexpr_of, rstmt_of, rstmts_of_row, rkernel_of}
+use Rattle.kernel_model.specs.declared.types.expressions.RExpr.{RExpr}
+use Rattle.kernel_model.specs.declared.types.expressions.RExpr.TheVariants as e
+use Rattle.kernel_model.specs.declared.types.statements.RStmt.{RStmt, Row_of-RStmt, end_of-RStmt, more_of-RStmt}
+use Rattle.kernel_model.specs.declared.types.statements.RStmt.TheVariants as s
+use Rattle.kernel_model.specs.declared.types.kernels.RKernel.{RKernel}
+use Rattle.kernel_model.specs.declared.types.kernels.ConstDecl.{ConstDecl}
+use Rattle.kernel_model.specs.View.{RKernelTree, rexpr_of, rstmt_of, rstmts_of_row, rkernel_of}
 use Rattle.name_resolution.specs.declared.decls.Sort.{Sort}
 use Rattle.name_resolution.specs.declared.decls.Sort.TheVariants as sort
 use Rattle.name_resolution.specs.declared.decls.Decl.{Decl}

@@ -4,7 +4,7 @@ use Rattle.std.specs.Prelude.{unsigned_abs}
 use Rattle.c_tree.specs.Grouped.{IsDeclr, AreDeclrs, IsTop, AreTops}
 use Rattle.c_tree.specs.Tree as tree
 use Rattle.c_tree.specs.Tree.{DeclrTree, TopTree, ProgramTree}
-use Rattle.kernel_types.specs.declared.kernels.ConstDecl.{ConstDecl}
+use Rattle.kernel_model.specs.declared.types.kernels.ConstDecl.{ConstDecl}
 use Rattle.name_resolution.specs.declared.breaches.TypeRule.TheVariants as rule
 use Rattle.name_resolution.specs.declared.decls.Sort.{Sort}
 use Rattle.name_resolution.specs.declared.decls.Sort.TheVariants as sort

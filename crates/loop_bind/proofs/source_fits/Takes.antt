@@ -3,8 +3,8 @@ use Rattle.std.proofs.Common.{◌≡◌, ◌∙◌, ℕ, suc, List, [], ◌∷�
 use Rattle.c_lex.specs.declared.tokens.Pos.{Pos}
 use Rattle.c_tree.specs.Tree as tree
 use Rattle.c_tree.specs.Tree.{TopTree}
-use Rattle.kernel_types.specs.declared.kernels.RKernel.{RKernel}
-use Rattle.kernel_types.specs.View.{RKernelTree, rkernel_of}
+use Rattle.kernel_model.specs.declared.types.kernels.RKernel.{RKernel}
+use Rattle.kernel_model.specs.View.{RKernelTree, rkernel_of}
 use Rattle.name_resolution.specs.Scopes.{Names}
 use Rattle.name_resolution.specs.Kernels.{kernel}
 use Rattle.name_resolution.specs.Programs.{after_top, kernels}

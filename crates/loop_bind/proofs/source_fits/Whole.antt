@@ -2,11 +2,11 @@
 use Rattle.std.proofs.Common.{◌≡◌, List, [], map, Ok, sym, subst, ap}
 use Rattle.std.specs.Prelude.{All}
 use Rattle.c_tree.specs.Tree.{ProgramTree}
-use Rattle.kernel_types.specs.declared.kernels.ConstDecl.{ConstDecl}
-use Rattle.kernel_types.specs.declared.kernels.RKernel.{RKernel}
-use Rattle.kernel_types.specs.declared.kernels.Resolved.{Resolved}
-use Rattle.kernel_types.specs.Resolved.{IsResolvedProgram}
-use Rattle.kernel_types.specs.View.{ResolvedTree, rkernel_of, resolved_of}
+use Rattle.kernel_model.specs.declared.types.kernels.ConstDecl.{ConstDecl}
+use Rattle.kernel_model.specs.declared.types.kernels.RKernel.{RKernel}
+use Rattle.kernel_model.specs.declared.types.kernels.Resolved.{Resolved}
+use Rattle.kernel_model.specs.Resolved.{IsResolvedProgram}
+use Rattle.kernel_model.specs.View.{ResolvedTree, rkernel_of, resolved_of}
 use Rattle.name_resolution.specs.Numbers.{KernelsFit}
 use Rattle.name_resolution.specs.Programs.{constants, kernels, named_in, file_of, Resolves}
 use Rattle.bound_program.specs.Fits.{UsesConstants}

@@ -2,7 +2,7 @@
 
 ghost use Rattle.std.specs.Prelude.{◌≡◌, length, map, option_map, is_none, IfOk, OnOk};
 ghost use Rattle.c_tree.specs.View.{expr_of, place_of, assignment_of, call_of, host_of, hosts_of};
-ghost use Rattle.kernel_types.specs.View.{rexpr_of};
+ghost use Rattle.kernel_model.specs.View.{rexpr_of};
 ghost use Rattle.mesh_decl.specs.Printed.{conversions};
 ghost use Rattle.bound_program.specs.Values.{act_of, Line, Print};
 ghost use Rattle.main_declarations.specs.Names.{means};
@@ -22,7 +22,7 @@ use bound_program::Act;
 use bound_program::refusals::{BindRefusal, place};
 use bound_program::trace::{Asked, Step};
 use c_tree::{Assignment, Expr, Host, Ident, OpCall, Place, TextLiteral};
-use kernel_types::RExpr;
+use kernel_model::types::RExpr;
 use main_declarations::names::{
     Declared, Source, Spot, cells_of, dat_of, judged_static, or_zero, resolved,
 };

@@ -18,8 +18,8 @@ pub struct Planned<'a> {
 
 impl<'a> Model for Planned<'a> {
     ghost use Rattle.std.specs.Coded.{codes};
-    ghost use Rattle.kernel_types.specs.contracts.statements.RStmt as statement;
-    ghost use Rattle.kernel_types.specs.contracts.expressions.RExpr as expression;
+    ghost use Rattle.kernel_model.specs.contracts.types.statements.RStmt as statement;
+    ghost use Rattle.kernel_model.specs.contracts.types.expressions.RExpr as expression;
     ghost use Rattle.loop_plan.specs.Values.{plan_of};
     ghost use Rattle.loop_plan.specs.Planned.{PlannedValue, FitTogether};
 

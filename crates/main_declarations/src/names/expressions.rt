@@ -2,7 +2,7 @@
 
 ghost use Rattle.std.specs.Prelude.{◌≡◌, IfOk};
 ghost use Rattle.c_tree.specs.View.{expr_of};
-ghost use Rattle.kernel_types.specs.View.{rexpr_of};
+ghost use Rattle.kernel_model.specs.View.{rexpr_of};
 ghost use Rattle.bound_program.specs.HostExpr.{is_static};
 ghost use Rattle.main_declarations.specs.Names.{scope_of};
 ghost use Rattle.main_declarations.specs.Expressions.{first_token, read, cells_of, resolved, judged_static, judged_value};
@@ -13,7 +13,7 @@ use crate::names::scopes::{Cells, Meaning, Scope};
 use bound_program::refusals::{BindRefusal, place};
 use bound_program::trace::{Asked, host_value};
 use c_tree::{Expr, Pos};
-use kernel_types::{ElementForm, RExpr};
+use kernel_model::types::{ElementForm, RExpr};
 use op_num::OutOfMemory;
 use std::alloc::Global;
 

@@ -6,7 +6,7 @@ ghost use Rattle.std.specs.Str.{bytes_eq};
 ghost use Rattle.main_declarations.specs.SoFar.{first_cell};
 
 use indexmap::IndexMap;
-use kernel_types::ConstDecl;
+use kernel_model::types::ConstDecl;
 use op_num::{Name, OutOfMemory};
 use std::alloc::{AllocError, Global};
 use std::marker::Model;
@@ -22,7 +22,7 @@ impl<'a> Model for KernelConstants<'a> {
     ghost use Rattle.std.specs.Prelude.{◌≡◌, ℕ, List};
     ghost use Rattle.std.specs.Map.{lookup};
     ghost use Rattle.std.specs.Str.{bytes_eq};
-    ghost use Rattle.kernel_types.specs.declared.kernels.ConstDecl.{ConstDecl as Decl};
+    ghost use Rattle.kernel_model.specs.declared.types.kernels.ConstDecl.{ConstDecl as Decl};
 
     ghost Value = { List Decl };
 

@@ -1,7 +1,7 @@
 // The elements of loops on the machine: begun and ended, or both at once.
 
 ghost use Rattle.std.specs.Prelude.{◌≡◌, ◌≢◌, [], ℕ, ◌+◌, ◌<◌, ◌≤◌, ◌^◌, length, slice_index_or, take};
-ghost use Rattle.kernel_types.specs.declared.faults.KernelFault.{KernelFault};
+ghost use Rattle.kernel_model.specs.declared.types.faults.KernelFault.{KernelFault};
 ghost use Rattle.flat_machine.specs.Layout.{Leaves};
 ghost use Rattle.rank_state.specs.Spans.{Within, total};
 ghost use Rattle.rank_state.specs.Windows.{Reads, Merges};

@@ -28,7 +28,7 @@ use crate::windows::{KernelRun, OwnedWindows};
 use bound_program::{Mesh, ToldAct};
 use gather::host_acts::{Variables, run_act};
 use gather::print_dat;
-use kernel_types::KernelFault;
+use kernel_model::types::KernelFault;
 use op_num::{OutOfMemory, Text};
 use rank_state::rank_memory::stop::{Stop, before};
 use rank_state::{Owned, Scalar};

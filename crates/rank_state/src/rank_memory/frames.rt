@@ -2,7 +2,7 @@
 
 ghost use Rattle.std.specs.Prelude.{◌≡◌, ◌≢◌, [], ◌+◌, ◌-◌, ◌<◌, ◌≤◌, ◌*◌, length, map, slice_index_or};
 ghost use Rattle.std.specs.Prelude.{vec_len, vec_capacity, IfOk, ◌^◌};
-ghost use Rattle.kernel_types.specs.declared.faults.KernelFault.{KernelFault};
+ghost use Rattle.kernel_model.specs.declared.types.faults.KernelFault.{KernelFault};
 ghost use Rattle.rank_state.specs.Spans.{Within, total};
 ghost use Rattle.rank_state.specs.Windows.{Merges};
 ghost use Rattle.rank_state.specs.Machine.{merged_pane};
@@ -14,7 +14,7 @@ use crate::rank_memory::ending::Ending;
 use crate::rank_memory::slot::{EMPTY, Held, Slot};
 use crate::rank_memory::staging::{hold_at, merge_back, put_back};
 use crate::rank_memory::table::{all_slots, nothing_open, put_slot, slot_at, take_slot};
-use kernel_types::KernelFault;
+use kernel_model::types::KernelFault;
 use std::alloc::{AllocError, Global};
 use std::marker::Model;
 

@@ -1,6 +1,6 @@
 // The slots of the staging buffer.
 
-use kernel_types::KernelFault;
+use kernel_model::types::KernelFault;
 
 /// What a slot holds.
 #[derive(Clone, Copy, PartialEq, Eq, Debug)]

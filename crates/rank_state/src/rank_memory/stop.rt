@@ -6,7 +6,7 @@ ghost use Rattle.schedule_model.specs.Kept.{if_before};
 ghost use Rattle.rank_state.specs.Machine.{noted};
 ghost use Rattle.rank_state.specs.Stops.{stop_in};
 
-use kernel_types::KernelFault;
+use kernel_model::types::KernelFault;
 
 /// A fault and where it came; a host statement has no element.
 #[derive(Clone, Copy, PartialEq, Eq, Debug)]

@@ -5,11 +5,11 @@ use Rattle.std.proofs.lemmas.Bool.{eqb-true, ltb-true}
 use Rattle.op_num.specs.declared.bytes.Name.{Name}
 use Rattle.c_lex.specs.declared.tokens.Pos.{Pos}
 use Rattle.c_tree.specs.declared.declarations.AssignOp.TheVariants as assign
-use Rattle.kernel_types.specs.declared.expressions.ElementForm.TheVariants as form
-use Rattle.kernel_types.specs.declared.expressions.RExpr.TheVariants.{Number}
-use Rattle.kernel_types.specs.declared.statements.RStmt.{SetArg}
-use Rattle.kernel_types.specs.declared.faults.KernelFault.{KernelFault}
-use Rattle.kernel_types.specs.declared.kernels.RKernel.{RKernel}
+use Rattle.kernel_model.specs.declared.types.expressions.ElementForm.TheVariants as form
+use Rattle.kernel_model.specs.declared.types.expressions.RExpr.TheVariants.{Number}
+use Rattle.kernel_model.specs.declared.types.statements.RStmt.{SetArg}
+use Rattle.kernel_model.specs.declared.types.faults.KernelFault.{KernelFault}
+use Rattle.kernel_model.specs.declared.types.kernels.RKernel.{RKernel}
 use Rattle.kernel_model.specs.Meaning.{Target, target_at}
 use Rattle.kernel_model.specs.Meaning as kernel
 use Rattle.op_num.specs.Access.{OpRw, OpWrite}

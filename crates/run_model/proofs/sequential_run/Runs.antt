@@ -1,6 +1,6 @@
 -- Both runs agree before each item, and at the end.
 use Rattle.std.proofs.Common.{◌≡◌, ◌<◌, ◌≤◌, ℕ, zero, suc, true, List, length, Some, refl, sym, ap, ◌∙◌, subst, arith}
-use Rattle.kernel_types.specs.declared.faults.KernelFault.{KernelFault}
+use Rattle.kernel_model.specs.declared.types.faults.KernelFault.{KernelFault}
 use Rattle.kernel_model.specs.Meaning as kernel
 use Rattle.kernel_model.specs.Independence.{Transport, OthersStay, ShapeStays}
 use Rattle.mesh_decl.specs.Mesh.{MeshValue, IsMesh, map_count, dat_count, set_size, IsMapAt, IsDatAt}

@@ -4,8 +4,8 @@ use Rattle.std.specs.Prelude.{nat_lt}
 use Rattle.std.proofs.lemmas.Bool.{ltb-true}
 use Rattle.std.proofs.lemmas.List.{append-nil}
 use Rattle.c_lex.specs.declared.tokens.Pos.{Pos}
-use Rattle.kernel_types.specs.declared.faults.KernelFault.{KernelFault}
-use Rattle.kernel_types.specs.View.{RExprTree}
+use Rattle.kernel_model.specs.declared.types.faults.KernelFault.{KernelFault}
+use Rattle.kernel_model.specs.View.{RExprTree}
 use Rattle.kernel_model.specs.Meaning.{cell, on_value, index_in, stored}
 use Rattle.mesh_decl.specs.Printed.{printed_dat, printed_line}
 use Rattle.schedule_model.specs.Cells.{Cell, Data, Variable, Store}

@@ -1,6 +1,6 @@
 use Rattle.std.proofs.Common.{rules, ◌≡◌, ◌∙◌, sym, ap, subst, length, map}
 use Rattle.kernel_model.specs.Walk.{IsFound}
-use Rattle.kernel_types.specs.Resolved.{StmtWithin}
+use Rattle.kernel_model.specs.Resolved.{StmtWithin}
 use Rattle.access_check.specs.Modes.{model_of}
 use Rattle.access_check.specs.Found.{found_of}
 use Rattle.access_check.proofs.Refused.{refused_disobeys}

@@ -1,5 +1,5 @@
 use Rattle.std.proofs.Common.{◌≡◌, ◌+◌, ◌*◌, ◌-◌, ◌<◌, ◌≤◌, ℕ, length, map, get_or, pos}
-use Rattle.kernel_types.specs.declared.expressions.RExpr.TheVariants.{Number}
+use Rattle.kernel_model.specs.declared.types.expressions.RExpr.TheVariants.{Number}
 use Rattle.kernel_model.specs.Obeys.{static}
 use Rattle.access_check.specs.Chains.{over_chain}
 use Rattle.access_check.specs.States.{counters_of, number_of}

@@ -1,5 +1,5 @@
 use Rattle.std.proofs.Common.{◌≡◌, ◌∙◌, sym, ap, ◌||◌, ◌+◌, ◌∷◌, drop}
-use Rattle.kernel_types.specs.declared.statements.RStmt.{RStmt}
+use Rattle.kernel_model.specs.declared.types.statements.RStmt.{RStmt}
 use Rattle.access_check.specs.Indices.{names_of, stmt_names, list_names}
 use Rattle.access_check.proofs.Walks.{names_of_block, drop_here}
 use Rattle.access_check.proofs.indices.+statements.Goals as goal

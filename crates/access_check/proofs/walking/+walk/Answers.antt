@@ -1,6 +1,6 @@
 use Rattle.std.proofs.Common.{◌≡◌, ◌∙◌, refl, sym, ap, subst, ◌+◌, ◌-◌, ◌<◌, ◌≤◌, ◌∷◌, pos, Some, length, map, set, drop, arith, to_z, w32, length-set, false}
 use Rattle.std.proofs.lemmas.Int.{to_z_pos}
-use Rattle.kernel_types.specs.declared.statements.RStmt.{RStmt}
+use Rattle.kernel_model.specs.declared.types.statements.RStmt.{RStmt}
 use Rattle.kernel_model.specs.Obeys.{with_counter}
 use Rattle.kernel_model.specs.Walk.{Covered, stmt_found, covered_after, turns_found, turns_covered}
 use Rattle.access_check.specs.Modes.{model_of}

@@ -1,7 +1,7 @@
 use Rattle.std.proofs.Common.{◌≡◌, ◌+◌, ◌∷◌, [], ℕ, List, length, map, refl, ap, ◌∙◌}
 use Rattle.std.proofs.lemmas.List.FromFn.{length-map-range_with_len}
 use Rattle.std.proofs.lemmas.Result.{IfOk-weaker}
-use Rattle.kernel_types.specs.View.{Scalar}
+use Rattle.kernel_model.specs.View.{Scalar}
 use Rattle.bound_program.specs.HostExpr.{closed}
 use Rattle.bound_program.specs.Values.{Host, Line}
 use Rattle.run_model.specs.Windows.{numbers}

@@ -1,5 +1,5 @@
 use Rattle.std.proofs.Common.{◌≡◌, ◌+◌, map}
-use Rattle.kernel_types.specs.View.{rexpr_of, Scalar}
+use Rattle.kernel_model.specs.View.{rexpr_of, Scalar}
 use Rattle.run_model.specs.Windows.{numbers}
 use Rattle.checkpoint.proofs.heads.scalars.Given as goal
 

@@ -1,6 +1,6 @@
 use Rattle.std.proofs.Common.{◌≡◌, ◌++◌, is_some}
 use Rattle.std.specs.List.{flat_map}
-use Rattle.kernel_types.specs.declared.faults.KernelFault.{KernelFault}
+use Rattle.kernel_model.specs.declared.types.faults.KernelFault.{KernelFault}
 use Rattle.lemmas.specs.Below.{listed}
 use Rattle.chain_model.specs.Machine.{ChainState}
 use Rattle.chain_model.specs.Dump.{pair_text}

@@ -1,6 +1,6 @@
 use Rattle.std.proofs.Common.{◌≡◌, ◌<◌, ◌++◌, ℕ}
 use Rattle.std.specs.List.{flat_map}
-use Rattle.kernel_types.specs.declared.faults.KernelFault.{KernelFault}
+use Rattle.kernel_model.specs.declared.types.faults.KernelFault.{KernelFault}
 use Rattle.run_model.specs.Windows.{numbers}
 use Rattle.chain_model.specs.Machine.{ChainState}
 use Rattle.chain_model.specs.Dump.{store_text}

@@ -6,7 +6,7 @@ use Rattle.gather.specs.Variables.{of_vars, VarsBegin}
 use Rattle.deep_halo.specs.Programs.{program_of_run, owners_of_run}
 use borrow.Rule.Slice.PartMut.{put_mid}
 use Rattle.std.proofs.lemmas.Result.{IfOk-weaker}
-use Rattle.kernel_types.specs.declared.faults.KernelFault.{KernelFault}
+use Rattle.kernel_model.specs.declared.types.faults.KernelFault.{KernelFault}
 use Rattle.schedule_model.specs.Cells.{Store}
 use Rattle.schedule_model.specs.Program.{Hosted}
 use Rattle.run_model.specs.Hosts.{act_run}

@@ -1,6 +1,6 @@
 use Rattle.std.proofs.Common.{◌≡◌, ◌≤◌, ◌+◌, Option, Some, None, length, is_some, sym, ap, subst, arith}
 use Rattle.std.proofs.lemmas.List.{length-map}
-use Rattle.kernel_types.specs.declared.faults.KernelFault.{KernelFault}
+use Rattle.kernel_model.specs.declared.types.faults.KernelFault.{KernelFault}
 use Rattle.bound_program.specs.Values.{item_of}
 use Rattle.run_model.specs.Programs.{program_of}
 use Rattle.rank_state.specs.declared.rank_memory.stop.Stop.{Stop}

@@ -3,8 +3,8 @@ use Rattle.std.proofs.Common.{◌≡◌, ◌≢◌, ◌<◌, ◌≤◌, ◌+◌,
 use Rattle.std.specs.Prelude.{slice_index}
 use Rattle.std.proofs.lemmas.Bool.{cases_eq, cases_lt}
 use Rattle.op_num.specs.declared.reductions.access.Access.{Access}
-use Rattle.kernel_types.specs.declared.views.frame.Place.{Place}
-use Rattle.kernel_types.specs.Framed.{no_place}
+use Rattle.kernel_model.specs.declared.types.views.frame.Place.{Place}
+use Rattle.kernel_model.specs.Framed.{no_place}
 use Rattle.bound_program.specs.declared.sites.Arg.{Arg}
 use Rattle.kernel_runs.specs.declared.row_batches.rows.RowColumn.{RowColumn}
 use Rattle.kernel_runs.specs.RowLoops.{no_column}

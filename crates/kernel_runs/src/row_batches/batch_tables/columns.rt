@@ -10,7 +10,7 @@ use crate::row_batches::batch_tables::access::shared_access;
 use crate::row_batches::batch_tables::alike::first_column;
 use crate::row_batches::batch_tables::args::LocalArg;
 use bound_program::{Access, Arg};
-use kernel_types::views::Place;
+use kernel_model::types::views::Place;
 
 // Puts down a column for each component of an argument's elements, of which the first is `column`, from a number on.
 fn put_components(columns: &mut [RowColumn], from: usize, column: RowColumn)

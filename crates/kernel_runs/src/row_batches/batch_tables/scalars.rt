@@ -4,7 +4,7 @@ ghost use Rattle.std.specs.Prelude.{◌≡◌, ◌<◌, ◌+◌, ◌-◌, ◌^�
 ghost use Rattle.kernel_runs.specs.Tables.{place_at, scalar_place};
 
 use crate::row_batches::batch_tables::args::LocalArg;
-use kernel_types::views::Place;
+use kernel_model::types::views::Place;
 
 /// Puts down where arguments on variables stand in a row's frame behind so many columns: as `stand` has them behind so
 /// many cells.

@@ -2,7 +2,7 @@ use Rattle.std.proofs.Common.{List, Ok, Err}
 use Rattle.std.specs.Prelude.{Result, IfOk}
 use Rattle.c_tree.specs.Tree.{ProgramTree}
 use Rattle.c_tree.specs.View.{program_of}
-use Rattle.kernel_types.specs.declared.kernels.Resolved.{Resolved}
+use Rattle.kernel_model.specs.declared.types.kernels.Resolved.{Resolved}
 use Rattle.mesh_decl.specs.Spelling.{Named}
 use Rattle.bound_program.specs.declared.refusals.refusals.BindRefusal.{BindRefusal}
 use Rattle.bound_program.specs.Refusals.{JudgesBy}

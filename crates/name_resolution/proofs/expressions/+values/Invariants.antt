@@ -1,7 +1,7 @@
 use Rattle.std.proofs.Common.{◌≡◌, ◌+◌, ◌*◌, ◌≤◌, length}
 use Rattle.c_tree.specs.View.{expr_of}
 use Rattle.name_resolution.specs.Scopes.{scope}
-use Rattle.kernel_types.specs.View.{rexpr_of}
+use Rattle.kernel_model.specs.View.{rexpr_of}
 use Rattle.name_resolution.specs.Kernels.{value}
 use Rattle.name_resolution.specs.Numbers.{ExprFits}
 use Rattle.name_resolution.proofs.Sizes.{size}

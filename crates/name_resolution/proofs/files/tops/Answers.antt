@@ -1,5 +1,5 @@
 use Rattle.std.proofs.Common.{◌∙◌, map}
-use Rattle.kernel_types.specs.View.{rkernel_of}
+use Rattle.kernel_model.specs.View.{rkernel_of}
 use Rattle.name_resolution.proofs.FileTurns.{tops_names, tops_first, tops_kernels}
 use Rattle.name_resolution.proofs.files.tops.Goals as goal
 

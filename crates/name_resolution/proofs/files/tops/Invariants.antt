@@ -1,7 +1,7 @@
 use Rattle.std.proofs.Common.{◌≡◌, ◌++◌, map, drop}
 use Rattle.c_tree.specs.View.{top_of}
 use Rattle.name_resolution.specs.First.{least_from}
-use Rattle.kernel_types.specs.View.{rkernel_of}
+use Rattle.kernel_model.specs.View.{rkernel_of}
 use Rattle.name_resolution.specs.Numbers.{KernelsFit}
 use Rattle.name_resolution.specs.Programs.{constant_cells, after_tops, tops_breaches, kernels}
 use Rattle.name_resolution.proofs.files.tops.Given as goal

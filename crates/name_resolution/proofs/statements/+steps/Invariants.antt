@@ -2,7 +2,7 @@ use Rattle.std.proofs.Common.{◌≡◌, ◌≤◌, drop}
 use Rattle.c_tree.specs.View.{stmts_of}
 use Rattle.name_resolution.specs.First.{least_from}
 use Rattle.name_resolution.specs.Numbers.{RowFits}
-use Rattle.kernel_types.specs.View.{rstmts_of}
+use Rattle.kernel_model.specs.View.{rstmts_of}
 use Rattle.name_resolution.specs.Work.{behind, cells_of_all}
 use Rattle.name_resolution.specs.Kernels.{steps, stmts_breaches, after_stmts}
 use Rattle.name_resolution.proofs.Steps.{joined}

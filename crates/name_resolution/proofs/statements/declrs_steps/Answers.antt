@@ -1,6 +1,6 @@
 use Rattle.std.proofs.Common.{◌∙◌, sym, ap, map}
 use Rattle.c_tree.specs.View.{declr_of}
-use Rattle.kernel_types.specs.View.{rstmts_of}
+use Rattle.kernel_model.specs.View.{rstmts_of}
 use Rattle.name_resolution.specs.Kernels.{declrs_steps}
 use Rattle.name_resolution.proofs.Steps.{fits_push, joined, joined_none, declrs_turn, declrs_first, declrs_own, declrs_next, behind_low}
 use Rattle.name_resolution.proofs.statements.declrs_steps.Goals as goal

@@ -2,7 +2,7 @@ use Rattle.std.proofs.Common.{◌≡◌, ◌≤◌, map, drop}
 use Rattle.c_tree.specs.View.{declr_of}
 use Rattle.name_resolution.specs.First.{least_from}
 use Rattle.name_resolution.specs.Numbers.{RowFits}
-use Rattle.kernel_types.specs.View.{rstmts_of}
+use Rattle.kernel_model.specs.View.{rstmts_of}
 use Rattle.name_resolution.specs.Work.{behind, declrs_cells}
 use Rattle.name_resolution.specs.Kernels.{declrs_steps, declrs_breaches, after_declrs}
 use Rattle.name_resolution.proofs.Steps.{joined}

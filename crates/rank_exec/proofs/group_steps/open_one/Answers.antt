@@ -1,5 +1,5 @@
 use Rattle.std.proofs.Common.{◌≡◌, ◌∙◌, ◌-◌, sym, ap, subst, arith}
-use Rattle.kernel_types.specs.declared.faults.KernelFault.{KernelFault}
+use Rattle.kernel_model.specs.declared.types.faults.KernelFault.{KernelFault}
 use Rattle.schedule_steps.specs.declared.step.Step.TheVariants.{Begin}
 use Rattle.flat_machine.specs.Flat.{flat_step}
 use Rattle.rank_state.specs.Machine.{State, begun, begun_as}

@@ -1,5 +1,5 @@
 use Rattle.std.proofs.Common.{◌≡◌, map, flat_map}
-use Rattle.kernel_types.specs.declared.faults.KernelFault.{KernelFault}
+use Rattle.kernel_model.specs.declared.types.faults.KernelFault.{KernelFault}
 use Rattle.flat_machine.specs.Flat.{Flat, owned}
 use Rattle.run_model.specs.Windows.{numbers}
 use Rattle.rank_state.specs.Shows.{Shows}

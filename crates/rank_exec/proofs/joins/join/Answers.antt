@@ -1,5 +1,5 @@
 use Rattle.std.proofs.Common.{◌≡◌, Some, sym, ap, ◌∙◌}
-use Rattle.kernel_types.specs.declared.faults.KernelFault.{KernelFault}
+use Rattle.kernel_model.specs.declared.types.faults.KernelFault.{KernelFault}
 use Rattle.schedule_model.specs.Kept.{if_before}
 use Rattle.flat_machine.specs.Flat.{Flat}
 use Rattle.rank_state.specs.Stops.{stop_of, stop_in}

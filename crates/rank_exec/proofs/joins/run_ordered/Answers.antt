@@ -1,5 +1,5 @@
 use Rattle.std.proofs.Common.{◌≡◌, ◌+◌, ◌<◌, ◌≤◌, suc, Some, sym, ap, subst, ◌∙◌, arith}
-use Rattle.kernel_types.specs.declared.faults.KernelFault.{KernelFault}
+use Rattle.kernel_model.specs.declared.types.faults.KernelFault.{KernelFault}
 use Rattle.schedule_steps.specs.declared.step.Step.TheVariants.{Join}
 use Rattle.schedule_model.specs.Program.{elements}
 use Rattle.flat_machine.specs.Layout.{Faults}

@@ -1,5 +1,5 @@
 use Rattle.std.proofs.Common.{◌≡◌}
-use Rattle.kernel_types.specs.declared.faults.KernelFault.{KernelFault}
+use Rattle.kernel_model.specs.declared.types.faults.KernelFault.{KernelFault}
 use Rattle.flat_machine.specs.Flat.{Flat, loop_flat}
 use Rattle.rank_state.specs.Shows.{Shows}
 use Rattle.rank_program.specs.Rooms.{HasRoomOf}

@@ -1,6 +1,6 @@
 use Rattle.std.proofs.Common.{◌<◌, sym, subst, length, take, arith}
 use Rattle.std.proofs.lemmas.List.{take_all}
-use Rattle.kernel_types.specs.declared.faults.KernelFault.{KernelFault}
+use Rattle.kernel_model.specs.declared.types.faults.KernelFault.{KernelFault}
 use Rattle.step_orders.specs.Alone.{alone}
 use Rattle.rank_state.specs.Machine.{State}
 use Rattle.rank_exec.specs.Driving.{Done}

@@ -1,5 +1,5 @@
 use Rattle.std.proofs.Common.{◌≡◌, ◌<◌, ℕ, zero, suc, List, [], ◌∷◌, length, get_or, Some, ap₂, ◌∙◌, arith}
-use Rattle.kernel_types.specs.declared.kernels.RKernel.{RKernel}
+use Rattle.kernel_model.specs.declared.types.kernels.RKernel.{RKernel}
 use Rattle.bound_program.specs.Fits.{TakesArgs}
 use Rattle.run_model.specs.Kernels.{kernel_at}
 use Rattle.kernel_model.specs.Effects.{faults_first}

@@ -2,7 +2,7 @@ use Rattle.std.proofs.Common.{◌+◌, ap, sym, subst, ◌∙◌}
 use Rattle.schedule_steps.specs.declared.step.Step.TheVariants.{Recv}
 use Rattle.flat_machine.specs.Flat.{flat_step}
 use Rattle.rank_state.specs.Shows.{Shows}
-use Rattle.kernel_types.specs.declared.faults.KernelFault.{KernelFault}
+use Rattle.kernel_model.specs.declared.types.faults.KernelFault.{KernelFault}
 use Rattle.rank_state.specs.Machine.{State}
 use Rattle.rank_program.specs.Sound.{setup_in, layout_in, tables_in}
 use Rattle.rank_machine.proofs.messages.recv_on.Goals as goal

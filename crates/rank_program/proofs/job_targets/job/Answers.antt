@@ -1,7 +1,7 @@
 use Rattle.std.proofs.Common.{◌≡◌, ◌≤◌, [], ◌∷◌, map, length, get_or, refl, sym, ap, subst, ◌∙◌, arith}
 use Rattle.kernel_model.specs.Meaning.{kernel_meaning}
 use Rattle.run_model.specs.OnWindows.{core_of}
-use Rattle.kernel_types.specs.Framed.{target_of, PlacesIn}
+use Rattle.kernel_model.specs.Framed.{target_of, PlacesIn}
 use Rattle.bound_program.specs.Values.{SiteValue, bound_of, site_of}
 use Rattle.bound_program.specs.Fits.{site_at}
 use Rattle.run_model.specs.Laws as the

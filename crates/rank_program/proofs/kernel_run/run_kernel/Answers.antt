@@ -1,6 +1,6 @@
 use Rattle.std.proofs.Common.{◌≡◌, ◌<◌, ◌≤◌, [], ◌∷◌, length, get_or, refl, sym, ap, subst, ◌∙◌, arith}
 use Rattle.std.proofs.lemmas.List.{length-take-le}
-use Rattle.kernel_types.specs.Framed.{PlacesIn}
+use Rattle.kernel_model.specs.Framed.{PlacesIn}
 use Rattle.kernel_model.specs.Meaning.{kernel_meaning}
 use Rattle.mesh_decl.specs.Mesh.{set_size}
 use Rattle.run_model.specs.OnWindows.{core_of}

@@ -3,7 +3,7 @@ use Rattle.std.proofs.lemmas.Grind.{common_steps}
 use Rattle.std.proofs.Math.Nat.{mul-mod_left}
 use Rattle.kernel_model.specs.Meaning.{kernel_meaning}
 use Rattle.kernel_model.specs.Independence.{Fits}
-use Rattle.kernel_types.specs.Framed.{target_of, PlacesIn}
+use Rattle.kernel_model.specs.Framed.{target_of, PlacesIn}
 use Rattle.rank_program.specs.Jobs.{part, task_at, places_in, job_window}
 use Rattle.rank_program.proofs.JobWindows.{count_windows, part_length, places_fit, ran_in}
 use Rattle.rank_program.proofs.task_runs.run_tasks.Goals as goal

@@ -1,6 +1,6 @@
 use Rattle.std.proofs.Common.{◌≡◌, ◌∙◌, ◌++◌, ◌+◌, ◌∷◌, [], sym, ap, subst, arith, List, map, take}
 use Rattle.std.proofs.lemmas.List.{take_all, take_more}
-use Rattle.kernel_types.specs.View.{RExprTree, rexpr_of}
+use Rattle.kernel_model.specs.View.{RExprTree, rexpr_of}
 use Rattle.bound_program.specs.Naming.{SpellAll}
 use Rattle.bound_program.proofs.trace.Renamed.{grows_then, spell_grown, spell_more, map_pushed}
 use Rattle.bound_program.proofs.trace.naming.named_exprs.Goals as goal

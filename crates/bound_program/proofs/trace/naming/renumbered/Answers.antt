@@ -1,5 +1,5 @@
 use Rattle.std.proofs.Common.{◌∙◌, sym, ap, map, option_map}
-use Rattle.kernel_types.specs.View.{rexpr_of}
+use Rattle.kernel_model.specs.View.{rexpr_of}
 use Rattle.bound_program.specs.Values.{act_of, Line}
 use Rattle.bound_program.proofs.trace.Renamed.{assign_spelt, line_spelt}
 use Rattle.bound_program.proofs.trace.naming.renumbered.Goals as goal

@@ -1,8 +1,8 @@
 use Rattle.std.proofs.Common.{◌≡◌, ◌<◌, ◌≤◌, ℕ, List, true, replicate, take, length, sym, ap, subst, ◌∙◌, arith}
 use Rattle.std.proofs.lemmas.List.{length-map, get_or-replicate}
-use Rattle.kernel_types.specs.Resolved.{IsResolved}
-use Rattle.kernel_types.specs.declared.views.frame.Place.{Place}
-use Rattle.kernel_types.specs.Framed.{PlacesIn}
+use Rattle.kernel_model.specs.Resolved.{IsResolved}
+use Rattle.kernel_model.specs.declared.types.views.frame.Place.{Place}
+use Rattle.kernel_model.specs.Framed.{PlacesIn}
 use Rattle.kernel_runs.specs.Saving.{place_cells}
 use Rattle.deep_halo.specs.Placed.{arg_place}
 use Rattle.deep_halo.specs.Places.{all_cells, stands_at}

@@ -1,5 +1,5 @@
 use Rattle.std.proofs.Common.{get_or}
-use Rattle.kernel_types.specs.declared.faults.KernelFault.{KernelFault}
+use Rattle.kernel_model.specs.declared.types.faults.KernelFault.{KernelFault}
 use Rattle.schedule_model.specs.Program.{elements}
 use Rattle.run_model.specs.Programs.{program_of}
 use Rattle.chain_model.specs.Machine.{ChainState, rank_run}

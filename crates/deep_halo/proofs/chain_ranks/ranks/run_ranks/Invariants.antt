@@ -1,4 +1,4 @@
-use Rattle.kernel_types.specs.declared.faults.KernelFault.{KernelFault}
+use Rattle.kernel_model.specs.declared.types.faults.KernelFault.{KernelFault}
 use Rattle.chain_model.specs.Machine.{ChainState, ranks_run}
 use Rattle.chain_model.specs.Slices.{slicing_of}
 use Rattle.deep_halo.specs.Running.{Runs}

@@ -1,6 +1,6 @@
 use Rattle.std.proofs.Common.{option_map, ap, sym, subst, ◌∙◌}
 use Rattle.std.specs.Str.{bytes_eq}
-use Rattle.kernel_types.specs.Resolved.{AreResolved}
+use Rattle.kernel_model.specs.Resolved.{AreResolved}
 use Rattle.explanations.proofs.error_loops.Judging.{resolved_among}
 use Rattle.explanations.proofs.error_loops.first.giving.Goals as goal
 

@@ -1,6 +1,6 @@
 use Rattle.std.proofs.Common.{Ok, subst}
 use Rattle.c_tree.specs.View.{program_of}
-use Rattle.kernel_types.specs.View.{resolved_of}
+use Rattle.kernel_model.specs.View.{resolved_of}
 use Rattle.name_resolution.specs.Programs.{Resolves}
 use Rattle.explanations.proofs.error_loops.reading.source_with.Goals as goal
 

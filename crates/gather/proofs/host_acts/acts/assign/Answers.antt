@@ -2,7 +2,7 @@ use Rattle.std.proofs.Common.{◌<◌, ◌∙◌, refl, sym, w32, arith}
 use Rattle.std.specs.Prelude.{option_map}
 use Rattle.std.proofs.lemmas.Int.{to_z-of_z}
 use Rattle.std.proofs.lemmas.Result.{err_from_is_err_and}
-use Rattle.kernel_types.specs.View.{rexpr_of}
+use Rattle.kernel_model.specs.View.{rexpr_of}
 use Rattle.bound_program.specs.HostExpr.{closed}
 use Rattle.gather.specs.Acts.{program_of}
 use Rattle.gather.proofs.host_acts.ActSteps.{index_faults, value_faults, assigns}

@@ -1,6 +1,6 @@
 use Rattle.std.proofs.Common.{map}
 use Rattle.std.proofs.lemmas.Result.{IfOk-weaker}
-use Rattle.kernel_types.specs.View.{rexpr_of}
+use Rattle.kernel_model.specs.View.{rexpr_of}
 use Rattle.bound_program.specs.HostExpr.{closed}
 use Rattle.gather.specs.Acts.{program_of}
 use Rattle.gather.proofs.host_acts.ActSteps.{line_printed}

@@ -1,6 +1,6 @@
 use Rattle.std.proofs.Common.{◌≡◌, ◌++◌, map, drop, Ok, Err}
 use Rattle.kernel_model.specs.Meaning.{on_value}
-use Rattle.kernel_types.specs.View.{rexpr_of}
+use Rattle.kernel_model.specs.View.{rexpr_of}
 use Rattle.bound_program.specs.HostExpr.{closed}
 use Rattle.gather.specs.Acts.{values_in}
 use Rattle.gather.proofs.host_acts.acts.put_values.Given as goal

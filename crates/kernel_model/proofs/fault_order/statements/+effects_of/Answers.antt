@@ -1,5 +1,5 @@
 use Rattle.std.proofs.Common.{◌∙◌, sym, ap}
-use Rattle.kernel_types.specs.declared.statements.RStmt.{RStmt}
+use Rattle.kernel_model.specs.declared.types.statements.RStmt.{RStmt}
 use Rattle.kernel_model.specs.Effects.{in_order, effects_of, list_effects}
 use Rattle.kernel_model.proofs.fault_order.Rows.{of_block}
 use Rattle.kernel_model.proofs.fault_order.statements.+effects_of.Goals as goal

@@ -1,7 +1,7 @@
 use Rattle.std.proofs.Common.{◌∷◌, [], sym, subst, map, ap, ◌∙◌}
 use Rattle.std.specs.Prelude.{slice_index_or}
 use Rattle.kernel_model.specs.Meaning.{kernel_meaning, Ran, Store}
-use Rattle.kernel_types.specs.Framed.{target_of}
+use Rattle.kernel_model.specs.Framed.{target_of}
 use Rattle.rank_state.specs.Spans.{gathered}
 use Rattle.kernel_runs.specs.InPlace.{EndsInPlace}
 use Rattle.kernel_runs.proofs.in_place.Ends.{ended_faults, ended_leaves}

@@ -1,6 +1,6 @@
 use Rattle.std.proofs.Common.{rules, ◌≡◌, ◌∷◌, [], sym, subst, map, ◌∙◌}
 use Rattle.kernel_model.specs.Meaning.{Finished, Stopped, kernel_meaning, Ran}
-use Rattle.kernel_types.specs.Framed.{target_of}
+use Rattle.kernel_model.specs.Framed.{target_of}
 use Rattle.rank_state.specs.Spans.{gathered}
 use Rattle.kernel_runs.specs.InPlace.{EndsInPlace}
 use Rattle.kernel_runs.proofs.in_place.Ends.{finished_alone, finished_leaves, stopped_faults, stopped_spares, stopped_leaves}

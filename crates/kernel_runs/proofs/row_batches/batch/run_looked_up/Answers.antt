@@ -2,7 +2,7 @@ use Rattle.std.proofs.Common.{◌≡◌, ◌++◌, ℤ, sym, ap, ◌∙◌, subs
 use Rattle.std.specs.Option.{is_some}
 use Rattle.std.proofs.Math.Seq.{take-append_seam}
 use Rattle.std.proofs.lemmas.List.{length-take-le}
-use Rattle.kernel_types.specs.Framed.{target_of}
+use Rattle.kernel_model.specs.Framed.{target_of}
 use Rattle.kernel_model.specs.Meaning.{Finished, kernel_meaning}
 use Rattle.kernel_columns.specs.Rows.{row}
 use Rattle.kernel_runs.specs.RowLoops.{column_in, width}

@@ -1,6 +1,6 @@
 use Rattle.std.proofs.Common.{refl, map, length}
 use Rattle.std.specs.Prelude.{slice_index}
-use Rattle.kernel_types.specs.Framed.{target_of}
+use Rattle.kernel_model.specs.Framed.{target_of}
 use Rattle.rank_state.specs.Windows.{firsts}
 use Rattle.kernel_runs.proofs.row_batches.SomeRows.{no_rows}
 use Rattle.kernel_runs.proofs.worker_batches.rounds.run_round.Goals as goal

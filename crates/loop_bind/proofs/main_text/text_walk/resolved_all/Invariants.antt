@@ -1,6 +1,6 @@
 use Rattle.std.proofs.Common.{◌≡◌, map, take}
 use Rattle.c_tree.specs.View.{expr_of}
-use Rattle.kernel_types.specs.View.{rexpr_of}
+use Rattle.kernel_model.specs.View.{rexpr_of}
 use Rattle.main_declarations.specs.Expressions.{resolved}
 use Rattle.main_declarations.specs.Walks.{declared_of}
 use Rattle.loop_bind.proofs.main_text.text_walk.resolved_all.Given as goal

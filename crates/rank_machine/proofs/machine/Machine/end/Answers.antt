@@ -1,6 +1,6 @@
 use Rattle.std.proofs.Common.{◌≡◌, ℤ, ◌<◌, ◌∙◌, ap, ap₂, sym, subst, length, set, List}
 use Rattle.std.specs.Vec.{with_items}
-use Rattle.kernel_types.specs.declared.faults.KernelFault.{KernelFault}
+use Rattle.kernel_model.specs.declared.types.faults.KernelFault.{KernelFault}
 use Rattle.rank_state.specs.Spans.{total}
 use Rattle.rank_state.specs.Frames.{Panes, pane_at, closed}
 use Rattle.rank_state.specs.Machine.{State, row, merged_pane, ended}

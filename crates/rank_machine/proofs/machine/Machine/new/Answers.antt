@@ -1,5 +1,5 @@
 use Rattle.std.proofs.Common.{◌≡◌, ℕ, ℤ, ◌∙◌, ap₂, List, [], map, None}
-use Rattle.kernel_types.specs.declared.faults.KernelFault.{KernelFault}
+use Rattle.kernel_model.specs.declared.types.faults.KernelFault.{KernelFault}
 use Rattle.rank_state.specs.Frames.{Panes}
 use Rattle.rank_state.specs.Mail.{Box}
 use Rattle.rank_state.specs.Machine.{State}

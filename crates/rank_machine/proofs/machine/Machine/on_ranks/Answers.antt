@@ -1,7 +1,7 @@
 use Rattle.std.proofs.Common.{◌≡◌, ℤ, ◌∙◌, ap, ap₂, sym, subst, length, map, List, All, Option}
 use Rattle.std.specs.Vec.{with_items}
 use Rattle.std.proofs.lemmas.List.{length-map}
-use Rattle.kernel_types.specs.declared.faults.KernelFault.{KernelFault}
+use Rattle.kernel_model.specs.declared.types.faults.KernelFault.{KernelFault}
 use Rattle.par_exec.specs.Parts.{TakesEach, MadeEach}
 use Rattle.schedule_model.specs.Sequential.{Stop}
 use Rattle.rank_state.specs.Machine.{State}

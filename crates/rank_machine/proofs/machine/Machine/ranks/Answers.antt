@@ -1,6 +1,6 @@
 use Rattle.std.proofs.Common.{ℤ, arith, ap, length, Vec, Global}
 use Rattle.std.proofs.lemmas.List.{length-map}
-use Rattle.kernel_types.specs.declared.faults.KernelFault.{KernelFault}
+use Rattle.kernel_model.specs.declared.types.faults.KernelFault.{KernelFault}
 use Rattle.rank_state.specs.Machine.{State}
 use Rattle.rank_machine.proofs.machine.Machine.ranks.Goals as goal
 

@@ -1,6 +1,6 @@
 use Rattle.std.proofs.Common.{◌≡◌, ℤ, ◌<◌, ◌∙◌, ap, ap₂, sym, subst, length, set, List}
 use Rattle.std.specs.Vec.{with_items}
-use Rattle.kernel_types.specs.declared.faults.KernelFault.{KernelFault}
+use Rattle.kernel_model.specs.declared.types.faults.KernelFault.{KernelFault}
 use Rattle.rank_state.specs.Mail.{Box, arrived, first_post}
 use Rattle.rank_state.specs.Machine.{State, row, taken}
 use Rattle.rank_state.specs.Stops.{stop_in}

@@ -1,5 +1,5 @@
 use Rattle.std.proofs.Common.{◌≡◌, ◌<◌, ◌+◌, ℕ, sym, ap, ◌∙◌, subst, List, set, length, get_or, arith}
-use Rattle.kernel_types.specs.declared.views.frame.Place.{Place}
+use Rattle.kernel_model.specs.declared.types.views.frame.Place.{Place}
 use Rattle.kernel_runs.specs.declared.row_batches.rows.RowColumn.{RowColumn}
 use Rattle.kernel_runs.specs.Tables.{AreColumns}
 use Rattle.kernel_runs.proofs.row_batches.batch_tables.ColumnsPut.{skipped, shared, opened}

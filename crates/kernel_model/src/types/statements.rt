@@ -1,6 +1,6 @@
 // Statements (ISO C 6.8) over numbered parameters and cells.
 
-use crate::expressions::{ElementForm, RExpr};
+use crate::types::expressions::{ElementForm, RExpr};
 use c_tree::{AssignOp, Pos};
 
 /// A statement. `op_at` is the place of an assignment's sign, `at` that of the name of its target.

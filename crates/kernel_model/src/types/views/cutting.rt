@@ -1,7 +1,7 @@
 // A window cut from a buffer.
 ghost use Rattle.std.specs.Prelude.{◌≡◌, take, ◌≤◌, length, drop};
 ghost use Rattle.std.specs.Borrow.{sem};
-ghost use Rattle.kernel_types.specs.Cutting.{Cuts};
+ghost use Rattle.kernel_model.specs.Cutting.{Cuts};
 
 /// The first `dim` cells of a buffer, and the rest. Once both loans end, the buffer is the window and then the rest, as
 /// they were left; so cells between two windows are cut off as a part that nobody writes.

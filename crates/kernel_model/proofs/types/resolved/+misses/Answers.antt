@@ -1,7 +1,7 @@
 use Rattle.std.proofs.Common.{◌≢◌, ◌↔◌, IsTrue, sym, subst}
-use Rattle.kernel_types.specs.Resolved.{StoresOnly, RowStoresOnly}
-use Rattle.kernel_types.proofs.Rows.{of_block, whole, turn, never, both, first_fails, at_part}
-use Rattle.kernel_types.proofs.resolved.+misses.Goals as goal
+use Rattle.kernel_model.specs.Resolved.{StoresOnly, RowStoresOnly}
+use Rattle.kernel_model.proofs.types.Rows.{of_block, whole, turn, never, both, first_fails, at_part}
+use Rattle.kernel_model.proofs.types.resolved.+misses.Goals as goal
 
 pub loop-inner-init : goal.loop-inner-init
 loop-inner-init t c =

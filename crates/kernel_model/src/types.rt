@@ -1,7 +1,5 @@
 //! Kernels after their names were resolved: each name is a parameter, cells of the kernel's locals or cells of the
 //! program's constants.
-#![tactic(auto)]
-
 mod expressions;
 mod faults;
 mod kernels;

@@ -2,7 +2,7 @@
 use Rattle.std.proofs.Common.{◌≡◌, ◌+◌, ◌<◌, ℕ, suc, List, [], ◌∷◌, length, get_or, drop, Bool, true, false, ◌∙◌, sym, ap, subst, add-one, drop-cons, Vec, Global}
 use Rattle.std.specs.Prelude.{◌↔◌, IsTrue}
 use mathlib.Core.Former.{Count}
-use Rattle.kernel_types.specs.declared.statements.RStmt.{RStmt, Block, Block', Row_of-RStmt, end_of-RStmt, more_of-RStmt, items-the_row-RStmt, items_hidden-the_row-RStmt-0}
+use Rattle.kernel_model.specs.declared.types.statements.RStmt.{RStmt, Block, Block', Row_of-RStmt, end_of-RStmt, more_of-RStmt, items-the_row-RStmt, items_hidden-the_row-RStmt-0}
 
 -- each of the list has the property
 abbrev pub Each : (RStmt → Type 0) → List RStmt → Type 0

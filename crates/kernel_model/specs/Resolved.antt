@@ -1,14 +1,14 @@
 -- What a resolved kernel is: all that it names is there, and no `for` stores to its own counter.
 use Rattle.std.specs.Prelude.{◌≡◌, ◌≢◌, ℕ, pos, ◌+◌, ◌<◌, ◌≤◌, ◌^◌, List, [], ◌∷◌, length, FitsSigned}
 use Rattle.std.specs.Int.{w32}
-use Rattle.kernel_types.specs.declared.expressions.ElementForm.{ElementForm}
-use Rattle.kernel_types.specs.declared.expressions.ElementForm.TheVariants.{Index, Deref}
-use Rattle.kernel_types.specs.declared.expressions.RExpr.{RExpr}
-use Rattle.kernel_types.specs.declared.expressions.RExpr.TheVariants.{Number, Scalar, Constant, Arg', Local', Const', Unary', Binary', Choice', Paren', Extremum', Absolute'}
-use Rattle.kernel_types.specs.declared.statements.RStmt.{RStmt, Block', Declare, SetScalar, SetLocal, SetArg, If', For', Row_of-RStmt, end_of-RStmt, more_of-RStmt}
-use Rattle.kernel_types.specs.declared.kernels.RKernel.{RKernel}
-use Rattle.kernel_types.specs.declared.kernels.ConstDecl.{ConstDecl}
-use Rattle.kernel_types.specs.declared.kernels.Resolved.{Resolved}
+use Rattle.kernel_model.specs.declared.types.expressions.ElementForm.{ElementForm}
+use Rattle.kernel_model.specs.declared.types.expressions.ElementForm.TheVariants.{Index, Deref}
+use Rattle.kernel_model.specs.declared.types.expressions.RExpr.{RExpr}
+use Rattle.kernel_model.specs.declared.types.expressions.RExpr.TheVariants.{Number, Scalar, Constant, Arg', Local', Const', Unary', Binary', Choice', Paren', Extremum', Absolute'}
+use Rattle.kernel_model.specs.declared.types.statements.RStmt.{RStmt, Block', Declare, SetScalar, SetLocal, SetArg, If', For', Row_of-RStmt, end_of-RStmt, more_of-RStmt}
+use Rattle.kernel_model.specs.declared.types.kernels.RKernel.{RKernel}
+use Rattle.kernel_model.specs.declared.types.kernels.ConstDecl.{ConstDecl}
+use Rattle.kernel_model.specs.declared.types.kernels.Resolved.{Resolved}
 
 -- `*p` is `p[0]`
 abbrev pub IsFormOf : ElementForm → RExpr → Type 0

@@ -1,7 +1,7 @@
 use Rattle.std.proofs.Common.{◌≢◌, ◌↔◌, drop}
-use Rattle.kernel_types.proofs.Rows.{Each}
-use Rattle.kernel_types.specs.Resolved.{StoresOnly}
-use Rattle.kernel_types.proofs.resolved.+misses.Given as goal
+use Rattle.kernel_model.proofs.types.Rows.{Each}
+use Rattle.kernel_model.specs.Resolved.{StoresOnly}
+use Rattle.kernel_model.proofs.types.resolved.+misses.Given as goal
 
 abbrev pub decreases-misses : goal.decreases-misses
 decreases-misses l = goal.size-misses l

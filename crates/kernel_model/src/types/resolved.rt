@@ -1,11 +1,11 @@
 // Whether a kernel is what every resolved kernel is.
 
 ghost use Rattle.std.specs.Prelude.{◌≡◌, ◌≢◌, ◌+◌, ◌≤◌, ◌↔◌, IsTrue};
-ghost use Rattle.kernel_types.specs.Resolved.{CountersKept, ExprWithin, IsFormOf, IsResolved, MissesCell, StmtWithin, StoresOnly};
+ghost use Rattle.kernel_model.specs.Resolved.{CountersKept, ExprWithin, IsFormOf, IsResolved, MissesCell, StmtWithin, StoresOnly};
 
-use crate::expressions::{ElementForm, RExpr};
-use crate::kernels::RKernel;
-use crate::statements::RStmt;
+use crate::types::expressions::{ElementForm, RExpr};
+use crate::types::kernels::RKernel;
+use crate::types::statements::RStmt;
 
 /// Whether a kernel is resolved, where the constants have `consts` cells in all: each parameter, cell of a local and
 /// cell of a constant that it names is there, the index of `*p` is the number 0, no statement in the body of a `for`

@@ -2,8 +2,8 @@
 // place.
 
 ghost use Rattle.std.specs.Prelude.{◌≡◌, ℕ, ◌+◌, ◌<◌, ◌↔◌, IsTrue, length, slice_set};
-ghost use Rattle.kernel_types.specs.Stores.{target_at, read_arg, store_arg};
-ghost use Rattle.kernel_types.specs.Framed.{windows_of, targets_of, FitsIn, PlacesIn};
+ghost use Rattle.kernel_model.specs.Stores.{target_at, read_arg, store_arg};
+ghost use Rattle.kernel_model.specs.Framed.{windows_of, targets_of, FitsIn, PlacesIn};
 
 /// Where an argument's cells stand in the buffer: `count` cells from the cell `from` on.
 #[derive(Clone, Copy, PartialEq, Eq, Debug)]

@@ -1,7 +1,7 @@
 use Rattle.std.proofs.Common.{◌↔◌, drop}
-use Rattle.kernel_types.proofs.Rows.{Each}
-use Rattle.kernel_types.specs.Resolved.{StmtWithin}
-use Rattle.kernel_types.proofs.resolved.+is_within.Given as goal
+use Rattle.kernel_model.proofs.types.Rows.{Each}
+use Rattle.kernel_model.specs.Resolved.{StmtWithin}
+use Rattle.kernel_model.proofs.types.resolved.+is_within.Given as goal
 
 abbrev pub decreases-is_within : goal.decreases-is_within
 decreases-is_within l = goal.size-is_within l

@@ -1,6 +1,6 @@
 // Kernels, and the constants that they read.
 
-use crate::statements::RStmt;
+use crate::types::statements::RStmt;
 use c_tree::{Name, Pos};
 
 /// The body of a kernel, and the place of the name of each of its parameters, in order.

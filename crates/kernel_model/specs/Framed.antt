@@ -1,8 +1,8 @@
 -- What a frame holds: one array, and for each argument the place of its cells.
 use Rattle.std.specs.Prelude.{ℕ, ◌+◌, ◌<◌, ◌≤◌, List, [], ◌∷◌, length, map, get_or}
-use Rattle.kernel_types.specs.Stores.{Store, Target}
-use Rattle.kernel_types.specs.declared.views.frame.Place.{Place}
-use Rattle.kernel_types.specs.declared.views.frame.Frame.{Frame}
+use Rattle.kernel_model.specs.Stores.{Store, Target}
+use Rattle.kernel_model.specs.declared.types.views.frame.Place.{Place}
+use Rattle.kernel_model.specs.declared.types.views.frame.Frame.{Frame}
 
 -- a place as the target of an argument
 abbrev pub target_of : Place → Target

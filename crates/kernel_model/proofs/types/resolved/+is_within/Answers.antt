@@ -1,6 +1,6 @@
-use Rattle.kernel_types.specs.Resolved.{StmtWithin, RowWithin}
-use Rattle.kernel_types.proofs.Rows.{of_block, whole, turn, never}
-use Rattle.kernel_types.proofs.resolved.+is_within.Goals as goal
+use Rattle.kernel_model.specs.Resolved.{StmtWithin, RowWithin}
+use Rattle.kernel_model.proofs.types.Rows.{of_block, whole, turn, never}
+use Rattle.kernel_model.proofs.types.resolved.+is_within.Goals as goal
 
 pub loop-inner-init : goal.loop-inner-init
 loop-inner-init t c =

@@ -1,7 +1,7 @@
 use Rattle.std.proofs.Common.{◌≢◌, ◌↔◌, sym, subst}
-use Rattle.kernel_types.specs.Resolved.{StoresOnly, CountersKept, RowCountersKept}
-use Rattle.kernel_types.proofs.Rows.{of_block, whole, turn, never, both, first_fails, at_part}
-use Rattle.kernel_types.proofs.resolved.+keeps_counters.Goals as goal
+use Rattle.kernel_model.specs.Resolved.{StoresOnly, CountersKept, RowCountersKept}
+use Rattle.kernel_model.proofs.types.Rows.{of_block, whole, turn, never, both, first_fails, at_part}
+use Rattle.kernel_model.proofs.types.resolved.+keeps_counters.Goals as goal
 
 pub loop-inner-init : goal.loop-inner-init
 loop-inner-init t c =

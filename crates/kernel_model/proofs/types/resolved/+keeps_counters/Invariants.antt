@@ -1,7 +1,7 @@
 use Rattle.std.proofs.Common.{◌↔◌, drop}
-use Rattle.kernel_types.proofs.Rows.{Each}
-use Rattle.kernel_types.specs.Resolved.{CountersKept}
-use Rattle.kernel_types.proofs.resolved.+keeps_counters.Given as goal
+use Rattle.kernel_model.proofs.types.Rows.{Each}
+use Rattle.kernel_model.specs.Resolved.{CountersKept}
+use Rattle.kernel_model.proofs.types.resolved.+keeps_counters.Given as goal
 
 abbrev pub decreases-keeps_counters : goal.decreases-keeps_counters
 decreases-keeps_counters l = goal.size-keeps_counters l
