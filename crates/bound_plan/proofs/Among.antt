@@ -3,7 +3,7 @@ use Rattle.std.proofs.Common.{◌≡◌, ◌<◌, ℕ, zero, suc, true, ◌⊎�
 use Rattle.std.proofs.lemmas.Bool.{false≢true, or_cases, or_left, or_right}
 use Rattle.schedule_model.specs.Cells.{Cell, same_cell}
 use Rattle.schedule_model.specs.Tests.{same_cell_refl, same_cell_true}
-use Rattle.flat_machine.specs.Layout.{among}
+use Rattle.schedule_model.specs.Layout.{among}
 use Rattle.run_model.specs.OnWindows.{no_cell}
 
 pub among_at : (xs : List Cell) (j : ℕ) (c : Cell) → j < length xs → get_or xs j no_cell ≡ c → among xs c ≡ true

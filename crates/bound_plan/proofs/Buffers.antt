@@ -15,7 +15,7 @@ use Rattle.local_mesh.specs.declared.types.LocalSet.{LocalSet}
 use Rattle.local_mesh.specs.declared.types.RankMesh.{RankMesh}
 use Rattle.local_mesh.specs.LocalMesh.{cells_before, originals_in}
 use Rattle.schedule_model.specs.Cells.{DatCell}
-use Rattle.flat_machine.specs.Layout.{is_cell, Has}
+use Rattle.schedule_model.specs.Layout.{is_cell, Has}
 use Rattle.bound_program.specs.Values.{BoundValue}
 use Rattle.loop_plan.specs.Values.{PlanValue}
 use Rattle.loop_plan.specs.Pairs.{sets_of}

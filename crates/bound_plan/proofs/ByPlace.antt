@@ -8,7 +8,7 @@ use Rattle.local_mesh.specs.declared.types.RankMesh.{RankMesh}
 use Rattle.schedule_model.specs.Program as program
 use Rattle.schedule_model.specs.Tests.{free_kind}
 use Rattle.schedule_steps.specs.Outline.{Outline, runs, by_colour}
-use Rattle.flat_machine.specs.Layout.{by_place}
+use Rattle.schedule_model.specs.Layout.{by_place}
 use Rattle.bound_program.specs.Values.{BoundValue}
 use Rattle.bound_program.specs.Fits.{site_at}
 use Rattle.run_model.specs.Programs.{kind_of, item_at}

@@ -7,7 +7,7 @@ use Rattle.local_mesh.specs.declared.types.RankMesh.{RankMesh}
 use Rattle.schedule_model.specs.Cells.{VarCell}
 use Rattle.schedule_model.specs.Program.{Free}
 use Rattle.schedule_model.specs.Setup.{Setup}
-use Rattle.flat_machine.specs.Layout.{Layout, IsVariable, AreConstants}
+use Rattle.schedule_model.specs.Layout.{Layout, IsVariable, AreConstants}
 use Rattle.bound_program.specs.Values.{BoundValue}
 use Rattle.run_model.specs.Programs.{kind_of, loop_of, item_at}
 use Rattle.run_model.specs.Kernels.{constants}

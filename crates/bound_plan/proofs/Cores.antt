@@ -7,7 +7,7 @@ use Rattle.kernel_model.specs.Meaning as kernel
 use Rattle.kernel_model.specs.Independence.{Fits as NamesCells, ShapeStays, store_after}
 use Rattle.schedule_model.specs.Cells.{Cell, Variable, Store}
 use Rattle.schedule_model.specs.Program.{is_loop}
-use Rattle.flat_machine.specs.Layout.{Leaves, of_core}
+use Rattle.schedule_model.specs.Layout.{Leaves, of_core}
 use Rattle.run_model.specs.OnWindows.{OnWindows, ElementRunsOnWindows, core_of}
 use Rattle.bound_program.specs.Values.{BoundValue}
 use Rattle.bound_program.specs.Fits.{Fits}

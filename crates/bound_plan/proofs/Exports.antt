@@ -13,7 +13,7 @@ use Rattle.local_mesh.specs.declared.types.RankMesh.{RankMesh}
 use Rattle.schedule_model.specs.Cells.{Data, DatCell}
 use Rattle.schedule_model.specs.Setup as setup
 use Rattle.schedule_model.specs.Machine.{arrives}
-use Rattle.flat_machine.specs.Layout.{among, is_cell}
+use Rattle.schedule_model.specs.Layout.{among, is_cell}
 use Rattle.run_model.specs.OnWindows.{no_cell}
 use Rattle.bound_program.specs.Values.{BoundValue}
 use Rattle.run_model.specs.Windows.{Element, cell_in, cells_in}

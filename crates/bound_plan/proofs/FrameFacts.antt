@@ -14,7 +14,7 @@ use Rattle.local_mesh.specs.declared.types.RankMesh.{RankMesh}
 use Rattle.schedule_model.specs.Cells.{Cell, Data, DatCell}
 use Rattle.schedule_model.specs.Program.{Free}
 use Rattle.schedule_model.specs.Setup as setup
-use Rattle.flat_machine.specs.Layout.{among, is_cell, Exists, Has}
+use Rattle.schedule_model.specs.Layout.{among, is_cell, Exists, Has}
 use Rattle.run_model.specs.OnWindows.{no_cell, OnWindows}
 use Rattle.bound_program.specs.declared.sites.Arg.{Arg}
 use Rattle.bound_program.specs.declared.sites.Arg.TheVariants.{Dat, Global}

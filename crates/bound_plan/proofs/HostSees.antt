@@ -15,7 +15,7 @@ use Rattle.mesh_decl.specs.Printed.{printed_dat, printed_line}
 use Rattle.local_mesh.specs.declared.types.RankMesh.{RankMesh}
 use Rattle.schedule_model.specs.Cells.{Cell, Data, Variable, VarCell, Store, same_cell}
 use Rattle.schedule_model.specs.Program.{Hosted, Halts, Goes}
-use Rattle.flat_machine.specs.Layout.{among, Exists, HostedAlike}
+use Rattle.schedule_model.specs.Layout.{among, Exists, HostedAlike}
 use Rattle.run_model.specs.OnWindows.{no_cell}
 use Rattle.kernel_model.specs.View.{RExprTree}
 use Rattle.bound_program.specs.HostExpr.{value}

@@ -3,7 +3,7 @@ use Rattle.std.proofs.Common.{List}
 use Rattle.mesh_decl.specs.declared.owners.Owners.{Owners}
 use Rattle.mesh_decl.specs.declared.owners.Perms.{Perms}
 use Rattle.local_mesh.specs.declared.types.RankMesh.{RankMesh}
-use Rattle.flat_machine.specs.Layout.{IsLayout}
+use Rattle.schedule_model.specs.Layout.{IsLayout}
 use Rattle.bound_program.specs.Values.{BoundValue}
 use Rattle.run_model.specs.Programs.{item_at, act_in}
 use Rattle.run_model.specs.Laws.{site_of}

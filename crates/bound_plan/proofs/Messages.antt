@@ -14,8 +14,8 @@ use Rattle.local_mesh.specs.declared.types.RankMesh.{RankMesh}
 use Rattle.schedule_model.specs.Cells.{Cell, Data, Variable, DatCell}
 use Rattle.schedule_model.specs.Setup as setup
 use Rattle.schedule_model.specs.Machine.{arrives}
-use Rattle.flat_machine.specs.Layout.{among}
-use Rattle.flat_machine.specs.Scatter.{Once}
+use Rattle.schedule_model.specs.Layout.{among}
+use Rattle.schedule_model.specs.Scatter.{Once}
 use Rattle.run_model.specs.OnWindows.{no_cell}
 use Rattle.bound_program.specs.Values.{BoundValue}
 use Rattle.run_model.specs.Windows.{Element, cell_in, cells_in}

@@ -12,7 +12,7 @@ use Rattle.schedule_model.specs.Cells.{Data, Variable, DatCell, VarCell}
 use Rattle.schedule_model.specs.Effects.{is_modified}
 use Rattle.schedule_model.specs.Program.{Free, is_loop}
 use Rattle.schedule_model.specs.Arguments.{reaches}
-use Rattle.flat_machine.specs.Layout.{among}
+use Rattle.schedule_model.specs.Layout.{among}
 use Rattle.run_model.specs.ElementRun.{IsElementRun}
 use Rattle.kernel_model.specs.declared.types.kernels.RKernel.{RKernel}
 use Rattle.bound_program.specs.Values.{BoundValue}

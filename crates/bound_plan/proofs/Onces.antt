@@ -2,8 +2,8 @@
 use Rattle.std.proofs.Common.{◌≡◌, ◌<◌, ℕ, suc, true, List, [], ◌∷◌, ◌++◌, length, get_or, flat_map, refl, sym, ◌∙◌, ⊎_elim, arith}
 use Rattle.std.proofs.lemmas.Bool.{false≢true, false_from_ne_true}
 use Rattle.schedule_model.specs.Cells.{Cell}
-use Rattle.flat_machine.specs.Layout.{among}
-use Rattle.flat_machine.specs.Scatter.{Once}
+use Rattle.schedule_model.specs.Layout.{among}
+use Rattle.schedule_model.specs.Scatter.{Once}
 use Rattle.run_model.specs.OnWindows.{no_cell}
 use Rattle.bound_plan.proofs.Among.{among_at, at_among, piece_among, either_among}
 

@@ -20,8 +20,8 @@ use Rattle.schedule_steps.specs.declared.step.Step.{Step}
 use Rattle.schedule_model.specs.Cells.{Cell, DatCell}
 use Rattle.schedule_model.specs.Program.{Program}
 use Rattle.schedule_model.specs.Setup.{Setup}
-use Rattle.flat_machine.specs.Layout.{Layout, Core}
-use Rattle.flat_machine.specs.Flat.{flat_from}
+use Rattle.schedule_model.specs.Layout.{Layout, Core}
+use Rattle.schedule_model.specs.Flat.{flat_from}
 use Rattle.gather.specs.Dump.{dump_text}
 use Rattle.bound_program.specs.Values.{BoundValue}
 use Rattle.run_model.specs.Kernels.{kernel_at}

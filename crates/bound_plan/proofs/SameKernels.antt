@@ -8,7 +8,7 @@ use Rattle.kernel_model.specs.Trees.{RunsAlike}
 use Rattle.schedule_model.specs.Cells.{Store}
 use Rattle.schedule_model.specs.Effects.{Ran}
 use Rattle.schedule_model.specs.Program.{Program}
-use Rattle.flat_machine.specs.Layout.{of_core}
+use Rattle.schedule_model.specs.Layout.{of_core}
 use Rattle.run_model.specs.OnWindows.{core_of}
 use Rattle.bound_program.specs.Values.{BoundValue, SiteValue}
 use Rattle.bound_program.specs.Fits.{site_at}

@@ -8,8 +8,8 @@ use Rattle.schedule_steps.specs.declared.step.Step.{Step}
 use Rattle.schedule_steps.specs.Steps.{Accepted}
 use Rattle.schedule_steps.specs.Alike.{AlikeOutlines}
 use Rattle.schedule_model.specs.Setup.{Setup}
-use Rattle.flat_machine.specs.Layout.{Layout, IsLayout, by_place}
-use Rattle.flat_machine.specs.Flat.{Flat, StartsFlat, flat_from, AgreesFlat}
+use Rattle.schedule_model.specs.Layout.{Layout, IsLayout, by_place}
+use Rattle.schedule_model.specs.Flat.{Flat, StartsFlat, flat_from, AgreesFlat}
 use Rattle.run_model.specs.OnWindows.{OnWindows}
 use Rattle.schedule_model.specs.Laws.{Items, Lawful, Coloured}
 use Rattle.schedule_model.specs.LoopParts.{LoopParts}

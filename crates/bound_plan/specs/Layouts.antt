@@ -8,7 +8,7 @@ use Rattle.lemmas.specs.Below.{listed}
 use Rattle.local_mesh.specs.Halo.{owns, imports}
 use Rattle.local_mesh.specs.declared.types.RankMesh.{RankMesh}
 use Rattle.schedule_model.specs.Cells.{Cell}
-use Rattle.flat_machine.specs.Layout.{Layout}
+use Rattle.schedule_model.specs.Layout.{Layout}
 use Rattle.bound_program.specs.Values.{BoundValue}
 use Rattle.run_model.specs.Windows.{Element, cells_in}
 use Rattle.run_model.specs.Kernels.{constants}

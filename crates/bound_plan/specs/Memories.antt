@@ -5,7 +5,7 @@ use Rattle.mesh_decl.specs.declared.owners.Owners.{Owners}
 use Rattle.local_mesh.specs.declared.types.RankMesh.{RankMesh}
 use Rattle.schedule_steps.specs.declared.step.Step.{Step}
 use Rattle.schedule_model.specs.Sequential.{Stop}
-use Rattle.flat_machine.specs.Flat.{flat_from}
+use Rattle.schedule_model.specs.Flat.{flat_from}
 use Rattle.gather.specs.Dump.{dump_text}
 use Rattle.bound_program.specs.Values.{BoundValue}
 use Rattle.run_model.specs.Programs.{printed, first_fault}

@@ -3,8 +3,8 @@ use Rattle.std.specs.Prelude.{[], map, None}
 use Rattle.schedule_model.specs.Cells.{Data, Variable}
 use Rattle.schedule_model.specs.Setup.{Setup}
 use Rattle.schedule_model.specs.Machine.{unit_at}
-use Rattle.flat_machine.specs.Layout.{Layout}
-use Rattle.flat_machine.specs.Flat.{Flat, Shut_pane}
+use Rattle.schedule_model.specs.Layout.{Layout}
+use Rattle.schedule_model.specs.Flat.{Flat, Shut_pane}
 use Rattle.run_model.specs.Windows.{numbers}
 
 -- the first values in every copy and in the variables, units in the partials, and all else empty

@@ -5,7 +5,7 @@ use Rattle.kernel_model.specs.declared.types.kernels.RKernel.{RKernel}
 use Rattle.kernel_model.specs.Meaning.{kernel_meaning}
 use Rattle.kernel_model.specs.Meaning as kernel
 use Rattle.schedule_model.specs.Cells.{Cell}
-use Rattle.flat_machine.specs.Layout.{Core, Leaves}
+use Rattle.schedule_model.specs.Layout.{Core, Leaves}
 use Rattle.run_model.specs.OnWindows.{core_of}
 use Rattle.bound_program.specs.declared.sites.Arg.{Arg}
 use Rattle.bound_program.specs.declared.sites.Arg.TheVariants.{Dat, Global}

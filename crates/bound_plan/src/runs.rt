@@ -16,5 +16,5 @@ pub fn plans_run_as_sequential()
     setups_are_coloured();
     layouts_fit();
     plans_are_by_place();
-    flat_machine::flat_runs_as_sequential::<KernelFault>();
+    schedule_model::flat_machine::flat_runs_as_sequential::<KernelFault>();
 }

@@ -17,7 +17,7 @@ use Rattle.mesh_decl.specs.Printed.{printed_dat, printed_line}
 use Rattle.schedule_model.specs.Cells.{Cell, Data, Variable, VarCell, Store}
 use Rattle.schedule_model.specs.Program.{Hosted, Halts, Goes}
 use Rattle.schedule_model.specs.Effects.{Ran, Faulted, Finished}
-use Rattle.flat_machine.specs.Layout.{Core, Faults, Leaves, of_core, lookup}
+use Rattle.schedule_model.specs.Layout.{Core, Faults, Leaves, of_core, lookup}
 use Rattle.run_model.specs.OnWindows.{core_of}
 use Rattle.bound_program.specs.declared.sites.Arg.{Arg}
 use Rattle.bound_program.specs.declared.sites.Arg.TheVariants.{Dat, Global}

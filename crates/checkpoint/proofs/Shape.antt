@@ -14,7 +14,7 @@ use Rattle.mesh_decl.specs.Mesh.{set_size, set_name, map_targets, map_dim, targe
 use Rattle.mesh_decl.specs.Printed.{printed_dat, printed_line, rows, row_text}
 use Rattle.schedule_model.specs.Cells.{Data, Variable, Store}
 use Rattle.schedule_model.specs.Program.{Halts, Goes}
-use Rattle.flat_machine.specs.Layout.{of_core}
+use Rattle.schedule_model.specs.Layout.{of_core}
 use Rattle.run_model.specs.OnWindows.{core_of}
 use Rattle.bound_program.specs.declared.sites.Arg.{Arg}
 use Rattle.bound_program.specs.declared.sites.Arg.TheVariants.{Dat, Global}

@@ -6,7 +6,7 @@ use Rattle.kernel_model.specs.declared.types.views.frame.Place.{Place}
 use Rattle.kernel_model.specs.Framed.{PlacesIn}
 use Rattle.schedule_model.specs.Cells.{Cell, Store}
 use Rattle.schedule_model.specs.Effects.{Ran, Faulted, Finished}
-use Rattle.flat_machine.specs.Layout.{among}
+use Rattle.schedule_model.specs.Layout.{among}
 use Rattle.rank_state.specs.declared.spans.Span.{Span}
 use Rattle.rank_state.specs.Core.{fault_of}
 use Rattle.rank_state.specs.Frames.{pane_after, closed}

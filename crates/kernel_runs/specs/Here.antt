@@ -5,7 +5,7 @@ use Rattle.kernel_model.specs.declared.types.kernels.RKernel.{RKernel}
 use Rattle.kernel_model.specs.Meaning.{Target, target_at, Finished, kernel_meaning}
 use Rattle.kernel_model.specs.declared.types.views.frame.Place.{Place}
 use Rattle.kernel_model.specs.Framed.{target_of}
-use Rattle.flat_machine.specs.Layout.{Core}
+use Rattle.schedule_model.specs.Layout.{Core}
 use Rattle.run_model.specs.OnWindows.{core_of}
 use Rattle.rank_state.specs.declared.spans.Span.{Span}
 use Rattle.rank_state.specs.Spans.{Within, gathered}

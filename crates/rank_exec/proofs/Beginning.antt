@@ -5,7 +5,7 @@ use Rattle.schedule_steps.specs.declared.step.Step.TheVariants.{Send, Recv, Begi
 use Rattle.schedule_steps.specs.Steps.{IsStep}
 use Rattle.step_orders.specs.Alone.{alone}
 use Rattle.schedule_model.specs.Setup.{Setup}
-use Rattle.flat_machine.specs.Layout.{Layout, by_place}
+use Rattle.schedule_model.specs.Layout.{Layout, by_place}
 use Rattle.rank_state.specs.Frames.{Panes, Shut, pane_at}
 use Rattle.rank_exec.specs.Rounds.{CanBegin}
 

@@ -12,9 +12,9 @@ use Rattle.step_orders.specs.Left as left
 use Rattle.step_orders.specs.Left.{ends}
 use Rattle.schedule_model.specs.Setup.{Setup}
 use Rattle.schedule_model.specs.Kept.{kept_of, OfElements}
-use Rattle.flat_machine.specs.Layout.{Layout, by_place, message_cells}
-use Rattle.flat_machine.specs.Flat.{Flat, Shut_pane, flat_from}
-use Rattle.flat_machine.specs.Flat as flat
+use Rattle.schedule_model.specs.Layout.{Layout, by_place, message_cells}
+use Rattle.schedule_model.specs.Flat.{Flat, Shut_pane, flat_from}
+use Rattle.schedule_model.specs.Flat as flat
 use Rattle.rank_exec.specs.Closed.{AreAlike, closed, GroupsAreAlone}
 use Rattle.rank_state.specs.Frames.{Pane, Shut, Broken, Holds, pane_at}
 use Rattle.rank_state.specs.Groups.{begins, Planned, AllShut, Distinct}

@@ -6,8 +6,8 @@ use Rattle.schedule_steps.specs.declared.step.Step.TheVariants.{Send, Recv, Begi
 use Rattle.schedule_steps.specs.Steps.{Accepted}
 use Rattle.schedule_steps.specs.Peaks.{open_step, mail_step, count_after, greatest}
 use Rattle.schedule_model.specs.Setup.{Setup}
-use Rattle.flat_machine.specs.Layout.{Layout, by_place, message_cells}
-use Rattle.flat_machine.specs.Flat.{Flat, flat_step, flat_from, StartsFlat}
+use Rattle.schedule_model.specs.Layout.{Layout, by_place, message_cells}
+use Rattle.schedule_model.specs.Flat.{Flat, flat_step, flat_from, StartsFlat}
 use Rattle.rank_state.specs.Groups.{begins, Planned, AllShut, Distinct}
 use Rattle.rank_state.specs.Machine.{State}
 use Rattle.rank_state.specs.Shows.{Tables, Shows}

@@ -7,8 +7,8 @@ use Rattle.schedule_steps.specs.declared.step.Step.TheVariants.{Send, Recv, Begi
 use Rattle.schedule_steps.specs.Peaks.{open_step, mail_step, count_after, greatest}
 use Rattle.schedule_model.specs.Setup.{Setup}
 use Rattle.schedule_model.specs.Sequential as model
-use Rattle.flat_machine.specs.Layout.{Layout, Core, Faults, Leaves, by_place, message_cells}
-use Rattle.flat_machine.specs.Flat.{Flat, variable, window, open_pane, flat_step, flat_from, StartsFlat, AgreesFlat}
+use Rattle.schedule_model.specs.Layout.{Layout, Core, Faults, Leaves, by_place, message_cells}
+use Rattle.schedule_model.specs.Flat.{Flat, variable, window, open_pane, flat_step, flat_from, StartsFlat, AgreesFlat}
 use Rattle.schedule_model.specs.Sequential.{Seq, Going, Stopped}
 use Rattle.rank_state.specs.Machine.{State}
 use Rattle.rank_state.specs.Shows.{Tables, Shows}

@@ -12,8 +12,8 @@ use Rattle.schedule_model.specs.Program as program
 use Rattle.schedule_model.specs.Program.{Program, Hosted, Halts, Goes, is_loop}
 use Rattle.schedule_model.specs.Setup.{Setup, owner_of, in_set}
 use Rattle.schedule_model.specs.Sequential.{with_variables}
-use Rattle.flat_machine.specs.Layout.{Layout}
-use Rattle.flat_machine.specs.Flat.{Flat, owned, variable, flat_step}
+use Rattle.schedule_model.specs.Layout.{Layout}
+use Rattle.schedule_model.specs.Flat.{Flat, owned, variable, flat_step}
 use Rattle.bound_program.specs.Values.{BoundValue, ActValue, Host, Clear, Assign, Line, Print, Exit, Ordered, SiteValue, site_of, no_site}
 use Rattle.mesh_decl.specs.Printed.{printed_dat}
 use Rattle.bound_program.specs.declared.sites.Site.{Site}

@@ -1,6 +1,6 @@
 -- Runs of kernels that fault, and those that don't.
 use Rattle.std.proofs.Common.{◌≡◌, ℤ, Some, None, List, refl}
-use Rattle.flat_machine.specs.Layout.{Core, Faults, Leaves}
+use Rattle.schedule_model.specs.Layout.{Core, Faults, Leaves}
 use Rattle.rank_state.specs.Core.{fault_of}
 
 pub no_fault : {F : Type 0} (c : Core F) → fault_of c ≡ None → (us : List ℤ) × (c ≡ Leaves us)

@@ -9,8 +9,8 @@ use Rattle.schedule_model.specs.Sequential.{Stop}
 use Rattle.schedule_model.specs.Machine.{is_less}
 use Rattle.schedule_model.specs.Kept.{kept, kept_of, OfElements}
 use Rattle.schedule_model.specs.Setup.{Setup}
-use Rattle.flat_machine.specs.Layout.{Layout, IsLayout, by_place, message_cells}
-use Rattle.flat_machine.specs.Flat.{Flat, flat_from}
+use Rattle.schedule_model.specs.Layout.{Layout, IsLayout, by_place, message_cells}
+use Rattle.schedule_model.specs.Flat.{Flat, flat_from}
 use Rattle.rank_exec.specs.Closed.{closed, GroupsAreAlone, RankGroup, all_closed, all_alone, SeveralAreAlone}
 use Rattle.rank_state.specs.Frames.{Pane, Panes, Shut, pane_at}
 use Rattle.rank_state.specs.Groups.{AllShut}

@@ -8,7 +8,7 @@ use Rattle.kernel_model.specs.declared.types.faults.KernelFault.{KernelFault}
 use Rattle.mesh_decl.specs.Mesh.{dat_set, dat_dim, set_size}
 use Rattle.schedule_model.specs.Cells.{DatCell, Store}
 use Rattle.schedule_model.specs.Setup.{Setup, owner_of}
-use Rattle.flat_machine.specs.Layout.{Layout}
+use Rattle.schedule_model.specs.Layout.{Layout}
 use Rattle.bound_program.specs.Values.{BoundValue}
 use Rattle.run_model.specs.Windows.{numbers}
 use Rattle.run_model.specs.Programs.{program_of}

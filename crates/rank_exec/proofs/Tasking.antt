@@ -9,9 +9,9 @@ use Rattle.schedule_steps.specs.declared.step.Step.TheVariants.{Begin}
 use Rattle.schedule_steps.specs.Outline.{Outline}
 use Rattle.schedule_steps.specs.Steps.{IsStep}
 use Rattle.schedule_model.specs.Setup.{Setup}
-use Rattle.flat_machine.specs.Layout.{Layout, Core, Faults, Leaves}
-use Rattle.flat_machine.specs.Flat.{Flat, open_pane, flat_step, flat_from}
-use Rattle.flat_machine.specs.Flat as flat
+use Rattle.schedule_model.specs.Layout.{Layout, Core, Faults, Leaves}
+use Rattle.schedule_model.specs.Flat.{Flat, open_pane, flat_step, flat_from}
+use Rattle.schedule_model.specs.Flat as flat
 use Rattle.rank_state.specs.Spans.{gathered}
 use Rattle.rank_state.specs.Windows.{firsts}
 use Rattle.rank_state.specs.Indices.{values_at}

@@ -5,8 +5,8 @@ use Rattle.schedule_steps.specs.declared.step.Step.{Step}
 use Rattle.schedule_steps.specs.declared.step.Step.TheVariants.{Begin, End}
 use Rattle.step_orders.specs.Alone.{alone}
 use Rattle.schedule_model.specs.Setup.{Setup}
-use Rattle.flat_machine.specs.Layout.{Layout}
-use Rattle.flat_machine.specs.Flat.{Flat}
+use Rattle.schedule_model.specs.Layout.{Layout}
+use Rattle.schedule_model.specs.Flat.{Flat}
 use Rattle.rank_exec.specs.Closed.{closed, GroupsAreAlone, RankGroup, all_closed, all_alone}
 use Rattle.rank_state.specs.Machine.{State}
 use Rattle.rank_state.specs.Shows.{Tables, Shows}

@@ -5,8 +5,8 @@ use Rattle.step_orders.specs.Alone.{alone}
 use Rattle.step_orders.specs.Left.{begins, ends}
 use Rattle.schedule_model.specs.Cells.{VarCell}
 use Rattle.schedule_model.specs.Setup.{Setup}
-use Rattle.flat_machine.specs.Layout.{Layout}
-use Rattle.flat_machine.specs.Flat.{Flat, flat_from}
+use Rattle.schedule_model.specs.Layout.{Layout}
+use Rattle.schedule_model.specs.Flat.{Flat, flat_from}
 
 -- nothing tells the two states apart
 pub record AreAlike {F : Type 0} (f g : Flat F) : Type 0 where

@@ -11,8 +11,8 @@ use Rattle.schedule_model.specs.Cells.{Data, Store}
 use Rattle.schedule_model.specs.Setup.{Setup}
 use Rattle.schedule_model.specs.Sequential as model
 use Rattle.schedule_model.specs.Sequential.{Seq, Going, Stopped}
-use Rattle.flat_machine.specs.Layout.{Layout, by_place, message_cells}
-use Rattle.flat_machine.specs.Flat.{Flat, Shut_pane, flat_from, StartsFlat}
+use Rattle.schedule_model.specs.Layout.{Layout, by_place, message_cells}
+use Rattle.schedule_model.specs.Flat.{Flat, Shut_pane, flat_from, StartsFlat}
 use Rattle.rank_exec.specs.declared.begins.Begun.{Begun}
 use Rattle.rank_exec.specs.declared.begins.Begun.TheVariants.{InPlace, Group}
 use Rattle.rank_state.specs.declared.spans.Span.{Span}

@@ -7,7 +7,7 @@ use Rattle.rank_exec.specs.declared.stream.Told.{Told}
 use Rattle.step_orders.specs.Alone.{alone}
 use Rattle.rank_exec.specs.Closed.{closed}
 use Rattle.schedule_model.specs.Setup.{Setup}
-use Rattle.flat_machine.specs.Layout.{Layout, IsLayout, by_place}
+use Rattle.schedule_model.specs.Layout.{Layout, IsLayout, by_place}
 use Rattle.rank_state.specs.Indices.{values_at}
 use Rattle.rank_state.specs.Frames.{Panes, Shut, pane_at}
 use Rattle.rank_state.specs.Machine.{State}

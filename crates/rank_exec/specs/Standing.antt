@@ -6,7 +6,7 @@ use Rattle.bound_program.specs.Values.{BoundValue}
 use Rattle.run_model.specs.Windows.{numbers}
 use Rattle.schedule_model.specs.Cells.{Data}
 use Rattle.schedule_model.specs.Setup.{Setup, owner_of}
-use Rattle.flat_machine.specs.Layout.{Layout}
+use Rattle.schedule_model.specs.Layout.{Layout}
 use Rattle.rank_state.specs.declared.owned.Owned.{Owned}
 use Rattle.rank_state.specs.Windows.{cells_from}
 

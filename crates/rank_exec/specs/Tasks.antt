@@ -1,6 +1,6 @@
 -- The begins of a group, done on the windows of one buffer.
 use Rattle.std.specs.Prelude.{◌≡◌, ◌<◌, ◌≤◌, ◌+◌, ◌*◌, ℕ, ℤ, pos, List, take, length, get_or, vec_capacity}
-use Rattle.flat_machine.specs.Layout.{Layout, Leaves}
+use Rattle.schedule_model.specs.Layout.{Layout, Leaves}
 use Rattle.schedule_model.specs.Setup.{Setup}
 use Rattle.rank_state.specs.declared.spans.Span.{Span}
 use Rattle.rank_state.specs.declared.scalars.Scalar.{Scalar}

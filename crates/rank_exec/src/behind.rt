@@ -4,7 +4,7 @@ ghost use Rattle.std.specs.Prelude.{◌≡◌, ◌<◌, ◌++◌, ◌^◌, ℕ, 
 ghost use Rattle.kernel_model.specs.declared.types.faults.KernelFault.{KernelFault};
 ghost use Rattle.schedule_steps.specs.declared.step.Step.{Step};
 ghost use Rattle.rank_exec.specs.Closed.{GroupsAreAlone};
-ghost use Rattle.flat_machine.specs.Flat.{Flat};
+ghost use Rattle.schedule_model.specs.Flat.{Flat};
 ghost use Rattle.rank_state.specs.Shows.{Shows};
 ghost use Rattle.rank_exec.specs.RunRooms.{HasRunRoomOf};
 ghost use Rattle.rank_exec.specs.Driving.{Done, ComeReady};

@@ -7,8 +7,8 @@ ghost use Rattle.schedule_steps.specs.Steps.{Accepted};
 ghost use Rattle.schedule_model.specs.Setup.{Setup};
 ghost use Rattle.schedule_model.specs.Laws.{Coloured};
 ghost use Rattle.step_orders.specs.Alone.{alone};
-ghost use Rattle.flat_machine.specs.Layout.{Layout, IsLayout, by_place};
-ghost use Rattle.flat_machine.specs.Flat.{Flat, Shut_pane, flat_from};
+ghost use Rattle.schedule_model.specs.Layout.{Layout, IsLayout, by_place};
+ghost use Rattle.schedule_model.specs.Flat.{Flat, Shut_pane, flat_from};
 ghost use Rattle.rank_exec.specs.Closed.{GroupsAreAlone, SeveralAreAlone};
 
 /// A law: a closed group in an accepted list leaves what its elements leave one after another, each begun and ended

@@ -7,8 +7,8 @@ ghost use Rattle.schedule_steps.specs.declared.step.Step.TheVariants.{Send, Recv
 ghost use Rattle.schedule_steps.specs.Steps.{IsStep, Accepted};
 ghost use Rattle.schedule_model.specs.Laws.{Lawful, Coloured};
 ghost use Rattle.schedule_model.specs.Sequential.{sequential};
-ghost use Rattle.flat_machine.specs.Layout.{by_place};
-ghost use Rattle.flat_machine.specs.Flat.{Flat, StartsFlat, flat_step, flat_from};
+ghost use Rattle.schedule_model.specs.Layout.{by_place};
+ghost use Rattle.schedule_model.specs.Flat.{Flat, StartsFlat, flat_step, flat_from};
 ghost use Rattle.rank_program.specs.Rooms.{HasRoomOf};
 ghost use Rattle.rank_exec.specs.RunRooms.{HasRunRoomOf};
 ghost use Rattle.rank_state.specs.Shows.{Shows};
@@ -115,7 +115,7 @@ pub fn drive<R: Threads + Sync, G: Gate, S: Steps>(
         (flat_from (setup_in program.now) (layout_in program.now) (S.left steps.old) f)) }
     ensures suffix { (front : List Step) × (S.left steps.old ≡ front ++ S.left steps.new) }
 {
-    flat_machine::flat_runs_as_sequential::<KernelFault>();
+    schedule_model::flat_machine::flat_runs_as_sequential::<KernelFault>();
     schedule_steps::peak_is_room();
     rank_state::steps_are_ready::<KernelFault>();
     crate::closed_groups::closed_groups_are_alone::<KernelFault>();

@@ -5,7 +5,7 @@ ghost use Rattle.kernel_model.specs.declared.types.faults.KernelFault.{KernelFau
 ghost use Rattle.schedule_steps.specs.declared.step.Step.{Step};
 ghost use Rattle.schedule_steps.specs.declared.step.Step.TheVariants.{Begin, End};
 ghost use Rattle.rank_exec.specs.Closed.{GroupsAreAlone};
-ghost use Rattle.flat_machine.specs.Flat.{Flat};
+ghost use Rattle.schedule_model.specs.Flat.{Flat};
 ghost use Rattle.rank_exec.specs.RunRooms.{most_begins, HasRunRoomOf};
 ghost use Rattle.rank_state.specs.Shows.{Shows};
 ghost use Rattle.rank_state.specs.Groups.{begins};

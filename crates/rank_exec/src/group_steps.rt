@@ -5,8 +5,8 @@ ghost use Rattle.std.specs.Prelude.{◌≡◌, ◌<◌, ◌≤◌, ◌+◌, ℕ,
 ghost use Rattle.kernel_model.specs.declared.types.faults.KernelFault.{KernelFault};
 ghost use Rattle.schedule_steps.specs.declared.step.Step.TheVariants.{Begin};
 ghost use Rattle.schedule_steps.specs.Steps.{IsStep};
-ghost use Rattle.flat_machine.specs.Layout.{by_place};
-ghost use Rattle.flat_machine.specs.Flat.{Flat, flat_step, flat_from};
+ghost use Rattle.schedule_model.specs.Layout.{by_place};
+ghost use Rattle.schedule_model.specs.Flat.{Flat, flat_step, flat_from};
 ghost use Rattle.rank_state.specs.Frames.{Shut, pane_at};
 ghost use Rattle.rank_state.specs.Groups.{begins, Distinct, Planned, AllShut};
 ghost use Rattle.rank_state.specs.Shows.{Shows};

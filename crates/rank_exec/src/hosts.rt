@@ -5,7 +5,7 @@ ghost use Rattle.kernel_model.specs.declared.types.faults.KernelFault.{KernelFau
 ghost use Rattle.mesh_decl.specs.Mesh.{dat_count, dat_set, dat_dim, set_size};
 ghost use Rattle.schedule_steps.specs.declared.step.Step.TheVariants.{Join};
 ghost use Rattle.schedule_model.specs.Kept.{if_before};
-ghost use Rattle.flat_machine.specs.Flat.{Flat, owned, flat_step};
+ghost use Rattle.schedule_model.specs.Flat.{Flat, owned, flat_step};
 ghost use Rattle.bound_program.specs.Values.{Host as HostItem, Print, told_act_of};
 ghost use Rattle.run_model.specs.Hosts.{dat_cells};
 ghost use Rattle.run_model.specs.Programs.{item_at};

@@ -3,7 +3,7 @@
 ghost use Rattle.std.specs.Prelude.{◌<◌, length};
 ghost use Rattle.kernel_model.specs.declared.types.faults.KernelFault.{KernelFault};
 ghost use Rattle.rank_exec.specs.Closed.{GroupsAreAlone};
-ghost use Rattle.flat_machine.specs.Flat.{Flat};
+ghost use Rattle.schedule_model.specs.Flat.{Flat};
 ghost use Rattle.rank_state.specs.Shows.{Shows};
 ghost use Rattle.rank_program.specs.Rooms.{HasRoomOf};
 ghost use Rattle.rank_exec.specs.Driving.{Done, ComeReady};

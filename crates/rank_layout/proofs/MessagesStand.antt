@@ -13,7 +13,7 @@ use Rattle.local_mesh.specs.declared.lists.LocalLists.{LocalLists}
 use Rattle.local_mesh.specs.Lists.{AreLocals}
 use Rattle.schedule_model.specs.Cells.{Cell, Data, DatCell, same_cell}
 use Rattle.schedule_model.specs.Machine.{arrives}
-use Rattle.flat_machine.specs.Layout.{among}
+use Rattle.schedule_model.specs.Layout.{among}
 use Rattle.bound_program.specs.Values.{BoundValue}
 use Rattle.run_model.specs.Windows.{Element, cells_in}
 use Rattle.loop_plan.specs.Values.{PlanValue, item_plan}

@@ -5,7 +5,7 @@ use Rattle.std.proofs.lemmas.Bool.{cases_Bool, false≢true, and_from, or_cases,
 use Rattle.std.proofs.lemmas.List.{append-nil, map-append, take_more}
 use Rattle.schedule_model.specs.Cells.{DatCell, VarCell}
 use Rattle.schedule_model.specs.Setup.{Setup}
-use Rattle.flat_machine.specs.Layout.{Layout}
+use Rattle.schedule_model.specs.Layout.{Layout}
 use Rattle.bound_program.specs.declared.sites.Arg.{Arg}
 use Rattle.bound_program.specs.declared.sites.Arg.TheVariants.{Dat, Global}
 use Rattle.bound_program.specs.Values.{BoundValue}

@@ -5,7 +5,7 @@ use Rattle.std.specs.List.{range_with_len}
 use Rattle.std.proofs.lemmas.Bool.{cases_lt, or_left, or_right, eq-eqb}
 use Rattle.std.proofs.lemmas.List.FromFn.{map-range_with_len_more}
 use Rattle.schedule_model.specs.Cells.{Cell, Variable, VarCell}
-use Rattle.flat_machine.specs.Scatter.{Once}
+use Rattle.schedule_model.specs.Scatter.{Once}
 use Rattle.bound_program.specs.Values.{BoundValue}
 use Rattle.run_model.specs.Windows.{Whole, cell_in}
 use Rattle.rank_state.specs.declared.scalars.Scalar.{Scalar}

@@ -7,7 +7,7 @@ use Rattle.std.proofs.lemmas.List.FromFn.{length-map-range_with_len}
 use Rattle.std.proofs.lemmas.List.Concat.{flat_map-append}
 use Rattle.op_num.specs.Reduction.{Reduction}
 use Rattle.op_num.specs.declared.reductions.access.Access.{Access}
-use Rattle.flat_machine.specs.Scatter.{Once}
+use Rattle.schedule_model.specs.Scatter.{Once}
 use Rattle.bound_program.specs.declared.sites.Arg.{Arg}
 use Rattle.bound_program.specs.declared.sites.Arg.TheVariants.{Dat, Global}
 use Rattle.bound_program.specs.Values.{BoundValue}

@@ -1,6 +1,6 @@
 -- What a machine has room for, and what a run leaves there.
 use Rattle.std.specs.Prelude.{◌≡◌, ℕ, ℤ, List, Vec, All, take, vec_len, Result, Ok, Err}
-use Rattle.flat_machine.specs.Layout.{Core, Faults, Leaves}
+use Rattle.schedule_model.specs.Layout.{Core, Faults, Leaves}
 use Rattle.std.specs.declared.alloc.Global.{Global}
 use Rattle.rank_state.specs.Spare.{HasSpare}
 

@@ -5,7 +5,7 @@ use Rattle.par_exec.specs.Parts.{MadeEach}
 use Rattle.kernel_model.specs.declared.types.faults.KernelFault.{KernelFault}
 use Rattle.schedule_model.specs.Sequential.{Stop}
 use Rattle.schedule_model.specs.Setup.{Setup}
-use Rattle.flat_machine.specs.Layout.{Layout}
+use Rattle.schedule_model.specs.Layout.{Layout}
 use Rattle.rank_state.specs.Machine.{State}
 use Rattle.rank_state.specs.Shows.{Tables}
 use Rattle.rank_state.specs.Spare.{HasSpare}

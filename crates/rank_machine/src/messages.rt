@@ -4,8 +4,8 @@ ghost use Rattle.std.specs.Prelude.{◌≡◌, ◌<◌, ◌≤◌, ◌+◌, List
 ghost use Rattle.kernel_model.specs.declared.types.faults.KernelFault.{KernelFault};
 ghost use Rattle.schedule_steps.specs.declared.step.Step.TheVariants.{Send, Recv};
 ghost use Rattle.schedule_steps.specs.Steps.{IsStep};
-ghost use Rattle.flat_machine.specs.Layout.{by_place};
-ghost use Rattle.flat_machine.specs.Flat.{Flat, flat_step};
+ghost use Rattle.schedule_model.specs.Layout.{by_place};
+ghost use Rattle.schedule_model.specs.Flat.{Flat, flat_step};
 ghost use Rattle.rank_state.specs.declared.spans.Span.{Span};
 ghost use Rattle.rank_state.specs.Spans.{total};
 ghost use Rattle.rank_state.specs.Mail.{Carries};

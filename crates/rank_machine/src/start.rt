@@ -2,7 +2,7 @@
 
 ghost use Rattle.std.specs.Prelude.{◌≡◌, ◌<◌, ◌*◌, ◌^◌, ℕ, All, map, IfOk};
 ghost use Rattle.kernel_model.specs.declared.types.faults.KernelFault.{KernelFault};
-ghost use Rattle.flat_machine.specs.Flat.{Flat, StartsFlat};
+ghost use Rattle.schedule_model.specs.Flat.{Flat, StartsFlat};
 ghost use Rattle.rank_state.specs.Shows.{Shows};
 ghost use Rattle.rank_state.specs.Starting.{AreFirst};
 ghost use Rattle.rank_state.specs.Spare.{HasSpare};

@@ -6,8 +6,8 @@ use Rattle.schedule_steps.specs.declared.step.Step.TheVariants.{Begin, End}
 use Rattle.schedule_steps.specs.Steps.{IsStep}
 use Rattle.schedule_model.specs.Setup.{Setup}
 use Rattle.schedule_model.specs.Sequential.{Stop}
-use Rattle.flat_machine.specs.Layout.{Layout, Core, by_place}
-use Rattle.flat_machine.specs.Flat.{Flat, flat_step}
+use Rattle.schedule_model.specs.Layout.{Layout, Core, by_place}
+use Rattle.schedule_model.specs.Flat.{Flat, flat_step}
 use Rattle.rank_state.specs.declared.spans.Span.{Span}
 use Rattle.rank_state.specs.declared.scalars.Scalar.{Scalar}
 use Rattle.rank_state.specs.Spans.{total, gathered}

@@ -12,7 +12,7 @@ use Rattle.local_mesh.specs.declared.types.RankMesh.{RankMesh}
 use Rattle.local_mesh.specs.Lists.{sets_of, originals_of}
 use Rattle.schedule_steps.specs.declared.step.Step.TheVariants.{Begin}
 use Rattle.schedule_steps.specs.Steps.{IsStep}
-use Rattle.flat_machine.specs.Layout.{by_place}
+use Rattle.schedule_model.specs.Layout.{by_place}
 use Rattle.bound_program.specs.declared.sites.Arg.{Arg}
 use Rattle.bound_program.specs.declared.sites.Site.{Site}
 use Rattle.bound_program.specs.Values as value

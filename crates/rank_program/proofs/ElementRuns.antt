@@ -8,7 +8,7 @@ use Rattle.schedule_steps.specs.declared.step.Step.TheVariants.{Begin}
 use Rattle.schedule_steps.specs.Steps.{IsStep}
 use Rattle.schedule_model.specs.Program.{is_loop}
 use Rattle.schedule_model.specs.Sequential.{Stop}
-use Rattle.flat_machine.specs.Layout.{Core, Faults, Leaves, by_place}
+use Rattle.schedule_model.specs.Layout.{Core, Faults, Leaves, by_place}
 use Rattle.run_model.specs.Kernels.{kernel_at}
 use Rattle.run_model.specs.Laws as the
 use Rattle.bound_plan.specs.Windows.{frame_windows}

@@ -1,7 +1,7 @@
 -- The scalars of an element's windows are cells of the variables, and their amounts have slots.
 use Rattle.std.proofs.Common.{◌<◌, ℕ, List, [], ◌∷◌}
 use Rattle.schedule_model.specs.Setup.{Setup}
-use Rattle.flat_machine.specs.Layout.{Layout}
+use Rattle.schedule_model.specs.Layout.{Layout}
 use Rattle.rank_state.specs.declared.scalars.Scalar.{Scalar}
 use Rattle.rank_state.specs.declared.scalars.Scalar.TheVariants.{Value, Amount}
 use Rattle.rank_state.specs.Windows.{index, Reads, InSlots, Merges}

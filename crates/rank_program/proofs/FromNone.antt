@@ -5,7 +5,7 @@ use Rattle.schedule_model.specs.Sequential.{Stop}
 use Rattle.schedule_model.specs.Machine.{is_less}
 use Rattle.schedule_model.specs.Kept.{kept}
 use Rattle.schedule_model.specs.Setup.{Setup}
-use Rattle.flat_machine.specs.Layout.{Layout}
+use Rattle.schedule_model.specs.Layout.{Layout}
 use Rattle.rank_state.specs.Core.{fault_of}
 use Rattle.rank_state.specs.Machine.{noted}
 use Rattle.rank_state.specs.Shows.{Tables}

@@ -12,7 +12,7 @@ use Rattle.local_mesh.specs.declared.types.RankMesh.{RankMesh}
 use Rattle.schedule_steps.specs.declared.step.Step.TheVariants.{Begin}
 use Rattle.schedule_steps.specs.Steps.{IsStep}
 use Rattle.schedule_model.specs.Sequential.{Stop}
-use Rattle.flat_machine.specs.Layout.{by_place}
+use Rattle.schedule_model.specs.Layout.{by_place}
 use Rattle.bound_program.specs.Values.{BoundValue, SiteValue}
 use Rattle.run_model.specs.Laws as the
 use Rattle.bound_plan.specs.Laws.{FramesAreReached}

@@ -2,7 +2,7 @@
 use Rattle.std.specs.Prelude.{◌≡◌, ◌<◌, ◌≤◌, ◌+◌, ℕ}
 use Rattle.mesh_decl.specs.Mesh.{dat_dim}
 use Rattle.schedule_model.specs.Setup.{Setup}
-use Rattle.flat_machine.specs.Layout.{Layout}
+use Rattle.schedule_model.specs.Layout.{Layout}
 use Rattle.bound_program.specs.Values.{BoundValue}
 use Rattle.rank_state.specs.declared.owned.Owned.{Owned}
 

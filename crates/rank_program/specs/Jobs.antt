@@ -8,7 +8,7 @@ use Rattle.kernel_model.specs.Meaning as kernel
 use Rattle.kernel_code.specs.Coded.{IsCode}
 use Rattle.kernel_model.specs.declared.types.views.frame.Place.{Place}
 use Rattle.kernel_model.specs.Framed.{target_of, PlacesIn}
-use Rattle.flat_machine.specs.Layout.{Core, Faults, Leaves}
+use Rattle.schedule_model.specs.Layout.{Core, Faults, Leaves}
 use Rattle.run_model.specs.OnWindows.{core_of}
 use Rattle.par_exec.specs.Windows as par
 use Rattle.rank_program.specs.declared.tasks.Task.{Task}

@@ -10,7 +10,7 @@ use Rattle.schedule_steps.specs.declared.step.Step.TheVariants.{Begin}
 use Rattle.schedule_steps.specs.Steps.{IsStep}
 use Rattle.schedule_model.specs.Program.{is_loop}
 use Rattle.schedule_model.specs.Setup.{Setup}
-use Rattle.flat_machine.specs.Layout.{Layout, IsLayout, Core, by_place}
+use Rattle.schedule_model.specs.Layout.{Layout, IsLayout, Core, by_place}
 use Rattle.bound_program.specs.Values.{BoundValue, bound_of}
 use Rattle.run_model.specs.Kernels.{constants}
 use Rattle.run_model.specs.Hosts.{variable_cells}

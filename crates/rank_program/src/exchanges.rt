@@ -3,7 +3,7 @@
 ghost use Rattle.std.specs.Prelude.{◌≡◌, ◌<◌, ◌≤◌, [], length, vec_capacity};
 ghost use Rattle.schedule_steps.specs.declared.step.Step.TheVariants.{Send, Recv};
 ghost use Rattle.schedule_steps.specs.Steps.{IsStep};
-ghost use Rattle.flat_machine.specs.Layout.{by_place};
+ghost use Rattle.schedule_model.specs.Layout.{by_place};
 ghost use Rattle.rank_state.specs.Spans.{total};
 ghost use Rattle.rank_state.specs.Shows.{AreExports, AreImports};
 ghost use Rattle.loop_plan.specs.Values.{plan_of, item_plan};

@@ -3,7 +3,7 @@
 ghost use Rattle.std.specs.Prelude.{◌≡◌, ◌<◌, ◌≤◌, ◌+◌, ◌-◌, ◌^◌, ◌==◌, [], All, length, map, take, vec_capacity};
 ghost use Rattle.schedule_steps.specs.declared.step.Step.TheVariants.{Begin};
 ghost use Rattle.schedule_steps.specs.Steps.{IsStep};
-ghost use Rattle.flat_machine.specs.Layout.{by_place};
+ghost use Rattle.schedule_model.specs.Layout.{by_place};
 ghost use Rattle.rank_state.specs.Windows.{Merges};
 ghost use Rattle.rank_state.specs.Machine.{noted};
 ghost use Rattle.rank_state.specs.Stops.{stop_in};

@@ -1,7 +1,7 @@
 // Laws of elements that run one after another on a rank, each as the contract of a function that does nothing.
 
 ghost use Rattle.schedule_model.specs.Setup.{Setup};
-ghost use Rattle.flat_machine.specs.Layout.{Layout};
+ghost use Rattle.schedule_model.specs.Layout.{Layout};
 ghost use Rattle.rank_state.specs.Shows.{Tables};
 ghost use Rattle.rank_program.specs.FromNone.{FaultsComeTogether};
 

@@ -3,7 +3,7 @@
 ghost use Rattle.std.specs.Prelude.{◌≡◌, ℕ, ◌<◌, ◌≤◌, false, length, get_or};
 ghost use Rattle.schedule_steps.specs.declared.step.Step.TheVariants.{Begin};
 ghost use Rattle.schedule_steps.specs.Steps.{IsStep};
-ghost use Rattle.flat_machine.specs.Layout.{by_place};
+ghost use Rattle.schedule_model.specs.Layout.{by_place};
 ghost use Rattle.rank_program.specs.LocalLoops.{IsLocalLoop, IsLoopOf};
 ghost use Rattle.rank_program.specs.Sound.{Sound, setup_in, layout_in, tables_in};
 

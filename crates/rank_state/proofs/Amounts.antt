@@ -7,8 +7,8 @@ use Rattle.schedule_model.specs.Cells.{Cell, Variable, DatCell, VarCell, same_ce
 use Rattle.schedule_model.specs.Tests.{same_cell_refl, same_cell_true}
 use Rattle.schedule_model.specs.Setup.{Setup}
 use Rattle.schedule_model.specs.Machine.{merge_at}
-use Rattle.flat_machine.specs.Layout.{Layout, lookup, among}
-use Rattle.flat_machine.specs.Scatter.{Once}
+use Rattle.schedule_model.specs.Layout.{Layout, lookup, among}
+use Rattle.schedule_model.specs.Scatter.{Once}
 use Rattle.rank_state.specs.declared.spans.Span.{Span}
 use Rattle.rank_state.specs.declared.scalars.Scalar.{Scalar}
 use Rattle.rank_state.specs.declared.scalars.Scalar.TheVariants.{Value, Amount}

@@ -6,9 +6,9 @@ use Rattle.schedule_steps.specs.declared.step.Step.TheVariants.{Begin, End}
 use Rattle.schedule_steps.specs.Steps.{IsStep}
 use Rattle.schedule_model.specs.Setup.{Setup}
 use Rattle.schedule_model.specs.Tests.{free_kind}
-use Rattle.flat_machine.specs.Layout.{Layout, by_place}
-use Rattle.flat_machine.specs.Flat.{Flat}
-use Rattle.flat_machine.specs.Flat as flat
+use Rattle.schedule_model.specs.Layout.{Layout, by_place}
+use Rattle.schedule_model.specs.Flat.{Flat}
+use Rattle.schedule_model.specs.Flat as flat
 use Rattle.rank_state.specs.declared.spans.Span.{Span}
 use Rattle.rank_state.specs.declared.scalars.Scalar.{Scalar}
 use Rattle.rank_state.specs.declared.scalars.Scalar.TheVariants.{Value, Amount}

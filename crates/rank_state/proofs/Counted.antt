@@ -8,7 +8,7 @@ use Rattle.schedule_model.specs.Cells.{VarCell}
 use Rattle.schedule_model.specs.Program.{Free, elements}
 use Rattle.schedule_model.specs.Setup.{Setup}
 use Rattle.schedule_model.specs.Tests.{free_kind}
-use Rattle.flat_machine.specs.Layout.{Layout, IsLayout, by_place}
+use Rattle.schedule_model.specs.Layout.{Layout, IsLayout, by_place}
 use Rattle.rank_state.specs.declared.spans.Span.{Span}
 use Rattle.rank_state.specs.declared.scalars.Scalar.{Scalar}
 use Rattle.rank_state.specs.declared.owned.Owned.{Owned}

@@ -7,9 +7,9 @@ use Rattle.std.proofs.Math.Seq.{drop-cons}
 use Rattle.schedule_model.specs.Cells.{Cell, Data, Variable, DatCell, VarCell, same_cell}
 use Rattle.schedule_model.specs.Tests.{same_cell_refl, same_cell_true}
 use Rattle.schedule_model.specs.Setup.{Setup, owner_of}
-use Rattle.flat_machine.specs.Layout.{Layout, Leaves, lookup, among}
-use Rattle.flat_machine.specs.Scatter.{Once}
-use Rattle.flat_machine.specs.Flat.{Flat, updated, updated_rows, owned, element_flat}
+use Rattle.schedule_model.specs.Layout.{Layout, Leaves, lookup, among}
+use Rattle.schedule_model.specs.Scatter.{Once}
+use Rattle.schedule_model.specs.Flat.{Flat, updated, updated_rows, owned, element_flat}
 use Rattle.rank_state.specs.declared.owned.Owned.{Owned}
 use Rattle.rank_state.specs.Windows.{cells_from}
 use Rattle.rank_state.specs.Spans.{cells_at}
@@ -18,7 +18,7 @@ use Rattle.rank_state.specs.Shows.{Tables, Indexed, Shows}
 use Rattle.rank_state.specs.Ordered.{total_all, gathered_all, scattered_all, index_cells, put_values, owned_cells, OwnedBy, InVariables, AreOwned, put_back, all_windows}
 use Rattle.rank_state.specs.Indices.{values_at}
 use Rattle.rank_state.proofs.Scatters.{LookUp}
-use Rattle.flat_machine.proofs.Rows.{updated_at, updated_length, rows_length, rows_at}
+use Rattle.schedule_model.proofs.flat_machine.Rows.{updated_at, updated_length, rows_length, rows_at}
 use Rattle.rank_state.proofs.Ordered.{row_looked_up, scatter_wide}
 
 -- the values of a part of a buffer

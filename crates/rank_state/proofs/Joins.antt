@@ -8,13 +8,13 @@ use Rattle.schedule_model.specs.Setup.{Setup}
 use Rattle.schedule_model.specs.Sequential.{Stop}
 use Rattle.schedule_model.specs.Machine.{least}
 use Rattle.schedule_model.specs.Kept.{kept_of, if_before, OfElements}
-use Rattle.flat_machine.specs.Layout.{Layout}
-use Rattle.flat_machine.specs.Flat.{Flat, updated, owned, host_flat, done_flat, join_flat, flat_step}
+use Rattle.schedule_model.specs.Layout.{Layout}
+use Rattle.schedule_model.specs.Flat.{Flat, updated, owned, host_flat, done_flat, join_flat, flat_step}
 use Rattle.rank_state.specs.declared.scalars.Scalar.{Scalar}
 use Rattle.rank_state.specs.Machine.{State}
 use Rattle.rank_state.specs.Shows.{Tables, Shows}
 use Rattle.rank_state.specs.Joins.{reduced, AreReduced}
-use Rattle.flat_machine.proofs.Rows.{updated_at, updated_length}
+use Rattle.schedule_model.proofs.flat_machine.Rows.{updated_at, updated_length}
 use Rattle.rank_state.proofs.Reduces.{reduce_shows}
 
 -- the law that the least fault is enough

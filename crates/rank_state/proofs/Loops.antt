@@ -6,8 +6,8 @@ use Rattle.std.proofs.lemmas.List.{length-map}
 use Rattle.schedule_model.specs.Program.{Ordered, is_loop, elements}
 use Rattle.schedule_model.specs.Setup.{Setup}
 use Rattle.schedule_model.specs.Sequential.{Stop}
-use Rattle.flat_machine.specs.Layout.{Layout, Faults, Leaves, IsLayout}
-use Rattle.flat_machine.specs.Flat.{Flat, variable, owned, element_flat, loop_flat}
+use Rattle.schedule_model.specs.Layout.{Layout, Faults, Leaves, IsLayout}
+use Rattle.schedule_model.specs.Flat.{Flat, variable, owned, element_flat, loop_flat}
 use Rattle.rank_state.specs.declared.owned.Owned.{Owned}
 use Rattle.rank_state.specs.Machine.{State}
 use Rattle.rank_state.specs.Shows.{Tables, Indexed, Shows}

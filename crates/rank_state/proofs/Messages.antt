@@ -5,10 +5,10 @@ use Rattle.std.proofs.lemmas.List.{length-map}
 use Rattle.schedule_steps.specs.declared.step.Step.TheVariants.{Send, Recv}
 use Rattle.schedule_model.specs.Setup.{Setup}
 use Rattle.schedule_model.specs.Machine.{put2, arrives}
-use Rattle.flat_machine.specs.Layout.{Layout}
-use Rattle.flat_machine.specs.Flat as flat
-use Rattle.flat_machine.specs.Flat.{Flat, read, packed, take_post, flat_step}
-use Rattle.flat_machine.specs.Scatter.{looked_up}
+use Rattle.schedule_model.specs.Layout.{Layout}
+use Rattle.schedule_model.specs.Flat as flat
+use Rattle.schedule_model.specs.Flat.{Flat, read, packed, take_post, flat_step}
+use Rattle.schedule_model.specs.Scatter.{looked_up}
 use Rattle.rank_state.specs.declared.spans.Span.{Span}
 use Rattle.rank_state.specs.Spans.{Within, total, gathered, scattered}
 use Rattle.rank_state.specs.Windows.{span_cells}

@@ -5,9 +5,9 @@ use Rattle.schedule_steps.specs.declared.step.Step.TheVariants.{Begin}
 use Rattle.schedule_steps.specs.Steps.{same3}
 use Rattle.schedule_steps.specs.Members.{same3_refl, same3_true}
 use Rattle.schedule_model.specs.Setup.{Setup}
-use Rattle.flat_machine.specs.Layout.{Layout, Core, Faults, Leaves}
-use Rattle.flat_machine.specs.Flat.{Shut_pane, Broken_pane, Windows, Flat, variable, window, open_pane, flat_step}
-use Rattle.flat_machine.specs.Followed.{is_shut}
+use Rattle.schedule_model.specs.Layout.{Layout, Core, Faults, Leaves}
+use Rattle.schedule_model.specs.Flat.{Shut_pane, Broken_pane, Windows, Flat, variable, window, open_pane, flat_step}
+use Rattle.schedule_model.specs.Followed.{is_shut}
 use Rattle.rank_state.specs.Frames.{Shut, pane_at}
 use Rattle.rank_state.specs.Machine.{State}
 use Rattle.rank_state.specs.Shows.{Tables, Shows, pane_in}

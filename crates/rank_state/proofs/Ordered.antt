@@ -6,8 +6,8 @@ use Rattle.std.proofs.lemmas.List.{drop-drop}
 use Rattle.schedule_model.specs.Cells.{Cell, Data, DatCell, VarCell, same_cell}
 use Rattle.schedule_model.specs.Tests.{same_cell_true}
 use Rattle.schedule_model.specs.Setup.{Setup, owner_of}
-use Rattle.flat_machine.specs.Layout.{Layout, among}
-use Rattle.flat_machine.specs.Scatter.{Once, scatter, looked_up, Placed}
+use Rattle.schedule_model.specs.Layout.{Layout, among}
+use Rattle.schedule_model.specs.Scatter.{Once, scatter, looked_up, Placed}
 use Rattle.rank_state.specs.declared.owned.Owned.{Owned}
 use Rattle.rank_state.specs.Spans.{with_window, cells_at}
 use Rattle.rank_state.specs.Windows.{cells_from}

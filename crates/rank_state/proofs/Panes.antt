@@ -5,7 +5,7 @@ use Rattle.std.proofs.lemmas.Bool.{cases_Bool, cases_eq, false≢true, cond-true
 use Rattle.schedule_steps.specs.Steps.{same3}
 use Rattle.schedule_steps.specs.Members.{same3_true, same3_refl}
 use Rattle.schedule_model.specs.Machine.{put3}
-use Rattle.flat_machine.specs.Flat as flat
+use Rattle.schedule_model.specs.Flat as flat
 use Rattle.rank_state.specs.Frames.{Pane, Shut, pane_at, with_pane}
 use Rattle.rank_state.specs.Shows.{pane_in}
 

@@ -4,8 +4,8 @@ use Rattle.std.specs.Prelude.{◌&&◌, ◌==◌}
 use Rattle.std.proofs.lemmas.Bool.{cases_Bool, false≢true, false_from_ne_true, and_parts, and_from, cond-true, cond-false, eqb-true, eq-eqb}
 use Rattle.schedule_model.specs.Machine.{put2}
 use Rattle.schedule_model.specs.Setup.{Setup}
-use Rattle.flat_machine.specs.Layout.{Layout}
-use Rattle.flat_machine.specs.Flat as flat
+use Rattle.schedule_model.specs.Layout.{Layout}
+use Rattle.schedule_model.specs.Flat as flat
 use Rattle.rank_state.specs.Mail.{Post, is_of, first_post, without_first}
 use Rattle.rank_state.specs.Shows.{Tables, AreWhole, post_of, queue}
 

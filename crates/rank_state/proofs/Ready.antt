@@ -5,16 +5,16 @@ use Rattle.std.proofs.lemmas.Bool.{false≢true, eq-eqb, cond-true}
 use Rattle.schedule_steps.specs.declared.step.Step.{Step}
 use Rattle.schedule_steps.specs.UnderWay.{is_open}
 use Rattle.schedule_model.specs.Setup.{Setup}
-use Rattle.flat_machine.specs.Layout.{Layout}
-use Rattle.flat_machine.specs.Flat.{Flat}
-use Rattle.flat_machine.specs.Flat as flat
+use Rattle.schedule_model.specs.Layout.{Layout}
+use Rattle.schedule_model.specs.Flat.{Flat}
+use Rattle.schedule_model.specs.Flat as flat
 use Rattle.rank_state.specs.declared.spans.Span.{Span}
 use Rattle.rank_state.specs.Spans.{total}
 use Rattle.rank_state.specs.Frames.{Pane, Shut, Broken, Holds, pane_at}
 use Rattle.rank_state.specs.Mail.{Post, first_post, Carries, Carries_as}
 use Rattle.rank_state.specs.Machine.{State}
 use Rattle.rank_state.specs.Shows.{Tables, AreImports, Shows, pane_in}
-use Rattle.flat_machine.specs.Followed.{is_shut, queue_of}
+use Rattle.schedule_model.specs.Followed.{is_shut, queue_of}
 use Rattle.rank_state.specs.Groups.{AllShut}
 use Rattle.rank_state.proofs.Groups.{Closed}
 use Rattle.rank_state.proofs.Posts.{whole_first, first_of}

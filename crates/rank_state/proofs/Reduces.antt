@@ -8,9 +8,9 @@ use Rattle.schedule_model.specs.Cells.{Variable, VarCell, same_cell}
 use Rattle.schedule_model.specs.Tests.{same_cell_refl}
 use Rattle.schedule_model.specs.Setup.{Setup}
 use Rattle.schedule_model.specs.Machine.{unit_at}
-use Rattle.flat_machine.specs.Layout.{Layout, among}
-use Rattle.flat_machine.specs.Scatter.{Once}
-use Rattle.flat_machine.specs.Flat.{Flat, updated, merge_ranks, reduce_flat}
+use Rattle.schedule_model.specs.Layout.{Layout, among}
+use Rattle.schedule_model.specs.Scatter.{Once}
+use Rattle.schedule_model.specs.Flat.{Flat, updated, merge_ranks, reduce_flat}
 use Rattle.rank_state.specs.declared.scalars.Scalar.{Scalar}
 use Rattle.rank_state.specs.declared.scalars.Scalar.TheVariants.{Value, Amount}
 use Rattle.rank_state.specs.Windows.{operation, index, scalar_cells, is_slot, has_slot}
@@ -18,7 +18,7 @@ use Rattle.rank_state.specs.Machine.{State}
 use Rattle.rank_state.specs.Shows.{Tables, IsScalar, AreScalars, Shows}
 use Rattle.rank_state.specs.Joins.{merge_rows, reduce_one, reduce_all, unite_one, unite, reduced, has_index, AreReduced}
 use Rattle.rank_state.proofs.Amounts.{slot_site}
-use Rattle.flat_machine.proofs.Rows.{updated_at, updated_length}
+use Rattle.schedule_model.proofs.flat_machine.Rows.{updated_at, updated_length}
 
 pub reduce_length : (rows : List (List ℤ)) (n : ℕ) (xs : List Scalar) (vs : List ℤ) → length (reduce_all rows n xs vs) ≡ length vs
 reduce_length rows n [] vs = refl

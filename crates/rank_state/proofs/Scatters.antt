@@ -5,8 +5,8 @@ use Rattle.std.proofs.lemmas.List.{drop-set-lt, take-append-drop, drop-drop}
 use Rattle.std.proofs.Math.Seq.{take-suc-set}
 use Rattle.schedule_model.specs.Cells.{Cell, Data, DatCell, VarCell, same_cell}
 use Rattle.schedule_model.specs.Tests.{same_cell_true}
-use Rattle.flat_machine.specs.Layout.{among}
-use Rattle.flat_machine.specs.Scatter.{Once, scatter, looked_up, Placed}
+use Rattle.schedule_model.specs.Layout.{among}
+use Rattle.schedule_model.specs.Scatter.{Once, scatter, looked_up, Placed}
 use Rattle.rank_state.specs.declared.spans.Span.{Span}
 use Rattle.rank_state.specs.declared.scalars.Scalar.{Scalar}
 use Rattle.rank_state.specs.Spans.{Within, total, with_window, cells_at, scattered}

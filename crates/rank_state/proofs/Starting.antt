@@ -4,8 +4,8 @@ use Rattle.std.proofs.lemmas.List.{get_or-map, length-map, length-replicate}
 use Rattle.op_num.specs.Reduction.{unit_of}
 use Rattle.schedule_model.specs.Setup.{Setup}
 use Rattle.schedule_model.specs.Machine.{unit_at}
-use Rattle.flat_machine.specs.Layout.{Layout}
-use Rattle.flat_machine.specs.Flat.{Flat, StartsFlat, Shut_pane}
+use Rattle.schedule_model.specs.Layout.{Layout}
+use Rattle.schedule_model.specs.Flat.{Flat, StartsFlat, Shut_pane}
 use Rattle.rank_state.specs.declared.scalars.Operation.{Operation}
 use Rattle.rank_state.specs.declared.scalars.Operation.TheVariants.{Sum}
 use Rattle.rank_state.specs.Windows.{operation}

@@ -12,10 +12,10 @@ use Rattle.schedule_model.specs.Setup.{Setup}
 use Rattle.schedule_model.specs.Tests.{free_kind}
 use Rattle.schedule_model.specs.Machine.{put2, merge_at, window_of}
 use Rattle.schedule_model.specs.Kept.{kept}
-use Rattle.flat_machine.specs.Layout.{Layout, Core, Faults, Leaves, IsLayout, lookup, by_place}
-use Rattle.flat_machine.specs.Flat as flat
-use Rattle.flat_machine.specs.Flat.{Flat, read, variable, window, open_pane, close_pane, flat_step}
-use Rattle.flat_machine.specs.Scatter.{looked_up}
+use Rattle.schedule_model.specs.Layout.{Layout, Core, Faults, Leaves, IsLayout, lookup, by_place}
+use Rattle.schedule_model.specs.Flat as flat
+use Rattle.schedule_model.specs.Flat.{Flat, read, variable, window, open_pane, close_pane, flat_step}
+use Rattle.schedule_model.specs.Scatter.{looked_up}
 use Rattle.rank_state.specs.declared.spans.Span.{Span}
 use Rattle.rank_state.specs.declared.scalars.Scalar.{Scalar}
 use Rattle.rank_state.specs.declared.scalars.Scalar.TheVariants.{Value, Amount}
@@ -249,7 +249,7 @@ module _ {F : Type 0} (p : Setup F) (l : Layout F) (t : Tables) (q : Indexed p l
       by_own : (b : Bool) → get_or (cond b (amounts scalars (drop (total spans) ws) (row st.partials r)) (row st.partials r)) i (pos 0) ≡ merging b k r (l.original k r x) ws (t.reduced_at i)
       by_own true =
           amounts_here p l t k i scalars (drop (total spans) ws) (row st.partials r) (let w : length (row st.partials r) ≡ t.slots = h.sized.slots r lr in omega arith) (omega (arith, all, length-drop (total spans) ws)) e.are_scalars
-          (once_behind (span_cells (l.cell_at r) spans) (scalar_cells l.variable_at scalars) (subst Rattle.flat_machine.specs.Scatter.Once e.cells e.once)) (e.covers i lt site)
+          (once_behind (span_cells (l.cell_at r) spans) (scalar_cells l.variable_at scalars) (subst Rattle.schedule_model.specs.Scatter.Once e.cells e.once)) (e.covers i lt site)
           ∙ (ap (λ z. merge_at (p.reduces (p.program.site k) (t.reduced_at i)) z (lookup (scalar_cells l.variable_at scalars) (drop (total spans) ws) (Variable (t.reduced_at i)) (pos 0))) before
           ∙ ap (merge_at (p.reduces (p.program.site k) (t.reduced_at i)) (f.partials r (p.program.site k) (t.reduced_at i)))
           (sym (lookup_scalar (l.cell_at r) spans (scalar_cells l.variable_at scalars) ws (t.reduced_at i) (pos 0) (omega (arith, all))) ∙ ap (λ z. lookup z ws (Variable (t.reduced_at i)) (pos 0)) (sym e.cells)))

@@ -1,6 +1,6 @@
 -- A kernel's run on the windows of an element.
 use Rattle.std.specs.Prelude.{ℤ, List, Result, Ok, Err, Option, Some, None}
-use Rattle.flat_machine.specs.Layout.{Core, Faults, Leaves}
+use Rattle.schedule_model.specs.Layout.{Core, Faults, Leaves}
 
 -- a kernel's run that left these windows, unless its body had a fault
 abbrev pub ran_of : {A F : Type 0} → List ℤ → Result A F → Core F

@@ -2,7 +2,7 @@
 use Rattle.std.specs.Prelude.{◌≡◌, ◌≤◌, ◌+◌, ℕ, ℤ, List, [], length, get_or, set, map, replicate}
 use Rattle.rank_state.specs.Spans.{scattered}
 use Rattle.rank_state.specs.declared.spans.Span.{Span}
-use Rattle.flat_machine.specs.Layout.{Core, Faults, Leaves}
+use Rattle.schedule_model.specs.Layout.{Core, Faults, Leaves}
 
 -- what stands open of an element at its rank and place: nothing, a fault, or a frame
 pub data Pane : Type 0 where

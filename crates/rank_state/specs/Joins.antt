@@ -2,8 +2,8 @@
 use Rattle.std.specs.Prelude.{◌≡◌, ◌<◌, ℕ, zero, suc, ℤ, pos, Bool, true, false, ◌||◌, ◌==◌, List, [], ◌∷◌, map, length, get_or, set, Some}
 use Rattle.op_num.specs.Reduction.{Reduction, unit_of, merged}
 use Rattle.schedule_model.specs.Setup.{Setup}
-use Rattle.flat_machine.specs.Layout.{Layout}
-use Rattle.flat_machine.specs.Scatter.{Once}
+use Rattle.schedule_model.specs.Layout.{Layout}
+use Rattle.schedule_model.specs.Scatter.{Once}
 use Rattle.rank_state.specs.declared.scalars.Scalar.{Scalar}
 use Rattle.rank_state.specs.declared.scalars.Scalar.TheVariants.{Value, Amount}
 use Rattle.rank_state.specs.Windows.{operation, index, scalar_cells, has_slot}

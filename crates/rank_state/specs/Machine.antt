@@ -2,7 +2,7 @@
 use Rattle.std.specs.Prelude.{◌-◌, cond, ℕ, ℤ, Bool, List, [], ◌++◌, drop, get_or, set, Option, Some, None}
 use Rattle.schedule_model.specs.Sequential.{Stop}
 use Rattle.schedule_model.specs.Kept.{kept}
-use Rattle.flat_machine.specs.Layout.{Core}
+use Rattle.schedule_model.specs.Layout.{Core}
 use Rattle.rank_state.specs.declared.spans.Span.{Span}
 use Rattle.rank_state.specs.declared.scalars.Scalar.{Scalar}
 use Rattle.rank_state.specs.Spans.{total, gathered}

@@ -2,8 +2,8 @@
 use Rattle.std.specs.Prelude.{◌≡◌, ◌<◌, ◌≤◌, ◌+◌, ℕ, ℤ, List, [], ◌∷◌, ◌++◌, length, get_or, set, drop}
 use Rattle.schedule_model.specs.Cells.{Cell, Variable, DatCell, VarCell}
 use Rattle.schedule_model.specs.Setup.{Setup, owner_of}
-use Rattle.flat_machine.specs.Layout.{Layout, Core, Faults, Leaves}
-use Rattle.flat_machine.specs.Scatter.{Once}
+use Rattle.schedule_model.specs.Layout.{Layout, Core, Faults, Leaves}
+use Rattle.schedule_model.specs.Scatter.{Once}
 use Rattle.rank_state.specs.declared.owned.Owned.{Owned}
 use Rattle.rank_state.specs.Spans.{with_window, cells_at}
 use Rattle.rank_state.specs.Windows.{cells_from}

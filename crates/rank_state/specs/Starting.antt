@@ -3,7 +3,7 @@ use Rattle.std.specs.Prelude.{◌≡◌, ◌<◌, ℕ, ℤ, pos, List, [], get_o
 use Rattle.schedule_model.specs.Cells.{Data, Variable}
 use Rattle.schedule_model.specs.Setup.{Setup}
 use Rattle.schedule_model.specs.Machine.{unit_at}
-use Rattle.flat_machine.specs.Layout.{Layout}
+use Rattle.schedule_model.specs.Layout.{Layout}
 use Rattle.op_num.specs.Reduction.{unit_of}
 use Rattle.rank_state.specs.declared.scalars.Operation.{Operation}
 use Rattle.rank_state.specs.declared.scalars.Operation.TheVariants.{Sum}

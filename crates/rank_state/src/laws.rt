@@ -9,8 +9,8 @@ ghost use Rattle.schedule_model.specs.Program.{Free, Reduce, Ordered, Host, Halt
 ghost use Rattle.schedule_model.specs.Setup.{Setup, owner_of};
 ghost use Rattle.schedule_model.specs.Sequential.{Stop};
 ghost use Rattle.schedule_model.specs.Kept.{if_before};
-ghost use Rattle.flat_machine.specs.Layout.{Layout, Faults, Leaves, IsLayout, by_place};
-ghost use Rattle.flat_machine.specs.Flat.{Flat, Shut_pane, variable, flat_step, flat_from, StartsFlat, owned, element_flat, loop_flat};
+ghost use Rattle.schedule_model.specs.Layout.{Layout, Faults, Leaves, IsLayout, by_place};
+ghost use Rattle.schedule_model.specs.Flat.{Flat, Shut_pane, variable, flat_step, flat_from, StartsFlat, owned, element_flat, loop_flat};
 ghost use Rattle.rank_state.specs.declared.spans.Span.{Span};
 ghost use Rattle.rank_state.specs.declared.scalars.Operation.{Operation};
 ghost use Rattle.rank_state.specs.declared.scalars.Scalar.{Scalar};
@@ -41,7 +41,7 @@ pub fn recv_shows<F>()
         → (spans : List Span) → AreImports p l t k s r spans → (st : State F) (f : Flat F) → Shows p l t st f
         → Carries k s r (total spans) st.mail → Shows p l t (taken r s spans st) (flat_step p l (Recv k r s) f) }
 {
-    flat_machine::scatter_is_look_up();
+    schedule_model::flat_machine::scatter_is_look_up();
 }
 
 /// A begin at a place where nothing is open.
@@ -61,7 +61,7 @@ pub fn end_shows<F>()
         → pane_in k (pane_at st.frames.panes r x) ≢ Shut_pane
         → Shows p l t (ended (p.owner (p.program.set k) (l.original k r x) == r) r x spans scalars st) (flat_step p l (End k r x) f) }
 {
-    flat_machine::scatter_is_look_up();
+    schedule_model::flat_machine::scatter_is_look_up();
 }
 
 /// What a step of an accepted list needs of the lists: the oldest message of its pair is its own,
@@ -84,7 +84,7 @@ pub fn steps_are_ready<F>()
         → (st : State F) → Shows p l t st (flat_from p l front start) → pane_in k (pane_at st.frames.panes r x) ≢ Shut_pane }
 {
     schedule_steps::accepted_steps_fit();
-    flat_machine::flat_goes_by_steps::<F>();
+    schedule_model::flat_machine::flat_goes_by_steps::<F>();
 }
 
 /// A join: by the kept fault, where it is of an earlier item; else a Reduce merges the partials, and a
@@ -138,7 +138,7 @@ pub fn element_shows<F>()
         → length ws ≡ length (l.cells k e)
         → Shows p l t (put_back spans indices ws st) (element_flat p l k e (Leaves ws) f) }
 {
-    flat_machine::scatter_is_look_up();
+    schedule_model::flat_machine::scatter_is_look_up();
 }
 
 /// The lists at the start, as the program's first values make them.
@@ -177,7 +177,7 @@ pub fn loop_shows<F>()
     ensures join { (p : Setup F) (l : Layout F) (t : Tables) (st : State F) (f : Flat F) → Shows p l t st f → (k : ℕ)
         → if_before k st.fault ≡ None → p.program.kind k ≡ Ordered → flat_step p l (Join k) f ≡ loop_flat p l k (elements p.program k) f }
 {
-    flat_machine::scatter_is_look_up();
+    schedule_model::flat_machine::scatter_is_look_up();
     schedule_model::one_fault_is_enough::<F>();
 }
 
@@ -214,5 +214,5 @@ pub fn in_place_shows<F>()
         (l.core k (l.original k r x) (values_at st.variables t.constants) (windows_of st r spans scalars)) st)
         (flat_step p l (End k r x) (flat_step p l (Begin k r x) f)) }
 {
-    flat_machine::scatter_is_look_up();
+    schedule_model::flat_machine::scatter_is_look_up();
 }

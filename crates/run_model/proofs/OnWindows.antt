@@ -10,7 +10,7 @@ use Rattle.kernel_model.specs.Independence.{Fits, store_after}
 use Rattle.kernel_model.specs.Independence as law
 use Rattle.schedule_model.specs.Cells.{Cell, Store, InRange}
 use Rattle.schedule_model.specs.Arguments.{Argument, Entries, reaches}
-use Rattle.flat_machine.specs.Layout.{of_core}
+use Rattle.schedule_model.specs.Layout.{of_core}
 use Rattle.run_model.specs.ElementRun.{Held, IsUnreached, EndsAs}
 use Rattle.run_model.specs.OnWindows.{no_cell, OnWindows, core_of}
 use Rattle.run_model.proofs.element_runs.OnWindows.{found, missed}

@@ -5,7 +5,7 @@ use Rattle.kernel_model.specs.declared.types.kernels.RKernel.{RKernel}
 use Rattle.kernel_model.specs.Meaning.{kernel_meaning}
 use Rattle.schedule_model.specs.Cells.{Variable, VarCell, Store}
 use Rattle.schedule_model.specs.Effects.{Ran, Finished}
-use Rattle.flat_machine.specs.Layout.{of_core}
+use Rattle.schedule_model.specs.Layout.{of_core}
 use Rattle.run_model.specs.OnWindows.{core_of}
 use Rattle.bound_program.specs.Values.{BoundValue, SiteValue, VarValue}
 use Rattle.bound_program.specs.Fits.{constant_cells}

@@ -8,7 +8,7 @@ use Rattle.kernel_model.specs.Obeys.{Mode, mode_at}
 use Rattle.schedule_model.specs.Cells.{Cell, Variable, Store}
 use Rattle.schedule_model.specs.Effects.{Ran}
 use Rattle.schedule_model.specs.Arguments.{Argument, Entries}
-use Rattle.flat_machine.specs.Layout.{Core, Faults, Leaves, of_core}
+use Rattle.schedule_model.specs.Layout.{Core, Faults, Leaves, of_core}
 use Rattle.run_model.specs.ElementRun.{IsElementRun}
 
 -- what stands for a cell that is not there

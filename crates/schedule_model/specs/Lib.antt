@@ -12,3 +12,11 @@ pub mod Arguments
 pub mod LoopParts
 pub mod Tells
 pub mod ByArguments
+pub mod Layout
+pub mod Flat
+pub mod Scatter
+pub mod Followed
+pub mod Ring
+pub mod Lists
+pub mod RingLayout
+pub mod RingArguments

@@ -2,6 +2,7 @@
 //! schedule drives. The theorem says that every accepted schedule runs as the sequential run does.
 #![tactic(auto)]
 
+pub mod flat_machine;
 pub mod schedule_laws;
 mod theorem;
 

@@ -8,7 +8,7 @@ use Rattle.mesh_decl.specs.Mesh.{IsInRange, dat_count, dat_set, map_from, set_si
 use Rattle.mesh_decl.specs.Owners.{AreOwners, owner_of}
 use Rattle.schedule_model.specs.Cells.{Cell, same_cell}
 use Rattle.schedule_model.specs.Tests.{same_cell_true}
-use Rattle.flat_machine.specs.Layout.{among}
+use Rattle.schedule_model.specs.Layout.{among}
 use Rattle.run_model.specs.OnWindows.{no_cell, OnWindows}
 use Rattle.kernel_runs.specs.Saving.{place_cells}
 use Rattle.bound_program.specs.declared.sites.Arg.{Arg}

@@ -15,7 +15,7 @@ use Rattle.run_model.specs.Arguments.{no_arg, arg_at, arg_width, modes_of}
 use Rattle.run_model.specs.Laws.{WindowsAreReached}
 use Rattle.run_model.proofs.Windows.{mode_is, is_argument}
 use Rattle.bound_plan.proofs.Among.{at_among, among_at}
-use Rattle.flat_machine.specs.Layout.{among}
+use Rattle.schedule_model.specs.Layout.{among}
 use Rattle.deep_halo.specs.Globals.{is_on}
 use Rattle.deep_halo.specs.Dropping.{leads_to}
 

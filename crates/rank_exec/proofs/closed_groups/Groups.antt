@@ -10,8 +10,8 @@ use Rattle.step_orders.specs.Left.{begins, ends}
 use Rattle.schedule_model.specs.Setup.{Setup}
 use Rattle.schedule_model.specs.Laws.{Coloured}
 use Rattle.schedule_model.specs.Machine.{put3}
-use Rattle.flat_machine.specs.Layout.{Core, Faults, Leaves, Layout, IsLayout, by_place}
-use Rattle.flat_machine.specs.Flat.{Pane, Shut_pane, Broken_pane, Windows, Flat, open_pane, close_pane, flat_step, flat_from}
+use Rattle.schedule_model.specs.Layout.{Core, Faults, Leaves, Layout, IsLayout, by_place}
+use Rattle.schedule_model.specs.Flat.{Pane, Shut_pane, Broken_pane, Windows, Flat, open_pane, close_pane, flat_step, flat_from}
 use Rattle.rank_exec.specs.Closed.{AreAlike, closed, GroupsAreAlone}
 use Rattle.rank_exec.proofs.closed_groups.Alike.{alike_refl, alike_trans, core_at, begin_alike, end_alike}
 use Rattle.rank_exec.proofs.closed_groups.Apart.{IsApart, AreApart, are_apart}

@@ -5,8 +5,8 @@ use Rattle.schedule_steps.specs.declared.step.Step.TheVariants.{Begin, End}
 use Rattle.step_orders.specs.Alone.{alone}
 use Rattle.step_orders.specs.Left.{begins, ends}
 use Rattle.schedule_model.specs.Setup.{Setup}
-use Rattle.flat_machine.specs.Layout.{Layout}
-use Rattle.flat_machine.specs.Flat.{Flat, flat_step, flat_from}
+use Rattle.schedule_model.specs.Layout.{Layout}
+use Rattle.schedule_model.specs.Flat.{Flat, flat_step, flat_from}
 use Rattle.rank_exec.specs.Closed.{AreAlike, closed, GroupsAreAlone, RankGroup, all_closed, all_alone, SeveralAreAlone}
 use Rattle.rank_exec.proofs.closed_groups.Alike.{alike_refl, alike_trans, begin_alike, end_alike}
 use Rattle.rank_exec.proofs.closed_groups.Groups.{go, AllGo, from_go, all_go, begins_go, ends_go, alone_go, go_append}

@@ -17,7 +17,7 @@ use Rattle.mesh_decl.specs.declared.owners.Perms.{Perms}
 use Rattle.mesh_decl.specs.Mesh.{MeshValue, set_count, set_size, dat_count, dat_set, dat_dim}
 use Rattle.local_mesh.specs.Halo.{owns, imports}
 use Rattle.local_mesh.specs.declared.types.RankMesh.{RankMesh}
-use Rattle.flat_machine.specs.Layout.{message_cells}
+use Rattle.schedule_model.specs.Layout.{message_cells}
 use Rattle.bound_program.specs.Values.{BoundValue}
 use Rattle.run_model.specs.Windows.{Element, cell_in, cells_in}
 use Rattle.loop_plan.specs.Values.{PlanValue, ItemPlanValue, item_plan, no_item_plan}

@@ -3,7 +3,7 @@ ghost use Rattle.std.specs.Prelude.{◌≡◌, ◌<◌, ◌≤◌, ◌+◌, ℕ,
 ghost use Rattle.schedule_steps.specs.declared.step.Step.TheVariants.{Send};
 ghost use Rattle.schedule_steps.specs.Steps.{IsStep};
 ghost use Rattle.schedule_steps.specs.Standard as the;
-ghost use Rattle.flat_machine.specs.Layout.{message_cells};
+ghost use Rattle.schedule_model.specs.Layout.{message_cells};
 ghost use Rattle.rank_state.specs.Spans.{total};
 ghost use Rattle.rank_exec.specs.Driving.{FitsPeak};
 ghost use Rattle.rank_program.specs.Sound.{Sound, layout_in, outline_in};

@@ -2,7 +2,7 @@
 
 ghost use Rattle.std.specs.Prelude.{◌≡◌, ◌≢◌, [], ℕ, ◌+◌, ◌<◌, ◌≤◌, ◌^◌, length, slice_index_or, take};
 ghost use Rattle.kernel_model.specs.declared.types.faults.KernelFault.{KernelFault};
-ghost use Rattle.flat_machine.specs.Layout.{Leaves};
+ghost use Rattle.schedule_model.specs.Layout.{Leaves};
 ghost use Rattle.rank_state.specs.Spans.{Within, total};
 ghost use Rattle.rank_state.specs.Windows.{Reads, Merges};
 ghost use Rattle.rank_state.specs.Frames.{Shut, pane_at, Enough, Exactly};

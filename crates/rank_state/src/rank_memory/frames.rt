@@ -6,7 +6,7 @@ ghost use Rattle.kernel_model.specs.declared.types.faults.KernelFault.{KernelFau
 ghost use Rattle.rank_state.specs.Spans.{Within, total};
 ghost use Rattle.rank_state.specs.Windows.{Merges};
 ghost use Rattle.rank_state.specs.Machine.{merged_pane};
-ghost use Rattle.flat_machine.specs.Layout.{Faults, Leaves};
+ghost use Rattle.schedule_model.specs.Layout.{Faults, Leaves};
 ghost use Rattle.rank_state.specs.Frames.{Panes, Shut, pane_at, opened, shut, closed, Enough, Exactly, fresh};
 ghost use Rattle.rank_state.specs.Slots.{entries, panes_in, Tied};
 

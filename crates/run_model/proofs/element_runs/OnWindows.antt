@@ -12,7 +12,7 @@ use Rattle.schedule_model.specs.Cells.{Cell, Store, same_cell as one_cell}
 use Rattle.schedule_model.specs.Tests.{same_cell_refl, same_cell_true}
 use Rattle.schedule_model.specs.Effects.{Ran, Faulted, Finished}
 use Rattle.schedule_model.specs.Arguments.{Argument, Entries, reaches}
-use Rattle.flat_machine.specs.Layout.{lookup, of_core}
+use Rattle.schedule_model.specs.Layout.{lookup, of_core}
 use Rattle.run_model.specs.ElementRun.{Held, IsUnreached, EndsAs, IsElementRun, AnyListsServe}
 use Rattle.run_model.specs.OnWindows.{no_cell, OnWindows, core_of, ElementRunsOnWindows}
 use Rattle.run_model.proofs.element_runs.Reached.{search_for, is_argument}

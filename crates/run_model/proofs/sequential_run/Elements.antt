@@ -13,7 +13,7 @@ use Rattle.kernel_model.specs.Independence.{Fits as InStore, same_cell, store_af
 use Rattle.mesh_decl.specs.Mesh.{map_count, dat_dim, set_size, dat_set, IsMapAt}
 use Rattle.schedule_model.specs.Cells.{Cell, Data, Variable, Store}
 use Rattle.schedule_model.specs.Effects.{Ran, Faulted, Finished}
-use Rattle.flat_machine.specs.Layout.{lookup, of_core}
+use Rattle.schedule_model.specs.Layout.{lookup, of_core}
 use Rattle.run_model.specs.OnWindows.{no_cell, OnWindows, core_of}
 use Rattle.bound_program.specs.Values.{BoundValue, SiteValue}
 use Rattle.bound_program.specs.Fits.{SiteFits, ConstantsFit}

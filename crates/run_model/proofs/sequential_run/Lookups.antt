@@ -3,7 +3,7 @@ use Rattle.std.proofs.Common.{◌≡◌, ◌<◌, ℕ, zero, suc, ℤ, pos, true
 use Rattle.std.proofs.lemmas.Bool.{cases_Bool, false≢true, cond-true, cond-false}
 use Rattle.schedule_model.specs.Cells.{Cell, same_cell}
 use Rattle.schedule_model.specs.Tests.{same_cell_refl, same_cell_true}
-use Rattle.flat_machine.specs.Layout.{lookup}
+use Rattle.schedule_model.specs.Layout.{lookup}
 use Rattle.run_model.specs.OnWindows.{no_cell}
 
 -- the cell stands somewhere in the list

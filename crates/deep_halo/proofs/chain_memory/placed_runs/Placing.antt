@@ -15,7 +15,7 @@ use Rattle.kernel_model.specs.declared.types.views.frame.Place.{Place}
 use Rattle.kernel_model.specs.Framed.{target_of, no_place, PlacesIn}
 use Rattle.schedule_model.specs.Cells.{Cell, Store, same_cell}
 use Rattle.schedule_model.specs.Tests.{same_cell_true, same_cell_refl}
-use Rattle.flat_machine.specs.Layout.{lookup, among, of_core}
+use Rattle.schedule_model.specs.Layout.{lookup, among, of_core}
 use Rattle.run_model.specs.OnWindows.{no_cell, core_of, OnWindows}
 use Rattle.rank_state.specs.declared.spans.Span.{Span}
 use Rattle.rank_state.specs.Spans.{Within, total, with_window, cells_at, gathered, scattered}

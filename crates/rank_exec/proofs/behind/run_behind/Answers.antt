@@ -1,7 +1,7 @@
 use Rattle.std.proofs.Common.{◌≡◌, ◌<◌, ◌≤◌, ◌^◌, ℕ, [], ◌++◌, ◌∙◌, List, refl, sym, ap, subst, length, append_assoc}
 use Rattle.std.specs.Prelude.{IfSome}
 use Rattle.schedule_steps.specs.declared.step.Step.{Step}
-use Rattle.flat_machine.specs.Flat.{flat_from}
+use Rattle.schedule_model.specs.Flat.{flat_from}
 use Rattle.rank_exec.specs.Closed.{GroupsAreAlone}
 use Rattle.rank_exec.specs.RunRooms.{most_begins}
 use Rattle.rank_exec.specs.Driving.{Done, ComeReady}

@@ -2,8 +2,8 @@ use Rattle.std.proofs.Common.{◌≡◌, [], ◌∷◌, ◌++◌, None, Some, ap
 use Rattle.schedule_model.specs.Sequential.{sequential}
 use Rattle.schedule_steps.specs.declared.step.Step.{Step}
 use Rattle.schedule_steps.specs.declared.step.Step.TheVariants.{Send, Recv, Begin, End, Join}
-use Rattle.flat_machine.specs.Layout.{message_cells}
-use Rattle.flat_machine.specs.Flat.{flat_step, flat_from}
+use Rattle.schedule_model.specs.Layout.{message_cells}
+use Rattle.schedule_model.specs.Flat.{flat_step, flat_from}
 use Rattle.rank_state.specs.Stops.{stop_of, stop_in}
 use Rattle.rank_exec.specs.Driving.{Ready, After, Reached, to_come, behind}
 use Rattle.rank_exec.specs.declared.begins.Begun.TheVariants.{Group}

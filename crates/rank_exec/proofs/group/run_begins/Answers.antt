@@ -3,8 +3,8 @@ use Rattle.schedule_steps.specs.declared.step.Step.{Step}
 use Rattle.schedule_steps.specs.declared.step.Step.TheVariants.{Begin, End}
 use Rattle.step_orders.specs.Alone.{alone}
 use Rattle.schedule_model.specs.Program.{is_loop}
-use Rattle.flat_machine.specs.Layout.{by_place, message_cells}
-use Rattle.flat_machine.specs.Flat.{flat_from}
+use Rattle.schedule_model.specs.Layout.{by_place, message_cells}
+use Rattle.schedule_model.specs.Flat.{flat_from}
 use Rattle.rank_state.specs.Shows.{Shows}
 use Rattle.rank_state.specs.Groups.{begins, Planned, AllShut, Distinct}
 use Rattle.rank_program.specs.declared.tasks.Task.{Task}

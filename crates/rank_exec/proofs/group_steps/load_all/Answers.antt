@@ -1,5 +1,5 @@
 use Rattle.std.proofs.Common.{◌+◌, ◌≤◌, length, get_or, arith}
-use Rattle.flat_machine.specs.Layout.{by_place}
+use Rattle.schedule_model.specs.Layout.{by_place}
 use Rattle.rank_program.specs.Sound.{setup_in, layout_in, tables_in}
 use Rattle.rank_exec.specs.Tasks.{IsLoaded}
 use Rattle.rank_exec.proofs.Tasking.{planned_at, one_more, still_enough, fewer, kept_on}

@@ -1,8 +1,8 @@
 use Rattle.std.proofs.Common.{◌≡◌, ℕ, ℤ, List, ◌<◌, ◌-◌, ◌*◌, length, ◌+◌, [], ◌∷◌, ◌++◌, take, drop, get_or, sym, ap, subst, ◌∙◌, arith, add-one, drop-cons}
 use Rattle.std.proofs.lemmas.List.{get_or_read, take_all}
 use Rattle.schedule_steps.specs.declared.step.Step.TheVariants.{Begin}
-use Rattle.flat_machine.specs.Layout.{by_place}
-use Rattle.flat_machine.specs.Flat.{flat_from}
+use Rattle.schedule_model.specs.Layout.{by_place}
+use Rattle.schedule_model.specs.Flat.{flat_from}
 use Rattle.rank_state.specs.Shows.{Shows}
 use Rattle.rank_state.specs.Groups.{begins, Distinct, Planned, AllShut}
 use Rattle.rank_exec.proofs.Driving.{from_push}

@@ -1,7 +1,7 @@
 use Rattle.std.proofs.Common.{◌≡◌, ◌+◌, take, drop}
 use Rattle.kernel_model.specs.declared.types.faults.KernelFault.{KernelFault}
-use Rattle.flat_machine.specs.Layout.{by_place}
-use Rattle.flat_machine.specs.Flat.{Flat, flat_from}
+use Rattle.schedule_model.specs.Layout.{by_place}
+use Rattle.schedule_model.specs.Flat.{Flat, flat_from}
 use Rattle.rank_state.specs.Shows.{Shows}
 use Rattle.rank_state.specs.Groups.{begins, Distinct, Planned, AllShut}
 use Rattle.rank_program.specs.Rooms.{HasRoomOf}

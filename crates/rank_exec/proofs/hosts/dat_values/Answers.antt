@@ -1,6 +1,6 @@
 use Rattle.std.proofs.Common.{◌≡◌, ℕ, map, flat_map, length, ap, ◌∙◌, arith}
 use Rattle.mesh_decl.specs.Mesh.{set_size, dat_set}
-use Rattle.flat_machine.specs.Flat.{owned}
+use Rattle.schedule_model.specs.Flat.{owned}
 use Rattle.run_model.specs.Windows.{numbers}
 use Rattle.rank_exec.proofs.Hosting.{rows_more, dat_length, row_cells}
 use Rattle.rank_program.specs.Sound.{program_in, setup_in, layout_in}

@@ -1,6 +1,6 @@
 use Rattle.std.proofs.Common.{◌≡◌, map, flat_map}
 use Rattle.kernel_model.specs.declared.types.faults.KernelFault.{KernelFault}
-use Rattle.flat_machine.specs.Flat.{Flat, owned}
+use Rattle.schedule_model.specs.Flat.{Flat, owned}
 use Rattle.run_model.specs.Windows.{numbers}
 use Rattle.rank_state.specs.Shows.{Shows}
 use Rattle.rank_exec.proofs.Hosting.{row_cells}

@@ -1,6 +1,6 @@
 use Rattle.std.proofs.Common.{◌++◌, map, ap, ◌∙◌, refl}
 use Rattle.std.proofs.lemmas.Result.{on_ok_weaker}
-use Rattle.flat_machine.specs.Flat.{owned}
+use Rattle.schedule_model.specs.Flat.{owned}
 use Rattle.rank_exec.proofs.Hosting.{row_is, owner_there}
 use Rattle.rank_program.specs.Sound.{program_in, setup_in, layout_in, tables_in}
 use Rattle.rank_exec.proofs.hosts.push_element.Goals as goal

@@ -1,7 +1,7 @@
 use Rattle.std.proofs.Common.{map, ap, sym, subst, ◌∙◌, refl}
 use Rattle.kernel_model.specs.declared.types.faults.KernelFault.{KernelFault}
 use Rattle.schedule_steps.specs.declared.step.Step.TheVariants.{Join}
-use Rattle.flat_machine.specs.Flat.{owned, flat_step}
+use Rattle.schedule_model.specs.Flat.{owned, flat_step}
 use Rattle.bound_program.specs.Values.{told_act_of, var_of}
 use Rattle.bound_program.specs.Fits.{ActFits}
 use Rattle.run_model.specs.Hosts.{act_run}

@@ -1,6 +1,6 @@
 use Rattle.std.proofs.Common.{◌≡◌, ◌<◌, ℕ, map, ap, ◌∙◌, refl}
 use Rattle.std.proofs.lemmas.Result.{on_ok_weaker}
-use Rattle.flat_machine.specs.Flat.{owned}
+use Rattle.schedule_model.specs.Flat.{owned}
 use Rattle.bound_program.specs.Values.{Print}
 use Rattle.rank_state.specs.Spans.{cells_at}
 use Rattle.rank_state.specs.Machine.{row}

@@ -1,7 +1,7 @@
 use Rattle.std.proofs.Common.{◌≡◌, Some, sym, ap, ◌∙◌}
 use Rattle.kernel_model.specs.declared.types.faults.KernelFault.{KernelFault}
 use Rattle.schedule_model.specs.Kept.{if_before}
-use Rattle.flat_machine.specs.Flat.{Flat}
+use Rattle.schedule_model.specs.Flat.{Flat}
 use Rattle.rank_state.specs.Stops.{stop_of, stop_in}
 use Rattle.rank_program.specs.Sound.{setup_in, layout_in, tables_in}
 use Rattle.rank_exec.proofs.joins.join.Goals as goal

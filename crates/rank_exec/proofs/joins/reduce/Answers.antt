@@ -1,7 +1,7 @@
 use Rattle.std.proofs.Common.{sym, subst}
 use Rattle.kernel_model.specs.declared.types.faults.KernelFault.{KernelFault}
 use Rattle.schedule_steps.specs.declared.step.Step.TheVariants.{Join}
-use Rattle.flat_machine.specs.Flat.{flat_step}
+use Rattle.schedule_model.specs.Flat.{flat_step}
 use Rattle.rank_state.specs.Machine.{State}
 use Rattle.rank_state.specs.Shows.{Shows}
 use Rattle.rank_program.specs.Sound.{setup_in, layout_in, tables_in}

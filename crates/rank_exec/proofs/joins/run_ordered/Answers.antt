@@ -2,8 +2,8 @@ use Rattle.std.proofs.Common.{◌≡◌, ◌+◌, ◌<◌, ◌≤◌, suc, Some,
 use Rattle.kernel_model.specs.declared.types.faults.KernelFault.{KernelFault}
 use Rattle.schedule_steps.specs.declared.step.Step.TheVariants.{Join}
 use Rattle.schedule_model.specs.Program.{elements}
-use Rattle.flat_machine.specs.Layout.{Faults}
-use Rattle.flat_machine.specs.Flat.{Flat, flat_step, loop_flat}
+use Rattle.schedule_model.specs.Layout.{Faults}
+use Rattle.schedule_model.specs.Flat.{Flat, flat_step, loop_flat}
 use Rattle.rank_state.specs.Machine.{State}
 use Rattle.rank_state.specs.Shows.{Shows}
 use Rattle.rank_state.specs.Ordered.{run_of}

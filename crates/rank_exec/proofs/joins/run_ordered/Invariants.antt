@@ -1,6 +1,6 @@
 use Rattle.std.proofs.Common.{◌≡◌}
 use Rattle.kernel_model.specs.declared.types.faults.KernelFault.{KernelFault}
-use Rattle.flat_machine.specs.Flat.{Flat, loop_flat}
+use Rattle.schedule_model.specs.Flat.{Flat, loop_flat}
 use Rattle.rank_state.specs.Shows.{Shows}
 use Rattle.rank_program.specs.Rooms.{HasRoomOf}
 use Rattle.rank_program.specs.Sound.{setup_in, layout_in, tables_in}

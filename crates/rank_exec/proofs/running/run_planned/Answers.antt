@@ -1,7 +1,7 @@
 use Rattle.std.proofs.Common.{◌≡◌, ℤ, List, map, ap, sym, subst, ◌∙◌}
 use Rattle.bound_program.specs.Values.{var_of}
 use Rattle.kernel_model.specs.declared.types.faults.KernelFault.{KernelFault}
-use Rattle.flat_machine.specs.Flat.{Flat, StartsFlat}
+use Rattle.schedule_model.specs.Flat.{Flat, StartsFlat}
 use Rattle.bound_plan.specs.Starts.{first_flat}
 use Rattle.bound_plan.specs.Memories.{dump_of}
 use Rattle.rank_state.specs.Starting.{AreFirst}

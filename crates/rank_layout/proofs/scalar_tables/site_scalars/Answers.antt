@@ -3,7 +3,7 @@ use Rattle.op_num.specs.declared.reductions.access.Access.TheVariants.{Read}
 use Rattle.bound_program.specs.declared.sites.Arg.TheVariants.{Dat}
 use Rattle.bound_program.specs.Values.{bound_of, no_site}
 use Rattle.bound_program.specs.Fits.{SiteFits, site_at}
-use Rattle.flat_machine.specs.Scatter.{Once}
+use Rattle.schedule_model.specs.Scatter.{Once}
 use Rattle.run_model.specs.Windows.{window_cells}
 use Rattle.bound_plan.specs.Windows.{on_dats, on_variables}
 use Rattle.rank_layout.proofs.ScalarLists.{once_right}

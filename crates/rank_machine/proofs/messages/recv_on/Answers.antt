@@ -1,6 +1,6 @@
 use Rattle.std.proofs.Common.{◌+◌, ap, sym, subst, ◌∙◌}
 use Rattle.schedule_steps.specs.declared.step.Step.TheVariants.{Recv}
-use Rattle.flat_machine.specs.Flat.{flat_step}
+use Rattle.schedule_model.specs.Flat.{flat_step}
 use Rattle.rank_state.specs.Shows.{Shows}
 use Rattle.kernel_model.specs.declared.types.faults.KernelFault.{KernelFault}
 use Rattle.rank_state.specs.Machine.{State}

@@ -1,7 +1,7 @@
 use Rattle.std.proofs.Common.{◌≡◌, ◌-◌, length, sym, ap, subst, arith}
 use Rattle.kernel_model.specs.declared.types.faults.KernelFault.{KernelFault}
 use Rattle.schedule_steps.specs.declared.step.Step.TheVariants.{Send}
-use Rattle.flat_machine.specs.Flat.{flat_step}
+use Rattle.schedule_model.specs.Flat.{flat_step}
 use Rattle.rank_state.specs.Spans.{total, gathered}
 use Rattle.rank_state.specs.Machine.{State, row}
 use Rattle.rank_state.specs.Shows.{Shows}

@@ -1,6 +1,6 @@
 use Rattle.std.proofs.Common.{◌≡◌, ℤ, Vec, Global, map, sym, ap, ◌∙◌, subst}
 use Rattle.kernel_model.specs.declared.types.faults.KernelFault.{KernelFault}
-use Rattle.flat_machine.specs.Flat.{Flat, StartsFlat}
+use Rattle.schedule_model.specs.Flat.{Flat, StartsFlat}
 use Rattle.rank_state.specs.Machine.{State}
 use Rattle.rank_state.specs.Shows.{Shows}
 use Rattle.rank_state.specs.Starting.{started}

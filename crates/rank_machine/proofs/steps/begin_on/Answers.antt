@@ -1,7 +1,7 @@
 use Rattle.std.proofs.Common.{◌≡◌, sym, ap, ap₂, subst, ◌∙◌, ◌+◌, length}
 use Rattle.kernel_model.specs.declared.types.faults.KernelFault.{KernelFault}
 use Rattle.schedule_steps.specs.declared.step.Step.TheVariants.{Begin}
-use Rattle.flat_machine.specs.Flat.{flat_step}
+use Rattle.schedule_model.specs.Flat.{flat_step}
 use Rattle.rank_state.specs.Indices.{values_at}
 use Rattle.rank_state.specs.Machine.{State, begun, begun_as, windows_of}
 use Rattle.rank_state.specs.Shows.{Shows}

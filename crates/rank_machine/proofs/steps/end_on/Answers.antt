@@ -2,7 +2,7 @@ use Rattle.std.proofs.Common.{◌≡◌, sym, ap, subst, ◌∙◌}
 use Rattle.std.specs.Prelude.{◌==◌}
 use Rattle.kernel_model.specs.declared.types.faults.KernelFault.{KernelFault}
 use Rattle.schedule_steps.specs.declared.step.Step.TheVariants.{End}
-use Rattle.flat_machine.specs.Flat.{flat_step}
+use Rattle.schedule_model.specs.Flat.{flat_step}
 use Rattle.rank_state.specs.Machine.{State, ended}
 use Rattle.rank_state.specs.Shows.{Shows}
 use Rattle.rank_program.specs.Sound.{setup_in, layout_in, tables_in}

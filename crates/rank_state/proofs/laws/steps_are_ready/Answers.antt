@@ -1,8 +1,8 @@
 use Rattle.std.proofs.Common.{ap, ◌∙◌, ◌∷◌, ◌++◌}
 use Rattle.std.specs.Prelude.{not}
 use Rattle.schedule_steps.specs.declared.step.Step.TheVariants.{End}
-use Rattle.flat_machine.specs.Layout.{by_place}
-use Rattle.flat_machine.specs.Flat.{flat_from}
+use Rattle.schedule_model.specs.Layout.{by_place}
+use Rattle.schedule_model.specs.Flat.{flat_from}
 use Rattle.rank_state.specs.Groups.{begins}
 use Rattle.rank_state.proofs.Ready.{carries, all_shut, stays_open}
 use Rattle.rank_state.proofs.Groups.{planned_from, distinct_from, group_closed}

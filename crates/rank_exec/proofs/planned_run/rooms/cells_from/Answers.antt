@@ -3,7 +3,7 @@ use Rattle.std.specs.Prelude.{sum_by}
 use Rattle.std.proofs.lemmas.List.{take_all}
 use Rattle.schedule_steps.specs.Outline.{Outline}
 use Rattle.schedule_steps.specs.Drawn.{numbers}
-use Rattle.flat_machine.specs.Layout.{message_cells}
+use Rattle.schedule_model.specs.Layout.{message_cells}
 use Rattle.rank_program.specs.Sound.{layout_in, outline_in}
 use Rattle.rank_exec.proofs.planned_run.Messages.{meets}
 use Rattle.rank_exec.proofs.planned_run.rooms.cells_from.Goals as goal

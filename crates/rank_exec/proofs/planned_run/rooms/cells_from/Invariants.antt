@@ -1,6 +1,6 @@
 use Rattle.std.proofs.Common.{◌≡◌, take}
 use Rattle.std.specs.Prelude.{sum_by, vec_capacity}
-use Rattle.flat_machine.specs.Layout.{message_cells}
+use Rattle.schedule_model.specs.Layout.{message_cells}
 use Rattle.rank_program.specs.Sound.{layout_in}
 use Rattle.rank_exec.proofs.planned_run.rooms.cells_from.Given as goal
 

@@ -1,6 +1,6 @@
 use Rattle.std.proofs.Common.{◌≡◌}
 use Rattle.std.specs.Prelude.{vec_capacity}
-use Rattle.flat_machine.specs.Layout.{message_cells}
+use Rattle.schedule_model.specs.Layout.{message_cells}
 use Rattle.rank_program.specs.Sound.{layout_in, outline_in}
 use Rattle.loop_plan.specs.Counted.{sum_below}
 use Rattle.rank_exec.specs.Room.{cells_sent}

@@ -1,7 +1,7 @@
 use Rattle.std.proofs.Common.{sym, ap, ◌∙◌, length}
 use Rattle.schedule_steps.specs.declared.step.Step.TheVariants.{Send}
 use Rattle.schedule_steps.specs.Standard.{standard}
-use Rattle.flat_machine.specs.Layout.{by_place}
+use Rattle.schedule_model.specs.Layout.{by_place}
 use Rattle.rank_state.specs.Spans.{total}
 use Rattle.rank_program.specs.Sound.{program_in, plan_in, setup_in, layout_in, outline_in}
 use Rattle.rank_exec.proofs.planned_run.Messages.{same_steps, cells_counted}

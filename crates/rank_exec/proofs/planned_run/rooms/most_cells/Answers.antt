@@ -2,7 +2,7 @@ use Rattle.std.proofs.Common.{◌≡◌, ◌≤◌, true, sym, ap, subst, ◌∙
 use Rattle.std.specs.Prelude.{vec_capacity}
 use Rattle.std.proofs.lemmas.Bool.{false≢true}
 use Rattle.schedule_steps.specs.Outline.{Outline}
-use Rattle.flat_machine.specs.Layout.{message_cells}
+use Rattle.schedule_model.specs.Layout.{message_cells}
 use Rattle.rank_program.specs.Sound.{layout_in, outline_in}
 use Rattle.rank_exec.specs.Room.{item_cells}
 use Rattle.rank_exec.proofs.planned_run.rooms.most_cells.Goals as goal

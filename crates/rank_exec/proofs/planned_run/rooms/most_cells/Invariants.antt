@@ -1,6 +1,6 @@
 use Rattle.std.proofs.Common.{◌≡◌, ◌<◌, ◌≤◌, ℕ, true}
 use Rattle.std.specs.Prelude.{vec_capacity}
-use Rattle.flat_machine.specs.Layout.{message_cells}
+use Rattle.schedule_model.specs.Layout.{message_cells}
 use Rattle.rank_program.specs.Sound.{layout_in, outline_in}
 use Rattle.rank_exec.specs.Room.{item_cells}
 use Rattle.rank_exec.proofs.planned_run.rooms.most_cells.Given as goal

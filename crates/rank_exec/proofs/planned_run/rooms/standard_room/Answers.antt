@@ -2,7 +2,7 @@ use Rattle.std.proofs.Common.{◌≡◌, ◌<◌, ◌≤◌, ℕ, true, List, le
 use Rattle.std.specs.Prelude.{min}
 use Rattle.std.proofs.lemmas.Bool.{false≢true}
 use Rattle.schedule_model.specs.Program as model
-use Rattle.flat_machine.specs.Layout.{message_cells}
+use Rattle.schedule_model.specs.Layout.{message_cells}
 use Rattle.bound_program.specs.Values.{BoundValue, ItemValue, Free, Reduce, Ordered, Host}
 use Rattle.run_model.specs.Programs.{kind_of}
 use Rattle.run_model.specs.Programs as program

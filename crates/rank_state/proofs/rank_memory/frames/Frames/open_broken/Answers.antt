@@ -5,7 +5,7 @@ use Rattle.rank_state.specs.declared.rank_memory.slot.Slot.{Slot}
 use Rattle.rank_state.specs.Frames.{Panes, Pane, pane_after, with_pane, opened}
 use Rattle.rank_state.specs.Slots.{Tied, panes_in, entries, with_entry}
 use Rattle.kernel_model.specs.declared.types.faults.KernelFault.{KernelFault}
-use Rattle.flat_machine.specs.Layout.{Faults}
+use Rattle.schedule_model.specs.Layout.{Faults}
 use Rattle.rank_state.proofs.rank_memory.Slots.{Table, opened_panes, tied_opened, last_free}
 use Rattle.rank_state.proofs.rank_memory.Vecs.{Rows, lists, Stands, stands}
 use Rattle.rank_state.proofs.rank_memory.frames.Frames.open_broken.Goals as goal

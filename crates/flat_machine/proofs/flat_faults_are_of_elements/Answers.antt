@@ -1,8 +1,0 @@
-use Rattle.flat_machine.proofs.Recorded.{of_step, of_run}
-use Rattle.flat_machine.proofs.flat_faults_are_of_elements.Goals as goal
-
-pub returns-clause-step : goal.returns-clause-step
-returns-clause-step g c = of_step
-
-pub returns-clause-run : goal.returns-clause-run
-returns-clause-run g c = of_run

@@ -1,8 +1,0 @@
-use Rattle.flat_machine.proofs.Followed.{mail_followed, panes_followed}
-use Rattle.flat_machine.proofs.flat_goes_by_steps.Goals as goal
-
-pub returns-clause-mail : goal.returns-clause-mail
-returns-clause-mail g c = mail_followed
-
-pub returns-clause-frames : goal.returns-clause-frames
-returns-clause-frames g c = panes_followed
