@@ -7,7 +7,7 @@ use Rattle.local_mesh.specs.declared.types.RankMesh.{RankMesh}
 use Rattle.local_mesh.specs.LocalMesh.{originals_in}
 use Rattle.local_mesh.specs.Numbers.{own_in}
 use Rattle.local_mesh.specs.Values.{LocalSetValue, local_set_value, RankMeshValue, rank_mesh_value}
-use Rattle.gather.specs.Dump.{exec_in, nonexec_in, dat_text, dats_text, ranks_text, dump_text}
+use Rattle.run_model.specs.Dump.{exec_in, nonexec_in, dat_text, dats_text, ranks_text, dump_text}
 
 -- two lists of sets that are the same as lists
 module _ (xs ys : List LocalSet) (same : map local_set_value xs ≡ map local_set_value ys) where

@@ -22,7 +22,7 @@ use Rattle.schedule_model.specs.Program.{Program}
 use Rattle.schedule_model.specs.Setup.{Setup}
 use Rattle.schedule_model.specs.Layout.{Layout, Core}
 use Rattle.schedule_model.specs.Flat.{flat_from}
-use Rattle.gather.specs.Dump.{dump_text}
+use Rattle.run_model.specs.Dump.{dump_text}
 use Rattle.bound_program.specs.Values.{BoundValue}
 use Rattle.run_model.specs.Kernels.{kernel_at}
 use Rattle.run_model.specs.Laws.{site_of}

@@ -6,7 +6,7 @@ use Rattle.local_mesh.specs.declared.types.RankMesh.{RankMesh}
 use Rattle.schedule_steps.specs.declared.step.Step.{Step}
 use Rattle.schedule_model.specs.Sequential.{Stop}
 use Rattle.schedule_model.specs.Flat.{flat_from}
-use Rattle.gather.specs.Dump.{dump_text}
+use Rattle.run_model.specs.Dump.{dump_text}
 use Rattle.bound_program.specs.Values.{BoundValue}
 use Rattle.run_model.specs.Programs.{printed, first_fault}
 use Rattle.loop_plan.specs.Values.{PlanValue}

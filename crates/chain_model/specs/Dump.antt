@@ -4,7 +4,7 @@ use Rattle.std.specs.List.{flat_map}
 use Rattle.std.specs.Fmt.{decimal}
 use Rattle.lemmas.specs.Below.{listed}
 use Rattle.mesh_decl.specs.Mesh.{MeshValue, dat_count, dat_set, dat_dim, dat_name, set_size}
-use Rattle.gather.specs.Dump.{copy_text}
+use Rattle.run_model.specs.Dump.{copy_text}
 use Rattle.run_model.specs.Windows.{numbers}
 use Rattle.chain_model.specs.Machine.{Holding, value_in}
 

@@ -19,7 +19,7 @@ use Rattle.run_model.specs.Memory.{has_cell}
 use Rattle.run_model.specs.Laws.{LoopsAreThere}
 use Rattle.run_model.specs.Programs.{item_at, kind_of, loop_of, program_of}
 use Rattle.run_model.proofs.Memory.{has_var}
-use Rattle.gather.specs.Variables.{of_vars}
+use Rattle.run_model.specs.Variables.{of_vars}
 use Rattle.bound_plan.specs.Variables.{reduces_at}
 use Rattle.rank_state.specs.declared.rank_memory.stop.Stop.{Stop as Recorded}
 use Rattle.rank_state.specs.Stops.{stop_in}

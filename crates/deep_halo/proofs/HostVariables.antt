@@ -17,8 +17,8 @@ use Rattle.bound_program.specs.Fits.{ActFits}
 use Rattle.run_model.specs.Hosts.{act_run}
 use Rattle.run_model.specs.Memory.{Holds, memory_length, var_start, place_of, has_cell}
 use Rattle.run_model.proofs.Memory.{dat_there, inside}
-use Rattle.gather.specs.Variables.{of_vars}
-use Rattle.gather.specs.Acts.{ActEnds}
+use Rattle.run_model.specs.Variables.{of_vars}
+use Rattle.run_model.specs.Acts.{ActEnds}
 use Rattle.deep_halo.specs.Places.{in_block, all_cells}
 use Rattle.deep_halo.specs.Layouts.{IsLayout}
 use Rattle.deep_halo.specs.declared.chain_memory.layouts.Layout.{Layout}

@@ -15,7 +15,7 @@ use Rattle.run_model.specs.Arguments.{var_width}
 use Rattle.run_model.specs.Programs.{item_at, kind_of, loop_of}
 use Rattle.run_model.specs.Laws.{LoopsAreThere}
 use Rattle.run_model.proofs.Memory.{var_there}
-use Rattle.gather.specs.Variables.{of_vars}
+use Rattle.run_model.specs.Variables.{of_vars}
 use Rattle.bound_plan.specs.Variables.{reduced_by, reduces_at}
 use Rattle.bound_plan.proofs.Trace.{reduce_after, first_item}
 use Rattle.rank_state.specs.declared.rank_memory.stop.Stop.{Stop}

@@ -3,7 +3,7 @@ use Rattle.std.specs.Prelude.{◌≡◌, ◌<◌, ℕ, List, length, slice_index
 use Rattle.mesh_decl.specs.Mesh.{dat_count}
 use Rattle.bound_program.specs.Values.{BoundValue}
 use Rattle.run_model.specs.Memory.{memory_length, dat_start}
-use Rattle.gather.specs.Variables.{VarsBegin}
+use Rattle.run_model.specs.Variables.{VarsBegin}
 use Rattle.deep_halo.specs.declared.chain_memory.layouts.Layout.{Layout}
 
 -- where the first n dats begin, and where they end

@@ -7,7 +7,7 @@ use Rattle.schedule_model.specs.Cells.{VarCell}
 use Rattle.schedule_model.specs.Kept.{kept_of, OfElements}
 use Rattle.bound_program.specs.Values.{BoundValue, ItemValue, Free, Reduce, Ordered, Host}
 use Rattle.run_model.specs.Programs.{item_at, program_of}
-use Rattle.gather.specs.Variables.{of_vars}
+use Rattle.run_model.specs.Variables.{of_vars}
 use Rattle.bound_plan.specs.Variables.{reduces_at}
 use Rattle.rank_state.specs.declared.rank_memory.stop.Stop.{Stop}
 use Rattle.rank_state.specs.Stops.{stop_in, stop_of}

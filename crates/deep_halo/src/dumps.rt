@@ -5,7 +5,7 @@ ghost use Rattle.std.specs.List.{flat_map};
 ghost use Rattle.std.specs.Fmt.{decimal};
 ghost use Rattle.kernel_model.specs.declared.types.faults.KernelFault.{KernelFault as Fault};
 ghost use Rattle.mesh_decl.specs.Mesh.{dat_count, dat_set, dat_name, set_size};
-ghost use Rattle.gather.specs.Dump.{copy_text};
+ghost use Rattle.run_model.specs.Dump.{copy_text};
 ghost use Rattle.chain_model.specs.Machine.{ChainState, Holding};
 ghost use Rattle.chain_model.specs.Dump.{held_in, pair_text, held_text, store_text, stores_text};
 ghost use Rattle.deep_halo.specs.Places.{all_cells};

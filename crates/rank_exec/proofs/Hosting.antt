@@ -23,8 +23,8 @@ use Rattle.run_model.specs.Windows.{numbers}
 use Rattle.run_model.specs.Hosts.{variables_of, variable_cells, dat_cells, act_run}
 use Rattle.run_model.specs.Memory.{Holds}
 use Rattle.run_model.specs.Programs.{item_at, kind_of, loop_of, act_in, program_of}
-use Rattle.gather.specs.Variables.{of_vars, VariablesHold, CellsAreHeld}
-use Rattle.gather.specs.Acts.{ActEnds}
+use Rattle.run_model.specs.Variables.{of_vars, VariablesHold, CellsAreHeld}
+use Rattle.run_model.specs.Acts.{ActEnds}
 use Rattle.rank_state.specs.declared.owned.Owned.{Owned}
 use Rattle.rank_state.specs.Windows.{cells_from}
 use Rattle.rank_state.specs.Machine.{State}

@@ -1,6 +1,6 @@
 -- What a run on several ranks puts out, and where it stopped.
 use Rattle.std.specs.Prelude.{◌≡◌, ℕ, ℤ, Bool, List, [], if◌then◌else◌}
-use Rattle.gather.specs.Dump.{dump_text}
+use Rattle.run_model.specs.Dump.{dump_text}
 use Rattle.bound_program.specs.Values.{BoundValue}
 use Rattle.run_model.specs.Programs.{first_fault}
 use Rattle.bound_plan.specs.Memories.{run_output}

@@ -16,7 +16,7 @@ ghost use Rattle.rank_program.specs.Sound.{Sound, program_in, setup_in, layout_i
 
 use crate::standing::standing_cells;
 use bound_program::{Act, ToldAct};
-use gather::host_acts::Variables;
+use run_model::gather::host_acts::Variables;
 use kernel_model::types::KernelFault;
 use op_num::{OutOfMemory, Text};
 use rank_machine::machine::Machine;
@@ -125,7 +125,7 @@ fn run_plain(
 {
     rank_state::join_shows::<KernelFault>();
     rank_state::owners_show::<KernelFault>();
-    gather::host_acts::variables_hold();
+    run_model::gather::host_acts::variables_hold();
     run_model::items_are_there();
     let bound = program.bound;
     let known = Variables {

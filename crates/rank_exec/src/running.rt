@@ -1,7 +1,7 @@
 // The run of a distributed program.
 
 ghost use Rattle.std.specs.Prelude.{◌≡◌, ◌<◌, ℕ, List, None, IfOk};
-ghost use Rattle.gather.specs.Dump.{AreHeld};
+ghost use Rattle.run_model.specs.Dump.{AreHeld};
 ghost use Rattle.schedule_steps.specs.Steps.{Accepted};
 ghost use Rattle.run_model.specs.Programs.{run_of_program};
 ghost use Rattle.run_model.specs.Ranges.{AllObey, StartsInRange};
@@ -14,7 +14,7 @@ ghost use Rattle.rank_exec.specs.Runs.{IsRunBy, dump_in};
 use crate::drive::drive;
 use crate::run_room::RunRoom;
 use crate::stream::Steps;
-use gather::dump;
+use run_model::gather::dump;
 use op_num::OutOfMemory;
 use par_exec::{Crew, Gate};
 use rank_layout::{first_cells_stand, first_memories, first_variables};

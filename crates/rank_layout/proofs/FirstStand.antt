@@ -17,7 +17,7 @@ use Rattle.run_model.specs.Constants.{no_constant}
 use Rattle.run_model.specs.Programs.{program_of}
 use Rattle.run_model.specs.Arguments.{dat_width}
 use Rattle.run_model.specs.Memory.{has_cell, FirstMemoryHolds}
-use Rattle.gather.specs.Variables.{of_vars, HoldsVariables, CellsAreHeld}
+use Rattle.run_model.specs.Variables.{of_vars, HoldsVariables, CellsAreHeld}
 use Rattle.bound_plan.specs.Places.{originals, original_at, bases_of, cells_of, cell_at}
 use Rattle.bound_plan.specs.Machine.{Stand, ElementsStand}
 use Rattle.rank_layout.specs.First.{first_cells, first_variables, FirstCellsStand, MeshesAreClosed}

@@ -9,7 +9,7 @@ use Rattle.bound_program.specs.Fits.{var_at}
 use Rattle.run_model.specs.Hosts.{variables_of, variable_cells}
 use Rattle.run_model.specs.Arguments.{var_width}
 use Rattle.run_model.specs.Memory.{var_start, memory_length}
-use Rattle.gather.specs.Variables.{of_vars, VarsBegin, VariablesHold}
+use Rattle.run_model.specs.Variables.{of_vars, VarsBegin, VariablesHold}
 use Rattle.bound_plan.specs.Variables.{cells_before}
 use Rattle.bound_plan.proofs.Indexed.{indexed}
 

@@ -13,7 +13,7 @@ use Rattle.bound_program.specs.declared.sites.Arg.TheVariants.{Dat, Global as Va
 use Rattle.bound_program.specs.Values.{BoundValue, SiteValue}
 use Rattle.bound_program.specs.Fits.{site_at}
 use Rattle.bound_program.specs.Classes.{modifies}
-use Rattle.gather.specs.Variables.{VarsBegin}
+use Rattle.run_model.specs.Variables.{VarsBegin}
 use Rattle.run_model.specs.Hosts.{variable_cells}
 use Rattle.run_model.specs.Windows.{window_cells}
 use Rattle.run_model.specs.Arguments.{arg_width}

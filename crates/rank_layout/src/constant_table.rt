@@ -3,7 +3,7 @@
 ghost use Rattle.std.specs.Prelude.{◌≡◌, ◌+◌, ◌^◌, ◌<◌, ◌≤◌, IfOk, IfSome, length, map, sum_by};
 ghost use Rattle.bound_program.specs.Values.{bound_of, var_of};
 ghost use Rattle.bound_program.specs.Fits.{ConstantsFit, constant_cells};
-ghost use Rattle.gather.specs.Variables.{VarsBegin};
+ghost use Rattle.run_model.specs.Variables.{VarsBegin};
 ghost use Rattle.run_model.specs.Hosts.{variable_cells};
 ghost use Rattle.run_model.specs.Kernels.{constants};
 ghost use Rattle.bound_plan.specs.Variables.{variable_index};

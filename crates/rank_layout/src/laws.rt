@@ -51,6 +51,6 @@ pub fn first_cells_stand()
     local_mesh::rank_meshes_are_closed();
     local_mesh::cells_are_of_copies();
     run_model::memory_holds();
-    gather::host_acts::variables_hold();
+    run_model::gather::host_acts::variables_hold();
     bound_plan::elements_stand();
 }

@@ -16,7 +16,7 @@ use crate::tables::MachineTables;
 use crate::widths::stride;
 use crate::write_table::loop_writes;
 use bound_program::Bound;
-use gather::host_acts::variable_starts;
+use run_model::gather::host_acts::variable_starts;
 use loop_plan::Plan;
 use mesh_decl::Owners;
 use op_num::OutOfMemory;
@@ -43,7 +43,7 @@ impl MachineTables {
             → HaveRoom (bound_of bound.now) owners.now.ranks (plan_of plan.now) lists spans
             → AreMade (bound_of bound.now) owners.now (plan_of plan.now) lists t) }
     {
-        gather::host_acts::variables_hold();
+        run_model::gather::host_acts::variables_hold();
         let starts = variable_starts(alloc, &bound.vars)?;
         let mut slots = Vec::new(alloc);
         let scalars = loop_scalars(alloc, bound, &starts, &mut slots)?;

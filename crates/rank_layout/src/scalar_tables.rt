@@ -3,7 +3,7 @@
 ghost use Rattle.std.specs.Prelude.{◌≡◌, ℕ, ◌+◌, ◌^◌, ◌<◌, ◌++◌, [], OnOk, IfOk, length, map};
 ghost use Rattle.bound_program.specs.Values.{bound_of};
 ghost use Rattle.bound_program.specs.Fits.{Fits};
-ghost use Rattle.gather.specs.Variables.{VarsBegin};
+ghost use Rattle.run_model.specs.Variables.{VarsBegin};
 ghost use Rattle.run_model.specs.Hosts.{variable_cells};
 ghost use Rattle.run_model.specs.Windows.{numbers};
 ghost use Rattle.rank_state.specs.declared.scalars.Scalar.TheVariants.{Value, Amount};

@@ -4,7 +4,7 @@ ghost use Rattle.std.specs.Prelude.{◌≡◌, true, IfOk};
 ghost use Rattle.kernel_code.specs.Codes.{AreCodesOf};
 ghost use Rattle.bound_program.specs.Values.{bound_of};
 ghost use Rattle.run_model.specs.Ranges.{AllObey};
-ghost use Rattle.gather.specs.Variables.{VarsBegin};
+ghost use Rattle.run_model.specs.Variables.{VarsBegin};
 ghost use Rattle.rank_state.specs.Starting.{AreSlots, ArePlaces};
 ghost use Rattle.rank_program.specs.Sound.{Sound, program_in, setup_in, layout_in, tables_in};
 ghost use Rattle.rank_program.specs.Runnables.{HasLocalLists, IsProgramOf};

@@ -17,3 +17,8 @@ pub mod Statements
 pub mod Program
 pub mod Holds
 pub mod SequentialLaws
+pub mod Grows
+pub mod Pieces
+pub mod Dump
+pub mod Variables
+pub mod Acts

@@ -99,4 +99,5 @@ pub fn runs_stop_at_faults()
 {}
 
 pub mod element_runs;
+pub mod gather;
 pub mod sequential_run;

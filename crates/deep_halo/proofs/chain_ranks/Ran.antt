@@ -17,7 +17,7 @@ use Rattle.bound_program.specs.Fits.{Fits, site_at}
 use Rattle.run_model.specs.Memory.{has_cell}
 use Rattle.run_model.specs.Programs.{item_at, loop_of}
 use Rattle.run_model.specs.Laws.{WindowsAreReached}
-use Rattle.gather.specs.Variables.{of_vars}
+use Rattle.run_model.specs.Variables.{of_vars}
 use Rattle.rank_state.specs.Machine.{noted}
 use Rattle.rank_state.specs.declared.rank_memory.stop.Stop.{Stop as Told}
 use Rattle.rank_state.specs.Stops.{stop_in}

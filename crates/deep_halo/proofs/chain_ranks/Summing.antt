@@ -11,7 +11,7 @@ use Rattle.bound_program.specs.Fits.{Fits, site_at}
 use Rattle.run_model.specs.Memory.{has_cell}
 use Rattle.run_model.specs.Windows.{Reached, Whole, cell_in}
 use Rattle.run_model.specs.Arguments.{no_arg, var_width}
-use Rattle.gather.specs.Variables.{of_vars}
+use Rattle.run_model.specs.Variables.{of_vars}
 use Rattle.bound_plan.specs.Variables.{reduced_by, reduces_at}
 use Rattle.bound_plan.proofs.Touched.{Merges, merges}
 use Rattle.chain_model.specs.Machine.{merged_over}

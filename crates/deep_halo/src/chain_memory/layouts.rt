@@ -7,7 +7,7 @@ ghost use Rattle.run_model.specs.Memory.{first_memory, memory_length};
 ghost use Rattle.deep_halo.specs.Layouts.{AreDatStarts, IsLayout};
 
 use bound_program::Bound;
-use gather::host_acts::variable_starts;
+use run_model::gather::host_acts::variable_starts;
 use op_num::OutOfMemory;
 use std::alloc::Global;
 

@@ -4,7 +4,7 @@ ghost use Rattle.std.specs.Prelude.{◌≡◌, ◌<◌, ◌≤◌, cond, nat_eq,
 ghost use Rattle.kernel_model.specs.declared.types.faults.KernelFault.{KernelFault as Fault};
 ghost use Rattle.mesh_decl.specs.Mesh.{set_size};
 ghost use Rattle.mesh_decl.specs.Owners.{owner_of};
-ghost use Rattle.gather.specs.Variables.{of_vars};
+ghost use Rattle.run_model.specs.Variables.{of_vars};
 ghost use Rattle.rank_state.specs.Machine.{noted};
 ghost use Rattle.rank_state.specs.Stops.{stop_in};
 ghost use Rattle.chain_model.specs.Machine.{ChainState};

@@ -2,7 +2,7 @@
 
 ghost use Rattle.std.specs.Prelude.{◌≡◌, ◌<◌, ◌≤◌, length};
 ghost use Rattle.kernel_model.specs.declared.types.faults.KernelFault.{KernelFault as Fault};
-ghost use Rattle.gather.specs.Variables.{of_vars};
+ghost use Rattle.run_model.specs.Variables.{of_vars};
 ghost use Rattle.schedule_model.specs.Program.{elements};
 ghost use Rattle.run_model.specs.Programs.{program_of};
 ghost use Rattle.chain_model.specs.Machine.{ChainState, rank_run, ranks_run};

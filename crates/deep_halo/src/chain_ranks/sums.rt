@@ -3,7 +3,7 @@
 ghost use Rattle.std.specs.Prelude.{◌≡◌, ◌<◌, Some, length};
 ghost use Rattle.bound_program.specs.Fits.{ArgFits};
 ghost use Rattle.run_model.specs.Windows.{Whole, cell_in};
-ghost use Rattle.gather.specs.Variables.{of_vars};
+ghost use Rattle.run_model.specs.Variables.{of_vars};
 ghost use Rattle.rank_state.specs.Windows.{operation};
 ghost use Rattle.chain_model.specs.Machine.{merged_over};
 ghost use Rattle.deep_halo.specs.Places.{all_cells};

@@ -5,7 +5,7 @@ ghost use Rattle.op_num.specs.Reduction.{Reduction, unit_of};
 ghost use Rattle.schedule_model.specs.Cells.{Variable, VarCell};
 ghost use Rattle.bound_program.specs.Fits.{ArgFits};
 ghost use Rattle.run_model.specs.Memory.{has_cell};
-ghost use Rattle.gather.specs.Variables.{of_vars};
+ghost use Rattle.run_model.specs.Variables.{of_vars};
 ghost use Rattle.bound_plan.specs.Variables.{reduces_at};
 ghost use Rattle.deep_halo.specs.Places.{in_block, all_cells};
 ghost use Rattle.deep_halo.specs.Sound.{Sound, IsLoop, program_in, ranks_in};

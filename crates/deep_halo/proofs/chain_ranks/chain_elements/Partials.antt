@@ -10,7 +10,7 @@ use Rattle.bound_program.specs.Values.{BoundValue}
 use Rattle.run_model.specs.Windows.{Whole, cell_in}
 use Rattle.run_model.specs.Arguments.{var_width}
 use Rattle.run_model.specs.Memory.{memory_length, var_start}
-use Rattle.gather.specs.Variables.{of_vars, VarsBegin}
+use Rattle.run_model.specs.Variables.{of_vars, VarsBegin}
 use Rattle.bound_plan.specs.Variables.{reduction_of}
 use Rattle.deep_halo.specs.Places.{in_block, all_cells}
 use Rattle.deep_halo.proofs.chain_memory.Within.{vars_behind, variable_in_blocks}

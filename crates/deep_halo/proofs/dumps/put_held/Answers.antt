@@ -1,6 +1,6 @@
 use Rattle.std.proofs.Common.{◌≡◌, ◌≤◌, ◌+◌, ◌-◌, ◌++◌, [], ℕ, Bool, true, cond, is_some, take, drop, length, sym, ap, ◌∙◌, arith, get_or-take, get_or-drop, length-take-le, length-drop, pos}
 use Rattle.mesh_decl.specs.Mesh.{dat_dim}
-use Rattle.gather.specs.Dump.{copy_text}
+use Rattle.run_model.specs.Dump.{copy_text}
 use Rattle.chain_model.specs.Dump.{pair_text}
 use Rattle.deep_halo.specs.Programs.{program_of_run, owners_of_run}
 use Rattle.deep_halo.proofs.Texts.{pair_values_are}

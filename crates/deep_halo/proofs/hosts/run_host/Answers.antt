@@ -2,7 +2,7 @@ use Rattle.std.proofs.Common.{◌≡◌, ◌+◌, ◌-◌, ◌*◌, ℕ, List, m
 use Rattle.bound_program.specs.Values.{told_act_of, var_of, VarValue}
 use Rattle.bound_program.specs.Fits.{ActFits}
 use Rattle.run_model.specs.Memory.{memory_length, Holds}
-use Rattle.gather.specs.Variables.{of_vars, VarsBegin}
+use Rattle.run_model.specs.Variables.{of_vars, VarsBegin}
 use Rattle.deep_halo.specs.Programs.{program_of_run, owners_of_run}
 use borrow.Rule.Slice.PartMut.{put_mid}
 use Rattle.std.proofs.lemmas.Result.{IfOk-weaker}
@@ -10,7 +10,7 @@ use Rattle.kernel_model.specs.declared.types.faults.KernelFault.{KernelFault}
 use Rattle.schedule_model.specs.Cells.{Store}
 use Rattle.schedule_model.specs.Program.{Hosted}
 use Rattle.run_model.specs.Hosts.{act_run}
-use Rattle.gather.specs.Acts.{ActEnds}
+use Rattle.run_model.specs.Acts.{ActEnds}
 use Rattle.deep_halo.specs.Orders.{OwnersStand}
 use Rattle.deep_halo.specs.Hosts.{HostEnds}
 use Rattle.deep_halo.proofs.HostVariables.{plain_fits, same_act, first_within, not_print, variables_last, first_at, tail_is, tail_holds, host_ends}

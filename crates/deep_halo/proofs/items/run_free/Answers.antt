@@ -2,7 +2,7 @@ use Rattle.std.proofs.Common.{◌≡◌, ◌+◌, suc, ℤ, List, Some, length, 
 use Rattle.std.specs.Vec.{with_items}
 use Rattle.std.proofs.lemmas.List.{with_items_is}
 use Rattle.std.proofs.lemmas.Option.{same_Some}
-use Rattle.gather.specs.Variables.{of_vars}
+use Rattle.run_model.specs.Variables.{of_vars}
 use Rattle.deep_halo.specs.Places.{all_cells}
 use Rattle.chain_model.specs.Machine.{supplied, ranks_run}
 use Rattle.chain_model.specs.Slices.{slicing_of}

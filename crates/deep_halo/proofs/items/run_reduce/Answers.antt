@@ -9,7 +9,7 @@ use Rattle.bound_program.specs.declared.sites.Arg.{Arg}
 use Rattle.bound_program.specs.Values.{ItemValue}
 use Rattle.bound_program.specs.Fits.{site_at}
 use Rattle.run_model.specs.Programs.{kind_of}
-use Rattle.gather.specs.Variables.{of_vars}
+use Rattle.run_model.specs.Variables.{of_vars}
 use Rattle.chain_model.specs.Machine.{reduced}
 use Rattle.chain_model.specs.Slices.{slicing_of}
 use Rattle.deep_halo.specs.Cells.{BlocksHold}

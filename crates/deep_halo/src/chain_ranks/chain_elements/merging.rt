@@ -6,7 +6,7 @@ ghost use Rattle.rank_state.specs.Windows.{operation};
 ghost use Rattle.bound_program.specs.Fits.{ArgFits};
 ghost use Rattle.run_model.specs.Windows.{Whole, cell_in};
 ghost use Rattle.run_model.specs.Arguments.{var_width};
-ghost use Rattle.gather.specs.Variables.{of_vars};
+ghost use Rattle.run_model.specs.Variables.{of_vars};
 ghost use Rattle.deep_halo.specs.Places.{in_block, all_cells};
 ghost use Rattle.deep_halo.specs.Sound.{Sound, IsLoop, program_in, ranks_in};
 ghost use Rattle.deep_halo.specs.Cells.{Values, BlocksHold, Hold};

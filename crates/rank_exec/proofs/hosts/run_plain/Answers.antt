@@ -7,8 +7,8 @@ use Rattle.bound_program.specs.Fits.{ActFits}
 use Rattle.run_model.specs.Hosts.{act_run}
 use Rattle.run_model.specs.Memory.{Holds, memory_length}
 use Rattle.run_model.specs.Programs.{act_in}
-use Rattle.gather.specs.Variables.{of_vars}
-use Rattle.gather.specs.Acts.{ActEnds}
+use Rattle.run_model.specs.Variables.{of_vars}
+use Rattle.run_model.specs.Acts.{ActEnds}
 use Rattle.rank_state.specs.Machine.{State}
 use Rattle.rank_state.specs.Shows.{Shows}
 use Rattle.rank_exec.proofs.Hosting.{kind_is, host_is, holds, same_act, plain_fits, goes_on, halts}

@@ -1,7 +1,7 @@
 use Rattle.std.proofs.Common.{◌≡◌, ◌+◌, map, length, ap, arith}
 use Rattle.bound_program.specs.Values.{var_of, bound_of}
 use Rattle.run_model.specs.Memory.{memory_length, var_start}
-use Rattle.gather.specs.Variables.{of_vars}
+use Rattle.run_model.specs.Variables.{of_vars}
 use Rattle.deep_halo.proofs.chain_memory.Within.{vars_behind}
 use Rattle.deep_halo.proofs.chain_memory.layouts.layout_of.Goals as goal
 

@@ -7,7 +7,7 @@ use Rattle.bound_program.specs.declared.sites.Arg.{Arg}
 use Rattle.bound_program.specs.Fits.{site_at}
 use Rattle.run_model.specs.Kernels.{constants, constant_values, element_run}
 use Rattle.run_model.specs.Programs.{item_at, loop_of}
-use Rattle.gather.specs.Variables.{of_vars}
+use Rattle.run_model.specs.Variables.{of_vars}
 use Rattle.rank_state.specs.Machine.{noted}
 use Rattle.rank_state.specs.Stops.{stop_in}
 use Rattle.bound_plan.specs.Variables.{reduces_at}

@@ -1,7 +1,7 @@
 use Rattle.std.proofs.Common.{Bool, cond, nat_eq, List, ℤ, sym, subst, ◌∙◌}
 use Rattle.std.proofs.lemmas.Bool.{eq-eqb, ne_eqb}
 use Rattle.mesh_decl.specs.Owners.{owner_of}
-use Rattle.gather.specs.Variables.{of_vars}
+use Rattle.run_model.specs.Variables.{of_vars}
 use Rattle.deep_halo.specs.Sound.{ranks_in}
 use Rattle.deep_halo.specs.Cells.{BlocksHold}
 use Rattle.deep_halo.specs.Merging.{merged_all}

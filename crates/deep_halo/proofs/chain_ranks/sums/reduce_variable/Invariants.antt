@@ -1,6 +1,6 @@
 use Rattle.std.proofs.Common.{Some}
 use Rattle.run_model.specs.Windows.{Whole, cell_in}
-use Rattle.gather.specs.Variables.{of_vars}
+use Rattle.run_model.specs.Variables.{of_vars}
 use Rattle.rank_state.specs.Windows.{operation}
 use Rattle.chain_model.specs.Machine.{merged_over}
 use Rattle.deep_halo.specs.Sound.{program_in, ranks_in}

@@ -6,7 +6,7 @@ use Rattle.bound_program.specs.declared.sites.Arg.{Arg}
 use Rattle.bound_program.specs.declared.sites.Arg.TheVariants.{Global}
 use Rattle.bound_program.specs.Fits.{ArgFits}
 use Rattle.run_model.specs.Windows.{Whole, cell_in}
-use Rattle.gather.specs.Variables.{of_vars}
+use Rattle.run_model.specs.Variables.{of_vars}
 use Rattle.bound_plan.specs.Variables.{reduction_of}
 use Rattle.deep_halo.specs.Sound.{program_in, ranks_in}
 use Rattle.deep_halo.specs.Cells.{BlocksHold, with_target}

@@ -3,7 +3,7 @@ use Rattle.std.proofs.lemmas.Bool.{cases_lt}
 use Rattle.bound_program.specs.declared.sites.Arg.{Arg}
 use Rattle.schedule_model.specs.Cells.{Variable}
 use Rattle.bound_program.specs.Fits.{site_at}
-use Rattle.gather.specs.Variables.{of_vars}
+use Rattle.run_model.specs.Variables.{of_vars}
 use Rattle.deep_halo.specs.Sound.{program_in, ranks_in}
 use Rattle.deep_halo.specs.Cells.{BlocksHold}
 use Rattle.deep_halo.specs.Merging.{changed_all}

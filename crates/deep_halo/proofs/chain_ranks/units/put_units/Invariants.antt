@@ -2,7 +2,7 @@ use Rattle.std.proofs.Common.{◌≡◌, ◌<◌, ℕ, pos, true, Some, get_or}
 use Rattle.op_num.specs.Reduction.{Reduction, unit_of}
 use Rattle.schedule_model.specs.Cells.{Variable, VarCell}
 use Rattle.run_model.specs.Memory.{has_cell}
-use Rattle.gather.specs.Variables.{of_vars}
+use Rattle.run_model.specs.Variables.{of_vars}
 use Rattle.bound_plan.specs.Variables.{reduces_at}
 use Rattle.deep_halo.specs.Places.{in_block}
 use Rattle.deep_halo.specs.Sound.{program_in}

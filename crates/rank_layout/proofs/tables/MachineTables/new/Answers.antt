@@ -2,7 +2,7 @@ use Rattle.std.proofs.Common.{◌≡◌, ◌<◌, ◌∙◌, ℕ, List, length, 
 use Rattle.std.proofs.lemmas.List.{get_or-map}
 use Rattle.op_num.specs.Reduction.{Reduction, Add}
 use Rattle.bound_program.specs.Values.{VarValue, bound_of, var_of}
-use Rattle.gather.specs.Variables.{VarsBegin, of_vars}
+use Rattle.run_model.specs.Variables.{VarsBegin, of_vars}
 use Rattle.run_model.specs.Memory.{memory_length}
 use Rattle.rank_state.specs.declared.scalars.Operation.{Operation}
 use Rattle.rank_state.specs.declared.scalars.Operation.TheVariants.{Sum}

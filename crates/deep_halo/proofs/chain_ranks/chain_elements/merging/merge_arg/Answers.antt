@@ -3,7 +3,7 @@ use Rattle.rank_state.specs.Windows.{operation}
 use Rattle.bound_program.specs.declared.sites.Arg.{Arg}
 use Rattle.bound_program.specs.declared.sites.Arg.TheVariants.{Global}
 use Rattle.bound_program.specs.Fits.{ArgFits}
-use Rattle.gather.specs.Variables.{of_vars}
+use Rattle.run_model.specs.Variables.{of_vars}
 use Rattle.bound_plan.specs.Variables.{reduction_of}
 use Rattle.deep_halo.specs.Sound.{program_in, ranks_in}
 use Rattle.deep_halo.specs.Cells.{BlocksHold}

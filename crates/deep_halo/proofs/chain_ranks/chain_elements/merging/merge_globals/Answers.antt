@@ -2,7 +2,7 @@ use Rattle.std.proofs.Common.{◌+◌, List, take, ap, subst, ◌∙◌}
 use Rattle.std.proofs.lemmas.List.{take_all, get_or_default}
 use Rattle.bound_program.specs.declared.sites.Arg.{Arg}
 use Rattle.run_model.specs.Arguments.{no_arg}
-use Rattle.gather.specs.Variables.{of_vars}
+use Rattle.run_model.specs.Variables.{of_vars}
 use Rattle.deep_halo.specs.Sound.{program_in, ranks_in}
 use Rattle.deep_halo.specs.Cells.{BlocksHold}
 use Rattle.deep_halo.proofs.chain_memory.chain_stores.Writing.{held_as}

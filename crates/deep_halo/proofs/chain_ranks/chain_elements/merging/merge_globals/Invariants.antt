@@ -1,5 +1,5 @@
 use Rattle.std.proofs.Common.{take}
-use Rattle.gather.specs.Variables.{of_vars}
+use Rattle.run_model.specs.Variables.{of_vars}
 use Rattle.deep_halo.specs.Sound.{program_in, ranks_in}
 use Rattle.deep_halo.specs.Cells.{Values, BlocksHold, Hold}
 use Rattle.deep_halo.specs.Merging.{merged_all}

@@ -1,7 +1,7 @@
 use Rattle.std.proofs.Common.{◌≡◌, ◌≤◌, ◌+◌, ◌-◌, ◌*◌, arith}
 use Rattle.run_model.specs.Windows.{Whole, cell_in}
 use Rattle.run_model.specs.Arguments.{var_width}
-use Rattle.gather.specs.Variables.{of_vars}
+use Rattle.run_model.specs.Variables.{of_vars}
 use Rattle.deep_halo.specs.Places.{in_block, all_cells}
 use Rattle.deep_halo.specs.Sound.{program_in, ranks_in}
 use Rattle.deep_halo.proofs.chain_ranks.chain_elements.Partials.{dats_before, partial_read, partial_within, fewer}
