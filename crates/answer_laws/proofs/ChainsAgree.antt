@@ -3,9 +3,9 @@ use Rattle.std.proofs.Common.{◌≡◌, ◌<◌, List, map, None, Result, Ok, E
 use Rattle.kernel_model.specs.declared.types.kernels.RKernel.{RKernel}
 use Rattle.kernel_model.specs.View.{rkernel_of}
 use Rattle.mesh_decl.specs.declared.owners.Owners.{Owners}
-use Rattle.distribute.specs.Parts.{Parts, OwnersRefusal}
-use Rattle.distribute.specs.Judgements.{OwnersAre}
-use Rattle.distribute.specs.Laws.{SameOwners, SameOutcome, OwnersAreOne}
+use Rattle.partition.specs.Parts.{Parts, OwnersRefusal}
+use Rattle.partition.specs.Judgements.{OwnersAre}
+use Rattle.partition.specs.Laws.{SameOwners, SameOutcome, OwnersAreOne}
 use Rattle.bound_program.specs.Values.{BoundValue}
 use Rattle.bound_program.specs.Fits.{Fits}
 use Rattle.bound_plan.specs.OneRun.{with_kernels, ProgramsAreOne}

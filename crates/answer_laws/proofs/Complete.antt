@@ -2,7 +2,7 @@
 use Rattle.std.proofs.Common.{◌≡◌, ◌⊎◌, inl, inr, ℕ, List, [], ◌∷◌, ◌++◌, Option, Some, None, Result, refl, sym, ap, ◌∙◌, subst}
 use Rattle.op_outside.specs.Outside.{Files, Rose}
 use Rattle.command_words.specs.Lines.{Answer}
-use Rattle.distribute.specs.Parts.{Parts}
+use Rattle.partition.specs.Parts.{Parts}
 use Rattle.bound_program.specs.Values.{BoundValue}
 use Rattle.command_words.specs.Refusal.{Refusal}
 use Rattle.command_words.specs.Words.{ChainJob, ChainOptions, PlanJob, Stretch, Whole, Before, From, Parting, ByRule, ByFile, Blocks, OfSize, AsPlanned, Schedule, Standard, Drawn, Written, Options, group_of, Command, OnPlan, OnChains, InFiles, OfSample, Converts, Translates, Restores, ShowsUsage, ShowsVersion, names_before, names_by, names_in_blocks, names_at, names_in, names_of, named_by}

@@ -6,7 +6,7 @@ use Rattle.clap.proofs.OnLiterals.{clap_on_literals}
 use Rattle.mesh_decl.specs.declared.text.entry.Form.TheVariants as form
 use Rattle.command_words.specs.Refusal.{CannotRead, TooDeep, NoTokens, BadName, BadTarget, BadAccess, BadMesh, BadCut, BadState, BadPart, BadPartition, BadPlan, BadSchedule, BadStep, EarlyStep, LeftStep, BadStub, BeyondLimit, StateBytes, PartitionBytes, PlanBytes, Steps, ScheduleSteps, SetSize, Usage}
 use Rattle.command_words.specs.Lines.{line_of, fault_line}
-use Rattle.distribute.specs.Parts.{Block, Bisect, Grow}
+use Rattle.partition.specs.Parts.{Block, Bisect, Grow}
 use Rattle.schedule_steps.specs.declared.step.Step.TheVariants.{Send, Recv, Begin, Join}
 use Rattle.command_words.specs.Words.{CountsChains, RunsChains, Options, Whole, Before, From, Check, ShowsPlan, ShowsSchedule, RunsPlan, ByRule, ByFile, OfSize, AsPlanned, Standard, Drawn, Written, InFiles, OfSample, OnPlan, OnChains, Converts, Translates, Restores, ShowsUsage, ShowsVersion, WordsAre}
 

@@ -7,11 +7,11 @@ use Rattle.mesh_decl.specs.declared.owners.Perms.{Perms}
 use Rattle.mesh_decl.specs.Mesh.{MeshValue}
 use Rattle.mesh_decl.specs.Owners.{ArePerms}
 use Rattle.local_mesh.specs.Values.{rank_mesh_value}
-use Rattle.distribute.specs.Parts.{Parts, Text, NumbersRefusal, OwnersRefusal}
-use Rattle.distribute.specs.Judgements.{NumbersAre, OwnersAre}
-use Rattle.distribute.specs.Distributions.{IsDistribution, DistributionValue, distribution_value}
-use Rattle.distribute.specs.declared.types.Distribution.{Distribution}
-use Rattle.distribute.specs.Laws.{SamePerms, SameOwners, SameOutcome, NumbersAreOne, OwnersAreOne, DistributionsAreOne}
+use Rattle.partition.specs.Parts.{Parts, Text, NumbersRefusal, OwnersRefusal}
+use Rattle.partition.specs.Judgements.{NumbersAre, OwnersAre}
+use Rattle.partition.specs.Distributions.{IsDistribution, DistributionValue, distribution_value}
+use Rattle.partition.specs.declared.distribute.types.Distribution.{Distribution}
+use Rattle.partition.specs.Laws.{SamePerms, SameOwners, SameOutcome, NumbersAreOne, OwnersAreOne, DistributionsAreOne}
 use Rattle.schedule_steps.specs.Outline.{Outline}
 use Rattle.schedule_steps.specs.declared.step.Step.{Step}
 use Rattle.schedule_steps.specs.Steps.{IsStep, Earlier}

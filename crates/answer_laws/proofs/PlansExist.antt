@@ -7,10 +7,10 @@ use Rattle.mesh_decl.specs.Mesh.{MeshValue, IsMesh}
 use Rattle.mesh_decl.specs.Owners.{AreOwners, ArePerms}
 use Rattle.partition.specs.declared.part_text.refusals.PartRefusal.TheVariants as part
 use Rattle.partition.specs.Reading.{Refuses}
-use Rattle.distribute.specs.Parts.{Parts, Block, Bisect, Grow, Text, NumbersRefusal, OwnersRefusal}
-use Rattle.distribute.specs.Judgements.{NumbersAre, OwnersAre}
-use Rattle.distribute.specs.declared.types.Distribution.{Distribution}
-use Rattle.distribute.specs.Distributions.{IsDistribution}
+use Rattle.partition.specs.Parts.{Parts, Block, Bisect, Grow, Text, NumbersRefusal, OwnersRefusal}
+use Rattle.partition.specs.Judgements.{NumbersAre, OwnersAre}
+use Rattle.partition.specs.declared.distribute.types.Distribution.{Distribution}
+use Rattle.partition.specs.Distributions.{IsDistribution}
 use Rattle.schedule_steps.specs.Outline.{Outline}
 use Rattle.schedule_steps.specs.declared.step.Step.{Step}
 use Rattle.bound_program.specs.Values.{BoundValue}

@@ -20,7 +20,7 @@ use Rattle.schedule_steps.specs.declared.text.refusals.ScheduleTextRefusal.{Sche
 use Rattle.schedule_steps.specs.declared.text.refusals.ScheduleTextRefusal.TheVariants as text
 use Rattle.step_judge.specs.declared.refusal.ScheduleRefusal.{ScheduleRefusal}
 use Rattle.step_judge.specs.declared.refusal.ScheduleRefusal.TheVariants as taking
-use Rattle.distribute.specs.Parts.{NumbersRefusal, UnknownMap, OwnersRefusal, NoDat, NoMap, Unspelled}
+use Rattle.partition.specs.Parts.{NumbersRefusal, UnknownMap, OwnersRefusal, NoDat, NoMap, Unspelled}
 use Rattle.command_words.specs.Refusal.{Refusal, status_of}
 use Rattle.answers.specs.Said.{SaysLex, SaysSource, SaysTypes, SaysTranslation, SaysMesh, SaysBinding, SaysNumbers, SaysPartition, SaysOwners, SaysSchedule, SaysStep, SaysEnd, SaysNext}
 

@@ -29,9 +29,9 @@ pub fn answers_agree()
     kernel_model::walk_finds();
     kernel_model::rules_are_broken();
     kernel_model::kernels_are_trees();
-    distribute::one_numbers();
-    distribute::one_owners();
-    distribute::one_distribution();
+    partition::distribute::one_numbers();
+    partition::distribute::one_owners();
+    partition::distribute::one_distribution();
     loop_plan::least_colours_are_one();
     loop_plan::one_plan();
     loop_plan::one_plan_text();

@@ -25,10 +25,10 @@ use Rattle.op_outside.specs.Outside.{Files}
 use Rattle.mesh_gen.specs.Sample.{sample_source, sample_mesh}
 use Rattle.mesh_decl.specs.declared.owners.Owners.{Owners}
 use Rattle.mesh_decl.specs.declared.owners.Perms.{Perms}
-use Rattle.distribute.specs.declared.types.Distribution.{Distribution}
-use Rattle.distribute.specs.Parts.{Parts, Text, NumbersRefusal, OwnersRefusal}
-use Rattle.distribute.specs.Judgements.{NumbersAre, OwnersAre}
-use Rattle.distribute.specs.Distributions.{IsDistribution}
+use Rattle.partition.specs.declared.distribute.types.Distribution.{Distribution}
+use Rattle.partition.specs.Parts.{Parts, Text, NumbersRefusal, OwnersRefusal}
+use Rattle.partition.specs.Judgements.{NumbersAre, OwnersAre}
+use Rattle.partition.specs.Distributions.{IsDistribution}
 use Rattle.local_mesh.specs.declared.types.RankMesh.{RankMesh}
 use Rattle.checkpoint.specs.Cut.{StateValue, CanCut, head, tail}
 use Rattle.checkpoint.specs.Reading.{Says, SaysNone}

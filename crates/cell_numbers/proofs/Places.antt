@@ -10,7 +10,7 @@ use Rattle.bound_program.specs.Values.{BoundValue, SiteValue, site_of, no_site}
 use Rattle.bound_program.specs.declared.sites.Site.{Site}
 use Rattle.bound_program.specs.Classes.{scatters}
 use Rattle.bound_program.specs.Fits.{site_at}
-use Rattle.distribute.specs.declared.types.Distribution.{Distribution}
+use Rattle.partition.specs.declared.distribute.types.Distribution.{Distribution}
 use Rattle.local_mesh.specs.Halo.{owns, has_copy, imports_execute, imports_nonexecute}
 use Rattle.local_mesh.specs.declared.types.RankMesh.{RankMesh}
 use Rattle.local_mesh.specs.declared.types.LocalSet.{LocalSet}

@@ -5,7 +5,7 @@ use Rattle.mesh_decl.specs.Mesh.{set_count, set_size}
 use Rattle.mesh_decl.specs.Owners.{owners_in, owner_of, AreOwners}
 use Rattle.bound_program.specs.Values.{BoundValue}
 use Rattle.bound_program.specs.Fits.{site_at}
-use Rattle.distribute.specs.declared.types.Distribution.{Distribution}
+use Rattle.partition.specs.declared.distribute.types.Distribution.{Distribution}
 use Rattle.loop_plan.specs.Values.{PlanValue}
 use Rattle.cell_numbers.specs.declared.types.Shown.{Shown}
 use Rattle.cell_numbers.specs.declared.types.Shown.TheVariants as shown

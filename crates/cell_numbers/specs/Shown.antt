@@ -5,8 +5,8 @@ use Rattle.mesh_decl.specs.Mesh.{set_size}
 use Rattle.mesh_decl.specs.Owners.{AreOwners, ArePerms}
 use Rattle.bound_program.specs.Values.{BoundValue}
 use Rattle.bound_program.specs.Fits.{site_at}
-use Rattle.distribute.specs.declared.types.Distribution.{Distribution}
-use Rattle.distribute.specs.Distributions.{IsDistribution}
+use Rattle.partition.specs.declared.distribute.types.Distribution.{Distribution}
+use Rattle.partition.specs.Distributions.{IsDistribution}
 use Rattle.loop_plan.specs.Values.{PlanValue}
 use Rattle.loop_plan.specs.Places.{runs_free}
 use Rattle.loop_plan.specs.Proper.{Proper}

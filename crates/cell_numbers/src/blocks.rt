@@ -12,7 +12,7 @@ ghost use Rattle.cell_numbers.specs.Shown.{IsOnRanks, IsFreeRun};
 
 use bound_program::{Bound, Item};
 use colouring::block_plan::block_of;
-use distribute::Distribution;
+use partition::distribute::Distribution;
 use loop_plan::{Plan, SitePlan};
 use op_num::OutOfMemory;
 use std::alloc::Global;

@@ -5,7 +5,7 @@ use Rattle.clap.specs.Walk.{Row, first_of}
 use Rattle.op_num.specs.Spelling.{number_of}
 use Rattle.mesh_decl.specs.declared.text.entry.Form.{Form}
 use Rattle.mesh_decl.specs.declared.text.entry.Form.TheVariants as form
-use Rattle.distribute.specs.Parts.{Parts, Block, Bisect, Grow}
+use Rattle.partition.specs.Parts.{Parts, Block, Bisect, Grow}
 use Rattle.command_words.specs.declared.limits.TheConstants.{MAX_RANKS, MAX_BLOCK, MAX_WORKERS}
 use Rattle.command_words.specs.Requests.{Parting, ByRule, ByFile, Schedule, Standard, Drawn, Written, Stretch, Whole, Before, From, Blocks, OfSize, AsPlanned, Options, ChainOptions}
 

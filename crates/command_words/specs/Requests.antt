@@ -1,7 +1,7 @@
 -- What words ask for, and the files that it names.
 use Rattle.std.specs.Prelude.{ℕ, Bool, nat_eq, List, [], ◌∷◌, ◌++◌, Option, if◌then◌else◌}
 use Rattle.mesh_decl.specs.declared.text.entry.Form.{Form}
-use Rattle.distribute.specs.Parts.{Parts}
+use Rattle.partition.specs.Parts.{Parts}
 use Rattle.command_words.specs.declared.limits.TheConstants.{MAX_GROUP}
 
 -- what is done with the plan of a program: its sizes are told, or its text or a schedule of it is written, or the program runs by it

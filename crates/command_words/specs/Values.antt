@@ -3,7 +3,7 @@ use Rattle.std.specs.Prelude.{◌≡◌, true, false, Result, Ok, Err, codes, op
 use Rattle.clap.specs.Walk.{Rule as ClapRule}
 use Rattle.clap.specs.declared.parser.matches.Found.{Found}
 use Rattle.clap.specs.Matches.{first_value}
-use Rattle.distribute.specs.Parts.{Parts, Block, Bisect, Grow, name_of}
+use Rattle.partition.specs.Parts.{Parts, Block, Bisect, Grow, name_of}
 use Rattle.command_words.specs.Refusal as answer
 use Rattle.command_words.specs.Words as words
 use Rattle.command_words.specs.Words.{is_set, OnPlan, OnChains, Converts, Translates, Restores, ShowsUsage, ShowsVersion}

@@ -6,7 +6,7 @@ ghost use Rattle.command_words.specs.Values.{options_in};
 
 use crate::limits::MAX_GROUP;
 use crate::sides::Side;
-use distribute::Parts;
+use partition::distribute::Parts;
 use mesh_decl::text::Form;
 
 /// What is done with a plan.
@@ -34,7 +34,7 @@ pub enum Rule<'a> {
 }
 
 impl<'a> Rule<'a> {
-    ghost use Rattle.distribute.specs.Parts.{parts_of, HasLines};
+    ghost use Rattle.partition.specs.Parts.{parts_of, HasLines};
     ghost use Rattle.command_words.specs.Values.{rule_in};
 
     /// How the rule gives them.

@@ -1,7 +1,7 @@
 // The options of a plan, and of a run by chains, from the values that the words have.
 
 ghost use Rattle.std.specs.Prelude.{◌≡◌, ◌<◌, ◌≤◌, option_map, IfSome};
-ghost use Rattle.distribute.specs.Parts.{name_of};
+ghost use Rattle.partition.specs.Parts.{name_of};
 ghost use Rattle.command_words.specs.Words.{number_to, number_or, is_unplanned, runs_nothing, behind, rule_of, parting_of};
 ghost use Rattle.command_words.specs.Words.{seed_of, schedule_of, blocks_of, item_of, stretch_of};
 ghost use Rattle.command_words.specs.Words.{options_of, chain_options_of, goes_to_the_end, is_whole, plans_itself, stops_at_an_item};

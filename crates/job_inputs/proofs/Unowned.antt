@@ -1,9 +1,9 @@
 -- The refusals of owners, and of the text that tells them.
 use Rattle.std.proofs.Common.{◌≡◌, ℕ, Err, refl, sym, subst}
-use Rattle.distribute.specs.Parts.{Parts, OwnersRefusal, NoDat, NoMap, Unspelled, UnownedWhere}
-use Rattle.distribute.specs.declared.types.OwnersRefusal.{OwnersRefusal as Unowned}
-use Rattle.distribute.specs.declared.types.OwnersRefusal.TheVariants as unowned
-use Rattle.distribute.specs.Judgements.{OwnersAre}
+use Rattle.partition.specs.Parts.{Parts, OwnersRefusal, NoDat, NoMap, Unspelled, UnownedWhere}
+use Rattle.partition.specs.declared.distribute.types.OwnersRefusal.{OwnersRefusal as Unowned}
+use Rattle.partition.specs.declared.distribute.types.OwnersRefusal.TheVariants as unowned
+use Rattle.partition.specs.Judgements.{OwnersAre}
 use Rattle.bound_program.specs.Values.{BoundValue}
 use Rattle.answers.specs.Said.{SaysOwners}
 use Rattle.answers.specs.Judgements.{OwnersOf}

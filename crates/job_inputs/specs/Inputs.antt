@@ -9,7 +9,7 @@ use Rattle.kernel_model.specs.View.{resolved_of}
 use Rattle.kernel_model.specs.Refusals.{Rule, number_of}
 use Rattle.name_resolution.specs.Programs.{Resolves}
 use Rattle.mesh_decl.specs.Spelling.{Named}
-use Rattle.distribute.specs.Parts.{Parts, Text}
+use Rattle.partition.specs.Parts.{Parts, Text}
 use Rattle.mesh_decl.specs.declared.decl.MapDecl.{MapDecl}
 use Rattle.bound_program.specs.Limits.{max_dim}
 use Rattle.bound_program.specs.Values.{BoundValue, bound_of}

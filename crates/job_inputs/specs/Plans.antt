@@ -3,7 +3,7 @@ use Rattle.std.specs.Prelude.{◌≡◌, Bool, false, List, Ok}
 use Rattle.op_outside.specs.Outside.{Files}
 use Rattle.mesh_decl.specs.declared.owners.Owners.{Owners}
 use Rattle.mesh_decl.specs.declared.owners.Perms.{Perms}
-use Rattle.distribute.specs.Parts.{Parts}
+use Rattle.partition.specs.Parts.{Parts}
 use Rattle.local_mesh.specs.declared.types.RankMesh.{RankMesh}
 use Rattle.bound_program.specs.Values.{BoundValue}
 use Rattle.loop_plan.specs.Values.{PlanValue}

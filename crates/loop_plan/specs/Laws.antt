@@ -5,10 +5,10 @@ use Rattle.mesh_decl.specs.declared.owners.Perms.{Perms}
 use Rattle.mesh_decl.specs.declared.decl.MapDecl.{MapDecl}
 use Rattle.mesh_decl.specs.Mesh.{MeshValue, IsMesh, map_count, map_targets}
 use Rattle.mesh_decl.specs.Owners.{AreOwners, ArePerms}
-use Rattle.distribute.specs.declared.types.Distribution.{Distribution}
-use Rattle.distribute.specs.Parts.{Parts, NumbersRefusal, OwnersRefusal}
-use Rattle.distribute.specs.Judgements.{NumbersAre, OwnersAre}
-use Rattle.distribute.specs.Distributions.{IsDistribution}
+use Rattle.partition.specs.declared.distribute.types.Distribution.{Distribution}
+use Rattle.partition.specs.Parts.{Parts, NumbersRefusal, OwnersRefusal}
+use Rattle.partition.specs.Judgements.{NumbersAre, OwnersAre}
+use Rattle.partition.specs.Distributions.{IsDistribution}
 use Rattle.local_mesh.specs.declared.types.RankMesh.{RankMesh}
 use Rattle.bound_program.specs.Values.{BoundValue}
 use Rattle.bound_program.specs.Limits.{max_dim}

@@ -1,7 +1,7 @@
 -- A bound program with its mesh on several ranks and its plan there.
 use Rattle.mesh_decl.specs.declared.owners.Perms.{Perms}
 use Rattle.local_mesh.specs.Halos.{AreHalos}
-use Rattle.distribute.specs.declared.types.Distribution.{Distribution}
+use Rattle.partition.specs.declared.distribute.types.Distribution.{Distribution}
 use Rattle.schedule_steps.specs.Outline.{Outline}
 use Rattle.bound_program.specs.declared.programs.Bound.{Bound}
 use Rattle.bound_program.specs.Values.{bound_of}

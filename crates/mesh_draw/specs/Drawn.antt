@@ -2,7 +2,7 @@
 use Rattle.std.specs.Prelude.{◌≡◌, ℕ, ◌<◌, ◌≤◌, ◌⊎◌, List, [], ◌++◌, Option, Some, None, length, slice_index, codes}
 use Rattle.mesh_decl.specs.Mesh.{MeshValue, map_from, dat_count, dat_set, dat_dim}
 use Rattle.bound_program.specs.Values.{BoundValue}
-use Rattle.distribute.specs.declared.types.Distribution.{Distribution}
+use Rattle.partition.specs.declared.distribute.types.Distribution.{Distribution}
 use Rattle.loop_plan.specs.Values.{PlanValue}
 use Rattle.cell_numbers.specs.declared.types.Shown.{Shown}
 use Rattle.cell_numbers.specs.declared.types.Shown.TheVariants as shown

@@ -13,6 +13,7 @@ ghost use Rattle.partition.specs.Grow.{IsGrown};
 mod axis;
 mod blocks;
 mod derived;
+pub mod distribute;
 mod elect;
 mod given;
 mod growth;

@@ -4,10 +4,10 @@ use Rattle.kernel_model.specs.declared.types.faults.KernelFault.{KernelFault}
 use Rattle.mesh_decl.specs.declared.owners.Owners.{Owners}
 use Rattle.mesh_decl.specs.declared.owners.Perms.{Perms}
 use Rattle.mesh_decl.specs.Owners.{ArePerms}
-use Rattle.distribute.specs.declared.types.Distribution.{Distribution}
-use Rattle.distribute.specs.Parts.{NumbersRefusal}
-use Rattle.distribute.specs.Judgements.{NumbersAre}
-use Rattle.distribute.specs.Distributions.{IsDistribution}
+use Rattle.partition.specs.declared.distribute.types.Distribution.{Distribution}
+use Rattle.partition.specs.Parts.{NumbersRefusal}
+use Rattle.partition.specs.Judgements.{NumbersAre}
+use Rattle.partition.specs.Distributions.{IsDistribution}
 use Rattle.local_mesh.specs.declared.types.RankMesh.{RankMesh}
 use Rattle.schedule_model.specs.Laws.{Lawful}
 use Rattle.schedule_model.specs.Sequential.{Seq, Stopped, Going}

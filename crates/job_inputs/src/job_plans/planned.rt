@@ -25,7 +25,7 @@ use crate::{numbers_of, owners_of, partition_of, plan_text_of};
 use bound_program::Bound;
 use command_words::answer_lines::Halt;
 use command_words::{Blocks, Options};
-use distribute::distribute;
+use partition::distribute::distribute;
 use loop_plan::planned_program::Planned;
 use mesh_decl::{Owners, Perms};
 use op_outside::Shelf;

@@ -8,8 +8,8 @@ use Rattle.mesh_decl.proofs.Declared.{sizes_fit}
 use Rattle.local_mesh.specs.Halo.{executes, has_copy}
 use Rattle.local_mesh.specs.declared.types.RankMesh.{RankMesh}
 use Rattle.local_mesh.specs.LocalMesh.{IsRankMesh, AreRankMeshes}
-use Rattle.distribute.specs.declared.types.Distribution.{Distribution}
-use Rattle.distribute.specs.Distributions.{IsDistribution}
+use Rattle.partition.specs.declared.distribute.types.Distribution.{Distribution}
+use Rattle.partition.specs.Distributions.{IsDistribution}
 use Rattle.loop_plan.specs.Laws.{FitsMemory}
 use Rattle.loop_plan.proofs.plan_exists.Built.{table, length_table, table_at, vec_of, items_are}
 use Rattle.loop_plan.proofs.plan_exists.SetHalos.{halos_of, are_halos}

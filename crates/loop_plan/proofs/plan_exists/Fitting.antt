@@ -5,8 +5,8 @@ use Rattle.mesh_decl.specs.declared.owners.Perms.{Perms}
 use Rattle.mesh_decl.specs.Mesh.{MeshValue}
 use Rattle.mesh_decl.specs.Owners.{AreOwners, ArePerms}
 use Rattle.partition.proofs.part_text.Owned as text
-use Rattle.distribute.specs.Parts.{Parts, Block, Bisect, Grow, Text}
-use Rattle.distribute.specs.Judgements.{NumbersAre, OwnersAre}
+use Rattle.partition.specs.Parts.{Parts, Block, Bisect, Grow, Text}
+use Rattle.partition.specs.Judgements.{NumbersAre, OwnersAre}
 
 pub owners_fit : (g : MeshValue) (ranks : ℕ) (parts : Parts) (o : Owners) → 0 < ranks → ranks ≤ 64 → OwnersAre g ranks parts (Ok o) → (o.ranks ≡ ranks) × AreOwners g o
 owners_fit g ranks Block o some few h = (h.count, h.owners)

@@ -13,8 +13,8 @@ use Rattle.renumber.specs.CuthillMcKee.{target_key, IsByTargets, IsSetOrder, IsC
 use Rattle.renumber.proofs.Kept.{kept_numbers}
 use Rattle.renumber.proofs.Numbering.{numbering_from}
 use Rattle.renumber.proofs.Reversed.{reversed_numbering}
-use Rattle.distribute.specs.Parts.{NumbersRefusal, UnknownMap}
-use Rattle.distribute.specs.Judgements.{NumbersAre}
+use Rattle.partition.specs.Parts.{NumbersRefusal, UnknownMap}
+use Rattle.partition.specs.Judgements.{NumbersAre}
 use Rattle.loop_plan.proofs.plan_exists.Built.{table, length_table, table_at, vec_of, items_are}
 use Rattle.loop_plan.proofs.plan_exists.Found.{found, found_at}
 use Rattle.loop_plan.proofs.plan_exists.Named.{some_named}

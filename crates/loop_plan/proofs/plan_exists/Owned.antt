@@ -10,8 +10,8 @@ use Rattle.partition.specs.Spelling.{Table, Given, no_ranks, AreSets, Spells}
 use Rattle.partition.specs.Reading.{Read, Reads}
 use Rattle.partition.specs.Grow.{IsGrown}
 use Rattle.partition.specs.Bisect.{IsBisected}
-use Rattle.distribute.specs.Parts.{Parts, Block, Bisect, Grow, Text, OwnersRefusal, NoDat, NoMap, Unspelled}
-use Rattle.distribute.specs.Judgements.{AreBisected, AreGrown, OwnersAre}
+use Rattle.partition.specs.Parts.{Parts, Block, Bisect, Grow, Text, OwnersRefusal, NoDat, NoMap, Unspelled}
+use Rattle.partition.specs.Judgements.{AreBisected, AreGrown, OwnersAre}
 use Rattle.loop_plan.proofs.plan_exists.Built.{vec_of, items_are}
 use Rattle.loop_plan.proofs.plan_exists.Named.{some_named}
 use Rattle.loop_plan.proofs.plan_exists.Blocks.{some_blocks}

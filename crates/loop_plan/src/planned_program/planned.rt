@@ -2,7 +2,7 @@
 
 use crate::Plan;
 use bound_program::Bound;
-use distribute::Distribution;
+use partition::distribute::Distribution;
 use std::marker::Model;
 
 /// A bound program with its mesh on several ranks and its plan there. In every one the program is as binding leaves it,

@@ -1,5 +1,5 @@
 use Rattle.bound_program.specs.Values.{bound_of}
-use Rattle.distribute.specs.Parts.{parts_of}
+use Rattle.partition.specs.Parts.{parts_of}
 use Rattle.job_inputs.proofs.Unowned.{unowned_refuses}
 use Rattle.job_inputs.proofs.owners.owners_by_rule.Goals as goal
 

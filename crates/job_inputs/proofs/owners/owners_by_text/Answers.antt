@@ -1,5 +1,5 @@
 use Rattle.bound_program.specs.Values.{bound_of}
-use Rattle.distribute.specs.Parts.{Text, Unspelled}
+use Rattle.partition.specs.Parts.{Text, Unspelled}
 use Rattle.job_inputs.proofs.Unowned.{owners_refused_by}
 use Rattle.job_inputs.proofs.owners.owners_by_text.Goals as goal
 

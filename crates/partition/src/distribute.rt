@@ -3,8 +3,6 @@
 //!
 //! Names are those of the mesh's dats and maps, and mean the first of the name. Each judgement is a relation in
 //! `specs/Judgements.antt`, and laws say that it comes to one outcome.
-#![tactic(auto)]
-
 mod distribution;
 mod laws;
 mod numbers;
@@ -15,5 +13,5 @@ pub use distribution::distribute;
 pub use laws::{one_distribution, one_numbers, one_owners};
 pub use numbers::numbers_by;
 pub use owners::owners_by;
-pub use partition::part_text::PartRefusal;
+pub use crate::part_text::PartRefusal;
 pub use types::{Distribution, NumbersRefusal, OwnersRefusal, Parts};

@@ -1,9 +1,9 @@
 // A mesh on several ranks.
 ghost use Rattle.std.specs.Prelude.{IfOk};
 ghost use Rattle.mesh_decl.specs.Owners.{AreOwners, ArePerms};
-ghost use Rattle.distribute.specs.Distributions.{IsDistribution};
+ghost use Rattle.partition.specs.Distributions.{IsDistribution};
 
-use crate::types::Distribution;
+use crate::distribute::types::Distribution;
 use local_mesh::halo_lists::halos;
 use local_mesh::localise;
 use mesh_decl::{Mesh, Owners, Perms};

@@ -7,7 +7,7 @@ use Rattle.local_mesh.specs.Halos.{AreHalos}
 use Rattle.local_mesh.specs.HaloValues.{HalosValue, halos_value}
 use Rattle.local_mesh.specs.LocalMesh.{AreRankMeshes}
 use Rattle.local_mesh.specs.Values.{RankMeshValue, rank_mesh_value}
-use Rattle.distribute.specs.declared.types.Distribution.{Distribution}
+use Rattle.partition.specs.declared.distribute.types.Distribution.{Distribution}
 
 -- the owners, with their halos and the local mesh of each rank by new numbers
 pub record IsDistribution (g : MeshValue) (o : Owners) (p : Perms) (d : Distribution) : Type 0 where

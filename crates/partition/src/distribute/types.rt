@@ -2,7 +2,7 @@
 use local_mesh::RankMesh;
 use local_mesh::halo_lists::Halos;
 use mesh_decl::Owners;
-use partition::part_text::PartRefusal;
+use crate::part_text::PartRefusal;
 use std::alloc::AllocError;
 
 /// How the elements of a mesh are given to ranks.
@@ -51,7 +51,7 @@ pub struct Distribution {
 
 impl<'a> From<AllocError> for NumbersRefusal<'a> {
     ghost use Rattle.std.specs.Prelude.{◌≡◌};
-    ghost use Rattle.distribute.specs.declared.types.NumbersRefusal.TheVariants.{OutOfMemory};
+    ghost use Rattle.partition.specs.declared.distribute.types.NumbersRefusal.TheVariants.{OutOfMemory};
 
     ghost from_gives = { λ _ e. e ≡ OutOfMemory };
 
@@ -62,7 +62,7 @@ impl<'a> From<AllocError> for NumbersRefusal<'a> {
 
 impl<'a> From<AllocError> for OwnersRefusal<'a> {
     ghost use Rattle.std.specs.Prelude.{◌≡◌};
-    ghost use Rattle.distribute.specs.declared.types.OwnersRefusal.TheVariants.{OutOfMemory};
+    ghost use Rattle.partition.specs.declared.distribute.types.OwnersRefusal.TheVariants.{OutOfMemory};
 
     ghost from_gives = { λ _ e. e ≡ OutOfMemory };
 

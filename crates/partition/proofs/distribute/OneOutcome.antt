@@ -15,9 +15,9 @@ use Rattle.partition.specs.OneDerived.{IsOneBlocks, IsOneDerived}
 use Rattle.partition.specs.OneOwner.{IsOneGrowth, IsOneBisection}
 use Rattle.renumber.specs.CuthillMcKee.{IsCuthillMcKee}
 use Rattle.renumber.specs.OneNumbering.{IsOneIdentity, IsOneCuthillMcKee}
-use Rattle.distribute.specs.Parts.{Parts, Block, Bisect, Grow, Text, NumbersRefusal, OwnersRefusal, Unspelled}
-use Rattle.distribute.specs.Judgements.{NumbersAre, AreBisected, AreGrown, OwnersAre}
-use Rattle.distribute.specs.Laws.{SamePerms, SameOwners, SameOutcome}
+use Rattle.partition.specs.Parts.{Parts, Block, Bisect, Grow, Text, NumbersRefusal, OwnersRefusal, Unspelled}
+use Rattle.partition.specs.Judgements.{NumbersAre, AreBisected, AreGrown, OwnersAre}
+use Rattle.partition.specs.Laws.{SamePerms, SameOwners, SameOutcome}
 
 -- the first of a name is one
 pub one_first : NamesOne → (n : ℕ) (name_of : ℕ → List ℕ) (name : List ℕ) (j k : ℕ) → Names n name_of name (Some j) → Names n name_of name (Some k) → j ≡ k

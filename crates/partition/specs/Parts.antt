@@ -2,12 +2,12 @@
 use Rattle.std.specs.Prelude.{◌≡◌, ℕ, ◌+◌, ◌^◌, ◌<◌, List, length, Option, Some, None, Result, Ok, Err}
 use Rattle.std.specs.Borrow.{Bor}
 use Rattle.partition.specs.declared.part_text.refusals.PartRefusal.{PartRefusal}
-use Rattle.distribute.specs.declared.types.Parts.{Parts as Given}
-use Rattle.distribute.specs.declared.types.Parts.TheVariants as given
-use Rattle.distribute.specs.declared.types.NumbersRefusal.{NumbersRefusal as Unnumbered}
-use Rattle.distribute.specs.declared.types.NumbersRefusal.TheVariants as unnumbered
-use Rattle.distribute.specs.declared.types.OwnersRefusal.{OwnersRefusal as Unowned}
-use Rattle.distribute.specs.declared.types.OwnersRefusal.TheVariants as unowned
+use Rattle.partition.specs.declared.distribute.types.Parts.{Parts as Given}
+use Rattle.partition.specs.declared.distribute.types.Parts.TheVariants as given
+use Rattle.partition.specs.declared.distribute.types.NumbersRefusal.{NumbersRefusal as Unnumbered}
+use Rattle.partition.specs.declared.distribute.types.NumbersRefusal.TheVariants as unnumbered
+use Rattle.partition.specs.declared.distribute.types.OwnersRefusal.{OwnersRefusal as Unowned}
+use Rattle.partition.specs.declared.distribute.types.OwnersRefusal.TheVariants as unowned
 
 -- by blocks; by cuts along the values of a dat; by growth over the neighbours by a map; as a text says
 pub data Parts : Type 0 where

@@ -1,10 +1,10 @@
 // New numbers, as they are asked for.
 ghost use Rattle.std.specs.Prelude.{Ok, Err, IfOk, IfErr};
 ghost use Rattle.mesh_decl.specs.Owners.{ArePerms};
-ghost use Rattle.distribute.specs.Parts.{NumbersRefusal as Refusal, name_of, UnnumberedWhere, IsUnnumbered};
-ghost use Rattle.distribute.specs.Judgements.{NumbersAre};
+ghost use Rattle.partition.specs.Parts.{NumbersRefusal as Refusal, name_of, UnnumberedWhere, IsUnnumbered};
+ghost use Rattle.partition.specs.Judgements.{NumbersAre};
 
-use crate::types::NumbersRefusal;
+use crate::distribute::types::NumbersRefusal;
 use mesh_decl::{Mesh, Perms};
 use renumber::{cuthill_mckee, identity};
 use std::alloc::Global;

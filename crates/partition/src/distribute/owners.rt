@@ -1,13 +1,13 @@
 // Owners, as they are asked for.
 ghost use Rattle.std.specs.Prelude.{◌+◌, ◌^◌, ◌<◌, ◌≤◌, length, Ok, Err, IfOk, IfErr};
 ghost use Rattle.mesh_decl.specs.Owners.{AreOwners};
-ghost use Rattle.distribute.specs.Parts.{Bisect, Grow, Text, OwnersRefusal as Refusal, parts_of, HasLines, UnownedWhere, IsUnowned};
-ghost use Rattle.distribute.specs.Judgements.{OwnersAre};
+ghost use Rattle.partition.specs.Parts.{Bisect, Grow, Text, OwnersRefusal as Refusal, parts_of, HasLines, UnownedWhere, IsUnowned};
+ghost use Rattle.partition.specs.Judgements.{OwnersAre};
 
-use crate::types::{OwnersRefusal, Parts};
+use crate::distribute::types::{OwnersRefusal, Parts};
 use mesh_decl::{Mesh, Owners};
-use partition::part_text::{PartRefusal, read_partition};
-use partition::{bisect, block, grow};
+use crate::part_text::{PartRefusal, read_partition};
+use crate::{bisect, block, grow};
 use std::alloc::Global;
 
 // Owners by the first dat of this name.

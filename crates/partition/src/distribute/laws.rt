@@ -1,11 +1,11 @@
 // That what is asked for comes to one outcome.
-ghost use Rattle.distribute.specs.Laws.{NumbersAreOne, OwnersAreOne, DistributionsAreOne};
+ghost use Rattle.partition.specs.Laws.{NumbersAreOne, OwnersAreOne, DistributionsAreOne};
 
 use local_mesh::halo_lists::one_halos;
 use local_mesh::one_rank_meshes;
 use mesh_decl::one_named;
-use partition::part_text::one_outcome;
-use partition::{one_bisection, one_derived, one_growth};
+use crate::part_text::one_outcome;
+use crate::{one_bisection, one_derived, one_growth};
 use renumber::one_numbering;
 
 /// New numbers come to one outcome.

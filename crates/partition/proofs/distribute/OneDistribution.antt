@@ -8,10 +8,10 @@ use Rattle.local_mesh.specs.declared.halo_lists.types.Halos.{Halos}
 use Rattle.local_mesh.specs.Halos.{AreHalos}
 use Rattle.local_mesh.specs.HaloValues.{halos_value}
 use Rattle.local_mesh.specs.Values.{rank_mesh_value, AreOne}
-use Rattle.distribute.specs.declared.types.Distribution.{Distribution}
-use Rattle.distribute.specs.Distributions.{IsDistribution, distribution_value}
-use Rattle.distribute.specs.Laws.{SameOwners, SamePerms}
-use Rattle.distribute.proofs.Alike.{halos_alike, rank_meshes_alike}
+use Rattle.partition.specs.declared.distribute.types.Distribution.{Distribution}
+use Rattle.partition.specs.Distributions.{IsDistribution, distribution_value}
+use Rattle.partition.specs.Laws.{SameOwners, SamePerms}
+use Rattle.partition.proofs.distribute.Alike.{halos_alike, rank_meshes_alike}
 
 -- a law of the halos
 abbrev OneHalos : Type 0

@@ -4,10 +4,10 @@ use Rattle.mesh_decl.specs.declared.owners.Owners.{Owners}
 use Rattle.mesh_decl.specs.declared.owners.Perms.{Perms}
 use Rattle.mesh_decl.specs.Mesh.{MeshValue, IsMesh}
 use Rattle.mesh_decl.specs.Owners.{ArePerms}
-use Rattle.distribute.specs.declared.types.Distribution.{Distribution}
-use Rattle.distribute.specs.Parts.{Parts, NumbersRefusal, OwnersRefusal}
-use Rattle.distribute.specs.Judgements.{NumbersAre, OwnersAre}
-use Rattle.distribute.specs.Distributions.{IsDistribution, distribution_value}
+use Rattle.partition.specs.declared.distribute.types.Distribution.{Distribution}
+use Rattle.partition.specs.Parts.{Parts, NumbersRefusal, OwnersRefusal}
+use Rattle.partition.specs.Judgements.{NumbersAre, OwnersAre}
+use Rattle.partition.specs.Distributions.{IsDistribution, distribution_value}
 
 -- the same new numbers, wherever they lie in memory
 abbrev pub SamePerms : Perms → Perms → Type 0

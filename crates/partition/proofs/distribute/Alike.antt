@@ -15,7 +15,7 @@ use Rattle.local_mesh.specs.declared.types.RankMesh.{RankMesh}
 use Rattle.local_mesh.specs.Local.{earlier, AreInverse}
 use Rattle.local_mesh.specs.Parts.{by_new}
 use Rattle.local_mesh.specs.LocalMesh.{IsLocalSet, IsRankMesh, AreRankMeshes}
-use Rattle.distribute.specs.Laws.{SameOwners, SamePerms}
+use Rattle.partition.specs.Laws.{SameOwners, SamePerms}
 
 module _ (g : MeshValue) (o u : Owners) (same : SameOwners o u) where
   owner_same : owner_of o ≡ owner_of u

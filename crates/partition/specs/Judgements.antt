@@ -15,7 +15,7 @@ use Rattle.partition.specs.Derive.{AreDerived}
 use Rattle.partition.specs.Grow.{IsGrown}
 use Rattle.renumber.specs.Identity.{IsIdentity}
 use Rattle.renumber.specs.CuthillMcKee.{IsCuthillMcKee}
-use Rattle.distribute.specs.Parts.{Parts, Block, Bisect, Grow, Text, NumbersRefusal, UnknownMap, OwnersRefusal, NoDat, NoMap, Unspelled}
+use Rattle.partition.specs.Parts.{Parts, Block, Bisect, Grow, Text, NumbersRefusal, UnknownMap, OwnersRefusal, NoDat, NoMap, Unspelled}
 
 -- New numbers: each number is kept, or those of Cuthill and McKee by the first map of a name.
 abbrev pub NumbersAre : MeshValue → Option (List ℕ) → Result Perms NumbersRefusal → Type 0

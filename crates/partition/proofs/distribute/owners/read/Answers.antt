@@ -1,7 +1,7 @@
 use Rattle.std.proofs.Common.{◌≡◌, ⊎_elim, sym, ap, ◌∙◌, rules, arith}
 use Rattle.partition.specs.declared.part_text.refusals.PartRefusal.TheVariants.{OutOfMemory}
-use Rattle.distribute.specs.Parts.{Unspelled}
-use Rattle.distribute.proofs.owners.read.Goals as goal
+use Rattle.partition.specs.Parts.{Unspelled}
+use Rattle.partition.proofs.distribute.owners.read.Goals as goal
 
 pub returns-in-Ok-clause-refuses : goal.returns-in-Ok-clause-refuses
 returns-in-Ok-clause-refuses c = λ r w. c.in-Ok.ensures.refuses w.0 w.1

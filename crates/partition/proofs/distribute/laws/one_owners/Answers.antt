@@ -1,6 +1,6 @@
 use Rattle.mesh_decl.proofs.Declared.{dat_at, in_range}
-use Rattle.distribute.proofs.OneOutcome.{one_owners}
-use Rattle.distribute.proofs.laws.one_owners.Goals as goal
+use Rattle.partition.proofs.distribute.OneOutcome.{one_owners}
+use Rattle.partition.proofs.distribute.laws.one_owners.Goals as goal
 
 pub returns : goal.returns
 returns c = λ g ranks parts a b mesh some h k.

@@ -1,4 +1,0 @@
-pub mod Parts
-pub mod Judgements
-pub mod Distributions
-pub mod Laws
