@@ -4,3 +4,4 @@ pub mod Answers
 pub mod Laws
 pub mod Endings
 pub mod Restarts
+pub mod OnCells

@@ -4,3 +4,4 @@
 #![tactic(auto)]
 
 pub mod answer_writing;
+pub mod laws;

@@ -19,7 +19,7 @@ ghost use Rattle.job_inputs.specs.Chains.{AnswersFrom};
 
 use crate::faults::put_fault;
 use crate::ranges::starts_in_range;
-use answer_laws::runs_answer_on_cells;
+use answers::laws::runs_answer_on_cells;
 use bound_program::Bound;
 use chain_needs::chain_slices::slices;
 use command_words::answer_lines::{Answer, Halt};

@@ -13,7 +13,7 @@ ghost use Rattle.command_words.specs.Halts.{answer_of};
 use crate::faults::put_fault;
 use crate::plan_task::PlanTask;
 use crate::ranges::starts_in_range;
-use answer_laws::runs_answer_on_cells;
+use answers::laws::runs_answer_on_cells;
 use command_words::answer_lines::Answer;
 use loop_plan::planned_program::Planned;
 use op_num::OutOfMemory;

@@ -5,7 +5,7 @@ ghost use Rattle.command_words.specs.Words.{named_by};
 ghost use Rattle.op2_command.specs.Writes.{EndsAsDefined};
 
 use crate::answered::answer_to;
-use answer_laws::{
+use answers::laws::{
     calls_are_complete, calls_report_their_answers, calls_show_their_answers, others_write_nothing,
     unread_files_are_named, usage_is_of_words,
 };
