@@ -1,6 +1,6 @@
 -- An occurrence as an event keeps its argument, its index and its place.
 use Rattle.std.proofs.Common.{◌≡◌, ℕ, ℤ, Option, Bool, refl, ap, ◌∙◌}
-use Rattle.c_lex.specs.declared.tokens.Pos.{Pos}
+use Rattle.c_tree.specs.declared.lexer.tokens.Pos.{Pos}
 use Rattle.kernel_model.specs.Refusals.{argument_of, index_of, place_of, Rule}
 use Rattle.access_check.specs.declared.uses.Use.{Use}
 use Rattle.access_check.specs.declared.uses.Use.TheVariants as used

@@ -1,8 +1,8 @@
 -- The breach that counts doesn't turn on the order in which breaches are found.
 use Rattle.std.proofs.Common.{◌≡◌, ℕ, ◌<◌, ◌≤◌, Option, Some, None, Bool, true, cond, refl, sym, ap, ◌∙◌, subst, ◌⊎◌, inl, inr, ⊎_elim, arith}
 use Rattle.std.specs.Prelude.{nat_eq}
-use Rattle.c_lex.specs.declared.tokens.Pos.{Pos}
-use Rattle.c_lex.specs.Order.{IsEarlier}
+use Rattle.c_tree.specs.declared.lexer.tokens.Pos.{Pos}
+use Rattle.c_tree.specs.Order.{IsEarlier}
 use Rattle.kernel_model.specs.Refusals.{Rule, WritesRead, ReadsInc, IncNotSum, ReadsUnwritten, NotAllWritten, WriteIndexNotStatic, LiteralIndexOut, MinMaxForm, number_of}
 use Rattle.kernel_model.specs.Walk.{Breach, noted_if}
 use Rattle.kernel_model.proofs.Firsts.{Counts, IsFirst, first_iff, OrIf, noted_if_first}

@@ -1,7 +1,7 @@
 -- What one turn of a for finds, a second turn doesn't add to, where it starts with more components covered.
 use Rattle.std.proofs.Common.{◌≡◌, ℕ, zero, suc, ℤ, pos, negsuc, ◌-◌, List, Option, Some, None, Bool, true, false, ◌&&◌, ◌||◌, refl, sym, ap, ◌∙◌}
 use Rattle.std.specs.Prelude.{nat_lt}
-use Rattle.c_lex.specs.declared.tokens.Pos.{Pos}
+use Rattle.c_tree.specs.declared.lexer.tokens.Pos.{Pos}
 use Rattle.op_num.specs.Access.{Access}
 use Rattle.c_tree.specs.declared.expressions.MinMax.{MinMax}
 use Rattle.kernel_model.specs.declared.types.expressions.RExpr.{RExpr}

@@ -1,7 +1,7 @@
 -- Static values along chains of binary operators: one node further down, and back up.
 use Rattle.std.proofs.Common.{◌≡◌, ◌≢◌, ℕ, zero, suc, ℤ, pos, ◌+◌, ◌-◌, ◌<◌, ◌≤◌, List, length, map, set, get_or, Option, refl, sym, ap, ◌∙◌, subst, arith, add-one, get_or-set_other, get_or-set_same, below_more, Box, Global}
 use Rattle.std.proofs.lemmas.List.{map-set, length-map, get_or-map}
-use Rattle.c_lex.specs.declared.tokens.Pos.{Pos}
+use Rattle.c_tree.specs.declared.lexer.tokens.Pos.{Pos}
 use Rattle.c_tree.specs.declared.expressions.BinaryOp.{BinaryOp}
 use Rattle.kernel_model.specs.declared.types.expressions.RExpr.{RExpr, Binary}
 use Rattle.kernel_model.specs.declared.types.expressions.RExpr.TheVariants.{Number}

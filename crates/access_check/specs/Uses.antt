@@ -1,6 +1,6 @@
 -- Occurrences of arguments as events.
 use Rattle.std.specs.Prelude.{ℕ, ℤ, Option}
-use Rattle.c_lex.specs.declared.tokens.Pos.{Pos}
+use Rattle.c_tree.specs.declared.lexer.tokens.Pos.{Pos}
 use Rattle.kernel_model.specs.Obeys.{Event, Reads, Assigns, Adds, Changes, Owns, Merges}
 use Rattle.access_check.specs.declared.uses.Use.{Use}
 use Rattle.access_check.specs.declared.uses.Use.TheVariants as used

@@ -1,7 +1,7 @@
 // Assignments of the form `P = MIN(P, e)` and `P = MAX(P, e)`, with P on either side.
 
 ghost use Rattle.std.specs.Prelude.{◌≡◌, ℕ, ℤ, Option};
-ghost use Rattle.c_lex.specs.declared.tokens.Pos.{Pos};
+ghost use Rattle.c_tree.specs.declared.lexer.tokens.Pos.{Pos};
 ghost use Rattle.kernel_model.specs.Obeys.{is_place, own_side, target_event};
 ghost use Rattle.access_check.specs.Sides.{own_of};
 ghost use Rattle.access_check.specs.Uses.{use_event};

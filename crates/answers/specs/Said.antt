@@ -1,7 +1,7 @@
 -- What the refusals of the parts are as those of the program. Want of memory is none.
 use Rattle.std.specs.Prelude.{◌≡◌, ℕ, suc, List, [], ◌∷◌, slice_index_or}
-use Rattle.c_lex.specs.declared.refusals.LexRefusal.{LexRefusal}
-use Rattle.c_lex.specs.declared.refusals.LexRefusal.TheVariants as lex
+use Rattle.c_tree.specs.declared.lexer.refusals.LexRefusal.{LexRefusal}
+use Rattle.c_tree.specs.declared.lexer.refusals.LexRefusal.TheVariants as lex
 use Rattle.c_tree.specs.Tree as tree
 use Rattle.c_tree.specs.Tree.{HostTrees, NoHost, MoreHost, HostCall, ProgramTree}
 use Rattle.c_tree.specs.declared.refusals.SourceRefusal.{SourceRefusal}

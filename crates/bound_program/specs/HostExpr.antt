@@ -3,7 +3,7 @@
 -- whose value is told when `main` is unrolled, the k-th of these: a counter, or a `const` name of a block. `main` has no parameters and
 -- reads no arrays of constants.
 use Rattle.std.specs.Prelude.{◌≡◌, ℕ, ℤ, pos, ◌+◌, Bool, true, false, ◌&&◌, cond, List, Ok, slice_index_or}
-use Rattle.c_lex.specs.declared.tokens.Pos.{Pos}
+use Rattle.c_tree.specs.declared.lexer.tokens.Pos.{Pos}
 use Rattle.kernel_model.specs.declared.types.expressions.RExpr.{RExpr}
 use Rattle.kernel_model.specs.View.{RExprTree, Number, Scalar, Constant, Arg, Local, Const, Unary, Binary, Choice, Paren, Extremum, Absolute, rexpr_of}
 use Rattle.kernel_model.specs.Numbers.{Value, truth, is_zero, apply, apply_unary, is_settled, extremum, magnitude, not}

@@ -1,6 +1,6 @@
 -- What is wrong with a statement, and which of it counts: the least place, and there the lowest number.
 use Rattle.std.specs.Prelude.{◌≡◌, ◌⊎◌, ℕ, slice_index_or, Bool, true, false, ◌&&◌, ◌||◌, List, [], ◌∷◌, ◌++◌, All, Option, Some, None, Result, Ok, Err, nat_lt, nat_eq, if◌then◌else◌, IfSome, IfNone}
-use Rattle.c_lex.specs.declared.tokens.Pos.{Pos}
+use Rattle.c_tree.specs.declared.lexer.tokens.Pos.{Pos}
 use Rattle.bound_program.specs.declared.refusals.refusals.BindRefusal.{BindRefusal}
 use Rattle.bound_program.specs.declared.refusals.refusals.BindRefusal.TheVariants.{UnknownSet, UnknownMap, UnknownDat, UnknownKernel, ArgCount, DimMismatch, TypeMismatch, SetMismatch, IndexRange, MapTarget, GlobalTwice, ReservedAccess, ControlNotStatic, TraceTooLong, Limit, DeclarationPlace, UnknownEntry, OutOfMemory}
 use Rattle.bound_program.specs.declared.refusals.refusals.Counted.{Counted}

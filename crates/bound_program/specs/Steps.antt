@@ -1,6 +1,6 @@
 -- What is left of `main` when its names are numbers: the statements that are unrolled.
 use Rattle.std.specs.Prelude.{ℕ, Option}
-use Rattle.c_lex.specs.declared.tokens.Pos.{Pos}
+use Rattle.c_tree.specs.declared.lexer.tokens.Pos.{Pos}
 use Rattle.kernel_model.specs.View.{RExprTree}
 use Rattle.bound_program.specs.Values.{ActValue}
 

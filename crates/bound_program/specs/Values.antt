@@ -1,6 +1,6 @@
 -- Bound programs without where they lie in memory.
 use Rattle.std.specs.Prelude.{ℕ, ℤ, Bool, false, List, [], map, Option, None, option_map}
-use Rattle.c_lex.specs.declared.tokens.Pos.{Pos}
+use Rattle.c_tree.specs.declared.lexer.tokens.Pos.{Pos}
 use Rattle.c_tree.specs.declared.declarations.AssignOp.{AssignOp}
 use Rattle.kernel_model.specs.declared.types.kernels.RKernel.{RKernel}
 use Rattle.mesh_decl.specs.Mesh.{MeshValue}

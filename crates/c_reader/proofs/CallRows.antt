@@ -1,9 +1,9 @@
 -- Calls are read exactly as they are printed.
 use Rattle.std.proofs.Common.{◌≡◌, ℕ, suc, ◌+◌, ◌≤◌, false, List, [], ◌∷◌, ◌++◌, length, Some, None, Ok, Err, refl, sym, ap, subst, ◌∙◌, arith, slice_get, nat_lt, zero-le, length-append}
-use Rattle.c_lex.specs.declared.tokens.Kind.{Kind}
-use Rattle.c_lex.specs.declared.tokens.Kind.TheVariants as kind
-use Rattle.c_lex.specs.declared.tokens.Sign.TheVariants as sg
-use Rattle.c_lex.specs.declared.tokens.Word.TheVariants as wd
+use Rattle.c_tree.specs.declared.lexer.tokens.Kind.{Kind}
+use Rattle.c_tree.specs.declared.lexer.tokens.Kind.TheVariants as kind
+use Rattle.c_tree.specs.declared.lexer.tokens.Sign.TheVariants as sg
+use Rattle.c_tree.specs.declared.lexer.tokens.Word.TheVariants as wd
 use Rattle.c_tree.specs.Tree.{ExprTree, OpCallTree, CallInit, DeclSet, DeclMap, DeclDat, DeclConst, ParLoop, Printf, PrintDat}
 use Rattle.c_tree.specs.Print.{Mark, sign_at as sign_mark, expr, values, call}
 use Rattle.c_tree.specs.Grouped.{IsGrouped, AllGrouped, IsCall}

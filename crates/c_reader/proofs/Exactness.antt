@@ -1,17 +1,17 @@
 -- Readers that answer exactly what is printed.
 use Rattle.std.proofs.Common.{◌≡◌, ℕ, suc, ◌+◌, ◌≤◌, Bool, true, false, cond, List, [], ◌∷◌, ◌++◌, length, Option, Some, None, Result, Ok, Err, refl, sym, ap, subst, ◌∙◌, arith, slice_get, nat_lt, zero-le, length-append}
-use Rattle.c_lex.specs.declared.tokens.Kind.{Kind}
-use Rattle.c_lex.specs.declared.tokens.Kind.TheVariants as kind
-use Rattle.c_lex.specs.declared.tokens.Sign.{Sign}
-use Rattle.c_lex.specs.declared.tokens.Word.{Word}
-use Rattle.c_lex.specs.contracts.tokens.Word as the_word
+use Rattle.c_tree.specs.declared.lexer.tokens.Kind.{Kind}
+use Rattle.c_tree.specs.declared.lexer.tokens.Kind.TheVariants as kind
+use Rattle.c_tree.specs.declared.lexer.tokens.Sign.{Sign}
+use Rattle.c_tree.specs.declared.lexer.tokens.Word.{Word}
+use Rattle.c_tree.specs.contracts.lexer.tokens.Word as the_word
 use Rattle.c_tree.specs.declared.expressions.Ident.{Ident}
 use Rattle.c_tree.specs.declared.expressions.NumberLiteral.{NumberLiteral}
 use Rattle.c_tree.specs.declared.expressions.TextLiteral.{TextLiteral}
 use Rattle.c_tree.specs.Tree.{ExprTree}
 use Rattle.c_tree.specs.Print.{Mark, sign_at as sign_mark, word_at as word_mark, named_sign, named_word, ident as ident_mark, figure, label, expr, chain_of, operator_level}
 use Rattle.c_tree.specs.Signs.{sign_of}
-use Rattle.c_lex.specs.declared.tokens.Sign.TheVariants as s
+use Rattle.c_tree.specs.declared.lexer.tokens.Sign.TheVariants as s
 use Rattle.c_tree.specs.Grouped.{IsGrouped}
 use Rattle.c_tree.specs.Reads.{first_deep}
 use Rattle.c_reader.specs.declared.faults.Fault.{Fault}

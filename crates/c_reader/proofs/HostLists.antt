@@ -1,9 +1,9 @@
 -- Statements of `main` as lists, what they begin with, and what stands at level 65.
 use Rattle.std.proofs.Common.{◌≡◌, ℕ, suc, ◌≤◌, Bool, true, false, List, [], ◌∷◌, ◌++◌, length, Option, Some, None, refl, ap, subst, arith, slice_get, append_assoc}
-use Rattle.c_lex.specs.declared.tokens.Kind.{Kind}
-use Rattle.c_lex.specs.declared.tokens.Kind.TheVariants as kind
-use Rattle.c_lex.specs.declared.tokens.Sign.TheVariants as sg
-use Rattle.c_lex.specs.declared.tokens.Word.TheVariants as wd
+use Rattle.c_tree.specs.declared.lexer.tokens.Kind.{Kind}
+use Rattle.c_tree.specs.declared.lexer.tokens.Kind.TheVariants as kind
+use Rattle.c_tree.specs.declared.lexer.tokens.Sign.TheVariants as sg
+use Rattle.c_tree.specs.declared.lexer.tokens.Word.TheVariants as wd
 use Rattle.c_tree.specs.Tree.{PlaceTree, Scalar, Element, Target, AssignmentTree, OpCallTree, CallInit, DeclSet, DeclMap, DeclDat, DeclConst, ParLoop, Printf, PrintDat, HostTree, HostDeclaration, HostBlock, HostEmpty, HostAssign, HostIf, HostIfElse, HostFor, HostCall, HostTrees, NoHost, MoreHost}
 use Rattle.c_tree.specs.Print.{Mark, sign_at as sign_mark, named_sign, word_if, expr, place, call, host, hosts}
 use Rattle.c_tree.specs.Grouped.{IsHostBody, IsHost, AreHosts}

@@ -1,8 +1,8 @@
 -- Blocks, `if` and levels of statements of `main`, as the code finds them.
 use Rattle.std.proofs.Common.{◌≡◌, ◌≢◌, ℕ, zero, suc, ◌+◌, ◌-◌, true, List, [], ◌∷◌, map, Ok, Err, refl, ap, ◌∙◌, arith, slice_get, Vec, Global, add-one}
-use Rattle.c_lex.specs.declared.tokens.Kind.{Kind}
-use Rattle.c_lex.specs.declared.tokens.Sign.TheVariants as s
-use Rattle.c_lex.specs.declared.tokens.Word.TheVariants as w
+use Rattle.c_tree.specs.declared.lexer.tokens.Kind.{Kind}
+use Rattle.c_tree.specs.declared.lexer.tokens.Sign.TheVariants as s
+use Rattle.c_tree.specs.declared.lexer.tokens.Word.TheVariants as w
 use Rattle.c_tree.specs.declared.hosts.Host.{Host, Block, Block', Row_of-Host, end_of-Host, more_of-Host, items-the_row-Host, items_hidden-the_row-Host-0}
 use mathlib.Core.Former.{Count}
 use Rattle.c_tree.specs.Tree as tree

@@ -1,8 +1,8 @@
 -- Readers of lists of items answer exactly what is printed.
 use Rattle.std.proofs.Common.{◌≡◌, ℕ, zero, suc, ◌≤◌, ◌<◌, Bool, true, false, cond, List, [], ◌∷◌, ◌++◌, length, Option, Some, None, Result, Ok, Err, refl, sym, ap, subst, ◌∙◌, arith, slice_get, nat_lt}
-use Rattle.c_lex.specs.declared.tokens.Kind.{Kind}
-use Rattle.c_lex.specs.declared.tokens.Kind.TheVariants as kind
-use Rattle.c_lex.specs.declared.tokens.Sign.TheVariants as sg
+use Rattle.c_tree.specs.declared.lexer.tokens.Kind.{Kind}
+use Rattle.c_tree.specs.declared.lexer.tokens.Kind.TheVariants as kind
+use Rattle.c_tree.specs.declared.lexer.tokens.Sign.TheVariants as sg
 use Rattle.c_tree.specs.Print.{Mark, sign_at as sign_mark}
 use Rattle.c_tree.specs.Reads.{first_deep}
 use Rattle.c_reader.specs.declared.faults.Fault.{Fault}

@@ -1,8 +1,8 @@
 -- The turns of the loops over items.
 use Rattle.std.proofs.Common.{◌≡◌, ℕ, suc, ◌+◌, ◌-◌, ◌<◌, ◌≤◌, Bool, true, false, List, [], ◌∷◌, ◌++◌, map, Result, Ok, Err, refl, sym, ap, ◌∙◌, arith, slice_get, append_assoc, add-one}
-use Rattle.c_lex.specs.declared.tokens.Kind.{Kind}
-use Rattle.c_lex.specs.declared.tokens.Sign.{Sign}
-use Rattle.c_lex.specs.declared.tokens.Sign.TheVariants as s
+use Rattle.c_tree.specs.declared.lexer.tokens.Kind.{Kind}
+use Rattle.c_tree.specs.declared.lexer.tokens.Sign.{Sign}
+use Rattle.c_tree.specs.declared.lexer.tokens.Sign.TheVariants as s
 use Rattle.c_reader.specs.declared.faults.Fault.{Fault}
 use Rattle.c_reader.specs.declared.faults.Fault.TheVariants.{Syntax}
 use Rattle.c_reader.specs.declared.faults.ReadError.{ReadError}

@@ -1,11 +1,11 @@
 -- Signs, words, maps, indices and variables of arguments and assignments are read exactly as they are printed.
 use Rattle.std.proofs.Common.{◌≡◌, ℕ, suc, ◌≤◌, Bool, true, false, cond, List, [], ◌∷◌, length, Option, Some, None, Result, Ok, Err, refl, sym, ap, subst, ◌∙◌, arith, slice_get, nat_lt}
-use Rattle.c_lex.specs.declared.tokens.Kind.{Kind}
-use Rattle.c_lex.specs.declared.tokens.Kind.TheVariants as kind
-use Rattle.c_lex.specs.declared.tokens.Sign.{Sign}
-use Rattle.c_lex.specs.declared.tokens.Sign.TheVariants as sg
-use Rattle.c_lex.specs.declared.tokens.Word.{Word}
-use Rattle.c_lex.specs.declared.tokens.Word.TheVariants as wd
+use Rattle.c_tree.specs.declared.lexer.tokens.Kind.{Kind}
+use Rattle.c_tree.specs.declared.lexer.tokens.Kind.TheVariants as kind
+use Rattle.c_tree.specs.declared.lexer.tokens.Sign.{Sign}
+use Rattle.c_tree.specs.declared.lexer.tokens.Sign.TheVariants as sg
+use Rattle.c_tree.specs.declared.lexer.tokens.Word.{Word}
+use Rattle.c_tree.specs.declared.lexer.tokens.Word.TheVariants as wd
 use Rattle.c_tree.specs.declared.expressions.Ident.{Ident}
 use Rattle.c_tree.specs.declared.declarations.AssignOp.{AssignOp}
 use Rattle.c_tree.specs.declared.declarations.AssignOp.TheVariants as assign

@@ -3,12 +3,12 @@ use Rattle.std.proofs.Common.{◌≡◌, ℕ, suc, ◌+◌, ◌<◌, ◌≤◌, 
 use Rattle.std.specs.Prelude.{if◌then◌else◌}
 use Rattle.std.proofs.lemmas.Option.{slice_get_cases}
 use Rattle.std.proofs.lemmas.List.{length-map}
-use Rattle.c_lex.specs.declared.tokens.Token.{Token}
-use Rattle.c_lex.specs.declared.tokens.Pos.{Pos}
-use Rattle.c_lex.specs.declared.refusals.LexRefusal.{LexRefusal}
-use Rattle.c_lex.specs.declared.refusals.LexRefusal.TheVariants as lex_refusal
-use Rattle.c_lex.specs.Answered.{Answers}
-use Rattle.c_lex.specs.Lexed.{Lexes, Outcome, advance, start}
+use Rattle.c_tree.specs.declared.lexer.tokens.Token.{Token}
+use Rattle.c_tree.specs.declared.lexer.tokens.Pos.{Pos}
+use Rattle.c_tree.specs.declared.lexer.refusals.LexRefusal.{LexRefusal}
+use Rattle.c_tree.specs.declared.lexer.refusals.LexRefusal.TheVariants as lex_refusal
+use Rattle.c_tree.specs.Answered.{Answers}
+use Rattle.c_tree.specs.Lexed.{Lexes, Outcome, advance, start}
 use Rattle.c_tree.specs.Tree.{ProgramTree}
 use Rattle.c_tree.specs.Print.{Mark, program}
 use Rattle.c_tree.specs.Reads.{first_deep, shown, Prints, Reads, Deep}

@@ -2,7 +2,7 @@
 use Rattle.std.proofs.Common.{◌≡◌, ℕ, suc, ◌+◌, ◌≤◌, ◌<◌, Bool, true, false, cond, List, [], ◌∷◌, ◌++◌, length, map, Option, Some, None, Result, Err, refl, sym, ap, subst, ◌∙◌, arith, slice_get, nat_lt, drop, zero, length-drop}
 use Rattle.std.proofs.lemmas.List.{drop_all}
 use Rattle.std.proofs.lemmas.Option.{slice_get_within}
-use Rattle.c_lex.specs.declared.tokens.Kind.{Kind}
+use Rattle.c_tree.specs.declared.lexer.tokens.Kind.{Kind}
 use Rattle.c_tree.specs.Print.{Mark}
 use Rattle.c_tree.specs.Reads.{Keeps, AreNumbered, first_deep}
 use Rattle.c_reader.specs.declared.faults.Fault.{Fault}

@@ -1,8 +1,8 @@
 -- Statements of kernels as lists, what they begin with, and what stands at level 65.
 use Rattle.std.proofs.Common.{◌≡◌, ℕ, suc, Bool, true, false, List, [], ◌∷◌, ◌++◌, Some, refl, ap, subst, slice_get, append_assoc}
-use Rattle.c_lex.specs.declared.tokens.Kind.{Kind}
-use Rattle.c_lex.specs.declared.tokens.Sign.TheVariants as sg
-use Rattle.c_lex.specs.declared.tokens.Word.TheVariants as wd
+use Rattle.c_tree.specs.declared.lexer.tokens.Kind.{Kind}
+use Rattle.c_tree.specs.declared.lexer.tokens.Sign.TheVariants as sg
+use Rattle.c_tree.specs.declared.lexer.tokens.Word.TheVariants as wd
 use Rattle.c_tree.specs.Tree.{DeclarationTree, PlaceTree, Scalar, Element, Target, AssignmentTree, StmtTree, LocalDeclaration, Block, Empty, Assign, If, IfElse, For, StmtTrees, NoStmt, MoreStmt}
 use Rattle.c_tree.specs.Print.{Mark, sign_at as sign_mark, named_sign, word_if, expr, place, vars, assignment, stmt, stmts}
 use Rattle.c_tree.specs.Grouped.{IsBody, IsStmt, AreStmts}

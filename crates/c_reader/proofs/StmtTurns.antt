@@ -1,8 +1,8 @@
 -- Blocks, `if` and levels of statements, as the code finds them.
 use Rattle.std.proofs.Common.{◌≡◌, ◌≢◌, ℕ, zero, suc, ◌+◌, ◌-◌, true, List, [], ◌∷◌, map, Ok, Err, refl, ap, ◌∙◌, arith, slice_get, Vec, Global, add-one}
-use Rattle.c_lex.specs.declared.tokens.Kind.{Kind}
-use Rattle.c_lex.specs.declared.tokens.Sign.TheVariants as s
-use Rattle.c_lex.specs.declared.tokens.Word.TheVariants as w
+use Rattle.c_tree.specs.declared.lexer.tokens.Kind.{Kind}
+use Rattle.c_tree.specs.declared.lexer.tokens.Sign.TheVariants as s
+use Rattle.c_tree.specs.declared.lexer.tokens.Word.TheVariants as w
 use Rattle.c_tree.specs.declared.kernels.Stmt.{Stmt, Block, Block', Row_of-Stmt, end_of-Stmt, more_of-Stmt, items-the_row-Stmt, items_hidden-the_row-Stmt-0}
 use mathlib.Core.Former.{Count}
 use Rattle.c_tree.specs.Tree as tree

@@ -1,10 +1,10 @@
 -- The parts of the file, `main` and the whole source are read exactly as they are printed.
 use Rattle.std.proofs.Common.{◌≡◌, ◌≢◌, ℕ, suc, ◌≤◌, Bool, true, false, cond, List, [], ◌∷◌, ◌++◌, length, Some, None, Result, Ok, Err, refl, sym, ap, subst, ◌∙◌, arith, slice_get, length-append, zero-le}
-use Rattle.c_lex.specs.declared.tokens.Kind.{Kind}
-use Rattle.c_lex.specs.declared.tokens.Kind.TheVariants as kind
-use Rattle.c_lex.specs.declared.tokens.Sign.TheVariants as sg
-use Rattle.c_lex.specs.declared.tokens.Word.{Word}
-use Rattle.c_lex.specs.declared.tokens.Word.TheVariants as wd
+use Rattle.c_tree.specs.declared.lexer.tokens.Kind.{Kind}
+use Rattle.c_tree.specs.declared.lexer.tokens.Kind.TheVariants as kind
+use Rattle.c_tree.specs.declared.lexer.tokens.Sign.TheVariants as sg
+use Rattle.c_tree.specs.declared.lexer.tokens.Word.{Word}
+use Rattle.c_tree.specs.declared.lexer.tokens.Word.TheVariants as wd
 use Rattle.c_tree.specs.declared.expressions.Ident.{Ident}
 use Rattle.c_tree.specs.declared.kernels.Param.{Param}
 use Rattle.c_tree.specs.Tree.{TopTree, Extern, ExternArray}

@@ -1,7 +1,7 @@
 -- The turns of the loop over a chain of operators.
 use Rattle.std.proofs.Common.{◌≡◌, ℕ, suc, ◌+◌, ◌-◌, ◌<◌, ◌≤◌, List, Some, Ok, Err, refl, arith}
 use Rattle.std.proofs.Math.Numerals.{add-one}
-use Rattle.c_lex.specs.declared.tokens.Kind.{Kind}
+use Rattle.c_tree.specs.declared.lexer.tokens.Kind.{Kind}
 use Rattle.c_tree.specs.declared.expressions.BinaryOp.{BinaryOp}
 use Rattle.c_tree.specs.Signs.{level_of}
 use Rattle.c_tree.specs.Tree.{ExprTree, Binary}

@@ -1,8 +1,8 @@
 -- What the readers of calls answer, with d levels left for their expressions.
 use Rattle.std.specs.Prelude.{ℕ, List, length}
-use Rattle.c_lex.specs.declared.tokens.Kind.{Kind}
-use Rattle.c_lex.specs.declared.tokens.Sign.TheVariants as s
-use Rattle.c_lex.specs.declared.tokens.Word.TheVariants as w
+use Rattle.c_tree.specs.declared.lexer.tokens.Kind.{Kind}
+use Rattle.c_tree.specs.declared.lexer.tokens.Sign.TheVariants as s
+use Rattle.c_tree.specs.declared.lexer.tokens.Word.TheVariants as w
 use Rattle.c_tree.specs.declared.expressions.Ident.{Ident}
 use Rattle.c_tree.specs.declared.expressions.NumberLiteral.{NumberLiteral}
 use Rattle.c_tree.specs.declared.expressions.TextLiteral.{TextLiteral}

@@ -1,8 +1,8 @@
 -- What the readers of the statements of `main` answer, with d levels of nesting left.
 use Rattle.std.specs.Prelude.{ℕ, zero, suc, Bool, ◌||◌, List, [], ◌∷◌, Option, Some, None, Ok, Err, slice_get, length, if◌then◌else◌}
-use Rattle.c_lex.specs.declared.tokens.Kind.{Kind}
-use Rattle.c_lex.specs.declared.tokens.Sign.TheVariants as s
-use Rattle.c_lex.specs.declared.tokens.Word.TheVariants as w
+use Rattle.c_tree.specs.declared.lexer.tokens.Kind.{Kind}
+use Rattle.c_tree.specs.declared.lexer.tokens.Sign.TheVariants as s
+use Rattle.c_tree.specs.declared.lexer.tokens.Word.TheVariants as w
 use Rattle.c_tree.specs.declared.expressions.Ident.{Ident}
 use Rattle.c_tree.specs.Tree.{ExprTree, HostForHeaderTree, HostTree, HostDeclaration, HostBlock, HostEmpty, HostAssign, HostIf, HostIfElse, HostFor, HostCall, HostTrees, NoHost, MoreHost}
 use Rattle.c_reader.specs.declared.faults.Fault.TheVariants.{Syntax, TooDeep}

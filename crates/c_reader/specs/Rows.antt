@@ -1,12 +1,12 @@
 -- Readers of a row of tokens, one after another.
 use Rattle.std.specs.Prelude.{ℕ, suc, Bool, false, zero, List, [], ◌∷◌, ◌++◌, Option, Some, Result, Ok, Err, slice_get, map, Vec, if◌then◌else◌}
 use Rattle.std.specs.Global.{Global}
-use Rattle.c_lex.specs.declared.tokens.Sign.TheVariants as the_sign
-use Rattle.c_lex.specs.declared.tokens.Kind.{Kind}
-use Rattle.c_lex.specs.declared.tokens.Kind.TheVariants as kind
-use Rattle.c_lex.specs.declared.tokens.Sign.{Sign}
-use Rattle.c_lex.specs.declared.tokens.Word.{Word}
-use Rattle.c_lex.specs.contracts.tokens.Word as the_word
+use Rattle.c_tree.specs.declared.lexer.tokens.Sign.TheVariants as the_sign
+use Rattle.c_tree.specs.declared.lexer.tokens.Kind.{Kind}
+use Rattle.c_tree.specs.declared.lexer.tokens.Kind.TheVariants as kind
+use Rattle.c_tree.specs.declared.lexer.tokens.Sign.{Sign}
+use Rattle.c_tree.specs.declared.lexer.tokens.Word.{Word}
+use Rattle.c_tree.specs.contracts.lexer.tokens.Word as the_word
 use Rattle.c_tree.specs.declared.expressions.Ident.{Ident}
 use Rattle.c_tree.specs.declared.expressions.NumberLiteral.{NumberLiteral}
 use Rattle.c_tree.specs.declared.expressions.TextLiteral.{TextLiteral}

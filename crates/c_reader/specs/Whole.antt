@@ -1,10 +1,10 @@
 -- What the readers of the parts of the file, of `main` and of the whole source answer.
 use Rattle.std.specs.Prelude.{ℕ, suc, Bool, true, false, ◌&&◌, List, Option, Some, None, Result, Ok, Err, slice_get, length, nat_eq, if◌then◌else◌}
-use Rattle.c_lex.specs.declared.tokens.Kind.{Kind}
-use Rattle.c_lex.specs.declared.tokens.Pos.{Pos}
-use Rattle.c_lex.specs.declared.tokens.Sign.TheVariants as s
-use Rattle.c_lex.specs.declared.tokens.Word.{Word}
-use Rattle.c_lex.specs.declared.tokens.Word.TheVariants as w
+use Rattle.c_tree.specs.declared.lexer.tokens.Kind.{Kind}
+use Rattle.c_tree.specs.declared.lexer.tokens.Pos.{Pos}
+use Rattle.c_tree.specs.declared.lexer.tokens.Sign.TheVariants as s
+use Rattle.c_tree.specs.declared.lexer.tokens.Word.{Word}
+use Rattle.c_tree.specs.declared.lexer.tokens.Word.TheVariants as w
 use Rattle.c_tree.specs.declared.expressions.Ident.{Ident}
 use Rattle.c_tree.specs.declared.expressions.NumberLiteral.{NumberLiteral}
 use Rattle.c_tree.specs.declared.kernels.Param.{Param}

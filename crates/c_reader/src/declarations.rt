@@ -6,7 +6,7 @@ ghost use Rattle.c_reader.specs.Descent.{Gives};
 ghost use Rattle.c_reader.specs.Rows.{seen_by, items_seen, separated};
 ghost use Rattle.c_reader.specs.Declarations.{unset, declr_at, declaration_behind, declaration_at};
 ghost use Rattle.c_reader.specs.Kinds.{kinds};
-ghost use Rattle.c_lex.specs.declared.tokens.Sign.TheVariants as the_sign;
+ghost use Rattle.c_tree.specs.declared.lexer.tokens.Sign.TheVariants as the_sign;
 
 use crate::cursor::{after_sign, after_word, ident, is_sign, is_word, number};
 use crate::expressions;

@@ -1,9 +1,9 @@
 // The tree of a source.
 
 ghost use Rattle.std.specs.Prelude.{◌≡◌, ◌+◌, ◌<◌, ◌^◌, length, List, ℕ, Ok, Err, IfOk, IfErr};
-ghost use Rattle.c_lex.specs.declared.refusals.LexRefusal.{LexRefusal as LexRefused};
-ghost use Rattle.c_lex.specs.declared.tokens.Token.{Token as LexedToken};
-ghost use Rattle.c_lex.specs.Lexed.{Lexes};
+ghost use Rattle.c_tree.specs.declared.lexer.refusals.LexRefusal.{LexRefusal as LexRefused};
+ghost use Rattle.c_tree.specs.declared.lexer.tokens.Token.{Token as LexedToken};
+ghost use Rattle.c_tree.specs.Lexed.{Lexes};
 ghost use Rattle.c_tree.specs.Tree.{ProgramTree};
 ghost use Rattle.c_tree.specs.View.{main_of, program_of};
 ghost use Rattle.c_tree.specs.Reads.{Reads, Deep, shown};
@@ -19,7 +19,7 @@ use crate::cursor::{after_sign, after_word, is_sign, is_word, number};
 use crate::faults::{Fault, ReadError};
 use crate::hosts::{Closing, read_hosts};
 use crate::tops::read_tops;
-use c_lex::one_outcome;
+use c_tree::lexer::one_outcome;
 use c_tree::{
     LexRefusal, Main, NumberLiteral, Pos, Program, Sign, SourceRefusal, Token, Word, end_place, lex,
 };

@@ -1,6 +1,6 @@
 -- The kinds of what a whole tree prints.
 use Rattle.std.proofs.Common.{◌≡◌, ℕ, suc, Bool, true, false, List, [], ◌∷◌, Option, Some, None, refl, sym, ap, ◌∙◌}
-use Rattle.c_lex.specs.declared.tokens.Kind.{Kind}
+use Rattle.c_tree.specs.declared.lexer.tokens.Kind.{Kind}
 use Rattle.c_tree.specs.declared.expressions.NumberLiteral.{NumberLiteral}
 use Rattle.c_tree.specs.Tree.{HostForHeaderTree, HostTree, HostDeclaration, HostBlock, HostEmpty, HostAssign, HostIf, HostIfElse, HostFor, HostCall, HostTrees, NoHost, MoreHost, TopTree, Extern, ExternArray, FileDeclaration, Kernel, MainTree, ProgramTree}
 use Rattle.c_tree.specs.Print.{condition, host_counter, host, hosts, top, tops, argv_marks, return_marks, main, program}

@@ -1,6 +1,6 @@
 -- The kinds of what a call of the OP2 library prints stand before those that follow it.
 use Rattle.std.proofs.Common.{◌≡◌, ℕ, suc, List, [], ◌∷◌, Option, Some, None, Bool, true, false, refl}
-use Rattle.c_lex.specs.declared.tokens.Kind.{Kind}
+use Rattle.c_tree.specs.declared.lexer.tokens.Kind.{Kind}
 use Rattle.c_tree.specs.declared.hosts.GlobalName.{GlobalName}
 use Rattle.c_tree.specs.declared.hosts.ArgIndex.{ArgIndex}
 use Rattle.c_tree.specs.declared.hosts.ArgVia.{ArgVia}

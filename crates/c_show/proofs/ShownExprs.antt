@@ -1,6 +1,6 @@
 -- The kinds of what an expression prints stand before those that follow it, at whatever level it stands.
 use Rattle.std.proofs.Common.{◌≡◌, ℕ, suc, List, [], ◌∷◌, ◌++◌, map, refl, ap}
-use Rattle.c_lex.specs.declared.tokens.Kind.{Kind}
+use Rattle.c_tree.specs.declared.lexer.tokens.Kind.{Kind}
 use Rattle.c_tree.specs.Tree.{ExprTree, Number, Name, Index, Deref, Unary, Binary, Choice, Paren, Extremum, Absolute}
 use Rattle.c_tree.specs.Print.{Mark, expr}
 use Rattle.c_show.specs.Ahead.{expr_first}

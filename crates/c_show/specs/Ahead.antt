@@ -2,12 +2,12 @@
 -- and then `rest`. A list that is made from its end grows in this way. `program` of c_tree (specs/Print.antt)
 -- is the same from the front, with numbers and levels of nesting.
 use Rattle.std.specs.Prelude.{ℕ, Bool, true, false, List, [], ◌∷◌, Option, Some, None}
-use Rattle.c_lex.specs.declared.tokens.Kind.{Kind}
-use Rattle.c_lex.specs.declared.tokens.Kind.TheVariants as kind
-use Rattle.c_lex.specs.declared.tokens.Sign.{Sign}
-use Rattle.c_lex.specs.declared.tokens.Sign.TheVariants as sign
-use Rattle.c_lex.specs.declared.tokens.Word.{Word}
-use Rattle.c_lex.specs.declared.tokens.Word.TheVariants as word
+use Rattle.c_tree.specs.declared.lexer.tokens.Kind.{Kind}
+use Rattle.c_tree.specs.declared.lexer.tokens.Kind.TheVariants as kind
+use Rattle.c_tree.specs.declared.lexer.tokens.Sign.{Sign}
+use Rattle.c_tree.specs.declared.lexer.tokens.Sign.TheVariants as sign
+use Rattle.c_tree.specs.declared.lexer.tokens.Word.{Word}
+use Rattle.c_tree.specs.declared.lexer.tokens.Word.TheVariants as word
 use Rattle.c_tree.specs.declared.expressions.Ident.{Ident}
 use Rattle.c_tree.specs.declared.expressions.NumberLiteral.{NumberLiteral}
 use Rattle.c_tree.specs.declared.expressions.TextLiteral.{TextLiteral}

@@ -3,14 +3,14 @@
 ghost use Rattle.std.specs.Prelude.{◌≡◌, IfOk, reverse, map};
 ghost use Rattle.c_tree.specs.Signs.{access_word_of};
 ghost use Rattle.c_tree.specs.View.{expr_of, call_of};
-ghost use Rattle.c_lex.specs.declared.tokens.Sign.TheVariants.{LeftParen, Comma};
+ghost use Rattle.c_tree.specs.declared.lexer.tokens.Sign.TheVariants.{LeftParen, Comma};
 ghost use Rattle.c_show.specs.Ahead.{sign_first, word_first, name_first, number_first, text_first};
 ghost use Rattle.c_show.specs.Ahead.{global_first, index_first, via_first, arg_end_first, arg_first, args_first, values_first, close_first};
 ghost use Rattle.c_show.specs.Ahead.{label_first, decl_front, call_first};
 
 use crate::put_expressions::put_expr;
 use crate::put_tokens::{put_name, put_number, put_sign, put_text, put_word};
-use c_lex::{Kind, Sign, Word};
+use c_tree::lexer::{Kind, Sign, Word};
 use c_tree::{
     AccessWord, ArgIndex, ArgVia, Expr, GlobalName, Ident, LoopArg, NumberLiteral, OpCall,
     TextLiteral,

@@ -5,10 +5,10 @@ ghost use Rattle.std.specs.Prelude.{◌≡◌, IfOk, reverse};
 ghost use Rattle.c_tree.specs.Signs.{sign_of, unary_sign_of, min_max_word_of};
 ghost use Rattle.c_tree.specs.View.{expr_of};
 ghost use Rattle.c_show.specs.Ahead.{sign_first, name_first, enclosed_first, indexed_first, expr_first};
-ghost use Rattle.c_lex.specs.declared.tokens.Sign.TheVariants.{Star};
+ghost use Rattle.c_tree.specs.declared.lexer.tokens.Sign.TheVariants.{Star};
 
 use crate::put_tokens::{put_name, put_number, put_sign, put_word};
-use c_lex::{Kind, Sign, Word};
+use c_tree::lexer::{Kind, Sign, Word};
 use c_tree::{BinaryOp, Expr, Ident, MinMax, UnaryOp};
 use op_num::OutOfMemory;
 

@@ -9,7 +9,7 @@ use crate::put_calls::put_call;
 use crate::put_expressions::put_expr;
 use crate::put_statements::{put_assignment, put_condition, put_declaration};
 use crate::put_tokens::{put_name, put_number, put_sign, put_word};
-use c_lex::{Kind, Sign, Word};
+use c_tree::lexer::{Kind, Sign, Word};
 use c_tree::{Host, HostForHeader, Main, NumberLiteral};
 use op_num::OutOfMemory;
 

@@ -8,7 +8,7 @@ ghost use Rattle.c_show.specs.Ahead.{assignment_first, condition_first, header_f
 
 use crate::put_expressions::{put_deref, put_enclosed, put_expr, put_indexed};
 use crate::put_tokens::{put_name, put_number, put_sign, put_word};
-use c_lex::{Kind, Sign, Word};
+use c_tree::lexer::{Kind, Sign, Word};
 use c_tree::{AssignOp, Assignment, Declaration, Declr, Expr, ForHeader, Place, Stmt};
 use op_num::OutOfMemory;
 

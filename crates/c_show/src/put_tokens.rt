@@ -3,7 +3,7 @@
 ghost use Rattle.std.specs.Prelude.{◌≡◌, IfOk, ◌∷◌, reverse};
 ghost use Rattle.c_show.specs.Ahead.{sign_first, word_first, name_first, number_first, text_first};
 
-use c_lex::{Kind, Sign, Word};
+use c_tree::lexer::{Kind, Sign, Word};
 use c_tree::{Ident, NumberLiteral, TextLiteral};
 use op_num::OutOfMemory;
 

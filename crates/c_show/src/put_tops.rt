@@ -6,7 +6,7 @@ ghost use Rattle.c_show.specs.Ahead.{param_first, params_first, more_params_firs
 
 use crate::put_statements::{put_declaration, put_stmts, put_word_if};
 use crate::put_tokens::{put_name, put_sign, put_word};
-use c_lex::{Kind, Sign, Word};
+use c_tree::lexer::{Kind, Sign, Word};
 use c_tree::{Kernel, Param, Top};
 use op_num::OutOfMemory;
 

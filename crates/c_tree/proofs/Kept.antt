@@ -3,9 +3,9 @@ use Rattle.std.proofs.Common.{◌≡◌, ℕ, suc, ◌+◌, ◌≤◌, List, [],
 use Rattle.std.specs.List.{All}
 use Rattle.std.proofs.lemmas.List.{length-map}
 use Rattle.std.proofs.lemmas.List.Elements.{All-nil, All-cons}
-use Rattle.c_lex.specs.declared.tokens.Token.{Token}
-use Rattle.c_lex.specs.Lexed.{Lexes}
-use Rattle.c_lex.specs.Order.{AreInOrder}
+use Rattle.c_tree.specs.declared.lexer.tokens.Token.{Token}
+use Rattle.c_tree.specs.Lexed.{Lexes}
+use Rattle.c_tree.specs.Order.{AreInOrder}
 use Rattle.c_tree.specs.Places.{IsBelow}
 use Rattle.c_tree.specs.Print.{Mark, program}
 use Rattle.c_tree.specs.Reads.{Keeps, AreNumbered, Reads}

@@ -1,6 +1,6 @@
 -- Where tokens stand, and which tokens begin a part of a tree.
 use Rattle.std.specs.Prelude.{ℕ, ◌<◌, List, Option, Some, None, slice_index_or}
-use Rattle.c_lex.specs.declared.tokens.Pos.{Pos}
+use Rattle.c_tree.specs.declared.lexer.tokens.Pos.{Pos}
 use Rattle.c_tree.specs.declared.hosts.GlobalName.{GlobalName}
 use Rattle.c_tree.specs.Tree.{ExprTree, Number, Name, Index, Deref, Unary, Binary, Choice, Paren, Extremum, Absolute}
 

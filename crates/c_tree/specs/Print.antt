@@ -11,12 +11,12 @@ use Rattle.c_tree.specs.declared.hosts.ArgVia.{ArgVia}
 use Rattle.c_tree.specs.declared.hosts.ArgVia.TheVariants as via
 use Rattle.c_tree.specs.declared.hosts.LoopArg.{LoopArg}
 use Rattle.c_tree.specs.declared.hosts.LoopArg.TheVariants as arg
-use Rattle.c_lex.specs.declared.tokens.Kind.{Kind}
-use Rattle.c_lex.specs.declared.tokens.Kind.TheVariants as kind
-use Rattle.c_lex.specs.declared.tokens.Sign.{Sign}
-use Rattle.c_lex.specs.declared.tokens.Sign.TheVariants as sign
-use Rattle.c_lex.specs.declared.tokens.Word.{Word}
-use Rattle.c_lex.specs.declared.tokens.Word.TheVariants as word
+use Rattle.c_tree.specs.declared.lexer.tokens.Kind.{Kind}
+use Rattle.c_tree.specs.declared.lexer.tokens.Kind.TheVariants as kind
+use Rattle.c_tree.specs.declared.lexer.tokens.Sign.{Sign}
+use Rattle.c_tree.specs.declared.lexer.tokens.Sign.TheVariants as sign
+use Rattle.c_tree.specs.declared.lexer.tokens.Word.{Word}
+use Rattle.c_tree.specs.declared.lexer.tokens.Word.TheVariants as word
 use Rattle.c_tree.specs.Signs.{sign_of, unary_sign_of, assign_sign_of, min_max_word_of, access_word_of}
 use Rattle.c_tree.specs.Tree.{ExprTree, Number, Name, Index, Deref, Unary, Binary, Choice, Paren, Extremum, Absolute, DeclrTree, Plain, Init, Array, DeclarationTree, PlaceTree, Scalar, Element, Target, AssignmentTree, StmtTree, LocalDeclaration, Block, Empty, Assign, If, IfElse, For, StmtTrees, NoStmt, MoreStmt, KernelTree, TopTree, Extern, ExternArray, FileDeclaration, Kernel, HostForHeaderTree, OpCallTree, CallInit, DeclSet, DeclMap, DeclDat, DeclConst, ParLoop, Printf, PrintDat, HostTree, HostDeclaration, HostBlock, HostEmpty, HostAssign, HostIf, HostIfElse, HostFor, HostCall, HostTrees, NoHost, MoreHost, MainTree, ProgramTree}
 

@@ -1,7 +1,7 @@
 -- The trees without where they lie in memory. Types that hold no box and no vector are those of src/. A number that stands by itself is
 -- that of a token, which src/ names.
 use Rattle.std.specs.Prelude.{ℕ, Bool, List, Option}
-use Rattle.c_lex.specs.declared.tokens.Pos.{Pos}
+use Rattle.c_tree.specs.declared.lexer.tokens.Pos.{Pos}
 use Rattle.c_tree.specs.declared.expressions.Ident.{Ident}
 use Rattle.c_tree.specs.declared.expressions.NumberLiteral.{NumberLiteral}
 use Rattle.c_tree.specs.declared.expressions.TextLiteral.{TextLiteral}

@@ -1,7 +1,7 @@
 // Expressions (ISO C 6.5). A field `at` is the number, among the tokens of the source from 0, of the token that the
 // field's comment names.
 
-use c_lex::{Name, Text};
+use crate::lexer::{Name, Text};
 
 /// A name, and the number of its token.
 #[derive(Drop)]

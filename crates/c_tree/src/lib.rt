@@ -5,11 +5,12 @@ mod declarations;
 mod expressions;
 mod hosts;
 mod kernels;
+pub mod lexer;
 mod places;
 mod programs;
 mod refusals;
 
-pub use c_lex::{Kind, LexRefusal, Name, Pos, Sign, Text, Token, Word, end_place, lex};
+pub use crate::lexer::{Kind, LexRefusal, Name, Pos, Sign, Text, Token, Word, end_place, lex};
 pub use declarations::{AssignOp, Assignment, Declaration, Declr, Place};
 pub use expressions::{BinaryOp, Expr, Ident, MinMax, NumberLiteral, TextLiteral, UnaryOp};
 pub use hosts::{AccessWord, ArgIndex, ArgVia, GlobalName, Host, HostForHeader, LoopArg, OpCall};

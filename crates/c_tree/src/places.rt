@@ -2,7 +2,7 @@
 
 ghost use Rattle.std.specs.Prelude.{◌≡◌, ℕ, List, length};
 ghost use Rattle.std.specs.List.{All};
-ghost use Rattle.c_lex.specs.Order.{AreInOrder};
+ghost use Rattle.c_tree.specs.Order.{AreInOrder};
 ghost use Rattle.c_tree.specs.Places.{pos_of, first_token, first_token_of_global, IsBelow};
 ghost use Rattle.c_tree.specs.Print.{program as printed};
 ghost use Rattle.c_tree.specs.Reads.{Reads};
@@ -12,7 +12,7 @@ ghost use Rattle.c_tree.specs.View.{expr_of};
 use crate::expressions::Expr;
 use crate::hosts::GlobalName;
 use crate::programs::Program;
-use c_lex::{Pos, tokens_in_order};
+use crate::lexer::{Pos, tokens_in_order};
 
 /// The place of the token with this number, among the places of all. Line and column are 0 where there is no such
 /// token.

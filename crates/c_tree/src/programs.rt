@@ -4,7 +4,7 @@ use crate::declarations::Declaration;
 use crate::expressions::{Ident, NumberLiteral};
 use crate::hosts::Host;
 use crate::kernels::Kernel;
-use c_lex::Pos;
+use crate::lexer::Pos;
 
 /// A part of the file before `main`.
 #[derive(Drop)]

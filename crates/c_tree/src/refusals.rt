@@ -1,6 +1,6 @@
 // Why a source has no tree.
 
-use c_lex::{LexRefusal, Pos};
+use crate::lexer::{LexRefusal, Pos};
 use thiserror::Error;
 
 /// Why the bytes of a source have no tree of at most 64 levels, and where.

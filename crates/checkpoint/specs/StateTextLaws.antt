@@ -1,7 +1,7 @@
 -- What a file says is one thing, and a state that was written is what it says.
 use Rattle.std.specs.Prelude.{◌≡◌, ℕ, ◌<◌, ◌^◌, ◌⊎◌, FitsSigned, List, ◌++◌, All, length}
 use Rattle.std.specs.Int.{w32}
-use Rattle.c_lex.specs.Spelling.{IsName}
+use Rattle.c_tree.specs.Spelling.{IsName}
 use Rattle.op_num.specs.CutLines.{HasNoLf}
 use Rattle.mesh_decl.specs.declared.decl.SetDecl.{SetDecl}
 use Rattle.mesh_decl.specs.declared.decl.DatDecl.{DatDecl}

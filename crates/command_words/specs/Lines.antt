@@ -2,7 +2,7 @@
 use Rattle.std.specs.Prelude.{ℕ, List, [], ◌++◌, Option, Some, None, codes}
 use Rattle.std.specs.List.{flat_map}
 use Rattle.std.specs.Fmt.{decimal}
-use Rattle.c_lex.specs.declared.tokens.Pos.{Pos}
+use Rattle.c_tree.specs.declared.lexer.tokens.Pos.{Pos}
 use Rattle.op_num.specs.declared.refusals.Fault.{Fault}
 use Rattle.op_num.specs.declared.refusals.Fault.TheVariants as fault
 use Rattle.kernel_model.specs.declared.types.faults.KernelFault.{KernelFault}

@@ -1,6 +1,6 @@
 -- What the program can refuse, and the status that it ends with then.
 use Rattle.std.specs.Prelude.{ℕ, List}
-use Rattle.c_lex.specs.declared.tokens.Pos.{Pos}
+use Rattle.c_tree.specs.declared.lexer.tokens.Pos.{Pos}
 use Rattle.schedule_steps.specs.declared.step.Step.{Step}
 
 -- a size that has a limit

@@ -1,9 +1,9 @@
 -- What is said of the loop and the argument of a refused access.
 use Rattle.std.specs.Prelude.{◌≡◌, ℕ, ◌+◌, List, [], ◌++◌, Option, Some, None, Ok, ◌⊎◌, codes, slice_get}
 use Rattle.std.specs.Fmt.{decimal}
-use Rattle.c_lex.specs.declared.tokens.Pos.{Pos}
-use Rattle.c_lex.specs.declared.tokens.Token.{Token}
-use Rattle.c_lex.specs.Lexed.{Lexes}
+use Rattle.c_tree.specs.declared.lexer.tokens.Pos.{Pos}
+use Rattle.c_tree.specs.declared.lexer.tokens.Token.{Token}
+use Rattle.c_tree.specs.Lexed.{Lexes}
 use Rattle.c_tree.specs.declared.hosts.LoopArg.{LoopArg}
 use Rattle.c_tree.specs.Places.{pos_of}
 use Rattle.c_tree.specs.Tree.{ProgramTree}

@@ -1,7 +1,7 @@
 -- Places of tokens in the source.
 use Rattle.std.specs.Prelude.{ℕ, List, ◌++◌, Some, codes}
 use Rattle.std.specs.Fmt.{decimal}
-use Rattle.c_lex.specs.declared.tokens.Pos.{Pos}
+use Rattle.c_tree.specs.declared.lexer.tokens.Pos.{Pos}
 use Rattle.explanations.specs.declared.places.Place.{Place}
 use Rattle.explanations.specs.Explanation.{shown_place}
 

@@ -1,10 +1,10 @@
 -- The refusal of a source without a tree.
 use Rattle.std.proofs.Common.{◌≡◌, ℕ, List, Ok, Err}
-use Rattle.c_lex.specs.declared.tokens.Token.{Token}
-use Rattle.c_lex.specs.declared.refusals.LexRefusal.{LexRefusal}
-use Rattle.c_lex.specs.declared.refusals.LexRefusal.TheVariants as lex
-use Rattle.c_lex.specs.Answered.{Answers}
-use Rattle.c_lex.specs.Lexed.{Lexes, Outcome}
+use Rattle.c_tree.specs.declared.lexer.tokens.Token.{Token}
+use Rattle.c_tree.specs.declared.lexer.refusals.LexRefusal.{LexRefusal}
+use Rattle.c_tree.specs.declared.lexer.refusals.LexRefusal.TheVariants as lex
+use Rattle.c_tree.specs.Answered.{Answers}
+use Rattle.c_tree.specs.Lexed.{Lexes, Outcome}
 use Rattle.c_tree.specs.Tree.{ProgramTree}
 use Rattle.c_tree.specs.Reads.{Reads, Deep}
 use Rattle.c_tree.specs.declared.refusals.SourceRefusal.{SourceRefusal}

@@ -1,7 +1,7 @@
 -- What is read for a job, judged and bound, and what ends the reading of it.
 use Rattle.std.specs.Prelude.{◌≡◌, ◌≤◌, ℕ, All, List, Ok}
 use Rattle.op_outside.specs.Outside.{Files}
-use Rattle.c_lex.specs.declared.tokens.Pos.{Pos}
+use Rattle.c_tree.specs.declared.lexer.tokens.Pos.{Pos}
 use Rattle.c_tree.specs.Tree.{ProgramTree}
 use Rattle.c_tree.specs.Reads.{Reads}
 use Rattle.kernel_model.specs.declared.types.kernels.Resolved.{Resolved}

@@ -1,7 +1,7 @@
 // The source: its bytes, its tree, and its kernels and constants.
 
 ghost use Rattle.std.specs.Prelude.{◌≡◌, ◌≤◌, Ok, Err, length, IfOk, IfErr};
-ghost use Rattle.c_lex.specs.Lexed.{Lexes};
+ghost use Rattle.c_tree.specs.Lexed.{Lexes};
 ghost use Rattle.c_tree.specs.View.{program_of};
 ghost use Rattle.answers.specs.Judgements.{TreeIs, TypesAre};
 ghost use Rattle.answers.specs.Said.{SaysLex, SaysSource, SaysTypes};

@@ -1,7 +1,7 @@
 // Sources alone: what they are translated and restored to.
 
 ghost use Rattle.std.specs.Prelude.{◌≤◌, Ok, Err, length, IfOk, IfErr};
-ghost use Rattle.c_lex.specs.Lexed.{Lexes};
+ghost use Rattle.c_tree.specs.Lexed.{Lexes};
 ghost use Rattle.c_tree.specs.View.{program_of};
 ghost use Rattle.answers.specs.Judgements.{TreeIs, TranslationIs, RestorationIs};
 ghost use Rattle.answers.specs.Said.{SaysTranslation};

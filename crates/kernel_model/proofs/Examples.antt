@@ -1,7 +1,7 @@
 -- Small kernels: what they do, and which rules they obey.
 use Rattle.std.proofs.Common.{◌≡◌, ℕ, zero, suc, ℤ, pos, List, [], ◌∷◌, Some, refl, ap, ◌∙◌, inl, inr, arith, ◌+ℤ◌, FitsSigned, w32}
 use Rattle.std.proofs.lemmas.Int.{int_wrap_fits}
-use Rattle.c_lex.specs.declared.tokens.Pos.{Pos}
+use Rattle.c_tree.specs.declared.lexer.tokens.Pos.{Pos}
 use Rattle.op_num.specs.declared.refusals.Fault.TheVariants.{DivZero, Index}
 use Rattle.c_tree.specs.declared.expressions.BinaryOp.TheVariants as binary
 use Rattle.c_tree.specs.declared.expressions.MinMax.TheVariants as min_max

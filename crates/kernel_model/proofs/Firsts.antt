@@ -4,8 +4,8 @@ use Rattle.std.specs.Prelude.{nat_eq}
 use Rattle.std.specs.Bool.{Decides}
 use Rattle.std.proofs.lemmas.Bool.{eqb-true, eq-eqb, cases_lt}
 use Rattle.std.proofs.lemmas.Bool.Decides.{Decides-ltb}
-use Rattle.c_lex.specs.declared.tokens.Pos.{Pos}
-use Rattle.c_lex.specs.Order.{IsEarlier}
+use Rattle.c_tree.specs.declared.lexer.tokens.Pos.{Pos}
+use Rattle.c_tree.specs.Order.{IsEarlier}
 use Rattle.kernel_model.specs.Refusals.{Rule, number_of, opposite}
 use Rattle.kernel_model.specs.Walk.{Breach, is_earlier, is_place_of, precedes, noted, noted_if}
 

@@ -1,9 +1,9 @@
 -- A kernel obeys its modes exactly where it breaks no rule, and has at most one refusal.
 use Rattle.std.proofs.Common.{◌≡◌, ℕ, zero, suc, ◌≤◌, List, [], ◌∷◌, ◌++◌, refl, sym, ap, ◌∙◌, subst, ◌⊎◌, inl, inr, ⊎_elim, arith}
-use Rattle.c_lex.specs.declared.tokens.Pos.{Pos}
+use Rattle.c_tree.specs.declared.lexer.tokens.Pos.{Pos}
 use Rattle.kernel_model.specs.declared.types.kernels.RKernel.{RKernel}
 use Rattle.kernel_model.specs.Obeys.{Mode, mode_at, Event, Reads, Assigns, Adds, Changes, Owns, Merges, events, no_counters, Assigned, Allowed, after_event, AllAllowed, assigned_after, KernelObeys}
-use Rattle.c_lex.specs.Order.{IsEarlier}
+use Rattle.c_tree.specs.Order.{IsEarlier}
 use Rattle.kernel_model.specs.Refusals.{Rule, WritesRead, ReadsInc, IncNotSum, ReadsUnwritten, NotAllWritten, WriteIndexNotStatic, LiteralIndexOut, MinMaxForm, number_of, argument_of, place_of, Breaks, KernelBreaks, ObeysUnlessBroken, OneRefusal}
 use Rattle.kernel_model.proofs.Paths.{allowed_back}
 use Rattle.kernel_model.proofs.BrokenRules.{Fits, has_assigned, breaks_none, fits_or}

@@ -1,6 +1,6 @@
 -- Which rules are broken along the events of a family of paths, one part after another.
 use Rattle.std.proofs.Common.{◌≡◌, List, [], ◌∷◌, ◌++◌, Option, Some, None, Bool, true, false, sym, subst, ◌⊎◌, inl, inr, ⊎_elim}
-use Rattle.c_lex.specs.declared.tokens.Pos.{Pos}
+use Rattle.c_tree.specs.declared.lexer.tokens.Pos.{Pos}
 use Rattle.kernel_model.specs.Obeys.{Mode, mode_at, Event, Assigned, after_event, assigned_after, PathIf, if_taken, taken_if, on_branch}
 use Rattle.kernel_model.specs.Refusals.{Rule, argument_of, place_of, Breaks}
 use Rattle.kernel_model.specs.Walk.{Breach, Covered, event_found}

@@ -1,7 +1,7 @@
 -- What a kernel does to a store of named cells (ISO C 6.5 and 6.8, with operands from left to right).
 use Rattle.std.specs.Prelude.{ℕ, zero, suc, ℤ, pos, negsuc, ◌+◌, ◌-◌, List, cond, Result, Ok, Err, nat_lt, slice_index_or, slice_set, replicate}
 use Rattle.op_num.specs.declared.refusals.Fault.TheVariants.{Index}
-use Rattle.c_lex.specs.declared.tokens.Pos.{Pos}
+use Rattle.c_tree.specs.declared.lexer.tokens.Pos.{Pos}
 use Rattle.c_tree.specs.declared.expressions.BinaryOp.TheVariants as binary
 use Rattle.c_tree.specs.declared.declarations.AssignOp.{AssignOp}
 use Rattle.c_tree.specs.declared.declarations.AssignOp.TheVariants as assign

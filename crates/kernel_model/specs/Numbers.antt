@@ -5,7 +5,7 @@ use Rattle.std.specs.Int.{w32, int_bit_and, int_bit_or, int_bit_xor, int_bit_not
 use Rattle.op_num.specs.Wrapping.{wrapped, absolute, remainder, doubled, halved}
 use Rattle.op_num.specs.declared.refusals.Fault.{Fault}
 use Rattle.op_num.specs.declared.refusals.Fault.TheVariants.{DivZero, ShiftCount}
-use Rattle.c_lex.specs.declared.tokens.Pos.{Pos}
+use Rattle.c_tree.specs.declared.lexer.tokens.Pos.{Pos}
 use Rattle.c_tree.specs.declared.expressions.BinaryOp.{BinaryOp}
 use Rattle.c_tree.specs.declared.expressions.BinaryOp.TheVariants as binary
 use Rattle.c_tree.specs.declared.expressions.UnaryOp.{UnaryOp}

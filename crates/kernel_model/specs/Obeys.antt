@@ -1,7 +1,7 @@
 -- The access rules, on all paths of the unrolled kernel (the meaning of OP_READ, OP_WRITE, OP_RW, OP_INC, OP_MIN and OP_MAX in the OP2
 -- manual).
 use Rattle.std.specs.Prelude.{◌≡◌, ℕ, zero, suc, ℤ, pos, negsuc, ◌-◌, ◌<◌, List, [], ◌∷◌, ◌++◌, Bool, true, false, cond, ◌&&◌, Option, Some, None, ◌⊎◌, nat_eq, slice_index_or}
-use Rattle.c_lex.specs.declared.tokens.Pos.{Pos}
+use Rattle.c_tree.specs.declared.lexer.tokens.Pos.{Pos}
 use Rattle.c_tree.specs.declared.expressions.BinaryOp.{BinaryOp}
 use Rattle.c_tree.specs.declared.expressions.BinaryOp.TheVariants as binary
 use Rattle.c_tree.specs.declared.expressions.UnaryOp.{UnaryOp}

@@ -1,7 +1,7 @@
 -- Operators on numbers of 32 bits have numbers of 32 bits, where they have no fault.
 use Rattle.std.specs.Prelude.{ℤ, Bool, Ok, Err, FitsSigned}
 use Rattle.std.specs.Int.{w32}
-use Rattle.c_lex.specs.declared.tokens.Pos.{Pos}
+use Rattle.c_tree.specs.declared.lexer.tokens.Pos.{Pos}
 use Rattle.c_tree.specs.declared.expressions.BinaryOp.{BinaryOp}
 use Rattle.c_tree.specs.declared.expressions.UnaryOp.{UnaryOp}
 use Rattle.c_tree.specs.declared.expressions.MinMax.{MinMax}

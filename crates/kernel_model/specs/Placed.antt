@@ -1,7 +1,7 @@
 -- A fault of an operator gets the operator's place.
 use Rattle.std.specs.Prelude.{ℤ, Result, Ok, Err}
 use Rattle.op_num.specs.declared.refusals.Fault.{Fault}
-use Rattle.c_lex.specs.declared.tokens.Pos.{Pos}
+use Rattle.c_tree.specs.declared.lexer.tokens.Pos.{Pos}
 use Rattle.kernel_model.specs.Numbers.{Value, fault}
 
 -- the value, or its fault at that place

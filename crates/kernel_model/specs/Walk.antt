@@ -1,6 +1,6 @@
 -- The refusal of a kernel by one walk over it, with the components that every path has assigned.
 use Rattle.std.specs.Prelude.{ℕ, zero, suc, ℤ, pos, negsuc, ◌-◌, List, length, Bool, true, false, cond, ◌&&◌, ◌||◌, Option, Some, None, nat_eq, nat_lt}
-use Rattle.c_lex.specs.declared.tokens.Pos.{Pos}
+use Rattle.c_tree.specs.declared.lexer.tokens.Pos.{Pos}
 use Rattle.c_tree.specs.declared.expressions.MinMax.{MinMax}
 use Rattle.op_num.specs.Reduction.{Add, Min, Max}
 use Rattle.op_num.specs.Access.{Access, OpRead, OpWrite, OpReduce}

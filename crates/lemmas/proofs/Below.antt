@@ -1,5 +1,5 @@
 -- Steps and readings of tests, counts and lists below a bound.
-use Rattle.std.proofs.Common.{◌≡◌, ℕ, ap, zero, suc, ◌+◌, ◌<◌, ◌≤◌, Bool, true, false, ◌||◌, cond, [], ◌∷◌, ◌++◌, length, get_or, refl, sym, ◌∙◌, ⊎_elim, arith, add-one, subst}
+use Rattle.std.proofs.Common.{◌≡◌, ℕ, List, ap, zero, suc, ◌+◌, ◌<◌, ◌≤◌, Bool, true, false, ◌||◌, cond, [], ◌∷◌, ◌++◌, length, get_or, refl, sym, ◌∙◌, ⊎_elim, arith, add-one, subst}
 use Rattle.std.proofs.lemmas.Bool.{cases_Bool, cases_eq, cases_lt, or_cases, or_left, or_right}
 use Rattle.std.proofs.lemmas.List.{length_push, get_or_append_left, get_or_push, append-nil}
 use Rattle.lemmas.specs.Below.{any_below, count_below, listed}

@@ -1,7 +1,7 @@
 -- Binding is never refused for want of memory.
 use Rattle.std.proofs.Common.{◌≡◌, ℕ, zero, suc, Bool, true, false, List, [], ◌∷◌, length, Option, Some, None, Ok, Err, nat_lt, if◌then◌else◌, subst, bytes_eq}
 use Rattle.std.specs.Map.{lookup}
-use Rattle.c_lex.specs.declared.tokens.Pos.{Pos}
+use Rattle.c_tree.specs.declared.lexer.tokens.Pos.{Pos}
 use Rattle.c_tree.specs.declared.expressions.Ident.{Ident}
 use Rattle.c_tree.specs.Tree as tree
 use Rattle.c_tree.specs.Tree.{ExprTree, DeclrTree, Plain, Init, Array, TopTree, OpCallTree, HostTree, HostTrees, HostForHeaderTree, ProgramTree}

@@ -1,7 +1,7 @@
 -- The cells that expressions of `main` name are those of variables that are declared.
 use Rattle.std.proofs.Common.{ℕ, ◌+◌, ◌≤◌, List, arith}
 use Rattle.std.specs.Prelude.{Option, Some, None, IfSome}
-use Rattle.c_lex.specs.declared.tokens.Pos.{Pos}
+use Rattle.c_tree.specs.declared.lexer.tokens.Pos.{Pos}
 use Rattle.c_tree.specs.Tree as tree
 use Rattle.c_tree.specs.Tree.{ExprTree}
 use Rattle.kernel_model.specs.declared.types.kernels.RKernel.{RKernel}

@@ -1,6 +1,6 @@
 -- Each name that `main` assigns means a variable where it stands, as names and types of a source without a refusal have it.
 use Rattle.std.specs.Prelude.{List, Option, Some, Ok, Err}
-use Rattle.c_lex.specs.declared.tokens.Pos.{Pos}
+use Rattle.c_tree.specs.declared.lexer.tokens.Pos.{Pos}
 use Rattle.c_tree.specs.Tree as tree
 use Rattle.c_tree.specs.Tree.{HostTree, HostTrees, ProgramTree}
 use Rattle.kernel_model.specs.declared.types.kernels.ConstDecl.{ConstDecl}

@@ -1,7 +1,7 @@
 -- The values of expressions of `main` are numbers of 32 bits, and what is left of an expression names cells alone.
 use Rattle.std.proofs.Common.{ℕ, zero, suc, ℤ, pos, ◌+◌, ◌<◌, ◌≤◌, List, [], ◌∷◌, ◌++◌, Ok, Err, Bool, true, false, cond, arith, FitsSigned, w32}
 use Rattle.std.specs.Prelude.{slice_index_or, Result}
-use Rattle.c_lex.specs.declared.tokens.Pos.{Pos}
+use Rattle.c_tree.specs.declared.lexer.tokens.Pos.{Pos}
 use Rattle.c_tree.specs.declared.expressions.BinaryOp.{BinaryOp}
 use Rattle.c_tree.specs.declared.expressions.UnaryOp.{UnaryOp}
 use Rattle.kernel_model.specs.declared.types.faults.KernelFault.{KernelFault}

@@ -3,7 +3,7 @@ use Rattle.std.proofs.Common.{◌≡◌, ℕ, ℤ, List, [], ◌∷◌, ◌++◌
 use Rattle.std.specs.Prelude.{All, ◌⊎◌, Option, Some, None, IfSome, is_some, bytes_eq, nat_eq, if◌then◌else◌}
 use Rattle.std.specs.Map.{lookup}
 use Rattle.std.proofs.lemmas.List.Elements.{All-nil, All-cons, All-push}
-use Rattle.c_lex.specs.declared.tokens.Pos.{Pos}
+use Rattle.c_tree.specs.declared.lexer.tokens.Pos.{Pos}
 use Rattle.c_tree.specs.declared.expressions.Ident.{Ident}
 use Rattle.c_tree.specs.declared.expressions.NumberLiteral.{NumberLiteral}
 use Rattle.c_tree.specs.declared.hosts.GlobalName.{GlobalName}

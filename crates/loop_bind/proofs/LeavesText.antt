@@ -2,7 +2,7 @@
 use Rattle.std.proofs.Common.{List, length, map, Ok, Err}
 use Rattle.std.specs.Prelude.{Option, Some, None, IfSome, is_none}
 use Rattle.std.proofs.lemmas.List.Elements.{All-take}
-use Rattle.c_lex.specs.declared.tokens.Pos.{Pos}
+use Rattle.c_tree.specs.declared.lexer.tokens.Pos.{Pos}
 use Rattle.c_tree.specs.declared.expressions.Ident.{Ident}
 use Rattle.c_tree.specs.Tree as tree
 use Rattle.c_tree.specs.Tree.{PlaceTree, OpCallTree, HostTree, HostTrees}

@@ -1,13 +1,13 @@
 -- What `main` of a source that was read declares has C names.
 use Rattle.std.proofs.Common.{◌≡◌, ℕ, suc, Bool, true, false, List, [], ◌∷◌, ◌++◌, map, Ok, sym, subst}
-use Rattle.c_lex.specs.declared.tokens.Kind.{Kind}
-use Rattle.c_lex.specs.declared.tokens.Kind.TheVariants as kind
-use Rattle.c_lex.specs.declared.tokens.Pos.{Pos}
-use Rattle.c_lex.specs.declared.tokens.Sign.TheVariants as sign
-use Rattle.c_lex.specs.declared.tokens.Token.{Token}
-use Rattle.c_lex.specs.declared.tokens.Word.TheVariants as word
-use Rattle.c_lex.specs.Spelling.{IsName}
-use Rattle.c_lex.specs.Lexed.{Stop, AtEnd, AtBadByte, AtOpenComment, AtOpenText, AtNumberTooLarge, Part, Passed, Spelled, IsPartBefore, is_fresh_behind, is_number_part, AreParts, advance, start, tokens_of, Outcome, outcome_of, Lexes}
+use Rattle.c_tree.specs.declared.lexer.tokens.Kind.{Kind}
+use Rattle.c_tree.specs.declared.lexer.tokens.Kind.TheVariants as kind
+use Rattle.c_tree.specs.declared.lexer.tokens.Pos.{Pos}
+use Rattle.c_tree.specs.declared.lexer.tokens.Sign.TheVariants as sign
+use Rattle.c_tree.specs.declared.lexer.tokens.Token.{Token}
+use Rattle.c_tree.specs.declared.lexer.tokens.Word.TheVariants as word
+use Rattle.c_tree.specs.Spelling.{IsName}
+use Rattle.c_tree.specs.Lexed.{Stop, AtEnd, AtBadByte, AtOpenComment, AtOpenText, AtNumberTooLarge, Part, Passed, Spelled, IsPartBefore, is_fresh_behind, is_number_part, AreParts, advance, start, tokens_of, Outcome, outcome_of, Lexes}
 use Rattle.c_tree.specs.Print.{Mark, sign_at, word_at, named_word, condition, tops, host_counter, call, host, hosts, argv_marks, return_marks, main, program}
 use Rattle.c_tree.specs.Reads.{Reads}
 use Rattle.c_tree.specs.Tree as tree

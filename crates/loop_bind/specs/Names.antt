@@ -1,6 +1,6 @@
 -- What a program declares has C names (ISO C 6.4.2.1).
 use Rattle.std.specs.Prelude.{◌≡◌, List, ℕ, Ok, All}
-use Rattle.c_lex.specs.Spelling.{IsName}
+use Rattle.c_tree.specs.Spelling.{IsName}
 use Rattle.c_tree.specs.Tree.{ProgramTree}
 use Rattle.c_tree.specs.Reads.{Reads}
 use Rattle.kernel_model.specs.declared.types.kernels.Resolved.{Resolved}

@@ -1,6 +1,6 @@
 -- The text of a program, judged statement by statement in its order.
 use Rattle.std.specs.Prelude.{ℕ, pos, true, false, not, List, length, map, Option, Some, None, Ok, is_none, nat_eq}
-use Rattle.c_lex.specs.declared.tokens.Pos.{Pos}
+use Rattle.c_tree.specs.declared.lexer.tokens.Pos.{Pos}
 use Rattle.c_tree.specs.declared.expressions.Ident.{Ident}
 use Rattle.c_tree.specs.declared.expressions.TextLiteral.{TextLiteral}
 use Rattle.c_tree.specs.Tree as tree

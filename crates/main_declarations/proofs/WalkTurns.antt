@@ -1,6 +1,6 @@
 -- Turns of the loops of the walk over the text.
 use Rattle.std.proofs.Common.{◌≡◌, List, [], ◌∷◌, ◌++◌, refl, ap, ℕ, zero, suc, ◌<◌, ◌≤◌, map, length, get_or, set, Option, arith}
-use Rattle.c_lex.specs.declared.tokens.Pos.{Pos}
+use Rattle.c_tree.specs.declared.lexer.tokens.Pos.{Pos}
 use Rattle.bound_program.specs.declared.programs.Var.{Var}
 use Rattle.bound_program.specs.declared.trace.steps.Step.{Step}
 use Rattle.bound_program.specs.Values.{var_of}

@@ -1,6 +1,6 @@
 -- The expressions of `main` with the meanings of their names.
 use Rattle.std.specs.Prelude.{ℕ, ℤ, pos, false, not, [], Ok, Err, List, Option, Some}
-use Rattle.c_lex.specs.declared.tokens.Pos.{Pos}
+use Rattle.c_tree.specs.declared.lexer.tokens.Pos.{Pos}
 use Rattle.c_tree.specs.declared.expressions.Ident.{Ident}
 use Rattle.c_tree.specs.Tree as tree
 use Rattle.c_tree.specs.Tree.{ExprTree}

@@ -1,7 +1,7 @@
 -- The externs, variables and kernels of the file, in the order of the text.
 use Rattle.std.specs.Prelude.{suc, List, [], ◌∷◌, length, Option, Some, Ok, Err, bytes_eq}
 use Rattle.std.specs.Map.{lookup}
-use Rattle.c_lex.specs.declared.tokens.Pos.{Pos}
+use Rattle.c_tree.specs.declared.lexer.tokens.Pos.{Pos}
 use Rattle.c_tree.specs.declared.expressions.Ident.{Ident}
 use Rattle.c_tree.specs.Tree as tree
 use Rattle.c_tree.specs.Tree.{ExprTree, PlaceTree, AssignmentTree, TopTree, OpCallTree, HostTree, HostTrees, HostForHeaderTree}

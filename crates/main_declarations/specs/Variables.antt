@@ -1,7 +1,7 @@
 -- Declarations of variables, of the file and of `main` (ISO C 6.7), and the constants that kernels read (`op_decl_const` of the
 -- OP2 C API).
 use Rattle.std.specs.Prelude.{ℕ, zero, suc, ℤ, pos, Bool, true, false, not, List, [], ◌∷◌, ◌++◌, length, replicate, Option, Some, None, Ok, is_some, nat_eq, if◌then◌else◌}
-use Rattle.c_lex.specs.declared.tokens.Pos.{Pos}
+use Rattle.c_tree.specs.declared.lexer.tokens.Pos.{Pos}
 use Rattle.c_tree.specs.declared.declarations.AssignOp.TheVariants as assign
 use Rattle.c_tree.specs.declared.expressions.Ident.{Ident}
 use Rattle.c_tree.specs.declared.expressions.NumberLiteral.{NumberLiteral}

@@ -1,6 +1,6 @@
 -- Turns of the loops over the parts of the file.
 use Rattle.std.proofs.Common.{◌≡◌, ℕ, zero, suc, ◌+◌, ◌<◌, Bool, Some, slice_get, add-one, List, [], ◌∷◌, ◌++◌, map, drop, length, get_or, refl, sym, Option, append_assoc}
-use Rattle.c_lex.specs.declared.tokens.Pos.{Pos}
+use Rattle.c_tree.specs.declared.lexer.tokens.Pos.{Pos}
 use Rattle.c_tree.specs.declared.declarations.Declr.{Declr}
 use Rattle.c_tree.specs.declared.programs.Top.{Top}
 use Rattle.c_tree.specs.View.{declr_of, top_of}

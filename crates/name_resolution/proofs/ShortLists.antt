@@ -1,9 +1,9 @@
 -- What a source is resolved to has no longer lists than the source has tokens.
 use Rattle.std.proofs.Common.{◌≡◌, ℕ, suc, ◌+◌, ◌≤◌, Bool, true, false, List, [], ◌∷◌, ◌++◌, length, is_some, refl, ap, arith, length-append, if◌then◌else◌}
 use Rattle.std.proofs.lemmas.List.{length-map}
-use Rattle.c_lex.specs.declared.tokens.Pos.{Pos}
-use Rattle.c_lex.specs.declared.tokens.Sign.TheVariants as sign
-use Rattle.c_lex.specs.declared.tokens.Word.TheVariants as word
+use Rattle.c_tree.specs.declared.lexer.tokens.Pos.{Pos}
+use Rattle.c_tree.specs.declared.lexer.tokens.Sign.TheVariants as sign
+use Rattle.c_tree.specs.declared.lexer.tokens.Word.TheVariants as word
 use Rattle.c_tree.specs.Signs.{assign_sign_of}
 use Rattle.c_tree.specs.declared.kernels.Param.{Param}
 use Rattle.c_tree.specs.declared.declarations.AssignOp.{AssignOp}

@@ -1,7 +1,7 @@
 -- Turns of the loops over declarators and statements of a kernel, views of blocks, and names that stay.
 use Rattle.std.proofs.Common.{◌≡◌, ℕ, zero, suc, ◌+◌, ◌<◌, ◌≤◌, take, arith, Bool, true, false, List, [], ◌∷◌, ◌++◌, map, drop, length, get_or, is_some, refl, sym, ap, subst, ◌∙◌, Vec, Global, Option, drop-cons, add-one, if◌then◌else◌}
 use mathlib.Core.Former.{Count}
-use Rattle.c_lex.specs.declared.tokens.Pos.{Pos}
+use Rattle.c_tree.specs.declared.lexer.tokens.Pos.{Pos}
 use Rattle.c_tree.specs.declared.declarations.Declr.{Declr}
 use Rattle.c_tree.specs.declared.kernels.Stmt.{Stmt}
 use Rattle.c_tree.specs.Tree as tree

@@ -1,6 +1,6 @@
 -- The rules that kernels break, and the kernels in which each name is resolved.
 use Rattle.std.specs.Prelude.{ℕ, suc, Bool, true, false, pos, nat_eq, List, [], ◌∷◌, ◌++◌, length, map}
-use Rattle.c_lex.specs.declared.tokens.Pos.{Pos}
+use Rattle.c_tree.specs.declared.lexer.tokens.Pos.{Pos}
 use Rattle.c_tree.specs.declared.expressions.Ident.{Ident}
 use Rattle.c_tree.specs.declared.kernels.ForHeader.{ForHeader}
 use Rattle.c_tree.specs.declared.kernels.Param.{Param}

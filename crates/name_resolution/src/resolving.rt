@@ -134,7 +134,7 @@ pub fn some_answer()
     ensures kernels { (bytes : List ℕ) (p : ProgramTree) → Reads bytes p → length bytes < 2 ^ 63 → (r : Kernels)
         × (resolved_of r ≡ resolved p) }
 {
-    c_lex::tokens_are_few();
+    c_tree::lexer::tokens_are_few();
 }
 
 /// A law: the kernels and constants that a source comes to are those of a resolved program, where the numbers of the

@@ -6,17 +6,17 @@ use Rattle.std.specs.Str.{bytes_eq}
 use Rattle.std.proofs.lemmas.Bool.{cases_lt, and_parts, and_from, true≢false}
 use Rattle.std.proofs.lemmas.List.Folds.{list_all-append}
 use Rattle.std.proofs.lemmas.Slice.Eq.{bytes_eq-Decides}
-use Rattle.c_lex.specs.declared.tokens.Kind.{Kind}
-use Rattle.c_lex.specs.declared.tokens.Kind.TheVariants as kind
-use Rattle.c_lex.specs.declared.tokens.Sign.{Sign}
-use Rattle.c_lex.specs.declared.tokens.Sign.TheVariants as sign
-use Rattle.c_lex.specs.declared.tokens.Word.{Word}
-use Rattle.c_lex.specs.declared.spelling.TheConstants.{WORDS}
-use Rattle.c_lex.specs.Spelling.{sign_spelling, word_spelling, letter, digit, part, textual, text_spelling, IsName, IsFigure, HasForm}
-use Rattle.c_lex.specs.Lexed.{EndsLine, IsPassed, BeginsNoComment, NoLonger, IsLongest, Part, Passed, Spelled, IsPartBefore}
-use Rattle.c_lex.proofs.Forms.{no_word, word_named, begins, not_empty, letter_digit, text_begins}
-use Rattle.c_lex.proofs.Longest.{text_one}
-use Rattle.c_lex.proofs.Apart.{letter_bounds}
+use Rattle.c_tree.specs.declared.lexer.tokens.Kind.{Kind}
+use Rattle.c_tree.specs.declared.lexer.tokens.Kind.TheVariants as kind
+use Rattle.c_tree.specs.declared.lexer.tokens.Sign.{Sign}
+use Rattle.c_tree.specs.declared.lexer.tokens.Sign.TheVariants as sign
+use Rattle.c_tree.specs.declared.lexer.tokens.Word.{Word}
+use Rattle.c_tree.specs.declared.lexer.spelling.TheConstants.{WORDS}
+use Rattle.c_tree.specs.Spelling.{sign_spelling, word_spelling, letter, digit, part, textual, text_spelling, IsName, IsFigure, HasForm}
+use Rattle.c_tree.specs.Lexed.{EndsLine, IsPassed, BeginsNoComment, NoLonger, IsLongest, Part, Passed, Spelled, IsPartBefore}
+use Rattle.c_tree.proofs.lexer.Forms.{no_word, word_named, begins, not_empty, letter_digit, text_begins}
+use Rattle.c_tree.proofs.lexer.Longest.{text_one}
+use Rattle.c_tree.proofs.lexer.Apart.{letter_bounds}
 use Rattle.lemmas.proofs.Lists.{find_passes}
 
 -- ---- lists

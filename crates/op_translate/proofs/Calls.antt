@@ -3,16 +3,16 @@ use Rattle.std.proofs.Common.{◌≡◌, ◌≢◌, ℕ, ◌≤◌, ◌<◌, Boo
 use Rattle.std.specs.Prelude.{not}
 use Rattle.std.specs.List.{list_all, starts_with}
 use Rattle.std.proofs.lemmas.Bool.{cases_lt, true≢false}
-use Rattle.c_lex.specs.declared.tokens.Kind.{Kind}
-use Rattle.c_lex.specs.declared.tokens.Kind.TheVariants as kind
-use Rattle.c_lex.specs.declared.tokens.Sign.{Sign}
-use Rattle.c_lex.specs.declared.tokens.Sign.TheVariants as sign
-use Rattle.c_lex.specs.declared.tokens.Word.{Word}
-use Rattle.c_lex.specs.declared.tokens.Word.TheVariants as word
-use Rattle.c_lex.specs.Spelling.{sign_spelling, word_spelling, part, IsName, HasForm}
-use Rattle.c_lex.specs.Lexed.{fresh_after, BeginsNoComment, NoLonger, IsLongest, Part, Passed, Spelled, all_bytes, is_number}
-use Rattle.c_lex.proofs.Forms.{Begins, BeginsSign, begins, name_begins, sign_begins_as, not_empty}
-use Rattle.c_lex.proofs.Apart.{letter_bounds}
+use Rattle.c_tree.specs.declared.lexer.tokens.Kind.{Kind}
+use Rattle.c_tree.specs.declared.lexer.tokens.Kind.TheVariants as kind
+use Rattle.c_tree.specs.declared.lexer.tokens.Sign.{Sign}
+use Rattle.c_tree.specs.declared.lexer.tokens.Sign.TheVariants as sign
+use Rattle.c_tree.specs.declared.lexer.tokens.Word.{Word}
+use Rattle.c_tree.specs.declared.lexer.tokens.Word.TheVariants as word
+use Rattle.c_tree.specs.Spelling.{sign_spelling, word_spelling, part, IsName, HasForm}
+use Rattle.c_tree.specs.Lexed.{fresh_after, BeginsNoComment, NoLonger, IsLongest, Part, Passed, Spelled, all_bytes, is_number}
+use Rattle.c_tree.proofs.lexer.Forms.{Begins, BeginsSign, begins, name_begins, sign_begins_as, not_empty}
+use Rattle.c_tree.proofs.lexer.Apart.{letter_bounds}
 use Rattle.op_translate.specs.Translation.{prefix}
 use Rattle.op_translate.proofs.Ahead.{beyond, all_at}
 use Rattle.op_translate.proofs.Patches.{fresh_behind, number_behind, IsSwap}

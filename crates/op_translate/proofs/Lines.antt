@@ -3,8 +3,8 @@ use Rattle.std.proofs.Common.{◌≡◌, ◌≢◌, ℕ, suc, Bool, List, [], �
 use Rattle.std.specs.Prelude.{codes}
 use Rattle.std.specs.List.{flat_map}
 use Rattle.std.specs.Fmt.{decimal}
-use Rattle.c_lex.specs.Front.{in_line}
-use Rattle.c_lex.specs.Lexed.{EndsLine, AtEnd, Part, Passed, all_bytes, AreParts}
+use Rattle.c_tree.specs.Front.{in_line}
+use Rattle.c_tree.specs.Lexed.{EndsLine, AtEnd, Part, Passed, all_bytes, AreParts}
 use Rattle.op_translate.specs.Stubs.{Loop, arg_text, stub_text, stubs_text, table_text}
 use Rattle.op_translate.proofs.Ahead.{all_at}
 use Rattle.op_translate.proofs.Named.{LoopNamed, LoopsNamed, Clean, clean_both, name_clean, decimal_clean, args_clean}

@@ -1,8 +1,8 @@
 -- What edits make of the bytes of parts.
 use Rattle.std.proofs.Common.{◌≡◌, ℕ, ◌+◌, ◌-◌, List, [], ◌∷◌, ◌++◌, length, take, drop, Option, None, refl, sym, ap, ◌∙◌, append_assoc, length-append, arith}
-use Rattle.c_lex.specs.declared.tokens.Pos.{Pos}
-use Rattle.c_lex.specs.declared.tokens.Token.{Token}
-use Rattle.c_lex.specs.Lexed.{advance, Part, Passed, Spelled, bytes_of, all_bytes, tokens_of}
+use Rattle.c_tree.specs.declared.lexer.tokens.Pos.{Pos}
+use Rattle.c_tree.specs.declared.lexer.tokens.Token.{Token}
+use Rattle.c_tree.specs.Lexed.{advance, Part, Passed, Spelled, bytes_of, all_bytes, tokens_of}
 use Rattle.op_translate.specs.Edits.{Edit, edited, with_edit, edits}
 use Rattle.op_translate.proofs.Patches.{all_bytes-append, Patch, Keep, Swap, olds, news}
 use Rattle.std.proofs.Math.Seq.{drop-append_seam, take-append_seam}

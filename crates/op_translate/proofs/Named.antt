@@ -5,10 +5,10 @@ use Rattle.std.specs.List.{list_all, flat_map}
 use Rattle.std.specs.Fmt.{digit_glyph, digits_onto, digits, decimal, signed_decimal}
 use Rattle.std.proofs.lemmas.Bool.{eqb-true, and_parts, and_from, true≢false}
 use Rattle.std.proofs.lemmas.List.Folds.{list_all-append}
-use Rattle.c_lex.specs.declared.tokens.Kind.{Kind}
-use Rattle.c_lex.specs.declared.tokens.Kind.TheVariants as kind
-use Rattle.c_lex.specs.Spelling.{part, word_spelling, IsName}
-use Rattle.c_lex.specs.Front.{in_line}
+use Rattle.c_tree.specs.declared.lexer.tokens.Kind.{Kind}
+use Rattle.c_tree.specs.declared.lexer.tokens.Kind.TheVariants as kind
+use Rattle.c_tree.specs.Spelling.{part, word_spelling, IsName}
+use Rattle.c_tree.specs.Front.{in_line}
 use Rattle.c_tree.specs.declared.expressions.NumberLiteral.{NumberLiteral}
 use Rattle.c_tree.specs.declared.hosts.AccessWord.{AccessWord}
 use Rattle.c_tree.specs.declared.hosts.AccessWord.TheVariants as access

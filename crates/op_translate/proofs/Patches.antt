@@ -1,9 +1,9 @@
 -- Parts of a source of which some are replaced.
 use Rattle.std.proofs.Common.{◌≡◌, ℕ, Bool, true, false, List, [], ◌∷◌, ◌++◌, ◌⊎◌, inl, inr, refl, sym, ap, subst, ◌∙◌, append_assoc}
 use Rattle.std.proofs.lemmas.List.{append_cancel_left}
-use Rattle.c_lex.specs.Spelling.{letter}
-use Rattle.c_lex.specs.Lexed.{IsApart, IsPassed, Stop, AtEnd, Part, Passed, Spelled, bytes_of, all_bytes, IsPartBefore, is_fresh_behind, is_number_part, AreParts}
-use Rattle.c_lex.proofs.Forms.{not_empty}
+use Rattle.c_tree.specs.Spelling.{letter}
+use Rattle.c_tree.specs.Lexed.{IsApart, IsPassed, Stop, AtEnd, Part, Passed, Spelled, bytes_of, all_bytes, IsPartBefore, is_fresh_behind, is_number_part, AreParts}
+use Rattle.c_tree.proofs.lexer.Forms.{not_empty}
 use Rattle.op_translate.proofs.Ahead.{part_kept}
 use Rattle.std.proofs.lemmas.Bool.{true≢false}
 

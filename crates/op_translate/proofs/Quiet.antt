@@ -1,11 +1,11 @@
 -- Tokens with which no edit begins.
 use Rattle.std.proofs.Common.{◌≡◌, ℕ, Bool, true, false, ◌&&◌, cond, List, [], ◌∷◌, length, drop, Some, None, refl, ap}
 use Rattle.std.specs.Prelude.{option_map}
-use Rattle.c_lex.specs.declared.tokens.Kind.{Kind}
-use Rattle.c_lex.specs.declared.tokens.Kind.TheVariants as kind
-use Rattle.c_lex.specs.declared.tokens.Sign.TheVariants as sign
-use Rattle.c_lex.specs.declared.tokens.Word.TheVariants as word
-use Rattle.c_lex.specs.declared.tokens.Token.{Token}
+use Rattle.c_tree.specs.declared.lexer.tokens.Kind.{Kind}
+use Rattle.c_tree.specs.declared.lexer.tokens.Kind.TheVariants as kind
+use Rattle.c_tree.specs.declared.lexer.tokens.Sign.TheVariants as sign
+use Rattle.c_tree.specs.declared.lexer.tokens.Word.TheVariants as word
+use Rattle.c_tree.specs.declared.lexer.tokens.Token.{Token}
 use Rattle.op_translate.specs.Translation.{prefix, begins, is_name, kernel_in, called, to_stub, stubbed, to_call}
 use Rattle.std.proofs.lemmas.Bool.{true≢false}
 

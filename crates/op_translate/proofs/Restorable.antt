@@ -1,7 +1,7 @@
 -- What is translated can be restored, with the same kinds of tokens.
 use Rattle.std.proofs.Common.{◌≡◌, ℕ, Bool, true, false, List, [], ◌∷◌, ◌++◌, map, Option, Some, None, Ok, refl, sym, ap, ap₂, subst, ◌∙◌, append_assoc}
-use Rattle.c_lex.specs.declared.tokens.Token.{Token}
-use Rattle.c_lex.specs.Lexed.{start, AtEnd, Part, bytes_of, all_bytes, is_fresh_behind, is_number_part, AreParts, tokens_of, Outcome, Lexes}
+use Rattle.c_tree.specs.declared.lexer.tokens.Token.{Token}
+use Rattle.c_tree.specs.Lexed.{start, AtEnd, Part, bytes_of, all_bytes, is_fresh_behind, is_number_part, AreParts, tokens_of, Outcome, Lexes}
 use Rattle.c_tree.specs.Reads.{shown}
 use Rattle.op_translate.specs.declared.refusals.TransRefusal.{TransRefusal}
 use Rattle.op_translate.specs.Edits.{edited, edits}

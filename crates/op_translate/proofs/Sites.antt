@@ -1,13 +1,13 @@
 -- A source that was read, as calls of loops and other parts.
 use Rattle.std.proofs.Common.{◌≡◌, ℕ, ◌+◌, length, Bool, true, false, List, [], ◌∷◌, ◌++◌, map, refl, sym, ap, ap₂, subst, ◌∙◌, append_assoc}
 use Rattle.std.specs.Prelude.{codes}
-use Rattle.c_lex.specs.declared.tokens.Kind.{Kind}
-use Rattle.c_lex.specs.declared.tokens.Kind.TheVariants as kind
-use Rattle.c_lex.specs.declared.tokens.Pos.{Pos}
-use Rattle.c_lex.specs.declared.tokens.Sign.TheVariants as sign
-use Rattle.c_lex.specs.declared.tokens.Word.TheVariants as word
-use Rattle.c_lex.specs.Spelling.{sign_spelling, IsName, HasForm}
-use Rattle.c_lex.specs.Lexed.{advance, Stop, Part, Passed, Spelled, is_fresh_behind, is_number_part, AreParts, tokens_of}
+use Rattle.c_tree.specs.declared.lexer.tokens.Kind.{Kind}
+use Rattle.c_tree.specs.declared.lexer.tokens.Kind.TheVariants as kind
+use Rattle.c_tree.specs.declared.lexer.tokens.Pos.{Pos}
+use Rattle.c_tree.specs.declared.lexer.tokens.Sign.TheVariants as sign
+use Rattle.c_tree.specs.declared.lexer.tokens.Word.TheVariants as word
+use Rattle.c_tree.specs.Spelling.{sign_spelling, IsName, HasForm}
+use Rattle.c_tree.specs.Lexed.{advance, Stop, Part, Passed, Spelled, is_fresh_behind, is_number_part, AreParts, tokens_of}
 use Rattle.op_translate.proofs.Quiet.{is_loop, is_taken}
 use Rattle.op_translate.proofs.Patches.{Patch, Keep, Swap, olds, news, AreSwaps}
 use Rattle.op_translate.proofs.Calls.{gaps, paren_part, comma_part, name_part, call_parts, stub_parts, IsKernel, to_stub_swaps, to_call_swaps}

@@ -1,9 +1,9 @@
 -- The tokens of a source, and the edits that begin with them, stand in order within its bytes.
 use Rattle.std.proofs.Common.{◌≡◌, ℕ, ◌+◌, ◌≤◌, Bool, true, false, List, [], ◌∷◌, ◌++◌, length, Option, Some, None, Ok, refl, sym, ap, subst, ◌∙◌, length-append, arith}
 use Rattle.std.specs.Prelude.{option_map, codes}
-use Rattle.c_lex.specs.declared.tokens.Pos.{Pos}
-use Rattle.c_lex.specs.declared.tokens.Token.{Token}
-use Rattle.c_lex.specs.Lexed.{advance, start, Stop, AtEnd, AtBadByte, AtOpenComment, AtOpenText, AtNumberTooLarge, Part, Passed, Spelled, is_fresh_behind, is_number_part, AreParts, tokens_of, Outcome, outcome_of, Lexes}
+use Rattle.c_tree.specs.declared.lexer.tokens.Pos.{Pos}
+use Rattle.c_tree.specs.declared.lexer.tokens.Token.{Token}
+use Rattle.c_tree.specs.Lexed.{advance, start, Stop, AtEnd, AtBadByte, AtOpenComment, AtOpenText, AtNumberTooLarge, Part, Passed, Spelled, is_fresh_behind, is_number_part, AreParts, tokens_of, Outcome, outcome_of, Lexes}
 use Rattle.op_translate.specs.Edits.{Edit, with_edit, edits, LieWithin}
 use Rattle.op_translate.specs.Translation.{prefix, called, to_stub, stubbed, to_call}
 use Rattle.op_translate.proofs.Quiet.{no_stub, no_call, called_quiet, stubbed_quiet}

@@ -1,7 +1,7 @@
 -- One token more.
 use Rattle.std.proofs.Common.{◌≡◌, ℕ, zero, suc, ◌+◌, ◌≤◌, ◌<◌, List, [], ◌∷◌, ◌++◌, length, take, drop, Option, Some, None, refl, sym, ap, ◌∙◌, subst, arith, append_assoc, length-drop, ◌-◌}
 use Rattle.std.proofs.lemmas.List.{take_all, drop-drop}
-use Rattle.c_lex.specs.declared.tokens.Token.{Token}
+use Rattle.c_tree.specs.declared.lexer.tokens.Token.{Token}
 use Rattle.op_translate.specs.declared.refusals.TransRefusal.{TransRefusal}
 use Rattle.op_translate.specs.Edits.{Edit, edited, with_edit, edits, LieWithin}
 use Rattle.op_translate.specs.Translation.{or_else, first_refusal}

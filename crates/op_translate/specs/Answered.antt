@@ -1,9 +1,9 @@
 -- What the functions answer.
 use Rattle.std.specs.Prelude.{ℕ, List, ◌++◌, Vec, Option, Some, None, Result, Ok, Err, codes}
 use Rattle.std.specs.Global.{Global}
-use Rattle.c_lex.specs.declared.tokens.Token.{Token}
-use Rattle.c_lex.specs.declared.refusals.LexRefusal.{LexRefusal}
-use Rattle.c_lex.specs.declared.refusals.LexRefusal.TheVariants as lex_refusal
+use Rattle.c_tree.specs.declared.lexer.tokens.Token.{Token}
+use Rattle.c_tree.specs.declared.lexer.refusals.LexRefusal.{LexRefusal}
+use Rattle.c_tree.specs.declared.lexer.refusals.LexRefusal.TheVariants as lex_refusal
 use Rattle.op_translate.specs.declared.edits.Form.{Form}
 use Rattle.op_translate.specs.declared.edits.Form.TheVariants.{Stub, Call}
 use Rattle.op_translate.specs.declared.edits.Stretch.{Stretch}

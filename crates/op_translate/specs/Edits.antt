@@ -1,6 +1,6 @@
 -- Bytes of a source in which some stretches, each from one token to another, are replaced.
 use Rattle.std.specs.Prelude.{ℕ, ◌-◌, ◌≤◌, List, [], ◌∷◌, ◌++◌, take, drop, Option, Some, None}
-use Rattle.c_lex.specs.declared.tokens.Token.{Token}
+use Rattle.c_tree.specs.declared.lexer.tokens.Token.{Token}
 
 -- the bytes from one place up to another become these
 pub record Edit : Type 0 where

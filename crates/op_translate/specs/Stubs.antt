@@ -2,7 +2,7 @@
 use Rattle.std.specs.Prelude.{ℕ, suc, ℤ, neg_ℤ, List, [], ◌∷◌, ◌++◌, length, codes, if◌then◌else◌}
 use Rattle.std.specs.List.{flat_map}
 use Rattle.std.specs.Fmt.{decimal, signed_decimal}
-use Rattle.c_lex.specs.Spelling.{word_spelling}
+use Rattle.c_tree.specs.Spelling.{word_spelling}
 use Rattle.c_tree.specs.declared.expressions.NumberLiteral.{NumberLiteral}
 use Rattle.c_tree.specs.declared.hosts.AccessWord.{AccessWord}
 use Rattle.c_tree.specs.declared.hosts.ArgIndex.{ArgIndex}

@@ -2,16 +2,16 @@
 use Rattle.std.specs.Prelude.{◌≡◌, ℕ, Bool, false, ◌&&◌, nat_eq, List, [], ◌∷◌, ◌++◌, length, drop, map, Option, Some, None, option_map, Result, Ok, Err, find, is_none, codes, if◌then◌else◌}
 use Rattle.std.specs.List.{starts_with, list_all}
 use Rattle.std.specs.Str.{bytes_eq}
-use Rattle.c_lex.specs.declared.tokens.Kind.{Kind}
-use Rattle.c_lex.specs.declared.tokens.Kind.TheVariants as kind
-use Rattle.c_lex.specs.declared.tokens.Pos.{Pos}
-use Rattle.c_lex.specs.declared.tokens.Sign.TheVariants as sign
-use Rattle.c_lex.specs.declared.tokens.Word.TheVariants as word
-use Rattle.c_lex.specs.declared.tokens.Token.{Token}
-use Rattle.c_lex.specs.declared.spelling.TheConstants.{WORDS}
-use Rattle.c_lex.specs.declared.refusals.LexRefusal.{LexRefusal}
-use Rattle.c_lex.specs.Spelling.{letter, part, word_spelling}
-use Rattle.c_lex.specs.Lexed.{Lexes}
+use Rattle.c_tree.specs.declared.lexer.tokens.Kind.{Kind}
+use Rattle.c_tree.specs.declared.lexer.tokens.Kind.TheVariants as kind
+use Rattle.c_tree.specs.declared.lexer.tokens.Pos.{Pos}
+use Rattle.c_tree.specs.declared.lexer.tokens.Sign.TheVariants as sign
+use Rattle.c_tree.specs.declared.lexer.tokens.Word.TheVariants as word
+use Rattle.c_tree.specs.declared.lexer.tokens.Token.{Token}
+use Rattle.c_tree.specs.declared.lexer.spelling.TheConstants.{WORDS}
+use Rattle.c_tree.specs.declared.lexer.refusals.LexRefusal.{LexRefusal}
+use Rattle.c_tree.specs.Spelling.{letter, part, word_spelling}
+use Rattle.c_tree.specs.Lexed.{Lexes}
 use Rattle.op_translate.specs.declared.refusals.TransRefusal.{TransRefusal}
 use Rattle.op_translate.specs.declared.refusals.TransRefusal.TheVariants.{NameTaken, NoCall, LoopLeft, Lex}
 use Rattle.c_tree.specs.Tree.{ProgramTree}

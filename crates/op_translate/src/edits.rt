@@ -7,7 +7,7 @@ ghost use Rattle.op_translate.specs.Edits.{edited, edits, LieWithin};
 ghost use Rattle.op_translate.specs.Translation.{to_stub, to_call};
 
 use crate::names::kernel_of;
-use c_lex::{Kind, Sign, Token, Word};
+use c_tree::lexer::{Kind, Sign, Token, Word};
 use op_num::OutOfMemory;
 
 /// What the calls of loops become.

@@ -3,8 +3,8 @@
 ghost use Rattle.std.specs.Prelude.{◌≡◌, option_map, find, is_some};
 ghost use Rattle.std.specs.List.{list_all, list_any};
 ghost use Rattle.std.specs.Str.{bytes_eq};
-ghost use Rattle.c_lex.specs.declared.spelling.TheConstants.{WORDS};
-ghost use Rattle.c_lex.specs.Spelling.{letter, part, word_spelling};
+ghost use Rattle.c_tree.specs.declared.lexer.spelling.TheConstants.{WORDS};
+ghost use Rattle.c_tree.specs.Spelling.{letter, part, word_spelling};
 ghost use Rattle.op_translate.specs.Translation.{begins, is_name, kernel_in};
 
 // The reserved words, none of which is a name.

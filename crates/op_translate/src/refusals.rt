@@ -1,6 +1,6 @@
 // Why a source has no translation, and why bytes have no restoration.
 
-use c_lex::{LexRefusal, Pos};
+use c_tree::lexer::{LexRefusal, Pos};
 use std::alloc::{AllocError, AllocFailed};
 use thiserror::Error;
 

@@ -8,7 +8,7 @@ use crate::edits::{Form, put_edited, stub_at};
 use crate::laws::one_restoration;
 use crate::names::is_stub;
 use crate::refusals::TransRefusal;
-use c_lex::{Kind, Token, Word, lex};
+use c_tree::lexer::{Kind, Token, Word, lex};
 use std::alloc::Global;
 
 /// The bytes with each call of a stub a call of `op_par_loop` again: from the name `op_par_loop_K` up to the `(` behind

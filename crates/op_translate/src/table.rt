@@ -3,7 +3,7 @@
 ghost use Rattle.std.specs.Prelude.{◌≡◌, ◌++◌, codes, map, OnOk};
 ghost use Rattle.std.specs.List.{flat_map};
 ghost use Rattle.std.specs.Fmt.{signed_decimal};
-ghost use Rattle.c_lex.specs.Spelling.{word_spelling};
+ghost use Rattle.c_tree.specs.Spelling.{word_spelling};
 ghost use Rattle.c_tree.specs.Signs.{access_word_of};
 ghost use Rattle.c_tree.specs.View.{host_of, hosts_of};
 ghost use Rattle.op_translate.specs.Answered.{loop_of_found};

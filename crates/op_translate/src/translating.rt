@@ -1,7 +1,7 @@
 // The translation of a source.
 
 ghost use Rattle.std.specs.Prelude.{◌≡◌, ◌++◌, Ok, OnOk};
-ghost use Rattle.c_lex.specs.Lexed.{Lexes};
+ghost use Rattle.c_tree.specs.Lexed.{Lexes};
 ghost use Rattle.c_tree.specs.View.{program_of};
 ghost use Rattle.c_tree.specs.Reads.{Reads};
 ghost use Rattle.op_translate.specs.Translation.{Outcome, Translates, ends_line, line_end, first_refusal, refuses_stub};
@@ -12,7 +12,7 @@ use crate::laws::one_translation;
 use crate::names::is_stub;
 use crate::refusals::TransRefusal;
 use crate::table::put_table;
-use c_lex::{Kind, Token};
+use c_tree::lexer::{Kind, Token};
 use c_tree::Program;
 use op_num::OutOfMemory;
 use std::alloc::Global;

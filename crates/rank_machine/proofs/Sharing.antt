@@ -7,7 +7,7 @@ use denote.Struct.Declared as structs
 use denote.Struct.Field.{u32-field, i32-field}
 use Rattle.std.proofs.Crossing.{crosses}
 use Rattle.std.proofs.MapsCrossing as maps
-use Rattle.c_lex.specs.contracts.tokens.Pos as Pos
+use Rattle.c_tree.specs.contracts.lexer.tokens.Pos as Pos
 use Rattle.c_tree.specs.contracts.expressions.BinaryOp as BinaryOp
 use Rattle.c_tree.specs.contracts.expressions.MinMax as MinMax
 use Rattle.c_tree.specs.contracts.expressions.UnaryOp as UnaryOp

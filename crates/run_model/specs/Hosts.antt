@@ -2,7 +2,7 @@
 -- first, then the old value, then the right side; `op_printf`, `op_print_dat_to_txtfile` and `op_exit` of the OP2 C API).
 use Rattle.std.specs.Prelude.{ℕ, suc, ℤ, pos, ◌&&◌, List, [], ◌∷◌, ◌++◌, map, length, Option, Some, None, Result, Ok, Err, nat_eq, if◌then◌else◌}
 use Rattle.std.specs.List.{flat_map}
-use Rattle.c_lex.specs.declared.tokens.Pos.{Pos}
+use Rattle.c_tree.specs.declared.lexer.tokens.Pos.{Pos}
 use Rattle.c_tree.specs.declared.declarations.AssignOp.{AssignOp}
 use Rattle.kernel_model.specs.declared.types.faults.KernelFault.{KernelFault}
 use Rattle.kernel_model.specs.Meaning.{on_value, index_in, stored}

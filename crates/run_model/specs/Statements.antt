@@ -2,7 +2,7 @@
 -- old value, then the right side; `op_printf`, `op_print_dat_to_txtfile` and `op_exit` of the OP2 C API).
 use Rattle.std.specs.Prelude.{ℕ, ℤ, pos, List, [], ◌∷◌, ◌++◌, length, drop, replicate, Option, Some, None, Result, Ok, Err, slice_index_or, slice_set}
 use Rattle.std.specs.List.{flat_map}
-use Rattle.c_lex.specs.declared.tokens.Pos.{Pos}
+use Rattle.c_tree.specs.declared.lexer.tokens.Pos.{Pos}
 use Rattle.kernel_model.specs.declared.types.faults.KernelFault.{KernelFault}
 use Rattle.kernel_model.specs.View.{RExprTree}
 use Rattle.kernel_model.specs.Meaning.{cell, with_cell, on_value, index_in, stored}

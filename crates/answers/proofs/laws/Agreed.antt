@@ -1,7 +1,7 @@
 -- Any two answers to the same words agree.
 use Rattle.std.proofs.Common.{◌≡◌, ◌<◌, ◌⊎◌, inl, inr, ℕ, List, Option, Some, None, Result, Ok, Err, refl, sym, ap, ◌∙◌, subst}
-use Rattle.c_lex.specs.Lexed as lexer
-use Rattle.c_lex.specs.Lexed.{Lexes}
+use Rattle.c_tree.specs.Lexed as lexer
+use Rattle.c_tree.specs.Lexed.{Lexes}
 use Rattle.c_tree.specs.Tree.{ProgramTree}
 use Rattle.c_tree.specs.Reads.{Reads}
 use Rattle.kernel_model.specs.declared.types.kernels.Resolved.{Resolved}

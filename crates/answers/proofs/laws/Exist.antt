@@ -1,9 +1,9 @@
 -- There is an answer to all words.
 use Rattle.std.proofs.Common.{◌≡◌, ◌^◌, ◌≢◌, ◌≤◌, ◌<◌, ◌⊎◌, inl, inr, ℕ, List, length, Result, Ok, Err, refl, sym, ap, ◌∙◌, subst, arith}
-use Rattle.c_lex.specs.declared.tokens.Token.{Token}
-use Rattle.c_lex.specs.declared.refusals.LexRefusal.{LexRefusal}
-use Rattle.c_lex.specs.declared.refusals.LexRefusal.TheVariants as lex
-use Rattle.c_lex.specs.Lexed.{Lexes, Outcome, Stop, AtEnd, AtBadByte, AtOpenComment, AtOpenText, AtNumberTooLarge, Part, outcome_of}
+use Rattle.c_tree.specs.declared.lexer.tokens.Token.{Token}
+use Rattle.c_tree.specs.declared.lexer.refusals.LexRefusal.{LexRefusal}
+use Rattle.c_tree.specs.declared.lexer.refusals.LexRefusal.TheVariants as lex
+use Rattle.c_tree.specs.Lexed.{Lexes, Outcome, Stop, AtEnd, AtBadByte, AtOpenComment, AtOpenText, AtNumberTooLarge, Part, outcome_of}
 use Rattle.c_tree.specs.Tree.{ProgramTree}
 use Rattle.c_tree.specs.Reads.{Reads, Deep}
 use Rattle.c_tree.specs.declared.refusals.SourceRefusal.TheVariants as source

@@ -2,7 +2,7 @@
 use Rattle.std.proofs.Common.{ℕ, ℤ, not, Bool, true, false, cond, List, Option, Some, None, Ok, Err, if◌then◌else◌, []}
 use Rattle.std.specs.Prelude.{Result, All, IfSome, bytes_eq}
 use Rattle.std.proofs.lemmas.Map.Entries.{All-lookup}
-use Rattle.c_lex.specs.declared.tokens.Pos.{Pos}
+use Rattle.c_tree.specs.declared.lexer.tokens.Pos.{Pos}
 use Rattle.c_tree.specs.Tree as tree
 use Rattle.c_tree.specs.Tree.{ExprTree}
 use Rattle.kernel_model.specs.declared.types.faults.KernelFault.{KernelFault}

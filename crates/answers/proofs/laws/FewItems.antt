@@ -2,10 +2,10 @@
 use Rattle.std.proofs.Common.{◌≡◌, ◌<◌, ◌≤◌, ◌+◌, ◌^◌, ℕ, zero, suc, ℤ, Bool, true, false, List, ◌∷◌, ◌++◌, length, map, take, Ok, Err, if◌then◌else◌, refl, sym, ap, ◌∙◌, subst, arith, codes, length-append, []}
 use Rattle.std.proofs.lemmas.List.{length-take-le, length-map}
 use Rattle.std.proofs.lemmas.List.FromFn.{length-map-range_with_len}
-use Rattle.c_lex.specs.declared.tokens.Token.{Token}
-use Rattle.c_lex.specs.declared.tokens.Sign.TheVariants as sign
-use Rattle.c_lex.specs.declared.tokens.Word.TheVariants as word
-use Rattle.c_lex.specs.Lexed.{Lexes}
+use Rattle.c_tree.specs.declared.lexer.tokens.Token.{Token}
+use Rattle.c_tree.specs.declared.lexer.tokens.Sign.TheVariants as sign
+use Rattle.c_tree.specs.declared.lexer.tokens.Word.TheVariants as word
+use Rattle.c_tree.specs.Lexed.{Lexes}
 use Rattle.c_tree.specs.Tree.{ProgramTree}
 use Rattle.c_tree.specs.Print.{Mark, sign_at, named_word, vars, tops, hosts, argv_marks, return_marks, main, program}
 use Rattle.c_tree.specs.Reads.{Reads}

@@ -1,7 +1,7 @@
 -- A run that stops before an item, and one that goes on from the state there, are together the whole run.
 use Rattle.std.proofs.Common.{◌≡◌, ◌<◌, ◌≤◌, ◌+◌, ◌-◌, ◌^◌, ◌⊎◌, inl, inr, ℕ, zero, suc, false, List, [], ◌++◌, map, length, Some, Ok, refl, sym, ap, ◌∙◌, subst, arith, append-nil}
 use Rattle.std.proofs.lemmas.List.Elements.{All-weaker}
-use Rattle.c_lex.specs.Spelling.{IsName}
+use Rattle.c_tree.specs.Spelling.{IsName}
 use Rattle.c_tree.specs.Tree.{ProgramTree}
 use Rattle.c_tree.specs.Reads.{Reads}
 use Rattle.kernel_model.specs.declared.types.faults.KernelFault.{KernelFault}

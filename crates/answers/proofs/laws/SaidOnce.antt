@@ -1,7 +1,7 @@
 -- The refusal of a part is one of the program, and no other; only want of memory is none.
 use Rattle.std.proofs.Common.{◌≡◌, ◌≢◌, ℕ, List, [], ◌∷◌, refl, sym, ◌∙◌, ap}
-use Rattle.c_lex.specs.declared.refusals.LexRefusal.{LexRefusal}
-use Rattle.c_lex.specs.declared.refusals.LexRefusal.TheVariants as lex
+use Rattle.c_tree.specs.declared.lexer.refusals.LexRefusal.{LexRefusal}
+use Rattle.c_tree.specs.declared.lexer.refusals.LexRefusal.TheVariants as lex
 use Rattle.c_tree.specs.Tree.{ProgramTree}
 use Rattle.c_tree.specs.declared.refusals.SourceRefusal.{SourceRefusal}
 use Rattle.c_tree.specs.declared.refusals.SourceRefusal.TheVariants as source

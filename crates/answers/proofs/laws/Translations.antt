@@ -1,17 +1,17 @@
 -- Translations and restorations have one outcome, and there is one.
 use Rattle.std.proofs.Common.{◌≡◌, Bool, true, false, ℕ, List, [], ◌∷◌, Option, Some, None, Result, Ok, Err, refl, sym, subst, if◌then◌else◌}
-use Rattle.c_lex.specs.declared.tokens.Kind.{Kind}
-use Rattle.c_lex.specs.declared.tokens.Kind.TheVariants as kind
-use Rattle.c_lex.specs.declared.tokens.Word.TheVariants as word
-use Rattle.c_lex.specs.declared.tokens.Pos.{Pos}
-use Rattle.c_lex.specs.declared.tokens.Token.{Token}
+use Rattle.c_tree.specs.declared.lexer.tokens.Kind.{Kind}
+use Rattle.c_tree.specs.declared.lexer.tokens.Kind.TheVariants as kind
+use Rattle.c_tree.specs.declared.lexer.tokens.Word.TheVariants as word
+use Rattle.c_tree.specs.declared.lexer.tokens.Pos.{Pos}
+use Rattle.c_tree.specs.declared.lexer.tokens.Token.{Token}
 use Rattle.c_tree.specs.Tree.{ProgramTree}
 use Rattle.c_tree.specs.Reads.{Reads}
 use Rattle.op_translate.specs.Edits.{Edit}
 use Rattle.op_translate.specs.Translation.{Outcome, Translates, Restores, begins, or_else, first_refusal, taken, refuses_stub, uncalled, refuses_call, to_call, translation, restoration}
 use Rattle.op_translate.specs.declared.refusals.TransRefusal.{TransRefusal}
 use Rattle.op_translate.specs.declared.refusals.TransRefusal.TheVariants.{NameTaken, NoCall}
-use Rattle.c_lex.specs.Lexed.{Lexes}
+use Rattle.c_tree.specs.Lexed.{Lexes}
 use Rattle.command_words.specs.Refusal.{Refusal, BadStub}
 use Rattle.answers.specs.Said.{SaysTranslation}
 use Rattle.answers.specs.Judgements.{TranslationIs, RestorationIs}

@@ -2,7 +2,7 @@
 use Rattle.std.proofs.Common.{◌≡◌, ℕ, zero, suc, ℤ, pos, ◌+ℤ◌, int_lt, Bool, true, false, List, ◌∷◌, ◌++◌, Option, Some, None, Ok, Err, if◌then◌else◌, refl, arith, []}
 use Rattle.std.specs.Prelude.{IfSome, slice_index_or}
 use Rattle.std.proofs.lemmas.Int.{ints}
-use Rattle.c_lex.specs.declared.tokens.Pos.{Pos}
+use Rattle.c_tree.specs.declared.lexer.tokens.Pos.{Pos}
 use Rattle.kernel_model.specs.Numbers.{Value, is_zero}
 use Rattle.kernel_model.specs.Operators.{IsNumber}
 use Rattle.bound_program.specs.Refusals.{Judged}

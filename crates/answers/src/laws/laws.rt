@@ -20,7 +20,7 @@ pub fn answers_agree()
     ensures { AnswersAgree }
 {
     command_words::options_are_within();
-    c_lex::one_outcome();
+    c_tree::lexer::one_outcome();
     c_reader::one_tree();
     op_translate::one_translation();
     op_translate::one_restoration();
@@ -55,9 +55,9 @@ pub fn answers_exist()
     ensures { AnswersExist }
 {
     command_words::options_are_within();
-    c_lex::some_outcome();
-    c_lex::tokens_are_few();
-    c_lex::one_outcome();
+    c_tree::lexer::some_outcome();
+    c_tree::lexer::tokens_are_few();
+    c_tree::lexer::one_outcome();
     c_reader::one_depth();
     c_reader::deep_is_far();
     name_resolution::some_answer();

@@ -1,6 +1,6 @@
 -- A `for` under way: what is to be done behind the turns so far.
 use Rattle.std.proofs.Common.{◌≡◌, suc, ℤ, pos, ◌+ℤ◌, ◌≤ℤ◌, List, ◌++◌, Option, Err, refl, sym, ap, ◌∙◌}
-use Rattle.c_lex.specs.declared.tokens.Pos.{Pos}
+use Rattle.c_tree.specs.declared.lexer.tokens.Pos.{Pos}
 use Rattle.bound_program.specs.declared.refusals.refusals.BindRefusal.TheVariants.{ControlNotStatic, TraceTooLong}
 use Rattle.bound_program.specs.declared.trace.steps.Unrolled.{Unrolled}
 use Rattle.bound_program.specs.declared.trace.unroll.Goes.TheVariants as goes

@@ -1,7 +1,7 @@
 -- The turns of a `for`.
 use Rattle.std.proofs.Common.{◌≡◌, suc, ℤ, pos, ◌+ℤ◌, ◌≤ℤ◌, List, [], ◌∷◌, ◌++◌, Option, Some, None, refl, arith, true, false, Bool, int_lt, if◌then◌else◌}
 use Rattle.std.proofs.lemmas.Int.{ints}
-use Rattle.c_lex.specs.declared.tokens.Pos.{Pos}
+use Rattle.c_tree.specs.declared.lexer.tokens.Pos.{Pos}
 use Rattle.bound_program.specs.declared.trace.unroll.Goes.TheVariants as goes
 use Rattle.bound_program.specs.Trace.{Event, Turn, Stops, Later, choose, nothing, counts, turns, turns_left}
 use Rattle.bound_program.specs.Unrolling.{goes_by}

@@ -2,7 +2,7 @@
 use Rattle.std.proofs.Common.{◌≡◌, ℕ, [], ◌∷◌, Bool, true, false, get_or, refl, sym, ap, ◌∙◌}
 use Rattle.std.proofs.lemmas.Bool.{eqb-true, false≢true}
 use Rattle.std.proofs.lemmas.List.Sums.{AllPass-from_list_all}
-use Rattle.c_lex.specs.Spelling.{letter, part}
+use Rattle.c_tree.specs.Spelling.{letter, part}
 use Rattle.op_num.specs.CutLines.{is_lf}
 use Rattle.checkpoint.specs.StateTextLaws.{NamesArePlain}
 use Rattle.checkpoint.proofs.state_texts.Words.{no_lf_cons}

@@ -1,7 +1,7 @@
 -- The line of a map with an entry that is no element, in three parts.
 use Rattle.std.proofs.Common.{◌≡◌, ℕ, List, ◌++◌, codes, Result, Ok, Err, OnOk, refl, ap, ◌∙◌, append_assoc}
 use Rattle.std.specs.Fmt.{decimal}
-use Rattle.c_lex.specs.declared.tokens.Pos.{Pos}
+use Rattle.c_tree.specs.declared.lexer.tokens.Pos.{Pos}
 use Rattle.command_words.specs.Refusal.{BadTarget}
 use Rattle.command_words.specs.Lines.{numbered, said_of}
 

@@ -4,7 +4,7 @@ ghost use Rattle.std.specs.Fmt.{decimal};
 ghost use Rattle.explanations.specs.Placed.{place_of, placed};
 
 use crate::{Place, put_place};
-use c_lex::Pos;
+use c_tree::lexer::Pos;
 use op_num::{OutOfMemory, put_u64};
 
 /// The place of a token, as a line of `op2` tells it.

@@ -1,7 +1,7 @@
 // A source that is read again: its tokens, its tree, and its kernels with each name resolved.
 ghost use Rattle.std.specs.Prelude.{◌≡◌, ◌+◌, ◌<◌, ◌^◌, ℕ, List, length, Ok, IfOk, IfSome, IfNone};
-ghost use Rattle.c_lex.specs.declared.tokens.Token.{Token as LexedToken};
-ghost use Rattle.c_lex.specs.Lexed.{Lexes};
+ghost use Rattle.c_tree.specs.declared.lexer.tokens.Token.{Token as LexedToken};
+ghost use Rattle.c_tree.specs.Lexed.{Lexes};
 ghost use Rattle.c_tree.specs.Tree.{ProgramTree};
 ghost use Rattle.c_tree.specs.View.{program_of};
 ghost use Rattle.c_tree.specs.Reads.{Reads};

@@ -5,7 +5,7 @@ use Rattle.std.proofs.lemmas.Bool.Decides.{Decides-int_eq}
 use lib.Signed.{lt_z_yes}
 use Rattle.op_num.specs.declared.refusals.Fault.{Fault}
 use Rattle.op_num.specs.declared.refusals.Fault.TheVariants.{DivZero, ShiftCount}
-use Rattle.c_lex.specs.declared.tokens.Pos.{Pos}
+use Rattle.c_tree.specs.declared.lexer.tokens.Pos.{Pos}
 use Rattle.kernel_model.specs.Numbers.{Value, fault, is_zero, not, unless_zero, if_shift}
 use Rattle.kernel_model.specs.Placed.{placed}
 

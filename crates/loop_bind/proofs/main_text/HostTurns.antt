@@ -1,7 +1,7 @@
 -- Statements of `main`, one behind the other: what the judgement of one leaves to the rest.
 use Rattle.std.proofs.Common.{◌≡◌, ◌∙◌, ap, refl, sym, ℕ, List, map, length, Option, None, Some, Ok, Err, inl, inr}
 use Rattle.std.proofs.lemmas.List.{length-map}
-use Rattle.c_lex.specs.declared.tokens.Pos.{Pos}
+use Rattle.c_tree.specs.declared.lexer.tokens.Pos.{Pos}
 use Rattle.c_tree.specs.declared.expressions.Expr.{Expr}
 use Rattle.c_tree.specs.declared.expressions.TextLiteral.{TextLiteral}
 use Rattle.c_tree.specs.Tree as tree

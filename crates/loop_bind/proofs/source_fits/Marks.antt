@@ -2,8 +2,8 @@
 use Rattle.std.proofs.Common.{◌≡◌, ℕ, zero, suc, pos, negsuc, ◌<◌, Bool, false, List, [], ◌∷◌, ◌++◌, map, ℤ, sym, subst, arith}
 use Rattle.std.specs.Prelude.{All, unsigned_abs}
 use Rattle.std.proofs.lemmas.List.Elements.{All-nil, All-cons}
-use Rattle.c_lex.specs.declared.tokens.Sign.TheVariants as sign
-use Rattle.c_lex.specs.declared.tokens.Word.TheVariants as word
+use Rattle.c_tree.specs.declared.lexer.tokens.Sign.TheVariants as sign
+use Rattle.c_tree.specs.declared.lexer.tokens.Word.TheVariants as word
 use Rattle.c_tree.specs.Print.{Mark, sign_at, word_at, named_sign, named_word, ident, label, operator_level, chain_of, expr, commas, declr, declrs, word_if, vars, place, assignment, condition, top, tops, host_counter, values, close, call, host, hosts, argv_marks, return_marks, main, program}
 use Rattle.c_tree.specs.Signs.{sign_of, assign_sign_of}
 use Rattle.c_tree.specs.Reads.{Reads}

@@ -2,12 +2,12 @@
 use Rattle.std.proofs.Common.{◌≡◌, ℕ, pos, ◌<◌, Bool, true, false, List, [], ◌∷◌, map, Ok, sym, subst, arith}
 use Rattle.std.specs.Prelude.{FitsSigned}
 use Rattle.std.specs.Int.{w32}
-use Rattle.c_lex.specs.declared.tokens.Kind.{Kind}
-use Rattle.c_lex.specs.declared.tokens.Kind.TheVariants as kind
-use Rattle.c_lex.specs.declared.tokens.Pos.{Pos}
-use Rattle.c_lex.specs.declared.tokens.Token.{Token}
-use Rattle.c_lex.specs.Spelling.{value_of}
-use Rattle.c_lex.specs.Lexed.{Stop, AtEnd, AtBadByte, AtOpenComment, AtOpenText, AtNumberTooLarge, Part, Passed, Spelled, IsPartBefore, is_fresh_behind, is_number_part, AreParts, advance, start, tokens_of, Outcome, outcome_of, Lexes}
+use Rattle.c_tree.specs.declared.lexer.tokens.Kind.{Kind}
+use Rattle.c_tree.specs.declared.lexer.tokens.Kind.TheVariants as kind
+use Rattle.c_tree.specs.declared.lexer.tokens.Pos.{Pos}
+use Rattle.c_tree.specs.declared.lexer.tokens.Token.{Token}
+use Rattle.c_tree.specs.Spelling.{value_of}
+use Rattle.c_tree.specs.Lexed.{Stop, AtEnd, AtBadByte, AtOpenComment, AtOpenText, AtNumberTooLarge, Part, Passed, Spelled, IsPartBefore, is_fresh_behind, is_number_part, AreParts, advance, start, tokens_of, Outcome, outcome_of, Lexes}
 
 -- a number is of 32 bits
 abbrev pub KindFits : Kind → Type 0

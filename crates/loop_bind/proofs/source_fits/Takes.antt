@@ -1,6 +1,6 @@
 -- The kernels of a source take as many parameters as they are resolved with.
 use Rattle.std.proofs.Common.{◌≡◌, ◌∙◌, ℕ, suc, List, [], ◌∷◌, ◌++◌, length, map, sym, ap, subst, append_assoc, length-append, arith}
-use Rattle.c_lex.specs.declared.tokens.Pos.{Pos}
+use Rattle.c_tree.specs.declared.lexer.tokens.Pos.{Pos}
 use Rattle.c_tree.specs.Tree as tree
 use Rattle.c_tree.specs.Tree.{TopTree}
 use Rattle.kernel_model.specs.declared.types.kernels.RKernel.{RKernel}

@@ -3,7 +3,7 @@ use Rattle.std.proofs.Common.{◌≡◌, ◌<◌, ℕ, ℤ, zero, suc, pos, true
 use Rattle.std.specs.Prelude.{◌==◌}
 use Rattle.op_num.specs.declared.bytes.Name.{Name}
 use Rattle.op_num.specs.declared.refusals.Fault.TheVariants.{DivZero}
-use Rattle.c_lex.specs.declared.tokens.Pos.{Pos}
+use Rattle.c_tree.specs.declared.lexer.tokens.Pos.{Pos}
 use Rattle.kernel_model.specs.declared.types.faults.KernelFault.{KernelFault}
 use Rattle.op_num.specs.Access.{Access, OpRead, OpReduce}
 use Rattle.op_num.specs.Reduction.{Reduction}

@@ -1,5 +1,5 @@
 use Rattle.std.proofs.Common.{◌≡◌, ◌-◌, length, map}
-use Rattle.c_lex.specs.declared.tokens.Sign.TheVariants as s
+use Rattle.c_tree.specs.declared.lexer.tokens.Sign.TheVariants as s
 use Rattle.c_tree.specs.View.{declr_of}
 use Rattle.c_reader.specs.Rows.{separated, with_front}
 use Rattle.c_reader.specs.Declarations.{declr_at}

@@ -4,7 +4,7 @@ use Rattle.std.proofs.lemmas.Result.{err_from_is_err_and}
 use Rattle.c_reader.specs.Descent.{Gives, sign_is}
 use Rattle.c_reader.specs.Rows.{seen_by}
 use Rattle.c_reader.specs.Kinds.{kinds}
-use Rattle.c_lex.specs.declared.tokens.Sign.TheVariants as s
+use Rattle.c_tree.specs.declared.lexer.tokens.Sign.TheVariants as s
 use Rattle.c_tree.specs.View.{stmt_of}
 use Rattle.c_reader.specs.Statements.{stmt_at}
 use Rattle.c_reader.proofs.StmtTurns.{block_view, block_led, if_two, if_two_fails, at_level}

@@ -1,5 +1,5 @@
 use Rattle.std.proofs.Common.{◌≡◌, ◌+◌, ◌-◌, ◌*◌, length, map, slice_get}
-use Rattle.c_lex.specs.declared.tokens.Sign.TheVariants as s
+use Rattle.c_tree.specs.declared.lexer.tokens.Sign.TheVariants as s
 use Rattle.c_tree.specs.View.{stmt_of}
 use Rattle.c_reader.specs.Descent.{sign_is}
 use Rattle.c_reader.specs.Rows.{until, with_front}

@@ -2,7 +2,7 @@ use Rattle.std.proofs.Common.{sym, ◌∙◌, length}
 use Rattle.std.proofs.lemmas.List.{length-map}
 use Rattle.std.proofs.lemmas.Result.{err_from_is_err_and}
 use Rattle.c_reader.specs.Kinds.{kinds}
-use Rattle.c_lex.specs.declared.tokens.Sign.TheVariants as s
+use Rattle.c_tree.specs.declared.lexer.tokens.Sign.TheVariants as s
 use Rattle.c_reader.specs.Whole.{param_at}
 use Rattle.c_reader.proofs.LoopTurns.{separated_turn, separated_fails, separated_ends, separated_stops, separated_over}
 use Rattle.c_reader.proofs.tops.read_params.Goals as goal

@@ -1,6 +1,6 @@
 use Rattle.std.proofs.Common.{◌≡◌, List, Ok, ap, sym, ◌∙◌}
-use Rattle.c_lex.specs.declared.tokens.Token.{Token}
-use Rattle.c_lex.specs.Lexed.{Outcome}
+use Rattle.c_tree.specs.declared.lexer.tokens.Token.{Token}
+use Rattle.c_tree.specs.Lexed.{Outcome}
 use Rattle.op_translate.specs.Translation.{first_refusal, refuses_stub, translation, unless}
 use Rattle.op_translate.proofs.laws.one_translation.Goals as goal
 

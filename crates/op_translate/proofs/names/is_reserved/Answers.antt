@@ -1,5 +1,5 @@
 use Rattle.std.proofs.Common.{map, ap, ◌∙◌}
-use Rattle.c_lex.specs.declared.spelling.TheConstants.{WORDS}
+use Rattle.c_tree.specs.declared.lexer.spelling.TheConstants.{WORDS}
 use Rattle.op_translate.proofs.Answered.{listed}
 use Rattle.op_translate.proofs.names.is_reserved.Goals as goal
 

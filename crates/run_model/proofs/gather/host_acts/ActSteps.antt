@@ -3,7 +3,7 @@ use Rattle.std.proofs.Common.{◌≡◌, ◌<◌, ◌≤◌, ◌+◌, ◌⊎◌,
 use Rattle.std.specs.Prelude.{nat_lt}
 use Rattle.std.proofs.lemmas.Bool.{cases_Bool, cond-true, cond-false, ltb-true}
 use Rattle.std.proofs.lemmas.List.{append-nil, get_or-drop}
-use Rattle.c_lex.specs.declared.tokens.Pos.{Pos}
+use Rattle.c_tree.specs.declared.lexer.tokens.Pos.{Pos}
 use Rattle.c_tree.specs.declared.declarations.AssignOp.{AssignOp}
 use Rattle.op_num.specs.declared.refusals.Fault.TheVariants.{Index}
 use Rattle.kernel_model.specs.declared.types.faults.KernelFault.{KernelFault}

@@ -1,5 +1,0 @@
-use Rattle.c_lex.proofs.Turns.{only_answer}
-use Rattle.c_lex.proofs.lexing.lex.Goals as goal
-
-pub returns-clause-only : goal.returns-clause-only
-returns-clause-only c = λ o h. only_answer c.args.bytes.now c.scan.result o h c.scan.ensures

@@ -1,6 +1,0 @@
-use Rattle.std.proofs.Common.{◌≡◌, drop}
-use Rattle.c_lex.specs.Lexed.{fresh_after}
-use Rattle.c_lex.proofs.places.is_fresh_after.Given as goal
-
-abbrev pub invariant-loop-byte : goal.invariant-loop-byte
-invariant-loop-byte l = fresh_after l.fresh l.bytes ≡ fresh_after l.is_fresh (drop l.byte-index l.bytes)
